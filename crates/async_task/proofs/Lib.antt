@@ -1,0 +1,11 @@
+pub mod Waking
+pub mod Releasing
+pub mod Starting
+pub mod Settling
+pub mod Finishing
+pub mod Cancelling
+pub mod Detaching
+pub mod Answering
+pub mod Courses
+pub mod Joining
+pub mod Following

@@ -1,0 +1,10 @@
+pub mod RingFinds
+pub mod RingFresh
+pub mod RingRests
+pub mod RingSlots
+pub mod RingWords
+pub mod ChainLemmas
+pub mod ChainRuns
+pub mod IterLemmas
+pub mod SlotLooks
+pub mod SlotRuns

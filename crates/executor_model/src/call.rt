@@ -1,0 +1,34 @@
+/// A call that a party makes. Futures and wakers are numbered from 0, in the order in which they were made.
+#[derive(Clone, Copy, Debug, PartialEq, Eq)]
+pub enum Call {
+    /// A future is handed to the executor.
+    Spawn,
+    /// The executor is asked to run one future that is due.
+    TryTick,
+    /// The executor is asked whether each accepted future is dropped.
+    IsEmpty,
+    /// The waker with this number is called, and stays.
+    WakeByRef(u64),
+    /// The waker with this number is let go.
+    DropWaker(u64),
+    /// Inside a poll: a copy is made of the waker of that poll. It has the next number.
+    Keep,
+    /// Inside a poll: the waker of that poll is called, and stays.
+    WakeSelf,
+    /// The handle of the future with this number is let go, which cancels the future and detaches it.
+    DropHandle(u64),
+    /// The executor is dropped.
+    DropExecutor,
+}
+
+/// What a call is answered.
+#[derive(Clone, Copy, Debug, PartialEq, Eq)]
+pub enum Reply {
+    /// What was asked for was made.
+    Made,
+    /// As many accepted futures as there are places are not yet dropped.
+    Full,
+    Yes,
+    No,
+    Done,
+}

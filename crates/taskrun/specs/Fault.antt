@@ -1,0 +1,26 @@
+-- What a fault is to whoever started the program: a status, and a text on standard error.
+use Rattle.std.specs.Prelude.{ℕ, List, ◌++◌, codes}
+use Rattle.std.specs.Fmt.{decimal}
+use Rattle.taskrun.specs.declared.fault.Fault.{Fault}
+use Rattle.taskrun.specs.declared.fault.Fault.TheVariants.{BadLine, Usage, NoMemory, ReadFailed, WriteFailed}
+use Rattle.taskrun.specs.declared.script.error.ParseError.{ParseError}
+use Rattle.taskrun.specs.declared.script.error.ParseError.TheVariants as parse
+
+abbrev pub status_of : Fault → ℕ
+status_of (BadLine n) = 2
+status_of Usage = 2
+status_of NoMemory = 3
+status_of ReadFailed = 4
+status_of WriteFailed = 4
+
+abbrev pub text_of : Fault → List ℕ
+text_of (BadLine n) = codes "line " ++ decimal n ++ codes ": bad line"
+text_of Usage = codes "usage: taskrun jobs <workers> or taskrun sim"
+text_of NoMemory = codes "out of memory"
+text_of ReadFailed = codes "read failed"
+text_of WriteFailed = codes "write failed"
+
+-- what a script that can't be parsed ends on
+abbrev pub fault_of : ParseError → Fault
+fault_of (parse.BadLine n) = BadLine n
+fault_of parse.NoMemory = NoMemory

@@ -1,0 +1,17 @@
+use crate::script::Word;
+use executor_model::{Event, Reply};
+
+/// How a command ended.
+#[derive(Clone, Copy, Debug, PartialEq, Eq)]
+pub enum Outcome {
+    Answered(Reply),
+    /// The command wasn't possible, and changed nothing.
+    NotPossible,
+}
+
+/// What a run of a script shows, moment by moment: what happened, and how each command ended.
+#[derive(Clone, Copy, Debug, PartialEq, Eq)]
+pub enum Moment {
+    Happened(Event),
+    Ended { word: Word, outcome: Outcome },
+}

@@ -1,0 +1,114 @@
+//! The text of a run: a line for each poll, answer and drop, and one for the end of each command.
+
+ghost use Rattle.std.specs.Prelude.{◌≡◌, ◌++◌, IfOk, OnOk};
+ghost use Rattle.taskrun.specs.EndText.{end_text, outcome_text, word_text};
+ghost use Rattle.taskrun.specs.EventText.{event_text, line_on, name_of};
+ghost use Rattle.taskrun.specs.Text.{moment_text, moments_text};
+
+use crate::moment::{Moment, Outcome};
+use crate::names::Names;
+use crate::script::Word;
+use executor_model::{Answer, Event, Reply};
+use std::alloc::{AllocError, Global};
+
+/// The text of these moments, where the futures have these names in the order of acceptance.
+pub fn text_of(alloc: Global, moments: &[Moment], names: &Names) -> Result<Vec<u8>, AllocError>
+    ensures { IfOk result (λ text. text.items ≡ moments_text names.now moments.now) }
+{
+    let mut text = Vec::new(alloc);
+    for moment in moments {
+        push_moment(&mut text, moment, names)?;
+    }
+    Ok(text)
+}
+
+fn push_moment(text: &mut Vec<u8>, moment: &Moment, names: &Names) -> Result<(), AllocError>
+    ensures { OnOk result (text.new.items ≡ text.old.items ++ moment_text names.now moment.now) }
+{
+    match moment {
+        Moment::Happened(event) => push_event(text, event, names),
+        Moment::Ended { word, outcome } => push_end(text, *word, *outcome),
+    }
+}
+
+fn push_event(text: &mut Vec<u8>, event: &Event, names: &Names) -> Result<(), AllocError>
+    ensures { OnOk result (text.new.items ≡ text.old.items ++ event_text names.now event.now) }
+{
+    match *event {
+        Event::PollBegun { future, .. } => push_line_on(text, b"poll", future, names),
+        Event::Answered { future, answer, .. } => match answer {
+            Answer::Ready => push_line_on(text, b"ready", future, names),
+            Answer::Pending => push_line_on(text, b"pending", future, names),
+        },
+        Event::Dropped { future, .. } => push_line_on(text, b"drop", future, names),
+        Event::OutputDropped { future, .. } => push_line_on(text, b"lose", future, names),
+        Event::CallBegun { .. }
+        | Event::CallEnded { .. }
+        | Event::Accepted { .. }
+        | Event::Woken { .. }
+        | Event::Cancelled { .. }
+        | Event::Detached { .. }
+        | Event::DropBegun { .. }
+        | Event::DropEnded { .. } => Ok(()),
+    }
+}
+
+fn push_line_on(
+    text: &mut Vec<u8>,
+    happened: &[u8],
+    future: u64,
+    names: &Names,
+) -> Result<(), AllocError>
+    ensures { OnOk result (text.new.items ≡
+        text.old.items ++ line_on names.now happened.now future) }
+{
+    text.extend_from_slice(happened)?;
+    text.extend_from_slice(b" ")?;
+    push_name(text, future, names)?;
+    text.extend_from_slice(b"\n")
+}
+
+/// The name of a future, and nothing for one that has none.
+fn push_name(text: &mut Vec<u8>, future: u64, names: &Names) -> Result<(), AllocError>
+    ensures { OnOk result (text.new.items ≡ text.old.items ++ name_of names.now future) }
+{
+    match names.get(future as usize) {
+        Some(name) => text.extend_from_slice(name.letters()),
+        None => Ok(()),
+    }
+}
+
+fn push_end(text: &mut Vec<u8>, word: Word, outcome: Outcome) -> Result<(), AllocError>
+    ensures { OnOk result (text.new.items ≡ text.old.items ++ end_text word outcome) }
+{
+    text.extend_from_slice(word_bytes(word))?;
+    text.extend_from_slice(b": ")?;
+    text.extend_from_slice(outcome_bytes(outcome))?;
+    text.extend_from_slice(b"\n")
+}
+
+fn word_bytes(word: Word) -> &'static [u8]
+    ensures { result.now ≡ word_text word }
+{
+    match word {
+        Word::Spawn => b"spawn",
+        Word::Try => b"try",
+        Word::Empty => b"empty",
+        Word::Wake => b"wake",
+        Word::Drop => b"drop",
+        Word::End => b"end",
+    }
+}
+
+fn outcome_bytes(outcome: Outcome) -> &'static [u8]
+    ensures { result.now ≡ outcome_text outcome }
+{
+    match outcome {
+        Outcome::Answered(Reply::Made) => b"ok",
+        Outcome::Answered(Reply::Full) => b"full",
+        Outcome::Answered(Reply::Yes) => b"true",
+        Outcome::Answered(Reply::No) => b"false",
+        Outcome::Answered(Reply::Done) => b"done",
+        Outcome::NotPossible => b"not possible",
+    }
+}

@@ -1,0 +1,72 @@
+//! `taskrun sim`: a script in, and what its run shows out.
+
+ghost use Rattle.std.specs.Prelude.{◌≡◌, ◌≢◌, ℕ, Err, IfErr, IfOk, IfSome, IsOkUnless, OnOk};
+ghost use Rattle.std.specs.Io.KnownBytes.{Appends, IsAtEnd};
+ghost use Rattle.taskrun.specs.Answer.{IsGoodInput, IsAnswer, IsFaultOf, WritesAnswer};
+ghost use Rattle.taskrun.specs.BadLine.{IsFirstBadLine};
+ghost use Rattle.taskrun.specs.ScriptText.{script_text};
+
+use crate::fault::Fault;
+use crate::script::{Script, parse};
+use crate::{first, input, print};
+use std::alloc::{AllocError, Global};
+use std::io::{Read, Write};
+
+/// What is written for an input: nothing where it has no line, and else what its script shows. The
+/// faults are `BadLine` with the first bad line, and `NoMemory`.
+pub fn answer(alloc: Global, input: &[u8]) -> Result<Vec<u8>, Fault>
+    ensures answer { IfOk result (λ text. IsAnswer input.now text.items) }
+    ensures fault { IfErr result (IsFaultOf input.now) }
+    ensures good_input { IsGoodInput input.now → IsOkUnless result Fault.NoMemory }
+{
+    let Some(script) = parse(alloc, input)? else {
+        return Ok(Vec::new(alloc));
+    };
+    Ok(show(alloc, &script)?)
+}
+
+/// What the run of a script shows.
+fn show(alloc: Global, script: &Script) -> Result<Vec<u8>, AllocError>
+    ensures { IfOk result (λ text.
+        text.items ≡ script_text script.now.limit script.now.commands.items) }
+{
+    let played = first::run(alloc, script.limit, script.commands.as_slice())?;
+    print::text_of(alloc, played.moments.as_slice(), &played.names)
+}
+
+/// Reads a script whole, runs it, and writes what its run shows, last and in one piece. The faults
+/// come in this order: `ReadFailed`, `BadLine` with the first bad line, `WriteFailed`; `NoMemory` comes
+/// where it is met. Only a call that ends in `WriteFailed` may have written something, and how much
+/// is then left open.
+pub fn sim<R: Read, W: Write>(alloc: Global, reader: &mut R, writer: &mut W) -> Result<(), Fault>
+    // All there is is read, and the answer to it is written and nothing else.
+    ensures read { OnOk result (IsAtEnd (R.remaining reader.new)) }
+    ensures written { OnOk result (IfSome (R.remaining reader.old) (λ input.
+        WritesAnswer input (W.contents writer.old) (W.contents writer.new))) }
+
+    // At a fault the writer is as it was, unless the writing itself failed, and that is only tried
+    // for an input that is answered.
+    ensures unwritten { IfErr result (λ fault.
+        fault ≢ Fault.WriteFailed → writer.new ≡ writer.old) }
+    ensures checked { result ≡ Err Fault.WriteFailed → IfSome (R.remaining reader.old) IsGoodInput }
+
+    // The line that is called bad is the first that is, and where none is, none is called so.
+    ensures bad_line { (number : ℕ) → result ≡ Err (Fault.BadLine number) →
+        IfSome (R.remaining reader.old) (λ input. IsFirstBadLine input number) }
+    ensures good_lines { (number : ℕ) → IfSome (R.remaining reader.old) (λ input.
+        IsGoodInput input → result ≢ Err (Fault.BadLine number)) }
+    ensures no_usage { result ≢ Err Fault.Usage }
+{
+    let input = input::read_all(alloc, reader)?;
+    let text = answer(alloc, input.as_slice())?;
+    write_all(writer, text.as_slice())
+}
+
+fn write_all<W: Write>(writer: &mut W, text: &[u8]) -> Result<(), Fault>
+    ensures written { OnOk result
+        (Appends (W.contents writer.old) (W.contents writer.new) text.now) }
+    ensures fault { IfErr result (λ fault. fault ≡ Fault.WriteFailed) }
+{
+    writer.write_all(text).map_err(|_| Fault::WriteFailed)?;
+    writer.flush().map_err(|_| Fault::WriteFailed)
+}

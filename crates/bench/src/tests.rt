@@ -4,10 +4,10 @@ use crate::workload::{ALL, Workload};
 use std::test::Fail;
 use std::time::Duration;
 
-// The sum of the numbers below n.
-fn sum_below(n: u64) -> u64 {
-    (0..n).sum()
-}
+// The sums of the numbers below 3,000 and below 1,500.
+const BELOW_3000: u64 = 4_498_500;
+
+const BELOW_1500: u64 = 1_124_250;
 
 #[test]
 fn a_name_names_one_workload(rt: HostRuntime) {
@@ -23,8 +23,8 @@ fn each_workload_moves_what_it_was_asked_to(rt: HostRuntime) -> Result<(), Fail>
         let want = match workload {
             Workload::FetchAdd | Workload::MutexLock => 3000,
             Workload::Len => 15_000,
-            Workload::Ring1024TwoToTwo | Workload::UnboundedTwoToTwo => 2 * sum_below(1500),
-            _ => sum_below(3000),
+            Workload::Ring1024TwoToTwo | Workload::UnboundedTwoToTwo => 2 * BELOW_1500,
+            _ => BELOW_3000,
         };
         match workload.run(&rt, 3000) {
             Ok(timing) => assert_eq!(rt; timing.moved, want, "{}", workload.name()),

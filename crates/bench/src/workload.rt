@@ -95,11 +95,12 @@ impl Workload {
     {
         match self {
             Workload::FetchAdd => 50_000_000,
-            Workload::MutexLock | Workload::Len => 20_000_000,
-            Workload::Ring1024OneToOne
-            | Workload::Ring1024TwoToTwo
-            | Workload::UnboundedOneToOne
-            | Workload::UnboundedTwoToTwo => 2_000_000,
+            Workload::MutexLock
+            | Workload::Len
+            | Workload::SingleExclusive
+            | Workload::UnboundedExclusive => 20_000_000,
+            Workload::UnboundedOneToOne | Workload::UnboundedTwoToTwo => 5_000_000,
+            Workload::Ring1024OneToOne | Workload::Ring1024TwoToTwo => 2_000_000,
             _ => 10_000_000,
         }
     }

@@ -7,6 +7,7 @@ use std::{fmt, thread};
 const TRIES: u32 = 10_000;
 
 /// A queue's length and whether it is closed, read in one section of its lock.
+#[derive(Clone, Copy, Debug)]
 pub struct Glimpse {
     pub len: usize,
     pub is_closed: bool,

@@ -1,11 +1,13 @@
 //! `ConcurrentQueue` called by one thread.
 ghost use Rattle.std.specs.Prelude.{◌≡◌, ◌%◌, ◌<◌};
 
+use crate::glimpse::{Glimpse, Locked};
+use crate::single::Single;
 use crate::{ConcurrentQueue, ForcePushError, NoMemory, PopError, PushError};
 use std::alloc::AllocGlobal;
 use std::process::Abort;
-use std::sync::Wait;
 use std::sync::atomic::{AtomicU64, Ordering};
+use std::sync::{Mutex, Wait};
 use std::test::Fail;
 
 // A queue of this capacity, of a run in which no memory is refused.
@@ -255,5 +257,20 @@ fn a_shared_queue_and_its_walk_print_what_they_are(rt: HostRuntime) -> Result<()
         "ConcurrentQueue { len: 1, capacity: Some(4), is_closed: false } \
          TryIter(ConcurrentQueue { len: 0, capacity: None, is_closed: true })"
     );
+    Ok(())
+}
+
+#[test]
+fn a_text_waits_for_no_lock(rt: HostRuntime) -> Result<(), Fail> {
+    let lock = Mutex::new(Single::<u64>::new());
+    let held = lock.lock(&rt);
+    assert!(rt; Glimpse::of(&lock).is_none());
+    drop(held);
+    match Glimpse::of(&lock) {
+        Some(Glimpse { len, is_closed }) => assert_eq!(rt; (len, is_closed), (0, false)),
+        None => panic!(rt; "the lock was free"),
+    }
+    let text = format!(in rt.alloc(); "{:?}", Locked)?;
+    assert_eq!(rt; text.as_str(), "<locked>");
     Ok(())
 }

@@ -12,6 +12,8 @@ pub mod Ring
 pub mod RingAtRest
 pub mod RingEnds
 pub mod RingTurns
+pub mod SharedQueue
 pub mod Single
 pub mod SingleTurns
 pub mod SlotSteps
+pub mod TryIter

@@ -6,11 +6,13 @@ pub mod ClosableQueue
 pub mod Errors
 pub mod ExclusiveIter
 pub mod Kept
+pub mod LoneCalls
 pub mod Moments
 pub mod Replies
 pub mod Ring
 pub mod RingAtRest
 pub mod RingEnds
+pub mod RingSteps
 pub mod RingTurns
 pub mod SharedQueue
 pub mod Single

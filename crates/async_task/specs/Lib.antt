@@ -7,3 +7,4 @@ pub mod Laws
 pub mod Halves
 pub mod Calls
 pub mod Handles
+pub mod Awaiters

@@ -83,6 +83,7 @@ where
     R: Wait + Copy + Drop,
 {
     ghost use Rattle.std.specs.Prelude.{◌≡◌, IfOk, IfErr, IfSome};
+    ghost use Rattle.std.specs.Arc.{arc_value};
 
     /// A new task, to be run. For want of memory everything comes back.
     pub fn new(
@@ -94,50 +95,63 @@ where
         ensures made { IfOk result (λ held. held.metadata ≡ parts.metadata) }
         ensures refused { IfErr result (λ back. back ≡ parts) }
     {
-        let Parts {
-            future,
-            schedule,
-            metadata,
-        } = parts;
-        let Some(place) = realm.vacancy() else {
-            return Err(Parts {
-                future,
-                schedule,
-                metadata,
-            });
-        };
+        match realm.vacancy() {
+            Some(place) => Held::new_at(rt, alloc, realm, place, parts),
+            None => Err(parts),
+        }
+    }
+
+    /// A new task, at a place that nobody has. Where it can't be made, the place is given back.
+    fn new_at(
+        rt: R,
+        alloc: Global,
+        realm: &'static Realm<F, T, S, M, W>,
+        place: usize,
+        parts: Parts<F, S, M>,
+    ) -> Result<Self, Parts<F, S, M>>
+        ensures made { IfOk result (λ held. held.metadata ≡ parts.metadata) }
+        ensures refused { IfErr result (λ back. back ≡ parts) }
+    {
         let cell = Cell {
             task: Mutex::new(None),
-            schedule,
-            metadata,
+            schedule: parts.schedule,
+            metadata: parts.metadata,
         };
         match Arc::new(alloc, cell) {
             Ok(cell) => {
-                *cell.task.lock(&rt) = Some(LocalTask::new(future));
+                *cell.task.lock(&rt) = Some(LocalTask::new(parts.future));
                 realm.put(&rt, place, &cell);
-                Ok(Held {
-                    realm,
-                    cell,
-                    identity: Identity {
-                        realm: realm.number(),
-                        place,
-                    },
-                    rt,
-                })
+                Ok(Held::of(rt, realm, place, cell))
             }
             Err(AllocFailed { value: cell }) => {
                 realm.release(place);
-                let Cell {
-                    task: _,
-                    schedule,
-                    metadata,
-                } = cell;
                 Err(Parts {
-                    future,
-                    schedule,
-                    metadata,
+                    future: parts.future,
+                    schedule: cell.schedule,
+                    metadata: cell.metadata,
                 })
             }
+        }
+    }
+
+    /// The way to the cell at this place.
+    fn of(
+        rt: R,
+        realm: &'static Realm<F, T, S, M, W>,
+        place: usize,
+        cell: Arc<Cell<F, T, S, M, W>, Global>,
+    ) -> Self
+        ensures place { result.identity.place ≡ place }
+        ensures metadata { result.metadata ≡ (arc_value cell).metadata }
+    {
+        Held {
+            realm,
+            cell,
+            identity: Identity {
+                realm: realm.number(),
+                place,
+            },
+            rt,
         }
     }
 
@@ -157,17 +171,8 @@ where
     pub fn find(rt: R, realm: &'static Realm<F, T, S, M, W>, place: usize) -> Option<Self>
         ensures { IfSome result (λ held. held.identity.place ≡ place) }
     {
-        let number = realm.number();
         match realm.find(&rt, place) {
-            Some(cell) => Some(Held {
-                realm,
-                cell,
-                identity: Identity {
-                    realm: number,
-                    place,
-                },
-                rt,
-            }),
+            Some(cell) => Some(Held::of(rt, realm, place, cell)),
             None => None,
         }
     }

@@ -142,7 +142,9 @@ where
     W: Wake + Drop + 'static,
     R: Wait + Copy + Drop,
 {
-    ghost is_same = { λ a b. Unit {0} };
+    ghost use Rattle.async_task.specs.Awaiters.{WakeTheSame};
+
+    ghost is_same = { λ a b. WakeTheSame W.is_same a b };
 
     fn wake(self) {
         match self {

@@ -1,5 +1,5 @@
 //! The moves of the handle.
-ghost use Rattle.std.specs.Prelude.{◌≡◌, ◌^◌, ◌<◌};
+ghost use Rattle.std.specs.Prelude.{◌≡◌, ◌^◌, ◌<◌, true};
 ghost use Rattle.async_task.specs.Moves as moves;
 
 use crate::moves::debts::{NOTHING, QUEUED, notify_if, notify_other_if};
@@ -45,6 +45,16 @@ pub fn cancel(state: State) -> Moved
     }
 }
 
+/// The same, but closed.
+fn closed(state: State) -> State
+    ensures { result ≡ record state { closed = true } }
+{
+    State {
+        closed: true,
+        ..state
+    }
+}
+
 /// The handle goes.
 pub fn detach(state: State) -> Moved
     ensures { result ≡ moves.detach state }
@@ -52,10 +62,7 @@ pub fn detach(state: State) -> Moved
     match state {
         // Its output is there: that goes first.
         _ if state.completed && !state.closed => Moved {
-            state: State {
-                closed: true,
-                ..state
-            },
+            state: closed(state),
             owed: Owed {
                 drop_output: true,
                 next: Some(Move::Detach),
@@ -122,10 +129,7 @@ pub fn poll(state: State) -> Moved
         },
         // Its output is there.
         _ => Moved {
-            state: State {
-                closed: true,
-                ..state
-            },
+            state: closed(state),
             owed: Owed {
                 awaiter: notify_other_if(state.awaiter),
                 answer: Some(Answer::Output),

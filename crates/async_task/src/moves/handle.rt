@@ -6,6 +6,16 @@ use crate::moves::debts::{NOTHING, QUEUED, notify_if, notify_other_if};
 use crate::moves::owed::{Answer, AwaiterDebt, Move, Moved, Owed};
 use crate::moves::state::State;
 
+// The task is closed.
+fn close(state: State) -> State
+    ensures { result ≡ record state { closed = true } }
+{
+    State {
+        closed: true,
+        ..state
+    }
+}
+
 /// The handle cancels the task.
 pub fn cancel(state: State) -> Moved
     requires { state.references < 2 ^ 63 }
@@ -19,10 +29,7 @@ pub fn cancel(state: State) -> Moved
         },
         // A Runnable or a run is there, which will drop the future.
         _ if state.scheduled || state.running => Moved {
-            state: State {
-                closed: true,
-                ..state
-            },
+            state: close(state),
             owed: Owed {
                 awaiter: notify_if(state.awaiter),
                 ..NOTHING
@@ -45,16 +52,6 @@ pub fn cancel(state: State) -> Moved
     }
 }
 
-/// The same, but closed.
-fn closed(state: State) -> State
-    ensures { result ≡ record state { closed = true } }
-{
-    State {
-        closed: true,
-        ..state
-    }
-}
-
 /// The handle goes.
 pub fn detach(state: State) -> Moved
     ensures { result ≡ moves.detach state }
@@ -62,7 +59,7 @@ pub fn detach(state: State) -> Moved
     match state {
         // Its output is there: that goes first.
         _ if state.completed && !state.closed => Moved {
-            state: closed(state),
+            state: close(state),
             owed: Owed {
                 drop_output: true,
                 next: Some(Move::Detach),
@@ -129,7 +126,7 @@ pub fn poll(state: State) -> Moved
         },
         // Its output is there.
         _ => Moved {
-            state: closed(state),
+            state: close(state),
             owed: Owed {
                 awaiter: notify_other_if(state.awaiter),
                 answer: Some(Answer::Output),

@@ -66,7 +66,7 @@ impl<F: 'static, T: 'static, S: 'static, M: 'static, W: 'static, R> Model
 }
 
 /// What a task is made of.
-#[derive(Drop)]
+#[derive(Debug, Drop)]
 pub struct Parts<F, S, M> {
     pub future: F,
     pub schedule: S,

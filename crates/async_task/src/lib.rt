@@ -4,6 +4,7 @@
 mod builder;
 mod cancel;
 mod cell;
+mod debug;
 mod errors;
 mod fallible;
 pub mod laws;

@@ -5,7 +5,7 @@ mod threads;
 
 use crate::tests::executor::Sum;
 use crate::tests::parts::{Counts, Tasks, made, next, outside_waker};
-use crate::{Future, Poll, TaskError};
+use crate::{Future, Poll, Realm, TaskError};
 use std::sync::atomic::Ordering::SeqCst;
 use std::test::Fail;
 
@@ -49,6 +49,7 @@ fn a_dropped_task_isnt_polled(rt: HostRuntime) -> Result<(), Fail> {
 #[test]
 fn an_executor_of_one_future_runs_it_to_its_end(rt: HostRuntime) -> Result<(), Fail> {
     let sum = Sum { left: 4, sum: 0 };
-    assert_eq!(rt; executor::run(rt, rt.alloc(), sum)?, Some(10));
+    let realm = Realm::leak(rt.alloc(), 0)?;
+    assert_eq!(rt; executor::run(rt, rt.alloc(), realm, sum)?, Some(10));
     Ok(())
 }

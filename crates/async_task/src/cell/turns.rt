@@ -7,6 +7,7 @@ ghost use Rattle.async_task.specs.LocalTask.{is_unreachable};
 use crate::cell::debts::{Debts, Ended, Released, woken};
 use crate::cell::{Held, Kept};
 use crate::local_task::{Back, Finish, LocalTask, Polled, Settled, Start};
+use crate::moves::State;
 use crate::schedule::ScheduleInfo;
 use std::sync::Wait;
 
@@ -158,6 +159,12 @@ impl<F: 'static, T: 'static, S: 'static, M: 'static, W: 'static, R: Wait> Held<F
         let task = present(&self.rt, kept.as_mut());
         insist(&self.rt, task.has_handle());
         task.poll(waker)
+    }
+
+    /// How the task stands at this moment.
+    pub(crate) fn look(&self) -> State {
+        let kept = self.cell.task.lock(&self.rt);
+        present(&self.rt, kept.as_ref()).state()
     }
 
     /// Whether the future is dropped or is going to be.

@@ -1,6 +1,7 @@
 //! What an owner who doesn't know how its task stands asks before a call.
 use crate::local_task::LocalTask;
 use crate::local_task::answers::Place;
+use crate::moves::State;
 
 impl<F, T, A> LocalTask<F, T, A> {
     ghost use Rattle.std.specs.Prelude.{◌≡◌, ◌<◌, ◌↔◌, IsTrue};
@@ -57,5 +58,10 @@ impl<F, T, A> LocalTask<F, T, A> {
         ensures { result ≡ local.is_unreachable self.now.task }
     {
         self.state.references == 0 && !self.state.handle
+    }
+
+    /// The marks and the count.
+    pub(crate) fn state(&self) -> State {
+        self.state
     }
 }

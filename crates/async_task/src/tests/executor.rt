@@ -1,9 +1,10 @@
 //! An executor of one future, as a user of this crate writes it. The README has it too.
 use crate::tests::parts::Nobody;
 use crate::{
-    Awaiter, Future, Poll, Realm, Schedule, ScheduleInfo, Scheduled, StoredRunnable, Wake, spawn,
+    Awaiter, Future, NoMemory, Poll, Realm, Schedule, ScheduleInfo, Scheduled, StoredRunnable,
+    Wake, spawn,
 };
-use std::alloc::{AllocError, Global};
+use std::alloc::Global;
 use std::sync::{Arc, Mutex, Wait};
 
 /// A future that adds the numbers from `left` down to 1, one a poll.
@@ -45,22 +46,22 @@ impl<R: Wait + Copy + Drop> Schedule<Scheduled<Sum, u64, Turn<R>, (), Nobody, R>
 pub fn run<R: Wait + Copy + Drop + 'static>(
     rt: R,
     alloc: Global,
+    realm: &'static Realm<Sum, u64, Turn<R>, (), Nobody>,
     future: Sum,
-) -> Result<Option<u64>, AllocError> {
-    let Ok(realm) = Realm::leak(alloc, 0) else {
-        return Err(AllocError);
+) -> Result<Option<u64>, NoMemory> {
+    let Ok(queue) = Arc::new(alloc, Mutex::new(None)) else {
+        return Err(NoMemory);
     };
-    let next = Arc::new(alloc, Mutex::new(None))?;
-    let turn = Turn {
-        next: Arc::try_clone(&next)?,
-        rt,
+    let Ok(next) = Arc::try_clone(&queue) else {
+        return Err(NoMemory);
     };
+    let turn = Turn { next, rt };
     let Ok((runnable, mut task)) = spawn(rt, alloc, realm, future, turn) else {
-        return Err(AllocError);
+        return Err(NoMemory);
     };
     runnable.schedule();
     for _ in rt.forever() {
-        let Some(stored) = next.lock(&rt).take() else {
+        let Some(stored) = queue.lock(&rt).take() else {
             break;
         };
         if let Some(scheduled) = stored.redeem(rt, realm) {

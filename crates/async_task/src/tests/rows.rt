@@ -73,6 +73,10 @@ fn a_builder_s_metadata_is_seen_from_the_runnable_and_the_task(
     assert!(rt; !task.is_finished());
     assert!(rt; !runnable.run());
     assert!(rt; task.is_finished());
+    assert_eq!(rt;
+        format!(in rt.alloc(); "{task:?}")?.as_str(),
+        "Task { scheduled: false, running: false, completed: true, closed: false, awaiter: false, task: true, ref_count: 0, metadata: 7 }"
+    );
     let mut task = task.fallible();
     assert_eq!(rt; *task.metadata(), 7);
     assert!(rt; task.is_finished());

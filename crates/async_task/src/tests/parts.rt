@@ -186,21 +186,26 @@ pub fn made<R: Wait + Copy + Drop + 'static>(
     left: u64,
     wakes_itself: bool,
 ) -> Result<(TestRunnable<R>, TestTask<R>), AllocError> {
-    let future = Countdown {
-        left,
-        wakes_itself,
-        counts: Arc::try_clone(counts)?,
-    };
-    let line = Line {
-        rt,
-        counts: Arc::try_clone(counts)?,
-    };
-    match Builder::new()
-        .metadata(7)
-        .spawn(rt, alloc, realm, future, line)
-    {
-        Ok(both) => Ok(both),
-        Err(_) => Err(AllocError),
+    match (Arc::try_clone(counts), Arc::try_clone(counts)) {
+        (Ok(future_counts), Ok(line_counts)) => {
+            let future = Countdown {
+                left,
+                wakes_itself,
+                counts: future_counts,
+            };
+            let line = Line {
+                rt,
+                counts: line_counts,
+            };
+            match Builder::new()
+                .metadata(7)
+                .spawn(rt, alloc, realm, future, line)
+            {
+                Ok(both) => Ok(both),
+                Err(_) => Err(AllocError),
+            }
+        }
+        _ => Err(AllocError),
     }
 }
 
@@ -211,8 +216,11 @@ pub fn next<R: Wait + Copy + Drop + 'static>(
     counts: &Counts,
 ) -> Option<TestRunnable<R>> {
     let stored = counts.queue.lock(&rt).pop();
-    match stored?.redeem(rt, realm) {
-        Some(scheduled) => Some(scheduled.into_runnable()),
+    match stored {
+        Some(stored) => match stored.redeem(rt, realm) {
+            Some(scheduled) => Some(scheduled.into_runnable()),
+            None => None,
+        },
         None => None,
     }
 }
@@ -221,7 +229,8 @@ pub fn next<R: Wait + Copy + Drop + 'static>(
 pub fn outside_waker<R: Wait + Copy + Drop + 'static>(
     counts: &Arc<Counts, Global>,
 ) -> Result<TestAwaiter<R>, AllocError> {
-    Ok(Awaiter::Outside(Bell {
-        counts: Arc::try_clone(counts)?,
-    }))
+    match Arc::try_clone(counts) {
+        Ok(counts) => Ok(Awaiter::Outside(Bell { counts })),
+        Err(_) => Err(AllocError),
+    }
 }

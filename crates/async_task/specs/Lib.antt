@@ -6,3 +6,5 @@ pub mod Course
 pub mod Laws
 pub mod Halves
 pub mod Calls
+pub mod Handles
+pub mod Awaiters

@@ -1,6 +1,6 @@
 -- The task of one owner: the abstract task, and where its future is. Its owner is told of each queueing by the answer of
 -- the call, so none is kept in the task.
-use Rattle.std.specs.Prelude.{◌≡◌, ℕ, ◌+◌, ◌-◌, ◌≤◌, Bool, true, false, ◌&&◌, ◌||◌, not, if◌then◌else◌, Option, Some, None, is_some, [], length, slice_get}
+use Rattle.std.specs.Prelude.{◌≡◌, ℕ, ◌+◌, ◌-◌, ◌≤◌, ◌==◌, Bool, true, false, ◌&&◌, ◌||◌, not, if◌then◌else◌, Option, Some, None, is_some, [], length, slice_get}
 use Rattle.async_task.specs.declared.schedule.ScheduleInfo.{ScheduleInfo}
 use Rattle.async_task.specs.declared.moves.state.State.{State}
 use Rattle.async_task.specs.declared.moves.owed.Move.{Move}
@@ -163,10 +163,27 @@ module _ {F T A : Type 0} where
   settle_answer (Ready v) t = let end = abstract.end_ready v t in FinishTask end.dropped end.called
   settle_answer (Pending f) t = settle_pending_answer_by (abstract.pending_end t) f
 
+module _ {F : Type 0} where
+  abbrev pub is_lent : Place F → Bool
+  is_lent Lent = true
+  is_lent _ = false
+
+abbrev pub is_queued : Phase → Bool
+is_queued Queued = true
+is_queued _ = false
+
+-- its turn is there, and its future is in its place
+abbrev pub is_ready_to_start : {F T A : Type 0} → LocalValue F T A → Bool
+is_ready_to_start value = is_home value.future && is_queued value.task.phase
+
 module _ {T A : Type 0} where
   -- the wakers, and one for a Runnable, a run or the rest of a closing call
   abbrev pub references_of : AbstractTask T A → ℕ
   references_of t = t.wakers + token_by t.phase
+
+  -- neither its handle nor a waker, a Runnable, a run or a closing call is left
+  abbrev pub is_unreachable : AbstractTask T A → Bool
+  is_unreachable t = (references_of t == 0) && not t.handle
 
   abbrev pub poll_answer_by : abstract.Polled T → A → AbstractTask T A → PollAnswer T A
   poll_answer_by (abstract.Polled.Output v) waker t = OutputOf v waker

@@ -1,10 +1,37 @@
 //! One future, its handle and its wakers.
 #![tactic(auto)]
 
+mod builder;
+mod cancel;
+mod cell;
+mod debug;
+mod errors;
+mod fallible;
 pub mod laws;
-mod local_task;
+pub mod local_task;
 pub mod moves;
+mod poll;
+mod polling;
+mod realm;
+mod runnable;
 mod schedule;
+mod task;
+mod wake;
+mod waker;
 
-pub use local_task::{Back, Cancel, Detach, Finish, LocalTask, Place, Polled, Settled, Start};
-pub use schedule::ScheduleInfo;
+pub use builder::{Builder, spawn};
+pub use cancel::Cancel;
+pub use cell::{Cell, Due, Identity, Parts, Realm, Scheduled, StoredRunnable, StoredWaker};
+pub use errors::NoMemory;
+pub use fallible::FallibleTask;
+pub use local_task::{Back, LocalTask};
+pub use poll::{Future, Poll};
+pub use realm::Places;
+pub use runnable::{Closing, RunEnd, Runnable, Running, Started};
+pub use schedule::{Schedule, ScheduleInfo, WithInfo};
+pub use task::{Task, TaskError};
+pub use wake::Wake;
+pub use waker::{Awaiter, TaskWaker};
+
+#[cfg(test)]
+mod tests;

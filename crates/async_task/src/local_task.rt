@@ -1,5 +1,6 @@
 //! A task that one owner has by `&mut`, with the rules of the shared one.
 mod answers;
+mod looks;
 mod paying;
 mod places;
 

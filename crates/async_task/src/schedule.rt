@@ -4,3 +4,27 @@ pub struct ScheduleInfo {
     /// Whether the task was woken while its future was being polled.
     pub woken_while_running: bool,
 }
+
+/// What is done with a task that is to be run: most often it is put into a queue. It is called while
+/// no lock of a task is held.
+pub trait Schedule<R> {
+    fn schedule(&self, runnable: R, info: ScheduleInfo);
+}
+
+/// A schedule value that is told the information too.
+#[derive(Clone, Copy, Debug, PartialEq, Eq, Drop)]
+pub struct WithInfo<Q>(pub Q);
+
+impl<Q> From<Q> for WithInfo<Q> {
+    ghost use Rattle.std.specs.Prelude.{◌≡◌};
+
+    fn from(schedule: Q) -> Self {
+        WithInfo(schedule)
+    }
+}
+
+impl<R, Q: Schedule<R>> Schedule<R> for WithInfo<Q> {
+    fn schedule(&self, runnable: R, info: ScheduleInfo) {
+        self.0.schedule(runnable, info);
+    }
+}

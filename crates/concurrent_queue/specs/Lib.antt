@@ -14,6 +14,8 @@ pub mod RingAtRest
 pub mod RingEnds
 pub mod RingSteps
 pub mod RingTurns
+pub mod SharedQueue
 pub mod Single
 pub mod SingleTurns
 pub mod SlotSteps
+pub mod TryIter

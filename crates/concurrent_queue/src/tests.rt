@@ -1,5 +1,8 @@
 ghost use Rattle.std.specs.Prelude.{◌<◌};
 
+mod shared;
+mod threads;
+
 use crate::steps::Reply;
 use crate::steps::bounded::{self as ring, Shape, Turn};
 use crate::{Exclusive, ForcePushError, NoMemory, PopError, PushError};

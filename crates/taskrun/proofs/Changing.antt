@@ -10,7 +10,7 @@ use Rattle.taskrun.specs.declared.moment.Moment.{Moment}
 use Rattle.taskrun.specs.declared.moment.Moment.TheVariants.{Happened, Ended}
 use Rattle.taskrun.specs.declared.moment.Outcome.TheVariants.{NotPossible}
 use Rattle.taskrun.specs.declared.moment.Outcome.TheVariants as outcome
-use Rattle.taskrun.specs.declared.script.command.Word.{Word}
+use Rattle.script.specs.declared.command.Word.{Word}
 use Rattle.taskrun.specs.Laws.{event_of, trace_of}
 use Rattle.taskrun.specs.First.{Future, World, future, rested, happen, answer, refuse}
 use Rattle.taskrun.proofs.Moves.{Moves}

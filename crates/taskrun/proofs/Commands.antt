@@ -7,11 +7,11 @@ use Rattle.executor_model.specs.declared.call.Reply.{Reply}
 use Rattle.executor_model.specs.declared.call.Reply.TheVariants.{Made, Full, Yes, No, Done}
 use Rattle.executor_model.specs.declared.event.Event.TheVariants.{CallBegun, CallEnded, Accepted, DropBegun, DropEnded}
 use Rattle.executor_model.specs.Trace.{Trace}
-use Rattle.taskrun.specs.declared.script.item.Item.{Item}
-use Rattle.taskrun.specs.declared.script.command.Word.TheVariants as word
-use Rattle.taskrun.specs.declared.script.command.Command.{Command}
-use Rattle.taskrun.specs.declared.script.command.Command.TheVariants as command
-use Rattle.taskrun.specs.Names.{number_of}
+use Rattle.script.specs.declared.item.Item.{Item}
+use Rattle.script.specs.declared.command.Word.TheVariants as word
+use Rattle.script.specs.declared.command.Command.{Command}
+use Rattle.script.specs.declared.command.Command.TheVariants as command
+use Rattle.script.specs.Names.{number_of}
 use Rattle.taskrun.specs.First.{World, happen, answer, refuse, tick, undropped, after_command, taken_in, happen_all, dropped, after_all}
 use Rattle.taskrun.specs.Sound.{Sound}
 use Rattle.taskrun.proofs.Ways.{Step, falls_of, wakes_of}

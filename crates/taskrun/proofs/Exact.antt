@@ -9,9 +9,9 @@ use Rattle.executor_model.specs.declared.event.Event.{Event}
 use Rattle.executor_model.specs.declared.event.Event.TheVariants.{CallBegun, CallEnded, PollBegun, Dropped}
 use Rattle.executor_model.specs.Trace.{Trace}
 use Rattle.executor_model.specs.Due.{IsDue, IsFirstDue, CameDueBefore}
-use Rattle.taskrun.specs.declared.script.command.Word.TheVariants as word
-use Rattle.taskrun.specs.declared.script.command.Command.{Command}
-use Rattle.taskrun.specs.declared.script.command.Command.TheVariants as command
+use Rattle.script.specs.declared.command.Word.TheVariants as word
+use Rattle.script.specs.declared.command.Command.{Command}
+use Rattle.script.specs.declared.command.Command.TheVariants as command
 use Rattle.taskrun.specs.First.{Future, World, future, blank, is_undropped, undropped, happen, answer, refuse, tick, after_command, after_all, start}
 use Rattle.taskrun.specs.Laws.{begins_work, TryTickIsExact, IsEmptyIsExact, IsLawful}
 use Rattle.taskrun.proofs.Parts.{one_if}

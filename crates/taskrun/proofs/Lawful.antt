@@ -7,7 +7,7 @@ use Rattle.executor_model.specs.declared.event.Event.TheVariants.{PollBegun, Ans
 use Rattle.executor_model.specs.Trace.{Trace, events_of, has, is_cancelled, is_drop_begun}
 use Rattle.executor_model.specs.LawfulPolls.{TakeTurns, HasLawfulPolls, is_poll_or_answer}
 use Rattle.executor_model.specs.EarlyDrop.{before_drop, EarlyDropHasCause}
-use Rattle.taskrun.specs.declared.script.command.Command.{Command}
+use Rattle.script.specs.declared.command.Command.{Command}
 use Rattle.taskrun.specs.First.{World, future, after_command, after_all, start}
 use Rattle.taskrun.specs.Sound.{Sound}
 use Rattle.taskrun.specs.Laws.{DropsEachOnce}

@@ -6,8 +6,8 @@ use Rattle.async_task.specs.AbstractTask.Phase.{Idle, Queued, Polling, PollingWo
 use Rattle.executor_model.specs.declared.call.Call.TheVariants.{DropHandle}
 use Rattle.executor_model.specs.declared.call.Reply.TheVariants.{Done}
 use Rattle.executor_model.specs.declared.event.Event.TheVariants.{CallBegun, Cancelled, Detached, OutputDropped}
-use Rattle.taskrun.specs.declared.script.command.Word.TheVariants as word
-use Rattle.taskrun.specs.Names.{number_of}
+use Rattle.script.specs.declared.command.Word.TheVariants as word
+use Rattle.script.specs.Names.{number_of}
 use Rattle.taskrun.specs.First.{World, future, update, happen, happen_if, answer, unhandled, drop_there, drop_number}
 use Rattle.taskrun.specs.Resting.{is_polled}
 use Rattle.taskrun.specs.Sound.{Sound}

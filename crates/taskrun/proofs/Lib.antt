@@ -1,10 +1,5 @@
 pub mod Counting
 pub mod Queueing
-pub mod Cutting
-pub mod Numbering
-pub mod Reading
-pub mod Zipping
-pub mod Parsing
 pub mod Parts
 pub mod Ways
 pub mod Moves
@@ -25,4 +20,3 @@ pub mod Moved
 pub mod Ending
 pub mod Lawful
 pub mod Exact
-pub mod Unambiguous

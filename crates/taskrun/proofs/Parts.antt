@@ -4,7 +4,7 @@ use Rattle.std.specs.Prelude.{Option, Some, None, is_some, if◌then◌else◌}
 use Rattle.std.proofs.lemmas.List.{nil_from_length}
 use Rattle.async_task.specs.AbstractTask.{Phase, is_idle, is_over}
 use Rattle.async_task.specs.AbstractTask.Phase.{Idle, Queued, Finished}
-use Rattle.taskrun.specs.declared.script.item.Item.{Item}
+use Rattle.script.specs.declared.item.Item.{Item}
 use Rattle.taskrun.specs.First.{Future, rested, begun, woken, pended, keeping, ended_ready, fallen, unhandled, dropped, later_items}
 use Rattle.taskrun.specs.Resting.{IsResting, is_polled}
 

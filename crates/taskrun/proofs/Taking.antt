@@ -8,9 +8,9 @@ use Rattle.async_task.specs.AbstractTask.Phase.{Idle, Queued, Polling, PollingWo
 use Rattle.executor_model.specs.declared.call.Call.TheVariants.{TryTick}
 use Rattle.executor_model.specs.declared.call.Reply.TheVariants.{Yes, No}
 use Rattle.executor_model.specs.declared.event.Event.TheVariants.{CallBegun, PollBegun, Dropped}
-use Rattle.taskrun.specs.declared.script.item.Item.{Item}
-use Rattle.taskrun.specs.declared.script.item.Item.TheVariants as item
-use Rattle.taskrun.specs.declared.script.command.Word.TheVariants as word
+use Rattle.script.specs.declared.item.Item.{Item}
+use Rattle.script.specs.declared.item.Item.TheVariants as item
+use Rattle.script.specs.declared.command.Word.TheVariants as word
 use Rattle.taskrun.specs.First.{Future, World, future, blank, update, happen, answer, begun, keeping, fallen, poll, next_item, made_waker, let_go, pend, tick}
 use Rattle.taskrun.specs.Sound.{Sound}
 use Rattle.taskrun.proofs.Parts.{one_if}

@@ -11,7 +11,7 @@ use Rattle.executor_model.specs.declared.event.Answer.TheVariants.{Pending, Read
 use Rattle.executor_model.specs.declared.event.Event.{Event}
 use Rattle.executor_model.specs.declared.event.Event.TheVariants.{CallBegun, CallEnded, Accepted, PollBegun, Answered, Woken, Cancelled, Detached, Dropped, OutputDropped, DropBegun, DropEnded}
 use Rattle.executor_model.specs.Trace.{Trace}
-use Rattle.taskrun.specs.declared.script.item.Item.{Item}
+use Rattle.script.specs.declared.item.Item.{Item}
 use Rattle.taskrun.specs.First.{Future, World, future, accepted, dropped, numbers_from, is_undropped}
 use Rattle.taskrun.specs.Laws.{trace_of}
 use Rattle.taskrun.specs.Resting.{IsResting}

@@ -2,12 +2,12 @@
 -- No other input is answered.
 use Rattle.std.specs.Prelude.{◌≡◌, ◌⊎◌, ℕ, List, [], Option}
 use Rattle.std.specs.Io.KnownBytes.{Appends}
-use Rattle.taskrun.specs.BadLine.{IsFirstBadLine}
-use Rattle.taskrun.specs.Script.{IsScript}
+use Rattle.script.specs.BadLine.{IsFirstBadLine}
+use Rattle.script.specs.Script.{IsScript}
 use Rattle.taskrun.specs.ScriptText.{script_text}
 use Rattle.taskrun.specs.declared.fault.Fault.{Fault}
 use Rattle.taskrun.specs.declared.fault.Fault.TheVariants.{BadLine, NoMemory}
-use Rattle.taskrun.specs.declared.script.command.Command.{Command}
+use Rattle.script.specs.declared.command.Command.{Command}
 
 -- the input has no line, or is a script
 abbrev pub IsGoodInput : List ℕ → Type 0

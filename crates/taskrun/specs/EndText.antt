@@ -3,8 +3,8 @@ use Rattle.std.specs.Prelude.{ℕ, List, ◌++◌, codes}
 use Rattle.executor_model.specs.declared.call.Reply.TheVariants.{Made, Full, Yes, No, Done}
 use Rattle.taskrun.specs.declared.moment.Outcome.{Outcome}
 use Rattle.taskrun.specs.declared.moment.Outcome.TheVariants.{Answered, NotPossible}
-use Rattle.taskrun.specs.declared.script.command.Word.{Word}
-use Rattle.taskrun.specs.declared.script.command.Word.TheVariants.{Spawn, Try, Empty, Wake, Drop, End}
+use Rattle.script.specs.declared.command.Word.{Word}
+use Rattle.script.specs.declared.command.Word.TheVariants.{Spawn, Try, Empty, Wake, Drop, End}
 
 abbrev pub word_text : Word → List ℕ
 word_text Spawn = codes "spawn"

@@ -13,13 +13,13 @@ use Rattle.taskrun.specs.declared.moment.Moment.{Moment}
 use Rattle.taskrun.specs.declared.moment.Moment.TheVariants.{Happened, Ended}
 use Rattle.taskrun.specs.declared.moment.Outcome.TheVariants.{NotPossible}
 use Rattle.taskrun.specs.declared.moment.Outcome.TheVariants as outcome
-use Rattle.taskrun.specs.declared.script.item.Item.{Item}
-use Rattle.taskrun.specs.declared.script.item.Item.TheVariants as item
-use Rattle.taskrun.specs.declared.script.command.Word.{Word}
-use Rattle.taskrun.specs.declared.script.command.Word.TheVariants as word
-use Rattle.taskrun.specs.declared.script.command.Command.{Command}
-use Rattle.taskrun.specs.declared.script.command.Command.TheVariants as command
-use Rattle.taskrun.specs.Names.{number_of}
+use Rattle.script.specs.declared.item.Item.{Item}
+use Rattle.script.specs.declared.item.Item.TheVariants as item
+use Rattle.script.specs.declared.command.Word.{Word}
+use Rattle.script.specs.declared.command.Word.TheVariants as word
+use Rattle.script.specs.declared.command.Command.{Command}
+use Rattle.script.specs.declared.command.Command.TheVariants as command
+use Rattle.script.specs.Names.{number_of}
 
 abbrev pub Task : Type 0
 Task = AbstractTask ℕ ℕ

@@ -12,8 +12,8 @@ use Rattle.executor_model.specs.Due.{IsDue, IsFirstDue}
 use Rattle.executor_model.specs.DroppedOnce.{IsDroppedOnce}
 use Rattle.taskrun.specs.declared.moment.Moment.{Moment}
 use Rattle.taskrun.specs.declared.moment.Moment.TheVariants.{Happened, Ended}
-use Rattle.taskrun.specs.declared.script.command.Command.{Command}
-use Rattle.taskrun.specs.declared.script.command.Command.TheVariants as command
+use Rattle.script.specs.declared.command.Command.{Command}
+use Rattle.script.specs.declared.command.Command.TheVariants as command
 use Rattle.taskrun.specs.First.{after_all, start}
 
 abbrev pub event_of : Moment → Option Event

@@ -1,14 +1,4 @@
 pub mod Fault
-pub mod Names
-pub mod Name
-pub mod Padded
-pub mod Indexed
-pub mod Number
-pub mod Lines
-pub mod Item
-pub mod Command
-pub mod Script
-pub mod BadLine
 pub mod First
 pub mod Slot
 pub mod Resting

@@ -2,7 +2,7 @@
 use Rattle.std.specs.Prelude.{ℕ, List}
 use Rattle.taskrun.specs.First.{World, after_all, start}
 use Rattle.taskrun.specs.Text.{moments_text}
-use Rattle.taskrun.specs.declared.script.command.Command.{Command}
+use Rattle.script.specs.declared.command.Command.{Command}
 
 abbrev pub world_text : World → List ℕ
 world_text world = moments_text world.names world.moments

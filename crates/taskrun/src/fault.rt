@@ -1,6 +1,6 @@
 ghost use Rattle.std.specs.Prelude.{◌≡◌, Some};
 
-use crate::script::ParseError;
+use script::ParseError;
 use std::alloc::AllocError;
 use std::error::Error;
 use std::fmt;

@@ -13,8 +13,7 @@ ghost use Rattle.taskrun.specs.Laws.{IsLawful, trace_after, trace_of};
 
 use crate::first::executor::Executor;
 use crate::moment::Moment;
-use crate::names::Names;
-use crate::script::Command;
+use script::{Command, Names};
 use std::alloc::{AllocError, Global};
 
 /// What a run of commands shows, and the names of the futures that were accepted.

@@ -5,10 +5,8 @@ mod fault;
 mod first;
 mod input;
 mod moment;
-mod names;
 mod print;
 mod program;
-mod script;
 mod sim;
 
 use fault::Fault;

@@ -1,5 +1,5 @@
-use crate::script::Word;
 use executor_model::{Event, Reply};
+use script::Word;
 
 /// How a command ended.
 #[derive(Clone, Copy, Debug, PartialEq, Eq)]

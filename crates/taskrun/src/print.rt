@@ -6,9 +6,8 @@ ghost use Rattle.taskrun.specs.EventText.{event_text, line_on, name_of};
 ghost use Rattle.taskrun.specs.Text.{moment_text, moments_text};
 
 use crate::moment::{Moment, Outcome};
-use crate::names::Names;
-use crate::script::Word;
 use executor_model::{Answer, Event, Reply};
+use script::{Names, Word};
 use std::alloc::{AllocError, Global};
 
 /// The text of these moments, where the futures have these names in the order of acceptance.

@@ -2,7 +2,7 @@ ghost use Rattle.std.specs.Prelude.{◌≡◌, ◌≢◌, ◌↔◌, ℕ, Err, I
 ghost use Rattle.std.specs.Prelude.{map, string_bytes};
 ghost use Rattle.std.specs.Io.KnownBytes.{IsAtEnd};
 ghost use Rattle.taskrun.specs.Answer.{IsGoodInput, WritesAnswer};
-ghost use Rattle.taskrun.specs.BadLine.{IsFirstBadLine};
+ghost use Rattle.script.specs.BadLine.{IsFirstBadLine};
 ghost use Rattle.taskrun.specs.Usage.{NamesSim};
 
 use crate::fault::Fault;

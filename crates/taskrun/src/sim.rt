@@ -3,12 +3,12 @@
 ghost use Rattle.std.specs.Prelude.{◌≡◌, ◌≢◌, ℕ, Err, IfErr, IfOk, IfSome, IsOkUnless, OnOk};
 ghost use Rattle.std.specs.Io.KnownBytes.{Appends, IsAtEnd};
 ghost use Rattle.taskrun.specs.Answer.{IsGoodInput, IsAnswer, IsFaultOf, WritesAnswer};
-ghost use Rattle.taskrun.specs.BadLine.{IsFirstBadLine};
+ghost use Rattle.script.specs.BadLine.{IsFirstBadLine};
 ghost use Rattle.taskrun.specs.ScriptText.{script_text};
 
 use crate::fault::Fault;
-use crate::script::{Script, parse};
 use crate::{first, input, print};
+use script::{Script, parse};
 use std::alloc::{AllocError, Global};
 use std::io::{Read, Write};
 

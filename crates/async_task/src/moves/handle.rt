@@ -1,10 +1,20 @@
 //! The moves of the handle.
-ghost use Rattle.std.specs.Prelude.{◌≡◌, ◌^◌, ◌<◌};
+ghost use Rattle.std.specs.Prelude.{◌≡◌, ◌^◌, ◌<◌, true};
 ghost use Rattle.async_task.specs.Moves as moves;
 
 use crate::moves::debts::{NOTHING, QUEUED, notify_if, notify_other_if};
 use crate::moves::owed::{Answer, AwaiterDebt, Move, Moved, Owed};
 use crate::moves::state::State;
+
+// The task is closed.
+fn close(state: State) -> State
+    ensures { result ≡ record state { closed = true } }
+{
+    State {
+        closed: true,
+        ..state
+    }
+}
 
 /// The handle cancels the task.
 pub fn cancel(state: State) -> Moved
@@ -19,10 +29,7 @@ pub fn cancel(state: State) -> Moved
         },
         // A Runnable or a run is there, which will drop the future.
         _ if state.scheduled || state.running => Moved {
-            state: State {
-                closed: true,
-                ..state
-            },
+            state: close(state),
             owed: Owed {
                 awaiter: notify_if(state.awaiter),
                 ..NOTHING
@@ -52,10 +59,7 @@ pub fn detach(state: State) -> Moved
     match state {
         // Its output is there: that goes first.
         _ if state.completed && !state.closed => Moved {
-            state: State {
-                closed: true,
-                ..state
-            },
+            state: close(state),
             owed: Owed {
                 drop_output: true,
                 next: Some(Move::Detach),
@@ -122,10 +126,7 @@ pub fn poll(state: State) -> Moved
         },
         // Its output is there.
         _ => Moved {
-            state: State {
-                closed: true,
-                ..state
-            },
+            state: close(state),
             owed: Owed {
                 awaiter: notify_other_if(state.awaiter),
                 answer: Some(Answer::Output),

@@ -1,5 +1,5 @@
 //! The moves of a run, and of a call that closes a task.
-ghost use Rattle.std.specs.Prelude.{◌≡◌, ◌<◌};
+ghost use Rattle.std.specs.Prelude.{◌≡◌, ◌<◌, false};
 ghost use Rattle.async_task.specs.Moves as moves;
 
 use crate::moves::debts::{NOTHING, QUEUED_AFTER_POLL, settled};
@@ -111,6 +111,17 @@ pub fn end_pending(state: State) -> Moved
                 ..NOTHING
             },
         },
+        // It is open.
+        _ => end_open(state),
+    }
+}
+
+/// The poll of an open task gave no output.
+fn end_open(state: State) -> Moved
+    requires { 0 < state.references }
+    ensures { result ≡ moves.end_pending_by false state.scheduled (moves.is_last state) state }
+{
+    match state {
         // It was woken meanwhile: the run's reference passes to a Runnable.
         _ if state.scheduled => Moved {
             state: State {

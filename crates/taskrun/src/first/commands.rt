@@ -3,13 +3,13 @@
 ghost use Rattle.std.specs.Prelude.{◌≡◌, ℕ, ◌<◌, OnOk, IsNone, IfNone, IfSome, OnSome, Some, true, [], ◌∷◌, length};
 ghost use Rattle.async_task.specs.AbstractTask.Phase.{Queued};
 ghost use Rattle.taskrun.specs.First as first;
-ghost use Rattle.taskrun.specs.Names.{number_of};
+ghost use Rattle.script.specs.Names.{number_of};
 ghost use Rattle.taskrun.specs.Sound.{Sound};
 
 use crate::first::executor::{Executor, PARTY};
 use crate::first::future::Future;
-use crate::script::{Command, Item, Name, Word};
 use executor_model::{Call, Event, Reply};
+use script::{Command, Item, Name, Word};
 use std::alloc::AllocError;
 
 impl<'a> Executor<'a> {

@@ -7,8 +7,8 @@ ghost use Rattle.taskrun.specs.First as first;
 
 use crate::first::executor::{Executor, PARTY};
 use crate::first::future::Future;
-use crate::script::Word;
 use executor_model::{Call, Event, Reply};
+use script::Word;
 use std::alloc::AllocError;
 
 impl<'a> Executor<'a> {

@@ -1,15 +1,14 @@
 ghost use Rattle.std.specs.Prelude.{◌≡◌, ℕ, ◌+◌, ◌<◌, ◌≤◌, Bool, true, false, not, List, [], ◌∷◌, length, count_by, OnOk, IfOk};
 ghost use Rattle.async_task.specs.AbstractTask.Phase.{Queued};
 ghost use Rattle.executor_model.specs.declared.event.Event.TheVariants.{CallBegun, CallEnded, Answered, Dropped};
-ghost use Rattle.taskrun.specs.declared.script.item.Item.TheVariants.{WakeSelf, Keep, Ready};
+ghost use Rattle.script.specs.declared.item.Item.TheVariants.{WakeSelf, Keep, Ready};
 ghost use Rattle.taskrun.specs.First as first;
 
 use crate::first::Played;
 use crate::first::future::Future;
 use crate::moment::{Moment, Outcome};
-use crate::names::Names;
-use crate::script::{Item, Name, Word};
 use executor_model::{Answer, Call, Event, Reply};
+use script::{Item, Name, Names, Word};
 use std::alloc::{AllocError, Global};
 use std::collections::VecDeque;
 use std::marker::Model;

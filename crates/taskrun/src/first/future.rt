@@ -5,7 +5,7 @@ ghost use Rattle.taskrun.specs.First as first;
 ghost use Rattle.taskrun.specs.Slot.{task_of};
 
 use crate::first::stage::Stage;
-use crate::script::Item;
+use script::Item;
 use std::marker::Model;
 
 /// One accepted future: what it does at its polls to come, and what stands of its task between two calls.

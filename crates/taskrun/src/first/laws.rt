@@ -2,7 +2,7 @@ ghost use Rattle.std.specs.Prelude.{ℕ, List};
 ghost use Rattle.taskrun.specs.First.{after_all, start};
 ghost use Rattle.taskrun.specs.Laws.{IsLawful};
 ghost use Rattle.taskrun.specs.Sound.{Sound};
-ghost use Rattle.taskrun.specs.declared.script.command.Command.{Command};
+ghost use Rattle.script.specs.declared.command.Command.{Command};
 
 /// The executor is sound after every list of commands.
 pub fn every_run_is_sound()

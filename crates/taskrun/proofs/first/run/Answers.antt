@@ -1,6 +1,6 @@
 use Rattle.std.proofs.Common.{◌≡◌, ℕ, ◌+◌, ◌<◌, List, ◌∷◌, length, drop, get_or, subst, sym, ap, ◌∙◌, add-one}
 use Rattle.std.proofs.Math.Seq.{drop-cons}
-use Rattle.taskrun.specs.declared.script.command.Command.{Command}
+use Rattle.script.specs.declared.command.Command.{Command}
 use Rattle.taskrun.specs.First.{World, after_all, after_command}
 use Rattle.taskrun.specs.Sound.{Sound}
 use Rattle.taskrun.proofs.Commands.{sound-after}

@@ -2,13 +2,13 @@ use Rattle.std.proofs.Common.{◌≡◌, ℕ, List, Result, Ok, Err, Some, IsOkU
 use Rattle.std.specs.Prelude.{IsErrAnd}
 use Rattle.taskrun.specs.Answer.{IsAnswer}
 use Rattle.taskrun.specs.Fault.{fault_of}
-use Rattle.taskrun.specs.Script.{IsScript}
+use Rattle.script.specs.Script.{IsScript}
 use Rattle.taskrun.specs.ScriptText.{script_text}
-use Rattle.taskrun.specs.declared.script.command.Command.{Command}
+use Rattle.script.specs.declared.command.Command.{Command}
 use Rattle.taskrun.specs.declared.fault.Fault.{Fault}
 use Rattle.taskrun.specs.declared.fault.Fault.TheVariants.{NoMemory}
-use Rattle.taskrun.specs.declared.script.error.ParseError.{ParseError}
-use Rattle.taskrun.specs.declared.script.error.ParseError.TheVariants as parse
+use Rattle.script.specs.declared.error.ParseError.{ParseError}
+use Rattle.script.specs.declared.error.ParseError.TheVariants as parse
 use Rattle.taskrun.proofs.sim.answer.Goals as goal
 
 -- where the parser's error is the want of memory, so is the fault

@@ -1,0 +1,11 @@
+-- When two wakers of the one type that futures are polled with wake the same.
+use Rattle.async_task.specs.Handles.{IsOfOneTask}
+use Rattle.async_task.specs.declared.waker.Awaiter.{Awaiter}
+use Rattle.async_task.specs.declared.waker.Awaiter.TheVariants.{Task, Outside}
+
+-- two of tasks are of one task; two from outside are as those say; one of each aren't known to
+abbrev pub WakeTheSame : {F T S M W R : Type 0} → (W → W → Type 0) → Awaiter F T S M W R → Awaiter F T S M W R → Type 0
+WakeTheSame is_same (Task a) (Task b) = IsOfOneTask a b
+WakeTheSame is_same (Outside a) (Outside b) = is_same a b
+WakeTheSame is_same (Task a) (Outside b) = ⊥
+WakeTheSame is_same (Outside a) (Task b) = ⊥

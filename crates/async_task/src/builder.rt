@@ -1,0 +1,98 @@
+ghost use Rattle.std.specs.Prelude.{◌≡◌, IfOk, IfErr};
+
+use crate::cell::{Held, Parts, Realm, Scheduled};
+use crate::runnable::Runnable;
+use crate::schedule::Schedule;
+use crate::task::Task;
+use crate::wake::Wake;
+use std::alloc::Global;
+use std::sync::Wait;
+
+/// Makes tasks with metadata.
+#[derive(Clone, Copy, Debug, PartialEq, Eq, Drop)]
+pub struct Builder<M> {
+    metadata: M,
+}
+
+impl Builder<()> {
+    /// A builder of tasks with no metadata.
+    pub fn new() -> Self {
+        Builder { metadata: () }
+    }
+}
+
+impl Default for Builder<()> {
+    fn default() -> Self {
+        Builder::new()
+    }
+}
+
+impl<M> Builder<M> {
+    /// The same builder, of tasks with this metadata.
+    pub fn metadata<N>(self, metadata: N) -> Builder<N>
+    where
+        M: Drop,
+        ensures { result.metadata ≡ metadata }
+    {
+        Builder { metadata }
+    }
+
+    /// A task in this realm: the Runnable that begins it, and its handle. For want of memory the
+    /// future, the schedule value and the metadata come back.
+    pub fn spawn<F, T, S, W, R>(
+        self,
+        rt: R,
+        alloc: Global,
+        realm: &'static Realm<F, T, S, M, W>,
+        future: F,
+        schedule: S,
+    ) -> Result<(Runnable<F, T, S, M, W, R>, Task<F, T, S, M, W, R>), Parts<F, S, M>>
+    where
+        F: Drop + 'static,
+        T: Drop + 'static,
+        S: Schedule<Scheduled<F, T, S, M, W, R>> + Drop + 'static,
+        M: Drop + 'static,
+        W: Wake + Drop + 'static,
+        R: Wait + Copy + Drop,
+        ensures one_task { IfOk result (λ both. both.0 ≡ both.1) }
+        ensures metadata { IfOk result (λ both. both.0.metadata ≡ self.metadata) }
+        ensures future { IfErr result (λ back. back.future ≡ future) }
+        ensures schedule { IfErr result (λ back. back.schedule ≡ schedule) }
+        ensures given_back { IfErr result (λ back. back.metadata ≡ self.metadata) }
+    {
+        let parts = Parts {
+            future,
+            schedule,
+            metadata: self.metadata,
+        };
+        match Held::new(rt, alloc, realm, parts) {
+            Ok(held) => {
+                let runnable = Runnable { held: held.share() };
+                Ok((runnable, Task { held }))
+            }
+            Err(parts) => Err(parts),
+        }
+    }
+}
+
+/// A task with no metadata in this realm: the Runnable that begins it, and its handle. For want of
+/// memory the future and the schedule value come back.
+pub fn spawn<F, T, S, W, R>(
+    rt: R,
+    alloc: Global,
+    realm: &'static Realm<F, T, S, (), W>,
+    future: F,
+    schedule: S,
+) -> Result<(Runnable<F, T, S, (), W, R>, Task<F, T, S, (), W, R>), Parts<F, S, ()>>
+where
+    F: Drop + 'static,
+    T: Drop + 'static,
+    S: Schedule<Scheduled<F, T, S, (), W, R>> + Drop + 'static,
+    W: Wake + Drop + 'static,
+    R: Wait + Copy + Drop,
+    ensures one_task { IfOk result (λ both. both.0 ≡ both.1) }
+    ensures future { IfErr result (λ back. back.future ≡ future) }
+    ensures schedule { IfErr result (λ back. back.schedule ≡ schedule) }
+{
+    Builder::new().spawn(rt, alloc, realm, future, schedule)
+}

@@ -1,0 +1,79 @@
+//! What `Debug` shows of the handles: the marks of the task at one moment, how many references it
+//! has, and its metadata.
+use crate::cell::{Held, Scheduled};
+use crate::fallible::FallibleTask;
+use crate::runnable::Runnable;
+use crate::schedule::Schedule;
+use crate::task::Task;
+use crate::wake::Wake;
+use std::fmt;
+use std::sync::Wait;
+
+fn show<F, T, S, M, W, R, D>(
+    name: &str,
+    held: &Held<F, T, S, M, W, R>,
+    f: &mut fmt::Formatter<D>,
+) -> fmt::Result
+where
+    F: Drop + 'static,
+    T: Drop + 'static,
+    S: Drop + 'static,
+    M: fmt::Debug + Drop + 'static,
+    W: Drop + 'static,
+    R: Wait + Copy + Drop,
+    D: fmt::Write,
+{
+    let state = held.look();
+    f.debug_struct(name)
+        .field("scheduled", &state.scheduled)
+        .field("running", &state.running)
+        .field("completed", &state.completed)
+        .field("closed", &state.closed)
+        .field("awaiter", &state.awaiter)
+        .field("task", &state.handle)
+        .field("ref_count", &state.references)
+        .field("metadata", held.metadata())
+        .finish()
+}
+
+impl<F, T, S, M, W, R> fmt::Debug for Runnable<F, T, S, M, W, R>
+where
+    F: Drop + 'static,
+    T: Drop + 'static,
+    S: Schedule<Scheduled<F, T, S, M, W, R>> + Drop + 'static,
+    M: fmt::Debug + Drop + 'static,
+    W: Wake + Drop + 'static,
+    R: Wait + Copy + Drop,
+{
+    fn fmt<D: fmt::Write>(&self, f: &mut fmt::Formatter<D>) -> fmt::Result {
+        show("Runnable", &self.held, f)
+    }
+}
+
+impl<F, T, S, M, W, R> fmt::Debug for Task<F, T, S, M, W, R>
+where
+    F: Drop + 'static,
+    T: Drop + 'static,
+    S: Schedule<Scheduled<F, T, S, M, W, R>> + Drop + 'static,
+    M: fmt::Debug + Drop + 'static,
+    W: Wake + Drop + 'static,
+    R: Wait + Copy + Drop,
+{
+    fn fmt<D: fmt::Write>(&self, f: &mut fmt::Formatter<D>) -> fmt::Result {
+        show("Task", &self.held, f)
+    }
+}
+
+impl<F, T, S, M, W, R> fmt::Debug for FallibleTask<F, T, S, M, W, R>
+where
+    F: Drop + 'static,
+    T: Drop + 'static,
+    S: Schedule<Scheduled<F, T, S, M, W, R>> + Drop + 'static,
+    M: fmt::Debug + Drop + 'static,
+    W: Wake + Drop + 'static,
+    R: Wait + Copy + Drop,
+{
+    fn fmt<D: fmt::Write>(&self, f: &mut fmt::Formatter<D>) -> fmt::Result {
+        show("FallibleTask", &self.held, f)
+    }
+}

@@ -1,0 +1,122 @@
+ghost use Rattle.std.specs.Prelude.{◌≡◌};
+
+use crate::cancel::Cancel;
+use crate::cell::{Held, Scheduled};
+use crate::errors::NoMemory;
+use crate::poll::{Future, Poll};
+use crate::polling::{Found, poll};
+use crate::schedule::Schedule;
+use crate::wake::Wake;
+use crate::waker::Awaiter;
+use std::marker::Model;
+use std::sync::Wait;
+
+/// The handle of a task whose closing is no error. Its drop cancels the task.
+#[must_use]
+pub struct FallibleTask<F, T, S, M, W, R>
+where
+    F: Drop + 'static,
+    T: Drop + 'static,
+    S: Schedule<Scheduled<F, T, S, M, W, R>> + Drop + 'static,
+    M: Drop + 'static,
+    W: Wake + Drop + 'static,
+    R: Wait + Copy + Drop,
+{
+    pub(crate) held: Held<F, T, S, M, W, R>,
+}
+
+impl<F, T, S, M, W, R> Model for FallibleTask<F, T, S, M, W, R>
+where
+    F: Drop + 'static,
+    T: Drop + 'static,
+    S: Schedule<Scheduled<F, T, S, M, W, R>> + Drop + 'static,
+    M: Drop + 'static,
+    W: Wake + Drop + 'static,
+    R: Wait + Copy + Drop,
+{
+    ghost use Rattle.async_task.specs.Handles.{Handle};
+
+    ghost Value = { Handle M };
+
+    ghost view = { λ h. h.held };
+}
+
+impl<F, T, S, M, W, R> FallibleTask<F, T, S, M, W, R>
+where
+    F: Drop + 'static,
+    T: Drop + 'static,
+    S: Schedule<Scheduled<F, T, S, M, W, R>> + Drop + 'static,
+    M: Drop + 'static,
+    W: Wake + Drop + 'static,
+    R: Wait + Copy + Drop,
+{
+    pub fn metadata(&self) -> &M
+        ensures { result.now ≡ self.now.metadata }
+    {
+        self.held.metadata()
+    }
+
+    /// Whether the future has given its output and is dropped, or is going to be dropped.
+    pub fn is_finished(&self) -> bool {
+        self.held.is_finished()
+    }
+
+    /// Gives the handle up. The task goes on, and its output is dropped.
+    pub fn detach(self) {
+        let Self { held } = self;
+        held.pay(held.detach());
+    }
+
+    /// What closes the task when it is first polled, and then has the output where there was one.
+    pub fn cancel(self) -> Cancel<F, T, S, M, W, R>
+        ensures { result ≡ self }
+    {
+        let Self { held } = self;
+        Cancel {
+            held,
+            is_cancelled: false,
+        }
+    }
+}
+
+impl<F, T, S, M, W, R> Future<Awaiter<F, T, S, M, W, R>> for FallibleTask<F, T, S, M, W, R>
+where
+    F: Drop + 'static,
+    T: Drop + 'static,
+    S: Schedule<Scheduled<F, T, S, M, W, R>> + Drop + 'static,
+    M: Drop + 'static,
+    W: Wake + Drop + 'static,
+    R: Wait + Copy + Drop,
+{
+    type Output = Result<Option<T>, NoMemory>;
+
+    fn poll(&mut self, waker: &Awaiter<F, T, S, M, W, R>) -> Poll<Result<Option<T>, NoMemory>> {
+        found(poll(&self.held, waker))
+    }
+}
+
+/// What a handle answers that has None where there is no output.
+pub fn found<T>(found: Found<T>) -> Poll<Result<Option<T>, NoMemory>> {
+    match found {
+        Found::Output(output) => Poll::Ready(Ok(Some(output))),
+        Found::Closed => Poll::Ready(Ok(None)),
+        Found::Pending => Poll::Pending,
+        Found::NoMemory => Poll::Ready(Err(NoMemory)),
+    }
+}
+
+impl<F, T, S, M, W, R> Drop for FallibleTask<F, T, S, M, W, R>
+where
+    F: Drop + 'static,
+    T: Drop + 'static,
+    S: Schedule<Scheduled<F, T, S, M, W, R>> + Drop + 'static,
+    M: Drop + 'static,
+    W: Wake + Drop + 'static,
+    R: Wait + Copy + Drop,
+{
+    fn drop(self) {
+        let Self { held } = self;
+        held.pay(held.cancel());
+        held.pay(held.detach());
+    }
+}

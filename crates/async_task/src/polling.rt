@@ -1,0 +1,102 @@
+//! How a handle of any kind is polled.
+use crate::cell::{Held, Kept, Scheduled, pay_due};
+use crate::local_task::Polled;
+use crate::schedule::Schedule;
+use crate::wake::Wake;
+use crate::waker::Awaiter;
+use std::sync::Wait;
+
+/// What a poll of a handle finds.
+pub enum Found<T> {
+    /// The output, which is given.
+    Output(T),
+    /// There is none, nor will there be one.
+    Closed,
+    /// There is none yet.
+    Pending,
+    /// No copy of the waker could be had: nothing was done.
+    NoMemory,
+}
+
+/// Polls the handle. A waker of a task of another realm can't be kept: it is called at once.
+pub fn poll<F, T, S, M, W, R>(
+    held: &Held<F, T, S, M, W, R>,
+    waker: &Awaiter<F, T, S, M, W, R>,
+) -> Found<T>
+where
+    F: Drop + 'static,
+    T: Drop + 'static,
+    S: Schedule<Scheduled<F, T, S, M, W, R>> + Drop + 'static,
+    M: Drop + 'static,
+    W: Wake + Drop + 'static,
+    R: Wait + Copy + Drop,
+{
+    let Some(kept) = to_keep(held, waker) else {
+        return Found::NoMemory;
+    };
+    match held.poll(kept) {
+        Polled::Output { output, spare } => {
+            pay_due(held.let_go(spare));
+            Found::Output(output)
+        }
+        Polled::Closed { spare } => {
+            pay_due(held.let_go(spare));
+            Found::Closed
+        }
+        Polled::Pending { replaced } => {
+            if let Some(replaced) = replaced {
+                pay_due(held.let_go(replaced));
+            }
+            if is_foreign(held, waker) {
+                waker.wake_by_ref();
+            }
+            Found::Pending
+        }
+    }
+}
+
+/// A copy of the waker, as the cell is to keep it.
+fn to_keep<F, T, S, M, W, R>(
+    held: &Held<F, T, S, M, W, R>,
+    waker: &Awaiter<F, T, S, M, W, R>,
+) -> Option<Kept<W>>
+where
+    F: Drop + 'static,
+    T: Drop + 'static,
+    S: Schedule<Scheduled<F, T, S, M, W, R>> + Drop + 'static,
+    M: Drop + 'static,
+    W: Wake + Drop + 'static,
+    R: Wait + Copy + Drop,
+{
+    if is_foreign(held, waker) {
+        return Some(Kept::Called);
+    }
+    match waker {
+        Awaiter::Task(waker) => {
+            match waker.clone() {
+                Some(copy) => Some(Kept::Task(copy.into_held().identity().place)),
+                None => None,
+            }
+        }
+        Awaiter::Outside(waker) => Some(Kept::Outside(waker.clone()?)),
+    }
+}
+
+/// Whether it is a waker of a task of another realm.
+fn is_foreign<F, T, S, M, W, R>(
+    held: &Held<F, T, S, M, W, R>,
+    waker: &Awaiter<F, T, S, M, W, R>,
+) -> bool
+where
+    F: Drop + 'static,
+    T: Drop + 'static,
+    S: Schedule<Scheduled<F, T, S, M, W, R>> + Drop + 'static,
+    M: Drop + 'static,
+    W: Wake + Drop + 'static,
+    R: Wait + Copy + Drop,
+{
+    match waker {
+        Awaiter::Task(waker) => waker.held.identity().realm != held.identity().realm,
+        Awaiter::Outside(_) => false,
+    }
+}

@@ -1,0 +1,147 @@
+//! Slots in pages that double in size and never move, and a list of the slots that are free. No lock
+//! is taken to reach a slot, to find a free one or to give it back.
+ghost use Rattle.std.specs.Prelude.{◌<◌};
+
+use std::alloc::{AllocError, Global};
+use std::sync::atomic::AtomicU64;
+use std::sync::atomic::Ordering::SeqCst;
+use std::sync::{Arc, Mutex, OnceLock};
+
+/// The slots of the first page. Each page has twice as many as the one before.
+const FIRST_PAGE: u32 = 32;
+
+const PAGES: usize = 19;
+
+/// All slots of all pages: 32 (2^19 - 1).
+const CAPACITY: u32 = 16_777_184;
+
+/// More than the greatest number of a place: numbers are taken modulo this.
+const PLACES: usize = 0x100_0000;
+
+/// The low half of `Pages::free`.
+const LINK: u64 = 0xffff_ffff;
+
+#[derive(Drop)]
+pub struct Slot<C> {
+    pub cell: Mutex<Option<Arc<C, Global>>>,
+    /// Where the slot is free: 1 more than the place of the next free one, or 0.
+    next: AtomicU64,
+}
+
+#[derive(Drop)]
+pub struct Pages<C> {
+    /// The low half is 1 more than the place of the first free slot that was in use before, or 0.
+    /// The high half counts the changes, so that a slot that went and came back isn't mistaken.
+    free: AtomicU64,
+    /// The places from this one on were never in use.
+    used: AtomicU64,
+    pages: Vec<OnceLock<Vec<Slot<C>, Global>>, Global>,
+    alloc: Global,
+}
+
+/// The page of a place, and where it stands in that page.
+fn position(place: u32) -> (usize, usize) {
+    let past = place as u64 + FIRST_PAGE as u64;
+    let page = (past / FIRST_PAGE as u64).ilog2();
+    let start = (FIRST_PAGE as u64).wrapping_shl(page);
+    (page as usize, past.wrapping_sub(start) as usize)
+}
+
+fn new_page<C: Drop>(alloc: Global, page: usize) -> Result<Vec<Slot<C>, Global>, AllocError>
+    requires { page < 19 }
+{
+    let len = (FIRST_PAGE as usize) << page;
+    let mut slots = Vec::with_capacity(alloc, len)?;
+    for _ in 0..len {
+        slots.push(Slot {
+            cell: Mutex::new(None),
+            next: AtomicU64::new(0),
+        })?;
+    }
+    Ok(slots)
+}
+
+/// The list of free slots after one more change, with this link to its first.
+fn changed(free: u64, link: u64) -> u64 {
+    (free | LINK).wrapping_add(1) | link
+}
+
+impl<C: Drop> Pages<C> {
+    pub fn new(alloc: Global) -> Result<Pages<C>, AllocError> {
+        let mut pages = Vec::with_capacity(alloc, PAGES)?;
+        for _ in 0..PAGES {
+            pages.push(OnceLock::new())?;
+        }
+        Ok(Pages {
+            free: AtomicU64::new(0),
+            used: AtomicU64::new(0),
+            pages,
+            alloc,
+        })
+    }
+
+    /// The slot at this place.
+    pub fn slot(&self, place: usize) -> Option<&Slot<C>> {
+        let (page, at) = position((place % PLACES) as u32);
+        self.pages.get(page)?.get()?.get(at)
+    }
+
+    /// A place that nobody else has, until it is released. None where there are too many, or for
+    /// want of memory.
+    pub fn vacancy(&self) -> Option<usize> {
+        match self.reuse() {
+            Some(place) => Some(place),
+            None => self.grow(),
+        }
+    }
+
+    /// Gives the place back.
+    pub fn release(&self, place: usize) {
+        let Some(slot) = self.slot(place) else {
+            return;
+        };
+        let link = (place % PLACES) as u64 + 1;
+        let _ = self.free.fetch_update(SeqCst, SeqCst, |free| {
+            slot.next.store(free & LINK, SeqCst);
+            Some(changed(free, link))
+        });
+    }
+
+    fn reuse(&self) -> Option<usize> {
+        let free = self.free.fetch_update(SeqCst, SeqCst, |free| {
+            let place = (free & LINK).checked_sub(1)?;
+            let next = self.slot(place as usize)?.next.load(SeqCst);
+            Some(changed(free, next))
+        });
+        let place = (free.ok()? & LINK).checked_sub(1)?;
+        Some(place as usize)
+    }
+
+    fn grow(&self) -> Option<usize> {
+        for _ in 0..u64::MAX {
+            let used = self.used.load(SeqCst);
+            if used >= CAPACITY as u64 {
+                return None;
+            }
+            if self.slot(used as usize).is_none() {
+                self.add_page(position(used as u32).0 % PAGES)?;
+            } else if self
+                .used
+                .compare_exchange(used, used + 1, SeqCst, SeqCst)
+                .is_ok()
+            {
+                return Some(used as usize);
+            }
+        }
+        None
+    }
+
+    /// Makes the page, where nobody else did meanwhile.
+    fn add_page(&self, page: usize) -> Option<()>
+        requires { page < 19 }
+    {
+        let slots = new_page(self.alloc, page).ok()?;
+        let _ = self.pages.get(page)?.try_set(slots);
+        Some(())
+    }
+}

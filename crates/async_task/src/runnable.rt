@@ -1,0 +1,315 @@
+ghost use Rattle.std.specs.Prelude.{◌≡◌, IfSome};
+
+use crate::cell::{Ended, Held, Scheduled, pay_due};
+use crate::local_task::{Back, Start};
+use crate::poll::{Future, Poll};
+use crate::schedule::{Schedule, ScheduleInfo};
+use crate::wake::Wake;
+use crate::waker::{Awaiter, TaskWaker};
+use std::marker::Model;
+use std::sync::Wait;
+
+/// A task that is to be run: at most one is there of a task. Its drop closes the task, and drops the
+/// future.
+pub struct Runnable<F, T, S, M, W, R>
+where
+    F: Drop + 'static,
+    T: Drop + 'static,
+    S: Schedule<Scheduled<F, T, S, M, W, R>> + Drop + 'static,
+    M: Drop + 'static,
+    W: Wake + Drop + 'static,
+    R: Wait + Copy + Drop,
+{
+    pub(crate) held: Held<F, T, S, M, W, R>,
+}
+
+impl<F, T, S, M, W, R> Model for Runnable<F, T, S, M, W, R>
+where
+    F: Drop + 'static,
+    T: Drop + 'static,
+    S: Schedule<Scheduled<F, T, S, M, W, R>> + Drop + 'static,
+    M: Drop + 'static,
+    W: Wake + Drop + 'static,
+    R: Wait + Copy + Drop,
+{
+    ghost use Rattle.async_task.specs.Handles.{Handle};
+
+    ghost Value = { Handle M };
+
+    ghost view = { λ h. h.held };
+}
+
+/// What a Runnable begins.
+#[must_use]
+pub enum Started<F, T, S, M, W, R>
+where
+    F: Drop + 'static,
+    T: Drop + 'static,
+    S: Schedule<Scheduled<F, T, S, M, W, R>> + Drop + 'static,
+    M: Drop + 'static,
+    W: Wake + Drop + 'static,
+    R: Wait + Copy + Drop,
+{
+    /// The future is polled, with the run's waker, and the run is then settled.
+    Poll(F, Running<F, T, S, M, W, R>),
+    /// The task is closed: the future is dropped, and the call is then finished.
+    Drop(F, Closing<F, T, S, M, W, R>),
+}
+
+/// A run whose future is being polled. It has no drop: it is settled.
+#[must_use]
+pub struct Running<F, T, S, M, W, R>
+where
+    F: Drop + 'static,
+    T: Drop + 'static,
+    S: Schedule<Scheduled<F, T, S, M, W, R>> + Drop + 'static,
+    M: Drop + 'static,
+    W: Wake + Drop + 'static,
+    R: Wait + Copy + Drop,
+{
+    waker: Awaiter<F, T, S, M, W, R>,
+    rt: R,
+}
+
+/// A call that closes a task whose future is being dropped. It has no drop: it is finished.
+#[must_use]
+pub struct Closing<F, T, S, M, W, R>
+where
+    F: Drop + 'static,
+    T: Drop + 'static,
+    S: Schedule<Scheduled<F, T, S, M, W, R>> + Drop + 'static,
+    M: Drop + 'static,
+    W: Wake + Drop + 'static,
+    R: Wait + Copy + Drop,
+{
+    held: Held<F, T, S, M, W, R>,
+}
+
+impl<F, T, S, M, W, R> Model for Closing<F, T, S, M, W, R>
+where
+    F: Drop + 'static,
+    T: Drop + 'static,
+    S: Schedule<Scheduled<F, T, S, M, W, R>> + Drop + 'static,
+    M: Drop + 'static,
+    W: Wake + Drop + 'static,
+    R: Wait + Copy + Drop,
+{
+    ghost use Rattle.async_task.specs.Handles.{Handle};
+
+    ghost Value = { Handle M };
+
+    ghost view = { λ h. h.held };
+}
+
+/// How a run ends.
+#[must_use]
+pub enum RunEnd<F, T, S, M, W, R>
+where
+    F: Drop + 'static,
+    T: Drop + 'static,
+    S: Schedule<Scheduled<F, T, S, M, W, R>> + Drop + 'static,
+    M: Drop + 'static,
+    W: Wake + Drop + 'static,
+    R: Wait + Copy + Drop,
+{
+    /// It is over. Whether the task was woken during the poll, and was handed to its schedule value
+    /// again.
+    Over(bool),
+    /// The task was closed during the poll: the future is dropped, and the call is then finished.
+    Drop(F, Closing<F, T, S, M, W, R>),
+}
+
+impl<F, T, S, M, W, R> Runnable<F, T, S, M, W, R>
+where
+    F: Drop + 'static,
+    T: Drop + 'static,
+    S: Schedule<Scheduled<F, T, S, M, W, R>> + Drop + 'static,
+    M: Drop + 'static,
+    W: Wake + Drop + 'static,
+    R: Wait + Copy + Drop,
+{
+    pub fn metadata(&self) -> &M
+        ensures { result.now ≡ self.now.metadata }
+    {
+        self.held.metadata()
+    }
+
+    /// Hands the Runnable to the schedule value of its task.
+    pub fn schedule(self) {
+        let Self { held } = self;
+        let info = ScheduleInfo {
+            woken_while_running: false,
+        };
+        let task = held.share();
+        task.schedule().schedule(Scheduled { held }, info);
+    }
+
+    /// A waker of the task, or None where it has 2^40 references already.
+    pub fn waker(&self) -> Option<TaskWaker<F, T, S, M, W, R>>
+        ensures { IfSome result (λ waker. waker ≡ self.now) }
+    {
+        if self.held.hold() {
+            Some(TaskWaker {
+                held: self.held.share(),
+            })
+        } else {
+            None
+        }
+    }
+
+    /// The Runnable for a queue.
+    pub fn into_scheduled(self) -> Scheduled<F, T, S, M, W, R>
+        ensures { result ≡ self }
+    {
+        let Self { held } = self;
+        Scheduled { held }
+    }
+
+    /// Takes the future out: to be polled, or to be dropped where the task is closed.
+    pub fn start(self) -> Started<F, T, S, M, W, R> {
+        let Self { held } = self;
+        match held.start() {
+            Start::Poll(future) => {
+                let rt = held.rt();
+                let waker = Awaiter::Task(TaskWaker { held });
+                Started::Poll(future, Running { waker, rt })
+            }
+            Start::Drop(future) => Started::Drop(future, Closing { held }),
+        }
+    }
+}
+
+impl<F, T, S, M, W, R> Runnable<F, T, S, M, W, R>
+where
+    F: Future<Awaiter<F, T, S, M, W, R>, Output = T> + Drop + 'static,
+    T: Drop + 'static,
+    S: Schedule<Scheduled<F, T, S, M, W, R>> + Drop + 'static,
+    M: Drop + 'static,
+    W: Wake + Drop + 'static,
+    R: Wait + Copy + Drop,
+{
+    /// Polls the future once, or drops it where the task is closed. The answer is true exactly
+    /// where the task was woken during the poll and not closed: it was handed to its schedule value
+    /// then, which was told the same.
+    pub fn run(self) -> bool {
+        match self.start() {
+            Started::Poll(future, running) => running.poll(future),
+            Started::Drop(future, closing) => {
+                drop(future);
+                closing.finish();
+                false
+            }
+        }
+    }
+}
+
+impl<F, T, S, M, W, R> Running<F, T, S, M, W, R>
+where
+    F: Future<Awaiter<F, T, S, M, W, R>, Output = T> + Drop + 'static,
+    T: Drop + 'static,
+    S: Schedule<Scheduled<F, T, S, M, W, R>> + Drop + 'static,
+    M: Drop + 'static,
+    W: Wake + Drop + 'static,
+    R: Wait + Copy + Drop,
+{
+    fn poll(self, future: F) -> bool {
+        let mut future = future;
+        let back = match future.poll(&self.waker) {
+            Poll::Ready(output) => {
+                drop(future);
+                Back::Ready(output)
+            }
+            Poll::Pending => Back::Pending(future),
+        };
+        match self.settle(back) {
+            RunEnd::Over(woken) => woken,
+            RunEnd::Drop(future, closing) => {
+                drop(future);
+                closing.finish();
+                false
+            }
+        }
+    }
+}
+
+impl<F, T, S, M, W, R> Running<F, T, S, M, W, R>
+where
+    F: Drop + 'static,
+    T: Drop + 'static,
+    S: Schedule<Scheduled<F, T, S, M, W, R>> + Drop + 'static,
+    M: Drop + 'static,
+    W: Wake + Drop + 'static,
+    R: Wait + Copy + Drop,
+{
+    /// The waker that the future is polled with.
+    pub fn waker(&self) -> &Awaiter<F, T, S, M, W, R> {
+        &self.waker
+    }
+
+    /// Ends the run. Where the future has given its output, it is dropped before this call.
+    pub fn settle(self, back: Back<F, T>) -> RunEnd<F, T, S, M, W, R> {
+        let Self { waker, rt } = self;
+        let Some(held) = way_of(waker) else {
+            for _ in rt.forever() {}
+            unreachable!()
+        };
+        match held.settle(back) {
+            Ended::Over(debts) => {
+                let woken = match debts.queue {
+                    Some(info) => info.woken_while_running,
+                    None => false,
+                };
+                held.pay(debts);
+                RunEnd::Over(woken)
+            }
+            Ended::Drop(future) => RunEnd::Drop(future, Closing { held }),
+        }
+    }
+}
+
+impl<F, T, S, M, W, R> Closing<F, T, S, M, W, R>
+where
+    F: Drop + 'static,
+    T: Drop + 'static,
+    S: Schedule<Scheduled<F, T, S, M, W, R>> + Drop + 'static,
+    M: Drop + 'static,
+    W: Wake + Drop + 'static,
+    R: Wait + Copy + Drop,
+{
+    /// Ends the call, once the future is dropped: who awaits the task is woken.
+    pub fn finish(self) {
+        let Self { held } = self;
+        held.pay(held.finish());
+    }
+}
+
+impl<F, T, S, M, W, R> Drop for Runnable<F, T, S, M, W, R>
+where
+    F: Drop + 'static,
+    T: Drop + 'static,
+    S: Schedule<Scheduled<F, T, S, M, W, R>> + Drop + 'static,
+    M: Drop + 'static,
+    W: Wake + Drop + 'static,
+    R: Wait + Copy + Drop,
+{
+    fn drop(self) {
+        let Self { held } = self;
+        pay_due(Scheduled { held }.close());
+    }
+}
+
+/// The way to the task that the waker is of.
+fn way_of<F, T, S, M, W, R>(waker: Awaiter<F, T, S, M, W, R>) -> Option<Held<F, T, S, M, W, R>>
+where
+    F: Drop + 'static,
+    T: Drop + 'static,
+    S: Schedule<Scheduled<F, T, S, M, W, R>> + Drop + 'static,
+    M: Drop + 'static,
+    W: Wake + Drop + 'static,
+    R: Wait + Copy + Drop,
+{
+    match waker {
+        Awaiter::Task(waker) => Some(waker.into_held()),
+        Awaiter::Outside(_) => None,
+    }
+}

@@ -1,0 +1,134 @@
+ghost use Rattle.std.specs.Prelude.{◌≡◌};
+
+use crate::cancel::Cancel;
+use crate::cell::{Held, Scheduled};
+use crate::fallible::FallibleTask;
+use crate::poll::{Future, Poll};
+use crate::polling::{Found, poll};
+use crate::schedule::Schedule;
+use crate::wake::Wake;
+use crate::waker::Awaiter;
+use std::marker::Model;
+use std::sync::Wait;
+
+/// Why a task has no output to give.
+#[derive(Clone, Copy, Debug, PartialEq, Eq, Drop)]
+pub enum TaskError {
+    /// It is cancelled, or its output was given before.
+    TaskClosed,
+    /// No copy of the waker could be had: the task is as it was, and can be polled again.
+    NoMemory,
+}
+
+/// The handle of a task. It is polled for the output. Its drop cancels the task.
+#[must_use]
+pub struct Task<F, T, S, M, W, R>
+where
+    F: Drop + 'static,
+    T: Drop + 'static,
+    S: Schedule<Scheduled<F, T, S, M, W, R>> + Drop + 'static,
+    M: Drop + 'static,
+    W: Wake + Drop + 'static,
+    R: Wait + Copy + Drop,
+{
+    pub(crate) held: Held<F, T, S, M, W, R>,
+}
+
+impl<F, T, S, M, W, R> Model for Task<F, T, S, M, W, R>
+where
+    F: Drop + 'static,
+    T: Drop + 'static,
+    S: Schedule<Scheduled<F, T, S, M, W, R>> + Drop + 'static,
+    M: Drop + 'static,
+    W: Wake + Drop + 'static,
+    R: Wait + Copy + Drop,
+{
+    ghost use Rattle.async_task.specs.Handles.{Handle};
+
+    ghost Value = { Handle M };
+
+    ghost view = { λ h. h.held };
+}
+
+impl<F, T, S, M, W, R> Task<F, T, S, M, W, R>
+where
+    F: Drop + 'static,
+    T: Drop + 'static,
+    S: Schedule<Scheduled<F, T, S, M, W, R>> + Drop + 'static,
+    M: Drop + 'static,
+    W: Wake + Drop + 'static,
+    R: Wait + Copy + Drop,
+{
+    pub fn metadata(&self) -> &M
+        ensures { result.now ≡ self.now.metadata }
+    {
+        self.held.metadata()
+    }
+
+    /// Whether the future has given its output and is dropped, or is going to be dropped.
+    pub fn is_finished(&self) -> bool {
+        self.held.is_finished()
+    }
+
+    /// Gives the handle up. The task goes on, and its output is dropped.
+    pub fn detach(self) {
+        let Self { held } = self;
+        held.pay(held.detach());
+    }
+
+    /// What closes the task when it is first polled, and then has the output where there was one.
+    pub fn cancel(self) -> Cancel<F, T, S, M, W, R>
+        ensures { result ≡ self }
+    {
+        let Self { held } = self;
+        Cancel {
+            held,
+            is_cancelled: false,
+        }
+    }
+
+    /// The same handle, which has None for an output where the task is closed.
+    pub fn fallible(self) -> FallibleTask<F, T, S, M, W, R>
+        ensures { result ≡ self }
+    {
+        let Self { held } = self;
+        FallibleTask { held }
+    }
+}
+
+impl<F, T, S, M, W, R> Future<Awaiter<F, T, S, M, W, R>> for Task<F, T, S, M, W, R>
+where
+    F: Drop + 'static,
+    T: Drop + 'static,
+    S: Schedule<Scheduled<F, T, S, M, W, R>> + Drop + 'static,
+    M: Drop + 'static,
+    W: Wake + Drop + 'static,
+    R: Wait + Copy + Drop,
+{
+    type Output = Result<T, TaskError>;
+
+    fn poll(&mut self, waker: &Awaiter<F, T, S, M, W, R>) -> Poll<Result<T, TaskError>> {
+        match poll(&self.held, waker) {
+            Found::Output(output) => Poll::Ready(Ok(output)),
+            Found::Closed => Poll::Ready(Err(TaskError::TaskClosed)),
+            Found::Pending => Poll::Pending,
+            Found::NoMemory => Poll::Ready(Err(TaskError::NoMemory)),
+        }
+    }
+}
+
+impl<F, T, S, M, W, R> Drop for Task<F, T, S, M, W, R>
+where
+    F: Drop + 'static,
+    T: Drop + 'static,
+    S: Schedule<Scheduled<F, T, S, M, W, R>> + Drop + 'static,
+    M: Drop + 'static,
+    W: Wake + Drop + 'static,
+    R: Wait + Copy + Drop,
+{
+    fn drop(self) {
+        let Self { held } = self;
+        held.pay(held.cancel());
+        held.pay(held.detach());
+    }
+}

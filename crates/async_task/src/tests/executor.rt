@@ -1,0 +1,75 @@
+//! An executor of one future, as a user of this crate writes it. The README has it too.
+use crate::tests::parts::Nobody;
+use crate::{
+    Awaiter, Future, NoMemory, Poll, Realm, Schedule, ScheduleInfo, Scheduled, StoredRunnable,
+    Wake, spawn,
+};
+use std::alloc::Global;
+use std::sync::{Arc, Mutex, Wait};
+
+/// A future that adds the numbers from `left` down to 1, one a poll.
+#[derive(Drop)]
+pub struct Sum {
+    pub left: u64,
+    pub sum: u64,
+}
+
+impl<K: Wake> Future<K> for Sum {
+    type Output = u64;
+
+    fn poll(&mut self, waker: &K) -> Poll<u64> {
+        if self.left == 0 {
+            return Poll::Ready(self.sum);
+        }
+        self.sum = self.sum.saturating_add(self.left);
+        self.left -= 1;
+        waker.wake_by_ref();
+        Poll::Pending
+    }
+}
+
+/// The executor's queue: there is one Runnable at most.
+#[derive(Drop)]
+pub struct Turn<R> {
+    next: Arc<Mutex<Option<StoredRunnable>>, Global>,
+    rt: R,
+}
+
+impl<R: Wait + Copy + Drop> Schedule<Scheduled<Sum, u64, Turn<R>, (), Nobody, R>> for Turn<R> {
+    fn schedule(&self, runnable: Scheduled<Sum, u64, Turn<R>, (), Nobody, R>, info: ScheduleInfo) {
+        let _ = info;
+        *self.next.lock(&self.rt) = Some(runnable.store());
+    }
+}
+
+/// Runs the future as long as it wakes itself, and gives its output.
+pub fn run<R: Wait + Copy + Drop + 'static>(
+    rt: R,
+    alloc: Global,
+    realm: &'static Realm<Sum, u64, Turn<R>, (), Nobody>,
+    future: Sum,
+) -> Result<Option<u64>, NoMemory> {
+    let Ok(queue) = Arc::new(alloc, Mutex::new(None)) else {
+        return Err(NoMemory);
+    };
+    let Ok(next) = Arc::try_clone(&queue) else {
+        return Err(NoMemory);
+    };
+    let turn = Turn { next, rt };
+    let Ok((runnable, mut task)) = spawn(rt, alloc, realm, future, turn) else {
+        return Err(NoMemory);
+    };
+    runnable.schedule();
+    for _ in rt.forever() {
+        let Some(stored) = queue.lock(&rt).take() else {
+            break;
+        };
+        if let Some(scheduled) = stored.redeem(rt, realm) {
+            scheduled.into_runnable().run();
+        }
+    }
+    match task.poll(&Awaiter::Outside(Nobody)) {
+        Poll::Ready(Ok(output)) => Ok(Some(output)),
+        Poll::Ready(Err(_)) | Poll::Pending => Ok(None),
+    }
+}

@@ -1,0 +1,21 @@
+/// What wakes whoever is to poll a future again.
+pub trait Wake {
+    ghost use Rattle.std.specs.Prelude.{◌≡◌, IsTrue, IfSome};
+
+    /// That the two wake the same.
+    ghost is_same: { Self → Self → Type 0 };
+
+    /// Wakes, and is gone.
+    fn wake(self);
+
+    /// Wakes, and stays.
+    fn wake_by_ref(&self);
+
+    /// A waker that wakes the same, or None where no more can be had.
+    fn clone(&self) -> Option<Self>
+        ensures { IfSome result (λ copy. is_same copy self.now) };
+
+    /// Whether the two wake the same, as far as it can tell: a no says nothing.
+    fn will_wake(&self, other: &Self) -> bool
+        ensures { IsTrue result → is_same self.now other.now };
+}

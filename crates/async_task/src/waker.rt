@@ -1,0 +1,183 @@
+ghost use Rattle.std.specs.Prelude.{◌≡◌};
+
+use crate::cell::{Held, Scheduled, StoredWaker, pay_due};
+use crate::schedule::Schedule;
+use crate::wake::Wake;
+use std::marker::Model;
+use std::sync::Wait;
+
+/// A waker of a task. A contract sees which task it is of.
+pub struct TaskWaker<F, T, S, M, W, R>
+where
+    F: Drop + 'static,
+    T: Drop + 'static,
+    S: Schedule<Scheduled<F, T, S, M, W, R>> + Drop + 'static,
+    M: Drop + 'static,
+    W: Wake + Drop + 'static,
+    R: Wait + Copy + Drop,
+{
+    pub(crate) held: Held<F, T, S, M, W, R>,
+}
+
+impl<F, T, S, M, W, R> Model for TaskWaker<F, T, S, M, W, R>
+where
+    F: Drop + 'static,
+    T: Drop + 'static,
+    S: Schedule<Scheduled<F, T, S, M, W, R>> + Drop + 'static,
+    M: Drop + 'static,
+    W: Wake + Drop + 'static,
+    R: Wait + Copy + Drop,
+{
+    ghost use Rattle.async_task.specs.Handles.{Handle};
+
+    ghost Value = { Handle M };
+
+    ghost view = { λ w. w.held };
+}
+
+/// The one type of waker that futures are polled with, and that handles keep.
+#[derive(Drop)]
+pub enum Awaiter<F, T, S, M, W, R>
+where
+    F: Drop + 'static,
+    T: Drop + 'static,
+    S: Schedule<Scheduled<F, T, S, M, W, R>> + Drop + 'static,
+    M: Drop + 'static,
+    W: Wake + Drop + 'static,
+    R: Wait + Copy + Drop,
+{
+    /// Of a task.
+    Task(TaskWaker<F, T, S, M, W, R>),
+    /// From outside.
+    Outside(W),
+}
+
+impl<F, T, S, M, W, R> TaskWaker<F, T, S, M, W, R>
+where
+    F: Drop + 'static,
+    T: Drop + 'static,
+    S: Schedule<Scheduled<F, T, S, M, W, R>> + Drop + 'static,
+    M: Drop + 'static,
+    W: Wake + Drop + 'static,
+    R: Wait + Copy + Drop,
+{
+    /// The way to the task, which takes the waker's reference along.
+    pub(crate) fn into_held(self) -> Held<F, T, S, M, W, R>
+        ensures { result ≡ self }
+    {
+        let Self { held } = self;
+        held
+    }
+
+    /// The waker for a list.
+    pub fn store(self) -> StoredWaker
+        ensures { result.identity ≡ self.identity }
+    {
+        let Self { held } = self;
+        StoredWaker::of(held.identity())
+    }
+}
+
+impl<F, T, S, M, W, R> Wake for TaskWaker<F, T, S, M, W, R>
+where
+    F: Drop + 'static,
+    T: Drop + 'static,
+    S: Schedule<Scheduled<F, T, S, M, W, R>> + Drop + 'static,
+    M: Drop + 'static,
+    W: Wake + Drop + 'static,
+    R: Wait + Copy + Drop,
+{
+    ghost use Rattle.async_task.specs.Handles.{IsOfOneTask};
+
+    ghost is_same = { λ a b. IsOfOneTask a b };
+
+    /// Queues the task, where it is open and idle. It takes no memory.
+    fn wake(self) {
+        let Self { held } = self;
+        pay_due(held.wake_and_release_later());
+    }
+
+    fn wake_by_ref(&self) {
+        pay_due(self.held.wake_later());
+    }
+
+    /// One more, or None where the task has 2^40 references already.
+    fn clone(&self) -> Option<Self> {
+        if self.held.hold() {
+            Some(TaskWaker {
+                held: self.held.share(),
+            })
+        } else {
+            None
+        }
+    }
+
+    /// Whether both are of one task.
+    fn will_wake(&self, other: &Self) -> bool {
+        self.held.identity() == other.held.identity()
+    }
+}
+
+impl<F, T, S, M, W, R> Drop for TaskWaker<F, T, S, M, W, R>
+where
+    F: Drop + 'static,
+    T: Drop + 'static,
+    S: Schedule<Scheduled<F, T, S, M, W, R>> + Drop + 'static,
+    M: Drop + 'static,
+    W: Wake + Drop + 'static,
+    R: Wait + Copy + Drop,
+{
+    fn drop(self) {
+        let Self { held } = self;
+        pay_due(held.release_later());
+    }
+}
+
+impl<F, T, S, M, W, R> Wake for Awaiter<F, T, S, M, W, R>
+where
+    F: Drop + 'static,
+    T: Drop + 'static,
+    S: Schedule<Scheduled<F, T, S, M, W, R>> + Drop + 'static,
+    M: Drop + 'static,
+    W: Wake + Drop + 'static,
+    R: Wait + Copy + Drop,
+{
+    ghost use Rattle.async_task.specs.Awaiters.{WakeTheSame};
+
+    ghost is_same = { λ a b. WakeTheSame W.is_same a b };
+
+    fn wake(self) {
+        match self {
+            Awaiter::Task(waker) => waker.wake(),
+            Awaiter::Outside(waker) => waker.wake(),
+        }
+    }
+
+    fn wake_by_ref(&self) {
+        match self {
+            Awaiter::Task(waker) => waker.wake_by_ref(),
+            Awaiter::Outside(waker) => waker.wake_by_ref(),
+        }
+    }
+
+    fn clone(&self) -> Option<Self> {
+        match self {
+            Awaiter::Task(waker) => match waker.clone() {
+                Some(copy) => Some(Awaiter::Task(copy)),
+                None => None,
+            },
+            Awaiter::Outside(waker) => match waker.clone() {
+                Some(copy) => Some(Awaiter::Outside(copy)),
+                None => None,
+            },
+        }
+    }
+
+    fn will_wake(&self, other: &Self) -> bool {
+        match (self, other) {
+            (Awaiter::Task(one), Awaiter::Task(other)) => one.will_wake(other),
+            (Awaiter::Outside(one), Awaiter::Outside(other)) => one.will_wake(other),
+            _ => false,
+        }
+    }
+}

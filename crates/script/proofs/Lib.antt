@@ -1,0 +1,6 @@
+pub mod Cutting
+pub mod Numbering
+pub mod Reading
+pub mod Zipping
+pub mod Parsing
+pub mod Unambiguous

@@ -1,0 +1,130 @@
+-- A text that is read as a script, line by line.
+use Rattle.std.proofs.Common.{◌≡◌, ℕ, suc, ◌+◌, ◌<◌, ◌≤◌, List, [], ◌∷◌, ◌++◌, length, All, refl, sym, ap, ◌∙◌, subst, append_assoc, append-nil, zero-add, add-zero, arith}
+use Rattle.std.specs.List.{AllZip}
+use Rattle.std.proofs.lemmas.List.Elements.{All-cons, All-head, All-tail}
+use Rattle.std.proofs.lemmas.Slice.Zip.{all_zipped_more}
+use Rattle.script.specs.Lines.{lines_of}
+use Rattle.script.specs.Script.{IsLimit, IsCommand, IsShort, Says, IsScript}
+use Rattle.script.specs.BadLine.{IsGood, AreGood, IsFirstBadLine}
+use Rattle.script.specs.declared.command.Command.{Command}
+use Rattle.script.specs.declared.error.ParseError.{ParseError}
+use Rattle.script.specs.declared.error.ParseError.TheVariants.{BadLine, NoMemory}
+use Rattle.script.proofs.Zipping.{length-AllZip}
+
+-- the good lines of a text in front of those that are left, and what they say
+pub record HasParsed (limit : ℕ) (commands : List Command) (text : List ℕ) (left : List (List ℕ)) : Type 0 where
+  pub first : List ℕ
+  pub front : List (List ℕ)
+  pub parts : lines_of text ≡ (first ∷ front) ++ left
+  pub says : IsLimit limit first
+  pub each : AllZip IsCommand commands front
+  pub good : AreGood 0 (first ∷ front)
+
+AreGood-push : (before : ℕ) (lines : List (List ℕ)) (line : List ℕ) → AreGood before lines → IsGood (before + length lines) line → AreGood before (lines ++ line ∷ [])
+AreGood-push before [] line good here = (subst (λ n. IsGood n line) (add-zero before) here, tt)
+AreGood-push before (first ∷ lines) line good here =
+    (good.0, AreGood-push (suc before) lines line good.1 (subst (λ n. IsGood n line) (omega arith) here))
+
+AreGood-middle : (before : ℕ) (front after : List (List ℕ)) (line : List ℕ) → AreGood before (front ++ line ∷ after) → IsGood (before + length front) line
+AreGood-middle before [] after line good = subst (λ n. IsGood n line) (sym (add-zero before)) good.0
+AreGood-middle before (first ∷ front) after line good = subst (λ n. IsGood n line) (omega arith) (AreGood-middle (suc before) front after line good.1)
+
+AreGood-few : (before : ℕ) (lines : List (List ℕ)) → before ≤ 10000 → AreGood before lines → before + length lines ≤ 10000
+AreGood-few before [] few good = omega arith
+AreGood-few before (line ∷ lines) few good = omega (arith, good.0.within, AreGood-few (suc before) lines (omega (arith, good.0.within)) good.1)
+
+AreGood-short : (before : ℕ) (lines : List (List ℕ)) → AreGood before lines → All IsShort lines
+AreGood-short before [] good = λ k d within. absurd (omega arith)
+AreGood-short before (line ∷ lines) good = All-cons IsShort line lines good.0.short (AreGood-short (suc before) lines good.1)
+
+-- the first line says the limit
+pub HasParsed-first : (limit : ℕ) (text first : List ℕ) (left : List (List ℕ)) → lines_of text ≡ first ∷ left → IsLimit limit first → IsShort first → HasParsed limit [] text left
+HasParsed-first limit text first left parts says short = record {
+  first = first;
+  front = [];
+  parts = parts;
+  says = says;
+  each = tt;
+  good = (record { within = omega arith; short = short; spelled = (limit, says) }, tt);
+}
+
+-- one more line, and its command
+pub HasParsed-push : (limit : ℕ) (commands : List Command) (text : List ℕ) (left rest : List (List ℕ)) (command : Command) (line : List ℕ) → HasParsed limit commands text left → left ≡ line ∷ rest → IsCommand command line → IsGood (suc (length commands)) line → HasParsed limit (commands ++ command ∷ []) text rest
+HasParsed-push limit commands text left rest command line so_far next is good =
+    let counted : length commands ≡ length so_far.front = length-AllZip IsCommand commands so_far.front so_far.each in
+    record {
+      first = so_far.first;
+      front = so_far.front ++ line ∷ [];
+      parts = so_far.parts ∙ ap (λ l. (so_far.first ∷ so_far.front) ++ l) next ∙ sym (append_assoc (so_far.first ∷ so_far.front) (line ∷ []) rest);
+      says = so_far.says;
+      each = all_zipped_more IsCommand commands so_far.front command line so_far.each is;
+      good = AreGood-push 0 (so_far.first ∷ so_far.front) line so_far.good (subst (λ n. IsGood n line) (omega arith) good);
+    }
+
+-- no line is left
+pub HasParsed-all : (limit : ℕ) (commands : List Command) (text : List ℕ) (left : List (List ℕ)) → HasParsed limit commands text left → left ≡ [] → IsScript text limit commands
+HasParsed-all limit commands text left so_far none =
+    let whole : lines_of text ≡ so_far.first ∷ so_far.front = so_far.parts ∙ ap (λ l. (so_far.first ∷ so_far.front) ++ l) none ∙ append-nil (so_far.first ∷ so_far.front) in
+    record {
+      says = rw whole (so_far.says, so_far.each);
+      short = rw whole (AreGood-short 0 (so_far.first ∷ so_far.front) so_far.good);
+      few = omega (arith, ap length whole, AreGood-few 0 (so_far.first ∷ so_far.front) (omega arith) so_far.good);
+    }
+
+-- the next line isn't good
+pub HasParsed-bad : (limit number : ℕ) (commands : List Command) (text line : List ℕ) (left rest : List (List ℕ)) → HasParsed limit commands text left → left ≡ line ∷ rest → number ≡ length commands + 2 → ¬ (IsGood (suc (length commands)) line) → IsFirstBadLine text number
+HasParsed-bad limit number commands text line left rest so_far next numbered bad =
+    let counted : length commands ≡ length so_far.front = length-AllZip IsCommand commands so_far.front so_far.each in
+    record {
+      before = so_far.first ∷ so_far.front;
+      line = line;
+      after = rest;
+      parts = so_far.parts ∙ ap (λ l. (so_far.first ∷ so_far.front) ++ l) next;
+      numbered = omega arith;
+      good = so_far.good;
+      bad = λ good. bad (subst (λ n. IsGood n line) (omega arith) good);
+    }
+
+-- the lines so far are few
+pub HasParsed-few : (limit : ℕ) (commands : List Command) (text : List ℕ) (left : List (List ℕ)) → HasParsed limit commands text left → length commands < 10000
+HasParsed-few limit commands text left so_far =
+    omega (arith, length-AllZip IsCommand commands so_far.front so_far.each, AreGood-few 0 (so_far.first ∷ so_far.front) (omega arith) so_far.good)
+
+-- the first line isn't good
+pub IsFirstBadLine-first : (text line : List ℕ) (rest : List (List ℕ)) → lines_of text ≡ line ∷ rest → ((limit : ℕ) → IsLimit limit line → ¬ (IsShort line)) → IsFirstBadLine text 1
+IsFirstBadLine-first text line rest parts bad = record {
+  before = [];
+  line = line;
+  after = rest;
+  parts = parts;
+  numbered = refl;
+  good = tt;
+  bad = λ good. bad good.spelled.0 good.spelled.1 good.short;
+}
+
+AreGood-later : (before : ℕ) (commands : List Command) (lines : List (List ℕ)) → AllZip IsCommand commands lines → All IsShort lines → suc before + length lines ≤ 10000 → AreGood (suc before) lines
+AreGood-later before [] [] each short few = tt
+AreGood-later before [] (line ∷ lines) each short few = absurd each
+AreGood-later before (command ∷ commands) [] each short few = absurd each
+AreGood-later before (command ∷ commands) (line ∷ lines) each short few = (
+  record { within = omega arith; short = All-head IsShort line lines short; spelled = (command, each.0) },
+  AreGood-later (suc before) commands lines each.1 (All-tail IsShort line lines short) (omega arith),
+)
+
+AreGood-says : (limit : ℕ) (commands : List Command) (lines : List (List ℕ)) → Says limit commands lines → All IsShort lines → length lines ≤ 10000 → AreGood 0 lines
+AreGood-says limit commands [] says short few = tt
+AreGood-says limit commands (first ∷ later) says short few = (
+  record { within = omega arith; short = All-head IsShort first later short; spelled = (limit, says.0) },
+  AreGood-later 0 commands later says.1 (All-tail IsShort first later short) (omega arith),
+)
+
+-- a script has no bad line
+pub IsScript-none : (text : List ℕ) (limit number : ℕ) (commands : List Command) → IsScript text limit commands → ¬ (IsFirstBadLine text number)
+IsScript-none text limit number commands is first =
+    let good : AreGood 0 (first.before ++ first.line ∷ first.after) = rw (← first.parts) (AreGood-says limit commands (lines_of text) is.says is.short is.few) in
+    first.bad (subst (λ n. IsGood n first.line) (zero-add (length first.before)) (AreGood-middle 0 first.before first.after first.line good))
+
+-- an error that names no line
+pub NoMemory-else : (error : ParseError) → ((number : ℕ) → error ≡ BadLine number → ⊥) → error ≡ NoMemory
+NoMemory-else (BadLine number) names_none = absurd (names_none number refl)
+NoMemory-else NoMemory names_none = refl

@@ -1,0 +1,5 @@
+use Rattle.script.proofs.Parsing.{HasParsed}
+use Rattle.script.proofs.parser.parse.Given as goal
+
+abbrev pub invariant-loop-line : goal.invariant-loop-line
+invariant-loop-line l = HasParsed l.limit l.commands.items l.text l.line-iterator

@@ -1,0 +1,10 @@
+pub mod Name
+pub mod Padded
+pub mod Names
+pub mod Indexed
+pub mod Number
+pub mod Lines
+pub mod Item
+pub mod Command
+pub mod Script
+pub mod BadLine

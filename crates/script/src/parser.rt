@@ -1,0 +1,91 @@
+//! A text read as a script.
+
+ghost use Rattle.std.specs.Prelude.{◌≡◌, ◌↔◌, ℕ, suc, ◌+◌, ◌<◌, [], List, None, Ok, Err, IfNone, IfOk, IfSome, IsErrOf, IsOkUnless};
+ghost use Rattle.script.specs.Script.{IsLimit, IsCommand, IsShort, IsScript};
+ghost use Rattle.script.specs.BadLine.{IsGood, IsFirstBadLine};
+ghost use Rattle.script.specs.declared.command.Command.{Command};
+
+use crate::Script;
+use crate::command::Command;
+use crate::error::ParseError;
+use crate::lines::Lines;
+use crate::number::read_number;
+use crate::words::Words;
+use std::alloc::Global;
+
+/// How many futures a script may ask places for.
+const MOST_PLACES: u64 = 1_000_000;
+
+/// How many bytes a line may have. The longest command so far, a spawn of 8 values, has 230.
+const LONGEST_LINE: usize = 256;
+
+/// How many lines a script may have.
+const MOST_LINES: usize = 10_000;
+
+/// The script of this text, or None where the text has no line. It takes time in line with the
+/// length of the text. `BadLine` names the first bad line; `NoMemory` says that memory was refused
+/// before a bad line was met.
+pub fn parse(alloc: Global, text: &[u8]) -> Result<Option<Script>, ParseError>
+    // What is read is in the grammar, and the empty text alone has no line.
+    ensures script { IfOk result (λ found.
+        IfSome found (λ script. IsScript text.now script.limit script.commands.items)) }
+    ensures empty { (result ≡ Ok None) ↔ (text.now ≡ []) }
+
+    // A line is called bad only where it is the first that no script has there, so nothing in the
+    // grammar is refused.
+    ensures bad { (number : ℕ) →
+        IsErrOf result (ParseError.BadLine number) → IsFirstBadLine text.now number }
+    ensures accepts { (limit : ℕ) (commands : List Command) →
+        IsScript text.now limit commands → IsOkUnless result ParseError.NoMemory }
+
+    // What is read is all that the text can say.
+    ensures only { (limit : ℕ) (commands : List Command) → IsScript text.now limit commands →
+        IfOk result (λ found. IfSome found (λ script.
+        (script.limit ≡ limit) × (script.commands.items ≡ commands))) }
+{
+    let mut lines = Lines::of(text);
+    let Some(first) = lines.next() else {
+        return Ok(None);
+    };
+    let Some(limit) = read_limit(first) else {
+        return Err(ParseError::BadLine(1));
+    };
+    let mut commands = Vec::new(alloc);
+    for line in lines {
+        let command = read_command(alloc, commands.len(), line)?;
+        commands.push(command)?;
+    }
+    Ok(Some(Script { limit, commands }))
+}
+
+/// The limit that a first line says, where it is a good one.
+fn read_limit(line: &[u8]) -> Option<u64>
+    ensures found { IfSome result (λ limit. IsLimit limit line.now × IsShort line.now) }
+    ensures none { IfNone result ((limit : ℕ) → IsLimit limit line.now → ¬ (IsShort line.now)) }
+{
+    if line.len() > LONGEST_LINE {
+        return None;
+    }
+    let mut words = Words::of(line);
+    let b"limit" = words.next()? else {
+        return None;
+    };
+    let limit = read_number(words.next()?)?;
+    (words.is_empty() && 1 <= limit && limit <= MOST_PLACES).then_some(limit)
+}
+
+/// The command of a line behind the first line and this many commands.
+fn read_command(alloc: Global, before: usize, line: &[u8]) -> Result<Command, ParseError>
+    requires { before < 10000 }
+    ensures good { IfOk result (λ command.
+        IsCommand command line.now × IsGood (suc before) line.now) }
+    ensures bad { (number : ℕ) → IsErrOf result (ParseError.BadLine number) →
+        (number ≡ before + 2) × ¬ (IsGood (suc before) line.now) }
+{
+    if before + 1 < MOST_LINES && line.len() <= LONGEST_LINE {
+        if let Some(command) = Command::from_words(alloc, Words::of(line))? {
+            return Ok(command);
+        }
+    }
+    Err(ParseError::BadLine(before as u64 + 2))
+}

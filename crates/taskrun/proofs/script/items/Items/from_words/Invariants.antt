@@ -1,7 +1,0 @@
-use Rattle.std.proofs.Common.{◌≤◌, length}
-use Rattle.taskrun.specs.Item.{IsItem}
-use Rattle.taskrun.proofs.Zipping.{ZipsFront}
-use Rattle.taskrun.proofs.script.items.Items.from_words.Given as goal
-
-abbrev pub invariant-loop-word : goal.invariant-loop-word
-invariant-loop-word l = ZipsFront IsItem l.items.items l.fn.words l.word-iterator × (length l.items.items ≤ 8)

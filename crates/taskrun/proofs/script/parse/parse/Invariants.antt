@@ -1,5 +1,0 @@
-use Rattle.taskrun.proofs.Parsing.{HasParsed}
-use Rattle.taskrun.proofs.script.parse.parse.Given as goal
-
-abbrev pub invariant-loop-line : goal.invariant-loop-line
-invariant-loop-line l = HasParsed l.limit l.commands.items l.text l.line-iterator

@@ -14,7 +14,7 @@ use Rattle.concurrent_queue.proofs.SlotLooks.{Phase, free, held, is_party, is_ot
 
 module _ {T : Type 0} where
   -- what is known of a call before its next step on the word
-  abbrev Ready : Call T → Turn → Progress T → Type 0
+  abbrev pub Ready : Call T → Turn → Progress T → Type 0
   Ready call Look k = LooksFirst call × (k.answer ≡ None)
   Ready call (Exchange old new) k = LooksFirst call × Exchanges call old new × (k.answer ≡ None)
   Ready call (Unlock r) k = ⊥
@@ -22,7 +22,7 @@ module _ {T : Type 0} where
   Ready call (End r) k = MayEnd k k.answer (answer_of call r None)
 
   -- what ties a party's place to its call
-  abbrev TiedPlace : Phase T → Sight T → ℕ → Place T → Option (Progress T) → Type 0
+  abbrev pub TiedPlace : Phase T → Sight T → ℕ → Place T → Option (Progress T) → Type 0
   TiedPlace ph s p Away c = c ≡ None
   TiedPlace ph s p (Stands call t) c = (k : Progress T) × (c ≡ Some k) × (k.call ≡ call) × ((older : List (Sight T)) × (k.seen ≡ s ∷ older)) × Ready call t k
   TiedPlace ph s p (Inside call r) c =
@@ -30,13 +30,13 @@ module _ {T : Type 0} where
   TiedPlace ph s p (Leaving call r o) c =
       (k : Progress T) × (c ≡ Some k) × (k.answer ≡ Some (answer_of call r o)) × ((before : Option T) × (after : Option T) × (ph ≡ held p before after true))
 
-  record Tied (w : SlotWorld T) (s : Scene T) : Type 0 where
-    shut : Bool
-    phase : Phase T
-    word : w.word ≡ word_of shut phase
-    slot : w.slot ≡ content phase
-    sight : s.sight ≡ sight_of shut phase
-    each : (p : ℕ) → TiedPlace phase (sight_of shut phase) p (w.places p) (s.calls p)
+  pub record Tied (w : SlotWorld T) (s : Scene T) : Type 0 where
+    pub shut : Bool
+    pub phase : Phase T
+    pub word : w.word ≡ word_of shut phase
+    pub slot : w.slot ≡ content phase
+    pub sight : s.sight ≡ sight_of shut phase
+    pub each : (p : ℕ) → TiedPlace phase (sight_of shut phase) p (w.places p) (s.calls p)
 
   -- a party that has the slot still has it
   abbrev Keeps : ℕ → Phase T → Phase T → Type 0
@@ -94,7 +94,7 @@ module _ {T : Type 0} where
   other_keeps : (q p : ℕ) (b a : Option T) (d : Bool) (ph ph' : Phase T) → q ≢ p → ph ≡ held p b a d → Keeps q ph ph'
   other_keeps q p b a d ph ph' other is b' a' d' held_by = absurd (other (let e = sym held_by ∙ is in cc))
 
-  abbrev Goes : SlotWorld T → Scene T → List (Moment T) → SlotWorld T → Type 0
+  abbrev pub Goes : SlotWorld T → Scene T → List (Moment T) → SlotWorld T → Type 0
   Goes w s ms w' = (s' : Scene T) × Run s ms s' × Tied w' s'
 
   begins_ready : (call : Call T) (k : Progress T) → k.answer ≡ None → Ready call (first_turn call) k
@@ -343,7 +343,7 @@ module _ {T : Type 0} where
       let k = subst (λ (x : Place T). TiedPlace tied.phase (sight_of tied.shut tied.phase) p x (s.calls p)) is (tied.each p) in
       leaving_by w s p call r o tied k.0 k.1 k.3.0 k.3.1 k.2 k.3.2
 
-  step_by : (w : SlotWorld T) (s : Scene T) (step : Step T) → Tied w s → Goes w s (moments w step) (stepped w step)
+  pub step_by : (w : SlotWorld T) (s : Scene T) (step : Step T) → Tied w s → Goes w s (moments w step) (stepped w step)
   step_by w s (Begin p call) tied = begin_by w s p call (w.places p) tied refl
   step_by w s (Go p) tied = go_by w s p (w.places p) tied refl
 
@@ -358,7 +358,7 @@ module _ {T : Type 0} where
       let rest = runs steps (stepped w step) one.0 one.2 in
       (rest.0, run_append s one.0 rest.0 (moments w step) (trace steps (stepped w step)) one.1 rest.1, rest.2)
 
-  new_tied : Tied new_slot new_scene
+  pub new_tied : Tied new_slot new_scene
   new_tied = record { shut = false; phase = free None; word = refl; slot = refl; sight = refl; each = λ p. refl }
 
   three_marks : (shut : Bool) (ph : Phase T) → word_of shut ph < 8

@@ -6,12 +6,16 @@ pub mod ClosableQueue
 pub mod Errors
 pub mod ExclusiveIter
 pub mod Kept
+pub mod LoneCalls
 pub mod Moments
 pub mod Replies
 pub mod Ring
 pub mod RingAtRest
 pub mod RingEnds
+pub mod RingSteps
 pub mod RingTurns
+pub mod SharedQueue
 pub mod Single
 pub mod SingleTurns
 pub mod SlotSteps
+pub mod TryIter

@@ -1,5 +1,5 @@
 //! A ring of places.
-ghost use Rattle.std.specs.Prelude.{◌≡◌, ℕ, Bool, ◌<◌, ◌+◌, ◌*◌, ◌%◌, ◌^◌, Some, OnOk, IfOk, vec_len};
+ghost use Rattle.std.specs.Prelude.{◌≡◌, ℕ, Bool, ◌<◌, ◌+◌, ◌*◌, ◌%◌, ◌^◌, Some, IsSome, OnOk, IfOk, vec_len};
 ghost use Rattle.concurrent_queue.specs.ClosableQueue.{new_queue};
 ghost use Rattle.concurrent_queue.specs.Ring.{IsPlaceWord, next_at};
 ghost use Rattle.concurrent_queue.specs.RingAtRest.{RingAtRest, AreFresh, slot_at, filled_at, emptied_at};
@@ -237,7 +237,10 @@ impl<T: Drop> Representation<T> for Bounded<T> {
         is_yes(steps::is_closed(self.shape, Turn::Tail, self.tail))
     }
 
-    fn capacity(&self) -> Option<usize> {
+    fn capacity(&self) -> Option<usize>
+        ensures capacity { result ≡ self.now.capacity }
+        ensures bounded { IsSome result }
+    {
         Some(self.shape.capacity as usize)
     }
 }

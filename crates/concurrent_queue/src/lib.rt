@@ -2,17 +2,22 @@
 #![tactic(auto)]
 
 mod bounded;
+mod concurrent;
 mod errors;
 mod exclusive;
 mod exclusive_iter;
+mod glimpse;
 pub mod laws;
 mod representation;
 mod single;
 pub mod steps;
 #[cfg(test)]
 mod tests;
+mod try_iter;
 mod unbounded;
 
+pub use concurrent::ConcurrentQueue;
 pub use errors::{ForcePushError, NoMemory, PopError, PushError};
 pub use exclusive::Exclusive;
 pub use exclusive_iter::ExclusiveIter;
+pub use try_iter::TryIter;

@@ -123,7 +123,10 @@ impl<T> Representation<T> for Single<T> {
         )
     }
 
-    fn capacity(&self) -> Option<usize> {
+    fn capacity(&self) -> Option<usize>
+        ensures capacity { result ≡ self.now.capacity }
+        ensures one { result ≡ Some 1 }
+    {
         let _word = self.word;
         Some(1)
     }

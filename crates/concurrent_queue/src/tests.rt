@@ -1,5 +1,8 @@
 ghost use Rattle.std.specs.Prelude.{◌<◌};
 
+mod shared;
+mod threads;
+
 use crate::steps::bounded::Shape;
 use crate::{Exclusive, ForcePushError, NoMemory, PopError, PushError};
 use std::alloc::AllocGlobal;

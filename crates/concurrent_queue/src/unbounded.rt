@@ -212,7 +212,10 @@ impl<T: Drop> Representation<T> for Unbounded<T> {
         self.ends.closed
     }
 
-    fn capacity(&self) -> Option<usize> {
+    fn capacity(&self) -> Option<usize>
+        ensures capacity { result ≡ self.now.capacity }
+        ensures unbounded { result ≡ None }
+    {
         let _ends = &self.ends;
         None
     }

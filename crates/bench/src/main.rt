@@ -1,0 +1,106 @@
+//! `bench` times the crates of this repository, a line for each workload: `name ops seconds ns_per_op`.
+//!
+//! Without an argument it lists the names. `bench NAME [OPS]` runs one, and `bench all` runs each at its usual size.
+#![tactic(auto)]
+
+ghost use Rattle.std.specs.Prelude.{◌<◌, IfOk};
+
+mod base;
+mod fault;
+mod hand_over;
+mod line;
+mod queue;
+#[cfg(test)]
+mod tests;
+mod timing;
+mod workload;
+
+use fault::Fault;
+use line::Line;
+use std::env;
+use std::process::ExitCode;
+use std::rt::{Clock, Env};
+use std::sync::Wait;
+use std::thread::Threads;
+use workload::{ALL, Workload};
+
+fn main(rt: HostRuntime) -> ExitCode {
+    match run(&rt) {
+        Ok(()) => ExitCode::SUCCESS,
+        Err(fault) => {
+            // A fault that can't be told still has its status.
+            let _ = eprintln!(rt; "{fault}");
+            ExitCode::from(fault.status())
+        }
+    }
+}
+
+/// Does what the arguments ask.
+fn run<R: AllocGlobal + Env + Print + Eprint + Clock + Wait + Threads + Sync>(
+    rt: &R,
+) -> Result<(), Fault> {
+    let words: Vec<String> = env::args(rt)?.skip(1).collect(rt.alloc())?;
+    match words.as_slice() {
+        [] => list(rt),
+        [word] => {
+            if word.as_str() == "all" {
+                time_all(rt)
+            } else {
+                let workload = asked(word)?;
+                time(rt, workload, workload.usual_ops())
+            }
+        }
+        [word, count] => time(rt, asked(word)?, operations(count)?),
+        _ => Err(Fault::Usage),
+    }
+}
+
+fn list<R: Print>(rt: &R) -> Result<(), Fault> {
+    for workload in ALL {
+        println!(rt; "{}", workload.name())?;
+    }
+    Ok(())
+}
+
+fn time_all<R: AllocGlobal + Print + Eprint + Clock + Wait + Threads + Sync>(
+    rt: &R,
+) -> Result<(), Fault> {
+    for workload in ALL {
+        time(rt, workload, workload.usual_ops())?;
+    }
+    Ok(())
+}
+
+/// Runs a workload, and prints its line. What it moved is told on standard error, so that no compiler leaves it out.
+fn time<R: AllocGlobal + Print + Eprint + Clock + Wait + Threads + Sync>(
+    rt: &R,
+    workload: Workload,
+    ops: u64,
+) -> Result<(), Fault>
+    requires { 0 < ops }
+{
+    let timing = workload.run(rt, ops)?;
+    eprintln!(rt; "{} moved {}", workload.name(), timing.moved)?;
+    let line = Line {
+        name: workload.name(),
+        ops,
+        took: timing.took,
+    };
+    println!(rt; "{line}")?;
+    Ok(())
+}
+
+/// The workload of this name.
+fn asked(name: &str) -> Result<Workload, Fault> {
+    Workload::named(name).ok_or(Fault::Usage)
+}
+
+/// A number of operations, which is above 0.
+fn operations(word: &str) -> Result<u64, Fault>
+    ensures { IfOk result (λ ops. 0 < ops) }
+{
+    match word.parse::<u64>() {
+        Ok(0) | Err(_) => Err(Fault::Usage),
+        Ok(ops) => Ok(ops),
+    }
+}

@@ -1,0 +1,223 @@
+ghost use Rattle.std.specs.Prelude.{◌≡◌, ◌<◌, Some, None, false, IfOk};
+ghost use Rattle.concurrent_queue.specs.SharedQueue.{MayPush, MayForcePush};
+
+use crate::bounded::Bounded;
+use crate::errors::{ForcePushError, NoMemory, PopError, PushError};
+use crate::glimpse::{Glimpse, Locked};
+use crate::representation::Representation;
+use crate::single::Single;
+use crate::try_iter::TryIter;
+use crate::unbounded::Unbounded;
+use std::alloc::Global;
+use std::fmt;
+use std::marker::Model;
+use std::sync::{Mutex, Wait};
+
+/// A closable queue that threads share by `&`: `ConcurrentQueue` of the Rust crate `concurrent-queue`.
+///
+/// It moves between threads, and is shared by them, where `T` moves. A contract sees its capacity alone, since other
+/// threads may change the rest at any moment. Its drop drops each item that is left, once.
+#[derive(Drop)]
+pub struct ConcurrentQueue<T> {
+    kept: Kept<T>,
+}
+
+// Each representation stands under a lock, and a call is one section of that lock. Of what it guards a section knows
+// whether it is bounded only once it has asked for the capacity.
+#[derive(Drop)]
+enum Kept<T> {
+    Single(Mutex<Single<T>>),
+    // With its capacity.
+    Bounded(Mutex<Bounded<T>>, usize),
+    Unbounded(Mutex<Unbounded<T>>),
+}
+
+impl<T> Model for ConcurrentQueue<T> {
+    ghost use Rattle.concurrent_queue.specs.SharedQueue.{SharedQueue, kept_capacity};
+
+    ghost Value = { SharedQueue };
+
+    ghost view = { λ q. record { capacity = kept_capacity q.kept } };
+}
+
+impl<T: Drop> ConcurrentQueue<T> {
+    /// A queue that holds at most `cap` items, whose places are taken here: a single slot for 1, a ring for more.
+    ///
+    /// A capacity that no buffer can have is refused as want of memory too.
+    pub fn bounded(alloc: Global, cap: usize) -> Result<ConcurrentQueue<T>, NoMemory>
+        requires { 0 < cap }
+        ensures { IfOk result (λ q. q.capacity ≡ Some cap) }
+    {
+        let kept = if cap == 1 {
+            Kept::Single(Mutex::new(Single::new()))
+        } else {
+            Kept::Bounded(Mutex::new(Bounded::new(alloc, cap)?), cap)
+        };
+        Ok(ConcurrentQueue { kept })
+    }
+
+    /// A queue without a limit, in blocks of 31 items. It takes no memory until the first push.
+    pub fn unbounded(alloc: Global) -> ConcurrentQueue<T>
+        ensures { result.capacity ≡ None }
+    {
+        ConcurrentQueue {
+            kept: Kept::Unbounded(Mutex::new(Unbounded::new(alloc))),
+        }
+    }
+
+    /// Appends a value. A refused value comes back, and this call has changed nothing.
+    ///
+    /// A closed queue answers `Closed`, also where it is full, and else a full one `Full`. Only an unbounded queue takes
+    /// memory, and answers `NoMemory` where there is none. The push of item 2^61 + 1 closes a ring or a chain instead.
+    pub fn push<R: Wait>(&self, rt: &R, value: T) -> Result<(), PushError<T>>
+        ensures { MayPush self.now.capacity value result }
+    {
+        match &self.kept {
+            Kept::Single(lock) => {
+                let mut slot = lock.lock(rt);
+                let _capacity = slot.capacity();
+                slot.push(value)
+            }
+            Kept::Bounded(lock, _) => {
+                let mut ring = lock.lock(rt);
+                let _capacity = ring.capacity();
+                ring.push(value)
+            }
+            Kept::Unbounded(lock) => {
+                let mut chain = lock.lock(rt);
+                let _capacity = chain.capacity();
+                chain.push(value)
+            }
+        }
+    }
+
+    /// Appends a value, and on a full queue takes out the oldest item for it, which it returns.
+    ///
+    /// A closed queue answers `Closed`. A refused value comes back, and this call has changed nothing. Only an unbounded
+    /// queue takes memory, and it takes nothing out. The forced push of item 2^61 + 1 closes a ring or a chain instead, and takes nothing out.
+    pub fn force_push<R: Wait>(&self, rt: &R, value: T) -> Result<Option<T>, ForcePushError<T>>
+        ensures { MayForcePush self.now.capacity value result }
+    {
+        match &self.kept {
+            Kept::Single(lock) => {
+                let mut slot = lock.lock(rt);
+                let _capacity = slot.capacity();
+                slot.force_push(value)
+            }
+            Kept::Bounded(lock, _) => {
+                let mut ring = lock.lock(rt);
+                let _capacity = ring.capacity();
+                ring.force_push(value)
+            }
+            Kept::Unbounded(lock) => {
+                let mut chain = lock.lock(rt);
+                let _capacity = chain.capacity();
+                chain.force_push(value)
+            }
+        }
+    }
+
+    /// Takes out the oldest item. Without one a closed queue answers `Closed`, and an open one `Empty`.
+    pub fn pop<R: Wait>(&self, rt: &R) -> Result<T, PopError> {
+        match &self.kept {
+            Kept::Single(lock) => lock.lock(rt).pop(),
+            Kept::Bounded(lock, _) => lock.lock(rt).pop(),
+            Kept::Unbounded(lock) => lock.lock(rt).pop(),
+        }
+    }
+
+    /// Closes the queue to pushes, and says whether this call did so. The items stay, and may be popped.
+    pub fn close<R: Wait>(&self, rt: &R) -> bool {
+        match &self.kept {
+            Kept::Single(lock) => lock.lock(rt).close(),
+            Kept::Bounded(lock, _) => lock.lock(rt).close(),
+            Kept::Unbounded(lock) => lock.lock(rt).close(),
+        }
+    }
+
+    /// How many items are in the queue, at a moment of this call.
+    pub fn len<R: Wait>(&self, rt: &R) -> usize {
+        match &self.kept {
+            Kept::Single(lock) => lock.lock(rt).len(),
+            Kept::Bounded(lock, _) => lock.lock(rt).len(),
+            Kept::Unbounded(lock) => lock.lock(rt).len(),
+        }
+    }
+
+    /// Whether no item is in the queue, at a moment of this call.
+    pub fn is_empty<R: Wait>(&self, rt: &R) -> bool {
+        match &self.kept {
+            Kept::Single(lock) => lock.lock(rt).is_empty(),
+            Kept::Bounded(lock, _) => lock.lock(rt).is_empty(),
+            Kept::Unbounded(lock) => lock.lock(rt).is_empty(),
+        }
+    }
+
+    /// Whether the queue holds as many items as it may, at a moment of this call. An unbounded one never does.
+    pub fn is_full<R: Wait>(&self, rt: &R) -> bool
+        ensures { (self.now.capacity ≡ None) → (result ≡ false) }
+    {
+        match &self.kept {
+            Kept::Single(lock) => lock.lock(rt).is_full(),
+            Kept::Bounded(lock, _) => lock.lock(rt).is_full(),
+            Kept::Unbounded(lock) => {
+                let chain = lock.lock(rt);
+                let _capacity = chain.capacity();
+                chain.is_full()
+            }
+        }
+    }
+
+    /// Whether the queue was closed, at a moment of this call.
+    pub fn is_closed<R: Wait>(&self, rt: &R) -> bool {
+        match &self.kept {
+            Kept::Single(lock) => lock.lock(rt).is_closed(),
+            Kept::Bounded(lock, _) => lock.lock(rt).is_closed(),
+            Kept::Unbounded(lock) => lock.lock(rt).is_closed(),
+        }
+    }
+
+    /// How many items the queue may hold, as `bounded` was told, or `None` where it is unbounded.
+    pub fn capacity(&self) -> Option<usize>
+        ensures { result ≡ self.now.capacity }
+    {
+        match &self.kept {
+            Kept::Single(_) => Some(1),
+            Kept::Bounded(_, capacity) => Some(*capacity),
+            Kept::Unbounded(_) => None,
+        }
+    }
+
+    /// An iterator that pops. It takes nothing out by itself, and several may walk beside one another.
+    pub fn try_iter<'a, R: Wait>(&'a self, rt: &'a R) -> TryIter<'a, T, R> {
+        TryIter::new(self, rt)
+    }
+
+    fn glimpse(&self) -> Option<Glimpse> {
+        match &self.kept {
+            Kept::Single(lock) => Glimpse::of(lock),
+            Kept::Bounded(lock, _) => Glimpse::of(lock),
+            Kept::Unbounded(lock) => Glimpse::of(lock),
+        }
+    }
+}
+
+/// Its length, capacity and whether it is closed.
+impl<T: Drop> fmt::Debug for ConcurrentQueue<T> {
+    fn fmt<W: fmt::Write>(&self, f: &mut fmt::Formatter<W>) -> fmt::Result {
+        let capacity = self.capacity();
+        let mut text = f.debug_struct("ConcurrentQueue");
+        match self.glimpse() {
+            Some(Glimpse { len, is_closed }) => text
+                .field("len", &len)
+                .field("capacity", &capacity)
+                .field("is_closed", &is_closed)
+                .finish(),
+            None => text
+                .field("len", &Locked)
+                .field("capacity", &capacity)
+                .field("is_closed", &Locked)
+                .finish(),
+        }
+    }
+}

@@ -1,0 +1,39 @@
+//! What the text of a queue shows of what stands under its lock.
+use crate::representation::Representation;
+use std::sync::Mutex;
+use std::{fmt, thread};
+
+/// How often a glimpse tries a lock before it gives up.
+const TRIES: u32 = 10_000;
+
+/// A queue's length and whether it is closed, read in one section of its lock.
+#[derive(Clone, Copy, Debug)]
+pub struct Glimpse {
+    pub len: usize,
+    pub is_closed: bool,
+}
+
+impl Glimpse {
+    /// Looks under a lock without waiting for it, and answers `None` where it wasn't free at any of many tries.
+    pub fn of<T, Q: Representation<T>>(lock: &Mutex<Q>) -> Option<Glimpse> {
+        for _ in 0..TRIES {
+            if let Some(queue) = lock.try_lock() {
+                return Some(Glimpse {
+                    len: queue.len(),
+                    is_closed: queue.is_closed(),
+                });
+            }
+            thread::yield_now();
+        }
+        None
+    }
+}
+
+/// Stands in a text for what is under a lock that isn't free.
+pub struct Locked;
+
+impl fmt::Debug for Locked {
+    fn fmt<W: fmt::Write>(&self, f: &mut fmt::Formatter<W>) -> fmt::Result {
+        f.write_str("<locked>")
+    }
+}

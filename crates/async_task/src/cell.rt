@@ -177,20 +177,24 @@ where
         }
     }
 
+    /// Which task it is.
     pub fn identity(&self) -> Identity
         ensures { result ≡ self.now.identity }
     {
         self.identity
     }
 
+    /// The runtime value that the task was made with.
     pub fn rt(&self) -> R {
         self.rt
     }
 
+    /// The schedule value that the task was made with.
     pub fn schedule(&self) -> &S {
         &self.cell.schedule
     }
 
+    /// The metadata that the task was made with.
     pub fn metadata(&self) -> &M
         ensures { result.now ≡ self.now.metadata }
     {

@@ -33,6 +33,7 @@ impl<C: Drop> Places<C> {
         }
     }
 
+    /// The number that the places were made with.
     pub fn number(&self) -> u64 {
         self.number
     }

@@ -59,6 +59,7 @@ where
     W: Wake + Drop + 'static,
     R: Wait + Copy + Drop,
 {
+    /// The metadata that the task was made with.
     pub fn metadata(&self) -> &M
         ensures { result.now ≡ self.now.metadata }
     {

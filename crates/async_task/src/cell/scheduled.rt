@@ -63,6 +63,7 @@ where
         }
     }
 
+    /// The metadata that the task was made with.
     pub fn metadata(&self) -> &M
         ensures { result.now ≡ self.now.metadata }
     {
@@ -104,6 +105,7 @@ where
     W: Wake + Drop + 'static,
     R: Wait + Copy + Drop,
 {
+    /// The Runnable, to be run.
     pub fn into_runnable(self) -> Runnable<F, T, S, M, W, R>
         ensures { result ≡ self }
     {

@@ -21,6 +21,7 @@ const PLACES: usize = 0x100_0000;
 /// The low half of `Pages::free`.
 const LINK: u64 = 0xffff_ffff;
 
+/// A place for a cell.
 #[derive(Drop)]
 pub struct Slot<C> {
     pub cell: Mutex<Option<Arc<C, Global>>>,
@@ -28,6 +29,7 @@ pub struct Slot<C> {
     next: AtomicU64,
 }
 
+/// The slots, of which each has its number for good.
 #[derive(Drop)]
 pub struct Pages<C> {
     /// The low half is 1 more than the place of the first free slot that was in use before, or 0.
@@ -67,6 +69,7 @@ fn changed(free: u64, link: u64) -> u64 {
 }
 
 impl<C: Drop> Pages<C> {
+    /// No slots yet: the first page is made when a place is first asked for.
     pub fn new(alloc: Global) -> Result<Pages<C>, AllocError> {
         let mut pages = Vec::with_capacity(alloc, PAGES)?;
         for _ in 0..PAGES {

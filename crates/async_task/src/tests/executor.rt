@@ -1,10 +1,9 @@
-//! An executor of one future, as a user of this crate writes it. The README has it too.
+//! An executor of one future, as a user of this crate writes it.
 use crate::tests::parts::Nobody;
 use crate::{
-    Awaiter, Future, NoMemory, Poll, Realm, Schedule, ScheduleInfo, Scheduled, StoredRunnable,
-    Wake, spawn,
+    Awaiter, Future, Poll, Realm, Schedule, ScheduleInfo, Scheduled, StoredRunnable, Wake, spawn,
 };
-use std::alloc::Global;
+use std::alloc::{AllocError, Global};
 use std::sync::{Arc, Mutex, Wait};
 
 /// A future that adds the numbers from `left` down to 1, one a poll.
@@ -28,6 +27,9 @@ impl<K: Wake> Future<K> for Sum {
     }
 }
 
+/// What the executor runs.
+type Job<R> = Scheduled<Sum, u64, Turn<R>, (), Nobody, R>;
+
 /// The executor's queue: there is one Runnable at most.
 #[derive(Drop)]
 pub struct Turn<R> {
@@ -35,10 +37,9 @@ pub struct Turn<R> {
     rt: R,
 }
 
-impl<R: Wait + Copy + Drop> Schedule<Scheduled<Sum, u64, Turn<R>, (), Nobody, R>> for Turn<R> {
-    fn schedule(&self, runnable: Scheduled<Sum, u64, Turn<R>, (), Nobody, R>, info: ScheduleInfo) {
-        let _ = info;
-        *self.next.lock(&self.rt) = Some(runnable.store());
+impl<R: Wait + Copy + Drop> Schedule<Job<R>> for Turn<R> {
+    fn schedule(&self, job: Job<R>, _info: ScheduleInfo) {
+        *self.next.lock(&self.rt) = Some(job.store());
     }
 }
 
@@ -48,24 +49,20 @@ pub fn run<R: Wait + Copy + Drop + 'static>(
     alloc: Global,
     realm: &'static Realm<Sum, u64, Turn<R>, (), Nobody>,
     future: Sum,
-) -> Result<Option<u64>, NoMemory> {
-    let Ok(queue) = Arc::new(alloc, Mutex::new(None)) else {
-        return Err(NoMemory);
-    };
-    let Ok(next) = Arc::try_clone(&queue) else {
-        return Err(NoMemory);
-    };
-    let turn = Turn { next, rt };
-    let Ok((runnable, mut task)) = spawn(rt, alloc, realm, future, turn) else {
-        return Err(NoMemory);
+) -> Result<Option<u64>, AllocError> {
+    let queue = Arc::new(alloc, Mutex::new(None))?;
+    let next = Arc::try_clone(&queue)?;
+    let Ok((runnable, mut task)) = spawn(rt, alloc, realm, future, Turn { next, rt }) else {
+        return Err(AllocError);
     };
     runnable.schedule();
     for _ in rt.forever() {
-        let Some(stored) = queue.lock(&rt).take() else {
+        let stored = queue.lock(&rt).take();
+        let Some(stored) = stored else {
             break;
         };
-        if let Some(scheduled) = stored.redeem(rt, realm) {
-            scheduled.into_runnable().run();
+        if let Some(job) = stored.redeem(rt, realm) {
+            job.into_runnable().run();
         }
     }
     match task.poll(&Awaiter::Outside(Nobody)) {

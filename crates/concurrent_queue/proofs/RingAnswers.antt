@@ -1,29 +1,17 @@
 -- The steps of the calls that only answer, and of a close. n is the number of places, m the mark.
-use Rattle.std.proofs.Common.{◌≡◌, ◌⊎◌, inl, inr, ℕ, ◌+◌, ◌-◌, ◌*◌, ◌%◌, ◌<◌, ◌≤◌, ◌^◌, List, [], ◌∷◌, ◌++◌, length, drop, Bool, true, false, Option, Some, None, IsSome, sym, refl, ap, ◌∙◌, subst, lt_of_not-le, zero-mul, arith}
-use mathlib.Core.Logic.{dite}
-use native.Mathlib.Decide.{dec_le}
-use Rattle.std.proofs.Math.Nat.{mod-eq_of_lt}
-use Rattle.concurrent_queue.specs.declared.bounded.Slot.{Slot}
+use Rattle.std.proofs.Common.{◌≡◌, ◌⊎◌, ℕ, ◌+◌, ◌*◌, List, ◌∷◌, Option, Some, None, sym, refl, subst}
 use Rattle.concurrent_queue.specs.declared.steps.bounded.Turn.{Turn}
 use Rattle.concurrent_queue.specs.declared.steps.bounded.Turn.TheVariants.{Tail, Head, Stamp, HeadFor, TailFor, TailAgain, Append, Take, Displace, Advance, Spend, Fill, Drain, End, Close as CloseTurn}
-use Rattle.concurrent_queue.specs.declared.steps.Reply.{Reply}
-use Rattle.concurrent_queue.specs.declared.steps.Reply.TheVariants.{Done, Displaced}
-use Rattle.concurrent_queue.specs.ClosableQueue.{most_accepted}
-use Rattle.concurrent_queue.specs.Calls.{Call, Push, ForcePush, Pop, Close, Len, IsEmptyCall, IsFullCall, IsClosedCall, Answer}
-use Rattle.concurrent_queue.specs.Moments.{Moment, Scene, Sight, Progress, Run, MayEnd, AtSome}
-use Rattle.concurrent_queue.specs.Ring.{IsShape, word_at, count_at, is_marked}
+use Rattle.concurrent_queue.specs.Calls.{Call, Close, Len, IsEmptyCall, IsFullCall, IsClosedCall}
+use Rattle.concurrent_queue.specs.Moments.{Sight, Progress, AtSome}
+use Rattle.concurrent_queue.specs.Ring.{IsShape, word_at, is_marked}
 use Rattle.concurrent_queue.specs.RingTurns.{len_turn, is_empty_turn, is_full_turn, answered}
-use Rattle.concurrent_queue.specs.SlotSteps.{Step, Begin, Go, answer_of, stored}
-use Rattle.concurrent_queue.specs.RingSteps.{Place, Away, Stands, Leaving, RingWorld, with_at, reply_of, first_turn, begun, moved, entered, stood, gone, leaves, left, stepped, begin_moments, turn_moments, go_moments, moments, run, trace, new_ring, new_scene, IsNeverEmpty, IsClosableQueue}
-use Rattle.concurrent_queue.proofs.RingWords.{index_of_word, first_word, word_a_lap_on, word_fits, count_of_word}
-use Rattle.concurrent_queue.proofs.RingStamps.{bit, bare, marked_is, tail_count, a_lap_on}
-use Rattle.concurrent_queue.proofs.RingState.{Phase, free, full, held, Cell, cell, Ghost, Kind, looking, holding, ending, kind_of, Fact, Sure, Grip, writing, swapping, reading, displacing, up, slot_of, grip_turn, sight_of, scene_of, Base, CellLies, Knows, Looks, Grips, StandsAs, TiedPlace, Tied, WasLong, WasSome, WasNotFull}
-use Rattle.concurrent_queue.proofs.RingKnows.{length_is}
+use Rattle.concurrent_queue.specs.RingSteps.{Stands, RingWorld, moved, turn_moments}
+use Rattle.concurrent_queue.proofs.RingStamps.{bit}
+use Rattle.concurrent_queue.proofs.RingState.{Ghost, sight_of, Knows, Looks, Tied, WasLong, WasSome, WasNotFull}
 use Rattle.concurrent_queue.proofs.RingLooks.{Finds, len_tail, len_head, len_again, empty_head, empty_tail, full_tail, full_head, closed_tail}
-use Rattle.concurrent_queue.proofs.RingPuts.{Goes, near, is_gripping, is_moving, looked, begins, ends, of_party}
-use Rattle.concurrent_queue.proofs.RingHits.{advances}
-use Rattle.concurrent_queue.proofs.RingPlaces.{entered_by, leaves_by}
-use Rattle.concurrent_queue.proofs.RingChanges.{push_by, force_by, pop_by, close_by, on_tail, on_head}
+use Rattle.concurrent_queue.proofs.RingPuts.{Goes, looked}
+use Rattle.concurrent_queue.proofs.RingChanges.{close_by, on_tail, on_head}
 
 module _ {T : Type 0} (n m : ℕ) (shape : IsShape n m) (w : RingWorld T) (g : Ghost T) (calls : ℕ → Option (Progress T)) (tied : Tied n m w g calls) (p : ℕ) (k : Progress T) (at : calls p ≡ Some k) where
   abbrev IsNow : Type 0

@@ -1,26 +1,25 @@
 -- Each step of a call on a ring, by the turn at which it stands. n is the number of places, m the mark.
-use Rattle.std.proofs.Common.{◌≡◌, ◌≢◌, ◌⊎◌, inl, inr, ℕ, ◌+◌, ◌*◌, ◌%◌, ◌<◌, ◌≤◌, List, [], ◌∷◌, length, drop, Bool, true, false, not, Option, Some, None, ◌==◌, if◌then◌else◌, sym, refl, ap, ◌∙◌, subst, arith}
+use Rattle.std.proofs.Common.{◌≡◌, inr, ℕ, ◌+◌, ◌*◌, ◌%◌, ◌<◌, ◌≤◌, List, [], ◌∷◌, length, drop, Bool, true, false, not, Option, Some, None, ◌==◌, if◌then◌else◌, sym, refl, ap, ◌∙◌, subst, arith}
 use Rattle.concurrent_queue.specs.declared.bounded.Slot.{Slot}
 use Rattle.concurrent_queue.specs.declared.steps.bounded.Turn.{Turn}
 use Rattle.concurrent_queue.specs.declared.steps.bounded.Turn.TheVariants.{Tail, Head, Stamp, HeadFor, TailFor, TailAgain, Append, Take, Displace, Advance, Spend, Fill, Drain, End, Close as CloseTurn}
-use Rattle.concurrent_queue.specs.declared.steps.Reply.{Reply}
-use Rattle.concurrent_queue.specs.declared.steps.Reply.TheVariants.{Done, Displaced, Closed, Yes, No}
-use Rattle.concurrent_queue.specs.ClosableQueue.{ClosableQueue, most_accepted, appended, shut}
-use Rattle.concurrent_queue.specs.Calls.{Call, Push, ForcePush, Pop, Close, Len, IsEmptyCall, IsFullCall, IsClosedCall, Answer, WasClosed, Acts}
-use Rattle.concurrent_queue.specs.Moments.{Moment, Does, Sight, Progress, MayBeside, MayEnd, AtSome, WasOpenAndFull}
+use Rattle.concurrent_queue.specs.declared.steps.Reply.TheVariants.{Done, Closed, Yes, No}
+use Rattle.concurrent_queue.specs.ClosableQueue.{most_accepted, appended, shut}
+use Rattle.concurrent_queue.specs.Calls.{Call, Push, ForcePush, Pop, Close, Answer, WasClosed, Acts}
+use Rattle.concurrent_queue.specs.Moments.{Does, Sight, Progress, MayBeside, MayEnd, AtSome, WasOpenAndFull}
 use Rattle.concurrent_queue.specs.Ring.{IsShape, word_at, next_at, is_marked}
-use Rattle.concurrent_queue.specs.RingTurns.{answered, pushes_from, stamped_for_push, push_turn, force_push_turn, pops_from, stamped_for_pop, pop_turn, len_turn, is_empty_turn, is_full_turn}
+use Rattle.concurrent_queue.specs.RingTurns.{answered, pushes_from, stamped_for_push, push_turn, force_push_turn, pops_from, stamped_for_pop, pop_turn}
 use Rattle.concurrent_queue.specs.SlotSteps.{answer_of, stored, is_yes}
-use Rattle.concurrent_queue.specs.RingSteps.{Place, Stands, RingWorld, with_at, turn_of, found_by, moved, turn_moments, displaced}
+use Rattle.concurrent_queue.specs.RingSteps.{Stands, RingWorld, with_at, moved, turn_moments, displaced}
 use Rattle.concurrent_queue.proofs.RingWords.{index_of_word}
-use Rattle.concurrent_queue.proofs.RingStamps.{bit, tail_word, bare, marked, marked_is, one_count, one_tail, head_behind, a_lap_on}
-use Rattle.concurrent_queue.proofs.RingState.{Phase, Cell, Ghost, Kind, looking, kind_of, Fact, Sure, Both, Past, Gone, Aged, OpenAt, OpenFull, LenAt, EmptyAt, FullAt, up, age, queue_of, sight_of, Knows, Looks, StandsAs, Tied, WasLong, WasSome, WasNotFull, PushFits}
+use Rattle.concurrent_queue.proofs.RingStamps.{bit, bare, marked, marked_is, one_count, one_tail, head_behind, a_lap_on}
+use Rattle.concurrent_queue.proofs.RingState.{Ghost, Sure, up, age, queue_of, sight_of, Knows, Looks, Tied}
 use Rattle.concurrent_queue.proofs.RingKnows.{length_is}
-use Rattle.concurrent_queue.proofs.RingLooks.{Finds, push_tail, force_tail, push_stamped, force_stamped, push_head, force_head, pop_head, pop_stamp, pop_tail, len_tail, len_head, len_again, empty_head, empty_tail, full_tail, full_head, closed_tail}
+use Rattle.concurrent_queue.proofs.RingLooks.{Finds, push_tail, force_tail, push_stamped, force_stamped, push_head, force_head, pop_head, pop_stamp, pop_tail}
 use Rattle.concurrent_queue.proofs.RingMoves.{free_at}
 use Rattle.concurrent_queue.proofs.RingPuts.{Goes, near, is_gripping, looked, alone_free}
 use Rattle.concurrent_queue.proofs.RingHits.{append_hits, take_hits, displace_hits, shuts}
-use Rattle.concurrent_queue.proofs.SlotLooks.{is_party, is_other}
+use Rattle.concurrent_queue.proofs.SlotLooks.{is_party}
 
 module _ {T : Type 0} (n m : ℕ) (shape : IsShape n m) (w : RingWorld T) (g : Ghost T) (calls : ℕ → Option (Progress T)) (tied : Tied n m w g calls) (p : ℕ) (k : Progress T) (at : calls p ≡ Some k) where
   abbrev IsNow : Type 0
@@ -58,7 +57,7 @@ module _ {T : Type 0} (n m : ℕ) (shape : IsShape n m) (w : RingWorld T) (g : G
       → (g.shut ≡ false → g.pushed < most_accepted → g.pushed < g.popped + n → Acts (queue_of n m g) call (answer_of call Done None) (appended (queue_of n m g) x))
       → Found call (pushes_from n m w.tail)
       → Goes n m shape w g calls (if w.tail == t then Does p (answer_of call Done None) ∷ [] else [])
-          (record { tail = if w.tail == t then next_at n m t else w.tail; head = w.head; slots = w.slots; places = with_at w.places p (Stands call (if w.tail == t then Fill t Done else pushes_from n m w.tail)) })
+      (record { tail = if w.tail == t then next_at n m t else w.tail; head = w.head; slots = w.slots; places = with_at w.places p (Stands call (if w.tail == t then Fill t Done else pushes_from n m w.tail)) })
   append_by call x t c is of seen none stores word few aged acts misses = by (w.tail == t) refl
     where
       by : (b : Bool) → (w.tail == t) ≡ b → Goes n m shape w g calls (if b then Does p (answer_of call Done None) ∷ [] else [])
@@ -77,7 +76,7 @@ module _ {T : Type 0} (n m : ℕ) (shape : IsShape n m) (w : RingWorld T) (g : G
       → (g.shut ≡ false → g.pushed ≡ c → g.pushed ≡ most_accepted → Acts (queue_of n m g) call (answer_of call Closed None) (shut (queue_of n m g)))
       → ((j : ℕ × T) → MayBeside (Some j) (answer_of call Closed None)) → Found call (pushes_from n m w.tail)
       → Goes n m shape w g calls (if w.tail == t then Does p (answer_of call Closed None) ∷ [] else [])
-          (record { tail = if w.tail == t then w.tail + m else w.tail; head = w.head; slots = w.slots; places = with_at w.places p (Stands call (if w.tail == t then End Closed else pushes_from n m w.tail)) })
+      (record { tail = if w.tail == t then w.tail + m else w.tail; head = w.head; slots = w.slots; places = with_at w.places p (Stands call (if w.tail == t then End Closed else pushes_from n m w.tail)) })
   spend_by call t c is of seen none word most acts beside misses = by (w.tail == t) refl
     where
       by : (b : Bool) → (w.tail == t) ≡ b → Goes n m shape w g calls (if b then Does p (answer_of call Closed None) ∷ [] else [])

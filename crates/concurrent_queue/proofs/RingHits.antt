@@ -1,5 +1,5 @@
 -- The exchanges of a ring's words that hit, each a moment of the closable queue. n is the number of places, m the mark.
-use Rattle.std.proofs.Common.{◌≡◌, ◌≢◌, inl, inr, ℕ, ◌+◌, ◌*◌, ◌%◌, ◌<◌, ◌≤◌, List, [], ◌∷◌, ◌++◌, length, drop, Bool, true, false, not, Option, Some, None, Ok, if◌then◌else◌, sym, refl, ap, ◌∙◌, subst, arith}
+use Rattle.std.proofs.Common.{◌≡◌, ◌≢◌, ℕ, ◌+◌, ◌*◌, ◌%◌, ◌<◌, ◌≤◌, List, [], ◌∷◌, ◌++◌, drop, Bool, true, false, Option, Some, None, Ok, if◌then◌else◌, sym, refl, ap, ◌∙◌, subst, arith}
 use Rattle.std.proofs.lemmas.List.{drop-append-le}
 use Rattle.concurrent_queue.specs.declared.bounded.Slot.{Slot}
 use Rattle.concurrent_queue.specs.declared.steps.bounded.Turn.{Turn}
@@ -7,14 +7,14 @@ use Rattle.concurrent_queue.specs.declared.steps.bounded.Turn.TheVariants.{Advan
 use Rattle.concurrent_queue.specs.declared.steps.Reply.TheVariants.{Done, Displaced}
 use Rattle.concurrent_queue.specs.ClosableQueue.{ClosableQueue, most_accepted, appended, taken, shut}
 use Rattle.concurrent_queue.specs.Calls.{Call, ForcePush, Pop, Answer, ForcePushed, Popped, Acts}
-use Rattle.concurrent_queue.specs.Moments.{Moment, Does, Displaces, Arrives, Sight, Progress, Scene, sees, becomes, answers, with_call, MayBeside, AtSome, WasOpenAndFull}
+use Rattle.concurrent_queue.specs.Moments.{Does, Arrives, Progress, sees, becomes, answers, with_call, MayBeside, AtSome, WasOpenAndFull}
 use Rattle.concurrent_queue.specs.Ring.{IsShape, word_at, next_at, is_marked}
 use Rattle.concurrent_queue.specs.SlotSteps.{answer_of, stored}
-use Rattle.concurrent_queue.specs.RingSteps.{Place, Away, Stands, Leaving, RingWorld, with_at, displaced, tail_after}
-use Rattle.concurrent_queue.proofs.RingWords.{next_is, index_of_word}
+use Rattle.concurrent_queue.specs.RingSteps.{Stands, RingWorld, with_at, displaced, tail_after}
+use Rattle.concurrent_queue.proofs.RingWords.{next_is}
 use Rattle.concurrent_queue.proofs.RingStamps.{bit, bare, marked, marked_is, a_lap_on}
-use Rattle.concurrent_queue.proofs.RingState.{Phase, free, full, held, Cell, cell, Ghost, Kind, kind_of, Grip, writing, swapping, reading, displacing, up, age, slot_of, grip_turn, queue_of, sight_of, scene_of, Base, IsAt, Stores, CellLies, HeldBy, ComesTo, StandsAs, TiedPlace, Tied, Grips}
-use Rattle.concurrent_queue.proofs.RingKnows.{Grows, Keeps, length_is}
+use Rattle.concurrent_queue.proofs.RingState.{free, full, held, Cell, cell, Ghost, kind_of, writing, swapping, reading, displacing, age, slot_of, queue_of, sight_of, scene_of, Base, CellLies, ComesTo, StandsAs, TiedPlace, Tied}
+use Rattle.concurrent_queue.proofs.RingKnows.{length_is}
 use Rattle.concurrent_queue.proofs.RingMoves.{at_here, at_put, NotBy, is_at_last, length_more, lies_pushed, lies_popped, free_at, full_at, held_put}
 use Rattle.concurrent_queue.proofs.RingPuts.{Goes, near, other_calls, keeps, ages, slots_same, rounds, lies, comes, each_more}
 
@@ -53,7 +53,7 @@ module _ {T : Type 0} (n m : ℕ) (shape : IsShape n m) (w : RingWorld T) (g : G
       → g.shut ≡ false → g.pushed < most_accepted → 2 * g.pushed ≤ age (g.cells (g.pushed % n))
       → (g.pushed < g.popped + n → Acts (queue_of n m g) call (answer_of call Done None) (appended (queue_of n m g) x))
       → Goes n m shape w g calls (Does p (answer_of call Done None) ∷ [])
-          (record { tail = next_at n m (word_at n m g.pushed); head = w.head; slots = w.slots; places = with_at w.places p (Stands call turn) })
+      (record { tail = next_at n m (word_at n m g.pushed); head = w.head; slots = w.slots; places = with_at w.places p (Stands call turn) })
   append_hits call x turn turn_is alone of none stores open_is few aged acts =
       let i : ℕ = g.pushed % n in
       let below : i < n = near n m shape g.pushed in
@@ -113,7 +113,7 @@ module _ {T : Type 0} (n m : ℕ) (shape : IsShape n m) (w : RingWorld T) (g : G
   pub take_hits : (turn : Turn) → turn ≡ Drain (word_at n m g.popped) → ((j : ℕ) → j < n → NotBy p (g.cells j).phase) → k.call ≡ Pop → k.answer ≡ None
       → 2 * g.popped + 1 ≤ age (g.cells (g.popped % n))
       → Goes n m shape w g calls (Does p (answer_of {T = T} Pop Done (w.slots (g.popped % n)).value) ∷ [])
-          (record { tail = w.tail; head = next_at n m (word_at n m g.popped); slots = w.slots; places = with_at w.places p (Stands Pop turn) })
+      (record { tail = w.tail; head = next_at n m (word_at n m g.popped); slots = w.slots; places = with_at w.places p (Stands Pop turn) })
   take_hits turn turn_is alone of none aged =
       let i : ℕ = g.popped % n in
       let below : i < n = near n m shape g.popped in
@@ -145,9 +145,10 @@ module _ {T : Type 0} (n m : ℕ) (shape : IsShape n m) (w : RingWorld T) (g : G
             none,
             (
               queue_of n m g',
-              subst (λ (z : Call T). Acts (queue_of n m g) z a (queue_of n m g')) (sym of)
-                  (first_is (drop g.popped g.all) y (drop (g.popped + 1) g.all) found.2,
-                  ap (λ (xs : List T). record { items = xs; capacity = Some n; closed = g.shut; accepted = Some g.pushed }) (sym (ap (drop 1) found.2))),
+              subst (λ (z : Call T). Acts (queue_of n m g) z a (queue_of n m g')) (sym of) (
+                first_is (drop g.popped g.all) y (drop (g.popped + 1) g.all) found.2,
+                ap (λ (xs : List T). record { items = xs; capacity = Some n; closed = g.shut; accepted = Some g.pushed }) (sym (ap (drop 1) found.2)),
+              ),
               beside_popped g.coming y,
               refl,
             ),
@@ -178,7 +179,7 @@ module _ {T : Type 0} (n m : ℕ) (shape : IsShape n m) (w : RingWorld T) (g : G
   pub displace_hits : (x : T) (turn : Turn) → turn ≡ Advance (word_at n m (g.popped + n)) → ((j : ℕ) → j < n → NotBy p (g.cells j).phase) → k.call ≡ ForcePush x → k.answer ≡ None
       → g.popped + n ≡ g.pushed → g.pushed < most_accepted → AtSome WasOpenAndFull k.seen → 2 * g.popped + 1 ≤ age (g.cells (g.popped % n))
       → Goes n m shape w g calls (displaced n m p (w.slots (g.popped % n)).value)
-          (record { tail = w.tail; head = next_at n m (word_at n m g.popped); slots = w.slots; places = with_at w.places p (Stands (ForcePush x) turn) })
+      (record { tail = w.tail; head = next_at n m (word_at n m g.popped); slots = w.slots; places = with_at w.places p (Stands (ForcePush x) turn) })
   displace_hits x turn turn_is alone of none whole few opened aged =
       let i : ℕ = g.popped % n in
       let below : i < n = near n m shape g.popped in
@@ -252,7 +253,7 @@ module _ {T : Type 0} (n m : ℕ) (shape : IsShape n m) (w : RingWorld T) (g : G
   pub advances : (x : T) (c i : ℕ) (o : Option T) → i < n → g.cells i ≡ cell c (held p (ForcePush x) displacing o false)
       → ((j : ℕ) → j < n → j ≢ i → NotBy p (g.cells j).phase) → k.call ≡ ForcePush x → k.answer ≡ Some (answer_of (ForcePush x) Displaced o)
       → Goes n m shape w g calls (Arrives p ∷ [])
-          (record { tail = tail_after n m (Advance (word_at n m (c + n))) w.tail; head = w.head; slots = w.slots; places = with_at w.places p (Stands (ForcePush x) (Fill (word_at n m (c + n)) Displaced)) })
+      (record { tail = tail_after n m (Advance (word_at n m (c + n))) w.tail; head = w.head; slots = w.slots; places = with_at w.places p (Stands (ForcePush x) (Fill (word_at n m (c + n)) Displaced)) })
   advances x c i o below is alone of told =
       let lying : CellLies n m g (cell c (held p (ForcePush x) displacing o false)) = subst (CellLies n m g) is (tied.lies i below) in
       let pushed_is : g.pushed ≡ c + n = lying.1 in

@@ -1,13 +1,13 @@
 -- What a call remembers of a ring stays right while other parties go on. n is the number of places, m the mark.
-use Rattle.std.proofs.Common.{◌≡◌, ◌≢◌, ◌⊎◌, inl, inr, ℕ, ◌+◌, ◌-◌, ◌*◌, ◌%◌, ◌<◌, ◌≤◌, List, [], ◌∷◌, length, drop, Bool, true, false, Option, Some, None, sym, refl, ap, ◌∙◌, subst, lt_of_not-le, length-drop, arith}
+use Rattle.std.proofs.Common.{◌≡◌, ◌≢◌, ◌⊎◌, inl, inr, ℕ, ◌+◌, ◌<◌, ◌≤◌, List, [], ◌∷◌, length, drop, Bool, true, false, Option, Some, None, sym, refl, ap, ◌∙◌, subst, lt_of_not-le, length-drop, arith}
 use mathlib.Core.Logic.{dite}
 use native.Mathlib.Decide.{dec_le}
 use Rattle.concurrent_queue.specs.declared.steps.bounded.Turn.{Turn}
 use Rattle.concurrent_queue.specs.Calls.{Call, Answer}
-use Rattle.concurrent_queue.specs.Moments.{Sight, Progress, AtSome, MayAnswer, MayEnd, sees}
+use Rattle.concurrent_queue.specs.Moments.{Sight, Progress, AtSome, MayEnd, sees}
 use Rattle.concurrent_queue.specs.SlotSteps.{answer_of}
-use Rattle.concurrent_queue.specs.RingSteps.{Place, Away, Stands, Leaving, reply_of}
-use Rattle.concurrent_queue.proofs.RingState.{Grip, Phase, held, Cell, Ghost, Kind, looking, holding, ending, kind_of, Fact, Sure, Both, Past, Gone, Aged, OpenAt, OpenFull, LenAt, EmptyAt, FullAt, age, sight_of, Base, WasOpen, WasLong, WasSome, WasNotFull, Knows, Looks, Grips, StandsAs, TiedPlace}
+use Rattle.concurrent_queue.specs.RingSteps.{Place, Away, Stands, Leaving}
+use Rattle.concurrent_queue.proofs.RingState.{Grip, held, Ghost, Kind, looking, holding, ending, kind_of, Fact, Sure, Both, Past, Gone, Aged, OpenAt, OpenFull, LenAt, EmptyAt, FullAt, age, sight_of, Base, WasOpen, WasLong, WasSome, WasNotFull, Knows, Grips, StandsAs, TiedPlace}
 
 module _ {T : Type 0} where
   pub at_some : (P Q : Sight T → Type 0) → ((s : Sight T) → P s → Q s) → (seen : List (Sight T)) → AtSome P seen → AtSome Q seen

@@ -1,7 +1,5 @@
 -- A call on a ring that begins while no other is in progress ends. n is the number of places, m the mark.
-use Rattle.std.proofs.Common.{◌≡◌, ◌⊎◌, inl, inr, ℕ, zero, suc, ◌+◌, ◌*◌, ◌%◌, ◌<◌, ◌≤◌, List, [], ◌∷◌, Bool, true, false, nat_lt, Option, None, ◌==◌, if◌then◌else◌, sym, refl, ap, ◌∙◌, subst, eq-eqb, ne_eqb, lt-ltb, lt_of_not-le, arith}
-use mathlib.Core.Logic.{dite}
-use native.Mathlib.Decide.{dec_le}
+use Rattle.std.proofs.Common.{◌≡◌, ◌⊎◌, inl, inr, ℕ, suc, ◌+◌, ◌*◌, ◌%◌, ◌<◌, ◌≤◌, List, Bool, true, false, nat_lt, Option, None, ◌==◌, if◌then◌else◌, sym, refl, ap, ◌∙◌, subst, eq-eqb, ne_eqb, lt-ltb, arith}
 use Rattle.concurrent_queue.specs.declared.bounded.Slot.{Slot}
 use Rattle.concurrent_queue.specs.declared.steps.bounded.Turn.{Turn}
 use Rattle.concurrent_queue.specs.declared.steps.bounded.Turn.TheVariants.{Tail, Head, Stamp, HeadFor, TailFor, TailAgain, Append, Take, Displace, Advance, Spend, Fill, Drain, End, Close as CloseTurn}
@@ -10,15 +8,14 @@ use Rattle.concurrent_queue.specs.declared.steps.Reply.TheVariants.{Done, Displa
 use Rattle.concurrent_queue.specs.ClosableQueue.{most_accepted}
 use Rattle.concurrent_queue.specs.Calls.{Call, Push, ForcePush, Pop, Close, Len, IsEmptyCall, IsFullCall, IsClosedCall}
 use Rattle.concurrent_queue.specs.Moments.{Progress}
-use Rattle.concurrent_queue.specs.Ring.{IsShape, word_at, count_at, next_at, is_marked}
-use Rattle.concurrent_queue.specs.RingTurns.{pushes_from, appends_at, stamped_for_push, displaces_at, pops_from, stamped_for_pop, pop_turn}
-use Rattle.concurrent_queue.specs.SlotSteps.{Step, Begin, Go}
+use Rattle.concurrent_queue.specs.Ring.{IsShape, word_at, count_at, is_marked}
+use Rattle.concurrent_queue.specs.RingTurns.{pushes_from, appends_at, stamped_for_push, displaces_at, pops_from}
+use Rattle.concurrent_queue.specs.SlotSteps.{Step, Begin}
 use Rattle.concurrent_queue.specs.RingSteps.{Place, Away, Stands, Leaving, RingWorld, with_at, first_turn, gone, stepped, run, new_ring}
 use Rattle.concurrent_queue.specs.LoneCalls.{goes, EndsOnRing}
 use Rattle.concurrent_queue.proofs.RingWords.{index_of_word, count_of_word, word_a_lap_on}
-use Rattle.concurrent_queue.proofs.RingStamps.{bit, bare, marked, marked_is, tail_index, a_lap_on, same_count}
+use Rattle.concurrent_queue.proofs.RingStamps.{bit, bare, marked_is, tail_index, a_lap_on, same_count}
 use Rattle.concurrent_queue.proofs.RingState.{Phase, free, full, held, Cell, cell, Ghost, Base, CellLies, HeldBy, place_of, slot_of, Tied}
-use Rattle.concurrent_queue.proofs.RingLooks.{ge_is}
 use Rattle.concurrent_queue.proofs.RingMoves.{at_here}
 use Rattle.concurrent_queue.proofs.RingPuts.{near}
 use Rattle.concurrent_queue.proofs.RingRuns.{runs, new_ghost, new_tied}
@@ -87,7 +84,7 @@ module _ {T : Type 0} (n m : ℕ) where
   displaced w p x t head is =
       next 3 w p (Stands (ForcePush x) (Displace t)) is
       (next 2 _ p (Stands (ForcePush x) (Advance t)) (stands w.places p (ForcePush x) _ (Advance t) (hit (w.head + 2 * m) t (Advance t) Tail head))
-      (filled _ p (ForcePush x) t Displaced (at_here _ p _)))
+      (filled _ p (ForcePush x) t Displaced (at_here (gone n m w p (Stands (ForcePush x) (Displace t))).places p _)))
 
   -- where the place at the tail is free
   free_push : (w : RingWorld T) (p : ℕ) (x : T) (t : ℕ) → w.tail ≡ t → (w.slots (t % m)).stamp ≡ t → w.places p ≡ Stands (Push x) (Stamp t) → Within 4 w p
@@ -110,7 +107,7 @@ module _ {T : Type 0} (n m : ℕ) where
   full_push w p x t two head stamp is =
       next 2 w p (Stands (Push x) (Stamp t)) is
       (next 1 _ p (Stands (Push x) (HeadFor t)) (stands w.places p (Push x) _ (HeadFor t) (head_for n m (w.slots (t % m)).stamp t stamp two))
-      (ended _ p (Push x) Full (stands _ p (Push x) _ (End Full) (hit (w.head + 2 * m) t (End Full) Tail head))))
+      (ended _ p (Push x) Full (stands (gone n m w p (Stands (Push x) (Stamp t))).places p (Push x) _ (End Full) (hit (w.head + 2 * m) t (End Full) Tail head))))
 
   full_force : (w : RingWorld T) (p : ℕ) (x : T) (t : ℕ) → 1 < 2 * m → w.tail ≡ t → w.head + 2 * m ≡ t → (w.slots (t % m)).stamp + 2 * m ≡ t + 1 → w.places p ≡ Stands (ForcePush x) (Stamp t) → Within 6 w p
   full_force w p x t two tail head stamp is =
@@ -236,10 +233,12 @@ module _ {T : Type 0} (n m : ℕ) (shape : IsShape n m) where
 
     lone_len : w.places p ≡ Stands Len Tail → Within n m 4 w p
     lone_len is =
+        let first : RingWorld T = gone n m w p (Stands Len Tail) in
+        let second : RingWorld T = gone n m first p (Stands Len (HeadFor w.tail)) in
         next n m 3 w p (Stands Len Tail) is
-        (next n m 2 _ p (Stands Len (HeadFor w.tail)) (at_here w.places p _)
-        (next n m 1 _ p (Stands Len (TailAgain w.tail w.head)) (at_here _ p _)
-        (ended n m _ p Len _ (stands n m _ p Len _ _ (hit w.tail w.tail _ (HeadFor w.tail) refl)))))
+        (next n m 2 first p (Stands Len (HeadFor w.tail)) (at_here w.places p _)
+        (next n m 1 second p (Stands Len (TailAgain w.tail w.head)) (at_here first.places p _)
+        (ended n m _ p Len _ (stands n m second.places p Len _ _ (hit w.tail w.tail _ (HeadFor w.tail) refl)))))
 
     lone_empty : w.places p ≡ Stands IsEmptyCall Head → Within n m 3 w p
     lone_empty is =

@@ -1,5 +1,5 @@
 -- What a call on a ring finds where it looks at a word. n is the number of places, m the mark.
-use Rattle.std.proofs.Common.{◌≡◌, ◌≢◌, ◌⊎◌, inl, inr, ◌↔◌, ℕ, ◌+◌, ◌-◌, ◌*◌, ◌%◌, ◌<◌, ◌≤◌, List, [], ◌∷◌, length, drop, Bool, true, false, IsTrue, nat_lt, Option, Some, None, Ok, Err, ◌==◌, ◌||◌, if◌then◌else◌, sym, refl, ap, ◌∙◌, subst, lt_of_not-le, lt-ltb, eq-eqb, mod-lt, arith}
+use Rattle.std.proofs.Common.{◌≡◌, ◌⊎◌, inl, inr, ℕ, ◌+◌, ◌-◌, ◌*◌, ◌%◌, ◌<◌, ◌≤◌, List, [], ◌∷◌, length, drop, Bool, true, false, nat_lt, Option, Some, None, Err, ◌==◌, ◌||◌, if◌then◌else◌, sym, refl, ap, ◌∙◌, subst, lt_of_not-le, mod-lt, arith}
 use Rattle.std.specs.Prelude.{MatchOption}
 use mathlib.Core.Logic.{dite}
 use native.Mathlib.Decide.{dec_le}
@@ -9,16 +9,16 @@ use Rattle.concurrent_queue.specs.declared.errors.PushError.{PushError}
 use Rattle.concurrent_queue.specs.declared.errors.ForcePushError.{ForcePushError}
 use Rattle.concurrent_queue.specs.declared.steps.bounded.Turn.{Turn}
 use Rattle.concurrent_queue.specs.declared.steps.bounded.Turn.TheVariants.{Tail, Head, Stamp, HeadFor, TailFor, TailAgain, Append, Take, Displace, Advance, Spend, Fill, Drain, End, Close as CloseTurn}
-use Rattle.concurrent_queue.specs.declared.steps.Reply.TheVariants.{Done, Full, Empty, Closed, Yes, No, Length}
-use Rattle.concurrent_queue.specs.ClosableQueue.{most_accepted, IsFull}
-use Rattle.concurrent_queue.specs.Calls.{Call, Push, ForcePush, Pop, Close, Len, IsEmptyCall, IsFullCall, IsClosedCall, Answer, Pushed, ForcePushed, LenIs, EmptyIs, FullIs, ClosedIs}
+use Rattle.concurrent_queue.specs.declared.steps.Reply.TheVariants.{Full, Empty, Closed, Length}
+use Rattle.concurrent_queue.specs.ClosableQueue.{most_accepted}
+use Rattle.concurrent_queue.specs.Calls.{Call, Push, ForcePush, Pop, Len, IsEmptyCall, IsFullCall, IsClosedCall, Pushed, ForcePushed, LenIs, EmptyIs, FullIs, ClosedIs}
 use Rattle.concurrent_queue.specs.Moments.{Sight, AtSome, MayAnswer, MayBeside, WasOpenAndFull}
 use Rattle.concurrent_queue.specs.Ring.{IsShape, word_at, count_at, is_marked}
-use Rattle.concurrent_queue.specs.RingTurns.{answered, pushes_from, appends_at, stamped_for_push, push_turn, displaces_at, force_push_turn, pops_from, stamped_for_pop, pop_turn, len_turn, is_empty_turn, is_full_turn, is_closed_turn}
+use Rattle.concurrent_queue.specs.RingTurns.{answered, pushes_from, appends_at, stamped_for_push, push_turn, displaces_at, force_push_turn, pops_from, stamped_for_pop, pop_turn, len_turn, is_empty_turn, is_full_turn}
 use Rattle.concurrent_queue.specs.SlotSteps.{answer_of}
 use Rattle.concurrent_queue.proofs.RingWords.{index_of_word, count_of_word}
-use Rattle.concurrent_queue.proofs.RingStamps.{bit, tail_word, marked_is, tail_index, tail_count, bare, marked, one_count, one_tail, same_tail, one_slot, one_slot_behind, head_behind, head_behind_marked, a_lap_on}
-use Rattle.concurrent_queue.proofs.RingState.{Phase, free, full, held, Cell, Ghost, Kind, looking, holding, ending, kind_of, Fact, Sure, Both, Past, Gone, Aged, OpenAt, OpenFull, LenAt, EmptyAt, FullAt, Grip, writing, swapping, reading, displacing, up, age, sight_of, Base, ComesTo, WasOpen, WasLong, WasSome, WasNotFull, Knows, PushFits, ForcePushFits, Looks}
+use Rattle.concurrent_queue.proofs.RingStamps.{bit, marked_is, tail_index, tail_count, bare, marked, one_tail, same_tail, one_slot, one_slot_behind, head_behind, head_behind_marked}
+use Rattle.concurrent_queue.proofs.RingState.{Phase, free, full, held, Cell, Ghost, Kind, looking, holding, ending, kind_of, Fact, Sure, Both, Past, Gone, Aged, OpenAt, OpenFull, LenAt, EmptyAt, FullAt, writing, swapping, reading, displacing, up, age, sight_of, Base, ComesTo, WasOpen, WasLong, WasSome, WasNotFull, Knows, PushFits, Looks}
 use Rattle.concurrent_queue.proofs.RingKnows.{at_some, length_is}
 use Rattle.concurrent_queue.proofs.SlotLooks.{is_party, is_other, never}
 
@@ -285,8 +285,8 @@ module _ {T : Type 0} (n m : ℕ) (shape : IsShape n m) (g : Ghost T) (b : Base 
   nothing_comes : (q : ℕ) → g.pushed ≡ q → 2 * q ≤ age (g.cells (q % n)) → (i : Option (ℕ × T)) → ComesTo n m g.cells g.pushed i → i ≡ None
   nothing_comes q is aged None comes = refl
   nothing_comes q is aged (Some i) comes = absurd (
-    let at : age (g.cells (q % n)) ≡ 2 * comes.0 + 1 = subst (λ (x : ℕ). age (g.cells (x % n)) ≡ 2 * comes.0 + 1) is (ap (λ (c : Cell T). age c) comes.3) in
-    let p = comes.2 in let some = shape.some in omega arith)
+      let at : age (g.cells (q % n)) ≡ 2 * comes.0 + 1 = subst (λ (x : ℕ). age (g.cells (x % n)) ≡ 2 * comes.0 + 1) is (ap (λ (c : Cell T). age c) comes.3) in
+      let p = comes.2 in let some = shape.some in omega arith)
 
   pub pop_tail : (older : List (Sight T)) (q : ℕ) → ComesTo n m g.cells g.pushed g.coming → q ≤ g.popped → 2 * q ≤ age (g.cells (q % n))
       → Finds Pop (pop_turn n m (TailFor (word_at n m q)) tail_now) (now ∷ older)
@@ -327,9 +327,16 @@ module _ {T : Type 0} (n m : ℕ) (shape : IsShape n m) (g : Ghost T) (b : Base 
       by false e = len_tail older
 
   pub empty_head : (older : List (Sight T)) → Finds IsEmptyCall (TailFor (word_at n m g.popped)) (now ∷ older)
-  empty_head older = (EmptyAt g.popped, (g.popped, refl, refl), (omega arith, dite (dec_le g.pushed g.popped)
-      (λ le. inl (let z = b.behind in omega arith))
-      (λ not. let more : g.popped < g.pushed = lt_of_not-le not in inr (inl (λ none. let z = ap length none in let l = length_is n m g b in omega arith)))))
+  empty_head older = (
+    EmptyAt g.popped,
+    (g.popped, refl, refl),
+    (
+      omega arith,
+      dite (dec_le g.pushed g.popped)
+          (λ le. inl (let z = b.behind in omega arith))
+          (λ not. let more : g.popped < g.pushed = lt_of_not-le not in inr (inl (λ none. let z = ap length none in let l = length_is n m g b in omega arith))),
+    ),
+  )
 
   is_empty_now : (older : List (Sight T)) → drop g.popped g.all ≡ [] → AtSome (MayAnswer IsEmptyCall (EmptyIs true)) (now ∷ older)
   is_empty_now older none = inl (((λ _. none, λ _. refl), refl), beside_empty g.coming true)
@@ -359,9 +366,16 @@ module _ {T : Type 0} (n m : ℕ) (shape : IsShape n m) (g : Ghost T) (b : Base 
       by false e = then_by (tail_now == word_at n m q + m) e refl
 
   pub full_tail : (older : List (Sight T)) → Finds IsFullCall (HeadFor tail_now) (now ∷ older)
-  full_tail older = (FullAt g.pushed, (g.pushed, g.shut, refl, refl), (omega arith, dite (dec_le (g.popped + n) g.pushed)
-      (λ le. inl (let z = b.within in omega arith))
-      (λ not. let less : g.pushed < g.popped + n = lt_of_not-le not in inr (inl (refl, λ full. let l = length_is n m g b in omega arith)))))
+  full_tail older = (
+    FullAt g.pushed,
+    (g.pushed, g.shut, refl, refl),
+    (
+      omega arith,
+      dite (dec_le (g.popped + n) g.pushed)
+          (λ le. inl (let z = b.within in omega arith))
+          (λ not. let less : g.pushed < g.popped + n = lt_of_not-le not in inr (inl (refl, λ full. let l = length_is n m g b in omega arith))),
+    ),
+  )
 
   is_full_now : (older : List (Sight T)) (c : ℕ) → c ≤ g.pushed → g.popped + n ≡ c → AtSome (MayAnswer IsFullCall (FullIs true)) (now ∷ older)
   is_full_now older c past is = inl (((λ _. (let l = length_is n m g b in let w = b.within in omega arith), λ _. refl), refl), beside_full g.coming true)
@@ -393,11 +407,11 @@ module _ {T : Type 0} (n m : ℕ) (shape : IsShape n m) (g : Ghost T) (b : Base 
 
       bare_not : (d : Bool) → shut ≡ d → g.popped + n ≡ c → (head + 2 * m == tail) ≡ false → (head + 3 * m == tail) ≡ false → ⊥
       bare_not true is at e e' = is_other (head + 3 * m) tail e' (
-        let on = lap in let same = ap (word_at n m) at in
-        let z = marked n m shape c in let w = ap (λ (d : Bool). word_at n m c + bit d * m) is in omega arith)
+          let on = lap in let same = ap (word_at n m) at in
+          let z = marked n m shape c in let w = ap (λ (d : Bool). word_at n m c + bit d * m) is in omega arith)
       bare_not false is at e e' = is_other (head + 2 * m) tail e (
-        let on = lap in let same = ap (word_at n m) at in
-        let z = bare n m shape c in let w = ap (λ (d : Bool). word_at n m c + bit d * m) is in omega arith)
+          let on = lap in let same = ap (word_at n m) at in
+          let z = bare n m shape c in let w = ap (λ (d : Bool). word_at n m c + bit d * m) is in omega arith)
 
       not_full : (head + 2 * m == tail) ≡ false → (head + 3 * m == tail) ≡ false → (g.popped + n ≡ c) ⊎ AtSome (WasNotFull n m) (now ∷ older)
           → AtSome (MayAnswer IsFullCall (FullIs false)) (now ∷ older)

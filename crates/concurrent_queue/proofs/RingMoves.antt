@@ -1,23 +1,17 @@
 -- What stays of a ring while one of its places changes, and its counts go on. n is the number of places, m the mark.
-use Rattle.std.proofs.Common.{◌≡◌, ◌≢◌, ℕ, ◌+◌, ◌*◌, ◌%◌, ◌<◌, ◌≤◌, List, [], ◌∷◌, ◌++◌, length, drop, Bool, true, false, Option, Some, None, ◌==◌, if◌then◌else◌, sym, refl, ap, ap₂, ◌∙◌, subst, eq-eqb, lt_of_not-le, mod-lt, length-append, arith}
+use Rattle.std.proofs.Common.{◌≡◌, ◌≢◌, ℕ, ◌+◌, ◌*◌, ◌%◌, ◌<◌, ◌≤◌, List, [], ◌∷◌, ◌++◌, length, Bool, true, false, Option, Some, ◌==◌, if◌then◌else◌, sym, refl, ap, ◌∙◌, subst, eq-eqb, lt_of_not-le, length-append, arith}
 use Rattle.std.proofs.lemmas.List.{drop-append-le}
 use Rattle.std.proofs.Math.Seq.{drop-append_seam, drop-append-add}
 use mathlib.Core.Logic.{dite}
 use native.Mathlib.Decide.{dec_le}
-use Rattle.concurrent_queue.specs.declared.bounded.Slot.{Slot}
-use Rattle.concurrent_queue.specs.declared.steps.bounded.Turn.{Turn}
 use Rattle.concurrent_queue.specs.declared.steps.bounded.Turn.TheVariants.{Fill, Drain, Advance}
 use Rattle.concurrent_queue.specs.declared.steps.Reply.TheVariants.{Done, Displaced}
-use Rattle.concurrent_queue.specs.ClosableQueue.{ClosableQueue, most_accepted, appended, taken}
-use Rattle.concurrent_queue.specs.Calls.{Call, ForcePush}
-use Rattle.concurrent_queue.specs.Moments.{Progress, sees, with_call}
+use Rattle.concurrent_queue.specs.Calls.{Call}
 use Rattle.concurrent_queue.specs.Ring.{IsShape, word_at}
-use Rattle.concurrent_queue.specs.SlotSteps.{stored}
-use Rattle.concurrent_queue.specs.RingSteps.{Place, Away, Stands, Leaving, with_at}
+use Rattle.concurrent_queue.specs.RingSteps.{Place, with_at}
 use Rattle.concurrent_queue.proofs.RingSlots.{places_differ}
 use Rattle.concurrent_queue.proofs.RingStamps.{same_count, a_lap_on, one_count}
-use Rattle.concurrent_queue.proofs.RingState.{Phase, free, full, held, Cell, cell, Ghost, Kind, looking, holding, ending, kind_of, Grip, writing, swapping, reading, displacing, up, age, slot_of, grip_turn, sight_of, Base, IsAt, Stores, Lies, CellLies, place_of, HeldBy, ComesTo, TiedPlace}
-use Rattle.concurrent_queue.proofs.RingKnows.{Grows, Stays, Keeps, tied_more, tied_still}
+use Rattle.concurrent_queue.proofs.RingState.{Phase, free, full, held, Cell, cell, Ghost, Grip, writing, swapping, reading, displacing, up, grip_turn, Base, IsAt, Stores, Lies, CellLies, HeldBy}
 use Rattle.concurrent_queue.proofs.SlotLooks.{is_party, is_other}
 
 -- a changed function at the place that changed, and at the others
@@ -76,7 +70,7 @@ module _ {T : Type 0} (n m : ℕ) (shape : IsShape n m) (g : Ghost T) (b : Base 
   lies_pushed i p (held j call reading o d) z coming at other k = (
     k.0,
     (let u = k.1 in dite (dec_le (g.pushed + 1) (p + n)) (λ le. le)
-    (λ not. absurd (let l = lt_of_not-le not in let same : p + n ≡ g.pushed = omega arith in other (sym at ∙ sym (a_lap_on n p) ∙ ap (λ (x : ℕ). x % n) same)))),
+        (λ not. absurd (let l = lt_of_not-le not in let same : p + n ≡ g.pushed = omega arith in other (sym at ∙ sym (a_lap_on n p) ∙ ap (λ (x : ℕ). x % n) same)))),
     k.2,
     k.3,
   )

@@ -1,17 +1,15 @@
 -- The steps in a place that is a party's own, and the end of its call. n is the number of places, m the mark.
-use Rattle.std.proofs.Common.{◌≡◌, ◌≢◌, ℕ, ◌+◌, ◌*◌, ◌%◌, ◌<◌, ◌≤◌, List, [], ◌∷◌, Bool, true, false, Option, Some, None, if◌then◌else◌, sym, refl, ap, ◌∙◌, subst, arith}
+use Rattle.std.proofs.Common.{◌≡◌, ◌≢◌, ℕ, ◌+◌, ◌*◌, ◌%◌, ◌<◌, ◌≤◌, [], ◌∷◌, Bool, true, false, Option, Some, None, sym, refl, ap, ◌∙◌, subst, arith}
 use Rattle.concurrent_queue.specs.declared.bounded.Slot.{Slot}
 use Rattle.concurrent_queue.specs.declared.steps.bounded.Turn.{Turn}
-use Rattle.concurrent_queue.specs.declared.steps.bounded.Turn.TheVariants.{Fill, Drain, Advance}
-use Rattle.concurrent_queue.specs.declared.steps.Reply.TheVariants.{Done, Displaced}
-use Rattle.concurrent_queue.specs.Calls.{Call, Pop, ForcePush, Answer}
-use Rattle.concurrent_queue.specs.Moments.{Moment, Ends, Progress, with_call, MayEnd}
+use Rattle.concurrent_queue.specs.Calls.{Call, Answer}
+use Rattle.concurrent_queue.specs.Moments.{Ends, Progress, with_call, MayEnd}
 use Rattle.concurrent_queue.specs.Ring.{IsShape, word_at}
 use Rattle.concurrent_queue.specs.SlotSteps.{answer_of, stored}
 use Rattle.concurrent_queue.specs.RingSteps.{Place, Away, Stands, Leaving, RingWorld, with_at, reply_of, stamp_after}
 use Rattle.concurrent_queue.proofs.RingWords.{word_a_lap_on}
 use Rattle.concurrent_queue.proofs.RingStamps.{a_lap_on}
-use Rattle.concurrent_queue.proofs.RingState.{Phase, free, full, held, Cell, cell, Ghost, Grip, writing, swapping, reading, displacing, up, age, slot_of, grip_turn, scene_of, Base, CellLies, HeldBy, TiedPlace, Tied}
+use Rattle.concurrent_queue.proofs.RingState.{Phase, free, full, held, Cell, cell, Ghost, Grip, writing, swapping, reading, displacing, up, age, slot_of, grip_turn, scene_of, CellLies, HeldBy, Tied}
 use Rattle.concurrent_queue.proofs.RingKnows.{Stays}
 use Rattle.concurrent_queue.proofs.RingMoves.{at_here, NotBy, held_put}
 use Rattle.concurrent_queue.proofs.RingPuts.{Goes, IsSettled, is_moving, from_other, other_calls, keeps, ages, slots_put, rounds, lies, comes, each_still, alone_grip}

@@ -1,20 +1,20 @@
 -- How a ring, its parties and their calls stay tied while one party goes on. n is the number of places, m the mark.
-use Rattle.std.proofs.Common.{◌≡◌, ◌≢◌, ℕ, ◌+◌, ◌*◌, ◌%◌, ◌<◌, ◌≤◌, List, [], ◌∷◌, Bool, true, false, Option, Some, None, ◌==◌, if◌then◌else◌, sym, refl, ap, ◌∙◌, subst, mod-lt, arith}
+use Rattle.std.proofs.Common.{◌≡◌, ◌≢◌, ℕ, ◌+◌, ◌%◌, ◌<◌, ◌≤◌, List, [], ◌∷◌, Bool, true, false, Option, Some, None, ◌==◌, if◌then◌else◌, sym, refl, ap, ◌∙◌, subst, mod-lt, arith}
 use Rattle.concurrent_queue.specs.declared.bounded.Slot.{Slot}
 use Rattle.concurrent_queue.specs.declared.steps.bounded.Turn.{Turn}
 use Rattle.concurrent_queue.specs.declared.steps.bounded.Turn.TheVariants.{Tail, Fill, Drain, Advance}
 use Rattle.concurrent_queue.specs.Calls.{Call, ForcePush, Answer}
-use Rattle.concurrent_queue.specs.Moments.{Moment, Ends, Begins, Sight, Scene, Progress, Run, sees, with_call, MayEnd, IsFromOther, AtSome, MayAnswer}
+use Rattle.concurrent_queue.specs.Moments.{Moment, Ends, Begins, Sight, Progress, Run, sees, with_call, MayEnd, IsFromOther, AtSome, MayAnswer}
 use Rattle.concurrent_queue.specs.Ring.{IsShape, word_at}
-use Rattle.concurrent_queue.specs.SlotSteps.{answer_of, stored}
+use Rattle.concurrent_queue.specs.SlotSteps.{answer_of}
 use Rattle.concurrent_queue.specs.RingSteps.{Place, Away, Stands, Leaving, RingWorld, with_at}
 use Rattle.concurrent_queue.proofs.RingWords.{index_of_word}
 use Rattle.concurrent_queue.proofs.RingStamps.{a_lap_on}
-use Rattle.concurrent_queue.proofs.RingState.{Phase, free, full, held, Cell, cell, Ghost, Kind, looking, holding, ending, kind_of, Grip, writing, swapping, reading, displacing, up, age, slot_of, grip_turn, sight_of, scene_of, Base, CellLies, place_of, HeldBy, ComesTo, StandsAs, TiedPlace, Tied}
+use Rattle.concurrent_queue.proofs.RingState.{Phase, free, full, held, Cell, cell, Ghost, Kind, looking, holding, ending, kind_of, Grip, writing, swapping, reading, displacing, age, slot_of, grip_turn, sight_of, scene_of, Base, CellLies, place_of, HeldBy, ComesTo, StandsAs, TiedPlace, Tied}
 use Rattle.concurrent_queue.proofs.RingKnows.{Grows, Stays, Keeps, tied_more, tied_still}
 use Rattle.concurrent_queue.proofs.RingLooks.{FindsAs, Finds}
 use Rattle.concurrent_queue.proofs.RingMoves.{at_here, at_put, NotBy, held_moved, grip_once}
-use Rattle.concurrent_queue.proofs.SlotLooks.{is_party, is_other, never}
+use Rattle.concurrent_queue.proofs.SlotLooks.{never}
 
 abbrev is_advance : Turn → Bool
 is_advance (Advance t) = true
@@ -97,9 +97,9 @@ module _ {T : Type 0} (n m : ℕ) (shape : IsShape n m) where
         by d free k here = tt
         by d (full x) k here = tt
         by d (held q call grip' o b) k here = λ same. other (
-          let e : grip_turn n m d grip' ≡ grip_turn n m c grip =
-          sym (turn_is d call grip' o b) ∙ ap turn_at (sym k) ∙ ap (λ (r : ℕ). turn_at (w.places r)) same ∙ turn in
-          sym here ∙ ap (λ (x : ℕ). x % n) (grip_once n m shape g tied.base d c grip' grip e) ∙ at)
+            let e : grip_turn n m d grip' ≡ grip_turn n m c grip =
+            sym (turn_is d call grip' o b) ∙ ap turn_at (sym k) ∙ ap (λ (r : ℕ). turn_at (w.places r)) same ∙ turn in
+            sym here ∙ ap (λ (x : ℕ). x % n) (grip_once n m shape g tied.base d c grip' grip e) ∙ at)
 
     -- the item on its way in is not of a party that owes no append
     pub from_other : is_moving (w.places p) ≡ false → IsFromOther g.coming p

@@ -1,12 +1,11 @@
 -- What two words of a ring that are the same tell of their counts. n is the number of places, m the mark.
-use Rattle.std.proofs.Common.{◌≡◌, ◌≢◌, ℕ, ◌+◌, ◌*◌, ◌/◌, ◌%◌, ◌<◌, ◌≤◌, Bool, true, false, ◌==◌, sym, refl, ap, ap₂, ◌∙◌, subst, zero-mul, div-add-mod', mod-lt, lt_of_not-le, arith}
+use Rattle.std.proofs.Common.{◌≡◌, ℕ, ◌+◌, ◌*◌, ◌/◌, ◌%◌, ◌<◌, ◌≤◌, Bool, true, false, ◌==◌, sym, refl, ap, ap₂, ◌∙◌, zero-mul, div-add-mod', lt_of_not-le, arith}
 use Rattle.std.proofs.Math.Arith.{digits_div, digits_mod}
-use Rattle.std.proofs.lemmas.Bool.Decides.{nat_tests}
 use mathlib.Core.Logic.{dite}
 use native.Mathlib.Decide.{dec_le}
 use native.Mathlib.Nat.{add-mod_right}
 use Rattle.concurrent_queue.specs.Ring.{IsShape, word_at, count_at, is_marked}
-use Rattle.concurrent_queue.proofs.RingWords.{index_of, index_of_word, marked_by, count_of, word_a_lap_on}
+use Rattle.concurrent_queue.proofs.RingWords.{index_of, marked_by, count_of, word_a_lap_on}
 use Rattle.concurrent_queue.proofs.RingSlots.{places_differ}
 
 abbrev pub bit : Bool → ℕ

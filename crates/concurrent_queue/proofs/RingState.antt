@@ -6,8 +6,8 @@ use Rattle.concurrent_queue.specs.declared.steps.bounded.Turn.TheVariants.{Tail,
 use Rattle.concurrent_queue.specs.declared.steps.Reply.{Reply}
 use Rattle.concurrent_queue.specs.declared.steps.Reply.TheVariants.{Done, Displaced}
 use Rattle.concurrent_queue.specs.ClosableQueue.{ClosableQueue, most_accepted}
-use Rattle.concurrent_queue.specs.Calls.{Call, Push, ForcePush, Pop, Close, Len, IsEmptyCall, IsFullCall, IsClosedCall, Answer}
-use Rattle.concurrent_queue.specs.Moments.{Sight, Progress, Scene, AtSome, MayAnswer, MayEnd, WasOpenAndFull}
+use Rattle.concurrent_queue.specs.Calls.{Call, Push, ForcePush, Pop, Close, Len, IsEmptyCall, IsFullCall, IsClosedCall}
+use Rattle.concurrent_queue.specs.Moments.{Sight, Progress, Scene, AtSome, MayEnd, WasOpenAndFull}
 use Rattle.concurrent_queue.specs.Ring.{word_at}
 use Rattle.concurrent_queue.specs.SlotSteps.{answer_of, stored}
 use Rattle.concurrent_queue.specs.RingSteps.{Place, Away, Stands, Leaving, RingWorld, reply_of}

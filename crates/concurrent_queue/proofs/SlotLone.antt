@@ -1,14 +1,14 @@
 -- A call on a single slot that begins while no other is in progress ends.
-use Rattle.std.proofs.Common.{◌≡◌, ◌≢◌, ◌⊎◌, inl, inr, ℕ, suc, ◌+◌, ◌-◌, ◌%◌, ◌<◌, ◌≤◌, List, [], ◌∷◌, Bool, true, false, nat_lt, Option, Some, None, ◌==◌, if◌then◌else◌, sym, refl, ap, ◌∙◌, subst, eq-eqb, arith}
+use Rattle.std.proofs.Common.{◌≡◌, ◌≢◌, ◌⊎◌, inl, inr, ℕ, suc, ◌+◌, ◌-◌, ◌%◌, ◌≤◌, List, [], ◌∷◌, Bool, true, false, nat_lt, Option, Some, None, ◌==◌, if◌then◌else◌, sym, refl, ap, ◌∙◌, subst, arith}
 use Rattle.concurrent_queue.specs.declared.steps.single.Turn.{Turn}
 use Rattle.concurrent_queue.specs.declared.steps.single.Turn.TheVariants.{Look, Exchange, Unlock, End, Close as CloseTurn}
 use Rattle.concurrent_queue.specs.declared.steps.Reply.{Reply}
 use Rattle.concurrent_queue.specs.declared.steps.Reply.TheVariants.{Done, Displaced, Full, Empty, Closed, Yes, No, Length}
 use Rattle.concurrent_queue.specs.Calls.{Call, Push, ForcePush, Pop, Close, Len, IsEmptyCall, IsFullCall, IsClosedCall}
 use Rattle.concurrent_queue.specs.Moments.{Scene}
-use Rattle.concurrent_queue.specs.SlotSteps.{Place, Away, Stands, Inside, Leaving, SlotWorld, Step, Begin, Go, turn_of, first_turn, stored, word_after, placed, with_place, begun, moved, gone, stepped, run, new_slot, new_scene}
+use Rattle.concurrent_queue.specs.SlotSteps.{Place, Away, Stands, Inside, Leaving, SlotWorld, Step, Begin, Go, turn_of, first_turn, word_after, placed, with_place, begun, moved, gone, stepped, run, new_slot, new_scene}
 use Rattle.concurrent_queue.specs.LoneCalls.{goes, EndsOnSlot}
-use Rattle.concurrent_queue.proofs.SlotLooks.{Phase, free, held, is_party, is_other, never, word_of, sight_of, hits, unlocked_word, same_word}
+use Rattle.concurrent_queue.proofs.SlotLooks.{Phase, free, held, is_party, never, word_of, sight_of, hits, unlocked_word, same_word}
 use Rattle.concurrent_queue.proofs.SlotRuns.{TiedPlace, Tied, step_by, new_tied}
 
 close_parity : (word : ℕ) → word_after CloseTurn word % 2 ≡ word % 2
@@ -89,9 +89,9 @@ module _ {T : Type 0} where
   go_locked w s p (Stands call (End r)) tied is k locked = λ odd. still_in w.places p Away (ap IsIn is) (locked odd)
   go_locked w s p (Inside call r) tied is k locked = λ odd. is_in w.places p (Leaving call r w.slot) refl
   go_locked w s p (Leaving call r o) tied is k locked = λ odd. absurd (
-    let before = k.3.0 in let after = k.3.1 in
-    let even : (w.word - 1) % 2 ≡ 0 = ap (λ (x : ℕ). (x - 1) % 2) (tied.word ∙ ap (word_of tied.shut) k.3.2) ∙ ap (λ (x : ℕ). x % 2) (unlocked_word tied.shut p before after) ∙ even_free tied.shut after in
-    let both : 0 ≡ 1 = sym even ∙ odd in omega arith)
+      let before = k.3.0 in let after = k.3.1 in
+      let even : (w.word - 1) % 2 ≡ 0 = ap (λ (x : ℕ). (x - 1) % 2) (tied.word ∙ ap (word_of tied.shut) k.3.2) ∙ ap (λ (x : ℕ). x % 2) (unlocked_word tied.shut p before after) ∙ even_free tied.shut after in
+      let both : 0 ≡ 1 = sym even ∙ odd in omega arith)
 
   step_locked : (w : SlotWorld T) (s : Scene T) (step : Step T) → Tied w s → LockedBy w → LockedBy (stepped w step)
   step_locked w s (Begin p call) tied locked = begin_locked w p call (w.places p) refl locked
@@ -109,8 +109,8 @@ module _ {T : Type 0} where
       by : (ph : Phase T) → w.word ≡ word_of tied.shut ph → (o : Option T) × (w.word ≡ word_of tied.shut (free o))
       by (free o) is = (o, is)
       by (held p b a d) is = absurd (
-        let someone = locked (ap (λ (x : ℕ). x % 2) is ∙ odd_held tied.shut p b a d) in
-        never (sym (ap IsIn (all_away someone.0)) ∙ someone.1))
+          let someone = locked (ap (λ (x : ℕ). x % 2) is ∙ odd_held tied.shut p b a d) in
+          never (sym (ap IsIn (all_away someone.0)) ∙ someone.1))
 
   -- the party is in no call after so many steps of its own, at most
   abbrev Within : ℕ → SlotWorld T → ℕ → Type 0

@@ -1,15 +1,14 @@
 -- What a step on the word of a single slot comes to, in each phase of the slot.
-use Rattle.std.proofs.Common.{◌≡◌, ◌≢◌, ◌⊎◌, inl, inr, ℕ, ◌-◌, ◌<◌, List, [], ◌∷◌, ◌++◌, Bool, true, false, not, nat_lt, Option, Some, None, ◌==◌, if◌then◌else◌, option_to_list, sym, refl, ap, ◌∙◌, subst, eq-eqb, arith}
+use Rattle.std.proofs.Common.{◌≡◌, ◌≢◌, ◌⊎◌, inl, inr, ℕ, ◌-◌, [], ◌∷◌, Bool, true, false, not, nat_lt, Option, Some, None, ◌==◌, if◌then◌else◌, option_to_list, sym, refl, ap, ◌∙◌, eq-eqb, arith}
 use Rattle.concurrent_queue.specs.declared.steps.single.Turn.{Turn}
 use Rattle.concurrent_queue.specs.declared.steps.single.Turn.TheVariants.{Look, Exchange, Unlock, End, Close as CloseTurn}
 use Rattle.concurrent_queue.specs.declared.steps.Reply.{Reply}
-use Rattle.concurrent_queue.specs.declared.steps.Reply.TheVariants.{Done, Displaced, Yes, No}
-use Rattle.concurrent_queue.specs.ClosableQueue.{ClosableQueue}
-use Rattle.concurrent_queue.specs.Calls.{Call, Push, ForcePush, Pop, Close, Len, IsEmptyCall, IsFullCall, IsClosedCall, Answer, WasClosed, Acts}
-use Rattle.concurrent_queue.specs.Moments.{Moment, Does, Ends, Scene, Sight, Progress, Run, sees, becomes, answers, with_call, MayBeside, MayAnswer, MayEnd, AtSome, IsFromOther}
+use Rattle.concurrent_queue.specs.declared.steps.Reply.TheVariants.{Done, Displaced}
+use Rattle.concurrent_queue.specs.Calls.{Call, Push, ForcePush, Pop, Close, Len, IsEmptyCall, IsFullCall, IsClosedCall, Acts}
+use Rattle.concurrent_queue.specs.Moments.{Sight, MayAnswer}
 use Rattle.std.proofs.lemmas.Bool.Decides.{nat_tests}
 use Rattle.concurrent_queue.specs.SingleTurns.{looked_to_push, looked_to_force, looked_to_pop}
-use Rattle.concurrent_queue.specs.SlotSteps.{Place, Away, Stands, Inside, Leaving, SlotWorld, Step, Begin, Go, turn_of, first_turn, is_yes, answer_of, stored, word_after, placed, with_place, begun, moved, gone, stepped, begin_moments, turn_moments, go_moments, moments, run, trace, new_slot, new_scene, IsClosableQueue}
+use Rattle.concurrent_queue.specs.SlotSteps.{turn_of, first_turn, answer_of, stored, word_after}
 
 -- nobody has the slot, or the party p has it, which had one thing in it and is to have another, and has it by now or not
 pub data Phase (T : Type 0) : Type 0 where

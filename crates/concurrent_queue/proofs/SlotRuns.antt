@@ -1,16 +1,14 @@
 -- Every list of steps on a single slot is a run of the closable queue.
-use Rattle.std.proofs.Common.{◌≡◌, ◌≢◌, ◌⊎◌, inl, inr, ℕ, ◌-◌, ◌<◌, List, [], ◌∷◌, ◌++◌, Bool, true, false, not, nat_lt, Option, Some, None, ◌==◌, if◌then◌else◌, option_to_list, sym, refl, ap, ◌∙◌, subst, eq-eqb, arith}
+use Rattle.std.proofs.Common.{◌≡◌, ◌≢◌, inl, inr, ℕ, ◌-◌, ◌<◌, List, [], ◌∷◌, ◌++◌, Bool, true, false, nat_lt, Option, Some, None, ◌==◌, if◌then◌else◌, sym, refl, ap, ◌∙◌, subst, arith}
 use Rattle.concurrent_queue.specs.declared.steps.single.Turn.{Turn}
 use Rattle.concurrent_queue.specs.declared.steps.single.Turn.TheVariants.{Look, Exchange, Unlock, End, Close as CloseTurn}
 use Rattle.concurrent_queue.specs.declared.steps.Reply.{Reply}
-use Rattle.concurrent_queue.specs.declared.steps.Reply.TheVariants.{Done, Displaced, Yes, No}
+use Rattle.concurrent_queue.specs.declared.steps.Reply.TheVariants.{Yes, No}
 use Rattle.concurrent_queue.specs.ClosableQueue.{ClosableQueue}
 use Rattle.concurrent_queue.specs.Calls.{Call, Push, ForcePush, Pop, Close, Len, IsEmptyCall, IsFullCall, IsClosedCall, Answer, WasClosed, Acts}
 use Rattle.concurrent_queue.specs.Moments.{Moment, Does, Ends, Scene, Sight, Progress, Run, sees, becomes, answers, with_call, MayBeside, MayAnswer, MayEnd, AtSome, IsFromOther}
-use Rattle.std.proofs.lemmas.Bool.Decides.{nat_tests}
-use Rattle.concurrent_queue.specs.SingleTurns.{looked_to_push, looked_to_force, looked_to_pop}
 use Rattle.concurrent_queue.specs.SlotSteps.{Place, Away, Stands, Inside, Leaving, SlotWorld, Step, Begin, Go, turn_of, first_turn, is_yes, answer_of, stored, word_after, placed, with_place, begun, moved, gone, stepped, begin_moments, turn_moments, go_moments, moments, run, trace, new_slot, new_scene, IsClosableQueue}
-use Rattle.concurrent_queue.proofs.SlotLooks.{Phase, free, held, is_party, is_other, word_of, content, item, sight_of, Exchanges, LooksFirst, Finds, looks, Hits, hits, misses, closed_word, open_word, done_word, unlocked_word}
+use Rattle.concurrent_queue.proofs.SlotLooks.{Phase, free, held, is_party, is_other, word_of, content, item, sight_of, Exchanges, LooksFirst, Finds, looks, hits, misses, closed_word, open_word, done_word, unlocked_word}
 
 module _ {T : Type 0} where
   -- what is known of a call before its next step on the word

@@ -2,7 +2,7 @@
 -- a ring, after every list of steps.
 use Rattle.std.specs.Prelude.{◌≡◌, ℕ, zero, suc, ◌≤◌, List, [], ◌∷◌}
 use Rattle.concurrent_queue.specs.Calls.{Call}
-use Rattle.concurrent_queue.specs.SlotSteps.{Step, Begin, Go, SlotWorld, Away as AwayFromSlot, run as run_slot, stepped as slot_stepped, new_slot}
+use Rattle.concurrent_queue.specs.SlotSteps.{Step, Begin, Go, Away as AwayFromSlot, run as run_slot, stepped as slot_stepped, new_slot}
 use Rattle.concurrent_queue.specs.ChainSteps.{Step as ChainStep, Begin as BeginOnChain, Go as GoOnChain, Away as AwayFromChain, run as run_chain, stepped as chain_stepped, new_chain}
 use Rattle.concurrent_queue.specs.RingSteps.{Away as AwayFromRing, run as run_ring, stepped as ring_stepped, new_ring}
 

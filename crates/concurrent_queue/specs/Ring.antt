@@ -24,6 +24,10 @@ next_at n m w = if nat_lt (w % m + 1) n then w + 1 else w - w % m + 2 * m
 unfoldable pub is_marked : ℕ → ℕ → Bool
 is_marked m w = w / m % 2 == 1
 
+-- the tail of the next place after a tail without mark, with the mark of the tail that was found
+abbrev pub advanced_at : ℕ → ℕ → ℕ → ℕ → ℕ
+advanced_at n m tail found = if is_marked m found then next_at n m tail + m else next_at n m tail
+
 -- it names a place, and a ring that accepts no more items than it may comes to it
 pub record IsPlaceWord (n m w : ℕ) : Type 0 where
   pub index : w % m < n

@@ -1,15 +1,15 @@
 -- A ring on which several parties call, step by step, and the moments that its steps are. A step loads or exchanges one
 -- word, or is done in a place by the party whose own it is. n is the number of places, m the mark above their indexes.
-use Rattle.std.specs.Prelude.{◌≡◌, ℕ, zero, suc, ◌+◌, ◌-◌, ◌*◌, ◌%◌, ◌<◌, ◌≤◌, ◌^◌, List, [], ◌∷◌, ◌++◌, length, Bool, not, Option, Some, None, IsSome, ◌==◌, if◌then◌else◌}
+use Rattle.std.specs.Prelude.{◌≡◌, ℕ, ◌+◌, ◌*◌, ◌%◌, ◌<◌, ◌^◌, List, [], ◌∷◌, ◌++◌, length, not, Option, Some, None, IsSome, ◌==◌, if◌then◌else◌}
 use Rattle.concurrent_queue.specs.declared.bounded.Slot.{Slot}
 use Rattle.concurrent_queue.specs.declared.steps.bounded.Turn.{Turn}
-use Rattle.concurrent_queue.specs.declared.steps.bounded.Turn.TheVariants.{Tail, Head, Stamp, HeadFor, TailFor, TailAgain, Append, Take, Displace, Advance, Spend, Fill, Drain, End, Close as CloseTurn}
+use Rattle.concurrent_queue.specs.declared.steps.bounded.Turn.TheVariants.{Tail, Head, Stamp, HeadFor, Append, Take, Displace, Advance, Spend, Fill, Drain, End, Close as CloseTurn}
 use Rattle.concurrent_queue.specs.declared.steps.Reply.{Reply}
 use Rattle.concurrent_queue.specs.declared.steps.Reply.TheVariants.{Done, Displaced, Closed}
 use Rattle.concurrent_queue.specs.ClosableQueue.{new_queue}
 use Rattle.concurrent_queue.specs.Calls.{Call, Push, ForcePush, Pop, Close, Len, IsEmptyCall, IsFullCall, IsClosedCall, WasClosed}
 use Rattle.concurrent_queue.specs.Moments.{Moment, Begins, Does, Displaces, Arrives, Ends, Scene, Run}
-use Rattle.concurrent_queue.specs.Ring.{next_at, count_at, is_marked}
+use Rattle.concurrent_queue.specs.Ring.{next_at, advanced_at, count_at, is_marked}
 use Rattle.concurrent_queue.specs.RingTurns.{push_turn, force_push_turn, pop_turn, close_turn, len_turn, is_empty_turn, is_full_turn, is_closed_turn}
 use Rattle.concurrent_queue.specs.SlotSteps.{Step, Begin, Go, answer_of, stored}
 
@@ -40,7 +40,7 @@ module _ (n m : ℕ) where
   -- the tail after a step; a move that a displacement owes keeps the mark, whoever set it
   abbrev pub tail_after : Turn → ℕ → ℕ
   tail_after (Append t) tail = if tail == t then next_at n m t else tail
-  tail_after (Advance t) tail = if is_marked m tail then next_at n m t + m else next_at n m t
+  tail_after (Advance t) tail = advanced_at n m t tail
   tail_after (Spend t) tail = if tail == t then tail + m else tail
   tail_after CloseTurn tail = if is_marked m tail then tail else tail + m
   tail_after _ tail = tail

@@ -3,7 +3,8 @@ ghost use Rattle.std.specs.Prelude.{◌<◌};
 mod shared;
 mod threads;
 
-use crate::steps::bounded::Shape;
+use crate::steps::Reply;
+use crate::steps::bounded::{self as ring, Shape, Turn};
 use crate::{Exclusive, ForcePushError, NoMemory, PopError, PushError};
 use std::alloc::AllocGlobal;
 use std::process::Abort;
@@ -171,6 +172,20 @@ fn the_mark_is_the_least_power_of_two_above_the_indexes(rt: HostRuntime) {
         assert_eq!(rt; shape.mark, mark);
         assert_eq!(rt; shape.lap(), 2 * mark);
     }
+}
+
+#[test]
+fn a_forced_push_keeps_a_close_that_came_in_between(rt: HostRuntime) {
+    let shape = Shape {
+        capacity: 2,
+        mark: 4,
+    };
+    let turn = ring::force_push(shape, Turn::Displace(9), 1);
+    assert_eq!(rt; turn, Turn::Advance(9));
+    assert_eq!(rt; shape.advance(9, 9), 16);
+    assert_eq!(rt; shape.advance(9, 13), 20);
+    let turn = ring::force_push(shape, turn, 13);
+    assert_eq!(rt; turn, Turn::Fill(9, Reply::Displaced));
 }
 
 #[test]

@@ -3,7 +3,7 @@
 //! A tail or a head is the index of a place plus a lap for each time round. The tail also carries the ring's mark once
 //! the ring is closed. A place's stamp is the tail that may fill it, or one more than the tail that filled it.
 ghost use Rattle.std.specs.Prelude.{◌≡◌, ℕ, ◌+◌, ◌*◌, ◌%◌, ◌<◌, ◌^◌, ◌==◌};
-ghost use Rattle.concurrent_queue.specs.Ring.{IsShape, IsPlaceWord, count_at, next_at, is_marked};
+ghost use Rattle.concurrent_queue.specs.Ring.{IsShape, IsPlaceWord, count_at, next_at, advanced_at, is_marked};
 ghost use Rattle.concurrent_queue.specs.RingTurns.{answered, pushes_from, appends_at, stamped_for_push, displaces_at, pops_from, stamped_for_pop};
 ghost use Rattle.concurrent_queue.specs.RingTurns.{push_turn, force_push_turn, pop_turn, close_turn, len_turn, is_empty_turn, is_full_turn, is_closed_turn};
 
@@ -68,6 +68,21 @@ impl Shape {
             word + 1
         } else {
             word - index + self.lap()
+        }
+    }
+
+    /// The tail that the append of a displacement leaves: the next one after this tail, with the mark of the tail that
+    /// was found, since a close may have come between the displacement and its append.
+    pub fn advance(self, tail: u64, found: u64) -> u64
+        requires place { IsPlaceWord self.capacity self.mark tail }
+        requires room { next_at self.capacity self.mark tail + self.mark < 2 ^ 64 }
+        ensures { result ≡ advanced_at self.capacity self.mark tail found }
+    {
+        let next = self.next(tail);
+        if self.is_marked(found) {
+            next + self.mark
+        } else {
+            next
         }
     }
 

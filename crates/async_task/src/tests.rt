@@ -1,6 +1,7 @@
 mod executor;
 mod parts;
 mod rows;
+mod telling;
 mod threads;
 
 use crate::tests::executor::Sum;

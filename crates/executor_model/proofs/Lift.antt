@@ -20,6 +20,7 @@ use Rattle.executor_model.specs.declared.step.Hint.{Hint}
 use Rattle.executor_model.specs.declared.step.Step.{Step}
 use Rattle.executor_model.specs.declared.step.Step.TheVariants.{Begin, Go, Answer}
 use Rattle.executor_model.specs.declared.step.StepError.{StepError}
+use Rattle.executor_model.specs.declared.step.StepError.TheVariants.{Busy, NoSuch, Gone, Borrowed, WrongAnswer}
 use Rattle.executor_model.specs.declared.step.UserEnd.{UserEnd}
 use Rattle.executor_model.specs.declared.step.UserEnd.TheVariants as end
 use Rattle.executor_model.specs.World.{World, Done, done, log, task}
@@ -178,6 +179,140 @@ good-end s p os w (Some (op.End a held)) h e good =
     subst (λ (ss : List (List Op)). Good (record { world = log w (event.CallEnded p a); parties = ss })) (ap (set (set s.parties p os) p) (append-nil (below_top os)) ∙ set-set s.parties p os (below_top os)) k
 good-end s p os w (Some _) h e good = good
 
+set-own : (ss : List (List Op)) (p : ℕ) → p < length ss → set ss p (get_or ss p []) ≡ ss
+set-own [] p h = refl
+set-own (s ∷ ss) zero h = refl
+set-own (s ∷ ss) (suc p) h = ap (λ (l : List (List Op)). s ∷ l) (set-own ss p (omega (arith, h)))
+
 pub good-onto : (s : Machine) (p : ℕ) (old rest : List Op) (d : Done) → p < length s.parties → stack s p ≡ rest ++ reverse old → KeepsHere s.world old d (set s.parties p rest) → Grows s.world old d → Good s → Good (with_part s p (onto p d rest))
 good-onto s p old rest d h e keeps grows good = good-end s p (rest ++ reverse d.next) d.world _ h refl (good-unsettled s p old rest d h e keeps grows good)
 
+-- the step of a party that goes on
+
+good-go : (s : Machine) (p : ℕ) (h : Hint) (o : Option Op) → p < length s.parties → top (stack s p) ≡ o → Good s → Good (with_part s p (gone_on p s.world (stack s p) o (λ x. act p h x s.world)))
+good-go s p h None l e good = subst (λ (ss : List (List Op)). Good (record { world = s.world; parties = ss })) (sym (set-own s.parties p l)) good
+good-go s p h (Some o) l e good =
+    let q : stack s p ≡ below_top (stack s p) ++ reverse (o ∷ []) = topped _ o e in
+    let z : weigh (past_of (length s.world.tasks)) (o ∷ []) ≡ 0 = omega (arith, good.ops, split (past_of (length s.world.tasks)) s.parties p (o ∷ []) (below_top (stack s p)) l q) in
+    good-onto s p (o ∷ []) (below_top (stack s p)) (act p h o s.world) l q (λ g. sound-act p h o s.world good.fits.awaiting good.fits.waking z g _) (grows-act p h o s.world) good
+
+-- the end of user code
+
+grows-react : (p : ℕ) (o : Op) (e : UserEnd) (w : World) → accepts o e ≡ true → Grows w (o ∷ []) (react p o e w)
+grows-react p (op.Poll f) (end.Polled answer.Pending) w a h k = grind arith
+grows-react p (op.Poll f) (end.Polled answer.Ready) w a h k = grind arith
+grows-react p (op.Drop f) end.Done w a h k = grind arith
+grows-react p (op.DropOutput f) end.Done w a h k = grind arith
+grows-react p (op.CallOutside x) end.Done w a h k = grind arith
+grows-react p _ _ w a h k = absurd (cc)
+
+keeps-react : (p : ℕ) (o : Op) (e : UserEnd) (w : World) → accepts o e ≡ true → Keeps w (o ∷ []) (react p o e w)
+keeps-react p (op.Poll f) (end.Polled answer.Pending) w a g r h = sound-pending p w f g r h
+keeps-react p (op.Poll f) (end.Polled answer.Ready) w a g r h = sound-ready p w f g r h
+keeps-react p (op.Drop f) end.Done w a g r h = h
+keeps-react p (op.DropOutput f) end.Done w a g r h = h
+keeps-react p (op.CallOutside x) end.Done w a g r h = h
+keeps-react p _ _ w a g r h = absurd (cc)
+
+accepted : (b : Bool) → unless b WrongAnswer None ≡ None → b ≡ true
+accepted true e = refl
+accepted false e = absurd (cc)
+
+good-answer : (s : Machine) (p : ℕ) (e : UserEnd) (o : Option Op) → p < length s.parties → top (stack s p) ≡ o → answer_refusal o e ≡ None → Good s → Good (with_part s p (gone_on p s.world (stack s p) o (λ x. react p x e s.world)))
+good-answer s p e None l q n good = absurd (cc)
+good-answer s p e (Some o) l q n good =
+    let a : accepts o e ≡ true = accepted (accepts o e) n in
+    good-onto s p (o ∷ []) (below_top (stack s p)) (react p o e s.world) l (topped _ o q) (λ g. keeps-react p o e s.world a g _) (grows-react p o e s.world a) good
+
+-- the beginning of a call
+
+-- no poll of g is in progress where no call uses the executor
+polls-borrow : (g : ℕ) (o : Op) → polls_of g o ≤ borrowing_of o
+polls-borrow g (op.TakeToPoll f) = grind (arith, same_is)
+polls-borrow g (op.Poll f) = grind (arith, same_is)
+polls-borrow g op.Enter = omega arith
+polls-borrow g op.Take = omega arith
+polls-borrow g op.LookAtTable = omega arith
+polls-borrow g (op.Append f) = omega arith
+polls-borrow g (op.WakeByReference f) = omega arith
+polls-borrow g (op.Wake f) = omega arith
+polls-borrow g (op.Release f) = omega arith
+polls-borrow g (op.SettleClosed f) = omega arith
+polls-borrow g (op.GiveUp f) = omega arith
+polls-borrow g (op.EndClosed f) = omega arith
+polls-borrow g (op.DropRunnable f) = omega arith
+polls-borrow g (op.Cancel f) = omega arith
+polls-borrow g (op.Detach f) = omega arith
+polls-borrow g (op.TakeToDrop f) = omega arith
+polls-borrow g (op.BeginDrop f) = omega arith
+polls-borrow g (op.Drop f) = omega arith
+polls-borrow g (op.LeaveTable f) = omega arith
+polls-borrow g (op.BeginDropOutput f) = omega arith
+polls-borrow g (op.DropOutput f) = omega arith
+polls-borrow g (op.LookAgain f) = omega arith
+polls-borrow g (op.CallOutside f) = omega arith
+polls-borrow g (op.TakeUp f) = omega arith
+polls-borrow g (op.PutBack f) = omega arith
+polls-borrow g (op.EndPending f) = omega arith
+polls-borrow g (op.EndReady f) = omega arith
+polls-borrow g (op.CopyWaker f held) = omega arith
+polls-borrow g (op.Look f a) = omega arith
+polls-borrow g (op.CopyAwaiter f a) = omega arith
+polls-borrow g (op.Register f a k) = omega arith
+polls-borrow g (op.EndRegister f a k) = omega arith
+polls-borrow g (op.Notify f m) = omega arith
+polls-borrow g (op.EndNotify f m) = omega arith
+polls-borrow g (op.CallAwaiter f a k) = omega arith
+polls-borrow g op.TakeOut = omega arith
+polls-borrow g op.DropNext = omega arith
+polls-borrow g op.WakeNext = omega arith
+polls-borrow g op.Close = omega arith
+polls-borrow g op.Drain = omega arith
+polls-borrow g (op.End a held) = omega arith
+
+polls-borrow-stack : (g : ℕ) (os : List Op) → weigh (polls_of g) os ≤ weigh borrowing_of os
+polls-borrow-stack g [] = omega arith
+polls-borrow-stack g (o ∷ os) = omega (arith, polls-borrow g o, polls-borrow-stack g os)
+
+polls-borrow-all : (g : ℕ) (ss : List (List Op)) → weigh_all (polls_of g) ss ≤ weigh_all borrowing_of ss
+polls-borrow-all g [] = omega arith
+polls-borrow-all g (s ∷ ss) = omega (arith, polls-borrow-stack g s, polls-borrow-all g ss)
+
+-- a call that leaves the executor as it was
+abbrev pub Begins : World → Done → List (List Op) → Type 0
+Begins w d others = KeepsHere w [] d others × Grows w [] d
+
+begins-log : (w : World) (p : ℕ) (c : Call) → Keeps w [] (done (log w (event.CallBegun p c)) [])
+begins-log w p c g r h = grind (arith, phase-push)
+
+-- the call is on the executor, which isn't gone
+begins-on : (w : World) (p : ℕ) (c : Call) (o : Op) → (o ≡ op.Enter) ⊎ ((o ≡ op.Take) ⊎ (o ≡ op.LookAtTable)) → w.gone ≡ false → Keeps w [] (done (log w (event.CallBegun p c)) (o ∷ []))
+begins-on w p c o e n = ⊎_elim (λ (x : o ≡ op.Enter). subst (λ (y : Op). Keeps w [] (done (log w (event.CallBegun p c)) (y ∷ []))) (sym x) enters) (⊎_elim (λ (x : o ≡ op.Take). subst (λ (y : Op). Keeps w [] (done (log w (event.CallBegun p c)) (y ∷ []))) (sym x) takes) (λ (x : o ≡ op.LookAtTable). subst (λ (y : Op). Keeps w [] (done (log w (event.CallBegun p c)) (y ∷ []))) (sym x) looks)) e
+  where
+    enters : Keeps w [] (done (log w (event.CallBegun p c)) (op.Enter ∷ []))
+    enters g r h = grind (arith, phase-push)
+
+    takes : Keeps w [] (done (log w (event.CallBegun p c)) (op.Take ∷ []))
+    takes g r h = grind (arith, phase-push)
+
+    looks : Keeps w [] (done (log w (event.CallBegun p c)) (op.LookAtTable ∷ []))
+    looks g r h = grind (arith, phase-push)
+
+-- the kept waker k is used up
+kept-used : (w : World) (k f : ℕ) → slice_index_or w.wakers k None ≡ Some f → slice_get w.wakers k ≡ Some (Some f)
+kept-used w k f e = go w.wakers k e
+  where
+    go : (ws : List (Option ℕ)) (k : ℕ) → slice_index_or ws k None ≡ Some f → slice_get ws k ≡ Some (Some f)
+    go [] k e = absurd (cc)
+    go (x ∷ ws) zero e = ap (λ (y : Option ℕ). let z : Option (Option ℕ) = Some y in z) e
+    go (x ∷ ws) (suc k) e = go ws k e
+
+begins-wake : (w : World) (p k f : ℕ) (c : Call) → slice_get w.wakers k ≡ Some (Some f) → Keeps w [] (done (used_up (log w (event.CallBegun p c)) k) (op.Wake f ∷ op.End reply.Done hold.Nothing ∷ []))
+begins-wake w p k f c e g r h = let z : _ = wakers_of-used g f k w.wakers e in grind (arith, same_is, phase-push)
+
+begins-release : (w : World) (p k f : ℕ) (c : Call) → slice_get w.wakers k ≡ Some (Some f) → Keeps w [] (done (used_up (log w (event.CallBegun p c)) k) (op.Release f ∷ op.End reply.Done hold.Nothing ∷ []))
+begins-release w p k f c e g r h = let z : _ = wakers_of-used g f k w.wakers e in grind (arith, same_is, phase-push)
+
+-- the drop of the executor, where no call uses it
+begins-drop : (w : World) (p : ℕ) (c : Call) (g : ℕ) (r : Pend) → w.gone ≡ false → r.borrowing ≡ 0 → r.polls ≡ 0 → Sound w g (with_ops g [] r) → Sound (log (record (log w (event.CallBegun p c)) { gone = true }) (event.DropBegun p)) g (with_ops g (op.TakeOut ∷ op.End reply.Done hold.Nothing ∷ []) r)
+begins-drop w p c g r n b q h = grind (arith, phase-push)

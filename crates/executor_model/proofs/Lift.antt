@@ -2,6 +2,8 @@
 use Rattle.std.proofs.Common.{◌≡◌, ◌⊎◌, ℕ, zero, suc, ◌+◌, ◌-◌, ◌<◌, ◌≤◌, List, [], ◌∷◌, ◌++◌, length, set, get_or, take, Bool, true, false, ◌&&◌, ◌||◌, not, ltb, eqb, refl, sym, ap, ◌∙◌, subst, inl, inr, ⊎_elim, arith, append-nil, get_or-set_same, Ok, Err, Result}
 use Rattle.std.proofs.Math.ListN.{length-set}
 use Rattle.std.proofs.lemmas.Bool.Decides.{nat_tests}
+use Rattle.std.proofs.lemmas.List.{get_or_past}
+use Rattle.async_task.specs.declared.moves.state.State.{State}
 use Rattle.std.specs.Prelude.{Option, Some, None, slice_get, slice_index_or, slice_set, reverse}
 use Rattle.executor_model.specs.declared.call.By.{By}
 use Rattle.executor_model.specs.declared.call.By.TheVariants as by
@@ -23,7 +25,7 @@ use Rattle.executor_model.specs.declared.step.StepError.{StepError}
 use Rattle.executor_model.specs.declared.step.StepError.TheVariants.{Busy, NoSuch, Gone, Borrowed, WrongAnswer}
 use Rattle.executor_model.specs.declared.step.UserEnd.{UserEnd}
 use Rattle.executor_model.specs.declared.step.UserEnd.TheVariants as end
-use Rattle.executor_model.specs.World.{World, Done, done, log, task}
+use Rattle.executor_model.specs.World.{World, Done, done, log, task, blank}
 use Rattle.executor_model.specs.Acts.{act}
 use Rattle.executor_model.specs.Weights.{same, weigh, weigh_all, borrowing_of}
 use Rattle.executor_model.specs.Sound.{Sound, Pend, pend, with_ops, times, waiting_of, polls_of, ending_of, ready_of, closing_of, settling_of, giving_of, drops_of, releases_of, copies_of, ousting_of}
@@ -316,3 +318,153 @@ begins-release w p k f c e g r h = let z : _ = wakers_of-used g f k w.wakers e i
 -- the drop of the executor, where no call uses it
 begins-drop : (w : World) (p : ℕ) (c : Call) (g : ℕ) (r : Pend) → w.gone ≡ false → r.borrowing ≡ 0 → r.polls ≡ 0 → Sound w g (with_ops g [] r) → Sound (log (record (log w (event.CallBegun p c)) { gone = true }) (event.DropBegun p)) g (with_ops g (op.TakeOut ∷ op.End reply.Done hold.Nothing ∷ []) r)
 begins-drop w p c g r n b q h = grind (arith, phase-push)
+
+none_refused : (a b c d : Bool) → unless a Busy (unless b NoSuch (unless c Gone (unless d Borrowed None))) ≡ None → (a ≡ true) × (b ≡ true) × (c ≡ true) × (d ≡ true)
+none_refused true true true true e = (refl, refl, refl, refl)
+none_refused true true true false e = absurd (cc)
+none_refused true true false d e = absurd (cc)
+none_refused true false c d e = absurd (cc)
+none_refused false b c d e = absurd (cc)
+
+-- a future whose handle is there is one
+handle-known : (w : World) (f : ℕ) → (task w f).handle ≡ true → past (length w.tasks) f ≡ 0
+handle-known w f e = ⊎_elim (λ x. x.0) (λ (x : (past (length w.tasks) f ≡ 1) × (length w.tasks ≤ f)). absurd (false_true (ap (λ (t : State). t.handle) (sym (get_or_past w.tasks f blank x.1)) ∙ e))) (past_is (length w.tasks) f).1
+  where
+    false_true : false ≡ true → ⊥
+    false_true z = cc
+
+first-true : (a b : Bool) → (a && b) ≡ true → a ≡ true
+first-true a b e = grind (arith, nat_tests)
+
+kept-known : (w : World) (k f : ℕ) → Fits w → slice_get w.wakers k ≡ Some (Some f) → past (length w.tasks) f ≡ 0
+kept-known w k f h e = omega (arith, wakers_past-used (length w.tasks) f k w.wakers e, h.wakers)
+
+-- what is to do speaks of futures that are there, and the world is as it was
+grows-begun : (w : World) (p : ℕ) (c : Call) (next : List Op) → (Fits w → weigh (past_of (length w.tasks)) next ≡ 0) → Grows w [] (done (log w (event.CallBegun p c)) next)
+grows-begun w p c next z h k = record { fits = record { queue = h.queue; table = h.table; leaving = h.leaving; waking = h.waking; wakers = h.wakers; awaiters = h.awaiters; awaiting = h.awaiting; inside = h.inside }; next = z h; more = omega arith }
+
+grows-used : (w : World) (p k f : ℕ) (c : Call) (next : List Op) → slice_get w.wakers k ≡ Some (Some f) → (past (length w.tasks) f ≡ 0 → weigh (past_of (length w.tasks)) next ≡ 0) → Grows w [] (done (used_up (log w (event.CallBegun p c)) k) next)
+grows-used w p k f c next e z h y = record { fits = record { queue = h.queue; table = h.table; leaving = h.leaving; waking = h.waking; wakers = omega (arith, wakers_past-used (length w.tasks) f k w.wakers e, h.wakers); awaiters = h.awaiters; awaiting = h.awaiting; inside = h.inside }; next = z (kept-known w k f h e); more = omega arith }
+
+-- nothing that counts is to do
+keeps-begun : (w : World) (p : ℕ) (c : Call) (os : List Op) → ((g : ℕ) (r : Pend) → with_ops g os r ≡ with_ops g [] r) → Keeps w [] (done (log w (event.CallBegun p c)) os)
+keeps-begun w p c os e g r h = subst (Sound (log w (event.CallBegun p c)) g) (sym (e g r)) (begins-log w p c g r h)
+
+module _ (w : World) (p : ℕ) (others : List (List Op)) where
+  begins-by : (c : Call) (os : List Op) → ((g : ℕ) (r : Pend) → with_ops g os r ≡ with_ops g [] r) → (Fits w → weigh (past_of (length w.tasks)) os ≡ 0) → Begins w (done (log w (event.CallBegun p c)) os) others
+  begins-by c os e z = ((λ g. keeps-begun w p c os e g _), grows-begun w p c os z)
+
+  begins-kept : (c : Call) (k : ℕ) (r : Option ℕ) (d : ℕ → Done) → kept w k ≡ r → ((f : ℕ) → slice_get w.wakers k ≡ Some (Some f) → Begins w (d f) others) → Begins w (with_future (log w (event.CallBegun p c)) r d) others
+  begins-kept c k None d e b = begins-by c [] (λ g r. refl) (λ h. refl)
+  begins-kept c k (Some f) d e b = b f (kept-used w k f e)
+
+  begins-here : (c : Call) (r : Option ℕ) (d : ℕ → Done) → ((f : ℕ) → r ≡ Some f → Begins w (d f) others) → Begins w (with_future (log w (event.CallBegun p c)) r d) others
+  begins-here c None d b = begins-by c [] (λ g r. refl) (λ h. refl)
+  begins-here c (Some f) d b = b f refl
+
+  begins-waker : (c : Call) (here : Option ℕ) (b : By) (f : ℕ) → past (length w.tasks) f ≡ 0 → ((g : ℕ) → here ≡ Some g → past (length w.tasks) g ≡ 0) → Begins w (done (log w (event.CallBegun p c)) (op.Look f (waker_of here b) ∷ [])) others
+  begins-waker c (Some g) by.Mine f z k = begins-by c _ (λ g r. refl) (λ h. omega (arith, z, k g refl))
+  begins-waker c None by.Mine f z k = begins-by c _ (λ g r. refl) (λ h. omega (arith, z))
+  begins-waker c (Some g) (by.Outside x) f z k = begins-by c _ (λ g r. refl) (λ h. omega (arith, z))
+  begins-waker c None (by.Outside x) f z k = begins-by c _ (λ g r. refl) (λ h. omega (arith, z))
+
+open_executor : (w : World) (c : Call) → is_on_executor c ≡ true → not (w.gone && is_on_executor c) ≡ true → w.gone ≡ false
+open_executor w c e n = grind (arith, nat_tests)
+
+unborrowed : (a : ℕ) → eqb a 0 ≡ true → a ≡ 0
+unborrowed a e = grind (arith, nat_tests)
+
+begins : (w : World) (p : ℕ) (ss others : List (List Op)) (o : Option Op) (here : Option ℕ) (c : Call) → ((g : ℕ) → here ≡ Some g → past (length w.tasks) g ≡ 0) → ((v : Op → ℕ) → weigh_all v others ≤ weigh_all v ss) → has_all w ss o c ≡ true → not (w.gone && is_on_executor c) ≡ true → (not (is_drop c) || is_unused borrowing_of ss) ≡ true → Begins w (begun p (log w (event.CallBegun p c)) here c) others
+begins w p ss others o here call.Spawn k le has on un = ((λ g. begins-on w p call.Spawn op.Enter (inl refl) (open_executor w call.Spawn refl on) g _), grows-begun w p _ _ (λ h. refl))
+begins w p ss others o here call.TryTick k le has on un = ((λ g. begins-on w p call.TryTick op.Take (inr (inl refl)) (open_executor w call.TryTick refl on) g _), grows-begun w p _ _ (λ h. refl))
+begins w p ss others o here call.IsEmpty k le has on un = ((λ g. begins-on w p call.IsEmpty op.LookAtTable (inr (inr refl)) (open_executor w call.IsEmpty refl on) g _), grows-begun w p _ _ (λ h. refl))
+begins w p ss others o here (call.Wake n) k le has on un = begins-kept w p others (call.Wake n) n _ _ refl (λ f e. ((λ g. begins-wake w p n f (call.Wake n) e g _), grows-used w p n f (call.Wake n) _ e (λ z. omega (arith, z))))
+begins w p ss others o here (call.WakeByRef n) k le has on un = begins-kept w p others (call.WakeByRef n) n _ _ refl (λ f e. begins-by w p others (call.WakeByRef n) _ (λ g r. refl) (λ h. omega (arith, kept-known w n f h e)))
+begins w p ss others o here (call.Copy n) k le has on un = begins-kept w p others (call.Copy n) n _ _ refl (λ f e. begins-by w p others (call.Copy n) _ (λ g r. refl) (λ h. omega (arith, kept-known w n f h e)))
+begins w p ss others o here (call.DropWaker n) k le has on un = begins-kept w p others (call.DropWaker n) n _ _ refl (λ f e. ((λ g. begins-release w p n f (call.DropWaker n) e g _), grows-used w p n f (call.DropWaker n) _ e (λ z. omega (arith, z))))
+begins w p ss others o here call.Keep k le has on un = begins-here w p others call.Keep here _ (λ f e. begins-by w p others call.Keep _ (λ g r. refl) (λ h. omega (arith, k f e)))
+begins w p ss others o here call.WakeSelf k le has on un = begins-here w p others call.WakeSelf here _ (λ f e. begins-by w p others call.WakeSelf _ (λ g r. refl) (λ h. omega (arith, k f e)))
+begins w p ss others o here (call.PollHandle f b) k le has on un = begins-waker w p others (call.PollHandle f b) here b f (handle-known w f (first-true _ _ (first-true _ _ has))) k
+begins w p ss others o here (call.Cancel f) k le has on un = begins-by w p others (call.Cancel f) _ (λ g r. refl) (λ h. omega (arith, handle-known w f (first-true _ _ has)))
+begins w p ss others o here (call.Detach f) k le has on un = begins-by w p others (call.Detach f) _ (λ g r. refl) (λ h. omega (arith, handle-known w f (first-true _ _ has)))
+begins w p ss others o here (call.DropHandle f) k le has on un = begins-by w p others (call.DropHandle f) _ (λ g r. refl) (λ h. omega (arith, handle-known w f (first-true _ _ has)))
+begins w p ss others o here call.DropExecutor k le has on un =
+    let n : w.gone ≡ false = open_executor w call.DropExecutor refl on in
+    let z : weigh_all borrowing_of others ≡ 0 = omega (arith, le borrowing_of, unborrowed (weigh_all borrowing_of ss) un) in
+    ((λ g. begins-drop w p call.DropExecutor g _ n z (omega (arith, z, polls-borrow-all g others))), (λ h y. record { fits = record { queue = h.queue; table = h.table; leaving = h.leaving; waking = h.waking; wakers = h.wakers; awaiters = h.awaiters; awaiting = h.awaiting; inside = h.inside }; next = refl; more = omega arith }))
+
+here-known : (s : Machine) (p : ℕ) (o : Option Op) → p < length s.parties → top (stack s p) ≡ o → Good s → (g : ℕ) → polled_by o ≡ Some g → past (length s.world.tasks) g ≡ 0
+here-known s p (Some (op.Poll f)) h e good g q =
+    let same_one : f ≡ g = cc in
+    rw (sym same_one) (omega (arith, good.ops, split (past_of (length s.world.tasks)) s.parties p (op.Poll f ∷ []) (below_top (stack s p)) h (topped _ (op.Poll f) e)))
+here-known s p (Some _) h e good g q = absurd (cc)
+here-known s p None h e good g q = absurd (cc)
+
+good-begin : (s : Machine) (p : ℕ) (c : Call) → p < length s.parties → begin_refusal s.world s.parties (top (stack s p)) c ≡ None → Good s → Good (with_part s p (part_after s.world (stack s p) (Begin p c)))
+good-begin s p c l n good =
+    let f : _ = none_refused (is_free (top (stack s p))) (has_all s.world s.parties (top (stack s p)) c) (not (s.world.gone && is_on_executor c)) (not (is_drop c) || is_unused borrowing_of s.parties) n in
+    let own : set s.parties p (stack s p) ≡ s.parties = set-own s.parties p l in
+    let b : Begins s.world (begun p (log s.world (event.CallBegun p c)) (polled_by (top (stack s p))) c) (set s.parties p (stack s p)) = begins s.world p s.parties (set s.parties p (stack s p)) (top (stack s p)) (polled_by (top (stack s p))) c (here-known s p (top (stack s p)) l refl good) (λ v. omega (arith, ap (weigh_all v) own)) f.1 f.2 f.3 in
+    good-onto s p [] (stack s p) (begun p (log s.world (event.CallBegun p c)) (polled_by (top (stack s p))) c) l (sym (append-nil (stack s p))) b.0 b.1 good
+
+-- every step
+
+good-part : (s : Machine) (t : Step) → party_of t < length s.parties → part_refusal s.world s.parties (stack s (party_of t)) t ≡ None → Good s → Good (after s t)
+good-part s (Begin p c) l n good = good-begin s p c l n good
+good-part s (Go p h) l n good = good-go s p h (top (stack s p)) l refl good
+good-part s (Answer p e) l n good = good-answer s p e (top (stack s p)) l refl n good
+
+there : (b : Bool) (r : Option StepError) → unless b NoSuch r ≡ None → (b ≡ true) × (r ≡ None)
+there true r e = (refl, e)
+there false r e = absurd (cc)
+
+-- what a step that is possible leads to is good
+pub good-after : (s : Machine) (t : Step) → refusal s t ≡ None → Good s → Good (after s t)
+good-after s t e good =
+    let x : _ = there (ltb (party_of t) (length s.parties)) (part_refusal s.world s.parties (stack s (party_of t)) t) e in
+    good-part s t (grind (arith, nat_tests)) x.1 good
+
+good-result : (s : Machine) (t : Step) (r : Option StepError) → refusal s t ≡ r → Good s → Good (stepped s (step_by r s t))
+good-result s t (Some e) q good = good
+good-result s t None q good = good-after s t q good
+
+pub good-stepped : (s : Machine) (t : Step) → Good s → Good (stepped s (step s t))
+unfolding step
+good-stepped s t good = good-result s t (refusal s t) refl good
+
+pub good-run : (ts : List Step) (s : Machine) → Good s → Good (run ts s)
+good-run [] s good = good
+good-run (t ∷ ts) s good = good-run ts (stepped s (step s t)) (good-stepped s t good)
+
+weigh_all-idle : (v : Op → ℕ) (n : ℕ) → weigh_all v (idle n) ≡ 0
+weigh_all-idle v zero = refl
+weigh_all-idle v (suc n) = omega (arith, weigh_all-idle v n)
+
+pub good-start : (limit n : ℕ) → Good (start limit n)
+good-start limit n = record {
+  fits = record { queue = refl; table = refl; leaving = refl; waking = refl; wakers = refl; awaiters = refl; awaiting = refl; inside = refl };
+  ops = weigh_all-idle (past_of 0) n;
+  sound = λ g. subst (Sound (start limit n).world g) (sym (λ i. record {
+    waiting = weigh_all-idle (waiting_of g) n i;
+    polls = weigh_all-idle (polls_of g) n i;
+    ending = weigh_all-idle (ending_of g) n i;
+    ready = weigh_all-idle (ready_of g) n i;
+    closing = weigh_all-idle (closing_of g) n i;
+    settling = weigh_all-idle (settling_of g) n i;
+    giving = weigh_all-idle (giving_of g) n i;
+    drops = weigh_all-idle (drops_of g) n i;
+    releases = weigh_all-idle (releases_of g) n i;
+    copies = weigh_all-idle (copies_of g) n i;
+    borrowing = weigh_all-idle borrowing_of n i;
+    ousting = weigh_all-idle ousting_of n i;
+  })) (none_sound limit g);
+}
+  where
+    none_pending : Pend
+    none_pending = record { waiting = 0; polls = 0; ending = 0; ready = 0; closing = 0; settling = 0; giving = 0; drops = 0; releases = 0; copies = 0; borrowing = 0; ousting = 0 }
+
+    none_sound : (limit g : ℕ) → Sound (start limit 0).world g none_pending
+    none_sound limit g = grind arith
+
+pub good : (limit n : ℕ) (ts : List Step) → Good (run ts (start limit n))
+good limit n ts = good-run ts (start limit n) (good-start limit n)

@@ -2,3 +2,4 @@ pub mod Lists
 pub mod Counting
 pub mod Fitting
 pub mod Lift
+pub mod Needing

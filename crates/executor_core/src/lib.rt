@@ -6,6 +6,7 @@ mod act;
 mod carry;
 mod closing;
 mod handle;
+pub mod machine;
 mod part;
 mod possible;
 mod queue;

@@ -3,3 +3,4 @@ pub mod Counting
 pub mod Fitting
 pub mod Lift
 pub mod Needing
+pub mod Stepping

@@ -63,4 +63,3 @@ pub fn act(store: &mut Store, todo: &mut Vec<Op>, party: u32, hint: Hint, op: Op
         Op::End(reply, _) => store.trace.push_reserved(Event::CallEnded { party, reply }),
     }
 }
-

@@ -48,7 +48,9 @@ pub fn drop_next(store: &mut Store, todo: &mut Vec<Op>, party: u32)
     let f = store.leaving.remove(0);
     store.waking.push_back_reserved(f);
     store.inside[f as usize] = false;
-    store.trace.push_reserved(Event::Dropped { party, future: f });
+    store
+        .trace
+        .push_reserved(Event::Dropped { party, future: f });
     let next = next_closing(store);
     todo.push_reserved(next);
     todo.push_reserved(Op::Drop(f));
@@ -96,4 +98,3 @@ pub fn drain(store: &mut Store, todo: &mut Vec<Op>, party: u32)
         None => store.trace.push_reserved(Event::DropEnded { party }),
     }
 }
-

@@ -56,7 +56,9 @@ fn answered(store: &mut Store, todo: &mut Vec<Op>, party: u32, f: u64, moved: Mo
 {
     store.tasks[f as usize] = moved.state;
     match answer {
-        Answer::Output => store.trace.push_reserved(Event::OutputGiven { party, future: f }),
+        Answer::Output => store
+            .trace
+            .push_reserved(Event::OutputGiven { party, future: f }),
         Answer::Refused => {}
         Answer::Pending => {}
         Answer::Closed => {}
@@ -75,7 +77,9 @@ pub fn look(store: &mut Store, todo: &mut Vec<Op>, party: u32, f: u64, waker: Wa
     let moved = moves::poll(store.tasks[f as usize]);
     match moved.owed.answer {
         Some(answer) => {
-            store.trace.push_reserved(Event::HandlePolled { party, future: f });
+            store
+                .trace
+                .push_reserved(Event::HandlePolled { party, future: f });
             answered(store, todo, party, f, moved, answer);
         }
         None => todo.push_reserved(Op::CopyAwaiter(f, waker)),
@@ -104,7 +108,14 @@ fn copy(store: &mut Store, hint: Hint, waker: Waker) -> bool
 }
 
 /// The waker is copied, to be registered.
-pub fn copy_awaiter(store: &mut Store, todo: &mut Vec<Op>, party: u32, hint: Hint, f: u64, waker: Waker)
+pub fn copy_awaiter(
+    store: &mut Store,
+    todo: &mut Vec<Op>,
+    party: u32,
+    hint: Hint,
+    f: u64,
+    waker: Waker,
+)
     requires room { HasRoom store.old }
     requires space { HasSpace todo.old }
     requires needs { IsKnownWaker (world_of store.old) waker }
@@ -115,7 +126,9 @@ pub fn copy_awaiter(store: &mut Store, todo: &mut Vec<Op>, party: u32, hint: Hin
         return;
     }
     let poll = store.trace.len() as u64;
-    store.trace.push_reserved(Event::HandlePolled { party, future: f });
+    store
+        .trace
+        .push_reserved(Event::HandlePolled { party, future: f });
     todo.push_reserved(Op::Register(f, waker, poll));
 }
 
@@ -144,8 +157,18 @@ fn push_let_go(todo: &mut Vec<Op>, awaiter: Option<Awaiter>)
     ensures space { vec_len todo.new + 1 ≤ vec_capacity todo.new }
 {
     match awaiter {
-        Some(Awaiter { waker: Waker::Task(g), .. }) => todo.push_reserved(Op::Release(g)),
-        Some(Awaiter { waker: Waker::Outside(_), .. }) => {}
+        Some(
+            Awaiter {
+                waker: Waker::Task(g),
+                ..
+            },
+        ) => todo.push_reserved(Op::Release(g)),
+        Some(
+            Awaiter {
+                waker: Waker::Outside(_),
+                ..
+            },
+        ) => {}
         None => {}
     }
 }
@@ -229,7 +252,14 @@ pub fn end_notify(store: &mut Store, todo: &mut Vec<Op>, hint: Hint, f: u64, min
 }
 
 /// An awaiter that was taken out is called.
-pub fn call_awaiter(store: &mut Store, todo: &mut Vec<Op>, party: u32, f: u64, waker: Waker, poll: u64)
+pub fn call_awaiter(
+    store: &mut Store,
+    todo: &mut Vec<Op>,
+    party: u32,
+    f: u64,
+    waker: Waker,
+    poll: u64,
+)
     requires room { HasRoom store.old }
     requires space { HasSpace todo.old }
     requires needs { CanWake (world_of store.old) waker }
@@ -246,4 +276,3 @@ pub fn call_awaiter(store: &mut Store, todo: &mut Vec<Op>, party: u32, f: u64, w
         Waker::Outside(x) => todo.push_reserved(Op::CallOutside(x)),
     }
 }
-

@@ -6,7 +6,7 @@ mod act;
 mod carry;
 mod closing;
 mod handle;
-pub mod machine;
+mod machine;
 mod part;
 mod possible;
 mod queue;
@@ -14,3 +14,8 @@ mod store;
 mod table;
 mod task;
 mod uses;
+
+pub use machine::Machine;
+
+#[cfg(test)]
+mod tests;

@@ -113,11 +113,19 @@ fn react(store: &mut Store, todo: &mut Vec<Op>, party: u32, op: Op, end: UserEnd
     if let Op::Poll(f) = op {
         match end {
             UserEnd::Polled(Answer::Pending) => {
-                store.trace.push_reserved(Event::Answered { party, future: f, answer: Answer::Pending });
+                store.trace.push_reserved(Event::Answered {
+                    party,
+                    future: f,
+                    answer: Answer::Pending,
+                });
                 todo.push_reserved(Op::PutBack(f));
             }
             UserEnd::Polled(Answer::Ready) => {
-                store.trace.push_reserved(Event::Answered { party, future: f, answer: Answer::Ready });
+                store.trace.push_reserved(Event::Answered {
+                    party,
+                    future: f,
+                    answer: Answer::Ready,
+                });
                 todo.push_reserved(Op::EndReady(f));
                 todo.push_reserved(Op::LeaveTable(f));
                 todo.push_reserved(Op::BeginDrop(f));

@@ -37,4 +37,3 @@ pub fn take_first(store: &mut Store, todo: &mut Vec<Op>)
         None => todo.push_reserved(Op::End(Reply::No, Hold::Executor)),
     }
 }
-

@@ -53,7 +53,9 @@ pub fn enter(store: &mut Store, todo: &mut Vec<Op>, party: u32, hint: Hint)
     store.awaiters.push_reserved(None);
     store.inside.push_reserved(true);
     store.table.push_reserved(f);
-    store.trace.push_reserved(Event::Accepted { party, future: f });
+    store
+        .trace
+        .push_reserved(Event::Accepted { party, future: f });
     todo.push_reserved(Op::End(Reply::Made, Hold::Spawned(f)));
     todo.push_reserved(Op::Append(f));
 }
@@ -141,7 +143,9 @@ pub fn begin_drop(store: &mut Store, todo: &mut Vec<Op>, party: u32, f: u64)
     requires space { HasSpace todo.old }
     ensures { Does (acts.begin_drop party (world_of store.old) f) store.new todo.old.items todo.new.items }
 {
-    store.trace.push_reserved(Event::Dropped { party, future: f });
+    store
+        .trace
+        .push_reserved(Event::Dropped { party, future: f });
     todo.push_reserved(Op::Drop(f));
 }
 
@@ -151,7 +155,8 @@ pub fn begin_drop_output(store: &mut Store, todo: &mut Vec<Op>, party: u32, f: u
     requires space { HasSpace todo.old }
     ensures { Does (acts.begin_drop_output party (world_of store.old) f) store.new todo.old.items todo.new.items }
 {
-    store.trace.push_reserved(Event::OutputDropped { party, future: f });
+    store
+        .trace
+        .push_reserved(Event::OutputDropped { party, future: f });
     todo.push_reserved(Op::DropOutput(f));
 }
-

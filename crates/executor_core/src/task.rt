@@ -105,7 +105,9 @@ pub fn take_up(store: &mut Store, todo: &mut Vec<Op>, party: u32, f: u64)
 {
     let state = state_of(store, f);
     if !state.closed {
-        store.trace.push_reserved(Event::PollBegun { party, future: f });
+        store
+            .trace
+            .push_reserved(Event::PollBegun { party, future: f });
     }
     carry_out(store, todo, f, moves::take_up(state));
 }
@@ -147,7 +149,9 @@ pub fn cancel(store: &mut Store, todo: &mut Vec<Op>, party: u32, f: u64)
 {
     let state = state_of(store, f);
     if !(state.completed || state.closed) {
-        store.trace.push_reserved(Event::Cancelled { party, future: f });
+        store
+            .trace
+            .push_reserved(Event::Cancelled { party, future: f });
     }
     carry_out(store, todo, f, moves::cancel(state));
 }
@@ -161,8 +165,9 @@ pub fn detach(store: &mut Store, todo: &mut Vec<Op>, party: u32, f: u64)
 {
     let state = state_of(store, f);
     if !(state.completed && !state.closed) {
-        store.trace.push_reserved(Event::Detached { party, future: f });
+        store
+            .trace
+            .push_reserved(Event::Detached { party, future: f });
     }
     carry_out(store, todo, f, moves::detach(state));
 }
-

@@ -5,3 +5,11 @@ pub mod Due
 pub mod Quiet
 pub mod Keeper
 pub mod DroppedOnce
+pub mod World
+pub mod Carried
+pub mod Acts
+pub mod Weights
+pub mod Steps
+pub mod Sound
+pub mod Good
+pub mod Runs

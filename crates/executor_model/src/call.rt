@@ -7,18 +7,37 @@ pub enum Call {
     TryTick,
     /// The executor is asked whether each accepted future is dropped.
     IsEmpty,
+    /// The waker with this number is called, and goes.
+    Wake(u64),
     /// The waker with this number is called, and stays.
     WakeByRef(u64),
+    /// A copy is made of the waker with this number. It has the next number.
+    Copy(u64),
     /// The waker with this number is let go.
     DropWaker(u64),
     /// Inside a poll: a copy is made of the waker of that poll. It has the next number.
     Keep,
     /// Inside a poll: the waker of that poll is called, and stays.
     WakeSelf,
+    /// The handle of the future with this number is polled, and given this waker.
+    PollHandle(u64, By),
+    /// The future with this number is cancelled by its handle, which stays.
+    Cancel(u64),
+    /// The handle of the future with this number is let go, and the future is left to run.
+    Detach(u64),
     /// The handle of the future with this number is let go, which cancels the future and detaches it.
     DropHandle(u64),
     /// The executor is dropped.
     DropExecutor,
+}
+
+/// Whose waker a poll is given.
+#[derive(Clone, Copy, Debug, PartialEq, Eq)]
+pub enum By {
+    /// The waker of the poll in which the party stands.
+    Mine,
+    /// A waker from outside of the executor, with this number.
+    Outside(u64),
 }
 
 /// What a call is answered.
@@ -31,4 +50,12 @@ pub enum Reply {
     Yes,
     No,
     Done,
+    /// Memory was refused, or there were too many references for one more.
+    NoMemory,
+    /// A polled handle has no output yet.
+    Pending,
+    /// A polled handle gives its output.
+    Ready,
+    /// A polled handle has no output and will have none.
+    Cancelled,
 }

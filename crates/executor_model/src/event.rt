@@ -1,4 +1,5 @@
 use crate::call::{Call, Reply};
+use crate::op::Waker;
 
 /// What ends a piece of user code.
 #[derive(Clone, Copy, Debug, PartialEq, Eq)]
@@ -60,6 +61,24 @@ pub enum Event {
     OutputDropped {
         party: u32,
         future: u64,
+    },
+    /// The future's output was taken out, for a poll of the handle to give it.
+    OutputGiven {
+        party: u32,
+        future: u64,
+    },
+    /// The future's handle is polled, and not refused. The place of this event in the trace names the poll.
+    HandlePolled {
+        party: u32,
+        future: u64,
+    },
+    /// The waker that a poll of the future's handle was given is called, or a copy of it. The poll is
+    /// named by the place of its `HandlePolled`.
+    WakerCalled {
+        party: u32,
+        future: u64,
+        poll: u64,
+        waker: Waker,
     },
     /// The drop of the executor begins.
     DropBegun {

@@ -4,6 +4,11 @@
 
 mod call;
 mod event;
+pub mod laws;
+mod op;
+mod step;
 
-pub use call::{Call, Reply};
+pub use call::{By, Call, Reply};
 pub use event::{Answer, Event};
+pub use op::{Awaiter, Hold, Op, Waker};
+pub use step::{Hint, Step, StepError, UserEnd};

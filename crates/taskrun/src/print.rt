@@ -47,6 +47,9 @@ fn push_event(text: &mut Vec<u8>, event: &Event, names: &Names) -> Result<(), Al
         | Event::Woken { .. }
         | Event::Cancelled { .. }
         | Event::Detached { .. }
+        | Event::OutputGiven { .. }
+        | Event::HandlePolled { .. }
+        | Event::WakerCalled { .. }
         | Event::DropBegun { .. }
         | Event::DropEnded { .. } => Ok(()),
     }
@@ -108,6 +111,10 @@ fn outcome_bytes(outcome: Outcome) -> &'static [u8]
         Outcome::Answered(Reply::Yes) => b"true",
         Outcome::Answered(Reply::No) => b"false",
         Outcome::Answered(Reply::Done) => b"done",
+        Outcome::Answered(Reply::NoMemory) => b"no memory",
+        Outcome::Answered(Reply::Pending) => b"pending",
+        Outcome::Answered(Reply::Ready) => b"ready",
+        Outcome::Answered(Reply::Cancelled) => b"cancelled",
         Outcome::NotPossible => b"not possible",
     }
 }

@@ -1,0 +1,4 @@
+pub mod Owing
+pub mod Finds
+pub mod Scans
+pub mod Lifting

@@ -1,0 +1,16 @@
+-- The order in which what is owed is put on a stack.
+use Rattle.std.proofs.Common.{◌≡◌, List, [], ◌∷◌, ◌++◌, sym, ap, ◌∙◌, append_assoc}
+use Rattle.std.specs.Prelude.{reverse}
+use Rattle.std.proofs.lemmas.List.{reverse-append}
+use Rattle.executor_model.specs.declared.op.Op.{Op}
+
+-- what comes first is put on last
+pub reverse_before : (t s x : List Op) → t ++ reverse (s ++ x) ≡ (t ++ reverse x) ++ reverse s
+reverse_before t s x = ap (λ (l : List Op). t ++ l) (reverse-append s x) ∙ sym (append_assoc t (reverse x) (reverse s))
+
+pub reverse_owed : (t s f o a n : List Op) → t ++ reverse (s ++ (f ++ (o ++ (a ++ n)))) ≡ ((((t ++ reverse n) ++ reverse a) ++ reverse o) ++ reverse f) ++ reverse s
+reverse_owed t s f o a n =
+    reverse_before t s (f ++ (o ++ (a ++ n)))
+    ∙ ap (λ (l : List Op). l ++ reverse s) (reverse_before t f (o ++ (a ++ n))
+    ∙ ap (λ (l : List Op). l ++ reverse f) (reverse_before t o (a ++ n)
+    ∙ ap (λ (l : List Op). l ++ reverse o) (reverse_before t a n)))

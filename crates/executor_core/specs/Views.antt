@@ -1,0 +1,52 @@
+-- What a store stands for, and room for what one thing to do may add.
+use Rattle.std.specs.Prelude.{◌≡◌, ℕ, ◌+◌, ◌≤◌, Some, None, List, ◌++◌, map, reverse, vec_len, Vec}
+use Rattle.std.specs.Global.{Global}
+use Rattle.std.specs.Vec.{vec_capacity}
+use Rattle.std.specs.VecDeque.{deque_len, deque_capacity}
+use Rattle.executor_model.specs.declared.op.Op.{Op}
+use Rattle.executor_model.specs.World.{World, Done}
+use Rattle.executor_model.specs.Steps.{Machine}
+use Rattle.executor_core.specs.declared.store.Store.{Store}
+
+abbrev pub world_of : Store → World
+world_of s = record {
+  limit = s.limit;
+  tasks = s.tasks.items;
+  awaiters = s.awaiters.items;
+  inside = s.inside.items;
+  queue = record { items = s.queue.items; capacity = Some s.limit; closed = s.closed; accepted = None };
+  table = s.table.items;
+  leaving = s.leaving.items;
+  waking = s.waking.items;
+  wakers = s.wakers.items;
+  gone = s.gone;
+  trace = s.trace.items;
+}
+
+-- the lists may have one more each, and the trace five
+pub record HasRoom (s : Store) : Type 0 where
+  pub tasks : vec_len s.tasks + 1 ≤ vec_capacity s.tasks
+  pub awaiters : vec_len s.awaiters + 1 ≤ vec_capacity s.awaiters
+  pub inside : vec_len s.inside + 1 ≤ vec_capacity s.inside
+  pub queue : deque_len s.queue + 1 ≤ deque_capacity s.queue
+  pub table : vec_len s.table + 1 ≤ vec_capacity s.table
+  pub waking : deque_len s.waking + 1 ≤ deque_capacity s.waking
+  pub wakers : vec_len s.wakers + 1 ≤ vec_capacity s.wakers
+  pub trace : vec_len s.trace + 5 ≤ vec_capacity s.trace
+
+-- the trace may have one more
+abbrev pub HasRoomToEnd : Store → Type 0
+HasRoomToEnd s = vec_len s.trace + 1 ≤ vec_capacity s.trace
+
+-- the stack has room for what a thing to do may lead to
+abbrev pub HasSpace : Vec Op Global → Type 0
+HasSpace todo = vec_len todo + 8 ≤ vec_capacity todo
+
+-- the thing was done: the store is the world after it, and the stack has on top what is to do because of it
+pub record Does (done : Done) (new : Store) (todo : List Op) (new_todo : List Op) : Type 0 where
+  pub world : world_of new ≡ done.world
+  pub next : new_todo ≡ todo ++ reverse done.next
+  pub room : HasRoomToEnd new
+
+abbrev pub state_of : Store → List (Vec Op Global) → Machine
+state_of s ps = record { world = world_of s; parties = map (λ v. v.items) ps }

@@ -1,0 +1,100 @@
+//! The drop of the executor.
+ghost use Rattle.std.specs.Prelude.{◌≡◌, ◌≢◌, ℕ, ◌+◌, ◌-◌, ◌^◌, ◌<◌, ◌≤◌, ◌++◌, true, false, not, Some, None, List, [], ◌∷◌, length, reverse, vec_len, vec_capacity};
+ghost use Rattle.async_task.specs.Moves as moves;
+ghost use Rattle.executor_model.specs.Acts as acts;
+ghost use Rattle.executor_model.specs.Carried as carried;
+ghost use Rattle.executor_model.specs.World.{task, without, among, awaiter_of};
+ghost use Rattle.executor_model.specs.Good.{IsKnown, CanGrow, IsHeld, HasPlace, KeepsAwaiter, IsKnownWaker, CanWake};
+ghost use Rattle.executor_core.specs.Views.{world_of, HasRoom, HasRoomToEnd, HasSpace, Does};
+
+use crate::store::Store;
+use crate::task::wake;
+use executor_model::{Event, Op};
+
+/// What the executor's drop does next: first each future, then each waker, then the queue.
+fn next_closing(store: &Store) -> Op
+    ensures { result ∷ [] ≡ acts.closing_ops store.now.leaving.items store.now.waking.items }
+{
+    if !store.leaving.is_empty() {
+        Op::DropNext
+    } else if !store.waking.is_empty() {
+        Op::WakeNext
+    } else {
+        Op::Close
+    }
+}
+
+/// All futures and wakers are taken out of the table.
+pub fn take_out(store: &mut Store, todo: &mut Vec<Op>)
+    requires room { HasRoom store.old }
+    requires space { HasSpace todo.old }
+    ensures { Does (acts.take_out (world_of store.old)) store.new todo.old.items todo.new.items }
+{
+    std::mem::swap(&mut store.table, &mut store.leaving);
+    let next = next_closing(store);
+    todo.push_reserved(next);
+}
+
+/// The drop of the next future begins.
+pub fn drop_next(store: &mut Store, todo: &mut Vec<Op>, party: u32)
+    requires room { HasRoom store.old }
+    requires space { HasSpace todo.old }
+    requires needs { (f : ℕ) (rest : List ℕ) → store.old.leaving.items ≡ f ∷ rest → f < length store.old.inside.items }
+    ensures { Does (acts.drop_next party (world_of store.old)) store.new todo.old.items todo.new.items }
+{
+    if store.leaving.is_empty() {
+        return;
+    }
+    let f = store.leaving.remove(0);
+    store.waking.push_back_reserved(f);
+    store.inside[f as usize] = false;
+    store
+        .trace
+        .push_reserved(Event::Dropped { party, future: f });
+    let next = next_closing(store);
+    todo.push_reserved(next);
+    todo.push_reserved(Op::Drop(f));
+}
+
+/// The next waker is woken.
+pub fn wake_next(store: &mut Store, todo: &mut Vec<Op>, party: u32)
+    requires room { HasRoom store.old }
+    requires space { HasSpace todo.old }
+    requires needs { (f : ℕ) (rest : List ℕ) → store.old.waking.items ≡ f ∷ rest → CanGrow (world_of store.old) f }
+    ensures { Does (acts.wake_next party (world_of store.old)) store.new todo.old.items todo.new.items }
+{
+    let Some(f) = store.waking.pop_front() else {
+        return;
+    };
+    todo.push_reserved(if store.waking.is_empty() {
+        Op::Close
+    } else {
+        Op::WakeNext
+    });
+    wake(store, todo, party, f);
+}
+
+/// The queue is closed.
+pub fn close(store: &mut Store, todo: &mut Vec<Op>)
+    requires room { HasRoom store.old }
+    requires space { HasSpace todo.old }
+    ensures { Does (acts.close (world_of store.old)) store.new todo.old.items todo.new.items }
+{
+    store.closed = true;
+    todo.push_reserved(Op::Drain);
+}
+
+/// The next Runnable is taken to be dropped, and where there is none the drop has ended.
+pub fn drain(store: &mut Store, todo: &mut Vec<Op>, party: u32)
+    requires room { HasRoom store.old }
+    requires space { HasSpace todo.old }
+    ensures { Does (acts.drain party (world_of store.old)) store.new todo.old.items todo.new.items }
+{
+    match store.queue.pop_front() {
+        Some(f) => {
+            todo.push_reserved(Op::Drain);
+            todo.push_reserved(Op::DropRunnable(f));
+        }
+        None => store.trace.push_reserved(Event::DropEnded { party }),
+    }
+}

@@ -1,0 +1,278 @@
+//! Copies of wakers, and polls of a handle with their registers and notifies.
+ghost use Rattle.std.specs.Prelude.{◌≡◌, ◌≢◌, ℕ, ◌+◌, ◌-◌, ◌^◌, ◌<◌, ◌≤◌, ◌++◌, true, false, not, Some, None, List, [], ◌∷◌, length, reverse, vec_len, vec_capacity};
+ghost use Rattle.async_task.specs.Moves as moves;
+ghost use Rattle.executor_model.specs.Acts as acts;
+ghost use Rattle.executor_model.specs.Carried as carried;
+ghost use Rattle.executor_model.specs.World.{task, without, among, awaiter_of};
+ghost use Rattle.executor_model.specs.Good.{IsKnown, CanGrow, IsHeld, HasPlace, KeepsAwaiter, IsKnownWaker, CanWake};
+ghost use Rattle.executor_core.specs.Views.{world_of, HasRoom, HasRoomToEnd, HasSpace, Does};
+
+use crate::carry::push_awaiter;
+use crate::store::Store;
+use crate::task::wake;
+use async_task::moves::{self, Answer, MOST_REFERENCES, Moved, State};
+use executor_model::{Awaiter, Event, Hint, Hold, Op, Reply, Waker};
+
+fn is_refused(hint: Hint, state: State) -> bool
+    ensures { result ≡ acts.is_refused hint state }
+{
+    hint.refused || state.references >= MOST_REFERENCES
+}
+
+/// A copy of a waker is asked for, and kept.
+pub fn copy_waker(store: &mut Store, todo: &mut Vec<Op>, hint: Hint, f: u64, held: Hold)
+    requires room { HasRoom store.old }
+    requires space { HasSpace todo.old }
+    requires needs { IsKnown (world_of store.old) f }
+    ensures { Does (acts.copy_waker hint (world_of store.old) f held) store.new todo.old.items todo.new.items }
+{
+    let task = &mut store.tasks[f as usize];
+    if is_refused(hint, *task) {
+        todo.push_reserved(Op::End(Reply::NoMemory, held));
+        return;
+    }
+    task.references += 1;
+    store.wakers.push_reserved(Some(f));
+    todo.push_reserved(Op::End(Reply::Made, held));
+}
+
+fn reply_of(answer: Answer) -> Reply
+    ensures { result ≡ acts.reply_of answer }
+{
+    match answer {
+        Answer::Refused => Reply::NoMemory,
+        Answer::Pending => Reply::Pending,
+        Answer::Closed => Reply::Cancelled,
+        Answer::Output => Reply::Ready,
+    }
+}
+
+/// The poll of a handle ends with this answer, and pays what it owes first.
+fn answered(store: &mut Store, todo: &mut Vec<Op>, party: u32, f: u64, moved: Moved, answer: Answer)
+    requires room { vec_len store.old.trace + 2 ≤ vec_capacity store.old.trace }
+    requires space { HasSpace todo.old }
+    requires known { IsKnown (world_of store.old) f }
+    ensures { Does (acts.answered party (world_of store.old) f moved answer) store.new todo.old.items todo.new.items }
+{
+    store.tasks[f as usize] = moved.state;
+    match answer {
+        Answer::Output => store
+            .trace
+            .push_reserved(Event::OutputGiven { party, future: f }),
+        Answer::Refused => {}
+        Answer::Pending => {}
+        Answer::Closed => {}
+    }
+    todo.push_reserved(Op::End(reply_of(answer), Hold::Handle(f)));
+    push_awaiter(todo, f, moved.owed.awaiter);
+}
+
+/// A poll of the handle looks.
+pub fn look(store: &mut Store, todo: &mut Vec<Op>, party: u32, f: u64, waker: Waker)
+    requires room { HasRoom store.old }
+    requires space { HasSpace todo.old }
+    requires needs { IsKnown (world_of store.old) f }
+    ensures { Does (acts.look party (world_of store.old) f waker) store.new todo.old.items todo.new.items }
+{
+    let moved = moves::poll(store.tasks[f as usize]);
+    match moved.owed.answer {
+        Some(answer) => {
+            store
+                .trace
+                .push_reserved(Event::HandlePolled { party, future: f });
+            answered(store, todo, party, f, moved, answer);
+        }
+        None => todo.push_reserved(Op::CopyAwaiter(f, waker)),
+    }
+}
+
+/// The copy of a waker of a task is one more reference. Answers whether it was refused.
+fn copy(store: &mut Store, hint: Hint, waker: Waker) -> bool
+    requires { IsKnownWaker (world_of store.old) waker }
+    ensures refused { result ≡ acts.is_copy_refused hint (world_of store.old) waker }
+    ensures same { result ≡ true → world_of store.new ≡ world_of store.old }
+    ensures copied { result ≡ false → world_of store.new ≡ acts.copied (world_of store.old) waker }
+    ensures room { HasRoom store.old → HasRoom store.new }
+{
+    match waker {
+        Waker::Task(g) => {
+            let task = &mut store.tasks[g as usize];
+            if is_refused(hint, *task) {
+                return true;
+            }
+            task.references += 1;
+            false
+        }
+        Waker::Outside(_) => hint.refused,
+    }
+}
+
+/// The waker is copied, to be registered.
+pub fn copy_awaiter(
+    store: &mut Store,
+    todo: &mut Vec<Op>,
+    party: u32,
+    hint: Hint,
+    f: u64,
+    waker: Waker,
+)
+    requires room { HasRoom store.old }
+    requires space { HasSpace todo.old }
+    requires needs { IsKnownWaker (world_of store.old) waker }
+    ensures { Does (acts.copy_awaiter party hint (world_of store.old) f waker) store.new todo.old.items todo.new.items }
+{
+    if copy(store, hint, waker) {
+        todo.push_reserved(Op::End(Reply::NoMemory, Hold::Handle(f)));
+        return;
+    }
+    let poll = store.trace.len() as u64;
+    store
+        .trace
+        .push_reserved(Event::HandlePolled { party, future: f });
+    todo.push_reserved(Op::Register(f, waker, poll));
+}
+
+/// The copy begins to be registered.
+pub fn register(store: &mut Store, todo: &mut Vec<Op>, f: u64, waker: Waker, poll: u64)
+    requires room { HasRoom store.old }
+    requires space { HasSpace todo.old }
+    requires needs { IsKnown (world_of store.old) f }
+    ensures { Does (acts.register (world_of store.old) f waker poll) store.new todo.old.items todo.new.items }
+{
+    let task = &mut store.tasks[f as usize];
+    let notifying = task.notifying;
+    *task = moves::register(*task).state;
+    if notifying {
+        todo.push_reserved(Op::LookAgain(f));
+        todo.push_reserved(Op::CallAwaiter(f, waker, poll));
+    } else {
+        todo.push_reserved(Op::EndRegister(f, waker, poll));
+    }
+}
+
+/// An awaiter goes that isn't called.
+fn push_let_go(todo: &mut Vec<Op>, awaiter: Option<Awaiter>)
+    requires space { vec_len todo.old + 2 ≤ vec_capacity todo.old }
+    ensures items { todo.new.items ≡ todo.old.items ++ reverse (acts.let_go awaiter) }
+    ensures space { vec_len todo.new + 1 ≤ vec_capacity todo.new }
+{
+    match awaiter {
+        Some(
+            Awaiter {
+                waker: Waker::Task(g),
+                ..
+            },
+        ) => todo.push_reserved(Op::Release(g)),
+        Some(
+            Awaiter {
+                waker: Waker::Outside(_),
+                ..
+            },
+        ) => {}
+        None => {}
+    }
+}
+
+/// The copy is stored, or called where somebody wanted to notify meanwhile. The old awaiter goes.
+#[tactic(auto, using(crate::proofs::Owing::reverse_before))]
+pub fn end_register(store: &mut Store, todo: &mut Vec<Op>, f: u64, waker: Waker, poll: u64)
+    requires room { HasRoom store.old }
+    requires space { HasSpace todo.old }
+    requires needs { KeepsAwaiter (world_of store.old) f }
+    ensures { Does (acts.end_register (world_of store.old) f waker poll) store.new todo.old.items todo.new.items }
+{
+    let task = &mut store.tasks[f as usize];
+    let notifying = task.notifying;
+    *task = moves::end_register(*task).state;
+    let awaiter = &mut store.awaiters[f as usize];
+    let old = *awaiter;
+    *awaiter = if notifying {
+        None
+    } else {
+        Some(Awaiter { waker, poll })
+    };
+    todo.push_reserved(Op::LookAgain(f));
+    push_let_go(todo, old);
+    if notifying {
+        todo.push_reserved(Op::CallAwaiter(f, waker, poll));
+    }
+}
+
+/// A poll of the handle looks again.
+pub fn look_again(store: &mut Store, todo: &mut Vec<Op>, party: u32, f: u64)
+    requires room { HasRoom store.old }
+    requires space { HasSpace todo.old }
+    requires needs { IsKnown (world_of store.old) f }
+    ensures { Does (acts.look_again party (world_of store.old) f) store.new todo.old.items todo.new.items }
+{
+    let moved = moves::look_again(store.tasks[f as usize]);
+    match moved.owed.answer {
+        Some(answer) => answered(store, todo, party, f, moved, answer),
+        None => {}
+    }
+}
+
+/// The awaiter is notified, where nobody else is at it.
+pub fn notify(store: &mut Store, todo: &mut Vec<Op>, f: u64, mine: bool)
+    requires room { HasRoom store.old }
+    requires space { HasSpace todo.old }
+    requires needs { IsKnown (world_of store.old) f }
+    ensures { Does (acts.notify (world_of store.old) f mine) store.new todo.old.items todo.new.items }
+{
+    let task = &mut store.tasks[f as usize];
+    let busy = task.notifying || task.registering;
+    *task = moves::notify(*task).state;
+    if !busy {
+        todo.push_reserved(Op::EndNotify(f, mine));
+    }
+}
+
+/// The awaiter is taken out, to be called.
+pub fn end_notify(store: &mut Store, todo: &mut Vec<Op>, hint: Hint, f: u64, mine: bool)
+    requires room { HasRoom store.old }
+    requires space { HasSpace todo.old }
+    requires needs { KeepsAwaiter (world_of store.old) f }
+    ensures { Does (acts.end_notify hint (world_of store.old) f mine) store.new todo.old.items todo.new.items }
+{
+    let task = &mut store.tasks[f as usize];
+    *task = moves::end_notify(*task).state;
+    let awaiter = &mut store.awaiters[f as usize];
+    let old = *awaiter;
+    *awaiter = None;
+    match old {
+        Some(Awaiter { waker, poll }) => {
+            if mine && hint.same {
+                push_let_go(todo, old);
+            } else {
+                todo.push_reserved(Op::CallAwaiter(f, waker, poll));
+            }
+        }
+        None => {}
+    }
+}
+
+/// An awaiter that was taken out is called.
+pub fn call_awaiter(
+    store: &mut Store,
+    todo: &mut Vec<Op>,
+    party: u32,
+    f: u64,
+    waker: Waker,
+    poll: u64,
+)
+    requires room { HasRoom store.old }
+    requires space { HasSpace todo.old }
+    requires needs { CanWake (world_of store.old) waker }
+    ensures { Does (acts.call_awaiter party (world_of store.old) f waker poll) store.new todo.old.items todo.new.items }
+{
+    store.trace.push_reserved(Event::WakerCalled {
+        party,
+        future: f,
+        poll,
+        waker,
+    });
+    match waker {
+        Waker::Task(g) => wake(store, todo, party, g),
+        Waker::Outside(x) => todo.push_reserved(Op::CallOutside(x)),
+    }
+}

@@ -1,0 +1,21 @@
+//! The core of the executor, as one value that takes one step at a time: every interleaving of its
+//! parties is a list of steps.
+#![tactic(auto)]
+
+mod act;
+mod carry;
+mod closing;
+mod handle;
+mod machine;
+mod part;
+mod possible;
+mod queue;
+mod store;
+mod table;
+mod task;
+mod uses;
+
+pub use machine::Machine;
+
+#[cfg(test)]
+mod tests;

@@ -1,0 +1,160 @@
+//! The machine.
+ghost use Rattle.std.specs.Prelude.{◌≡◌, ◌⊎◌, ℕ, ◌+◌, ◌<◌, ◌≤◌, Some, None, Ok, Err, vec_len, vec_capacity, OnOk, IfOk, IfErr, IfSome, MatchOption, slice_get, take, List, length, map};
+ghost use Rattle.executor_model.specs.Steps as steps;
+ghost use Rattle.executor_model.specs.Good.{Good};
+ghost use Rattle.executor_model.specs.Runs.{run_all};
+ghost use Rattle.executor_core.specs.Views.{world_of, state_of, HasRoom, HasSpace};
+ghost use Rattle.executor_core.specs.Refused.{IsRefused};
+
+use crate::part::take_part;
+use crate::possible::part_refusal;
+use crate::store::Store;
+use executor_model::{Event, Op, Step, StepError};
+use std::alloc::{AllocError, Global};
+use std::collections::VecDeque;
+use std::marker::Model;
+
+/// An executor of one step at a time. Its value is the state of the model: the tasks, the queue, the
+/// table, the wakers, the trace, and what each party has still to do.
+#[derive(Drop)]
+pub struct Machine {
+    store: Store,
+    parties: Vec<Vec<Op>>,
+}
+
+impl Model for Machine {
+    ghost use Rattle.std.specs.Prelude.{map};
+    ghost use Rattle.executor_model.specs.Steps as steps;
+    ghost use Rattle.executor_model.specs.Good.{Good};
+    ghost use Rattle.executor_core.specs.Views.{world_of};
+
+    ghost Value = { steps.Machine };
+
+    ghost view = { λ m. record { world = world_of m.store; parties = map (λ v. v.items) m.parties.items } };
+
+    ghost invariant = { λ m. Good (record { world = world_of m.store; parties = map (λ v. v.items) m.parties.items }) };
+}
+
+/// Room for one more in each list. What the store stands for stays.
+fn make_room(store: &mut Store) -> Result<(), StepError>
+    ensures same { world_of store.new ≡ world_of store.old }
+    ensures ok { OnOk result (HasRoom store.new) }
+    ensures err { IfErr result (λ e. e ≡ StepError.NoMemory) }
+{
+    let room = store.tasks.reserve(1).is_ok()
+        && store.awaiters.reserve(1).is_ok()
+        && store.inside.reserve(1).is_ok()
+        && store.queue.reserve(1).is_ok()
+        && store.table.reserve(1).is_ok()
+        && store.waking.reserve(1).is_ok()
+        && store.wakers.reserve(1).is_ok()
+        && store.trace.reserve(5).is_ok();
+    if room {
+        Ok(())
+    } else {
+        Err(StepError::NoMemory)
+    }
+}
+
+fn party_of(step: Step) -> u32
+    ensures { result ≡ steps.party_of step }
+{
+    match step {
+        Step::Begin { party, .. } => party,
+        Step::Go { party, .. } => party,
+        Step::Answer { party, .. } => party,
+    }
+}
+
+/// One step.
+fn step_at(store: &mut Store, parties: &mut Vec<Vec<Op>>, step: Step) -> Result<(), StepError>
+    requires { Good (state_of store.old parties.old.items) }
+    ensures good { Good (state_of store.new parties.new.items) }
+    ensures ok { OnOk result (steps.step (state_of store.old parties.old.items) step ≡ Ok (state_of store.new parties.new.items)) }
+    ensures err { IfErr result (λ e. (state_of store.new parties.new.items ≡ state_of store.old parties.old.items) × IsRefused (state_of store.old parties.old.items) step e) }
+{
+    let p = party_of(step) as usize;
+    if p >= parties.len() {
+        return Err(StepError::NoSuch);
+    }
+    match part_refusal(store, parties.as_slice(), parties[p].as_slice(), step) {
+        Some(error) => return Err(error),
+        None => {}
+    }
+    make_room(store)?;
+    let todo = &mut parties[p];
+    if todo.reserve(8).is_err() {
+        return Err(StepError::NoMemory);
+    }
+    take_part(store, todo, step);
+    Ok(())
+}
+
+fn empty(alloc: Global, limit: u64) -> Store
+    ensures { world_of result ≡ (steps.start limit 0).world }
+{
+    Store {
+        limit,
+        tasks: Vec::new(alloc),
+        awaiters: Vec::new(alloc),
+        inside: Vec::new(alloc),
+        queue: VecDeque::new(alloc),
+        closed: false,
+        table: Vec::new(alloc),
+        leaving: Vec::new(alloc),
+        waking: VecDeque::new(alloc),
+        wakers: Vec::new(alloc),
+        gone: false,
+        trace: Vec::new(alloc),
+    }
+}
+
+impl Machine {
+    /// A new machine for this many parties, of which at most `limit` accepted futures are undropped
+    /// at a time.
+    pub fn new(alloc: Global, limit: u64, parties: u32) -> Result<Machine, AllocError>
+        ensures { IfOk result (λ m. m ≡ steps.start limit parties) }
+    {
+        let mut stacks = Vec::new(alloc);
+        for _i in 0..parties {
+            stacks.push(Vec::new(alloc))?;
+        }
+        Ok(Machine {
+            store: empty(alloc, limit),
+            parties: stacks,
+        })
+    }
+
+    /// One step. A step that isn't possible is refused by the first test that fails, and changes
+    /// nothing; the want of memory for the machine itself comes last.
+    pub fn step(&mut self, step: Step) -> Result<(), StepError>
+        ensures ok { OnOk result (steps.step self.old step ≡ Ok self.new) }
+        ensures err { IfErr result (λ e. (self.new ≡ self.old) × IsRefused self.old step e) }
+    {
+        match step_at(&mut self.store, &mut self.parties, step) {
+            Ok(()) => Ok(()),
+            Err(error) => Err(error),
+        }
+    }
+
+    /// Steps until one is refused. Says the place of that one, and why, if one was.
+    pub fn run(&mut self, list: &[Step]) -> Option<(usize, StepError)>
+        ensures made { MatchOption result (run_all list.now self.old ≡ Ok self.new) (λ r. run_all (take r.0 list.now) self.old ≡ Ok self.new) }
+        ensures refused { IfSome result (λ r. (t : Step) × (slice_get list.now r.0 ≡ Some t) × IsRefused self.new t r.1) }
+    {
+        for (i, step) in list.iter().enumerate() {
+            match self.step(*step) {
+                Ok(()) => {}
+                Err(error) => return Some((i, error)),
+            }
+        }
+        None
+    }
+
+    /// What has happened, in order.
+    pub fn trace(&self) -> &[Event]
+        ensures { result.now ≡ self.now.world.trace }
+    {
+        self.store.trace.as_slice()
+    }
+}

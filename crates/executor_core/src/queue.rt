@@ -1,0 +1,39 @@
+//! The queue: appends and takes.
+ghost use Rattle.std.specs.Prelude.{◌≡◌, ◌≢◌, ℕ, ◌+◌, ◌-◌, ◌^◌, ◌<◌, ◌≤◌, ◌++◌, true, false, not, Some, None, List, [], ◌∷◌, length, reverse, vec_len, vec_capacity};
+ghost use Rattle.async_task.specs.Moves as moves;
+ghost use Rattle.executor_model.specs.Acts as acts;
+ghost use Rattle.executor_model.specs.Carried as carried;
+ghost use Rattle.executor_model.specs.World.{task, without, among, awaiter_of};
+ghost use Rattle.executor_model.specs.Good.{IsKnown, CanGrow, IsHeld, HasPlace, KeepsAwaiter, IsKnownWaker, CanWake};
+ghost use Rattle.executor_core.specs.Views.{world_of, HasRoom, HasRoomToEnd, HasSpace, Does};
+
+use crate::store::Store;
+use executor_model::{Hold, Op, Reply};
+
+/// A Runnable goes to the queue, or comes back and is dropped.
+pub fn append(store: &mut Store, todo: &mut Vec<Op>, f: u64)
+    requires room { HasRoom store.old }
+    requires space { HasSpace todo.old }
+    ensures { Does (acts.append (world_of store.old) f) store.new todo.old.items todo.new.items }
+{
+    if !store.closed && (store.queue.len() as u64) < store.limit {
+        store.queue.push_back_reserved(f);
+    } else {
+        todo.push_reserved(Op::DropRunnable(f));
+    }
+}
+
+/// The first Runnable is taken, where there is one.
+pub fn take_first(store: &mut Store, todo: &mut Vec<Op>)
+    requires room { HasRoom store.old }
+    requires space { HasSpace todo.old }
+    ensures { Does (acts.take_first (world_of store.old)) store.new todo.old.items todo.new.items }
+{
+    match store.queue.pop_front() {
+        Some(f) => {
+            todo.push_reserved(Op::End(Reply::Yes, Hold::Executor));
+            todo.push_reserved(Op::TakeUp(f));
+        }
+        None => todo.push_reserved(Op::End(Reply::No, Hold::Executor)),
+    }
+}

@@ -1,0 +1,30 @@
+use async_task::moves::State;
+use executor_model::{Awaiter, Event};
+use std::collections::VecDeque;
+
+/// The state of the machine without what its parties have still to do.
+#[derive(Drop)]
+pub struct Store {
+    /// So many accepted futures may be undropped.
+    pub limit: u64,
+    /// By the numbers of the futures: the marks and the count of each task.
+    pub tasks: Vec<State>,
+    /// The awaiter that each task keeps.
+    pub awaiters: Vec<Option<Awaiter>>,
+    /// Whether each future is in its place in the table.
+    pub inside: Vec<bool>,
+    /// The Runnables, by their futures.
+    pub queue: VecDeque<u64>,
+    pub closed: bool,
+    /// The futures that have an entry and a waker in the table, in the order of acceptance.
+    pub table: Vec<u64>,
+    /// The futures that the executor's drop has taken out and not yet dropped.
+    pub leaving: Vec<u64>,
+    /// The wakers of those that it has dropped and not yet woken.
+    pub waking: VecDeque<u64>,
+    /// The kept wakers by number, each by its future.
+    pub wakers: Vec<Option<u64>>,
+    /// The executor's drop was begun.
+    pub gone: bool,
+    pub trace: Vec<Event>,
+}

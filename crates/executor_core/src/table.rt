@@ -1,0 +1,162 @@
+//! The sections of the table, and the user code between them.
+ghost use Rattle.std.specs.Prelude.{◌≡◌, ◌≢◌, ℕ, ◌+◌, ◌-◌, ◌^◌, ◌<◌, ◌≤◌, ◌++◌, true, false, not, Some, None, List, [], ◌∷◌, length, reverse, vec_len, vec_capacity};
+ghost use Rattle.async_task.specs.Moves as moves;
+ghost use Rattle.executor_model.specs.Acts as acts;
+ghost use Rattle.executor_model.specs.Carried as carried;
+ghost use Rattle.executor_model.specs.World.{task, without, among, awaiter_of};
+ghost use Rattle.executor_model.specs.Good.{IsKnown, CanGrow, IsHeld, HasPlace, KeepsAwaiter, IsKnownWaker, CanWake};
+ghost use Rattle.std.specs.Prelude.{IfSome, IfNone, is_some};
+ghost use Rattle.std.specs.List.{remove};
+ghost use Rattle.executor_core.specs.Views.{world_of, HasRoom, HasRoomToEnd, HasSpace, Does};
+
+use crate::store::Store;
+use async_task::moves::State;
+use executor_model::{Event, Hint, Hold, Op, Reply};
+
+/// Whether the future is among these.
+pub fn is_among(list: &[u64], f: u64) -> bool
+    ensures { result ≡ among f list.now }
+{
+    place_of(list, f).is_some()
+}
+
+/// The place of the future among these, where it has one.
+pub fn place_of(list: &[u64], f: u64) -> Option<usize>
+    ensures some { IfSome result (λ i. (i < length list.now) × (among f list.now ≡ true) × (remove list.now i ≡ without f list.now)) }
+    ensures none { IfNone result ((among f list.now ≡ false) × (without f list.now ≡ list.now)) }
+    ensures found { is_some result ≡ among f list.now }
+{
+    for (i, x) in list.iter().enumerate() {
+        if *x == f {
+            return Some(i);
+        }
+    }
+    None
+}
+
+/// A new future is taken in, where there are not too many and memory is not refused.
+pub fn enter(store: &mut Store, todo: &mut Vec<Op>, party: u32, hint: Hint)
+    requires room { HasRoom store.old }
+    requires space { HasSpace todo.old }
+    ensures { Does (acts.enter party hint (world_of store.old)) store.new todo.old.items todo.new.items }
+{
+    if store.table.len() as u64 >= store.limit {
+        todo.push_reserved(Op::End(Reply::Full, Hold::Executor));
+        return;
+    }
+    if hint.refused {
+        todo.push_reserved(Op::End(Reply::NoMemory, Hold::Executor));
+        return;
+    }
+    let f = store.tasks.len() as u64;
+    store.tasks.push_reserved(entered());
+    store.awaiters.push_reserved(None);
+    store.inside.push_reserved(true);
+    store.table.push_reserved(f);
+    store
+        .trace
+        .push_reserved(Event::Accepted { party, future: f });
+    todo.push_reserved(Op::End(Reply::Made, Hold::Spawned(f)));
+    todo.push_reserved(Op::Append(f));
+}
+
+/// A new task, of which the table has a waker.
+fn entered() -> State
+    ensures { result ≡ acts.entered }
+{
+    State {
+        scheduled: true,
+        running: false,
+        completed: false,
+        closed: false,
+        handle: true,
+        awaiter: false,
+        registering: false,
+        notifying: false,
+        references: 2,
+    }
+}
+
+/// The table is asked whether it is empty.
+pub fn look_at_table(store: &mut Store, todo: &mut Vec<Op>)
+    requires room { HasRoom store.old }
+    requires space { HasSpace todo.old }
+    ensures { Does (acts.look_at_table (world_of store.old)) store.new todo.old.items todo.new.items }
+{
+    let reply = if store.table.is_empty() {
+        Reply::Yes
+    } else {
+        Reply::No
+    };
+    todo.push_reserved(Op::End(reply, Hold::Executor));
+}
+
+/// The future is taken out, to be polled.
+pub fn take_to_poll(store: &mut Store, todo: &mut Vec<Op>, f: u64)
+    requires room { HasRoom store.old }
+    requires space { HasSpace todo.old }
+    requires needs { HasPlace (world_of store.old) f }
+    ensures { Does (acts.take_to_poll (world_of store.old) f) store.new todo.old.items todo.new.items }
+{
+    store.inside[f as usize] = false;
+    todo.push_reserved(Op::Poll(f));
+}
+
+/// The future is put back.
+pub fn put_back(store: &mut Store, todo: &mut Vec<Op>, f: u64)
+    requires room { HasRoom store.old }
+    requires space { HasSpace todo.old }
+    requires needs { HasPlace (world_of store.old) f }
+    ensures { Does (acts.put_back (world_of store.old) f) store.new todo.old.items todo.new.items }
+{
+    store.inside[f as usize] = true;
+    todo.push_reserved(Op::EndPending(f));
+}
+
+/// The future is taken out, to be dropped.
+pub fn take_to_drop(store: &mut Store, todo: &mut Vec<Op>, f: u64)
+    requires room { HasRoom store.old }
+    requires space { HasSpace todo.old }
+    requires needs { HasPlace (world_of store.old) f }
+    ensures { Does (acts.take_to_drop (world_of store.old) f) store.new todo.old.items todo.new.items }
+{
+    store.inside[f as usize] = false;
+    todo.push_reserved(Op::LeaveTable(f));
+    todo.push_reserved(Op::BeginDrop(f));
+}
+
+/// The future's entry is taken out, where it is there, and its waker goes.
+pub fn leave_table(store: &mut Store, todo: &mut Vec<Op>, f: u64)
+    requires room { HasRoom store.old }
+    requires space { HasSpace todo.old }
+    ensures { Does (acts.leave_table (world_of store.old) f) store.new todo.old.items todo.new.items }
+{
+    if let Some(place) = place_of(store.table.as_slice(), f) {
+        store.table.remove(place);
+        todo.push_reserved(Op::Release(f));
+    }
+}
+
+/// The drop of a future begins.
+pub fn begin_drop(store: &mut Store, todo: &mut Vec<Op>, party: u32, f: u64)
+    requires room { HasRoom store.old }
+    requires space { HasSpace todo.old }
+    ensures { Does (acts.begin_drop party (world_of store.old) f) store.new todo.old.items todo.new.items }
+{
+    store
+        .trace
+        .push_reserved(Event::Dropped { party, future: f });
+    todo.push_reserved(Op::Drop(f));
+}
+
+/// The drop of an output begins.
+pub fn begin_drop_output(store: &mut Store, todo: &mut Vec<Op>, party: u32, f: u64)
+    requires room { HasRoom store.old }
+    requires space { HasSpace todo.old }
+    ensures { Does (acts.begin_drop_output party (world_of store.old) f) store.new todo.old.items todo.new.items }
+{
+    store
+        .trace
+        .push_reserved(Event::OutputDropped { party, future: f });
+    todo.push_reserved(Op::DropOutput(f));
+}

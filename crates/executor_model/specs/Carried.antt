@@ -1,0 +1,60 @@
+-- What a move of a task owes, as things that the party has still to do, in the order in which they are paid.
+use Rattle.std.specs.Prelude.{ℕ, Bool, true, false, Option, Some, None, List, [], ◌∷◌, ◌++◌}
+use Rattle.async_task.specs.declared.schedule.ScheduleInfo.{ScheduleInfo}
+use Rattle.async_task.specs.declared.moves.owed.Move.{Move}
+use Rattle.async_task.specs.declared.moves.owed.Move.TheVariants as move
+use Rattle.async_task.specs.declared.moves.owed.FutureDebt.{FutureDebt}
+use Rattle.async_task.specs.declared.moves.owed.FutureDebt.TheVariants.{PollFuture, DropFuture}
+use Rattle.async_task.specs.declared.moves.owed.AwaiterDebt.{AwaiterDebt}
+use Rattle.async_task.specs.declared.moves.owed.AwaiterDebt.TheVariants.{NotifyAwaiter, NotifyOther, CallGiven, StoreCopy, CallStored, TakeAwaiter, CallTaken}
+use Rattle.async_task.specs.declared.moves.owed.Owed.{Owed}
+use Rattle.async_task.specs.declared.moves.owed.Moved.{Moved}
+use Rattle.executor_model.specs.declared.op.Op.{Op}
+use Rattle.executor_model.specs.declared.op.Op.TheVariants.{Append, Release, SettleClosed, GiveUp, EndClosed, Detach, TakeToPoll, TakeToDrop, BeginDropOutput, Notify}
+use Rattle.executor_model.specs.World.{World, Done, done, put, among}
+
+abbrev pub schedule_ops : ℕ → Option ScheduleInfo → List Op
+schedule_ops f (Some info) = Append f ∷ []
+schedule_ops f None = []
+
+-- a future that the executor's drop took out of the table is dropped by that, and nothing is left to do here
+abbrev pub drop_ops : Bool → ℕ → List Op
+drop_ops true f = TakeToDrop f ∷ []
+drop_ops false f = []
+
+abbrev pub future_ops : Bool → ℕ → Option FutureDebt → List Op
+future_ops there f (Some PollFuture) = TakeToPoll f ∷ []
+future_ops there f (Some DropFuture) = drop_ops there f
+future_ops there f None = []
+
+abbrev pub output_ops : Bool → ℕ → List Op
+output_ops true f = BeginDropOutput f ∷ []
+output_ops false f = []
+
+-- the debts of a register and of the end of a notify are paid by the handle's poll and by the notifier, who know the waker
+abbrev pub awaiter_ops : ℕ → Option AwaiterDebt → List Op
+awaiter_ops f (Some NotifyAwaiter) = Notify f false ∷ []
+awaiter_ops f (Some NotifyOther) = Notify f true ∷ []
+awaiter_ops f (Some CallGiven) = []
+awaiter_ops f (Some StoreCopy) = []
+awaiter_ops f (Some CallStored) = []
+awaiter_ops f (Some TakeAwaiter) = []
+awaiter_ops f (Some CallTaken) = []
+awaiter_ops f None = []
+
+-- no move is followed by another but these, a poll's apart
+abbrev pub next_ops : ℕ → Option Move → List Op
+next_ops f (Some move.Release) = Release f ∷ []
+next_ops f (Some move.SettleClosed) = SettleClosed f ∷ []
+next_ops f (Some move.GiveUp) = GiveUp f ∷ []
+next_ops f (Some move.EndClosed) = EndClosed f ∷ []
+next_ops f (Some move.Detach) = Detach f ∷ []
+next_ops f _ = []
+
+abbrev pub owed_ops : Bool → ℕ → Owed → List Op
+owed_ops there f o =
+    schedule_ops f o.schedule ++ future_ops there f o.future ++ output_ops o.drop_output f ++ awaiter_ops f o.awaiter ++ next_ops f o.next
+
+-- future f's task has moved
+abbrev pub carried : World → ℕ → Moved → Done
+carried w f m = done (put w f m.state) (owed_ops (among f w.table) f m.owed)

@@ -1,0 +1,212 @@
+-- What holds of each future at every moment, and the numbers that it is said by.
+use Rattle.std.specs.Prelude.{◌≡◌, ◌≢◌, ◌⊎◌, ℕ, ◌+◌, ◌^◌, ◌≤◌, ◌==◌, Bool, true, false, Option, Some, None, List, [], ◌∷◌, cond}
+use Rattle.executor_model.specs.declared.event.Answer.{Answer}
+use Rattle.executor_model.specs.declared.event.Answer.TheVariants.{Pending, Ready}
+use Rattle.executor_model.specs.declared.event.Event.{Event}
+use Rattle.executor_model.specs.declared.event.Event.TheVariants.{PollBegun, Answered, Dropped}
+use Rattle.executor_model.specs.declared.op.Awaiter.{Awaiter}
+use Rattle.executor_model.specs.declared.op.Waker.{Waker}
+use Rattle.executor_model.specs.declared.op.Waker.TheVariants.{Task, Outside}
+use Rattle.executor_model.specs.declared.op.Op.{Op}
+use Rattle.executor_model.specs.declared.op.Op.TheVariants as op
+use Rattle.executor_model.specs.Trace.{Trace}
+use Rattle.executor_model.specs.World.{World, task}
+use Rattle.executor_model.specs.Weights.{same, weigh, weigh_all, borrowing_of}
+
+-- how often g stands in the list
+abbrev pub times : ℕ → List ℕ → ℕ
+times g [] = 0
+times g (f ∷ fs) = same g f + times g fs
+
+-- how many of these kept wakers wake g
+abbrev pub wakers_of : ℕ → List (Option ℕ) → ℕ
+wakers_of g [] = 0
+wakers_of g (None ∷ ws) = wakers_of g ws
+wakers_of g (Some f ∷ ws) = same g f + wakers_of g ws
+
+-- whether the waker is one of g's task
+abbrev pub wakes : ℕ → Waker → ℕ
+wakes g (Task f) = same g f
+wakes g (Outside x) = 0
+
+-- how many of these stored awaiters are wakers of g's task
+abbrev pub awaiters_of : ℕ → List (Option Awaiter) → ℕ
+awaiters_of g [] = 0
+awaiters_of g (None ∷ rest) = awaiters_of g rest
+awaiters_of g (Some a ∷ rest) = wakes g a.waker + awaiters_of g rest
+
+-- one number for each stage of a run of g
+
+-- Runnables that are not in the queue
+abbrev pub waiting_of : ℕ → Op → ℕ
+waiting_of g (op.Append f) = same g f
+waiting_of g (op.TakeUp f) = same g f
+waiting_of g (op.DropRunnable f) = same g f
+waiting_of g _ = 0
+
+abbrev pub polls_of : ℕ → Op → ℕ
+polls_of g (op.TakeToPoll f) = same g f
+polls_of g (op.Poll f) = same g f
+polls_of g _ = 0
+
+abbrev pub ending_of : ℕ → Op → ℕ
+ending_of g (op.PutBack f) = same g f
+ending_of g (op.EndPending f) = same g f
+ending_of g _ = 0
+
+abbrev pub ready_of : ℕ → Op → ℕ
+ready_of g (op.EndReady f) = same g f
+ready_of g _ = 0
+
+abbrev pub closing_of : ℕ → Op → ℕ
+closing_of g (op.EndClosed f) = same g f
+closing_of g _ = 0
+
+abbrev pub settling_of : ℕ → Op → ℕ
+settling_of g (op.SettleClosed f) = same g f
+settling_of g _ = 0
+
+abbrev pub giving_of : ℕ → Op → ℕ
+giving_of g (op.GiveUp f) = same g f
+giving_of g _ = 0
+
+-- drops of the future that are owed
+abbrev pub drops_of : ℕ → Op → ℕ
+drops_of g (op.TakeToDrop f) = same g f
+drops_of g (op.BeginDrop f) = same g f
+drops_of g _ = 0
+
+-- wakers that are about to go
+abbrev pub releases_of : ℕ → Op → ℕ
+releases_of g (op.Wake f) = same g f
+releases_of g (op.Release f) = same g f
+releases_of g _ = 0
+
+-- wakers on their way to be stored or called
+abbrev pub copies_of : ℕ → Op → ℕ
+copies_of g (op.Register f a k) = wakes g a
+copies_of g (op.EndRegister f a k) = wakes g a
+copies_of g (op.CallAwaiter f a k) = wakes g a
+copies_of g _ = 0
+
+abbrev pub ousting_of : Op → ℕ
+ousting_of op.TakeOut = 1
+ousting_of _ = 0
+
+-- what the parties have still to do with g
+pub record Pend : Type 0 where
+  pub waiting : ℕ
+  pub polls : ℕ
+  pub ending : ℕ
+  pub ready : ℕ
+  pub closing : ℕ
+  pub settling : ℕ
+  pub giving : ℕ
+  pub drops : ℕ
+  pub releases : ℕ
+  pub copies : ℕ
+  pub borrowing : ℕ
+  pub ousting : ℕ
+
+abbrev pub with_ops : ℕ → List Op → Pend → Pend
+with_ops g os r = record {
+  waiting = weigh (waiting_of g) os + r.waiting;
+  polls = weigh (polls_of g) os + r.polls;
+  ending = weigh (ending_of g) os + r.ending;
+  ready = weigh (ready_of g) os + r.ready;
+  closing = weigh (closing_of g) os + r.closing;
+  settling = weigh (settling_of g) os + r.settling;
+  giving = weigh (giving_of g) os + r.giving;
+  drops = weigh (drops_of g) os + r.drops;
+  releases = weigh (releases_of g) os + r.releases;
+  copies = weigh (copies_of g) os + r.copies;
+  borrowing = weigh borrowing_of os + r.borrowing;
+  ousting = weigh ousting_of os + r.ousting;
+}
+
+abbrev pub pend : ℕ → List (List Op) → Pend
+pend g ss = record {
+  waiting = weigh_all (waiting_of g) ss;
+  polls = weigh_all (polls_of g) ss;
+  ending = weigh_all (ending_of g) ss;
+  ready = weigh_all (ready_of g) ss;
+  closing = weigh_all (closing_of g) ss;
+  settling = weigh_all (settling_of g) ss;
+  giving = weigh_all (giving_of g) ss;
+  drops = weigh_all (drops_of g) ss;
+  releases = weigh_all (releases_of g) ss;
+  copies = weigh_all (copies_of g) ss;
+  borrowing = weigh_all borrowing_of ss;
+  ousting = weigh_all ousting_of ss;
+}
+
+-- where a future stands in its trace
+pub data Phase : Type 0 where
+  Fresh : Phase
+  Polling : Phase
+  Over : Phase
+  Broken : Phase
+
+abbrev pub after_begun : Phase → Phase
+after_begun Fresh = Polling
+after_begun Polling = Broken
+after_begun Over = Broken
+after_begun Broken = Broken
+
+abbrev pub after_answered : Answer → Phase → Phase
+after_answered Ready Polling = Over
+after_answered Pending Polling = Fresh
+after_answered a Fresh = Broken
+after_answered a Over = Broken
+after_answered a Broken = Broken
+
+abbrev pub after_dropped : Phase → Phase
+after_dropped Fresh = Over
+after_dropped Polling = Broken
+after_dropped Over = Over
+after_dropped Broken = Broken
+
+-- what an event does to g's phase
+abbrev pub passes : ℕ → Event → Phase → Phase
+passes g (PollBegun p f) s = cond (g == f) (after_begun s) s
+passes g (Answered p f a) s = cond (g == f) (after_answered a s) s
+passes g (Dropped p f) s = cond (g == f) (after_dropped s) s
+passes g _ s = s
+
+abbrev pub phase_from : ℕ → Phase → Trace → Phase
+phase_from g s [] = s
+phase_from g s (e ∷ es) = phase_from g (passes g e s) es
+
+abbrev pub phase : ℕ → Trace → Phase
+phase g es = phase_from g Fresh es
+
+-- Runnables, runs and closing calls of g
+abbrev pub tokens : World → ℕ → Pend → ℕ
+tokens w g p = times g w.queue.items + (p.waiting + (p.polls + (p.ending + (p.ready + (p.closing + (p.settling + p.giving))))))
+
+-- living wakers of g's task
+abbrev pub living : World → ℕ → Pend → ℕ
+living w g p = times g w.table + (times g w.leaving + (times g w.waking + (wakers_of g w.wakers + (awaiters_of g w.awaiters + (p.releases + p.copies)))))
+
+-- what holds of future g
+pub record Sound (w : World) (g : ℕ) (p : Pend) : Type 0 where
+  pub counted : (task w g).references ≡ tokens w g p + living w g p
+  pub one : tokens w g p ≤ 1
+  pub few : living w g p ≤ 2 ^ 40
+  pub busy : 1 ≤ tokens w g p → ((task w g).scheduled ≡ true) ⊎ (((task w g).running ≡ true) ⊎ (((task w g).closed ≡ true) ⊎ ((task w g).completed ≡ true)))
+  pub live : 1 ≤ times g w.queue.items + (p.waiting + (p.polls + (p.ending + p.ready))) → (task w g).completed ≡ false
+  pub ends : 1 ≤ p.closing + (p.settling + p.giving) → ((task w g).closed ≡ true) ⊎ ((task w g).completed ≡ true)
+  pub drop : 1 ≤ p.drops → ((task w g).closed ≡ true) ⊎ (((task w g).completed ≡ true) ⊎ (1 ≤ p.ready))
+  pub calm : 1 ≤ p.drops → p.polls ≡ 0
+  pub lawful : phase g w.trace ≢ Broken
+  pub polling : 1 ≤ p.polls → phase g w.trace ≡ Polling
+  pub resting : p.polls ≡ 0 → phase g w.trace ≢ Polling
+  pub over : phase g w.trace ≡ Over → ((task w g).closed ≡ true) ⊎ (((task w g).completed ≡ true) ⊎ ((1 ≤ p.ready) ⊎ (w.gone ≡ true)))
+  pub given : 1 ≤ p.giving → ((task w g).scheduled ≡ false) × ((task w g).running ≡ false)
+  pub owed : (task w g).scheduled ≡ true → 1 ≤ tokens w g p
+  pub going : (task w g).running ≡ true → 1 ≤ p.polls + (p.ending + (p.ready + p.closing))
+  pub carries : 1 ≤ times g w.queue.items + p.waiting → (task w g).scheduled ≡ true
+  pub rests : (task w g).completed ≡ true → ((task w g).scheduled ≡ false) × ((task w g).running ≡ false)
+  pub lent : w.gone ≡ true → p.borrowing ≡ 0
+  pub unpolled : w.gone ≡ true → p.polls ≡ 0
+  pub ousted : 1 ≤ p.ousting + times g w.leaving → w.gone ≡ true

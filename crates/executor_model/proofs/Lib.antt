@@ -1,3 +1,6 @@
 pub mod Lists
+pub mod Counting
+pub mod Fitting
+pub mod Lift
 pub mod Ways
 pub mod Lawful

@@ -167,8 +167,8 @@ copy_awaiter p h w f a = copy_awaiter_by (is_copy_refused h w a) p w f a
 
 -- somebody is notifying, and the waker is called at once; or the copy is about to be stored
 abbrev pub register_by : Bool → World → ℕ → Waker → ℕ → Done
-register_by true w f a k = done (put w f (moves.register (task w f)).state) (op.CallAwaiter f a k ∷ op.LookAgain f ∷ [])
-register_by false w f a k = done (put w f (moves.register (task w f)).state) (op.EndRegister f a k ∷ [])
+register_by true w f a k = done (put w f (moves.register_by true (task w f)).state) (op.CallAwaiter f a k ∷ op.LookAgain f ∷ [])
+register_by false w f a k = done (put w f (moves.register_by false (task w f)).state) (op.EndRegister f a k ∷ [])
 
 abbrev pub register : World → ℕ → Waker → ℕ → Done
 register w f a k = register_by (task w f).notifying w f a k
@@ -184,8 +184,8 @@ let_go (Some a) = waker_goes a.waker
 
 -- somebody wanted to notify meanwhile, and the copy is called; or it is stored. The old awaiter goes
 abbrev pub end_register_by : Bool → World → ℕ → Waker → ℕ → Done
-end_register_by true w f a k = done (put_awaiter (put w f (moves.end_register (task w f)).state) f None) (op.CallAwaiter f a k ∷ let_go (awaiter_of w f) ++ op.LookAgain f ∷ [])
-end_register_by false w f a k = done (put_awaiter (put w f (moves.end_register (task w f)).state) f (Some (record { waker = a; poll = k }))) (let_go (awaiter_of w f) ++ op.LookAgain f ∷ [])
+end_register_by true w f a k = done (put_awaiter (put w f (moves.end_register_by true (task w f)).state) f None) (op.CallAwaiter f a k ∷ let_go (awaiter_of w f) ++ op.LookAgain f ∷ [])
+end_register_by false w f a k = done (put_awaiter (put w f (moves.end_register_by false (task w f)).state) f (Some (record { waker = a; poll = k }))) (let_go (awaiter_of w f) ++ op.LookAgain f ∷ [])
 
 abbrev pub end_register : World → ℕ → Waker → ℕ → Done
 end_register w f a k = end_register_by (task w f).notifying w f a k
@@ -200,8 +200,8 @@ look_again p w f = look_again_by (moves.look_again (task w f)).owed.answer p w f
 
 -- somebody else is at the awaiter, or not
 abbrev pub notify_by : Bool → World → ℕ → Bool → Done
-notify_by true w f mine = done (put w f (moves.notify (task w f)).state) []
-notify_by false w f mine = done (put w f (moves.notify (task w f)).state) (op.EndNotify f mine ∷ [])
+notify_by true w f mine = done (put w f (moves.notify_by true (task w f)).state) []
+notify_by false w f mine = done (put w f (moves.notify_by false (task w f)).state) (op.EndNotify f mine ∷ [])
 
 abbrev pub notify : World → ℕ → Bool → Done
 notify w f mine = notify_by ((task w f).notifying || (task w f).registering) w f mine

@@ -208,5 +208,5 @@ pub record Sound (w : World) (g : ℕ) (p : Pend) : Type 0 where
   pub carries : 1 ≤ times g w.queue.items + p.waiting → (task w g).scheduled ≡ true
   pub rests : (task w g).completed ≡ true → ((task w g).scheduled ≡ false) × ((task w g).running ≡ false)
   pub lent : w.gone ≡ true → p.borrowing ≡ 0
-  pub within : p.polls ≤ p.borrowing
+  pub unpolled : w.gone ≡ true → p.polls ≡ 0
   pub ousted : 1 ≤ p.ousting + times g w.leaving → w.gone ≡ true

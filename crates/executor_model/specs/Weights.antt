@@ -53,6 +53,7 @@ borrowing_of (op.Poll f) = 1
 borrowing_of (op.PutBack f) = 1
 borrowing_of (op.EndPending f) = 1
 borrowing_of (op.EndReady f) = 1
+borrowing_of (op.CopyWaker f held) = holds_executor held
 borrowing_of (op.End r held) = holds_executor held
 borrowing_of _ = 0
 

@@ -1,0 +1,168 @@
+//! What a call changes as it begins, and what follows the end of user code.
+ghost use Rattle.std.specs.Prelude.{◌≡◌, ◌≢◌, ℕ, ◌+◌, ◌-◌, ◌^◌, ◌<◌, ◌≤◌, ◌==◌, ◌++◌, true, false, not, Some, None, List, [], ◌∷◌, length, map, reverse, vec_len, vec_capacity};
+ghost use Rattle.executor_model.specs.Steps as steps;
+ghost use Rattle.executor_model.specs.Weights as weights;
+ghost use Rattle.executor_model.specs.Weights.{weigh, weigh_all};
+ghost use Rattle.executor_model.specs.World.{task};
+ghost use Rattle.executor_model.specs.Good.{Needs};
+ghost use Rattle.executor_core.specs.Views.{world_of, HasRoom, HasRoomToEnd, HasSpace, Does};
+
+use crate::act::act;
+use crate::possible::{kept, polled_by};
+use crate::store::Store;
+use executor_model::{Answer, By, Call, Event, Hold, Op, Reply, Step, UserEnd, Waker};
+
+fn waker_of(here: Option<u64>, by: By) -> Waker
+    ensures { result ≡ steps.waker_of here by }
+{
+    match by {
+        By::Outside(x) => Waker::Outside(x),
+        By::Mine => match here {
+            Some(g) => Waker::Task(g),
+            None => Waker::Outside(0),
+        },
+    }
+}
+
+/// The kept waker is used up.
+fn use_up(store: &mut Store, k: u64)
+    ensures world { world_of store.new ≡ steps.used_up (world_of store.old) k }
+    ensures room { HasRoom store.old → HasRoom store.new }
+    ensures end { HasRoomToEnd store.old → HasRoomToEnd store.new }
+{
+    if k < store.wakers.len() as u64 {
+        store.wakers[k as usize] = None;
+    }
+}
+
+/// A call begins.
+fn begin(store: &mut Store, todo: &mut Vec<Op>, party: u32, here: Option<u64>, call: Call)
+    requires room { vec_len store.old.trace + 2 ≤ vec_capacity store.old.trace }
+    requires space { HasSpace todo.old }
+    ensures { Does (steps.begun party (world_of store.old) here call) store.new todo.old.items todo.new.items }
+{
+    match call {
+        Call::Spawn => todo.push_reserved(Op::Enter),
+        Call::TryTick => todo.push_reserved(Op::Take),
+        Call::IsEmpty => todo.push_reserved(Op::LookAtTable),
+        Call::Wake(k) => {
+            if let Some(f) = kept(store, k) {
+                use_up(store, k);
+                todo.push_reserved(Op::End(Reply::Done, Hold::Nothing));
+                todo.push_reserved(Op::Wake(f));
+            }
+        }
+        Call::WakeByRef(k) => {
+            if let Some(f) = kept(store, k) {
+                todo.push_reserved(Op::End(Reply::Done, Hold::Waker(k)));
+                todo.push_reserved(Op::WakeByReference(f));
+            }
+        }
+        Call::Copy(k) => {
+            if let Some(f) = kept(store, k) {
+                todo.push_reserved(Op::CopyWaker(f, Hold::Waker(k)));
+            }
+        }
+        Call::DropWaker(k) => {
+            if let Some(f) = kept(store, k) {
+                use_up(store, k);
+                todo.push_reserved(Op::End(Reply::Done, Hold::Nothing));
+                todo.push_reserved(Op::Release(f));
+            }
+        }
+        Call::Keep => {
+            if let Some(f) = here {
+                todo.push_reserved(Op::CopyWaker(f, Hold::Nothing));
+            }
+        }
+        Call::WakeSelf => {
+            if let Some(f) = here {
+                todo.push_reserved(Op::End(Reply::Done, Hold::Nothing));
+                todo.push_reserved(Op::WakeByReference(f));
+            }
+        }
+        Call::PollHandle(f, by) => todo.push_reserved(Op::Look(f, waker_of(here, by))),
+        Call::Cancel(f) => {
+            todo.push_reserved(Op::End(Reply::Done, Hold::Handle(f)));
+            todo.push_reserved(Op::Cancel(f));
+        }
+        Call::Detach(f) => {
+            todo.push_reserved(Op::End(Reply::Done, Hold::Handle(f)));
+            todo.push_reserved(Op::Detach(f));
+        }
+        Call::DropHandle(f) => {
+            todo.push_reserved(Op::End(Reply::Done, Hold::Handle(f)));
+            todo.push_reserved(Op::Detach(f));
+            todo.push_reserved(Op::Cancel(f));
+        }
+        Call::DropExecutor => {
+            store.gone = true;
+            store.trace.push_reserved(Event::DropBegun { party });
+            todo.push_reserved(Op::End(Reply::Done, Hold::Nothing));
+            todo.push_reserved(Op::TakeOut);
+        }
+    }
+}
+
+/// User code has ended.
+fn react(store: &mut Store, todo: &mut Vec<Op>, party: u32, op: Op, end: UserEnd)
+    requires room { HasRoom store.old }
+    requires space { HasSpace todo.old }
+    ensures { Does (steps.react party op end (world_of store.old)) store.new todo.old.items todo.new.items }
+{
+    if let Op::Poll(f) = op {
+        match end {
+            UserEnd::Polled(Answer::Pending) => {
+                store.trace.push_reserved(Event::Answered { party, future: f, answer: Answer::Pending });
+                todo.push_reserved(Op::PutBack(f));
+            }
+            UserEnd::Polled(Answer::Ready) => {
+                store.trace.push_reserved(Event::Answered { party, future: f, answer: Answer::Ready });
+                todo.push_reserved(Op::EndReady(f));
+                todo.push_reserved(Op::LeaveTable(f));
+                todo.push_reserved(Op::BeginDrop(f));
+            }
+            UserEnd::Done => {}
+        }
+    }
+}
+
+/// A call whose end is all that is left of it ends.
+fn settle(store: &mut Store, todo: &mut Vec<Op>, party: u32)
+    requires { HasRoomToEnd store.old }
+    ensures { record { world = world_of store.new; todo = todo.new.items } ≡ steps.settled party (world_of store.old) todo.old.items }
+{
+    if let Some(Op::End(reply, _)) = todo.last().copied() {
+        todo.pop();
+        store.trace.push_reserved(Event::CallEnded { party, reply });
+    }
+}
+
+/// The party's part of a step that is possible.
+pub fn take_part(store: &mut Store, todo: &mut Vec<Op>, step: Step)
+    requires room { HasRoom store.old }
+    requires space { HasSpace todo.old }
+    requires needs { (op : Op) → steps.top todo.old.items ≡ Some op → Needs (world_of store.old) op }
+    ensures { record { world = world_of store.new; todo = todo.new.items } ≡ steps.part_after (world_of store.old) todo.old.items step }
+{
+    match step {
+        Step::Begin { party, call } => {
+            let here = polled_by(todo.last().copied());
+            store.trace.push_reserved(Event::CallBegun { party, call });
+            begin(store, todo, party, here, call);
+            settle(store, todo, party);
+        }
+        Step::Go { party, hint } => {
+            if let Some(op) = todo.pop() {
+                act(store, todo, party, hint, op);
+                settle(store, todo, party);
+            }
+        }
+        Step::Answer { party, end } => {
+            if let Some(op) = todo.pop() {
+                react(store, todo, party, op, end);
+                settle(store, todo, party);
+            }
+        }
+    }
+}

@@ -1,0 +1,202 @@
+//! Which steps are possible, and why one isn't.
+ghost use Rattle.std.specs.Prelude.{◌≡◌, ◌≢◌, ℕ, ◌+◌, ◌-◌, ◌^◌, ◌<◌, ◌≤◌, ◌==◌, ◌++◌, true, false, not, Some, None, List, [], ◌∷◌, length, map, reverse, vec_len, vec_capacity};
+ghost use Rattle.executor_model.specs.Steps as steps;
+ghost use Rattle.executor_model.specs.Weights as weights;
+ghost use Rattle.executor_model.specs.Weights.{weigh, weigh_all};
+ghost use Rattle.executor_model.specs.World.{task};
+ghost use Rattle.executor_core.specs.Views.{world_of, HasRoom, HasRoomToEnd, HasSpace, Does};
+
+use crate::store::Store;
+use crate::uses::{Use, is_unused};
+use executor_model::{By, Call, Op, Step, StepError, UserEnd};
+
+/// User code, which must answer first.
+pub fn waits(op: Op) -> bool
+    ensures { result ≡ steps.waits op }
+{
+    match op {
+        Op::Poll(_) => true,
+        Op::Drop(_) => true,
+        Op::DropOutput(_) => true,
+        Op::CallOutside(_) => true,
+        _ => false,
+    }
+}
+
+fn is_free(top: Option<Op>) -> bool
+    ensures { result ≡ steps.is_free top }
+{
+    match top {
+        None => true,
+        Some(op) => waits(op),
+    }
+}
+
+/// The future in whose poll a party is.
+pub fn polled_by(top: Option<Op>) -> Option<u64>
+    ensures { result ≡ steps.polled_by top }
+{
+    match top {
+        Some(Op::Poll(f)) => Some(f),
+        _ => None,
+    }
+}
+
+/// The future of a kept waker, where that is there.
+pub fn kept(store: &Store, k: u64) -> Option<u64>
+    ensures { result ≡ steps.kept (world_of store.now) k }
+{
+    if k < store.wakers.len() as u64 {
+        store.wakers[k as usize]
+    } else {
+        None
+    }
+}
+
+/// The handle of the future is there, and no call uses it.
+fn has_handle(store: &Store, parties: &[Vec<Op>], f: u64) -> bool
+    ensures { result ≡ steps.has_handle (world_of store.now) (map (λ v. v.items) parties.now) f }
+{
+    f < store.tasks.len() as u64
+        && store.tasks[f as usize].handle
+        && is_unused(parties, Use::Handle(f))
+}
+
+fn is_known(top: Option<Op>, by: By) -> bool
+    ensures { result ≡ steps.is_known top by }
+{
+    match by {
+        By::Mine => polled_by(top).is_some(),
+        By::Outside(_) => true,
+    }
+}
+
+/// What the call speaks of is there.
+fn has_all(store: &Store, parties: &[Vec<Op>], top: Option<Op>, call: Call) -> bool
+    ensures { result ≡ steps.has_all (world_of store.now) (map (λ v. v.items) parties.now) top call }
+{
+    match call {
+        Call::Spawn => true,
+        Call::TryTick => true,
+        Call::IsEmpty => true,
+        Call::Wake(k) => kept(store, k).is_some() && is_unused(parties, Use::Waker(k)),
+        Call::WakeByRef(k) => kept(store, k).is_some(),
+        Call::Copy(k) => kept(store, k).is_some(),
+        Call::DropWaker(k) => kept(store, k).is_some() && is_unused(parties, Use::Waker(k)),
+        Call::Keep => polled_by(top).is_some(),
+        Call::WakeSelf => polled_by(top).is_some(),
+        Call::PollHandle(f, by) => has_handle(store, parties, f) && is_known(top, by),
+        Call::Cancel(f) => has_handle(store, parties, f),
+        Call::Detach(f) => has_handle(store, parties, f),
+        Call::DropHandle(f) => has_handle(store, parties, f),
+        Call::DropExecutor => true,
+    }
+}
+
+fn is_on_executor(call: Call) -> bool
+    ensures { result ≡ steps.is_on_executor call }
+{
+    match call {
+        Call::Spawn => true,
+        Call::TryTick => true,
+        Call::IsEmpty => true,
+        Call::DropExecutor => true,
+        _ => false,
+    }
+}
+
+fn is_drop(call: Call) -> bool
+    ensures { result ≡ steps.is_drop call }
+{
+    match call {
+        Call::DropExecutor => true,
+        _ => false,
+    }
+}
+
+fn begin_refusal(
+    store: &Store,
+    parties: &[Vec<Op>],
+    top: Option<Op>,
+    call: Call,
+) -> Option<StepError>
+    ensures { result ≡ steps.begin_refusal (world_of store.now) (map (λ v. v.items) parties.now) top call }
+{
+    if !is_free(top) {
+        return Some(StepError::Busy);
+    }
+    if !has_all(store, parties, top, call) {
+        return Some(StepError::NoSuch);
+    }
+    if store.gone && is_on_executor(call) {
+        return Some(StepError::Gone);
+    }
+    if is_drop(call) && !is_unused(parties, Use::Executor) {
+        return Some(StepError::Borrowed);
+    }
+    None
+}
+
+fn go_refusal(top: Option<Op>) -> Option<StepError>
+    ensures { result ≡ steps.go_refusal top }
+{
+    match top {
+        None => Some(StepError::Idle),
+        Some(op) => {
+            if waits(op) {
+                Some(StepError::WrongAnswer)
+            } else {
+                None
+            }
+        }
+    }
+}
+
+fn accepts(op: Op, end: UserEnd) -> bool
+    ensures { result ≡ steps.accepts op end }
+{
+    match end {
+        UserEnd::Polled(_) => match op {
+            Op::Poll(_) => true,
+            _ => false,
+        },
+        UserEnd::Done => match op {
+            Op::Drop(_) => true,
+            Op::DropOutput(_) => true,
+            Op::CallOutside(_) => true,
+            _ => false,
+        },
+    }
+}
+
+fn answer_refusal(top: Option<Op>, end: UserEnd) -> Option<StepError>
+    ensures { result ≡ steps.answer_refusal top end }
+{
+    match top {
+        None => Some(StepError::Idle),
+        Some(op) => {
+            if accepts(op, end) {
+                None
+            } else {
+                Some(StepError::WrongAnswer)
+            }
+        }
+    }
+}
+
+/// Why the party's part of the step isn't possible.
+pub fn part_refusal(
+    store: &Store,
+    parties: &[Vec<Op>],
+    todo: &[Op],
+    step: Step,
+) -> Option<StepError>
+    ensures { result ≡ steps.part_refusal (world_of store.now) (map (λ v. v.items) parties.now) todo.now step }
+{
+    let top = todo.last().copied();
+    match step {
+        Step::Begin { call, .. } => begin_refusal(store, parties, top, call),
+        Step::Go { .. } => go_refusal(top),
+        Step::Answer { end, .. } => answer_refusal(top, end),
+    }
+}

@@ -13,3 +13,4 @@ pub mod Steps
 pub mod Sound
 pub mod Good
 pub mod Runs
+pub mod EveryTrace

@@ -6,6 +6,7 @@ mod call;
 mod event;
 mod op;
 mod step;
+pub mod trace_laws;
 
 pub use call::{By, Call, Reply};
 pub use event::{Answer, Event};

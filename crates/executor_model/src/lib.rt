@@ -4,6 +4,7 @@
 
 mod call;
 mod event;
+pub mod laws;
 mod op;
 mod step;
 pub mod trace_laws;

@@ -1,0 +1,76 @@
+-- What a good machine gives to the thing that a party does.
+use Rattle.std.proofs.Common.{◌≡◌, ℕ, ◌+◌, ◌^◌, ◌<◌, ◌≤◌, List, [], ◌∷◌, ◌++◌, length, set, refl, sym, ap, ◌∙◌, arith}
+use Rattle.std.specs.Prelude.{Option, Some, None, reverse}
+use Rattle.executor_model.specs.declared.op.Waker.{Waker}
+use Rattle.executor_model.specs.declared.op.Waker.TheVariants.{Task, Outside}
+use Rattle.executor_model.specs.declared.op.Op.{Op}
+use Rattle.executor_model.specs.declared.op.Op.TheVariants as op
+use Rattle.executor_model.specs.World.{World, task}
+use Rattle.executor_model.specs.Weights.{same, weigh, weigh_all}
+use Rattle.executor_model.specs.Sound.{Sound, Pend, pend, times, ending_of, giving_of, releases_of}
+use Rattle.executor_model.specs.Good.{Good, Needs, IsKnown, CanGrow, IsHeld, HasPlace, KeepsAwaiter, IsKnownWaker, CanWake, past, pasts, waker_past, past_of}
+use Rattle.executor_model.specs.Steps.{Machine, stack, top, below_top}
+use Rattle.executor_model.proofs.Lists.{past_is, same_is}
+use Rattle.executor_model.proofs.Lift.{split, topped}
+
+below : (n f : ℕ) → past n f ≡ 0 → f < n
+below n f e = grind (arith, past_is)
+
+same_self : (g : ℕ) → same g g ≡ 1
+same_self g = grind (arith, same_is)
+
+-- the thing on top speaks of futures that are there
+speaks : (s : Machine) (p : ℕ) (o : Op) → p < length s.parties → top (stack s p) ≡ Some o → Good s → past_of (length s.world.tasks) o ≡ 0
+speaks s p o h e good = omega (arith, good.ops, split (past_of (length s.world.tasks)) s.parties p (o ∷ []) (below_top (stack s p)) h (topped _ o e))
+
+can_grow : (s : Machine) (f : ℕ) → Good s → past (length s.world.tasks) f ≡ 0 → CanGrow s.world f
+can_grow s f good z = let h = good.sound f in (below _ f z, omega (arith, h.counted, h.one, h.few))
+
+held : (s : Machine) (p f : ℕ) (o : Op) → p < length s.parties → top (stack s p) ≡ Some o → Good s → past (length s.world.tasks) f ≡ 0 → 1 ≤ ending_of f o + (giving_of f o + releases_of f o) → IsHeld s.world f
+held s p f o h e good z q =
+    let k = good.sound f in
+    let t : stack s p ≡ below_top (stack s p) ++ o ∷ [] = topped (stack s p) o e in
+    (below _ f z, omega (arith, k.counted, split (ending_of f) s.parties p (o ∷ []) (below_top (stack s p)) h t, split (giving_of f) s.parties p (o ∷ []) (below_top (stack s p)) h t, split (releases_of f) s.parties p (o ∷ []) (below_top (stack s p)) h t, q))
+
+has_place : (s : Machine) (f : ℕ) → Good s → past (length s.world.tasks) f ≡ 0 → HasPlace s.world f
+has_place s f good z = omega (arith, below (length s.world.tasks) f z, good.fits.inside)
+
+keeps_awaiter : (s : Machine) (f : ℕ) → Good s → past (length s.world.tasks) f ≡ 0 → KeepsAwaiter s.world f
+keeps_awaiter s f good z = (below _ f z, omega (arith, below (length s.world.tasks) f z, good.fits.awaiting))
+
+known_waker : (s : Machine) (a : Waker) → waker_past (length s.world.tasks) a ≡ 0 → IsKnownWaker s.world a
+known_waker s (Task g) z = below _ g z
+known_waker s (Outside x) z = tt
+
+can_wake : (s : Machine) (a : Waker) → Good s → waker_past (length s.world.tasks) a ≡ 0 → CanWake s.world a
+can_wake s (Task g) good z = can_grow s g good z
+can_wake s (Outside x) good z = tt
+
+pub needs : (s : Machine) (p : ℕ) (o : Op) → p < length s.parties → top (stack s p) ≡ Some o → Good s → Needs s.world o
+needs s p (op.WakeByReference f) h e good = can_grow s f good (speaks s p (op.WakeByReference f) h e good)
+needs s p (op.Wake f) h e good = can_grow s f good (speaks s p (op.Wake f) h e good)
+needs s p (op.Cancel f) h e good = can_grow s f good (speaks s p (op.Cancel f) h e good)
+needs s p (op.Release f) h e good = held s p f (op.Release f) h e good (speaks s p (op.Release f) h e good) (omega (arith, same_self f))
+needs s p (op.GiveUp f) h e good = held s p f (op.GiveUp f) h e good (speaks s p (op.GiveUp f) h e good) (omega (arith, same_self f))
+needs s p (op.EndPending f) h e good = held s p f (op.EndPending f) h e good (speaks s p (op.EndPending f) h e good) (omega (arith, same_self f))
+needs s p (op.TakeUp f) h e good = below _ f (speaks s p (op.TakeUp f) h e good)
+needs s p (op.SettleClosed f) h e good = below _ f (speaks s p (op.SettleClosed f) h e good)
+needs s p (op.EndReady f) h e good = below _ f (speaks s p (op.EndReady f) h e good)
+needs s p (op.EndClosed f) h e good = below _ f (speaks s p (op.EndClosed f) h e good)
+needs s p (op.DropRunnable f) h e good = below _ f (speaks s p (op.DropRunnable f) h e good)
+needs s p (op.Detach f) h e good = below _ f (speaks s p (op.Detach f) h e good)
+needs s p (op.LookAgain f) h e good = below _ f (speaks s p (op.LookAgain f) h e good)
+needs s p (op.TakeToPoll f) h e good = has_place s f good (speaks s p (op.TakeToPoll f) h e good)
+needs s p (op.PutBack f) h e good = has_place s f good (speaks s p (op.PutBack f) h e good)
+needs s p (op.TakeToDrop f) h e good = has_place s f good (speaks s p (op.TakeToDrop f) h e good)
+needs s p (op.CopyWaker f x) h e good = below _ f (speaks s p (op.CopyWaker f x) h e good)
+needs s p (op.Look f a) h e good = below _ f (omega (arith, speaks s p (op.Look f a) h e good))
+needs s p (op.CopyAwaiter f a) h e good = known_waker s a (omega (arith, speaks s p (op.CopyAwaiter f a) h e good))
+needs s p (op.Register f a k) h e good = below _ f (omega (arith, speaks s p (op.Register f a k) h e good))
+needs s p (op.EndRegister f a k) h e good = keeps_awaiter s f good (omega (arith, speaks s p (op.EndRegister f a k) h e good))
+needs s p (op.Notify f m) h e good = below _ f (speaks s p (op.Notify f m) h e good)
+needs s p (op.EndNotify f m) h e good = keeps_awaiter s f good (speaks s p (op.EndNotify f m) h e good)
+needs s p (op.CallAwaiter f a k) h e good = can_wake s a good (omega (arith, speaks s p (op.CallAwaiter f a k) h e good))
+needs s p op.DropNext h e good = λ f rest q. has_place s f good (omega (arith, ap (pasts (length s.world.tasks)) q, good.fits.leaving))
+needs s p op.WakeNext h e good = λ f rest q. can_grow s f good (omega (arith, ap (pasts (length s.world.tasks)) q, good.fits.waking))
+needs s p _ h e good = tt

@@ -6,3 +6,5 @@ pub mod Needing
 pub mod Ways
 pub mod Lawful
 pub mod Outputs
+pub mod OutputActs
+pub mod OutputRuns

@@ -62,8 +62,9 @@ pub record Given (w : World) (g : ℕ) (owed : ℕ) : Type 0 where
   pub completed : 1 ≤ outputs g w.trace + owed → (task w g).completed ≡ true
   pub closed : 1 ≤ outputs g w.trace + owed → (task w g).closed ≡ true
 
-abbrev pub KeepsOutput : World → List Op → Done → Type 0
-KeepsOutput w old d = (g r : ℕ) → Given w g (weigh (outs_of g) old + r) → Given d.world g (weigh (outs_of g) d.next + r)
+-- beside what else is owed
+pub record KeepsOutput (w : World) (old : List Op) (d : Done) : Type 0 where
+  pub keeps : (g r : ℕ) → Given w g (weigh (outs_of g) old + r) → Given d.world g (weigh (outs_of g) d.next + r)
 
 -- no output goes, and what is completed or closed stays so
 pub record Calm (w v : World) : Type 0 where
@@ -72,10 +73,12 @@ pub record Calm (w v : World) : Type 0 where
   pub closed : (g : ℕ) → (task w g).closed ≡ true → (task v g).closed ≡ true
 
 pub keeps-calm : (w : World) (old : List Op) (d : Done) → Calm w d.world → ((g : ℕ) → weigh (outs_of g) d.next ≡ 0) → KeepsOutput w old d
-keeps-calm w old d c z g r h = record {
-  once = omega (arith, h.once, c.trace g, z g);
-  completed = λ k. c.completed g (h.completed (omega (arith, k, c.trace g, z g)));
-  closed = λ k. c.closed g (h.closed (omega (arith, k, c.trace g, z g)));
+keeps-calm w old d c z = record {
+  keeps = λ g r h. record {
+    once = omega (arith, h.once, c.trace g, z g);
+    completed = λ k. c.completed g (h.completed (omega (arith, k, c.trace g, z g)));
+    closed = λ k. c.closed g (h.closed (omega (arith, k, c.trace g, z g)));
+  };
 }
 
 pub calm-same : (w v : World) → v.tasks ≡ w.tasks → v.trace ≡ w.trace → Calm w v
@@ -163,7 +166,7 @@ none-both g xs ys a b = omega (arith, weigh-append (outs_of g) xs ys, a, b)
 none-owed : (g f : ℕ) (there : Bool) (o : Owed) → o.drop_output ≡ false → weigh (outs_of g) (owed_ops there f o) ≡ 0
 none-owed g f there o e =
     let z : weigh (outs_of g) (output_ops o.drop_output f) ≡ 0 = ap (λ (b : Bool). weigh (outs_of g) (output_ops b f)) e in
-    none-both g _ _ (none-scheduled g f o.schedule) (none-both g _ _ (none-future g f there o.future) (none-both g _ _ z (none-both g _ _ (none-awaiter g f o.awaiter) (none-next g f o.next))))
+    none-both g _ _ (none-both g _ _ (none-both g _ _ (none-both g _ _ (none-scheduled g f o.schedule) (none-future g f there o.future)) z) (none-awaiter g f o.awaiter)) (none-next g f o.next)
 
 -- a move of a task at which no output goes
 pub record Tame (s : State) (m : Moved) : Type 0 where

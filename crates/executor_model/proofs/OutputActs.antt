@@ -220,12 +220,12 @@ out-act p h (op.WakeByReference f) w z n = keeps-logged _ w (event.Woken p f) f 
 out-act p h (op.Wake f) w z n = out-wake p w f _
 out-act p h (op.Release f) w z n = keeps-carried w w f _ _ (calm-same w w refl refl) (tame-release _ _ (task w f))
 out-act p h (op.TakeUp f) w z n = keeps-logged _ w (event.PollBegun p f) f _ _ (λ g. refl) (tame-take_up _ (task w f))
-out-act p h (op.SettleClosed f) w z n = keeps-carried w w f _ _ (calm-same w w refl refl) record { completed = λ e. e; closed = λ e. e; quiet = refl }
+out-act p h (op.SettleClosed f) w z n = keeps-carried w w f (moves.settle_closed (task w f)) _ (calm-same w w refl refl) record { completed = λ e. e; closed = λ e. e; quiet = refl }
 out-act p h (op.GiveUp f) w z n = keeps-carried w w f _ _ (calm-same w w refl refl) (tame-give_up _ (task w f))
 out-act p h (op.EndReady f) w z n = out-end_ready _ _ w f refl n (known _ f (omega (arith, z)))
 out-act p h (op.EndPending f) w z n = keeps-carried w w f _ _ (calm-same w w refl refl) (tame-end_pending _ _ _ (task w f))
-out-act p h (op.EndClosed f) w z n = keeps-carried w w f _ _ (calm-same w w refl refl) record { completed = λ e. e; closed = λ e. e; quiet = refl }
-out-act p h (op.DropRunnable f) w z n = keeps-carried w w f _ _ (calm-same w w refl refl) record { completed = λ e. e; closed = λ e. ap (λ (b : Bool). b || not (task w f).completed) e; quiet = refl }
+out-act p h (op.EndClosed f) w z n = keeps-carried w w f (moves.end_closed (task w f)) _ (calm-same w w refl refl) record { completed = λ e. e; closed = λ e. e; quiet = refl }
+out-act p h (op.DropRunnable f) w z n = keeps-carried w w f (moves.drop_runnable (task w f)) _ (calm-same w w refl refl) record { completed = λ e. e; closed = λ e. ap (λ (b : Bool). b || not (task w f).completed) e; quiet = refl }
 out-act p h (op.Cancel f) w z n = keeps-logged _ w (event.Cancelled p f) f _ _ (λ g. refl) (tame-cancel _ _ (task w f))
 out-act p h (op.Detach f) w z n = out-detach _ _ _ p w f refl (known _ f (omega (arith, z)))
 out-act p h (op.TakeToPoll f) w z n = keeps-calm w _ (act p h (op.TakeToPoll f) w) (calm-same w _ refl refl) (λ g. refl)

@@ -57,37 +57,37 @@ made s (Answer p u) k = made-answer s p u _ refl k
 
 -- what each move and each end of a call keep, each run keeps
 module _
-  (P : Machine → Type 0)
-  (moves : (s : Machine) (p : ℕ) (old rest : List Op) (d : Done) → Good s → p < length s.parties → stack s p ≡ rest ++ reverse old → Way s p old rest d → P s → P (unsettled s p rest d))
-  (ends : (s : Machine) (p : ℕ) (a : Reply) (held : Hold) (below : List Op) → p < length s.parties → stack s p ≡ below ++ reverse (op.End a held ∷ []) → P s → P (unsettled s p below (done (log s.world (event.CallEnded p a)) [])))
+    (P : Machine → Type 0)
+    (moves : (s : Machine) (p : ℕ) (old rest : List Op) (d : Done) → Good s → p < length s.parties → stack s p ≡ rest ++ reverse old → Way s p old rest d → P s → P (unsettled s p rest d))
+    (ends : (s : Machine) (p : ℕ) (a : Reply) (held : Hold) (below : List Op) → p < length s.parties → stack s p ≡ below ++ reverse (op.End a held ∷ []) → P s → P (unsettled s p below (done (log s.world (event.CallEnded p a)) [])))
   where
-  ended : (s : Machine) (p : ℕ) (os : List Op) (w : World) (o : Option Op) → p < length s.parties → top os ≡ o → P (record { world = w; parties = set s.parties p os }) → P (with_part s p (settled_by (end_of o) p w os))
-  ended s p os w None h e k = k
-  ended s p os w (Some (op.End a held)) h e k =
-      let t : Machine = record { world = w; parties = set s.parties p os } in
-      let l : p < length t.parties = omega (arith, h, length-set s.parties p os) in
-      let q : stack t p ≡ below_top os ++ reverse (op.End a held ∷ []) = get_or-set_same s.parties p os [] h ∙ topped os (op.End a held) e in
-      let n : P (unsettled t p (below_top os) (done (log w (event.CallEnded p a)) [])) = ends t p a held (below_top os) l q k in
-      subst (λ (ss : List (List Op)). P (record { world = log w (event.CallEnded p a); parties = ss })) (ap (set (set s.parties p os) p) (append-nil (below_top os)) ∙ set-set s.parties p os (below_top os)) n
-  ended s p os w (Some _) h e k = k
+    ended : (s : Machine) (p : ℕ) (os : List Op) (w : World) (o : Option Op) → p < length s.parties → top os ≡ o → P (record { world = w; parties = set s.parties p os }) → P (with_part s p (settled_by (end_of o) p w os))
+    ended s p os w None h e k = k
+    ended s p os w (Some (op.End a held)) h e k =
+        let t : Machine = record { world = w; parties = set s.parties p os } in
+        let l : p < length t.parties = omega (arith, h, length-set s.parties p os) in
+        let q : stack t p ≡ below_top os ++ reverse (op.End a held ∷ []) = get_or-set_same s.parties p os [] h ∙ topped os (op.End a held) e in
+        let n : P (unsettled t p (below_top os) (done (log w (event.CallEnded p a)) [])) = ends t p a held (below_top os) l q k in
+        subst (λ (ss : List (List Op)). P (record { world = log w (event.CallEnded p a); parties = ss })) (ap (set (set s.parties p os) p) (append-nil (below_top os)) ∙ set-set s.parties p os (below_top os)) n
+    ended s p os w (Some _) h e k = k
 
-  made-kept : (s : Machine) (p : ℕ) (x : Part) → p < length s.parties → Good s → Made s p x → P s → P (with_part s p x)
-  made-kept s p x l good m k = subst (λ (y : Part). P (with_part s p y)) m.now (ended s p (m.rest ++ reverse m.d.next) m.d.world _ l refl (moves s p m.old m.rest m.d good l m.was m.way k))
+    made-kept : (s : Machine) (p : ℕ) (x : Part) → p < length s.parties → Good s → Made s p x → P s → P (with_part s p x)
+    made-kept s p x l good m k = subst (λ (y : Part). P (with_part s p y)) m.now (ended s p (m.rest ++ reverse m.d.next) m.d.world _ l refl (moves s p m.old m.rest m.d good l m.was m.way k))
 
-  there : (b : Bool) (r : Option StepError) → unless b NoSuch r ≡ None → (b ≡ true) × (r ≡ None)
-  there true r e = (refl, e)
-  there false r e = absurd (cc)
+    there : (b : Bool) (r : Option StepError) → unless b NoSuch r ≡ None → (b ≡ true) × (r ≡ None)
+    there true r e = (refl, e)
+    there false r e = absurd (cc)
 
-  kept-by : (s : Machine) (t : Step) (r : Option StepError) → refusal s t ≡ r → Good s → P s → P (stepped s (step_by r s t))
-  kept-by s t (Some e) q good k = k
-  kept-by s t None q good k =
-      let x : _ = there (ltb (party_of t) (length s.parties)) (part_refusal s.world s.parties (stack s (party_of t)) t) q in
-      made-kept s (party_of t) (part_after s.world (stack s (party_of t)) t) (grind (arith, nat_tests)) good (made s t x.1) k
+    kept-by : (s : Machine) (t : Step) (r : Option StepError) → refusal s t ≡ r → Good s → P s → P (stepped s (step_by r s t))
+    kept-by s t (Some e) q good k = k
+    kept-by s t None q good k =
+        let x : _ = there (ltb (party_of t) (length s.parties)) (part_refusal s.world s.parties (stack s (party_of t)) t) q in
+        made-kept s (party_of t) (part_after s.world (stack s (party_of t)) t) (grind (arith, nat_tests)) good (made s t x.1) k
 
-  kept-stepped : (s : Machine) (t : Step) → Good s → P s → P (stepped s (step s t))
-  unfolding step
-  kept-stepped s t good k = kept-by s t (refusal s t) refl good k
+    kept-stepped : (s : Machine) (t : Step) → Good s → P s → P (stepped s (step s t))
+    unfolding step
+    kept-stepped s t good k = kept-by s t (refusal s t) refl good k
 
-  pub along : (ts : List Step) (s : Machine) → Good s → P s → P (run ts s)
-  along [] s good k = k
-  along (t ∷ ts) s good k = along ts (stepped s (step s t)) (good-stepped s t good) (kept-stepped s t good k)
+    pub along : (ts : List Step) (s : Machine) → Good s → P s → P (run ts s)
+    along [] s good k = k
+    along (t ∷ ts) s good k = along ts (stepped s (step s t)) (good-stepped s t good) (kept-stepped s t good k)

@@ -6,11 +6,9 @@ ghost use Rattle.executor_model.specs.Runs.{EveryRun, HasOneRunnable, IsCounted}
 /// executor has taken out, and those on their way.
 pub fn references_are_counted()
     ensures { EveryRun IsCounted }
-{
-}
+{}
 
 /// Whatever the parties do, a task has at most one Runnable, unfinished run or closing call.
 pub fn one_runnable()
     ensures { EveryRun HasOneRunnable }
-{
-}
+{}

@@ -7,12 +7,10 @@ ghost use Rattle.executor_model.specs.OutputOnce.{OutputGoesOnce};
 /// turns, a poll first. No poll begins once it has given its output or its drop has begun.
 pub fn polls_are_lawful()
     ensures { EveryTrace HasLawfulPolls }
-{
-}
+{}
 
 /// Whatever the parties do, each future's output goes at most once: to one poll of its handle, or into
 /// one drop, and never both.
 pub fn outputs_go_once()
     ensures { EveryTrace OutputGoesOnce }
-{
-}
+{}

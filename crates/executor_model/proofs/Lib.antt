@@ -4,3 +4,8 @@ pub mod Fitting
 pub mod Lift
 pub mod Needing
 pub mod Stepping
+pub mod Ways
+pub mod Lawful
+pub mod Outputs
+pub mod OutputActs
+pub mod OutputRuns

@@ -5,6 +5,7 @@ pub mod Due
 pub mod Quiet
 pub mod Keeper
 pub mod DroppedOnce
+pub mod OutputOnce
 pub mod World
 pub mod Carried
 pub mod Acts
@@ -13,3 +14,4 @@ pub mod Steps
 pub mod Sound
 pub mod Good
 pub mod Runs
+pub mod EveryTrace

@@ -7,6 +7,7 @@ mod event;
 pub mod laws;
 mod op;
 mod step;
+pub mod trace_laws;
 
 pub use call::{By, Call, Reply};
 pub use event::{Answer, Event};

@@ -174,14 +174,17 @@ fn the_mark_is_the_least_power_of_two_above_the_indexes(rt: HostRuntime) {
     }
 }
 
+#[tactic(auto, unfolding(crate::specs::Ring::count_at, crate::specs::Ring::next_at))]
 #[test]
-fn a_displacement_is_followed_by_its_append_on_a_ring_closed_since(rt: HostRuntime) {
+fn a_forced_push_keeps_a_close_that_came_in_between(rt: HostRuntime) {
     let shape = Shape {
         capacity: 2,
         mark: 4,
     };
     let turn = ring::force_push(shape, Turn::Displace(9), 1);
     assert_eq!(rt; turn, Turn::Advance(9));
+    assert_eq!(rt; shape.advance(9, 9), 16);
+    assert_eq!(rt; shape.advance(9, 13), 20);
     let turn = ring::force_push(shape, turn, 13);
     assert_eq!(rt; turn, Turn::Fill(9, Reply::Displaced));
 }

@@ -7,11 +7,11 @@ mod turns;
 pub use crate::cell::debts::{Debts, Ended};
 pub(crate) use crate::cell::paying::pay_due;
 pub use crate::cell::scheduled::{Due, Scheduled, StoredRunnable, StoredWaker};
-use crate::local_task::LocalTask;
 use crate::realm::{Places, share};
 use std::alloc::{AllocFailed, Global};
 use std::marker::Model;
 use std::sync::{Arc, Mutex, Wait};
+use task_moves::local_task::LocalTask;
 
 /// A task as its handles share it: its state, future, output and awaiter under one lock, and what
 /// never changes. No lock is held while code of a user runs.

@@ -1,10 +1,10 @@
 //! How a handle of any kind is polled.
 use crate::cell::{Held, Kept, Scheduled, pay_due};
-use crate::local_task::Polled;
 use crate::schedule::Schedule;
 use crate::wake::Wake;
 use crate::waker::Awaiter;
 use std::sync::Wait;
+use task_moves::local_task::Polled;
 
 /// What a poll of a handle finds.
 pub enum Found<T> {

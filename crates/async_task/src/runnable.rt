@@ -1,13 +1,13 @@
 ghost use Rattle.std.specs.Prelude.{◌≡◌, IfSome};
 
 use crate::cell::{Ended, Held, Scheduled, pay_due};
-use crate::local_task::{Back, Start};
 use crate::poll::{Future, Poll};
 use crate::schedule::{Schedule, ScheduleInfo};
 use crate::wake::Wake;
 use crate::waker::{Awaiter, TaskWaker};
 use std::marker::Model;
 use std::sync::Wait;
+use task_moves::local_task::{Back, Start};
 
 /// A task that is to be run: at most one is there of a task. Its drop closes the task, and drops the
 /// future.

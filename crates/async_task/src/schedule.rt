@@ -1,9 +1,4 @@
-/// What a schedule function is told of the Runnable that it is given.
-#[derive(Clone, Copy, Debug, PartialEq, Eq)]
-pub struct ScheduleInfo {
-    /// Whether the task was woken while its future was being polled.
-    pub woken_while_running: bool,
-}
+pub use task_moves::ScheduleInfo;
 
 /// What is done with a task that is to be run: most often it is put into a queue. It is called while
 /// no lock of a task is held.

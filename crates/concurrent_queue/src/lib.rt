@@ -7,7 +7,6 @@ mod errors;
 mod exclusive;
 mod exclusive_iter;
 mod glimpse;
-pub mod laws;
 mod representation;
 mod single;
 pub mod steps;

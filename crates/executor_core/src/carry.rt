@@ -1,6 +1,6 @@
 //! What a move of a task owes becomes what the party has still to do.
 ghost use Rattle.std.specs.Prelude.{◌≡◌, ◌≢◌, ℕ, ◌+◌, ◌-◌, ◌^◌, ◌<◌, ◌≤◌, ◌++◌, true, false, not, Some, None, List, [], ◌∷◌, length, reverse, vec_len, vec_capacity};
-ghost use Rattle.async_task.specs.Moves as moves;
+ghost use Rattle.task_moves.specs.Moves as moves;
 ghost use Rattle.executor_model.specs.Carried as carried;
 ghost use Rattle.executor_model.specs.World.{task, without, among, awaiter_of};
 ghost use Rattle.executor_model.specs.Good.{IsKnown, CanGrow, IsHeld, HasPlace, KeepsAwaiter, IsKnownWaker, CanWake};
@@ -8,9 +8,9 @@ ghost use Rattle.executor_core.specs.Views.{world_of, HasRoom, HasRoomToEnd, Has
 
 use crate::store::Store;
 use crate::table::is_among;
-use async_task::ScheduleInfo;
-use async_task::moves::{self, AwaiterDebt, FutureDebt, Move, Moved, State};
 use executor_model::{Event, Op};
+use task_moves::ScheduleInfo;
+use task_moves::moves::{self, AwaiterDebt, FutureDebt, Move, Moved, State};
 
 fn push_schedule(todo: &mut Vec<Op>, f: u64, debt: Option<ScheduleInfo>)
     requires space { vec_len todo.old + 1 ≤ vec_capacity todo.old }

@@ -1,6 +1,6 @@
 //! Copies of wakers, and polls of a handle with their registers and notifies.
 ghost use Rattle.std.specs.Prelude.{◌≡◌, ◌≢◌, ℕ, ◌+◌, ◌-◌, ◌^◌, ◌<◌, ◌≤◌, ◌++◌, true, false, not, Some, None, List, [], ◌∷◌, length, reverse, vec_len, vec_capacity};
-ghost use Rattle.async_task.specs.Moves as moves;
+ghost use Rattle.task_moves.specs.Moves as moves;
 ghost use Rattle.executor_model.specs.Acts as acts;
 ghost use Rattle.executor_model.specs.Carried as carried;
 ghost use Rattle.executor_model.specs.World.{task, without, among, awaiter_of};
@@ -10,8 +10,8 @@ ghost use Rattle.executor_core.specs.Views.{world_of, HasRoom, HasRoomToEnd, Has
 use crate::carry::push_awaiter;
 use crate::store::Store;
 use crate::task::wake;
-use async_task::moves::{self, Answer, MOST_REFERENCES, Moved, State};
 use executor_model::{Awaiter, Event, Hint, Hold, Op, Reply, Waker};
+use task_moves::moves::{self, Answer, MOST_REFERENCES, Moved, State};
 
 fn is_refused(hint: Hint, state: State) -> bool
     ensures { result ≡ acts.is_refused hint state }

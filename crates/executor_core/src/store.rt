@@ -1,6 +1,6 @@
-use async_task::moves::State;
 use executor_model::{Awaiter, Event};
 use std::collections::VecDeque;
+use task_moves::moves::State;
 
 /// The state of the machine without what its parties have still to do.
 #[derive(Drop)]

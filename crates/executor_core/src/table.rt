@@ -1,6 +1,6 @@
 //! The sections of the table, and the user code between them.
 ghost use Rattle.std.specs.Prelude.{◌≡◌, ◌≢◌, ℕ, ◌+◌, ◌-◌, ◌^◌, ◌<◌, ◌≤◌, ◌++◌, true, false, not, Some, None, List, [], ◌∷◌, length, reverse, vec_len, vec_capacity};
-ghost use Rattle.async_task.specs.Moves as moves;
+ghost use Rattle.task_moves.specs.Moves as moves;
 ghost use Rattle.executor_model.specs.Acts as acts;
 ghost use Rattle.executor_model.specs.Carried as carried;
 ghost use Rattle.executor_model.specs.World.{task, without, among, awaiter_of};
@@ -10,8 +10,8 @@ ghost use Rattle.std.specs.List.{remove};
 ghost use Rattle.executor_core.specs.Views.{world_of, HasRoom, HasRoomToEnd, HasSpace, Does};
 
 use crate::store::Store;
-use async_task::moves::State;
 use executor_model::{Event, Hint, Hold, Op, Reply};
+use task_moves::moves::State;
 
 /// Whether the future is among these.
 pub fn is_among(list: &[u64], f: u64) -> bool

@@ -1,6 +1,6 @@
 //! The moves of a task that stand for themselves.
 ghost use Rattle.std.specs.Prelude.{◌≡◌, ◌≢◌, ℕ, ◌+◌, ◌-◌, ◌^◌, ◌<◌, ◌≤◌, ◌++◌, true, false, not, Some, None, List, [], ◌∷◌, length, reverse, vec_len, vec_capacity};
-ghost use Rattle.async_task.specs.Moves as moves;
+ghost use Rattle.task_moves.specs.Moves as moves;
 ghost use Rattle.executor_model.specs.Acts as acts;
 ghost use Rattle.executor_model.specs.Carried as carried;
 ghost use Rattle.executor_model.specs.World.{task, without, among, awaiter_of};
@@ -9,8 +9,8 @@ ghost use Rattle.executor_core.specs.Views.{world_of, HasRoom, HasRoomToEnd, Has
 
 use crate::carry::carry_out;
 use crate::store::Store;
-use async_task::moves::{self, Moved, State};
 use executor_model::{Event, Op};
+use task_moves::moves::{self, Moved, State};
 
 fn state_of(store: &Store, f: u64) -> State
     requires { IsKnown (world_of store.now) f }

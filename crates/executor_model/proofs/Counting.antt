@@ -3,14 +3,14 @@ use Rattle.std.proofs.Common.{◌≡◌, ◌⊎◌, ℕ, ◌+◌, ◌^◌, ◌<�
 use Rattle.std.proofs.lemmas.Bool.Decides.{nat_tests}
 use Rattle.std.specs.Prelude.{Option, Some, None, slice_get, slice_set}
 use Rattle.concurrent_queue.specs.ClosableQueue.{shut}
-use Rattle.async_task.specs.declared.moves.state.State.{State}
-use Rattle.async_task.specs.declared.moves.owed.Answer.TheVariants as said
-use Rattle.async_task.specs.declared.moves.owed.Moved.{Moved}
-use Rattle.async_task.specs.declared.moves.owed.Move.TheVariants as move
-use Rattle.async_task.specs.declared.moves.owed.AwaiterDebt.TheVariants as debt
-use Rattle.async_task.specs.declared.moves.owed.FutureDebt.TheVariants.{DropFuture}
-use Rattle.async_task.specs.Moves as moves
-use Rattle.async_task.specs.Moves.{moved, nothing, settled, notify_if, notify_other_if, most_references}
+use Rattle.task_moves.specs.declared.moves.state.State.{State}
+use Rattle.task_moves.specs.declared.moves.owed.Answer.TheVariants as said
+use Rattle.task_moves.specs.declared.moves.owed.Moved.{Moved}
+use Rattle.task_moves.specs.declared.moves.owed.Move.TheVariants as move
+use Rattle.task_moves.specs.declared.moves.owed.AwaiterDebt.TheVariants as debt
+use Rattle.task_moves.specs.declared.moves.owed.FutureDebt.TheVariants.{DropFuture}
+use Rattle.task_moves.specs.Moves as moves
+use Rattle.task_moves.specs.Moves.{moved, nothing, settled, notify_if, notify_other_if, most_references}
 use Rattle.executor_model.specs.declared.call.Call.{Call}
 use Rattle.executor_model.specs.declared.call.Reply.{Reply}
 use Rattle.executor_model.specs.declared.event.Answer.TheVariants as answer

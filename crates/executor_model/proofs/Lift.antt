@@ -3,7 +3,7 @@ use Rattle.std.proofs.Common.{◌≡◌, ◌⊎◌, ℕ, zero, suc, ◌+◌, ◌
 use Rattle.std.proofs.Math.ListN.{length-set}
 use Rattle.std.proofs.lemmas.Bool.Decides.{nat_tests}
 use Rattle.std.proofs.lemmas.List.{get_or_past}
-use Rattle.async_task.specs.declared.moves.state.State.{State}
+use Rattle.task_moves.specs.declared.moves.state.State.{State}
 use Rattle.std.specs.Prelude.{Option, Some, None, slice_get, slice_index_or, slice_set, reverse}
 use Rattle.executor_model.specs.declared.call.By.{By}
 use Rattle.executor_model.specs.declared.call.By.TheVariants as by

@@ -5,7 +5,7 @@ use Rattle.std.specs.Prelude.{Option, Some, None, reverse, slice_get, take}
 use mathlib.Core.List.{reverse_aux}
 use Rattle.std.proofs.lemmas.List.{get_or_past}
 use Rattle.std.proofs.lemmas.Grind.{common_steps}
-use Rattle.async_task.specs.declared.moves.state.State.{State}
+use Rattle.task_moves.specs.declared.moves.state.State.{State}
 use Rattle.executor_model.specs.declared.event.Answer.{Answer}
 use Rattle.executor_model.specs.declared.event.Event.{Event}
 use Rattle.executor_model.specs.declared.event.Event.TheVariants.{PollBegun, Answered, Dropped}

@@ -3,9 +3,9 @@ use Rattle.std.proofs.Common.{◌≡◌, ℕ, ◌+◌, ◌<◌, ◌≤◌, List,
 use Rattle.std.proofs.lemmas.Bool.Decides.{nat_tests}
 use Rattle.std.specs.Prelude.{Option, Some, None}
 use Rattle.concurrent_queue.specs.ClosableQueue.{shut, taken}
-use Rattle.async_task.specs.declared.moves.state.State.{State}
-use Rattle.async_task.specs.declared.moves.owed.Moved.{Moved}
-use Rattle.async_task.specs.Moves as moves
+use Rattle.task_moves.specs.declared.moves.state.State.{State}
+use Rattle.task_moves.specs.declared.moves.owed.Moved.{Moved}
+use Rattle.task_moves.specs.Moves as moves
 use Rattle.executor_model.specs.declared.call.By.{By}
 use Rattle.executor_model.specs.declared.call.Call.{Call}
 use Rattle.executor_model.specs.declared.call.Call.TheVariants as call

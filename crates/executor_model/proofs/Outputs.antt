@@ -3,18 +3,18 @@ use Rattle.std.proofs.Common.{◌≡◌, ◌≢◌, ℕ, zero, suc, ◌+◌, ◌
 use Rattle.std.proofs.lemmas.Bool.Decides.{nat_tests}
 use Rattle.std.proofs.lemmas.List.Sums.{sum_by_push}
 use Rattle.std.specs.Prelude.{Option, Some, None, count_by}
-use Rattle.async_task.specs.declared.schedule.ScheduleInfo.{ScheduleInfo}
-use Rattle.async_task.specs.declared.moves.state.State.{State}
-use Rattle.async_task.specs.declared.moves.owed.Move.{Move}
-use Rattle.async_task.specs.declared.moves.owed.Move.TheVariants as move
-use Rattle.async_task.specs.declared.moves.owed.FutureDebt.{FutureDebt}
-use Rattle.async_task.specs.declared.moves.owed.FutureDebt.TheVariants.{PollFuture, DropFuture}
-use Rattle.async_task.specs.declared.moves.owed.AwaiterDebt.{AwaiterDebt}
-use Rattle.async_task.specs.declared.moves.owed.AwaiterDebt.TheVariants.{NotifyAwaiter, NotifyOther, CallGiven, StoreCopy, CallStored, TakeAwaiter, CallTaken}
-use Rattle.async_task.specs.declared.moves.owed.Owed.{Owed}
-use Rattle.async_task.specs.declared.moves.owed.Moved.{Moved}
-use Rattle.async_task.specs.Moves as moves
-use Rattle.async_task.specs.Moves.{moved}
+use Rattle.task_moves.specs.declared.schedule_info.ScheduleInfo.{ScheduleInfo}
+use Rattle.task_moves.specs.declared.moves.state.State.{State}
+use Rattle.task_moves.specs.declared.moves.owed.Move.{Move}
+use Rattle.task_moves.specs.declared.moves.owed.Move.TheVariants as move
+use Rattle.task_moves.specs.declared.moves.owed.FutureDebt.{FutureDebt}
+use Rattle.task_moves.specs.declared.moves.owed.FutureDebt.TheVariants.{PollFuture, DropFuture}
+use Rattle.task_moves.specs.declared.moves.owed.AwaiterDebt.{AwaiterDebt}
+use Rattle.task_moves.specs.declared.moves.owed.AwaiterDebt.TheVariants.{NotifyAwaiter, NotifyOther, CallGiven, StoreCopy, CallStored, TakeAwaiter, CallTaken}
+use Rattle.task_moves.specs.declared.moves.owed.Owed.{Owed}
+use Rattle.task_moves.specs.declared.moves.owed.Moved.{Moved}
+use Rattle.task_moves.specs.Moves as moves
+use Rattle.task_moves.specs.Moves.{moved}
 use Rattle.executor_model.specs.declared.event.Event.{Event}
 use Rattle.executor_model.specs.declared.event.Event.TheVariants.{OutputGiven, OutputDropped}
 use Rattle.executor_model.specs.declared.op.Awaiter.{Awaiter}

@@ -2,12 +2,12 @@
 -- is its table of moves; neither is said again here.
 use Rattle.std.specs.Prelude.{ℕ, ◌+◌, ◌^◌, Bool, true, false, ◌&&◌, ◌||◌, not, Option, Some, None, List, [], ◌∷◌, ◌++◌, length, slice_set, nat_lt}
 use Rattle.concurrent_queue.specs.ClosableQueue.{appended, taken, shut}
-use Rattle.async_task.specs.declared.moves.state.State.{State}
-use Rattle.async_task.specs.declared.moves.owed.Answer.{Answer}
-use Rattle.async_task.specs.declared.moves.owed.Answer.TheVariants.{Refused, Pending, Closed, Output}
-use Rattle.async_task.specs.declared.moves.owed.Moved.{Moved}
-use Rattle.async_task.specs.Moves as moves
-use Rattle.async_task.specs.Moves.{made, is_over, most_references}
+use Rattle.task_moves.specs.declared.moves.state.State.{State}
+use Rattle.task_moves.specs.declared.moves.owed.Answer.{Answer}
+use Rattle.task_moves.specs.declared.moves.owed.Answer.TheVariants.{Refused, Pending, Closed, Output}
+use Rattle.task_moves.specs.declared.moves.owed.Moved.{Moved}
+use Rattle.task_moves.specs.Moves as moves
+use Rattle.task_moves.specs.Moves.{made, is_over, most_references}
 use Rattle.executor_model.specs.declared.call.Reply.{Reply}
 use Rattle.executor_model.specs.declared.call.Reply.TheVariants as reply
 use Rattle.executor_model.specs.declared.event.Event.TheVariants as event

@@ -1,14 +1,14 @@
 -- What a move of a task owes, as things that the party has still to do, in the order in which they are paid.
 use Rattle.std.specs.Prelude.{ℕ, Bool, true, false, Option, Some, None, List, [], ◌∷◌, ◌++◌}
-use Rattle.async_task.specs.declared.schedule.ScheduleInfo.{ScheduleInfo}
-use Rattle.async_task.specs.declared.moves.owed.Move.{Move}
-use Rattle.async_task.specs.declared.moves.owed.Move.TheVariants as move
-use Rattle.async_task.specs.declared.moves.owed.FutureDebt.{FutureDebt}
-use Rattle.async_task.specs.declared.moves.owed.FutureDebt.TheVariants.{PollFuture, DropFuture}
-use Rattle.async_task.specs.declared.moves.owed.AwaiterDebt.{AwaiterDebt}
-use Rattle.async_task.specs.declared.moves.owed.AwaiterDebt.TheVariants.{NotifyAwaiter, NotifyOther, CallGiven, StoreCopy, CallStored, TakeAwaiter, CallTaken}
-use Rattle.async_task.specs.declared.moves.owed.Owed.{Owed}
-use Rattle.async_task.specs.declared.moves.owed.Moved.{Moved}
+use Rattle.task_moves.specs.declared.schedule_info.ScheduleInfo.{ScheduleInfo}
+use Rattle.task_moves.specs.declared.moves.owed.Move.{Move}
+use Rattle.task_moves.specs.declared.moves.owed.Move.TheVariants as move
+use Rattle.task_moves.specs.declared.moves.owed.FutureDebt.{FutureDebt}
+use Rattle.task_moves.specs.declared.moves.owed.FutureDebt.TheVariants.{PollFuture, DropFuture}
+use Rattle.task_moves.specs.declared.moves.owed.AwaiterDebt.{AwaiterDebt}
+use Rattle.task_moves.specs.declared.moves.owed.AwaiterDebt.TheVariants.{NotifyAwaiter, NotifyOther, CallGiven, StoreCopy, CallStored, TakeAwaiter, CallTaken}
+use Rattle.task_moves.specs.declared.moves.owed.Owed.{Owed}
+use Rattle.task_moves.specs.declared.moves.owed.Moved.{Moved}
 use Rattle.executor_model.specs.declared.op.Op.{Op}
 use Rattle.executor_model.specs.declared.op.Op.TheVariants.{Append, Release, SettleClosed, GiveUp, EndClosed, Detach, TakeToPoll, TakeToDrop, BeginDropOutput, Notify}
 use Rattle.executor_model.specs.World.{World, Done, done, put, among}

@@ -4,8 +4,8 @@ use Rattle.std.specs.Prelude.{◌==◌, if◌then◌else◌, slice_index_or}
 use Rattle.std.proofs.Math.Bool.{or-false, and-true}
 use Rattle.std.proofs.lemmas.List.{get_or_past, length-map}
 use Rattle.std.proofs.lemmas.List.Folds.{list_any-append}
-use Rattle.async_task.specs.AbstractTask.{Phase, is_over, is_finished}
-use Rattle.async_task.specs.AbstractTask.Phase.{Idle, Queued, Polling, PollingWoken, Finished}
+use Rattle.task_moves.specs.AbstractTask.{Phase, is_over, is_finished}
+use Rattle.task_moves.specs.AbstractTask.Phase.{Idle, Queued, Polling, PollingWoken, Finished}
 use Rattle.executor_model.specs.declared.call.Call.TheVariants.{DropExecutor}
 use Rattle.executor_model.specs.declared.call.Reply.TheVariants.{Done}
 use Rattle.executor_model.specs.declared.event.Event.TheVariants.{CallBegun, CallEnded, Woken, Dropped, DropBegun, DropEnded}

@@ -1,8 +1,8 @@
 -- `drop` drops the handle of a future.
 use Rattle.std.proofs.Common.{◌≡◌, ℕ, ◌<◌, Bool, true, false, not, ◌||◌, List, length, refl, sym, ap, ◌∙◌, append_assoc}
 use Rattle.std.specs.Prelude.{Option, Some, None, is_some}
-use Rattle.async_task.specs.AbstractTask.{Phase, is_over, is_idle}
-use Rattle.async_task.specs.AbstractTask.Phase.{Idle, Queued, Polling, PollingWoken, Finished}
+use Rattle.task_moves.specs.AbstractTask.{Phase, is_over, is_idle}
+use Rattle.task_moves.specs.AbstractTask.Phase.{Idle, Queued, Polling, PollingWoken, Finished}
 use Rattle.executor_model.specs.declared.call.Call.TheVariants.{DropHandle}
 use Rattle.executor_model.specs.declared.call.Reply.TheVariants.{Done}
 use Rattle.executor_model.specs.declared.event.Event.TheVariants.{CallBegun, Cancelled, Detached, OutputDropped}

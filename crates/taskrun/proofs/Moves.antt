@@ -2,7 +2,7 @@
 use Rattle.std.proofs.Common.{◌≡◌, ℕ, Bool, true, false, not, ◌||◌, length, refl, ap, ◌∙◌}
 use Rattle.std.specs.Prelude.{Option, is_some}
 use Rattle.std.proofs.lemmas.Bool.{or_right}
-use Rattle.async_task.specs.AbstractTask.Phase.{Idle, Queued, Finished}
+use Rattle.task_moves.specs.AbstractTask.Phase.{Idle, Queued, Finished}
 use Rattle.taskrun.specs.First.{Future, rested, begun, woken, pended, keeping, ended_ready, fallen, unhandled}
 use Rattle.taskrun.specs.Resting.{IsResting}
 use Rattle.taskrun.proofs.Parts.{Becomes, made, made_at, rests-made, handled-at, pended-made, woken-made, keeping-made, ready-made, fallen-made, woken_idle-made, woken_queued-made, woken_finished-made, unhandled_idle-made, unhandled_queued-made, unhandled_closed-made, unhandled_finished-made}

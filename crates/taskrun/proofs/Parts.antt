@@ -2,8 +2,8 @@
 use Rattle.std.proofs.Common.{◌≡◌, ℕ, ◌+◌, Bool, true, false, List, [], not, ◌||◌, length, refl, sym, ◌∙◌}
 use Rattle.std.specs.Prelude.{Option, Some, None, is_some, if◌then◌else◌}
 use Rattle.std.proofs.lemmas.List.{nil_from_length}
-use Rattle.async_task.specs.AbstractTask.{Phase, is_idle, is_over}
-use Rattle.async_task.specs.AbstractTask.Phase.{Idle, Queued, Finished}
+use Rattle.task_moves.specs.AbstractTask.{Phase, is_idle, is_over}
+use Rattle.task_moves.specs.AbstractTask.Phase.{Idle, Queued, Finished}
 use Rattle.script.specs.declared.item.Item.{Item}
 use Rattle.taskrun.specs.First.{Future, rested, begun, woken, pended, keeping, ended_ready, fallen, unhandled, dropped, later_items}
 use Rattle.taskrun.specs.Resting.{IsResting, is_polled}

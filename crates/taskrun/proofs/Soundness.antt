@@ -3,8 +3,8 @@ use Rattle.std.proofs.Common.{◌≡◌, ◌≢◌, ◌⊎◌, ℕ, ◌+◌, ◌
 use Rattle.std.specs.Prelude.{if◌then◌else◌, replicate, ◌==◌, None, slice_index_or, slice_set}
 use Rattle.std.proofs.Math.ListN.{length-set}
 use Rattle.std.proofs.lemmas.List.{length-map, get_or_past}
-use Rattle.async_task.specs.AbstractTask.{Phase, is_over, is_idle, wake, release, drop_runnable}
-use Rattle.async_task.specs.AbstractTask.Phase.{Idle, Queued, Polling, PollingWoken, Finished}
+use Rattle.task_moves.specs.AbstractTask.{Phase, is_over, is_idle, wake, release, drop_runnable}
+use Rattle.task_moves.specs.AbstractTask.Phase.{Idle, Queued, Polling, PollingWoken, Finished}
 use Rattle.taskrun.specs.First.{Future, World, future, blank, dropped, rested, accepted, start}
 use Rattle.taskrun.specs.Resting.{IsResting, is_polled}
 use Rattle.taskrun.specs.Sound.{Sound, is_queued}

@@ -3,8 +3,8 @@ use Rattle.std.proofs.Common.{◌≡◌, ℕ, suc, ◌+◌, ◌<◌, ◌≤◌, 
 use Rattle.std.specs.Prelude.{Option, Some, None, if◌then◌else◌}
 use Rattle.std.proofs.lemmas.Bool.Decides.{leb_tells}
 use Rattle.std.proofs.lemmas.List.{get_or_past}
-use Rattle.async_task.specs.AbstractTask.{Phase}
-use Rattle.async_task.specs.AbstractTask.Phase.{Idle, Queued, Polling, PollingWoken, Finished}
+use Rattle.task_moves.specs.AbstractTask.{Phase}
+use Rattle.task_moves.specs.AbstractTask.Phase.{Idle, Queued, Polling, PollingWoken, Finished}
 use Rattle.executor_model.specs.declared.call.Call.TheVariants.{TryTick}
 use Rattle.executor_model.specs.declared.call.Reply.TheVariants.{Yes, No}
 use Rattle.executor_model.specs.declared.event.Event.TheVariants.{CallBegun, PollBegun, Dropped}

@@ -3,8 +3,8 @@ use Rattle.std.proofs.Common.{◌≡◌, ℕ, ◌<◌, Bool, true, false, not, �
 use Rattle.std.specs.Prelude.{Option, Some, None}
 use Rattle.std.specs.Str.{bytes_eq}
 use Rattle.std.proofs.lemmas.List.Quantifiers.{position-Some}
-use Rattle.async_task.specs.AbstractTask.{Phase, is_over, is_idle}
-use Rattle.async_task.specs.AbstractTask.Phase.{Idle, Queued, Polling, PollingWoken, Finished}
+use Rattle.task_moves.specs.AbstractTask.{Phase, is_over, is_idle}
+use Rattle.task_moves.specs.AbstractTask.Phase.{Idle, Queued, Polling, PollingWoken, Finished}
 use Rattle.executor_model.specs.declared.call.Call.TheVariants.{WakeByRef}
 use Rattle.executor_model.specs.declared.call.Reply.TheVariants.{Done}
 use Rattle.executor_model.specs.declared.event.Event.TheVariants.{CallBegun, Woken}

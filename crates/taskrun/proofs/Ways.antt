@@ -1,8 +1,8 @@
 -- The ways in which one command changes one future: where it stands before and after, and what happens meanwhile.
 use Rattle.std.proofs.Common.{◌≡◌, ℕ, ◌<◌, Bool, true, false, List, [], ◌∷◌, ◌++◌, length, map, not}
 use Rattle.std.specs.Prelude.{Option, Some, None, slice_set, replicate}
-use Rattle.async_task.specs.AbstractTask.{Phase, is_finished}
-use Rattle.async_task.specs.AbstractTask.Phase.{Queued, Finished}
+use Rattle.task_moves.specs.AbstractTask.{Phase, is_finished}
+use Rattle.task_moves.specs.AbstractTask.Phase.{Queued, Finished}
 use Rattle.executor_model.specs.declared.call.Call.{Call}
 use Rattle.executor_model.specs.declared.call.Call.TheVariants.{DropWaker, Keep, WakeSelf, Spawn, DropExecutor}
 use Rattle.executor_model.specs.declared.call.Reply.{Reply}

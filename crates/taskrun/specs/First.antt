@@ -1,8 +1,8 @@
 -- What whole calls of one owner do to an executor: each future with its task, the queue of futures to be run, and what a
 -- run shows. What becomes of a task is the abstract task's.
 use Rattle.std.specs.Prelude.{ℕ, ◌==◌, ◌+◌, ◌-◌, Bool, true, false, ◌||◌, not, if◌then◌else◌, nat_le, min, Option, Some, None, is_some, List, [], ◌∷◌, ◌++◌, length, map, count_by, slice_index_or, slice_set, replicate}
-use Rattle.async_task.specs.AbstractTask.{AbstractTask, Left, spawned, wake, begin_run, settle_closed, drop_runnable, end_ready, end_pending, cancel, detach, copy, release, is_finished, is_over}
-use Rattle.async_task.specs.AbstractTask.Phase.{Finished}
+use Rattle.task_moves.specs.AbstractTask.{AbstractTask, Left, spawned, wake, begin_run, settle_closed, drop_runnable, end_ready, end_pending, cancel, detach, copy, release, is_finished, is_over}
+use Rattle.task_moves.specs.AbstractTask.Phase.{Finished}
 use Rattle.executor_model.specs.declared.call.Call.TheVariants.{Spawn, TryTick, IsEmpty, WakeByRef, DropWaker, Keep, WakeSelf, DropHandle, DropExecutor}
 use Rattle.executor_model.specs.declared.call.Reply.{Reply}
 use Rattle.executor_model.specs.declared.call.Reply.TheVariants.{Made, Full, Yes, No, Done}

@@ -1,7 +1,7 @@
 -- What holds of each future of the first executor between two calls.
 use Rattle.std.specs.Prelude.{◌≡◌, ℕ, ◌+◌, Bool, true, false, if◌then◌else◌, is_some, length}
-use Rattle.async_task.specs.AbstractTask.{Phase, is_idle, is_over, is_finished}
-use Rattle.async_task.specs.AbstractTask.Phase.{Polling, PollingWoken}
+use Rattle.task_moves.specs.AbstractTask.{Phase, is_idle, is_over, is_finished}
+use Rattle.task_moves.specs.AbstractTask.Phase.{Polling, PollingWoken}
 use Rattle.taskrun.specs.First.{Future}
 
 abbrev pub is_polled : Phase → Bool

@@ -1,7 +1,7 @@
 -- What is kept of a future between two calls, and the future that it stands for.
 use Rattle.std.specs.Prelude.{ℕ, ◌+◌, Bool, true, false, Option, Some, None, is_some, if◌then◌else◌, []}
-use Rattle.async_task.specs.AbstractTask.{Phase}
-use Rattle.async_task.specs.AbstractTask.Phase.{Idle, Queued, Finished}
+use Rattle.task_moves.specs.AbstractTask.{Phase}
+use Rattle.task_moves.specs.AbstractTask.Phase.{Idle, Queued, Finished}
 use Rattle.taskrun.specs.declared.first.stage.Stage.{Stage}
 use Rattle.taskrun.specs.declared.first.stage.Stage.TheVariants as stage
 use Rattle.taskrun.specs.First.{Task}

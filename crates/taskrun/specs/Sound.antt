@@ -1,7 +1,7 @@
 -- What holds of the first executor between two calls.
 use Rattle.std.specs.Prelude.{◌≡◌, ℕ, ◌==◌, Bool, true, false, if◌then◌else◌, length, count_by}
-use Rattle.async_task.specs.AbstractTask.{Phase, is_over}
-use Rattle.async_task.specs.AbstractTask.Phase.{Queued}
+use Rattle.task_moves.specs.AbstractTask.{Phase, is_over}
+use Rattle.task_moves.specs.AbstractTask.Phase.{Queued}
 use Rattle.taskrun.specs.First.{World, future}
 use Rattle.taskrun.specs.Resting.{IsResting}
 

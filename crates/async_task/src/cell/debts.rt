@@ -1,6 +1,6 @@
 use crate::cell::Kept;
-use crate::local_task::{Finish, LocalTask};
 use crate::schedule::ScheduleInfo;
+use task_moves::local_task::{Finish, LocalTask};
 
 /// What a section of a cell's lock leaves to be done once the lock is given back, in the order in
 /// which it is done.

@@ -3,10 +3,10 @@
 use crate::cell::debts::{Debts, Released};
 use crate::cell::scheduled::{Due, Scheduled};
 use crate::cell::{Held, Kept};
-use crate::local_task::{Finish, LocalTask};
 use crate::schedule::{Schedule, ScheduleInfo};
 use crate::wake::Wake;
 use std::sync::Wait;
+use task_moves::local_task::{Finish, LocalTask};
 
 impl<F, T, S, M, W, R> Held<F, T, S, M, W, R>
 where

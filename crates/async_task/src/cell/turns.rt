@@ -2,14 +2,14 @@
 //! answers what is then owed. Where a section needs that something is so (a Runnable's task is
 //! queued), the handles see to that, and the section would wait for ever where it weren't.
 ghost use Rattle.std.specs.Prelude.{◌≡◌, true, IfSome};
-ghost use Rattle.async_task.specs.LocalTask.{is_unreachable};
+ghost use Rattle.task_moves.specs.LocalTask.{is_unreachable};
 
 use crate::cell::debts::{Debts, Ended, Released, woken};
 use crate::cell::{Held, Kept};
-use crate::local_task::{Back, Finish, LocalTask, Polled, Settled, Start};
-use crate::moves::State;
 use crate::schedule::ScheduleInfo;
 use std::sync::Wait;
+use task_moves::local_task::{Back, Finish, LocalTask, Polled, Settled, Start};
+use task_moves::moves::State;
 
 /// What is there. Where it isn't, this waits for ever.
 fn present<X, R: Wait>(rt: &R, found: Option<X>) -> X {

@@ -1,7 +1,7 @@
 //! The commands of a script, each a whole call.
 
 ghost use Rattle.std.specs.Prelude.{◌≡◌, ℕ, ◌<◌, OnOk, IsNone, IfNone, IfSome, OnSome, Some, true, [], ◌∷◌, length};
-ghost use Rattle.async_task.specs.AbstractTask.Phase.{Queued};
+ghost use Rattle.task_moves.specs.AbstractTask.Phase.{Queued};
 ghost use Rattle.taskrun.specs.First as first;
 ghost use Rattle.script.specs.Names.{number_of};
 ghost use Rattle.taskrun.specs.Sound.{Sound};

@@ -1,7 +1,7 @@
 //! The drop of the executor.
 
 ghost use Rattle.std.specs.Prelude.{◌≡◌, ℕ, OnOk, map, not, count_by};
-ghost use Rattle.async_task.specs.AbstractTask.{is_finished};
+ghost use Rattle.task_moves.specs.AbstractTask.{is_finished};
 ghost use Rattle.executor_model.specs.declared.event.Event.TheVariants.{Dropped, Woken};
 ghost use Rattle.taskrun.specs.First as first;
 

@@ -1,5 +1,5 @@
 ghost use Rattle.std.specs.Prelude.{◌≡◌, ℕ, ◌+◌, ◌<◌, ◌≤◌, Bool, true, false, not, List, [], ◌∷◌, length, count_by, OnOk, IfOk};
-ghost use Rattle.async_task.specs.AbstractTask.Phase.{Queued};
+ghost use Rattle.task_moves.specs.AbstractTask.Phase.{Queued};
 ghost use Rattle.executor_model.specs.declared.event.Event.TheVariants.{CallBegun, CallEnded, Answered, Dropped};
 ghost use Rattle.script.specs.declared.item.Item.TheVariants.{WakeSelf, Keep, Ready};
 ghost use Rattle.taskrun.specs.First as first;

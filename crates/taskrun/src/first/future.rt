@@ -1,6 +1,6 @@
 ghost use Rattle.std.specs.Prelude.{◌≡◌, ℕ, ◌+◌, ◌<◌, Bool, true, false, not, [], ◌∷◌, Some, None, if◌then◌else◌, is_some, length};
-ghost use Rattle.async_task.specs.AbstractTask.{AbstractTask, wake, begin_run, settle_closed, drop_runnable, end_ready, end_pending, cancel, detach, copy, release, is_finished, is_over};
-ghost use Rattle.async_task.specs.AbstractTask.Phase.{Queued};
+ghost use Rattle.task_moves.specs.AbstractTask.{AbstractTask, wake, begin_run, settle_closed, drop_runnable, end_ready, end_pending, cancel, detach, copy, release, is_finished, is_over};
+ghost use Rattle.task_moves.specs.AbstractTask.Phase.{Queued};
 ghost use Rattle.taskrun.specs.First as first;
 ghost use Rattle.taskrun.specs.Slot.{task_of};
 

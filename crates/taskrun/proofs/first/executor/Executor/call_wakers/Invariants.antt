@@ -1,5 +1,5 @@
 use Rattle.std.proofs.Common.{◌≡◌, ℕ, List, map, drop, not}
-use Rattle.async_task.specs.AbstractTask.{is_finished}
+use Rattle.task_moves.specs.AbstractTask.{is_finished}
 use Rattle.executor_model.specs.declared.event.Event.TheVariants.{Woken}
 use Rattle.taskrun.specs.First.{numbers_from, happen_all}
 use Rattle.taskrun.proofs.first.executor.Executor.call_wakers.Given as goal

@@ -1,5 +1,0 @@
-use Rattle.async_task.proofs.Following.{is_abstract_task}
-use Rattle.async_task.proofs.laws.local_task_is_the_abstract_task.Goals as goal
-
-pub returns : goal.returns
-returns g c = is_abstract_task

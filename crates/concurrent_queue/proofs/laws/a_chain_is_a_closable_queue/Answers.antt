@@ -1,5 +1,0 @@
-use Rattle.concurrent_queue.proofs.ChainRuns.{a_chain_is_a_queue}
-use Rattle.concurrent_queue.proofs.laws.a_chain_is_a_closable_queue.Goals as goal
-
-pub returns : goal.returns
-returns g c steps = a_chain_is_a_queue steps

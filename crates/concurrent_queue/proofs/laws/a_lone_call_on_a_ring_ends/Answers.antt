@@ -1,5 +1,0 @@
-use Rattle.concurrent_queue.proofs.RingLone.{a_lone_call_ends}
-use Rattle.concurrent_queue.proofs.laws.a_lone_call_on_a_ring_ends.Goals as goal
-
-pub returns : goal.returns
-returns g c n m shape steps = a_lone_call_ends n m shape steps

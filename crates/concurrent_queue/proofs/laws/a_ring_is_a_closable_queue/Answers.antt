@@ -1,5 +1,0 @@
-use Rattle.concurrent_queue.proofs.RingRuns.{a_ring_is_a_queue}
-use Rattle.concurrent_queue.proofs.laws.a_ring_is_a_closable_queue.Goals as goal
-
-pub returns : goal.returns
-returns g c n m shape steps = a_ring_is_a_queue n m shape steps

@@ -1,0 +1,17 @@
+pub mod ChainLone
+pub mod ChainRuns
+pub mod RingAnswers
+pub mod RingChanges
+pub mod RingHits
+pub mod RingKnows
+pub mod RingLone
+pub mod RingLooks
+pub mod RingMoves
+pub mod RingPlaces
+pub mod RingPuts
+pub mod RingRuns
+pub mod RingStamps
+pub mod RingState
+pub mod SlotLone
+pub mod SlotLooks
+pub mod SlotRuns

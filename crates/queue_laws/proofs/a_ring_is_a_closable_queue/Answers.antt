@@ -1,0 +1,5 @@
+use Rattle.queue_laws.proofs.RingRuns.{a_ring_is_a_queue}
+use Rattle.queue_laws.proofs.a_ring_is_a_closable_queue.Goals as goal
+
+pub returns : goal.returns
+returns g c n m shape steps = a_ring_is_a_queue n m shape steps

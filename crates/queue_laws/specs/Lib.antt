@@ -1,0 +1,5 @@
+pub mod ChainSteps
+pub mod LoneCalls
+pub mod Moments
+pub mod RingSteps
+pub mod SlotSteps

@@ -18,3 +18,9 @@ pub mod Tidying
 pub mod LeavingRuns
 pub mod Entering
 pub mod Spawning
+pub mod Requests
+pub mod Asking
+pub mod AskingActs
+pub mod Waking
+pub mod AskingRuns
+pub mod Looking

@@ -1,4 +1,5 @@
 //! Laws of every run of the machine, of any number of parties and any list of steps.
+ghost use Rattle.executor_model.specs.Emptiness.{IsEmptinessExact};
 ghost use Rattle.executor_model.specs.Entries.{FindsPlace, QueueAgrees, TableAgrees};
 ghost use Rattle.executor_model.specs.Limit.{IsLimitExact};
 ghost use Rattle.executor_model.specs.Runs.{EveryMachine, EveryRun, HasOneRunnable, IsCounted};
@@ -34,4 +35,10 @@ pub fn no_append_is_refused_full()
 /// hasn't ended.
 pub fn the_limit_is_exact()
     ensures { EveryMachine IsLimitExact }
+{}
+
+/// Whatever the parties do, who asks whether the executor is empty is answered yes or no, and yes exactly
+/// where each accepted future is dropped and no call that dropped one has still to take its entry out.
+pub fn emptiness_is_exact()
+    ensures { EveryMachine IsEmptinessExact }
 {}

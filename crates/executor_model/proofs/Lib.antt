@@ -24,3 +24,6 @@ pub mod AskingActs
 pub mod Waking
 pub mod AskingRuns
 pub mod Looking
+pub mod Calls
+pub mod Resting
+pub mod Handing

@@ -2,7 +2,7 @@
 ghost use Rattle.executor_model.specs.Emptiness.{IsEmptinessExact};
 ghost use Rattle.executor_model.specs.Entries.{FindsPlace, QueueAgrees, TableAgrees};
 ghost use Rattle.executor_model.specs.Limit.{IsLimitExact};
-ghost use Rattle.executor_model.specs.Runs.{EveryMachine, EveryRun, HasOneRunnable, IsCounted};
+ghost use Rattle.executor_model.specs.Runs.{EveryMachine, EveryRun, HandsOutOne, HasOneRunnable, IsCounted};
 
 /// Whatever the parties do, a task's count is its living wakers, and one for a Runnable, a run or a
 /// closing call. Stored awaiters are wakers, and so are those in the table, those that the drop of the
@@ -41,4 +41,10 @@ pub fn the_limit_is_exact()
 /// where each accepted future is dropped and no call that dropped one has still to take its entry out.
 pub fn emptiness_is_exact()
     ensures { EveryMachine IsEmptinessExact }
+{}
+
+/// Whatever the parties do, a step that sets the scheduled mark of a task that is open, not scheduled and
+/// not running hands out one Runnable of it, where there was none before.
+pub fn wakes_hand_out_one()
+    ensures { EveryRun HandsOutOne }
 {}

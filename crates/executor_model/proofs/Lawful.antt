@@ -1,14 +1,14 @@
 -- Where the automaton of polls and answers doesn't break, they take turns, and no poll begins after the end.
-use Rattle.std.proofs.Common.{◌≡◌, ◌≢◌, ℕ, suc, ◌+◌, arith, Bool, true, false, ◌||◌, ◌&&◌, cond, not, eqb, List, [], ◌∷◌, drop, refl, sym, ap, ◌∙◌, subst}
+use Rattle.std.proofs.Common.{◌≡◌, ◌≢◌, ◌⊎◌, inl, inr, ℕ, suc, ◌+◌, arith, Bool, true, false, ◌||◌, ◌&&◌, cond, not, eqb, List, [], ◌∷◌, drop, refl, sym, ap, ◌∙◌, subst}
 use Rattle.std.specs.List.{filter, after_first, position_or_len}
 use Rattle.std.proofs.lemmas.Map.Views.{any-filter_same}
 use Rattle.executor_model.specs.declared.event.Answer.{Answer}
 use Rattle.executor_model.specs.declared.event.Answer.TheVariants.{Pending, Ready}
 use Rattle.executor_model.specs.declared.event.Event.{Event}
 use Rattle.executor_model.specs.declared.event.Event.TheVariants.{PollBegun, Answered, Dropped}
-use Rattle.executor_model.specs.Trace.{Trace, events_of, has, is_of, is_poll}
+use Rattle.executor_model.specs.Trace.{Trace, events_of, has, is_of, is_poll, is_dropped}
 use Rattle.executor_model.specs.LawfulPolls.{TakeTurns, HasLawfulPolls, is_end, is_poll_or_answer}
-use Rattle.executor_model.specs.Sound.{Phase, after_begun, after_answered, after_dropped, phase_from, phase}
+use Rattle.executor_model.specs.Sound.{Phase, after_begun, after_answered, after_dropped, passes, phase_from, phase}
 use Rattle.executor_model.specs.Sound.Phase.{Fresh, Polling, Over, Broken}
 
 -- a filter by more than is asked for changes nothing
@@ -195,3 +195,36 @@ lawful f es h = record {
   turns = subst TakeTurns (sym (merge (is_of f) (is_poll_or_answer f) (turn-of f) es)) (comes f es Fresh h);
   none_after_the_end = ap (has (is_poll f)) (after-filter (is_of f) (is_end f) (end-of f) es) ∙ (any-filter_same (is_poll f) (is_of f) true (poll-of f) (after_first (is_end f) es) ∙ none-after f es Fresh h);
 }
+
+-- what is over stays so, or breaks
+over-go : (f : ℕ) (es : Trace) (b : Bool) → (phase_from f Over es ≡ Over) ⊎ (phase_from f Over es ≡ Broken) → (phase_from f (cond b Broken Over) es ≡ Over) ⊎ (phase_from f (cond b Broken Over) es ≡ Broken)
+over-go f es true ih = inr (broken f es)
+over-go f es false ih = ih
+
+over-same : (f : ℕ) (es : Trace) (b : Bool) → (phase_from f Over es ≡ Over) ⊎ (phase_from f Over es ≡ Broken) → (phase_from f (cond b Over Over) es ≡ Over) ⊎ (phase_from f (cond b Over Over) es ≡ Broken)
+over-same f es true ih = ih
+over-same f es false ih = ih
+
+over-stays : (f : ℕ) (es : Trace) → (phase_from f Over es ≡ Over) ⊎ (phase_from f Over es ≡ Broken)
+over-stays f [] = inl refl
+over-stays f (PollBegun p g ∷ es) = over-go f es (eqb f g) (over-stays f es)
+over-stays f (Answered p g Ready ∷ es) = over-go f es (eqb f g) (over-stays f es)
+over-stays f (Answered p g Pending ∷ es) = over-go f es (eqb f g) (over-stays f es)
+over-stays f (Dropped p g ∷ es) = over-same f es (eqb f g) (over-stays f es)
+over-stays f (_ ∷ es) = over-stays f es
+
+-- and what was dropped is over
+dropped-go : (f : ℕ) (s : Phase) (es : Trace) (b : Bool) → (has (is_dropped f) es ≡ true → (phase_from f s es ≡ Over) ⊎ (phase_from f s es ≡ Broken)) → (b || has (is_dropped f) es) ≡ true → (phase_from f (cond b (after_dropped s) s) es ≡ Over) ⊎ (phase_from f (cond b (after_dropped s) s) es ≡ Broken)
+dropped-go f Fresh es true ih h = over-stays f es
+dropped-go f Polling es true ih h = inr (broken f es)
+dropped-go f Over es true ih h = over-stays f es
+dropped-go f Broken es true ih h = inr (broken f es)
+dropped-go f s es false ih h = ih h
+
+dropped-from : (f : ℕ) (s : Phase) (es : Trace) → has (is_dropped f) es ≡ true → (phase_from f s es ≡ Over) ⊎ (phase_from f s es ≡ Broken)
+dropped-from f s [] h = absurd (cc)
+dropped-from f s (Dropped p g ∷ es) h = dropped-go f s es (eqb f g) (dropped-from f s es) h
+dropped-from f s (e ∷ es) h = dropped-from f (passes f e s) es h
+
+pub dropped-over : (f : ℕ) (es : Trace) → has (is_dropped f) es ≡ true → (phase f es ≡ Over) ⊎ (phase f es ≡ Broken)
+dropped-over f es h = dropped-from f Fresh es h

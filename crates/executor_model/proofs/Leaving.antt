@@ -20,6 +20,7 @@ closing_of _ = 0
 
 -- and after it has dropped all futures that it found there
 abbrev pub waking_of : Op → ℕ
+waking_of (op.DropRunnable f) = 1
 waking_of op.WakeNext = 1
 waking_of op.Close = 1
 waking_of op.Drain = 1
@@ -80,7 +81,7 @@ pub record Leaves (w : World) (g : ℕ) (p : Pend) (x : Extra) : Type 0 where
   pub swept : w.gone ≡ true → p.ousting ≡ 0 → (times g w.table ≡ 0) × (times g w.leaving + (story g w.trace).fallen ≡ (story g w.trace).accepted)
   pub single : p.ousting ≤ 1
   pub late : 1 ≤ x.closing → (w.gone ≡ true) × (p.ousting ≡ 0)
-  pub shut : w.queue.closed ≡ true → (w.gone ≡ true) × (p.ousting ≡ 0)
+  pub shut : w.queue.closed ≡ true → (w.gone ≡ true) × ((p.ousting ≡ 0) × (times g w.leaving ≡ 0))
   pub left : 1 ≤ x.waking → (w.gone ≡ true) × ((p.ousting ≡ 0) × (times g w.leaving ≡ 0))
   pub ended : (story g w.trace).ended ≡ true → (w.gone ≡ true) × ((p.ousting ≡ 0) × (times g w.leaving ≡ 0))
   pub few : length (story g w.trace).standing ≤ w.limit

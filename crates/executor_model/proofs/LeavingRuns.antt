@@ -173,7 +173,7 @@ begins s w p ss others o here call.DropExecutor q z on un g =
 
 -- every step
 
-placed-moves : (s : Machine) (p : ℕ) (old rest : List Op) (d : Done) → Good s → p < length s.parties → stack s p ≡ rest ++ reverse old → Way s p old rest d → Placed s → Placed (unsettled s p rest d)
+pub placed-moves : (s : Machine) (p : ℕ) (old rest : List Op) (d : Done) → Good s → p < length s.parties → stack s p ≡ rest ++ reverse old → Way s p old rest d → Placed s → Placed (unsettled s p rest d)
 placed-moves s p old rest d good l e (acted h o q z) placed =
     let e2 : stack s p ≡ rest ++ reverse (o ∷ []) = subst (λ (os : List Op). stack s p ≡ rest ++ reverse os) q e in
     let w : weigh (past_of (length s.world.tasks)) (o ∷ []) ≡ 0 = omega (arith, good.ops, split (past_of (length s.world.tasks)) s.parties p (o ∷ []) rest l e2) in
@@ -191,7 +191,7 @@ module _ (s : Machine) (p : ℕ) (a : Reply) (held : Hold) (below : List Op) (l 
   leaves-end : (g : ℕ) (r : Pend) (y : Extra) → Leaves s.world g (with_ops g (op.End a held ∷ []) r) (with_extra g (op.End a held ∷ []) y) → Leaves (log s.world (event.CallEnded p a)) g (with_ops g [] r) (with_extra g [] y)
   leaves-end g r y h = grind (arith, story-push)
 
-  placed-ends : Placed s → Placed (unsettled s p below (done (log s.world (event.CallEnded p a)) []))
+  pub placed-ends : Placed s → Placed (unsettled s p below (done (log s.world (event.CallEnded p a)) []))
   placed-ends h = record {
     leaves = λ g. leaves-pushed s p (op.End a held ∷ []) below l e (done (log s.world (event.CallEnded p a)) []) g (leaves-end g _ _ (leaves-split s p (op.End a held ∷ []) below l e g (h.leaves g)));
     bare = bare-moved s.parties p (op.End a held ∷ []) below [] l e (record { keeps = λ x. refl }) h.bare;
@@ -201,7 +201,7 @@ bare-idle : (n : ℕ) → bare_all (idle n) ≡ 0
 bare-idle zero = refl
 bare-idle (suc n) = omega (arith, bare-idle n)
 
-placed-start : (limit n : ℕ) → Placed (start limit n)
+pub placed-start : (limit n : ℕ) → Placed (start limit n)
 placed-start limit n = record {
   leaves = λ g. subst (λ (x : Pend × Extra). Leaves (start limit n).world g x.0 x.1) (sym (let q : (pend g (idle n), extra g (idle n)) ≡ (nothing_pending, nothing_more) = λ i. (
     record {

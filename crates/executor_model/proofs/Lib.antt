@@ -18,3 +18,12 @@ pub mod Tidying
 pub mod LeavingRuns
 pub mod Entering
 pub mod Spawning
+pub mod Requests
+pub mod Asking
+pub mod AskingActs
+pub mod Waking
+pub mod AskingRuns
+pub mod Looking
+pub mod Calls
+pub mod Resting
+pub mod Handing

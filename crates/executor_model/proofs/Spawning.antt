@@ -45,7 +45,7 @@ asked true c p w = event.CallEnded p reply.Full
 asked false true p w = event.CallEnded p reply.NoMemory
 asked false false p w = event.Accepted p (length w.tasks)
 
-ended-trace : (p : ℕ) (w : World) (os : List Op) (a : Reply) (held : Hold) → top os ≡ Some (op.End a held) → (settled p w os).world.trace ≡ w.trace ++ event.CallEnded p a ∷ []
+pub ended-trace : (p : ℕ) (w : World) (os : List Op) (a : Reply) (held : Hold) → top os ≡ Some (op.End a held) → (settled p w os).world.trace ≡ w.trace ++ event.CallEnded p a ∷ []
 ended-trace p w os a held e = ap (λ (x : Option Op). (settled_by (end_of x) p w os).world.trace) e
 
 asked-trace : (b c : Bool) (p : ℕ) (w : World) (rest : List Op) → (onto p (enter_by b c p w) rest).world.trace ≡ w.trace ++ asked b c p w ∷ []
@@ -71,22 +71,26 @@ says-full false false p w es e = let z : asked false false p w ∷ [] ≡ event.
 or-past : (a b : ℕ) → (a < b) ⊎ (b ≤ a)
 or-past a b = grind arith
 
+pub in-range : (s : Machine) (p : ℕ) (o : Op) → top (stack s p) ≡ Some o → p < length s.parties
+in-range s p o e = ⊎_elim
+    (λ (l : p < length s.parties). l)
+    (λ (l : length s.parties ≤ p). let z : stack s p ≡ [] = get_or_past s.parties p [] l in let no : slice_get (let os : List Op = [] in os) 0 ≡ Some o = sym (ap top z) ∙ e in absurd (cc))
+    (or-past p (length s.parties))
+
+-- the drop of the executor hasn't begun where a call uses the executor
+pub has-table-by : (s : Machine) → Good s → Placed s → 1 ≤ weigh_all borrowing_of s.parties → HasTable s
+has-table-by s fine h u = inl (sym (begun-has 0 s.world.trace) ∙ ((h.leaves 0).begun ∙ go s.world.gone refl))
+  where
+    go : (b : Bool) → s.world.gone ≡ b → s.world.gone ≡ false
+    go true e = absurd (omega (arith, (fine.sound 0).lent e, u))
+    go false e = e
+
 module _ (s : Machine) (fine : Good s) (h : Placed s) where
-  in-range : (p : ℕ) → Asks s p → p < length s.parties
-  in-range p e = ⊎_elim
-      (λ (l : p < length s.parties). l)
-      (λ (l : length s.parties ≤ p). let z : stack s p ≡ [] = get_or_past s.parties p [] l in let no : slice_get (let os : List Op = [] in os) 0 ≡ Some op.Enter = sym (ap top z) ∙ e in absurd (cc))
-      (or-past p (length s.parties))
-
   uses-executor : (p : ℕ) → Asks s p → 1 ≤ weigh_all borrowing_of s.parties
-  uses-executor p e = omega (arith, split borrowing_of s.parties p (op.Enter ∷ []) (below_top (stack s p)) (in-range p e) (topped (stack s p) op.Enter e))
-
-  still-there : (b : Bool) → s.world.gone ≡ b → 1 ≤ weigh_all borrowing_of s.parties → s.world.gone ≡ false
-  still-there true e u = absurd (omega (arith, (fine.sound 0).lent e, u))
-  still-there false e u = e
+  uses-executor p e = omega (arith, split borrowing_of s.parties p (op.Enter ∷ []) (below_top (stack s p)) (in-range s p op.Enter e) (topped (stack s p) op.Enter e))
 
   has-table : (p : ℕ) → Asks s p → HasTable s
-  has-table p e = inl (sym (begun-has 0 s.world.trace) ∙ ((h.leaves 0).begun ∙ still-there s.world.gone refl (uses-executor p e)))
+  has-table p e = has-table-by s fine h (uses-executor p e)
 
   at-most : (p : ℕ) → Asks s p → (r : ReachLimit s (λ f. IsUndropped f s)) → (g : ℕ) → times g r.futures ≤ times g s.world.table
   at-most p e r g = by (times g r.futures) refl
@@ -102,9 +106,9 @@ module _ (s : Machine) (fine : Good s) (h : Placed s) where
     always = λ p t e r.
         let n : length r.futures ≤ length s.world.table = no-longer r.futures s.world.table (at-most p e r) in
         let b : not (nat_lt (length s.world.table) s.world.limit) ≡ true = grind (arith, nat_tests, n, r.many) in
-        step-trace s p t (in-range p e) e ∙ ap (λ (x : Bool). s.world.trace ++ asked x t.refused p s.world ∷ []) b;
+        step-trace s p t (in-range s p op.Enter e) e ∙ ap (λ (x : Bool). s.world.trace ++ asked x t.refused p s.world ∷ []) b;
     only = λ p t e q.
-        let b : not (nat_lt (length s.world.table) s.world.limit) ≡ true = says-full _ t.refused p s.world s.world.trace (sym (step-trace s p t (in-range p e) e) ∙ q) in
+        let b : not (nat_lt (length s.world.table) s.world.limit) ≡ true = says-full _ t.refused p s.world s.world.trace (sym (step-trace s p t (in-range s p op.Enter e) e) ∙ q) in
         record {
           futures = s.world.table;
           different = λ f. (table-agrees s f fine h).once;

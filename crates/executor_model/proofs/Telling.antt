@@ -11,7 +11,7 @@ use Rattle.executor_model.specs.EarlyDrop.{before_drop, IsDroppedEarly, EarlyDro
 use Rattle.executor_model.specs.Weights.{same}
 use Rattle.executor_model.proofs.Stories.{Story, untold, except, hears, story_from, story}
 
-same-cond : (g f : ℕ) → same g f ≡ cond (eqb g f) 1 0
+pub same-cond : (g f : ℕ) → same g f ≡ cond (eqb g f) 1 0
 unfolding same
 same-cond g f = refl
 
@@ -111,6 +111,9 @@ there-or-none test es = go (has test es) refl
     go : (b : Bool) → has test es ≡ b → ((has test es ≡ true) × (1 ≤ count_by test es)) ⊎ ((has test es ≡ false) × (count_by test es ≡ 0))
     go true e = inl (e, counted-there test es e)
     go false e = inr (e, has-none test 0 es e)
+
+pub counted-drop : (f : ℕ) (es : Trace) → 1 ≤ (story f es).fallen → has (is_dropped f) es ≡ true
+counted-drop f es n = ⊎_elim (λ (x : (has (is_dropped f) es ≡ true) × (1 ≤ count_by (is_dropped f) es)). x.0) (λ (x : (has (is_dropped f) es ≡ false) × (count_by (is_dropped f) es ≡ 0)). absurd (omega (arith, x.1, n, fallen-counts f es))) (there-or-none (is_dropped f) es)
 
 -- the standing futures are the same in all stories
 

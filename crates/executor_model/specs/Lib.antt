@@ -17,3 +17,5 @@ pub mod Runs
 pub mod EveryTrace
 pub mod Entries
 pub mod Limit
+pub mod AskedPolls
+pub mod Emptiness

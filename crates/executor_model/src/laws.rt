@@ -1,7 +1,8 @@
 //! Laws of every run of the machine, of any number of parties and any list of steps.
+ghost use Rattle.executor_model.specs.Emptiness.{IsEmptinessExact};
 ghost use Rattle.executor_model.specs.Entries.{FindsPlace, QueueAgrees, TableAgrees};
 ghost use Rattle.executor_model.specs.Limit.{IsLimitExact};
-ghost use Rattle.executor_model.specs.Runs.{EveryMachine, EveryRun, HasOneRunnable, IsCounted};
+ghost use Rattle.executor_model.specs.Runs.{EveryMachine, EveryRun, HandsOutOne, HasOneRunnable, IsCounted};
 
 /// Whatever the parties do, a task's count is its living wakers, and one for a Runnable, a run or a
 /// closing call. Stored awaiters are wakers, and so are those in the table, those that the drop of the
@@ -34,4 +35,16 @@ pub fn no_append_is_refused_full()
 /// hasn't ended.
 pub fn the_limit_is_exact()
     ensures { EveryMachine IsLimitExact }
+{}
+
+/// Whatever the parties do, who asks whether the executor is empty is answered yes or no, and yes exactly
+/// where each accepted future is dropped and no call that dropped one has still to take its entry out.
+pub fn emptiness_is_exact()
+    ensures { EveryMachine IsEmptinessExact }
+{}
+
+/// Whatever the parties do, a step that sets the scheduled mark of a task that is open, not scheduled and
+/// not running hands out one Runnable of it, where there was none before.
+pub fn wakes_hand_out_one()
+    ensures { EveryRun HandsOutOne }
 {}

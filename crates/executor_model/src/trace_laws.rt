@@ -1,4 +1,5 @@
 //! Laws of the trace of every run, of any number of parties and any list of steps.
+ghost use Rattle.executor_model.specs.AskedPolls.{IsWokenBetweenPolls};
 ghost use Rattle.executor_model.specs.DroppedOnce.{DropComesOnce, IsDroppedByTheEnd};
 ghost use Rattle.executor_model.specs.EarlyDrop.{EarlyDropHasCause};
 ghost use Rattle.executor_model.specs.EveryTrace.{EveryTrace};
@@ -32,4 +33,9 @@ pub fn early_drops_have_causes()
 /// was dropped once.
 pub fn closing_drops_each_future_once()
     ensures { EveryTrace IsDroppedByTheEnd }
+{}
+
+/// Whatever the parties do, a future is woken between two of its polls.
+pub fn polls_are_asked_for()
+    ensures { EveryTrace IsWokenBetweenPolls }
 {}

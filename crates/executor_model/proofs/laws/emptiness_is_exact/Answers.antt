@@ -1,0 +1,5 @@
+use Rattle.executor_model.proofs.Looking.{empties}
+use Rattle.executor_model.proofs.laws.emptiness_is_exact.Goals as goal
+
+pub returns : goal.returns
+returns c = empties

@@ -1,4 +1,2 @@
 pub mod Remaining
-pub mod WakesBetween
 pub mod HandingOn
-pub mod Idle

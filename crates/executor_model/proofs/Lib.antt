@@ -27,3 +27,4 @@ pub mod Looking
 pub mod Calls
 pub mod Resting
 pub mod Handing
+pub mod Quieting

@@ -1,5 +1,5 @@
 //! Laws of every run of the machine, of any number of parties and any list of steps.
-ghost use Rattle.executor_model.specs.Emptiness.{IsEmptinessExact};
+ghost use Rattle.executor_model.specs.Emptiness.{IsEmptinessExact, IsQuietEmptinessExact};
 ghost use Rattle.executor_model.specs.Entries.{FindsPlace, QueueAgrees, TableAgrees};
 ghost use Rattle.executor_model.specs.Limit.{IsLimitExact};
 ghost use Rattle.executor_model.specs.Runs.{EveryMachine, EveryRun, HandsOutOne, HasOneRunnable, IsCounted};
@@ -47,4 +47,11 @@ pub fn emptiness_is_exact()
 /// not running hands out one Runnable of it, where there was none before.
 pub fn wakes_hand_out_one()
     ensures { EveryRun HandsOutOne }
+{}
+
+/// Where no call is in progress and the drop of the executor hasn't begun, a call that asks whether the
+/// executor is empty, with no step of another party in between, is answered yes or no, and yes exactly
+/// where each accepted future is dropped.
+pub fn quiet_emptiness_is_exact()
+    ensures { EveryMachine IsQuietEmptinessExact }
 {}

@@ -21,7 +21,7 @@ fn a_name_names_one_workload(rt: HostRuntime) {
 fn each_workload_moves_what_it_was_asked_to(rt: HostRuntime) -> Result<(), Fail> {
     for workload in ALL {
         let want = match workload {
-            Workload::FetchAdd | Workload::MutexLock => 3000,
+            Workload::FetchAdd | Workload::MutexLock | Workload::MachineStep => 3000,
             Workload::Len => 15_000,
             Workload::Ring1024TwoToTwo | Workload::UnboundedTwoToTwo => 2 * BELOW_1500,
             _ => BELOW_3000,

@@ -2,7 +2,7 @@ ghost use Rattle.std.specs.Prelude.{◌<◌};
 
 use crate::fault::Fault;
 use crate::timing::Timing;
-use crate::{base, hand_over, queue};
+use crate::{base, hand_over, queue, steps};
 use concurrent_queue::{ConcurrentQueue, Exclusive};
 use std::alloc::AllocGlobal;
 use std::rt::Clock;
@@ -41,10 +41,12 @@ pub enum Workload {
     Ring8Exclusive,
     Ring1024Exclusive,
     UnboundedExclusive,
+    /// A step of the step machine, over a thousand futures.
+    MachineStep,
 }
 
 /// Every workload, in the order in which they are listed and run.
-pub const ALL: [Workload; 17] = [
+pub const ALL: [Workload; 18] = [
     Workload::FetchAdd,
     Workload::MutexLock,
     Workload::Single,
@@ -62,6 +64,7 @@ pub const ALL: [Workload; 17] = [
     Workload::Ring8Exclusive,
     Workload::Ring1024Exclusive,
     Workload::UnboundedExclusive,
+    Workload::MachineStep,
 ];
 
 impl Workload {
@@ -86,6 +89,7 @@ impl Workload {
             Workload::Ring8Exclusive => "queue/ring-8@exclusive",
             Workload::Ring1024Exclusive => "queue/ring-1024@exclusive",
             Workload::UnboundedExclusive => "queue/unbounded@exclusive",
+            Workload::MachineStep => "machine/step",
         }
     }
 
@@ -100,7 +104,9 @@ impl Workload {
             | Workload::SingleExclusive
             | Workload::UnboundedExclusive => 20_000_000,
             Workload::UnboundedOneToOne | Workload::UnboundedTwoToTwo => 5_000_000,
-            Workload::Ring1024OneToOne | Workload::Ring1024TwoToTwo => 2_000_000,
+            Workload::Ring1024OneToOne
+            | Workload::Ring1024TwoToTwo
+            | Workload::MachineStep => 2_000_000,
             _ => 10_000_000,
         }
     }
@@ -184,6 +190,7 @@ impl Workload {
                 Exclusive::unbounded(alloc),
                 ops,
             ),
+            Workload::MachineStep => steps::run(rt, ops),
         }
     }
 }

@@ -1,4 +1,5 @@
 pub mod Owing
-pub mod Finds
+pub mod Flags
 pub mod Scans
+pub mod Reaching
 pub mod Lifting

@@ -1,6 +1,6 @@
 -- A party's part of a step, at the vectors of all parties.
 use Rattle.std.proofs.Common.{◌≡◌, ℕ, zero, suc, ◌+◌, ◌<◌, ◌≤◌, List, [], ◌∷◌, ◌++◌, length, map, get_or, set, take, add-one, refl, sym, ap, ◌∙◌, subst, arith, Ok, Err, Result, Vec, Global}
-use Rattle.std.specs.Prelude.{Option, Some, None, slice_get}
+use Rattle.std.specs.Prelude.{Some, None}
 use Rattle.std.proofs.lemmas.List.{take_more}
 use Rattle.executor_model.specs.declared.op.Op.{Op}
 use Rattle.executor_model.specs.declared.step.Step.{Step}
@@ -9,9 +9,10 @@ use Rattle.executor_model.specs.declared.step.StepError.TheVariants.{NoSuch}
 use Rattle.executor_model.specs.World.{World}
 use Rattle.executor_model.specs.Good.{Good, Needs}
 use Rattle.executor_model.specs.Runs.{run_all}
-use Rattle.executor_model.specs.Steps.{Machine, Part, part, stack, top, party_of, part_refusal, part_after, with_part, refusal, after, step, start, idle}
-use Rattle.executor_model.proofs.Lift.{good-after, good-start}
+use Rattle.executor_model.specs.Steps.{Machine, part, stack, top, party_of, part_refusal, part_after, with_part, refusal, after, step, start, idle}
 use Rattle.executor_model.proofs.Needing.{needs}
+use Rattle.executor_core.specs.Reached.{IsReached}
+use Rattle.executor_core.proofs.Reaching.{begins}
 use Rattle.executor_model.proofs.Stepping.{refusal-there, refusal-absent, step-refused, step-made, run_all-push}
 
 abbrev pub items : List (Vec Op Global) → List (List Op)
@@ -72,9 +73,6 @@ needed w w1 ps p v r o h e k m good t =
     let s : Machine = state w ps in
     subst (λ (x : World). Needs x o) (sym m) (needs s p o (omega (arith, items-length ps)) (ap top (stack_is w ps p v h e ∙ sym k) ∙ t) good)
 
-pub goes_good : (s new : Machine) (t : Step) → refusal s t ≡ None → after s t ≡ new → Good s → Good new
-goes_good s new t r e good = subst Good e (good-after s t r good)
-
 pub goes : (s new : Machine) (t : Step) → refusal s t ≡ None → after s t ≡ new → step s t ≡ Ok new
 goes s new t r e = step-made s t r ∙ ap (λ (m : Machine). let x : Result Machine StepError = Ok m in x) e
 
@@ -100,5 +98,5 @@ idle-push ps v n e q = items-append ps (v ∷ []) ∙ ap (λ (x : List (List Op)
 pub started : (limit : ℕ) (w : World) (ps : List (Vec Op Global)) (n m : ℕ) → w ≡ (start limit 0).world → items ps ≡ idle n → n ≡ m → state w ps ≡ start limit m
 started limit w ps n m e q r = λ i. record { world = e i; parties = (q ∙ ap idle r) i }
 
-pub starts_good : (limit : ℕ) (w : World) (ps : List (Vec Op Global)) (n : ℕ) → w ≡ (start limit 0).world → items ps ≡ idle n → Good (state w ps)
-starts_good limit w ps n e q = subst Good (sym (started limit w ps n n e q refl)) (good-start limit n)
+pub starts : (limit : ℕ) (w : World) (ps : List (Vec Op Global)) (n : ℕ) → w ≡ (start limit 0).world → items ps ≡ idle n → IsReached (state w ps)
+starts limit w ps n e q = begins (state w ps) limit n (started limit w ps n n e q refl)

@@ -6,8 +6,8 @@ ghost use Rattle.executor_model.specs.World.{task, without, among, awaiter_of};
 ghost use Rattle.executor_model.specs.Good.{IsKnown, CanGrow, IsHeld, HasPlace, KeepsAwaiter, IsKnownWaker, CanWake};
 ghost use Rattle.executor_core.specs.Views.{world_of, HasRoom, HasRoomToEnd, HasSpace, Does};
 
+use crate::entries::Entries;
 use crate::store::Store;
-use crate::table::is_among;
 use executor_model::{Event, Op};
 use task_moves::ScheduleInfo;
 use task_moves::moves::{self, AwaiterDebt, FutureDebt, Move, Moved, State};
@@ -22,15 +22,15 @@ fn push_schedule(todo: &mut Vec<Op>, f: u64, debt: Option<ScheduleInfo>)
     }
 }
 
-fn push_future(todo: &mut Vec<Op>, table: &[u64], f: u64, debt: Option<FutureDebt>)
+fn push_future(todo: &mut Vec<Op>, table: &Entries, f: u64, debt: Option<FutureDebt>)
     requires space { vec_len todo.old + 2 ≤ vec_capacity todo.old }
-    ensures items { todo.new.items ≡ todo.old.items ++ reverse (carried.future_ops (among f table.now) f debt) }
+    ensures items { todo.new.items ≡ todo.old.items ++ reverse (carried.future_ops (among f table.now.futures) f debt) }
     ensures space { vec_len todo.new + 1 ≤ vec_capacity todo.new }
 {
     match debt {
         Some(FutureDebt::PollFuture) => todo.push_reserved(Op::TakeToPoll(f)),
         Some(FutureDebt::DropFuture) => {
-            if is_among(table, f) {
+            if table.contains(f) {
                 todo.push_reserved(Op::TakeToDrop(f));
             }
         }
@@ -94,6 +94,6 @@ pub fn carry_out(store: &mut Store, todo: &mut Vec<Op>, f: u64, moved: Moved)
     push_next(todo, f, owed.next);
     push_awaiter(todo, f, owed.awaiter);
     push_output(todo, f, owed.drop_output);
-    push_future(todo, store.table.as_slice(), f, owed.future);
+    push_future(todo, &store.table, f, owed.future);
     push_schedule(todo, f, owed.schedule);
 }

@@ -13,7 +13,7 @@ use executor_model::{Event, Op};
 
 /// What the executor's drop does next: first each future, then each waker, then the queue.
 fn next_closing(store: &Store) -> Op
-    ensures { result ∷ [] ≡ acts.closing_ops store.now.leaving.items store.now.waking.items }
+    ensures { result ∷ [] ≡ acts.closing_ops store.now.leaving.futures store.now.waking.items }
 {
     if !store.leaving.is_empty() {
         Op::DropNext
@@ -39,13 +39,12 @@ pub fn take_out(store: &mut Store, todo: &mut Vec<Op>)
 pub fn drop_next(store: &mut Store, todo: &mut Vec<Op>, party: u32)
     requires room { HasRoom store.old }
     requires space { HasSpace todo.old }
-    requires needs { (f : ℕ) (rest : List ℕ) → store.old.leaving.items ≡ f ∷ rest → f < length store.old.inside.items }
+    requires needs { (f : ℕ) (rest : List ℕ) → store.old.leaving.futures ≡ f ∷ rest → f < length store.old.inside.items }
     ensures { Does (acts.drop_next party (world_of store.old)) store.new todo.old.items todo.new.items }
 {
-    if store.leaving.is_empty() {
+    let Some(f) = store.leaving.take_first() else {
         return;
-    }
-    let f = store.leaving.remove(0);
+    };
     store.waking.push_back_reserved(f);
     store.inside[f as usize] = false;
     store

@@ -5,6 +5,7 @@
 mod act;
 mod carry;
 mod closing;
+mod entries;
 mod handle;
 mod machine;
 mod part;
@@ -15,7 +16,7 @@ mod table;
 mod task;
 mod uses;
 
-pub use machine::Machine;
+pub use machine::{Kind, Machine};
 
 #[cfg(test)]
 mod tests;

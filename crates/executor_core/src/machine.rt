@@ -1,18 +1,29 @@
 //! The machine.
 ghost use Rattle.std.specs.Prelude.{◌≡◌, ◌⊎◌, ℕ, ◌+◌, ◌<◌, ◌≤◌, Some, None, Ok, Err, vec_len, vec_capacity, OnOk, IfOk, IfErr, IfSome, MatchOption, slice_get, take, List, length, map};
 ghost use Rattle.executor_model.specs.Steps as steps;
-ghost use Rattle.executor_model.specs.Good.{Good};
+ghost use Rattle.executor_model.specs.LawfulPolls.{HasLawfulPolls};
+ghost use Rattle.executor_model.specs.OutputOnce.{OutputGoesOnce};
 ghost use Rattle.executor_model.specs.Runs.{run_all};
 ghost use Rattle.executor_core.specs.Views.{world_of, state_of, HasRoom, HasSpace};
+ghost use Rattle.executor_core.specs.Reached.{IsReached};
 ghost use Rattle.executor_core.specs.Refused.{IsRefused};
 
+use crate::entries::Entries;
 use crate::part::take_part;
 use crate::possible::part_refusal;
 use crate::store::Store;
+use executor_model::trace_laws::{outputs_go_once, polls_are_lawful};
 use executor_model::{Event, Op, Step, StepError};
 use std::alloc::{AllocError, Global};
 use std::collections::VecDeque;
 use std::marker::Model;
+
+/// Who may drop the executor.
+#[derive(Clone, Copy, Debug, PartialEq, Eq)]
+pub enum Kind {
+    /// Its owner, by a call.
+    Owned,
+}
 
 /// An executor of one step at a time. Its value is the state of the model: the tasks, the queue, the
 /// table, the wakers, the trace, and what each party has still to do.
@@ -25,14 +36,14 @@ pub struct Machine {
 impl Model for Machine {
     ghost use Rattle.std.specs.Prelude.{map};
     ghost use Rattle.executor_model.specs.Steps as steps;
-    ghost use Rattle.executor_model.specs.Good.{Good};
+    ghost use Rattle.executor_core.specs.Reached.{IsReached};
     ghost use Rattle.executor_core.specs.Views.{world_of};
 
     ghost Value = { steps.Machine };
 
     ghost view = { λ m. record { world = world_of m.store; parties = map (λ v. v.items) m.parties.items } };
 
-    ghost invariant = { λ m. Good (record { world = world_of m.store; parties = map (λ v. v.items) m.parties.items }) };
+    ghost invariant = { λ m. IsReached (record { world = world_of m.store; parties = map (λ v. v.items) m.parties.items }) };
 }
 
 /// Room for one more in each list. What the store stands for stays.
@@ -45,7 +56,7 @@ fn make_room(store: &mut Store) -> Result<(), StepError>
         && store.awaiters.reserve(1).is_ok()
         && store.inside.reserve(1).is_ok()
         && store.queue.reserve(1).is_ok()
-        && store.table.reserve(1).is_ok()
+        && store.table.reserve_to(store.tasks.len()).is_ok()
         && store.waking.reserve(1).is_ok()
         && store.wakers.reserve(1).is_ok()
         && store.trace.reserve(5).is_ok();
@@ -68,8 +79,8 @@ fn party_of(step: Step) -> u32
 
 /// One step.
 fn step_at(store: &mut Store, parties: &mut Vec<Vec<Op>>, step: Step) -> Result<(), StepError>
-    requires { Good (state_of store.old parties.old.items) }
-    ensures good { Good (state_of store.new parties.new.items) }
+    requires { IsReached (state_of store.old parties.old.items) }
+    ensures reached { IsReached (state_of store.new parties.new.items) }
     ensures ok { OnOk result (steps.step (state_of store.old parties.old.items) step ≡ Ok (state_of store.new parties.new.items)) }
     ensures err { IfErr result (λ e. (state_of store.new parties.new.items ≡ state_of store.old parties.old.items) × IsRefused (state_of store.old parties.old.items) step e) }
 {
@@ -100,8 +111,8 @@ fn empty(alloc: Global, limit: u64) -> Store
         inside: Vec::new(alloc),
         queue: VecDeque::new(alloc),
         closed: false,
-        table: Vec::new(alloc),
-        leaving: Vec::new(alloc),
+        table: Entries::new(alloc),
+        leaving: Entries::new(alloc),
         waking: VecDeque::new(alloc),
         wakers: Vec::new(alloc),
         gone: false,
@@ -110,11 +121,14 @@ fn empty(alloc: Global, limit: u64) -> Store
 }
 
 impl Machine {
-    /// A new machine for this many parties, of which at most `limit` accepted futures are undropped
-    /// at a time.
-    pub fn new(alloc: Global, limit: u64, parties: u32) -> Result<Machine, AllocError>
+    /// A new machine of this kind for this many parties, of which at most `limit` accepted futures are
+    /// undropped at a time.
+    pub fn new(alloc: Global, limit: u64, kind: Kind, parties: u32) -> Result<Machine, AllocError>
         ensures { IfOk result (λ m. m ≡ steps.start limit parties) }
     {
+        match kind {
+            Kind::Owned => {}
+        }
         let mut stacks = Vec::new(alloc);
         for _i in 0..parties {
             stacks.push(Vec::new(alloc))?;
@@ -130,6 +144,7 @@ impl Machine {
     pub fn step(&mut self, step: Step) -> Result<(), StepError>
         ensures ok { OnOk result (steps.step self.old step ≡ Ok self.new) }
         ensures err { IfErr result (λ e. (self.new ≡ self.old) × IsRefused self.old step e) }
+        ensures reached { IsReached self.new }
     {
         match step_at(&mut self.store, &mut self.parties, step) {
             Ok(()) => Ok(()),
@@ -137,11 +152,27 @@ impl Machine {
         }
     }
 
-    /// Steps until one is refused. Says the place of that one, and why, if one was.
+    /// Steps until one is refused. Says the place of that one, and why, if one was. What holds of every trace holds
+    /// of this machine's then: each such law has a clause here.
     pub fn run(&mut self, list: &[Step]) -> Option<(usize, StepError)>
         ensures made { MatchOption result (run_all list.now self.old ≡ Ok self.new) (λ r. run_all (take r.0 list.now) self.old ≡ Ok self.new) }
         ensures refused { IfSome result (λ r. (t : Step) × (slice_get list.now r.0 ≡ Some t) × IsRefused self.new t r.1) }
+        ensures polls_are_lawful { (f : ℕ) → HasLawfulPolls f self.new.world.trace }
+        ensures outputs_go_once { (f : ℕ) → OutputGoesOnce f self.new.world.trace }
     {
+        let refused = self.run_on(list);
+        polls_are_lawful();
+        outputs_go_once();
+        refused
+    }
+
+    /// The steps of a run.
+    fn run_on(&mut self, list: &[Step]) -> Option<(usize, StepError)>
+        ensures made { MatchOption result (run_all list.now self.old ≡ Ok self.new) (λ r. run_all (take r.0 list.now) self.old ≡ Ok self.new) }
+        ensures refused { IfSome result (λ r. (t : Step) × (slice_get list.now r.0 ≡ Some t) × IsRefused self.new t r.1) }
+        ensures reached { IsReached self.new }
+    {
+        self.is_reached();
         for (i, step) in list.iter().enumerate() {
             match self.step(*step) {
                 Ok(()) => {}
@@ -149,6 +180,13 @@ impl Machine {
             }
         }
         None
+    }
+
+    /// Its state is one to which steps lead.
+    fn is_reached(&self)
+        ensures { IsReached self.now }
+    {
+        let _ = &self.store;
     }
 
     /// What has happened, in order.

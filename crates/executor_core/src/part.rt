@@ -4,7 +4,7 @@ ghost use Rattle.executor_model.specs.Steps as steps;
 ghost use Rattle.executor_model.specs.Weights as weights;
 ghost use Rattle.executor_model.specs.Weights.{weigh, weigh_all};
 ghost use Rattle.executor_model.specs.World.{task};
-ghost use Rattle.executor_model.specs.Good.{Needs};
+ghost use Rattle.executor_model.specs.Good.{Needs, Fits};
 ghost use Rattle.executor_core.specs.Views.{world_of, HasRoom, HasRoomToEnd, HasSpace, Does};
 
 use crate::act::act;
@@ -147,6 +147,7 @@ fn settle(store: &mut Store, todo: &mut Vec<Op>, party: u32)
 
 /// The party's part of a step that is possible.
 pub fn take_part(store: &mut Store, todo: &mut Vec<Op>, step: Step)
+    requires fits { Fits (world_of store.old) }
     requires room { HasRoom store.old }
     requires space { HasSpace todo.old }
     requires needs { (op : Op) → steps.top todo.old.items ≡ Some op → Needs (world_of store.old) op }

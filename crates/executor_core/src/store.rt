@@ -1,3 +1,4 @@
+use crate::entries::Entries;
 use executor_model::{Awaiter, Event};
 use std::collections::VecDeque;
 use task_moves::moves::State;
@@ -17,9 +18,9 @@ pub struct Store {
     pub queue: VecDeque<u64>,
     pub closed: bool,
     /// The futures that have an entry and a waker in the table, in the order of acceptance.
-    pub table: Vec<u64>,
+    pub table: Entries,
     /// The futures that the executor's drop has taken out and not yet dropped.
-    pub leaving: Vec<u64>,
+    pub leaving: Entries,
     /// The wakers of those that it has dropped and not yet woken.
     pub waking: VecDeque<u64>,
     /// The kept wakers by number, each by its future.

@@ -4,38 +4,16 @@ ghost use Rattle.task_moves.specs.Moves as moves;
 ghost use Rattle.executor_model.specs.Acts as acts;
 ghost use Rattle.executor_model.specs.Carried as carried;
 ghost use Rattle.executor_model.specs.World.{task, without, among, awaiter_of};
-ghost use Rattle.executor_model.specs.Good.{IsKnown, CanGrow, IsHeld, HasPlace, KeepsAwaiter, IsKnownWaker, CanWake};
-ghost use Rattle.std.specs.Prelude.{IfSome, IfNone, is_some};
-ghost use Rattle.std.specs.List.{remove};
+ghost use Rattle.executor_model.specs.Good.{IsKnown, CanGrow, IsHeld, HasPlace, KeepsAwaiter, IsKnownWaker, CanWake, Fits};
 ghost use Rattle.executor_core.specs.Views.{world_of, HasRoom, HasRoomToEnd, HasSpace, Does};
 
 use crate::store::Store;
 use executor_model::{Event, Hint, Hold, Op, Reply};
 use task_moves::moves::State;
 
-/// Whether the future is among these.
-pub fn is_among(list: &[u64], f: u64) -> bool
-    ensures { result ≡ among f list.now }
-{
-    place_of(list, f).is_some()
-}
-
-/// The place of the future among these, where it has one.
-pub fn place_of(list: &[u64], f: u64) -> Option<usize>
-    ensures some { IfSome result (λ i. (i < length list.now) × (among f list.now ≡ true) × (remove list.now i ≡ without f list.now)) }
-    ensures none { IfNone result ((among f list.now ≡ false) × (without f list.now ≡ list.now)) }
-    ensures found { is_some result ≡ among f list.now }
-{
-    for (i, x) in list.iter().enumerate() {
-        if *x == f {
-            return Some(i);
-        }
-    }
-    None
-}
-
 /// A new future is taken in, where there are not too many and memory is not refused.
 pub fn enter(store: &mut Store, todo: &mut Vec<Op>, party: u32, hint: Hint)
+    requires fits { Fits (world_of store.old) }
     requires room { HasRoom store.old }
     requires space { HasSpace todo.old }
     ensures { Does (acts.enter party hint (world_of store.old)) store.new todo.old.items todo.new.items }
@@ -52,7 +30,7 @@ pub fn enter(store: &mut Store, todo: &mut Vec<Op>, party: u32, hint: Hint)
     store.tasks.push_reserved(entered());
     store.awaiters.push_reserved(None);
     store.inside.push_reserved(true);
-    store.table.push_reserved(f);
+    store.table.enter(f);
     store
         .trace
         .push_reserved(Event::Accepted { party, future: f });
@@ -130,8 +108,7 @@ pub fn leave_table(store: &mut Store, todo: &mut Vec<Op>, f: u64)
     requires space { HasSpace todo.old }
     ensures { Does (acts.leave_table (world_of store.old) f) store.new todo.old.items todo.new.items }
 {
-    if let Some(place) = place_of(store.table.as_slice(), f) {
-        store.table.remove(place);
+    if store.table.leave(f) {
         todo.push_reserved(Op::Release(f));
     }
 }

@@ -1,61 +1,117 @@
-use crate::machine::Machine;
-use executor_model::{Answer, Call, Event, Hint, Step, StepError, UserEnd};
-use std::alloc::Global;
+use crate::machine::{Kind, Machine};
+use executor_model::{Answer, Call, Event, Hint, Reply, Step, StepError, UserEnd};
+use std::process::Abort;
+
+mod refusals;
+mod rows;
 
 const AMPLE: Hint = Hint {
     refused: false,
     same: false,
 };
 
-fn begin(call: Call) -> Step {
-    Step::Begin { party: 0, call }
+const PENDING: UserEnd = UserEnd::Polled(Answer::Pending);
+
+const READY: UserEnd = UserEnd::Polled(Answer::Ready);
+
+fn begin(party: u32, call: Call) -> Step {
+    Step::Begin { party, call }
 }
 
-fn go() -> Step {
-    Step::Go {
-        party: 0,
-        hint: AMPLE,
+fn go(party: u32) -> Step {
+    Step::Go { party, hint: AMPLE }
+}
+
+fn answer(party: u32, end: UserEnd) -> Step {
+    Step::Answer { party, end }
+}
+
+/// A machine of three parties.
+fn machine_for<R: AllocGlobal + Abort>(rt: &R, limit: u64) -> Machine {
+    Machine::new(rt.alloc(), limit, Kind::Owned, 3).expect(rt, "room for three parties")
+}
+
+/// The answer to the call that ended last, where the last event is such an end.
+fn last_reply(machine: &Machine) -> Option<Reply> {
+    match machine.trace().last() {
+        Some(Event::CallEnded { reply, .. }) => Some(*reply),
+        _ => None,
     }
 }
 
-fn answer(end: UserEnd) -> Step {
-    Step::Answer { party: 0, end }
-}
-
-fn polls_in(trace: &[Event]) -> usize {
-    let mut polls = 0_usize;
-    for event in trace {
-        if let Event::PollBegun { .. } = event {
-            polls = polls.saturating_add(1);
+/// The party goes on until its calls have ended. User code ends in these ways, in turn. Answers what the last
+/// call was answered, or nothing where a step was refused otherwise.
+fn finish(machine: &mut Machine, party: u32, ends: &[UserEnd]) -> Option<Reply> {
+    let mut later = ends.iter();
+    for _ in 0..64 {
+        let refused = match machine.step(go(party)) {
+            Ok(()) => continue,
+            Err(error) => error,
+        };
+        match refused {
+            StepError::Idle => return last_reply(machine),
+            StepError::WrongAnswer => {}
+            _ => return None,
+        }
+        let Some(end) = later.next() else {
+            return None;
+        };
+        if machine.step(answer(party, *end)).is_err() {
+            return None;
         }
     }
-    polls
+    None
 }
 
-#[test]
-fn a_ready_future_is_polled_once_and_dropped(rt: HostRuntime) {
-    let mut machine = Machine::new(rt.alloc(), 1, 1).expect(&rt, "room for one party");
-    let steps = [
-        begin(Call::Spawn),
-        go(),
-        go(),
-        begin(Call::TryTick),
-        go(),
-        go(),
-        go(),
-        answer(UserEnd::Polled(Answer::Ready)),
-        go(),
-        answer(UserEnd::Done),
-    ];
-    let refused = machine.run(&steps);
-    assert!(&rt; refused.is_none());
-    assert!(&rt; polls_in(machine.trace()) == 1);
+/// A whole call.
+fn whole(machine: &mut Machine, party: u32, call: Call, ends: &[UserEnd]) -> Option<Reply> {
+    if machine.step(begin(party, call)).is_err() {
+        return None;
+    }
+    finish(machine, party, ends)
 }
 
-#[test]
-fn a_party_with_nothing_to_do_cannot_go_on(rt: HostRuntime) {
-    let mut machine = Machine::new(rt.alloc(), 1, 1).expect(&rt, "room for one party");
-    let refused = machine.run(&[begin(Call::IsEmpty), go(), go()]);
-    assert!(&rt; refused == Some((2, StepError::Idle)));
-    assert!(&rt; machine.trace().len() == 2);
+/// A `TryTick` of this party up to the beginning of a poll.
+fn tick_to_poll(machine: &mut Machine, party: u32) -> bool {
+    machine
+        .run(&[begin(party, Call::TryTick), go(party), go(party), go(party)])
+        .is_none()
+}
+
+/// A whole call inside of user code.
+fn inside(machine: &mut Machine, party: u32, call: Call, steps: u32) -> Option<Reply> {
+    if machine.step(begin(party, call)).is_err() {
+        return None;
+    }
+    for _ in 0..steps {
+        if machine.step(go(party)).is_err() {
+            return None;
+        }
+    }
+    last_reply(machine)
+}
+
+/// How often the future was polled, and how often its drop began.
+fn polls_and_drops(machine: &Machine, future: u64) -> (u64, u64) {
+    let mut polls = 0u64;
+    let mut drops = 0u64;
+    for event in machine.trace() {
+        match event {
+            Event::PollBegun { future: polled, .. } => {
+                if *polled == future {
+                    polls = polls.saturating_add(1);
+                }
+            }
+            Event::Dropped {
+                future: dropped,
+                ..
+            } => {
+                if *dropped == future {
+                    drops = drops.saturating_add(1);
+                }
+            }
+            _ => {}
+        }
+    }
+    (polls, drops)
 }

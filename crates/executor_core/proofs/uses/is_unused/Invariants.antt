@@ -1,5 +1,5 @@
 use Rattle.std.proofs.Common.{◌≡◌, drop, map}
-use Rattle.executor_model.specs.Weights.{weigh, weigh_all}
+use Rattle.executor_model.specs.Weights.{weigh_all}
 use Rattle.executor_core.specs.Uses.{use_of}
 use Rattle.executor_core.proofs.uses.is_unused.Given as goal
 

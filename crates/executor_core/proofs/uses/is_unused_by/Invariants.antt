@@ -1,5 +1,5 @@
-use Rattle.std.proofs.Common.{◌≡◌, drop, map}
-use Rattle.executor_model.specs.Weights.{weigh, weigh_all}
+use Rattle.std.proofs.Common.{◌≡◌, drop}
+use Rattle.executor_model.specs.Weights.{weigh}
 use Rattle.executor_core.specs.Uses.{use_of}
 use Rattle.executor_core.proofs.uses.is_unused_by.Given as goal
 

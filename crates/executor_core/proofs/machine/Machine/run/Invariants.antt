@@ -1,6 +1,0 @@
-use Rattle.std.proofs.Common.{◌≡◌, take, Ok}
-use Rattle.executor_model.specs.Runs.{run_all}
-use Rattle.executor_core.proofs.machine.Machine.run.Given as goal
-
-abbrev pub invariant-loop-i : goal.invariant-loop-i
-invariant-loop-i l = run_all (take l.i l.list) l.fn.self ≡ Ok l.self

@@ -4,16 +4,17 @@ ghost use Rattle.executor_model.specs.Steps as steps;
 ghost use Rattle.executor_model.specs.LawfulPolls.{HasLawfulPolls};
 ghost use Rattle.executor_model.specs.OutputOnce.{OutputGoesOnce};
 ghost use Rattle.executor_model.specs.Runs.{run_all};
+ghost use Rattle.executor_model.specs.World.{awaiter_of};
 ghost use Rattle.executor_core.specs.Views.{world_of, state_of, HasRoom, HasSpace};
 ghost use Rattle.executor_core.specs.Reached.{IsReached};
 ghost use Rattle.executor_core.specs.Refused.{IsRefused};
 
 use crate::entries::Entries;
 use crate::part::take_part;
-use crate::possible::part_refusal;
+use crate::possible::{has_handle, part_refusal};
 use crate::store::Store;
 use executor_model::trace_laws::{outputs_go_once, polls_are_lawful};
-use executor_model::{Event, Op, Step, StepError};
+use executor_model::{Awaiter, Event, Op, Step, StepError};
 use std::alloc::{AllocError, Global};
 use std::collections::VecDeque;
 use std::marker::Model;
@@ -187,6 +188,40 @@ impl Machine {
         ensures { IsReached self.now }
     {
         let _ = &self.store;
+    }
+
+    /// The next thing that a party has to do, or the user code in which it stands; none between two calls.
+    pub fn top(&self, party: u32) -> Option<Op>
+        ensures { result ≡ steps.top (steps.stack self.now party) }
+    {
+        match self.parties.get(party as usize) {
+            Some(todo) => todo.last().copied(),
+            None => None,
+        }
+    }
+
+    /// How many wakers were handed out.
+    pub fn wakers(&self) -> usize
+        ensures { result ≡ length self.now.world.wakers }
+    {
+        self.store.wakers.len()
+    }
+
+    /// The handle of this future is there, and no call uses it.
+    pub fn has_handle(&self, future: u64) -> bool
+        ensures { result ≡ steps.has_handle self.now.world self.now.parties future }
+    {
+        has_handle(&self.store, self.parties.as_slice(), future)
+    }
+
+    /// The awaiter that the task of this future keeps.
+    pub fn awaiter(&self, future: u64) -> Option<Awaiter>
+        ensures { result ≡ awaiter_of self.now.world future }
+    {
+        match self.store.awaiters.get(future as usize) {
+            Some(awaiter) => *awaiter,
+            None => None,
+        }
     }
 
     /// What has happened, in order.

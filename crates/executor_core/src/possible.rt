@@ -54,7 +54,7 @@ pub fn kept(store: &Store, k: u64) -> Option<u64>
 }
 
 /// The handle of the future is there, and no call uses it.
-fn has_handle(store: &Store, parties: &[Vec<Op>], f: u64) -> bool
+pub fn has_handle(store: &Store, parties: &[Vec<Op>], f: u64) -> bool
     ensures { result ≡ steps.has_handle (world_of store.now) (map (λ v. v.items) parties.now) f }
 {
     f < store.tasks.len() as u64

@@ -4,3 +4,4 @@ pub mod Reading
 pub mod Zipping
 pub mod Parsing
 pub mod Unambiguous
+pub mod Unread

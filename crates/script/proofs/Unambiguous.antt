@@ -1,15 +1,20 @@
 -- No text is two scripts.
-use Rattle.std.proofs.Common.{◌≡◌, ℕ, List, [], ◌∷◌, refl, ap, arith}
+use Rattle.std.proofs.Common.{◌≡◌, ℕ, Bool, true, false, codes, List, [], ◌∷◌, refl, ap, ◌∙◌, arith}
 use Rattle.std.specs.List.{AllZip}
 use Rattle.script.specs.Number.{IsNumber}
 use Rattle.script.specs.Item.{IsItem, AreItems}
-use Rattle.script.specs.Command.{Spells}
+use Rattle.script.specs.Plain.{IsSpelled}
+use Rattle.script.specs.Party.{IsParty}
+use Rattle.script.specs.Command.{SpellsAs, SpellsRequest, Spells}
+use Rattle.script.specs.declared.command.Request.{Request}
+use Rattle.script.specs.declared.plain.Plain.{Plain}
+use Rattle.script.specs.declared.plain.Plain.TheVariants as plain
 use Rattle.script.specs.Lines.{lines_of, words_of}
 use Rattle.script.specs.Script.{IsCommand, Says, IsScript}
 use Rattle.script.specs.declared.item.Item.{Item}
-use Rattle.script.specs.declared.item.Item.TheVariants.{Pend, WakeSelf, Keep, Ready}
+use Rattle.script.specs.declared.item.Item.TheVariants.{Pend, WakeSelf, Keep, Ready, Twice}
 use Rattle.script.specs.declared.command.Command.{Command}
-use Rattle.script.specs.declared.command.Command.TheVariants.{Spawn, Try, Empty, Wake, Drop, End}
+use Rattle.script.specs.declared.command.Command.TheVariants.{Whole, Begin, Go, Finish}
 
 IsNumber-one : (word other : List ℕ) (m n : ℕ) → word ≡ other → IsNumber word m → IsNumber other n → m ≡ n
 IsNumber-one word other m n same p q =
@@ -24,6 +29,7 @@ IsItem-one Keep Keep word p q = refl
 IsItem-one (Ready m) (Ready n) word p q =
     let digits : p.0 ≡ q.0 = cc in
     ap Ready (IsNumber-one p.0 q.0 m n digits p.2 q.2)
+IsItem-one (Twice name) (Twice other) word p q = cc
 IsItem-one item other word p q = grind arith
 
 AllZip-one : {A B : Type 0} (R : A → B → Type 0) → ((x y : A) (z : B) → R x z → R y z → x ≡ y) → (xs ys : List A) (zs : List B) → AllZip R xs zs → AllZip R ys zs → xs ≡ ys
@@ -40,18 +46,93 @@ AllZip-one R one (x ∷ xs) [] (z ∷ zs) p q = absurd q
 AreItems-one : (items others : List Item) (words more : List (List ℕ)) → words ≡ more → AreItems items words → AreItems others more → items ≡ others
 AreItems-one items others words more same p q = AllZip-one IsItem IsItem-one items others more (rw (← same) p.each) q.each
 
-Spells-one : (command other : Command) (words : List (List ℕ)) → Spells command words → Spells other words → command ≡ other
-Spells-one (Spawn name items) (Spawn name' items') words p q =
+IsSpelled-one : (plain other : Plain) (words : List (List ℕ)) → IsSpelled plain words → IsSpelled other words → plain ≡ other
+IsSpelled-one (plain.Spawn name items) (plain.Spawn name' items') words p q =
     let names : name ≡ name' = cc in
     let rest : p.0 ≡ q.0 = cc in
     let same : items ≡ items' = AreItems-one items items' p.0 q.0 rest p.3 q.3 in
     cc
-Spells-one Try Try words p q = refl
-Spells-one Empty Empty words p q = refl
-Spells-one (Wake name) (Wake name') words p q = cc
-Spells-one (Drop name) (Drop name') words p q = cc
-Spells-one End End words p q = refl
-Spells-one command other words p q = grind arith
+IsSpelled-one plain.Try plain.Try words p q = refl
+IsSpelled-one plain.Empty plain.Empty words p q = refl
+IsSpelled-one (plain.Wake name) (plain.Wake name') words p q = cc
+IsSpelled-one (plain.Unkeep name) (plain.Unkeep name') words p q = cc
+IsSpelled-one (plain.Poll name) (plain.Poll name') words p q = cc
+IsSpelled-one (plain.Cancel name) (plain.Cancel name') words p q = cc
+IsSpelled-one (plain.Detach name) (plain.Detach name') words p q = cc
+IsSpelled-one (plain.Drop name) (plain.Drop name') words p q = cc
+IsSpelled-one plain.End plain.End words p q = refl
+IsSpelled-one plain other words p q = grind arith
+
+-- no command that makes a call by itself begins with these words
+IsSpelled-refuse : (plain : Plain) (words rest : List (List ℕ)) → words ≡ codes "refuse" ∷ rest → ¬ (IsSpelled plain words)
+IsSpelled-refuse plain words rest e is = grind arith
+
+IsSpelled-begin : (plain : Plain) (words rest : List (List ℕ)) → words ≡ codes "begin" ∷ rest → ¬ (IsSpelled plain words)
+IsSpelled-begin plain words rest e is = grind arith
+
+IsSpelled-go : (plain : Plain) (words rest : List (List ℕ)) → words ≡ codes "go" ∷ rest → ¬ (IsSpelled plain words)
+IsSpelled-go plain words rest e is = grind arith
+
+IsSpelled-finish : (plain : Plain) (words rest : List (List ℕ)) → words ≡ codes "finish" ∷ rest → ¬ (IsSpelled plain words)
+IsSpelled-finish plain words rest e is = grind arith
+
+SpellsAs-begin : (refused : Bool) (plain : Plain) (words rest : List (List ℕ)) → words ≡ codes "begin" ∷ rest → ¬ (SpellsAs refused plain words)
+SpellsAs-begin true plain words rest e is = grind arith
+SpellsAs-begin false plain words rest e is = IsSpelled-begin plain words rest e is
+
+SpellsAs-go : (refused : Bool) (plain : Plain) (words rest : List (List ℕ)) → words ≡ codes "go" ∷ rest → ¬ (SpellsAs refused plain words)
+SpellsAs-go true plain words rest e is = grind arith
+SpellsAs-go false plain words rest e is = IsSpelled-go plain words rest e is
+
+SpellsAs-finish : (refused : Bool) (plain : Plain) (words rest : List (List ℕ)) → words ≡ codes "finish" ∷ rest → ¬ (SpellsAs refused plain words)
+SpellsAs-finish true plain words rest e is = grind arith
+SpellsAs-finish false plain words rest e is = IsSpelled-finish plain words rest e is
+
+SpellsAs-one : (refused refused' : Bool) (plain plain' : Plain) (words : List (List ℕ)) → SpellsAs refused plain words → SpellsAs refused' plain' words → (refused ≡ refused') × (plain ≡ plain')
+SpellsAs-one true true plain plain' words p q =
+    let rest : p.0 ≡ q.0 = cc in
+    (refl, IsSpelled-one plain plain' p.0 p.2 (rw rest q.2))
+SpellsAs-one true false plain plain' words p q = absurd (IsSpelled-refuse plain' words p.0 p.1 q)
+SpellsAs-one false true plain plain' words p q = absurd (IsSpelled-refuse plain words q.0 q.1 p)
+SpellsAs-one false false plain plain' words p q = (refl, IsSpelled-one plain plain' words p q)
+
+SpellsRequest-one : (request other : Request) (words : List (List ℕ)) → SpellsRequest request words → SpellsRequest other words → request ≡ other
+SpellsRequest-one request other words p q =
+    let both = SpellsAs-one request.refused other.refused request.plain other.plain words p q in
+    let refused : request.refused ≡ other.refused = both.0 in
+    let same : request.plain ≡ other.plain = both.1 in
+    let of : Bool → Plain → Request = λ b c. record { refused = b; plain = c } in
+    ap (λ b. of b request.plain) refused ∙ ap (λ c. of other.refused c) same
+
+IsParty-one : (word other : List ℕ) (m n : ℕ) → word ≡ other → IsParty word m → IsParty other n → m ≡ n
+IsParty-one word other m n same p q = IsNumber-one word other m n same p.number q.number
+
+Spells-one : (command other : Command) (words : List (List ℕ)) → Spells command words → Spells other words → command ≡ other
+Spells-one (Whole request) (Whole other) words p q = ap Whole (SpellsRequest-one request other words p q)
+Spells-one (Begin party request) (Begin party' other) words p q =
+    let numbers : p.0 ≡ q.0 = cc in
+    let rests : p.1 ≡ q.1 = cc in
+    let parties : party ≡ party' = IsParty-one p.0 q.0 party party' numbers p.3 q.3 in
+    let requests : request ≡ other = SpellsRequest-one request other p.1 p.4 (rw rests q.4) in
+    cc
+Spells-one (Go party) (Go other) words p q =
+    let numbers : p.0 ≡ q.0 = cc in
+    ap Go (IsParty-one p.0 q.0 party other numbers p.2 q.2)
+Spells-one (Finish party) (Finish other) words p q =
+    let numbers : p.0 ≡ q.0 = cc in
+    ap Finish (IsParty-one p.0 q.0 party other numbers p.2 q.2)
+Spells-one (Whole request) (Begin party other) words p q = absurd (SpellsAs-begin request.refused request.plain words _ q.2 p)
+Spells-one (Whole request) (Go party) words p q = absurd (SpellsAs-go request.refused request.plain words _ q.1 p)
+Spells-one (Whole request) (Finish party) words p q = absurd (SpellsAs-finish request.refused request.plain words _ q.1 p)
+Spells-one (Begin party request) (Whole other) words p q = absurd (SpellsAs-begin other.refused other.plain words _ p.2 q)
+Spells-one (Go party) (Whole other) words p q = absurd (SpellsAs-go other.refused other.plain words _ p.1 q)
+Spells-one (Finish party) (Whole other) words p q = absurd (SpellsAs-finish other.refused other.plain words _ p.1 q)
+Spells-one (Begin party request) (Go other) words p q = grind arith
+Spells-one (Begin party request) (Finish other) words p q = grind arith
+Spells-one (Go party) (Begin other request) words p q = grind arith
+Spells-one (Go party) (Finish other) words p q = grind arith
+Spells-one (Finish party) (Begin other request) words p q = grind arith
+Spells-one (Finish party) (Go other) words p q = grind arith
 
 Says-one : (limit other : ℕ) (commands others : List Command) (lines : List (List ℕ)) → Says limit commands lines → Says other others lines → (limit ≡ other) × (commands ≡ others)
 Says-one limit other commands others [] p q = absurd p

@@ -1,30 +1,28 @@
 -- How a script writes its commands.
-use Rattle.std.specs.Prelude.{◌≡◌, ℕ, List, [], ◌∷◌, codes}
-use Rattle.script.specs.Name.{IsName}
-use Rattle.script.specs.Item.{AreItems}
+use Rattle.std.specs.Prelude.{◌≡◌, ℕ, Bool, true, false, List, [], ◌∷◌, codes}
+use Rattle.script.specs.Party.{IsParty}
+use Rattle.script.specs.Plain.{IsSpelled}
 use Rattle.script.specs.declared.command.Command.{Command}
-use Rattle.script.specs.declared.command.Command.TheVariants.{Spawn, Try, Empty, Wake, Drop, End}
-use Rattle.script.specs.declared.command.Word.{Word}
-use Rattle.script.specs.declared.command.Word.TheVariants as word
+use Rattle.script.specs.declared.command.Command.TheVariants.{Whole, Begin, Go, Finish}
+use Rattle.script.specs.declared.command.Request.{Request}
+use Rattle.script.specs.declared.plain.Plain.{Plain}
+
+-- the words of a command that makes a call, where its memory is refused or not
+abbrev pub SpellsAs : Bool → Plain → List (List ℕ) → Type 0
+SpellsAs true plain words = (rest : List (List ℕ)) × (words ≡ codes "refuse" ∷ rest) × IsSpelled plain rest
+SpellsAs false plain words = IsSpelled plain words
+
+abbrev pub SpellsRequest : Request → List (List ℕ) → Type 0
+SpellsRequest request words = SpellsAs request.refused request.plain words
 
 -- the words of a command
 abbrev pub Spells : Command → List (List ℕ) → Type 0
-Spells (Spawn name items) words =
-    (spelled : List (List ℕ))
-    × (words ≡ codes "spawn" ∷ name ∷ spelled)
-    × IsName name
-    × AreItems items spelled
-Spells Try words = words ≡ codes "try" ∷ []
-Spells Empty words = words ≡ codes "empty" ∷ []
-Spells (Wake name) words = (words ≡ codes "wake" ∷ name ∷ []) × IsName name
-Spells (Drop name) words = (words ≡ codes "drop" ∷ name ∷ []) × IsName name
-Spells End words = words ≡ codes "end" ∷ []
-
--- the word under which a command's answer is printed
-abbrev pub word_of : Command → Word
-word_of (Spawn name items) = word.Spawn
-word_of Try = word.Try
-word_of Empty = word.Empty
-word_of (Wake name) = word.Wake
-word_of (Drop name) = word.Drop
-word_of End = word.End
+Spells (Whole request) words = SpellsRequest request words
+Spells (Begin party request) words =
+    (number : List ℕ)
+    × (rest : List (List ℕ))
+    × (words ≡ codes "begin" ∷ number ∷ rest)
+    × IsParty number party
+    × SpellsRequest request rest
+Spells (Go party) words = (number : List ℕ) × (words ≡ codes "go" ∷ number ∷ []) × IsParty number party
+Spells (Finish party) words = (number : List ℕ) × (words ≡ codes "finish" ∷ number ∷ []) × IsParty number party

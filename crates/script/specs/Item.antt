@@ -1,9 +1,10 @@
 -- How a script writes what a future does at its polls.
 use Rattle.std.specs.Prelude.{◌≡◌, ℕ, ◌≤◌, List, ◌++◌, length, codes}
 use Rattle.std.specs.List.{AllZip}
+use Rattle.script.specs.Name.{IsName}
 use Rattle.script.specs.Number.{IsNumber}
 use Rattle.script.specs.declared.item.Item.{Item}
-use Rattle.script.specs.declared.item.Item.TheVariants.{Pend, WakeSelf, Keep, Ready}
+use Rattle.script.specs.declared.item.Item.TheVariants.{Pend, WakeSelf, Keep, Ready, Twice}
 
 -- the word of an item
 abbrev pub IsItem : Item → List ℕ → Type 0
@@ -15,6 +16,7 @@ IsItem (Ready value) word =
     × (word ≡ codes "ready=" ++ digits)
     × IsNumber digits value
     × (value ≤ 1000000)
+IsItem (Twice name) word = (word ≡ codes "twice:" ++ name) × IsName name
 
 -- 1 to 8 items, a word each
 pub record AreItems (items : List Item) (words : List (List ℕ)) : Type 0 where

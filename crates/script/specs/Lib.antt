@@ -5,6 +5,8 @@ pub mod Indexed
 pub mod Number
 pub mod Lines
 pub mod Item
+pub mod Party
+pub mod Plain
 pub mod Command
 pub mod Script
 pub mod BadLine

@@ -1,35 +1,38 @@
 //! The commands of a script.
 
 ghost use Rattle.std.specs.Prelude.{◌≡◌, ◌≢◌, ℕ, [], ◌∷◌, List, IfNone, IfOk, IfSome, codes};
-ghost use Rattle.script.specs.Name.{IsName};
-ghost use Rattle.script.specs.Command.{Spells};
+ghost use Rattle.script.specs.Command.{SpellsRequest, Spells};
+ghost use Rattle.script.specs.Party.{IsParty};
 ghost use Rattle.script.specs.declared.command.Command.{Command};
+ghost use Rattle.script.specs.declared.command.Request.{Request};
 
-use crate::items::Items;
-use crate::name::Name;
+use crate::party::read_party;
+use crate::plain::{Plain, read_plain};
 use crate::words::Words;
 use std::alloc::{AllocError, Global};
+
+/// A command that makes a call.
+#[derive(Debug, PartialEq, Eq, Drop)]
+pub struct Request {
+    /// `refuse <command>`: every request for memory in it is refused.
+    pub refused: bool,
+    pub plain: Plain,
+}
 
 /// One line of a script after the first.
 #[derive(Debug, PartialEq, Eq, Drop)]
 pub enum Command {
-    /// `spawn f i1 .. ik`: a future with 1 to 8 items.
-    Spawn { name: Name, items: Items },
-    /// `try`: one queued task is taken up.
-    Try,
-    /// `empty`: whether each accepted future has been dropped.
-    Empty,
-    /// `wake f`: the kept waker of the future is called.
-    Wake(Name),
-    /// `drop f`: the handle of the future is dropped.
-    Drop(Name),
-    /// `end`: the executor is dropped.
-    End,
+    /// Party 0 makes the call, and the script goes on when it has ended.
+    Whole(Request),
+    /// `begin p <command>`: this party begins the call.
+    Begin { party: u32, request: Request },
+    /// `go p`: this party does the next thing that it has to do.
+    Go(u32),
+    /// `finish p`: this party goes on until its call has ended.
+    Finish(u32),
 }
 
 impl Command {
-    ghost use Rattle.script.specs.Command.{word_of};
-
     /// The command of these words, where they are one.
     pub fn from_words(alloc: Global, mut words: Words<'_>) -> Result<Option<Command>, AllocError>
         ensures found { IfOk result (λ found.
@@ -41,61 +44,71 @@ impl Command {
             return Ok(None);
         };
         match first {
-            b"spawn" => spawn(alloc, words),
-            b"try" => Ok(words.is_empty().then_some(Command::Try)),
-            b"empty" => Ok(words.is_empty().then_some(Command::Empty)),
-            b"wake" => Ok(named(words).map(Command::Wake)),
-            b"drop" => Ok(named(words).map(Command::Drop)),
-            b"end" => Ok(words.is_empty().then_some(Command::End)),
-            _ => Ok(None),
-        }
-    }
-
-    /// The word under which the command's answer is printed.
-    pub fn word(&self) -> Word
-        ensures { result ≡ word_of self.now }
-    {
-        match self {
-            Command::Spawn { .. } => Word::Spawn,
-            Command::Try => Word::Try,
-            Command::Empty => Word::Empty,
-            Command::Wake(_) => Word::Wake,
-            Command::Drop(_) => Word::Drop,
-            Command::End => Word::End,
+            b"begin" => begin(alloc, words),
+            b"go" => Ok(party(words).map(Command::Go)),
+            b"finish" => Ok(party(words).map(Command::Finish)),
+            _ => {
+                let request = read_request(alloc, first, words)?;
+                Ok(request.map(Command::Whole))
+            }
         }
     }
 }
 
-/// The command that these words say behind `spawn`: a name, and its items.
-fn spawn(alloc: Global, mut words: Words<'_>) -> Result<Option<Command>, AllocError>
+/// The command that makes a call of this word and the words behind it, where they are one.
+fn read_request(
+    alloc: Global,
+    first: &[u8],
+    mut words: Words<'_>,
+) -> Result<Option<Request>, AllocError>
     ensures found { IfOk result (λ found.
-        IfSome found (λ command. Spells command (codes "spawn" ∷ words.entry))) }
+        IfSome found (λ request. SpellsRequest request (first.now ∷ words.entry))) }
     ensures none { IfOk result (λ found.
-        IfNone found ((command : Command) → ¬ (Spells command (codes "spawn" ∷ words.entry)))) }
+        IfNone found ((request : Request) → ¬ (SpellsRequest request (first.now ∷ words.entry)))) }
 {
-    let Some(name) = words.next().and_then(Name::new) else {
+    match first {
+        b"refuse" => {
+            let Some(second) = words.next() else {
+                return Ok(None);
+            };
+            let plain = read_plain(alloc, second, words)?;
+            Ok(plain.map(|plain| Request {
+                refused: true,
+                plain,
+            }))
+        }
+        _ => {
+            let plain = read_plain(alloc, first, words)?;
+            Ok(plain.map(|plain| Request {
+                refused: false,
+                plain,
+            }))
+        }
+    }
+}
+
+/// The command that these words say behind `begin`: a party, and what it begins.
+fn begin(alloc: Global, mut words: Words<'_>) -> Result<Option<Command>, AllocError>
+    ensures found { IfOk result (λ found.
+        IfSome found (λ command. Spells command (codes "begin" ∷ words.entry))) }
+    ensures none { IfOk result (λ found.
+        IfNone found ((command : Command) → ¬ (Spells command (codes "begin" ∷ words.entry)))) }
+{
+    let Some(party) = words.next().and_then(read_party) else {
         return Ok(None);
     };
-    let items = Items::from_words(alloc, words)?;
-    Ok(items.map(|items| Command::Spawn { name, items }))
+    let Some(first) = words.next() else {
+        return Ok(None);
+    };
+    let request = read_request(alloc, first, words)?;
+    Ok(request.map(|request| Command::Begin { party, request }))
 }
 
-/// The name that these words are, where they are one name.
-fn named(mut words: Words<'_>) -> Option<Name>
-    ensures found { IfSome result (λ name. IsName name × (words.entry ≡ name ∷ [])) }
-    ensures none { IfNone result ((name : List ℕ) → IsName name → words.entry ≢ name ∷ []) }
+/// The party that these words name, where they name one.
+fn party(mut words: Words<'_>) -> Option<u32>
+    ensures found { IfSome result (λ party. (word : List ℕ) × IsParty word party × (words.entry ≡ word ∷ [])) }
+    ensures none { IfNone result ((party : ℕ) (word : List ℕ) → IsParty word party → words.entry ≢ word ∷ []) }
 {
-    let name = Name::new(words.next()?)?;
-    words.is_empty().then_some(name)
-}
-
-/// The first word of a command, under which its answer is printed.
-#[derive(Clone, Copy, Debug, PartialEq, Eq)]
-pub enum Word {
-    Spawn,
-    Try,
-    Empty,
-    Wake,
-    Drop,
-    End,
+    let party = read_party(words.next()?)?;
+    words.is_empty().then_some(party)
 }

@@ -1,7 +1,10 @@
 //! What a future does at one poll.
 
-ghost use Rattle.std.specs.Prelude.{IfNone, IfSome};
+ghost use Rattle.std.specs.Prelude.{ℕ, List, IfNone, IfSome};
+ghost use Rattle.script.specs.Item.{IsItem};
+ghost use Rattle.script.specs.declared.item.Item.TheVariants.{Ready, Twice};
 
+use crate::name::Name;
 use crate::number::read_number;
 
 /// What a future does at one poll.
@@ -16,6 +19,9 @@ pub enum Item {
     Keep,
     /// `ready=<v>`: it is ready with this value, at most 1,000,000.
     Ready(u64),
+    /// `twice:<g>`: it polls the handle of the future of this name, which it holds, and is ready with twice its
+    /// output.
+    Twice(Name),
 }
 
 impl Item {
@@ -23,6 +29,7 @@ impl Item {
     ghost use Rattle.script.specs.declared.item.Item.{Item};
 
     /// The item of this word, where it is one.
+    #[tactic(auto, using(crate::proofs::Unread::no_item))]
     pub fn from_word(word: &[u8]) -> Option<Item>
         ensures found { IfSome result (λ item. IsItem item word.now) }
         ensures none { IfNone result ((item : Item) → ¬ (IsItem item word.now)) }
@@ -31,10 +38,28 @@ impl Item {
             b"pend" => Some(Item::Pend),
             b"self" => Some(Item::WakeSelf),
             b"keep" => Some(Item::Keep),
-            _ => {
-                let value = read_number(word.strip_prefix(b"ready=")?)?;
-                (value <= 1_000_000).then_some(Item::Ready(value))
-            }
+            _ => match twice(word) {
+                Some(item) => Some(item),
+                None => ready(word),
+            },
         }
     }
+}
+
+/// The item of this word, where it is one that polls a handle.
+fn twice(word: &[u8]) -> Option<Item>
+    ensures found { IfSome result (λ item. IsItem item word.now) }
+    ensures none { IfNone result ((name : List ℕ) → ¬ (IsItem (Twice name) word.now)) }
+{
+    let name = Name::new(word.strip_prefix(b"twice:")?)?;
+    Some(Item::Twice(name))
+}
+
+/// The item of this word, where it is one that is ready.
+fn ready(word: &[u8]) -> Option<Item>
+    ensures found { IfSome result (λ item. IsItem item word.now) }
+    ensures none { IfNone result ((value : ℕ) → ¬ (IsItem (Ready value) word.now)) }
+{
+    let value = read_number(word.strip_prefix(b"ready=")?)?;
+    (value <= 1_000_000).then_some(Item::Ready(value))
 }

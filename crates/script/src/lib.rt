@@ -11,15 +11,20 @@ mod name;
 mod names;
 mod number;
 mod parser;
+mod party;
+mod plain;
+mod word;
 mod words;
 
-pub use command::{Command, Word};
+pub use command::{Command, Request};
 pub use error::ParseError;
 pub use item::Item;
 pub use items::Items;
 pub use name::Name;
 pub use names::Names;
 pub use parser::parse;
+pub use plain::Plain;
+pub use word::Word;
 
 /// What a script says.
 #[derive(Debug, PartialEq, Eq, Drop)]

@@ -2,12 +2,19 @@
 
 use super::items::Items;
 use super::words::Words;
-use super::{Command, Item, Name, ParseError, Word, parse};
+use super::{Command, Item, Name, ParseError, Plain, Request, Word, parse};
 use std::process::Abort;
 use std::test::Fail;
 
 fn name(rt: &impl Abort, word: &str) -> Name {
     Name::new(word.as_bytes()).expect(rt, "a name")
+}
+
+fn whole(plain: Plain) -> Command {
+    Command::Whole(Request {
+        refused: false,
+        plain,
+    })
 }
 
 #[test]
@@ -18,26 +25,54 @@ fn a_script_is_its_limit_and_its_commands(rt: HostRuntime) -> Result<(), Fail> {
     let waking = Items::from_words(rt.alloc(), Words::of(b"self ready=5"))?.expect(&rt, "items");
     let keeping = Items::from_words(rt.alloc(), Words::of(b"keep pend"))?.expect(&rt, "items");
     let commands = vec![in rt.alloc();
-        Command::Spawn {
+        whole(Plain::Spawn {
             name: name(&rt, "b"),
             items: waking
-        },
-        Command::Spawn {
+        }),
+        whole(Plain::Spawn {
             name: name(&rt, "a"),
             items: keeping
-        },
-        Command::Try,
-        Command::Wake(name(&rt, "a")),
-        Command::Drop(name(&rt, "b")),
-        Command::Empty,
-        Command::End,
+        }),
+        whole(Plain::Try),
+        whole(Plain::Wake(name(&rt, "a"))),
+        whole(Plain::Drop(name(&rt, "b"))),
+        whole(Plain::Empty),
+        whole(Plain::End),
     ]?;
     assert_eq!(rt; script.limit, 12);
     assert_eq!(rt; script.commands, commands);
-    assert_eq!(rt;
-        script.commands.get(3).map(|command| command.word()),
-        Some(Word::Wake)
-    );
+    assert_eq!(rt; Plain::Wake(name(&rt, "a")).word(), Word::Wake);
+    Ok(())
+}
+
+#[test]
+fn a_call_may_be_begun_and_its_memory_refused(rt: HostRuntime) -> Result<(), Fail> {
+    let text =
+        b"limit 1\nrefuse poll a\nbegin 9 refuse cancel b\nbegin 1 unkeep a\ngo 01\nfinish 2";
+    let script = parse(rt.alloc(), text)?.expect(&rt, "a script");
+    let commands = vec![in rt.alloc();
+        Command::Whole(Request {
+            refused: true,
+            plain: Plain::Poll(name(&rt, "a")),
+        }),
+        Command::Begin {
+            party: 9,
+            request: Request {
+                refused: true,
+                plain: Plain::Cancel(name(&rt, "b")),
+            },
+        },
+        Command::Begin {
+            party: 1,
+            request: Request {
+                refused: false,
+                plain: Plain::Unkeep(name(&rt, "a")),
+            },
+        },
+        Command::Go(1),
+        Command::Finish(2),
+    ]?;
+    assert_eq!(rt; script.commands, commands);
     Ok(())
 }
 
@@ -79,6 +114,16 @@ fn the_first_bad_line_is_named(rt: HostRuntime) {
             2,
         ),
         (b"limit 1\nspawn a ready=+1".as_slice(), 2),
+        (b"limit 1\nspawn a twice:".as_slice(), 2),
+        (b"limit 1\nbegin 0 try".as_slice(), 2),
+        (b"limit 1\nbegin 10 try".as_slice(), 2),
+        (b"limit 1\nbegin 1".as_slice(), 2),
+        (b"limit 1\nbegin 1 begin 2 try".as_slice(), 2),
+        (b"limit 1\nbegin 1 go 2".as_slice(), 2),
+        (b"limit 1\nrefuse begin 1 try".as_slice(), 2),
+        (b"limit 1\nrefuse refuse try".as_slice(), 2),
+        (b"limit 1\nrefuse".as_slice(), 2),
+        (b"limit 1\ngo".as_slice(), 2),
         (b"limit 1\nspawn a ready=18446744073709551617".as_slice(), 2),
         (b"limit 1\ntry\n\xff\xfe\nfly".as_slice(), 3),
     ];

@@ -4,7 +4,7 @@ use Rattle.std.specs.Prelude.{◌≡◌, ◌⊎◌, ℕ, List, [], Option}
 use Rattle.std.specs.Io.KnownBytes.{Appends}
 use Rattle.script.specs.BadLine.{IsFirstBadLine}
 use Rattle.script.specs.Script.{IsScript}
-use Rattle.taskrun.specs.ScriptText.{script_text}
+use Rattle.taskrun.specs.ScriptText.{IsTextOf}
 use Rattle.taskrun.specs.declared.fault.Fault.{Fault}
 use Rattle.taskrun.specs.declared.fault.Fault.TheVariants.{BadLine, NoMemory}
 use Rattle.script.specs.declared.command.Command.{Command}
@@ -18,7 +18,7 @@ pub record IsAnswer (input text : List ℕ) : Type 0 where
   pub good : IsGoodInput input
   pub of_nothing : input ≡ [] → text ≡ []
   pub of_script : (limit : ℕ) (commands : List Command)
-      → IsScript input limit commands → text ≡ script_text limit commands
+      → IsScript input limit commands → IsTextOf limit commands text
 
 -- the answer to what was read was written behind the other bytes
 abbrev pub WritesAnswer : List ℕ → Option (List ℕ) → Option (List ℕ) → Type 0

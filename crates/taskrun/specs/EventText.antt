@@ -2,7 +2,8 @@
 use Rattle.std.specs.Prelude.{ℕ, List, [], ◌++◌, codes, slice_get, unwrap_or}
 use Rattle.executor_model.specs.declared.event.Answer.TheVariants.{Ready, Pending}
 use Rattle.executor_model.specs.declared.event.Event.{Event}
-use Rattle.executor_model.specs.declared.event.Event.TheVariants.{PollBegun, Answered, Dropped, OutputDropped}
+use Rattle.executor_model.specs.declared.op.Waker.TheVariants.{Outside}
+use Rattle.executor_model.specs.declared.event.Event.TheVariants.{PollBegun, Answered, Dropped, OutputDropped, WakerCalled}
 
 -- the futures are numbered in the order of their names
 abbrev pub name_of : List (List ℕ) → ℕ → List ℕ
@@ -18,4 +19,5 @@ event_text names (Answered party future Ready) = line_on names (codes "ready") f
 event_text names (Answered party future Pending) = line_on names (codes "pending") future
 event_text names (Dropped party future) = line_on names (codes "drop") future
 event_text names (OutputDropped party future) = line_on names (codes "lose") future
+event_text names (WakerCalled party future poll (Outside other)) = line_on names (codes "call") other
 event_text names _ = []

@@ -1,9 +1,7 @@
 pub mod Fault
-pub mod First
-pub mod Slot
-pub mod Resting
-pub mod Sound
-pub mod Laws
+pub mod Play
+pub mod Turn
+pub mod Commands
 pub mod EventText
 pub mod EndText
 pub mod Text

@@ -1,11 +1,10 @@
--- What a script prints: the text of the moments of its commands, in order, on a new executor.
-use Rattle.std.specs.Prelude.{ℕ, List}
-use Rattle.taskrun.specs.First.{World, after_all, start}
-use Rattle.taskrun.specs.Text.{moments_text}
+-- What a script prints: its commands are played in order on a new machine, and what happens and how each ends is printed.
+use Rattle.std.specs.Prelude.{◌≡◌, ℕ, List}
 use Rattle.script.specs.declared.command.Command.{Command}
+use Rattle.taskrun.specs.Play.{Player, start}
+use Rattle.taskrun.specs.Commands.{PlaysAll}
+use Rattle.taskrun.specs.Text.{moments_text}
 
-abbrev pub world_text : World → List ℕ
-world_text world = moments_text world.names world.moments
-
-abbrev pub script_text : ℕ → List Command → List ℕ
-script_text limit commands = world_text (after_all commands (start limit))
+-- the text of the moments of such a play
+abbrev pub IsTextOf : ℕ → List Command → List ℕ → Type 0
+IsTextOf limit commands text = (last : Player) × PlaysAll 0 commands (start commands limit) last × (text ≡ moments_text last.names last.moments)

@@ -2,9 +2,9 @@
 #![tactic(auto)]
 
 mod fault;
-mod first;
 mod input;
 mod moment;
+mod play;
 mod print;
 mod program;
 mod sim;

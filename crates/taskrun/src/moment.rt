@@ -5,6 +5,8 @@ use script::Word;
 #[derive(Clone, Copy, Debug, PartialEq, Eq)]
 pub enum Outcome {
     Answered(Reply),
+    /// A polled handle gave this output.
+    Output(u64),
     /// The command wasn't possible, and changed nothing.
     NotPossible,
 }

@@ -1,12 +1,12 @@
 //! The text of a run: a line for each poll, answer and drop, and one for the end of each command.
 
 ghost use Rattle.std.specs.Prelude.{◌≡◌, ◌++◌, IfOk, OnOk};
-ghost use Rattle.taskrun.specs.EndText.{end_text, outcome_text, word_text};
+ghost use Rattle.taskrun.specs.EndText.{end_text, outcome_text, reply_text, word_text};
 ghost use Rattle.taskrun.specs.EventText.{event_text, line_on, name_of};
 ghost use Rattle.taskrun.specs.Text.{moment_text, moments_text};
 
 use crate::moment::{Moment, Outcome};
-use executor_model::{Answer, Event, Reply};
+use executor_model::{Answer, Event, Reply, Waker};
 use script::{Names, Word};
 use std::alloc::{AllocError, Global};
 
@@ -41,6 +41,10 @@ fn push_event(text: &mut Vec<u8>, event: &Event, names: &Names) -> Result<(), Al
         },
         Event::Dropped { future, .. } => push_line_on(text, b"drop", future, names),
         Event::OutputDropped { future, .. } => push_line_on(text, b"lose", future, names),
+        Event::WakerCalled {
+            waker: Waker::Outside(future),
+            ..
+        } => push_line_on(text, b"call", future, names),
         Event::CallBegun { .. }
         | Event::CallEnded { .. }
         | Event::Accepted { .. }
@@ -85,7 +89,7 @@ fn push_end(text: &mut Vec<u8>, word: Word, outcome: Outcome) -> Result<(), Allo
 {
     text.extend_from_slice(word_bytes(word))?;
     text.extend_from_slice(b": ")?;
-    text.extend_from_slice(outcome_bytes(outcome))?;
+    push_outcome(text, outcome)?;
     text.extend_from_slice(b"\n")
 }
 
@@ -97,24 +101,43 @@ fn word_bytes(word: Word) -> &'static [u8]
         Word::Try => b"try",
         Word::Empty => b"empty",
         Word::Wake => b"wake",
+        Word::Unkeep => b"unkeep",
+        Word::Poll => b"poll",
+        Word::Cancel => b"cancel",
+        Word::Detach => b"detach",
         Word::Drop => b"drop",
         Word::End => b"end",
+        Word::Begin => b"begin",
+        Word::Go => b"go",
+        Word::Finish => b"finish",
     }
 }
 
-fn outcome_bytes(outcome: Outcome) -> &'static [u8]
-    ensures { result.now ≡ outcome_text outcome }
+fn push_outcome(text: &mut Vec<u8>, outcome: Outcome) -> Result<(), AllocError>
+    ensures { OnOk result (text.new.items ≡ text.old.items ++ outcome_text outcome) }
 {
     match outcome {
-        Outcome::Answered(Reply::Made) => b"ok",
-        Outcome::Answered(Reply::Full) => b"full",
-        Outcome::Answered(Reply::Yes) => b"true",
-        Outcome::Answered(Reply::No) => b"false",
-        Outcome::Answered(Reply::Done) => b"done",
-        Outcome::Answered(Reply::NoMemory) => b"no memory",
-        Outcome::Answered(Reply::Pending) => b"pending",
-        Outcome::Answered(Reply::Ready) => b"ready",
-        Outcome::Answered(Reply::Cancelled) => b"cancelled",
-        Outcome::NotPossible => b"not possible",
+        Outcome::Answered(reply) => text.extend_from_slice(reply_bytes(reply)),
+        Outcome::Output(value) => {
+            let digits = format!(in *text.allocator(); "ready {value}")?;
+            text.extend_from_slice(digits.as_bytes())
+        }
+        Outcome::NotPossible => text.extend_from_slice(b"not possible"),
+    }
+}
+
+fn reply_bytes(reply: Reply) -> &'static [u8]
+    ensures { result.now ≡ reply_text reply }
+{
+    match reply {
+        Reply::Made => b"ok",
+        Reply::Full => b"full",
+        Reply::Yes => b"true",
+        Reply::No => b"false",
+        Reply::Done => b"done",
+        Reply::NoMemory => b"no memory",
+        Reply::Pending => b"pending",
+        Reply::Ready => b"ready",
+        Reply::Cancelled => b"cancelled",
     }
 }

@@ -56,4 +56,6 @@ fn is_sim(words: &[String]) -> bool
 }
 
 #[cfg(test)]
+mod scripts;
+#[cfg(test)]
 mod tests;

@@ -4,10 +4,10 @@ ghost use Rattle.std.specs.Prelude.{◌≡◌, ◌≢◌, ℕ, Err, IfErr, IfOk,
 ghost use Rattle.std.specs.Io.KnownBytes.{Appends, IsAtEnd};
 ghost use Rattle.taskrun.specs.Answer.{IsGoodInput, IsAnswer, IsFaultOf, WritesAnswer};
 ghost use Rattle.script.specs.BadLine.{IsFirstBadLine};
-ghost use Rattle.taskrun.specs.ScriptText.{script_text};
+ghost use Rattle.taskrun.specs.ScriptText.{IsTextOf};
 
 use crate::fault::Fault;
-use crate::{first, input, print};
+use crate::{input, play, print};
 use script::{Script, parse};
 use std::alloc::{AllocError, Global};
 use std::io::{Read, Write};
@@ -28,9 +28,9 @@ pub fn answer(alloc: Global, input: &[u8]) -> Result<Vec<u8>, Fault>
 /// What the run of a script shows.
 fn show(alloc: Global, script: &Script) -> Result<Vec<u8>, AllocError>
     ensures { IfOk result (λ text.
-        text.items ≡ script_text script.now.limit script.now.commands.items) }
+        IsTextOf script.now.limit script.now.commands.items text.items) }
 {
-    let played = first::run(alloc, script.limit, script.commands.as_slice())?;
+    let played = play::run(alloc, script.limit, script.commands.as_slice())?;
     print::text_of(alloc, played.moments.as_slice(), &played.names)
 }
 

@@ -123,7 +123,7 @@ fn words(alloc: Global, texts: &[&str]) -> Result<Vec<String>, AllocError> {
 }
 
 /// What `taskrun sim` writes for this script.
-fn shown(alloc: Global, script: &str) -> Result<String, Fault> {
+pub fn shown(alloc: Global, script: &str) -> Result<String, Fault> {
     let words = words(alloc, &["sim"])?;
     let mut text = Vec::new(alloc);
     program(alloc, words.as_slice(), &mut script.as_bytes(), &mut text)?;

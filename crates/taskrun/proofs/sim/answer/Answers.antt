@@ -1,9 +1,9 @@
-use Rattle.std.proofs.Common.{◌≡◌, ℕ, List, Result, Ok, Err, Some, IsOkUnless, inl, inr, ap, ◌∙◌, []}
+use Rattle.std.proofs.Common.{◌≡◌, ℕ, List, Result, Ok, Err, Some, IsOkUnless, inl, inr, ap, subst, ◌∙◌, []}
 use Rattle.std.specs.Prelude.{IsErrAnd}
 use Rattle.taskrun.specs.Answer.{IsAnswer}
 use Rattle.taskrun.specs.Fault.{fault_of}
 use Rattle.script.specs.Script.{IsScript}
-use Rattle.taskrun.specs.ScriptText.{script_text}
+use Rattle.taskrun.specs.ScriptText.{IsTextOf}
 use Rattle.script.specs.declared.command.Command.{Command}
 use Rattle.taskrun.specs.declared.fault.Fault.{Fault}
 use Rattle.taskrun.specs.declared.fault.Fault.TheVariants.{NoMemory}
@@ -20,11 +20,15 @@ out_of_memory e (Err fault) told gives = gives ∙ ap fault_of told
 -- the text of the one script that the input is
 script_answer : (input text : List ℕ) (limit : ℕ) (commands : List Command) → IsScript input limit commands
     → (input ≡ [] → ⊥) → ((l : ℕ) (cs : List Command) → IsScript input l cs → (limit ≡ l) × (commands ≡ cs))
-    → text ≡ script_text limit commands → IsAnswer input text
+    → IsTextOf limit commands text → IsAnswer input text
 script_answer input text limit commands script some only told = record {
   good = inr (limit, commands, script);
   of_nothing = λ none. absurd (some none);
-  of_script = λ l cs other. told ∙ ap (λ n. script_text n commands) (only l cs other).0 ∙ ap (script_text l) (only l cs other).1;
+  of_script = λ l cs other.
+      let both = only l cs other in
+      let P : ℕ → Type 0 = λ n. IsTextOf n cs text in
+      let Q : List Command → Type 0 = λ ds. IsTextOf limit ds text in
+      subst P both.0 (subst Q both.1 told);
 }
 
 pub returns-in_err-script-clause-good_input : goal.returns-in_err-script-clause-good_input

@@ -1,0 +1,27 @@
+-- Words that are none of the items, and none of the commands.
+use Rattle.std.proofs.Common.{◌≡◌, ◌≢◌, ℕ, List, ◌∷◌, codes}
+use Rattle.script.specs.Item.{IsItem}
+use Rattle.script.specs.Plain.{IsSpelled}
+use Rattle.script.specs.declared.item.Item.{Item}
+use Rattle.script.specs.declared.item.Item.TheVariants.{Pend, WakeSelf, Keep, Ready, Twice}
+use Rattle.script.specs.declared.plain.Plain.{Plain}
+use Rattle.script.specs.declared.plain.Plain.TheVariants as plain
+
+pub no_item : (item : Item) (word : List ℕ) → word ≢ codes "pend" → word ≢ codes "self" → word ≢ codes "keep" → ((value : ℕ) → ¬ (IsItem (Ready value) word)) → ((name : List ℕ) → ¬ (IsItem (Twice name) word)) → ¬ (IsItem item word)
+no_item Pend word pend itself keep ready twice is = pend is
+no_item WakeSelf word pend itself keep ready twice is = itself is
+no_item Keep word pend itself keep ready twice is = keep is
+no_item (Ready value) word pend itself keep ready twice is = ready value is
+no_item (Twice name) word pend itself keep ready twice is = twice name is
+
+pub no_plain : (command : Plain) (first : List ℕ) (words : List (List ℕ)) → first ≢ codes "spawn" → first ≢ codes "try" → first ≢ codes "empty" → first ≢ codes "wake" → first ≢ codes "unkeep" → first ≢ codes "poll" → first ≢ codes "cancel" → first ≢ codes "detach" → first ≢ codes "drop" → first ≢ codes "end" → ¬ (IsSpelled command (first ∷ words))
+no_plain (plain.Spawn name items) first words not_spawn not_try not_empty not_wake not_unkeep not_poll not_cancel not_detach not_drop not_end is = let e = is.1 in not_spawn cc
+no_plain plain.Try first words not_spawn not_try not_empty not_wake not_unkeep not_poll not_cancel not_detach not_drop not_end is = not_try cc
+no_plain plain.Empty first words not_spawn not_try not_empty not_wake not_unkeep not_poll not_cancel not_detach not_drop not_end is = not_empty cc
+no_plain (plain.Wake name) first words not_spawn not_try not_empty not_wake not_unkeep not_poll not_cancel not_detach not_drop not_end is = let e = is.0 in not_wake cc
+no_plain (plain.Unkeep name) first words not_spawn not_try not_empty not_wake not_unkeep not_poll not_cancel not_detach not_drop not_end is = let e = is.0 in not_unkeep cc
+no_plain (plain.Poll name) first words not_spawn not_try not_empty not_wake not_unkeep not_poll not_cancel not_detach not_drop not_end is = let e = is.0 in not_poll cc
+no_plain (plain.Cancel name) first words not_spawn not_try not_empty not_wake not_unkeep not_poll not_cancel not_detach not_drop not_end is = let e = is.0 in not_cancel cc
+no_plain (plain.Detach name) first words not_spawn not_try not_empty not_wake not_unkeep not_poll not_cancel not_detach not_drop not_end is = let e = is.0 in not_detach cc
+no_plain (plain.Drop name) first words not_spawn not_try not_empty not_wake not_unkeep not_poll not_cancel not_detach not_drop not_end is = let e = is.0 in not_drop cc
+no_plain plain.End first words not_spawn not_try not_empty not_wake not_unkeep not_poll not_cancel not_detach not_drop not_end is = not_end cc

@@ -1,0 +1,38 @@
+-- How a script writes the commands that make calls.
+use Rattle.std.specs.Prelude.{◌≡◌, ℕ, List, [], ◌∷◌, codes}
+use Rattle.script.specs.Name.{IsName}
+use Rattle.script.specs.Item.{AreItems}
+use Rattle.script.specs.declared.plain.Plain.{Plain}
+use Rattle.script.specs.declared.plain.Plain.TheVariants.{Spawn, Try, Empty, Wake, Unkeep, Poll, Cancel, Detach, Drop, End}
+use Rattle.script.specs.declared.word.Word.{Word}
+use Rattle.script.specs.declared.word.Word.TheVariants as word
+
+-- the words of a command
+abbrev pub IsSpelled : Plain → List (List ℕ) → Type 0
+IsSpelled (Spawn name items) words =
+    (spelled : List (List ℕ))
+    × (words ≡ codes "spawn" ∷ name ∷ spelled)
+    × IsName name
+    × AreItems items spelled
+IsSpelled Try words = words ≡ codes "try" ∷ []
+IsSpelled Empty words = words ≡ codes "empty" ∷ []
+IsSpelled (Wake name) words = (words ≡ codes "wake" ∷ name ∷ []) × IsName name
+IsSpelled (Unkeep name) words = (words ≡ codes "unkeep" ∷ name ∷ []) × IsName name
+IsSpelled (Poll name) words = (words ≡ codes "poll" ∷ name ∷ []) × IsName name
+IsSpelled (Cancel name) words = (words ≡ codes "cancel" ∷ name ∷ []) × IsName name
+IsSpelled (Detach name) words = (words ≡ codes "detach" ∷ name ∷ []) × IsName name
+IsSpelled (Drop name) words = (words ≡ codes "drop" ∷ name ∷ []) × IsName name
+IsSpelled End words = words ≡ codes "end" ∷ []
+
+-- the word under which a command's answer is printed
+abbrev pub word_of : Plain → Word
+word_of (Spawn name items) = word.Spawn
+word_of Try = word.Try
+word_of Empty = word.Empty
+word_of (Wake name) = word.Wake
+word_of (Unkeep name) = word.Unkeep
+word_of (Poll name) = word.Poll
+word_of (Cancel name) = word.Cancel
+word_of (Detach name) = word.Detach
+word_of (Drop name) = word.Drop
+word_of End = word.End

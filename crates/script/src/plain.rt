@@ -1,0 +1,140 @@
+//! The commands that make calls.
+
+ghost use Rattle.std.specs.Prelude.{◌≡◌, ◌≢◌, ℕ, [], ◌∷◌, List, IfNone, IfOk, IfSome, codes};
+ghost use Rattle.script.specs.Name.{IsName};
+ghost use Rattle.script.specs.Plain.{IsSpelled};
+ghost use Rattle.script.specs.declared.plain.Plain.{Plain};
+
+use crate::items::Items;
+use crate::name::Name;
+use crate::word::Word;
+use crate::words::Words;
+use std::alloc::{AllocError, Global};
+
+/// A command that makes a call, or two.
+#[derive(Debug, PartialEq, Eq, Drop)]
+pub enum Plain {
+    /// `spawn f i1 .. ik`: a future with 1 to 8 items.
+    Spawn { name: Name, items: Items },
+    /// `try`: one queued task is taken up.
+    Try,
+    /// `empty`: whether each accepted future has been dropped.
+    Empty,
+    /// `wake f`: the kept waker of the future is called.
+    Wake(Name),
+    /// `unkeep f`: the kept waker of the future is let go.
+    Unkeep(Name),
+    /// `poll f`: the handle of the future is polled, by the outside waker of this name.
+    Poll(Name),
+    /// `cancel f`: the future is cancelled by its handle, which is then polled so.
+    Cancel(Name),
+    /// `detach f`: the handle of the future is let go.
+    Detach(Name),
+    /// `drop f`: the handle of the future is dropped.
+    Drop(Name),
+    /// `end`: the executor is dropped.
+    End,
+}
+
+impl Plain {
+    ghost use Rattle.script.specs.Plain.{word_of};
+
+    /// The word under which the command's answer is printed.
+    pub fn word(&self) -> Word
+        ensures { result ≡ word_of self.now }
+    {
+        match self {
+            Plain::Spawn { .. } => Word::Spawn,
+            Plain::Try => Word::Try,
+            Plain::Empty => Word::Empty,
+            Plain::Wake(_) => Word::Wake,
+            Plain::Unkeep(_) => Word::Unkeep,
+            Plain::Poll(_) => Word::Poll,
+            Plain::Cancel(_) => Word::Cancel,
+            Plain::Detach(_) => Word::Detach,
+            Plain::Drop(_) => Word::Drop,
+            Plain::End => Word::End,
+        }
+    }
+}
+
+/// The command of this word and the words behind it, where they are one.
+pub fn read_plain(
+    alloc: Global,
+    first: &[u8],
+    words: Words<'_>,
+) -> Result<Option<Plain>, AllocError>
+    ensures found { IfOk result (λ found.
+        IfSome found (λ plain. IsSpelled plain (first.now ∷ words.entry))) }
+    ensures none { IfOk result (λ found.
+        IfNone found ((plain : Plain) → ¬ (IsSpelled plain (first.now ∷ words.entry)))) }
+{
+    match first {
+        b"spawn" => spawn(alloc, words),
+        b"try" => Ok(words.is_empty().then_some(Plain::Try)),
+        b"empty" => Ok(words.is_empty().then_some(Plain::Empty)),
+        b"end" => Ok(words.is_empty().then_some(Plain::End)),
+        _ => Ok(read_named(first, words)),
+    }
+}
+
+/// The command of this word and the name behind it, where they are one.
+fn read_named(first: &[u8], words: Words<'_>) -> Option<Plain>
+    requires spawn { first.now ≢ codes "spawn" }
+    requires try_tick { first.now ≢ codes "try" }
+    requires empty { first.now ≢ codes "empty" }
+    requires end { first.now ≢ codes "end" }
+    ensures found { IfSome result (λ plain. IsSpelled plain (first.now ∷ words.entry)) }
+    ensures none { IfNone result ((plain : Plain) → ¬ (IsSpelled plain (first.now ∷ words.entry))) }
+{
+    match first {
+        b"wake" => named(words).map(Plain::Wake),
+        b"poll" => named(words).map(Plain::Poll),
+        b"drop" => named(words).map(Plain::Drop),
+        _ => read_longer(first, words),
+    }
+}
+
+/// The same of the words of six letters.
+#[tactic(auto, using(crate::proofs::Unread::no_plain))]
+fn read_longer(first: &[u8], words: Words<'_>) -> Option<Plain>
+    requires spawn { first.now ≢ codes "spawn" }
+    requires try_tick { first.now ≢ codes "try" }
+    requires empty { first.now ≢ codes "empty" }
+    requires end { first.now ≢ codes "end" }
+    requires wake { first.now ≢ codes "wake" }
+    requires poll { first.now ≢ codes "poll" }
+    requires drop { first.now ≢ codes "drop" }
+    ensures found { IfSome result (λ plain. IsSpelled plain (first.now ∷ words.entry)) }
+    ensures none { IfNone result ((plain : Plain) → ¬ (IsSpelled plain (first.now ∷ words.entry))) }
+{
+    match first {
+        b"unkeep" => named(words).map(Plain::Unkeep),
+        b"cancel" => named(words).map(Plain::Cancel),
+        b"detach" => named(words).map(Plain::Detach),
+        _ => None,
+    }
+}
+
+/// The command that these words say behind `spawn`: a name, and its items.
+fn spawn(alloc: Global, mut words: Words<'_>) -> Result<Option<Plain>, AllocError>
+    ensures found { IfOk result (λ found.
+        IfSome found (λ plain. IsSpelled plain (codes "spawn" ∷ words.entry))) }
+    ensures none { IfOk result (λ found.
+        IfNone found ((plain : Plain) → ¬ (IsSpelled plain (codes "spawn" ∷ words.entry)))) }
+{
+    let Some(name) = words.next().and_then(Name::new) else {
+        return Ok(None);
+    };
+    let items = Items::from_words(alloc, words)?;
+    Ok(items.map(|items| Plain::Spawn { name, items }))
+}
+
+/// The name that these words are, where they are one name.
+fn named(mut words: Words<'_>) -> Option<Name>
+    ensures found { IfSome result (λ name. IsName name × (words.entry ≡ name ∷ [])) }
+    ensures none { IfNone result ((name : List ℕ) → IsName name → words.entry ≢ name ∷ []) }
+{
+    let name = Name::new(words.next()?)?;
+    words.is_empty().then_some(name)
+}

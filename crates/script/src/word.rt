@@ -1,0 +1,17 @@
+/// The first word of a command, under which its answer is printed.
+#[derive(Clone, Copy, Debug, PartialEq, Eq)]
+pub enum Word {
+    Spawn,
+    Try,
+    Empty,
+    Wake,
+    Unkeep,
+    Poll,
+    Cancel,
+    Detach,
+    Drop,
+    End,
+    Begin,
+    Go,
+    Finish,
+}

@@ -1,0 +1,145 @@
+//! Worked scripts of handles, refused memory, and calls that are caught in their middle.
+
+use super::tests::shown;
+use std::test::Fail;
+
+#[test]
+fn a_future_waits_for_another_and_doubles_its_output(rt: HostRuntime) -> Result<(), Fail> {
+    let script = "\
+limit 2
+spawn b self ready=5
+spawn a twice:b
+try
+try
+try
+try
+try
+poll a
+";
+    let text = "\
+spawn: ok
+spawn: ok
+poll b
+pending b
+try: true
+poll a
+pending a
+try: true
+poll b
+ready b
+drop b
+try: true
+poll a
+ready a
+drop a
+try: true
+try: false
+poll: ready 10
+";
+    assert_eq!(rt; shown(rt.alloc(), script)?.as_str(), text);
+    Ok(())
+}
+
+const CAUGHT: &str = "\
+spawn: ok
+poll a
+pending a
+try: true
+drop a
+end: done
+wake: done
+poll: cancelled
+";
+
+#[test]
+fn a_wake_is_caught_by_the_end_before_its_steps(rt: HostRuntime) -> Result<(), Fail> {
+    let script = "limit 1\nspawn a keep\ntry\nbegin 1 wake a\nend\nfinish 1\npoll a\n";
+    assert_eq!(rt; shown(rt.alloc(), script)?.as_str(), CAUGHT);
+    Ok(())
+}
+
+#[test]
+fn a_wake_is_caught_by_the_end_when_it_has_marked_the_task(rt: HostRuntime) -> Result<(), Fail> {
+    let script = "limit 1\nspawn a keep\ntry\nbegin 1 wake a\ngo 1\nend\nfinish 1\npoll a\n";
+    assert_eq!(rt; shown(rt.alloc(), script)?.as_str(), CAUGHT);
+    Ok(())
+}
+
+#[test]
+fn a_wake_that_has_queued_the_task_is_over_before_the_end(rt: HostRuntime) -> Result<(), Fail> {
+    let script = "limit 1\nspawn a keep\ntry\nbegin 1 wake a\ngo 1\ngo 1\nend\nfinish 1\npoll a\n";
+    let text = "\
+spawn: ok
+poll a
+pending a
+try: true
+wake: done
+drop a
+end: done
+finish: not possible
+poll: cancelled
+";
+    assert_eq!(rt; shown(rt.alloc(), script)?.as_str(), text);
+    Ok(())
+}
+
+#[test]
+fn a_poll_of_refused_memory_leaves_the_output(rt: HostRuntime) -> Result<(), Fail> {
+    let script = "limit 1\nspawn a ready=3\nrefuse poll a\ntry\npoll a\n";
+    let text = "\
+spawn: ok
+poll: no memory
+poll a
+ready a
+drop a
+try: true
+poll: ready 3
+";
+    assert_eq!(rt; shown(rt.alloc(), script)?.as_str(), text);
+    Ok(())
+}
+
+#[test]
+fn a_cancel_whose_poll_is_refused_has_cancelled(rt: HostRuntime) -> Result<(), Fail> {
+    let script = "limit 1\nspawn a pend\nrefuse cancel a\ntry\npoll a\n";
+    let text = "\
+spawn: ok
+cancel: no memory
+drop a
+try: true
+poll: cancelled
+";
+    assert_eq!(rt; shown(rt.alloc(), script)?.as_str(), text);
+    Ok(())
+}
+
+#[test]
+fn an_awaiter_is_called_once_and_a_held_handle_is_in_use(rt: HostRuntime) -> Result<(), Fail> {
+    let script = "\
+limit 2
+spawn a ready=1
+poll a
+try
+poll a
+spawn b pend
+spawn c twice:b
+poll b
+detach c
+";
+    let text = "\
+spawn: ok
+poll: pending
+poll a
+ready a
+drop a
+call a
+try: true
+poll: ready 1
+spawn: ok
+spawn: ok
+poll: not possible
+detach: done
+";
+    assert_eq!(rt; shown(rt.alloc(), script)?.as_str(), text);
+    Ok(())
+}

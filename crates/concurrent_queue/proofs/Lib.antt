@@ -5,3 +5,5 @@ pub mod RingSlots
 pub mod RingWords
 pub mod ChainLemmas
 pub mod IterLemmas
+pub mod SlotKeeps
+pub mod SlotTurns

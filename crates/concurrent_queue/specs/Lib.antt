@@ -1,3 +1,4 @@
+pub mod Answered
 pub mod Calls
 pub mod Chain
 pub mod ChainTurns
@@ -13,4 +14,6 @@ pub mod RingTurns
 pub mod SharedQueue
 pub mod Single
 pub mod SingleTurns
+pub mod SlotRule
+pub mod SlotSeat
 pub mod TryIter

@@ -8,7 +8,9 @@ mod exclusive;
 mod exclusive_iter;
 mod glimpse;
 mod representation;
+pub mod seated;
 mod single;
+mod slot_table;
 pub mod steps;
 #[cfg(test)]
 mod tests;

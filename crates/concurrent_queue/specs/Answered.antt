@@ -7,7 +7,7 @@ use Rattle.concurrent_queue.specs.declared.errors.ForcePushError.TheVariants.{Cl
 use Rattle.concurrent_queue.specs.declared.errors.PopError.{PopError}
 use Rattle.concurrent_queue.specs.declared.errors.PopError.TheVariants.{Empty as EmptyToPop, Closed as ClosedToPop}
 use Rattle.concurrent_queue.specs.declared.steps.Reply.{Reply}
-use Rattle.concurrent_queue.specs.declared.steps.Reply.TheVariants.{Done, Displaced, Full, Empty, Closed, Yes, No, Length}
+use Rattle.concurrent_queue.specs.declared.steps.Reply.TheVariants.{Done, Displaced, Full, Empty, Closed, Yes, No}
 
 -- where a call stands that has found these words, oldest first
 abbrev pub turns : {Turn : Type 0} → (Turn → ℕ → Turn) → Turn → List ℕ → Turn

@@ -10,6 +10,8 @@ pub mod Replies
 pub mod Ring
 pub mod RingAtRest
 pub mod RingEnds
+pub mod RingRule
+pub mod RingSeat
 pub mod RingTurns
 pub mod SharedQueue
 pub mod Single

@@ -1,5 +1,5 @@
 -- What a clause says of a seat at a single slot, and how a call stands between two steps.
-use Rattle.std.specs.Prelude.{◌≡◌, ℕ, ◌+◌, ◌%◌, ◌<◌, [], Option}
+use Rattle.std.specs.Prelude.{◌≡◌, ◌+◌, ◌%◌, ◌<◌, [], Option}
 use Rattle.atomic_table.specs.declared.shared.Seat.{Seat}
 use Rattle.atomic_table.specs.declared.shared.Shared.{Shared}
 use Rattle.concurrent_queue.specs.declared.slot_table.rule.Doing.{Doing}

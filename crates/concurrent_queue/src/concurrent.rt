@@ -1,10 +1,10 @@
 ghost use Rattle.std.specs.Prelude.{◌≡◌, ◌<◌, Some, None, false, IfOk};
 ghost use Rattle.concurrent_queue.specs.SharedQueue.{MayPush, MayForcePush};
 
-use crate::bounded::Bounded;
 use crate::errors::{ForcePushError, NoMemory, PopError, PushError};
 use crate::glimpse::{Glimpse, Locked};
 use crate::representation::Representation;
+use crate::ring_table::RingTable;
 use crate::slot_table::SlotTable;
 use crate::try_iter::TryIter;
 use crate::unbounded::Unbounded;
@@ -28,7 +28,7 @@ pub struct ConcurrentQueue<T> {
 enum Kept<T> {
     Single(SlotTable<T>),
     // With its capacity.
-    Bounded(Mutex<Bounded<T>>, usize),
+    Bounded(RingTable<T>, usize),
     Unbounded(Mutex<Unbounded<T>>),
 }
 
@@ -51,7 +51,7 @@ impl<T: Drop> ConcurrentQueue<T> {
         let kept = if cap == 1 {
             Kept::Single(SlotTable::new(alloc)?)
         } else {
-            Kept::Bounded(Mutex::new(Bounded::new(alloc, cap)?), cap)
+            Kept::Bounded(RingTable::new(alloc, cap)?, cap)
         };
         Ok(ConcurrentQueue { kept })
     }
@@ -74,11 +74,7 @@ impl<T: Drop> ConcurrentQueue<T> {
     {
         match &self.kept {
             Kept::Single(slot) => slot.push(rt, value),
-            Kept::Bounded(lock, _) => {
-                let mut ring = lock.lock(rt);
-                let _capacity = ring.capacity();
-                ring.push(value)
-            }
+            Kept::Bounded(ring, _) => ring.push(rt, value),
             Kept::Unbounded(lock) => {
                 let mut chain = lock.lock(rt);
                 let _capacity = chain.capacity();
@@ -96,11 +92,7 @@ impl<T: Drop> ConcurrentQueue<T> {
     {
         match &self.kept {
             Kept::Single(slot) => slot.force_push(rt, value),
-            Kept::Bounded(lock, _) => {
-                let mut ring = lock.lock(rt);
-                let _capacity = ring.capacity();
-                ring.force_push(value)
-            }
+            Kept::Bounded(ring, _) => ring.force_push(rt, value),
             Kept::Unbounded(lock) => {
                 let mut chain = lock.lock(rt);
                 let _capacity = chain.capacity();
@@ -113,7 +105,7 @@ impl<T: Drop> ConcurrentQueue<T> {
     pub fn pop<R: Wait>(&self, rt: &R) -> Result<T, PopError> {
         match &self.kept {
             Kept::Single(slot) => slot.pop(rt),
-            Kept::Bounded(lock, _) => lock.lock(rt).pop(),
+            Kept::Bounded(ring, _) => ring.pop(rt),
             Kept::Unbounded(lock) => lock.lock(rt).pop(),
         }
     }
@@ -122,7 +114,7 @@ impl<T: Drop> ConcurrentQueue<T> {
     pub fn close<R: Wait>(&self, rt: &R) -> bool {
         match &self.kept {
             Kept::Single(slot) => slot.close(),
-            Kept::Bounded(lock, _) => lock.lock(rt).close(),
+            Kept::Bounded(ring, _) => ring.close(),
             Kept::Unbounded(lock) => lock.lock(rt).close(),
         }
     }
@@ -131,7 +123,7 @@ impl<T: Drop> ConcurrentQueue<T> {
     pub fn len<R: Wait>(&self, rt: &R) -> usize {
         match &self.kept {
             Kept::Single(slot) => slot.len(),
-            Kept::Bounded(lock, _) => lock.lock(rt).len(),
+            Kept::Bounded(ring, _) => ring.len(rt),
             Kept::Unbounded(lock) => lock.lock(rt).len(),
         }
     }
@@ -140,7 +132,7 @@ impl<T: Drop> ConcurrentQueue<T> {
     pub fn is_empty<R: Wait>(&self, rt: &R) -> bool {
         match &self.kept {
             Kept::Single(slot) => slot.is_empty(),
-            Kept::Bounded(lock, _) => lock.lock(rt).is_empty(),
+            Kept::Bounded(ring, _) => ring.is_empty(),
             Kept::Unbounded(lock) => lock.lock(rt).is_empty(),
         }
     }
@@ -151,7 +143,7 @@ impl<T: Drop> ConcurrentQueue<T> {
     {
         match &self.kept {
             Kept::Single(slot) => slot.is_full(),
-            Kept::Bounded(lock, _) => lock.lock(rt).is_full(),
+            Kept::Bounded(ring, _) => ring.is_full(),
             Kept::Unbounded(lock) => {
                 let chain = lock.lock(rt);
                 let _capacity = chain.capacity();
@@ -164,7 +156,7 @@ impl<T: Drop> ConcurrentQueue<T> {
     pub fn is_closed<R: Wait>(&self, rt: &R) -> bool {
         match &self.kept {
             Kept::Single(slot) => slot.is_closed(),
-            Kept::Bounded(lock, _) => lock.lock(rt).is_closed(),
+            Kept::Bounded(ring, _) => ring.is_closed(),
             Kept::Unbounded(lock) => lock.lock(rt).is_closed(),
         }
     }
@@ -188,7 +180,7 @@ impl<T: Drop> ConcurrentQueue<T> {
     fn glimpse(&self) -> Option<Glimpse> {
         match &self.kept {
             Kept::Single(slot) => Some(slot.glimpse()),
-            Kept::Bounded(lock, _) => Glimpse::of(lock),
+            Kept::Bounded(ring, _) => ring.glimpse(),
             Kept::Unbounded(lock) => Glimpse::of(lock),
         }
     }

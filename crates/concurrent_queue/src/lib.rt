@@ -8,6 +8,7 @@ mod exclusive;
 mod exclusive_iter;
 mod glimpse;
 mod representation;
+mod ring_table;
 pub mod seated;
 mod single;
 mod slot_table;

@@ -2,4 +2,5 @@
 //!
 //! A seat's view keeps the words that the steps of its call found, and each call answers what `steps` gives for them.
 
+pub mod ring;
 pub mod single;

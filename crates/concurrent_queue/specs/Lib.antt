@@ -1,3 +1,4 @@
+pub mod Answered
 pub mod Calls
 pub mod Chain
 pub mod ChainTurns
@@ -9,8 +10,12 @@ pub mod Replies
 pub mod Ring
 pub mod RingAtRest
 pub mod RingEnds
+pub mod RingRule
+pub mod RingSeat
 pub mod RingTurns
 pub mod SharedQueue
 pub mod Single
 pub mod SingleTurns
+pub mod SlotRule
+pub mod SlotSeat
 pub mod TryIter

@@ -1,11 +1,11 @@
 ghost use Rattle.std.specs.Prelude.{◌≡◌, ◌<◌, Some, None, false, IfOk};
 ghost use Rattle.concurrent_queue.specs.SharedQueue.{MayPush, MayForcePush};
 
-use crate::bounded::Bounded;
 use crate::errors::{ForcePushError, NoMemory, PopError, PushError};
 use crate::glimpse::{Glimpse, Locked};
 use crate::representation::Representation;
-use crate::single::Single;
+use crate::ring_table::RingTable;
+use crate::slot_table::SlotTable;
 use crate::try_iter::TryIter;
 use crate::unbounded::Unbounded;
 use std::alloc::Global;
@@ -26,9 +26,9 @@ pub struct ConcurrentQueue<T> {
 // whether it is bounded only once it has asked for the capacity.
 #[derive(Drop)]
 enum Kept<T> {
-    Single(Mutex<Single<T>>),
+    Single(SlotTable<T>),
     // With its capacity.
-    Bounded(Mutex<Bounded<T>>, usize),
+    Bounded(RingTable<T>, usize),
     Unbounded(Mutex<Unbounded<T>>),
 }
 
@@ -49,9 +49,9 @@ impl<T: Drop> ConcurrentQueue<T> {
         ensures { IfOk result (λ q. q.capacity ≡ Some cap) }
     {
         let kept = if cap == 1 {
-            Kept::Single(Mutex::new(Single::new()))
+            Kept::Single(SlotTable::new(alloc)?)
         } else {
-            Kept::Bounded(Mutex::new(Bounded::new(alloc, cap)?), cap)
+            Kept::Bounded(RingTable::new(alloc, cap)?, cap)
         };
         Ok(ConcurrentQueue { kept })
     }
@@ -73,16 +73,8 @@ impl<T: Drop> ConcurrentQueue<T> {
         ensures { MayPush self.now.capacity value result }
     {
         match &self.kept {
-            Kept::Single(lock) => {
-                let mut slot = lock.lock(rt);
-                let _capacity = slot.capacity();
-                slot.push(value)
-            }
-            Kept::Bounded(lock, _) => {
-                let mut ring = lock.lock(rt);
-                let _capacity = ring.capacity();
-                ring.push(value)
-            }
+            Kept::Single(slot) => slot.push(rt, value),
+            Kept::Bounded(ring, _) => ring.push(rt, value),
             Kept::Unbounded(lock) => {
                 let mut chain = lock.lock(rt);
                 let _capacity = chain.capacity();
@@ -99,16 +91,8 @@ impl<T: Drop> ConcurrentQueue<T> {
         ensures { MayForcePush self.now.capacity value result }
     {
         match &self.kept {
-            Kept::Single(lock) => {
-                let mut slot = lock.lock(rt);
-                let _capacity = slot.capacity();
-                slot.force_push(value)
-            }
-            Kept::Bounded(lock, _) => {
-                let mut ring = lock.lock(rt);
-                let _capacity = ring.capacity();
-                ring.force_push(value)
-            }
+            Kept::Single(slot) => slot.force_push(rt, value),
+            Kept::Bounded(ring, _) => ring.force_push(rt, value),
             Kept::Unbounded(lock) => {
                 let mut chain = lock.lock(rt);
                 let _capacity = chain.capacity();
@@ -120,8 +104,8 @@ impl<T: Drop> ConcurrentQueue<T> {
     /// Takes out the oldest item. Without one a closed queue answers `Closed`, and an open one `Empty`.
     pub fn pop<R: Wait>(&self, rt: &R) -> Result<T, PopError> {
         match &self.kept {
-            Kept::Single(lock) => lock.lock(rt).pop(),
-            Kept::Bounded(lock, _) => lock.lock(rt).pop(),
+            Kept::Single(slot) => slot.pop(rt),
+            Kept::Bounded(ring, _) => ring.pop(rt),
             Kept::Unbounded(lock) => lock.lock(rt).pop(),
         }
     }
@@ -129,8 +113,8 @@ impl<T: Drop> ConcurrentQueue<T> {
     /// Closes the queue to pushes, and says whether this call did so. The items stay, and may be popped.
     pub fn close<R: Wait>(&self, rt: &R) -> bool {
         match &self.kept {
-            Kept::Single(lock) => lock.lock(rt).close(),
-            Kept::Bounded(lock, _) => lock.lock(rt).close(),
+            Kept::Single(slot) => slot.close(),
+            Kept::Bounded(ring, _) => ring.close(),
             Kept::Unbounded(lock) => lock.lock(rt).close(),
         }
     }
@@ -138,8 +122,8 @@ impl<T: Drop> ConcurrentQueue<T> {
     /// How many items are in the queue, at a moment of this call.
     pub fn len<R: Wait>(&self, rt: &R) -> usize {
         match &self.kept {
-            Kept::Single(lock) => lock.lock(rt).len(),
-            Kept::Bounded(lock, _) => lock.lock(rt).len(),
+            Kept::Single(slot) => slot.len(),
+            Kept::Bounded(ring, _) => ring.len(rt),
             Kept::Unbounded(lock) => lock.lock(rt).len(),
         }
     }
@@ -147,8 +131,8 @@ impl<T: Drop> ConcurrentQueue<T> {
     /// Whether no item is in the queue, at a moment of this call.
     pub fn is_empty<R: Wait>(&self, rt: &R) -> bool {
         match &self.kept {
-            Kept::Single(lock) => lock.lock(rt).is_empty(),
-            Kept::Bounded(lock, _) => lock.lock(rt).is_empty(),
+            Kept::Single(slot) => slot.is_empty(),
+            Kept::Bounded(ring, _) => ring.is_empty(),
             Kept::Unbounded(lock) => lock.lock(rt).is_empty(),
         }
     }
@@ -158,8 +142,8 @@ impl<T: Drop> ConcurrentQueue<T> {
         ensures { (self.now.capacity ≡ None) → (result ≡ false) }
     {
         match &self.kept {
-            Kept::Single(lock) => lock.lock(rt).is_full(),
-            Kept::Bounded(lock, _) => lock.lock(rt).is_full(),
+            Kept::Single(slot) => slot.is_full(),
+            Kept::Bounded(ring, _) => ring.is_full(),
             Kept::Unbounded(lock) => {
                 let chain = lock.lock(rt);
                 let _capacity = chain.capacity();
@@ -171,8 +155,8 @@ impl<T: Drop> ConcurrentQueue<T> {
     /// Whether the queue was closed, at a moment of this call.
     pub fn is_closed<R: Wait>(&self, rt: &R) -> bool {
         match &self.kept {
-            Kept::Single(lock) => lock.lock(rt).is_closed(),
-            Kept::Bounded(lock, _) => lock.lock(rt).is_closed(),
+            Kept::Single(slot) => slot.is_closed(),
+            Kept::Bounded(ring, _) => ring.is_closed(),
             Kept::Unbounded(lock) => lock.lock(rt).is_closed(),
         }
     }
@@ -195,8 +179,8 @@ impl<T: Drop> ConcurrentQueue<T> {
 
     fn glimpse(&self) -> Option<Glimpse> {
         match &self.kept {
-            Kept::Single(lock) => Glimpse::of(lock),
-            Kept::Bounded(lock, _) => Glimpse::of(lock),
+            Kept::Single(slot) => Some(slot.glimpse()),
+            Kept::Bounded(ring, _) => ring.glimpse(),
             Kept::Unbounded(lock) => Glimpse::of(lock),
         }
     }

@@ -4,7 +4,7 @@ use std::sync::Mutex;
 use std::{fmt, thread};
 
 /// How often a glimpse tries a lock before it gives up.
-const TRIES: u32 = 10_000;
+pub const TRIES: u32 = 10_000;
 
 /// A queue's length and whether it is closed, read in one section of its lock.
 #[derive(Clone, Copy, Debug)]

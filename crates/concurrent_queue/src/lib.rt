@@ -8,7 +8,10 @@ mod exclusive;
 mod exclusive_iter;
 mod glimpse;
 mod representation;
+mod ring_table;
+pub mod seated;
 mod single;
+mod slot_table;
 pub mod steps;
 #[cfg(test)]
 mod tests;

@@ -180,6 +180,7 @@ fn a_forced_push_keeps_a_close_that_came_in_between(rt: HostRuntime) {
     let shape = Shape {
         capacity: 2,
         mark: 4,
+        bits: 2,
     };
     let turn = ring::force_push(shape, Turn::Displace(9), 1);
     assert_eq!(rt; turn, Turn::Advance(9));

@@ -17,7 +17,10 @@ pub const MOST_ACCEPTED: u64 = 1 << 61;
 pub struct Shape {
     pub capacity: u64,
     pub mark: u64,
+    /// The mark is two to this power.
+    pub bits: u64,
     ghost sound: { IsShape capacity mark },
+    ghost power: { mark ≡ 2 ^ bits },
 }
 
 impl Shape {
@@ -29,10 +32,16 @@ impl Shape {
         ensures power { (k : ℕ) × (result.mark ≡ 2 ^ k) }
     {
         let mut mark = 1;
+        let mut bits = 0;
         while mark <= capacity {
             mark *= 2;
+            bits += 1;
         }
-        Shape { capacity, mark }
+        Shape {
+            capacity,
+            mark,
+            bits,
+        }
     }
 
     /// What one time round adds to a word.

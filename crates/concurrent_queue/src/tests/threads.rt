@@ -8,7 +8,7 @@ use std::sync::Wait;
 use std::sync::atomic::{AtomicU64, Ordering};
 use std::thread::{self, Threads};
 
-const MOST_TURNS: u64 = 10_000_000;
+pub const MOST_TURNS: u64 = 10_000_000;
 
 // How many numbers a thread pushes.
 const SHARE: u64 = 1000;
@@ -37,16 +37,18 @@ fn pop_number<R: Wait + Abort>(rt: &R, queue: &ConcurrentQueue<u64>) -> u64 {
     panic!(rt; "no item in {MOST_TURNS} turns");
 }
 
-// Party 0 or 1 pushes its share of the numbers from 0 on, another pops as many.
+// One of the first parties pushes its share of the numbers from 0 on, another pops as many.
 fn push_or_pop_share<R: Wait + Abort + AllocGlobal>(
     rt: &R,
     queue: &ConcurrentQueue<u64>,
     party: usize,
+    pairs: usize,
 ) -> Vec<u64> {
     let mut popped = Vec::with_capacity(rt.alloc(), 1000).expect(rt, "memory");
     for number in 0..SHARE {
-        if party < 2 {
-            push_number(rt, queue, party as u64 * SHARE + number);
+        if party < pairs {
+            let first = (party as u64).wrapping_mul(SHARE);
+            push_number(rt, queue, first.wrapping_add(number));
         } else {
             popped.push(pop_number(rt, queue)).expect(rt, "memory");
         }
@@ -54,14 +56,18 @@ fn push_or_pop_share<R: Wait + Abort + AllocGlobal>(
     popped
 }
 
-// Two threads push while two pop, and what was popped, sorted, is what was pushed.
-fn hand_over<R: Wait + Abort + AllocGlobal + Threads + Sync>(rt: &R, queue: &ConcurrentQueue<u64>) {
+// So many threads push while as many pop, and what was popped, sorted, is what was pushed.
+fn hand_over<R: Wait + Abort + AllocGlobal + Threads + Sync>(
+    rt: &R,
+    queue: &ConcurrentQueue<u64>,
+    pairs: usize,
+) {
     is_shared(queue);
     let parts = thread::map_indices(
         rt,
         rt.alloc(),
-        4,
-        &|party| { push_or_pop_share(rt, queue, party) },
+        pairs.saturating_mul(2),
+        &|party| { push_or_pop_share(rt, queue, party, pairs) },
     )
     .expect(rt, "memory");
     let mut all = Vec::new(rt.alloc());
@@ -76,7 +82,7 @@ fn hand_over<R: Wait + Abort + AllocGlobal + Threads + Sync>(rt: &R, queue: &Con
         assert_eq!(rt; *number, want);
         want = number.wrapping_add(1);
     }
-    assert_eq!(rt; want, 2 * SHARE);
+    assert_eq!(rt; want, SHARE.wrapping_mul(pairs as u64));
     assert_eq!(rt; queue.pop(rt), Err(PopError::Empty));
 }
 
@@ -85,6 +91,34 @@ fn a_ring_hands_over_each_number_once(rt: HostRuntime) {
     hand_over(
         &rt,
         &ConcurrentQueue::bounded(rt.alloc(), 8).expect(&rt, "memory"),
+        2,
+    );
+}
+
+#[test]
+fn a_large_ring_hands_over_each_number_once(rt: HostRuntime) {
+    hand_over(
+        &rt,
+        &ConcurrentQueue::bounded(rt.alloc(), 1024).expect(&rt, "memory"),
+        2,
+    );
+}
+
+#[test]
+fn a_ring_hands_over_each_number_once_between_two_threads(rt: HostRuntime) {
+    hand_over(
+        &rt,
+        &ConcurrentQueue::bounded(rt.alloc(), 8).expect(&rt, "memory"),
+        1,
+    );
+}
+
+#[test]
+fn a_slot_hands_over_each_number_once_between_two_threads(rt: HostRuntime) {
+    hand_over(
+        &rt,
+        &ConcurrentQueue::bounded(rt.alloc(), 1).expect(&rt, "memory"),
+        1,
     );
 }
 
@@ -93,12 +127,13 @@ fn a_slot_hands_over_each_number_once(rt: HostRuntime) {
     hand_over(
         &rt,
         &ConcurrentQueue::bounded(rt.alloc(), 1).expect(&rt, "memory"),
+        2,
     );
 }
 
 #[test]
 fn a_chain_hands_over_each_number_once(rt: HostRuntime) {
-    hand_over(&rt, &ConcurrentQueue::unbounded(rt.alloc()));
+    hand_over(&rt, &ConcurrentQueue::unbounded(rt.alloc()), 2);
 }
 
 // What a party of a queue that is closed under load did.
@@ -116,7 +151,7 @@ const LOAD: u64 = 500;
 const SECOND: u64 = 1 << 40;
 
 // Pushes numbers from `first` on until the queue is closed, and answers how many were accepted.
-fn push_until_closed<R: Wait + Abort>(
+pub fn push_until_closed<R: Wait + Abort>(
     rt: &R,
     queue: &ConcurrentQueue<u64>,
     first: u64,
@@ -139,7 +174,7 @@ fn push_until_closed<R: Wait + Abort>(
     panic!(rt; "not closed in {MOST_TURNS} turns");
 }
 
-fn pop_until_closed<R: Wait + Abort + AllocGlobal>(
+pub fn pop_until_closed<R: Wait + Abort + AllocGlobal>(
     rt: &R,
     queue: &ConcurrentQueue<u64>,
 ) -> Vec<u64> {
@@ -154,7 +189,7 @@ fn pop_until_closed<R: Wait + Abort + AllocGlobal>(
     panic!(rt; "not closed in {MOST_TURNS} turns");
 }
 
-fn close_under_load<R: Wait + Abort>(
+pub fn close_under_load<R: Wait + Abort>(
     rt: &R,
     queue: &ConcurrentQueue<u64>,
     pushed: &AtomicU64,

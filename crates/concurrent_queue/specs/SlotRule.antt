@@ -1,0 +1,74 @@
+-- The rule of the single slot that threads share, and what each of its steps tells. A word is a sum: locked 1, pushed 2,
+-- closed 4.
+use Rattle.std.specs.Prelude.{◌≡◌, ◌≢◌, ℕ, ◌+◌, ◌*◌, ◌≤◌, List, [], ◌∷◌, ◌++◌, Option, Some, None}
+use mathlib.Core.Option.{some, none}
+use mathlib.Core.Option as maybe
+use lib.ListN.{get_elem?}
+use Rattle.atomic_table.specs.Table.{State, Me, rest}
+use Rattle.concurrent_queue.specs.Single.{marks_of}
+use Rattle.concurrent_queue.specs.declared.slot_table.rule.Doing.{Doing}
+use Rattle.concurrent_queue.specs.declared.slot_table.rule.Stage.{Stage}
+use Rattle.concurrent_queue.specs.declared.slot_table.rule.Stage.TheVariants.{Idle, Writing, Reading}
+
+-- a seat that writes or reads has the slot, and is named
+pub data Phase (T : Type 0) : Type 0 where
+  empty : Phase T
+  full : T → Phase T
+  writing : ℕ → Phase T
+  reading : ℕ → Phase T
+
+module _ {T : Type 0} where
+  abbrev pub marks : Phase T → ℕ
+  marks empty = 0
+  marks (full x) = 2
+  marks (writing j) = 3
+  marks (reading j) = 1
+
+  -- the slot at home, or none while a seat has it
+  abbrev pub home : Phase T → maybe.Option (Option T)
+  home empty = some None
+  home (full x) = some (Some x)
+  home (writing j) = none
+  home (reading j) = none
+
+  abbrev pub Knows : Phase T → ℕ → Stage → Type 0
+  Knows phase j Idle = Unit {0}
+  Knows phase j Writing = phase ≡ writing j
+  Knows phase j Reading = phase ≡ reading j
+
+  pub record SlotRule (s : State (Option T) Doing) : Type 0 where
+    pub phase : Phase T
+    pub shut : ℕ
+    pub shut_once : shut ≤ 1
+    pub word : s.words ≡ (marks phase + 4 * shut) ∷ []
+    pub place : s.homes ≡ (home phase) ∷ []
+    pub each_seat : (j : ℕ) (d : Doing) → get_elem? s.views j ≡ some d → Knows phase j d.stage
+
+abbrev pub doing : Stage → List ℕ → Doing
+doing stage found = record { stage = stage; found = found }
+
+abbrev pub Known : Type 0 → Type 0
+Known T = Me (Option T) Doing
+
+module _ {T : Type 0} where
+  -- the first word that a call finds
+  abbrev pub began : Known T → ℕ → Known T → Type 0
+  began m n m' = m' ≡ (doing Idle (n ∷ []), m.1)
+
+  abbrev pub looked : Known T → ℕ → Known T → Type 0
+  looked m n m' = m' ≡ (doing Idle (m.0.found ++ n ∷ []), m.1)
+
+  -- an append, or a displacement where an item was there: it has the slot, with what the word said of it
+  abbrev pub claimed : ℕ → Known T → ℕ → Known T → Type 0
+  claimed old m n m' =
+      (n ≡ old → (held : Option T) × (marks_of held ≡ old) × (m' ≡ (doing Writing (m.0.found ++ n ∷ []), (0, held) ∷ m.1)))
+      × (n ≢ old → looked m n m')
+
+  -- a take: it has the slot, with its item
+  abbrev pub fetched : ℕ → Known T → ℕ → Known T → Type 0
+  fetched old m n m' =
+      (n ≡ old → (x : T) × (m' ≡ (doing Reading (m.0.found ++ n ∷ []), (0, Some x) ∷ m.1))) × (n ≢ old → looked m n m')
+
+  -- the slot goes home
+  abbrev pub returned : Known T → ℕ → Known T → Type 0
+  returned m n m' = m' ≡ (doing Idle (m.0.found ++ n ∷ []), rest m.1)

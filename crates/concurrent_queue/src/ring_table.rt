@@ -1,0 +1,85 @@
+//! The ring that threads share without a lock: its words and its places stand in a table of atomic steps.
+ghost use Rattle.std.specs.Prelude.{◌≡◌, ◌<◌, ◌+◌, ◌^◌, Some, IfOk, OnOk, length, slice_index_or};
+ghost use Rattle.concurrent_queue.specs.RingRule.{AreNewWords};
+ghost use Rattle.concurrent_queue.specs.RingSeat.{IsFreeSeatOf};
+
+mod calls;
+pub mod moves;
+pub mod plays;
+pub mod rule;
+
+use crate::errors::NoMemory;
+use crate::glimpse::{Glimpse, TRIES};
+use crate::steps::Reply;
+use crate::steps::bounded::{self as steps, Shape, Turn};
+use atomic_table::Table;
+use moves::{HEAD, Pass, STAMPS, TAIL};
+use plays::BeginTail;
+use rule::{Doing, RingRule};
+use std::alloc::Global;
+
+/// A closable queue of a fixed number of places, which threads share by `&`.
+#[derive(Drop)]
+pub struct RingTable<T> {
+    board: Table<Option<T>, Doing, Shape, RingRule, Global>,
+    shape: Shape,
+    ghost sized: { (board.shared.table_id.words ≡ shape.capacity + 32) × (board.shared.table_id.slots ≡ shape.capacity) × (board.shared.key ≡ shape) },
+}
+
+// The words of a new ring: each stamp is the index of its place.
+fn new_words(alloc: Global, capacity: usize) -> Result<Vec<u64>, NoMemory>
+    requires { capacity < 2 ^ 60 }
+    ensures { IfOk result (λ words. AreNewWords capacity words.items) }
+{
+    let Ok(mut words) = Vec::from_elem(alloc, 0u64, capacity + STAMPS) else {
+        return Err(NoMemory);
+    };
+    let row = words.as_mut_slice();
+    for index in 0..capacity {
+        row[index + STAMPS] = index as u64;
+    }
+    Ok(words)
+}
+
+impl<T> RingTable<T> {
+    /// A ring of so many places. One of 2^60 places is larger than any memory.
+    pub fn new(alloc: Global, capacity: usize) -> Result<RingTable<T>, NoMemory>
+        requires { 0 < capacity }
+        ensures { IfOk result (λ ring. ring.shape.capacity ≡ capacity) }
+    {
+        if capacity >= 1 << 60 {
+            return Err(NoMemory);
+        }
+        let shape = Shape::new(capacity as u64);
+        let words = new_words(alloc, capacity)?;
+        let Ok((board, _)) = Table::vacant(alloc, words.as_slice(), capacity, &shape) else {
+            return Err(NoMemory);
+        };
+        Ok(RingTable { board, shape })
+    }
+
+    // A seat has no bytes, and goes when the call ends.
+    fn pass(&self) -> Pass<T>
+        ensures { IsFreeSeatOf self.now.board.shared self.now.shape result }
+    {
+        self.board.shared.load_new_seat::<BeginTail>(TAIL).1
+    }
+
+    /// Its length and whether it is closed, each read at a moment of its own. It waits for nobody, and answers `None`
+    /// where the tail moved at each of many tries.
+    pub fn glimpse(&self) -> Option<Glimpse> {
+        let board = &self.board.shared;
+        let mut turn = steps::len(self.shape, Turn::Tail, board.peek(TAIL));
+        for _ in 0..TRIES {
+            turn = steps::len(self.shape, turn, board.peek(HEAD));
+            turn = steps::len(self.shape, turn, board.peek(TAIL));
+            if let Turn::End(Reply::Length(len)) = turn {
+                return Some(Glimpse {
+                    len: len as usize,
+                    is_closed: self.is_closed(),
+                });
+            }
+        }
+        None
+    }
+}

@@ -1,0 +1,74 @@
+//! The other calls on a ring: the close, and what a look at its words tells.
+ghost use Rattle.std.specs.Prelude.{◌≡◌};
+ghost use Rattle.concurrent_queue.specs.Answered.{turns, says};
+ghost use Rattle.concurrent_queue.specs.RingSeat.{IsFreeSeatOf, StaysFree};
+ghost use Rattle.concurrent_queue.specs.RingTurns.{close_turn, len_turn, is_empty_turn, is_full_turn, is_closed_turn};
+ghost use Rattle.concurrent_queue.specs.declared.steps.Reply.TheVariants.{Length};
+ghost use Rattle.concurrent_queue.specs.declared.steps.bounded.Turn.TheVariants.{Tail, Head, Close, End};
+
+use crate::ring_table::moves::{self, Board, HEAD, Pass, TAIL};
+use crate::steps::Reply;
+use crate::steps::bounded::{self as steps, Shape, Turn};
+use std::sync::Wait;
+
+/// Closes the ring, and says whether this call did so.
+pub fn close<T>(board: &Board<T>, pass: &mut Pass<T>, shape: Shape) -> bool
+    requires { IsFreeSeatOf board.now shape pass.old }
+    ensures same { StaysFree pass.old pass.new }
+    ensures answers { turns (close_turn shape.capacity shape.mark) Close pass.new.me.0.found ≡ End (says result) }
+{
+    let found = moves::close(board, pass, shape.mark);
+    matches!(
+        steps::close(shape, Turn::Close, found),
+        Turn::End(Reply::Yes)
+    )
+}
+
+/// How many items are in the ring, read while the tail stayed the same.
+pub fn len<T, R: Wait>(rt: &R, board: &Board<T>, pass: &mut Pass<T>, shape: Shape) -> usize
+    requires { IsFreeSeatOf board.now shape pass.old }
+    ensures same { StaysFree pass.old pass.new }
+    ensures answers { turns (len_turn shape.capacity shape.mark) Tail pass.new.me.0.found ≡ End (Length result) }
+{
+    let mut turn = steps::len(shape, Turn::Tail, moves::begin_tail(board, pass));
+    for _ in rt.forever() {
+        match turn {
+            Turn::HeadFor(_) => turn = steps::len(shape, turn, moves::look(board, pass, HEAD)),
+            Turn::TailAgain(_, _) => {
+                turn = steps::len(shape, turn, moves::look(board, pass, TAIL));
+            }
+            Turn::End(Reply::Length(len)) => return len as usize,
+            _ => unreachable!(),
+        }
+    }
+    unreachable!()
+}
+
+pub fn is_empty<T>(board: &Board<T>, pass: &mut Pass<T>, shape: Shape) -> bool
+    requires { IsFreeSeatOf board.now shape pass.old }
+    ensures same { StaysFree pass.old pass.new }
+    ensures answers { turns (is_empty_turn shape.capacity shape.mark) Head pass.new.me.0.found ≡ End (says result) }
+{
+    let turn = steps::is_empty(shape, Turn::Head, moves::begin_head(board, pass));
+    let turn = steps::is_empty(shape, turn, moves::look(board, pass, TAIL));
+    matches!(turn, Turn::End(Reply::Yes))
+}
+
+pub fn is_full<T>(board: &Board<T>, pass: &mut Pass<T>, shape: Shape) -> bool
+    requires { IsFreeSeatOf board.now shape pass.old }
+    ensures same { StaysFree pass.old pass.new }
+    ensures answers { turns (is_full_turn shape.capacity shape.mark) Tail pass.new.me.0.found ≡ End (says result) }
+{
+    let turn = steps::is_full(shape, Turn::Tail, moves::begin_tail(board, pass));
+    let turn = steps::is_full(shape, turn, moves::look(board, pass, HEAD));
+    matches!(turn, Turn::End(Reply::Yes))
+}
+
+pub fn is_closed<T>(board: &Board<T>, pass: &mut Pass<T>, shape: Shape) -> bool
+    requires { IsFreeSeatOf board.now shape pass.old }
+    ensures same { StaysFree pass.old pass.new }
+    ensures answers { turns (is_closed_turn shape.capacity shape.mark) Tail pass.new.me.0.found ≡ End (says result) }
+{
+    let turn = steps::is_closed(shape, Turn::Tail, moves::begin_tail(board, pass));
+    matches!(turn, Turn::End(Reply::Yes))
+}

@@ -1,0 +1,99 @@
+//! `pop` on a ring.
+ghost use Rattle.std.specs.Prelude.{◌≡◌, ℕ, ◌+◌, [], ◌∷◌, ◌++◌, MatchResult};
+ghost use Rattle.concurrent_queue.specs.Answered.{turns, PopSays};
+ghost use Rattle.concurrent_queue.specs.RingSeat.{IsFreeSeatOf, StaysFree, PopStands, PopsOn};
+ghost use Rattle.concurrent_queue.specs.RingTurns.{pop_turn};
+ghost use Rattle.concurrent_queue.specs.declared.steps.Reply.{Reply};
+ghost use Rattle.concurrent_queue.specs.declared.steps.bounded.Turn.TheVariants.{Head, Stamp, TailFor, Take, End};
+
+use crate::errors::PopError;
+use crate::ring_table::moves::{self, Board, Pass, TAIL};
+use crate::steps::Reply;
+use crate::steps::bounded::{self as steps, Shape, Turn};
+use crossbeam_utils::Backoff;
+use std::sync::Wait;
+
+fn begins<T>(board: &Board<T>, pass: &mut Pass<T>, shape: Shape) -> Turn
+    requires { IsFreeSeatOf board.now shape pass.old }
+    ensures same { StaysFree pass.old pass.new }
+    ensures stands { (result ≡ turns (pop_turn shape.capacity shape.mark) Head pass.new.me.0.found) × PopStands shape.capacity shape.mark result pass.new.me.0 }
+{
+    let found = moves::begin_head(board, pass);
+    steps::pop(shape, Turn::Head, found)
+}
+
+fn at_head<T>(board: &Board<T>, pass: &mut Pass<T>, shape: Shape) -> Turn
+    requires { IsFreeSeatOf board.now shape pass.old }
+    ensures same { StaysFree pass.old pass.new }
+    ensures on { PopsOn shape.capacity shape.mark Head pass.old.me.0 result pass.new.me.0 }
+{
+    let found = moves::head(board, pass);
+    steps::pop(shape, Turn::Head, found)
+}
+
+fn at_stamp<T>(board: &Board<T>, pass: &mut Pass<T>, shape: Shape, head: u64) -> Turn
+    requires seat { IsFreeSeatOf board.now shape pass.old }
+    requires stands { PopStands shape.capacity shape.mark (Stamp head) pass.old.me.0 }
+    ensures same { StaysFree pass.old pass.new }
+    ensures on { PopsOn shape.capacity shape.mark (Stamp head) pass.old.me.0 result pass.new.me.0 }
+{
+    let index = shape.index(head) as usize;
+    let found = moves::stamp_at_head(board, pass, index);
+    steps::pop(shape, Turn::Stamp(head), found)
+}
+
+fn at_tail<T>(board: &Board<T>, pass: &mut Pass<T>, shape: Shape, head: u64) -> Turn
+    requires { IsFreeSeatOf board.now shape pass.old }
+    ensures same { StaysFree pass.old pass.new }
+    ensures on { PopsOn shape.capacity shape.mark (TailFor head) pass.old.me.0 result pass.new.me.0 }
+{
+    let found = moves::look(board, pass, TAIL);
+    steps::pop(shape, Turn::TailFor(head), found)
+}
+
+// The take with its read. Or else the turn that follows.
+fn take<T>(board: &Board<T>, pass: &mut Pass<T>, shape: Shape, head: u64) -> Result<T, Turn>
+    requires seat { IsFreeSeatOf board.now shape pass.old }
+    requires stands { PopStands shape.capacity shape.mark (Take head) pass.old.me.0 }
+    ensures same { StaysFree pass.old pass.new }
+    ensures on { MatchResult result (λ _. (w : ℕ) × (pass.new.me.0.found ≡ (pass.old.me.0.found ++ head ∷ []) ++ w ∷ [])) (λ e. PopsOn shape.capacity shape.mark (Take head) pass.old.me.0 e pass.new.me.0) }
+{
+    let found = moves::take(board, pass, head, shape.next(head));
+    if found != head {
+        return Err(steps::pop(shape, Turn::Take(head), found));
+    }
+    Ok(moves::read(board, pass, shape.index(head) as usize, head + shape.lap()))
+}
+
+/// Takes out the oldest item. It waits for one on its way in.
+pub fn pop<T, R: Wait>(
+    rt: &R,
+    board: &Board<T>,
+    pass: &mut Pass<T>,
+    shape: Shape,
+) -> Result<T, PopError>
+    requires { IsFreeSeatOf board.now shape pass.old }
+    ensures same { StaysFree pass.old pass.new }
+    ensures answers { (reply : Reply) × (turns (pop_turn shape.capacity shape.mark) Head pass.new.me.0.found ≡ End reply) × PopSays reply result }
+{
+    let backoff = Backoff::new();
+    let mut turn = begins(board, pass, shape);
+    for _ in rt.forever() {
+        match turn {
+            Turn::Stamp(head) => turn = at_stamp(board, pass, shape, head),
+            Turn::Take(head) => match take(board, pass, shape, head) {
+                Ok(item) => return Ok(item),
+                Err(after) => turn = after,
+            },
+            Turn::TailFor(head) => turn = at_tail(board, pass, shape, head),
+            Turn::Head => {
+                backoff.snooze();
+                turn = at_head(board, pass, shape);
+            }
+            Turn::End(Reply::Empty) => return Err(PopError::Empty),
+            Turn::End(Reply::Closed) => return Err(PopError::Closed),
+            _ => unreachable!(),
+        }
+    }
+    unreachable!()
+}

@@ -1,0 +1,30 @@
+//! What the table of a single slot keeps between any two steps, and what a seat at it knows.
+ghost use Rattle.concurrent_queue.specs.SlotRule.{SlotRule as Rule, doing};
+ghost use Rattle.concurrent_queue.specs.declared.slot_table.rule.Stage.TheVariants.{Idle};
+ghost use Rattle.std.specs.Prelude.{[]};
+
+use atomic_table::TableRule;
+use std::collections::LinkedList;
+
+/// Where a call stands in the slot.
+pub enum Stage {
+    Idle,
+    Writing,
+    Reading,
+}
+
+/// What a seat knows: whether it has the slot, and the words that its steps in this call found, oldest first.
+/// No value of it is made.
+pub struct Doing {
+    pub stage: Stage,
+    pub found: LinkedList<u64>,
+}
+
+/// The word and the slot agree, and one seat at most has the slot.
+pub struct SlotRule;
+
+impl<T> TableRule<Option<T>, Doing, ()> for SlotRule {
+    ghost holds = { λ _. Rule };
+
+    ghost first = { λ _. doing Idle [] };
+}

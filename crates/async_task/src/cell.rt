@@ -39,12 +39,13 @@ pub enum Kept<W> {
     Task(usize),
     /// From outside.
     Outside(W),
-    /// None: a waker of a task of another realm couldn't be found from here, and is called at once.
+    /// None: a waker of a task of another realm couldn't be found from here, and is called at
+    /// once.
     Nothing,
 }
 
-/// A way to one task's cell. What it stands for (the handle, a waker, a Runnable, a run) is known to
-/// who has it, who also does what is owed when that goes.
+/// A way to one task's cell. What it stands for (the handle, a waker, a Runnable, a run) is known
+/// to who has it, who also does what is owed when that goes.
 #[derive(Drop)]
 pub struct Held<F: 'static, T: 'static, S: 'static, M: 'static, W: 'static, R> {
     realm: &'static Realm<F, T, S, M, W>,

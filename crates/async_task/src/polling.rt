@@ -18,9 +18,9 @@ pub enum Found<T> {
     NoMemory,
 }
 
-/// Polls the handle. Where there is an answer already no waker is copied, so that such a poll takes no
-/// memory; else one copy is made. A waker of a task of another realm can't be kept: it is called at
-/// once.
+/// Polls the handle. Where there is an answer already no waker is copied, so that such a poll
+/// takes no memory; else one copy is made. A waker of a task of another realm can't be kept: it is
+/// called at once.
 pub fn poll<F, T, S, M, W, R>(
     held: &Held<F, T, S, M, W, R>,
     waker: &Awaiter<F, T, S, M, W, R>,

@@ -1,16 +1,19 @@
 //! What each call of a handle does with what stands under the lock of its cell: the call of a
-//! `LocalTask` that has its name, and nothing else. None calls anything of a user: each answers what
-//! is then owed.
+//! `LocalTask` that has its name, and nothing else. None calls anything of a user: each answers
+//! what is then owed.
 //!
-//! Where a call needs that something is so (a Runnable's task is queued), the handles see to that. A
-//! section asks first, and waits for ever where it weren't.
-ghost use Rattle.std.specs.Prelude.{◌≡◌, ◌<◌, ◌^◌, ◌↔◌, true, false, not, if◌then◌else◌, IsTrue, IsSome, Some, None};
-ghost use Rattle.task_moves.specs.declared.local_task.answers.Place.TheVariants.{Home, Dropping};
+//! Where a call needs that something is so (a Runnable's task is queued), the handles see to that.
+//! A section asks first, and waits for ever where it weren't.
+ghost use Rattle.std.specs.Prelude.{◌≡◌, ◌<◌, ◌^◌, ◌↔◌, true, false, not, if◌then◌else◌};
+ghost use Rattle.std.specs.Prelude.{IsTrue, IsSome, Some, None};
+ghost use Rattle.task_moves.specs.declared.local_task.answers.Place.TheVariants.{Home};
 ghost use Rattle.async_task.specs.declared.sections.debts.Ended.TheVariants.{Over};
 ghost use Rattle.task_moves.specs.AbstractTask as abstract;
 ghost use Rattle.task_moves.specs.LocalTask as local;
 ghost use Rattle.task_moves.specs.LocalTask.{with_task, info_of, finish_answer, finish_answer_by};
-ghost use Rattle.async_task.specs.Sections.{Found, kept_of, emptied_of, settled, finished, ended_of};
+ghost use Rattle.async_task.specs.Sections.{Found, kept_of, emptied_of, ended_of, at_once_answer};
+ghost use Rattle.async_task.specs.Sections.{released, woken_and_released, begun, retracted, settled};
+ghost use Rattle.async_task.specs.Sections.{finished, cancelled, detached, polled, polled_at_once};
 
 mod debts;
 
@@ -76,10 +79,10 @@ pub fn hold<F, T, A, R: Wait>(rt: &R, kept: &mut Option<LocalTask<F, T, A>>) -> 
 /// One waker less.
 pub fn release<F, T, A, R: Wait>(rt: &R, kept: &mut Option<LocalTask<F, T, A>>) -> Released<F, T, A>
     ensures allowed { Found kept.old (λ old. 0 < old.task.wakers) }
-    ensures left { Found kept.old (λ old. kept.new ≡ kept_of (with_task old (abstract.release old.task))) }
-    ensures queue { Found kept.old (λ old. result.queue ≡ info_of old.task (abstract.release old.task)) }
-    ensures emptied { Found kept.old
-        (λ old. result.emptied ≡ emptied_of (with_task old (abstract.release old.task))) }
+    ensures left { Found kept.old (λ old. kept.new ≡ kept_of (released old)) }
+    ensures queue { Found kept.old
+        (λ old. result.queue ≡ info_of old.task (abstract.release old.task)) }
+    ensures emptied { Found kept.old (λ old. result.emptied ≡ emptied_of (released old)) }
 {
     insist(rt, kept.is_some());
     let queue = match kept {
@@ -95,19 +98,17 @@ pub fn release<F, T, A, R: Wait>(rt: &R, kept: &mut Option<LocalTask<F, T, A>>) 
     }
 }
 
-/// A wake, and then one waker less. At most one of the two queues the task: one that was just queued
-/// has a Runnable.
+/// A wake, and then one waker less. At most one of the two queues the task: one that was just
+/// queued has a Runnable.
 pub fn wake_and_release<F, T, A, R: Wait>(
     rt: &R,
     kept: &mut Option<LocalTask<F, T, A>>,
 ) -> Released<F, T, A>
     ensures allowed { Found kept.old (λ old. 0 < old.task.wakers) }
-    ensures left { Found kept.old
-        (λ old. kept.new ≡ kept_of (with_task old (abstract.release (abstract.wake old.task)))) }
+    ensures left { Found kept.old (λ old. kept.new ≡ kept_of (woken_and_released old)) }
     ensures queue { Found kept.old
         (λ old. result.queue ≡ info_of old.task (abstract.release (abstract.wake old.task))) }
-    ensures emptied { Found kept.old
-        (λ old. result.emptied ≡ emptied_of (with_task old (abstract.release (abstract.wake old.task)))) }
+    ensures emptied { Found kept.old (λ old. result.emptied ≡ emptied_of (woken_and_released old)) }
 {
     insist(rt, kept.is_some());
     let queue = match kept {
@@ -128,8 +129,7 @@ pub fn wake_and_release<F, T, A, R: Wait>(
 /// A Runnable becomes a run, or the rest of a closing call.
 pub fn start<F, T, A, R: Wait>(rt: &R, kept: &mut Option<LocalTask<F, T, A>>) -> Start<F>
     ensures allowed { Found kept.old (λ old. local.is_ready_to_start old ≡ true) }
-    ensures left { Found kept.old
-        (λ old. kept.new ≡ Some (record { task = abstract.begin_run old.task; future = local.started old.task.closed })) }
+    ensures left { Found kept.old (λ old. kept.new ≡ Some (begun old)) }
     ensures future { Found kept.old (λ old. old.future ≡ Home (local.future_in result)) }
     ensures open { Found kept.old (λ old. local.is_poll result ≡ not old.task.closed) }
 {
@@ -146,8 +146,7 @@ pub fn start<F, T, A, R: Wait>(rt: &R, kept: &mut Option<LocalTask<F, T, A>>) ->
 /// A Runnable is let go: its future is dropped.
 pub fn retract<F, T, A, R: Wait>(rt: &R, kept: &mut Option<LocalTask<F, T, A>>) -> F
     ensures allowed { Found kept.old (λ old. local.is_ready_to_start old ≡ true) }
-    ensures left { Found kept.old
-        (λ old. kept.new ≡ Some (record { task = record old.task { closed = true }; future = Dropping })) }
+    ensures left { Found kept.old (λ old. kept.new ≡ Some (retracted old)) }
     ensures future { Found kept.old (λ old. old.future ≡ Home result) }
 {
     insist(rt, kept.is_some());
@@ -193,7 +192,8 @@ fn over<F, T, A>(
     awaiter: Finish<A>,
     emptied: Option<LocalTask<F, T, A>>,
 ) -> Ended<F, T, A>
-    ensures { result ≡ Over (record { queue = queue; output = output; awaiter = awaiter; emptied = emptied }) }
+    ensures { result ≡ Over
+        (record { queue = queue; output = output; awaiter = awaiter; emptied = emptied }) }
 {
     Ended::Over(Debts {
         queue,
@@ -229,8 +229,9 @@ pub fn finish<F, T, A, R: Wait>(rt: &R, kept: &mut Option<LocalTask<F, T, A>>) -
 
 /// The handle cancels the task.
 pub fn cancel<F, T, A, R: Wait>(rt: &R, kept: &mut Option<LocalTask<F, T, A>>) -> Debts<F, T, A>
-    ensures left { Found kept.old (λ old. kept.new ≡ Some (with_task old (abstract.cancel old.task).task)) }
-    ensures queue { Found kept.old (λ old. result.queue ≡ info_of old.task (abstract.cancel old.task).task) }
+    ensures left { Found kept.old (λ old. kept.new ≡ Some (cancelled old)) }
+    ensures queue { Found kept.old
+        (λ old. result.queue ≡ info_of old.task (abstract.cancel old.task).task) }
     ensures awaiter { Found kept.old
         (λ old. result.awaiter ≡ finish_answer_by (abstract.cancel old.task).called None) }
     ensures nothing_else { (result.output ≡ None) × (result.emptied ≡ None) }
@@ -250,13 +251,12 @@ pub fn cancel<F, T, A, R: Wait>(rt: &R, kept: &mut Option<LocalTask<F, T, A>>) -
 
 /// The handle goes.
 pub fn detach<F, T, A, R: Wait>(rt: &R, kept: &mut Option<LocalTask<F, T, A>>) -> Debts<F, T, A>
-    ensures left { Found kept.old
-        (λ old. kept.new ≡ kept_of (with_task old (abstract.detach old.task).task)) }
-    ensures queue { Found kept.old (λ old. result.queue ≡ info_of old.task (abstract.detach old.task).task) }
+    ensures left { Found kept.old (λ old. kept.new ≡ kept_of (detached old)) }
+    ensures queue { Found kept.old
+        (λ old. result.queue ≡ info_of old.task (abstract.detach old.task).task) }
     ensures output { Found kept.old (λ old. result.output ≡ (abstract.detach old.task).dropped) }
     ensures nobody_woken { result.awaiter ≡ finish_answer_by None None }
-    ensures emptied { Found kept.old
-        (λ old. result.emptied ≡ emptied_of (with_task old (abstract.detach old.task).task)) }
+    ensures emptied { Found kept.old (λ old. result.emptied ≡ emptied_of (detached old)) }
 {
     insist(rt, kept.is_some());
     let detached = match kept {
@@ -277,11 +277,10 @@ pub fn poll_at_once<F, T, A, R: Wait>(
     kept: &mut Option<LocalTask<F, T, A>>,
     spare: A,
 ) -> Result<Polled<T, A>, A>
-    ensures allowed { Found kept.old (λ old. local.must_wait old.task ≡ false → old.task.handle ≡ true) }
-    ensures left { Found kept.old
-        (λ old. kept.new ≡ Some (if local.must_wait old.task then old else with_task old (abstract.poll spare old.task).task)) }
-    ensures answer { Found kept.old
-        (λ old. result ≡ (if local.must_wait old.task then Err spare else Ok (local.poll_answer spare old.task))) }
+    ensures allowed { Found kept.old
+        (λ old. local.must_wait old.task ≡ false → old.task.handle ≡ true) }
+    ensures left { Found kept.old (λ old. kept.new ≡ Some (polled_at_once spare old)) }
+    ensures answer { Found kept.old (λ old. result ≡ at_once_answer spare old.task) }
 {
     insist(rt, kept.is_some());
     let must_wait = match kept {
@@ -302,7 +301,7 @@ pub fn poll<F, T, A, R: Wait>(
     waker: A,
 ) -> Polled<T, A>
     ensures allowed { Found kept.old (λ old. old.task.handle ≡ true) }
-    ensures left { Found kept.old (λ old. kept.new ≡ Some (with_task old (abstract.poll waker old.task).task)) }
+    ensures left { Found kept.old (λ old. kept.new ≡ Some (polled waker old)) }
     ensures answer { Found kept.old (λ old. result ≡ local.poll_answer waker old.task) }
 {
     insist(rt, kept.is_some());

@@ -1,2 +1,4 @@
 pub mod Handles
 pub mod Awaiters
+pub mod Sections
+pub mod Runs

@@ -1,10 +1,8 @@
 //! The cell that all handles of one task share, and the way of a handle to it.
-mod debts;
 mod paying;
 mod scheduled;
 mod turns;
 
-pub use crate::cell::debts::{Debts, Ended};
 pub(crate) use crate::cell::paying::pay_due;
 pub use crate::cell::scheduled::{Due, Scheduled, StoredRunnable, StoredWaker};
 use crate::realm::{Places, share};
@@ -41,12 +39,13 @@ pub enum Kept<W> {
     Task(usize),
     /// From outside.
     Outside(W),
-    /// Of a task of another realm. It couldn't be found from here, and was called at once.
-    Called,
+    /// None: a waker of a task of another realm couldn't be found from here, and is called at
+    /// once.
+    Nothing,
 }
 
-/// A way to one task's cell. What it stands for (the handle, a waker, a Runnable, a run) is known to
-/// who has it, who also does what is owed when that goes.
+/// A way to one task's cell. What it stands for (the handle, a waker, a Runnable, a run) is known
+/// to who has it, who also does what is owed when that goes.
 #[derive(Drop)]
 pub struct Held<F: 'static, T: 'static, S: 'static, M: 'static, W: 'static, R> {
     realm: &'static Realm<F, T, S, M, W>,

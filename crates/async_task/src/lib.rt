@@ -12,6 +12,7 @@ mod polling;
 mod realm;
 mod runnable;
 mod schedule;
+pub mod sections;
 mod task;
 mod wake;
 mod waker;
@@ -27,7 +28,7 @@ pub use runnable::{Closing, RunEnd, Runnable, Running, Started};
 pub use schedule::{Schedule, ScheduleInfo, WithInfo};
 pub use task::{Task, TaskError};
 pub use task_moves::{Back, LocalTask, laws, local_task, moves};
-pub use wake::Wake;
+pub use wake::{Nobody, Wake};
 pub use waker::{Awaiter, TaskWaker};
 
 #[cfg(test)]

@@ -18,7 +18,9 @@ pub enum Found<T> {
     NoMemory,
 }
 
-/// Polls the handle. A waker of a task of another realm can't be kept: it is called at once.
+/// Polls the handle. Where there is an answer already no waker is copied, so that such a poll
+/// takes no memory; else one copy is made. A waker of a task of another realm can't be kept: it is
+/// called at once.
 pub fn poll<F, T, S, M, W, R>(
     held: &Held<F, T, S, M, W, R>,
     waker: &Awaiter<F, T, S, M, W, R>,
@@ -31,10 +33,32 @@ where
     W: Wake + Drop + 'static,
     R: Wait + Copy + Drop,
 {
+    if let Ok(polled) = held.poll_at_once() {
+        return answered(held, polled);
+    }
     let Some(kept) = to_keep(held, waker) else {
         return Found::NoMemory;
     };
-    match held.poll(kept) {
+    let found = answered(held, held.poll(kept));
+    if let Found::Pending = &found {
+        if is_foreign(held, waker) {
+            waker.wake_by_ref();
+        }
+    }
+    found
+}
+
+/// What the poll has found. The waker that the cell doesn't keep, or not any more, is dropped.
+fn answered<F, T, S, M, W, R>(held: &Held<F, T, S, M, W, R>, polled: Polled<T, Kept<W>>) -> Found<T>
+where
+    F: Drop + 'static,
+    T: Drop + 'static,
+    S: Schedule<Scheduled<F, T, S, M, W, R>> + Drop + 'static,
+    M: Drop + 'static,
+    W: Wake + Drop + 'static,
+    R: Wait + Copy + Drop,
+{
+    match polled {
         Polled::Output { output, spare } => {
             pay_due(held.let_go(spare));
             Found::Output(output)
@@ -46,9 +70,6 @@ where
         Polled::Pending { replaced } => {
             if let Some(replaced) = replaced {
                 pay_due(held.let_go(replaced));
-            }
-            if is_foreign(held, waker) {
-                waker.wake_by_ref();
             }
             Found::Pending
         }
@@ -69,7 +90,7 @@ where
     R: Wait + Copy + Drop,
 {
     if is_foreign(held, waker) {
-        return Some(Kept::Called);
+        return Some(Kept::Nothing);
     }
     match waker {
         Awaiter::Task(waker) => {

@@ -1,8 +1,10 @@
 ghost use Rattle.std.specs.Prelude.{◌≡◌, IfSome};
+ghost use Rattle.async_task.specs.Runs.{EndsRun};
 
-use crate::cell::{Ended, Held, Scheduled, pay_due};
+use crate::cell::{Held, Scheduled, pay_due};
 use crate::poll::{Future, Poll};
 use crate::schedule::{Schedule, ScheduleInfo};
+use crate::sections::Ended;
 use crate::wake::Wake;
 use crate::waker::{Awaiter, TaskWaker};
 use std::marker::Model;
@@ -248,7 +250,9 @@ where
     }
 
     /// Ends the run. Where the future has given its output, it is dropped before this call.
-    pub fn settle(self, back: Back<F, T>) -> RunEnd<F, T, S, M, W, R> {
+    pub fn settle(self, back: Back<F, T>) -> RunEnd<F, T, S, M, W, R>
+        ensures { EndsRun back result }
+    {
         let Self { waker, rt } = self;
         let Some(held) = way_of(waker) else {
             for _ in rt.forever() {}
@@ -256,10 +260,7 @@ where
         };
         match held.settle(back) {
             Ended::Over(debts) => {
-                let woken = match debts.queue {
-                    Some(info) => info.woken_while_running,
-                    None => false,
-                };
+                let woken = debts.woken_while_running();
                 held.pay(debts);
                 RunEnd::Over(woken)
             }

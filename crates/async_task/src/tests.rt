@@ -1,11 +1,13 @@
+mod ends;
 mod executor;
 mod parts;
+mod refusals;
 mod rows;
 mod telling;
 mod threads;
+mod traits;
 
-use crate::tests::executor::Sum;
-use crate::tests::parts::{Counts, Tasks, made, next, outside_waker};
+use crate::tests::parts::{Counts, Sum, Tasks, made, next, outside_waker};
 use crate::{Future, Poll, Realm, TaskError};
 use std::sync::atomic::Ordering::SeqCst;
 use std::test::Fail;
@@ -51,6 +53,9 @@ fn a_dropped_task_isnt_polled(rt: HostRuntime) -> Result<(), Fail> {
 fn an_executor_of_one_future_runs_it_to_its_end(rt: HostRuntime) -> Result<(), Fail> {
     let sum = Sum { left: 4, sum: 0 };
     let realm = Realm::leak(rt.alloc(), 0)?;
-    assert_eq!(rt; executor::run(rt, rt.alloc(), realm, sum)?, Some(10));
+    assert_eq!(rt;
+        executor::run(rt, rt.alloc(), realm, sum)?,
+        Poll::Ready(Ok(10))
+    );
     Ok(())
 }

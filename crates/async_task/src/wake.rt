@@ -19,3 +19,26 @@ pub trait Wake {
     fn will_wake(&self, other: &Self) -> bool
         ensures { IsTrue result → is_same self.now other.now };
 }
+
+/// A waker from outside that wakes nobody: for who polls a handle and looks again without being
+/// called, and for programs whose tasks are awaited by tasks alone. After `Waker::noop` of the
+/// standard library.
+#[derive(Debug, PartialEq, Eq, Drop)]
+pub struct Nobody;
+
+impl Wake for Nobody {
+    ghost is_same = { λ a b. Unit {0} };
+
+    fn wake(self) {}
+
+    fn wake_by_ref(&self) {}
+
+    fn clone(&self) -> Option<Self> {
+        Some(Nobody)
+    }
+
+    fn will_wake(&self, other: &Self) -> bool {
+        let _ = other;
+        true
+    }
+}

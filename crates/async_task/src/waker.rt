@@ -1,6 +1,6 @@
 ghost use Rattle.std.specs.Prelude.{◌≡◌};
 
-use crate::cell::{Held, Scheduled, StoredWaker, pay_due};
+use crate::cell::{Held, Scheduled, StoredWaker};
 use crate::schedule::Schedule;
 use crate::wake::Wake;
 use std::marker::Model;
@@ -94,11 +94,11 @@ where
     /// Queues the task, where it is open and idle. It takes no memory.
     fn wake(self) {
         let Self { held } = self;
-        pay_due(held.wake_and_release_later());
+        held.pay_released(held.wake_and_release());
     }
 
     fn wake_by_ref(&self) {
-        pay_due(self.held.wake_later());
+        self.held.queue(self.held.wake());
     }
 
     /// One more, or None where the task has 2^40 references already.
@@ -129,7 +129,7 @@ where
 {
     fn drop(self) {
         let Self { held } = self;
-        pay_due(held.release_later());
+        held.pay_released(held.release());
     }
 }
 

@@ -105,6 +105,10 @@ pub record IsSound (F T A : Type 0) (s : State) (next : Option Move) (future : P
   pub counted : token s ≤ s.references
   pub few : s.references ≤ most_references + token s
 
+abbrev pub waits_by : {T : Type 0} → abstract.Polled T → Bool
+waits_by abstract.Polled.Waits = true
+waits_by _ = false
+
 -- an awaiter that is called, or one that is dropped uncalled
 abbrev pub finish_answer_by : {A : Type 0} → Option A → Option A → Finish A
 finish_answer_by (Some awaiter) let_go = Wake awaiter
@@ -193,3 +197,7 @@ module _ {T A : Type 0} where
   -- what a poll of the handle answers
   abbrev pub poll_answer : A → AbstractTask T A → PollAnswer T A
   poll_answer waker t = poll_answer_by (abstract.polled t) waker t
+
+  -- whether a poll of the handle has to leave its waker
+  abbrev pub must_wait : AbstractTask T A → Bool
+  must_wait t = waits_by (abstract.polled t)

@@ -1,9 +1,9 @@
 //! What is done once the lock of a cell is given back, in the order of `Debts`. All code of a user
 //! that a move leads to is called here.
-use crate::cell::debts::{Debts, Released};
 use crate::cell::scheduled::{Due, Scheduled};
 use crate::cell::{Held, Kept};
 use crate::schedule::{Schedule, ScheduleInfo};
+use crate::sections::{Debts, Released};
 use crate::wake::Wake;
 use std::sync::Wait;
 use task_moves::local_task::{Finish, LocalTask};
@@ -17,29 +17,26 @@ where
     W: Wake + Drop + 'static,
     R: Wait + Copy + Drop,
 {
-    /// Wakes the task.
-    pub fn wake_later(&self) -> Option<Due<F, T, S, M, W, R>> {
-        match self.wake() {
-            Some(info) => Some(self.due(info)),
-            None => None,
-        }
-    }
-
     /// A waker goes.
-    pub fn release_later(&self) -> Option<Due<F, T, S, M, W, R>> {
-        self.released(self.release())
+    pub fn release_later(self) -> Option<Due<F, T, S, M, W, R>> {
+        let released = self.release();
+        self.due_of(released)
     }
 
     /// A waker is called, and goes.
-    pub fn wake_and_release_later(&self) -> Option<Due<F, T, S, M, W, R>> {
-        self.released(self.wake_and_release())
+    pub fn wake_and_release_later(self) -> Option<Due<F, T, S, M, W, R>> {
+        let released = self.wake_and_release();
+        self.due_of(released)
     }
 
-    fn released(&self, released: Released<F, T, W>) -> Option<Due<F, T, S, M, W, R>> {
+    fn due_of(self, released: Released<F, T, Kept<W>>) -> Option<Due<F, T, S, M, W, R>> {
         let Released { queue, emptied } = released;
         self.empty(emptied);
         match queue {
-            Some(info) => Some(self.due(info)),
+            Some(info) => Some(Due {
+                runnable: Scheduled { held: self },
+                info,
+            }),
             None => None,
         }
     }
@@ -73,7 +70,7 @@ where
                 drop(waker);
                 None
             }
-            Kept::Called => None,
+            Kept::Nothing => None,
         }
     }
 
@@ -90,7 +87,7 @@ where
                 waker.wake();
                 None
             }
-            Kept::Called => None,
+            Kept::Nothing => None,
         }
     }
 
@@ -106,13 +103,6 @@ where
             drop(task);
         }
     }
-
-    fn due(&self, info: ScheduleInfo) -> Due<F, T, S, M, W, R> {
-        Due {
-            runnable: Scheduled { held: self.share() },
-            info,
-        }
-    }
 }
 
 impl<F, T, S, M, W, R> Held<F, T, S, M, W, R>
@@ -125,18 +115,30 @@ where
     R: Wait + Copy + Drop,
 {
     /// Does what is owed.
-    pub fn pay(&self, debts: Debts<F, T, W>) {
+    pub fn pay(&self, debts: Debts<F, T, Kept<W>>) {
         let Debts {
             queue,
             output,
             awaiter,
             emptied,
         } = debts;
-        if let Some(info) = queue {
+        self.queue(queue);
+        pay_due(self.pay_rest(output, awaiter, emptied));
+    }
+
+    /// Does what the section of a waker that goes leaves to be done.
+    pub fn pay_released(&self, released: Released<F, T, Kept<W>>) {
+        let Released { queue, emptied } = released;
+        self.queue(queue);
+        self.empty(emptied);
+    }
+
+    /// Hands the task to its schedule value, where that is owed.
+    pub fn queue(&self, owed: Option<ScheduleInfo>) {
+        if let Some(info) = owed {
             self.schedule()
                 .schedule(Scheduled { held: self.share() }, info);
         }
-        pay_due(self.pay_rest(output, awaiter, emptied));
     }
 }
 

@@ -1,9 +1,9 @@
 ghost use Rattle.std.specs.Prelude.{◌≡◌, IfSome};
 
-use crate::cell::debts::Debts;
 use crate::cell::{Held, Identity, Realm};
 use crate::runnable::Runnable;
 use crate::schedule::{Schedule, ScheduleInfo};
+use crate::sections::Debts;
 use crate::wake::Wake;
 use crate::waker::TaskWaker;
 use std::marker::Model;

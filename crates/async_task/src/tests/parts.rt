@@ -4,8 +4,8 @@ use crate::{
     StoredRunnable, Task, TaskWaker, Wake,
 };
 use std::alloc::{AllocError, Global};
-use std::sync::atomic::AtomicU64;
 use std::sync::atomic::Ordering::SeqCst;
+use std::sync::atomic::{AtomicBool, AtomicU64};
 use std::sync::{Arc, Mutex, Wait};
 
 /// What has happened to a task so far.
@@ -19,6 +19,10 @@ pub struct Counts {
     pub schedule_drops: AtomicU64,
     /// Wakes of wakers from outside.
     pub rings: AtomicU64,
+    /// How often a waker from outside was to be copied.
+    pub copies: AtomicU64,
+    /// Whether no copy of a waker from outside can be had.
+    pub is_short: AtomicBool,
     /// The most Runnables that were in the queue at a time.
     pub longest: AtomicU64,
     /// The Runnables that were scheduled and not taken yet.
@@ -36,6 +40,8 @@ impl Counts {
                 future_drops: AtomicU64::new(0),
                 schedule_drops: AtomicU64::new(0),
                 rings: AtomicU64::new(0),
+                copies: AtomicU64::new(0),
+                is_short: AtomicBool::new(false),
                 longest: AtomicU64::new(0),
                 queue: Mutex::new(Vec::with_capacity(alloc, 8)?),
             },
@@ -53,7 +59,8 @@ impl Counts {
     }
 }
 
-/// A future that is Pending so many times, wakes itself then where it shall, and gives 3 in the end.
+/// A future that is Pending so many times, wakes itself then where it shall, and gives 3 in the
+/// end.
 pub struct Countdown {
     pub left: u64,
     pub wakes_itself: bool,
@@ -87,16 +94,39 @@ impl Drop for Countdown {
     }
 }
 
+/// A future that adds the numbers from `left` down to 1, one a poll.
+#[derive(Drop)]
+pub struct Sum {
+    pub left: u64,
+    pub sum: u64,
+}
+
+impl<K: Wake> Future<K> for Sum {
+    type Output = u64;
+
+    fn poll(&mut self, waker: &K) -> Poll<u64> {
+        if self.left == 0 {
+            return Poll::Ready(self.sum);
+        }
+        self.sum = self.sum.saturating_add(self.left);
+        self.left -= 1;
+        waker.wake_by_ref();
+        Poll::Pending
+    }
+}
+
 /// A queue, which its tasks' schedule values are ways to.
 pub struct Line<R: Wait + Copy + Drop> {
     pub rt: R,
     pub counts: Arc<Counts, Global>,
 }
 
-impl<R: Wait + Copy + Drop> Schedule<Scheduled<Countdown, u64, Line<R>, u64, Bell, R>> for Line<R> {
+impl<R: Wait + Copy + Drop, M: Drop + 'static> Schedule<
+    Scheduled<Countdown, u64, Line<R>, M, Bell, R>,
+> for Line<R> {
     fn schedule(
         &self,
-        runnable: Scheduled<Countdown, u64, Line<R>, u64, Bell, R>,
+        runnable: Scheduled<Countdown, u64, Line<R>, M, Bell, R>,
         info: ScheduleInfo,
     ) {
         self.counts.schedules.fetch_add(1, SeqCst);
@@ -134,31 +164,14 @@ impl Wake for Bell {
     }
 
     fn clone(&self) -> Option<Self> {
+        self.counts.copies.fetch_add(1, SeqCst);
+        if self.counts.is_short.load(SeqCst) {
+            return None;
+        }
         match Arc::try_clone(&self.counts) {
             Ok(counts) => Some(Bell { counts }),
             Err(_) => None,
         }
-    }
-
-    fn will_wake(&self, other: &Self) -> bool {
-        let _ = other;
-        true
-    }
-}
-
-/// A waker that wakes nobody.
-#[derive(Drop)]
-pub struct Nobody;
-
-impl Wake for Nobody {
-    ghost is_same = { λ a b. Unit {0} };
-
-    fn wake(self) {}
-
-    fn wake_by_ref(&self) {}
-
-    fn clone(&self) -> Option<Self> {
-        Some(Nobody)
     }
 
     fn will_wake(&self, other: &Self) -> bool {
@@ -176,6 +189,25 @@ pub type TestTask<R> = Task<Countdown, u64, Line<R>, u64, Bell, R>;
 pub type TestWaker<R> = TaskWaker<Countdown, u64, Line<R>, u64, Bell, R>;
 
 pub type TestAwaiter<R> = Awaiter<Countdown, u64, Line<R>, u64, Bell, R>;
+
+/// What a task is made of.
+pub fn future_and_line<R: Wait + Copy + Drop + 'static>(
+    rt: R,
+    counts: &Arc<Counts, Global>,
+    left: u64,
+    wakes_itself: bool,
+) -> Result<(Countdown, Line<R>), AllocError> {
+    let future = Countdown {
+        left,
+        wakes_itself,
+        counts: Arc::try_clone(counts)?,
+    };
+    let line = Line {
+        rt,
+        counts: Arc::try_clone(counts)?,
+    };
+    Ok((future, line))
+}
 
 /// A task, with metadata 7.
 pub fn made<R: Wait + Copy + Drop + 'static>(

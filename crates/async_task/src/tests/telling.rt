@@ -1,9 +1,9 @@
 //! A queue that wakes a sleeper each time that it is given a task. The sleeper may be a task of the
 //! same queue, which is then owed to it in turn.
-use crate::tests::parts::{Countdown, Counts, Nobody};
+use crate::tests::parts::{Countdown, Counts};
 use crate::{
-    Due, Realm, Runnable, Schedule, ScheduleInfo, Scheduled, StoredRunnable, StoredWaker, Task,
-    spawn,
+    Due, Nobody, Realm, Runnable, Schedule, ScheduleInfo, Scheduled, StoredRunnable, StoredWaker,
+    Task, spawn,
 };
 use std::alloc::{AllocError, Global};
 use std::sync::{Arc, Mutex, Wait};

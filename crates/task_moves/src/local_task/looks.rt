@@ -52,6 +52,14 @@ impl<F, T, A> LocalTask<F, T, A> {
         self.state.handle
     }
 
+    /// Whether a poll of the handle has to leave its waker: there is neither an output nor an end.
+    pub fn must_wait(&self) -> bool
+        ensures { result ≡ local.must_wait self.now.task }
+    {
+        let is_going = self.state.scheduled || self.state.running;
+        !self.state.completed && (is_going || !self.state.closed)
+    }
+
     /// Whether nobody is left who could reach the task: no handle, no waker, and nobody who has its
     /// future or is going to.
     pub fn is_unreachable(&self) -> bool

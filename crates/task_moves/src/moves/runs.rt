@@ -1,5 +1,5 @@
 //! The moves of a run, and of a call that closes a task.
-ghost use Rattle.std.specs.Prelude.{◌≡◌, ◌<◌, false};
+ghost use Rattle.std.specs.Prelude.{◌≡◌, ◌<◌, true, false};
 ghost use Rattle.task_moves.specs.Moves as moves;
 
 use crate::moves::debts::{NOTHING, QUEUED_AFTER_POLL, settled};
@@ -134,19 +134,7 @@ fn end_open(state: State) -> Moved
             },
         },
         // Nobody is left who could wake it or ask for it.
-        _ if state.references == 1 && !state.handle => Moved {
-            state: State {
-                running: false,
-                closed: true,
-                references: 0,
-                ..state
-            },
-            owed: Owed {
-                future: Some(FutureDebt::DropFuture),
-                empty_cell: true,
-                ..NOTHING
-            },
-        },
+        _ if state.references == 1 && !state.handle => forget(state),
         // It rests.
         _ => Moved {
             state: State {
@@ -155,6 +143,25 @@ fn end_open(state: State) -> Moved
                 ..state
             },
             owed: NOTHING,
+        },
+    }
+}
+
+/// The poll of a task gave no output, and nobody can reach the task any more.
+fn forget(state: State) -> Moved
+    ensures { result ≡ moves.end_pending_by false false true state }
+{
+    Moved {
+        state: State {
+            running: false,
+            closed: true,
+            references: 0,
+            ..state
+        },
+        owed: Owed {
+            future: Some(FutureDebt::DropFuture),
+            empty_cell: true,
+            ..NOTHING
         },
     }
 }

@@ -190,7 +190,8 @@ impl Machine {
         let _ = &self.store;
     }
 
-    /// The next thing that a party has to do, or the user code in which it stands; none between two calls.
+    /// The next thing that a party has to do, or the user code in which it stands; none between two
+    /// calls.
     pub fn top(&self, party: u32) -> Option<Op>
         ensures { result ≡ steps.top (steps.stack self.now party) }
     {

@@ -19,8 +19,8 @@ pub enum Item {
     Keep,
     /// `ready=<v>`: it is ready with this value, at most 1,000,000.
     Ready(u64),
-    /// `twice:<g>`: it polls the handle of the future of this name, which it holds, and is ready with twice its
-    /// output.
+    /// `twice:<g>`: it polls the handle of the future of this name, which it holds, and is ready with
+    /// twice its output.
     Twice(Name),
 }
 

@@ -1,4 +1,5 @@
-//! Scripts are played on the step machine: each command is a call of a party, stepped as the script says.
+//! Scripts are played on the step machine: each command is a call of a party, stepped as the script
+//! says.
 
 mod commands;
 mod future;

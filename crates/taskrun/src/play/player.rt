@@ -200,7 +200,7 @@ impl<'a> Player<'a> {
         }
     }
 
-    /// A waker was made, where the party stands in a poll: it is kept in the place of the one that was.
+    /// A waker was made, where the party stands in a poll: it is kept in place of the one before.
     #[tactic(auto, unfolding(crate::specs::Play::kept_at))]
     fn keep(&mut self, p: u32)
         ensures new { self.new ≡ play.kept_at (play.top self.old p) self.old }

@@ -127,7 +127,6 @@ fn react(store: &mut Store, todo: &mut Vec<Op>, party: u32, op: Op, end: UserEnd
                     answer: Answer::Ready,
                 });
                 todo.push_reserved(Op::EndReady(f));
-                todo.push_reserved(Op::LeaveTable(f));
                 todo.push_reserved(Op::BeginDrop(f));
             }
             UserEnd::Done => {}

@@ -99,7 +99,6 @@ pub fn take_to_drop(store: &mut Store, todo: &mut Vec<Op>, f: u64)
     ensures { Does (acts.take_to_drop (world_of store.old) f) store.new todo.old.items todo.new.items }
 {
     store.inside[f as usize] = false;
-    todo.push_reserved(Op::LeaveTable(f));
     todo.push_reserved(Op::BeginDrop(f));
 }
 
@@ -123,6 +122,7 @@ pub fn begin_drop(store: &mut Store, todo: &mut Vec<Op>, party: u32, f: u64)
     store
         .trace
         .push_reserved(Event::Dropped { party, future: f });
+    todo.push_reserved(Op::LeaveTable(f));
     todo.push_reserved(Op::Drop(f));
 }
 

@@ -340,7 +340,7 @@ sound-end p w a held g r h = grind (arith, phase-push)
 pub sound-pending : (p : ℕ) (w : World) (f : ℕ) → Keeps w (op.Poll f ∷ []) (done (log w (event.Answered p f answer.Pending)) (op.PutBack f ∷ []))
 sound-pending p w f g r h = grind (arith, same_is, phase-answered)
 
-pub sound-ready : (p : ℕ) (w : World) (f : ℕ) → Keeps w (op.Poll f ∷ []) (done (log w (event.Answered p f answer.Ready)) (op.BeginDrop f ∷ op.LeaveTable f ∷ op.EndReady f ∷ []))
+pub sound-ready : (p : ℕ) (w : World) (f : ℕ) → Keeps w (op.Poll f ∷ []) (done (log w (event.Answered p f answer.Ready)) (op.BeginDrop f ∷ op.EndReady f ∷ []))
 sound-ready p w f g r h = grind (arith, same_is, phase-answered)
 
 sound-end_register_by : (b : Bool) (w : World) (f : ℕ) (a : Waker) (k : ℕ) → f < length w.tasks → f < length w.awaiters → Keeps w (op.EndRegister f a k ∷ []) (end_register_by b w f a k)

@@ -9,3 +9,12 @@ pub mod Lawful
 pub mod Outputs
 pub mod OutputActs
 pub mod OutputRuns
+pub mod Stories
+pub mod Leaving
+pub mod LeavingActs
+pub mod Borrowing
+pub mod Telling
+pub mod Tidying
+pub mod LeavingRuns
+pub mod Entering
+pub mod Spawning

@@ -39,7 +39,7 @@ use Rattle.executor_model.proofs.Fitting.{Grown, Grows, grows-act, grows-same}
 pub split : (v : Op → ℕ) (ss : List (List Op)) (p : ℕ) (old rest : List Op) → p < length ss → get_or ss p [] ≡ rest ++ reverse old → weigh_all v ss ≡ weigh v old + weigh_all v (set ss p rest)
 split v ss p old rest h e = omega (arith, weigh_all-set v ss p rest h, ap (weigh v) e, weigh-append v rest (reverse old), weigh-reverse v old)
 
-split-pend : (g : ℕ) (ss : List (List Op)) (p : ℕ) (old rest : List Op) → p < length ss → get_or ss p [] ≡ rest ++ reverse old → pend g ss ≡ with_ops g old (pend g (set ss p rest))
+pub split-pend : (g : ℕ) (ss : List (List Op)) (p : ℕ) (old rest : List Op) → p < length ss → get_or ss p [] ≡ rest ++ reverse old → pend g ss ≡ with_ops g old (pend g (set ss p rest))
 split-pend g ss p old rest h e = λ i. record {
   waiting = split (waiting_of g) ss p old rest h e i;
   polls = split (polls_of g) ss p old rest h e i;
@@ -55,7 +55,7 @@ split-pend g ss p old rest h e = λ i. record {
   ousting = split ousting_of ss p old rest h e i;
 }
 
-push-pend : (g : ℕ) (ss : List (List Op)) (p : ℕ) (rest next : List Op) → p < length ss → pend g (set ss p (rest ++ reverse next)) ≡ with_ops g next (pend g (set ss p rest))
+pub push-pend : (g : ℕ) (ss : List (List Op)) (p : ℕ) (rest next : List Op) → p < length ss → pend g (set ss p (rest ++ reverse next)) ≡ with_ops g next (pend g (set ss p rest))
 push-pend g ss p rest next h = λ i. record {
   waiting = weigh_all-push (waiting_of g) ss p rest next h i;
   polls = weigh_all-push (polls_of g) ss p rest next h i;
@@ -181,7 +181,7 @@ good-end s p os w (Some (op.End a held)) h e good =
     subst (λ (ss : List (List Op)). Good (record { world = log w (event.CallEnded p a); parties = ss })) (ap (set (set s.parties p os) p) (append-nil (below_top os)) ∙ set-set s.parties p os (below_top os)) k
 good-end s p os w (Some _) h e good = good
 
-set-own : (ss : List (List Op)) (p : ℕ) → p < length ss → set ss p (get_or ss p []) ≡ ss
+pub set-own : (ss : List (List Op)) (p : ℕ) → p < length ss → set ss p (get_or ss p []) ≡ ss
 set-own [] p h = refl
 set-own (s ∷ ss) zero h = refl
 set-own (s ∷ ss) (suc p) h = ap (λ (l : List (List Op)). s ∷ l) (set-own ss p (omega (arith, h)))
@@ -301,7 +301,7 @@ begins-on w p c o e n = ⊎_elim (λ (x : o ≡ op.Enter). subst (λ (y : Op). K
     looks g r h = grind (arith, phase-push)
 
 -- the kept waker k is used up
-kept-used : (w : World) (k f : ℕ) → slice_index_or w.wakers k None ≡ Some f → slice_get w.wakers k ≡ Some (Some f)
+pub kept-used : (w : World) (k f : ℕ) → slice_index_or w.wakers k None ≡ Some f → slice_get w.wakers k ≡ Some (Some f)
 kept-used w k f e = go w.wakers k e
   where
     go : (ws : List (Option ℕ)) (k : ℕ) → slice_index_or ws k None ≡ Some f → slice_get ws k ≡ Some (Some f)
@@ -319,7 +319,7 @@ begins-release w p k f c e g r h = let z : _ = wakers_of-used g f k w.wakers e i
 begins-drop : (w : World) (p : ℕ) (c : Call) (g : ℕ) (r : Pend) → w.gone ≡ false → r.borrowing ≡ 0 → r.polls ≡ 0 → Sound w g (with_ops g [] r) → Sound (log (record (log w (event.CallBegun p c)) { gone = true }) (event.DropBegun p)) g (with_ops g (op.TakeOut ∷ op.End reply.Done hold.Nothing ∷ []) r)
 begins-drop w p c g r n b q h = grind (arith, phase-push)
 
-none_refused : (a b c d : Bool) → unless a Busy (unless b NoSuch (unless c Gone (unless d Borrowed None))) ≡ None → (a ≡ true) × (b ≡ true) × (c ≡ true) × (d ≡ true)
+pub none_refused : (a b c d : Bool) → unless a Busy (unless b NoSuch (unless c Gone (unless d Borrowed None))) ≡ None → (a ≡ true) × (b ≡ true) × (c ≡ true) × (d ≡ true)
 none_refused true true true true e = (refl, refl, refl, refl)
 none_refused true true true false e = absurd (cc)
 none_refused true true false d e = absurd (cc)
@@ -368,10 +368,10 @@ module _ (w : World) (p : ℕ) (others : List (List Op)) where
   begins-waker c (Some g) (by.Outside x) f z k = begins-by c _ (λ g r. refl) (λ h. omega (arith, z))
   begins-waker c None (by.Outside x) f z k = begins-by c _ (λ g r. refl) (λ h. omega (arith, z))
 
-open_executor : (w : World) (c : Call) → is_on_executor c ≡ true → not (w.gone && is_on_executor c) ≡ true → w.gone ≡ false
+pub open_executor : (w : World) (c : Call) → is_on_executor c ≡ true → not (w.gone && is_on_executor c) ≡ true → w.gone ≡ false
 open_executor w c e n = grind (arith, nat_tests)
 
-unborrowed : (a : ℕ) → eqb a 0 ≡ true → a ≡ 0
+pub unborrowed : (a : ℕ) → eqb a 0 ≡ true → a ≡ 0
 unborrowed a e = grind (arith, nat_tests)
 
 begins : (w : World) (p : ℕ) (ss others : List (List Op)) (o : Option Op) (here : Option ℕ) (c : Call) → ((g : ℕ) → here ≡ Some g → past (length w.tasks) g ≡ 0) → ((v : Op → ℕ) → weigh_all v others ≤ weigh_all v ss) → has_all w ss o c ≡ true → not (w.gone && is_on_executor c) ≡ true → (not (is_drop c) || is_unused borrowing_of ss) ≡ true → Begins w (begun p (log w (event.CallBegun p c)) here c) others
@@ -436,7 +436,7 @@ pub good-run : (ts : List Step) (s : Machine) → Good s → Good (run ts s)
 good-run [] s good = good
 good-run (t ∷ ts) s good = good-run ts (stepped s (step s t)) (good-stepped s t good)
 
-weigh_all-idle : (v : Op → ℕ) (n : ℕ) → weigh_all v (idle n) ≡ 0
+pub weigh_all-idle : (v : Op → ℕ) (n : ℕ) → weigh_all v (idle n) ≡ 0
 weigh_all-idle v zero = refl
 weigh_all-idle v (suc n) = omega (arith, weigh_all-idle v n)
 

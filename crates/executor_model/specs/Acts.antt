@@ -71,7 +71,7 @@ abbrev pub put_back : World → ℕ → Done
 put_back w f = done (record w { inside = slice_set w.inside f true }) (op.EndPending f ∷ [])
 
 abbrev pub take_to_drop : World → ℕ → Done
-take_to_drop w f = done (record w { inside = slice_set w.inside f false }) (op.BeginDrop f ∷ op.LeaveTable f ∷ [])
+take_to_drop w f = done (record w { inside = slice_set w.inside f false }) (op.BeginDrop f ∷ [])
 
 abbrev pub leave_by : Bool → World → ℕ → Done
 leave_by true w f = done (record w { table = without f w.table }) (op.Release f ∷ [])
@@ -101,7 +101,7 @@ detach p w f = carried (log_if (not ((task w f).completed && not (task w f).clos
 -- user code
 
 abbrev pub begin_drop : ℕ → World → ℕ → Done
-begin_drop p w f = done (log w (event.Dropped p f)) (op.Drop f ∷ [])
+begin_drop p w f = done (log w (event.Dropped p f)) (op.Drop f ∷ op.LeaveTable f ∷ [])
 
 abbrev pub begin_drop_output : ℕ → World → ℕ → Done
 begin_drop_output p w f = done (log w (event.OutputDropped p f)) (op.DropOutput f ∷ [])

@@ -15,3 +15,5 @@ pub mod Sound
 pub mod Good
 pub mod Runs
 pub mod EveryTrace
+pub mod Entries
+pub mod Limit

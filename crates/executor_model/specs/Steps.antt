@@ -183,7 +183,7 @@ begun p w here call.DropExecutor = done (log (record w { gone = true }) (event.D
 -- what follows the end of user code
 abbrev pub react : ℕ → Op → UserEnd → World → Done
 react p (op.Poll f) (end.Polled answer.Pending) w = done (log w (event.Answered p f answer.Pending)) (op.PutBack f ∷ [])
-react p (op.Poll f) (end.Polled answer.Ready) w = done (log w (event.Answered p f answer.Ready)) (op.BeginDrop f ∷ op.LeaveTable f ∷ op.EndReady f ∷ [])
+react p (op.Poll f) (end.Polled answer.Ready) w = done (log w (event.Answered p f answer.Ready)) (op.BeginDrop f ∷ op.EndReady f ∷ [])
 react p _ _ w = done w []
 
 -- a party's part of the machine

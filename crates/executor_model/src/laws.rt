@@ -1,5 +1,7 @@
 //! Laws of every run of the machine, of any number of parties and any list of steps.
-ghost use Rattle.executor_model.specs.Runs.{EveryRun, HasOneRunnable, IsCounted};
+ghost use Rattle.executor_model.specs.Entries.{FindsPlace, QueueAgrees, TableAgrees};
+ghost use Rattle.executor_model.specs.Limit.{IsLimitExact};
+ghost use Rattle.executor_model.specs.Runs.{EveryMachine, EveryRun, HasOneRunnable, IsCounted};
 
 /// Whatever the parties do, a task's count is its living wakers, and one for a Runnable, a run or a
 /// closing call. Stored awaiters are wakers, and so are those in the table, those that the drop of the
@@ -11,4 +13,25 @@ pub fn references_are_counted()
 /// Whatever the parties do, a task has at most one Runnable, unfinished run or closing call.
 pub fn one_runnable()
     ensures { EveryRun HasOneRunnable }
+{}
+
+/// Whatever the parties do, until the drop of the executor takes the table out, an accepted future has one
+/// entry there where it is undropped or the call that dropped it has still to take the entry out; no other
+/// has one. A Runnable in the queue is one of an accepted future, and its only one there, and that future
+/// is undropped or the drop of the executor has begun.
+pub fn table_and_queue_agree()
+    ensures table { EveryRun TableAgrees }
+    ensures queue { EveryRun QueueAgrees }
+{}
+
+/// Whatever the parties do, whoever is about to append a Runnable to the queue finds a place for it.
+pub fn no_append_is_refused_full()
+    ensures { EveryRun FindsPlace }
+{}
+
+/// Whatever the parties do, a spawn is always answered that the executor is full where as many accepted
+/// futures as its limit are undropped, and only where as many are undropped or were dropped in a call that
+/// hasn't ended.
+pub fn the_limit_is_exact()
+    ensures { EveryMachine IsLimitExact }
 {}

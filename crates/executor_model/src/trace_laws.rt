@@ -1,4 +1,6 @@
 //! Laws of the trace of every run, of any number of parties and any list of steps.
+ghost use Rattle.executor_model.specs.DroppedOnce.{DropComesOnce, IsDroppedByTheEnd};
+ghost use Rattle.executor_model.specs.EarlyDrop.{EarlyDropHasCause};
 ghost use Rattle.executor_model.specs.EveryTrace.{EveryTrace};
 ghost use Rattle.executor_model.specs.LawfulPolls.{HasLawfulPolls};
 ghost use Rattle.executor_model.specs.OutputOnce.{OutputGoesOnce};
@@ -13,4 +15,21 @@ pub fn polls_are_lawful()
 /// one drop, and never both.
 pub fn outputs_go_once()
     ensures { EveryTrace OutputGoesOnce }
+{}
+
+/// Whatever the parties do, each future is dropped at most once.
+pub fn drops_come_once()
+    ensures { EveryTrace DropComesOnce }
+{}
+
+/// Whatever the parties do, a future that is dropped before it was ready was cancelled before, or the drop
+/// of the executor had begun.
+pub fn early_drops_have_causes()
+    ensures { EveryTrace EarlyDropHasCause }
+{}
+
+/// Whatever the parties do, once the drop of the executor has ended each accepted future was dropped, and
+/// was dropped once.
+pub fn closing_drops_each_future_once()
+    ensures { EveryTrace IsDroppedByTheEnd }
 {}

@@ -1,0 +1,107 @@
+-- Calls end: each step that begins none lowers the steps that remain, and a party that has something to do can go on.
+use Rattle.std.proofs.Common.{◌≡◌, ℕ, zero, suc, ◌+◌, ◌-◌, ◌<◌, ◌≤◌, List, [], ◌∷◌, ◌++◌, length, set, get_or, take, Bool, true, false, ◌&&◌, not, ltb, refl, sym, ap, ◌∙◌, subst, arith, append-nil, Ok, Err, Result}
+use Rattle.std.proofs.lemmas.Bool.Decides.{nat_tests}
+use Rattle.std.specs.Prelude.{Option, Some, None, reverse}
+use Rattle.executor_model.specs.declared.call.Reply.{Reply}
+use Rattle.executor_model.specs.declared.event.Answer.TheVariants as answer
+use Rattle.executor_model.specs.declared.event.Event.TheVariants as event
+use Rattle.executor_model.specs.declared.op.Op.{Op}
+use Rattle.executor_model.specs.declared.op.Op.TheVariants as op
+use Rattle.executor_model.specs.declared.step.Hint.{Hint}
+use Rattle.executor_model.specs.declared.step.Step.{Step}
+use Rattle.executor_model.specs.declared.step.Step.TheVariants.{Begin, Go, Answer}
+use Rattle.executor_model.specs.declared.step.StepError.{StepError}
+use Rattle.executor_model.specs.declared.step.StepError.TheVariants.{NoSuch, WrongAnswer}
+use Rattle.executor_model.specs.declared.step.UserEnd.{UserEnd}
+use Rattle.executor_model.specs.declared.step.UserEnd.TheVariants as end
+use Rattle.executor_model.specs.World.{World, Done, done, log}
+use Rattle.executor_model.specs.Acts.{act}
+use Rattle.executor_model.specs.Weights.{weigh, weigh_all}
+use Rattle.executor_laws.specs.Remaining.{steps_of, steps_kept, remaining, is_onward, are_onward, LowersRemaining, EndsWithin, CanGoOn, GoesOn}
+use Rattle.executor_model.specs.Runs.{run_all}
+use Rattle.executor_model.specs.Steps.{Machine, stack, top, below_top, waits, go_refusal, answer_refusal, accepts, unless, party_of, part_refusal, refusal, react, Part, part, end_of, settled_by, settled, onto, gone_on, part_after, with_part, after, step_by, step}
+use Rattle.executor_model.proofs.Lists.{weigh_all-push, weigh_all-set, weigh-append}
+use Rattle.executor_model.proofs.Lift.{split, topped}
+use Rattle.executor_laws.proofs.Spending.{Spends, kept-log}
+use Rattle.executor_laws.proofs.SpendingActs.{spends-act, spends-react}
+
+-- the end of a call takes no more
+settled-less : (s : Machine) (p : ℕ) (w : World) (os : List Op) (o : Option Op) → p < length s.parties → top os ≡ o → remaining (with_part s p (settled_by (end_of o) p w os)) ≤ steps_kept w + weigh_all steps_of (set s.parties p os)
+settled-less s p w os None l e = omega arith
+settled-less s p w os (Some (op.End a held)) l e = omega (arith, kept-log w (event.CallEnded p a), weigh_all-set steps_of s.parties p os l, weigh_all-set steps_of s.parties p (below_top os) l, ap (weigh steps_of) (topped os (op.End a held) e), weigh-append steps_of (below_top os) (op.End a held ∷ []))
+settled-less s p w os (Some _) l e = omega arith
+
+onto-less : (s : Machine) (p : ℕ) (o : Op) (d : Done) → p < length s.parties → top (stack s p) ≡ Some o → Spends s.world (steps_of o) d → remaining (with_part s p (onto p d (below_top (stack s p)))) < remaining s
+onto-less s p o d l e k =
+    let rest : List Op = below_top (stack s p) in
+    omega (arith, k, settled-less s p d.world (rest ++ reverse d.next) _ l refl, weigh_all-push steps_of s.parties p rest d.next l, split steps_of s.parties p (o ∷ []) rest l (topped _ o e))
+
+goes : (o : Op) → go_refusal (Some o) ≡ None → waits o ≡ false
+goes o k = by (waits o) k
+  where
+    by : (b : Bool) → unless (not b) WrongAnswer None ≡ None → b ≡ false
+    by true q = absurd (cc)
+    by false q = refl
+
+answers : (o : Op) (e : UserEnd) → answer_refusal (Some o) e ≡ None → accepts o e ≡ true
+answers o e k = by (accepts o e) k
+  where
+    by : (b : Bool) → unless b WrongAnswer None ≡ None → b ≡ true
+    by true q = refl
+    by false q = absurd (cc)
+
+less-go : (s : Machine) (p : ℕ) (h : Hint) (o : Option Op) → p < length s.parties → top (stack s p) ≡ o → go_refusal o ≡ None → remaining (with_part s p (gone_on p s.world (stack s p) o (λ x. act p h x s.world))) < remaining s
+less-go s p h None l e k = absurd (cc)
+less-go s p h (Some o) l e k = onto-less s p o (act p h o s.world) l e (spends-act p h o s.world (goes o k))
+
+less-answer : (s : Machine) (p : ℕ) (u : UserEnd) (o : Option Op) → p < length s.parties → top (stack s p) ≡ o → answer_refusal o u ≡ None → remaining (with_part s p (gone_on p s.world (stack s p) o (λ x. react p x u s.world))) < remaining s
+less-answer s p u None l e k = absurd (cc)
+less-answer s p u (Some o) l e k = onto-less s p o (react p o u s.world) l e (spends-react p o u s.world (answers o u k))
+
+there : (b : Bool) (r : Option StepError) → unless b NoSuch r ≡ None → (b ≡ true) × (r ≡ None)
+there true r e = (refl, e)
+there false r e = absurd (cc)
+
+pub lowers : (s : Machine) (t : Step) → LowersRemaining s t
+lowers s (Begin p c) o k = absurd (cc)
+lowers s (Go p h) o k =
+    let x : _ = there (ltb p (length s.parties)) (go_refusal (top (stack s p))) k in
+    less-go s p h _ (grind (arith, nat_tests)) refl x.1
+lowers s (Answer p u) o k =
+    let x : _ = there (ltb p (length s.parties)) (answer_refusal (top (stack s p)) u) k in
+    less-answer s p u _ (grind (arith, nat_tests)) refl x.1
+
+both : (a b : Bool) → (a && b) ≡ true → (a ≡ true) × (b ≡ true)
+both true b e = (refl, e)
+both false b e = absurd (cc)
+
+ends-by : (r : Option StepError) (s : Machine) (t : Step) (ts : List Step) (new : Machine) → refusal s t ≡ r → are_onward (t ∷ ts) ≡ true → ◌≡◌ {A = Result Machine StepError} (elim (step_by r s t) [ Ok next ↦ run_all ts next | Err error ↦ Err error ]) (Ok new) → ((next : Machine) → EndsWithin next ts) → length (t ∷ ts) ≤ remaining s
+ends-by (Some error) s t ts new k o q more = absurd (cc)
+ends-by None s t ts new k o q more = omega (arith, lowers s t (both (is_onward t) (are_onward ts) o).0 k, more (after s t) new (both (is_onward t) (are_onward ts) o).1 q)
+
+pub ends : (ts : List Step) (s : Machine) → EndsWithin s ts
+unfolding step
+ends [] s new o e = omega arith
+ends (t ∷ ts) s new o e = ends-by (refusal s t) s t ts new refl o e (λ next. ends ts next)
+
+-- how the user code on top may end
+abbrev user_end : Op → UserEnd
+user_end (op.Poll f) = end.Polled answer.Pending
+user_end _ = end.Done
+
+ends-so : (o : Op) → waits o ≡ true → accepts o (user_end o) ≡ true
+ends-so (op.Poll f) e = refl
+ends-so (op.Drop f) e = refl
+ends-so (op.DropOutput f) e = refl
+ends-so (op.CallOutside x) e = refl
+ends-so _ e = absurd (cc)
+
+pub goes_on : (s : Machine) → GoesOn s
+goes_on s p o l e = record {
+  goes = λ n h. allowed (go_refusal (top (stack s p))) (ap go_refusal e ∙ ap (λ (b : Bool). unless (not b) WrongAnswer None) n);
+  end = user_end o;
+  answers = λ n. allowed (answer_refusal (top (stack s p)) (user_end o)) (ap (λ (x : Option Op). answer_refusal x (user_end o)) e ∙ ap (λ (b : Bool). unless b WrongAnswer None) (ends-so o n));
+}
+  where
+    allowed : (r : Option StepError) → r ≡ None → unless (ltb p (length s.parties)) NoSuch r ≡ None
+    allowed r q = let i : ltb p (length s.parties) ≡ true = grind (arith, nat_tests) in ap (λ (b : Bool). unless b NoSuch r) i ∙ q

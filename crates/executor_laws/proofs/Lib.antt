@@ -1,0 +1,10 @@
+pub mod Spending
+pub mod SpendingActs
+pub mod Ends
+pub mod Asking
+pub mod AskingActs
+pub mod AskingRuns
+pub mod HandingOn
+pub mod Calling
+pub mod CallingActs
+pub mod QuietRuns

@@ -1,0 +1,4 @@
+pub mod Remaining
+pub mod WakesBetween
+pub mod HandingOn
+pub mod Idle

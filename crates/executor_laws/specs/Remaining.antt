@@ -1,0 +1,106 @@
+-- How many more steps can be taken where no further call begins: a whole number that the machine's state determines.
+use Rattle.std.specs.Prelude.{◌≡◌, ℕ, ◌+◌, ◌*◌, ◌<◌, ◌≤◌, Bool, true, false, ◌&&◌, not, Option, Some, None, Result, Ok, List, [], ◌∷◌, length, cond}
+use Rattle.task_moves.specs.declared.moves.state.State.{State}
+use Rattle.executor_model.specs.declared.op.Awaiter.{Awaiter}
+use Rattle.executor_model.specs.declared.op.Op.{Op}
+use Rattle.executor_model.specs.declared.op.Op.TheVariants as op
+use Rattle.executor_model.specs.declared.step.Hint.{Hint}
+use Rattle.executor_model.specs.declared.step.Step.{Step}
+use Rattle.executor_model.specs.declared.step.Step.TheVariants.{Begin, Go, Answer}
+use Rattle.executor_model.specs.declared.step.UserEnd.{UserEnd}
+use Rattle.executor_model.specs.World.{World}
+use Rattle.executor_model.specs.Weights.{weigh_all}
+use Rattle.executor_model.specs.Steps.{Machine, stack, top, waits, refusal, after}
+use Rattle.executor_model.specs.Runs.{run_all}
+
+-- so many steps may a thing to do take, with all that it leads to
+abbrev pub steps_of : Op → ℕ
+steps_of op.Enter = 42
+steps_of op.Take = 8
+steps_of op.LookAtTable = 2
+steps_of (op.Append f) = 12
+steps_of (op.WakeByReference f) = 13
+steps_of (op.Wake f) = 26
+steps_of (op.Release f) = 13
+steps_of (op.TakeUp f) = 17
+steps_of (op.SettleClosed f) = 4
+steps_of (op.GiveUp f) = 1
+steps_of (op.EndReady f) = 9
+steps_of (op.EndPending f) = 13
+steps_of (op.EndClosed f) = 4
+steps_of (op.DropRunnable f) = 10
+steps_of (op.Cancel f) = 15
+steps_of (op.Detach f) = 13
+steps_of (op.TakeToPoll f) = 16
+steps_of (op.Poll f) = 15
+steps_of (op.PutBack f) = 14
+steps_of (op.TakeToDrop f) = 5
+steps_of (op.BeginDrop f) = 3
+steps_of (op.Drop f) = 1
+steps_of (op.LeaveTable f) = 1
+steps_of (op.BeginDropOutput f) = 2
+steps_of (op.DropOutput f) = 1
+steps_of (op.CopyWaker f held) = 2
+steps_of (op.Look f a) = 34
+steps_of (op.CopyAwaiter f a) = 33
+steps_of (op.Register f a k) = 32
+steps_of (op.EndRegister f a k) = 31
+steps_of (op.LookAgain f) = 4
+steps_of (op.Notify f mine) = 2
+steps_of (op.EndNotify f mine) = 1
+steps_of (op.CallAwaiter f a k) = 26
+steps_of (op.CallOutside x) = 1
+steps_of op.TakeOut = 5
+steps_of op.DropNext = 4
+steps_of op.WakeNext = 3
+steps_of op.Close = 2
+steps_of op.Drain = 1
+steps_of (op.End a held) = 1
+
+abbrev pub stored : List (Option Awaiter) → ℕ
+stored [] = 0
+stored (None ∷ rest) = stored rest
+stored (Some a ∷ rest) = 1 + stored rest
+
+-- whether the task keeps an output
+abbrev pub keeps_output : State → ℕ
+keeps_output s = cond (s.completed && not s.closed) 1 0
+
+abbrev pub outputs_kept : List State → ℕ
+outputs_kept [] = 0
+outputs_kept (s ∷ ss) = keeps_output s + outputs_kept ss
+
+-- the steps that what the machine keeps may lead to: its Runnables, entries of the table, wakers of the executor's drop,
+-- stored awaiters and outputs
+unfoldable pub steps_kept : World → ℕ
+steps_kept w = 11 * length w.queue.items + (28 * (length w.table + length w.leaving) + (26 * length w.waking + (26 * stored w.awaiters + 3 * outputs_kept w.tasks)))
+
+abbrev pub remaining : Machine → ℕ
+remaining s = steps_kept s.world + weigh_all steps_of s.parties
+
+-- the step goes on with what was begun
+abbrev pub is_onward : Step → Bool
+is_onward (Begin p c) = false
+is_onward (Go p h) = true
+is_onward (Answer p e) = true
+
+abbrev pub are_onward : List Step → Bool
+are_onward [] = true
+are_onward (t ∷ ts) = is_onward t && are_onward ts
+
+-- each possible step that begins no call lowers the number
+abbrev pub LowersRemaining : Machine → Step → Type 0
+LowersRemaining s t = is_onward t ≡ true → refusal s t ≡ None → remaining (after s t) < remaining s
+
+-- so as many such steps as that are taken at most, whoever takes them
+abbrev pub EndsWithin : Machine → List Step → Type 0
+EndsWithin s ts = (new : Machine) → are_onward ts ≡ true → run_all ts s ≡ Ok new → length ts ≤ remaining s
+
+-- a party that has something to do can go on: by a Go, or, where it is in user code, by that code's answer
+pub record CanGoOn (s : Machine) (p : ℕ) (o : Op) : Type 0 where
+  pub goes : waits o ≡ false → (h : Hint) → refusal s (Go p h) ≡ None
+  pub end : UserEnd
+  pub answers : waits o ≡ true → refusal s (Answer p end) ≡ None
+
+abbrev pub GoesOn : Machine → Type 0
+GoesOn s = (p : ℕ) (o : Op) → p < length s.parties → top (stack s p) ≡ Some o → CanGoOn s p o

@@ -104,9 +104,8 @@ impl Workload {
             | Workload::SingleExclusive
             | Workload::UnboundedExclusive => 20_000_000,
             Workload::UnboundedOneToOne | Workload::UnboundedTwoToTwo => 5_000_000,
-            Workload::Ring1024OneToOne
-            | Workload::Ring1024TwoToTwo
-            | Workload::MachineStep => 2_000_000,
+            Workload::Ring1024OneToOne | Workload::Ring1024TwoToTwo | Workload::MachineStep =>
+                2_000_000,
             _ => 10_000_000,
         }
     }

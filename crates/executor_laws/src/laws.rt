@@ -2,9 +2,10 @@
 ghost use Rattle.std.specs.Prelude.{ℕ, List};
 ghost use Rattle.executor_laws.specs.HandingOn.{HandsOn, IsOnItsWay};
 ghost use Rattle.executor_laws.specs.Remaining.{EndsWithin, GoesOn, LowersRemaining};
+ghost use Rattle.executor_laws.specs.Ticks.{IsTickExact};
 ghost use Rattle.executor_model.specs.declared.step.Hint.{Hint};
 ghost use Rattle.executor_model.specs.declared.step.Step.{Step};
-ghost use Rattle.executor_model.specs.Runs.{EveryRun};
+ghost use Rattle.executor_model.specs.Runs.{EveryMachine, EveryRun};
 ghost use Rattle.executor_model.specs.Steps.{Machine};
 ghost use Rattle.executor_model.specs.World.{World};
 
@@ -23,4 +24,10 @@ pub fn calls_end()
 pub fn wakes_are_handed_on()
     ensures handed { (w : World) (f p : ℕ) (h : Hint) → HandsOn w f p h }
     ensures marked { EveryRun IsOnItsWay }
+{}
+
+/// Where no call is in progress and the drop of the executor hasn't begun, a tick is answered that there
+/// is nothing to do exactly where no future is due; else it takes up one that is.
+pub fn ticks_are_exact()
+    ensures { EveryMachine IsTickExact }
 {}

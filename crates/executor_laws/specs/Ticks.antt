@@ -1,0 +1,33 @@
+-- Whether a tick finds a future is answered as it is.
+use Rattle.std.specs.Prelude.{◌≡◌, ◌⊎◌, ℕ, ◌<◌, List, [], ◌∷◌, ◌++◌, length}
+use Rattle.executor_model.specs.declared.call.Call.TheVariants.{TryTick}
+use Rattle.executor_model.specs.declared.call.Reply.TheVariants.{Yes, No}
+use Rattle.executor_model.specs.declared.event.Event.TheVariants.{CallBegun, CallEnded}
+use Rattle.executor_model.specs.declared.op.Hold.TheVariants as hold
+use Rattle.executor_model.specs.declared.op.Op.TheVariants as op
+use Rattle.executor_model.specs.declared.step.Hint.{Hint}
+use Rattle.executor_model.specs.declared.step.Step.{Step}
+use Rattle.executor_model.specs.declared.step.Step.TheVariants.{Begin, Go}
+use Rattle.executor_model.specs.Due.{IsDue}
+use Rattle.executor_model.specs.Emptiness.{IsAtRest}
+use Rattle.executor_model.specs.Steps.{Machine, stack, run}
+
+-- party p calls a tick and takes the first step of it, with no step of another in between
+abbrev pub ticks : ℕ → Hint → List Step
+ticks p h = Begin p TryTick ∷ Go p h ∷ []
+
+-- the tick is answered that there is nothing to do, and has ended
+abbrev pub FindsNothing : Machine → ℕ → Hint → Type 0
+FindsNothing s p h = (run (ticks p h) s).world.trace ≡ s.world.trace ++ CallBegun p TryTick ∷ CallEnded p No ∷ []
+
+-- it has found a future that is due, takes it up next, and will be answered that it did
+pub record FindsDue (s : Machine) (p : ℕ) (h : Hint) : Type 0 where
+  pub future : ℕ
+  pub due : IsDue future s.world.trace
+  pub found : stack (run (ticks p h) s) p ≡ op.End Yes hold.Executor ∷ op.TakeUp future ∷ []
+
+-- where no call is in progress and the drop of the executor hasn't begun, a tick finds nothing exactly where no future is due
+pub record IsTickExact (s : Machine) : Type 0 where
+  pub answered : IsAtRest s → (p : ℕ) (h : Hint) → p < length s.parties → FindsNothing s p h ⊎ FindsDue s p h
+  pub always : IsAtRest s → (p : ℕ) (h : Hint) → p < length s.parties → ((f : ℕ) → ¬ IsDue f s.world.trace) → FindsNothing s p h
+  pub only : IsAtRest s → (p : ℕ) (h : Hint) → p < length s.parties → FindsNothing s p h → (f : ℕ) → ¬ IsDue f s.world.trace

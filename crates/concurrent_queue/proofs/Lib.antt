@@ -3,6 +3,7 @@ pub mod RingFaces
 pub mod RingFinds
 pub mod RingFresh
 pub mod RingKeeps
+pub mod RingMasks
 pub mod RingRests
 pub mod RingSays
 pub mod RingSlots

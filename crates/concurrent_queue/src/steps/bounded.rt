@@ -51,19 +51,20 @@ impl Shape {
         2 * self.mark
     }
 
+    #[tactic(auto, using(crate::proofs::RingMasks::index_masks))]
     /// The index of the place at a tail or a head.
     pub fn index(self, word: u64) -> u64
         ensures { result ≡ word % self.mark }
     {
-        word % self.mark
+        word & (self.mark - 1)
     }
 
-    #[tactic(auto, unfolding(crate::specs::Ring::count_at))]
+    #[tactic(auto, using(crate::proofs::RingMasks::laps_shift, crate::proofs::RingMasks::count_fits), unfolding(crate::specs::Ring::count_at))]
     /// How many items were appended before this tail, or taken before this head.
     pub fn count(self, word: u64) -> u64
         ensures { result ≡ count_at self.capacity self.mark word }
     {
-        word / self.lap() * self.capacity + self.index(word)
+        (word >> (self.bits + 1)) * self.capacity + self.index(word)
     }
 
     #[tactic(auto, using(crate::proofs::RingWords::place_fits), unfolding(crate::specs::Ring::next_at))]
@@ -95,12 +96,11 @@ impl Shape {
         }
     }
 
-    #[tactic(auto, unfolding(crate::specs::Ring::is_marked))]
     /// Whether a tail carries the mark.
     pub fn is_marked(self, tail: u64) -> bool
         ensures { result ≡ is_marked self.mark tail }
     {
-        tail / self.mark % 2 == 1
+        tail & self.mark != 0
     }
 
     // Whether the second word is so much above the first.

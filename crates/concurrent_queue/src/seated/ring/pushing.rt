@@ -163,18 +163,12 @@ fn put<T, R: Wait>(
             Turn::Stamp(tail) => turn = at_stamp(board, pass, shape, manner, tail),
             Turn::Append(tail) => match append(board, pass, shape, manner, tail, value) {
                 Ok(()) => return Ok(None),
-                Err((after, back)) => {
-                    turn = after;
-                    value = back;
-                }
+                Err(left) => (turn, value) = left,
             },
             Turn::HeadFor(tail) => turn = at_head(board, pass, shape, manner, tail),
             Turn::Displace(tail) => match displace(board, pass, shape, tail, value) {
                 Ok(oldest) => return Ok(Some(oldest)),
-                Err((after, back)) => {
-                    turn = after;
-                    value = back;
-                }
+                Err(left) => (turn, value) = left,
             },
             Turn::Tail => {
                 backoff.snooze();

@@ -86,15 +86,13 @@ fn answer(steps: &mut Vec<Step>, end: UserEnd, steps_after: u32) -> Result<(), A
 
 fn go(steps: &mut Vec<Step>, count: u32) -> Result<(), AllocError> {
     for _ in 0..count {
-        steps.push(
-            Step::Go {
-                party: 0,
-                hint: Hint {
-                    refused: false,
-                    same: false,
-                },
+        steps.push(Step::Go {
+            party: 0,
+            hint: Hint {
+                refused: false,
+                same: false,
             },
-        )?;
+        })?;
     }
     Ok(())
 }

@@ -1,5 +1,5 @@
 use concurrent_queue::{NoMemory, PopError, PushError};
-use std::alloc::AllocError;
+use std::alloc::{AllocError, AllocFailed};
 use std::{fmt, io};
 
 /// What the program ends on, where it doesn't end well. Its text goes to standard error.
@@ -45,6 +45,12 @@ impl From<io::Error> for Fault {
 
 impl From<AllocError> for Fault {
     fn from(_error: AllocError) -> Fault {
+        Fault::NoMemory
+    }
+}
+
+impl<T: Drop> From<AllocFailed<T>> for Fault {
+    fn from(_error: AllocFailed<T>) -> Fault {
         Fault::NoMemory
     }
 }

@@ -11,11 +11,13 @@ mod hand_over;
 mod line;
 mod queue;
 mod steps;
+mod task;
 #[cfg(test)]
 mod tests;
 mod timing;
 mod workload;
 
+use async_task::Realm;
 use fault::Fault;
 use line::Line;
 use std::env;
@@ -23,10 +25,16 @@ use std::process::ExitCode;
 use std::rt::{Clock, Env};
 use std::sync::Wait;
 use std::thread::Threads;
+use task::Tasks;
 use workload::{ALL, Workload};
 
 fn main(rt: HostRuntime) -> ExitCode {
-    match run(&rt) {
+    // Generic code that makes a realm and works on it gets no proof, so it is made here.
+    let ended = match Realm::leak(rt.alloc(), 0) {
+        Ok(realm) => run(&rt, realm),
+        Err(_) => Err(Fault::NoMemory),
+    };
+    match ended {
         Ok(()) => ExitCode::SUCCESS,
         Err(fault) => {
             // A fault that can't be told still has its status.
@@ -37,21 +45,21 @@ fn main(rt: HostRuntime) -> ExitCode {
 }
 
 /// Does what the arguments ask.
-fn run<R: AllocGlobal + Env + Print + Eprint + Clock + Wait + Threads + Sync>(
-    rt: &R,
-) -> Result<(), Fault> {
+fn run<
+    R: AllocGlobal + Env + Print + Eprint + Clock + Wait + Threads + Sync + Copy + Drop + 'static,
+>(rt: &R, realm: &'static Tasks<R>) -> Result<(), Fault> {
     let words: Vec<String> = env::args(rt)?.skip(1).collect(rt.alloc())?;
     match words.as_slice() {
         [] => list(rt),
         [word] => {
             if word.as_str() == "all" {
-                time_all(rt)
+                time_all(rt, realm)
             } else {
                 let workload = asked(word)?;
-                time(rt, workload, workload.usual_ops())
+                time(rt, realm, workload, workload.usual_ops())
             }
         }
-        [word, count] => time(rt, asked(word)?, operations(count)?),
+        [word, count] => time(rt, realm, asked(word)?, operations(count)?),
         _ => Err(Fault::Usage),
     }
 }
@@ -63,24 +71,25 @@ fn list<R: Print>(rt: &R) -> Result<(), Fault> {
     Ok(())
 }
 
-fn time_all<R: AllocGlobal + Print + Eprint + Clock + Wait + Threads + Sync>(
-    rt: &R,
-) -> Result<(), Fault> {
+fn time_all<
+    R: AllocGlobal + Print + Eprint + Clock + Wait + Threads + Sync + Copy + Drop + 'static,
+>(rt: &R, realm: &'static Tasks<R>) -> Result<(), Fault> {
     for workload in ALL {
-        time(rt, workload, workload.usual_ops())?;
+        time(rt, realm, workload, workload.usual_ops())?;
     }
     Ok(())
 }
 
 /// Runs a workload, and prints its line. What it moved is told on standard error, so that no compiler leaves it out.
-fn time<R: AllocGlobal + Print + Eprint + Clock + Wait + Threads + Sync>(
+fn time<R: AllocGlobal + Print + Eprint + Clock + Wait + Threads + Sync + Copy + Drop + 'static>(
     rt: &R,
+    realm: &'static Tasks<R>,
     workload: Workload,
     ops: u64,
 ) -> Result<(), Fault>
     requires { 0 < ops }
 {
-    let timing = workload.run(rt, ops)?;
+    let timing = workload.run(rt, realm, ops)?;
     eprintln!(rt; "{} moved {}", workload.name(), timing.moved)?;
     let line = Line {
         name: workload.name(),

@@ -1,6 +1,7 @@
 use crate::hand_over::share;
 use crate::line::Line;
 use crate::workload::{ALL, Workload};
+use async_task::Realm;
 use std::test::Fail;
 use std::time::Duration;
 
@@ -19,14 +20,24 @@ fn a_name_names_one_workload(rt: HostRuntime) {
 
 #[test]
 fn each_workload_moves_what_it_was_asked_to(rt: HostRuntime) -> Result<(), Fail> {
+    let realm = Realm::leak(rt.alloc(), 0)?;
     for workload in ALL {
         let want = match workload {
-            Workload::FetchAdd | Workload::MutexLock | Workload::MachineStep => 3000,
+            Workload::FetchAdd
+            | Workload::MutexLock
+            | Workload::MachineStep
+            | Workload::DropHandle
+            | Workload::WakeRun
+            | Workload::SelfWake
+            | Workload::WakeTwice
+            | Workload::WakerClone
+            | Workload::PollPending
+            | Workload::SelfWakeLocalTask => 3000,
             Workload::Len => 15_000,
             Workload::Ring1024TwoToTwo | Workload::UnboundedTwoToTwo => 2 * BELOW_1500,
             _ => BELOW_3000,
         };
-        match workload.run(&rt, 3000) {
+        match workload.run(&rt, realm, 3000) {
             Ok(timing) => assert_eq!(rt; timing.moved, want, "{}", workload.name()),
             Err(fault) => panic!(rt; "{}: {fault}", workload.name()),
         }

@@ -1,10 +1,11 @@
-ghost use Rattle.std.specs.Prelude.{◌<◌};
+ghost use Rattle.std.specs.Prelude.{◌<◌, IfSome};
 
 use crate::fault::Fault;
+use crate::task::Tasks;
 use crate::timing::Timing;
-use crate::{base, hand_over, queue, steps};
-use concurrent_queue::{ConcurrentQueue, Exclusive};
-use std::alloc::AllocGlobal;
+use crate::{base, hand_over, queue, steps, task};
+use concurrent_queue::{ConcurrentQueue, Exclusive, NoMemory};
+use std::alloc::{AllocGlobal, Global};
 use std::rt::Clock;
 use std::sync::Wait;
 use std::thread::Threads;
@@ -43,10 +44,26 @@ pub enum Workload {
     UnboundedExclusive,
     /// A step of the step machine, over a thousand futures.
     MachineStep,
+    /// A ready future from its spawn to its output.
+    SpawnRun,
+    /// A task whose handle is dropped before it is run.
+    DropHandle,
+    /// A wake of an idle task, and the run.
+    WakeRun,
+    /// A run of a future that wakes itself.
+    SelfWake,
+    /// A wake of a task that is queued already.
+    WakeTwice,
+    /// A waker copied and dropped.
+    WakerClone,
+    /// A poll of the handle of an unfinished task.
+    PollPending,
+    /// As `SelfWake`, on a task of one owner.
+    SelfWakeLocalTask,
 }
 
 /// Every workload, in the order in which they are listed and run.
-pub const ALL: [Workload; 18] = [
+pub const ALL: [Workload; 26] = [
     Workload::FetchAdd,
     Workload::MutexLock,
     Workload::Single,
@@ -65,6 +82,14 @@ pub const ALL: [Workload; 18] = [
     Workload::Ring1024Exclusive,
     Workload::UnboundedExclusive,
     Workload::MachineStep,
+    Workload::SpawnRun,
+    Workload::DropHandle,
+    Workload::WakeRun,
+    Workload::SelfWake,
+    Workload::WakeTwice,
+    Workload::WakerClone,
+    Workload::PollPending,
+    Workload::SelfWakeLocalTask,
 ];
 
 impl Workload {
@@ -90,6 +115,14 @@ impl Workload {
             Workload::Ring1024Exclusive => "queue/ring-1024@exclusive",
             Workload::UnboundedExclusive => "queue/unbounded@exclusive",
             Workload::MachineStep => "machine/step",
+            Workload::SpawnRun => "task/spawn-run",
+            Workload::DropHandle => "task/drop-handle",
+            Workload::WakeRun => "task/wake-run",
+            Workload::SelfWake => "task/self-wake",
+            Workload::WakeTwice => "task/wake-twice",
+            Workload::WakerClone => "task/waker-clone",
+            Workload::PollPending => "task/poll-pending",
+            Workload::SelfWakeLocalTask => "task/self-wake@local-task",
         }
     }
 
@@ -104,8 +137,12 @@ impl Workload {
             | Workload::SingleExclusive
             | Workload::UnboundedExclusive => 20_000_000,
             Workload::UnboundedOneToOne | Workload::UnboundedTwoToTwo => 5_000_000,
-            Workload::Ring1024OneToOne | Workload::Ring1024TwoToTwo | Workload::MachineStep =>
-                2_000_000,
+            Workload::Ring1024OneToOne
+            | Workload::Ring1024TwoToTwo
+            | Workload::MachineStep
+            | Workload::WakeRun
+            | Workload::SelfWake => 2_000_000,
+            Workload::SpawnRun | Workload::DropHandle => 1_000_000,
             _ => 10_000_000,
         }
     }
@@ -120,76 +157,86 @@ impl Workload {
         None
     }
 
-    /// Does so many operations. What is worked on is made before the clock starts.
-    pub fn run<R: AllocGlobal + Clock + Wait + Threads + Sync>(
+    /// Does so many operations. What is worked on is made before the clock starts. Tasks lie in
+    /// the realm.
+    pub fn run<R: AllocGlobal + Clock + Wait + Threads + Sync + Copy + Drop + 'static>(
         self,
         rt: &R,
+        realm: &'static Tasks<R>,
         ops: u64,
     ) -> Result<Timing, Fault> {
         let alloc = rt.alloc();
         match self {
             Workload::FetchAdd => base::fetch_add(rt, ops),
             Workload::MutexLock => base::mutex_lock(rt, ops),
-            Workload::Single => queue::push_and_pop(rt, &ConcurrentQueue::bounded(alloc, 1)?, ops),
-            Workload::Ring8 => queue::push_and_pop(rt, &ConcurrentQueue::bounded(alloc, 8)?, ops),
-            Workload::Ring1024 => queue::push_and_pop(
+            Workload::SingleExclusive
+            | Workload::Ring8Exclusive
+            | Workload::Ring1024Exclusive
+            | Workload::UnboundedExclusive => queue::push_and_pop_alone(
                 rt,
-                &ConcurrentQueue::bounded(alloc, 1024)?,
-                ops,
-            ),
-            Workload::Unbounded => queue::push_and_pop(rt, &ConcurrentQueue::unbounded(alloc), ops),
-            Workload::Ring1024Burst => queue::bursts(
-                rt,
-                &ConcurrentQueue::bounded(alloc, 1024)?,
-                ops,
-            ),
-            Workload::UnboundedBurst => queue::bursts(rt, &ConcurrentQueue::unbounded(alloc), ops),
-            Workload::Len => queue::len(rt, &ConcurrentQueue::bounded(alloc, 512)?, ops),
-            Workload::Ring1024OneToOne => hand_over::time(
-                rt,
-                &ConcurrentQueue::bounded(alloc, 1024)?,
-                1,
-                ops,
-            ),
-            Workload::Ring1024TwoToTwo => hand_over::time(
-                rt,
-                &ConcurrentQueue::bounded(alloc, 1024)?,
-                2,
-                ops,
-            ),
-            Workload::UnboundedOneToOne => hand_over::time(
-                rt,
-                &ConcurrentQueue::unbounded(alloc),
-                1,
-                ops,
-            ),
-            Workload::UnboundedTwoToTwo => hand_over::time(
-                rt,
-                &ConcurrentQueue::unbounded(alloc),
-                2,
-                ops,
-            ),
-            Workload::SingleExclusive => queue::push_and_pop_alone(
-                rt,
-                Exclusive::bounded(alloc, 1)?,
-                ops,
-            ),
-            Workload::Ring8Exclusive => queue::push_and_pop_alone(
-                rt,
-                Exclusive::bounded(alloc, 8)?,
-                ops,
-            ),
-            Workload::Ring1024Exclusive => queue::push_and_pop_alone(
-                rt,
-                Exclusive::bounded(alloc, 1024)?,
-                ops,
-            ),
-            Workload::UnboundedExclusive => queue::push_and_pop_alone(
-                rt,
-                Exclusive::unbounded(alloc),
+                self.queue_of_one(alloc)?,
                 ops,
             ),
             Workload::MachineStep => steps::run(rt, ops),
+            Workload::SpawnRun => task::spawn_run(*rt, alloc, realm, ops),
+            Workload::DropHandle => task::drop_handle(*rt, alloc, realm, ops),
+            Workload::WakeRun => task::wake_run(*rt, alloc, realm, ops),
+            Workload::SelfWake => task::self_wake(*rt, alloc, realm, ops),
+            Workload::WakeTwice => task::wake_twice(*rt, alloc, realm, ops),
+            Workload::WakerClone => task::waker_clone(*rt, alloc, realm, ops),
+            Workload::PollPending => task::poll_pending(*rt, alloc, realm, ops),
+            Workload::SelfWakeLocalTask => task::self_wake_alone(rt, ops),
+            _ => self.run_on_shared_queue(rt, ops),
+        }
+    }
+
+    fn run_on_shared_queue<R: AllocGlobal + Clock + Wait + Threads + Sync>(
+        self,
+        rt: &R,
+        ops: u64,
+    ) -> Result<Timing, Fault> {
+        let queue = self.shared_queue(rt.alloc())?;
+        match self {
+            Workload::Ring1024Burst | Workload::UnboundedBurst => queue::bursts(rt, &queue, ops),
+            Workload::Len => queue::len(rt, &queue, ops),
+            Workload::Ring1024OneToOne | Workload::UnboundedOneToOne => {
+                hand_over::time(rt, &queue, 1, ops)
+            }
+            Workload::Ring1024TwoToTwo | Workload::UnboundedTwoToTwo => {
+                hand_over::time(rt, &queue, 2, ops)
+            }
+            _ => queue::push_and_pop(rt, &queue, ops),
+        }
+    }
+
+    /// The capacity of the queue that it works on, where it works on one that has a limit.
+    fn capacity(self) -> Option<usize>
+        ensures { IfSome result (λ capacity. 0 < capacity) }
+    {
+        match self {
+            Workload::Single | Workload::SingleExclusive => Some(1),
+            Workload::Ring8 | Workload::Ring8Exclusive => Some(8),
+            Workload::Len => Some(512),
+            Workload::Ring1024
+            | Workload::Ring1024Burst
+            | Workload::Ring1024OneToOne
+            | Workload::Ring1024TwoToTwo
+            | Workload::Ring1024Exclusive => Some(1024),
+            _ => None,
+        }
+    }
+
+    fn shared_queue(self, alloc: Global) -> Result<ConcurrentQueue<u64>, NoMemory> {
+        match self.capacity() {
+            Some(capacity) => ConcurrentQueue::bounded(alloc, capacity),
+            None => Ok(ConcurrentQueue::unbounded(alloc)),
+        }
+    }
+
+    fn queue_of_one(self, alloc: Global) -> Result<Exclusive<u64>, NoMemory> {
+        match self.capacity() {
+            Some(capacity) => Exclusive::bounded(alloc, capacity),
+            None => Ok(Exclusive::unbounded(alloc)),
         }
     }
 }

@@ -1,6 +1,9 @@
 //! The machine.
 ghost use Rattle.std.specs.Prelude.{◌≡◌, ◌⊎◌, ℕ, ◌+◌, ◌<◌, ◌≤◌, Some, None, Ok, Err, vec_len, vec_capacity, OnOk, IfOk, IfErr, IfSome, MatchOption, slice_get, take, List, length, map};
 ghost use Rattle.executor_model.specs.Steps as steps;
+ghost use Rattle.executor_model.specs.AskedPolls.{IsWokenBetweenPolls};
+ghost use Rattle.executor_model.specs.DroppedOnce.{DropComesOnce, IsDroppedByTheEnd};
+ghost use Rattle.executor_model.specs.EarlyDrop.{EarlyDropHasCause};
 ghost use Rattle.executor_model.specs.LawfulPolls.{HasLawfulPolls};
 ghost use Rattle.executor_model.specs.OutputOnce.{OutputGoesOnce};
 ghost use Rattle.executor_model.specs.Runs.{run_all};
@@ -13,7 +16,10 @@ use crate::entries::Entries;
 use crate::part::take_part;
 use crate::possible::{has_handle, part_refusal};
 use crate::store::Store;
-use executor_model::trace_laws::{outputs_go_once, polls_are_lawful};
+use executor_model::trace_laws::{
+    closing_drops_each_future_once, drops_come_once, early_drops_have_causes, outputs_go_once,
+    polls_are_asked_for, polls_are_lawful,
+};
 use executor_model::{Awaiter, Event, Op, Step, StepError};
 use std::alloc::{AllocError, Global};
 use std::collections::VecDeque;
@@ -160,10 +166,18 @@ impl Machine {
         ensures refused { IfSome result (λ r. (t : Step) × (slice_get list.now r.0 ≡ Some t) × IsRefused self.new t r.1) }
         ensures polls_are_lawful { (f : ℕ) → HasLawfulPolls f self.new.world.trace }
         ensures outputs_go_once { (f : ℕ) → OutputGoesOnce f self.new.world.trace }
+        ensures polls_are_asked_for { (f : ℕ) → IsWokenBetweenPolls f self.new.world.trace }
+        ensures drops_come_once { (f : ℕ) → DropComesOnce f self.new.world.trace }
+        ensures early_drops_have_causes { (f : ℕ) → EarlyDropHasCause f self.new.world.trace }
+        ensures closing_drops { (f : ℕ) → IsDroppedByTheEnd f self.new.world.trace }
     {
         let refused = self.run_on(list);
         polls_are_lawful();
         outputs_go_once();
+        polls_are_asked_for();
+        drops_come_once();
+        early_drops_have_causes();
+        closing_drops_each_future_once();
         refused
     }
 
@@ -183,8 +197,9 @@ impl Machine {
         None
     }
 
-    /// Its state is one to which steps lead.
-    fn is_reached(&self)
+    /// Its state is one to which steps of a new machine lead, so each law of every list of steps holds of
+    /// it. Does nothing.
+    pub fn is_reached(&self)
         ensures { IsReached self.now }
     {
         let _ = &self.store;

@@ -2,6 +2,7 @@ pub mod Fault
 pub mod Play
 pub mod Turn
 pub mod Commands
+pub mod Lawful
 pub mod EventText
 pub mod EndText
 pub mod Text

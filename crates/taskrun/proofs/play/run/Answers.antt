@@ -1,8 +1,10 @@
-use Rattle.std.proofs.Common.{◌≡◌, ℕ, suc, ◌+◌, ◌<◌, List, ◌∷◌, length, drop, get_or, subst, sym, ap, ◌∙◌, add-one}
+use Rattle.std.proofs.Common.{rules, ◌≡◌, ℕ, suc, ◌+◌, ◌<◌, List, ◌∷◌, length, drop, get_or, subst, sym, ap, ◌∙◌, ◌≤◌, add-one, refl, arith}
 use Rattle.std.proofs.Math.Seq.{drop-cons}
+use Rattle.std.proofs.lemmas.List.{drop_all}
 use Rattle.script.specs.declared.command.Command.{Command}
 use Rattle.taskrun.specs.Play.{Player}
 use Rattle.taskrun.specs.Commands.{Plays, PlaysAll}
+use Rattle.taskrun.specs.Lawful.{IsLawful}
 use Rattle.taskrun.proofs.play.run.Goals as goal
 
 -- the command at i and those behind it are the commands from i on
@@ -22,3 +24,16 @@ loop-at-preserved c = λ last later.
     let i = c.loop-at.at in
     let here = from_here cs i c.index-commands-at.result c.loop-at-test.true c.index-commands-at.is in
     c.loop-at.invariant last (plays_on cs i c.index-commands-at.result c.loop-at.player c.play.new.self last here c.in_ok-play.ensures later)
+
+-- no command is left
+played_all : (cs : List Command) (i : ℕ) (s : Player) → length cs ≤ i → PlaysAll i (drop i cs) s s
+played_all cs i s past = subst (λ (ds : List Command). PlaysAll i ds s s) (sym (drop_all i cs (omega (arith, past)))) refl
+
+pub returns : goal.returns
+returns c = (
+  c.loop-at.player,
+  c.loop-at.invariant c.loop-at.player (played_all c.args.commands.now c.loop-at.at c.loop-at.player c.loop-at-test.false),
+  search rules,
+  search rules,
+  subst (λ (x : Player). IsLawful x.machine.world.trace) c.player-2.view_is c.keeps_to_laws.ensures,
+)

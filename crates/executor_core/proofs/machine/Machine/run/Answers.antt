@@ -1,3 +1,6 @@
+use Rattle.executor_model.specs.AskedPolls.{IsWokenBetweenPolls}
+use Rattle.executor_model.specs.DroppedOnce.{DropComesOnce, IsDroppedByTheEnd}
+use Rattle.executor_model.specs.EarlyDrop.{EarlyDropHasCause}
 use Rattle.executor_model.specs.LawfulPolls.{HasLawfulPolls}
 use Rattle.executor_model.specs.OutputOnce.{OutputGoesOnce}
 use Rattle.executor_core.proofs.Reaching.{law_here}
@@ -8,3 +11,15 @@ returns-clause-polls_are_lawful c = law_here HasLawfulPolls c.polls_are_lawful.e
 
 pub returns-clause-outputs_go_once : goal.returns-clause-outputs_go_once
 returns-clause-outputs_go_once c = law_here OutputGoesOnce c.outputs_go_once.ensures _ c.run_on-refused.ensures.reached
+
+pub returns-clause-polls_are_asked_for : goal.returns-clause-polls_are_asked_for
+returns-clause-polls_are_asked_for c = law_here IsWokenBetweenPolls c.polls_are_asked_for.ensures _ c.run_on-refused.ensures.reached
+
+pub returns-clause-drops_come_once : goal.returns-clause-drops_come_once
+returns-clause-drops_come_once c = law_here DropComesOnce c.drops_come_once.ensures _ c.run_on-refused.ensures.reached
+
+pub returns-clause-early_drops_have_causes : goal.returns-clause-early_drops_have_causes
+returns-clause-early_drops_have_causes c = law_here EarlyDropHasCause c.early_drops_have_causes.ensures _ c.run_on-refused.ensures.reached
+
+pub returns-clause-closing_drops : goal.returns-clause-closing_drops
+returns-clause-closing_drops c = law_here IsDroppedByTheEnd c.closing_drops_each_future_once.ensures _ c.run_on-refused.ensures.reached

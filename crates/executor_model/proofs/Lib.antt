@@ -28,3 +28,9 @@ pub mod Calls
 pub mod Resting
 pub mod Handing
 pub mod Quieting
+pub mod Awaited
+pub mod AwaitedActs
+pub mod AwaitedLists
+pub mod AwaitedTies
+pub mod AwaitedClosing
+pub mod AwaitedHeld

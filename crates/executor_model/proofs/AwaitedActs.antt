@@ -25,6 +25,9 @@ use Rattle.executor_model.specs.declared.op.Hold.{Hold}
 use Rattle.executor_model.specs.declared.op.Op.{Op}
 use Rattle.executor_model.specs.declared.op.Op.TheVariants as op
 use Rattle.executor_model.specs.declared.step.Hint.{Hint}
+use Rattle.executor_model.specs.declared.step.UserEnd.{UserEnd}
+use Rattle.executor_model.specs.declared.step.UserEnd.TheVariants as end
+use Rattle.executor_model.specs.Steps.{accepts, react}
 use Rattle.executor_model.specs.World.{World, Done, done, log, log_if, task, put, awaiter_of, put_awaiter, among}
 use Rattle.executor_model.specs.Carried.{carried, owed_ops}
 use Rattle.executor_model.specs.Acts
@@ -281,10 +284,10 @@ awaits-drain (f ∷ rest) p w e g r yy mm bb h = let z : same g f + times g (dro
 
 
 -- the answers of user code
-pub awaits-pending : (p : ℕ) (w : World) (f : ℕ) → KeepsAwaits w (op.Poll f ∷ []) (done (log w (event.Answered p f answer.Pending)) (op.PutBack f ∷ []))
+awaits-pending : (p : ℕ) (w : World) (f : ℕ) → KeepsAwaits w (op.Poll f ∷ []) (done (log w (event.Answered p f answer.Pending)) (op.PutBack f ∷ []))
 awaits-pending p w f g r yy mm bb h = grind (arith, same_is, heard-push)
 
-pub awaits-ready : (p : ℕ) (w : World) (f : ℕ) → KeepsAwaits w (op.Poll f ∷ []) (done (log w (event.Answered p f answer.Ready)) (op.BeginDrop f ∷ op.EndReady f ∷ []))
+awaits-ready : (p : ℕ) (w : World) (f : ℕ) → KeepsAwaits w (op.Poll f ∷ []) (done (log w (event.Answered p f answer.Ready)) (op.BeginDrop f ∷ op.EndReady f ∷ []))
 awaits-ready p w f g r yy mm bb h = grind (arith, same_is, heard-push)
 
 awaits-end_register_by : (b : Bool) (w : World) (f : ℕ) (a : Waker) (k : ℕ) → (task w f).notifying ≡ b → f < length w.tasks → f < length w.awaiters → KeepsAwaits w (op.EndRegister f a k ∷ []) (end_register_by b w f a k)
@@ -394,3 +397,12 @@ awaits-act p h op.WakeNext w n u z m = awaits-wake_first p w _ refl (first_known
 awaits-act p h op.Close w n u z m = awaits-close w
 awaits-act p h op.Drain w n u z m = awaits-drain _ p w refl
 awaits-act p h (op.End a held) w n u z m = absurd (cc)
+
+-- the end of user code
+pub awaits-react : (p : ℕ) (o : Op) (u : UserEnd) (w : World) → accepts o u ≡ true → KeepsAwaits w (o ∷ []) (react p o u w)
+awaits-react p (op.Poll f) (end.Polled answer.Pending) w a = awaits-pending p w f
+awaits-react p (op.Poll f) (end.Polled answer.Ready) w a = awaits-ready p w f
+awaits-react p (op.Drop f) end.Done w a = λ g r yy mm bb h. h
+awaits-react p (op.DropOutput f) end.Done w a = λ g r yy mm bb h. h
+awaits-react p (op.CallOutside x) end.Done w a = λ g r yy mm bb h. h
+awaits-react p _ _ w a = absurd (cc)

@@ -342,7 +342,7 @@ same-begun p w here call.DropExecutor n = absurd (cc)
 same-begun p w here _ n = refl
 
 sweeps-begun : (b : Bool) (p : ℕ) (w : World) (here : Option ℕ) (c : Call) → is_drop c ≡ b → not (w.gone && is_on_executor c) ≡ true → KeepsSweeps w [] (begun p (log w (event.CallBegun p c)) here c)
-sweeps-begun false p w here c n on = sweeps-still w [] _ (same-begun p w here c n) refl (no-steps _ (plain-begun p _ here c n))
+sweeps-begun false p w here c n on = sweeps-still w [] (begun p (log w (event.CallBegun p c)) here c) (same-begun p w here c n) refl (no-steps _ (plain-begun p (log w (event.CallBegun p c)) here c n))
 sweeps-begun true p w here call.DropExecutor n on = λ r h. let z : w.gone ≡ false = open_executor w call.DropExecutor refl on in grind arith
 sweeps-begun true p w here _ n on = absurd (cc)
 
@@ -383,7 +383,7 @@ swept-moves : (s : Machine) (p : ℕ) (old rest : List Op) (d : Done) → Good s
 swept-moves s p old rest d good l e w h = swept-unsettled s p old rest d l e (sweeps-way s p old rest d w) h
 
 swept-ends : (s : Machine) (p : ℕ) (a : Reply) (held : Hold) (below : List Op) → p < length s.parties → stack s p ≡ below ++ reverse (op.End a held ∷ []) → Swept s → Swept (unsettled s p below (done (log s.world (event.CallEnded p a)) []))
-swept-ends s p a held below l e h = swept-unsettled s p (op.End a held ∷ []) below _ l e (λ r k. k) h
+swept-ends s p a held below l e h = swept-unsettled s p (op.End a held ∷ []) below (done (log s.world (event.CallEnded p a)) []) l e (λ r k. k) h
 
 swept-start : (limit n : ℕ) → Swept (start limit n)
 swept-start limit n = subst (Sweeps (lists (start limit n).world)) (sym (λ i. record {

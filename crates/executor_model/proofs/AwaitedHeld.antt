@@ -64,7 +64,7 @@ spot-more zero calls s h = absurd (omega (arith, h))
 spot-more (suc n) calls s h = refl
 
 pub seen-light : (g : ℕ) (s : Spot) (os : List Op) → weigh (asks_of g) os ≡ 0 → seen g s os ≡ record { found = s.found; inner = weigh calling_of os + s.inner }
-seen-light g s [] z = refl
+seen-light g s [] z = ap (λ (n : ℕ). let t : Spot = record { found = s.found; inner = n } in t) (let q : s.inner ≡ 0 + s.inner = omega arith in q)
 seen-light g s (o ∷ os) z =
     ap (λ (t : Spot). seen g t os) (spot-none (asks_of g o) (calling_of o) s (omega (arith, z)))
     ∙ (seen-light g (record s { inner = calling_of o + s.inner }) os (omega (arith, z))

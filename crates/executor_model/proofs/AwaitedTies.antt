@@ -143,7 +143,7 @@ pub tied-moves : (s : Machine) (p : ℕ) (old rest : List Op) (d : Done) → p <
 tied-moves s p old rest d l e w h = tied-unsettled s p old rest d l e (λ g. ties-way g s p old rest d w) h
 
 pub tied-ends : (s : Machine) (p : ℕ) (a : Reply) (held : Hold) (below : List Op) → p < length s.parties → stack s p ≡ below ++ reverse (op.End a held ∷ []) → AllTied s → AllTied (unsettled s p below (done (log s.world (event.CallEnded p a)) []))
-tied-ends s p a held below l e h = tied-unsettled s p (op.End a held ∷ []) below _ l e (λ g. ties-light g _ _ refl) h
+tied-ends s p a held below l e h = tied-unsettled s p (op.End a held ∷ []) below (done (log s.world (event.CallEnded p a)) []) l e (λ g. ties-light g _ _ refl) h
 
 -- so who notifies for the handle does it in a poll that has its answer
 

@@ -34,3 +34,7 @@ pub mod AwaitedLists
 pub mod AwaitedTies
 pub mod AwaitedClosing
 pub mod AwaitedHeld
+pub mod AwaitedTelling
+pub mod AwaitedCalls
+pub mod AwaitedRuns
+pub mod AwaitedRest

@@ -187,7 +187,7 @@ deep-moves s p old rest d good l e (called c q r n z) h =
 deep-ends : (s : Machine) (p : ℕ) (a : Reply) (held : Hold) (below : List Op) → p < length s.parties → stack s p ≡ below ++ reverse (op.End a held ∷ []) → Deep s → Deep (unsettled s p below (done (log s.world (event.CallEnded p a)) []))
 deep-ends s p a held below l e h = ended-call s p a held below l e h
 
-idle-stack : (n q : ℕ) → get_or (idle n) q [] ≡ []
+pub idle-stack : (n q : ℕ) → get_or (idle n) q [] ≡ []
 idle-stack zero q = refl
 idle-stack (suc n) zero = refl
 idle-stack (suc n) (suc q) = idle-stack n q

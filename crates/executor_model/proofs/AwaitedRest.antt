@@ -12,9 +12,10 @@ use Rattle.executor_model.specs.Weights.{weigh_all, handling_of, borrowing_of}
 use Rattle.executor_model.specs.Sound.{Sound, Pend, pend, times, phase, waiting_of, polls_of, ending_of, ready_of, settling_of, giving_of, drops_of, releases_of, copies_of, ousting_of}
 use Rattle.executor_model.specs.Sound as sound
 use Rattle.executor_model.specs.Sound.Phase.{Over}
-use Rattle.executor_model.specs.Good.{Good}
+use Rattle.executor_model.specs.Good.{Good, past}
 use Rattle.executor_model.specs.Entries.{leaves_of}
 use Rattle.executor_model.specs.Steps.{Machine, stack, run, start}
+use Rattle.executor_model.proofs.Lists.{past_is}
 use Rattle.executor_model.proofs.Lift.{good}
 use Rattle.executor_model.proofs.Resting.{Deep, deep, rests, all-rest}
 use Rattle.executor_model.proofs.Stories.{story}
@@ -40,7 +41,7 @@ no-times g (x ∷ xs) e = absurd (omega (arith, e))
 -- where nothing is left to do, a dropped future has no Runnable
 none-queued : (gone : Bool) (w : World) (g : ℕ) → w.gone ≡ gone → Leaves w g nothing_pending nothing_more → Sweeps (lists w) nothing_swept → 1 ≤ (story g w.trace).fallen → times g w.queue.items ≡ 0
 none-queued true w g e l v k = ⊎_elim (λ (x : 1 ≤ 0). absurd (omega (arith, x))) (λ (x : length w.queue.items ≡ 0). no-times g w.queue.items x) (v.drained e)
-none-queued false w g e l v k = grind arith
+none-queued false w g e l v k = let z : _ = (past_is (length w.tasks) g).1 in grind arith
 
 none-waking : (w : World) (g : ℕ) → Sweeps (lists w) nothing_swept → w.gone ≡ true → times g w.waking ≡ 0
 none-waking w g v e = ⊎_elim (λ (x : 1 ≤ 0). absurd (omega (arith, x))) (λ (x : length w.waking ≡ 0). no-times g w.waking x) (v.awake e)
@@ -59,12 +60,15 @@ not-running false w g e h = refl
 not-running true w g e h = absurd (omega (arith, h.going e))
 
 -- a task that is settled is one
-known-task : (w : World) (g : ℕ) → ((task w g).closed ≡ true) ⊎ ((task w g).completed ≡ true) → (length w.tasks ≤ g) → ⊥
-known-task w g h l = let z : task w g ≡ blank = get_or_past w.tasks g blank l in grind arith
+blank-open : (w : World) (g : ℕ) → ((task w g).closed ≡ true) ⊎ ((task w g).completed ≡ true) → (length w.tasks ≤ g) → ⊥
+blank-open w g h l = let z : task w g ≡ blank = get_or_past w.tasks g blank l in grind arith
+
+known-task : (w : World) (g : ℕ) → ((task w g).closed ≡ true) ⊎ ((task w g).completed ≡ true) → g < length w.tasks
+known-task w g h = ⊎_elim (λ (x : (past (length w.tasks) g ≡ 0) × (g < length w.tasks)). x.1) (λ (x : (past (length w.tasks) g ≡ 1) × (length w.tasks ≤ g)). absurd (blank-open w g h x.1)) (past_is (length w.tasks) g).1
 
 handle-there : (b : Bool) (w : World) (g : ℕ) (m : Mark) → (task w g).handle ≡ b → Awaits w g nothing_pending nothing_awaited m → ((task w g).closed ≡ true) ⊎ ((task w g).completed ≡ true) → (heard g w.trace).parted ≡ false → b ≡ true
 handle-there true w g m e a h n = refl
-handle-there false w g m e a h n = let k : (length w.tasks ≤ g) → ⊥ = known-task w g h in let i : g < length w.tasks = grind arith in let no : true ≡ false = sym (a.parted i e) ∙ n in absurd (cc)
+handle-there false w g m e a h n = let no : true ≡ false = sym (a.parted (known-task w g h) e) ∙ n in absurd (cc)
 
 called-there : (w : World) (g : ℕ) (m : Mark) → Awaits w g nothing_pending nothing_awaited m → (task w g).handle ≡ true → ((task w g).closed ≡ true) ⊎ ((task w g).completed ≡ true) → (task w g).scheduled ≡ false → (task w g).running ≡ false → (heard g w.trace).pending ≡ true → (heard g w.trace).called ≡ true
 called-there w g m a k h s r p = grind arith

@@ -295,21 +295,21 @@ uses-handle s p rest (call.Detach f) g e one q k = handle-free s p f rest g e on
 uses-handle s p rest (call.DropHandle f) g e one q k = handle-free s p f rest g e one q k
 uses-handle s p rest _ g e one q k = tt
 
-waited-begun : (s : Machine) (p : ℕ) (rest : List Op) (c : Call) → has_all s.world s.parties (top (stack s p)) c ≡ true → p < length s.parties → rest ≡ stack s p → stack s p ≡ rest ++ reverse [] → Good s → AllTied (unsettled s p rest (begun p (log s.world (event.CallBegun p c)) (polled_by (top (stack s p))) c)) → Waited s → Waited (unsettled s p rest (begun p (log s.world (event.CallBegun p c)) (polled_by (top (stack s p))) c))
+abbrev begun_done : Machine → ℕ → Call → Done
+begun_done s p c = begun p (log s.world (event.CallBegun p c)) (polled_by (top (stack s p))) c
+
+waited-begun : (s : Machine) (p : ℕ) (rest : List Op) (c : Call) → has_all s.world s.parties (top (stack s p)) c ≡ true → p < length s.parties → rest ≡ stack s p → stack s p ≡ rest ++ reverse [] → Good s → AllTied (unsettled s p rest (begun_done s p c)) → Waited s → Waited (unsettled s p rest (begun_done s p c))
 waited-begun s p rest c k l r e good tied h = record {
-  awaits = λ g. awaits-pushed s p [] rest then_done l e h g (begun_in p g (before s p [] rest then_done l e h g)) (step g);
-  held = λ g. held-begun s p [] rest then_done l e h g refl (opens p s.world s.parties (top (stack s p)) c k).1 (step g);
+  awaits = λ g. awaits-pushed s p [] rest (begun_done s p c) l e h g (begun_in p g (before s p [] rest (begun_done s p c) l e h g)) (step g);
+  held = λ g. held-begun s p [] rest (begun_done s p c) l e h g refl (opens p s.world s.parties (top (stack s p)) c k).1 (step g);
   tied = tied;
 }
   where
-    abbrev then_done : Done
-    then_done = begun p (log s.world (event.CallBegun p c)) (polled_by (top (stack s p))) c
-
     own_parties : set s.parties p rest ≡ s.parties
     own_parties = ap (set s.parties p) r ∙ set-own s.parties p l
 
-    step : (g : ℕ) → Awaits then_done.world g (with_ops g then_done.next (pend g (set s.parties p rest))) (with_awaiting g then_done.next (awaiting g (set s.parties p rest))) (begun_in p g (before s p [] rest then_done l e h g))
-    step g = awaits-begun p s.world (polled_by (top (stack s p))) c g (pend g (set s.parties p rest)) (awaiting g (set s.parties p rest)) (before s p [] rest then_done l e h g) (uses-handle s p rest c g (sym r) (h.awaits g).single (ap (weigh_all (handling_of g)) own_parties) k) (footing-here s p [] rest then_done l e h g good) (awaits-here s p [] rest then_done l e h g)
+    step : (g : ℕ) → Awaits (begun_done s p c).world g (with_ops g (begun_done s p c).next (pend g (set s.parties p rest))) (with_awaiting g (begun_done s p c).next (awaiting g (set s.parties p rest))) (begun_in p g (before s p [] rest (begun_done s p c) l e h g))
+    step g = awaits-begun p s.world (polled_by (top (stack s p))) c g (pend g (set s.parties p rest)) (awaiting g (set s.parties p rest)) (before s p [] rest (begun_done s p c) l e h g) (uses-handle s p rest c g (sym r) (h.awaits g).single (ap (weigh_all (handling_of g)) own_parties) k) (footing-here s p [] rest (begun_done s p c) l e h g good) (awaits-here s p [] rest (begun_done s p c) l e h g)
 
 -- the end of a call
 

@@ -4,6 +4,7 @@ use Rattle.std.proofs.lemmas.Bool.Decides.{nat_tests}
 use Rattle.std.proofs.lemmas.List.Sums.{sum_by-append}
 use Rattle.std.proofs.Math.Bool.{or_assoc}
 use Rattle.std.specs.Prelude.{Option, Some, None, count_by, slice_get}
+use Rattle.executor_model.specs.declared.call.Call.{Call}
 use Rattle.executor_model.specs.declared.call.Reply.{Reply}
 use Rattle.executor_model.specs.declared.call.Reply.TheVariants as reply
 use Rattle.executor_model.specs.declared.event.Answer.{Answer}
@@ -149,31 +150,31 @@ over-dropped g es d n = ⊎_elim (λ (h : phase g es ≡ Over). h) (λ (h : phas
 eqb-self : (n : ℕ) → eqb n n ≡ true
 eqb-self n = grind (arith, nat_tests)
 
-abbrev polled_by : ℕ → ℕ → Heard → Heard
-polled_by n p s = record s { poll = n; party = p; asking = true; inner = 0; pending = false; called = false }
+abbrev pub poll_begun : ℕ → ℕ → Heard → Heard
+poll_begun n p s = record s { poll = n; party = p; asking = true; inner = 0; pending = false; called = false }
 
-hears-own : (g n p f : ℕ) (s : Heard) → f ≡ g → hears g n (event.HandlePolled p f) s ≡ polled_by n p s
-hears-own g n p f s e = ap (λ (b : Bool). cond b (polled_by n p s) s) (ap (λ (m : ℕ). eqb g m) e ∙ eqb-self g)
+hears-own : (g n p f : ℕ) (s : Heard) → f ≡ g → hears g n (event.HandlePolled p f) s ≡ poll_begun n p s
+hears-own g n p f s e = ap (λ (b : Bool). cond b (poll_begun n p s) s) (ap (λ (m : ℕ). eqb g m) e ∙ eqb-self g)
 
 -- what was heard where it begins
 pub record Begun (g poll party : ℕ) (es : Trace) : Type 0 where
   pub before : Heard
-  pub all : heard g es ≡ heard_from g (suc poll) (polled_by poll party before) (since poll es)
+  pub all : heard g es ≡ heard_from g (suc poll) (poll_begun poll party before) (since poll es)
 
-begun-from : (g n k p : ℕ) (s : Heard) (es : Trace) → slice_get es k ≡ Some (event.HandlePolled p g) → (before : Heard) × (heard_from g n s es ≡ heard_from g (suc (n + k)) (polled_by (n + k) p before) (drop (suc k) es))
+begun-from : (g n k p : ℕ) (s : Heard) (es : Trace) → slice_get es k ≡ Some (event.HandlePolled p g) → (before : Heard) × (heard_from g n s es ≡ heard_from g (suc (n + k)) (poll_begun (n + k) p before) (drop (suc k) es))
 begun-from g n k p s [] e = absurd (cc)
 begun-from g n zero p s (x ∷ es) e =
     let q : x ≡ event.HandlePolled p g = cc in
     (s, ap (λ (y : Event). heard_from g (suc n) (hears g n y s) es) q ∙ ap (λ (t : Heard). heard_from g (suc n) t es) (hears-own g n p g s refl))
 begun-from g n (suc k) p s (x ∷ es) e =
     let ih : _ = begun-from g (suc n) k p (hears g n x s) es e in
-    (ih.0, ih.1 ∙ ap (λ (m : ℕ). heard_from g (suc m) (polled_by m p ih.0) (drop (suc k) es)) (let z : suc n + k ≡ n + suc k = omega arith in z))
+    (ih.0, ih.1 ∙ ap (λ (m : ℕ). heard_from g (suc m) (poll_begun m p ih.0) (drop (suc k) es)) (let z : suc n + k ≡ n + suc k = omega arith in z))
 
 pub begun-at : (g k p : ℕ) (es : Trace) → slice_get es k ≡ Some (event.HandlePolled p g) → Begun g k p es
 unfolding heard
 begun-at g k p es e =
     let x : _ = begun-from g 0 k p unheard es e in
-    record { before = x.0; all = x.1 ∙ ap (λ (m : ℕ). heard_from g (suc m) (polled_by m p x.0) (drop (suc k) es)) (let z : 0 + k ≡ k = omega arith in z) }
+    record { before = x.0; all = x.1 ∙ ap (λ (m : ℕ). heard_from g (suc m) (poll_begun m p x.0) (drop (suc k) es)) (let z : 0 + k ≡ k = omega arith in z) }
 
 -- an event that begins no poll of the handle
 
@@ -182,7 +183,7 @@ or-none false false e = (refl, refl)
 or-none true b e = absurd (cc)
 or-none false true e = absurd (cc)
 
-not-polled : (b : Bool) (n p : ℕ) (s : Heard) → b ≡ false → cond b (polled_by n p s) s ≡ s
+not-polled : (b : Bool) (n p : ℕ) (s : Heard) → b ≡ false → cond b (poll_begun n p s) s ≡ s
 not-polled false n p s e = refl
 not-polled true n p s e = absurd (cc)
 
@@ -251,16 +252,16 @@ stays-from g n s (e ∷ es) k h = let x : _ = or-none (is_handle_poll g e) (has 
 
 -- an open poll stays so, and the calls inside of it are counted
 
-abbrev ends_one : ℕ → Event → ℕ
+abbrev pub ends_one : ℕ → Event → ℕ
 ends_one p e = cond (ends_call p e) 1 0
 
-abbrev begins_one : ℕ → Event → ℕ
+abbrev pub begins_one : ℕ → Event → ℕ
 begins_one p e = cond (begins_call p e) 1 0
 
-record IsInside (p : ℕ) (s t : Heard) (e : Event) : Type 0 where
-  asking : t.asking ≡ true
-  party : t.party ≡ p
-  inner : t.inner + ends_one p e ≡ s.inner + begins_one p e
+pub record IsInside (p : ℕ) (s t : Heard) (e : Event) : Type 0 where
+  pub asking : t.asking ≡ true
+  pub party : t.party ≡ p
+  pub inner : t.inner + ends_one p e ≡ s.inner + begins_one p e
 
 inside-same : (p : ℕ) (s : Heard) (e : Event) → s.asking ≡ true → s.party ≡ p → ends_one p e ≡ 0 → begins_one p e ≡ 0 → IsInside p s s e
 inside-same p s e a q x y = record { asking = a; party = q; inner = omega (arith, x, y) }
@@ -270,7 +271,7 @@ inside-ended true (suc m) p q r s e i a t h = subst (λ (u : Heard). IsInside p 
 inside-ended true zero p q r s e i a t h = absurd (omega (arith, h))
 inside-ended false m p q r s e i a t h = subst (λ (u : Heard). IsInside p s u (event.CallEnded q r)) (sym (ap (λ (c : Bool). cond (c && eqb s.party q) (ended_in s.inner r s) s) a ∙ ap (λ (c : Bool). cond c (ended_in s.inner r s) s) (ap (λ (n : ℕ). eqb n q) t ∙ e))) record { asking = a; party = t; inner = omega (arith, ap (λ (c : Bool). let k : ℕ = cond c 1 0 in k) e) }
 
-inside-begun : (g n p q : ℕ) (c : _) (s : Heard) → s.asking ≡ true → s.party ≡ p → IsInside p s (hears g n (event.CallBegun q c) s) (event.CallBegun q c)
+inside-begun : (g n p q : ℕ) (c : Call) (s : Heard) → s.asking ≡ true → s.party ≡ p → IsInside p s (hears g n (event.CallBegun q c) s) (event.CallBegun q c)
 inside-begun g n p q c s a t = record { asking = a; party = t; inner = omega (arith, ap (λ (b : Bool). let k : ℕ = cond b (same s.party q) 0 in k) a, ap (λ (m : ℕ). same m q) t, same-cond p q) }
 
 inside-one : (g n p : ℕ) (e : Event) (s : Heard) → is_handle_poll g e ≡ false → s.asking ≡ true → s.party ≡ p → ends_one p e ≤ s.inner → IsInside p s (hears g n e s) e
@@ -305,4 +306,4 @@ pending-from g n p (suc m) s (x ∷ es) a t k e first inner =
     never-both p _ n h = h
 
 pub pending-at : (g n p k : ℕ) (s : Heard) (es : Trace) → has (is_handle_poll g) es ≡ false → EndsWith p reply.Pending es → (heard_from g n (record s { poll = k; party = p; asking = true; inner = 0; pending = false; called = false }) es).pending ≡ true
-pending-at g n p k s es h w = pending-from g n p w.place (polled_by k p s) es refl refl h w.here (λ j l. omega (arith, w.first j l)) (omega (arith, w.inner))
+pending-at g n p k s es h w = pending-from g n p w.place (poll_begun k p s) es refl refl h w.here (λ j l. omega (arith, w.first j l)) (omega (arith, w.inner))

@@ -28,3 +28,7 @@ pub mod Calls
 pub mod Resting
 pub mod Handing
 pub mod Quieting
+pub mod Keeping
+pub mod KeepingActs
+pub mod KeepingRuns
+pub mod OutputKept

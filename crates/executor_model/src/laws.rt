@@ -2,6 +2,7 @@
 ghost use Rattle.executor_model.specs.Emptiness.{IsEmptinessExact, IsQuietEmptinessExact};
 ghost use Rattle.executor_model.specs.Entries.{FindsPlace, QueueAgrees, TableAgrees};
 ghost use Rattle.executor_model.specs.Limit.{IsLimitExact};
+ghost use Rattle.executor_model.specs.OutputKept.{OutputIsKept};
 ghost use Rattle.executor_model.specs.Runs.{EveryMachine, EveryRun, HandsOutOne, HasOneRunnable, IsCounted};
 
 /// Whatever the parties do, a task's count is its living wakers, and one for a Runnable, a run or a
@@ -54,4 +55,11 @@ pub fn wakes_hand_out_one()
 /// where each accepted future is dropped.
 pub fn quiet_emptiness_is_exact()
     ensures { EveryMachine IsQuietEmptinessExact }
+{}
+
+/// Where no call is in progress, an output that is there is given to the next poll of the handle: if the future
+/// was ready, nobody has cancelled it, no poll was given the output and no call has taken the handle, then a
+/// poll of the handle, with no step of another party in between, gives the output, whoever makes it.
+pub fn outputs_are_kept()
+    ensures { EveryRun OutputIsKept }
 {}

@@ -4,7 +4,7 @@
 
 ghost use Rattle.queue_laws.specs.ChainSteps.{Step, IsClosableQueue};
 ghost use Rattle.queue_laws.specs.LoneCalls.{EndsOnSlot, EndsOnChain, EndsOnRing};
-ghost use Rattle.concurrent_queue.specs.Ring.{IsShape};
+ghost use Rattle.queue_steps.specs.Ring.{IsShape};
 ghost use Rattle.queue_laws.specs.RingSteps.{IsClosableQueue as IsClosableRing};
 ghost use Rattle.queue_laws.specs.SlotSteps.{Step as WordStep, IsClosableQueue as IsClosableSlot};
 ghost use Rattle.std.specs.Prelude.{ℕ, List};

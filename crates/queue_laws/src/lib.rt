@@ -1,5 +1,5 @@
-//! Laws over lists of steps of any number of parties, on the slot, the ring and the chain of `concurrent_queue`: each
-//! takes its changes from `concurrent_queue::steps`. A crate of its own so that neither waits for the other's checks.
+//! Laws over lists of steps of any number of parties, on the slot, the ring and the chain of `queue_steps`: each
+//! takes its changes from `queue_steps::steps`. A crate of its own so that neither waits for the other's checks.
 #![tactic(auto)]
 
 ghost use Rattle.queue_laws.specs.ChainSteps.{Step, IsClosableQueue};

@@ -1,4 +1,4 @@
-use crate::tests::{
+use crate::words::{
     PENDING, READY, begin, finish, go, inside, machine_for, polls_and_drops, tick_to_poll, whole,
 };
 use executor_model::{By, Call, Event, Reply, UserEnd};

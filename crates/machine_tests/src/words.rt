@@ -1,38 +1,36 @@
-use crate::machine::{Kind, Machine};
+//! The words of these tests: steps, and lists of them.
+use executor_core::{Kind, Machine};
 use executor_model::{Answer, Call, Event, Hint, Reply, Step, StepError, UserEnd};
 use std::process::Abort;
 
-mod refusals;
-mod rows;
-
-const AMPLE: Hint = Hint {
+pub const AMPLE: Hint = Hint {
     refused: false,
     same: false,
 };
 
-const PENDING: UserEnd = UserEnd::Polled(Answer::Pending);
+pub const PENDING: UserEnd = UserEnd::Polled(Answer::Pending);
 
-const READY: UserEnd = UserEnd::Polled(Answer::Ready);
+pub const READY: UserEnd = UserEnd::Polled(Answer::Ready);
 
-fn begin(party: u32, call: Call) -> Step {
+pub fn begin(party: u32, call: Call) -> Step {
     Step::Begin { party, call }
 }
 
-fn go(party: u32) -> Step {
+pub fn go(party: u32) -> Step {
     Step::Go { party, hint: AMPLE }
 }
 
-fn answer(party: u32, end: UserEnd) -> Step {
+pub fn answer(party: u32, end: UserEnd) -> Step {
     Step::Answer { party, end }
 }
 
 /// A machine of three parties.
-fn machine_for<R: AllocGlobal + Abort>(rt: &R, limit: u64) -> Machine {
+pub fn machine_for<R: AllocGlobal + Abort>(rt: &R, limit: u64) -> Machine {
     Machine::new(rt.alloc(), limit, Kind::Owned, 3).expect(rt, "room for three parties")
 }
 
 /// The answer to the call that ended last, where the last event is such an end.
-fn last_reply(machine: &Machine) -> Option<Reply> {
+pub fn last_reply(machine: &Machine) -> Option<Reply> {
     match machine.trace().last() {
         Some(Event::CallEnded { reply, .. }) => Some(*reply),
         _ => None,
@@ -41,7 +39,7 @@ fn last_reply(machine: &Machine) -> Option<Reply> {
 
 /// The party goes on until its calls have ended. User code ends in these ways, in turn. Answers what the last
 /// call was answered, or nothing where a step was refused otherwise.
-fn finish(machine: &mut Machine, party: u32, ends: &[UserEnd]) -> Option<Reply> {
+pub fn finish(machine: &mut Machine, party: u32, ends: &[UserEnd]) -> Option<Reply> {
     let mut later = ends.iter();
     for _ in 0..64 {
         let refused = match machine.step(go(party)) {
@@ -64,7 +62,7 @@ fn finish(machine: &mut Machine, party: u32, ends: &[UserEnd]) -> Option<Reply> 
 }
 
 /// A whole call.
-fn whole(machine: &mut Machine, party: u32, call: Call, ends: &[UserEnd]) -> Option<Reply> {
+pub fn whole(machine: &mut Machine, party: u32, call: Call, ends: &[UserEnd]) -> Option<Reply> {
     if machine.step(begin(party, call)).is_err() {
         return None;
     }
@@ -72,14 +70,14 @@ fn whole(machine: &mut Machine, party: u32, call: Call, ends: &[UserEnd]) -> Opt
 }
 
 /// A `TryTick` of this party up to the beginning of a poll.
-fn tick_to_poll(machine: &mut Machine, party: u32) -> bool {
+pub fn tick_to_poll(machine: &mut Machine, party: u32) -> bool {
     machine
         .run(&[begin(party, Call::TryTick), go(party), go(party), go(party)])
         .is_none()
 }
 
 /// A whole call inside of user code.
-fn inside(machine: &mut Machine, party: u32, call: Call, steps: u32) -> Option<Reply> {
+pub fn inside(machine: &mut Machine, party: u32, call: Call, steps: u32) -> Option<Reply> {
     if machine.step(begin(party, call)).is_err() {
         return None;
     }
@@ -92,7 +90,7 @@ fn inside(machine: &mut Machine, party: u32, call: Call, steps: u32) -> Option<R
 }
 
 /// How often the future was polled, and how often its drop began.
-fn polls_and_drops(machine: &Machine, future: u64) -> (u64, u64) {
+pub fn polls_and_drops(machine: &Machine, future: u64) -> (u64, u64) {
     let mut polls = 0u64;
     let mut drops = 0u64;
     for event in machine.trace() {

@@ -1,4 +1,4 @@
-use crate::tests::{
+use crate::words::{
     PENDING, READY, answer, begin, finish, go, inside, machine_for, tick_to_poll, whole,
 };
 use executor_model::{By, Call, Hint, Reply, Step, StepError, UserEnd};

@@ -2,6 +2,7 @@
 ghost use Rattle.std.specs.Prelude.{◌≡◌, ◌⊎◌, ℕ, ◌+◌, ◌<◌, ◌≤◌, Some, None, Ok, Err, vec_len, vec_capacity, OnOk, IfOk, IfErr, IfSome, MatchOption, slice_get, take, List, length, map};
 ghost use Rattle.executor_model.specs.Steps as steps;
 ghost use Rattle.executor_model.specs.AskedPolls.{IsWokenBetweenPolls};
+ghost use Rattle.executor_model.specs.AwaiterKept.{AwaiterIsKept};
 ghost use Rattle.executor_model.specs.DroppedOnce.{DropComesOnce, IsDroppedByTheEnd};
 ghost use Rattle.executor_model.specs.EarlyDrop.{EarlyDropHasCause};
 ghost use Rattle.executor_model.specs.LawfulPolls.{HasLawfulPolls};
@@ -19,7 +20,7 @@ use crate::possible::{has_handle, part_refusal};
 use crate::store::Store;
 use executor_model::laws::outputs_are_kept;
 use executor_model::trace_laws::{
-    closing_drops_each_future_once, drops_come_once, early_drops_have_causes, outputs_go_once,
+    awaiters_are_kept, closing_drops_each_future_once, drops_come_once, early_drops_have_causes, outputs_go_once,
     polls_are_asked_for, polls_are_lawful,
 };
 use executor_model::{Awaiter, Event, Op, Step, StepError};
@@ -173,6 +174,7 @@ impl Machine {
         ensures early_drops_have_causes { (f : ℕ) → EarlyDropHasCause f self.new.world.trace }
         ensures closing_drops { (f : ℕ) → IsDroppedByTheEnd f self.new.world.trace }
         ensures outputs_are_kept { (f : ℕ) → OutputIsKept self.new f }
+        ensures awaiters_are_kept { (f : ℕ) → AwaiterIsKept f self.new.world.trace }
     {
         let refused = self.run_on(list);
         polls_are_lawful();
@@ -182,6 +184,7 @@ impl Machine {
         early_drops_have_causes();
         closing_drops_each_future_once();
         outputs_are_kept();
+        awaiters_are_kept();
         refused
     }
 

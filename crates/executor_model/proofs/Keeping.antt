@@ -8,9 +8,8 @@ use Rattle.executor_model.specs.declared.event.Event.{Event}
 use Rattle.executor_model.specs.declared.event.Event.TheVariants.{CallBegun, Answered, Cancelled, OutputGiven}
 use Rattle.executor_model.specs.declared.op.Op.{Op}
 use Rattle.executor_model.specs.declared.op.Op.TheVariants as op
-use Rattle.executor_model.specs.Trace.{Trace, is_ready, is_cancelled}
+use Rattle.executor_model.specs.Trace.{Trace, takes_handle, is_ready, is_cancelled}
 use Rattle.executor_model.specs.OutputOnce.{is_output_given}
-use Rattle.executor_model.specs.OutputKept.{takes_handle}
 use Rattle.executor_model.specs.World.{World, Done, task}
 use Rattle.executor_model.specs.Weights.{same, weigh, weigh_all}
 use Rattle.executor_model.specs.Sound.{Sound, pend, waiting_of, polls_of, ready_of}

@@ -21,9 +21,9 @@ use Rattle.executor_model.specs.declared.step.Step.{Step}
 use Rattle.executor_model.specs.declared.step.Step.TheVariants.{Begin, Go}
 use Rattle.executor_model.specs.declared.step.StepError.{StepError}
 use Rattle.executor_model.specs.declared.step.StepError.TheVariants.{NoSuch, Gone}
-use Rattle.executor_model.specs.Trace.{Trace, has, is_ready, is_cancelled}
+use Rattle.executor_model.specs.Trace.{Trace, takes_handle, has, is_ready, is_cancelled}
 use Rattle.executor_model.specs.OutputOnce.{is_output_given}
-use Rattle.executor_model.specs.OutputKept.{takes_handle, polls_alone, OutputIsThere, GivesOutput, OutputIsKept}
+use Rattle.executor_model.specs.OutputKept.{polls_alone, OutputIsThere, GivesOutput, OutputIsKept}
 use Rattle.executor_model.specs.World.{World, log, task, blank}
 use Rattle.executor_model.specs.Acts.{look_by}
 use Rattle.executor_model.specs.Weights.{weigh_all, handling_of}

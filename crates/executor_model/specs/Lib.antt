@@ -21,3 +21,4 @@ pub mod AskedPolls
 pub mod Emptiness
 pub mod Memory
 pub mod OutputKept
+pub mod AwaiterKept

@@ -1,23 +1,16 @@
 -- Where no call is in progress, an output that is there is given to the next poll of the handle.
-use Rattle.std.specs.Prelude.{◌≡◌, ℕ, ◌<◌, ◌==◌, Bool, true, false, List, [], ◌∷◌, ◌++◌, length}
+use Rattle.std.specs.Prelude.{◌≡◌, ℕ, ◌<◌, true, false, List, [], ◌∷◌, ◌++◌, length}
 use Rattle.executor_model.specs.declared.call.By.TheVariants.{Outside}
-use Rattle.executor_model.specs.declared.call.Call.TheVariants.{PollHandle, Detach, DropHandle}
+use Rattle.executor_model.specs.declared.call.Call.TheVariants.{PollHandle}
 use Rattle.executor_model.specs.declared.call.Reply.TheVariants.{Ready}
-use Rattle.executor_model.specs.declared.event.Event.{Event}
 use Rattle.executor_model.specs.declared.event.Event.TheVariants.{CallBegun, CallEnded, HandlePolled, OutputGiven}
 use Rattle.executor_model.specs.declared.step.Hint.{Hint}
 use Rattle.executor_model.specs.declared.step.Step.{Step}
 use Rattle.executor_model.specs.declared.step.Step.TheVariants.{Begin, Go}
-use Rattle.executor_model.specs.Trace.{Trace, has, is_ready, is_cancelled}
+use Rattle.executor_model.specs.Trace.{Trace, has, takes_handle, is_ready, is_cancelled}
 use Rattle.executor_model.specs.Quiet.{IsQuiet}
 use Rattle.executor_model.specs.OutputOnce.{is_output_given}
 use Rattle.executor_model.specs.Steps.{Machine, run}
-
--- a call begins that takes the handle of future f
-abbrev pub takes_handle : ℕ → Event → Bool
-takes_handle f (CallBegun p (Detach g)) = f == g
-takes_handle f (CallBegun p (DropHandle g)) = f == g
-takes_handle f _ = false
 
 -- future f was ready, nobody has cancelled it, no poll of its handle was given the output, and no call has taken the handle
 pub record OutputIsThere (f : ℕ) (trace : Trace) : Type 0 where

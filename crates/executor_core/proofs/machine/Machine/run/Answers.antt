@@ -1,4 +1,5 @@
 use Rattle.executor_model.specs.AskedPolls.{IsWokenBetweenPolls}
+use Rattle.executor_model.specs.AwaiterKept.{AwaiterIsKept}
 use Rattle.executor_model.specs.DroppedOnce.{DropComesOnce, IsDroppedByTheEnd}
 use Rattle.executor_model.specs.EarlyDrop.{EarlyDropHasCause}
 use Rattle.executor_model.specs.LawfulPolls.{HasLawfulPolls}
@@ -27,3 +28,6 @@ returns-clause-closing_drops c = law_here IsDroppedByTheEnd c.closing_drops_each
 
 pub returns-clause-outputs_are_kept : goal.returns-clause-outputs_are_kept
 returns-clause-outputs_are_kept c = run_here OutputIsKept c.outputs_are_kept.ensures _ c.run_on-refused.ensures.reached
+
+pub returns-clause-awaiters_are_kept : goal.returns-clause-awaiters_are_kept
+returns-clause-awaiters_are_kept c = law_here AwaiterIsKept c.awaiters_are_kept.ensures _ c.run_on-refused.ensures.reached

@@ -9,8 +9,7 @@ use Rattle.executor_model.specs.declared.op.Awaiter.{Awaiter}
 use Rattle.executor_model.specs.declared.op.Hold.TheVariants as hold
 use Rattle.executor_model.specs.declared.op.Op.{Op}
 use Rattle.executor_model.specs.declared.op.Op.TheVariants as op
-use Rattle.executor_model.specs.Trace.{Trace}
-use Rattle.executor_model.specs.AwaiterKept.{takes_handle}
+use Rattle.executor_model.specs.Trace.{Trace, takes_handle}
 use Rattle.executor_model.specs.World.{World, Done, task, awaiter_of}
 use Rattle.executor_model.specs.Weights.{same, weigh, weigh_all, handling_of, holds_handle}
 use Rattle.executor_model.specs.Sound.{Pend, with_ops, tokens, times}

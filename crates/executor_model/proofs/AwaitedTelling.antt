@@ -11,9 +11,9 @@ use Rattle.executor_model.specs.declared.event.Answer.{Answer}
 use Rattle.executor_model.specs.declared.event.Answer.TheVariants.{Pending, Ready}
 use Rattle.executor_model.specs.declared.event.Event.{Event}
 use Rattle.executor_model.specs.declared.event.Event.TheVariants as event
-use Rattle.executor_model.specs.Trace.{Trace, has, is_dropped}
+use Rattle.executor_model.specs.Trace.{Trace, takes_handle, has, is_dropped}
 use Rattle.executor_model.specs.Quiet.{begins_call, ends_call}
-use Rattle.executor_model.specs.AwaiterKept.{takes_handle, is_handle_poll, calls_waker, since, EndsWith}
+use Rattle.executor_model.specs.AwaiterKept.{is_handle_poll, calls_waker, since, EndsWith}
 use Rattle.executor_model.specs.Sound.{Phase, passes, phase_from, phase, after_begun, after_answered, after_dropped}
 use Rattle.executor_model.specs.Sound.Phase.{Fresh, Polling, Over, Broken}
 use Rattle.executor_model.specs.Weights.{same}

@@ -28,6 +28,11 @@ pub mod Calls
 pub mod Resting
 pub mod Handing
 pub mod Quieting
+pub mod Unasking
+pub mod Keeping
+pub mod KeepingActs
+pub mod KeepingRuns
+pub mod OutputKept
 pub mod Awaited
 pub mod AwaitedActs
 pub mod AwaitedLists

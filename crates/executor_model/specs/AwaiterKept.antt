@@ -1,18 +1,11 @@
 -- No awaiter is lost: who waits on the handle of a future is called once the future was dropped.
 use Rattle.std.specs.Prelude.{◌≡◌, ℕ, ◌+◌, ◌≤◌, ◌==◌, Bool, true, false, ◌&&◌, Some, count_by, take, drop, slice_get}
-use Rattle.executor_model.specs.declared.call.Call.TheVariants.{Detach, DropHandle}
 use Rattle.executor_model.specs.declared.call.Reply.{Reply}
 use Rattle.executor_model.specs.declared.call.Reply.TheVariants.{Pending}
 use Rattle.executor_model.specs.declared.event.Event.{Event}
 use Rattle.executor_model.specs.declared.event.Event.TheVariants.{CallBegun, CallEnded, HandlePolled, WakerCalled}
-use Rattle.executor_model.specs.Trace.{Trace, has, is_dropped}
+use Rattle.executor_model.specs.Trace.{Trace, has, takes_handle, is_dropped}
 use Rattle.executor_model.specs.Quiet.{IsQuiet, begins_call, ends_call}
-
--- a call begins that takes the handle of future f by value
-abbrev pub takes_handle : ℕ → Event → Bool
-takes_handle f (CallBegun p (Detach g)) = f == g
-takes_handle f (CallBegun p (DropHandle g)) = f == g
-takes_handle f _ = false
 
 abbrev pub is_handle_poll : ℕ → Event → Bool
 is_handle_poll f (HandlePolled p g) = f == g

@@ -1,7 +1,11 @@
 pub mod Spending
 pub mod SpendingActs
 pub mod Ends
-pub mod HandingOn
 pub mod Pushes
 pub mod Dueness
 pub mod Ticking
+pub mod LoneMoves
+pub mod LoneSteps
+pub mod LoneTicks
+pub mod Reaching
+pub mod Queueing

@@ -26,5 +26,5 @@ pub mod AskingRuns
 pub mod Looking
 pub mod Calls
 pub mod Resting
-pub mod Handing
 pub mod Quieting
+pub mod HandingOn

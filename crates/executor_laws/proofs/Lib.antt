@@ -6,6 +6,8 @@ pub mod Dueness
 pub mod Ticking
 pub mod LoneMoves
 pub mod LoneSteps
+pub mod Reached
 pub mod LoneTicks
+pub mod LoneEnds
 pub mod Reaching
 pub mod Queueing

@@ -106,12 +106,12 @@ pub data Arrives (p f : ℕ) (xs : List ℕ) (before : Trace) (x : Part) : Type 
   going : (below : List Op) (o : Op) → x.todo ≡ answering (below ++ o ∷ []) → Going f xs before x.world below o → Arrives p f xs before x
   ended : x.todo ≡ [] → Ended p f xs before x.world → Arrives p f xs before x
 
-record Last (os : List Op) : Type 0 where
+pub record Last (os : List Op) : Type 0 where
   pub below : List Op
   pub last : Op
   pub is : os ≡ below ++ last ∷ []
 
-from-end : (os : List Op) → (os ≡ []) ⊎ Last os
+pub from-end : (os : List Op) → (os ≡ []) ⊎ Last os
 from-end [] = inl refl
 from-end (o ∷ os) = inr (go (from-end os))
   where

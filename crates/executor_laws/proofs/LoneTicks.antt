@@ -13,19 +13,9 @@ use Rattle.executor_model.specs.Runs.{run_all}
 use Rattle.executor_model.specs.Steps.{Machine, Part, stack, top, go_refusal, answer_refusal, part_refusal, party_of, refusal, unless, part_after, with_part, after}
 use Rattle.executor_model.proofs.Stepping.{step-refused, step-made}
 use Rattle.executor_laws.specs.Reach.{is_onward_of, are_onward_of}
+use Rattle.executor_laws.proofs.Reached.{run-first}
 use Rattle.executor_laws.proofs.LoneSteps.{Going, Ended, Arrives, answering, on-go, on-answer}
 use Rattle.executor_laws.proofs.LoneSteps.Arrives.{going, ended}
-
--- a list of steps that is possible is so step by step
-abbrev then : List Step → Result Machine StepError → Result Machine StepError
-then ts r = elim r [ Ok new ↦ run_all ts new | Err error ↦ Err error ]
-
-pub run-first : (t : Step) (ts : List Step) (s new : Machine) → run_all (t ∷ ts) s ≡ Ok new → (refusal s t ≡ None) × (run_all ts (after s t) ≡ Ok new)
-run-first t ts s new e = go (refusal s t) refl
-  where
-    go : (r : Option StepError) → refusal s t ≡ r → (refusal s t ≡ None) × (run_all ts (after s t) ≡ Ok new)
-    go None q = (q, sym (ap (then ts) (step-made s t q)) ∙ e)
-    go (Some error) q = let no : ◌≡◌ {A = Result Machine StepError} (Err error) (Ok new) = sym (ap (then ts) (step-refused s t error q)) ∙ e in absurd (cc)
 
 pub left-true : (a b : Bool) → (a && b) ≡ true → (a ≡ true) × (b ≡ true)
 left-true true b e = (refl, e)

@@ -34,42 +34,10 @@ use Rattle.executor_model.proofs.AskingRuns.{Heard, heard}
 use Rattle.executor_model.proofs.Resting.{Deep, deep, rests}
 use Rattle.executor_laws.specs.Reach.{are_onward_of, IsLoneTick, LoneTick, AreLoneTicks, takes, TakesCommon, since, IsInReach}
 use Rattle.executor_laws.proofs.Ticking.{here, idle, due-queued, queued-due, ticking, taking, first-times}
+use Rattle.executor_laws.proofs.Reached.{Reached, run-first, reached-more, good-here, heard-here, deep-here}
+use Rattle.executor_laws.proofs.LoneEnds.{can-be-made}
 use Rattle.executor_laws.proofs.LoneSteps.{Ended}
-use Rattle.executor_laws.proofs.LoneTicks.{run-first, left-true, in-range, of-party, after-is, stack-set, no-more, walks}
-
--- some steps of a new machine led here
-pub record Reached (s : Machine) : Type 0 where
-  pub limit : ℕ
-  pub parties : ℕ
-  pub steps : List Step
-  pub is : s ≡ run steps (start limit parties)
-
-run-append : (xs ys : List Step) (s : Machine) → run (xs ++ ys) s ≡ run ys (run xs s)
-run-append [] ys s = refl
-run-append (x ∷ xs) ys s = run-append xs ys (stepped s (step s x))
-
-run-of : (ts : List Step) (s new : Machine) → run_all ts s ≡ Ok new → run ts s ≡ new
-run-of [] s new e = cc
-run-of (t ∷ ts) s new e =
-    let k : _ = run-first t ts s new e in
-    ap (λ (r : Result Machine StepError). run ts (stepped s r)) (step-made s t k.0) ∙ run-of ts (after s t) new k.1
-
-reached-more : (ts : List Step) (s new : Machine) → Reached s → run_all ts s ≡ Ok new → Reached new
-reached-more ts s new r e = record {
-  limit = r.limit;
-  parties = r.parties;
-  steps = r.steps ++ ts;
-  is = sym (run-of ts s new e) ∙ (ap (λ (m : Machine). run ts m) r.is ∙ sym (run-append r.steps ts (start r.limit r.parties)));
-}
-
-good-here : (s : Machine) → Reached s → Good s
-good-here s r = subst Good (sym r.is) (good r.limit r.parties r.steps)
-
-heard-here : (s : Machine) → Reached s → Heard s
-heard-here s r = subst Heard (sym r.is) (heard r.limit r.parties r.steps)
-
-deep-here : (s : Machine) → Reached s → Deep s
-deep-here s r = subst Deep (sym r.is) (deep r.limit r.parties r.steps)
+use Rattle.executor_laws.proofs.LoneTicks.{left-true, in-range, of-party, after-is, stack-set, no-more, walks}
 
 -- what a lone tick leads to
 record First (f : ℕ) (xs : List ℕ) (p : ℕ) (s new : Machine) : Type 0 where
@@ -307,6 +275,7 @@ in-reach : (s : Machine) → Reached s → IsInReach s
 in-reach s r = record {
   each = λ rest f c p steps new k. takes-common s r rest p steps new k f c;
   all = λ rest commons k ticks new t l f c. takes-all s r rest commons k ticks new t l f c;
+  can = λ rest p l. can-be-made s r rest p l;
 }
 
 pub reaches : (limit parties : ℕ) (steps : List Step) → IsInReach (run steps (start limit parties))

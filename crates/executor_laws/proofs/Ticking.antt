@@ -79,7 +79,7 @@ module _ (s : Machine) (fine : Good s) (h : Heard s) (d : Deep s) (rest : IsAtRe
 -- a tick alone
 
 module _ (s : Machine) (p : ℕ) (l : p < length s.parties) (n : s.world.gone ≡ false) (e : stack s p ≡ []) where
-  none-refused : refusal s (Begin p call.TryTick) ≡ None
+  pub none-refused : refusal s (Begin p call.TryTick) ≡ None
   none-refused =
       ap (λ (b : Bool). unless b NoSuch (begin_refusal s.world s.parties (top (stack s p)) call.TryTick)) (let z : nat_lt p (length s.parties) ≡ true = grind (arith, nat_tests) in z)
       ∙ (ap (λ (os : List Op). begin_refusal s.world s.parties (top os) call.TryTick) e

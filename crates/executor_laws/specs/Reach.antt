@@ -1,5 +1,5 @@
 -- Which futures are reached by ticks that are called alone.
-use Rattle.std.specs.Prelude.{◌≡◌, ◌==◌, ℕ, ◌≤◌, Bool, true, false, ◌&&◌, ◌||◌, Ok, List, [], ◌∷◌, ◌++◌, length, drop}
+use Rattle.std.specs.Prelude.{◌≡◌, ◌==◌, ℕ, ◌≤◌, ◌<◌, Bool, true, false, ◌&&◌, ◌||◌, Ok, List, [], ◌∷◌, ◌++◌, length, drop}
 use Rattle.executor_model.specs.declared.call.Call.TheVariants.{TryTick}
 use Rattle.executor_model.specs.declared.call.Reply.TheVariants.{Yes}
 use Rattle.executor_model.specs.declared.event.Event.{Event}
@@ -57,9 +57,11 @@ pub record TakesCommon (p : ℕ) (s new : Machine) : Type 0 where
 abbrev pub since : Machine → Machine → Trace
 since s new = drop (length s.world.trace) new.world.trace
 
--- while some future is common, each lone tick takes one that is; and as many lone ticks as futures were common at their start take each of those
+-- while some future is common, each lone tick takes one that is; and as many lone ticks as futures were common at their start take each of those.
+-- Each party can make one
 pub record IsInReach (s : Machine) : Type 0 where
   pub each : IsAtRest s → (f : ℕ) → IsCommon f s.world.trace → (p : ℕ) (steps : List Step) (new : Machine) → IsLoneTick p steps s new → TakesCommon p s new
   pub all : IsAtRest s → (commons : List ℕ) → ((f : ℕ) → IsCommon f s.world.trace → 1 ≤ times f commons) →
       (ticks : List LoneTick) (new : Machine) → AreLoneTicks ticks s new → length commons ≤ length ticks →
       (f : ℕ) → IsCommon f s.world.trace → has (takes f) (since s new) ≡ true
+  pub can : IsAtRest s → (p : ℕ) → p < length s.parties → (steps : List Step) × (new : Machine) × IsLoneTick p steps s new

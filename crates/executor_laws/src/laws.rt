@@ -26,7 +26,7 @@ pub fn ticks_are_exact()
 /// In reach. Where no call is in progress, the drop of the executor hasn't begun and some future is common,
 /// each tick that is called alone, whatever user code answers in it, is answered that it found a future, and
 /// begins the poll or the drop of one that was common. As many such ticks as futures were common at their
-/// start begin the poll or the drop of each of those.
+/// start begin the poll or the drop of each of those. Each party can make such a tick.
 pub fn common_futures_are_in_reach()
     ensures { EveryMachine IsInReach }
 {}

@@ -1,6 +1,6 @@
 -- How many Runnables were queued; and that the machine's queue is one that counts them, for as long as such a queue may.
 use Rattle.std.specs.Prelude.{◌≡◌, ℕ, ◌+◌, ◌-◌, ◌<◌, false, Some, List, [], ◌∷◌, ◌++◌, length}
-use Rattle.concurrent_queue.specs.ClosableQueue.{ClosableQueue, most_accepted, new_queue, HasRoom, IsUnspent, appended, taken, shut}
+use Rattle.queue_steps.specs.ClosableQueue.{ClosableQueue, most_accepted, new_queue, HasRoom, IsUnspent, appended, taken, shut}
 use Rattle.executor_model.specs.declared.op.Op.TheVariants as op
 use Rattle.executor_model.specs.declared.step.Hint.{Hint}
 use Rattle.executor_model.specs.declared.step.Step.{Step}

@@ -27,4 +27,5 @@ pub mod Looking
 pub mod Calls
 pub mod Resting
 pub mod Quieting
+pub mod Unasking
 pub mod HandingOn

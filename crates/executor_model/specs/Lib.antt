@@ -19,4 +19,5 @@ pub mod Entries
 pub mod Limit
 pub mod AskedPolls
 pub mod Emptiness
+pub mod Memory
 pub mod HandingOn

@@ -5,6 +5,7 @@ ghost use Rattle.executor_model.specs.Emptiness.{IsEmptinessExact, IsQuietEmptin
 ghost use Rattle.executor_model.specs.Entries.{FindsPlace, QueueAgrees, TableAgrees};
 ghost use Rattle.executor_model.specs.HandingOn.{HandsOn, IsOnItsWay};
 ghost use Rattle.executor_model.specs.Limit.{IsLimitExact};
+ghost use Rattle.executor_model.specs.Memory.{NeedsNoMemory};
 ghost use Rattle.executor_model.specs.Runs.{EveryMachine, EveryRun, HasOneRunnable, IsCounted};
 ghost use Rattle.executor_model.specs.World.{World};
 
@@ -52,6 +53,13 @@ pub fn emptiness_is_exact()
 /// where each accepted future is dropped.
 pub fn quiet_emptiness_is_exact()
     ensures { EveryMachine IsQuietEmptinessExact }
+{}
+
+/// A call takes no memory but a spawn, a copy of a waker and a poll of a handle: nothing that it has to do
+/// from its beginning to its end asks for memory or refuses it, and what it does is the same whether
+/// memory is refused or not. So no wake, cancel, detach or drop is ever refused, nor is a tick.
+pub fn wakes_and_drops_take_no_memory()
+    ensures { (w : World) (p : ℕ) → NeedsNoMemory w p }
 {}
 
 /// A wake that marks a task as scheduled hands on exactly one Runnable where the task isn't running.

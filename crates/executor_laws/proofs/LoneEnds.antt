@@ -1,5 +1,5 @@
 -- A lone tick can be made: who has begun one can go on to its end.
-use Rattle.std.proofs.Common.{◌≡◌, ◌≢◌, ◌⊎◌, ℕ, zero, suc, ◌+◌, ◌<◌, ◌≤◌, List, [], ◌∷◌, ◌++◌, length, set, get_or, Bool, true, false, ◌&&◌, eqb, refl, sym, ap, ◌∙◌, subst, inl, inr, ⊎_elim, arith, get_or-set_other, Ok, Result}
+use Rattle.std.proofs.Common.{◌≡◌, ◌≢◌, ℕ, zero, suc, ◌<◌, ◌≤◌, List, [], ◌∷◌, length, Bool, true, false, ◌&&◌, eqb, refl, sym, ap, ◌∙◌, ⊎_elim, arith, get_or-set_other, Ok}
 use Rattle.std.proofs.lemmas.Bool.Decides.{nat_tests}
 use Rattle.std.proofs.Math.ListN.{length-set}
 use Rattle.std.specs.Prelude.{Option, Some, None}
@@ -13,7 +13,7 @@ use Rattle.executor_model.specs.Emptiness.{IsAtRest}
 use Rattle.executor_model.specs.Quiet.{IsQuiet}
 use Rattle.executor_model.specs.Runs.{run_all}
 use Rattle.executor_model.specs.Weights.{weigh}
-use Rattle.executor_model.specs.Steps.{Machine, stack, top, waits, refusal, part_after, with_part, after, party_of}
+use Rattle.executor_model.specs.Steps.{Machine, stack, top, waits, refusal, part_after, after, party_of}
 use Rattle.executor_model.proofs.Calls.{calling_of, begun_by, ended_by}
 use Rattle.executor_model.proofs.Resting.{Deep}
 use Rattle.executor_model.proofs.Spawning.{top-last}

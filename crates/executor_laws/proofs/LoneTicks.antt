@@ -1,7 +1,7 @@
 -- From the beginning of a lone tick to its end.
-use Rattle.std.proofs.Common.{◌≡◌, ℕ, ◌<◌, List, [], ◌∷◌, ◌++◌, length, Bool, true, false, ◌&&◌, eqb, ltb, refl, sym, ap, ◌∙◌, subst, arith, get_or-set_same, Ok, Err, Result}
+use Rattle.std.proofs.Common.{◌≡◌, ℕ, ◌<◌, List, [], ◌∷◌, ◌++◌, length, Bool, true, false, ◌&&◌, eqb, ltb, refl, sym, ap, ◌∙◌, subst, arith, get_or-set_same, Ok}
 use Rattle.std.proofs.lemmas.Bool.Decides.{nat_tests}
-use Rattle.std.specs.Prelude.{Option, Some, None}
+use Rattle.std.specs.Prelude.{Option, None}
 use Rattle.executor_model.specs.declared.op.Op.{Op}
 use Rattle.executor_model.specs.declared.step.Step.{Step}
 use Rattle.executor_model.specs.declared.step.Step.TheVariants.{Begin, Go, Answer}
@@ -11,7 +11,6 @@ use Rattle.executor_model.specs.Trace.{Trace}
 use Rattle.executor_model.specs.World.{World}
 use Rattle.executor_model.specs.Runs.{run_all}
 use Rattle.executor_model.specs.Steps.{Machine, Part, stack, top, go_refusal, answer_refusal, part_refusal, party_of, refusal, unless, part_after, with_part, after}
-use Rattle.executor_model.proofs.Stepping.{step-refused, step-made}
 use Rattle.executor_laws.specs.Reach.{is_onward_of, are_onward_of}
 use Rattle.executor_laws.proofs.Reached.{run-first}
 use Rattle.executor_laws.proofs.LoneSteps.{Going, Ended, Arrives, answering, on-go, on-answer}

@@ -1,5 +1,5 @@
 -- Each step changes the queue as a closable queue changes.
-use Rattle.std.proofs.Common.{◌≡◌, ℕ, ◌+◌, ◌-◌, ◌<◌, List, [], ◌∷◌, ◌++◌, length, drop, Bool, true, false, ◌&&◌, not, ltb, refl, sym, ap, ◌∙◌, subst, arith, length-append, Result}
+use Rattle.std.proofs.Common.{◌≡◌, ℕ, ◌+◌, ◌-◌, ◌<◌, ◌≤◌, List, [], ◌∷◌, ◌++◌, length, drop, Bool, true, false, ◌&&◌, not, ltb, refl, sym, ap, ◌∙◌, subst, arith, length-append, Result}
 use Rattle.std.proofs.lemmas.Bool.Decides.{nat_tests}
 use Rattle.std.specs.Prelude.{Option, Some, None, reverse}
 use Rattle.queue_steps.specs.ClosableQueue.{ClosableQueue, most_accepted, HasRoom, appended, taken, shut}
@@ -195,6 +195,22 @@ by-step s t = go (refusal s t) refl
     go None e = subst (λ (x : Result Machine StepError). Steps s (stepped s x).world.queue) (sym (step-made s t e)) (by-after s t)
     go (Some error) e = subst (λ (x : Result Machine StepError). Steps s (stepped s x).world.queue) (sym (step-refused s t error e)) (as-was refl)
 
+-- a step appends one Runnable at most
+
+count-less : (xs : List ℕ) → length (drop 1 xs) - length xs ≡ 0
+count-less [] = refl
+count-less (x ∷ xs) = omega arith
+
+queued-most : (s : Machine) (new : ClosableQueue ℕ) → Steps s new → length new.items - length s.world.queue.items ≤ 1
+queued-most s new (as-was x) = omega (arith, ap (λ (v : ClosableQueue ℕ). length v.items) x)
+queued-most s new (longer p f a c x) = omega (arith, ap (λ (v : ClosableQueue ℕ). length v.items) x, length-append s.world.queue.items (f ∷ []))
+queued-most s new (shorter f rest a x) = omega (arith, ap (λ (v : ClosableQueue ℕ). length v.items - length s.world.queue.items) x, count-less s.world.queue.items)
+queued-most s new (shut-by x) = omega (arith, ap (λ (v : ClosableQueue ℕ). length v.items) x)
+
+queueings-most : (ts : List Step) (s : Machine) → queueings ts s ≤ length ts
+queueings-most [] s = omega arith
+queueings-most (t ∷ ts) s = omega (arith, queued-most s (stepped s (step s t)).world.queue (by-step s t), queueings-most ts (stepped s (step s t)))
+
 -- as a queue that counts
 
 queueings-push : (ts : List Step) (t : Step) (s : Machine) → queueings (ts ++ t ∷ []) s ≡ queueings ts s + queued_by t (run ts s)
@@ -207,10 +223,6 @@ run-push (x ∷ ts) t s = run-push ts t (stepped s (step s x))
 
 count-more : (xs : List ℕ) (f : ℕ) → length (xs ++ f ∷ []) - length xs ≡ 1
 count-more xs f = omega (arith, length-append xs (f ∷ []))
-
-count-less : (xs : List ℕ) → length (drop 1 xs) - length xs ≡ 0
-count-less [] = refl
-count-less (x ∷ xs) = omega arith
 
 module _ (limit parties : ℕ) (steps : List Step) where
   abbrev now : Machine
@@ -252,6 +264,7 @@ module _ (limit parties : ℕ) (steps : List Step) where
 
 pub counts-queueings : (limit parties : ℕ) (steps : List Step) → CountsQueueings limit parties steps
 counts-queueings limit parties steps = record {
+  most = queueings-most steps (start limit parties);
   new = refl;
   changes = λ few t. changes-by limit parties steps few t _ refl (by-step (run steps (start limit parties)) t);
   appends = λ few p h f e c. later limit parties steps (Go p h) (appended (run steps (start limit parties)).world.queue f) 1 (appends-now limit parties steps p h f e c) (count-more (run steps (start limit parties)).world.queue.items f);

@@ -1,5 +1,5 @@
 -- Lone ticks reach the common futures.
-use Rattle.std.proofs.Common.{◌≡◌, ◌≢◌, eqb, ℕ, zero, suc, ◌<◌, ◌≤◌, List, [], ◌∷◌, ◌++◌, length, drop, Bool, true, false, ◌||◌, ltb, refl, sym, ap, ◌∙◌, subst, inl, inr, ⊎_elim, arith, append-nil, append_assoc, length-append, Ok, Result}
+use Rattle.std.proofs.Common.{◌≡◌, ◌≢◌, eqb, ℕ, zero, suc, ◌<◌, ◌≤◌, List, [], ◌∷◌, ◌++◌, length, drop, Bool, true, false, ◌||◌, ltb, refl, sym, ap, ◌∙◌, subst, inl, inr, ⊎_elim, arith, append-nil, append_assoc, length-append, Ok}
 use Rattle.std.proofs.Math.Seq.{drop-append_seam}
 use Rattle.std.proofs.lemmas.Bool.Decides.{nat_tests}
 use Rattle.std.proofs.lemmas.List.Folds.{list_any-append}
@@ -12,7 +12,6 @@ use Rattle.executor_model.specs.declared.op.Op.{Op}
 use Rattle.executor_model.specs.declared.op.Op.TheVariants as op
 use Rattle.executor_model.specs.declared.step.Step.{Step}
 use Rattle.executor_model.specs.declared.step.Step.TheVariants.{Begin, Go, Answer}
-use Rattle.executor_model.specs.declared.step.StepError.{StepError}
 use Rattle.executor_model.specs.Trace.{Trace, has}
 use Rattle.executor_model.specs.Due.{IsDue}
 use Rattle.executor_model.specs.Keeper.{IsCommon}
@@ -23,15 +22,13 @@ use Rattle.executor_model.specs.Runs.{run_all}
 use Rattle.executor_model.specs.Weights.{same}
 use Rattle.executor_model.specs.Sound.{times}
 use Rattle.executor_model.specs.Good.{Good}
-use Rattle.executor_model.specs.Steps.{Machine, Part, stack, top, answer_refusal, onto, part_after, with_part, after, step, stepped, run, start}
+use Rattle.executor_model.specs.Steps.{Machine, Part, stack, top, answer_refusal, onto, part_after, with_part, run, start}
 use Rattle.executor_model.proofs.Lists.{same_cases}
-use Rattle.executor_model.proofs.Lift.{good}
 use Rattle.executor_model.proofs.Stories.{no-longer, among_is}
 use Rattle.executor_model.proofs.Telling.{begun-has}
-use Rattle.executor_model.proofs.Stepping.{step-made}
 use Rattle.executor_model.proofs.Entering.{table-agrees, queue-agrees}
-use Rattle.executor_model.proofs.AskingRuns.{Heard, heard}
-use Rattle.executor_model.proofs.Resting.{Deep, deep, rests}
+use Rattle.executor_model.proofs.AskingRuns.{Heard}
+use Rattle.executor_model.proofs.Resting.{rests}
 use Rattle.executor_laws.specs.Reach.{are_onward_of, IsLoneTick, LoneTick, AreLoneTicks, takes, TakesCommon, since, IsInReach}
 use Rattle.executor_laws.proofs.Ticking.{here, idle, due-queued, queued-due, ticking, taking, first-times}
 use Rattle.executor_laws.proofs.Reached.{Reached, run-first, reached-more, good-here, heard-here, deep-here}

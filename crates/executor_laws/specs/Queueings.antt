@@ -1,5 +1,5 @@
 -- How many Runnables were queued; and that the machine's queue is one that counts them, for as long as such a queue may.
-use Rattle.std.specs.Prelude.{◌≡◌, ℕ, ◌+◌, ◌-◌, ◌<◌, false, Some, List, [], ◌∷◌, ◌++◌, length}
+use Rattle.std.specs.Prelude.{◌≡◌, ℕ, ◌+◌, ◌-◌, ◌<◌, ◌≤◌, false, Some, List, [], ◌∷◌, ◌++◌, length}
 use Rattle.queue_steps.specs.ClosableQueue.{ClosableQueue, most_accepted, new_queue, HasRoom, IsUnspent, appended, taken, shut}
 use Rattle.executor_model.specs.declared.op.Op.TheVariants as op
 use Rattle.executor_model.specs.declared.step.Hint.{Hint}
@@ -36,9 +36,10 @@ counted_after limit parties steps = counting (queueings steps (start limit parti
 abbrev pub AreFewQueueings : ℕ → ℕ → List Step → Type 0
 AreFewQueueings limit parties steps = queueings steps (start limit parties) < most_accepted
 
--- the queue of a new machine is a new queue that counts; each step changes it as a closable queue changes; and a Runnable that is to be appended is,
+-- there are no more than steps; the queue of a new machine is a new queue that counts; each step changes it as a closable queue changes; and a Runnable that is to be appended is,
 -- unless the queue is closed
 pub record CountsQueueings (limit parties : ℕ) (steps : List Step) : Type 0 where
+  pub most : queueings steps (start limit parties) ≤ length steps
   pub new : counted_after limit parties [] ≡ new_queue (Some limit) (Some 0)
   pub changes : AreFewQueueings limit parties steps → (t : Step) → Changes (counted_after limit parties steps) (counted_after limit parties (steps ++ t ∷ []))
   pub appends : AreFewQueueings limit parties steps → (p : ℕ) (h : Hint) (f : ℕ) → top (stack (run steps (start limit parties)) p) ≡ Some (op.Append f) →

@@ -31,9 +31,9 @@ pub fn common_futures_are_in_reach()
     ensures { EveryMachine IsInReach }
 {}
 
-/// As long as fewer than 2^61 Runnables were queued, the queue of the machine is a closable queue that counts
-/// what it accepts, and may accept one more. No Runnable is kept out of it but by its close, and none is
-/// taken from it where it is empty.
+/// No more Runnables are queued than steps taken. As long as fewer than 2^61 were queued, the queue of the
+/// machine is a closable queue that counts what it accepts, and may accept one more. No Runnable is kept
+/// out of it but by its close, and none is taken from it where it is empty.
 pub fn queueings_are_counted()
     ensures { (limit parties : ℕ) (steps : List Step) → CountsQueueings limit parties steps }
 {}

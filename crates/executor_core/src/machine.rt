@@ -2,9 +2,11 @@
 ghost use Rattle.std.specs.Prelude.{◌≡◌, ◌⊎◌, ℕ, ◌+◌, ◌<◌, ◌≤◌, Some, None, Ok, Err, vec_len, vec_capacity, OnOk, IfOk, IfErr, IfSome, MatchOption, slice_get, take, List, length, map};
 ghost use Rattle.executor_model.specs.Steps as steps;
 ghost use Rattle.executor_model.specs.AskedPolls.{IsWokenBetweenPolls};
+ghost use Rattle.executor_model.specs.AwaiterKept.{AwaiterIsKept};
 ghost use Rattle.executor_model.specs.DroppedOnce.{DropComesOnce, IsDroppedByTheEnd};
 ghost use Rattle.executor_model.specs.EarlyDrop.{EarlyDropHasCause};
 ghost use Rattle.executor_model.specs.LawfulPolls.{HasLawfulPolls};
+ghost use Rattle.executor_model.specs.OutputKept.{OutputIsKept};
 ghost use Rattle.executor_model.specs.OutputOnce.{OutputGoesOnce};
 ghost use Rattle.executor_model.specs.Runs.{run_all};
 ghost use Rattle.executor_model.specs.World.{awaiter_of};
@@ -18,8 +20,9 @@ use crate::part::take_part;
 use crate::possible::{has_handle, part_refusal};
 use crate::store::Store;
 use executor_laws::laws::common_futures_are_in_reach;
+use executor_model::laws::outputs_are_kept;
 use executor_model::trace_laws::{
-    closing_drops_each_future_once, drops_come_once, early_drops_have_causes, outputs_go_once,
+    awaiters_are_kept, closing_drops_each_future_once, drops_come_once, early_drops_have_causes, outputs_go_once,
     polls_are_asked_for, polls_are_lawful,
 };
 use executor_model::{Awaiter, Event, Op, Step, StepError};
@@ -172,6 +175,8 @@ impl Machine {
         ensures drops_come_once { (f : ℕ) → DropComesOnce f self.new.world.trace }
         ensures early_drops_have_causes { (f : ℕ) → EarlyDropHasCause f self.new.world.trace }
         ensures closing_drops { (f : ℕ) → IsDroppedByTheEnd f self.new.world.trace }
+        ensures outputs_are_kept { (f : ℕ) → OutputIsKept self.new f }
+        ensures awaiters_are_kept { (f : ℕ) → AwaiterIsKept f self.new.world.trace }
         ensures in_reach { IsInReach self.new }
     {
         let refused = self.run_on(list);
@@ -181,6 +186,8 @@ impl Machine {
         drops_come_once();
         early_drops_have_causes();
         closing_drops_each_future_once();
+        outputs_are_kept();
+        awaiters_are_kept();
         common_futures_are_in_reach();
         refused
     }

@@ -1,3 +1,4 @@
 pub mod Remaining
-pub mod HandingOn
 pub mod Ticks
+pub mod Reach
+pub mod Queueings

@@ -1,5 +1,5 @@
 -- A wake that marks a task hands on one Runnable, or the end of the poll does.
-use Rattle.std.proofs.Common.{◌≡◌, ℕ, ◌+◌, ◌≤◌, List, [], ◌∷◌, Bool, true, false, ◌||◌, cond, refl, sym, ap, ◌∙◌, subst, arith}
+use Rattle.std.proofs.Common.{◌≡◌, ◌⊎◌, ℕ, ◌+◌, ◌≤◌, List, [], ◌∷◌, Bool, true, false, ◌||◌, cond, refl, sym, ap, ◌∙◌, subst, arith}
 use Rattle.std.specs.Prelude.{Option, Some, None}
 use Rattle.task_moves.specs.declared.moves.state.State.{State}
 use Rattle.task_moves.specs.declared.moves.owed.Move.TheVariants.{Release}
@@ -11,8 +11,10 @@ use Rattle.executor_model.specs.declared.step.Hint.{Hint}
 use Rattle.executor_model.specs.World.{World, task, among}
 use Rattle.executor_model.specs.Carried.{owed_ops}
 use Rattle.executor_model.specs.Weights.{same, weigh}
-use Rattle.executor_model.specs.Sound.{Sound, pend, tokens}
-use Rattle.executor_laws.specs.HandingOn.{appends_of, handed_on, HandsOn}
+use Rattle.executor_model.specs.Sound.{Sound, Pend, pend, tokens}
+use Rattle.executor_model.specs.Steps.{Machine}
+use Rattle.executor_model.specs.Good.{Good}
+use Rattle.executor_model.specs.HandingOn.{appends_of, handed_on, HandsOn, IsIdle, IsOnItsWay}
 use Rattle.executor_model.proofs.Lists.{same_is}
 
 one : (f : ℕ) → same f f ≡ 1
@@ -59,5 +61,11 @@ hands-on w f p h = record {
   none_by_value = λ s. none-value (is_over (task w f) || (task w f).scheduled) (task w f).running _ f (task w f) (or-right _ _ s);
 }
 
-pub on-its-way : (w : World) (f : ℕ) (ss : List (List Op)) → Sound w f (pend f ss) → (task w f).scheduled ≡ true → tokens w f (pend f ss) ≡ 1
-on-its-way w f ss h s = omega (arith, h.owed s, h.one)
+one-there : (w : World) (f : ℕ) (p : Pend) → Sound w f p → (task w f).scheduled ≡ true → tokens w f p ≡ 1
+one-there w f p h s = omega (arith, h.owed s, h.one)
+
+none-there : (w : World) (f : ℕ) (p : Pend) → Sound w f p → IsIdle w f → tokens w f p ≡ 0
+none-there w f p h i = let b = h.busy in let x = i.unscheduled in let y = i.stopped in let z = i.incomplete in let u = i.unclosed in grind arith
+
+pub on-its-way : (s : Machine) (f : ℕ) → Good s → IsOnItsWay s f
+on-its-way s f good = record { marked = one-there s.world f (pend f s.parties) (good.sound f); idle = none-there s.world f (pend f s.parties) (good.sound f) }

@@ -27,6 +27,14 @@ pub record HandsOn (w : World) (f p : ℕ) (h : Hint) : Type 0 where
   pub none_by_reference : (task w f).scheduled ≡ true → handed_on f (op.WakeByReference f) p h w ≡ 0
   pub none_by_value : (task w f).scheduled ≡ true → handed_on f (op.Wake f) p h w ≡ 0
 
--- a task that is marked has one Runnable, run or closing call
-abbrev pub IsOnItsWay : Machine → ℕ → Type 0
-IsOnItsWay s f = (task s.world f).scheduled ≡ true → tokens s.world f (pend f s.parties) ≡ 1
+-- f's task is open, and neither marked nor running
+pub record IsIdle (w : World) (f : ℕ) : Type 0 where
+  pub unscheduled : (task w f).scheduled ≡ false
+  pub stopped : (task w f).running ≡ false
+  pub incomplete : (task w f).completed ≡ false
+  pub unclosed : (task w f).closed ≡ false
+
+-- a task that is marked has one Runnable, run or closing call, and an idle one has none
+pub record IsOnItsWay (s : Machine) (f : ℕ) : Type 0 where
+  pub marked : (task s.world f).scheduled ≡ true → tokens s.world f (pend f s.parties) ≡ 1
+  pub idle : IsIdle s.world f → tokens s.world f (pend f s.parties) ≡ 0

@@ -1,6 +1,6 @@
 -- How a run ends. What is under the lock of a cell no clause of a handle's call can name, but such a call answers what the
 -- section of the lock did, on whatever task it found there.
-use Rattle.std.specs.Prelude.{◌≡◌, Bool, true, false, Option, Some, None}
+use Rattle.std.specs.Prelude.{◌≡◌, Bool, false, Option, Some, None}
 use Rattle.async_task.specs.declared.cell.Kept.{Kept}
 use Rattle.async_task.specs.declared.runnable.RunEnd.{RunEnd}
 use Rattle.async_task.specs.declared.runnable.Started.{Started}

@@ -28,3 +28,4 @@ pub mod Calls
 pub mod Resting
 pub mod Handing
 pub mod Quieting
+pub mod Unasking

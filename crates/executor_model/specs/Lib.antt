@@ -19,3 +19,4 @@ pub mod Entries
 pub mod Limit
 pub mod AskedPolls
 pub mod Emptiness
+pub mod Memory

@@ -1,13 +1,27 @@
 //! What queues and lists keep of a task, and what a schedule value does with a task that it is
 //! given.
-use crate::parts::{Counts, Tasks, made, next, outside_waker};
+use crate::parts::{Bell, Countdown, Counts, Line, Tasks, made, next, outside_waker};
 use async_task::{Awaiter, Due, Future, Poll, ScheduleInfo, TaskError, Wake};
+use std::sync::Wait;
 use std::sync::atomic::Ordering::SeqCst;
 use std::test::Fail;
 
 const IDLE: ScheduleInfo = ScheduleInfo {
     woken_while_running: false,
 };
+
+/// Whether a task is owed to its schedule value. It is dropped.
+fn is_there<R: Wait + Copy + Drop + 'static>(
+    due: Option<Due<Countdown, u64, Line<R>, u64, Bell, R>>,
+) -> bool {
+    match due {
+        Some(Due { runnable, info: _ }) => {
+            drop(runnable.into_runnable());
+            true
+        }
+        None => false,
+    }
+}
 
 /// A Runnable is stored, found again and run.
 #[test]
@@ -44,18 +58,18 @@ fn nothing_of_another_realm_is_redeemed(rt: HostRuntime) -> Result<(), Fail> {
     match (runnable.waker(), runnable.waker(), runnable.waker()) {
         (Some(one), Some(two), Some(three)) => {
             assert!(rt; one.store().redeem(rt, there).is_none());
-            assert!(rt; two.store().wake(rt, there).is_none());
-            assert!(rt; three.store().release(rt, there).is_none());
+            assert!(rt; !is_there(two.store().wake(rt, there)));
+            assert!(rt; !is_there(three.store().release(rt, there)));
         }
         _ => assert!(rt; false),
     }
-    assert!(rt;
-        runnable
-            .into_scheduled()
-            .store()
-            .redeem(rt, there)
-            .is_none()
-    );
+    match runnable.into_scheduled().store().redeem(rt, there) {
+        Some(found) => {
+            drop(found.into_runnable());
+            assert!(rt; false);
+        }
+        None => {}
+    }
     assert!(rt; !other.run());
     assert_eq!(rt; counts.so_far(), (1, 0, 0, 0));
     Ok(())
@@ -129,7 +143,7 @@ fn a_task_is_closed_by_its_schedule_value(rt: HostRuntime) -> Result<(), Fail> {
         ((0, 0, 1, 0), (2, 0, 0, 0))
     );
     assert_eq!(rt; task.poll(&waker), Poll::Ready(Err(TaskError::TaskClosed)));
-    assert!(rt; nobodys.into_scheduled().close().is_none());
+    assert!(rt; !is_there(nobodys.into_scheduled().close()));
     assert!(rt; nobodys_task.is_finished());
     assert_eq!(rt; counts.so_far(), (0, 0, 2, 0));
     assert_eq!(rt;

@@ -1,40 +1,8 @@
 //! How runs end, and how a cell is emptied.
-use crate::parts::{Bell, Countdown, Counts, Line, Tasks, TestRunnable, made};
-use async_task::{Back, RunEnd, Running, Started, Wake};
-use std::sync::Wait;
+use crate::parts::{Counts, Tasks, begun, ended, made};
+use async_task::{Back, Wake};
 use std::sync::atomic::Ordering::SeqCst;
 use std::test::Fail;
-
-type TestRunning<R> = Running<Countdown, u64, Line<R>, u64, Bell, R>;
-
-/// The future and the run that a Runnable of an open task begins.
-fn begun<R: Wait + Copy + Drop + 'static>(
-    runnable: TestRunnable<R>,
-) -> Option<(Countdown, TestRunning<R>)> {
-    match runnable.start() {
-        Started::Poll(future, running) => Some((future, running)),
-        Started::Drop(future, closing) => {
-            drop(future);
-            closing.finish();
-            None
-        }
-    }
-}
-
-/// What a run answers, and whether its future was dropped since the task was closed meanwhile.
-fn ended<R: Wait + Copy + Drop + 'static>(
-    running: TestRunning<R>,
-    back: Back<Countdown, u64>,
-) -> (bool, bool) {
-    match running.settle(back) {
-        RunEnd::Over(woken) => (woken, false),
-        RunEnd::Drop(future, closing) => {
-            drop(future);
-            closing.finish();
-            (false, true)
-        }
-    }
-}
 
 /// A run answers true exactly where the schedule value was told that the task was woken while it
 /// was polled: that is where it was, gave no output and wasn't closed.

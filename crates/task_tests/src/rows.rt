@@ -1,36 +1,8 @@
 //! Tasks from their spawn to their end, with what was polled, scheduled and dropped on the way.
-use crate::parts::{Counts, Tasks, TestAwaiter, TestRunnable, made, next, outside_waker};
-use async_task::{Awaiter, Back, Future, Poll, RunEnd, Started, Wake};
-use std::sync::Wait;
+use crate::parts::{Counts, Tasks, begun, ended, made, next, outside_waker};
+use async_task::{Awaiter, Back, Future, Poll, Wake};
 use std::sync::atomic::Ordering::SeqCst;
 use std::test::Fail;
-
-/// Runs a task whose future isn't ready: what the run answers, where that goes on to its end, and
-/// a copy of the waker that the future was polled with.
-fn rested<R: Wait + Copy + Drop + 'static>(
-    runnable: TestRunnable<R>,
-) -> (Option<bool>, Option<TestAwaiter<R>>) {
-    match runnable.start() {
-        Started::Poll(mut future, running) => {
-            let polled = future.poll(running.waker());
-            let kept = running.waker().clone();
-            match running.settle(Back::Pending(future)) {
-                RunEnd::Over(woken) if polled == Poll::Pending => (Some(woken), kept),
-                RunEnd::Over(_) => (None, kept),
-                RunEnd::Drop(future, closing) => {
-                    drop(future);
-                    closing.finish();
-                    (None, kept)
-                }
-            }
-        }
-        Started::Drop(future, closing) => {
-            drop(future);
-            closing.finish();
-            (None, None)
-        }
-    }
-}
 
 /// A detached task is kept by its wakers alone: the last one empties the cell.
 #[test]
@@ -39,8 +11,12 @@ fn a_detached_task_ends_with_its_last_waker(rt: HostRuntime) -> Result<(), Fail>
     let counts = Counts::new(rt.alloc())?;
     let (runnable, task) = made(rt, rt.alloc(), realm, &counts, 1, false)?;
     task.detach();
-    let (answer, kept) = rested(runnable);
-    assert_eq!(rt; answer, Some(false));
+    let Some((mut future, running)) = begun(runnable) else {
+        return Ok(assert!(rt; false, "an open task is polled"));
+    };
+    assert_eq!(rt; future.poll(running.waker()), Poll::Pending);
+    let kept = running.waker().clone();
+    assert_eq!(rt; ended(running, Back::Pending(future)), (false, false));
     assert_eq!(rt; counts.so_far(), (1, 0, 0, 0));
     match kept {
         Some(kept) => kept.wake(),

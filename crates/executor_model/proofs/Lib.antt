@@ -29,3 +29,17 @@ pub mod Resting
 pub mod Handing
 pub mod Quieting
 pub mod Unasking
+pub mod Keeping
+pub mod KeepingActs
+pub mod KeepingRuns
+pub mod OutputKept
+pub mod Awaited
+pub mod AwaitedActs
+pub mod AwaitedLists
+pub mod AwaitedTies
+pub mod AwaitedClosing
+pub mod AwaitedHeld
+pub mod AwaitedTelling
+pub mod AwaitedCalls
+pub mod AwaitedRuns
+pub mod AwaitedRest

@@ -4,6 +4,7 @@ ghost use Rattle.executor_model.specs.Emptiness.{IsEmptinessExact, IsQuietEmptin
 ghost use Rattle.executor_model.specs.Entries.{FindsPlace, QueueAgrees, TableAgrees};
 ghost use Rattle.executor_model.specs.Limit.{IsLimitExact};
 ghost use Rattle.executor_model.specs.Memory.{NeedsNoMemory};
+ghost use Rattle.executor_model.specs.OutputKept.{OutputIsKept};
 ghost use Rattle.executor_model.specs.Runs.{EveryMachine, EveryRun, HandsOutOne, HasOneRunnable, IsCounted};
 ghost use Rattle.executor_model.specs.World.{World};
 
@@ -64,4 +65,11 @@ pub fn quiet_emptiness_is_exact()
 /// memory is refused or not. So no wake, cancel, detach or drop is ever refused, nor is a tick.
 pub fn wakes_and_drops_take_no_memory()
     ensures { (w : World) (p : ℕ) → NeedsNoMemory w p }
+{}
+
+/// Where no call is in progress, an output that is there is given to the next poll of the handle: if the future
+/// was ready, nobody has cancelled it, no poll was given the output and no call has taken the handle, then a
+/// poll of the handle, with no step of another party in between, gives the output, whoever makes it.
+pub fn outputs_are_kept()
+    ensures { EveryRun OutputIsKept }
 {}

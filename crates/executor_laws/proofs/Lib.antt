@@ -5,3 +5,4 @@ pub mod HandingOn
 pub mod Pushes
 pub mod Dueness
 pub mod Ticking
+pub mod Growing

@@ -28,11 +28,9 @@ use Rattle.executor_model.specs.declared.step.UserEnd.TheVariants as end
 use Rattle.executor_model.specs.Trace.{Trace, has}
 use Rattle.executor_model.specs.World.{World, Done, done, log, log_if, task, put}
 use Rattle.executor_model.specs.Acts.{append_by, take_by, enter_by, leave_by, copy_by, look_by, look_again_by, copy_awaiter_by, register_by, end_register_by, notify_by, call_awaiter, drop_next_by, wake, wake_next_by, drain_by, act}
-use Rattle.executor_model.specs.Steps.{Machine, stack, top, below_top, kept, polled_by, unless, party_of, part_refusal, refusal, begun, with_future, react, Part, part, end_of, settled_by, settled, onto, part_after, after, step_by, step, stepped, run}
+use Rattle.executor_model.specs.Steps.{Machine, stack, top, below_top, kept, polled_by, unless, party_of, part_refusal, refusal, begun, with_future, react, Part, part, end_of, settled_by, settled, onto, gone_on, part_after, after, step_by, step, stepped, run}
 use Rattle.executor_laws.specs.Remaining.{is_onward}
-use Rattle.executor_model.proofs.Stepping.{step-refused, step-made}
-use Rattle.executor_model.proofs.Ways.{Way, Made, made}
-use Rattle.executor_model.proofs.Ways.Way.{acted, reacted, called}
+use Rattle.executor_laws.specs.Continued.{IsContinued}
 
 abbrev pub begins_one : Event → Bool
 begins_one (event.CallBegun p c) = true
@@ -218,18 +216,13 @@ grows-begun p w here call.DropExecutor = grows-log _ _ (event.DropBegun p) refl 
 
 -- a whole step
 
--- what a step adds to the trace es: nothing; something in which no call begins; or first of all the beginning of its call
-pub data Adds (es : Trace) (t : Step) (now : Trace) : Type 0 where
-  nothing : now ≡ es → Adds es t now
-  goes_on : (more : Trace) → is_onward t ≡ true → now ≡ es ++ more → has begins_one more ≡ false → Adds es t now
-  begins : (p : ℕ) (c : Call) (more : Trace) → t ≡ Begin p c → now ≡ es ++ event.CallBegun p c ∷ more → has begins_one more ≡ false → Adds es t now
+-- what follows es in a trace, where no call begins in it
+pub record More (es now : Trace) : Type 0 where
+  pub more : Trace
+  pub is : now ≡ es ++ more
+  pub none : has begins_one more ≡ false
 
 -- a call that ends adds its end
-record More (es now : Trace) : Type 0 where
-  more : Trace
-  is : now ≡ es ++ more
-  none : has begins_one more ≡ false
-
 more-settled : (o : Option Op) (es : Trace) (p : ℕ) (w : World) (os : List Op) (more : Trace) → w.trace ≡ es ++ more → has begins_one more ≡ false → More es (settled_by (end_of o) p w os).world.trace
 more-settled (Some (op.End r held)) es p w os more e n = record {
   more = more ++ event.CallEnded p r ∷ [];
@@ -239,11 +232,57 @@ more-settled (Some (op.End r held)) es p w os more e n = record {
 more-settled None es p w os more e n = record { more = more; is = e; none = n }
 more-settled (Some _) es p w os more e n = record { more = more; is = e; none = n }
 
-more-onto : (es : Trace) (p : ℕ) (d : Done) (rest : List Op) (more : Trace) → d.world.trace ≡ es ++ more → has begins_one more ≡ false → More es (onto p d rest).world.trace
-more-onto es p d rest more e n = more-settled (top (rest ++ reverse d.next)) es p d.world (rest ++ reverse d.next) more e n
+more-onto : (es : Trace) (p : ℕ) (d : Done) (rest : List Op) → More es d.world.trace → More es (onto p d rest).world.trace
+more-onto es p d rest m = more-settled (top (rest ++ reverse d.next)) es p d.world (rest ++ reverse d.next) m.more m.is m.none
 
--- the end of a call that stands on top is no less an end where it is done
+-- an end that stands on top and is done adds itself
 more-act : (p : ℕ) (h : Hint) (o : Op) (w : World) (b : Bool) → is_end o ≡ b → More w.trace (act p h o w).world.trace
-more-act p h o w false n = let g = grows-act p h o w n in record { more = g.more; is = g.is; none = g.none_begins }
+more-act p h o w false n = let g : Grows w (act p h o w).world = grows-act p h o w n in record { more = g.more; is = g.is; none = g.none_begins }
 more-act p h (op.End r held) w true n = record { more = event.CallEnded p r ∷ []; is = refl; none = refl }
 more-act p h _ w true n = absurd (cc)
+
+more-react : (p : ℕ) (o : Op) (u : UserEnd) (w : World) → More w.trace (react p o u w).world.trace
+more-react p o u w = let g : Grows w (react p o u w).world = grows-react p o u w in record { more = g.more; is = g.is; none = g.none_begins }
+
+more-begun : (p : ℕ) (w : World) (here : Option ℕ) (c : Call) → More (w.trace ++ event.CallBegun p c ∷ []) (begun p (log w (event.CallBegun p c)) here c).world.trace
+more-begun p w here c = let g : Grows (log w (event.CallBegun p c)) (begun p (log w (event.CallBegun p c)) here c).world = grows-begun p (log w (event.CallBegun p c)) here c in record { more = g.more; is = g.is; none = g.none_begins }
+
+more-gone_on : (p : ℕ) (w : World) (os : List Op) (o : Option Op) (d : Op → Done) → ((x : Op) → More w.trace (d x).world.trace) → More w.trace (gone_on p w os o d).world.trace
+more-gone_on p w os None d k = record { more = []; is = sym (append-nil w.trace); none = refl }
+more-gone_on p w os (Some o) d k = more-onto w.trace p (d o) (below_top os) (k o)
+
+-- what a step does to the machine and its trace: nothing; it adds something in which no call begins; or, first of all, the
+-- beginning of its call
+pub data Adds (s : Machine) (t : Step) (now : Machine) : Type 0 where
+  refused : now ≡ s → Adds s t now
+  goes_on : is_onward t ≡ true → More s.world.trace now.world.trace → Adds s t now
+  begins : (p : ℕ) (c : Call) → t ≡ Begin p c → More (s.world.trace ++ event.CallBegun p c ∷ []) now.world.trace → Adds s t now
+
+adds-after : (s : Machine) (t : Step) → Adds s t (after s t)
+adds-after s (Begin p c) = begins p c refl (more-onto (s.world.trace ++ event.CallBegun p c ∷ []) p (begun p (log s.world (event.CallBegun p c)) (polled_by (top (stack s p))) c) (stack s p) (more-begun p s.world (polled_by (top (stack s p))) c))
+adds-after s (Go p h) = goes_on refl (more-gone_on p s.world (stack s p) (top (stack s p)) (λ o. act p h o s.world) (λ o. more-act p h o s.world (is_end o) refl))
+adds-after s (Answers p u) = goes_on refl (more-gone_on p s.world (stack s p) (top (stack s p)) (λ o. react p o u s.world) (λ o. more-react p o u s.world))
+
+adds-by : (s : Machine) (t : Step) (r : Option StepError) → Adds s t (stepped s (step_by r s t))
+adds-by s t (Some e) = refused refl
+adds-by s t None = adds-after s t
+
+pub adds : (s : Machine) (t : Step) → Adds s t (stepped s (step s t))
+unfolding step
+adds s t = adds-by s t (refusal s t)
+
+-- whatever is done, what has happened stays
+pub continues : (s : Machine) (t : Step) → IsContinued s.world.trace (stepped s (step s t)).world.trace
+continues s t = by-kind (adds s t)
+  where
+    by-kind : Adds s t (stepped s (step s t)) → IsContinued s.world.trace (stepped s (step s t)).world.trace
+    by-kind (refused e) = ([], ap (λ (m : Machine). m.world.trace) e ∙ sym (append-nil s.world.trace))
+    by-kind (goes_on k m) = (m.more, m.is)
+    by-kind (begins p c e m) = (event.CallBegun p c ∷ m.more, m.is ∙ append_assoc s.world.trace (event.CallBegun p c ∷ []) m.more)
+
+pub run-continues : (ts : List Step) (s : Machine) → IsContinued s.world.trace (run ts s).world.trace
+run-continues [] s = ([], sym (append-nil s.world.trace))
+run-continues (t ∷ ts) s =
+    let one : IsContinued s.world.trace (stepped s (step s t)).world.trace = continues s t in
+    let all : IsContinued (stepped s (step s t)).world.trace (run ts (stepped s (step s t))).world.trace = run-continues ts (stepped s (step s t)) in
+    (one.0 ++ all.0, all.1 ∙ (ap (λ (xs : Trace). xs ++ all.0) one.1 ∙ append_assoc s.world.trace one.0 all.0))

@@ -6,3 +6,7 @@ pub mod Pushes
 pub mod Dueness
 pub mod Ticking
 pub mod Growing
+pub mod Finding
+pub mod Following
+pub mod Inside
+pub mod Begun

@@ -40,21 +40,21 @@ use Rattle.executor_laws.specs.Ticks.{ticks, FindsNothing, FindsDue, IsTickExact
 use Rattle.executor_laws.proofs.Dueness.{asked-is, ready-is, not-over, unopened}
 
 -- the machine in which p has called a tick, and has still to take
-abbrev ticking : Machine → ℕ → Machine
+abbrev pub ticking : Machine → ℕ → Machine
 ticking s p = record { world = log s.world (event.CallBegun p call.TryTick); parties = set s.parties p (op.Take ∷ []) }
 
 module _ (s : Machine) (fine : Good s) (h : Heard s) (d : Deep s) (rest : IsAtRest s) where
-  here : s.world.gone ≡ false
+  pub here : s.world.gone ≡ false
   here = sym (h.placed.leaves 0).begun ∙ (begun-has 0 s.world.trace ∙ rest.there)
 
-  idle : (q : ℕ) → stack s q ≡ []
+  pub idle : (q : ℕ) → stack s q ≡ []
   idle q = rests s d rest.quiet q
 
   none : (v : Op → ℕ) → weigh_all v s.parties ≡ 0
   none v = all-rest v s.parties idle
 
   -- a future that is due has a Runnable in the queue
-  due-queued : (f : ℕ) → IsDue f s.world.trace → 1 ≤ times f s.world.queue.items
+  pub due-queued : (f : ℕ) → IsDue f s.world.trace → 1 ≤ times f s.world.queue.items
   due-queued f due = ⊎_elim
       (λ (x : (task s.world f).scheduled ≡ true). let t = (fine.sound f).owed x in omega (arith, t, none (waiting_of f), none (polls_of f), none (ending_of f), none (ready_of f), none (closing_of f), none (settling_of f), none (giving_of f)))
       (λ (x : ((task s.world f).closed ≡ true) × (1 ≤ weigh_all (polls_of f) s.parties + (weigh_all (ending_of f) s.parties + weigh_all (drops_of f) s.parties))). absurd (omega (arith, x.1, none (polls_of f), none (ending_of f), none (drops_of f))))
@@ -65,7 +65,7 @@ module _ (s : Machine) (fine : Good s) (h : Heard s) (d : Deep s) (rest : IsAtRe
   no-true false k = refl
 
   -- and none else
-  queued-due : (f : ℕ) → 1 ≤ times f s.world.queue.items → IsDue f s.world.trace
+  pub queued-due : (f : ℕ) → 1 ≤ times f s.world.queue.items → IsDue f s.world.trace
   queued-due f k =
       let q : QueueAgrees s f = queue-agrees s f fine h.placed in
       let live : (task s.world f).completed ≡ false = (fine.sound f).live (omega (arith, k)) in
@@ -90,11 +90,11 @@ module _ (s : Machine) (p : ℕ) (l : p < length s.parties) (n : s.world.gone �
       ∙ (ap (λ (os : List Op). begin_refusal s.world s.parties (top os) call.TryTick) e
       ∙ ap (λ (b : Bool). unless (not (b && true)) Gone None) n)
 
-  begun-alone : stepped s (step s (Begin p call.TryTick)) ≡ ticking s p
+  pub begun-alone : stepped s (step s (Begin p call.TryTick)) ≡ ticking s p
   unfolding step
   begun-alone = ap (λ (x : Option StepError). stepped s (step_by x s (Begin p call.TryTick))) none-refused ∙ ap (λ (os : List Op). with_part s p (part_after s.world os (Begin p call.TryTick))) e
 
-  taking : stack (ticking s p) p ≡ op.Take ∷ []
+  pub taking : stack (ticking s p) p ≡ op.Take ∷ []
   taking = get_or-set_same s.parties p (op.Take ∷ []) [] l
 
   there : nat_lt p (length (ticking s p).parties) ≡ true
@@ -103,7 +103,7 @@ module _ (s : Machine) (p : ℕ) (l : p < length s.parties) (n : s.world.gone �
   goes-on : (t : Hint) → refusal (ticking s p) (Go p t) ≡ None
   goes-on t = ap (λ (b : Bool). unless b NoSuch (go_refusal (top (stack (ticking s p) p)))) there ∙ ap (λ (os : List Op). go_refusal (top os)) taking
 
-  gone-on-alone : (t : Hint) (items : List ℕ) → s.world.queue.items ≡ items → run (ticks p t) s ≡ with_part (ticking s p) p (onto p (take_by (ticking s p).world items) [])
+  pub gone-on-alone : (t : Hint) (items : List ℕ) → s.world.queue.items ≡ items → run (ticks p t) s ≡ with_part (ticking s p) p (onto p (take_by (ticking s p).world items) [])
   unfolding step
   gone-on-alone t items q =
       ap (λ (m : Machine). stepped m (step m (Go p t))) begun-alone
@@ -111,10 +111,10 @@ module _ (s : Machine) (p : ℕ) (l : p < length s.parties) (n : s.world.gone �
       ∙ (ap (λ (os : List Op). with_part (ticking s p) p (part_after (ticking s p).world os (Go p t))) taking
       ∙ ap (λ (xs : List ℕ). with_part (ticking s p) p (onto p (take_by (ticking s p).world xs) [])) q))
 
-  placed-there : (os : List Op) → get_or (set (ticking s p).parties p os) p [] ≡ os
+  pub placed-there : (os : List Op) → get_or (set (ticking s p).parties p os) p [] ≡ os
   placed-there os = get_or-set_same (ticking s p).parties p os [] (omega (arith, l, length-set s.parties p (op.Take ∷ [])))
 
-  finds-nothing : (t : Hint) → s.world.queue.items ≡ [] → FindsNothing s p t
+  pub finds-nothing : (t : Hint) → s.world.queue.items ≡ [] → FindsNothing s p t
   finds-nothing t q = ap (λ (m : Machine). m.world.trace) (gone-on-alone t [] q) ∙ append_assoc s.world.trace (event.CallBegun p call.TryTick ∷ []) (event.CallEnded p reply.No ∷ [])
 
   finds-one : (t : Hint) (f : ℕ) (xs : List ℕ) → s.world.queue.items ≡ f ∷ xs → stack (run (ticks p t) s) p ≡ op.End reply.Yes hold.Executor ∷ op.TakeUp f ∷ []

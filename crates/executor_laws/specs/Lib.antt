@@ -1,3 +1,5 @@
 pub mod Remaining
 pub mod HandingOn
 pub mod Ticks
+pub mod Continued
+pub mod AtRest

@@ -8,13 +8,14 @@ mod player;
 mod turn;
 
 ghost use Rattle.std.specs.Prelude.{◌≡◌, IfOk};
-ghost use Rattle.simulator.specs.Play.{Player, start};
-ghost use Rattle.simulator.specs.Commands.{PlaysAll};
+ghost use Rattle.simulator.specs.Play.{Player};
 ghost use Rattle.simulator.specs.Lawful.{IsLawful};
+ghost use Rattle.simulator.specs.ScriptText.{IsPlayed};
 
 use crate::moment::Moment;
 use crate::play::player::Player;
 use executor_core::Machine;
+use executor_laws::laws::{calls_at_rest_are_exact, traces_continue};
 use executor_model::trace_laws::{
     closing_drops_each_future_once, drops_come_once, early_drops_have_causes, outputs_go_once,
     polls_are_asked_for, polls_are_lawful,
@@ -30,16 +31,19 @@ pub struct Played {
     pub names: Names,
 }
 
-/// Plays the commands on a new machine with places for so many futures. Ends early only for want of
-/// memory, and shows nothing then.
+/// Plays the commands on a new machine with places for so many futures. What it shows is all that the
+/// steps that were tried made happen, in order. Ends early only for want of memory, and shows nothing
+/// then.
 pub fn run(alloc: Global, limit: u64, commands: &[Command]) -> Result<Played, AllocError>
-    ensures { IfOk result (λ played. (last : Player) × PlaysAll 0 commands.now (start commands.now limit) last × (played.moments.items ≡ last.moments) × (played.names ≡ last.names) × IsLawful last.machine.world.trace) }
+    ensures { IfOk result (λ played. (last : Player) × IsPlayed limit commands.now last ×
+        (played.moments.items ≡ last.moments) × (played.names ≡ last.names)) }
 {
     let mut player = Player::new(alloc, commands, limit)?;
     for (at, command) in commands.iter().enumerate() {
         player.play(at, command)?;
     }
     keeps_to_laws(&player.machine);
+    traces_continue();
     Ok(player.into_played())
 }
 
@@ -53,5 +57,6 @@ fn keeps_to_laws(machine: &Machine)
     drops_come_once();
     early_drops_have_causes();
     closing_drops_each_future_once();
+    calls_at_rest_are_exact();
     machine.is_reached();
 }

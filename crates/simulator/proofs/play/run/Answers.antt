@@ -2,9 +2,10 @@ use Rattle.std.proofs.Common.{rules, ◌≡◌, ℕ, suc, ◌+◌, ◌<◌, List
 use Rattle.std.proofs.Math.Seq.{drop-cons}
 use Rattle.std.proofs.lemmas.List.{drop_all}
 use Rattle.script.specs.declared.command.Command.{Command}
-use Rattle.simulator.specs.Play.{Player}
+use Rattle.simulator.specs.Play.{Player, start}
 use Rattle.simulator.specs.Commands.{Plays, PlaysAll}
 use Rattle.simulator.specs.Lawful.{IsLawful}
+use Rattle.simulator.proofs.Keeping.{IsFair, fair}
 use Rattle.simulator.proofs.play.run.Goals as goal
 
 -- the command at i and those behind it are the commands from i on
@@ -30,10 +31,16 @@ played_all : (cs : List Command) (i : ℕ) (s : Player) → length cs ≤ i → 
 played_all cs i s past = subst (λ (ds : List Command). PlaysAll i ds s s) (sym (drop_all i cs (omega (arith, past)))) refl
 
 pub returns : goal.returns
-returns c = (
-  c.loop-at.player,
-  c.loop-at.invariant c.loop-at.player (played_all c.args.commands.now c.loop-at.at c.loop-at.player c.loop-at-test.false),
-  search rules,
-  search rules,
-  subst (λ (x : Player). IsLawful x.machine.world.trace) c.player-2.view_is c.keeps_to_laws.ensures,
-)
+returns c =
+    let last = c.loop-at.player in
+    let plays : PlaysAll 0 c.args.commands.now (start c.args.commands.now c.args.limit) last = c.loop-at.invariant last (played_all c.args.commands.now c.loop-at.at last c.loop-at-test.false) in
+    let comes : IsFair c.args.limit last = fair c.traces_continue.ensures c.args.limit c.args.commands.now last plays in
+    (last,
+    record {
+      plays = plays;
+      made = comes.0;
+      shown = comes.1;
+      lawful = subst (λ (x : Player). IsLawful x.machine.world.trace) c.player-2.view_is c.keeps_to_laws.ensures;
+    },
+    search rules,
+    search rules)

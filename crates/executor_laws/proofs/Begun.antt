@@ -131,40 +131,37 @@ module _ (s : Machine) (fine : Good s) (h : Heard s) (d : Deep s) (rest : IsAtRe
 
 -- a run whose trace has the beginning of the call
 
-module _ (limit parties : ℕ) (steps : List Step) (p : ℕ) (c : Call) (before : Trace) (next : Event) (b : BeginsAtRest p c before next (run steps (start limit parties)).world.trace) where
-  there : Found p c before steps (start limit parties)
-  there = found p c before (next ∷ b.later) steps (start limit parties) before refl b.parts
-
-  moment : Machine
-  moment = run there.steps (start limit parties)
+module _ (limit parties : ℕ) (steps : List Step) (p : ℕ) (c : Call) (before : Trace) (next : Event) (b : BeginsAtRest p c before next (run steps (start limit parties)).world.trace) (f : Found p c before steps (start limit parties)) where
+  abbrev moment : Machine
+  moment = run f.steps (start limit parties)
 
   at-rest : IsAtRest moment
-  at-rest = record { quiet = subst IsQuiet (sym there.here) b.quiet; there = ap (has is_drop_begun) there.here ∙ b.there }
+  at-rest = record { quiet = subst IsQuiet (sym f.here) b.quiet; there = ap (has is_drop_begun) f.here ∙ b.there }
 
   party-there : p < length moment.parties
-  party-there = known moment p c there.more (there.shown ∙ ap (λ (xs : Trace). xs ++ event.CallBegun p c ∷ there.more) (sym there.here))
+  party-there = known moment p c f.more (f.shown ∙ ap (λ (xs : Trace). xs ++ event.CallBegun p c ∷ f.more) (sym f.here))
 
   -- what is left to run, from the machine in which the call has begun
-  runs-on : (m : Machine) → stepped moment (step moment (Begin p c)) ≡ m → m.world.trace ≡ moment.world.trace ++ event.CallBegun p c ∷ [] → (run there.behind m).world.trace ≡ m.world.trace ++ next ∷ b.later
+  runs-on : (m : Machine) → stepped moment (step moment (Begin p c)) ≡ m → m.world.trace ≡ moment.world.trace ++ event.CallBegun p c ∷ [] → (run f.behind m).world.trace ≡ m.world.trace ++ next ∷ b.later
   runs-on m e t =
-      ap (λ (x : Machine). (run there.behind x).world.trace) (sym e)
-      ∙ (ap (λ (x : Machine). x.world.trace) there.goes
+      ap (λ (x : Machine). (run f.behind x).world.trace) (sym e)
+      ∙ (ap (λ (x : Machine). x.world.trace) f.goes
       ∙ (b.parts
-      ∙ (ap (λ (xs : Trace). xs ++ event.CallBegun p c ∷ next ∷ b.later) (sym there.here)
+      ∙ (ap (λ (xs : Trace). xs ++ event.CallBegun p c ∷ next ∷ b.later) (sym f.here)
       ∙ (sym (append_assoc moment.world.trace (event.CallBegun p c ∷ []) (next ∷ b.later))
       ∙ ap (λ (xs : Trace). xs ++ next ∷ b.later) (sym t)))))
 
 tick-told : (limit parties : ℕ) (steps : List Step) (p : ℕ) (before : Trace) (next : Event) → BeginsAtRest p call.TryTick before next (run steps (start limit parties)).world.trace → TickAnswered p before next
 tick-told limit parties steps p before next b =
-    let f : Found p call.TryTick before steps (start limit parties) = there limit parties steps p call.TryTick before next b in
-    let s : Machine = moment limit parties steps p call.TryTick before next b in
+    let f : Found p call.TryTick before steps (start limit parties) = found p call.TryTick before (next ∷ b.later) steps (start limit parties) before refl b.parts in
+    let s : Machine = run f.steps (start limit parties) in
     let fine : Good s = good limit parties f.steps in
     let h : Heard s = heard limit parties f.steps in
     let d : Deep s = deep limit parties f.steps in
-    let r : IsAtRest s = at-rest limit parties steps p call.TryTick before next b in
-    let l : p < length s.parties = party-there limit parties steps p call.TryTick before next b in
+    let r : IsAtRest s = at-rest limit parties steps p call.TryTick before next b f in
+    let l : p < length s.parties = party-there limit parties steps p call.TryTick before next b f in
     subst (λ (es : Trace). TickAnswered p es next) f.here
-    (tick-next s fine h d r p l next b.later b.alone f.behind (runs-on limit parties steps p call.TryTick before next b (ticking s p) (begun-alone s p l (here s fine h d r) (idle s fine h d r p)) refl))
+    (tick-next s fine h d r p l next b.later b.alone f.behind (runs-on limit parties steps p call.TryTick before next b f (ticking s p) (begun-alone s p l (here s fine h d r) (idle s fine h d r p)) refl))
 
 pub ticks-are-exact : (limit parties : ℕ) (steps : List Step) (p : ℕ) → TicksAreExact p (run steps (start limit parties)).world.trace
 ticks-are-exact limit parties steps p before next b = ⊎_elim
@@ -174,15 +171,15 @@ ticks-are-exact limit parties steps p before next b = ⊎_elim
 
 empty-told : (limit parties : ℕ) (steps : List Step) (p : ℕ) (before : Trace) (next : Event) → BeginsAtRest p call.IsEmpty before next (run steps (start limit parties)).world.trace → EmptyAnswered p before next
 empty-told limit parties steps p before next b =
-    let f : Found p call.IsEmpty before steps (start limit parties) = there limit parties steps p call.IsEmpty before next b in
-    let s : Machine = moment limit parties steps p call.IsEmpty before next b in
+    let f : Found p call.IsEmpty before steps (start limit parties) = found p call.IsEmpty before (next ∷ b.later) steps (start limit parties) before refl b.parts in
+    let s : Machine = run f.steps (start limit parties) in
     let fine : Good s = good limit parties f.steps in
     let h : Heard s = heard limit parties f.steps in
     let d : Deep s = deep limit parties f.steps in
-    let r : IsAtRest s = at-rest limit parties steps p call.IsEmpty before next b in
-    let l : p < length s.parties = party-there limit parties steps p call.IsEmpty before next b in
+    let r : IsAtRest s = at-rest limit parties steps p call.IsEmpty before next b f in
+    let l : p < length s.parties = party-there limit parties steps p call.IsEmpty before next b f in
     subst (λ (es : Trace). EmptyAnswered p es next) f.here
-    (asked-next s fine h d r p l next b.later b.alone (quiet-empties limit parties f.steps) f.behind (runs-on limit parties steps p call.IsEmpty before next b (asking s p) (asks s p l (here s fine h d r) (idle s fine h d r p)) refl))
+    (asked-next s fine h d r p l next b.later b.alone (quiet-empties limit parties f.steps) f.behind (runs-on limit parties steps p call.IsEmpty before next b f (asking s p) (asks s p l (here s fine h d r) (idle s fine h d r p)) refl))
 
 pub emptiness-is-exact : (limit parties : ℕ) (steps : List Step) (p : ℕ) → EmptinessIsExact p (run steps (start limit parties)).world.trace
 emptiness-is-exact limit parties steps p before next b = ⊎_elim

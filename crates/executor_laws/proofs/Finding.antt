@@ -71,7 +71,7 @@ beyond es more all rest pre later e a b = append_cancel_left es (more ++ rest) (
 
 -- the first step of a run; those behind it are searched again
 module _ (p : ℕ) (c : Call) (before later : Trace) (t : Step) (ts : List Step) (s : Machine) (pre : Trace) (b : before ≡ s.world.trace ++ pre) (e : (run ts (stepped s (step s t))).world.trace ≡ before ++ event.CallBegun p c ∷ later) (again : (left : Trace) → before ≡ (stepped s (step s t)).world.trace ++ left → Found p c before ts (stepped s (step s t))) where
-  now : Machine
+  abbrev now : Machine
   now = stepped s (step s t)
 
   rest : IsContinued now.world.trace (run ts now).world.trace

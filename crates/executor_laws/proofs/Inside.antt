@@ -97,12 +97,26 @@ last-there : (o : Op) (os : List Op) → (x : Op) × (slice_get (o ∷ os) (leng
 last-there o [] = (o, refl)
 last-there o (y ∷ os) = last-there y os
 
+one-less : (n : ℕ) → suc n - 1 ≡ n
+one-less n = omega arith
+
+top-there : (o : Op) (os : List Op) → (x : Op) × (top (o ∷ os) ≡ Some x)
+top-there o os = let last : (x : Op) × (slice_get (o ∷ os) (length os) ≡ Some x) = last-there o os in
+    (last.0, ap (slice_get (o ∷ os)) (one-less (length os)) ∙ last.1)
+
+-- what stands at the bottom is neither the top nor above it
+top-above : (x o : Op) (os : List Op) → top (x ∷ o ∷ os) ≡ top (o ∷ os)
+top-above x o os = ap (slice_get (x ∷ o ∷ os)) (one-less (suc (length os))) ∙ ap (slice_get (o ∷ os)) (sym (one-less (length os)))
+
+below-above : (x o : Op) (os : List Op) → below_top (x ∷ o ∷ os) ≡ x ∷ below_top (o ∷ os)
+below-above x o os = ap (λ (n : ℕ). take n (x ∷ o ∷ os)) (one-less (suc (length os))) ∙ ap (λ (n : ℕ). x ∷ take n (o ∷ os)) (sym (one-less (length os)))
+
 -- the new top of the stack is the end of the call, or no end
 next-settled : (p : ℕ) (held : Hold) (w : World) (d : Done) (rest : List Op) → Grows w d.world → weigh calling_of rest ≡ 0 → NextPart p held w (settled_by (end_of (top (yes held ∷ rest))) p d.world (yes held ∷ rest))
 next-settled p held w d [] g z = answered g.more g.none_ends (ap (λ (xs : Trace). xs ++ event.CallEnded p reply.Yes ∷ []) g.is ∙ append_assoc w.trace g.more (event.CallEnded p reply.Yes ∷ []))
 next-settled p held w d (o ∷ os) g z =
-    let last : (x : Op) × (slice_get (o ∷ os) (length os) ≡ Some x) = last-there o os in
-    let none : end_of (top (yes held ∷ o ∷ os)) ≡ None = ap end_of last.1 ∙ not-end last.0 (lightest (length os) (o ∷ os) last.0 z last.1) in
+    let last : (x : Op) × (top (o ∷ os) ≡ Some x) = top-there o os in
+    let none : end_of (top (yes held ∷ o ∷ os)) ≡ None = ap end_of (top-above (yes held) o os ∙ last.1) ∙ not-end last.0 (top-light (o ∷ os) last.0 z last.1) in
     subst (λ (r : Option Reply). NextPart p held w (settled_by r p d.world (yes held ∷ o ∷ os))) (sym none) (inside g.more (o ∷ os) g.none_ends g.is refl z)
 
 next-onto : (p : ℕ) (held : Hold) (w : World) (d : Done) (below : List Op) → Light w d → weigh calling_of below ≡ 0 → NextPart p held w (onto p d (yes held ∷ below))
@@ -110,9 +124,10 @@ next-onto p held w d below l z = next-settled p held w d (below ++ reverse d.nex
 
 next-light : (p : ℕ) (held : Hold) (w : World) (d : Op → Done) (o : Op) (os : List Op) → ((x : Op) → calling_of x ≡ 0 → Light w (d x)) → weigh calling_of (o ∷ os) ≡ 0 → NextPart p held w (gone_on p w (yes held ∷ o ∷ os) (top (yes held ∷ o ∷ os)) d)
 next-light p held w d o os k z =
-    let last : (x : Op) × (slice_get (o ∷ os) (length os) ≡ Some x) = last-there o os in
-    subst (λ (t : Option Op). NextPart p held w (gone_on p w (yes held ∷ o ∷ os) t d)) (sym last.1)
-    (next-onto p held w (d last.0) (below_top (o ∷ os)) (k last.0 (lightest (length os) (o ∷ os) last.0 z last.1)) (light-below (o ∷ os) last.0 z last.1))
+    let last : (x : Op) × (top (o ∷ os) ≡ Some x) = top-there o os in
+    subst (λ (t : Option Op). NextPart p held w (gone_on p w (yes held ∷ o ∷ os) t d)) (sym (top-above (yes held) o os ∙ last.1))
+    (subst (λ (bs : List Op). NextPart p held w (onto p (d last.0) bs)) (sym (below-above (yes held) o os))
+    (next-onto p held w (d last.0) (below_top (o ∷ os)) (k last.0 (top-light (o ∷ os) last.0 z last.1)) (light-below (o ∷ os) last.0 z last.1)))
 
 next-go : (p : ℕ) (held : Hold) (h : Hint) (w : World) (rest : List Op) → weigh calling_of rest ≡ 0 → NextPart p held w (gone_on p w (yes held ∷ rest) (top (yes held ∷ rest)) (λ o. act p h o w))
 next-go p held h w [] z = answered [] refl refl

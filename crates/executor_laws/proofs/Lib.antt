@@ -11,3 +11,8 @@ pub mod LoneTicks
 pub mod LoneEnds
 pub mod Reaching
 pub mod Queueing
+pub mod Growing
+pub mod Finding
+pub mod Following
+pub mod Inside
+pub mod Begun

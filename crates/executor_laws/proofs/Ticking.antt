@@ -85,7 +85,7 @@ module _ (s : Machine) (p : ℕ) (l : p < length s.parties) (n : s.world.gone �
       ∙ (ap (λ (os : List Op). begin_refusal s.world s.parties (top os) call.TryTick) e
       ∙ ap (λ (b : Bool). unless (not (b && true)) Gone None) n)
 
-  begun-alone : stepped s (step s (Begin p call.TryTick)) ≡ ticking s p
+  pub begun-alone : stepped s (step s (Begin p call.TryTick)) ≡ ticking s p
   unfolding step
   begun-alone = ap (λ (x : Option StepError). stepped s (step_by x s (Begin p call.TryTick))) none-refused ∙ ap (λ (os : List Op). with_part s p (part_after s.world os (Begin p call.TryTick))) e
 
@@ -98,7 +98,7 @@ module _ (s : Machine) (p : ℕ) (l : p < length s.parties) (n : s.world.gone �
   goes-on : (t : Hint) → refusal (ticking s p) (Go p t) ≡ None
   goes-on t = ap (λ (b : Bool). unless b NoSuch (go_refusal (top (stack (ticking s p) p)))) there ∙ ap (λ (os : List Op). go_refusal (top os)) taking
 
-  gone-on-alone : (t : Hint) (items : List ℕ) → s.world.queue.items ≡ items → run (ticks p t) s ≡ with_part (ticking s p) p (onto p (take_by (ticking s p).world items) [])
+  pub gone-on-alone : (t : Hint) (items : List ℕ) → s.world.queue.items ≡ items → run (ticks p t) s ≡ with_part (ticking s p) p (onto p (take_by (ticking s p).world items) [])
   unfolding step
   gone-on-alone t items q =
       ap (λ (m : Machine). stepped m (step m (Go p t))) begun-alone
@@ -106,10 +106,10 @@ module _ (s : Machine) (p : ℕ) (l : p < length s.parties) (n : s.world.gone �
       ∙ (ap (λ (os : List Op). with_part (ticking s p) p (part_after (ticking s p).world os (Go p t))) taking
       ∙ ap (λ (xs : List ℕ). with_part (ticking s p) p (onto p (take_by (ticking s p).world xs) [])) q))
 
-  placed-there : (os : List Op) → get_or (set (ticking s p).parties p os) p [] ≡ os
+  pub placed-there : (os : List Op) → get_or (set (ticking s p).parties p os) p [] ≡ os
   placed-there os = get_or-set_same (ticking s p).parties p os [] (omega (arith, l, length-set s.parties p (op.Take ∷ [])))
 
-  finds-nothing : (t : Hint) → s.world.queue.items ≡ [] → FindsNothing s p t
+  pub finds-nothing : (t : Hint) → s.world.queue.items ≡ [] → FindsNothing s p t
   finds-nothing t q = ap (λ (m : Machine). m.world.trace) (gone-on-alone t [] q) ∙ append_assoc s.world.trace (event.CallBegun p call.TryTick ∷ []) (event.CallEnded p reply.No ∷ [])
 
   finds-one : (t : Hint) (f : ℕ) (xs : List ℕ) → s.world.queue.items ≡ f ∷ xs → stack (run (ticks p t) s) p ≡ op.End reply.Yes hold.Executor ∷ op.TakeUp f ∷ []

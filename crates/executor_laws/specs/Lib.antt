@@ -2,3 +2,5 @@ pub mod Remaining
 pub mod Ticks
 pub mod Reach
 pub mod Queueings
+pub mod Continued
+pub mod AtRest

@@ -1,12 +1,15 @@
 //! Laws of every run of the machine, of any number of parties and any list of steps.
 ghost use Rattle.std.specs.Prelude.{ℕ, List};
+ghost use Rattle.executor_laws.specs.AtRest.{EmptinessIsExact, TicksAreExact};
+ghost use Rattle.executor_laws.specs.Continued.{IsContinued};
 ghost use Rattle.executor_laws.specs.Queueings.{CountsQueueings};
 ghost use Rattle.executor_laws.specs.Reach.{IsInReach};
 ghost use Rattle.executor_laws.specs.Remaining.{EndsWithin, GoesOn, LowersRemaining};
 ghost use Rattle.executor_laws.specs.Ticks.{IsTickExact};
 ghost use Rattle.executor_model.specs.declared.step.Step.{Step};
+ghost use Rattle.executor_model.specs.EveryTrace.{EveryTrace};
 ghost use Rattle.executor_model.specs.Runs.{EveryMachine};
-ghost use Rattle.executor_model.specs.Steps.{Machine};
+ghost use Rattle.executor_model.specs.Steps.{Machine, step, stepped};
 
 /// Calls end. Each step that begins no further call lowers a whole number that the machine's state
 /// determines, whoever takes it; so only that many such steps can be taken in a row. A party that has
@@ -36,4 +39,19 @@ pub fn common_futures_are_in_reach()
 /// out of it but by its close, and none is taken from it where it is empty.
 pub fn queueings_are_counted()
     ensures { (limit parties : ℕ) (steps : List Step) → CountsQueueings limit parties steps }
+{}
+
+/// Whatever a party does, what has happened stays, and more may come behind it.
+pub fn traces_continue()
+    ensures { (s : Machine) (t : Step) →
+        IsContinued s.world.trace (stepped s (step s t)).world.trace }
+{}
+
+/// Where a call begins while no other is in progress and the drop of the executor hasn't begun, and no
+/// other begins before something else happens, the next event says it all. A tick is answered at once
+/// that there is nothing to do exactly where no future is due. Who asks whether the executor is empty is
+/// answered at once, and yes exactly where each accepted future is dropped. So it is for each party.
+pub fn calls_at_rest_are_exact()
+    ensures ticks { EveryTrace TicksAreExact }
+    ensures emptiness { EveryTrace EmptinessIsExact }
 {}

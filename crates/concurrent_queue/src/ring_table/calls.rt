@@ -8,18 +8,21 @@ use crate::seated::ring as seated;
 use std::sync::Wait;
 
 impl<T> RingTable<T> {
+    #[inline(always)]
     pub fn push<R: Wait>(&self, rt: &R, value: T) -> Result<(), PushError<T>>
         ensures { MayPush (Some self.now.shape.capacity) value result }
     {
         seated::push(rt, &self.board.shared, &mut self.pass(), self.shape, value)
     }
 
+    #[inline(always)]
     pub fn force_push<R: Wait>(&self, rt: &R, value: T) -> Result<Option<T>, ForcePushError<T>>
         ensures { MayForcePush (Some self.now.shape.capacity) value result }
     {
         seated::force_push(rt, &self.board.shared, &mut self.pass(), self.shape, value)
     }
 
+    #[inline(always)]
     pub fn pop<R: Wait>(&self, rt: &R) -> Result<T, PopError> {
         seated::pop(rt, &self.board.shared, &mut self.pass(), self.shape)
     }

@@ -10,12 +10,12 @@ use prog.Atomic.{either}
 use Rattle.std.specs.Prelude.{Option, Some, None}
 use Rattle.atomic_table.specs.Table.{Act, keeps, takes, gives, Valid, carried_after, stepped, Allows, Enters, opening}
 use Rattle.atomic_table.proofs.Lists.{set_here, set_else, exchanged, one_turn, at_snoc}
-use Rattle.concurrent_queue.specs.ClosableQueue.{most_accepted}
-use Rattle.concurrent_queue.specs.Ring.{IsShape, IsPlaceWord, word_at, count_at, next_at, is_marked}
+use Rattle.queue_steps.specs.ClosableQueue.{most_accepted}
+use Rattle.queue_steps.specs.Ring.{IsShape, IsPlaceWord, word_at, count_at, next_at, is_marked}
 use Rattle.concurrent_queue.specs.RingRule.{Phase, free, writing, full, reading, forcing, swapping, up, above, back, Cell, InPhase, CellOk, Knows, RingRule, doing, Known, saw, looked, stamped, entered, appended, took, displaced, advanced, gave, AreNewWords}
 use Rattle.concurrent_queue.specs.declared.ring_table.rule.Doing.{Doing}
 use Rattle.concurrent_queue.specs.declared.ring_table.rule.Stage.TheVariants.{Idle, SawTail, SawHead, SawStamp, Writing, Reading, Forcing, Swapping}
-use Rattle.concurrent_queue.proofs.RingWords.{next_is, index_of_word, word_a_lap_on, word_unmarked, marked_by, first_word, count_of_word}
+use Rattle.queue_steps.proofs.RingWords.{next_is, index_of_word, word_a_lap_on, word_unmarked, marked_by, first_word, count_of_word}
 use Rattle.concurrent_queue.proofs.RingFaces.{one_place, one_count, one_tail, shut_of, bare, or_open, or_shut, word_below}
 use Rattle.concurrent_queue.proofs.RingCells.{put_here, holder, rank, at_most_one, is_free, is_full, St, moved, unmoved, knows, reviewed, seats_stay}
 

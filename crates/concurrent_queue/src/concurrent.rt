@@ -1,13 +1,11 @@
 ghost use Rattle.std.specs.Prelude.{◌≡◌, ◌<◌, Some, None, false, IfOk};
 ghost use Rattle.concurrent_queue.specs.SharedQueue.{MayPush, MayForcePush};
 
-use crate::errors::{ForcePushError, NoMemory, PopError, PushError};
 use crate::glimpse::{Glimpse, Locked};
-use crate::representation::Representation;
 use crate::ring_table::RingTable;
 use crate::slot_table::SlotTable;
 use crate::try_iter::TryIter;
-use crate::unbounded::Unbounded;
+use queue_steps::{ForcePushError, NoMemory, PopError, PushError, Representation, Unbounded};
 use std::alloc::Global;
 use std::fmt;
 use std::marker::Model;

@@ -8,13 +8,13 @@ pub mod moves;
 pub mod plays;
 pub mod rule;
 
-use crate::errors::NoMemory;
 use crate::glimpse::{Glimpse, TRIES};
-use crate::steps::Reply;
-use crate::steps::bounded::{self as steps, Shape, Turn};
 use atomic_table::Table;
 use moves::{HEAD, Pass, STAMPS, TAIL, UNUSED};
 use plays::Look;
+use queue_steps::NoMemory;
+use queue_steps::steps::Reply;
+use queue_steps::steps::bounded::{self as steps, Shape, Turn};
 use rule::{Doing, RingRule};
 use std::alloc::Global;
 

@@ -2,9 +2,9 @@
 ghost use Rattle.std.specs.Prelude.{Some};
 ghost use Rattle.concurrent_queue.specs.SharedQueue.{MayPush, MayForcePush};
 
-use crate::errors::{ForcePushError, PopError, PushError};
 use crate::ring_table::RingTable;
 use crate::seated::ring as seated;
+use queue_steps::{ForcePushError, PopError, PushError};
 use std::sync::Wait;
 
 impl<T> RingTable<T> {

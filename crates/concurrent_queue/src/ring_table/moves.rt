@@ -1,14 +1,14 @@
 //! Each kind of step on a ring, as a function that is lent the table and a seat.
 ghost use Rattle.std.specs.Prelude.{◌≡◌, ℕ, ◌+◌, ◌*◌, ◌%◌, ◌^◌, ◌<◌, ◌≤◌, false, [], ◌∷◌, ◌++◌, ◌⊎◌, Option, Some, None};
-ghost use Rattle.concurrent_queue.specs.Ring.{IsPlaceWord, next_at, is_marked};
+ghost use Rattle.queue_steps.specs.Ring.{IsPlaceWord, next_at, is_marked};
 ghost use Rattle.concurrent_queue.specs.RingRule.{doing, saw, looked, appended, took, displaced, advanced};
 ghost use Rattle.concurrent_queue.specs.RingSeat.{IsSeatOf, IsSameSeat};
 ghost use Rattle.concurrent_queue.specs.declared.ring_table.rule.Stage.TheVariants.{Idle, SawTail, SawHead, SawStamp, Writing, Reading, Forcing, Swapping};
 
 use crate::ring_table::plays;
 use crate::ring_table::rule::{Doing, RingRule};
-use crate::steps::bounded::Shape;
 use atomic_table::{Seat, Shared};
+use queue_steps::steps::bounded::Shape;
 
 pub type Board<T> = Shared<Option<T>, Doing, Shape, RingRule>;
 

@@ -1,22 +1,22 @@
 //! The running calls of the single slot.
 ghost use Rattle.std.specs.Prelude.{◌≡◌, ◌≢◌, ℕ, ◌+◌, ◌%◌, ◌<◌, [], ◌∷◌, ◌++◌, Option, MatchResult};
 ghost use Rattle.concurrent_queue.specs.declared.slot_table.rule.Stage.TheVariants.{Idle};
-ghost use Rattle.concurrent_queue.specs.declared.steps.Reply.{Reply};
-ghost use Rattle.concurrent_queue.specs.declared.steps.Reply.TheVariants.{Done, Length};
-ghost use Rattle.concurrent_queue.specs.declared.steps.single.Turn.TheVariants.{Look, Close, End};
+ghost use Rattle.queue_steps.specs.declared.steps.Reply.{Reply};
+ghost use Rattle.queue_steps.specs.declared.steps.Reply.TheVariants.{Done, Length};
+ghost use Rattle.queue_steps.specs.declared.steps.single.Turn.TheVariants.{Look, Close, End};
 ghost use Rattle.concurrent_queue.specs.Answered.{turns, PushSays, ForcePushSays, PopSays, says};
-ghost use Rattle.concurrent_queue.specs.Single.{marks_of};
-ghost use Rattle.concurrent_queue.specs.SingleTurns.{push_turn, force_push_turn, pop_turn, close_turn, len_turn, is_empty_turn, is_full_turn, is_closed_turn};
+ghost use Rattle.queue_steps.specs.Single.{marks_of};
+ghost use Rattle.queue_steps.specs.SingleTurns.{push_turn, force_push_turn, pop_turn, close_turn, len_turn, is_empty_turn, is_full_turn, is_closed_turn};
 ghost use Rattle.concurrent_queue.specs.SlotRule.{doing};
 ghost use Rattle.concurrent_queue.specs.SlotSeat.{IsSeatOf, IsSameSeat, IsRefusalToPush, IsRefusalToPop, IsPushTurn, IsPopTurn};
 
-use crate::errors::{ForcePushError, PopError, PushError};
 use crate::slot_table::plays;
 use crate::slot_table::rule::{Doing, SlotRule};
-use crate::steps::Reply;
-use crate::steps::single::{self as steps, Turn};
 use atomic_table::{Seat, Shared};
 use crossbeam_utils::Backoff;
+use queue_steps::steps::Reply;
+use queue_steps::steps::single::{self as steps, Turn};
+use queue_steps::{ForcePushError, PopError, PushError};
 use std::sync::Wait;
 
 pub type Board<T> = Shared<Option<T>, Doing, (), SlotRule>;

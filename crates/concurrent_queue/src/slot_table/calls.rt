@@ -2,9 +2,9 @@
 ghost use Rattle.std.specs.Prelude.{Some};
 ghost use Rattle.concurrent_queue.specs.SharedQueue.{MayPush, MayForcePush};
 
-use crate::errors::{ForcePushError, PopError, PushError};
 use crate::seated::single as seated;
 use crate::slot_table::SlotTable;
+use queue_steps::{ForcePushError, PopError, PushError};
 use std::sync::Wait;
 
 impl<T> SlotTable<T> {

@@ -2,16 +2,16 @@
 ghost use Rattle.std.specs.Prelude.{◌≡◌, ℕ, ◌+◌, [], ◌∷◌, ◌++◌, MatchResult};
 ghost use Rattle.concurrent_queue.specs.Answered.{turns, PopSays};
 ghost use Rattle.concurrent_queue.specs.RingSeat.{IsFreeSeatOf, StaysFree, IsRefusalToPop, PopStands, PopsOn};
-ghost use Rattle.concurrent_queue.specs.RingTurns.{pop_turn};
-ghost use Rattle.concurrent_queue.specs.declared.steps.Reply.{Reply};
-ghost use Rattle.concurrent_queue.specs.declared.steps.Reply.TheVariants.{Done};
-ghost use Rattle.concurrent_queue.specs.declared.steps.bounded.Turn.TheVariants.{Head, Stamp, TailFor, Take, End};
+ghost use Rattle.queue_steps.specs.RingTurns.{pop_turn};
+ghost use Rattle.queue_steps.specs.declared.steps.Reply.{Reply};
+ghost use Rattle.queue_steps.specs.declared.steps.Reply.TheVariants.{Done};
+ghost use Rattle.queue_steps.specs.declared.steps.bounded.Turn.TheVariants.{Head, Stamp, TailFor, Take, End};
 
-use crate::errors::PopError;
 use crate::ring_table::moves::{self, Board, Pass, TAIL};
-use crate::steps::Reply;
-use crate::steps::bounded::{self as steps, Shape, Turn};
 use crossbeam_utils::Backoff;
+use queue_steps::PopError;
+use queue_steps::steps::Reply;
+use queue_steps::steps::bounded::{self as steps, Shape, Turn};
 use std::sync::Wait;
 
 #[inline(always)]

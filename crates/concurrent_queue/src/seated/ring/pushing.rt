@@ -2,17 +2,17 @@
 ghost use Rattle.std.specs.Prelude.{◌≡◌, ℕ, ◌+◌, ◌*◌, Option, Some, None, [], ◌∷◌, ◌++◌, MatchResult};
 ghost use Rattle.concurrent_queue.specs.Answered.{turns, PushSays, ForcePushSays};
 ghost use Rattle.concurrent_queue.specs.RingSeat.{IsFreeSeatOf, StaysFree, pushing, IsRefusal, PushStands, PushesOn, PushMade};
-ghost use Rattle.concurrent_queue.specs.RingTurns.{push_turn, force_push_turn};
+ghost use Rattle.queue_steps.specs.RingTurns.{push_turn, force_push_turn};
 ghost use Rattle.concurrent_queue.specs.declared.seated.ring.pushing.Manner.TheVariants.{Plain};
-ghost use Rattle.concurrent_queue.specs.declared.steps.Reply.{Reply};
-ghost use Rattle.concurrent_queue.specs.declared.steps.Reply.TheVariants.{Done};
-ghost use Rattle.concurrent_queue.specs.declared.steps.bounded.Turn.TheVariants.{Tail, Stamp, HeadFor, Append, Displace, Spend, End};
+ghost use Rattle.queue_steps.specs.declared.steps.Reply.{Reply};
+ghost use Rattle.queue_steps.specs.declared.steps.Reply.TheVariants.{Done};
+ghost use Rattle.queue_steps.specs.declared.steps.bounded.Turn.TheVariants.{Tail, Stamp, HeadFor, Append, Displace, Spend, End};
 
-use crate::errors::{ForcePushError, PushError};
 use crate::ring_table::moves::{self, Board, HEAD, Pass};
-use crate::steps::Reply;
-use crate::steps::bounded::{self as steps, Shape, Turn};
 use crossbeam_utils::Backoff;
+use queue_steps::steps::Reply;
+use queue_steps::steps::bounded::{self as steps, Shape, Turn};
+use queue_steps::{ForcePushError, PushError};
 use std::sync::Wait;
 
 /// Whether a push displaces the oldest item of a full ring.

@@ -1,8 +1,8 @@
 use Rattle.std.proofs.Common.{◌≡◌}
 use Rattle.concurrent_queue.specs.Answered.{turns}
 use Rattle.concurrent_queue.specs.RingSeat.{StaysFree, PopStands}
-use Rattle.concurrent_queue.specs.RingTurns.{pop_turn}
-use Rattle.concurrent_queue.specs.declared.steps.bounded.Turn.TheVariants.{Head}
+use Rattle.queue_steps.specs.RingTurns.{pop_turn}
+use Rattle.queue_steps.specs.declared.steps.bounded.Turn.TheVariants.{Head}
 use Rattle.concurrent_queue.proofs.seated.ring.popping.pop_from.Given as goal
 
 abbrev pub invariant-loop : goal.invariant-loop

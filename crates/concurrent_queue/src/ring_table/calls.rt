@@ -15,7 +15,6 @@ impl<T> RingTable<T> {
         seated::push(rt, &self.board.shared, &mut self.pass(), self.shape, value)
     }
 
-    #[inline(always)]
     pub fn force_push<R: Wait>(&self, rt: &R, value: T) -> Result<Option<T>, ForcePushError<T>>
         ensures { MayForcePush (Some self.now.shape.capacity) value result }
     {

@@ -90,7 +90,10 @@ fn pop_from<T, R: Wait>(
             Turn::Stamp(head) => turn = at_stamp(board, pass, shape, head),
             Turn::Take(head) => match take(board, pass, shape, head) {
                 Ok(item) => return Ok(item),
-                Err(after) => turn = after,
+                Err(after) => {
+                    turn = after;
+                    backoff.spin();
+                }
             },
             Turn::TailFor(head) => turn = at_tail(board, pass, shape, head),
             Turn::Head => {

@@ -172,7 +172,10 @@ fn put_from<T, R: Wait>(
             Turn::Stamp(tail) => turn = at_stamp(board, pass, shape, manner, tail),
             Turn::Append(tail) => match append(board, pass, shape, manner, tail, value) {
                 Ok(()) => return Ok(None),
-                Err(left) => (turn, value) = left,
+                Err(left) => {
+                    (turn, value) = left;
+                    backoff.spin();
+                }
             },
             Turn::HeadFor(tail) => turn = at_head(board, pass, shape, manner, tail),
             Turn::Displace(tail) => match displace(board, pass, shape, tail, value) {
@@ -191,29 +194,28 @@ fn put_from<T, R: Wait>(
     unreachable!()
 }
 
-// The first three turns of a push of either manner, which are all on a ring with a free place where no other call comes
-// between. Or else where it stands then, and the value.
+// The first three turns of a push, which are all on a ring with a free place where no other call comes between. Or else
+// where it stands then, and the value.
 #[inline(always)]
-fn put_at_once<T>(
+fn push_at_once<T>(
     board: &Board<T>,
     pass: &mut Pass<T>,
     shape: Shape,
-    manner: Manner,
     value: T,
 ) -> Result<(), (Turn, T)>
     requires { IsFreeSeatOf board.now shape pass.old }
     ensures same { StaysFree pass.old pass.new }
-    ensures made { MatchResult result (λ _. turns (pushing manner shape.capacity shape.mark) Tail pass.new.me.0.found ≡ End Done) (λ e. (e.1 ≡ value) × (e.0 ≡ turns (pushing manner shape.capacity shape.mark) Tail pass.new.me.0.found) × PushStands manner shape.capacity shape.mark e.0 pass.new.me.0) }
+    ensures made { MatchResult result (λ _. turns (pushing Plain shape.capacity shape.mark) Tail pass.new.me.0.found ≡ End Done) (λ e. (e.1 ≡ value) × (e.0 ≡ turns (pushing Plain shape.capacity shape.mark) Tail pass.new.me.0.found) × PushStands Plain shape.capacity shape.mark e.0 pass.new.me.0) }
 {
-    let turn = begins(board, pass, shape, manner);
+    let turn = begins(board, pass, shape, Manner::Plain);
     let Turn::Stamp(tail) = turn else {
         return Err((turn, value));
     };
-    let turn = at_stamp(board, pass, shape, manner, tail);
+    let turn = at_stamp(board, pass, shape, Manner::Plain, tail);
     let Turn::Append(tail) = turn else {
         return Err((turn, value));
     };
-    append(board, pass, shape, manner, tail, value)
+    append(board, pass, shape, Manner::Plain, tail, value)
 }
 
 /// Appends a value, or gives it back.
@@ -229,7 +231,7 @@ pub fn push<T, R: Wait>(
     ensures same { StaysFree pass.old pass.new }
     ensures answers { (reply : Reply) × (turns (push_turn shape.capacity shape.mark) Tail pass.new.me.0.found ≡ End reply) × PushSays value reply result }
 {
-    let (turn, value) = match put_at_once(board, pass, shape, Manner::Plain, value) {
+    let (turn, value) = match push_at_once(board, pass, shape, value) {
         Ok(()) => return Ok(()),
         Err(left) => left,
     };
@@ -246,7 +248,6 @@ pub fn push<T, R: Wait>(
 }
 
 /// Appends a value, and gives out the oldest item that it displaced on a full ring. Or it gives the value back.
-#[inline(always)]
 pub fn force_push<T, R: Wait>(
     rt: &R,
     board: &Board<T>,
@@ -258,12 +259,8 @@ pub fn force_push<T, R: Wait>(
     ensures same { StaysFree pass.old pass.new }
     ensures answers { (reply : Reply) × (turns (force_push_turn shape.capacity shape.mark) Tail pass.new.me.0.found ≡ End reply) × ForcePushSays value reply result }
 {
-    let (turn, value) = match put_at_once(board, pass, shape, Manner::Forced, value) {
-        Ok(()) => return Ok(None),
-        Err(left) => left,
-    };
-    let copy = shape;
-    match put_from(rt, board, pass, copy, Manner::Forced, turn, value) {
+    let turn = begins(board, pass, shape, Manner::Forced);
+    match put_from(rt, board, pass, shape, Manner::Forced, turn, value) {
         Ok(displaced) => Ok(displaced),
         Err((_, back)) => Err(ForcePushError::Closed(back)),
     }

@@ -90,10 +90,7 @@ fn pop_from<T, R: Wait>(
             Turn::Stamp(head) => turn = at_stamp(board, pass, shape, head),
             Turn::Take(head) => match take(board, pass, shape, head) {
                 Ok(item) => return Ok(item),
-                Err(after) => {
-                    turn = after;
-                    backoff.spin();
-                }
+                Err(after) => turn = after,
             },
             Turn::TailFor(head) => turn = at_tail(board, pass, shape, head),
             Turn::Head => {

@@ -172,10 +172,7 @@ fn put_from<T, R: Wait>(
             Turn::Stamp(tail) => turn = at_stamp(board, pass, shape, manner, tail),
             Turn::Append(tail) => match append(board, pass, shape, manner, tail, value) {
                 Ok(()) => return Ok(None),
-                Err(left) => {
-                    (turn, value) = left;
-                    backoff.spin();
-                }
+                Err(left) => (turn, value) = left,
             },
             Turn::HeadFor(tail) => turn = at_head(board, pass, shape, manner, tail),
             Turn::Displace(tail) => match displace(board, pass, shape, tail, value) {

@@ -2,7 +2,7 @@ use Rattle.std.proofs.Common.{◌≡◌}
 use Rattle.concurrent_queue.specs.Answered.{turns}
 use Rattle.concurrent_queue.specs.RingSeat.{StaysFree, pushing, PushStands}
 use Rattle.queue_steps.specs.declared.steps.bounded.Turn.TheVariants.{Tail}
-use Rattle.concurrent_queue.proofs.seated.ring.pushing.put.Given as goal
+use Rattle.concurrent_queue.proofs.seated.ring.pushing.put_from.Given as goal
 
 abbrev pub invariant-loop : goal.invariant-loop
 invariant-loop g l =

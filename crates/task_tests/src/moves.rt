@@ -1,13 +1,13 @@
 ghost use Rattle.std.specs.Prelude.{◌≡◌, false};
 ghost use Rattle.task_moves.specs.Moves as moves;
 
-use crate::moves::{
+use task_moves::ScheduleInfo;
+use task_moves::moves::{
     Answer, AwaiterDebt, FutureDebt, MOST_REFERENCES, Move, State, after, cancel, copy, detach,
     drop_runnable, end_closed, end_notify, end_pending, end_ready, end_register, give_up,
     look_again, make, notify, poll, register, release, settle_closed, take_up, wake,
     wake_by_reference,
 };
-use crate::schedule_info::ScheduleInfo;
 
 const QUEUED: Option<ScheduleInfo> = Some(ScheduleInfo {
     woken_while_running: false,

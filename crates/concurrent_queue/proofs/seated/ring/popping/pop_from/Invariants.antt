@@ -3,7 +3,7 @@ use Rattle.concurrent_queue.specs.Answered.{turns}
 use Rattle.concurrent_queue.specs.RingSeat.{StaysFree, PopStands}
 use Rattle.queue_steps.specs.RingTurns.{pop_turn}
 use Rattle.queue_steps.specs.declared.steps.bounded.Turn.TheVariants.{Head}
-use Rattle.concurrent_queue.proofs.seated.ring.popping.pop.Given as goal
+use Rattle.concurrent_queue.proofs.seated.ring.popping.pop_from.Given as goal
 
 abbrev pub invariant-loop : goal.invariant-loop
 invariant-loop g l =

@@ -1,7 +1,7 @@
 //! Futures, outputs and awaiters are numbers here: 7 is the future, 3 its output, and the awaiters
 //! are 20 and up.
-use crate::local_task::{Back, Cancel, Detach, Finish, LocalTask, Polled, Settled, Start};
-use crate::schedule_info::ScheduleInfo;
+use task_moves::ScheduleInfo;
+use task_moves::local_task::{Back, Cancel, Detach, Finish, LocalTask, Polled, Settled, Start};
 
 const QUEUED: Option<ScheduleInfo> = Some(ScheduleInfo {
     woken_while_running: false,

@@ -1,8 +1,6 @@
 //! What no clause says: that texts are read where memory is ample, and examples from outside.
 
-use super::items::Items;
-use super::words::Words;
-use super::{Command, Item, Name, ParseError, Plain, Request, Word, parse};
+use script::{Command, Item, Items, Name, ParseError, Plain, Request, Word, Words, parse};
 use std::process::Abort;
 use std::test::Fail;
 

@@ -1,8 +1,12 @@
 //! Laws of every run of the machine, of any number of parties and any list of steps.
+ghost use Rattle.std.specs.Prelude.{ℕ};
 ghost use Rattle.executor_model.specs.Emptiness.{IsEmptinessExact, IsQuietEmptinessExact};
 ghost use Rattle.executor_model.specs.Entries.{FindsPlace, QueueAgrees, TableAgrees};
 ghost use Rattle.executor_model.specs.Limit.{IsLimitExact};
+ghost use Rattle.executor_model.specs.Memory.{NeedsNoMemory};
+ghost use Rattle.executor_model.specs.OutputKept.{OutputIsKept};
 ghost use Rattle.executor_model.specs.Runs.{EveryMachine, EveryRun, HandsOutOne, HasOneRunnable, IsCounted};
+ghost use Rattle.executor_model.specs.World.{World};
 
 /// Whatever the parties do, a task's count is its living wakers, and one for a Runnable, a run or a
 /// closing call. Stored awaiters are wakers, and so are those in the table, those that the drop of the
@@ -54,4 +58,18 @@ pub fn wakes_hand_out_one()
 /// where each accepted future is dropped.
 pub fn quiet_emptiness_is_exact()
     ensures { EveryMachine IsQuietEmptinessExact }
+{}
+
+/// A call takes no memory but a spawn, a copy of a waker and a poll of a handle: nothing that it has to do
+/// from its beginning to its end asks for memory or refuses it, and what it does is the same whether
+/// memory is refused or not. So no wake, cancel, detach or drop is ever refused, nor is a tick.
+pub fn wakes_and_drops_take_no_memory()
+    ensures { (w : World) (p : ℕ) → NeedsNoMemory w p }
+{}
+
+/// Where no call is in progress, an output that is there is given to the next poll of the handle: if the future
+/// was ready, nobody has cancelled it, no poll was given the output and no call has taken the handle, then a
+/// poll of the handle, with no step of another party in between, gives the output, whoever makes it.
+pub fn outputs_are_kept()
+    ensures { EveryRun OutputIsKept }
 {}

@@ -30,6 +30,3 @@ pub use task::{Task, TaskError};
 pub use task_moves::{Back, LocalTask, laws, local_task, moves};
 pub use wake::{Nobody, Wake};
 pub use waker::{Awaiter, TaskWaker};
-
-#[cfg(test)]
-mod tests;

@@ -1,14 +1,6 @@
 pub mod RingCells
 pub mod RingFaces
-pub mod RingFinds
-pub mod RingFresh
 pub mod RingKeeps
-pub mod RingMasks
-pub mod RingRests
 pub mod RingSays
-pub mod RingSlots
-pub mod RingWords
-pub mod ChainLemmas
-pub mod IterLemmas
 pub mod SlotKeeps
 pub mod SlotTurns

@@ -10,7 +10,7 @@ use lib.Seq.{set-get_or}
 use Rattle.std.specs.Prelude.{Option, None}
 use Rattle.atomic_table.specs.Table.{State, keeps, stepped}
 use Rattle.atomic_table.proofs.Lists.{at_set}
-use Rattle.concurrent_queue.specs.Ring.{word_at}
+use Rattle.queue_steps.specs.Ring.{word_at}
 use Rattle.concurrent_queue.specs.RingRule.{Phase, free, writing, full, reading, forcing, swapping, up, back, Cell, InPhase, CellOk, Knows, RingRule}
 use Rattle.concurrent_queue.specs.declared.ring_table.rule.Doing.{Doing}
 use Rattle.concurrent_queue.specs.declared.ring_table.rule.Stage.{Stage}

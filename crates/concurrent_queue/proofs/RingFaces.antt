@@ -7,9 +7,9 @@ use Rattle.std.proofs.lemmas.Bool.Decides.{nat_tests}
 use Rattle.std.proofs.lemmas.Nat.{or_disjoint}
 use Rattle.std.proofs.lemmas.Nat.Bits.{and_pow}
 use Rattle.std.specs.Int.Bits.{or_add_and}
-use Rattle.concurrent_queue.specs.ClosableQueue.{most_accepted}
-use Rattle.concurrent_queue.specs.Ring.{IsShape, IsPlaceWord, word_at, count_at, next_at, is_marked}
-use Rattle.concurrent_queue.proofs.RingWords.{marked_by, count_of, count_of_word}
+use Rattle.queue_steps.specs.ClosableQueue.{most_accepted}
+use Rattle.queue_steps.specs.Ring.{IsShape, IsPlaceWord, word_at, count_at, next_at, is_marked}
+use Rattle.queue_steps.proofs.RingWords.{marked_by, count_of, count_of_word}
 
 parts : (n m p : ℕ) → word_at n m p ≡ p / n * (2 * m) + p % n
 unfolding word_at

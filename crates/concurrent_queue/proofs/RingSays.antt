@@ -3,11 +3,11 @@ use Rattle.std.proofs.Common.{◌≡◌, ℕ, List, refl}
 use Rattle.std.specs.Prelude.{Option, Some, None, Ok}
 use Rattle.concurrent_queue.specs.Answered.{turns, ForcePushSays}
 use Rattle.concurrent_queue.specs.RingSeat.{PushMade}
-use Rattle.concurrent_queue.specs.RingTurns.{force_push_turn}
+use Rattle.queue_steps.specs.RingTurns.{force_push_turn}
 use Rattle.concurrent_queue.specs.declared.seated.ring.pushing.Manner.TheVariants.{Forced}
-use Rattle.concurrent_queue.specs.declared.steps.Reply.{Reply}
-use Rattle.concurrent_queue.specs.declared.steps.Reply.TheVariants.{Done, Displaced}
-use Rattle.concurrent_queue.specs.declared.steps.bounded.Turn.TheVariants.{Tail, End}
+use Rattle.queue_steps.specs.declared.steps.Reply.{Reply}
+use Rattle.queue_steps.specs.declared.steps.Reply.TheVariants.{Done, Displaced}
+use Rattle.queue_steps.specs.declared.steps.bounded.Turn.TheVariants.{Tail, End}
 
 pub force_says : {T : Type 0} (n m : ℕ) (x : T) (displaced : Option T) (found : List ℕ) → PushMade Forced n m x found (Ok displaced)
     → (reply : Reply) × (turns (force_push_turn n m) Tail found ≡ End reply) × ForcePushSays x reply (Ok displaced)

@@ -9,7 +9,7 @@ use Rattle.atomic_table.proofs.Lists.{at_set, at_snoc, exchanged}
 use Rattle.concurrent_queue.specs.declared.slot_table.rule.Doing.{Doing}
 use Rattle.concurrent_queue.specs.declared.slot_table.rule.Stage.{Stage}
 use Rattle.concurrent_queue.specs.declared.slot_table.rule.Stage.TheVariants.{Idle, Writing, Reading}
-use Rattle.concurrent_queue.specs.Single.{marks_of}
+use Rattle.queue_steps.specs.Single.{marks_of}
 use Rattle.concurrent_queue.specs.SlotRule.{Phase, empty, full, writing, reading, marks, home, Knows, SlotRule, doing, Known, began, looked, claimed, fetched, returned}
 
 abbrev St : Type 0 → Type 0

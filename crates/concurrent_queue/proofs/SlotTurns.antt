@@ -2,12 +2,12 @@
 use Rattle.std.proofs.Common.{◌≡◌, ℕ, nat_lt, ◌==◌, if◌then◌else◌, Bool, List, [], ◌∷◌, ◌++◌, sym, refl, ap, ◌∙◌, eq-eqb}
 use Rattle.std.specs.Prelude.{Option, Some, None, Ok}
 use Rattle.concurrent_queue.specs.Answered.{turns, ForcePushSays}
-use Rattle.concurrent_queue.specs.Single.{marks_of}
-use Rattle.concurrent_queue.specs.SingleTurns.{looked_to_force, force_push_turn}
-use Rattle.concurrent_queue.specs.declared.steps.Reply.{Reply}
-use Rattle.concurrent_queue.specs.declared.steps.Reply.TheVariants.{Done, Displaced}
-use Rattle.concurrent_queue.specs.declared.steps.single.Turn.{Turn}
-use Rattle.concurrent_queue.specs.declared.steps.single.Turn.TheVariants.{Look, Exchange, Unlock, End}
+use Rattle.queue_steps.specs.Single.{marks_of}
+use Rattle.queue_steps.specs.SingleTurns.{looked_to_force, force_push_turn}
+use Rattle.queue_steps.specs.declared.steps.Reply.{Reply}
+use Rattle.queue_steps.specs.declared.steps.Reply.TheVariants.{Done, Displaced}
+use Rattle.queue_steps.specs.declared.steps.single.Turn.{Turn}
+use Rattle.queue_steps.specs.declared.steps.single.Turn.TheVariants.{Look, Exchange, Unlock, End}
 
 pub turns-snoc : {A : Type 0} (step : A → ℕ → A) (t : A) (ws : List ℕ) (w : ℕ) → turns step t (ws ++ w ∷ []) ≡ step (turns step t ws) w
 turns-snoc step t [] w = refl

@@ -6,7 +6,7 @@ use mathlib.Core.Option.{some}
 use mathlib.Core.Option as maybe
 use lib.ListN.{get_elem?}
 use Rattle.atomic_table.specs.Table.{State, Me, rest}
-use Rattle.concurrent_queue.specs.Ring.{IsShape, word_at}
+use Rattle.queue_steps.specs.Ring.{IsShape, word_at}
 use Rattle.concurrent_queue.specs.declared.ring_table.rule.Doing.{Doing}
 use Rattle.concurrent_queue.specs.declared.ring_table.rule.Stage.{Stage}
 use Rattle.concurrent_queue.specs.declared.ring_table.rule.Stage.TheVariants.{Idle, SawTail, SawHead, SawStamp, Writing, Reading, Forcing, Swapping}

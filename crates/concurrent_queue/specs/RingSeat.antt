@@ -3,17 +3,17 @@ use Rattle.std.specs.Prelude.{◌≡◌, ℕ, ◌+◌, ◌*◌, ◌%◌, ◌<◌
 use Rattle.concurrent_queue.specs.Answered.{turns}
 use Rattle.atomic_table.specs.declared.shared.Seat.{Seat}
 use Rattle.atomic_table.specs.declared.shared.Shared.{Shared}
-use Rattle.concurrent_queue.specs.Ring.{IsPlaceWord, is_marked}
-use Rattle.concurrent_queue.specs.RingTurns.{push_turn, force_push_turn, pop_turn}
+use Rattle.queue_steps.specs.Ring.{IsPlaceWord, is_marked}
+use Rattle.queue_steps.specs.RingTurns.{push_turn, force_push_turn, pop_turn}
 use Rattle.concurrent_queue.specs.declared.ring_table.rule.Doing.{Doing}
 use Rattle.concurrent_queue.specs.declared.ring_table.rule.Stage.TheVariants.{SawTail, SawHead, SawStamp}
 use Rattle.concurrent_queue.specs.declared.seated.ring.pushing.Manner.{Manner}
 use Rattle.concurrent_queue.specs.declared.seated.ring.pushing.Manner.TheVariants.{Plain, Forced}
-use Rattle.concurrent_queue.specs.declared.steps.bounded.Shape.{Shape}
-use Rattle.concurrent_queue.specs.declared.steps.bounded.Turn.{Turn}
-use Rattle.concurrent_queue.specs.declared.steps.bounded.Turn.TheVariants.{Tail, Head, Stamp, HeadFor, TailFor, TailAgain, Append, Take, Displace, Advance, Spend, Close, Fill, Drain, End}
-use Rattle.concurrent_queue.specs.declared.steps.Reply.{Reply}
-use Rattle.concurrent_queue.specs.declared.steps.Reply.TheVariants.{Done, Displaced, Full, Empty, Closed, Length}
+use Rattle.queue_steps.specs.declared.steps.bounded.Shape.{Shape}
+use Rattle.queue_steps.specs.declared.steps.bounded.Turn.{Turn}
+use Rattle.queue_steps.specs.declared.steps.bounded.Turn.TheVariants.{Tail, Head, Stamp, HeadFor, TailFor, TailAgain, Append, Take, Displace, Advance, Spend, Close, Fill, Drain, End}
+use Rattle.queue_steps.specs.declared.steps.Reply.{Reply}
+use Rattle.queue_steps.specs.declared.steps.Reply.TheVariants.{Done, Displaced, Full, Empty, Closed, Length}
 
 module _ {T P : Type 0} where
   -- it is a seat of this ring, whose table has a slot for each place, the tail, the head and the stamps

@@ -4,10 +4,10 @@
 use Rattle.std.specs.Prelude.{◌≡◌, ℕ, Option, Some, None, IsSome, Result, Ok, Err}
 use Rattle.concurrent_queue.specs.declared.concurrent.Kept.{Kept}
 use Rattle.concurrent_queue.specs.declared.concurrent.Kept.TheVariants.{Single, Bounded, Unbounded}
-use Rattle.concurrent_queue.specs.declared.errors.PushError.{PushError}
-use Rattle.concurrent_queue.specs.declared.errors.PushError.TheVariants.{Full, Closed, NoMemory}
-use Rattle.concurrent_queue.specs.declared.errors.ForcePushError.{ForcePushError}
-use Rattle.concurrent_queue.specs.declared.errors.ForcePushError.TheVariants.{Closed as ClosedToForce, NoMemory as NoMemoryToForce}
+use Rattle.queue_steps.specs.declared.errors.PushError.{PushError}
+use Rattle.queue_steps.specs.declared.errors.PushError.TheVariants.{Full, Closed, NoMemory}
+use Rattle.queue_steps.specs.declared.errors.ForcePushError.{ForcePushError}
+use Rattle.queue_steps.specs.declared.errors.ForcePushError.TheVariants.{Closed as ClosedToForce, NoMemory as NoMemoryToForce}
 
 pub record SharedQueue : Type 0 where
   -- none where it is unbounded

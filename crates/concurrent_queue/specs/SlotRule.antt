@@ -5,7 +5,7 @@ use mathlib.Core.Option.{some, none}
 use mathlib.Core.Option as maybe
 use lib.ListN.{get_elem?}
 use Rattle.atomic_table.specs.Table.{State, Me, rest}
-use Rattle.concurrent_queue.specs.Single.{marks_of}
+use Rattle.queue_steps.specs.Single.{marks_of}
 use Rattle.concurrent_queue.specs.declared.slot_table.rule.Doing.{Doing}
 use Rattle.concurrent_queue.specs.declared.slot_table.rule.Stage.{Stage}
 use Rattle.concurrent_queue.specs.declared.slot_table.rule.Stage.TheVariants.{Idle, Writing, Reading}

@@ -3,10 +3,10 @@ use Rattle.std.specs.Prelude.{◌≡◌, ◌+◌, ◌%◌, ◌<◌, [], Option}
 use Rattle.atomic_table.specs.declared.shared.Seat.{Seat}
 use Rattle.atomic_table.specs.declared.shared.Shared.{Shared}
 use Rattle.concurrent_queue.specs.declared.slot_table.rule.Doing.{Doing}
-use Rattle.concurrent_queue.specs.declared.steps.single.Turn.{Turn}
-use Rattle.concurrent_queue.specs.declared.steps.single.Turn.TheVariants.{Look, Exchange, Unlock, Close, End}
-use Rattle.concurrent_queue.specs.declared.steps.Reply.{Reply}
-use Rattle.concurrent_queue.specs.declared.steps.Reply.TheVariants.{Full, Empty, Closed}
+use Rattle.queue_steps.specs.declared.steps.single.Turn.{Turn}
+use Rattle.queue_steps.specs.declared.steps.single.Turn.TheVariants.{Look, Exchange, Unlock, Close, End}
+use Rattle.queue_steps.specs.declared.steps.Reply.{Reply}
+use Rattle.queue_steps.specs.declared.steps.Reply.TheVariants.{Full, Empty, Closed}
 
 module _ {T K P : Type 0} where
   -- it is a seat of this table of one word and one slot, and has no slot

@@ -1,5 +1,5 @@
-//! What the text of a queue shows of what stands under its lock.
-use crate::representation::Representation;
+//! What the text of a queue shows of it, without waiting.
+use queue_steps::Representation;
 use std::sync::Mutex;
 use std::{fmt, thread};
 
@@ -9,7 +9,9 @@ pub const TRIES: u32 = 10_000;
 /// A queue's length and whether it is closed, read in one section of its lock.
 #[derive(Clone, Copy, Debug)]
 pub struct Glimpse {
+    /// How many items the queue held.
     pub len: usize,
+    /// Whether it was closed.
     pub is_closed: bool,
 }
 

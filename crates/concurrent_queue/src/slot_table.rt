@@ -6,11 +6,11 @@ mod calls;
 pub mod plays;
 pub mod rule;
 
-use crate::errors::NoMemory;
 use crate::glimpse::Glimpse;
 use crate::seated::single::Pass;
 use atomic_table::Table;
 use plays::Begin;
+use queue_steps::NoMemory;
 use rule::{Doing, SlotRule};
 use std::alloc::{AllocError, Global};
 
@@ -30,6 +30,7 @@ impl<T> SlotTable<T> {
     }
 
     // A seat has no bytes, and goes when the call ends.
+    #[inline(always)]
     fn pass(&self) -> Pass<T>
         ensures { IsSeatOf self.now.board.shared result }
     {

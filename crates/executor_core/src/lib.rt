@@ -17,6 +17,3 @@ mod task;
 mod uses;
 
 pub use machine::{Kind, Machine};
-
-#[cfg(test)]
-mod tests;

@@ -1,10 +1,16 @@
 pub mod Spending
 pub mod SpendingActs
 pub mod Ends
-pub mod HandingOn
 pub mod Pushes
 pub mod Dueness
 pub mod Ticking
+pub mod LoneMoves
+pub mod LoneSteps
+pub mod Reached
+pub mod LoneTicks
+pub mod LoneEnds
+pub mod Reaching
+pub mod Queueing
 pub mod Growing
 pub mod Finding
 pub mod Following

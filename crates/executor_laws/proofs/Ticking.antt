@@ -1,12 +1,11 @@
 -- Where no call is in progress, a tick finds a future exactly where one is due.
-use Rattle.std.proofs.Common.{◌≡◌, ◌≢◌, ◌⊎◌, ℕ, zero, suc, ◌+◌, ◌<◌, ◌≤◌, List, [], ◌∷◌, ◌++◌, length, set, get_or, Bool, true, false, ◌&&◌, ◌||◌, not, refl, sym, ap, ◌∙◌, subst, inl, inr, ⊎_elim, arith, get_or-set_same, length-append}
+use Rattle.std.proofs.Common.{◌≡◌, ◌⊎◌, ℕ, ◌+◌, ◌<◌, ◌≤◌, List, [], ◌∷◌, ◌++◌, length, set, get_or, Bool, true, false, ◌&&◌, not, refl, sym, ap, ◌∙◌, subst, inl, inr, ⊎_elim, arith, get_or-set_same, length-append}
 use Rattle.std.proofs.Math.ListN.{length-set}
 use Rattle.std.proofs.lemmas.Bool.Decides.{nat_tests}
 use Rattle.std.proofs.lemmas.List.{append_assoc}
-use Rattle.std.specs.Prelude.{Option, Some, None, nat_lt, slice_get}
+use Rattle.std.specs.Prelude.{Option, None, nat_lt}
 use Rattle.executor_model.specs.declared.call.Call.TheVariants as call
 use Rattle.executor_model.specs.declared.call.Reply.TheVariants as reply
-use Rattle.executor_model.specs.declared.event.Event.{Event}
 use Rattle.executor_model.specs.declared.event.Event.TheVariants as event
 use Rattle.executor_model.specs.declared.op.Hold.TheVariants as hold
 use Rattle.executor_model.specs.declared.op.Op.{Op}
@@ -16,25 +15,21 @@ use Rattle.executor_model.specs.declared.step.Step.{Step}
 use Rattle.executor_model.specs.declared.step.Step.TheVariants.{Begin, Go}
 use Rattle.executor_model.specs.declared.step.StepError.{StepError}
 use Rattle.executor_model.specs.declared.step.StepError.TheVariants.{NoSuch, Gone}
-use Rattle.executor_model.specs.Trace.{Trace, has, is_accepted, is_dropped, is_ready, is_drop_begun}
-use Rattle.executor_model.specs.Due.{IsDue, is_request, since_poll}
+use Rattle.executor_model.specs.Trace.{has, is_dropped, is_ready}
+use Rattle.executor_model.specs.Due.{IsDue}
 use Rattle.executor_model.specs.Emptiness.{IsAtRest}
 use Rattle.executor_model.specs.Entries.{QueueAgrees}
-use Rattle.executor_model.specs.World.{World, log, task}
+use Rattle.executor_model.specs.World.{log, task}
 use Rattle.executor_model.specs.Acts.{take_by}
-use Rattle.executor_model.specs.Weights.{same, weigh_all}
-use Rattle.executor_model.specs.Sound.{Sound, pend, times, phase, waiting_of, polls_of, ending_of, ready_of, closing_of, settling_of, giving_of, drops_of}
-use Rattle.executor_model.specs.Sound.Phase.{Over}
+use Rattle.executor_model.specs.Weights.{weigh_all}
+use Rattle.executor_model.specs.Sound.{times, waiting_of, polls_of, ending_of, ready_of, closing_of, settling_of, giving_of, drops_of}
 use Rattle.executor_model.specs.Good.{Good}
 use Rattle.executor_model.specs.Steps.{Machine, stack, top, step, step_by, stepped, refusal, unless, begin_refusal, go_refusal, onto, part_after, with_part, run, start}
 use Rattle.executor_model.proofs.Lists.{same_is}
 use Rattle.executor_model.proofs.Lift.{good}
 use Rattle.executor_model.proofs.Telling.{begun-has}
-use Rattle.executor_model.proofs.LeavingRuns.{Placed}
 use Rattle.executor_model.proofs.Entering.{queue-agrees}
-use Rattle.executor_model.proofs.Asking.{Asked}
 use Rattle.executor_model.proofs.AskingRuns.{Heard, heard}
-use Rattle.executor_model.proofs.Requests.{request}
 use Rattle.executor_model.proofs.Resting.{Deep, deep, rests, all-rest}
 use Rattle.executor_laws.specs.Ticks.{ticks, FindsNothing, FindsDue, IsTickExact}
 use Rattle.executor_laws.proofs.Dueness.{asked-is, ready-is, not-over, unopened}
@@ -84,7 +79,7 @@ module _ (s : Machine) (fine : Good s) (h : Heard s) (d : Deep s) (rest : IsAtRe
 -- a tick alone
 
 module _ (s : Machine) (p : ℕ) (l : p < length s.parties) (n : s.world.gone ≡ false) (e : stack s p ≡ []) where
-  none-refused : refusal s (Begin p call.TryTick) ≡ None
+  pub none-refused : refusal s (Begin p call.TryTick) ≡ None
   none-refused =
       ap (λ (b : Bool). unless b NoSuch (begin_refusal s.world s.parties (top (stack s p)) call.TryTick)) (let z : nat_lt p (length s.parties) ≡ true = grind (arith, nat_tests) in z)
       ∙ (ap (λ (os : List Op). begin_refusal s.world s.parties (top os) call.TryTick) e
@@ -125,7 +120,7 @@ module _ (s : Machine) (p : ℕ) (l : p < length s.parties) (n : s.world.gone �
       let short : (run (ticks p t) s).world.trace ≡ s.world.trace ++ event.CallBegun p call.TryTick ∷ [] = ap (λ (m : Machine). m.world.trace) (gone-on-alone t (f ∷ xs) q) in
       absurd (omega (arith, ap length (sym short ∙ z), length-append s.world.trace (event.CallBegun p call.TryTick ∷ []), length-append s.world.trace (event.CallBegun p call.TryTick ∷ event.CallEnded p reply.No ∷ [])))
 
-first-times : (f : ℕ) (xs : List ℕ) → 1 ≤ times f (f ∷ xs)
+pub first-times : (f : ℕ) (xs : List ℕ) → 1 ≤ times f (f ∷ xs)
 first-times f xs = grind (arith, same_is)
 
 tick-answered : (s : Machine) → Good s → Heard s → Deep s → (r : IsAtRest s) → (p : ℕ) (t : Hint) → p < length s.parties → (items : List ℕ) → s.world.queue.items ≡ items → FindsNothing s p t ⊎ FindsDue s p t

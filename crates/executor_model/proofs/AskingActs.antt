@@ -4,7 +4,7 @@ use Rattle.std.proofs.lemmas.Bool.Decides.{nat_tests}
 use Rattle.std.proofs.lemmas.List.{length-set, length-append}
 use Rattle.std.specs.Prelude.{nat_lt}
 use Rattle.std.specs.Prelude.{Option, Some, None, slice_get, slice_set}
-use Rattle.concurrent_queue.specs.ClosableQueue.{shut}
+use Rattle.queue_steps.specs.ClosableQueue.{shut}
 use Rattle.task_moves.specs.declared.moves.state.State.{State}
 use Rattle.task_moves.specs.declared.moves.owed.Answer.TheVariants as said
 use Rattle.task_moves.specs.declared.moves.owed.Moved.{Moved}

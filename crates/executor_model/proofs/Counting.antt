@@ -2,7 +2,7 @@
 use Rattle.std.proofs.Common.{◌≡◌, ◌⊎◌, ℕ, ◌+◌, ◌^◌, ◌<◌, List, [], ◌∷◌, ◌++◌, length, Bool, true, false, ◌||◌, ◌&&◌, not, eqb, ltb, get_or, set, drop, refl, sym, ap, ◌∙◌, ◌≤◌, subst, arith}
 use Rattle.std.proofs.lemmas.Bool.Decides.{nat_tests}
 use Rattle.std.specs.Prelude.{Option, Some, None, slice_get, slice_set}
-use Rattle.concurrent_queue.specs.ClosableQueue.{shut}
+use Rattle.queue_steps.specs.ClosableQueue.{shut}
 use Rattle.task_moves.specs.declared.moves.state.State.{State}
 use Rattle.task_moves.specs.declared.moves.owed.Answer.TheVariants as said
 use Rattle.task_moves.specs.declared.moves.owed.Moved.{Moved}

@@ -1,6 +1,6 @@
 -- The table and the queue: which futures have an entry, and which have a Runnable.
 use Rattle.std.specs.Prelude.{◌≡◌, ◌⊎◌, ℕ, ◌≤◌, true, false, Some, length}
-use Rattle.concurrent_queue.specs.ClosableQueue.{HasRoom}
+use Rattle.queue_steps.specs.ClosableQueue.{HasRoom}
 use Rattle.executor_model.specs.declared.op.Op.{Op}
 use Rattle.executor_model.specs.declared.op.Op.TheVariants as op
 use Rattle.executor_model.specs.Trace.{has, is_accepted, is_dropped, is_drop_begun}

@@ -19,3 +19,7 @@ pub mod Entries
 pub mod Limit
 pub mod AskedPolls
 pub mod Emptiness
+pub mod Memory
+pub mod OutputKept
+pub mod AwaiterKept
+pub mod HandingOn

@@ -1,6 +1,6 @@
 -- The machine: its state, which steps are possible, what they lead to, and its runs.
 use Rattle.std.specs.Prelude.{ℕ, zero, suc, ◌-◌, ◌==◌, Bool, true, false, ◌&&◌, ◌||◌, not, Option, Some, None, Result, Ok, Err, List, [], ◌∷◌, ◌++◌, length, slice_get, slice_index_or, slice_set, take, reverse, nat_lt}
-use Rattle.concurrent_queue.specs.ClosableQueue.{new_queue}
+use Rattle.queue_steps.specs.ClosableQueue.{new_queue}
 use Rattle.executor_model.specs.declared.call.By.{By}
 use Rattle.executor_model.specs.declared.call.By.TheVariants as by
 use Rattle.executor_model.specs.declared.call.Call.{Call}

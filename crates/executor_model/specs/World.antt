@@ -1,7 +1,7 @@
 -- The state of the machine without what its parties have still to do, and how small pieces of it change.
 use Rattle.std.specs.Prelude.{ℕ, ◌==◌, Bool, true, false, Option, None, List, [], ◌∷◌, ◌++◌, slice_index_or, slice_set}
 use Rattle.task_moves.specs.declared.moves.state.State.{State}
-use Rattle.concurrent_queue.specs.ClosableQueue.{ClosableQueue}
+use Rattle.queue_steps.specs.ClosableQueue.{ClosableQueue}
 use Rattle.executor_model.specs.declared.event.Event.{Event}
 use Rattle.executor_model.specs.declared.op.Op.{Op}
 use Rattle.executor_model.specs.declared.op.Awaiter.{Awaiter}

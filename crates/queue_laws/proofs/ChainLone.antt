@@ -1,6 +1,6 @@
 -- A call on a chain that begins while no other is in progress ends.
 use Rattle.std.proofs.Common.{◌≡◌, ℕ, suc, List, Bool, if◌then◌else◌, sym, refl, ap, subst, eq-eqb, arith}
-use Rattle.concurrent_queue.specs.Calls.{Call, Answer}
+use Rattle.queue_steps.specs.Calls.{Call, Answer}
 use Rattle.queue_laws.specs.ChainSteps.{Place, Away, Calls, Returns, ChainWorld, Step, Begin, section, with_place, begun, gone, stepped, run, new_chain}
 use Rattle.queue_laws.specs.LoneCalls.{goes_on_chain, EndsOnChain}
 

@@ -1,19 +1,19 @@
 -- Every list of steps on a chain is a run of the closable queue.
 use Rattle.std.proofs.Common.{◌≡◌, inl, inr, ◌↔◌, ℕ, ◌+◌, ◌%◌, ◌<◌, ◌≤◌, List, [], ◌∷◌, ◌++◌, length, Bool, true, false, nat_le, IsTrue, Option, Some, None, Ok, Err, ◌==◌, if◌then◌else◌, sym, refl, ap, ◌∙◌, subst, arith}
 use Rattle.std.proofs.lemmas.Bool.Decides.{nat_tests}
-use Rattle.concurrent_queue.specs.declared.errors.PushError.TheVariants.{Closed as ClosedToPush}
-use Rattle.concurrent_queue.specs.declared.errors.ForcePushError.TheVariants.{Closed as ClosedToForce}
-use Rattle.concurrent_queue.specs.declared.errors.PopError.TheVariants.{Empty as EmptyToPop, Closed as ClosedToPop}
-use Rattle.concurrent_queue.specs.declared.steps.unbounded.Turn.{Turn}
-use Rattle.concurrent_queue.specs.declared.steps.unbounded.Turn.TheVariants.{Append, Link, Take, Unlink, Spend, End, Close as CloseTurn}
-use Rattle.concurrent_queue.specs.declared.steps.unbounded.Ends.{Ends}
-use Rattle.concurrent_queue.specs.ClosableQueue.{ClosableQueue, most_accepted}
-use Rattle.concurrent_queue.specs.Calls.{Call, Push, ForcePush, Pop, Close, Len, IsEmptyCall, IsFullCall, IsClosedCall, Answer, Pushed, ForcePushed, Popped, Acts}
+use Rattle.queue_steps.specs.declared.errors.PushError.TheVariants.{Closed as ClosedToPush}
+use Rattle.queue_steps.specs.declared.errors.ForcePushError.TheVariants.{Closed as ClosedToForce}
+use Rattle.queue_steps.specs.declared.errors.PopError.TheVariants.{Empty as EmptyToPop, Closed as ClosedToPop}
+use Rattle.queue_steps.specs.declared.steps.unbounded.Turn.{Turn}
+use Rattle.queue_steps.specs.declared.steps.unbounded.Turn.TheVariants.{Append, Link, Take, Unlink, Spend, End, Close as CloseTurn}
+use Rattle.queue_steps.specs.declared.steps.unbounded.Ends.{Ends}
+use Rattle.queue_steps.specs.ClosableQueue.{ClosableQueue, most_accepted}
+use Rattle.queue_steps.specs.Calls.{Call, Push, ForcePush, Pop, Close, Len, IsEmptyCall, IsFullCall, IsClosedCall, Answer, Pushed, ForcePushed, Popped, Acts}
 use Rattle.queue_laws.specs.Moments.{Moment, Scene, Sight, Progress, Run, sees, becomes, answers, with_call, MayBeside, MayEnd, IsFromOther}
-use Rattle.concurrent_queue.specs.Chain.{joined, IsLaid, ChainAtRest, chain_queue}
-use Rattle.concurrent_queue.specs.ChainTurns.{push_turn, pop_turn, close_turn, ends_after}
+use Rattle.queue_steps.specs.Chain.{joined, IsLaid, ChainAtRest, chain_queue}
+use Rattle.queue_steps.specs.ChainTurns.{push_turn, pop_turn, close_turn, ends_after}
 use Rattle.queue_laws.specs.ChainSteps.{Place, Away, Calls, Returns, ChainWorld, Step, Begin, Go, Section, section, push_section, pop_section, take_section, unlink_section, with_place, stepped, gone, begun, begin_moments, go_moments, moments, run, trace, new_chain, new_scene, IsClosableQueue}
-use Rattle.concurrent_queue.proofs.ChainLemmas.{append_is, link_is, blocks_there, rests_appended, rests_linked, queue_appended, queue_linked}
+use Rattle.queue_steps.proofs.ChainLemmas.{append_is, link_is, blocks_there, rests_appended, rests_linked, queue_appended, queue_linked}
 
 spend_is : (e : Ends) → Spend ≡ push_turn e → (e.closed ≡ false) × (most_accepted ≤ e.tail)
 spend_is e turn = grind (arith, nat_tests)

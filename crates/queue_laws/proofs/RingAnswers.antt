@@ -1,11 +1,11 @@
 -- The steps of the calls that only answer, and of a close. n is the number of places, m the mark.
 use Rattle.std.proofs.Common.{◌≡◌, ◌⊎◌, ℕ, ◌+◌, ◌*◌, List, ◌∷◌, Option, Some, None, sym, refl, subst}
-use Rattle.concurrent_queue.specs.declared.steps.bounded.Turn.{Turn}
-use Rattle.concurrent_queue.specs.declared.steps.bounded.Turn.TheVariants.{Tail, Head, Stamp, HeadFor, TailFor, TailAgain, Append, Take, Displace, Advance, Spend, Fill, Drain, End, Close as CloseTurn}
-use Rattle.concurrent_queue.specs.Calls.{Call, Close, Len, IsEmptyCall, IsFullCall, IsClosedCall}
+use Rattle.queue_steps.specs.declared.steps.bounded.Turn.{Turn}
+use Rattle.queue_steps.specs.declared.steps.bounded.Turn.TheVariants.{Tail, Head, Stamp, HeadFor, TailFor, TailAgain, Append, Take, Displace, Advance, Spend, Fill, Drain, End, Close as CloseTurn}
+use Rattle.queue_steps.specs.Calls.{Call, Close, Len, IsEmptyCall, IsFullCall, IsClosedCall}
 use Rattle.queue_laws.specs.Moments.{Sight, Progress, AtSome}
-use Rattle.concurrent_queue.specs.Ring.{IsShape, word_at, is_marked}
-use Rattle.concurrent_queue.specs.RingTurns.{len_turn, is_empty_turn, is_full_turn, answered}
+use Rattle.queue_steps.specs.Ring.{IsShape, word_at, is_marked}
+use Rattle.queue_steps.specs.RingTurns.{len_turn, is_empty_turn, is_full_turn, answered}
 use Rattle.queue_laws.specs.RingSteps.{Stands, RingWorld, moved, turn_moments}
 use Rattle.queue_laws.proofs.RingStamps.{bit}
 use Rattle.queue_laws.proofs.RingState.{Ghost, sight_of, Knows, Looks, Tied, WasLong, WasSome, WasNotFull}

@@ -1,17 +1,17 @@
 -- Each step of a call on a ring, by the turn at which it stands. n is the number of places, m the mark.
 use Rattle.std.proofs.Common.{◌≡◌, inr, ℕ, ◌+◌, ◌*◌, ◌%◌, ◌<◌, ◌≤◌, List, [], ◌∷◌, length, drop, Bool, true, false, not, Option, Some, None, ◌==◌, if◌then◌else◌, sym, refl, ap, ◌∙◌, subst, arith}
-use Rattle.concurrent_queue.specs.declared.bounded.Slot.{Slot}
-use Rattle.concurrent_queue.specs.declared.steps.bounded.Turn.{Turn}
-use Rattle.concurrent_queue.specs.declared.steps.bounded.Turn.TheVariants.{Tail, Head, Stamp, HeadFor, TailFor, TailAgain, Append, Take, Displace, Advance, Spend, Fill, Drain, End, Close as CloseTurn}
-use Rattle.concurrent_queue.specs.declared.steps.Reply.TheVariants.{Done, Closed, Yes, No}
-use Rattle.concurrent_queue.specs.ClosableQueue.{most_accepted, appended, shut}
-use Rattle.concurrent_queue.specs.Calls.{Call, Push, ForcePush, Pop, Close, Answer, WasClosed, Acts}
+use Rattle.queue_steps.specs.declared.bounded.Slot.{Slot}
+use Rattle.queue_steps.specs.declared.steps.bounded.Turn.{Turn}
+use Rattle.queue_steps.specs.declared.steps.bounded.Turn.TheVariants.{Tail, Head, Stamp, HeadFor, TailFor, TailAgain, Append, Take, Displace, Advance, Spend, Fill, Drain, End, Close as CloseTurn}
+use Rattle.queue_steps.specs.declared.steps.Reply.TheVariants.{Done, Closed, Yes, No}
+use Rattle.queue_steps.specs.ClosableQueue.{most_accepted, appended, shut}
+use Rattle.queue_steps.specs.Calls.{Call, Push, ForcePush, Pop, Close, Answer, WasClosed, Acts}
 use Rattle.queue_laws.specs.Moments.{Does, Sight, Progress, MayBeside, MayEnd, AtSome, WasOpenAndFull}
-use Rattle.concurrent_queue.specs.Ring.{IsShape, word_at, next_at, is_marked}
-use Rattle.concurrent_queue.specs.RingTurns.{answered, pushes_from, stamped_for_push, push_turn, force_push_turn, pops_from, stamped_for_pop, pop_turn}
+use Rattle.queue_steps.specs.Ring.{IsShape, word_at, next_at, is_marked}
+use Rattle.queue_steps.specs.RingTurns.{answered, pushes_from, stamped_for_push, push_turn, force_push_turn, pops_from, stamped_for_pop, pop_turn}
 use Rattle.queue_laws.specs.SlotSteps.{answer_of, stored, is_yes}
 use Rattle.queue_laws.specs.RingSteps.{Stands, RingWorld, with_at, moved, turn_moments, displaced}
-use Rattle.concurrent_queue.proofs.RingWords.{index_of_word}
+use Rattle.queue_steps.proofs.RingWords.{index_of_word}
 use Rattle.queue_laws.proofs.RingStamps.{bit, bare, marked, marked_is, one_count, one_tail, head_behind, a_lap_on}
 use Rattle.queue_laws.proofs.RingState.{Ghost, Sure, up, age, queue_of, sight_of, Knows, Looks, Tied}
 use Rattle.queue_laws.proofs.RingKnows.{length_is}

@@ -1,17 +1,17 @@
 -- The exchanges of a ring's words that hit, each a moment of the closable queue. n is the number of places, m the mark.
 use Rattle.std.proofs.Common.{◌≡◌, ◌≢◌, ℕ, ◌+◌, ◌*◌, ◌%◌, ◌<◌, ◌≤◌, List, [], ◌∷◌, ◌++◌, drop, Bool, true, false, Option, Some, None, Ok, if◌then◌else◌, sym, refl, ap, ◌∙◌, subst, arith}
 use Rattle.std.proofs.lemmas.List.{drop-append-le}
-use Rattle.concurrent_queue.specs.declared.bounded.Slot.{Slot}
-use Rattle.concurrent_queue.specs.declared.steps.bounded.Turn.{Turn}
-use Rattle.concurrent_queue.specs.declared.steps.bounded.Turn.TheVariants.{Advance, Fill, Drain}
-use Rattle.concurrent_queue.specs.declared.steps.Reply.TheVariants.{Done, Displaced}
-use Rattle.concurrent_queue.specs.ClosableQueue.{ClosableQueue, most_accepted, appended, taken, shut}
-use Rattle.concurrent_queue.specs.Calls.{Call, ForcePush, Pop, Answer, ForcePushed, Popped, Acts}
+use Rattle.queue_steps.specs.declared.bounded.Slot.{Slot}
+use Rattle.queue_steps.specs.declared.steps.bounded.Turn.{Turn}
+use Rattle.queue_steps.specs.declared.steps.bounded.Turn.TheVariants.{Advance, Fill, Drain}
+use Rattle.queue_steps.specs.declared.steps.Reply.TheVariants.{Done, Displaced}
+use Rattle.queue_steps.specs.ClosableQueue.{ClosableQueue, most_accepted, appended, taken, shut}
+use Rattle.queue_steps.specs.Calls.{Call, ForcePush, Pop, Answer, ForcePushed, Popped, Acts}
 use Rattle.queue_laws.specs.Moments.{Does, Arrives, Progress, sees, becomes, answers, with_call, MayBeside, AtSome, WasOpenAndFull}
-use Rattle.concurrent_queue.specs.Ring.{IsShape, word_at, next_at, is_marked}
+use Rattle.queue_steps.specs.Ring.{IsShape, word_at, next_at, is_marked}
 use Rattle.queue_laws.specs.SlotSteps.{answer_of, stored}
 use Rattle.queue_laws.specs.RingSteps.{Stands, RingWorld, with_at, displaced, tail_after}
-use Rattle.concurrent_queue.proofs.RingWords.{next_is}
+use Rattle.queue_steps.proofs.RingWords.{next_is}
 use Rattle.queue_laws.proofs.RingStamps.{bit, bare, marked, marked_is, a_lap_on}
 use Rattle.queue_laws.proofs.RingState.{free, full, held, Cell, cell, Ghost, kind_of, writing, swapping, reading, displacing, age, slot_of, queue_of, sight_of, scene_of, Base, CellLies, ComesTo, StandsAs, TiedPlace, Tied}
 use Rattle.queue_laws.proofs.RingKnows.{length_is}

@@ -2,8 +2,8 @@
 use Rattle.std.proofs.Common.{◌≡◌, ◌≢◌, ◌⊎◌, inl, inr, ℕ, ◌+◌, ◌<◌, ◌≤◌, List, [], ◌∷◌, length, drop, Bool, true, false, Option, Some, None, sym, refl, ap, ◌∙◌, subst, lt_of_not-le, length-drop, arith}
 use mathlib.Core.Logic.{dite}
 use native.Mathlib.Decide.{dec_le}
-use Rattle.concurrent_queue.specs.declared.steps.bounded.Turn.{Turn}
-use Rattle.concurrent_queue.specs.Calls.{Call, Answer}
+use Rattle.queue_steps.specs.declared.steps.bounded.Turn.{Turn}
+use Rattle.queue_steps.specs.Calls.{Call, Answer}
 use Rattle.queue_laws.specs.Moments.{Sight, Progress, AtSome, MayEnd, sees}
 use Rattle.queue_laws.specs.SlotSteps.{answer_of}
 use Rattle.queue_laws.specs.RingSteps.{Place, Away, Stands, Leaving}

@@ -1,19 +1,19 @@
 -- A call on a ring that begins while no other is in progress ends. n is the number of places, m the mark.
 use Rattle.std.proofs.Common.{◌≡◌, ◌⊎◌, inl, inr, ℕ, suc, ◌+◌, ◌*◌, ◌%◌, ◌<◌, ◌≤◌, List, Bool, true, false, nat_lt, Option, None, ◌==◌, if◌then◌else◌, sym, refl, ap, ◌∙◌, subst, eq-eqb, ne_eqb, lt-ltb, arith}
-use Rattle.concurrent_queue.specs.declared.bounded.Slot.{Slot}
-use Rattle.concurrent_queue.specs.declared.steps.bounded.Turn.{Turn}
-use Rattle.concurrent_queue.specs.declared.steps.bounded.Turn.TheVariants.{Tail, Head, Stamp, HeadFor, TailFor, TailAgain, Append, Take, Displace, Advance, Spend, Fill, Drain, End, Close as CloseTurn}
-use Rattle.concurrent_queue.specs.declared.steps.Reply.{Reply}
-use Rattle.concurrent_queue.specs.declared.steps.Reply.TheVariants.{Done, Displaced, Full, Empty, Closed}
-use Rattle.concurrent_queue.specs.ClosableQueue.{most_accepted}
-use Rattle.concurrent_queue.specs.Calls.{Call, Push, ForcePush, Pop, Close, Len, IsEmptyCall, IsFullCall, IsClosedCall}
+use Rattle.queue_steps.specs.declared.bounded.Slot.{Slot}
+use Rattle.queue_steps.specs.declared.steps.bounded.Turn.{Turn}
+use Rattle.queue_steps.specs.declared.steps.bounded.Turn.TheVariants.{Tail, Head, Stamp, HeadFor, TailFor, TailAgain, Append, Take, Displace, Advance, Spend, Fill, Drain, End, Close as CloseTurn}
+use Rattle.queue_steps.specs.declared.steps.Reply.{Reply}
+use Rattle.queue_steps.specs.declared.steps.Reply.TheVariants.{Done, Displaced, Full, Empty, Closed}
+use Rattle.queue_steps.specs.ClosableQueue.{most_accepted}
+use Rattle.queue_steps.specs.Calls.{Call, Push, ForcePush, Pop, Close, Len, IsEmptyCall, IsFullCall, IsClosedCall}
 use Rattle.queue_laws.specs.Moments.{Progress}
-use Rattle.concurrent_queue.specs.Ring.{IsShape, word_at, count_at, is_marked}
-use Rattle.concurrent_queue.specs.RingTurns.{pushes_from, appends_at, stamped_for_push, displaces_at, pops_from}
+use Rattle.queue_steps.specs.Ring.{IsShape, word_at, count_at, is_marked}
+use Rattle.queue_steps.specs.RingTurns.{pushes_from, appends_at, stamped_for_push, displaces_at, pops_from}
 use Rattle.queue_laws.specs.SlotSteps.{Step, Begin}
 use Rattle.queue_laws.specs.RingSteps.{Place, Away, Stands, Leaving, RingWorld, with_at, first_turn, gone, stepped, run, new_ring}
 use Rattle.queue_laws.specs.LoneCalls.{goes, EndsOnRing}
-use Rattle.concurrent_queue.proofs.RingWords.{index_of_word, count_of_word, word_a_lap_on}
+use Rattle.queue_steps.proofs.RingWords.{index_of_word, count_of_word, word_a_lap_on}
 use Rattle.queue_laws.proofs.RingStamps.{bit, bare, marked_is, tail_index, a_lap_on, same_count}
 use Rattle.queue_laws.proofs.RingState.{Phase, free, full, held, Cell, cell, Ghost, Base, CellLies, HeldBy, place_of, slot_of, Tied}
 use Rattle.queue_laws.proofs.RingMoves.{at_here}

@@ -4,19 +4,19 @@ use Rattle.std.specs.Prelude.{MatchOption}
 use mathlib.Core.Logic.{dite}
 use native.Mathlib.Decide.{dec_le}
 use Rattle.std.proofs.lemmas.Bool.Decides.{nat_tests}
-use Rattle.concurrent_queue.specs.declared.errors.PushError.TheVariants.{Full as FullToPush, Closed as ClosedToPush}
-use Rattle.concurrent_queue.specs.declared.errors.PushError.{PushError}
-use Rattle.concurrent_queue.specs.declared.errors.ForcePushError.{ForcePushError}
-use Rattle.concurrent_queue.specs.declared.steps.bounded.Turn.{Turn}
-use Rattle.concurrent_queue.specs.declared.steps.bounded.Turn.TheVariants.{Tail, Head, Stamp, HeadFor, TailFor, TailAgain, Append, Take, Displace, Advance, Spend, Fill, Drain, End, Close as CloseTurn}
-use Rattle.concurrent_queue.specs.declared.steps.Reply.TheVariants.{Full, Empty, Closed, Length}
-use Rattle.concurrent_queue.specs.ClosableQueue.{most_accepted}
-use Rattle.concurrent_queue.specs.Calls.{Call, Push, ForcePush, Pop, Len, IsEmptyCall, IsFullCall, IsClosedCall, Pushed, ForcePushed, LenIs, EmptyIs, FullIs, ClosedIs}
+use Rattle.queue_steps.specs.declared.errors.PushError.TheVariants.{Full as FullToPush, Closed as ClosedToPush}
+use Rattle.queue_steps.specs.declared.errors.PushError.{PushError}
+use Rattle.queue_steps.specs.declared.errors.ForcePushError.{ForcePushError}
+use Rattle.queue_steps.specs.declared.steps.bounded.Turn.{Turn}
+use Rattle.queue_steps.specs.declared.steps.bounded.Turn.TheVariants.{Tail, Head, Stamp, HeadFor, TailFor, TailAgain, Append, Take, Displace, Advance, Spend, Fill, Drain, End, Close as CloseTurn}
+use Rattle.queue_steps.specs.declared.steps.Reply.TheVariants.{Full, Empty, Closed, Length}
+use Rattle.queue_steps.specs.ClosableQueue.{most_accepted}
+use Rattle.queue_steps.specs.Calls.{Call, Push, ForcePush, Pop, Len, IsEmptyCall, IsFullCall, IsClosedCall, Pushed, ForcePushed, LenIs, EmptyIs, FullIs, ClosedIs}
 use Rattle.queue_laws.specs.Moments.{Sight, AtSome, MayAnswer, MayBeside, WasOpenAndFull}
-use Rattle.concurrent_queue.specs.Ring.{IsShape, word_at, count_at, is_marked}
-use Rattle.concurrent_queue.specs.RingTurns.{answered, pushes_from, appends_at, stamped_for_push, push_turn, displaces_at, force_push_turn, pops_from, stamped_for_pop, pop_turn, len_turn, is_empty_turn, is_full_turn}
+use Rattle.queue_steps.specs.Ring.{IsShape, word_at, count_at, is_marked}
+use Rattle.queue_steps.specs.RingTurns.{answered, pushes_from, appends_at, stamped_for_push, push_turn, displaces_at, force_push_turn, pops_from, stamped_for_pop, pop_turn, len_turn, is_empty_turn, is_full_turn}
 use Rattle.queue_laws.specs.SlotSteps.{answer_of}
-use Rattle.concurrent_queue.proofs.RingWords.{index_of_word, count_of_word}
+use Rattle.queue_steps.proofs.RingWords.{index_of_word, count_of_word}
 use Rattle.queue_laws.proofs.RingStamps.{bit, marked_is, tail_index, tail_count, bare, marked, one_tail, same_tail, one_slot, one_slot_behind, head_behind, head_behind_marked}
 use Rattle.queue_laws.proofs.RingState.{Phase, free, full, held, Cell, Ghost, Kind, looking, holding, ending, kind_of, Fact, Sure, Both, Past, Gone, Aged, OpenAt, OpenFull, LenAt, EmptyAt, FullAt, writing, swapping, reading, displacing, up, age, sight_of, Base, ComesTo, WasOpen, WasLong, WasSome, WasNotFull, Knows, PushFits, Looks}
 use Rattle.queue_laws.proofs.RingKnows.{at_some, length_is}
@@ -403,7 +403,7 @@ module _ {T : Type 0} (n m : ℕ) (shape : IsShape n m) (g : Ghost T) (b : Base 
       head = word_at n m g.popped
 
       lap : word_at n m (g.popped + n) ≡ head + 2 * m
-      lap = Rattle.concurrent_queue.proofs.RingWords.word_a_lap_on n m shape g.popped
+      lap = Rattle.queue_steps.proofs.RingWords.word_a_lap_on n m shape g.popped
 
       bare_not : (d : Bool) → shut ≡ d → g.popped + n ≡ c → (head + 2 * m == tail) ≡ false → (head + 3 * m == tail) ≡ false → ⊥
       bare_not true is at e e' = is_other (head + 3 * m) tail e' (

@@ -4,12 +4,12 @@ use Rattle.std.proofs.lemmas.List.{drop-append-le}
 use Rattle.std.proofs.Math.Seq.{drop-append_seam, drop-append-add}
 use mathlib.Core.Logic.{dite}
 use native.Mathlib.Decide.{dec_le}
-use Rattle.concurrent_queue.specs.declared.steps.bounded.Turn.TheVariants.{Fill, Drain, Advance}
-use Rattle.concurrent_queue.specs.declared.steps.Reply.TheVariants.{Done, Displaced}
-use Rattle.concurrent_queue.specs.Calls.{Call}
-use Rattle.concurrent_queue.specs.Ring.{IsShape, word_at}
+use Rattle.queue_steps.specs.declared.steps.bounded.Turn.TheVariants.{Fill, Drain, Advance}
+use Rattle.queue_steps.specs.declared.steps.Reply.TheVariants.{Done, Displaced}
+use Rattle.queue_steps.specs.Calls.{Call}
+use Rattle.queue_steps.specs.Ring.{IsShape, word_at}
 use Rattle.queue_laws.specs.RingSteps.{Place, with_at}
-use Rattle.concurrent_queue.proofs.RingSlots.{places_differ}
+use Rattle.queue_steps.proofs.RingSlots.{places_differ}
 use Rattle.queue_laws.proofs.RingStamps.{same_count, a_lap_on, one_count}
 use Rattle.queue_laws.proofs.RingState.{Phase, free, full, held, Cell, cell, Ghost, Grip, writing, swapping, reading, displacing, up, grip_turn, Base, IsAt, Stores, Lies, CellLies, HeldBy}
 use Rattle.queue_laws.proofs.SlotLooks.{is_party, is_other}

@@ -1,13 +1,13 @@
 -- The steps in a place that is a party's own, and the end of its call. n is the number of places, m the mark.
 use Rattle.std.proofs.Common.{◌≡◌, ◌≢◌, ℕ, ◌+◌, ◌*◌, ◌%◌, ◌<◌, ◌≤◌, [], ◌∷◌, Bool, true, false, Option, Some, None, sym, refl, ap, ◌∙◌, subst, arith}
-use Rattle.concurrent_queue.specs.declared.bounded.Slot.{Slot}
-use Rattle.concurrent_queue.specs.declared.steps.bounded.Turn.{Turn}
-use Rattle.concurrent_queue.specs.Calls.{Call, Answer}
+use Rattle.queue_steps.specs.declared.bounded.Slot.{Slot}
+use Rattle.queue_steps.specs.declared.steps.bounded.Turn.{Turn}
+use Rattle.queue_steps.specs.Calls.{Call, Answer}
 use Rattle.queue_laws.specs.Moments.{Ends, Progress, with_call, MayEnd}
-use Rattle.concurrent_queue.specs.Ring.{IsShape, word_at}
+use Rattle.queue_steps.specs.Ring.{IsShape, word_at}
 use Rattle.queue_laws.specs.SlotSteps.{answer_of, stored}
 use Rattle.queue_laws.specs.RingSteps.{Place, Away, Stands, Leaving, RingWorld, with_at, reply_of, stamp_after}
-use Rattle.concurrent_queue.proofs.RingWords.{word_a_lap_on}
+use Rattle.queue_steps.proofs.RingWords.{word_a_lap_on}
 use Rattle.queue_laws.proofs.RingStamps.{a_lap_on}
 use Rattle.queue_laws.proofs.RingState.{Phase, free, full, held, Cell, cell, Ghost, Grip, writing, swapping, reading, displacing, up, age, slot_of, grip_turn, scene_of, CellLies, HeldBy, Tied}
 use Rattle.queue_laws.proofs.RingKnows.{Stays}

@@ -1,14 +1,14 @@
 -- How a ring, its parties and their calls stay tied while one party goes on. n is the number of places, m the mark.
 use Rattle.std.proofs.Common.{◌≡◌, ◌≢◌, ℕ, ◌+◌, ◌%◌, ◌<◌, ◌≤◌, List, [], ◌∷◌, Bool, true, false, Option, Some, None, ◌==◌, if◌then◌else◌, sym, refl, ap, ◌∙◌, subst, mod-lt, arith}
-use Rattle.concurrent_queue.specs.declared.bounded.Slot.{Slot}
-use Rattle.concurrent_queue.specs.declared.steps.bounded.Turn.{Turn}
-use Rattle.concurrent_queue.specs.declared.steps.bounded.Turn.TheVariants.{Tail, Fill, Drain, Advance}
-use Rattle.concurrent_queue.specs.Calls.{Call, ForcePush, Answer}
+use Rattle.queue_steps.specs.declared.bounded.Slot.{Slot}
+use Rattle.queue_steps.specs.declared.steps.bounded.Turn.{Turn}
+use Rattle.queue_steps.specs.declared.steps.bounded.Turn.TheVariants.{Tail, Fill, Drain, Advance}
+use Rattle.queue_steps.specs.Calls.{Call, ForcePush, Answer}
 use Rattle.queue_laws.specs.Moments.{Moment, Ends, Begins, Sight, Progress, Run, sees, with_call, MayEnd, IsFromOther, AtSome, MayAnswer}
-use Rattle.concurrent_queue.specs.Ring.{IsShape, word_at}
+use Rattle.queue_steps.specs.Ring.{IsShape, word_at}
 use Rattle.queue_laws.specs.SlotSteps.{answer_of}
 use Rattle.queue_laws.specs.RingSteps.{Place, Away, Stands, Leaving, RingWorld, with_at}
-use Rattle.concurrent_queue.proofs.RingWords.{index_of_word}
+use Rattle.queue_steps.proofs.RingWords.{index_of_word}
 use Rattle.queue_laws.proofs.RingStamps.{a_lap_on}
 use Rattle.queue_laws.proofs.RingState.{Phase, free, full, held, Cell, cell, Ghost, Kind, looking, holding, ending, kind_of, Grip, writing, swapping, reading, displacing, age, slot_of, grip_turn, sight_of, scene_of, Base, CellLies, place_of, HeldBy, ComesTo, StandsAs, TiedPlace, Tied}
 use Rattle.queue_laws.proofs.RingKnows.{Grows, Stays, Keeps, tied_more, tied_still}

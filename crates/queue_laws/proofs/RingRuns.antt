@@ -3,18 +3,18 @@ use Rattle.std.proofs.Common.{◌≡◌, ◌⊎◌, inl, inr, ℕ, ◌+◌, ◌-
 use mathlib.Core.Logic.{dite}
 use native.Mathlib.Decide.{dec_le}
 use Rattle.std.proofs.Math.Nat.{mod-eq_of_lt}
-use Rattle.concurrent_queue.specs.declared.bounded.Slot.{Slot}
-use Rattle.concurrent_queue.specs.declared.steps.bounded.Turn.{Turn}
-use Rattle.concurrent_queue.specs.declared.steps.bounded.Turn.TheVariants.{Tail, Head, Stamp, HeadFor, TailFor, TailAgain, Append, Take, Displace, Advance, Spend, Fill, Drain, End, Close as CloseTurn}
-use Rattle.concurrent_queue.specs.declared.steps.Reply.{Reply}
-use Rattle.concurrent_queue.specs.declared.steps.Reply.TheVariants.{Done, Displaced}
-use Rattle.concurrent_queue.specs.ClosableQueue.{most_accepted}
-use Rattle.concurrent_queue.specs.Calls.{Call, Push, ForcePush, Pop, Close, Len, IsEmptyCall, IsFullCall, IsClosedCall}
+use Rattle.queue_steps.specs.declared.bounded.Slot.{Slot}
+use Rattle.queue_steps.specs.declared.steps.bounded.Turn.{Turn}
+use Rattle.queue_steps.specs.declared.steps.bounded.Turn.TheVariants.{Tail, Head, Stamp, HeadFor, TailFor, TailAgain, Append, Take, Displace, Advance, Spend, Fill, Drain, End, Close as CloseTurn}
+use Rattle.queue_steps.specs.declared.steps.Reply.{Reply}
+use Rattle.queue_steps.specs.declared.steps.Reply.TheVariants.{Done, Displaced}
+use Rattle.queue_steps.specs.ClosableQueue.{most_accepted}
+use Rattle.queue_steps.specs.Calls.{Call, Push, ForcePush, Pop, Close, Len, IsEmptyCall, IsFullCall, IsClosedCall}
 use Rattle.queue_laws.specs.Moments.{Moment, Scene, Sight, Progress, Run}
-use Rattle.concurrent_queue.specs.Ring.{IsShape, word_at, count_at, is_marked}
+use Rattle.queue_steps.specs.Ring.{IsShape, word_at, count_at, is_marked}
 use Rattle.queue_laws.specs.SlotSteps.{Step, Begin, Go, answer_of}
 use Rattle.queue_laws.specs.RingSteps.{Place, Away, Stands, Leaving, RingWorld, first_turn, begun, moved, entered, stood, gone, leaves, left, stepped, begin_moments, turn_moments, go_moments, moments, run, trace, new_ring, IsNeverEmpty, IsClosableQueue}
-use Rattle.concurrent_queue.proofs.RingWords.{index_of_word, first_word, word_a_lap_on, word_fits, count_of_word}
+use Rattle.queue_steps.proofs.RingWords.{index_of_word, first_word, word_a_lap_on, word_fits, count_of_word}
 use Rattle.queue_laws.proofs.RingStamps.{bare, marked_is, tail_count, a_lap_on}
 use Rattle.queue_laws.proofs.RingState.{Phase, free, full, held, Cell, cell, Ghost, holding, kind_of, Sure, Grip, writing, swapping, reading, displacing, up, slot_of, grip_turn, sight_of, scene_of, Base, CellLies, Looks, Grips, StandsAs, Tied}
 use Rattle.queue_laws.proofs.RingKnows.{length_is}

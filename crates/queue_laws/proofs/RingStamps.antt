@@ -4,9 +4,9 @@ use Rattle.std.proofs.Math.Arith.{digits_div, digits_mod}
 use mathlib.Core.Logic.{dite}
 use native.Mathlib.Decide.{dec_le}
 use native.Mathlib.Nat.{add-mod_right}
-use Rattle.concurrent_queue.specs.Ring.{IsShape, word_at, count_at, is_marked}
-use Rattle.concurrent_queue.proofs.RingWords.{index_of, marked_by, count_of, word_a_lap_on}
-use Rattle.concurrent_queue.proofs.RingSlots.{places_differ}
+use Rattle.queue_steps.specs.Ring.{IsShape, word_at, count_at, is_marked}
+use Rattle.queue_steps.proofs.RingWords.{index_of, marked_by, count_of, word_a_lap_on}
+use Rattle.queue_steps.proofs.RingSlots.{places_differ}
 
 abbrev pub bit : Bool → ℕ
 bit true = 1

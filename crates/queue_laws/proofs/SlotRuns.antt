@@ -1,11 +1,11 @@
 -- Every list of steps on a single slot is a run of the closable queue.
 use Rattle.std.proofs.Common.{◌≡◌, ◌≢◌, inl, inr, ℕ, ◌-◌, ◌<◌, List, [], ◌∷◌, ◌++◌, Bool, true, false, nat_lt, Option, Some, None, ◌==◌, if◌then◌else◌, sym, refl, ap, ◌∙◌, subst, arith}
-use Rattle.concurrent_queue.specs.declared.steps.single.Turn.{Turn}
-use Rattle.concurrent_queue.specs.declared.steps.single.Turn.TheVariants.{Look, Exchange, Unlock, End, Close as CloseTurn}
-use Rattle.concurrent_queue.specs.declared.steps.Reply.{Reply}
-use Rattle.concurrent_queue.specs.declared.steps.Reply.TheVariants.{Yes, No}
-use Rattle.concurrent_queue.specs.ClosableQueue.{ClosableQueue}
-use Rattle.concurrent_queue.specs.Calls.{Call, Push, ForcePush, Pop, Close, Len, IsEmptyCall, IsFullCall, IsClosedCall, Answer, WasClosed, Acts}
+use Rattle.queue_steps.specs.declared.steps.single.Turn.{Turn}
+use Rattle.queue_steps.specs.declared.steps.single.Turn.TheVariants.{Look, Exchange, Unlock, End, Close as CloseTurn}
+use Rattle.queue_steps.specs.declared.steps.Reply.{Reply}
+use Rattle.queue_steps.specs.declared.steps.Reply.TheVariants.{Yes, No}
+use Rattle.queue_steps.specs.ClosableQueue.{ClosableQueue}
+use Rattle.queue_steps.specs.Calls.{Call, Push, ForcePush, Pop, Close, Len, IsEmptyCall, IsFullCall, IsClosedCall, Answer, WasClosed, Acts}
 use Rattle.queue_laws.specs.Moments.{Moment, Does, Ends, Scene, Sight, Progress, Run, sees, becomes, answers, with_call, MayBeside, MayAnswer, MayEnd, AtSome, IsFromOther}
 use Rattle.queue_laws.specs.SlotSteps.{Place, Away, Stands, Inside, Leaving, SlotWorld, Step, Begin, Go, turn_of, first_turn, is_yes, answer_of, stored, word_after, placed, with_place, begun, moved, gone, stepped, begin_moments, turn_moments, go_moments, moments, run, trace, new_slot, new_scene, IsClosableQueue}
 use Rattle.queue_laws.proofs.SlotLooks.{Phase, free, held, is_party, is_other, word_of, content, item, sight_of, Exchanges, LooksFirst, Finds, looks, hits, misses, closed_word, open_word, done_word, unlocked_word}

@@ -1,16 +1,16 @@
 -- A chain on which several parties call, each call one section of one lock, and the moments that its steps are.
 use Rattle.std.specs.Prelude.{◌≡◌, ℕ, ◌-◌, List, [], ◌∷◌, ◌++◌, false, not, nat_le, Some, None, Ok, Err, ◌==◌, if◌then◌else◌}
-use Rattle.concurrent_queue.specs.declared.errors.PushError.TheVariants.{Closed as ClosedToPush}
-use Rattle.concurrent_queue.specs.declared.errors.ForcePushError.TheVariants.{Closed as ClosedToForce}
-use Rattle.concurrent_queue.specs.declared.errors.PopError.TheVariants.{Empty as EmptyToPop, Closed as ClosedToPop}
-use Rattle.concurrent_queue.specs.declared.steps.unbounded.Turn.{Turn}
-use Rattle.concurrent_queue.specs.declared.steps.unbounded.Turn.TheVariants.{Append, Link, Take, Unlink, Spend, End, Close as CloseTurn}
-use Rattle.concurrent_queue.specs.declared.steps.unbounded.Ends.{Ends}
-use Rattle.concurrent_queue.specs.ClosableQueue.{new_queue}
-use Rattle.concurrent_queue.specs.Calls.{Call, Push, ForcePush, Pop, Close, Len, IsEmptyCall, IsFullCall, IsClosedCall, Answer, Pushed, ForcePushed, Popped, WasClosed, LenIs, EmptyIs, FullIs, ClosedIs}
+use Rattle.queue_steps.specs.declared.errors.PushError.TheVariants.{Closed as ClosedToPush}
+use Rattle.queue_steps.specs.declared.errors.ForcePushError.TheVariants.{Closed as ClosedToForce}
+use Rattle.queue_steps.specs.declared.errors.PopError.TheVariants.{Empty as EmptyToPop, Closed as ClosedToPop}
+use Rattle.queue_steps.specs.declared.steps.unbounded.Turn.{Turn}
+use Rattle.queue_steps.specs.declared.steps.unbounded.Turn.TheVariants.{Append, Link, Take, Unlink, Spend, End, Close as CloseTurn}
+use Rattle.queue_steps.specs.declared.steps.unbounded.Ends.{Ends}
+use Rattle.queue_steps.specs.ClosableQueue.{new_queue}
+use Rattle.queue_steps.specs.Calls.{Call, Push, ForcePush, Pop, Close, Len, IsEmptyCall, IsFullCall, IsClosedCall, Answer, Pushed, ForcePushed, Popped, WasClosed, LenIs, EmptyIs, FullIs, ClosedIs}
 use Rattle.queue_laws.specs.Moments.{Moment, Begins, Does, Ends as EndsCall, Scene, Run}
-use Rattle.concurrent_queue.specs.Chain.{onto_last, chain_queue, ChainAtRest}
-use Rattle.concurrent_queue.specs.ChainTurns.{push_turn, pop_turn, close_turn, ends_after}
+use Rattle.queue_steps.specs.Chain.{onto_last, chain_queue, ChainAtRest}
+use Rattle.queue_steps.specs.ChainTurns.{push_turn, pop_turn, close_turn, ends_after}
 
 -- where a party stands: in no call, before its section, or after it
 pub data Place (T : Type 0) : Type 0 where

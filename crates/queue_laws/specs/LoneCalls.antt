@@ -1,7 +1,7 @@
 -- A call that begins while no other is in progress, and goes on alone, ends within 64 steps: of a single slot, a chain and
 -- a ring, after every list of steps.
 use Rattle.std.specs.Prelude.{◌≡◌, ℕ, zero, suc, ◌≤◌, List, [], ◌∷◌}
-use Rattle.concurrent_queue.specs.Calls.{Call}
+use Rattle.queue_steps.specs.Calls.{Call}
 use Rattle.queue_laws.specs.SlotSteps.{Step, Begin, Go, Away as AwayFromSlot, run as run_slot, stepped as slot_stepped, new_slot}
 use Rattle.queue_laws.specs.ChainSteps.{Step as ChainStep, Begin as BeginOnChain, Go as GoOnChain, Away as AwayFromChain, run as run_chain, stepped as chain_stepped, new_chain}
 use Rattle.queue_laws.specs.RingSteps.{Away as AwayFromRing, run as run_ring, stepped as ring_stepped, new_ring}

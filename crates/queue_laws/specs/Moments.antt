@@ -1,8 +1,8 @@
 -- Runs of a closable queue on which several parties call: lists of moments. A call is answered as it would be at some
 -- moment of its own. An item may be on its way in, and beside it nothing else is appended.
 use Rattle.std.specs.Prelude.{◌≡◌, ◌≢◌, ◌⊎◌, ℕ, List, [], ◌∷◌, drop, false, Option, Some, None, Ok, Err, ◌==◌, if◌then◌else◌}
-use Rattle.concurrent_queue.specs.ClosableQueue.{ClosableQueue, IsFull, IsUnspent, appended, taken}
-use Rattle.concurrent_queue.specs.Calls.{Call, ForcePush, Answer, Pushed, ForcePushed, Popped, WasClosed, LenIs, EmptyIs, FullIs, ClosedIs, Acts}
+use Rattle.queue_steps.specs.ClosableQueue.{ClosableQueue, IsFull, IsUnspent, appended, taken}
+use Rattle.queue_steps.specs.Calls.{Call, ForcePush, Answer, Pushed, ForcePushed, Popped, WasClosed, LenIs, EmptyIs, FullIs, ClosedIs, Acts}
 
 -- the queue, and the party whose item is on its way in, with the item
 pub record Sight (T : Type 0) : Type 0 where

@@ -1,16 +1,16 @@
 -- A ring on which several parties call, step by step, and the moments that its steps are. A step loads or exchanges one
 -- word, or is done in a place by the party whose own it is. n is the number of places, m the mark above their indexes.
 use Rattle.std.specs.Prelude.{◌≡◌, ℕ, ◌+◌, ◌*◌, ◌%◌, ◌<◌, ◌^◌, List, [], ◌∷◌, ◌++◌, length, not, Option, Some, None, IsSome, ◌==◌, if◌then◌else◌}
-use Rattle.concurrent_queue.specs.declared.bounded.Slot.{Slot}
-use Rattle.concurrent_queue.specs.declared.steps.bounded.Turn.{Turn}
-use Rattle.concurrent_queue.specs.declared.steps.bounded.Turn.TheVariants.{Tail, Head, Stamp, HeadFor, Append, Take, Displace, Advance, Spend, Fill, Drain, End, Close as CloseTurn}
-use Rattle.concurrent_queue.specs.declared.steps.Reply.{Reply}
-use Rattle.concurrent_queue.specs.declared.steps.Reply.TheVariants.{Done, Displaced, Closed}
-use Rattle.concurrent_queue.specs.ClosableQueue.{new_queue}
-use Rattle.concurrent_queue.specs.Calls.{Call, Push, ForcePush, Pop, Close, Len, IsEmptyCall, IsFullCall, IsClosedCall, WasClosed}
+use Rattle.queue_steps.specs.declared.bounded.Slot.{Slot}
+use Rattle.queue_steps.specs.declared.steps.bounded.Turn.{Turn}
+use Rattle.queue_steps.specs.declared.steps.bounded.Turn.TheVariants.{Tail, Head, Stamp, HeadFor, Append, Take, Displace, Advance, Spend, Fill, Drain, End, Close as CloseTurn}
+use Rattle.queue_steps.specs.declared.steps.Reply.{Reply}
+use Rattle.queue_steps.specs.declared.steps.Reply.TheVariants.{Done, Displaced, Closed}
+use Rattle.queue_steps.specs.ClosableQueue.{new_queue}
+use Rattle.queue_steps.specs.Calls.{Call, Push, ForcePush, Pop, Close, Len, IsEmptyCall, IsFullCall, IsClosedCall, WasClosed}
 use Rattle.queue_laws.specs.Moments.{Moment, Begins, Does, Displaces, Arrives, Ends, Scene, Run}
-use Rattle.concurrent_queue.specs.Ring.{next_at, advanced_at, count_at, is_marked}
-use Rattle.concurrent_queue.specs.RingTurns.{push_turn, force_push_turn, pop_turn, close_turn, len_turn, is_empty_turn, is_full_turn, is_closed_turn}
+use Rattle.queue_steps.specs.Ring.{next_at, advanced_at, count_at, is_marked}
+use Rattle.queue_steps.specs.RingTurns.{push_turn, force_push_turn, pop_turn, close_turn, len_turn, is_empty_turn, is_full_turn, is_closed_turn}
 use Rattle.queue_laws.specs.SlotSteps.{Step, Begin, Go, answer_of, stored}
 
 -- where a party stands: in no call, before its next step, or after its step in a place, with what it took out, before it

@@ -1,17 +1,17 @@
 -- A single slot on which several parties call, step by step, and the moments that its steps are. A step loads or
 -- exchanges the word, or is done in the slot by the party that has locked it.
 use Rattle.std.specs.Prelude.{ℕ, ◌+◌, ◌-◌, ◌<◌, List, [], ◌∷◌, ◌++◌, Bool, true, false, nat_lt, Option, Some, None, Ok, Err, ◌==◌, if◌then◌else◌}
-use Rattle.concurrent_queue.specs.declared.errors.PushError.TheVariants.{Full as FullToPush, Closed as ClosedToPush}
-use Rattle.concurrent_queue.specs.declared.errors.ForcePushError.TheVariants.{Closed as ClosedToForce}
-use Rattle.concurrent_queue.specs.declared.errors.PopError.TheVariants.{Empty as EmptyToPop, Closed as ClosedToPop}
-use Rattle.concurrent_queue.specs.declared.steps.single.Turn.{Turn}
-use Rattle.concurrent_queue.specs.declared.steps.single.Turn.TheVariants.{Look, Exchange, Unlock, End, Close as CloseTurn}
-use Rattle.concurrent_queue.specs.declared.steps.Reply.{Reply}
-use Rattle.concurrent_queue.specs.declared.steps.Reply.TheVariants.{Done, Displaced, Full, Closed, Yes, Length}
-use Rattle.concurrent_queue.specs.ClosableQueue.{new_queue}
-use Rattle.concurrent_queue.specs.Calls.{Call, Push, ForcePush, Pop, Close, Len, IsEmptyCall, IsFullCall, IsClosedCall, Answer, Pushed, ForcePushed, Popped, WasClosed, LenIs, EmptyIs, FullIs, ClosedIs}
+use Rattle.queue_steps.specs.declared.errors.PushError.TheVariants.{Full as FullToPush, Closed as ClosedToPush}
+use Rattle.queue_steps.specs.declared.errors.ForcePushError.TheVariants.{Closed as ClosedToForce}
+use Rattle.queue_steps.specs.declared.errors.PopError.TheVariants.{Empty as EmptyToPop, Closed as ClosedToPop}
+use Rattle.queue_steps.specs.declared.steps.single.Turn.{Turn}
+use Rattle.queue_steps.specs.declared.steps.single.Turn.TheVariants.{Look, Exchange, Unlock, End, Close as CloseTurn}
+use Rattle.queue_steps.specs.declared.steps.Reply.{Reply}
+use Rattle.queue_steps.specs.declared.steps.Reply.TheVariants.{Done, Displaced, Full, Closed, Yes, Length}
+use Rattle.queue_steps.specs.ClosableQueue.{new_queue}
+use Rattle.queue_steps.specs.Calls.{Call, Push, ForcePush, Pop, Close, Len, IsEmptyCall, IsFullCall, IsClosedCall, Answer, Pushed, ForcePushed, Popped, WasClosed, LenIs, EmptyIs, FullIs, ClosedIs}
 use Rattle.queue_laws.specs.Moments.{Moment, Begins, Does, Ends, Scene, Run}
-use Rattle.concurrent_queue.specs.SingleTurns.{push_turn, force_push_turn, pop_turn, close_turn, len_turn, is_empty_turn, is_full_turn, is_closed_turn}
+use Rattle.queue_steps.specs.SingleTurns.{push_turn, force_push_turn, pop_turn, close_turn, len_turn, is_empty_turn, is_full_turn, is_closed_turn}
 
 -- where a party stands: in no call, before its next step on the word, before its step in the slot, or after that with
 -- what it took out, before it unlocks

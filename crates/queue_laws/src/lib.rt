@@ -1,10 +1,10 @@
-//! Laws over lists of steps of any number of parties, on the slot, the ring and the chain of `concurrent_queue`: each
-//! takes its changes from `concurrent_queue::steps`. A crate of its own so that neither waits for the other's checks.
+//! Laws over lists of steps of any number of parties, on the slot, the ring and the chain of `queue_steps`: each
+//! takes its changes from `queue_steps::steps`. A crate of its own so that neither waits for the other's checks.
 #![tactic(auto)]
 
 ghost use Rattle.queue_laws.specs.ChainSteps.{Step, IsClosableQueue};
 ghost use Rattle.queue_laws.specs.LoneCalls.{EndsOnSlot, EndsOnChain, EndsOnRing};
-ghost use Rattle.concurrent_queue.specs.Ring.{IsShape};
+ghost use Rattle.queue_steps.specs.Ring.{IsShape};
 ghost use Rattle.queue_laws.specs.RingSteps.{IsClosableQueue as IsClosableRing};
 ghost use Rattle.queue_laws.specs.SlotSteps.{Step as WordStep, IsClosableQueue as IsClosableSlot};
 ghost use Rattle.std.specs.Prelude.{ℕ, List};

@@ -9,3 +9,4 @@ pub mod Answering
 pub mod Courses
 pub mod Joining
 pub mod Following
+pub mod Parting

@@ -6,3 +6,4 @@ pub mod Course
 pub mod Laws
 pub mod Halves
 pub mod Calls
+pub mod ManyTasks

@@ -6,6 +6,7 @@ ghost use Rattle.task_moves.specs.Halves.{Halves};
 ghost use Rattle.task_moves.specs.Laws.{EveryCourse, EveryPossible, HasOneRunnable, IsCounted, IsSmall};
 ghost use Rattle.task_moves.specs.Laws.{HasWakesOwed, HasPollsAskedFor, IsNeverPolledAfterEnd};
 ghost use Rattle.task_moves.specs.Laws.{GivesOutputOnce};
+ghost use Rattle.task_moves.specs.ManyTasks.{AreAbstractTasks};
 
 /// There is never more than one Runnable, unfinished run or closing call.
 pub fn one_runnable()
@@ -57,4 +58,10 @@ pub fn halves_make_the_whole<F, T, A>()
 /// exactly what the abstract task's schedule function is.
 pub fn local_task_is_the_abstract_task<F, T, A>()
     ensures { IsAbstractTask F T A }
+{}
+
+/// So is each of many tasks for every list of their calls, some of them made inside of others: by a poll,
+/// or by the schedule functions and awaiters that a call leads to, which may wake other tasks or this one.
+pub fn local_tasks_are_abstract_tasks<F, T, A>()
+    ensures { AreAbstractTasks F T A }
 {}

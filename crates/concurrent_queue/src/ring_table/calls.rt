@@ -2,12 +2,13 @@
 ghost use Rattle.std.specs.Prelude.{Some};
 ghost use Rattle.concurrent_queue.specs.SharedQueue.{MayPush, MayForcePush};
 
-use crate::errors::{ForcePushError, PopError, PushError};
 use crate::ring_table::RingTable;
 use crate::seated::ring as seated;
+use queue_steps::{ForcePushError, PopError, PushError};
 use std::sync::Wait;
 
 impl<T> RingTable<T> {
+    #[inline(always)]
     pub fn push<R: Wait>(&self, rt: &R, value: T) -> Result<(), PushError<T>>
         ensures { MayPush (Some self.now.shape.capacity) value result }
     {
@@ -20,6 +21,7 @@ impl<T> RingTable<T> {
         seated::force_push(rt, &self.board.shared, &mut self.pass(), self.shape, value)
     }
 
+    #[inline(always)]
     pub fn pop<R: Wait>(&self, rt: &R) -> Result<T, PopError> {
         seated::pop(rt, &self.board.shared, &mut self.pass(), self.shape)
     }

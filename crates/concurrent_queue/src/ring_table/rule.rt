@@ -3,8 +3,8 @@ ghost use Rattle.concurrent_queue.specs.RingRule.{RingRule as Rule, doing};
 ghost use Rattle.concurrent_queue.specs.declared.ring_table.rule.Stage.TheVariants.{Idle};
 ghost use Rattle.std.specs.Prelude.{[]};
 
-use crate::steps::bounded::Shape;
 use atomic_table::TableRule;
+use queue_steps::steps::bounded::Shape;
 use std::collections::LinkedList;
 
 /// Where a call stands on the ring.

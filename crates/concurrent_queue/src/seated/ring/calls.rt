@@ -2,13 +2,13 @@
 ghost use Rattle.std.specs.Prelude.{◌≡◌};
 ghost use Rattle.concurrent_queue.specs.Answered.{turns, says};
 ghost use Rattle.concurrent_queue.specs.RingSeat.{IsFreeSeatOf, StaysFree};
-ghost use Rattle.concurrent_queue.specs.RingTurns.{close_turn, len_turn, is_empty_turn, is_full_turn, is_closed_turn};
-ghost use Rattle.concurrent_queue.specs.declared.steps.Reply.TheVariants.{Length};
-ghost use Rattle.concurrent_queue.specs.declared.steps.bounded.Turn.TheVariants.{Tail, Head, Close, End};
+ghost use Rattle.queue_steps.specs.RingTurns.{close_turn, len_turn, is_empty_turn, is_full_turn, is_closed_turn};
+ghost use Rattle.queue_steps.specs.declared.steps.Reply.TheVariants.{Length};
+ghost use Rattle.queue_steps.specs.declared.steps.bounded.Turn.TheVariants.{Tail, Head, Close, End};
 
 use crate::ring_table::moves::{self, Board, HEAD, Pass, TAIL};
-use crate::steps::Reply;
-use crate::steps::bounded::{self as steps, Shape, Turn};
+use queue_steps::steps::Reply;
+use queue_steps::steps::bounded::{self as steps, Shape, Turn};
 use std::sync::Wait;
 
 /// Closes the ring, and says whether this call did so.

@@ -1,7 +1,7 @@
 use Rattle.std.proofs.Common.{◌≡◌}
-use Rattle.concurrent_queue.specs.declared.steps.single.Turn.TheVariants.{Look}
+use Rattle.queue_steps.specs.declared.steps.single.Turn.TheVariants.{Look}
 use Rattle.concurrent_queue.specs.Answered.{turns}
-use Rattle.concurrent_queue.specs.SingleTurns.{force_push_turn}
+use Rattle.queue_steps.specs.SingleTurns.{force_push_turn}
 use Rattle.concurrent_queue.specs.SlotSeat.{IsSameSeat, IsForcePushTurn}
 use Rattle.concurrent_queue.proofs.seated.single.force_push.Given as goal
 

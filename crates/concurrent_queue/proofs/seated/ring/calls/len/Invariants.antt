@@ -1,8 +1,8 @@
 use Rattle.std.proofs.Common.{◌≡◌}
 use Rattle.concurrent_queue.specs.Answered.{turns}
 use Rattle.concurrent_queue.specs.RingSeat.{StaysFree, IsLenTurn}
-use Rattle.concurrent_queue.specs.RingTurns.{len_turn}
-use Rattle.concurrent_queue.specs.declared.steps.bounded.Turn.TheVariants.{Tail}
+use Rattle.queue_steps.specs.RingTurns.{len_turn}
+use Rattle.queue_steps.specs.declared.steps.bounded.Turn.TheVariants.{Tail}
 use Rattle.concurrent_queue.proofs.seated.ring.calls.len.Given as goal
 
 abbrev pub invariant-loop : goal.invariant-loop

@@ -1,5 +1,5 @@
 use Rattle.std.proofs.Common.{arith}
-use Rattle.concurrent_queue.proofs.RingWords.{place_fits}
+use Rattle.queue_steps.proofs.RingWords.{place_fits}
 use Rattle.concurrent_queue.proofs.seated.ring.pushing.append.Goals as goal
 
 pub overflow_add-tail : goal.overflow_add-tail

@@ -1,6 +1,6 @@
 use Rattle.std.proofs.Common.{ap, sym, ◌∙◌, ℕ, ◌+◌}
-use Rattle.concurrent_queue.specs.Ring.{is_marked}
-use Rattle.concurrent_queue.specs.declared.steps.bounded.Shape.{Shape}
+use Rattle.queue_steps.specs.Ring.{is_marked}
+use Rattle.queue_steps.specs.declared.steps.bounded.Shape.{Shape}
 use Rattle.concurrent_queue.proofs.RingFaces.{or_open}
 use Rattle.concurrent_queue.proofs.seated.ring.pushing.at_spend.Goals as goal
 

@@ -1,8 +1,8 @@
 use Rattle.std.proofs.Common.{ap, sym, subst, ◌∙◌, ℕ, ◌≡◌, ◌≤◌, ◌+◌, ◌-◌, ◌∷◌, Some, arith}
-use Rattle.concurrent_queue.specs.Ring.{IsPlaceWord, next_at}
-use Rattle.concurrent_queue.specs.declared.steps.bounded.Shape.{Shape}
+use Rattle.queue_steps.specs.Ring.{IsPlaceWord, next_at}
+use Rattle.queue_steps.specs.declared.steps.bounded.Shape.{Shape}
 use Rattle.concurrent_queue.proofs.RingFaces.{place_before, next_above}
-use Rattle.concurrent_queue.proofs.RingWords.{place_fits}
+use Rattle.queue_steps.proofs.RingWords.{place_fits}
 use Rattle.concurrent_queue.proofs.seated.ring.pushing.displace.Goals as goal
 
 pub next-requires : goal.next-requires

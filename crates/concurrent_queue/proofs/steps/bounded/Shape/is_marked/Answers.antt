@@ -1,7 +1,0 @@
-use Rattle.concurrent_queue.proofs.RingMasks.{mark_masks}
-use Rattle.concurrent_queue.proofs.steps.bounded.Shape.is_marked.Goals as goal
-
-pub returns : goal.returns
-returns c =
-    let shape = c.args.self in
-    mark_masks shape.capacity shape.mark c.args.tail shape.bits shape.sound shape.power

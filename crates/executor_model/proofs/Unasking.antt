@@ -1,0 +1,339 @@
+-- Calls that take no memory ask for none.
+use Rattle.std.proofs.Common.{◌≡◌, ℕ, List, [], ◌∷◌, ◌++◌, Bool, true, false, ◌||◌, ◌&&◌, not, refl, ap, ◌∙◌}
+use Rattle.std.proofs.lemmas.List.Folds.{list_any-append}
+use Rattle.std.specs.List.{list_any}
+use Rattle.std.specs.Prelude.{Option, Some, None}
+use Rattle.task_moves.specs.declared.moves.owed.Move.{Move}
+use Rattle.task_moves.specs.declared.moves.owed.Move.TheVariants as move
+use Rattle.task_moves.specs.declared.moves.owed.FutureDebt.{FutureDebt}
+use Rattle.task_moves.specs.declared.moves.owed.FutureDebt.TheVariants.{PollFuture, DropFuture}
+use Rattle.task_moves.specs.declared.moves.owed.AwaiterDebt.{AwaiterDebt}
+use Rattle.task_moves.specs.declared.moves.owed.AwaiterDebt.TheVariants as debt
+use Rattle.task_moves.specs.declared.moves.owed.Moved.{Moved}
+use Rattle.task_moves.specs.declared.moves.owed.Owed.{Owed}
+use Rattle.task_moves.specs.declared.schedule_info.ScheduleInfo.{ScheduleInfo}
+use Rattle.task_moves.specs.Moves as moves
+use Rattle.task_moves.specs.Moves.{is_over}
+use Rattle.executor_model.specs.declared.call.Call.{Call}
+use Rattle.executor_model.specs.declared.call.Call.TheVariants as call
+use Rattle.executor_model.specs.declared.call.Reply.TheVariants as reply
+use Rattle.executor_model.specs.declared.event.Answer.TheVariants as polled
+use Rattle.executor_model.specs.declared.event.Event.TheVariants as event
+use Rattle.executor_model.specs.declared.op.Hold.TheVariants as hold
+use Rattle.executor_model.specs.declared.op.Awaiter.{Awaiter}
+use Rattle.executor_model.specs.declared.op.Waker.{Waker}
+use Rattle.executor_model.specs.declared.op.Waker.TheVariants.{Task, Outside}
+use Rattle.executor_model.specs.declared.op.Op.{Op}
+use Rattle.executor_model.specs.declared.op.Op.TheVariants as op
+use Rattle.executor_model.specs.declared.step.Hint.{Hint}
+use Rattle.executor_model.specs.declared.step.UserEnd.{UserEnd}
+use Rattle.executor_model.specs.declared.step.UserEnd.TheVariants as end
+use Rattle.executor_model.specs.World.{World, Done, task, log, log_if, awaiter_of, among}
+use Rattle.executor_model.specs.Carried.{schedule_ops, future_ops, output_ops, awaiter_ops, next_ops, owed_ops, carried}
+use Rattle.executor_model.specs.Acts.{act}
+use Rattle.executor_model.specs.Acts as acts
+use Rattle.executor_model.specs.Memory.{may_refuse, takes_no_memory, AsksForNone, NeedsNoMemory}
+use Rattle.executor_model.specs.Steps.{begun, react, kept, with_future}
+
+-- two parts that ask for none
+both : (xs ys : List Op) → AsksForNone xs → AsksForNone ys → AsksForNone (xs ++ ys)
+both xs ys a b = list_any-append may_refuse xs ys ∙ (ap (λ (x : Bool). x || list_any may_refuse ys) a ∙ b)
+
+none-scheduled : (f : ℕ) (i : Option ScheduleInfo) → AsksForNone (schedule_ops f i)
+none-scheduled f None = refl
+none-scheduled f (Some i) = refl
+
+none-future : (there : Bool) (f : ℕ) (d : Option FutureDebt) → AsksForNone (future_ops there f d)
+none-future there f None = refl
+none-future there f (Some PollFuture) = refl
+none-future true f (Some DropFuture) = refl
+none-future false f (Some DropFuture) = refl
+
+none-output : (b : Bool) (f : ℕ) → AsksForNone (output_ops b f)
+none-output true f = refl
+none-output false f = refl
+
+none-awaiter : (f : ℕ) (d : Option AwaiterDebt) → AsksForNone (awaiter_ops f d)
+none-awaiter f None = refl
+none-awaiter f (Some debt.NotifyAwaiter) = refl
+none-awaiter f (Some debt.NotifyOther) = refl
+none-awaiter f (Some debt.CallGiven) = refl
+none-awaiter f (Some debt.StoreCopy) = refl
+none-awaiter f (Some debt.CallStored) = refl
+none-awaiter f (Some debt.TakeAwaiter) = refl
+none-awaiter f (Some debt.CallTaken) = refl
+
+none-next : (f : ℕ) (m : Option Move) → AsksForNone (next_ops f m)
+none-next f None = refl
+none-next f (Some move.WakeByReference) = refl
+none-next f (Some move.Wake) = refl
+none-next f (Some move.Copy) = refl
+none-next f (Some move.Release) = refl
+none-next f (Some move.TakeUp) = refl
+none-next f (Some move.SettleClosed) = refl
+none-next f (Some move.GiveUp) = refl
+none-next f (Some move.EndReady) = refl
+none-next f (Some move.EndPending) = refl
+none-next f (Some move.EndClosed) = refl
+none-next f (Some move.DropRunnable) = refl
+none-next f (Some move.Cancel) = refl
+none-next f (Some move.Detach) = refl
+none-next f (Some move.Poll) = refl
+none-next f (Some move.LookAgain) = refl
+none-next f (Some move.Register) = refl
+none-next f (Some move.EndRegister) = refl
+none-next f (Some move.Notify) = refl
+none-next f (Some move.EndNotify) = refl
+
+none-owed : (there : Bool) (f : ℕ) (o : Owed) → AsksForNone (owed_ops there f o)
+none-owed there f o =
+    both (schedule_ops f o.schedule ++ future_ops there f o.future ++ output_ops o.drop_output f ++ awaiter_ops f o.awaiter) (next_ops f o.next)
+    (both (schedule_ops f o.schedule ++ future_ops there f o.future ++ output_ops o.drop_output f) (awaiter_ops f o.awaiter)
+    (both (schedule_ops f o.schedule ++ future_ops there f o.future) (output_ops o.drop_output f)
+    (both (schedule_ops f o.schedule) (future_ops there f o.future) (none-scheduled f o.schedule) (none-future there f o.future))
+    (none-output o.drop_output f)) (none-awaiter f o.awaiter)) (none-next f o.next)
+
+none-carried : (w : World) (f : ℕ) (m : Moved) → AsksForNone (carried w f m).next
+none-carried w f m = none-owed (among f w.table) f m.owed
+
+none-wake : (p : ℕ) (w : World) (f : ℕ) → AsksForNone (acts.wake p w f).next
+none-wake p w f = none-carried (log_if (not (is_over (task w f))) w (event.Woken p f)) f (moves.wake (task w f))
+
+-- queue and table
+
+none-take : (w : World) (items : List ℕ) → AsksForNone (acts.take_by w items).next
+none-take w [] = refl
+none-take w (f ∷ rest) = refl
+
+none-append : (b : Bool) (w : World) (f : ℕ) → AsksForNone (acts.append_by b w f).next
+none-append true w f = refl
+none-append false w f = refl
+
+none-look_at_table : (w : World) (table : List ℕ) → AsksForNone (op.End (acts.emptiness table) hold.Executor ∷ [])
+none-look_at_table w [] = refl
+none-look_at_table w (f ∷ fs) = refl
+
+none-leave : (b : Bool) (w : World) (f : ℕ) → AsksForNone (acts.leave_by b w f).next
+none-leave true w f = refl
+none-leave false w f = refl
+
+-- awaiters
+
+none-register : (b : Bool) (w : World) (f : ℕ) (a : Waker) (k : ℕ) → AsksForNone (acts.register_by b w f a k).next
+none-register true w f a k = refl
+none-register false w f a k = refl
+
+none-waker : (a : Waker) → AsksForNone (acts.waker_goes a)
+none-waker (Task g) = refl
+none-waker (Outside x) = refl
+
+none-let_go : (a : Option Awaiter) → AsksForNone (acts.let_go a)
+none-let_go None = refl
+none-let_go (Some a) = none-waker a.waker
+
+none-end_register : (b : Bool) (w : World) (f : ℕ) (a : Waker) (k : ℕ) → AsksForNone (acts.end_register_by b w f a k).next
+none-end_register true w f a k = both (acts.let_go (awaiter_of w f)) (op.LookAgain f ∷ []) (none-let_go (awaiter_of w f)) refl
+none-end_register false w f a k = both (acts.let_go (awaiter_of w f)) (op.LookAgain f ∷ []) (none-let_go (awaiter_of w f)) refl
+
+none-notify : (b : Bool) (w : World) (f : ℕ) (mine : Bool) → AsksForNone (acts.notify_by b w f mine).next
+none-notify true w f mine = refl
+none-notify false w f mine = refl
+
+none-told : (same : Bool) (f : ℕ) (a : Option Awaiter) → AsksForNone (acts.told same f a)
+none-told true f None = refl
+none-told false f None = refl
+none-told true f (Some a) = none-waker a.waker
+none-told false f (Some a) = refl
+
+none-call : (p : ℕ) (w : World) (f : ℕ) (a : Waker) (k : ℕ) → AsksForNone (acts.call_awaiter p w f a k).next
+none-call p w f (Task g) k = none-wake p (log w (event.WakerCalled p f k (Task g))) g
+none-call p w f (Outside x) k = refl
+
+-- the second look of a poll is never told of a refusal
+none-again : (closed going completed : Bool) (p : ℕ) (w : World) (f : ℕ) → AsksForNone (acts.look_again_by (moves.look_again_by closed going completed (task w f)).owed.answer p w f (moves.look_again_by closed going completed (task w f))).next
+none-again true true completed p w f = refl
+none-again true false completed p w f = refl
+none-again false going false p w f = refl
+none-again false going true p w f = both (awaiter_ops f (moves.notify_other_if (task w f).awaiter)) (op.End reply.Ready (hold.Handle f) ∷ []) (none-awaiter f (moves.notify_other_if (task w f).awaiter)) refl
+
+-- the executor's drop
+
+none-closing : (fs ws : List ℕ) → AsksForNone (acts.closing_ops fs ws)
+none-closing (f ∷ fs) ws = refl
+none-closing [] (f ∷ ws) = refl
+none-closing [] [] = refl
+
+none-drop_next : (p : ℕ) (w : World) (fs : List ℕ) → AsksForNone (acts.drop_next_by p w fs).next
+none-drop_next p w [] = refl
+none-drop_next p w (f ∷ rest) = none-closing rest _
+
+none-wake_next : (p : ℕ) (w : World) (fs : List ℕ) → AsksForNone (acts.wake_next_by p w fs).next
+none-wake_next p w [] = refl
+none-wake_next p w (f ∷ rest) = both (acts.wake p (record w { waking = rest }) f).next (acts.closing_ops [] rest) (none-wake p (record w { waking = rest }) f) (none-closing [] rest)
+
+none-drain : (p : ℕ) (w : World) (fs : List ℕ) → AsksForNone (acts.drain_by p w fs).next
+none-drain p w [] = refl
+none-drain p w (f ∷ rest) = refl
+
+-- one thing done
+
+none-act : (p : ℕ) (w : World) (h : Hint) (o : Op) → may_refuse o ≡ false → AsksForNone (act p h o w).next
+none-act p w h op.Enter e = absurd (cc)
+none-act p w h op.Take e = none-take w w.queue.items
+none-act p w h op.LookAtTable e = none-look_at_table w w.table
+none-act p w h (op.Append f) e = none-append _ w f
+none-act p w h (op.WakeByReference f) e = none-carried (log_if (not (is_over (task w f))) w (event.Woken p f)) f (moves.wake_by_reference (task w f))
+none-act p w h (op.Wake f) e = none-wake p w f
+none-act p w h (op.Release f) e = none-carried w f (moves.release (task w f))
+none-act p w h (op.TakeUp f) e = none-carried (log_if (not (task w f).closed) w (event.PollBegun p f)) f (moves.take_up (task w f))
+none-act p w h (op.SettleClosed f) e = none-carried w f (moves.settle_closed (task w f))
+none-act p w h (op.GiveUp f) e = none-carried w f (moves.give_up (task w f))
+none-act p w h (op.EndReady f) e = none-carried w f (moves.end_ready (task w f))
+none-act p w h (op.EndPending f) e = none-carried w f (moves.end_pending (task w f))
+none-act p w h (op.EndClosed f) e = none-carried w f (moves.end_closed (task w f))
+none-act p w h (op.DropRunnable f) e = none-carried w f (moves.drop_runnable (task w f))
+none-act p w h (op.Cancel f) e = none-carried (log_if (not (is_over (task w f))) w (event.Cancelled p f)) f (moves.cancel (task w f))
+none-act p w h (op.Detach f) e = none-carried (log_if (not ((task w f).completed && not (task w f).closed)) w (event.Detached p f)) f (moves.detach (task w f))
+none-act p w h (op.TakeToPoll f) e = refl
+none-act p w h (op.Poll f) e = refl
+none-act p w h (op.PutBack f) e = refl
+none-act p w h (op.TakeToDrop f) e = refl
+none-act p w h (op.BeginDrop f) e = refl
+none-act p w h (op.Drop f) e = refl
+none-act p w h (op.LeaveTable f) e = none-leave _ w f
+none-act p w h (op.BeginDropOutput f) e = refl
+none-act p w h (op.DropOutput f) e = refl
+none-act p w h (op.CopyWaker f held) e = absurd (cc)
+none-act p w h (op.Look f a) e = absurd (cc)
+none-act p w h (op.CopyAwaiter f a) e = absurd (cc)
+none-act p w h (op.Register f a k) e = none-register _ w f a k
+none-act p w h (op.EndRegister f a k) e = none-end_register _ w f a k
+none-act p w h (op.LookAgain f) e = none-again (task w f).closed _ (task w f).completed p w f
+none-act p w h (op.Notify f mine) e = none-notify _ w f mine
+none-act p w h (op.EndNotify f mine) e = none-told (mine && h.same) f (awaiter_of w f)
+none-act p w h (op.CallAwaiter f a k) e = none-call p w f a k
+none-act p w h (op.CallOutside x) e = refl
+none-act p w h op.TakeOut e = none-closing w.table w.waking
+none-act p w h op.DropNext e = none-drop_next p w w.leaving
+none-act p w h op.WakeNext e = none-wake_next p w w.waking
+none-act p w h op.Close e = refl
+none-act p w h op.Drain e = none-drain p w w.queue.items
+none-act p w h (op.End r held) e = refl
+
+same-act : (p : ℕ) (w : World) (h : Hint) (refused : Bool) (o : Op) → may_refuse o ≡ false → act p (record h { refused = refused }) o w ≡ act p h o w
+same-act p w h refused op.Enter e = absurd (cc)
+same-act p w h refused op.Take e = refl
+same-act p w h refused op.LookAtTable e = refl
+same-act p w h refused (op.Append f) e = refl
+same-act p w h refused (op.WakeByReference f) e = refl
+same-act p w h refused (op.Wake f) e = refl
+same-act p w h refused (op.Release f) e = refl
+same-act p w h refused (op.TakeUp f) e = refl
+same-act p w h refused (op.SettleClosed f) e = refl
+same-act p w h refused (op.GiveUp f) e = refl
+same-act p w h refused (op.EndReady f) e = refl
+same-act p w h refused (op.EndPending f) e = refl
+same-act p w h refused (op.EndClosed f) e = refl
+same-act p w h refused (op.DropRunnable f) e = refl
+same-act p w h refused (op.Cancel f) e = refl
+same-act p w h refused (op.Detach f) e = refl
+same-act p w h refused (op.TakeToPoll f) e = refl
+same-act p w h refused (op.Poll f) e = refl
+same-act p w h refused (op.PutBack f) e = refl
+same-act p w h refused (op.TakeToDrop f) e = refl
+same-act p w h refused (op.BeginDrop f) e = refl
+same-act p w h refused (op.Drop f) e = refl
+same-act p w h refused (op.LeaveTable f) e = refl
+same-act p w h refused (op.BeginDropOutput f) e = refl
+same-act p w h refused (op.DropOutput f) e = refl
+same-act p w h refused (op.CopyWaker f held) e = absurd (cc)
+same-act p w h refused (op.Look f a) e = absurd (cc)
+same-act p w h refused (op.CopyAwaiter f a) e = absurd (cc)
+same-act p w h refused (op.Register f a k) e = refl
+same-act p w h refused (op.EndRegister f a k) e = refl
+same-act p w h refused (op.LookAgain f) e = refl
+same-act p w h refused (op.Notify f mine) e = refl
+same-act p w h refused (op.EndNotify f mine) e = refl
+same-act p w h refused (op.CallAwaiter f a k) e = refl
+same-act p w h refused (op.CallOutside x) e = refl
+same-act p w h refused op.TakeOut e = refl
+same-act p w h refused op.DropNext e = refl
+same-act p w h refused op.WakeNext e = refl
+same-act p w h refused op.Close e = refl
+same-act p w h refused op.Drain e = refl
+same-act p w h refused (op.End r held) e = refl
+
+-- the beginning of a call, and what follows user code
+
+none-with : (w : World) (f : Option ℕ) (d : ℕ → Done) → ((g : ℕ) → AsksForNone (d g).next) → AsksForNone (with_future w f d).next
+none-with w None d n = refl
+none-with w (Some f) d n = n f
+
+none-begun : (p : ℕ) (w : World) (here : Option ℕ) (c : Call) → takes_no_memory c ≡ true → AsksForNone (begun p w here c).next
+none-begun p w here call.Spawn e = absurd (cc)
+none-begun p w here call.TryTick e = refl
+none-begun p w here call.IsEmpty e = refl
+none-begun p w here (call.Wake k) e = none-with w (kept w k) _ (λ f. refl)
+none-begun p w here (call.WakeByRef k) e = none-with w (kept w k) _ (λ f. refl)
+none-begun p w here (call.Copy k) e = absurd (cc)
+none-begun p w here (call.DropWaker k) e = none-with w (kept w k) _ (λ f. refl)
+none-begun p w here call.Keep e = absurd (cc)
+none-begun p w here call.WakeSelf e = none-with w here _ (λ f. refl)
+none-begun p w here (call.PollHandle f b) e = absurd (cc)
+none-begun p w here (call.Cancel f) e = refl
+none-begun p w here (call.Detach f) e = refl
+none-begun p w here (call.DropHandle f) e = refl
+none-begun p w here call.DropExecutor e = refl
+
+none-react : (p : ℕ) (w : World) (o : Op) (e : UserEnd) → AsksForNone (react p o e w).next
+none-react p w op.Enter e = refl
+none-react p w op.Take e = refl
+none-react p w op.LookAtTable e = refl
+none-react p w (op.Append f) e = refl
+none-react p w (op.WakeByReference f) e = refl
+none-react p w (op.Wake f) e = refl
+none-react p w (op.Release f) e = refl
+none-react p w (op.TakeUp f) e = refl
+none-react p w (op.SettleClosed f) e = refl
+none-react p w (op.GiveUp f) e = refl
+none-react p w (op.EndReady f) e = refl
+none-react p w (op.EndPending f) e = refl
+none-react p w (op.EndClosed f) e = refl
+none-react p w (op.DropRunnable f) e = refl
+none-react p w (op.Cancel f) e = refl
+none-react p w (op.Detach f) e = refl
+none-react p w (op.TakeToPoll f) e = refl
+none-react p w (op.Poll f) (end.Polled polled.Pending) = refl
+none-react p w (op.Poll f) (end.Polled polled.Ready) = refl
+none-react p w (op.Poll f) end.Done = refl
+none-react p w (op.PutBack f) e = refl
+none-react p w (op.TakeToDrop f) e = refl
+none-react p w (op.BeginDrop f) e = refl
+none-react p w (op.Drop f) e = refl
+none-react p w (op.LeaveTable f) e = refl
+none-react p w (op.BeginDropOutput f) e = refl
+none-react p w (op.DropOutput f) e = refl
+none-react p w (op.CopyWaker f held) e = refl
+none-react p w (op.Look f a) e = refl
+none-react p w (op.CopyAwaiter f a) e = refl
+none-react p w (op.Register f a k) e = refl
+none-react p w (op.EndRegister f a k) e = refl
+none-react p w (op.LookAgain f) e = refl
+none-react p w (op.Notify f mine) e = refl
+none-react p w (op.EndNotify f mine) e = refl
+none-react p w (op.CallAwaiter f a k) e = refl
+none-react p w (op.CallOutside x) e = refl
+none-react p w op.TakeOut e = refl
+none-react p w op.DropNext e = refl
+none-react p w op.WakeNext e = refl
+none-react p w op.Close e = refl
+none-react p w op.Drain e = refl
+none-react p w (op.End r held) e = refl
+
+pub needs-no-memory : (w : World) (p : ℕ) → NeedsNoMemory w p
+needs-no-memory w p = record {
+  begins = none-begun p w;
+  goes_on = none-act p w;
+  follows = none-react p w;
+  same = same-act p w;
+}

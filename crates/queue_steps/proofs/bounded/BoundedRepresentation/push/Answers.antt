@@ -1,0 +1,48 @@
+use Rattle.std.proofs.Common.{refl, inr, arith}
+use Rattle.queue_steps.proofs.RingWords.{word_fits}
+use Rattle.queue_steps.proofs.RingRests.{tail_place, appends, queue_appends, accepts, full, roomy, shuts, queue_shuts}
+use Rattle.queue_steps.proofs.bounded.BoundedRepresentation.push.Goals as goal
+
+pub append-empty-requires-clause-place : goal.append-empty-requires-clause-place
+append-empty-requires-clause-place g c =
+    let a = c.self.inside in let e = c.in-Append.ensures in
+    tail_place a.shape.capacity a.shape.mark a.tail a.head a.slots.items a.shape.sound c.self.invariant e.3
+
+pub invariant_of-self : goal.invariant_of-self
+invariant_of-self g c =
+    let a = c.self.inside in let e = c.in-Append.ensures in
+    rw (c.append-empty.ensures.tail, c.append-empty.ensures.slots)
+    (appends a.shape.capacity a.shape.mark a.tail a.head a.slots.items a.shape.sound c.self.invariant c.args.value e.1 e.2 e.3)
+
+pub returns-in-Append : goal.returns-in-Append
+returns-in-Append g c =
+    let a = c.self.inside in let e = c.in-Append.ensures in
+    rw (← c.self.view_is, c.append-empty.ensures.tail, c.append-empty.ensures.slots) (
+      accepts a.shape.capacity a.shape.mark a.tail a.head a.slots.items a.shape.sound c.self.invariant e.1 e.2 e.3,
+      queue_appends a.shape.capacity a.shape.mark a.tail a.head a.slots.items a.shape.sound c.self.invariant c.args.value e.1 e.2,
+    )
+
+pub overflow_add-self : goal.overflow_add-self
+overflow_add-self g c =
+    let a = c.self.inside in let e = c.in-Spend.ensures in
+    let fits = word_fits a.shape.capacity a.shape.mark a.tail a.shape.sound (let k = e.3 in omega arith) in omega arith
+
+pub invariant_of-self-in-Spend-1 : goal.invariant_of-self-in-Spend-1
+invariant_of-self-in-Spend-1 g c =
+    let a = c.self.inside in let e = c.in-Spend.ensures in
+    shuts a.shape.capacity a.shape.mark a.tail a.head a.slots.items a.shape.sound c.self.invariant e.1
+
+pub returns-in-Spend : goal.returns-in-Spend
+returns-in-Spend g c =
+    let a = c.self.inside in let e = c.in-Spend.ensures in
+    rw (← c.self.view_is) (
+      inr (e.1, e.3, queue_shuts a.shape.capacity a.shape.mark a.tail a.head a.slots.items a.shape.sound c.self.invariant e.1),
+      (λ _. roomy a.shape.capacity a.shape.mark a.tail a.head a.slots.items a.shape.sound c.self.invariant e.2),
+      refl,
+    )
+
+pub returns-in-End-Full : goal.returns-in-End-Full
+returns-in-End-Full g c =
+    let a = c.self.inside in let e = rw c.in-End-Full.field-0-is at c.in-End-Full.ensures in
+    rw (← c.self.view_is)
+    (e.0, full a.shape.capacity a.shape.mark a.tail a.head a.slots.items a.shape.sound c.self.invariant e.1, refl, refl)

@@ -1,0 +1,14 @@
+pub mod Calls
+pub mod Chain
+pub mod ChainTurns
+pub mod ClosableQueue
+pub mod Errors
+pub mod ExclusiveIter
+pub mod Kept
+pub mod Replies
+pub mod Ring
+pub mod RingAtRest
+pub mod RingEnds
+pub mod RingTurns
+pub mod Single
+pub mod SingleTurns

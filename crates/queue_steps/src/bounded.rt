@@ -1,0 +1,246 @@
+//! A ring of places.
+ghost use Rattle.std.specs.Prelude.{◌≡◌, ℕ, Bool, ◌<◌, ◌+◌, ◌*◌, ◌%◌, ◌^◌, Some, IsSome, OnOk, IfOk, vec_len};
+ghost use Rattle.queue_steps.specs.ClosableQueue.{new_queue};
+ghost use Rattle.queue_steps.specs.Ring.{IsPlaceWord, next_at};
+ghost use Rattle.queue_steps.specs.RingAtRest.{RingAtRest, AreFresh, slot_at, filled_at, emptied_at};
+ghost use Rattle.queue_steps.specs.RingTurns.{answered};
+ghost use Rattle.queue_steps.specs.RingEnds.{PushEnds, ForcePushEnds, PopEnds};
+
+use crate::errors::{ForcePushError, NoMemory, PopError, PushError};
+use crate::representation::Representation;
+use crate::steps::Reply;
+use crate::steps::bounded::{self as steps, Shape, Turn};
+use std::alloc::Global;
+use std::marker::Model;
+
+/// A place of a ring.
+#[derive(Drop)]
+pub struct Slot<T> {
+    stamp: u64,
+    value: Option<T>,
+}
+
+/// The words of a ring, and its places.
+#[derive(Drop)]
+pub struct Bounded<T> {
+    shape: Shape,
+    tail: u64,
+    head: u64,
+    slots: Vec<Slot<T>>,
+}
+
+impl<T> Model for Bounded<T> {
+    ghost use Rattle.queue_steps.specs.ClosableQueue.{ClosableQueue};
+
+    ghost Value = { ClosableQueue T };
+
+    ghost use Rattle.queue_steps.specs.RingAtRest.{ring_queue, RingAtRest};
+
+    ghost view = { λ r. ring_queue r.shape.capacity r.shape.mark r.tail r.head r.slots.items };
+
+    ghost invariant = { λ r. RingAtRest r.shape.capacity r.shape.mark r.tail r.head r.slots.items };
+}
+
+// What a push does once it has looked at the words of a ring.
+fn find_push<T>(shape: Shape, tail: u64, head: u64, slots: &[Slot<T>]) -> Turn
+    requires { RingAtRest shape.capacity shape.mark tail head slots.now }
+    ensures { PushEnds shape.capacity shape.mark tail head result }
+{
+    let turn = steps::push(shape, Turn::Tail, tail);
+    let Turn::Stamp(_) = turn else {
+        return turn;
+    };
+    let turn = steps::push(shape, turn, slots[shape.index(tail) as usize].stamp);
+    let Turn::HeadFor(_) = turn else {
+        return turn;
+    };
+    steps::push(shape, turn, head)
+}
+
+// What a forced push does once it has looked at the words of a ring.
+fn find_force_push<T>(shape: Shape, tail: u64, head: u64, slots: &[Slot<T>]) -> Turn
+    requires { RingAtRest shape.capacity shape.mark tail head slots.now }
+    ensures { ForcePushEnds shape.capacity shape.mark tail head result }
+{
+    let turn = steps::force_push(shape, Turn::Tail, tail);
+    let Turn::Stamp(_) = turn else {
+        return turn;
+    };
+    let turn = steps::force_push(shape, turn, slots[shape.index(tail) as usize].stamp);
+    let Turn::HeadFor(_) = turn else {
+        return turn;
+    };
+    steps::force_push(shape, turn, head)
+}
+
+// What a pop does once it has looked at the words of a ring.
+fn find_pop<T>(shape: Shape, tail: u64, head: u64, slots: &[Slot<T>]) -> Turn
+    requires { RingAtRest shape.capacity shape.mark tail head slots.now }
+    ensures { PopEnds shape.capacity shape.mark tail head result }
+{
+    let turn = steps::pop(shape, Turn::Head, head);
+    let turn = steps::pop(shape, turn, slots[shape.index(head) as usize].stamp);
+    let Turn::TailFor(_) = turn else {
+        return turn;
+    };
+    steps::pop(shape, turn, tail)
+}
+
+fn is_yes(turn: Turn) -> bool
+    ensures { (told : Bool) → turn ≡ answered told → result ≡ told }
+{
+    matches!(turn, Turn::End(Reply::Yes))
+}
+
+fn length_in(turn: Turn) -> u64
+    ensures { (len : ℕ) → turn ≡ Turn.End (Reply.Length len) → result ≡ len }
+{
+    match turn {
+        Turn::End(Reply::Length(len)) => len,
+        _ => 0,
+    }
+}
+
+// Moves the tail on, and fills the place that it named. What was in that place comes back.
+#[tactic(auto, using(crate::proofs::RingWords::place_fits))]
+fn append<T>(shape: Shape, tail: &mut u64, slots: &mut Vec<Slot<T>>, value: T) -> Option<T>
+    requires place { IsPlaceWord shape.capacity shape.mark tail.old }
+    requires slots { vec_len slots.old ≡ shape.capacity }
+    ensures tail { tail.new ≡ next_at shape.capacity shape.mark tail.old }
+    ensures slots { slots.new.items ≡ filled_at slots.old.items (tail.old % shape.mark) (tail.old + 1) value }
+    ensures old { result ≡ (slot_at slots.old.items (tail.old % shape.mark)).value }
+{
+    let word = *tail;
+    *tail = shape.next(word);
+    let slot = &mut slots[shape.index(word) as usize];
+    slot.stamp = word + 1;
+    slot.value.replace(value)
+}
+
+// Moves the head on, and empties the place that it named.
+#[tactic(auto, using(crate::proofs::RingWords::place_fits))]
+fn take<T>(shape: Shape, head: &mut u64, slots: &mut Vec<Slot<T>>) -> Option<T>
+    requires place { IsPlaceWord shape.capacity shape.mark head.old }
+    requires slots { vec_len slots.old ≡ shape.capacity }
+    ensures head { head.new ≡ next_at shape.capacity shape.mark head.old }
+    ensures slots { slots.new.items ≡ emptied_at slots.old.items (head.old % shape.mark) (head.old + 2 * shape.mark) }
+    ensures item { result ≡ (slot_at slots.old.items (head.old % shape.mark)).value }
+{
+    let word = *head;
+    *head = shape.next(word);
+    let slot = &mut slots[shape.index(word) as usize];
+    slot.stamp = word + shape.lap();
+    slot.value.take()
+}
+
+// The places of a new ring, of which none has an item. A ring of 2^60 places is larger than any memory.
+fn free_slots<T: Drop>(alloc: Global, capacity: usize) -> Result<Vec<Slot<T>>, NoMemory>
+    ensures few { OnOk result (capacity < 2 ^ 60) }
+    ensures slots { IfOk result (λ slots. AreFresh capacity slots.items) }
+{
+    if capacity >= 1 << 60 {
+        return Err(NoMemory);
+    }
+    let Ok(mut slots) = Vec::with_capacity(alloc, capacity) else {
+        return Err(NoMemory);
+    };
+    for stamp in 0..capacity as u64 {
+        slots.push_reserved(Slot { stamp, value: None });
+    }
+    Ok(slots)
+}
+
+impl<T: Drop> Bounded<T> {
+    /// An empty ring, with the memory of all its places.
+    pub fn new(alloc: Global, capacity: usize) -> Result<Bounded<T>, NoMemory>
+        requires { 0 < capacity }
+        ensures { IfOk result (λ q. q ≡ new_queue (Some capacity) (Some 0)) }
+    {
+        let slots = free_slots(alloc, capacity)?;
+        Ok(Bounded {
+            shape: Shape::new(capacity as u64),
+            tail: 0,
+            head: 0,
+            slots,
+        })
+    }
+}
+
+impl<T: Drop> Representation<T> for Bounded<T> {
+    ghost queue = { λ q. q };
+
+    fn push(&mut self, value: T) -> Result<(), PushError<T>> {
+        match find_push(self.shape, self.tail, self.head, &self.slots) {
+            Turn::Append(_) => {
+                let _empty = append(self.shape, &mut self.tail, &mut self.slots, value);
+                Ok(())
+            }
+            Turn::Spend(_) => {
+                self.tail += self.shape.mark;
+                Err(PushError::Closed(value))
+            }
+            Turn::End(Reply::Full) => Err(PushError::Full(value)),
+            _ => Err(PushError::Closed(value)),
+        }
+    }
+
+    fn force_push(&mut self, value: T) -> Result<Option<T>, ForcePushError<T>> {
+        match find_force_push(self.shape, self.tail, self.head, &self.slots) {
+            Turn::Append(_) => Ok(append(self.shape, &mut self.tail, &mut self.slots, value)),
+            Turn::Displace(_) => {
+                self.head = self.shape.next(self.head);
+                Ok(append(self.shape, &mut self.tail, &mut self.slots, value))
+            }
+            Turn::Spend(_) => {
+                self.tail += self.shape.mark;
+                Err(ForcePushError::Closed(value))
+            }
+            _ => Err(ForcePushError::Closed(value)),
+        }
+    }
+
+    fn pop(&mut self) -> Result<T, PopError> {
+        match find_pop(self.shape, self.tail, self.head, &self.slots) {
+            Turn::Take(_) => Ok(take(self.shape, &mut self.head, &mut self.slots).unwrap()),
+            Turn::End(Reply::Closed) => Err(PopError::Closed),
+            _ => Err(PopError::Empty),
+        }
+    }
+
+    fn close(&mut self) -> bool {
+        match steps::close(self.shape, Turn::Close, self.tail) {
+            Turn::End(Reply::Yes) => {
+                self.tail += self.shape.mark;
+                true
+            }
+            _ => false,
+        }
+    }
+
+    fn len(&self) -> usize {
+        let turn = steps::len(self.shape, Turn::Tail, self.tail);
+        let turn = steps::len(self.shape, turn, self.head);
+        length_in(steps::len(self.shape, turn, self.tail)) as usize
+    }
+
+    fn is_empty(&self) -> bool {
+        let turn = steps::is_empty(self.shape, Turn::Head, self.head);
+        is_yes(steps::is_empty(self.shape, turn, self.tail))
+    }
+
+    fn is_full(&self) -> bool {
+        let turn = steps::is_full(self.shape, Turn::Tail, self.tail);
+        is_yes(steps::is_full(self.shape, turn, self.head))
+    }
+
+    fn is_closed(&self) -> bool {
+        is_yes(steps::is_closed(self.shape, Turn::Tail, self.tail))
+    }
+
+    fn capacity(&self) -> Option<usize>
+        ensures capacity { result ≡ self.now.capacity }
+        ensures bounded { IsSome result }
+    {
+        Some(self.shape.capacity as usize)
+    }
+}

@@ -1,0 +1,12 @@
+//! Tests of the queues, against what `concurrent_queue` gives its users. A crate of its own so that they are proved
+//! beside it, and it only once.
+#![tactic(auto)]
+
+#[cfg(test)]
+mod exclusive;
+#[cfg(test)]
+mod forced;
+#[cfg(test)]
+mod shared;
+#[cfg(test)]
+mod threads;

@@ -1,0 +1,276 @@
+//! `ConcurrentQueue` called by one thread.
+ghost use Rattle.std.specs.Prelude.{◌≡◌, ◌%◌, ◌<◌};
+
+use concurrent_queue::glimpse::{Glimpse, Locked};
+use concurrent_queue::{ConcurrentQueue, ForcePushError, NoMemory, PopError, PushError};
+use queue_steps::Unbounded;
+use std::alloc::AllocGlobal;
+use std::process::Abort;
+use std::sync::atomic::{AtomicU64, Ordering};
+use std::sync::{Mutex, Wait};
+use std::test::Fail;
+
+// A queue of this capacity, of a run in which no memory is refused.
+fn bounded<R: Abort + AllocGlobal, T: Drop>(rt: &R, cap: usize) -> ConcurrentQueue<T>
+    requires { 0 < cap }
+{
+    ConcurrentQueue::bounded(rt.alloc(), cap).expect(rt, "memory")
+}
+
+#[test]
+fn a_full_shared_ring_refuses_and_gives_in_order(rt: HostRuntime) {
+    let queue = bounded(&rt, 2);
+    assert_eq!(rt; queue.push(&rt, 'a'), Ok(()));
+    assert_eq!(rt; queue.push(&rt, 'b'), Ok(()));
+    assert_eq!(rt; queue.push(&rt, 'c'), Err(PushError::Full('c')));
+    assert_eq!(rt; queue.pop(&rt), Ok('a'));
+    assert_eq!(rt; queue.pop(&rt), Ok('b'));
+    assert_eq!(rt; queue.pop(&rt), Err(PopError::Empty));
+}
+
+#[test]
+fn a_closed_shared_chain_refuses_and_drains(rt: HostRuntime) {
+    let queue = ConcurrentQueue::<u64>::unbounded(rt.alloc());
+    assert_eq!(rt; queue.push(&rt, 10), Ok(()));
+    assert!(rt; queue.close(&rt));
+    assert!(rt; !queue.close(&rt));
+    assert_eq!(rt; queue.push(&rt, 20), Err(PushError::Closed(20)));
+    assert_eq!(rt; queue.force_push(&rt, 30), Err(ForcePushError::Closed(30)));
+    assert_eq!(rt; queue.pop(&rt), Ok(10));
+    assert_eq!(rt; queue.pop(&rt), Err(PopError::Closed));
+}
+
+#[test]
+fn a_forced_push_displaces_until_the_queue_is_closed(rt: HostRuntime) {
+    let queue = bounded(&rt, 2);
+    assert_eq!(rt; queue.push(&rt, 'a'), Ok(()));
+    assert_eq!(rt; queue.push(&rt, 'b'), Ok(()));
+    assert_eq!(rt; queue.force_push(&rt, 'c'), Ok(Some('a')));
+    assert_eq!(rt; queue.len(&rt), 2);
+    assert!(rt; queue.close(&rt));
+    assert_eq!(rt;
+        queue.force_push(&rt, 'd'),
+        Err(ForcePushError::Closed('d'))
+    );
+    assert_eq!(rt; queue.push(&rt, 'e'), Err(PushError::Closed('e')));
+    assert_eq!(rt; queue.pop(&rt), Ok('b'));
+    assert_eq!(rt; queue.pop(&rt), Ok('c'));
+    assert_eq!(rt; queue.pop(&rt), Err(PopError::Closed));
+}
+
+#[test]
+fn a_shared_walk_gives_the_items_in_order(rt: HostRuntime) -> Result<(), Fail> {
+    let queue = ConcurrentQueue::<u64>::unbounded(rt.alloc());
+    assert_eq!(rt; queue.force_push(&rt, 1), Ok(None));
+    assert_eq!(rt; queue.push(&rt, 2), Ok(()));
+    let mut walk = queue.try_iter(&rt);
+    let mut copy = walk.clone()?;
+    assert_eq!(rt; walk.next(), Some(1));
+    assert_eq!(rt; copy.next(), Some(2));
+    assert_eq!(rt; (walk.next(), copy.next()), (None, None));
+    assert_eq!(rt; queue.push(&rt, 3), Ok(()));
+    assert_eq!(rt; walk.next(), Some(3));
+    for item in 4..10u64 {
+        assert_eq!(rt; queue.push(&rt, item), Ok(()));
+    }
+    let mut want = 4;
+    for item in queue.try_iter(&rt) {
+        assert_eq!(rt; item, want);
+        want = item.wrapping_add(1);
+    }
+    assert_eq!(rt; want, 10);
+    Ok(())
+}
+
+#[test]
+fn a_shared_slot_holds_one_item(rt: HostRuntime) {
+    let queue = bounded(&rt, 1);
+    assert_eq!(rt; queue.capacity(), Some(1));
+    assert!(rt; queue.is_empty(&rt) && !queue.is_full(&rt));
+    assert_eq!(rt; queue.push(&rt, 5), Ok(()));
+    assert!(rt; queue.is_full(&rt) && !queue.is_empty(&rt));
+    assert_eq!(rt; queue.push(&rt, 6), Err(PushError::Full(6)));
+    assert_eq!(rt; queue.force_push(&rt, 7), Ok(Some(5)));
+    assert_eq!(rt; (queue.len(&rt), queue.pop(&rt)), (1, Ok(7)));
+    assert_eq!(rt; (queue.len(&rt), queue.pop(&rt)), (0, Err(PopError::Empty)));
+    assert!(rt; !queue.is_closed(&rt) && queue.close(&rt));
+    assert!(rt; queue.is_closed(&rt) && !queue.close(&rt));
+    assert_eq!(rt; queue.pop(&rt), Err(PopError::Closed));
+}
+
+#[test]
+fn a_shared_ring_and_chain_count_and_keep_order_past_a_hundred_items(rt: HostRuntime) {
+    let (ring, chain) = (bounded(&rt, 5), ConcurrentQueue::unbounded(rt.alloc()));
+    assert_eq!(rt; (ring.capacity(), chain.capacity()), (Some(5), None));
+    for round in 0..25u64 {
+        for item in 0..5u64 {
+            assert_eq!(rt; ring.push(&rt, 5 * round + item), Ok(()));
+            assert_eq!(rt; chain.push(&rt, 5 * round + item), Ok(()));
+        }
+        assert!(rt; ring.is_full(&rt) && !chain.is_full(&rt));
+        assert_eq!(rt; (ring.len(&rt), chain.len(&rt)), (5, 5));
+        assert_eq!(rt; ring.push(&rt, 1000), Err(PushError::Full(1000)));
+        for item in 0..5u64 {
+            assert_eq!(rt; ring.pop(&rt), Ok(5 * round + item));
+            assert_eq!(rt; chain.pop(&rt), Ok(5 * round + item));
+        }
+        assert!(rt; ring.is_empty(&rt) && chain.is_empty(&rt));
+        assert_eq!(rt; chain.pop(&rt), Err(PopError::Empty));
+    }
+    assert!(rt; ring.close(&rt) && ring.is_closed(&rt) && !chain.is_closed(&rt));
+}
+
+// The next two also pass where any one allocation is refused: `rt try --test --fail-alloc N`.
+#[test]
+fn a_refused_shared_push_hands_back_the_value_and_changes_nothing(rt: HostRuntime) {
+    let queue = ConcurrentQueue::<u64>::unbounded(rt.alloc());
+    for item in 0..100u64 {
+        let before = queue.len(&rt);
+        if let Err(refused) = queue.push(&rt, item) {
+            assert_eq!(rt; refused, PushError::NoMemory(item));
+            assert_eq!(rt; (queue.len(&rt), queue.is_closed(&rt)), (before, false));
+            assert_eq!(rt; queue.force_push(&rt, item), Ok(None));
+        }
+    }
+    for item in 0..100u64 {
+        assert_eq!(rt; queue.pop(&rt), Ok(item));
+    }
+}
+
+#[test]
+fn a_shared_ring_is_refused_whole_or_takes_no_more_memory(rt: HostRuntime) {
+    match ConcurrentQueue::<u64>::bounded(rt.alloc(), 4) {
+        Err(refused) => assert_eq!(rt; refused, NoMemory),
+        Ok(queue) => {
+            for item in 0..10u64 {
+                assert!(rt; queue.force_push(&rt, item).is_ok());
+            }
+            assert_eq!(rt; queue.pop(&rt), Ok(6));
+            assert_eq!(rt; queue.push(&rt, 10), Ok(()));
+        }
+    }
+}
+
+#[test]
+fn no_shared_ring_has_two_to_the_sixty_places(rt: HostRuntime) {
+    assert!(rt;
+        matches!(
+            ConcurrentQueue::<()>::bounded(rt.alloc(), 1 << 60),
+            Err(NoMemory)
+        )
+    );
+}
+
+// Adds one to a count when it is dropped.
+struct Counted<'a>(&'a AtomicU64);
+
+impl<'a> Drop for Counted<'a> {
+    fn drop(self) {
+        let Self(drops) = self;
+        drops.fetch_add(1, Ordering::SeqCst);
+    }
+}
+
+#[test]
+fn each_item_left_is_dropped_once(rt: HostRuntime) {
+    let drops = AtomicU64::new(0);
+    for cap in [1, 2, 7] {
+        let queue = bounded(&rt, cap);
+        for _ in 0..8 {
+            drop(queue.force_push(&rt, Counted(&drops)));
+        }
+        assert_eq!(rt;
+            drops.swap(0, Ordering::SeqCst),
+            8u64.saturating_sub(cap as u64)
+        );
+        drop(queue);
+        assert_eq!(rt; drops.swap(0, Ordering::SeqCst), cap as u64);
+    }
+    let chain = ConcurrentQueue::unbounded(rt.alloc());
+    for _ in 0..100u64 {
+        drop(chain.push(&rt, Counted(&drops)));
+    }
+    for _ in 0..40u64 {
+        drop(chain.pop(&rt));
+    }
+    assert!(rt; chain.close(&rt));
+    drop(chain.push(&rt, Counted(&drops)));
+    assert_eq!(rt; drops.load(Ordering::SeqCst), 41);
+    drop(chain);
+    assert_eq!(rt; drops.load(Ordering::SeqCst), 101);
+}
+
+// A number of which a proof knows that it is even.
+#[derive(Drop)]
+struct Even {
+    value: u64,
+    ghost even: { value % 2 ≡ 0 },
+}
+
+fn twice(half: u32) -> Even {
+    Even {
+        value: 2 * u64::from(half),
+    }
+}
+
+// What its type says of an item is known of each that is popped or walked to.
+fn pop_even<R: Wait>(rt: &R, queue: &ConcurrentQueue<Even>) -> u64
+    ensures { result % 2 ≡ 0 }
+{
+    match queue.pop(rt) {
+        Ok(even) => even.value,
+        Err(_) => 0,
+    }
+}
+
+fn walk_to_even<R: Wait>(rt: &R, queue: &ConcurrentQueue<Even>) -> u64
+    ensures { result % 2 ≡ 0 }
+{
+    match queue.try_iter(rt).next() {
+        Some(even) => even.value,
+        None => 0,
+    }
+}
+
+#[test]
+fn items_keep_what_their_type_promises(rt: HostRuntime) {
+    let queue = bounded(&rt, 3);
+    for half in [21, 4] {
+        assert!(rt; queue.push(&rt, twice(half)).is_ok());
+    }
+    assert_eq!(rt; pop_even(&rt, &queue), 42);
+    assert_eq!(rt; walk_to_even(&rt, &queue), 8);
+    assert_eq!(rt; pop_even(&rt, &queue), 0);
+}
+
+#[test]
+fn a_shared_queue_and_its_walk_print_what_they_are(rt: HostRuntime) -> Result<(), Fail> {
+    let (ring, chain) = (
+        bounded(&rt, 4),
+        ConcurrentQueue::<u64>::unbounded(rt.alloc()),
+    );
+    assert_eq!(rt; ring.push(&rt, 'x'), Ok(()));
+    assert!(rt; chain.close(&rt));
+    let texts = format!(in rt.alloc(); "{ring:?} {:?}", chain.try_iter(&rt))?;
+    assert_eq!(rt;
+        texts.as_str(),
+        "ConcurrentQueue { len: 1, capacity: Some(4), is_closed: false } \
+         TryIter(ConcurrentQueue { len: 0, capacity: None, is_closed: true })"
+    );
+    Ok(())
+}
+
+#[test]
+fn a_text_waits_for_no_lock(rt: HostRuntime) -> Result<(), Fail> {
+    let lock = Mutex::new(Unbounded::<u64>::new(rt.alloc()));
+    let held = lock.lock(&rt);
+    assert!(rt; Glimpse::of(&lock).is_none());
+    drop(held);
+    match Glimpse::of(&lock) {
+        Some(Glimpse { len, is_closed }) => assert_eq!(rt; (len, is_closed), (0, false)),
+        None => panic!(rt; "the lock was free"),
+    }
+    let text = format!(in rt.alloc(); "{:?}", Locked)?;
+    assert_eq!(rt; text.as_str(), "<locked>");
+    Ok(())
+}

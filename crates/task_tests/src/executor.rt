@@ -1,0 +1,41 @@
+//! An executor of one future, as a user of this crate writes it: the README shows what stands here.
+//! It runs the future as long as that wakes itself, and polls its handle then.
+use crate::parts::Sum;
+use async_task::{
+    Awaiter, Future, Nobody, Poll, Realm, Schedule, ScheduleInfo, Scheduled, StoredRunnable,
+    TaskError, spawn,
+};
+use std::alloc::{AllocError, Global};
+use std::sync::{Arc, Mutex, Wait};
+
+#[derive(Drop)]
+pub struct Turn<R>(Arc<Mutex<Option<StoredRunnable>>, Global>, R);
+
+impl<R: Wait + Copy + Drop> Schedule<Scheduled<Sum, u64, Turn<R>, (), Nobody, R>> for Turn<R> {
+    fn schedule(&self, job: Scheduled<Sum, u64, Turn<R>, (), Nobody, R>, _info: ScheduleInfo) {
+        *self.0.lock(&self.1) = Some(job.store());
+    }
+}
+
+pub fn run<R: Wait + Copy + Drop + 'static>(
+    rt: R,
+    alloc: Global,
+    realm: &'static Realm<Sum, u64, Turn<R>, (), Nobody>,
+    future: Sum,
+) -> Result<Poll<Result<u64, TaskError>>, AllocError> {
+    let queue = Arc::new(alloc, Mutex::new(None))?;
+    let next = Arc::try_clone(&queue)?;
+    let Ok((runnable, mut task)) = spawn(rt, alloc, realm, future, Turn(next, rt)) else {
+        return Err(AllocError);
+    };
+    runnable.schedule();
+    for _ in rt.forever() {
+        let Some(stored) = queue.lock(&rt).take() else {
+            break;
+        };
+        if let Some(job) = stored.redeem(rt, realm) {
+            job.into_runnable().run();
+        }
+    }
+    Ok(task.poll(&Awaiter::Outside(Nobody)))
+}

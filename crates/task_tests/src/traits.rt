@@ -1,0 +1,89 @@
+//! Traits, markers and texts of the public types.
+use crate::parts::{Counts, Tasks, made, outside_waker};
+use async_task::{Builder, NoMemory, ScheduleInfo, TaskError, WithInfo};
+use std::fmt::Debug;
+use std::test::Fail;
+
+fn is_plain<X: Clone + Copy + PartialEq + Eq + Debug>(value: X) -> X {
+    value
+}
+
+fn moves_and_is_shared<X: Send + Sync + Drop>(value: X) -> X {
+    value
+}
+
+#[test]
+fn plain_types_are_copied_compared_and_shown(rt: HostRuntime) -> Result<(), Fail> {
+    let info = is_plain(ScheduleInfo {
+        woken_while_running: true,
+    });
+    assert_eq!(rt;
+        format!(in rt.alloc(); "{info:?} {:?}", WithInfo::from(5))?.as_str(),
+        "ScheduleInfo { woken_while_running: true } WithInfo(5)"
+    );
+    assert_eq!(rt;
+        format!(in rt.alloc();
+            "{:?} {:?}",
+            is_plain(NoMemory),
+            is_plain(TaskError::TaskClosed)
+        )?
+        .as_str(),
+        "NoMemory TaskClosed"
+    );
+    assert_eq!(rt;
+        format!(in rt.alloc();
+            "{:?} {:?}",
+            is_plain(TaskError::NoMemory),
+            Builder::new().metadata(7)
+        )?
+        .as_str(),
+        "NoMemory Builder { metadata: 7 }"
+    );
+    assert_eq!(rt; Builder::default(), Builder::new());
+    Ok(())
+}
+
+/// The handles and wakers move to other threads and are shared with them, where the task's parts
+/// are.
+#[test]
+fn handles_move_and_are_shared(rt: HostRuntime) -> Result<(), Fail> {
+    let realm = Tasks::leak(rt.alloc(), 0)?;
+    let counts = Counts::new(rt.alloc())?;
+    let (runnable, task) = made(rt, rt.alloc(), realm, &counts, 0, false)?;
+    let runnable = moves_and_is_shared(runnable);
+    let waker = moves_and_is_shared(runnable.waker());
+    assert!(rt; waker.is_some());
+    let task = moves_and_is_shared(moves_and_is_shared(task).fallible());
+    drop(moves_and_is_shared(task.cancel()));
+    assert!(rt; !runnable.run());
+    drop(waker);
+    assert_eq!(rt; counts.so_far(), (0, 0, 1, 1));
+    Ok(())
+}
+
+/// A handle's text has the marks of its task at that moment, and how many references there are.
+#[test]
+fn a_handle_is_shown_with_the_marks_of_its_task(rt: HostRuntime) -> Result<(), Fail> {
+    let realm = Tasks::leak(rt.alloc(), 0)?;
+    let counts = Counts::new(rt.alloc())?;
+    let (runnable, mut task) = made(rt, rt.alloc(), realm, &counts, 0, false)?;
+    assert_eq!(rt;
+        format!(in rt.alloc(); "{runnable:?}")?.as_str(),
+        "Runnable { scheduled: true, running: false, completed: false, closed: false, awaiter: false, task: true, ref_count: 1, metadata: 7 }"
+    );
+    let _ = async_task::Future::poll(&mut task, &outside_waker(&counts)?);
+    let waker = runnable.waker();
+    let task = task.fallible();
+    assert_eq!(rt;
+        format!(in rt.alloc(); "{task:?}")?.as_str(),
+        "FallibleTask { scheduled: true, running: false, completed: false, closed: false, awaiter: true, task: true, ref_count: 2, metadata: 7 }"
+    );
+    drop(waker);
+    drop(task);
+    assert_eq!(rt;
+        format!(in rt.alloc(); "{runnable:?}")?.as_str(),
+        "Runnable { scheduled: true, running: false, completed: false, closed: true, awaiter: false, task: false, ref_count: 1, metadata: 7 }"
+    );
+    assert!(rt; !runnable.run());
+    Ok(())
+}

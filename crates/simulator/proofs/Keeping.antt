@@ -25,10 +25,13 @@ use Rattle.script.specs.declared.item.Item.TheVariants as item
 use Rattle.script.specs.declared.plain.Plain.{Plain}
 use Rattle.script.specs.declared.plain.Plain.TheVariants as plain
 use Rattle.script.specs.declared.word.Word.{Word}
+use Rattle.script.specs.declared.word.Word.TheVariants as word
+use Rattle.script.specs.Plain.{word_of}
 use Rattle.script.specs.Names.{number_of}
 use Rattle.simulator.specs.declared.moment.Moment.{Moment}
 use Rattle.simulator.specs.declared.moment.Moment.TheVariants.{Happened, Ended}
 use Rattle.simulator.specs.declared.moment.Outcome.{Outcome}
+use Rattle.simulator.specs.declared.moment.Outcome.TheVariants.{NotPossible}
 use Rattle.simulator.specs.declared.play.future.Stage.{Stage}
 use Rattle.simulator.specs.declared.play.future.Stage.TheVariants as stage
 use Rattle.simulator.specs.declared.play.party.Doing.{Doing}
@@ -240,7 +243,7 @@ module _ (continues : (m : Machine) (t : Step) → IsContinued m.world.trace (st
 
   fair-closed : (p : ℕ) (doing : Doing) (s : Player) → IsFair limit s → IsFair limit (turns.closed p doing s)
   unfolding turns.closed
-  fair-closed p doing s k = fair-ended _ _ _ k
+  fair-closed p doing s k = fair-ended (turns.word_at (plain_at s doing.command)) (turns.outcome_of s (party s p).reply (turns.subject s doing)) (turns.does p None s) k
 
   fair-given_back : (b : Bool) (is : List Item) (s : Player) → IsFair limit s → IsFair limit (turns.given_back b is s)
   fair-given_back true is s k = k
@@ -253,7 +256,7 @@ module _ (continues : (m : Machine) (t : Step) → IsContinued m.world.trace (st
   fair-settled_as : (o : Option Plain) (p : ℕ) (doing : Doing) (s : Player) → IsFair limit s → IsFair limit (turns.settled_as o p doing s)
   unfolding turns.settled_as
   fair-settled_as (Some (plain.Cancel name)) p doing s k = fair-polls_next doing.polls p doing s k
-  fair-settled_as (Some (plain.Spawn name items)) p doing s k = fair-closed p doing _ (fair-given_back _ items s k)
+  fair-settled_as (Some (plain.Spawn name items)) p doing s k = fair-closed p doing (turns.given_back (turns.is_made (party s p).reply) items s) (fair-given_back (turns.is_made (party s p).reply) items s k)
   fair-settled_as None p doing s k = fair-closed p doing s k
   fair-settled_as (Some _) p doing s k = fair-closed p doing s k
 
@@ -271,7 +274,7 @@ module _ (continues : (m : Machine) (t : Step) → IsContinued m.world.trace (st
 
   fair-turn : (p : ℕ) (s : Player) → IsFair limit s → IsFair limit (turns.turn p s)
   unfolding turns.turn
-  fair-turn p s k = fair-settle p _ (fair-step (top s p) p s k)
+  fair-turn p s k = fair-settle p (turns.step_by (top s p) p s) (fair-step (top s p) p s k)
 
   -- a command
 
@@ -292,18 +295,18 @@ module _ (continues : (m : Machine) (t : Step) → IsContinued m.world.trace (st
 
   fair-began : (b : Bool) (p at : ℕ) (c : Plain) (w : Word) (s : Player) → IsFair limit s → IsFair limit (commands.began b p at c w s)
   fair-began true p at c w s k = fair-started c _ k
-  fair-began false p at c w s k = fair-ended w _ s k
+  fair-began false p at c w s k = fair-ended w NotPossible s k
 
   fair-begin_call : (p at : ℕ) (c : Plain) (w : Word) (x : Call) (s : Player) → IsFair limit s → IsFair limit (commands.begin_call p at c w x s)
   unfolding commands.begin_call
-  fair-begin_call p at c w x s k = fair-began _ p at c w _ (fair-tried (Begin p x) s k)
+  fair-begin_call p at c w x s k = fair-began (commands.is_possible (Begin p x) s) p at c w (tried (Begin p x) s) (fair-tried (Begin p x) s k)
 
   fair-begin_by : (o : Option Call) (p at : ℕ) (c : Plain) (w : Word) (s : Player) → IsFair limit s → IsFair limit (commands.begin_by o p at c w s)
   fair-begin_by (Some x) p at c w s k = fair-begin_call p at c w x s k
-  fair-begin_by None p at c w s k = fair-ended w _ s k
+  fair-begin_by None p at c w s k = fair-ended w NotPossible s k
 
   fair-begin_unless : (b : Bool) (p at : ℕ) (c : Plain) (w : Word) (s : Player) → IsFair limit s → IsFair limit (commands.begin_unless b p at c w s)
-  fair-begin_unless true p at c w s k = fair-ended w _ s k
+  fair-begin_unless true p at c w s k = fair-ended w NotPossible s k
   fair-begin_unless false p at c w s k = fair-begin_by (commands.call_of s c) p at c w s k
 
   fair-begin : (p at : ℕ) (c : Plain) (w : Word) (s : Player) → IsFair limit s → IsFair limit (commands.begin p at c w s)
@@ -319,15 +322,15 @@ module _ (continues : (m : Machine) (t : Step) → IsContinued m.world.trace (st
 
   fair-plays_go : (b : Bool) (p : ℕ) (s new : Player) → commands.PlaysGo b p s new → IsFair limit s → IsFair limit new
   fair-plays_go true p s new e k = subst (IsFair limit) (sym e) (fair-turn p s k)
-  fair-plays_go false p s new e k = subst (IsFair limit) (sym e) (fair-ended _ _ s k)
+  fair-plays_go false p s new e k = subst (IsFair limit) (sym e) (fair-ended word.Go NotPossible s k)
 
   fair-plays_finish : (b : Bool) (p : ℕ) (s new : Player) → commands.PlaysFinish b p s new → IsFair limit s → IsFair limit new
   fair-plays_finish true p s new e k = fair-finishes p s new e k
-  fair-plays_finish false p s new e k = subst (IsFair limit) (sym e) (fair-ended _ _ s k)
+  fair-plays_finish false p s new e k = subst (IsFair limit) (sym e) (fair-ended word.Finish NotPossible s k)
 
   fair-plays : (at : ℕ) (c : Command) (s new : Player) → commands.Plays at c s new → IsFair limit s → IsFair limit new
-  fair-plays at (command.Whole r) s new e k = fair-finishes 0 _ new e (fair-begin 0 at r.plain _ s k)
-  fair-plays at (command.Begin p r) s new e k = subst (IsFair limit) (sym e) (fair-begin p at r.plain _ s k)
+  fair-plays at (command.Whole r) s new e k = fair-finishes 0 (commands.begin 0 at r.plain (word_of r.plain) s) new e (fair-begin 0 at r.plain (word_of r.plain) s k)
+  fair-plays at (command.Begin p r) s new e k = subst (IsFair limit) (sym e) (fair-begin p at r.plain word.Begin s k)
   fair-plays at (command.Go p) s new e k = fair-plays_go (commands.is_busy p s) p s new e k
   fair-plays at (command.Finish p) s new e k = fair-plays_finish (commands.is_busy p s) p s new e k
 

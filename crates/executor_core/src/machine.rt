@@ -20,8 +20,8 @@ use crate::possible::{has_handle, part_refusal};
 use crate::store::Store;
 use executor_model::laws::outputs_are_kept;
 use executor_model::trace_laws::{
-    awaiters_are_kept, closing_drops_each_future_once, drops_come_once, early_drops_have_causes, outputs_go_once,
-    polls_are_asked_for, polls_are_lawful,
+    awaiters_are_kept, closing_drops_each_future_once, drops_come_once, early_drops_have_causes,
+    outputs_go_once, polls_are_asked_for, polls_are_lawful,
 };
 use executor_model::{Awaiter, Event, Op, Step, StepError};
 use std::alloc::{AllocError, Global};

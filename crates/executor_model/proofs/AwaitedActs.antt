@@ -282,7 +282,6 @@ awaits-drain : (q : List ℕ) (p : ℕ) (w : World) → w.queue.items ≡ q → 
 awaits-drain [] p w e g r yy mm bb h = grind (arith, heard-push)
 awaits-drain (f ∷ rest) p w e g r yy mm bb h = let z : same g f + times g (drop 1 w.queue.items) ≡ times g w.queue.items = times-drop g f rest w.queue.items e in grind (arith, same_is)
 
-
 -- the answers of user code
 awaits-pending : (p : ℕ) (w : World) (f : ℕ) → KeepsAwaits w (op.Poll f ∷ []) (done (log w (event.Answered p f answer.Pending)) (op.PutBack f ∷ []))
 awaits-pending p w f g r yy mm bb h = grind (arith, same_is, heard-push)

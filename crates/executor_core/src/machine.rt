@@ -10,6 +10,7 @@ ghost use Rattle.executor_model.specs.OutputKept.{OutputIsKept};
 ghost use Rattle.executor_model.specs.OutputOnce.{OutputGoesOnce};
 ghost use Rattle.executor_model.specs.Runs.{run_all};
 ghost use Rattle.executor_model.specs.World.{awaiter_of};
+ghost use Rattle.executor_laws.specs.Reach.{IsInReach};
 ghost use Rattle.executor_core.specs.Views.{world_of, state_of, HasRoom, HasSpace};
 ghost use Rattle.executor_core.specs.Reached.{IsReached};
 ghost use Rattle.executor_core.specs.Refused.{IsRefused};
@@ -18,6 +19,7 @@ use crate::entries::Entries;
 use crate::part::take_part;
 use crate::possible::{has_handle, part_refusal};
 use crate::store::Store;
+use executor_laws::laws::common_futures_are_in_reach;
 use executor_model::laws::outputs_are_kept;
 use executor_model::trace_laws::{
     awaiters_are_kept, closing_drops_each_future_once, drops_come_once, early_drops_have_causes,
@@ -163,7 +165,7 @@ impl Machine {
     }
 
     /// Steps until one is refused. Says the place of that one, and why, if one was. What holds of every trace holds
-    /// of this machine's then: each such law has a clause here, and so has the one that outputs are kept.
+    /// of this machine's then, and what holds of every machine of this one: each such law has a clause here.
     pub fn run(&mut self, list: &[Step]) -> Option<(usize, StepError)>
         ensures made { MatchOption result (run_all list.now self.old ≡ Ok self.new) (λ r. run_all (take r.0 list.now) self.old ≡ Ok self.new) }
         ensures refused { IfSome result (λ r. (t : Step) × (slice_get list.now r.0 ≡ Some t) × IsRefused self.new t r.1) }
@@ -175,6 +177,7 @@ impl Machine {
         ensures closing_drops { (f : ℕ) → IsDroppedByTheEnd f self.new.world.trace }
         ensures outputs_are_kept { (f : ℕ) → OutputIsKept self.new f }
         ensures awaiters_are_kept { (f : ℕ) → AwaiterIsKept f self.new.world.trace }
+        ensures in_reach { IsInReach self.new }
     {
         let refused = self.run_on(list);
         polls_are_lawful();
@@ -185,6 +188,7 @@ impl Machine {
         closing_drops_each_future_once();
         outputs_are_kept();
         awaiters_are_kept();
+        common_futures_are_in_reach();
         refused
     }
 

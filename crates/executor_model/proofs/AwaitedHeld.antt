@@ -56,7 +56,7 @@ asks-calling-all : (g : ℕ) (os : List Op) → weigh (asks_of g) os ≤ weigh c
 asks-calling-all g [] = omega arith
 asks-calling-all g (o ∷ os) = omega (arith, asks-calling g o, asks-calling-all g os)
 
-spot-none : (n calls : ℕ) (s : Spot) → n ≡ 0 → spot n calls s ≡ record s { inner = calls + s.inner }
+pub spot-none : (n calls : ℕ) (s : Spot) → n ≡ 0 → spot n calls s ≡ record s { inner = calls + s.inner }
 spot-none n calls s z = ap (λ (k : ℕ). spot k calls s) z
 
 pub spot-more : (n calls : ℕ) (s : Spot) → 1 ≤ n → spot n calls s ≡ record { found = true; inner = 0 }

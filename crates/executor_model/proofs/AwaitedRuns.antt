@@ -205,7 +205,7 @@ module _ (s : Machine) (p : ℕ) (old rest : List Op) (d : Done) (l : p < length
       (h.held g)
     where
       apart-inner : (b : Bool) → (heard g s.world.trace).party ≢ p → (heard g s.world.trace).inner + cond b (same (heard g s.world.trace).party p) 0 ≡ (heard g s.world.trace).inner
-      apart-inner false n = refl
+      apart-inner false n = omega arith
       apart-inner true n = ⊎_elim (λ (x : (same (heard g s.world.trace).party p ≡ 1) × (eqb (heard g s.world.trace).party p ≡ true) × ((heard g s.world.trace).party ≡ p)). absurd (n x.2)) (λ (x : (same (heard g s.world.trace).party p ≡ 0) × (eqb (heard g s.world.trace).party p ≡ false) × ((heard g s.world.trace).party ≢ p)). omega (arith, x.0)) (same_cases (heard g s.world.trace).party p)
 
       own-inner : (b : Bool) → b ≡ true → (heard g s.world.trace).party ≡ p → (heard g s.world.trace).inner + cond b (same (heard g s.world.trace).party p) 0 ≡ (heard g s.world.trace).inner + 1

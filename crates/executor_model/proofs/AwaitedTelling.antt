@@ -136,11 +136,11 @@ past-from g s (e ∷ es) h = past-from g (passes g e s) es (past-one g e s h)
 
 phase-dropped-from : (g : ℕ) (s : Phase) (es : Trace) → has (is_dropped g) es ≡ true → IsPast (phase_from g s es)
 phase-dropped-from g s [] h = absurd (cc)
-phase-dropped-from g s (e ∷ es) h = go (is_dropped g e) refl h
+phase-dropped-from g s (e ∷ es) h = go (is_dropped g e) refl h (phase-dropped-from g (passes g e s) es)
   where
-    go : (b : Bool) → is_dropped g e ≡ b → (b || has (is_dropped g) es) ≡ true → IsPast (phase_from g (passes g e s) es)
-    go true q h = past-from g (passes g e s) es (drops-one g e s q)
-    go false q h = phase-dropped-from g (passes g e s) es h
+    go : (b : Bool) → is_dropped g e ≡ b → (b || has (is_dropped g) es) ≡ true → (has (is_dropped g) es ≡ true → IsPast (phase_from g (passes g e s) es)) → IsPast (phase_from g (passes g e s) es)
+    go true q h ih = past-from g (passes g e s) es (drops-one g e s q)
+    go false q h ih = ih h
 
 pub over-dropped : (g : ℕ) (es : Trace) → (heard g es).dropped ≡ true → phase g es ≢ Broken → phase g es ≡ Over
 over-dropped g es d n = ⊎_elim (λ (h : phase g es ≡ Over). h) (λ (h : phase g es ≡ Broken). absurd (n h)) (phase-dropped-from g Fresh es (sym (dropped-has g es) ∙ d))
@@ -165,7 +165,7 @@ begun-from : (g n k p : ℕ) (s : Heard) (es : Trace) → slice_get es k ≡ Som
 begun-from g n k p s [] e = absurd (cc)
 begun-from g n zero p s (x ∷ es) e =
     let q : x ≡ event.HandlePolled p g = cc in
-    (s, ap (λ (y : Event). heard_from g (suc n) (hears g n y s) es) q ∙ ap (λ (t : Heard). heard_from g (suc n) t es) (hears-own g n p g s refl))
+    (s, ap (λ (y : Event). heard_from g (suc n) (hears g n y s) es) q ∙ (ap (λ (t : Heard). heard_from g (suc n) t es) (hears-own g n p g s refl) ∙ ap (λ (m : ℕ). heard_from g (suc m) (poll_begun m p s) es) (let z : n ≡ n + zero = omega arith in z)))
 begun-from g n (suc k) p s (x ∷ es) e =
     let ih : _ = begun-from g (suc n) k p (hears g n x s) es e in
     (ih.0, ih.1 ∙ ap (λ (m : ℕ). heard_from g (suc m) (poll_begun m p ih.0) (drop (suc k) es)) (let z : suc n + k ≡ n + suc k = omega arith in z))
@@ -174,7 +174,7 @@ pub begun-at : (g k p : ℕ) (es : Trace) → slice_get es k ≡ Some (event.Han
 unfolding heard
 begun-at g k p es e =
     let x : _ = begun-from g 0 k p unheard es e in
-    record { before = x.0; all = x.1 ∙ ap (λ (m : ℕ). heard_from g (suc m) (poll_begun m p x.0) (drop (suc k) es)) (let z : 0 + k ≡ k = omega arith in z) }
+    record { before = x.0; all = x.1 ∙ (ap (λ (m : ℕ). heard_from g (suc m) (poll_begun m p x.0) (drop (suc k) es)) (let z : 0 + k ≡ k = omega arith in z) ∙ ap (λ (m : ℕ). heard_from g (suc k) (poll_begun k p x.0) (drop m es)) (let z : suc k ≡ k + 1 = omega arith in z)) }
 
 -- an event that begins no poll of the handle
 
@@ -289,7 +289,7 @@ pending-from : (g n p m : ℕ) (s : Heard) (es : Trace) → s.asking ≡ true �
 pending-from g n p m s [] a t k e first inner = absurd (cc)
 pending-from g n p zero s (x ∷ es) a t k e first inner =
     let q : x ≡ event.CallEnded p reply.Pending = cc in
-    let z : s.inner ≡ 0 = sym inner in
+    let z : s.inner ≡ 0 = omega (arith, inner) in
     let o : _ = or-none (is_handle_poll g x) (has (is_handle_poll g) es) k in
     (stays-from g (suc n) (hears g n x s) es o.1 (subst (λ (y : Event). IsAnsweredPending (hears g n y s)) (sym q) (ends-own p s a t z))).1
 pending-from g n p (suc m) s (x ∷ es) a t k e first inner =
@@ -301,9 +301,9 @@ pending-from g n p (suc m) s (x ∷ es) a t k e first inner =
     (omega (arith, inner, count-cons (ends_call p) x (take m es), count-cons (begins_call p) x (take m es), i.inner))
   where
     never-both : (p : ℕ) (x : Event) (n : ℕ) → ends_one p x ≤ n + begins_one p x → ends_one p x ≤ n
-    never-both p (event.CallEnded q r) n h = h
+    never-both p (event.CallEnded q r) n h = omega (arith, h)
     never-both p (event.CallBegun q c) n h = omega arith
-    never-both p _ n h = h
+    never-both p _ n h = omega (arith, h)
 
 pub pending-at : (g n p k : ℕ) (s : Heard) (es : Trace) → has (is_handle_poll g) es ≡ false → EndsWith p reply.Pending es → (heard_from g n (record s { poll = k; party = p; asking = true; inner = 0; pending = false; called = false }) es).pending ≡ true
 pending-at g n p k s es h w = pending-from g n p w.place (poll_begun k p s) es refl refl h w.here (λ j l. omega (arith, w.first j l)) (omega (arith, w.inner))

@@ -26,7 +26,6 @@ pub mod AskingRuns
 pub mod Looking
 pub mod Calls
 pub mod Resting
-pub mod Handing
 pub mod Quieting
 pub mod Unasking
 pub mod Keeping
@@ -43,3 +42,4 @@ pub mod AwaitedTelling
 pub mod AwaitedCalls
 pub mod AwaitedRuns
 pub mod AwaitedRest
+pub mod HandingOn

@@ -22,3 +22,4 @@ pub mod Emptiness
 pub mod Memory
 pub mod OutputKept
 pub mod AwaiterKept
+pub mod HandingOn

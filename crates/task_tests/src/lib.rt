@@ -17,10 +17,14 @@ mod refusals;
 #[cfg(test)]
 mod rows;
 #[cfg(test)]
+mod stored;
+#[cfg(test)]
 mod telling;
 #[cfg(test)]
 mod threads;
 #[cfg(test)]
 mod traits;
+#[cfg(test)]
+mod wakers;
 #[cfg(test)]
 mod whole;

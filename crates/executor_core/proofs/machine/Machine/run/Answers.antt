@@ -5,7 +5,8 @@ use Rattle.executor_model.specs.EarlyDrop.{EarlyDropHasCause}
 use Rattle.executor_model.specs.LawfulPolls.{HasLawfulPolls}
 use Rattle.executor_model.specs.OutputKept.{OutputIsKept}
 use Rattle.executor_model.specs.OutputOnce.{OutputGoesOnce}
-use Rattle.executor_core.proofs.Reaching.{law_here, run_here}
+use Rattle.executor_laws.specs.Reach.{IsInReach}
+use Rattle.executor_core.proofs.Reaching.{law_here, machine_law_here, run_here}
 use Rattle.executor_core.proofs.machine.Machine.run.Goals as goal
 
 pub returns-clause-polls_are_lawful : goal.returns-clause-polls_are_lawful
@@ -31,3 +32,6 @@ returns-clause-outputs_are_kept c = run_here OutputIsKept c.outputs_are_kept.ens
 
 pub returns-clause-awaiters_are_kept : goal.returns-clause-awaiters_are_kept
 returns-clause-awaiters_are_kept c = law_here AwaiterIsKept c.awaiters_are_kept.ensures _ c.run_on-refused.ensures.reached
+
+pub returns-clause-in_reach : goal.returns-clause-in_reach
+returns-clause-in_reach c = machine_law_here IsInReach c.common_futures_are_in_reach.ensures _ c.run_on-refused.ensures.reached

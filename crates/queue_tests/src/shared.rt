@@ -5,6 +5,7 @@ use concurrent_queue::glimpse::{Glimpse, Locked};
 use concurrent_queue::{ConcurrentQueue, ForcePushError, NoMemory, PopError, PushError};
 use queue_steps::Unbounded;
 use std::alloc::AllocGlobal;
+use std::fmt::Debug;
 use std::process::Abort;
 use std::sync::atomic::{AtomicU64, Ordering};
 use std::sync::{Mutex, Wait};
@@ -17,61 +18,85 @@ fn bounded<R: Abort + AllocGlobal, T: Drop>(rt: &R, cap: usize) -> ConcurrentQue
     ConcurrentQueue::bounded(rt.alloc(), cap).expect(rt, "memory")
 }
 
+// The calls of these tests, each compared with its answer in one place, so that a call is cheap to prove.
+fn push<R: Wait + Abort, T: Drop + PartialEq + Debug>(
+    rt: &R,
+    queue: &ConcurrentQueue<T>,
+    value: T,
+    want: Result<(), PushError<T>>,
+) {
+    assert_eq!(rt; queue.push(rt, value), want);
+}
+
+fn force_push<R: Wait + Abort, T: Drop + PartialEq + Debug>(
+    rt: &R,
+    queue: &ConcurrentQueue<T>,
+    value: T,
+    want: Result<Option<T>, ForcePushError<T>>,
+) {
+    assert_eq!(rt; queue.force_push(rt, value), want);
+}
+
+fn pop<R: Wait + Abort, T: Drop + PartialEq + Debug>(
+    rt: &R,
+    queue: &ConcurrentQueue<T>,
+    want: Result<T, PopError>,
+) {
+    assert_eq!(rt; queue.pop(rt), want);
+}
+
 #[test]
 fn a_full_shared_ring_refuses_and_gives_in_order(rt: HostRuntime) {
     let queue = bounded(&rt, 2);
-    assert_eq!(rt; queue.push(&rt, 'a'), Ok(()));
-    assert_eq!(rt; queue.push(&rt, 'b'), Ok(()));
-    assert_eq!(rt; queue.push(&rt, 'c'), Err(PushError::Full('c')));
-    assert_eq!(rt; queue.pop(&rt), Ok('a'));
-    assert_eq!(rt; queue.pop(&rt), Ok('b'));
-    assert_eq!(rt; queue.pop(&rt), Err(PopError::Empty));
+    push(&rt, &queue, 'a', Ok(()));
+    push(&rt, &queue, 'b', Ok(()));
+    push(&rt, &queue, 'c', Err(PushError::Full('c')));
+    pop(&rt, &queue, Ok('a'));
+    pop(&rt, &queue, Ok('b'));
+    pop(&rt, &queue, Err(PopError::Empty));
 }
 
 #[test]
 fn a_closed_shared_chain_refuses_and_drains(rt: HostRuntime) {
     let queue = ConcurrentQueue::<u64>::unbounded(rt.alloc());
-    assert_eq!(rt; queue.push(&rt, 10), Ok(()));
+    push(&rt, &queue, 10, Ok(()));
     assert!(rt; queue.close(&rt));
     assert!(rt; !queue.close(&rt));
-    assert_eq!(rt; queue.push(&rt, 20), Err(PushError::Closed(20)));
-    assert_eq!(rt; queue.force_push(&rt, 30), Err(ForcePushError::Closed(30)));
-    assert_eq!(rt; queue.pop(&rt), Ok(10));
-    assert_eq!(rt; queue.pop(&rt), Err(PopError::Closed));
+    push(&rt, &queue, 20, Err(PushError::Closed(20)));
+    force_push(&rt, &queue, 30, Err(ForcePushError::Closed(30)));
+    pop(&rt, &queue, Ok(10));
+    pop(&rt, &queue, Err(PopError::Closed));
 }
 
 #[test]
 fn a_forced_push_displaces_until_the_queue_is_closed(rt: HostRuntime) {
     let queue = bounded(&rt, 2);
-    assert_eq!(rt; queue.push(&rt, 'a'), Ok(()));
-    assert_eq!(rt; queue.push(&rt, 'b'), Ok(()));
-    assert_eq!(rt; queue.force_push(&rt, 'c'), Ok(Some('a')));
+    push(&rt, &queue, 'a', Ok(()));
+    push(&rt, &queue, 'b', Ok(()));
+    force_push(&rt, &queue, 'c', Ok(Some('a')));
     assert_eq!(rt; queue.len(&rt), 2);
     assert!(rt; queue.close(&rt));
-    assert_eq!(rt;
-        queue.force_push(&rt, 'd'),
-        Err(ForcePushError::Closed('d'))
-    );
-    assert_eq!(rt; queue.push(&rt, 'e'), Err(PushError::Closed('e')));
-    assert_eq!(rt; queue.pop(&rt), Ok('b'));
-    assert_eq!(rt; queue.pop(&rt), Ok('c'));
-    assert_eq!(rt; queue.pop(&rt), Err(PopError::Closed));
+    force_push(&rt, &queue, 'd', Err(ForcePushError::Closed('d')));
+    push(&rt, &queue, 'e', Err(PushError::Closed('e')));
+    pop(&rt, &queue, Ok('b'));
+    pop(&rt, &queue, Ok('c'));
+    pop(&rt, &queue, Err(PopError::Closed));
 }
 
 #[test]
 fn a_shared_walk_gives_the_items_in_order(rt: HostRuntime) -> Result<(), Fail> {
     let queue = ConcurrentQueue::<u64>::unbounded(rt.alloc());
-    assert_eq!(rt; queue.force_push(&rt, 1), Ok(None));
-    assert_eq!(rt; queue.push(&rt, 2), Ok(()));
+    force_push(&rt, &queue, 1, Ok(None));
+    push(&rt, &queue, 2, Ok(()));
     let mut walk = queue.try_iter(&rt);
     let mut copy = walk.clone()?;
     assert_eq!(rt; walk.next(), Some(1));
     assert_eq!(rt; copy.next(), Some(2));
     assert_eq!(rt; (walk.next(), copy.next()), (None, None));
-    assert_eq!(rt; queue.push(&rt, 3), Ok(()));
+    push(&rt, &queue, 3, Ok(()));
     assert_eq!(rt; walk.next(), Some(3));
     for item in 4..10u64 {
-        assert_eq!(rt; queue.push(&rt, item), Ok(()));
+        push(&rt, &queue, item, Ok(()));
     }
     let mut want = 4;
     for item in queue.try_iter(&rt) {
@@ -87,15 +112,15 @@ fn a_shared_slot_holds_one_item(rt: HostRuntime) {
     let queue = bounded(&rt, 1);
     assert_eq!(rt; queue.capacity(), Some(1));
     assert!(rt; queue.is_empty(&rt) && !queue.is_full(&rt));
-    assert_eq!(rt; queue.push(&rt, 5), Ok(()));
+    push(&rt, &queue, 5, Ok(()));
     assert!(rt; queue.is_full(&rt) && !queue.is_empty(&rt));
-    assert_eq!(rt; queue.push(&rt, 6), Err(PushError::Full(6)));
-    assert_eq!(rt; queue.force_push(&rt, 7), Ok(Some(5)));
+    push(&rt, &queue, 6, Err(PushError::Full(6)));
+    force_push(&rt, &queue, 7, Ok(Some(5)));
     assert_eq!(rt; (queue.len(&rt), queue.pop(&rt)), (1, Ok(7)));
     assert_eq!(rt; (queue.len(&rt), queue.pop(&rt)), (0, Err(PopError::Empty)));
     assert!(rt; !queue.is_closed(&rt) && queue.close(&rt));
     assert!(rt; queue.is_closed(&rt) && !queue.close(&rt));
-    assert_eq!(rt; queue.pop(&rt), Err(PopError::Closed));
+    pop(&rt, &queue, Err(PopError::Closed));
 }
 
 #[test]
@@ -104,18 +129,18 @@ fn a_shared_ring_and_chain_count_and_keep_order_past_a_hundred_items(rt: HostRun
     assert_eq!(rt; (ring.capacity(), chain.capacity()), (Some(5), None));
     for round in 0..25u64 {
         for item in 0..5u64 {
-            assert_eq!(rt; ring.push(&rt, 5 * round + item), Ok(()));
-            assert_eq!(rt; chain.push(&rt, 5 * round + item), Ok(()));
+            push(&rt, &ring, 5 * round + item, Ok(()));
+            push(&rt, &chain, 5 * round + item, Ok(()));
         }
         assert!(rt; ring.is_full(&rt) && !chain.is_full(&rt));
         assert_eq!(rt; (ring.len(&rt), chain.len(&rt)), (5, 5));
-        assert_eq!(rt; ring.push(&rt, 1000), Err(PushError::Full(1000)));
+        push(&rt, &ring, 1000, Err(PushError::Full(1000)));
         for item in 0..5u64 {
-            assert_eq!(rt; ring.pop(&rt), Ok(5 * round + item));
-            assert_eq!(rt; chain.pop(&rt), Ok(5 * round + item));
+            pop(&rt, &ring, Ok(5 * round + item));
+            pop(&rt, &chain, Ok(5 * round + item));
         }
         assert!(rt; ring.is_empty(&rt) && chain.is_empty(&rt));
-        assert_eq!(rt; chain.pop(&rt), Err(PopError::Empty));
+        pop(&rt, &chain, Err(PopError::Empty));
     }
     assert!(rt; ring.close(&rt) && ring.is_closed(&rt) && !chain.is_closed(&rt));
 }
@@ -129,11 +154,11 @@ fn a_refused_shared_push_hands_back_the_value_and_changes_nothing(rt: HostRuntim
         if let Err(refused) = queue.push(&rt, item) {
             assert_eq!(rt; refused, PushError::NoMemory(item));
             assert_eq!(rt; (queue.len(&rt), queue.is_closed(&rt)), (before, false));
-            assert_eq!(rt; queue.force_push(&rt, item), Ok(None));
+            force_push(&rt, &queue, item, Ok(None));
         }
     }
     for item in 0..100u64 {
-        assert_eq!(rt; queue.pop(&rt), Ok(item));
+        pop(&rt, &queue, Ok(item));
     }
 }
 
@@ -145,8 +170,8 @@ fn a_shared_ring_is_refused_whole_or_takes_no_more_memory(rt: HostRuntime) {
             for item in 0..10u64 {
                 assert!(rt; queue.force_push(&rt, item).is_ok());
             }
-            assert_eq!(rt; queue.pop(&rt), Ok(6));
-            assert_eq!(rt; queue.push(&rt, 10), Ok(()));
+            pop(&rt, &queue, Ok(6));
+            push(&rt, &queue, 10, Ok(()));
         }
     }
 }
@@ -249,7 +274,7 @@ fn a_shared_queue_and_its_walk_print_what_they_are(rt: HostRuntime) -> Result<()
         bounded(&rt, 4),
         ConcurrentQueue::<u64>::unbounded(rt.alloc()),
     );
-    assert_eq!(rt; ring.push(&rt, 'x'), Ok(()));
+    push(&rt, &ring, 'x', Ok(()));
     assert!(rt; chain.close(&rt));
     let texts = format!(in rt.alloc(); "{ring:?} {:?}", chain.try_iter(&rt))?;
     assert_eq!(rt;

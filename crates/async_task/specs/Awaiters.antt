@@ -1,4 +1,5 @@
 -- When two wakers of the one type that futures are polled with wake the same.
+use Rattle.std.specs.Prelude.{◌≡◌, ◌↔◌, Bool, false, IsTrue}
 use Rattle.async_task.specs.Handles.{IsOfOneTask}
 use Rattle.async_task.specs.declared.waker.Awaiter.{Awaiter}
 use Rattle.async_task.specs.declared.waker.Awaiter.TheVariants.{Task, Outside}
@@ -9,3 +10,11 @@ WakeTheSame is_same (Task a) (Task b) = IsOfOneTask a b
 WakeTheSame is_same (Outside a) (Outside b) = is_same a b
 WakeTheSame is_same (Task a) (Outside b) = ⊥
 WakeTheSame is_same (Outside a) (Task b) = ⊥
+
+-- what the answer tells: of two wakers of tasks exactly whether they are of one; of two from outside a yes tells what those
+-- make of it, and a no nothing
+abbrev pub Tells : {F T S M W R : Type 0} → (W → W → Type 0) → Awaiter F T S M W R → Awaiter F T S M W R → Bool → Type 0
+Tells is_same (Task a) (Task b) answer = IsTrue answer ↔ IsOfOneTask a b
+Tells is_same (Outside a) (Outside b) answer = IsTrue answer → is_same a b
+Tells is_same (Task a) (Outside b) answer = answer ≡ false
+Tells is_same (Outside a) (Task b) answer = answer ≡ false

@@ -1,8 +1,13 @@
 -- How a run ends. What is under the lock of a cell no clause of a handle's call can name, but such a call answers what the
 -- section of the lock did, on whatever task it found there.
-use Rattle.std.specs.Prelude.{◌≡◌, Bool, true, false, Option, Some, None}
+use Rattle.std.specs.Prelude.{◌≡◌, Bool, false, Option, Some, None}
 use Rattle.async_task.specs.declared.cell.Kept.{Kept}
 use Rattle.async_task.specs.declared.runnable.RunEnd.{RunEnd}
+use Rattle.async_task.specs.declared.runnable.Started.{Started}
+use Rattle.async_task.specs.declared.runnable.Started.TheVariants.{Poll as PollIt, Drop as DropIt}
+use Rattle.async_task.specs.declared.waker.Awaiter.{Awaiter}
+use Rattle.async_task.specs.declared.waker.Awaiter.TheVariants.{Task, Outside}
+use Rattle.async_task.specs.Handles.{Handle}
 use Rattle.async_task.specs.declared.runnable.RunEnd.TheVariants.{Over, Drop}
 use Rattle.async_task.specs.declared.sections.debts.Ended.{Ended}
 use Rattle.async_task.specs.Sections.{ended_of}
@@ -48,3 +53,19 @@ abbrev pub EndsRun : {F T S M W R : Type 0} → Back F T → RunEnd F T S M W R 
 EndsRun {F} {T} {S} {M} {W} {R} back end =
     (found : LocalValue F T (Kept W)) ×
     ((answer_of end ≡ answer_by (settle_answer back found.task)) × (dropped_of end ≡ dropped_by (settle_answer back found.task)))
+
+module _ {F T S M W R : Type 0} where
+  -- it is a waker of the task of this handle
+  abbrev pub IsOf : Awaiter F T S M W R → Handle M → Type 0
+  IsOf (Task waker) task = waker ≡ task
+  IsOf (Outside waker) task = ⊥
+
+  -- what a Runnable begins is a run or a closing call of its own task
+  abbrev pub BeginsAt : Handle M → Started F T S M W R → Type 0
+  BeginsAt task (PollIt future running) = IsOf running.waker task
+  BeginsAt task (DropIt future closing) = closing ≡ task
+
+  -- a run whose task was closed goes on as a closing call of that task
+  abbrev pub EndsAt : Awaiter F T S M W R → RunEnd F T S M W R → Type 0
+  EndsAt waker (Over woken) = Unit {0}
+  EndsAt waker (Drop future closing) = IsOf waker closing

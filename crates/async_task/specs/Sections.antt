@@ -1,6 +1,6 @@
 -- What a section of a cell's lock does with what stands under it: the call of a task with one owner that has its name.
 -- Nothing stands there once nobody can reach the task.
-use Rattle.std.specs.Prelude.{Bool, true, false, ◌&&◌, not, if◌then◌else◌, Option, Some, None, Result, Ok, Err}
+use Rattle.std.specs.Prelude.{Bool, true, ◌&&◌, not, if◌then◌else◌, Option, Some, None, Result, Ok, Err}
 use Rattle.task_moves.specs.declared.local_task.answers.Place.TheVariants.{Dropping, Gone}
 use Rattle.task_moves.specs.declared.local_task.answers.Back.{Back}
 use Rattle.task_moves.specs.declared.local_task.answers.Settled.{Settled}

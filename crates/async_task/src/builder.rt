@@ -56,6 +56,7 @@ impl<M> Builder<M> {
         R: Wait + Copy + Drop,
         ensures one_task { IfOk result (λ both. both.0 ≡ both.1) }
         ensures metadata { IfOk result (λ both. both.0.metadata ≡ self.metadata) }
+        ensures here { IfOk result (λ both. both.0.identity.realm ≡ realm.now.number) }
         ensures future { IfErr result (λ back. back.future ≡ future) }
         ensures schedule { IfErr result (λ back. back.schedule ≡ schedule) }
         ensures given_back { IfErr result (λ back. back.metadata ≡ self.metadata) }
@@ -91,6 +92,7 @@ where
     W: Wake + Drop + 'static,
     R: Wait + Copy + Drop,
     ensures one_task { IfOk result (λ both. both.0 ≡ both.1) }
+    ensures here { IfOk result (λ both. both.0.identity.realm ≡ realm.now.number) }
     ensures future { IfErr result (λ back. back.future ≡ future) }
     ensures schedule { IfErr result (λ back. back.schedule ≡ schedule) }
 {

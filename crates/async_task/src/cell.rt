@@ -50,7 +50,7 @@ pub enum Kept<W> {
 pub struct Held<F: 'static, T: 'static, S: 'static, M: 'static, W: 'static, R> {
     realm: &'static Realm<F, T, S, M, W>,
     cell: Arc<Cell<F, T, S, M, W>, Global>,
-    identity: Identity,
+    place: usize,
     rt: R,
 }
 
@@ -61,7 +61,10 @@ impl<F: 'static, T: 'static, S: 'static, M: 'static, W: 'static, R> Model
 
     ghost Value = { Handle M };
 
-    ghost view = { λ h. record { identity = h.identity; metadata = (arc_value h.cell).metadata } };
+    ghost view = { λ h. record {
+      identity = record { realm = h.realm.now.number; place = h.place };
+      metadata = (arc_value h.cell).metadata;
+    } };
 }
 
 /// What a task is made of.
@@ -92,6 +95,7 @@ where
         parts: Parts<F, S, M>,
     ) -> Result<Self, Parts<F, S, M>>
         ensures made { IfOk result (λ held. held.metadata ≡ parts.metadata) }
+        ensures here { IfOk result (λ held. held.identity.realm ≡ realm.now.number) }
         ensures refused { IfErr result (λ back. back ≡ parts) }
     {
         match realm.vacancy() {
@@ -109,6 +113,7 @@ where
         parts: Parts<F, S, M>,
     ) -> Result<Self, Parts<F, S, M>>
         ensures made { IfOk result (λ held. held.metadata ≡ parts.metadata) }
+        ensures here { IfOk result (λ held. held.identity.realm ≡ realm.now.number) }
         ensures refused { IfErr result (λ back. back ≡ parts) }
     {
         let cell = Cell {
@@ -140,16 +145,13 @@ where
         place: usize,
         cell: Arc<Cell<F, T, S, M, W>, Global>,
     ) -> Self
-        ensures place { result.identity.place ≡ place }
+        ensures place { result.identity ≡ record { realm = realm.now.number; place = place } }
         ensures metadata { result.metadata ≡ (arc_value cell).metadata }
     {
         Held {
             realm,
             cell,
-            identity: Identity {
-                realm: realm.number(),
-                place,
-            },
+            place,
             rt,
         }
     }
@@ -161,14 +163,15 @@ where
         Held {
             realm: self.realm,
             cell: share(&self.rt, &self.cell),
-            identity: self.identity,
+            place: self.place,
             rt: self.rt,
         }
     }
 
     /// The way to the task at this place.
     pub fn find(rt: R, realm: &'static Realm<F, T, S, M, W>, place: usize) -> Option<Self>
-        ensures { IfSome result (λ held. held.identity.place ≡ place) }
+        ensures { IfSome result
+            (λ held. held.identity ≡ record { realm = realm.now.number; place = place }) }
     {
         match realm.find(&rt, place) {
             Some(cell) => Some(Held::of(rt, realm, place, cell)),
@@ -180,7 +183,8 @@ where
     pub fn identity(&self) -> Identity
         ensures { result ≡ self.now.identity }
     {
-        self.identity
+        let (realm, place) = (self.realm.number(), self.place);
+        Identity { realm, place }
     }
 
     /// The runtime value that the task was made with.

@@ -76,7 +76,8 @@ where
     }
 }
 
-/// A copy of the waker, as the cell is to keep it.
+/// A copy of the waker, as the cell is to keep it. Of a waker of a task that is its place, and one
+/// reference more of that task.
 fn to_keep<F, T, S, M, W, R>(
     held: &Held<F, T, S, M, W, R>,
     waker: &Awaiter<F, T, S, M, W, R>,
@@ -94,9 +95,10 @@ where
     }
     match waker {
         Awaiter::Task(waker) => {
-            match waker.clone() {
-                Some(copy) => Some(Kept::Task(copy.into_held().identity().place)),
-                None => None,
+            if waker.held.hold() {
+                Some(Kept::Task(waker.held.identity().place))
+            } else {
+                None
             }
         }
         Awaiter::Outside(waker) => Some(Kept::Outside(waker.clone()?)),

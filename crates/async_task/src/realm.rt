@@ -1,7 +1,7 @@
 //! Where the cells of tasks lie. A cell may keep a waker of another cell of its own type, which no
 //! type can say of itself. So what is stored of a task is the number of its place here, and what is
 //! live is a handle that has the realm at hand and finds the cell by that number.
-ghost use Rattle.std.specs.Prelude.{◌≡◌};
+ghost use Rattle.std.specs.Prelude.{◌≡◌, IfOk};
 ghost use Rattle.std.specs.Arc.{arc_value};
 
 mod pages;
@@ -26,7 +26,9 @@ pub struct Places<C> {
 impl<C: Drop> Places<C> {
     /// New places. One program gives different numbers to any two of them: by its number a task
     /// knows whether a waker is of a task that lies here too.
-    pub fn new(alloc: Global, number: u64) -> Result<Self, NoMemory> {
+    pub fn new(alloc: Global, number: u64) -> Result<Self, NoMemory>
+        ensures { IfOk result (λ places. places.number ≡ number) }
+    {
         match Pages::new(alloc) {
             Ok(pages) => Ok(Places { number, pages }),
             Err(_) => Err(NoMemory),
@@ -34,7 +36,9 @@ impl<C: Drop> Places<C> {
     }
 
     /// The number that the places were made with.
-    pub fn number(&self) -> u64 {
+    pub fn number(&self) -> u64
+        ensures { result ≡ self.now.number }
+    {
         self.number
     }
 
@@ -78,6 +82,7 @@ impl<C: Drop> Places<C> {
     pub fn leak<'r>(alloc: Global, number: u64) -> Result<&'r Self, NoMemory>
     where
         C: 'r,
+        ensures { IfOk result (λ places. places.now.number ≡ number) }
     {
         let Ok(places) = Box::new(alloc, Places::new(alloc, number)?) else {
             return Err(NoMemory);

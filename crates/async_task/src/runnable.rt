@@ -1,5 +1,5 @@
 ghost use Rattle.std.specs.Prelude.{◌≡◌, IfSome};
-ghost use Rattle.async_task.specs.Runs.{EndsRun};
+ghost use Rattle.async_task.specs.Runs.{EndsRun, BeginsAt, EndsAt, IsOf};
 
 use crate::cell::{Held, Scheduled, pay_due};
 use crate::poll::{Future, Poll};
@@ -169,7 +169,9 @@ where
     }
 
     /// Takes the future out: to be polled, or to be dropped where the task is closed.
-    pub fn start(self) -> Started<F, T, S, M, W, R> {
+    pub fn start(self) -> Started<F, T, S, M, W, R>
+        ensures { BeginsAt self result }
+    {
         let Self { held } = self;
         match held.start() {
             Start::Poll(future) => {
@@ -245,13 +247,16 @@ where
     R: Wait + Copy + Drop,
 {
     /// The waker that the future is polled with.
-    pub fn waker(&self) -> &Awaiter<F, T, S, M, W, R> {
+    pub fn waker(&self) -> &Awaiter<F, T, S, M, W, R>
+        ensures { result.now ≡ self.now.waker }
+    {
         &self.waker
     }
 
     /// Ends the run. Where the future has given its output, it is dropped before this call.
     pub fn settle(self, back: Back<F, T>) -> RunEnd<F, T, S, M, W, R>
-        ensures { EndsRun back result }
+        ensures answer { EndsRun back result }
+        ensures task { EndsAt self.waker result }
     {
         let Self { waker, rt } = self;
         let Some(held) = way_of(waker) else {
@@ -309,6 +314,7 @@ where
     M: Drop + 'static,
     W: Wake + Drop + 'static,
     R: Wait + Copy + Drop,
+    ensures { IfSome result (λ held. IsOf waker held) }
 {
     match waker {
         Awaiter::Task(waker) => Some(waker.into_held()),

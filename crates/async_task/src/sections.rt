@@ -5,7 +5,8 @@
 //! Where a call needs that something is so (a Runnable's task is queued), the handles see to that.
 //! A section asks first, and waits for ever where it weren't.
 ghost use Rattle.std.specs.Prelude.{◌≡◌, ◌<◌, ◌^◌, ◌↔◌, true, false, not, if◌then◌else◌};
-ghost use Rattle.std.specs.Prelude.{IsTrue, IsSome, Some, None};
+ghost use Rattle.std.specs.Prelude.{IsTrue, IsSome, IfSome, Some, None};
+ghost use Rattle.async_task.specs.Due.{WasIdle};
 ghost use Rattle.task_moves.specs.declared.local_task.answers.Place.TheVariants.{Home};
 ghost use Rattle.async_task.specs.declared.sections.debts.Ended.TheVariants.{Over};
 ghost use Rattle.task_moves.specs.AbstractTask as abstract;
@@ -55,6 +56,7 @@ fn emptied<F, T, A>(kept: &mut Option<LocalTask<F, T, A>>) -> Option<LocalTask<F
 pub fn wake<F, T, A, R: Wait>(rt: &R, kept: &mut Option<LocalTask<F, T, A>>) -> Option<ScheduleInfo>
     ensures left { Found kept.old (λ old. kept.new ≡ Some (with_task old (abstract.wake old.task))) }
     ensures queue { Found kept.old (λ old. result ≡ info_of old.task (abstract.wake old.task)) }
+    ensures idle { IfSome result WasIdle }
 {
     insist(rt, kept.is_some());
     match kept {
@@ -82,6 +84,7 @@ pub fn release<F, T, A, R: Wait>(rt: &R, kept: &mut Option<LocalTask<F, T, A>>) 
     ensures left { Found kept.old (λ old. kept.new ≡ kept_of (released old)) }
     ensures queue { Found kept.old
         (λ old. result.queue ≡ info_of old.task (abstract.release old.task)) }
+    ensures idle { IfSome result.queue WasIdle }
     ensures emptied { Found kept.old (λ old. result.emptied ≡ emptied_of (released old)) }
 {
     insist(rt, kept.is_some());
@@ -108,6 +111,7 @@ pub fn wake_and_release<F, T, A, R: Wait>(
     ensures left { Found kept.old (λ old. kept.new ≡ kept_of (woken_and_released old)) }
     ensures queue { Found kept.old
         (λ old. result.queue ≡ info_of old.task (abstract.release (abstract.wake old.task))) }
+    ensures idle { IfSome result.queue WasIdle }
     ensures emptied { Found kept.old (λ old. result.emptied ≡ emptied_of (woken_and_released old)) }
 {
     insist(rt, kept.is_some());
@@ -232,6 +236,7 @@ pub fn cancel<F, T, A, R: Wait>(rt: &R, kept: &mut Option<LocalTask<F, T, A>>) -
     ensures left { Found kept.old (λ old. kept.new ≡ Some (cancelled old)) }
     ensures queue { Found kept.old
         (λ old. result.queue ≡ info_of old.task (abstract.cancel old.task).task) }
+    ensures idle { IfSome result.queue WasIdle }
     ensures awaiter { Found kept.old
         (λ old. result.awaiter ≡ finish_answer_by (abstract.cancel old.task).called None) }
     ensures nothing_else { (result.output ≡ None) × (result.emptied ≡ None) }
@@ -254,6 +259,7 @@ pub fn detach<F, T, A, R: Wait>(rt: &R, kept: &mut Option<LocalTask<F, T, A>>) -
     ensures left { Found kept.old (λ old. kept.new ≡ kept_of (detached old)) }
     ensures queue { Found kept.old
         (λ old. result.queue ≡ info_of old.task (abstract.detach old.task).task) }
+    ensures idle { IfSome result.queue WasIdle }
     ensures output { Found kept.old (λ old. result.output ≡ (abstract.detach old.task).dropped) }
     ensures nobody_woken { result.awaiter ≡ finish_answer_by None None }
     ensures emptied { Found kept.old (λ old. result.emptied ≡ emptied_of (detached old)) }

@@ -1,6 +1,8 @@
+ghost use Rattle.std.specs.Prelude.{◌≡◌, true, Some};
+
 /// What wakes whoever is to poll a future again.
 pub trait Wake {
-    ghost use Rattle.std.specs.Prelude.{◌≡◌, IsTrue, IfSome};
+    ghost use Rattle.std.specs.Prelude.{IsTrue, IfSome};
 
     /// That the two wake the same.
     ghost is_same: { Self → Self → Type 0 };
@@ -33,11 +35,15 @@ impl Wake for Nobody {
 
     fn wake_by_ref(&self) {}
 
-    fn clone(&self) -> Option<Self> {
+    fn clone(&self) -> Option<Self>
+        ensures { result ≡ Some self.now }
+    {
         Some(Nobody)
     }
 
-    fn will_wake(&self, other: &Self) -> bool {
+    fn will_wake(&self, other: &Self) -> bool
+        ensures { result ≡ true }
+    {
         let _ = other;
         true
     }

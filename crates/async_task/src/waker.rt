@@ -87,6 +87,7 @@ where
     W: Wake + Drop + 'static,
     R: Wait + Copy + Drop,
 {
+    ghost use Rattle.std.specs.Prelude.{◌↔◌, IsTrue, IfSome};
     ghost use Rattle.async_task.specs.Handles.{IsOfOneTask};
 
     ghost is_same = { λ a b. IsOfOneTask a b };
@@ -102,7 +103,10 @@ where
     }
 
     /// One more, or None where the task has 2^40 references already.
-    fn clone(&self) -> Option<Self> {
+    fn clone(&self) -> Option<Self>
+        ensures same { IfSome result (λ copy. IsOfOneTask copy self.now) }
+        ensures handle { IfSome result (λ copy. copy ≡ self.now) }
+    {
         if self.held.hold() {
             Some(TaskWaker {
                 held: self.held.share(),
@@ -113,7 +117,9 @@ where
     }
 
     /// Whether both are of one task.
-    fn will_wake(&self, other: &Self) -> bool {
+    fn will_wake(&self, other: &Self) -> bool
+        ensures { IsTrue result ↔ IsOfOneTask self.now other.now }
+    {
         self.held.identity() == other.held.identity()
     }
 }
@@ -142,7 +148,8 @@ where
     W: Wake + Drop + 'static,
     R: Wait + Copy + Drop,
 {
-    ghost use Rattle.async_task.specs.Awaiters.{WakeTheSame};
+    ghost use Rattle.std.specs.Prelude.{IsTrue};
+    ghost use Rattle.async_task.specs.Awaiters.{WakeTheSame, Tells};
 
     ghost is_same = { λ a b. WakeTheSame W.is_same a b };
 
@@ -173,7 +180,12 @@ where
         }
     }
 
-    fn will_wake(&self, other: &Self) -> bool {
+    /// Whether both wake the same. Of two wakers of tasks it is known; of one of a task and one
+    /// from outside it never is.
+    fn will_wake(&self, other: &Self) -> bool
+        ensures yes { IsTrue result → WakeTheSame W.is_same self.now other.now }
+        ensures tells { Tells W.is_same self.now other.now result }
+    {
         match (self, other) {
             (Awaiter::Task(one), Awaiter::Task(other)) => one.will_wake(other),
             (Awaiter::Outside(one), Awaiter::Outside(other)) => one.will_wake(other),

@@ -1,4 +1,5 @@
 use concurrent_queue::{NoMemory, PopError, PushError};
+use script::ParseError;
 use std::alloc::{AllocError, AllocFailed};
 use std::{fmt, io};
 
@@ -9,7 +10,7 @@ pub enum Fault {
     Usage,
     /// There was no memory.
     NoMemory,
-    /// A queue answered otherwise than the workload needs.
+    /// What is timed answered otherwise than the workload needs.
     Refused,
     /// The system gave no arguments or no time, or what is printed couldn't be written.
     System,
@@ -58,6 +59,15 @@ impl<T: Drop> From<AllocFailed<T>> for Fault {
 impl From<NoMemory> for Fault {
     fn from(_error: NoMemory) -> Fault {
         Fault::NoMemory
+    }
+}
+
+impl From<ParseError> for Fault {
+    fn from(error: ParseError) -> Fault {
+        match error {
+            ParseError::NoMemory => Fault::NoMemory,
+            ParseError::BadLine(_) => Fault::Refused,
+        }
     }
 }
 

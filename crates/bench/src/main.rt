@@ -10,6 +10,7 @@ mod fault;
 mod hand_over;
 mod line;
 mod queue;
+mod sim;
 mod steps;
 mod task;
 #[cfg(test)]

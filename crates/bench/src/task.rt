@@ -252,22 +252,40 @@ pub fn poll_pending<R: Clock + Wait + Copy + Drop + 'static>(
     Timing::since(&rt, start, moved)
 }
 
-/// As `self_wake`, on a task with one owner: each operation is a start, a wake and the end of a
-/// poll.
-pub fn self_wake_alone<R: Clock>(rt: &R, ops: u64) -> Result<Timing, Fault> {
-    let mut task: LocalTask<Work, u64, u64> = LocalTask::new(Work::WakesItself);
+/// A task with one owner.
+type Alone = LocalTask<Work, u64, u64>;
+
+/// How many such tasks take turns.
+const ALONE: u64 = 64;
+
+/// As `self_wake`, on tasks with one owner: each operation is a start, a wake and the end of a poll of
+/// the next of some tasks.
+pub fn self_wake_alone<R: Clock>(rt: &R, alloc: Global, ops: u64) -> Result<Timing, Fault> {
+    let mut tasks: Vec<Alone> = Vec::new(alloc);
+    for _ in 0..ALONE {
+        tasks.push(LocalTask::new(Work::WakesItself))?;
+    }
     let mut moved = 0u64;
     let start = Instant::now(rt)?;
-    for _ in 0..ops {
-        if !task.is_queued() {
-            return Err(Fault::Refused);
-        }
-        if let Start::Poll(future) = task.start() {
-            let woken = task.wake();
-            if let Settled::Queue(_) = task.settle(Back::Pending(future)) {
-                moved = moved.wrapping_add(u64::from(woken.is_none()));
-            }
+    for number in 0..ops {
+        if let Some(task) = tasks.get_mut((number % ALONE) as usize) {
+            moved = moved.wrapping_add(turn(task));
         }
     }
     Timing::since(rt, start, moved)
+}
+
+/// One poll of the task, in which it is woken. Says how often it was queued by that.
+fn turn(task: &mut Alone) -> u64 {
+    if !task.is_queued() {
+        return 0;
+    }
+    let Start::Poll(future) = task.start() else {
+        return 0;
+    };
+    let woken = task.wake();
+    match task.settle(Back::Pending(future)) {
+        Settled::Queue(_) => u64::from(woken.is_none()),
+        _ => 0,
+    }
 }

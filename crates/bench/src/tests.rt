@@ -26,6 +26,7 @@ fn each_workload_moves_what_it_was_asked_to(rt: HostRuntime) -> Result<(), Fail>
             Workload::FetchAdd
             | Workload::MutexLock
             | Workload::MachineStep
+            | Workload::SimLines
             | Workload::DropHandle
             | Workload::WakeRun
             | Workload::SelfWake

@@ -3,7 +3,7 @@ ghost use Rattle.std.specs.Prelude.{◌<◌, IfSome};
 use crate::fault::Fault;
 use crate::task::Tasks;
 use crate::timing::Timing;
-use crate::{base, hand_over, queue, steps, task};
+use crate::{base, hand_over, queue, sim, steps, task};
 use concurrent_queue::{ConcurrentQueue, Exclusive, NoMemory};
 use std::alloc::{AllocGlobal, Global};
 use std::rt::Clock;
@@ -44,6 +44,8 @@ pub enum Workload {
     UnboundedExclusive,
     /// A step of the step machine, over a thousand futures.
     MachineStep,
+    /// A line of a script of 10,000 lines over a thousand futures, parsed and run.
+    SimLines,
     /// A ready future from its spawn to its output.
     SpawnRun,
     /// A task whose handle is dropped before it is run.
@@ -63,7 +65,7 @@ pub enum Workload {
 }
 
 /// Every workload, in the order in which they are listed and run.
-pub const ALL: [Workload; 26] = [
+pub const ALL: [Workload; 27] = [
     Workload::FetchAdd,
     Workload::MutexLock,
     Workload::Single,
@@ -82,6 +84,7 @@ pub const ALL: [Workload; 26] = [
     Workload::Ring1024Exclusive,
     Workload::UnboundedExclusive,
     Workload::MachineStep,
+    Workload::SimLines,
     Workload::SpawnRun,
     Workload::DropHandle,
     Workload::WakeRun,
@@ -115,6 +118,7 @@ impl Workload {
             Workload::Ring1024Exclusive => "queue/ring-1024@exclusive",
             Workload::UnboundedExclusive => "queue/unbounded@exclusive",
             Workload::MachineStep => "machine/step",
+            Workload::SimLines => "sim/lines",
             Workload::SpawnRun => "task/spawn-run",
             Workload::DropHandle => "task/drop-handle",
             Workload::WakeRun => "task/wake-run",
@@ -143,6 +147,7 @@ impl Workload {
             | Workload::WakeRun
             | Workload::SelfWake => 2_000_000,
             Workload::SpawnRun | Workload::DropHandle => 1_000_000,
+            Workload::SimLines => 200_000,
             _ => 10_000_000,
         }
     }
@@ -178,6 +183,7 @@ impl Workload {
                 ops,
             ),
             Workload::MachineStep => steps::run(rt, ops),
+            Workload::SimLines => sim::lines(rt, ops),
             Workload::SpawnRun => task::spawn_run(*rt, alloc, realm, ops),
             Workload::DropHandle => task::drop_handle(*rt, alloc, realm, ops),
             Workload::WakeRun => task::wake_run(*rt, alloc, realm, ops),
@@ -185,7 +191,7 @@ impl Workload {
             Workload::WakeTwice => task::wake_twice(*rt, alloc, realm, ops),
             Workload::WakerClone => task::waker_clone(*rt, alloc, realm, ops),
             Workload::PollPending => task::poll_pending(*rt, alloc, realm, ops),
-            Workload::SelfWakeLocalTask => task::self_wake_alone(rt, ops),
+            Workload::SelfWakeLocalTask => task::self_wake_alone(rt, alloc, ops),
             _ => self.run_on_shared_queue(rt, ops),
         }
     }

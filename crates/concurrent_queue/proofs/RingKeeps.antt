@@ -345,14 +345,14 @@ module _ {T : Type 0} (n m : ℕ) where
   closes c id me prior mark k same power =
       subst (λ (z : ℕ). Allows (RingRule {T = T} n m) c id me 0 (λ y. bit_or y z) (saw SawTail prior me)) (sym same) (closes_by c id me prior k power)
 
-  -- a seat comes
-  pub enters : (c : ℕ) (v : Doing) → Enters (RingRule {T = T} n m) c 0 (λ x w. saw {T = T} SawTail [] (v, []) x (w, []))
-  enters c v s r wide _ = let x : ℕ = get_or s.words 0 0 in let w = doing SawTail r.pushed 0 x 0 (x ∷ []) in (
+  -- a seat comes, by a load of any word
+  pub enters : (c i : ℕ) → Enters (RingRule {T = T} n m) c i (λ x w. looked {T = T} (doing Idle 0 0 0 0 [], []) x (w, []))
+  enters c i s r wide _ = let x : ℕ = get_or s.words i 0 in let w = doing Idle 0 0 0 0 (x ∷ []) in (
     w,
     reviewed n m s r (s.views ++ w ∷ [])
-        (λ j d e. ⊎_elim (r.each_seat j d) (λ (is : w ≡ d). subst (λ (z : Doing). Knows n m r.pushed r.popped j z.at z.place z.word z.stamp (r.cells z.place) z.stage) is (le_refl r.pushed, (r.shut, r.shut_once, r.tail_is)))
+        (λ j d e. ⊎_elim (r.each_seat j d) (λ (is : w ≡ d). subst (λ (z : Doing). Knows n m r.pushed r.popped j z.at z.place z.word z.stamp (r.cells z.place) z.stage) is tt)
         (at_snoc s.views w d j e)),
-    (r.pushed, refl),
+    refl,
   )
 
 blank : {T : Type 0} (n i : ℕ) → i < n → get_elem? (map some (replicate {A = Option T} n None)) i ≡ some (some None)

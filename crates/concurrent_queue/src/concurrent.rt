@@ -20,8 +20,8 @@ pub struct ConcurrentQueue<T> {
     kept: Kept<T>,
 }
 
-// Each representation stands under a lock, and a call is one section of that lock. Of what it guards a section knows
-// whether it is bounded only once it has asked for the capacity.
+// A chain stands under a lock, and a call on it is one section of that lock. Of what it guards a section knows whether it
+// is bounded only once it has asked for the capacity.
 #[derive(Drop)]
 enum Kept<T> {
     Single(SlotTable<T>),
@@ -67,6 +67,7 @@ impl<T: Drop> ConcurrentQueue<T> {
     ///
     /// A closed queue answers `Closed`, also where it is full, and else a full one `Full`. Only an unbounded queue takes
     /// memory, and answers `NoMemory` where there is none. The push of item 2^61 + 1 closes a ring or a chain instead.
+    #[inline]
     pub fn push<R: Wait>(&self, rt: &R, value: T) -> Result<(), PushError<T>>
         ensures { MayPush self.now.capacity value result }
     {
@@ -76,7 +77,8 @@ impl<T: Drop> ConcurrentQueue<T> {
             Kept::Unbounded(lock) => {
                 let mut chain = lock.lock(rt);
                 let _capacity = chain.capacity();
-                chain.push(value)
+                chain.push(value)?;
+                Ok(())
             }
         }
     }
@@ -100,11 +102,15 @@ impl<T: Drop> ConcurrentQueue<T> {
     }
 
     /// Takes out the oldest item. Without one a closed queue answers `Closed`, and an open one `Empty`.
+    #[inline]
     pub fn pop<R: Wait>(&self, rt: &R) -> Result<T, PopError> {
         match &self.kept {
             Kept::Single(slot) => slot.pop(rt),
             Kept::Bounded(ring, _) => ring.pop(rt),
-            Kept::Unbounded(lock) => lock.lock(rt).pop(),
+            Kept::Unbounded(lock) => {
+                let item = lock.lock(rt).pop()?;
+                Ok(item)
+            }
         }
     }
 

@@ -10,8 +10,8 @@ pub mod rule;
 
 use crate::glimpse::{Glimpse, TRIES};
 use atomic_table::Table;
-use moves::{HEAD, Pass, STAMPS, TAIL};
-use plays::BeginTail;
+use moves::{HEAD, Pass, STAMPS, TAIL, UNUSED};
+use plays::Look;
 use queue_steps::NoMemory;
 use queue_steps::steps::Reply;
 use queue_steps::steps::bounded::{self as steps, Shape, Turn};
@@ -58,11 +58,13 @@ impl<T> RingTable<T> {
         Ok(RingTable { board, shape })
     }
 
-    // A seat has no bytes, and goes when the call ends.
+    // A seat has no bytes, and goes when the call ends. The word that it is taken by is one that no call writes, so that
+    // a pop doesn't look where pushes write.
+    #[inline(always)]
     fn pass(&self) -> Pass<T>
         ensures { IsFreeSeatOf self.now.board.shared self.now.shape result }
     {
-        self.board.shared.load_new_seat::<BeginTail>(TAIL).1
+        self.board.shared.load_new_seat::<Look>(UNUSED).1
     }
 
     /// Its length and whether it is closed, each read at a moment of its own. It waits for nobody, and answers `None`

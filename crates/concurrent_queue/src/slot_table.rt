@@ -30,6 +30,7 @@ impl<T> SlotTable<T> {
     }
 
     // A seat has no bytes, and goes when the call ends.
+    #[inline(always)]
     fn pass(&self) -> Pass<T>
         ensures { IsSeatOf self.now.board.shared result }
     {

@@ -2,12 +2,15 @@
 ghost use Rattle.std.specs.Prelude.{◌≡◌, ◌⊎◌, ℕ, ◌+◌, ◌<◌, ◌≤◌, Some, None, Ok, Err, vec_len, vec_capacity, OnOk, IfOk, IfErr, IfSome, MatchOption, slice_get, take, List, length, map};
 ghost use Rattle.executor_model.specs.Steps as steps;
 ghost use Rattle.executor_model.specs.AskedPolls.{IsWokenBetweenPolls};
+ghost use Rattle.executor_model.specs.AwaiterKept.{AwaiterIsKept};
 ghost use Rattle.executor_model.specs.DroppedOnce.{DropComesOnce, IsDroppedByTheEnd};
 ghost use Rattle.executor_model.specs.EarlyDrop.{EarlyDropHasCause};
 ghost use Rattle.executor_model.specs.LawfulPolls.{HasLawfulPolls};
+ghost use Rattle.executor_model.specs.OutputKept.{OutputIsKept};
 ghost use Rattle.executor_model.specs.OutputOnce.{OutputGoesOnce};
 ghost use Rattle.executor_model.specs.Runs.{run_all};
 ghost use Rattle.executor_model.specs.World.{awaiter_of};
+ghost use Rattle.executor_laws.specs.Reach.{IsInReach};
 ghost use Rattle.executor_core.specs.Views.{world_of, state_of, HasRoom, HasSpace};
 ghost use Rattle.executor_core.specs.Reached.{IsReached};
 ghost use Rattle.executor_core.specs.Refused.{IsRefused};
@@ -16,9 +19,11 @@ use crate::entries::Entries;
 use crate::part::take_part;
 use crate::possible::{has_handle, part_refusal};
 use crate::store::Store;
+use executor_laws::laws::common_futures_are_in_reach;
+use executor_model::laws::outputs_are_kept;
 use executor_model::trace_laws::{
-    closing_drops_each_future_once, drops_come_once, early_drops_have_causes, outputs_go_once,
-    polls_are_asked_for, polls_are_lawful,
+    awaiters_are_kept, closing_drops_each_future_once, drops_come_once, early_drops_have_causes,
+    outputs_go_once, polls_are_asked_for, polls_are_lawful,
 };
 use executor_model::{Awaiter, Event, Kind, Op, Step, StepError};
 use std::alloc::{AllocError, Global};
@@ -150,7 +155,7 @@ impl Machine {
     }
 
     /// Steps until one is refused. Says the place of that one, and why, if one was. What holds of every trace holds
-    /// of this machine's then: each such law has a clause here.
+    /// of this machine's then, and what holds of every machine of this one: each such law has a clause here.
     pub fn run(&mut self, list: &[Step]) -> Option<(usize, StepError)>
         ensures made { MatchOption result (run_all list.now self.old ≡ Ok self.new) (λ r. run_all (take r.0 list.now) self.old ≡ Ok self.new) }
         ensures refused { IfSome result (λ r. (t : Step) × (slice_get list.now r.0 ≡ Some t) × IsRefused self.new t r.1) }
@@ -160,6 +165,9 @@ impl Machine {
         ensures drops_come_once { (f : ℕ) → DropComesOnce f self.new.world.trace }
         ensures early_drops_have_causes { (f : ℕ) → EarlyDropHasCause f self.new.world.trace }
         ensures closing_drops { (f : ℕ) → IsDroppedByTheEnd f self.new.world.trace }
+        ensures outputs_are_kept { (f : ℕ) → OutputIsKept self.new f }
+        ensures awaiters_are_kept { (f : ℕ) → AwaiterIsKept f self.new.world.trace }
+        ensures in_reach { IsInReach self.new }
     {
         let refused = self.run_on(list);
         polls_are_lawful();
@@ -168,6 +176,9 @@ impl Machine {
         drops_come_once();
         early_drops_have_causes();
         closing_drops_each_future_once();
+        outputs_are_kept();
+        awaiters_are_kept();
+        common_futures_are_in_reach();
         refused
     }
 

@@ -1,13 +1,11 @@
 -- What the automata tell of a future is what the definition of due says.
-use Rattle.std.proofs.Common.{◌≡◌, ◌≢◌, ◌⊎◌, ℕ, Bool, true, false, ◌||◌, ◌&&◌, not, cond, eqb, ◌==◌, List, [], ◌∷◌, ◌++◌, refl, sym, ap, ◌∙◌, subst, inl, inr, append_assoc, append-nil}
-use Rattle.std.specs.List.{list_any, after_last}
-use Rattle.executor_model.specs.declared.event.Answer.{Answer}
+use Rattle.std.proofs.Common.{◌≡◌, ◌≢◌, ℕ, Bool, true, false, ◌||◌, cond, ◌==◌, [], ◌∷◌, ◌++◌, refl, sym, ap, ◌∙◌, subst, append_assoc, append-nil}
 use Rattle.executor_model.specs.declared.event.Answer.TheVariants.{Pending, Ready}
 use Rattle.executor_model.specs.declared.event.Event.{Event}
 use Rattle.executor_model.specs.declared.event.Event.TheVariants.{Accepted, PollBegun, Answered, Woken, Cancelled, Dropped}
-use Rattle.executor_model.specs.Trace.{Trace, has, is_accepted, is_poll, is_answer, is_ready, is_woken, is_cancelled, is_dropped}
-use Rattle.executor_model.specs.Due.{is_request, since_poll, HasOpenPoll, IsDue}
-use Rattle.executor_model.specs.Sound.{Phase, after_begun, after_answered, after_dropped, passes, phase_from, phase}
+use Rattle.executor_model.specs.Trace.{Trace, has, is_poll, is_answer, is_ready, is_dropped}
+use Rattle.executor_model.specs.Due.{is_request, since_poll, HasOpenPoll}
+use Rattle.executor_model.specs.Sound.{Phase, after_begun, after_answered, after_dropped, passes, phase}
 use Rattle.executor_model.specs.Sound.Phase.{Fresh, Polling, Over, Broken}
 use Rattle.executor_model.proofs.Lists.{phase-push}
 use Rattle.executor_model.proofs.Requests.{Request, notes, request, request-push, request-none}

@@ -1,8 +1,7 @@
 -- Calls end: each step that begins none lowers the steps that remain, and a party that has something to do can go on.
-use Rattle.std.proofs.Common.{◌≡◌, ℕ, zero, suc, ◌+◌, ◌-◌, ◌<◌, ◌≤◌, List, [], ◌∷◌, ◌++◌, length, set, get_or, take, Bool, true, false, ◌&&◌, not, ltb, refl, sym, ap, ◌∙◌, subst, arith, append-nil, Ok, Err, Result}
+use Rattle.std.proofs.Common.{◌≡◌, ℕ, ◌+◌, ◌<◌, ◌≤◌, List, [], ◌∷◌, ◌++◌, length, set, Bool, true, false, ◌&&◌, not, ltb, refl, ap, ◌∙◌, arith, Ok, Err, Result}
 use Rattle.std.proofs.lemmas.Bool.Decides.{nat_tests}
 use Rattle.std.specs.Prelude.{Option, Some, None, reverse}
-use Rattle.executor_model.specs.declared.call.Reply.{Reply}
 use Rattle.executor_model.specs.declared.event.Answer.TheVariants as answer
 use Rattle.executor_model.specs.declared.event.Event.TheVariants as event
 use Rattle.executor_model.specs.declared.op.Op.{Op}
@@ -14,12 +13,12 @@ use Rattle.executor_model.specs.declared.step.StepError.{StepError}
 use Rattle.executor_model.specs.declared.step.StepError.TheVariants.{NoSuch, WrongAnswer}
 use Rattle.executor_model.specs.declared.step.UserEnd.{UserEnd}
 use Rattle.executor_model.specs.declared.step.UserEnd.TheVariants as end
-use Rattle.executor_model.specs.World.{World, Done, done, log}
+use Rattle.executor_model.specs.World.{World, Done}
 use Rattle.executor_model.specs.Acts.{act}
 use Rattle.executor_model.specs.Weights.{weigh, weigh_all}
-use Rattle.executor_laws.specs.Remaining.{steps_of, steps_kept, remaining, is_onward, are_onward, LowersRemaining, EndsWithin, CanGoOn, GoesOn}
+use Rattle.executor_laws.specs.Remaining.{steps_of, steps_kept, remaining, is_onward, are_onward, LowersRemaining, EndsWithin, GoesOn}
 use Rattle.executor_model.specs.Runs.{run_all}
-use Rattle.executor_model.specs.Steps.{Machine, stack, top, below_top, waits, go_refusal, answer_refusal, accepts, unless, party_of, part_refusal, refusal, react, Part, part, end_of, settled_by, settled, onto, gone_on, part_after, with_part, after, step_by, step}
+use Rattle.executor_model.specs.Steps.{Machine, stack, top, below_top, waits, go_refusal, answer_refusal, accepts, unless, refusal, react, end_of, settled_by, onto, gone_on, with_part, after, step_by, step}
 use Rattle.executor_model.proofs.Lists.{weigh_all-push, weigh_all-set, weigh-append}
 use Rattle.executor_model.proofs.Lift.{split, topped}
 use Rattle.executor_laws.proofs.Spending.{Spends, kept-log}
@@ -36,14 +35,14 @@ onto-less s p o d l e k =
     let rest : List Op = below_top (stack s p) in
     omega (arith, k, settled-less s p d.world (rest ++ reverse d.next) _ l refl, weigh_all-push steps_of s.parties p rest d.next l, split steps_of s.parties p (o ∷ []) rest l (topped _ o e))
 
-goes : (o : Op) → go_refusal (Some o) ≡ None → waits o ≡ false
+pub goes : (o : Op) → go_refusal (Some o) ≡ None → waits o ≡ false
 goes o k = by (waits o) k
   where
     by : (b : Bool) → unless (not b) WrongAnswer None ≡ None → b ≡ false
     by true q = absurd (cc)
     by false q = refl
 
-answers : (o : Op) (e : UserEnd) → answer_refusal (Some o) e ≡ None → accepts o e ≡ true
+pub answers : (o : Op) (e : UserEnd) → answer_refusal (Some o) e ≡ None → accepts o e ≡ true
 answers o e k = by (accepts o e) k
   where
     by : (b : Bool) → unless b WrongAnswer None ≡ None → b ≡ true

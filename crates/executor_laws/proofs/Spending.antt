@@ -1,6 +1,5 @@
 -- What each thing that is done spends of the steps that remain.
-use Rattle.std.proofs.Common.{◌≡◌, ℕ, zero, suc, ◌+◌, ◌*◌, ◌<◌, ◌≤◌, List, [], ◌∷◌, ◌++◌, length, set, get_or, drop, Bool, true, false, ◌||◌, ◌&&◌, not, cond, refl, sym, ap, ◌∙◌, subst, arith}
-use Rattle.std.proofs.lemmas.List.{length_push}
+use Rattle.std.proofs.Common.{◌≡◌, ℕ, zero, suc, ◌+◌, ◌*◌, ◌≤◌, List, [], ◌∷◌, ◌++◌, length, set, get_or, Bool, true, false, ◌||◌, ◌&&◌, not, cond, refl, ap, arith}
 use Rattle.std.specs.Prelude.{Option, Some, None}
 use Rattle.task_moves.specs.declared.moves.state.State.{State}
 use Rattle.task_moves.specs.declared.moves.owed.Owed.{Owed}
@@ -9,9 +8,7 @@ use Rattle.task_moves.specs.declared.moves.owed.Move.TheVariants.{Release}
 use Rattle.task_moves.specs.Moves as moves
 use Rattle.executor_model.specs.declared.event.Event.{Event}
 use Rattle.executor_model.specs.declared.op.Awaiter.{Awaiter}
-use Rattle.executor_model.specs.declared.op.Op.{Op}
-use Rattle.executor_model.specs.declared.op.Op.TheVariants as op
-use Rattle.executor_model.specs.World.{World, Done, done, log, log_if, task, put, put_awaiter, awaiter_of, blank, without, among}
+use Rattle.executor_model.specs.World.{World, Done, log, log_if, task, put, put_awaiter, awaiter_of, blank, without, among}
 use Rattle.executor_model.specs.Carried.{carried, owed_ops, schedule_ops, drop_ops, future_ops, output_ops, awaiter_ops, next_ops}
 use Rattle.executor_model.specs.Weights.{weigh}
 use Rattle.executor_laws.specs.Remaining.{steps_of, stored, keeps_output, outputs_kept, steps_kept}

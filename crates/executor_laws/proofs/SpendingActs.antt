@@ -1,15 +1,14 @@
 -- Each thing that is done spends a step of those that remain.
-use Rattle.std.proofs.Common.{◌≡◌, ℕ, ◌+◌, ◌*◌, ◌<◌, ◌≤◌, List, [], ◌∷◌, ◌++◌, length, drop, Bool, true, false, ◌||◌, ◌&&◌, not, refl, sym, ap, ◌∙◌, subst, arith}
+use Rattle.std.proofs.Common.{◌≡◌, ℕ, ◌+◌, ◌*◌, ◌≤◌, List, [], ◌∷◌, ◌++◌, length, drop, Bool, true, false, ◌&&◌, refl, ap, arith}
 use Rattle.std.proofs.lemmas.List.{length_push}
 use Rattle.std.specs.Prelude.{Option, Some, None}
-use Rattle.queue_steps.specs.ClosableQueue.{appended, taken, shut}
+use Rattle.queue_steps.specs.ClosableQueue.{appended, taken}
 use Rattle.task_moves.specs.declared.moves.state.State.{State}
 use Rattle.task_moves.specs.declared.moves.owed.Moved.{Moved}
 use Rattle.task_moves.specs.declared.moves.owed.Answer.{Answer}
 use Rattle.task_moves.specs.declared.moves.owed.Answer.TheVariants.{Pending, Closed, Output}
 use Rattle.task_moves.specs.Moves as moves
 use Rattle.executor_model.specs.declared.event.Answer.TheVariants as answer
-use Rattle.executor_model.specs.declared.event.Event.{Event}
 use Rattle.executor_model.specs.declared.event.Event.TheVariants as event
 use Rattle.executor_model.specs.declared.op.Awaiter.{Awaiter}
 use Rattle.executor_model.specs.declared.op.Hold.{Hold}
@@ -21,14 +20,14 @@ use Rattle.executor_model.specs.declared.op.Op.TheVariants as op
 use Rattle.executor_model.specs.declared.step.Hint.{Hint}
 use Rattle.executor_model.specs.declared.step.UserEnd.{UserEnd}
 use Rattle.executor_model.specs.declared.step.UserEnd.TheVariants as end
-use Rattle.executor_model.specs.World.{World, Done, done, log, log_if, task, put, put_awaiter, awaiter_of, without, among}
-use Rattle.executor_model.specs.Carried.{carried, awaiter_ops}
+use Rattle.executor_model.specs.World.{World, Done, done, log, task, put, awaiter_of, without, among}
+use Rattle.executor_model.specs.Carried.{awaiter_ops}
 use Rattle.executor_model.specs.Acts.{append_by, take_by, enter_by, entered, emptiness, take_to_drop, leave_by, copy_by, polled, reply_of, is_output, answered, look_by, look_again_by, copied, copy_awaiter_by, register_by, waker_goes, let_go, end_register_by, notify_by, told, end_notify, call_awaiter, closing_ops, take_out, drop_next_by, followed, wake, wake_next_by, drain_by, act}
 use Rattle.executor_model.specs.Weights.{weigh}
 use Rattle.executor_laws.specs.Remaining.{steps_of, stored, keeps_output, outputs_kept, steps_kept}
 use Rattle.executor_model.specs.Steps.{waits, accepts, react}
 use Rattle.executor_model.proofs.Lists.{weigh-append}
-use Rattle.executor_laws.proofs.Spending.{Spends, Costs, kept-parts, outputs-push, one_stored, stored-push, without-one, kept-put, kept-put_awaiter, kept-log, kept-log_if, notify-steps, notify_other-steps, spends-carried, spends-logged, costs-wake, costs-waking, costs-release, costs-take_up, costs-settle_closed, costs-give_up, costs-end_ready, costs-end_pending, costs-end_closed, costs-drop_runnable, costs-cancel, costs-detach}
+use Rattle.executor_laws.proofs.Spending.{Spends, kept-parts, outputs-push, one_stored, stored-push, without-one, kept-put, kept-put_awaiter, kept-log, kept-log_if, notify_other-steps, spends-carried, spends-logged, costs-wake, costs-waking, costs-release, costs-take_up, costs-settle_closed, costs-give_up, costs-end_ready, costs-end_pending, costs-end_closed, costs-drop_runnable, costs-cancel, costs-detach}
 
 -- queue and table
 

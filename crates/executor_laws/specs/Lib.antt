@@ -1,3 +1,6 @@
 pub mod Remaining
-pub mod HandingOn
 pub mod Ticks
+pub mod Reach
+pub mod Queueings
+pub mod Continued
+pub mod AtRest

@@ -327,13 +327,13 @@ none_refused true false c d e = absurd (cc)
 none_refused false b c d e = absurd (cc)
 
 -- a future whose handle is there is one
-handle-known : (w : World) (f : ℕ) → (task w f).handle ≡ true → past (length w.tasks) f ≡ 0
+pub handle-known : (w : World) (f : ℕ) → (task w f).handle ≡ true → past (length w.tasks) f ≡ 0
 handle-known w f e = ⊎_elim (λ x. x.0) (λ (x : (past (length w.tasks) f ≡ 1) × (length w.tasks ≤ f)). absurd (false_true (ap (λ (t : State). t.handle) (sym (get_or_past w.tasks f blank x.1)) ∙ e))) (past_is (length w.tasks) f).1
   where
     false_true : false ≡ true → ⊥
     false_true z = cc
 
-first-true : (a b : Bool) → (a && b) ≡ true → a ≡ true
+pub first-true : (a b : Bool) → (a && b) ≡ true → a ≡ true
 first-true a b e = grind (arith, nat_tests)
 
 kept-known : (w : World) (k f : ℕ) → Fits w → slice_get w.wakers k ≡ Some (Some f) → past (length w.tasks) f ≡ 0

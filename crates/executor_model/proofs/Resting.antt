@@ -50,17 +50,17 @@ ground-rest : (rest xs ys : List Op) → (Grounded xs → Grounded ys) → Groun
 ground-rest [] xs ys k h = k h
 ground-rest (o ∷ os) xs ys k h = h
 
-reverse-last : (xs ys : List Op) (x : Op) → reverse_aux (xs ++ x ∷ []) ys ≡ x ∷ reverse_aux xs ys
+pub reverse-last : (xs ys : List Op) (x : Op) → reverse_aux (xs ++ x ∷ []) ys ≡ x ∷ reverse_aux xs ys
 reverse-last [] ys x = refl
 reverse-last (y ∷ xs) ys x = reverse-last xs (y ∷ ys) x
 
 ground-answering : (next : List Op) → Answering next → Grounded (reverse next)
 ground-answering next a = subst (λ (xs : List Op). Grounded (reverse xs)) (sym a.is) (subst Grounded (sym (reverse-last a.front [] a.last)) a.call)
 
-counts-answering : (next : List Op) → Answering next → weigh calling_of next ≡ 1
+pub counts-answering : (next : List Op) → Answering next → weigh calling_of next ≡ 1
 counts-answering next a = ap (weigh calling_of) a.is ∙ omega (arith, weigh-append calling_of a.front (a.last ∷ []), a.none, a.call)
 
-calling-is : (o : Op) → (calling_of o ≡ 0) ⊎ (calling_of o ≡ 1)
+pub calling-is : (o : Op) → (calling_of o ≡ 0) ⊎ (calling_of o ≡ 1)
 calling-is op.Enter = inr refl
 calling-is op.Take = inr refl
 calling-is op.LookAtTable = inr refl
@@ -147,7 +147,7 @@ left-true : (a b : Bool) → (a && b) ≡ true → a ≡ true
 left-true true b e = refl
 left-true false b e = absurd (cc)
 
-opens : (p : ℕ) (w : World) (ss : List (List Op)) (o : Option Op) (c : Call) → has_all w ss o c ≡ true → Opens w p c (begun p (log w (event.CallBegun p c)) (polled_by o) c)
+pub opens : (p : ℕ) (w : World) (ss : List (List Op)) (o : Option Op) (c : Call) → has_all w ss o c ≡ true → Opens w p c (begun p (log w (event.CallBegun p c)) (polled_by o) c)
 opens p w ss o call.Spawn k = (steady-same _ _ refl, single _ refl)
 opens p w ss o call.TryTick k = (steady-same _ _ refl, single _ refl)
 opens p w ss o call.IsEmpty k = (steady-same _ _ refl, single _ refl)
@@ -187,7 +187,7 @@ deep-moves s p old rest d good l e (called c q r n z) h =
 deep-ends : (s : Machine) (p : ℕ) (a : Reply) (held : Hold) (below : List Op) → p < length s.parties → stack s p ≡ below ++ reverse (op.End a held ∷ []) → Deep s → Deep (unsettled s p below (done (log s.world (event.CallEnded p a)) []))
 deep-ends s p a held below l e h = ended-call s p a held below l e h
 
-idle-stack : (n q : ℕ) → get_or (idle n) q [] ≡ []
+pub idle-stack : (n q : ℕ) → get_or (idle n) q [] ≡ []
 idle-stack zero q = refl
 idle-stack (suc n) zero = refl
 idle-stack (suc n) (suc q) = idle-stack n q

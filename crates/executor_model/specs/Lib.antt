@@ -20,3 +20,6 @@ pub mod Limit
 pub mod AskedPolls
 pub mod Emptiness
 pub mod Memory
+pub mod OutputKept
+pub mod AwaiterKept
+pub mod HandingOn

@@ -1,9 +1,9 @@
 -- What holds of every run, whatever the parties do and in whatever order.
-use Rattle.std.specs.Prelude.{◌≡◌, ◌≢◌, ℕ, ◌+◌, ◌≤◌, List, [], ◌∷◌, Result, Ok, Err, Bool, true, false}
+use Rattle.std.specs.Prelude.{◌≡◌, ℕ, ◌+◌, ◌≤◌, List, [], ◌∷◌, Result, Ok, Err}
 use Rattle.executor_model.specs.declared.step.Step.{Step}
 use Rattle.executor_model.specs.declared.step.StepError.{StepError}
-use Rattle.executor_model.specs.World.{World, task}
-use Rattle.executor_model.specs.Steps.{Machine, step, stepped, run, start}
+use Rattle.executor_model.specs.World.{task}
+use Rattle.executor_model.specs.Steps.{Machine, step, run, start}
 use Rattle.executor_model.specs.Sound.{pend, tokens, living, phase}
 use Rattle.executor_model.specs.Sound.Phase.{Broken}
 
@@ -20,18 +20,6 @@ IsCounted s f = (task s.world f).references ≡ tokens s.world f (pend f s.parti
 -- there is at most one Runnable, run or closing call of f
 abbrev pub HasOneRunnable : Machine → ℕ → Type 0
 HasOneRunnable s f = tokens s.world f (pend f s.parties) ≤ 1
-
--- no Runnable or run of f is there, and its task is open
-pub record IsIdle (w : World) (f : ℕ) : Type 0 where
-  pub unscheduled : (task w f).scheduled ≡ false
-  pub stopped : (task w f).running ≡ false
-  pub incomplete : (task w f).completed ≡ false
-  pub unclosed : (task w f).closed ≡ false
-
--- a step that sets the scheduled mark of an idle task, as a wake does, hands out one Runnable where there was none
-abbrev pub HandsOutOne : Machine → ℕ → Type 0
-HandsOutOne s f = (t : Step) → IsIdle s.world f → (task (stepped s (step s t)).world f).scheduled ≡ true →
-    (tokens s.world f (pend f s.parties) ≡ 0) × (tokens (stepped s (step s t)).world f (pend f (stepped s (step s t)).parties) ≡ 1)
 
 -- these steps in order, each of which is possible, or why the first that isn't is refused
 abbrev pub run_all : List Step → Machine → Result Machine StepError

@@ -1,9 +1,10 @@
 -- A trace is the list of what happened, in order. Here are the questions that are asked of one event.
 use Rattle.std.specs.Prelude.{ℕ, ◌==◌, Bool, true, false, ◌||◌, List, filter}
 use Rattle.std.specs.List.{list_any}
+use Rattle.executor_model.specs.declared.call.Call.TheVariants.{Detach, DropHandle}
 use Rattle.executor_model.specs.declared.event.Answer.TheVariants.{Ready}
 use Rattle.executor_model.specs.declared.event.Event.{Event}
-use Rattle.executor_model.specs.declared.event.Event.TheVariants.{Accepted, PollBegun, Answered, Woken, Cancelled, Detached, Dropped, OutputDropped, DropBegun, DropEnded}
+use Rattle.executor_model.specs.declared.event.Event.TheVariants.{CallBegun, Accepted, PollBegun, Answered, Woken, Cancelled, Detached, Dropped, OutputDropped, DropBegun, DropEnded}
 
 abbrev pub Trace : Type 0
 Trace = List Event
@@ -43,6 +44,12 @@ is_dropped f _ = false
 abbrev pub is_output_dropped : ℕ → Event → Bool
 is_output_dropped f (OutputDropped p g) = f == g
 is_output_dropped f _ = false
+
+-- a call begins that takes the handle of future f by value
+abbrev pub takes_handle : ℕ → Event → Bool
+takes_handle f (CallBegun p (Detach g)) = f == g
+takes_handle f (CallBegun p (DropHandle g)) = f == g
+takes_handle f _ = false
 
 abbrev pub is_drop_begun : Event → Bool
 is_drop_begun (DropBegun p) = true

@@ -1,10 +1,13 @@
 //! Laws of every run of the machine, of any number of parties and any list of steps.
 ghost use Rattle.std.specs.Prelude.{ℕ};
+ghost use Rattle.executor_model.specs.declared.step.Hint.{Hint};
 ghost use Rattle.executor_model.specs.Emptiness.{IsEmptinessExact, IsQuietEmptinessExact};
 ghost use Rattle.executor_model.specs.Entries.{FindsPlace, QueueAgrees, TableAgrees};
+ghost use Rattle.executor_model.specs.HandingOn.{HandsOn, IsOnItsWay};
 ghost use Rattle.executor_model.specs.Limit.{IsLimitExact};
 ghost use Rattle.executor_model.specs.Memory.{NeedsNoMemory};
-ghost use Rattle.executor_model.specs.Runs.{EveryMachine, EveryRun, HandsOutOne, HasOneRunnable, IsCounted};
+ghost use Rattle.executor_model.specs.OutputKept.{OutputIsKept};
+ghost use Rattle.executor_model.specs.Runs.{EveryMachine, EveryRun, HasOneRunnable, IsCounted};
 ghost use Rattle.executor_model.specs.World.{World};
 
 /// Whatever the parties do, a task's count is its living wakers, and one for a Runnable, a run or a
@@ -46,12 +49,6 @@ pub fn emptiness_is_exact()
     ensures { EveryMachine IsEmptinessExact }
 {}
 
-/// Whatever the parties do, a step that sets the scheduled mark of a task that is open, not scheduled and
-/// not running hands out one Runnable of it, where there was none before.
-pub fn wakes_hand_out_one()
-    ensures { EveryRun HandsOutOne }
-{}
-
 /// Where no call is in progress and the drop of the executor hasn't begun, a call that asks whether the
 /// executor is empty, with no step of another party in between, is answered yes or no, and yes exactly
 /// where each accepted future is dropped.
@@ -64,4 +61,20 @@ pub fn quiet_emptiness_is_exact()
 /// memory is refused or not. So no wake, cancel, detach or drop is ever refused, nor is a tick.
 pub fn wakes_and_drops_take_no_memory()
     ensures { (w : World) (p : ℕ) → NeedsNoMemory w p }
+{}
+
+/// Where no call is in progress, an output that is there is given to the next poll of the handle: if the future
+/// was ready, nobody has cancelled it, no poll was given the output and no call has taken the handle, then a
+/// poll of the handle, with no step of another party in between, gives the output, whoever makes it.
+pub fn outputs_are_kept()
+    ensures { EveryRun OutputIsKept }
+{}
+
+/// A wake that marks a task as scheduled hands on exactly one Runnable where the task isn't running.
+/// Where it is, the end of the poll does, unless the task is closed by then. A wake of a marked task
+/// hands on none. Whatever the parties do, a marked task has one Runnable, run or closing call, and one
+/// that is open and neither marked nor running has none.
+pub fn wakes_are_handed_on()
+    ensures handed { (w : World) (f p : ℕ) (h : Hint) → HandsOn w f p h }
+    ensures marked { EveryRun IsOnItsWay }
 {}

@@ -1,5 +1,6 @@
 //! Laws of the trace of every run, of any number of parties and any list of steps.
 ghost use Rattle.executor_model.specs.AskedPolls.{IsWokenBetweenPolls};
+ghost use Rattle.executor_model.specs.AwaiterKept.{AwaiterIsKept};
 ghost use Rattle.executor_model.specs.DroppedOnce.{DropComesOnce, IsDroppedByTheEnd};
 ghost use Rattle.executor_model.specs.EarlyDrop.{EarlyDropHasCause};
 ghost use Rattle.executor_model.specs.EveryTrace.{EveryTrace};
@@ -38,4 +39,11 @@ pub fn closing_drops_each_future_once()
 /// Whatever the parties do, a future is woken between two of its polls.
 pub fn polls_are_asked_for()
     ensures { EveryTrace IsWokenBetweenPolls }
+{}
+
+/// Whatever the parties do, no awaiter is lost: where no call is in progress, the handle is there and the
+/// future was dropped, the waker of the handle's last poll was called since that poll began, if it was
+/// answered that there is no output yet. Polls that were refused for want of memory are passed over.
+pub fn awaiters_are_kept()
+    ensures { EveryTrace AwaiterIsKept }
 {}

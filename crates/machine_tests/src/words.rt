@@ -113,3 +113,55 @@ pub fn polls_and_drops(machine: &Machine, future: u64) -> (u64, u64) {
     }
     (polls, drops)
 }
+
+// Each of these compares in one place what the tests compare often, so that a call of it is cheap to prove.
+
+/// A whole call has this answer.
+pub fn answered<R: Abort>(
+    rt: &R,
+    machine: &mut Machine,
+    party: u32,
+    call: Call,
+    ends: &[UserEnd],
+    want: Reply,
+) {
+    assert_eq!(rt; whole(machine, party, call, ends), Some(want), "{call:?}");
+}
+
+/// A call inside of user code has this answer after so many steps.
+pub fn answered_inside<R: Abort>(
+    rt: &R,
+    machine: &mut Machine,
+    party: u32,
+    call: Call,
+    steps: u32,
+    want: Reply,
+) {
+    assert_eq!(rt; inside(machine, party, call, steps), Some(want), "{call:?}");
+}
+
+/// The party goes on until its calls have ended, of which the last has this answer.
+pub fn finished<R: Abort>(
+    rt: &R,
+    machine: &mut Machine,
+    party: u32,
+    ends: &[UserEnd],
+    want: Reply,
+) {
+    assert_eq!(rt; finish(machine, party, ends), Some(want), "party {party}");
+}
+
+/// The step is taken, or refused with this error.
+pub fn stepped<R: Abort>(rt: &R, machine: &mut Machine, step: Step, want: Result<(), StepError>) {
+    assert_eq!(rt; machine.step(step), want, "{step:?}");
+}
+
+/// A `TryTick` of this party goes on to the beginning of a poll.
+pub fn polling<R: Abort>(rt: &R, machine: &mut Machine, party: u32) {
+    assert!(rt; tick_to_poll(machine, party), "party {party}");
+}
+
+/// The future was polled, and its drop begun, so many times.
+pub fn polled_and_dropped<R: Abort>(rt: &R, machine: &Machine, future: u64, want: (u64, u64)) {
+    assert_eq!(rt; polls_and_drops(machine, future), want, "future {future}");
+}

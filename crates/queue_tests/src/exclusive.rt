@@ -15,47 +15,70 @@ fn bounded<R: Abort + AllocGlobal>(rt: &R, cap: usize) -> Exclusive<u64>
     Exclusive::bounded(rt.alloc(), cap).expect(rt, "memory")
 }
 
+// The calls of these tests, each compared with its answer in one place, so that a call is cheap to prove.
+fn push<R: Abort>(
+    rt: &R,
+    queue: &mut Exclusive<u64>,
+    value: u64,
+    want: Result<(), PushError<u64>>,
+) {
+    assert_eq!(rt; queue.push(value), want);
+}
+
+fn force_push<R: Abort>(
+    rt: &R,
+    queue: &mut Exclusive<u64>,
+    value: u64,
+    want: Result<Option<u64>, ForcePushError<u64>>,
+) {
+    assert_eq!(rt; queue.force_push(value), want);
+}
+
+fn pop<R: Abort>(rt: &R, queue: &mut Exclusive<u64>, want: Result<u64, PopError>) {
+    assert_eq!(rt; queue.pop(), want);
+}
+
 #[test]
 fn a_full_ring_refuses_and_gives_in_order(rt: HostRuntime) {
     let mut queue = bounded(&rt, 2);
-    assert_eq!(rt; queue.push(1), Ok(()));
-    assert_eq!(rt; queue.push(2), Ok(()));
-    assert_eq!(rt; queue.push(3), Err(PushError::Full(3)));
-    assert_eq!(rt; queue.pop(), Ok(1));
-    assert_eq!(rt; queue.pop(), Ok(2));
-    assert_eq!(rt; queue.pop(), Err(PopError::Empty));
+    push(&rt, &mut queue, 1, Ok(()));
+    push(&rt, &mut queue, 2, Ok(()));
+    push(&rt, &mut queue, 3, Err(PushError::Full(3)));
+    pop(&rt, &mut queue, Ok(1));
+    pop(&rt, &mut queue, Ok(2));
+    pop(&rt, &mut queue, Err(PopError::Empty));
 }
 
 #[test]
 fn a_closed_chain_refuses_and_drains(rt: HostRuntime) {
     let mut queue = Exclusive::<u64>::unbounded(rt.alloc());
-    assert_eq!(rt; queue.push(10), Ok(()));
+    push(&rt, &mut queue, 10, Ok(()));
     assert!(rt; queue.close());
     assert!(rt; !queue.close());
-    assert_eq!(rt; queue.push(20), Err(PushError::Closed(20)));
-    assert_eq!(rt; queue.pop(), Ok(10));
-    assert_eq!(rt; queue.pop(), Err(PopError::Closed));
+    push(&rt, &mut queue, 20, Err(PushError::Closed(20)));
+    pop(&rt, &mut queue, Ok(10));
+    pop(&rt, &mut queue, Err(PopError::Closed));
 }
 
 #[test]
 fn a_forced_push_displaces_the_oldest(rt: HostRuntime) {
     let mut queue = bounded(&rt, 2);
-    assert_eq!(rt; queue.push(1), Ok(()));
-    assert_eq!(rt; queue.force_push(2), Ok(None));
-    assert_eq!(rt; queue.force_push(3), Ok(Some(1)));
+    push(&rt, &mut queue, 1, Ok(()));
+    force_push(&rt, &mut queue, 2, Ok(None));
+    force_push(&rt, &mut queue, 3, Ok(Some(1)));
     assert_eq!(rt; queue.len(), 2);
     assert!(rt; queue.close());
-    assert_eq!(rt; queue.force_push(4), Err(ForcePushError::Closed(4)));
-    assert_eq!(rt; queue.pop(), Ok(2));
-    assert_eq!(rt; queue.pop(), Ok(3));
-    assert_eq!(rt; queue.pop(), Err(PopError::Closed));
+    force_push(&rt, &mut queue, 4, Err(ForcePushError::Closed(4)));
+    pop(&rt, &mut queue, Ok(2));
+    pop(&rt, &mut queue, Ok(3));
+    pop(&rt, &mut queue, Err(PopError::Closed));
 }
 
 #[test]
 fn a_walk_gives_the_items_in_order(rt: HostRuntime) {
     let mut queue = Exclusive::<u64>::unbounded(rt.alloc());
-    assert_eq!(rt; queue.force_push(1), Ok(None));
-    assert_eq!(rt; queue.push(2), Ok(()));
+    force_push(&rt, &mut queue, 1, Ok(None));
+    push(&rt, &mut queue, 2, Ok(()));
     let mut walk = queue.try_iter();
     assert_eq!(rt; walk.next(), Some(1));
     assert_eq!(rt; walk.next(), Some(2));
@@ -66,14 +89,14 @@ fn a_walk_gives_the_items_in_order(rt: HostRuntime) {
 fn a_walk_dropped_early_leaves_the_rest(rt: HostRuntime) {
     let mut queue = bounded(&rt, 3);
     for item in 0..3 {
-        assert_eq!(rt; queue.push(item), Ok(()));
+        push(&rt, &mut queue, item, Ok(()));
     }
     {
         let mut walk = queue.try_iter();
         assert_eq!(rt; walk.next(), Some(0));
     }
     assert_eq!(rt; queue.len(), 2);
-    assert_eq!(rt; queue.pop(), Ok(1));
+    pop(&rt, &mut queue, Ok(1));
 }
 
 #[test]
@@ -81,14 +104,14 @@ fn a_single_slot_holds_one_item(rt: HostRuntime) {
     let mut queue = bounded(&rt, 1);
     assert_eq!(rt; queue.capacity(), Some(1));
     assert!(rt; queue.is_empty());
-    assert_eq!(rt; queue.push(5), Ok(()));
+    push(&rt, &mut queue, 5, Ok(()));
     assert!(rt; queue.is_full());
-    assert_eq!(rt; queue.push(6), Err(PushError::Full(6)));
-    assert_eq!(rt; queue.force_push(7), Ok(Some(5)));
-    assert_eq!(rt; queue.pop(), Ok(7));
-    assert_eq!(rt; queue.pop(), Err(PopError::Empty));
+    push(&rt, &mut queue, 6, Err(PushError::Full(6)));
+    force_push(&rt, &mut queue, 7, Ok(Some(5)));
+    pop(&rt, &mut queue, Ok(7));
+    pop(&rt, &mut queue, Err(PopError::Empty));
     assert!(rt; queue.close() && !queue.close() && queue.is_closed());
-    assert_eq!(rt; queue.pop(), Err(PopError::Closed));
+    pop(&rt, &mut queue, Err(PopError::Closed));
 }
 
 #[test]
@@ -97,18 +120,18 @@ fn a_ring_of_three_goes_round_past_a_hundred_items(rt: HostRuntime) {
     assert_eq!(rt; queue.capacity(), Some(3));
     for item in 0..40u64 {
         for more in 0..3 {
-            assert_eq!(rt; queue.push(3 * item + more), Ok(()));
+            push(&rt, &mut queue, 3 * item + more, Ok(()));
         }
         assert!(rt; queue.is_full());
-        assert_eq!(rt; queue.push(1000), Err(PushError::Full(1000)));
+        push(&rt, &mut queue, 1000, Err(PushError::Full(1000)));
         for more in 0..3 {
-            assert_eq!(rt; queue.pop(), Ok(3 * item + more));
+            pop(&rt, &mut queue, Ok(3 * item + more));
         }
         assert!(rt; queue.is_empty());
     }
     assert!(rt; queue.close());
-    assert_eq!(rt; queue.push(7), Err(PushError::Closed(7)));
-    assert_eq!(rt; queue.pop(), Err(PopError::Closed));
+    push(&rt, &mut queue, 7, Err(PushError::Closed(7)));
+    pop(&rt, &mut queue, Err(PopError::Closed));
 }
 
 #[test]
@@ -117,14 +140,14 @@ fn a_chain_changes_blocks_past_a_hundred_items(rt: HostRuntime) {
     assert_eq!(rt; queue.capacity(), None);
     for round in 0..2u64 {
         for item in 0..130u64 {
-            assert_eq!(rt; queue.push(200 * round + item), Ok(()));
+            push(&rt, &mut queue, 200 * round + item, Ok(()));
         }
         assert_eq!(rt; queue.len(), 130);
         assert!(rt; !queue.is_full());
         for item in 0..130u64 {
-            assert_eq!(rt; queue.pop(), Ok(200 * round + item));
+            pop(&rt, &mut queue, Ok(200 * round + item));
         }
-        assert_eq!(rt; queue.pop(), Err(PopError::Empty));
+        pop(&rt, &mut queue, Err(PopError::Empty));
     }
 }
 
@@ -137,11 +160,11 @@ fn a_refused_push_hands_back_the_value_and_changes_nothing(rt: HostRuntime) {
         if let Err(refused) = queue.push(item) {
             assert_eq!(rt; refused, PushError::NoMemory(item));
             assert_eq!(rt; queue.len(), before);
-            assert_eq!(rt; queue.force_push(item), Ok(None));
+            force_push(&rt, &mut queue, item, Ok(None));
         }
     }
     for item in 0..100u64 {
-        assert_eq!(rt; queue.pop(), Ok(item));
+        pop(&rt, &mut queue, Ok(item));
     }
 }
 
@@ -153,7 +176,7 @@ fn a_ring_is_refused_whole_or_takes_no_more_memory(rt: HostRuntime) {
             for item in 0..10u64 {
                 assert!(rt; queue.force_push(item).is_ok());
             }
-            assert_eq!(rt; queue.pop(), Ok(6));
+            pop(&rt, &mut queue, Ok(6));
         }
     }
 }

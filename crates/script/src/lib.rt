@@ -25,6 +25,7 @@ pub use names::Names;
 pub use parser::parse;
 pub use plain::Plain;
 pub use word::Word;
+pub use words::Words;
 
 /// What a script says.
 #[derive(Debug, PartialEq, Eq, Drop)]
@@ -33,6 +34,3 @@ pub struct Script {
     pub limit: u64,
     pub commands: Vec<Command>,
 }
-
-#[cfg(test)]
-mod tests;

@@ -290,6 +290,3 @@ impl<F, T, A> LocalTask<F, T, A> {
         self.state.completed || self.state.closed
     }
 }
-
-#[cfg(test)]
-mod tests;

@@ -49,6 +49,3 @@ pub fn after(kind: Move, state: State) -> Moved
         Move::EndNotify => end_notify(state),
     }
 }
-
-#[cfg(test)]
-mod tests;

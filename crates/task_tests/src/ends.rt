@@ -1,6 +1,6 @@
 //! How runs end, and how a cell is emptied.
-use crate::parts::{Counts, Tasks, made};
-use async_task::{Back, RunEnd, Started, Wake};
+use crate::parts::{Counts, Tasks, begun, ended, made};
+use async_task::{Back, Wake};
 use std::sync::atomic::Ordering::SeqCst;
 use std::test::Fail;
 
@@ -13,13 +13,8 @@ fn a_run_answers_what_the_schedule_value_is_told(rt: HostRuntime) -> Result<(), 
         let (is_woken, is_closed, is_ready) = (case % 2 == 1, case / 2 % 2 == 1, case / 4 == 1);
         let counts = Counts::new(rt.alloc())?;
         let (runnable, task) = made(rt, rt.alloc(), realm, &counts, 9, false)?;
-        let (future, running) = match runnable.start() {
-            Started::Poll(future, running) => (future, running),
-            Started::Drop(future, closing) => {
-                drop(future);
-                closing.finish();
-                return Ok(assert!(rt; false, "an open task is polled"));
-            }
+        let Some((future, running)) = begun(runnable) else {
+            return Ok(assert!(rt; false, "an open task is polled"));
         };
         if is_woken {
             running.waker().wake_by_ref();
@@ -37,15 +32,8 @@ fn a_run_answers_what_the_schedule_value_is_told(rt: HostRuntime) -> Result<(), 
         } else {
             Back::Pending(future)
         };
-        let answer = match running.settle(back) {
-            RunEnd::Over(woken) => woken,
-            RunEnd::Drop(future, closing) => {
-                assert!(rt; is_closed && !is_ready);
-                drop(future);
-                closing.finish();
-                false
-            }
-        };
+        let (answer, was_dropped) = ended(running, back);
+        assert!(rt; !was_dropped || is_closed && !is_ready);
         assert_eq!(rt; answer, is_woken && !is_closed && !is_ready, "case {case}");
         assert_eq!(rt; counts.schedules_after_poll.load(SeqCst), answer as u64);
         assert_eq!(rt; counts.schedules.load(SeqCst), answer as u64);

@@ -11,10 +11,8 @@ use std::sync::{Arc, Mutex, Wait};
 #[derive(Drop)]
 pub struct Turn<R>(Arc<Mutex<Option<StoredRunnable>>, Global>, R);
 
-type Job<R> = Scheduled<Sum, u64, Turn<R>, (), Nobody, R>;
-
-impl<R: Wait + Copy + Drop> Schedule<Job<R>> for Turn<R> {
-    fn schedule(&self, job: Job<R>, _info: ScheduleInfo) {
+impl<R: Wait + Copy + Drop> Schedule<Scheduled<Sum, u64, Turn<R>, (), Nobody, R>> for Turn<R> {
+    fn schedule(&self, job: Scheduled<Sum, u64, Turn<R>, (), Nobody, R>, _info: ScheduleInfo) {
         *self.0.lock(&self.1) = Some(job.store());
     }
 }

@@ -1,7 +1,7 @@
 //! What the tests' tasks are made of.
 use async_task::{
-    Awaiter, Builder, Future, Poll, Realm, Runnable, Schedule, ScheduleInfo, Scheduled,
-    StoredRunnable, Task, TaskWaker, Wake,
+    Awaiter, Back, Builder, Future, Poll, Realm, RunEnd, Runnable, Running, Schedule, ScheduleInfo,
+    Scheduled, Started, StoredRunnable, Task, TaskWaker, Wake,
 };
 use std::alloc::{AllocError, Global};
 use std::sync::atomic::Ordering::SeqCst;
@@ -184,6 +184,8 @@ pub type Tasks<R> = Realm<Countdown, u64, Line<R>, u64, Bell>;
 
 pub type TestRunnable<R> = Runnable<Countdown, u64, Line<R>, u64, Bell, R>;
 
+pub type TestRunning<R> = Running<Countdown, u64, Line<R>, u64, Bell, R>;
+
 pub type TestTask<R> = Task<Countdown, u64, Line<R>, u64, Bell, R>;
 
 pub type TestWaker<R> = TaskWaker<Countdown, u64, Line<R>, u64, Bell, R>;
@@ -264,5 +266,34 @@ pub fn outside_waker<R: Wait + Copy + Drop + 'static>(
     match Arc::try_clone(counts) {
         Ok(counts) => Ok(Awaiter::Outside(Bell { counts })),
         Err(_) => Err(AllocError),
+    }
+}
+
+/// The future and the run that a Runnable of an open task begins.
+pub fn begun<R: Wait + Copy + Drop + 'static>(
+    runnable: TestRunnable<R>,
+) -> Option<(Countdown, TestRunning<R>)> {
+    match runnable.start() {
+        Started::Poll(future, running) => Some((future, running)),
+        Started::Drop(future, closing) => {
+            drop(future);
+            closing.finish();
+            None
+        }
+    }
+}
+
+/// What a run answers, and whether its future was dropped since the task was closed meanwhile.
+pub fn ended<R: Wait + Copy + Drop + 'static>(
+    running: TestRunning<R>,
+    back: Back<Countdown, u64>,
+) -> (bool, bool) {
+    match running.settle(back) {
+        RunEnd::Over(woken) => (woken, false),
+        RunEnd::Drop(future, closing) => {
+            drop(future);
+            closing.finish();
+            (false, true)
+        }
     }
 }

@@ -1,6 +1,6 @@
 //! Tasks from their spawn to their end, with what was polled, scheduled and dropped on the way.
-use crate::parts::{Counts, Tasks, made, next, outside_waker};
-use async_task::{Awaiter, Back, Future, Poll, RunEnd, Started, Wake};
+use crate::parts::{Counts, Tasks, begun, ended, made, next, outside_waker};
+use async_task::{Awaiter, Back, Future, Poll, Wake};
 use std::sync::atomic::Ordering::SeqCst;
 use std::test::Fail;
 
@@ -11,26 +11,12 @@ fn a_detached_task_ends_with_its_last_waker(rt: HostRuntime) -> Result<(), Fail>
     let counts = Counts::new(rt.alloc())?;
     let (runnable, task) = made(rt, rt.alloc(), realm, &counts, 1, false)?;
     task.detach();
-    let kept = match runnable.start() {
-        Started::Poll(mut future, running) => {
-            assert_eq!(rt; future.poll(running.waker()), Poll::Pending);
-            let kept = running.waker().clone();
-            match running.settle(Back::Pending(future)) {
-                RunEnd::Over(woken) => assert!(rt; !woken),
-                RunEnd::Drop(future, closing) => {
-                    drop(future);
-                    closing.finish();
-                    assert!(rt; false);
-                }
-            }
-            kept
-        }
-        Started::Drop(future, closing) => {
-            drop(future);
-            closing.finish();
-            None
-        }
+    let Some((mut future, running)) = begun(runnable) else {
+        return Ok(assert!(rt; false, "an open task is polled"));
     };
+    assert_eq!(rt; future.poll(running.waker()), Poll::Pending);
+    let kept = running.waker().clone();
+    assert_eq!(rt; ended(running, Back::Pending(future)), (false, false));
     assert_eq!(rt; counts.so_far(), (1, 0, 0, 0));
     match kept {
         Some(kept) => kept.wake(),

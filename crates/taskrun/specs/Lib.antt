@@ -1,11 +1,3 @@
 pub mod Fault
-pub mod Play
-pub mod Turn
-pub mod Commands
-pub mod Lawful
-pub mod EventText
-pub mod EndText
-pub mod Text
-pub mod ScriptText
-pub mod Answer
+pub mod Writes
 pub mod Usage

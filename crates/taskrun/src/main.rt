@@ -3,9 +3,6 @@
 
 mod fault;
 mod input;
-mod moment;
-mod play;
-mod print;
 mod program;
 mod sim;
 

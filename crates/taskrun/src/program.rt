@@ -1,7 +1,8 @@
 ghost use Rattle.std.specs.Prelude.{◌≡◌, ◌≢◌, ◌↔◌, ℕ, Err, IfErr, IfSome, IsTrue, OnOk};
 ghost use Rattle.std.specs.Prelude.{map, string_bytes};
 ghost use Rattle.std.specs.Io.KnownBytes.{IsAtEnd};
-ghost use Rattle.taskrun.specs.Answer.{IsGoodInput, WritesAnswer};
+ghost use Rattle.simulator.specs.Answer.{IsGoodInput};
+ghost use Rattle.taskrun.specs.Writes.{WritesAnswer};
 ghost use Rattle.script.specs.BadLine.{IsFirstBadLine};
 ghost use Rattle.taskrun.specs.Usage.{NamesSim};
 

@@ -1,38 +1,16 @@
 //! `taskrun sim`: a script in, and what its run shows out.
 
-ghost use Rattle.std.specs.Prelude.{◌≡◌, ◌≢◌, ℕ, Err, IfErr, IfOk, IfSome, IsOkUnless, OnOk};
+ghost use Rattle.std.specs.Prelude.{◌≡◌, ◌≢◌, ℕ, Err, IfErr, IfSome, OnOk};
 ghost use Rattle.std.specs.Io.KnownBytes.{Appends, IsAtEnd};
-ghost use Rattle.taskrun.specs.Answer.{IsGoodInput, IsAnswer, IsFaultOf, WritesAnswer};
+ghost use Rattle.simulator.specs.Answer.{IsGoodInput};
+ghost use Rattle.taskrun.specs.Writes.{WritesAnswer};
 ghost use Rattle.script.specs.BadLine.{IsFirstBadLine};
-ghost use Rattle.taskrun.specs.ScriptText.{IsTextOf};
 
 use crate::fault::Fault;
-use crate::{input, play, print};
-use script::{Script, parse};
-use std::alloc::{AllocError, Global};
+use crate::input;
+use simulator::answer;
+use std::alloc::Global;
 use std::io::{Read, Write};
-
-/// What is written for an input: nothing where it has no line, and else what its script shows. The
-/// faults are `BadLine` with the first bad line, and `NoMemory`.
-pub fn answer(alloc: Global, input: &[u8]) -> Result<Vec<u8>, Fault>
-    ensures answer { IfOk result (λ text. IsAnswer input.now text.items) }
-    ensures fault { IfErr result (IsFaultOf input.now) }
-    ensures good_input { IsGoodInput input.now → IsOkUnless result Fault.NoMemory }
-{
-    let Some(script) = parse(alloc, input)? else {
-        return Ok(Vec::new(alloc));
-    };
-    Ok(show(alloc, &script)?)
-}
-
-/// What the run of a script shows.
-fn show(alloc: Global, script: &Script) -> Result<Vec<u8>, AllocError>
-    ensures { IfOk result (λ text.
-        IsTextOf script.now.limit script.now.commands.items text.items) }
-{
-    let played = play::run(alloc, script.limit, script.commands.as_slice())?;
-    print::text_of(alloc, played.moments.as_slice(), &played.names)
-}
 
 /// Reads a script whole, runs it, and writes what its run shows, last and in one piece. The faults
 /// come in this order: `ReadFailed`, `BadLine` with the first bad line, `WriteFailed`; `NoMemory` comes

@@ -1,5 +1,8 @@
 //! What is done once the lock of a cell is given back, in the order of `Debts`. All code of a user
 //! that a move leads to is called here.
+ghost use Rattle.std.specs.Prelude.{IfSome};
+ghost use Rattle.async_task.specs.Due.{WasIdle, IsDueBy};
+
 use crate::cell::scheduled::{Due, Scheduled};
 use crate::cell::{Held, Kept};
 use crate::schedule::{Schedule, ScheduleInfo};
@@ -18,18 +21,26 @@ where
     R: Wait + Copy + Drop,
 {
     /// A waker goes.
-    pub fn release_later(self) -> Option<Due<F, T, S, M, W, R>> {
+    pub fn release_later(self) -> Option<Due<F, T, S, M, W, R>>
+        ensures { IfSome result (IsDueBy self) }
+    {
         let released = self.release();
         self.due_of(released)
     }
 
     /// A waker is called, and goes.
-    pub fn wake_and_release_later(self) -> Option<Due<F, T, S, M, W, R>> {
+    pub fn wake_and_release_later(self) -> Option<Due<F, T, S, M, W, R>>
+        ensures { IfSome result (IsDueBy self) }
+    {
         let released = self.wake_and_release();
         self.due_of(released)
     }
 
-    fn due_of(self, released: Released<F, T, Kept<W>>) -> Option<Due<F, T, S, M, W, R>> {
+    /// What is then owed to the task's schedule value.
+    fn due_of(self, released: Released<F, T, Kept<W>>) -> Option<Due<F, T, S, M, W, R>>
+        requires idle { IfSome released.queue WasIdle }
+        ensures { IfSome result (IsDueBy self) }
+    {
         let Released { queue, emptied } = released;
         self.empty(emptied);
         match queue {
@@ -48,7 +59,9 @@ where
         output: Option<T>,
         awaiter: Finish<Kept<W>>,
         emptied: Option<LocalTask<F, T, Kept<W>>>,
-    ) -> Option<Due<F, T, S, M, W, R>> {
+    ) -> Option<Due<F, T, S, M, W, R>>
+        ensures { IfSome result (λ due. WasIdle due.info) }
+    {
         drop(output);
         let due = match awaiter {
             Finish::Nothing => None,
@@ -60,7 +73,9 @@ where
     }
 
     /// Drops a waker that a cell kept, or was to keep.
-    pub fn let_go(&self, kept: Kept<W>) -> Option<Due<F, T, S, M, W, R>> {
+    pub fn let_go(&self, kept: Kept<W>) -> Option<Due<F, T, S, M, W, R>>
+        ensures { IfSome result (λ due. WasIdle due.info) }
+    {
         match kept {
             Kept::Task(place) => match self.at(place) {
                 Some(task) => task.release_later(),
@@ -75,7 +90,9 @@ where
     }
 
     /// Calls a waker that a cell kept, which is gone then.
-    fn call(&self, kept: Kept<W>) -> Option<Due<F, T, S, M, W, R>> {
+    fn call(&self, kept: Kept<W>) -> Option<Due<F, T, S, M, W, R>>
+        ensures { IfSome result (λ due. WasIdle due.info) }
+    {
         match kept {
             Kept::Task(place) => {
                 match self.at(place) {
@@ -99,7 +116,7 @@ where
     /// Drops what is left of a task, and frees its place.
     fn empty(&self, task: Option<LocalTask<F, T, Kept<W>>>) {
         if let Some(task) = task {
-            self.realm.empty(&self.rt, self.identity.place);
+            self.realm.empty(&self.rt, self.place);
             drop(task);
         }
     }

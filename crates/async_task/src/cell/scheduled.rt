@@ -1,4 +1,5 @@
 ghost use Rattle.std.specs.Prelude.{◌≡◌, IfSome};
+ghost use Rattle.async_task.specs.Due.{WasIdle};
 
 use crate::cell::{Held, Identity, Realm};
 use crate::runnable::Runnable;
@@ -76,13 +77,17 @@ where
     }
 
     /// Where the task lies, and so all tasks that its wakers may be kept with.
-    pub fn realm(&self) -> &'static Realm<F, T, S, M, W> {
+    pub fn realm(&self) -> &'static Realm<F, T, S, M, W>
+        ensures { result.now.number ≡ self.now.identity.realm }
+    {
         self.held.realm
     }
 
     /// Closes the task, as the drop of a Runnable does. Who awaits it is woken: where that is a
     /// task that has to be queued, it is the answer.
-    pub fn close(self) -> Option<Due<F, T, S, M, W, R>> {
+    pub fn close(self) -> Option<Due<F, T, S, M, W, R>>
+        ensures { IfSome result (λ due. WasIdle due.info) }
+    {
         let Scheduled { held } = self;
         let future = held.retract();
         drop(future);
@@ -128,7 +133,8 @@ impl StoredRunnable {
         M: Drop + 'static,
         W: Wake + Drop + 'static,
         R: Wait + Copy + Drop,
-        ensures { IfSome result (λ found. found.identity.place ≡ self.identity.place) }
+        ensures found { IfSome result (λ found. found.identity ≡ self.identity) }
+        ensures here { IfSome result (λ found. found.identity.realm ≡ realm.now.number) }
     {
         if self.identity.realm != realm.number() {
             return None;
@@ -160,7 +166,8 @@ impl StoredWaker {
         M: Drop + 'static,
         W: Wake + Drop + 'static,
         R: Wait + Copy + Drop,
-        ensures { IfSome result (λ found. found.identity.place ≡ self.identity.place) }
+        ensures found { IfSome result (λ found. found.identity ≡ self.identity) }
+        ensures here { IfSome result (λ found. found.identity.realm ≡ realm.now.number) }
     {
         match self.find(rt, realm) {
             Some(held) => Some(TaskWaker { held }),
@@ -183,6 +190,8 @@ impl StoredWaker {
         M: Drop + 'static,
         W: Wake + Drop + 'static,
         R: Wait + Copy + Drop,
+        ensures task { IfSome result (λ due. due.runnable.identity ≡ self.identity) }
+        ensures idle { IfSome result (λ due. WasIdle due.info) }
     {
         match self.find(rt, realm) {
             Some(task) => task.wake_and_release_later(),
@@ -203,6 +212,8 @@ impl StoredWaker {
         M: Drop + 'static,
         W: Wake + Drop + 'static,
         R: Wait + Copy + Drop,
+        ensures task { IfSome result (λ due. due.runnable.identity ≡ self.identity) }
+        ensures idle { IfSome result (λ due. WasIdle due.info) }
     {
         match self.find(rt, realm) {
             Some(task) => task.release_later(),
@@ -222,7 +233,8 @@ impl StoredWaker {
         M: Drop + 'static,
         W: Wake + Drop + 'static,
         R: Wait + Copy + Drop,
-        ensures { IfSome result (λ found. found.identity.place ≡ self.identity.place) }
+        ensures found { IfSome result (λ found. found.identity ≡ self.identity) }
+        ensures here { IfSome result (λ found. found.identity.realm ≡ realm.now.number) }
     {
         if self.identity.realm == realm.number() {
             Held::find(rt, realm, self.identity.place)

@@ -1,5 +1,8 @@
 //! Each call of a handle takes its cell's lock, makes the section of its name, and gives the lock
 //! back. What the section leaves to be done is the answer.
+ghost use Rattle.std.specs.Prelude.{IfSome};
+ghost use Rattle.async_task.specs.Due.{WasIdle};
+
 use crate::cell::{Held, Kept};
 use crate::schedule::ScheduleInfo;
 use crate::sections;
@@ -12,7 +15,9 @@ impl<F: 'static, T: 'static, S: 'static, M: 'static, W: 'static, R: Wait> Held<F
     ghost use Rattle.async_task.specs.Runs.{EndsPoll};
 
     /// A wake: the task is to be queued where the answer is there.
-    pub(crate) fn wake(&self) -> Option<ScheduleInfo> {
+    pub(crate) fn wake(&self) -> Option<ScheduleInfo>
+        ensures { IfSome result WasIdle }
+    {
         let mut kept = self.cell.task.lock(&self.rt);
         sections::wake(&self.rt, &mut *kept)
     }
@@ -24,13 +29,17 @@ impl<F: 'static, T: 'static, S: 'static, M: 'static, W: 'static, R: Wait> Held<F
     }
 
     /// One waker less.
-    pub(crate) fn release(&self) -> Released<F, T, Kept<W>> {
+    pub(crate) fn release(&self) -> Released<F, T, Kept<W>>
+        ensures { IfSome result.queue WasIdle }
+    {
         let mut kept = self.cell.task.lock(&self.rt);
         sections::release(&self.rt, &mut *kept)
     }
 
     /// A wake, and then one waker less.
-    pub(crate) fn wake_and_release(&self) -> Released<F, T, Kept<W>> {
+    pub(crate) fn wake_and_release(&self) -> Released<F, T, Kept<W>>
+        ensures { IfSome result.queue WasIdle }
+    {
         let mut kept = self.cell.task.lock(&self.rt);
         sections::wake_and_release(&self.rt, &mut *kept)
     }
@@ -62,13 +71,17 @@ impl<F: 'static, T: 'static, S: 'static, M: 'static, W: 'static, R: Wait> Held<F
     }
 
     /// The handle cancels the task.
-    pub(crate) fn cancel(&self) -> Debts<F, T, Kept<W>> {
+    pub(crate) fn cancel(&self) -> Debts<F, T, Kept<W>>
+        ensures { IfSome result.queue WasIdle }
+    {
         let mut kept = self.cell.task.lock(&self.rt);
         sections::cancel(&self.rt, &mut *kept)
     }
 
     /// The handle goes.
-    pub(crate) fn detach(&self) -> Debts<F, T, Kept<W>> {
+    pub(crate) fn detach(&self) -> Debts<F, T, Kept<W>>
+        ensures { IfSome result.queue WasIdle }
+    {
         let mut kept = self.cell.task.lock(&self.rt);
         sections::detach(&self.rt, &mut *kept)
     }

@@ -8,6 +8,7 @@ use queue_steps::{ForcePushError, PopError, PushError};
 use std::sync::Wait;
 
 impl<T> RingTable<T> {
+    #[inline(always)]
     pub fn push<R: Wait>(&self, rt: &R, value: T) -> Result<(), PushError<T>>
         ensures { MayPush (Some self.now.shape.capacity) value result }
     {
@@ -20,6 +21,7 @@ impl<T> RingTable<T> {
         seated::force_push(rt, &self.board.shared, &mut self.pass(), self.shape, value)
     }
 
+    #[inline(always)]
     pub fn pop<R: Wait>(&self, rt: &R) -> Result<T, PopError> {
         seated::pop(rt, &self.board.shared, &mut self.pass(), self.shape)
     }

@@ -20,9 +20,13 @@ pub const TAIL: usize = 0;
 
 pub const HEAD: usize = 16;
 
+// Between the tail and the head, on a cache line of neither.
+pub const UNUSED: usize = 8;
+
 pub const STAMPS: usize = 32;
 
 /// The first load of a call.
+#[inline(always)]
 pub fn begin_tail<T>(board: &Board<T>, pass: &mut Pass<T>) -> u64
     requires { IsSeatOf board.now pass.old }
     ensures { IsSameSeat pass.old pass.new × saw SawTail [] pass.old.me result pass.new.me }
@@ -31,6 +35,7 @@ pub fn begin_tail<T>(board: &Board<T>, pass: &mut Pass<T>) -> u64
 }
 
 /// The first load of a call.
+#[inline(always)]
 pub fn begin_head<T>(board: &Board<T>, pass: &mut Pass<T>) -> u64
     requires { IsSeatOf board.now pass.old }
     ensures { IsSameSeat pass.old pass.new × saw SawHead [] pass.old.me result pass.new.me }
@@ -61,6 +66,7 @@ pub fn look<T>(board: &Board<T>, pass: &mut Pass<T>, word: usize) -> u64
 }
 
 /// Loads the stamp of the place at the tail that was seen.
+#[inline(always)]
 pub fn stamp_at_tail<T>(board: &Board<T>, pass: &mut Pass<T>, index: usize) -> u64
     requires seat { IsSeatOf board.now pass.old }
     requires place { index < board.now.key.capacity }
@@ -72,6 +78,7 @@ pub fn stamp_at_tail<T>(board: &Board<T>, pass: &mut Pass<T>, index: usize) -> u
 }
 
 /// Loads the stamp of the place at the head that was seen.
+#[inline(always)]
 pub fn stamp_at_head<T>(board: &Board<T>, pass: &mut Pass<T>, index: usize) -> u64
     requires seat { IsSeatOf board.now pass.old }
     requires place { index < board.now.key.capacity }
@@ -83,6 +90,7 @@ pub fn stamp_at_head<T>(board: &Board<T>, pass: &mut Pass<T>, index: usize) -> u
 }
 
 /// The append, where the tail is still `old`.
+#[inline(always)]
 pub fn append<T>(board: &Board<T>, pass: &mut Pass<T>, old: u64, new: u64) -> u64
     requires seat { IsSeatOf board.now pass.old }
     requires seen { (pass.old.me.0.stage ≡ SawStamp) × (old ≡ pass.old.me.0.word) × (pass.old.me.0.stamp ≡ pass.old.me.0.word) }
@@ -93,6 +101,7 @@ pub fn append<T>(board: &Board<T>, pass: &mut Pass<T>, old: u64, new: u64) -> u6
 }
 
 /// The take, where the head is still `old`.
+#[inline(always)]
 pub fn take<T>(board: &Board<T>, pass: &mut Pass<T>, old: u64, new: u64) -> u64
     requires seat { IsSeatOf board.now pass.old }
     requires seen { (pass.old.me.0.stage ≡ SawStamp) × (old ≡ pass.old.me.0.word) × (pass.old.me.0.stamp ≡ pass.old.me.0.word + 1) }
@@ -143,6 +152,7 @@ pub fn close<T>(board: &Board<T>, pass: &mut Pass<T>, mark: u64) -> u64
 }
 
 /// Swaps the value into the place that was appended to, and gives the place back with its stamp.
+#[inline(always)]
 pub fn write<T>(
     board: &Board<T>,
     pass: &mut Pass<T>,
@@ -164,6 +174,7 @@ pub fn write<T>(
 }
 
 /// Reads the item of the place that was taken, and gives the place back with its stamp.
+#[inline(always)]
 pub fn read<T>(board: &Board<T>, pass: &mut Pass<T>, index: usize, stamp: u64) -> T
     requires seat { IsSeatOf board.now pass.old }
     requires place { (index ≡ pass.old.me.0.place) × (index < board.now.key.capacity) × (stamp ≡ pass.old.me.0.word + 2 * board.now.key.mark) }

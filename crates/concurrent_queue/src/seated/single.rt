@@ -2,13 +2,13 @@
 ghost use Rattle.std.specs.Prelude.{◌≡◌, ◌≢◌, ℕ, ◌+◌, ◌%◌, ◌<◌, [], ◌∷◌, ◌++◌, Option, MatchResult};
 ghost use Rattle.concurrent_queue.specs.declared.slot_table.rule.Stage.TheVariants.{Idle};
 ghost use Rattle.queue_steps.specs.declared.steps.Reply.{Reply};
-ghost use Rattle.queue_steps.specs.declared.steps.Reply.TheVariants.{Length};
+ghost use Rattle.queue_steps.specs.declared.steps.Reply.TheVariants.{Done, Length};
 ghost use Rattle.queue_steps.specs.declared.steps.single.Turn.TheVariants.{Look, Close, End};
 ghost use Rattle.concurrent_queue.specs.Answered.{turns, PushSays, ForcePushSays, PopSays, says};
 ghost use Rattle.queue_steps.specs.Single.{marks_of};
 ghost use Rattle.queue_steps.specs.SingleTurns.{push_turn, force_push_turn, pop_turn, close_turn, len_turn, is_empty_turn, is_full_turn, is_closed_turn};
 ghost use Rattle.concurrent_queue.specs.SlotRule.{doing};
-ghost use Rattle.concurrent_queue.specs.SlotSeat.{IsSeatOf, IsSameSeat};
+ghost use Rattle.concurrent_queue.specs.SlotSeat.{IsSeatOf, IsSameSeat, IsRefusalToPush, IsRefusalToPop, IsPushTurn, IsPopTurn};
 
 use crate::slot_table::plays;
 use crate::slot_table::rule::{Doing, SlotRule};
@@ -24,6 +24,7 @@ pub type Board<T> = Shared<Option<T>, Doing, (), SlotRule>;
 pub type Pass<T> = Seat<Option<T>, Doing>;
 
 // The first look of a call.
+#[inline(always)]
 fn begin<T>(board: &Board<T>, pass: &mut Pass<T>) -> u64
     requires { IsSeatOf board.now pass.old }
     ensures { IsSameSeat pass.old pass.new × (pass.new.me.0 ≡ doing Idle (result ∷ [])) }
@@ -40,6 +41,7 @@ fn look<T>(board: &Board<T>, pass: &mut Pass<T>) -> u64
 
 // Exchanges the word, swaps the value in and takes off the lock. It answers what was there, and the word that it found
 // at the end. Or else it gives the value back, with the word.
+#[inline(always)]
 fn write<T>(
     board: &Board<T>,
     pass: &mut Pass<T>,
@@ -61,20 +63,23 @@ fn write<T>(
     Ok((held, last))
 }
 
-/// Appends a value, or gives it back. It waits while a pop is reading.
-pub fn push<T, R: Wait>(
+// A push, from where it stands. Or the reply that refused it, and the value.
+#[inline(never)]
+fn push_from<T, R: Wait>(
     rt: &R,
     board: &Board<T>,
     pass: &mut Pass<T>,
+    turn: Turn,
     value: T,
-) -> Result<(), PushError<T>>
-    requires { IsSeatOf board.now pass.old }
+) -> Result<(), (Reply, T)>
+    requires seat { IsSeatOf board.now pass.old }
+    requires stands { (turn ≡ turns push_turn Look pass.old.me.0.found) × IsPushTurn turn }
     ensures same { IsSameSeat pass.old pass.new }
-    ensures answers { (reply : Reply) × (turns push_turn Look pass.new.me.0.found ≡ End reply) × PushSays value reply result }
+    ensures made { MatchResult result (λ _. turns push_turn Look pass.new.me.0.found ≡ End Done) (λ e. IsRefusalToPush e.0 × (e.1 ≡ value) × (turns push_turn Look pass.new.me.0.found ≡ End e.0)) }
 {
     let backoff = Backoff::new();
     let mut value = value;
-    let mut turn = steps::push(Turn::Look, begin(board, pass));
+    let mut turn = turn;
     for _ in rt.forever() {
         match turn {
             Turn::Exchange(old, new) => match write(board, pass, old, new, value) {
@@ -91,12 +96,55 @@ pub fn push<T, R: Wait>(
                 backoff.snooze();
                 turn = steps::push(turn, look(board, pass));
             }
-            Turn::End(Reply::Full) => return Err(PushError::Full(value)),
-            Turn::End(Reply::Closed) => return Err(PushError::Closed(value)),
+            Turn::End(reply) => return Err((reply, value)),
             _ => unreachable!(),
         }
     }
     unreachable!()
+}
+
+// The first turns of a push, which are all on an empty slot where no other call comes between. Or else where it stands
+// then, and the value.
+#[inline(always)]
+fn push_at_once<T>(board: &Board<T>, pass: &mut Pass<T>, value: T) -> Result<(), (Turn, T)>
+    requires { IsSeatOf board.now pass.old }
+    ensures same { IsSameSeat pass.old pass.new }
+    ensures made { MatchResult result (λ _. turns push_turn Look pass.new.me.0.found ≡ End Done) (λ e. (e.1 ≡ value) × (e.0 ≡ turns push_turn Look pass.new.me.0.found) × IsPushTurn e.0) }
+{
+    let turn = steps::push(Turn::Look, begin(board, pass));
+    let Turn::Exchange(old, new) = turn else {
+        return Err((turn, value));
+    };
+    match write(board, pass, old, new, value) {
+        Ok((held, _last)) => match held {
+            None => Ok(()),
+            Some(_) => unreachable!(),
+        },
+        Err((found, back)) => Err((steps::push(turn, found), back)),
+    }
+}
+
+/// Appends a value, or gives it back. It waits while a pop is reading.
+#[inline(always)]
+pub fn push<T, R: Wait>(
+    rt: &R,
+    board: &Board<T>,
+    pass: &mut Pass<T>,
+    value: T,
+) -> Result<(), PushError<T>>
+    requires { IsSeatOf board.now pass.old }
+    ensures same { IsSameSeat pass.old pass.new }
+    ensures answers { (reply : Reply) × (turns push_turn Look pass.new.me.0.found ≡ End reply) × PushSays value reply result }
+{
+    let (turn, value) = match push_at_once(board, pass, value) {
+        Ok(()) => return Ok(()),
+        Err(left) => left,
+    };
+    match push_from(rt, board, pass, turn, value) {
+        Ok(()) => Ok(()),
+        Err((Reply::Full, back)) => Err(PushError::Full(back)),
+        Err((_, back)) => Err(PushError::Closed(back)),
+    }
 }
 
 /// Appends a value, and gives out the item that it displaced on a full slot. Or it gives the value back.
@@ -135,6 +183,7 @@ pub fn force_push<T, R: Wait>(
 
 // Exchanges the word, takes the item and takes off the lock. It answers the word that it found at the end too, and
 // else the word that it found.
+#[inline(always)]
 fn read<T>(board: &Board<T>, pass: &mut Pass<T>, old: u64, new: u64) -> Result<(T, u64), u64>
     requires seat { IsSeatOf board.now pass.old }
     requires word { (old % 4 ≡ 2) × (new + 1 ≡ old) }
@@ -150,14 +199,21 @@ fn read<T>(board: &Board<T>, pass: &mut Pass<T>, old: u64, new: u64) -> Result<(
     Ok((item.unwrap(), last))
 }
 
-/// Takes out the item. It waits for one on its way in.
-pub fn pop<T, R: Wait>(rt: &R, board: &Board<T>, pass: &mut Pass<T>) -> Result<T, PopError>
-    requires { IsSeatOf board.now pass.old }
+// A pop, from where it stands, or the reply that refused it.
+#[inline(never)]
+fn pop_from<T, R: Wait>(
+    rt: &R,
+    board: &Board<T>,
+    pass: &mut Pass<T>,
+    turn: Turn,
+) -> Result<T, Reply>
+    requires seat { IsSeatOf board.now pass.old }
+    requires stands { (turn ≡ turns pop_turn Look pass.old.me.0.found) × IsPopTurn turn }
     ensures same { IsSameSeat pass.old pass.new }
-    ensures answers { (reply : Reply) × (turns pop_turn Look pass.new.me.0.found ≡ End reply) × PopSays reply result }
+    ensures made { MatchResult result (λ _. turns pop_turn Look pass.new.me.0.found ≡ End Done) (λ reply. IsRefusalToPop reply × (turns pop_turn Look pass.new.me.0.found ≡ End reply)) }
 {
     let backoff = Backoff::new();
-    let mut turn = steps::pop(Turn::Look, begin(board, pass));
+    let mut turn = turn;
     for _ in rt.forever() {
         match turn {
             Turn::Exchange(old, new) => match read(board, pass, old, new) {
@@ -168,12 +224,46 @@ pub fn pop<T, R: Wait>(rt: &R, board: &Board<T>, pass: &mut Pass<T>) -> Result<T
                 backoff.snooze();
                 turn = steps::pop(turn, look(board, pass));
             }
-            Turn::End(Reply::Empty) => return Err(PopError::Empty),
-            Turn::End(Reply::Closed) => return Err(PopError::Closed),
+            Turn::End(reply) => return Err(reply),
             _ => unreachable!(),
         }
     }
     unreachable!()
+}
+
+// The first turns of a pop, which are all on a full slot where no other call comes between. Or else where it stands then.
+#[inline(always)]
+fn pop_at_once<T>(board: &Board<T>, pass: &mut Pass<T>) -> Result<T, Turn>
+    requires { IsSeatOf board.now pass.old }
+    ensures same { IsSameSeat pass.old pass.new }
+    ensures made { MatchResult result (λ _. turns pop_turn Look pass.new.me.0.found ≡ End Done) (λ e. (e ≡ turns pop_turn Look pass.new.me.0.found) × IsPopTurn e) }
+{
+    let turn = steps::pop(Turn::Look, begin(board, pass));
+    let Turn::Exchange(old, new) = turn else {
+        return Err(turn);
+    };
+    match read(board, pass, old, new) {
+        Ok((item, _last)) => Ok(item),
+        Err(found) => Err(steps::pop(turn, found)),
+    }
+}
+
+/// Takes out the item. It waits for one on its way in.
+#[inline(always)]
+pub fn pop<T, R: Wait>(rt: &R, board: &Board<T>, pass: &mut Pass<T>) -> Result<T, PopError>
+    requires { IsSeatOf board.now pass.old }
+    ensures same { IsSameSeat pass.old pass.new }
+    ensures answers { (reply : Reply) × (turns pop_turn Look pass.new.me.0.found ≡ End reply) × PopSays reply result }
+{
+    let turn = match pop_at_once(board, pass) {
+        Ok(item) => return Ok(item),
+        Err(turn) => turn,
+    };
+    match pop_from(rt, board, pass, turn) {
+        Ok(item) => Ok(item),
+        Err(Reply::Empty) => Err(PopError::Empty),
+        Err(_) => Err(PopError::Closed),
+    }
 }
 
 /// Closes the slot, and says whether this call did so.

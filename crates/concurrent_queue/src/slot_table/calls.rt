@@ -8,6 +8,7 @@ use queue_steps::{ForcePushError, PopError, PushError};
 use std::sync::Wait;
 
 impl<T> SlotTable<T> {
+    #[inline(always)]
     pub fn push<R: Wait>(&self, rt: &R, value: T) -> Result<(), PushError<T>>
         ensures { MayPush (Some 1) value result }
     {
@@ -20,6 +21,7 @@ impl<T> SlotTable<T> {
         seated::force_push(rt, &self.board.shared, &mut self.pass(), value)
     }
 
+    #[inline(always)]
     pub fn pop<R: Wait>(&self, rt: &R) -> Result<T, PopError> {
         seated::pop(rt, &self.board.shared, &mut self.pass())
     }

@@ -153,6 +153,7 @@ fn answer(yes: bool) -> Turn
 }
 
 // Where a push that found this tail goes on. No call meets a tail that names no place.
+#[inline(always)]
 fn push_from(shape: Shape, tail: u64) -> Turn
     ensures { result ≡ pushes_from shape.capacity shape.mark tail }
 {
@@ -166,6 +167,7 @@ fn push_from(shape: Shape, tail: u64) -> Turn
 }
 
 // The place at this tail is free: the append, but that one item too many closes the ring.
+#[inline(always)]
 fn append_at(shape: Shape, tail: u64) -> Turn
     ensures { result ≡ appends_at shape.capacity shape.mark tail }
 {
@@ -177,6 +179,7 @@ fn append_at(shape: Shape, tail: u64) -> Turn
 }
 
 // The stamp of the place at this tail: free, or it still has the item of a lap before, or it is being read.
+#[inline(always)]
 fn stamp_for_push(shape: Shape, tail: u64, stamp: u64) -> Turn
     ensures { result ≡ stamped_for_push shape.capacity shape.mark tail stamp }
 {
@@ -190,6 +193,7 @@ fn stamp_for_push(shape: Shape, tail: u64, stamp: u64) -> Turn
 }
 
 /// A push is refused by a closed ring before it is by a full one. It begins at `Turn::Tail`.
+#[inline(always)]
 pub fn push(shape: Shape, turn: Turn, found: u64) -> Turn
     ensures { result ≡ push_turn shape.capacity shape.mark turn found }
 {
@@ -217,6 +221,7 @@ fn displace_at(shape: Shape, tail: u64) -> Turn
 }
 
 /// A forced push takes the oldest item of a full ring, and then moves the tail on. It begins at `Turn::Tail`.
+#[inline(always)]
 pub fn force_push(shape: Shape, turn: Turn, found: u64) -> Turn
     ensures { result ≡ force_push_turn shape.capacity shape.mark turn found }
 {
@@ -230,6 +235,7 @@ pub fn force_push(shape: Shape, turn: Turn, found: u64) -> Turn
 }
 
 // Where a pop that found this head goes on. No call meets a head that names no place.
+#[inline(always)]
 fn pop_from(shape: Shape, head: u64) -> Turn
     ensures { result ≡ pops_from shape.capacity shape.mark head }
 {
@@ -241,6 +247,7 @@ fn pop_from(shape: Shape, head: u64) -> Turn
 }
 
 // The stamp of the place at this head: filled, or free, or it is being written or read.
+#[inline(always)]
 fn stamp_for_pop(shape: Shape, head: u64, stamp: u64) -> Turn
     ensures { result ≡ stamped_for_pop shape.capacity shape.mark head stamp }
 {
@@ -258,6 +265,7 @@ fn stamp_for_pop(shape: Shape, head: u64, stamp: u64) -> Turn
 }
 
 /// A pop waits for an item on its way in. It begins at `Turn::Head`.
+#[inline(always)]
 pub fn pop(shape: Shape, turn: Turn, found: u64) -> Turn
     ensures { result ≡ pop_turn shape.capacity shape.mark turn found }
 {

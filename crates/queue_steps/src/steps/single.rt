@@ -35,6 +35,7 @@ fn answer(yes: bool) -> Turn
     Turn::End(if yes { Reply::Yes } else { Reply::No })
 }
 
+#[inline(always)]
 fn look_to_push(word: u64) -> Turn
     ensures { result ≡ looked_to_push word }
 {
@@ -50,6 +51,7 @@ fn look_to_push(word: u64) -> Turn
 }
 
 /// A push waits while a pop is reading, and is refused by a closed slot before it is by a full one.
+#[inline(always)]
 pub fn push(turn: Turn, found: u64) -> Turn
     ensures { result ≡ push_turn turn found }
 {
@@ -93,6 +95,7 @@ pub fn force_push(turn: Turn, found: u64) -> Turn
     }
 }
 
+#[inline(always)]
 fn look_to_pop(word: u64) -> Turn
     ensures { result ≡ looked_to_pop word }
 {
@@ -108,6 +111,7 @@ fn look_to_pop(word: u64) -> Turn
 }
 
 /// A pop waits for an item on its way in.
+#[inline(always)]
 pub fn pop(turn: Turn, found: u64) -> Turn
     ensures { result ≡ pop_turn turn found }
 {

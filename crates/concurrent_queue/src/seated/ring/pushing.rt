@@ -5,6 +5,7 @@ ghost use Rattle.concurrent_queue.specs.RingSeat.{IsFreeSeatOf, StaysFree, pushi
 ghost use Rattle.queue_steps.specs.RingTurns.{push_turn, force_push_turn};
 ghost use Rattle.concurrent_queue.specs.declared.seated.ring.pushing.Manner.TheVariants.{Plain};
 ghost use Rattle.queue_steps.specs.declared.steps.Reply.{Reply};
+ghost use Rattle.queue_steps.specs.declared.steps.Reply.TheVariants.{Done};
 ghost use Rattle.queue_steps.specs.declared.steps.bounded.Turn.TheVariants.{Tail, Stamp, HeadFor, Append, Displace, Spend, End};
 
 use crate::ring_table::moves::{self, Board, HEAD, Pass};
@@ -22,6 +23,7 @@ pub enum Manner {
 }
 
 // What a call of this manner does next.
+#[inline(always)]
 fn next(manner: Manner, shape: Shape, turn: Turn, found: u64) -> Turn
     ensures { result ≡ pushing manner shape.capacity shape.mark turn found }
 {
@@ -31,6 +33,7 @@ fn next(manner: Manner, shape: Shape, turn: Turn, found: u64) -> Turn
     }
 }
 
+#[inline(always)]
 fn begins<T>(board: &Board<T>, pass: &mut Pass<T>, shape: Shape, manner: Manner) -> Turn
     requires { IsFreeSeatOf board.now shape pass.old }
     ensures same { StaysFree pass.old pass.new }
@@ -49,6 +52,7 @@ fn at_tail<T>(board: &Board<T>, pass: &mut Pass<T>, shape: Shape, manner: Manner
     next(manner, shape, Turn::Tail, found)
 }
 
+#[inline(always)]
 fn at_stamp<T>(
     board: &Board<T>,
     pass: &mut Pass<T>,
@@ -94,6 +98,7 @@ fn at_spend<T>(
 }
 
 // The append with its write. Or else the turn that follows, and the value.
+#[inline(always)]
 fn append<T>(
     board: &Board<T>,
     pass: &mut Pass<T>,
@@ -142,22 +147,26 @@ fn displace<T>(
     }
 }
 
-// A push of either manner. What was displaced comes back, or the value with the reply that refused it.
-fn put<T, R: Wait>(
+// A push of either manner, from where it stands. What was displaced comes back, or the value with the reply that
+// refused it.
+#[inline(never)]
+fn put_from<T, R: Wait>(
     rt: &R,
     board: &Board<T>,
     pass: &mut Pass<T>,
     shape: Shape,
     manner: Manner,
+    turn: Turn,
     value: T,
 ) -> Result<Option<T>, (Reply, T)>
-    requires { IsFreeSeatOf board.now shape pass.old }
+    requires seat { IsFreeSeatOf board.now shape pass.old }
+    requires stands { (turn ≡ turns (pushing manner shape.capacity shape.mark) Tail pass.old.me.0.found) × PushStands manner shape.capacity shape.mark turn pass.old.me.0 }
     ensures same { StaysFree pass.old pass.new }
     ensures made { PushMade manner shape.capacity shape.mark value pass.new.me.0.found result }
 {
     let backoff = Backoff::new();
     let mut value = value;
-    let mut turn = begins(board, pass, shape, manner);
+    let mut turn = turn;
     for _ in rt.forever() {
         match turn {
             Turn::Stamp(tail) => turn = at_stamp(board, pass, shape, manner, tail),
@@ -182,7 +191,32 @@ fn put<T, R: Wait>(
     unreachable!()
 }
 
+// The first three turns of a push, which are all on a ring with a free place where no other call comes between. Or else
+// where it stands then, and the value.
+#[inline(always)]
+fn push_at_once<T>(
+    board: &Board<T>,
+    pass: &mut Pass<T>,
+    shape: Shape,
+    value: T,
+) -> Result<(), (Turn, T)>
+    requires { IsFreeSeatOf board.now shape pass.old }
+    ensures same { StaysFree pass.old pass.new }
+    ensures made { MatchResult result (λ _. turns (pushing Plain shape.capacity shape.mark) Tail pass.new.me.0.found ≡ End Done) (λ e. (e.1 ≡ value) × (e.0 ≡ turns (pushing Plain shape.capacity shape.mark) Tail pass.new.me.0.found) × PushStands Plain shape.capacity shape.mark e.0 pass.new.me.0) }
+{
+    let turn = begins(board, pass, shape, Manner::Plain);
+    let Turn::Stamp(tail) = turn else {
+        return Err((turn, value));
+    };
+    let turn = at_stamp(board, pass, shape, Manner::Plain, tail);
+    let Turn::Append(tail) = turn else {
+        return Err((turn, value));
+    };
+    append(board, pass, shape, Manner::Plain, tail, value)
+}
+
 /// Appends a value, or gives it back.
+#[inline(always)]
 pub fn push<T, R: Wait>(
     rt: &R,
     board: &Board<T>,
@@ -194,7 +228,13 @@ pub fn push<T, R: Wait>(
     ensures same { StaysFree pass.old pass.new }
     ensures answers { (reply : Reply) × (turns (push_turn shape.capacity shape.mark) Tail pass.new.me.0.found ≡ End reply) × PushSays value reply result }
 {
-    match put(rt, board, pass, shape, Manner::Plain, value) {
+    let (turn, value) = match push_at_once(board, pass, shape, value) {
+        Ok(()) => return Ok(()),
+        Err(left) => left,
+    };
+    // A copy goes to the loop, so that the shape above stays out of memory.
+    let copy = shape;
+    match put_from(rt, board, pass, copy, Manner::Plain, turn, value) {
         Ok(displaced) => match displaced {
             None => Ok(()),
             Some(_) => unreachable!(),
@@ -216,7 +256,8 @@ pub fn force_push<T, R: Wait>(
     ensures same { StaysFree pass.old pass.new }
     ensures answers { (reply : Reply) × (turns (force_push_turn shape.capacity shape.mark) Tail pass.new.me.0.found ≡ End reply) × ForcePushSays value reply result }
 {
-    match put(rt, board, pass, shape, Manner::Forced, value) {
+    let turn = begins(board, pass, shape, Manner::Forced);
+    match put_from(rt, board, pass, shape, Manner::Forced, turn, value) {
         Ok(displaced) => Ok(displaced),
         Err((_, back)) => Err(ForcePushError::Closed(back)),
     }

@@ -1,9 +1,12 @@
 use Rattle.executor_model.specs.AskedPolls.{IsWokenBetweenPolls}
+use Rattle.executor_model.specs.AwaiterKept.{AwaiterIsKept}
 use Rattle.executor_model.specs.DroppedOnce.{DropComesOnce, IsDroppedByTheEnd}
 use Rattle.executor_model.specs.EarlyDrop.{EarlyDropHasCause}
 use Rattle.executor_model.specs.LawfulPolls.{HasLawfulPolls}
+use Rattle.executor_model.specs.OutputKept.{OutputIsKept}
 use Rattle.executor_model.specs.OutputOnce.{OutputGoesOnce}
-use Rattle.executor_core.proofs.Reaching.{law_here}
+use Rattle.executor_laws.specs.Reach.{IsInReach}
+use Rattle.executor_core.proofs.Reaching.{law_here, machine_law_here, run_here}
 use Rattle.executor_core.proofs.machine.Machine.run.Goals as goal
 
 pub returns-clause-polls_are_lawful : goal.returns-clause-polls_are_lawful
@@ -23,3 +26,12 @@ returns-clause-early_drops_have_causes c = law_here EarlyDropHasCause c.early_dr
 
 pub returns-clause-closing_drops : goal.returns-clause-closing_drops
 returns-clause-closing_drops c = law_here IsDroppedByTheEnd c.closing_drops_each_future_once.ensures _ c.run_on-refused.ensures.reached
+
+pub returns-clause-outputs_are_kept : goal.returns-clause-outputs_are_kept
+returns-clause-outputs_are_kept c = run_here OutputIsKept c.outputs_are_kept.ensures _ c.run_on-refused.ensures.reached
+
+pub returns-clause-awaiters_are_kept : goal.returns-clause-awaiters_are_kept
+returns-clause-awaiters_are_kept c = law_here AwaiterIsKept c.awaiters_are_kept.ensures _ c.run_on-refused.ensures.reached
+
+pub returns-clause-in_reach : goal.returns-clause-in_reach
+returns-clause-in_reach c = machine_law_here IsInReach c.common_futures_are_in_reach.ensures _ c.run_on-refused.ensures.reached

@@ -1,0 +1,14 @@
+-- What is owed to a task's schedule value by a call that isn't the end of a poll.
+use Rattle.std.specs.Prelude.{◌≡◌, false}
+use Rattle.async_task.specs.Handles.{Handle}
+use Rattle.async_task.specs.declared.cell.scheduled.Due.{Due}
+use Rattle.task_moves.specs.declared.schedule_info.ScheduleInfo.{ScheduleInfo}
+
+-- the task wasn't woken while it was polled
+abbrev pub WasIdle : ScheduleInfo → Type 0
+WasIdle info = info.woken_while_running ≡ false
+
+-- it is the Runnable of this task
+pub record IsDueBy {F T S M W R : Type 0} (task : Handle M) (due : Due F T S M W R) : Type 0 where
+  pub runnable : due.runnable ≡ task
+  pub idle : WasIdle due.info

@@ -1,0 +1,90 @@
+//! Work of the simulator.
+use crate::fault::Fault;
+use crate::timing::Timing;
+use simulator::answer;
+use std::alloc::{AllocError, Global};
+use std::rt::Clock;
+use std::time::Instant;
+
+/// How many futures a script has.
+const FUTURES: u64 = 1000;
+
+/// How many lines a script has at most.
+const LINES: u64 = 10_000;
+
+/// So many lines of scripts, parsed and run: as many scripts of 10,000 lines as that makes, and one of
+/// the lines that are left. The texts are made before the clock starts.
+pub fn lines<R: AllocGlobal + Clock>(rt: &R, ops: u64) -> Result<Timing, Fault> {
+    let alloc = rt.alloc();
+    let whole = script(alloc, LINES)?;
+    let rest = script(alloc, ops % LINES)?;
+    let mut moved = 0u64;
+    let start = Instant::now(rt)?;
+    for _ in 0..ops / LINES {
+        play(alloc, whole.as_slice())?;
+        moved = moved.wrapping_add(LINES);
+    }
+    play(alloc, rest.as_slice())?;
+    moved = moved.wrapping_add(ops % LINES);
+    Timing::since(rt, start, moved)
+}
+
+/// Runs a script, which shows something where it has a command.
+fn play(alloc: Global, script: &[u8]) -> Result<(), Fault> {
+    let shown = answer(alloc, script)?;
+    if shown.is_empty() && script.len() > HEAD.len() {
+        return Err(Fault::Refused);
+    }
+    Ok(())
+}
+
+/// The first line of each script.
+const HEAD: &[u8] = b"limit 1000\n";
+
+/// A script of so many lines. Each of a thousand futures keeps its waker at its first poll, is woken
+/// and polled three times more, and goes with its handle.
+fn script(alloc: Global, lines: u64) -> Result<Vec<u8>, AllocError> {
+    let mut text = Vec::new(alloc);
+    for line in 0..lines {
+        push_line(&mut text, line)?;
+    }
+    Ok(text)
+}
+
+/// The line behind so many others.
+fn push_line(text: &mut Vec<u8>, before: u64) -> Result<(), AllocError> {
+    let Some(command) = before.checked_sub(1) else {
+        return text.extend_from_slice(HEAD);
+    };
+    let future = name(command % FUTURES);
+    match command / FUTURES {
+        0 => push_command(text, b"spawn ", &future, b" keep\n"),
+        2 | 4 | 6 => push_command(text, b"wake ", &future, b"\n"),
+        8 => push_command(text, b"drop ", &future, b"\n"),
+        _ => text.extend_from_slice(b"try\n"),
+    }
+}
+
+fn push_command(
+    text: &mut Vec<u8>,
+    word: &[u8],
+    name: &[u8],
+    rest: &[u8],
+) -> Result<(), AllocError> {
+    text.extend_from_slice(word)?;
+    text.extend_from_slice(name)?;
+    text.extend_from_slice(rest)
+}
+
+/// The name of the future of this number.
+fn name(number: u64) -> [u8; 3] {
+    [
+        letter(number / 676),
+        letter(number / 26),
+        letter(number),
+    ]
+}
+
+fn letter(number: u64) -> u8 {
+    b'a' + (number % 26) as u8
+}

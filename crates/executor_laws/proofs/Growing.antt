@@ -1,0 +1,288 @@
+-- What a step adds to the trace: at most the beginning of one call, and then nothing that begins another.
+use Rattle.std.proofs.Common.{◌≡◌, ◌≢◌, ℕ, zero, suc, ◌+◌, ◌<◌, ◌≤◌, List, [], ◌∷◌, ◌++◌, length, set, get_or, Bool, true, false, ◌||◌, ◌&&◌, not, ltb, refl, sym, ap, ◌∙◌, subst, arith, append-nil}
+use Rattle.std.proofs.lemmas.Bool.Decides.{nat_tests}
+use Rattle.std.proofs.lemmas.List.{append_assoc}
+use Rattle.std.proofs.lemmas.List.Folds.{list_any-append}
+use Rattle.std.specs.Prelude.{Option, Some, None, reverse}
+use Rattle.task_moves.specs.declared.moves.owed.Answer.{Answer}
+use Rattle.task_moves.specs.declared.moves.owed.Moved.{Moved}
+use Rattle.task_moves.specs.Moves as moves
+use Rattle.executor_model.specs.declared.call.Call.{Call}
+use Rattle.executor_model.specs.declared.call.Call.TheVariants as call
+use Rattle.executor_model.specs.declared.event.Answer.TheVariants as answer
+use Rattle.executor_model.specs.declared.event.Event.{Event}
+use Rattle.executor_model.specs.declared.event.Event.TheVariants as event
+use Rattle.executor_model.specs.declared.op.Awaiter.{Awaiter}
+use Rattle.executor_model.specs.declared.op.Hold.{Hold}
+use Rattle.executor_model.specs.declared.op.Op.{Op}
+use Rattle.executor_model.specs.declared.op.Op.TheVariants as op
+use Rattle.executor_model.specs.declared.op.Waker.{Waker}
+use Rattle.executor_model.specs.declared.op.Waker.TheVariants.{Task, Outside}
+use Rattle.executor_model.specs.declared.step.Hint.{Hint}
+use Rattle.executor_model.specs.declared.step.Step.{Step}
+use Rattle.executor_model.specs.declared.step.Step.TheVariants.{Begin, Go, Answer as Answers}
+use Rattle.executor_model.specs.declared.step.StepError.{StepError}
+use Rattle.executor_model.specs.declared.step.StepError.TheVariants.{NoSuch}
+use Rattle.executor_model.specs.declared.step.UserEnd.{UserEnd}
+use Rattle.executor_model.specs.declared.step.UserEnd.TheVariants as end
+use Rattle.executor_model.specs.Trace.{Trace, has}
+use Rattle.executor_model.specs.World.{World, Done, done, log, log_if, task, put}
+use Rattle.executor_model.specs.Acts.{append_by, take_by, enter_by, leave_by, copy_by, look_by, look_again_by, copy_awaiter_by, register_by, end_register_by, notify_by, call_awaiter, drop_next_by, wake, wake_next_by, drain_by, act}
+use Rattle.executor_model.specs.Steps.{Machine, stack, top, below_top, kept, polled_by, unless, party_of, part_refusal, refusal, begun, with_future, react, Part, part, end_of, settled_by, settled, onto, gone_on, part_after, after, step_by, step, stepped, run}
+use Rattle.executor_laws.specs.Remaining.{is_onward}
+use Rattle.executor_laws.specs.Continued.{IsContinued}
+
+abbrev pub begins_one : Event → Bool
+begins_one (event.CallBegun p c) = true
+begins_one _ = false
+
+abbrev pub ends_one : Event → Bool
+ends_one (event.CallEnded p r) = true
+ends_one _ = false
+
+-- the trace of v is that of w and more, in which no call begins or ends
+pub record Grows (w v : World) : Type 0 where
+  pub more : Trace
+  pub is : v.trace ≡ w.trace ++ more
+  pub none_begins : has begins_one more ≡ false
+  pub none_ends : has ends_one more ≡ false
+
+grows-same : (w v : World) → v.trace ≡ w.trace → Grows w v
+grows-same w v e = record { more = []; is = e ∙ sym (append-nil w.trace); none_begins = refl; none_ends = refl }
+
+or-false : (a : Bool) → a ≡ false → (a || false) ≡ false
+or-false true e = absurd (cc)
+or-false false e = refl
+
+grows-log : (w v : World) (e : Event) → v.trace ≡ w.trace ++ e ∷ [] → begins_one e ≡ false → ends_one e ≡ false → Grows w v
+grows-log w v e t b n = record { more = e ∷ []; is = t; none_begins = or-false (begins_one e) b; none_ends = or-false (ends_one e) n }
+
+grows-log_if : (c : Bool) (w v : World) (e : Event) → v.trace ≡ (log_if c w e).trace → begins_one e ≡ false → ends_one e ≡ false → Grows w v
+grows-log_if true w v e t b n = grows-log w v e t b n
+grows-log_if false w v e t b n = grows-same w v t
+
+has-append : (test : Event → Bool) (xs ys : Trace) → has test xs ≡ false → has test ys ≡ false → has test (xs ++ ys) ≡ false
+has-append test xs ys a b = list_any-append test xs ys ∙ (ap (λ (x : Bool). x || has test ys) a ∙ b)
+
+grows-and : (w v u : World) → Grows w v → Grows v u → Grows w u
+grows-and w v u a b = record {
+  more = a.more ++ b.more;
+  is = b.is ∙ (ap (λ (xs : Trace). xs ++ b.more) a.is ∙ append_assoc w.trace a.more b.more);
+  none_begins = has-append begins_one a.more b.more a.none_begins b.none_begins;
+  none_ends = has-append ends_one a.more b.more a.none_ends b.none_ends;
+}
+
+-- each thing to do, but for the end of a call
+
+grows-append : (b : Bool) (w : World) (f : ℕ) → Grows w (append_by b w f).world
+grows-append true w f = grows-same _ _ refl
+grows-append false w f = grows-same _ _ refl
+
+grows-take : (q : List ℕ) (w : World) → Grows w (take_by w q).world
+grows-take [] w = grows-same _ _ refl
+grows-take (f ∷ rest) w = grows-same _ _ refl
+
+grows-enter : (b c : Bool) (p : ℕ) (w : World) → Grows w (enter_by b c p w).world
+grows-enter true c p w = grows-same _ _ refl
+grows-enter false true p w = grows-same _ _ refl
+grows-enter false false p w = grows-log _ _ (event.Accepted p (length w.tasks)) refl refl refl
+
+grows-leave : (b : Bool) (w : World) (f : ℕ) → Grows w (leave_by b w f).world
+grows-leave true w f = grows-same _ _ refl
+grows-leave false w f = grows-same _ _ refl
+
+grows-copy : (b : Bool) (w : World) (f : ℕ) (held : Hold) → Grows w (copy_by b w f held).world
+grows-copy true w f held = grows-same _ _ refl
+grows-copy false w f held = grows-same _ _ refl
+
+grows-look : (o : Option Answer) (p : ℕ) (w : World) (f : ℕ) (a : Waker) (m : Moved) → Grows w (look_by o p w f a m).world
+grows-look None p w f a m = grows-same _ _ refl
+grows-look (Some x) p w f a m =
+    let v : World = put (log w (event.HandlePolled p f)) f m.state in
+    grows-and w v _ (grows-log w v (event.HandlePolled p f) refl refl refl) (grows-log_if _ v _ (event.OutputGiven p f) refl refl refl)
+
+grows-again : (o : Option Answer) (p : ℕ) (w : World) (f : ℕ) (m : Moved) → Grows w (look_again_by o p w f m).world
+grows-again None p w f m = grows-same _ _ refl
+grows-again (Some x) p w f m = grows-and w (put w f m.state) _ (grows-same w (put w f m.state) refl) (grows-log_if _ (put w f m.state) _ (event.OutputGiven p f) refl refl refl)
+
+grows-copy_awaiter : (b : Bool) (p : ℕ) (w : World) (f : ℕ) (a : Waker) → Grows w (copy_awaiter_by b p w f a).world
+grows-copy_awaiter true p w f a = grows-same _ _ refl
+grows-copy_awaiter false p w f (Task k) = grows-log _ _ (event.HandlePolled p f) refl refl refl
+grows-copy_awaiter false p w f (Outside x) = grows-log _ _ (event.HandlePolled p f) refl refl refl
+
+grows-register : (b : Bool) (w : World) (f : ℕ) (a : Waker) (k : ℕ) → Grows w (register_by b w f a k).world
+grows-register true w f a k = grows-same _ _ refl
+grows-register false w f a k = grows-same _ _ refl
+
+grows-end_register : (b : Bool) (w : World) (f : ℕ) (a : Waker) (k : ℕ) → Grows w (end_register_by b w f a k).world
+grows-end_register true w f a k = grows-same _ _ refl
+grows-end_register false w f a k = grows-same _ _ refl
+
+grows-notify : (b : Bool) (w : World) (f : ℕ) (mine : Bool) → Grows w (notify_by b w f mine).world
+grows-notify true w f mine = grows-same _ _ refl
+grows-notify false w f mine = grows-same _ _ refl
+
+grows-wake : (p : ℕ) (w : World) (f : ℕ) → Grows w (wake p w f).world
+grows-wake p w f = grows-log_if _ w _ (event.Woken p f) refl refl refl
+
+grows-call : (p : ℕ) (w : World) (f : ℕ) (a : Waker) (k : ℕ) → Grows w (call_awaiter p w f a k).world
+grows-call p w f (Task m) k = grows-and w (log w (event.WakerCalled p f k (Task m))) _ (grows-log w _ (event.WakerCalled p f k (Task m)) refl refl refl) (grows-wake p (log w (event.WakerCalled p f k (Task m))) m)
+grows-call p w f (Outside x) k = grows-log _ _ (event.WakerCalled p f k (Outside x)) refl refl refl
+
+grows-drop_next : (p : ℕ) (w : World) (ls : List ℕ) → Grows w (drop_next_by p w ls).world
+grows-drop_next p w [] = grows-same _ _ refl
+grows-drop_next p w (f ∷ rest) = grows-log _ _ (event.Dropped p f) refl refl refl
+
+grows-wake_next : (p : ℕ) (w : World) (ws : List ℕ) → Grows w (wake_next_by p w ws).world
+grows-wake_next p w [] = grows-same _ _ refl
+grows-wake_next p w (f ∷ rest) = grows-and w (record w { waking = rest }) _ (grows-same w (record w { waking = rest }) refl) (grows-wake p (record w { waking = rest }) f)
+
+grows-drain : (p : ℕ) (w : World) (q : List ℕ) → Grows w (drain_by p w q).world
+grows-drain p w [] = grows-log _ _ (event.DropEnded p) refl refl refl
+grows-drain p w (f ∷ rest) = grows-same _ _ refl
+
+abbrev pub is_end : Op → Bool
+is_end (op.End r held) = true
+is_end _ = false
+
+pub grows-act : (p : ℕ) (h : Hint) (o : Op) (w : World) → is_end o ≡ false → Grows w (act p h o w).world
+grows-act p h op.Enter w n = grows-enter _ _ p w
+grows-act p h op.Take w n = grows-take _ w
+grows-act p h op.LookAtTable w n = grows-same _ _ refl
+grows-act p h (op.Append f) w n = grows-append _ w f
+grows-act p h (op.WakeByReference f) w n = grows-log_if _ w _ (event.Woken p f) refl refl refl
+grows-act p h (op.Wake f) w n = grows-wake p w f
+grows-act p h (op.Release f) w n = grows-same _ _ refl
+grows-act p h (op.TakeUp f) w n = grows-log_if _ w _ (event.PollBegun p f) refl refl refl
+grows-act p h (op.SettleClosed f) w n = grows-same _ _ refl
+grows-act p h (op.GiveUp f) w n = grows-same _ _ refl
+grows-act p h (op.EndReady f) w n = grows-same _ _ refl
+grows-act p h (op.EndPending f) w n = grows-same _ _ refl
+grows-act p h (op.EndClosed f) w n = grows-same _ _ refl
+grows-act p h (op.DropRunnable f) w n = grows-same _ _ refl
+grows-act p h (op.Cancel f) w n = grows-log_if _ w _ (event.Cancelled p f) refl refl refl
+grows-act p h (op.Detach f) w n = grows-log_if _ w _ (event.Detached p f) refl refl refl
+grows-act p h (op.TakeToPoll f) w n = grows-same _ _ refl
+grows-act p h (op.Poll f) w n = grows-same _ _ refl
+grows-act p h (op.PutBack f) w n = grows-same _ _ refl
+grows-act p h (op.TakeToDrop f) w n = grows-same _ _ refl
+grows-act p h (op.BeginDrop f) w n = grows-log _ _ (event.Dropped p f) refl refl refl
+grows-act p h (op.Drop f) w n = grows-same _ _ refl
+grows-act p h (op.LeaveTable f) w n = grows-leave _ w f
+grows-act p h (op.BeginDropOutput f) w n = grows-log _ _ (event.OutputDropped p f) refl refl refl
+grows-act p h (op.DropOutput f) w n = grows-same _ _ refl
+grows-act p h (op.CopyWaker f held) w n = grows-copy _ w f held
+grows-act p h (op.Look f a) w n = grows-look (moves.poll (task w f)).owed.answer p w f a (moves.poll (task w f))
+grows-act p h (op.CopyAwaiter f a) w n = grows-copy_awaiter _ p w f a
+grows-act p h (op.Register f a k) w n = grows-register _ w f a k
+grows-act p h (op.EndRegister f a k) w n = grows-end_register _ w f a k
+grows-act p h (op.LookAgain f) w n = grows-again (moves.look_again (task w f)).owed.answer p w f (moves.look_again (task w f))
+grows-act p h (op.Notify f mine) w n = grows-notify _ w f mine
+grows-act p h (op.EndNotify f mine) w n = grows-same _ _ refl
+grows-act p h (op.CallAwaiter f a k) w n = grows-call p w f a k
+grows-act p h (op.CallOutside x) w n = grows-same _ _ refl
+grows-act p h op.TakeOut w n = grows-same _ _ refl
+grows-act p h op.DropNext w n = grows-drop_next p w w.leaving
+grows-act p h op.WakeNext w n = grows-wake_next p w w.waking
+grows-act p h op.Close w n = grows-same _ _ refl
+grows-act p h op.Drain w n = grows-drain p w w.queue.items
+grows-act p h (op.End r held) w n = absurd (cc)
+
+pub grows-react : (p : ℕ) (o : Op) (u : UserEnd) (w : World) → Grows w (react p o u w).world
+grows-react p (op.Poll f) (end.Polled answer.Pending) w = grows-log _ _ (event.Answered p f answer.Pending) refl refl refl
+grows-react p (op.Poll f) (end.Polled answer.Ready) w = grows-log _ _ (event.Answered p f answer.Ready) refl refl refl
+grows-react p (op.Poll f) end.Done w = grows-same _ _ refl
+grows-react p _ _ w = grows-same _ _ refl
+
+grows-with : (w : World) (o : Option ℕ) (d : ℕ → Done) → ((f : ℕ) → Grows w (d f).world) → Grows w (with_future w o d).world
+grows-with w (Some f) d k = k f
+grows-with w None d k = grows-same _ _ refl
+
+pub grows-begun : (p : ℕ) (w : World) (here : Option ℕ) (c : Call) → Grows w (begun p w here c).world
+grows-begun p w here call.Spawn = grows-same _ _ refl
+grows-begun p w here call.TryTick = grows-same _ _ refl
+grows-begun p w here call.IsEmpty = grows-same _ _ refl
+grows-begun p w here (call.Wake k) = grows-with w (kept w k) _ (λ f. grows-same _ _ refl)
+grows-begun p w here (call.WakeByRef k) = grows-with w (kept w k) _ (λ f. grows-same _ _ refl)
+grows-begun p w here (call.Copy k) = grows-with w (kept w k) _ (λ f. grows-same _ _ refl)
+grows-begun p w here (call.DropWaker k) = grows-with w (kept w k) _ (λ f. grows-same _ _ refl)
+grows-begun p w here call.Keep = grows-with w here _ (λ f. grows-same _ _ refl)
+grows-begun p w here call.WakeSelf = grows-with w here _ (λ f. grows-same _ _ refl)
+grows-begun p w here (call.PollHandle f b) = grows-same _ _ refl
+grows-begun p w here (call.Cancel f) = grows-same _ _ refl
+grows-begun p w here (call.Detach f) = grows-same _ _ refl
+grows-begun p w here (call.DropHandle f) = grows-same _ _ refl
+grows-begun p w here call.DropExecutor = grows-log _ _ (event.DropBegun p) refl refl refl
+
+-- a whole step
+
+-- what follows es in a trace, where no call begins in it
+pub record More (es now : Trace) : Type 0 where
+  pub more : Trace
+  pub is : now ≡ es ++ more
+  pub none : has begins_one more ≡ false
+
+-- a call that ends adds its end
+more-settled : (o : Option Op) (es : Trace) (p : ℕ) (w : World) (os : List Op) (more : Trace) → w.trace ≡ es ++ more → has begins_one more ≡ false → More es (settled_by (end_of o) p w os).world.trace
+more-settled (Some (op.End r held)) es p w os more e n = record {
+  more = more ++ event.CallEnded p r ∷ [];
+  is = ap (λ (xs : Trace). xs ++ event.CallEnded p r ∷ []) e ∙ append_assoc es more (event.CallEnded p r ∷ []);
+  none = has-append begins_one more (event.CallEnded p r ∷ []) n refl;
+}
+more-settled None es p w os more e n = record { more = more; is = e; none = n }
+more-settled (Some _) es p w os more e n = record { more = more; is = e; none = n }
+
+more-onto : (es : Trace) (p : ℕ) (d : Done) (rest : List Op) → More es d.world.trace → More es (onto p d rest).world.trace
+more-onto es p d rest m = more-settled (top (rest ++ reverse d.next)) es p d.world (rest ++ reverse d.next) m.more m.is m.none
+
+-- an end that stands on top and is done adds itself
+more-act : (p : ℕ) (h : Hint) (o : Op) (w : World) (b : Bool) → is_end o ≡ b → More w.trace (act p h o w).world.trace
+more-act p h o w false n = let g : Grows w (act p h o w).world = grows-act p h o w n in record { more = g.more; is = g.is; none = g.none_begins }
+more-act p h (op.End r held) w true n = record { more = event.CallEnded p r ∷ []; is = refl; none = refl }
+more-act p h _ w true n = absurd (cc)
+
+more-react : (p : ℕ) (o : Op) (u : UserEnd) (w : World) → More w.trace (react p o u w).world.trace
+more-react p o u w = let g : Grows w (react p o u w).world = grows-react p o u w in record { more = g.more; is = g.is; none = g.none_begins }
+
+more-begun : (p : ℕ) (w : World) (here : Option ℕ) (c : Call) → More (w.trace ++ event.CallBegun p c ∷ []) (begun p (log w (event.CallBegun p c)) here c).world.trace
+more-begun p w here c = let g : Grows (log w (event.CallBegun p c)) (begun p (log w (event.CallBegun p c)) here c).world = grows-begun p (log w (event.CallBegun p c)) here c in record { more = g.more; is = g.is; none = g.none_begins }
+
+more-gone_on : (p : ℕ) (w : World) (os : List Op) (o : Option Op) (d : Op → Done) → ((x : Op) → More w.trace (d x).world.trace) → More w.trace (gone_on p w os o d).world.trace
+more-gone_on p w os None d k = record { more = []; is = sym (append-nil w.trace); none = refl }
+more-gone_on p w os (Some o) d k = more-onto w.trace p (d o) (below_top os) (k o)
+
+-- what a step does to the machine and its trace: nothing; it adds something in which no call begins; or, first of all, the
+-- beginning of its call
+pub data Adds (s : Machine) (t : Step) (now : Machine) : Type 0 where
+  refused : now ≡ s → Adds s t now
+  goes_on : is_onward t ≡ true → More s.world.trace now.world.trace → Adds s t now
+  begins : (p : ℕ) (c : Call) → t ≡ Begin p c → More (s.world.trace ++ event.CallBegun p c ∷ []) now.world.trace → Adds s t now
+
+adds-after : (s : Machine) (t : Step) → Adds s t (after s t)
+adds-after s (Begin p c) = begins p c refl (more-onto (s.world.trace ++ event.CallBegun p c ∷ []) p (begun p (log s.world (event.CallBegun p c)) (polled_by (top (stack s p))) c) (stack s p) (more-begun p s.world (polled_by (top (stack s p))) c))
+adds-after s (Go p h) = goes_on refl (more-gone_on p s.world (stack s p) (top (stack s p)) (λ o. act p h o s.world) (λ o. more-act p h o s.world (is_end o) refl))
+adds-after s (Answers p u) = goes_on refl (more-gone_on p s.world (stack s p) (top (stack s p)) (λ o. react p o u s.world) (λ o. more-react p o u s.world))
+
+adds-by : (s : Machine) (t : Step) (r : Option StepError) → Adds s t (stepped s (step_by r s t))
+adds-by s t (Some e) = refused refl
+adds-by s t None = adds-after s t
+
+pub adds : (s : Machine) (t : Step) → Adds s t (stepped s (step s t))
+unfolding step
+adds s t = adds-by s t (refusal s t)
+
+-- whatever is done, what has happened stays
+pub continues : (s : Machine) (t : Step) → IsContinued s.world.trace (stepped s (step s t)).world.trace
+continues s t = by-kind (adds s t)
+  where
+    by-kind : Adds s t (stepped s (step s t)) → IsContinued s.world.trace (stepped s (step s t)).world.trace
+    by-kind (refused e) = ([], ap (λ (m : Machine). m.world.trace) e ∙ sym (append-nil s.world.trace))
+    by-kind (goes_on k m) = (m.more, m.is)
+    by-kind (begins p c e m) = (event.CallBegun p c ∷ m.more, m.is ∙ append_assoc s.world.trace (event.CallBegun p c ∷ []) m.more)
+
+pub run-continues : (ts : List Step) (s : Machine) → IsContinued s.world.trace (run ts s).world.trace
+run-continues [] s = ([], sym (append-nil s.world.trace))
+run-continues (t ∷ ts) s =
+    let one : IsContinued s.world.trace (stepped s (step s t)).world.trace = continues s t in
+    let all : IsContinued (stepped s (step s t)).world.trace (run ts (stepped s (step s t))).world.trace = run-continues ts (stepped s (step s t)) in
+    (one.0 ++ all.0, all.1 ∙ (ap (λ (xs : Trace). xs ++ all.0) one.1 ∙ append_assoc s.world.trace one.0 all.0))

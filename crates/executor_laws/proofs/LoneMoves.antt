@@ -1,0 +1,176 @@
+-- What happens within a lone tick, once its future is taken: the queue and the trace only get longer, and no other call begins.
+use Rattle.std.proofs.Common.{◌≡◌, ℕ, List, [], ◌∷◌, ◌++◌, Bool, true, false, refl, sym, ap, ◌∙◌, arith, append-nil, append_assoc}
+use Rattle.std.specs.Prelude.{Option, Some, None}
+use Rattle.task_moves.specs.declared.schedule_info.ScheduleInfo.{ScheduleInfo}
+use Rattle.task_moves.specs.declared.moves.owed.Move.{Move}
+use Rattle.task_moves.specs.declared.moves.owed.Move.TheVariants as move
+use Rattle.task_moves.specs.declared.moves.owed.FutureDebt.{FutureDebt}
+use Rattle.task_moves.specs.declared.moves.owed.FutureDebt.TheVariants.{PollFuture, DropFuture}
+use Rattle.task_moves.specs.declared.moves.owed.AwaiterDebt.{AwaiterDebt}
+use Rattle.task_moves.specs.declared.moves.owed.AwaiterDebt.TheVariants.{NotifyAwaiter, NotifyOther, CallGiven, StoreCopy, CallStored, TakeAwaiter, CallTaken}
+use Rattle.task_moves.specs.declared.moves.owed.Owed.{Owed}
+use Rattle.task_moves.specs.declared.moves.owed.Moved.{Moved}
+use Rattle.task_moves.specs.Moves as moves
+use Rattle.executor_model.specs.declared.event.Answer.TheVariants as answer
+use Rattle.executor_model.specs.declared.event.Event.{Event}
+use Rattle.executor_model.specs.declared.event.Event.TheVariants as event
+use Rattle.executor_model.specs.declared.op.Awaiter.{Awaiter}
+use Rattle.executor_model.specs.declared.op.Waker.{Waker}
+use Rattle.executor_model.specs.declared.op.Waker.TheVariants.{Task, Outside}
+use Rattle.executor_model.specs.declared.op.Op.{Op}
+use Rattle.executor_model.specs.declared.op.Op.TheVariants as op
+use Rattle.executor_model.specs.declared.step.Hint.{Hint}
+use Rattle.executor_model.specs.declared.step.UserEnd.{UserEnd}
+use Rattle.executor_model.specs.declared.step.UserEnd.TheVariants as end
+use Rattle.executor_model.specs.Trace.{Trace}
+use Rattle.executor_model.specs.World.{World, Done, done, log, log_if, task, put, among, awaiter_of}
+use Rattle.executor_model.specs.Carried.{owed_ops, schedule_ops, future_ops, output_ops, awaiter_ops, next_ops, carried}
+use Rattle.executor_model.specs.Acts.{append_by, leave_by, waker_goes, notify_by, told, call_awaiter, act}
+use Rattle.executor_model.specs.Steps.{waits, accepts, react}
+use Rattle.executor_model.specs.Weights.{weigh}
+use Rattle.executor_model.proofs.Lists.{weigh-append}
+
+-- what belongs to no tick whose future is taken
+abbrev pub stray_of : Op → ℕ
+stray_of op.Enter = 1
+stray_of op.Take = 1
+stray_of op.LookAtTable = 1
+stray_of (op.CopyWaker f held) = 1
+stray_of (op.Look f a) = 1
+stray_of (op.CopyAwaiter f a) = 1
+stray_of (op.Register f a k) = 1
+stray_of (op.EndRegister f a k) = 1
+stray_of (op.LookAgain f) = 1
+stray_of op.TakeOut = 1
+stray_of op.DropNext = 1
+stray_of op.WakeNext = 1
+stray_of op.Close = 1
+stray_of op.Drain = 1
+stray_of (op.End a held) = 1
+stray_of _ = 0
+
+-- nothing strays, and queue and trace get longer at their ends
+pub record Inner (w : World) (d : Done) : Type 0 where
+  pub plain : weigh stray_of d.next ≡ 0
+  pub added : List ℕ
+  pub queue : d.world.queue.items ≡ w.queue.items ++ added
+  pub events : Trace
+  pub trace : d.world.trace ≡ w.trace ++ events
+  pub there : d.world.gone ≡ w.gone
+
+-- what a move owes doesn't stray
+both : (xs ys : List Op) → weigh stray_of xs ≡ 0 → weigh stray_of ys ≡ 0 → weigh stray_of (xs ++ ys) ≡ 0
+both xs ys a b = omega (arith, weigh-append stray_of xs ys, a, b)
+
+of-schedule : (f : ℕ) (o : Option ScheduleInfo) → weigh stray_of (schedule_ops f o) ≡ 0
+of-schedule f (Some info) = refl
+of-schedule f None = refl
+
+of-future : (there : Bool) (f : ℕ) (o : Option FutureDebt) → weigh stray_of (future_ops there f o) ≡ 0
+of-future there f (Some PollFuture) = refl
+of-future true f (Some DropFuture) = refl
+of-future false f (Some DropFuture) = refl
+of-future there f None = refl
+
+of-output : (f : ℕ) (b : Bool) → weigh stray_of (output_ops b f) ≡ 0
+of-output f true = refl
+of-output f false = refl
+
+of-awaiter : (f : ℕ) (o : Option AwaiterDebt) → weigh stray_of (awaiter_ops f o) ≡ 0
+of-awaiter f (Some NotifyAwaiter) = refl
+of-awaiter f (Some NotifyOther) = refl
+of-awaiter f (Some CallGiven) = refl
+of-awaiter f (Some StoreCopy) = refl
+of-awaiter f (Some CallStored) = refl
+of-awaiter f (Some TakeAwaiter) = refl
+of-awaiter f (Some CallTaken) = refl
+of-awaiter f None = refl
+
+of-next : (f : ℕ) (o : Option Move) → weigh stray_of (next_ops f o) ≡ 0
+of-next f (Some move.Release) = refl
+of-next f (Some move.SettleClosed) = refl
+of-next f (Some move.GiveUp) = refl
+of-next f (Some move.EndClosed) = refl
+of-next f (Some move.Detach) = refl
+of-next f _ = refl
+
+of-owed : (f : ℕ) (there : Bool) (o : Owed) → weigh stray_of (owed_ops there f o) ≡ 0
+of-owed f there o = both _ _ (both _ _ (both _ _ (both _ _ (of-schedule f o.schedule) (of-future there f o.future)) (of-output f o.drop_output)) (of-awaiter f o.awaiter)) (of-next f o.next)
+
+of-goes : (a : Waker) → weigh stray_of (waker_goes a) ≡ 0
+of-goes (Task k) = refl
+of-goes (Outside x) = refl
+
+of-told : (b : Bool) (f : ℕ) (a : Option Awaiter) → weigh stray_of (told b f a) ≡ 0
+of-told b f None = refl
+of-told true f (Some a) = of-goes a.waker
+of-told false f (Some a) = refl
+
+-- queue, trace and the executor stay
+still : (w v : World) (next : List Op) → v.queue ≡ w.queue → v.trace ≡ w.trace → v.gone ≡ w.gone → weigh stray_of next ≡ 0 → Inner w (done v next)
+still w v next q t g z = record { plain = z; added = []; queue = ap (λ x. x.items) q ∙ sym (append-nil w.queue.items); events = []; trace = t ∙ sym (append-nil w.trace); there = g }
+
+-- something happens
+abbrev pub logged : (w v : World) (e : Event) (next : List Op) → v.queue ≡ w.queue → v.trace ≡ w.trace ++ e ∷ [] → v.gone ≡ w.gone → weigh stray_of next ≡ 0 → Inner w (done v next)
+logged w v e next q t g z = record { plain = z; added = []; queue = ap (λ x. x.items) q ∙ sym (append-nil w.queue.items); events = e ∷ []; trace = t; there = g }
+
+pub inner-carried : (w : World) (f : ℕ) (m : Moved) → Inner w (carried w f m)
+inner-carried w f m = still w (put w f m.state) _ refl refl refl (of-owed f (among f w.table) m.owed)
+
+inner-logged : (b : Bool) (w : World) (e : Event) (f : ℕ) (m : Moved) → Inner w (carried (log_if b w e) f m)
+inner-logged true w e f m = logged w (put (log w e) f m.state) e _ refl refl refl (of-owed f (among f w.table) m.owed)
+inner-logged false w e f m = inner-carried w f m
+
+-- after an event
+then-inner : (w : World) (e : Event) (d : Done) → Inner (log w e) d → Inner w d
+then-inner w e d i = record { plain = i.plain; added = i.added; queue = i.queue; events = e ∷ i.events; trace = i.trace ∙ append_assoc w.trace (e ∷ []) i.events; there = i.there }
+
+inner-append : (b : Bool) (w : World) (f : ℕ) → Inner w (append_by b w f)
+inner-append true w f = record { plain = refl; added = f ∷ []; queue = refl; events = []; trace = sym (append-nil w.trace); there = refl }
+inner-append false w f = still w w _ refl refl refl refl
+
+inner-leave : (b : Bool) (w : World) (f : ℕ) → Inner w (leave_by b w f)
+inner-leave true w f = still w _ _ refl refl refl refl
+inner-leave false w f = still w _ _ refl refl refl refl
+
+inner-notify : (b : Bool) (w : World) (f : ℕ) (mine : Bool) → Inner w (notify_by b w f mine)
+inner-notify true w f mine = still w _ _ refl refl refl refl
+inner-notify false w f mine = still w _ _ refl refl refl refl
+
+inner-call : (p : ℕ) (w : World) (f : ℕ) (a : Waker) (k : ℕ) → Inner w (call_awaiter p w f a k)
+inner-call p w f (Task g) k = then-inner w (event.WakerCalled p f k (Task g)) _ (inner-logged _ (log w (event.WakerCalled p f k (Task g))) (event.Woken p g) g (moves.wake (task w g)))
+inner-call p w f (Outside x) k = logged w _ (event.WakerCalled p f k (Outside x)) _ refl refl refl refl
+
+pub inner-act : (p : ℕ) (h : Hint) (o : Op) (w : World) → waits o ≡ false → stray_of o ≡ 0 → Inner w (act p h o w)
+inner-act p h (op.Append f) w n z = inner-append _ w f
+inner-act p h (op.WakeByReference f) w n z = inner-logged _ w (event.Woken p f) f (moves.wake_by_reference (task w f))
+inner-act p h (op.Wake f) w n z = inner-logged _ w (event.Woken p f) f (moves.wake (task w f))
+inner-act p h (op.Release f) w n z = inner-carried w f (moves.release (task w f))
+inner-act p h (op.TakeUp f) w n z = inner-logged _ w (event.PollBegun p f) f (moves.take_up (task w f))
+inner-act p h (op.SettleClosed f) w n z = inner-carried w f (moves.settle_closed (task w f))
+inner-act p h (op.GiveUp f) w n z = inner-carried w f (moves.give_up (task w f))
+inner-act p h (op.EndReady f) w n z = inner-carried w f (moves.end_ready (task w f))
+inner-act p h (op.EndPending f) w n z = inner-carried w f (moves.end_pending (task w f))
+inner-act p h (op.EndClosed f) w n z = inner-carried w f (moves.end_closed (task w f))
+inner-act p h (op.DropRunnable f) w n z = inner-carried w f (moves.drop_runnable (task w f))
+inner-act p h (op.Cancel f) w n z = inner-logged _ w (event.Cancelled p f) f (moves.cancel (task w f))
+inner-act p h (op.Detach f) w n z = inner-logged _ w (event.Detached p f) f (moves.detach (task w f))
+inner-act p h (op.TakeToPoll f) w n z = still w _ _ refl refl refl refl
+inner-act p h (op.PutBack f) w n z = still w _ _ refl refl refl refl
+inner-act p h (op.TakeToDrop f) w n z = still w _ _ refl refl refl refl
+inner-act p h (op.BeginDrop f) w n z = logged w _ (event.Dropped p f) _ refl refl refl refl
+inner-act p h (op.LeaveTable f) w n z = inner-leave _ w f
+inner-act p h (op.BeginDropOutput f) w n z = logged w _ (event.OutputDropped p f) _ refl refl refl refl
+inner-act p h (op.Notify f mine) w n z = inner-notify _ w f mine
+inner-act p h (op.EndNotify f mine) w n z = still w _ _ refl refl refl (of-told _ f (awaiter_of w f))
+inner-act p h (op.CallAwaiter f a k) w n z = inner-call p w f a k
+inner-act p h _ w n z = absurd (cc)
+
+-- the end of user code
+pub inner-react : (p : ℕ) (o : Op) (u : UserEnd) (w : World) → accepts o u ≡ true → Inner w (react p o u w)
+inner-react p (op.Poll f) (end.Polled answer.Pending) w a = logged w _ (event.Answered p f answer.Pending) _ refl refl refl refl
+inner-react p (op.Poll f) (end.Polled answer.Ready) w a = logged w _ (event.Answered p f answer.Ready) _ refl refl refl refl
+inner-react p (op.Drop f) end.Done w a = still w w _ refl refl refl refl
+inner-react p (op.DropOutput f) end.Done w a = still w w _ refl refl refl refl
+inner-react p (op.CallOutside x) end.Done w a = still w w _ refl refl refl refl
+inner-react p _ _ w a = absurd (cc)

@@ -1,0 +1,40 @@
+-- Who hands a Runnable on where a task is marked as scheduled.
+use Rattle.std.specs.Prelude.{◌≡◌, ℕ, true, false, cond}
+use Rattle.task_moves.specs.Moves.{is_over}
+use Rattle.executor_model.specs.declared.op.Op.{Op}
+use Rattle.executor_model.specs.declared.op.Op.TheVariants as op
+use Rattle.executor_model.specs.declared.step.Hint.{Hint}
+use Rattle.executor_model.specs.World.{World, task}
+use Rattle.executor_model.specs.Weights.{same, weigh}
+use Rattle.executor_model.specs.Acts.{act}
+use Rattle.executor_model.specs.Steps.{Machine}
+use Rattle.executor_model.specs.Sound.{pend, tokens}
+
+-- a Runnable of g is handed to the schedule function
+abbrev pub appends_of : ℕ → Op → ℕ
+appends_of g (op.Append f) = same g f
+appends_of g _ = 0
+
+abbrev pub handed_on : ℕ → Op → ℕ → Hint → World → ℕ
+handed_on g o p h w = weigh (appends_of g) (act p h o w).next
+
+-- a wake that marks f's task hands on one Runnable, but none where the task is running, and then the end of the poll does,
+-- unless the task is closed by then
+pub record HandsOn (w : World) (f p : ℕ) (h : Hint) : Type 0 where
+  pub by_reference : is_over (task w f) ≡ false → (task w f).scheduled ≡ false → handed_on f (op.WakeByReference f) p h w ≡ cond (task w f).running 0 1
+  pub by_value : is_over (task w f) ≡ false → (task w f).scheduled ≡ false → handed_on f (op.Wake f) p h w ≡ cond (task w f).running 0 1
+  pub at_the_end : (task w f).closed ≡ false → (task w f).scheduled ≡ true → handed_on f (op.EndPending f) p h w ≡ 1
+  pub none_by_reference : (task w f).scheduled ≡ true → handed_on f (op.WakeByReference f) p h w ≡ 0
+  pub none_by_value : (task w f).scheduled ≡ true → handed_on f (op.Wake f) p h w ≡ 0
+
+-- f's task is open, and neither marked nor running
+pub record IsIdle (w : World) (f : ℕ) : Type 0 where
+  pub unscheduled : (task w f).scheduled ≡ false
+  pub stopped : (task w f).running ≡ false
+  pub incomplete : (task w f).completed ≡ false
+  pub unclosed : (task w f).closed ≡ false
+
+-- a task that is marked has one Runnable, run or closing call, and an idle one has none
+pub record IsOnItsWay (s : Machine) (f : ℕ) : Type 0 where
+  pub marked : (task s.world f).scheduled ≡ true → tokens s.world f (pend f s.parties) ≡ 1
+  pub idle : IsIdle s.world f → tokens s.world f (pend f s.parties) ≡ 0

@@ -1,0 +1,340 @@
+-- However far a script is played, its machine is what the steps that were tried make of a new one, and all is shown that happened.
+use Rattle.std.proofs.Common.{◌≡◌, ℕ, zero, suc, Bool, true, false, List, [], ◌∷◌, ◌++◌, length, map, drop, Result, Ok, Err, refl, sym, ap, ◌∙◌, subst, append-nil, arith}
+use Rattle.std.proofs.Math.Seq.{drop-append_seam}
+use Rattle.std.specs.Prelude.{Option, Some, None}
+use Rattle.executor_laws.specs.Continued.{IsContinued}
+use Rattle.executor_model.specs.declared.call.Call.{Call}
+use Rattle.executor_model.specs.declared.call.Reply.{Reply}
+use Rattle.executor_model.specs.declared.call.Reply.TheVariants as reply
+use Rattle.executor_model.specs.declared.event.Event.{Event}
+use Rattle.executor_model.specs.declared.event.Event.TheVariants as event
+use Rattle.executor_model.specs.declared.op.Op.{Op}
+use Rattle.executor_model.specs.declared.op.Op.TheVariants as op
+use Rattle.executor_model.specs.declared.op.Waker.{Waker}
+use Rattle.executor_model.specs.declared.step.Step.{Step}
+use Rattle.executor_model.specs.declared.step.Step.TheVariants.{Begin}
+use Rattle.executor_model.specs.declared.step.StepError.{StepError}
+use Rattle.executor_model.specs.declared.step.UserEnd.{UserEnd}
+use Rattle.executor_model.specs.Steps as steps
+use Rattle.executor_model.specs.Steps.{Machine}
+use Rattle.executor_model.specs.Trace.{Trace}
+use Rattle.script.specs.declared.command.Command.{Command}
+use Rattle.script.specs.declared.command.Command.TheVariants as command
+use Rattle.script.specs.declared.item.Item.{Item}
+use Rattle.script.specs.declared.item.Item.TheVariants as item
+use Rattle.script.specs.declared.plain.Plain.{Plain}
+use Rattle.script.specs.declared.plain.Plain.TheVariants as plain
+use Rattle.script.specs.declared.word.Word.{Word}
+use Rattle.script.specs.Names.{number_of}
+use Rattle.simulator.specs.declared.moment.Moment.{Moment}
+use Rattle.simulator.specs.declared.moment.Moment.TheVariants.{Happened, Ended}
+use Rattle.simulator.specs.declared.moment.Outcome.{Outcome}
+use Rattle.simulator.specs.declared.play.future.Stage.{Stage}
+use Rattle.simulator.specs.declared.play.future.Stage.TheVariants as stage
+use Rattle.simulator.specs.declared.play.party.Doing.{Doing}
+use Rattle.simulator.specs.Play as play
+use Rattle.simulator.specs.Play.{Player, plain_at, party, set_party, future, set_future, top, tried, taken, shown, noted, accepted, accepted_by, accepted_as, made, kept_at, last, later, ended}
+use Rattle.simulator.specs.Turn as turns
+use Rattle.simulator.specs.Commands as commands
+use Rattle.simulator.specs.ScriptText.{happened}
+
+happened-append : (xs ys : List Moment) → happened (xs ++ ys) ≡ happened xs ++ happened ys
+happened-append [] ys = refl
+happened-append (Happened e ∷ xs) ys = ap (λ (es : List Event). e ∷ es) (happened-append xs ys)
+happened-append (Ended w o ∷ xs) ys = happened-append xs ys
+
+happened-all : (es : List Event) → happened (map Happened es) ≡ es
+happened-all [] = refl
+happened-all (e ∷ es) = ap (λ (xs : List Event). e ∷ xs) (happened-all es)
+
+run-push : (ts : List Step) (t : Step) (m : Machine) → steps.run (ts ++ t ∷ []) m ≡ steps.stepped (steps.run ts m) (steps.step (steps.run ts m) t)
+run-push [] t m = refl
+run-push (x ∷ ts) t m = run-push ts t (steps.stepped m (steps.step m x))
+
+-- the moments of a player are those of its machine, which came of the steps
+abbrev Comes : ℕ → List Step → Machine → List Moment → Type 0
+Comes limit ts m moments = (steps.run ts (steps.start limit 10) ≡ m) × (happened moments ≡ m.world.trace)
+
+abbrev pub IsFair : ℕ → Player → Type 0
+IsFair limit s = Comes limit s.tried s.machine s.moments
+
+-- whether what a player shows is fair depends on no more than its machine, its steps and its moments
+record Same (s new : Player) : Type 0 where
+  machine : new.machine ≡ s.machine
+  tried : new.tried ≡ s.tried
+  moments : new.moments ≡ s.moments
+
+same-fair : (limit : ℕ) (s new : Player) → Same s new → IsFair limit s → IsFair limit new
+same-fair limit s new e k =
+    (ap (λ (ts : List Step). steps.run ts (steps.start limit 10)) e.tried ∙ (k.0 ∙ sym e.machine),
+     ap happened e.moments ∙ (k.1 ∙ ap (λ (m : Machine). m.world.trace) (sym e.machine)))
+
+own : (s : Player) → Same s s
+own s = record { machine = refl; tried = refl; moments = refl }
+
+-- what is learned from an event
+
+learns-as : (o : Option ℕ) (name : List ℕ) (at : ℕ) (s : Player) → Same s (accepted_as o name at s)
+learns-as None name at s = record { machine = refl; tried = refl; moments = refl }
+learns-as (Some f) name at s = own s
+
+learns-by : (o : Option Plain) (at : ℕ) (s : Player) → Same s (accepted_by o at s)
+learns-by (Some (plain.Spawn name items)) at s = learns-as (number_of s.names name) name at s
+learns-by None at s = own s
+learns-by (Some _) at s = own s
+
+learns-accepted : (o : Option Doing) (s : Player) → Same s (accepted o s)
+unfolding accepted
+learns-accepted None s = own s
+learns-accepted (Some doing) s = learns-by (plain_at s doing.command) doing.command s
+
+learns-kept : (o : Option Op) (s : Player) → Same s (kept_at o s)
+unfolding kept_at
+learns-kept (Some (op.Poll f)) s = record { machine = refl; tried = refl; moments = refl }
+learns-kept None s = own s
+learns-kept (Some _) s = own s
+
+learns-made : (r : Reply) (p : ℕ) (s : Player) → Same s (made r p s)
+learns-made reply.Made p s = learns-kept (top s p) s
+learns-made _ p s = own s
+
+learns : (o : Option Event) (s : Player) → Same s (noted o s)
+unfolding noted
+learns (Some (event.Accepted p f)) s = learns-accepted (party s p).doing s
+learns (Some (event.CallEnded p r)) s =
+    let here : Player = set_party p (record (party s p) { reply = r }) s in
+    let m : Same here (made r p here) = learns-made r p here in
+    record { machine = m.machine; tried = m.tried; moments = m.moments }
+learns None s = own s
+learns (Some _) s = own s
+
+module _ (continues : (m : Machine) (t : Step) → IsContinued m.world.trace (steps.stepped m (steps.step m t)).world.trace) (limit : ℕ) where
+  -- a step that is tried
+
+  fair-taken : (t : Step) (s : Player) (r : Result Machine StepError) → steps.step s.machine t ≡ r → IsFair limit s → IsFair limit (taken r (record s { tried = s.tried ++ t ∷ [] }))
+  unfolding shown
+  fair-taken t s (Err e) q k =
+      (run-push s.tried t (steps.start limit 10) ∙ (ap (λ (m : Machine). steps.stepped m (steps.step m t)) k.0 ∙ ap (steps.stepped s.machine) q), k.1)
+  fair-taken t s (Ok m) q k =
+      let here : Player = record s { machine = m; tried = s.tried ++ t ∷ []; moments = s.moments ++ map Happened (later (length s.machine.world.trace) m.world.trace) } in
+      let on : IsContinued s.machine.world.trace m.world.trace = subst (λ (x : Result Machine StepError). IsContinued s.machine.world.trace (steps.stepped s.machine x).world.trace) q (continues s.machine t) in
+      let behind : later (length s.machine.world.trace) m.world.trace ≡ on.0 = ap (drop (length s.machine.world.trace)) on.1 ∙ drop-append_seam s.machine.world.trace on.0 in
+      let all : happened here.moments ≡ m.world.trace =
+          happened-append s.moments (map Happened (later (length s.machine.world.trace) m.world.trace))
+          ∙ (ap (λ (es : List Event). es ++ happened (map Happened (later (length s.machine.world.trace) m.world.trace))) k.1
+          ∙ (ap (λ (es : List Event). s.machine.world.trace ++ es) (happened-all (later (length s.machine.world.trace) m.world.trace) ∙ behind)
+          ∙ sym on.1)) in
+      let steps_here : steps.run here.tried (steps.start limit 10) ≡ m =
+          run-push s.tried t (steps.start limit 10) ∙ (ap (λ (x : Machine). steps.stepped x (steps.step x t)) k.0 ∙ ap (steps.stepped s.machine) q) in
+      same-fair limit here (noted (last (later (length s.machine.world.trace) m.world.trace)) here) (learns (last (later (length s.machine.world.trace) m.world.trace)) here) (steps_here, all)
+
+  fair-tried : (t : Step) (s : Player) → IsFair limit s → IsFair limit (tried t s)
+  unfolding tried
+  fair-tried t s k = fair-taken t s (steps.step s.machine t) refl k
+
+  fair-ended : (w : Word) (o : Outcome) (s : Player) → IsFair limit s → IsFair limit (ended w o s)
+  fair-ended w o s k = (k.0, happened-append s.moments (Ended w o ∷ []) ∙ (append-nil (happened s.moments) ∙ k.1))
+
+  -- a turn
+
+  fair-given : (f : ℕ) (w : Waker) (s : Player) → IsFair limit s → IsFair limit (turns.given f w s)
+  unfolding turns.given
+  fair-given f w s k = k
+
+  fair-go : (p : ℕ) (o : Op) (s : Player) → IsFair limit s → IsFair limit (turns.go p o s)
+  unfolding turns.go
+  fair-go p o s k = fair-tried _ s k
+
+  fair-answer : (p : ℕ) (e : UserEnd) (s : Player) → IsFair limit s → IsFair limit (turns.answer p e s)
+  unfolding turns.answer
+  fair-answer p e s k = fair-tried _ s k
+
+  fair-go_on : (p : ℕ) (o : Op) (s : Player) → IsFair limit s → IsFair limit (turns.go_on p o s)
+  unfolding turns.go_on
+  fair-go_on p (op.DropOutput f) s k = fair-answer p _ s k
+  fair-go_on p (op.CallOutside x) s k = fair-answer p _ s k
+  fair-go_on p o s k = fair-go p o s k
+
+  fair-pending : (p f : ℕ) (s : Player) → IsFair limit s → IsFair limit (turns.end_pending p f s)
+  unfolding turns.end_pending
+  fair-pending p f s k = fair-answer p _ _ k
+
+  fair-ready : (p f v : ℕ) (s : Player) → IsFair limit s → IsFair limit (turns.end_ready p f v s)
+  unfolding turns.end_ready
+  fair-ready p f v s k = fair-answer p _ _ k
+
+  fair-ask : (p f : ℕ) (c : Call) (s : Player) → IsFair limit s → IsFair limit (turns.ask p f c s)
+  unfolding turns.ask
+  fair-ask p f c s k = fair-tried _ _ k
+
+  fair-end_by : (o : Option ℕ) (p f : ℕ) (s : Player) → IsFair limit s → IsFair limit (turns.end_by o p f s)
+  fair-end_by (Some v) p f s k = fair-ready p f v s k
+  fair-end_by None p f s k = fair-pending p f s k
+
+  fair-other : (st : Stage) (p f g : ℕ) (s : Player) → IsFair limit s → IsFair limit (turns.poll_other st p f g s)
+  unfolding turns.poll_other
+  fair-other stage.Begun p f g s k = fair-ask p f _ _ (fair-given g _ s k)
+  fair-other _ p f g s k = fair-end_by _ p f s k
+
+  fair-named : (o : Option ℕ) (p f : ℕ) (s : Player) → IsFair limit s → IsFair limit (turns.poll_named o p f s)
+  fair-named (Some g) p f s k = fair-other (future s f).stage p f g s k
+  fair-named None p f s k = fair-pending p f s k
+
+  fair-poll_by : (i : Item) (st : Stage) (p f : ℕ) (s : Player) → IsFair limit s → IsFair limit (turns.poll_by i st p f s)
+  fair-poll_by (item.Ready v) st p f s k = fair-ready p f v s k
+  fair-poll_by (item.Twice name) st p f s k = fair-named (number_of s.names name) p f s k
+  fair-poll_by item.Pend st p f s k = fair-pending p f s k
+  fair-poll_by item.WakeSelf stage.Begun p f s k = fair-ask p f _ s k
+  fair-poll_by item.WakeSelf stage.Asked p f s k = fair-pending p f s k
+  fair-poll_by item.WakeSelf (stage.Replaced old) p f s k = fair-pending p f s k
+  fair-poll_by item.Keep stage.Begun p f s k = fair-ask p f _ s k
+  fair-poll_by item.Keep (stage.Replaced old) p f s k = fair-ask p f _ s k
+  fair-poll_by item.Keep stage.Asked p f s k = fair-pending p f s k
+
+  fair-poll : (p f : ℕ) (s : Player) → IsFair limit s → IsFair limit (turns.poll p f s)
+  unfolding turns.poll
+  fair-poll p f s k = fair-poll_by _ (future s f).stage p f s k
+
+  fair-drop_named : (o : Option ℕ) (p : ℕ) (s : Player) → IsFair limit s → IsFair limit (turns.drop_named o p s)
+  fair-drop_named (Some g) p s k = fair-tried _ s k
+  fair-drop_named None p s k = fair-answer p _ s k
+
+  fair-drop_held : (place p f : ℕ) (s : Player) → IsFair limit s → IsFair limit (turns.drop_held place p f s)
+  unfolding turns.drop_held
+  fair-drop_held place p f s k = fair-drop_named _ p _ k
+
+  fair-drop_next : (o : Option ℕ) (p f : ℕ) (s : Player) → IsFair limit s → IsFair limit (turns.drop_next o p f s)
+  fair-drop_next (Some n) p f s k = fair-drop_held _ p f s k
+  fair-drop_next None p f s k = fair-answer p _ s k
+
+  fair-drop : (p f : ℕ) (s : Player) → IsFair limit s → IsFair limit (turns.drop_future p f s)
+  unfolding turns.drop_future
+  fair-drop p f s k = fair-drop_next _ p f s k
+
+  fair-outside : (p f : ℕ) (s : Player) → IsFair limit s → IsFair limit (turns.poll_outside p f s)
+  unfolding turns.poll_outside
+  fair-outside p f s k = fair-tried _ _ (fair-given f _ s k)
+
+  fair-cancelled : (o : Option ℕ) (p : ℕ) (s : Player) → IsFair limit s → IsFair limit (turns.poll_cancelled o p s)
+  fair-cancelled (Some f) p s k = fair-outside p f s k
+  fair-cancelled None p s k = fair-answer p _ s k
+
+  fair-step : (o : Option Op) (p : ℕ) (s : Player) → IsFair limit s → IsFair limit (turns.step_by o p s)
+  unfolding turns.step_by
+  fair-step None p s k = fair-cancelled _ p s k
+  fair-step (Some (op.Poll f)) p s k = fair-poll p f s k
+  fair-step (Some (op.Drop f)) p s k = fair-drop p f s k
+  fair-step (Some o) p s k = fair-go_on p o s k
+
+  -- the end of a command
+
+  fair-held_by : (o : Option ℕ) (b : Bool) (s : Player) → IsFair limit s → IsFair limit (turns.held_by o b s)
+  fair-held_by (Some g) b s k = k
+  fair-held_by None b s k = k
+
+  fair-held : (is : List Item) (b : Bool) (s : Player) → IsFair limit s → IsFair limit (turns.held is b s)
+  unfolding turns.held
+  fair-held [] b s k = k
+  fair-held (item.Twice name ∷ is) b s k = fair-held is b _ (fair-held_by (number_of s.names name) b s k)
+  fair-held (_ ∷ is) b s k = fair-held is b s k
+
+  fair-closed : (p : ℕ) (doing : Doing) (s : Player) → IsFair limit s → IsFair limit (turns.closed p doing s)
+  unfolding turns.closed
+  fair-closed p doing s k = fair-ended _ _ _ k
+
+  fair-given_back : (b : Bool) (is : List Item) (s : Player) → IsFair limit s → IsFair limit (turns.given_back b is s)
+  fair-given_back true is s k = k
+  fair-given_back false is s k = fair-held is false s k
+
+  fair-polls_next : (b : Bool) (p : ℕ) (doing : Doing) (s : Player) → IsFair limit s → IsFair limit (turns.polls_next b p doing s)
+  fair-polls_next true p doing s k = fair-closed p doing s k
+  fair-polls_next false p doing s k = k
+
+  fair-settled_as : (o : Option Plain) (p : ℕ) (doing : Doing) (s : Player) → IsFair limit s → IsFair limit (turns.settled_as o p doing s)
+  unfolding turns.settled_as
+  fair-settled_as (Some (plain.Cancel name)) p doing s k = fair-polls_next doing.polls p doing s k
+  fair-settled_as (Some (plain.Spawn name items)) p doing s k = fair-closed p doing _ (fair-given_back _ items s k)
+  fair-settled_as None p doing s k = fair-closed p doing s k
+  fair-settled_as (Some _) p doing s k = fair-closed p doing s k
+
+  fair-settled_by : (o : Option Doing) (p : ℕ) (s : Player) → IsFair limit s → IsFair limit (turns.settled_by o p s)
+  fair-settled_by (Some doing) p s k = fair-settled_as (plain_at s doing.command) p doing s k
+  fair-settled_by None p s k = k
+
+  fair-settled : (o : Option Op) (p : ℕ) (s : Player) → IsFair limit s → IsFair limit (turns.settled o p s)
+  fair-settled None p s k = fair-settled_by (party s p).doing p s k
+  fair-settled (Some o) p s k = k
+
+  fair-settle : (p : ℕ) (s : Player) → IsFair limit s → IsFair limit (turns.settle p s)
+  unfolding turns.settle
+  fair-settle p s k = fair-settled (top s p) p s k
+
+  fair-turn : (p : ℕ) (s : Player) → IsFair limit s → IsFair limit (turns.turn p s)
+  unfolding turns.turn
+  fair-turn p s k = fair-settle p _ (fair-step (top s p) p s k)
+
+  -- a command
+
+  fair-unkept : (o : Option ℕ) (s : Player) → IsFair limit s → IsFair limit (commands.unkept o s)
+  fair-unkept (Some f) s k = k
+  fair-unkept None s k = k
+
+  fair-polled : (o : Option ℕ) (s : Player) → IsFair limit s → IsFair limit (commands.polled_by o s)
+  fair-polled (Some f) s k = fair-given f _ s k
+  fair-polled None s k = k
+
+  fair-started : (c : Plain) (s : Player) → IsFair limit s → IsFair limit (commands.started c s)
+  unfolding commands.started
+  fair-started (plain.Spawn name items) s k = fair-held items true s k
+  fair-started (plain.Unkeep name) s k = fair-unkept (number_of s.names name) s k
+  fair-started (plain.Poll name) s k = fair-polled (number_of s.names name) s k
+  fair-started _ s k = k
+
+  fair-began : (b : Bool) (p at : ℕ) (c : Plain) (w : Word) (s : Player) → IsFair limit s → IsFair limit (commands.began b p at c w s)
+  fair-began true p at c w s k = fair-started c _ k
+  fair-began false p at c w s k = fair-ended w _ s k
+
+  fair-begin_call : (p at : ℕ) (c : Plain) (w : Word) (x : Call) (s : Player) → IsFair limit s → IsFair limit (commands.begin_call p at c w x s)
+  unfolding commands.begin_call
+  fair-begin_call p at c w x s k = fair-began _ p at c w _ (fair-tried (Begin p x) s k)
+
+  fair-begin_by : (o : Option Call) (p at : ℕ) (c : Plain) (w : Word) (s : Player) → IsFair limit s → IsFair limit (commands.begin_by o p at c w s)
+  fair-begin_by (Some x) p at c w s k = fair-begin_call p at c w x s k
+  fair-begin_by None p at c w s k = fair-ended w _ s k
+
+  fair-begin_unless : (b : Bool) (p at : ℕ) (c : Plain) (w : Word) (s : Player) → IsFair limit s → IsFair limit (commands.begin_unless b p at c w s)
+  fair-begin_unless true p at c w s k = fair-ended w _ s k
+  fair-begin_unless false p at c w s k = fair-begin_by (commands.call_of s c) p at c w s k
+
+  fair-begin : (p at : ℕ) (c : Plain) (w : Word) (s : Player) → IsFair limit s → IsFair limit (commands.begin p at c w s)
+  unfolding commands.begin
+  fair-begin p at c w s k = fair-begin_unless (commands.is_busy p s) p at c w s k
+
+  fair-turns : (n p : ℕ) (s : Player) → IsFair limit s → IsFair limit (commands.turns n p s)
+  fair-turns zero p s k = k
+  fair-turns (suc n) p s k = fair-turn p (commands.turns n p s) (fair-turns n p s k)
+
+  fair-finishes : (p : ℕ) (s new : Player) → commands.Finishes p s new → IsFair limit s → IsFair limit new
+  fair-finishes p s new f k = subst (IsFair limit) (sym f.taken) (fair-turns f.count p s k)
+
+  fair-plays_go : (b : Bool) (p : ℕ) (s new : Player) → commands.PlaysGo b p s new → IsFair limit s → IsFair limit new
+  fair-plays_go true p s new e k = subst (IsFair limit) (sym e) (fair-turn p s k)
+  fair-plays_go false p s new e k = subst (IsFair limit) (sym e) (fair-ended _ _ s k)
+
+  fair-plays_finish : (b : Bool) (p : ℕ) (s new : Player) → commands.PlaysFinish b p s new → IsFair limit s → IsFair limit new
+  fair-plays_finish true p s new e k = fair-finishes p s new e k
+  fair-plays_finish false p s new e k = subst (IsFair limit) (sym e) (fair-ended _ _ s k)
+
+  fair-plays : (at : ℕ) (c : Command) (s new : Player) → commands.Plays at c s new → IsFair limit s → IsFair limit new
+  fair-plays at (command.Whole r) s new e k = fair-finishes 0 _ new e (fair-begin 0 at r.plain _ s k)
+  fair-plays at (command.Begin p r) s new e k = subst (IsFair limit) (sym e) (fair-begin p at r.plain _ s k)
+  fair-plays at (command.Go p) s new e k = fair-plays_go (commands.is_busy p s) p s new e k
+  fair-plays at (command.Finish p) s new e k = fair-plays_finish (commands.is_busy p s) p s new e k
+
+  fair-plays_all : (at : ℕ) (cs : List Command) (s new : Player) → commands.PlaysAll at cs s new → IsFair limit s → IsFair limit new
+  fair-plays_all at [] s new e k = subst (IsFair limit) (sym e) k
+  fair-plays_all at (c ∷ cs) s new e k = fair-plays_all (suc at) cs e.0 new e.2 (fair-plays at c s e.0 e.1 k)
+
+  -- a whole script
+  pub fair : (cs : List Command) (new : Player) → commands.PlaysAll 0 cs (play.start cs limit) new → IsFair limit new
+  fair cs new e = fair-plays_all 0 cs (play.start cs limit) new e (refl, refl)

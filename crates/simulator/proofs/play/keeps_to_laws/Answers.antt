@@ -1,0 +1,22 @@
+use Rattle.executor_core.proofs.Reaching.{law_here}
+use Rattle.executor_laws.specs.AtRest.{EmptinessIsExact, TicksAreExact}
+use Rattle.executor_model.specs.AskedPolls.{IsWokenBetweenPolls}
+use Rattle.executor_model.specs.DroppedOnce.{DropComesOnce, IsDroppedByTheEnd}
+use Rattle.executor_model.specs.EarlyDrop.{EarlyDropHasCause}
+use Rattle.executor_model.specs.LawfulPolls.{HasLawfulPolls}
+use Rattle.executor_model.specs.OutputOnce.{OutputGoesOnce}
+use Rattle.simulator.proofs.play.keeps_to_laws.Goals as goal
+
+pub returns : goal.returns
+returns c =
+    let reached = c.is_reached.ensures in
+    record {
+      polls = law_here HasLawfulPolls c.polls_are_lawful.ensures _ reached;
+      wakes = law_here IsWokenBetweenPolls c.polls_are_asked_for.ensures _ reached;
+      outputs = law_here OutputGoesOnce c.outputs_go_once.ensures _ reached;
+      drops = law_here DropComesOnce c.drops_come_once.ensures _ reached;
+      causes = law_here EarlyDropHasCause c.early_drops_have_causes.ensures _ reached;
+      by_the_end = law_here IsDroppedByTheEnd c.closing_drops_each_future_once.ensures _ reached;
+      ticks = law_here TicksAreExact c.calls_at_rest_are_exact.ensures.ticks _ reached;
+      emptiness = law_here EmptinessIsExact c.calls_at_rest_are_exact.ensures.emptiness _ reached;
+    }

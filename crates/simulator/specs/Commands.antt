@@ -1,0 +1,165 @@
+-- What a command of a script is: which call it begins, for which party, and how far that is taken.
+use Rattle.std.specs.Prelude.{◌≡◌, ℕ, zero, suc, ◌+◌, ◌<◌, Bool, true, false, ◌&&◌, ◌||◌, not, if◌then◌else◌, Option, Some, None, is_some, Result, Ok, Err, List, [], ◌∷◌, ◌++◌}
+use Rattle.std.specs.List.{list_any, list_all}
+use Rattle.std.specs.Str.{bytes_eq}
+use Rattle.executor_model.specs.declared.call.By.TheVariants as by
+use Rattle.executor_model.specs.declared.call.Call.{Call}
+use Rattle.executor_model.specs.declared.call.Call.TheVariants as call
+use Rattle.executor_model.specs.declared.op.Waker.TheVariants.{Outside}
+use Rattle.executor_model.specs.declared.step.Step.{Step}
+use Rattle.executor_model.specs.declared.step.Step.TheVariants.{Begin}
+use Rattle.executor_model.specs.declared.step.StepError.{StepError}
+use Rattle.executor_model.specs.Steps as steps
+use Rattle.executor_model.specs.Steps.{Machine}
+use Rattle.script.specs.declared.command.Command.{Command}
+use Rattle.script.specs.declared.command.Command.TheVariants as command
+use Rattle.script.specs.declared.command.Request.{Request}
+use Rattle.script.specs.declared.item.Item.{Item}
+use Rattle.script.specs.declared.item.Item.TheVariants as item
+use Rattle.script.specs.declared.plain.Plain.{Plain}
+use Rattle.script.specs.declared.plain.Plain.TheVariants as plain
+use Rattle.script.specs.declared.word.Word.{Word}
+use Rattle.script.specs.declared.word.Word.TheVariants as word
+use Rattle.script.specs.Names.{number_of}
+use Rattle.script.specs.Plain.{word_of}
+use Rattle.simulator.specs.declared.moment.Outcome.TheVariants.{NotPossible}
+use Rattle.simulator.specs.declared.play.future.Future.{Future}
+use Rattle.simulator.specs.declared.play.party.Doing.{Doing}
+use Rattle.simulator.specs.declared.play.party.Party.{Party}
+use Rattle.simulator.specs.Play.{Player, plain_at, future, set_future, party, set_party, ended, tried}
+use Rattle.simulator.specs.Turn.{held, given, does, turn}
+
+-- the call with which a command begins, where the script has what the command speaks of
+
+abbrev pub kept_of : Player → Option ℕ → Option ℕ
+kept_of s (Some f) = (future s f).kept
+kept_of s None = None
+
+-- the handle of this future, unless another future holds it
+abbrev pub unheld : Player → Option ℕ → Option ℕ
+unheld s (Some f) = if (future s f).held then None else Some f
+unheld s None = None
+
+abbrev pub handle_of : Player → List ℕ → Option ℕ
+handle_of s name = unheld s (number_of s.names name)
+
+abbrev pub is_spawn_of : List ℕ → Option Plain → Bool
+is_spawn_of name (Some (plain.Spawn other items)) = bytes_eq other name
+is_spawn_of name _ = false
+
+abbrev pub is_spawning_by : Player → List ℕ → Option Doing → Bool
+is_spawning_by s name (Some doing) = is_spawn_of name (plain_at s doing.command)
+is_spawning_by s name None = false
+
+abbrev pub is_spawning : Player → List ℕ → Party → Bool
+is_spawning s name x = is_spawning_by s name x.doing
+
+-- the name is not given, and no spawn in progress may give it
+abbrev pub is_free : Player → List ℕ → Bool
+is_free s name = not (is_some (number_of s.names name)) && not (list_any (λ x. is_spawning s name x) s.parties)
+
+abbrev pub is_there : Player → Option ℕ → Bool
+is_there s (Some g) = steps.has_handle s.machine.world s.machine.parties g
+is_there s None = false
+
+-- a handle that this item names is there, and neither held nor in use
+abbrev pub is_available : Player → Item → Bool
+is_available s (item.Twice name) = is_there s (handle_of s name)
+is_available s _ = true
+
+abbrev pub can_spawn : Player → List ℕ → List Item → Bool
+can_spawn s name items = is_free s name && list_all (λ i. is_available s i) items
+
+abbrev pub on : Option ℕ → (ℕ → Call) → Option Call
+on (Some n) c = Some (c n)
+on None c = None
+
+unfoldable pub call_of : Player → Plain → Option Call
+call_of s (plain.Spawn name items) = if can_spawn s name items then Some call.Spawn else None
+call_of s plain.Try = Some call.TryTick
+call_of s plain.Empty = Some call.IsEmpty
+call_of s (plain.Wake name) = on (kept_of s (number_of s.names name)) (λ k. call.WakeByRef k)
+call_of s (plain.Unkeep name) = on (kept_of s (number_of s.names name)) (λ k. call.DropWaker k)
+call_of s (plain.Poll name) = on (handle_of s name) (λ f. call.PollHandle f (by.Outside f))
+call_of s (plain.Cancel name) = on (handle_of s name) (λ f. call.Cancel f)
+call_of s (plain.Detach name) = on (handle_of s name) (λ f. call.Detach f)
+call_of s (plain.Drop name) = on (handle_of s name) (λ f. call.DropHandle f)
+call_of s plain.End = Some call.DropExecutor
+
+-- what the script knows once a command has begun
+
+abbrev pub unkept : Option ℕ → Player → Player
+unkept (Some f) s = set_future f (record (future s f) { kept = None }) s
+unkept None s = s
+
+abbrev pub polled_by : Option ℕ → Player → Player
+polled_by (Some f) s = given f (Outside f) s
+polled_by None s = s
+
+unfoldable pub started : Plain → Player → Player
+started (plain.Spawn name items) s = held items true s
+started (plain.Unkeep name) s = unkept (number_of s.names name) s
+started (plain.Poll name) s = polled_by (number_of s.names name) s
+started _ s = s
+
+-- the call was possible, or not
+abbrev pub began : Bool → ℕ → ℕ → Plain → Word → Player → Player
+began true p at c word s = started c (does p (Some (record { command = at; polls = false })) s)
+began false p at c word s = ended word NotPossible s
+
+abbrev pub is_ok : Result Machine StepError → Bool
+is_ok (Ok m) = true
+is_ok (Err e) = false
+
+unfoldable pub is_possible : Step → Player → Bool
+is_possible t s = is_ok (steps.step s.machine t)
+
+unfoldable pub begin_call : ℕ → ℕ → Plain → Word → Call → Player → Player
+begin_call p at c word k s = began (is_possible (Begin p k) s) p at c word (tried (Begin p k) s)
+
+abbrev pub begin_by : Option Call → ℕ → ℕ → Plain → Word → Player → Player
+begin_by (Some k) p at c word s = begin_call p at c word k s
+begin_by None p at c word s = ended word NotPossible s
+
+abbrev pub begin_unless : Bool → ℕ → ℕ → Plain → Word → Player → Player
+begin_unless true p at c word s = ended word NotPossible s
+begin_unless false p at c word s = begin_by (call_of s c) p at c word s
+
+abbrev pub is_busy : ℕ → Player → Bool
+is_busy p s = is_some (party s p).doing
+
+-- party p begins the command at this place; this word is answered where that isn't possible
+unfoldable pub begin : ℕ → ℕ → Plain → Word → Player → Player
+begin p at c word s = begin_unless (is_busy p s) p at c word s
+
+-- so many turns of party p
+abbrev pub turns : ℕ → ℕ → Player → Player
+turns zero p s = s
+turns (suc n) p s = turn p (turns n p s)
+
+-- party p takes turns until its command has ended, and no more
+pub record Finishes (p : ℕ) (s new : Player) : Type 0 where
+  pub count : ℕ
+  pub taken : new ≡ turns count p s
+  pub over : is_busy p new ≡ false
+  pub before : (n : ℕ) → n < count → is_busy p (turns n p s) ≡ true
+
+abbrev pub PlaysGo : Bool → ℕ → Player → Player → Type 0
+PlaysGo true p s new = new ≡ turn p s
+PlaysGo false p s new = new ≡ ended word.Go NotPossible s
+
+abbrev pub PlaysFinish : Bool → ℕ → Player → Player → Type 0
+PlaysFinish true p s new = Finishes p s new
+PlaysFinish false p s new = new ≡ ended word.Finish NotPossible s
+
+-- the command at this place
+abbrev pub Plays : ℕ → Command → Player → Player → Type 0
+Plays at (command.Whole r) s new = Finishes 0 (begin 0 at r.plain (word_of r.plain) s) new
+Plays at (command.Begin p r) s new = new ≡ begin p at r.plain word.Begin s
+Plays at (command.Go p) s new = PlaysGo (is_busy p s) p s new
+Plays at (command.Finish p) s new = PlaysFinish (is_busy p s) p s new
+
+-- these commands in order, the first of which stands at this place
+abbrev pub PlaysAll : ℕ → List Command → Player → Player → Type 0
+PlaysAll at [] s new = new ≡ s
+PlaysAll at (c ∷ cs) s new = (next : Player) × Plays at c s next × PlaysAll (suc at) cs next new

@@ -1,0 +1,9 @@
+pub mod Play
+pub mod Turn
+pub mod Commands
+pub mod Lawful
+pub mod EventText
+pub mod EndText
+pub mod Text
+pub mod ScriptText
+pub mod Answer

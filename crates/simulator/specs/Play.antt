@@ -1,0 +1,152 @@
+-- What a script knows while it is played: the machine, the names and items of its futures, and what each party is doing.
+use Rattle.std.specs.Prelude.{ℕ, ◌-◌, ◌==◌, Bool, true, false, ◌&&◌, not, if◌then◌else◌, nat_lt, Option, Some, None, Result, Ok, Err, is_some, List, [], ◌∷◌, ◌++◌, length, map, drop, slice_get, slice_index_or, slice_set, replicate}
+use Rattle.executor_model.specs.declared.call.Reply.{Reply}
+use Rattle.executor_model.specs.declared.call.Reply.TheVariants as reply
+use Rattle.executor_model.specs.declared.event.Event.{Event}
+use Rattle.executor_model.specs.declared.event.Event.TheVariants as event
+use Rattle.executor_model.specs.declared.op.Op.{Op}
+use Rattle.executor_model.specs.declared.op.Op.TheVariants as op
+use Rattle.executor_model.specs.declared.op.Waker.{Waker}
+use Rattle.executor_model.specs.declared.op.Waker.TheVariants.{Task, Outside}
+use Rattle.executor_model.specs.declared.step.Step.{Step}
+use Rattle.executor_model.specs.declared.step.StepError.{StepError}
+use Rattle.executor_model.specs.Steps as steps
+use Rattle.executor_model.specs.Steps.{Machine}
+use Rattle.script.specs.declared.command.Command.{Command}
+use Rattle.script.specs.declared.command.Command.TheVariants as command
+use Rattle.script.specs.declared.command.Request.{Request}
+use Rattle.script.specs.declared.item.Item.{Item}
+use Rattle.script.specs.declared.item.Item.TheVariants as item
+use Rattle.script.specs.declared.plain.Plain.{Plain}
+use Rattle.script.specs.declared.plain.Plain.TheVariants as plain
+use Rattle.script.specs.declared.word.Word.{Word}
+use Rattle.script.specs.Names.{number_of}
+use Rattle.simulator.specs.declared.moment.Moment.{Moment}
+use Rattle.simulator.specs.declared.moment.Moment.TheVariants.{Happened, Ended}
+use Rattle.simulator.specs.declared.moment.Outcome.{Outcome}
+use Rattle.simulator.specs.declared.play.future.Future.{Future}
+use Rattle.simulator.specs.declared.play.future.Stage.{Stage}
+use Rattle.simulator.specs.declared.play.future.Stage.TheVariants as stage
+use Rattle.simulator.specs.declared.play.party.Doing.{Doing}
+use Rattle.simulator.specs.declared.play.party.Party.{Party}
+
+pub record Player : Type 0 where
+  pub commands : List Command
+  pub machine : Machine
+  -- the names and the futures, in the order of acceptance
+  pub names : List (List ℕ)
+  pub futures : List Future
+  pub parties : List Party
+  -- the steps that were tried, the possible ones among them being those that the machine took
+  pub tried : List Step
+  pub moments : List Moment
+
+-- the request of the command at this place
+abbrev pub request_of : Option Command → Option Request
+request_of (Some (command.Whole r)) = Some r
+request_of (Some (command.Begin p r)) = Some r
+request_of _ = None
+
+abbrev pub request_at : Player → ℕ → Option Request
+request_at s at = request_of (slice_get s.commands at)
+
+abbrev pub plain_of : Option Request → Option Plain
+plain_of (Some r) = Some r.plain
+plain_of None = None
+
+abbrev pub plain_at : Player → ℕ → Option Plain
+plain_at s at = plain_of (request_at s at)
+
+abbrev pub spawned : Option Plain → List Item
+spawned (Some (plain.Spawn name items)) = items
+spawned _ = []
+
+-- what the future does that was spawned by the command at this place
+abbrev pub items_at : Player → ℕ → List Item
+items_at s at = spawned (plain_at s at)
+
+-- a future that was just accepted, by the command at this place
+abbrev pub new_future : ℕ → Future
+new_future at = record { command = at; next = 0; let_go = 0; stage = stage.Begun; kept = None; held = false; given = Outside 0; output = 0 }
+
+abbrev pub idle : Party
+idle = record { doing = None; reply = reply.Done }
+
+abbrev pub start : List Command → ℕ → Player
+start commands limit = record { commands = commands; machine = steps.start limit 10; names = []; futures = []; parties = replicate 10 idle; tried = []; moments = [] }
+
+abbrev pub future : Player → ℕ → Future
+future s f = slice_index_or s.futures f (new_future 0)
+
+abbrev pub set_future : ℕ → Future → Player → Player
+set_future f x s = record s { futures = slice_set s.futures f x }
+
+abbrev pub party : Player → ℕ → Party
+party s p = slice_index_or s.parties p idle
+
+abbrev pub set_party : ℕ → Party → Player → Player
+set_party p x s = record s { parties = slice_set s.parties p x }
+
+-- the next thing that party p has to do
+abbrev pub top : Player → ℕ → Option Op
+top s p = steps.top (steps.stack s.machine p)
+
+abbrev pub ended : Word → Outcome → Player → Player
+ended word outcome s = record s { moments = s.moments ++ Ended word outcome ∷ [] }
+
+-- what the script learns from what has happened
+
+-- the future that is spawned was accepted
+abbrev pub accepted_as : Option ℕ → List ℕ → ℕ → Player → Player
+accepted_as None name at s = record s { names = s.names ++ name ∷ []; futures = s.futures ++ new_future at ∷ [] }
+accepted_as (Some f) name at s = s
+
+abbrev pub accepted_by : Option Plain → ℕ → Player → Player
+accepted_by (Some (plain.Spawn name items)) at s = accepted_as (number_of s.names name) name at s
+accepted_by _ at s = s
+
+unfoldable pub accepted : Option Doing → Player → Player
+accepted None s = s
+accepted (Some doing) s = accepted_by (plain_at s doing.command) doing.command s
+
+-- the new waker is kept, and the one that was kept before is to be let go
+abbrev pub replacing : Option ℕ → Stage → Stage
+replacing None before = before
+replacing (Some old) before = stage.Replaced old
+
+abbrev pub keeping : ℕ → Future → Future
+keeping waker x = record x { stage = replacing x.kept x.stage; kept = Some waker }
+
+-- a waker was made in a poll
+unfoldable pub kept_at : Option Op → Player → Player
+kept_at (Some (op.Poll f)) s = set_future f (keeping (length s.machine.world.wakers - 1) (future s f)) s
+kept_at _ s = s
+
+abbrev pub made : Reply → ℕ → Player → Player
+made reply.Made p s = kept_at (top s p) s
+made _ p s = s
+
+unfoldable pub noted : Option Event → Player → Player
+noted (Some (event.Accepted p f)) s = accepted (party s p).doing s
+noted (Some (event.CallEnded p r)) s = made r p (set_party p (record (party s p) { reply = r }) s)
+noted _ s = s
+
+-- the last one, where there is one
+abbrev pub last : List Event → Option Event
+last es = slice_get es (length es - 1)
+
+-- what has happened since is shown, and the last of it says what there is to learn
+unfoldable pub shown : List Event → Player → Player
+shown es s = noted (last es) (record s { moments = s.moments ++ map Happened es })
+
+-- the events behind the first n
+abbrev pub later : ℕ → List Event → List Event
+later n es = drop n es
+
+abbrev pub taken : Result Machine StepError → Player → Player
+taken (Ok m) s = shown (later (length s.machine.world.trace) m.world.trace) (record s { machine = m })
+taken (Err e) s = s
+
+-- a step is tried, and taken where it is possible
+unfoldable pub tried : Step → Player → Player
+tried t s = taken (steps.step s.machine t) (record s { tried = s.tried ++ t ∷ [] })

@@ -1,0 +1,62 @@
+//! Scripts are played on the step machine: each command is a call of a party, stepped as the script
+//! says.
+
+mod commands;
+mod future;
+mod party;
+mod player;
+mod turn;
+
+ghost use Rattle.std.specs.Prelude.{◌≡◌, IfOk};
+ghost use Rattle.simulator.specs.Play.{Player};
+ghost use Rattle.simulator.specs.Lawful.{IsLawful};
+ghost use Rattle.simulator.specs.ScriptText.{IsPlayed};
+
+use crate::moment::Moment;
+use crate::play::player::Player;
+use executor_core::Machine;
+use executor_laws::laws::{calls_at_rest_are_exact, traces_continue};
+use executor_model::trace_laws::{
+    closing_drops_each_future_once, drops_come_once, early_drops_have_causes, outputs_go_once,
+    polls_are_asked_for, polls_are_lawful,
+};
+use script::{Command, Names};
+use std::alloc::{AllocError, Global};
+
+/// What a run of the commands shows, and the names of the futures that were accepted.
+#[derive(Drop)]
+pub struct Played {
+    pub moments: Vec<Moment>,
+    /// In the order of acceptance: the name of future 0 is the first.
+    pub names: Names,
+}
+
+/// Plays the commands on a new machine with places for so many futures. What it shows is all that the
+/// steps that were tried made happen, in order. Ends early only for want of memory, and shows nothing
+/// then.
+pub fn run(alloc: Global, limit: u64, commands: &[Command]) -> Result<Played, AllocError>
+    ensures { IfOk result (λ played. (last : Player) × IsPlayed limit commands.now last ×
+        (played.moments.items ≡ last.moments) × (played.names ≡ last.names)) }
+{
+    let mut player = Player::new(alloc, commands, limit)?;
+    for (at, command) in commands.iter().enumerate() {
+        player.play(at, command)?;
+    }
+    keeps_to_laws(&player.machine);
+    traces_continue();
+    Ok(player.into_played())
+}
+
+/// The laws of every list of steps hold of what a machine shows. Does nothing.
+fn keeps_to_laws(machine: &Machine)
+    ensures { IsLawful machine.now.world.trace }
+{
+    polls_are_lawful();
+    polls_are_asked_for();
+    outputs_go_once();
+    drops_come_once();
+    early_drops_have_causes();
+    closing_drops_each_future_once();
+    calls_at_rest_are_exact();
+    machine.is_reached();
+}

@@ -1,0 +1,235 @@
+//! The commands of a script.
+
+ghost use Rattle.std.specs.Prelude.{◌≡◌, ℕ, ◌^◌, ◌<◌, OnOk, length};
+ghost use Rattle.std.specs.List.{list_all, list_any};
+ghost use Rattle.script.specs.Names.{number_of};
+ghost use Rattle.simulator.specs.Play as play;
+ghost use Rattle.simulator.specs.Turn as turns;
+ghost use Rattle.simulator.specs.Commands as commands;
+
+use crate::moment::Outcome;
+use crate::play::future::Future;
+use crate::play::party::{Doing, Party};
+use crate::play::player::Player;
+use executor_model::{By, Call, Step, Waker};
+use script::{Command, Item, Name, Plain, Word};
+use std::alloc::AllocError;
+
+impl<'a> Player<'a> {
+    /// Plays the command at this place.
+    pub fn play(&mut self, at: usize, command: &'a Command) -> Result<(), AllocError>
+        ensures { OnOk result (commands.Plays at command.now self.old self.new) }
+    {
+        match command {
+            Command::Whole(request) => {
+                self.begin(0, at, &request.plain, request.plain.word())?;
+                self.finish(0)
+            }
+            Command::Begin { party, request } => {
+                self.begin(*party, at, &request.plain, Word::Begin)
+            }
+            Command::Go(party) => {
+                if self.is_busy(*party) {
+                    self.turn(*party)
+                } else {
+                    self.end(Word::Go, Outcome::NotPossible)
+                }
+            }
+            Command::Finish(party) => {
+                if self.is_busy(*party) {
+                    self.finish(*party)
+                } else {
+                    self.end(Word::Finish, Outcome::NotPossible)
+                }
+            }
+        }
+    }
+
+    fn is_busy(&self, p: u32) -> bool
+        ensures { result ≡ commands.is_busy p self.now }
+    {
+        self.party(p).doing.is_some()
+    }
+
+    /// The party takes turns until its command has ended.
+    fn finish(&mut self, p: u32) -> Result<(), AllocError>
+        ensures { OnOk result (commands.Finishes p self.old self.new) }
+    {
+        while self.is_busy(p) {
+            self.turn(p)?;
+        }
+        Ok(())
+    }
+
+    /// The party begins the command at this place; this word is answered where that isn't possible.
+    #[tactic(auto, unfolding(crate::specs::Commands::begin))]
+    fn begin(&mut self, p: u32, at: usize, plain: &Plain, word: Word) -> Result<(), AllocError>
+        ensures { OnOk result (self.new ≡ commands.begin p at plain.now word self.old) }
+    {
+        if self.is_busy(p) {
+            return self.end(word, Outcome::NotPossible);
+        }
+        match self.call_of(plain) {
+            Some(call) => self.begin_call(p, at, plain, word, call),
+            None => self.end(word, Outcome::NotPossible),
+        }
+    }
+
+    #[tactic(auto, unfolding(crate::specs::Commands::begin_call))]
+    fn begin_call(
+        &mut self,
+        p: u32,
+        at: usize,
+        plain: &Plain,
+        word: Word,
+        call: Call,
+    ) -> Result<(), AllocError>
+        ensures { OnOk result (self.new ≡ commands.begin_call p at plain.now word call self.old) }
+    {
+        if !self.try_step(Step::Begin { party: p, call })? {
+            return self.end(word, Outcome::NotPossible);
+        }
+        let doing = Doing {
+            command: at,
+            polls: false,
+        };
+        self.set_doing(p, Some(doing));
+        self.start(plain);
+        Ok(())
+    }
+
+    /// A command has begun.
+    #[tactic(auto, unfolding(crate::specs::Commands::started))]
+    fn start(&mut self, plain: &Plain)
+        ensures { self.new ≡ commands.started plain.now self.old }
+    {
+        match plain {
+            Plain::Spawn { items, .. } => self.hold(items.as_slice(), true),
+            Plain::Unkeep(name) => {
+                if let Some(f) = self.number_of(*name) {
+                    let future = self.future(f);
+                    self.set_future(
+                        f,
+                        Future {
+                            kept: None,
+                            ..future
+                        },
+                    );
+                }
+            }
+            Plain::Poll(name) => {
+                if let Some(f) = self.number_of(*name) {
+                    self.give(f, Waker::Outside(f));
+                }
+            }
+            _ => {}
+        }
+    }
+
+    /// The call with which the command begins, where the script has what it speaks of.
+    #[tactic(auto, unfolding(crate::specs::Commands::call_of))]
+    fn call_of(&self, plain: &Plain) -> Option<Call>
+        ensures { result ≡ commands.call_of self.now plain.now }
+    {
+        match plain {
+            Plain::Spawn { name, items } => {
+                if self.can_spawn(*name, items.as_slice()) {
+                    Some(Call::Spawn)
+                } else {
+                    None
+                }
+            }
+            Plain::Try => Some(Call::TryTick),
+            Plain::Empty => Some(Call::IsEmpty),
+            Plain::Wake(name) => Some(Call::WakeByRef(self.kept_of(*name)?)),
+            Plain::Unkeep(name) => Some(Call::DropWaker(self.kept_of(*name)?)),
+            Plain::Poll(name) => self.call_of_poll(*name),
+            Plain::Cancel(name) => Some(Call::Cancel(self.handle_of(*name)?)),
+            Plain::Detach(name) => Some(Call::Detach(self.handle_of(*name)?)),
+            Plain::Drop(name) => Some(Call::DropHandle(self.handle_of(*name)?)),
+            Plain::End => Some(Call::DropExecutor),
+        }
+    }
+
+    fn call_of_poll(&self, name: Name) -> Option<Call>
+        ensures { result ≡ commands.on (commands.handle_of self.now name) (λ f. Call.PollHandle f (By.Outside f)) }
+    {
+        let f = self.handle_of(name)?;
+        Some(Call::PollHandle(f, By::Outside(f)))
+    }
+
+    /// The waker that is kept of the future of this name.
+    fn kept_of(&self, name: Name) -> Option<u64>
+        ensures { result ≡ commands.kept_of self.now (number_of self.now.names name) }
+    {
+        self.future(self.number_of(name)?).kept
+    }
+
+    /// The future of this name, whose handle no other future holds.
+    fn handle_of(&self, name: Name) -> Option<u64>
+        ensures { result ≡ commands.handle_of self.now name }
+    {
+        let f = self.number_of(name)?;
+        if self.future(f).held { None } else { Some(f) }
+    }
+
+    /// No future has this name, and none is about to have it.
+    fn is_free(&self, name: Name) -> bool
+        ensures { result ≡ commands.is_free self.now name }
+    {
+        self.number_of(name).is_none() && !self.is_spawned(name)
+    }
+
+    /// A party has begun a spawn of this name.
+    fn is_spawned(&self, name: Name) -> bool
+        ensures { result ≡ list_any (λ x. commands.is_spawning self.now name x) self.now.parties }
+    {
+        self.parties
+            .iter()
+            .any(|party| self.is_spawning(name, *party))
+    }
+
+    fn is_spawning(&self, name: Name, party: Party) -> bool
+        ensures { result ≡ commands.is_spawning self.now name party }
+    {
+        match party.doing {
+            Some(doing) => match self.plain_at(doing.command) {
+                Some(Plain::Spawn { name: other, .. }) => *other == name,
+                _ => false,
+            },
+            None => false,
+        }
+    }
+
+    fn is_there(&self, g: Option<u64>) -> bool
+        ensures { result ≡ commands.is_there self.now g }
+    {
+        match g {
+            Some(g) => self.machine.has_handle(g),
+            None => false,
+        }
+    }
+
+    fn are_available(&self, items: &[Item]) -> bool
+        ensures { result ≡ list_all (λ i. commands.is_available self.now i) items.now }
+    {
+        items.iter().all(|item| self.is_available(*item))
+    }
+
+    /// The name is free, and the handles that these items name may be held.
+    fn can_spawn(&self, name: Name, items: &[Item]) -> bool
+        ensures { result ≡ commands.can_spawn self.now name items.now }
+    {
+        self.is_free(name) && self.are_available(items)
+    }
+
+    /// A handle that this item names is there, and nobody holds or uses it.
+    fn is_available(&self, item: Item) -> bool
+        ensures { result ≡ commands.is_available self.now item }
+    {
+        match item {
+            Item::Twice(name) => self.is_there(self.handle_of(name)),
+            _ => true,
+        }
+    }
+}

@@ -1,0 +1,290 @@
+//! A machine, and what a script knows of it.
+
+ghost use Rattle.std.specs.Prelude.{◌≡◌, ℕ, ◌-◌, ◌^◌, ◌<◌, ◌++◌, [], ◌∷◌, OnOk, IfOk, map, length, drop};
+ghost use Rattle.std.specs.Option.{option_copied};
+ghost use Rattle.executor_model.specs.declared.event.Event.{Event};
+ghost use Rattle.script.specs.Names.{number_of};
+ghost use Rattle.simulator.specs.declared.moment.Moment.TheVariants.{Happened};
+ghost use Rattle.simulator.specs.Play as play;
+ghost use Rattle.simulator.specs.Commands.{is_possible};
+
+use crate::moment::{Moment, Outcome};
+use crate::play::Played;
+use crate::play::future::Future;
+use crate::play::party::{Doing, Party};
+use executor_core::{Kind, Machine};
+use executor_model::{Event, Op, Reply, Step, StepError};
+use script::{Command, Item, Name, Names, Plain, Request, Word};
+use std::alloc::{AllocError, Global};
+use std::marker::Model;
+
+/// A machine that is stepped as a script says.
+#[derive(Drop)]
+pub struct Player<'a> {
+    pub commands: &'a [Command],
+    pub machine: Machine,
+    pub names: Names,
+    /// In the order of acceptance.
+    pub futures: Vec<Future>,
+    pub parties: Vec<Party>,
+    /// The steps that were tried.
+    pub tried: Vec<Step>,
+    pub moments: Vec<Moment>,
+}
+
+impl<'a> Model for Player<'a> {
+    ghost Value = { play.Player };
+
+    ghost view = { λ x. record {
+      commands = x.commands.now;
+      machine = x.machine;
+      names = x.names;
+      futures = x.futures.items;
+      parties = x.parties.items;
+      tried = x.tried.items;
+      moments = x.moments.items;
+    } };
+}
+
+/// Shows these events.
+fn push_events(moments: &mut Vec<Moment>, events: &[Event]) -> Result<(), AllocError>
+    ensures { OnOk result (moments.new.items ≡ moments.old.items ++ map Happened events.now) }
+{
+    for event in events {
+        moments.push(Moment::Happened(*event))?;
+    }
+    Ok(())
+}
+
+/// A party for each that a script may name, and the one that it doesn't name.
+fn ten_parties(alloc: Global) -> Result<Vec<Party>, AllocError>
+    ensures { IfOk result (λ parties. parties.items ≡ (play.start [] 0).parties) }
+{
+    let idle = Party::idle();
+    Vec::from_slice(
+        alloc,
+        &[idle, idle, idle, idle, idle, idle, idle, idle, idle, idle],
+    )
+}
+
+impl<'a> Player<'a> {
+    pub fn new(alloc: Global, commands: &'a [Command], limit: u64) -> Result<Player<'a>, AllocError>
+        ensures { IfOk result (λ player. player ≡ play.start commands.now limit) }
+    {
+        Ok(Player {
+            commands,
+            machine: Machine::new(alloc, limit, Kind::Owned, 10)?,
+            names: Names::new(alloc),
+            futures: Vec::new(alloc),
+            parties: ten_parties(alloc)?,
+            tried: Vec::new(alloc),
+            moments: Vec::new(alloc),
+        })
+    }
+
+    pub fn into_played(self) -> Played
+        ensures moments { result.moments.items ≡ self.entry.moments }
+        ensures names { result.names ≡ self.entry.names }
+    {
+        Played {
+            moments: self.moments,
+            names: self.names,
+        }
+    }
+
+    /// The future of this number.
+    pub fn future(&self, f: u64) -> Future
+        ensures { result ≡ play.future self.now f }
+    {
+        match self.futures.get(f as usize) {
+            Some(future) => *future,
+            None => Future::new(0),
+        }
+    }
+
+    #[tactic(auto, using(std::proofs::lemmas::List::set_past))]
+    pub fn set_future(&mut self, f: u64, future: Future)
+        ensures { self.new ≡ play.set_future f future self.old }
+    {
+        if (f as usize) < self.futures.len() {
+            self.futures[f as usize] = future;
+        }
+    }
+
+    pub fn party(&self, p: u32) -> Party
+        ensures { result ≡ play.party self.now p }
+    {
+        match self.parties.get(p as usize) {
+            Some(party) => *party,
+            None => Party::idle(),
+        }
+    }
+
+    #[tactic(auto, using(std::proofs::lemmas::List::set_past))]
+    pub fn set_party(&mut self, p: u32, party: Party)
+        ensures { self.new ≡ play.set_party p party self.old }
+    {
+        if (p as usize) < self.parties.len() {
+            self.parties[p as usize] = party;
+        }
+    }
+
+    /// The number of the future of this name.
+    pub fn number_of(&self, name: Name) -> Option<u64>
+        ensures { result ≡ number_of self.now.names name }
+    {
+        match self.names.number_of(name) {
+            Some(f) => Some(f as u64),
+            None => None,
+        }
+    }
+
+    /// The next thing that a party has to do.
+    pub fn top(&self, p: u32) -> Option<Op>
+        ensures { result ≡ play.top self.now p }
+    {
+        self.machine.top(p)
+    }
+
+    /// The machine tries this step, and what happens is shown. Says whether the step was possible.
+    #[tactic(auto, unfolding(crate::specs::Play::tried, crate::specs::Commands::is_possible))]
+    pub fn try_step(&mut self, step: Step) -> Result<bool, AllocError>
+        ensures new { OnOk result (self.new ≡ play.tried step self.old) }
+        ensures possible { IfOk result (λ possible. possible ≡ is_possible step self.old) }
+        ensures grows { OnOk result (length self.old.tried < length self.new.tried) }
+    {
+        let before = self.machine.trace().len();
+        self.tried.push(step)?;
+        match self.machine.step(step) {
+            Ok(()) => {
+                self.show(before)?;
+                Ok(true)
+            }
+            Err(StepError::NoMemory) => Err(AllocError),
+            Err(_) => Ok(false),
+        }
+    }
+
+    /// Shows what has happened behind the first events of this number.
+    #[tactic(auto, unfolding(crate::specs::Play::shown))]
+    fn show(&mut self, before: usize) -> Result<(), AllocError>
+        ensures new { OnOk result (self.new ≡ play.shown (play.later before self.old.machine.world.trace) self.old) }
+        ensures steps { OnOk result (self.new.tried ≡ self.old.tried) }
+    {
+        let trace = self.machine.trace();
+        let events = later(trace, before);
+        let last = events.last().copied();
+        push_events(&mut self.moments, events)?;
+        self.note(last)
+    }
+
+    #[tactic(auto, unfolding(crate::specs::Play::noted))]
+    fn note(&mut self, event: Option<Event>) -> Result<(), AllocError>
+        ensures new { OnOk result (self.new ≡ play.noted event self.old) }
+        ensures steps { OnOk result (self.new.tried ≡ self.old.tried) }
+    {
+        match event {
+            Some(Event::Accepted { party, .. }) => {
+                let doing = self.party(party).doing;
+                self.accept(doing)
+            }
+            Some(Event::CallEnded { party, reply }) => {
+                let here = self.party(party);
+                self.set_party(party, Party { reply, ..here });
+                if let Reply::Made = reply {
+                    self.keep(party);
+                }
+                Ok(())
+            }
+            _ => Ok(()),
+        }
+    }
+
+    /// A waker was made, where the party stands in a poll: it is kept in place of the one before.
+    #[tactic(auto, unfolding(crate::specs::Play::kept_at))]
+    fn keep(&mut self, p: u32)
+        ensures new { self.new ≡ play.kept_at (play.top self.old p) self.old }
+        ensures steps { self.new.tried ≡ self.old.tried }
+    {
+        if let Some(Op::Poll(f)) = self.top(p) {
+            let waker = (self.machine.wakers() as u64).saturating_sub(1);
+            let future = self.future(f).keep(waker);
+            self.set_future(f, future);
+        }
+    }
+
+    /// The request of the command at this place.
+    pub fn request_at(&self, at: usize) -> Option<&'a Request>
+        ensures { option_copied result ≡ play.request_at self.now at }
+    {
+        match self.commands.get(at) {
+            Some(Command::Whole(request)) => Some(request),
+            Some(Command::Begin { request, .. }) => Some(request),
+            _ => None,
+        }
+    }
+
+    pub fn plain_at(&self, at: usize) -> Option<&'a Plain>
+        ensures { option_copied result ≡ play.plain_at self.now at }
+    {
+        match self.request_at(at) {
+            Some(request) => Some(&request.plain),
+            None => None,
+        }
+    }
+
+    /// What the future does that was spawned by the command at this place.
+    pub fn items_at(&self, at: usize) -> &'a [Item]
+        ensures { result.now ≡ play.items_at self.now at }
+    {
+        match self.plain_at(at) {
+            Some(Plain::Spawn { items, .. }) => items.as_slice(),
+            _ => &[],
+        }
+    }
+
+    /// The future that the party spawns was accepted.
+    #[tactic(auto, unfolding(crate::specs::Play::accepted))]
+    fn accept(&mut self, doing: Option<Doing>) -> Result<(), AllocError>
+        ensures new { OnOk result (self.new ≡ play.accepted doing self.old) }
+        ensures steps { OnOk result (self.new.tried ≡ self.old.tried) }
+    {
+        match doing {
+            None => Ok(()),
+            Some(doing) => match self.plain_at(doing.command) {
+                Some(Plain::Spawn { name, .. }) => self.push_future(*name, doing.command),
+                _ => Ok(()),
+            },
+        }
+    }
+
+    fn push_future(&mut self, name: Name, command: usize) -> Result<(), AllocError>
+        ensures new { OnOk result (self.new ≡ play.accepted_as (number_of self.old.names name) name command self.old) }
+        ensures steps { OnOk result (self.new.tried ≡ self.old.tried) }
+    {
+        if self.names.number_of(name).is_none() {
+            self.names.push(name)?;
+            self.futures.push(Future::new(command))?;
+        }
+        Ok(())
+    }
+
+    /// A command is answered so.
+    pub fn end(&mut self, word: Word, outcome: Outcome) -> Result<(), AllocError>
+        ensures { OnOk result (self.new ≡ play.ended word outcome self.old) }
+    {
+        self.moments.push(Moment::Ended { word, outcome })?;
+        Ok(())
+    }
+}
+
+/// What stands behind so many of a list.
+pub fn later<T>(list: &[T], before: usize) -> &[T]
+    ensures { result.now ≡ drop before list.now }
+{
+    if before <= list.len() {
+        &list[before..]
+    } else {
+        &[]
+    }
+}

@@ -1,0 +1,143 @@
+//! The text of a run: a line for each poll, answer and drop, and one for the end of each command.
+
+ghost use Rattle.std.specs.Prelude.{◌≡◌, ◌++◌, IfOk, OnOk};
+ghost use Rattle.simulator.specs.EndText.{end_text, outcome_text, reply_text, word_text};
+ghost use Rattle.simulator.specs.EventText.{event_text, line_on, name_of};
+ghost use Rattle.simulator.specs.Text.{moment_text, moments_text};
+
+use crate::moment::{Moment, Outcome};
+use executor_model::{Answer, Event, Reply, Waker};
+use script::{Names, Word};
+use std::alloc::{AllocError, Global};
+
+/// The text of these moments, where the futures have these names in the order of acceptance.
+pub fn text_of(alloc: Global, moments: &[Moment], names: &Names) -> Result<Vec<u8>, AllocError>
+    ensures { IfOk result (λ text. text.items ≡ moments_text names.now moments.now) }
+{
+    let mut text = Vec::new(alloc);
+    for moment in moments {
+        push_moment(&mut text, moment, names)?;
+    }
+    Ok(text)
+}
+
+fn push_moment(text: &mut Vec<u8>, moment: &Moment, names: &Names) -> Result<(), AllocError>
+    ensures { OnOk result (text.new.items ≡ text.old.items ++ moment_text names.now moment.now) }
+{
+    match moment {
+        Moment::Happened(event) => push_event(text, event, names),
+        Moment::Ended { word, outcome } => push_end(text, *word, *outcome),
+    }
+}
+
+fn push_event(text: &mut Vec<u8>, event: &Event, names: &Names) -> Result<(), AllocError>
+    ensures { OnOk result (text.new.items ≡ text.old.items ++ event_text names.now event.now) }
+{
+    match *event {
+        Event::PollBegun { future, .. } => push_line_on(text, b"poll", future, names),
+        Event::Answered { future, answer, .. } => match answer {
+            Answer::Ready => push_line_on(text, b"ready", future, names),
+            Answer::Pending => push_line_on(text, b"pending", future, names),
+        },
+        Event::Dropped { future, .. } => push_line_on(text, b"drop", future, names),
+        Event::OutputDropped { future, .. } => push_line_on(text, b"lose", future, names),
+        Event::WakerCalled {
+            waker: Waker::Outside(future),
+            ..
+        } => push_line_on(text, b"call", future, names),
+        Event::CallBegun { .. }
+        | Event::CallEnded { .. }
+        | Event::Accepted { .. }
+        | Event::Woken { .. }
+        | Event::Cancelled { .. }
+        | Event::Detached { .. }
+        | Event::OutputGiven { .. }
+        | Event::HandlePolled { .. }
+        | Event::WakerCalled { .. }
+        | Event::DropBegun { .. }
+        | Event::DropEnded { .. } => Ok(()),
+    }
+}
+
+fn push_line_on(
+    text: &mut Vec<u8>,
+    happened: &[u8],
+    future: u64,
+    names: &Names,
+) -> Result<(), AllocError>
+    ensures { OnOk result (text.new.items ≡
+        text.old.items ++ line_on names.now happened.now future) }
+{
+    text.extend_from_slice(happened)?;
+    text.extend_from_slice(b" ")?;
+    push_name(text, future, names)?;
+    text.extend_from_slice(b"\n")
+}
+
+/// The name of a future, and nothing for one that has none.
+fn push_name(text: &mut Vec<u8>, future: u64, names: &Names) -> Result<(), AllocError>
+    ensures { OnOk result (text.new.items ≡ text.old.items ++ name_of names.now future) }
+{
+    match names.get(future as usize) {
+        Some(name) => text.extend_from_slice(name.letters()),
+        None => Ok(()),
+    }
+}
+
+fn push_end(text: &mut Vec<u8>, word: Word, outcome: Outcome) -> Result<(), AllocError>
+    ensures { OnOk result (text.new.items ≡ text.old.items ++ end_text word outcome) }
+{
+    text.extend_from_slice(word_bytes(word))?;
+    text.extend_from_slice(b": ")?;
+    push_outcome(text, outcome)?;
+    text.extend_from_slice(b"\n")
+}
+
+fn word_bytes(word: Word) -> &'static [u8]
+    ensures { result.now ≡ word_text word }
+{
+    match word {
+        Word::Spawn => b"spawn",
+        Word::Try => b"try",
+        Word::Empty => b"empty",
+        Word::Wake => b"wake",
+        Word::Unkeep => b"unkeep",
+        Word::Poll => b"poll",
+        Word::Cancel => b"cancel",
+        Word::Detach => b"detach",
+        Word::Drop => b"drop",
+        Word::End => b"end",
+        Word::Begin => b"begin",
+        Word::Go => b"go",
+        Word::Finish => b"finish",
+    }
+}
+
+fn push_outcome(text: &mut Vec<u8>, outcome: Outcome) -> Result<(), AllocError>
+    ensures { OnOk result (text.new.items ≡ text.old.items ++ outcome_text outcome) }
+{
+    match outcome {
+        Outcome::Answered(reply) => text.extend_from_slice(reply_bytes(reply)),
+        Outcome::Output(value) => {
+            let digits = format!(in *text.allocator(); "ready {value}")?;
+            text.extend_from_slice(digits.as_bytes())
+        }
+        Outcome::NotPossible => text.extend_from_slice(b"not possible"),
+    }
+}
+
+fn reply_bytes(reply: Reply) -> &'static [u8]
+    ensures { result.now ≡ reply_text reply }
+{
+    match reply {
+        Reply::Made => b"ok",
+        Reply::Full => b"full",
+        Reply::Yes => b"true",
+        Reply::No => b"false",
+        Reply::Done => b"done",
+        Reply::NoMemory => b"no memory",
+        Reply::Pending => b"pending",
+        Reply::Ready => b"ready",
+        Reply::Cancelled => b"cancelled",
+    }
+}

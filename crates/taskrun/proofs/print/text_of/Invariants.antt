@@ -1,7 +1,0 @@
--- The text so far is that of the moments so far.
-use Rattle.std.proofs.Common.{◌≡◌, take}
-use Rattle.taskrun.specs.Text.{moments_text}
-use Rattle.taskrun.proofs.print.text_of.Given as goal
-
-abbrev pub invariant-loop-moment : goal.invariant-loop-moment
-invariant-loop-moment l = l.text.items ≡ moments_text l.names (take l.moment-index l.moments)

@@ -1,5 +1,8 @@
 pub mod Owing
-pub mod Flags
+pub mod Cells
+pub mod Ring
+pub mod Placing
+pub mod Seating
 pub mod Scans
 pub mod Reaching
 pub mod Lifting

@@ -1,24 +1,31 @@
--- What a contract sees of the entries of a table.
-use Rattle.std.specs.Prelude.{◌≡◌, ℕ, ◌+◌, ◌<◌, ◌≤◌, Bool, true, false, List, [], ◌∷◌, length, slice_index_or}
+-- What a contract sees of the entries of the machine's futures, and how they lie.
+use Rattle.std.specs.Prelude.{◌≡◌, ℕ, ◌<◌, Bool, false, List, [], ◌∷◌, length, map, slice_index_or}
+use Rattle.executor_core.specs.declared.entries.Seat.{Seat}
+use Rattle.executor_core.specs.Places.{Entry}
 
 pub record Entered : Type 0 where
-  -- the futures that have an entry, in the order of acceptance
-  pub futures : List ℕ
-  -- futures below this number may enter without memory
-  pub room : ℕ
+  -- the futures that have an entry in the table, in the order of acceptance
+  pub table : List ℕ
+  -- those that the executor's drop has taken out, in that order
+  pub leaving : List ℕ
+  -- of each future that was accepted: it is in its place
+  pub inside : List Bool
+  -- one more future may enter without memory
+  pub has_room : Bool
 
--- the places of what is true, of which the first has this number
-abbrev pub places_from : ℕ → List Bool → List ℕ
-places_from n [] = []
-places_from n (true ∷ bs) = n ∷ places_from (n + 1) bs
-places_from n (false ∷ bs) = places_from (n + 1) bs
+-- no future
+abbrev pub no_seat : Seat
+no_seat = record { key = 0; inside = false }
 
--- nothing before this place is true
-abbrev pub NoneBelow : List Bool → ℕ → Type 0
-NoneBelow bs n = (k : ℕ) → k < n → slice_index_or bs k false ≡ false
+-- the key of the entry that a future has or had
+abbrev pub key_of : List Seat → ℕ → ℕ
+key_of seats f = (slice_index_or seats f no_seat).key
 
--- so many are true, and none of them before this place
-pub record IsEntered (bs : List Bool) (count first : ℕ) : Type 0 where
-  pub counted : count ≡ length (places_from 0 bs)
-  pub none : NoneBelow bs first
-  pub within : first ≤ length bs
+-- each of these entries is where the seat of its future says, and its waker is the number of that future
+abbrev pub AreSeated : {F : Type 0} → List Seat → List (Entry F ℕ) → Type 0
+AreSeated seats [] = Unit {0}
+AreSeated seats (e ∷ es) = (e.waker < length seats) × (key_of seats e.waker ≡ e.key) × AreSeated seats es
+
+-- the futures of these entries
+abbrev pub futures_of : {F : Type 0} → List (Entry F ℕ) → List ℕ
+futures_of es = map (λ e. e.waker) es

@@ -1,5 +1,7 @@
--- The kinds of things that a party has to do.
+-- The kinds of things that a party has to do, and of calls.
 use Rattle.std.specs.Prelude.{Bool, true, false}
+use Rattle.executor_model.specs.declared.call.Call.{Call}
+use Rattle.executor_model.specs.declared.call.Call.TheVariants as call
 use Rattle.executor_model.specs.declared.op.Op.{Op}
 use Rattle.executor_model.specs.declared.op.Op.TheVariants as op
 
@@ -40,3 +42,19 @@ is_outside_table (op.DropRunnable f) = true
 is_outside_table (op.Cancel f) = true
 is_outside_table (op.Detach f) = true
 is_outside_table o = is_later o
+
+-- a call on a handle
+abbrev pub is_on_handle : Call → Bool
+is_on_handle (call.PollHandle f by) = true
+is_on_handle (call.Cancel f) = true
+is_on_handle (call.Detach f) = true
+is_on_handle (call.DropHandle f) = true
+is_on_handle _ = false
+
+-- that, or a call on a kept waker
+abbrev pub is_on_kept : Call → Bool
+is_on_kept (call.Wake k) = true
+is_on_kept (call.WakeByRef k) = true
+is_on_kept (call.Copy k) = true
+is_on_kept (call.DropWaker k) = true
+is_on_kept c = is_on_handle c

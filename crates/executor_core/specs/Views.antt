@@ -1,5 +1,5 @@
 -- What a store stands for, and room for what one thing to do may add.
-use Rattle.std.specs.Prelude.{◌≡◌, ◌+◌, ◌≤◌, Some, None, List, ◌++◌, map, reverse, vec_len, Vec}
+use Rattle.std.specs.Prelude.{◌≡◌, ◌+◌, ◌≤◌, true, Some, None, List, ◌++◌, map, reverse, vec_len, Vec}
 use Rattle.std.specs.Global.{Global}
 use Rattle.std.specs.Vec.{vec_capacity}
 use Rattle.std.specs.VecDeque.{deque_len, deque_capacity}
@@ -13,10 +13,10 @@ world_of s = record {
   limit = s.limit;
   tasks = s.tasks.items;
   awaiters = s.awaiters.items;
-  inside = s.inside.items;
+  inside = s.entries.inside;
   queue = record { items = s.queue.items; capacity = Some s.limit; closed = s.closed; accepted = None };
-  table = s.table.futures;
-  leaving = s.leaving.futures;
+  table = s.entries.table;
+  leaving = s.entries.leaving;
   waking = s.waking.items;
   wakers = s.wakers.items;
   gone = s.gone;
@@ -27,9 +27,8 @@ world_of s = record {
 pub record HasRoom (s : Store) : Type 0 where
   pub tasks : vec_len s.tasks + 1 ≤ vec_capacity s.tasks
   pub awaiters : vec_len s.awaiters + 1 ≤ vec_capacity s.awaiters
-  pub inside : vec_len s.inside + 1 ≤ vec_capacity s.inside
   pub queue : deque_len s.queue + 1 ≤ deque_capacity s.queue
-  pub table : vec_len s.tasks + 1 ≤ s.table.room
+  pub entries : s.entries.has_room ≡ true
   pub waking : deque_len s.waking + 1 ≤ deque_capacity s.waking
   pub wakers : vec_len s.wakers + 1 ≤ vec_capacity s.wakers
   pub trace : vec_len s.trace + 5 ≤ vec_capacity s.trace

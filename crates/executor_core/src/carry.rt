@@ -22,15 +22,15 @@ fn push_schedule(todo: &mut Vec<Op>, f: u64, debt: Option<ScheduleInfo>)
     }
 }
 
-fn push_future(todo: &mut Vec<Op>, table: &Entries, f: u64, debt: Option<FutureDebt>)
+fn push_future(todo: &mut Vec<Op>, entries: &Entries, f: u64, debt: Option<FutureDebt>)
     requires space { vec_len todo.old + 2 ≤ vec_capacity todo.old }
-    ensures items { todo.new.items ≡ todo.old.items ++ reverse (carried.future_ops (among f table.now.futures) f debt) }
+    ensures items { todo.new.items ≡ todo.old.items ++ reverse (carried.future_ops (among f entries.now.table) f debt) }
     ensures space { vec_len todo.new + 1 ≤ vec_capacity todo.new }
 {
     match debt {
         Some(FutureDebt::PollFuture) => todo.push_reserved(Op::TakeToPoll(f)),
         Some(FutureDebt::DropFuture) => {
-            if table.contains(f) {
+            if entries.contains(f) {
                 todo.push_reserved(Op::TakeToDrop(f));
             }
         }
@@ -94,6 +94,6 @@ pub fn carry_out(store: &mut Store, todo: &mut Vec<Op>, f: u64, moved: Moved)
     push_next(todo, f, owed.next);
     push_awaiter(todo, f, owed.awaiter);
     push_output(todo, f, owed.drop_output);
-    push_future(todo, &store.table, f, owed.future);
+    push_future(todo, &store.entries, f, owed.future);
     push_schedule(todo, f, owed.schedule);
 }

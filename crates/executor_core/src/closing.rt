@@ -13,9 +13,9 @@ use executor_model::{Event, Op};
 
 /// What the executor's drop does next: first each future, then each waker, then the queue.
 fn next_closing(store: &Store) -> Op
-    ensures { result ∷ [] ≡ acts.closing_ops store.now.leaving.futures store.now.waking.items }
+    ensures { result ∷ [] ≡ acts.closing_ops store.now.entries.leaving store.now.waking.items }
 {
-    if !store.leaving.is_empty() {
+    if !store.entries.has_none_leaving() {
         Op::DropNext
     } else if !store.waking.is_empty() {
         Op::WakeNext
@@ -30,7 +30,7 @@ pub fn take_out(store: &mut Store, todo: &mut Vec<Op>)
     requires space { HasSpace todo.old }
     ensures { Does (acts.take_out (world_of store.old)) store.new todo.old.items todo.new.items }
 {
-    std::mem::swap(&mut store.table, &mut store.leaving);
+    store.entries.take_out();
     let next = next_closing(store);
     todo.push_reserved(next);
 }
@@ -39,14 +39,12 @@ pub fn take_out(store: &mut Store, todo: &mut Vec<Op>)
 pub fn drop_next(store: &mut Store, todo: &mut Vec<Op>, party: u32)
     requires room { HasRoom store.old }
     requires space { HasSpace todo.old }
-    requires needs { (f : ℕ) (rest : List ℕ) → store.old.leaving.futures ≡ f ∷ rest → f < length store.old.inside.items }
     ensures { Does (acts.drop_next party (world_of store.old)) store.new todo.old.items todo.new.items }
 {
-    let Some(f) = store.leaving.take_first() else {
+    let Some(f) = store.entries.leave_first() else {
         return;
     };
     store.waking.push_back_reserved(f);
-    store.inside[f as usize] = false;
     store
         .trace
         .push_reserved(Event::Dropped { party, future: f });

@@ -1,155 +1,190 @@
-//! The entries of a table, by the numbers of their futures.
-ghost use Rattle.std.specs.Prelude.{◌≡◌, ℕ, ◌+◌, ◌<◌, ◌≤◌, ◌==◌, ◌++◌, ◌^◌, true, false, Bool, List, [], ◌∷◌, length, slice_index_or, slice_set, MatchOption, OnOk, IfSome, IfNone, vec_len, vec_capacity};
+//! The entries of the machine's futures, by the numbers of these.
+ghost use Rattle.std.specs.Prelude.{◌≡◌, ℕ, ◌<◌, ◌==◌, ◌++◌, true, false, List, [], ◌∷◌, length, slice_set, OnOk, IfSome, IfNone, Some, vec_len};
 ghost use Rattle.executor_model.specs.World.{without, among};
-ghost use Rattle.executor_model.specs.Good.{pasts};
-ghost use Rattle.executor_core.specs.Entered.{places_from, NoneBelow};
+ghost use Rattle.executor_core.specs.Entered.{AreSeated, futures_of, key_of};
+ghost use Rattle.executor_core.specs.Places.{entry_at, waker_of};
 
+use crate::places::Places;
 use std::alloc::{AllocError, Global};
 use std::marker::Model;
 
-/// Which futures have an entry. A future is found by its number, and the first by where the last first one was, so
-/// that nothing is searched twice.
+/// The table of the machine, and what the executor's drop has taken out of it. A future is named by its number, which
+/// is also its waker; there is nothing more to it.
 #[derive(Drop)]
 pub struct Entries {
-    entered: Vec<bool>,
-    count: usize,
-    // No future below this number has an entry.
-    first: usize,
+    table: Places<(), u64>,
+    leaving: Places<(), u64>,
+    // By the numbers of the futures.
+    seats: Vec<Seat>,
+}
+
+#[derive(Clone, Copy)]
+struct Seat {
+    // The key of its entry, where it has one.
+    key: usize,
+    // It is in its place.
+    inside: bool,
 }
 
 impl Model for Entries {
-    ghost use Rattle.std.specs.Prelude.{length, vec_capacity};
-    ghost use Rattle.executor_core.specs.Entered.{Entered, places_from, IsEntered};
+    ghost use Rattle.std.specs.Prelude.{map, nat_lt, ◌&&◌, vec_len, vec_capacity};
+    ghost use Rattle.executor_core.specs.Entered.{Entered, AreSeated, futures_of};
 
     ghost Value = { Entered };
 
-    ghost view = { λ e. record { futures = places_from 0 e.entered.items; room = vec_capacity e.entered } };
+    ghost view = { λ e. record {
+      table = futures_of e.table.entries;
+      leaving = futures_of e.leaving.entries;
+      inside = map (λ s. s.inside) e.seats.items;
+      has_room = e.table.has_room && nat_lt (vec_len e.seats) (vec_capacity e.seats);
+    } };
 
-    ghost invariant = { λ e. IsEntered e.entered.items e.count e.first };
+    ghost invariant = { λ e. AreSeated e.seats.items e.table.entries × AreSeated e.seats.items e.leaving.entries };
 }
 
-/// The flags are as before, but there are at least so many.
-fn pad(entered: &mut Vec<bool>, len: usize)
-    requires { len ≤ vec_capacity entered.old }
-    ensures long { len ≤ vec_len entered.new }
-    ensures same { places_from 0 entered.new.items ≡ places_from 0 entered.old.items }
-    ensures each { (k : ℕ) → slice_index_or entered.new.items k false ≡ slice_index_or entered.old.items k false }
-    ensures capacity { vec_capacity entered.new ≡ vec_capacity entered.old }
+/// The key under which this future has an entry, if it has one.
+fn find(table: &Places<(), u64>, seats: &Vec<Seat>, f: u64) -> Option<usize>
+    requires { AreSeated seats.now.items table.now.entries }
+    ensures known { IfSome result (λ key. f < vec_len seats.now) }
+    ensures here { IfSome result (λ key. key ≡ key_of seats.now.items f) }
+    ensures found { IfSome result (λ key. waker_of (entry_at key table.now.entries) ≡ Some f) }
+    ensures absent { IfNone result (among f (futures_of table.now.entries) ≡ false) }
 {
-    for _place in entered.len()..len {
-        entered.push_reserved(false);
+    if f >= seats.len() as u64 {
+        return None;
     }
-}
-
-/// The first that is true from this one on.
-fn first_from(entered: &Vec<bool>, from: usize) -> Option<usize>
-    requires { NoneBelow entered.now.items from }
-    ensures none { IfNone result (NoneBelow entered.now.items (length entered.now.items)) }
-    ensures some { IfSome result (λ i. (slice_index_or entered.now.items i false ≡ true) × NoneBelow entered.now.items i) }
-{
-    for i in from..entered.len() {
-        if entered[i] {
-            return Some(i);
-        }
-    }
-    None
-}
-
-/// Whether this one is there and true.
-fn is_true(entered: &Vec<bool>, f: u64) -> bool
-    ensures { result ≡ slice_index_or entered.now.items f false }
-{
-    f < entered.len() as u64 && entered[f as usize]
+    let key = seats[f as usize].key;
+    let waker = match table.waker(key) {
+        Some(waker) => waker,
+        None => return None,
+    };
+    if *waker == f { Some(key) } else { None }
 }
 
 impl Entries {
     pub fn new(alloc: Global) -> Entries
-        ensures { result.futures ≡ [] }
+        ensures table { result.table ≡ [] }
+        ensures leaving { result.leaving ≡ [] }
+        ensures inside { result.inside ≡ [] }
     {
         Entries {
-            entered: Vec::new(alloc),
-            count: 0,
-            first: 0,
+            table: Places::new(alloc),
+            leaving: Places::new(alloc),
+            seats: Vec::new(alloc),
         }
     }
 
-    /// Makes room for the future with this number, and those below it.
-    pub fn reserve_to(&mut self, f: usize) -> Result<(), AllocError>
-        requires { f < 2 ^ 63 }
-        ensures same { self.new.futures ≡ self.old.futures }
-        ensures room { OnOk result (f < self.new.room) }
+    /// Makes room for one more future.
+    pub fn reserve(&mut self) -> Result<(), AllocError>
+        ensures table { self.new.table ≡ self.old.table }
+        ensures leaving { self.new.leaving ≡ self.old.leaving }
+        ensures inside { self.new.inside ≡ self.old.inside }
+        ensures room { OnOk result (self.new.has_room ≡ true) }
     {
-        let len = self.entered.len();
-        if f < len {
-            return Ok(());
-        }
-        self.entered.reserve(f - len + 1)
+        self.seats.reserve(1)?;
+        self.table.reserve()
     }
 
-    /// Whether there is none.
-    pub fn is_empty(&self) -> bool
-        ensures { result ≡ (length self.now.futures == 0) }
-    {
-        self.count == 0
-    }
-
+    /// How many futures have an entry in the table.
     pub fn len(&self) -> usize
-        ensures { result ≡ length self.now.futures }
+        ensures { result ≡ length self.now.table }
     {
-        self.count
+        self.table.len()
     }
 
-    /// Whether the future has an entry.
-    pub fn contains(&self, f: u64) -> bool
-        ensures { result ≡ among f self.now.futures }
+    /// Whether no future has an entry in the table.
+    pub fn is_empty(&self) -> bool
+        ensures { result ≡ (length self.now.table == 0) }
     {
-        is_true(&self.entered, f)
+        self.table.is_empty()
     }
 
-    /// A future enters that was accepted after all that have an entry.
+    /// Whether nothing is left of what was taken out.
+    pub fn has_none_leaving(&self) -> bool
+        ensures { result ≡ (length self.now.leaving == 0) }
+    {
+        self.leaving.is_empty()
+    }
+
+    /// The next future enters.
     pub fn enter(&mut self, f: u64)
-        requires last { pasts f self.old.futures ≡ 0 }
-        requires room { f < self.old.room }
-        ensures entered { self.new.futures ≡ self.old.futures ++ f ∷ [] }
-        ensures room { self.new.room ≡ self.old.room }
+        requires next { f ≡ length self.old.inside }
+        requires room { self.old.has_room ≡ true }
+        ensures table { self.new.table ≡ self.old.table ++ f ∷ [] }
+        ensures leaving { self.new.leaving ≡ self.old.leaving }
+        ensures inside { self.new.inside ≡ self.old.inside ++ true ∷ [] }
+    {
+        let key = self.table.enter((), f);
+        self.seats.push_reserved(Seat { key, inside: true });
+    }
+
+    /// The future is taken out, to be polled or dropped.
+    pub fn take(&mut self, f: u64)
+        requires { f < length self.old.inside }
+        ensures table { self.new.table ≡ self.old.table }
+        ensures leaving { self.new.leaving ≡ self.old.leaving }
+        ensures inside { self.new.inside ≡ slice_set self.old.inside f false }
     {
         let place = f as usize;
-        pad(&mut self.entered, place + 1);
-        self.entered[place] = true;
-        self.count += 1;
-        if place < self.first {
-            self.first = place;
-        }
+        self.table.take(self.seats[place].key);
+        self.seats[place].inside = false;
+    }
+
+    /// The future is put back.
+    pub fn put_back(&mut self, f: u64)
+        requires { f < length self.old.inside }
+        ensures table { self.new.table ≡ self.old.table }
+        ensures leaving { self.new.leaving ≡ self.old.leaving }
+        ensures inside { self.new.inside ≡ slice_set self.old.inside f true }
+    {
+        let place = f as usize;
+        self.table.put_back(self.seats[place].key, ());
+        self.seats[place].inside = true;
+    }
+
+    /// Whether this future has an entry in the table.
+    pub fn contains(&self, f: u64) -> bool
+        ensures { result ≡ among f self.now.table }
+    {
+        find(&self.table, &self.seats, f).is_some()
     }
 
     /// The future's entry goes. Answers whether it was there.
     pub fn leave(&mut self, f: u64) -> bool
-        ensures was { result ≡ among f self.old.futures }
-        ensures left { result ≡ true → self.new.futures ≡ without f self.old.futures }
-        ensures same { result ≡ false → self.new.futures ≡ self.old.futures }
-        ensures room { self.new.room ≡ self.old.room }
+        ensures was { result ≡ among f self.old.table }
+        ensures left { result ≡ true → self.new.table ≡ without f self.old.table }
+        ensures same { result ≡ false → self.new.table ≡ self.old.table }
+        ensures leaving { self.new.leaving ≡ self.old.leaving }
+        ensures inside { self.new.inside ≡ self.old.inside }
     {
-        let was = is_true(&self.entered, f);
-        if was {
-            self.entered[f as usize] = false;
-            self.count -= 1;
-        }
-        was
+        let key = match find(&self.table, &self.seats, f) {
+            Some(key) => key,
+            None => return false,
+        };
+        self.table.leave(key);
+        true
     }
 
-    /// The first entry goes, and its future is answered.
-    pub fn take_first(&mut self) -> Option<u64>
-        ensures none { IfNone result ((self.old.futures ≡ []) × (self.new.futures ≡ [])) }
-        ensures some { IfSome result (λ f. self.old.futures ≡ f ∷ self.new.futures) }
-        ensures room { self.new.room ≡ self.old.room }
+    /// All are taken out of the table.
+    pub fn take_out(&mut self)
+        ensures table { self.new.table ≡ self.old.leaving }
+        ensures leaving { self.new.leaving ≡ self.old.table }
+        ensures inside { self.new.inside ≡ self.old.inside }
     {
-        let first = match first_from(&self.entered, self.first) {
-            Some(first) => first,
+        self.table.exchange(&mut self.leaving);
+    }
+
+    /// The first of those that were taken out goes, to be dropped, and is answered.
+    pub fn leave_first(&mut self) -> Option<u64>
+        ensures none { IfNone result ((self.old.leaving ≡ []) × (self.new.leaving ≡ []) × (self.new.inside ≡ self.old.inside)) }
+        ensures some { IfSome result (λ f. (self.old.leaving ≡ f ∷ self.new.leaving) × (self.new.inside ≡ slice_set self.old.inside f false)) }
+        ensures table { self.new.table ≡ self.old.table }
+    {
+        let (_, f) = match self.leaving.leave_first() {
+            Some(parts) => parts,
             None => return None,
         };
-        self.first = first;
-        self.entered[first] = false;
-        self.count -= 1;
-        Some(first as u64)
+        self.seats[f as usize].inside = false;
+        Some(f)
     }
 }

@@ -8,7 +8,9 @@ mod closing;
 mod entries;
 mod handle;
 mod machine;
+mod order;
 mod part;
+mod places;
 mod possible;
 mod queue;
 mod store;
@@ -16,4 +18,6 @@ mod table;
 mod task;
 mod uses;
 
-pub use machine::{Kind, Machine};
+pub use executor_model::Kind;
+pub use machine::Machine;
+pub use places::Places;

@@ -25,17 +25,10 @@ use executor_model::trace_laws::{
     awaiters_are_kept, closing_drops_each_future_once, drops_come_once, early_drops_have_causes,
     outputs_go_once, polls_are_asked_for, polls_are_lawful,
 };
-use executor_model::{Awaiter, Event, Op, Step, StepError};
+use executor_model::{Awaiter, Event, Kind, Op, Step, StepError};
 use std::alloc::{AllocError, Global};
 use std::collections::VecDeque;
 use std::marker::Model;
-
-/// Who may drop the executor.
-#[derive(Clone, Copy, Debug, PartialEq, Eq)]
-pub enum Kind {
-    /// Its owner, by a call.
-    Owned,
-}
 
 /// An executor of one step at a time. Its value is the state of the model: the tasks, the queue, the
 /// table, the wakers, the trace, and what each party has still to do.
@@ -66,9 +59,8 @@ fn make_room(store: &mut Store) -> Result<(), StepError>
 {
     let room = store.tasks.reserve(1).is_ok()
         && store.awaiters.reserve(1).is_ok()
-        && store.inside.reserve(1).is_ok()
         && store.queue.reserve(1).is_ok()
-        && store.table.reserve_to(store.tasks.len()).is_ok()
+        && store.entries.reserve().is_ok()
         && store.waking.reserve(1).is_ok()
         && store.wakers.reserve(1).is_ok()
         && store.trace.reserve(5).is_ok();
@@ -120,11 +112,9 @@ fn empty(alloc: Global, limit: u64) -> Store
         limit,
         tasks: Vec::new(alloc),
         awaiters: Vec::new(alloc),
-        inside: Vec::new(alloc),
         queue: VecDeque::new(alloc),
         closed: false,
-        table: Entries::new(alloc),
-        leaving: Entries::new(alloc),
+        entries: Entries::new(alloc),
         waking: VecDeque::new(alloc),
         wakers: Vec::new(alloc),
         gone: false,

@@ -5,6 +5,7 @@ ghost use Rattle.executor_model.specs.Weights as weights;
 ghost use Rattle.executor_model.specs.Weights.{weigh, weigh_all};
 ghost use Rattle.executor_model.specs.World.{task};
 ghost use Rattle.executor_model.specs.Good.{Needs, Fits};
+ghost use Rattle.executor_core.specs.Kinds.{is_on_kept, is_on_handle};
 ghost use Rattle.executor_core.specs.Views.{world_of, HasRoom, HasRoomToEnd, HasSpace, Does};
 
 use crate::act::act;
@@ -35,7 +36,7 @@ fn use_up(store: &mut Store, k: u64)
     }
 }
 
-/// A call begins.
+/// A call begins: first those on the executor, and on the waker of the poll in which the party stands.
 fn begin(store: &mut Store, todo: &mut Vec<Op>, party: u32, here: Option<u64>, call: Call)
     requires room { vec_len store.old.trace + 2 ≤ vec_capacity store.old.trace }
     requires space { HasSpace todo.old }
@@ -45,11 +46,47 @@ fn begin(store: &mut Store, todo: &mut Vec<Op>, party: u32, here: Option<u64>, c
         Call::Spawn => todo.push_reserved(Op::Enter),
         Call::TryTick => todo.push_reserved(Op::Take),
         Call::IsEmpty => todo.push_reserved(Op::LookAtTable),
+        Call::DropExecutor => {
+            store.gone = true;
+            store.trace.push_reserved(Event::DropBegun { party });
+            todo.push_reserved(Op::End(Reply::Done, Hold::Nothing));
+            todo.push_reserved(Op::TakeOut);
+        }
+        Call::Keep => {
+            if let Some(f) = here {
+                todo.push_reserved(Op::CopyWaker(f, Hold::Nothing));
+            }
+        }
+        Call::WakeSelf => {
+            if let Some(f) = here {
+                todo.push_reserved(Op::End(Reply::Done, Hold::Nothing));
+                todo.push_reserved(Op::WakeByReference(f));
+            }
+        }
+        _ => begin_on_waker(store, todo, party, here, call),
+    }
+}
+
+/// A call on a kept waker begins, or one on a handle.
+fn begin_on_waker(store: &mut Store, todo: &mut Vec<Op>, party: u32, here: Option<u64>, call: Call)
+    requires kind { is_on_kept call ≡ true }
+    requires room { vec_len store.old.trace + 2 ≤ vec_capacity store.old.trace }
+    requires space { HasSpace todo.old }
+    ensures { Does (steps.begun party (world_of store.old) here call) store.new todo.old.items todo.new.items }
+{
+    match call {
         Call::Wake(k) => {
             if let Some(f) = kept(store, k) {
                 use_up(store, k);
                 todo.push_reserved(Op::End(Reply::Done, Hold::Nothing));
                 todo.push_reserved(Op::Wake(f));
+            }
+        }
+        Call::DropWaker(k) => {
+            if let Some(f) = kept(store, k) {
+                use_up(store, k);
+                todo.push_reserved(Op::End(Reply::Done, Hold::Nothing));
+                todo.push_reserved(Op::Release(f));
             }
         }
         Call::WakeByRef(k) => {
@@ -63,24 +100,18 @@ fn begin(store: &mut Store, todo: &mut Vec<Op>, party: u32, here: Option<u64>, c
                 todo.push_reserved(Op::CopyWaker(f, Hold::Waker(k)));
             }
         }
-        Call::DropWaker(k) => {
-            if let Some(f) = kept(store, k) {
-                use_up(store, k);
-                todo.push_reserved(Op::End(Reply::Done, Hold::Nothing));
-                todo.push_reserved(Op::Release(f));
-            }
-        }
-        Call::Keep => {
-            if let Some(f) = here {
-                todo.push_reserved(Op::CopyWaker(f, Hold::Nothing));
-            }
-        }
-        Call::WakeSelf => {
-            if let Some(f) = here {
-                todo.push_reserved(Op::End(Reply::Done, Hold::Nothing));
-                todo.push_reserved(Op::WakeByReference(f));
-            }
-        }
+        _ => begin_on_handle(store, todo, party, here, call),
+    }
+}
+
+/// A call on a handle begins.
+fn begin_on_handle(store: &mut Store, todo: &mut Vec<Op>, party: u32, here: Option<u64>, call: Call)
+    requires kind { is_on_handle call ≡ true }
+    requires room { vec_len store.old.trace + 2 ≤ vec_capacity store.old.trace }
+    requires space { HasSpace todo.old }
+    ensures { Does (steps.begun party (world_of store.old) here call) store.new todo.old.items todo.new.items }
+{
+    match call {
         Call::PollHandle(f, by) => todo.push_reserved(Op::Look(f, waker_of(here, by))),
         Call::Cancel(f) => {
             todo.push_reserved(Op::End(Reply::Done, Hold::Handle(f)));
@@ -95,12 +126,7 @@ fn begin(store: &mut Store, todo: &mut Vec<Op>, party: u32, here: Option<u64>, c
             todo.push_reserved(Op::Detach(f));
             todo.push_reserved(Op::Cancel(f));
         }
-        Call::DropExecutor => {
-            store.gone = true;
-            store.trace.push_reserved(Event::DropBegun { party });
-            todo.push_reserved(Op::End(Reply::Done, Hold::Nothing));
-            todo.push_reserved(Op::TakeOut);
-        }
+        _ => unreachable!(),
     }
 }
 

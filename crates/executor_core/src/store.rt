@@ -12,15 +12,12 @@ pub struct Store {
     pub tasks: Vec<State>,
     /// The awaiter that each task keeps.
     pub awaiters: Vec<Option<Awaiter>>,
-    /// Whether each future is in its place in the table.
-    pub inside: Vec<bool>,
     /// The Runnables, by their futures.
     pub queue: VecDeque<u64>,
     pub closed: bool,
-    /// The futures that have an entry and a waker in the table, in the order of acceptance.
-    pub table: Entries,
-    /// The futures that the executor's drop has taken out and not yet dropped.
-    pub leaving: Entries,
+    /// The table, where each future has an entry and a waker, and what the executor's drop has taken out of it and not
+    /// yet dropped.
+    pub entries: Entries,
     /// The wakers of those that it has dropped and not yet woken.
     pub waking: VecDeque<u64>,
     /// The kept wakers by number, each by its future.

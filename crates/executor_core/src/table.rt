@@ -18,7 +18,7 @@ pub fn enter(store: &mut Store, todo: &mut Vec<Op>, party: u32, hint: Hint)
     requires space { HasSpace todo.old }
     ensures { Does (acts.enter party hint (world_of store.old)) store.new todo.old.items todo.new.items }
 {
-    if store.table.len() as u64 >= store.limit {
+    if store.entries.len() as u64 >= store.limit {
         todo.push_reserved(Op::End(Reply::Full, Hold::Executor));
         return;
     }
@@ -29,8 +29,7 @@ pub fn enter(store: &mut Store, todo: &mut Vec<Op>, party: u32, hint: Hint)
     let f = store.tasks.len() as u64;
     store.tasks.push_reserved(entered());
     store.awaiters.push_reserved(None);
-    store.inside.push_reserved(true);
-    store.table.enter(f);
+    store.entries.enter(f);
     store
         .trace
         .push_reserved(Event::Accepted { party, future: f });
@@ -61,7 +60,7 @@ pub fn look_at_table(store: &mut Store, todo: &mut Vec<Op>)
     requires space { HasSpace todo.old }
     ensures { Does (acts.look_at_table (world_of store.old)) store.new todo.old.items todo.new.items }
 {
-    let reply = if store.table.is_empty() {
+    let reply = if store.entries.is_empty() {
         Reply::Yes
     } else {
         Reply::No
@@ -76,7 +75,7 @@ pub fn take_to_poll(store: &mut Store, todo: &mut Vec<Op>, f: u64)
     requires needs { HasPlace (world_of store.old) f }
     ensures { Does (acts.take_to_poll (world_of store.old) f) store.new todo.old.items todo.new.items }
 {
-    store.inside[f as usize] = false;
+    store.entries.take(f);
     todo.push_reserved(Op::Poll(f));
 }
 
@@ -87,7 +86,7 @@ pub fn put_back(store: &mut Store, todo: &mut Vec<Op>, f: u64)
     requires needs { HasPlace (world_of store.old) f }
     ensures { Does (acts.put_back (world_of store.old) f) store.new todo.old.items todo.new.items }
 {
-    store.inside[f as usize] = true;
+    store.entries.put_back(f);
     todo.push_reserved(Op::EndPending(f));
 }
 
@@ -98,7 +97,7 @@ pub fn take_to_drop(store: &mut Store, todo: &mut Vec<Op>, f: u64)
     requires needs { HasPlace (world_of store.old) f }
     ensures { Does (acts.take_to_drop (world_of store.old) f) store.new todo.old.items todo.new.items }
 {
-    store.inside[f as usize] = false;
+    store.entries.take(f);
     todo.push_reserved(Op::BeginDrop(f));
 }
 
@@ -108,7 +107,7 @@ pub fn leave_table(store: &mut Store, todo: &mut Vec<Op>, f: u64)
     requires space { HasSpace todo.old }
     ensures { Does (acts.leave_table (world_of store.old) f) store.new todo.old.items todo.new.items }
 {
-    if store.table.leave(f) {
+    if store.entries.leave(f) {
         todo.push_reserved(Op::Release(f));
     }
 }

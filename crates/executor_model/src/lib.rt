@@ -4,6 +4,7 @@
 
 mod call;
 mod event;
+mod kind;
 pub mod laws;
 mod op;
 mod step;
@@ -11,5 +12,6 @@ pub mod trace_laws;
 
 pub use call::{By, Call, Reply};
 pub use event::{Answer, Event};
+pub use kind::Kind;
 pub use op::{Awaiter, Hold, Op, Waker};
 pub use step::{Hint, Step, StepError, UserEnd};

@@ -2,6 +2,7 @@
 use Rattle.std.specs.Prelude.{ℕ}
 use Rattle.executor_laws.specs.AtRest.{EmptinessIsExact, TicksAreExact}
 use Rattle.executor_model.specs.AskedPolls.{IsWokenBetweenPolls}
+use Rattle.executor_model.specs.AwaiterKept.{AwaiterIsKept}
 use Rattle.executor_model.specs.DroppedOnce.{DropComesOnce, IsDroppedByTheEnd}
 use Rattle.executor_model.specs.EarlyDrop.{EarlyDropHasCause}
 use Rattle.executor_model.specs.LawfulPolls.{HasLawfulPolls}
@@ -15,6 +16,7 @@ pub record IsLawful (trace : Trace) : Type 0 where
   pub drops : (f : ℕ) → DropComesOnce f trace
   pub causes : (f : ℕ) → EarlyDropHasCause f trace
   pub by_the_end : (f : ℕ) → IsDroppedByTheEnd f trace
+  pub awaiters : (f : ℕ) → AwaiterIsKept f trace
   -- the answers of each party's calls that begin at rest
   pub ticks : (p : ℕ) → TicksAreExact p trace
   pub emptiness : (p : ℕ) → EmptinessIsExact p trace

@@ -17,7 +17,7 @@ use crate::play::player::Player;
 use executor_core::Machine;
 use executor_laws::laws::{calls_at_rest_are_exact, traces_continue};
 use executor_model::trace_laws::{
-    closing_drops_each_future_once, drops_come_once, early_drops_have_causes, outputs_go_once,
+    awaiters_are_kept, closing_drops_each_future_once, drops_come_once, early_drops_have_causes, outputs_go_once,
     polls_are_asked_for, polls_are_lawful,
 };
 use script::{Command, Names};
@@ -57,6 +57,7 @@ fn keeps_to_laws(machine: &Machine)
     drops_come_once();
     early_drops_have_causes();
     closing_drops_each_future_once();
+    awaiters_are_kept();
     calls_at_rest_are_exact();
     machine.is_reached();
 }

@@ -1,6 +1,7 @@
 use Rattle.executor_core.proofs.Reaching.{law_here}
 use Rattle.executor_laws.specs.AtRest.{EmptinessIsExact, TicksAreExact}
 use Rattle.executor_model.specs.AskedPolls.{IsWokenBetweenPolls}
+use Rattle.executor_model.specs.AwaiterKept.{AwaiterIsKept}
 use Rattle.executor_model.specs.DroppedOnce.{DropComesOnce, IsDroppedByTheEnd}
 use Rattle.executor_model.specs.EarlyDrop.{EarlyDropHasCause}
 use Rattle.executor_model.specs.LawfulPolls.{HasLawfulPolls}
@@ -17,6 +18,7 @@ returns c =
       drops = law_here DropComesOnce c.drops_come_once.ensures _ reached;
       causes = law_here EarlyDropHasCause c.early_drops_have_causes.ensures _ reached;
       by_the_end = law_here IsDroppedByTheEnd c.closing_drops_each_future_once.ensures _ reached;
+      awaiters = law_here AwaiterIsKept c.awaiters_are_kept.ensures _ reached;
       ticks = law_here TicksAreExact c.calls_at_rest_are_exact.ensures.ticks _ reached;
       emptiness = law_here EmptinessIsExact c.calls_at_rest_are_exact.ensures.emptiness _ reached;
     }

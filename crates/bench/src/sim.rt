@@ -78,11 +78,7 @@ fn push_command(
 
 /// The name of the future of this number.
 fn name(number: u64) -> [u8; 3] {
-    [
-        letter(number / 676),
-        letter(number / 26),
-        letter(number),
-    ]
+    [letter(number / 676), letter(number / 26), letter(number)]
 }
 
 fn letter(number: u64) -> u8 {

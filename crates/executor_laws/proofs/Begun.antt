@@ -56,9 +56,9 @@ unfolding step
 asks s p l n e =
     let there : ltb p (length s.parties) ≡ true = grind (arith, nat_tests) in
     let r : refusal s (Begin p call.IsEmpty) ≡ None =
-        ap (λ (b : Bool). unless b NoSuch (begin_refusal s.world s.parties (top (stack s p)) call.IsEmpty)) there
-        ∙ (ap (λ (os : List Op). begin_refusal s.world s.parties (top os) call.IsEmpty) e
-        ∙ ap (λ (b : Bool). unless (not (b && true)) Gone None) n) in
+    ap (λ (b : Bool). unless b NoSuch (begin_refusal s.world s.parties (top (stack s p)) call.IsEmpty)) there
+    ∙ (ap (λ (os : List Op). begin_refusal s.world s.parties (top os) call.IsEmpty) e
+    ∙ ap (λ (b : Bool). unless (not (b && true)) Gone None) n) in
     ap (λ (x : Option StepError). stepped s (step_by x s (Begin p call.IsEmpty))) r ∙ ap (λ (os : List Op). with_part s p (part_after s.world os (Begin p call.IsEmpty))) e
 
 -- a tick: nothing was due, and it is answered so; or a future is, and it isn't
@@ -104,8 +104,10 @@ module _ (s : Machine) (fine : Good s) (h : Heard s) (d : Deep s) (rest : IsAtRe
       inl (first-of (ticking s p).world.trace [] (run ts (run (ticks p t) s)).world.trace later e (event.CallEnded p reply.No) on k, nothing-due z)
   tick-goes t ts (f ∷ xs) z k =
       let short : (run (ticks p t) s).world.trace ≡ (ticking s p).world.trace = ap (λ (m : Machine). m.world.trace) (gone-on-alone s p l gone (none p) t (f ∷ xs) z) in
-      inr (not-no p hold.Executor e later alone ts (run (ticks p t) s) (found-inside t f xs z) (k ∙ ap (λ (ys : Trace). ys ++ e ∷ later) (sym short)),
-          (f, queued-due s fine h d rest f (subst (λ (ys : List ℕ). 1 ≤ times f ys) (sym z) (grind (arith, same_is)))))
+      inr (
+        not-no p hold.Executor e later alone ts (run (ticks p t) s) (found-inside t f xs z) (k ∙ ap (λ (ys : Trace). ys ++ e ∷ later) (sym short)),
+        (f, queued-due s fine h d rest f (subst (λ (ys : List ℕ). 1 ≤ times f ys) (sym z) (grind (arith, same_is)))),
+      )
 
   tick-next : (ts : List Step) → (run ts (ticking s p)).world.trace ≡ (ticking s p).world.trace ++ e ∷ later → TickAnswered p s.world.trace e
   tick-next ts k = follow (ticking s p) p op.Take (get_or-set_same s.parties p (op.Take ∷ []) [] l) (others (op.Take ∷ [])) (λ u. refl) e later alone (TickAnswered p s.world.trace e)
@@ -125,9 +127,9 @@ module _ (s : Machine) (fine : Good s) (h : Heard s) (d : Deep s) (rest : IsAtRe
   asked-next : IsQuietEmptinessExact s → (ts : List Step) → (run ts (asking s p)).world.trace ≡ (asking s p).world.trace ++ e ∷ later → EmptyAnswered p s.world.trace e
   asked-next exact ts k = follow (asking s p) p op.LookAtTable (get_or-set_same s.parties p (op.LookAtTable ∷ []) [] l) (others (op.LookAtTable ∷ [])) (λ u. refl) e later alone (EmptyAnswered p s.world.trace e)
       (λ t us q. let r : (run us (run (asks_alone p t) s)).world.trace ≡ (asking s p).world.trace ++ e ∷ later = ap (λ (m : Machine). (run us m).world.trace) (asks-two t) ∙ q in ⊎_elim
-          (λ (y : AnswersAlone s p t reply.Yes). inl (answered-so reply.Yes t us y r, exact.only rest p t l y))
-          (λ (n : AnswersAlone s p t reply.No). inr (answered-so reply.No t us n r, λ all. not-both (answered-so reply.Yes t us (exact.always rest p t l all) r) (answered-so reply.No t us n r)))
-          (exact.answered rest p t l)) ts k
+      (λ (y : AnswersAlone s p t reply.Yes). inl (answered-so reply.Yes t us y r, exact.only rest p t l y))
+      (λ (n : AnswersAlone s p t reply.No). inr (answered-so reply.No t us n r, λ all. not-both (answered-so reply.Yes t us (exact.always rest p t l all) r) (answered-so reply.No t us n r)))
+      (exact.answered rest p t l)) ts k
 
 -- a run whose trace has the beginning of the call
 

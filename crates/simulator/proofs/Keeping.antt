@@ -68,9 +68,10 @@ record Same (s new : Player) : Type 0 where
   moments : new.moments ≡ s.moments
 
 same-fair : (limit : ℕ) (s new : Player) → Same s new → IsFair limit s → IsFair limit new
-same-fair limit s new e k =
-    (ap (λ (ts : List Step). steps.run ts (steps.start limit 10)) e.tried ∙ (k.0 ∙ sym e.machine),
-     ap happened e.moments ∙ (k.1 ∙ ap (λ (m : Machine). m.world.trace) (sym e.machine)))
+same-fair limit s new e k = (
+  ap (λ (ts : List Step). steps.run ts (steps.start limit 10)) e.tried ∙ (k.0 ∙ sym e.machine),
+  ap happened e.moments ∙ (k.1 ∙ ap (λ (m : Machine). m.world.trace) (sym e.machine)),
+)
 
 own : (s : Player) → Same s s
 own s = record { machine = refl; tried = refl; moments = refl }
@@ -123,12 +124,12 @@ module _ (continues : (m : Machine) (t : Step) → IsContinued m.world.trace (st
       let on : IsContinued s.machine.world.trace m.world.trace = subst (λ (x : Result Machine StepError). IsContinued s.machine.world.trace (steps.stepped s.machine x).world.trace) q (continues s.machine t) in
       let behind : later (length s.machine.world.trace) m.world.trace ≡ on.0 = ap (drop (length s.machine.world.trace)) on.1 ∙ drop-append_seam s.machine.world.trace on.0 in
       let all : happened here.moments ≡ m.world.trace =
-          happened-append s.moments (map Happened (later (length s.machine.world.trace) m.world.trace))
-          ∙ (ap (λ (es : List Event). es ++ happened (map Happened (later (length s.machine.world.trace) m.world.trace))) k.1
-          ∙ (ap (λ (es : List Event). s.machine.world.trace ++ es) (happened-all (later (length s.machine.world.trace) m.world.trace) ∙ behind)
-          ∙ sym on.1)) in
+      happened-append s.moments (map Happened (later (length s.machine.world.trace) m.world.trace))
+      ∙ (ap (λ (es : List Event). es ++ happened (map Happened (later (length s.machine.world.trace) m.world.trace))) k.1
+      ∙ (ap (λ (es : List Event). s.machine.world.trace ++ es) (happened-all (later (length s.machine.world.trace) m.world.trace) ∙ behind)
+      ∙ sym on.1)) in
       let steps_here : steps.run here.tried (steps.start limit 10) ≡ m =
-          run-push s.tried t (steps.start limit 10) ∙ (ap (λ (x : Machine). steps.stepped x (steps.step x t)) k.0 ∙ ap (steps.stepped s.machine) q) in
+      run-push s.tried t (steps.start limit 10) ∙ (ap (λ (x : Machine). steps.stepped x (steps.step x t)) k.0 ∙ ap (steps.stepped s.machine) q) in
       same-fair limit here (noted (last (later (length s.machine.world.trace) m.world.trace)) here) (learns (last (later (length s.machine.world.trace) m.world.trace)) here) (steps_here, all)
 
   fair-tried : (t : Step) (s : Player) → IsFair limit s → IsFair limit (tried t s)

@@ -34,13 +34,14 @@ pub returns : goal.returns
 returns c =
     let last = c.loop-at.player in
     let plays : PlaysAll 0 c.args.commands.now (start c.args.commands.now c.args.limit) last = c.loop-at.invariant last (played_all c.args.commands.now c.loop-at.at last c.loop-at-test.false) in
-    let comes : IsFair c.args.limit last = fair c.traces_continue.ensures c.args.limit c.args.commands.now last plays in
-    (last,
-    record {
-      plays = plays;
-      made = comes.0;
-      shown = comes.1;
-      lawful = subst (λ (x : Player). IsLawful x.machine.world.trace) c.player-2.view_is c.keeps_to_laws.ensures;
-    },
-    search rules,
-    search rules)
+    let comes : IsFair c.args.limit last = fair c.traces_continue.ensures c.args.limit c.args.commands.now last plays in (
+      last,
+      record {
+        plays = plays;
+        made = comes.0;
+        shown = comes.1;
+        lawful = subst (λ (x : Player). IsLawful x.machine.world.trace) c.player-2.view_is c.keeps_to_laws.ensures;
+      },
+      search rules,
+      search rules,
+    )

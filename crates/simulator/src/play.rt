@@ -17,8 +17,8 @@ use crate::play::player::Player;
 use executor_core::Machine;
 use executor_laws::laws::{calls_at_rest_are_exact, traces_continue};
 use executor_model::trace_laws::{
-    awaiters_are_kept, closing_drops_each_future_once, drops_come_once, early_drops_have_causes, outputs_go_once,
-    polls_are_asked_for, polls_are_lawful,
+    awaiters_are_kept, closing_drops_each_future_once, drops_come_once, early_drops_have_causes,
+    outputs_go_once, polls_are_asked_for, polls_are_lawful,
 };
 use script::{Command, Names};
 use std::alloc::{AllocError, Global};

@@ -1,6 +1,6 @@
 -- In each run a future is woken between two polls, and who is asked for is scheduled.
-use Rattle.std.proofs.Common.{◌≡◌, ◌≢◌, ◌⊎◌, ℕ, zero, suc, ◌+◌, ◌<◌, ◌≤◌, List, [], ◌∷◌, ◌++◌, length, set, get_or, Bool, true, false, ◌&&◌, ◌||◌, not, cond, eqb, refl, sym, ap, ◌∙◌, subst, inl, inr, ⊎_elim, arith}
-use Rattle.std.specs.Prelude.{Option, Some, None, reverse, filter}
+use Rattle.std.proofs.Common.{◌≡◌, ◌≢◌, ◌⊎◌, ℕ, ◌<◌, ◌≤◌, List, [], ◌∷◌, ◌++◌, length, set, true, refl, sym, subst, inl, inr, arith}
+use Rattle.std.specs.Prelude.{Option, Some, None, reverse}
 use Rattle.executor_model.specs.declared.call.Call.{Call}
 use Rattle.executor_model.specs.declared.call.Call.TheVariants as call
 use Rattle.executor_model.specs.declared.call.Reply.{Reply}
@@ -14,10 +14,10 @@ use Rattle.executor_model.specs.declared.op.Op.TheVariants as op
 use Rattle.executor_model.specs.declared.step.Step.{Step}
 use Rattle.executor_model.specs.declared.step.UserEnd.{UserEnd}
 use Rattle.executor_model.specs.declared.step.UserEnd.TheVariants as end
-use Rattle.executor_model.specs.Trace.{Trace, has, is_dropped}
-use Rattle.executor_model.specs.World.{World, Done, done, log, task}
+use Rattle.executor_model.specs.Trace.{Trace}
+use Rattle.executor_model.specs.World.{World, Done, done, log}
 use Rattle.executor_model.specs.Acts.{act}
-use Rattle.executor_model.specs.Weights.{weigh, weigh_all}
+use Rattle.executor_model.specs.Weights.{weigh}
 use Rattle.executor_model.specs.Sound.{Sound, Pend, pend, with_ops, phase}
 use Rattle.executor_model.specs.Sound.Phase.{Over, Broken}
 use Rattle.executor_model.specs.Good.{Good, past, past_of}
@@ -28,10 +28,10 @@ use Rattle.executor_model.proofs.Ways.{Way, along}
 use Rattle.executor_model.proofs.Ways.Way.{acted, reacted, called}
 use Rattle.executor_model.proofs.Lawful.{dropped-over}
 use Rattle.executor_model.proofs.Stories.{story}
-use Rattle.executor_model.proofs.Leaving.{Leaves, Extra, extra, closing_of, waking_of}
+use Rattle.executor_model.proofs.Leaving.{extra, waking_of}
 use Rattle.executor_model.proofs.LeavingRuns.{Placed, placed-moves, placed-ends, placed-start}
 use Rattle.executor_model.proofs.Telling.{counted-drop}
-use Rattle.executor_model.proofs.Requests.{request, request-push, request-none}
+use Rattle.executor_model.proofs.Requests.{request-push, request-none}
 use Rattle.executor_model.proofs.Asking.{Grounds, grounded, Asked, KeepsAsked}
 use Rattle.executor_model.proofs.AskingActs.{NeedsOver, asked-act, asked-pending, asked-ready}
 

@@ -1,6 +1,5 @@
 -- Where the drop of the executor has begun and none of its steps is left, nobody is to be woken and the queue is empty.
-use Rattle.std.proofs.Common.{◌≡◌, ◌⊎◌, ℕ, zero, suc, ◌+◌, ◌<◌, ◌≤◌, List, [], ◌∷◌, ◌++◌, length, set, get_or, drop, Bool, true, false, ◌&&◌, ◌||◌, not, refl, sym, ap, ◌∙◌, subst, inl, inr, ⊎_elim, arith}
-use Rattle.std.proofs.lemmas.Bool.Decides.{nat_tests}
+use Rattle.std.proofs.Common.{◌≡◌, ◌⊎◌, ℕ, suc, ◌+◌, ◌<◌, ◌≤◌, List, [], ◌∷◌, ◌++◌, length, set, get_or, drop, Bool, true, false, ◌&&◌, ◌||◌, not, refl, sym, ap, ◌∙◌, subst, arith}
 use Rattle.std.proofs.lemmas.List.{length-append}
 use Rattle.std.specs.Prelude.{Option, Some, None, reverse}
 use Rattle.task_moves.specs.declared.moves.owed.Answer.{Answer}
@@ -25,16 +24,16 @@ use Rattle.executor_model.specs.declared.step.UserEnd.{UserEnd}
 use Rattle.executor_model.specs.declared.step.UserEnd.TheVariants as end
 use Rattle.executor_model.specs.World.{World, Done, done, log, log_if, task}
 use Rattle.executor_model.specs.Carried.{awaiter_ops}
-use Rattle.executor_model.specs.Acts.{append_by, take_by, enter_by, leave_by, copy_by, look_by, look_again_by, copy_awaiter_by, register_by, end_register_by, notify_by, call_awaiter, closing_ops, take_out, drop_next_by, wake, wake_next_by, close, drain_by, act}
+use Rattle.executor_model.specs.Acts.{append_by, take_by, enter_by, leave_by, copy_by, look_by, look_again_by, copy_awaiter_by, register_by, end_register_by, notify_by, call_awaiter, closing_ops, drop_next_by, wake, wake_next_by, close, drain_by, act}
 use Rattle.executor_model.specs.Weights.{weigh, weigh_all, borrowing_of}
 use Rattle.executor_model.specs.Sound.{ousting_of}
 use Rattle.executor_model.specs.Good.{Good}
-use Rattle.executor_model.specs.Steps.{Machine, stack, top, idle, run, start, polled_by, is_free, has_all, is_on_executor, is_drop, is_unused, kept, with_future, accepts, begun, react}
+use Rattle.executor_model.specs.Steps.{Machine, stack, top, run, start, polled_by, is_free, has_all, is_on_executor, is_drop, is_unused, kept, with_future, accepts, begun, react}
 use Rattle.executor_model.proofs.Lists.{weigh-append, weigh_all-push}
 use Rattle.executor_model.proofs.Lift.{split, unsettled, good-start, none_refused, open_executor, weigh_all-idle}
 use Rattle.executor_model.proofs.Ways.{Way, along}
 use Rattle.executor_model.proofs.Ways.Way.{acted, reacted, called}
-use Rattle.executor_model.proofs.AwaitedLists.{rough_of, plain-act, plain-react, plain-begun, plain-wake, is_special}
+use Rattle.executor_model.proofs.AwaitedLists.{rough_of, plain-act, plain-begun, plain-wake, is_special}
 
 -- what the drop of the executor looks at
 pub record Lists : Type 0 where

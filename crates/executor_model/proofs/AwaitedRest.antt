@@ -1,14 +1,11 @@
 -- At a quiet trace the waker of the last poll of a handle was called, if that was answered that there is no output yet.
-use Rattle.std.proofs.Common.{◌≡◌, ◌≢◌, ◌⊎◌, ℕ, zero, suc, ◌+◌, ◌<◌, ◌≤◌, List, [], ◌∷◌, length, get_or, Bool, true, false, ◌||◌, refl, sym, ap, ◌∙◌, subst, inl, inr, ⊎_elim, arith}
-use Rattle.std.proofs.lemmas.Bool.Decides.{nat_tests}
+use Rattle.std.proofs.Common.{◌≡◌, ◌⊎◌, ℕ, suc, ◌<◌, ◌≤◌, List, [], ◌∷◌, length, Bool, true, false, refl, sym, ap, ◌∙◌, subst, ⊎_elim, arith}
 use Rattle.std.proofs.lemmas.List.{get_or_past}
-use Rattle.task_moves.specs.declared.moves.state.State.{State}
-use Rattle.executor_model.specs.declared.op.Op.{Op}
 use Rattle.executor_model.specs.declared.step.Step.{Step}
-use Rattle.executor_model.specs.Trace.{Trace, has, is_dropped}
-use Rattle.executor_model.specs.AwaiterKept.{calls_waker, since, IsLastAnsweredPending, IsOverWithHandle, AwaiterIsKept}
+use Rattle.executor_model.specs.Trace.{Trace, is_dropped}
+use Rattle.executor_model.specs.AwaiterKept.{since, IsOverWithHandle, AwaiterIsKept}
 use Rattle.executor_model.specs.World.{World, task, blank}
-use Rattle.executor_model.specs.Weights.{weigh_all, handling_of, borrowing_of}
+use Rattle.executor_model.specs.Weights.{handling_of, borrowing_of}
 use Rattle.executor_model.specs.Sound.{Sound, Pend, pend, times, phase, waiting_of, polls_of, ending_of, ready_of, settling_of, giving_of, drops_of, releases_of, copies_of, ousting_of}
 use Rattle.executor_model.specs.Sound as sound
 use Rattle.executor_model.specs.Sound.Phase.{Over}
@@ -23,10 +20,10 @@ use Rattle.executor_model.proofs.Telling.{fallen-counts, counted-there}
 use Rattle.executor_model.proofs.Leaving.{closing_of, waking_of, Extra, extra, Leaves}
 use Rattle.executor_model.proofs.LeavingRuns.{Placed, placed}
 use Rattle.executor_model.proofs.Awaited.{Heard, heard, Awaiting, awaiting, Awaits, Mark, looks_of, fresh_of, storing_of, again_of, waits_of, over_of, notices_of, notifying_of, mine_of, detaches_of, lending_of, strays_of, calls_of}
-use Rattle.executor_model.proofs.AwaitedClosing.{Lists, lists, Sweep, sweep, Sweeps, Swept, swept, dropping_of, rousing_of, shutting_of, draining_of}
+use Rattle.executor_model.proofs.AwaitedClosing.{lists, Sweep, sweep, Sweeps, Swept, swept, dropping_of, rousing_of, shutting_of, draining_of}
 use Rattle.executor_model.proofs.AwaitedCalls.{marked}
 use Rattle.executor_model.proofs.AwaitedRuns.{Waited, waited, nothing_pending, nothing_awaited}
-use Rattle.executor_model.proofs.AwaitedTelling.{parted-has, dropped-has, over-dropped, Begun, begun-at, poll-from, called-from, pending-at}
+use Rattle.executor_model.proofs.AwaitedTelling.{parted-has, dropped-has, over-dropped, Begun, begun-at, called-from, pending-at}
 
 abbrev nothing_more : Extra
 nothing_more = record { leaves = 0; closing = 0; waking = 0 }

@@ -1,9 +1,9 @@
 -- What is heard of a future and of the last poll of its handle is what the definitions over its trace say.
-use Rattle.std.proofs.Common.{◌≡◌, ◌≢◌, ◌⊎◌, ℕ, zero, suc, ◌+◌, ◌<◌, ◌≤◌, List, [], ◌∷◌, ◌++◌, length, drop, Bool, true, false, ◌&&◌, ◌||◌, cond, eqb, take, refl, sym, ap, ◌∙◌, subst, inl, inr, ⊎_elim, arith}
+use Rattle.std.proofs.Common.{◌≡◌, ◌≢◌, ◌⊎◌, ℕ, zero, suc, ◌+◌, ◌≤◌, [], ◌∷◌, drop, Bool, true, false, ◌&&◌, ◌||◌, cond, eqb, take, refl, sym, ap, ◌∙◌, subst, inl, inr, ⊎_elim, arith}
 use Rattle.std.proofs.lemmas.Bool.Decides.{nat_tests}
 use Rattle.std.proofs.lemmas.List.Sums.{sum_by-append}
 use Rattle.std.proofs.Math.Bool.{or_assoc}
-use Rattle.std.specs.Prelude.{Option, Some, None, count_by, slice_get}
+use Rattle.std.specs.Prelude.{Some, count_by, slice_get}
 use Rattle.executor_model.specs.declared.call.Call.{Call}
 use Rattle.executor_model.specs.declared.call.Reply.{Reply}
 use Rattle.executor_model.specs.declared.call.Reply.TheVariants as reply
@@ -17,7 +17,6 @@ use Rattle.executor_model.specs.AwaiterKept.{is_handle_poll, calls_waker, since,
 use Rattle.executor_model.specs.Sound.{Phase, passes, phase_from, phase, after_begun, after_answered, after_dropped}
 use Rattle.executor_model.specs.Sound.Phase.{Fresh, Polling, Over, Broken}
 use Rattle.executor_model.specs.Weights.{same}
-use Rattle.executor_model.proofs.Lists.{same_cases}
 use Rattle.executor_model.proofs.Telling.{same-cond}
 use Rattle.executor_model.proofs.Awaited.{Heard, unheard, is_pending, ended_in, hears, heard_from, heard}
 

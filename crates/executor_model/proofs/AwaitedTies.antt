@@ -1,6 +1,6 @@
 -- What a poll of the handle has itself to notify stands right before the end of that poll, which has an answer by then.
-use Rattle.std.proofs.Common.{◌≡◌, ◌≢◌, ◌⊎◌, ℕ, zero, suc, ◌+◌, ◌<◌, ◌≤◌, List, [], ◌∷◌, ◌++◌, length, set, get_or, Bool, true, false, eqb, refl, sym, ap, ◌∙◌, subst, inl, inr, ⊎_elim, arith, get_or-set_same, get_or-set_other}
-use Rattle.std.specs.Prelude.{Option, Some, None, reverse}
+use Rattle.std.proofs.Common.{◌≡◌, ◌≢◌, ◌⊎◌, ℕ, suc, ◌+◌, ◌<◌, ◌≤◌, List, [], ◌∷◌, ◌++◌, length, set, get_or, Bool, true, false, eqb, refl, sym, subst, inl, inr, ⊎_elim, arith, get_or-set_same, get_or-set_other}
+use Rattle.std.specs.Prelude.{Option, reverse}
 use Rattle.task_moves.specs.Moves as moves
 use Rattle.executor_model.specs.declared.call.Reply.{Reply}
 use Rattle.executor_model.specs.declared.call.Reply.TheVariants as reply
@@ -18,7 +18,7 @@ use Rattle.executor_model.specs.Carried.{awaiter_ops}
 use Rattle.executor_model.specs.Acts.{look_by, look_again_by, notify_by, closing_ops, drop_next_by, wake, wake_next_by, drain_by, act}
 use Rattle.executor_model.specs.Weights.{same, weigh, weigh_all}
 use Rattle.executor_model.specs.Steps.{Machine, stack, begun, is_drop}
-use Rattle.executor_model.proofs.Lists.{same_is, same_cases, weigh-append, weigh-reverse}
+use Rattle.executor_model.proofs.Lists.{same_cases, weigh-append, weigh-reverse}
 use Rattle.executor_model.proofs.Lift.{unsettled}
 use Rattle.executor_model.proofs.Awaited.{mine_of, over_of}
 use Rattle.executor_model.proofs.AwaitedLists.{rough_of, is_special, plain-act, plain-wake, plain-react, plain-begun}

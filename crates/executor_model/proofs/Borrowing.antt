@@ -1,11 +1,9 @@
 -- A future is only polled, dropped or taken out of the table for good inside of a call that uses the executor.
-use Rattle.std.proofs.Common.{◌≡◌, ℕ, zero, suc, ◌+◌, ◌<◌, ◌≤◌, List, [], ◌∷◌, ◌++◌, length, set, get_or, Bool, true, false, ◌||◌, cond, ltb, refl, sym, ap, ◌∙◌, subst, arith}
-use Rattle.std.proofs.lemmas.Bool.Decides.{nat_tests}
+use Rattle.std.proofs.Common.{◌≡◌, ℕ, zero, suc, ◌+◌, ◌<◌, ◌≤◌, List, [], ◌∷◌, ◌++◌, length, set, get_or, Bool, true, false, ◌||◌, cond, ltb, refl, ap, ◌∙◌, arith}
 use Rattle.std.specs.Prelude.{reverse}
 use Rattle.executor_model.specs.declared.op.Op.{Op}
 use Rattle.executor_model.specs.declared.op.Op.TheVariants as op
-use Rattle.executor_model.specs.World.{Done}
-use Rattle.executor_model.specs.Weights.{same, weigh, weigh_all, borrowing_of}
+use Rattle.executor_model.specs.Weights.{weigh, weigh_all, borrowing_of}
 use Rattle.executor_model.specs.Sound.{drops_of}
 use Rattle.executor_model.proofs.Lists.{same_is, weigh-reverse}
 use Rattle.executor_model.specs.Entries.{leaves_of}

@@ -1,7 +1,7 @@
 -- How many calls of a party are in progress: as many as it has begun and not ended, and as many as its stack has still to answer.
-use Rattle.std.proofs.Common.{◌≡◌, ℕ, zero, suc, ◌+◌, ◌<◌, ◌≤◌, List, [], ◌∷◌, ◌++◌, length, set, get_or, Bool, true, false, ◌||◌, not, cond, eqb, refl, sym, ap, ◌∙◌, subst, arith}
+use Rattle.std.proofs.Common.{◌≡◌, ℕ, ◌+◌, List, [], ◌∷◌, ◌++◌, length, Bool, true, false, cond, refl, sym, ap, ◌∙◌, arith}
 use Rattle.std.proofs.lemmas.List.Sums.{sum_by_push}
-use Rattle.std.specs.Prelude.{Option, Some, None, count_by, reverse}
+use Rattle.std.specs.Prelude.{Option, Some, None, count_by}
 use Rattle.task_moves.specs.declared.schedule_info.ScheduleInfo.{ScheduleInfo}
 use Rattle.task_moves.specs.declared.moves.owed.Move.{Move}
 use Rattle.task_moves.specs.declared.moves.owed.Move.TheVariants as move
@@ -13,8 +13,6 @@ use Rattle.task_moves.specs.declared.moves.owed.Answer.{Answer}
 use Rattle.task_moves.specs.declared.moves.owed.Owed.{Owed}
 use Rattle.task_moves.specs.declared.moves.owed.Moved.{Moved}
 use Rattle.task_moves.specs.Moves as moves
-use Rattle.executor_model.specs.declared.call.Call.{Call}
-use Rattle.executor_model.specs.declared.call.Call.TheVariants as call
 use Rattle.executor_model.specs.declared.event.Event.{Event}
 use Rattle.executor_model.specs.declared.event.Event.TheVariants as event
 use Rattle.executor_model.specs.declared.op.Awaiter.{Awaiter}
@@ -24,12 +22,10 @@ use Rattle.executor_model.specs.declared.op.Hold.{Hold}
 use Rattle.executor_model.specs.declared.op.Op.{Op}
 use Rattle.executor_model.specs.declared.op.Op.TheVariants as op
 use Rattle.executor_model.specs.declared.step.Hint.{Hint}
-use Rattle.executor_model.specs.declared.step.UserEnd.{UserEnd}
-use Rattle.executor_model.specs.declared.step.UserEnd.TheVariants as end
 use Rattle.executor_model.specs.Trace.{Trace}
 use Rattle.executor_model.specs.Quiet.{begins_call, ends_call}
-use Rattle.executor_model.specs.World.{World, Done, done, log, log_if, task, put, among, awaiter_of}
-use Rattle.executor_model.specs.Carried.{owed_ops, schedule_ops, drop_ops, future_ops, output_ops, awaiter_ops, next_ops}
+use Rattle.executor_model.specs.World.{World, Done, log, log_if, task, put, among, awaiter_of}
+use Rattle.executor_model.specs.Carried.{owed_ops, schedule_ops, future_ops, output_ops, awaiter_ops, next_ops}
 use Rattle.executor_model.specs.Acts.{append_by, take_by, enter_by, leave_by, copy_by, look_by, look_again_by, copy_awaiter_by, register_by, waker_goes, let_go, end_register_by, notify_by, told, call_awaiter, closing_ops, drop_next_by, wake, wake_next_by, drain_by, act}
 use Rattle.executor_model.specs.Weights.{same, weigh}
 use Rattle.executor_model.proofs.Lists.{weigh-append}

@@ -1,17 +1,14 @@
 -- Each thing that is done keeps what holds of each future.
-use Rattle.std.proofs.Common.{◌≡◌, ◌⊎◌, ℕ, ◌+◌, ◌^◌, ◌<◌, List, [], ◌∷◌, ◌++◌, length, Bool, true, false, ◌||◌, ◌&&◌, not, eqb, ltb, get_or, set, drop, refl, sym, ap, ◌∙◌, ◌≤◌, subst, arith}
+use Rattle.std.proofs.Common.{◌≡◌, ◌⊎◌, ℕ, ◌+◌, ◌^◌, ◌<◌, List, [], ◌∷◌, ◌++◌, length, Bool, true, false, ◌||◌, ◌&&◌, not, eqb, set, drop, refl, sym, ap, ◌∙◌, ◌≤◌, subst, arith}
 use Rattle.std.proofs.lemmas.Bool.Decides.{nat_tests}
-use Rattle.std.specs.Prelude.{Option, Some, None, slice_get, slice_set}
-use Rattle.queue_steps.specs.ClosableQueue.{shut}
+use Rattle.std.specs.Prelude.{Option, Some, None, slice_set}
 use Rattle.task_moves.specs.declared.moves.state.State.{State}
 use Rattle.task_moves.specs.declared.moves.owed.Answer.TheVariants as said
-use Rattle.task_moves.specs.declared.moves.owed.Moved.{Moved}
 use Rattle.task_moves.specs.declared.moves.owed.Move.TheVariants as move
 use Rattle.task_moves.specs.declared.moves.owed.AwaiterDebt.TheVariants as debt
 use Rattle.task_moves.specs.declared.moves.owed.FutureDebt.TheVariants.{DropFuture}
 use Rattle.task_moves.specs.Moves as moves
 use Rattle.task_moves.specs.Moves.{moved, nothing, settled, notify_if, notify_other_if, most_references}
-use Rattle.executor_model.specs.declared.call.Call.{Call}
 use Rattle.executor_model.specs.declared.call.Reply.{Reply}
 use Rattle.executor_model.specs.declared.event.Answer.TheVariants as answer
 use Rattle.executor_model.specs.declared.event.Event.TheVariants as event
@@ -24,12 +21,11 @@ use Rattle.executor_model.specs.declared.op.Op.TheVariants as op
 use Rattle.executor_model.specs.declared.step.Hint.{Hint}
 use Rattle.executor_model.specs.World.{World, Done, done, log, log_if, task, put, awaiter_of, put_awaiter, among}
 use Rattle.executor_model.specs.Carried.{carried, owed_ops}
-use Rattle.executor_model.specs.Acts
-use Rattle.executor_model.specs.Acts.{append_by, take_by, enter_by, emptiness, look_at_table, take_to_poll, put_back, take_to_drop, leave_by, begin_drop, begin_drop_output, copy_by, is_refused, answered, polled, look_by, look_again_by, copied, is_copy_refused, copy_awaiter_by, register_by, end_register_by, notify_by, end_notify, told, let_go, call_awaiter, closing_ops, take_out, drop_next_by, wake_next_by, close, drain_by, act}
+use Rattle.executor_model.specs.Acts.{append_by, take_by, enter_by, look_at_table, take_to_poll, put_back, take_to_drop, leave_by, begin_drop, begin_drop_output, copy_by, is_refused, answered, polled, look_by, look_again_by, is_copy_refused, copy_awaiter_by, register_by, end_register_by, notify_by, told, let_go, call_awaiter, closing_ops, drop_next_by, wake_next_by, close, drain_by, act}
 use Rattle.executor_model.specs.Weights.{same, weigh}
 use Rattle.executor_model.specs.Good.{past, pasts, waker_past, past_of}
-use Rattle.executor_model.specs.Sound.{with_ops, Pend, Sound, times, wakes, awaiters_of}
-use Rattle.executor_model.proofs.Lists.{read_put, read_push, fresh_is, wakers_of-push, wakers_of-used, past_is, same_is, times-append, times-drop, awaiters_of-set, awaiters_of-push, wakes_if, phase-push, phase-begun, phase-answered, phase-dropped, without_one}
+use Rattle.executor_model.specs.Sound.{with_ops, Pend, Sound, times, awaiters_of}
+use Rattle.executor_model.proofs.Lists.{read_put, read_push, fresh_is, wakers_of-push, past_is, same_is, times-append, times-drop, awaiters_of-set, awaiters_of-push, wakes_if, phase-push, phase-begun, phase-answered, phase-dropped, without_one}
 
 -- it keeps what holds of g
 abbrev pub Keeps : World → List Op → Done → Type 0

@@ -1,6 +1,5 @@
 -- Table and queue agree with the trace, and a spawn finds the executor full exactly where it is.
-use Rattle.std.proofs.Common.{◌≡◌, ◌⊎◌, ℕ, zero, suc, ◌+◌, ◌-◌, ◌<◌, ◌≤◌, List, [], ◌∷◌, ◌++◌, length, set, get_or, Bool, true, false, ◌||◌, not, cond, ltb, refl, sym, ap, ◌∙◌, subst, inl, inr, ⊎_elim, arith}
-use Rattle.std.proofs.lemmas.Bool.Decides.{nat_tests}
+use Rattle.std.proofs.Common.{◌≡◌, ◌⊎◌, ℕ, zero, suc, ◌+◌, ◌<◌, ◌≤◌, List, [], length, Bool, true, false, refl, sym, ap, ◌∙◌, subst, inl, inr, ⊎_elim, arith}
 use Rattle.std.proofs.lemmas.List.{get_or_past}
 use Rattle.std.specs.Prelude.{Option, Some, None, MatchOption, count_by, slice_get}
 use Rattle.queue_steps.specs.ClosableQueue.{ClosableQueue, HasRoom}
@@ -8,18 +7,17 @@ use Rattle.executor_model.specs.declared.event.Event.{Event}
 use Rattle.executor_model.specs.declared.op.Op.{Op}
 use Rattle.executor_model.specs.declared.op.Op.TheVariants as op
 use Rattle.executor_model.specs.declared.step.Step.{Step}
-use Rattle.executor_model.specs.Trace.{Trace, has, is_accepted, is_dropped, is_drop_begun}
+use Rattle.executor_model.specs.Trace.{Trace, has, is_accepted, is_dropped}
 use Rattle.executor_model.specs.DroppedOnce.{DropComesOnce, IsDroppedByTheEnd}
 use Rattle.executor_model.specs.EarlyDrop.{EarlyDropHasCause}
 use Rattle.executor_model.specs.Weights.{weigh_all}
-use Rattle.executor_model.specs.Sound.{pend, times, tokens, ousting_of}
+use Rattle.executor_model.specs.Sound.{times, ousting_of}
 use Rattle.executor_model.specs.Good.{Good}
 use Rattle.executor_model.specs.Steps.{Machine, stack, top, below_top, run, start}
 use Rattle.executor_model.specs.Entries.{leaves_of, HasTable, Remains, TableAgrees, QueueAgrees, FindsPlace}
 use Rattle.executor_model.proofs.Lift.{topped, good}
 use Rattle.executor_model.proofs.Stories.{story}
 use Rattle.executor_model.proofs.Telling.{fallen-counts, accepted-counts, counted-there, there-or-none, begun-has, ended-has, drop-has-cause}
-use Rattle.executor_model.proofs.Leaving.{Leaves, extra}
 use Rattle.executor_model.proofs.LeavingRuns.{Placed, placed, has-place}
 
 -- no entry is there twice

@@ -1,5 +1,5 @@
 -- Each thing that is done leaves numbers that are futures'.
-use Rattle.std.proofs.Common.{◌≡◌, ℕ, ◌+◌, ◌≤◌, ◌<◌, List, [], ◌∷◌, ◌++◌, length, Bool, true, false, not, ◌&&◌, set, get_or, drop, refl, sym, ap, ◌∙◌, subst, arith, length-append}
+use Rattle.std.proofs.Common.{◌≡◌, ℕ, ◌+◌, ◌≤◌, ◌<◌, List, [], ◌∷◌, ◌++◌, length, Bool, true, false, not, ◌&&◌, set, drop, refl, sym, ap, ◌∙◌, subst, arith, length-append}
 use Rattle.std.proofs.Math.ListN.{length-set}
 use Rattle.std.specs.Prelude.{Option, Some, None, slice_set}
 use Rattle.task_moves.specs.declared.moves.state.State.{State}
@@ -25,8 +25,8 @@ use Rattle.executor_model.specs.declared.op.Op.{Op}
 use Rattle.executor_model.specs.declared.op.Op.TheVariants as op
 use Rattle.executor_model.specs.declared.step.Hint.{Hint}
 use Rattle.executor_model.specs.World.{World, Done, done, log, log_if, task, put, awaiter_of, put_awaiter, among}
-use Rattle.executor_model.specs.Carried.{schedule_ops, drop_ops, future_ops, output_ops, awaiter_ops, next_ops, owed_ops, carried}
-use Rattle.executor_model.specs.Acts.{append_by, take_by, enter_by, look_at_table, take_to_poll, put_back, take_to_drop, leave_by, begin_drop, begin_drop_output, copy_by, is_refused, answered, polled, look_by, look_again_by, copied, is_copy_refused, copy_awaiter_by, register_by, end_register_by, notify_by, end_notify, told, let_go, waker_goes, call_awaiter, closing_ops, take_out, drop_next_by, wake_next_by, close, drain_by, followed, wake, reply_of, is_output, act}
+use Rattle.executor_model.specs.Carried.{schedule_ops, future_ops, output_ops, awaiter_ops, next_ops, owed_ops, carried}
+use Rattle.executor_model.specs.Acts.{append_by, take_by, enter_by, leave_by, copy_by, answered, polled, look_by, look_again_by, copy_awaiter_by, register_by, end_register_by, notify_by, end_notify, told, let_go, waker_goes, call_awaiter, closing_ops, drop_next_by, wake_next_by, drain_by, followed, wake, reply_of, is_output, act}
 use Rattle.executor_model.specs.Weights.{weigh}
 use Rattle.executor_model.specs.Good.{past, pasts, waker_past, awaiters_past, past_of, Fits}
 use Rattle.executor_model.proofs.Lists.{past_is, pasts-append, pasts-without, pasts-more, pasts-drop, wakers_past-more, wakers_past-push, awaiters_past-set, awaiters_past-push, awaiters_past-more, past_if, weigh-append}

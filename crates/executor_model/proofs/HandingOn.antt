@@ -1,20 +1,18 @@
 -- A wake that marks a task hands on one Runnable, or the end of the poll does.
-use Rattle.std.proofs.Common.{◌≡◌, ◌⊎◌, ℕ, ◌+◌, ◌≤◌, List, [], ◌∷◌, Bool, true, false, ◌||◌, cond, refl, sym, ap, ◌∙◌, subst, arith}
-use Rattle.std.specs.Prelude.{Option, Some, None}
+use Rattle.std.proofs.Common.{◌≡◌, ℕ, Bool, true, false, ◌||◌, cond, refl, arith}
+use Rattle.std.specs.Prelude.{Some}
 use Rattle.task_moves.specs.declared.moves.state.State.{State}
 use Rattle.task_moves.specs.declared.moves.owed.Move.TheVariants.{Release}
 use Rattle.task_moves.specs.Moves as moves
 use Rattle.task_moves.specs.Moves.{is_over, is_last}
-use Rattle.executor_model.specs.declared.op.Op.{Op}
-use Rattle.executor_model.specs.declared.op.Op.TheVariants as op
 use Rattle.executor_model.specs.declared.step.Hint.{Hint}
-use Rattle.executor_model.specs.World.{World, task, among}
+use Rattle.executor_model.specs.World.{World, task}
 use Rattle.executor_model.specs.Carried.{owed_ops}
 use Rattle.executor_model.specs.Weights.{same, weigh}
 use Rattle.executor_model.specs.Sound.{Sound, Pend, pend, tokens}
 use Rattle.executor_model.specs.Steps.{Machine}
 use Rattle.executor_model.specs.Good.{Good}
-use Rattle.executor_model.specs.HandingOn.{appends_of, handed_on, HandsOn, IsIdle, IsOnItsWay}
+use Rattle.executor_model.specs.HandingOn.{appends_of, HandsOn, IsIdle, IsOnItsWay}
 use Rattle.executor_model.proofs.Lists.{same_is}
 
 one : (f : ℕ) → same f f ≡ 1

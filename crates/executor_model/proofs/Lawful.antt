@@ -1,12 +1,12 @@
 -- Where the automaton of polls and answers doesn't break, they take turns, and no poll begins after the end.
-use Rattle.std.proofs.Common.{◌≡◌, ◌≢◌, ◌⊎◌, inl, inr, ℕ, suc, ◌+◌, arith, Bool, true, false, ◌||◌, ◌&&◌, cond, not, eqb, List, [], ◌∷◌, drop, refl, sym, ap, ◌∙◌, subst}
+use Rattle.std.proofs.Common.{◌≡◌, ◌≢◌, ◌⊎◌, inl, inr, ℕ, suc, ◌+◌, arith, Bool, true, false, ◌||◌, cond, not, eqb, [], ◌∷◌, drop, refl, sym, ap, ◌∙◌, subst}
 use Rattle.std.specs.List.{filter, after_first, position_or_len}
 use Rattle.std.proofs.lemmas.Map.Views.{any-filter_same}
 use Rattle.executor_model.specs.declared.event.Answer.{Answer}
 use Rattle.executor_model.specs.declared.event.Answer.TheVariants.{Pending, Ready}
 use Rattle.executor_model.specs.declared.event.Event.{Event}
 use Rattle.executor_model.specs.declared.event.Event.TheVariants.{PollBegun, Answered, Dropped}
-use Rattle.executor_model.specs.Trace.{Trace, events_of, has, is_of, is_poll, is_dropped}
+use Rattle.executor_model.specs.Trace.{Trace, has, is_of, is_poll, is_dropped}
 use Rattle.executor_model.specs.LawfulPolls.{TakeTurns, HasLawfulPolls, is_end, is_poll_or_answer}
 use Rattle.executor_model.specs.Sound.{Phase, after_begun, after_answered, after_dropped, passes, phase_from, phase}
 use Rattle.executor_model.specs.Sound.Phase.{Fresh, Polling, Over, Broken}

@@ -1,6 +1,6 @@
 -- What holds of each future and its place in the table, at every moment.
-use Rattle.std.proofs.Common.{◌≡◌, ◌⊎◌, ℕ, ◌+◌, ◌<◌, ◌≤◌, List, [], ◌∷◌, length, Bool, true, false}
-use Rattle.std.specs.Prelude.{Option, Some}
+use Rattle.std.proofs.Common.{◌≡◌, ◌⊎◌, ℕ, ◌+◌, ◌<◌, ◌≤◌, List, length, true, false}
+use Rattle.std.specs.Prelude.{Some}
 use Rattle.executor_model.specs.declared.op.Op.{Op}
 use Rattle.executor_model.specs.declared.op.Op.TheVariants as op
 use Rattle.executor_model.specs.World.{World, Done, task}

@@ -1,5 +1,5 @@
 -- In each run every future leaves the table as it should, and no append finds the queue full.
-use Rattle.std.proofs.Common.{◌≡◌, ◌⊎◌, ℕ, zero, suc, ◌+◌, ◌<◌, ◌≤◌, List, [], ◌∷◌, ◌++◌, length, set, get_or, Bool, true, false, ◌&&◌, ◌||◌, not, eqb, ltb, refl, sym, ap, ◌∙◌, subst, inl, inr, ⊎_elim, arith, append-nil}
+use Rattle.std.proofs.Common.{◌≡◌, ℕ, zero, suc, ◌+◌, ◌<◌, ◌≤◌, List, [], ◌∷◌, ◌++◌, length, set, get_or, Bool, true, false, ◌&&◌, ◌||◌, not, refl, sym, ap, ◌∙◌, subst, inl, ⊎_elim, arith}
 use Rattle.std.proofs.lemmas.Bool.Decides.{nat_tests}
 use Rattle.std.specs.Prelude.{Option, Some, None, reverse, nat_lt}
 use Rattle.executor_model.specs.declared.call.Call.{Call}
@@ -13,18 +13,17 @@ use Rattle.executor_model.specs.declared.op.Hold.TheVariants as hold
 use Rattle.executor_model.specs.declared.op.Op.{Op}
 use Rattle.executor_model.specs.declared.op.Op.TheVariants as op
 use Rattle.executor_model.specs.declared.step.Step.{Step}
-use Rattle.executor_model.specs.declared.step.Hint.{Hint}
 use Rattle.executor_model.specs.declared.step.UserEnd.{UserEnd}
 use Rattle.executor_model.specs.declared.step.UserEnd.TheVariants as end
-use Rattle.executor_model.specs.World.{World, Done, done, log, task, among}
+use Rattle.executor_model.specs.World.{World, Done, done, log, among}
 use Rattle.executor_model.specs.Acts.{act}
 use Rattle.executor_model.specs.Weights.{weigh, weigh_all, same, borrowing_of}
 use Rattle.executor_model.specs.Sound.{Sound, Pend, pend, with_ops, times, waiting_of, polls_of, ending_of, ready_of, settling_of, giving_of, drops_of, releases_of, copies_of, ousting_of}
 use Rattle.executor_model.specs.Sound as sound
 use Rattle.executor_model.specs.Good.{Good, past_of}
-use Rattle.executor_model.specs.Steps.{Machine, stack, idle, run, start, polled_by, top, is_free, has_all, is_on_executor, is_drop, is_unused, begin_refusal, accepts, begun, react, used_up, with_future, kept, waker_of}
+use Rattle.executor_model.specs.Steps.{Machine, stack, idle, run, start, polled_by, top, is_free, has_all, is_on_executor, is_drop, is_unused, accepts, begun, react, used_up, with_future, kept, waker_of}
 use Rattle.executor_model.specs.Entries.{leaves_of}
-use Rattle.executor_model.proofs.Lists.{weigh_all-push, same_is}
+use Rattle.executor_model.proofs.Lists.{weigh_all-push}
 use Rattle.executor_model.proofs.Lift.{split, split-pend, push-pend, unsettled, good-start, none_refused, open_executor, unborrowed, weigh_all-idle, set-own}
 use Rattle.executor_model.proofs.Ways.{Way, along}
 use Rattle.executor_model.proofs.Ways.Way.{acted, reacted, called}

@@ -1,19 +1,17 @@
 -- A step leaves a good machine good.
-use Rattle.std.proofs.Common.{◌≡◌, ◌⊎◌, ℕ, zero, suc, ◌+◌, ◌-◌, ◌<◌, ◌≤◌, List, [], ◌∷◌, ◌++◌, length, set, get_or, take, Bool, true, false, ◌&&◌, ◌||◌, not, ltb, eqb, refl, sym, ap, ◌∙◌, subst, inl, inr, ⊎_elim, arith, append-nil, get_or-set_same, Ok, Err, Result}
+use Rattle.std.proofs.Common.{◌≡◌, ◌⊎◌, ℕ, zero, suc, ◌+◌, ◌-◌, ◌<◌, ◌≤◌, List, [], ◌∷◌, ◌++◌, length, set, get_or, take, Bool, true, false, ◌&&◌, ◌||◌, not, ltb, eqb, refl, sym, ap, ◌∙◌, subst, inl, inr, ⊎_elim, arith, append-nil, get_or-set_same}
 use Rattle.std.proofs.Math.ListN.{length-set}
 use Rattle.std.proofs.lemmas.Bool.Decides.{nat_tests}
 use Rattle.std.proofs.lemmas.List.{get_or_past}
 use Rattle.task_moves.specs.declared.moves.state.State.{State}
-use Rattle.std.specs.Prelude.{Option, Some, None, slice_get, slice_index_or, slice_set, reverse}
+use Rattle.std.specs.Prelude.{Option, Some, None, slice_get, slice_index_or, reverse}
 use Rattle.executor_model.specs.declared.call.By.{By}
 use Rattle.executor_model.specs.declared.call.By.TheVariants as by
 use Rattle.executor_model.specs.declared.call.Call.{Call}
 use Rattle.executor_model.specs.declared.call.Call.TheVariants as call
-use Rattle.executor_model.specs.declared.call.Reply.{Reply}
 use Rattle.executor_model.specs.declared.call.Reply.TheVariants as reply
 use Rattle.executor_model.specs.declared.event.Answer.TheVariants as answer
 use Rattle.executor_model.specs.declared.event.Event.TheVariants as event
-use Rattle.executor_model.specs.declared.op.Hold.{Hold}
 use Rattle.executor_model.specs.declared.op.Waker.{Waker}
 use Rattle.executor_model.specs.declared.op.Hold.TheVariants as hold
 use Rattle.executor_model.specs.declared.op.Op.{Op}
@@ -27,13 +25,13 @@ use Rattle.executor_model.specs.declared.step.UserEnd.{UserEnd}
 use Rattle.executor_model.specs.declared.step.UserEnd.TheVariants as end
 use Rattle.executor_model.specs.World.{World, Done, done, log, task, blank}
 use Rattle.executor_model.specs.Acts.{act}
-use Rattle.executor_model.specs.Weights.{same, weigh, weigh_all, borrowing_of}
-use Rattle.executor_model.specs.Sound.{Sound, Pend, pend, with_ops, times, waiting_of, polls_of, ending_of, ready_of, closing_of, settling_of, giving_of, drops_of, releases_of, copies_of, ousting_of}
-use Rattle.executor_model.specs.Good.{Good, Fits, past, pasts, wakers_past, waker_past, past_of}
-use Rattle.executor_model.specs.Steps.{Machine, stack, top, below_top, waits, is_free, polled_by, kept, has_all, is_on_executor, is_drop, is_unused, unless, begin_refusal, go_refusal, answer_refusal, accepts, party_of, part_refusal, refusal, used_up, with_future, waker_of, begun, react, part, Part, end_of, settled_by, settled, onto, gone_on, part_after, with_part, after, step_by, step, stepped, run, idle, start}
+use Rattle.executor_model.specs.Weights.{weigh, weigh_all, borrowing_of}
+use Rattle.executor_model.specs.Sound.{Sound, Pend, pend, with_ops, waiting_of, polls_of, ending_of, ready_of, closing_of, settling_of, giving_of, drops_of, releases_of, copies_of, ousting_of}
+use Rattle.executor_model.specs.Good.{Good, Fits, past, waker_past, past_of}
+use Rattle.executor_model.specs.Steps.{Machine, stack, top, below_top, is_free, polled_by, kept, has_all, is_on_executor, is_drop, is_unused, unless, begin_refusal, answer_refusal, accepts, party_of, part_refusal, refusal, used_up, with_future, waker_of, begun, react, end_of, settled_by, onto, gone_on, part_after, with_part, after, step_by, step, stepped, run, idle, start}
 use Rattle.executor_model.proofs.Lists.{past-more, waker_past-more, same_is, past_is, phase-push, wakers_of-used, wakers_past-used, weigh-append, weigh-reverse, weigh_all-set, weigh_all-push}
 use Rattle.executor_model.proofs.Counting.{Keeps, sound-act, sound-pending, sound-ready}
-use Rattle.executor_model.proofs.Fitting.{Grown, Grows, grows-act, grows-same}
+use Rattle.executor_model.proofs.Fitting.{Grown, Grows, grows-act}
 
 -- what is still to do, but for what p does now, and after it
 pub split : (v : Op → ℕ) (ss : List (List Op)) (p : ℕ) (old rest : List Op) → p < length ss → get_or ss p [] ≡ rest ++ reverse old → weigh_all v ss ≡ weigh v old + weigh_all v (set ss p rest)

@@ -1,8 +1,8 @@
 -- Whether the executor is empty is answered as it is.
-use Rattle.std.proofs.Common.{◌≡◌, ◌⊎◌, ℕ, zero, suc, ◌+◌, ◌<◌, ◌≤◌, List, [], ◌∷◌, ◌++◌, length, Bool, true, false, refl, sym, ap, ◌∙◌, subst, inl, inr, ⊎_elim, arith, Result}
+use Rattle.std.proofs.Common.{◌≡◌, ◌⊎◌, ℕ, zero, suc, ◌<◌, List, [], ◌∷◌, ◌++◌, length, Bool, true, refl, sym, ap, ◌∙◌, subst, inl, inr, ⊎_elim, arith}
 use Rattle.std.proofs.lemmas.Bool.Decides.{nat_tests}
 use Rattle.std.proofs.lemmas.List.{append_cancel_left}
-use Rattle.std.specs.Prelude.{Option, Some, None, nat_lt}
+use Rattle.std.specs.Prelude.{Option, None, nat_lt}
 use Rattle.executor_model.specs.declared.call.Reply.TheVariants as reply
 use Rattle.executor_model.specs.declared.event.Event.TheVariants as event
 use Rattle.executor_model.specs.declared.op.Hold.TheVariants as hold
@@ -15,7 +15,7 @@ use Rattle.executor_model.specs.declared.step.StepError.{StepError}
 use Rattle.executor_model.specs.declared.step.StepError.TheVariants.{NoSuch}
 use Rattle.executor_model.specs.Trace.{Trace}
 use Rattle.executor_model.specs.Acts.{act, emptiness}
-use Rattle.executor_model.specs.Weights.{weigh_all, borrowing_of}
+use Rattle.executor_model.specs.Weights.{borrowing_of}
 use Rattle.executor_model.specs.Sound.{times}
 use Rattle.executor_model.specs.Good.{Good}
 use Rattle.executor_model.specs.Steps.{Machine, stack, top, below_top, step, step_by, stepped, refusal, go_refusal, unless, gone_on, run, start}

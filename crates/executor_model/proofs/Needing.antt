@@ -1,14 +1,13 @@
 -- What a good machine gives to the thing that a party does.
-use Rattle.std.proofs.Common.{◌≡◌, ℕ, ◌+◌, ◌^◌, ◌<◌, ◌≤◌, List, [], ◌∷◌, ◌++◌, length, set, refl, sym, ap, ◌∙◌, arith}
-use Rattle.std.specs.Prelude.{Option, Some, None, reverse}
+use Rattle.std.proofs.Common.{◌≡◌, ℕ, ◌+◌, ◌<◌, ◌≤◌, [], ◌∷◌, ◌++◌, length, ap, arith}
+use Rattle.std.specs.Prelude.{Some}
 use Rattle.executor_model.specs.declared.op.Waker.{Waker}
 use Rattle.executor_model.specs.declared.op.Waker.TheVariants.{Task, Outside}
 use Rattle.executor_model.specs.declared.op.Op.{Op}
 use Rattle.executor_model.specs.declared.op.Op.TheVariants as op
-use Rattle.executor_model.specs.World.{World, task}
-use Rattle.executor_model.specs.Weights.{same, weigh, weigh_all}
-use Rattle.executor_model.specs.Sound.{Sound, Pend, pend, times, ending_of, giving_of, releases_of}
-use Rattle.executor_model.specs.Good.{Good, Needs, IsKnown, CanGrow, IsHeld, HasPlace, KeepsAwaiter, IsKnownWaker, CanWake, past, pasts, waker_past, past_of}
+use Rattle.executor_model.specs.Weights.{same}
+use Rattle.executor_model.specs.Sound.{ending_of, giving_of, releases_of}
+use Rattle.executor_model.specs.Good.{Good, Needs, CanGrow, IsHeld, HasPlace, KeepsAwaiter, IsKnownWaker, CanWake, past, pasts, waker_past, past_of}
 use Rattle.executor_model.specs.Steps.{Machine, stack, top, below_top}
 use Rattle.executor_model.proofs.Lists.{past_is, same_is}
 use Rattle.executor_model.proofs.Lift.{split, topped}

@@ -1,15 +1,12 @@
 -- Each thing that is done keeps it that an output goes at most once.
-use Rattle.std.proofs.Common.{◌≡◌, ℕ, ◌+◌, ◌<◌, ◌≤◌, List, [], ◌∷◌, ◌++◌, length, Bool, true, false, ◌||◌, ◌&&◌, not, refl, sym, ap, subst, arith}
+use Rattle.std.proofs.Common.{◌≡◌, ℕ, ◌+◌, ◌<◌, List, [], ◌∷◌, ◌++◌, length, Bool, true, false, ◌||◌, ◌&&◌, not, refl, ap, subst, arith}
 use Rattle.std.proofs.lemmas.Bool.Decides.{nat_tests}
 use Rattle.std.specs.Prelude.{Option, Some, None}
-use Rattle.queue_steps.specs.ClosableQueue.{shut, taken}
 use Rattle.task_moves.specs.declared.moves.state.State.{State}
 use Rattle.task_moves.specs.declared.moves.owed.Moved.{Moved}
 use Rattle.task_moves.specs.Moves as moves
-use Rattle.executor_model.specs.declared.call.By.{By}
 use Rattle.executor_model.specs.declared.call.Call.{Call}
 use Rattle.executor_model.specs.declared.call.Call.TheVariants as call
-use Rattle.executor_model.specs.declared.call.Reply.{Reply}
 use Rattle.executor_model.specs.declared.event.Answer.TheVariants as answer
 use Rattle.executor_model.specs.declared.event.Event.{Event}
 use Rattle.executor_model.specs.declared.event.Event.TheVariants as event
@@ -24,13 +21,13 @@ use Rattle.executor_model.specs.declared.step.UserEnd.{UserEnd}
 use Rattle.executor_model.specs.declared.step.UserEnd.TheVariants as end
 use Rattle.executor_model.specs.World.{World, Done, done, log, log_if, task, put, put_awaiter, awaiter_of}
 use Rattle.executor_model.specs.Carried.{carried}
-use Rattle.executor_model.specs.Acts.{append_by, take_by, enter_by, entered, emptiness, leave_by, copy_by, polled, look_by, look_again_by, copied, copy_awaiter_by, register_by, waker_goes, let_go, end_register_by, notify_by, told, end_notify, call_awaiter, closing_ops, take_out, drop_next_by, followed, wake, wake_next_by, drain_by, begin_drop_output, act}
-use Rattle.executor_model.specs.Weights.{same, weigh}
-use Rattle.executor_model.specs.Good.{past, past_of, waker_past}
+use Rattle.executor_model.specs.Acts.{append_by, take_by, enter_by, entered, leave_by, copy_by, polled, look_by, look_again_by, copied, copy_awaiter_by, register_by, waker_goes, let_go, end_register_by, notify_by, told, end_notify, call_awaiter, closing_ops, take_out, drop_next_by, followed, wake, wake_next_by, drain_by, begin_drop_output, act}
+use Rattle.executor_model.specs.Weights.{weigh}
+use Rattle.executor_model.specs.Good.{past, past_of}
 use Rattle.executor_model.specs.Steps.{used_up, with_future, kept, accepts, begun, react}
 use Rattle.executor_model.proofs.Lists.{same_is, read_put, past_is, weigh-append}
-use Rattle.executor_model.proofs.Counting.{readied, detached, stays_so, gives, waits_on}
-use Rattle.executor_model.proofs.Outputs.{output_of, outputs, outputs-push, outs_of, Given, KeepsOutput, Calm, Stays, Tame, keeps-calm, calm-same, calm-and, calm-log, calm-log_if, calm-put, push-stays, none-both, none-awaiter, keeps-carried, tame-wake, tame-more, tame-release, tame-take_up, tame-give_up, tame-end_pending, tame-cancel, tame-detach}
+use Rattle.executor_model.proofs.Counting.{readied, detached, gives}
+use Rattle.executor_model.proofs.Outputs.{output_of, outputs-push, outs_of, Given, KeepsOutput, Calm, Stays, Tame, keeps-calm, calm-same, calm-and, calm-log, calm-put, push-stays, none-both, keeps-carried, tame-wake, tame-more, tame-release, tame-take_up, tame-give_up, tame-end_pending, tame-cancel, tame-detach}
 
 keeps-same : (w : World) (old next : List Op) → ((g : ℕ) → weigh (outs_of g) next ≡ 0) → KeepsOutput w old (done w next)
 keeps-same w old next z = keeps-calm w old (done w next) (calm-same w w refl refl) z

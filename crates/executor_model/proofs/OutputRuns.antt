@@ -1,16 +1,15 @@
 -- In each run an output goes at most once.
-use Rattle.std.proofs.Common.{◌≡◌, ℕ, zero, suc, ◌+◌, ◌<◌, ◌≤◌, List, [], ◌∷◌, ◌++◌, length, set, true, false, refl, sym, ap, ◌∙◌, subst, arith, append-nil}
-use Rattle.std.specs.Prelude.{Option, Some, None, reverse}
+use Rattle.std.proofs.Common.{◌≡◌, ℕ, zero, suc, ◌<◌, ◌≤◌, List, [], ◌∷◌, ◌++◌, length, set, false, refl, sym, subst, arith}
+use Rattle.std.specs.Prelude.{reverse}
 use Rattle.executor_model.specs.declared.call.Reply.{Reply}
 use Rattle.executor_model.specs.declared.event.Event.TheVariants as event
 use Rattle.executor_model.specs.declared.op.Hold.{Hold}
 use Rattle.executor_model.specs.declared.op.Op.{Op}
 use Rattle.executor_model.specs.declared.op.Op.TheVariants as op
 use Rattle.executor_model.specs.declared.step.Step.{Step}
-use Rattle.executor_model.specs.declared.step.Hint.{Hint}
 use Rattle.executor_model.specs.OutputOnce.{OutputGoesOnce}
 use Rattle.executor_model.specs.World.{World, Done, done, log, task}
-use Rattle.executor_model.specs.Weights.{weigh, weigh_all, same}
+use Rattle.executor_model.specs.Weights.{weigh, weigh_all}
 use Rattle.executor_model.specs.Sound.{Sound, pend, ready_of}
 use Rattle.executor_model.specs.Good.{Good, past_of}
 use Rattle.executor_model.specs.Steps.{Machine, stack, idle, run, start, polled_by, top}

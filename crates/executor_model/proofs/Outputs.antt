@@ -1,6 +1,5 @@
 -- An output is given or dropped at most once: each thing that is done keeps it.
-use Rattle.std.proofs.Common.{◌≡◌, ◌≢◌, ℕ, zero, suc, ◌+◌, ◌<◌, ◌≤◌, List, [], ◌∷◌, ◌++◌, length, set, get_or, Bool, true, false, ◌||◌, ◌&&◌, not, cond, eqb, refl, sym, ap, ◌∙◌, subst, arith}
-use Rattle.std.proofs.lemmas.Bool.Decides.{nat_tests}
+use Rattle.std.proofs.Common.{◌≡◌, ℕ, zero, suc, ◌+◌, ◌≤◌, List, [], ◌∷◌, ◌++◌, set, get_or, Bool, true, false, cond, refl, sym, ap, ◌∙◌, subst, arith}
 use Rattle.std.proofs.lemmas.List.Sums.{sum_by_push}
 use Rattle.std.specs.Prelude.{Option, Some, None, count_by}
 use Rattle.task_moves.specs.declared.schedule_info.ScheduleInfo.{ScheduleInfo}
@@ -17,15 +16,12 @@ use Rattle.task_moves.specs.Moves as moves
 use Rattle.task_moves.specs.Moves.{moved}
 use Rattle.executor_model.specs.declared.event.Event.{Event}
 use Rattle.executor_model.specs.declared.event.Event.TheVariants.{OutputGiven, OutputDropped}
-use Rattle.executor_model.specs.declared.op.Awaiter.{Awaiter}
-use Rattle.executor_model.specs.declared.op.Waker.{Waker}
-use Rattle.executor_model.specs.declared.op.Waker.TheVariants.{Task, Outside}
 use Rattle.executor_model.specs.declared.op.Op.{Op}
 use Rattle.executor_model.specs.declared.op.Op.TheVariants as op
 use Rattle.executor_model.specs.Trace.{Trace, is_output_dropped}
 use Rattle.executor_model.specs.OutputOnce.{is_output_given}
-use Rattle.executor_model.specs.World.{World, Done, done, log, log_if, task, put, blank}
-use Rattle.executor_model.specs.Carried.{carried, owed_ops, schedule_ops, drop_ops, future_ops, output_ops, awaiter_ops, next_ops}
+use Rattle.executor_model.specs.World.{World, Done, log, log_if, task, put, blank}
+use Rattle.executor_model.specs.Carried.{carried, owed_ops, schedule_ops, future_ops, output_ops, awaiter_ops, next_ops}
 use Rattle.executor_model.specs.Weights.{same, weigh}
 use Rattle.executor_model.proofs.Lists.{weigh-append}
 

@@ -1,17 +1,13 @@
 -- At a quiet trace no party has anything to do.
-use Rattle.std.proofs.Common.{◌≡◌, ◌≢◌, ◌⊎◌, ℕ, zero, suc, ◌+◌, ◌<◌, ◌≤◌, List, [], ◌∷◌, ◌++◌, length, set, get_or, Bool, true, false, ◌&&◌, ◌||◌, not, cond, eqb, refl, sym, ap, ◌∙◌, subst, inl, inr, ⊎_elim, arith, append-nil, get_or-set_same, get_or-set_other}
-use Rattle.std.proofs.lemmas.Bool.Decides.{nat_tests}
+use Rattle.std.proofs.Common.{◌≡◌, ◌≢◌, ◌⊎◌, ℕ, zero, suc, ◌+◌, ◌<◌, List, [], ◌∷◌, ◌++◌, length, set, get_or, Bool, true, false, ◌&&◌, ◌||◌, not, cond, eqb, refl, sym, ap, ◌∙◌, subst, inl, inr, ⊎_elim, arith, get_or-set_same, get_or-set_other}
 use Rattle.std.specs.Prelude.{Option, Some, None, reverse}
 use mathlib.Core.List.{reverse_aux}
 use Rattle.executor_model.specs.declared.call.Call.{Call}
 use Rattle.executor_model.specs.declared.call.Call.TheVariants as call
 use Rattle.executor_model.specs.declared.call.Reply.{Reply}
-use Rattle.executor_model.specs.declared.call.Reply.TheVariants as reply
 use Rattle.executor_model.specs.declared.event.Answer.TheVariants as answer
-use Rattle.executor_model.specs.declared.event.Event.{Event}
 use Rattle.executor_model.specs.declared.event.Event.TheVariants as event
 use Rattle.executor_model.specs.declared.op.Hold.{Hold}
-use Rattle.executor_model.specs.declared.op.Hold.TheVariants as hold
 use Rattle.executor_model.specs.declared.op.Op.{Op}
 use Rattle.executor_model.specs.declared.op.Op.TheVariants as op
 use Rattle.executor_model.specs.declared.step.Hint.{Hint}
@@ -24,8 +20,8 @@ use Rattle.executor_model.specs.World.{World, Done, done, log}
 use Rattle.executor_model.specs.Acts.{act}
 use Rattle.executor_model.specs.Weights.{same, weigh, weigh_all, borrowing_of}
 use Rattle.executor_model.specs.Good.{Good}
-use Rattle.executor_model.specs.Steps.{Machine, stack, run, start, idle, polled_by, top, is_free, is_some, has_all, is_on_executor, is_drop, is_unused, accepts, begun, react, used_up, with_future, kept, waker_of}
-use Rattle.executor_model.proofs.Lists.{same_is, same_cases, weigh-append, weigh-reverse, weigh-reverse_aux}
+use Rattle.executor_model.specs.Steps.{Machine, stack, run, start, idle, polled_by, top, is_free, is_some, has_all, is_on_executor, is_drop, is_unused, accepts, begun, react, with_future, kept}
+use Rattle.executor_model.proofs.Lists.{same_cases, weigh-append, weigh-reverse}
 use Rattle.executor_model.proofs.Lift.{unsettled, good-start, none_refused}
 use Rattle.executor_model.proofs.Ways.{Way, along}
 use Rattle.executor_model.proofs.Ways.Way.{acted, reacted, called}

@@ -1,8 +1,8 @@
 -- A spawn is answered that the executor is full exactly where it is.
-use Rattle.std.proofs.Common.{◌≡◌, ◌⊎◌, ℕ, zero, suc, ◌+◌, ◌-◌, ◌<◌, ◌≤◌, List, [], ◌∷◌, ◌++◌, length, set, get_or, Bool, true, false, ◌||◌, not, cond, ltb, refl, sym, ap, ◌∙◌, subst, inl, inr, ⊎_elim, arith, Ok, Err, Result}
+use Rattle.std.proofs.Common.{◌≡◌, ◌⊎◌, ℕ, zero, suc, ◌-◌, ◌<◌, ◌≤◌, List, [], ◌∷◌, ◌++◌, length, Bool, true, false, not, refl, sym, ap, ◌∙◌, subst, inl, ⊎_elim, arith}
 use Rattle.std.proofs.lemmas.Bool.Decides.{nat_tests}
 use Rattle.std.proofs.lemmas.List.{get_or_past, append_cancel_left, append_assoc, length-append}
-use Rattle.std.specs.Prelude.{Option, Some, None, reverse, slice_get, nat_lt}
+use Rattle.std.specs.Prelude.{Option, Some, None, slice_get, nat_lt}
 use Rattle.executor_model.specs.declared.call.Reply.{Reply}
 use Rattle.executor_model.specs.declared.call.Reply.TheVariants as reply
 use Rattle.executor_model.specs.declared.event.Event.{Event}
@@ -16,17 +16,17 @@ use Rattle.executor_model.specs.declared.step.Step.{Step}
 use Rattle.executor_model.specs.declared.step.Step.TheVariants.{Go}
 use Rattle.executor_model.specs.declared.step.StepError.{StepError}
 use Rattle.executor_model.specs.declared.step.StepError.TheVariants.{NoSuch}
-use Rattle.executor_model.specs.Trace.{Trace, has, is_drop_begun}
-use Rattle.executor_model.specs.World.{World, Done, done, log}
+use Rattle.executor_model.specs.Trace.{Trace}
+use Rattle.executor_model.specs.World.{World}
 use Rattle.executor_model.specs.Acts.{act, enter_by}
 use Rattle.executor_model.specs.Weights.{weigh_all, borrowing_of}
-use Rattle.executor_model.specs.Sound.{times, pend}
+use Rattle.executor_model.specs.Sound.{times}
 use Rattle.executor_model.specs.Good.{Good}
 use Rattle.executor_model.specs.Steps.{Machine, stack, top, below_top, step, step_by, stepped, refusal, go_refusal, unless, settled, settled_by, end_of, onto, gone_on, run, start}
-use Rattle.executor_model.specs.Entries.{HasTable, Remains}
-use Rattle.executor_model.specs.Limit.{Asks, AnswersFull, ReachLimit, IsUndropped, IsLimitExact}
+use Rattle.executor_model.specs.Entries.{HasTable}
+use Rattle.executor_model.specs.Limit.{Asks, ReachLimit, IsUndropped, IsLimitExact}
 use Rattle.executor_model.proofs.Lift.{split, topped, good}
-use Rattle.executor_model.proofs.Stories.{story, no-longer}
+use Rattle.executor_model.proofs.Stories.{no-longer}
 use Rattle.executor_model.proofs.Telling.{begun-has}
 use Rattle.executor_model.proofs.LeavingRuns.{Placed, placed}
 use Rattle.executor_model.proofs.Entering.{table-agrees}

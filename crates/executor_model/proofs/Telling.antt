@@ -1,13 +1,12 @@
 -- What a story says of a future is what the definitions over its trace say.
-use Rattle.std.proofs.Common.{◌≡◌, ◌⊎◌, ℕ, zero, suc, ◌+◌, ◌<◌, ◌≤◌, List, [], ◌∷◌, ◌++◌, length, Bool, true, false, ◌||◌, not, cond, eqb, take, refl, sym, ap, ◌∙◌, subst, inl, inr, ⊎_elim, arith}
-use Rattle.std.proofs.lemmas.Bool.Decides.{nat_tests}
-use Rattle.std.specs.Prelude.{fold, count_by, ◌==◌}
+use Rattle.std.proofs.Common.{◌≡◌, ◌⊎◌, ℕ, suc, ◌+◌, ◌≤◌, List, [], ◌∷◌, ◌++◌, Bool, true, false, ◌||◌, not, cond, eqb, take, refl, sym, ap, ◌∙◌, subst, inl, inr, ⊎_elim, arith}
+use Rattle.std.specs.Prelude.{fold, count_by}
 use Rattle.std.specs.List.{before_first, position_or_len}
 use Rattle.executor_model.specs.declared.event.Answer.TheVariants.{Pending, Ready}
 use Rattle.executor_model.specs.declared.event.Event.{Event}
 use Rattle.executor_model.specs.declared.event.Event.TheVariants.{Accepted, Answered, Cancelled, Dropped, DropBegun, DropEnded}
 use Rattle.executor_model.specs.Trace.{Trace, has, is_accepted, is_dropped, is_ready, is_cancelled, is_drop_begun, is_drop_ended}
-use Rattle.executor_model.specs.EarlyDrop.{before_drop, IsDroppedEarly, EarlyDropHasCause}
+use Rattle.executor_model.specs.EarlyDrop.{before_drop, EarlyDropHasCause}
 use Rattle.executor_model.specs.Weights.{same}
 use Rattle.executor_model.proofs.Stories.{Story, untold, except, hears, story_from, story}
 

@@ -1,9 +1,9 @@
 -- Between two polls a future is woken: what the story of its requests says is what the definition over its trace says.
-use Rattle.std.proofs.Common.{◌≡◌, ◌⊎◌, ℕ, zero, suc, ◌+◌, ◌≤◌, List, [], ◌∷◌, Bool, true, false, ◌||◌, cond, eqb, refl, sym, ap, ◌∙◌, arith}
+use Rattle.std.proofs.Common.{◌≡◌, ℕ, ◌+◌, ◌≤◌, [], ◌∷◌, Bool, true, false, ◌||◌, cond, eqb, refl, arith}
 use Rattle.std.specs.Prelude.{filter}
 use Rattle.executor_model.specs.declared.event.Answer.TheVariants.{Pending, Ready}
 use Rattle.executor_model.specs.declared.event.Event.{Event}
-use Rattle.executor_model.specs.declared.event.Event.TheVariants.{Accepted, PollBegun, Answered, Woken, Cancelled}
+use Rattle.executor_model.specs.declared.event.Event.TheVariants.{PollBegun, Answered, Woken}
 use Rattle.executor_model.specs.Trace.{Trace}
 use Rattle.executor_model.specs.AskedPolls.{is_poll_or_wake, NoneTwice, IsWokenBetweenPolls}
 use Rattle.executor_model.specs.Weights.{same}

@@ -1,7 +1,7 @@
 -- How a step changes the machine: one move of one party, and the end of a call where that is all that is left of it.
-use Rattle.std.proofs.Common.{◌≡◌, ℕ, zero, suc, ◌+◌, ◌-◌, ◌<◌, List, [], ◌∷◌, ◌++◌, length, set, get_or, take, Bool, true, false, ◌&&◌, not, ltb, refl, sym, ap, arith, append-nil, ◌∙◌, subst, get_or-set_same, Ok, Err, Result}
+use Rattle.std.proofs.Common.{◌≡◌, ℕ, ◌<◌, List, [], ◌∷◌, ◌++◌, length, set, Bool, true, false, ltb, refl, sym, ap, arith, append-nil, ◌∙◌, subst, get_or-set_same}
 use Rattle.std.proofs.lemmas.Bool.Decides.{nat_tests}
-use Rattle.std.specs.Prelude.{Option, Some, None, slice_get, reverse}
+use Rattle.std.specs.Prelude.{Option, Some, None, reverse}
 use Rattle.executor_model.specs.declared.call.Call.{Call}
 use Rattle.executor_model.specs.declared.call.Reply.{Reply}
 use Rattle.executor_model.specs.declared.event.Event.TheVariants as event
@@ -12,12 +12,11 @@ use Rattle.executor_model.specs.declared.step.Hint.{Hint}
 use Rattle.executor_model.specs.declared.step.Step.{Step}
 use Rattle.executor_model.specs.declared.step.Step.TheVariants.{Begin, Go, Answer}
 use Rattle.executor_model.specs.declared.step.StepError.{StepError}
-use Rattle.executor_model.specs.declared.step.StepError.TheVariants.{Busy, NoSuch, Gone, Borrowed, Idle, WrongAnswer}
+use Rattle.executor_model.specs.declared.step.StepError.TheVariants.{NoSuch, WrongAnswer}
 use Rattle.executor_model.specs.declared.step.UserEnd.{UserEnd}
 use Rattle.executor_model.specs.World.{World, Done, done, log}
 use Rattle.executor_model.specs.Acts.{act}
-use Rattle.executor_model.specs.Weights.{weigh, weigh_all}
-use Rattle.executor_model.specs.Steps.{Machine, stack, top, below_top, waits, polled_by, begin_refusal, go_refusal, answer_refusal, accepts, unless, party_of, part_refusal, refusal, begun, react, Part, part, end_of, settled_by, settled, onto, gone_on, part_after, with_part, after, step_by, step, stepped, run}
+use Rattle.executor_model.specs.Steps.{Machine, stack, top, below_top, polled_by, begin_refusal, go_refusal, answer_refusal, accepts, unless, party_of, part_refusal, refusal, begun, react, Part, end_of, settled_by, onto, gone_on, part_after, with_part, step_by, step, stepped, run}
 use Rattle.std.proofs.lemmas.List.{set-set}
 use Rattle.std.proofs.Math.ListN.{length-set}
 use Rattle.executor_model.specs.Good.{Good}

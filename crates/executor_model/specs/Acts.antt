@@ -1,6 +1,6 @@
 -- What each thing that a party has to do changes, and what it leads to. The queue is the closable queue, and a task's change
 -- is its table of moves; neither is said again here.
-use Rattle.std.specs.Prelude.{ℕ, ◌+◌, ◌^◌, Bool, true, false, ◌&&◌, ◌||◌, not, Option, Some, None, List, [], ◌∷◌, ◌++◌, length, slice_set, nat_lt}
+use Rattle.std.specs.Prelude.{ℕ, ◌+◌, Bool, true, false, ◌&&◌, ◌||◌, not, Option, Some, None, List, [], ◌∷◌, ◌++◌, length, slice_set, nat_lt}
 use Rattle.queue_steps.specs.ClosableQueue.{appended, taken, shut}
 use Rattle.task_moves.specs.declared.moves.state.State.{State}
 use Rattle.task_moves.specs.declared.moves.owed.Answer.{Answer}

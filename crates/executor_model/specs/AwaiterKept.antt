@@ -3,7 +3,7 @@ use Rattle.std.specs.Prelude.{◌≡◌, ℕ, ◌+◌, ◌≤◌, ◌==◌, Bool
 use Rattle.executor_model.specs.declared.call.Reply.{Reply}
 use Rattle.executor_model.specs.declared.call.Reply.TheVariants.{Pending}
 use Rattle.executor_model.specs.declared.event.Event.{Event}
-use Rattle.executor_model.specs.declared.event.Event.TheVariants.{CallBegun, CallEnded, HandlePolled, WakerCalled}
+use Rattle.executor_model.specs.declared.event.Event.TheVariants.{CallEnded, HandlePolled, WakerCalled}
 use Rattle.executor_model.specs.Trace.{Trace, has, takes_handle, is_dropped}
 use Rattle.executor_model.specs.Quiet.{IsQuiet, begins_call, ends_call}
 

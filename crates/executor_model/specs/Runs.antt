@@ -4,8 +4,7 @@ use Rattle.executor_model.specs.declared.step.Step.{Step}
 use Rattle.executor_model.specs.declared.step.StepError.{StepError}
 use Rattle.executor_model.specs.World.{task}
 use Rattle.executor_model.specs.Steps.{Machine, step, run, start}
-use Rattle.executor_model.specs.Sound.{pend, tokens, living, phase}
-use Rattle.executor_model.specs.Sound.Phase.{Broken}
+use Rattle.executor_model.specs.Sound.{pend, tokens, living}
 
 abbrev pub EveryRun : (Machine → ℕ → Type 0) → Type 0
 EveryRun P = (limit parties : ℕ) (steps : List Step) (f : ℕ) → P (run steps (start limit parties)) f

@@ -1,5 +1,5 @@
 -- What holds of each future at every moment, and the numbers that it is said by.
-use Rattle.std.specs.Prelude.{◌≡◌, ◌≢◌, ◌⊎◌, ℕ, ◌+◌, ◌^◌, ◌≤◌, ◌==◌, Bool, true, false, Option, Some, None, List, [], ◌∷◌, cond}
+use Rattle.std.specs.Prelude.{◌≡◌, ◌≢◌, ◌⊎◌, ℕ, ◌+◌, ◌^◌, ◌≤◌, ◌==◌, true, false, Option, Some, None, List, [], ◌∷◌, cond}
 use Rattle.executor_model.specs.declared.event.Answer.{Answer}
 use Rattle.executor_model.specs.declared.event.Answer.TheVariants.{Pending, Ready}
 use Rattle.executor_model.specs.declared.event.Event.{Event}

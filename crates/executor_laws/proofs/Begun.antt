@@ -1,5 +1,5 @@
 -- How a call is answered that begins at rest.
-use Rattle.std.proofs.Common.{◌≡◌, ◌≢◌, ◌⊎◌, ℕ, ◌+◌, ◌<◌, ◌≤◌, List, [], ◌∷◌, ◌++◌, length, set, get_or, Bool, true, false, ◌&&◌, not, ltb, refl, sym, ap, ◌∙◌, subst, inl, inr, ⊎_elim, arith, get_or-set_same, get_or-set_other}
+use Rattle.std.proofs.Common.{◌≡◌, ◌≢◌, ◌⊎◌, ℕ, ◌<◌, ◌≤◌, List, [], ◌∷◌, ◌++◌, length, set, get_or, Bool, true, false, ◌&&◌, not, ltb, refl, sym, ap, ◌∙◌, subst, inl, inr, ⊎_elim, arith, get_or-set_same, get_or-set_other}
 use Rattle.std.proofs.Math.ListN.{length-set}
 use Rattle.std.proofs.lemmas.Bool.Decides.{nat_tests}
 use Rattle.std.proofs.lemmas.List.{append_assoc}
@@ -22,7 +22,6 @@ use Rattle.executor_model.specs.Trace.{Trace, has, is_drop_begun}
 use Rattle.executor_model.specs.Due.{IsDue}
 use Rattle.executor_model.specs.Emptiness.{IsAtRest, IsQuietEmptinessExact, AnswersAlone, AllDropped, asks_alone}
 use Rattle.executor_model.specs.Quiet.{IsQuiet}
-use Rattle.executor_model.specs.World.{log}
 use Rattle.executor_model.specs.Sound.{times}
 use Rattle.executor_model.specs.Good.{Good}
 use Rattle.executor_model.specs.Steps.{Machine, stack, top, unless, begin_refusal, part_refusal, refusal, part_after, with_part, step_by, step, stepped, run, start}
@@ -34,7 +33,7 @@ use Rattle.executor_model.proofs.AskingRuns.{Heard, heard}
 use Rattle.executor_model.proofs.Resting.{Deep, deep}
 use Rattle.executor_laws.specs.Continued.{IsContinued}
 use Rattle.executor_laws.specs.AtRest.{BeginsAtRest, TicksAreExact, EmptinessIsExact}
-use Rattle.executor_laws.specs.Ticks.{ticks, FindsNothing}
+use Rattle.executor_laws.specs.Ticks.{ticks}
 use Rattle.executor_laws.proofs.Growing.{run-continues}
 use Rattle.executor_laws.proofs.Finding.{Found, found, no-more}
 use Rattle.executor_laws.proofs.Following.{IsAlone, first-of, follow}

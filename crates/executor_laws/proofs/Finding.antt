@@ -1,5 +1,5 @@
 -- The step at which an event of a run happened that begins a call.
-use Rattle.std.proofs.Common.{◌≡◌, ◌≢◌, ℕ, suc, ◌+◌, List, [], ◌∷◌, ◌++◌, length, Bool, true, false, ◌||◌, refl, sym, ap, ◌∙◌, subst, arith, append-nil, length-append}
+use Rattle.std.proofs.Common.{◌≡◌, ℕ, List, [], ◌∷◌, ◌++◌, length, Bool, true, false, ◌||◌, refl, sym, ap, ◌∙◌, arith, append-nil, length-append}
 use Rattle.std.proofs.lemmas.List.{append_assoc, append_cancel_left}
 use Rattle.executor_model.specs.declared.call.Call.{Call}
 use Rattle.executor_model.specs.declared.event.Event.{Event}
@@ -9,7 +9,7 @@ use Rattle.executor_model.specs.declared.step.Step.TheVariants.{Begin}
 use Rattle.executor_model.specs.Trace.{Trace, has}
 use Rattle.executor_model.specs.Steps.{Machine, step, stepped, run}
 use Rattle.executor_laws.specs.Continued.{IsContinued}
-use Rattle.executor_laws.proofs.Growing.{begins_one, More, Adds, adds, run-continues}
+use Rattle.executor_laws.proofs.Growing.{begins_one, Adds, adds, run-continues}
 use Rattle.executor_laws.proofs.Growing.Adds.{refused, goes_on, begins}
 
 abbrev rest_of : Trace → Trace

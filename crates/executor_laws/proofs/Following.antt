@@ -1,8 +1,7 @@
 -- What happens next behind the beginning of a call, where nobody else does anything.
-use Rattle.std.proofs.Common.{◌≡◌, ◌≢◌, ◌⊎◌, ℕ, zero, suc, ◌+◌, ◌<◌, ◌≤◌, List, [], ◌∷◌, ◌++◌, length, set, get_or, Bool, true, false, ◌||◌, eqb, ltb, refl, sym, ap, ◌∙◌, subst, inl, inr, ⊎_elim, arith, append-nil, length-append, get_or-set_same, get_or-set_other}
-use Rattle.std.proofs.Math.ListN.{length-set}
+use Rattle.std.proofs.Common.{◌≡◌, ◌≢◌, ℕ, List, [], ◌∷◌, ◌++◌, length, Bool, true, false, eqb, ltb, refl, sym, ap, ◌∙◌, subst, ⊎_elim}
 use Rattle.std.proofs.lemmas.List.{append_assoc, append_cancel_left}
-use Rattle.std.specs.Prelude.{Option, Some, None, reverse}
+use Rattle.std.specs.Prelude.{Some, None}
 use Rattle.executor_model.specs.declared.call.Call.{Call}
 use Rattle.executor_model.specs.declared.event.Event.{Event}
 use Rattle.executor_model.specs.declared.event.Event.TheVariants as event
@@ -14,13 +13,12 @@ use Rattle.executor_model.specs.declared.step.StepError.{StepError}
 use Rattle.executor_model.specs.declared.step.StepError.TheVariants.{NoSuch, Idle, WrongAnswer}
 use Rattle.executor_model.specs.declared.step.UserEnd.{UserEnd}
 use Rattle.executor_model.specs.Trace.{Trace}
-use Rattle.executor_model.specs.World.{log}
 use Rattle.executor_model.specs.Weights.{same}
-use Rattle.executor_model.specs.Steps.{Machine, stack, top, accepts, unless, go_refusal, answer_refusal, party_of, part_refusal, refusal, step, stepped, run}
+use Rattle.executor_model.specs.Steps.{Machine, stack, top, accepts, unless, go_refusal, answer_refusal, party_of, part_refusal, step, stepped, run}
 use Rattle.executor_laws.specs.Continued.{IsContinued}
 use Rattle.executor_model.proofs.Lists.{same_cases}
 use Rattle.executor_model.proofs.Stepping.{step-refused}
-use Rattle.executor_laws.proofs.Growing.{More, Adds, adds, run-continues}
+use Rattle.executor_laws.proofs.Growing.{Adds, adds, run-continues}
 use Rattle.executor_laws.proofs.Growing.Adds.{refused, goes_on, begins}
 use Rattle.executor_laws.proofs.Finding.{heads, no-more}
 

@@ -1,5 +1,5 @@
 -- A call that has found something to do isn't answered no before something else happens.
-use Rattle.std.proofs.Common.{◌≡◌, ◌≢◌, ◌⊎◌, ℕ, zero, suc, ◌+◌, ◌-◌, ◌<◌, ◌≤◌, List, [], ◌∷◌, ◌++◌, length, set, get_or, take, Bool, true, false, ◌||◌, eqb, ltb, refl, sym, ap, ◌∙◌, subst, inl, inr, ⊎_elim, arith, append-nil, length-append, get_or-set_same, get_or-set_other}
+use Rattle.std.proofs.Common.{◌≡◌, ◌≢◌, ◌⊎◌, ℕ, zero, suc, ◌-◌, ◌<◌, List, [], ◌∷◌, ◌++◌, length, take, true, false, eqb, refl, sym, ap, ◌∙◌, subst, inl, inr, ⊎_elim, arith, get_or-set_same, get_or-set_other}
 use Rattle.std.proofs.Math.ListN.{length-set}
 use Rattle.std.proofs.lemmas.List.{append_assoc, append_cancel_left}
 use Rattle.std.specs.Prelude.{Option, Some, None, reverse, slice_get}
@@ -21,13 +21,12 @@ use Rattle.executor_model.specs.Trace.{Trace, has}
 use Rattle.executor_model.specs.World.{World, Done}
 use Rattle.executor_model.specs.Acts.{act}
 use Rattle.executor_model.specs.Weights.{same, weigh}
-use Rattle.executor_model.specs.Steps.{Machine, stack, top, below_top, react, refusal, Part, part, end_of, settled_by, onto, gone_on, with_part, after, step_by, step, stepped, run}
-use Rattle.executor_laws.specs.Continued.{IsContinued}
+use Rattle.executor_model.specs.Steps.{Machine, stack, top, below_top, react, refusal, Part, end_of, settled_by, onto, gone_on, with_part, after, step_by, step, stepped, run}
 use Rattle.executor_model.proofs.Calls.{calling_of, calls-act}
 use Rattle.executor_model.proofs.Lift.{topped}
 use Rattle.executor_model.proofs.Lists.{same_cases, weigh-append, weigh-reverse}
 use Rattle.executor_laws.proofs.Growing.{ends_one, is_end, Grows, grows-act, grows-react, run-continues}
-use Rattle.executor_laws.proofs.Finding.{heads, tails, no-more, left-false}
+use Rattle.executor_laws.proofs.Finding.{heads, no-more, left-false}
 use Rattle.executor_laws.proofs.Following.{IsAlone, still-go, still-answer, wrong-answer, not-begun}
 
 abbrev yes : Hold → Op

@@ -1,5 +1,5 @@
 -- How a call is answered that begins where nothing else is in progress, in the words of the trace alone.
-use Rattle.std.specs.Prelude.{◌≡◌, ◌≢◌, ◌↔◌, ◌⊎◌, ℕ, false, List, [], ◌∷◌, ◌++◌}
+use Rattle.std.specs.Prelude.{◌≡◌, ◌≢◌, ◌↔◌, ◌⊎◌, ℕ, false, ◌∷◌, ◌++◌}
 use Rattle.executor_model.specs.declared.call.Call.{Call}
 use Rattle.executor_model.specs.declared.call.Call.TheVariants.{TryTick, IsEmpty}
 use Rattle.executor_model.specs.declared.call.Reply.TheVariants.{Yes, No}

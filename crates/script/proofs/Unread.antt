@@ -1,5 +1,5 @@
 -- Words that are none of the items, and none of the commands.
-use Rattle.std.proofs.Common.{◌≡◌, ◌≢◌, ℕ, List, ◌∷◌, codes}
+use Rattle.std.proofs.Common.{◌≢◌, ℕ, List, ◌∷◌, codes}
 use Rattle.script.specs.Item.{IsItem}
 use Rattle.script.specs.Plain.{IsSpelled}
 use Rattle.script.specs.declared.item.Item.{Item}

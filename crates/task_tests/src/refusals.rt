@@ -1,6 +1,7 @@
 //! What a task does where there is no memory, or no copy of a waker.
-use crate::parts::{Counts, Tasks, future_and_line, made, next, outside_waker};
-use async_task::{Builder, Future, NoMemory, Parts, Poll, Realm, TaskError, spawn};
+use crate::calls::{Stage, holds, same, seen, shown};
+use crate::parts::{Counts, Tasks, future_and_line};
+use async_task::{Builder, NoMemory, Parts, Poll, Realm, TaskError, spawn};
 use std::sync::atomic::Ordering::SeqCst;
 use std::test::Fail;
 
@@ -14,9 +15,9 @@ fn a_refused_spawn_hands_everything_back(rt: HostRuntime) -> Result<(), Fail> {
     let (future, line) = future_and_line(rt, &counts, 5, false)?;
     match spawn(rt, rt.alloc(), realm, future, line) {
         Ok((runnable, task)) => {
-            assert!(rt; !runnable.run());
+            holds(&rt, !runnable.run());
             task.detach();
-            assert_eq!(rt; counts.so_far(), (1, 1, 0, 0));
+            seen(&rt, &counts, (1, 1, 0, 0));
         }
         Err(back) => {
             let Parts {
@@ -24,8 +25,9 @@ fn a_refused_spawn_hands_everything_back(rt: HostRuntime) -> Result<(), Fail> {
                 schedule,
                 metadata: (),
             } = back;
-            assert_eq!(rt; (future.left, counts.so_far()), (5, (0, 0, 0, 0)));
-            assert!(rt; spawn(rt, rt.alloc(), realm, future, schedule).is_ok());
+            same(&rt, future.left, 5);
+            seen(&rt, &counts, (0, 0, 0, 0));
+            holds(&rt, spawn(rt, rt.alloc(), realm, future, schedule).is_ok());
         }
     }
     Ok(())
@@ -41,10 +43,10 @@ fn a_refused_spawn_of_a_builder_hands_everything_back(rt: HostRuntime) -> Result
         .spawn(rt, rt.alloc(), realm, future, line)
     {
         Ok((runnable, task)) => {
-            assert_eq!(rt; *task.metadata(), 7);
-            assert!(rt; !runnable.run());
+            same(&rt, *task.metadata(), 7);
+            holds(&rt, !runnable.run());
             drop(task);
-            assert_eq!(rt; counts.so_far(), (1, 0, 1, 1));
+            seen(&rt, &counts, (1, 0, 1, 1));
         }
         Err(back) => {
             let Parts {
@@ -52,10 +54,13 @@ fn a_refused_spawn_of_a_builder_hands_everything_back(rt: HostRuntime) -> Result
                 schedule,
                 metadata,
             } = back;
-            assert_eq!(rt; (future.left, metadata), (0, 7));
-            assert_eq!(rt; counts.so_far(), (0, 0, 0, 0));
+            same(&rt, (future.left, metadata), (0, 7));
+            seen(&rt, &counts, (0, 0, 0, 0));
             let again = Builder::new().metadata(metadata);
-            assert!(rt; again.spawn(rt, rt.alloc(), realm, future, schedule).is_ok());
+            holds(
+                &rt,
+                again.spawn(rt, rt.alloc(), realm, future, schedule).is_ok(),
+            );
         }
     }
     Ok(())
@@ -65,26 +70,24 @@ fn a_refused_spawn_of_a_builder_hands_everything_back(rt: HostRuntime) -> Result
 /// stays, and the handle may be polled again.
 #[test]
 fn a_refused_poll_leaves_the_task_as_it_was(rt: HostRuntime) -> Result<(), Fail> {
-    let realm = Tasks::leak(rt.alloc(), 0)?;
-    let (counts, others) = (Counts::new(rt.alloc())?, Counts::new(rt.alloc())?);
-    let (runnable, mut task) = made(rt, rt.alloc(), realm, &counts, 0, false)?;
-    let (bell, short) = (outside_waker(&counts)?, outside_waker(&others)?);
-    others.is_short.store(true, SeqCst);
-    assert_eq!(rt; task.poll(&bell), Poll::Pending);
+    let stage = Stage::new(rt, rt.alloc(), Tasks::leak(rt.alloc(), 0)?);
+    let others = stage.counted_apart();
+    let (runnable, mut task) = stage.task(0, false);
+    let (bell, short) = (stage.bell(), others.bell());
+    others.counts.is_short.store(true, SeqCst);
+    stage.poll(&mut task, &bell, Poll::Pending);
     let text = format!(in rt.alloc(); "{task:?}")?;
-    assert_eq!(rt; task.poll(&short), Poll::Ready(Err(TaskError::NoMemory)));
-    assert_eq!(rt; format!(in rt.alloc(); "{task:?}")?.as_str(), text.as_str());
-    assert!(rt; !runnable.run());
-    assert_eq!(rt; counts.rings.load(SeqCst), 1);
-    assert_eq!(rt; others.rings.load(SeqCst), 0);
-    assert_eq!(rt;
-        (counts.copies.load(SeqCst), others.copies.load(SeqCst)),
-        (1, 1)
-    );
+    stage.poll(&mut task, &short, Poll::Ready(Err(TaskError::NoMemory)));
+    shown(&rt, format!(in rt.alloc(); "{task:?}")?, text.as_str());
+    stage.run(runnable, false);
+    stage.rings(1);
+    others.rings(0);
+    stage.copies(1);
+    others.copies(1);
     // There is an output now, so that no copy is needed.
-    assert_eq!(rt; task.poll(&short), Poll::Ready(Ok(3)));
-    assert_eq!(rt; task.poll(&short), Poll::Ready(Err(TaskError::TaskClosed)));
-    assert_eq!(rt; others.copies.load(SeqCst), 1);
+    stage.poll(&mut task, &short, Poll::Ready(Ok(3)));
+    stage.poll(&mut task, &short, Poll::Ready(Err(TaskError::TaskClosed)));
+    others.copies(1);
     Ok(())
 }
 
@@ -92,30 +95,24 @@ fn a_refused_poll_leaves_the_task_as_it_was(rt: HostRuntime) -> Result<(), Fail>
 /// poll needs no copy.
 #[test]
 fn a_refused_poll_of_a_cancel_has_cancelled(rt: HostRuntime) -> Result<(), Fail> {
-    let realm = Tasks::leak(rt.alloc(), 0)?;
-    let counts = Counts::new(rt.alloc())?;
-    let (runnable, task) = made(rt, rt.alloc(), realm, &counts, 9, false)?;
-    let short = outside_waker(&counts)?;
-    counts.is_short.store(true, SeqCst);
+    let stage = Stage::new(rt, rt.alloc(), Tasks::leak(rt.alloc(), 0)?);
+    let (runnable, task) = stage.task(9, false);
+    let short = stage.bell();
+    stage.counts.is_short.store(true, SeqCst);
     let mut task = task.fallible();
-    assert_eq!(rt; task.poll(&short), Poll::Ready(Err(NoMemory)));
-    assert!(rt; !runnable.run());
-    assert_eq!(rt; counts.so_far(), (1, 0, 0, 0));
+    stage.poll(&mut task, &short, Poll::Ready(Err(NoMemory)));
+    stage.run(runnable, false);
+    stage.seen((1, 0, 0, 0));
     let mut cancel = task.cancel();
-    assert_eq!(rt; cancel.poll(&short), Poll::Ready(Err(NoMemory)));
-    assert_eq!(rt; counts.so_far(), (1, 1, 0, 0));
-    assert_eq!(rt; cancel.poll(&short), Poll::Ready(Err(NoMemory)));
-    assert_eq!(rt; counts.so_far(), (1, 1, 0, 0));
-    match next(rt, realm, &counts) {
-        Some(runnable) => assert!(rt; !runnable.run()),
-        None => assert!(rt; false),
-    }
-    assert_eq!(rt; cancel.poll(&short), Poll::Ready(Ok(None)));
-    assert_eq!(rt;
-        (counts.copies.load(SeqCst), counts.rings.load(SeqCst)),
-        (3, 0)
-    );
+    stage.poll(&mut cancel, &short, Poll::Ready(Err(NoMemory)));
+    stage.seen((1, 1, 0, 0));
+    stage.poll(&mut cancel, &short, Poll::Ready(Err(NoMemory)));
+    stage.seen((1, 1, 0, 0));
+    stage.run_next();
+    stage.poll(&mut cancel, &short, Poll::Ready(Ok(None)));
+    stage.copies(3);
+    stage.rings(0);
     drop(cancel);
-    assert_eq!(rt; counts.so_far(), (1, 1, 1, 1));
+    stage.seen((1, 1, 1, 1));
     Ok(())
 }

@@ -1,7 +1,9 @@
 //! What queues and lists keep of a task, and what a schedule value does with a task that it is
 //! given.
-use crate::parts::{Bell, Countdown, Counts, Line, Tasks, made, next, outside_waker};
-use async_task::{Awaiter, Due, Future, Poll, ScheduleInfo, TaskError, Wake};
+use crate::calls::{Stage, same, there};
+use crate::parts::{Bell, Countdown, Line, Tasks, TestRunnable};
+use async_task::{Awaiter, Due, Poll, ScheduleInfo, TaskError, Wake};
+use std::process::Abort;
 use std::sync::Wait;
 use std::sync::atomic::Ordering::SeqCst;
 use std::test::Fail;
@@ -10,10 +12,10 @@ const IDLE: ScheduleInfo = ScheduleInfo {
     woken_while_running: false,
 };
 
+type TestDue<R> = Due<Countdown, u64, Line<R>, u64, Bell, R>;
+
 /// Whether a task is owed to its schedule value. It is dropped.
-fn is_there<R: Wait + Copy + Drop + 'static>(
-    due: Option<Due<Countdown, u64, Line<R>, u64, Bell, R>>,
-) -> bool {
+fn is_there<R: Wait + Copy + Drop + 'static>(due: Option<TestDue<R>>) -> bool {
     match due {
         Some(Due { runnable, info: _ }) => {
             drop(runnable.into_runnable());
@@ -23,55 +25,63 @@ fn is_there<R: Wait + Copy + Drop + 'static>(
     }
 }
 
+/// The Runnable that is owed to its schedule value, whose task was woken while nobody polled it.
+fn idle<R: Abort + Wait + Copy + Drop + 'static>(
+    stage: &Stage<R>,
+    due: Option<TestDue<R>>,
+) -> TestRunnable<R> {
+    match due {
+        Some(Due { runnable, info }) => {
+            same(&stage.rt, info, IDLE);
+            runnable.into_runnable()
+        }
+        None => panic!(stage.rt; "nothing is owed"),
+    }
+}
+
 /// A Runnable is stored, found again and run.
 #[test]
 fn a_stored_runnable_is_redeemed(rt: HostRuntime) -> Result<(), Fail> {
-    let realm = Tasks::leak(rt.alloc(), 4)?;
-    assert_eq!(rt; realm.number(), 4);
-    let counts = Counts::new(rt.alloc())?;
-    let (runnable, task) = made(rt, rt.alloc(), realm, &counts, 0, false)?;
+    let stage = Stage::new(rt, rt.alloc(), Tasks::leak(rt.alloc(), 4)?);
+    same(&rt, stage.realm.number(), 4);
+    let (runnable, task) = stage.task(0, false);
     let scheduled = runnable.into_scheduled();
-    assert_eq!(rt; *scheduled.metadata(), 7);
-    assert_eq!(rt; scheduled.realm().number(), 4);
+    same(&rt, *scheduled.metadata(), 7);
+    same(&rt, scheduled.realm().number(), 4);
     scheduled.schedule_value().counts.rings.fetch_add(5, SeqCst);
-    assert_eq!(rt; counts.rings.load(SeqCst), 5);
-    match scheduled.store().redeem(rt, realm) {
-        Some(found) => {
-            assert_eq!(rt; *found.metadata(), 7);
-            assert!(rt; !found.into_runnable().run());
-        }
-        None => assert!(rt; false),
-    }
-    assert_eq!(rt; counts.so_far(), (1, 0, 1, 0));
+    stage.rings(5);
+    let found = there(&rt, scheduled.store().redeem(rt, stage.realm));
+    same(&rt, *found.metadata(), 7);
+    stage.run(found.into_runnable(), false);
+    stage.seen((1, 0, 1, 0));
     drop(task);
-    assert_eq!(rt; counts.so_far(), (1, 0, 1, 1));
+    stage.seen((1, 0, 1, 1));
     Ok(())
 }
 
 /// What was stored of a task of another realm isn't found, though a task has its place here.
 #[test]
 fn nothing_of_another_realm_is_redeemed(rt: HostRuntime) -> Result<(), Fail> {
-    let (here, there) = (Tasks::leak(rt.alloc(), 4)?, Tasks::leak(rt.alloc(), 5)?);
-    let counts = Counts::new(rt.alloc())?;
-    let (runnable, _task) = made(rt, rt.alloc(), here, &counts, 9, false)?;
-    let (other, _other_task) = made(rt, rt.alloc(), there, &counts, 9, false)?;
-    match (runnable.waker(), runnable.waker(), runnable.waker()) {
-        (Some(one), Some(two), Some(three)) => {
-            assert!(rt; one.store().redeem(rt, there).is_none());
-            assert!(rt; !is_there(two.store().wake(rt, there)));
-            assert!(rt; !is_there(three.store().release(rt, there)));
-        }
-        _ => assert!(rt; false),
+    let here = Stage::new(rt, rt.alloc(), Tasks::leak(rt.alloc(), 4)?);
+    let other_realm = here.beside(Tasks::leak(rt.alloc(), 5)?);
+    let (runnable, _task) = here.task(9, false);
+    let (other, _other_task) = other_realm.task(9, false);
+    let one = there(&rt, runnable.waker());
+    let two = there(&rt, runnable.waker());
+    let three = there(&rt, runnable.waker());
+    here.holds(one.store().redeem(rt, other_realm.realm).is_none());
+    here.holds(!is_there(two.store().wake(rt, other_realm.realm)));
+    here.holds(!is_there(three.store().release(rt, other_realm.realm)));
+    if let Some(found) = runnable
+        .into_scheduled()
+        .store()
+        .redeem(rt, other_realm.realm)
+    {
+        drop(found.into_runnable());
+        here.holds(false);
     }
-    match runnable.into_scheduled().store().redeem(rt, there) {
-        Some(found) => {
-            drop(found.into_runnable());
-            assert!(rt; false);
-        }
-        None => {}
-    }
-    assert!(rt; !other.run());
-    assert_eq!(rt; counts.so_far(), (1, 0, 0, 0));
+    other_realm.run(other, false);
+    here.seen((1, 0, 0, 0));
     Ok(())
 }
 
@@ -79,40 +89,21 @@ fn nothing_of_another_realm_is_redeemed(rt: HostRuntime) -> Result<(), Fail> {
 /// the last waker of a detached task, answer the task that has to be queued.
 #[test]
 fn a_stored_waker_wakes_its_task(rt: HostRuntime) -> Result<(), Fail> {
-    let realm = Tasks::leak(rt.alloc(), 0)?;
-    let counts = Counts::new(rt.alloc())?;
-    let (runnable, task) = made(rt, rt.alloc(), realm, &counts, 9, false)?;
-    let (Some(one), Some(two)) = (runnable.waker(), runnable.waker()) else {
-        return Ok(assert!(rt; false));
-    };
-    assert!(rt; !runnable.run());
-    match one.store().wake(rt, realm) {
-        Some(Due { runnable, info }) => {
-            assert_eq!(rt; info, IDLE);
-            assert!(rt; !runnable.into_runnable().run());
-        }
-        None => assert!(rt; false),
-    }
+    let stage = Stage::new(rt, rt.alloc(), Tasks::leak(rt.alloc(), 0)?);
+    let (runnable, task) = stage.task(9, false);
+    let one = there(&rt, runnable.waker());
+    let two = there(&rt, runnable.waker());
+    stage.run(runnable, false);
+    stage.run(idle(&stage, one.store().wake(rt, stage.realm)), false);
     task.detach();
-    let again = match two.store().redeem(rt, realm) {
-        Some(waker) => waker,
-        None => return Ok(assert!(rt; false)),
-    };
+    let again = there(&rt, two.store().redeem(rt, stage.realm));
     again.wake_by_ref();
-    assert_eq!(rt; counts.so_far(), (2, 1, 0, 0));
-    match next(rt, realm, &counts) {
-        Some(runnable) => assert!(rt; !runnable.run()),
-        None => assert!(rt; false),
-    }
-    match again.store().release(rt, realm) {
-        Some(Due { runnable, info }) => {
-            assert_eq!(rt; info, IDLE);
-            assert_eq!(rt; counts.so_far(), (3, 1, 0, 0));
-            assert!(rt; !runnable.into_runnable().run());
-        }
-        None => assert!(rt; false),
-    }
-    assert_eq!(rt; counts.so_far(), (3, 1, 1, 1));
+    stage.seen((2, 1, 0, 0));
+    stage.run_next();
+    let runnable = idle(&stage, again.store().release(rt, stage.realm));
+    stage.seen((3, 1, 0, 0));
+    stage.run(runnable, false);
+    stage.seen((3, 1, 1, 1));
     Ok(())
 }
 
@@ -120,35 +111,22 @@ fn a_stored_waker_wakes_its_task(rt: HostRuntime) -> Result<(), Fail> {
 /// own schedule value.
 #[test]
 fn a_task_is_closed_by_its_schedule_value(rt: HostRuntime) -> Result<(), Fail> {
-    let realm = Tasks::leak(rt.alloc(), 0)?;
-    let (counts, others) = (Counts::new(rt.alloc())?, Counts::new(rt.alloc())?);
-    let (awaiting, _awaiting_task) = made(rt, rt.alloc(), realm, &others, 9, false)?;
-    let (awaited, mut task) = made(rt, rt.alloc(), realm, &counts, 9, false)?;
-    let (nobodys, nobodys_task) = made(rt, rt.alloc(), realm, &counts, 9, false)?;
-    let Some(waker) = awaiting.waker() else {
-        return Ok(assert!(rt; false));
-    };
-    assert!(rt; !awaiting.run());
-    let waker = Awaiter::Task(waker);
-    assert_eq!(rt; task.poll(&waker), Poll::Pending);
-    match awaited.into_scheduled().close() {
-        Some(Due { runnable, info }) => {
-            assert_eq!(rt; info, IDLE);
-            assert!(rt; !runnable.into_runnable().run());
-        }
-        None => assert!(rt; false),
-    }
-    assert_eq!(rt;
-        (counts.so_far(), others.so_far()),
-        ((0, 0, 1, 0), (2, 0, 0, 0))
-    );
-    assert_eq!(rt; task.poll(&waker), Poll::Ready(Err(TaskError::TaskClosed)));
-    assert!(rt; !is_there(nobodys.into_scheduled().close()));
-    assert!(rt; nobodys_task.is_finished());
-    assert_eq!(rt; counts.so_far(), (0, 0, 2, 0));
-    assert_eq!(rt;
-        task.poll(&outside_waker(&counts)?),
-        Poll::Ready(Err(TaskError::TaskClosed))
-    );
+    let stage = Stage::new(rt, rt.alloc(), Tasks::leak(rt.alloc(), 0)?);
+    let others = stage.counted_apart();
+    let (awaiting, _awaiting_task) = others.task(9, false);
+    let (awaited, mut task) = stage.task(9, false);
+    let (nobodys, nobodys_task) = stage.task(9, false);
+    let waker = Awaiter::Task(there(&rt, awaiting.waker()));
+    stage.run(awaiting, false);
+    stage.poll(&mut task, &waker, Poll::Pending);
+    stage.run(idle(&stage, awaited.into_scheduled().close()), false);
+    stage.seen((0, 0, 1, 0));
+    others.seen((2, 0, 0, 0));
+    stage.poll(&mut task, &waker, Poll::Ready(Err(TaskError::TaskClosed)));
+    stage.holds(!is_there(nobodys.into_scheduled().close()));
+    stage.holds(nobodys_task.is_finished());
+    stage.seen((0, 0, 2, 0));
+    let bell = stage.bell();
+    stage.poll(&mut task, &bell, Poll::Ready(Err(TaskError::TaskClosed)));
     Ok(())
 }

@@ -1,5 +1,6 @@
 //! A queue that wakes a sleeper each time that it is given a task. The sleeper may be a task of the
 //! same queue, which is then owed to it in turn.
+use crate::calls::{holds, same, seen, there};
 use crate::parts::{Countdown, Counts};
 use async_task::{
     Due, Nobody, Realm, Runnable, Schedule, ScheduleInfo, Scheduled, StoredRunnable, StoredWaker,
@@ -102,24 +103,22 @@ fn a_push_wakes_a_task_of_the_same_queue(rt: HostRuntime) -> Result<(), Fail> {
     )?;
     let (sleeper, sleeping) = made(rt, rt.alloc(), realm, &rooms, &counts)?;
     let (runnable, task) = made(rt, rt.alloc(), realm, &rooms, &counts)?;
-    match sleeper.waker() {
-        Some(waker) => rooms.sleepers.lock(&rt).push(waker.store())?,
-        None => assert!(rt; false),
-    }
-    assert!(rt; !sleeper.run());
+    let waker = there(&rt, sleeper.waker());
+    rooms.sleepers.lock(&rt).push(waker.store())?;
+    holds(&rt, !sleeper.run());
     runnable.schedule();
-    assert_eq!(rt; rooms.queue.lock(&rt).len(), 2);
-    assert_eq!(rt; rooms.sleepers.lock(&rt).len(), 0);
+    same(&rt, rooms.queue.lock(&rt).len(), 2);
+    same(&rt, rooms.sleepers.lock(&rt).len(), 0);
     drop(sleeping);
     drop(task);
     for _ in 0..2 {
         let stored = rooms.queue.lock(&rt).pop();
         if let Some(stored) = stored {
             if let Some(scheduled) = stored.redeem(rt, realm) {
-                assert!(rt; !scheduled.into_runnable().run());
+                holds(&rt, !scheduled.into_runnable().run());
             }
         }
     }
-    assert_eq!(rt; counts.so_far(), (1, 0, 2, 0));
+    seen(&rt, &counts, (1, 0, 2, 0));
     Ok(())
 }

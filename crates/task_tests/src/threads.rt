@@ -1,4 +1,5 @@
-use crate::parts::{Counts, Tasks, TestWaker, made, next};
+use crate::calls::{Stage, same, there};
+use crate::parts::{Tasks, TestWaker, next};
 use async_task::Wake;
 use std::sync::Wait;
 use std::sync::atomic::Ordering::SeqCst;
@@ -25,32 +26,23 @@ fn rouse<R: Wait + Copy + Drop + 'static>(waker: TestWaker<R>) {
 /// Runnables of it, no wake is lost, and in the end all is dropped once.
 #[test]
 fn wakes_of_two_threads_meet_a_run(rt: HostRuntime) -> Result<(), Fail> {
-    let realm = Tasks::leak(rt.alloc(), 0)?;
-    let counts = Counts::new(rt.alloc())?;
-    let (runnable, task) = made(rt, rt.alloc(), realm, &counts, 1_000_000, false)?;
-    let (Some(one), Some(two)) = (runnable.waker(), runnable.waker()) else {
-        return Ok(());
-    };
+    let stage = Stage::new(rt, rt.alloc(), Tasks::leak(rt.alloc(), 0)?);
+    let (runnable, task) = stage.task(1_000_000, false);
+    let one = there(&rt, runnable.waker());
+    let two = there(&rt, runnable.waker());
     runnable.run();
     let first = thread::spawn(&rt, move || rouse(one))?;
     let second = thread::spawn(&rt, move || rouse(two))?;
-    for _ in 0..ROUNDS {
-        if let Some(runnable) = next(rt, realm, &counts) {
-            runnable.run();
-        }
-    }
+    stage.run_what_is_there(ROUNDS);
     first.join(&rt);
     second.join(&rt);
     // All wakers are gone: the task was closed, or is when its handle goes.
     drop(task);
-    for _ in 0..3 {
-        if let Some(runnable) = next(rt, realm, &counts) {
-            runnable.run();
-        }
-    }
-    assert_eq!(rt; counts.longest.load(SeqCst), 1);
-    assert_eq!(rt; counts.future_drops.load(SeqCst), 1);
-    assert_eq!(rt; counts.schedule_drops.load(SeqCst), 1);
-    assert!(rt; counts.polls.load(SeqCst) <= counts.schedules.load(SeqCst).saturating_add(1));
+    stage.run_what_is_there(3);
+    same(&rt, stage.counts.longest.load(SeqCst), 1);
+    stage.future_drops(1);
+    stage.schedule_drops(1);
+    let schedules = stage.counts.schedules.load(SeqCst);
+    stage.holds(stage.counts.polls.load(SeqCst) <= schedules.saturating_add(1));
     Ok(())
 }

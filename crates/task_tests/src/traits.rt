@@ -1,5 +1,6 @@
 //! Traits, markers and texts of the public types.
-use crate::parts::{Counts, Tasks, made, outside_waker};
+use crate::calls::{Stage, same, shown};
+use crate::parts::Tasks;
 use async_task::{Builder, NoMemory, ScheduleInfo, TaskError, WithInfo};
 use std::fmt::Debug;
 use std::test::Fail;
@@ -17,29 +18,30 @@ fn plain_types_are_copied_compared_and_shown(rt: HostRuntime) -> Result<(), Fail
     let info = is_plain(ScheduleInfo {
         woken_while_running: true,
     });
-    assert_eq!(rt;
-        format!(in rt.alloc(); "{info:?} {:?}", WithInfo::from(5))?.as_str(),
-        "ScheduleInfo { woken_while_running: true } WithInfo(5)"
+    shown(
+        &rt,
+        format!(in rt.alloc(); "{info:?} {:?}", WithInfo::from(5))?,
+        "ScheduleInfo { woken_while_running: true } WithInfo(5)",
     );
-    assert_eq!(rt;
+    shown(
+        &rt,
         format!(in rt.alloc();
             "{:?} {:?}",
             is_plain(NoMemory),
             is_plain(TaskError::TaskClosed)
-        )?
-        .as_str(),
-        "NoMemory TaskClosed"
+        )?,
+        "NoMemory TaskClosed",
     );
-    assert_eq!(rt;
+    shown(
+        &rt,
         format!(in rt.alloc();
             "{:?} {:?}",
             is_plain(TaskError::NoMemory),
             Builder::new().metadata(7)
-        )?
-        .as_str(),
-        "NoMemory Builder { metadata: 7 }"
+        )?,
+        "NoMemory Builder { metadata: 7 }",
     );
-    assert_eq!(rt; Builder::default(), Builder::new());
+    same(&rt, Builder::default(), Builder::new());
     Ok(())
 }
 
@@ -47,43 +49,44 @@ fn plain_types_are_copied_compared_and_shown(rt: HostRuntime) -> Result<(), Fail
 /// are.
 #[test]
 fn handles_move_and_are_shared(rt: HostRuntime) -> Result<(), Fail> {
-    let realm = Tasks::leak(rt.alloc(), 0)?;
-    let counts = Counts::new(rt.alloc())?;
-    let (runnable, task) = made(rt, rt.alloc(), realm, &counts, 0, false)?;
+    let stage = Stage::new(rt, rt.alloc(), Tasks::leak(rt.alloc(), 0)?);
+    let (runnable, task) = stage.task(0, false);
     let runnable = moves_and_is_shared(runnable);
     let waker = moves_and_is_shared(runnable.waker());
-    assert!(rt; waker.is_some());
+    stage.holds(waker.is_some());
     let task = moves_and_is_shared(moves_and_is_shared(task).fallible());
     drop(moves_and_is_shared(task.cancel()));
-    assert!(rt; !runnable.run());
+    stage.run(runnable, false);
     drop(waker);
-    assert_eq!(rt; counts.so_far(), (0, 0, 1, 1));
+    stage.seen((0, 0, 1, 1));
     Ok(())
 }
 
 /// A handle's text has the marks of its task at that moment, and how many references there are.
 #[test]
 fn a_handle_is_shown_with_the_marks_of_its_task(rt: HostRuntime) -> Result<(), Fail> {
-    let realm = Tasks::leak(rt.alloc(), 0)?;
-    let counts = Counts::new(rt.alloc())?;
-    let (runnable, mut task) = made(rt, rt.alloc(), realm, &counts, 0, false)?;
-    assert_eq!(rt;
-        format!(in rt.alloc(); "{runnable:?}")?.as_str(),
-        "Runnable { scheduled: true, running: false, completed: false, closed: false, awaiter: false, task: true, ref_count: 1, metadata: 7 }"
+    let stage = Stage::new(rt, rt.alloc(), Tasks::leak(rt.alloc(), 0)?);
+    let (runnable, mut task) = stage.task(0, false);
+    shown(
+        &rt,
+        format!(in rt.alloc(); "{runnable:?}")?,
+        "Runnable { scheduled: true, running: false, completed: false, closed: false, awaiter: false, task: true, ref_count: 1, metadata: 7 }",
     );
-    let _ = async_task::Future::poll(&mut task, &outside_waker(&counts)?);
+    let _ = async_task::Future::poll(&mut task, &stage.bell());
     let waker = runnable.waker();
     let task = task.fallible();
-    assert_eq!(rt;
-        format!(in rt.alloc(); "{task:?}")?.as_str(),
-        "FallibleTask { scheduled: true, running: false, completed: false, closed: false, awaiter: true, task: true, ref_count: 2, metadata: 7 }"
+    shown(
+        &rt,
+        format!(in rt.alloc(); "{task:?}")?,
+        "FallibleTask { scheduled: true, running: false, completed: false, closed: false, awaiter: true, task: true, ref_count: 2, metadata: 7 }",
     );
     drop(waker);
     drop(task);
-    assert_eq!(rt;
-        format!(in rt.alloc(); "{runnable:?}")?.as_str(),
-        "Runnable { scheduled: true, running: false, completed: false, closed: true, awaiter: false, task: false, ref_count: 1, metadata: 7 }"
+    shown(
+        &rt,
+        format!(in rt.alloc(); "{runnable:?}")?,
+        "Runnable { scheduled: true, running: false, completed: false, closed: true, awaiter: false, task: false, ref_count: 1, metadata: 7 }",
     );
-    assert!(rt; !runnable.run());
+    stage.run(runnable, false);
     Ok(())
 }

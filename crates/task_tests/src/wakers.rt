@@ -1,5 +1,6 @@
 //! The calls of wakers of each kind, and of the values around a task.
-use crate::parts::{Counts, Tasks, made, outside_waker};
+use crate::calls::{Stage, holds, same, there};
+use crate::parts::Tasks;
 use async_task::{Awaiter, Nobody, Places, Schedule, ScheduleInfo, Wake, WithInfo};
 use std::sync::atomic::AtomicU64;
 use std::sync::atomic::Ordering::SeqCst;
@@ -8,43 +9,38 @@ use std::test::Fail;
 /// One type of waker for tasks and for who is outside: each calls the one that it has.
 #[test]
 fn an_awaiter_is_the_waker_that_it_has(rt: HostRuntime) -> Result<(), Fail> {
-    let realm = Tasks::leak(rt.alloc(), 0)?;
-    let counts = Counts::new(rt.alloc())?;
-    let (runnable, _task) = made(rt, rt.alloc(), realm, &counts, 9, false)?;
-    let (other, _other_task) = made(rt, rt.alloc(), realm, &counts, 9, false)?;
-    let (Some(waker), Some(another)) = (runnable.waker(), other.waker()) else {
-        return Ok(assert!(rt; false));
-    };
-    assert!(rt; !runnable.run());
-    let (inside, another) = (Awaiter::Task(waker), Awaiter::Task(another));
-    let outside = outside_waker(&counts)?;
-    let (Some(copy), Some(bell)) = (inside.clone(), outside.clone()) else {
-        return Ok(assert!(rt; false));
-    };
-    assert!(rt; inside.will_wake(&copy) && outside.will_wake(&bell));
-    assert!(rt; !inside.will_wake(&another) && !another.will_wake(&inside));
-    assert!(rt; !inside.will_wake(&outside) && !outside.will_wake(&inside));
+    let stage = Stage::new(rt, rt.alloc(), Tasks::leak(rt.alloc(), 0)?);
+    let (runnable, _task) = stage.task(9, false);
+    let (other, _other_task) = stage.task(9, false);
+    let inside = Awaiter::Task(there(&rt, runnable.waker()));
+    let another = Awaiter::Task(there(&rt, other.waker()));
+    stage.run(runnable, false);
+    let outside = stage.bell();
+    let copy = there(&rt, inside.clone());
+    let bell = there(&rt, outside.clone());
+    stage.holds(inside.will_wake(&copy));
+    stage.holds(outside.will_wake(&bell));
+    stage.holds(!inside.will_wake(&another));
+    stage.holds(!another.will_wake(&inside));
+    stage.holds(!inside.will_wake(&outside));
+    stage.holds(!outside.will_wake(&inside));
     outside.wake_by_ref();
-    assert_eq!(rt; counts.rings.load(SeqCst), 1);
+    stage.rings(1);
     bell.wake();
-    assert_eq!(rt;
-        (counts.rings.load(SeqCst), counts.schedules.load(SeqCst)),
-        (2, 0)
-    );
+    stage.rings(2);
+    stage.schedules(0);
     inside.wake_by_ref();
-    assert_eq!(rt;
-        (counts.rings.load(SeqCst), counts.schedules.load(SeqCst)),
-        (2, 1)
-    );
+    stage.rings(2);
+    stage.schedules(1);
     copy.wake();
-    assert_eq!(rt; counts.schedules.load(SeqCst), 1);
+    stage.schedules(1);
     Ok(())
 }
 
 #[test]
 fn nobody_is_copied_and_wakes_nobody(rt: HostRuntime) {
-    assert_eq!(rt; Nobody.clone(), Some(Nobody));
-    assert!(rt; Nobody.will_wake(&Nobody));
+    same(&rt, Nobody.clone(), Some(Nobody));
+    holds(&rt, Nobody.will_wake(&Nobody));
     Nobody.wake_by_ref();
     Nobody.wake();
 }
@@ -52,7 +48,7 @@ fn nobody_is_copied_and_wakes_nobody(rt: HostRuntime) {
 #[test]
 fn a_realm_has_the_number_that_it_was_made_with(rt: HostRuntime) -> Result<(), Fail> {
     let places: Places<u64> = Places::new(rt.alloc(), 3)?;
-    assert_eq!(rt; places.number(), 3);
+    same(&rt, places.number(), 3);
     Ok(())
 }
 
@@ -84,7 +80,7 @@ fn a_schedule_value_with_information_is_handed_both(rt: HostRuntime) {
                 woken_while_running,
             },
         );
-        assert_eq!(rt; last.0.runnable.load(SeqCst), runnable);
-        assert_eq!(rt; last.0.woken.load(SeqCst), 1);
+        same(&rt, last.0.runnable.load(SeqCst), runnable);
+        same(&rt, last.0.woken.load(SeqCst), 1);
     }
 }

@@ -1,44 +1,39 @@
 //! A task from its spawn to its end.
+use crate::calls::{Stage, same};
 use crate::executor;
-use crate::parts::{Counts, Sum, Tasks, made, next, outside_waker};
-use async_task::{Future, Poll, Realm, TaskError};
-use std::sync::atomic::Ordering::SeqCst;
+use crate::parts::{Sum, Tasks};
+use async_task::{Poll, Realm, TaskError};
 use std::test::Fail;
 
 /// The whole of a task: it is spawned, run, wakes itself, is run again and gives its output.
 #[test]
 fn a_task_gives_its_output(rt: HostRuntime) -> Result<(), Fail> {
-    let realm = Tasks::leak(rt.alloc(), 0)?;
-    let counts = Counts::new(rt.alloc())?;
-    let (runnable, mut task) = made(rt, rt.alloc(), realm, &counts, 1, true)?;
-    let bell = outside_waker(&counts)?;
-    assert_eq!(rt; task.poll(&bell), Poll::Pending);
-    assert!(rt; runnable.run());
-    assert_eq!(rt; counts.so_far(), (1, 1, 0, 0));
-    assert_eq!(rt; counts.schedules_after_poll.load(SeqCst), 1);
-    match next(rt, realm, &counts) {
-        Some(runnable) => assert!(rt; !runnable.run()),
-        None => assert!(rt; false),
-    }
-    assert_eq!(rt; counts.so_far(), (2, 1, 1, 0));
-    assert_eq!(rt; counts.rings.load(SeqCst), 1);
-    assert_eq!(rt; task.poll(&bell), Poll::Ready(Ok(3)));
-    assert_eq!(rt; task.poll(&bell), Poll::Ready(Err(TaskError::TaskClosed)));
+    let stage = Stage::new(rt, rt.alloc(), Tasks::leak(rt.alloc(), 0)?);
+    let (runnable, mut task) = stage.task(1, true);
+    let bell = stage.bell();
+    stage.poll(&mut task, &bell, Poll::Pending);
+    stage.run(runnable, true);
+    stage.seen((1, 1, 0, 0));
+    stage.schedules_after_poll(1);
+    stage.run_next();
+    stage.seen((2, 1, 1, 0));
+    stage.rings(1);
+    stage.poll(&mut task, &bell, Poll::Ready(Ok(3)));
+    stage.poll(&mut task, &bell, Poll::Ready(Err(TaskError::TaskClosed)));
     drop(task);
-    assert_eq!(rt; counts.so_far(), (2, 1, 1, 1));
+    stage.seen((2, 1, 1, 1));
     Ok(())
 }
 
 /// A task whose handle is dropped isn't polled: its run drops the future and empties the cell.
 #[test]
 fn a_dropped_task_isnt_polled(rt: HostRuntime) -> Result<(), Fail> {
-    let realm = Tasks::leak(rt.alloc(), 0)?;
-    let counts = Counts::new(rt.alloc())?;
-    let (runnable, task) = made(rt, rt.alloc(), realm, &counts, 1, false)?;
+    let stage = Stage::new(rt, rt.alloc(), Tasks::leak(rt.alloc(), 0)?);
+    let (runnable, task) = stage.task(1, false);
     drop(task);
-    assert_eq!(rt; counts.so_far(), (0, 0, 0, 0));
-    assert!(rt; !runnable.run());
-    assert_eq!(rt; counts.so_far(), (0, 0, 1, 1));
+    stage.seen((0, 0, 0, 0));
+    stage.run(runnable, false);
+    stage.seen((0, 0, 1, 1));
     Ok(())
 }
 
@@ -46,9 +41,10 @@ fn a_dropped_task_isnt_polled(rt: HostRuntime) -> Result<(), Fail> {
 fn an_executor_of_one_future_runs_it_to_its_end(rt: HostRuntime) -> Result<(), Fail> {
     let sum = Sum { left: 4, sum: 0 };
     let realm = Realm::leak(rt.alloc(), 0)?;
-    assert_eq!(rt;
+    same(
+        &rt,
         executor::run(rt, rt.alloc(), realm, sum)?,
-        Poll::Ready(Ok(10))
+        Poll::Ready(Ok(10)),
     );
     Ok(())
 }

@@ -3,31 +3,16 @@
 //! Without an argument it lists the names. `bench NAME [OPS]` runs one, and `bench all` runs each at its usual size.
 #![tactic(auto)]
 
-ghost use Rattle.std.specs.Prelude.{◌<◌, IfOk};
-
-mod base;
-mod fault;
-mod hand_over;
-mod line;
-mod queue;
-mod sim;
-mod steps;
-mod task;
-#[cfg(test)]
-mod tests;
-mod timing;
-mod workload;
+ghost use Rattle.std.specs.Prelude.{◌<◌};
 
 use async_task::Realm;
-use fault::Fault;
-use line::Line;
 use std::env;
 use std::process::ExitCode;
 use std::rt::{Clock, Env};
 use std::sync::Wait;
 use std::thread::Threads;
-use task::Tasks;
-use workload::{ALL, Workload};
+use timed_runs::Tasks;
+use workloads::{ALL, Fault, Line, Workload, asked, operations};
 
 fn main(rt: HostRuntime) -> ExitCode {
     // Generic code that makes a realm and works on it gets no proof, so it is made here.
@@ -90,7 +75,7 @@ fn time<R: AllocGlobal + Print + Eprint + Clock + Wait + Threads + Sync + Copy +
 ) -> Result<(), Fault>
     requires { 0 < ops }
 {
-    let timing = workload.run(rt, realm, ops)?;
+    let timing = timed_runs::run(workload, rt, realm, ops)?;
     eprintln!(rt; "{} moved {}", workload.name(), timing.moved)?;
     let line = Line {
         name: workload.name(),
@@ -99,19 +84,4 @@ fn time<R: AllocGlobal + Print + Eprint + Clock + Wait + Threads + Sync + Copy +
     };
     println!(rt; "{line}")?;
     Ok(())
-}
-
-/// The workload of this name.
-fn asked(name: &str) -> Result<Workload, Fault> {
-    Workload::named(name).ok_or(Fault::Usage)
-}
-
-/// A number of operations, which is above 0.
-fn operations(word: &str) -> Result<u64, Fault>
-    ensures { IfOk result (λ ops. 0 < ops) }
-{
-    match word.parse::<u64>() {
-        Ok(0) | Err(_) => Err(Fault::Usage),
-        Ok(ops) => Ok(ops),
-    }
 }

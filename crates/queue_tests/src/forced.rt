@@ -2,6 +2,7 @@
 ghost use Rattle.std.specs.Prelude.{◌<◌};
 
 use crate::threads::{MOST_TURNS, close_under_load, pop_until_closed, push_until_closed};
+use crate::words::{holds, same};
 use concurrent_queue::ConcurrentQueue;
 use std::alloc::AllocGlobal;
 use std::process::Abort;
@@ -43,7 +44,7 @@ fn force_until_closed<R: Wait + Abort + AllocGlobal>(
                 pushed.fetch_add(1, Ordering::SeqCst);
             }
             Err(refused) => {
-                assert_eq!(rt; refused.into_inner(), FORCED.wrapping_add(accepted));
+                same(rt, refused.into_inner(), FORCED.wrapping_add(accepted));
                 return Part {
                     first: FORCED,
                     accepted,
@@ -111,9 +112,10 @@ fn displace_and_close<R: Wait + Abort + AllocGlobal + Threads + Sync>(
     }
     all.sort().expect(rt, "memory");
     want.sort().expect(rt, "memory");
-    assert_eq!(rt; closed, 1);
-    assert!(rt; all.len() == want.len() && all.iter().zip(want.iter()).all(|(x, y)| x == y));
-    assert!(rt; queue.is_closed(rt) && queue.is_empty(rt) && queue.pop(rt).is_err());
+    same(rt, closed, 1);
+    same(rt, all.as_slice(), want.as_slice());
+    same(rt, (queue.is_closed(rt), queue.is_empty(rt)), (true, true));
+    holds(rt, queue.pop(rt).is_err());
 }
 
 // Of two threads the one that pushes closes the queue in the middle, of four another does.

@@ -10,3 +10,5 @@ mod forced;
 mod shared;
 #[cfg(test)]
 mod threads;
+#[cfg(test)]
+mod words;

@@ -1,6 +1,7 @@
 //! `ConcurrentQueue` called by one thread.
 ghost use Rattle.std.specs.Prelude.{◌≡◌, ◌%◌, ◌<◌};
 
+use crate::words::{debugs, holds, same};
 use concurrent_queue::glimpse::{Glimpse, Locked};
 use concurrent_queue::{ConcurrentQueue, ForcePushError, NoMemory, PopError, PushError};
 use queue_steps::Unbounded;
@@ -60,8 +61,7 @@ fn a_full_shared_ring_refuses_and_gives_in_order(rt: HostRuntime) {
 fn a_closed_shared_chain_refuses_and_drains(rt: HostRuntime) {
     let queue = ConcurrentQueue::<u64>::unbounded(rt.alloc());
     push(&rt, &queue, 10, Ok(()));
-    assert!(rt; queue.close(&rt));
-    assert!(rt; !queue.close(&rt));
+    same(&rt, (queue.close(&rt), queue.close(&rt)), (true, false));
     push(&rt, &queue, 20, Err(PushError::Closed(20)));
     force_push(&rt, &queue, 30, Err(ForcePushError::Closed(30)));
     pop(&rt, &queue, Ok(10));
@@ -74,8 +74,7 @@ fn a_forced_push_displaces_until_the_queue_is_closed(rt: HostRuntime) {
     push(&rt, &queue, 'a', Ok(()));
     push(&rt, &queue, 'b', Ok(()));
     force_push(&rt, &queue, 'c', Ok(Some('a')));
-    assert_eq!(rt; queue.len(&rt), 2);
-    assert!(rt; queue.close(&rt));
+    same(&rt, (queue.len(&rt), queue.close(&rt)), (2, true));
     force_push(&rt, &queue, 'd', Err(ForcePushError::Closed('d')));
     push(&rt, &queue, 'e', Err(PushError::Closed('e')));
     pop(&rt, &queue, Ok('b'));
@@ -90,59 +89,71 @@ fn a_shared_walk_gives_the_items_in_order(rt: HostRuntime) -> Result<(), Fail> {
     push(&rt, &queue, 2, Ok(()));
     let mut walk = queue.try_iter(&rt);
     let mut copy = walk.clone()?;
-    assert_eq!(rt; walk.next(), Some(1));
-    assert_eq!(rt; copy.next(), Some(2));
-    assert_eq!(rt; (walk.next(), copy.next()), (None, None));
+    same(&rt, (walk.next(), copy.next()), (Some(1), Some(2)));
+    same(&rt, (walk.next(), copy.next()), (None, None));
     push(&rt, &queue, 3, Ok(()));
-    assert_eq!(rt; walk.next(), Some(3));
+    same(&rt, walk.next(), Some(3));
     for item in 4..10u64 {
         push(&rt, &queue, item, Ok(()));
     }
     let mut want = 4;
     for item in queue.try_iter(&rt) {
-        assert_eq!(rt; item, want);
+        same(&rt, item, want);
         want = item.wrapping_add(1);
     }
-    assert_eq!(rt; want, 10);
+    same(&rt, want, 10);
     Ok(())
 }
 
 #[test]
 fn a_shared_slot_holds_one_item(rt: HostRuntime) {
     let queue = bounded(&rt, 1);
-    assert_eq!(rt; queue.capacity(), Some(1));
-    assert!(rt; queue.is_empty(&rt) && !queue.is_full(&rt));
+    same(&rt, queue.capacity(), Some(1));
+    same(
+        &rt,
+        (queue.is_empty(&rt), queue.is_full(&rt)),
+        (true, false),
+    );
     push(&rt, &queue, 5, Ok(()));
-    assert!(rt; queue.is_full(&rt) && !queue.is_empty(&rt));
+    same(
+        &rt,
+        (queue.is_full(&rt), queue.is_empty(&rt)),
+        (true, false),
+    );
     push(&rt, &queue, 6, Err(PushError::Full(6)));
     force_push(&rt, &queue, 7, Ok(Some(5)));
-    assert_eq!(rt; (queue.len(&rt), queue.pop(&rt)), (1, Ok(7)));
-    assert_eq!(rt; (queue.len(&rt), queue.pop(&rt)), (0, Err(PopError::Empty)));
-    assert!(rt; !queue.is_closed(&rt) && queue.close(&rt));
-    assert!(rt; queue.is_closed(&rt) && !queue.close(&rt));
+    same(&rt, (queue.len(&rt), queue.pop(&rt)), (1, Ok(7)));
+    same(
+        &rt,
+        (queue.len(&rt), queue.pop(&rt)),
+        (0, Err(PopError::Empty)),
+    );
+    same(&rt, (queue.is_closed(&rt), queue.close(&rt)), (false, true));
+    same(&rt, (queue.is_closed(&rt), queue.close(&rt)), (true, false));
     pop(&rt, &queue, Err(PopError::Closed));
 }
 
 #[test]
 fn a_shared_ring_and_chain_count_and_keep_order_past_a_hundred_items(rt: HostRuntime) {
     let (ring, chain) = (bounded(&rt, 5), ConcurrentQueue::unbounded(rt.alloc()));
-    assert_eq!(rt; (ring.capacity(), chain.capacity()), (Some(5), None));
+    same(&rt, (ring.capacity(), chain.capacity()), (Some(5), None));
     for round in 0..25u64 {
         for item in 0..5u64 {
             push(&rt, &ring, 5 * round + item, Ok(()));
             push(&rt, &chain, 5 * round + item, Ok(()));
         }
-        assert!(rt; ring.is_full(&rt) && !chain.is_full(&rt));
-        assert_eq!(rt; (ring.len(&rt), chain.len(&rt)), (5, 5));
+        same(&rt, (ring.is_full(&rt), chain.is_full(&rt)), (true, false));
+        same(&rt, (ring.len(&rt), chain.len(&rt)), (5, 5));
         push(&rt, &ring, 1000, Err(PushError::Full(1000)));
         for item in 0..5u64 {
             pop(&rt, &ring, Ok(5 * round + item));
             pop(&rt, &chain, Ok(5 * round + item));
         }
-        assert!(rt; ring.is_empty(&rt) && chain.is_empty(&rt));
+        same(&rt, (ring.is_empty(&rt), chain.is_empty(&rt)), (true, true));
         pop(&rt, &chain, Err(PopError::Empty));
     }
-    assert!(rt; ring.close(&rt) && ring.is_closed(&rt) && !chain.is_closed(&rt));
+    same(&rt, (ring.close(&rt), ring.is_closed(&rt)), (true, true));
+    holds(&rt, !chain.is_closed(&rt));
 }
 
 // The next two also pass where any one allocation is refused: `rt try --test --fail-alloc N`.
@@ -152,8 +163,8 @@ fn a_refused_shared_push_hands_back_the_value_and_changes_nothing(rt: HostRuntim
     for item in 0..100u64 {
         let before = queue.len(&rt);
         if let Err(refused) = queue.push(&rt, item) {
-            assert_eq!(rt; refused, PushError::NoMemory(item));
-            assert_eq!(rt; (queue.len(&rt), queue.is_closed(&rt)), (before, false));
+            same(&rt, refused, PushError::NoMemory(item));
+            same(&rt, (queue.len(&rt), queue.is_closed(&rt)), (before, false));
             force_push(&rt, &queue, item, Ok(None));
         }
     }
@@ -165,10 +176,10 @@ fn a_refused_shared_push_hands_back_the_value_and_changes_nothing(rt: HostRuntim
 #[test]
 fn a_shared_ring_is_refused_whole_or_takes_no_more_memory(rt: HostRuntime) {
     match ConcurrentQueue::<u64>::bounded(rt.alloc(), 4) {
-        Err(refused) => assert_eq!(rt; refused, NoMemory),
+        Err(refused) => same(&rt, refused, NoMemory),
         Ok(queue) => {
             for item in 0..10u64 {
-                assert!(rt; queue.force_push(&rt, item).is_ok());
+                holds(&rt, queue.force_push(&rt, item).is_ok());
             }
             pop(&rt, &queue, Ok(6));
             push(&rt, &queue, 10, Ok(()));
@@ -178,12 +189,8 @@ fn a_shared_ring_is_refused_whole_or_takes_no_more_memory(rt: HostRuntime) {
 
 #[test]
 fn no_shared_ring_has_two_to_the_sixty_places(rt: HostRuntime) {
-    assert!(rt;
-        matches!(
-            ConcurrentQueue::<()>::bounded(rt.alloc(), 1 << 60),
-            Err(NoMemory)
-        )
-    );
+    let refused = ConcurrentQueue::<()>::bounded(rt.alloc(), 1 << 60);
+    holds(&rt, matches!(refused, Err(NoMemory)));
 }
 
 // Adds one to a count when it is dropped.
@@ -204,12 +211,10 @@ fn each_item_left_is_dropped_once(rt: HostRuntime) {
         for _ in 0..8 {
             drop(queue.force_push(&rt, Counted(&drops)));
         }
-        assert_eq!(rt;
-            drops.swap(0, Ordering::SeqCst),
-            8u64.saturating_sub(cap as u64)
-        );
+        let displaced = 8u64.saturating_sub(cap as u64);
+        same(&rt, drops.swap(0, Ordering::SeqCst), displaced);
         drop(queue);
-        assert_eq!(rt; drops.swap(0, Ordering::SeqCst), cap as u64);
+        same(&rt, drops.swap(0, Ordering::SeqCst), cap as u64);
     }
     let chain = ConcurrentQueue::unbounded(rt.alloc());
     for _ in 0..100u64 {
@@ -218,11 +223,11 @@ fn each_item_left_is_dropped_once(rt: HostRuntime) {
     for _ in 0..40u64 {
         drop(chain.pop(&rt));
     }
-    assert!(rt; chain.close(&rt));
+    holds(&rt, chain.close(&rt));
     drop(chain.push(&rt, Counted(&drops)));
-    assert_eq!(rt; drops.load(Ordering::SeqCst), 41);
+    same(&rt, drops.load(Ordering::SeqCst), 41);
     drop(chain);
-    assert_eq!(rt; drops.load(Ordering::SeqCst), 101);
+    same(&rt, drops.load(Ordering::SeqCst), 101);
 }
 
 // A number of which a proof knows that it is even.
@@ -261,41 +266,42 @@ fn walk_to_even<R: Wait>(rt: &R, queue: &ConcurrentQueue<Even>) -> u64
 fn items_keep_what_their_type_promises(rt: HostRuntime) {
     let queue = bounded(&rt, 3);
     for half in [21, 4] {
-        assert!(rt; queue.push(&rt, twice(half)).is_ok());
+        holds(&rt, queue.push(&rt, twice(half)).is_ok());
     }
-    assert_eq!(rt; pop_even(&rt, &queue), 42);
-    assert_eq!(rt; walk_to_even(&rt, &queue), 8);
-    assert_eq!(rt; pop_even(&rt, &queue), 0);
+    same(&rt, pop_even(&rt, &queue), 42);
+    same(&rt, walk_to_even(&rt, &queue), 8);
+    same(&rt, pop_even(&rt, &queue), 0);
 }
 
 #[test]
-fn a_shared_queue_and_its_walk_print_what_they_are(rt: HostRuntime) -> Result<(), Fail> {
+fn a_shared_queue_and_its_walk_print_what_they_are(rt: HostRuntime) {
     let (ring, chain) = (
         bounded(&rt, 4),
         ConcurrentQueue::<u64>::unbounded(rt.alloc()),
     );
     push(&rt, &ring, 'x', Ok(()));
-    assert!(rt; chain.close(&rt));
-    let texts = format!(in rt.alloc(); "{ring:?} {:?}", chain.try_iter(&rt))?;
-    assert_eq!(rt;
-        texts.as_str(),
-        "ConcurrentQueue { len: 1, capacity: Some(4), is_closed: false } \
-         TryIter(ConcurrentQueue { len: 0, capacity: None, is_closed: true })"
+    holds(&rt, chain.close(&rt));
+    debugs(
+        &rt,
+        &ring,
+        "ConcurrentQueue { len: 1, capacity: Some(4), is_closed: false }",
     );
-    Ok(())
+    debugs(
+        &rt,
+        &chain.try_iter(&rt),
+        "TryIter(ConcurrentQueue { len: 0, capacity: None, is_closed: true })",
+    );
 }
 
 #[test]
-fn a_text_waits_for_no_lock(rt: HostRuntime) -> Result<(), Fail> {
+fn a_text_waits_for_no_lock(rt: HostRuntime) {
     let lock = Mutex::new(Unbounded::<u64>::new(rt.alloc()));
     let held = lock.lock(&rt);
-    assert!(rt; Glimpse::of(&lock).is_none());
+    holds(&rt, Glimpse::of(&lock).is_none());
     drop(held);
     match Glimpse::of(&lock) {
-        Some(Glimpse { len, is_closed }) => assert_eq!(rt; (len, is_closed), (0, false)),
-        None => panic!(rt; "the lock was free"),
+        Some(Glimpse { len, is_closed }) => same(&rt, (len, is_closed), (0, false)),
+        None => holds(&rt, false),
     }
-    let text = format!(in rt.alloc(); "{:?}", Locked)?;
-    assert_eq!(rt; text.as_str(), "<locked>");
-    Ok(())
+    debugs(&rt, &Locked, "<locked>");
 }

@@ -1,6 +1,7 @@
 //! `ConcurrentQueue` called by several threads. A thread that goes round more than `MOST_TURNS` times fails its test.
 ghost use Rattle.std.specs.Prelude.{◌<◌};
 
+use crate::words::{holds, same};
 use concurrent_queue::{ConcurrentQueue, PopError, PushError};
 use std::alloc::AllocGlobal;
 use std::process::Abort;
@@ -19,7 +20,7 @@ fn push_number<R: Wait + Abort>(rt: &R, queue: &ConcurrentQueue<u64>, number: u6
     for _ in 0..MOST_TURNS {
         match queue.push(rt, number) {
             Ok(()) => return,
-            Err(refused) => assert!(rt; refused.is_full()),
+            Err(refused) => holds(rt, refused.is_full()),
         }
         thread::yield_now();
     }
@@ -30,7 +31,7 @@ fn pop_number<R: Wait + Abort>(rt: &R, queue: &ConcurrentQueue<u64>) -> u64 {
     for _ in 0..MOST_TURNS {
         match queue.pop(rt) {
             Ok(number) => return number,
-            Err(none) => assert!(rt; none.is_empty()),
+            Err(none) => holds(rt, none.is_empty()),
         }
         thread::yield_now();
     }
@@ -79,11 +80,11 @@ fn hand_over<R: Wait + Abort + AllocGlobal + Threads + Sync>(
     all.sort().expect(rt, "memory");
     let mut want = 0;
     for number in &all {
-        assert_eq!(rt; *number, want);
+        same(rt, *number, want);
         want = number.wrapping_add(1);
     }
-    assert_eq!(rt; want, SHARE.wrapping_mul(pairs as u64));
-    assert_eq!(rt; queue.pop(rt), Err(PopError::Empty));
+    same(rt, want, SHARE.wrapping_mul(pairs as u64));
+    same(rt, queue.pop(rt), Err(PopError::Empty));
 }
 
 #[test]
@@ -166,7 +167,7 @@ pub fn push_until_closed<R: Wait + Abort>(
             }
             Err(PushError::Full(_)) => thread::yield_now(),
             Err(refused) => {
-                assert!(rt; refused.is_closed());
+                holds(rt, refused.is_closed());
                 return next.wrapping_sub(first);
             }
         }
@@ -243,16 +244,16 @@ fn close_once<R: Wait + Abort + AllocGlobal + Threads + Sync>(
             Part::Closed(first) => closers = closers.wrapping_add(u64::from(*first)),
         }
     }
-    assert_eq!(rt; closers, 1);
+    same(rt, closers, 1);
     all.sort().expect(rt, "memory");
     let mut given = all.iter();
     for (count, first) in accepted.iter().zip([0, SECOND]) {
         for number in 0..*count {
-            assert_eq!(rt; given.next(), Some(&number.wrapping_add(first)));
+            same(rt, given.next().copied(), Some(number.wrapping_add(first)));
         }
     }
-    assert_eq!(rt; (given.next(), accepted.len()), (None, 2));
-    assert_eq!(rt; queue.pop(rt), Err(PopError::Closed));
+    same(rt, (given.next().copied(), accepted.len()), (None, 2));
+    same(rt, queue.pop(rt), Err(PopError::Closed));
 }
 
 #[test]

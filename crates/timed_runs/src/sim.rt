@@ -1,10 +1,10 @@
 //! Work of the simulator.
-use crate::fault::Fault;
-use crate::timing::Timing;
+use script::ParseError;
 use simulator::answer;
 use std::alloc::{AllocError, Global};
 use std::rt::Clock;
 use std::time::Instant;
+use workloads::{Fault, Timing};
 
 /// How many futures a script has.
 const FUTURES: u64 = 1000;
@@ -31,11 +31,18 @@ pub fn lines<R: AllocGlobal + Clock>(rt: &R, ops: u64) -> Result<Timing, Fault> 
 
 /// Runs a script, which shows something where it has a command.
 fn play(alloc: Global, script: &[u8]) -> Result<(), Fault> {
-    let shown = answer(alloc, script)?;
+    let shown = answer(alloc, script).map_err(fault)?;
     if shown.is_empty() && script.len() > HEAD.len() {
         return Err(Fault::Refused);
     }
     Ok(())
+}
+
+fn fault(error: ParseError) -> Fault {
+    match error {
+        ParseError::NoMemory => Fault::NoMemory,
+        ParseError::BadLine(_) => Fault::Refused,
+    }
 }
 
 /// The first line of each script.

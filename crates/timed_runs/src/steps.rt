@@ -1,11 +1,10 @@
 //! Work on the step machine.
-use crate::fault::Fault;
-use crate::timing::Timing;
 use executor_core::{Kind, Machine};
 use executor_model::{Answer, Call, Hint, Step, UserEnd};
 use std::alloc::{AllocError, Global};
 use std::rt::Clock;
 use std::time::Instant;
+use workloads::{Fault, Timing};
 
 /// How many futures are in the machine at a time.
 const FUTURES: u64 = 1000;

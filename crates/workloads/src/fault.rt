@@ -1,5 +1,4 @@
-use concurrent_queue::{NoMemory, PopError, PushError};
-use script::ParseError;
+use queue_steps::{NoMemory, PopError, PushError};
 use std::alloc::{AllocError, AllocFailed};
 use std::{fmt, io};
 
@@ -59,15 +58,6 @@ impl<T: Drop> From<AllocFailed<T>> for Fault {
 impl From<NoMemory> for Fault {
     fn from(_error: NoMemory) -> Fault {
         Fault::NoMemory
-    }
-}
-
-impl From<ParseError> for Fault {
-    fn from(error: ParseError) -> Fault {
-        match error {
-            ParseError::NoMemory => Fault::NoMemory,
-            ParseError::BadLine(_) => Fault::Refused,
-        }
     }
 }
 

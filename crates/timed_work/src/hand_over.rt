@@ -1,14 +1,13 @@
 //! Numbers that go from thread to thread through a queue. A thread that finds the queue full or empty lets others run.
-ghost use Rattle.std.specs.Prelude.{◌≡◌, ◌+◌, ◌/◌, ◌%◌, ◌<◌, nat_lt, if◌then◌else◌};
+ghost use Rattle.std.specs.Prelude.{◌<◌};
 
-use crate::fault::Fault;
-use crate::timing::Timing;
 use concurrent_queue::{ConcurrentQueue, PopError, PushError};
 use std::alloc::AllocGlobal;
 use std::rt::Clock;
 use std::sync::Wait;
 use std::thread::{self, Threads};
 use std::time::Instant;
+use workloads::{Fault, Timing, share};
 
 /// Hands over so many numbers from `pairs` threads to as many others, and answers the sum of what came.
 pub fn time<R: AllocGlobal + Clock + Wait + Threads + Sync>(
@@ -34,18 +33,6 @@ pub fn time<R: AllocGlobal + Clock + Wait + Threads + Sync>(
         return Err(Fault::NoMemory);
     }
     Timing::since(rt, start, moved)
-}
-
-/// How many of so many operations one of `parties` does: as many as the others, or one more.
-pub fn share(ops: u64, parties: u64, party: u64) -> u64
-    requires { 0 < parties }
-    ensures { result ≡ ops / parties + (if nat_lt party (ops % parties) then 1 else 0) }
-{
-    if party < ops % parties {
-        ops / parties + 1
-    } else {
-        ops / parties
-    }
 }
 
 // The first half of the parties push their shares, and the others pop as much.

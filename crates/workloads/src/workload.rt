@@ -1,15 +1,5 @@
 ghost use Rattle.std.specs.Prelude.{◌<◌, IfSome};
 
-use crate::fault::Fault;
-use crate::task::Tasks;
-use crate::timing::Timing;
-use crate::{base, hand_over, queue, sim, steps, task};
-use concurrent_queue::{ConcurrentQueue, Exclusive, NoMemory};
-use std::alloc::{AllocGlobal, Global};
-use std::rt::Clock;
-use std::sync::Wait;
-use std::thread::Threads;
-
 /// What `bench` times. Each has a name and a usual number of operations.
 #[derive(Clone, Copy, Debug, PartialEq, Eq)]
 pub enum Workload {
@@ -162,61 +152,8 @@ impl Workload {
         None
     }
 
-    /// Does so many operations. What is worked on is made before the clock starts. Tasks lie in
-    /// the realm.
-    pub fn run<R: AllocGlobal + Clock + Wait + Threads + Sync + Copy + Drop + 'static>(
-        self,
-        rt: &R,
-        realm: &'static Tasks<R>,
-        ops: u64,
-    ) -> Result<Timing, Fault> {
-        let alloc = rt.alloc();
-        match self {
-            Workload::FetchAdd => base::fetch_add(rt, ops),
-            Workload::MutexLock => base::mutex_lock(rt, ops),
-            Workload::SingleExclusive
-            | Workload::Ring8Exclusive
-            | Workload::Ring1024Exclusive
-            | Workload::UnboundedExclusive => queue::push_and_pop_alone(
-                rt,
-                self.queue_of_one(alloc)?,
-                ops,
-            ),
-            Workload::MachineStep => steps::run(rt, ops),
-            Workload::SimLines => sim::lines(rt, ops),
-            Workload::SpawnRun => task::spawn_run(*rt, alloc, realm, ops),
-            Workload::DropHandle => task::drop_handle(*rt, alloc, realm, ops),
-            Workload::WakeRun => task::wake_run(*rt, alloc, realm, ops),
-            Workload::SelfWake => task::self_wake(*rt, alloc, realm, ops),
-            Workload::WakeTwice => task::wake_twice(*rt, alloc, realm, ops),
-            Workload::WakerClone => task::waker_clone(*rt, alloc, realm, ops),
-            Workload::PollPending => task::poll_pending(*rt, alloc, realm, ops),
-            Workload::SelfWakeLocalTask => task::self_wake_alone(rt, alloc, ops),
-            _ => self.run_on_shared_queue(rt, ops),
-        }
-    }
-
-    fn run_on_shared_queue<R: AllocGlobal + Clock + Wait + Threads + Sync>(
-        self,
-        rt: &R,
-        ops: u64,
-    ) -> Result<Timing, Fault> {
-        let queue = self.shared_queue(rt.alloc())?;
-        match self {
-            Workload::Ring1024Burst | Workload::UnboundedBurst => queue::bursts(rt, &queue, ops),
-            Workload::Len => queue::len(rt, &queue, ops),
-            Workload::Ring1024OneToOne | Workload::UnboundedOneToOne => {
-                hand_over::time(rt, &queue, 1, ops)
-            }
-            Workload::Ring1024TwoToTwo | Workload::UnboundedTwoToTwo => {
-                hand_over::time(rt, &queue, 2, ops)
-            }
-            _ => queue::push_and_pop(rt, &queue, ops),
-        }
-    }
-
     /// The capacity of the queue that it works on, where it works on one that has a limit.
-    fn capacity(self) -> Option<usize>
+    pub fn capacity(self) -> Option<usize>
         ensures { IfSome result (λ capacity. 0 < capacity) }
     {
         match self {
@@ -229,20 +166,6 @@ impl Workload {
             | Workload::Ring1024TwoToTwo
             | Workload::Ring1024Exclusive => Some(1024),
             _ => None,
-        }
-    }
-
-    fn shared_queue(self, alloc: Global) -> Result<ConcurrentQueue<u64>, NoMemory> {
-        match self.capacity() {
-            Some(capacity) => ConcurrentQueue::bounded(alloc, capacity),
-            None => Ok(ConcurrentQueue::unbounded(alloc)),
-        }
-    }
-
-    fn queue_of_one(self, alloc: Global) -> Result<Exclusive<u64>, NoMemory> {
-        match self.capacity() {
-            Some(capacity) => Exclusive::bounded(alloc, capacity),
-            None => Ok(Exclusive::unbounded(alloc)),
         }
     }
 }

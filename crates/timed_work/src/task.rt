@@ -1,6 +1,4 @@
 //! Work on tasks in one thread. The realm is handed in: one of them is enough for all.
-use crate::fault::Fault;
-use crate::timing::Timing;
 use async_task::local_task::{Settled, Start};
 use async_task::{
     Awaiter, Back, Future, LocalTask, Nobody, Poll, Realm, Schedule, ScheduleInfo, Scheduled,
@@ -11,6 +9,7 @@ use std::alloc::Global;
 use std::rt::Clock;
 use std::sync::{Arc, Wait};
 use std::time::Instant;
+use workloads::{Fault, Timing};
 
 /// A future.
 #[derive(Debug, Drop)]

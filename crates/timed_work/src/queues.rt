@@ -1,0 +1,50 @@
+use crate::{hand_over, queue};
+use concurrent_queue::{ConcurrentQueue, Exclusive, NoMemory};
+use std::alloc::{AllocGlobal, Global};
+use std::rt::Clock;
+use std::sync::Wait;
+use std::thread::Threads;
+use workloads::{Fault, Timing, Workload};
+
+/// Does so many operations on a queue of one owner, of the capacity that the workload works on.
+pub fn on_queue_of_one<R: AllocGlobal + Clock>(
+    workload: Workload,
+    rt: &R,
+    ops: u64,
+) -> Result<Timing, Fault> {
+    queue::push_and_pop_alone(rt, queue_of_one(workload, rt.alloc())?, ops)
+}
+
+/// Does so many operations of the workload on a queue that threads share.
+pub fn on_shared_queue<R: AllocGlobal + Clock + Wait + Threads + Sync>(
+    workload: Workload,
+    rt: &R,
+    ops: u64,
+) -> Result<Timing, Fault> {
+    let queue = shared_queue(workload, rt.alloc())?;
+    match workload {
+        Workload::Ring1024Burst | Workload::UnboundedBurst => queue::bursts(rt, &queue, ops),
+        Workload::Len => queue::len(rt, &queue, ops),
+        Workload::Ring1024OneToOne | Workload::UnboundedOneToOne => {
+            hand_over::time(rt, &queue, 1, ops)
+        }
+        Workload::Ring1024TwoToTwo | Workload::UnboundedTwoToTwo => {
+            hand_over::time(rt, &queue, 2, ops)
+        }
+        _ => queue::push_and_pop(rt, &queue, ops),
+    }
+}
+
+fn shared_queue(workload: Workload, alloc: Global) -> Result<ConcurrentQueue<u64>, NoMemory> {
+    match workload.capacity() {
+        Some(capacity) => ConcurrentQueue::bounded(alloc, capacity),
+        None => Ok(ConcurrentQueue::unbounded(alloc)),
+    }
+}
+
+fn queue_of_one(workload: Workload, alloc: Global) -> Result<Exclusive<u64>, NoMemory> {
+    match workload.capacity() {
+        Some(capacity) => Exclusive::bounded(alloc, capacity),
+        None => Ok(Exclusive::unbounded(alloc)),
+    }
+}

@@ -1,0 +1,36 @@
+use crate::{ALL, Line, Workload, share};
+use std::test::Fail;
+use std::time::Duration;
+
+#[test]
+fn a_name_names_one_workload(rt: HostRuntime) {
+    for workload in ALL {
+        assert_eq!(rt; Workload::named(workload.name()), Some(workload));
+    }
+    assert_eq!(rt; Workload::named("queue/none"), None);
+}
+
+#[test]
+fn a_line_has_the_seconds_and_the_nanoseconds_of_one_operation(
+    rt: HostRuntime,
+) -> Result<(), Fail> {
+    let line = Line {
+        name: "queue/single",
+        ops: 4_000_000,
+        took: Duration::from_micros(1_250_100),
+    };
+    let text = format!(in rt.alloc(); "{line}")?;
+    assert_eq!(rt; text.as_str(), "queue/single 4000000 1.250 312.5");
+    Ok(())
+}
+
+#[test]
+fn shares_add_up(rt: HostRuntime) {
+    for (ops, parties) in [(0, 1), (7, 2), (8, 2), (9, 4)] {
+        let mut sum = 0u64;
+        for party in 0..parties {
+            sum = sum.wrapping_add(share(ops, parties, party));
+        }
+        assert_eq!(rt; sum, ops);
+    }
+}

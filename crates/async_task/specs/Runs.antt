@@ -9,18 +9,12 @@ use Rattle.async_task.specs.declared.waker.Awaiter.{Awaiter}
 use Rattle.async_task.specs.declared.waker.Awaiter.TheVariants.{Task, Outside}
 use Rattle.async_task.specs.Handles.{Handle}
 use Rattle.async_task.specs.declared.runnable.RunEnd.TheVariants.{Over, Drop}
-use Rattle.async_task.specs.declared.sections.debts.Ended.{Ended}
-use Rattle.async_task.specs.Sections.{ended_of}
-use Rattle.task_moves.specs.declared.schedule_info.ScheduleInfo.{ScheduleInfo}
+use Rattle.task_sections.specs.declared.sections.debts.Ended.{Ended}
+use Rattle.task_sections.specs.Sections.{ended_of}
 use Rattle.task_moves.specs.declared.local_task.answers.Back.{Back}
 use Rattle.task_moves.specs.declared.local_task.answers.Settled.{Settled}
 use Rattle.task_moves.specs.declared.local_task.answers.Settled.TheVariants.{Queue, Drop as DropFuture}
 use Rattle.task_moves.specs.LocalTask.{LocalValue, settle_answer}
-
--- what the schedule value is told, where the task goes to it
-abbrev pub was_woken : Option ScheduleInfo → Bool
-was_woken (Some info) = info.woken_while_running
-was_woken None = false
 
 -- the section of the end of a poll, on some task
 abbrev pub EndsPoll : {F T W : Type 0} → Back F T → Ended F T (Kept W) → Type 0

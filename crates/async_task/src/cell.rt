@@ -5,7 +5,7 @@ mod turns;
 
 pub(crate) use crate::cell::paying::pay_due;
 pub use crate::cell::scheduled::{Due, Scheduled, StoredRunnable, StoredWaker};
-use crate::realm::{Places, share};
+use crate::realm::{Cells, share};
 use std::alloc::{AllocFailed, Global};
 use std::marker::Model;
 use std::sync::{Arc, Mutex, Wait};
@@ -23,7 +23,7 @@ pub struct Cell<F, T, S, M, W> {
 
 /// Where the cells of tasks of these types lie: futures `F` with outputs `T`, schedule values `S`,
 /// metadata `M`, and wakers `W` from outside. `Realm::leak` makes one.
-pub type Realm<F, T, S, M, W> = Places<Cell<F, T, S, M, W>>;
+pub type Realm<F, T, S, M, W> = Cells<Cell<F, T, S, M, W>>;
 
 /// Which task: the number of its realm, and its place there.
 #[derive(Clone, Copy, Debug, PartialEq, Eq)]

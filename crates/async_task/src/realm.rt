@@ -12,30 +12,30 @@ use std::alloc::Global;
 use std::boxed::Box;
 use std::sync::{Arc, Wait};
 
-/// The places of all cells of one type. It lives as long as the program, so that handles may go
-/// anywhere. The place of a task that is over is used again; the memory of places is never given
-/// back. A look-up takes the lock of its place alone.
+/// All cells of one type, each at its place. They lie there as long as the program runs, so that
+/// handles may go anywhere. The place of a task that is over is used again; the memory of places is
+/// never given back. A look-up takes the lock of its place alone.
 ///
 /// It stands where the Rust crate has a raw pointer from each handle to its task.
 #[derive(Drop)]
-pub struct Places<C> {
+pub struct Cells<C> {
     number: u64,
     pages: Pages<C>,
 }
 
-impl<C: Drop> Places<C> {
-    /// New places. One program gives different numbers to any two of them: by its number a task
+impl<C: Drop> Cells<C> {
+    /// No cells yet. One program gives different numbers to any two of these: by its number a task
     /// knows whether a waker is of a task that lies here too.
     pub fn new(alloc: Global, number: u64) -> Result<Self, NoMemory>
-        ensures { IfOk result (λ places. places.number ≡ number) }
+        ensures { IfOk result (λ cells. cells.number ≡ number) }
     {
         match Pages::new(alloc) {
-            Ok(pages) => Ok(Places { number, pages }),
+            Ok(pages) => Ok(Cells { number, pages }),
             Err(_) => Err(NoMemory),
         }
     }
 
-    /// The number that the places were made with.
+    /// The number that they were made with.
     pub fn number(&self) -> u64
         ensures { result ≡ self.now.number }
     {
@@ -77,17 +77,17 @@ impl<C: Drop> Places<C> {
     }
 }
 
-impl<C: Drop> Places<C> {
-    /// New places, for as long as the program runs.
+impl<C: Drop> Cells<C> {
+    /// No cells yet, for as long as the program runs.
     pub fn leak<'r>(alloc: Global, number: u64) -> Result<&'r Self, NoMemory>
     where
         C: 'r,
-        ensures { IfOk result (λ places. places.now.number ≡ number) }
+        ensures { IfOk result (λ cells. cells.now.number ≡ number) }
     {
-        let Ok(places) = Box::new(alloc, Places::new(alloc, number)?) else {
+        let Ok(cells) = Box::new(alloc, Cells::new(alloc, number)?) else {
             return Err(NoMemory);
         };
-        Ok(Box::leak(places))
+        Ok(Box::leak(cells))
     }
 }
 

@@ -1,7 +1,7 @@
 //! The calls of wakers of each kind, and of the values around a task.
 use crate::calls::{Stage, holds, same, there};
 use crate::parts::Tasks;
-use async_task::{Awaiter, Nobody, Places, Schedule, ScheduleInfo, Wake, WithInfo};
+use async_task::{Awaiter, Cells, Nobody, Schedule, ScheduleInfo, Wake, WithInfo};
 use std::sync::atomic::AtomicU64;
 use std::sync::atomic::Ordering::SeqCst;
 use std::test::Fail;
@@ -47,8 +47,8 @@ fn nobody_is_copied_and_wakes_nobody(rt: HostRuntime) {
 
 #[test]
 fn a_realm_has_the_number_that_it_was_made_with(rt: HostRuntime) -> Result<(), Fail> {
-    let places: Places<u64> = Places::new(rt.alloc(), 3)?;
-    same(&rt, places.number(), 3);
+    let cells: Cells<u64> = Cells::new(rt.alloc(), 3)?;
+    same(&rt, cells.number(), 3);
     Ok(())
 }
 

@@ -1,7 +1,8 @@
 //! What is done once the lock of a cell is given back, in the order of `Debts`. All code of a user
 //! that a move leads to is called here.
 ghost use Rattle.std.specs.Prelude.{IfSome};
-ghost use Rattle.async_task.specs.Due.{WasIdle, IsDueBy};
+ghost use Rattle.async_task.specs.Due.{IsDueBy};
+ghost use Rattle.task_sections.specs.Sections.{WasIdle};
 
 use crate::cell::scheduled::{Due, Scheduled};
 use crate::cell::{Held, Kept};

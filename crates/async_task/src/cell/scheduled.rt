@@ -1,5 +1,5 @@
 ghost use Rattle.std.specs.Prelude.{◌≡◌, IfSome};
-ghost use Rattle.async_task.specs.Due.{WasIdle};
+ghost use Rattle.task_sections.specs.Sections.{WasIdle};
 
 use crate::cell::{Held, Identity, Realm};
 use crate::runnable::Runnable;

@@ -1,7 +1,7 @@
 //! Each call of a handle takes its cell's lock, makes the section of its name, and gives the lock
 //! back. What the section leaves to be done is the answer.
 ghost use Rattle.std.specs.Prelude.{IfSome};
-ghost use Rattle.async_task.specs.Due.{WasIdle};
+ghost use Rattle.task_sections.specs.Sections.{WasIdle};
 
 use crate::cell::{Held, Kept};
 use crate::schedule::ScheduleInfo;

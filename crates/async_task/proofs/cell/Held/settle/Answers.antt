@@ -1,8 +1,8 @@
 use Rattle.std.proofs.Common.{◌≡◌, Option, Some, None}
 use Rattle.async_task.specs.Runs.{EndsPoll}
-use Rattle.async_task.specs.Sections.{Found, ended_of}
+use Rattle.task_sections.specs.Sections.{Found, ended_of}
 use Rattle.async_task.specs.declared.cell.Kept.{Kept}
-use Rattle.async_task.specs.declared.sections.debts.Ended.{Ended}
+use Rattle.task_sections.specs.declared.sections.debts.Ended.{Ended}
 use Rattle.task_moves.specs.LocalTask.{LocalValue}
 use Rattle.task_moves.specs.declared.local_task.answers.Back.{Back}
 use Rattle.async_task.proofs.cell.Held.settle.Goals as goal

@@ -1,5 +1,5 @@
 ghost use Rattle.std.specs.Prelude.{◌≡◌};
-ghost use Rattle.async_task.specs.Runs.{was_woken};
+ghost use Rattle.task_sections.specs.Sections.{was_woken};
 
 use task_moves::ScheduleInfo;
 use task_moves::local_task::{Finish, LocalTask};

@@ -1,6 +1,6 @@
 use Rattle.std.proofs.Common.{◌≡◌, ◌∙◌, ap}
-use Rattle.async_task.specs.Sections.{kept_of, settled}
-use Rattle.async_task.proofs.sections.settle.Goals as goal
+use Rattle.task_sections.specs.Sections.{kept_of, settled}
+use Rattle.task_sections.proofs.sections.settle.Goals as goal
 
 pub returns-in-Finish-clause-left : goal.returns-in-Finish-clause-left
 returns-in-Finish-clause-left g c =

@@ -6,21 +6,21 @@
 //! A section asks first, and waits for ever where it weren't.
 ghost use Rattle.std.specs.Prelude.{◌≡◌, ◌<◌, ◌^◌, ◌↔◌, true, false, not, if◌then◌else◌};
 ghost use Rattle.std.specs.Prelude.{IsTrue, IsSome, IfSome, Some, None};
-ghost use Rattle.async_task.specs.Due.{WasIdle};
+ghost use Rattle.task_sections.specs.Sections.{WasIdle};
 ghost use Rattle.task_moves.specs.declared.local_task.answers.Place.TheVariants.{Home};
-ghost use Rattle.async_task.specs.declared.sections.debts.Ended.TheVariants.{Over};
+ghost use Rattle.task_sections.specs.declared.sections.debts.Ended.TheVariants.{Over};
 ghost use Rattle.task_moves.specs.AbstractTask as abstract;
 ghost use Rattle.task_moves.specs.LocalTask as local;
 ghost use Rattle.task_moves.specs.LocalTask.{with_task, info_of, finish_answer, finish_answer_by};
-ghost use Rattle.async_task.specs.Sections.{Found, kept_of, emptied_of, ended_of, at_once_answer};
-ghost use Rattle.async_task.specs.Sections.{released, woken_and_released, begun, retracted, settled};
-ghost use Rattle.async_task.specs.Sections.{finished, cancelled, detached, polled, polled_at_once};
+ghost use Rattle.task_sections.specs.Sections.{Found, kept_of, emptied_of, ended_of, at_once_answer};
+ghost use Rattle.task_sections.specs.Sections.{released, woken_and_released, begun, retracted, settled};
+ghost use Rattle.task_sections.specs.Sections.{finished, cancelled, detached, polled, polled_at_once};
 
 mod debts;
 
-use crate::schedule::ScheduleInfo;
 pub use crate::sections::debts::{Debts, Ended, Released};
 use std::sync::Wait;
+use task_moves::ScheduleInfo;
 use task_moves::local_task::{Back, Finish, LocalTask, Polled, Settled, Start};
 use task_moves::moves::State;
 

@@ -1,18 +1,28 @@
 -- What a section of a cell's lock does with what stands under it: the call of a task with one owner that has its name.
 -- Nothing stands there once nobody can reach the task.
-use Rattle.std.specs.Prelude.{Bool, true, ◌&&◌, not, if◌then◌else◌, Option, Some, None, Result, Ok, Err}
+use Rattle.std.specs.Prelude.{◌≡◌, Bool, true, false, ◌&&◌, not, if◌then◌else◌, Option, Some, None, Result, Ok, Err}
 use Rattle.task_moves.specs.declared.local_task.answers.Place.TheVariants.{Dropping, Gone}
 use Rattle.task_moves.specs.declared.local_task.answers.Back.{Back}
 use Rattle.task_moves.specs.declared.local_task.answers.Settled.{Settled}
 use Rattle.task_moves.specs.declared.local_task.answers.Settled.TheVariants.{Finish as FinishTask, Queue, Rest, Drop as DropFuture}
 use Rattle.task_moves.specs.declared.local_task.answers.Finish.TheVariants.{Nothing}
-use Rattle.async_task.specs.declared.sections.debts.Ended.{Ended}
-use Rattle.async_task.specs.declared.sections.debts.Ended.TheVariants.{Over, Drop as DropFirst}
+use Rattle.task_sections.specs.declared.sections.debts.Ended.{Ended}
+use Rattle.task_sections.specs.declared.sections.debts.Ended.TheVariants.{Over, Drop as DropFirst}
 use Rattle.task_moves.specs.declared.local_task.answers.Polled.{Polled as PollAnswer}
+use Rattle.task_moves.specs.declared.schedule_info.ScheduleInfo.{ScheduleInfo}
 use Rattle.task_moves.specs.AbstractTask as abstract
 use Rattle.task_moves.specs.AbstractTask.{AbstractTask}
 use Rattle.task_moves.specs.LocalTask as local
 use Rattle.task_moves.specs.LocalTask.{LocalValue, told, with_task, started, must_wait, poll_answer, is_unreachable, is_dropping, finish_answer_by}
+
+-- the task wasn't woken while it was polled
+abbrev pub WasIdle : ScheduleInfo → Type 0
+WasIdle info = info.woken_while_running ≡ false
+
+-- what the schedule value is told, where the task goes to it
+abbrev pub was_woken : Option ScheduleInfo → Bool
+was_woken (Some info) = info.woken_while_running
+was_woken None = false
 
 module _ {T A : Type 0} where
   -- what a poll answers that would hand the waker back where it has to wait

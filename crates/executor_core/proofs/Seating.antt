@@ -1,14 +1,14 @@
 -- How the entries of the machine's futures follow their numbers.
 use Rattle.std.proofs.Common.{◌≡◌, ◌≢◌, ℕ, zero, suc, ◌+◌, ◌<◌, ◌≤◌, Bool, true, false, eqb, List, [], ◌∷◌, ◌++◌, length, map, get_or, set, Option, Some, None, IfSome, IfNone, is_some, refl, sym, ap, ◌∙◌, subst, inl, inr, arith, length-append, length-set}
-use Rattle.std.proofs.lemmas.Bool.{cases_eq}
+use Rattle.std.proofs.lemmas.Bool.{cases_eq, false≢true}
 use Rattle.std.proofs.lemmas.Bool.Decides.{nat_tests}
 use Rattle.std.proofs.lemmas.List.{get_or_append_left, get_or_push, get_or_read}
 use Rattle.executor_model.specs.World.{without, among}
 use Rattle.executor_core.specs.declared.entries.Seat.{Seat}
 use Rattle.executor_core.specs.Order.{IsIn, IsApart}
 use Rattle.executor_core.specs.Places.{Entry, entry_at, without_entry, with_future, waker_of}
-use Rattle.executor_core.specs.Entered.{no_seat, key_of, AreSeated, futures_of}
-use Rattle.executor_core.proofs.Cells.{among_no, among_yes, without_no, without_yes}
+use Rattle.executor_core.specs.Entered.{no_seat, key_of, AreSeated, futures_of, present_by, present_of}
+use Rattle.executor_core.proofs.Cells.{among_no, among_yes, without_no, without_yes, without_none}
 
 module _ {F : Type 0} where
   -- one cell of a list of entries, by its key
@@ -125,6 +125,116 @@ module _ {F : Type 0} where
             ap futures_of (went_past k e es differs)
             ∙ ap (λ (fs : List ℕ). e.waker ∷ fs) (futures_without seats f k es seated.2 here (sym (ap waker_of (at_past k e es differs)) ∙ found))
             ∙ sym (without_no f e.waker (futures_of es) other)
+      ]
+
+  -- ---- the futures that are there
+
+  -- one cell of a list of present futures
+  among_past : (f w : ℕ) (future : Option F) (rest : List ℕ) → w ≢ f → among f (present_by future w rest) ≡ among f rest
+  among_past f w None rest differs = refl
+  among_past f w (Some x) rest differs = among_no f w rest differs
+
+  among_after : (g w : ℕ) (future : Option F) (xs ys : List ℕ) → among g xs ≡ among g ys → among g (present_by future w xs) ≡ among g (present_by future w ys)
+  among_after g w None xs ys same = same
+  among_after g w (Some x) xs ys same =
+      elim (cases_eq w g) [
+        | inl here ↦ among_yes g w xs here ∙ sym (among_yes g w ys here)
+        | inr past ↦ among_no g w xs past ∙ same ∙ sym (among_no g w ys past)
+      ]
+
+  without_past : (f w : ℕ) (future : Option F) (rest : List ℕ) → w ≢ f → without f (present_by future w rest) ≡ present_by future w (without f rest)
+  without_past f w None rest differs = refl
+  without_past f w (Some x) rest differs = without_no f w rest differs
+
+  without_here : (f w : ℕ) (future : Option F) (rest : List ℕ) → w ≡ f → among f rest ≡ false → without f (present_by future w rest) ≡ rest
+  without_here f w None rest same absent = without_none f rest absent
+  without_here f w (Some x) rest same absent = without_yes f w rest same
+
+  pub none_present : (f : ℕ) (es : List (Entry F ℕ)) → among f (futures_of es) ≡ false → among f (present_of es) ≡ false
+  none_present f [] absent = refl
+  none_present f (e ∷ es) absent =
+      elim (cases_eq e.waker f) [
+        | inl same ↦ absurd (false≢true (sym absent ∙ among_yes f e.waker (futures_of es) same))
+        | inr differs ↦ among_past f e.waker e.future (present_of es) differs ∙ none_present f es (sym (among_no f e.waker (futures_of es) differs) ∙ absent)
+      ]
+
+  pub without_absent : (f : ℕ) (es : List (Entry F ℕ)) → among f (futures_of es) ≡ false → present_of es ≡ without f (present_of es)
+  without_absent f es absent = sym (without_none f (present_of es) (none_present f es absent))
+
+  pub present_push : (es : List (Entry F ℕ)) (k : ℕ) (x : F) (w : ℕ) → present_of (es ++ record { key = k; future = Some x; waker = w } ∷ []) ≡ present_of es ++ w ∷ []
+  present_push [] k x w = refl
+  present_push (e ∷ es) k x w = ap (present_by e.future e.waker) (present_push es k x w) ∙ after e.future
+    where
+      after : (future : Option F) → present_by future e.waker (present_of es ++ w ∷ []) ≡ present_by future e.waker (present_of es) ++ w ∷ []
+      after None = refl
+      after (Some y) = refl
+
+  -- the other entries are of other futures
+  rest_absent : (seats : List Seat) (f : ℕ) (e : Entry F ℕ) (es : List (Entry F ℕ)) → AreSeated seats es → IsApart (map (λ (x : Entry F ℕ). x.key) (e ∷ es)) → e.key ≡ key_of seats f → among f (futures_of es) ≡ false
+  rest_absent seats f e es seated apart here =
+      not_among seats f es seated apart.1 (λ found.
+      let none : entry_at (key_of seats f) es ≡ None = none_at (key_of seats f) es (λ there. apart.0 (subst (λ k. IsIn k (map (λ (x : Entry F ℕ). x.key) es)) (sym here) there)) in
+      let no : None ≡ Some f = sym (ap waker_of none) ∙ found in absurd (cc))
+
+  pub present_without : (seats : List Seat) (f k : ℕ) (es : List (Entry F ℕ)) → AreSeated seats es → IsApart (map (λ (x : Entry F ℕ). x.key) es) → k ≡ key_of seats f → waker_of (entry_at k es) ≡ Some f → present_of (without_entry k es) ≡ without f (present_of es)
+  present_without seats f k [] seated apart here found = absurd (cc)
+  present_without seats f k (e ∷ es) seated apart here found =
+      elim (cases_eq e.key k) [
+        | inl same ↦
+            let w : Some e.waker ≡ Some f = sym (ap waker_of (at_here k e es same)) ∙ found in
+            let waker : e.waker ≡ f = cc in
+            ap present_of (went_here k e es same) ∙ sym (without_here f e.waker e.future (present_of es) waker (none_present f es (rest_absent seats f e es seated.2 apart (same ∙ here))))
+        | inr differs ↦
+            let other : e.waker ≢ f = λ same. differs (sym seated.1 ∙ ap (key_of seats) same ∙ sym here) in
+            ap present_of (went_past k e es differs)
+            ∙ ap (present_by e.future e.waker) (present_without seats f k es seated.2 apart.1 here (sym (ap waker_of (at_past k e es differs)) ∙ found))
+            ∙ sym (without_past f e.waker e.future (present_of es) other)
+      ]
+
+  pub present_out : (seats : List Seat) (f k : ℕ) (es : List (Entry F ℕ)) → AreSeated seats es → IsApart (map (λ (x : Entry F ℕ). x.key) es) → k ≡ key_of seats f → waker_of (entry_at k es) ≡ Some f → present_of (with_future k None es) ≡ without f (present_of es)
+  present_out seats f k [] seated apart here found = absurd (cc)
+  present_out seats f k (e ∷ es) seated apart here found =
+      elim (cases_eq e.key k) [
+        | inl same ↦
+            let w : Some e.waker ≡ Some f = sym (ap waker_of (at_here k e es same)) ∙ found in
+            let waker : e.waker ≡ f = cc in
+            ap present_of (with_here k None e es same) ∙ sym (without_here f e.waker e.future (present_of es) waker (none_present f es (rest_absent seats f e es seated.2 apart (same ∙ here))))
+        | inr differs ↦
+            let other : e.waker ≢ f = λ same. differs (sym seated.1 ∙ ap (key_of seats) same ∙ sym here) in
+            ap present_of (with_past k None e es differs)
+            ∙ ap (present_by e.future e.waker) (present_out seats f k es seated.2 apart.1 here (sym (ap waker_of (at_past k e es differs)) ∙ found))
+            ∙ sym (without_past f e.waker e.future (present_of es) other)
+      ]
+
+  pub present_back : (seats : List Seat) (f k : ℕ) (x : F) (es : List (Entry F ℕ)) → AreSeated seats es → k ≡ key_of seats f → waker_of (entry_at k es) ≡ Some f → among f (present_of (with_future k (Some x) es)) ≡ true
+  present_back seats f k x [] seated here found = absurd (cc)
+  present_back seats f k x (e ∷ es) seated here found =
+      elim (cases_eq e.key k) [
+        | inl same ↦
+            let w : Some e.waker ≡ Some f = sym (ap waker_of (at_here k e es same)) ∙ found in
+            let waker : e.waker ≡ f = cc in
+            ap (λ (xs : List (Entry F ℕ)). among f (present_of xs)) (with_here k (Some x) e es same) ∙ among_yes f e.waker (present_of es) waker
+        | inr differs ↦
+            let other : e.waker ≢ f = λ same. differs (sym seated.1 ∙ ap (key_of seats) same ∙ sym here) in
+            ap (λ (xs : List (Entry F ℕ)). among f (present_of xs)) (with_past k (Some x) e es differs)
+            ∙ among_past f e.waker e.future (present_of (with_future k (Some x) es)) other
+            ∙ present_back seats f k x es seated.2 here (sym (ap waker_of (at_past k e es differs)) ∙ found)
+      ]
+
+  pub others_present : (f g k : ℕ) (future : Option F) (es : List (Entry F ℕ)) → waker_of (entry_at k es) ≡ Some f → g ≢ f → among g (present_of (with_future k future es)) ≡ among g (present_of es)
+  others_present f g k future [] found other = refl
+  others_present f g k future (e ∷ es) found other =
+      elim (cases_eq e.key k) [
+        | inl same ↦
+            let w : Some e.waker ≡ Some f = sym (ap waker_of (at_here k e es same)) ∙ found in
+            let waker : e.waker ≡ f = cc in
+            let apart : e.waker ≢ g = λ here. other (sym here ∙ waker) in
+            ap (λ (xs : List (Entry F ℕ)). among g (present_of xs)) (with_here k future e es same)
+            ∙ among_past g e.waker future (present_of es) apart
+            ∙ sym (among_past g e.waker e.future (present_of es) apart)
+        | inr differs ↦
+            ap (λ (xs : List (Entry F ℕ)). among g (present_of xs)) (with_past k future e es differs)
+            ∙ among_after g e.waker e.future _ _ (others_present f g k future es (sym (ap waker_of (at_past k e es differs)) ∙ found) other)
       ]
 
 -- ---- lists of seats

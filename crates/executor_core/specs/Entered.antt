@@ -1,5 +1,5 @@
 -- What a contract sees of the entries of the machine's futures, and how they lie.
-use Rattle.std.specs.Prelude.{◌≡◌, ℕ, ◌<◌, Bool, false, List, [], ◌∷◌, length, map, slice_index_or}
+use Rattle.std.specs.Prelude.{◌≡◌, ℕ, ◌<◌, Bool, false, List, [], ◌∷◌, length, map, slice_index_or, Option, Some, None}
 use Rattle.executor_core.specs.declared.entries.Seat.{Seat}
 use Rattle.executor_core.specs.Places.{Entry}
 
@@ -8,6 +8,8 @@ pub record Entered : Type 0 where
   pub table : List ℕ
   -- those that the executor's drop has taken out, in that order
   pub leaving : List ℕ
+  -- those of the table whose future is there, in that order
+  pub present : List ℕ
   -- of each future that was accepted: it is in its place
   pub inside : List Bool
   -- one more future may enter without memory
@@ -29,3 +31,13 @@ AreSeated seats (e ∷ es) = (e.waker < length seats) × (key_of seats e.waker �
 -- the futures of these entries
 abbrev pub futures_of : {F : Type 0} → List (Entry F ℕ) → List ℕ
 futures_of es = map (λ e. e.waker) es
+
+-- before these, where its future is there
+abbrev pub present_by : {F : Type 0} → Option F → ℕ → List ℕ → List ℕ
+present_by None f rest = rest
+present_by (Some future) f rest = f ∷ rest
+
+-- those of these entries whose future is there
+abbrev pub present_of : {F : Type 0} → List (Entry F ℕ) → List ℕ
+present_of [] = []
+present_of (e ∷ es) = present_by e.future e.waker (present_of es)

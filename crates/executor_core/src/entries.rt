@@ -1,7 +1,8 @@
 //! The entries of the machine's futures, by the numbers of these.
-ghost use Rattle.std.specs.Prelude.{◌≡◌, ℕ, ◌<◌, ◌==◌, ◌++◌, true, false, List, [], ◌∷◌, length, slice_set, OnOk, IfSome, IfNone, Some, vec_len};
+ghost use Rattle.std.specs.Prelude.{◌≡◌, ◌≢◌, ℕ, ◌<◌, ◌==◌, ◌++◌, true, false, List, [], ◌∷◌, length, slice_set, OnOk, IsOk, IfSome, IfNone, Some, map, vec_len};
 ghost use Rattle.executor_model.specs.World.{without, among};
-ghost use Rattle.executor_core.specs.Entered.{AreSeated, futures_of, key_of};
+ghost use Rattle.executor_core.specs.Entered.{AreSeated, futures_of, key_of, present_of};
+ghost use Rattle.executor_core.specs.Order.{IsApart};
 ghost use Rattle.executor_core.specs.Places.{entry_at, waker_of};
 
 use crate::places::Places;
@@ -28,13 +29,14 @@ struct Seat {
 
 impl Model for Entries {
     ghost use Rattle.std.specs.Prelude.{map, nat_lt, ◌&&◌, vec_len, vec_capacity};
-    ghost use Rattle.executor_core.specs.Entered.{Entered, AreSeated, futures_of};
+    ghost use Rattle.executor_core.specs.Entered.{Entered, AreSeated, futures_of, present_of};
 
     ghost Value = { Entered };
 
     ghost view = { λ e. record {
       table = futures_of e.table.entries;
       leaving = futures_of e.leaving.entries;
+      present = present_of e.table.entries;
       inside = map (λ s. s.inside) e.seats.items;
       has_room = e.table.has_room && nat_lt (vec_len e.seats) (vec_capacity e.seats);
     } };
@@ -48,6 +50,7 @@ fn find(table: &Places<(), u64>, seats: &Vec<Seat>, f: u64) -> Option<usize>
     ensures known { IfSome result (λ key. f < vec_len seats.now) }
     ensures here { IfSome result (λ key. key ≡ key_of seats.now.items f) }
     ensures found { IfSome result (λ key. waker_of (entry_at key table.now.entries) ≡ Some f) }
+    ensures apart { IfSome result (λ key. IsApart (map (λ e. e.key) table.now.entries)) }
     ensures absent { IfNone result (among f (futures_of table.now.entries) ≡ false) }
 {
     if f >= seats.len() as u64 {
@@ -61,10 +64,42 @@ fn find(table: &Places<(), u64>, seats: &Vec<Seat>, f: u64) -> Option<usize>
     if *waker == f { Some(key) } else { None }
 }
 
+/// The future is taken out of its entry, where it has one.
+fn take_from(table: &mut Places<(), u64>, seats: &Vec<Seat>, f: u64)
+    requires { AreSeated seats.now.items table.old.entries }
+    ensures seated { AreSeated seats.now.items table.new.entries }
+    ensures futures { futures_of table.new.entries ≡ futures_of table.old.entries }
+    ensures out { present_of table.new.entries ≡ without f (present_of table.old.entries) }
+    ensures room { table.new.has_room ≡ table.old.has_room }
+{
+    let key = match find(table, seats, f) {
+        Some(key) => key,
+        None => return,
+    };
+    table.take(key);
+}
+
+/// The future is put back into its entry, where it has one.
+fn put_into(table: &mut Places<(), u64>, seats: &Vec<Seat>, f: u64)
+    requires { AreSeated seats.now.items table.old.entries }
+    ensures seated { AreSeated seats.now.items table.new.entries }
+    ensures futures { futures_of table.new.entries ≡ futures_of table.old.entries }
+    ensures back { among f (present_of table.new.entries) ≡ among f (futures_of table.old.entries) }
+    ensures others { (g : ℕ) → g ≢ f → among g (present_of table.new.entries) ≡ among g (present_of table.old.entries) }
+    ensures room { table.new.has_room ≡ table.old.has_room }
+{
+    let key = match find(table, seats, f) {
+        Some(key) => key,
+        None => return,
+    };
+    table.put_back(key, ());
+}
+
 impl Entries {
     pub fn new(alloc: Global) -> Entries
         ensures table { result.table ≡ [] }
         ensures leaving { result.leaving ≡ [] }
+        ensures present { result.present ≡ [] }
         ensures inside { result.inside ≡ [] }
     {
         Entries {
@@ -74,12 +109,14 @@ impl Entries {
         }
     }
 
-    /// Makes room for one more future.
+    /// Makes room for one more future. Where there is room it succeeds.
     pub fn reserve(&mut self) -> Result<(), AllocError>
         ensures table { self.new.table ≡ self.old.table }
         ensures leaving { self.new.leaving ≡ self.old.leaving }
         ensures inside { self.new.inside ≡ self.old.inside }
+        ensures present { self.new.present ≡ self.old.present }
         ensures room { OnOk result (self.new.has_room ≡ true) }
+        ensures succeeds { self.old.has_room ≡ true → IsOk result }
     {
         self.seats.reserve(1)?;
         self.table.reserve()
@@ -112,6 +149,7 @@ impl Entries {
         requires room { self.old.has_room ≡ true }
         ensures table { self.new.table ≡ self.old.table ++ f ∷ [] }
         ensures leaving { self.new.leaving ≡ self.old.leaving }
+        ensures present { self.new.present ≡ self.old.present ++ f ∷ [] }
         ensures inside { self.new.inside ≡ self.old.inside ++ true ∷ [] }
     {
         let key = self.table.enter((), f);
@@ -123,10 +161,12 @@ impl Entries {
         requires { f < length self.old.inside }
         ensures table { self.new.table ≡ self.old.table }
         ensures leaving { self.new.leaving ≡ self.old.leaving }
+        ensures out { self.new.present ≡ without f self.old.present }
         ensures inside { self.new.inside ≡ slice_set self.old.inside f false }
+        ensures room { self.new.has_room ≡ self.old.has_room }
     {
         let place = f as usize;
-        self.table.take(self.seats[place].key);
+        take_from(&mut self.table, &self.seats, f);
         self.seats[place].inside = false;
     }
 
@@ -135,10 +175,13 @@ impl Entries {
         requires { f < length self.old.inside }
         ensures table { self.new.table ≡ self.old.table }
         ensures leaving { self.new.leaving ≡ self.old.leaving }
+        ensures back { among f self.new.present ≡ among f self.old.table }
+        ensures others { (g : ℕ) → g ≢ f → among g self.new.present ≡ among g self.old.present }
         ensures inside { self.new.inside ≡ slice_set self.old.inside f true }
+        ensures room { self.new.has_room ≡ self.old.has_room }
     {
         let place = f as usize;
-        self.table.put_back(self.seats[place].key, ());
+        put_into(&mut self.table, &self.seats, f);
         self.seats[place].inside = true;
     }
 
@@ -155,7 +198,9 @@ impl Entries {
         ensures left { result ≡ true → self.new.table ≡ without f self.old.table }
         ensures same { result ≡ false → self.new.table ≡ self.old.table }
         ensures leaving { self.new.leaving ≡ self.old.leaving }
+        ensures present { self.new.present ≡ without f self.old.present }
         ensures inside { self.new.inside ≡ self.old.inside }
+        ensures room { self.old.has_room ≡ true → self.new.has_room ≡ true }
     {
         let key = match find(&self.table, &self.seats, f) {
             Some(key) => key,
@@ -179,6 +224,8 @@ impl Entries {
         ensures none { IfNone result ((self.old.leaving ≡ []) × (self.new.leaving ≡ []) × (self.new.inside ≡ self.old.inside)) }
         ensures some { IfSome result (λ f. (self.old.leaving ≡ f ∷ self.new.leaving) × (self.new.inside ≡ slice_set self.old.inside f false)) }
         ensures table { self.new.table ≡ self.old.table }
+        ensures present { self.new.present ≡ self.old.present }
+        ensures room { self.new.has_room ≡ self.old.has_room }
     {
         let (_, f) = match self.leaving.leave_first() {
             Some(parts) => parts,

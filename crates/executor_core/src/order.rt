@@ -1,5 +1,5 @@
 //! The order in which keys came.
-ghost use Rattle.std.specs.Prelude.{◌≡◌, ◌≢◌, ℕ, ◌+◌, ◌<◌, ◌≤◌, ◌++◌, [], ◌∷◌, OnOk, slice_get, vec_len, vec_capacity};
+ghost use Rattle.std.specs.Prelude.{◌≡◌, ◌≢◌, ℕ, ◌+◌, ◌<◌, ◌≤◌, ◌++◌, [], ◌∷◌, OnOk, IsOk, slice_get, vec_len, vec_capacity};
 ghost use Rattle.executor_model.specs.World.{without};
 ghost use Rattle.executor_core.specs.Order.{IsIn, next_of, previous_of, Skips, Inserts};
 
@@ -85,18 +85,20 @@ impl Order {
         }
     }
 
-    /// Makes room for this key, and those below it.
+    /// Makes room for this key, and those below it. Where there is room it succeeds.
     pub fn reserve_to(&mut self, key: usize) -> Result<(), AllocError>
         ensures keys { self.new.keys ≡ self.old.keys }
         ensures room { OnOk result (key < self.new.room) }
         ensures grows { self.old.room ≤ self.new.room }
+        ensures succeeds { key < self.old.room → IsOk result }
     {
+        let had = self.links.len();
         if key >= usize::MAX - 1 {
             return Err(AllocError);
         }
         let len = key + 2;
-        if len > self.links.len() {
-            self.links.reserve(len - self.links.len())?;
+        if len > had {
+            self.links.reserve(len - had)?;
             pad(&mut self.links, len);
         }
         Ok(())
@@ -129,6 +131,7 @@ impl Order {
         requires { IsIn key self.old.keys }
         ensures keys { self.new.keys ≡ without key self.old.keys }
         ensures room { self.new.room ≡ self.old.room }
+        ensures within { key < self.new.room }
     {
         skip(&mut self.links, key + 1);
         self.len -= 1;

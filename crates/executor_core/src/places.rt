@@ -1,5 +1,5 @@
 //! The table of an executor: its futures, each with a waker, in the order in which they were accepted.
-ghost use Rattle.std.specs.Prelude.{◌≡◌, ℕ, ◌==◌, ◌++◌, [], ◌∷◌, true, None, Some, OnOk, OnSome, IfNone, IfSome, length, map, option_copied};
+ghost use Rattle.std.specs.Prelude.{◌≡◌, ℕ, ◌==◌, ◌++◌, [], ◌∷◌, true, None, Some, OnOk, IsOk, OnSome, IfNone, IfSome, length, map, option_copied};
 ghost use Rattle.executor_core.specs.Order.{IsApart};
 ghost use Rattle.executor_core.specs.Places.{entry_at, without_entry, with_future, future_of, waker_of, parts_of, displaced};
 
@@ -49,10 +49,12 @@ impl<F, W> Places<F, W> {
         }
     }
 
-    /// Makes room for one more entry. Where memory is refused, the entries stay as they were.
+    /// Makes room for one more entry. Where there is room it succeeds, and where memory is refused, the entries stay as
+    /// they were.
     pub fn reserve(&mut self) -> Result<(), AllocError>
         ensures entries { self.new.entries ≡ self.old.entries }
         ensures room { OnOk result (self.new.has_room ≡ true) }
+        ensures succeeds { self.old.has_room ≡ true → IsOk result }
     {
         self.slab.reserve(1)?;
         self.order.reserve_to(self.slab.vacant_key())
@@ -89,6 +91,7 @@ impl<F, W> Places<F, W> {
     pub fn take(&mut self, key: usize) -> Option<F>
         ensures future { result ≡ future_of (entry_at key self.old.entries) }
         ensures out { self.new.entries ≡ with_future key None self.old.entries }
+        ensures room { self.new.has_room ≡ self.old.has_room }
     {
         let held = match self.slab.get_mut(key) {
             Some(held) => held,
@@ -102,6 +105,7 @@ impl<F, W> Places<F, W> {
     pub fn put_back(&mut self, key: usize, future: F) -> Option<F>
         ensures over { result ≡ displaced future (entry_at key self.old.entries) }
         ensures back { self.new.entries ≡ with_future key (Some future) self.old.entries }
+        ensures room { self.new.has_room ≡ self.old.has_room }
     {
         let held = match self.slab.get_mut(key) {
             Some(held) => held,
@@ -125,6 +129,8 @@ impl<F, W> Places<F, W> {
     pub fn leave(&mut self, key: usize) -> Option<(Option<F>, W)>
         ensures parts { result ≡ parts_of (entry_at key self.old.entries) }
         ensures left { self.new.entries ≡ without_entry key self.old.entries }
+        ensures room { OnSome result (self.new.has_room ≡ true) }
+        ensures same { IfNone result (self.new ≡ self.old) }
     {
         let held = match self.slab.try_remove(key) {
             Some(held) => held,
@@ -138,6 +144,8 @@ impl<F, W> Places<F, W> {
     pub fn leave_first(&mut self) -> Option<(Option<F>, W)>
         ensures none { IfNone result ((self.old.entries ≡ []) × (self.new.entries ≡ [])) }
         ensures some { IfSome result (λ parts. (key : ℕ) × (self.old.entries ≡ record { key = key; future = parts.0; waker = parts.1 } ∷ self.new.entries)) }
+        ensures room { OnSome result (self.new.has_room ≡ true) }
+        ensures same { IfNone result (self.new ≡ self.old) }
     {
         let key = match self.order.first() {
             Some(key) => key,

@@ -1,4 +1,4 @@
-ghost use Rattle.std.specs.Prelude.{◌≡◌, ◌<◌, ◌↔◌, [], length, IsTrue, None, Some, IfOk};
+ghost use Rattle.std.specs.Prelude.{◌≡◌, ◌<◌, ◌↔◌, [], length, IsTrue, None, Some, IfOk, IsOk};
 ghost use Rattle.queue_steps.specs.ClosableQueue.{IsFull, new_queue, count_of_new};
 ghost use Rattle.queue_steps.specs.Replies.{Pushes, ForcePushes, Pops, Closes};
 
@@ -40,12 +40,14 @@ impl<T> Model for Exclusive<T> {
 impl<T: Drop> Exclusive<T> {
     ghost use Rattle.queue_steps.specs.ExclusiveIter.{iter_queue, iter_lender, IterWalks};
 
-    /// A queue that holds at most `cap` items, whose places are taken here: a single slot for 1, a ring for more.
+    /// A queue that holds at most `cap` items, whose places are taken here: a single slot for 1, which is never refused,
+    /// a ring for more.
     ///
     /// A capacity that no buffer can have is refused as want of memory too.
     pub fn bounded(alloc: Global, cap: usize) -> Result<Exclusive<T>, NoMemory>
         requires { 0 < cap }
-        ensures { IfOk result (λ q. q ≡ new_queue (Some cap) (count_of_new cap)) }
+        ensures queue { IfOk result (λ q. q ≡ new_queue (Some cap) (count_of_new cap)) }
+        ensures single { cap ≡ 1 → IsOk result }
     {
         let kept = if cap == 1 {
             Kept::Single(Single::new())

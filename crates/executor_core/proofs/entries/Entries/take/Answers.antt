@@ -1,7 +1,7 @@
 use Rattle.std.proofs.Common.{◌≡◌, ℕ, ◌<◌, false, true, length, arith}
 use Rattle.executor_core.specs.declared.entries.Seat.{Seat}
 use Rattle.executor_core.specs.Entered.{key_of}
-use Rattle.executor_core.proofs.Seating.{seated_with, seated_written, seat_read, futures_with, insides_set, length-insides}
+use Rattle.executor_core.proofs.Seating.{seated_written, seat_read, insides_set, length-insides}
 use Rattle.executor_core.proofs.entries.Entries.take.Goals as goal
 
 pub invariant_of-self : goal.invariant_of-self
@@ -9,12 +9,9 @@ invariant_of-self c =
     let known : c.args.f < length c.self.inside.seats.items = omega (arith, rw (← c.self.view_is) at c.requires, length-insides c.self.inside.seats.items) in
     let seat : Seat = record { key = c.index_mut.result.now.key; inside = false } in
     let same : seat.key ≡ key_of c.self.inside.seats.items c.args.f = seat_read c.self.inside.seats.items c.args.f c.index_mut.result.now known c.index_mut.ensures.value in (
-      rw c.take.ensures.out (seated_with _ _ _ _ (seated_written c.self.inside.seats.items c.args.f seat _ same known c.self.invariant.0)),
+      seated_written c.self.inside.seats.items c.args.f seat _ same known c.take_from.ensures.seated,
       seated_written c.self.inside.seats.items c.args.f seat _ same known c.self.invariant.1,
     )
-
-pub returns-clause-table : goal.returns-clause-table
-returns-clause-table c = rw (c.take.ensures.out, ← c.self.view_is) (futures_with _ _ _)
 
 pub returns-clause-inside : goal.returns-clause-inside
 returns-clause-inside c = rw (← c.self.view_is) (insides_set c.self.inside.seats.items c.args.f (record { key = c.index_mut.result.now.key; inside = false }))

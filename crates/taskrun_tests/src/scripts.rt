@@ -1,6 +1,6 @@
 //! Worked scripts of handles, refused memory, and calls that are caught in their middle.
 
-use super::tests::shown;
+use crate::tests::shows;
 use std::test::Fail;
 
 #[test]
@@ -36,8 +36,7 @@ try: true
 try: false
 poll: ready 10
 ";
-    assert_eq!(rt; shown(rt.alloc(), script)?.as_str(), text);
-    Ok(())
+    shows(&rt, script, text)
 }
 
 const CAUGHT: &str = "\
@@ -54,15 +53,13 @@ poll: cancelled
 #[test]
 fn a_wake_is_caught_by_the_end_before_its_steps(rt: HostRuntime) -> Result<(), Fail> {
     let script = "limit 1\nspawn a keep\ntry\nbegin 1 wake a\nend\nfinish 1\npoll a\n";
-    assert_eq!(rt; shown(rt.alloc(), script)?.as_str(), CAUGHT);
-    Ok(())
+    shows(&rt, script, CAUGHT)
 }
 
 #[test]
 fn a_wake_is_caught_by_the_end_when_it_has_marked_the_task(rt: HostRuntime) -> Result<(), Fail> {
     let script = "limit 1\nspawn a keep\ntry\nbegin 1 wake a\ngo 1\nend\nfinish 1\npoll a\n";
-    assert_eq!(rt; shown(rt.alloc(), script)?.as_str(), CAUGHT);
-    Ok(())
+    shows(&rt, script, CAUGHT)
 }
 
 #[test]
@@ -79,8 +76,7 @@ end: done
 finish: not possible
 poll: cancelled
 ";
-    assert_eq!(rt; shown(rt.alloc(), script)?.as_str(), text);
-    Ok(())
+    shows(&rt, script, text)
 }
 
 #[test]
@@ -95,8 +91,7 @@ drop a
 try: true
 poll: ready 3
 ";
-    assert_eq!(rt; shown(rt.alloc(), script)?.as_str(), text);
-    Ok(())
+    shows(&rt, script, text)
 }
 
 #[test]
@@ -109,8 +104,7 @@ drop a
 try: true
 poll: cancelled
 ";
-    assert_eq!(rt; shown(rt.alloc(), script)?.as_str(), text);
-    Ok(())
+    shows(&rt, script, text)
 }
 
 #[test]
@@ -140,6 +134,5 @@ spawn: ok
 poll: not possible
 detach: done
 ";
-    assert_eq!(rt; shown(rt.alloc(), script)?.as_str(), text);
-    Ok(())
+    shows(&rt, script, text)
 }

@@ -1,15 +1,15 @@
 -- How the entries of a table follow its slab and the order of its keys.
-use Rattle.std.proofs.Common.{◌≡◌, ◌≢◌, ℕ, ◌+◌, ◌<◌, ◌≤◌, Bool, true, false, eqb, List, [], ◌∷◌, ◌++◌, length, map, slice_get, Option, Some, None, IsSome, IfSome, IfNone, option_map, refl, sym, ap, ◌∙◌, subst, inl, inr, arith}
+use Rattle.std.proofs.Common.{◌≡◌, ◌≢◌, ℕ, ◌+◌, true, false, eqb, List, [], ◌∷◌, ◌++◌, length, map, slice_get, Option, Some, None, IsSome, IfSome, IfNone, refl, sym, ap, ◌∙◌, subst, inl, inr, arith}
 use Rattle.std.proofs.lemmas.Bool.{cases_eq, false≢true}
 use Rattle.std.proofs.lemmas.Bool.Decides.{nat_tests}
 use Rattle.std.proofs.lemmas.List.{length_push}
 use Rattle.slab.specs.Slab.{Slab, get, slab_len, Updates}
 use Rattle.executor_model.specs.World.{without}
 use Rattle.executor_core.specs.declared.places.Held.{Held}
-use Rattle.executor_core.specs.Order.{Order, IsIn, IsApart}
-use Rattle.executor_core.specs.Places.{Entry, Places, entry_at, without_entry, with_future, future_of, parts_of, shown, entries_of, places_of, IsPlaced}
+use Rattle.executor_core.specs.Order.{IsIn, IsApart}
+use Rattle.executor_core.specs.Places.{Entry, entry_at, without_entry, with_future, shown, entries_of, IsPlaced}
 use Rattle.executor_core.proofs.Cells.{without_no, without_yes}
-use Rattle.executor_core.proofs.Ring.{is_in_or_not, is_in_push, is_in_push_kept, is_in_last, is_in_without, is_in_kept, is_apart_push, is_apart_without, left, length-without}
+use Rattle.executor_core.proofs.Ring.{is_in_push, is_in_push_kept, is_in_last, is_in_without, is_in_kept, is_apart_push, is_apart_without, left, length-without}
 
 module _ {F W : Type 0} where
   -- what is held under a key, as an entry

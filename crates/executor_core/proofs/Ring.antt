@@ -1,7 +1,6 @@
 -- How a ring of links changes when a key joins or leaves it.
-use Rattle.std.proofs.Common.{◌≡◌, ◌≢◌, ◌⊎◌, ℕ, zero, suc, ◌+◌, ◌-◌, ◌<◌, ◌≤◌, List, [], ◌∷◌, ◌++◌, length, get_or, slice_get, Option, Some, None, refl, sym, ap, ◌∙◌, subst, inl, inr, arith}
+use Rattle.std.proofs.Common.{◌≡◌, ◌≢◌, ◌⊎◌, ℕ, zero, suc, ◌+◌, ◌-◌, ◌<◌, ◌≤◌, List, [], ◌∷◌, ◌++◌, length, get_or, slice_get, Some, refl, sym, ap, ◌∙◌, subst, inl, inr, arith}
 use Rattle.std.proofs.lemmas.Bool.{cases_eq}
-use Rattle.std.proofs.lemmas.List.{length_push}
 use Rattle.executor_model.specs.World.{without}
 use Rattle.executor_core.specs.declared.order.Link.{Link}
 use Rattle.executor_core.specs.Order.{IsIn, IsApart, AllBelow, no_link, next_of, previous_of, walk, IsChain, keys_of, IsRing, Joins, Skips, Inserts}

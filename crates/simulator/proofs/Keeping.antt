@@ -1,5 +1,5 @@
 -- However far a script is played, its machine is what the steps that were tried make of a new one, and all is shown that happened.
-use Rattle.std.proofs.Common.{◌≡◌, ℕ, zero, suc, Bool, true, false, List, [], ◌∷◌, ◌++◌, length, map, drop, Result, Ok, Err, refl, sym, ap, ◌∙◌, subst, append-nil, arith}
+use Rattle.std.proofs.Common.{◌≡◌, ℕ, zero, suc, Bool, true, false, List, [], ◌∷◌, ◌++◌, length, map, drop, Result, Ok, Err, refl, sym, ap, ◌∙◌, subst, append-nil}
 use Rattle.std.proofs.Math.Seq.{drop-append_seam}
 use Rattle.std.specs.Prelude.{Option, Some, None}
 use Rattle.executor_laws.specs.Continued.{IsContinued}
@@ -17,7 +17,6 @@ use Rattle.executor_model.specs.declared.step.StepError.{StepError}
 use Rattle.executor_model.specs.declared.step.UserEnd.{UserEnd}
 use Rattle.executor_model.specs.Steps as steps
 use Rattle.executor_model.specs.Steps.{Machine}
-use Rattle.executor_model.specs.Trace.{Trace}
 use Rattle.script.specs.declared.command.Command.{Command}
 use Rattle.script.specs.declared.command.Command.TheVariants as command
 use Rattle.script.specs.declared.item.Item.{Item}

@@ -1,5 +1,5 @@
 -- How far a party has come that takes turns until its command has ended.
-use Rattle.std.proofs.Common.{◌≡◌, ℕ, zero, suc, ◌<◌, Bool, true, false, sym, subst, ap, inl, inr, ◌∙◌, refl, arith}
+use Rattle.std.proofs.Common.{◌≡◌, ℕ, suc, ◌<◌, true, false, ap, inl, inr, ◌∙◌, refl, arith}
 use Rattle.std.proofs.lemmas.Bool.{cases_lt}
 use Rattle.simulator.specs.Play.{Player}
 use Rattle.simulator.specs.Turn.{turn}

@@ -1,5 +1,5 @@
 -- What a command of a script is: which call it begins, for which party, and how far that is taken.
-use Rattle.std.specs.Prelude.{◌≡◌, ℕ, zero, suc, ◌+◌, ◌<◌, Bool, true, false, ◌&&◌, ◌||◌, not, if◌then◌else◌, Option, Some, None, is_some, Result, Ok, Err, List, [], ◌∷◌, ◌++◌}
+use Rattle.std.specs.Prelude.{◌≡◌, ℕ, zero, suc, ◌<◌, Bool, true, false, ◌&&◌, not, if◌then◌else◌, Option, Some, None, is_some, Result, Ok, Err, List, [], ◌∷◌}
 use Rattle.std.specs.List.{list_any, list_all}
 use Rattle.std.specs.Str.{bytes_eq}
 use Rattle.executor_model.specs.declared.call.By.TheVariants as by
@@ -13,7 +13,6 @@ use Rattle.executor_model.specs.Steps as steps
 use Rattle.executor_model.specs.Steps.{Machine}
 use Rattle.script.specs.declared.command.Command.{Command}
 use Rattle.script.specs.declared.command.Command.TheVariants as command
-use Rattle.script.specs.declared.command.Request.{Request}
 use Rattle.script.specs.declared.item.Item.{Item}
 use Rattle.script.specs.declared.item.Item.TheVariants as item
 use Rattle.script.specs.declared.plain.Plain.{Plain}
@@ -23,10 +22,9 @@ use Rattle.script.specs.declared.word.Word.TheVariants as word
 use Rattle.script.specs.Names.{number_of}
 use Rattle.script.specs.Plain.{word_of}
 use Rattle.simulator.specs.declared.moment.Outcome.TheVariants.{NotPossible}
-use Rattle.simulator.specs.declared.play.future.Future.{Future}
 use Rattle.simulator.specs.declared.play.party.Doing.{Doing}
 use Rattle.simulator.specs.declared.play.party.Party.{Party}
-use Rattle.simulator.specs.Play.{Player, plain_at, future, set_future, party, set_party, ended, tried}
+use Rattle.simulator.specs.Play.{Player, plain_at, future, set_future, party, ended, tried}
 use Rattle.simulator.specs.Turn.{held, given, does, turn}
 
 -- the call with which a command begins, where the script has what the command speaks of

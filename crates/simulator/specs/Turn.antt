@@ -1,5 +1,5 @@
 -- What a party does next: a step of the machine, and in user code what its item says.
-use Rattle.std.specs.Prelude.{ℕ, ◌+◌, ◌-◌, ◌*◌, ◌^◌, ◌==◌, min, nat_lt, position, drop, slice_index_or, Bool, true, false, ◌&&◌, ◌||◌, not, if◌then◌else◌, Option, Some, None, is_some, List, [], ◌∷◌, ◌++◌, length}
+use Rattle.std.specs.Prelude.{ℕ, ◌+◌, ◌-◌, ◌*◌, ◌^◌, ◌==◌, min, nat_lt, position, drop, slice_index_or, Bool, true, false, if◌then◌else◌, Option, Some, None, List, [], ◌∷◌, length}
 use Rattle.executor_model.specs.declared.call.By.TheVariants as by
 use Rattle.executor_model.specs.declared.call.Call.{Call}
 use Rattle.executor_model.specs.declared.call.Call.TheVariants as call
@@ -11,7 +11,6 @@ use Rattle.executor_model.specs.declared.op.Op.{Op}
 use Rattle.executor_model.specs.declared.op.Op.TheVariants as op
 use Rattle.executor_model.specs.declared.op.Waker.{Waker}
 use Rattle.executor_model.specs.declared.op.Waker.TheVariants.{Task, Outside}
-use Rattle.executor_model.specs.declared.step.Step.{Step}
 use Rattle.executor_model.specs.declared.step.Step.TheVariants.{Begin, Go, Answer}
 use Rattle.executor_model.specs.declared.step.UserEnd.{UserEnd}
 use Rattle.executor_model.specs.declared.step.UserEnd.TheVariants as end
@@ -31,7 +30,6 @@ use Rattle.simulator.specs.declared.play.future.Stage.{Stage}
 use Rattle.simulator.specs.declared.play.future.Stage.TheVariants as stage
 use Rattle.simulator.specs.declared.play.future.Future.{Future}
 use Rattle.simulator.specs.declared.play.party.Doing.{Doing}
-use Rattle.simulator.specs.declared.play.party.Party.{Party}
 use Rattle.simulator.specs.Play.{Player, request_at, plain_at, items_at, future, set_future, party, set_party, top, ended, tried}
 
 -- the waker that the poll of f's handle was given

@@ -1,4 +1,4 @@
-use Rattle.std.proofs.Common.{◌≡◌, ℕ, true, length, length-append, [], ◌∷◌, sym, arith}
+use Rattle.std.proofs.Common.{◌≡◌, true, length, length-append, [], ◌∷◌, sym, arith}
 use Rattle.executor_core.specs.declared.entries.Seat.{Seat}
 use Rattle.executor_core.proofs.Seating.{seated_push, seated_more, key_new, length-insides, present_push}
 use Rattle.executor_core.proofs.entries.Entries.enter.Goals as goal

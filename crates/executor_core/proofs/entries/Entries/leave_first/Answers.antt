@@ -1,6 +1,6 @@
-use Rattle.std.proofs.Common.{◌≡◌, ℕ, ◌<◌, false, length, ap, subst}
+use Rattle.std.proofs.Common.{false, ap, subst}
 use Rattle.executor_core.specs.declared.entries.Seat.{Seat}
-use Rattle.executor_core.specs.Entered.{AreSeated, key_of, futures_of}
+use Rattle.executor_core.specs.Entered.{AreSeated, futures_of}
 use Rattle.executor_core.proofs.Seating.{seated_written, seat_read, insides_set}
 use Rattle.executor_core.proofs.entries.Entries.leave_first.Goals as goal
 

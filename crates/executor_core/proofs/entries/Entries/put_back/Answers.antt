@@ -1,4 +1,4 @@
-use Rattle.std.proofs.Common.{◌≡◌, ℕ, ◌<◌, false, true, length, arith}
+use Rattle.std.proofs.Common.{◌≡◌, ◌<◌, true, length, arith}
 use Rattle.executor_core.specs.declared.entries.Seat.{Seat}
 use Rattle.executor_core.specs.Entered.{key_of}
 use Rattle.executor_core.proofs.Seating.{seated_written, seat_read, insides_set, length-insides}

@@ -1,6 +1,6 @@
-use Rattle.std.proofs.Common.{◌≡◌, ◌∙◌, ◌+◌, ap, sym, arith}
+use Rattle.std.proofs.Common.{◌+◌, arith}
 use Rattle.std.proofs.lemmas.List.{length_push}
-use Rattle.executor_core.specs.Order.{Order, IsRing, keys_of}
+use Rattle.executor_core.specs.Order.{keys_of}
 use Rattle.executor_core.proofs.Ring.{last_within, new_not_last, no_more, ring_push, keys_of_ring, length-keys_of}
 use Rattle.executor_core.proofs.order.Order.push.Goals as goal
 

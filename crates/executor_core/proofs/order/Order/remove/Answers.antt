@@ -1,6 +1,5 @@
-use Rattle.std.proofs.Common.{◌≡◌, ◌-◌, ◌∙◌, ◌+◌, ap, sym, arith}
-use Rattle.executor_core.specs.Order.{Order, IsRing, keys_of}
-use Rattle.executor_core.proofs.Ring.{before_within, after_within, no_more, ring_skip, keys_of_ring, length-keys_of, length-without}
+use Rattle.std.proofs.Common.{◌-◌, arith}
+use Rattle.executor_core.proofs.Ring.{before_within, after_within, ring_skip, keys_of_ring, length-keys_of, length-without}
 use Rattle.executor_core.proofs.order.Order.remove.Goals as goal
 
 pub skip-requires-clause-here : goal.skip-requires-clause-here

@@ -1,4 +1,4 @@
-use Rattle.std.proofs.Common.{◌≡◌, ◌∙◌, List, length, ap, sym, arith}
+use Rattle.std.proofs.Common.{◌∙◌, List, length, ap, sym, arith}
 use Rattle.executor_core.specs.declared.order.Link.{Link}
 use Rattle.executor_core.specs.Order.{next_of, previous_of}
 use Rattle.executor_core.proofs.Ring.{ring_grown, keys_of_ring, length-keys_of}

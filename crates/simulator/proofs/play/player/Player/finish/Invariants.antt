@@ -1,5 +1,5 @@
 -- The party has come so far; each turn tries a step, and no list has 2 ^ 64 of them.
-use Rattle.std.proofs.Common.{ℕ, ◌-◌, ◌^◌, length}
+use Rattle.std.proofs.Common.{◌-◌, ◌^◌, length}
 use Rattle.simulator.proofs.Reaching.{Reached}
 use Rattle.simulator.proofs.play.player.Player.finish.Given as goal
 

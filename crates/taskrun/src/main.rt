@@ -1,13 +1,18 @@
 //! `taskrun sim` reads a script of calls and prints what they do, line by line.
 #![tactic(auto)]
 
+mod fault;
+mod input;
+mod program;
+mod sim;
+
+use fault::Fault;
+use program::program;
 use std::alloc::Global;
 use std::io::ErrorKind;
 use std::process::ExitCode;
 use std::rt::Env;
 use std::{env, io};
-use taskrun_program::Fault;
-use taskrun_program::program::program;
 
 fn main(rt: HostRuntime) -> ExitCode {
     match run(&rt) {

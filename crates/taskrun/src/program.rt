@@ -2,9 +2,9 @@ ghost use Rattle.std.specs.Prelude.{◌≡◌, ◌≢◌, ◌↔◌, ℕ, Err, I
 ghost use Rattle.std.specs.Prelude.{map, string_bytes};
 ghost use Rattle.std.specs.Io.KnownBytes.{IsAtEnd};
 ghost use Rattle.simulator.specs.Answer.{IsGoodInput};
-ghost use Rattle.taskrun_program.specs.Writes.{WritesAnswer};
+ghost use Rattle.taskrun.specs.Writes.{WritesAnswer};
 ghost use Rattle.script.specs.BadLine.{IsFirstBadLine};
-ghost use Rattle.taskrun_program.specs.Usage.{NamesSim};
+ghost use Rattle.taskrun.specs.Usage.{NamesSim};
 
 use crate::fault::Fault;
 use crate::sim::sim;
@@ -55,3 +55,8 @@ fn is_sim(words: &[String]) -> bool
         _ => false,
     }
 }
+
+#[cfg(test)]
+mod scripts;
+#[cfg(test)]
+mod tests;

@@ -22,7 +22,7 @@ pub enum Fault {
 }
 
 impl Fault {
-    ghost use Rattle.taskrun_program.specs.Fault.{status_of};
+    ghost use Rattle.taskrun.specs.Fault.{status_of};
 
     /// The status that the program exits with: 2 for wrong arguments or a wrong input, 3 for a want
     /// of memory, 4 for a failed read or write. Takes no memory.
@@ -38,7 +38,7 @@ impl Fault {
 }
 
 impl fmt::Display for Fault {
-    ghost use Rattle.taskrun_program.specs.Fault.{text_of};
+    ghost use Rattle.taskrun.specs.Fault.{text_of};
 
     ghost output = { λ fault. Some (text_of fault) };
 
@@ -56,7 +56,7 @@ impl fmt::Display for Fault {
 impl Error for Fault {}
 
 impl From<AllocError> for Fault {
-    ghost use Rattle.taskrun_program.specs.declared.fault.Fault.TheVariants.{NoMemory};
+    ghost use Rattle.taskrun.specs.declared.fault.Fault.TheVariants.{NoMemory};
 
     ghost from_gives = { λ _ fault. fault ≡ NoMemory };
 
@@ -66,7 +66,7 @@ impl From<AllocError> for Fault {
 }
 
 impl From<ParseError> for Fault {
-    ghost use Rattle.taskrun_program.specs.Fault.{fault_of};
+    ghost use Rattle.taskrun.specs.Fault.{fault_of};
 
     ghost from_gives = { λ error fault. fault ≡ fault_of error };
 

@@ -3,7 +3,7 @@ use Rattle.std.proofs.lemmas.Bool.Decides.{Decides-at, Decides-like}
 use Rattle.std.proofs.lemmas.Slice.Eq.{bytes_eq-Decides}
 use Rattle.std.specs.Bool.{Decides}
 use Rattle.std.specs.Str.{bytes_eq}
-use Rattle.taskrun_program.proofs.program.is_sim.Goals as goal
+use Rattle.taskrun.proofs.program.is_sim.Goals as goal
 
 -- a list of one word, each word seen as its bytes
 map_one : {X : Type 0} (f : X → List ℕ) (words : List X) (word : X)

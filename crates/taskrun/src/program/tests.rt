@@ -1,10 +1,9 @@
-use std::alloc::{AllocError, AllocGlobal, Global};
+use super::program;
+use crate::fault::Fault;
+use crate::input::MOST_READS;
+use std::alloc::{AllocError, Global};
 use std::io::{self, ErrorKind, Read, Write};
-use std::process::Abort;
 use std::test::Fail;
-use taskrun_program::Fault;
-use taskrun_program::input::MOST_READS;
-use taskrun_program::program::program;
 
 /// A reader that gives a byte a read, and fails at the read of this number, counted from 0.
 #[derive(Drop)]
@@ -124,41 +123,17 @@ fn words(alloc: Global, texts: &[&str]) -> Result<Vec<String>, AllocError> {
 }
 
 /// What `taskrun sim` writes for this script.
-fn shown(alloc: Global, script: &str) -> Result<String, Fault> {
+pub fn shown(alloc: Global, script: &str) -> Result<String, Fault> {
     let words = words(alloc, &["sim"])?;
     let mut text = Vec::new(alloc);
     program(alloc, words.as_slice(), &mut script.as_bytes(), &mut text)?;
     String::from_utf8(text).map_err(|_| Fault::WriteFailed)
 }
 
-// Each of these compares in one place what the tests compare often, so that a call of it is cheap to prove.
-
-/// `taskrun sim` writes this text for this script.
-pub fn shows<R: AllocGlobal + Abort>(rt: &R, script: &str, want: &str) -> Result<(), Fail> {
-    let text = shown(rt.alloc(), script)?;
-    assert_eq!(rt; text.as_str(), want);
-    Ok(())
-}
-
-/// Where this line of it is its first bad one, the script ends on that.
-fn ends_on_line<R: AllocGlobal + Abort>(rt: &R, script: &str, line: u64) {
-    let fault = shown(rt.alloc(), script).err();
-    assert_eq!(rt; fault, Some(Fault::BadLine(line)), "for {script:?}");
-}
-
-/// The program ends on this fault. The number is told where it does not.
-fn ends_on<R: Abort>(rt: &R, end: Result<(), Fault>, want: Fault, at: usize) {
-    assert_eq!(rt; end, Err(want), "at {at}");
-}
-
-/// The program wrote this.
-fn wrote<R: Abort>(rt: &R, written: &Vec<u8>, want: &str) {
-    assert_eq!(rt; written.as_slice(), want.as_bytes());
-}
-
 #[test]
 fn three_wakes_make_one_poll(rt: HostRuntime) -> Result<(), Fail> {
-    shows(&rt, THREE_WAKES, THREE_WAKES_SHOW)
+    assert_eq!(rt; shown(rt.alloc(), THREE_WAKES)?.as_str(), THREE_WAKES_SHOW);
+    Ok(())
 }
 
 #[test]
@@ -179,7 +154,8 @@ drop a
 try: true
 spawn: ok
 ";
-    shows(&rt, script, text)
+    assert_eq!(rt; shown(rt.alloc(), script)?.as_str(), text);
+    Ok(())
 }
 
 #[test]
@@ -200,7 +176,8 @@ try: true
 try: false
 empty: true
 ";
-    shows(&rt, script, text)
+    assert_eq!(rt; shown(rt.alloc(), script)?.as_str(), text);
+    Ok(())
 }
 
 #[test]
@@ -233,7 +210,8 @@ end: done
 wake: done
 try: not possible
 ";
-    shows(&rt, script, text)
+    assert_eq!(rt; shown(rt.alloc(), script)?.as_str(), text);
+    Ok(())
 }
 
 #[test]
@@ -249,7 +227,8 @@ spawn: ok
 wake: not possible
 spawn: not possible
 ";
-    shows(&rt, script, text)
+    assert_eq!(rt; shown(rt.alloc(), script)?.as_str(), text);
+    Ok(())
 }
 
 #[test]
@@ -275,11 +254,12 @@ lose a
 drop: done
 drop: not possible
 ";
-    shows(&rt, script, text)
+    assert_eq!(rt; shown(rt.alloc(), script)?.as_str(), text);
+    Ok(())
 }
 
 #[test]
-fn the_first_bad_line_is_named(rt: HostRuntime) {
+fn the_first_bad_line_is_named(rt: HostRuntime) -> Result<(), Fail> {
     for (script, line) in [
         ("limit 0\n", 1),
         ("\nlimit 1\n", 1),
@@ -288,18 +268,22 @@ fn the_first_bad_line_is_named(rt: HostRuntime) {
         ("limit 1\ntry\n\n", 3),
         ("limit 1\ntry\r\n", 2),
     ] {
-        ends_on_line(&rt, script, line);
+        let fault = shown(rt.alloc(), script).err();
+        assert_eq!(rt; fault, Some(Fault::BadLine(line)), "for {script:?}");
     }
+    Ok(())
 }
 
 #[test]
 fn no_lines_show_nothing(rt: HostRuntime) -> Result<(), Fail> {
-    shows(&rt, "", "")
+    assert_eq!(rt; shown(rt.alloc(), "")?.as_str(), "");
+    Ok(())
 }
 
 #[test]
 fn the_last_line_may_lack_its_end(rt: HostRuntime) -> Result<(), Fail> {
-    shows(&rt, "limit 1\ntry", "try: false\n")
+    assert_eq!(rt; shown(rt.alloc(), "limit 1\ntry")?.as_str(), "try: false\n");
+    Ok(())
 }
 
 #[test]
@@ -313,7 +297,7 @@ fn other_words_are_a_usage_fault(rt: HostRuntime) -> Result<(), Fail> {
         &mut THREE_WAKES.as_bytes(),
         &mut shown,
     );
-    ends_on(&rt, end, Fault::Usage, 0);
+    assert_eq!(rt; end, Err(Fault::Usage));
     Ok(())
 }
 
@@ -326,8 +310,8 @@ fn a_read_that_fails_ends_the_program(rt: HostRuntime) -> Result<(), Fail> {
         let mut reader = FailingReader { text, reads_before };
         let mut shown = Vec::new(alloc);
         let end = program(alloc, words.as_slice(), &mut reader, &mut shown);
-        ends_on(&rt, end, Fault::ReadFailed, reads_before);
-        wrote(&rt, &shown, "");
+        assert_eq!(rt; end, Err(Fault::ReadFailed), "at {reads_before}");
+        assert_eq!(rt; shown.len(), 0);
     }
     Ok(())
 }
@@ -343,7 +327,7 @@ fn an_interrupted_read_is_tried_again(rt: HostRuntime) -> Result<(), Fail> {
     };
     let mut shown = Vec::new(alloc);
     program(alloc, words.as_slice(), &mut reader, &mut shown)?;
-    wrote(&rt, &shown, THREE_WAKES_SHOW);
+    assert_eq!(rt; shown.as_slice(), THREE_WAKES_SHOW.as_bytes());
     Ok(())
 }
 
@@ -354,7 +338,7 @@ fn a_reader_that_is_never_over_is_given_up(rt: HostRuntime) -> Result<(), Fail> 
     let mut reader = EndlessReader { reads: 0 };
     let mut shown = Vec::new(alloc);
     let end = program(alloc, words.as_slice(), &mut reader, &mut shown);
-    ends_on(&rt, end, Fault::ReadFailed, 0);
+    assert_eq!(rt; end, Err(Fault::ReadFailed));
     assert_eq!(rt; reader.reads, MOST_READS);
     Ok(())
 }
@@ -377,7 +361,7 @@ fn a_write_that_fails_ends_the_program(rt: HostRuntime) -> Result<(), Fail> {
             &mut THREE_WAKES.as_bytes(),
             &mut writer,
         );
-        ends_on(&rt, end, Fault::WriteFailed, writes_before);
+        assert_eq!(rt; end, Err(Fault::WriteFailed), "at {writes_before}");
     }
     let text = Vec::new(alloc);
     let mut writer = FailingWriter {
@@ -390,6 +374,6 @@ fn a_write_that_fails_ends_the_program(rt: HostRuntime) -> Result<(), Fail> {
         &mut THREE_WAKES.as_bytes(),
         &mut writer,
     )?;
-    wrote(&rt, &writer.text, THREE_WAKES_SHOW);
+    assert_eq!(rt; writer.text.as_slice(), THREE_WAKES_SHOW.as_bytes());
     Ok(())
 }

@@ -1,6 +1,6 @@
 //! Worked scripts of handles, refused memory, and calls that are caught in their middle.
 
-use crate::tests::shows;
+use super::tests::shown;
 use std::test::Fail;
 
 #[test]
@@ -36,7 +36,8 @@ try: true
 try: false
 poll: ready 10
 ";
-    shows(&rt, script, text)
+    assert_eq!(rt; shown(rt.alloc(), script)?.as_str(), text);
+    Ok(())
 }
 
 const CAUGHT: &str = "\
@@ -53,13 +54,15 @@ poll: cancelled
 #[test]
 fn a_wake_is_caught_by_the_end_before_its_steps(rt: HostRuntime) -> Result<(), Fail> {
     let script = "limit 1\nspawn a keep\ntry\nbegin 1 wake a\nend\nfinish 1\npoll a\n";
-    shows(&rt, script, CAUGHT)
+    assert_eq!(rt; shown(rt.alloc(), script)?.as_str(), CAUGHT);
+    Ok(())
 }
 
 #[test]
 fn a_wake_is_caught_by_the_end_when_it_has_marked_the_task(rt: HostRuntime) -> Result<(), Fail> {
     let script = "limit 1\nspawn a keep\ntry\nbegin 1 wake a\ngo 1\nend\nfinish 1\npoll a\n";
-    shows(&rt, script, CAUGHT)
+    assert_eq!(rt; shown(rt.alloc(), script)?.as_str(), CAUGHT);
+    Ok(())
 }
 
 #[test]
@@ -76,7 +79,8 @@ end: done
 finish: not possible
 poll: cancelled
 ";
-    shows(&rt, script, text)
+    assert_eq!(rt; shown(rt.alloc(), script)?.as_str(), text);
+    Ok(())
 }
 
 #[test]
@@ -91,7 +95,8 @@ drop a
 try: true
 poll: ready 3
 ";
-    shows(&rt, script, text)
+    assert_eq!(rt; shown(rt.alloc(), script)?.as_str(), text);
+    Ok(())
 }
 
 #[test]
@@ -104,7 +109,8 @@ drop a
 try: true
 poll: cancelled
 ";
-    shows(&rt, script, text)
+    assert_eq!(rt; shown(rt.alloc(), script)?.as_str(), text);
+    Ok(())
 }
 
 #[test]
@@ -134,5 +140,6 @@ spawn: ok
 poll: not possible
 detach: done
 ";
-    shows(&rt, script, text)
+    assert_eq!(rt; shown(rt.alloc(), script)?.as_str(), text);
+    Ok(())
 }

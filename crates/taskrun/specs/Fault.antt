@@ -1,8 +1,8 @@
 -- What a fault is to whoever started the program: a status, and a text on standard error.
 use Rattle.std.specs.Prelude.{ℕ, List, ◌++◌, codes}
 use Rattle.std.specs.Fmt.{decimal}
-use Rattle.taskrun_program.specs.declared.fault.Fault.{Fault}
-use Rattle.taskrun_program.specs.declared.fault.Fault.TheVariants.{BadLine, Usage, NoMemory, ReadFailed, WriteFailed}
+use Rattle.taskrun.specs.declared.fault.Fault.{Fault}
+use Rattle.taskrun.specs.declared.fault.Fault.TheVariants.{BadLine, Usage, NoMemory, ReadFailed, WriteFailed}
 use Rattle.script.specs.declared.error.ParseError.{ParseError}
 use Rattle.script.specs.declared.error.ParseError.TheVariants as parse
 

@@ -1,5 +1,6 @@
 -- What a step adds to the trace: at most the beginning of one call, and then nothing that begins another.
-use Rattle.std.proofs.Common.{◌≡◌, ℕ, List, [], ◌∷◌, ◌++◌, length, Bool, true, false, ◌||◌, refl, sym, ap, ◌∙◌, append-nil}
+use Rattle.std.proofs.Common.{◌≡◌, ◌≢◌, ℕ, List, [], ◌∷◌, ◌++◌, length, Bool, true, false, ◌||◌, refl, sym, ap, ◌∙◌, append-nil, arith}
+use Rattle.std.proofs.lemmas.Bool.Decides.{nat_tests}
 use Rattle.std.proofs.lemmas.List.{append_assoc}
 use Rattle.std.proofs.lemmas.List.Folds.{list_any-append}
 use Rattle.std.specs.Prelude.{Option, Some, None, reverse}
@@ -28,6 +29,7 @@ use Rattle.executor_model.specs.Acts.{append_by, take_by, enter_by, leave_by, co
 use Rattle.executor_model.specs.Steps.{Machine, stack, top, below_top, kept, polled_by, refusal, begun, with_future, react, end_of, settled_by, onto, gone_on, after, step_by, step, stepped, run}
 use Rattle.executor_laws.specs.Remaining.{is_onward}
 use Rattle.executor_laws.specs.Continued.{IsContinued}
+use Rattle.executor_laws.specs.AtOnce.{doer, is_by}
 
 abbrev pub begins_one : Event → Bool
 begins_one (event.CallBegun p c) = true
@@ -37,136 +39,142 @@ abbrev pub ends_one : Event → Bool
 ends_one (event.CallEnded p r) = true
 ends_one _ = false
 
--- the trace of v is that of w and more, in which no call begins or ends
-pub record Grows (w v : World) : Type 0 where
+-- the trace of v is that of w and more that party p did, in which no call begins or ends
+pub record Grows (p : ℕ) (w v : World) : Type 0 where
   pub more : Trace
   pub is : v.trace ≡ w.trace ++ more
   pub none_begins : has begins_one more ≡ false
   pub none_ends : has ends_one more ≡ false
+  pub own : (q : ℕ) → q ≢ p → has (is_by q) more ≡ false
 
-grows-same : (w v : World) → v.trace ≡ w.trace → Grows w v
-grows-same w v e = record { more = []; is = e ∙ sym (append-nil w.trace); none_begins = refl; none_ends = refl }
+grows-same : {p : ℕ} (w v : World) → v.trace ≡ w.trace → Grows p w v
+grows-same w v e = record { more = []; is = e ∙ sym (append-nil w.trace); none_begins = refl; none_ends = refl; own = λ q n. refl }
 
 or-false : (a : Bool) → a ≡ false → (a || false) ≡ false
 or-false true e = absurd (cc)
 or-false false e = refl
 
-grows-log : (w v : World) (e : Event) → v.trace ≡ w.trace ++ e ∷ [] → begins_one e ≡ false → ends_one e ≡ false → Grows w v
-grows-log w v e t b n = record { more = e ∷ []; is = t; none_begins = or-false (begins_one e) b; none_ends = or-false (ends_one e) n }
+-- what p did nobody else did
+pub not-by : (p q : ℕ) (e : Event) → doer e ≡ p → q ≢ p → is_by q e ≡ false
+not-by p q e d n = grind (arith, nat_tests)
 
-grows-log_if : (c : Bool) (w v : World) (e : Event) → v.trace ≡ (log_if c w e).trace → begins_one e ≡ false → ends_one e ≡ false → Grows w v
-grows-log_if true w v e t b n = grows-log w v e t b n
-grows-log_if false w v e t b n = grows-same w v t
+grows-log : {p : ℕ} (w v : World) (e : Event) → v.trace ≡ w.trace ++ e ∷ [] → begins_one e ≡ false → ends_one e ≡ false → doer e ≡ p → Grows p w v
+grows-log {p} w v e t b n d = record { more = e ∷ []; is = t; none_begins = or-false (begins_one e) b; none_ends = or-false (ends_one e) n; own = λ q k. or-false (is_by q e) (not-by p q e d k) }
+
+grows-log_if : {p : ℕ} (c : Bool) (w v : World) (e : Event) → v.trace ≡ (log_if c w e).trace → begins_one e ≡ false → ends_one e ≡ false → doer e ≡ p → Grows p w v
+grows-log_if true w v e t b n d = grows-log w v e t b n d
+grows-log_if false w v e t b n d = grows-same w v t
 
 has-append : (test : Event → Bool) (xs ys : Trace) → has test xs ≡ false → has test ys ≡ false → has test (xs ++ ys) ≡ false
 has-append test xs ys a b = list_any-append test xs ys ∙ (ap (λ (x : Bool). x || has test ys) a ∙ b)
 
-grows-and : (w v u : World) → Grows w v → Grows v u → Grows w u
+grows-and : {p : ℕ} (w v u : World) → Grows p w v → Grows p v u → Grows p w u
 grows-and w v u a b = record {
   more = a.more ++ b.more;
   is = b.is ∙ (ap (λ (xs : Trace). xs ++ b.more) a.is ∙ append_assoc w.trace a.more b.more);
   none_begins = has-append begins_one a.more b.more a.none_begins b.none_begins;
   none_ends = has-append ends_one a.more b.more a.none_ends b.none_ends;
+  own = λ q k. has-append (is_by q) a.more b.more (a.own q k) (b.own q k);
 }
 
 -- each thing to do, but for the end of a call
 
-grows-append : (b : Bool) (w : World) (f : ℕ) → Grows w (append_by b w f).world
+grows-append : {p : ℕ} (b : Bool) (w : World) (f : ℕ) → Grows p w (append_by b w f).world
 grows-append true w f = grows-same _ _ refl
 grows-append false w f = grows-same _ _ refl
 
-grows-take : (q : List ℕ) (w : World) → Grows w (take_by w q).world
+grows-take : {p : ℕ} (q : List ℕ) (w : World) → Grows p w (take_by w q).world
 grows-take [] w = grows-same _ _ refl
 grows-take (f ∷ rest) w = grows-same _ _ refl
 
-grows-enter : (b c : Bool) (p : ℕ) (w : World) → Grows w (enter_by b c p w).world
+grows-enter : (b c : Bool) (p : ℕ) (w : World) → Grows p w (enter_by b c p w).world
 grows-enter true c p w = grows-same _ _ refl
 grows-enter false true p w = grows-same _ _ refl
-grows-enter false false p w = grows-log _ _ (event.Accepted p (length w.tasks)) refl refl refl
+grows-enter false false p w = grows-log _ _ (event.Accepted p (length w.tasks)) refl refl refl refl
 
-grows-leave : (b : Bool) (w : World) (f : ℕ) → Grows w (leave_by b w f).world
+grows-leave : {p : ℕ} (b : Bool) (w : World) (f : ℕ) → Grows p w (leave_by b w f).world
 grows-leave true w f = grows-same _ _ refl
 grows-leave false w f = grows-same _ _ refl
 
-grows-copy : (b : Bool) (w : World) (f : ℕ) (held : Hold) → Grows w (copy_by b w f held).world
+grows-copy : {p : ℕ} (b : Bool) (w : World) (f : ℕ) (held : Hold) → Grows p w (copy_by b w f held).world
 grows-copy true w f held = grows-same _ _ refl
 grows-copy false w f held = grows-same _ _ refl
 
-grows-look : (o : Option Answer) (p : ℕ) (w : World) (f : ℕ) (a : Waker) (m : Moved) → Grows w (look_by o p w f a m).world
+grows-look : (o : Option Answer) (p : ℕ) (w : World) (f : ℕ) (a : Waker) (m : Moved) → Grows p w (look_by o p w f a m).world
 grows-look None p w f a m = grows-same _ _ refl
 grows-look (Some x) p w f a m =
     let v : World = put (log w (event.HandlePolled p f)) f m.state in
-    grows-and w v _ (grows-log w v (event.HandlePolled p f) refl refl refl) (grows-log_if _ v _ (event.OutputGiven p f) refl refl refl)
+    grows-and w v _ (grows-log w v (event.HandlePolled p f) refl refl refl refl) (grows-log_if _ v _ (event.OutputGiven p f) refl refl refl refl)
 
-grows-again : (o : Option Answer) (p : ℕ) (w : World) (f : ℕ) (m : Moved) → Grows w (look_again_by o p w f m).world
+grows-again : (o : Option Answer) (p : ℕ) (w : World) (f : ℕ) (m : Moved) → Grows p w (look_again_by o p w f m).world
 grows-again None p w f m = grows-same _ _ refl
-grows-again (Some x) p w f m = grows-and w (put w f m.state) _ (grows-same w (put w f m.state) refl) (grows-log_if _ (put w f m.state) _ (event.OutputGiven p f) refl refl refl)
+grows-again (Some x) p w f m = grows-and w (put w f m.state) _ (grows-same w (put w f m.state) refl) (grows-log_if _ (put w f m.state) _ (event.OutputGiven p f) refl refl refl refl)
 
-grows-copy_awaiter : (b : Bool) (p : ℕ) (w : World) (f : ℕ) (a : Waker) → Grows w (copy_awaiter_by b p w f a).world
+grows-copy_awaiter : (b : Bool) (p : ℕ) (w : World) (f : ℕ) (a : Waker) → Grows p w (copy_awaiter_by b p w f a).world
 grows-copy_awaiter true p w f a = grows-same _ _ refl
-grows-copy_awaiter false p w f (Task k) = grows-log _ _ (event.HandlePolled p f) refl refl refl
-grows-copy_awaiter false p w f (Outside x) = grows-log _ _ (event.HandlePolled p f) refl refl refl
+grows-copy_awaiter false p w f (Task k) = grows-log _ _ (event.HandlePolled p f) refl refl refl refl
+grows-copy_awaiter false p w f (Outside x) = grows-log _ _ (event.HandlePolled p f) refl refl refl refl
 
-grows-register : (b : Bool) (w : World) (f : ℕ) (a : Waker) (k : ℕ) → Grows w (register_by b w f a k).world
+grows-register : {p : ℕ} (b : Bool) (w : World) (f : ℕ) (a : Waker) (k : ℕ) → Grows p w (register_by b w f a k).world
 grows-register true w f a k = grows-same _ _ refl
 grows-register false w f a k = grows-same _ _ refl
 
-grows-end_register : (b : Bool) (w : World) (f : ℕ) (a : Waker) (k : ℕ) → Grows w (end_register_by b w f a k).world
+grows-end_register : {p : ℕ} (b : Bool) (w : World) (f : ℕ) (a : Waker) (k : ℕ) → Grows p w (end_register_by b w f a k).world
 grows-end_register true w f a k = grows-same _ _ refl
 grows-end_register false w f a k = grows-same _ _ refl
 
-grows-notify : (b : Bool) (w : World) (f : ℕ) (mine : Bool) → Grows w (notify_by b w f mine).world
+grows-notify : {p : ℕ} (b : Bool) (w : World) (f : ℕ) (mine : Bool) → Grows p w (notify_by b w f mine).world
 grows-notify true w f mine = grows-same _ _ refl
 grows-notify false w f mine = grows-same _ _ refl
 
-grows-wake : (p : ℕ) (w : World) (f : ℕ) → Grows w (wake p w f).world
-grows-wake p w f = grows-log_if _ w _ (event.Woken p f) refl refl refl
+grows-wake : (p : ℕ) (w : World) (f : ℕ) → Grows p w (wake p w f).world
+grows-wake p w f = grows-log_if _ w _ (event.Woken p f) refl refl refl refl
 
-grows-call : (p : ℕ) (w : World) (f : ℕ) (a : Waker) (k : ℕ) → Grows w (call_awaiter p w f a k).world
-grows-call p w f (Task m) k = grows-and w (log w (event.WakerCalled p f k (Task m))) _ (grows-log w _ (event.WakerCalled p f k (Task m)) refl refl refl) (grows-wake p (log w (event.WakerCalled p f k (Task m))) m)
-grows-call p w f (Outside x) k = grows-log _ _ (event.WakerCalled p f k (Outside x)) refl refl refl
+grows-call : (p : ℕ) (w : World) (f : ℕ) (a : Waker) (k : ℕ) → Grows p w (call_awaiter p w f a k).world
+grows-call p w f (Task m) k = grows-and w (log w (event.WakerCalled p f k (Task m))) _ (grows-log w _ (event.WakerCalled p f k (Task m)) refl refl refl refl) (grows-wake p (log w (event.WakerCalled p f k (Task m))) m)
+grows-call p w f (Outside x) k = grows-log _ _ (event.WakerCalled p f k (Outside x)) refl refl refl refl
 
-grows-drop_next : (p : ℕ) (w : World) (ls : List ℕ) → Grows w (drop_next_by p w ls).world
+grows-drop_next : (p : ℕ) (w : World) (ls : List ℕ) → Grows p w (drop_next_by p w ls).world
 grows-drop_next p w [] = grows-same _ _ refl
-grows-drop_next p w (f ∷ rest) = grows-log _ _ (event.Dropped p f) refl refl refl
+grows-drop_next p w (f ∷ rest) = grows-log _ _ (event.Dropped p f) refl refl refl refl
 
-grows-wake_next : (p : ℕ) (w : World) (ws : List ℕ) → Grows w (wake_next_by p w ws).world
+grows-wake_next : (p : ℕ) (w : World) (ws : List ℕ) → Grows p w (wake_next_by p w ws).world
 grows-wake_next p w [] = grows-same _ _ refl
 grows-wake_next p w (f ∷ rest) = grows-and w (record w { waking = rest }) _ (grows-same w (record w { waking = rest }) refl) (grows-wake p (record w { waking = rest }) f)
 
-grows-drain : (p : ℕ) (w : World) (q : List ℕ) → Grows w (drain_by p w q).world
-grows-drain p w [] = grows-log _ _ (event.DropEnded p) refl refl refl
+grows-drain : (p : ℕ) (w : World) (q : List ℕ) → Grows p w (drain_by p w q).world
+grows-drain p w [] = grows-log _ _ (event.DropEnded p) refl refl refl refl
 grows-drain p w (f ∷ rest) = grows-same _ _ refl
 
 abbrev pub is_end : Op → Bool
 is_end (op.End r held) = true
 is_end _ = false
 
-pub grows-act : (p : ℕ) (h : Hint) (o : Op) (w : World) → is_end o ≡ false → Grows w (act p h o w).world
+pub grows-act : (p : ℕ) (h : Hint) (o : Op) (w : World) → is_end o ≡ false → Grows p w (act p h o w).world
 grows-act p h op.Enter w n = grows-enter _ _ p w
 grows-act p h op.Take w n = grows-take _ w
 grows-act p h op.LookAtTable w n = grows-same _ _ refl
 grows-act p h (op.Append f) w n = grows-append _ w f
-grows-act p h (op.WakeByReference f) w n = grows-log_if _ w _ (event.Woken p f) refl refl refl
+grows-act p h (op.WakeByReference f) w n = grows-log_if _ w _ (event.Woken p f) refl refl refl refl
 grows-act p h (op.Wake f) w n = grows-wake p w f
 grows-act p h (op.Release f) w n = grows-same _ _ refl
-grows-act p h (op.TakeUp f) w n = grows-log_if _ w _ (event.PollBegun p f) refl refl refl
+grows-act p h (op.TakeUp f) w n = grows-log_if _ w _ (event.PollBegun p f) refl refl refl refl
 grows-act p h (op.SettleClosed f) w n = grows-same _ _ refl
 grows-act p h (op.GiveUp f) w n = grows-same _ _ refl
 grows-act p h (op.EndReady f) w n = grows-same _ _ refl
 grows-act p h (op.EndPending f) w n = grows-same _ _ refl
 grows-act p h (op.EndClosed f) w n = grows-same _ _ refl
 grows-act p h (op.DropRunnable f) w n = grows-same _ _ refl
-grows-act p h (op.Cancel f) w n = grows-log_if _ w _ (event.Cancelled p f) refl refl refl
-grows-act p h (op.Detach f) w n = grows-log_if _ w _ (event.Detached p f) refl refl refl
+grows-act p h (op.Cancel f) w n = grows-log_if _ w _ (event.Cancelled p f) refl refl refl refl
+grows-act p h (op.Detach f) w n = grows-log_if _ w _ (event.Detached p f) refl refl refl refl
 grows-act p h (op.TakeToPoll f) w n = grows-same _ _ refl
 grows-act p h (op.Poll f) w n = grows-same _ _ refl
 grows-act p h (op.PutBack f) w n = grows-same _ _ refl
 grows-act p h (op.TakeToDrop f) w n = grows-same _ _ refl
-grows-act p h (op.BeginDrop f) w n = grows-log _ _ (event.Dropped p f) refl refl refl
+grows-act p h (op.BeginDrop f) w n = grows-log _ _ (event.Dropped p f) refl refl refl refl
 grows-act p h (op.Drop f) w n = grows-same _ _ refl
 grows-act p h (op.LeaveTable f) w n = grows-leave _ w f
-grows-act p h (op.BeginDropOutput f) w n = grows-log _ _ (event.OutputDropped p f) refl refl refl
+grows-act p h (op.BeginDropOutput f) w n = grows-log _ _ (event.OutputDropped p f) refl refl refl refl
 grows-act p h (op.DropOutput f) w n = grows-same _ _ refl
 grows-act p h (op.CopyWaker f held) w n = grows-copy _ w f held
 grows-act p h (op.Look f a) w n = grows-look (moves.poll (task w f)).owed.answer p w f a (moves.poll (task w f))
@@ -185,17 +193,17 @@ grows-act p h op.Close w n = grows-same _ _ refl
 grows-act p h op.Drain w n = grows-drain p w w.queue.items
 grows-act p h (op.End r held) w n = absurd (cc)
 
-pub grows-react : (p : ℕ) (o : Op) (u : UserEnd) (w : World) → Grows w (react p o u w).world
-grows-react p (op.Poll f) (end.Polled answer.Pending) w = grows-log _ _ (event.Answered p f answer.Pending) refl refl refl
-grows-react p (op.Poll f) (end.Polled answer.Ready) w = grows-log _ _ (event.Answered p f answer.Ready) refl refl refl
+pub grows-react : (p : ℕ) (o : Op) (u : UserEnd) (w : World) → Grows p w (react p o u w).world
+grows-react p (op.Poll f) (end.Polled answer.Pending) w = grows-log _ _ (event.Answered p f answer.Pending) refl refl refl refl
+grows-react p (op.Poll f) (end.Polled answer.Ready) w = grows-log _ _ (event.Answered p f answer.Ready) refl refl refl refl
 grows-react p (op.Poll f) end.Done w = grows-same _ _ refl
 grows-react p _ _ w = grows-same _ _ refl
 
-grows-with : (w : World) (o : Option ℕ) (d : ℕ → Done) → ((f : ℕ) → Grows w (d f).world) → Grows w (with_future w o d).world
+grows-with : {p : ℕ} (w : World) (o : Option ℕ) (d : ℕ → Done) → ((f : ℕ) → Grows p w (d f).world) → Grows p w (with_future w o d).world
 grows-with w (Some f) d k = k f
 grows-with w None d k = grows-same _ _ refl
 
-pub grows-begun : (p : ℕ) (w : World) (here : Option ℕ) (c : Call) → Grows w (begun p w here c).world
+pub grows-begun : (p : ℕ) (w : World) (here : Option ℕ) (c : Call) → Grows p w (begun p w here c).world
 grows-begun p w here call.Spawn = grows-same _ _ refl
 grows-begun p w here call.TryTick = grows-same _ _ refl
 grows-begun p w here call.IsEmpty = grows-same _ _ refl
@@ -209,7 +217,7 @@ grows-begun p w here (call.PollHandle f b) = grows-same _ _ refl
 grows-begun p w here (call.Cancel f) = grows-same _ _ refl
 grows-begun p w here (call.Detach f) = grows-same _ _ refl
 grows-begun p w here (call.DropHandle f) = grows-same _ _ refl
-grows-begun p w here call.DropExecutor = grows-log _ _ (event.DropBegun p) refl refl refl
+grows-begun p w here call.DropExecutor = grows-log _ _ (event.DropBegun p) refl refl refl refl
 
 -- a whole step
 
@@ -234,15 +242,15 @@ more-onto es p d rest m = more-settled (top (rest ++ reverse d.next)) es p d.wor
 
 -- an end that stands on top and is done adds itself
 more-act : (p : ℕ) (h : Hint) (o : Op) (w : World) (b : Bool) → is_end o ≡ b → More w.trace (act p h o w).world.trace
-more-act p h o w false n = let g : Grows w (act p h o w).world = grows-act p h o w n in record { more = g.more; is = g.is; none = g.none_begins }
+more-act p h o w false n = let g : Grows p w (act p h o w).world = grows-act p h o w n in record { more = g.more; is = g.is; none = g.none_begins }
 more-act p h (op.End r held) w true n = record { more = event.CallEnded p r ∷ []; is = refl; none = refl }
 more-act p h _ w true n = absurd (cc)
 
 more-react : (p : ℕ) (o : Op) (u : UserEnd) (w : World) → More w.trace (react p o u w).world.trace
-more-react p o u w = let g : Grows w (react p o u w).world = grows-react p o u w in record { more = g.more; is = g.is; none = g.none_begins }
+more-react p o u w = let g : Grows p w (react p o u w).world = grows-react p o u w in record { more = g.more; is = g.is; none = g.none_begins }
 
 more-begun : (p : ℕ) (w : World) (here : Option ℕ) (c : Call) → More (w.trace ++ event.CallBegun p c ∷ []) (begun p (log w (event.CallBegun p c)) here c).world.trace
-more-begun p w here c = let g : Grows (log w (event.CallBegun p c)) (begun p (log w (event.CallBegun p c)) here c).world = grows-begun p (log w (event.CallBegun p c)) here c in record { more = g.more; is = g.is; none = g.none_begins }
+more-begun p w here c = let g : Grows p (log w (event.CallBegun p c)) (begun p (log w (event.CallBegun p c)) here c).world = grows-begun p (log w (event.CallBegun p c)) here c in record { more = g.more; is = g.is; none = g.none_begins }
 
 more-gone_on : (p : ℕ) (w : World) (os : List Op) (o : Option Op) (d : Op → Done) → ((x : Op) → More w.trace (d x).world.trace) → More w.trace (gone_on p w os o d).world.trace
 more-gone_on p w os None d k = record { more = []; is = sym (append-nil w.trace); none = refl }

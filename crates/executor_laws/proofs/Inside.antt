@@ -67,11 +67,11 @@ light-react p (op.Poll f) end.Done w = refl
 light-react p _ _ w = refl
 
 -- what the thing on top does, if it answers no call
-record Light (w : World) (d : Done) : Type 0 where
-  grows : Grows w d.world
+record Light (p : ℕ) (w : World) (d : Done) : Type 0 where
+  grows : Grows p w d.world
   none : weigh calling_of d.next ≡ 0
 
-light-act : (p : ℕ) (h : Hint) (o : Op) (w : World) → calling_of o ≡ 0 → Light w (act p h o w)
+light-act : (p : ℕ) (h : Hint) (o : Op) (w : World) → calling_of o ≡ 0 → Light p w (act p h o w)
 light-act p h o w z = record { grows = grows-act p h o w (unended o z); none = (calls-act p h o w (unended o z)).passes.none z }
 
 -- the last of a list that answers no call
@@ -111,17 +111,17 @@ below-above : (x o : Op) (os : List Op) → below_top (x ∷ o ∷ os) ≡ x ∷
 below-above x o os = ap (λ (n : ℕ). take n (x ∷ o ∷ os)) (one-less (suc (length os))) ∙ ap (λ (n : ℕ). x ∷ take n (o ∷ os)) (sym (one-less (length os)))
 
 -- the new top of the stack is the end of the call, or no end
-next-settled : (p : ℕ) (held : Hold) (w : World) (d : Done) (rest : List Op) → Grows w d.world → weigh calling_of rest ≡ 0 → NextPart p held w (settled_by (end_of (top (yes held ∷ rest))) p d.world (yes held ∷ rest))
+next-settled : (p : ℕ) (held : Hold) (w : World) (d : Done) (rest : List Op) → Grows p w d.world → weigh calling_of rest ≡ 0 → NextPart p held w (settled_by (end_of (top (yes held ∷ rest))) p d.world (yes held ∷ rest))
 next-settled p held w d [] g z = answered g.more g.none_ends (ap (λ (xs : Trace). xs ++ event.CallEnded p reply.Yes ∷ []) g.is ∙ append_assoc w.trace g.more (event.CallEnded p reply.Yes ∷ []))
 next-settled p held w d (o ∷ os) g z =
     let last : (x : Op) × (top (o ∷ os) ≡ Some x) = top-there o os in
     let none : end_of (top (yes held ∷ o ∷ os)) ≡ None = ap end_of (top-above (yes held) o os ∙ last.1) ∙ not-end last.0 (top-light (o ∷ os) last.0 z last.1) in
     subst (λ (r : Option Reply). NextPart p held w (settled_by r p d.world (yes held ∷ o ∷ os))) (sym none) (inside g.more (o ∷ os) g.none_ends g.is refl z)
 
-next-onto : (p : ℕ) (held : Hold) (w : World) (d : Done) (below : List Op) → Light w d → weigh calling_of below ≡ 0 → NextPart p held w (onto p d (yes held ∷ below))
+next-onto : (p : ℕ) (held : Hold) (w : World) (d : Done) (below : List Op) → Light p w d → weigh calling_of below ≡ 0 → NextPart p held w (onto p d (yes held ∷ below))
 next-onto p held w d below l z = next-settled p held w d (below ++ reverse d.next) l.grows (omega (arith, z, l.none, weigh-append calling_of below (reverse d.next), weigh-reverse calling_of d.next))
 
-next-light : (p : ℕ) (held : Hold) (w : World) (d : Op → Done) (o : Op) (os : List Op) → ((x : Op) → calling_of x ≡ 0 → Light w (d x)) → weigh calling_of (o ∷ os) ≡ 0 → NextPart p held w (gone_on p w (yes held ∷ o ∷ os) (top (yes held ∷ o ∷ os)) d)
+next-light : (p : ℕ) (held : Hold) (w : World) (d : Op → Done) (o : Op) (os : List Op) → ((x : Op) → calling_of x ≡ 0 → Light p w (d x)) → weigh calling_of (o ∷ os) ≡ 0 → NextPart p held w (gone_on p w (yes held ∷ o ∷ os) (top (yes held ∷ o ∷ os)) d)
 next-light p held w d o os k z =
     let last : (x : Op) × (top (o ∷ os) ≡ Some x) = top-there o os in
     subst (λ (t : Option Op). NextPart p held w (gone_on p w (yes held ∷ o ∷ os) t d)) (sym (top-above (yes held) o os ∙ last.1))

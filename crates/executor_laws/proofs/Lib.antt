@@ -16,3 +16,5 @@ pub mod Finding
 pub mod Following
 pub mod Inside
 pub mod Begun
+pub mod Prompting
+pub mod PromptRuns

@@ -4,3 +4,4 @@ pub mod Reach
 pub mod Queueings
 pub mod Continued
 pub mod AtRest
+pub mod AtOnce

@@ -1,5 +1,6 @@
 //! Laws of every run of the machine, of any number of parties and any list of steps.
 ghost use Rattle.std.specs.Prelude.{ℕ, List};
+ghost use Rattle.executor_laws.specs.AtOnce.{NoComesAtOnce};
 ghost use Rattle.executor_laws.specs.AtRest.{EmptinessIsExact, TicksAreExact};
 ghost use Rattle.executor_laws.specs.Continued.{IsContinued};
 ghost use Rattle.executor_laws.specs.Queueings.{CountsQueueings};
@@ -54,4 +55,10 @@ pub fn traces_continue()
 pub fn calls_at_rest_are_exact()
     ensures ticks { EveryTrace TicksAreExact }
     ensures emptiness { EveryTrace EmptinessIsExact }
+{}
+
+/// Whoever is answered no is answered at once. Of what a party did, in whatever calls, an answer no stands
+/// right behind the beginning of the call that it answers; others may do anything meanwhile.
+pub fn no_comes_at_once()
+    ensures { EveryTrace NoComesAtOnce }
 {}

@@ -1,5 +1,6 @@
 -- What holds of the trace of every script, in the words of the machine's laws.
 use Rattle.std.specs.Prelude.{ℕ}
+use Rattle.executor_laws.specs.AtOnce.{NoComesAtOnce}
 use Rattle.executor_laws.specs.AtRest.{EmptinessIsExact, TicksAreExact}
 use Rattle.executor_model.specs.AskedPolls.{IsWokenBetweenPolls}
 use Rattle.executor_model.specs.AwaiterKept.{AwaiterIsKept}
@@ -20,3 +21,5 @@ pub record IsLawful (trace : Trace) : Type 0 where
   -- the answers of each party's calls that begin at rest
   pub ticks : (p : ℕ) → TicksAreExact p trace
   pub emptiness : (p : ℕ) → EmptinessIsExact p trace
+  -- and no party is answered no but at once
+  pub at_once : (p : ℕ) → NoComesAtOnce p trace

@@ -15,7 +15,7 @@ ghost use Rattle.simulator.specs.ScriptText.{IsPlayed};
 use crate::moment::Moment;
 use crate::play::player::Player;
 use executor_core::Machine;
-use executor_laws::laws::{calls_at_rest_are_exact, traces_continue};
+use executor_laws::laws::{calls_at_rest_are_exact, no_comes_at_once, traces_continue};
 use executor_model::trace_laws::{
     awaiters_are_kept, closing_drops_each_future_once, drops_come_once, early_drops_have_causes,
     outputs_go_once, polls_are_asked_for, polls_are_lawful,
@@ -59,5 +59,6 @@ fn keeps_to_laws(machine: &Machine)
     closing_drops_each_future_once();
     awaiters_are_kept();
     calls_at_rest_are_exact();
+    no_comes_at_once();
     machine.is_reached();
 }

@@ -1,4 +1,5 @@
 use Rattle.executor_core.proofs.Reaching.{law_here}
+use Rattle.executor_laws.specs.AtOnce.{NoComesAtOnce}
 use Rattle.executor_laws.specs.AtRest.{EmptinessIsExact, TicksAreExact}
 use Rattle.executor_model.specs.AskedPolls.{IsWokenBetweenPolls}
 use Rattle.executor_model.specs.AwaiterKept.{AwaiterIsKept}
@@ -21,4 +22,5 @@ returns c =
       awaiters = law_here AwaiterIsKept c.awaiters_are_kept.ensures _ reached;
       ticks = law_here TicksAreExact c.calls_at_rest_are_exact.ensures.ticks _ reached;
       emptiness = law_here EmptinessIsExact c.calls_at_rest_are_exact.ensures.emptiness _ reached;
+      at_once = law_here NoComesAtOnce c.no_comes_at_once.ensures _ reached;
     }

@@ -1,0 +1,243 @@
+-- A party that may be answered no next has done nothing since its call began.
+use Rattle.std.proofs.Common.{◌≡◌, ◌≢◌, ◌⊎◌, ℕ, ◌≤◌, List, [], ◌∷◌, ◌++◌, Bool, true, false, ◌||◌, ◌&&◌, not, cond, refl, ap, ◌∙◌, inl, inr, ⊎_elim, arith, append-nil}
+use Rattle.std.proofs.lemmas.Bool.Decides.{nat_tests}
+use Rattle.std.proofs.lemmas.List.Elements.{filter-append}
+use Rattle.std.specs.List.{filter}
+use Rattle.std.specs.Prelude.{Option, Some, None}
+use Rattle.task_moves.specs.declared.moves.owed.Answer.{Answer}
+use Rattle.task_moves.specs.declared.moves.owed.Answer.TheVariants.{Refused, Pending, Closed, Output}
+use Rattle.task_moves.specs.declared.moves.owed.AwaiterDebt.{AwaiterDebt}
+use Rattle.task_moves.specs.declared.moves.owed.AwaiterDebt.TheVariants.{NotifyAwaiter, NotifyOther, CallGiven, StoreCopy, CallStored, TakeAwaiter, CallTaken}
+use Rattle.task_moves.specs.declared.moves.owed.Moved.{Moved}
+use Rattle.task_moves.specs.Moves as moves
+use Rattle.executor_model.specs.declared.call.Reply.TheVariants as reply
+use Rattle.executor_model.specs.declared.event.Event.{Event}
+use Rattle.executor_model.specs.declared.event.Event.TheVariants as event
+use Rattle.executor_model.specs.declared.op.Awaiter.{Awaiter}
+use Rattle.executor_model.specs.declared.op.Hold.{Hold}
+use Rattle.executor_model.specs.declared.op.Op.{Op}
+use Rattle.executor_model.specs.declared.op.Op.TheVariants as op
+use Rattle.executor_model.specs.declared.op.Waker.{Waker}
+use Rattle.executor_model.specs.declared.op.Waker.TheVariants.{Task, Outside}
+use Rattle.executor_model.specs.declared.step.Hint.{Hint}
+use Rattle.executor_model.specs.Quiet.{begins_call}
+use Rattle.executor_model.specs.Trace.{Trace, has}
+use Rattle.executor_model.specs.World.{World, task, awaiter_of}
+use Rattle.executor_model.specs.Carried.{awaiter_ops}
+use Rattle.executor_model.specs.Acts.{enter_by, copy_by, answered, polled, look_by, let_go, look_again_by, copy_awaiter_by, register_by, end_register_by, act}
+use Rattle.executor_model.specs.Weights.{weigh}
+use Rattle.executor_model.proofs.Calls.{calling_of, calls-act}
+use Rattle.executor_model.proofs.Lists.{weigh-append}
+use Rattle.executor_laws.specs.AtOnce.{doer, is_by, deeds}
+use Rattle.executor_laws.proofs.Finding.{left-false}
+use Rattle.executor_laws.proofs.Growing.{ends_one, is_end, Grows, not-by}
+use Rattle.executor_laws.proofs.Pushes.{filter-push}
+
+-- what is answered no next, if it is
+abbrev pub hasty : Op → ℕ
+hasty op.Take = 1
+hasty op.LookAtTable = 1
+hasty (op.End reply.No held) = 1
+hasty _ = 0
+
+-- of what p did: each answer no stands behind the beginning of a call, or stands first where b says so
+abbrev pub is_no : Event → Bool
+is_no (event.CallEnded p reply.No) = true
+is_no _ = false
+
+abbrev pub told : ℕ → Bool → Trace → Bool
+told p b [] = true
+told p b (e ∷ es) = (b || not (is_no e)) && told p (begins_call p e) es
+
+-- a call has begun last
+abbrev pub fresh : ℕ → Bool → Trace → Bool
+fresh p b [] = b
+fresh p b (e ∷ es) = fresh p (begins_call p e) es
+
+and-assoc : (a b c : Bool) → (a && (b && c)) ≡ ((a && b) && c)
+and-assoc true b c = refl
+and-assoc false b c = refl
+
+both : (a b : Bool) → a ≡ true → b ≡ true → (a && b) ≡ true
+both true b e k = k
+both false b e k = absurd (cc)
+
+either : (b c : Bool) → c ≡ false → (b || not c) ≡ true
+either true c e = refl
+either false true e = absurd (cc)
+either false false e = refl
+
+right-false : (a b : Bool) → (a || b) ≡ false → b ≡ false
+right-false true b e = absurd (cc)
+right-false false b e = e
+
+pub told-append : (p : ℕ) (b : Bool) (xs ys : Trace) → told p b (xs ++ ys) ≡ (told p b xs && told p (fresh p b xs) ys)
+told-append p b [] ys = refl
+told-append p b (e ∷ xs) ys = ap (λ (x : Bool). (b || not (is_no e)) && x) (told-append p (begins_call p e) xs ys) ∙ and-assoc (b || not (is_no e)) (told p (begins_call p e) xs) (told p (fresh p (begins_call p e) xs) ys)
+
+fresh-append : (p : ℕ) (b : Bool) (xs ys : Trace) → fresh p b (xs ++ ys) ≡ fresh p (fresh p b xs) ys
+fresh-append p b [] ys = refl
+fresh-append p b (e ∷ xs) ys = fresh-append p (begins_call p e) xs ys
+
+no-ends : (e : Event) → ends_one e ≡ false → is_no e ≡ false
+no-ends (event.CallEnded p r) k = absurd (cc)
+no-ends _ k = refl
+
+-- no call ends, so none is answered
+told-endless : (p : ℕ) (b : Bool) (es : Trace) → has ends_one es ≡ false → told p b es ≡ true
+told-endless p b [] k = refl
+told-endless p b (e ∷ es) k = both (b || not (is_no e)) (told p (begins_call p e) es)
+    (either b (is_no e) (no-ends e (left-false (ends_one e) (has ends_one es) k)))
+    (told-endless p (begins_call p e) es (right-false (ends_one e) (has ends_one es) k))
+
+-- what one party did of more
+
+skips : (b : Bool) (e : Event) (es : Trace) → b ≡ false → cond b (e ∷ es) es ≡ es
+skips true e es q = absurd (cc)
+skips false e es q = refl
+
+filter-none : (t : Event → Bool) (es : Trace) → has t es ≡ false → filter t es ≡ []
+filter-none t [] k = refl
+filter-none t (e ∷ es) k = skips (t e) e (filter t es) (left-false (t e) (has t es) k) ∙ filter-none t es (right-false (t e) (has t es) k)
+
+kept-has : (b : Bool) (u : Event → Bool) (e : Event) (es : Trace) → u e ≡ false → has u es ≡ false → has u (cond b (e ∷ es) es) ≡ false
+kept-has true u e es h r = ap (λ (x : Bool). x || has u es) h ∙ r
+kept-has false u e es h r = r
+
+filter-has : (t u : Event → Bool) (es : Trace) → has u es ≡ false → has u (filter t es) ≡ false
+filter-has t u [] k = refl
+filter-has t u (e ∷ es) k = kept-has (t e) u e (filter t es) (left-false (u e) (has u es) k) (filter-has t u es (right-false (u e) (has u es) k))
+
+pub deeds-other : (p q : ℕ) (w v : World) → Grows p w v → q ≢ p → deeds q v.trace ≡ deeds q w.trace
+deeds-other p q w v g n =
+    ap (deeds q) g.is ∙ (filter-append (is_by q) w.trace g.more ∙ (ap (λ (xs : Trace). deeds q w.trace ++ xs) (filter-none (is_by q) g.more (g.own q n)) ∙ append-nil (deeds q w.trace)))
+
+pub deeds-other_log : (p q : ℕ) (es : Trace) (e : Event) → doer e ≡ p → q ≢ p → deeds q (es ++ e ∷ []) ≡ deeds q es
+deeds-other_log p q es e d n = filter-append (is_by q) es (e ∷ []) ∙ (ap (λ (xs : Trace). deeds q es ++ xs) (filter-none (is_by q) (e ∷ []) (ap (λ (x : Bool). x || false) (not-by p q e d n))) ∙ append-nil (deeds q es))
+
+self : (p : ℕ) (e : Event) → doer e ≡ p → is_by p e ≡ true
+self p e d = grind (arith, nat_tests)
+
+pub deeds-own : (p : ℕ) (es : Trace) (e : Event) → doer e ≡ p → deeds p (es ++ e ∷ []) ≡ deeds p es ++ e ∷ []
+deeds-own p es e d = filter-push (is_by p) (λ (x : Event). true) es e ∙ go (is_by p e) (self p e d)
+  where
+    go : (b : Bool) → b ≡ true → cond b (deeds p es ++ e ∷ []) (deeds p es) ≡ deeds p es ++ e ∷ []
+    go true q = refl
+    go false q = absurd (cc)
+
+pub told-grows : (p : ℕ) (w v : World) → Grows p w v → told p false (deeds p w.trace) ≡ true → told p false (deeds p v.trace) ≡ true
+told-grows p w v g t =
+    ap (λ (xs : Trace). told p false (deeds p xs)) g.is
+    ∙ (ap (told p false) (filter-append (is_by p) w.trace g.more)
+    ∙ (told-append p false (deeds p w.trace) (filter (is_by p) g.more)
+    ∙ both (told p false (deeds p w.trace)) (told p (fresh p false (deeds p w.trace)) (filter (is_by p) g.more)) t (told-endless p (fresh p false (deeds p w.trace)) (filter (is_by p) g.more) (filter-has (is_by p) ends_one g.more g.none_ends))))
+
+pub told-log : (p : ℕ) (es : Trace) (e : Event) → doer e ≡ p → (fresh p false (deeds p es) || not (is_no e)) ≡ true → told p false (deeds p es) ≡ true → told p false (deeds p (es ++ e ∷ [])) ≡ true
+told-log p es e d k t =
+    ap (told p false) (deeds-own p es e d)
+    ∙ (told-append p false (deeds p es) (e ∷ [])
+    ∙ both (told p false (deeds p es)) ((fresh p false (deeds p es) || not (is_no e)) && true) t (both (fresh p false (deeds p es) || not (is_no e)) true k refl))
+
+pub fresh-log : (p : ℕ) (es : Trace) (e : Event) → doer e ≡ p → fresh p false (deeds p (es ++ e ∷ [])) ≡ begins_call p e
+fresh-log p es e d = ap (fresh p false) (deeds-own p es e d) ∙ fresh-append p false (deeds p es) (e ∷ [])
+
+-- what is to do
+
+hasty-calling : (o : Op) → hasty o ≤ calling_of o
+hasty-calling op.Take = omega arith
+hasty-calling op.LookAtTable = omega arith
+hasty-calling (op.End reply.No held) = omega arith
+hasty-calling _ = omega arith
+
+hasty-calling-all : (os : List Op) → weigh hasty os ≤ weigh calling_of os
+hasty-calling-all [] = omega arith
+hasty-calling-all (o ∷ os) = omega (arith, hasty-calling o, hasty-calling-all os)
+
+calling-is : (o : Op) → (calling_of o ≡ 0) ⊎ (calling_of o ≡ 1)
+calling-is op.Enter = inr refl
+calling-is op.Take = inr refl
+calling-is op.LookAtTable = inr refl
+calling-is (op.CopyWaker f held) = inr refl
+calling-is (op.Look f a) = inr refl
+calling-is (op.CopyAwaiter f a) = inr refl
+calling-is (op.Register f a k) = inr refl
+calling-is (op.EndRegister f a k) = inr refl
+calling-is (op.LookAgain f) = inr refl
+calling-is (op.End r held) = inr refl
+calling-is _ = inl refl
+
+pub hasty-is : (o : Op) → (hasty o ≡ 0) ⊎ (hasty o ≡ 1)
+hasty-is op.Take = inr refl
+hasty-is op.LookAtTable = inr refl
+hasty-is (op.End reply.No held) = inr refl
+hasty-is _ = inl refl
+
+slow-awaiter : (f : ℕ) (o : Option AwaiterDebt) → weigh hasty (awaiter_ops f o) ≡ 0
+slow-awaiter f (Some NotifyAwaiter) = refl
+slow-awaiter f (Some NotifyOther) = refl
+slow-awaiter f (Some CallGiven) = refl
+slow-awaiter f (Some StoreCopy) = refl
+slow-awaiter f (Some CallStored) = refl
+slow-awaiter f (Some TakeAwaiter) = refl
+slow-awaiter f (Some CallTaken) = refl
+slow-awaiter f None = refl
+
+slow-answered : (p : ℕ) (w : World) (f : ℕ) (m : Moved) (a : Answer) → weigh hasty (answered p w f m a).next ≡ 0
+slow-answered p w f m Refused = weigh-append hasty (awaiter_ops f m.owed.awaiter) _ ∙ omega (arith, slow-awaiter f m.owed.awaiter)
+slow-answered p w f m Pending = weigh-append hasty (awaiter_ops f m.owed.awaiter) _ ∙ omega (arith, slow-awaiter f m.owed.awaiter)
+slow-answered p w f m Closed = weigh-append hasty (awaiter_ops f m.owed.awaiter) _ ∙ omega (arith, slow-awaiter f m.owed.awaiter)
+slow-answered p w f m Output = weigh-append hasty (awaiter_ops f m.owed.awaiter) _ ∙ omega (arith, slow-awaiter f m.owed.awaiter)
+
+slow-look : (o : Option Answer) (p : ℕ) (w : World) (f : ℕ) (a : Waker) (m : Moved) → weigh hasty (look_by o p w f a m).next ≡ 0
+slow-look None p w f a m = refl
+slow-look (Some x) p w f a m = slow-answered p (polled p w f) f m x
+
+slow-again : (o : Option Answer) (p : ℕ) (w : World) (f : ℕ) (m : Moved) → weigh hasty (look_again_by o p w f m).next ≡ 0
+slow-again None p w f m = refl
+slow-again (Some x) p w f m = slow-answered p w f m x
+
+slow-copy_awaiter : (b : Bool) (p : ℕ) (w : World) (f : ℕ) (a : Waker) → weigh hasty (copy_awaiter_by b p w f a).next ≡ 0
+slow-copy_awaiter true p w f a = refl
+slow-copy_awaiter false p w f a = refl
+
+slow-register : (b : Bool) (w : World) (f : ℕ) (a : Waker) (k : ℕ) → weigh hasty (register_by b w f a k).next ≡ 0
+slow-register true w f a k = refl
+slow-register false w f a k = refl
+
+slow-let_go : (f : ℕ) (o : Option Awaiter) → weigh hasty (let_go o ++ op.LookAgain f ∷ []) ≡ 0
+slow-let_go f None = refl
+slow-let_go f (Some a) = go a.waker
+  where
+    go : (x : Waker) → weigh hasty (let_go (Some (record a { waker = x })) ++ op.LookAgain f ∷ []) ≡ 0
+    go (Task g) = refl
+    go (Outside x) = refl
+
+slow-end_register : (b : Bool) (w : World) (f : ℕ) (a : Waker) (k : ℕ) → weigh hasty (end_register_by b w f a k).next ≡ 0
+slow-end_register true w f a k = omega (arith, slow-let_go f (awaiter_of w f))
+slow-end_register false w f a k = slow-let_go f (awaiter_of w f)
+
+slow-enter : (b c : Bool) (p : ℕ) (w : World) → weigh hasty (enter_by b c p w).next ≡ 0
+slow-enter true c p w = refl
+slow-enter false true p w = refl
+slow-enter false false p w = refl
+
+slow-copy : (b : Bool) (w : World) (f : ℕ) (held : Hold) → weigh hasty (copy_by b w f held).next ≡ 0
+slow-copy true w f held = refl
+slow-copy false w f held = refl
+
+-- of what answers a call
+slow-calling : (p : ℕ) (h : Hint) (o : Op) (w : World) → calling_of o ≡ 1 → hasty o ≡ 0 → is_end o ≡ false → weigh hasty (act p h o w).next ≡ 0
+slow-calling p h op.Enter w c z n = slow-enter _ _ p w
+slow-calling p h (op.CopyWaker f held) w c z n = slow-copy _ w f held
+slow-calling p h (op.Look f a) w c z n = slow-look (moves.poll (task w f)).owed.answer p w f a (moves.poll (task w f))
+slow-calling p h (op.CopyAwaiter f a) w c z n = slow-copy_awaiter _ p w f a
+slow-calling p h (op.Register f a k) w c z n = slow-register _ w f a k
+slow-calling p h (op.EndRegister f a k) w c z n = slow-end_register _ w f a k
+slow-calling p h (op.LookAgain f) w c z n = slow-again (moves.look_again (task w f)).owed.answer p w f (moves.look_again (task w f))
+slow-calling p h _ w c z n = absurd (cc)
+
+pub slow-act : (p : ℕ) (h : Hint) (o : Op) (w : World) → hasty o ≡ 0 → is_end o ≡ false → weigh hasty (act p h o w).next ≡ 0
+slow-act p h o w z n = ⊎_elim
+    (λ (c : calling_of o ≡ 0). omega (arith, hasty-calling-all (act p h o w).next, (calls-act p h o w n).passes.none c))
+    (λ (c : calling_of o ≡ 1). slow-calling p h o w c z n)
+    (calling-is o)

@@ -1,6 +1,5 @@
-use async_task::Realm;
+use crate::{Tasks, run};
 use std::test::Fail;
-use timed_runs::run;
 use workloads::{ALL, Workload};
 
 // The sums of the numbers below 3,000 and below 1,500.
@@ -10,7 +9,7 @@ const BELOW_1500: u64 = 1_124_250;
 
 #[test]
 fn each_workload_moves_what_it_was_asked_to(rt: HostRuntime) -> Result<(), Fail> {
-    let realm = Realm::leak(rt.alloc(), 0)?;
+    let realm = Tasks::leak(rt.alloc(), 0)?;
     for workload in ALL {
         let want = match workload {
             Workload::FetchAdd

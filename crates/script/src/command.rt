@@ -45,8 +45,8 @@ impl Command {
         };
         match first {
             b"begin" => begin(alloc, words),
-            b"go" => Ok(go(words)),
-            b"finish" => Ok(finish(words)),
+            b"go" => Ok(party(words).map(Command::Go)),
+            b"finish" => Ok(party(words).map(Command::Finish)),
             _ => {
                 let request = read_request(alloc, first, words)?;
                 Ok(request.map(Command::Whole))
@@ -59,7 +59,7 @@ impl Command {
 fn read_request(
     alloc: Global,
     first: &[u8],
-    words: Words<'_>,
+    mut words: Words<'_>,
 ) -> Result<Option<Request>, AllocError>
     ensures found { IfOk result (λ found.
         IfSome found (λ request. SpellsRequest request (first.now ∷ words.entry))) }
@@ -67,7 +67,16 @@ fn read_request(
         IfNone found ((request : Request) → ¬ (SpellsRequest request (first.now ∷ words.entry)))) }
 {
     match first {
-        b"refuse" => refuse(alloc, words),
+        b"refuse" => {
+            let Some(second) = words.next() else {
+                return Ok(None);
+            };
+            let plain = read_plain(alloc, second, words)?;
+            Ok(plain.map(|plain| Request {
+                refused: true,
+                plain,
+            }))
+        }
         _ => {
             let plain = read_plain(alloc, first, words)?;
             Ok(plain.map(|plain| Request {
@@ -76,23 +85,6 @@ fn read_request(
             }))
         }
     }
-}
-
-/// The call that these words say behind `refuse`.
-fn refuse(alloc: Global, mut words: Words<'_>) -> Result<Option<Request>, AllocError>
-    ensures found { IfOk result (λ found.
-        IfSome found (λ request. SpellsRequest request (codes "refuse" ∷ words.entry))) }
-    ensures none { IfOk result (λ found.
-        IfNone found ((request : Request) → ¬ (SpellsRequest request (codes "refuse" ∷ words.entry)))) }
-{
-    let Some(first) = words.next() else {
-        return Ok(None);
-    };
-    let plain = read_plain(alloc, first, words)?;
-    Ok(plain.map(|plain| Request {
-        refused: true,
-        plain,
-    }))
 }
 
 /// The command that these words say behind `begin`: a party, and what it begins.
@@ -110,22 +102,6 @@ fn begin(alloc: Global, mut words: Words<'_>) -> Result<Option<Command>, AllocEr
     };
     let request = read_request(alloc, first, words)?;
     Ok(request.map(|request| Command::Begin { party, request }))
-}
-
-/// The command that these words say behind `go`: a party.
-fn go(words: Words<'_>) -> Option<Command>
-    ensures found { IfSome result (λ command. Spells command (codes "go" ∷ words.entry)) }
-    ensures none { IfNone result ((command : Command) → ¬ (Spells command (codes "go" ∷ words.entry))) }
-{
-    party(words).map(Command::Go)
-}
-
-/// The command that these words say behind `finish`: a party.
-fn finish(words: Words<'_>) -> Option<Command>
-    ensures found { IfSome result (λ command. Spells command (codes "finish" ∷ words.entry)) }
-    ensures none { IfNone result ((command : Command) → ¬ (Spells command (codes "finish" ∷ words.entry))) }
-{
-    party(words).map(Command::Finish)
 }
 
 /// The party that these words name, where they name one.

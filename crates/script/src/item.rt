@@ -1,6 +1,6 @@
 //! What a future does at one poll.
 
-ghost use Rattle.std.specs.Prelude.{◌≡◌, ◌↔◌, ℕ, ◌≤◌, true, List, IfNone, IfSome};
+ghost use Rattle.std.specs.Prelude.{ℕ, List, IfNone, IfSome};
 ghost use Rattle.script.specs.Item.{IsItem};
 ghost use Rattle.script.specs.declared.item.Item.TheVariants.{Ready, Twice};
 
@@ -61,12 +61,5 @@ fn ready(word: &[u8]) -> Option<Item>
     ensures none { IfNone result ((value : ℕ) → ¬ (IsItem (Ready value) word.now)) }
 {
     let value = read_number(word.strip_prefix(b"ready=")?)?;
-    is_output(value).then_some(Item::Ready(value))
-}
-
-/// Whether a future may be ready with this value.
-fn is_output(value: u64) -> bool
-    ensures { (result ≡ true) ↔ (value ≤ 1000000) }
-{
-    value <= 1_000_000
+    (value <= 1_000_000).then_some(Item::Ready(value))
 }

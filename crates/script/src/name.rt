@@ -1,8 +1,7 @@
 //! The names of futures.
 
-ghost use Rattle.std.specs.Prelude.{◌≡◌, ◌↔◌, true};
+ghost use Rattle.std.specs.Prelude.{◌≡◌};
 ghost use Rattle.std.specs.Option.{SomeIff};
-ghost use Rattle.script.specs.Name.{IsName};
 
 use std::cmp::Ordering;
 use std::marker::Model;
@@ -37,7 +36,7 @@ impl Name {
     pub fn new(word: &[u8]) -> Option<Name>
         ensures { SomeIff result (IsName word.now) word.now }
     {
-        if !is_name(word) {
+        if word.is_empty() || word.len() > 8 || !word.iter().all(|byte| byte.is_ascii_lowercase()) {
             return None;
         }
         let mut letters = [0; 8];
@@ -55,13 +54,6 @@ impl Name {
     {
         &self.letters[..self.len]
     }
-}
-
-/// Whether this word is a name.
-fn is_name(word: &[u8]) -> bool
-    ensures { (result ≡ true) ↔ IsName word.now }
-{
-    !word.is_empty() && word.len() <= 8 && word.iter().all(u8::is_ascii_lowercase)
 }
 
 /// Names are equal where their letters are.

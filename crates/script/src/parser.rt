@@ -1,6 +1,6 @@
 //! A text read as a script.
 
-ghost use Rattle.std.specs.Prelude.{◌≡◌, ◌↔◌, ℕ, suc, ◌+◌, ◌<◌, ◌≤◌, true, [], List, None, Ok, Err, IfNone, IfOk, IfSome, IsErrOf, IsOkUnless};
+ghost use Rattle.std.specs.Prelude.{◌≡◌, ◌↔◌, ℕ, suc, ◌+◌, ◌<◌, [], List, None, Ok, Err, IfNone, IfOk, IfSome, IsErrOf, IsOkUnless};
 ghost use Rattle.script.specs.Script.{IsLimit, IsCommand, IsShort, IsScript};
 ghost use Rattle.script.specs.BadLine.{IsGood, IsFirstBadLine};
 ghost use Rattle.script.specs.declared.command.Command.{Command};
@@ -71,14 +71,7 @@ fn read_limit(line: &[u8]) -> Option<u64>
         return None;
     };
     let limit = read_number(words.next()?)?;
-    (words.is_empty() && is_limit(limit)).then_some(limit)
-}
-
-/// Whether a script may ask for this many places.
-fn is_limit(limit: u64) -> bool
-    ensures { (result ≡ true) ↔ ((1 ≤ limit) × (limit ≤ 1000000)) }
-{
-    1 <= limit && limit <= MOST_PLACES
+    (words.is_empty() && 1 <= limit && limit <= MOST_PLACES).then_some(limit)
 }
 
 /// The command of a line behind the first line and this many commands.
@@ -89,18 +82,10 @@ fn read_command(alloc: Global, before: usize, line: &[u8]) -> Result<Command, Pa
     ensures bad { (number : ℕ) → IsErrOf result (ParseError.BadLine number) →
         (number ≡ before + 2) × ¬ (IsGood (suc before) line.now) }
 {
-    if may_stand(before, line) {
+    if before + 1 < MOST_LINES && line.len() <= LONGEST_LINE {
         if let Some(command) = Command::from_words(alloc, Words::of(line))? {
             return Ok(command);
         }
     }
     Err(ParseError::BadLine(before as u64 + 2))
-}
-
-/// Whether a script may have a line of this length behind the first line and this many commands.
-fn may_stand(before: usize, line: &[u8]) -> bool
-    requires { before < 10000 }
-    ensures { (result ≡ true) ↔ ((suc before < 10000) × IsShort line.now) }
-{
-    before + 1 < MOST_LINES && line.len() <= LONGEST_LINE
 }

@@ -71,9 +71,9 @@ pub fn read_plain(
 {
     match first {
         b"spawn" => spawn(alloc, words),
-        b"try" => Ok(alone(words, Plain::Try)),
-        b"empty" => Ok(alone(words, Plain::Empty)),
-        b"end" => Ok(alone(words, Plain::End)),
+        b"try" => Ok(words.is_empty().then_some(Plain::Try)),
+        b"empty" => Ok(words.is_empty().then_some(Plain::Empty)),
+        b"end" => Ok(words.is_empty().then_some(Plain::End)),
         _ => Ok(read_named(first, words)),
     }
 }
@@ -128,14 +128,6 @@ fn spawn(alloc: Global, mut words: Words<'_>) -> Result<Option<Plain>, AllocErro
     };
     let items = Items::from_words(alloc, words)?;
     Ok(items.map(|items| Plain::Spawn { name, items }))
-}
-
-/// This command, where no word stands behind its own.
-fn alone(words: Words<'_>, plain: Plain) -> Option<Plain>
-    ensures found { IfSome result (λ found. (found ≡ plain) × (words.entry ≡ [])) }
-    ensures none { IfNone result (words.entry ≢ []) }
-{
-    words.is_empty().then_some(plain)
 }
 
 /// The name that these words are, where they are one name.

@@ -1,4 +1,4 @@
-use Rattle.std.proofs.Common.{◌∙◌, ap, rules}
+use Rattle.std.proofs.Common.{◌∙◌, ap}
 use Rattle.executor_core.proofs.Lifting.{items, idle-push, starts}
 use Rattle.executor_core.proofs.machine.Machine.new.Goals as goal
 
@@ -7,6 +7,3 @@ loop-i-preserved c = ap items c.in_ok-push.ensures.items ∙ idle-push c.loop-i.
 
 pub invariant_of-result : goal.invariant_of-result
 invariant_of-result c = starts _ _ _ _ c.empty.ensures c.loop-i.invariant
-
-pub returns : goal.returns
-returns c = search rules

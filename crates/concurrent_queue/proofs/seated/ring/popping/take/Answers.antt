@@ -1,4 +1,4 @@
-use Rattle.std.proofs.Common.{arith, rules}
+use Rattle.std.proofs.Common.{arith}
 use Rattle.queue_steps.proofs.RingWords.{place_fits}
 use Rattle.concurrent_queue.proofs.seated.ring.popping.take.Goals as goal
 
@@ -8,12 +8,3 @@ overflow_add-head g c =
     let fits = place_fits shape.capacity shape.mark c.args.head shape.sound c.requires.stands.4 in
     let lap = c.lap.ensures in
     omega arith
-
-pub read-requires-clause-place : goal.read-requires-clause-place
-read-requires-clause-place g c = search rules
-
-pub read-requires-clause-seen : goal.read-requires-clause-seen
-read-requires-clause-seen g c = search rules
-
-pub read-requires-clause-held : goal.read-requires-clause-held
-read-requires-clause-held g c = search rules

@@ -1,5 +1,0 @@
-use Rattle.std.proofs.Common.{rules}
-use Rattle.async_task.proofs.realm.Cells.number.Goals as goal
-
-pub returns : goal.returns
-returns g c = search rules

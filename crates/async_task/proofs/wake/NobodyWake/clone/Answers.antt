@@ -1,5 +1,0 @@
-use Rattle.std.proofs.Common.{rules}
-use Rattle.async_task.proofs.wake.NobodyWake.clone.Goals as goal
-
-pub returns : goal.returns
-returns c = search rules

@@ -1,5 +1,0 @@
-use Rattle.std.proofs.Common.{rules}
-use Rattle.concurrent_queue.proofs.concurrent.ConcurrentQueue.capacity.Goals as goal
-
-pub returns-in-Single : goal.returns-in-Single
-returns-in-Single g c = search rules

@@ -1,5 +1,0 @@
-use Rattle.std.proofs.Common.{rules}
-use Rattle.concurrent_queue.proofs.concurrent.ConcurrentQueue.is_full.Goals as goal
-
-pub returns-in-Unbounded : goal.returns-in-Unbounded
-returns-in-Unbounded g c = search rules

@@ -6,9 +6,9 @@ ghost use Rattle.executor_model.specs.World.{task, without, among, awaiter_of};
 ghost use Rattle.executor_model.specs.Good.{IsKnown, CanGrow, IsHeld, HasPlace, KeepsAwaiter, IsKnownWaker, CanWake};
 ghost use Rattle.executor_core.specs.Views.{world_of, HasRoom, HasRoomToEnd, HasSpace, Does};
 
-use crate::entries::Entries;
 use crate::store::Store;
 use executor_model::{Event, Op};
+use executor_table::Entries;
 use task_moves::ScheduleInfo;
 use task_moves::moves::{self, AwaiterDebt, FutureDebt, Move, Moved, State};
 

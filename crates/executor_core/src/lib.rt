@@ -5,12 +5,9 @@
 mod act;
 mod carry;
 mod closing;
-mod entries;
 mod handle;
 mod machine;
-mod order;
 mod part;
-mod places;
 mod possible;
 mod queue;
 mod store;
@@ -19,5 +16,5 @@ mod task;
 mod uses;
 
 pub use executor_model::Kind;
+pub use executor_table::Places;
 pub use machine::Machine;
-pub use places::Places;

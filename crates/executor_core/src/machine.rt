@@ -15,7 +15,6 @@ ghost use Rattle.executor_core.specs.Views.{world_of, state_of, HasRoom, HasSpac
 ghost use Rattle.executor_core.specs.Reached.{IsReached};
 ghost use Rattle.executor_core.specs.Refused.{IsRefused};
 
-use crate::entries::Entries;
 use crate::part::take_part;
 use crate::possible::{has_handle, part_refusal};
 use crate::store::Store;
@@ -26,6 +25,7 @@ use executor_model::trace_laws::{
     outputs_go_once, polls_are_asked_for, polls_are_lawful,
 };
 use executor_model::{Awaiter, Event, Kind, Op, Step, StepError};
+use executor_table::Entries;
 use std::alloc::{AllocError, Global};
 use std::collections::VecDeque;
 use std::marker::Model;

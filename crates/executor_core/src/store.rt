@@ -1,5 +1,5 @@
-use crate::entries::Entries;
 use executor_model::{Awaiter, Event};
+use executor_table::Entries;
 use std::collections::VecDeque;
 use task_moves::moves::State;
 

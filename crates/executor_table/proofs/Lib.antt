@@ -1,0 +1,4 @@
+pub mod Cells
+pub mod Ring
+pub mod Placing
+pub mod Seating

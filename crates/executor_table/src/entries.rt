@@ -1,0 +1,238 @@
+//! The entries of the machine's futures, by the numbers of these.
+ghost use Rattle.std.specs.Prelude.{◌≡◌, ◌≢◌, ℕ, ◌<◌, ◌==◌, ◌++◌, true, false, List, [], ◌∷◌, length, slice_set, OnOk, IsOk, IfSome, IfNone, Some, map, vec_len};
+ghost use Rattle.executor_model.specs.World.{without, among};
+ghost use Rattle.executor_table.specs.Entered.{AreSeated, futures_of, key_of, present_of};
+ghost use Rattle.executor_table.specs.Order.{IsApart};
+ghost use Rattle.executor_table.specs.Places.{entry_at, waker_of};
+
+use crate::places::Places;
+use std::alloc::{AllocError, Global};
+use std::marker::Model;
+
+/// The table of the machine, and what the executor's drop has taken out of it. A future is named by its number, which
+/// is also its waker; there is nothing more to it.
+#[derive(Drop)]
+pub struct Entries {
+    table: Places<(), u64>,
+    leaving: Places<(), u64>,
+    // By the numbers of the futures.
+    seats: Vec<Seat>,
+}
+
+#[derive(Clone, Copy)]
+struct Seat {
+    // The key of its entry, where it has one.
+    key: usize,
+    // It is in its place.
+    inside: bool,
+}
+
+impl Model for Entries {
+    ghost use Rattle.std.specs.Prelude.{map, nat_lt, ◌&&◌, vec_len, vec_capacity};
+    ghost use Rattle.executor_table.specs.Entered.{Entered, AreSeated, futures_of, present_of};
+
+    ghost Value = { Entered };
+
+    ghost view = { λ e. record {
+      table = futures_of e.table.entries;
+      leaving = futures_of e.leaving.entries;
+      present = present_of e.table.entries;
+      inside = map (λ s. s.inside) e.seats.items;
+      has_room = e.table.has_room && nat_lt (vec_len e.seats) (vec_capacity e.seats);
+    } };
+
+    ghost invariant = { λ e. AreSeated e.seats.items e.table.entries × AreSeated e.seats.items e.leaving.entries };
+}
+
+/// The key under which this future has an entry, if it has one.
+fn find(table: &Places<(), u64>, seats: &Vec<Seat>, f: u64) -> Option<usize>
+    requires { AreSeated seats.now.items table.now.entries }
+    ensures known { IfSome result (λ key. f < vec_len seats.now) }
+    ensures here { IfSome result (λ key. key ≡ key_of seats.now.items f) }
+    ensures found { IfSome result (λ key. waker_of (entry_at key table.now.entries) ≡ Some f) }
+    ensures apart { IfSome result (λ key. IsApart (map (λ e. e.key) table.now.entries)) }
+    ensures absent { IfNone result (among f (futures_of table.now.entries) ≡ false) }
+{
+    if f >= seats.len() as u64 {
+        return None;
+    }
+    let key = seats[f as usize].key;
+    let waker = match table.waker(key) {
+        Some(waker) => waker,
+        None => return None,
+    };
+    if *waker == f { Some(key) } else { None }
+}
+
+/// The future is taken out of its entry, where it has one.
+fn take_from(table: &mut Places<(), u64>, seats: &Vec<Seat>, f: u64)
+    requires { AreSeated seats.now.items table.old.entries }
+    ensures seated { AreSeated seats.now.items table.new.entries }
+    ensures futures { futures_of table.new.entries ≡ futures_of table.old.entries }
+    ensures out { present_of table.new.entries ≡ without f (present_of table.old.entries) }
+    ensures room { table.new.has_room ≡ table.old.has_room }
+{
+    let key = match find(table, seats, f) {
+        Some(key) => key,
+        None => return,
+    };
+    table.take(key);
+}
+
+/// The future is put back into its entry, where it has one.
+fn put_into(table: &mut Places<(), u64>, seats: &Vec<Seat>, f: u64)
+    requires { AreSeated seats.now.items table.old.entries }
+    ensures seated { AreSeated seats.now.items table.new.entries }
+    ensures futures { futures_of table.new.entries ≡ futures_of table.old.entries }
+    ensures back { among f (present_of table.new.entries) ≡ among f (futures_of table.old.entries) }
+    ensures others { (g : ℕ) → g ≢ f → among g (present_of table.new.entries) ≡ among g (present_of table.old.entries) }
+    ensures room { table.new.has_room ≡ table.old.has_room }
+{
+    let key = match find(table, seats, f) {
+        Some(key) => key,
+        None => return,
+    };
+    table.put_back(key, ());
+}
+
+impl Entries {
+    /// A table that no future has entered, which takes no memory.
+    pub fn new(alloc: Global) -> Entries
+        ensures table { result.table ≡ [] }
+        ensures leaving { result.leaving ≡ [] }
+        ensures present { result.present ≡ [] }
+        ensures inside { result.inside ≡ [] }
+    {
+        Entries {
+            table: Places::new(alloc),
+            leaving: Places::new(alloc),
+            seats: Vec::new(alloc),
+        }
+    }
+
+    /// Makes room for one more future. Where there is room it succeeds.
+    pub fn reserve(&mut self) -> Result<(), AllocError>
+        ensures table { self.new.table ≡ self.old.table }
+        ensures leaving { self.new.leaving ≡ self.old.leaving }
+        ensures inside { self.new.inside ≡ self.old.inside }
+        ensures present { self.new.present ≡ self.old.present }
+        ensures room { OnOk result (self.new.has_room ≡ true) }
+        ensures succeeds { self.old.has_room ≡ true → IsOk result }
+    {
+        self.seats.reserve(1)?;
+        self.table.reserve()
+    }
+
+    /// How many futures have an entry in the table.
+    pub fn len(&self) -> usize
+        ensures { result ≡ length self.now.table }
+    {
+        self.table.len()
+    }
+
+    /// Whether no future has an entry in the table.
+    pub fn is_empty(&self) -> bool
+        ensures { result ≡ (length self.now.table == 0) }
+    {
+        self.table.is_empty()
+    }
+
+    /// Whether nothing is left of what was taken out.
+    pub fn has_none_leaving(&self) -> bool
+        ensures { result ≡ (length self.now.leaving == 0) }
+    {
+        self.leaving.is_empty()
+    }
+
+    /// The next future enters.
+    pub fn enter(&mut self, f: u64)
+        requires next { f ≡ length self.old.inside }
+        requires room { self.old.has_room ≡ true }
+        ensures table { self.new.table ≡ self.old.table ++ f ∷ [] }
+        ensures leaving { self.new.leaving ≡ self.old.leaving }
+        ensures present { self.new.present ≡ self.old.present ++ f ∷ [] }
+        ensures inside { self.new.inside ≡ self.old.inside ++ true ∷ [] }
+    {
+        let key = self.table.enter((), f);
+        self.seats.push_reserved(Seat { key, inside: true });
+    }
+
+    /// The future is taken out, to be polled or dropped.
+    pub fn take(&mut self, f: u64)
+        requires { f < length self.old.inside }
+        ensures table { self.new.table ≡ self.old.table }
+        ensures leaving { self.new.leaving ≡ self.old.leaving }
+        ensures out { self.new.present ≡ without f self.old.present }
+        ensures inside { self.new.inside ≡ slice_set self.old.inside f false }
+        ensures room { self.new.has_room ≡ self.old.has_room }
+    {
+        let place = f as usize;
+        take_from(&mut self.table, &self.seats, f);
+        self.seats[place].inside = false;
+    }
+
+    /// The future is put back.
+    pub fn put_back(&mut self, f: u64)
+        requires { f < length self.old.inside }
+        ensures table { self.new.table ≡ self.old.table }
+        ensures leaving { self.new.leaving ≡ self.old.leaving }
+        ensures back { among f self.new.present ≡ among f self.old.table }
+        ensures others { (g : ℕ) → g ≢ f → among g self.new.present ≡ among g self.old.present }
+        ensures inside { self.new.inside ≡ slice_set self.old.inside f true }
+        ensures room { self.new.has_room ≡ self.old.has_room }
+    {
+        let place = f as usize;
+        put_into(&mut self.table, &self.seats, f);
+        self.seats[place].inside = true;
+    }
+
+    /// Whether this future has an entry in the table.
+    pub fn contains(&self, f: u64) -> bool
+        ensures { result ≡ among f self.now.table }
+    {
+        find(&self.table, &self.seats, f).is_some()
+    }
+
+    /// The future's entry goes. Answers whether it was there.
+    pub fn leave(&mut self, f: u64) -> bool
+        ensures was { result ≡ among f self.old.table }
+        ensures left { result ≡ true → self.new.table ≡ without f self.old.table }
+        ensures same { result ≡ false → self.new.table ≡ self.old.table }
+        ensures leaving { self.new.leaving ≡ self.old.leaving }
+        ensures present { self.new.present ≡ without f self.old.present }
+        ensures inside { self.new.inside ≡ self.old.inside }
+        ensures room { self.old.has_room ≡ true → self.new.has_room ≡ true }
+    {
+        let key = match find(&self.table, &self.seats, f) {
+            Some(key) => key,
+            None => return false,
+        };
+        self.table.leave(key);
+        true
+    }
+
+    /// All are taken out of the table.
+    pub fn take_out(&mut self)
+        ensures table { self.new.table ≡ self.old.leaving }
+        ensures leaving { self.new.leaving ≡ self.old.table }
+        ensures inside { self.new.inside ≡ self.old.inside }
+    {
+        self.table.exchange(&mut self.leaving);
+    }
+
+    /// The first of those that were taken out goes, to be dropped, and is answered.
+    pub fn leave_first(&mut self) -> Option<u64>
+        ensures none { IfNone result ((self.old.leaving ≡ []) × (self.new.leaving ≡ []) × (self.new.inside ≡ self.old.inside)) }
+        ensures some { IfSome result (λ f. (self.old.leaving ≡ f ∷ self.new.leaving) × (self.new.inside ≡ slice_set self.old.inside f false)) }
+        ensures table { self.new.table ≡ self.old.table }
+        ensures present { self.new.present ≡ self.old.present }
+        ensures room { self.new.has_room ≡ self.old.has_room }
+    {
+        let (_, f) = match self.leaving.leave_first() {
+            Some(parts) => parts,
+            None => return None,
+        };
+        self.seats[f as usize].inside = false;
+        Some(f)
+    }
+}

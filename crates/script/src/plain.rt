@@ -83,6 +83,7 @@ pub fn read_plain(
 }
 
 /// The command of this word and the name behind it, where they are one.
+#[tactic(auto, using(crate::proofs::Unread::no_plain))]
 fn read_named(first: &[u8], words: Words<'_>) -> Option<Plain>
     requires spawn { first.now ≢ codes "spawn" }
     requires try_tick { first.now ≢ codes "try" }
@@ -93,34 +94,16 @@ fn read_named(first: &[u8], words: Words<'_>) -> Option<Plain>
 {
     if first == b"wake".as_slice() {
         named(words).map(Plain::Wake)
+    } else if first == b"unkeep".as_slice() {
+        named(words).map(Plain::Unkeep)
     } else if first == b"poll".as_slice() {
         named(words).map(Plain::Poll)
-    } else if first == b"drop".as_slice() {
-        named(words).map(Plain::Drop)
-    } else {
-        read_longer(first, words)
-    }
-}
-
-/// The same of the words of six letters.
-#[tactic(auto, using(crate::proofs::Unread::no_plain))]
-fn read_longer(first: &[u8], words: Words<'_>) -> Option<Plain>
-    requires spawn { first.now ≢ codes "spawn" }
-    requires try_tick { first.now ≢ codes "try" }
-    requires empty { first.now ≢ codes "empty" }
-    requires end { first.now ≢ codes "end" }
-    requires wake { first.now ≢ codes "wake" }
-    requires poll { first.now ≢ codes "poll" }
-    requires drop { first.now ≢ codes "drop" }
-    ensures found { IfSome result (λ plain. IsSpelled plain (first.now ∷ words.entry)) }
-    ensures none { IfNone result ((plain : Plain) → ¬ (IsSpelled plain (first.now ∷ words.entry))) }
-{
-    if first == b"unkeep".as_slice() {
-        named(words).map(Plain::Unkeep)
     } else if first == b"cancel".as_slice() {
         named(words).map(Plain::Cancel)
     } else if first == b"detach".as_slice() {
         named(words).map(Plain::Detach)
+    } else if first == b"drop".as_slice() {
+        named(words).map(Plain::Drop)
     } else {
         None
     }

@@ -43,14 +43,15 @@ impl Command {
         let Some(first) = words.next() else {
             return Ok(None);
         };
-        match first {
-            b"begin" => begin(alloc, words),
-            b"go" => Ok(party(words).map(Command::Go)),
-            b"finish" => Ok(party(words).map(Command::Finish)),
-            _ => {
-                let request = read_request(alloc, first, words)?;
-                Ok(request.map(Command::Whole))
-            }
+        if first == b"begin".as_slice() {
+            begin(alloc, words)
+        } else if first == b"go".as_slice() {
+            Ok(party(words).map(Command::Go))
+        } else if first == b"finish".as_slice() {
+            Ok(party(words).map(Command::Finish))
+        } else {
+            let request = read_request(alloc, first, words)?;
+            Ok(request.map(Command::Whole))
         }
     }
 }
@@ -66,24 +67,21 @@ fn read_request(
     ensures none { IfOk result (λ found.
         IfNone found ((request : Request) → ¬ (SpellsRequest request (first.now ∷ words.entry)))) }
 {
-    match first {
-        b"refuse" => {
-            let Some(second) = words.next() else {
-                return Ok(None);
-            };
-            let plain = read_plain(alloc, second, words)?;
-            Ok(plain.map(|plain| Request {
-                refused: true,
-                plain,
-            }))
-        }
-        _ => {
-            let plain = read_plain(alloc, first, words)?;
-            Ok(plain.map(|plain| Request {
-                refused: false,
-                plain,
-            }))
-        }
+    if first == b"refuse".as_slice() {
+        let Some(second) = words.next() else {
+            return Ok(None);
+        };
+        let plain = read_plain(alloc, second, words)?;
+        Ok(plain.map(|plain| Request {
+            refused: true,
+            plain,
+        }))
+    } else {
+        let plain = read_plain(alloc, first, words)?;
+        Ok(plain.map(|plain| Request {
+            refused: false,
+            plain,
+        }))
     }
 }
 

@@ -34,14 +34,17 @@ impl Item {
         ensures found { IfSome result (λ item. IsItem item word.now) }
         ensures none { IfNone result ((item : Item) → ¬ (IsItem item word.now)) }
     {
-        match word {
-            b"pend" => Some(Item::Pend),
-            b"self" => Some(Item::WakeSelf),
-            b"keep" => Some(Item::Keep),
-            _ => match twice(word) {
+        if word == b"pend".as_slice() {
+            Some(Item::Pend)
+        } else if word == b"self".as_slice() {
+            Some(Item::WakeSelf)
+        } else if word == b"keep".as_slice() {
+            Some(Item::Keep)
+        } else {
+            match twice(word) {
                 Some(item) => Some(item),
                 None => ready(word),
-            },
+            }
         }
     }
 }

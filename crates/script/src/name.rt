@@ -36,7 +36,7 @@ impl Name {
     pub fn new(word: &[u8]) -> Option<Name>
         ensures { SomeIff result (IsName word.now) word.now }
     {
-        if word.is_empty() || word.len() > 8 || !word.iter().all(|byte| byte.is_ascii_lowercase()) {
+        if word.is_empty() || word.len() > 8 || !word.iter().all(u8::is_ascii_lowercase) {
             return None;
         }
         let mut letters = [0; 8];

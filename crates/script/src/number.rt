@@ -10,7 +10,7 @@ pub fn read_number(word: &[u8]) -> Option<u64>
     ensures found { IfSome result (λ number. IsNumber word.now number) }
     ensures none { IfNone result ((number : ℕ) → number < 2 ^ 64 → ¬ (IsNumber word.now number)) }
 {
-    if word.len() > 20 || !word.iter().all(|byte| byte.is_ascii_digit()) {
+    if word.len() > 20 || !word.iter().all(u8::is_ascii_digit) {
         return None;
     }
     str::from_utf8(word).ok()?.parse().ok()

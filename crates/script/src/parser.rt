@@ -67,9 +67,9 @@ fn read_limit(line: &[u8]) -> Option<u64>
         return None;
     }
     let mut words = Words::of(line);
-    let b"limit" = words.next()? else {
+    if words.next()? != b"limit".as_slice() {
         return None;
-    };
+    }
     let limit = read_number(words.next()?)?;
     (words.is_empty() && 1 <= limit && limit <= MOST_PLACES).then_some(limit)
 }

@@ -69,16 +69,21 @@ pub fn read_plain(
     ensures none { IfOk result (λ found.
         IfNone found ((plain : Plain) → ¬ (IsSpelled plain (first.now ∷ words.entry)))) }
 {
-    match first {
-        b"spawn" => spawn(alloc, words),
-        b"try" => Ok(words.is_empty().then_some(Plain::Try)),
-        b"empty" => Ok(words.is_empty().then_some(Plain::Empty)),
-        b"end" => Ok(words.is_empty().then_some(Plain::End)),
-        _ => Ok(read_named(first, words)),
+    if first == b"spawn".as_slice() {
+        spawn(alloc, words)
+    } else if first == b"try".as_slice() {
+        Ok(words.is_empty().then_some(Plain::Try))
+    } else if first == b"empty".as_slice() {
+        Ok(words.is_empty().then_some(Plain::Empty))
+    } else if first == b"end".as_slice() {
+        Ok(words.is_empty().then_some(Plain::End))
+    } else {
+        Ok(read_named(first, words))
     }
 }
 
 /// The command of this word and the name behind it, where they are one.
+#[tactic(auto, using(crate::proofs::Unread::no_plain))]
 fn read_named(first: &[u8], words: Words<'_>) -> Option<Plain>
     requires spawn { first.now ≢ codes "spawn" }
     requires try_tick { first.now ≢ codes "try" }
@@ -87,32 +92,20 @@ fn read_named(first: &[u8], words: Words<'_>) -> Option<Plain>
     ensures found { IfSome result (λ plain. IsSpelled plain (first.now ∷ words.entry)) }
     ensures none { IfNone result ((plain : Plain) → ¬ (IsSpelled plain (first.now ∷ words.entry))) }
 {
-    match first {
-        b"wake" => named(words).map(Plain::Wake),
-        b"poll" => named(words).map(Plain::Poll),
-        b"drop" => named(words).map(Plain::Drop),
-        _ => read_longer(first, words),
-    }
-}
-
-/// The same of the words of six letters.
-#[tactic(auto, using(crate::proofs::Unread::no_plain))]
-fn read_longer(first: &[u8], words: Words<'_>) -> Option<Plain>
-    requires spawn { first.now ≢ codes "spawn" }
-    requires try_tick { first.now ≢ codes "try" }
-    requires empty { first.now ≢ codes "empty" }
-    requires end { first.now ≢ codes "end" }
-    requires wake { first.now ≢ codes "wake" }
-    requires poll { first.now ≢ codes "poll" }
-    requires drop { first.now ≢ codes "drop" }
-    ensures found { IfSome result (λ plain. IsSpelled plain (first.now ∷ words.entry)) }
-    ensures none { IfNone result ((plain : Plain) → ¬ (IsSpelled plain (first.now ∷ words.entry))) }
-{
-    match first {
-        b"unkeep" => named(words).map(Plain::Unkeep),
-        b"cancel" => named(words).map(Plain::Cancel),
-        b"detach" => named(words).map(Plain::Detach),
-        _ => None,
+    if first == b"wake".as_slice() {
+        named(words).map(Plain::Wake)
+    } else if first == b"unkeep".as_slice() {
+        named(words).map(Plain::Unkeep)
+    } else if first == b"poll".as_slice() {
+        named(words).map(Plain::Poll)
+    } else if first == b"cancel".as_slice() {
+        named(words).map(Plain::Cancel)
+    } else if first == b"detach".as_slice() {
+        named(words).map(Plain::Detach)
+    } else if first == b"drop".as_slice() {
+        named(words).map(Plain::Drop)
+    } else {
+        None
     }
 }
 

@@ -112,7 +112,7 @@ impl Shape {
 }
 
 /// What a call on a ring does next.
-#[derive(Clone, Copy, PartialEq, Eq, Debug)]
+#[derive(Clone, Copy)]
 pub enum Turn {
     /// Load the tail.
     Tail,

@@ -19,7 +19,7 @@ pub struct Ends {
 }
 
 /// What the section of a call does.
-#[derive(Clone, Copy, PartialEq, Eq, Debug)]
+#[derive(Clone, Copy)]
 pub enum Turn {
     /// Append to the last block.
     Append,

@@ -25,7 +25,7 @@ use Rattle.executor_model.specs.Acts.{append_by, take_by, enter_by, look_at_tabl
 use Rattle.executor_model.specs.Weights.{same, weigh}
 use Rattle.executor_model.specs.Good.{past, pasts, waker_past, past_of}
 use Rattle.executor_model.specs.Sound.{with_ops, Pend, Sound, times, awaiters_of}
-use Rattle.executor_model.proofs.Lists.{read_put, read_push, fresh_is, wakers_of-push, past_is, same_is, times-append, times-drop, awaiters_of-set, awaiters_of-push, wakes_if, phase-push, phase-begun, phase-answered, phase-dropped, without_one}
+use Rattle.executor_model.proofs.Lists.{read_put, read_push, fresh_is, wakers_of-push, past_is, same_is, times-append, times-drop, awaiters_of-set, awaiters_of-push, wakes_if, phase-push, phase-begun, phase-answered, phase-dropped, without_one, with_ops-closing}
 
 -- it keeps what holds of g
 abbrev pub Keeps : World → List Op → Done → Type 0
@@ -161,12 +161,10 @@ sound-wake false false true p w f e q i g r h = grind (arith, same_is, read_put,
 sound-wake false false false p w f e q i g r h = let k0 : (task w f).completed ≡ false = grind (arith, nat_tests) in let k1 : (task w f).closed ≡ false = grind (arith, nat_tests) in let k2 : (task w f).scheduled ≡ false = grind (arith, nat_tests) in grind (arith, same_is, read_put, phase-push)
 
 sound-call_task : (o b c : Bool) (p e : ℕ) (k : ℕ) (w : World) (f : ℕ) → (moves.is_over (task w f) || (task w f).scheduled) ≡ b → (task w f).running ≡ c → f < length w.tasks → Keeps w (op.CallAwaiter e (Task f) k ∷ []) (woken_by o b c p (log w (event.WakerCalled p e k (Task f))) f)
-sound-call_task true true c p e k w f d q i g r h = grind (arith, same_is, read_put, phase-push)
-sound-call_task true false true p e k w f d q i g r h = grind (arith, same_is, read_put, phase-push)
-sound-call_task true false false p e k w f d q i g r h = let k0 : (task w f).completed ≡ false = grind (arith, nat_tests) in let k1 : (task w f).closed ≡ false = grind (arith, nat_tests) in let k2 : (task w f).scheduled ≡ false = grind (arith, nat_tests) in grind (arith, same_is, read_put, phase-push)
-sound-call_task false true c p e k w f d q i g r h = grind (arith, same_is, read_put, phase-push)
-sound-call_task false false true p e k w f d q i g r h = grind (arith, same_is, read_put, phase-push)
-sound-call_task false false false p e k w f d q i g r h = let k0 : (task w f).completed ≡ false = grind (arith, nat_tests) in let k1 : (task w f).closed ≡ false = grind (arith, nat_tests) in let k2 : (task w f).scheduled ≡ false = grind (arith, nat_tests) in grind (arith, same_is, read_put, phase-push)
+sound-call_task o b c p e k w f d q i g r h =
+    let called : World = log w (event.WakerCalled p e k (Task f)) in
+    let z : Sound called g (with_ops g (op.Wake f ∷ []) r) = grind (arith, phase-push) in
+    sound-wake o b c p called f d q i g r z
 
 -- by whether an event is logged
 abbrev pub cancel_going : Bool → Bool → ℕ → World → ℕ → Done
@@ -309,18 +307,12 @@ abbrev pub next_woken : Bool → Bool → Bool → List ℕ → ℕ → World �
 next_woken o b c rest p w f = let m = moves.wake_by_reference_by b c (task w f) in done (put (log_if (not o) (record w { waking = rest }) (event.Woken p f)) f m.state) (owed_ops (among f (log_if (not o) (record w { waking = rest }) (event.Woken p f)).table) f (record m.owed { next = Some move.Release }) ++ closing_ops [] rest)
 
 sound-wake_next : (o b c : Bool) (rest : List ℕ) (p : ℕ) (w : World) (f : ℕ) → w.waking ≡ f ∷ rest → (moves.is_over (task w f) || (task w f).scheduled) ≡ b → (task w f).running ≡ c → f < length w.tasks → Keeps w (op.WakeNext ∷ []) (next_woken o b c rest p w f)
-sound-wake_next true true c [] p w f y e q i g r h = let z : times g w.waking ≡ same g f + times g [] = ap (times g) y in grind (arith, same_is, read_put, phase-push)
-sound-wake_next true true c (u ∷ us) p w f y e q i g r h = let z : times g w.waking ≡ same g f + times g (u ∷ us) = ap (times g) y in grind (arith, same_is, read_put, phase-push)
-sound-wake_next true false true [] p w f y e q i g r h = let z : times g w.waking ≡ same g f + times g [] = ap (times g) y in grind (arith, same_is, read_put, phase-push)
-sound-wake_next true false true (u ∷ us) p w f y e q i g r h = let z : times g w.waking ≡ same g f + times g (u ∷ us) = ap (times g) y in grind (arith, same_is, read_put, phase-push)
-sound-wake_next true false false [] p w f y e q i g r h = let z : times g w.waking ≡ same g f + times g [] = ap (times g) y in let k0 : (task w f).completed ≡ false = grind (arith, nat_tests) in let k1 : (task w f).closed ≡ false = grind (arith, nat_tests) in let k2 : (task w f).scheduled ≡ false = grind (arith, nat_tests) in grind (arith, same_is, read_put, phase-push)
-sound-wake_next true false false (u ∷ us) p w f y e q i g r h = let z : times g w.waking ≡ same g f + times g (u ∷ us) = ap (times g) y in let k0 : (task w f).completed ≡ false = grind (arith, nat_tests) in let k1 : (task w f).closed ≡ false = grind (arith, nat_tests) in let k2 : (task w f).scheduled ≡ false = grind (arith, nat_tests) in grind (arith, same_is, read_put, phase-push)
-sound-wake_next false true c [] p w f y e q i g r h = let z : times g w.waking ≡ same g f + times g [] = ap (times g) y in grind (arith, same_is, read_put, phase-push)
-sound-wake_next false true c (u ∷ us) p w f y e q i g r h = let z : times g w.waking ≡ same g f + times g (u ∷ us) = ap (times g) y in grind (arith, same_is, read_put, phase-push)
-sound-wake_next false false true [] p w f y e q i g r h = let z : times g w.waking ≡ same g f + times g [] = ap (times g) y in grind (arith, same_is, read_put, phase-push)
-sound-wake_next false false true (u ∷ us) p w f y e q i g r h = let z : times g w.waking ≡ same g f + times g (u ∷ us) = ap (times g) y in grind (arith, same_is, read_put, phase-push)
-sound-wake_next false false false [] p w f y e q i g r h = let z : times g w.waking ≡ same g f + times g [] = ap (times g) y in let k0 : (task w f).completed ≡ false = grind (arith, nat_tests) in let k1 : (task w f).closed ≡ false = grind (arith, nat_tests) in let k2 : (task w f).scheduled ≡ false = grind (arith, nat_tests) in grind (arith, same_is, read_put, phase-push)
-sound-wake_next false false false (u ∷ us) p w f y e q i g r h = let z : times g w.waking ≡ same g f + times g (u ∷ us) = ap (times g) y in let k0 : (task w f).completed ≡ false = grind (arith, nat_tests) in let k1 : (task w f).closed ≡ false = grind (arith, nat_tests) in let k2 : (task w f).scheduled ≡ false = grind (arith, nat_tests) in grind (arith, same_is, read_put, phase-push)
+sound-wake_next o b c rest p w f y e q i g r h =
+    let left : World = record w { waking = rest } in
+    let d : Done = woken_by o b c p left f in
+    let t : times g w.waking ≡ same g f + times g rest = ap (times g) y in
+    let z : Sound left g (with_ops g (op.Wake f ∷ []) r) = grind arith in
+    subst (Sound d.world g) (sym (with_ops-closing g d.next rest r)) (sound-wake o b c p left f e q i g r z)
 
 sound-close : (w : World) → Keeps w (op.Close ∷ []) (close w)
 sound-close w g r h = grind arith

@@ -22,6 +22,7 @@ use Rattle.executor_model.specs.Weights.{same, weigh}
 use Rattle.executor_model.specs.Good.{past, pasts, waker_past, past_of, IsKnownWaker}
 use Rattle.executor_model.specs.Sound.{times, phase}
 use Rattle.executor_model.specs.Sound.Phase.{Over}
+use Rattle.executor_model.proofs.Marks.{IsUnmarked, unmarked, IsGoing, going, IsIdle, idle, last-one, IsUnheld, unheld}
 use Rattle.executor_model.proofs.Lists.{read_put, read_push, fresh_is, past_is, same_is, times-append, times-drop, without_one, phase-push, phase-begun, phase-answered, phase-dropped}
 use Rattle.executor_model.proofs.Counting.{settling, readied, pended, ending, dropping, taken_up, woken, woken_by, cancel_going, cancel_idle, cancel_over, detached, stays_so, gives, waits_on, end_registered, end_notified, next_woken}
 use Rattle.executor_model.proofs.Stories.{among_is}
@@ -75,8 +76,8 @@ asked-begin_drop_output p w f g r bb h = grind (arith, request-push, phase-push)
 
 asked-release : (b c : Bool) (w : World) (f : ℕ) → moves.is_last (task w f) ≡ b → moves.is_over (task w f) ≡ c → f < length w.tasks → KeepsAsked w (op.Release f ∷ []) (carried w f (moves.release_by b c (task w f)))
 asked-release false c w f e q i g r bb h = grind (arith, same_is, read_put, length-set)
-asked-release true true w f e q i g r bb h = let z : (task w f).references ≡ 1 = grind (arith, nat_tests) in grind (arith, same_is, read_put, length-set)
-asked-release true false w f e q i g r bb h = let z : (task w f).references ≡ 1 = grind (arith, nat_tests) in let c : (task w f).completed ≡ false = grind (arith, nat_tests) in grind (arith, same_is, read_put, length-set)
+asked-release true true w f e q i g r bb h = let z : (task w f).references ≡ 1 = last-one (task w f) e in grind (arith, same_is, read_put, length-set)
+asked-release true false w f e q i g r bb h = let z : (task w f).references ≡ 1 = last-one (task w f) e in let c : (task w f).completed ≡ false = grind (arith, nat_tests) in grind (arith, same_is, read_put, length-set)
 
 asked-settle_closed : (a : Bool) (w : World) (f : ℕ) → f < length w.tasks → KeepsAsked w (op.SettleClosed f ∷ []) (settling a w f)
 asked-settle_closed true w f i g r bb h = grind (arith, same_is, read_put, length-set)
@@ -84,7 +85,7 @@ asked-settle_closed false w f i g r bb h = grind (arith, same_is, read_put, leng
 
 asked-give_up : (b : Bool) (w : World) (f : ℕ) → moves.is_last (task w f) ≡ b → f < length w.tasks → KeepsAsked w (op.GiveUp f ∷ []) (carried w f (moves.give_up_by b (task w f)))
 asked-give_up false w f e i g r bb h = grind (arith, same_is, read_put, length-set)
-asked-give_up true w f e i g r bb h = let z : (task w f).references ≡ 1 = grind (arith, nat_tests) in grind (arith, same_is, read_put, length-set)
+asked-give_up true w f e i g r bb h = let z : (task w f).references ≡ 1 = last-one (task w f) e in grind (arith, same_is, read_put, length-set)
 
 -- by whether the output is unwanted, and whether there is an awaiter
 
@@ -100,8 +101,8 @@ asked-end_pending : (x s l there : Bool) (w : World) (f : ℕ) → (task w f).cl
 asked-end_pending true s l true w f e q k m i g r bb h = let a : ((among f w.table ≡ true) × (1 ≤ times f w.table)) ⊎ ((among f w.table ≡ false) × (times f w.table ≡ 0)) = among_is f w.table in grind (arith, same_is, read_put, length-set)
 asked-end_pending true s l false w f e q k m i g r bb h = let a : ((among f w.table ≡ true) × (1 ≤ times f w.table)) ⊎ ((among f w.table ≡ false) × (times f w.table ≡ 0)) = among_is f w.table in grind (arith, same_is, read_put, length-set)
 asked-end_pending false true l there w f e q k m i g r bb h = let a : ((among f w.table ≡ true) × (1 ≤ times f w.table)) ⊎ ((among f w.table ≡ false) × (times f w.table ≡ 0)) = among_is f w.table in grind (arith, same_is, read_put, length-set)
-asked-end_pending false false true true w f e q k m i g r bb h = let a : ((among f w.table ≡ true) × (1 ≤ times f w.table)) ⊎ ((among f w.table ≡ false) × (times f w.table ≡ 0)) = among_is f w.table in let z : (task w f).references ≡ 1 = grind (arith, nat_tests) in grind (arith, same_is, read_put, length-set)
-asked-end_pending false false true false w f e q k m i g r bb h = let a : ((among f w.table ≡ true) × (1 ≤ times f w.table)) ⊎ ((among f w.table ≡ false) × (times f w.table ≡ 0)) = among_is f w.table in let z : (task w f).references ≡ 1 = grind (arith, nat_tests) in grind (arith, same_is, read_put, length-set)
+asked-end_pending false false true true w f e q k m i g r bb h = let a : ((among f w.table ≡ true) × (1 ≤ times f w.table)) ⊎ ((among f w.table ≡ false) × (times f w.table ≡ 0)) = among_is f w.table in let z : (task w f).references ≡ 1 = last-one (task w f) k in grind (arith, same_is, read_put, length-set)
+asked-end_pending false false true false w f e q k m i g r bb h = let a : ((among f w.table ≡ true) × (1 ≤ times f w.table)) ⊎ ((among f w.table ≡ false) × (times f w.table ≡ 0)) = among_is f w.table in let z : (task w f).references ≡ 1 = last-one (task w f) k in grind (arith, same_is, read_put, length-set)
 asked-end_pending false false false there w f e q k m i g r bb h = let a : ((among f w.table ≡ true) × (1 ≤ times f w.table)) ⊎ ((among f w.table ≡ false) × (times f w.table ≡ 0)) = among_is f w.table in grind (arith, same_is, read_put, length-set)
 
 asked-end_closed : (a : Bool) (w : World) (f : ℕ) → f < length w.tasks → KeepsAsked w (op.EndClosed f ∷ []) (ending a w f)
@@ -131,7 +132,7 @@ asked-wake_by_reference true false true p w f m e q i g r bb h = absurd (wrong _
 asked-wake_by_reference true false false p w f m e q i g r bb h = absurd (wrong _ _ m e)
 asked-wake_by_reference false true c p w f m e q i g r bb h = let s : (task w f).scheduled ≡ true = scheduled-then _ _ m e in grind (arith, same_is, read_put, length-set, request-push, phase-push)
 asked-wake_by_reference false false true p w f m e q i g r bb h = grind (arith, same_is, read_put, length-set, request-push, phase-push)
-asked-wake_by_reference false false false p w f m e q i g r bb h = let k0 : (task w f).completed ≡ false = grind (arith, nat_tests) in let k1 : (task w f).closed ≡ false = grind (arith, nat_tests) in let k2 : (task w f).scheduled ≡ false = grind (arith, nat_tests) in grind (arith, same_is, read_put, length-set, request-push, phase-push)
+asked-wake_by_reference false false false p w f m e q i g r bb h = let k : IsUnmarked (task w f) = unmarked (task w f) e in grind (arith, same_is, read_put, length-set, request-push, phase-push)
 
 asked-wake : (o b c : Bool) (p : ℕ) (w : World) (f : ℕ) → moves.is_over (task w f) ≡ o → (moves.is_over (task w f) || (task w f).scheduled) ≡ b → (task w f).running ≡ c → f < length w.tasks → KeepsAsked w (op.Wake f ∷ []) (woken_by o b c p w f)
 asked-wake true true c p w f m e q i g r bb h = grind (arith, same_is, read_put, length-set, request-push, phase-push)
@@ -139,7 +140,7 @@ asked-wake true false true p w f m e q i g r bb h = absurd (wrong _ _ m e)
 asked-wake true false false p w f m e q i g r bb h = absurd (wrong _ _ m e)
 asked-wake false true c p w f m e q i g r bb h = let s : (task w f).scheduled ≡ true = scheduled-then _ _ m e in grind (arith, same_is, read_put, length-set, request-push, phase-push)
 asked-wake false false true p w f m e q i g r bb h = grind (arith, same_is, read_put, length-set, request-push, phase-push)
-asked-wake false false false p w f m e q i g r bb h = let k0 : (task w f).completed ≡ false = grind (arith, nat_tests) in let k1 : (task w f).closed ≡ false = grind (arith, nat_tests) in let k2 : (task w f).scheduled ≡ false = grind (arith, nat_tests) in grind (arith, same_is, read_put, length-set, request-push, phase-push)
+asked-wake false false false p w f m e q i g r bb h = let k : IsUnmarked (task w f) = unmarked (task w f) e in grind (arith, same_is, read_put, length-set, request-push, phase-push)
 
 asked-call_task : (o b c : Bool) (p e : ℕ) (k : ℕ) (w : World) (f : ℕ) → moves.is_over (task w f) ≡ o → (moves.is_over (task w f) || (task w f).scheduled) ≡ b → (task w f).running ≡ c → f < length w.tasks → KeepsAsked w (op.CallAwaiter e (Task f) k ∷ []) (woken_by o b c p (log w (event.WakerCalled p e k (Task f))) f)
 asked-call_task true true c p e k w f m d q i g r bb h = grind (arith, same_is, read_put, length-set, request-push, phase-push)
@@ -147,7 +148,7 @@ asked-call_task true false true p e k w f m d q i g r bb h = absurd (wrong _ _ m
 asked-call_task true false false p e k w f m d q i g r bb h = absurd (wrong _ _ m d)
 asked-call_task false true c p e k w f m d q i g r bb h = let s : (task w f).scheduled ≡ true = scheduled-then _ _ m d in grind (arith, same_is, read_put, length-set, request-push, phase-push)
 asked-call_task false false true p e k w f m d q i g r bb h = grind (arith, same_is, read_put, length-set, request-push, phase-push)
-asked-call_task false false false p e k w f m d q i g r bb h = let k0 : (task w f).completed ≡ false = grind (arith, nat_tests) in let k1 : (task w f).closed ≡ false = grind (arith, nat_tests) in let k2 : (task w f).scheduled ≡ false = grind (arith, nat_tests) in grind (arith, same_is, read_put, length-set, request-push, phase-push)
+asked-call_task false false false p e k w f m d q i g r bb h = let k : IsUnmarked (task w f) = unmarked (task w f) d in grind (arith, same_is, read_put, length-set, request-push, phase-push)
 
 -- by whether an event is logged
 
@@ -155,18 +156,18 @@ asked-cancel_over : (p : ℕ) (w : World) (f : ℕ) → f < length w.tasks → K
 asked-cancel_over p w f i g r bb h = grind (arith, same_is, read_put, length-set, request-push, phase-push)
 
 asked-cancel_going : (a : Bool) (p : ℕ) (w : World) (f : ℕ) → moves.is_going (task w f) ≡ true → f < length w.tasks → KeepsAsked w (op.Cancel f ∷ []) (cancel_going true a p w f)
-asked-cancel_going true p w f e i g r bb h = let z : ((task w f).scheduled ≡ true) ⊎ ((task w f).running ≡ true) = grind (arith, nat_tests) in grind (arith, same_is, read_put, length-set, request-push, phase-push)
-asked-cancel_going false p w f e i g r bb h = let z : ((task w f).scheduled ≡ true) ⊎ ((task w f).running ≡ true) = grind (arith, nat_tests) in grind (arith, same_is, read_put, length-set, request-push, phase-push)
+asked-cancel_going true p w f e i g r bb h = let z : IsGoing (task w f) = going (task w f) e in grind (arith, same_is, read_put, length-set, request-push, phase-push)
+asked-cancel_going false p w f e i g r bb h = let z : IsGoing (task w f) = going (task w f) e in grind (arith, same_is, read_put, length-set, request-push, phase-push)
 
 asked-cancel_idle : (a : Bool) (p : ℕ) (w : World) (f : ℕ) → moves.is_over (task w f) ≡ false → moves.is_going (task w f) ≡ false → f < length w.tasks → KeepsAsked w (op.Cancel f ∷ []) (cancel_idle true a p w f)
-asked-cancel_idle true p w f e q i g r bb h = let k0 : (task w f).completed ≡ false = grind (arith, nat_tests) in let k1 : (task w f).closed ≡ false = grind (arith, nat_tests) in let k2 : (task w f).scheduled ≡ false = grind (arith, nat_tests) in let k3 : (task w f).running ≡ false = grind (arith, nat_tests) in grind (arith, same_is, read_put, length-set, request-push, phase-push)
-asked-cancel_idle false p w f e q i g r bb h = let k0 : (task w f).completed ≡ false = grind (arith, nat_tests) in let k1 : (task w f).closed ≡ false = grind (arith, nat_tests) in let k2 : (task w f).scheduled ≡ false = grind (arith, nat_tests) in let k3 : (task w f).running ≡ false = grind (arith, nat_tests) in grind (arith, same_is, read_put, length-set, request-push, phase-push)
+asked-cancel_idle true p w f e q i g r bb h = let k : IsIdle (task w f) = idle (task w f) e q in grind (arith, same_is, read_put, length-set, request-push, phase-push)
+asked-cancel_idle false p w f e q i g r bb h = let k : IsIdle (task w f) = idle (task w f) e q in grind (arith, same_is, read_put, length-set, request-push, phase-push)
 
 asked-detach : (o x y : Bool) (p : ℕ) (w : World) (f : ℕ) → ((task w f).completed && not (task w f).closed) ≡ x → (eqb (task w f).references 0 && not (task w f).closed) ≡ y → f < length w.tasks → KeepsAsked w (op.Detach f ∷ []) (detached o x y p w f)
 asked-detach true true y p w f e q i g r bb h = grind (arith, nat_tests, same_is, read_put, length-set, request-push, phase-push)
 asked-detach false true y p w f e q i g r bb h = grind (arith, nat_tests, same_is, read_put, length-set, request-push, phase-push)
-asked-detach true false true p w f e q i g r bb h = let k0 : (task w f).references ≡ 0 = grind (arith, nat_tests) in let k1 : (task w f).closed ≡ false = grind (arith, nat_tests) in let k2 : (task w f).completed ≡ false = grind (arith, nat_tests) in grind (arith, same_is, read_put, length-set, request-push, phase-push)
-asked-detach false false true p w f e q i g r bb h = let k0 : (task w f).references ≡ 0 = grind (arith, nat_tests) in let k1 : (task w f).closed ≡ false = grind (arith, nat_tests) in let k2 : (task w f).completed ≡ false = grind (arith, nat_tests) in grind (arith, same_is, read_put, length-set, request-push, phase-push)
+asked-detach true false true p w f e q i g r bb h = let k : IsUnheld (task w f) = unheld (task w f) e q in grind (arith, same_is, read_put, length-set, request-push, phase-push)
+asked-detach false false true p w f e q i g r bb h = let k : IsUnheld (task w f) = unheld (task w f) e q in grind (arith, same_is, read_put, length-set, request-push, phase-push)
 asked-detach true false false p w f e q i g r bb h = grind (arith, same_is, read_put, length-set, request-push, phase-push)
 asked-detach false false false p w f e q i g r bb h = grind (arith, same_is, read_put, length-set, request-push, phase-push)
 
@@ -267,8 +268,8 @@ asked-wake_next false true c [] p w f y m e q i g r bb h = let s : (task w f).sc
 asked-wake_next false true c (u ∷ us) p w f y m e q i g r bb h = let s : (task w f).scheduled ≡ true = scheduled-then _ _ m e in grind (arith, same_is, read_put, length-set, request-push, phase-push)
 asked-wake_next false false true [] p w f y m e q i g r bb h = grind (arith, same_is, read_put, length-set, request-push, phase-push)
 asked-wake_next false false true (u ∷ us) p w f y m e q i g r bb h = grind (arith, same_is, read_put, length-set, request-push, phase-push)
-asked-wake_next false false false [] p w f y m e q i g r bb h = let k0 : (task w f).completed ≡ false = grind (arith, nat_tests) in let k1 : (task w f).closed ≡ false = grind (arith, nat_tests) in let k2 : (task w f).scheduled ≡ false = grind (arith, nat_tests) in grind (arith, same_is, read_put, length-set, request-push, phase-push)
-asked-wake_next false false false (u ∷ us) p w f y m e q i g r bb h = let k0 : (task w f).completed ≡ false = grind (arith, nat_tests) in let k1 : (task w f).closed ≡ false = grind (arith, nat_tests) in let k2 : (task w f).scheduled ≡ false = grind (arith, nat_tests) in grind (arith, same_is, read_put, length-set, request-push, phase-push)
+asked-wake_next false false false [] p w f y m e q i g r bb h = let k : IsUnmarked (task w f) = unmarked (task w f) e in grind (arith, same_is, read_put, length-set, request-push, phase-push)
+asked-wake_next false false false (u ∷ us) p w f y m e q i g r bb h = let k : IsUnmarked (task w f) = unmarked (task w f) e in grind (arith, same_is, read_put, length-set, request-push, phase-push)
 
 asked-close : (w : World) → KeepsAsked w (op.Close ∷ []) (close w)
 asked-close w g r bb h = grind arith

@@ -24,6 +24,7 @@ use Rattle.executor_model.specs.Acts.{append_by, take_by, enter_by, look_at_tabl
 use Rattle.executor_model.specs.Weights.{same, weigh}
 use Rattle.executor_model.specs.Good.{past, pasts, waker_past, past_of, IsKnownWaker}
 use Rattle.executor_model.specs.Sound.{times}
+use Rattle.executor_model.proofs.Marks.{IsUnmarked, unmarked, IsMarked, marked, IsGoing, going, IsIdle, idle, last-one, IsUnheld, unheld}
 use Rattle.executor_model.proofs.Lists.{read_put, fresh_is, read_push, past_is, same_is, times-append, times-drop}
 use Rattle.executor_model.proofs.Counting.{settling, readied, pended, ending, dropping, taken_up, woken, woken_by, cancel_going, cancel_idle, cancel_over, detached, stays_so, gives, waits_on, end_registered, end_notified, next_woken}
 use Rattle.executor_model.proofs.Calls.{is_end}
@@ -68,8 +69,8 @@ awaits-begin_drop_output p w f g r yy mm bb h = grind (arith, heard-push)
 
 awaits-release : (b c : Bool) (w : World) (f : ℕ) → moves.is_last (task w f) ≡ b → moves.is_over (task w f) ≡ c → f < length w.tasks → KeepsAwaits w (op.Release f ∷ []) (carried w f (moves.release_by b c (task w f)))
 awaits-release false c w f e q i g r yy mm bb h = grind (arith, same_is, read_put, length-set)
-awaits-release true true w f e q i g r yy mm bb h = let z : (task w f).references ≡ 1 = grind (arith, nat_tests) in grind (arith, same_is, read_put, length-set)
-awaits-release true false w f e q i g r yy mm bb h = let z : (task w f).references ≡ 1 = grind (arith, nat_tests) in let c : (task w f).completed ≡ false = grind (arith, nat_tests) in grind (arith, same_is, read_put, length-set)
+awaits-release true true w f e q i g r yy mm bb h = let z : (task w f).references ≡ 1 = last-one (task w f) e in grind (arith, same_is, read_put, length-set)
+awaits-release true false w f e q i g r yy mm bb h = let z : (task w f).references ≡ 1 = last-one (task w f) e in let c : (task w f).completed ≡ false = grind (arith, nat_tests) in grind (arith, same_is, read_put, length-set)
 
 awaits-settle_closed : (a : Bool) (w : World) (f : ℕ) → (task w f).awaiter ≡ a → f < length w.tasks → KeepsAwaits w (op.SettleClosed f ∷ []) (settling a w f)
 awaits-settle_closed true w f n i g r yy mm bb h = grind (arith, same_is, read_put, length-set)
@@ -77,7 +78,7 @@ awaits-settle_closed false w f n i g r yy mm bb h = grind (arith, same_is, read_
 
 awaits-give_up : (b : Bool) (w : World) (f : ℕ) → moves.is_last (task w f) ≡ b → f < length w.tasks → KeepsAwaits w (op.GiveUp f ∷ []) (carried w f (moves.give_up_by b (task w f)))
 awaits-give_up false w f e i g r yy mm bb h = grind (arith, same_is, read_put, length-set)
-awaits-give_up true w f e i g r yy mm bb h = let z : (task w f).references ≡ 1 = grind (arith, nat_tests) in grind (arith, same_is, read_put, length-set)
+awaits-give_up true w f e i g r yy mm bb h = let z : (task w f).references ≡ 1 = last-one (task w f) e in grind (arith, same_is, read_put, length-set)
 
 -- by whether the output is unwanted, and whether there is an awaiter
 
@@ -93,8 +94,8 @@ awaits-end_pending : (x s l there : Bool) (w : World) (f : ℕ) → (task w f).c
 awaits-end_pending true s l true w f e q k m i g r yy mm bb h = grind (arith, same_is, read_put, length-set)
 awaits-end_pending true s l false w f e q k m i g r yy mm bb h = grind (arith, same_is, read_put, length-set)
 awaits-end_pending false true l there w f e q k m i g r yy mm bb h = grind (arith, same_is, read_put, length-set)
-awaits-end_pending false false true true w f e q k m i g r yy mm bb h = let z : (task w f).references ≡ 1 = grind (arith, nat_tests) in grind (arith, same_is, read_put, length-set)
-awaits-end_pending false false true false w f e q k m i g r yy mm bb h = let z : (task w f).references ≡ 1 = grind (arith, nat_tests) in grind (arith, same_is, read_put, length-set)
+awaits-end_pending false false true true w f e q k m i g r yy mm bb h = let z : (task w f).references ≡ 1 = last-one (task w f) k in grind (arith, same_is, read_put, length-set)
+awaits-end_pending false false true false w f e q k m i g r yy mm bb h = let z : (task w f).references ≡ 1 = last-one (task w f) k in grind (arith, same_is, read_put, length-set)
 awaits-end_pending false false false there w f e q k m i g r yy mm bb h = grind (arith, same_is, read_put, length-set)
 
 awaits-end_closed : (a : Bool) (w : World) (f : ℕ) → (task w f).awaiter ≡ a → f < length w.tasks → KeepsAwaits w (op.EndClosed f ∷ []) (ending a w f)
@@ -121,26 +122,26 @@ awaits-take_up false there p w f e m i g r yy mm bb h = grind (arith, same_is, r
 awaits-wake_by_reference : (o b c : Bool) (p : ℕ) (w : World) (f : ℕ) → (moves.is_over (task w f) || (task w f).scheduled) ≡ b → (task w f).running ≡ c → f < length w.tasks → KeepsAwaits w (op.WakeByReference f ∷ []) (woken o b c p w f)
 awaits-wake_by_reference true true c p w f e q i g r yy mm bb h = grind (arith, same_is, read_put, length-set, heard-push)
 awaits-wake_by_reference true false true p w f e q i g r yy mm bb h = grind (arith, same_is, read_put, length-set, heard-push)
-awaits-wake_by_reference true false false p w f e q i g r yy mm bb h = let k0 : (task w f).completed ≡ false = grind (arith, nat_tests) in let k1 : (task w f).closed ≡ false = grind (arith, nat_tests) in let k2 : (task w f).scheduled ≡ false = grind (arith, nat_tests) in grind (arith, same_is, read_put, length-set, heard-push)
+awaits-wake_by_reference true false false p w f e q i g r yy mm bb h = let k : IsUnmarked (task w f) = unmarked (task w f) e in grind (arith, same_is, read_put, length-set, heard-push)
 awaits-wake_by_reference false true c p w f e q i g r yy mm bb h = grind (arith, same_is, read_put, length-set, heard-push)
 awaits-wake_by_reference false false true p w f e q i g r yy mm bb h = grind (arith, same_is, read_put, length-set, heard-push)
-awaits-wake_by_reference false false false p w f e q i g r yy mm bb h = let k0 : (task w f).completed ≡ false = grind (arith, nat_tests) in let k1 : (task w f).closed ≡ false = grind (arith, nat_tests) in let k2 : (task w f).scheduled ≡ false = grind (arith, nat_tests) in grind (arith, same_is, read_put, length-set, heard-push)
+awaits-wake_by_reference false false false p w f e q i g r yy mm bb h = let k : IsUnmarked (task w f) = unmarked (task w f) e in grind (arith, same_is, read_put, length-set, heard-push)
 
 awaits-wake : (o b c : Bool) (p : ℕ) (w : World) (f : ℕ) → (moves.is_over (task w f) || (task w f).scheduled) ≡ b → (task w f).running ≡ c → f < length w.tasks → KeepsAwaits w (op.Wake f ∷ []) (woken_by o b c p w f)
 awaits-wake true true c p w f e q i g r yy mm bb h = grind (arith, same_is, read_put, length-set, heard-push)
 awaits-wake true false true p w f e q i g r yy mm bb h = grind (arith, same_is, read_put, length-set, heard-push)
-awaits-wake true false false p w f e q i g r yy mm bb h = let k0 : (task w f).completed ≡ false = grind (arith, nat_tests) in let k1 : (task w f).closed ≡ false = grind (arith, nat_tests) in let k2 : (task w f).scheduled ≡ false = grind (arith, nat_tests) in grind (arith, same_is, read_put, length-set, heard-push)
+awaits-wake true false false p w f e q i g r yy mm bb h = let k : IsUnmarked (task w f) = unmarked (task w f) e in grind (arith, same_is, read_put, length-set, heard-push)
 awaits-wake false true c p w f e q i g r yy mm bb h = grind (arith, same_is, read_put, length-set, heard-push)
 awaits-wake false false true p w f e q i g r yy mm bb h = grind (arith, same_is, read_put, length-set, heard-push)
-awaits-wake false false false p w f e q i g r yy mm bb h = let k0 : (task w f).completed ≡ false = grind (arith, nat_tests) in let k1 : (task w f).closed ≡ false = grind (arith, nat_tests) in let k2 : (task w f).scheduled ≡ false = grind (arith, nat_tests) in grind (arith, same_is, read_put, length-set, heard-push)
+awaits-wake false false false p w f e q i g r yy mm bb h = let k : IsUnmarked (task w f) = unmarked (task w f) e in grind (arith, same_is, read_put, length-set, heard-push)
 
 awaits-call_task : (o b c : Bool) (p e : ℕ) (k : ℕ) (w : World) (f : ℕ) → (moves.is_over (task w f) || (task w f).scheduled) ≡ b → (task w f).running ≡ c → f < length w.tasks → KeepsAwaits w (op.CallAwaiter e (Task f) k ∷ []) (woken_by o b c p (log w (event.WakerCalled p e k (Task f))) f)
 awaits-call_task true true c p e k w f d q i g r yy mm bb h = grind (arith, same_is, read_put, length-set, heard-push)
 awaits-call_task true false true p e k w f d q i g r yy mm bb h = grind (arith, same_is, read_put, length-set, heard-push)
-awaits-call_task true false false p e k w f d q i g r yy mm bb h = let k0 : (task w f).completed ≡ false = grind (arith, nat_tests) in let k1 : (task w f).closed ≡ false = grind (arith, nat_tests) in let k2 : (task w f).scheduled ≡ false = grind (arith, nat_tests) in grind (arith, same_is, read_put, length-set, heard-push)
+awaits-call_task true false false p e k w f d q i g r yy mm bb h = let k : IsUnmarked (task w f) = unmarked (task w f) d in grind (arith, same_is, read_put, length-set, heard-push)
 awaits-call_task false true c p e k w f d q i g r yy mm bb h = grind (arith, same_is, read_put, length-set, heard-push)
 awaits-call_task false false true p e k w f d q i g r yy mm bb h = grind (arith, same_is, read_put, length-set, heard-push)
-awaits-call_task false false false p e k w f d q i g r yy mm bb h = let k0 : (task w f).completed ≡ false = grind (arith, nat_tests) in let k1 : (task w f).closed ≡ false = grind (arith, nat_tests) in let k2 : (task w f).scheduled ≡ false = grind (arith, nat_tests) in grind (arith, same_is, read_put, length-set, heard-push)
+awaits-call_task false false false p e k w f d q i g r yy mm bb h = let k : IsUnmarked (task w f) = unmarked (task w f) d in grind (arith, same_is, read_put, length-set, heard-push)
 
 -- by whether an event is logged
 
@@ -149,18 +150,18 @@ awaits-cancel_over true p w f i g r yy mm bb h = grind (arith, same_is, read_put
 awaits-cancel_over false p w f i g r yy mm bb h = grind (arith, same_is, read_put, length-set, heard-push)
 
 awaits-cancel_going : (a : Bool) (p : ℕ) (w : World) (f : ℕ) → (task w f).awaiter ≡ a → moves.is_going (task w f) ≡ true → f < length w.tasks → KeepsAwaits w (op.Cancel f ∷ []) (cancel_going true a p w f)
-awaits-cancel_going true p w f n e i g r yy mm bb h = let z : ((task w f).scheduled ≡ true) ⊎ ((task w f).running ≡ true) = grind (arith, nat_tests) in grind (arith, same_is, read_put, length-set, heard-push)
-awaits-cancel_going false p w f n e i g r yy mm bb h = let z : ((task w f).scheduled ≡ true) ⊎ ((task w f).running ≡ true) = grind (arith, nat_tests) in grind (arith, same_is, read_put, length-set, heard-push)
+awaits-cancel_going true p w f n e i g r yy mm bb h = let z : IsGoing (task w f) = going (task w f) e in grind (arith, same_is, read_put, length-set, heard-push)
+awaits-cancel_going false p w f n e i g r yy mm bb h = let z : IsGoing (task w f) = going (task w f) e in grind (arith, same_is, read_put, length-set, heard-push)
 
 awaits-cancel_idle : (a : Bool) (p : ℕ) (w : World) (f : ℕ) → (task w f).awaiter ≡ a → moves.is_over (task w f) ≡ false → moves.is_going (task w f) ≡ false → f < length w.tasks → KeepsAwaits w (op.Cancel f ∷ []) (cancel_idle true a p w f)
-awaits-cancel_idle true p w f n e q i g r yy mm bb h = let k0 : (task w f).completed ≡ false = grind (arith, nat_tests) in let k1 : (task w f).closed ≡ false = grind (arith, nat_tests) in let k2 : (task w f).scheduled ≡ false = grind (arith, nat_tests) in let k3 : (task w f).running ≡ false = grind (arith, nat_tests) in grind (arith, same_is, read_put, length-set, heard-push)
-awaits-cancel_idle false p w f n e q i g r yy mm bb h = let k0 : (task w f).completed ≡ false = grind (arith, nat_tests) in let k1 : (task w f).closed ≡ false = grind (arith, nat_tests) in let k2 : (task w f).scheduled ≡ false = grind (arith, nat_tests) in let k3 : (task w f).running ≡ false = grind (arith, nat_tests) in grind (arith, same_is, read_put, length-set, heard-push)
+awaits-cancel_idle true p w f n e q i g r yy mm bb h = let k : IsIdle (task w f) = idle (task w f) e q in grind (arith, same_is, read_put, length-set, heard-push)
+awaits-cancel_idle false p w f n e q i g r yy mm bb h = let k : IsIdle (task w f) = idle (task w f) e q in grind (arith, same_is, read_put, length-set, heard-push)
 
 awaits-detach : (o x y : Bool) (p : ℕ) (w : World) (f : ℕ) → ((task w f).completed && not (task w f).closed) ≡ x → (eqb (task w f).references 0 && not (task w f).closed) ≡ y → f < length w.tasks → KeepsAwaits w (op.Detach f ∷ []) (detached o x y p w f)
 awaits-detach true true y p w f e q i g r yy mm bb h = grind (arith, nat_tests, same_is, read_put, length-set, heard-push)
 awaits-detach false true y p w f e q i g r yy mm bb h = grind (arith, nat_tests, same_is, read_put, length-set, heard-push)
-awaits-detach true false true p w f e q i g r yy mm bb h = let k0 : (task w f).references ≡ 0 = grind (arith, nat_tests) in let k1 : (task w f).closed ≡ false = grind (arith, nat_tests) in let k2 : (task w f).completed ≡ false = grind (arith, nat_tests) in grind (arith, same_is, read_put, length-set, heard-push)
-awaits-detach false false true p w f e q i g r yy mm bb h = let k0 : (task w f).references ≡ 0 = grind (arith, nat_tests) in let k1 : (task w f).closed ≡ false = grind (arith, nat_tests) in let k2 : (task w f).completed ≡ false = grind (arith, nat_tests) in grind (arith, same_is, read_put, length-set, heard-push)
+awaits-detach true false true p w f e q i g r yy mm bb h = let k : IsUnheld (task w f) = unheld (task w f) e q in grind (arith, same_is, read_put, length-set, heard-push)
+awaits-detach false false true p w f e q i g r yy mm bb h = let k : IsUnheld (task w f) = unheld (task w f) e q in grind (arith, same_is, read_put, length-set, heard-push)
 awaits-detach true false false p w f e q i g r yy mm bb h = grind (arith, same_is, read_put, length-set, heard-push)
 awaits-detach false false false p w f e q i g r yy mm bb h = grind (arith, same_is, read_put, length-set, heard-push)
 
@@ -251,18 +252,18 @@ awaits-drop_next [] (y ∷ ws) p w f e g r yy mm bb h = grind (arith, same_is, t
 awaits-drop_next (y ∷ ls) ws p w f e g r yy mm bb h = grind (arith, same_is, times-append, heard-push)
 
 awaits-wake_next : (o b c : Bool) (rest : List ℕ) (p : ℕ) (w : World) (f : ℕ) → w.waking ≡ f ∷ rest → (moves.is_over (task w f) || (task w f).scheduled) ≡ b → (task w f).running ≡ c → f < length w.tasks → KeepsAwaits w (op.WakeNext ∷ []) (next_woken o b c rest p w f)
-awaits-wake_next true true c [] p w f y e q i g r yy mm bb h = let z : times g w.waking ≡ same g f + times g [] = ap (times g) y in let k : ((task w f).closed ≡ true) ⊎ (((task w f).completed ≡ true) ⊎ ((task w f).scheduled ≡ true)) = grind (arith, nat_tests) in grind (arith, same_is, read_put, length-set, heard-push)
-awaits-wake_next true true c (u ∷ us) p w f y e q i g r yy mm bb h = let z : times g w.waking ≡ same g f + times g (u ∷ us) = ap (times g) y in let k : ((task w f).closed ≡ true) ⊎ (((task w f).completed ≡ true) ⊎ ((task w f).scheduled ≡ true)) = grind (arith, nat_tests) in grind (arith, same_is, read_put, length-set, heard-push)
+awaits-wake_next true true c [] p w f y e q i g r yy mm bb h = let z : times g w.waking ≡ same g f + times g [] = ap (times g) y in let k : IsMarked (task w f) = marked (task w f) e in grind (arith, same_is, read_put, length-set, heard-push)
+awaits-wake_next true true c (u ∷ us) p w f y e q i g r yy mm bb h = let z : times g w.waking ≡ same g f + times g (u ∷ us) = ap (times g) y in let k : IsMarked (task w f) = marked (task w f) e in grind (arith, same_is, read_put, length-set, heard-push)
 awaits-wake_next true false true [] p w f y e q i g r yy mm bb h = let z : times g w.waking ≡ same g f + times g [] = ap (times g) y in grind (arith, same_is, read_put, length-set, heard-push)
 awaits-wake_next true false true (u ∷ us) p w f y e q i g r yy mm bb h = let z : times g w.waking ≡ same g f + times g (u ∷ us) = ap (times g) y in grind (arith, same_is, read_put, length-set, heard-push)
-awaits-wake_next true false false [] p w f y e q i g r yy mm bb h = let z : times g w.waking ≡ same g f + times g [] = ap (times g) y in let k0 : (task w f).completed ≡ false = grind (arith, nat_tests) in let k1 : (task w f).closed ≡ false = grind (arith, nat_tests) in let k2 : (task w f).scheduled ≡ false = grind (arith, nat_tests) in grind (arith, same_is, read_put, length-set, heard-push)
-awaits-wake_next true false false (u ∷ us) p w f y e q i g r yy mm bb h = let z : times g w.waking ≡ same g f + times g (u ∷ us) = ap (times g) y in let k0 : (task w f).completed ≡ false = grind (arith, nat_tests) in let k1 : (task w f).closed ≡ false = grind (arith, nat_tests) in let k2 : (task w f).scheduled ≡ false = grind (arith, nat_tests) in grind (arith, same_is, read_put, length-set, heard-push)
-awaits-wake_next false true c [] p w f y e q i g r yy mm bb h = let z : times g w.waking ≡ same g f + times g [] = ap (times g) y in let k : ((task w f).closed ≡ true) ⊎ (((task w f).completed ≡ true) ⊎ ((task w f).scheduled ≡ true)) = grind (arith, nat_tests) in grind (arith, same_is, read_put, length-set, heard-push)
-awaits-wake_next false true c (u ∷ us) p w f y e q i g r yy mm bb h = let z : times g w.waking ≡ same g f + times g (u ∷ us) = ap (times g) y in let k : ((task w f).closed ≡ true) ⊎ (((task w f).completed ≡ true) ⊎ ((task w f).scheduled ≡ true)) = grind (arith, nat_tests) in grind (arith, same_is, read_put, length-set, heard-push)
+awaits-wake_next true false false [] p w f y e q i g r yy mm bb h = let z : times g w.waking ≡ same g f + times g [] = ap (times g) y in let k : IsUnmarked (task w f) = unmarked (task w f) e in grind (arith, same_is, read_put, length-set, heard-push)
+awaits-wake_next true false false (u ∷ us) p w f y e q i g r yy mm bb h = let z : times g w.waking ≡ same g f + times g (u ∷ us) = ap (times g) y in let k : IsUnmarked (task w f) = unmarked (task w f) e in grind (arith, same_is, read_put, length-set, heard-push)
+awaits-wake_next false true c [] p w f y e q i g r yy mm bb h = let z : times g w.waking ≡ same g f + times g [] = ap (times g) y in let k : IsMarked (task w f) = marked (task w f) e in grind (arith, same_is, read_put, length-set, heard-push)
+awaits-wake_next false true c (u ∷ us) p w f y e q i g r yy mm bb h = let z : times g w.waking ≡ same g f + times g (u ∷ us) = ap (times g) y in let k : IsMarked (task w f) = marked (task w f) e in grind (arith, same_is, read_put, length-set, heard-push)
 awaits-wake_next false false true [] p w f y e q i g r yy mm bb h = let z : times g w.waking ≡ same g f + times g [] = ap (times g) y in grind (arith, same_is, read_put, length-set, heard-push)
 awaits-wake_next false false true (u ∷ us) p w f y e q i g r yy mm bb h = let z : times g w.waking ≡ same g f + times g (u ∷ us) = ap (times g) y in grind (arith, same_is, read_put, length-set, heard-push)
-awaits-wake_next false false false [] p w f y e q i g r yy mm bb h = let z : times g w.waking ≡ same g f + times g [] = ap (times g) y in let k0 : (task w f).completed ≡ false = grind (arith, nat_tests) in let k1 : (task w f).closed ≡ false = grind (arith, nat_tests) in let k2 : (task w f).scheduled ≡ false = grind (arith, nat_tests) in grind (arith, same_is, read_put, length-set, heard-push)
-awaits-wake_next false false false (u ∷ us) p w f y e q i g r yy mm bb h = let z : times g w.waking ≡ same g f + times g (u ∷ us) = ap (times g) y in let k0 : (task w f).completed ≡ false = grind (arith, nat_tests) in let k1 : (task w f).closed ≡ false = grind (arith, nat_tests) in let k2 : (task w f).scheduled ≡ false = grind (arith, nat_tests) in grind (arith, same_is, read_put, length-set, heard-push)
+awaits-wake_next false false false [] p w f y e q i g r yy mm bb h = let z : times g w.waking ≡ same g f + times g [] = ap (times g) y in let k : IsUnmarked (task w f) = unmarked (task w f) e in grind (arith, same_is, read_put, length-set, heard-push)
+awaits-wake_next false false false (u ∷ us) p w f y e q i g r yy mm bb h = let z : times g w.waking ≡ same g f + times g (u ∷ us) = ap (times g) y in let k : IsUnmarked (task w f) = unmarked (task w f) e in grind (arith, same_is, read_put, length-set, heard-push)
 
 awaits-close : (w : World) → KeepsAwaits w (op.Close ∷ []) (close w)
 awaits-close w g r yy mm bb h = grind arith

@@ -25,6 +25,7 @@ use Rattle.executor_model.specs.Acts.{append_by, take_by, enter_by, look_at_tabl
 use Rattle.executor_model.specs.Weights.{same, weigh}
 use Rattle.executor_model.specs.Good.{past, pasts, waker_past, past_of}
 use Rattle.executor_model.specs.Sound.{with_ops, Pend, Sound, times, awaiters_of}
+use Rattle.executor_model.proofs.Marks.{IsUnmarked, unmarked, IsGoing, going, IsIdle, idle, last-one, IsUnheld, unheld}
 use Rattle.executor_model.proofs.Lists.{read_put, read_push, fresh_is, wakers_of-push, past_is, same_is, times-append, times-drop, awaiters_of-set, awaiters_of-push, wakes_if, phase-push, phase-begun, phase-answered, phase-dropped, without_one, with_ops-closing}
 
 -- it keeps what holds of g
@@ -75,8 +76,8 @@ CanCopy w (Outside x) = Unit {0}
 
 sound-release : (b c : Bool) (w : World) (f : ℕ) → moves.is_last (task w f) ≡ b → moves.is_over (task w f) ≡ c → f < length w.tasks → Keeps w (op.Release f ∷ []) (carried w f (moves.release_by b c (task w f)))
 sound-release false c w f e q i g r h = grind (arith, same_is, read_put)
-sound-release true true w f e q i g r h = let z : (task w f).references ≡ 1 = grind (arith, nat_tests) in grind (arith, same_is, read_put)
-sound-release true false w f e q i g r h = let z : (task w f).references ≡ 1 = grind (arith, nat_tests) in let c : (task w f).completed ≡ false = grind (arith, nat_tests) in grind (arith, same_is, read_put)
+sound-release true true w f e q i g r h = let z : (task w f).references ≡ 1 = last-one (task w f) e in grind (arith, same_is, read_put)
+sound-release true false w f e q i g r h = let z : (task w f).references ≡ 1 = last-one (task w f) e in let c : (task w f).completed ≡ false = grind (arith, nat_tests) in grind (arith, same_is, read_put)
 
 abbrev pub settling : Bool → World → ℕ → Done
 settling a w f = carried w f (moved (record (task w f) { scheduled = false }) (settled a))
@@ -87,7 +88,7 @@ sound-settle_closed false w f i g r h = grind (arith, same_is, read_put)
 
 sound-give_up : (b : Bool) (w : World) (f : ℕ) → moves.is_last (task w f) ≡ b → f < length w.tasks → Keeps w (op.GiveUp f ∷ []) (carried w f (moves.give_up_by b (task w f)))
 sound-give_up false w f e i g r h = grind (arith, same_is, read_put)
-sound-give_up true w f e i g r h = let z : (task w f).references ≡ 1 = grind (arith, nat_tests) in grind (arith, same_is, read_put)
+sound-give_up true w f e i g r h = let z : (task w f).references ≡ 1 = last-one (task w f) e in grind (arith, same_is, read_put)
 
 -- by whether the output is unwanted, and whether there is an awaiter
 abbrev pub readied : Bool → Bool → World → ℕ → Done
@@ -107,8 +108,8 @@ sound-end_pending : (x s l there : Bool) (w : World) (f : ℕ) → (task w f).cl
 sound-end_pending true s l true w f e q k i g r h = grind (arith, same_is, read_put)
 sound-end_pending true s l false w f e q k i g r h = grind (arith, same_is, read_put)
 sound-end_pending false true l there w f e q k i g r h = grind (arith, same_is, read_put)
-sound-end_pending false false true true w f e q k i g r h = let z : (task w f).references ≡ 1 = grind (arith, nat_tests) in grind (arith, same_is, read_put)
-sound-end_pending false false true false w f e q k i g r h = let z : (task w f).references ≡ 1 = grind (arith, nat_tests) in grind (arith, same_is, read_put)
+sound-end_pending false false true true w f e q k i g r h = let z : (task w f).references ≡ 1 = last-one (task w f) k in grind (arith, same_is, read_put)
+sound-end_pending false false true false w f e q k i g r h = let z : (task w f).references ≡ 1 = last-one (task w f) k in grind (arith, same_is, read_put)
 sound-end_pending false false false there w f e q k i g r h = grind (arith, same_is, read_put)
 
 abbrev pub ending : Bool → World → ℕ → Done
@@ -147,18 +148,18 @@ woken_by o b c p w f = let m = moves.wake_by_reference_by b c (task w f) in carr
 sound-wake_by_reference : (o b c : Bool) (p : ℕ) (w : World) (f : ℕ) → (moves.is_over (task w f) || (task w f).scheduled) ≡ b → (task w f).running ≡ c → f < length w.tasks → Keeps w (op.WakeByReference f ∷ []) (woken o b c p w f)
 sound-wake_by_reference true true c p w f e q i g r h = grind (arith, same_is, read_put, phase-push)
 sound-wake_by_reference true false true p w f e q i g r h = grind (arith, same_is, read_put, phase-push)
-sound-wake_by_reference true false false p w f e q i g r h = let k0 : (task w f).completed ≡ false = grind (arith, nat_tests) in let k1 : (task w f).closed ≡ false = grind (arith, nat_tests) in let k2 : (task w f).scheduled ≡ false = grind (arith, nat_tests) in grind (arith, same_is, read_put, phase-push)
+sound-wake_by_reference true false false p w f e q i g r h = let k : IsUnmarked (task w f) = unmarked (task w f) e in grind (arith, same_is, read_put, phase-push)
 sound-wake_by_reference false true c p w f e q i g r h = grind (arith, same_is, read_put, phase-push)
 sound-wake_by_reference false false true p w f e q i g r h = grind (arith, same_is, read_put, phase-push)
-sound-wake_by_reference false false false p w f e q i g r h = let k0 : (task w f).completed ≡ false = grind (arith, nat_tests) in let k1 : (task w f).closed ≡ false = grind (arith, nat_tests) in let k2 : (task w f).scheduled ≡ false = grind (arith, nat_tests) in grind (arith, same_is, read_put, phase-push)
+sound-wake_by_reference false false false p w f e q i g r h = let k : IsUnmarked (task w f) = unmarked (task w f) e in grind (arith, same_is, read_put, phase-push)
 
 sound-wake : (o b c : Bool) (p : ℕ) (w : World) (f : ℕ) → (moves.is_over (task w f) || (task w f).scheduled) ≡ b → (task w f).running ≡ c → f < length w.tasks → Keeps w (op.Wake f ∷ []) (woken_by o b c p w f)
 sound-wake true true c p w f e q i g r h = grind (arith, same_is, read_put, phase-push)
 sound-wake true false true p w f e q i g r h = grind (arith, same_is, read_put, phase-push)
-sound-wake true false false p w f e q i g r h = let k0 : (task w f).completed ≡ false = grind (arith, nat_tests) in let k1 : (task w f).closed ≡ false = grind (arith, nat_tests) in let k2 : (task w f).scheduled ≡ false = grind (arith, nat_tests) in grind (arith, same_is, read_put, phase-push)
+sound-wake true false false p w f e q i g r h = let k : IsUnmarked (task w f) = unmarked (task w f) e in grind (arith, same_is, read_put, phase-push)
 sound-wake false true c p w f e q i g r h = grind (arith, same_is, read_put, phase-push)
 sound-wake false false true p w f e q i g r h = grind (arith, same_is, read_put, phase-push)
-sound-wake false false false p w f e q i g r h = let k0 : (task w f).completed ≡ false = grind (arith, nat_tests) in let k1 : (task w f).closed ≡ false = grind (arith, nat_tests) in let k2 : (task w f).scheduled ≡ false = grind (arith, nat_tests) in grind (arith, same_is, read_put, phase-push)
+sound-wake false false false p w f e q i g r h = let k : IsUnmarked (task w f) = unmarked (task w f) e in grind (arith, same_is, read_put, phase-push)
 
 sound-call_task : (o b c : Bool) (p e : ℕ) (k : ℕ) (w : World) (f : ℕ) → (moves.is_over (task w f) || (task w f).scheduled) ≡ b → (task w f).running ≡ c → f < length w.tasks → Keeps w (op.CallAwaiter e (Task f) k ∷ []) (woken_by o b c p (log w (event.WakerCalled p e k (Task f))) f)
 sound-call_task o b c p e k w f d q i g r h =
@@ -181,16 +182,16 @@ sound-cancel_over true p w f i g r h = grind (arith, same_is, read_put, phase-pu
 sound-cancel_over false p w f i g r h = grind (arith, same_is, read_put, phase-push)
 
 sound-cancel_going : (o a : Bool) (p : ℕ) (w : World) (f : ℕ) → moves.is_going (task w f) ≡ true → f < length w.tasks → Keeps w (op.Cancel f ∷ []) (cancel_going o a p w f)
-sound-cancel_going true true p w f e i g r h = let z : ((task w f).scheduled ≡ true) ⊎ ((task w f).running ≡ true) = grind (arith, nat_tests) in grind (arith, same_is, read_put, phase-push)
-sound-cancel_going true false p w f e i g r h = let z : ((task w f).scheduled ≡ true) ⊎ ((task w f).running ≡ true) = grind (arith, nat_tests) in grind (arith, same_is, read_put, phase-push)
-sound-cancel_going false true p w f e i g r h = let z : ((task w f).scheduled ≡ true) ⊎ ((task w f).running ≡ true) = grind (arith, nat_tests) in grind (arith, same_is, read_put, phase-push)
-sound-cancel_going false false p w f e i g r h = let z : ((task w f).scheduled ≡ true) ⊎ ((task w f).running ≡ true) = grind (arith, nat_tests) in grind (arith, same_is, read_put, phase-push)
+sound-cancel_going true true p w f e i g r h = let z : IsGoing (task w f) = going (task w f) e in grind (arith, same_is, read_put, phase-push)
+sound-cancel_going true false p w f e i g r h = let z : IsGoing (task w f) = going (task w f) e in grind (arith, same_is, read_put, phase-push)
+sound-cancel_going false true p w f e i g r h = let z : IsGoing (task w f) = going (task w f) e in grind (arith, same_is, read_put, phase-push)
+sound-cancel_going false false p w f e i g r h = let z : IsGoing (task w f) = going (task w f) e in grind (arith, same_is, read_put, phase-push)
 
 sound-cancel_idle : (o a : Bool) (p : ℕ) (w : World) (f : ℕ) → moves.is_over (task w f) ≡ false → moves.is_going (task w f) ≡ false → f < length w.tasks → Keeps w (op.Cancel f ∷ []) (cancel_idle o a p w f)
-sound-cancel_idle true true p w f e q i g r h = let k0 : (task w f).completed ≡ false = grind (arith, nat_tests) in let k1 : (task w f).closed ≡ false = grind (arith, nat_tests) in let k2 : (task w f).scheduled ≡ false = grind (arith, nat_tests) in let k3 : (task w f).running ≡ false = grind (arith, nat_tests) in grind (arith, same_is, read_put, phase-push)
-sound-cancel_idle true false p w f e q i g r h = let k0 : (task w f).completed ≡ false = grind (arith, nat_tests) in let k1 : (task w f).closed ≡ false = grind (arith, nat_tests) in let k2 : (task w f).scheduled ≡ false = grind (arith, nat_tests) in let k3 : (task w f).running ≡ false = grind (arith, nat_tests) in grind (arith, same_is, read_put, phase-push)
-sound-cancel_idle false true p w f e q i g r h = let k0 : (task w f).completed ≡ false = grind (arith, nat_tests) in let k1 : (task w f).closed ≡ false = grind (arith, nat_tests) in let k2 : (task w f).scheduled ≡ false = grind (arith, nat_tests) in let k3 : (task w f).running ≡ false = grind (arith, nat_tests) in grind (arith, same_is, read_put, phase-push)
-sound-cancel_idle false false p w f e q i g r h = let k0 : (task w f).completed ≡ false = grind (arith, nat_tests) in let k1 : (task w f).closed ≡ false = grind (arith, nat_tests) in let k2 : (task w f).scheduled ≡ false = grind (arith, nat_tests) in let k3 : (task w f).running ≡ false = grind (arith, nat_tests) in grind (arith, same_is, read_put, phase-push)
+sound-cancel_idle true true p w f e q i g r h = let k : IsIdle (task w f) = idle (task w f) e q in grind (arith, same_is, read_put, phase-push)
+sound-cancel_idle true false p w f e q i g r h = let k : IsIdle (task w f) = idle (task w f) e q in grind (arith, same_is, read_put, phase-push)
+sound-cancel_idle false true p w f e q i g r h = let k : IsIdle (task w f) = idle (task w f) e q in grind (arith, same_is, read_put, phase-push)
+sound-cancel_idle false false p w f e q i g r h = let k : IsIdle (task w f) = idle (task w f) e q in grind (arith, same_is, read_put, phase-push)
 
 abbrev pub detached : Bool → Bool → Bool → ℕ → World → ℕ → Done
 detached o x y p w f = carried (log_if o w (event.Detached p f)) f (moves.detach_by x y (task w f))
@@ -198,8 +199,8 @@ detached o x y p w f = carried (log_if o w (event.Detached p f)) f (moves.detach
 sound-detach : (o x y : Bool) (p : ℕ) (w : World) (f : ℕ) → ((task w f).completed && not (task w f).closed) ≡ x → (eqb (task w f).references 0 && not (task w f).closed) ≡ y → f < length w.tasks → Keeps w (op.Detach f ∷ []) (detached o x y p w f)
 sound-detach true true y p w f e q i g r h = grind (arith, nat_tests, same_is, read_put, phase-push)
 sound-detach false true y p w f e q i g r h = grind (arith, nat_tests, same_is, read_put, phase-push)
-sound-detach true false true p w f e q i g r h = let k0 : (task w f).references ≡ 0 = grind (arith, nat_tests) in let k1 : (task w f).closed ≡ false = grind (arith, nat_tests) in let k2 : (task w f).completed ≡ false = grind (arith, nat_tests) in grind (arith, same_is, read_put, phase-push)
-sound-detach false false true p w f e q i g r h = let k0 : (task w f).references ≡ 0 = grind (arith, nat_tests) in let k1 : (task w f).closed ≡ false = grind (arith, nat_tests) in let k2 : (task w f).completed ≡ false = grind (arith, nat_tests) in grind (arith, same_is, read_put, phase-push)
+sound-detach true false true p w f e q i g r h = let k : IsUnheld (task w f) = unheld (task w f) e q in grind (arith, same_is, read_put, phase-push)
+sound-detach false false true p w f e q i g r h = let k : IsUnheld (task w f) = unheld (task w f) e q in grind (arith, same_is, read_put, phase-push)
 sound-detach true false false p w f e q i g r h = grind (arith, same_is, read_put, phase-push)
 sound-detach false false false p w f e q i g r h = grind (arith, same_is, read_put, phase-push)
 

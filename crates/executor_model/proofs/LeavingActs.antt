@@ -22,6 +22,7 @@ use Rattle.executor_model.specs.Acts.{append_by, take_by, enter_by, look_at_tabl
 use Rattle.executor_model.specs.Weights.{same, weigh}
 use Rattle.executor_model.specs.Good.{past, pasts, waker_past, past_of, IsKnownWaker}
 use Rattle.executor_model.specs.Sound.{times}
+use Rattle.executor_model.proofs.Marks.{IsUnmarked, unmarked, IsGoing, going, IsIdle, idle, last-one, IsUnheld, unheld}
 use Rattle.executor_model.proofs.Lists.{read_put, read_push, fresh_is, past_is, same_is, times-append, times-drop, without_one}
 use Rattle.executor_model.proofs.Counting.{settling, readied, pended, ending, dropping, taken_up, woken, woken_by, cancel_going, cancel_idle, cancel_over, detached, stays_so, gives, waits_on, end_registered, end_notified, next_woken}
 use Rattle.executor_model.proofs.Stories.{story, story-push, times-except, length-except, among_is}
@@ -66,8 +67,8 @@ leaves-begin_drop_output p w f g r yy bb h = grind (arith, story-push)
 
 leaves-release : (b c : Bool) (w : World) (f : ℕ) → moves.is_last (task w f) ≡ b → moves.is_over (task w f) ≡ c → f < length w.tasks → KeepsLeaves w (op.Release f ∷ []) (carried w f (moves.release_by b c (task w f)))
 leaves-release false c w f e q i g r yy bb h = grind (arith, same_is, read_put, length-set)
-leaves-release true true w f e q i g r yy bb h = let z : (task w f).references ≡ 1 = grind (arith, nat_tests) in grind (arith, same_is, read_put, length-set)
-leaves-release true false w f e q i g r yy bb h = let z : (task w f).references ≡ 1 = grind (arith, nat_tests) in let c : (task w f).completed ≡ false = grind (arith, nat_tests) in grind (arith, same_is, read_put, length-set)
+leaves-release true true w f e q i g r yy bb h = let z : (task w f).references ≡ 1 = last-one (task w f) e in grind (arith, same_is, read_put, length-set)
+leaves-release true false w f e q i g r yy bb h = let z : (task w f).references ≡ 1 = last-one (task w f) e in let c : (task w f).completed ≡ false = grind (arith, nat_tests) in grind (arith, same_is, read_put, length-set)
 
 leaves-settle_closed : (a : Bool) (w : World) (f : ℕ) → f < length w.tasks → KeepsLeaves w (op.SettleClosed f ∷ []) (settling a w f)
 leaves-settle_closed true w f i g r yy bb h = grind (arith, same_is, read_put, length-set)
@@ -75,7 +76,7 @@ leaves-settle_closed false w f i g r yy bb h = grind (arith, same_is, read_put, 
 
 leaves-give_up : (b : Bool) (w : World) (f : ℕ) → moves.is_last (task w f) ≡ b → f < length w.tasks → KeepsLeaves w (op.GiveUp f ∷ []) (carried w f (moves.give_up_by b (task w f)))
 leaves-give_up false w f e i g r yy bb h = grind (arith, same_is, read_put, length-set)
-leaves-give_up true w f e i g r yy bb h = let z : (task w f).references ≡ 1 = grind (arith, nat_tests) in grind (arith, same_is, read_put, length-set)
+leaves-give_up true w f e i g r yy bb h = let z : (task w f).references ≡ 1 = last-one (task w f) e in grind (arith, same_is, read_put, length-set)
 
 -- by whether the output is unwanted, and whether there is an awaiter
 
@@ -91,8 +92,8 @@ leaves-end_pending : (x s l there : Bool) (w : World) (f : ℕ) → (task w f).c
 leaves-end_pending true s l true w f e q k m i g r yy bb h = let a : ((among f w.table ≡ true) × (1 ≤ times f w.table)) ⊎ ((among f w.table ≡ false) × (times f w.table ≡ 0)) = among_is f w.table in grind (arith, same_is, read_put, length-set)
 leaves-end_pending true s l false w f e q k m i g r yy bb h = let a : ((among f w.table ≡ true) × (1 ≤ times f w.table)) ⊎ ((among f w.table ≡ false) × (times f w.table ≡ 0)) = among_is f w.table in grind (arith, same_is, read_put, length-set)
 leaves-end_pending false true l there w f e q k m i g r yy bb h = let a : ((among f w.table ≡ true) × (1 ≤ times f w.table)) ⊎ ((among f w.table ≡ false) × (times f w.table ≡ 0)) = among_is f w.table in grind (arith, same_is, read_put, length-set)
-leaves-end_pending false false true true w f e q k m i g r yy bb h = let a : ((among f w.table ≡ true) × (1 ≤ times f w.table)) ⊎ ((among f w.table ≡ false) × (times f w.table ≡ 0)) = among_is f w.table in let z : (task w f).references ≡ 1 = grind (arith, nat_tests) in grind (arith, same_is, read_put, length-set)
-leaves-end_pending false false true false w f e q k m i g r yy bb h = let a : ((among f w.table ≡ true) × (1 ≤ times f w.table)) ⊎ ((among f w.table ≡ false) × (times f w.table ≡ 0)) = among_is f w.table in let z : (task w f).references ≡ 1 = grind (arith, nat_tests) in grind (arith, same_is, read_put, length-set)
+leaves-end_pending false false true true w f e q k m i g r yy bb h = let a : ((among f w.table ≡ true) × (1 ≤ times f w.table)) ⊎ ((among f w.table ≡ false) × (times f w.table ≡ 0)) = among_is f w.table in let z : (task w f).references ≡ 1 = last-one (task w f) k in grind (arith, same_is, read_put, length-set)
+leaves-end_pending false false true false w f e q k m i g r yy bb h = let a : ((among f w.table ≡ true) × (1 ≤ times f w.table)) ⊎ ((among f w.table ≡ false) × (times f w.table ≡ 0)) = among_is f w.table in let z : (task w f).references ≡ 1 = last-one (task w f) k in grind (arith, same_is, read_put, length-set)
 leaves-end_pending false false false there w f e q k m i g r yy bb h = let a : ((among f w.table ≡ true) × (1 ≤ times f w.table)) ⊎ ((among f w.table ≡ false) × (times f w.table ≡ 0)) = among_is f w.table in grind (arith, same_is, read_put, length-set)
 
 leaves-end_closed : (a : Bool) (w : World) (f : ℕ) → f < length w.tasks → KeepsLeaves w (op.EndClosed f ∷ []) (ending a w f)
@@ -119,26 +120,26 @@ leaves-take_up false there p w f e m i g r yy bb h = let a : ((among f w.table �
 leaves-wake_by_reference : (o b c : Bool) (p : ℕ) (w : World) (f : ℕ) → (moves.is_over (task w f) || (task w f).scheduled) ≡ b → (task w f).running ≡ c → f < length w.tasks → KeepsLeaves w (op.WakeByReference f ∷ []) (woken o b c p w f)
 leaves-wake_by_reference true true c p w f e q i g r yy bb h = grind (arith, same_is, read_put, length-set, story-push)
 leaves-wake_by_reference true false true p w f e q i g r yy bb h = grind (arith, same_is, read_put, length-set, story-push)
-leaves-wake_by_reference true false false p w f e q i g r yy bb h = let k0 : (task w f).completed ≡ false = grind (arith, nat_tests) in let k1 : (task w f).closed ≡ false = grind (arith, nat_tests) in let k2 : (task w f).scheduled ≡ false = grind (arith, nat_tests) in grind (arith, same_is, read_put, length-set, story-push)
+leaves-wake_by_reference true false false p w f e q i g r yy bb h = let k : IsUnmarked (task w f) = unmarked (task w f) e in grind (arith, same_is, read_put, length-set, story-push)
 leaves-wake_by_reference false true c p w f e q i g r yy bb h = grind (arith, same_is, read_put, length-set, story-push)
 leaves-wake_by_reference false false true p w f e q i g r yy bb h = grind (arith, same_is, read_put, length-set, story-push)
-leaves-wake_by_reference false false false p w f e q i g r yy bb h = let k0 : (task w f).completed ≡ false = grind (arith, nat_tests) in let k1 : (task w f).closed ≡ false = grind (arith, nat_tests) in let k2 : (task w f).scheduled ≡ false = grind (arith, nat_tests) in grind (arith, same_is, read_put, length-set, story-push)
+leaves-wake_by_reference false false false p w f e q i g r yy bb h = let k : IsUnmarked (task w f) = unmarked (task w f) e in grind (arith, same_is, read_put, length-set, story-push)
 
 leaves-wake : (o b c : Bool) (p : ℕ) (w : World) (f : ℕ) → (moves.is_over (task w f) || (task w f).scheduled) ≡ b → (task w f).running ≡ c → f < length w.tasks → KeepsLeaves w (op.Wake f ∷ []) (woken_by o b c p w f)
 leaves-wake true true c p w f e q i g r yy bb h = grind (arith, same_is, read_put, length-set, story-push)
 leaves-wake true false true p w f e q i g r yy bb h = grind (arith, same_is, read_put, length-set, story-push)
-leaves-wake true false false p w f e q i g r yy bb h = let k0 : (task w f).completed ≡ false = grind (arith, nat_tests) in let k1 : (task w f).closed ≡ false = grind (arith, nat_tests) in let k2 : (task w f).scheduled ≡ false = grind (arith, nat_tests) in grind (arith, same_is, read_put, length-set, story-push)
+leaves-wake true false false p w f e q i g r yy bb h = let k : IsUnmarked (task w f) = unmarked (task w f) e in grind (arith, same_is, read_put, length-set, story-push)
 leaves-wake false true c p w f e q i g r yy bb h = grind (arith, same_is, read_put, length-set, story-push)
 leaves-wake false false true p w f e q i g r yy bb h = grind (arith, same_is, read_put, length-set, story-push)
-leaves-wake false false false p w f e q i g r yy bb h = let k0 : (task w f).completed ≡ false = grind (arith, nat_tests) in let k1 : (task w f).closed ≡ false = grind (arith, nat_tests) in let k2 : (task w f).scheduled ≡ false = grind (arith, nat_tests) in grind (arith, same_is, read_put, length-set, story-push)
+leaves-wake false false false p w f e q i g r yy bb h = let k : IsUnmarked (task w f) = unmarked (task w f) e in grind (arith, same_is, read_put, length-set, story-push)
 
 leaves-call_task : (o b c : Bool) (p e : ℕ) (k : ℕ) (w : World) (f : ℕ) → (moves.is_over (task w f) || (task w f).scheduled) ≡ b → (task w f).running ≡ c → f < length w.tasks → KeepsLeaves w (op.CallAwaiter e (Task f) k ∷ []) (woken_by o b c p (log w (event.WakerCalled p e k (Task f))) f)
 leaves-call_task true true c p e k w f d q i g r yy bb h = grind (arith, same_is, read_put, length-set, story-push)
 leaves-call_task true false true p e k w f d q i g r yy bb h = grind (arith, same_is, read_put, length-set, story-push)
-leaves-call_task true false false p e k w f d q i g r yy bb h = let k0 : (task w f).completed ≡ false = grind (arith, nat_tests) in let k1 : (task w f).closed ≡ false = grind (arith, nat_tests) in let k2 : (task w f).scheduled ≡ false = grind (arith, nat_tests) in grind (arith, same_is, read_put, length-set, story-push)
+leaves-call_task true false false p e k w f d q i g r yy bb h = let k : IsUnmarked (task w f) = unmarked (task w f) d in grind (arith, same_is, read_put, length-set, story-push)
 leaves-call_task false true c p e k w f d q i g r yy bb h = grind (arith, same_is, read_put, length-set, story-push)
 leaves-call_task false false true p e k w f d q i g r yy bb h = grind (arith, same_is, read_put, length-set, story-push)
-leaves-call_task false false false p e k w f d q i g r yy bb h = let k0 : (task w f).completed ≡ false = grind (arith, nat_tests) in let k1 : (task w f).closed ≡ false = grind (arith, nat_tests) in let k2 : (task w f).scheduled ≡ false = grind (arith, nat_tests) in grind (arith, same_is, read_put, length-set, story-push)
+leaves-call_task false false false p e k w f d q i g r yy bb h = let k : IsUnmarked (task w f) = unmarked (task w f) d in grind (arith, same_is, read_put, length-set, story-push)
 
 -- by whether an event is logged
 
@@ -147,18 +148,18 @@ leaves-cancel_over true p w f i g r yy bb h = grind (arith, same_is, read_put, l
 leaves-cancel_over false p w f i g r yy bb h = grind (arith, same_is, read_put, length-set, story-push)
 
 leaves-cancel_going : (a : Bool) (p : ℕ) (w : World) (f : ℕ) → moves.is_going (task w f) ≡ true → f < length w.tasks → KeepsLeaves w (op.Cancel f ∷ []) (cancel_going true a p w f)
-leaves-cancel_going true p w f e i g r yy bb h = let z : ((task w f).scheduled ≡ true) ⊎ ((task w f).running ≡ true) = grind (arith, nat_tests) in grind (arith, same_is, read_put, length-set, story-push)
-leaves-cancel_going false p w f e i g r yy bb h = let z : ((task w f).scheduled ≡ true) ⊎ ((task w f).running ≡ true) = grind (arith, nat_tests) in grind (arith, same_is, read_put, length-set, story-push)
+leaves-cancel_going true p w f e i g r yy bb h = let z : IsGoing (task w f) = going (task w f) e in grind (arith, same_is, read_put, length-set, story-push)
+leaves-cancel_going false p w f e i g r yy bb h = let z : IsGoing (task w f) = going (task w f) e in grind (arith, same_is, read_put, length-set, story-push)
 
 leaves-cancel_idle : (a : Bool) (p : ℕ) (w : World) (f : ℕ) → moves.is_over (task w f) ≡ false → moves.is_going (task w f) ≡ false → f < length w.tasks → KeepsLeaves w (op.Cancel f ∷ []) (cancel_idle true a p w f)
-leaves-cancel_idle true p w f e q i g r yy bb h = let k0 : (task w f).completed ≡ false = grind (arith, nat_tests) in let k1 : (task w f).closed ≡ false = grind (arith, nat_tests) in let k2 : (task w f).scheduled ≡ false = grind (arith, nat_tests) in let k3 : (task w f).running ≡ false = grind (arith, nat_tests) in grind (arith, same_is, read_put, length-set, story-push)
-leaves-cancel_idle false p w f e q i g r yy bb h = let k0 : (task w f).completed ≡ false = grind (arith, nat_tests) in let k1 : (task w f).closed ≡ false = grind (arith, nat_tests) in let k2 : (task w f).scheduled ≡ false = grind (arith, nat_tests) in let k3 : (task w f).running ≡ false = grind (arith, nat_tests) in grind (arith, same_is, read_put, length-set, story-push)
+leaves-cancel_idle true p w f e q i g r yy bb h = let k : IsIdle (task w f) = idle (task w f) e q in grind (arith, same_is, read_put, length-set, story-push)
+leaves-cancel_idle false p w f e q i g r yy bb h = let k : IsIdle (task w f) = idle (task w f) e q in grind (arith, same_is, read_put, length-set, story-push)
 
 leaves-detach : (o x y : Bool) (p : ℕ) (w : World) (f : ℕ) → ((task w f).completed && not (task w f).closed) ≡ x → (eqb (task w f).references 0 && not (task w f).closed) ≡ y → f < length w.tasks → KeepsLeaves w (op.Detach f ∷ []) (detached o x y p w f)
 leaves-detach true true y p w f e q i g r yy bb h = grind (arith, nat_tests, same_is, read_put, length-set, story-push)
 leaves-detach false true y p w f e q i g r yy bb h = grind (arith, nat_tests, same_is, read_put, length-set, story-push)
-leaves-detach true false true p w f e q i g r yy bb h = let k0 : (task w f).references ≡ 0 = grind (arith, nat_tests) in let k1 : (task w f).closed ≡ false = grind (arith, nat_tests) in let k2 : (task w f).completed ≡ false = grind (arith, nat_tests) in grind (arith, same_is, read_put, length-set, story-push)
-leaves-detach false false true p w f e q i g r yy bb h = let k0 : (task w f).references ≡ 0 = grind (arith, nat_tests) in let k1 : (task w f).closed ≡ false = grind (arith, nat_tests) in let k2 : (task w f).completed ≡ false = grind (arith, nat_tests) in grind (arith, same_is, read_put, length-set, story-push)
+leaves-detach true false true p w f e q i g r yy bb h = let k : IsUnheld (task w f) = unheld (task w f) e q in grind (arith, same_is, read_put, length-set, story-push)
+leaves-detach false false true p w f e q i g r yy bb h = let k : IsUnheld (task w f) = unheld (task w f) e q in grind (arith, same_is, read_put, length-set, story-push)
 leaves-detach true false false p w f e q i g r yy bb h = grind (arith, same_is, read_put, length-set, story-push)
 leaves-detach false false false p w f e q i g r yy bb h = grind (arith, same_is, read_put, length-set, story-push)
 
@@ -253,14 +254,14 @@ leaves-wake_next true true c [] p w f y e q i g r yy bb h = grind (arith, same_i
 leaves-wake_next true true c (u ∷ us) p w f y e q i g r yy bb h = grind (arith, same_is, read_put, length-set, story-push)
 leaves-wake_next true false true [] p w f y e q i g r yy bb h = grind (arith, same_is, read_put, length-set, story-push)
 leaves-wake_next true false true (u ∷ us) p w f y e q i g r yy bb h = grind (arith, same_is, read_put, length-set, story-push)
-leaves-wake_next true false false [] p w f y e q i g r yy bb h = let k0 : (task w f).completed ≡ false = grind (arith, nat_tests) in let k1 : (task w f).closed ≡ false = grind (arith, nat_tests) in let k2 : (task w f).scheduled ≡ false = grind (arith, nat_tests) in grind (arith, same_is, read_put, length-set, story-push)
-leaves-wake_next true false false (u ∷ us) p w f y e q i g r yy bb h = let k0 : (task w f).completed ≡ false = grind (arith, nat_tests) in let k1 : (task w f).closed ≡ false = grind (arith, nat_tests) in let k2 : (task w f).scheduled ≡ false = grind (arith, nat_tests) in grind (arith, same_is, read_put, length-set, story-push)
+leaves-wake_next true false false [] p w f y e q i g r yy bb h = let k : IsUnmarked (task w f) = unmarked (task w f) e in grind (arith, same_is, read_put, length-set, story-push)
+leaves-wake_next true false false (u ∷ us) p w f y e q i g r yy bb h = let k : IsUnmarked (task w f) = unmarked (task w f) e in grind (arith, same_is, read_put, length-set, story-push)
 leaves-wake_next false true c [] p w f y e q i g r yy bb h = grind (arith, same_is, read_put, length-set, story-push)
 leaves-wake_next false true c (u ∷ us) p w f y e q i g r yy bb h = grind (arith, same_is, read_put, length-set, story-push)
 leaves-wake_next false false true [] p w f y e q i g r yy bb h = grind (arith, same_is, read_put, length-set, story-push)
 leaves-wake_next false false true (u ∷ us) p w f y e q i g r yy bb h = grind (arith, same_is, read_put, length-set, story-push)
-leaves-wake_next false false false [] p w f y e q i g r yy bb h = let k0 : (task w f).completed ≡ false = grind (arith, nat_tests) in let k1 : (task w f).closed ≡ false = grind (arith, nat_tests) in let k2 : (task w f).scheduled ≡ false = grind (arith, nat_tests) in grind (arith, same_is, read_put, length-set, story-push)
-leaves-wake_next false false false (u ∷ us) p w f y e q i g r yy bb h = let k0 : (task w f).completed ≡ false = grind (arith, nat_tests) in let k1 : (task w f).closed ≡ false = grind (arith, nat_tests) in let k2 : (task w f).scheduled ≡ false = grind (arith, nat_tests) in grind (arith, same_is, read_put, length-set, story-push)
+leaves-wake_next false false false [] p w f y e q i g r yy bb h = let k : IsUnmarked (task w f) = unmarked (task w f) e in grind (arith, same_is, read_put, length-set, story-push)
+leaves-wake_next false false false (u ∷ us) p w f y e q i g r yy bb h = let k : IsUnmarked (task w f) = unmarked (task w f) e in grind (arith, same_is, read_put, length-set, story-push)
 
 leaves-close : (w : World) → KeepsLeaves w (op.Close ∷ []) (close w)
 leaves-close w g r yy bb h = grind arith

@@ -1,4 +1,5 @@
 pub mod Lists
+pub mod Marks
 pub mod Counting
 pub mod Fitting
 pub mod Lift

@@ -1,5 +1,5 @@
 -- Each thing that is done keeps what holds of each future and of who waits on its handle.
-use Rattle.std.proofs.Common.{◌≡◌, ◌⊎◌, ℕ, ◌+◌, ◌<◌, List, [], ◌∷◌, ◌++◌, length, Bool, true, false, ◌||◌, ◌&&◌, not, eqb, drop, refl, sym, ap, ◌∙◌, ◌≤◌, inl, inr, arith}
+use Rattle.std.proofs.Common.{◌≡◌, ◌⊎◌, ℕ, ◌+◌, ◌<◌, List, [], ◌∷◌, ◌++◌, length, Bool, true, false, ◌||◌, ◌&&◌, not, eqb, drop, refl, sym, ap, ◌∙◌, subst, ◌≤◌, inl, inr, arith}
 use Rattle.std.proofs.lemmas.Bool.Decides.{nat_tests}
 use Rattle.std.proofs.lemmas.List.{length-set, length-append}
 use Rattle.std.specs.Prelude.{Option, Some, None, slice_set}
@@ -18,17 +18,17 @@ use Rattle.executor_model.specs.declared.step.Hint.{Hint}
 use Rattle.executor_model.specs.declared.step.UserEnd.{UserEnd}
 use Rattle.executor_model.specs.declared.step.UserEnd.TheVariants as end
 use Rattle.executor_model.specs.Steps.{accepts, react}
-use Rattle.executor_model.specs.World.{World, done, log, log_if, task, awaiter_of, among}
+use Rattle.executor_model.specs.World.{World, Done, done, log, log_if, task, awaiter_of, among}
 use Rattle.executor_model.specs.Carried.{carried}
 use Rattle.executor_model.specs.Acts.{append_by, take_by, enter_by, look_at_table, take_to_poll, put_back, take_to_drop, leave_by, begin_drop, begin_drop_output, copy_by, polled, look_by, look_again_by, is_copy_refused, copy_awaiter_by, register_by, end_register_by, notify_by, call_awaiter, closing_ops, drop_next_by, wake_next_by, close, drain_by, act}
 use Rattle.executor_model.specs.Weights.{same, weigh}
 use Rattle.executor_model.specs.Good.{past, pasts, waker_past, past_of, IsKnownWaker}
-use Rattle.executor_model.specs.Sound.{times}
+use Rattle.executor_model.specs.Sound.{Pend, with_ops, times}
 use Rattle.executor_model.proofs.Marks.{IsUnmarked, unmarked, IsMarked, marked, IsGoing, going, IsIdle, idle, last-one, IsUnheld, unheld}
-use Rattle.executor_model.proofs.Lists.{read_put, fresh_is, read_push, past_is, same_is, times-append, times-drop}
+use Rattle.executor_model.proofs.Lists.{with_ops-closing, read_put, fresh_is, read_push, past_is, same_is, times-append, times-drop}
 use Rattle.executor_model.proofs.Counting.{settling, readied, pended, ending, dropping, taken_up, woken, woken_by, cancel_going, cancel_idle, cancel_over, detached, stays_so, gives, waits_on, end_registered, end_notified, next_woken}
 use Rattle.executor_model.proofs.Calls.{is_end}
-use Rattle.executor_model.proofs.Awaited.{heard, heard-push, Mark, KeepsBy, KeepsAwaits, asks_if, kept_at, kept_put, kept_push}
+use Rattle.executor_model.proofs.Awaited.{heard, heard-push, Awaiting, with_awaiting, with_awaiting-closing, Footing, Awaits, Mark, KeepsBy, KeepsAwaits, asks_if, kept_at, kept_put, kept_push}
 
 awaits-append : (b : Bool) (w : World) (f : ℕ) → KeepsAwaits w (op.Append f ∷ []) (append_by b w f)
 awaits-append true w f g r yy mm bb h = grind (arith, same_is, times-append)
@@ -136,12 +136,12 @@ awaits-wake false false true p w f e q i g r yy mm bb h = grind (arith, same_is,
 awaits-wake false false false p w f e q i g r yy mm bb h = let k : IsUnmarked (task w f) = unmarked (task w f) e in grind (arith, same_is, read_put, length-set, heard-push)
 
 awaits-call_task : (o b c : Bool) (p e : ℕ) (k : ℕ) (w : World) (f : ℕ) → (moves.is_over (task w f) || (task w f).scheduled) ≡ b → (task w f).running ≡ c → f < length w.tasks → KeepsAwaits w (op.CallAwaiter e (Task f) k ∷ []) (woken_by o b c p (log w (event.WakerCalled p e k (Task f))) f)
-awaits-call_task true true c p e k w f d q i g r yy mm bb h = grind (arith, same_is, read_put, length-set, heard-push)
-awaits-call_task true false true p e k w f d q i g r yy mm bb h = grind (arith, same_is, read_put, length-set, heard-push)
-awaits-call_task true false false p e k w f d q i g r yy mm bb h = let k : IsUnmarked (task w f) = unmarked (task w f) d in grind (arith, same_is, read_put, length-set, heard-push)
-awaits-call_task false true c p e k w f d q i g r yy mm bb h = grind (arith, same_is, read_put, length-set, heard-push)
-awaits-call_task false false true p e k w f d q i g r yy mm bb h = grind (arith, same_is, read_put, length-set, heard-push)
-awaits-call_task false false false p e k w f d q i g r yy mm bb h = let k : IsUnmarked (task w f) = unmarked (task w f) d in grind (arith, same_is, read_put, length-set, heard-push)
+awaits-call_task o b c p e k w f d q i g r yy mm bb h =
+    let called : World = log w (event.WakerCalled p e k (Task f)) in
+    let stand : Footing called g (with_ops g (op.Wake f ∷ []) r) (with_awaiting g (op.Wake f ∷ []) yy) =
+        record { one = bb.one; live = bb.live; ends = bb.ends; drop = bb.drop; carries = bb.carries; rests = bb.rests; lent = bb.lent; done = grind (arith, heard-push); stages = bb.stages; few = bb.few; tied = bb.tied } in
+    let waits : Awaits called g (with_ops g (op.Wake f ∷ []) r) (with_awaiting g (op.Wake f ∷ []) yy) mm = grind (arith, same_is, heard-push) in
+    awaits-wake o b c p called f d q i g r yy mm stand waits
 
 -- by whether an event is logged
 
@@ -195,8 +195,8 @@ awaits-again_waits p w f n i g r yy mm bb h = grind (arith, same_is, read_put, l
 
 awaits-copy_awaiter : (b : Bool) (p : ℕ) (w : World) (f : ℕ) (a : Waker) → IsKnownWaker w a → KeepsBy w (op.CopyAwaiter f a ∷ []) (copy_awaiter_by b p w f a) (asks_if (not b) p f)
 awaits-copy_awaiter true p w f a e g r yy mm bb h = grind arith
-awaits-copy_awaiter false p w f (Task k) e g r yy mm bb h = let z : k < length w.tasks = e in let l : eqb (length w.trace) (length w.trace) ≡ true = grind (arith, nat_tests) in grind (arith, same_is, read_put, length-set, heard-push)
-awaits-copy_awaiter false p w f (Outside x) e g r yy mm bb h = let l : eqb (length w.trace) (length w.trace) ≡ true = grind (arith, nat_tests) in grind (arith, same_is, heard-push)
+awaits-copy_awaiter false p w f (Task k) e g r yy mm bb h = let few : (with_awaiting g (op.CopyAwaiter f (Task k) ∷ []) yy).strays (length w.trace) ≤ _ = bb.few (length w.trace) in let z : k < length w.tasks = e in let l : eqb (length w.trace) (length w.trace) ≡ true = grind (arith, nat_tests) in grind (arith, same_is, read_put, length-set, heard-push)
+awaits-copy_awaiter false p w f (Outside x) e g r yy mm bb h = let few : (with_awaiting g (op.CopyAwaiter f (Outside x) ∷ []) yy).strays (length w.trace) ≤ _ = bb.few (length w.trace) in let l : eqb (length w.trace) (length w.trace) ≡ true = grind (arith, nat_tests) in grind (arith, same_is, heard-push)
 
 awaits-register : (b : Bool) (w : World) (f : ℕ) (a : Waker) (k : ℕ) → (task w f).notifying ≡ b → f < length w.tasks → KeepsAwaits w (op.Register f a k ∷ []) (register_by b w f a k)
 awaits-register true w f a k n i g r yy mm bb h = grind (arith, same_is, read_put, length-set)
@@ -251,19 +251,19 @@ awaits-drop_next [] [] p w f e g r yy mm bb h = grind (arith, same_is, times-app
 awaits-drop_next [] (y ∷ ws) p w f e g r yy mm bb h = grind (arith, same_is, times-append, heard-push)
 awaits-drop_next (y ∷ ls) ws p w f e g r yy mm bb h = grind (arith, same_is, times-append, heard-push)
 
+-- the wake itself, without what the executor's drop does then
+awaits-wake_left : (o b c : Bool) (rest : List ℕ) (p : ℕ) (w : World) (f : ℕ) → w.waking ≡ f ∷ rest → (moves.is_over (task w f) || (task w f).scheduled) ≡ b → (task w f).running ≡ c → f < length w.tasks → KeepsAwaits w (op.WakeNext ∷ []) (woken_by o b c p (record w { waking = rest }) f)
+awaits-wake_left true true c rest p w f y e q i g r yy mm bb h = let z : times g w.waking ≡ same g f + times g rest = ap (times g) y in let k : IsMarked (task w f) = marked (task w f) e in grind (arith, same_is, read_put, length-set, heard-push)
+awaits-wake_left true false true rest p w f y e q i g r yy mm bb h = let z : times g w.waking ≡ same g f + times g rest = ap (times g) y in grind (arith, same_is, read_put, length-set, heard-push)
+awaits-wake_left true false false rest p w f y e q i g r yy mm bb h = let z : times g w.waking ≡ same g f + times g rest = ap (times g) y in let k : IsUnmarked (task w f) = unmarked (task w f) e in grind (arith, same_is, read_put, length-set, heard-push)
+awaits-wake_left false true c rest p w f y e q i g r yy mm bb h = let z : times g w.waking ≡ same g f + times g rest = ap (times g) y in let k : IsMarked (task w f) = marked (task w f) e in grind (arith, same_is, read_put, length-set, heard-push)
+awaits-wake_left false false true rest p w f y e q i g r yy mm bb h = let z : times g w.waking ≡ same g f + times g rest = ap (times g) y in grind (arith, same_is, read_put, length-set, heard-push)
+awaits-wake_left false false false rest p w f y e q i g r yy mm bb h = let z : times g w.waking ≡ same g f + times g rest = ap (times g) y in let k : IsUnmarked (task w f) = unmarked (task w f) e in grind (arith, same_is, read_put, length-set, heard-push)
+
 awaits-wake_next : (o b c : Bool) (rest : List ℕ) (p : ℕ) (w : World) (f : ℕ) → w.waking ≡ f ∷ rest → (moves.is_over (task w f) || (task w f).scheduled) ≡ b → (task w f).running ≡ c → f < length w.tasks → KeepsAwaits w (op.WakeNext ∷ []) (next_woken o b c rest p w f)
-awaits-wake_next true true c [] p w f y e q i g r yy mm bb h = let z : times g w.waking ≡ same g f + times g [] = ap (times g) y in let k : IsMarked (task w f) = marked (task w f) e in grind (arith, same_is, read_put, length-set, heard-push)
-awaits-wake_next true true c (u ∷ us) p w f y e q i g r yy mm bb h = let z : times g w.waking ≡ same g f + times g (u ∷ us) = ap (times g) y in let k : IsMarked (task w f) = marked (task w f) e in grind (arith, same_is, read_put, length-set, heard-push)
-awaits-wake_next true false true [] p w f y e q i g r yy mm bb h = let z : times g w.waking ≡ same g f + times g [] = ap (times g) y in grind (arith, same_is, read_put, length-set, heard-push)
-awaits-wake_next true false true (u ∷ us) p w f y e q i g r yy mm bb h = let z : times g w.waking ≡ same g f + times g (u ∷ us) = ap (times g) y in grind (arith, same_is, read_put, length-set, heard-push)
-awaits-wake_next true false false [] p w f y e q i g r yy mm bb h = let z : times g w.waking ≡ same g f + times g [] = ap (times g) y in let k : IsUnmarked (task w f) = unmarked (task w f) e in grind (arith, same_is, read_put, length-set, heard-push)
-awaits-wake_next true false false (u ∷ us) p w f y e q i g r yy mm bb h = let z : times g w.waking ≡ same g f + times g (u ∷ us) = ap (times g) y in let k : IsUnmarked (task w f) = unmarked (task w f) e in grind (arith, same_is, read_put, length-set, heard-push)
-awaits-wake_next false true c [] p w f y e q i g r yy mm bb h = let z : times g w.waking ≡ same g f + times g [] = ap (times g) y in let k : IsMarked (task w f) = marked (task w f) e in grind (arith, same_is, read_put, length-set, heard-push)
-awaits-wake_next false true c (u ∷ us) p w f y e q i g r yy mm bb h = let z : times g w.waking ≡ same g f + times g (u ∷ us) = ap (times g) y in let k : IsMarked (task w f) = marked (task w f) e in grind (arith, same_is, read_put, length-set, heard-push)
-awaits-wake_next false false true [] p w f y e q i g r yy mm bb h = let z : times g w.waking ≡ same g f + times g [] = ap (times g) y in grind (arith, same_is, read_put, length-set, heard-push)
-awaits-wake_next false false true (u ∷ us) p w f y e q i g r yy mm bb h = let z : times g w.waking ≡ same g f + times g (u ∷ us) = ap (times g) y in grind (arith, same_is, read_put, length-set, heard-push)
-awaits-wake_next false false false [] p w f y e q i g r yy mm bb h = let z : times g w.waking ≡ same g f + times g [] = ap (times g) y in let k : IsUnmarked (task w f) = unmarked (task w f) e in grind (arith, same_is, read_put, length-set, heard-push)
-awaits-wake_next false false false (u ∷ us) p w f y e q i g r yy mm bb h = let z : times g w.waking ≡ same g f + times g (u ∷ us) = ap (times g) y in let k : IsUnmarked (task w f) = unmarked (task w f) e in grind (arith, same_is, read_put, length-set, heard-push)
+awaits-wake_next o b c rest p w f y e q i g r yy mm bb h =
+    let d : Done = woken_by o b c p (record w { waking = rest }) f in
+    subst (λ (x : Pend × Awaiting). Awaits d.world g x.0 x.1 mm) (λ j. (sym (with_ops-closing g d.next rest r) j, sym (with_awaiting-closing g d.next rest yy) j)) (awaits-wake_left o b c rest p w f y e q i g r yy mm bb h)
 
 awaits-close : (w : World) → KeepsAwaits w (op.Close ∷ []) (close w)
 awaits-close w g r yy mm bb h = grind arith

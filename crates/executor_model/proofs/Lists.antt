@@ -20,6 +20,7 @@ use Rattle.executor_model.specs.World.{blank, without, among}
 use Rattle.executor_model.specs.Weights.{same, weigh, weigh_all, borrowing_of}
 use Rattle.executor_model.specs.Good.{past, pasts, wakers_past, waker_past, awaiters_past}
 use Rattle.executor_model.specs.Sound.{times, wakers_of, wakes, awaiters_of, waiting_of, polls_of, ending_of, ready_of, closing_of, settling_of, giving_of, drops_of, releases_of, copies_of, ousting_of, Pend, with_ops, Phase, passes, phase_from, phase, after_begun, after_answered, after_dropped}
+use Rattle.executor_model.proofs.Cases.{by_bool}
 
 pub same_cases : (g f : ℕ) → ((same g f ≡ 1) × (eqb g f ≡ true) × (g ≡ f)) ⊎ ((same g f ≡ 0) × (eqb g f ≡ false) × (g ≢ f))
 unfolding same
@@ -141,8 +142,9 @@ awaiters_past-push n (x ∷ ws) = omega (arith, awaiters_past-push n ws, awaiter
 
 -- without its first f, and whether f is among them
 without_go : (g f x : ℕ) (xs : List ℕ) (b : Bool) → eqb f x ≡ b → (among f xs ≡ true → times g (without f xs) + same g f ≡ times g xs) → elim b [ true ↦ true | false ↦ among f xs ] ≡ true → times g (elim b [ true ↦ xs | false ↦ x ∷ without f xs ]) + same g f ≡ same g x + times g xs
-without_go g f x xs true q ih e = let same_two : f ≡ x = grind (arith, nat_tests) in rw same_two (omega arith)
-without_go g f x xs false q ih e = omega (arith, ih e)
+without_go = λ g f x xs. by_bool _
+    (λ q ih e. let same_two : f ≡ x = grind (arith, nat_tests) in rw same_two (omega arith))
+    (λ q ih e. omega (arith, ih e))
 
 pub without_one : (g f : ℕ) (xs : List ℕ) → among f xs ≡ true → times g (without f xs) + same g f ≡ times g xs
 without_one g f [] e = absurd (cc)

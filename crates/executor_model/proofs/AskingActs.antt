@@ -22,6 +22,8 @@ use Rattle.executor_model.specs.Weights.{same, weigh}
 use Rattle.executor_model.specs.Good.{past, pasts, waker_past, past_of, IsKnownWaker}
 use Rattle.executor_model.specs.Sound.{times, phase}
 use Rattle.executor_model.specs.Sound.Phase.{Over}
+use Rattle.executor_model.proofs.Cases.{by_bool, by_list, by_waker}
+use Rattle.executor_model.proofs.Marks.{IsUnmarked, unmarked, IsGoing, going, IsIdle, idle, last-one, IsUnheld, unheld}
 use Rattle.executor_model.proofs.Lists.{read_put, read_push, fresh_is, past_is, same_is, times-append, times-drop, without_one, phase-push, phase-begun, phase-answered, phase-dropped}
 use Rattle.executor_model.proofs.Counting.{settling, readied, pended, ending, dropping, taken_up, woken, woken_by, cancel_going, cancel_idle, cancel_over, detached, stays_so, gives, waits_on, end_registered, end_notified, next_woken}
 use Rattle.executor_model.proofs.Stories.{among_is}
@@ -37,17 +39,21 @@ scheduled-then false b e q = q
 scheduled-then true b e q = absurd (cc)
 
 asked-append : (b : Bool) (w : World) (f : ℕ) → KeepsAsked w (op.Append f ∷ []) (append_by b w f)
-asked-append true w f g r bb h = grind (arith, same_is, times-append)
-asked-append false w f g r bb h = grind (arith, same_is)
+asked-append = by_bool _
+    (λ w f g r bb h. grind (arith, same_is, times-append))
+    (λ w f g r bb h. grind (arith, same_is))
 
 asked-take : (q : List ℕ) (w : World) → w.queue.items ≡ q → KeepsAsked w (op.Take ∷ []) (take_by w q)
-asked-take [] w e g r bb h = grind arith
-asked-take (f ∷ rest) w e g r bb h = let z : same g f + times g (drop 1 w.queue.items) ≡ times g w.queue.items = times-drop g f rest w.queue.items e in grind (arith, same_is)
+asked-take = by_list _
+    (λ w e g r bb h. grind arith)
+    (λ f rest w e g r bb h. let z : same g f + times g (drop 1 w.queue.items) ≡ times g w.queue.items = times-drop g f rest w.queue.items e in grind (arith, same_is))
 
 asked-enter : (b c : Bool) (p : ℕ) (w : World) → KeepsAsked w (op.Enter ∷ []) (enter_by b c p w)
-asked-enter true c p w g r bb h = grind arith
-asked-enter false true p w g r bb h = grind arith
-asked-enter false false p w g r bb h = grind (arith, same_is, fresh_is, read_push, times-append, length-append, request-push, phase-push)
+asked-enter = by_bool _
+    (λ c p w g r bb h. grind arith)
+    (by_bool _
+    (λ p w g r bb h. grind arith)
+    (λ p w g r bb h. grind (arith, same_is, fresh_is, read_push, times-append, length-append, request-push, phase-push)))
 
 asked-look_at_table : (w : World) → KeepsAsked w (op.LookAtTable ∷ []) (look_at_table w)
 asked-look_at_table w g r bb h = grind arith
@@ -62,8 +68,9 @@ asked-take_to_drop : (w : World) (f : ℕ) → KeepsAsked w (op.TakeToDrop f ∷
 asked-take_to_drop w f g r bb h = grind (arith, same_is)
 
 asked-leave : (b : Bool) (w : World) (f : ℕ) → among f w.table ≡ b → KeepsAsked w (op.LeaveTable f ∷ []) (leave_by b w f)
-asked-leave true w f e g r bb h = grind (arith, same_is, without_one)
-asked-leave false w f e g r bb h = grind (arith, same_is)
+asked-leave = by_bool _
+    (λ w f e g r bb h. grind (arith, same_is, without_one))
+    (λ w f e g r bb h. grind (arith, same_is))
 
 asked-begin_drop : (p : ℕ) (w : World) (f : ℕ) → KeepsAsked w (op.BeginDrop f ∷ []) (begin_drop p w f)
 asked-begin_drop p w f g r bb h = grind (arith, same_is, request-push, phase-dropped)
@@ -74,80 +81,113 @@ asked-begin_drop_output p w f g r bb h = grind (arith, request-push, phase-push)
 -- the moves of a task, by what they find
 
 asked-release : (b c : Bool) (w : World) (f : ℕ) → moves.is_last (task w f) ≡ b → moves.is_over (task w f) ≡ c → f < length w.tasks → KeepsAsked w (op.Release f ∷ []) (carried w f (moves.release_by b c (task w f)))
-asked-release false c w f e q i g r bb h = grind (arith, same_is, read_put, length-set)
-asked-release true true w f e q i g r bb h = let z : (task w f).references ≡ 1 = grind (arith, nat_tests) in grind (arith, same_is, read_put, length-set)
-asked-release true false w f e q i g r bb h = let z : (task w f).references ≡ 1 = grind (arith, nat_tests) in let c : (task w f).completed ≡ false = grind (arith, nat_tests) in grind (arith, same_is, read_put, length-set)
+asked-release = by_bool _
+    (by_bool _
+    (λ w f e q i g r bb h. let z : (task w f).references ≡ 1 = last-one (task w f) e in grind (arith, same_is, read_put, length-set))
+    (λ w f e q i g r bb h. let z : (task w f).references ≡ 1 = last-one (task w f) e in let c : (task w f).completed ≡ false = grind (arith, nat_tests) in grind (arith, same_is, read_put, length-set)))
+    (λ c w f e q i g r bb h. grind (arith, same_is, read_put, length-set))
 
 asked-settle_closed : (a : Bool) (w : World) (f : ℕ) → f < length w.tasks → KeepsAsked w (op.SettleClosed f ∷ []) (settling a w f)
-asked-settle_closed true w f i g r bb h = grind (arith, same_is, read_put, length-set)
-asked-settle_closed false w f i g r bb h = grind (arith, same_is, read_put, length-set)
+asked-settle_closed = by_bool _
+    (λ w f i g r bb h. grind (arith, same_is, read_put, length-set))
+    (λ w f i g r bb h. grind (arith, same_is, read_put, length-set))
 
 asked-give_up : (b : Bool) (w : World) (f : ℕ) → moves.is_last (task w f) ≡ b → f < length w.tasks → KeepsAsked w (op.GiveUp f ∷ []) (carried w f (moves.give_up_by b (task w f)))
-asked-give_up false w f e i g r bb h = grind (arith, same_is, read_put, length-set)
-asked-give_up true w f e i g r bb h = let z : (task w f).references ≡ 1 = grind (arith, nat_tests) in grind (arith, same_is, read_put, length-set)
+asked-give_up = by_bool _
+    (λ w f e i g r bb h. let z : (task w f).references ≡ 1 = last-one (task w f) e in grind (arith, same_is, read_put, length-set))
+    (λ w f e i g r bb h. grind (arith, same_is, read_put, length-set))
 
 -- by whether the output is unwanted, and whether there is an awaiter
 
 asked-end_ready : (u a : Bool) (w : World) (f : ℕ) → ((task w f).closed || not (task w f).handle) ≡ u → f < length w.tasks → KeepsAsked w (op.EndReady f ∷ []) (readied u a w f)
-asked-end_ready true true w f e i g r bb h = grind (arith, same_is, read_put, length-set)
-asked-end_ready true false w f e i g r bb h = grind (arith, same_is, read_put, length-set)
-asked-end_ready false true w f e i g r bb h = grind (arith, same_is, read_put, length-set)
-asked-end_ready false false w f e i g r bb h = grind (arith, same_is, read_put, length-set)
+asked-end_ready = by_bool _
+    (by_bool _
+    (λ w f e i g r bb h. grind (arith, same_is, read_put, length-set))
+    (λ w f e i g r bb h. grind (arith, same_is, read_put, length-set)))
+    (by_bool _
+    (λ w f e i g r bb h. grind (arith, same_is, read_put, length-set))
+    (λ w f e i g r bb h. grind (arith, same_is, read_put, length-set)))
 
 -- by whether it is closed, scheduled, its reference the last, and its entry in the table
 
 asked-end_pending : (x s l there : Bool) (w : World) (f : ℕ) → (task w f).closed ≡ x → (task w f).scheduled ≡ s → moves.is_last (task w f) ≡ l → among f w.table ≡ there → f < length w.tasks → KeepsAsked w (op.EndPending f ∷ []) (pended x s l there w f)
-asked-end_pending true s l true w f e q k m i g r bb h = let a : ((among f w.table ≡ true) × (1 ≤ times f w.table)) ⊎ ((among f w.table ≡ false) × (times f w.table ≡ 0)) = among_is f w.table in grind (arith, same_is, read_put, length-set)
-asked-end_pending true s l false w f e q k m i g r bb h = let a : ((among f w.table ≡ true) × (1 ≤ times f w.table)) ⊎ ((among f w.table ≡ false) × (times f w.table ≡ 0)) = among_is f w.table in grind (arith, same_is, read_put, length-set)
-asked-end_pending false true l there w f e q k m i g r bb h = let a : ((among f w.table ≡ true) × (1 ≤ times f w.table)) ⊎ ((among f w.table ≡ false) × (times f w.table ≡ 0)) = among_is f w.table in grind (arith, same_is, read_put, length-set)
-asked-end_pending false false true true w f e q k m i g r bb h = let a : ((among f w.table ≡ true) × (1 ≤ times f w.table)) ⊎ ((among f w.table ≡ false) × (times f w.table ≡ 0)) = among_is f w.table in let z : (task w f).references ≡ 1 = grind (arith, nat_tests) in grind (arith, same_is, read_put, length-set)
-asked-end_pending false false true false w f e q k m i g r bb h = let a : ((among f w.table ≡ true) × (1 ≤ times f w.table)) ⊎ ((among f w.table ≡ false) × (times f w.table ≡ 0)) = among_is f w.table in let z : (task w f).references ≡ 1 = grind (arith, nat_tests) in grind (arith, same_is, read_put, length-set)
-asked-end_pending false false false there w f e q k m i g r bb h = let a : ((among f w.table ≡ true) × (1 ≤ times f w.table)) ⊎ ((among f w.table ≡ false) × (times f w.table ≡ 0)) = among_is f w.table in grind (arith, same_is, read_put, length-set)
+asked-end_pending = by_bool _
+    (λ s l. by_bool _
+    (λ w f e q k m i g r bb h. let a : ((among f w.table ≡ true) × (1 ≤ times f w.table)) ⊎ ((among f w.table ≡ false) × (times f w.table ≡ 0)) = among_is f w.table in grind (arith, same_is, read_put, length-set))
+    (λ w f e q k m i g r bb h. let a : ((among f w.table ≡ true) × (1 ≤ times f w.table)) ⊎ ((among f w.table ≡ false) × (times f w.table ≡ 0)) = among_is f w.table in grind (arith, same_is, read_put, length-set)))
+    (by_bool _
+    (λ l there w f e q k m i g r bb h. let a : ((among f w.table ≡ true) × (1 ≤ times f w.table)) ⊎ ((among f w.table ≡ false) × (times f w.table ≡ 0)) = among_is f w.table in grind (arith, same_is, read_put, length-set))
+    (by_bool _
+    (by_bool _
+    (λ w f e q k m i g r bb h. let a : ((among f w.table ≡ true) × (1 ≤ times f w.table)) ⊎ ((among f w.table ≡ false) × (times f w.table ≡ 0)) = among_is f w.table in let z : (task w f).references ≡ 1 = last-one (task w f) k in grind (arith, same_is, read_put, length-set))
+    (λ w f e q k m i g r bb h. let a : ((among f w.table ≡ true) × (1 ≤ times f w.table)) ⊎ ((among f w.table ≡ false) × (times f w.table ≡ 0)) = among_is f w.table in let z : (task w f).references ≡ 1 = last-one (task w f) k in grind (arith, same_is, read_put, length-set)))
+    (λ there w f e q k m i g r bb h. let a : ((among f w.table ≡ true) × (1 ≤ times f w.table)) ⊎ ((among f w.table ≡ false) × (times f w.table ≡ 0)) = among_is f w.table in grind (arith, same_is, read_put, length-set))))
 
 asked-end_closed : (a : Bool) (w : World) (f : ℕ) → f < length w.tasks → KeepsAsked w (op.EndClosed f ∷ []) (ending a w f)
-asked-end_closed true w f i g r bb h = grind (arith, same_is, read_put, length-set)
-asked-end_closed false w f i g r bb h = grind (arith, same_is, read_put, length-set)
+asked-end_closed = by_bool _
+    (λ w f i g r bb h. grind (arith, same_is, read_put, length-set))
+    (λ w f i g r bb h. grind (arith, same_is, read_put, length-set))
 
 -- by whether its entry is in the table
 
 asked-drop_runnable : (c there : Bool) (w : World) (f : ℕ) → ((task w f).closed || not (task w f).completed) ≡ c → among f w.table ≡ there → phase f w.trace ≡ Over → f < length w.tasks → KeepsAsked w (op.DropRunnable f ∷ []) (dropping c there w f)
-asked-drop_runnable true true w f e m n i g r bb h = let a : ((among f w.table ≡ true) × (1 ≤ times f w.table)) ⊎ ((among f w.table ≡ false) × (times f w.table ≡ 0)) = among_is f w.table in grind (arith, nat_tests, same_is, read_put, length-set)
-asked-drop_runnable true false w f e m n i g r bb h = let a : ((among f w.table ≡ true) × (1 ≤ times f w.table)) ⊎ ((among f w.table ≡ false) × (times f w.table ≡ 0)) = among_is f w.table in grind (arith, nat_tests, same_is, read_put, length-set)
-asked-drop_runnable false true w f e m n i g r bb h = let a : ((among f w.table ≡ true) × (1 ≤ times f w.table)) ⊎ ((among f w.table ≡ false) × (times f w.table ≡ 0)) = among_is f w.table in grind (arith, nat_tests, same_is, read_put, length-set)
-asked-drop_runnable false false w f e m n i g r bb h = let a : ((among f w.table ≡ true) × (1 ≤ times f w.table)) ⊎ ((among f w.table ≡ false) × (times f w.table ≡ 0)) = among_is f w.table in grind (arith, nat_tests, same_is, read_put, length-set)
+asked-drop_runnable = by_bool _
+    (by_bool _
+    (λ w f e m n i g r bb h. let a : ((among f w.table ≡ true) × (1 ≤ times f w.table)) ⊎ ((among f w.table ≡ false) × (times f w.table ≡ 0)) = among_is f w.table in grind (arith, nat_tests, same_is, read_put, length-set))
+    (λ w f e m n i g r bb h. let a : ((among f w.table ≡ true) × (1 ≤ times f w.table)) ⊎ ((among f w.table ≡ false) × (times f w.table ≡ 0)) = among_is f w.table in grind (arith, nat_tests, same_is, read_put, length-set)))
+    (by_bool _
+    (λ w f e m n i g r bb h. let a : ((among f w.table ≡ true) × (1 ≤ times f w.table)) ⊎ ((among f w.table ≡ false) × (times f w.table ≡ 0)) = among_is f w.table in grind (arith, nat_tests, same_is, read_put, length-set))
+    (λ w f e m n i g r bb h. let a : ((among f w.table ≡ true) × (1 ≤ times f w.table)) ⊎ ((among f w.table ≡ false) × (times f w.table ≡ 0)) = among_is f w.table in grind (arith, nat_tests, same_is, read_put, length-set)))
 
 -- by whether it is closed, and its entry in the table
 
 asked-take_up : (b there : Bool) (p : ℕ) (w : World) (f : ℕ) → (task w f).closed ≡ b → among f (log_if (not b) w (event.PollBegun p f)).table ≡ there → f < length w.tasks → KeepsAsked w (op.TakeUp f ∷ []) (taken_up b there p w f)
-asked-take_up true true p w f e m i g r bb h = let a : ((among f w.table ≡ true) × (1 ≤ times f w.table)) ⊎ ((among f w.table ≡ false) × (times f w.table ≡ 0)) = among_is f w.table in grind (arith, same_is, read_put, length-set)
-asked-take_up true false p w f e m i g r bb h = let a : ((among f w.table ≡ true) × (1 ≤ times f w.table)) ⊎ ((among f w.table ≡ false) × (times f w.table ≡ 0)) = among_is f w.table in grind (arith, same_is, read_put, length-set)
-asked-take_up false there p w f e m i g r bb h = let a : ((among f w.table ≡ true) × (1 ≤ times f w.table)) ⊎ ((among f w.table ≡ false) × (times f w.table ≡ 0)) = among_is f w.table in grind (arith, same_is, read_put, length-set, request-push, phase-begun)
+asked-take_up = by_bool _
+    (by_bool _
+    (λ p w f e m i g r bb h. let a : ((among f w.table ≡ true) × (1 ≤ times f w.table)) ⊎ ((among f w.table ≡ false) × (times f w.table ≡ 0)) = among_is f w.table in grind (arith, same_is, read_put, length-set))
+    (λ p w f e m i g r bb h. let a : ((among f w.table ≡ true) × (1 ≤ times f w.table)) ⊎ ((among f w.table ≡ false) × (times f w.table ≡ 0)) = among_is f w.table in grind (arith, same_is, read_put, length-set)))
+    (λ there p w f e m i g r bb h. let a : ((among f w.table ≡ true) × (1 ≤ times f w.table)) ⊎ ((among f w.table ≡ false) × (times f w.table ≡ 0)) = among_is f w.table in grind (arith, same_is, read_put, length-set, request-push, phase-begun))
 
 -- by whether it is over, over or scheduled, and running
 
 asked-wake_by_reference : (o b c : Bool) (p : ℕ) (w : World) (f : ℕ) → moves.is_over (task w f) ≡ o → (moves.is_over (task w f) || (task w f).scheduled) ≡ b → (task w f).running ≡ c → f < length w.tasks → KeepsAsked w (op.WakeByReference f ∷ []) (woken o b c p w f)
-asked-wake_by_reference true true c p w f m e q i g r bb h = grind (arith, same_is, read_put, length-set, request-push, phase-push)
-asked-wake_by_reference true false true p w f m e q i g r bb h = absurd (wrong _ _ m e)
-asked-wake_by_reference true false false p w f m e q i g r bb h = absurd (wrong _ _ m e)
-asked-wake_by_reference false true c p w f m e q i g r bb h = let s : (task w f).scheduled ≡ true = scheduled-then _ _ m e in grind (arith, same_is, read_put, length-set, request-push, phase-push)
-asked-wake_by_reference false false true p w f m e q i g r bb h = grind (arith, same_is, read_put, length-set, request-push, phase-push)
-asked-wake_by_reference false false false p w f m e q i g r bb h = let k0 : (task w f).completed ≡ false = grind (arith, nat_tests) in let k1 : (task w f).closed ≡ false = grind (arith, nat_tests) in let k2 : (task w f).scheduled ≡ false = grind (arith, nat_tests) in grind (arith, same_is, read_put, length-set, request-push, phase-push)
+asked-wake_by_reference = by_bool _
+    (by_bool _
+    (λ c p w f m e q i g r bb h. grind (arith, same_is, read_put, length-set, request-push, phase-push))
+    (by_bool _
+    (λ p w f m e q i g r bb h. absurd (wrong _ _ m e))
+    (λ p w f m e q i g r bb h. absurd (wrong _ _ m e))))
+    (by_bool _
+    (λ c p w f m e q i g r bb h. let s : (task w f).scheduled ≡ true = scheduled-then _ _ m e in grind (arith, same_is, read_put, length-set, request-push, phase-push))
+    (by_bool _
+    (λ p w f m e q i g r bb h. grind (arith, same_is, read_put, length-set, request-push, phase-push))
+    (λ p w f m e q i g r bb h. let k : IsUnmarked (task w f) = unmarked (task w f) e in grind (arith, same_is, read_put, length-set, request-push, phase-push))))
 
 asked-wake : (o b c : Bool) (p : ℕ) (w : World) (f : ℕ) → moves.is_over (task w f) ≡ o → (moves.is_over (task w f) || (task w f).scheduled) ≡ b → (task w f).running ≡ c → f < length w.tasks → KeepsAsked w (op.Wake f ∷ []) (woken_by o b c p w f)
-asked-wake true true c p w f m e q i g r bb h = grind (arith, same_is, read_put, length-set, request-push, phase-push)
-asked-wake true false true p w f m e q i g r bb h = absurd (wrong _ _ m e)
-asked-wake true false false p w f m e q i g r bb h = absurd (wrong _ _ m e)
-asked-wake false true c p w f m e q i g r bb h = let s : (task w f).scheduled ≡ true = scheduled-then _ _ m e in grind (arith, same_is, read_put, length-set, request-push, phase-push)
-asked-wake false false true p w f m e q i g r bb h = grind (arith, same_is, read_put, length-set, request-push, phase-push)
-asked-wake false false false p w f m e q i g r bb h = let k0 : (task w f).completed ≡ false = grind (arith, nat_tests) in let k1 : (task w f).closed ≡ false = grind (arith, nat_tests) in let k2 : (task w f).scheduled ≡ false = grind (arith, nat_tests) in grind (arith, same_is, read_put, length-set, request-push, phase-push)
+asked-wake = by_bool _
+    (by_bool _
+    (λ c p w f m e q i g r bb h. grind (arith, same_is, read_put, length-set, request-push, phase-push))
+    (by_bool _
+    (λ p w f m e q i g r bb h. absurd (wrong _ _ m e))
+    (λ p w f m e q i g r bb h. absurd (wrong _ _ m e))))
+    (by_bool _
+    (λ c p w f m e q i g r bb h. let s : (task w f).scheduled ≡ true = scheduled-then _ _ m e in grind (arith, same_is, read_put, length-set, request-push, phase-push))
+    (by_bool _
+    (λ p w f m e q i g r bb h. grind (arith, same_is, read_put, length-set, request-push, phase-push))
+    (λ p w f m e q i g r bb h. let k : IsUnmarked (task w f) = unmarked (task w f) e in grind (arith, same_is, read_put, length-set, request-push, phase-push))))
 
 asked-call_task : (o b c : Bool) (p e : ℕ) (k : ℕ) (w : World) (f : ℕ) → moves.is_over (task w f) ≡ o → (moves.is_over (task w f) || (task w f).scheduled) ≡ b → (task w f).running ≡ c → f < length w.tasks → KeepsAsked w (op.CallAwaiter e (Task f) k ∷ []) (woken_by o b c p (log w (event.WakerCalled p e k (Task f))) f)
-asked-call_task true true c p e k w f m d q i g r bb h = grind (arith, same_is, read_put, length-set, request-push, phase-push)
-asked-call_task true false true p e k w f m d q i g r bb h = absurd (wrong _ _ m d)
-asked-call_task true false false p e k w f m d q i g r bb h = absurd (wrong _ _ m d)
-asked-call_task false true c p e k w f m d q i g r bb h = let s : (task w f).scheduled ≡ true = scheduled-then _ _ m d in grind (arith, same_is, read_put, length-set, request-push, phase-push)
-asked-call_task false false true p e k w f m d q i g r bb h = grind (arith, same_is, read_put, length-set, request-push, phase-push)
-asked-call_task false false false p e k w f m d q i g r bb h = let k0 : (task w f).completed ≡ false = grind (arith, nat_tests) in let k1 : (task w f).closed ≡ false = grind (arith, nat_tests) in let k2 : (task w f).scheduled ≡ false = grind (arith, nat_tests) in grind (arith, same_is, read_put, length-set, request-push, phase-push)
+asked-call_task = by_bool _
+    (by_bool _
+    (λ c p e k w f m d q i g r bb h. grind (arith, same_is, read_put, length-set, request-push, phase-push))
+    (by_bool _
+    (λ p e k w f m d q i g r bb h. absurd (wrong _ _ m d))
+    (λ p e k w f m d q i g r bb h. absurd (wrong _ _ m d))))
+    (by_bool _
+    (λ c p e k w f m d q i g r bb h. let s : (task w f).scheduled ≡ true = scheduled-then _ _ m d in grind (arith, same_is, read_put, length-set, request-push, phase-push))
+    (by_bool _
+    (λ p e k w f m d q i g r bb h. grind (arith, same_is, read_put, length-set, request-push, phase-push))
+    (λ p e k w f m d q i g r bb h. let k : IsUnmarked (task w f) = unmarked (task w f) d in grind (arith, same_is, read_put, length-set, request-push, phase-push))))
 
 -- by whether an event is logged
 
@@ -155,26 +195,34 @@ asked-cancel_over : (p : ℕ) (w : World) (f : ℕ) → f < length w.tasks → K
 asked-cancel_over p w f i g r bb h = grind (arith, same_is, read_put, length-set, request-push, phase-push)
 
 asked-cancel_going : (a : Bool) (p : ℕ) (w : World) (f : ℕ) → moves.is_going (task w f) ≡ true → f < length w.tasks → KeepsAsked w (op.Cancel f ∷ []) (cancel_going true a p w f)
-asked-cancel_going true p w f e i g r bb h = let z : ((task w f).scheduled ≡ true) ⊎ ((task w f).running ≡ true) = grind (arith, nat_tests) in grind (arith, same_is, read_put, length-set, request-push, phase-push)
-asked-cancel_going false p w f e i g r bb h = let z : ((task w f).scheduled ≡ true) ⊎ ((task w f).running ≡ true) = grind (arith, nat_tests) in grind (arith, same_is, read_put, length-set, request-push, phase-push)
+asked-cancel_going = by_bool _
+    (λ p w f e i g r bb h. let z : IsGoing (task w f) = going (task w f) e in grind (arith, same_is, read_put, length-set, request-push, phase-push))
+    (λ p w f e i g r bb h. let z : IsGoing (task w f) = going (task w f) e in grind (arith, same_is, read_put, length-set, request-push, phase-push))
 
 asked-cancel_idle : (a : Bool) (p : ℕ) (w : World) (f : ℕ) → moves.is_over (task w f) ≡ false → moves.is_going (task w f) ≡ false → f < length w.tasks → KeepsAsked w (op.Cancel f ∷ []) (cancel_idle true a p w f)
-asked-cancel_idle true p w f e q i g r bb h = let k0 : (task w f).completed ≡ false = grind (arith, nat_tests) in let k1 : (task w f).closed ≡ false = grind (arith, nat_tests) in let k2 : (task w f).scheduled ≡ false = grind (arith, nat_tests) in let k3 : (task w f).running ≡ false = grind (arith, nat_tests) in grind (arith, same_is, read_put, length-set, request-push, phase-push)
-asked-cancel_idle false p w f e q i g r bb h = let k0 : (task w f).completed ≡ false = grind (arith, nat_tests) in let k1 : (task w f).closed ≡ false = grind (arith, nat_tests) in let k2 : (task w f).scheduled ≡ false = grind (arith, nat_tests) in let k3 : (task w f).running ≡ false = grind (arith, nat_tests) in grind (arith, same_is, read_put, length-set, request-push, phase-push)
+asked-cancel_idle = by_bool _
+    (λ p w f e q i g r bb h. let k : IsIdle (task w f) = idle (task w f) e q in grind (arith, same_is, read_put, length-set, request-push, phase-push))
+    (λ p w f e q i g r bb h. let k : IsIdle (task w f) = idle (task w f) e q in grind (arith, same_is, read_put, length-set, request-push, phase-push))
 
 asked-detach : (o x y : Bool) (p : ℕ) (w : World) (f : ℕ) → ((task w f).completed && not (task w f).closed) ≡ x → (eqb (task w f).references 0 && not (task w f).closed) ≡ y → f < length w.tasks → KeepsAsked w (op.Detach f ∷ []) (detached o x y p w f)
-asked-detach true true y p w f e q i g r bb h = grind (arith, nat_tests, same_is, read_put, length-set, request-push, phase-push)
-asked-detach false true y p w f e q i g r bb h = grind (arith, nat_tests, same_is, read_put, length-set, request-push, phase-push)
-asked-detach true false true p w f e q i g r bb h = let k0 : (task w f).references ≡ 0 = grind (arith, nat_tests) in let k1 : (task w f).closed ≡ false = grind (arith, nat_tests) in let k2 : (task w f).completed ≡ false = grind (arith, nat_tests) in grind (arith, same_is, read_put, length-set, request-push, phase-push)
-asked-detach false false true p w f e q i g r bb h = let k0 : (task w f).references ≡ 0 = grind (arith, nat_tests) in let k1 : (task w f).closed ≡ false = grind (arith, nat_tests) in let k2 : (task w f).completed ≡ false = grind (arith, nat_tests) in grind (arith, same_is, read_put, length-set, request-push, phase-push)
-asked-detach true false false p w f e q i g r bb h = grind (arith, same_is, read_put, length-set, request-push, phase-push)
-asked-detach false false false p w f e q i g r bb h = grind (arith, same_is, read_put, length-set, request-push, phase-push)
+asked-detach = by_bool _
+    (by_bool _
+    (λ y p w f e q i g r bb h. grind (arith, nat_tests, same_is, read_put, length-set, request-push, phase-push))
+    (by_bool _
+    (λ p w f e q i g r bb h. let k : IsUnheld (task w f) = unheld (task w f) e q in grind (arith, same_is, read_put, length-set, request-push, phase-push))
+    (λ p w f e q i g r bb h. grind (arith, same_is, read_put, length-set, request-push, phase-push))))
+    (by_bool _
+    (λ y p w f e q i g r bb h. grind (arith, nat_tests, same_is, read_put, length-set, request-push, phase-push))
+    (by_bool _
+    (λ p w f e q i g r bb h. let k : IsUnheld (task w f) = unheld (task w f) e q in grind (arith, same_is, read_put, length-set, request-push, phase-push))
+    (λ p w f e q i g r bb h. grind (arith, same_is, read_put, length-set, request-push, phase-push))))
 
 -- wakers and polls of a handle
 
 asked-copy : (b : Bool) (w : World) (f : ℕ) (held : Hold) → f < length w.tasks → KeepsAsked w (op.CopyWaker f held ∷ []) (copy_by b w f held)
-asked-copy true w f held i g r bb h = grind arith
-asked-copy false w f held i g r bb h = grind (arith, same_is, read_put, length-set)
+asked-copy = by_bool _
+    (λ w f held i g r bb h. grind arith)
+    (λ w f held i g r bb h. grind (arith, same_is, read_put, length-set))
 
 -- a poll of the handle that ends: as it was, or with its output
 
@@ -182,15 +230,17 @@ asked-look_closed : (p : ℕ) (w : World) (f : ℕ) (a : Waker) → f < length w
 asked-look_closed p w f a i g r bb h = grind (arith, same_is, read_put, length-set, request-push, phase-push)
 
 asked-look_given : (b : Bool) (p : ℕ) (w : World) (f : ℕ) (a : Waker) → (task w f).completed ≡ true → f < length w.tasks → KeepsAsked w (op.Look f a ∷ []) (gives b p w (polled p w f) f)
-asked-look_given true p w f a e i g r bb h = grind (arith, same_is, read_put, length-set, request-push, phase-push)
-asked-look_given false p w f a e i g r bb h = grind (arith, same_is, read_put, length-set, request-push, phase-push)
+asked-look_given = by_bool _
+    (λ p w f a e i g r bb h. grind (arith, same_is, read_put, length-set, request-push, phase-push))
+    (λ p w f a e i g r bb h. grind (arith, same_is, read_put, length-set, request-push, phase-push))
 
 asked-again_closed : (p : ℕ) (w : World) (f : ℕ) → f < length w.tasks → KeepsAsked w (op.LookAgain f ∷ []) (stays_so p w w f)
 asked-again_closed p w f i g r bb h = grind (arith, same_is, read_put, length-set, request-push, phase-push)
 
 asked-again_given : (b : Bool) (p : ℕ) (w : World) (f : ℕ) → (task w f).completed ≡ true → f < length w.tasks → KeepsAsked w (op.LookAgain f ∷ []) (gives b p w w f)
-asked-again_given true p w f e i g r bb h = grind (arith, same_is, read_put, length-set, request-push, phase-push)
-asked-again_given false p w f e i g r bb h = grind (arith, same_is, read_put, length-set, request-push, phase-push)
+asked-again_given = by_bool _
+    (λ p w f e i g r bb h. grind (arith, same_is, read_put, length-set, request-push, phase-push))
+    (λ p w f e i g r bb h. grind (arith, same_is, read_put, length-set, request-push, phase-push))
 
 asked-look_on : (w : World) (f : ℕ) (a : Waker) → KeepsAsked w (op.Look f a ∷ []) (done w (op.CopyAwaiter f a ∷ []))
 asked-look_on w f a g r bb h = grind arith
@@ -199,43 +249,55 @@ asked-again_waits : (p : ℕ) (w : World) (f : ℕ) → f < length w.tasks → K
 asked-again_waits p w f i g r bb h = grind (arith, same_is, read_put, length-set, request-push, phase-push)
 
 asked-copy_awaiter : (b : Bool) (p : ℕ) (w : World) (f : ℕ) (a : Waker) → IsKnownWaker w a → KeepsAsked w (op.CopyAwaiter f a ∷ []) (copy_awaiter_by b p w f a)
-asked-copy_awaiter true p w f a e g r bb h = grind arith
-asked-copy_awaiter false p w f (Task k) e g r bb h = let z : k < length w.tasks = e in grind (arith, same_is, read_put, length-set, request-push, phase-push)
-asked-copy_awaiter false p w f (Outside x) e g r bb h = grind (arith, request-push, phase-push)
+asked-copy_awaiter = by_bool _
+    (λ p w f a e g r bb h. grind arith)
+    (λ p w f. by_waker _
+    (λ k e g r bb h. let z : k < length w.tasks = e in grind (arith, same_is, read_put, length-set, request-push, phase-push))
+    (λ x e g r bb h. grind (arith, request-push, phase-push)))
 
 asked-register : (b : Bool) (w : World) (f : ℕ) (a : Waker) (k : ℕ) → f < length w.tasks → KeepsAsked w (op.Register f a k ∷ []) (register_by b w f a k)
-asked-register true w f a k i g r bb h = grind (arith, same_is, read_put, length-set)
-asked-register false w f a k i g r bb h = grind (arith, same_is, read_put, length-set)
+asked-register = by_bool _
+    (λ w f a k i g r bb h. grind (arith, same_is, read_put, length-set))
+    (λ w f a k i g r bb h. grind (arith, same_is, read_put, length-set))
 
 -- by whether somebody wanted to notify meanwhile, and the old awaiter
 
 asked-end_register-none : (b : Bool) (w : World) (f : ℕ) (a : Waker) (k : ℕ) → awaiter_of w f ≡ None → f < length w.tasks → f < length w.awaiters → KeepsAsked w (op.EndRegister f a k ∷ []) (end_registered b None w f a k)
-asked-end_register-none true w f a k e i j g r bb h = grind (arith, same_is, read_put, length-set)
-asked-end_register-none false w f a k e i j g r bb h = grind (arith, same_is, read_put, length-set)
+asked-end_register-none = by_bool _
+    (λ w f a k e i j g r bb h. grind (arith, same_is, read_put, length-set))
+    (λ w f a k e i j g r bb h. grind (arith, same_is, read_put, length-set))
 
 asked-end_register-some : (b : Bool) (x : Waker) (m : ℕ) (w : World) (f : ℕ) (a : Waker) (k : ℕ) → awaiter_of w f ≡ Some (record { waker = x; poll = m }) → f < length w.tasks → f < length w.awaiters → KeepsAsked w (op.EndRegister f a k ∷ []) (end_registered b (Some (record { waker = x; poll = m })) w f a k)
-asked-end_register-some true (Task q) m w f a k e i j g r bb h = grind (arith, same_is, read_put, length-set)
-asked-end_register-some true (Outside q) m w f a k e i j g r bb h = grind (arith, same_is, read_put, length-set)
-asked-end_register-some false (Task q) m w f a k e i j g r bb h = grind (arith, same_is, read_put, length-set)
-asked-end_register-some false (Outside q) m w f a k e i j g r bb h = grind (arith, same_is, read_put, length-set)
+asked-end_register-some = by_bool _
+    (by_waker _
+    (λ q m w f a k e i j g r bb h. grind (arith, same_is, read_put, length-set))
+    (λ q m w f a k e i j g r bb h. grind (arith, same_is, read_put, length-set)))
+    (by_waker _
+    (λ q m w f a k e i j g r bb h. grind (arith, same_is, read_put, length-set))
+    (λ q m w f a k e i j g r bb h. grind (arith, same_is, read_put, length-set)))
 
 asked-end_register : (b : Bool) (old : Option Awaiter) (w : World) (f : ℕ) (a : Waker) (k : ℕ) → awaiter_of w f ≡ old → f < length w.tasks → f < length w.awaiters → KeepsAsked w (op.EndRegister f a k ∷ []) (end_registered b old w f a k)
 asked-end_register b None w f a k e i j = asked-end_register-none b w f a k e i j
 asked-end_register b (Some x) w f a k e i j = asked-end_register-some b x.waker x.poll w f a k e i j
 
 asked-notify : (b m : Bool) (w : World) (f : ℕ) → f < length w.tasks → KeepsAsked w (op.Notify f m ∷ []) (notify_by b w f m)
-asked-notify true m w f i g r bb h = grind (arith, same_is, read_put, length-set)
-asked-notify false m w f i g r bb h = grind (arith, same_is, read_put, length-set)
+asked-notify = by_bool _
+    (λ m w f i g r bb h. grind (arith, same_is, read_put, length-set))
+    (λ m w f i g r bb h. grind (arith, same_is, read_put, length-set))
 
 asked-end_notify-none : (b mine : Bool) (w : World) (f : ℕ) → awaiter_of w f ≡ None → f < length w.tasks → f < length w.awaiters → KeepsAsked w (op.EndNotify f mine ∷ []) (end_notified b None w f)
-asked-end_notify-none true mine w f e i j g r bb h = grind (arith, same_is, read_put, length-set)
-asked-end_notify-none false mine w f e i j g r bb h = grind (arith, same_is, read_put, length-set)
+asked-end_notify-none = by_bool _
+    (λ mine w f e i j g r bb h. grind (arith, same_is, read_put, length-set))
+    (λ mine w f e i j g r bb h. grind (arith, same_is, read_put, length-set))
 
 asked-end_notify-some : (b : Bool) (x : Waker) (m : ℕ) (mine : Bool) (w : World) (f : ℕ) → awaiter_of w f ≡ Some (record { waker = x; poll = m }) → f < length w.tasks → f < length w.awaiters → KeepsAsked w (op.EndNotify f mine ∷ []) (end_notified b (Some (record { waker = x; poll = m })) w f)
-asked-end_notify-some true (Task q) m mine w f e i j g r bb h = grind (arith, same_is, read_put, length-set)
-asked-end_notify-some true (Outside q) m mine w f e i j g r bb h = grind (arith, same_is, read_put, length-set)
-asked-end_notify-some false (Task q) m mine w f e i j g r bb h = grind (arith, same_is, read_put, length-set)
-asked-end_notify-some false (Outside q) m mine w f e i j g r bb h = grind (arith, same_is, read_put, length-set)
+asked-end_notify-some = by_bool _
+    (by_waker _
+    (λ q m mine w f e i j g r bb h. grind (arith, same_is, read_put, length-set))
+    (λ q m mine w f e i j g r bb h. grind (arith, same_is, read_put, length-set)))
+    (by_waker _
+    (λ q m mine w f e i j g r bb h. grind (arith, same_is, read_put, length-set))
+    (λ q m mine w f e i j g r bb h. grind (arith, same_is, read_put, length-set)))
 
 asked-end_notify : (b : Bool) (old : Option Awaiter) (mine : Bool) (w : World) (f : ℕ) → awaiter_of w f ≡ old → f < length w.tasks → f < length w.awaiters → KeepsAsked w (op.EndNotify f mine ∷ []) (end_notified b old w f)
 asked-end_notify b None mine w f e i j = asked-end_notify-none b mine w f e i j
@@ -247,35 +309,51 @@ asked-call_outside p w f x k g r bb h = grind (arith, request-push, phase-push)
 -- the drop of the executor
 
 asked-take_out : (ls ws : List ℕ) (w : World) → w.table ≡ ls → KeepsAsked w (op.TakeOut ∷ []) (done (record w { table = w.leaving; leaving = w.table }) (closing_ops ls ws))
-asked-take_out [] [] w e g r bb h = let z : times g w.table ≡ 0 = ap (times g) e in grind arith
-asked-take_out [] (x ∷ ws) w e g r bb h = let z : times g w.table ≡ 0 = ap (times g) e in grind arith
-asked-take_out (x ∷ ls) ws w e g r bb h = grind arith
+asked-take_out = by_list _
+    (by_list _
+    (λ w e g r bb h. let z : times g w.table ≡ 0 = ap (times g) e in grind arith)
+    (λ x ws w e g r bb h. let z : times g w.table ≡ 0 = ap (times g) e in grind arith))
+    (λ x ls ws w e g r bb h. grind arith)
 
 asked-drop_next : (rest ws : List ℕ) (p : ℕ) (w : World) (f : ℕ) → w.leaving ≡ f ∷ rest → KeepsAsked w (op.DropNext ∷ []) (done (log (record w { leaving = rest; waking = w.waking ++ f ∷ []; inside = slice_set w.inside f false }) (event.Dropped p f)) (op.Drop f ∷ closing_ops rest ws))
-asked-drop_next [] [] p w f e g r bb h = let z : times g w.leaving ≡ same g f + 0 = ap (times g) e in grind (arith, same_is, request-push, phase-dropped)
-asked-drop_next [] (y ∷ ws) p w f e g r bb h = let z : times g w.leaving ≡ same g f + 0 = ap (times g) e in grind (arith, same_is, request-push, phase-dropped)
-asked-drop_next (y ∷ ls) ws p w f e g r bb h = let z : times g w.leaving ≡ same g f + times g (y ∷ ls) = ap (times g) e in grind (arith, same_is, request-push, phase-dropped)
+asked-drop_next = by_list _
+    (by_list _
+    (λ p w f e g r bb h. let z : times g w.leaving ≡ same g f + 0 = ap (times g) e in grind (arith, same_is, request-push, phase-dropped))
+    (λ y ws p w f e g r bb h. let z : times g w.leaving ≡ same g f + 0 = ap (times g) e in grind (arith, same_is, request-push, phase-dropped)))
+    (λ y ls ws p w f e g r bb h. let z : times g w.leaving ≡ same g f + times g (y ∷ ls) = ap (times g) e in grind (arith, same_is, request-push, phase-dropped))
 
 asked-wake_next : (o b c : Bool) (rest : List ℕ) (p : ℕ) (w : World) (f : ℕ) → w.waking ≡ f ∷ rest → moves.is_over (task w f) ≡ o → (moves.is_over (task w f) || (task w f).scheduled) ≡ b → (task w f).running ≡ c → f < length w.tasks → KeepsAsked w (op.WakeNext ∷ []) (next_woken o b c rest p w f)
-asked-wake_next true true c [] p w f y m e q i g r bb h = grind (arith, same_is, read_put, length-set, request-push, phase-push)
-asked-wake_next true true c (u ∷ us) p w f y m e q i g r bb h = grind (arith, same_is, read_put, length-set, request-push, phase-push)
-asked-wake_next true false true [] p w f y m e q i g r bb h = absurd (wrong _ _ m e)
-asked-wake_next true false true (u ∷ us) p w f y m e q i g r bb h = absurd (wrong _ _ m e)
-asked-wake_next true false false [] p w f y m e q i g r bb h = absurd (wrong _ _ m e)
-asked-wake_next true false false (u ∷ us) p w f y m e q i g r bb h = absurd (wrong _ _ m e)
-asked-wake_next false true c [] p w f y m e q i g r bb h = let s : (task w f).scheduled ≡ true = scheduled-then _ _ m e in grind (arith, same_is, read_put, length-set, request-push, phase-push)
-asked-wake_next false true c (u ∷ us) p w f y m e q i g r bb h = let s : (task w f).scheduled ≡ true = scheduled-then _ _ m e in grind (arith, same_is, read_put, length-set, request-push, phase-push)
-asked-wake_next false false true [] p w f y m e q i g r bb h = grind (arith, same_is, read_put, length-set, request-push, phase-push)
-asked-wake_next false false true (u ∷ us) p w f y m e q i g r bb h = grind (arith, same_is, read_put, length-set, request-push, phase-push)
-asked-wake_next false false false [] p w f y m e q i g r bb h = let k0 : (task w f).completed ≡ false = grind (arith, nat_tests) in let k1 : (task w f).closed ≡ false = grind (arith, nat_tests) in let k2 : (task w f).scheduled ≡ false = grind (arith, nat_tests) in grind (arith, same_is, read_put, length-set, request-push, phase-push)
-asked-wake_next false false false (u ∷ us) p w f y m e q i g r bb h = let k0 : (task w f).completed ≡ false = grind (arith, nat_tests) in let k1 : (task w f).closed ≡ false = grind (arith, nat_tests) in let k2 : (task w f).scheduled ≡ false = grind (arith, nat_tests) in grind (arith, same_is, read_put, length-set, request-push, phase-push)
+asked-wake_next = by_bool _
+    (by_bool _
+    (λ c. by_list _
+    (λ p w f y m e q i g r bb h. grind (arith, same_is, read_put, length-set, request-push, phase-push))
+    (λ u us p w f y m e q i g r bb h. grind (arith, same_is, read_put, length-set, request-push, phase-push)))
+    (by_bool _
+    (by_list _
+    (λ p w f y m e q i g r bb h. absurd (wrong _ _ m e))
+    (λ u us p w f y m e q i g r bb h. absurd (wrong _ _ m e)))
+    (by_list _
+    (λ p w f y m e q i g r bb h. absurd (wrong _ _ m e))
+    (λ u us p w f y m e q i g r bb h. absurd (wrong _ _ m e)))))
+    (by_bool _
+    (λ c. by_list _
+    (λ p w f y m e q i g r bb h. let s : (task w f).scheduled ≡ true = scheduled-then _ _ m e in grind (arith, same_is, read_put, length-set, request-push, phase-push))
+    (λ u us p w f y m e q i g r bb h. let s : (task w f).scheduled ≡ true = scheduled-then _ _ m e in grind (arith, same_is, read_put, length-set, request-push, phase-push)))
+    (by_bool _
+    (by_list _
+    (λ p w f y m e q i g r bb h. grind (arith, same_is, read_put, length-set, request-push, phase-push))
+    (λ u us p w f y m e q i g r bb h. grind (arith, same_is, read_put, length-set, request-push, phase-push)))
+    (by_list _
+    (λ p w f y m e q i g r bb h. let k : IsUnmarked (task w f) = unmarked (task w f) e in grind (arith, same_is, read_put, length-set, request-push, phase-push))
+    (λ u us p w f y m e q i g r bb h. let k : IsUnmarked (task w f) = unmarked (task w f) e in grind (arith, same_is, read_put, length-set, request-push, phase-push)))))
 
 asked-close : (w : World) → KeepsAsked w (op.Close ∷ []) (close w)
 asked-close w g r bb h = grind arith
 
 asked-drain : (q : List ℕ) (p : ℕ) (w : World) → w.queue.items ≡ q → KeepsAsked w (op.Drain ∷ []) (drain_by p w q)
-asked-drain [] p w e g r bb h = grind (arith, request-push, phase-push)
-asked-drain (f ∷ rest) p w e g r bb h = let z : same g f + times g (drop 1 w.queue.items) ≡ times g w.queue.items = times-drop g f rest w.queue.items e in grind (arith, same_is)
+asked-drain = by_list _
+    (λ p w e g r bb h. grind (arith, request-push, phase-push))
+    (λ f rest p w e g r bb h. let z : same g f + times g (drop 1 w.queue.items) ≡ times g w.queue.items = times-drop g f rest w.queue.items e in grind (arith, same_is))
 
 asked-end : (p : ℕ) (w : World) (a : Reply) (held : Hold) → KeepsAsked w (op.End a held ∷ []) (done (log w (event.CallEnded p a)) [])
 asked-end p w a held g r bb h = grind (arith, request-push, phase-push)
@@ -299,12 +377,14 @@ own : (n f : ℕ) (o : Op) → past n f ≤ past_of n o → weigh (past_of n) (o
 own n f o le e = below n f (omega (arith, le, e))
 
 asked-wake_first : (p : ℕ) (w : World) (q : List ℕ) → w.waking ≡ q → ((f : ℕ) (rest : List ℕ) → q ≡ f ∷ rest → f < length w.tasks) → KeepsAsked w (op.WakeNext ∷ []) (wake_next_by p w q)
-asked-wake_first p w [] e i = λ g r bb h. grind arith
-asked-wake_first p w (f ∷ rest) e i = asked-wake_next (moves.is_over (task w f)) _ _ rest p w f e refl refl refl (i f rest refl)
+asked-wake_first = λ p w. by_list _
+    (λ e i. λ g r bb h. grind arith)
+    (λ f rest e i. asked-wake_next (moves.is_over (task w f)) _ _ rest p w f e refl refl refl (i f rest refl))
 
 asked-drop_first : (p : ℕ) (w : World) (q : List ℕ) → w.leaving ≡ q → KeepsAsked w (op.DropNext ∷ []) (drop_next_by p w q)
-asked-drop_first p w [] e = λ g r bb h. grind arith
-asked-drop_first p w (f ∷ rest) e = asked-drop_next rest (w.waking ++ f ∷ []) p w f e
+asked-drop_first = λ p w. by_list _
+    (λ e. λ g r bb h. grind arith)
+    (λ f rest e. asked-drop_next rest (w.waking ++ f ∷ []) p w f e)
 
 asked-cancel : (b c : Bool) (p : ℕ) (w : World) (f : ℕ) → moves.is_over (task w f) ≡ b → moves.is_going (task w f) ≡ c → f < length w.tasks → KeepsAsked w (op.Cancel f ∷ []) (carried (log_if (not b) w (event.Cancelled p f)) f (moves.cancel_by b c (task w f)))
 asked-cancel true c p w f e q i = asked-cancel_over p w f i

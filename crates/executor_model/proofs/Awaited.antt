@@ -1,5 +1,6 @@
 -- What holds at every moment of each future and of who waits on its handle.
 use Rattle.std.proofs.Common.{◌≡◌, ◌≢◌, ◌⊎◌, ℕ, zero, suc, ◌+◌, ◌==◌, ◌<◌, ◌≤◌, List, [], ◌∷◌, ◌++◌, length, set, get_or, Bool, true, false, ◌&&◌, cond, eqb, refl, ap, ◌∙◌, inl, inr, ⊎_elim, arith, get_or-set_same, get_or-set_other}
+use Rattle.std.proofs.Math.Path.{fun_ext}
 use Rattle.std.specs.Prelude.{Option, Some, None}
 use Rattle.executor_model.specs.declared.call.Reply.{Reply}
 use Rattle.executor_model.specs.declared.call.Reply.TheVariants as reply
@@ -13,7 +14,8 @@ use Rattle.executor_model.specs.Trace.{Trace, takes_handle}
 use Rattle.executor_model.specs.World.{World, Done, task, awaiter_of}
 use Rattle.executor_model.specs.Weights.{same, weigh, weigh_all, handling_of, holds_handle}
 use Rattle.executor_model.specs.Sound.{Pend, with_ops, tokens, times}
-use Rattle.executor_model.proofs.Lists.{same_cases}
+use Rattle.executor_model.specs.Acts.{closing_ops}
+use Rattle.executor_model.proofs.Lists.{same_cases, weigh-closing}
 
 -- what a trace tells of future g and of the last poll of its handle, read from left to right
 pub record Heard : Type 0 where
@@ -188,6 +190,13 @@ awaiting g ss = record {
   calls = λ k. weigh_all (calls_of g k) ss;
 }
 
+-- what the executor's drop does after a wake is none of it
+pub with_awaiting-closing : (g : ℕ) (xs : List Op) (rest : List ℕ) (r : Awaiting) → with_awaiting g (xs ++ closing_ops [] rest) r ≡ with_awaiting g xs r
+with_awaiting-closing g xs rest r =
+    let strays : (λ k. weigh (strays_of g k) (xs ++ closing_ops [] rest) + r.strays k) ≡ (λ k. weigh (strays_of g k) xs + r.strays k) = fun_ext (λ k. ap (λ n. n + r.strays k) (weigh-closing (strays_of g k) xs rest refl refl)) in
+    let calls : (λ k. weigh (calls_of g k) (xs ++ closing_ops [] rest) + r.calls k) ≡ (λ k. weigh (calls_of g k) xs + r.calls k) = fun_ext (λ k. ap (λ n. n + r.calls k) (weigh-closing (calls_of g k) xs rest refl refl)) in
+    rw (weigh-closing (handling_of g) xs rest refl refl, weigh-closing (looks_of g) xs rest refl refl, weigh-closing (fresh_of g) xs rest refl refl, weigh-closing (storing_of g) xs rest refl refl, weigh-closing (again_of g) xs rest refl refl, weigh-closing (waits_of g) xs rest refl refl, weigh-closing (over_of g) xs rest refl refl, weigh-closing (notices_of g) xs rest refl refl, weigh-closing (notifying_of g) xs rest refl refl, weigh-closing (mine_of g) xs rest refl refl, weigh-closing (detaches_of g) xs rest refl refl, weigh-closing (lending_of g) xs rest refl refl, strays, calls) refl
+
 -- what is used of that which holds of g
 pub record Footing (w : World) (g : ℕ) (p : Pend) (x : Awaiting) : Type 0 where
   pub one : tokens w g p ≤ 1
@@ -199,7 +208,7 @@ pub record Footing (w : World) (g : ℕ) (p : Pend) (x : Awaiting) : Type 0 wher
   pub lent : w.gone ≡ true → p.borrowing ≡ 0
   pub done : (heard g w.trace).dropped ≡ true → ((task w g).closed ≡ true) ⊎ (((task w g).completed ≡ true) ⊎ ((1 ≤ p.ready) ⊎ (w.gone ≡ true)))
   pub stages : x.looks + (x.fresh + (x.storing + (x.again + (x.waits + x.over)))) ≤ x.handling
-  pub few : x.strays (length w.trace) ≤ x.fresh + x.storing
+  pub few : (k : ℕ) → x.strays k ≤ x.fresh + x.storing
   pub tied : x.mine ≤ x.over
 
 -- whether the stored awaiter is the waker of poll k

@@ -1,5 +1,5 @@
 -- Each thing that is done keeps what holds of each future and of who waits on its handle.
-use Rattle.std.proofs.Common.{◌≡◌, ◌⊎◌, ℕ, ◌+◌, ◌<◌, List, [], ◌∷◌, ◌++◌, length, Bool, true, false, ◌||◌, ◌&&◌, not, eqb, drop, refl, sym, ap, ◌∙◌, ◌≤◌, inl, inr, arith}
+use Rattle.std.proofs.Common.{◌≡◌, ◌⊎◌, ℕ, ◌+◌, ◌<◌, List, [], ◌∷◌, ◌++◌, length, Bool, true, false, ◌||◌, ◌&&◌, not, eqb, drop, refl, sym, ap, ◌∙◌, subst, ◌≤◌, inl, inr, arith}
 use Rattle.std.proofs.lemmas.Bool.Decides.{nat_tests}
 use Rattle.std.proofs.lemmas.List.{length-set, length-append}
 use Rattle.std.specs.Prelude.{Option, Some, None, slice_set}
@@ -18,29 +18,35 @@ use Rattle.executor_model.specs.declared.step.Hint.{Hint}
 use Rattle.executor_model.specs.declared.step.UserEnd.{UserEnd}
 use Rattle.executor_model.specs.declared.step.UserEnd.TheVariants as end
 use Rattle.executor_model.specs.Steps.{accepts, react}
-use Rattle.executor_model.specs.World.{World, done, log, log_if, task, awaiter_of, among}
+use Rattle.executor_model.specs.World.{World, Done, done, log, log_if, task, awaiter_of, among}
 use Rattle.executor_model.specs.Carried.{carried}
 use Rattle.executor_model.specs.Acts.{append_by, take_by, enter_by, look_at_table, take_to_poll, put_back, take_to_drop, leave_by, begin_drop, begin_drop_output, copy_by, polled, look_by, look_again_by, is_copy_refused, copy_awaiter_by, register_by, end_register_by, notify_by, call_awaiter, closing_ops, drop_next_by, wake_next_by, close, drain_by, act}
 use Rattle.executor_model.specs.Weights.{same, weigh}
 use Rattle.executor_model.specs.Good.{past, pasts, waker_past, past_of, IsKnownWaker}
-use Rattle.executor_model.specs.Sound.{times}
-use Rattle.executor_model.proofs.Lists.{read_put, fresh_is, read_push, past_is, same_is, times-append, times-drop}
+use Rattle.executor_model.specs.Sound.{Pend, with_ops, times}
+use Rattle.executor_model.proofs.Cases.{by_bool, by_list, by_waker}
+use Rattle.executor_model.proofs.Marks.{IsUnmarked, unmarked, IsMarked, marked, IsGoing, going, IsIdle, idle, last-one, IsUnheld, unheld}
+use Rattle.executor_model.proofs.Lists.{with_ops-closing, read_put, fresh_is, read_push, past_is, same_is, times-append, times-drop}
 use Rattle.executor_model.proofs.Counting.{settling, readied, pended, ending, dropping, taken_up, woken, woken_by, cancel_going, cancel_idle, cancel_over, detached, stays_so, gives, waits_on, end_registered, end_notified, next_woken}
 use Rattle.executor_model.proofs.Calls.{is_end}
-use Rattle.executor_model.proofs.Awaited.{heard, heard-push, Mark, KeepsBy, KeepsAwaits, asks_if, kept_at, kept_put, kept_push}
+use Rattle.executor_model.proofs.Awaited.{heard, heard-push, Awaiting, with_awaiting, with_awaiting-closing, Footing, Awaits, Mark, KeepsBy, KeepsAwaits, asks_if, kept_at, kept_put, kept_push}
 
 awaits-append : (b : Bool) (w : World) (f : ℕ) → KeepsAwaits w (op.Append f ∷ []) (append_by b w f)
-awaits-append true w f g r yy mm bb h = grind (arith, same_is, times-append)
-awaits-append false w f g r yy mm bb h = grind (arith, same_is)
+awaits-append = by_bool _
+    (λ w f g r yy mm bb h. grind (arith, same_is, times-append))
+    (λ w f g r yy mm bb h. grind (arith, same_is))
 
 awaits-take : (q : List ℕ) (w : World) → w.queue.items ≡ q → KeepsAwaits w (op.Take ∷ []) (take_by w q)
-awaits-take [] w e g r yy mm bb h = grind arith
-awaits-take (f ∷ rest) w e g r yy mm bb h = let z : same g f + times g (drop 1 w.queue.items) ≡ times g w.queue.items = times-drop g f rest w.queue.items e in grind (arith, same_is)
+awaits-take = by_list _
+    (λ w e g r yy mm bb h. grind arith)
+    (λ f rest w e g r yy mm bb h. let z : same g f + times g (drop 1 w.queue.items) ≡ times g w.queue.items = times-drop g f rest w.queue.items e in grind (arith, same_is))
 
 awaits-enter : (b c : Bool) (p : ℕ) (w : World) → length w.awaiters ≡ length w.tasks → KeepsAwaits w (op.Enter ∷ []) (enter_by b c p w)
-awaits-enter true c p w l g r yy mm bb h = grind arith
-awaits-enter false true p w l g r yy mm bb h = grind arith
-awaits-enter false false p w l g r yy mm bb h = grind (arith, same_is, fresh_is, read_push, kept_push, times-append, length-append, heard-push)
+awaits-enter = by_bool _
+    (λ c p w l g r yy mm bb h. grind arith)
+    (by_bool _
+    (λ p w l g r yy mm bb h. grind arith)
+    (λ p w l g r yy mm bb h. grind (arith, same_is, fresh_is, read_push, kept_push, times-append, length-append, heard-push)))
 
 awaits-look_at_table : (w : World) → KeepsAwaits w (op.LookAtTable ∷ []) (look_at_table w)
 awaits-look_at_table w g r yy mm bb h = grind arith
@@ -55,8 +61,9 @@ awaits-take_to_drop : (w : World) (f : ℕ) → KeepsAwaits w (op.TakeToDrop f �
 awaits-take_to_drop w f g r yy mm bb h = grind (arith, same_is)
 
 awaits-leave : (b : Bool) (w : World) (f : ℕ) → among f w.table ≡ b → KeepsAwaits w (op.LeaveTable f ∷ []) (leave_by b w f)
-awaits-leave true w f e g r yy mm bb h = grind (arith, same_is)
-awaits-leave false w f e g r yy mm bb h = h
+awaits-leave = by_bool _
+    (λ w f e g r yy mm bb h. grind (arith, same_is))
+    (λ w f e g r yy mm bb h. h)
 
 awaits-begin_drop : (p : ℕ) (w : World) (f : ℕ) → KeepsAwaits w (op.BeginDrop f ∷ []) (begin_drop p w f)
 awaits-begin_drop p w f g r yy mm bb h = grind (arith, same_is, heard-push)
@@ -67,108 +74,145 @@ awaits-begin_drop_output p w f g r yy mm bb h = grind (arith, heard-push)
 -- the moves of a task, by what they find
 
 awaits-release : (b c : Bool) (w : World) (f : ℕ) → moves.is_last (task w f) ≡ b → moves.is_over (task w f) ≡ c → f < length w.tasks → KeepsAwaits w (op.Release f ∷ []) (carried w f (moves.release_by b c (task w f)))
-awaits-release false c w f e q i g r yy mm bb h = grind (arith, same_is, read_put, length-set)
-awaits-release true true w f e q i g r yy mm bb h = let z : (task w f).references ≡ 1 = grind (arith, nat_tests) in grind (arith, same_is, read_put, length-set)
-awaits-release true false w f e q i g r yy mm bb h = let z : (task w f).references ≡ 1 = grind (arith, nat_tests) in let c : (task w f).completed ≡ false = grind (arith, nat_tests) in grind (arith, same_is, read_put, length-set)
+awaits-release = by_bool _
+    (by_bool _
+    (λ w f e q i g r yy mm bb h. let z : (task w f).references ≡ 1 = last-one (task w f) e in grind (arith, same_is, read_put, length-set))
+    (λ w f e q i g r yy mm bb h. let z : (task w f).references ≡ 1 = last-one (task w f) e in let c : (task w f).completed ≡ false = grind (arith, nat_tests) in grind (arith, same_is, read_put, length-set)))
+    (λ c w f e q i g r yy mm bb h. grind (arith, same_is, read_put, length-set))
 
 awaits-settle_closed : (a : Bool) (w : World) (f : ℕ) → (task w f).awaiter ≡ a → f < length w.tasks → KeepsAwaits w (op.SettleClosed f ∷ []) (settling a w f)
-awaits-settle_closed true w f n i g r yy mm bb h = grind (arith, same_is, read_put, length-set)
-awaits-settle_closed false w f n i g r yy mm bb h = grind (arith, same_is, read_put, length-set)
+awaits-settle_closed = by_bool _
+    (λ w f n i g r yy mm bb h. grind (arith, same_is, read_put, length-set))
+    (λ w f n i g r yy mm bb h. grind (arith, same_is, read_put, length-set))
 
 awaits-give_up : (b : Bool) (w : World) (f : ℕ) → moves.is_last (task w f) ≡ b → f < length w.tasks → KeepsAwaits w (op.GiveUp f ∷ []) (carried w f (moves.give_up_by b (task w f)))
-awaits-give_up false w f e i g r yy mm bb h = grind (arith, same_is, read_put, length-set)
-awaits-give_up true w f e i g r yy mm bb h = let z : (task w f).references ≡ 1 = grind (arith, nat_tests) in grind (arith, same_is, read_put, length-set)
+awaits-give_up = by_bool _
+    (λ w f e i g r yy mm bb h. let z : (task w f).references ≡ 1 = last-one (task w f) e in grind (arith, same_is, read_put, length-set))
+    (λ w f e i g r yy mm bb h. grind (arith, same_is, read_put, length-set))
 
 -- by whether the output is unwanted, and whether there is an awaiter
 
 awaits-end_ready : (u a : Bool) (w : World) (f : ℕ) → ((task w f).closed || not (task w f).handle) ≡ u → (task w f).awaiter ≡ a → f < length w.tasks → KeepsAwaits w (op.EndReady f ∷ []) (readied u a w f)
-awaits-end_ready true true w f e n i g r yy mm bb h = grind (arith, same_is, read_put, length-set)
-awaits-end_ready true false w f e n i g r yy mm bb h = grind (arith, same_is, read_put, length-set)
-awaits-end_ready false true w f e n i g r yy mm bb h = grind (arith, same_is, read_put, length-set)
-awaits-end_ready false false w f e n i g r yy mm bb h = grind (arith, same_is, read_put, length-set)
+awaits-end_ready = by_bool _
+    (by_bool _
+    (λ w f e n i g r yy mm bb h. grind (arith, same_is, read_put, length-set))
+    (λ w f e n i g r yy mm bb h. grind (arith, same_is, read_put, length-set)))
+    (by_bool _
+    (λ w f e n i g r yy mm bb h. grind (arith, same_is, read_put, length-set))
+    (λ w f e n i g r yy mm bb h. grind (arith, same_is, read_put, length-set)))
 
 -- by whether it is closed, scheduled, its reference the last, and its entry in the table
 
 awaits-end_pending : (x s l there : Bool) (w : World) (f : ℕ) → (task w f).closed ≡ x → (task w f).scheduled ≡ s → moves.is_last (task w f) ≡ l → among f w.table ≡ there → f < length w.tasks → KeepsAwaits w (op.EndPending f ∷ []) (pended x s l there w f)
-awaits-end_pending true s l true w f e q k m i g r yy mm bb h = grind (arith, same_is, read_put, length-set)
-awaits-end_pending true s l false w f e q k m i g r yy mm bb h = grind (arith, same_is, read_put, length-set)
-awaits-end_pending false true l there w f e q k m i g r yy mm bb h = grind (arith, same_is, read_put, length-set)
-awaits-end_pending false false true true w f e q k m i g r yy mm bb h = let z : (task w f).references ≡ 1 = grind (arith, nat_tests) in grind (arith, same_is, read_put, length-set)
-awaits-end_pending false false true false w f e q k m i g r yy mm bb h = let z : (task w f).references ≡ 1 = grind (arith, nat_tests) in grind (arith, same_is, read_put, length-set)
-awaits-end_pending false false false there w f e q k m i g r yy mm bb h = grind (arith, same_is, read_put, length-set)
+awaits-end_pending = by_bool _
+    (λ s l. by_bool _
+    (λ w f e q k m i g r yy mm bb h. grind (arith, same_is, read_put, length-set))
+    (λ w f e q k m i g r yy mm bb h. grind (arith, same_is, read_put, length-set)))
+    (by_bool _
+    (λ l there w f e q k m i g r yy mm bb h. grind (arith, same_is, read_put, length-set))
+    (by_bool _
+    (by_bool _
+    (λ w f e q k m i g r yy mm bb h. let z : (task w f).references ≡ 1 = last-one (task w f) k in grind (arith, same_is, read_put, length-set))
+    (λ w f e q k m i g r yy mm bb h. let z : (task w f).references ≡ 1 = last-one (task w f) k in grind (arith, same_is, read_put, length-set)))
+    (λ there w f e q k m i g r yy mm bb h. grind (arith, same_is, read_put, length-set))))
 
 awaits-end_closed : (a : Bool) (w : World) (f : ℕ) → (task w f).awaiter ≡ a → f < length w.tasks → KeepsAwaits w (op.EndClosed f ∷ []) (ending a w f)
-awaits-end_closed true w f n i g r yy mm bb h = grind (arith, same_is, read_put, length-set)
-awaits-end_closed false w f n i g r yy mm bb h = grind (arith, same_is, read_put, length-set)
+awaits-end_closed = by_bool _
+    (λ w f n i g r yy mm bb h. grind (arith, same_is, read_put, length-set))
+    (λ w f n i g r yy mm bb h. grind (arith, same_is, read_put, length-set))
 
 -- by whether its entry is in the table
 
 awaits-drop_runnable : (c there : Bool) (w : World) (f : ℕ) → ((task w f).closed || not (task w f).completed) ≡ c → among f w.table ≡ there → f < length w.tasks → KeepsAwaits w (op.DropRunnable f ∷ []) (dropping c there w f)
-awaits-drop_runnable true true w f e m i g r yy mm bb h = grind (arith, nat_tests, same_is, read_put, length-set)
-awaits-drop_runnable true false w f e m i g r yy mm bb h = grind (arith, nat_tests, same_is, read_put, length-set)
-awaits-drop_runnable false true w f e m i g r yy mm bb h = grind (arith, nat_tests, same_is, read_put, length-set)
-awaits-drop_runnable false false w f e m i g r yy mm bb h = grind (arith, nat_tests, same_is, read_put, length-set)
+awaits-drop_runnable = by_bool _
+    (by_bool _
+    (λ w f e m i g r yy mm bb h. grind (arith, nat_tests, same_is, read_put, length-set))
+    (λ w f e m i g r yy mm bb h. grind (arith, nat_tests, same_is, read_put, length-set)))
+    (by_bool _
+    (λ w f e m i g r yy mm bb h. grind (arith, nat_tests, same_is, read_put, length-set))
+    (λ w f e m i g r yy mm bb h. grind (arith, nat_tests, same_is, read_put, length-set)))
 
 -- by whether it is closed, and its entry in the table
 
 awaits-take_up : (b there : Bool) (p : ℕ) (w : World) (f : ℕ) → (task w f).closed ≡ b → among f (log_if (not b) w (event.PollBegun p f)).table ≡ there → f < length w.tasks → KeepsAwaits w (op.TakeUp f ∷ []) (taken_up b there p w f)
-awaits-take_up true true p w f e m i g r yy mm bb h = grind (arith, same_is, read_put, length-set)
-awaits-take_up true false p w f e m i g r yy mm bb h = grind (arith, same_is, read_put, length-set)
-awaits-take_up false there p w f e m i g r yy mm bb h = grind (arith, same_is, read_put, length-set, heard-push)
+awaits-take_up = by_bool _
+    (by_bool _
+    (λ p w f e m i g r yy mm bb h. grind (arith, same_is, read_put, length-set))
+    (λ p w f e m i g r yy mm bb h. grind (arith, same_is, read_put, length-set)))
+    (λ there p w f e m i g r yy mm bb h. grind (arith, same_is, read_put, length-set, heard-push))
 
 -- by whether it is over, over or scheduled, and running
 
 awaits-wake_by_reference : (o b c : Bool) (p : ℕ) (w : World) (f : ℕ) → (moves.is_over (task w f) || (task w f).scheduled) ≡ b → (task w f).running ≡ c → f < length w.tasks → KeepsAwaits w (op.WakeByReference f ∷ []) (woken o b c p w f)
-awaits-wake_by_reference true true c p w f e q i g r yy mm bb h = grind (arith, same_is, read_put, length-set, heard-push)
-awaits-wake_by_reference true false true p w f e q i g r yy mm bb h = grind (arith, same_is, read_put, length-set, heard-push)
-awaits-wake_by_reference true false false p w f e q i g r yy mm bb h = let k0 : (task w f).completed ≡ false = grind (arith, nat_tests) in let k1 : (task w f).closed ≡ false = grind (arith, nat_tests) in let k2 : (task w f).scheduled ≡ false = grind (arith, nat_tests) in grind (arith, same_is, read_put, length-set, heard-push)
-awaits-wake_by_reference false true c p w f e q i g r yy mm bb h = grind (arith, same_is, read_put, length-set, heard-push)
-awaits-wake_by_reference false false true p w f e q i g r yy mm bb h = grind (arith, same_is, read_put, length-set, heard-push)
-awaits-wake_by_reference false false false p w f e q i g r yy mm bb h = let k0 : (task w f).completed ≡ false = grind (arith, nat_tests) in let k1 : (task w f).closed ≡ false = grind (arith, nat_tests) in let k2 : (task w f).scheduled ≡ false = grind (arith, nat_tests) in grind (arith, same_is, read_put, length-set, heard-push)
+awaits-wake_by_reference = by_bool _
+    (by_bool _
+    (λ c p w f e q i g r yy mm bb h. grind (arith, same_is, read_put, length-set, heard-push))
+    (by_bool _
+    (λ p w f e q i g r yy mm bb h. grind (arith, same_is, read_put, length-set, heard-push))
+    (λ p w f e q i g r yy mm bb h. let k : IsUnmarked (task w f) = unmarked (task w f) e in grind (arith, same_is, read_put, length-set, heard-push))))
+    (by_bool _
+    (λ c p w f e q i g r yy mm bb h. grind (arith, same_is, read_put, length-set, heard-push))
+    (by_bool _
+    (λ p w f e q i g r yy mm bb h. grind (arith, same_is, read_put, length-set, heard-push))
+    (λ p w f e q i g r yy mm bb h. let k : IsUnmarked (task w f) = unmarked (task w f) e in grind (arith, same_is, read_put, length-set, heard-push))))
 
 awaits-wake : (o b c : Bool) (p : ℕ) (w : World) (f : ℕ) → (moves.is_over (task w f) || (task w f).scheduled) ≡ b → (task w f).running ≡ c → f < length w.tasks → KeepsAwaits w (op.Wake f ∷ []) (woken_by o b c p w f)
-awaits-wake true true c p w f e q i g r yy mm bb h = grind (arith, same_is, read_put, length-set, heard-push)
-awaits-wake true false true p w f e q i g r yy mm bb h = grind (arith, same_is, read_put, length-set, heard-push)
-awaits-wake true false false p w f e q i g r yy mm bb h = let k0 : (task w f).completed ≡ false = grind (arith, nat_tests) in let k1 : (task w f).closed ≡ false = grind (arith, nat_tests) in let k2 : (task w f).scheduled ≡ false = grind (arith, nat_tests) in grind (arith, same_is, read_put, length-set, heard-push)
-awaits-wake false true c p w f e q i g r yy mm bb h = grind (arith, same_is, read_put, length-set, heard-push)
-awaits-wake false false true p w f e q i g r yy mm bb h = grind (arith, same_is, read_put, length-set, heard-push)
-awaits-wake false false false p w f e q i g r yy mm bb h = let k0 : (task w f).completed ≡ false = grind (arith, nat_tests) in let k1 : (task w f).closed ≡ false = grind (arith, nat_tests) in let k2 : (task w f).scheduled ≡ false = grind (arith, nat_tests) in grind (arith, same_is, read_put, length-set, heard-push)
+awaits-wake = by_bool _
+    (by_bool _
+    (λ c p w f e q i g r yy mm bb h. grind (arith, same_is, read_put, length-set, heard-push))
+    (by_bool _
+    (λ p w f e q i g r yy mm bb h. grind (arith, same_is, read_put, length-set, heard-push))
+    (λ p w f e q i g r yy mm bb h. let k : IsUnmarked (task w f) = unmarked (task w f) e in grind (arith, same_is, read_put, length-set, heard-push))))
+    (by_bool _
+    (λ c p w f e q i g r yy mm bb h. grind (arith, same_is, read_put, length-set, heard-push))
+    (by_bool _
+    (λ p w f e q i g r yy mm bb h. grind (arith, same_is, read_put, length-set, heard-push))
+    (λ p w f e q i g r yy mm bb h. let k : IsUnmarked (task w f) = unmarked (task w f) e in grind (arith, same_is, read_put, length-set, heard-push))))
 
 awaits-call_task : (o b c : Bool) (p e : ℕ) (k : ℕ) (w : World) (f : ℕ) → (moves.is_over (task w f) || (task w f).scheduled) ≡ b → (task w f).running ≡ c → f < length w.tasks → KeepsAwaits w (op.CallAwaiter e (Task f) k ∷ []) (woken_by o b c p (log w (event.WakerCalled p e k (Task f))) f)
-awaits-call_task true true c p e k w f d q i g r yy mm bb h = grind (arith, same_is, read_put, length-set, heard-push)
-awaits-call_task true false true p e k w f d q i g r yy mm bb h = grind (arith, same_is, read_put, length-set, heard-push)
-awaits-call_task true false false p e k w f d q i g r yy mm bb h = let k0 : (task w f).completed ≡ false = grind (arith, nat_tests) in let k1 : (task w f).closed ≡ false = grind (arith, nat_tests) in let k2 : (task w f).scheduled ≡ false = grind (arith, nat_tests) in grind (arith, same_is, read_put, length-set, heard-push)
-awaits-call_task false true c p e k w f d q i g r yy mm bb h = grind (arith, same_is, read_put, length-set, heard-push)
-awaits-call_task false false true p e k w f d q i g r yy mm bb h = grind (arith, same_is, read_put, length-set, heard-push)
-awaits-call_task false false false p e k w f d q i g r yy mm bb h = let k0 : (task w f).completed ≡ false = grind (arith, nat_tests) in let k1 : (task w f).closed ≡ false = grind (arith, nat_tests) in let k2 : (task w f).scheduled ≡ false = grind (arith, nat_tests) in grind (arith, same_is, read_put, length-set, heard-push)
+awaits-call_task o b c p e k w f d q i g r yy mm bb h =
+    let called : World = log w (event.WakerCalled p e k (Task f)) in
+    let stand : Footing called g (with_ops g (op.Wake f ∷ []) r) (with_awaiting g (op.Wake f ∷ []) yy) =
+    record { one = bb.one; live = bb.live; ends = bb.ends; drop = bb.drop; carries = bb.carries; rests = bb.rests; lent = bb.lent; done = grind (arith, heard-push); stages = bb.stages; few = bb.few; tied = bb.tied } in
+    let waits : Awaits called g (with_ops g (op.Wake f ∷ []) r) (with_awaiting g (op.Wake f ∷ []) yy) mm = grind (arith, same_is, heard-push) in
+    awaits-wake o b c p called f d q i g r yy mm stand waits
 
 -- by whether an event is logged
 
 awaits-cancel_over : (o : Bool) (p : ℕ) (w : World) (f : ℕ) → f < length w.tasks → KeepsAwaits w (op.Cancel f ∷ []) (cancel_over o p w f)
-awaits-cancel_over true p w f i g r yy mm bb h = grind (arith, same_is, read_put, length-set, heard-push)
-awaits-cancel_over false p w f i g r yy mm bb h = grind (arith, same_is, read_put, length-set, heard-push)
+awaits-cancel_over = by_bool _
+    (λ p w f i g r yy mm bb h. grind (arith, same_is, read_put, length-set, heard-push))
+    (λ p w f i g r yy mm bb h. grind (arith, same_is, read_put, length-set, heard-push))
 
 awaits-cancel_going : (a : Bool) (p : ℕ) (w : World) (f : ℕ) → (task w f).awaiter ≡ a → moves.is_going (task w f) ≡ true → f < length w.tasks → KeepsAwaits w (op.Cancel f ∷ []) (cancel_going true a p w f)
-awaits-cancel_going true p w f n e i g r yy mm bb h = let z : ((task w f).scheduled ≡ true) ⊎ ((task w f).running ≡ true) = grind (arith, nat_tests) in grind (arith, same_is, read_put, length-set, heard-push)
-awaits-cancel_going false p w f n e i g r yy mm bb h = let z : ((task w f).scheduled ≡ true) ⊎ ((task w f).running ≡ true) = grind (arith, nat_tests) in grind (arith, same_is, read_put, length-set, heard-push)
+awaits-cancel_going = by_bool _
+    (λ p w f n e i g r yy mm bb h. let z : IsGoing (task w f) = going (task w f) e in grind (arith, same_is, read_put, length-set, heard-push))
+    (λ p w f n e i g r yy mm bb h. let z : IsGoing (task w f) = going (task w f) e in grind (arith, same_is, read_put, length-set, heard-push))
 
 awaits-cancel_idle : (a : Bool) (p : ℕ) (w : World) (f : ℕ) → (task w f).awaiter ≡ a → moves.is_over (task w f) ≡ false → moves.is_going (task w f) ≡ false → f < length w.tasks → KeepsAwaits w (op.Cancel f ∷ []) (cancel_idle true a p w f)
-awaits-cancel_idle true p w f n e q i g r yy mm bb h = let k0 : (task w f).completed ≡ false = grind (arith, nat_tests) in let k1 : (task w f).closed ≡ false = grind (arith, nat_tests) in let k2 : (task w f).scheduled ≡ false = grind (arith, nat_tests) in let k3 : (task w f).running ≡ false = grind (arith, nat_tests) in grind (arith, same_is, read_put, length-set, heard-push)
-awaits-cancel_idle false p w f n e q i g r yy mm bb h = let k0 : (task w f).completed ≡ false = grind (arith, nat_tests) in let k1 : (task w f).closed ≡ false = grind (arith, nat_tests) in let k2 : (task w f).scheduled ≡ false = grind (arith, nat_tests) in let k3 : (task w f).running ≡ false = grind (arith, nat_tests) in grind (arith, same_is, read_put, length-set, heard-push)
+awaits-cancel_idle = by_bool _
+    (λ p w f n e q i g r yy mm bb h. let k : IsIdle (task w f) = idle (task w f) e q in grind (arith, same_is, read_put, length-set, heard-push))
+    (λ p w f n e q i g r yy mm bb h. let k : IsIdle (task w f) = idle (task w f) e q in grind (arith, same_is, read_put, length-set, heard-push))
 
 awaits-detach : (o x y : Bool) (p : ℕ) (w : World) (f : ℕ) → ((task w f).completed && not (task w f).closed) ≡ x → (eqb (task w f).references 0 && not (task w f).closed) ≡ y → f < length w.tasks → KeepsAwaits w (op.Detach f ∷ []) (detached o x y p w f)
-awaits-detach true true y p w f e q i g r yy mm bb h = grind (arith, nat_tests, same_is, read_put, length-set, heard-push)
-awaits-detach false true y p w f e q i g r yy mm bb h = grind (arith, nat_tests, same_is, read_put, length-set, heard-push)
-awaits-detach true false true p w f e q i g r yy mm bb h = let k0 : (task w f).references ≡ 0 = grind (arith, nat_tests) in let k1 : (task w f).closed ≡ false = grind (arith, nat_tests) in let k2 : (task w f).completed ≡ false = grind (arith, nat_tests) in grind (arith, same_is, read_put, length-set, heard-push)
-awaits-detach false false true p w f e q i g r yy mm bb h = let k0 : (task w f).references ≡ 0 = grind (arith, nat_tests) in let k1 : (task w f).closed ≡ false = grind (arith, nat_tests) in let k2 : (task w f).completed ≡ false = grind (arith, nat_tests) in grind (arith, same_is, read_put, length-set, heard-push)
-awaits-detach true false false p w f e q i g r yy mm bb h = grind (arith, same_is, read_put, length-set, heard-push)
-awaits-detach false false false p w f e q i g r yy mm bb h = grind (arith, same_is, read_put, length-set, heard-push)
+awaits-detach = by_bool _
+    (by_bool _
+    (λ y p w f e q i g r yy mm bb h. grind (arith, nat_tests, same_is, read_put, length-set, heard-push))
+    (by_bool _
+    (λ p w f e q i g r yy mm bb h. let k : IsUnheld (task w f) = unheld (task w f) e q in grind (arith, same_is, read_put, length-set, heard-push))
+    (λ p w f e q i g r yy mm bb h. grind (arith, same_is, read_put, length-set, heard-push))))
+    (by_bool _
+    (λ y p w f e q i g r yy mm bb h. grind (arith, nat_tests, same_is, read_put, length-set, heard-push))
+    (by_bool _
+    (λ p w f e q i g r yy mm bb h. let k : IsUnheld (task w f) = unheld (task w f) e q in grind (arith, same_is, read_put, length-set, heard-push))
+    (λ p w f e q i g r yy mm bb h. grind (arith, same_is, read_put, length-set, heard-push))))
 
 -- wakers and polls of a handle
 
 awaits-copy : (b : Bool) (w : World) (f : ℕ) (held : Hold) → f < length w.tasks → KeepsAwaits w (op.CopyWaker f held ∷ []) (copy_by b w f held)
-awaits-copy true w f held i g r yy mm bb h = grind arith
-awaits-copy false w f held i g r yy mm bb h = grind (arith, same_is, read_put, length-set)
+awaits-copy = by_bool _
+    (λ w f held i g r yy mm bb h. grind arith)
+    (λ w f held i g r yy mm bb h. grind (arith, same_is, read_put, length-set))
 
 -- a poll of the handle that ends: as it was, or with its output
 
@@ -176,15 +220,17 @@ awaits-look_closed : (p : ℕ) (w : World) (f : ℕ) (a : Waker) → f < length 
 awaits-look_closed p w f a i g r yy mm bb h = grind (arith, same_is, read_put, length-set, heard-push)
 
 awaits-look_given : (b : Bool) (p : ℕ) (w : World) (f : ℕ) (a : Waker) → (task w f).completed ≡ true → f < length w.tasks → KeepsBy w (op.Look f a ∷ []) (gives b p w (polled p w f) f) (asks_if true p f)
-awaits-look_given true p w f a e i g r yy mm bb h = grind (arith, same_is, read_put, length-set, heard-push)
-awaits-look_given false p w f a e i g r yy mm bb h = grind (arith, same_is, read_put, length-set, heard-push)
+awaits-look_given = by_bool _
+    (λ p w f a e i g r yy mm bb h. grind (arith, same_is, read_put, length-set, heard-push))
+    (λ p w f a e i g r yy mm bb h. grind (arith, same_is, read_put, length-set, heard-push))
 
 awaits-again_closed : (p : ℕ) (w : World) (f : ℕ) → f < length w.tasks → KeepsAwaits w (op.LookAgain f ∷ []) (stays_so p w w f)
 awaits-again_closed p w f i g r yy mm bb h = grind (arith, same_is, read_put, length-set, heard-push)
 
 awaits-again_given : (b : Bool) (p : ℕ) (w : World) (f : ℕ) → (task w f).completed ≡ true → f < length w.tasks → KeepsAwaits w (op.LookAgain f ∷ []) (gives b p w w f)
-awaits-again_given true p w f e i g r yy mm bb h = grind (arith, same_is, read_put, length-set, heard-push)
-awaits-again_given false p w f e i g r yy mm bb h = grind (arith, same_is, read_put, length-set, heard-push)
+awaits-again_given = by_bool _
+    (λ p w f e i g r yy mm bb h. grind (arith, same_is, read_put, length-set, heard-push))
+    (λ p w f e i g r yy mm bb h. grind (arith, same_is, read_put, length-set, heard-push))
 
 awaits-look_on : (w : World) (f : ℕ) (a : Waker) → KeepsAwaits w (op.Look f a ∷ []) (done w (op.CopyAwaiter f a ∷ []))
 awaits-look_on w f a g r yy mm bb h = grind arith
@@ -193,43 +239,55 @@ awaits-again_waits : (p : ℕ) (w : World) (f : ℕ) → (((task w f).scheduled 
 awaits-again_waits p w f n i g r yy mm bb h = grind (arith, same_is, read_put, length-set, heard-push)
 
 awaits-copy_awaiter : (b : Bool) (p : ℕ) (w : World) (f : ℕ) (a : Waker) → IsKnownWaker w a → KeepsBy w (op.CopyAwaiter f a ∷ []) (copy_awaiter_by b p w f a) (asks_if (not b) p f)
-awaits-copy_awaiter true p w f a e g r yy mm bb h = grind arith
-awaits-copy_awaiter false p w f (Task k) e g r yy mm bb h = let z : k < length w.tasks = e in let l : eqb (length w.trace) (length w.trace) ≡ true = grind (arith, nat_tests) in grind (arith, same_is, read_put, length-set, heard-push)
-awaits-copy_awaiter false p w f (Outside x) e g r yy mm bb h = let l : eqb (length w.trace) (length w.trace) ≡ true = grind (arith, nat_tests) in grind (arith, same_is, heard-push)
+awaits-copy_awaiter = by_bool _
+    (λ p w f a e g r yy mm bb h. grind arith)
+    (λ p w f. by_waker _
+    (λ k e g r yy mm bb h. let few : (with_awaiting g (op.CopyAwaiter f (Task k) ∷ []) yy).strays (length w.trace) ≤ _ = bb.few (length w.trace) in let z : k < length w.tasks = e in let l : eqb (length w.trace) (length w.trace) ≡ true = grind (arith, nat_tests) in grind (arith, same_is, read_put, length-set, heard-push))
+    (λ x e g r yy mm bb h. let few : (with_awaiting g (op.CopyAwaiter f (Outside x) ∷ []) yy).strays (length w.trace) ≤ _ = bb.few (length w.trace) in let l : eqb (length w.trace) (length w.trace) ≡ true = grind (arith, nat_tests) in grind (arith, same_is, heard-push)))
 
 awaits-register : (b : Bool) (w : World) (f : ℕ) (a : Waker) (k : ℕ) → (task w f).notifying ≡ b → f < length w.tasks → KeepsAwaits w (op.Register f a k ∷ []) (register_by b w f a k)
-awaits-register true w f a k n i g r yy mm bb h = grind (arith, same_is, read_put, length-set)
-awaits-register false w f a k n i g r yy mm bb h = grind (arith, same_is, read_put, length-set)
+awaits-register = by_bool _
+    (λ w f a k n i g r yy mm bb h. grind (arith, same_is, read_put, length-set))
+    (λ w f a k n i g r yy mm bb h. grind (arith, same_is, read_put, length-set))
 
 -- by whether somebody wanted to notify meanwhile, and the old awaiter
 
 awaits-end_register-none : (b : Bool) (w : World) (f : ℕ) (a : Waker) (k : ℕ) → (task w f).notifying ≡ b → awaiter_of w f ≡ None → f < length w.tasks → f < length w.awaiters → KeepsAwaits w (op.EndRegister f a k ∷ []) (end_registered b None w f a k)
-awaits-end_register-none true w f a k n e i j g r yy mm bb h = grind (arith, same_is, read_put, length-set, kept_put)
-awaits-end_register-none false w f a k n e i j g r yy mm bb h = grind (arith, same_is, read_put, length-set, kept_put)
+awaits-end_register-none = by_bool _
+    (λ w f a k n e i j g r yy mm bb h. grind (arith, same_is, read_put, length-set, kept_put))
+    (λ w f a k n e i j g r yy mm bb h. grind (arith, same_is, read_put, length-set, kept_put))
 
 awaits-end_register-some : (b : Bool) (x : Waker) (m : ℕ) (w : World) (f : ℕ) (a : Waker) (k : ℕ) → (task w f).notifying ≡ b → awaiter_of w f ≡ Some (record { waker = x; poll = m }) → f < length w.tasks → f < length w.awaiters → KeepsAwaits w (op.EndRegister f a k ∷ []) (end_registered b (Some (record { waker = x; poll = m })) w f a k)
-awaits-end_register-some true (Task q) m w f a k n e i j g r yy mm bb h = grind (arith, same_is, read_put, length-set, kept_put)
-awaits-end_register-some true (Outside q) m w f a k n e i j g r yy mm bb h = grind (arith, same_is, read_put, length-set, kept_put)
-awaits-end_register-some false (Task q) m w f a k n e i j g r yy mm bb h = grind (arith, same_is, read_put, length-set, kept_put)
-awaits-end_register-some false (Outside q) m w f a k n e i j g r yy mm bb h = grind (arith, same_is, read_put, length-set, kept_put)
+awaits-end_register-some = by_bool _
+    (by_waker _
+    (λ q m w f a k n e i j g r yy mm bb h. grind (arith, same_is, read_put, length-set, kept_put))
+    (λ q m w f a k n e i j g r yy mm bb h. grind (arith, same_is, read_put, length-set, kept_put)))
+    (by_waker _
+    (λ q m w f a k n e i j g r yy mm bb h. grind (arith, same_is, read_put, length-set, kept_put))
+    (λ q m w f a k n e i j g r yy mm bb h. grind (arith, same_is, read_put, length-set, kept_put)))
 
 awaits-end_register : (b : Bool) (old : Option Awaiter) (w : World) (f : ℕ) (a : Waker) (k : ℕ) → (task w f).notifying ≡ b → awaiter_of w f ≡ old → f < length w.tasks → f < length w.awaiters → KeepsAwaits w (op.EndRegister f a k ∷ []) (end_registered b old w f a k)
 awaits-end_register b None w f a k n e i j = awaits-end_register-none b w f a k n e i j
 awaits-end_register b (Some x) w f a k n e i j = awaits-end_register-some b x.waker x.poll w f a k n e i j
 
 awaits-notify : (b m : Bool) (w : World) (f : ℕ) → ((task w f).notifying || (task w f).registering) ≡ b → f < length w.tasks → KeepsAwaits w (op.Notify f m ∷ []) (notify_by b w f m)
-awaits-notify true m w f n i g r yy mm bb h = let z : ((task w f).notifying ≡ true) ⊎ ((task w f).registering ≡ true) = grind (arith, nat_tests) in grind (arith, same_is, read_put, length-set)
-awaits-notify false m w f n i g r yy mm bb h = let z : (task w f).notifying ≡ false = grind (arith, nat_tests) in let q : (task w f).registering ≡ false = grind (arith, nat_tests) in grind (arith, same_is, read_put, length-set)
+awaits-notify = by_bool _
+    (λ m w f n i g r yy mm bb h. let z : ((task w f).notifying ≡ true) ⊎ ((task w f).registering ≡ true) = grind (arith, nat_tests) in grind (arith, same_is, read_put, length-set))
+    (λ m w f n i g r yy mm bb h. let z : (task w f).notifying ≡ false = grind (arith, nat_tests) in let q : (task w f).registering ≡ false = grind (arith, nat_tests) in grind (arith, same_is, read_put, length-set))
 
 awaits-end_notify-none : (b mine : Bool) (w : World) (f : ℕ) → awaiter_of w f ≡ None → f < length w.tasks → f < length w.awaiters → KeepsAwaits w (op.EndNotify f mine ∷ []) (end_notified b None w f)
-awaits-end_notify-none true mine w f e i j g r yy mm bb h = let z : kept_at (heard g w.trace).poll (awaiter_of w f) ≡ 0 = ap (kept_at (heard g w.trace).poll) e in grind (arith, same_is, read_put, length-set, kept_put)
-awaits-end_notify-none false mine w f e i j g r yy mm bb h = let z : kept_at (heard g w.trace).poll (awaiter_of w f) ≡ 0 = ap (kept_at (heard g w.trace).poll) e in grind (arith, same_is, read_put, length-set, kept_put)
+awaits-end_notify-none = by_bool _
+    (λ mine w f e i j g r yy mm bb h. let z : kept_at (heard g w.trace).poll (awaiter_of w f) ≡ 0 = ap (kept_at (heard g w.trace).poll) e in grind (arith, same_is, read_put, length-set, kept_put))
+    (λ mine w f e i j g r yy mm bb h. let z : kept_at (heard g w.trace).poll (awaiter_of w f) ≡ 0 = ap (kept_at (heard g w.trace).poll) e in grind (arith, same_is, read_put, length-set, kept_put))
 
 awaits-end_notify-some : (b : Bool) (x : Waker) (m : ℕ) (mine : Bool) (w : World) (f : ℕ) → (b ≡ true → mine ≡ true) → awaiter_of w f ≡ Some (record { waker = x; poll = m }) → f < length w.tasks → f < length w.awaiters → KeepsAwaits w (op.EndNotify f mine ∷ []) (end_notified b (Some (record { waker = x; poll = m })) w f)
-awaits-end_notify-some true (Task q) m mine w f n e i j g r yy mm bb h = let s : mine ≡ true = n refl in let z : kept_at (heard g w.trace).poll (awaiter_of w f) ≡ same (heard g w.trace).poll m = ap (kept_at (heard g w.trace).poll) e in grind (arith, same_is, read_put, length-set, kept_put)
-awaits-end_notify-some true (Outside q) m mine w f n e i j g r yy mm bb h = let s : mine ≡ true = n refl in let z : kept_at (heard g w.trace).poll (awaiter_of w f) ≡ same (heard g w.trace).poll m = ap (kept_at (heard g w.trace).poll) e in grind (arith, same_is, read_put, length-set, kept_put)
-awaits-end_notify-some false (Task q) m mine w f n e i j g r yy mm bb h = let z : kept_at (heard g w.trace).poll (awaiter_of w f) ≡ same (heard g w.trace).poll m = ap (kept_at (heard g w.trace).poll) e in grind (arith, same_is, read_put, length-set, kept_put)
-awaits-end_notify-some false (Outside q) m mine w f n e i j g r yy mm bb h = let z : kept_at (heard g w.trace).poll (awaiter_of w f) ≡ same (heard g w.trace).poll m = ap (kept_at (heard g w.trace).poll) e in grind (arith, same_is, read_put, length-set, kept_put)
+awaits-end_notify-some = by_bool _
+    (by_waker _
+    (λ q m mine w f n e i j g r yy mm bb h. let s : mine ≡ true = n refl in let z : kept_at (heard g w.trace).poll (awaiter_of w f) ≡ same (heard g w.trace).poll m = ap (kept_at (heard g w.trace).poll) e in grind (arith, same_is, read_put, length-set, kept_put))
+    (λ q m mine w f n e i j g r yy mm bb h. let s : mine ≡ true = n refl in let z : kept_at (heard g w.trace).poll (awaiter_of w f) ≡ same (heard g w.trace).poll m = ap (kept_at (heard g w.trace).poll) e in grind (arith, same_is, read_put, length-set, kept_put)))
+    (by_waker _
+    (λ q m mine w f n e i j g r yy mm bb h. let z : kept_at (heard g w.trace).poll (awaiter_of w f) ≡ same (heard g w.trace).poll m = ap (kept_at (heard g w.trace).poll) e in grind (arith, same_is, read_put, length-set, kept_put))
+    (λ q m mine w f n e i j g r yy mm bb h. let z : kept_at (heard g w.trace).poll (awaiter_of w f) ≡ same (heard g w.trace).poll m = ap (kept_at (heard g w.trace).poll) e in grind (arith, same_is, read_put, length-set, kept_put)))
 
 awaits-end_notify : (b : Bool) (old : Option Awaiter) (mine : Bool) (w : World) (f : ℕ) → (b ≡ true → mine ≡ true) → awaiter_of w f ≡ old → f < length w.tasks → f < length w.awaiters → KeepsAwaits w (op.EndNotify f mine ∷ []) (end_notified b old w f)
 awaits-end_notify b None mine w f n e i j = awaits-end_notify-none b mine w f e i j
@@ -241,35 +299,45 @@ awaits-call_outside p w f x k g r yy mm bb h = grind (arith, same_is, heard-push
 -- the drop of the executor
 
 awaits-take_out : (ls ws : List ℕ) (w : World) → w.table ≡ ls → KeepsAwaits w (op.TakeOut ∷ []) (done (record w { table = w.leaving; leaving = w.table }) (closing_ops ls ws))
-awaits-take_out [] [] w e g r yy mm bb h = grind arith
-awaits-take_out [] (x ∷ ws) w e g r yy mm bb h = grind arith
-awaits-take_out (x ∷ ls) ws w e g r yy mm bb h = grind arith
+awaits-take_out = by_list _
+    (by_list _
+    (λ w e g r yy mm bb h. grind arith)
+    (λ x ws w e g r yy mm bb h. grind arith))
+    (λ x ls ws w e g r yy mm bb h. grind arith)
 
 awaits-drop_next : (rest ws : List ℕ) (p : ℕ) (w : World) (f : ℕ) → w.leaving ≡ f ∷ rest → KeepsAwaits w (op.DropNext ∷ []) (done (log (record w { leaving = rest; waking = w.waking ++ f ∷ []; inside = slice_set w.inside f false }) (event.Dropped p f)) (op.Drop f ∷ closing_ops rest ws))
-awaits-drop_next [] [] p w f e g r yy mm bb h = grind (arith, same_is, times-append, heard-push)
-awaits-drop_next [] (y ∷ ws) p w f e g r yy mm bb h = grind (arith, same_is, times-append, heard-push)
-awaits-drop_next (y ∷ ls) ws p w f e g r yy mm bb h = grind (arith, same_is, times-append, heard-push)
+awaits-drop_next = by_list _
+    (by_list _
+    (λ p w f e g r yy mm bb h. grind (arith, same_is, times-append, heard-push))
+    (λ y ws p w f e g r yy mm bb h. grind (arith, same_is, times-append, heard-push)))
+    (λ y ls ws p w f e g r yy mm bb h. grind (arith, same_is, times-append, heard-push))
+
+-- the wake itself, without what the executor's drop does then
+awaits-wake_left : (o b c : Bool) (rest : List ℕ) (p : ℕ) (w : World) (f : ℕ) → w.waking ≡ f ∷ rest → (moves.is_over (task w f) || (task w f).scheduled) ≡ b → (task w f).running ≡ c → f < length w.tasks → KeepsAwaits w (op.WakeNext ∷ []) (woken_by o b c p (record w { waking = rest }) f)
+awaits-wake_left = by_bool _
+    (by_bool _
+    (λ c rest p w f y e q i g r yy mm bb h. let z : times g w.waking ≡ same g f + times g rest = ap (times g) y in let k : IsMarked (task w f) = marked (task w f) e in grind (arith, same_is, read_put, length-set, heard-push))
+    (by_bool _
+    (λ rest p w f y e q i g r yy mm bb h. let z : times g w.waking ≡ same g f + times g rest = ap (times g) y in grind (arith, same_is, read_put, length-set, heard-push))
+    (λ rest p w f y e q i g r yy mm bb h. let z : times g w.waking ≡ same g f + times g rest = ap (times g) y in let k : IsUnmarked (task w f) = unmarked (task w f) e in grind (arith, same_is, read_put, length-set, heard-push))))
+    (by_bool _
+    (λ c rest p w f y e q i g r yy mm bb h. let z : times g w.waking ≡ same g f + times g rest = ap (times g) y in let k : IsMarked (task w f) = marked (task w f) e in grind (arith, same_is, read_put, length-set, heard-push))
+    (by_bool _
+    (λ rest p w f y e q i g r yy mm bb h. let z : times g w.waking ≡ same g f + times g rest = ap (times g) y in grind (arith, same_is, read_put, length-set, heard-push))
+    (λ rest p w f y e q i g r yy mm bb h. let z : times g w.waking ≡ same g f + times g rest = ap (times g) y in let k : IsUnmarked (task w f) = unmarked (task w f) e in grind (arith, same_is, read_put, length-set, heard-push))))
 
 awaits-wake_next : (o b c : Bool) (rest : List ℕ) (p : ℕ) (w : World) (f : ℕ) → w.waking ≡ f ∷ rest → (moves.is_over (task w f) || (task w f).scheduled) ≡ b → (task w f).running ≡ c → f < length w.tasks → KeepsAwaits w (op.WakeNext ∷ []) (next_woken o b c rest p w f)
-awaits-wake_next true true c [] p w f y e q i g r yy mm bb h = let z : times g w.waking ≡ same g f + times g [] = ap (times g) y in let k : ((task w f).closed ≡ true) ⊎ (((task w f).completed ≡ true) ⊎ ((task w f).scheduled ≡ true)) = grind (arith, nat_tests) in grind (arith, same_is, read_put, length-set, heard-push)
-awaits-wake_next true true c (u ∷ us) p w f y e q i g r yy mm bb h = let z : times g w.waking ≡ same g f + times g (u ∷ us) = ap (times g) y in let k : ((task w f).closed ≡ true) ⊎ (((task w f).completed ≡ true) ⊎ ((task w f).scheduled ≡ true)) = grind (arith, nat_tests) in grind (arith, same_is, read_put, length-set, heard-push)
-awaits-wake_next true false true [] p w f y e q i g r yy mm bb h = let z : times g w.waking ≡ same g f + times g [] = ap (times g) y in grind (arith, same_is, read_put, length-set, heard-push)
-awaits-wake_next true false true (u ∷ us) p w f y e q i g r yy mm bb h = let z : times g w.waking ≡ same g f + times g (u ∷ us) = ap (times g) y in grind (arith, same_is, read_put, length-set, heard-push)
-awaits-wake_next true false false [] p w f y e q i g r yy mm bb h = let z : times g w.waking ≡ same g f + times g [] = ap (times g) y in let k0 : (task w f).completed ≡ false = grind (arith, nat_tests) in let k1 : (task w f).closed ≡ false = grind (arith, nat_tests) in let k2 : (task w f).scheduled ≡ false = grind (arith, nat_tests) in grind (arith, same_is, read_put, length-set, heard-push)
-awaits-wake_next true false false (u ∷ us) p w f y e q i g r yy mm bb h = let z : times g w.waking ≡ same g f + times g (u ∷ us) = ap (times g) y in let k0 : (task w f).completed ≡ false = grind (arith, nat_tests) in let k1 : (task w f).closed ≡ false = grind (arith, nat_tests) in let k2 : (task w f).scheduled ≡ false = grind (arith, nat_tests) in grind (arith, same_is, read_put, length-set, heard-push)
-awaits-wake_next false true c [] p w f y e q i g r yy mm bb h = let z : times g w.waking ≡ same g f + times g [] = ap (times g) y in let k : ((task w f).closed ≡ true) ⊎ (((task w f).completed ≡ true) ⊎ ((task w f).scheduled ≡ true)) = grind (arith, nat_tests) in grind (arith, same_is, read_put, length-set, heard-push)
-awaits-wake_next false true c (u ∷ us) p w f y e q i g r yy mm bb h = let z : times g w.waking ≡ same g f + times g (u ∷ us) = ap (times g) y in let k : ((task w f).closed ≡ true) ⊎ (((task w f).completed ≡ true) ⊎ ((task w f).scheduled ≡ true)) = grind (arith, nat_tests) in grind (arith, same_is, read_put, length-set, heard-push)
-awaits-wake_next false false true [] p w f y e q i g r yy mm bb h = let z : times g w.waking ≡ same g f + times g [] = ap (times g) y in grind (arith, same_is, read_put, length-set, heard-push)
-awaits-wake_next false false true (u ∷ us) p w f y e q i g r yy mm bb h = let z : times g w.waking ≡ same g f + times g (u ∷ us) = ap (times g) y in grind (arith, same_is, read_put, length-set, heard-push)
-awaits-wake_next false false false [] p w f y e q i g r yy mm bb h = let z : times g w.waking ≡ same g f + times g [] = ap (times g) y in let k0 : (task w f).completed ≡ false = grind (arith, nat_tests) in let k1 : (task w f).closed ≡ false = grind (arith, nat_tests) in let k2 : (task w f).scheduled ≡ false = grind (arith, nat_tests) in grind (arith, same_is, read_put, length-set, heard-push)
-awaits-wake_next false false false (u ∷ us) p w f y e q i g r yy mm bb h = let z : times g w.waking ≡ same g f + times g (u ∷ us) = ap (times g) y in let k0 : (task w f).completed ≡ false = grind (arith, nat_tests) in let k1 : (task w f).closed ≡ false = grind (arith, nat_tests) in let k2 : (task w f).scheduled ≡ false = grind (arith, nat_tests) in grind (arith, same_is, read_put, length-set, heard-push)
+awaits-wake_next o b c rest p w f y e q i g r yy mm bb h =
+    let d : Done = woken_by o b c p (record w { waking = rest }) f in
+    subst (λ (x : Pend × Awaiting). Awaits d.world g x.0 x.1 mm) (λ j. (sym (with_ops-closing g d.next rest r) j, sym (with_awaiting-closing g d.next rest yy) j)) (awaits-wake_left o b c rest p w f y e q i g r yy mm bb h)
 
 awaits-close : (w : World) → KeepsAwaits w (op.Close ∷ []) (close w)
 awaits-close w g r yy mm bb h = grind arith
 
 awaits-drain : (q : List ℕ) (p : ℕ) (w : World) → w.queue.items ≡ q → KeepsAwaits w (op.Drain ∷ []) (drain_by p w q)
-awaits-drain [] p w e g r yy mm bb h = grind (arith, heard-push)
-awaits-drain (f ∷ rest) p w e g r yy mm bb h = let z : same g f + times g (drop 1 w.queue.items) ≡ times g w.queue.items = times-drop g f rest w.queue.items e in grind (arith, same_is)
+awaits-drain = by_list _
+    (λ p w e g r yy mm bb h. grind (arith, heard-push))
+    (λ f rest p w e g r yy mm bb h. let z : same g f + times g (drop 1 w.queue.items) ≡ times g w.queue.items = times-drop g f rest w.queue.items e in grind (arith, same_is))
 
 -- the answers of user code
 awaits-pending : (p : ℕ) (w : World) (f : ℕ) → KeepsAwaits w (op.Poll f ∷ []) (done (log w (event.Answered p f answer.Pending)) (op.PutBack f ∷ []))
@@ -294,12 +362,14 @@ own : (n f : ℕ) (o : Op) → past n f ≤ past_of n o → weigh (past_of n) (o
 own n f o le e = below n f (omega (arith, le, e))
 
 awaits-wake_first : (p : ℕ) (w : World) (q : List ℕ) → w.waking ≡ q → ((f : ℕ) (rest : List ℕ) → q ≡ f ∷ rest → f < length w.tasks) → KeepsAwaits w (op.WakeNext ∷ []) (wake_next_by p w q)
-awaits-wake_first p w [] e i = λ g r yy mm bb h. grind arith
-awaits-wake_first p w (f ∷ rest) e i = awaits-wake_next (moves.is_over (task w f)) _ _ rest p w f e refl refl (i f rest refl)
+awaits-wake_first = λ p w. by_list _
+    (λ e i. λ g r yy mm bb h. grind arith)
+    (λ f rest e i. awaits-wake_next (moves.is_over (task w f)) _ _ rest p w f e refl refl (i f rest refl))
 
 awaits-drop_first : (p : ℕ) (w : World) (q : List ℕ) → w.leaving ≡ q → KeepsAwaits w (op.DropNext ∷ []) (drop_next_by p w q)
-awaits-drop_first p w [] e = λ g r yy mm bb h. grind arith
-awaits-drop_first p w (f ∷ rest) e = awaits-drop_next rest (w.waking ++ f ∷ []) p w f e
+awaits-drop_first = λ p w. by_list _
+    (λ e. λ g r yy mm bb h. grind arith)
+    (λ f rest e. awaits-drop_next rest (w.waking ++ f ∷ []) p w f e)
 
 awaits-cancel : (b c : Bool) (p : ℕ) (w : World) (f : ℕ) → moves.is_over (task w f) ≡ b → moves.is_going (task w f) ≡ c → f < length w.tasks → KeepsAwaits w (op.Cancel f ∷ []) (carried (log_if (not b) w (event.Cancelled p f)) f (moves.cancel_by b c (task w f)))
 awaits-cancel true c p w f e q i = awaits-cancel_over false p w f i
@@ -317,10 +387,13 @@ awaits-look false k false p w f a e i = awaits-look_on w f a
 awaits-look false k true p w f a e i = awaits-look_given _ p w f a e i
 
 awaits-again : (x k c : Bool) (p : ℕ) (w : World) (f : ℕ) → (task w f).closed ≡ x → moves.is_going (task w f) ≡ k → (task w f).completed ≡ c → f < length w.tasks → KeepsAwaits w (op.LookAgain f ∷ []) (look_again_by (moves.look_again_by x k c (task w f)).owed.answer p w f (moves.look_again_by x k c (task w f)))
-awaits-again true true c p w f x k e i = awaits-again_waits p w f (let z : ((task w f).scheduled ≡ true) ⊎ ((task w f).running ≡ true) = grind (arith, nat_tests) in inl z) i
-awaits-again true false c p w f x k e i = awaits-again_closed p w f i
-awaits-again false k false p w f x q e i = awaits-again_waits p w f (inr (x, e)) i
-awaits-again false k true p w f x q e i = awaits-again_given _ p w f e i
+awaits-again = by_bool _
+    (by_bool _
+    (λ c p w f x k e i. awaits-again_waits p w f (let z : ((task w f).scheduled ≡ true) ⊎ ((task w f).running ≡ true) = grind (arith, nat_tests) in inl z) i)
+    (λ c p w f x k e i. awaits-again_closed p w f i))
+    (λ k. by_bool _
+    (λ p w f x q e i. awaits-again_given _ p w f e i)
+    (λ p w f x q e i. awaits-again_waits p w f (inr (x, e)) i))
 
 known_waker : (w : World) (a : Waker) (n : ℕ) → n + waker_past (length w.tasks) a ≡ 0 → IsKnownWaker w a
 known_waker w (Task k) n z = below _ k (omega (arith, z))

@@ -29,6 +29,7 @@ use Rattle.executor_model.specs.Weights.{weigh, weigh_all, borrowing_of}
 use Rattle.executor_model.specs.Sound.{ousting_of}
 use Rattle.executor_model.specs.Good.{Good}
 use Rattle.executor_model.specs.Steps.{Machine, stack, top, run, start, polled_by, is_free, has_all, is_on_executor, is_drop, is_unused, kept, with_future, accepts, begun, react}
+use Rattle.executor_model.proofs.Cases.{by_bool, by_list}
 use Rattle.executor_model.proofs.Lists.{weigh-append, weigh_all-push}
 use Rattle.executor_model.proofs.Lift.{split, unsettled, good-start, none_refused, open_executor, weigh_all-idle}
 use Rattle.executor_model.proofs.Ways.{Way, along}
@@ -267,43 +268,53 @@ open-queue false l e = refl
 open-queue true l e = absurd (cc)
 
 sweeps-append : (b : Bool) (w : World) (f : ℕ) → (b ≡ true → w.queue.closed ≡ false) → KeepsSweeps w (op.Append f ∷ []) (append_by b w f)
-sweeps-append true w f c r h = let z : w.queue.closed ≡ false = c refl in grind (arith, length-append)
-sweeps-append false w f c r h = grind arith
+sweeps-append = by_bool _
+    (λ w f c r h. let z : w.queue.closed ≡ false = c refl in grind (arith, length-append))
+    (λ w f c r h. grind arith)
 
 sweeps-take : (q : List ℕ) (w : World) → w.queue.items ≡ q → KeepsSweeps w (op.Take ∷ []) (take_by w q)
-sweeps-take [] w e r h = grind arith
-sweeps-take (f ∷ rest) w e r h = let z : suc (length (drop 1 w.queue.items)) ≡ length w.queue.items = rw e refl in grind arith
+sweeps-take = by_list _
+    (λ w e r h. grind arith)
+    (λ f rest w e r h. let z : suc (length (drop 1 w.queue.items)) ≡ length w.queue.items = rw e refl in grind arith)
 
 -- the steps of the executor's drop
 
 sweeps-take_out : (ls ws : List ℕ) (w : World) → w.table ≡ ls → w.waking ≡ ws → KeepsSweeps w (op.TakeOut ∷ []) (done (record w { table = w.leaving; leaving = w.table }) (closing_ops ls ws))
-sweeps-take_out [] [] w e q r h = let z : length w.waking ≡ 0 = ap length q in grind arith
-sweeps-take_out [] (x ∷ ws) w e q r h = let z : length w.waking ≡ suc (length ws) = ap length q in grind arith
-sweeps-take_out (x ∷ ls) ws w e q r h = let z : length w.table ≡ suc (length ls) = ap length e in grind arith
+sweeps-take_out = by_list _
+    (by_list _
+    (λ w e q r h. let z : length w.waking ≡ 0 = ap length q in grind arith)
+    (λ x ws w e q r h. let z : length w.waking ≡ suc (length ws) = ap length q in grind arith))
+    (λ x ls ws w e q r h. let z : length w.table ≡ suc (length ls) = ap length e in grind arith)
 
 sweeps-closing : (rest ws : List ℕ) (p : ℕ) (w : World) (f : ℕ) → 1 ≤ length ws → ws ≡ w.waking ++ f ∷ [] → w.leaving ≡ f ∷ rest → KeepsSweeps w (op.DropNext ∷ []) (done (log (record w { leaving = rest; waking = ws; inside = set w.inside f false }) (event.Dropped p f)) (op.Drop f ∷ closing_ops rest ws))
-sweeps-closing [] [] p w f n q e r h = absurd (omega (arith, n))
-sweeps-closing [] (y ∷ ws) p w f n q e r h = grind arith
-sweeps-closing (y ∷ ls) ws p w f n q e r h = grind arith
+sweeps-closing = by_list _
+    (by_list _
+    (λ p w f n q e r h. absurd (omega (arith, n)))
+    (λ y ws p w f n q e r h. grind arith))
+    (λ y ls ws p w f n q e r h. grind arith)
 
 sweeps-drop_next : (p : ℕ) (w : World) (ls : List ℕ) → w.leaving ≡ ls → KeepsSweeps w (op.DropNext ∷ []) (drop_next_by p w ls)
-sweeps-drop_next p w [] e r h = let z : length w.leaving ≡ 0 = ap length e in absurd (grind arith)
-sweeps-drop_next p w (f ∷ rest) e r h = sweeps-closing rest (w.waking ++ f ∷ []) p w f (omega (arith, length-append w.waking (f ∷ []))) refl e r h
+sweeps-drop_next = λ p w. by_list _
+    (λ e r h. let z : length w.leaving ≡ 0 = ap length e in absurd (grind arith))
+    (λ f rest e r h. sweeps-closing rest (w.waking ++ f ∷ []) p w f (omega (arith, length-append w.waking (f ∷ []))) refl e r h)
 
 sweeps-woken : (rest : List ℕ) (o : Bool) (p : ℕ) (w v : World) (f : ℕ) (next : List Op) → w.waking ≡ f ∷ rest → lists (record w { waking = rest }) ≡ lists v → NoSteps next → KeepsSweeps w (op.WakeNext ∷ []) (done v (next ++ closing_ops [] rest))
-sweeps-woken [] o p w v f next e q n r h = subst (λ (l : Lists). Sweeps l (with_sweep (next ++ op.Close ∷ []) r)) q (let a : _ = weigh-append ousting_of next (op.Close ∷ []) in let b : _ = weigh-append dropping_of next (op.Close ∷ []) in let c : _ = weigh-append rousing_of next (op.Close ∷ []) in let d : _ = weigh-append shutting_of next (op.Close ∷ []) in let k : _ = weigh-append draining_of next (op.Close ∷ []) in grind arith)
-sweeps-woken (y ∷ ys) o p w v f next e q n r h = subst (λ (l : Lists). Sweeps l (with_sweep (next ++ op.WakeNext ∷ []) r)) q (let a : _ = weigh-append ousting_of next (op.WakeNext ∷ []) in let b : _ = weigh-append dropping_of next (op.WakeNext ∷ []) in let c : _ = weigh-append rousing_of next (op.WakeNext ∷ []) in let d : _ = weigh-append shutting_of next (op.WakeNext ∷ []) in let k : _ = weigh-append draining_of next (op.WakeNext ∷ []) in grind arith)
+sweeps-woken = by_list _
+    (λ o p w v f next e q n r h. subst (λ (l : Lists). Sweeps l (with_sweep (next ++ op.Close ∷ []) r)) q (let a : _ = weigh-append ousting_of next (op.Close ∷ []) in let b : _ = weigh-append dropping_of next (op.Close ∷ []) in let c : _ = weigh-append rousing_of next (op.Close ∷ []) in let d : _ = weigh-append shutting_of next (op.Close ∷ []) in let k : _ = weigh-append draining_of next (op.Close ∷ []) in grind arith))
+    (λ y ys o p w v f next e q n r h. subst (λ (l : Lists). Sweeps l (with_sweep (next ++ op.WakeNext ∷ []) r)) q (let a : _ = weigh-append ousting_of next (op.WakeNext ∷ []) in let b : _ = weigh-append dropping_of next (op.WakeNext ∷ []) in let c : _ = weigh-append rousing_of next (op.WakeNext ∷ []) in let d : _ = weigh-append shutting_of next (op.WakeNext ∷ []) in let k : _ = weigh-append draining_of next (op.WakeNext ∷ []) in grind arith))
 
 sweeps-wake_next : (p : ℕ) (w : World) (ws : List ℕ) → w.waking ≡ ws → KeepsSweeps w (op.WakeNext ∷ []) (wake_next_by p w ws)
-sweeps-wake_next p w [] e r h = let z : length w.waking ≡ 0 = ap length e in absurd (grind arith)
-sweeps-wake_next p w (f ∷ rest) e r h = sweeps-woken rest true p w (wake p (record w { waking = rest }) f).world f (wake p (record w { waking = rest }) f).next e (same-log_if _ (record w { waking = rest }) (event.Woken p f)) (no-steps _ (plain-wake p (record w { waking = rest }) f)) r h
+sweeps-wake_next = λ p w. by_list _
+    (λ e r h. let z : length w.waking ≡ 0 = ap length e in absurd (grind arith))
+    (λ f rest e r h. sweeps-woken rest true p w (wake p (record w { waking = rest }) f).world f (wake p (record w { waking = rest }) f).next e (same-log_if _ (record w { waking = rest }) (event.Woken p f)) (no-steps _ (plain-wake p (record w { waking = rest }) f)) r h)
 
 sweeps-close : (w : World) → KeepsSweeps w (op.Close ∷ []) (close w)
 sweeps-close w r h = grind arith
 
 sweeps-drain : (q : List ℕ) (p : ℕ) (w : World) → w.queue.items ≡ q → KeepsSweeps w (op.Drain ∷ []) (drain_by p w q)
-sweeps-drain [] p w e r h = let z : length w.queue.items ≡ 0 = ap length e in grind arith
-sweeps-drain (f ∷ rest) p w e r h = let z : suc (length (drop 1 w.queue.items)) ≡ length w.queue.items = rw e refl in grind arith
+sweeps-drain = by_list _
+    (λ p w e r h. let z : length w.queue.items ≡ 0 = ap length e in grind arith)
+    (λ f rest p w e r h. let z : suc (length (drop 1 w.queue.items)) ≡ length w.queue.items = rw e refl in grind arith)
 
 sweeps-act : (b : Bool) (p : ℕ) (h : Hint) (o : Op) (w : World) → is_sweeping o ≡ b → KeepsSweeps w (o ∷ []) (act p h o w)
 sweeps-act false p h o w n = sweeps-still w (o ∷ []) (act p h o w) (same-act p h o w n) (no-self o n) (no-act p h o w _ refl n)

@@ -12,6 +12,7 @@ use Rattle.executor_model.specs.Sound.Phase.{Over}
 use Rattle.executor_model.specs.Good.{Good, past}
 use Rattle.executor_model.specs.Entries.{leaves_of}
 use Rattle.executor_model.specs.Steps.{Machine, stack, run, start}
+use Rattle.executor_model.proofs.Cases.{by_bool}
 use Rattle.executor_model.proofs.Lists.{past_is}
 use Rattle.executor_model.proofs.Lift.{good}
 use Rattle.executor_model.proofs.Resting.{Deep, deep, rests, all-rest}
@@ -37,16 +38,18 @@ no-times g (x ∷ xs) e = absurd (omega (arith, e))
 
 -- where nothing is left to do, a dropped future has no Runnable
 none-queued : (gone : Bool) (w : World) (g : ℕ) → w.gone ≡ gone → Leaves w g nothing_pending nothing_more → Sweeps (lists w) nothing_swept → 1 ≤ (story g w.trace).fallen → times g w.queue.items ≡ 0
-none-queued true w g e l v k = ⊎_elim (λ (x : 1 ≤ 0). absurd (omega (arith, x))) (λ (x : length w.queue.items ≡ 0). no-times g w.queue.items x) (v.drained e)
-none-queued false w g e l v k = let z : _ = (past_is (length w.tasks) g).1 in grind arith
+none-queued = by_bool _
+    (λ w g e l v k. ⊎_elim (λ (x : 1 ≤ 0). absurd (omega (arith, x))) (λ (x : length w.queue.items ≡ 0). no-times g w.queue.items x) (v.drained e))
+    (λ w g e l v k. let z : _ = (past_is (length w.tasks) g).1 in grind arith)
 
 none-waking : (w : World) (g : ℕ) → Sweeps (lists w) nothing_swept → w.gone ≡ true → times g w.waking ≡ 0
 none-waking w g v e = ⊎_elim (λ (x : 1 ≤ 0). absurd (omega (arith, x))) (λ (x : length w.waking ≡ 0). no-times g w.waking x) (v.awake e)
 
 -- it is settled
 settled : (gone : Bool) (w : World) (g : ℕ) (m : Mark) → w.gone ≡ gone → Sound w g nothing_pending → Awaits w g nothing_pending nothing_awaited m → Sweeps (lists w) nothing_swept → (heard g w.trace).dropped ≡ true → (task w g).scheduled ≡ false → (task w g).running ≡ false → ((task w g).closed ≡ true) ⊎ ((task w g).completed ≡ true)
-settled true w g m e h a v d s r = let z : times g w.waking ≡ 0 = none-waking w g v e in grind arith
-settled false w g m e h a v d s r = let z : phase g w.trace ≡ Over = over-dropped g w.trace d h.lawful in grind arith
+settled = by_bool _
+    (λ w g m e h a v d s r. let z : times g w.waking ≡ 0 = none-waking w g v e in grind arith)
+    (λ w g m e h a v d s r. let z : phase g w.trace ≡ Over = over-dropped g w.trace d h.lawful in grind arith)
 
 not-scheduled : (b : Bool) (w : World) (g : ℕ) → (task w g).scheduled ≡ b → Sound w g nothing_pending → times g w.queue.items ≡ 0 → b ≡ false
 not-scheduled false w g e h z = refl

@@ -99,7 +99,7 @@ footing s good tied g = record {
   lent = (good.sound g).lent;
   done = λ d. (good.sound g).over (over-dropped g s.world.trace d (good.sound g).lawful);
   stages = stages-all g s.parties;
-  few = few-all g (length s.world.trace) s.parties;
+  few = λ k. few-all g k s.parties;
   tied = tied-all g s.parties (tied g);
 }
 

@@ -25,24 +25,30 @@ use Rattle.executor_model.specs.Acts.{append_by, take_by, enter_by, look_at_tabl
 use Rattle.executor_model.specs.Weights.{same, weigh}
 use Rattle.executor_model.specs.Good.{past, pasts, waker_past, past_of}
 use Rattle.executor_model.specs.Sound.{with_ops, Pend, Sound, times, awaiters_of}
-use Rattle.executor_model.proofs.Lists.{read_put, read_push, fresh_is, wakers_of-push, past_is, same_is, times-append, times-drop, awaiters_of-set, awaiters_of-push, wakes_if, phase-push, phase-begun, phase-answered, phase-dropped, without_one}
+use Rattle.executor_model.proofs.Cases.{by_bool, by_list, by_waker}
+use Rattle.executor_model.proofs.Marks.{IsUnmarked, unmarked, IsGoing, going, IsIdle, idle, last-one, IsUnheld, unheld}
+use Rattle.executor_model.proofs.Lists.{read_put, read_push, fresh_is, wakers_of-push, past_is, same_is, times-append, times-drop, awaiters_of-set, awaiters_of-push, wakes_if, phase-push, phase-begun, phase-answered, phase-dropped, without_one, with_ops-closing}
 
 -- it keeps what holds of g
 abbrev pub Keeps : World → List Op → Done → Type 0
 Keeps w old d = (g : ℕ) (r : Pend) → Sound w g (with_ops g old r) → Sound d.world g (with_ops g d.next r)
 
 sound-append : (b : Bool) (w : World) (f : ℕ) → Keeps w (op.Append f ∷ []) (append_by b w f)
-sound-append true w f g r h = grind (arith, same_is, times-append)
-sound-append false w f g r h = grind (arith, same_is)
+sound-append = by_bool _
+    (λ w f g r h. grind (arith, same_is, times-append))
+    (λ w f g r h. grind (arith, same_is))
 
 sound-take : (q : List ℕ) (w : World) → w.queue.items ≡ q → Keeps w (op.Take ∷ []) (take_by w q)
-sound-take [] w e g r h = grind arith
-sound-take (f ∷ rest) w e g r h = let z : same g f + times g (drop 1 w.queue.items) ≡ times g w.queue.items = times-drop g f rest w.queue.items e in grind (arith, same_is)
+sound-take = by_list _
+    (λ w e g r h. grind arith)
+    (λ f rest w e g r h. let z : same g f + times g (drop 1 w.queue.items) ≡ times g w.queue.items = times-drop g f rest w.queue.items e in grind (arith, same_is))
 
 sound-enter : (b c : Bool) (p : ℕ) (w : World) → Keeps w (op.Enter ∷ []) (enter_by b c p w)
-sound-enter true c p w g r h = grind arith
-sound-enter false true p w g r h = grind arith
-sound-enter false false p w g r h = grind (arith, fresh_is, read_push, times-append, awaiters_of-push, phase-push)
+sound-enter = by_bool _
+    (λ c p w g r h. grind arith)
+    (by_bool _
+    (λ p w g r h. grind arith)
+    (λ p w g r h. grind (arith, fresh_is, read_push, times-append, awaiters_of-push, phase-push)))
 
 sound-look_at_table : (w : World) → Keeps w (op.LookAtTable ∷ []) (look_at_table w)
 sound-look_at_table w g r h = grind arith
@@ -57,8 +63,9 @@ sound-take_to_drop : (w : World) (f : ℕ) → Keeps w (op.TakeToDrop f ∷ []) 
 sound-take_to_drop w f g r h = grind (arith, same_is)
 
 sound-leave : (b : Bool) (w : World) (f : ℕ) → among f w.table ≡ b → Keeps w (op.LeaveTable f ∷ []) (leave_by b w f)
-sound-leave true w f e g r h = grind (arith, same_is, without_one)
-sound-leave false w f e g r h = h
+sound-leave = by_bool _
+    (λ w f e g r h. grind (arith, same_is, without_one))
+    (λ w f e g r h. h)
 
 sound-begin_drop : (p : ℕ) (w : World) (f : ℕ) → Keeps w (op.BeginDrop f ∷ []) (begin_drop p w f)
 sound-begin_drop p w f g r h = grind (arith, same_is, phase-dropped)
@@ -74,68 +81,86 @@ CanCopy w (Outside x) = Unit {0}
 -- the moves of a task, by what they find
 
 sound-release : (b c : Bool) (w : World) (f : ℕ) → moves.is_last (task w f) ≡ b → moves.is_over (task w f) ≡ c → f < length w.tasks → Keeps w (op.Release f ∷ []) (carried w f (moves.release_by b c (task w f)))
-sound-release false c w f e q i g r h = grind (arith, same_is, read_put)
-sound-release true true w f e q i g r h = let z : (task w f).references ≡ 1 = grind (arith, nat_tests) in grind (arith, same_is, read_put)
-sound-release true false w f e q i g r h = let z : (task w f).references ≡ 1 = grind (arith, nat_tests) in let c : (task w f).completed ≡ false = grind (arith, nat_tests) in grind (arith, same_is, read_put)
+sound-release = by_bool _
+    (by_bool _
+    (λ w f e q i g r h. let z : (task w f).references ≡ 1 = last-one (task w f) e in grind (arith, same_is, read_put))
+    (λ w f e q i g r h. let z : (task w f).references ≡ 1 = last-one (task w f) e in let c : (task w f).completed ≡ false = grind (arith, nat_tests) in grind (arith, same_is, read_put)))
+    (λ c w f e q i g r h. grind (arith, same_is, read_put))
 
 abbrev pub settling : Bool → World → ℕ → Done
 settling a w f = carried w f (moved (record (task w f) { scheduled = false }) (settled a))
 
 sound-settle_closed : (a : Bool) (w : World) (f : ℕ) → f < length w.tasks → Keeps w (op.SettleClosed f ∷ []) (settling a w f)
-sound-settle_closed true w f i g r h = grind (arith, same_is, read_put)
-sound-settle_closed false w f i g r h = grind (arith, same_is, read_put)
+sound-settle_closed = by_bool _
+    (λ w f i g r h. grind (arith, same_is, read_put))
+    (λ w f i g r h. grind (arith, same_is, read_put))
 
 sound-give_up : (b : Bool) (w : World) (f : ℕ) → moves.is_last (task w f) ≡ b → f < length w.tasks → Keeps w (op.GiveUp f ∷ []) (carried w f (moves.give_up_by b (task w f)))
-sound-give_up false w f e i g r h = grind (arith, same_is, read_put)
-sound-give_up true w f e i g r h = let z : (task w f).references ≡ 1 = grind (arith, nat_tests) in grind (arith, same_is, read_put)
+sound-give_up = by_bool _
+    (λ w f e i g r h. let z : (task w f).references ≡ 1 = last-one (task w f) e in grind (arith, same_is, read_put))
+    (λ w f e i g r h. grind (arith, same_is, read_put))
 
 -- by whether the output is unwanted, and whether there is an awaiter
 abbrev pub readied : Bool → Bool → World → ℕ → Done
 readied unwanted a w f = carried w f (moved (record (task w f) { scheduled = false; running = false; completed = true; closed = unwanted }) (record (settled a) { drop_output = unwanted }))
 
 sound-end_ready : (u a : Bool) (w : World) (f : ℕ) → ((task w f).closed || not (task w f).handle) ≡ u → f < length w.tasks → Keeps w (op.EndReady f ∷ []) (readied u a w f)
-sound-end_ready true true w f e i g r h = grind (arith, same_is, read_put)
-sound-end_ready true false w f e i g r h = grind (arith, same_is, read_put)
-sound-end_ready false true w f e i g r h = grind (arith, same_is, read_put)
-sound-end_ready false false w f e i g r h = grind (arith, same_is, read_put)
+sound-end_ready = by_bool _
+    (by_bool _
+    (λ w f e i g r h. grind (arith, same_is, read_put))
+    (λ w f e i g r h. grind (arith, same_is, read_put)))
+    (by_bool _
+    (λ w f e i g r h. grind (arith, same_is, read_put))
+    (λ w f e i g r h. grind (arith, same_is, read_put)))
 
 -- by whether it is closed, scheduled, its reference the last, and its entry in the table
 abbrev pub pended : Bool → Bool → Bool → Bool → World → ℕ → Done
 pended x s l there w f = let m = moves.end_pending_by x s l (task w f) in done (put w f m.state) (owed_ops there f m.owed)
 
 sound-end_pending : (x s l there : Bool) (w : World) (f : ℕ) → (task w f).closed ≡ x → (task w f).scheduled ≡ s → moves.is_last (task w f) ≡ l → f < length w.tasks → Keeps w (op.EndPending f ∷ []) (pended x s l there w f)
-sound-end_pending true s l true w f e q k i g r h = grind (arith, same_is, read_put)
-sound-end_pending true s l false w f e q k i g r h = grind (arith, same_is, read_put)
-sound-end_pending false true l there w f e q k i g r h = grind (arith, same_is, read_put)
-sound-end_pending false false true true w f e q k i g r h = let z : (task w f).references ≡ 1 = grind (arith, nat_tests) in grind (arith, same_is, read_put)
-sound-end_pending false false true false w f e q k i g r h = let z : (task w f).references ≡ 1 = grind (arith, nat_tests) in grind (arith, same_is, read_put)
-sound-end_pending false false false there w f e q k i g r h = grind (arith, same_is, read_put)
+sound-end_pending = by_bool _
+    (λ s l. by_bool _
+    (λ w f e q k i g r h. grind (arith, same_is, read_put))
+    (λ w f e q k i g r h. grind (arith, same_is, read_put)))
+    (by_bool _
+    (λ l there w f e q k i g r h. grind (arith, same_is, read_put))
+    (by_bool _
+    (by_bool _
+    (λ w f e q k i g r h. let z : (task w f).references ≡ 1 = last-one (task w f) k in grind (arith, same_is, read_put))
+    (λ w f e q k i g r h. let z : (task w f).references ≡ 1 = last-one (task w f) k in grind (arith, same_is, read_put)))
+    (λ there w f e q k i g r h. grind (arith, same_is, read_put))))
 
 abbrev pub ending : Bool → World → ℕ → Done
 ending a w f = carried w f (moved (record (task w f) { scheduled = false; running = false }) (settled a))
 
 sound-end_closed : (a : Bool) (w : World) (f : ℕ) → f < length w.tasks → Keeps w (op.EndClosed f ∷ []) (ending a w f)
-sound-end_closed true w f i g r h = grind (arith, same_is, read_put)
-sound-end_closed false w f i g r h = grind (arith, same_is, read_put)
+sound-end_closed = by_bool _
+    (λ w f i g r h. grind (arith, same_is, read_put))
+    (λ w f i g r h. grind (arith, same_is, read_put))
 
 -- by whether its entry is in the table
 abbrev pub dropping : Bool → Bool → World → ℕ → Done
 dropping c there w f = done (put w f (record (task w f) { closed = c })) (owed_ops there f (record nothing { future = Some DropFuture; next = Some move.SettleClosed }))
 
 sound-drop_runnable : (c there : Bool) (w : World) (f : ℕ) → ((task w f).closed || not (task w f).completed) ≡ c → f < length w.tasks → Keeps w (op.DropRunnable f ∷ []) (dropping c there w f)
-sound-drop_runnable true true w f e i g r h = grind (arith, nat_tests, same_is, read_put)
-sound-drop_runnable true false w f e i g r h = grind (arith, nat_tests, same_is, read_put)
-sound-drop_runnable false true w f e i g r h = grind (arith, nat_tests, same_is, read_put)
-sound-drop_runnable false false w f e i g r h = grind (arith, nat_tests, same_is, read_put)
+sound-drop_runnable = by_bool _
+    (by_bool _
+    (λ w f e i g r h. grind (arith, nat_tests, same_is, read_put))
+    (λ w f e i g r h. grind (arith, nat_tests, same_is, read_put)))
+    (by_bool _
+    (λ w f e i g r h. grind (arith, nat_tests, same_is, read_put))
+    (λ w f e i g r h. grind (arith, nat_tests, same_is, read_put)))
 
 -- by whether it is closed, and its entry in the table
 abbrev pub taken_up : Bool → Bool → ℕ → World → ℕ → Done
 taken_up b there p w f = let m = moves.take_up_by b (task w f) in done (put (log_if (not b) w (event.PollBegun p f)) f m.state) (owed_ops there f m.owed)
 
 sound-take_up : (b there : Bool) (p : ℕ) (w : World) (f : ℕ) → (task w f).closed ≡ b → f < length w.tasks → Keeps w (op.TakeUp f ∷ []) (taken_up b there p w f)
-sound-take_up true true p w f e i g r h = grind (arith, same_is, read_put)
-sound-take_up true false p w f e i g r h = grind (arith, same_is, read_put)
-sound-take_up false there p w f e i g r h = grind (arith, same_is, read_put, phase-begun)
+sound-take_up = by_bool _
+    (by_bool _
+    (λ p w f e i g r h. grind (arith, same_is, read_put))
+    (λ p w f e i g r h. grind (arith, same_is, read_put)))
+    (λ there p w f e i g r h. grind (arith, same_is, read_put, phase-begun))
 
 -- by whether it is over, over or scheduled, and running
 abbrev pub woken : Bool → Bool → Bool → ℕ → World → ℕ → Done
@@ -145,28 +170,36 @@ abbrev pub woken_by : Bool → Bool → Bool → ℕ → World → ℕ → Done
 woken_by o b c p w f = let m = moves.wake_by_reference_by b c (task w f) in carried (log_if (not o) w (event.Woken p f)) f (moved m.state (record m.owed { next = Some move.Release }))
 
 sound-wake_by_reference : (o b c : Bool) (p : ℕ) (w : World) (f : ℕ) → (moves.is_over (task w f) || (task w f).scheduled) ≡ b → (task w f).running ≡ c → f < length w.tasks → Keeps w (op.WakeByReference f ∷ []) (woken o b c p w f)
-sound-wake_by_reference true true c p w f e q i g r h = grind (arith, same_is, read_put, phase-push)
-sound-wake_by_reference true false true p w f e q i g r h = grind (arith, same_is, read_put, phase-push)
-sound-wake_by_reference true false false p w f e q i g r h = let k0 : (task w f).completed ≡ false = grind (arith, nat_tests) in let k1 : (task w f).closed ≡ false = grind (arith, nat_tests) in let k2 : (task w f).scheduled ≡ false = grind (arith, nat_tests) in grind (arith, same_is, read_put, phase-push)
-sound-wake_by_reference false true c p w f e q i g r h = grind (arith, same_is, read_put, phase-push)
-sound-wake_by_reference false false true p w f e q i g r h = grind (arith, same_is, read_put, phase-push)
-sound-wake_by_reference false false false p w f e q i g r h = let k0 : (task w f).completed ≡ false = grind (arith, nat_tests) in let k1 : (task w f).closed ≡ false = grind (arith, nat_tests) in let k2 : (task w f).scheduled ≡ false = grind (arith, nat_tests) in grind (arith, same_is, read_put, phase-push)
+sound-wake_by_reference = by_bool _
+    (by_bool _
+    (λ c p w f e q i g r h. grind (arith, same_is, read_put, phase-push))
+    (by_bool _
+    (λ p w f e q i g r h. grind (arith, same_is, read_put, phase-push))
+    (λ p w f e q i g r h. let k : IsUnmarked (task w f) = unmarked (task w f) e in grind (arith, same_is, read_put, phase-push))))
+    (by_bool _
+    (λ c p w f e q i g r h. grind (arith, same_is, read_put, phase-push))
+    (by_bool _
+    (λ p w f e q i g r h. grind (arith, same_is, read_put, phase-push))
+    (λ p w f e q i g r h. let k : IsUnmarked (task w f) = unmarked (task w f) e in grind (arith, same_is, read_put, phase-push))))
 
 sound-wake : (o b c : Bool) (p : ℕ) (w : World) (f : ℕ) → (moves.is_over (task w f) || (task w f).scheduled) ≡ b → (task w f).running ≡ c → f < length w.tasks → Keeps w (op.Wake f ∷ []) (woken_by o b c p w f)
-sound-wake true true c p w f e q i g r h = grind (arith, same_is, read_put, phase-push)
-sound-wake true false true p w f e q i g r h = grind (arith, same_is, read_put, phase-push)
-sound-wake true false false p w f e q i g r h = let k0 : (task w f).completed ≡ false = grind (arith, nat_tests) in let k1 : (task w f).closed ≡ false = grind (arith, nat_tests) in let k2 : (task w f).scheduled ≡ false = grind (arith, nat_tests) in grind (arith, same_is, read_put, phase-push)
-sound-wake false true c p w f e q i g r h = grind (arith, same_is, read_put, phase-push)
-sound-wake false false true p w f e q i g r h = grind (arith, same_is, read_put, phase-push)
-sound-wake false false false p w f e q i g r h = let k0 : (task w f).completed ≡ false = grind (arith, nat_tests) in let k1 : (task w f).closed ≡ false = grind (arith, nat_tests) in let k2 : (task w f).scheduled ≡ false = grind (arith, nat_tests) in grind (arith, same_is, read_put, phase-push)
+sound-wake = by_bool _
+    (by_bool _
+    (λ c p w f e q i g r h. grind (arith, same_is, read_put, phase-push))
+    (by_bool _
+    (λ p w f e q i g r h. grind (arith, same_is, read_put, phase-push))
+    (λ p w f e q i g r h. let k : IsUnmarked (task w f) = unmarked (task w f) e in grind (arith, same_is, read_put, phase-push))))
+    (by_bool _
+    (λ c p w f e q i g r h. grind (arith, same_is, read_put, phase-push))
+    (by_bool _
+    (λ p w f e q i g r h. grind (arith, same_is, read_put, phase-push))
+    (λ p w f e q i g r h. let k : IsUnmarked (task w f) = unmarked (task w f) e in grind (arith, same_is, read_put, phase-push))))
 
 sound-call_task : (o b c : Bool) (p e : ℕ) (k : ℕ) (w : World) (f : ℕ) → (moves.is_over (task w f) || (task w f).scheduled) ≡ b → (task w f).running ≡ c → f < length w.tasks → Keeps w (op.CallAwaiter e (Task f) k ∷ []) (woken_by o b c p (log w (event.WakerCalled p e k (Task f))) f)
-sound-call_task true true c p e k w f d q i g r h = grind (arith, same_is, read_put, phase-push)
-sound-call_task true false true p e k w f d q i g r h = grind (arith, same_is, read_put, phase-push)
-sound-call_task true false false p e k w f d q i g r h = let k0 : (task w f).completed ≡ false = grind (arith, nat_tests) in let k1 : (task w f).closed ≡ false = grind (arith, nat_tests) in let k2 : (task w f).scheduled ≡ false = grind (arith, nat_tests) in grind (arith, same_is, read_put, phase-push)
-sound-call_task false true c p e k w f d q i g r h = grind (arith, same_is, read_put, phase-push)
-sound-call_task false false true p e k w f d q i g r h = grind (arith, same_is, read_put, phase-push)
-sound-call_task false false false p e k w f d q i g r h = let k0 : (task w f).completed ≡ false = grind (arith, nat_tests) in let k1 : (task w f).closed ≡ false = grind (arith, nat_tests) in let k2 : (task w f).scheduled ≡ false = grind (arith, nat_tests) in grind (arith, same_is, read_put, phase-push)
+sound-call_task o b c p e k w f d q i g r h =
+    let called : World = log w (event.WakerCalled p e k (Task f)) in
+    let z : Sound called g (with_ops g (op.Wake f ∷ []) r) = grind (arith, phase-push) in
+    sound-wake o b c p called f d q i g r z
 
 -- by whether an event is logged
 abbrev pub cancel_going : Bool → Bool → ℕ → World → ℕ → Done
@@ -179,37 +212,50 @@ abbrev pub cancel_over : Bool → ℕ → World → ℕ → Done
 cancel_over o p w f = carried (log_if o w (event.Cancelled p f)) f (moved (task w f) nothing)
 
 sound-cancel_over : (o : Bool) (p : ℕ) (w : World) (f : ℕ) → f < length w.tasks → Keeps w (op.Cancel f ∷ []) (cancel_over o p w f)
-sound-cancel_over true p w f i g r h = grind (arith, same_is, read_put, phase-push)
-sound-cancel_over false p w f i g r h = grind (arith, same_is, read_put, phase-push)
+sound-cancel_over = by_bool _
+    (λ p w f i g r h. grind (arith, same_is, read_put, phase-push))
+    (λ p w f i g r h. grind (arith, same_is, read_put, phase-push))
 
 sound-cancel_going : (o a : Bool) (p : ℕ) (w : World) (f : ℕ) → moves.is_going (task w f) ≡ true → f < length w.tasks → Keeps w (op.Cancel f ∷ []) (cancel_going o a p w f)
-sound-cancel_going true true p w f e i g r h = let z : ((task w f).scheduled ≡ true) ⊎ ((task w f).running ≡ true) = grind (arith, nat_tests) in grind (arith, same_is, read_put, phase-push)
-sound-cancel_going true false p w f e i g r h = let z : ((task w f).scheduled ≡ true) ⊎ ((task w f).running ≡ true) = grind (arith, nat_tests) in grind (arith, same_is, read_put, phase-push)
-sound-cancel_going false true p w f e i g r h = let z : ((task w f).scheduled ≡ true) ⊎ ((task w f).running ≡ true) = grind (arith, nat_tests) in grind (arith, same_is, read_put, phase-push)
-sound-cancel_going false false p w f e i g r h = let z : ((task w f).scheduled ≡ true) ⊎ ((task w f).running ≡ true) = grind (arith, nat_tests) in grind (arith, same_is, read_put, phase-push)
+sound-cancel_going = by_bool _
+    (by_bool _
+    (λ p w f e i g r h. let z : IsGoing (task w f) = going (task w f) e in grind (arith, same_is, read_put, phase-push))
+    (λ p w f e i g r h. let z : IsGoing (task w f) = going (task w f) e in grind (arith, same_is, read_put, phase-push)))
+    (by_bool _
+    (λ p w f e i g r h. let z : IsGoing (task w f) = going (task w f) e in grind (arith, same_is, read_put, phase-push))
+    (λ p w f e i g r h. let z : IsGoing (task w f) = going (task w f) e in grind (arith, same_is, read_put, phase-push)))
 
 sound-cancel_idle : (o a : Bool) (p : ℕ) (w : World) (f : ℕ) → moves.is_over (task w f) ≡ false → moves.is_going (task w f) ≡ false → f < length w.tasks → Keeps w (op.Cancel f ∷ []) (cancel_idle o a p w f)
-sound-cancel_idle true true p w f e q i g r h = let k0 : (task w f).completed ≡ false = grind (arith, nat_tests) in let k1 : (task w f).closed ≡ false = grind (arith, nat_tests) in let k2 : (task w f).scheduled ≡ false = grind (arith, nat_tests) in let k3 : (task w f).running ≡ false = grind (arith, nat_tests) in grind (arith, same_is, read_put, phase-push)
-sound-cancel_idle true false p w f e q i g r h = let k0 : (task w f).completed ≡ false = grind (arith, nat_tests) in let k1 : (task w f).closed ≡ false = grind (arith, nat_tests) in let k2 : (task w f).scheduled ≡ false = grind (arith, nat_tests) in let k3 : (task w f).running ≡ false = grind (arith, nat_tests) in grind (arith, same_is, read_put, phase-push)
-sound-cancel_idle false true p w f e q i g r h = let k0 : (task w f).completed ≡ false = grind (arith, nat_tests) in let k1 : (task w f).closed ≡ false = grind (arith, nat_tests) in let k2 : (task w f).scheduled ≡ false = grind (arith, nat_tests) in let k3 : (task w f).running ≡ false = grind (arith, nat_tests) in grind (arith, same_is, read_put, phase-push)
-sound-cancel_idle false false p w f e q i g r h = let k0 : (task w f).completed ≡ false = grind (arith, nat_tests) in let k1 : (task w f).closed ≡ false = grind (arith, nat_tests) in let k2 : (task w f).scheduled ≡ false = grind (arith, nat_tests) in let k3 : (task w f).running ≡ false = grind (arith, nat_tests) in grind (arith, same_is, read_put, phase-push)
+sound-cancel_idle = by_bool _
+    (by_bool _
+    (λ p w f e q i g r h. let k : IsIdle (task w f) = idle (task w f) e q in grind (arith, same_is, read_put, phase-push))
+    (λ p w f e q i g r h. let k : IsIdle (task w f) = idle (task w f) e q in grind (arith, same_is, read_put, phase-push)))
+    (by_bool _
+    (λ p w f e q i g r h. let k : IsIdle (task w f) = idle (task w f) e q in grind (arith, same_is, read_put, phase-push))
+    (λ p w f e q i g r h. let k : IsIdle (task w f) = idle (task w f) e q in grind (arith, same_is, read_put, phase-push)))
 
 abbrev pub detached : Bool → Bool → Bool → ℕ → World → ℕ → Done
 detached o x y p w f = carried (log_if o w (event.Detached p f)) f (moves.detach_by x y (task w f))
 
 sound-detach : (o x y : Bool) (p : ℕ) (w : World) (f : ℕ) → ((task w f).completed && not (task w f).closed) ≡ x → (eqb (task w f).references 0 && not (task w f).closed) ≡ y → f < length w.tasks → Keeps w (op.Detach f ∷ []) (detached o x y p w f)
-sound-detach true true y p w f e q i g r h = grind (arith, nat_tests, same_is, read_put, phase-push)
-sound-detach false true y p w f e q i g r h = grind (arith, nat_tests, same_is, read_put, phase-push)
-sound-detach true false true p w f e q i g r h = let k0 : (task w f).references ≡ 0 = grind (arith, nat_tests) in let k1 : (task w f).closed ≡ false = grind (arith, nat_tests) in let k2 : (task w f).completed ≡ false = grind (arith, nat_tests) in grind (arith, same_is, read_put, phase-push)
-sound-detach false false true p w f e q i g r h = let k0 : (task w f).references ≡ 0 = grind (arith, nat_tests) in let k1 : (task w f).closed ≡ false = grind (arith, nat_tests) in let k2 : (task w f).completed ≡ false = grind (arith, nat_tests) in grind (arith, same_is, read_put, phase-push)
-sound-detach true false false p w f e q i g r h = grind (arith, same_is, read_put, phase-push)
-sound-detach false false false p w f e q i g r h = grind (arith, same_is, read_put, phase-push)
+sound-detach = by_bool _
+    (by_bool _
+    (λ y p w f e q i g r h. grind (arith, nat_tests, same_is, read_put, phase-push))
+    (by_bool _
+    (λ p w f e q i g r h. let k : IsUnheld (task w f) = unheld (task w f) e q in grind (arith, same_is, read_put, phase-push))
+    (λ p w f e q i g r h. grind (arith, same_is, read_put, phase-push))))
+    (by_bool _
+    (λ y p w f e q i g r h. grind (arith, nat_tests, same_is, read_put, phase-push))
+    (by_bool _
+    (λ p w f e q i g r h. let k : IsUnheld (task w f) = unheld (task w f) e q in grind (arith, same_is, read_put, phase-push))
+    (λ p w f e q i g r h. grind (arith, same_is, read_put, phase-push))))
 
 -- wakers and polls of a handle
 
 sound-copy : (b : Bool) (w : World) (f : ℕ) (held : Hold) → (b ≡ false → (task w f).references < 2 ^ 40) → f < length w.tasks → Keeps w (op.CopyWaker f held ∷ []) (copy_by b w f held)
-sound-copy true w f held e i g r h = grind arith
-sound-copy false w f held e i g r h = let z : (task w f).references < 2 ^ 40 = e refl in grind (arith, same_is, read_put, wakers_of-push)
+sound-copy = by_bool _
+    (λ w f held e i g r h. grind arith)
+    (λ w f held e i g r h. let z : (task w f).references < 2 ^ 40 = e refl in grind (arith, same_is, read_put, wakers_of-push))
 
 -- a poll of the handle that ends: as it was, or with its output
 abbrev pub stays_so : ℕ → World → World → ℕ → Done
@@ -225,15 +271,17 @@ sound-look_closed : (p : ℕ) (w : World) (f : ℕ) (a : Waker) → f < length w
 sound-look_closed p w f a i g r h = grind (arith, same_is, read_put, phase-push)
 
 sound-look_given : (b : Bool) (p : ℕ) (w : World) (f : ℕ) (a : Waker) → (task w f).completed ≡ true → f < length w.tasks → Keeps w (op.Look f a ∷ []) (gives b p w (polled p w f) f)
-sound-look_given true p w f a e i g r h = grind (arith, same_is, read_put, phase-push)
-sound-look_given false p w f a e i g r h = grind (arith, same_is, read_put, phase-push)
+sound-look_given = by_bool _
+    (λ p w f a e i g r h. grind (arith, same_is, read_put, phase-push))
+    (λ p w f a e i g r h. grind (arith, same_is, read_put, phase-push))
 
 sound-again_closed : (p : ℕ) (w : World) (f : ℕ) → f < length w.tasks → Keeps w (op.LookAgain f ∷ []) (stays_so p w w f)
 sound-again_closed p w f i g r h = grind (arith, same_is, read_put, phase-push)
 
 sound-again_given : (b : Bool) (p : ℕ) (w : World) (f : ℕ) → (task w f).completed ≡ true → f < length w.tasks → Keeps w (op.LookAgain f ∷ []) (gives b p w w f)
-sound-again_given true p w f e i g r h = grind (arith, same_is, read_put, phase-push)
-sound-again_given false p w f e i g r h = grind (arith, same_is, read_put, phase-push)
+sound-again_given = by_bool _
+    (λ p w f e i g r h. grind (arith, same_is, read_put, phase-push))
+    (λ p w f e i g r h. grind (arith, same_is, read_put, phase-push))
 
 sound-look_on : (w : World) (f : ℕ) (a : Waker) → Keeps w (op.Look f a ∷ []) (done w (op.CopyAwaiter f a ∷ []))
 sound-look_on w f a g r h = grind arith
@@ -242,13 +290,16 @@ sound-again_waits : (p : ℕ) (w : World) (f : ℕ) → f < length w.tasks → K
 sound-again_waits p w f i g r h = grind (arith, same_is, read_put, phase-push)
 
 sound-copy_awaiter : (b : Bool) (p : ℕ) (w : World) (f : ℕ) (a : Waker) → (b ≡ false → CanCopy w a) → Keeps w (op.CopyAwaiter f a ∷ []) (copy_awaiter_by b p w f a)
-sound-copy_awaiter true p w f a e g r h = grind arith
-sound-copy_awaiter false p w f (Task k) e g r h = let z : CanCopy w (Task k) = e refl in let z0 : k < length w.tasks = z.0 in let z1 : (task w k).references < 2 ^ 40 = z.1 in grind (arith, same_is, read_put, phase-push)
-sound-copy_awaiter false p w f (Outside x) e g r h = grind (arith, phase-push)
+sound-copy_awaiter = by_bool _
+    (λ p w f a e g r h. grind arith)
+    (λ p w f. by_waker _
+    (λ k e g r h. let z : CanCopy w (Task k) = e refl in let z0 : k < length w.tasks = z.0 in let z1 : (task w k).references < 2 ^ 40 = z.1 in grind (arith, same_is, read_put, phase-push))
+    (λ x e g r h. grind (arith, phase-push)))
 
 sound-register : (b : Bool) (w : World) (f : ℕ) (a : Waker) (k : ℕ) → f < length w.tasks → Keeps w (op.Register f a k ∷ []) (register_by b w f a k)
-sound-register true w f a k i g r h = grind (arith, same_is, read_put)
-sound-register false w f a k i g r h = grind (arith, same_is, read_put)
+sound-register = by_bool _
+    (λ w f a k i g r h. grind (arith, same_is, read_put))
+    (λ w f a k i g r h. grind (arith, same_is, read_put))
 
 -- by whether somebody wanted to notify meanwhile, and the old awaiter
 abbrev pub end_registered : Bool → Option Awaiter → World → ℕ → Waker → ℕ → Done
@@ -256,35 +307,44 @@ end_registered true old w f a k = done (put_awaiter (put w f (moves.end_register
 end_registered false old w f a k = done (put_awaiter (put w f (moves.end_register_by false (task w f)).state) f (Some (record { waker = a; poll = k }))) (let_go old ++ op.LookAgain f ∷ [])
 
 sound-end_register-none : (b : Bool) (w : World) (f : ℕ) (a : Waker) (k : ℕ) → awaiter_of w f ≡ None → f < length w.tasks → f < length w.awaiters → Keeps w (op.EndRegister f a k ∷ []) (end_registered b None w f a k)
-sound-end_register-none true w f a k e i j g r h = let z : awaiters_of g (set w.awaiters f (let x : Option Awaiter = None in x)) + wakes_if g None ≡ awaiters_of g w.awaiters + wakes_if g (let x : Option Awaiter = None in x) = subst (λ (x : Option Awaiter). awaiters_of g (set w.awaiters f (let x : Option Awaiter = None in x)) + wakes_if g x ≡ awaiters_of g w.awaiters + wakes_if g (let x : Option Awaiter = None in x)) e (awaiters_of-set g f (let x : Option Awaiter = None in x) w.awaiters j) in grind (arith, same_is, read_put)
-sound-end_register-none false w f a k e i j g r h = let z : awaiters_of g (set w.awaiters f (let x : Option Awaiter = Some (record { waker = a; poll = k }) in x)) + wakes_if g None ≡ awaiters_of g w.awaiters + wakes_if g (let x : Option Awaiter = Some (record { waker = a; poll = k }) in x) = subst (λ (x : Option Awaiter). awaiters_of g (set w.awaiters f (let x : Option Awaiter = Some (record { waker = a; poll = k }) in x)) + wakes_if g x ≡ awaiters_of g w.awaiters + wakes_if g (let x : Option Awaiter = Some (record { waker = a; poll = k }) in x)) e (awaiters_of-set g f (let x : Option Awaiter = Some (record { waker = a; poll = k }) in x) w.awaiters j) in grind (arith, same_is, read_put)
+sound-end_register-none = by_bool _
+    (λ w f a k e i j g r h. let z : awaiters_of g (set w.awaiters f (let x : Option Awaiter = None in x)) + wakes_if g None ≡ awaiters_of g w.awaiters + wakes_if g (let x : Option Awaiter = None in x) = subst (λ (x : Option Awaiter). awaiters_of g (set w.awaiters f (let x : Option Awaiter = None in x)) + wakes_if g x ≡ awaiters_of g w.awaiters + wakes_if g (let x : Option Awaiter = None in x)) e (awaiters_of-set g f (let x : Option Awaiter = None in x) w.awaiters j) in grind (arith, same_is, read_put))
+    (λ w f a k e i j g r h. let z : awaiters_of g (set w.awaiters f (let x : Option Awaiter = Some (record { waker = a; poll = k }) in x)) + wakes_if g None ≡ awaiters_of g w.awaiters + wakes_if g (let x : Option Awaiter = Some (record { waker = a; poll = k }) in x) = subst (λ (x : Option Awaiter). awaiters_of g (set w.awaiters f (let x : Option Awaiter = Some (record { waker = a; poll = k }) in x)) + wakes_if g x ≡ awaiters_of g w.awaiters + wakes_if g (let x : Option Awaiter = Some (record { waker = a; poll = k }) in x)) e (awaiters_of-set g f (let x : Option Awaiter = Some (record { waker = a; poll = k }) in x) w.awaiters j) in grind (arith, same_is, read_put))
 
 sound-end_register-some : (b : Bool) (x : Waker) (m : ℕ) (w : World) (f : ℕ) (a : Waker) (k : ℕ) → awaiter_of w f ≡ Some (record { waker = x; poll = m }) → f < length w.tasks → f < length w.awaiters → Keeps w (op.EndRegister f a k ∷ []) (end_registered b (Some (record { waker = x; poll = m })) w f a k)
-sound-end_register-some true (Task q) m w f a k e i j g r h = let z : awaiters_of g (set w.awaiters f (let x : Option Awaiter = None in x)) + same g q ≡ awaiters_of g w.awaiters + wakes_if g (let x : Option Awaiter = None in x) = subst (λ (x : Option Awaiter). awaiters_of g (set w.awaiters f (let x : Option Awaiter = None in x)) + wakes_if g x ≡ awaiters_of g w.awaiters + wakes_if g (let x : Option Awaiter = None in x)) e (awaiters_of-set g f (let x : Option Awaiter = None in x) w.awaiters j) in grind (arith, same_is, read_put)
-sound-end_register-some true (Outside q) m w f a k e i j g r h = let z : awaiters_of g (set w.awaiters f (let x : Option Awaiter = None in x)) + 0 ≡ awaiters_of g w.awaiters + wakes_if g (let x : Option Awaiter = None in x) = subst (λ (x : Option Awaiter). awaiters_of g (set w.awaiters f (let x : Option Awaiter = None in x)) + wakes_if g x ≡ awaiters_of g w.awaiters + wakes_if g (let x : Option Awaiter = None in x)) e (awaiters_of-set g f (let x : Option Awaiter = None in x) w.awaiters j) in grind (arith, same_is, read_put)
-sound-end_register-some false (Task q) m w f a k e i j g r h = let z : awaiters_of g (set w.awaiters f (let x : Option Awaiter = Some (record { waker = a; poll = k }) in x)) + same g q ≡ awaiters_of g w.awaiters + wakes_if g (let x : Option Awaiter = Some (record { waker = a; poll = k }) in x) = subst (λ (x : Option Awaiter). awaiters_of g (set w.awaiters f (let x : Option Awaiter = Some (record { waker = a; poll = k }) in x)) + wakes_if g x ≡ awaiters_of g w.awaiters + wakes_if g (let x : Option Awaiter = Some (record { waker = a; poll = k }) in x)) e (awaiters_of-set g f (let x : Option Awaiter = Some (record { waker = a; poll = k }) in x) w.awaiters j) in grind (arith, same_is, read_put)
-sound-end_register-some false (Outside q) m w f a k e i j g r h = let z : awaiters_of g (set w.awaiters f (let x : Option Awaiter = Some (record { waker = a; poll = k }) in x)) + 0 ≡ awaiters_of g w.awaiters + wakes_if g (let x : Option Awaiter = Some (record { waker = a; poll = k }) in x) = subst (λ (x : Option Awaiter). awaiters_of g (set w.awaiters f (let x : Option Awaiter = Some (record { waker = a; poll = k }) in x)) + wakes_if g x ≡ awaiters_of g w.awaiters + wakes_if g (let x : Option Awaiter = Some (record { waker = a; poll = k }) in x)) e (awaiters_of-set g f (let x : Option Awaiter = Some (record { waker = a; poll = k }) in x) w.awaiters j) in grind (arith, same_is, read_put)
+sound-end_register-some = by_bool _
+    (by_waker _
+    (λ q m w f a k e i j g r h. let z : awaiters_of g (set w.awaiters f (let x : Option Awaiter = None in x)) + same g q ≡ awaiters_of g w.awaiters + wakes_if g (let x : Option Awaiter = None in x) = subst (λ (x : Option Awaiter). awaiters_of g (set w.awaiters f (let x : Option Awaiter = None in x)) + wakes_if g x ≡ awaiters_of g w.awaiters + wakes_if g (let x : Option Awaiter = None in x)) e (awaiters_of-set g f (let x : Option Awaiter = None in x) w.awaiters j) in grind (arith, same_is, read_put))
+    (λ q m w f a k e i j g r h. let z : awaiters_of g (set w.awaiters f (let x : Option Awaiter = None in x)) + 0 ≡ awaiters_of g w.awaiters + wakes_if g (let x : Option Awaiter = None in x) = subst (λ (x : Option Awaiter). awaiters_of g (set w.awaiters f (let x : Option Awaiter = None in x)) + wakes_if g x ≡ awaiters_of g w.awaiters + wakes_if g (let x : Option Awaiter = None in x)) e (awaiters_of-set g f (let x : Option Awaiter = None in x) w.awaiters j) in grind (arith, same_is, read_put)))
+    (by_waker _
+    (λ q m w f a k e i j g r h. let z : awaiters_of g (set w.awaiters f (let x : Option Awaiter = Some (record { waker = a; poll = k }) in x)) + same g q ≡ awaiters_of g w.awaiters + wakes_if g (let x : Option Awaiter = Some (record { waker = a; poll = k }) in x) = subst (λ (x : Option Awaiter). awaiters_of g (set w.awaiters f (let x : Option Awaiter = Some (record { waker = a; poll = k }) in x)) + wakes_if g x ≡ awaiters_of g w.awaiters + wakes_if g (let x : Option Awaiter = Some (record { waker = a; poll = k }) in x)) e (awaiters_of-set g f (let x : Option Awaiter = Some (record { waker = a; poll = k }) in x) w.awaiters j) in grind (arith, same_is, read_put))
+    (λ q m w f a k e i j g r h. let z : awaiters_of g (set w.awaiters f (let x : Option Awaiter = Some (record { waker = a; poll = k }) in x)) + 0 ≡ awaiters_of g w.awaiters + wakes_if g (let x : Option Awaiter = Some (record { waker = a; poll = k }) in x) = subst (λ (x : Option Awaiter). awaiters_of g (set w.awaiters f (let x : Option Awaiter = Some (record { waker = a; poll = k }) in x)) + wakes_if g x ≡ awaiters_of g w.awaiters + wakes_if g (let x : Option Awaiter = Some (record { waker = a; poll = k }) in x)) e (awaiters_of-set g f (let x : Option Awaiter = Some (record { waker = a; poll = k }) in x) w.awaiters j) in grind (arith, same_is, read_put)))
 
 sound-end_register : (b : Bool) (old : Option Awaiter) (w : World) (f : ℕ) (a : Waker) (k : ℕ) → awaiter_of w f ≡ old → f < length w.tasks → f < length w.awaiters → Keeps w (op.EndRegister f a k ∷ []) (end_registered b old w f a k)
 sound-end_register b None w f a k e i j = sound-end_register-none b w f a k e i j
 sound-end_register b (Some x) w f a k e i j = sound-end_register-some b x.waker x.poll w f a k e i j
 
 sound-notify : (b m : Bool) (w : World) (f : ℕ) → f < length w.tasks → Keeps w (op.Notify f m ∷ []) (notify_by b w f m)
-sound-notify true m w f i g r h = grind (arith, same_is, read_put)
-sound-notify false m w f i g r h = grind (arith, same_is, read_put)
+sound-notify = by_bool _
+    (λ m w f i g r h. grind (arith, same_is, read_put))
+    (λ m w f i g r h. grind (arith, same_is, read_put))
 
 abbrev pub end_notified : Bool → Option Awaiter → World → ℕ → Done
 end_notified same old w f = done (put_awaiter (put w f (moves.end_notify (task w f)).state) f None) (told same f old)
 
 sound-end_notify-none : (b mine : Bool) (w : World) (f : ℕ) → awaiter_of w f ≡ None → f < length w.tasks → f < length w.awaiters → Keeps w (op.EndNotify f mine ∷ []) (end_notified b None w f)
-sound-end_notify-none true mine w f e i j g r h = let z : awaiters_of g (set w.awaiters f (let x : Option Awaiter = None in x)) + wakes_if g None ≡ awaiters_of g w.awaiters + wakes_if g (let x : Option Awaiter = None in x) = subst (λ (x : Option Awaiter). awaiters_of g (set w.awaiters f (let x : Option Awaiter = None in x)) + wakes_if g x ≡ awaiters_of g w.awaiters + wakes_if g (let x : Option Awaiter = None in x)) e (awaiters_of-set g f (let x : Option Awaiter = None in x) w.awaiters j) in grind (arith, same_is, read_put)
-sound-end_notify-none false mine w f e i j g r h = let z : awaiters_of g (set w.awaiters f (let x : Option Awaiter = None in x)) + wakes_if g None ≡ awaiters_of g w.awaiters + wakes_if g (let x : Option Awaiter = None in x) = subst (λ (x : Option Awaiter). awaiters_of g (set w.awaiters f (let x : Option Awaiter = None in x)) + wakes_if g x ≡ awaiters_of g w.awaiters + wakes_if g (let x : Option Awaiter = None in x)) e (awaiters_of-set g f (let x : Option Awaiter = None in x) w.awaiters j) in grind (arith, same_is, read_put)
+sound-end_notify-none = by_bool _
+    (λ mine w f e i j g r h. let z : awaiters_of g (set w.awaiters f (let x : Option Awaiter = None in x)) + wakes_if g None ≡ awaiters_of g w.awaiters + wakes_if g (let x : Option Awaiter = None in x) = subst (λ (x : Option Awaiter). awaiters_of g (set w.awaiters f (let x : Option Awaiter = None in x)) + wakes_if g x ≡ awaiters_of g w.awaiters + wakes_if g (let x : Option Awaiter = None in x)) e (awaiters_of-set g f (let x : Option Awaiter = None in x) w.awaiters j) in grind (arith, same_is, read_put))
+    (λ mine w f e i j g r h. let z : awaiters_of g (set w.awaiters f (let x : Option Awaiter = None in x)) + wakes_if g None ≡ awaiters_of g w.awaiters + wakes_if g (let x : Option Awaiter = None in x) = subst (λ (x : Option Awaiter). awaiters_of g (set w.awaiters f (let x : Option Awaiter = None in x)) + wakes_if g x ≡ awaiters_of g w.awaiters + wakes_if g (let x : Option Awaiter = None in x)) e (awaiters_of-set g f (let x : Option Awaiter = None in x) w.awaiters j) in grind (arith, same_is, read_put))
 
 sound-end_notify-some : (b : Bool) (x : Waker) (m : ℕ) (mine : Bool) (w : World) (f : ℕ) → awaiter_of w f ≡ Some (record { waker = x; poll = m }) → f < length w.tasks → f < length w.awaiters → Keeps w (op.EndNotify f mine ∷ []) (end_notified b (Some (record { waker = x; poll = m })) w f)
-sound-end_notify-some true (Task q) m mine w f e i j g r h = let z : awaiters_of g (set w.awaiters f (let x : Option Awaiter = None in x)) + same g q ≡ awaiters_of g w.awaiters + wakes_if g (let x : Option Awaiter = None in x) = subst (λ (x : Option Awaiter). awaiters_of g (set w.awaiters f (let x : Option Awaiter = None in x)) + wakes_if g x ≡ awaiters_of g w.awaiters + wakes_if g (let x : Option Awaiter = None in x)) e (awaiters_of-set g f (let x : Option Awaiter = None in x) w.awaiters j) in grind (arith, same_is, read_put)
-sound-end_notify-some true (Outside q) m mine w f e i j g r h = let z : awaiters_of g (set w.awaiters f (let x : Option Awaiter = None in x)) + 0 ≡ awaiters_of g w.awaiters + wakes_if g (let x : Option Awaiter = None in x) = subst (λ (x : Option Awaiter). awaiters_of g (set w.awaiters f (let x : Option Awaiter = None in x)) + wakes_if g x ≡ awaiters_of g w.awaiters + wakes_if g (let x : Option Awaiter = None in x)) e (awaiters_of-set g f (let x : Option Awaiter = None in x) w.awaiters j) in grind (arith, same_is, read_put)
-sound-end_notify-some false (Task q) m mine w f e i j g r h = let z : awaiters_of g (set w.awaiters f (let x : Option Awaiter = None in x)) + same g q ≡ awaiters_of g w.awaiters + wakes_if g (let x : Option Awaiter = None in x) = subst (λ (x : Option Awaiter). awaiters_of g (set w.awaiters f (let x : Option Awaiter = None in x)) + wakes_if g x ≡ awaiters_of g w.awaiters + wakes_if g (let x : Option Awaiter = None in x)) e (awaiters_of-set g f (let x : Option Awaiter = None in x) w.awaiters j) in grind (arith, same_is, read_put)
-sound-end_notify-some false (Outside q) m mine w f e i j g r h = let z : awaiters_of g (set w.awaiters f (let x : Option Awaiter = None in x)) + 0 ≡ awaiters_of g w.awaiters + wakes_if g (let x : Option Awaiter = None in x) = subst (λ (x : Option Awaiter). awaiters_of g (set w.awaiters f (let x : Option Awaiter = None in x)) + wakes_if g x ≡ awaiters_of g w.awaiters + wakes_if g (let x : Option Awaiter = None in x)) e (awaiters_of-set g f (let x : Option Awaiter = None in x) w.awaiters j) in grind (arith, same_is, read_put)
+sound-end_notify-some = by_bool _
+    (by_waker _
+    (λ q m mine w f e i j g r h. let z : awaiters_of g (set w.awaiters f (let x : Option Awaiter = None in x)) + same g q ≡ awaiters_of g w.awaiters + wakes_if g (let x : Option Awaiter = None in x) = subst (λ (x : Option Awaiter). awaiters_of g (set w.awaiters f (let x : Option Awaiter = None in x)) + wakes_if g x ≡ awaiters_of g w.awaiters + wakes_if g (let x : Option Awaiter = None in x)) e (awaiters_of-set g f (let x : Option Awaiter = None in x) w.awaiters j) in grind (arith, same_is, read_put))
+    (λ q m mine w f e i j g r h. let z : awaiters_of g (set w.awaiters f (let x : Option Awaiter = None in x)) + 0 ≡ awaiters_of g w.awaiters + wakes_if g (let x : Option Awaiter = None in x) = subst (λ (x : Option Awaiter). awaiters_of g (set w.awaiters f (let x : Option Awaiter = None in x)) + wakes_if g x ≡ awaiters_of g w.awaiters + wakes_if g (let x : Option Awaiter = None in x)) e (awaiters_of-set g f (let x : Option Awaiter = None in x) w.awaiters j) in grind (arith, same_is, read_put)))
+    (by_waker _
+    (λ q m mine w f e i j g r h. let z : awaiters_of g (set w.awaiters f (let x : Option Awaiter = None in x)) + same g q ≡ awaiters_of g w.awaiters + wakes_if g (let x : Option Awaiter = None in x) = subst (λ (x : Option Awaiter). awaiters_of g (set w.awaiters f (let x : Option Awaiter = None in x)) + wakes_if g x ≡ awaiters_of g w.awaiters + wakes_if g (let x : Option Awaiter = None in x)) e (awaiters_of-set g f (let x : Option Awaiter = None in x) w.awaiters j) in grind (arith, same_is, read_put))
+    (λ q m mine w f e i j g r h. let z : awaiters_of g (set w.awaiters f (let x : Option Awaiter = None in x)) + 0 ≡ awaiters_of g w.awaiters + wakes_if g (let x : Option Awaiter = None in x) = subst (λ (x : Option Awaiter). awaiters_of g (set w.awaiters f (let x : Option Awaiter = None in x)) + wakes_if g x ≡ awaiters_of g w.awaiters + wakes_if g (let x : Option Awaiter = None in x)) e (awaiters_of-set g f (let x : Option Awaiter = None in x) w.awaiters j) in grind (arith, same_is, read_put)))
 
 sound-end_notify : (b : Bool) (old : Option Awaiter) (mine : Bool) (w : World) (f : ℕ) → awaiter_of w f ≡ old → f < length w.tasks → f < length w.awaiters → Keeps w (op.EndNotify f mine ∷ []) (end_notified b old w f)
 sound-end_notify b None mine w f e i j = sound-end_notify-none b mine w f e i j
@@ -296,38 +356,37 @@ sound-call_outside p w f x k g r h = grind (arith, phase-push)
 -- the drop of the executor
 
 sound-take_out : (ls ws : List ℕ) (w : World) → Keeps w (op.TakeOut ∷ []) (done (record w { table = w.leaving; leaving = w.table }) (closing_ops ls ws))
-sound-take_out [] [] w g r h = grind arith
-sound-take_out [] (x ∷ ws) w g r h = grind arith
-sound-take_out (x ∷ ls) ws w g r h = grind arith
+sound-take_out = by_list _
+    (by_list _
+    (λ w g r h. grind arith)
+    (λ x ws w g r h. grind arith))
+    (λ x ls ws w g r h. grind arith)
 
 sound-drop_next : (ls ws : List ℕ) (p : ℕ) (w : World) (f : ℕ) (rest : List ℕ) → w.leaving ≡ f ∷ rest → Keeps w (op.DropNext ∷ []) (done (log (record w { leaving = rest; waking = w.waking ++ f ∷ []; inside = slice_set w.inside f false }) (event.Dropped p f)) (op.Drop f ∷ closing_ops ls ws))
-sound-drop_next [] [] p w f rest e g r h = let z : times g w.leaving ≡ same g f + times g rest = ap (times g) e in grind (arith, same_is, times-append, phase-dropped)
-sound-drop_next [] (y ∷ ws) p w f rest e g r h = let z : times g w.leaving ≡ same g f + times g rest = ap (times g) e in grind (arith, same_is, times-append, phase-dropped)
-sound-drop_next (y ∷ ls) ws p w f rest e g r h = let z : times g w.leaving ≡ same g f + times g rest = ap (times g) e in grind (arith, same_is, times-append, phase-dropped)
+sound-drop_next = by_list _
+    (by_list _
+    (λ p w f rest e g r h. let z : times g w.leaving ≡ same g f + times g rest = ap (times g) e in grind (arith, same_is, times-append, phase-dropped))
+    (λ y ws p w f rest e g r h. let z : times g w.leaving ≡ same g f + times g rest = ap (times g) e in grind (arith, same_is, times-append, phase-dropped)))
+    (λ y ls ws p w f rest e g r h. let z : times g w.leaving ≡ same g f + times g rest = ap (times g) e in grind (arith, same_is, times-append, phase-dropped))
 
 abbrev pub next_woken : Bool → Bool → Bool → List ℕ → ℕ → World → ℕ → Done
 next_woken o b c rest p w f = let m = moves.wake_by_reference_by b c (task w f) in done (put (log_if (not o) (record w { waking = rest }) (event.Woken p f)) f m.state) (owed_ops (among f (log_if (not o) (record w { waking = rest }) (event.Woken p f)).table) f (record m.owed { next = Some move.Release }) ++ closing_ops [] rest)
 
 sound-wake_next : (o b c : Bool) (rest : List ℕ) (p : ℕ) (w : World) (f : ℕ) → w.waking ≡ f ∷ rest → (moves.is_over (task w f) || (task w f).scheduled) ≡ b → (task w f).running ≡ c → f < length w.tasks → Keeps w (op.WakeNext ∷ []) (next_woken o b c rest p w f)
-sound-wake_next true true c [] p w f y e q i g r h = let z : times g w.waking ≡ same g f + times g [] = ap (times g) y in grind (arith, same_is, read_put, phase-push)
-sound-wake_next true true c (u ∷ us) p w f y e q i g r h = let z : times g w.waking ≡ same g f + times g (u ∷ us) = ap (times g) y in grind (arith, same_is, read_put, phase-push)
-sound-wake_next true false true [] p w f y e q i g r h = let z : times g w.waking ≡ same g f + times g [] = ap (times g) y in grind (arith, same_is, read_put, phase-push)
-sound-wake_next true false true (u ∷ us) p w f y e q i g r h = let z : times g w.waking ≡ same g f + times g (u ∷ us) = ap (times g) y in grind (arith, same_is, read_put, phase-push)
-sound-wake_next true false false [] p w f y e q i g r h = let z : times g w.waking ≡ same g f + times g [] = ap (times g) y in let k0 : (task w f).completed ≡ false = grind (arith, nat_tests) in let k1 : (task w f).closed ≡ false = grind (arith, nat_tests) in let k2 : (task w f).scheduled ≡ false = grind (arith, nat_tests) in grind (arith, same_is, read_put, phase-push)
-sound-wake_next true false false (u ∷ us) p w f y e q i g r h = let z : times g w.waking ≡ same g f + times g (u ∷ us) = ap (times g) y in let k0 : (task w f).completed ≡ false = grind (arith, nat_tests) in let k1 : (task w f).closed ≡ false = grind (arith, nat_tests) in let k2 : (task w f).scheduled ≡ false = grind (arith, nat_tests) in grind (arith, same_is, read_put, phase-push)
-sound-wake_next false true c [] p w f y e q i g r h = let z : times g w.waking ≡ same g f + times g [] = ap (times g) y in grind (arith, same_is, read_put, phase-push)
-sound-wake_next false true c (u ∷ us) p w f y e q i g r h = let z : times g w.waking ≡ same g f + times g (u ∷ us) = ap (times g) y in grind (arith, same_is, read_put, phase-push)
-sound-wake_next false false true [] p w f y e q i g r h = let z : times g w.waking ≡ same g f + times g [] = ap (times g) y in grind (arith, same_is, read_put, phase-push)
-sound-wake_next false false true (u ∷ us) p w f y e q i g r h = let z : times g w.waking ≡ same g f + times g (u ∷ us) = ap (times g) y in grind (arith, same_is, read_put, phase-push)
-sound-wake_next false false false [] p w f y e q i g r h = let z : times g w.waking ≡ same g f + times g [] = ap (times g) y in let k0 : (task w f).completed ≡ false = grind (arith, nat_tests) in let k1 : (task w f).closed ≡ false = grind (arith, nat_tests) in let k2 : (task w f).scheduled ≡ false = grind (arith, nat_tests) in grind (arith, same_is, read_put, phase-push)
-sound-wake_next false false false (u ∷ us) p w f y e q i g r h = let z : times g w.waking ≡ same g f + times g (u ∷ us) = ap (times g) y in let k0 : (task w f).completed ≡ false = grind (arith, nat_tests) in let k1 : (task w f).closed ≡ false = grind (arith, nat_tests) in let k2 : (task w f).scheduled ≡ false = grind (arith, nat_tests) in grind (arith, same_is, read_put, phase-push)
+sound-wake_next o b c rest p w f y e q i g r h =
+    let left : World = record w { waking = rest } in
+    let d : Done = woken_by o b c p left f in
+    let t : times g w.waking ≡ same g f + times g rest = ap (times g) y in
+    let z : Sound left g (with_ops g (op.Wake f ∷ []) r) = grind arith in
+    subst (Sound d.world g) (sym (with_ops-closing g d.next rest r)) (sound-wake o b c p left f e q i g r z)
 
 sound-close : (w : World) → Keeps w (op.Close ∷ []) (close w)
 sound-close w g r h = grind arith
 
 sound-drain : (q : List ℕ) (p : ℕ) (w : World) → w.queue.items ≡ q → Keeps w (op.Drain ∷ []) (drain_by p w q)
-sound-drain [] p w e g r h = grind (arith, phase-push)
-sound-drain (f ∷ rest) p w e g r h = let z : same g f + times g (drop 1 w.queue.items) ≡ times g w.queue.items = times-drop g f rest w.queue.items e in grind (arith, same_is)
+sound-drain = by_list _
+    (λ p w e g r h. grind (arith, phase-push))
+    (λ f rest p w e g r h. let z : same g f + times g (drop 1 w.queue.items) ≡ times g w.queue.items = times-drop g f rest w.queue.items e in grind (arith, same_is))
 
 sound-end : (p : ℕ) (w : World) (a : Reply) (held : Hold) → Keeps w (op.End a held ∷ []) (done (log w (event.CallEnded p a)) [])
 sound-end p w a held g r h = grind (arith, phase-push)

@@ -29,6 +29,7 @@ use Rattle.executor_model.specs.Carried.{schedule_ops, future_ops, output_ops, a
 use Rattle.executor_model.specs.Acts.{append_by, take_by, enter_by, leave_by, copy_by, answered, polled, look_by, look_again_by, copy_awaiter_by, register_by, end_register_by, notify_by, end_notify, told, let_go, waker_goes, call_awaiter, closing_ops, drop_next_by, wake_next_by, drain_by, followed, wake, reply_of, is_output, act}
 use Rattle.executor_model.specs.Weights.{weigh}
 use Rattle.executor_model.specs.Good.{past, pasts, waker_past, awaiters_past, past_of, Fits}
+use Rattle.executor_model.proofs.Cases.{by_bool, by_list, by_waker}
 use Rattle.executor_model.proofs.Lists.{past_is, pasts-append, pasts-without, pasts-more, pasts-drop, wakers_past-more, wakers_past-push, awaiters_past-set, awaiters_past-push, awaiters_past-more, past_if, weigh-append}
 
 -- the world fits after it, so do the new things to do, and no future went
@@ -109,17 +110,21 @@ below : (n f : ℕ) → past n f ≡ 0 → f < n
 below n f e = grind (arith, past_is)
 
 grows-append : (b : Bool) (w : World) (f : ℕ) → Grows w (op.Append f ∷ []) (append_by b w f)
-grows-append true w f h k = grind (arith, pasts-append)
-grows-append false w f h k = grind arith
+grows-append = by_bool _
+    (λ w f h k. grind (arith, pasts-append))
+    (λ w f h k. grind arith)
 
 grows-take : (q : List ℕ) (w : World) → w.queue.items ≡ q → Grows w (op.Take ∷ []) (take_by w q)
-grows-take [] w e h k = grind arith
-grows-take (f ∷ rest) w e h k = let z : past (length w.tasks) f + pasts (length w.tasks) (drop 1 w.queue.items) ≡ pasts (length w.tasks) w.queue.items = pasts-drop (length w.tasks) f rest w.queue.items e in grind arith
+grows-take = by_list _
+    (λ w e h k. grind arith)
+    (λ f rest w e h k. let z : past (length w.tasks) f + pasts (length w.tasks) (drop 1 w.queue.items) ≡ pasts (length w.tasks) w.queue.items = pasts-drop (length w.tasks) f rest w.queue.items e in grind arith)
 
 grows-enter : (b c : Bool) (p : ℕ) (w : World) → Grows w (op.Enter ∷ []) (enter_by b c p w)
-grows-enter true c p w h k = grind arith
-grows-enter false true p w h k = grind arith
-grows-enter false false p w h k = grind (arith, pasts-append, pasts-more, wakers_past-more, awaiters_past-more, awaiters_past-push, past_is, length-append {A = State}, length-append {A = Bool}, length-append {A = Option Awaiter})
+grows-enter = by_bool _
+    (λ c p w h k. grind arith)
+    (by_bool _
+    (λ p w h k. grind arith)
+    (λ p w h k. grind (arith, pasts-append, pasts-more, wakers_past-more, awaiters_past-more, awaiters_past-push, past_is, length-append {A = State}, length-append {A = Bool}, length-append {A = Option Awaiter})))
 
 grows-inside : (w : World) (f : ℕ) (b : Bool) (old next : List Op) → weigh (past_of (length w.tasks)) next ≡ 0 → Fits w → Grown w (done (record w { inside = slice_set w.inside f b }) next)
 grows-inside w f b old next z h = record {
@@ -129,12 +134,14 @@ grows-inside w f b old next z h = record {
 }
 
 grows-leave : (b : Bool) (w : World) (f : ℕ) → Grows w (op.LeaveTable f ∷ []) (leave_by b w f)
-grows-leave true w f h k = grind (arith, pasts-without)
-grows-leave false w f h k = grind arith
+grows-leave = by_bool _
+    (λ w f h k. grind (arith, pasts-without))
+    (λ w f h k. grind arith)
 
 grows-copy : (b : Bool) (w : World) (f : ℕ) (held : Hold) → Grows w (op.CopyWaker f held ∷ []) (copy_by b w f held)
-grows-copy true w f held h k = grind arith
-grows-copy false w f held h k = grind (arith, length-set {A = State}, wakers_past-push)
+grows-copy = by_bool _
+    (λ w f held h k. grind arith)
+    (λ w f held h k. grind (arith, length-set {A = State}, wakers_past-push))
 
 grows-answered : (w v : World) (p f : ℕ) (m : Moved) (a : Answer) → length v.tasks ≡ length w.tasks → Fits v → past (length w.tasks) f ≡ 0 → Grown w (answered p v f m a)
 grows-answered w v p f m a l h z =
@@ -155,13 +162,16 @@ grows-again None p w f m h k = grind arith
 grows-again (Some a) p w f m h k = grows-answered w w p f m a refl h (omega (arith, k))
 
 grows-copy_awaiter : (b : Bool) (p : ℕ) (w : World) (f : ℕ) (x : Waker) → Grows w (op.CopyAwaiter f x ∷ []) (copy_awaiter_by b p w f x)
-grows-copy_awaiter true p w f x h k = grind arith
-grows-copy_awaiter false p w f (Task g) h k = grind (arith, length-set {A = State})
-grows-copy_awaiter false p w f (Outside x) h k = grind arith
+grows-copy_awaiter = by_bool _
+    (λ p w f x h k. grind arith)
+    (λ p w f. by_waker _
+    (λ g h k. grind (arith, length-set {A = State}))
+    (λ x h k. grind arith))
 
 grows-register : (b : Bool) (w : World) (f : ℕ) (x : Waker) (k : ℕ) → Grows w (op.Register f x k ∷ []) (register_by b w f x k)
-grows-register true w f x k h z = grind (arith, length-set {A = State})
-grows-register false w f x k h z = grind (arith, length-set {A = State})
+grows-register = by_bool _
+    (λ w f x k h z. grind (arith, length-set {A = State}))
+    (λ w f x k h z. grind (arith, length-set {A = State}))
 
 past_goes : (n : ℕ) (a : Waker) → weigh (past_of n) (waker_goes a) ≡ waker_past n a
 past_goes n (Task g) = omega arith
@@ -197,8 +207,9 @@ grows-end_register false w f x k h z =
     grows-awaiter w f _ some _ (omega (arith, i, h.awaiting)) h (omega (arith, z)) (λ y. omega (arith, y, z, weigh-append (past_of n) (let_go (awaiter_of w f)) (op.LookAgain f ∷ []), past_let_go n (awaiter_of w f)))
 
 grows-notify : (b m : Bool) (w : World) (f : ℕ) → Grows w (op.Notify f m ∷ []) (notify_by b w f m)
-grows-notify true m w f h k = grind (arith, length-set {A = State})
-grows-notify false m w f h k = grind (arith, length-set {A = State})
+grows-notify = by_bool _
+    (λ m w f h k. grind (arith, length-set {A = State}))
+    (λ m w f h k. grind (arith, length-set {A = State}))
 
 past_told : (n f : ℕ) (b : Bool) (a : Option Awaiter) → past n f ≡ 0 → past_if n a ≡ 0 → weigh (past_of n) (told b f a) ≡ 0
 past_told n f b None z e = refl
@@ -213,8 +224,9 @@ grows-end_notify c m w f h z =
     grows-awaiter w f _ none _ (omega (arith, i, h.awaiting)) h refl (λ y. past_told n f (m && c.same) (awaiter_of w f) (omega (arith, z)) y)
 
 grows-call : (p : ℕ) (w : World) (f : ℕ) (x : Waker) (k : ℕ) → Grows w (op.CallAwaiter f x k ∷ []) (call_awaiter p w f x k)
-grows-call p w f (Task g) k h z = let v = log w (event.WakerCalled p f k (Task g)) in let b = not (moves.is_over (task w g)) in grows-carried w (log_if b v (event.Woken p g)) g (moves.wake (task w g)) (same-log b v (event.Woken p g)) (fits-log b v (event.Woken p g) (fits-log true w (event.WakerCalled p f k (Task g)) h)) (omega (arith, z))
-grows-call p w f (Outside x) k h z = grind arith
+grows-call = λ p w f. by_waker _
+    (λ g k h z. let v = log w (event.WakerCalled p f k (Task g)) in let b = not (moves.is_over (task w g)) in grows-carried w (log_if b v (event.Woken p g)) g (moves.wake (task w g)) (same-log b v (event.Woken p g)) (fits-log b v (event.Woken p g) (fits-log true w (event.WakerCalled p f k (Task g)) h)) (omega (arith, z)))
+    (λ x k h z. grind arith)
 
 past_closing : (n : ℕ) (ls ws : List ℕ) → weigh (past_of n) (closing_ops ls ws) ≡ 0
 past_closing n (f ∷ fs) ws = refl
@@ -246,8 +258,9 @@ grows-wake_next p w (f ∷ rest) e h k =
     grows-followed w (wake p v f) [] rest (grows-carried w (log_if b v (event.Woken p f)) f (moves.wake (task w f)) (same-log b v (event.Woken p f)) (fits-log b v (event.Woken p f) fv) (omega (arith, z)))
 
 grows-drain : (q : List ℕ) (p : ℕ) (w : World) → w.queue.items ≡ q → Grows w (op.Drain ∷ []) (drain_by p w q)
-grows-drain [] p w e h k = grind arith
-grows-drain (f ∷ rest) p w e h k = let z : past (length w.tasks) f + pasts (length w.tasks) (drop 1 w.queue.items) ≡ pasts (length w.tasks) w.queue.items = pasts-drop (length w.tasks) f rest w.queue.items e in grind arith
+grows-drain = by_list _
+    (λ p w e h k. grind arith)
+    (λ f rest p w e h k. let z : past (length w.tasks) f + pasts (length w.tasks) (drop 1 w.queue.items) ≡ pasts (length w.tasks) w.queue.items = pasts-drop (length w.tasks) f rest w.queue.items e in grind arith)
 
 pub grows-same : (w : World) (os : List Op) → Grows w os (done w os)
 grows-same w os h k = grind arith

@@ -19,29 +19,35 @@ use Rattle.executor_model.specs.Carried.{carried}
 use Rattle.executor_model.specs.Acts.{append_by, take_by, enter_by, take_to_poll, leave_by, begin_drop, begin_drop_output, copy_by, polled, look_by, look_again_by, copy_awaiter_by, register_by, end_register_by, notify_by, call_awaiter, closing_ops, drop_next_by, wake_next_by, drain_by, act}
 use Rattle.executor_model.specs.Weights.{weigh}
 use Rattle.executor_model.specs.Good.{past, pasts, waker_past, past_of, IsKnownWaker}
+use Rattle.executor_model.proofs.Cases.{by_bool, by_list, by_waker}
 use Rattle.executor_model.proofs.Lists.{read_put, read_push, fresh_is, past_is, same_is}
 use Rattle.executor_model.proofs.Counting.{settling, readied, pended, ending, dropping, taken_up, woken, woken_by, cancel_going, cancel_idle, cancel_over, detached, stays_so, gives, waits_on, end_registered, end_notified, next_woken}
 use Rattle.executor_model.proofs.Keeping.{readies-push, spent-push, Owing, with_owing, Stored, KeepsStored}
 
 stored-append : (b : Bool) (w : World) (f : ℕ) → KeepsStored w (op.Append f ∷ []) (append_by b w f)
-stored-append true w f g r bb h = grind (arith, same_is)
-stored-append false w f g r bb h = grind (arith, same_is)
+stored-append = by_bool _
+    (λ w f g r bb h. grind (arith, same_is))
+    (λ w f g r bb h. grind (arith, same_is))
 
 stored-take : (q : List ℕ) (w : World) → KeepsStored w (op.Take ∷ []) (take_by w q)
-stored-take [] w g r bb h = grind arith
-stored-take (f ∷ rest) w g r bb h = grind (arith, same_is)
+stored-take = by_list _
+    (λ w g r bb h. grind arith)
+    (λ f rest w g r bb h. grind (arith, same_is))
 
 stored-enter : (b c : Bool) (p : ℕ) (w : World) → KeepsStored w (op.Enter ∷ []) (enter_by b c p w)
-stored-enter true c p w g r bb h = grind arith
-stored-enter false true p w g r bb h = grind arith
-stored-enter false false p w g r bb h = grind (arith, same_is, fresh_is, read_push, length-append, readies-push, spent-push)
+stored-enter = by_bool _
+    (λ c p w g r bb h. grind arith)
+    (by_bool _
+    (λ p w g r bb h. grind arith)
+    (λ p w g r bb h. grind (arith, same_is, fresh_is, read_push, length-append, readies-push, spent-push)))
 
 stored-take_to_poll : (w : World) (f : ℕ) → KeepsStored w (op.TakeToPoll f ∷ []) (take_to_poll w f)
 stored-take_to_poll w f g r bb h = grind (arith, same_is)
 
 stored-leave : (b : Bool) (w : World) (f : ℕ) → KeepsStored w (op.LeaveTable f ∷ []) (leave_by b w f)
-stored-leave true w f g r bb h = grind arith
-stored-leave false w f g r bb h = grind arith
+stored-leave = by_bool _
+    (λ w f g r bb h. grind arith)
+    (λ w f g r bb h. grind arith)
 
 stored-begin_drop : (p : ℕ) (w : World) (f : ℕ) → KeepsStored w (op.BeginDrop f ∷ []) (begin_drop p w f)
 stored-begin_drop p w f g r bb h = grind (arith, readies-push, spent-push)
@@ -52,87 +58,120 @@ stored-begin_drop_output p w f g r bb h = grind (arith, readies-push, spent-push
 -- the moves of a task, by what they find
 
 stored-release : (b c : Bool) (w : World) (f : ℕ) → moves.is_last (task w f) ≡ b → f < length w.tasks → KeepsStored w (op.Release f ∷ []) (carried w f (moves.release_by b c (task w f)))
-stored-release false c w f e i g r bb h = grind (arith, same_is, read_put, length-set)
-stored-release true true w f e i g r bb h = grind (arith, same_is, read_put, length-set)
-stored-release true false w f e i g r bb h = let z : (task w f).handle ≡ false = grind (arith, nat_tests) in grind (arith, same_is, read_put, length-set)
+stored-release = by_bool _
+    (by_bool _
+    (λ w f e i g r bb h. grind (arith, same_is, read_put, length-set))
+    (λ w f e i g r bb h. let z : (task w f).handle ≡ false = grind (arith, nat_tests) in grind (arith, same_is, read_put, length-set)))
+    (λ c w f e i g r bb h. grind (arith, same_is, read_put, length-set))
 
 stored-settle_closed : (a : Bool) (w : World) (f : ℕ) → f < length w.tasks → KeepsStored w (op.SettleClosed f ∷ []) (settling a w f)
-stored-settle_closed true w f i g r bb h = grind (arith, same_is, read_put, length-set)
-stored-settle_closed false w f i g r bb h = grind (arith, same_is, read_put, length-set)
+stored-settle_closed = by_bool _
+    (λ w f i g r bb h. grind (arith, same_is, read_put, length-set))
+    (λ w f i g r bb h. grind (arith, same_is, read_put, length-set))
 
 stored-give_up : (b : Bool) (w : World) (f : ℕ) → f < length w.tasks → KeepsStored w (op.GiveUp f ∷ []) (carried w f (moves.give_up_by b (task w f)))
-stored-give_up false w f i g r bb h = grind (arith, same_is, read_put, length-set)
-stored-give_up true w f i g r bb h = grind (arith, same_is, read_put, length-set)
+stored-give_up = by_bool _
+    (λ w f i g r bb h. grind (arith, same_is, read_put, length-set))
+    (λ w f i g r bb h. grind (arith, same_is, read_put, length-set))
 
 -- by whether the output is unwanted, and whether there is an awaiter
 
 stored-end_ready : (u a : Bool) (w : World) (f : ℕ) → ((task w f).closed || not (task w f).handle) ≡ u → (task w f).awaiter ≡ a → f < length w.tasks → KeepsStored w (op.EndReady f ∷ []) (readied u a w f)
-stored-end_ready true true w f e q i g r bb h = let z : ((task w f).closed ≡ true) ⊎ ((task w f).handle ≡ false) = grind (arith, nat_tests) in grind (arith, same_is, read_put, length-set)
-stored-end_ready true false w f e q i g r bb h = let z : ((task w f).closed ≡ true) ⊎ ((task w f).handle ≡ false) = grind (arith, nat_tests) in grind (arith, same_is, read_put, length-set)
-stored-end_ready false true w f e q i g r bb h = grind (arith, same_is, read_put, length-set)
-stored-end_ready false false w f e q i g r bb h = grind (arith, same_is, read_put, length-set)
+stored-end_ready = by_bool _
+    (by_bool _
+    (λ w f e q i g r bb h. let z : ((task w f).closed ≡ true) ⊎ ((task w f).handle ≡ false) = grind (arith, nat_tests) in grind (arith, same_is, read_put, length-set))
+    (λ w f e q i g r bb h. let z : ((task w f).closed ≡ true) ⊎ ((task w f).handle ≡ false) = grind (arith, nat_tests) in grind (arith, same_is, read_put, length-set)))
+    (by_bool _
+    (λ w f e q i g r bb h. grind (arith, same_is, read_put, length-set))
+    (λ w f e q i g r bb h. grind (arith, same_is, read_put, length-set)))
 
 -- by whether it is closed, scheduled, its reference the last, and its entry in the table
 
 stored-end_pending : (x s l there : Bool) (w : World) (f : ℕ) → moves.is_last (task w f) ≡ l → f < length w.tasks → KeepsStored w (op.EndPending f ∷ []) (pended x s l there w f)
-stored-end_pending true s l true w f e i g r bb h = grind (arith, same_is, read_put, length-set)
-stored-end_pending true s l false w f e i g r bb h = grind (arith, same_is, read_put, length-set)
-stored-end_pending false true l there w f e i g r bb h = grind (arith, same_is, read_put, length-set)
-stored-end_pending false false true true w f e i g r bb h = let z : (task w f).handle ≡ false = grind (arith, nat_tests) in grind (arith, same_is, read_put, length-set)
-stored-end_pending false false true false w f e i g r bb h = let z : (task w f).handle ≡ false = grind (arith, nat_tests) in grind (arith, same_is, read_put, length-set)
-stored-end_pending false false false there w f e i g r bb h = grind (arith, same_is, read_put, length-set)
+stored-end_pending = by_bool _
+    (λ s l. by_bool _
+    (λ w f e i g r bb h. grind (arith, same_is, read_put, length-set))
+    (λ w f e i g r bb h. grind (arith, same_is, read_put, length-set)))
+    (by_bool _
+    (λ l there w f e i g r bb h. grind (arith, same_is, read_put, length-set))
+    (by_bool _
+    (by_bool _
+    (λ w f e i g r bb h. let z : (task w f).handle ≡ false = grind (arith, nat_tests) in grind (arith, same_is, read_put, length-set))
+    (λ w f e i g r bb h. let z : (task w f).handle ≡ false = grind (arith, nat_tests) in grind (arith, same_is, read_put, length-set)))
+    (λ there w f e i g r bb h. grind (arith, same_is, read_put, length-set))))
 
 stored-end_closed : (a : Bool) (w : World) (f : ℕ) → f < length w.tasks → KeepsStored w (op.EndClosed f ∷ []) (ending a w f)
-stored-end_closed true w f i g r bb h = grind (arith, same_is, read_put, length-set)
-stored-end_closed false w f i g r bb h = grind (arith, same_is, read_put, length-set)
+stored-end_closed = by_bool _
+    (λ w f i g r bb h. grind (arith, same_is, read_put, length-set))
+    (λ w f i g r bb h. grind (arith, same_is, read_put, length-set))
 
 -- there is one Runnable, so it isn't polled and wasn't ready
 stored-drop_runnable : (c there : Bool) (w : World) (f : ℕ) → f < length w.tasks → KeepsStored w (op.DropRunnable f ∷ []) (dropping c there w f)
-stored-drop_runnable c true w f i g r bb h = grind (arith, same_is, read_put, length-set)
-stored-drop_runnable c false w f i g r bb h = grind (arith, same_is, read_put, length-set)
+stored-drop_runnable = λ c. by_bool _
+    (λ w f i g r bb h. grind (arith, same_is, read_put, length-set))
+    (λ w f i g r bb h. grind (arith, same_is, read_put, length-set))
 
 -- by whether it is closed, and its entry in the table
 
 stored-take_up : (b there : Bool) (p : ℕ) (w : World) (f : ℕ) → (task w f).closed ≡ b → f < length w.tasks → KeepsStored w (op.TakeUp f ∷ []) (taken_up b there p w f)
-stored-take_up true true p w f e i g r bb h = grind (arith, same_is, read_put, length-set)
-stored-take_up true false p w f e i g r bb h = grind (arith, same_is, read_put, length-set)
-stored-take_up false there p w f e i g r bb h = grind (arith, same_is, read_put, length-set, readies-push, spent-push)
+stored-take_up = by_bool _
+    (by_bool _
+    (λ p w f e i g r bb h. grind (arith, same_is, read_put, length-set))
+    (λ p w f e i g r bb h. grind (arith, same_is, read_put, length-set)))
+    (λ there p w f e i g r bb h. grind (arith, same_is, read_put, length-set, readies-push, spent-push))
 
 -- by whether it is over, over or scheduled, and running
 
 stored-wake_by_reference : (o b c : Bool) (p : ℕ) (w : World) (f : ℕ) → f < length w.tasks → KeepsStored w (op.WakeByReference f ∷ []) (woken o b c p w f)
-stored-wake_by_reference true true c p w f i g r bb h = grind (arith, same_is, read_put, length-set, readies-push, spent-push)
-stored-wake_by_reference true false true p w f i g r bb h = grind (arith, same_is, read_put, length-set, readies-push, spent-push)
-stored-wake_by_reference true false false p w f i g r bb h = grind (arith, same_is, read_put, length-set, readies-push, spent-push)
-stored-wake_by_reference false true c p w f i g r bb h = grind (arith, same_is, read_put, length-set, readies-push, spent-push)
-stored-wake_by_reference false false true p w f i g r bb h = grind (arith, same_is, read_put, length-set, readies-push, spent-push)
-stored-wake_by_reference false false false p w f i g r bb h = grind (arith, same_is, read_put, length-set, readies-push, spent-push)
+stored-wake_by_reference = by_bool _
+    (by_bool _
+    (λ c p w f i g r bb h. grind (arith, same_is, read_put, length-set, readies-push, spent-push))
+    (by_bool _
+    (λ p w f i g r bb h. grind (arith, same_is, read_put, length-set, readies-push, spent-push))
+    (λ p w f i g r bb h. grind (arith, same_is, read_put, length-set, readies-push, spent-push))))
+    (by_bool _
+    (λ c p w f i g r bb h. grind (arith, same_is, read_put, length-set, readies-push, spent-push))
+    (by_bool _
+    (λ p w f i g r bb h. grind (arith, same_is, read_put, length-set, readies-push, spent-push))
+    (λ p w f i g r bb h. grind (arith, same_is, read_put, length-set, readies-push, spent-push))))
 
 stored-wake : (o b c : Bool) (p : ℕ) (w : World) (f : ℕ) → f < length w.tasks → KeepsStored w (op.Wake f ∷ []) (woken_by o b c p w f)
-stored-wake true true c p w f i g r bb h = grind (arith, same_is, read_put, length-set, readies-push, spent-push)
-stored-wake true false true p w f i g r bb h = grind (arith, same_is, read_put, length-set, readies-push, spent-push)
-stored-wake true false false p w f i g r bb h = grind (arith, same_is, read_put, length-set, readies-push, spent-push)
-stored-wake false true c p w f i g r bb h = grind (arith, same_is, read_put, length-set, readies-push, spent-push)
-stored-wake false false true p w f i g r bb h = grind (arith, same_is, read_put, length-set, readies-push, spent-push)
-stored-wake false false false p w f i g r bb h = grind (arith, same_is, read_put, length-set, readies-push, spent-push)
+stored-wake = by_bool _
+    (by_bool _
+    (λ c p w f i g r bb h. grind (arith, same_is, read_put, length-set, readies-push, spent-push))
+    (by_bool _
+    (λ p w f i g r bb h. grind (arith, same_is, read_put, length-set, readies-push, spent-push))
+    (λ p w f i g r bb h. grind (arith, same_is, read_put, length-set, readies-push, spent-push))))
+    (by_bool _
+    (λ c p w f i g r bb h. grind (arith, same_is, read_put, length-set, readies-push, spent-push))
+    (by_bool _
+    (λ p w f i g r bb h. grind (arith, same_is, read_put, length-set, readies-push, spent-push))
+    (λ p w f i g r bb h. grind (arith, same_is, read_put, length-set, readies-push, spent-push))))
 
 stored-call_task : (o b c : Bool) (p e : ℕ) (k : ℕ) (w : World) (f : ℕ) → f < length w.tasks → KeepsStored w (op.CallAwaiter e (Task f) k ∷ []) (woken_by o b c p (log w (event.WakerCalled p e k (Task f))) f)
-stored-call_task true true c p e k w f i g r bb h = grind (arith, same_is, read_put, length-set, readies-push, spent-push)
-stored-call_task true false true p e k w f i g r bb h = grind (arith, same_is, read_put, length-set, readies-push, spent-push)
-stored-call_task true false false p e k w f i g r bb h = grind (arith, same_is, read_put, length-set, readies-push, spent-push)
-stored-call_task false true c p e k w f i g r bb h = grind (arith, same_is, read_put, length-set, readies-push, spent-push)
-stored-call_task false false true p e k w f i g r bb h = grind (arith, same_is, read_put, length-set, readies-push, spent-push)
-stored-call_task false false false p e k w f i g r bb h = grind (arith, same_is, read_put, length-set, readies-push, spent-push)
+stored-call_task = by_bool _
+    (by_bool _
+    (λ c p e k w f i g r bb h. grind (arith, same_is, read_put, length-set, readies-push, spent-push))
+    (by_bool _
+    (λ p e k w f i g r bb h. grind (arith, same_is, read_put, length-set, readies-push, spent-push))
+    (λ p e k w f i g r bb h. grind (arith, same_is, read_put, length-set, readies-push, spent-push))))
+    (by_bool _
+    (λ c p e k w f i g r bb h. grind (arith, same_is, read_put, length-set, readies-push, spent-push))
+    (by_bool _
+    (λ p e k w f i g r bb h. grind (arith, same_is, read_put, length-set, readies-push, spent-push))
+    (λ p e k w f i g r bb h. grind (arith, same_is, read_put, length-set, readies-push, spent-push))))
 
 -- by whether there is an awaiter
 
 stored-cancel_going : (a : Bool) (p : ℕ) (w : World) (f : ℕ) → f < length w.tasks → KeepsStored w (op.Cancel f ∷ []) (cancel_going true a p w f)
-stored-cancel_going true p w f i g r bb h = grind (arith, same_is, read_put, length-set, readies-push, spent-push)
-stored-cancel_going false p w f i g r bb h = grind (arith, same_is, read_put, length-set, readies-push, spent-push)
+stored-cancel_going = by_bool _
+    (λ p w f i g r bb h. grind (arith, same_is, read_put, length-set, readies-push, spent-push))
+    (λ p w f i g r bb h. grind (arith, same_is, read_put, length-set, readies-push, spent-push))
 
 stored-cancel_idle : (a : Bool) (p : ℕ) (w : World) (f : ℕ) → f < length w.tasks → KeepsStored w (op.Cancel f ∷ []) (cancel_idle true a p w f)
-stored-cancel_idle true p w f i g r bb h = grind (arith, same_is, read_put, length-set, readies-push, spent-push)
-stored-cancel_idle false p w f i g r bb h = grind (arith, same_is, read_put, length-set, readies-push, spent-push)
+stored-cancel_idle = by_bool _
+    (λ p w f i g r bb h. grind (arith, same_is, read_put, length-set, readies-push, spent-push))
+    (λ p w f i g r bb h. grind (arith, same_is, read_put, length-set, readies-push, spent-push))
 
 stored-cancel_over : (p : ℕ) (w : World) (f : ℕ) → f < length w.tasks → KeepsStored w (op.Cancel f ∷ []) (cancel_over false p w f)
 stored-cancel_over p w f i g r bb h = grind (arith, same_is, read_put, length-set)
@@ -145,25 +184,32 @@ stored-cancel false false p w f i = stored-cancel_idle _ p w f i
 -- who detaches has taken the handle
 
 stored-detach : (o x y : Bool) (p : ℕ) (w : World) (f : ℕ) → f < length w.tasks → KeepsStored w (op.Detach f ∷ []) (detached o x y p w f)
-stored-detach true true y p w f i g r bb h = grind (arith, same_is, read_put, length-set, readies-push, spent-push)
-stored-detach false true y p w f i g r bb h = grind (arith, same_is, read_put, length-set, readies-push, spent-push)
-stored-detach true false true p w f i g r bb h = grind (arith, same_is, read_put, length-set, readies-push, spent-push)
-stored-detach false false true p w f i g r bb h = grind (arith, same_is, read_put, length-set, readies-push, spent-push)
-stored-detach true false false p w f i g r bb h = grind (arith, same_is, read_put, length-set, readies-push, spent-push)
-stored-detach false false false p w f i g r bb h = grind (arith, same_is, read_put, length-set, readies-push, spent-push)
+stored-detach = by_bool _
+    (by_bool _
+    (λ y p w f i g r bb h. grind (arith, same_is, read_put, length-set, readies-push, spent-push))
+    (by_bool _
+    (λ p w f i g r bb h. grind (arith, same_is, read_put, length-set, readies-push, spent-push))
+    (λ p w f i g r bb h. grind (arith, same_is, read_put, length-set, readies-push, spent-push))))
+    (by_bool _
+    (λ y p w f i g r bb h. grind (arith, same_is, read_put, length-set, readies-push, spent-push))
+    (by_bool _
+    (λ p w f i g r bb h. grind (arith, same_is, read_put, length-set, readies-push, spent-push))
+    (λ p w f i g r bb h. grind (arith, same_is, read_put, length-set, readies-push, spent-push))))
 
 -- wakers and polls of a handle
 
 stored-copy : (b : Bool) (w : World) (f : ℕ) (held : Hold) → f < length w.tasks → KeepsStored w (op.CopyWaker f held ∷ []) (copy_by b w f held)
-stored-copy true w f held i g r bb h = grind arith
-stored-copy false w f held i g r bb h = grind (arith, same_is, read_put, length-set)
+stored-copy = by_bool _
+    (λ w f held i g r bb h. grind arith)
+    (λ w f held i g r bb h. grind (arith, same_is, read_put, length-set))
 
 stored-look_closed : (p : ℕ) (w : World) (f : ℕ) (a : Waker) → f < length w.tasks → KeepsStored w (op.Look f a ∷ []) (stays_so p w (polled p w f) f)
 stored-look_closed p w f a i g r bb h = grind (arith, same_is, read_put, length-set, readies-push, spent-push)
 
 stored-look_given : (b : Bool) (p : ℕ) (w : World) (f : ℕ) (a : Waker) → f < length w.tasks → KeepsStored w (op.Look f a ∷ []) (gives b p w (polled p w f) f)
-stored-look_given true p w f a i g r bb h = grind (arith, same_is, read_put, length-set, readies-push, spent-push)
-stored-look_given false p w f a i g r bb h = grind (arith, same_is, read_put, length-set, readies-push, spent-push)
+stored-look_given = by_bool _
+    (λ p w f a i g r bb h. grind (arith, same_is, read_put, length-set, readies-push, spent-push))
+    (λ p w f a i g r bb h. grind (arith, same_is, read_put, length-set, readies-push, spent-push))
 
 stored-look : (x k c : Bool) (p : ℕ) (w : World) (f : ℕ) (a : Waker) → f < length w.tasks → KeepsStored w (op.Look f a ∷ []) (look_by (moves.poll_by x k c (task w f)).owed.answer p w f a (moves.poll_by x k c (task w f)))
 stored-look true true c p w f a i = λ g r bb h. h
@@ -183,8 +229,9 @@ stored-again_closed : (p : ℕ) (w : World) (f : ℕ) → f < length w.tasks →
 stored-again_closed p w f i g r bb h = grind (arith, same_is, read_put, length-set, readies-push, spent-push)
 
 stored-again_given : (b : Bool) (p : ℕ) (w : World) (f : ℕ) → (task w f).awaiter ≡ b → f < length w.tasks → KeepsStored w (op.LookAgain f ∷ []) (gives b p w w f)
-stored-again_given true p w f e i g r bb h = grind (arith, same_is, read_put, length-set, readies-push, spent-push)
-stored-again_given false p w f e i g r bb h = grind (arith, same_is, read_put, length-set, readies-push, spent-push)
+stored-again_given = by_bool _
+    (λ p w f e i g r bb h. grind (arith, same_is, read_put, length-set, readies-push, spent-push))
+    (λ p w f e i g r bb h. grind (arith, same_is, read_put, length-set, readies-push, spent-push))
 
 stored-again : (x k c : Bool) (p : ℕ) (w : World) (f : ℕ) → moves.is_going (task w f) ≡ k → (task w f).completed ≡ c → f < length w.tasks → KeepsStored w (op.LookAgain f ∷ []) (look_again_by (moves.look_again_by x k c (task w f)).owed.answer p w f (moves.look_again_by x k c (task w f)))
 stored-again true true c p w f q e i = stored-again_going p w f q i
@@ -193,25 +240,32 @@ stored-again false k false p w f q e i = stored-again_waits p w f e i
 stored-again false k true p w f q e i = stored-again_given _ p w f refl i
 
 stored-copy_awaiter : (b : Bool) (p : ℕ) (w : World) (f : ℕ) (a : Waker) → IsKnownWaker w a → KeepsStored w (op.CopyAwaiter f a ∷ []) (copy_awaiter_by b p w f a)
-stored-copy_awaiter true p w f a e g r bb h = grind arith
-stored-copy_awaiter false p w f (Task k) e g r bb h = let z : k < length w.tasks = e in grind (arith, same_is, read_put, length-set, readies-push, spent-push)
-stored-copy_awaiter false p w f (Outside x) e g r bb h = grind (arith, readies-push, spent-push)
+stored-copy_awaiter = by_bool _
+    (λ p w f a e g r bb h. grind arith)
+    (λ p w f. by_waker _
+    (λ k e g r bb h. let z : k < length w.tasks = e in grind (arith, same_is, read_put, length-set, readies-push, spent-push))
+    (λ x e g r bb h. grind (arith, readies-push, spent-push)))
 
 stored-register : (b : Bool) (w : World) (f : ℕ) (a : Waker) (k : ℕ) → f < length w.tasks → KeepsStored w (op.Register f a k ∷ []) (register_by b w f a k)
-stored-register true w f a k i g r bb h = grind (arith, same_is, read_put, length-set)
-stored-register false w f a k i g r bb h = grind (arith, same_is, read_put, length-set)
+stored-register = by_bool _
+    (λ w f a k i g r bb h. grind (arith, same_is, read_put, length-set))
+    (λ w f a k i g r bb h. grind (arith, same_is, read_put, length-set))
 
 -- by whether somebody wanted to notify meanwhile, and the old awaiter
 
 stored-end_register-none : (b : Bool) (w : World) (f : ℕ) (a : Waker) (k : ℕ) → (task w f).notifying ≡ b → f < length w.tasks → KeepsStored w (op.EndRegister f a k ∷ []) (end_registered b None w f a k)
-stored-end_register-none true w f a k e i g r bb h = grind (arith, same_is, read_put, length-set)
-stored-end_register-none false w f a k e i g r bb h = grind (arith, same_is, read_put, length-set)
+stored-end_register-none = by_bool _
+    (λ w f a k e i g r bb h. grind (arith, same_is, read_put, length-set))
+    (λ w f a k e i g r bb h. grind (arith, same_is, read_put, length-set))
 
 stored-end_register-some : (b : Bool) (x : Waker) (m : ℕ) (w : World) (f : ℕ) (a : Waker) (k : ℕ) → (task w f).notifying ≡ b → f < length w.tasks → KeepsStored w (op.EndRegister f a k ∷ []) (end_registered b (Some (record { waker = x; poll = m })) w f a k)
-stored-end_register-some true (Task q) m w f a k e i g r bb h = grind (arith, same_is, read_put, length-set)
-stored-end_register-some true (Outside q) m w f a k e i g r bb h = grind (arith, same_is, read_put, length-set)
-stored-end_register-some false (Task q) m w f a k e i g r bb h = grind (arith, same_is, read_put, length-set)
-stored-end_register-some false (Outside q) m w f a k e i g r bb h = grind (arith, same_is, read_put, length-set)
+stored-end_register-some = by_bool _
+    (by_waker _
+    (λ q m w f a k e i g r bb h. grind (arith, same_is, read_put, length-set))
+    (λ q m w f a k e i g r bb h. grind (arith, same_is, read_put, length-set)))
+    (by_waker _
+    (λ q m w f a k e i g r bb h. grind (arith, same_is, read_put, length-set))
+    (λ q m w f a k e i g r bb h. grind (arith, same_is, read_put, length-set)))
 
 stored-end_register : (b : Bool) (old : Option Awaiter) (w : World) (f : ℕ) (a : Waker) (k : ℕ) → (task w f).notifying ≡ b → f < length w.tasks → KeepsStored w (op.EndRegister f a k ∷ []) (end_registered b old w f a k)
 stored-end_register b None w f a k e i = stored-end_register-none b w f a k e i
@@ -222,16 +276,19 @@ stored-end_register_by true w f a k e i = stored-end_register true _ w f a k e i
 stored-end_register_by false w f a k e i = stored-end_register false _ w f a k e i
 
 stored-notify : (b m : Bool) (w : World) (f : ℕ) → ((task w f).notifying || (task w f).registering) ≡ b → f < length w.tasks → KeepsStored w (op.Notify f m ∷ []) (notify_by b w f m)
-stored-notify true m w f e i g r bb h = let z : ((task w f).notifying ≡ true) ⊎ ((task w f).registering ≡ true) = grind (arith, nat_tests) in grind (arith, same_is, read_put, length-set)
-stored-notify false m w f e i g r bb h = grind (arith, same_is, read_put, length-set)
+stored-notify = by_bool _
+    (λ m w f e i g r bb h. let z : ((task w f).notifying ≡ true) ⊎ ((task w f).registering ≡ true) = grind (arith, nat_tests) in grind (arith, same_is, read_put, length-set))
+    (λ m w f e i g r bb h. grind (arith, same_is, read_put, length-set))
 
 stored-end_notify-none : (b mine : Bool) (w : World) (f : ℕ) → f < length w.tasks → KeepsStored w (op.EndNotify f mine ∷ []) (end_notified b None w f)
 stored-end_notify-none b mine w f i g r bb h = grind (arith, same_is, read_put, length-set)
 
 stored-end_notify-some : (b : Bool) (x : Waker) (m : ℕ) (mine : Bool) (w : World) (f : ℕ) → f < length w.tasks → KeepsStored w (op.EndNotify f mine ∷ []) (end_notified b (Some (record { waker = x; poll = m })) w f)
-stored-end_notify-some true (Task q) m mine w f i g r bb h = grind (arith, same_is, read_put, length-set)
-stored-end_notify-some true (Outside q) m mine w f i g r bb h = grind (arith, same_is, read_put, length-set)
-stored-end_notify-some false x m mine w f i g r bb h = grind (arith, same_is, read_put, length-set)
+stored-end_notify-some = by_bool _
+    (by_waker _
+    (λ q m mine w f i g r bb h. grind (arith, same_is, read_put, length-set))
+    (λ q m mine w f i g r bb h. grind (arith, same_is, read_put, length-set)))
+    (λ x m mine w f i g r bb h. grind (arith, same_is, read_put, length-set))
 
 stored-end_notify : (b : Bool) (old : Option Awaiter) (mine : Bool) (w : World) (f : ℕ) → f < length w.tasks → KeepsStored w (op.EndNotify f mine ∷ []) (end_notified b old w f)
 stored-end_notify b None mine w f i = stored-end_notify-none b mine w f i
@@ -243,40 +300,58 @@ stored-call_outside p w f x k g r bb h = grind (arith, readies-push, spent-push)
 -- the drop of the executor
 
 stored-take_out : (ls ws : List ℕ) (w : World) → KeepsStored w (op.TakeOut ∷ []) (done (record w { table = w.leaving; leaving = w.table }) (closing_ops ls ws))
-stored-take_out [] [] w g r bb h = grind arith
-stored-take_out [] (x ∷ ws) w g r bb h = grind arith
-stored-take_out (x ∷ ls) ws w g r bb h = grind arith
+stored-take_out = by_list _
+    (by_list _
+    (λ w g r bb h. grind arith)
+    (λ x ws w g r bb h. grind arith))
+    (λ x ls ws w g r bb h. grind arith)
 
 stored-drop_next : (rest ws : List ℕ) (p : ℕ) (w : World) (f : ℕ) → KeepsStored w (op.DropNext ∷ []) (done (log (record w { leaving = rest; waking = w.waking ++ f ∷ []; inside = slice_set w.inside f false }) (event.Dropped p f)) (op.Drop f ∷ closing_ops rest ws))
-stored-drop_next [] [] p w f g r bb h = grind (arith, readies-push, spent-push)
-stored-drop_next [] (y ∷ ws) p w f g r bb h = grind (arith, readies-push, spent-push)
-stored-drop_next (y ∷ ls) ws p w f g r bb h = grind (arith, readies-push, spent-push)
+stored-drop_next = by_list _
+    (by_list _
+    (λ p w f g r bb h. grind (arith, readies-push, spent-push))
+    (λ y ws p w f g r bb h. grind (arith, readies-push, spent-push)))
+    (λ y ls ws p w f g r bb h. grind (arith, readies-push, spent-push))
 
 stored-drop_first : (p : ℕ) (w : World) (q : List ℕ) → KeepsStored w (op.DropNext ∷ []) (drop_next_by p w q)
-stored-drop_first p w [] = λ g r bb h. grind arith
-stored-drop_first p w (f ∷ rest) = stored-drop_next rest (w.waking ++ f ∷ []) p w f
+stored-drop_first = λ p w. by_list _
+    (λ g r bb h. grind arith)
+    (λ f rest. stored-drop_next rest (w.waking ++ f ∷ []) p w f)
 
 stored-wake_next : (o b c : Bool) (rest : List ℕ) (p : ℕ) (w : World) (f : ℕ) → f < length w.tasks → KeepsStored w (op.WakeNext ∷ []) (next_woken o b c rest p w f)
-stored-wake_next true true c [] p w f i g r bb h = grind (arith, same_is, read_put, length-set, readies-push, spent-push)
-stored-wake_next true true c (u ∷ us) p w f i g r bb h = grind (arith, same_is, read_put, length-set, readies-push, spent-push)
-stored-wake_next true false true [] p w f i g r bb h = grind (arith, same_is, read_put, length-set, readies-push, spent-push)
-stored-wake_next true false true (u ∷ us) p w f i g r bb h = grind (arith, same_is, read_put, length-set, readies-push, spent-push)
-stored-wake_next true false false [] p w f i g r bb h = grind (arith, same_is, read_put, length-set, readies-push, spent-push)
-stored-wake_next true false false (u ∷ us) p w f i g r bb h = grind (arith, same_is, read_put, length-set, readies-push, spent-push)
-stored-wake_next false true c [] p w f i g r bb h = grind (arith, same_is, read_put, length-set, readies-push, spent-push)
-stored-wake_next false true c (u ∷ us) p w f i g r bb h = grind (arith, same_is, read_put, length-set, readies-push, spent-push)
-stored-wake_next false false true [] p w f i g r bb h = grind (arith, same_is, read_put, length-set, readies-push, spent-push)
-stored-wake_next false false true (u ∷ us) p w f i g r bb h = grind (arith, same_is, read_put, length-set, readies-push, spent-push)
-stored-wake_next false false false [] p w f i g r bb h = grind (arith, same_is, read_put, length-set, readies-push, spent-push)
-stored-wake_next false false false (u ∷ us) p w f i g r bb h = grind (arith, same_is, read_put, length-set, readies-push, spent-push)
+stored-wake_next = by_bool _
+    (by_bool _
+    (λ c. by_list _
+    (λ p w f i g r bb h. grind (arith, same_is, read_put, length-set, readies-push, spent-push))
+    (λ u us p w f i g r bb h. grind (arith, same_is, read_put, length-set, readies-push, spent-push)))
+    (by_bool _
+    (by_list _
+    (λ p w f i g r bb h. grind (arith, same_is, read_put, length-set, readies-push, spent-push))
+    (λ u us p w f i g r bb h. grind (arith, same_is, read_put, length-set, readies-push, spent-push)))
+    (by_list _
+    (λ p w f i g r bb h. grind (arith, same_is, read_put, length-set, readies-push, spent-push))
+    (λ u us p w f i g r bb h. grind (arith, same_is, read_put, length-set, readies-push, spent-push)))))
+    (by_bool _
+    (λ c. by_list _
+    (λ p w f i g r bb h. grind (arith, same_is, read_put, length-set, readies-push, spent-push))
+    (λ u us p w f i g r bb h. grind (arith, same_is, read_put, length-set, readies-push, spent-push)))
+    (by_bool _
+    (by_list _
+    (λ p w f i g r bb h. grind (arith, same_is, read_put, length-set, readies-push, spent-push))
+    (λ u us p w f i g r bb h. grind (arith, same_is, read_put, length-set, readies-push, spent-push)))
+    (by_list _
+    (λ p w f i g r bb h. grind (arith, same_is, read_put, length-set, readies-push, spent-push))
+    (λ u us p w f i g r bb h. grind (arith, same_is, read_put, length-set, readies-push, spent-push)))))
 
 stored-wake_first : (p : ℕ) (w : World) (q : List ℕ) → ((f : ℕ) (rest : List ℕ) → q ≡ f ∷ rest → f < length w.tasks) → KeepsStored w (op.WakeNext ∷ []) (wake_next_by p w q)
-stored-wake_first p w [] i = λ g r bb h. grind arith
-stored-wake_first p w (f ∷ rest) i = stored-wake_next (moves.is_over (task w f)) _ _ rest p w f (i f rest refl)
+stored-wake_first = λ p w. by_list _
+    (λ i. λ g r bb h. grind arith)
+    (λ f rest i. stored-wake_next (moves.is_over (task w f)) _ _ rest p w f (i f rest refl))
 
 stored-drain : (q : List ℕ) (p : ℕ) (w : World) → KeepsStored w (op.Drain ∷ []) (drain_by p w q)
-stored-drain [] p w g r bb h = grind (arith, readies-push, spent-push)
-stored-drain (f ∷ rest) p w g r bb h = grind (arith, same_is)
+stored-drain = by_list _
+    (λ p w g r bb h. grind (arith, readies-push, spent-push))
+    (λ f rest p w g r bb h. grind (arith, same_is))
 
 pub stored-end : (p : ℕ) (w : World) (a : Reply) (held : Hold) (g : ℕ) (r : Owing) → Stored w g (with_owing g (op.End a held ∷ []) r) → Stored (log w (event.CallEnded p a)) g (with_owing g [] r)
 stored-end p w a held g r h = grind (arith, readies-push, spent-push)

@@ -22,23 +22,29 @@ use Rattle.executor_model.specs.Acts.{append_by, take_by, enter_by, look_at_tabl
 use Rattle.executor_model.specs.Weights.{same, weigh}
 use Rattle.executor_model.specs.Good.{past, pasts, waker_past, past_of, IsKnownWaker}
 use Rattle.executor_model.specs.Sound.{times}
+use Rattle.executor_model.proofs.Cases.{by_bool, by_list, by_waker}
+use Rattle.executor_model.proofs.Marks.{IsUnmarked, unmarked, IsGoing, going, IsIdle, idle, last-one, IsUnheld, unheld}
 use Rattle.executor_model.proofs.Lists.{read_put, read_push, fresh_is, past_is, same_is, times-append, times-drop, without_one}
 use Rattle.executor_model.proofs.Counting.{settling, readied, pended, ending, dropping, taken_up, woken, woken_by, cancel_going, cancel_idle, cancel_over, detached, stays_so, gives, waits_on, end_registered, end_notified, next_woken}
 use Rattle.executor_model.proofs.Stories.{story, story-push, times-except, length-except, among_is}
 use Rattle.executor_model.proofs.Leaving.{KeepsLeaves}
 
 leaves-append : (b : Bool) (w : World) (f : ℕ) → (b ≡ false → w.queue.closed ≡ true) → KeepsLeaves w (op.Append f ∷ []) (append_by b w f)
-leaves-append true w f c g r yy bb h = grind (arith, same_is, times-append)
-leaves-append false w f c g r yy bb h = let z : w.queue.closed ≡ true = c refl in grind (arith, same_is)
+leaves-append = by_bool _
+    (λ w f c g r yy bb h. grind (arith, same_is, times-append))
+    (λ w f c g r yy bb h. let z : w.queue.closed ≡ true = c refl in grind (arith, same_is))
 
 leaves-take : (q : List ℕ) (w : World) → w.queue.items ≡ q → KeepsLeaves w (op.Take ∷ []) (take_by w q)
-leaves-take [] w e g r yy bb h = grind arith
-leaves-take (f ∷ rest) w e g r yy bb h = let z : same g f + times g (drop 1 w.queue.items) ≡ times g w.queue.items = times-drop g f rest w.queue.items e in grind (arith, same_is)
+leaves-take = by_list _
+    (λ w e g r yy bb h. grind arith)
+    (λ f rest w e g r yy bb h. let z : same g f + times g (drop 1 w.queue.items) ≡ times g w.queue.items = times-drop g f rest w.queue.items e in grind (arith, same_is))
 
 leaves-enter : (b c : Bool) (p : ℕ) (w : World) → (b ≡ false → w.gone ≡ false → (g : ℕ) → length (story g w.trace).standing < w.limit) → KeepsLeaves w (op.Enter ∷ []) (enter_by b c p w)
-leaves-enter true c p w l g r yy bb h = grind arith
-leaves-enter false true p w l g r yy bb h = grind arith
-leaves-enter false false p w l g r yy bb h = let n : w.gone ≡ false = grind arith in let z : length (story g w.trace).standing < w.limit = l refl n g in grind (arith, same_is, fresh_is, read_push, times-append, length-append, story-push)
+leaves-enter = by_bool _
+    (λ c p w l g r yy bb h. grind arith)
+    (by_bool _
+    (λ p w l g r yy bb h. grind arith)
+    (λ p w l g r yy bb h. let n : w.gone ≡ false = grind arith in let z : length (story g w.trace).standing < w.limit = l refl n g in grind (arith, same_is, fresh_is, read_push, times-append, length-append, story-push)))
 
 leaves-look_at_table : (w : World) → KeepsLeaves w (op.LookAtTable ∷ []) (look_at_table w)
 leaves-look_at_table w g r yy bb h = grind arith
@@ -53,8 +59,9 @@ leaves-take_to_drop : (w : World) (f : ℕ) → KeepsLeaves w (op.TakeToDrop f �
 leaves-take_to_drop w f g r yy bb h = grind (arith, same_is)
 
 leaves-leave : (b : Bool) (w : World) (f : ℕ) → among f w.table ≡ b → KeepsLeaves w (op.LeaveTable f ∷ []) (leave_by b w f)
-leaves-leave true w f e g r yy bb h = grind (arith, same_is, without_one)
-leaves-leave false w f e g r yy bb h = let z : ((among f w.table ≡ true) × (1 ≤ times f w.table)) ⊎ ((among f w.table ≡ false) × (times f w.table ≡ 0)) = among_is f w.table in grind (arith, same_is)
+leaves-leave = by_bool _
+    (λ w f e g r yy bb h. grind (arith, same_is, without_one))
+    (λ w f e g r yy bb h. let z : ((among f w.table ≡ true) × (1 ≤ times f w.table)) ⊎ ((among f w.table ≡ false) × (times f w.table ≡ 0)) = among_is f w.table in grind (arith, same_is))
 
 leaves-begin_drop : (p : ℕ) (w : World) (f : ℕ) → KeepsLeaves w (op.BeginDrop f ∷ []) (begin_drop p w f)
 leaves-begin_drop p w f g r yy bb h = let z : _ = length-except f (story g w.trace).standing in grind (arith, same_is, times-except, story-push)
@@ -65,108 +72,150 @@ leaves-begin_drop_output p w f g r yy bb h = grind (arith, story-push)
 -- the moves of a task, by what they find
 
 leaves-release : (b c : Bool) (w : World) (f : ℕ) → moves.is_last (task w f) ≡ b → moves.is_over (task w f) ≡ c → f < length w.tasks → KeepsLeaves w (op.Release f ∷ []) (carried w f (moves.release_by b c (task w f)))
-leaves-release false c w f e q i g r yy bb h = grind (arith, same_is, read_put, length-set)
-leaves-release true true w f e q i g r yy bb h = let z : (task w f).references ≡ 1 = grind (arith, nat_tests) in grind (arith, same_is, read_put, length-set)
-leaves-release true false w f e q i g r yy bb h = let z : (task w f).references ≡ 1 = grind (arith, nat_tests) in let c : (task w f).completed ≡ false = grind (arith, nat_tests) in grind (arith, same_is, read_put, length-set)
+leaves-release = by_bool _
+    (by_bool _
+    (λ w f e q i g r yy bb h. let z : (task w f).references ≡ 1 = last-one (task w f) e in grind (arith, same_is, read_put, length-set))
+    (λ w f e q i g r yy bb h. let z : (task w f).references ≡ 1 = last-one (task w f) e in let c : (task w f).completed ≡ false = grind (arith, nat_tests) in grind (arith, same_is, read_put, length-set)))
+    (λ c w f e q i g r yy bb h. grind (arith, same_is, read_put, length-set))
 
 leaves-settle_closed : (a : Bool) (w : World) (f : ℕ) → f < length w.tasks → KeepsLeaves w (op.SettleClosed f ∷ []) (settling a w f)
-leaves-settle_closed true w f i g r yy bb h = grind (arith, same_is, read_put, length-set)
-leaves-settle_closed false w f i g r yy bb h = grind (arith, same_is, read_put, length-set)
+leaves-settle_closed = by_bool _
+    (λ w f i g r yy bb h. grind (arith, same_is, read_put, length-set))
+    (λ w f i g r yy bb h. grind (arith, same_is, read_put, length-set))
 
 leaves-give_up : (b : Bool) (w : World) (f : ℕ) → moves.is_last (task w f) ≡ b → f < length w.tasks → KeepsLeaves w (op.GiveUp f ∷ []) (carried w f (moves.give_up_by b (task w f)))
-leaves-give_up false w f e i g r yy bb h = grind (arith, same_is, read_put, length-set)
-leaves-give_up true w f e i g r yy bb h = let z : (task w f).references ≡ 1 = grind (arith, nat_tests) in grind (arith, same_is, read_put, length-set)
+leaves-give_up = by_bool _
+    (λ w f e i g r yy bb h. let z : (task w f).references ≡ 1 = last-one (task w f) e in grind (arith, same_is, read_put, length-set))
+    (λ w f e i g r yy bb h. grind (arith, same_is, read_put, length-set))
 
 -- by whether the output is unwanted, and whether there is an awaiter
 
 leaves-end_ready : (u a : Bool) (w : World) (f : ℕ) → ((task w f).closed || not (task w f).handle) ≡ u → f < length w.tasks → KeepsLeaves w (op.EndReady f ∷ []) (readied u a w f)
-leaves-end_ready true true w f e i g r yy bb h = grind (arith, same_is, read_put, length-set)
-leaves-end_ready true false w f e i g r yy bb h = grind (arith, same_is, read_put, length-set)
-leaves-end_ready false true w f e i g r yy bb h = grind (arith, same_is, read_put, length-set)
-leaves-end_ready false false w f e i g r yy bb h = grind (arith, same_is, read_put, length-set)
+leaves-end_ready = by_bool _
+    (by_bool _
+    (λ w f e i g r yy bb h. grind (arith, same_is, read_put, length-set))
+    (λ w f e i g r yy bb h. grind (arith, same_is, read_put, length-set)))
+    (by_bool _
+    (λ w f e i g r yy bb h. grind (arith, same_is, read_put, length-set))
+    (λ w f e i g r yy bb h. grind (arith, same_is, read_put, length-set)))
 
 -- by whether it is closed, scheduled, its reference the last, and its entry in the table
 
 leaves-end_pending : (x s l there : Bool) (w : World) (f : ℕ) → (task w f).closed ≡ x → (task w f).scheduled ≡ s → moves.is_last (task w f) ≡ l → among f w.table ≡ there → f < length w.tasks → KeepsLeaves w (op.EndPending f ∷ []) (pended x s l there w f)
-leaves-end_pending true s l true w f e q k m i g r yy bb h = let a : ((among f w.table ≡ true) × (1 ≤ times f w.table)) ⊎ ((among f w.table ≡ false) × (times f w.table ≡ 0)) = among_is f w.table in grind (arith, same_is, read_put, length-set)
-leaves-end_pending true s l false w f e q k m i g r yy bb h = let a : ((among f w.table ≡ true) × (1 ≤ times f w.table)) ⊎ ((among f w.table ≡ false) × (times f w.table ≡ 0)) = among_is f w.table in grind (arith, same_is, read_put, length-set)
-leaves-end_pending false true l there w f e q k m i g r yy bb h = let a : ((among f w.table ≡ true) × (1 ≤ times f w.table)) ⊎ ((among f w.table ≡ false) × (times f w.table ≡ 0)) = among_is f w.table in grind (arith, same_is, read_put, length-set)
-leaves-end_pending false false true true w f e q k m i g r yy bb h = let a : ((among f w.table ≡ true) × (1 ≤ times f w.table)) ⊎ ((among f w.table ≡ false) × (times f w.table ≡ 0)) = among_is f w.table in let z : (task w f).references ≡ 1 = grind (arith, nat_tests) in grind (arith, same_is, read_put, length-set)
-leaves-end_pending false false true false w f e q k m i g r yy bb h = let a : ((among f w.table ≡ true) × (1 ≤ times f w.table)) ⊎ ((among f w.table ≡ false) × (times f w.table ≡ 0)) = among_is f w.table in let z : (task w f).references ≡ 1 = grind (arith, nat_tests) in grind (arith, same_is, read_put, length-set)
-leaves-end_pending false false false there w f e q k m i g r yy bb h = let a : ((among f w.table ≡ true) × (1 ≤ times f w.table)) ⊎ ((among f w.table ≡ false) × (times f w.table ≡ 0)) = among_is f w.table in grind (arith, same_is, read_put, length-set)
+leaves-end_pending = by_bool _
+    (λ s l. by_bool _
+    (λ w f e q k m i g r yy bb h. let a : ((among f w.table ≡ true) × (1 ≤ times f w.table)) ⊎ ((among f w.table ≡ false) × (times f w.table ≡ 0)) = among_is f w.table in grind (arith, same_is, read_put, length-set))
+    (λ w f e q k m i g r yy bb h. let a : ((among f w.table ≡ true) × (1 ≤ times f w.table)) ⊎ ((among f w.table ≡ false) × (times f w.table ≡ 0)) = among_is f w.table in grind (arith, same_is, read_put, length-set)))
+    (by_bool _
+    (λ l there w f e q k m i g r yy bb h. let a : ((among f w.table ≡ true) × (1 ≤ times f w.table)) ⊎ ((among f w.table ≡ false) × (times f w.table ≡ 0)) = among_is f w.table in grind (arith, same_is, read_put, length-set))
+    (by_bool _
+    (by_bool _
+    (λ w f e q k m i g r yy bb h. let a : ((among f w.table ≡ true) × (1 ≤ times f w.table)) ⊎ ((among f w.table ≡ false) × (times f w.table ≡ 0)) = among_is f w.table in let z : (task w f).references ≡ 1 = last-one (task w f) k in grind (arith, same_is, read_put, length-set))
+    (λ w f e q k m i g r yy bb h. let a : ((among f w.table ≡ true) × (1 ≤ times f w.table)) ⊎ ((among f w.table ≡ false) × (times f w.table ≡ 0)) = among_is f w.table in let z : (task w f).references ≡ 1 = last-one (task w f) k in grind (arith, same_is, read_put, length-set)))
+    (λ there w f e q k m i g r yy bb h. let a : ((among f w.table ≡ true) × (1 ≤ times f w.table)) ⊎ ((among f w.table ≡ false) × (times f w.table ≡ 0)) = among_is f w.table in grind (arith, same_is, read_put, length-set))))
 
 leaves-end_closed : (a : Bool) (w : World) (f : ℕ) → f < length w.tasks → KeepsLeaves w (op.EndClosed f ∷ []) (ending a w f)
-leaves-end_closed true w f i g r yy bb h = grind (arith, same_is, read_put, length-set)
-leaves-end_closed false w f i g r yy bb h = grind (arith, same_is, read_put, length-set)
+leaves-end_closed = by_bool _
+    (λ w f i g r yy bb h. grind (arith, same_is, read_put, length-set))
+    (λ w f i g r yy bb h. grind (arith, same_is, read_put, length-set))
 
 -- by whether its entry is in the table
 
 leaves-drop_runnable : (c there : Bool) (w : World) (f : ℕ) → ((task w f).closed || not (task w f).completed) ≡ c → among f w.table ≡ there → f < length w.tasks → KeepsLeaves w (op.DropRunnable f ∷ []) (dropping c there w f)
-leaves-drop_runnable true true w f e m i g r yy bb h = let a : ((among f w.table ≡ true) × (1 ≤ times f w.table)) ⊎ ((among f w.table ≡ false) × (times f w.table ≡ 0)) = among_is f w.table in grind (arith, nat_tests, same_is, read_put, length-set)
-leaves-drop_runnable true false w f e m i g r yy bb h = let a : ((among f w.table ≡ true) × (1 ≤ times f w.table)) ⊎ ((among f w.table ≡ false) × (times f w.table ≡ 0)) = among_is f w.table in grind (arith, nat_tests, same_is, read_put, length-set)
-leaves-drop_runnable false true w f e m i g r yy bb h = let a : ((among f w.table ≡ true) × (1 ≤ times f w.table)) ⊎ ((among f w.table ≡ false) × (times f w.table ≡ 0)) = among_is f w.table in grind (arith, nat_tests, same_is, read_put, length-set)
-leaves-drop_runnable false false w f e m i g r yy bb h = let a : ((among f w.table ≡ true) × (1 ≤ times f w.table)) ⊎ ((among f w.table ≡ false) × (times f w.table ≡ 0)) = among_is f w.table in grind (arith, nat_tests, same_is, read_put, length-set)
+leaves-drop_runnable = by_bool _
+    (by_bool _
+    (λ w f e m i g r yy bb h. let a : ((among f w.table ≡ true) × (1 ≤ times f w.table)) ⊎ ((among f w.table ≡ false) × (times f w.table ≡ 0)) = among_is f w.table in grind (arith, nat_tests, same_is, read_put, length-set))
+    (λ w f e m i g r yy bb h. let a : ((among f w.table ≡ true) × (1 ≤ times f w.table)) ⊎ ((among f w.table ≡ false) × (times f w.table ≡ 0)) = among_is f w.table in grind (arith, nat_tests, same_is, read_put, length-set)))
+    (by_bool _
+    (λ w f e m i g r yy bb h. let a : ((among f w.table ≡ true) × (1 ≤ times f w.table)) ⊎ ((among f w.table ≡ false) × (times f w.table ≡ 0)) = among_is f w.table in grind (arith, nat_tests, same_is, read_put, length-set))
+    (λ w f e m i g r yy bb h. let a : ((among f w.table ≡ true) × (1 ≤ times f w.table)) ⊎ ((among f w.table ≡ false) × (times f w.table ≡ 0)) = among_is f w.table in grind (arith, nat_tests, same_is, read_put, length-set)))
 
 -- by whether it is closed, and its entry in the table
 
 leaves-take_up : (b there : Bool) (p : ℕ) (w : World) (f : ℕ) → (task w f).closed ≡ b → among f (log_if (not b) w (event.PollBegun p f)).table ≡ there → f < length w.tasks → KeepsLeaves w (op.TakeUp f ∷ []) (taken_up b there p w f)
-leaves-take_up true true p w f e m i g r yy bb h = let a : ((among f w.table ≡ true) × (1 ≤ times f w.table)) ⊎ ((among f w.table ≡ false) × (times f w.table ≡ 0)) = among_is f w.table in grind (arith, same_is, read_put, length-set)
-leaves-take_up true false p w f e m i g r yy bb h = let a : ((among f w.table ≡ true) × (1 ≤ times f w.table)) ⊎ ((among f w.table ≡ false) × (times f w.table ≡ 0)) = among_is f w.table in grind (arith, same_is, read_put, length-set)
-leaves-take_up false there p w f e m i g r yy bb h = let a : ((among f w.table ≡ true) × (1 ≤ times f w.table)) ⊎ ((among f w.table ≡ false) × (times f w.table ≡ 0)) = among_is f w.table in grind (arith, same_is, read_put, length-set, story-push)
+leaves-take_up = by_bool _
+    (by_bool _
+    (λ p w f e m i g r yy bb h. let a : ((among f w.table ≡ true) × (1 ≤ times f w.table)) ⊎ ((among f w.table ≡ false) × (times f w.table ≡ 0)) = among_is f w.table in grind (arith, same_is, read_put, length-set))
+    (λ p w f e m i g r yy bb h. let a : ((among f w.table ≡ true) × (1 ≤ times f w.table)) ⊎ ((among f w.table ≡ false) × (times f w.table ≡ 0)) = among_is f w.table in grind (arith, same_is, read_put, length-set)))
+    (λ there p w f e m i g r yy bb h. let a : ((among f w.table ≡ true) × (1 ≤ times f w.table)) ⊎ ((among f w.table ≡ false) × (times f w.table ≡ 0)) = among_is f w.table in grind (arith, same_is, read_put, length-set, story-push))
 
 -- by whether it is over, over or scheduled, and running
 
 leaves-wake_by_reference : (o b c : Bool) (p : ℕ) (w : World) (f : ℕ) → (moves.is_over (task w f) || (task w f).scheduled) ≡ b → (task w f).running ≡ c → f < length w.tasks → KeepsLeaves w (op.WakeByReference f ∷ []) (woken o b c p w f)
-leaves-wake_by_reference true true c p w f e q i g r yy bb h = grind (arith, same_is, read_put, length-set, story-push)
-leaves-wake_by_reference true false true p w f e q i g r yy bb h = grind (arith, same_is, read_put, length-set, story-push)
-leaves-wake_by_reference true false false p w f e q i g r yy bb h = let k0 : (task w f).completed ≡ false = grind (arith, nat_tests) in let k1 : (task w f).closed ≡ false = grind (arith, nat_tests) in let k2 : (task w f).scheduled ≡ false = grind (arith, nat_tests) in grind (arith, same_is, read_put, length-set, story-push)
-leaves-wake_by_reference false true c p w f e q i g r yy bb h = grind (arith, same_is, read_put, length-set, story-push)
-leaves-wake_by_reference false false true p w f e q i g r yy bb h = grind (arith, same_is, read_put, length-set, story-push)
-leaves-wake_by_reference false false false p w f e q i g r yy bb h = let k0 : (task w f).completed ≡ false = grind (arith, nat_tests) in let k1 : (task w f).closed ≡ false = grind (arith, nat_tests) in let k2 : (task w f).scheduled ≡ false = grind (arith, nat_tests) in grind (arith, same_is, read_put, length-set, story-push)
+leaves-wake_by_reference = by_bool _
+    (by_bool _
+    (λ c p w f e q i g r yy bb h. grind (arith, same_is, read_put, length-set, story-push))
+    (by_bool _
+    (λ p w f e q i g r yy bb h. grind (arith, same_is, read_put, length-set, story-push))
+    (λ p w f e q i g r yy bb h. let k : IsUnmarked (task w f) = unmarked (task w f) e in grind (arith, same_is, read_put, length-set, story-push))))
+    (by_bool _
+    (λ c p w f e q i g r yy bb h. grind (arith, same_is, read_put, length-set, story-push))
+    (by_bool _
+    (λ p w f e q i g r yy bb h. grind (arith, same_is, read_put, length-set, story-push))
+    (λ p w f e q i g r yy bb h. let k : IsUnmarked (task w f) = unmarked (task w f) e in grind (arith, same_is, read_put, length-set, story-push))))
 
 leaves-wake : (o b c : Bool) (p : ℕ) (w : World) (f : ℕ) → (moves.is_over (task w f) || (task w f).scheduled) ≡ b → (task w f).running ≡ c → f < length w.tasks → KeepsLeaves w (op.Wake f ∷ []) (woken_by o b c p w f)
-leaves-wake true true c p w f e q i g r yy bb h = grind (arith, same_is, read_put, length-set, story-push)
-leaves-wake true false true p w f e q i g r yy bb h = grind (arith, same_is, read_put, length-set, story-push)
-leaves-wake true false false p w f e q i g r yy bb h = let k0 : (task w f).completed ≡ false = grind (arith, nat_tests) in let k1 : (task w f).closed ≡ false = grind (arith, nat_tests) in let k2 : (task w f).scheduled ≡ false = grind (arith, nat_tests) in grind (arith, same_is, read_put, length-set, story-push)
-leaves-wake false true c p w f e q i g r yy bb h = grind (arith, same_is, read_put, length-set, story-push)
-leaves-wake false false true p w f e q i g r yy bb h = grind (arith, same_is, read_put, length-set, story-push)
-leaves-wake false false false p w f e q i g r yy bb h = let k0 : (task w f).completed ≡ false = grind (arith, nat_tests) in let k1 : (task w f).closed ≡ false = grind (arith, nat_tests) in let k2 : (task w f).scheduled ≡ false = grind (arith, nat_tests) in grind (arith, same_is, read_put, length-set, story-push)
+leaves-wake = by_bool _
+    (by_bool _
+    (λ c p w f e q i g r yy bb h. grind (arith, same_is, read_put, length-set, story-push))
+    (by_bool _
+    (λ p w f e q i g r yy bb h. grind (arith, same_is, read_put, length-set, story-push))
+    (λ p w f e q i g r yy bb h. let k : IsUnmarked (task w f) = unmarked (task w f) e in grind (arith, same_is, read_put, length-set, story-push))))
+    (by_bool _
+    (λ c p w f e q i g r yy bb h. grind (arith, same_is, read_put, length-set, story-push))
+    (by_bool _
+    (λ p w f e q i g r yy bb h. grind (arith, same_is, read_put, length-set, story-push))
+    (λ p w f e q i g r yy bb h. let k : IsUnmarked (task w f) = unmarked (task w f) e in grind (arith, same_is, read_put, length-set, story-push))))
 
 leaves-call_task : (o b c : Bool) (p e : ℕ) (k : ℕ) (w : World) (f : ℕ) → (moves.is_over (task w f) || (task w f).scheduled) ≡ b → (task w f).running ≡ c → f < length w.tasks → KeepsLeaves w (op.CallAwaiter e (Task f) k ∷ []) (woken_by o b c p (log w (event.WakerCalled p e k (Task f))) f)
-leaves-call_task true true c p e k w f d q i g r yy bb h = grind (arith, same_is, read_put, length-set, story-push)
-leaves-call_task true false true p e k w f d q i g r yy bb h = grind (arith, same_is, read_put, length-set, story-push)
-leaves-call_task true false false p e k w f d q i g r yy bb h = let k0 : (task w f).completed ≡ false = grind (arith, nat_tests) in let k1 : (task w f).closed ≡ false = grind (arith, nat_tests) in let k2 : (task w f).scheduled ≡ false = grind (arith, nat_tests) in grind (arith, same_is, read_put, length-set, story-push)
-leaves-call_task false true c p e k w f d q i g r yy bb h = grind (arith, same_is, read_put, length-set, story-push)
-leaves-call_task false false true p e k w f d q i g r yy bb h = grind (arith, same_is, read_put, length-set, story-push)
-leaves-call_task false false false p e k w f d q i g r yy bb h = let k0 : (task w f).completed ≡ false = grind (arith, nat_tests) in let k1 : (task w f).closed ≡ false = grind (arith, nat_tests) in let k2 : (task w f).scheduled ≡ false = grind (arith, nat_tests) in grind (arith, same_is, read_put, length-set, story-push)
+leaves-call_task = by_bool _
+    (by_bool _
+    (λ c p e k w f d q i g r yy bb h. grind (arith, same_is, read_put, length-set, story-push))
+    (by_bool _
+    (λ p e k w f d q i g r yy bb h. grind (arith, same_is, read_put, length-set, story-push))
+    (λ p e k w f d q i g r yy bb h. let k : IsUnmarked (task w f) = unmarked (task w f) d in grind (arith, same_is, read_put, length-set, story-push))))
+    (by_bool _
+    (λ c p e k w f d q i g r yy bb h. grind (arith, same_is, read_put, length-set, story-push))
+    (by_bool _
+    (λ p e k w f d q i g r yy bb h. grind (arith, same_is, read_put, length-set, story-push))
+    (λ p e k w f d q i g r yy bb h. let k : IsUnmarked (task w f) = unmarked (task w f) d in grind (arith, same_is, read_put, length-set, story-push))))
 
 -- by whether an event is logged
 
 leaves-cancel_over : (o : Bool) (p : ℕ) (w : World) (f : ℕ) → f < length w.tasks → KeepsLeaves w (op.Cancel f ∷ []) (cancel_over o p w f)
-leaves-cancel_over true p w f i g r yy bb h = grind (arith, same_is, read_put, length-set, story-push)
-leaves-cancel_over false p w f i g r yy bb h = grind (arith, same_is, read_put, length-set, story-push)
+leaves-cancel_over = by_bool _
+    (λ p w f i g r yy bb h. grind (arith, same_is, read_put, length-set, story-push))
+    (λ p w f i g r yy bb h. grind (arith, same_is, read_put, length-set, story-push))
 
 leaves-cancel_going : (a : Bool) (p : ℕ) (w : World) (f : ℕ) → moves.is_going (task w f) ≡ true → f < length w.tasks → KeepsLeaves w (op.Cancel f ∷ []) (cancel_going true a p w f)
-leaves-cancel_going true p w f e i g r yy bb h = let z : ((task w f).scheduled ≡ true) ⊎ ((task w f).running ≡ true) = grind (arith, nat_tests) in grind (arith, same_is, read_put, length-set, story-push)
-leaves-cancel_going false p w f e i g r yy bb h = let z : ((task w f).scheduled ≡ true) ⊎ ((task w f).running ≡ true) = grind (arith, nat_tests) in grind (arith, same_is, read_put, length-set, story-push)
+leaves-cancel_going = by_bool _
+    (λ p w f e i g r yy bb h. let z : IsGoing (task w f) = going (task w f) e in grind (arith, same_is, read_put, length-set, story-push))
+    (λ p w f e i g r yy bb h. let z : IsGoing (task w f) = going (task w f) e in grind (arith, same_is, read_put, length-set, story-push))
 
 leaves-cancel_idle : (a : Bool) (p : ℕ) (w : World) (f : ℕ) → moves.is_over (task w f) ≡ false → moves.is_going (task w f) ≡ false → f < length w.tasks → KeepsLeaves w (op.Cancel f ∷ []) (cancel_idle true a p w f)
-leaves-cancel_idle true p w f e q i g r yy bb h = let k0 : (task w f).completed ≡ false = grind (arith, nat_tests) in let k1 : (task w f).closed ≡ false = grind (arith, nat_tests) in let k2 : (task w f).scheduled ≡ false = grind (arith, nat_tests) in let k3 : (task w f).running ≡ false = grind (arith, nat_tests) in grind (arith, same_is, read_put, length-set, story-push)
-leaves-cancel_idle false p w f e q i g r yy bb h = let k0 : (task w f).completed ≡ false = grind (arith, nat_tests) in let k1 : (task w f).closed ≡ false = grind (arith, nat_tests) in let k2 : (task w f).scheduled ≡ false = grind (arith, nat_tests) in let k3 : (task w f).running ≡ false = grind (arith, nat_tests) in grind (arith, same_is, read_put, length-set, story-push)
+leaves-cancel_idle = by_bool _
+    (λ p w f e q i g r yy bb h. let k : IsIdle (task w f) = idle (task w f) e q in grind (arith, same_is, read_put, length-set, story-push))
+    (λ p w f e q i g r yy bb h. let k : IsIdle (task w f) = idle (task w f) e q in grind (arith, same_is, read_put, length-set, story-push))
 
 leaves-detach : (o x y : Bool) (p : ℕ) (w : World) (f : ℕ) → ((task w f).completed && not (task w f).closed) ≡ x → (eqb (task w f).references 0 && not (task w f).closed) ≡ y → f < length w.tasks → KeepsLeaves w (op.Detach f ∷ []) (detached o x y p w f)
-leaves-detach true true y p w f e q i g r yy bb h = grind (arith, nat_tests, same_is, read_put, length-set, story-push)
-leaves-detach false true y p w f e q i g r yy bb h = grind (arith, nat_tests, same_is, read_put, length-set, story-push)
-leaves-detach true false true p w f e q i g r yy bb h = let k0 : (task w f).references ≡ 0 = grind (arith, nat_tests) in let k1 : (task w f).closed ≡ false = grind (arith, nat_tests) in let k2 : (task w f).completed ≡ false = grind (arith, nat_tests) in grind (arith, same_is, read_put, length-set, story-push)
-leaves-detach false false true p w f e q i g r yy bb h = let k0 : (task w f).references ≡ 0 = grind (arith, nat_tests) in let k1 : (task w f).closed ≡ false = grind (arith, nat_tests) in let k2 : (task w f).completed ≡ false = grind (arith, nat_tests) in grind (arith, same_is, read_put, length-set, story-push)
-leaves-detach true false false p w f e q i g r yy bb h = grind (arith, same_is, read_put, length-set, story-push)
-leaves-detach false false false p w f e q i g r yy bb h = grind (arith, same_is, read_put, length-set, story-push)
+leaves-detach = by_bool _
+    (by_bool _
+    (λ y p w f e q i g r yy bb h. grind (arith, nat_tests, same_is, read_put, length-set, story-push))
+    (by_bool _
+    (λ p w f e q i g r yy bb h. let k : IsUnheld (task w f) = unheld (task w f) e q in grind (arith, same_is, read_put, length-set, story-push))
+    (λ p w f e q i g r yy bb h. grind (arith, same_is, read_put, length-set, story-push))))
+    (by_bool _
+    (λ y p w f e q i g r yy bb h. grind (arith, nat_tests, same_is, read_put, length-set, story-push))
+    (by_bool _
+    (λ p w f e q i g r yy bb h. let k : IsUnheld (task w f) = unheld (task w f) e q in grind (arith, same_is, read_put, length-set, story-push))
+    (λ p w f e q i g r yy bb h. grind (arith, same_is, read_put, length-set, story-push))))
 
 -- wakers and polls of a handle
 
 leaves-copy : (b : Bool) (w : World) (f : ℕ) (held : Hold) → f < length w.tasks → KeepsLeaves w (op.CopyWaker f held ∷ []) (copy_by b w f held)
-leaves-copy true w f held i g r yy bb h = grind arith
-leaves-copy false w f held i g r yy bb h = grind (arith, same_is, read_put, length-set)
+leaves-copy = by_bool _
+    (λ w f held i g r yy bb h. grind arith)
+    (λ w f held i g r yy bb h. grind (arith, same_is, read_put, length-set))
 
 -- a poll of the handle that ends: as it was, or with its output
 
@@ -174,15 +223,17 @@ leaves-look_closed : (p : ℕ) (w : World) (f : ℕ) (a : Waker) → f < length 
 leaves-look_closed p w f a i g r yy bb h = grind (arith, same_is, read_put, length-set, story-push)
 
 leaves-look_given : (b : Bool) (p : ℕ) (w : World) (f : ℕ) (a : Waker) → (task w f).completed ≡ true → f < length w.tasks → KeepsLeaves w (op.Look f a ∷ []) (gives b p w (polled p w f) f)
-leaves-look_given true p w f a e i g r yy bb h = grind (arith, same_is, read_put, length-set, story-push)
-leaves-look_given false p w f a e i g r yy bb h = grind (arith, same_is, read_put, length-set, story-push)
+leaves-look_given = by_bool _
+    (λ p w f a e i g r yy bb h. grind (arith, same_is, read_put, length-set, story-push))
+    (λ p w f a e i g r yy bb h. grind (arith, same_is, read_put, length-set, story-push))
 
 leaves-again_closed : (p : ℕ) (w : World) (f : ℕ) → f < length w.tasks → KeepsLeaves w (op.LookAgain f ∷ []) (stays_so p w w f)
 leaves-again_closed p w f i g r yy bb h = grind (arith, same_is, read_put, length-set, story-push)
 
 leaves-again_given : (b : Bool) (p : ℕ) (w : World) (f : ℕ) → (task w f).completed ≡ true → f < length w.tasks → KeepsLeaves w (op.LookAgain f ∷ []) (gives b p w w f)
-leaves-again_given true p w f e i g r yy bb h = grind (arith, same_is, read_put, length-set, story-push)
-leaves-again_given false p w f e i g r yy bb h = grind (arith, same_is, read_put, length-set, story-push)
+leaves-again_given = by_bool _
+    (λ p w f e i g r yy bb h. grind (arith, same_is, read_put, length-set, story-push))
+    (λ p w f e i g r yy bb h. grind (arith, same_is, read_put, length-set, story-push))
 
 leaves-look_on : (w : World) (f : ℕ) (a : Waker) → KeepsLeaves w (op.Look f a ∷ []) (done w (op.CopyAwaiter f a ∷ []))
 leaves-look_on w f a g r yy bb h = grind arith
@@ -191,43 +242,55 @@ leaves-again_waits : (p : ℕ) (w : World) (f : ℕ) → f < length w.tasks → 
 leaves-again_waits p w f i g r yy bb h = grind (arith, same_is, read_put, length-set, story-push)
 
 leaves-copy_awaiter : (b : Bool) (p : ℕ) (w : World) (f : ℕ) (a : Waker) → IsKnownWaker w a → KeepsLeaves w (op.CopyAwaiter f a ∷ []) (copy_awaiter_by b p w f a)
-leaves-copy_awaiter true p w f a e g r yy bb h = grind arith
-leaves-copy_awaiter false p w f (Task k) e g r yy bb h = let z : k < length w.tasks = e in grind (arith, same_is, read_put, length-set, story-push)
-leaves-copy_awaiter false p w f (Outside x) e g r yy bb h = grind (arith, story-push)
+leaves-copy_awaiter = by_bool _
+    (λ p w f a e g r yy bb h. grind arith)
+    (λ p w f. by_waker _
+    (λ k e g r yy bb h. let z : k < length w.tasks = e in grind (arith, same_is, read_put, length-set, story-push))
+    (λ x e g r yy bb h. grind (arith, story-push)))
 
 leaves-register : (b : Bool) (w : World) (f : ℕ) (a : Waker) (k : ℕ) → f < length w.tasks → KeepsLeaves w (op.Register f a k ∷ []) (register_by b w f a k)
-leaves-register true w f a k i g r yy bb h = grind (arith, same_is, read_put, length-set)
-leaves-register false w f a k i g r yy bb h = grind (arith, same_is, read_put, length-set)
+leaves-register = by_bool _
+    (λ w f a k i g r yy bb h. grind (arith, same_is, read_put, length-set))
+    (λ w f a k i g r yy bb h. grind (arith, same_is, read_put, length-set))
 
 -- by whether somebody wanted to notify meanwhile, and the old awaiter
 
 leaves-end_register-none : (b : Bool) (w : World) (f : ℕ) (a : Waker) (k : ℕ) → awaiter_of w f ≡ None → f < length w.tasks → f < length w.awaiters → KeepsLeaves w (op.EndRegister f a k ∷ []) (end_registered b None w f a k)
-leaves-end_register-none true w f a k e i j g r yy bb h = grind (arith, same_is, read_put, length-set)
-leaves-end_register-none false w f a k e i j g r yy bb h = grind (arith, same_is, read_put, length-set)
+leaves-end_register-none = by_bool _
+    (λ w f a k e i j g r yy bb h. grind (arith, same_is, read_put, length-set))
+    (λ w f a k e i j g r yy bb h. grind (arith, same_is, read_put, length-set))
 
 leaves-end_register-some : (b : Bool) (x : Waker) (m : ℕ) (w : World) (f : ℕ) (a : Waker) (k : ℕ) → awaiter_of w f ≡ Some (record { waker = x; poll = m }) → f < length w.tasks → f < length w.awaiters → KeepsLeaves w (op.EndRegister f a k ∷ []) (end_registered b (Some (record { waker = x; poll = m })) w f a k)
-leaves-end_register-some true (Task q) m w f a k e i j g r yy bb h = grind (arith, same_is, read_put, length-set)
-leaves-end_register-some true (Outside q) m w f a k e i j g r yy bb h = grind (arith, same_is, read_put, length-set)
-leaves-end_register-some false (Task q) m w f a k e i j g r yy bb h = grind (arith, same_is, read_put, length-set)
-leaves-end_register-some false (Outside q) m w f a k e i j g r yy bb h = grind (arith, same_is, read_put, length-set)
+leaves-end_register-some = by_bool _
+    (by_waker _
+    (λ q m w f a k e i j g r yy bb h. grind (arith, same_is, read_put, length-set))
+    (λ q m w f a k e i j g r yy bb h. grind (arith, same_is, read_put, length-set)))
+    (by_waker _
+    (λ q m w f a k e i j g r yy bb h. grind (arith, same_is, read_put, length-set))
+    (λ q m w f a k e i j g r yy bb h. grind (arith, same_is, read_put, length-set)))
 
 leaves-end_register : (b : Bool) (old : Option Awaiter) (w : World) (f : ℕ) (a : Waker) (k : ℕ) → awaiter_of w f ≡ old → f < length w.tasks → f < length w.awaiters → KeepsLeaves w (op.EndRegister f a k ∷ []) (end_registered b old w f a k)
 leaves-end_register b None w f a k e i j = leaves-end_register-none b w f a k e i j
 leaves-end_register b (Some x) w f a k e i j = leaves-end_register-some b x.waker x.poll w f a k e i j
 
 leaves-notify : (b m : Bool) (w : World) (f : ℕ) → f < length w.tasks → KeepsLeaves w (op.Notify f m ∷ []) (notify_by b w f m)
-leaves-notify true m w f i g r yy bb h = grind (arith, same_is, read_put, length-set)
-leaves-notify false m w f i g r yy bb h = grind (arith, same_is, read_put, length-set)
+leaves-notify = by_bool _
+    (λ m w f i g r yy bb h. grind (arith, same_is, read_put, length-set))
+    (λ m w f i g r yy bb h. grind (arith, same_is, read_put, length-set))
 
 leaves-end_notify-none : (b mine : Bool) (w : World) (f : ℕ) → awaiter_of w f ≡ None → f < length w.tasks → f < length w.awaiters → KeepsLeaves w (op.EndNotify f mine ∷ []) (end_notified b None w f)
-leaves-end_notify-none true mine w f e i j g r yy bb h = grind (arith, same_is, read_put, length-set)
-leaves-end_notify-none false mine w f e i j g r yy bb h = grind (arith, same_is, read_put, length-set)
+leaves-end_notify-none = by_bool _
+    (λ mine w f e i j g r yy bb h. grind (arith, same_is, read_put, length-set))
+    (λ mine w f e i j g r yy bb h. grind (arith, same_is, read_put, length-set))
 
 leaves-end_notify-some : (b : Bool) (x : Waker) (m : ℕ) (mine : Bool) (w : World) (f : ℕ) → awaiter_of w f ≡ Some (record { waker = x; poll = m }) → f < length w.tasks → f < length w.awaiters → KeepsLeaves w (op.EndNotify f mine ∷ []) (end_notified b (Some (record { waker = x; poll = m })) w f)
-leaves-end_notify-some true (Task q) m mine w f e i j g r yy bb h = grind (arith, same_is, read_put, length-set)
-leaves-end_notify-some true (Outside q) m mine w f e i j g r yy bb h = grind (arith, same_is, read_put, length-set)
-leaves-end_notify-some false (Task q) m mine w f e i j g r yy bb h = grind (arith, same_is, read_put, length-set)
-leaves-end_notify-some false (Outside q) m mine w f e i j g r yy bb h = grind (arith, same_is, read_put, length-set)
+leaves-end_notify-some = by_bool _
+    (by_waker _
+    (λ q m mine w f e i j g r yy bb h. grind (arith, same_is, read_put, length-set))
+    (λ q m mine w f e i j g r yy bb h. grind (arith, same_is, read_put, length-set)))
+    (by_waker _
+    (λ q m mine w f e i j g r yy bb h. grind (arith, same_is, read_put, length-set))
+    (λ q m mine w f e i j g r yy bb h. grind (arith, same_is, read_put, length-set)))
 
 leaves-end_notify : (b : Bool) (old : Option Awaiter) (mine : Bool) (w : World) (f : ℕ) → awaiter_of w f ≡ old → f < length w.tasks → f < length w.awaiters → KeepsLeaves w (op.EndNotify f mine ∷ []) (end_notified b old w f)
 leaves-end_notify b None mine w f e i j = leaves-end_notify-none b mine w f e i j
@@ -239,35 +302,51 @@ leaves-call_outside p w f x k g r yy bb h = grind (arith, story-push)
 -- the drop of the executor
 
 leaves-take_out : (ls ws : List ℕ) (w : World) → w.table ≡ ls → KeepsLeaves w (op.TakeOut ∷ []) (done (record w { table = w.leaving; leaving = w.table }) (closing_ops ls ws))
-leaves-take_out [] [] w e g r yy bb h = let z : times g w.table ≡ 0 = ap (times g) e in grind arith
-leaves-take_out [] (x ∷ ws) w e g r yy bb h = let z : times g w.table ≡ 0 = ap (times g) e in grind arith
-leaves-take_out (x ∷ ls) ws w e g r yy bb h = grind arith
+leaves-take_out = by_list _
+    (by_list _
+    (λ w e g r yy bb h. let z : times g w.table ≡ 0 = ap (times g) e in grind arith)
+    (λ x ws w e g r yy bb h. let z : times g w.table ≡ 0 = ap (times g) e in grind arith))
+    (λ x ls ws w e g r yy bb h. grind arith)
 
 leaves-drop_next : (rest ws : List ℕ) (p : ℕ) (w : World) (f : ℕ) → w.leaving ≡ f ∷ rest → KeepsLeaves w (op.DropNext ∷ []) (done (log (record w { leaving = rest; waking = w.waking ++ f ∷ []; inside = slice_set w.inside f false }) (event.Dropped p f)) (op.Drop f ∷ closing_ops rest ws))
-leaves-drop_next [] [] p w f e g r yy bb h = let z : times g w.leaving ≡ same g f + 0 = ap (times g) e in grind (arith, same_is, story-push)
-leaves-drop_next [] (y ∷ ws) p w f e g r yy bb h = let z : times g w.leaving ≡ same g f + 0 = ap (times g) e in grind (arith, same_is, story-push)
-leaves-drop_next (y ∷ ls) ws p w f e g r yy bb h = let z : times g w.leaving ≡ same g f + times g (y ∷ ls) = ap (times g) e in grind (arith, same_is, story-push)
+leaves-drop_next = by_list _
+    (by_list _
+    (λ p w f e g r yy bb h. let z : times g w.leaving ≡ same g f + 0 = ap (times g) e in grind (arith, same_is, story-push))
+    (λ y ws p w f e g r yy bb h. let z : times g w.leaving ≡ same g f + 0 = ap (times g) e in grind (arith, same_is, story-push)))
+    (λ y ls ws p w f e g r yy bb h. let z : times g w.leaving ≡ same g f + times g (y ∷ ls) = ap (times g) e in grind (arith, same_is, story-push))
 
 leaves-wake_next : (o b c : Bool) (rest : List ℕ) (p : ℕ) (w : World) (f : ℕ) → w.waking ≡ f ∷ rest → (moves.is_over (task w f) || (task w f).scheduled) ≡ b → (task w f).running ≡ c → f < length w.tasks → KeepsLeaves w (op.WakeNext ∷ []) (next_woken o b c rest p w f)
-leaves-wake_next true true c [] p w f y e q i g r yy bb h = grind (arith, same_is, read_put, length-set, story-push)
-leaves-wake_next true true c (u ∷ us) p w f y e q i g r yy bb h = grind (arith, same_is, read_put, length-set, story-push)
-leaves-wake_next true false true [] p w f y e q i g r yy bb h = grind (arith, same_is, read_put, length-set, story-push)
-leaves-wake_next true false true (u ∷ us) p w f y e q i g r yy bb h = grind (arith, same_is, read_put, length-set, story-push)
-leaves-wake_next true false false [] p w f y e q i g r yy bb h = let k0 : (task w f).completed ≡ false = grind (arith, nat_tests) in let k1 : (task w f).closed ≡ false = grind (arith, nat_tests) in let k2 : (task w f).scheduled ≡ false = grind (arith, nat_tests) in grind (arith, same_is, read_put, length-set, story-push)
-leaves-wake_next true false false (u ∷ us) p w f y e q i g r yy bb h = let k0 : (task w f).completed ≡ false = grind (arith, nat_tests) in let k1 : (task w f).closed ≡ false = grind (arith, nat_tests) in let k2 : (task w f).scheduled ≡ false = grind (arith, nat_tests) in grind (arith, same_is, read_put, length-set, story-push)
-leaves-wake_next false true c [] p w f y e q i g r yy bb h = grind (arith, same_is, read_put, length-set, story-push)
-leaves-wake_next false true c (u ∷ us) p w f y e q i g r yy bb h = grind (arith, same_is, read_put, length-set, story-push)
-leaves-wake_next false false true [] p w f y e q i g r yy bb h = grind (arith, same_is, read_put, length-set, story-push)
-leaves-wake_next false false true (u ∷ us) p w f y e q i g r yy bb h = grind (arith, same_is, read_put, length-set, story-push)
-leaves-wake_next false false false [] p w f y e q i g r yy bb h = let k0 : (task w f).completed ≡ false = grind (arith, nat_tests) in let k1 : (task w f).closed ≡ false = grind (arith, nat_tests) in let k2 : (task w f).scheduled ≡ false = grind (arith, nat_tests) in grind (arith, same_is, read_put, length-set, story-push)
-leaves-wake_next false false false (u ∷ us) p w f y e q i g r yy bb h = let k0 : (task w f).completed ≡ false = grind (arith, nat_tests) in let k1 : (task w f).closed ≡ false = grind (arith, nat_tests) in let k2 : (task w f).scheduled ≡ false = grind (arith, nat_tests) in grind (arith, same_is, read_put, length-set, story-push)
+leaves-wake_next = by_bool _
+    (by_bool _
+    (λ c. by_list _
+    (λ p w f y e q i g r yy bb h. grind (arith, same_is, read_put, length-set, story-push))
+    (λ u us p w f y e q i g r yy bb h. grind (arith, same_is, read_put, length-set, story-push)))
+    (by_bool _
+    (by_list _
+    (λ p w f y e q i g r yy bb h. grind (arith, same_is, read_put, length-set, story-push))
+    (λ u us p w f y e q i g r yy bb h. grind (arith, same_is, read_put, length-set, story-push)))
+    (by_list _
+    (λ p w f y e q i g r yy bb h. let k : IsUnmarked (task w f) = unmarked (task w f) e in grind (arith, same_is, read_put, length-set, story-push))
+    (λ u us p w f y e q i g r yy bb h. let k : IsUnmarked (task w f) = unmarked (task w f) e in grind (arith, same_is, read_put, length-set, story-push)))))
+    (by_bool _
+    (λ c. by_list _
+    (λ p w f y e q i g r yy bb h. grind (arith, same_is, read_put, length-set, story-push))
+    (λ u us p w f y e q i g r yy bb h. grind (arith, same_is, read_put, length-set, story-push)))
+    (by_bool _
+    (by_list _
+    (λ p w f y e q i g r yy bb h. grind (arith, same_is, read_put, length-set, story-push))
+    (λ u us p w f y e q i g r yy bb h. grind (arith, same_is, read_put, length-set, story-push)))
+    (by_list _
+    (λ p w f y e q i g r yy bb h. let k : IsUnmarked (task w f) = unmarked (task w f) e in grind (arith, same_is, read_put, length-set, story-push))
+    (λ u us p w f y e q i g r yy bb h. let k : IsUnmarked (task w f) = unmarked (task w f) e in grind (arith, same_is, read_put, length-set, story-push)))))
 
 leaves-close : (w : World) → KeepsLeaves w (op.Close ∷ []) (close w)
 leaves-close w g r yy bb h = grind arith
 
 leaves-drain : (q : List ℕ) (p : ℕ) (w : World) → w.queue.items ≡ q → KeepsLeaves w (op.Drain ∷ []) (drain_by p w q)
-leaves-drain [] p w e g r yy bb h = grind (arith, story-push)
-leaves-drain (f ∷ rest) p w e g r yy bb h = let z : same g f + times g (drop 1 w.queue.items) ≡ times g w.queue.items = times-drop g f rest w.queue.items e in grind (arith, same_is)
+leaves-drain = by_list _
+    (λ p w e g r yy bb h. grind (arith, story-push))
+    (λ f rest p w e g r yy bb h. let z : same g f + times g (drop 1 w.queue.items) ≡ times g w.queue.items = times-drop g f rest w.queue.items e in grind (arith, same_is))
 
 leaves-end : (p : ℕ) (w : World) (a : Reply) (held : Hold) → KeepsLeaves w (op.End a held ∷ []) (done (log w (event.CallEnded p a)) [])
 leaves-end p w a held g r yy bb h = grind (arith, story-push)
@@ -291,12 +370,14 @@ own : (n f : ℕ) (o : Op) → past n f ≤ past_of n o → weigh (past_of n) (o
 own n f o le e = below n f (omega (arith, le, e))
 
 leaves-wake_first : (p : ℕ) (w : World) (q : List ℕ) → w.waking ≡ q → ((f : ℕ) (rest : List ℕ) → q ≡ f ∷ rest → f < length w.tasks) → KeepsLeaves w (op.WakeNext ∷ []) (wake_next_by p w q)
-leaves-wake_first p w [] e i = λ g r yy bb h. grind arith
-leaves-wake_first p w (f ∷ rest) e i = leaves-wake_next (moves.is_over (task w f)) _ _ rest p w f e refl refl (i f rest refl)
+leaves-wake_first = λ p w. by_list _
+    (λ e i. λ g r yy bb h. grind arith)
+    (λ f rest e i. leaves-wake_next (moves.is_over (task w f)) _ _ rest p w f e refl refl (i f rest refl))
 
 leaves-drop_first : (p : ℕ) (w : World) (q : List ℕ) → w.leaving ≡ q → KeepsLeaves w (op.DropNext ∷ []) (drop_next_by p w q)
-leaves-drop_first p w [] e = λ g r yy bb h. grind arith
-leaves-drop_first p w (f ∷ rest) e = leaves-drop_next rest (w.waking ++ f ∷ []) p w f e
+leaves-drop_first = λ p w. by_list _
+    (λ e. λ g r yy bb h. grind arith)
+    (λ f rest e. leaves-drop_next rest (w.waking ++ f ∷ []) p w f e)
 
 leaves-cancel : (b c : Bool) (p : ℕ) (w : World) (f : ℕ) → moves.is_over (task w f) ≡ b → moves.is_going (task w f) ≡ c → f < length w.tasks → KeepsLeaves w (op.Cancel f ∷ []) (carried (log_if (not b) w (event.Cancelled p f)) f (moves.cancel_by b c (task w f)))
 leaves-cancel true c p w f e q i = leaves-cancel_over false p w f i

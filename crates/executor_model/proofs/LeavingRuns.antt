@@ -23,6 +23,7 @@ use Rattle.executor_model.specs.Sound as sound
 use Rattle.executor_model.specs.Good.{Good, past_of}
 use Rattle.executor_model.specs.Steps.{Machine, stack, idle, run, start, polled_by, top, is_free, has_all, is_on_executor, is_drop, is_unused, accepts, begun, react, used_up, with_future, kept, waker_of}
 use Rattle.executor_model.specs.Entries.{leaves_of}
+use Rattle.executor_model.proofs.Cases.{by_bool}
 use Rattle.executor_model.proofs.Lists.{weigh_all-push}
 use Rattle.executor_model.proofs.Lift.{split, split-pend, push-pend, unsettled, good-start, none_refused, open_executor, unborrowed, weigh_all-idle, set-own}
 use Rattle.executor_model.proofs.Ways.{Way, along}
@@ -87,8 +88,9 @@ pub has-entries : (s : Machine) → s.world.gone ≡ false → Placed s → (g :
 has-entries s n h k = no-longer (story k s.world.trace).standing s.world.table (λ g. subst (λ (xs : List ℕ). times g xs ≤ times g s.world.table) (same-standing g k s.world.trace) (omega (arith, (h.leaves g).table (inl n), (h.leaves g).stay n)))
 
 no-room : (c : Bool) (n m : ℕ) → n < m → (not c && nat_lt n m) ≡ false → c ≡ true
-no-room true n m l e = refl
-no-room false n m l e = absurd (grind (arith, nat_tests))
+no-room = by_bool _
+    (λ n m l e. refl)
+    (λ n m l e. absurd (grind (arith, nat_tests)))
 
 needs-places : (s : Machine) (p : ℕ) (o : Op) (rest : List Op) → p < length s.parties → stack s p ≡ rest ++ reverse (o ∷ []) → Good s → Placed s → NeedsPlaces s.world o
 needs-places s p (op.Append f) rest l e good h = no-room s.world.queue.closed _ _ (has-place s p f rest l e good h)

@@ -1,4 +1,6 @@
+pub mod Cases
 pub mod Lists
+pub mod Marks
 pub mod Counting
 pub mod Fitting
 pub mod Lift

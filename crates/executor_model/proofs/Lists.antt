@@ -13,11 +13,14 @@ use Rattle.executor_model.specs.declared.op.Awaiter.{Awaiter}
 use Rattle.executor_model.specs.declared.op.Waker.{Waker}
 use Rattle.executor_model.specs.declared.op.Waker.TheVariants.{Task, Outside}
 use Rattle.executor_model.specs.declared.op.Op.{Op}
+use Rattle.executor_model.specs.declared.op.Op.TheVariants.{WakeNext, Close}
+use Rattle.executor_model.specs.Acts.{closing_ops}
 use Rattle.executor_model.specs.Trace.{Trace}
 use Rattle.executor_model.specs.World.{blank, without, among}
-use Rattle.executor_model.specs.Weights.{same, weigh, weigh_all}
+use Rattle.executor_model.specs.Weights.{same, weigh, weigh_all, borrowing_of}
 use Rattle.executor_model.specs.Good.{past, pasts, wakers_past, waker_past, awaiters_past}
-use Rattle.executor_model.specs.Sound.{times, wakers_of, wakes, awaiters_of, Phase, passes, phase_from, phase, after_begun, after_answered, after_dropped}
+use Rattle.executor_model.specs.Sound.{times, wakers_of, wakes, awaiters_of, waiting_of, polls_of, ending_of, ready_of, closing_of, settling_of, giving_of, drops_of, releases_of, copies_of, ousting_of, Pend, with_ops, Phase, passes, phase_from, phase, after_begun, after_answered, after_dropped}
+use Rattle.executor_model.proofs.Cases.{by_bool}
 
 pub same_cases : (g f : ℕ) → ((same g f ≡ 1) × (eqb g f ≡ true) × (g ≡ f)) ⊎ ((same g f ≡ 0) × (eqb g f ≡ false) × (g ≢ f))
 unfolding same
@@ -39,6 +42,16 @@ same_is g f = (
 pub weigh-append : (v : Op → ℕ) (xs ys : List Op) → weigh v (xs ++ ys) ≡ weigh v xs + weigh v ys
 weigh-append v [] ys = omega arith
 weigh-append v (x ∷ xs) ys = omega (arith, weigh-append v xs ys)
+
+-- what the executor's drop does after a wake weighs nothing where neither of the two weighs
+pub weigh-closing : (v : Op → ℕ) (xs : List Op) (rest : List ℕ) → v WakeNext ≡ 0 → v Close ≡ 0 → weigh v (xs ++ closing_ops [] rest) ≡ weigh v xs
+weigh-closing v xs [] n e = omega (arith, weigh-append v xs (Close ∷ []), e)
+weigh-closing v xs (f ∷ rest) n e = omega (arith, weigh-append v xs (WakeNext ∷ []), n)
+
+-- so does the rest of a wake
+pub with_ops-closing : (g : ℕ) (xs : List Op) (rest : List ℕ) (r : Pend) → with_ops g (xs ++ closing_ops [] rest) r ≡ with_ops g xs r
+with_ops-closing g xs rest r =
+    rw (weigh-closing (waiting_of g) xs rest refl refl, weigh-closing (polls_of g) xs rest refl refl, weigh-closing (ending_of g) xs rest refl refl, weigh-closing (ready_of g) xs rest refl refl, weigh-closing (closing_of g) xs rest refl refl, weigh-closing (settling_of g) xs rest refl refl, weigh-closing (giving_of g) xs rest refl refl, weigh-closing (drops_of g) xs rest refl refl, weigh-closing (releases_of g) xs rest refl refl, weigh-closing (copies_of g) xs rest refl refl, weigh-closing borrowing_of xs rest refl refl, weigh-closing ousting_of xs rest refl refl) refl
 
 pub times-append : (g : ℕ) (xs ys : List ℕ) → times g (xs ++ ys) ≡ times g xs + times g ys
 times-append g [] ys = omega arith
@@ -129,8 +142,9 @@ awaiters_past-push n (x ∷ ws) = omega (arith, awaiters_past-push n ws, awaiter
 
 -- without its first f, and whether f is among them
 without_go : (g f x : ℕ) (xs : List ℕ) (b : Bool) → eqb f x ≡ b → (among f xs ≡ true → times g (without f xs) + same g f ≡ times g xs) → elim b [ true ↦ true | false ↦ among f xs ] ≡ true → times g (elim b [ true ↦ xs | false ↦ x ∷ without f xs ]) + same g f ≡ same g x + times g xs
-without_go g f x xs true q ih e = let same_two : f ≡ x = grind (arith, nat_tests) in rw same_two (omega arith)
-without_go g f x xs false q ih e = omega (arith, ih e)
+without_go = λ g f x xs. by_bool _
+    (λ q ih e. let same_two : f ≡ x = grind (arith, nat_tests) in rw same_two (omega arith))
+    (λ q ih e. omega (arith, ih e))
 
 pub without_one : (g f : ℕ) (xs : List ℕ) → among f xs ≡ true → times g (without f xs) + same g f ≡ times g xs
 without_one g f [] e = absurd (cc)

@@ -21,6 +21,7 @@ use Rattle.executor_model.specs.Good.{Good}
 use Rattle.executor_model.specs.Steps.{Machine, stack, top, below_top, step, step_by, stepped, refusal, go_refusal, unless, gone_on, run, start}
 use Rattle.executor_model.specs.Entries.{HasTable, Remains}
 use Rattle.executor_model.specs.Emptiness.{Looks, Answers, IsEmptinessExact}
+use Rattle.executor_model.proofs.Cases.{by_list}
 use Rattle.executor_model.proofs.Lists.{same_is}
 use Rattle.executor_model.proofs.Lift.{split, topped, good}
 use Rattle.executor_model.proofs.LeavingRuns.{Placed, placed}
@@ -38,8 +39,9 @@ yes-or-no [] = inl refl
 yes-or-no (x ∷ xs) = inr refl
 
 none-there : (xs : List ℕ) → ((f : ℕ) → times f xs ≡ 0) → emptiness xs ≡ reply.Yes
-none-there [] k = refl
-none-there (x ∷ xs) k = absurd (let z : times x (x ∷ xs) ≡ 0 = k x in grind (arith, same_is))
+none-there = by_list _
+    (λ k. refl)
+    (λ x xs k. absurd (let z : times x (x ∷ xs) ≡ 0 = k x in grind (arith, same_is)))
 
 says-yes : (xs : List ℕ) (p : ℕ) (es : Trace) → es ++ event.CallEnded p (emptiness xs) ∷ [] ≡ es ++ event.CallEnded p reply.Yes ∷ [] → (f : ℕ) → times f xs ≡ 0
 says-yes [] p es e f = refl

@@ -25,6 +25,7 @@ use Rattle.executor_model.specs.Acts.{append_by, take_by, enter_by, entered, lea
 use Rattle.executor_model.specs.Weights.{weigh}
 use Rattle.executor_model.specs.Good.{past, past_of}
 use Rattle.executor_model.specs.Steps.{used_up, with_future, kept, accepts, begun, react}
+use Rattle.executor_model.proofs.Cases.{by_bool}
 use Rattle.executor_model.proofs.Lists.{same_is, read_put, past_is, weigh-append}
 use Rattle.executor_model.proofs.Counting.{readied, detached, gives}
 use Rattle.executor_model.proofs.Outputs.{output_of, outputs-push, outs_of, Given, KeepsOutput, Calm, Stays, Tame, keeps-calm, calm-same, calm-and, calm-log, calm-put, push-stays, none-both, keeps-carried, tame-wake, tame-more, tame-release, tame-take_up, tame-give_up, tame-end_pending, tame-cancel, tame-detach}
@@ -83,20 +84,27 @@ out-begin_drop_output : (p : ℕ) (w : World) (f : ℕ) → KeepsOutput w (op.Be
 out-begin_drop_output p w f = record { keeps = λ g r h. grind (arith, outputs-push) }
 
 out-end_ready : (u a : Bool) (w : World) (f : ℕ) → ((task w f).closed || not (task w f).handle) ≡ u → (task w f).completed ≡ false → f < length w.tasks → KeepsOutput w (op.EndReady f ∷ []) (readied u a w f)
-out-end_ready true true w f e n i = record { keeps = λ g r h. grind (arith, same_is, read_put) }
-out-end_ready true false w f e n i = record { keeps = λ g r h. grind (arith, same_is, read_put) }
-out-end_ready false true w f e n i = record { keeps = λ g r h. grind (arith, same_is, read_put) }
-out-end_ready false false w f e n i = record { keeps = λ g r h. grind (arith, same_is, read_put) }
+out-end_ready = by_bool _
+    (by_bool _
+    (λ w f e n i. record { keeps = λ g r h. grind (arith, same_is, read_put) })
+    (λ w f e n i. record { keeps = λ g r h. grind (arith, same_is, read_put) }))
+    (by_bool _
+    (λ w f e n i. record { keeps = λ g r h. grind (arith, same_is, read_put) })
+    (λ w f e n i. record { keeps = λ g r h. grind (arith, same_is, read_put) }))
 
 out-detach : (o x y : Bool) (p : ℕ) (w : World) (f : ℕ) → ((task w f).completed && not (task w f).closed) ≡ x → f < length w.tasks → KeepsOutput w (op.Detach f ∷ []) (detached o x y p w f)
-out-detach true true y p w f e i = record { keeps = λ g r h. let k0 : (task w f).completed ≡ true = grind (arith, nat_tests) in let k1 : (task w f).closed ≡ false = grind (arith, nat_tests) in grind (arith, same_is, read_put, outputs-push) }
-out-detach false true y p w f e i = record { keeps = λ g r h. let k0 : (task w f).completed ≡ true = grind (arith, nat_tests) in let k1 : (task w f).closed ≡ false = grind (arith, nat_tests) in grind (arith, same_is, read_put, outputs-push) }
-out-detach true false y p w f e i = keeps-logged true w (event.Detached p f) f _ _ (λ g. refl) (tame-detach y (task w f))
-out-detach false false y p w f e i = keeps-logged false w (event.Detached p f) f _ _ (λ g. refl) (tame-detach y (task w f))
+out-detach = by_bool _
+    (by_bool _
+    (λ y p w f e i. record { keeps = λ g r h. let k0 : (task w f).completed ≡ true = grind (arith, nat_tests) in let k1 : (task w f).closed ≡ false = grind (arith, nat_tests) in grind (arith, same_is, read_put, outputs-push) })
+    (λ y p w f e i. keeps-logged true w (event.Detached p f) f _ _ (λ g. refl) (tame-detach y (task w f))))
+    (by_bool _
+    (λ y p w f e i. record { keeps = λ g r h. let k0 : (task w f).completed ≡ true = grind (arith, nat_tests) in let k1 : (task w f).closed ≡ false = grind (arith, nat_tests) in grind (arith, same_is, read_put, outputs-push) })
+    (λ y p w f e i. keeps-logged false w (event.Detached p f) f _ _ (λ g. refl) (tame-detach y (task w f))))
 
 out-gives : (b : Bool) (p : ℕ) (w : World) (f : ℕ) (a : Waker) → (task w f).closed ≡ false → (task w f).completed ≡ true → f < length w.tasks → KeepsOutput w (op.Look f a ∷ []) (gives b p w (polled p w f) f)
-out-gives true p w f a x c i = record { keeps = λ g r h. grind (arith, same_is, read_put, outputs-push) }
-out-gives false p w f a x c i = record { keeps = λ g r h. grind (arith, same_is, read_put, outputs-push) }
+out-gives = by_bool _
+    (λ p w f a x c i. record { keeps = λ g r h. grind (arith, same_is, read_put, outputs-push) })
+    (λ p w f a x c i. record { keeps = λ g r h. grind (arith, same_is, read_put, outputs-push) })
 
 out-look : (x k c : Bool) (p : ℕ) (w : World) (f : ℕ) (a : Waker) → (task w f).closed ≡ x → (task w f).completed ≡ c → f < length w.tasks → KeepsOutput w (op.Look f a ∷ []) (look_by (moves.poll_by x k c (task w f)).owed.answer p w f a (moves.poll_by x k c (task w f)))
 out-look true true c p w f a x e i = keeps-same w _ _ (λ g. refl)
@@ -105,8 +113,9 @@ out-look false k false p w f a x e i = keeps-same w _ _ (λ g. refl)
 out-look false k true p w f a x e i = out-gives _ p w f a x e i
 
 out-again-gives : (b : Bool) (p : ℕ) (w : World) (f : ℕ) → (task w f).closed ≡ false → (task w f).completed ≡ true → f < length w.tasks → KeepsOutput w (op.LookAgain f ∷ []) (gives b p w w f)
-out-again-gives true p w f x c i = record { keeps = λ g r h. grind (arith, same_is, read_put, outputs-push) }
-out-again-gives false p w f x c i = record { keeps = λ g r h. grind (arith, same_is, read_put, outputs-push) }
+out-again-gives = by_bool _
+    (λ p w f x c i. record { keeps = λ g r h. grind (arith, same_is, read_put, outputs-push) })
+    (λ p w f x c i. record { keeps = λ g r h. grind (arith, same_is, read_put, outputs-push) })
 
 out-again : (x k c : Bool) (p : ℕ) (w : World) (f : ℕ) → (task w f).closed ≡ x → (task w f).completed ≡ c → f < length w.tasks → KeepsOutput w (op.LookAgain f ∷ []) (look_again_by (moves.look_again_by x k c (task w f)).owed.answer p w f (moves.look_again_by x k c (task w f)))
 out-again true true c p w f x e i = keeps-put w f (task w f) _ _ (stays (task w f)) (λ g. refl)

@@ -9,6 +9,7 @@ use Rattle.executor_model.specs.Trace.{Trace}
 use Rattle.executor_model.specs.World.{without, among}
 use Rattle.executor_model.specs.Weights.{same}
 use Rattle.executor_model.specs.Sound.{times}
+use Rattle.executor_model.proofs.Cases.{by_bool}
 use Rattle.executor_model.proofs.Lists.{same_cases, without_one}
 
 -- the list without any f
@@ -62,8 +63,9 @@ story-none g = refl
 -- lists of numbers
 
 except-go : (g f x : ℕ) (xs : List ℕ) (b : Bool) → eqb f x ≡ b → ((same g f ≡ 1) × (times g (except f xs) ≡ 0)) ⊎ ((same g f ≡ 0) × (times g (except f xs) ≡ times g xs)) → ((same g f ≡ 1) × (times g (elim b [ true ↦ except f xs | false ↦ x ∷ except f xs ]) ≡ 0)) ⊎ ((same g f ≡ 0) × (times g (elim b [ true ↦ except f xs | false ↦ x ∷ except f xs ]) ≡ same g x + times g xs))
-except-go g f x xs true e ih = let q : f ≡ x = grind (arith, nat_tests) in grind (arith, same_cases)
-except-go g f x xs false e ih = let q : f ≢ x = grind (arith, nat_tests) in grind (arith, same_cases)
+except-go = λ g f x xs. by_bool _
+    (λ e ih. let q : f ≡ x = grind (arith, nat_tests) in grind (arith, same_cases))
+    (λ e ih. let q : f ≢ x = grind (arith, nat_tests) in grind (arith, same_cases))
 
 -- for grind, which picks it up at a list that is written so
 pub times-except : (g f : ℕ) (xs : List ℕ) → (times g (except f xs) ≡ times g (except f xs)) × (((same g f ≡ 1) × (times g (except f xs) ≡ 0)) ⊎ ((same g f ≡ 0) × (times g (except f xs) ≡ times g xs)))
@@ -82,8 +84,9 @@ length-except f [] = omega arith
 length-except f (x ∷ xs) = length-go f x xs (eqb f x) (length-except f xs)
 
 among-go : (f x : ℕ) (xs : List ℕ) (b : Bool) → eqb f x ≡ b → ((among f xs ≡ true) × (1 ≤ times f xs)) ⊎ ((among f xs ≡ false) × (times f xs ≡ 0)) → ((elim b [ true ↦ true | false ↦ among f xs ] ≡ true) × (1 ≤ same f x + times f xs)) ⊎ ((elim b [ true ↦ true | false ↦ among f xs ] ≡ false) × (same f x + times f xs ≡ 0))
-among-go f x xs true e ih = inl (refl, grind (arith, nat_tests, same_cases))
-among-go f x xs false e ih = let q : f ≢ x = grind (arith, nat_tests) in grind (arith, same_cases)
+among-go = λ f x xs. by_bool _
+    (λ e ih. inl (refl, grind (arith, nat_tests, same_cases)))
+    (λ e ih. let q : f ≢ x = grind (arith, nat_tests) in grind (arith, same_cases))
 
 pub among_is : (f : ℕ) (xs : List ℕ) → ((among f xs ≡ true) × (1 ≤ times f xs)) ⊎ ((among f xs ≡ false) × (times f xs ≡ 0))
 among_is f [] = inr (refl, refl)

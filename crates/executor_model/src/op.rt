@@ -18,7 +18,7 @@ pub struct Awaiter {
 }
 
 /// What a call uses until it has ended, and another call may not use meanwhile.
-#[derive(Clone, Copy, Debug, PartialEq, Eq)]
+#[derive(Clone, Copy, Debug)]
 pub enum Hold {
     Nothing,
     /// The executor, which can't be dropped.
@@ -33,7 +33,7 @@ pub enum Hold {
 
 /// One thing that a party has still to do. It is done in one step, but for user code, which begins
 /// by a step and waits for its answer.
-#[derive(Clone, Copy, Debug, PartialEq, Eq)]
+#[derive(Clone, Copy, Debug)]
 pub enum Op {
     /// The table takes a new future in, and a waker of it.
     Enter,

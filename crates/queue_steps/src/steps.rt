@@ -8,7 +8,7 @@ pub mod single;
 pub mod unbounded;
 
 /// How a call ends. The items that it takes in or hands out are not part of it.
-#[derive(Clone, Copy, PartialEq, Eq, Debug)]
+#[derive(Clone, Copy)]
 pub enum Reply {
     /// The item was appended, or the first item was taken.
     Done,

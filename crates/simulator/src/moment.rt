@@ -2,7 +2,7 @@ use executor_model::{Event, Reply};
 use script::Word;
 
 /// How a command ended.
-#[derive(Clone, Copy, Debug, PartialEq, Eq)]
+#[derive(Clone, Copy)]
 pub enum Outcome {
     Answered(Reply),
     /// A polled handle gave this output.
@@ -12,7 +12,7 @@ pub enum Outcome {
 }
 
 /// What a run of a script shows, moment by moment: what happened, and how each command ended.
-#[derive(Clone, Copy, Debug, PartialEq, Eq)]
+#[derive(Clone, Copy)]
 pub enum Moment {
     Happened(Event),
     Ended { word: Word, outcome: Outcome },

@@ -6,6 +6,7 @@ pub mod Finishing
 pub mod Cancelling
 pub mod Detaching
 pub mod Answering
+pub mod Cases
 pub mod Courses
 pub mod Joining
 pub mod Following

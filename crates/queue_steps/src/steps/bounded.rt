@@ -13,7 +13,7 @@ use crate::steps::Reply;
 pub const MOST_ACCEPTED: u64 = 1 << 61;
 
 /// How many places a ring has, and the mark above their indexes: the least power of two that exceeds their number.
-#[derive(Clone, Copy, PartialEq, Eq, Debug)]
+#[derive(Clone, Copy)]
 pub struct Shape {
     pub capacity: u64,
     pub mark: u64,
@@ -112,7 +112,7 @@ impl Shape {
 }
 
 /// What a call on a ring does next.
-#[derive(Clone, Copy, PartialEq, Eq, Debug)]
+#[derive(Clone, Copy)]
 pub enum Turn {
     /// Load the tail.
     Tail,

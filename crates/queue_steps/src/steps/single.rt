@@ -15,7 +15,7 @@ pub const PUSHED: u64 = 2;
 pub const CLOSED: u64 = 4;
 
 /// What a call on a single slot does next.
-#[derive(Clone, Copy, PartialEq, Eq, Debug)]
+#[derive(Clone, Copy)]
 pub enum Turn {
     /// Load the word.
     Look,

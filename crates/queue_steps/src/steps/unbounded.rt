@@ -11,7 +11,7 @@ pub const BLOCK: u64 = 31;
 pub const MOST_ACCEPTED: u64 = 1 << 61;
 
 /// How many items were appended to a chain and how many were taken, and whether it was closed.
-#[derive(Clone, Copy, PartialEq, Eq, Debug)]
+#[derive(Clone, Copy)]
 pub struct Ends {
     pub tail: u64,
     pub head: u64,
@@ -19,7 +19,7 @@ pub struct Ends {
 }
 
 /// What the section of a call does.
-#[derive(Clone, Copy, PartialEq, Eq, Debug)]
+#[derive(Clone, Copy)]
 pub enum Turn {
     /// Append to the last block.
     Append,

@@ -7,7 +7,7 @@ ghost use Rattle.simulator.specs.Turn as turns;
 use executor_model::{Reply, Waker};
 
 /// How far a poll of a future has come.
-#[derive(Clone, Copy, Debug, PartialEq, Eq)]
+#[derive(Clone, Copy)]
 pub enum Stage {
     /// It has begun.
     Begun,
@@ -18,7 +18,7 @@ pub enum Stage {
 }
 
 /// One accepted future, as the script sees it.
-#[derive(Clone, Copy, Debug, PartialEq, Eq)]
+#[derive(Clone, Copy)]
 pub struct Future {
     /// The place in the script of the command that spawned it.
     pub command: usize,

@@ -6,7 +6,7 @@ ghost use Rattle.simulator.specs.Play as play;
 use executor_model::Reply;
 
 /// A command that a party has begun.
-#[derive(Clone, Copy, Debug, PartialEq, Eq)]
+#[derive(Clone, Copy)]
 pub struct Doing {
     /// The place of the command in the script.
     pub command: usize,
@@ -15,7 +15,7 @@ pub struct Doing {
 }
 
 /// One party.
-#[derive(Clone, Copy, Debug, PartialEq, Eq)]
+#[derive(Clone, Copy)]
 pub struct Party {
     /// The command that it has begun and not ended.
     pub doing: Option<Doing>,

@@ -16,7 +16,7 @@ use queue_steps::{ForcePushError, PushError};
 use std::sync::Wait;
 
 /// Whether a push displaces the oldest item of a full ring.
-#[derive(Clone, Copy, PartialEq, Eq, Debug)]
+#[derive(Clone, Copy)]
 pub enum Manner {
     Plain,
     Forced,

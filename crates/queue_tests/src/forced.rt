@@ -1,8 +1,10 @@
 //! `ConcurrentQueue` under forced pushes and a close in their middle: what was displaced or popped is what was accepted.
 ghost use Rattle.std.specs.Prelude.{◌<◌};
 
-use crate::threads::{MOST_TURNS, close_under_load, pop_until_closed, push_until_closed};
-use crate::words::{holds, same};
+use crate::threads::{
+    MOST_TURNS, add_all, add_numbers, close_under_load, pop_until_closed, push_until_closed,
+};
+use crate::words::{holds, same, same_numbers};
 use concurrent_queue::ConcurrentQueue;
 use std::alloc::AllocGlobal;
 use std::process::Abort;
@@ -102,18 +104,13 @@ fn displace_and_close<R: Wait + Abort + AllocGlobal + Threads + Sync>(
     let mut closed = 0u64;
     for part in &parts {
         closed = closed.wrapping_add(part.closed);
-        for number in 0..part.accepted {
-            want.push(part.first.wrapping_add(number))
-                .expect(rt, "memory");
-        }
-        for number in &part.taken {
-            all.push(*number).expect(rt, "memory");
-        }
+        add_numbers(rt, &mut want, part.first, part.accepted);
+        add_all(rt, &mut all, &part.taken);
     }
     all.sort().expect(rt, "memory");
     want.sort().expect(rt, "memory");
     same(rt, closed, 1);
-    same(rt, all.as_slice(), want.as_slice());
+    same_numbers(rt, all.as_slice(), want.as_slice());
     same(rt, (queue.is_closed(rt), queue.is_empty(rt)), (true, true));
     holds(rt, queue.pop(rt).is_err());
 }

@@ -10,7 +10,6 @@ use std::fmt::Debug;
 use std::process::Abort;
 use std::sync::atomic::{AtomicU64, Ordering};
 use std::sync::{Mutex, Wait};
-use std::test::Fail;
 
 // A queue of this capacity, of a run in which no memory is refused.
 fn bounded<R: Abort + AllocGlobal, T: Drop>(rt: &R, cap: usize) -> ConcurrentQueue<T>
@@ -83,12 +82,12 @@ fn a_forced_push_displaces_until_the_queue_is_closed(rt: HostRuntime) {
 }
 
 #[test]
-fn a_shared_walk_gives_the_items_in_order(rt: HostRuntime) -> Result<(), Fail> {
+fn a_shared_walk_gives_the_items_in_order(rt: HostRuntime) {
     let queue = ConcurrentQueue::<u64>::unbounded(rt.alloc());
     force_push(&rt, &queue, 1, Ok(None));
     push(&rt, &queue, 2, Ok(()));
     let mut walk = queue.try_iter(&rt);
-    let mut copy = walk.clone()?;
+    let mut copy = walk.clone().expect(&rt, "memory");
     same(&rt, (walk.next(), copy.next()), (Some(1), Some(2)));
     same(&rt, (walk.next(), copy.next()), (None, None));
     push(&rt, &queue, 3, Ok(()));
@@ -102,7 +101,6 @@ fn a_shared_walk_gives_the_items_in_order(rt: HostRuntime) -> Result<(), Fail> {
         want = item.wrapping_add(1);
     }
     same(&rt, want, 10);
-    Ok(())
 }
 
 #[test]
@@ -133,22 +131,31 @@ fn a_shared_slot_holds_one_item(rt: HostRuntime) {
     pop(&rt, &queue, Err(PopError::Closed));
 }
 
+// Five numbers from `first` on.
+fn push_five<R: Wait + Abort>(rt: &R, queue: &ConcurrentQueue<u64>, first: u64) {
+    for item in 0..5u64 {
+        push(rt, queue, first.wrapping_add(item), Ok(()));
+    }
+}
+
+fn pop_five<R: Wait + Abort>(rt: &R, queue: &ConcurrentQueue<u64>, first: u64) {
+    for item in 0..5u64 {
+        pop(rt, queue, Ok(first.wrapping_add(item)));
+    }
+}
+
 #[test]
 fn a_shared_ring_and_chain_count_and_keep_order_past_a_hundred_items(rt: HostRuntime) {
     let (ring, chain) = (bounded(&rt, 5), ConcurrentQueue::unbounded(rt.alloc()));
     same(&rt, (ring.capacity(), chain.capacity()), (Some(5), None));
     for round in 0..25u64 {
-        for item in 0..5u64 {
-            push(&rt, &ring, 5 * round + item, Ok(()));
-            push(&rt, &chain, 5 * round + item, Ok(()));
-        }
+        push_five(&rt, &ring, 5 * round);
+        push_five(&rt, &chain, 5 * round);
         same(&rt, (ring.is_full(&rt), chain.is_full(&rt)), (true, false));
         same(&rt, (ring.len(&rt), chain.len(&rt)), (5, 5));
         push(&rt, &ring, 1000, Err(PushError::Full(1000)));
-        for item in 0..5u64 {
-            pop(&rt, &ring, Ok(5 * round + item));
-            pop(&rt, &chain, Ok(5 * round + item));
-        }
+        pop_five(&rt, &ring, 5 * round);
+        pop_five(&rt, &chain, 5 * round);
         same(&rt, (ring.is_empty(&rt), chain.is_empty(&rt)), (true, true));
         pop(&rt, &chain, Err(PopError::Empty));
     }
@@ -203,18 +210,25 @@ impl<'a> Drop for Counted<'a> {
     }
 }
 
+// Of eight forced pushes those that don't fit are dropped at once, and the others with the queue.
+fn drops_each_of_eight<R: Wait + Abort + AllocGlobal>(rt: &R, drops: &AtomicU64, cap: usize)
+    requires { 0 < cap }
+{
+    let queue = bounded(rt, cap);
+    for _ in 0..8 {
+        drop(queue.force_push(rt, Counted(drops)));
+    }
+    let displaced = 8u64.saturating_sub(cap as u64);
+    same(rt, drops.swap(0, Ordering::SeqCst), displaced);
+    drop(queue);
+    same(rt, drops.swap(0, Ordering::SeqCst), cap as u64);
+}
+
 #[test]
 fn each_item_left_is_dropped_once(rt: HostRuntime) {
     let drops = AtomicU64::new(0);
     for cap in [1, 2, 7] {
-        let queue = bounded(&rt, cap);
-        for _ in 0..8 {
-            drop(queue.force_push(&rt, Counted(&drops)));
-        }
-        let displaced = 8u64.saturating_sub(cap as u64);
-        same(&rt, drops.swap(0, Ordering::SeqCst), displaced);
-        drop(queue);
-        same(&rt, drops.swap(0, Ordering::SeqCst), cap as u64);
+        drops_each_of_eight(&rt, &drops, cap);
     }
     let chain = ConcurrentQueue::unbounded(rt.alloc());
     for _ in 0..100u64 {

@@ -1,7 +1,7 @@
 //! `ConcurrentQueue` called by several threads. A thread that goes round more than `MOST_TURNS` times fails its test.
 ghost use Rattle.std.specs.Prelude.{◌<◌};
 
-use crate::words::{holds, same};
+use crate::words::{holds, same, same_numbers};
 use concurrent_queue::{ConcurrentQueue, PopError, PushError};
 use std::alloc::AllocGlobal;
 use std::process::Abort;
@@ -57,6 +57,22 @@ fn push_or_pop_share<R: Wait + Abort + AllocGlobal>(
     popped
 }
 
+// Adds so many numbers from `first` on.
+pub fn add_numbers<R: Abort + AllocGlobal>(rt: &R, numbers: &mut Vec<u64>, first: u64, count: u64) {
+    for number in 0..count {
+        numbers
+            .push(first.wrapping_add(number))
+            .expect(rt, "memory");
+    }
+}
+
+// Adds these numbers.
+pub fn add_all<R: Abort + AllocGlobal>(rt: &R, numbers: &mut Vec<u64>, more: &Vec<u64>) {
+    numbers
+        .extend_from_slice(more.as_slice())
+        .expect(rt, "memory");
+}
+
 // So many threads push while as many pop, and what was popped, sorted, is what was pushed.
 fn hand_over<R: Wait + Abort + AllocGlobal + Threads + Sync>(
     rt: &R,
@@ -73,63 +89,50 @@ fn hand_over<R: Wait + Abort + AllocGlobal + Threads + Sync>(
     .expect(rt, "memory");
     let mut all = Vec::new(rt.alloc());
     for part in &parts {
-        for number in part {
-            all.push(*number).expect(rt, "memory");
-        }
+        add_all(rt, &mut all, part);
     }
     all.sort().expect(rt, "memory");
-    let mut want = 0;
-    for number in &all {
-        same(rt, *number, want);
-        want = number.wrapping_add(1);
-    }
-    same(rt, want, SHARE.wrapping_mul(pairs as u64));
+    let mut want = Vec::new(rt.alloc());
+    add_numbers(rt, &mut want, 0, SHARE.wrapping_mul(pairs as u64));
+    same_numbers(rt, all.as_slice(), want.as_slice());
     same(rt, queue.pop(rt), Err(PopError::Empty));
+}
+
+// The same on a queue of this capacity.
+fn hand_over_bounded<R: Wait + Abort + AllocGlobal + Threads + Sync>(
+    rt: &R,
+    cap: usize,
+    pairs: usize,
+)
+    requires { 0 < cap }
+{
+    let queue = ConcurrentQueue::bounded(rt.alloc(), cap).expect(rt, "memory");
+    hand_over(rt, &queue, pairs);
 }
 
 #[test]
 fn a_ring_hands_over_each_number_once(rt: HostRuntime) {
-    hand_over(
-        &rt,
-        &ConcurrentQueue::bounded(rt.alloc(), 8).expect(&rt, "memory"),
-        2,
-    );
+    hand_over_bounded(&rt, 8, 2);
 }
 
 #[test]
 fn a_large_ring_hands_over_each_number_once(rt: HostRuntime) {
-    hand_over(
-        &rt,
-        &ConcurrentQueue::bounded(rt.alloc(), 1024).expect(&rt, "memory"),
-        2,
-    );
+    hand_over_bounded(&rt, 1024, 2);
 }
 
 #[test]
 fn a_ring_hands_over_each_number_once_between_two_threads(rt: HostRuntime) {
-    hand_over(
-        &rt,
-        &ConcurrentQueue::bounded(rt.alloc(), 8).expect(&rt, "memory"),
-        1,
-    );
+    hand_over_bounded(&rt, 8, 1);
 }
 
 #[test]
 fn a_slot_hands_over_each_number_once_between_two_threads(rt: HostRuntime) {
-    hand_over(
-        &rt,
-        &ConcurrentQueue::bounded(rt.alloc(), 1).expect(&rt, "memory"),
-        1,
-    );
+    hand_over_bounded(&rt, 1, 1);
 }
 
 #[test]
 fn a_slot_hands_over_each_number_once(rt: HostRuntime) {
-    hand_over(
-        &rt,
-        &ConcurrentQueue::bounded(rt.alloc(), 1).expect(&rt, "memory"),
-        2,
-    );
+    hand_over_bounded(&rt, 1, 2);
 }
 
 #[test]
@@ -140,7 +143,7 @@ fn a_chain_hands_over_each_number_once(rt: HostRuntime) {
 // What a party of a queue that is closed under load did.
 #[derive(Drop)]
 enum Part {
-    Accepted(u64),
+    Accepted { first: u64, count: u64 },
     Popped(Vec<u64>),
     Closed(bool),
 }
@@ -211,8 +214,14 @@ fn push_pop_or_close<R: Wait + Abort + AllocGlobal>(
     party: usize,
 ) -> Part {
     match party {
-        0 => Part::Accepted(push_until_closed(rt, queue, 0, pushed)),
-        1 => Part::Accepted(push_until_closed(rt, queue, SECOND, pushed)),
+        0 => Part::Accepted {
+            first: 0,
+            count: push_until_closed(rt, queue, 0, pushed),
+        },
+        1 => Part::Accepted {
+            first: SECOND,
+            count: push_until_closed(rt, queue, SECOND, pushed),
+        },
         2 | 3 => Part::Popped(pop_until_closed(rt, queue)),
         _ => Part::Closed(close_under_load(rt, queue, pushed)),
     }
@@ -231,45 +240,40 @@ fn close_once<R: Wait + Abort + AllocGlobal + Threads + Sync>(
         &|party| { push_pop_or_close(rt, queue, &pushed, party) },
     )
     .expect(rt, "memory");
-    let (mut accepted, mut closers) = (Vec::new(rt.alloc()), 0u64);
-    let mut all = Vec::new(rt.alloc());
+    let (mut all, mut want) = (Vec::new(rt.alloc()), Vec::new(rt.alloc()));
+    let (mut pushers, mut closers) = (0u64, 0u64);
     for part in &parts {
         match part {
-            Part::Accepted(count) => accepted.push(*count).expect(rt, "memory"),
-            Part::Popped(numbers) => {
-                for number in numbers {
-                    all.push(*number).expect(rt, "memory");
-                }
+            Part::Accepted { first, count } => {
+                add_numbers(rt, &mut want, *first, *count);
+                pushers = pushers.wrapping_add(1);
             }
+            Part::Popped(numbers) => add_all(rt, &mut all, numbers),
             Part::Closed(first) => closers = closers.wrapping_add(u64::from(*first)),
         }
     }
-    same(rt, closers, 1);
+    same(rt, (pushers, closers), (2, 1));
     all.sort().expect(rt, "memory");
-    let mut given = all.iter();
-    for (count, first) in accepted.iter().zip([0, SECOND]) {
-        for number in 0..*count {
-            same(rt, given.next().copied(), Some(number.wrapping_add(first)));
-        }
-    }
-    same(rt, (given.next().copied(), accepted.len()), (None, 2));
+    same_numbers(rt, all.as_slice(), want.as_slice());
     same(rt, queue.pop(rt), Err(PopError::Closed));
+}
+
+// The same on a queue of this capacity.
+fn close_bounded_once<R: Wait + Abort + AllocGlobal + Threads + Sync>(rt: &R, cap: usize)
+    requires { 0 < cap }
+{
+    let queue = ConcurrentQueue::bounded(rt.alloc(), cap).expect(rt, "memory");
+    close_once(rt, &queue);
 }
 
 #[test]
 fn a_ring_closed_under_load_loses_nothing(rt: HostRuntime) {
-    close_once(
-        &rt,
-        &ConcurrentQueue::bounded(rt.alloc(), 8).expect(&rt, "memory"),
-    );
+    close_bounded_once(&rt, 8);
 }
 
 #[test]
 fn a_slot_closed_under_load_loses_nothing(rt: HostRuntime) {
-    close_once(
-        &rt,
-        &ConcurrentQueue::bounded(rt.alloc(), 1).expect(&rt, "memory"),
-    );
+    close_bounded_once(&rt, 1);
 }
 
 #[test]

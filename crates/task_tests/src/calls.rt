@@ -1,8 +1,10 @@
 //! What most tests begin with, and the calls that they make, each compared with its answer in one place, so that a call is
 //! cheap to prove.
-use crate::parts::{Counts, Tasks, TestAwaiter, TestRunnable, TestTask, made, next, outside_waker};
-use async_task::{Future, Poll};
-use std::alloc::Global;
+use crate::parts::{
+    Counts, Tasks, TestAwaiter, TestRunnable, TestTask, TestWaker, made, next, outside_waker,
+};
+use async_task::{Future, NoMemory, Poll};
+use std::alloc::{AllocGlobal, Global};
 use std::fmt::Debug;
 use std::process::Abort;
 use std::sync::atomic::AtomicU64;
@@ -14,9 +16,14 @@ pub fn same<R: Abort, T: PartialEq + Debug + Drop>(rt: &R, value: T, want: T) {
     assert_eq!(rt; value, want);
 }
 
-/// The text is the one that is wanted.
-pub fn shown<R: Abort>(rt: &R, text: String<Global>, want: &str) {
-    assert_eq!(rt; text.as_str(), want);
+/// Its text of Debug, of a run in which no memory is refused.
+pub fn text_of<R: Abort + AllocGlobal, T: Debug>(rt: &R, value: &T) -> String<Global> {
+    format!(in rt.alloc(); "{value:?}").expect(rt, "memory")
+}
+
+/// Its text of Debug is the one that is wanted.
+pub fn shown<R: Abort + AllocGlobal, T: Debug>(rt: &R, value: &T, want: &str) {
+    assert_eq!(rt; text_of(rt, value).as_str(), want);
 }
 
 pub fn holds<R: Abort>(rt: &R, is_so: bool) {
@@ -48,27 +55,33 @@ pub struct Stage<R: Wait + Copy + Drop + 'static> {
 
 impl<R: Abort + Wait + Copy + Drop + 'static> Stage<R> {
     /// New tasks in this realm.
-    pub fn new(rt: R, alloc: Global, realm: &'static Tasks<R>) -> Stage<R> {
-        Stage {
-            rt,
-            alloc,
-            realm,
-            counts: Counts::new(alloc).expect(&rt, "memory"),
+    pub fn new(rt: R, alloc: Global, realm: Result<&'static Tasks<R>, NoMemory>) -> Stage<R> {
+        match realm {
+            Ok(realm) => Stage {
+                rt,
+                alloc,
+                realm,
+                counts: Counts::new(alloc).expect(&rt, "memory"),
+            },
+            Err(_) => panic!(rt; "memory"),
         }
     }
 
     /// The same realm, whose next tasks are counted apart.
     pub fn counted_apart(&self) -> Stage<R> {
-        Stage::new(self.rt, self.alloc, self.realm)
+        Stage::new(self.rt, self.alloc, Ok(self.realm))
     }
 
     /// Another realm, whose tasks are counted with those of this one.
-    pub fn beside(&self, realm: &'static Tasks<R>) -> Stage<R> {
-        Stage {
-            rt: self.rt,
-            alloc: self.alloc,
-            realm,
-            counts: Arc::try_clone(&self.counts).expect(&self.rt, "memory"),
+    pub fn beside(&self, realm: Result<&'static Tasks<R>, NoMemory>) -> Stage<R> {
+        match realm {
+            Ok(realm) => Stage {
+                rt: self.rt,
+                alloc: self.alloc,
+                realm,
+                counts: Arc::try_clone(&self.counts).expect(&self.rt, "memory"),
+            },
+            Err(_) => panic!(self.rt; "memory"),
         }
     }
 
@@ -84,6 +97,14 @@ impl<R: Abort + Wait + Copy + Drop + 'static> Stage<R> {
         ) {
             Ok(both) => both,
             Err(_) => panic!(self.rt; "memory"),
+        }
+    }
+
+    /// A waker of this task.
+    pub fn waker(&self, runnable: &TestRunnable<R>) -> TestWaker<R> {
+        match runnable.waker() {
+            Some(waker) => waker,
+            None => panic!(self.rt; "no waker"),
         }
     }
 
@@ -110,6 +131,15 @@ impl<R: Abort + Wait + Copy + Drop + 'static> Stage<R> {
 
     pub fn schedules(&self, want: u64) {
         self.count(&self.counts.schedules, want);
+    }
+
+    /// Wakes of wakers from outside, schedule calls.
+    pub fn heard(&self, want: (u64, u64)) {
+        let heard = (
+            self.counts.rings.load(SeqCst),
+            self.counts.schedules.load(SeqCst),
+        );
+        assert_eq!(self.rt; heard, want);
     }
 
     pub fn schedules_after_poll(&self, want: u64) {

@@ -1,14 +1,23 @@
 //! How runs end, and how a cell is emptied.
 use crate::calls::{Stage, same, there};
-use crate::parts::{Tasks, begun, ended};
+use crate::parts::{Countdown, Tasks, begun, ended};
 use async_task::{Back, Wake};
-use std::test::Fail;
+
+/// What a poll of the future ends with.
+fn given_back(future: Countdown, is_ready: bool) -> Back<Countdown, u64> {
+    if is_ready {
+        drop(future);
+        Back::Ready(3)
+    } else {
+        Back::Pending(future)
+    }
+}
 
 /// A run answers true exactly where the schedule value was told that the task was woken while it
 /// was polled: that is where it was, gave no output and wasn't closed.
 #[test]
-fn a_run_answers_what_the_schedule_value_is_told(rt: HostRuntime) -> Result<(), Fail> {
-    let realm = Stage::new(rt, rt.alloc(), Tasks::leak(rt.alloc(), 0)?);
+fn a_run_answers_what_the_schedule_value_is_told(rt: HostRuntime) {
+    let realm = Stage::new(rt, rt.alloc(), Tasks::leak(rt.alloc(), 0));
     for case in 0..8u64 {
         let (is_woken, is_closed, is_ready) = (case % 2 == 1, case / 2 % 2 == 1, case / 4 == 1);
         let stage = realm.counted_apart();
@@ -22,28 +31,24 @@ fn a_run_answers_what_the_schedule_value_is_told(rt: HostRuntime) -> Result<(), 
             drop(task.take());
         }
         stage.seen((0, 0, 0, 0));
-        let back = if is_ready {
-            drop(future);
-            Back::Ready(3)
-        } else {
-            Back::Pending(future)
-        };
-        let (answer, was_dropped) = ended(running, back);
-        stage.holds(!was_dropped || is_closed && !is_ready);
-        let want = is_woken && !is_closed && !is_ready;
-        same(&rt, (case, answer), (case, want));
+        let (answer, was_dropped) = ended(running, given_back(future, is_ready));
+        stage.holds(!was_dropped | (is_closed & !is_ready));
+        same(
+            &rt,
+            (case, answer),
+            (case, is_woken & !is_closed & !is_ready),
+        );
         stage.schedules_after_poll(answer as u64);
         stage.schedules(answer as u64);
         drop(task);
     }
-    Ok(())
 }
 
 /// A task's Runnable, handle and waker go in any order: the last of them empties the cell, and
 /// none before.
 #[test]
-fn the_last_reference_empties_the_cell_once(rt: HostRuntime) -> Result<(), Fail> {
-    let realm = Stage::new(rt, rt.alloc(), Tasks::leak(rt.alloc(), 0)?);
+fn the_last_reference_empties_the_cell_once(rt: HostRuntime) {
+    let realm = Stage::new(rt, rt.alloc(), Tasks::leak(rt.alloc(), 0));
     for order in [
         [0, 1, 2],
         [0, 2, 1],
@@ -68,5 +73,4 @@ fn the_last_reference_empties_the_cell_once(rt: HostRuntime) -> Result<(), Fail>
         stage.schedule_drops(1);
         stage.schedules(0);
     }
-    Ok(())
 }

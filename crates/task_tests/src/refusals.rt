@@ -1,18 +1,38 @@
 //! What a task does where there is no memory, or no copy of a waker.
-use crate::calls::{Stage, holds, same, seen, shown};
-use crate::parts::{Counts, Tasks, future_and_line};
+use crate::calls::{Stage, holds, same, seen, shown, text_of};
+use crate::parts::{Countdown, Counts, Line, Tasks, future_and_line};
 use async_task::{Builder, NoMemory, Parts, Poll, Realm, TaskError, spawn};
+use std::alloc::{AllocGlobal, Global};
+use std::process::Abort;
 use std::sync::atomic::Ordering::SeqCst;
+use std::sync::{Arc, Wait};
 use std::test::Fail;
+
+/// Of a run in which no memory is refused here.
+fn counted<R: Abort + AllocGlobal>(rt: &R) -> Arc<Counts, Global> {
+    Counts::new(rt.alloc()).expect(rt, "memory")
+}
+
+/// What a task is made of that is Pending so many times.
+fn parts_of<R: Abort + Wait + Copy + Drop + 'static>(
+    rt: R,
+    counts: &Arc<Counts, Global>,
+    left: u64,
+) -> (Countdown, Line<R>) {
+    match future_and_line(rt, counts, left, false) {
+        Ok(parts) => parts,
+        Err(_) => panic!(rt; "memory"),
+    }
+}
 
 // The next two also pass where one allocation in a spawn is refused: `rt try --test --fail-alloc N`.
 
 /// What is given back is what was handed in, untouched, and can be spawned in the same realm.
 #[test]
 fn a_refused_spawn_hands_everything_back(rt: HostRuntime) -> Result<(), Fail> {
-    let counts = Counts::new(rt.alloc())?;
     let realm = Realm::leak(rt.alloc(), 0)?;
-    let (future, line) = future_and_line(rt, &counts, 5, false)?;
+    let counts = counted(&rt);
+    let (future, line) = parts_of(rt, &counts, 5);
     match spawn(rt, rt.alloc(), realm, future, line) {
         Ok((runnable, task)) => {
             holds(&rt, !runnable.run());
@@ -35,9 +55,9 @@ fn a_refused_spawn_hands_everything_back(rt: HostRuntime) -> Result<(), Fail> {
 
 #[test]
 fn a_refused_spawn_of_a_builder_hands_everything_back(rt: HostRuntime) -> Result<(), Fail> {
-    let counts = Counts::new(rt.alloc())?;
     let realm = Realm::leak(rt.alloc(), 0)?;
-    let (future, line) = future_and_line(rt, &counts, 0, false)?;
+    let counts = counted(&rt);
+    let (future, line) = parts_of(rt, &counts, 0);
     match Builder::new()
         .metadata(7u64)
         .spawn(rt, rt.alloc(), realm, future, line)
@@ -69,16 +89,16 @@ fn a_refused_spawn_of_a_builder_hands_everything_back(rt: HostRuntime) -> Result
 /// A poll that can't copy its waker leaves the task as it was: the awaiter of the poll before
 /// stays, and the handle may be polled again.
 #[test]
-fn a_refused_poll_leaves_the_task_as_it_was(rt: HostRuntime) -> Result<(), Fail> {
-    let stage = Stage::new(rt, rt.alloc(), Tasks::leak(rt.alloc(), 0)?);
+fn a_refused_poll_leaves_the_task_as_it_was(rt: HostRuntime) {
+    let stage = Stage::new(rt, rt.alloc(), Tasks::leak(rt.alloc(), 0));
     let others = stage.counted_apart();
     let (runnable, mut task) = stage.task(0, false);
     let (bell, short) = (stage.bell(), others.bell());
     others.counts.is_short.store(true, SeqCst);
     stage.poll(&mut task, &bell, Poll::Pending);
-    let text = format!(in rt.alloc(); "{task:?}")?;
+    let text = text_of(&rt, &task);
     stage.poll(&mut task, &short, Poll::Ready(Err(TaskError::NoMemory)));
-    shown(&rt, format!(in rt.alloc(); "{task:?}")?, text.as_str());
+    shown(&rt, &task, text.as_str());
     stage.run(runnable, false);
     stage.rings(1);
     others.rings(0);
@@ -88,14 +108,13 @@ fn a_refused_poll_leaves_the_task_as_it_was(rt: HostRuntime) -> Result<(), Fail>
     stage.poll(&mut task, &short, Poll::Ready(Ok(3)));
     stage.poll(&mut task, &short, Poll::Ready(Err(TaskError::TaskClosed)));
     others.copies(1);
-    Ok(())
 }
 
 /// The first poll of a `Cancel` cancels, where it is refused too. Once the future is dropped, a
 /// poll needs no copy.
 #[test]
-fn a_refused_poll_of_a_cancel_has_cancelled(rt: HostRuntime) -> Result<(), Fail> {
-    let stage = Stage::new(rt, rt.alloc(), Tasks::leak(rt.alloc(), 0)?);
+fn a_refused_poll_of_a_cancel_has_cancelled(rt: HostRuntime) {
+    let stage = Stage::new(rt, rt.alloc(), Tasks::leak(rt.alloc(), 0));
     let (runnable, task) = stage.task(9, false);
     let short = stage.bell();
     stage.counts.is_short.store(true, SeqCst);
@@ -114,5 +133,4 @@ fn a_refused_poll_of_a_cancel_has_cancelled(rt: HostRuntime) -> Result<(), Fail>
     stage.rings(0);
     drop(cancel);
     stage.seen((1, 1, 1, 1));
-    Ok(())
 }

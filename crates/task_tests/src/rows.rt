@@ -1,13 +1,14 @@
 //! Tasks from their spawn to their end, with what was polled, scheduled and dropped on the way.
 use crate::calls::{Stage, same, shown, there};
-use crate::parts::{Tasks, begun, ended};
+use crate::parts::{Tasks, TestRunnable, begun, ended};
 use async_task::{Awaiter, Back, Future, Poll, Wake};
-use std::test::Fail;
+use std::process::Abort;
+use std::sync::Wait;
 
 /// A detached task is kept by its wakers alone: the last one empties the cell.
 #[test]
-fn a_detached_task_ends_with_its_last_waker(rt: HostRuntime) -> Result<(), Fail> {
-    let stage = Stage::new(rt, rt.alloc(), Tasks::leak(rt.alloc(), 0)?);
+fn a_detached_task_ends_with_its_last_waker(rt: HostRuntime) {
+    let stage = Stage::new(rt, rt.alloc(), Tasks::leak(rt.alloc(), 0));
     let (runnable, task) = stage.task(1, false);
     task.detach();
     let (mut future, running) = there(&rt, begun(runnable));
@@ -23,27 +24,33 @@ fn a_detached_task_ends_with_its_last_waker(rt: HostRuntime) -> Result<(), Fail>
     stage.seen((2, 1, 1, 0));
     kept.wake();
     stage.seen((2, 1, 1, 1));
-    Ok(())
+}
+
+/// The copy of a waker wakes whom the waker does.
+fn has_a_waker_like_its_copy<R: Abort + Wait + Copy + Drop + 'static>(
+    stage: &Stage<R>,
+    runnable: &TestRunnable<R>,
+) {
+    let waker = stage.waker(runnable);
+    match waker.clone() {
+        Some(copy) => stage.holds(waker.will_wake(&copy)),
+        None => panic!(stage.rt; "no copy"),
+    }
 }
 
 #[test]
-fn a_builder_s_metadata_is_seen_from_the_runnable_and_the_task(
-    rt: HostRuntime,
-) -> Result<(), Fail> {
-    let stage = Stage::new(rt, rt.alloc(), Tasks::leak(rt.alloc(), 0)?);
+fn a_builder_s_metadata_is_seen_from_the_runnable_and_the_task(rt: HostRuntime) {
+    let stage = Stage::new(rt, rt.alloc(), Tasks::leak(rt.alloc(), 0));
     let bell = stage.bell();
     let (runnable, task) = stage.task(0, false);
     same(&rt, (*runnable.metadata(), *task.metadata()), (7, 7));
-    let waker = there(&rt, runnable.waker());
-    let copy = there(&rt, waker.clone());
-    stage.holds(waker.will_wake(&copy));
-    drop((waker, copy));
+    has_a_waker_like_its_copy(&stage, &runnable);
     stage.holds(!task.is_finished());
     stage.run(runnable, false);
     stage.holds(task.is_finished());
     shown(
         &rt,
-        format!(in rt.alloc(); "{task:?}")?,
+        &task,
         "Task { scheduled: false, running: false, completed: true, closed: false, awaiter: false, task: true, ref_count: 0, metadata: 7 }",
     );
     let mut task = task.fallible();
@@ -51,12 +58,11 @@ fn a_builder_s_metadata_is_seen_from_the_runnable_and_the_task(
     stage.holds(task.is_finished());
     stage.poll(&mut task, &bell, Poll::Ready(Ok(Some(3))));
     stage.poll(&mut task, &bell, Poll::Ready(Ok(None)));
-    Ok(())
 }
 
 #[test]
-fn a_cancelled_task_is_over_when_its_future_is_dropped(rt: HostRuntime) -> Result<(), Fail> {
-    let stage = Stage::new(rt, rt.alloc(), Tasks::leak(rt.alloc(), 0)?);
+fn a_cancelled_task_is_over_when_its_future_is_dropped(rt: HostRuntime) {
+    let stage = Stage::new(rt, rt.alloc(), Tasks::leak(rt.alloc(), 0));
     let bell = stage.bell();
     let (runnable, task) = stage.task(9, false);
     stage.run(runnable, false);
@@ -69,13 +75,12 @@ fn a_cancelled_task_is_over_when_its_future_is_dropped(rt: HostRuntime) -> Resul
     stage.poll(&mut cancel, &bell, Poll::Ready(Ok(None)));
     drop(cancel);
     stage.seen((1, 1, 1, 1));
-    Ok(())
 }
 
 /// A dropped Runnable closes its task, and wakes who awaits it.
 #[test]
-fn a_dropped_runnable_closes_its_task(rt: HostRuntime) -> Result<(), Fail> {
-    let stage = Stage::new(rt, rt.alloc(), Tasks::leak(rt.alloc(), 0)?);
+fn a_dropped_runnable_closes_its_task(rt: HostRuntime) {
+    let stage = Stage::new(rt, rt.alloc(), Tasks::leak(rt.alloc(), 0));
     let bell = stage.bell();
     let (runnable, task) = stage.task(0, false);
     let mut task = task.fallible();
@@ -86,13 +91,12 @@ fn a_dropped_runnable_closes_its_task(rt: HostRuntime) -> Result<(), Fail> {
     stage.poll(&mut task, &bell, Poll::Ready(Ok(None)));
     task.detach();
     stage.seen((0, 0, 1, 1));
-    Ok(())
 }
 
 /// Two tasks of one realm: the end of one queues the other, which awaits it.
 #[test]
-fn a_task_that_ends_wakes_the_task_that_awaits_it(rt: HostRuntime) -> Result<(), Fail> {
-    let stage = Stage::new(rt, rt.alloc(), Tasks::leak(rt.alloc(), 0)?);
+fn a_task_that_ends_wakes_the_task_that_awaits_it(rt: HostRuntime) {
+    let stage = Stage::new(rt, rt.alloc(), Tasks::leak(rt.alloc(), 0));
     let (awaiting, awaiting_task) = stage.task(9, false);
     let (awaited, mut awaited_task) = stage.task(0, false);
     let waker = Awaiter::Task(there(&rt, awaiting.waker()));
@@ -106,14 +110,13 @@ fn a_task_that_ends_wakes_the_task_that_awaits_it(rt: HostRuntime) -> Result<(),
     drop(awaited_task);
     stage.run_next();
     stage.seen((2, 1, 2, 2));
-    Ok(())
 }
 
 /// A waker of a task of another realm can't be kept: it is called at once.
 #[test]
-fn a_task_of_another_realm_is_woken_at_once(rt: HostRuntime) -> Result<(), Fail> {
-    let here = Stage::new(rt, rt.alloc(), Tasks::leak(rt.alloc(), 0)?);
-    let other = here.beside(Tasks::leak(rt.alloc(), 1)?);
+fn a_task_of_another_realm_is_woken_at_once(rt: HostRuntime) {
+    let here = Stage::new(rt, rt.alloc(), Tasks::leak(rt.alloc(), 0));
+    let other = here.beside(Tasks::leak(rt.alloc(), 1));
     let (awaiting, awaiting_task) = other.task(9, false);
     let (awaited, mut awaited_task) = here.task(0, false);
     let waker = Awaiter::Task(there(&rt, awaiting.waker()));
@@ -127,13 +130,12 @@ fn a_task_of_another_realm_is_woken_at_once(rt: HostRuntime) -> Result<(), Fail>
     drop(awaited_task);
     other.run_next();
     other.seen((1 + 1, 1, 2, 2));
-    Ok(())
 }
 
 /// The place of a task that is over is used again, and its handles are of the new task.
 #[test]
-fn a_place_is_used_again(rt: HostRuntime) -> Result<(), Fail> {
-    let realm = Stage::new(rt, rt.alloc(), Tasks::leak(rt.alloc(), 0)?);
+fn a_place_is_used_again(rt: HostRuntime) {
+    let realm = Stage::new(rt, rt.alloc(), Tasks::leak(rt.alloc(), 0));
     for round in 0..100 {
         let stage = realm.counted_apart();
         let (runnable, task) = stage.task(round, true);
@@ -144,5 +146,4 @@ fn a_place_is_used_again(rt: HostRuntime) -> Result<(), Fail> {
         }
         stage.seen((round + 1, round, 1, 1));
     }
-    Ok(())
 }

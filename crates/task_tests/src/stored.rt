@@ -2,11 +2,10 @@
 //! given.
 use crate::calls::{Stage, same, there};
 use crate::parts::{Bell, Countdown, Line, Tasks, TestRunnable};
-use async_task::{Awaiter, Due, Poll, ScheduleInfo, TaskError, Wake};
+use async_task::{Awaiter, Due, Poll, ScheduleInfo, Scheduled, TaskError, Wake};
 use std::process::Abort;
 use std::sync::Wait;
 use std::sync::atomic::Ordering::SeqCst;
-use std::test::Fail;
 
 const IDLE: ScheduleInfo = ScheduleInfo {
     woken_while_running: false,
@@ -14,11 +13,24 @@ const IDLE: ScheduleInfo = ScheduleInfo {
 
 type TestDue<R> = Due<Countdown, u64, Line<R>, u64, Bell, R>;
 
+type TestScheduled<R> = Scheduled<Countdown, u64, Line<R>, u64, Bell, R>;
+
 /// Whether a task is owed to its schedule value. It is dropped.
 fn is_there<R: Wait + Copy + Drop + 'static>(due: Option<TestDue<R>>) -> bool {
     match due {
         Some(Due { runnable, info: _ }) => {
             drop(runnable.into_runnable());
+            true
+        }
+        None => false,
+    }
+}
+
+/// Whether a stored Runnable was found. It is dropped.
+fn is_found<R: Wait + Copy + Drop + 'static>(found: Option<TestScheduled<R>>) -> bool {
+    match found {
+        Some(found) => {
+            drop(found.into_runnable());
             true
         }
         None => false,
@@ -41,8 +53,8 @@ fn idle<R: Abort + Wait + Copy + Drop + 'static>(
 
 /// A Runnable is stored, found again and run.
 #[test]
-fn a_stored_runnable_is_redeemed(rt: HostRuntime) -> Result<(), Fail> {
-    let stage = Stage::new(rt, rt.alloc(), Tasks::leak(rt.alloc(), 4)?);
+fn a_stored_runnable_is_redeemed(rt: HostRuntime) {
+    let stage = Stage::new(rt, rt.alloc(), Tasks::leak(rt.alloc(), 4));
     same(&rt, stage.realm.number(), 4);
     let (runnable, task) = stage.task(0, false);
     let scheduled = runnable.into_scheduled();
@@ -56,14 +68,13 @@ fn a_stored_runnable_is_redeemed(rt: HostRuntime) -> Result<(), Fail> {
     stage.seen((1, 0, 1, 0));
     drop(task);
     stage.seen((1, 0, 1, 1));
-    Ok(())
 }
 
 /// What was stored of a task of another realm isn't found, though a task has its place here.
 #[test]
-fn nothing_of_another_realm_is_redeemed(rt: HostRuntime) -> Result<(), Fail> {
-    let here = Stage::new(rt, rt.alloc(), Tasks::leak(rt.alloc(), 4)?);
-    let other_realm = here.beside(Tasks::leak(rt.alloc(), 5)?);
+fn nothing_of_another_realm_is_redeemed(rt: HostRuntime) {
+    let here = Stage::new(rt, rt.alloc(), Tasks::leak(rt.alloc(), 4));
+    let other_realm = here.beside(Tasks::leak(rt.alloc(), 5));
     let (runnable, _task) = here.task(9, false);
     let (other, _other_task) = other_realm.task(9, false);
     let one = there(&rt, runnable.waker());
@@ -72,24 +83,17 @@ fn nothing_of_another_realm_is_redeemed(rt: HostRuntime) -> Result<(), Fail> {
     here.holds(one.store().redeem(rt, other_realm.realm).is_none());
     here.holds(!is_there(two.store().wake(rt, other_realm.realm)));
     here.holds(!is_there(three.store().release(rt, other_realm.realm)));
-    if let Some(found) = runnable
-        .into_scheduled()
-        .store()
-        .redeem(rt, other_realm.realm)
-    {
-        drop(found.into_runnable());
-        here.holds(false);
-    }
+    let stored = runnable.into_scheduled().store();
+    here.holds(!is_found(stored.redeem(rt, other_realm.realm)));
     other_realm.run(other, false);
     here.seen((1, 0, 0, 0));
-    Ok(())
 }
 
 /// A waker is stored: it is a waker again, wakes its task, or is dropped. A wake, and the drop of
 /// the last waker of a detached task, answer the task that has to be queued.
 #[test]
-fn a_stored_waker_wakes_its_task(rt: HostRuntime) -> Result<(), Fail> {
-    let stage = Stage::new(rt, rt.alloc(), Tasks::leak(rt.alloc(), 0)?);
+fn a_stored_waker_wakes_its_task(rt: HostRuntime) {
+    let stage = Stage::new(rt, rt.alloc(), Tasks::leak(rt.alloc(), 0));
     let (runnable, task) = stage.task(9, false);
     let one = there(&rt, runnable.waker());
     let two = there(&rt, runnable.waker());
@@ -104,18 +108,24 @@ fn a_stored_waker_wakes_its_task(rt: HostRuntime) -> Result<(), Fail> {
     stage.seen((3, 1, 0, 0));
     stage.run(runnable, false);
     stage.seen((3, 1, 1, 1));
-    Ok(())
+}
+
+/// Nobody is owed to its schedule value then.
+fn closes_a_task_that_nobody_awaits<R: Abort + Wait + Copy + Drop + 'static>(stage: &Stage<R>) {
+    let (runnable, task) = stage.task(9, false);
+    stage.holds(!is_there(runnable.into_scheduled().close()));
+    stage.holds(task.is_finished());
+    stage.seen((0, 0, 2, 0));
 }
 
 /// A task that its schedule value closes: its future is dropped, and who awaits it is owed to its
 /// own schedule value.
 #[test]
-fn a_task_is_closed_by_its_schedule_value(rt: HostRuntime) -> Result<(), Fail> {
-    let stage = Stage::new(rt, rt.alloc(), Tasks::leak(rt.alloc(), 0)?);
+fn a_task_is_closed_by_its_schedule_value(rt: HostRuntime) {
+    let stage = Stage::new(rt, rt.alloc(), Tasks::leak(rt.alloc(), 0));
     let others = stage.counted_apart();
     let (awaiting, _awaiting_task) = others.task(9, false);
     let (awaited, mut task) = stage.task(9, false);
-    let (nobodys, nobodys_task) = stage.task(9, false);
     let waker = Awaiter::Task(there(&rt, awaiting.waker()));
     stage.run(awaiting, false);
     stage.poll(&mut task, &waker, Poll::Pending);
@@ -123,10 +133,8 @@ fn a_task_is_closed_by_its_schedule_value(rt: HostRuntime) -> Result<(), Fail> {
     stage.seen((0, 0, 1, 0));
     others.seen((2, 0, 0, 0));
     stage.poll(&mut task, &waker, Poll::Ready(Err(TaskError::TaskClosed)));
-    stage.holds(!is_there(nobodys.into_scheduled().close()));
-    stage.holds(nobodys_task.is_finished());
-    stage.seen((0, 0, 2, 0));
+    closes_a_task_that_nobody_awaits(&stage);
+    stage.seen((0, 0, 2, 1));
     let bell = stage.bell();
     stage.poll(&mut task, &bell, Poll::Ready(Err(TaskError::TaskClosed)));
-    Ok(())
 }

@@ -3,18 +3,30 @@
 use crate::calls::{holds, same, seen, there};
 use crate::parts::{Countdown, Counts};
 use async_task::{
-    Due, Nobody, Realm, Runnable, Schedule, ScheduleInfo, Scheduled, StoredRunnable, StoredWaker,
-    Task, spawn,
+    Due, NoMemory, Nobody, Realm, Runnable, Schedule, ScheduleInfo, Scheduled, StoredRunnable,
+    StoredWaker, Task, spawn,
 };
 use std::alloc::{AllocError, Global};
+use std::process::Abort;
 use std::sync::{Arc, Mutex, Wait};
-use std::test::Fail;
 
 /// What all of a queue's schedule values lead to.
 #[derive(Drop)]
 pub struct Rooms {
     pub queue: Mutex<Vec<StoredRunnable>>,
     pub sleepers: Mutex<Vec<StoredWaker>>,
+}
+
+impl Rooms {
+    fn new(alloc: Global) -> Result<Arc<Rooms, Global>, AllocError> {
+        Ok(Arc::new(
+            alloc,
+            Rooms {
+                queue: Mutex::new(Vec::with_capacity(alloc, 8)?),
+                sleepers: Mutex::new(Vec::with_capacity(alloc, 8)?),
+            },
+        )?)
+    }
 }
 
 /// A way to a queue, as its tasks keep it.
@@ -89,36 +101,79 @@ fn made<R: Wait + Copy + Drop + 'static>(
     }
 }
 
-/// A task that lies among the sleepers of its own queue is queued behind the one that is pushed.
-#[test]
-fn a_push_wakes_a_task_of_the_same_queue(rt: HostRuntime) -> Result<(), Fail> {
-    let realm = Realm::leak(rt.alloc(), 0)?;
-    let counts = Counts::new(rt.alloc())?;
-    let rooms = Arc::new(
-        rt.alloc(),
-        Rooms {
-            queue: Mutex::new(Vec::with_capacity(rt.alloc(), 8)?),
-            sleepers: Mutex::new(Vec::with_capacity(rt.alloc(), 8)?),
-        },
-    )?;
-    let (sleeper, sleeping) = made(rt, rt.alloc(), realm, &rooms, &counts)?;
-    let (runnable, task) = made(rt, rt.alloc(), realm, &rooms, &counts)?;
-    let waker = there(&rt, sleeper.waker());
-    rooms.sleepers.lock(&rt).push(waker.store())?;
-    holds(&rt, !sleeper.run());
-    runnable.schedule();
-    same(&rt, rooms.queue.lock(&rt).len(), 2);
-    same(&rt, rooms.sleepers.lock(&rt).len(), 0);
-    drop(sleeping);
-    drop(task);
-    for _ in 0..2 {
-        let stored = rooms.queue.lock(&rt).pop();
-        if let Some(stored) = stored {
-            if let Some(scheduled) = stored.redeem(rt, realm) {
-                holds(&rt, !scheduled.into_runnable().run());
-            }
+/// Where the test's tasks lie, and what has happened to them. Of a run in which no memory is refused.
+#[derive(Drop)]
+struct Hall<R: Wait + Copy + Drop + 'static> {
+    rt: R,
+    alloc: Global,
+    realm: &'static Realm<Countdown, u64, Telling<R>, (), Nobody>,
+    rooms: Arc<Rooms, Global>,
+    counts: Arc<Counts, Global>,
+}
+
+impl<R: Abort + Wait + Copy + Drop + 'static> Hall<R> {
+    fn new(
+        rt: R,
+        alloc: Global,
+        realm: Result<&'static Realm<Countdown, u64, Telling<R>, (), Nobody>, NoMemory>,
+    ) -> Hall<R> {
+        match realm {
+            Ok(realm) => Hall {
+                rt,
+                alloc,
+                realm,
+                rooms: Rooms::new(alloc).expect(&rt, "memory"),
+                counts: Counts::new(alloc).expect(&rt, "memory"),
+            },
+            Err(_) => panic!(rt; "memory"),
         }
     }
-    seen(&rt, &counts, (1, 0, 2, 0));
-    Ok(())
+
+    fn task(&self) -> (TellingRunnable<R>, TellingTask<R>) {
+        match made(self.rt, self.alloc, self.realm, &self.rooms, &self.counts) {
+            Ok(both) => both,
+            Err(_) => panic!(self.rt; "memory"),
+        }
+    }
+
+    /// A waker that the next push wakes.
+    fn sleeps(&self, waker: StoredWaker) {
+        let pushed = self.rooms.sleepers.lock(&self.rt).push(waker);
+        holds(&self.rt, pushed.is_ok());
+    }
+
+    /// How many are in the queue and among the sleepers.
+    fn lengths(&self, queue: usize, sleepers: usize) {
+        same(&self.rt, self.rooms.queue.lock(&self.rt).len(), queue);
+        same(&self.rt, self.rooms.sleepers.lock(&self.rt).len(), sleepers);
+    }
+
+    fn run(&self, runnable: TellingRunnable<R>) {
+        same(&self.rt, runnable.run(), false);
+    }
+
+    /// The run of the Runnable that was queued last.
+    fn run_next(&self) {
+        let stored = self.rooms.queue.lock(&self.rt).pop();
+        match there(&self.rt, stored).redeem(self.rt, self.realm) {
+            Some(scheduled) => self.run(scheduled.into_runnable()),
+            None => panic!(self.rt; "nothing was queued"),
+        }
+    }
+}
+
+/// A task that lies among the sleepers of its own queue is queued behind the one that is pushed.
+#[test]
+fn a_push_wakes_a_task_of_the_same_queue(rt: HostRuntime) {
+    let hall = Hall::new(rt, rt.alloc(), Realm::leak(rt.alloc(), 0));
+    let (sleeper, sleeping) = hall.task();
+    let (runnable, task) = hall.task();
+    hall.sleeps(there(&rt, sleeper.waker()).store());
+    hall.run(sleeper);
+    runnable.schedule();
+    hall.lengths(2, 0);
+    drop((sleeping, task));
+    hall.run_next();
+    hall.run_next();
+    seen(&rt, &hall.counts, (1, 0, 2, 0));
 }

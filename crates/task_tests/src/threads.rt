@@ -26,7 +26,7 @@ fn rouse<R: Wait + Copy + Drop + 'static>(waker: TestWaker<R>) {
 /// Runnables of it, no wake is lost, and in the end all is dropped once.
 #[test]
 fn wakes_of_two_threads_meet_a_run(rt: HostRuntime) -> Result<(), Fail> {
-    let stage = Stage::new(rt, rt.alloc(), Tasks::leak(rt.alloc(), 0)?);
+    let stage = Stage::new(rt, rt.alloc(), Tasks::leak(rt.alloc(), 0));
     let (runnable, task) = stage.task(1_000_000, false);
     let one = there(&rt, runnable.waker());
     let two = there(&rt, runnable.waker());

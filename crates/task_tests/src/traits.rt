@@ -3,7 +3,6 @@ use crate::calls::{Stage, same, shown};
 use crate::parts::Tasks;
 use async_task::{Builder, NoMemory, ScheduleInfo, TaskError, WithInfo};
 use std::fmt::Debug;
-use std::test::Fail;
 
 fn is_plain<X: Clone + Copy + PartialEq + Eq + Debug>(value: X) -> X {
     value
@@ -14,42 +13,24 @@ fn moves_and_is_shared<X: Send + Sync + Drop>(value: X) -> X {
 }
 
 #[test]
-fn plain_types_are_copied_compared_and_shown(rt: HostRuntime) -> Result<(), Fail> {
+fn plain_types_are_copied_compared_and_shown(rt: HostRuntime) {
     let info = is_plain(ScheduleInfo {
         woken_while_running: true,
     });
-    shown(
-        &rt,
-        format!(in rt.alloc(); "{info:?} {:?}", WithInfo::from(5))?,
-        "ScheduleInfo { woken_while_running: true } WithInfo(5)",
-    );
-    shown(
-        &rt,
-        format!(in rt.alloc();
-            "{:?} {:?}",
-            is_plain(NoMemory),
-            is_plain(TaskError::TaskClosed)
-        )?,
-        "NoMemory TaskClosed",
-    );
-    shown(
-        &rt,
-        format!(in rt.alloc();
-            "{:?} {:?}",
-            is_plain(TaskError::NoMemory),
-            Builder::new().metadata(7)
-        )?,
-        "NoMemory Builder { metadata: 7 }",
-    );
+    shown(&rt, &info, "ScheduleInfo { woken_while_running: true }");
+    shown(&rt, &WithInfo::from(5), "WithInfo(5)");
+    shown(&rt, &is_plain(NoMemory), "NoMemory");
+    shown(&rt, &is_plain(TaskError::TaskClosed), "TaskClosed");
+    shown(&rt, &is_plain(TaskError::NoMemory), "NoMemory");
+    shown(&rt, &Builder::new().metadata(7), "Builder { metadata: 7 }");
     same(&rt, Builder::default(), Builder::new());
-    Ok(())
 }
 
 /// The handles and wakers move to other threads and are shared with them, where the task's parts
 /// are.
 #[test]
-fn handles_move_and_are_shared(rt: HostRuntime) -> Result<(), Fail> {
-    let stage = Stage::new(rt, rt.alloc(), Tasks::leak(rt.alloc(), 0)?);
+fn handles_move_and_are_shared(rt: HostRuntime) {
+    let stage = Stage::new(rt, rt.alloc(), Tasks::leak(rt.alloc(), 0));
     let (runnable, task) = stage.task(0, false);
     let runnable = moves_and_is_shared(runnable);
     let waker = moves_and_is_shared(runnable.waker());
@@ -59,17 +40,16 @@ fn handles_move_and_are_shared(rt: HostRuntime) -> Result<(), Fail> {
     stage.run(runnable, false);
     drop(waker);
     stage.seen((0, 0, 1, 1));
-    Ok(())
 }
 
 /// A handle's text has the marks of its task at that moment, and how many references there are.
 #[test]
-fn a_handle_is_shown_with_the_marks_of_its_task(rt: HostRuntime) -> Result<(), Fail> {
-    let stage = Stage::new(rt, rt.alloc(), Tasks::leak(rt.alloc(), 0)?);
+fn a_handle_is_shown_with_the_marks_of_its_task(rt: HostRuntime) {
+    let stage = Stage::new(rt, rt.alloc(), Tasks::leak(rt.alloc(), 0));
     let (runnable, mut task) = stage.task(0, false);
     shown(
         &rt,
-        format!(in rt.alloc(); "{runnable:?}")?,
+        &runnable,
         "Runnable { scheduled: true, running: false, completed: false, closed: false, awaiter: false, task: true, ref_count: 1, metadata: 7 }",
     );
     let _ = async_task::Future::poll(&mut task, &stage.bell());
@@ -77,16 +57,15 @@ fn a_handle_is_shown_with_the_marks_of_its_task(rt: HostRuntime) -> Result<(), F
     let task = task.fallible();
     shown(
         &rt,
-        format!(in rt.alloc(); "{task:?}")?,
+        &task,
         "FallibleTask { scheduled: true, running: false, completed: false, closed: false, awaiter: true, task: true, ref_count: 2, metadata: 7 }",
     );
     drop(waker);
     drop(task);
     shown(
         &rt,
-        format!(in rt.alloc(); "{runnable:?}")?,
+        &runnable,
         "Runnable { scheduled: true, running: false, completed: false, closed: true, awaiter: false, task: false, ref_count: 1, metadata: 7 }",
     );
     stage.run(runnable, false);
-    Ok(())
 }

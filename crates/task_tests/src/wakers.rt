@@ -1,40 +1,66 @@
 //! The calls of wakers of each kind, and of the values around a task.
-use crate::calls::{Stage, holds, same, there};
-use crate::parts::Tasks;
+use crate::calls::{Stage, holds, same};
+use crate::parts::{Tasks, TestAwaiter};
 use async_task::{Awaiter, Cells, Nobody, Schedule, ScheduleInfo, Wake, WithInfo};
+use std::process::Abort;
+use std::sync::Wait;
 use std::sync::atomic::AtomicU64;
 use std::sync::atomic::Ordering::SeqCst;
 use std::test::Fail;
 
+/// Whether one waker wakes whom the other does.
+fn will_wake<R: Abort + Wait + Copy + Drop + 'static>(
+    stage: &Stage<R>,
+    one: &TestAwaiter<R>,
+    other: &TestAwaiter<R>,
+    want: bool,
+) {
+    same(&stage.rt, one.will_wake(other), want);
+}
+
+/// A waker of another task isn't this one.
+fn is_no_other_s<R: Abort + Wait + Copy + Drop + 'static>(
+    stage: &Stage<R>,
+    waker: &TestAwaiter<R>,
+) {
+    let (other, _other_task) = stage.task(9, false);
+    let another = Awaiter::Task(stage.waker(&other));
+    will_wake(stage, waker, &another, false);
+    will_wake(stage, &another, waker, false);
+}
+
+/// A waker is called, then its copy: the rings and the schedule calls after each.
+fn calls_are_heard<R: Abort + Wait + Copy + Drop + 'static>(
+    stage: &Stage<R>,
+    waker: TestAwaiter<R>,
+    first: (u64, u64),
+    second: (u64, u64),
+) {
+    match waker.clone() {
+        Some(copy) => {
+            will_wake(stage, &waker, &copy, true);
+            waker.wake_by_ref();
+            stage.heard(first);
+            copy.wake();
+            stage.heard(second);
+        }
+        None => panic!(stage.rt; "no copy"),
+    }
+}
+
 /// One type of waker for tasks and for who is outside: each calls the one that it has.
 #[test]
-fn an_awaiter_is_the_waker_that_it_has(rt: HostRuntime) -> Result<(), Fail> {
-    let stage = Stage::new(rt, rt.alloc(), Tasks::leak(rt.alloc(), 0)?);
+fn an_awaiter_is_the_waker_that_it_has(rt: HostRuntime) {
+    let stage = Stage::new(rt, rt.alloc(), Tasks::leak(rt.alloc(), 0));
     let (runnable, _task) = stage.task(9, false);
-    let (other, _other_task) = stage.task(9, false);
-    let inside = Awaiter::Task(there(&rt, runnable.waker()));
-    let another = Awaiter::Task(there(&rt, other.waker()));
+    let inside = Awaiter::Task(stage.waker(&runnable));
+    is_no_other_s(&stage, &inside);
     stage.run(runnable, false);
     let outside = stage.bell();
-    let copy = there(&rt, inside.clone());
-    let bell = there(&rt, outside.clone());
-    stage.holds(inside.will_wake(&copy));
-    stage.holds(outside.will_wake(&bell));
-    stage.holds(!inside.will_wake(&another));
-    stage.holds(!another.will_wake(&inside));
-    stage.holds(!inside.will_wake(&outside));
-    stage.holds(!outside.will_wake(&inside));
-    outside.wake_by_ref();
-    stage.rings(1);
-    bell.wake();
-    stage.rings(2);
-    stage.schedules(0);
-    inside.wake_by_ref();
-    stage.rings(2);
-    stage.schedules(1);
-    copy.wake();
-    stage.schedules(1);
-    Ok(())
+    will_wake(&stage, &inside, &outside, false);
+    will_wake(&stage, &outside, &inside, false);
+    calls_are_heard(&stage, outside, (1, 0), (2, 0));
+    calls_are_heard(&stage, inside, (2, 1), (2, 1));
 }
 
 #[test]

@@ -5,8 +5,6 @@
 mod runs;
 mod sim;
 mod steps;
-#[cfg(test)]
-mod tests;
 
 pub use runs::run;
 pub use timed_work::task::Tasks;

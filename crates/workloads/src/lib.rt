@@ -5,8 +5,6 @@
 mod fault;
 mod line;
 mod sharing;
-#[cfg(test)]
-mod tests;
 mod timing;
 mod words;
 mod workload;

@@ -1,13 +1,15 @@
-use crate::{ALL, Line, Workload, share};
+//! Names, lines and shares.
+use crate::words::same;
 use std::test::Fail;
 use std::time::Duration;
+use workloads::{ALL, Line, Workload, share};
 
 #[test]
 fn a_name_names_one_workload(rt: HostRuntime) {
     for workload in ALL {
-        assert_eq!(rt; Workload::named(workload.name()), Some(workload));
+        same(&rt, Workload::named(workload.name()), Some(workload));
     }
-    assert_eq!(rt; Workload::named("queue/none"), None);
+    same(&rt, Workload::named("queue/none"), None);
 }
 
 #[test]
@@ -31,6 +33,6 @@ fn shares_add_up(rt: HostRuntime) {
         for party in 0..parties {
             sum = sum.wrapping_add(share(ops, parties, party));
         }
-        assert_eq!(rt; sum, ops);
+        same(&rt, sum, ops);
     }
 }

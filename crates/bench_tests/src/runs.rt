@@ -1,0 +1,47 @@
+//! Each workload, run.
+use crate::words::same;
+use std::test::Fail;
+use timed_runs::{Tasks, run};
+use workloads::{ALL, Workload};
+
+// The sums of the numbers below 3,000 and below 1,500.
+const BELOW_3000: u64 = 4_498_500;
+
+const BELOW_1500: u64 = 1_124_250;
+
+// What 3,000 operations of a workload move.
+fn moved_by_3000(workload: Workload) -> u64 {
+    match workload {
+        Workload::FetchAdd
+        | Workload::MutexLock
+        | Workload::MachineStep
+        | Workload::SimLines
+        | Workload::DropHandle
+        | Workload::WakeRun
+        | Workload::SelfWake
+        | Workload::WakeTwice
+        | Workload::WakerClone
+        | Workload::PollPending
+        | Workload::SelfWakeLocalTask => 3000,
+        Workload::Len => 15_000,
+        Workload::Ring1024TwoToTwo | Workload::UnboundedTwoToTwo => 2 * BELOW_1500,
+        _ => BELOW_3000,
+    }
+}
+
+#[test]
+fn each_workload_moves_what_it_was_asked_to(rt: HostRuntime) -> Result<(), Fail> {
+    let realm = Tasks::leak(rt.alloc(), 0)?;
+    for workload in ALL {
+        let moved = match run(workload, &rt, realm, 3000) {
+            Ok(timing) => Ok(timing.moved),
+            Err(fault) => Err(fault),
+        };
+        same(
+            &rt,
+            (workload, moved),
+            (workload, Ok(moved_by_3000(workload))),
+        );
+    }
+    Ok(())
+}

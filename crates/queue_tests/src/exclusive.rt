@@ -203,10 +203,10 @@ fn a_forced_push_keeps_a_close_that_came_in_between(rt: HostRuntime) {
         bits: 2,
     };
     let turn = ring::force_push(shape, Turn::Displace(9), 1);
-    same(&rt, turn, Turn::Advance(9));
+    holds(&rt, matches!(turn, Turn::Advance(9)));
     same(&rt, (shape.advance(9, 9), shape.advance(9, 13)), (16, 20));
     let turn = ring::force_push(shape, turn, 13);
-    same(&rt, turn, Turn::Fill(9, Reply::Displaced));
+    holds(&rt, matches!(turn, Turn::Fill(9, Reply::Displaced)));
 }
 
 #[test]

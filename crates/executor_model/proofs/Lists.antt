@@ -48,7 +48,7 @@ pub weigh-closing : (v : Op → ℕ) (xs : List Op) (rest : List ℕ) → v Wake
 weigh-closing v xs [] n e = omega (arith, weigh-append v xs (Close ∷ []), e)
 weigh-closing v xs (f ∷ rest) n e = omega (arith, weigh-append v xs (WakeNext ∷ []), n)
 
--- so does the rest of a wake
+-- so it adds nothing to what the parties have still to do with a future
 pub with_ops-closing : (g : ℕ) (xs : List Op) (rest : List ℕ) (r : Pend) → with_ops g (xs ++ closing_ops [] rest) r ≡ with_ops g xs r
 with_ops-closing g xs rest r =
     rw (weigh-closing (waiting_of g) xs rest refl refl, weigh-closing (polls_of g) xs rest refl refl, weigh-closing (ending_of g) xs rest refl refl, weigh-closing (ready_of g) xs rest refl refl, weigh-closing (closing_of g) xs rest refl refl, weigh-closing (settling_of g) xs rest refl refl, weigh-closing (giving_of g) xs rest refl refl, weigh-closing (drops_of g) xs rest refl refl, weigh-closing (releases_of g) xs rest refl refl, weigh-closing (copies_of g) xs rest refl refl, weigh-closing borrowing_of xs rest refl refl, weigh-closing ousting_of xs rest refl refl) refl

@@ -107,6 +107,6 @@ fn party(mut words: Words<'_>) -> Option<u32>
     ensures found { IfSome result (λ party. (word : List ℕ) × IsParty word party × (words.entry ≡ word ∷ [])) }
     ensures none { IfNone result ((party : ℕ) (word : List ℕ) → IsParty word party → words.entry ≢ word ∷ []) }
 {
-    let party = read_party(words.next()?)?;
+    let party = words.next().and_then(read_party)?;
     words.is_empty().then_some(party)
 }

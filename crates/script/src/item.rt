@@ -54,8 +54,9 @@ fn twice(word: &[u8]) -> Option<Item>
     ensures found { IfSome result (λ item. IsItem item word.now) }
     ensures none { IfNone result ((name : List ℕ) → ¬ (IsItem (Twice name) word.now)) }
 {
-    let name = Name::new(word.strip_prefix(b"twice:")?)?;
-    Some(Item::Twice(name))
+    word.strip_prefix(b"twice:")
+        .and_then(Name::new)
+        .map(Item::Twice)
 }
 
 /// The item of this word, where it is one that is ready.
@@ -63,6 +64,6 @@ fn ready(word: &[u8]) -> Option<Item>
     ensures found { IfSome result (λ item. IsItem item word.now) }
     ensures none { IfNone result ((value : ℕ) → ¬ (IsItem (Ready value) word.now)) }
 {
-    let value = read_number(word.strip_prefix(b"ready=")?)?;
+    let value = word.strip_prefix(b"ready=").and_then(read_number)?;
     (value <= 1_000_000).then_some(Item::Ready(value))
 }

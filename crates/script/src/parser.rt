@@ -70,7 +70,7 @@ fn read_limit(line: &[u8]) -> Option<u64>
     if words.next()? != b"limit".as_slice() {
         return None;
     }
-    let limit = read_number(words.next()?)?;
+    let limit = words.next().and_then(read_number)?;
     (words.is_empty() && 1 <= limit && limit <= MOST_PLACES).then_some(limit)
 }
 

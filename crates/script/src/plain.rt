@@ -128,6 +128,6 @@ fn named(mut words: Words<'_>) -> Option<Name>
     ensures found { IfSome result (λ name. IsName name × (words.entry ≡ name ∷ [])) }
     ensures none { IfNone result ((name : List ℕ) → IsName name → words.entry ≢ name ∷ []) }
 {
-    let name = Name::new(words.next()?)?;
+    let name = words.next().and_then(Name::new)?;
     words.is_empty().then_some(name)
 }

@@ -141,12 +141,12 @@ impl<'a> Player<'a> {
             }
             Plain::Try => Some(Call::TryTick),
             Plain::Empty => Some(Call::IsEmpty),
-            Plain::Wake(name) => Some(Call::WakeByRef(self.kept_of(*name)?)),
-            Plain::Unkeep(name) => Some(Call::DropWaker(self.kept_of(*name)?)),
+            Plain::Wake(name) => self.kept_of(*name).map(Call::WakeByRef),
+            Plain::Unkeep(name) => self.kept_of(*name).map(Call::DropWaker),
             Plain::Poll(name) => self.call_of_poll(*name),
-            Plain::Cancel(name) => Some(Call::Cancel(self.handle_of(*name)?)),
-            Plain::Detach(name) => Some(Call::Detach(self.handle_of(*name)?)),
-            Plain::Drop(name) => Some(Call::DropHandle(self.handle_of(*name)?)),
+            Plain::Cancel(name) => self.handle_of(*name).map(Call::Cancel),
+            Plain::Detach(name) => self.handle_of(*name).map(Call::Detach),
+            Plain::Drop(name) => self.handle_of(*name).map(Call::DropHandle),
             Plain::End => Some(Call::DropExecutor),
         }
     }

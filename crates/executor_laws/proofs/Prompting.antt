@@ -28,6 +28,7 @@ use Rattle.executor_model.specs.Acts.{enter_by, copy_by, answered, polled, look_
 use Rattle.executor_model.specs.Weights.{weigh}
 use Rattle.executor_model.proofs.Calls.{calling_of, calls-act}
 use Rattle.executor_model.proofs.Lists.{weigh-append}
+use Rattle.executor_model.proofs.Resting.{calling-is}
 use Rattle.executor_laws.specs.AtOnce.{doer, is_by, deeds}
 use Rattle.executor_laws.proofs.Finding.{left-false}
 use Rattle.executor_laws.proofs.Growing.{ends_one, is_end, Grows, not-by}
@@ -152,19 +153,6 @@ hasty-calling _ = omega arith
 hasty-calling-all : (os : List Op) → weigh hasty os ≤ weigh calling_of os
 hasty-calling-all [] = omega arith
 hasty-calling-all (o ∷ os) = omega (arith, hasty-calling o, hasty-calling-all os)
-
-calling-is : (o : Op) → (calling_of o ≡ 0) ⊎ (calling_of o ≡ 1)
-calling-is op.Enter = inr refl
-calling-is op.Take = inr refl
-calling-is op.LookAtTable = inr refl
-calling-is (op.CopyWaker f held) = inr refl
-calling-is (op.Look f a) = inr refl
-calling-is (op.CopyAwaiter f a) = inr refl
-calling-is (op.Register f a k) = inr refl
-calling-is (op.EndRegister f a k) = inr refl
-calling-is (op.LookAgain f) = inr refl
-calling-is (op.End r held) = inr refl
-calling-is _ = inl refl
 
 pub hasty-is : (o : Op) → (hasty o ≡ 0) ⊎ (hasty o ≡ 1)
 hasty-is op.Take = inr refl

@@ -1,8 +1,19 @@
--- When two wakers of the one type that futures are polled with wake the same.
-use Rattle.std.specs.Prelude.{◌≡◌, ◌↔◌, Bool, false, IsTrue}
-use Rattle.async_task.specs.Handles.{IsOfOneTask}
+-- The wakers of the one type that futures are polled with: whose one is, and when two wake the same.
+use Rattle.std.specs.Prelude.{◌≡◌, ◌↔◌, Bool, true, false, IsTrue}
+use Rattle.async_task.specs.Handles.{Handle, IsOfOneTask}
 use Rattle.async_task.specs.declared.waker.Awaiter.{Awaiter}
 use Rattle.async_task.specs.declared.waker.Awaiter.TheVariants.{Task, Outside}
+
+module _ {F T S M W R : Type 0} where
+  -- whether it is a waker of a task
+  abbrev pub is_a_task_s : Awaiter F T S M W R → Bool
+  is_a_task_s (Task waker) = true
+  is_a_task_s (Outside waker) = false
+
+  -- it is a waker of the task of this handle
+  abbrev pub IsOf : Awaiter F T S M W R → Handle M → Type 0
+  IsOf (Task waker) task = waker ≡ task
+  IsOf (Outside waker) task = ⊥
 
 -- two of tasks are of one task; two from outside are as those say; one of each aren't known to
 abbrev pub WakeTheSame : {F T S M W R : Type 0} → (W → W → Type 0) → Awaiter F T S M W R → Awaiter F T S M W R → Type 0

@@ -6,8 +6,9 @@ use Rattle.async_task.specs.declared.runnable.RunEnd.{RunEnd}
 use Rattle.async_task.specs.declared.runnable.Started.{Started}
 use Rattle.async_task.specs.declared.runnable.Started.TheVariants.{Poll as PollIt, Drop as DropIt}
 use Rattle.async_task.specs.declared.waker.Awaiter.{Awaiter}
-use Rattle.async_task.specs.declared.waker.Awaiter.TheVariants.{Task, Outside}
+use Rattle.async_task.specs.declared.wake.Wake.{Ghosts}
 use Rattle.async_task.specs.Handles.{Handle}
+use Rattle.async_task.specs.Awaiters.{IsOf}
 use Rattle.async_task.specs.declared.runnable.RunEnd.TheVariants.{Over, Drop}
 use Rattle.task_sections.specs.declared.sections.debts.Ended.{Ended}
 use Rattle.task_sections.specs.Sections.{ended_of}
@@ -49,13 +50,8 @@ EndsRun {F} {T} {S} {M} {W} {R} back end =
     ((answer_of end ≡ answer_by (settle_answer back found.task)) × (dropped_of end ≡ dropped_by (settle_answer back found.task)))
 
 module _ {F T S M W R : Type 0} where
-  -- it is a waker of the task of this handle
-  abbrev pub IsOf : Awaiter F T S M W R → Handle M → Type 0
-  IsOf (Task waker) task = waker ≡ task
-  IsOf (Outside waker) task = ⊥
-
   -- what a Runnable begins is a run or a closing call of its own task
-  abbrev pub BeginsAt : Handle M → Started F T S M W R → Type 0
+  abbrev pub BeginsAt : {wakes : Ghosts W} → Handle M → Started F T S M W R wakes → Type 0
   BeginsAt task (PollIt future running) = IsOf running.waker task
   BeginsAt task (DropIt future closing) = closing ≡ task
 

@@ -101,7 +101,7 @@ where
                 None
             }
         }
-        Awaiter::Outside(waker) => Some(Kept::Outside(waker.clone()?)),
+        Awaiter::Outside(waker) => waker.clone().map(Kept::Outside),
     }
 }
 

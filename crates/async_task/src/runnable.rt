@@ -1,15 +1,15 @@
 ghost use Rattle.std.specs.Prelude.{◌≡◌, IfSome};
-ghost use Rattle.async_task.specs.Runs.{EndsRun, BeginsAt, EndsAt, IsOf};
+ghost use Rattle.async_task.specs.Runs.{BeginsAt};
 
 use crate::cell::{Held, Scheduled, pay_due};
-use crate::poll::{Future, Poll};
+use crate::poll::Future;
+use crate::running::Running;
 use crate::schedule::{Schedule, ScheduleInfo};
-use crate::sections::Ended;
 use crate::wake::Wake;
 use crate::waker::{Awaiter, TaskWaker};
 use std::marker::Model;
 use std::sync::Wait;
-use task_moves::local_task::{Back, Start};
+use task_moves::local_task::Start;
 
 /// A task that is to be run: at most one is there of a task. Its drop closes the task, and drops the
 /// future.
@@ -58,21 +58,6 @@ where
     Drop(F, Closing<F, T, S, M, W, R>),
 }
 
-/// A run whose future is being polled. It has no drop: it is settled.
-#[must_use]
-pub struct Running<F, T, S, M, W, R>
-where
-    F: Drop + 'static,
-    T: Drop + 'static,
-    S: Schedule<Scheduled<F, T, S, M, W, R>> + Drop + 'static,
-    M: Drop + 'static,
-    W: Wake + Drop + 'static,
-    R: Wait + Copy + Drop,
-{
-    waker: Awaiter<F, T, S, M, W, R>,
-    rt: R,
-}
-
 /// A call that closes a task whose future is being dropped. It has no drop: it is finished.
 #[must_use]
 pub struct Closing<F, T, S, M, W, R>
@@ -84,7 +69,7 @@ where
     W: Wake + Drop + 'static,
     R: Wait + Copy + Drop,
 {
-    held: Held<F, T, S, M, W, R>,
+    pub(crate) held: Held<F, T, S, M, W, R>,
 }
 
 impl<F, T, S, M, W, R> Model for Closing<F, T, S, M, W, R>
@@ -175,9 +160,8 @@ where
         let Self { held } = self;
         match held.start() {
             Start::Poll(future) => {
-                let rt = held.rt();
                 let waker = Awaiter::Task(TaskWaker { held });
-                Started::Poll(future, Running { waker, rt })
+                Started::Poll(future, Running { waker })
             }
             Start::Drop(future) => Started::Drop(future, Closing { held }),
         }
@@ -204,72 +188,6 @@ where
                 closing.finish();
                 false
             }
-        }
-    }
-}
-
-impl<F, T, S, M, W, R> Running<F, T, S, M, W, R>
-where
-    F: Future<Awaiter<F, T, S, M, W, R>, Output = T> + Drop + 'static,
-    T: Drop + 'static,
-    S: Schedule<Scheduled<F, T, S, M, W, R>> + Drop + 'static,
-    M: Drop + 'static,
-    W: Wake + Drop + 'static,
-    R: Wait + Copy + Drop,
-{
-    fn poll(self, future: F) -> bool {
-        let mut future = future;
-        let back = match future.poll(&self.waker) {
-            Poll::Ready(output) => {
-                drop(future);
-                Back::Ready(output)
-            }
-            Poll::Pending => Back::Pending(future),
-        };
-        match self.settle(back) {
-            RunEnd::Over(woken) => woken,
-            RunEnd::Drop(future, closing) => {
-                drop(future);
-                closing.finish();
-                false
-            }
-        }
-    }
-}
-
-impl<F, T, S, M, W, R> Running<F, T, S, M, W, R>
-where
-    F: Drop + 'static,
-    T: Drop + 'static,
-    S: Schedule<Scheduled<F, T, S, M, W, R>> + Drop + 'static,
-    M: Drop + 'static,
-    W: Wake + Drop + 'static,
-    R: Wait + Copy + Drop,
-{
-    /// The waker that the future is polled with.
-    pub fn waker(&self) -> &Awaiter<F, T, S, M, W, R>
-        ensures { result.now ≡ self.now.waker }
-    {
-        &self.waker
-    }
-
-    /// Ends the run. Where the future has given its output, it is dropped before this call.
-    pub fn settle(self, back: Back<F, T>) -> RunEnd<F, T, S, M, W, R>
-        ensures answer { EndsRun back result }
-        ensures task { EndsAt self.waker result }
-    {
-        let Self { waker, rt } = self;
-        let Some(held) = way_of(waker) else {
-            for _ in rt.forever() {}
-            unreachable!()
-        };
-        match held.settle(back) {
-            Ended::Over(debts) => {
-                let woken = debts.woken_while_running();
-                held.pay(debts);
-                RunEnd::Over(woken)
-            }
-            Ended::Drop(future) => RunEnd::Drop(future, Closing { held }),
         }
     }
 }
@@ -302,22 +220,5 @@ where
     fn drop(self) {
         let Self { held } = self;
         pay_due(Scheduled { held }.close());
-    }
-}
-
-/// The way to the task that the waker is of.
-fn way_of<F, T, S, M, W, R>(waker: Awaiter<F, T, S, M, W, R>) -> Option<Held<F, T, S, M, W, R>>
-where
-    F: Drop + 'static,
-    T: Drop + 'static,
-    S: Schedule<Scheduled<F, T, S, M, W, R>> + Drop + 'static,
-    M: Drop + 'static,
-    W: Wake + Drop + 'static,
-    R: Wait + Copy + Drop,
-    ensures { IfSome result (λ held. IsOf waker held) }
-{
-    match waker {
-        Awaiter::Task(waker) => Some(waker.into_held()),
-        Awaiter::Outside(_) => None,
     }
 }

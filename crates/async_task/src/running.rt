@@ -1,0 +1,95 @@
+ghost use Rattle.std.specs.Prelude.{◌≡◌, true};
+ghost use Rattle.async_task.specs.Awaiters.{is_a_task_s};
+
+use crate::cell::Scheduled;
+use crate::poll::{Future, Poll};
+use crate::runnable::{Closing, RunEnd};
+use crate::schedule::Schedule;
+use crate::sections::Ended;
+use crate::wake::Wake;
+use crate::waker::Awaiter;
+use std::sync::Wait;
+use task_moves::local_task::Back;
+
+/// A run whose future is being polled. It has no drop: it is settled.
+#[must_use]
+pub struct Running<F, T, S, M, W, R>
+where
+    F: Drop + 'static,
+    T: Drop + 'static,
+    S: Schedule<Scheduled<F, T, S, M, W, R>> + Drop + 'static,
+    M: Drop + 'static,
+    W: Wake + Drop + 'static,
+    R: Wait + Copy + Drop,
+{
+    pub(crate) waker: Awaiter<F, T, S, M, W, R>,
+    ghost is_of_a_task: { is_a_task_s waker ≡ true },
+}
+
+impl<F, T, S, M, W, R> Running<F, T, S, M, W, R>
+where
+    F: Future<Awaiter<F, T, S, M, W, R>, Output = T> + Drop + 'static,
+    T: Drop + 'static,
+    S: Schedule<Scheduled<F, T, S, M, W, R>> + Drop + 'static,
+    M: Drop + 'static,
+    W: Wake + Drop + 'static,
+    R: Wait + Copy + Drop,
+{
+    pub(crate) fn poll(self, future: F) -> bool {
+        let mut future = future;
+        let back = match future.poll(&self.waker) {
+            Poll::Ready(output) => {
+                drop(future);
+                Back::Ready(output)
+            }
+            Poll::Pending => Back::Pending(future),
+        };
+        match self.settle(back) {
+            RunEnd::Over(woken) => woken,
+            RunEnd::Drop(future, closing) => {
+                drop(future);
+                closing.finish();
+                false
+            }
+        }
+    }
+}
+
+impl<F, T, S, M, W, R> Running<F, T, S, M, W, R>
+where
+    F: Drop + 'static,
+    T: Drop + 'static,
+    S: Schedule<Scheduled<F, T, S, M, W, R>> + Drop + 'static,
+    M: Drop + 'static,
+    W: Wake + Drop + 'static,
+    R: Wait + Copy + Drop,
+{
+    ghost use Rattle.async_task.specs.Runs.{EndsRun, EndsAt};
+
+    /// The waker that the future is polled with.
+    pub fn waker(&self) -> &Awaiter<F, T, S, M, W, R>
+        ensures { result.now ≡ self.now.waker }
+    {
+        &self.waker
+    }
+
+    /// Ends the run. Where the future has given its output, it is dropped before this call.
+    pub fn settle(self, back: Back<F, T>) -> RunEnd<F, T, S, M, W, R>
+        ensures answer { EndsRun back result }
+        ensures task { EndsAt self.waker result }
+    {
+        let Self { waker } = self;
+        let held = match waker {
+            Awaiter::Task(waker) => waker.into_held(),
+            Awaiter::Outside(_) => unreachable!(),
+        };
+        match held.settle(back) {
+            Ended::Over(debts) => {
+                let woken = debts.woken_while_running();
+                held.pay(debts);
+                RunEnd::Over(woken)
+            }
+            Ended::Drop(future) => RunEnd::Drop(future, Closing { held }),
+        }
+    }
+}

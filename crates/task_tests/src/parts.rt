@@ -1,7 +1,7 @@
 //! What the tests' tasks are made of.
 use async_task::{
-    Awaiter, Back, Builder, Future, Poll, Realm, RunEnd, Runnable, Running, Schedule, ScheduleInfo,
-    Scheduled, Started, StoredRunnable, Task, TaskWaker, Wake,
+    Awaiter, Back, Builder, Cancel, FallibleTask, Future, Poll, Realm, RunEnd, Runnable, Running,
+    Schedule, ScheduleInfo, Scheduled, Started, StoredRunnable, Task, TaskWaker, Wake,
 };
 use std::alloc::{AllocError, Global};
 use std::sync::atomic::Ordering::SeqCst;
@@ -188,6 +188,10 @@ pub type TestRunning<R> = Running<Countdown, u64, Line<R>, u64, Bell, R>;
 
 pub type TestTask<R> = Task<Countdown, u64, Line<R>, u64, Bell, R>;
 
+pub type TestFallible<R> = FallibleTask<Countdown, u64, Line<R>, u64, Bell, R>;
+
+pub type TestCancel<R> = Cancel<Countdown, u64, Line<R>, u64, Bell, R>;
+
 pub type TestWaker<R> = TaskWaker<Countdown, u64, Line<R>, u64, Bell, R>;
 
 pub type TestAwaiter<R> = Awaiter<Countdown, u64, Line<R>, u64, Bell, R>;
@@ -269,6 +273,11 @@ pub fn outside_waker<R: Wait + Copy + Drop + 'static>(
     }
 }
 
+/// What a run answers.
+pub fn ran<R: Wait + Copy + Drop + 'static>(runnable: TestRunnable<R>) -> bool {
+    runnable.run()
+}
+
 /// The future and the run that a Runnable of an open task begins.
 pub fn begun<R: Wait + Copy + Drop + 'static>(
     runnable: TestRunnable<R>,
@@ -297,3 +306,11 @@ pub fn ended<R: Wait + Copy + Drop + 'static>(
         }
     }
 }
+
+// The drops of handles at their types: a call of `drop` states all that a handle's parts drop, and these state it once.
+
+pub fn drop_task<R: Wait + Copy + Drop + 'static>(_task: TestTask<R>) {}
+
+pub fn drop_cancel<R: Wait + Copy + Drop + 'static>(_cancel: TestCancel<R>) {}
+
+pub fn drop_awaiter<R: Wait + Copy + Drop + 'static>(_waker: TestAwaiter<R>) {}

@@ -1,14 +1,14 @@
 //! Traits, markers and texts of the public types.
 use crate::calls::{Stage, same, shown};
 use crate::parts::Tasks;
-use async_task::{Builder, NoMemory, ScheduleInfo, TaskError, WithInfo};
+use async_task::{Builder, NoMemory, Poll, ScheduleInfo, TaskError, WithInfo};
 use std::fmt::Debug;
 
 fn is_plain<X: Clone + Copy + PartialEq + Eq + Debug>(value: X) -> X {
     value
 }
 
-fn moves_and_is_shared<X: Send + Sync + Drop>(value: X) -> X {
+fn moves_and_is_shared<X: Send + Sync>(value: X) -> X {
     value
 }
 
@@ -52,7 +52,7 @@ fn a_handle_is_shown_with_the_marks_of_its_task(rt: HostRuntime) {
         &runnable,
         "Runnable { scheduled: true, running: false, completed: false, closed: false, awaiter: false, task: true, ref_count: 1, metadata: 7 }",
     );
-    let _ = async_task::Future::poll(&mut task, &stage.bell());
+    stage.poll(&mut task, Poll::Pending);
     let waker = runnable.waker();
     let task = task.fallible();
     shown(

@@ -1,6 +1,6 @@
 //! How runs end, and how a cell is emptied.
 use crate::calls::{Stage, same, there};
-use crate::parts::{Countdown, Tasks, TestTask, drop_task, ended};
+use crate::parts::{Countdown, TestTask, drop_task, ended, no_tasks};
 use async_task::{Back, Wake};
 use std::process::Abort;
 use std::sync::Wait;
@@ -52,7 +52,7 @@ fn is_answered_what_is_told<R: Abort + Wait + Copy + Drop + 'static>(stage: &Sta
 /// was polled: that is where it was, gave no output and wasn't closed.
 #[test]
 fn a_run_answers_what_the_schedule_value_is_told(rt: HostRuntime) {
-    let realm = Stage::new(rt, rt.alloc(), Tasks::leak(rt.alloc(), 0));
+    let realm = Stage::new(rt, rt.alloc(), no_tasks(rt.alloc(), 0));
     for case in 0..8 {
         is_answered_what_is_told(&realm.counted_apart(), case);
     }
@@ -62,7 +62,7 @@ fn a_run_answers_what_the_schedule_value_is_told(rt: HostRuntime) {
 /// none before.
 #[test]
 fn the_last_reference_empties_the_cell_once(rt: HostRuntime) {
-    let realm = Stage::new(rt, rt.alloc(), Tasks::leak(rt.alloc(), 0));
+    let realm = Stage::new(rt, rt.alloc(), no_tasks(rt.alloc(), 0));
     for order in [
         [0, 1, 2],
         [0, 2, 1],

@@ -1,6 +1,8 @@
 //! What a task does where there is no memory, or no copy of a waker.
 use crate::calls::{Stage, holds, same, seen, shown, text_of};
-use crate::parts::{Countdown, Counts, Line, Tasks, drop_cancel, drop_task, future_and_line, ran};
+use crate::parts::{
+    Countdown, Counts, Line, drop_cancel, drop_task, future_and_line, no_tasks, ran,
+};
 use async_task::{Builder, NoMemory, Parts, Poll, Realm, TaskError, spawn};
 use std::alloc::{AllocGlobal, Global};
 use std::process::Abort;
@@ -90,7 +92,7 @@ fn a_refused_spawn_of_a_builder_hands_everything_back(rt: HostRuntime) -> Result
 /// stays, and the handle may be polled again.
 #[test]
 fn a_refused_poll_leaves_the_task_as_it_was(rt: HostRuntime) {
-    let stage = Stage::new(rt, rt.alloc(), Tasks::leak(rt.alloc(), 0));
+    let stage = Stage::new(rt, rt.alloc(), no_tasks(rt.alloc(), 0));
     let others = stage.counted_apart();
     let (runnable, mut task) = stage.task(0, false);
     others.counts.is_short.store(true, SeqCst);
@@ -113,7 +115,7 @@ fn a_refused_poll_leaves_the_task_as_it_was(rt: HostRuntime) {
 /// poll needs no copy.
 #[test]
 fn a_refused_poll_of_a_cancel_has_cancelled(rt: HostRuntime) {
-    let stage = Stage::new(rt, rt.alloc(), Tasks::leak(rt.alloc(), 0));
+    let stage = Stage::new(rt, rt.alloc(), no_tasks(rt.alloc(), 0));
     let (runnable, task) = stage.task(9, false);
     stage.counts.is_short.store(true, SeqCst);
     let mut task = task.fallible();

@@ -1,7 +1,7 @@
 //! What queues and lists keep of a task, and what a schedule value does with a task that it is
 //! given.
 use crate::calls::{Stage, same, there};
-use crate::parts::{Bell, Countdown, Line, Tasks, TestRunnable, TestWaker, drop_task};
+use crate::parts::{Bell, Countdown, Line, Tasks, TestRunnable, TestWaker, drop_task, no_tasks};
 use async_task::{Due, Poll, ScheduleInfo, Scheduled, TaskError, Wake};
 use std::process::Abort;
 use std::sync::Wait;
@@ -73,7 +73,7 @@ fn has_what_its_task_has<R: Abort + Wait + Copy + Drop + 'static>(
 /// A Runnable is stored, found again and run.
 #[test]
 fn a_stored_runnable_is_redeemed(rt: HostRuntime) {
-    let stage = Stage::new(rt, rt.alloc(), Tasks::leak(rt.alloc(), 4));
+    let stage = Stage::new(rt, rt.alloc(), no_tasks(rt.alloc(), 4));
     same(&rt, stage.realm.number(), 4);
     let (runnable, task) = stage.task(0, false);
     let scheduled = runnable.into_scheduled();
@@ -103,8 +103,8 @@ fn is_not_woken_elsewhere<R: Abort + Wait + Copy + Drop + 'static>(
 /// What was stored of a task of another realm isn't found, though a task has its place here.
 #[test]
 fn nothing_of_another_realm_is_redeemed(rt: HostRuntime) {
-    let here = Stage::new(rt, rt.alloc(), Tasks::leak(rt.alloc(), 4));
-    let other_realm = here.beside(Tasks::leak(rt.alloc(), 5));
+    let here = Stage::new(rt, rt.alloc(), no_tasks(rt.alloc(), 4));
+    let other_realm = here.beside(no_tasks(rt.alloc(), 5));
     let (runnable, _task) = here.task(9, false);
     let (other, _other_task) = other_realm.task(9, false);
     is_not_woken_elsewhere(&here, &runnable, other_realm.realm);
@@ -118,7 +118,7 @@ fn nothing_of_another_realm_is_redeemed(rt: HostRuntime) {
 /// the last waker of a detached task, answer the task that has to be queued.
 #[test]
 fn a_stored_waker_wakes_its_task(rt: HostRuntime) {
-    let stage = Stage::new(rt, rt.alloc(), Tasks::leak(rt.alloc(), 0));
+    let stage = Stage::new(rt, rt.alloc(), no_tasks(rt.alloc(), 0));
     let (runnable, task) = stage.task(9, false);
     let one = stage.waker(&runnable);
     let two = stage.waker(&runnable);
@@ -147,7 +147,7 @@ fn closes_a_task_that_nobody_awaits<R: Abort + Wait + Copy + Drop + 'static>(sta
 /// own schedule value.
 #[test]
 fn a_task_is_closed_by_its_schedule_value(rt: HostRuntime) {
-    let stage = Stage::new(rt, rt.alloc(), Tasks::leak(rt.alloc(), 0));
+    let stage = Stage::new(rt, rt.alloc(), no_tasks(rt.alloc(), 0));
     let others = stage.counted_apart();
     let (awaiting, _awaiting_task) = others.task(9, false);
     let (awaited, mut task) = stage.task(9, false);

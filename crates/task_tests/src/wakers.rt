@@ -1,6 +1,6 @@
 //! The calls of wakers of each kind, and of the values around a task.
 use crate::calls::{Stage, holds, same};
-use crate::parts::{Tasks, TestAwaiter};
+use crate::parts::{TestAwaiter, no_tasks};
 use async_task::{Cells, Nobody, Schedule, ScheduleInfo, Wake, WithInfo};
 use std::process::Abort;
 use std::sync::Wait;
@@ -51,7 +51,7 @@ fn calls_are_heard<R: Abort + Wait + Copy + Drop + 'static>(
 /// One type of waker for tasks and for who is outside: each calls the one that it has.
 #[test]
 fn an_awaiter_is_the_waker_that_it_has(rt: HostRuntime) {
-    let stage = Stage::new(rt, rt.alloc(), Tasks::leak(rt.alloc(), 0));
+    let stage = Stage::new(rt, rt.alloc(), no_tasks(rt.alloc(), 0));
     let (runnable, _task) = stage.task(9, false);
     let inside = stage.awaiter(&runnable);
     is_no_other_s(&stage, &inside);

@@ -1,14 +1,14 @@
 //! A task from its spawn to its end.
 use crate::calls::{Stage, same};
 use crate::executor;
-use crate::parts::{Sum, Tasks, drop_task};
+use crate::parts::{Sum, drop_task, no_tasks};
 use async_task::{Poll, Realm, TaskError};
 use std::test::Fail;
 
 /// The whole of a task: it is spawned, run, wakes itself, is run again and gives its output.
 #[test]
 fn a_task_gives_its_output(rt: HostRuntime) {
-    let stage = Stage::new(rt, rt.alloc(), Tasks::leak(rt.alloc(), 0));
+    let stage = Stage::new(rt, rt.alloc(), no_tasks(rt.alloc(), 0));
     let (runnable, mut task) = stage.task(1, true);
     stage.poll(&mut task, Poll::Pending);
     stage.run(runnable, true);
@@ -26,7 +26,7 @@ fn a_task_gives_its_output(rt: HostRuntime) {
 /// A task whose handle is dropped isn't polled: its run drops the future and empties the cell.
 #[test]
 fn a_dropped_task_isnt_polled(rt: HostRuntime) {
-    let stage = Stage::new(rt, rt.alloc(), Tasks::leak(rt.alloc(), 0));
+    let stage = Stage::new(rt, rt.alloc(), no_tasks(rt.alloc(), 0));
     let (runnable, task) = stage.task(1, false);
     drop_task(task);
     stage.seen((0, 0, 0, 0));

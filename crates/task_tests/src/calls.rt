@@ -1,9 +1,10 @@
 //! What most tests begin with, and the calls that they make, each compared with its answer in one place, so that a call is
 //! cheap to prove.
 use crate::parts::{
-    Counts, Tasks, TestAwaiter, TestRunnable, TestTask, TestWaker, made, next, outside_waker,
+    Countdown, Counts, Tasks, TestAwaiter, TestCancel, TestFallible, TestRunnable, TestRunning,
+    TestTask, TestWaker, begun, made, next, outside_waker, ran,
 };
-use async_task::{Future, NoMemory, Poll};
+use async_task::{Awaiter, Future, NoMemory, Poll, TaskError};
 use std::alloc::{AllocGlobal, Global};
 use std::fmt::Debug;
 use std::process::Abort;
@@ -100,12 +101,24 @@ impl<R: Abort + Wait + Copy + Drop + 'static> Stage<R> {
         }
     }
 
+    /// The same task, whose handle is given up.
+    pub fn detached(&self, left: u64, wakes_itself: bool) -> TestRunnable<R> {
+        let (runnable, task) = self.task(left, wakes_itself);
+        task.detach();
+        runnable
+    }
+
     /// A waker of this task.
     pub fn waker(&self, runnable: &TestRunnable<R>) -> TestWaker<R> {
         match runnable.waker() {
             Some(waker) => waker,
             None => panic!(self.rt; "no waker"),
         }
+    }
+
+    /// A waker of this task, as another one's handle is polled with it.
+    pub fn awaiter(&self, runnable: &TestRunnable<R>) -> TestAwaiter<R> {
+        Awaiter::Task(self.waker(runnable))
     }
 
     /// A waker from outside that counts its rings here.
@@ -164,7 +177,15 @@ impl<R: Abort + Wait + Copy + Drop + 'static> Stage<R> {
 
     /// A run, and whether it answers that its task was woken in it.
     pub fn run(&self, runnable: TestRunnable<R>, want: bool) {
-        assert_eq!(self.rt; runnable.run(), want);
+        assert_eq!(self.rt; ran(runnable), want);
+    }
+
+    /// The future and the run that a Runnable of an open task begins.
+    pub fn begun(&self, runnable: TestRunnable<R>) -> (Countdown, TestRunning<R>) {
+        match begun(runnable) {
+            Some(both) => both,
+            None => panic!(self.rt; "its task is closed"),
+        }
     }
 
     /// The Runnable that was scheduled last.
@@ -184,21 +205,41 @@ impl<R: Abort + Wait + Copy + Drop + 'static> Stage<R> {
     pub fn run_what_is_there(&self, rounds: u64) {
         for _ in 0..rounds {
             if let Some(runnable) = next(self.rt, self.realm, &self.counts) {
-                runnable.run();
+                ran(runnable);
             }
         }
     }
 
-    /// A poll of a handle.
-    pub fn poll<H: Future<TestAwaiter<R>>>(
+    /// A poll of a handle by a waker from outside that counts its rings here.
+    pub fn poll(&self, task: &mut TestTask<R>, want: Poll<Result<u64, TaskError>>) {
+        self.poll_by(task, &self.bell(), want);
+    }
+
+    /// A poll of a handle by this waker.
+    pub fn poll_by(
         &self,
-        handle: &mut H,
+        task: &mut TestTask<R>,
         waker: &TestAwaiter<R>,
-        want: Poll<H::Output>,
-    )
-    where
-        H::Output: PartialEq + Debug + Drop,
-    {
-        assert_eq!(self.rt; handle.poll(waker), want);
+        want: Poll<Result<u64, TaskError>>,
+    ) {
+        same(&self.rt, task.poll(waker), want);
+    }
+
+    /// The same of a fallible handle, by a waker from outside.
+    pub fn poll_fallible(
+        &self,
+        task: &mut TestFallible<R>,
+        want: Poll<Result<Option<u64>, NoMemory>>,
+    ) {
+        same(&self.rt, task.poll(&self.bell()), want);
+    }
+
+    /// The same of a handle that cancels.
+    pub fn poll_cancel(
+        &self,
+        cancel: &mut TestCancel<R>,
+        want: Poll<Result<Option<u64>, NoMemory>>,
+    ) {
+        same(&self.rt, cancel.poll(&self.bell()), want);
     }
 }

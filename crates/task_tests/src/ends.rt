@@ -1,7 +1,9 @@
 //! How runs end, and how a cell is emptied.
 use crate::calls::{Stage, same, there};
-use crate::parts::{Countdown, Tasks, begun, ended};
+use crate::parts::{Countdown, TestTask, drop_task, ended, no_tasks};
 use async_task::{Back, Wake};
+use std::process::Abort;
+use std::sync::Wait;
 
 /// What a poll of the future ends with.
 fn given_back(future: Countdown, is_ready: bool) -> Back<Countdown, u64> {
@@ -13,34 +15,46 @@ fn given_back(future: Countdown, is_ready: bool) -> Back<Countdown, u64> {
     }
 }
 
+/// The handle, unless its drop is to close the task.
+fn kept<R: Wait + Copy + Drop + 'static>(
+    task: TestTask<R>,
+    is_closed: bool,
+) -> Option<TestTask<R>> {
+    if is_closed {
+        drop_task(task);
+        return None;
+    }
+    Some(task)
+}
+
+/// A run whose task is woken in it, closed in it and ready after it, or not, by the case's number.
+fn is_answered_what_is_told<R: Abort + Wait + Copy + Drop + 'static>(stage: &Stage<R>, case: u64) {
+    let (is_woken, is_closed, is_ready) = (case % 2 == 1, case / 2 % 2 == 1, case / 4 == 1);
+    let (runnable, task) = stage.task(9, false);
+    let (future, running) = stage.begun(runnable);
+    if is_woken {
+        running.waker().wake_by_ref();
+    }
+    let _task = kept(task, is_closed);
+    stage.seen((0, 0, 0, 0));
+    let (answer, was_dropped) = ended(running, given_back(future, is_ready));
+    stage.holds(!was_dropped | (is_closed & !is_ready));
+    same(
+        &stage.rt,
+        (case, answer),
+        (case, is_woken & !is_closed & !is_ready),
+    );
+    stage.schedules_after_poll(answer as u64);
+    stage.schedules(answer as u64);
+}
+
 /// A run answers true exactly where the schedule value was told that the task was woken while it
 /// was polled: that is where it was, gave no output and wasn't closed.
 #[test]
 fn a_run_answers_what_the_schedule_value_is_told(rt: HostRuntime) {
-    let realm = Stage::new(rt, rt.alloc(), Tasks::leak(rt.alloc(), 0));
-    for case in 0..8u64 {
-        let (is_woken, is_closed, is_ready) = (case % 2 == 1, case / 2 % 2 == 1, case / 4 == 1);
-        let stage = realm.counted_apart();
-        let (runnable, task) = stage.task(9, false);
-        let (future, running) = there(&rt, begun(runnable));
-        if is_woken {
-            running.waker().wake_by_ref();
-        }
-        let mut task = Some(task);
-        if is_closed {
-            drop(task.take());
-        }
-        stage.seen((0, 0, 0, 0));
-        let (answer, was_dropped) = ended(running, given_back(future, is_ready));
-        stage.holds(!was_dropped | (is_closed & !is_ready));
-        same(
-            &rt,
-            (case, answer),
-            (case, is_woken & !is_closed & !is_ready),
-        );
-        stage.schedules_after_poll(answer as u64);
-        stage.schedules(answer as u64);
-        drop(task);
+    let realm = Stage::new(rt, rt.alloc(), no_tasks(rt.alloc(), 0));
+    for case in 0..8 {
+        is_answered_what_is_told(&realm.counted_apart(), case);
     }
 }
 
@@ -48,7 +62,7 @@ fn a_run_answers_what_the_schedule_value_is_told(rt: HostRuntime) {
 /// none before.
 #[test]
 fn the_last_reference_empties_the_cell_once(rt: HostRuntime) {
-    let realm = Stage::new(rt, rt.alloc(), Tasks::leak(rt.alloc(), 0));
+    let realm = Stage::new(rt, rt.alloc(), no_tasks(rt.alloc(), 0));
     for order in [
         [0, 1, 2],
         [0, 2, 1],
@@ -59,14 +73,14 @@ fn the_last_reference_empties_the_cell_once(rt: HostRuntime) {
     ] {
         let stage = realm.counted_apart();
         let (runnable, task) = stage.task(0, false);
-        let mut waker = Some(there(&rt, runnable.waker()));
+        let mut waker = Some(stage.waker(&runnable));
         let (mut runnable, mut task) = (Some(runnable), Some(task));
         for part in order {
             stage.schedule_drops(0);
             match part {
                 0 => stage.run(there(&rt, runnable.take()), false),
-                1 => drop(task.take()),
-                _ => drop(waker.take()),
+                1 => task = None,
+                _ => waker = None,
             }
         }
         stage.future_drops(1);

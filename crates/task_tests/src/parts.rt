@@ -1,7 +1,7 @@
 //! What the tests' tasks are made of.
 use async_task::{
-    Awaiter, Back, Builder, Future, Poll, Realm, RunEnd, Runnable, Running, Schedule, ScheduleInfo,
-    Scheduled, Started, StoredRunnable, Task, TaskWaker, Wake,
+    Awaiter, Back, Builder, Cancel, FallibleTask, Future, NoMemory, Poll, Realm, RunEnd, Runnable,
+    Running, Schedule, ScheduleInfo, Scheduled, Started, StoredRunnable, Task, TaskWaker, Wake,
 };
 use std::alloc::{AllocError, Global};
 use std::sync::atomic::Ordering::SeqCst;
@@ -188,9 +188,21 @@ pub type TestRunning<R> = Running<Countdown, u64, Line<R>, u64, Bell, R>;
 
 pub type TestTask<R> = Task<Countdown, u64, Line<R>, u64, Bell, R>;
 
+pub type TestFallible<R> = FallibleTask<Countdown, u64, Line<R>, u64, Bell, R>;
+
+pub type TestCancel<R> = Cancel<Countdown, u64, Line<R>, u64, Bell, R>;
+
 pub type TestWaker<R> = TaskWaker<Countdown, u64, Line<R>, u64, Bell, R>;
 
 pub type TestAwaiter<R> = Awaiter<Countdown, u64, Line<R>, u64, Bell, R>;
+
+/// A realm of this number, where no tasks lie yet.
+pub fn no_tasks<'r, R: Wait + Copy + Drop + 'r>(
+    alloc: Global,
+    number: u64,
+) -> Result<&'r Tasks<R>, NoMemory> {
+    Tasks::leak(alloc, number)
+}
 
 /// What a task is made of.
 pub fn future_and_line<R: Wait + Copy + Drop + 'static>(
@@ -269,6 +281,11 @@ pub fn outside_waker<R: Wait + Copy + Drop + 'static>(
     }
 }
 
+/// What a run answers.
+pub fn ran<R: Wait + Copy + Drop + 'static>(runnable: TestRunnable<R>) -> bool {
+    runnable.run()
+}
+
 /// The future and the run that a Runnable of an open task begins.
 pub fn begun<R: Wait + Copy + Drop + 'static>(
     runnable: TestRunnable<R>,
@@ -297,3 +314,19 @@ pub fn ended<R: Wait + Copy + Drop + 'static>(
         }
     }
 }
+
+/// The drop of a handle. A call of `drop` states at each place all that a handle's parts drop: this and the next state it
+/// once.
+pub fn drop_task<R: Wait + Copy + Drop + 'static>(_task: TestTask<R>) {}
+
+/// The drop of a handle that has None where there is no output.
+pub fn drop_fallible<R: Wait + Copy + Drop + 'static>(_task: TestFallible<R>) {}
+
+/// The drop of a handle that cancels.
+pub fn drop_cancel<R: Wait + Copy + Drop + 'static>(_cancel: TestCancel<R>) {}
+
+/// The drop of a task's waker.
+pub fn drop_waker<R: Wait + Copy + Drop + 'static>(_waker: TestWaker<R>) {}
+
+/// The drop of a waker that a handle was polled with.
+pub fn drop_awaiter<R: Wait + Copy + Drop + 'static>(_waker: TestAwaiter<R>) {}

@@ -1,6 +1,8 @@
 //! What a task does where there is no memory, or no copy of a waker.
 use crate::calls::{Stage, holds, same, seen, shown, text_of};
-use crate::parts::{Countdown, Counts, Line, Tasks, future_and_line};
+use crate::parts::{
+    Countdown, Counts, Line, drop_cancel, drop_task, future_and_line, no_tasks, ran,
+};
 use async_task::{Builder, NoMemory, Parts, Poll, Realm, TaskError, spawn};
 use std::alloc::{AllocGlobal, Global};
 use std::process::Abort;
@@ -64,8 +66,8 @@ fn a_refused_spawn_of_a_builder_hands_everything_back(rt: HostRuntime) -> Result
     {
         Ok((runnable, task)) => {
             same(&rt, *task.metadata(), 7);
-            holds(&rt, !runnable.run());
-            drop(task);
+            holds(&rt, !ran(runnable));
+            drop_task(task);
             seen(&rt, &counts, (1, 0, 1, 1));
         }
         Err(back) => {
@@ -90,14 +92,13 @@ fn a_refused_spawn_of_a_builder_hands_everything_back(rt: HostRuntime) -> Result
 /// stays, and the handle may be polled again.
 #[test]
 fn a_refused_poll_leaves_the_task_as_it_was(rt: HostRuntime) {
-    let stage = Stage::new(rt, rt.alloc(), Tasks::leak(rt.alloc(), 0));
+    let stage = Stage::new(rt, rt.alloc(), no_tasks(rt.alloc(), 0));
     let others = stage.counted_apart();
     let (runnable, mut task) = stage.task(0, false);
-    let (bell, short) = (stage.bell(), others.bell());
     others.counts.is_short.store(true, SeqCst);
-    stage.poll(&mut task, &bell, Poll::Pending);
+    stage.poll(&mut task, Poll::Pending);
     let text = text_of(&rt, &task);
-    stage.poll(&mut task, &short, Poll::Ready(Err(TaskError::NoMemory)));
+    others.poll(&mut task, Poll::Ready(Err(TaskError::NoMemory)));
     shown(&rt, &task, text.as_str());
     stage.run(runnable, false);
     stage.rings(1);
@@ -105,8 +106,8 @@ fn a_refused_poll_leaves_the_task_as_it_was(rt: HostRuntime) {
     stage.copies(1);
     others.copies(1);
     // There is an output now, so that no copy is needed.
-    stage.poll(&mut task, &short, Poll::Ready(Ok(3)));
-    stage.poll(&mut task, &short, Poll::Ready(Err(TaskError::TaskClosed)));
+    others.poll(&mut task, Poll::Ready(Ok(3)));
+    others.poll(&mut task, Poll::Ready(Err(TaskError::TaskClosed)));
     others.copies(1);
 }
 
@@ -114,23 +115,22 @@ fn a_refused_poll_leaves_the_task_as_it_was(rt: HostRuntime) {
 /// poll needs no copy.
 #[test]
 fn a_refused_poll_of_a_cancel_has_cancelled(rt: HostRuntime) {
-    let stage = Stage::new(rt, rt.alloc(), Tasks::leak(rt.alloc(), 0));
+    let stage = Stage::new(rt, rt.alloc(), no_tasks(rt.alloc(), 0));
     let (runnable, task) = stage.task(9, false);
-    let short = stage.bell();
     stage.counts.is_short.store(true, SeqCst);
     let mut task = task.fallible();
-    stage.poll(&mut task, &short, Poll::Ready(Err(NoMemory)));
+    stage.poll_fallible(&mut task, Poll::Ready(Err(NoMemory)));
     stage.run(runnable, false);
     stage.seen((1, 0, 0, 0));
     let mut cancel = task.cancel();
-    stage.poll(&mut cancel, &short, Poll::Ready(Err(NoMemory)));
+    stage.poll_cancel(&mut cancel, Poll::Ready(Err(NoMemory)));
     stage.seen((1, 1, 0, 0));
-    stage.poll(&mut cancel, &short, Poll::Ready(Err(NoMemory)));
+    stage.poll_cancel(&mut cancel, Poll::Ready(Err(NoMemory)));
     stage.seen((1, 1, 0, 0));
     stage.run_next();
-    stage.poll(&mut cancel, &short, Poll::Ready(Ok(None)));
+    stage.poll_cancel(&mut cancel, Poll::Ready(Ok(None)));
     stage.copies(3);
     stage.rings(0);
-    drop(cancel);
+    drop_cancel(cancel);
     stage.seen((1, 1, 1, 1));
 }

@@ -1,8 +1,8 @@
 //! What queues and lists keep of a task, and what a schedule value does with a task that it is
 //! given.
 use crate::calls::{Stage, same, there};
-use crate::parts::{Bell, Countdown, Line, Tasks, TestRunnable};
-use async_task::{Awaiter, Due, Poll, ScheduleInfo, Scheduled, TaskError, Wake};
+use crate::parts::{Bell, Countdown, Line, Tasks, TestRunnable, TestWaker, drop_task, no_tasks};
+use async_task::{Due, Poll, ScheduleInfo, Scheduled, TaskError, Wake};
 use std::process::Abort;
 use std::sync::Wait;
 use std::sync::atomic::Ordering::SeqCst;
@@ -37,6 +37,14 @@ fn is_found<R: Wait + Copy + Drop + 'static>(found: Option<TestScheduled<R>>) ->
     }
 }
 
+/// Whether a stored waker was found. It is dropped.
+fn is_waker<R: Wait + Copy + Drop + 'static>(found: Option<TestWaker<R>>) -> bool {
+    match found {
+        Some(_) => true,
+        None => false,
+    }
+}
+
 /// The Runnable that is owed to its schedule value, whose task was woken while nobody polled it.
 fn idle<R: Abort + Wait + Copy + Drop + 'static>(
     stage: &Stage<R>,
@@ -51,38 +59,55 @@ fn idle<R: Abort + Wait + Copy + Drop + 'static>(
     }
 }
 
+/// What is handed to a schedule value has its task's metadata, realm and schedule value.
+fn has_what_its_task_has<R: Abort + Wait + Copy + Drop + 'static>(
+    stage: &Stage<R>,
+    scheduled: &TestScheduled<R>,
+) {
+    same(&stage.rt, *scheduled.metadata(), 7);
+    same(&stage.rt, scheduled.realm().number(), 4);
+    scheduled.schedule_value().counts.rings.fetch_add(5, SeqCst);
+    stage.rings(5);
+}
+
 /// A Runnable is stored, found again and run.
 #[test]
 fn a_stored_runnable_is_redeemed(rt: HostRuntime) {
-    let stage = Stage::new(rt, rt.alloc(), Tasks::leak(rt.alloc(), 4));
+    let stage = Stage::new(rt, rt.alloc(), no_tasks(rt.alloc(), 4));
     same(&rt, stage.realm.number(), 4);
     let (runnable, task) = stage.task(0, false);
     let scheduled = runnable.into_scheduled();
-    same(&rt, *scheduled.metadata(), 7);
-    same(&rt, scheduled.realm().number(), 4);
-    scheduled.schedule_value().counts.rings.fetch_add(5, SeqCst);
-    stage.rings(5);
+    has_what_its_task_has(&stage, &scheduled);
     let found = there(&rt, scheduled.store().redeem(rt, stage.realm));
     same(&rt, *found.metadata(), 7);
     stage.run(found.into_runnable(), false);
     stage.seen((1, 0, 1, 0));
-    drop(task);
+    drop_task(task);
     stage.seen((1, 0, 1, 1));
+}
+
+/// What was stored of this task's wakers isn't found elsewhere.
+fn is_not_woken_elsewhere<R: Abort + Wait + Copy + Drop + 'static>(
+    here: &Stage<R>,
+    runnable: &TestRunnable<R>,
+    elsewhere: &'static Tasks<R>,
+) {
+    let one = here.waker(runnable);
+    let two = here.waker(runnable);
+    let three = here.waker(runnable);
+    here.holds(!is_waker(one.store().redeem(here.rt, elsewhere)));
+    here.holds(!is_there(two.store().wake(here.rt, elsewhere)));
+    here.holds(!is_there(three.store().release(here.rt, elsewhere)));
 }
 
 /// What was stored of a task of another realm isn't found, though a task has its place here.
 #[test]
 fn nothing_of_another_realm_is_redeemed(rt: HostRuntime) {
-    let here = Stage::new(rt, rt.alloc(), Tasks::leak(rt.alloc(), 4));
-    let other_realm = here.beside(Tasks::leak(rt.alloc(), 5));
+    let here = Stage::new(rt, rt.alloc(), no_tasks(rt.alloc(), 4));
+    let other_realm = here.beside(no_tasks(rt.alloc(), 5));
     let (runnable, _task) = here.task(9, false);
     let (other, _other_task) = other_realm.task(9, false);
-    let one = there(&rt, runnable.waker());
-    let two = there(&rt, runnable.waker());
-    let three = there(&rt, runnable.waker());
-    here.holds(one.store().redeem(rt, other_realm.realm).is_none());
-    here.holds(!is_there(two.store().wake(rt, other_realm.realm)));
-    here.holds(!is_there(three.store().release(rt, other_realm.realm)));
+    is_not_woken_elsewhere(&here, &runnable, other_realm.realm);
     let stored = runnable.into_scheduled().store();
     here.holds(!is_found(stored.redeem(rt, other_realm.realm)));
     other_realm.run(other, false);
@@ -93,10 +118,10 @@ fn nothing_of_another_realm_is_redeemed(rt: HostRuntime) {
 /// the last waker of a detached task, answer the task that has to be queued.
 #[test]
 fn a_stored_waker_wakes_its_task(rt: HostRuntime) {
-    let stage = Stage::new(rt, rt.alloc(), Tasks::leak(rt.alloc(), 0));
+    let stage = Stage::new(rt, rt.alloc(), no_tasks(rt.alloc(), 0));
     let (runnable, task) = stage.task(9, false);
-    let one = there(&rt, runnable.waker());
-    let two = there(&rt, runnable.waker());
+    let one = stage.waker(&runnable);
+    let two = stage.waker(&runnable);
     stage.run(runnable, false);
     stage.run(idle(&stage, one.store().wake(rt, stage.realm)), false);
     task.detach();
@@ -122,19 +147,18 @@ fn closes_a_task_that_nobody_awaits<R: Abort + Wait + Copy + Drop + 'static>(sta
 /// own schedule value.
 #[test]
 fn a_task_is_closed_by_its_schedule_value(rt: HostRuntime) {
-    let stage = Stage::new(rt, rt.alloc(), Tasks::leak(rt.alloc(), 0));
+    let stage = Stage::new(rt, rt.alloc(), no_tasks(rt.alloc(), 0));
     let others = stage.counted_apart();
     let (awaiting, _awaiting_task) = others.task(9, false);
     let (awaited, mut task) = stage.task(9, false);
-    let waker = Awaiter::Task(there(&rt, awaiting.waker()));
+    let waker = others.awaiter(&awaiting);
     stage.run(awaiting, false);
-    stage.poll(&mut task, &waker, Poll::Pending);
+    stage.poll_by(&mut task, &waker, Poll::Pending);
     stage.run(idle(&stage, awaited.into_scheduled().close()), false);
     stage.seen((0, 0, 1, 0));
     others.seen((2, 0, 0, 0));
-    stage.poll(&mut task, &waker, Poll::Ready(Err(TaskError::TaskClosed)));
+    stage.poll_by(&mut task, &waker, Poll::Ready(Err(TaskError::TaskClosed)));
     closes_a_task_that_nobody_awaits(&stage);
     stage.seen((0, 0, 2, 1));
-    let bell = stage.bell();
-    stage.poll(&mut task, &bell, Poll::Ready(Err(TaskError::TaskClosed)));
+    stage.poll(&mut task, Poll::Ready(Err(TaskError::TaskClosed)));
 }

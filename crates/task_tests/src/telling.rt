@@ -162,6 +162,8 @@ impl<R: Abort + Wait + Copy + Drop + 'static> Hall<R> {
     }
 }
 
+fn drop_task<R: Wait + Copy + Drop + 'static>(_task: TellingTask<R>) {}
+
 /// A task that lies among the sleepers of its own queue is queued behind the one that is pushed.
 #[test]
 fn a_push_wakes_a_task_of_the_same_queue(rt: HostRuntime) {
@@ -172,7 +174,8 @@ fn a_push_wakes_a_task_of_the_same_queue(rt: HostRuntime) {
     hall.run(sleeper);
     runnable.schedule();
     hall.lengths(2, 0);
-    drop((sleeping, task));
+    drop_task(sleeping);
+    drop_task(task);
     hall.run_next();
     hall.run_next();
     seen(&rt, &hall.counts, (1, 0, 2, 0));

@@ -1,14 +1,14 @@
 //! Traits, markers and texts of the public types.
 use crate::calls::{Stage, same, shown};
-use crate::parts::Tasks;
-use async_task::{Builder, NoMemory, ScheduleInfo, TaskError, WithInfo};
+use crate::parts::{drop_cancel, drop_fallible, drop_waker, no_tasks};
+use async_task::{Builder, NoMemory, Poll, ScheduleInfo, TaskError, WithInfo};
 use std::fmt::Debug;
 
 fn is_plain<X: Clone + Copy + PartialEq + Eq + Debug>(value: X) -> X {
     value
 }
 
-fn moves_and_is_shared<X: Send + Sync + Drop>(value: X) -> X {
+fn moves_and_is_shared<X: Send + Sync>(value: X) -> X {
     value
 }
 
@@ -30,38 +30,37 @@ fn plain_types_are_copied_compared_and_shown(rt: HostRuntime) {
 /// are.
 #[test]
 fn handles_move_and_are_shared(rt: HostRuntime) {
-    let stage = Stage::new(rt, rt.alloc(), Tasks::leak(rt.alloc(), 0));
+    let stage = Stage::new(rt, rt.alloc(), no_tasks(rt.alloc(), 0));
     let (runnable, task) = stage.task(0, false);
     let runnable = moves_and_is_shared(runnable);
-    let waker = moves_and_is_shared(runnable.waker());
-    stage.holds(waker.is_some());
+    let waker = moves_and_is_shared(stage.waker(&runnable));
     let task = moves_and_is_shared(moves_and_is_shared(task).fallible());
-    drop(moves_and_is_shared(task.cancel()));
+    drop_cancel(moves_and_is_shared(task.cancel()));
     stage.run(runnable, false);
-    drop(waker);
+    drop_waker(waker);
     stage.seen((0, 0, 1, 1));
 }
 
 /// A handle's text has the marks of its task at that moment, and how many references there are.
 #[test]
 fn a_handle_is_shown_with_the_marks_of_its_task(rt: HostRuntime) {
-    let stage = Stage::new(rt, rt.alloc(), Tasks::leak(rt.alloc(), 0));
+    let stage = Stage::new(rt, rt.alloc(), no_tasks(rt.alloc(), 0));
     let (runnable, mut task) = stage.task(0, false);
     shown(
         &rt,
         &runnable,
         "Runnable { scheduled: true, running: false, completed: false, closed: false, awaiter: false, task: true, ref_count: 1, metadata: 7 }",
     );
-    let _ = async_task::Future::poll(&mut task, &stage.bell());
-    let waker = runnable.waker();
+    stage.poll(&mut task, Poll::Pending);
+    let waker = stage.waker(&runnable);
     let task = task.fallible();
     shown(
         &rt,
         &task,
         "FallibleTask { scheduled: true, running: false, completed: false, closed: false, awaiter: true, task: true, ref_count: 2, metadata: 7 }",
     );
-    drop(waker);
-    drop(task);
+    drop_waker(waker);
+    drop_fallible(task);
     shown(
         &rt,
         &runnable,

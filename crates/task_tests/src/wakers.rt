@@ -1,7 +1,7 @@
 //! The calls of wakers of each kind, and of the values around a task.
 use crate::calls::{Stage, holds, same};
-use crate::parts::{Tasks, TestAwaiter};
-use async_task::{Awaiter, Cells, Nobody, Schedule, ScheduleInfo, Wake, WithInfo};
+use crate::parts::{TestAwaiter, no_tasks};
+use async_task::{Cells, Nobody, Schedule, ScheduleInfo, Wake, WithInfo};
 use std::process::Abort;
 use std::sync::Wait;
 use std::sync::atomic::AtomicU64;
@@ -24,7 +24,7 @@ fn is_no_other_s<R: Abort + Wait + Copy + Drop + 'static>(
     waker: &TestAwaiter<R>,
 ) {
     let (other, _other_task) = stage.task(9, false);
-    let another = Awaiter::Task(stage.waker(&other));
+    let another = stage.awaiter(&other);
     will_wake(stage, waker, &another, false);
     will_wake(stage, &another, waker, false);
 }
@@ -51,9 +51,9 @@ fn calls_are_heard<R: Abort + Wait + Copy + Drop + 'static>(
 /// One type of waker for tasks and for who is outside: each calls the one that it has.
 #[test]
 fn an_awaiter_is_the_waker_that_it_has(rt: HostRuntime) {
-    let stage = Stage::new(rt, rt.alloc(), Tasks::leak(rt.alloc(), 0));
+    let stage = Stage::new(rt, rt.alloc(), no_tasks(rt.alloc(), 0));
     let (runnable, _task) = stage.task(9, false);
-    let inside = Awaiter::Task(stage.waker(&runnable));
+    let inside = stage.awaiter(&runnable);
     is_no_other_s(&stage, &inside);
     stage.run(runnable, false);
     let outside = stage.bell();

@@ -1,10 +1,9 @@
 //! Worked scripts of handles, refused memory, and calls that are caught in their middle.
 
-use super::tests::shown;
-use std::test::Fail;
+use super::tests::shows;
 
 #[test]
-fn a_future_waits_for_another_and_doubles_its_output(rt: HostRuntime) -> Result<(), Fail> {
+fn a_future_waits_for_another_and_doubles_its_output(rt: HostRuntime) {
     let script = "\
 limit 2
 spawn b self ready=5
@@ -36,8 +35,7 @@ try: true
 try: false
 poll: ready 10
 ";
-    assert_eq!(rt; shown(rt.alloc(), script)?.as_str(), text);
-    Ok(())
+    shows(&rt, script, text);
 }
 
 const CAUGHT: &str = "\
@@ -52,21 +50,19 @@ poll: cancelled
 ";
 
 #[test]
-fn a_wake_is_caught_by_the_end_before_its_steps(rt: HostRuntime) -> Result<(), Fail> {
+fn a_wake_is_caught_by_the_end_before_its_steps(rt: HostRuntime) {
     let script = "limit 1\nspawn a keep\ntry\nbegin 1 wake a\nend\nfinish 1\npoll a\n";
-    assert_eq!(rt; shown(rt.alloc(), script)?.as_str(), CAUGHT);
-    Ok(())
+    shows(&rt, script, CAUGHT);
 }
 
 #[test]
-fn a_wake_is_caught_by_the_end_when_it_has_marked_the_task(rt: HostRuntime) -> Result<(), Fail> {
+fn a_wake_is_caught_by_the_end_when_it_has_marked_the_task(rt: HostRuntime) {
     let script = "limit 1\nspawn a keep\ntry\nbegin 1 wake a\ngo 1\nend\nfinish 1\npoll a\n";
-    assert_eq!(rt; shown(rt.alloc(), script)?.as_str(), CAUGHT);
-    Ok(())
+    shows(&rt, script, CAUGHT);
 }
 
 #[test]
-fn a_wake_that_has_queued_the_task_is_over_before_the_end(rt: HostRuntime) -> Result<(), Fail> {
+fn a_wake_that_has_queued_the_task_is_over_before_the_end(rt: HostRuntime) {
     let script = "limit 1\nspawn a keep\ntry\nbegin 1 wake a\ngo 1\ngo 1\nend\nfinish 1\npoll a\n";
     let text = "\
 spawn: ok
@@ -79,12 +75,11 @@ end: done
 finish: not possible
 poll: cancelled
 ";
-    assert_eq!(rt; shown(rt.alloc(), script)?.as_str(), text);
-    Ok(())
+    shows(&rt, script, text);
 }
 
 #[test]
-fn a_poll_of_refused_memory_leaves_the_output(rt: HostRuntime) -> Result<(), Fail> {
+fn a_poll_of_refused_memory_leaves_the_output(rt: HostRuntime) {
     let script = "limit 1\nspawn a ready=3\nrefuse poll a\ntry\npoll a\n";
     let text = "\
 spawn: ok
@@ -95,12 +90,11 @@ drop a
 try: true
 poll: ready 3
 ";
-    assert_eq!(rt; shown(rt.alloc(), script)?.as_str(), text);
-    Ok(())
+    shows(&rt, script, text);
 }
 
 #[test]
-fn a_cancel_whose_poll_is_refused_has_cancelled(rt: HostRuntime) -> Result<(), Fail> {
+fn a_cancel_whose_poll_is_refused_has_cancelled(rt: HostRuntime) {
     let script = "limit 1\nspawn a pend\nrefuse cancel a\ntry\npoll a\n";
     let text = "\
 spawn: ok
@@ -109,12 +103,11 @@ drop a
 try: true
 poll: cancelled
 ";
-    assert_eq!(rt; shown(rt.alloc(), script)?.as_str(), text);
-    Ok(())
+    shows(&rt, script, text);
 }
 
 #[test]
-fn an_awaiter_is_called_once_and_a_held_handle_is_in_use(rt: HostRuntime) -> Result<(), Fail> {
+fn an_awaiter_is_called_once_and_a_held_handle_is_in_use(rt: HostRuntime) {
     let script = "\
 limit 2
 spawn a ready=1
@@ -140,6 +133,5 @@ spawn: ok
 poll: not possible
 detach: done
 ";
-    assert_eq!(rt; shown(rt.alloc(), script)?.as_str(), text);
-    Ok(())
+    shows(&rt, script, text);
 }

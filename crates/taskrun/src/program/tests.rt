@@ -1,9 +1,10 @@
 use super::program;
 use crate::fault::Fault;
 use crate::input::MOST_READS;
-use std::alloc::{AllocError, Global};
+use std::alloc::{AllocError, AllocGlobal, Global};
+use std::fmt::Debug;
 use std::io::{self, ErrorKind, Read, Write};
-use std::test::Fail;
+use std::process::Abort;
 
 /// A reader that gives a byte a read, and fails at the read of this number, counted from 0.
 #[derive(Drop)]
@@ -122,22 +123,52 @@ fn words(alloc: Global, texts: &[&str]) -> Result<Vec<String>, AllocError> {
     Ok(words)
 }
 
+/// Runs the program on these words.
+fn run<R: Read, W: Write>(
+    alloc: Global,
+    texts: &[&str],
+    reader: &mut R,
+    writer: &mut W,
+) -> Result<(), Fault> {
+    let words = words(alloc, texts)?;
+    program(alloc, words.as_slice(), reader, writer)
+}
+
 /// What `taskrun sim` writes for this script.
-pub fn shown(alloc: Global, script: &str) -> Result<String, Fault> {
-    let words = words(alloc, &["sim"])?;
+fn shown(alloc: Global, script: &str) -> Result<Vec<u8>, Fault> {
     let mut text = Vec::new(alloc);
-    program(alloc, words.as_slice(), &mut script.as_bytes(), &mut text)?;
-    String::from_utf8(text).map_err(|_| Fault::WriteFailed)
+    run(alloc, &["sim"], &mut script.as_bytes(), &mut text)?;
+    Ok(text)
+}
+
+/// `taskrun sim` writes this text for this script.
+pub fn shows<R: Abort + AllocGlobal>(rt: &R, script: &str, text: &str) {
+    match shown(rt.alloc(), script) {
+        Ok(shown) => is_text(rt, shown, text),
+        Err(fault) => panic!(rt; "{fault}"),
+    }
+}
+
+/// What was written is this text.
+fn is_text<R: Abort + AllocGlobal>(rt: &R, written: Vec<u8>, text: &str) {
+    match String::from_utf8(written) {
+        Ok(written) => assert_eq!(rt; written.as_str(), text),
+        Err(_) => panic!(rt; "no text was written"),
+    }
+}
+
+/// The value is the one that is wanted.
+fn same<R: Abort, T: PartialEq + Debug + Drop>(rt: &R, value: T, want: T) {
+    assert_eq!(rt; value, want);
 }
 
 #[test]
-fn three_wakes_make_one_poll(rt: HostRuntime) -> Result<(), Fail> {
-    assert_eq!(rt; shown(rt.alloc(), THREE_WAKES)?.as_str(), THREE_WAKES_SHOW);
-    Ok(())
+fn three_wakes_make_one_poll(rt: HostRuntime) {
+    shows(&rt, THREE_WAKES, THREE_WAKES_SHOW);
 }
 
 #[test]
-fn a_full_executor_refuses_until_a_future_is_dropped(rt: HostRuntime) -> Result<(), Fail> {
+fn a_full_executor_refuses_until_a_future_is_dropped(rt: HostRuntime) {
     let script = "\
 limit 1
 spawn a ready=1
@@ -154,12 +185,11 @@ drop a
 try: true
 spawn: ok
 ";
-    assert_eq!(rt; shown(rt.alloc(), script)?.as_str(), text);
-    Ok(())
+    shows(&rt, script, text);
 }
 
 #[test]
-fn a_dropped_handle_cancels_the_future_unpolled(rt: HostRuntime) -> Result<(), Fail> {
+fn a_dropped_handle_cancels_the_future_unpolled(rt: HostRuntime) {
     let script = "\
 limit 1
 spawn a pend
@@ -176,12 +206,11 @@ try: true
 try: false
 empty: true
 ";
-    assert_eq!(rt; shown(rt.alloc(), script)?.as_str(), text);
-    Ok(())
+    shows(&rt, script, text);
 }
 
 #[test]
-fn the_end_drops_in_the_order_of_acceptance(rt: HostRuntime) -> Result<(), Fail> {
+fn the_end_drops_in_the_order_of_acceptance(rt: HostRuntime) {
     let script = "\
 limit 2
 spawn z ready=1
@@ -210,12 +239,11 @@ end: done
 wake: done
 try: not possible
 ";
-    assert_eq!(rt; shown(rt.alloc(), script)?.as_str(), text);
-    Ok(())
+    shows(&rt, script, text);
 }
 
 #[test]
-fn a_command_that_is_not_possible_changes_nothing(rt: HostRuntime) -> Result<(), Fail> {
+fn a_command_that_is_not_possible_changes_nothing(rt: HostRuntime) {
     let script = "\
 limit 1
 spawn a pend
@@ -227,12 +255,11 @@ spawn: ok
 wake: not possible
 spawn: not possible
 ";
-    assert_eq!(rt; shown(rt.alloc(), script)?.as_str(), text);
-    Ok(())
+    shows(&rt, script, text);
 }
 
 #[test]
-fn the_drop_of_a_handle_loses_the_output(rt: HostRuntime) -> Result<(), Fail> {
+fn the_drop_of_a_handle_loses_the_output(rt: HostRuntime) {
     let script = "\
 limit 1
 spawn a self ready=7
@@ -254,12 +281,11 @@ lose a
 drop: done
 drop: not possible
 ";
-    assert_eq!(rt; shown(rt.alloc(), script)?.as_str(), text);
-    Ok(())
+    shows(&rt, script, text);
 }
 
 #[test]
-fn the_first_bad_line_is_named(rt: HostRuntime) -> Result<(), Fail> {
+fn the_first_bad_line_is_named(rt: HostRuntime) {
     for (script, line) in [
         ("limit 0\n", 1),
         ("\nlimit 1\n", 1),
@@ -269,111 +295,90 @@ fn the_first_bad_line_is_named(rt: HostRuntime) -> Result<(), Fail> {
         ("limit 1\ntry\r\n", 2),
     ] {
         let fault = shown(rt.alloc(), script).err();
-        assert_eq!(rt; fault, Some(Fault::BadLine(line)), "for {script:?}");
+        same(&rt, (script, fault), (script, Some(Fault::BadLine(line))));
     }
-    Ok(())
 }
 
 #[test]
-fn no_lines_show_nothing(rt: HostRuntime) -> Result<(), Fail> {
-    assert_eq!(rt; shown(rt.alloc(), "")?.as_str(), "");
-    Ok(())
+fn no_lines_show_nothing(rt: HostRuntime) {
+    shows(&rt, "", "");
 }
 
 #[test]
-fn the_last_line_may_lack_its_end(rt: HostRuntime) -> Result<(), Fail> {
-    assert_eq!(rt; shown(rt.alloc(), "limit 1\ntry")?.as_str(), "try: false\n");
-    Ok(())
+fn the_last_line_may_lack_its_end(rt: HostRuntime) {
+    shows(&rt, "limit 1\ntry", "try: false\n");
 }
 
 #[test]
-fn other_words_are_a_usage_fault(rt: HostRuntime) -> Result<(), Fail> {
-    let alloc = rt.alloc();
-    let words = words(alloc, &["jobs", "1"])?;
-    let mut shown = Vec::new(alloc);
-    let end = program(
-        alloc,
-        words.as_slice(),
-        &mut THREE_WAKES.as_bytes(),
-        &mut shown,
-    );
-    assert_eq!(rt; end, Err(Fault::Usage));
-    Ok(())
+fn other_words_are_a_usage_fault(rt: HostRuntime) {
+    let mut shown = Vec::new(rt.alloc());
+    let mut reader = THREE_WAKES.as_bytes();
+    let end = run(rt.alloc(), &["jobs", "1"], &mut reader, &mut shown);
+    same(&rt, end, Err(Fault::Usage));
 }
 
 #[test]
-fn a_read_that_fails_ends_the_program(rt: HostRuntime) -> Result<(), Fail> {
-    let alloc = rt.alloc();
-    let words = words(alloc, &["sim"])?;
+fn a_read_that_fails_ends_the_program(rt: HostRuntime) {
     let text = THREE_WAKES.as_bytes();
     for reads_before in 0..THREE_WAKES.len() + 1 {
         let mut reader = FailingReader { text, reads_before };
-        let mut shown = Vec::new(alloc);
-        let end = program(alloc, words.as_slice(), &mut reader, &mut shown);
-        assert_eq!(rt; end, Err(Fault::ReadFailed), "at {reads_before}");
-        assert_eq!(rt; shown.len(), 0);
+        let mut shown = Vec::new(rt.alloc());
+        let end = run(rt.alloc(), &["sim"], &mut reader, &mut shown);
+        same(
+            &rt,
+            (reads_before, end, shown.len()),
+            (reads_before, Err(Fault::ReadFailed), 0),
+        );
     }
-    Ok(())
 }
 
 #[test]
-fn an_interrupted_read_is_tried_again(rt: HostRuntime) -> Result<(), Fail> {
-    let alloc = rt.alloc();
-    let words = words(alloc, &["sim"])?;
-    let text = THREE_WAKES.as_bytes();
+fn an_interrupted_read_is_tried_again(rt: HostRuntime) {
     let mut reader = InterruptedReader {
-        text,
+        text: THREE_WAKES.as_bytes(),
         is_next: false,
     };
-    let mut shown = Vec::new(alloc);
-    program(alloc, words.as_slice(), &mut reader, &mut shown)?;
-    assert_eq!(rt; shown.as_slice(), THREE_WAKES_SHOW.as_bytes());
-    Ok(())
+    let mut shown = Vec::new(rt.alloc());
+    let end = run(rt.alloc(), &["sim"], &mut reader, &mut shown);
+    same(&rt, end, Ok(()));
+    is_text(&rt, shown, THREE_WAKES_SHOW);
 }
 
 #[test]
-fn a_reader_that_is_never_over_is_given_up(rt: HostRuntime) -> Result<(), Fail> {
-    let alloc = rt.alloc();
-    let words = words(alloc, &["sim"])?;
+fn a_reader_that_is_never_over_is_given_up(rt: HostRuntime) {
     let mut reader = EndlessReader { reads: 0 };
-    let mut shown = Vec::new(alloc);
-    let end = program(alloc, words.as_slice(), &mut reader, &mut shown);
-    assert_eq!(rt; end, Err(Fault::ReadFailed));
-    assert_eq!(rt; reader.reads, MOST_READS);
-    Ok(())
+    let mut shown = Vec::new(rt.alloc());
+    let end = run(rt.alloc(), &["sim"], &mut reader, &mut shown);
+    same(
+        &rt,
+        (end, reader.reads),
+        (Err(Fault::ReadFailed), MOST_READS),
+    );
+}
+
+/// How the three wakes end with a writer that fails at the write of this number, and what it took.
+fn written(alloc: Global, writes_before: usize) -> (Result<(), Fault>, Vec<u8>) {
+    let mut writer = FailingWriter {
+        text: Vec::new(alloc),
+        writes_before,
+    };
+    let end = run(alloc, &["sim"], &mut THREE_WAKES.as_bytes(), &mut writer);
+    (end, writer.text)
 }
 
 #[test]
-fn a_write_that_fails_ends_the_program(rt: HostRuntime) -> Result<(), Fail> {
-    let alloc = rt.alloc();
-    let words = words(alloc, &["sim"])?;
+fn a_write_that_fails_ends_the_program(rt: HostRuntime) {
     // A write for each byte, and the flush.
     let writes = THREE_WAKES_SHOW.len() + 1;
     for writes_before in 0..writes {
-        let text = Vec::new(alloc);
-        let mut writer = FailingWriter {
-            text,
-            writes_before,
-        };
-        let end = program(
-            alloc,
-            words.as_slice(),
-            &mut THREE_WAKES.as_bytes(),
-            &mut writer,
+        let (end, _) = written(rt.alloc(), writes_before);
+        same(
+            &rt,
+            (writes_before, end),
+            (writes_before, Err(Fault::WriteFailed)),
         );
-        assert_eq!(rt; end, Err(Fault::WriteFailed), "at {writes_before}");
     }
-    let text = Vec::new(alloc);
-    let mut writer = FailingWriter {
-        text,
-        writes_before: writes,
-    };
-    program(
-        alloc,
-        words.as_slice(),
-        &mut THREE_WAKES.as_bytes(),
-        &mut writer,
-    )?;
-    assert_eq!(rt; writer.text.as_slice(), THREE_WAKES_SHOW.as_bytes());
-    Ok(())
+    let (end, text) = written(rt.alloc(), writes);
+    same(&rt, end, Ok(()));
+    is_text(&rt, text, THREE_WAKES_SHOW);
 }

@@ -17,14 +17,27 @@ const WAKES: u64 = 3;
 /// steps is made before the clock starts.
 pub fn run<R: AllocGlobal + Clock>(rt: &R, ops: u64) -> Result<Timing, Fault> {
     let steps = script(rt.alloc(), ops)?;
-    let mut machine = Machine::new(rt.alloc(), FUTURES, Kind::Owned, 1)?;
+    time(
+        rt,
+        &mut Machine::new(rt.alloc(), FUTURES, Kind::Owned, 1)?,
+        steps.as_slice(),
+    )
+}
+
+fn time<R: Clock>(rt: &R, machine: &mut Machine, steps: &[Step]) -> Result<Timing, Fault> {
     let start = Instant::now(rt)?;
-    let refused = machine.run(steps.as_slice());
+    let is_refused = refuses(machine, steps);
     let timing = Timing::since(rt, start, steps.len() as u64)?;
-    match refused {
-        Some(_) => Err(Fault::Refused),
-        None => Ok(timing),
+    if is_refused {
+        Err(Fault::Refused)
+    } else {
+        Ok(timing)
     }
+}
+
+/// Runs the steps, and says whether the machine refused one.
+fn refuses(machine: &mut Machine, steps: &[Step]) -> bool {
+    machine.run(steps).is_some()
 }
 
 /// The first steps of as many thousands of futures as it takes.
@@ -46,24 +59,39 @@ fn thousand(steps: &mut Vec<Step>, first: u64) -> Result<(), AllocError> {
         call(steps, Call::Spawn, 2)?;
     }
     for _ in 0..FUTURES {
-        call(steps, Call::TryTick, 3)?;
-        call(steps, Call::Keep, 1)?;
-        answer(steps, UserEnd::Polled(Answer::Pending), 2)?;
+        poll_first(steps)?;
     }
     for _ in 0..WAKES {
         for i in 0..FUTURES {
-            call(steps, Call::WakeByRef(shuffled(first, i)), 2)?;
-            call(steps, Call::TryTick, 3)?;
-            answer(steps, UserEnd::Polled(Answer::Pending), 2)?;
+            wake_and_poll(steps, shuffled(first, i))?;
         }
     }
     for i in 0..FUTURES {
-        call(steps, Call::DropHandle(shuffled(first, i)), 3)?;
-        call(steps, Call::TryTick, 4)?;
-        answer(steps, UserEnd::Done, 4)?;
-        call(steps, Call::DropWaker(shuffled(first, i)), 1)?;
+        end(steps, shuffled(first, i))?;
     }
     Ok(())
+}
+
+/// The first poll of the next future, which keeps its waker.
+fn poll_first(steps: &mut Vec<Step>) -> Result<(), AllocError> {
+    call(steps, Call::TryTick, 3)?;
+    call(steps, Call::Keep, 1)?;
+    answer(steps, UserEnd::Polled(Answer::Pending), 2)
+}
+
+/// A wake of this future, and its poll.
+fn wake_and_poll(steps: &mut Vec<Step>, future: u64) -> Result<(), AllocError> {
+    call(steps, Call::WakeByRef(future), 2)?;
+    call(steps, Call::TryTick, 3)?;
+    answer(steps, UserEnd::Polled(Answer::Pending), 2)
+}
+
+/// The drop of this future's handle, and that of the future and of its waker.
+fn end(steps: &mut Vec<Step>, future: u64) -> Result<(), AllocError> {
+    call(steps, Call::DropHandle(future), 3)?;
+    call(steps, Call::TryTick, 4)?;
+    answer(steps, UserEnd::Done, 4)?;
+    call(steps, Call::DropWaker(future), 1)
 }
 
 /// Each number from `first` on once, in another order.

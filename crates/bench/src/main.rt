@@ -35,15 +35,7 @@ fn run<
     R: AllocGlobal + Env + Print + Eprint + Clock + Wait + Threads + Sync + Copy + Drop + 'static,
 >(rt: &R, realm: &'static Tasks<R>) -> Result<(), Fault> {
     let words: Vec<String> = env::args(rt)?.skip(1).collect(rt.alloc())?;
-    obey(rt, realm, words.as_slice())
-}
-
-fn obey<R: AllocGlobal + Print + Eprint + Clock + Wait + Threads + Sync + Copy + Drop + 'static>(
-    rt: &R,
-    realm: &'static Tasks<R>,
-    words: &[String],
-) -> Result<(), Fault> {
-    match words {
+    match words.as_slice() {
         [] => list(rt),
         [word] => {
             if word.as_str() == "all" {

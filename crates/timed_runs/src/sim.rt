@@ -17,28 +17,14 @@ const LINES: u64 = 10_000;
 pub fn lines<R: AllocGlobal + Clock>(rt: &R, ops: u64) -> Result<Timing, Fault> {
     let alloc = rt.alloc();
     let whole = script(alloc, LINES)?;
-    time(
-        rt,
-        whole.as_slice(),
-        script(alloc, ops % LINES)?.as_slice(),
-        ops,
-    )
-}
-
-fn time<R: AllocGlobal + Clock>(
-    rt: &R,
-    whole: &[u8],
-    rest: &[u8],
-    ops: u64,
-) -> Result<Timing, Fault> {
-    let alloc = rt.alloc();
+    let rest = script(alloc, ops % LINES)?;
     let mut moved = 0u64;
     let start = Instant::now(rt)?;
     for _ in 0..ops / LINES {
-        play(alloc, whole)?;
+        play(alloc, whole.as_slice())?;
         moved = moved.wrapping_add(LINES);
     }
-    play(alloc, rest)?;
+    play(alloc, rest.as_slice())?;
     moved = moved.wrapping_add(ops % LINES);
     Timing::since(rt, start, moved)
 }

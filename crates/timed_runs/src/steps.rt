@@ -59,39 +59,24 @@ fn thousand(steps: &mut Vec<Step>, first: u64) -> Result<(), AllocError> {
         call(steps, Call::Spawn, 2)?;
     }
     for _ in 0..FUTURES {
-        poll_first(steps)?;
+        call(steps, Call::TryTick, 3)?;
+        call(steps, Call::Keep, 1)?;
+        answer(steps, UserEnd::Polled(Answer::Pending), 2)?;
     }
     for _ in 0..WAKES {
         for i in 0..FUTURES {
-            wake_and_poll(steps, shuffled(first, i))?;
+            call(steps, Call::WakeByRef(shuffled(first, i)), 2)?;
+            call(steps, Call::TryTick, 3)?;
+            answer(steps, UserEnd::Polled(Answer::Pending), 2)?;
         }
     }
     for i in 0..FUTURES {
-        end(steps, shuffled(first, i))?;
+        call(steps, Call::DropHandle(shuffled(first, i)), 3)?;
+        call(steps, Call::TryTick, 4)?;
+        answer(steps, UserEnd::Done, 4)?;
+        call(steps, Call::DropWaker(shuffled(first, i)), 1)?;
     }
     Ok(())
-}
-
-/// The first poll of the next future, which keeps its waker.
-fn poll_first(steps: &mut Vec<Step>) -> Result<(), AllocError> {
-    call(steps, Call::TryTick, 3)?;
-    call(steps, Call::Keep, 1)?;
-    answer(steps, UserEnd::Polled(Answer::Pending), 2)
-}
-
-/// A wake of this future, and its poll.
-fn wake_and_poll(steps: &mut Vec<Step>, future: u64) -> Result<(), AllocError> {
-    call(steps, Call::WakeByRef(future), 2)?;
-    call(steps, Call::TryTick, 3)?;
-    answer(steps, UserEnd::Polled(Answer::Pending), 2)
-}
-
-/// The drop of this future's handle, and that of the future and of its waker.
-fn end(steps: &mut Vec<Step>, future: u64) -> Result<(), AllocError> {
-    call(steps, Call::DropHandle(future), 3)?;
-    call(steps, Call::TryTick, 4)?;
-    answer(steps, UserEnd::Done, 4)?;
-    call(steps, Call::DropWaker(future), 1)
 }
 
 /// Each number from `first` on once, in another order.

@@ -19,22 +19,6 @@ pub fn time<R: AllocGlobal + Clock + Wait + Threads + Sync>(
     requires { (0 < pairs) × (pairs < 1000) }
 {
     let start = Instant::now(rt)?;
-    let moved = handed_over(rt, queue, pairs, ops)?;
-    if queue.is_closed(rt) {
-        return Err(Fault::NoMemory);
-    }
-    Timing::since(rt, start, moved)
-}
-
-// Has each party do its share, and answers the sum of what came.
-fn handed_over<R: AllocGlobal + Wait + Threads + Sync>(
-    rt: &R,
-    queue: &ConcurrentQueue<u64>,
-    pairs: usize,
-    ops: u64,
-) -> Result<u64, Fault>
-    requires { (0 < pairs) × (pairs < 1000) }
-{
     let sums = thread::map_indices(
         rt,
         rt.alloc(),
@@ -45,7 +29,10 @@ fn handed_over<R: AllocGlobal + Wait + Threads + Sync>(
     for sum in &sums {
         moved = moved.wrapping_add(*sum);
     }
-    Ok(moved)
+    if queue.is_closed(rt) {
+        return Err(Fault::NoMemory);
+    }
+    Timing::since(rt, start, moved)
 }
 
 // The first half of the parties push their shares, and the others pop as much.

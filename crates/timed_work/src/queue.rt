@@ -26,7 +26,7 @@ pub fn push_and_pop<R: Clock + Wait>(
 /// The same on a queue of one owner.
 pub fn push_and_pop_alone<R: Clock>(
     rt: &R,
-    queue: &mut Exclusive<u64>,
+    mut queue: Exclusive<u64>,
     ops: u64,
 ) -> Result<Timing, Fault> {
     let mut moved = 0u64;

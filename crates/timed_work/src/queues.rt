@@ -12,7 +12,7 @@ pub fn on_queue_of_one<R: AllocGlobal + Clock>(
     rt: &R,
     ops: u64,
 ) -> Result<Timing, Fault> {
-    queue::push_and_pop_alone(rt, &mut queue_of_one(workload, rt.alloc())?, ops)
+    queue::push_and_pop_alone(rt, queue_of_one(workload, rt.alloc())?, ops)
 }
 
 /// Does so many operations of the workload on a queue that threads share.

@@ -274,18 +274,10 @@ const ALONE: u64 = 64;
 /// As `self_wake`, on tasks with one owner: each operation is a start, a wake and the end of a poll of
 /// the next of some tasks.
 pub fn self_wake_alone<R: Clock>(rt: &R, alloc: Global, ops: u64) -> Result<Timing, Fault> {
-    time_turns(rt, &mut tasks_alone(alloc)?, ops)
-}
-
-fn tasks_alone(alloc: Global) -> Result<Vec<Alone>, Fault> {
-    let mut tasks = Vec::new(alloc);
+    let mut tasks: Vec<Alone> = Vec::new(alloc);
     for _ in 0..ALONE {
         tasks.push(LocalTask::new(Work::WakesItself))?;
     }
-    Ok(tasks)
-}
-
-fn time_turns<R: Clock>(rt: &R, tasks: &mut [Alone], ops: u64) -> Result<Timing, Fault> {
     let mut moved = 0u64;
     let start = Instant::now(rt)?;
     for number in 0..ops {

@@ -17,14 +17,27 @@ const WAKES: u64 = 3;
 /// steps is made before the clock starts.
 pub fn run<R: AllocGlobal + Clock>(rt: &R, ops: u64) -> Result<Timing, Fault> {
     let steps = script(rt.alloc(), ops)?;
-    let mut machine = Machine::new(rt.alloc(), FUTURES, Kind::Owned, 1)?;
+    time(
+        rt,
+        &mut Machine::new(rt.alloc(), FUTURES, Kind::Owned, 1)?,
+        steps.as_slice(),
+    )
+}
+
+fn time<R: Clock>(rt: &R, machine: &mut Machine, steps: &[Step]) -> Result<Timing, Fault> {
     let start = Instant::now(rt)?;
-    let refused = machine.run(steps.as_slice());
+    let is_refused = refuses(machine, steps);
     let timing = Timing::since(rt, start, steps.len() as u64)?;
-    match refused {
-        Some(_) => Err(Fault::Refused),
-        None => Ok(timing),
+    if is_refused {
+        Err(Fault::Refused)
+    } else {
+        Ok(timing)
     }
+}
+
+/// Runs the steps, and says whether the machine refused one.
+fn refuses(machine: &mut Machine, steps: &[Step]) -> bool {
+    machine.run(steps).is_some()
 }
 
 /// The first steps of as many thousands of futures as it takes.

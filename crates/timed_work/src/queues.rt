@@ -21,17 +21,25 @@ pub fn on_shared_queue<R: AllocGlobal + Clock + Wait + Threads + Sync>(
     rt: &R,
     ops: u64,
 ) -> Result<Timing, Fault> {
-    let queue = shared_queue(workload, rt.alloc())?;
+    on_queue(workload, rt, &shared_queue(workload, rt.alloc())?, ops)
+}
+
+fn on_queue<R: AllocGlobal + Clock + Wait + Threads + Sync>(
+    workload: Workload,
+    rt: &R,
+    queue: &ConcurrentQueue<u64>,
+    ops: u64,
+) -> Result<Timing, Fault> {
     match workload {
-        Workload::Ring1024Burst | Workload::UnboundedBurst => queue::bursts(rt, &queue, ops),
-        Workload::Len => queue::len(rt, &queue, ops),
+        Workload::Ring1024Burst | Workload::UnboundedBurst => queue::bursts(rt, queue, ops),
+        Workload::Len => queue::len(rt, queue, ops),
         Workload::Ring1024OneToOne | Workload::UnboundedOneToOne => {
-            hand_over::time(rt, &queue, 1, ops)
+            hand_over::time(rt, queue, 1, ops)
         }
         Workload::Ring1024TwoToTwo | Workload::UnboundedTwoToTwo => {
-            hand_over::time(rt, &queue, 2, ops)
+            hand_over::time(rt, queue, 2, ops)
         }
-        _ => queue::push_and_pop(rt, &queue, ops),
+        _ => queue::push_and_pop(rt, queue, ops),
     }
 }
 

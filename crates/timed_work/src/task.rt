@@ -1,72 +1,61 @@
 //! Work on tasks in one thread. The realm is handed in: one of them is enough for all.
-use async_task::local_task::{Settled, Start};
-use async_task::{
-    Awaiter, Back, Future, LocalTask, Nobody, Poll, Realm, Schedule, ScheduleInfo, Scheduled,
-    StoredRunnable, TaskError, Wake, spawn,
+mod parts;
+
+pub use crate::task::parts::{Line, Tasks, Work};
+use crate::task::parts::{
+    Queue, Spawned, Waiting, WorkTask, WorkWaker, empty_queue, run, run_next, spawn_to,
 };
+use async_task::local_task::{Settled, Start};
+use async_task::{Awaiter, Back, Future, LocalTask, Nobody, Poll, StoredRunnable, TaskError, Wake};
 use concurrent_queue::ConcurrentQueue;
 use std::alloc::Global;
 use std::rt::Clock;
-use std::sync::{Arc, Wait};
+use std::sync::Wait;
 use std::time::Instant;
 use workloads::{Fault, Timing};
 
-/// A future.
-#[derive(Debug, Drop)]
-pub enum Work {
-    /// It gives this number at its first poll.
-    Ready(u64),
-    /// It never gives an output.
-    Waits,
-    /// Nor does this one, but it wakes itself at each poll.
-    WakesItself,
+/// Spawns, queues, runs and polls futures that give the numbers below `ops`.
+pub fn spawn_run<R: Clock + Wait + Copy + Drop + 'static>(
+    rt: R,
+    alloc: Global,
+    realm: &'static Tasks<R>,
+    ops: u64,
+) -> Result<Timing, Fault> {
+    time_spawn_run(rt, alloc, realm, &empty_queue(alloc)?, ops)
 }
 
-impl<K: Wake> Future<K> for Work {
-    type Output = u64;
+fn time_spawn_run<R: Clock + Wait + Copy + Drop + 'static>(
+    rt: R,
+    alloc: Global,
+    realm: &'static Tasks<R>,
+    queue: &Queue,
+    ops: u64,
+) -> Result<Timing, Fault> {
+    let mut moved = 0u64;
+    let start = Instant::now(&rt)?;
+    for number in 0..ops {
+        moved = moved.wrapping_add(output_of(rt, alloc, realm, queue, number)?);
+    }
+    Timing::since(&rt, start, moved)
+}
 
-    fn poll(&mut self, waker: &K) -> Poll<u64> {
-        match self {
-            Work::Ready(number) => Poll::Ready(*number),
-            Work::Waits => Poll::Pending,
-            Work::WakesItself => {
-                waker.wake_by_ref();
-                Poll::Pending
+/// Spawns, queues, runs and polls a future that gives this number, and answers what the poll gave.
+fn output_of<R: Wait + Copy + Drop + 'static>(
+    rt: R,
+    alloc: Global,
+    realm: &'static Tasks<R>,
+    queue: &Queue,
+    number: u64,
+) -> Result<u64, Fault> {
+    match spawn_to(rt, alloc, realm, queue, Work::Ready(number)) {
+        Ok((runnable, mut task)) => {
+            runnable.schedule();
+            match run_next(rt, realm, queue) {
+                Some(false) => output(task.poll(&Awaiter::Outside(Nobody))),
+                _ => Err(Fault::Refused),
             }
         }
-    }
-}
-
-type Queue = Arc<ConcurrentQueue<StoredRunnable>, Global>;
-
-/// The way of a task to its queue.
-#[derive(Drop)]
-pub struct Line<R>(Queue, R);
-
-type Job<R> = Scheduled<Work, u64, Line<R>, (), Nobody, R>;
-
-impl<R: Wait + Copy + Drop> Schedule<Job<R>> for Line<R> {
-    fn schedule(&self, job: Job<R>, _info: ScheduleInfo) {
-        let _ = self.0.push(&self.1, job.store());
-    }
-}
-
-/// Where the tasks lie.
-pub type Tasks<R> = Realm<Work, u64, Line<R>, (), Nobody>;
-
-/// Runs the task that is first in the queue. The answer is that of its run, or `None` where no
-/// task is there.
-fn run_next<R: Wait + Copy + Drop + 'static>(
-    rt: R,
-    realm: &'static Tasks<R>,
-    queue: &ConcurrentQueue<StoredRunnable>,
-) -> Option<bool> {
-    match queue.pop(&rt) {
-        Ok(stored) => match stored.redeem(rt, realm) {
-            Some(job) => Some(job.into_runnable().run()),
-            None => None,
-        },
-        Err(_) => None,
+        Err(fault) => Err(fault),
     }
 }
 
@@ -78,30 +67,6 @@ fn output(polled: Poll<Result<u64, TaskError>>) -> Result<u64, Fault> {
     }
 }
 
-/// Spawns, queues, runs and polls futures that give the numbers below `ops`.
-pub fn spawn_run<R: Clock + Wait + Copy + Drop + 'static>(
-    rt: R,
-    alloc: Global,
-    realm: &'static Tasks<R>,
-    ops: u64,
-) -> Result<Timing, Fault> {
-    let queue = Arc::new(alloc, ConcurrentQueue::unbounded(alloc))?;
-    let mut moved = 0u64;
-    let start = Instant::now(&rt)?;
-    for number in 0..ops {
-        let line = Line(Arc::try_clone(&queue)?, rt);
-        let Ok((runnable, mut task)) = spawn(rt, alloc, realm, Work::Ready(number), line) else {
-            return Err(Fault::NoMemory);
-        };
-        runnable.schedule();
-        let Some(false) = run_next(rt, realm, &queue) else {
-            return Err(Fault::Refused);
-        };
-        moved = moved.wrapping_add(output(task.poll(&Awaiter::Outside(Nobody)))?);
-    }
-    Timing::since(&rt, start, moved)
-}
-
 /// Spawns futures, drops their handles and runs them, so that they are dropped unpolled.
 pub fn drop_handle<R: Clock + Wait + Copy + Drop + 'static>(
     rt: R,
@@ -109,18 +74,38 @@ pub fn drop_handle<R: Clock + Wait + Copy + Drop + 'static>(
     realm: &'static Tasks<R>,
     ops: u64,
 ) -> Result<Timing, Fault> {
-    let queue = Arc::new(alloc, ConcurrentQueue::unbounded(alloc))?;
+    time_drop_handle(rt, alloc, realm, &empty_queue(alloc)?, ops)
+}
+
+fn time_drop_handle<R: Clock + Wait + Copy + Drop + 'static>(
+    rt: R,
+    alloc: Global,
+    realm: &'static Tasks<R>,
+    queue: &Queue,
+    ops: u64,
+) -> Result<Timing, Fault> {
     let mut moved = 0u64;
     let start = Instant::now(&rt)?;
     for _ in 0..ops {
-        let line = Line(Arc::try_clone(&queue)?, rt);
-        let Ok((runnable, task)) = spawn(rt, alloc, realm, Work::Waits, line) else {
-            return Err(Fault::NoMemory);
-        };
-        drop(task);
-        moved = moved.wrapping_add(u64::from(!runnable.run()));
+        moved = moved.wrapping_add(dropped_unpolled(rt, alloc, realm, queue)?);
     }
     Timing::since(&rt, start, moved)
+}
+
+/// Spawns a future, drops its handle and runs it. Answers 1, where the run was told of no wake.
+fn dropped_unpolled<R: Wait + Copy + Drop + 'static>(
+    rt: R,
+    alloc: Global,
+    realm: &'static Tasks<R>,
+    queue: &Queue,
+) -> Result<u64, Fault> {
+    match spawn_to(rt, alloc, realm, queue, Work::Waits) {
+        Ok((runnable, task)) => {
+            drop(task);
+            Ok(u64::from(!run(runnable)))
+        }
+        Err(fault) => Err(fault),
+    }
 }
 
 /// Wakes an idle future by a waker that is kept, and runs it.
@@ -130,20 +115,27 @@ pub fn wake_run<R: Clock + Wait + Copy + Drop + 'static>(
     realm: &'static Tasks<R>,
     ops: u64,
 ) -> Result<Timing, Fault> {
-    let queue = Arc::new(alloc, ConcurrentQueue::unbounded(alloc))?;
-    let line = Line(Arc::try_clone(&queue)?, rt);
-    let Ok((runnable, _task)) = spawn(rt, alloc, realm, Work::Waits, line) else {
-        return Err(Fault::NoMemory);
-    };
-    let Some(waker) = runnable.waker() else {
-        return Err(Fault::Refused);
-    };
-    runnable.run();
+    match Waiting::new(rt, alloc, realm) {
+        Ok(Waiting { spawned, waker }) => {
+            run(spawned.runnable);
+            time_wake_run(rt, realm, &spawned.queue, &waker, ops)
+        }
+        Err(fault) => Err(fault),
+    }
+}
+
+fn time_wake_run<R: Clock + Wait + Copy + Drop + 'static>(
+    rt: R,
+    realm: &'static Tasks<R>,
+    queue: &ConcurrentQueue<StoredRunnable>,
+    waker: &WorkWaker<R>,
+    ops: u64,
+) -> Result<Timing, Fault> {
     let mut moved = 0u64;
     let start = Instant::now(&rt)?;
     for _ in 0..ops {
         waker.wake_by_ref();
-        if let Some(false) = run_next(rt, realm, &queue) {
+        if let Some(false) = run_next(rt, realm, queue) {
             moved = moved.wrapping_add(1);
         }
     }
@@ -157,16 +149,25 @@ pub fn self_wake<R: Clock + Wait + Copy + Drop + 'static>(
     realm: &'static Tasks<R>,
     ops: u64,
 ) -> Result<Timing, Fault> {
-    let queue = Arc::new(alloc, ConcurrentQueue::unbounded(alloc))?;
-    let line = Line(Arc::try_clone(&queue)?, rt);
-    let Ok((runnable, _task)) = spawn(rt, alloc, realm, Work::WakesItself, line) else {
-        return Err(Fault::NoMemory);
-    };
-    runnable.schedule();
+    match Spawned::new(rt, alloc, realm, Work::WakesItself) {
+        Ok(spawned) => {
+            spawned.runnable.schedule();
+            time_self_wake(rt, realm, &spawned.queue, ops)
+        }
+        Err(fault) => Err(fault),
+    }
+}
+
+fn time_self_wake<R: Clock + Wait + Copy + Drop + 'static>(
+    rt: R,
+    realm: &'static Tasks<R>,
+    queue: &ConcurrentQueue<StoredRunnable>,
+    ops: u64,
+) -> Result<Timing, Fault> {
     let mut moved = 0u64;
     let start = Instant::now(&rt)?;
     for _ in 0..ops {
-        if let Some(true) = run_next(rt, realm, &queue) {
+        if let Some(true) = run_next(rt, realm, queue) {
             moved = moved.wrapping_add(1);
         }
     }
@@ -180,14 +181,18 @@ pub fn wake_twice<R: Clock + Wait + Copy + Drop + 'static>(
     realm: &'static Tasks<R>,
     ops: u64,
 ) -> Result<Timing, Fault> {
-    let queue = Arc::new(alloc, ConcurrentQueue::unbounded(alloc))?;
-    let line = Line(Arc::try_clone(&queue)?, rt);
-    let Ok((runnable, _task)) = spawn(rt, alloc, realm, Work::Waits, line) else {
-        return Err(Fault::NoMemory);
-    };
-    let Some(waker) = runnable.waker() else {
-        return Err(Fault::Refused);
-    };
+    match Waiting::new(rt, alloc, realm) {
+        Ok(waiting) => time_wake_twice(rt, &waiting.spawned.queue, &waiting.waker, ops),
+        Err(fault) => Err(fault),
+    }
+}
+
+fn time_wake_twice<R: Clock + Wait + Copy + Drop + 'static>(
+    rt: R,
+    queue: &ConcurrentQueue<StoredRunnable>,
+    waker: &WorkWaker<R>,
+    ops: u64,
+) -> Result<Timing, Fault> {
     let mut moved = 0u64;
     let start = Instant::now(&rt)?;
     for _ in 0..ops {
@@ -210,14 +215,17 @@ pub fn waker_clone<R: Clock + Wait + Copy + Drop + 'static>(
     realm: &'static Tasks<R>,
     ops: u64,
 ) -> Result<Timing, Fault> {
-    let queue = Arc::new(alloc, ConcurrentQueue::unbounded(alloc))?;
-    let line = Line(Arc::try_clone(&queue)?, rt);
-    let Ok((runnable, _task)) = spawn(rt, alloc, realm, Work::Waits, line) else {
-        return Err(Fault::NoMemory);
-    };
-    let Some(waker) = runnable.waker() else {
-        return Err(Fault::Refused);
-    };
+    match Waiting::new(rt, alloc, realm) {
+        Ok(waiting) => time_waker_clone(rt, &waiting.waker, ops),
+        Err(fault) => Err(fault),
+    }
+}
+
+fn time_waker_clone<R: Clock + Wait + Copy + Drop + 'static>(
+    rt: R,
+    waker: &WorkWaker<R>,
+    ops: u64,
+) -> Result<Timing, Fault> {
     let mut moved = 0u64;
     let start = Instant::now(&rt)?;
     for _ in 0..ops {
@@ -236,11 +244,17 @@ pub fn poll_pending<R: Clock + Wait + Copy + Drop + 'static>(
     realm: &'static Tasks<R>,
     ops: u64,
 ) -> Result<Timing, Fault> {
-    let queue = Arc::new(alloc, ConcurrentQueue::unbounded(alloc))?;
-    let line = Line(Arc::try_clone(&queue)?, rt);
-    let Ok((_runnable, mut task)) = spawn(rt, alloc, realm, Work::Waits, line) else {
-        return Err(Fault::NoMemory);
-    };
+    match Spawned::new(rt, alloc, realm, Work::Waits) {
+        Ok(mut spawned) => time_poll_pending(rt, &mut spawned.task, ops),
+        Err(fault) => Err(fault),
+    }
+}
+
+fn time_poll_pending<R: Clock + Wait + Copy + Drop + 'static>(
+    rt: R,
+    task: &mut WorkTask<R>,
+    ops: u64,
+) -> Result<Timing, Fault> {
     let mut moved = 0u64;
     let start = Instant::now(&rt)?;
     for _ in 0..ops {

@@ -3,9 +3,13 @@
 #![tactic(auto)]
 
 #[cfg(test)]
+mod calls;
+#[cfg(test)]
 mod exclusive;
 #[cfg(test)]
 mod forced;
+#[cfg(test)]
+mod parties;
 #[cfg(test)]
 mod shared;
 #[cfg(test)]

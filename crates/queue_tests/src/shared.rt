@@ -1,6 +1,7 @@
 //! `ConcurrentQueue` called by one thread.
 ghost use Rattle.std.specs.Prelude.{◌≡◌, ◌%◌, ◌<◌};
 
+use crate::calls::{Call, shared_answers};
 use crate::words::{debugs, holds, same};
 use concurrent_queue::glimpse::{Glimpse, Locked};
 use concurrent_queue::{ConcurrentQueue, ForcePushError, NoMemory, PopError, PushError};
@@ -11,186 +12,201 @@ use std::process::Abort;
 use std::sync::atomic::{AtomicU64, Ordering};
 use std::sync::{Mutex, Wait};
 
-// A queue of this capacity, of a run in which no memory is refused.
-fn bounded<R: Abort + AllocGlobal, T: Drop>(rt: &R, cap: usize) -> ConcurrentQueue<T>
+/// A queue of this capacity, of a run in which no memory is refused.
+pub fn bounded<R: Abort + AllocGlobal, T: Drop>(rt: &R, cap: usize) -> ConcurrentQueue<T>
     requires { 0 < cap }
 {
     ConcurrentQueue::bounded(rt.alloc(), cap).expect(rt, "memory")
 }
 
-// The calls of these tests, each compared with its answer in one place, so that a call is cheap to prove.
-fn push<R: Wait + Abort, T: Drop + PartialEq + Debug>(
+// The calls of a new queue of this capacity have their answers.
+fn bounded_answers<R: Wait + Abort + AllocGlobal, T: Copy + PartialEq + Debug>(
     rt: &R,
-    queue: &ConcurrentQueue<T>,
-    value: T,
-    want: Result<(), PushError<T>>,
-) {
-    assert_eq!(rt; queue.push(rt, value), want);
+    cap: usize,
+    calls: &[Call<T>],
+)
+    requires { 0 < cap }
+{
+    shared_answers(rt, &bounded(rt, cap), calls);
 }
 
-fn force_push<R: Wait + Abort, T: Drop + PartialEq + Debug>(
-    rt: &R,
-    queue: &ConcurrentQueue<T>,
-    value: T,
-    want: Result<Option<T>, ForcePushError<T>>,
-) {
-    assert_eq!(rt; queue.force_push(rt, value), want);
+// Pushes so many numbers from `first` on.
+fn push_numbers<R: Wait + Abort>(rt: &R, queue: &ConcurrentQueue<u64>, first: u64, count: u64) {
+    for number in 0..count {
+        same(rt, queue.push(rt, first.wrapping_add(number)), Ok(()));
+    }
 }
 
-fn pop<R: Wait + Abort, T: Drop + PartialEq + Debug>(
-    rt: &R,
-    queue: &ConcurrentQueue<T>,
-    want: Result<T, PopError>,
-) {
-    assert_eq!(rt; queue.pop(rt), want);
+// Pops so many numbers, which go from `first` on.
+fn pop_numbers<R: Wait + Abort>(rt: &R, queue: &ConcurrentQueue<u64>, first: u64, count: u64) {
+    for number in 0..count {
+        same(rt, queue.pop(rt), Ok(first.wrapping_add(number)));
+    }
 }
 
 #[test]
 fn a_full_shared_ring_refuses_and_gives_in_order(rt: HostRuntime) {
-    let queue = bounded(&rt, 2);
-    push(&rt, &queue, 'a', Ok(()));
-    push(&rt, &queue, 'b', Ok(()));
-    push(&rt, &queue, 'c', Err(PushError::Full('c')));
-    pop(&rt, &queue, Ok('a'));
-    pop(&rt, &queue, Ok('b'));
-    pop(&rt, &queue, Err(PopError::Empty));
+    let calls = &[
+        Call::Push('a', Ok(())),
+        Call::Push('b', Ok(())),
+        Call::Push('c', Err(PushError::Full('c'))),
+        Call::Pop(Ok('a')),
+        Call::Pop(Ok('b')),
+        Call::Pop(Err(PopError::Empty)),
+    ];
+    bounded_answers(&rt, 2, calls);
 }
 
 #[test]
 fn a_closed_shared_chain_refuses_and_drains(rt: HostRuntime) {
-    let queue = ConcurrentQueue::<u64>::unbounded(rt.alloc());
-    push(&rt, &queue, 10, Ok(()));
-    same(&rt, (queue.close(&rt), queue.close(&rt)), (true, false));
-    push(&rt, &queue, 20, Err(PushError::Closed(20)));
-    force_push(&rt, &queue, 30, Err(ForcePushError::Closed(30)));
-    pop(&rt, &queue, Ok(10));
-    pop(&rt, &queue, Err(PopError::Closed));
+    let calls = &[
+        Call::Push(10u64, Ok(())),
+        Call::Close(true),
+        Call::Close(false),
+        Call::Push(20, Err(PushError::Closed(20))),
+        Call::ForcePush(30, Err(ForcePushError::Closed(30))),
+        Call::Pop(Ok(10)),
+        Call::Pop(Err(PopError::Closed)),
+    ];
+    shared_answers(&rt, &ConcurrentQueue::unbounded(rt.alloc()), calls);
 }
 
 #[test]
 fn a_forced_push_displaces_until_the_queue_is_closed(rt: HostRuntime) {
-    let queue = bounded(&rt, 2);
-    push(&rt, &queue, 'a', Ok(()));
-    push(&rt, &queue, 'b', Ok(()));
-    force_push(&rt, &queue, 'c', Ok(Some('a')));
-    same(&rt, (queue.len(&rt), queue.close(&rt)), (2, true));
-    force_push(&rt, &queue, 'd', Err(ForcePushError::Closed('d')));
-    push(&rt, &queue, 'e', Err(PushError::Closed('e')));
-    pop(&rt, &queue, Ok('b'));
-    pop(&rt, &queue, Ok('c'));
-    pop(&rt, &queue, Err(PopError::Closed));
+    let calls = &[
+        Call::Push('a', Ok(())),
+        Call::Push('b', Ok(())),
+        Call::ForcePush('c', Ok(Some('a'))),
+        Call::Len(2),
+        Call::Close(true),
+        Call::ForcePush('d', Err(ForcePushError::Closed('d'))),
+        Call::Push('e', Err(PushError::Closed('e'))),
+        Call::Pop(Ok('b')),
+        Call::Pop(Ok('c')),
+        Call::Pop(Err(PopError::Closed)),
+    ];
+    bounded_answers(&rt, 2, calls);
+}
+
+// A new walk gives each number from `first` up to the end.
+fn walk_gives<R: Wait + Abort>(rt: &R, queue: &ConcurrentQueue<u64>, first: u64, end: u64) {
+    let mut want = first;
+    for item in queue.try_iter(rt) {
+        same(rt, item, want);
+        want = item.wrapping_add(1);
+    }
+    same(rt, want, end);
+}
+
+// A walk, its copy and a later walk take turns at a queue of 1 and 2, and at the numbers after these.
+fn walks_take_turns<R: Wait + Abort>(rt: &R, queue: &ConcurrentQueue<u64>) {
+    let mut walk = queue.try_iter(rt);
+    let mut copy = walk.clone().expect(rt, "memory");
+    same(rt, (walk.next(), copy.next()), (Some(1), Some(2)));
+    same(rt, (walk.next(), copy.next()), (None, None));
+    push_numbers(rt, queue, 3, 1);
+    same(rt, walk.next(), Some(3));
+    push_numbers(rt, queue, 4, 6);
+    walk_gives(rt, queue, 4, 10);
 }
 
 #[test]
 fn a_shared_walk_gives_the_items_in_order(rt: HostRuntime) {
-    let queue = ConcurrentQueue::<u64>::unbounded(rt.alloc());
-    force_push(&rt, &queue, 1, Ok(None));
-    push(&rt, &queue, 2, Ok(()));
-    let mut walk = queue.try_iter(&rt);
-    let mut copy = walk.clone().expect(&rt, "memory");
-    same(&rt, (walk.next(), copy.next()), (Some(1), Some(2)));
-    same(&rt, (walk.next(), copy.next()), (None, None));
-    push(&rt, &queue, 3, Ok(()));
-    same(&rt, walk.next(), Some(3));
-    for item in 4..10u64 {
-        push(&rt, &queue, item, Ok(()));
-    }
-    let mut want = 4;
-    for item in queue.try_iter(&rt) {
-        same(&rt, item, want);
-        want = item.wrapping_add(1);
-    }
-    same(&rt, want, 10);
+    let queue = ConcurrentQueue::unbounded(rt.alloc());
+    let calls = &[Call::ForcePush(1, Ok(None)), Call::Push(2, Ok(()))];
+    shared_answers(&rt, &queue, calls);
+    walks_take_turns(&rt, &queue);
 }
 
 #[test]
 fn a_shared_slot_holds_one_item(rt: HostRuntime) {
-    let queue = bounded(&rt, 1);
-    same(&rt, queue.capacity(), Some(1));
-    same(
-        &rt,
-        (queue.is_empty(&rt), queue.is_full(&rt)),
-        (true, false),
-    );
-    push(&rt, &queue, 5, Ok(()));
-    same(
-        &rt,
-        (queue.is_full(&rt), queue.is_empty(&rt)),
-        (true, false),
-    );
-    push(&rt, &queue, 6, Err(PushError::Full(6)));
-    force_push(&rt, &queue, 7, Ok(Some(5)));
-    same(&rt, (queue.len(&rt), queue.pop(&rt)), (1, Ok(7)));
-    same(
-        &rt,
-        (queue.len(&rt), queue.pop(&rt)),
-        (0, Err(PopError::Empty)),
-    );
-    same(&rt, (queue.is_closed(&rt), queue.close(&rt)), (false, true));
-    same(&rt, (queue.is_closed(&rt), queue.close(&rt)), (true, false));
-    pop(&rt, &queue, Err(PopError::Closed));
+    let calls = &[
+        Call::Capacity(Some(1)),
+        Call::IsEmpty(true),
+        Call::IsFull(false),
+        Call::Push(5u64, Ok(())),
+        Call::IsFull(true),
+        Call::IsEmpty(false),
+        Call::Push(6, Err(PushError::Full(6))),
+        Call::ForcePush(7, Ok(Some(5))),
+        Call::Len(1),
+        Call::Pop(Ok(7)),
+        Call::Len(0),
+        Call::Pop(Err(PopError::Empty)),
+        Call::IsClosed(false),
+        Call::Close(true),
+        Call::IsClosed(true),
+        Call::Close(false),
+        Call::Pop(Err(PopError::Closed)),
+    ];
+    bounded_answers(&rt, 1, calls);
 }
 
-// Five numbers from `first` on.
-fn push_five<R: Wait + Abort>(rt: &R, queue: &ConcurrentQueue<u64>, first: u64) {
-    for item in 0..5u64 {
-        push(rt, queue, first.wrapping_add(item), Ok(()));
-    }
-}
-
-fn pop_five<R: Wait + Abort>(rt: &R, queue: &ConcurrentQueue<u64>, first: u64) {
-    for item in 0..5u64 {
-        pop(rt, queue, Ok(first.wrapping_add(item)));
+// Five items at a time go through a queue in order. With five it answers so, and without any it is empty.
+fn hands_on_fives<R: Wait + Abort>(rt: &R, queue: &ConcurrentQueue<u64>, with_five: &[Call<u64>]) {
+    let with_none = &[Call::IsEmpty(true), Call::Pop(Err(PopError::Empty))];
+    for round in 0..25u64 {
+        push_numbers(rt, queue, 5 * round, 5);
+        shared_answers(rt, queue, with_five);
+        pop_numbers(rt, queue, 5 * round, 5);
+        shared_answers(rt, queue, with_none);
     }
 }
 
 #[test]
-fn a_shared_ring_and_chain_count_and_keep_order_past_a_hundred_items(rt: HostRuntime) {
-    let (ring, chain) = (bounded(&rt, 5), ConcurrentQueue::unbounded(rt.alloc()));
-    same(&rt, (ring.capacity(), chain.capacity()), (Some(5), None));
-    for round in 0..25u64 {
-        push_five(&rt, &ring, 5 * round);
-        push_five(&rt, &chain, 5 * round);
-        same(&rt, (ring.is_full(&rt), chain.is_full(&rt)), (true, false));
-        same(&rt, (ring.len(&rt), chain.len(&rt)), (5, 5));
-        push(&rt, &ring, 1000, Err(PushError::Full(1000)));
-        pop_five(&rt, &ring, 5 * round);
-        pop_five(&rt, &chain, 5 * round);
-        same(&rt, (ring.is_empty(&rt), chain.is_empty(&rt)), (true, true));
-        pop(&rt, &chain, Err(PopError::Empty));
+fn a_shared_ring_counts_and_keeps_order_past_a_hundred_items(rt: HostRuntime) {
+    let with_five = &[
+        Call::Capacity(Some(5)),
+        Call::IsFull(true),
+        Call::Len(5),
+        Call::Push(1000, Err(PushError::Full(1000))),
+    ];
+    let ring = bounded(&rt, 5);
+    hands_on_fives(&rt, &ring, with_five);
+    shared_answers(&rt, &ring, &[Call::Close(true), Call::IsClosed(true)]);
+}
+
+#[test]
+fn a_shared_chain_counts_and_keeps_order_past_a_hundred_items(rt: HostRuntime) {
+    let with_five = &[Call::Capacity(None), Call::IsFull(false), Call::Len(5)];
+    let chain = ConcurrentQueue::unbounded(rt.alloc());
+    hands_on_fives(&rt, &chain, with_five);
+    shared_answers(&rt, &chain, &[Call::IsClosed(false)]);
+}
+
+// Pushes an item. A push that is refused has changed nothing, and the next one is accepted.
+fn push_or_push_again<R: Wait + Abort>(rt: &R, queue: &ConcurrentQueue<u64>, item: u64) {
+    let before = queue.len(rt);
+    if let Err(refused) = queue.push(rt, item) {
+        same(rt, refused, PushError::NoMemory(item));
+        same(rt, (queue.len(rt), queue.is_closed(rt)), (before, false));
+        same(rt, queue.force_push(rt, item), Ok(None));
     }
-    same(&rt, (ring.close(&rt), ring.is_closed(&rt)), (true, true));
-    holds(&rt, !chain.is_closed(&rt));
 }
 
 // The next two also pass where any one allocation is refused: `rt try --test --fail-alloc N`.
 #[test]
 fn a_refused_shared_push_hands_back_the_value_and_changes_nothing(rt: HostRuntime) {
-    let queue = ConcurrentQueue::<u64>::unbounded(rt.alloc());
+    let queue = ConcurrentQueue::unbounded(rt.alloc());
     for item in 0..100u64 {
-        let before = queue.len(&rt);
-        if let Err(refused) = queue.push(&rt, item) {
-            same(&rt, refused, PushError::NoMemory(item));
-            same(&rt, (queue.len(&rt), queue.is_closed(&rt)), (before, false));
-            force_push(&rt, &queue, item, Ok(None));
-        }
+        push_or_push_again(&rt, &queue, item);
     }
-    for item in 0..100u64 {
-        pop(&rt, &queue, Ok(item));
+    pop_numbers(&rt, &queue, 0, 100);
+}
+
+// Ten forced pushes find room, and leave the last four items.
+fn keeps_four_of_ten<R: Wait + Abort>(rt: &R, queue: &ConcurrentQueue<u64>) {
+    for item in 0..10u64 {
+        holds(rt, queue.force_push(rt, item).is_ok());
     }
+    shared_answers(rt, queue, &[Call::Pop(Ok(6)), Call::Push(10, Ok(()))]);
 }
 
 #[test]
 fn a_shared_ring_is_refused_whole_or_takes_no_more_memory(rt: HostRuntime) {
-    match ConcurrentQueue::<u64>::bounded(rt.alloc(), 4) {
+    match ConcurrentQueue::bounded(rt.alloc(), 4) {
         Err(refused) => same(&rt, refused, NoMemory),
-        Ok(queue) => {
-            for item in 0..10u64 {
-                holds(&rt, queue.force_push(&rt, item).is_ok());
-            }
-            pop(&rt, &queue, Ok(6));
-            push(&rt, &queue, 10, Ok(()));
-        }
+        Ok(queue) => keeps_four_of_ten(&rt, &queue),
     }
 }
 
@@ -210,6 +226,18 @@ impl<'a> Drop for Counted<'a> {
     }
 }
 
+// So many items were dropped since these were counted last, and so many more are dropped with the queue.
+fn drops_the_rest<R: Abort>(
+    rt: &R,
+    queue: ConcurrentQueue<Counted<'_>>,
+    drops: &AtomicU64,
+    (before, rest): (u64, u64),
+) {
+    same(rt, drops.swap(0, Ordering::SeqCst), before);
+    drop(queue);
+    same(rt, drops.swap(0, Ordering::SeqCst), rest);
+}
+
 // Of eight forced pushes those that don't fit are dropped at once, and the others with the queue.
 fn drops_each_of_eight<R: Wait + Abort + AllocGlobal>(rt: &R, drops: &AtomicU64, cap: usize)
     requires { 0 < cap }
@@ -218,10 +246,24 @@ fn drops_each_of_eight<R: Wait + Abort + AllocGlobal>(rt: &R, drops: &AtomicU64,
     for _ in 0..8 {
         drop(queue.force_push(rt, Counted(drops)));
     }
-    let displaced = 8u64.saturating_sub(cap as u64);
-    same(rt, drops.swap(0, Ordering::SeqCst), displaced);
-    drop(queue);
-    same(rt, drops.swap(0, Ordering::SeqCst), cap as u64);
+    let rest = cap as u64;
+    drops_the_rest(rt, queue, drops, (8u64.saturating_sub(rest), rest));
+}
+
+// Of a hundred items forty are popped. One that the queue refuses is dropped at once.
+fn drops_forty_one<'a, R: Wait + Abort>(
+    rt: &R,
+    queue: &ConcurrentQueue<Counted<'a>>,
+    drops: &'a AtomicU64,
+) {
+    for _ in 0..100u64 {
+        drop(queue.push(rt, Counted(drops)));
+    }
+    for _ in 0..40u64 {
+        drop(queue.pop(rt));
+    }
+    holds(rt, queue.close(rt));
+    drop(queue.push(rt, Counted(drops)));
 }
 
 #[test]
@@ -231,17 +273,8 @@ fn each_item_left_is_dropped_once(rt: HostRuntime) {
         drops_each_of_eight(&rt, &drops, cap);
     }
     let chain = ConcurrentQueue::unbounded(rt.alloc());
-    for _ in 0..100u64 {
-        drop(chain.push(&rt, Counted(&drops)));
-    }
-    for _ in 0..40u64 {
-        drop(chain.pop(&rt));
-    }
-    holds(&rt, chain.close(&rt));
-    drop(chain.push(&rt, Counted(&drops)));
-    same(&rt, drops.load(Ordering::SeqCst), 41);
-    drop(chain);
-    same(&rt, drops.load(Ordering::SeqCst), 101);
+    drops_forty_one(&rt, &chain, &drops);
+    drops_the_rest(&rt, chain, &drops, (41, 60));
 }
 
 // A number of which a proof knows that it is even.
@@ -279,8 +312,8 @@ fn walk_to_even<R: Wait>(rt: &R, queue: &ConcurrentQueue<Even>) -> u64
 #[test]
 fn items_keep_what_their_type_promises(rt: HostRuntime) {
     let queue = bounded(&rt, 3);
-    for half in [21, 4] {
-        holds(&rt, queue.push(&rt, twice(half)).is_ok());
+    for half in &[21, 4] {
+        holds(&rt, queue.push(&rt, twice(*half)).is_ok());
     }
     same(&rt, pop_even(&rt, &queue), 42);
     same(&rt, walk_to_even(&rt, &queue), 8);
@@ -288,18 +321,20 @@ fn items_keep_what_their_type_promises(rt: HostRuntime) {
 }
 
 #[test]
-fn a_shared_queue_and_its_walk_print_what_they_are(rt: HostRuntime) {
-    let (ring, chain) = (
-        bounded(&rt, 4),
-        ConcurrentQueue::<u64>::unbounded(rt.alloc()),
-    );
-    push(&rt, &ring, 'x', Ok(()));
-    holds(&rt, chain.close(&rt));
+fn a_shared_queue_prints_what_it_is(rt: HostRuntime) {
+    let ring = bounded(&rt, 4);
+    shared_answers(&rt, &ring, &[Call::Push('x', Ok(()))]);
     debugs(
         &rt,
         &ring,
         "ConcurrentQueue { len: 1, capacity: Some(4), is_closed: false }",
     );
+}
+
+#[test]
+fn a_shared_walk_prints_its_queue(rt: HostRuntime) {
+    let chain = ConcurrentQueue::<u64>::unbounded(rt.alloc());
+    holds(&rt, chain.close(&rt));
     debugs(
         &rt,
         &chain.try_iter(&rt),
@@ -307,15 +342,20 @@ fn a_shared_queue_and_its_walk_print_what_they_are(rt: HostRuntime) {
     );
 }
 
+// The length that a glimpse finds, and whether the queue is closed.
+fn glimpsed(lock: &Mutex<Unbounded<u64>>) -> Option<(usize, bool)> {
+    match Glimpse::of(lock) {
+        Some(Glimpse { len, is_closed }) => Some((len, is_closed)),
+        None => None,
+    }
+}
+
 #[test]
 fn a_text_waits_for_no_lock(rt: HostRuntime) {
-    let lock = Mutex::new(Unbounded::<u64>::new(rt.alloc()));
+    let lock = Mutex::new(Unbounded::new(rt.alloc()));
     let held = lock.lock(&rt);
-    holds(&rt, Glimpse::of(&lock).is_none());
+    same(&rt, glimpsed(&lock), None);
     drop(held);
-    match Glimpse::of(&lock) {
-        Some(Glimpse { len, is_closed }) => same(&rt, (len, is_closed), (0, false)),
-        None => holds(&rt, false),
-    }
+    same(&rt, glimpsed(&lock), Some((0, false)));
     debugs(&rt, &Locked, "<locked>");
 }

@@ -16,20 +16,18 @@ pub fn holds<R: Abort>(rt: &R, it: bool) {
 
 /// The numbers are these, in this order: the first that isn't is named.
 pub fn same_numbers<R: Abort>(rt: &R, numbers: &[u64], want: &[u64]) {
-    for (number, wanted) in numbers.iter().zip(want.iter()) {
-        same(rt, *number, *wanted);
+    for index in 0..numbers.len().max(want.len()) {
+        same(rt, numbers.get(index), want.get(index));
     }
-    same(rt, numbers.len(), want.len());
 }
 
 /// It prints as this text.
 pub fn prints<R: Abort + AllocGlobal, T: Display>(rt: &R, it: &T, want: &str) {
     let text = format!(in rt.alloc(); "{it}").expect(rt, "memory");
-    assert_eq!(rt; text.as_str(), want);
+    same(rt, text.as_str(), want);
 }
 
 /// Its Debug text is this one.
 pub fn debugs<R: Abort + AllocGlobal, T: Debug>(rt: &R, it: &T, want: &str) {
-    let text = format!(in rt.alloc(); "{it:?}").expect(rt, "memory");
-    assert_eq!(rt; text.as_str(), want);
+    prints(rt, &format_args!("{it:?}"), want);
 }

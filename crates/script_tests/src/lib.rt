@@ -6,3 +6,5 @@
 mod names;
 #[cfg(test)]
 mod texts;
+#[cfg(test)]
+mod words;

@@ -1,20 +1,16 @@
-use script::{Name, Names};
-use std::test::Fail;
+use crate::words::{name, same};
+use script::Names;
 
 #[test]
-fn names_are_numbered_in_the_order_of_pushing(rt: HostRuntime) -> Result<(), Fail> {
+fn names_are_numbered_in_the_order_of_pushing(rt: HostRuntime) {
     let mut names = Names::new(rt.alloc());
-    for (number, word) in ["b", "abc", "ab"].into_iter().enumerate() {
-        let name = Name::new(word.as_bytes()).expect(&rt, "a name");
+    for (number, word) in &[(0, "b"), (1, "abc"), (2, "ab")] {
+        let name = name(&rt, word);
         assert_eq!(rt; names.number_of(name), None);
-        names.push(name)?;
-        assert_eq!(rt; names.number_of(name), Some(number));
-        assert_eq!(rt; names.get(number), Some(name));
+        names.push(name).expect(&rt, "memory");
+        same(&rt, names.number_of(name), Some(*number));
+        same(&rt, names.get(*number), Some(name));
     }
-    assert_eq!(rt;
-        names.number_of(Name::new(b"c").expect(&rt, "a name")),
-        None
-    );
-    assert_eq!(rt; names.get(3), None);
-    Ok(())
+    same(&rt, names.number_of(name(&rt, "c")), None);
+    same(&rt, names.get(3), None);
 }

@@ -1,12 +1,12 @@
 //! The other calls on a ring: the close, and what a look at its words tells.
-ghost use Rattle.std.specs.Prelude.{◌≡◌};
+ghost use Rattle.std.specs.Prelude.{◌≡◌, true, false};
 ghost use Rattle.concurrent_queue.specs.Answered.{turns, says};
 ghost use Rattle.concurrent_queue.specs.RingSeat.{IsFreeSeatOf, StaysFree};
 ghost use Rattle.queue_steps.specs.RingTurns.{close_turn, len_turn, is_empty_turn, is_full_turn, is_closed_turn};
 ghost use Rattle.queue_steps.specs.declared.steps.Reply.TheVariants.{Length};
 ghost use Rattle.queue_steps.specs.declared.steps.bounded.Turn.TheVariants.{Tail, Head, Close, End};
 
-use crate::ring_table::moves::{self, Board, HEAD, Pass, TAIL};
+use crate::ring_table::moves::{self, Board, Pass};
 use queue_steps::steps::Reply;
 use queue_steps::steps::bounded::{self as steps, Shape, Turn};
 use std::sync::Wait;
@@ -16,6 +16,8 @@ pub fn close<T>(board: &Board<T>, pass: &mut Pass<T>, shape: Shape) -> bool
     requires { IsFreeSeatOf board.now shape pass.old }
     ensures same { StaysFree pass.old pass.new }
     ensures answers { turns (close_turn shape.capacity shape.mark) Close pass.new.me.0.found ≡ End (says result) }
+    ensures closed { pass.new.me.0.closed ≡ true }
+    ensures once { pass.old.me.0.closed ≡ true → result ≡ false }
 {
     let found = moves::close(board, pass, shape.mark);
     matches!(
@@ -33,9 +35,9 @@ pub fn len<T, R: Wait>(rt: &R, board: &Board<T>, pass: &mut Pass<T>, shape: Shap
     let mut turn = steps::len(shape, Turn::Tail, moves::begin_tail(board, pass));
     for _ in rt.forever() {
         match turn {
-            Turn::HeadFor(_) => turn = steps::len(shape, turn, moves::look(board, pass, HEAD)),
+            Turn::HeadFor(_) => turn = steps::len(shape, turn, moves::look_at_head(board, pass)),
             Turn::TailAgain(_, _) => {
-                turn = steps::len(shape, turn, moves::look(board, pass, TAIL));
+                turn = steps::len(shape, turn, moves::look_at_tail(board, pass));
             }
             Turn::End(Reply::Length(len)) => return len as usize,
             _ => unreachable!(),
@@ -50,7 +52,7 @@ pub fn is_empty<T>(board: &Board<T>, pass: &mut Pass<T>, shape: Shape) -> bool
     ensures answers { turns (is_empty_turn shape.capacity shape.mark) Head pass.new.me.0.found ≡ End (says result) }
 {
     let turn = steps::is_empty(shape, Turn::Head, moves::begin_head(board, pass));
-    let turn = steps::is_empty(shape, turn, moves::look(board, pass, TAIL));
+    let turn = steps::is_empty(shape, turn, moves::look_at_tail(board, pass));
     matches!(turn, Turn::End(Reply::Yes))
 }
 
@@ -60,7 +62,7 @@ pub fn is_full<T>(board: &Board<T>, pass: &mut Pass<T>, shape: Shape) -> bool
     ensures answers { turns (is_full_turn shape.capacity shape.mark) Tail pass.new.me.0.found ≡ End (says result) }
 {
     let turn = steps::is_full(shape, Turn::Tail, moves::begin_tail(board, pass));
-    let turn = steps::is_full(shape, turn, moves::look(board, pass, HEAD));
+    let turn = steps::is_full(shape, turn, moves::look_at_head(board, pass));
     matches!(turn, Turn::End(Reply::Yes))
 }
 
@@ -68,6 +70,8 @@ pub fn is_closed<T>(board: &Board<T>, pass: &mut Pass<T>, shape: Shape) -> bool
     requires { IsFreeSeatOf board.now shape pass.old }
     ensures same { StaysFree pass.old pass.new }
     ensures answers { turns (is_closed_turn shape.capacity shape.mark) Tail pass.new.me.0.found ≡ End (says result) }
+    ensures keeps { pass.new.me.0.closed ≡ result }
+    ensures stays_closed { pass.old.me.0.closed ≡ true → result ≡ true }
 {
     let turn = steps::is_closed(shape, Turn::Tail, moves::begin_tail(board, pass));
     matches!(turn, Turn::End(Reply::Yes))

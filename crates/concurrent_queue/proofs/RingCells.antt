@@ -11,7 +11,7 @@ use Rattle.std.specs.Prelude.{Option, None}
 use Rattle.atomic_table.specs.Table.{State, keeps, stepped}
 use Rattle.atomic_table.proofs.Lists.{at_set}
 use Rattle.queue_steps.specs.Ring.{word_at}
-use Rattle.concurrent_queue.specs.RingRule.{Phase, free, writing, full, reading, forcing, swapping, up, back, Cell, InPhase, CellOk, Knows, RingRule}
+use Rattle.concurrent_queue.specs.RingRule.{Phase, free, writing, full, reading, forcing, swapping, up, back, Cell, InPhase, CellOk, Knows, Keeps, RingRule}
 use Rattle.concurrent_queue.specs.declared.ring_table.rule.Doing.{Doing}
 use Rattle.concurrent_queue.specs.declared.ring_table.rule.Stage.{Stage}
 use Rattle.concurrent_queue.specs.declared.ring_table.rule.Stage.TheVariants.{Idle, SawTail, SawHead, SawStamp, Writing, Reading, Forcing, Swapping}
@@ -147,13 +147,19 @@ module _ (n m : ℕ) where
       at_put cells i c' (λ q c. q ≡ d.place → Knows n m pushed' popped' j d.at d.place d.word d.stamp c d.stage) d.place
       (λ is. moved_knows pushed' popped' j d.at d.place d.word d.stamp (cells i) c' a b (loose j other) d.stage (subst (λ (q : ℕ). Knows n m pushed' popped' j d.at d.place d.word d.stamp (cells q) d.stage) (sym is) k)) (λ _ _. k) refl)
 
+-- what every view keeps, where one of them changes
+pub views_keep : (m shut shut' : ℕ) (vs : List Doing) (me : ℕ) (w : Doing) → Keeps m shut' w → (shut ≡ 1 → shut' ≡ 1) → ((j : ℕ) (d : Doing) → get_elem? vs j ≡ some d → Keeps m shut d)
+    → (j : ℕ) (d : Doing) → get_elem? (set vs me w) j ≡ some d → Keeps m shut' d
+views_keep m shut shut' vs me w mine stays old j d e =
+    ⊎_elim (λ (x : (j ≡ me) × (w ≡ d)). subst (Keeps m shut') x.1 mine) (λ (x : (j ≢ me) × (get_elem? vs j ≡ some d)). let k = old j d x.1 in (k.0, λ knew. stays (k.1 knew))) (at_set vs me j w d e)
+
 abbrev pub St : Type 0 → Type 0
 St T = State (Option T) Doing
 
 module _ {T : Type 0} (n m : ℕ) where
   -- only the views change
-  pub reviewed : (s : St T) (r : RingRule n m s) (vs : List Doing) → Seats n m r.pushed r.popped r.cells vs → RingRule n m record { words = s.words; homes = s.homes; views = vs }
-  reviewed s r vs seats = record {
+  pub reviewed : (s : St T) (r : RingRule n m s) (vs : List Doing) → Seats n m r.pushed r.popped r.cells vs → ((j : ℕ) (d : Doing) → get_elem? vs j ≡ some d → Keeps m r.shut d) → RingRule n m record { words = s.words; homes = s.homes; views = vs }
+  reviewed s r vs seats keep = record {
     shape = r.shape;
     pushed = r.pushed;
     popped = r.popped;
@@ -168,22 +174,23 @@ module _ {T : Type 0} (n m : ℕ) where
     within = r.within;
     each_cell = r.each_cell;
     each_seat = seats;
+    each_view = keep;
   }
 
   -- a step that changes no word and no place
   pub unmoved : (s : St T) (r : RingRule n m s) (i me : ℕ) (cs : List (ℕ × Option T)) (w : Doing)
-      → Knows n m r.pushed r.popped me w.at w.place w.word w.stamp (r.cells w.place) w.stage → RingRule n m (stepped s i (get_or s.words i 0) me cs w keeps)
-  unmoved s r i me cs w mine = subst (λ (ws : List ℕ). RingRule n m record { words = ws; homes = s.homes; views = set s.views me w }) (sym (set-get_or s.words i 0))
-      (reviewed s r (set s.views me w) (seats_stay n m r.pushed r.popped r.cells s.views me w mine (λ j d _. r.each_seat j d)))
+      → Knows n m r.pushed r.popped me w.at w.place w.word w.stamp (r.cells w.place) w.stage → Keeps m r.shut w → RingRule n m (stepped s i (get_or s.words i 0) me cs w keeps)
+  unmoved s r i me cs w mine keep = subst (λ (ws : List ℕ). RingRule n m record { words = ws; homes = s.homes; views = set s.views me w }) (sym (set-get_or s.words i 0))
+      (reviewed s r (set s.views me w) (seats_stay n m r.pushed r.popped r.cells s.views me w mine (λ j d _. r.each_seat j d)) (views_keep m r.shut r.shut s.views me w keep (λ e. e) r.each_view))
 
   -- a step on the place i: the counts may go up by one at that place's turn
   pub moved : (s : St T) (r : RingRule n m s) (k x i me pushed' popped' : ℕ) (c' : Cell) (homes' : Homes T) (w : Doing) → length homes' ≡ n
       → get_or (set s.words k x) 0 0 ≡ word_at n m pushed' + r.shut * m → get_or (set s.words k x) 16 0 ≡ word_at n m popped' → popped' ≤ pushed' → pushed' ≤ popped' + n → r.pushed ≤ pushed' → r.popped ≤ popped'
       → ((q : ℕ) → q % n ≢ i → r.pushed ≤ q → pushed' ≤ q) → ((q : ℕ) → q % n ≢ i → r.popped ≤ q → popped' ≤ q)
       → ((j : ℕ) → j ≢ i → j + 32 ≢ k) → ((j : ℕ) → j ≢ i → get_elem? homes' j ≡ get_elem? s.homes j) → CellOk n m pushed' popped' (set s.words k x) homes' i c'
-      → (r.cells i).0 ≤ c'.0 → rank (r.cells i) ≤ rank c' → ((j : ℕ) → j ≢ me → holder (r.cells i).1 ≢ suc j) → Knows n m pushed' popped' me w.at w.place w.word w.stamp (put r.cells i c' w.place) w.stage
+      → (r.cells i).0 ≤ c'.0 → rank (r.cells i) ≤ rank c' → ((j : ℕ) → j ≢ me → holder (r.cells i).1 ≢ suc j) → Knows n m pushed' popped' me w.at w.place w.word w.stamp (put r.cells i c' w.place) w.stage → Keeps m r.shut w
       → RingRule n m record { words = set s.words k x; homes = homes'; views = set s.views me w }
-  moved s r k x i me pushed' popped' c' homes' w places e₀ e₁ behind within a b hq tq apart home here c d loose mine =
+  moved s r k x i me pushed' popped' c' homes' w places e₀ e₁ behind within a b hq tq apart home here c d loose mine keep =
       let words' : List ℕ = set s.words k x in let cells' : ℕ → Cell = put r.cells i c' in record {
         shape = r.shape;
         pushed = pushed';
@@ -201,6 +208,7 @@ module _ {T : Type 0} (n m : ℕ) where
             cell_stays n m r.pushed r.popped pushed' popped' s.words words' s.homes homes' j (r.cells j) a b (λ q e. hq q (λ is. other (sym e ∙ is))) (λ q e. tq q (λ is. other (sym e ∙ is)))
             (get_or-set_other s.words k (j + 32) x 0 (apart j other)) (home j other) (r.each_cell j l));
         each_seat = seats_move n m r.pushed r.popped pushed' popped' r.cells i c' s.views me w a b c d loose mine r.each_seat;
+        each_view = views_keep m r.shut r.shut s.views me w keep (λ e. e) r.each_view;
       }
 
   pub knows : (s : St T) (r : RingRule n m s) (id : ℕ) (v : Doing) (st : Stage) → get_elem? s.views id ≡ some v → v.stage ≡ st → Knows n m r.pushed r.popped id v.at v.place v.word v.stamp (r.cells v.place) st

@@ -1,12 +1,12 @@
 -- The rule of the ring that threads share, and what each of its steps tells. n is the number of places, m the mark.
 -- Word 0 is the tail, word 16 the head, and word i + 32 the stamp of the place i. Each place is in some round p with
 -- p % n = i, and its stamp is what `shows` says.
-use Rattle.std.specs.Prelude.{◌≡◌, ◌≢◌, ℕ, ◌+◌, ◌-◌, ◌*◌, ◌%◌, ◌<◌, ◌≤◌, List, [], ◌∷◌, ◌++◌, length, Option, Some, None, slice_index_or}
+use Rattle.std.specs.Prelude.{◌≡◌, ◌≢◌, ℕ, ◌+◌, ◌-◌, ◌*◌, ◌%◌, ◌<◌, ◌≤◌, Bool, true, List, [], ◌∷◌, ◌++◌, length, Option, Some, None, slice_index_or}
 use mathlib.Core.Option.{some}
 use mathlib.Core.Option as maybe
 use lib.ListN.{get_elem?}
 use Rattle.atomic_table.specs.Table.{State, Me, rest}
-use Rattle.queue_steps.specs.Ring.{IsShape, word_at}
+use Rattle.queue_steps.specs.Ring.{IsShape, word_at, is_marked}
 use Rattle.concurrent_queue.specs.declared.ring_table.rule.Doing.{Doing}
 use Rattle.concurrent_queue.specs.declared.ring_table.rule.Stage.{Stage}
 use Rattle.concurrent_queue.specs.declared.ring_table.rule.Stage.TheVariants.{Idle, SawTail, SawHead, SawStamp, Writing, Reading, Forcing, Swapping}
@@ -80,6 +80,10 @@ module _ (n m pushed popped : ℕ) (j p i w x : ℕ) (c : Cell) where
   Knows Forcing = (w ≡ word_at n m p) × (i ≡ p % n) × ((q : ℕ) × (q + n ≡ p) × (c ≡ (q, forcing j)))
   Knows Swapping = (w ≡ word_at n m p) × (i ≡ p % n) × (c ≡ (p, swapping j))
 
+-- every view has the mark, and what it knows to be closed stays closed
+abbrev pub Keeps : ℕ → ℕ → Doing → Type 0
+Keeps m shut d = (d.mark ≡ m) × (d.closed ≡ true → shut ≡ 1)
+
 pub record RingRule {T : Type 0} (n m : ℕ) (s : State (Option T) Doing) : Type 0 where
   pub shape : IsShape n m
   pub pushed : ℕ
@@ -95,6 +99,7 @@ pub record RingRule {T : Type 0} (n m : ℕ) (s : State (Option T) Doing) : Type
   pub within : pushed ≤ popped + n
   pub each_cell : (i : ℕ) → i < n → CellOk n m pushed popped s.words s.homes i (cells i)
   pub each_seat : (j : ℕ) (d : Doing) → get_elem? s.views j ≡ some d → Knows n m pushed popped j d.at d.place d.word d.stamp (cells d.place) d.stage
+  pub each_view : (j : ℕ) (d : Doing) → get_elem? s.views j ≡ some d → Keeps m shut d
 
 -- the words of a new ring
 pub record AreNewWords (n : ℕ) (words : List ℕ) : Type 0 where
@@ -103,24 +108,38 @@ pub record AreNewWords (n : ℕ) (words : List ℕ) : Type 0 where
   pub head : slice_index_or words 16 0 ≡ 0
   pub stamps : (i : ℕ) → i < n → slice_index_or words (i + 32) 0 ≡ i
 
-abbrev pub doing : Stage → ℕ → ℕ → ℕ → ℕ → List ℕ → Doing
-doing stage at place word stamp found = record { stage = stage; at = at; place = place; word = word; stamp = stamp; found = found }
+abbrev pub doing : Stage → ℕ → ℕ → ℕ → ℕ → ℕ → Bool → List ℕ → Doing
+doing stage at place word stamp mark closed found =
+    record { stage = stage; at = at; place = place; word = word; stamp = stamp; mark = mark; closed = closed; found = found }
 
 abbrev pub Known : Type 0 → Type 0
 Known T = Me (Option T) Doing
 
 module _ {T : Type 0} where
-  -- the tail or the head, as it stands
-  abbrev pub saw : Stage → List ℕ → Known T → ℕ → Known T → Type 0
-  saw stage prior me r me' = (p : ℕ) × (me' ≡ (doing stage p 0 r 0 (prior ++ r ∷ []), me.1))
+  -- what a seat knows to be closed is found closed; and each step on the tail keeps in its view whether it found so
+  abbrev pub IsStillShut : Known T → ℕ → Type 0
+  IsStillShut me r = me.0.closed ≡ true → is_marked me.0.mark r ≡ true
+
+  -- the tail, as it stands
+  abbrev pub saw_tail : List ℕ → Known T → ℕ → Known T → Type 0
+  saw_tail prior me r me' =
+      ((p : ℕ) × (me' ≡ (doing SawTail p 0 r 0 me.0.mark (is_marked me.0.mark r) (prior ++ r ∷ []), me.1))) × IsStillShut me r
+
+  -- the head, as it stands
+  abbrev pub saw_head : List ℕ → Known T → ℕ → Known T → Type 0
+  saw_head prior me r me' = (p : ℕ) × (me' ≡ (doing SawHead p 0 r 0 me.0.mark me.0.closed (prior ++ r ∷ []), me.1))
 
   -- a word of which nothing is kept but the number
   abbrev pub looked : Known T → ℕ → Known T → Type 0
   looked me r me' = me' ≡ (record me.0 { found = me.0.found ++ r ∷ [] }, me.1)
 
+  abbrev pub looked_at_tail : Known T → ℕ → Known T → Type 0
+  looked_at_tail me r me' =
+      (me' ≡ (record me.0 { closed = is_marked me.0.mark r; found = me.0.found ++ r ∷ [] }, me.1)) × IsStillShut me r
+
   -- the stamp in the word k
   abbrev pub stamped : ℕ → Known T → ℕ → Known T → Type 0
-  stamped k me r me' = me' ≡ (doing SawStamp me.0.at (k - 32) me.0.word r (me.0.found ++ r ∷ []), me.1)
+  stamped k me r me' = me' ≡ (doing SawStamp me.0.at (k - 32) me.0.word r me.0.mark me.0.closed (me.0.found ++ r ∷ []), me.1)
 
   -- it has the place now, where the exchange was won
   abbrev pub entered : Stage → Known T → ℕ → Doing
@@ -128,11 +147,11 @@ module _ {T : Type 0} where
 
   abbrev pub appended : ℕ → Known T → ℕ → Known T → Type 0
   appended old me r me' =
-      (r ≡ old → me' ≡ (entered Writing me r, (me.0.place, None) ∷ me.1)) × (r ≢ old → saw SawTail me.0.found me r me')
+      (r ≡ old → me' ≡ (entered Writing me r, (me.0.place, None) ∷ me.1)) × (r ≢ old → saw_tail me.0.found me r me')
 
   abbrev pub took : ℕ → Known T → ℕ → Known T → Type 0
   took old me r me' =
-      (r ≡ old → (x : T) × (me' ≡ (entered Reading me r, (me.0.place, Some x) ∷ me.1))) × (r ≢ old → saw SawHead me.0.found me r me')
+      (r ≡ old → (x : T) × (me' ≡ (entered Reading me r, (me.0.place, Some x) ∷ me.1))) × (r ≢ old → saw_head me.0.found me r me')
 
   abbrev pub displaced : ℕ → Known T → ℕ → Known T → Type 0
   displaced old me r me' =
@@ -140,8 +159,18 @@ module _ {T : Type 0} where
 
   -- the append that a displacement owed
   abbrev pub advanced : Known T → ℕ → Known T → Type 0
-  advanced me r me' = me' ≡ (entered Swapping me r, me.1)
+  advanced me r me' = (me' ≡ (record (entered Swapping me r) { closed = is_marked me.0.mark r }, me.1)) × IsStillShut me r
+
+  -- the close by a push of one item too many, where the exchange was won
+  abbrev pub spent : ℕ → Known T → ℕ → Known T → Type 0
+  spent old me r me' =
+      (p : ℕ) × (closed : Bool) × (me' ≡ (doing SawTail p 0 r 0 me.0.mark closed (me.0.found ++ r ∷ []), me.1))
+      × (me.0.closed ≡ true → closed ≡ true) × (r ≡ old → closed ≡ true) × (r ≢ old → closed ≡ is_marked me.0.mark r)
+
+  -- the close, which is the only step of its call
+  abbrev pub closed : Known T → ℕ → Known T → Type 0
+  closed me r me' = ((p : ℕ) × (me' ≡ (doing SawTail p 0 r 0 me.0.mark true (r ∷ []), me.1))) × IsStillShut me r
 
   -- the place goes home with its new stamp
   abbrev pub gave : Known T → ℕ → Known T → Type 0
-  gave me r me' = me' ≡ (doing Idle 0 0 0 0 (me.0.found ++ r ∷ []), rest me.1)
+  gave me r me' = me' ≡ (doing Idle 0 0 0 0 me.0.mark me.0.closed (me.0.found ++ r ∷ []), rest me.1)

@@ -1,5 +1,5 @@
 -- What a clause says of a seat at a ring, and how a call stands between two steps.
-use Rattle.std.specs.Prelude.{◌≡◌, ℕ, ◌+◌, ◌*◌, ◌%◌, ◌<◌, ◌≤◌, false, List, [], ◌∷◌, ◌++◌, Option, Some, None, Result, Ok, Err}
+use Rattle.std.specs.Prelude.{◌≡◌, ℕ, ◌+◌, ◌*◌, ◌%◌, ◌<◌, ◌≤◌, true, false, List, [], ◌∷◌, ◌++◌, Option, Some, None, Result, Ok, Err}
 use Rattle.concurrent_queue.specs.Answered.{turns}
 use Rattle.atomic_table.specs.declared.shared.Seat.{Seat}
 use Rattle.atomic_table.specs.declared.shared.Shared.{Shared}
@@ -25,14 +25,17 @@ module _ {T P : Type 0} where
   abbrev pub IsFreeSeatOf : Shared (Option T) Doing Shape P → Shape → Seat (Option T) Doing → Type 0
   IsFreeSeatOf board shape seat =
       (seat.table_id ≡ board.table_id) × (board.table_id.words ≡ board.key.capacity + 32) × (board.table_id.slots ≡ board.key.capacity)
-      × (board.key ≡ shape) × (seat.me.1 ≡ [])
+      × (board.key ≡ shape) × (seat.me.1 ≡ []) × (seat.me.0.mark ≡ shape.mark)
 
 module _ {T : Type 0} where
   abbrev pub IsSameSeat : Seat (Option T) Doing → Seat (Option T) Doing → Type 0
   IsSameSeat old new = (new.table_id ≡ old.table_id) × (new.id ≡ old.id)
 
+  -- it still has no place, and has forgotten no close
   abbrev pub StaysFree : Seat (Option T) Doing → Seat (Option T) Doing → Type 0
-  StaysFree old new = (new.table_id ≡ old.table_id) × (new.id ≡ old.id) × (new.me.1 ≡ [])
+  StaysFree old new =
+      (new.table_id ≡ old.table_id) × (new.id ≡ old.id) × (new.me.1 ≡ []) × (new.me.0.mark ≡ old.me.0.mark)
+      × (old.me.0.closed ≡ true → new.me.0.closed ≡ true)
 
 -- a push or a forced push
 abbrev pub pushing : Manner → ℕ → ℕ → Turn → ℕ → Turn
@@ -47,11 +50,11 @@ IsRefusal manner _ = ⊥
 -- what a seat's view has while its push or forced push stands at a turn
 module _ (manner : Manner) (n m : ℕ) where
   abbrev pub SawPlace : ℕ → Doing → Type 0
-  SawPlace t d = (d.stage ≡ SawStamp) × (d.word ≡ t) × (d.place ≡ t % m)
+  SawPlace t d = (d.stage ≡ SawStamp) × (d.word ≡ t) × (d.place ≡ t % m) × (d.closed ≡ false)
 
   abbrev pub PushStands : Turn → Doing → Type 0
   PushStands Tail d = Unit {0}
-  PushStands (Stamp t) d = (d.stage ≡ SawTail) × (d.word ≡ t) × (is_marked m t ≡ false) × (t % m < n)
+  PushStands (Stamp t) d = (d.stage ≡ SawTail) × (d.word ≡ t) × (is_marked m t ≡ false) × (t % m < n) × (d.closed ≡ false)
   PushStands (HeadFor t) d = SawPlace t d × (is_marked m t ≡ false) × (t % m < n) × (d.stamp + 2 * m ≡ t + 1)
   PushStands (Append t) d = SawPlace t d × (d.stamp ≡ t) × IsPlaceWord n m t
   PushStands (Displace t) d = (manner ≡ Forced) × SawPlace t d × (d.stamp + 2 * m ≡ t + 1) × (2 * m ≤ t) × IsPlaceWord n m t

@@ -1,6 +1,6 @@
 -- The rule of the single slot that threads share, and what each of its steps tells. A word is a sum: locked 1, pushed 2,
 -- closed 4.
-use Rattle.std.specs.Prelude.{◌≡◌, ◌≢◌, ℕ, ◌+◌, ◌*◌, ◌≤◌, List, [], ◌∷◌, ◌++◌, Option, Some, None}
+use Rattle.std.specs.Prelude.{◌≡◌, ◌≢◌, ℕ, ◌+◌, ◌*◌, ◌≤◌, nat_lt, Bool, true, false, if◌then◌else◌, List, [], ◌∷◌, ◌++◌, Option, Some, None}
 use mathlib.Core.Option.{some, none}
 use mathlib.Core.Option as maybe
 use lib.ListN.{get_elem?}
@@ -43,32 +43,47 @@ module _ {T : Type 0} where
     pub word : s.words ≡ (marks phase + 4 * shut) ∷ []
     pub place : s.homes ≡ (home phase) ∷ []
     pub each_seat : (j : ℕ) (d : Doing) → get_elem? s.views j ≡ some d → Knows phase j d.stage
+    -- what a seat knows to be closed stays closed
+    pub stays_closed : (j : ℕ) (d : Doing) → get_elem? s.views j ≡ some d → d.closed ≡ true → shut ≡ 1
 
-abbrev pub doing : Stage → List ℕ → Doing
-doing stage found = record { stage = stage; found = found }
+abbrev pub doing : Stage → Bool → List ℕ → Doing
+doing stage closed found = record { stage = stage; closed = closed; found = found }
+
+-- whether a word has the mark of a close
+abbrev pub is_shut : ℕ → Bool
+is_shut word = if nat_lt word 4 then false else true
 
 abbrev pub Known : Type 0 → Type 0
 Known T = Me (Option T) Doing
 
 module _ {T : Type 0} where
+  -- what a seat knows to be closed is found closed; and each step below keeps in its view whether it found so
+  abbrev pub IsStillShut : Known T → ℕ → Type 0
+  IsStillShut m n = m.0.closed ≡ true → is_shut n ≡ true
+
   -- the first word that a call finds
   abbrev pub began : Known T → ℕ → Known T → Type 0
-  began m n m' = m' ≡ (doing Idle (n ∷ []), m.1)
+  began m n m' = (m' ≡ (doing Idle (is_shut n) (n ∷ []), m.1)) × IsStillShut m n
+
+  -- the close, which is the only step of its call
+  abbrev pub closed : Known T → ℕ → Known T → Type 0
+  closed m n m' = (m' ≡ (doing Idle true (n ∷ []), m.1)) × IsStillShut m n
 
   abbrev pub looked : Known T → ℕ → Known T → Type 0
-  looked m n m' = m' ≡ (doing Idle (m.0.found ++ n ∷ []), m.1)
+  looked m n m' = (m' ≡ (doing Idle (is_shut n) (m.0.found ++ n ∷ []), m.1)) × IsStillShut m n
 
   -- an append, or a displacement where an item was there: it has the slot, with what the word said of it
   abbrev pub claimed : ℕ → Known T → ℕ → Known T → Type 0
   claimed old m n m' =
-      (n ≡ old → (held : Option T) × (marks_of held ≡ old) × (m' ≡ (doing Writing (m.0.found ++ n ∷ []), (0, held) ∷ m.1)))
-      × (n ≢ old → looked m n m')
+      (n ≡ old → (held : Option T) × (marks_of held ≡ old) × (m' ≡ (doing Writing (is_shut n) (m.0.found ++ n ∷ []), (0, held) ∷ m.1)))
+      × (n ≢ old → looked m n m') × IsStillShut m n
 
   -- a take: it has the slot, with its item
   abbrev pub fetched : ℕ → Known T → ℕ → Known T → Type 0
   fetched old m n m' =
-      (n ≡ old → (x : T) × (m' ≡ (doing Reading (m.0.found ++ n ∷ []), (0, Some x) ∷ m.1))) × (n ≢ old → looked m n m')
+      (n ≡ old → (x : T) × (m' ≡ (doing Reading (is_shut n) (m.0.found ++ n ∷ []), (0, Some x) ∷ m.1)))
+      × (n ≢ old → looked m n m') × IsStillShut m n
 
   -- the slot goes home
   abbrev pub returned : Known T → ℕ → Known T → Type 0
-  returned m n m' = m' ≡ (doing Idle (m.0.found ++ n ∷ []), rest m.1)
+  returned m n m' = (m' ≡ (doing Idle (is_shut n) (m.0.found ++ n ∷ []), rest m.1)) × IsStillShut m n

@@ -1,5 +1,5 @@
 -- What a clause says of a seat at a single slot, and how a call stands between two steps.
-use Rattle.std.specs.Prelude.{◌≡◌, ◌+◌, ◌%◌, ◌<◌, [], Option}
+use Rattle.std.specs.Prelude.{◌≡◌, ◌+◌, ◌%◌, ◌<◌, true, [], Option}
 use Rattle.atomic_table.specs.declared.shared.Seat.{Seat}
 use Rattle.atomic_table.specs.declared.shared.Shared.{Shared}
 use Rattle.concurrent_queue.specs.declared.slot_table.rule.Doing.{Doing}
@@ -14,8 +14,10 @@ module _ {T K P : Type 0} where
   IsSeatOf board seat =
       (seat.table_id ≡ board.table_id) × (board.table_id.words ≡ 1) × (board.table_id.slots ≡ 1) × (seat.me.1 ≡ [])
 
+-- it still has no slot, and has forgotten no close
 abbrev pub IsSameSeat : {T : Type 0} → Seat (Option T) Doing → Seat (Option T) Doing → Type 0
-IsSameSeat old new = (new.table_id ≡ old.table_id) × (new.id ≡ old.id) × (new.me.1 ≡ [])
+IsSameSeat old new =
+    (new.table_id ≡ old.table_id) × (new.id ≡ old.id) × (new.me.1 ≡ []) × (old.me.0.closed ≡ true → new.me.0.closed ≡ true)
 
 abbrev pub IsRefusalToPush : Reply → Type 0
 IsRefusalToPush Full = Unit {0}

@@ -5,7 +5,9 @@ use crate::glimpse::{Glimpse, Locked};
 use crate::ring_table::RingTable;
 use crate::slot_table::SlotTable;
 use crate::try_iter::TryIter;
-use queue_steps::{ForcePushError, NoMemory, PopError, PushError, Representation, Unbounded};
+use queue_steps::{
+    Drains, ForcePushError, NoMemory, PopError, PushError, Representation, Unbounded,
+};
 use std::alloc::Global;
 use std::fmt;
 use std::marker::Model;
@@ -38,7 +40,7 @@ impl<T> Model for ConcurrentQueue<T> {
     ghost view = { λ q. record { capacity = kept_capacity q.kept } };
 }
 
-impl<T: Drop> ConcurrentQueue<T> {
+impl<T> ConcurrentQueue<T> {
     /// A queue that holds at most `cap` items, whose places are taken here: a single slot for 1, a ring for more.
     ///
     /// A capacity that no buffer can have is refused as want of memory too.
@@ -97,19 +99,6 @@ impl<T: Drop> ConcurrentQueue<T> {
                 let mut chain = lock.lock(rt);
                 let _capacity = chain.capacity();
                 chain.force_push(value)
-            }
-        }
-    }
-
-    /// Takes out the oldest item. Without one a closed queue answers `Closed`, and an open one `Empty`.
-    #[inline]
-    pub fn pop<R: Wait>(&self, rt: &R) -> Result<T, PopError> {
-        match &self.kept {
-            Kept::Single(slot) => slot.pop(rt),
-            Kept::Bounded(ring, _) => ring.pop(rt),
-            Kept::Unbounded(lock) => {
-                let item = lock.lock(rt).pop()?;
-                Ok(item)
             }
         }
     }
@@ -190,8 +179,23 @@ impl<T: Drop> ConcurrentQueue<T> {
     }
 }
 
+impl<T: Drop> ConcurrentQueue<T> {
+    /// Takes out the oldest item. Without one a closed queue answers `Closed`, and an open one `Empty`.
+    #[inline]
+    pub fn pop<R: Wait>(&self, rt: &R) -> Result<T, PopError> {
+        match &self.kept {
+            Kept::Single(slot) => slot.pop(rt),
+            Kept::Bounded(ring, _) => ring.pop(rt),
+            Kept::Unbounded(lock) => {
+                let item = lock.lock(rt).pop()?;
+                Ok(item)
+            }
+        }
+    }
+}
+
 /// Its length, capacity and whether it is closed.
-impl<T: Drop> fmt::Debug for ConcurrentQueue<T> {
+impl<T> fmt::Debug for ConcurrentQueue<T> {
     fn fmt<W: fmt::Write>(&self, f: &mut fmt::Formatter<W>) -> fmt::Result {
         let capacity = self.capacity();
         let mut text = f.debug_struct("ConcurrentQueue");

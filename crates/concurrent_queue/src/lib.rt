@@ -3,9 +3,9 @@
 
 mod concurrent;
 pub mod glimpse;
-mod ring_table;
+pub mod ring_table;
 pub mod seated;
-mod slot_table;
+pub mod slot_table;
 mod try_iter;
 
 pub use concurrent::ConcurrentQueue;

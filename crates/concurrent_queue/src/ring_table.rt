@@ -21,8 +21,8 @@ use std::alloc::Global;
 /// A closable queue of a fixed number of places, which threads share by `&`.
 #[derive(Drop)]
 pub struct RingTable<T> {
-    board: Table<Option<T>, Doing, Shape, RingRule, Global>,
-    shape: Shape,
+    pub board: Table<Option<T>, Doing, Shape, RingRule, Global>,
+    pub shape: Shape,
     ghost sized: { (board.shared.table_id.words ≡ shape.capacity + 32) × (board.shared.table_id.slots ≡ shape.capacity) × (board.shared.key ≡ shape) },
 }
 
@@ -58,10 +58,11 @@ impl<T> RingTable<T> {
         Ok(RingTable { board, shape })
     }
 
-    // A seat has no bytes, and goes when the call ends. The word that it is taken by is one that no call writes, so that
-    // a pop doesn't look where pushes write.
+    /// A new seat, for calls of `seated::ring`. It has no bytes.
+    ///
+    /// The word that it is taken by is one that no call writes, so that a pop doesn't look where pushes write.
     #[inline(always)]
-    fn pass(&self) -> Pass<T>
+    pub fn seat(&self) -> Pass<T>
         ensures { IsFreeSeatOf self.now.board.shared self.now.shape result }
     {
         self.board.shared.load_new_seat::<Look>(UNUSED).1
@@ -69,7 +70,7 @@ impl<T> RingTable<T> {
 
     /// Its length and whether it is closed, each read at a moment of its own. It waits for nobody, and answers `None`
     /// where the tail moved at each of many tries.
-    pub fn glimpse(&self) -> Option<Glimpse> {
+    pub(crate) fn glimpse(&self) -> Option<Glimpse> {
         let board = &self.board.shared;
         let mut turn = steps::len(self.shape, Turn::Tail, board.peek(TAIL));
         for _ in 0..TRIES {

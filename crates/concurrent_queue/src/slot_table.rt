@@ -17,11 +17,12 @@ use std::alloc::{AllocError, Global};
 /// A closable queue of one place, which threads share by `&`.
 #[derive(Drop)]
 pub struct SlotTable<T> {
-    board: Table<Option<T>, Doing, (), SlotRule, Global>,
+    pub board: Table<Option<T>, Doing, (), SlotRule, Global>,
     ghost sized: { (board.shared.table_id.words ≡ 1) × (board.shared.table_id.slots ≡ 1) },
 }
 
 impl<T> SlotTable<T> {
+    /// An empty slot.
     pub fn new(alloc: Global) -> Result<SlotTable<T>, NoMemory> {
         match Table::vacant(alloc, &[0], 1, &()) {
             Ok((board, _)) => Ok(SlotTable { board }),
@@ -29,16 +30,16 @@ impl<T> SlotTable<T> {
         }
     }
 
-    // A seat has no bytes, and goes when the call ends.
+    /// A new seat, for calls of `seated::single`. It has no bytes.
     #[inline(always)]
-    fn pass(&self) -> Pass<T>
+    pub fn seat(&self) -> Pass<T>
         ensures { IsSeatOf self.now.board.shared result }
     {
         self.board.shared.load_new_seat::<Begin>(0).1
     }
 
     /// Its length and whether it is closed, each read at a moment of its own.
-    pub fn glimpse(&self) -> Glimpse {
+    pub(crate) fn glimpse(&self) -> Glimpse {
         Glimpse {
             len: self.len(),
             is_closed: self.is_closed(),

@@ -7,7 +7,7 @@ ghost use Rattle.queue_steps.specs.RingTurns.{answered};
 ghost use Rattle.queue_steps.specs.RingEnds.{PushEnds, ForcePushEnds, PopEnds};
 
 use crate::errors::{ForcePushError, NoMemory, PopError, PushError};
-use crate::representation::Representation;
+use crate::representation::{Drains, Representation};
 use crate::steps::Reply;
 use crate::steps::bounded::{self as steps, Shape, Turn};
 use std::alloc::Global;
@@ -199,14 +199,6 @@ impl<T: Drop> Representation<T> for Bounded<T> {
         }
     }
 
-    fn pop(&mut self) -> Result<T, PopError> {
-        match find_pop(self.shape, self.tail, self.head, &self.slots) {
-            Turn::Take(_) => Ok(take(self.shape, &mut self.head, &mut self.slots).unwrap()),
-            Turn::End(Reply::Closed) => Err(PopError::Closed),
-            _ => Err(PopError::Empty),
-        }
-    }
-
     fn close(&mut self) -> bool {
         match steps::close(self.shape, Turn::Close, self.tail) {
             Turn::End(Reply::Yes) => {
@@ -242,5 +234,17 @@ impl<T: Drop> Representation<T> for Bounded<T> {
         ensures bounded { IsSome result }
     {
         Some(self.shape.capacity as usize)
+    }
+}
+
+impl<T: Drop> Drains<T> for Bounded<T> {
+    ghost queue = { λ q. q };
+
+    fn pop(&mut self) -> Result<T, PopError> {
+        match find_pop(self.shape, self.tail, self.head, &self.slots) {
+            Turn::Take(_) => Ok(take(self.shape, &mut self.head, &mut self.slots).unwrap()),
+            Turn::End(Reply::Closed) => Err(PopError::Closed),
+            _ => Err(PopError::Empty),
+        }
     }
 }

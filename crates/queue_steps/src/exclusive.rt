@@ -5,7 +5,7 @@ ghost use Rattle.queue_steps.specs.Replies.{Pushes, ForcePushes, Pops, Closes};
 use crate::bounded::Bounded;
 use crate::errors::{ForcePushError, NoMemory, PopError, PushError};
 use crate::exclusive_iter::ExclusiveIter;
-use crate::representation::Representation;
+use crate::representation::{Drains, Representation};
 use crate::single::Single;
 use crate::unbounded::Unbounded;
 use std::alloc::Global;

@@ -4,7 +4,7 @@ ghost use Rattle.queue_steps.specs.Replies.{Pushes, ForcePushes, Pops, Closes};
 
 use crate::errors::{ForcePushError, PopError, PushError};
 
-/// A way to keep a closable queue for one owner.
+/// A way to keep a closable queue for one owner. Nothing that these calls are given is dropped.
 pub trait Representation<T> {
     // The closable queue that it keeps.
     ghost queue: { Self → ClosableQueue T };
@@ -16,10 +16,6 @@ pub trait Representation<T> {
     /// Adds an item at the end, in the place of the first one where the queue is full.
     fn force_push(&mut self, value: T) -> Result<Option<T>, ForcePushError<T>>
         ensures { ForcePushes (queue self.old) value result (queue self.new) };
-
-    /// Takes the first item out.
-    fn pop(&mut self) -> Result<T, PopError>
-        ensures { Pops (queue self.old) result (queue self.new) };
 
     /// Closes the queue, and answers whether it was open.
     fn close(&mut self) -> bool
@@ -44,4 +40,14 @@ pub trait Representation<T> {
     /// How many items it may hold, or `None` where nothing limits them.
     fn capacity(&self) -> Option<usize>
         ensures { result ≡ (queue self.now).capacity };
+}
+
+/// A way to keep one from which items are taken. A chain drops a block that was used up.
+pub trait Drains<T> {
+    // The closable queue that it keeps.
+    ghost queue: { Self → ClosableQueue T };
+
+    /// Takes the first item out.
+    fn pop(&mut self) -> Result<T, PopError>
+        ensures { Pops (queue self.old) result (queue self.new) };
 }

@@ -5,7 +5,7 @@ ghost use Rattle.queue_steps.specs.Chain.{onto_last, LastHasRoom, FirstHasItem, 
 ghost use Rattle.queue_steps.specs.ClosableQueue.{new_queue};
 
 use crate::errors::{ForcePushError, PopError, PushError};
-use crate::representation::Representation;
+use crate::representation::{Drains, Representation};
 use crate::steps::Reply;
 use crate::steps::unbounded::{self as steps, BLOCK, Ends, Turn};
 use std::alloc::{AllocError, Global};
@@ -83,7 +83,7 @@ fn push_onto_last<T>(blocks: &mut VecDeque<Block<T>>, value: T)
 }
 
 // Links a block with this value at the end. An `Err` hands the value back, and the chain is as it was.
-fn link<T: Drop>(
+fn link<T>(
     blocks: &mut VecDeque<Block<T>>,
     spare: &mut Option<Block<T>>,
     alloc: Global,
@@ -142,7 +142,7 @@ impl<T> Unbounded<T> {
     }
 }
 
-impl<T: Drop> Representation<T> for Unbounded<T> {
+impl<T> Representation<T> for Unbounded<T> {
     ghost queue = { λ q. q };
 
     fn push(&mut self, value: T) -> Result<(), PushError<T>> {
@@ -177,18 +177,6 @@ impl<T: Drop> Representation<T> for Unbounded<T> {
         }
     }
 
-    fn pop(&mut self) -> Result<T, PopError> {
-        let turn = steps::pop(self.ends);
-        let item = match turn {
-            Turn::Take => take_first(&mut self.blocks),
-            Turn::Unlink => unlink(&mut self.blocks, &mut self.spare),
-            Turn::End(Reply::Closed) => return Err(PopError::Closed),
-            _ => return Err(PopError::Empty),
-        };
-        self.ends = self.ends.after(turn);
-        Ok(item)
-    }
-
     fn close(&mut self) -> bool {
         let turn = steps::close(self.ends);
         self.ends = self.ends.after(turn);
@@ -218,5 +206,21 @@ impl<T: Drop> Representation<T> for Unbounded<T> {
     {
         let _ends = &self.ends;
         None
+    }
+}
+
+impl<T: Drop> Drains<T> for Unbounded<T> {
+    ghost queue = { λ q. q };
+
+    fn pop(&mut self) -> Result<T, PopError> {
+        let turn = steps::pop(self.ends);
+        let item = match turn {
+            Turn::Take => take_first(&mut self.blocks),
+            Turn::Unlink => unlink(&mut self.blocks, &mut self.spare),
+            Turn::End(Reply::Closed) => return Err(PopError::Closed),
+            _ => return Err(PopError::Empty),
+        };
+        self.ends = self.ends.after(turn);
+        Ok(item)
     }
 }

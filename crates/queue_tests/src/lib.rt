@@ -11,6 +11,10 @@ mod forced;
 #[cfg(test)]
 mod parties;
 #[cfg(test)]
+mod rounds;
+#[cfg(test)]
+mod seated;
+#[cfg(test)]
 mod shared;
 #[cfg(test)]
 mod threads;

@@ -1,35 +1,34 @@
 //! What each kind of step on a ring tells. These types are for the proofs alone.
 ghost use Rattle.std.specs.Prelude.{[]};
-ghost use Rattle.concurrent_queue.specs.RingRule.{saw, looked, stamped, appended, took, displaced, advanced, gave};
-ghost use Rattle.concurrent_queue.specs.declared.ring_table.rule.Stage.TheVariants.{SawTail, SawHead};
+ghost use Rattle.concurrent_queue.specs.RingRule.{saw_tail, saw_head, looked, looked_at_tail, stamped, appended, took, displaced, advanced, spent, closed, gave};
 
 use crate::ring_table::rule::Doing;
 use atomic_table::Play;
 
-/// The first step of a call, on the tail.
+/// The first look of a call, at the tail.
 pub struct BeginTail;
 
 impl<T> Play<Option<T>, Doing> for BeginTail {
-    ghost then = { λ s m r m'. saw SawTail [] m r m' };
+    ghost then = { λ s m r m'. saw_tail [] m r m' };
 }
 
-/// The first step of a call, on the head.
+/// The first look of a call, at the head.
 pub struct BeginHead;
 
 impl<T> Play<Option<T>, Doing> for BeginHead {
-    ghost then = { λ s m r m'. saw SawHead [] m r m' };
+    ghost then = { λ s m r m'. saw_head [] m r m' };
 }
 
 pub struct SeeTail;
 
 impl<T> Play<Option<T>, Doing> for SeeTail {
-    ghost then = { λ s m r m'. saw SawTail m.0.found m r m' };
+    ghost then = { λ s m r m'. saw_tail m.0.found m r m' };
 }
 
 pub struct SeeHead;
 
 impl<T> Play<Option<T>, Doing> for SeeHead {
-    ghost then = { λ s m r m'. saw SawHead m.0.found m r m' };
+    ghost then = { λ s m r m'. saw_head m.0.found m r m' };
 }
 
 pub struct SeeStamp;
@@ -43,6 +42,13 @@ pub struct Look;
 
 impl<T> Play<Option<T>, Doing> for Look {
     ghost then = { λ s m r m'. looked m r m' };
+}
+
+/// The same of the tail, of which the seat keeps too whether it has the mark.
+pub struct LookAtTail;
+
+impl<T> Play<Option<T>, Doing> for LookAtTail {
+    ghost then = { λ s m r m'. looked_at_tail m r m' };
 }
 
 pub struct Append;
@@ -69,6 +75,20 @@ pub struct Advance;
 
 impl<T> Play<Option<T>, Doing> for Advance {
     ghost then = { λ s m r m'. advanced m r m' };
+}
+
+/// The close by a push of one item too many.
+pub struct Spend;
+
+impl<T> Play<Option<T>, Doing> for Spend {
+    ghost then = { λ s m r m'. spent s.first m r m' };
+}
+
+/// The close.
+pub struct Shut;
+
+impl<T> Play<Option<T>, Doing> for Shut {
+    ghost then = { λ s m r m'. closed m r m' };
 }
 
 /// The write or the read is done.

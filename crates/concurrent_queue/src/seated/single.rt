@@ -1,5 +1,5 @@
 //! The running calls of the single slot.
-ghost use Rattle.std.specs.Prelude.{◌≡◌, ◌≢◌, ℕ, ◌+◌, ◌%◌, ◌<◌, [], ◌∷◌, ◌++◌, Option, MatchResult};
+ghost use Rattle.std.specs.Prelude.{◌≡◌, ◌≢◌, ℕ, ◌+◌, ◌%◌, ◌<◌, true, false, [], ◌∷◌, ◌++◌, Option, MatchResult, IsErr};
 ghost use Rattle.concurrent_queue.specs.declared.slot_table.rule.Stage.TheVariants.{Idle};
 ghost use Rattle.queue_steps.specs.declared.steps.Reply.{Reply};
 ghost use Rattle.queue_steps.specs.declared.steps.Reply.TheVariants.{Done, Length};
@@ -7,7 +7,7 @@ ghost use Rattle.queue_steps.specs.declared.steps.single.Turn.TheVariants.{Look,
 ghost use Rattle.concurrent_queue.specs.Answered.{turns, PushSays, ForcePushSays, PopSays, says};
 ghost use Rattle.queue_steps.specs.Single.{marks_of};
 ghost use Rattle.queue_steps.specs.SingleTurns.{push_turn, force_push_turn, pop_turn, close_turn, len_turn, is_empty_turn, is_full_turn, is_closed_turn};
-ghost use Rattle.concurrent_queue.specs.SlotRule.{doing};
+ghost use Rattle.concurrent_queue.specs.SlotRule.{doing, is_shut};
 ghost use Rattle.concurrent_queue.specs.SlotSeat.{IsSeatOf, IsSameSeat, IsRefusalToPush, IsRefusalToPop, IsPushTurn, IsPopTurn};
 
 use crate::slot_table::plays;
@@ -27,14 +27,14 @@ pub type Pass<T> = Seat<Option<T>, Doing>;
 #[inline(always)]
 fn begin<T>(board: &Board<T>, pass: &mut Pass<T>) -> u64
     requires { IsSeatOf board.now pass.old }
-    ensures { IsSameSeat pass.old pass.new × (pass.new.me.0 ≡ doing Idle (result ∷ [])) }
+    ensures { IsSameSeat pass.old pass.new × (pass.new.me.0 ≡ doing Idle (is_shut result) (result ∷ [])) }
 {
     board.load::<plays::Begin>(pass, 0)
 }
 
 fn look<T>(board: &Board<T>, pass: &mut Pass<T>) -> u64
     requires { IsSeatOf board.now pass.old }
-    ensures { IsSameSeat pass.old pass.new × (pass.new.me.0 ≡ doing Idle (pass.old.me.0.found ++ result ∷ [])) }
+    ensures { IsSameSeat pass.old pass.new × (pass.new.me.0 ≡ doing Idle (is_shut result) (pass.old.me.0.found ++ result ∷ [])) }
 {
     board.load::<plays::Look>(pass, 0)
 }
@@ -52,7 +52,7 @@ fn write<T>(
     requires seat { IsSeatOf board.now pass.old }
     requires word { (old < 4) × (old % 2 ≡ 0) × (new ≡ 3) }
     ensures same { IsSameSeat pass.old pass.new }
-    ensures found { MatchResult result (λ p. (marks_of p.0 ≡ old) × (pass.new.me.0 ≡ doing Idle ((pass.old.me.0.found ++ old ∷ []) ++ p.1 ∷ []))) (λ e. (e.1 ≡ value) × (e.0 ≢ old) × (pass.new.me.0 ≡ doing Idle (pass.old.me.0.found ++ e.0 ∷ []))) }
+    ensures found { MatchResult result (λ p. (marks_of p.0 ≡ old) × (pass.old.me.0.closed ≢ true) × (pass.new.me.0 ≡ doing Idle (is_shut p.1) ((pass.old.me.0.found ++ old ∷ []) ++ p.1 ∷ []))) (λ e. (e.1 ≡ value) × (e.0 ≢ old) × (pass.new.me.0 ≡ doing Idle (is_shut e.0) (pass.old.me.0.found ++ e.0 ∷ []))) }
 {
     let found = board.compare_exchange::<plays::Claim>(pass, 0, old, new);
     if found != old {
@@ -75,7 +75,7 @@ fn push_from<T, R: Wait>(
     requires seat { IsSeatOf board.now pass.old }
     requires stands { (turn ≡ turns push_turn Look pass.old.me.0.found) × IsPushTurn turn }
     ensures same { IsSameSeat pass.old pass.new }
-    ensures made { MatchResult result (λ _. turns push_turn Look pass.new.me.0.found ≡ End Done) (λ e. IsRefusalToPush e.0 × (e.1 ≡ value) × (turns push_turn Look pass.new.me.0.found ≡ End e.0)) }
+    ensures made { MatchResult result (λ _. (pass.old.me.0.closed ≢ true) × (turns push_turn Look pass.new.me.0.found ≡ End Done)) (λ e. IsRefusalToPush e.0 × (e.1 ≡ value) × (turns push_turn Look pass.new.me.0.found ≡ End e.0)) }
 {
     let backoff = Backoff::new();
     let mut value = value;
@@ -109,7 +109,7 @@ fn push_from<T, R: Wait>(
 fn push_at_once<T>(board: &Board<T>, pass: &mut Pass<T>, value: T) -> Result<(), (Turn, T)>
     requires { IsSeatOf board.now pass.old }
     ensures same { IsSameSeat pass.old pass.new }
-    ensures made { MatchResult result (λ _. turns push_turn Look pass.new.me.0.found ≡ End Done) (λ e. (e.1 ≡ value) × (e.0 ≡ turns push_turn Look pass.new.me.0.found) × IsPushTurn e.0) }
+    ensures made { MatchResult result (λ _. (pass.old.me.0.closed ≢ true) × (turns push_turn Look pass.new.me.0.found ≡ End Done)) (λ e. (e.1 ≡ value) × (e.0 ≡ turns push_turn Look pass.new.me.0.found) × IsPushTurn e.0) }
 {
     let turn = steps::push(Turn::Look, begin(board, pass));
     let Turn::Exchange(old, new) = turn else {
@@ -135,6 +135,7 @@ pub fn push<T, R: Wait>(
     requires { IsSeatOf board.now pass.old }
     ensures same { IsSameSeat pass.old pass.new }
     ensures answers { (reply : Reply) × (turns push_turn Look pass.new.me.0.found ≡ End reply) × PushSays value reply result }
+    ensures stays_closed { pass.old.me.0.closed ≡ true → IsErr result }
 {
     let (turn, value) = match push_at_once(board, pass, value) {
         Ok(()) => return Ok(()),
@@ -157,6 +158,7 @@ pub fn force_push<T, R: Wait>(
     requires { IsSeatOf board.now pass.old }
     ensures same { IsSameSeat pass.old pass.new }
     ensures answers { (reply : Reply) × (turns force_push_turn Look pass.new.me.0.found ≡ End reply) × ForcePushSays value reply result }
+    ensures stays_closed { pass.old.me.0.closed ≡ true → IsErr result }
 {
     let backoff = Backoff::new();
     let mut value = value;
@@ -188,15 +190,15 @@ fn read<T>(board: &Board<T>, pass: &mut Pass<T>, old: u64, new: u64) -> Result<(
     requires seat { IsSeatOf board.now pass.old }
     requires word { (old % 4 ≡ 2) × (new + 1 ≡ old) }
     ensures same { IsSameSeat pass.old pass.new }
-    ensures found { MatchResult result (λ p. pass.new.me.0 ≡ doing Idle ((pass.old.me.0.found ++ old ∷ []) ++ p.1 ∷ [])) (λ w. (w ≢ old) × (pass.new.me.0 ≡ doing Idle (pass.old.me.0.found ++ w ∷ []))) }
+    ensures found { MatchResult result (λ p. pass.new.me.0 ≡ doing Idle (is_shut p.1) ((pass.old.me.0.found ++ old ∷ []) ++ p.1 ∷ [])) (λ w. (w ≢ old) × (pass.new.me.0 ≡ doing Idle (is_shut w) (pass.old.me.0.found ++ w ∷ []))) }
 {
     let found = board.compare_exchange::<plays::Take>(pass, 0, old, new);
     if found != old {
         return Err(found);
     }
     let item = board.exchange(pass, 0, None);
-    let last = board.fetch_sub::<plays::Return>(pass, 0, steps::LOCKED);
-    Ok((item.unwrap(), last))
+    let left = board.fetch_sub::<plays::Return>(pass, 0, steps::LOCKED);
+    Ok((item.unwrap(), left))
 }
 
 // A pop, from where it stands, or the reply that refused it.
@@ -271,8 +273,10 @@ pub fn close<T>(board: &Board<T>, pass: &mut Pass<T>) -> bool
     requires { IsSeatOf board.now pass.old }
     ensures same { IsSameSeat pass.old pass.new }
     ensures answers { turns close_turn Close pass.new.me.0.found ≡ End (says result) }
+    ensures closed { pass.new.me.0.closed ≡ true }
+    ensures once { pass.old.me.0.closed ≡ true → result ≡ false }
 {
-    let found = board.fetch_or::<plays::Begin>(pass, 0, steps::CLOSED);
+    let found = board.fetch_or::<plays::Shut>(pass, 0, steps::CLOSED);
     matches!(steps::close(Turn::Close, found), Turn::End(Reply::Yes))
 }
 
@@ -310,6 +314,8 @@ pub fn is_closed<T>(board: &Board<T>, pass: &mut Pass<T>) -> bool
     requires { IsSeatOf board.now pass.old }
     ensures same { IsSameSeat pass.old pass.new }
     ensures answers { turns is_closed_turn Look pass.new.me.0.found ≡ End (says result) }
+    ensures keeps { pass.new.me.0.closed ≡ result }
+    ensures stays_closed { pass.old.me.0.closed ≡ true → result ≡ true }
 {
     let turn = steps::is_closed(Turn::Look, begin(board, pass));
     matches!(turn, Turn::End(Reply::Yes))

@@ -9,40 +9,44 @@ use std::sync::Wait;
 
 impl<T> SlotTable<T> {
     #[inline(always)]
-    pub fn push<R: Wait>(&self, rt: &R, value: T) -> Result<(), PushError<T>>
+    pub(crate) fn push<R: Wait>(&self, rt: &R, value: T) -> Result<(), PushError<T>>
         ensures { MayPush (Some 1) value result }
     {
-        seated::push(rt, &self.board.shared, &mut self.pass(), value)
+        seated::push(rt, &self.board.shared, &mut self.seat(), value)
     }
 
-    pub fn force_push<R: Wait>(&self, rt: &R, value: T) -> Result<Option<T>, ForcePushError<T>>
+    pub(crate) fn force_push<R: Wait>(
+        &self,
+        rt: &R,
+        value: T,
+    ) -> Result<Option<T>, ForcePushError<T>>
         ensures { MayForcePush (Some 1) value result }
     {
-        seated::force_push(rt, &self.board.shared, &mut self.pass(), value)
+        seated::force_push(rt, &self.board.shared, &mut self.seat(), value)
     }
 
     #[inline(always)]
-    pub fn pop<R: Wait>(&self, rt: &R) -> Result<T, PopError> {
-        seated::pop(rt, &self.board.shared, &mut self.pass())
+    pub(crate) fn pop<R: Wait>(&self, rt: &R) -> Result<T, PopError> {
+        seated::pop(rt, &self.board.shared, &mut self.seat())
     }
 
-    pub fn close(&self) -> bool {
-        seated::close(&self.board.shared, &mut self.pass())
+    pub(crate) fn close(&self) -> bool {
+        seated::close(&self.board.shared, &mut self.seat())
     }
 
-    pub fn len(&self) -> usize {
-        seated::len(&self.board.shared, &mut self.pass())
+    pub(crate) fn len(&self) -> usize {
+        seated::len(&self.board.shared, &mut self.seat())
     }
 
-    pub fn is_empty(&self) -> bool {
-        seated::is_empty(&self.board.shared, &mut self.pass())
+    pub(crate) fn is_empty(&self) -> bool {
+        seated::is_empty(&self.board.shared, &mut self.seat())
     }
 
-    pub fn is_full(&self) -> bool {
-        seated::is_full(&self.board.shared, &mut self.pass())
+    pub(crate) fn is_full(&self) -> bool {
+        seated::is_full(&self.board.shared, &mut self.seat())
     }
 
-    pub fn is_closed(&self) -> bool {
-        seated::is_closed(&self.board.shared, &mut self.pass())
+    pub(crate) fn is_closed(&self) -> bool {
+        seated::is_closed(&self.board.shared, &mut self.seat())
     }
 }

@@ -1,14 +1,21 @@
 //! What each kind of step on a single slot tells. These types are for the proofs alone.
-ghost use Rattle.concurrent_queue.specs.SlotRule.{began, looked, claimed, fetched, returned};
+ghost use Rattle.concurrent_queue.specs.SlotRule.{began, closed, looked, claimed, fetched, returned};
 
 use crate::slot_table::rule::Doing;
 use atomic_table::Play;
 
-/// The first load of a call, and the close.
+/// The first load of a call.
 pub struct Begin;
 
 impl<T> Play<Option<T>, Doing> for Begin {
     ghost then = { λ s m n m'. began m n m' };
+}
+
+/// The close.
+pub struct Shut;
+
+impl<T> Play<Option<T>, Doing> for Shut {
+    ghost then = { λ s m n m'. closed m n m' };
 }
 
 /// Another load.

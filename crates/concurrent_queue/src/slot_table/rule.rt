@@ -1,7 +1,7 @@
 //! What the table of a single slot keeps between any two steps, and what a seat at it knows.
 ghost use Rattle.concurrent_queue.specs.SlotRule.{SlotRule as Rule, doing};
 ghost use Rattle.concurrent_queue.specs.declared.slot_table.rule.Stage.TheVariants.{Idle};
-ghost use Rattle.std.specs.Prelude.{[]};
+ghost use Rattle.std.specs.Prelude.{[], false};
 
 use atomic_table::TableRule;
 use std::collections::LinkedList;
@@ -13,18 +13,19 @@ pub enum Stage {
     Reading,
 }
 
-/// What a seat knows: whether it has the slot, and the words that its steps in this call found, oldest first.
-/// No value of it is made.
+/// What a seat knows: whether it has the slot, whether a step of this or an earlier call of it found the slot closed or
+/// closed it, and the words that its steps in this call found, oldest first. No value of it is made.
 pub struct Doing {
     pub stage: Stage,
+    pub closed: bool,
     pub found: LinkedList<u64>,
 }
 
-/// The word and the slot agree, and one seat at most has the slot.
+/// The word and the slot agree, one seat at most has the slot, and what a seat knows to be closed has the mark.
 pub struct SlotRule;
 
 impl<T> TableRule<Option<T>, Doing, ()> for SlotRule {
     ghost holds = { λ _. Rule };
 
-    ghost first = { λ _. doing Idle [] };
+    ghost first = { λ _. doing Idle false [] };
 }

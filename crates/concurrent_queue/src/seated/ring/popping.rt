@@ -7,7 +7,7 @@ ghost use Rattle.queue_steps.specs.declared.steps.Reply.{Reply};
 ghost use Rattle.queue_steps.specs.declared.steps.Reply.TheVariants.{Done};
 ghost use Rattle.queue_steps.specs.declared.steps.bounded.Turn.TheVariants.{Head, Stamp, TailFor, Take, End};
 
-use crate::ring_table::moves::{self, Board, Pass, TAIL};
+use crate::ring_table::moves::{self, Board, Pass};
 use crossbeam_utils::Backoff;
 use queue_steps::PopError;
 use queue_steps::steps::Reply;
@@ -50,7 +50,7 @@ fn at_tail<T>(board: &Board<T>, pass: &mut Pass<T>, shape: Shape, head: u64) -> 
     ensures same { StaysFree pass.old pass.new }
     ensures on { PopsOn shape.capacity shape.mark (TailFor head) pass.old.me.0 result pass.new.me.0 }
 {
-    let found = moves::look(board, pass, TAIL);
+    let found = moves::look_at_tail(board, pass);
     steps::pop(shape, Turn::TailFor(head), found)
 }
 

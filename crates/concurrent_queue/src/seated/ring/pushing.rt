@@ -1,5 +1,5 @@
 //! `push` and `force_push` on a ring.
-ghost use Rattle.std.specs.Prelude.{◌≡◌, ℕ, ◌+◌, ◌*◌, Option, Some, None, [], ◌∷◌, ◌++◌, MatchResult};
+ghost use Rattle.std.specs.Prelude.{◌≡◌, ◌≢◌, ℕ, ◌+◌, ◌*◌, Option, Some, None, [], ◌∷◌, ◌++◌, true, MatchResult, IsOk, IsErr};
 ghost use Rattle.concurrent_queue.specs.Answered.{turns, PushSays, ForcePushSays};
 ghost use Rattle.concurrent_queue.specs.RingSeat.{IsFreeSeatOf, StaysFree, pushing, IsRefusal, PushStands, PushesOn, PushMade};
 ghost use Rattle.queue_steps.specs.RingTurns.{push_turn, force_push_turn};
@@ -8,7 +8,7 @@ ghost use Rattle.queue_steps.specs.declared.steps.Reply.{Reply};
 ghost use Rattle.queue_steps.specs.declared.steps.Reply.TheVariants.{Done};
 ghost use Rattle.queue_steps.specs.declared.steps.bounded.Turn.TheVariants.{Tail, Stamp, HeadFor, Append, Displace, Spend, End};
 
-use crate::ring_table::moves::{self, Board, HEAD, Pass};
+use crate::ring_table::moves::{self, Board, Pass};
 use crossbeam_utils::Backoff;
 use queue_steps::steps::Reply;
 use queue_steps::steps::bounded::{self as steps, Shape, Turn};
@@ -76,7 +76,7 @@ fn at_head<T>(board: &Board<T>, pass: &mut Pass<T>, shape: Shape, manner: Manner
     ensures same { StaysFree pass.old pass.new }
     ensures on { PushesOn manner shape.capacity shape.mark (HeadFor tail) pass.old.me.0 result pass.new.me.0 }
 {
-    let found = moves::look(board, pass, HEAD);
+    let found = moves::look_at_head(board, pass);
     next(manner, shape, Turn::HeadFor(tail), found)
 }
 
@@ -140,7 +140,7 @@ fn displace<T>(
     if found != head {
         return Err((steps::force_push(shape, Turn::Displace(tail), found), value));
     }
-    moves::advance(board, pass, shape.next(tail) - tail);
+    moves::advance(board, pass, tail, shape.next(tail));
     match moves::write(board, pass, shape.index(tail) as usize, tail + 1, value) {
         Some(oldest) => Ok(oldest),
         None => unreachable!(),
@@ -163,6 +163,7 @@ fn put_from<T, R: Wait>(
     requires stands { (turn ≡ turns (pushing manner shape.capacity shape.mark) Tail pass.old.me.0.found) × PushStands manner shape.capacity shape.mark turn pass.old.me.0 }
     ensures same { StaysFree pass.old pass.new }
     ensures made { PushMade manner shape.capacity shape.mark value pass.new.me.0.found result }
+    ensures stays_closed { IsOk result → pass.old.me.0.closed ≢ true }
 {
     let backoff = Backoff::new();
     let mut value = value;
@@ -202,7 +203,7 @@ fn push_at_once<T>(
 ) -> Result<(), (Turn, T)>
     requires { IsFreeSeatOf board.now shape pass.old }
     ensures same { StaysFree pass.old pass.new }
-    ensures made { MatchResult result (λ _. turns (pushing Plain shape.capacity shape.mark) Tail pass.new.me.0.found ≡ End Done) (λ e. (e.1 ≡ value) × (e.0 ≡ turns (pushing Plain shape.capacity shape.mark) Tail pass.new.me.0.found) × PushStands Plain shape.capacity shape.mark e.0 pass.new.me.0) }
+    ensures made { MatchResult result (λ _. (pass.old.me.0.closed ≢ true) × (turns (pushing Plain shape.capacity shape.mark) Tail pass.new.me.0.found ≡ End Done)) (λ e. (e.1 ≡ value) × (e.0 ≡ turns (pushing Plain shape.capacity shape.mark) Tail pass.new.me.0.found) × PushStands Plain shape.capacity shape.mark e.0 pass.new.me.0) }
 {
     let turn = begins(board, pass, shape, Manner::Plain);
     let Turn::Stamp(tail) = turn else {
@@ -227,6 +228,7 @@ pub fn push<T, R: Wait>(
     requires { IsFreeSeatOf board.now shape pass.old }
     ensures same { StaysFree pass.old pass.new }
     ensures answers { (reply : Reply) × (turns (push_turn shape.capacity shape.mark) Tail pass.new.me.0.found ≡ End reply) × PushSays value reply result }
+    ensures stays_closed { pass.old.me.0.closed ≡ true → IsErr result }
 {
     let (turn, value) = match push_at_once(board, pass, shape, value) {
         Ok(()) => return Ok(()),
@@ -255,6 +257,7 @@ pub fn force_push<T, R: Wait>(
     requires { IsFreeSeatOf board.now shape pass.old }
     ensures same { StaysFree pass.old pass.new }
     ensures answers { (reply : Reply) × (turns (force_push_turn shape.capacity shape.mark) Tail pass.new.me.0.found ≡ End reply) × ForcePushSays value reply result }
+    ensures stays_closed { pass.old.me.0.closed ≡ true → IsErr result }
 {
     let turn = begins(board, pass, shape, Manner::Forced);
     match put_from(rt, board, pass, shape, Manner::Forced, turn, value) {

@@ -1,7 +1,7 @@
-use Rattle.std.proofs.Common.{ap, sym, subst, ◌∙◌, ℕ, ◌≡◌, ◌≤◌, ◌+◌, ◌-◌, ◌∷◌, Some, arith}
+use Rattle.std.proofs.Common.{ap, sym, subst, ◌∙◌, ℕ, ◌-◌, ◌∷◌, Some, arith}
 use Rattle.queue_steps.specs.Ring.{IsPlaceWord, next_at}
 use Rattle.queue_steps.specs.declared.steps.bounded.Shape.{Shape}
-use Rattle.concurrent_queue.proofs.RingFaces.{place_before, next_above}
+use Rattle.concurrent_queue.proofs.RingFaces.{place_before}
 use Rattle.queue_steps.proofs.RingWords.{place_fits}
 use Rattle.concurrent_queue.proofs.seated.ring.pushing.displace.Goals as goal
 
@@ -10,26 +10,19 @@ next-requires g c =
     let shape = c.args.shape in let tail : ℕ = c.args.tail in
     subst (λ (lap : ℕ). IsPlaceWord shape.capacity shape.mark (tail - lap)) (sym c.lap.ensures) (place_before shape.capacity shape.mark shape.sound tail c.requires.stands.3 c.requires.stands.4)
 
-pub overflow_sub-next : goal.overflow_sub-next
-overflow_sub-next g c =
-    let shape = c.args.shape in let tail : ℕ = c.args.tail in
-    subst (λ (next : ℕ). tail ≤ next) (sym c.next-2.ensures) (next_above shape.capacity shape.mark shape.sound tail)
+pub advance-requires-clause-seen : goal.advance-requires-clause-seen
+advance-requires-clause-seen g c =
+    let did = c.displace-found.ensures.1.0 c.if-found-head.false in (
+      ap (λ m. m.0.stage) did.1,
+      sym (ap (λ m. m.0.word) did.1 ∙ c.requires.stands.1.1),
+    )
 
 pub advance-requires-clause-next : goal.advance-requires-clause-next
-advance-requires-clause-next g c =
-    let shape = c.args.shape in let tail : ℕ = c.args.tail in let next : ℕ = c.next-2.result in
-    let did = c.displace-found.ensures.1.0 c.if-found-head.false in
-    let word : c.displace-found.new.pass.me.0.word ≡ tail = ap (λ m. m.0.word) did.1 ∙ c.requires.stands.1.1 in
-    let above : tail ≤ next = subst (λ (z : ℕ). tail ≤ z) (sym c.next-2.ensures) (next_above shape.capacity shape.mark shape.sound tail) in
-    let whole : tail + (next - tail) ≡ next = omega arith in
-    ap (λ (w : ℕ). w + (next - tail)) word ∙ whole ∙ c.next-2.ensures ∙ ap (λ (z : Shape). next_at z.capacity z.mark tail) (sym c.requires.seat.3)
-    ∙ ap (next_at c.args.board.now.key.capacity c.args.board.now.key.mark) (sym word)
+advance-requires-clause-next g c = let tail : ℕ = c.args.tail in c.next-2.ensures ∙ ap (λ (z : Shape). next_at z.capacity z.mark tail) (sym c.requires.seat.3)
 
 pub advance-requires-clause-place : goal.advance-requires-clause-place
 advance-requires-clause-place g c =
-    let did = c.displace-found.ensures.1.0 c.if-found-head.false in let tail : ℕ = c.args.tail in
-    let word : c.displace-found.new.pass.me.0.word ≡ tail = ap (λ m. m.0.word) did.1 ∙ c.requires.stands.1.1 in
-    subst (λ (w : ℕ). IsPlaceWord c.args.board.now.key.capacity c.args.board.now.key.mark w) (sym word) (subst (λ (z : Shape). IsPlaceWord z.capacity z.mark tail) (sym c.requires.seat.3) c.requires.stands.4)
+    let tail : ℕ = c.args.tail in subst (λ (z : Shape). IsPlaceWord z.capacity z.mark tail) (sym c.requires.seat.3) c.requires.stands.4
 
 pub overflow_add-tail : goal.overflow_add-tail
 overflow_add-tail g c =
@@ -42,4 +35,4 @@ pub write-requires-clause-held : goal.write-requires-clause-held
 write-requires-clause-held g c =
     let did = c.displace-found.ensures.1.0 c.if-found-head.false in
     let place = c.requires.stands.1.2 ∙ sym c.index.ensures in
-    (Some did.0, ap (λ m. m.1) c.advance.ensures.1 ∙ ap (λ m. m.1) did.1 ∙ (λ i. (place i, Some did.0) ∷ (c.requires.seat.4 i)))
+    (Some did.0, ap (λ m. m.1) c.advance.ensures.1.0 ∙ ap (λ m. m.1) did.1 ∙ (λ i. (place i, Some did.0) ∷ (c.requires.seat.4 i)))

@@ -1,6 +1,6 @@
 use Rattle.std.proofs.Common.{sym, ◌∙◌, arith}
 use Rattle.queue_steps.proofs.RingRests.{head_place, counts, takes, queue_takes, items_first, first_value}
-use Rattle.queue_steps.proofs.bounded.BoundedRepresentation.pop.Goals as goal
+use Rattle.queue_steps.proofs.bounded.BoundedDrains.pop.Goals as goal
 
 pub take-requires-clause-place : goal.take-requires-clause-place
 take-requires-clause-place g c =

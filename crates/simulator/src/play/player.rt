@@ -1,8 +1,10 @@
 //! A machine, and what a script knows of it.
 
-ghost use Rattle.std.specs.Prelude.{◌≡◌, ℕ, ◌-◌, ◌^◌, ◌<◌, ◌++◌, [], ◌∷◌, OnOk, IfOk, map, length, drop, slice_index_or};
+ghost use Rattle.std.specs.Prelude.{◌≡◌, ℕ, ◌-◌, ◌^◌, ◌<◌, ◌++◌, [], ◌∷◌, Ok, OnOk, IfErr, IfOk, map, length, drop, slice_index_or};
 ghost use Rattle.std.specs.Option.{option_copied};
+ghost use Rattle.executor_core.specs.Refused.{IsRefused};
 ghost use Rattle.executor_model.specs.declared.event.Event.{Event};
+ghost use Rattle.executor_model.specs.Steps as steps;
 ghost use Rattle.script.specs.Names.{number_of};
 ghost use Rattle.simulator.specs.declared.moment.Moment.TheVariants.{Happened};
 ghost use Rattle.simulator.specs.Play as play;
@@ -54,6 +56,17 @@ fn push_events(moments: &mut Vec<Moment>, events: &[Event]) -> Result<(), AllocE
         moments.push(Moment::Happened(*event))?;
     }
     Ok(())
+}
+
+/// The machine runs this step alone.
+fn run_one(machine: &mut Machine, step: Step) -> Result<(), StepError>
+    ensures ok { OnOk result (steps.step machine.old step ≡ Ok machine.new) }
+    ensures err { IfErr result (λ e. (machine.new ≡ machine.old) × IsRefused machine.old step e) }
+{
+    match machine.run(&[step]) {
+        None => Ok(()),
+        Some((_, error)) => Err(error),
+    }
 }
 
 /// A party for each that a script may name, and the one that it doesn't name.
@@ -155,7 +168,7 @@ impl<'a> Player<'a> {
     {
         let before = self.machine.trace().len();
         self.tried.push(step)?;
-        match self.machine.step(step) {
+        match run_one(&mut self.machine, step) {
             Ok(()) => {
                 self.show(before)?;
                 Ok(true)

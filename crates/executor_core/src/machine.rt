@@ -10,7 +10,7 @@ ghost use Rattle.executor_model.specs.OutputKept.{OutputIsKept};
 ghost use Rattle.executor_model.specs.OutputOnce.{OutputGoesOnce};
 ghost use Rattle.executor_model.specs.Runs.{run_all};
 ghost use Rattle.executor_model.specs.World.{awaiter_of};
-ghost use Rattle.executor_laws.specs.Reach.{IsInReach};
+ghost use Rattle.executor_laws.specs.Reach.{IsInReach, IsReachedInOrder};
 ghost use Rattle.executor_core.specs.Views.{world_of, state_of, HasRoom, HasSpace};
 ghost use Rattle.executor_core.specs.Reached.{IsReached};
 ghost use Rattle.executor_core.specs.Refused.{IsRefused};
@@ -18,7 +18,7 @@ ghost use Rattle.executor_core.specs.Refused.{IsRefused};
 use crate::part::take_part;
 use crate::possible::{has_handle, part_refusal};
 use crate::store::Store;
-use executor_laws::laws::common_futures_are_in_reach;
+use executor_laws::laws::{arrival_order_needs_fewer_ticks, common_futures_are_in_reach};
 use executor_model::laws::outputs_are_kept;
 use executor_model::trace_laws::{
     awaiters_are_kept, closing_drops_each_future_once, drops_come_once, early_drops_have_causes,
@@ -168,6 +168,7 @@ impl Machine {
         ensures outputs_are_kept { (f : ℕ) → OutputIsKept self.new f }
         ensures awaiters_are_kept { (f : ℕ) → AwaiterIsKept f self.new.world.trace }
         ensures in_reach { IsInReach self.new }
+        ensures in_order { IsReachedInOrder self.new }
     {
         let refused = self.run_on(list);
         polls_are_lawful();
@@ -179,6 +180,7 @@ impl Machine {
         outputs_are_kept();
         awaiters_are_kept();
         common_futures_are_in_reach();
+        arrival_order_needs_fewer_ticks();
         refused
     }
 

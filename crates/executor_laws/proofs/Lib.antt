@@ -10,6 +10,7 @@ pub mod Reached
 pub mod LoneTicks
 pub mod LoneEnds
 pub mod Reaching
+pub mod LoneAnswers
 pub mod Queueing
 pub mod Growing
 pub mod Finding

@@ -33,7 +33,7 @@ run-append : (xs ys : List Step) (s : Machine) → run (xs ++ ys) s ≡ run ys (
 run-append [] ys s = refl
 run-append (x ∷ xs) ys s = run-append xs ys (stepped s (step s x))
 
-run-of : (ts : List Step) (s new : Machine) → run_all ts s ≡ Ok new → run ts s ≡ new
+pub run-of : (ts : List Step) (s new : Machine) → run_all ts s ≡ Ok new → run ts s ≡ new
 run-of [] s new e = cc
 run-of (t ∷ ts) s new e =
     let k : _ = run-first t ts s new e in

@@ -29,7 +29,7 @@ use Rattle.executor_model.proofs.Telling.{begun-has}
 use Rattle.executor_model.proofs.Entering.{table-agrees, queue-agrees}
 use Rattle.executor_model.proofs.AskingRuns.{Heard}
 use Rattle.executor_model.proofs.Resting.{rests}
-use Rattle.executor_laws.specs.Reach.{are_onward_of, IsLoneTick, LoneTick, AreLoneTicks, takes, TakesCommon, since, IsInReach}
+use Rattle.executor_laws.specs.Reach.{are_onward_of, IsLoneTick, LoneTick, AreLoneTicks, takes, TakesCommon, since, HasCommons, IsInReach, IsReachedInOrder}
 use Rattle.executor_laws.proofs.Ticking.{here, idle, due-queued, queued-due, ticking, taking, first-times}
 use Rattle.executor_laws.proofs.Reached.{Reached, run-first, reached-more, good-here, heard-here, deep-here}
 use Rattle.executor_laws.proofs.LoneEnds.{can-be-made}
@@ -37,7 +37,7 @@ use Rattle.executor_laws.proofs.LoneSteps.{Ended}
 use Rattle.executor_laws.proofs.LoneTicks.{left-true, in-range, of-party, after-is, stack-set, no-more, walks}
 
 -- what a lone tick leads to
-record First (f : ℕ) (xs : List ℕ) (p : ℕ) (s new : Machine) : Type 0 where
+pub record First (f : ℕ) (xs : List ℕ) (p : ℕ) (s new : Machine) : Type 0 where
   pub added : List ℕ
   pub queue : new.world.queue.items ≡ xs ++ added
   pub meanwhile : Trace
@@ -58,7 +58,7 @@ record Ticked (s new : Machine) : Type 0 where
   pub first : (f : ℕ) (xs : List ℕ) → s.world.queue.items ≡ f ∷ xs → Took f xs grown new
 
 -- the machine after the first Runnable was taken, if there is one
-abbrev searched : Machine → ℕ → List ℕ → Machine
+abbrev pub searched : Machine → ℕ → List ℕ → Machine
 searched s p items = with_part (ticking s p) p (onto p (take_by (ticking s p).world items) [])
 
 module _ (s : Machine) (r : Reached s) (rest : IsAtRest s) (p : ℕ) (steps : List Step) (new : Machine) (k : IsLoneTick p steps s new) where
@@ -121,7 +121,7 @@ module _ (s : Machine) (r : Reached s) (rest : IsAtRest s) (p : ℕ) (steps : Li
       let one : times f s.world.table ≡ 1 = (table-agrees s f fine all-heard.placed).entered (inl rest.there) (record { accepted = due.accepted; remains = inl due.undropped }) in
       ⊎_elim (λ (x : (among f s.world.table ≡ true) × (1 ≤ times f s.world.table)). x.0) (λ (x : (among f s.world.table ≡ false) × (times f s.world.table ≡ 0)). absurd (omega (arith, x.1, one))) (among_is f s.world.table)
 
-  first-taken : (f : ℕ) (xs : List ℕ) → s.world.queue.items ≡ f ∷ xs → First f xs p s new
+  pub first-taken : (f : ℕ) (xs : List ℕ) → s.world.queue.items ≡ f ∷ xs → First f xs p s new
   first-taken f xs q =
       let before : Trace = s.world.trace ++ event.CallBegun p call.TryTick ∷ [] in
       let took : run_all found.0 (searched s p (f ∷ xs)) ≡ Ok new = sym (ap (λ (items : List ℕ). run_all found.0 (searched s p items)) q) ∙ found.2 in
@@ -144,7 +144,7 @@ module _ (s : Machine) (r : Reached s) (rest : IsAtRest s) (p : ℕ) (steps : Li
       }
 
   -- nothing is there to be taken
-  none-found : s.world.queue.items ≡ [] → searched s p [] ≡ new
+  pub none-found : s.world.queue.items ≡ [] → searched s p [] ≡ new
   none-found q = no-more p found.0 (searched s p []) new (in-there (onto p (take_by (ticking s p).world []) [])) found.1 (sym (ap (λ (items : List ℕ). run_all found.0 (searched s p items)) q) ∙ found.2)
 
   at-rest : new.world.gone ≡ false → IsAtRest new
@@ -180,7 +180,7 @@ module _ (s : Machine) (r : Reached s) (rest : IsAtRest s) (p : ℕ) (steps : Li
           first-is f g xs ys e = cc
 
   -- the tick takes a future that was common
-  takes-common : (f : ℕ) → IsCommon f s.world.trace → TakesCommon p s new
+  pub takes-common : (f : ℕ) → IsCommon f s.world.trace → TakesCommon p s new
   takes-common f c = go s.world.queue.items refl
     where
       go : (items : List ℕ) → s.world.queue.items ≡ items → TakesCommon p s new
@@ -253,7 +253,7 @@ place f (g ∷ xs) k = ⊎_elim
 
 module _ (s : Machine) (r : Reached s) (rest : IsAtRest s) where
   -- the queue isn't longer than a list that has each common future
-  not-longer : (commons : List ℕ) → ((f : ℕ) → IsCommon f s.world.trace → 1 ≤ times f commons) → length s.world.queue.items ≤ length commons
+  not-longer : (commons : List ℕ) → HasCommons s.world.trace commons → length s.world.queue.items ≤ length commons
   not-longer commons k = no-longer s.world.queue.items commons (λ g. by g (times g s.world.queue.items) refl)
     where
       by : (g n : ℕ) → times g s.world.queue.items ≡ n → times g s.world.queue.items ≤ times g commons
@@ -262,7 +262,7 @@ module _ (s : Machine) (r : Reached s) (rest : IsAtRest s) where
           let due : IsDue g s.world.trace = queued-due s (good-here s r) (heard-here s r) (deep-here s r) rest g (omega (arith, e)) in
           omega (arith, (queue-agrees s g (good-here s r) (heard-here s r).placed).once, k g (record { due = due; unkept = refl }))
 
-  takes-all : (commons : List ℕ) → ((f : ℕ) → IsCommon f s.world.trace → 1 ≤ times f commons) → (ticks : List LoneTick) (new : Machine) → AreLoneTicks ticks s new → length commons ≤ length ticks → (f : ℕ) → IsCommon f s.world.trace → has (takes f) (since s new) ≡ true
+  takes-all : (commons : List ℕ) → HasCommons s.world.trace commons → (ticks : List LoneTick) (new : Machine) → AreLoneTicks ticks s new → length commons ≤ length ticks → (f : ℕ) → IsCommon f s.world.trace → has (takes f) (since s new) ≡ true
   takes-all commons k ticks new t l f c =
       let spot : Place f s.world.queue.items = place f s.world.queue.items (due-queued s (good-here s r) (heard-here s r) (deep-here s r) rest f c.due) in
       let x : Takes f s new = takes-place ticks s new r rest spot.front f spot.back spot.is (omega (arith, l, not-longer commons k, ap length spot.is, length-append spot.front (f ∷ spot.back))) t in
@@ -271,9 +271,13 @@ module _ (s : Machine) (r : Reached s) (rest : IsAtRest s) where
 in-reach : (s : Machine) → Reached s → IsInReach s
 in-reach s r = record {
   each = λ rest f c p steps new k. takes-common s r rest p steps new k f c;
-  all = λ rest commons k ticks new t l f c. takes-all s r rest commons k ticks new t l f c;
+  all = λ rest commons k ticks new t comings m l f c. takes-all s r rest commons k ticks new t (omega (arith, l)) f c;
   can = λ rest p l. can-be-made s r rest p l;
 }
 
 pub reaches : (limit parties : ℕ) (steps : List Step) → IsInReach (run steps (start limit parties))
 reaches limit parties steps = in-reach (run steps (start limit parties)) (record { limit = limit; parties = parties; steps = steps; is = refl })
+
+pub reaches-in-order : (limit parties : ℕ) (steps : List Step) → IsReachedInOrder (run steps (start limit parties))
+reaches-in-order limit parties steps = λ rest commons k ticks new t l f c.
+    takes-all (run steps (start limit parties)) (record { limit = limit; parties = parties; steps = steps; is = refl }) rest commons k ticks new t l f c

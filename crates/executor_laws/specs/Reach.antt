@@ -1,5 +1,7 @@
 -- Which futures are reached by ticks that are called alone.
-use Rattle.std.specs.Prelude.{◌≡◌, ◌==◌, ℕ, ◌≤◌, ◌<◌, Bool, true, false, ◌&&◌, ◌||◌, Ok, List, [], ◌∷◌, ◌++◌, length, drop}
+use Rattle.std.specs.Prelude.{◌≡◌, ◌==◌, ℕ, suc, ◌+◌, ◌≤◌, ◌<◌, Bool, true, false, ◌&&◌, ◌||◌, Ok, List, [], ◌∷◌, ◌++◌, length, drop, take}
+use Rattle.std.specs.List.{list_any}
+use Rattle.executor_model.specs.declared.call.Call.{Call}
 use Rattle.executor_model.specs.declared.call.Call.TheVariants.{TryTick}
 use Rattle.executor_model.specs.declared.call.Reply.TheVariants.{Yes}
 use Rattle.executor_model.specs.declared.event.Event.{Event}
@@ -24,12 +26,15 @@ abbrev pub are_onward_of : ℕ → List Step → Bool
 are_onward_of p [] = true
 are_onward_of p (t ∷ ts) = is_onward_of p t && are_onward_of p ts
 
--- a whole tick of party p: it begins, goes on by these steps and has ended. No other party takes a step, and the user code in it answers as it
+-- a whole call of party p: it begins, goes on by these steps and has ended. No other party takes a step, and the user code in it answers as it
 -- likes, but begins no call
-pub record IsLoneTick (p : ℕ) (steps : List Step) (s new : Machine) : Type 0 where
-  pub made : run_all (Begin p TryTick ∷ steps) s ≡ Ok new
+pub record IsLoneCall (p : ℕ) (c : Call) (steps : List Step) (s new : Machine) : Type 0 where
+  pub made : run_all (Begin p c ∷ steps) s ≡ Ok new
   pub alone : are_onward_of p steps ≡ true
   pub ended : IsQuiet new.world.trace
+
+abbrev pub IsLoneTick : ℕ → List Step → Machine → Machine → Type 0
+IsLoneTick p steps s new = IsLoneCall p TryTick steps s new
 
 -- a party, and the steps by which it goes on with a tick
 pub record LoneTick : Type 0 where
@@ -57,11 +62,39 @@ pub record TakesCommon (p : ℕ) (s new : Machine) : Type 0 where
 abbrev pub since : Machine → Machine → Trace
 since s new = drop (length s.world.trace) new.world.trace
 
--- while some future is common, each lone tick takes one that is; and as many lone ticks as futures were common at their start take each of those.
--- Each party can make one
+-- the list has each future that is common
+abbrev pub HasCommons : Trace → List ℕ → Type 0
+HasCommons trace commons = (f : ℕ) → IsCommon f trace → 1 ≤ times f commons
+
+-- future f becomes common by the event at this place
+pub record BecomesCommon (f place : ℕ) (trace : Trace) : Type 0 where
+  pub within : place < length trace
+  pub before : ¬ IsCommon f (take place trace)
+  pub after : IsCommon f (take (suc place) trace)
+
+-- a future that becomes common, and the place of the event by which it does
+pub record Coming : Type 0 where
+  pub future : ℕ
+  pub place : ℕ
+
+abbrev pub is_coming : ℕ → ℕ → Coming → Bool
+is_coming f place c = c.future == f && c.place == place
+
+-- the list has each future that becomes common behind so many events, each time
+abbrev pub HasComings : ℕ → Trace → List Coming → Type 0
+HasComings from trace comings = (f place : ℕ) → from ≤ place → BecomesCommon f place trace → list_any (is_coming f place) comings ≡ true
+
+-- while some future is common, each lone tick takes one that is; so a list of them as long as the futures that are common at its start and those that
+-- become common in it, each time counted, takes each that is common at its start. Each party can make one
 pub record IsInReach (s : Machine) : Type 0 where
   pub each : IsAtRest s → (f : ℕ) → IsCommon f s.world.trace → (p : ℕ) (steps : List Step) (new : Machine) → IsLoneTick p steps s new → TakesCommon p s new
-  pub all : IsAtRest s → (commons : List ℕ) → ((f : ℕ) → IsCommon f s.world.trace → 1 ≤ times f commons) →
-      (ticks : List LoneTick) (new : Machine) → AreLoneTicks ticks s new → length commons ≤ length ticks →
+  pub all : IsAtRest s → (commons : List ℕ) → HasCommons s.world.trace commons → (ticks : List LoneTick) (new : Machine) → AreLoneTicks ticks s new →
+      (comings : List Coming) → HasComings (length s.world.trace) new.world.trace comings → length commons + length comings ≤ length ticks →
       (f : ℕ) → IsCommon f s.world.trace → has (takes f) (since s new) ≡ true
   pub can : IsAtRest s → (p : ℕ) → p < length s.parties → (steps : List Step) × (new : Machine) × IsLoneTick p steps s new
+
+-- the queue is first in, first out, so as many lone ticks as futures are common at their start take each of those, whatever becomes common meanwhile
+abbrev pub IsReachedInOrder : Machine → Type 0
+IsReachedInOrder s = IsAtRest s → (commons : List ℕ) → HasCommons s.world.trace commons →
+    (ticks : List LoneTick) (new : Machine) → AreLoneTicks ticks s new → length commons ≤ length ticks →
+    (f : ℕ) → IsCommon f s.world.trace → has (takes f) (since s new) ≡ true

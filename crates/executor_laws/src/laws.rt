@@ -4,7 +4,8 @@ ghost use Rattle.executor_laws.specs.AtOnce.{NoComesAtOnce};
 ghost use Rattle.executor_laws.specs.AtRest.{EmptinessIsExact, TicksAreExact};
 ghost use Rattle.executor_laws.specs.Continued.{IsContinued};
 ghost use Rattle.executor_laws.specs.Queueings.{CountsQueueings};
-ghost use Rattle.executor_laws.specs.Reach.{IsInReach};
+ghost use Rattle.executor_laws.specs.LoneAnswers.{IsLoneEmptinessExact, IsLoneTickExact};
+ghost use Rattle.executor_laws.specs.Reach.{IsInReach, IsReachedInOrder};
 ghost use Rattle.executor_laws.specs.Remaining.{EndsWithin, GoesOn, LowersRemaining};
 ghost use Rattle.executor_laws.specs.Ticks.{IsTickExact};
 ghost use Rattle.executor_model.specs.declared.step.Step.{Step};
@@ -29,10 +30,26 @@ pub fn ticks_are_exact()
 
 /// In reach. Where no call is in progress, the drop of the executor hasn't begun and some future is common,
 /// each tick that is called alone, whatever user code answers in it, is answered that it found a future, and
-/// begins the poll or the drop of one that was common. As many such ticks as futures were common at their
-/// start begin the poll or the drop of each of those. Each party can make such a tick.
+/// begins the poll or the drop of one that was common. So a list of such ticks, as long as the futures
+/// that are common at its start and those that become common in it, each time counted, begins the poll or
+/// the drop of each that is common at its start. Each party can make such a tick.
 pub fn common_futures_are_in_reach()
     ensures { EveryMachine IsInReach }
+{}
+
+/// The queue is first in, first out: as many ticks called alone as futures are common at their start begin
+/// the poll or the drop of each of those, whatever becomes common meanwhile.
+pub fn arrival_order_needs_fewer_ticks()
+    ensures { EveryMachine IsReachedInOrder }
+{}
+
+/// Where no call is in progress and the drop of the executor hasn't begun, a whole call that a party makes
+/// alone, whatever user code answers in it, is answered as it is. A tick is answered no exactly where no
+/// future is common, and else yes. Who asks whether the executor is empty is answered yes exactly where
+/// each accepted future is dropped, and else no.
+pub fn lone_calls_are_exact()
+    ensures ticks { EveryMachine IsLoneTickExact }
+    ensures emptiness { EveryMachine IsLoneEmptinessExact }
 {}
 
 /// No more Runnables are queued than steps taken. As long as fewer than 2^61 were queued, the queue of the

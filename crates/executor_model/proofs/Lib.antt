@@ -30,6 +30,7 @@ pub mod Calls
 pub mod Resting
 pub mod Quieting
 pub mod Unasking
+pub mod Refusing
 pub mod Keeping
 pub mod KeepingActs
 pub mod KeepingRuns

@@ -36,7 +36,7 @@ use Rattle.executor_model.specs.Memory.{may_refuse, takes_no_memory, AsksForNone
 use Rattle.executor_model.specs.Steps.{begun, react, kept, with_future}
 
 -- two parts that ask for none
-both : (xs ys : List Op) → AsksForNone xs → AsksForNone ys → AsksForNone (xs ++ ys)
+pub both : (xs ys : List Op) → AsksForNone xs → AsksForNone ys → AsksForNone (xs ++ ys)
 both xs ys a b = list_any-append may_refuse xs ys ∙ (ap (λ (x : Bool). x || list_any may_refuse ys) a ∙ b)
 
 none-scheduled : (f : ℕ) (i : Option ScheduleInfo) → AsksForNone (schedule_ops f i)
@@ -53,7 +53,7 @@ none-output : (b : Bool) (f : ℕ) → AsksForNone (output_ops b f)
 none-output true f = refl
 none-output false f = refl
 
-none-awaiter : (f : ℕ) (d : Option AwaiterDebt) → AsksForNone (awaiter_ops f d)
+pub none-awaiter : (f : ℕ) (d : Option AwaiterDebt) → AsksForNone (awaiter_ops f d)
 none-awaiter f None = refl
 none-awaiter f (Some debt.NotifyAwaiter) = refl
 none-awaiter f (Some debt.NotifyOther) = refl

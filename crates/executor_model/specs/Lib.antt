@@ -20,6 +20,7 @@ pub mod Limit
 pub mod AskedPolls
 pub mod Emptiness
 pub mod Memory
+pub mod Refusals
 pub mod OutputKept
 pub mod AwaiterKept
 pub mod HandingOn

@@ -7,6 +7,7 @@ ghost use Rattle.executor_model.specs.HandingOn.{HandsOn, IsOnItsWay};
 ghost use Rattle.executor_model.specs.Limit.{IsLimitExact};
 ghost use Rattle.executor_model.specs.Memory.{NeedsNoMemory};
 ghost use Rattle.executor_model.specs.OutputKept.{OutputIsKept};
+ghost use Rattle.executor_model.specs.Refusals.{IsWantToldOf, RefusedChangesNothing};
 ghost use Rattle.executor_model.specs.Runs.{EveryMachine, EveryRun, HasOneRunnable, IsCounted};
 ghost use Rattle.executor_model.specs.World.{World};
 
@@ -61,6 +62,18 @@ pub fn quiet_emptiness_is_exact()
 /// memory is refused or not. So no wake, cancel, detach or drop is ever refused, nor is a tick.
 pub fn wakes_and_drops_take_no_memory()
     ensures { (w : World) (p : ℕ) → NeedsNoMemory w p }
+{}
+
+/// A refused call changes nothing but that the trace has its beginning and its end: none of what a party
+/// does from the call's beginning to the refusal does.
+pub fn refused_calls_change_nothing()
+    ensures { (w : World) (p : ℕ) → RefusedChangesNothing w p }
+{}
+
+/// A call is answered that memory is wanted only where the hint of its step says so, or where a waker would
+/// be copied of a task that has 2^40 references.
+pub fn want_of_memory_is_told_of()
+    ensures { (w : World) (p : ℕ) → IsWantToldOf w p }
 {}
 
 /// Where no call is in progress, an output that is there is given to the next poll of the handle: if the future

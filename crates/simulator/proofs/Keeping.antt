@@ -35,7 +35,7 @@ use Rattle.simulator.specs.declared.play.future.Stage.{Stage}
 use Rattle.simulator.specs.declared.play.future.Stage.TheVariants as stage
 use Rattle.simulator.specs.declared.play.party.Doing.{Doing}
 use Rattle.simulator.specs.Play as play
-use Rattle.simulator.specs.Play.{Player, plain_at, party, set_party, future, set_future, top, tried, taken, shown, noted, accepted, accepted_by, accepted_as, made, kept_at, last, later, ended}
+use Rattle.simulator.specs.Play.{Player, plain_at, party, set_party, future, set_future, top, tried, taken, shown, noted, accepted, accepted_by, accepted_as, replied, kept_at, refused_at, unkept_by, item_of, last, later, ended}
 use Rattle.simulator.specs.Turn as turns
 use Rattle.simulator.specs.Commands as commands
 use Rattle.simulator.specs.ScriptText.{happened}
@@ -97,16 +97,27 @@ learns-kept (Some (op.Poll f)) s = record { machine = refl; tried = refl; moment
 learns-kept None s = own s
 learns-kept (Some _) s = own s
 
-learns-made : (r : Reply) (p : ℕ) (s : Player) → Same s (made r p s)
-learns-made reply.Made p s = learns-kept (top s p) s
-learns-made _ p s = own s
+learns-unkept : (i : Item) (f : ℕ) (s : Player) → Same s (unkept_by i f s)
+learns-unkept item.Keep f s = record { machine = refl; tried = refl; moments = refl }
+learns-unkept _ f s = own s
+
+learns-refused : (o : Option Op) (s : Player) → Same s (refused_at o s)
+unfolding refused_at
+learns-refused (Some (op.Poll f)) s = learns-unkept (item_of s f) f s
+learns-refused None s = own s
+learns-refused (Some _) s = own s
+
+learns-replied : (r : Reply) (p : ℕ) (s : Player) → Same s (replied r p s)
+learns-replied reply.Made p s = learns-kept (top s p) s
+learns-replied reply.NoMemory p s = learns-refused (top s p) s
+learns-replied _ p s = own s
 
 learns : (o : Option Event) (s : Player) → Same s (noted o s)
 unfolding noted
 learns (Some (event.Accepted p f)) s = learns-accepted (party s p).doing s
 learns (Some (event.CallEnded p r)) s =
     let here : Player = set_party p (record (party s p) { reply = r }) s in
-    let m : Same here (made r p here) = learns-made r p here in
+    let m : Same here (replied r p here) = learns-replied r p here in
     record { machine = m.machine; tried = m.tried; moments = m.moments }
 learns None s = own s
 learns (Some _) s = own s

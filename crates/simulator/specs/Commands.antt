@@ -38,8 +38,28 @@ abbrev pub unheld : Player → Option ℕ → Option ℕ
 unheld s (Some f) = if (future s f).held then None else Some f
 unheld s None = None
 
+-- a command on the handle of the future of this name
+abbrev pub is_on_handle : List ℕ → Option Plain → Bool
+is_on_handle name (Some (plain.Poll other)) = bytes_eq other name
+is_on_handle name (Some (plain.Cancel other)) = bytes_eq other name
+is_on_handle name (Some (plain.Detach other)) = bytes_eq other name
+is_on_handle name (Some (plain.Drop other)) = bytes_eq other name
+is_on_handle name _ = false
+
+abbrev pub is_using_by : Player → List ℕ → Option Doing → Bool
+is_using_by s name (Some doing) = is_on_handle name (plain_at s doing.command)
+is_using_by s name None = false
+
+abbrev pub is_using : Player → List ℕ → Party → Bool
+is_using s name x = is_using_by s name x.doing
+
+-- a command holds the handle that it speaks of until it has ended, between its calls too
+abbrev pub is_used : Player → List ℕ → Bool
+is_used s name = list_any (λ x. is_using s name x) s.parties
+
+-- the handle of the future of this name, where neither another future nor a command holds it
 abbrev pub handle_of : Player → List ℕ → Option ℕ
-handle_of s name = unheld s (number_of s.names name)
+handle_of s name = if is_used s name then None else unheld s (number_of s.names name)
 
 abbrev pub is_spawn_of : List ℕ → Option Plain → Bool
 is_spawn_of name (Some (plain.Spawn other items)) = bytes_eq other name

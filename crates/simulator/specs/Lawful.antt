@@ -1,25 +1,31 @@
--- What holds of the trace of every script, in the words of the machine's laws.
+-- What holds of the machine of every script, and of its trace, in the words of the machine's laws.
 use Rattle.std.specs.Prelude.{ℕ}
 use Rattle.executor_laws.specs.AtOnce.{NoComesAtOnce}
 use Rattle.executor_laws.specs.AtRest.{EmptinessIsExact, TicksAreExact}
+use Rattle.executor_laws.specs.Reach.{IsInReach}
 use Rattle.executor_model.specs.AskedPolls.{IsWokenBetweenPolls}
 use Rattle.executor_model.specs.AwaiterKept.{AwaiterIsKept}
 use Rattle.executor_model.specs.DroppedOnce.{DropComesOnce, IsDroppedByTheEnd}
 use Rattle.executor_model.specs.EarlyDrop.{EarlyDropHasCause}
 use Rattle.executor_model.specs.LawfulPolls.{HasLawfulPolls}
+use Rattle.executor_model.specs.OutputKept.{OutputIsKept}
 use Rattle.executor_model.specs.OutputOnce.{OutputGoesOnce}
-use Rattle.executor_model.specs.Trace.{Trace}
+use Rattle.executor_model.specs.Steps.{Machine}
 
-pub record IsLawful (trace : Trace) : Type 0 where
-  pub polls : (f : ℕ) → HasLawfulPolls f trace
-  pub wakes : (f : ℕ) → IsWokenBetweenPolls f trace
-  pub outputs : (f : ℕ) → OutputGoesOnce f trace
-  pub drops : (f : ℕ) → DropComesOnce f trace
-  pub causes : (f : ℕ) → EarlyDropHasCause f trace
-  pub by_the_end : (f : ℕ) → IsDroppedByTheEnd f trace
-  pub awaiters : (f : ℕ) → AwaiterIsKept f trace
+pub record IsLawful (s : Machine) : Type 0 where
+  pub polls : (f : ℕ) → HasLawfulPolls f s.world.trace
+  pub wakes : (f : ℕ) → IsWokenBetweenPolls f s.world.trace
+  pub outputs : (f : ℕ) → OutputGoesOnce f s.world.trace
+  pub drops : (f : ℕ) → DropComesOnce f s.world.trace
+  pub causes : (f : ℕ) → EarlyDropHasCause f s.world.trace
+  pub by_the_end : (f : ℕ) → IsDroppedByTheEnd f s.world.trace
+  pub awaiters : (f : ℕ) → AwaiterIsKept f s.world.trace
   -- the answers of each party's calls that begin at rest
-  pub ticks : (p : ℕ) → TicksAreExact p trace
-  pub emptiness : (p : ℕ) → EmptinessIsExact p trace
+  pub ticks : (p : ℕ) → TicksAreExact p s.world.trace
+  pub emptiness : (p : ℕ) → EmptinessIsExact p s.world.trace
   -- and no party is answered no but at once
-  pub at_once : (p : ℕ) → NoComesAtOnce p trace
+  pub at_once : (p : ℕ) → NoComesAtOnce p s.world.trace
+  -- an output that is there is given to the next poll of the handle that is made alone
+  pub kept : (f : ℕ) → OutputIsKept s f
+  -- each future that is common is in reach of ticks that are called alone
+  pub in_reach : IsInReach s

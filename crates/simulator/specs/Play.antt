@@ -15,6 +15,7 @@ use Rattle.script.specs.declared.command.Command.{Command}
 use Rattle.script.specs.declared.command.Command.TheVariants as command
 use Rattle.script.specs.declared.command.Request.{Request}
 use Rattle.script.specs.declared.item.Item.{Item}
+use Rattle.script.specs.declared.item.Item.TheVariants as item
 use Rattle.script.specs.declared.plain.Plain.{Plain}
 use Rattle.script.specs.declared.plain.Plain.TheVariants as plain
 use Rattle.script.specs.declared.word.Word.{Word}
@@ -107,26 +108,41 @@ unfoldable pub accepted : Option Doing → Player → Player
 accepted None s = s
 accepted (Some doing) s = accepted_by (plain_at s doing.command) doing.command s
 
--- the new waker is kept, and the one that was kept before is to be let go
+-- the waker that was kept before is to be let go
 abbrev pub replacing : Option ℕ → Stage → Stage
 replacing None before = before
 replacing (Some old) before = stage.Replaced old
 
-abbrev pub keeping : ℕ → Future → Future
-keeping waker x = record x { stage = replacing x.kept x.stage; kept = Some waker }
+-- the new waker is kept in its place, or none
+abbrev pub keeping : Option ℕ → Future → Future
+keeping waker x = record x { stage = replacing x.kept x.stage; kept = waker }
 
 -- a waker was made in a poll
 unfoldable pub kept_at : Option Op → Player → Player
-kept_at (Some (op.Poll f)) s = set_future f (keeping (length s.machine.world.wakers - 1) (future s f)) s
+kept_at (Some (op.Poll f)) s = set_future f (keeping (Some (length s.machine.world.wakers - 1)) (future s f)) s
 kept_at _ s = s
 
-abbrev pub made : Reply → ℕ → Player → Player
-made reply.Made p s = kept_at (top s p) s
-made _ p s = s
+-- what future f does at its next poll, or in the poll that has begun
+abbrev pub item_of : Player → ℕ → Item
+item_of s f = slice_index_or (items_at s (future s f).command) (future s f).next item.Pend
+
+abbrev pub unkept_by : Item → ℕ → Player → Player
+unkept_by item.Keep f s = set_future f (keeping None (future s f)) s
+unkept_by _ f s = s
+
+-- a call was refused in a poll: where it was the copy of a waker to be kept, none is kept
+unfoldable pub refused_at : Option Op → Player → Player
+refused_at (Some (op.Poll f)) s = unkept_by (item_of s f) f s
+refused_at _ s = s
+
+abbrev pub replied : Reply → ℕ → Player → Player
+replied reply.Made p s = kept_at (top s p) s
+replied reply.NoMemory p s = refused_at (top s p) s
+replied _ p s = s
 
 unfoldable pub noted : Option Event → Player → Player
 noted (Some (event.Accepted p f)) s = accepted (party s p).doing s
-noted (Some (event.CallEnded p r)) s = made r p (set_party p (record (party s p) { reply = r }) s)
+noted (Some (event.CallEnded p r)) s = replied r p (set_party p (record (party s p) { reply = r }) s)
 noted _ s = s
 
 -- the last one, where there is one

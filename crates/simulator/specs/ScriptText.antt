@@ -17,12 +17,12 @@ happened (Happened event ∷ moments) = event ∷ happened moments
 happened (Ended word outcome ∷ moments) = happened moments
 
 -- the commands were played to this end: its machine is what the steps that were tried make of a new one, of ten parties, what it
--- shows is all that happened to the machine, in order, and that keeps to the laws
+-- shows is all that happened to the machine, in order, and the machine keeps to the laws
 pub record IsPlayed (limit : ℕ) (commands : List Command) (last : Player) : Type 0 where
   pub plays : PlaysAll 0 commands (start commands limit) last
   pub made : steps.run last.tried (steps.start limit 10) ≡ last.machine
   pub shown : happened last.moments ≡ last.machine.world.trace
-  pub lawful : IsLawful last.machine.world.trace
+  pub lawful : IsLawful last.machine
 
 -- the text of the moments of such a play
 abbrev pub IsTextOf : ℕ → List Command → List ℕ → Type 0

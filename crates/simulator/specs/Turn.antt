@@ -30,7 +30,7 @@ use Rattle.simulator.specs.declared.play.future.Stage.{Stage}
 use Rattle.simulator.specs.declared.play.future.Stage.TheVariants as stage
 use Rattle.simulator.specs.declared.play.future.Future.{Future}
 use Rattle.simulator.specs.declared.play.party.Doing.{Doing}
-use Rattle.simulator.specs.Play.{Player, request_at, plain_at, items_at, future, set_future, party, set_party, top, ended, tried}
+use Rattle.simulator.specs.Play.{Player, request_at, plain_at, items_at, item_of, future, set_future, party, set_party, top, ended, tried}
 
 -- the waker that the poll of f's handle was given
 unfoldable pub given : ℕ → Waker → Player → Player
@@ -118,7 +118,7 @@ poll_by (item.Twice name) st p f s = poll_named (number_of s.names name) p f s
 poll_by _ st p f s = end_pending p f s
 
 unfoldable pub poll : ℕ → ℕ → Player → Player
-poll p f s = poll_by (slice_index_or (items_of s f) (future s f).next item.Pend) (future s f).stage p f s
+poll p f s = poll_by (item_of s f) (future s f).stage p f s
 
 -- drops: a future lets go of the handles that it holds, in the order of its items
 

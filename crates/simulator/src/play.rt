@@ -15,7 +15,10 @@ ghost use Rattle.simulator.specs.ScriptText.{IsPlayed};
 use crate::moment::Moment;
 use crate::play::player::Player;
 use executor_core::Machine;
-use executor_laws::laws::{calls_at_rest_are_exact, no_comes_at_once, traces_continue};
+use executor_laws::laws::{
+    calls_at_rest_are_exact, common_futures_are_in_reach, no_comes_at_once, traces_continue,
+};
+use executor_model::laws::outputs_are_kept;
 use executor_model::trace_laws::{
     awaiters_are_kept, closing_drops_each_future_once, drops_come_once, early_drops_have_causes,
     outputs_go_once, polls_are_asked_for, polls_are_lawful,
@@ -47,9 +50,9 @@ pub fn run(alloc: Global, limit: u64, commands: &[Command]) -> Result<Played, Al
     Ok(player.into_played())
 }
 
-/// The laws of every list of steps hold of what a machine shows. Does nothing.
+/// The laws of every list of steps hold of a machine. Does nothing.
 fn keeps_to_laws(machine: &Machine)
-    ensures { IsLawful machine.now.world.trace }
+    ensures { IsLawful machine.now }
 {
     polls_are_lawful();
     polls_are_asked_for();
@@ -60,5 +63,7 @@ fn keeps_to_laws(machine: &Machine)
     awaiters_are_kept();
     calls_at_rest_are_exact();
     no_comes_at_once();
+    outputs_are_kept();
+    common_futures_are_in_reach();
     machine.is_reached();
 }

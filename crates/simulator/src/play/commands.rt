@@ -165,12 +165,47 @@ impl<'a> Player<'a> {
         self.future(self.number_of(name)?).kept
     }
 
-    /// The future of this name, whose handle no other future holds.
+    /// The future of this name, whose handle neither another future nor a command holds.
     fn handle_of(&self, name: Name) -> Option<u64>
         ensures { result ≡ commands.handle_of self.now name }
     {
-        let f = self.number_of(name)?;
+        if self.is_used(name) {
+            None
+        } else {
+            self.unheld(self.number_of(name))
+        }
+    }
+
+    /// The future, whose handle no other future holds.
+    fn unheld(&self, f: Option<u64>) -> Option<u64>
+        ensures { result ≡ commands.unheld self.now f }
+    {
+        let f = f?;
         if self.future(f).held { None } else { Some(f) }
+    }
+
+    /// A party has begun a command on the handle of the future of this name, and not ended it.
+    fn is_used(&self, name: Name) -> bool
+        ensures { result ≡ commands.is_used self.now name }
+    {
+        self.parties.iter().any(|party| self.is_using(name, *party))
+    }
+
+    fn is_using(&self, name: Name, party: Party) -> bool
+        ensures { result ≡ commands.is_using self.now name party }
+    {
+        match party.doing {
+            Some(doing) => match self.plain_at(doing.command) {
+                Some(
+                    Plain::Poll(other)
+                    | Plain::Cancel(other)
+                    | Plain::Detach(other)
+                    | Plain::Drop(other),
+                ) => *other == name,
+                _ => false,
+            },
+            None => false,
+        }
     }
 
     /// No future has this name, and none is about to have it.

@@ -55,8 +55,8 @@ impl Future {
         }
     }
 
-    /// A new waker is kept, and the one that was kept before is to be let go.
-    pub fn keep(self, waker: u64) -> Future
+    /// This waker is kept, or none, and the one that was kept before is to be let go.
+    pub fn keep(self, waker: Option<u64>) -> Future
         ensures { result ≡ play.keeping waker self }
     {
         let stage = match self.kept {
@@ -65,7 +65,7 @@ impl Future {
         };
         Future {
             stage,
-            kept: Some(waker),
+            kept: waker,
             ..self
         }
     }

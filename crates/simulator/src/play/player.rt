@@ -1,8 +1,10 @@
 //! A machine, and what a script knows of it.
 
-ghost use Rattle.std.specs.Prelude.{◌≡◌, ℕ, ◌-◌, ◌^◌, ◌<◌, ◌++◌, [], ◌∷◌, OnOk, IfOk, map, length, drop};
+ghost use Rattle.std.specs.Prelude.{◌≡◌, ℕ, ◌-◌, ◌^◌, ◌<◌, ◌++◌, [], ◌∷◌, Ok, OnOk, IfErr, IfOk, map, length, drop, slice_index_or};
 ghost use Rattle.std.specs.Option.{option_copied};
+ghost use Rattle.executor_core.specs.Refused.{IsRefused};
 ghost use Rattle.executor_model.specs.declared.event.Event.{Event};
+ghost use Rattle.executor_model.specs.Steps as steps;
 ghost use Rattle.script.specs.Names.{number_of};
 ghost use Rattle.simulator.specs.declared.moment.Moment.TheVariants.{Happened};
 ghost use Rattle.simulator.specs.Play as play;
@@ -54,6 +56,17 @@ fn push_events(moments: &mut Vec<Moment>, events: &[Event]) -> Result<(), AllocE
         moments.push(Moment::Happened(*event))?;
     }
     Ok(())
+}
+
+/// The machine runs this step alone.
+fn run_one(machine: &mut Machine, step: Step) -> Result<(), StepError>
+    ensures ok { OnOk result (steps.step machine.old step ≡ Ok machine.new) }
+    ensures err { IfErr result (λ e. (machine.new ≡ machine.old) × IsRefused machine.old step e) }
+{
+    match machine.run(&[step]) {
+        None => Ok(()),
+        Some((_, error)) => Err(error),
+    }
 }
 
 /// A party for each that a script may name, and the one that it doesn't name.
@@ -155,7 +168,7 @@ impl<'a> Player<'a> {
     {
         let before = self.machine.trace().len();
         self.tried.push(step)?;
-        match self.machine.step(step) {
+        match run_one(&mut self.machine, step) {
             Ok(()) => {
                 self.show(before)?;
                 Ok(true)
@@ -191,12 +204,22 @@ impl<'a> Player<'a> {
             Some(Event::CallEnded { party, reply }) => {
                 let here = self.party(party);
                 self.set_party(party, Party { reply, ..here });
-                if let Reply::Made = reply {
-                    self.keep(party);
-                }
+                self.learn(party, reply);
                 Ok(())
             }
             _ => Ok(()),
+        }
+    }
+
+    /// The party's call was answered so.
+    fn learn(&mut self, p: u32, reply: Reply)
+        ensures new { self.new ≡ play.replied reply p self.old }
+        ensures steps { self.new.tried ≡ self.old.tried }
+    {
+        match reply {
+            Reply::Made => self.keep(p),
+            Reply::NoMemory => self.keep_none(p),
+            _ => {}
         }
     }
 
@@ -208,8 +231,23 @@ impl<'a> Player<'a> {
     {
         if let Some(Op::Poll(f)) = self.top(p) {
             let waker = (self.machine.wakers() as u64).saturating_sub(1);
-            let future = self.future(f).keep(waker);
+            let future = self.future(f).keep(Some(waker));
             self.set_future(f, future);
+        }
+    }
+
+    /// A call was refused, where the party stands in a poll: if it was the copy of a waker that
+    /// was to be kept, none is kept.
+    #[tactic(auto, unfolding(crate::specs::Play::refused_at))]
+    fn keep_none(&mut self, p: u32)
+        ensures new { self.new ≡ play.refused_at (play.top self.old p) self.old }
+        ensures steps { self.new.tried ≡ self.old.tried }
+    {
+        if let Some(Op::Poll(f)) = self.top(p) {
+            if let Item::Keep = self.item_of(f) {
+                let future = self.future(f).keep(None);
+                self.set_future(f, future);
+            }
         }
     }
 
@@ -241,6 +279,14 @@ impl<'a> Player<'a> {
             Some(Plain::Spawn { items, .. }) => items.as_slice(),
             _ => &[],
         }
+    }
+
+    /// What the future does at its next poll, or in the poll that has begun.
+    pub fn item_of(&self, f: u64) -> Item
+        ensures { result ≡ play.item_of self.now f }
+    {
+        let future = self.future(f);
+        item_at(self.items_at(future.command), future.next)
     }
 
     /// The future that the party spawns was accepted.
@@ -275,6 +321,16 @@ impl<'a> Player<'a> {
     {
         self.moments.push(Moment::Ended { word, outcome })?;
         Ok(())
+    }
+}
+
+/// The item at this place.
+pub fn item_at(items: &[Item], place: usize) -> Item
+    ensures { result ≡ slice_index_or items.now place Item.Pend }
+{
+    match items.get(place) {
+        Some(item) => *item,
+        None => Item::Pend,
     }
 }
 

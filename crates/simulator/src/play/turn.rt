@@ -1,6 +1,6 @@
 //! What a party does next.
 
-ghost use Rattle.std.specs.Prelude.{◌≡◌, ℕ, ◌+◌, ◌^◌, ◌<◌, IfSome, OnOk, length, position, slice_index_or};
+ghost use Rattle.std.specs.Prelude.{◌≡◌, ℕ, ◌+◌, ◌^◌, ◌<◌, IfSome, OnOk, length, position};
 ghost use Rattle.script.specs.Names.{number_of};
 ghost use Rattle.simulator.specs.Play as play;
 ghost use Rattle.simulator.specs.Turn as turns;
@@ -8,7 +8,7 @@ ghost use Rattle.simulator.specs.Turn as turns;
 use crate::moment::Outcome;
 use crate::play::future::{Future, Stage, doubled};
 use crate::play::party::{Doing, Party};
-use crate::play::player::{Player, later};
+use crate::play::player::{Player, item_at, later};
 use executor_model::{Answer, By, Call, Hint, Op, Reply, Step, UserEnd, Waker};
 use script::{Item, Name, Plain, Word};
 use std::alloc::AllocError;
@@ -52,16 +52,6 @@ fn name_in(item: Item) -> Option<Name>
     match item {
         Item::Twice(name) => Some(name),
         _ => None,
-    }
-}
-
-/// The item at this place.
-fn item_at(items: &[Item], place: usize) -> Item
-    ensures { result ≡ slice_index_or items.now place Item.Pend }
-{
-    match items.get(place) {
-        Some(item) => *item,
-        None => Item::Pend,
     }
 }
 
@@ -233,9 +223,8 @@ impl<'a> Player<'a> {
         ensures new { OnOk result (self.new ≡ turns.poll p f self.old) }
         ensures grows { OnOk result (length self.old.tried < length self.new.tried) }
     {
-        let future = self.future(f);
-        let stage = future.stage;
-        match item_at(self.items_at(future.command), future.next) {
+        let stage = self.future(f).stage;
+        match self.item_of(f) {
             Item::Ready(value) => self.end_ready(p, f, value),
             Item::Twice(name) => match self.number_of(name) {
                 Some(g) => self.poll_other(p, f, g),

@@ -1,11 +1,13 @@
-use Rattle.executor_core.proofs.Reaching.{law_here}
+use Rattle.executor_core.proofs.Reaching.{law_here, machine_law_here, run_here}
 use Rattle.executor_laws.specs.AtOnce.{NoComesAtOnce}
 use Rattle.executor_laws.specs.AtRest.{EmptinessIsExact, TicksAreExact}
+use Rattle.executor_laws.specs.Reach.{IsInReach}
 use Rattle.executor_model.specs.AskedPolls.{IsWokenBetweenPolls}
 use Rattle.executor_model.specs.AwaiterKept.{AwaiterIsKept}
 use Rattle.executor_model.specs.DroppedOnce.{DropComesOnce, IsDroppedByTheEnd}
 use Rattle.executor_model.specs.EarlyDrop.{EarlyDropHasCause}
 use Rattle.executor_model.specs.LawfulPolls.{HasLawfulPolls}
+use Rattle.executor_model.specs.OutputKept.{OutputIsKept}
 use Rattle.executor_model.specs.OutputOnce.{OutputGoesOnce}
 use Rattle.simulator.proofs.play.keeps_to_laws.Goals as goal
 
@@ -23,4 +25,6 @@ returns c =
       ticks = law_here TicksAreExact c.calls_at_rest_are_exact.ensures.ticks _ reached;
       emptiness = law_here EmptinessIsExact c.calls_at_rest_are_exact.ensures.emptiness _ reached;
       at_once = law_here NoComesAtOnce c.no_comes_at_once.ensures _ reached;
+      kept = run_here OutputIsKept c.outputs_are_kept.ensures _ reached;
+      in_reach = machine_law_here IsInReach c.common_futures_are_in_reach.ensures _ reached;
     }

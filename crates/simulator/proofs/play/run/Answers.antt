@@ -40,7 +40,7 @@ returns c =
         plays = plays;
         made = comes.0;
         shown = comes.1;
-        lawful = subst (λ (x : Player). IsLawful x.machine.world.trace) c.player-2.view_is c.keeps_to_laws.ensures;
+        lawful = subst (λ (x : Player). IsLawful x.machine) c.player-2.view_is c.keeps_to_laws.ensures;
       },
       search rules,
       search rules,

@@ -5,7 +5,7 @@ use Rattle.executor_model.specs.EarlyDrop.{EarlyDropHasCause}
 use Rattle.executor_model.specs.LawfulPolls.{HasLawfulPolls}
 use Rattle.executor_model.specs.OutputKept.{OutputIsKept}
 use Rattle.executor_model.specs.OutputOnce.{OutputGoesOnce}
-use Rattle.executor_laws.specs.Reach.{IsInReach}
+use Rattle.executor_laws.specs.Reach.{IsInReach, IsReachedInOrder}
 use Rattle.executor_core.proofs.Reaching.{law_here, machine_law_here, run_here}
 use Rattle.executor_core.proofs.machine.Machine.run.Goals as goal
 
@@ -35,3 +35,6 @@ returns-clause-awaiters_are_kept c = law_here AwaiterIsKept c.awaiters_are_kept.
 
 pub returns-clause-in_reach : goal.returns-clause-in_reach
 returns-clause-in_reach c = machine_law_here IsInReach c.common_futures_are_in_reach.ensures _ c.run_on-refused.ensures.reached
+
+pub returns-clause-in_order : goal.returns-clause-in_order
+returns-clause-in_order c = machine_law_here IsReachedInOrder c.arrival_order_needs_fewer_ticks.ensures _ c.run_on-refused.ensures.reached

@@ -1,0 +1,4 @@
+pub mod Packs
+pub mod Views
+pub mod Keeps
+pub mod Moving

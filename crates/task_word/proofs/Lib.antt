@@ -2,3 +2,4 @@ pub mod Packs
 pub mod Views
 pub mod Keeps
 pub mod Moving
+pub mod Closing

@@ -24,13 +24,13 @@ use Rattle.task_word.proofs.Views.{true_not, not_false, either_false, or_true, l
 use Rattle.task_word.proofs.Keeps.{St, Goes, holder, alters, gets, lets_go, goes_on, swaps, known_at, counted, when_still, small, when_idle, with_references, marked}
 
 -- the effect of a move, and the words that the seat keeps of it
-abbrev Told : {F : Type 0} → (Owed → Known F → Known F → Type 0) → Owed → Known F → ℕ → ℕ → Known F → Type 0
+abbrev pub Told : {F : Type 0} → (Owed → Known F → Known F → Type 0) → Owed → Known F → ℕ → ℕ → Known F → Type 0
 Told effect owed me old new m' = effect owed me m' × (m'.0.found ≡ old) × (m'.0.left ≡ new)
 
-at_state : {F : Type 0} (s : St F) (r : Cell s) (st : State) (rests : Bool) → r.state ≡ st → r.rests ≡ rests → Fits r.phase st rests
+pub at_state : {F : Type 0} (s : St F) (r : Cell s) (st : State) (rests : Bool) → r.state ≡ st → r.rests ≡ rests → Fits r.phase st rests
 at_state s r st rests e t = subst (λ (z : Bool). Fits r.phase st z) t (subst (λ (z : State). Fits r.phase z r.rests) e r.fits)
 
-many_of : {F : Type 0} (s : St F) (r : Cell s) (st : State) → r.state ≡ st → r.state.references ≡ st.references
+pub many_of : {F : Type 0} (s : St F) (r : Cell s) (st : State) → r.state ≡ st → r.state.references ≡ st.references
 many_of s r st e = ap (λ (z : State). z.references) e
 
 module _ {F : Type 0} where

@@ -1,5 +1,5 @@
 -- What each kind of step tells, and what a seat has.
-use Rattle.std.specs.Prelude.{◌≡◌, ◌≢◌, ℕ, ◌+◌, ◌-◌, ◌≤◌, List, [], ◌∷◌, Bool, true, false, Option, Some, None}
+use Rattle.std.specs.Prelude.{◌≡◌, ◌≢◌, ℕ, ◌+◌, ◌-◌, ◌≤◌, List, [], ◌∷◌, Bool, true, false, ◌||◌, Option, Some, None}
 use Rattle.atomic_table.specs.Table.{Me, rest}
 use Rattle.atomic_table.specs.declared.shared.Seat.{Seat}
 use Rattle.atomic_table.specs.declared.shared.Shared.{Shared}
@@ -25,6 +25,10 @@ Known F = Me (Option F) View
 -- the step of a call is this move: by the word that it found and the word that it left, and by what is owed
 abbrev pub Makes : (State → Moved) → View → Owed → Type 0
 Makes move v owed = (st : State) × (rests : Bool) × (v.found ≡ pack st rests) × (v.left ≡ pack (move st).state rests) × (owed ≡ (move st).owed)
+
+-- nobody can reach the task any more, and its future is gone
+abbrev pub IsOver : State → Type 0
+IsOver s = (s.references ≡ 0) × (s.scheduled ≡ false) × (s.running ≡ false) × (s.completed || s.closed ≡ true)
 
 -- the state of a cell that is taken for a task, but has none yet
 abbrev pub filling : State
@@ -103,6 +107,10 @@ module _ {F : Type 0} where
 
   abbrev pub began : Owed → Known F → Known F → Type 0
   began owed m m' = Is (Some Running) m.0.references m.1 m'
+
+  -- the future is to be dropped
+  abbrev pub dropped : Owed → Known F → Known F → Type 0
+  dropped owed m m' = Is (Some Closing) m.0.references m.1 m'
 
   -- the slot goes home empty, and the reference of the right is left
   abbrev pub ended : Owed → Known F → Known F → Type 0

@@ -3,7 +3,9 @@
 ghost use Rattle.std.specs.Prelude.{None};
 ghost use Rattle.task_moves.specs.Moves as moves;
 ghost use Rattle.task_word.specs.Cell.{Cell};
-ghost use Rattle.task_word.specs.Steps.{view, arrived, looked, looked_up, tries, woken, released, copied, given_up, began, ended, paused, swapped, reserved, filled, rested, resumed};
+ghost use Rattle.task_word.specs.Steps.{view, arrived, looked, looked_up, tries, swapped};
+ghost use Rattle.task_word.specs.Steps.{woken, released, copied, given_up, began, ended, paused, dropped};
+ghost use Rattle.task_word.specs.Steps.{reserved, filled, rested, resumed};
 ghost use Rattle.task_word.specs.declared.rule.Right.TheVariants.{Closing, Ending};
 
 use atomic_table::{Play, TableRule};
@@ -131,6 +133,20 @@ pub struct EndPending;
 
 impl<F> Play<Option<F>, View> for EndPending {
     ghost then = { λ s m n m'. tries moves.end_pending paused s.first s.second m n m' };
+}
+
+/// The task is cancelled.
+pub struct Cancel;
+
+impl<F> Play<Option<F>, View> for Cancel {
+    ghost then = { λ s m n m'. tries moves.cancel woken s.first s.second m n m' };
+}
+
+/// A Runnable is let go.
+pub struct DropRunnable;
+
+impl<F> Play<Option<F>, View> for DropRunnable {
+    ghost then = { λ s m n m'. tries moves.drop_runnable dropped s.first s.second m n m' };
 }
 
 /// An empty cell is taken for a new task.

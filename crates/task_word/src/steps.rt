@@ -1,6 +1,7 @@
 //! The moves on a task's word, each lent the board and a seat. Each change of the state is one of `task_moves`.
 ghost use Rattle.task_word.specs.Steps.{looked, IsSeatOf, IsSameSeat};
 
+pub mod closing;
 pub mod making;
 pub mod runs;
 pub mod wakers;

@@ -1,6 +1,6 @@
 //! How a task comes into a cell, and how its Runnable rests in the word while no thread has it in hand.
-ghost use Rattle.std.specs.Prelude.{◌≡◌, MatchBool, IsTrue, ◌||◌, true, false};
-ghost use Rattle.task_word.specs.Steps.{detached, filling, IsMade, HasNothing, HasFuture, HasPlace, IsSeatOf, IsSameSeat};
+ghost use Rattle.std.specs.Prelude.{◌≡◌, MatchBool, IsTrue};
+ghost use Rattle.task_word.specs.Steps.{detached, filling, IsMade, IsOver, HasNothing, HasFuture, HasPlace, IsSeatOf, IsSameSeat};
 ghost use Rattle.task_word.specs.declared.rule.Right.TheVariants.{Queued, Filling};
 
 use crate::layout::{RESTS, decode, encode};
@@ -12,7 +12,7 @@ use task_moves::moves::State;
 
 #[inline(always)]
 fn is_empty(state: State) -> bool
-    ensures { IsTrue result → (state.references ≡ 0) × (state.scheduled ≡ false) × (state.running ≡ false) × (state.completed || state.closed ≡ true) }
+    ensures { IsTrue result → IsOver state }
 {
     state.references == 0 && !state.scheduled && !state.running && (state.completed || state.closed)
 }

@@ -1,0 +1,5 @@
+pub mod Packs
+pub mod Views
+pub mod Keeps
+pub mod Moving
+pub mod Closing

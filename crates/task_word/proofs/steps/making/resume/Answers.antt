@@ -1,0 +1,10 @@
+use Rattle.std.proofs.Common.{rules, sym, arith}
+use Rattle.task_word.proofs.Keeps.{resumes}
+use Rattle.task_word.proofs.Moving.{few}
+use Rattle.task_word.proofs.steps.making.resume.Goals as goal
+
+pub encode-new-requires : goal.encode-new-requires
+encode-new-requires g c = let s = (c.look-old.ensures.saw.2 c.decode-word.result.state c.decode-word.result.rests (sym c.decode-word.ensures)).1 in few _ (omega (arith, s))
+
+pub compare_exchange-requires : goal.compare_exchange-requires
+compare_exchange-requires g c = (search rules, search rules, resumes _ _ c.look-old.new.pass.me c.look-old.result c.encode-new.result c.decode-word.result.state c.decode-word.result.rests c.decode-word.ensures c.encode-new.ensures c.if-word.true)

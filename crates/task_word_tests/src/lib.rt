@@ -1,0 +1,7 @@
+//! Tests of a task's word. A crate of its own so that they are proved beside it, and it only once.
+#![tactic(auto)]
+
+#[cfg(test)]
+mod threads;
+#[cfg(test)]
+mod words;

@@ -1,0 +1,5 @@
+pub mod Cells
+pub mod Ring
+pub mod Placing
+pub mod Sleeping
+pub mod Agreeing

@@ -1,0 +1,4 @@
+pub mod Order
+pub mod Places
+pub mod Sleepers
+pub mod Sleeping

@@ -1,0 +1,82 @@
+-- Sleepers after a list of steps: their lists, the flag beside them, and the numbers that somebody has.
+use Rattle.std.specs.Prelude.{◌≡◌, ◌⊎◌, ℕ, ◌+◌, ◌-◌, ◌<◌, ◌≤◌, ◌==◌, Bool, true, false, List, [], ◌∷◌, length, slice_set, Option, Some, None}
+use Rattle.executor_parts.specs.Order.{IsIn, IsApart, without}
+use Rattle.executor_parts.specs.Sleepers.{Sleepers, position_of, flag_of, without_last, next_number, laid_down, listed, risen}
+
+-- the flag's exchange, or one section under the lock
+pub data Step (W : Type 0) : Type 0 where
+  ExchangeFlag : Step W
+  HandOut : Step W
+  LieDown : W → Step W
+  LieDownAgain : ℕ → W → Step W
+  -- or leave, which differs in its answer alone
+  GetUp : ℕ → Step W
+  MakeRoom : Step W
+  GiveBack : Step W
+
+pub record Lying (W : Type 0) : Type 0 where
+  pub sleepers : Sleepers W
+  pub flag : Bool
+  -- the numbers that were given out, and whose owner hasn't got up or left
+  pub numbers : List ℕ
+  -- how many have won the flag's exchange and haven't yet handed out
+  pub tellers : ℕ
+
+module _ {W : Type 0} where
+  -- nobody sleeps, and so the flag is true
+  abbrev pub awake : Lying W
+  awake = record { sleepers = record { count = 0; rooms = 0; wakers = []; free = [] }; flag = true; numbers = []; tellers = 0 }
+
+  -- the section stored what the flag is to be
+  abbrev pub stored : Sleepers W → List ℕ → ℕ → Lying W
+  stored sleepers numbers tellers = record { sleepers = sleepers; flag = flag_of sleepers; numbers = numbers; tellers = tellers }
+
+  abbrev pub handed_by : Bool → Lying W → Lying W
+  handed_by true s = record s { sleepers = without_last s.sleepers; tellers = s.tellers - 1 }
+  handed_by false s = record s { tellers = s.tellers - 1 }
+
+  abbrev pub exchanged_by : Bool → Lying W → Lying W
+  exchanged_by true s = s
+  exchanged_by false s = record s { flag = true; tellers = s.tellers + 1 }
+
+  abbrev pub again_by : Option ℕ → ℕ → W → Lying W → Lying W
+  again_by (Some at) number waker s = record s { sleepers = record s.sleepers { wakers = slice_set s.sleepers.wakers at (number, waker) } }
+  again_by None number waker s = stored (listed number waker s.sleepers) s.numbers s.tellers
+
+  abbrev pub after : Step W → Lying W → Lying W
+  after ExchangeFlag s = exchanged_by s.flag s
+  after HandOut s = handed_by (length s.sleepers.wakers == s.sleepers.count) s
+  after (LieDown waker) s = stored (laid_down waker s.sleepers) (next_number s.sleepers ∷ s.numbers) s.tellers
+  after (LieDownAgain number waker) s = again_by (position_of number s.sleepers.wakers) number waker s
+  after (GetUp number) s = stored (risen number s.sleepers) (without number s.numbers) s.tellers
+  after MakeRoom s = record s { sleepers = record s.sleepers { rooms = s.sleepers.rooms + 1 } }
+  after GiveBack s = record s { sleepers = record s.sleepers { rooms = s.sleepers.rooms - 1 } }
+
+  -- who may take it: a teller hands out, who has room lies down or gives it back, and who has a number lies down again, gets up or leaves
+  abbrev pub MayTake : Step W → Lying W → Type 0
+  MayTake HandOut s = 1 ≤ s.tellers
+  MayTake (LieDown waker) s = s.sleepers.count < s.sleepers.rooms
+  MayTake (LieDownAgain number waker) s = IsIn number s.numbers
+  MayTake (GetUp number) s = IsIn number s.numbers
+  MayTake GiveBack s = s.sleepers.count < s.sleepers.rooms
+  MayTake _ s = Unit {0}
+
+  abbrev pub run : List (Step W) → Lying W → Lying W
+  run [] s = s
+  run (t ∷ ts) s = run ts (after t s)
+
+  abbrev pub MayRun : List (Step W) → Lying W → Type 0
+  MayRun [] s = Unit {0}
+  MayRun (t ∷ ts) s = MayTake t s × MayRun ts (after t s)
+
+  -- no two have one number, there are as many numbers as sleepers and no more wakers, and the flag is true only where nobody sleeps, a sleeper is notified, or somebody has still to hand out
+  pub record Agree (s : Lying W) : Type 0 where
+    pub apart : IsApart s.numbers
+    pub counted : length s.numbers ≡ s.sleepers.count
+    pub listed : length s.sleepers.wakers ≤ s.sleepers.count
+    pub within : s.sleepers.count ≤ s.sleepers.rooms
+    pub told : s.flag ≡ true → (flag_of s.sleepers ≡ true) ⊎ (1 ≤ s.tellers)
+
+  -- after these steps, where each was one that may be taken
+  abbrev pub SleepersAgree : List (Step W) → Type 0
+  SleepersAgree steps = MayRun steps awake → Agree (run steps awake)

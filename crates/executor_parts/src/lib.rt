@@ -1,0 +1,11 @@
+//! The parts that the step machine and the running executor share: the table of futures and the list of sleepers. Each
+//! public method that changes one of them is one section of whoever locks it, and knows nothing of threads.
+#![tactic(auto)]
+
+pub mod laws;
+mod order;
+mod places;
+mod sleepers;
+
+pub use places::{Place, Places, SpawnRefused, Vacancy};
+pub use sleepers::{Again, Risen, Room, Sleeper, Sleepers, Slept, Unreserved, exchange_flag};

@@ -6,6 +6,7 @@ use crate::fallible::FallibleTask;
 use crate::poll::{Future, Poll};
 use crate::polling::{Found, poll};
 use crate::schedule::Schedule;
+use crate::stored_task::StoredTask;
 use crate::wake::Wake;
 use crate::waker::Awaiter;
 use std::marker::Model;
@@ -59,6 +60,20 @@ where
     W: Wake + Drop + 'static,
     R: Wait + Copy + Drop,
 {
+    pub(crate) fn of(held: Held<F, T, S, M, W, R>) -> Self
+        ensures { result ≡ held }
+    {
+        Task { held }
+    }
+
+    /// The handle for a list, which takes no memory.
+    pub fn store(self) -> StoredTask
+        ensures { result.identity ≡ self.identity }
+    {
+        let Self { held } = self;
+        StoredTask::of(held.identity())
+    }
+
     /// The metadata that the task was made with.
     pub fn metadata(&self) -> &M
         ensures { result.now ≡ self.now.metadata }

@@ -1,6 +1,6 @@
-ghost use Rattle.std.specs.Prelude.{◌≡◌};
+ghost use Rattle.std.specs.Prelude.{◌≡◌, ◌↔◌, IsTrue};
 
-use crate::cell::{Held, Scheduled, StoredWaker};
+use crate::cell::{Held, Realm, Scheduled, StoredWaker};
 use crate::schedule::Schedule;
 use crate::wake::Wake;
 use std::marker::Model;
@@ -67,6 +67,13 @@ where
     {
         let Self { held } = self;
         held
+    }
+
+    /// Whether the task lies in this realm: whether the waker, once it is stored, is redeemed there.
+    pub fn lies_in(&self, realm: &Realm<F, T, S, M, W>) -> bool
+        ensures { IsTrue result ↔ self.now.identity.realm ≡ realm.now.number }
+    {
+        self.held.identity().realm == realm.number()
     }
 
     /// The waker for a list.

@@ -137,6 +137,13 @@ impl<W> Sleepers<W> {
         }
     }
 
+    /// How many sleep, those that are notified too.
+    pub fn count(&self) -> usize
+        ensures { result ≡ self.now.count }
+    {
+        self.count
+    }
+
     /// Makes room for one more sleeper, in each list. Refused, nothing changes.
     pub fn make_room(&mut self) -> Result<Room, AllocError>
         ensures ok { OnOk result (self.new ≡ record self.old { rooms = self.old.rooms + 1 }) }

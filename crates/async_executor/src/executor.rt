@@ -1,0 +1,217 @@
+ghost use Rattle.std.specs.Prelude.{◌≡◌, ◌<◌, IfErr};
+ghost use Rattle.std.specs.Iterator.{IsFinite};
+ghost use Rattle.async_executor.specs.Errors.{refused};
+
+use crate::due::{pay, share};
+use crate::errors::SpawnError;
+use crate::handles::Handles;
+use crate::names::{ExRealm, ExTask, ExWaker};
+use crate::queue::ExQueue;
+use crate::spawning::accept;
+use crate::state::State;
+use async_task::{Future, NoMemory, StoredRunnable, StoredWaker, Wake};
+use executor_parts::Places;
+use std::alloc::Global;
+use std::sync::{Arc, Mutex, Wait};
+
+/// An executor of futures `F`, whose outputs are `T`.
+pub struct Executor<F, T, W, R>
+where
+    F: Drop,
+    T: Drop + 'static,
+    W: Wake + Drop + 'static,
+    R: Wait + Copy + Drop + 'static,
+{
+    pub(crate) realm: &'static ExRealm<T, W, R>,
+    pub(crate) state: Arc<State<W>, Global>,
+    pub(crate) table: Mutex<Places<F, StoredWaker>>,
+    /// Empty: room for the wakers that the executor's drop takes out of the table.
+    pub(crate) leaving: Vec<StoredWaker>,
+    pub(crate) rt: R,
+    pub(crate) alloc: Global,
+}
+
+impl<F, T, W, R> Executor<F, T, W, R>
+where
+    F: Future<ExWaker<T, W, R>, Output = T> + Drop,
+    T: Drop + 'static,
+    W: Wake + Drop + 'static,
+    R: Wait + Copy + Drop + 'static,
+{
+    pub fn new(
+        rt: R,
+        alloc: Global,
+        realm: &'static ExRealm<T, W, R>,
+        limit: usize,
+    ) -> Result<Self, NoMemory>
+        requires { 0 < limit }
+    {
+        match (
+            State::new(alloc, limit),
+            Places::with_room(alloc, limit),
+            Vec::with_capacity(alloc, limit),
+        ) {
+            (Ok(state), Ok(table), Ok(leaving)) => {
+                Executor::of(rt, alloc, realm, state, table, leaving)
+            }
+            _ => Err(NoMemory),
+        }
+    }
+
+    fn of(
+        rt: R,
+        alloc: Global,
+        realm: &'static ExRealm<T, W, R>,
+        state: State<W>,
+        table: Places<F, StoredWaker>,
+        leaving: Vec<StoredWaker>,
+    ) -> Result<Self, NoMemory> {
+        match Arc::new(alloc, state) {
+            Ok(state) => Ok(Executor {
+                realm,
+                state,
+                table: Mutex::new(table),
+                leaving,
+                rt,
+                alloc,
+            }),
+            Err(_) => Err(NoMemory),
+        }
+    }
+
+    pub fn is_empty(&self) -> bool {
+        self.table.lock(&self.rt).is_empty()
+    }
+
+    pub fn spawn(&self, future: F) -> Result<ExTask<T, W, R>, SpawnError<F>>
+        ensures { IfErr result (λ error. refused error ≡ future) }
+    {
+        let schedule = ExQueue::new(self.rt, share(self.rt, &self.state));
+        let accepted = accept(
+            &mut *self.table.lock(&self.rt),
+            self.rt,
+            self.alloc,
+            self.realm,
+            schedule,
+            future,
+        );
+        match accepted {
+            Ok((runnable, task)) => {
+                runnable.schedule();
+                Ok(task)
+            }
+            Err(refused) => Err(refused),
+        }
+    }
+
+    pub fn try_tick(&self) -> bool {
+        match self.state.queue.pop(&self.rt) {
+            Ok(stored) => {
+                self.notify();
+                self.poll_or_drop(stored);
+                true
+            }
+            Err(_) => false,
+        }
+    }
+
+    pub(crate) fn notify(&self) {
+        pay(self.rt, self.state.notify(self.rt, self.realm));
+    }
+}
+
+impl<F, T, W, R> Drop for Executor<F, T, W, R>
+where
+    F: Drop,
+    T: Drop + 'static,
+    W: Wake + Drop + 'static,
+    R: Wait + Copy + Drop + 'static,
+{
+    /// 1. Takes all futures and wakers out of the table, and drops each future, in the order of acceptance.
+    /// 2. Wakes each waker, in that order: each task is queued, or was before.
+    /// 3. Closes the queue.
+    /// 4. Takes from the queue until nothing is left, and drops each Runnable: each task is closed, and who awaits it is
+    ///    called. A Runnable that a wake in progress still has comes back from the closed queue, and is dropped there.
+    ///
+    /// It takes no memory.
+    fn drop(self) {
+        let Executor {
+            realm,
+            state,
+            table,
+            mut leaving,
+            rt,
+            alloc: _,
+        } = self;
+        drop_futures(rt, realm, table.into_inner(), &mut leaving);
+        for waker in leaving {
+            pay(rt, waker.wake(rt, realm));
+        }
+        state.queue.close(&rt);
+        for _ in rt.forever() {
+            let Ok(stored) = state.queue.pop(&rt) else {
+                break;
+            };
+            if let Some(runnable) = stored.redeem(rt, realm) {
+                pay(rt, runnable.close());
+            }
+        }
+    }
+}
+
+/// Drops each future of a table, in the order of acceptance. Their wakers go into a list that has room for them, in the same
+/// order; one without room would be called at once.
+fn drop_futures<F, T, W, R>(
+    rt: R,
+    realm: &'static ExRealm<T, W, R>,
+    table: Places<F, StoredWaker>,
+    leaving: &mut Vec<StoredWaker>,
+)
+where
+    F: Drop,
+    T: Drop + 'static,
+    W: Wake + Drop + 'static,
+    R: Wait + Copy + Drop + 'static,
+{
+    let mut table = table;
+    for _ in rt.forever() {
+        let Some((future, waker)) = table.leave_first() else {
+            return;
+        };
+        drop(future);
+        if let Err(refused) = leaving.push(waker) {
+            pay(rt, refused.value.wake(rt, realm));
+        }
+    }
+}
+
+impl<F, T, W, R> Executor<F, T, W, R>
+where
+    F: Future<ExWaker<T, W, R>, Output = T> + Drop,
+    T: Drop + 'static,
+    W: Wake + Drop + 'static,
+    R: Wait + Copy + Drop + 'static,
+{
+    /// Hands the executor one future after the other, until the iterator ends or one is refused.
+    pub fn spawn_many<I: Iterator<Item = F>>(
+        &self,
+        futures: &mut I,
+        handles: &mut Handles<T, W, R>,
+    ) -> Result<(), SpawnError<F>>
+        requires { I.can_next futures.old × IsFinite (I.remaining futures.old) }
+    {
+        for _ in self.rt.forever() {
+            let Some(future) = futures.next() else {
+                return Ok(());
+            };
+            if handles.reserve().is_err() {
+                return Err(SpawnError::NoMemory(future));
+            }
+            match self.spawn(future) {
+                Ok(task) => handles.push_back(task),
+                Err(refused) => return Err(refused),
+            }
+        }
+        unreachable!()
+    }
+}

@@ -1,0 +1,31 @@
+//! An executor: futures that any number of threads run, with the places for as many as its limit says. After the Rust crate
+//! `async-executor` by Stjepan Glavina and others; no text of it is used.
+#![tactic(auto)]
+
+mod debug;
+mod due;
+mod errors;
+mod executor;
+mod handles;
+mod making;
+mod names;
+mod own_queues;
+mod polling;
+mod queue;
+mod run;
+mod runner;
+mod sleeping;
+mod spawning;
+mod state;
+mod steal;
+mod tick;
+mod ticker;
+
+pub use async_task::{FallibleTask, NoMemory, Task};
+pub use errors::{RunError, SpawnError};
+pub use executor::Executor;
+pub use handles::Handles;
+pub use names::{ExCancel, ExFallible, ExRealm, ExRunnable, ExTask, ExWaker};
+pub use queue::ExQueue;
+pub use run::Run;
+pub use tick::Tick;

@@ -1,0 +1,92 @@
+//! How ticks and runs are made: all memory that they need later is taken here.
+ghost use Rattle.std.specs.Prelude.{◌≡◌, IfErr};
+
+use crate::executor::Executor;
+use crate::names::ExWaker;
+use crate::own_queues::OwnQueues;
+use crate::run::Run;
+use crate::runner::Runner;
+use crate::state::{OWN_PLACES, Queue};
+use crate::tick::Tick;
+use crate::ticker::Ticker;
+use async_task::{Future, NoMemory, Wake};
+use concurrent_queue::ConcurrentQueue;
+use rand_core::SeedableRng;
+use rand_xoshiro::Xoshiro256PlusPlus;
+use std::alloc::Global;
+use std::sync::{Arc, Wait};
+
+impl<F, T, W, R> Executor<F, T, W, R>
+where
+    F: Future<ExWaker<T, W, R>, Output = T> + Drop,
+    T: Drop + 'static,
+    W: Wake + Drop + 'static,
+    R: Wait + Copy + Drop + 'static,
+{
+    /// A future that waits for a future of the executor which is to be polled, and polls it once.
+    pub fn tick(&self) -> Result<Tick<'_, F, T, W, R>, NoMemory> {
+        let made = self.state.sleepers.lock(&self.rt).make_room();
+        match made {
+            Ok(room) => Ok(Tick {
+                executor: self,
+                ticker: Ticker::Up(room),
+            }),
+            Err(_) => Err(NoMemory),
+        }
+    }
+
+    /// A future that runs the executor's futures until this one is ready, and has its output then. For want of memory the
+    /// future comes back.
+    pub fn run<G>(&self, future: G) -> Result<Run<'_, F, T, W, R, G>, G>
+    where
+        G: Future<ExWaker<T, W, R>> + Drop,
+        ensures { IfErr result (λ back. back ≡ future) }
+    {
+        self.run_from(future, 0)
+    }
+
+    /// As `run`, with another seed for the places at which it begins to look for tasks of other runs.
+    pub fn run_from<G>(&self, future: G, seed: u64) -> Result<Run<'_, F, T, W, R, G>, G>
+    where
+        G: Future<ExWaker<T, W, R>> + Drop,
+        ensures { IfErr result (λ back. back ≡ future) }
+    {
+        let made = self.state.sleepers.lock(&self.rt).make_room();
+        let Ok(room) = made else {
+            return Err(future);
+        };
+        match self.runner(seed) {
+            Ok(runner) => Ok(Run {
+                executor: self,
+                future: Some(future),
+                runner,
+                ticker: Ticker::Up(room),
+                taken: 0,
+            }),
+            Err(NoMemory) => {
+                self.state.sleepers.lock(&self.rt).give_back(room);
+                Err(future)
+            }
+        }
+    }
+
+    fn runner(&self, seed: u64) -> Result<Runner, NoMemory> {
+        let Ok(own) = ConcurrentQueue::bounded(self.alloc, OWN_PLACES) else {
+            return Err(NoMemory);
+        };
+        let Ok(own) = Arc::new(self.alloc, own) else {
+            return Err(NoMemory);
+        };
+        let room = self.state.own_queues.write(&self.rt).take_room();
+        match room {
+            Ok(number) => Ok(Runner {
+                own,
+                number,
+                is_listed: false,
+                words: Xoshiro256PlusPlus::seed_from_u64(seed),
+                counted: 0,
+            }),
+            Err(_) => Err(NoMemory),
+        }
+    }
+}

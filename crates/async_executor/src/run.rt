@@ -1,0 +1,145 @@
+use crate::errors::RunError;
+use crate::executor::Executor;
+use crate::names::ExWaker;
+use crate::runner::Runner;
+use crate::ticker::{Found, Ticker};
+use async_task::{Future, Poll, Wake};
+use std::mem;
+use std::sync::Wait;
+
+/// How many tasks one poll of a run takes at most.
+const TASKS_OF_ONE_POLL: u64 = 200;
+
+/// Runs the executor's futures until a future of its own is ready: a future with that one's output. Its drop gives back to
+/// the executor what it had taken to itself.
+///
+/// It is made by `Executor::run`.
+#[must_use]
+pub struct Run<'a, F, T, W, R, G>
+where
+    F: Drop,
+    T: Drop + 'static,
+    W: Wake + Drop + 'static,
+    R: Wait + Copy + Drop + 'static,
+    G: Drop,
+{
+    pub(crate) executor: &'a Executor<F, T, W, R>,
+    /// The future that it runs for, until that is ready.
+    pub(crate) future: Option<G>,
+    pub(crate) runner: Runner,
+    pub(crate) ticker: Ticker,
+    /// How many tasks it has taken since it last let others go first.
+    pub(crate) taken: u64,
+}
+
+impl<F, T, W, R, G> Future<ExWaker<T, W, R>> for Run<'_, F, T, W, R, G>
+where
+    F: Future<ExWaker<T, W, R>, Output = T> + Drop,
+    T: Drop + 'static,
+    W: Wake + Drop + 'static,
+    R: Wait + Copy + Drop + 'static,
+    G: Future<ExWaker<T, W, R>> + Drop,
+{
+    type Output = Result<G::Output, RunError>;
+
+    /// 1. At the first poll, puts its own queue into the executor's list.
+    /// 2. Polls its future. Where that is ready, the run leaves the executor, and is ready.
+    /// 3. Takes tasks and runs each. Where there is none to take, it lies down and is pending.
+    /// 4. After 200 tasks it wakes its own waker and is pending. A count that was interrupted goes on in the next poll.
+    fn poll(&mut self, waker: &ExWaker<T, W, R>) -> Poll<Result<G::Output, RunError>> {
+        let Some(future) = &mut self.future else {
+            return Poll::Ready(Err(RunError::Finished));
+        };
+        let executor = self.executor;
+        if self.runner.begin(executor.rt, &executor.state).is_err() {
+            return Poll::Ready(Err(RunError::NoMemory));
+        }
+        match future.poll(waker) {
+            Poll::Ready(output) => {
+                self.future = None;
+                self.runner
+                    .end(executor.rt, &executor.state, executor.realm);
+                mem::replace(&mut self.ticker, Ticker::Left).leave(
+                    executor.rt,
+                    &executor.state,
+                    executor.realm,
+                );
+                Poll::Ready(Ok(output))
+            }
+            Poll::Pending => self.take_tasks(waker),
+        }
+    }
+}
+
+impl<F, T, W, R, G> Run<'_, F, T, W, R, G>
+where
+    F: Future<ExWaker<T, W, R>, Output = T> + Drop,
+    T: Drop + 'static,
+    W: Wake + Drop + 'static,
+    R: Wait + Copy + Drop + 'static,
+    G: Future<ExWaker<T, W, R>> + Drop,
+{
+    fn take_tasks(&mut self, waker: &ExWaker<T, W, R>) -> Poll<Result<G::Output, RunError>> {
+        let executor = self.executor;
+        for _ in self.taken..TASKS_OF_ONE_POLL {
+            match self.find(waker) {
+                Found::Runnable(runnable) => {
+                    self.runner
+                        .count(executor.rt, &executor.state, executor.realm);
+                    self.taken = self.taken.saturating_add(1);
+                    executor.poll_or_drop(runnable);
+                }
+                Found::NoMemory => return Poll::Ready(Err(RunError::NoMemory)),
+                Found::Nothing | Found::SearchAgain => return Poll::Pending,
+            }
+        }
+        self.taken = 0;
+        waker.wake_by_ref();
+        Poll::Pending
+    }
+
+    /// Searches until a task is found, or the run lies down.
+    fn find(&mut self, waker: &ExWaker<T, W, R>) -> Found {
+        let executor = self.executor;
+        for _ in executor.rt.forever() {
+            let found = self
+                .runner
+                .search(executor.rt, &executor.state, executor.realm);
+            match self
+                .ticker
+                .after_search(executor.rt, &executor.state, executor.realm, found, waker)
+            {
+                Found::SearchAgain => {}
+                found => return found,
+            }
+        }
+        unreachable!()
+    }
+}
+
+impl<F, T, W, R, G> Drop for Run<'_, F, T, W, R, G>
+where
+    F: Drop,
+    T: Drop + 'static,
+    W: Wake + Drop + 'static,
+    R: Wait + Copy + Drop + 'static,
+    G: Drop,
+{
+    /// 1. Drops its future.
+    /// 2. Takes its own queue out of the executor's list, and schedules each Runnable that is left there, in order.
+    /// 3. Leaves the sleepers, and gives its room there back.
+    ///
+    /// A run that was never polled only drops its future and gives its room back.
+    fn drop(self) {
+        let Run {
+            executor,
+            future,
+            mut runner,
+            ticker,
+            taken: _,
+        } = self;
+        drop(future);
+        runner.end(executor.rt, &executor.state, executor.realm);
+        ticker.leave(executor.rt, &executor.state, executor.realm);
+    }
+}

@@ -1,0 +1,62 @@
+use crate::names::{ExDue, ExRealm, ExWaker};
+use async_task::{Awaiter, StoredWaker, Wake};
+use std::sync::Wait;
+
+/// The waker of a tick or run that sleeps.
+#[derive(Drop)]
+pub enum SleeperWaker<W> {
+    /// Of a task of the executor's realm.
+    Task(StoredWaker),
+    /// From outside.
+    Outside(W),
+}
+
+impl<W: Wake + Drop + 'static> SleeperWaker<W> {
+    /// A copy of a waker for the list of sleepers, or None where none can be had.
+    pub fn of<T, R>(waker: &ExWaker<T, W, R>) -> Option<Self>
+    where
+        T: Drop + 'static,
+        R: Wait + Copy + Drop + 'static,
+    {
+        match waker {
+            Awaiter::Task(waker) => match waker.clone() {
+                Some(copy) => Some(SleeperWaker::Task(copy.store())),
+                None => None,
+            },
+            Awaiter::Outside(waker) => match waker.clone() {
+                Some(copy) => Some(SleeperWaker::Outside(copy)),
+                None => None,
+            },
+        }
+    }
+
+    /// Calls the waker. Where a task has to be queued then, it is the answer.
+    pub fn wake<T, R>(self, rt: R, realm: &'static ExRealm<T, W, R>) -> Option<ExDue<T, W, R>>
+    where
+        T: Drop + 'static,
+        R: Wait + Copy + Drop + 'static,
+    {
+        match self {
+            SleeperWaker::Task(waker) => waker.wake(rt, realm),
+            SleeperWaker::Outside(waker) => {
+                waker.wake();
+                None
+            }
+        }
+    }
+
+    /// Drops the waker. Where a task has to be queued then, it is the answer.
+    pub fn release<T, R>(self, rt: R, realm: &'static ExRealm<T, W, R>) -> Option<ExDue<T, W, R>>
+    where
+        T: Drop + 'static,
+        R: Wait + Copy + Drop + 'static,
+    {
+        match self {
+            SleeperWaker::Task(waker) => waker.release(rt, realm),
+            SleeperWaker::Outside(waker) => {
+                drop(waker);
+                None
+            }
+        }
+    }
+}

@@ -1,0 +1,76 @@
+ghost use Rattle.std.specs.Prelude.{◌≡◌, IfOk, IfErr, IfSome};
+ghost use Rattle.async_executor.specs.Accepting.{Accepts, IsRefusedAt};
+ghost use Rattle.async_executor.specs.Errors.{refused};
+
+use crate::errors::SpawnError;
+use crate::names::{ExRealm, ExRunnable, ExTask};
+use crate::queue::ExQueue;
+use async_task::{StoredWaker, Wake, spawn};
+use executor_parts::{Place, Places, SpawnRefused};
+use std::alloc::Global;
+use std::sync::Wait;
+
+/// Accepts a future: what a spawn does under the table's lock.
+///
+/// 1. Tests the limit.
+/// 2. Makes the task's cell, which has the number of the future's place. Without memory for it, the place is given back.
+/// 3. Enters the future, with a waker of the task.
+pub fn accept<F, T, W, R>(
+    table: &mut Places<F, StoredWaker>,
+    rt: R,
+    alloc: Global,
+    realm: &'static ExRealm<T, W, R>,
+    schedule: ExQueue<T, W, R>,
+    future: F,
+) -> Result<(ExRunnable<T, W, R>, ExTask<T, W, R>), SpawnError<F>>
+where
+    F: Drop,
+    T: Drop + 'static,
+    W: Wake + Drop + 'static,
+    R: Wait + Copy + Drop + 'static,
+    ensures accepted { IfOk result (λ both. Accepts table.old table.new future both.1) }
+    ensures one_task { IfOk result (λ both. both.0 ≡ both.1) }
+    ensures future { IfErr result (λ error. refused error ≡ future) }
+    ensures cause { IfErr result (IsRefusedAt table.old) }
+    ensures same { IfErr result (λ _. table.new.entries ≡ table.old.entries) }
+{
+    let vacancy = match table.vacancy() {
+        Ok(vacancy) => vacancy,
+        Err(SpawnRefused::Full) => return Err(SpawnError::Full(future)),
+        Err(SpawnRefused::NoMemory) => return Err(SpawnError::NoMemory(future)),
+    };
+    match made(rt, alloc, realm, schedule, vacancy.place()) {
+        Some((runnable, task, waker)) => {
+            table.enter(vacancy, future, waker);
+            Ok((runnable, task))
+        }
+        None => {
+            vacancy.give_back();
+            Err(SpawnError::NoMemory(future))
+        }
+    }
+}
+
+/// A task whose future is at this place, with its handle and a waker for the table.
+fn made<T, W, R>(
+    rt: R,
+    alloc: Global,
+    realm: &'static ExRealm<T, W, R>,
+    schedule: ExQueue<T, W, R>,
+    place: Place,
+) -> Option<(ExRunnable<T, W, R>, ExTask<T, W, R>, StoredWaker)>
+where
+    T: Drop + 'static,
+    W: Wake + Drop + 'static,
+    R: Wait + Copy + Drop + 'static,
+    ensures one_task { IfSome result (λ made. made.0 ≡ made.1) }
+    ensures waker { IfSome result (λ made. made.2.identity ≡ made.1.identity) }
+{
+    match spawn(rt, alloc, realm, place, schedule) {
+        Ok((runnable, task)) => match runnable.waker() {
+            Some(waker) => Some((runnable, task, waker.store())),
+            None => None,
+        },
+        Err(_) => None,
+    }
+}

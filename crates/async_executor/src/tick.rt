@@ -1,0 +1,67 @@
+use crate::executor::Executor;
+use crate::names::ExWaker;
+use crate::ticker::{Found, Ticker};
+use async_task::{Future, NoMemory, Poll, Wake};
+use std::sync::Wait;
+
+/// Waits for a future that is to be polled, and polls it once: a future with output `Ok(())`. After it was ready it serves as
+/// a new one. Its drop passes on to another tick or run what it had been told.
+///
+/// It is made by `Executor::tick`.
+#[must_use]
+pub struct Tick<'a, F, T, W, R>
+where
+    F: Drop,
+    T: Drop + 'static,
+    W: Wake + Drop + 'static,
+    R: Wait + Copy + Drop + 'static,
+{
+    pub(crate) executor: &'a Executor<F, T, W, R>,
+    pub(crate) ticker: Ticker,
+}
+
+impl<F, T, W, R> Future<ExWaker<T, W, R>> for Tick<'_, F, T, W, R>
+where
+    F: Future<ExWaker<T, W, R>, Output = T> + Drop,
+    T: Drop + 'static,
+    W: Wake + Drop + 'static,
+    R: Wait + Copy + Drop + 'static,
+{
+    type Output = Result<(), NoMemory>;
+
+    /// 1. Takes a Runnable from the executor's queue, or lies down and is pending.
+    /// 2. Where it found one: runs it, and is ready.
+    fn poll(&mut self, waker: &ExWaker<T, W, R>) -> Poll<Result<(), NoMemory>> {
+        let executor = self.executor;
+        for _ in executor.rt.forever() {
+            let found = executor.state.queue.pop(&executor.rt).ok();
+            match self
+                .ticker
+                .after_search(executor.rt, &executor.state, executor.realm, found, waker)
+            {
+                Found::Runnable(runnable) => {
+                    executor.poll_or_drop(runnable);
+                    return Poll::Ready(Ok(()));
+                }
+                Found::SearchAgain => {}
+                Found::Nothing => return Poll::Pending,
+                Found::NoMemory => return Poll::Ready(Err(NoMemory)),
+            }
+        }
+        unreachable!()
+    }
+}
+
+impl<F, T, W, R> Drop for Tick<'_, F, T, W, R>
+where
+    F: Drop,
+    T: Drop + 'static,
+    W: Wake + Drop + 'static,
+    R: Wait + Copy + Drop + 'static,
+{
+    /// Leaves the sleepers, and gives its room there back.
+    fn drop(self) {
+        let Tick { executor, ticker } = self;
+        ticker.leave(executor.rt, &executor.state, executor.realm);
+    }
+}

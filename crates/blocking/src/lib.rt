@@ -1,0 +1,80 @@
+//! A future is polled on this thread, which parks between wakes.
+#![tactic(auto)]
+
+use async_task::{Awaiter, Future, Poll, Schedule, Scheduled, Wake};
+use crossbeam_utils::sync::{Parker, Unparker};
+use std::alloc::{AllocError, Global};
+use std::sync::Wait;
+
+#[cfg(test)]
+mod tests;
+
+/// Wakes the thread that waits in `block_on`: a waker from outside, for a future that awaits tasks.
+#[derive(Drop)]
+pub struct ThreadWaker(Unparker);
+
+impl Wake for ThreadWaker {
+    ghost is_same = { λ a b. Unit {0} };
+
+    fn wake(self) {
+        self.0.unpark();
+    }
+
+    fn wake_by_ref(&self) {
+        self.0.unpark();
+    }
+
+    fn clone(&self) -> Option<Self> {
+        match self.0.clone() {
+            Ok(unparker) => Some(ThreadWaker(unparker)),
+            Err(_) => None,
+        }
+    }
+
+    fn will_wake(&self, _other: &Self) -> bool {
+        false
+    }
+}
+
+/// A parker and what wakes its thread.
+fn pair(alloc: Global) -> Result<(Parker, ThreadWaker), AllocError> {
+    let parker = Parker::new(alloc)?;
+    let waker = ThreadWaker(parker.unparker().clone()?);
+    Ok((parker, waker))
+}
+
+impl<F, T, S, M, R> From<ThreadWaker> for Awaiter<F, T, S, M, ThreadWaker, R>
+where
+    F: Drop + 'static,
+    T: Drop + 'static,
+    S: Schedule<Scheduled<F, T, S, M, ThreadWaker, R>> + Drop + 'static,
+    M: Drop + 'static,
+    R: Wait + Copy + Drop,
+{
+    fn from(waker: ThreadWaker) -> Self {
+        Awaiter::Outside(waker)
+    }
+}
+
+/// Polls the future on this thread until it is ready, and answers its output. Between two polls the thread parks until
+/// its waker is woken. For want of memory for the parker the future comes back, never polled.
+pub fn block_on<K, F, R>(rt: &R, alloc: Global, future: F) -> Result<F::Output, F>
+where
+    K: From<ThreadWaker> + Drop,
+    F: Future<K> + Drop,
+    R: Wait,
+{
+    let (parker, thread) = match pair(alloc) {
+        Ok(both) => both,
+        Err(_) => return Err(future),
+    };
+    let waker = K::from(thread);
+    let mut future = future;
+    for _ in rt.forever() {
+        if let Poll::Ready(output) = future.poll(&waker) {
+            return Ok(output);
+        }
+        parker.park(rt);
+    }
+    unreachable!()
+}

@@ -1,0 +1,105 @@
+use crate::{ThreadWaker, block_on};
+use async_task::{Future, Poll, Wake};
+use std::alloc::{AllocError, Global};
+use std::sync::atomic::{AtomicBool, Ordering};
+use std::sync::{Arc, Mutex, Wait};
+use std::thread::{Threads, join, yield_now};
+
+/// Ready once it was polled this many times more, and wakes itself at each poll.
+#[derive(Drop)]
+struct Countdown {
+    left: u64,
+}
+
+impl<K: Wake> Future<K> for Countdown {
+    type Output = u64;
+
+    fn poll(&mut self, waker: &K) -> Poll<u64> {
+        if self.left == 0 {
+            return Poll::Ready(7);
+        }
+        self.left -= 1;
+        waker.wake_by_ref();
+        Poll::Pending
+    }
+}
+
+#[test]
+fn a_future_that_wakes_itself_is_polled_until_it_is_ready(rt: HostRuntime) {
+    let answer = block_on::<ThreadWaker, Countdown, HostRuntime>(
+        &rt,
+        rt.alloc(),
+        Countdown { left: 3 },
+    );
+    match answer {
+        Ok(output) => assert!(&rt; output == 7),
+        Err(_) => assert!(&rt; false),
+    }
+}
+
+/// Ready once it was told. Until then it leaves a copy of its waker in the box.
+#[derive(Drop)]
+struct Told<R> {
+    rt: R,
+    told: Arc<AtomicBool>,
+    left: Arc<Mutex<Option<ThreadWaker>>>,
+}
+
+impl<R: Wait> Future<ThreadWaker> for Told<R> {
+    type Output = bool;
+
+    fn poll(&mut self, waker: &ThreadWaker) -> Poll<bool> {
+        if self.told.load(Ordering::SeqCst) {
+            return Poll::Ready(true);
+        }
+        *self.left.lock(&self.rt) = waker.clone();
+        Poll::Pending
+    }
+}
+
+/// Waits until a waker was left, tells the future after some turns more, and wakes.
+fn tell<R: Wait>(rt: &R, told: &AtomicBool, left: &Mutex<Option<ThreadWaker>>) -> bool {
+    for _ in 0..10_000_000 {
+        let waker = left.lock(rt).take();
+        if let Some(waker) = waker {
+            for _ in 0..1_000 {
+                yield_now();
+            }
+            told.store(true, Ordering::SeqCst);
+            waker.wake();
+            return true;
+        }
+        yield_now();
+    }
+    false
+}
+
+fn wait_to_be_told<R: Threads + Wait + Sync + Copy + Drop + Send>(
+    rt: R,
+    alloc: Global,
+) -> Result<(bool, bool), AllocError> {
+    let told = Arc::new(alloc, AtomicBool::new(false))?;
+    let left = Arc::new(alloc, Mutex::new(None))?;
+    let future = Told {
+        rt,
+        told: Arc::try_clone(&told)?,
+        left: Arc::try_clone(&left)?,
+    };
+    let both = join(
+        &rt,
+        || match block_on::<ThreadWaker, Told<R>, R>(&rt, alloc, future) {
+            Ok(output) => output,
+            Err(_) => false,
+        },
+        || tell(&rt, &*told, &*left),
+    );
+    Ok(both)
+}
+
+#[test]
+fn a_thread_parks_until_another_wakes_it(rt: HostRuntime) {
+    match wait_to_be_told(rt, rt.alloc()) {
+        Ok(both) => assert!(&rt; both == (true, true)),
+        Err(_) => assert!(&rt; false),
+    }
+}

@@ -1,0 +1,20 @@
+//! Tests of the running executor, against what `async_executor` gives its users. A crate of its own so that they are proved
+//! beside it, and it only once.
+#![tactic(auto)]
+
+#[cfg(test)]
+mod alone;
+#[cfg(test)]
+mod closing;
+#[cfg(test)]
+mod hello;
+#[cfg(test)]
+mod parts;
+#[cfg(test)]
+mod runs;
+#[cfg(test)]
+mod stage;
+#[cfg(test)]
+mod threads;
+#[cfg(test)]
+mod ticks;

@@ -17,8 +17,10 @@ module _ {W : Type 0} where
   LiesAgain number waker old new (Nowhere back) = IsAgain number waker old new (Unknown back)
 
   -- one that is up lies under a new number, with this waker, and one that lay lies under its own
-  abbrev pub LiesDown : Ticker → SleeperWaker W → Sleepers (SleeperWaker W) → Sleepers (SleeperWaker W) → Ticker → Laid W → Type 0
-  LiesDown (Up room) waker old new (Lies s) (Anew flag) = (s.number ≡ next_number old) × (new ≡ laid_down waker old) × (flag ≡ flag_of new)
+  abbrev pub LiesDown :
+      Ticker → SleeperWaker W → Sleepers (SleeperWaker W) → Sleepers (SleeperWaker W) → Ticker → Laid W → Type 0
+  LiesDown (Up room) waker old new (Lies s) (Anew flag) =
+      (s.number ≡ next_number old) × (new ≡ laid_down waker old) × (flag ≡ flag_of new)
   LiesDown (Up room) waker old new (Up _) (Nowhere back) = (back ≡ waker) × (new ≡ old) × (old.rooms ≤ old.count)
   LiesDown (Lies s) waker old new (Lies t) laid = (t ≡ s) × LiesAgain s.number waker old new laid
   LiesDown Left waker old new Left (Nowhere back) = (back ≡ waker) × (new ≡ old)

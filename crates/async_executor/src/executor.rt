@@ -38,6 +38,8 @@ where
     W: Wake + Drop + 'static,
     R: Wait + Copy + Drop + 'static,
 {
+    /// An executor with places for so many futures, whose tasks lie in this realm. It keeps the runtime value, the
+    /// allocator and the realm for its calls. All places of its queue and its table are taken here.
     pub fn new(
         rt: R,
         alloc: Global,
@@ -79,10 +81,17 @@ where
         }
     }
 
+    /// Whether each future that was accepted is dropped. It takes no memory.
     pub fn is_empty(&self) -> bool {
         self.table.lock(&self.rt).is_empty()
     }
 
+    /// Hands the executor a future. Its task is queued, and the handle is answered: a future with the output, whose drop
+    /// cancels the task.
+    ///
+    /// 1. Under the table's lock: accepts the future, or refuses it. `Full` where as many accepted futures as the limit are
+    ///    not dropped yet, and only then want of memory for the task. The future comes back.
+    /// 2. Once the lock is given back: hands the Runnable to the queue, and tells a sleeper.
     pub fn spawn(&self, future: F) -> Result<ExTask<T, W, R>, SpawnError<F>>
         ensures { IfErr result (λ error. refused error ≡ future) }
     {
@@ -104,6 +113,11 @@ where
         }
     }
 
+    /// Runs one task, where one is queued, and says whether it did. It doesn't wait for one, and takes no memory.
+    ///
+    /// 1. Takes a Runnable from the queue. Where there is none: false.
+    /// 2. Tells a sleeper, since there may be more.
+    /// 3. Runs it: true.
     pub fn try_tick(&self) -> bool {
         match self.state.queue.pop(&self.rt) {
             Ok(stored) => {
@@ -192,24 +206,26 @@ where
     W: Wake + Drop + 'static,
     R: Wait + Copy + Drop + 'static,
 {
-    /// Hands the executor one future after the other, until the iterator ends or one is refused.
+    /// Hands the executor one future after the other, until the iterator ends or one is refused. The handles of those that
+    /// were accepted are answered, in order, and the refused future with the cause; the rest stays in the iterator. The room
+    /// for a handle is asked for before its future is spawned.
     pub fn spawn_many<I: Iterator<Item = F>>(
         &self,
         futures: &mut I,
-        handles: &mut Handles<T, W, R>,
-    ) -> Result<(), SpawnError<F>>
+    ) -> (Handles<T, W, R>, Result<(), SpawnError<F>>)
         requires { I.can_next futures.old × IsFinite (I.remaining futures.old) }
     {
+        let mut handles = Handles::new(self.rt, self.alloc, self.realm);
         for _ in self.rt.forever() {
             let Some(future) = futures.next() else {
-                return Ok(());
+                return (handles, Ok(()));
             };
             if handles.reserve().is_err() {
-                return Err(SpawnError::NoMemory(future));
+                return (handles, Err(SpawnError::NoMemory(future)));
             }
             match self.spawn(future) {
                 Ok(task) => handles.push_back(task),
-                Err(refused) => return Err(refused),
+                Err(refused) => return (handles, Err(refused)),
             }
         }
         unreachable!()

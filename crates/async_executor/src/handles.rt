@@ -6,7 +6,7 @@ use std::sync::Wait;
 
 /// Handles in the order in which their futures were spawned. Its drop drops each that is left, which cancels its task.
 ///
-/// It stands where `spawn_many` of the Rust crate has a collection of the caller's own.
+/// `Executor::spawn_many` answers it, where that of the Rust crate fills a collection of the caller's.
 pub struct Handles<T, W, R>
 where
     T: Drop + 'static,
@@ -24,8 +24,8 @@ where
     W: Wake + Drop + 'static,
     R: Wait + Copy + Drop + 'static,
 {
-    /// No handle, for executors that have their tasks in this realm. It takes no memory.
-    pub fn new(rt: R, alloc: Global, realm: &'static ExRealm<T, W, R>) -> Self {
+    /// No handle of an executor whose tasks lie in this realm. It takes no memory.
+    pub(crate) fn new(rt: R, alloc: Global, realm: &'static ExRealm<T, W, R>) -> Self {
         Handles {
             rt,
             realm,
@@ -58,9 +58,13 @@ where
         Ok(())
     }
 
-    /// One more comes last. It takes no memory where there is room, and else drops the handle.
+    /// One more, of a task in the same realm, comes last. It takes no memory where there is room, and else drops the handle.
     pub(crate) fn push_back(&mut self, task: ExTask<T, W, R>) {
-        let _ = self.tasks.push_back(task.store());
+        if let Err(refused) = self.tasks.push_back(task.store()) {
+            if let Some(task) = refused.value.redeem(self.rt, self.realm) {
+                drop(task);
+            }
+        }
     }
 }
 

@@ -24,6 +24,7 @@ mod ticker;
 pub use async_task::{FallibleTask, NoMemory, Task};
 pub use errors::{RunError, SpawnError};
 pub use executor::Executor;
+pub use executor_parts::{Places, Sleepers};
 pub use handles::Handles;
 pub use names::{ExCancel, ExFallible, ExRealm, ExRunnable, ExTask, ExWaker};
 pub use queue::ExQueue;

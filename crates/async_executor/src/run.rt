@@ -127,7 +127,7 @@ where
 {
     /// 1. Drops its future.
     /// 2. Takes its own queue out of the executor's list, and schedules each Runnable that is left there, in order.
-    /// 3. Leaves the sleepers, and gives its room there back.
+    /// 3. Leaves the sleepers, and gives its room there and in the list back.
     ///
     /// A run that was never polled only drops its future and gives its room back.
     fn drop(self) {
@@ -141,5 +141,6 @@ where
         drop(future);
         runner.end(executor.rt, &executor.state, executor.realm);
         ticker.leave(executor.rt, &executor.state, executor.realm);
+        executor.state.own_queues.write(&executor.rt).return_room();
     }
 }

@@ -32,7 +32,7 @@ where
     ensures one_task { IfOk result (λ both. both.0 ≡ both.1) }
     ensures future { IfErr result (λ error. refused error ≡ future) }
     ensures cause { IfErr result (IsRefusedAt table.old) }
-    ensures same { IfErr result (λ _. table.new.entries ≡ table.old.entries) }
+    ensures same { IfErr result (λ _. (table.new.entries ≡ table.old.entries) × (table.new.limit ≡ table.old.limit)) }
 {
     let vacancy = match table.vacancy() {
         Ok(vacancy) => vacancy,

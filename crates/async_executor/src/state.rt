@@ -46,9 +46,7 @@ impl<W: Drop> State<W> {
             Err(_) => Err(NoMemory),
         }
     }
-}
 
-impl<W: Drop> State<W> {
     /// Stores the flag, which is done under the sleepers' lock.
     pub fn store_flag(&self, notified: bool) {
         self.notified.store(notified, Ordering::SeqCst);

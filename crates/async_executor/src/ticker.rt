@@ -27,7 +27,7 @@ pub enum Found {
     Runnable(StoredRunnable),
     /// Nothing yet: it lies, and has to search once more.
     SearchAgain,
-    /// Nothing: it lies, and its waker will be called.
+    /// Nothing: it lies, and its waker will be called, or was called at once where it can't be kept.
     Nothing,
     /// No copy of the waker could be had. What was done before stays done.
     NoMemory,

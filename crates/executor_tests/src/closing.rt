@@ -63,8 +63,8 @@ fn an_output_outlives_its_executor(rt: HostRuntime) {
 fn many_are_spawned_until_one_is_refused(rt: HostRuntime) {
     let stage = Stage::new(rt, rt.alloc(), TestRealm::leak(rt.alloc(), 0), 0);
     let executor: TestExecutor<Plain, HostRuntime> = stage.executor(2);
-    let mut handles = stage.handles();
-    match executor.spawn_many(&mut (0..3).map(Plain), &mut handles) {
+    let (mut handles, refused) = executor.spawn_many(&mut (0..3).map(Plain));
+    match refused {
         Err(SpawnError::Full(Plain(name))) => assert_eq!(rt; name, 2),
         _ => panic!(rt; "none was refused"),
     }
@@ -81,12 +81,8 @@ fn many_are_spawned_until_one_is_refused(rt: HostRuntime) {
 fn outputs_of_many_come_in_order(rt: HostRuntime) {
     let stage = Stage::new(rt, rt.alloc(), TestRealm::leak(rt.alloc(), 0), 0);
     let executor: TestExecutor<Plain, HostRuntime> = stage.executor(50);
-    let mut handles = stage.handles();
-    assert!(rt;
-        executor
-            .spawn_many(&mut (0..50).map(Plain), &mut handles)
-            .is_ok()
-    );
+    let (mut handles, refused) = executor.spawn_many(&mut (0..50).map(Plain));
+    assert!(rt; refused.is_ok());
     stage.count(handles.len(), 50);
     for _ in 0..50 {
         stage.ticks(&executor, true);

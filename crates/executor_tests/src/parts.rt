@@ -85,6 +85,13 @@ impl Notes {
         }
     }
 
+    /// Notes that the output of the future of this name was given.
+    fn is_given(&self, name: u64) {
+        if let Some(counts) = self.each.get(name as usize) {
+            counts.outputs.fetch_add(1, SeqCst);
+        }
+    }
+
     /// Notes that a future is dropped.
     fn is_dropped<R: Wait>(&self, rt: &R, name: u64) {
         self.drops.fetch_add(1, SeqCst);
@@ -242,12 +249,13 @@ impl Meddler {
         rt: R,
         realm: &'static TestRealm<R>,
         name: u64,
+        notes: &Notes,
         waker: &TestWaker<R>,
     ) -> Poll<u64> {
         let deed = self.deed;
         self.deed = deed_after(deed);
         match deed {
-            Deed::Await(0) => self.await_other(rt, realm, name, waker),
+            Deed::Await(0) => self.await_other(rt, realm, name, notes, waker),
             Deed::Detach(0) => {
                 if let Some(stored) = self.other.take() {
                     if let Some(task) = stored.redeem(rt, realm) {
@@ -274,6 +282,7 @@ impl Meddler {
         rt: R,
         realm: &'static TestRealm<R>,
         name: u64,
+        notes: &Notes,
         waker: &TestWaker<R>,
     ) -> Poll<u64> {
         let Some(stored) = self.other.take() else {
@@ -285,7 +294,11 @@ impl Meddler {
         let polled = task.poll(waker);
         self.other = Some(task.store());
         match polled {
-            Poll::Ready(_) => Poll::Ready(name),
+            Poll::Ready(Ok(output)) => {
+                notes.is_given(output);
+                Poll::Ready(name)
+            }
+            Poll::Ready(Err(_)) => Poll::Ready(name),
             Poll::Pending => Poll::Pending,
         }
     }
@@ -325,7 +338,9 @@ impl<R: Wait + Copy + Drop + 'static> Job<R> {
     fn poll_work(&mut self, waker: &TestWaker<R>) -> Poll<u64> {
         match &mut self.work {
             Work::Keep(place) => keep(self.rt, self.realm, place, waker),
-            Work::Meddle(meddler) => meddler.poll(self.rt, self.realm, self.name, waker),
+            Work::Meddle(meddler) => {
+                meddler.poll(self.rt, self.realm, self.name, &self.notes, waker)
+            }
             work => work.poll(waker),
         }
     }

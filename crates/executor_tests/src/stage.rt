@@ -227,11 +227,6 @@ impl<R: Abort + Wait + Copy + Drop + 'static> Stage<R> {
         }
     }
 
-    /// A list of no handles.
-    pub fn handles(&self) -> Handles<u64, Bell, R> {
-        Handles::new(self.rt, self.alloc, self.realm)
-    }
-
     /// Makes an executor, spawns a future on it, and drops both: the text of where the task lay.
     pub fn place_of_a_short_life<F: Future<TestWaker<R>, Output = u64> + Drop>(
         &self,
@@ -261,6 +256,17 @@ impl<R: Abort + Wait + Copy + Drop + 'static> Stage<R> {
             assert_eq!(self.rt; counts.drops.load(SeqCst), 1);
         }
         assert_eq!(self.rt; self.notes.overlaps.load(SeqCst), 0);
+    }
+
+    /// No output of a future that is counted one by one was given twice, and some were given.
+    pub fn outputs_were_given_once(&self) {
+        let mut given = 0u64;
+        for counts in &self.notes.each {
+            let outputs = counts.outputs.load(SeqCst);
+            assert!(self.rt; outputs <= 1);
+            given = given.saturating_add(outputs);
+        }
+        assert!(self.rt; given > 0);
     }
 
     /// Each future that is counted one by one was polled so often.

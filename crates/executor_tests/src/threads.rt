@@ -93,6 +93,7 @@ fn four_threads_run_futures_that_await_cancel_and_detach_each_other(rt: HostRunt
         assert!(rt; *has_ended);
     }
     stage.each_was_dropped_once();
+    stage.outputs_were_given_once();
     let Some(last) = other else {
         panic!(rt; "none was spawned");
     };

@@ -36,6 +36,23 @@ fn a_dropped_tick_passes_the_call_on(rt: HostRuntime) {
 }
 
 #[test]
+fn a_tick_that_finds_a_task_tells_another(rt: HostRuntime) {
+    let stage = Stage::new(rt, rt.alloc(), TestRealm::leak(rt.alloc(), 0), 0);
+    let executor = stage.executor(2);
+    let mut first = stage.tick(&executor);
+    let mut second = stage.tick(&executor);
+    stage.tick_is_ready(&mut first, false);
+    stage.tick_is_ready(&mut second, false);
+    stage.spawn_detached(&executor, stage.job(1, Work::Ready(1)));
+    stage.spawn_detached(&executor, stage.job(2, Work::Ready(2)));
+    stage.rings(1);
+    stage.tick_is_ready(&mut second, true);
+    stage.rings(2);
+    stage.tick_is_ready(&mut first, true);
+    stage.polled(&[1, 2]);
+}
+
+#[test]
 fn a_tick_serves_again_after_it_was_ready(rt: HostRuntime) {
     let stage = Stage::new(rt, rt.alloc(), TestRealm::leak(rt.alloc(), 0), 0);
     let executor = stage.executor(1);

@@ -10,11 +10,11 @@ use Rattle.executor_core.specs.declared.store.Store.{Store}
 
 abbrev pub world_of : Store → World
 world_of s = record {
-  limit = s.limit;
+  limit = s.entries.limit;
   tasks = s.tasks.items;
   awaiters = s.awaiters.items;
   inside = s.entries.inside;
-  queue = record { items = s.queue.items; capacity = Some s.limit; closed = s.closed; accepted = None };
+  queue = record { items = s.queue.items; capacity = Some s.entries.limit; closed = s.closed; accepted = None };
   table = s.entries.table;
   leaving = s.entries.leaving;
   waking = s.waking.items;

@@ -16,5 +16,5 @@ mod task;
 mod uses;
 
 pub use executor_model::Kind;
-pub use executor_table::Places;
+pub use executor_parts::{Place, Places, SpawnRefused, Vacancy};
 pub use machine::Machine;

@@ -109,12 +109,11 @@ fn empty(alloc: Global, limit: u64) -> Store
     ensures { world_of result ≡ (steps.start limit 0).world }
 {
     Store {
-        limit,
         tasks: Vec::new(alloc),
         awaiters: Vec::new(alloc),
         queue: VecDeque::new(alloc),
         closed: false,
-        entries: Entries::new(alloc),
+        entries: Entries::new(alloc, limit),
         waking: VecDeque::new(alloc),
         wakers: Vec::new(alloc),
         gone: false,

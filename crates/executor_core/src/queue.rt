@@ -16,7 +16,7 @@ pub fn append(store: &mut Store, todo: &mut Vec<Op>, f: u64)
     requires space { HasSpace todo.old }
     ensures { Does (acts.append (world_of store.old) f) store.new todo.old.items todo.new.items }
 {
-    if !store.closed && (store.queue.len() as u64) < store.limit {
+    if !store.closed && (store.queue.len() as u64) < store.entries.limit() {
         store.queue.push_back_reserved(f);
     } else {
         todo.push_reserved(Op::DropRunnable(f));

@@ -6,8 +6,6 @@ use task_moves::moves::State;
 /// The state of the machine without what its parties have still to do.
 #[derive(Drop)]
 pub struct Store {
-    /// So many accepted futures may be undropped.
-    pub limit: u64,
     /// By the numbers of the futures: the marks and the count of each task.
     pub tasks: Vec<State>,
     /// The awaiter that each task keeps.
@@ -15,8 +13,8 @@ pub struct Store {
     /// The Runnables, by their futures.
     pub queue: VecDeque<u64>,
     pub closed: bool,
-    /// The table, where each future has an entry and a waker, and what the executor's drop has taken out of it and not
-    /// yet dropped.
+    /// The table, where each future has an entry and a waker, with the limit of undropped futures, and what the executor's
+    /// drop has taken out of it and not yet dropped.
     pub entries: Entries,
     /// The wakers of those that it has dropped and not yet woken.
     pub waking: VecDeque<u64>,

@@ -9,6 +9,7 @@ ghost use Rattle.executor_core.specs.Views.{world_of, HasRoom, HasRoomToEnd, Has
 
 use crate::store::Store;
 use executor_model::{Event, Hint, Hold, Op, Reply};
+use executor_parts::SpawnRefused;
 use task_moves::moves::State;
 
 /// A new future is taken in, where there are not too many and memory is not refused.
@@ -18,18 +19,26 @@ pub fn enter(store: &mut Store, todo: &mut Vec<Op>, party: u32, hint: Hint)
     requires space { HasSpace todo.old }
     ensures { Does (acts.enter party hint (world_of store.old)) store.new todo.old.items todo.new.items }
 {
-    if store.entries.len() as u64 >= store.limit {
-        todo.push_reserved(Op::End(Reply::Full, Hold::Executor));
-        return;
-    }
+    let vacancy = match store.entries.vacancy() {
+        Ok(vacancy) => vacancy,
+        Err(SpawnRefused::Full) => {
+            todo.push_reserved(Op::End(Reply::Full, Hold::Executor));
+            return;
+        }
+        Err(SpawnRefused::NoMemory) => {
+            todo.push_reserved(Op::End(Reply::NoMemory, Hold::Executor));
+            return;
+        }
+    };
     if hint.refused {
+        vacancy.give_back();
         todo.push_reserved(Op::End(Reply::NoMemory, Hold::Executor));
         return;
     }
     let f = store.tasks.len() as u64;
     store.tasks.push_reserved(entered());
     store.awaiters.push_reserved(None);
-    store.entries.enter(f);
+    store.entries.enter(vacancy, f);
     store
         .trace
         .push_reserved(Event::Accepted { party, future: f });

@@ -49,6 +49,10 @@ places_code {F} {W} future waker =
     (λ _. refl)
 
 module _ {F W : Type 0} where
+  -- where an entry is
+  abbrev pub place_of : Entry F W → Place
+  place_of e = record { key = e.key; stamp = e.stamp }
+
   -- the entry under a key
   abbrev pub entry_at : ℕ → List (Entry F W) → Option (Entry F W)
   entry_at key [] = None

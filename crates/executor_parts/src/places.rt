@@ -1,5 +1,6 @@
 //! The table of an executor: its futures, each with a waker, in the order in which they were accepted.
-ghost use Rattle.std.specs.Prelude.{◌≡◌, ℕ, ◌%◌, ◌^◌, ◌+◌, ◌<◌, ◌≤◌, ◌==◌, ◌++◌, [], ◌∷◌, true, None, Some, OnOk, IsOk, OnSome, IfNone, IfSome, IfOk, IfErr, IsSome, is_some, length, option_copied};
+ghost use Rattle.std.specs.Prelude.{◌≡◌, ℕ, ◌%◌, ◌^◌, ◌+◌, ◌<◌, ◌≤◌, ◌==◌, ◌++◌, [], ◌∷◌, true, None, Some, OnOk, IsOk, OnSome, IfNone, IfSome, IfOk, IfErr, IsSome, is_some, length, map, option_copied};
+ghost use Rattle.executor_parts.specs.Order.{IsApart};
 ghost use Rattle.executor_parts.specs.Places.{entry_at, without_entry, entry_in, left_by, set_future, future_of, waker_of, parts_of, displaced, IsVacancy, IsRefusal};
 
 use crate::order::Order;
@@ -234,9 +235,10 @@ impl<F, W> Places<F, W> {
         Some(future)
     }
 
-    /// The waker that an entry has.
+    /// The waker that an entry has. No two entries have one key, so no two have one place.
     pub fn waker(&self, place: Place) -> Option<&W>
-        ensures { option_copied result ≡ waker_of (entry_in place self.now.entries) }
+        ensures waker { option_copied result ≡ waker_of (entry_in place self.now.entries) }
+        ensures apart { IsApart (map (λ e. e.key) self.now.entries) }
     {
         match self.slab.get(place.key) {
             Some(held) => {

@@ -1,4 +1,2 @@
 pub mod Cells
-pub mod Ring
-pub mod Placing
 pub mod Seating

@@ -1,17 +1,24 @@
 -- How the entries of the machine's futures follow their numbers.
-use Rattle.std.proofs.Common.{◌≡◌, ◌≢◌, ℕ, zero, suc, ◌<◌, ◌≤◌, Bool, true, false, eqb, List, [], ◌∷◌, ◌++◌, length, map, get_or, set, Option, Some, None, IfSome, IfNone, is_some, refl, sym, ap, ◌∙◌, subst, inl, inr, arith, length-append, length-set}
+use Rattle.std.proofs.Common.{◌≡◌, ◌≢◌, ℕ, zero, suc, ◌<◌, ◌≤◌, Bool, true, false, eqb, List, [], ◌∷◌, ◌++◌, length, map, get_or, set}
+use Rattle.std.proofs.Common.{Option, Some, None, IfSome, IfNone, is_some, refl, sym, ap, ◌∙◌, subst, inl, inr, arith}
 use Rattle.std.proofs.lemmas.Bool.{cases_eq, false≢true}
 use Rattle.std.proofs.lemmas.Bool.Decides.{nat_tests}
-use Rattle.std.proofs.lemmas.List.{get_or_append_left, get_or_push, get_or_read}
+use Rattle.std.proofs.lemmas.Option.{none-some, slice_get_read, slice_get_past}
 use Rattle.executor_model.specs.World.{without, among}
+use Rattle.executor_parts.specs.declared.places.Place.{Place}
+use Rattle.executor_parts.specs.Order.{IsIn, IsApart}
+use Rattle.executor_parts.specs.Places.{Entry, place_of, entry_at, stamped, entry_in, where_there, waker_of}
+use Rattle.executor_parts.specs.Places.{without_entry, with_future, left_by, set_future}
 use Rattle.executor_table.specs.declared.entries.Seat.{Seat}
-use Rattle.executor_table.specs.Order.{IsIn, IsApart}
-use Rattle.executor_table.specs.Places.{Entry, entry_at, without_entry, with_future, waker_of}
-use Rattle.executor_table.specs.Entered.{no_seat, key_of, AreSeated, futures_of, present_by, present_of}
+use Rattle.executor_table.specs.Entered.{place_by, place_in, AreSeated, futures_of, present_by, present_of}
 use Rattle.executor_table.proofs.Cells.{among_no, among_yes, without_no, without_yes, without_none}
 
 module _ {F : Type 0} where
-  -- one cell of a list of entries, by its key
+  abbrev keys_of : List (Entry F ℕ) → List ℕ
+  keys_of es = map (λ (e : Entry F ℕ). e.key) es
+
+  -- ---- one cell of a list of entries, by its key
+
   at_here : (k : ℕ) (e : Entry F ℕ) (es : List (Entry F ℕ)) → e.key ≡ k → entry_at k (e ∷ es) ≡ Some e
   at_here k e es same = let t : eqb k e.key ≡ true = grind (arith, nat_tests) in rw (t, entry_at)
 
@@ -24,45 +31,120 @@ module _ {F : Type 0} where
   went_past : (k : ℕ) (e : Entry F ℕ) (es : List (Entry F ℕ)) → e.key ≢ k → without_entry k (e ∷ es) ≡ e ∷ without_entry k es
   went_past k e es differs = let t : eqb k e.key ≡ false = grind (arith, nat_tests) in rw (t, without_entry)
 
-  with_here : (k : ℕ) (future : Option F) (e : Entry F ℕ) (es : List (Entry F ℕ)) → e.key ≡ k → with_future k future (e ∷ es) ≡ record e { future = future } ∷ es
+  with_here :
+      (k : ℕ) (future : Option F) (e : Entry F ℕ) (es : List (Entry F ℕ))
+      → e.key ≡ k → with_future k future (e ∷ es) ≡ record e { future = future } ∷ es
   with_here k future e es same = let t : eqb k e.key ≡ true = grind (arith, nat_tests) in rw (t, with_future)
 
-  with_past : (k : ℕ) (future : Option F) (e : Entry F ℕ) (es : List (Entry F ℕ)) → e.key ≢ k → with_future k future (e ∷ es) ≡ e ∷ with_future k future es
+  with_past :
+      (k : ℕ) (future : Option F) (e : Entry F ℕ) (es : List (Entry F ℕ))
+      → e.key ≢ k → with_future k future (e ∷ es) ≡ e ∷ with_future k future es
   with_past k future e es differs = let t : eqb k e.key ≡ false = grind (arith, nat_tests) in rw (t, with_future)
+
+  -- the waker of a first entry that is under this key
+  waker_here : (k f : ℕ) (e : Entry F ℕ) (es : List (Entry F ℕ)) → e.key ≡ k → waker_of (entry_at k (e ∷ es)) ≡ Some f → e.waker ≡ f
+  waker_here k f e es same found =
+      let w : Some e.waker ≡ Some f = sym (ap waker_of (at_here k e es same)) ∙ found in
+      cc
+
+  -- past an entry that isn't
+  waker_past :
+      (k f : ℕ) (e : Entry F ℕ) (es : List (Entry F ℕ))
+      → e.key ≢ k → waker_of (entry_at k (e ∷ es)) ≡ Some f → waker_of (entry_at k es) ≡ Some f
+  waker_past k f e es differs found = sym (ap waker_of (at_past k e es differs)) ∙ found
+
+  none_at : (k : ℕ) (es : List (Entry F ℕ)) → ¬ IsIn k (keys_of es) → entry_at k es ≡ None
+  none_at k [] absent = refl
+  none_at k (e ∷ es) absent = at_past k e es (λ same. absent (inl same)) ∙ none_at k es (λ there. absent (inr there))
+
+  -- ---- the entry at a place
+
+  is_stamped : (stamp : ℕ) (e : Entry F ℕ) → e.stamp ≡ stamp → stamped stamp (Some e) ≡ Some e
+  is_stamped stamp e same = let t : eqb e.stamp stamp ≡ true = grind (arith, nat_tests) in rw (t, stamped) refl
+
+  stamped_found : (stamp f : ℕ) (o : Option (Entry F ℕ)) → waker_of (stamped stamp o) ≡ Some f → waker_of o ≡ Some f
+  stamped_found stamp f None found = found
+  stamped_found stamp f (Some e) found =
+      elim (cases_eq e.stamp stamp) [
+        | inl same ↦ sym (ap waker_of (is_stamped stamp e same)) ∙ found
+        | inr differs ↦
+            let t : eqb e.stamp stamp ≡ false = grind (arith, nat_tests) in
+            let none : stamped stamp (Some e) ≡ None = rw (t, stamped) refl in
+            absurd (none-some f (sym (ap waker_of none) ∙ found))
+      ]
+
+  -- it is the one under its key
+  pub key_found : (p : Place) (f : ℕ) (es : List (Entry F ℕ)) → waker_of (entry_in p es) ≡ Some f → waker_of (entry_at p.key es) ≡ Some f
+  key_found p f es found = stamped_found p.stamp f (entry_at p.key es) found
+
+  -- a change at its place is one under its key
+  pub set_found :
+      (p : Place) (f : ℕ) (future : Option F) (es : List (Entry F ℕ))
+      → waker_of (entry_in p es) ≡ Some f → set_future p future es ≡ with_future p.key future es
+  set_found p f future es found = of (entry_in p es) found
+    where
+      of : (o : Option (Entry F ℕ)) → waker_of o ≡ Some f → where_there o (with_future p.key future es) es ≡ with_future p.key future es
+      of None found = absurd (none-some f found)
+      of (Some e) found = refl
+
+  pub left_found :
+      (p : Place) (f : ℕ) (es : List (Entry F ℕ))
+      → waker_of (entry_in p es) ≡ Some f → left_by p es ≡ without_entry p.key es
+  left_found p f es found = of (entry_in p es) found
+    where
+      of : (o : Option (Entry F ℕ)) → waker_of o ≡ Some f → where_there o (without_entry p.key es) es ≡ without_entry p.key es
+      of None found = absurd (none-some f found)
+      of (Some e) found = refl
 
   -- ---- the seats
 
-  -- other seats with the same keys, and maybe more of them
-  pub seated_kept : (old new : List Seat) (es : List (Entry F ℕ)) → length old ≤ length new → ((n : ℕ) → n < length old → key_of new n ≡ key_of old n) → AreSeated old es → AreSeated new es
-  seated_kept old new [] more same seated = tt
-  seated_kept old new (e ∷ es) more same seated =
-      (omega (arith, seated.0), same e.waker seated.0 ∙ seated.1, seated_kept old new es more same seated.2)
+  -- other seats with the same places, and maybe more of them
+  seated_kept :
+      (old new : List Seat) (es : List (Entry F ℕ))
+      → ((n : ℕ) (p : Place) → place_in old n ≡ Some p → place_in new n ≡ Some p)
+      → AreSeated old es → AreSeated new es
+  seated_kept old new [] same seated = tt
+  seated_kept old new (e ∷ es) same seated = (same e.waker (place_of e) seated.0, seated_kept old new es same seated.1)
 
-  pub seated_push : (seats : List Seat) (es : List (Entry F ℕ)) (e : Entry F ℕ) → e.waker < length seats → key_of seats e.waker ≡ e.key → AreSeated seats es → AreSeated seats (es ++ e ∷ [])
-  seated_push seats [] e known here seated = (known, here, tt)
-  seated_push seats (x ∷ es) e known here seated = (seated.0, seated.1, seated_push seats es e known here seated.2)
+  pub seated_push :
+      (seats : List Seat) (es : List (Entry F ℕ)) (e : Entry F ℕ)
+      → place_in seats e.waker ≡ Some (place_of e) → AreSeated seats es → AreSeated seats (es ++ e ∷ [])
+  seated_push seats [] e here seated = (here, tt)
+  seated_push seats (x ∷ es) e here seated = (seated.0, seated_push seats es e here seated.1)
 
   pub seated_without : (seats : List Seat) (k : ℕ) (es : List (Entry F ℕ)) → AreSeated seats es → AreSeated seats (without_entry k es)
   seated_without seats k [] seated = tt
   seated_without seats k (e ∷ es) seated =
       elim (cases_eq e.key k) [
-        | inl same ↦ subst (AreSeated seats) (sym (went_here k e es same)) seated.2
-        | inr differs ↦ subst (AreSeated seats) (sym (went_past k e es differs)) (seated.0, seated.1, seated_without seats k es seated.2)
+        | inl same ↦ subst (AreSeated seats) (sym (went_here k e es same)) seated.1
+        | inr differs ↦ subst (AreSeated seats) (sym (went_past k e es differs)) (seated.0, seated_without seats k es seated.1)
       ]
 
-  pub seated_with : (seats : List Seat) (k : ℕ) (future : Option F) (es : List (Entry F ℕ)) → AreSeated seats es → AreSeated seats (with_future k future es)
+  pub seated_with :
+      (seats : List Seat) (k : ℕ) (future : Option F) (es : List (Entry F ℕ))
+      → AreSeated seats es → AreSeated seats (with_future k future es)
   seated_with seats k future [] seated = tt
   seated_with seats k future (e ∷ es) seated =
       elim (cases_eq e.key k) [
-        | inl same ↦ subst (AreSeated seats) (sym (with_here k future e es same)) (seated.0, seated.1, seated.2)
-        | inr differs ↦ subst (AreSeated seats) (sym (with_past k future e es differs)) (seated.0, seated.1, seated_with seats k future es seated.2)
+        | inl same ↦ subst (AreSeated seats) (sym (with_here k future e es same)) (seated.0, seated.1)
+        | inr differs ↦ subst (AreSeated seats) (sym (with_past k future e es differs)) (seated.0, seated_with seats k future es seated.1)
       ]
 
-  -- ---- the futures
+  -- the entry of this future is where its seat says
+  is_seated :
+      (seats : List Seat) (e : Entry F ℕ) (f : ℕ) (p : Place)
+      → place_in seats e.waker ≡ Some (place_of e) → place_in seats f ≡ Some p → e.waker ≡ f → place_of e ≡ p
+  is_seated seats e f p seated here same =
+      let both : Some (place_of e) ≡ Some p = sym seated ∙ ap (place_in seats) same ∙ here in
+      cc
 
-  pub futures_push : (es : List (Entry F ℕ)) (e : Entry F ℕ) → futures_of (es ++ e ∷ []) ≡ futures_of es ++ e.waker ∷ []
-  futures_push [] e = refl
-  futures_push (x ∷ es) e = ap (λ (fs : List ℕ). x.waker ∷ fs) (futures_push es e)
+  -- an entry under another key is of another future
+  other_future :
+      (seats : List Seat) (e : Entry F ℕ) (f : ℕ) (p : Place)
+      → place_in seats e.waker ≡ Some (place_of e) → place_in seats f ≡ Some p → e.key ≢ p.key → e.waker ≢ f
+  other_future seats e f p seated here differs same = differs (ap (λ (q : Place). q.key) (is_seated seats e f p seated here same))
+
+  -- ---- the futures
 
   pub futures_with : (k : ℕ) (future : Option F) (es : List (Entry F ℕ)) → futures_of (with_future k future es) ≡ futures_of es
   futures_with k future [] = refl
@@ -73,63 +155,70 @@ module _ {F : Type 0} where
       ]
 
   pub is_among : (f k : ℕ) (es : List (Entry F ℕ)) → waker_of (entry_at k es) ≡ Some f → among f (futures_of es) ≡ true
-  is_among f k [] found = absurd (cc)
+  is_among f k [] found = absurd (none-some f found)
   is_among f k (e ∷ es) found =
       elim (cases_eq e.waker f) [
         | inl same ↦ among_yes f e.waker (futures_of es) same
         | inr differs ↦
-            among_no f e.waker (futures_of es) differs
-            ∙ is_among f k es (elim (cases_eq e.key k) [
-              | inl here ↦ let w : Some e.waker ≡ Some f = sym (ap waker_of (at_here k e es here)) ∙ found in absurd (differs cc)
-              | inr past ↦ sym (ap waker_of (at_past k e es past)) ∙ found
-            ])
+            let past : e.key ≢ k = λ here. differs (waker_here k f e es here found) in
+            among_no f e.waker (futures_of es) differs ∙ is_among f k es (waker_past k f e es past found)
       ]
 
-  none_at : (k : ℕ) (es : List (Entry F ℕ)) → ¬ IsIn k (map (λ (e : Entry F ℕ). e.key) es) → entry_at k es ≡ None
-  none_at k [] absent = refl
-  none_at k (e ∷ es) absent = at_past k e es (λ same. absent (inl same)) ∙ none_at k es (λ there. absent (inr there))
+  -- no other entry is at this place
+  none_in : (p : Place) (e : Entry F ℕ) (es : List (Entry F ℕ)) → IsApart (keys_of (e ∷ es)) → e.key ≡ p.key → entry_in p es ≡ None
+  none_in p e es apart here =
+      let absent : ¬ IsIn p.key (keys_of es) = λ there. apart.0 (subst (λ k. IsIn k (keys_of es)) (sym here) there) in
+      ap (stamped p.stamp) (none_at p.key es absent)
 
-  pub not_among : (seats : List Seat) (f : ℕ) (es : List (Entry F ℕ)) → AreSeated seats es → IsApart (map (λ (e : Entry F ℕ). e.key) es) → waker_of (entry_at (key_of seats f) es) ≢ Some f → among f (futures_of es) ≡ false
-  not_among seats f [] seated apart other = refl
-  not_among seats f (e ∷ es) seated apart other =
+  -- its entry isn't at its place, so it has none
+  pub not_among :
+      (seats : List Seat) (f : ℕ) (p : Place) (es : List (Entry F ℕ))
+      → AreSeated seats es → IsApart (keys_of es) → place_in seats f ≡ Some p → waker_of (entry_in p es) ≢ Some f
+      → among f (futures_of es) ≡ false
+  not_among seats f p [] seated apart here other = refl
+  not_among seats f p (e ∷ es) seated apart here other =
       elim (cases_eq e.waker f) [
         | inl same ↦
-            let here : e.key ≡ key_of seats f = sym seated.1 ∙ ap (key_of seats) same in
-            absurd (other (ap waker_of (at_here (key_of seats f) e es here) ∙ ap Some same))
+            let place = is_seated seats e f p seated.0 here same in
+            let under = at_here p.key e es (ap (λ (q : Place). q.key) place) in
+            let found = ap (stamped p.stamp) under ∙ is_stamped p.stamp e (ap (λ (q : Place). q.stamp) place) in
+            absurd (other (ap waker_of found ∙ ap Some same))
         | inr differs ↦
             among_no f e.waker (futures_of es) differs
-            ∙ not_among seats f es seated.2 apart.1 (λ found.
-            elim (cases_eq e.key (key_of seats f)) [
-              | inl here ↦
-                  let none : entry_at (key_of seats f) es ≡ None = none_at (key_of seats f) es (λ there. apart.0 (subst (λ k. IsIn k (map (λ (x : Entry F ℕ). x.key) es)) (sym here) there)) in
-                  let no : None ≡ Some f = sym (ap waker_of none) ∙ found in absurd (cc)
-              | inr past ↦ other (ap waker_of (at_past (key_of seats f) e es past) ∙ found)
+            ∙ not_among seats f p es seated.1 apart.1 here (λ found.
+            elim (cases_eq e.key p.key) [
+              | inl at ↦ none-some f (sym (ap waker_of (none_in p e es apart at)) ∙ found)
+              | inr past ↦ other (ap (λ (o : Option (Entry F ℕ)). waker_of (stamped p.stamp o)) (at_past p.key e es past) ∙ found)
             ])
       ]
 
   -- a number that no future has yet
-  pub none_among : (seats : List Seat) (f : ℕ) (es : List (Entry F ℕ)) → AreSeated seats es → length seats ≤ f → among f (futures_of es) ≡ false
-  none_among seats f [] seated past = refl
-  none_among seats f (e ∷ es) seated past = among_no f e.waker (futures_of es) (λ same. omega (arith, seated.0)) ∙ none_among seats f es seated.2 past
+  pub none_among : (seats : List Seat) (f : ℕ) (es : List (Entry F ℕ)) → AreSeated seats es → place_in seats f ≡ None → among f (futures_of es) ≡ false
+  none_among seats f [] seated none = refl
+  none_among seats f (e ∷ es) seated none =
+      let other : e.waker ≢ f = λ same. none-some (place_of e) (sym none ∙ ap (place_in seats) (sym same) ∙ seated.0) in
+      among_no f e.waker (futures_of es) other ∙ none_among seats f es seated.1 none
 
-  pub futures_without : (seats : List Seat) (f k : ℕ) (es : List (Entry F ℕ)) → AreSeated seats es → k ≡ key_of seats f → waker_of (entry_at k es) ≡ Some f → futures_of (without_entry k es) ≡ without f (futures_of es)
-  futures_without seats f k [] seated here found = absurd (cc)
-  futures_without seats f k (e ∷ es) seated here found =
-      elim (cases_eq e.key k) [
+  pub futures_without :
+      (seats : List Seat) (f : ℕ) (p : Place) (es : List (Entry F ℕ))
+      → AreSeated seats es → place_in seats f ≡ Some p → waker_of (entry_at p.key es) ≡ Some f
+      → futures_of (without_entry p.key es) ≡ without f (futures_of es)
+  futures_without seats f p [] seated here found = absurd (none-some f found)
+  futures_without seats f p (e ∷ es) seated here found =
+      elim (cases_eq e.key p.key) [
         | inl same ↦
-            let w : Some e.waker ≡ Some f = sym (ap waker_of (at_here k e es same)) ∙ found in
-            let waker : e.waker ≡ f = cc in
-            ap futures_of (went_here k e es same) ∙ sym (without_yes f e.waker (futures_of es) waker)
+            ap futures_of (went_here p.key e es same)
+            ∙ sym (without_yes f e.waker (futures_of es) (waker_here p.key f e es same found))
         | inr differs ↦
-            let other : e.waker ≢ f = λ same. differs (sym seated.1 ∙ ap (key_of seats) same ∙ sym here) in
-            ap futures_of (went_past k e es differs)
-            ∙ ap (λ (fs : List ℕ). e.waker ∷ fs) (futures_without seats f k es seated.2 here (sym (ap waker_of (at_past k e es differs)) ∙ found))
+            let other = other_future seats e f p seated.0 here differs in
+            let rest = futures_without seats f p es seated.1 here (waker_past p.key f e es differs found) in
+            ap futures_of (went_past p.key e es differs)
+            ∙ ap (λ (fs : List ℕ). e.waker ∷ fs) rest
             ∙ sym (without_no f e.waker (futures_of es) other)
       ]
 
-  -- ---- the futures that are there
+  -- ---- one cell of a list of the futures that are there
 
-  -- one cell of a list of present futures
   among_past : (f w : ℕ) (future : Option F) (rest : List ℕ) → w ≢ f → among f (present_by future w rest) ≡ among f rest
   among_past f w None rest differs = refl
   among_past f w (Some x) rest differs = among_no f w rest differs
@@ -142,7 +231,9 @@ module _ {F : Type 0} where
         | inr past ↦ among_no g w xs past ∙ same ∙ sym (among_no g w ys past)
       ]
 
-  without_past : (f w : ℕ) (future : Option F) (rest : List ℕ) → w ≢ f → without f (present_by future w rest) ≡ present_by future w (without f rest)
+  without_past :
+      (f w : ℕ) (future : Option F) (rest : List ℕ)
+      → w ≢ f → without f (present_by future w rest) ≡ present_by future w (without f rest)
   without_past f w None rest differs = refl
   without_past f w (Some x) rest differs = without_no f w rest differs
 
@@ -150,104 +241,146 @@ module _ {F : Type 0} where
   without_here f w None rest same absent = without_none f rest absent
   without_here f w (Some x) rest same absent = without_yes f w rest same
 
+  -- ---- the futures that are there
+
   pub none_present : (f : ℕ) (es : List (Entry F ℕ)) → among f (futures_of es) ≡ false → among f (present_of es) ≡ false
   none_present f [] absent = refl
   none_present f (e ∷ es) absent =
       elim (cases_eq e.waker f) [
         | inl same ↦ absurd (false≢true (sym absent ∙ among_yes f e.waker (futures_of es) same))
-        | inr differs ↦ among_past f e.waker e.future (present_of es) differs ∙ none_present f es (sym (among_no f e.waker (futures_of es) differs) ∙ absent)
+        | inr differs ↦
+            let later : among f (futures_of es) ≡ false = sym (among_no f e.waker (futures_of es) differs) ∙ absent in
+            among_past f e.waker e.future (present_of es) differs ∙ none_present f es later
       ]
 
   pub without_absent : (f : ℕ) (es : List (Entry F ℕ)) → among f (futures_of es) ≡ false → present_of es ≡ without f (present_of es)
   without_absent f es absent = sym (without_none f (present_of es) (none_present f es absent))
 
-  pub present_push : (es : List (Entry F ℕ)) (k : ℕ) (x : F) (w : ℕ) → present_of (es ++ record { key = k; future = Some x; waker = w } ∷ []) ≡ present_of es ++ w ∷ []
-  present_push [] k x w = refl
-  present_push (e ∷ es) k x w = ap (present_by e.future e.waker) (present_push es k x w) ∙ after e.future
+  pub present_push : (es : List (Entry F ℕ)) (k stamp : ℕ) (x : F) (w : ℕ) → present_of (es ++ record { key = k; stamp = stamp; future = Some x; waker = w } ∷ []) ≡ present_of es ++ w ∷ []
+  present_push [] k stamp x w = refl
+  present_push (e ∷ es) k stamp x w = ap (present_by e.future e.waker) (present_push es k stamp x w) ∙ after e.future
     where
       after : (future : Option F) → present_by future e.waker (present_of es ++ w ∷ []) ≡ present_by future e.waker (present_of es) ++ w ∷ []
       after None = refl
       after (Some y) = refl
 
-  -- the other entries are of other futures
-  rest_absent : (seats : List Seat) (f : ℕ) (e : Entry F ℕ) (es : List (Entry F ℕ)) → AreSeated seats es → IsApart (map (λ (x : Entry F ℕ). x.key) (e ∷ es)) → e.key ≡ key_of seats f → among f (futures_of es) ≡ false
-  rest_absent seats f e es seated apart here =
-      not_among seats f es seated apart.1 (λ found.
-      let none : entry_at (key_of seats f) es ≡ None = none_at (key_of seats f) es (λ there. apart.0 (subst (λ k. IsIn k (map (λ (x : Entry F ℕ). x.key) es)) (sym here) there)) in
-      let no : None ≡ Some f = sym (ap waker_of none) ∙ found in absurd (cc))
+  -- the entries after that of a future are of others
+  rest_absent :
+      (seats : List Seat) (f : ℕ) (p : Place) (e : Entry F ℕ) (es : List (Entry F ℕ))
+      → AreSeated seats es → IsApart (keys_of (e ∷ es)) → place_in seats f ≡ Some p → e.key ≡ p.key
+      → among f (present_of es) ≡ false
+  rest_absent seats f p e es seated apart here at =
+      let other : waker_of (entry_in p es) ≢ Some f = λ found. none-some f (sym (ap waker_of (none_in p e es apart at)) ∙ found) in
+      none_present f es (not_among seats f p es seated apart.1 here other)
 
-  pub present_without : (seats : List Seat) (f k : ℕ) (es : List (Entry F ℕ)) → AreSeated seats es → IsApart (map (λ (x : Entry F ℕ). x.key) es) → k ≡ key_of seats f → waker_of (entry_at k es) ≡ Some f → present_of (without_entry k es) ≡ without f (present_of es)
-  present_without seats f k [] seated apart here found = absurd (cc)
-  present_without seats f k (e ∷ es) seated apart here found =
-      elim (cases_eq e.key k) [
+  pub present_without :
+      (seats : List Seat) (f : ℕ) (p : Place) (es : List (Entry F ℕ))
+      → AreSeated seats es → IsApart (keys_of es) → place_in seats f ≡ Some p → waker_of (entry_at p.key es) ≡ Some f
+      → present_of (without_entry p.key es) ≡ without f (present_of es)
+  present_without seats f p [] seated apart here found = absurd (none-some f found)
+  present_without seats f p (e ∷ es) seated apart here found =
+      elim (cases_eq e.key p.key) [
         | inl same ↦
-            let w : Some e.waker ≡ Some f = sym (ap waker_of (at_here k e es same)) ∙ found in
-            let waker : e.waker ≡ f = cc in
-            ap present_of (went_here k e es same) ∙ sym (without_here f e.waker e.future (present_of es) waker (none_present f es (rest_absent seats f e es seated.2 apart (same ∙ here))))
+            let waker = waker_here p.key f e es same found in
+            let rest = rest_absent seats f p e es seated.1 apart here same in
+            ap present_of (went_here p.key e es same) ∙ sym (without_here f e.waker e.future (present_of es) waker rest)
         | inr differs ↦
-            let other : e.waker ≢ f = λ same. differs (sym seated.1 ∙ ap (key_of seats) same ∙ sym here) in
-            ap present_of (went_past k e es differs)
-            ∙ ap (present_by e.future e.waker) (present_without seats f k es seated.2 apart.1 here (sym (ap waker_of (at_past k e es differs)) ∙ found))
+            let other = other_future seats e f p seated.0 here differs in
+            let rest = present_without seats f p es seated.1 apart.1 here (waker_past p.key f e es differs found) in
+            ap present_of (went_past p.key e es differs)
+            ∙ ap (present_by e.future e.waker) rest
             ∙ sym (without_past f e.waker e.future (present_of es) other)
       ]
 
-  pub present_out : (seats : List Seat) (f k : ℕ) (es : List (Entry F ℕ)) → AreSeated seats es → IsApart (map (λ (x : Entry F ℕ). x.key) es) → k ≡ key_of seats f → waker_of (entry_at k es) ≡ Some f → present_of (with_future k None es) ≡ without f (present_of es)
-  present_out seats f k [] seated apart here found = absurd (cc)
-  present_out seats f k (e ∷ es) seated apart here found =
-      elim (cases_eq e.key k) [
+  pub present_out :
+      (seats : List Seat) (f : ℕ) (p : Place) (es : List (Entry F ℕ))
+      → AreSeated seats es → IsApart (keys_of es) → place_in seats f ≡ Some p → waker_of (entry_at p.key es) ≡ Some f
+      → present_of (with_future p.key None es) ≡ without f (present_of es)
+  present_out seats f p [] seated apart here found = absurd (none-some f found)
+  present_out seats f p (e ∷ es) seated apart here found =
+      elim (cases_eq e.key p.key) [
         | inl same ↦
-            let w : Some e.waker ≡ Some f = sym (ap waker_of (at_here k e es same)) ∙ found in
-            let waker : e.waker ≡ f = cc in
-            ap present_of (with_here k None e es same) ∙ sym (without_here f e.waker e.future (present_of es) waker (none_present f es (rest_absent seats f e es seated.2 apart (same ∙ here))))
+            let waker = waker_here p.key f e es same found in
+            let rest = rest_absent seats f p e es seated.1 apart here same in
+            ap present_of (with_here p.key None e es same) ∙ sym (without_here f e.waker e.future (present_of es) waker rest)
         | inr differs ↦
-            let other : e.waker ≢ f = λ same. differs (sym seated.1 ∙ ap (key_of seats) same ∙ sym here) in
-            ap present_of (with_past k None e es differs)
-            ∙ ap (present_by e.future e.waker) (present_out seats f k es seated.2 apart.1 here (sym (ap waker_of (at_past k e es differs)) ∙ found))
+            let other = other_future seats e f p seated.0 here differs in
+            let rest = present_out seats f p es seated.1 apart.1 here (waker_past p.key f e es differs found) in
+            ap present_of (with_past p.key None e es differs)
+            ∙ ap (present_by e.future e.waker) rest
             ∙ sym (without_past f e.waker e.future (present_of es) other)
       ]
 
-  pub present_back : (seats : List Seat) (f k : ℕ) (x : F) (es : List (Entry F ℕ)) → AreSeated seats es → k ≡ key_of seats f → waker_of (entry_at k es) ≡ Some f → among f (present_of (with_future k (Some x) es)) ≡ true
-  present_back seats f k x [] seated here found = absurd (cc)
-  present_back seats f k x (e ∷ es) seated here found =
-      elim (cases_eq e.key k) [
+  pub present_back :
+      (seats : List Seat) (f : ℕ) (p : Place) (x : F) (es : List (Entry F ℕ))
+      → AreSeated seats es → place_in seats f ≡ Some p → waker_of (entry_at p.key es) ≡ Some f
+      → among f (present_of (with_future p.key (Some x) es)) ≡ true
+  present_back seats f p x [] seated here found = absurd (none-some f found)
+  present_back seats f p x (e ∷ es) seated here found =
+      elim (cases_eq e.key p.key) [
         | inl same ↦
-            let w : Some e.waker ≡ Some f = sym (ap waker_of (at_here k e es same)) ∙ found in
-            let waker : e.waker ≡ f = cc in
-            ap (λ (xs : List (Entry F ℕ)). among f (present_of xs)) (with_here k (Some x) e es same) ∙ among_yes f e.waker (present_of es) waker
+            ap (λ (xs : List (Entry F ℕ)). among f (present_of xs)) (with_here p.key (Some x) e es same)
+            ∙ among_yes f e.waker (present_of es) (waker_here p.key f e es same found)
         | inr differs ↦
-            let other : e.waker ≢ f = λ same. differs (sym seated.1 ∙ ap (key_of seats) same ∙ sym here) in
-            ap (λ (xs : List (Entry F ℕ)). among f (present_of xs)) (with_past k (Some x) e es differs)
-            ∙ among_past f e.waker e.future (present_of (with_future k (Some x) es)) other
-            ∙ present_back seats f k x es seated.2 here (sym (ap waker_of (at_past k e es differs)) ∙ found)
+            let other = other_future seats e f p seated.0 here differs in
+            ap (λ (xs : List (Entry F ℕ)). among f (present_of xs)) (with_past p.key (Some x) e es differs)
+            ∙ among_past f e.waker e.future (present_of (with_future p.key (Some x) es)) other
+            ∙ present_back seats f p x es seated.1 here (waker_past p.key f e es differs found)
       ]
 
-  pub others_present : (f g k : ℕ) (future : Option F) (es : List (Entry F ℕ)) → waker_of (entry_at k es) ≡ Some f → g ≢ f → among g (present_of (with_future k future es)) ≡ among g (present_of es)
+  pub others_present :
+      (f g k : ℕ) (future : Option F) (es : List (Entry F ℕ))
+      → waker_of (entry_at k es) ≡ Some f → g ≢ f → among g (present_of (with_future k future es)) ≡ among g (present_of es)
   others_present f g k future [] found other = refl
   others_present f g k future (e ∷ es) found other =
       elim (cases_eq e.key k) [
         | inl same ↦
-            let w : Some e.waker ≡ Some f = sym (ap waker_of (at_here k e es same)) ∙ found in
-            let waker : e.waker ≡ f = cc in
-            let apart : e.waker ≢ g = λ here. other (sym here ∙ waker) in
+            let apart : e.waker ≢ g = λ here. other (sym here ∙ waker_here k f e es same found) in
             ap (λ (xs : List (Entry F ℕ)). among g (present_of xs)) (with_here k future e es same)
             ∙ among_past g e.waker future (present_of es) apart
             ∙ sym (among_past g e.waker e.future (present_of es) apart)
         | inr differs ↦
             ap (λ (xs : List (Entry F ℕ)). among g (present_of xs)) (with_past k future e es differs)
-            ∙ among_after g e.waker e.future _ _ (others_present f g k future es (sym (ap waker_of (at_past k e es differs)) ∙ found) other)
+            ∙ among_after g e.waker e.future _ _ (others_present f g k future es (waker_past k f e es differs found) other)
       ]
+
+  pub length-futures : (es : List (Entry F ℕ)) → length (futures_of es) ≡ length es
+  length-futures [] = refl
+  length-futures (e ∷ es) = ap suc (length-futures es)
 
 -- ---- lists of seats
 
-pub key_kept : (seats : List Seat) (s : Seat) (n : ℕ) → n < length seats → key_of (seats ++ s ∷ []) n ≡ key_of seats n
-key_kept seats s n known = ap (λ (x : Seat). x.key) (get_or_append_left seats (s ∷ []) no_seat n known)
+pub place_new : (seats : List Seat) (s : Seat) (n : ℕ) → length seats ≡ n → place_in (seats ++ s ∷ []) n ≡ Some s.place
+place_new [] s zero here = refl
+place_new [] s (suc n) here = absurd (omega arith)
+place_new (x ∷ seats) s zero here = absurd (omega arith)
+place_new (x ∷ seats) s (suc n) here = place_new seats s n (omega arith)
 
-pub key_new : (seats : List Seat) (s : Seat) (n : ℕ) → length seats ≡ n → key_of (seats ++ s ∷ []) n ≡ s.key
-key_new seats s n here = ap (λ (x : Seat). x.key) (get_or_push seats s no_seat n here)
+place_kept : (seats : List Seat) (s : Seat) (n : ℕ) (p : Place) → place_in seats n ≡ Some p → place_in (seats ++ s ∷ []) n ≡ Some p
+place_kept [] s n p here = absurd (none-some p here)
+place_kept (x ∷ seats) s zero p here = here
+place_kept (x ∷ seats) s (suc n) p here = place_kept seats s n p here
 
-pub insides_push : (seats : List Seat) (s : Seat) → map (λ (x : Seat). x.inside) (seats ++ s ∷ []) ≡ map (λ (x : Seat). x.inside) seats ++ s.inside ∷ []
-insides_push [] s = refl
-insides_push (x ∷ seats) s = ap (λ (bs : List Bool). x.inside ∷ bs) (insides_push seats s)
+-- a seat is written that keeps its place
+place_written : (seats : List Seat) (f n : ℕ) (s : Seat) → place_in seats f ≡ Some s.place → place_in (set seats f s) n ≡ place_in seats n
+place_written [] f n s same = refl
+place_written (x ∷ seats) zero zero s same = sym same
+place_written (x ∷ seats) zero (suc n) s same = refl
+place_written (x ∷ seats) (suc f) zero s same = refl
+place_written (x ∷ seats) (suc f) (suc n) s same = place_written seats f n s same
+
+-- what was found in the seat of a future
+pub seat_read : (seats : List Seat) (f : ℕ) (s : Seat) → f < length seats → s ≡ get_or seats f s → place_in seats f ≡ Some s.place
+seat_read seats f s known read = ap place_by (slice_get_read seats (length seats) f s refl known read)
+
+pub place_past : (seats : List Seat) (f : ℕ) → length seats ≤ f → place_in seats f ≡ None
+place_past seats f past = ap place_by (slice_get_past seats f past)
+
+-- a future with a seat is one of those that were accepted
+pub is_known : (seats : List Seat) (f : ℕ) (p : Place) → place_in seats f ≡ Some p → f < length seats
+is_known [] f p here = absurd (none-some p here)
+is_known (x ∷ seats) zero p here = omega arith
+is_known (x ∷ seats) (suc f) p here = omega (arith, is_known seats f p here)
 
 pub insides_set : (seats : List Seat) (f : ℕ) (s : Seat) → map (λ (x : Seat). x.inside) (set seats f s) ≡ set (map (λ (x : Seat). x.inside) seats) f s.inside
 insides_set [] f s = refl
@@ -258,25 +391,19 @@ pub length-insides : (seats : List Seat) → length (map (λ (x : Seat). x.insid
 length-insides [] = refl
 length-insides (x ∷ seats) = ap suc (length-insides seats)
 
--- a seat is written that keeps its key
-pub key_written : (seats : List Seat) (f n : ℕ) (s : Seat) → s.key ≡ key_of seats f → f < length seats → key_of (set seats f s) n ≡ key_of seats n
-key_written [] f n s same known = absurd (omega arith)
-key_written (x ∷ seats) zero zero s same known = same
-key_written (x ∷ seats) zero (suc n) s same known = refl
-key_written (x ∷ seats) (suc f) zero s same known = refl
-key_written (x ∷ seats) (suc f) (suc n) s same known = key_written seats f n s same (omega arith)
-
 pub seated_more : {F : Type 0} (seats : List Seat) (s : Seat) (es : List (Entry F ℕ)) → AreSeated seats es → AreSeated (seats ++ s ∷ []) es
-seated_more seats s es seated = seated_kept seats (seats ++ s ∷ []) es (omega (arith, length-append seats (s ∷ []))) (λ n known. key_kept seats s n known) seated
+seated_more seats s es seated = seated_kept seats (seats ++ s ∷ []) es (λ n p here. place_kept seats s n p here) seated
 
-pub seated_written : {F : Type 0} (seats : List Seat) (f : ℕ) (s : Seat) (es : List (Entry F ℕ)) → s.key ≡ key_of seats f → f < length seats → AreSeated seats es → AreSeated (set seats f s) es
-seated_written seats f s es same known seated = seated_kept seats (set seats f s) es (omega (arith, length-set seats f s)) (λ n below. key_written seats f n s same known) seated
-
--- what was found in the seat of a future
-pub seat_read : (seats : List Seat) (f : ℕ) (s : Seat) → f < length seats → s ≡ get_or seats f s → s.key ≡ key_of seats f
-seat_read seats f s known read = ap (λ (x : Seat). x.key) (get_or_read seats f s known read no_seat)
+pub seated_written :
+    {F : Type 0} (seats : List Seat) (f : ℕ) (s : Seat) (es : List (Entry F ℕ))
+    → place_in seats f ≡ Some s.place → AreSeated seats es → AreSeated (set seats f s) es
+seated_written seats f s es same seated =
+    seated_kept seats (set seats f s) es (λ n p here. place_written seats f n s same ∙ here) seated
 
 -- a search found an entry where the future has one
-pub is_found : {F : Type 0} (f : ℕ) (es : List (Entry F ℕ)) (result : Option ℕ) → IfSome result (λ key. waker_of (entry_at key es) ≡ Some f) → IfNone result (among f (futures_of es) ≡ false) → is_some result ≡ among f (futures_of es)
+pub is_found :
+    {F : Type 0} (f : ℕ) (es : List (Entry F ℕ)) (result : Option Place)
+    → IfSome result (λ place. waker_of (entry_in place es) ≡ Some f) → IfNone result (among f (futures_of es) ≡ false)
+    → is_some result ≡ among f (futures_of es)
 is_found f es None found absent = sym absent
-is_found f es (Some key) found absent = sym (is_among f key es found)
+is_found f es (Some place) found absent = sym (is_among f place.key es (key_found place f es found))

@@ -1,7 +1,11 @@
 -- What a contract sees of the entries of the machine's futures, and how they lie.
-use Rattle.std.specs.Prelude.{◌≡◌, ℕ, ◌<◌, Bool, false, List, [], ◌∷◌, length, map, slice_index_or, Option, Some, None}
+use Rattle.std.specs.Prelude.{◌≡◌, ℕ, ◌<◌, ◌≤◌, Bool, true, false, List, [], ◌∷◌, length, map, slice_get, Option, Some, None}
+use Rattle.executor_parts.specs.Places.{Entry, place_of}
+use Rattle.executor_parts.specs.declared.places.Place.{Place}
+use Rattle.executor_parts.specs.declared.places.Vacancy.{Vacancy}
+use Rattle.executor_parts.specs.declared.places.SpawnRefused.{SpawnRefused}
+use Rattle.executor_parts.specs.declared.places.SpawnRefused.TheVariants.{Full, NoMemory}
 use Rattle.executor_table.specs.declared.entries.Seat.{Seat}
-use Rattle.executor_table.specs.Places.{Entry}
 
 pub record Entered : Type 0 where
   -- the futures that have an entry in the table, in the order of acceptance
@@ -12,21 +16,36 @@ pub record Entered : Type 0 where
   pub present : List ℕ
   -- of each future that was accepted: it is in its place
   pub inside : List Bool
+  -- at most so many have an entry
+  pub limit : ℕ
+  -- where the next one enters
+  pub next : Place
   -- one more future may enter without memory
   pub has_room : Bool
 
--- no future
-abbrev pub no_seat : Seat
-no_seat = record { key = 0; inside = false }
+-- one more may enter here, below the limit and without memory
+pub record IsVacancy (v : Vacancy) (s : Entered) : Type 0 where
+  pub place : v.place ≡ s.next
+  pub below : length s.table < s.limit
+  pub room : s.has_room ≡ true
 
--- the key of the entry that a future has or had
-abbrev pub key_of : List Seat → ℕ → ℕ
-key_of seats f = (slice_index_or seats f no_seat).key
+-- why no more may enter: the limit is tested first, and memory is refused only where there was no room
+abbrev pub IsRefusal : Entered → SpawnRefused → Type 0
+IsRefusal s Full = s.limit ≤ length s.table
+IsRefusal s NoMemory = (length s.table < s.limit) × (s.has_room ≡ false)
+
+abbrev pub place_by : Option Seat → Option Place
+place_by None = None
+place_by (Some seat) = Some seat.place
+
+-- the place of the entry that a future has or had
+abbrev pub place_in : List Seat → ℕ → Option Place
+place_in seats f = place_by (slice_get seats f)
 
 -- each of these entries is where the seat of its future says, and its waker is the number of that future
 abbrev pub AreSeated : {F : Type 0} → List Seat → List (Entry F ℕ) → Type 0
 AreSeated seats [] = Unit {0}
-AreSeated seats (e ∷ es) = (e.waker < length seats) × (key_of seats e.waker ≡ e.key) × AreSeated seats es
+AreSeated seats (e ∷ es) = (place_in seats e.waker ≡ Some (place_of e)) × AreSeated seats es
 
 -- the futures of these entries
 abbrev pub futures_of : {F : Type 0} → List (Entry F ℕ) → List ℕ

@@ -1,11 +1,12 @@
 //! The entries of the machine's futures, by the numbers of these.
-ghost use Rattle.std.specs.Prelude.{◌≡◌, ◌≢◌, ℕ, ◌<◌, ◌==◌, ◌++◌, true, false, List, [], ◌∷◌, length, slice_set, OnOk, IsOk, IfSome, IfNone, Some, map, vec_len};
+ghost use Rattle.std.specs.Prelude.{◌≡◌, ◌≢◌, ℕ, ◌<◌, ◌==◌, ◌++◌, true, false, List, [], ◌∷◌, length, slice_set};
+ghost use Rattle.std.specs.Prelude.{OnOk, IsOk, IfOk, IfErr, IfSome, IfNone, Some, map};
 ghost use Rattle.executor_model.specs.World.{without, among};
-ghost use Rattle.executor_table.specs.Entered.{AreSeated, futures_of, key_of, present_of};
-ghost use Rattle.executor_table.specs.Order.{IsApart};
-ghost use Rattle.executor_table.specs.Places.{entry_at, waker_of};
+ghost use Rattle.executor_parts.specs.Order.{IsApart};
+ghost use Rattle.executor_parts.specs.Places.{entry_in, waker_of};
+ghost use Rattle.executor_table.specs.Entered.{AreSeated, IsRefusal, IsVacancy, futures_of, place_in, present_of};
 
-use crate::places::Places;
+use executor_parts::{Place, Places, SpawnRefused, Vacancy};
 use std::alloc::{AllocError, Global};
 use std::marker::Model;
 
@@ -21,14 +22,14 @@ pub struct Entries {
 
 #[derive(Clone, Copy)]
 struct Seat {
-    // The key of its entry, where it has one.
-    key: usize,
+    // Where its entry is, where it has one.
+    place: Place,
     // It is in its place.
     inside: bool,
 }
 
 impl Model for Entries {
-    ghost use Rattle.std.specs.Prelude.{map, nat_lt, ◌&&◌, vec_len, vec_capacity};
+    ghost use Rattle.std.specs.Prelude.{◌≡◌, map, nat_lt, ◌&&◌, vec_len, vec_capacity};
     ghost use Rattle.executor_table.specs.Entered.{Entered, AreSeated, futures_of, present_of};
 
     ghost Value = { Entered };
@@ -38,30 +39,32 @@ impl Model for Entries {
       leaving = futures_of e.leaving.entries;
       present = present_of e.table.entries;
       inside = map (λ s. s.inside) e.seats.items;
+      limit = e.table.limit;
+      next = e.table.next;
       has_room = e.table.has_room && nat_lt (vec_len e.seats) (vec_capacity e.seats);
     } };
 
-    ghost invariant = { λ e. AreSeated e.seats.items e.table.entries × AreSeated e.seats.items e.leaving.entries };
+    ghost invariant = { λ e. AreSeated e.seats.items e.table.entries × AreSeated e.seats.items e.leaving.entries
+        × (e.leaving.limit ≡ e.table.limit) };
 }
 
-/// The key under which this future has an entry, if it has one.
-fn find(table: &Places<(), u64>, seats: &Vec<Seat>, f: u64) -> Option<usize>
+/// Where this future has an entry, if it has one.
+fn find(table: &Places<(), u64>, seats: &Vec<Seat>, f: u64) -> Option<Place>
     requires { AreSeated seats.now.items table.now.entries }
-    ensures known { IfSome result (λ key. f < vec_len seats.now) }
-    ensures here { IfSome result (λ key. key ≡ key_of seats.now.items f) }
-    ensures found { IfSome result (λ key. waker_of (entry_at key table.now.entries) ≡ Some f) }
-    ensures apart { IfSome result (λ key. IsApart (map (λ e. e.key) table.now.entries)) }
+    ensures here { IfSome result (λ place. place_in seats.now.items f ≡ Some place) }
+    ensures found { IfSome result (λ place. waker_of (entry_in place table.now.entries) ≡ Some f) }
+    ensures apart { IfSome result (λ place. IsApart (map (λ e. e.key) table.now.entries)) }
     ensures absent { IfNone result (among f (futures_of table.now.entries) ≡ false) }
 {
     if f >= seats.len() as u64 {
         return None;
     }
-    let key = seats[f as usize].key;
-    let waker = match table.waker(key) {
+    let place = seats[f as usize].place;
+    let waker = match table.waker(place) {
         Some(waker) => waker,
         None => return None,
     };
-    if *waker == f { Some(key) } else { None }
+    if *waker == f { Some(place) } else { None }
 }
 
 /// The future is taken out of its entry, where it has one.
@@ -70,13 +73,14 @@ fn take_from(table: &mut Places<(), u64>, seats: &Vec<Seat>, f: u64)
     ensures seated { AreSeated seats.now.items table.new.entries }
     ensures futures { futures_of table.new.entries ≡ futures_of table.old.entries }
     ensures out { present_of table.new.entries ≡ without f (present_of table.old.entries) }
-    ensures room { table.new.has_room ≡ table.old.has_room }
+    ensures rest { table.new ≡ record table.old { entries = table.new.entries } }
 {
-    let key = match find(table, seats, f) {
-        Some(key) => key,
-        None => return,
-    };
-    table.take(key);
+    match find(table, seats, f) {
+        Some(place) => {
+            table.take(place);
+        }
+        None => {}
+    }
 }
 
 /// The future is put back into its entry, where it has one.
@@ -86,26 +90,28 @@ fn put_into(table: &mut Places<(), u64>, seats: &Vec<Seat>, f: u64)
     ensures futures { futures_of table.new.entries ≡ futures_of table.old.entries }
     ensures back { among f (present_of table.new.entries) ≡ among f (futures_of table.old.entries) }
     ensures others { (g : ℕ) → g ≢ f → among g (present_of table.new.entries) ≡ among g (present_of table.old.entries) }
-    ensures room { table.new.has_room ≡ table.old.has_room }
+    ensures rest { table.new ≡ record table.old { entries = table.new.entries } }
 {
-    let key = match find(table, seats, f) {
-        Some(key) => key,
-        None => return,
-    };
-    table.put_back(key, ());
+    match find(table, seats, f) {
+        Some(place) => {
+            table.put_back(place, ());
+        }
+        None => {}
+    }
 }
 
 impl Entries {
-    /// A table that no future has entered, which takes no memory.
-    pub fn new(alloc: Global) -> Entries
+    /// A table that no future has entered, for at most `limit` of them, which takes no memory.
+    pub fn new(alloc: Global, limit: u64) -> Entries
         ensures table { result.table ≡ [] }
         ensures leaving { result.leaving ≡ [] }
         ensures present { result.present ≡ [] }
         ensures inside { result.inside ≡ [] }
+        ensures limit { result.limit ≡ limit }
     {
         Entries {
-            table: Places::new(alloc),
-            leaving: Places::new(alloc),
+            table: Places::new(alloc, limit as usize),
+            leaving: Places::new(alloc, limit as usize),
             seats: Vec::new(alloc),
         }
     }
@@ -116,6 +122,7 @@ impl Entries {
         ensures leaving { self.new.leaving ≡ self.old.leaving }
         ensures inside { self.new.inside ≡ self.old.inside }
         ensures present { self.new.present ≡ self.old.present }
+        ensures limit { self.new.limit ≡ self.old.limit }
         ensures room { OnOk result (self.new.has_room ≡ true) }
         ensures succeeds { self.old.has_room ≡ true → IsOk result }
     {
@@ -123,11 +130,11 @@ impl Entries {
         self.table.reserve()
     }
 
-    /// How many futures have an entry in the table.
-    pub fn len(&self) -> usize
-        ensures { result ≡ length self.now.table }
+    /// How many futures may have an entry in the table.
+    pub fn limit(&self) -> u64
+        ensures { result ≡ self.now.limit }
     {
-        self.table.len()
+        self.table.limit() as u64
     }
 
     /// Whether no future has an entry in the table.
@@ -144,17 +151,38 @@ impl Entries {
         self.leaving.is_empty()
     }
 
-    /// The next future enters.
-    pub fn enter(&mut self, f: u64)
+    /// Room for one more future: first the limit is tested, and then room is made, which takes no memory where it is
+    /// there. Either way the entries stay as they were.
+    pub fn vacancy(&mut self) -> Result<Vacancy, SpawnRefused>
+        ensures vacancy { IfOk result (λ v. IsVacancy v self.new) }
+        ensures refused { IfErr result (IsRefusal self.old) }
+        ensures rest { self.new ≡ record self.old { has_room = self.new.has_room } }
+        ensures room { self.old.has_room ≡ true → self.new.has_room ≡ true }
+    {
+        let vacancy = self.table.vacancy()?;
+        if self.seats.reserve(1).is_err() {
+            vacancy.give_back();
+            return Err(SpawnRefused::NoMemory);
+        }
+        Ok(vacancy)
+    }
+
+    /// The next future enters, at its vacancy. Takes no memory.
+    pub fn enter(&mut self, vacancy: Vacancy, f: u64)
         requires next { f ≡ length self.old.inside }
-        requires room { self.old.has_room ≡ true }
+        requires vacancy { IsVacancy vacancy self.old }
         ensures table { self.new.table ≡ self.old.table ++ f ∷ [] }
         ensures leaving { self.new.leaving ≡ self.old.leaving }
         ensures present { self.new.present ≡ self.old.present ++ f ∷ [] }
         ensures inside { self.new.inside ≡ self.old.inside ++ true ∷ [] }
+        ensures limit { self.new.limit ≡ self.old.limit }
     {
-        let key = self.table.enter((), f);
-        self.seats.push_reserved(Seat { key, inside: true });
+        let place = vacancy.place();
+        self.table.enter(vacancy, (), f);
+        self.seats.push_reserved(Seat {
+            place,
+            inside: true,
+        });
     }
 
     /// The future is taken out, to be polled or dropped.
@@ -164,6 +192,7 @@ impl Entries {
         ensures leaving { self.new.leaving ≡ self.old.leaving }
         ensures out { self.new.present ≡ without f self.old.present }
         ensures inside { self.new.inside ≡ slice_set self.old.inside f false }
+        ensures limit { self.new.limit ≡ self.old.limit }
         ensures room { self.new.has_room ≡ self.old.has_room }
     {
         let place = f as usize;
@@ -179,6 +208,7 @@ impl Entries {
         ensures back { among f self.new.present ≡ among f self.old.table }
         ensures others { (g : ℕ) → g ≢ f → among g self.new.present ≡ among g self.old.present }
         ensures inside { self.new.inside ≡ slice_set self.old.inside f true }
+        ensures limit { self.new.limit ≡ self.old.limit }
         ensures room { self.new.has_room ≡ self.old.has_room }
     {
         let place = f as usize;
@@ -201,13 +231,14 @@ impl Entries {
         ensures leaving { self.new.leaving ≡ self.old.leaving }
         ensures present { self.new.present ≡ without f self.old.present }
         ensures inside { self.new.inside ≡ self.old.inside }
+        ensures limit { self.new.limit ≡ self.old.limit }
         ensures room { self.old.has_room ≡ true → self.new.has_room ≡ true }
     {
-        let key = match find(&self.table, &self.seats, f) {
-            Some(key) => key,
+        let place = match find(&self.table, &self.seats, f) {
+            Some(place) => place,
             None => return false,
         };
-        self.table.leave(key);
+        self.table.leave(place);
         true
     }
 
@@ -216,6 +247,7 @@ impl Entries {
         ensures table { self.new.table ≡ self.old.leaving }
         ensures leaving { self.new.leaving ≡ self.old.table }
         ensures inside { self.new.inside ≡ self.old.inside }
+        ensures limit { self.new.limit ≡ self.old.limit }
     {
         self.table.exchange(&mut self.leaving);
     }
@@ -223,9 +255,11 @@ impl Entries {
     /// The first of those that were taken out goes, to be dropped, and is answered.
     pub fn leave_first(&mut self) -> Option<u64>
         ensures none { IfNone result ((self.old.leaving ≡ []) × (self.new.leaving ≡ []) × (self.new.inside ≡ self.old.inside)) }
-        ensures some { IfSome result (λ f. (self.old.leaving ≡ f ∷ self.new.leaving) × (self.new.inside ≡ slice_set self.old.inside f false)) }
+        ensures some { IfSome result (λ f. self.old.leaving ≡ f ∷ self.new.leaving) }
+        ensures inside { IfSome result (λ f. self.new.inside ≡ slice_set self.old.inside f false) }
         ensures table { self.new.table ≡ self.old.table }
         ensures present { self.new.present ≡ self.old.present }
+        ensures limit { self.new.limit ≡ self.old.limit }
         ensures room { self.new.has_room ≡ self.old.has_room }
     {
         let (_, f) = match self.leaving.leave_first() {

@@ -1,10 +1,7 @@
-//! The table of an executor: its futures, each with a waker, in the order in which they were accepted; and the table of
-//! the step machine, whose futures are numbers.
+//! The table of the step machine, whose futures are numbers: `Places` of `executor_parts`, and where the entry of each
+//! future is.
 #![tactic(auto)]
 
 mod entries;
-mod order;
-mod places;
 
 pub use entries::Entries;
-pub use places::Places;

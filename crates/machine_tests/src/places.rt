@@ -1,4 +1,5 @@
 use executor_core::{Place, Places, SpawnRefused};
+use std::process::Abort;
 
 /// A future enters, where there is a vacancy for it.
 fn entered<R: Abort>(rt: &R, places: &mut Places<u32, u64>, future: u32, waker: u64) -> Place {

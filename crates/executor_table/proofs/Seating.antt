@@ -193,7 +193,9 @@ module _ {F : Type 0} where
       ]
 
   -- a number that no future has yet
-  pub none_among : (seats : List Seat) (f : ℕ) (es : List (Entry F ℕ)) → AreSeated seats es → place_in seats f ≡ None → among f (futures_of es) ≡ false
+  pub none_among :
+      (seats : List Seat) (f : ℕ) (es : List (Entry F ℕ))
+      → AreSeated seats es → place_in seats f ≡ None → among f (futures_of es) ≡ false
   none_among seats f [] seated none = refl
   none_among seats f (e ∷ es) seated none =
       let other : e.waker ≢ f = λ same. none-some (place_of e) (sym none ∙ ap (place_in seats) (sym same) ∙ seated.0) in
@@ -223,7 +225,9 @@ module _ {F : Type 0} where
   among_past f w None rest differs = refl
   among_past f w (Some x) rest differs = among_no f w rest differs
 
-  among_after : (g w : ℕ) (future : Option F) (xs ys : List ℕ) → among g xs ≡ among g ys → among g (present_by future w xs) ≡ among g (present_by future w ys)
+  among_after :
+      (g w : ℕ) (future : Option F) (xs ys : List ℕ)
+      → among g xs ≡ among g ys → among g (present_by future w xs) ≡ among g (present_by future w ys)
   among_after g w None xs ys same = same
   among_after g w (Some x) xs ys same =
       elim (cases_eq w g) [
@@ -256,11 +260,15 @@ module _ {F : Type 0} where
   pub without_absent : (f : ℕ) (es : List (Entry F ℕ)) → among f (futures_of es) ≡ false → present_of es ≡ without f (present_of es)
   without_absent f es absent = sym (without_none f (present_of es) (none_present f es absent))
 
-  pub present_push : (es : List (Entry F ℕ)) (k stamp : ℕ) (x : F) (w : ℕ) → present_of (es ++ record { key = k; stamp = stamp; future = Some x; waker = w } ∷ []) ≡ present_of es ++ w ∷ []
+  pub present_push :
+      (es : List (Entry F ℕ)) (k stamp : ℕ) (x : F) (w : ℕ)
+      → present_of (es ++ record { key = k; stamp = stamp; future = Some x; waker = w } ∷ []) ≡ present_of es ++ w ∷ []
   present_push [] k stamp x w = refl
   present_push (e ∷ es) k stamp x w = ap (present_by e.future e.waker) (present_push es k stamp x w) ∙ after e.future
     where
-      after : (future : Option F) → present_by future e.waker (present_of es ++ w ∷ []) ≡ present_by future e.waker (present_of es) ++ w ∷ []
+      after :
+          (future : Option F)
+          → present_by future e.waker (present_of es ++ w ∷ []) ≡ present_by future e.waker (present_of es) ++ w ∷ []
       after None = refl
       after (Some y) = refl
 
@@ -382,7 +390,9 @@ is_known [] f p here = absurd (none-some p here)
 is_known (x ∷ seats) zero p here = omega arith
 is_known (x ∷ seats) (suc f) p here = omega (arith, is_known seats f p here)
 
-pub insides_set : (seats : List Seat) (f : ℕ) (s : Seat) → map (λ (x : Seat). x.inside) (set seats f s) ≡ set (map (λ (x : Seat). x.inside) seats) f s.inside
+pub insides_set :
+    (seats : List Seat) (f : ℕ) (s : Seat)
+    → map (λ (x : Seat). x.inside) (set seats f s) ≡ set (map (λ (x : Seat). x.inside) seats) f s.inside
 insides_set [] f s = refl
 insides_set (x ∷ seats) zero s = refl
 insides_set (x ∷ seats) (suc f) s = ap (λ (bs : List Bool). x.inside ∷ bs) (insides_set seats f s)

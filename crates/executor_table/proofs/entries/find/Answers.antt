@@ -11,7 +11,8 @@ returns-then-f-len-clause-absent c =
 pub returns-in-None-clause-absent : goal.returns-in-None-clause-absent
 returns-in-None-clause-absent c =
     let known : c.args.f < length c.args.seats.now.items = omega (arith, c.if-f-len.false, c.len.ensures) in
-    let here : place_in c.args.seats.now.items c.args.f ≡ Some c.index.result.now.place = seat_read _ c.args.f c.index.result.now known c.index.ensures in
+    let here : place_in c.args.seats.now.items c.args.f ≡ Some c.index.result.now.place =
+    seat_read _ c.args.f c.index.result.now known c.index.ensures in
     not_among _ c.args.f c.index.result.now.place _ c.requires c.waker.ensures.apart here (λ found.
     none-some c.args.f (c.in-None.ensures.waker ∙ found))
 
@@ -23,6 +24,7 @@ returns-then-waker-f-clause-here c =
 pub returns-else-waker-f-clause-absent : goal.returns-else-waker-f-clause-absent
 returns-else-waker-f-clause-absent c =
     let known : c.args.f < length c.args.seats.now.items = omega (arith, c.if-f-len.false, c.len.ensures) in
-    let here : place_in c.args.seats.now.items c.args.f ≡ Some c.index.result.now.place = seat_read _ c.args.f c.index.result.now known c.index.ensures in
+    let here : place_in c.args.seats.now.items c.args.f ≡ Some c.index.result.now.place =
+    seat_read _ c.args.f c.index.result.now known c.index.ensures in
     not_among _ c.args.f c.index.result.now.place _ c.requires c.waker.ensures.apart here (λ found.
     c.if-waker-f.false (same_Some c.in-Some.waker.now c.args.f (c.in-Some.ensures.waker ∙ found)))

@@ -21,5 +21,6 @@ returns-in-Some-clause-back c =
 
 pub returns-in-Some-clause-others : goal.returns-in-Some-clause-others
 returns-in-Some-clause-others c = λ g other.
+    let found = key_found c.in-Some.place c.args.f _ c.in-Some.ensures.found in
     rw (c.put_back.ensures.back, set_found _ _ _ _ c.in-Some.ensures.found)
-    (others_present c.args.f g _ (Some (record {})) c.args.table.now.entries (key_found c.in-Some.place c.args.f _ c.in-Some.ensures.found) other)
+    (others_present c.args.f g _ (Some (record {})) c.args.table.now.entries found other)

@@ -6,7 +6,7 @@ use Rattle.executor_table.proofs.entries.Entries.enter.Goals as goal
 pub invariant_of-self : goal.invariant_of-self
 invariant_of-self c =
     let next : length c.self.inside.seats.items ≡ c.args.f =
-        omega (arith, rw (← c.self.view_is) at c.requires.next, length-insides c.self.inside.seats.items) in
+    omega (arith, rw (← c.self.view_is) at c.requires.next, length-insides c.self.inside.seats.items) in
     let seat : Seat = record { place = c.place-place.result; inside = true } in
     let here = place_new c.self.inside.seats.items seat c.args.f next in
     rw (c.push_reserved.ensures.items, c.enter.ensures.entered) (

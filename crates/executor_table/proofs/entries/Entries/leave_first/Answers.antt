@@ -10,7 +10,7 @@ invariant_of-self-2 c =
     let known = is_known c.self.inside.seats.items c.in-Some.parts.1 _ seated.0 in
     let seat : Seat = record { place = c.index_mut.result.now.place; inside = false } in
     let same : place_in c.self.inside.seats.items c.in-Some.parts.1 ≡ Some seat.place =
-        seat_read c.self.inside.seats.items c.in-Some.parts.1 c.index_mut.result.now known c.index_mut.ensures.value in (
+    seat_read c.self.inside.seats.items c.in-Some.parts.1 c.index_mut.result.now known c.index_mut.ensures.value in (
       seated_written c.self.inside.seats.items c.in-Some.parts.1 seat _ same c.self.invariant.0,
       seated_written c.self.inside.seats.items c.in-Some.parts.1 seat _ same seated.1,
       cc,

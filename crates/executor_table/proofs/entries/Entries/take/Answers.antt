@@ -7,10 +7,10 @@ use Rattle.executor_table.proofs.entries.Entries.take.Goals as goal
 pub invariant_of-self : goal.invariant_of-self
 invariant_of-self c =
     let known : c.args.f < length c.self.inside.seats.items =
-        omega (arith, rw (← c.self.view_is) at c.requires, length-insides c.self.inside.seats.items) in
+    omega (arith, rw (← c.self.view_is) at c.requires, length-insides c.self.inside.seats.items) in
     let seat : Seat = record { place = c.index_mut.result.now.place; inside = false } in
     let same : place_in c.self.inside.seats.items c.args.f ≡ Some seat.place =
-        seat_read c.self.inside.seats.items c.args.f c.index_mut.result.now known c.index_mut.ensures.value in (
+    seat_read c.self.inside.seats.items c.args.f c.index_mut.result.now known c.index_mut.ensures.value in (
       seated_written c.self.inside.seats.items c.args.f seat _ same c.take_from.ensures.seated,
       seated_written c.self.inside.seats.items c.args.f seat _ same c.self.invariant.1,
       cc,

@@ -41,34 +41,48 @@ set_same (x ∷ ps) zero y e h = ap (λ (z : List Op). z ∷ ps) (sym e)
 set_same (x ∷ ps) (suc p) y e h = ap (λ (z : List (List Op)). x ∷ z) (set_same ps p y e (omega arith))
 
 -- what party p has to do, as it stands in the vectors: v was read there
-pub stack_is : (w : World) (ps : List (Vec Op Global)) (p : ℕ) (v : Vec Op Global) → p < length ps → v ≡ get_or ps p v → stack (state w ps) p ≡ v.items
+pub stack_is :
+    (w : World) (ps : List (Vec Op Global)) (p : ℕ) (v : Vec Op Global)
+    → p < length ps → v ≡ get_or ps p v → stack (state w ps) p ≡ v.items
 stack_is w ps p v h e = items-get ps p v h ∙ ap (λ (x : Vec Op Global). x.items) (sym e)
 
 pub absent : (w : World) (ps : List (Vec Op Global)) (t : Step) → length ps ≤ party_of t → step (state w ps) t ≡ Err NoSuch
 absent w ps t h = step-refused (state w ps) t NoSuch (refusal-absent (state w ps) t (omega (arith, items-length ps, h)))
 
 -- why the step isn't possible, as it stands in the vectors
-pub refusal_is : (w : World) (ps : List (Vec Op Global)) (p : ℕ) (t : Step) (v : Vec Op Global) → p ≡ party_of t → p < length ps → v ≡ get_or ps p v → refusal (state w ps) t ≡ part_refusal w (items ps) v.items t
+pub refusal_is :
+    (w : World) (ps : List (Vec Op Global)) (p : ℕ) (t : Step) (v : Vec Op Global)
+    → p ≡ party_of t → p < length ps → v ≡ get_or ps p v → refusal (state w ps) t ≡ part_refusal w (items ps) v.items t
 refusal_is w ps p t v q h e = refusal-there (state w ps) t (omega (arith, items-length ps, h, q)) ∙ ap (λ (os : List Op). part_refusal w (items ps) os t) (ap (stack (state w ps)) (sym q) ∙ stack_is w ps p v h e)
 
-pub refused : (w : World) (ps : List (Vec Op Global)) (p : ℕ) (t : Step) (v : Vec Op Global) (x : StepError) → p ≡ party_of t → p < length ps → v ≡ get_or ps p v → part_refusal w (items ps) v.items t ≡ Some x → step (state w ps) t ≡ Err x
+pub refused :
+    (w : World) (ps : List (Vec Op Global)) (p : ℕ) (t : Step) (v : Vec Op Global) (x : StepError)
+    → p ≡ party_of t → p < length ps → v ≡ get_or ps p v → part_refusal w (items ps) v.items t ≡ Some x
+    → step (state w ps) t ≡ Err x
 refused w ps p t v x q h e r = step-refused (state w ps) t x (refusal_is w ps p t v q h e ∙ r)
 
 -- the same state
-pub stays : (w w2 : World) (ps : List (Vec Op Global)) (p : ℕ) (v v2 : Vec Op Global) → p < length ps → v ≡ get_or ps p v → v2.items ≡ v.items → w2 ≡ w → state w2 (set ps p v2) ≡ state w ps
+pub stays :
+    (w w2 : World) (ps : List (Vec Op Global)) (p : ℕ) (v v2 : Vec Op Global)
+    → p < length ps → v ≡ get_or ps p v → v2.items ≡ v.items → w2 ≡ w → state w2 (set ps p v2) ≡ state w ps
 stays w w2 ps p v v2 h e q m =
     let l : items (set ps p v2) ≡ items ps = items-set ps p v2 ∙ set_same (items ps) p v2.items (stack_is w ps p v h e ∙ sym q) (omega (arith, items-length ps)) in
     λ i. record { world = m i; parties = l i }
 
 -- the party's part was done
-pub went : (w w1 w2 : World) (ps : List (Vec Op Global)) (p : ℕ) (t : Step) (v r v2 : Vec Op Global) → p ≡ party_of t → p < length ps → v ≡ get_or ps p v → r.items ≡ v.items → w1 ≡ w → part w2 v2.items ≡ part_after w1 r.items t → after (state w ps) t ≡ state w2 (set ps p v2)
+pub went :
+    (w w1 w2 : World) (ps : List (Vec Op Global)) (p : ℕ) (t : Step) (v r v2 : Vec Op Global)
+    → p ≡ party_of t → p < length ps → v ≡ get_or ps p v → r.items ≡ v.items → w1 ≡ w → part w2 v2.items ≡ part_after w1 r.items t
+    → after (state w ps) t ≡ state w2 (set ps p v2)
 went w w1 w2 ps p t v r v2 q h e k m g =
     ap (λ (n : ℕ). with_part (state w ps) n (part_after w (stack (state w ps) n) t)) (sym q)
     ∙ ap (λ (x : World × List Op). with_part (state w ps) p (part_after x.0 x.1 t)) (λ i. (sym m i, (stack_is w ps p v h e ∙ sym k) i))
     ∙ ap (with_part (state w ps) p) (sym g)
     ∙ ap (λ (l : List (List Op)). let x : Machine = record { world = w2; parties = l } in x) (sym (items-set ps p v2))
 
-pub needed : (w w1 : World) (ps : List (Vec Op Global)) (p : ℕ) (v r : Vec Op Global) (o : Op) → p < length ps → v ≡ get_or ps p v → r.items ≡ v.items → w1 ≡ w → Good (state w ps) → top r.items ≡ Some o → Needs w1 o
+pub needed :
+    (w w1 : World) (ps : List (Vec Op Global)) (p : ℕ) (v r : Vec Op Global) (o : Op)
+    → p < length ps → v ≡ get_or ps p v → r.items ≡ v.items → w1 ≡ w → Good (state w ps) → top r.items ≡ Some o → Needs w1 o
 needed w w1 ps p v r o h e k m good t =
     let s : Machine = state w ps in
     subst (λ (x : World). Needs x o) (sym m) (needs s p o (omega (arith, items-length ps)) (ap top (stack_is w ps p v h e ∙ sym k) ∙ t) good)
@@ -77,7 +91,9 @@ pub goes : (s new : Machine) (t : Step) → refusal s t ≡ None → after s t �
 goes s new t r e = step-made s t r ∙ ap (λ (m : Machine). let x : Result Machine StepError = Ok m in x) e
 
 -- one more step of a run
-pub run-more : (xs : List Step) (i : ℕ) (d : Step) (s now new : Machine) → i < length xs → run_all (take i xs) s ≡ Ok now → step now (get_or xs i d) ≡ Ok new → run_all (take (i + 1) xs) s ≡ Ok new
+pub run-more :
+    (xs : List Step) (i : ℕ) (d : Step) (s now new : Machine)
+    → i < length xs → run_all (take i xs) s ≡ Ok now → step now (get_or xs i d) ≡ Ok new → run_all (take (i + 1) xs) s ≡ Ok new
 run-more xs i d s now new h e o = ap (λ (ts : List Step). run_all ts s) (take_more xs i d h) ∙ run_all-push (take i xs) (get_or xs i d) s now new e o
 
 idle-more : (n : ℕ) → idle n ++ [] ∷ [] ≡ idle (n + 1)
@@ -92,11 +108,17 @@ items-append [] qs = refl
 items-append (x ∷ ps) qs = ap (λ (l : List (List Op)). x.items ∷ l) (items-append ps qs)
 
 -- one more party that does nothing
-pub idle-push : (ps : List (Vec Op Global)) (v : Vec Op Global) (n : ℕ) → v.items ≡ [] → items ps ≡ idle n → items (ps ++ v ∷ []) ≡ idle (n + 1)
+pub idle-push :
+    (ps : List (Vec Op Global)) (v : Vec Op Global) (n : ℕ)
+    → v.items ≡ [] → items ps ≡ idle n → items (ps ++ v ∷ []) ≡ idle (n + 1)
 idle-push ps v n e q = items-append ps (v ∷ []) ∙ ap (λ (x : List (List Op) × List Op). x.0 ++ x.1 ∷ []) (λ i. (q i, e i)) ∙ idle-more n
 
-pub started : (limit : ℕ) (w : World) (ps : List (Vec Op Global)) (n m : ℕ) → w ≡ (start limit 0).world → items ps ≡ idle n → n ≡ m → state w ps ≡ start limit m
+pub started :
+    (limit : ℕ) (w : World) (ps : List (Vec Op Global)) (n m : ℕ)
+    → w ≡ (start limit 0).world → items ps ≡ idle n → n ≡ m → state w ps ≡ start limit m
 started limit w ps n m e q r = λ i. record { world = e i; parties = (q ∙ ap idle r) i }
 
-pub starts : (limit : ℕ) (w : World) (ps : List (Vec Op Global)) (n : ℕ) → w ≡ (start limit 0).world → items ps ≡ idle n → IsReached (state w ps)
+pub starts :
+    (limit : ℕ) (w : World) (ps : List (Vec Op Global)) (n : ℕ)
+    → w ≡ (start limit 0).world → items ps ≡ idle n → IsReached (state w ps)
 starts limit w ps n e q = begins (state w ps) limit n (started limit w ps n n e q refl)

@@ -8,7 +8,9 @@ use Rattle.executor_model.specs.declared.op.Op.{Op}
 pub reverse_before : (t s x : List Op) → t ++ reverse (s ++ x) ≡ (t ++ reverse x) ++ reverse s
 reverse_before t s x = ap (λ (l : List Op). t ++ l) (reverse-append s x) ∙ sym (append_assoc t (reverse x) (reverse s))
 
-pub reverse_owed : (t s f o a n : List Op) → t ++ reverse (s ++ (f ++ (o ++ (a ++ n)))) ≡ ((((t ++ reverse n) ++ reverse a) ++ reverse o) ++ reverse f) ++ reverse s
+pub reverse_owed :
+    (t s f o a n : List Op)
+    → t ++ reverse (s ++ (f ++ (o ++ (a ++ n)))) ≡ ((((t ++ reverse n) ++ reverse a) ++ reverse o) ++ reverse f) ++ reverse s
 reverse_owed t s f o a n =
     reverse_before t s (f ++ (o ++ (a ++ n)))
     ∙ ap (λ (l : List Op). l ++ reverse s) (reverse_before t f (o ++ (a ++ n))

@@ -15,12 +15,17 @@ same_test t u = ⊎_elim
 drop_op : (xs : List Op) (i : ℕ) (d : Op) → i < length xs → drop i xs ≡ get_or xs i d ∷ drop (i + 1) xs
 drop_op xs i d h = rw add-one (drop-cons xs i d h)
 
-pub weigh-more : (v : Op → ℕ) (xs : List Op) (i : ℕ) (x : Op) → i < length xs → x ≡ get_or xs i x → not (eqb (v x) 0) ≡ false → weigh v xs ≡ weigh v (drop i xs) → weigh v xs ≡ weigh v (drop (i + 1) xs)
+pub weigh-more :
+    (v : Op → ℕ) (xs : List Op) (i : ℕ) (x : Op)
+    → i < length xs → x ≡ get_or xs i x → not (eqb (v x) 0) ≡ false → weigh v xs ≡ weigh v (drop i xs)
+    → weigh v xs ≡ weigh v (drop (i + 1) xs)
 weigh-more v xs i x h e q w =
     let z : v x ≡ 0 = grind (arith, nat_tests) in
     w ∙ ap (weigh v) (drop_op xs i x h) ∙ ap (λ (y : Op). v y + weigh v (drop (i + 1) xs)) (sym e) ∙ omega arith
 
-pub weigh-found : (v : Op → ℕ) (xs : List Op) (i : ℕ) (x : Op) → i < length xs → x ≡ get_or xs i x → not (eqb (v x) 0) ≡ true → weigh v xs ≡ weigh v (drop i xs) → false ≡ eqb (weigh v xs) 0
+pub weigh-found :
+    (v : Op → ℕ) (xs : List Op) (i : ℕ) (x : Op)
+    → i < length xs → x ≡ get_or xs i x → not (eqb (v x) 0) ≡ true → weigh v xs ≡ weigh v (drop i xs) → false ≡ eqb (weigh v xs) 0
 weigh-found v xs i x h e q w =
     let z : 1 ≤ v x = grind (arith, nat_tests) in
     let m : weigh v xs ≡ v x + weigh v (drop (i + 1) xs) = w ∙ ap (weigh v) (drop_op xs i x h) ∙ ap (λ (y : Op). v y + weigh v (drop (i + 1) xs)) (sym e) in

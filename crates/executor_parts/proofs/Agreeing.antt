@@ -153,7 +153,9 @@ module _ {W : Type 0} where
             ∙ ap (λ m. m ∷ numbers_of es) (sym here.0)
       ]
 
-  numbers_removed : (n at : ℕ) (ws : List (ℕ × W)) → IsApart (numbers_of ws) → position_of n ws ≡ Some at → numbers_of (remove ws at) ≡ without n (numbers_of ws)
+  numbers_removed :
+      (n at : ℕ) (ws : List (ℕ × W))
+      → IsApart (numbers_of ws) → position_of n ws ≡ Some at → numbers_of (remove ws at) ≡ without n (numbers_of ws)
   numbers_removed n at [] apart found = absurd (cc)
   numbers_removed n at (e ∷ es) apart found =
       elim (position_cases n e es at found) [
@@ -196,7 +198,11 @@ module _ {W : Type 0} where
     free_bounded : (k : ℕ) → IsIn k s.sleepers.free → k ≤ s.sleepers.count + length s.sleepers.free
 
   -- the lists stay, and the flag is told of
-  with_flag : (s new : Lying W) → Keeps s → new.sleepers.count ≡ s.sleepers.count → new.sleepers.wakers ≡ s.sleepers.wakers → new.sleepers.free ≡ s.sleepers.free → new.numbers ≡ s.numbers → new.sleepers.count ≤ new.sleepers.rooms → (new.flag ≡ true → (flag_of new.sleepers ≡ true) ⊎ (1 ≤ new.tellers)) → Keeps new
+  with_flag :
+      (s new : Lying W)
+      → Keeps s → new.sleepers.count ≡ s.sleepers.count → new.sleepers.wakers ≡ s.sleepers.wakers
+      → new.sleepers.free ≡ s.sleepers.free → new.numbers ≡ s.numbers → new.sleepers.count ≤ new.sleepers.rooms
+      → (new.flag ≡ true → (flag_of new.sleepers ≡ true) ⊎ (1 ≤ new.tellers)) → Keeps new
   with_flag s new k count wakers free numbers within told = record {
     agree = record {
       apart = rw numbers k.agree.apart;
@@ -276,7 +282,10 @@ module _ {W : Type 0} where
         free_bounded = λ m free. omega (arith, k.free_bounded m (kept m free).0, total);
       }
 
-  lie : (s : Lying W) (waker : W) → s.sleepers.count < s.sleepers.rooms → Keeps s → Keeps (stored (laid_down waker s.sleepers) (next_number s.sleepers ∷ s.numbers) s.tellers)
+  lie :
+      (s : Lying W) (waker : W)
+      → s.sleepers.count < s.sleepers.rooms → Keeps s
+      → Keeps (stored (laid_down waker s.sleepers) (next_number s.sleepers ∷ s.numbers) s.tellers)
   lie s waker room k =
       elim (snoc_cases s.sleepers.free) [
         | inl none ↦
@@ -335,7 +344,11 @@ module _ {W : Type 0} where
           }
 
   -- the number of one who has no entry any more is free
-  rises : (s : Lying W) (n : ℕ) (wakers : List (ℕ × W)) → IsIn n s.numbers → Keeps s → length wakers < s.sleepers.count → IsApart (numbers_of wakers) → ((m : ℕ) → IsIn m (numbers_of wakers) → IsIn m s.numbers × (m ≢ n)) → Keeps (stored (freed n (record s.sleepers { wakers = wakers })) (without n s.numbers) s.tellers)
+  rises :
+      (s : Lying W) (n : ℕ) (wakers : List (ℕ × W))
+      → IsIn n s.numbers → Keeps s → length wakers < s.sleepers.count → IsApart (numbers_of wakers)
+      → ((m : ℕ) → IsIn m (numbers_of wakers) → IsIn m s.numbers × (m ≢ n))
+      → Keeps (stored (freed n (record s.sleepers { wakers = wakers })) (without n s.numbers) s.tellers)
   rises s n wakers mine k less apart kept =
       let t : ltb (length wakers) s.sleepers.count ≡ true = grind (arith, nat_tests) in
       let counted = length-without n s.numbers mine in
@@ -359,7 +372,10 @@ module _ {W : Type 0} where
   rise : (s : Lying W) (n : ℕ) → IsIn n s.numbers → Keeps s → Keeps (stored (risen n s.sleepers) (without n s.numbers) s.tellers)
   rise s n mine k = of (position_of n s.sleepers.wakers) refl
     where
-      of : (o : Option ℕ) → position_of n s.sleepers.wakers ≡ o → Keeps (stored (freed n (without_entry o s.sleepers)) (without n s.numbers) s.tellers)
+      of :
+          (o : Option ℕ)
+          → position_of n s.sleepers.wakers ≡ o
+          → Keeps (stored (freed n (without_entry o s.sleepers)) (without n s.numbers) s.tellers)
       of None none =
           let absent = position_none n s.sleepers.wakers none in
           let less = fewer n (numbers_of s.sleepers.wakers) s.numbers k.listed_apart absent mine k.listed_in in

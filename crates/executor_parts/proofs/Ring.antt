@@ -147,7 +147,9 @@ module _ (next previous : ℕ → ℕ) where
   next_start_on from [] to chain = inl chain.0
   next_start_on from (first ∷ rest) to chain = inr (first, inl refl, chain.0)
 
-  previous_on : (from : ℕ) (keys : List ℕ) (to key : ℕ) → IsChain next previous from keys to → IsIn key keys → IsOn from keys (previous (key + 1))
+  previous_on :
+      (from : ℕ) (keys : List ℕ) (to key : ℕ)
+      → IsChain next previous from keys to → IsIn key keys → IsOn from keys (previous (key + 1))
   previous_on from [] to key chain found = absurd found
   previous_on from (first ∷ rest) to key chain found =
       elim found [
@@ -166,7 +168,10 @@ module _ (next previous : ℕ → ℕ) where
 
 module _ (next previous next' previous' : ℕ → ℕ) where
   -- a chain stays where the links stay on it
-  is_chain_kept : (from : ℕ) (keys : List ℕ) (to : ℕ) → IsChain next previous from keys to → ((at : ℕ) → IsOn from keys at → next' at ≡ next at) → ((at : ℕ) → IsOn to keys at → previous' at ≡ previous at) → IsChain next' previous' from keys to
+  is_chain_kept :
+      (from : ℕ) (keys : List ℕ) (to : ℕ)
+      → IsChain next previous from keys to → ((at : ℕ) → IsOn from keys at → next' at ≡ next at)
+      → ((at : ℕ) → IsOn to keys at → previous' at ≡ previous at) → IsChain next' previous' from keys to
   is_chain_kept from [] to chain nexts previouses = (nexts from (inl refl) ∙ chain.0, previouses to (inl refl) ∙ chain.1)
   is_chain_kept from (first ∷ rest) to chain nexts previouses = (
     nexts from (inl refl) ∙ chain.0,
@@ -177,7 +182,11 @@ module _ (next previous next' previous' : ℕ → ℕ) where
   )
 
   -- the first key leaves, and the start is joined to what followed it
-  skip_first : (from first : ℕ) (rest : List ℕ) (to : ℕ) → IsChain next previous (first + 1) rest to → IsApart rest → IsOff rest from → IsOff rest to → Joins next next' from (next (first + 1)) → Joins previous previous' (next (first + 1)) from → IsChain next' previous' from rest to
+  skip_first :
+      (from first : ℕ) (rest : List ℕ) (to : ℕ)
+      → IsChain next previous (first + 1) rest to → IsApart rest → IsOff rest from → IsOff rest to
+      → Joins next next' from (next (first + 1)) → Joins previous previous' (next (first + 1)) from
+      → IsChain next' previous' from rest to
   skip_first from first [] to chain apart from_off to_off nexts previouses =
       (nexts.here ∙ chain.0, ap previous' (sym chain.0) ∙ previouses.here)
   skip_first from first (second ∷ rest) to chain apart from_off to_off nexts previouses = (
@@ -191,7 +200,11 @@ module _ (next previous next' previous' : ℕ → ℕ) where
   )
 
   -- a key leaves, and its neighbours are joined
-  chain_skip : (from : ℕ) (keys : List ℕ) (to key : ℕ) → IsChain next previous from keys to → IsApart keys → IsOff keys from → IsOff keys to → IsIn key keys → Joins next next' (previous (key + 1)) (next (key + 1)) → Joins previous previous' (next (key + 1)) (previous (key + 1)) → IsChain next' previous' from (without key keys) to
+  chain_skip :
+      (from : ℕ) (keys : List ℕ) (to key : ℕ)
+      → IsChain next previous from keys to → IsApart keys → IsOff keys from → IsOff keys to → IsIn key keys
+      → Joins next next' (previous (key + 1)) (next (key + 1)) → Joins previous previous' (next (key + 1)) (previous (key + 1))
+      → IsChain next' previous' from (without key keys) to
   chain_skip from [] to key chain apart from_off to_off found nexts previouses = absurd found
   chain_skip from (first ∷ rest) to key chain apart from_off to_off found nexts previouses =
       elim (cases_eq first key) [
@@ -211,7 +224,10 @@ module _ (next previous next' previous' : ℕ → ℕ) where
 
 module _ (old new : List Link) where
   -- a key joins at the end
-  chain_push : (from : ℕ) (keys : List ℕ) (key : ℕ) → IsChain (next_of old) (previous_of old) from keys 0 → IsApart keys → IsOff keys from → ¬ IsIn key keys → from ≢ key + 1 → Inserts old new (key + 1) → IsChain (next_of new) (previous_of new) from (keys ++ key ∷ []) 0
+  chain_push :
+      (from : ℕ) (keys : List ℕ) (key : ℕ)
+      → IsChain (next_of old) (previous_of old) from keys 0 → IsApart keys → IsOff keys from → ¬ IsIn key keys → from ≢ key + 1
+      → Inserts old new (key + 1) → IsChain (next_of new) (previous_of new) from (keys ++ key ∷ []) 0
   chain_push from [] key chain apart from_off absent other inserts =
       (ap (next_of new) (sym chain.1) ∙ inserts.into, inserts.back_out ∙ chain.1, (inserts.out, inserts.back_into))
   chain_push from (first ∷ rest) key chain apart from_off absent other inserts =
@@ -234,10 +250,14 @@ on_within links keys at ring some on = elim on [ inl here ↦ omega arith | inr 
 pub last_within : (links : List Link) (keys : List ℕ) → IsRing links keys → 0 < length links → previous_of links 0 < length links
 last_within links keys ring some = on_within links keys _ ring some (previous_end_on _ _ 0 keys 0 ring.chained)
 
-pub before_within : (links : List Link) (keys : List ℕ) (key : ℕ) → IsRing links keys → IsIn key keys → previous_of links (key + 1) < length links
+pub before_within :
+    (links : List Link) (keys : List ℕ) (key : ℕ)
+    → IsRing links keys → IsIn key keys → previous_of links (key + 1) < length links
 before_within links keys key ring found = on_within links keys _ ring (omega (arith, ring.within key found)) (previous_on _ _ 0 keys 0 key ring.chained found)
 
-pub after_within : (links : List Link) (keys : List ℕ) (key : ℕ) → IsRing links keys → IsIn key keys → next_of links (key + 1) < length links
+pub after_within :
+    (links : List Link) (keys : List ℕ) (key : ℕ)
+    → IsRing links keys → IsIn key keys → next_of links (key + 1) < length links
 after_within links keys key ring found = on_within links keys _ ring (omega (arith, ring.within key found)) (next_on _ _ 0 keys 0 key ring.chained found)
 
 -- a key that isn't there isn't last
@@ -248,14 +268,19 @@ new_not_last links keys key ring absent same =
       | inr found ↦ let k : key ≡ found.0 = omega (arith, same ∙ found.2) in absent (subst (λ n. IsIn n keys) (sym k) found.1)
     ]
 
-pub ring_push : (old new : List Link) (keys : List ℕ) (key : ℕ) → IsRing old keys → ¬ IsIn key keys → key + 1 < length old → length new ≡ length old → Inserts old new (key + 1) → IsRing new (keys ++ key ∷ [])
+pub ring_push :
+    (old new : List Link) (keys : List ℕ) (key : ℕ)
+    → IsRing old keys → ¬ IsIn key keys → key + 1 < length old → length new ≡ length old → Inserts old new (key + 1)
+    → IsRing new (keys ++ key ∷ [])
 ring_push old new keys key ring absent room len inserts = record {
   chained = chain_push old new 0 keys key ring.chained ring.apart (start_off keys) absent (λ same. omega arith) inserts;
   apart = is_apart_push key keys ring.apart absent;
   within = λ k found. elim (is_in_push key k keys found) [ inl was ↦ omega (arith, ring.within k was) | inr here ↦ omega arith ];
 }
 
-pub ring_skip : (old new : List Link) (keys : List ℕ) (key : ℕ) → IsRing old keys → IsIn key keys → length new ≡ length old → Skips old new (key + 1) → IsRing new (without key keys)
+pub ring_skip :
+    (old new : List Link) (keys : List ℕ) (key : ℕ)
+    → IsRing old keys → IsIn key keys → length new ≡ length old → Skips old new (key + 1) → IsRing new (without key keys)
 ring_skip old new keys key ring found len skips = record {
   chained = chain_skip _ _ _ _ 0 keys 0 key ring.chained ring.apart (start_off keys) (start_off keys) found skips.next skips.previous;
   apart = is_apart_without key keys ring.apart;
@@ -263,7 +288,10 @@ ring_skip old new keys key ring found len skips = record {
 }
 
 -- more links change no ring
-pub ring_grown : (old new : List Link) (keys : List ℕ) → IsRing old keys → length old ≤ length new → ((at : ℕ) → next_of new at ≡ next_of old at) → ((at : ℕ) → previous_of new at ≡ previous_of old at) → IsRing new keys
+pub ring_grown :
+    (old new : List Link) (keys : List ℕ)
+    → IsRing old keys → length old ≤ length new → ((at : ℕ) → next_of new at ≡ next_of old at)
+    → ((at : ℕ) → previous_of new at ≡ previous_of old at) → IsRing new keys
 ring_grown old new keys ring more nexts previouses = record {
   chained = is_chain_kept _ _ _ _ 0 keys 0 ring.chained (λ at on. nexts at) (λ at on. previouses at);
   apart = ring.apart;
@@ -271,7 +299,9 @@ ring_grown old new keys ring more nexts previouses = record {
 }
 
 -- the first key is the one to which place 0 leads
-pub first_is_next : (links : List Link) (keys : List ℕ) → IsRing links keys → 0 < length keys → (1 ≤ next_of links 0) × (Some (next_of links 0 - 1) ≡ slice_get keys 0)
+pub first_is_next :
+    (links : List Link) (keys : List ℕ)
+    → IsRing links keys → 0 < length keys → (1 ≤ next_of links 0) × (Some (next_of links 0 - 1) ≡ slice_get keys 0)
 first_is_next links [] ring some = absurd (omega arith)
 first_is_next links (first ∷ rest) ring some = (omega (arith, ring.chained.0), ap Some (omega (arith, ring.chained.0)))
 

@@ -1,3 +1,4 @@
 pub mod Accepting
 pub mod Errors
 pub mod Sleeping
+pub mod OwnQueues

@@ -79,9 +79,9 @@ where
         };
         let room = self.state.own_queues.write(&self.rt).take_room();
         match room {
-            Ok(number) => Ok(Runner {
+            Ok(room) => Ok(Runner {
                 own,
-                number,
+                room,
                 is_listed: false,
                 words: Xoshiro256PlusPlus::seed_from_u64(seed),
                 counted: 0,

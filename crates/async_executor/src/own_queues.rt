@@ -1,4 +1,7 @@
 //! The list of the runs' own queues.
+ghost use Rattle.std.specs.Prelude.{◌≡◌, ◌+◌, ◌-◌, ◌==◌, [], ◌∷◌, ◌++◌, IfOk, IfErr, OnOk};
+ghost use Rattle.async_executor.specs.OwnQueues.{listed, without, queue_of, place_in};
+
 use std::alloc::{AllocError, Global};
 
 /// The own queues of runs, in the order in which the runs were first polled. Each has the number of its run.
@@ -18,9 +21,28 @@ pub struct Numbered<Q> {
     pub queue: Q,
 }
 
+/// A run's room in the list, with the number that no other run has. It has no drop: it is given back.
+#[must_use]
+pub struct RunRoom {
+    number: u64,
+}
+
+impl RunRoom {
+    /// The number of its run.
+    pub fn number(&self) -> u64
+        ensures { result ≡ self.now.number }
+    {
+        self.number
+    }
+}
+
 impl<Q> OwnQueues<Q> {
     /// No queue, which takes no memory.
-    pub fn new(alloc: Global) -> Self {
+    pub fn new(alloc: Global) -> Self
+        ensures queues { result.queues.items ≡ [] }
+        ensures rooms { result.rooms ≡ 0 }
+        ensures made { result.made ≡ 0 }
+    {
         OwnQueues {
             queues: Vec::new(alloc),
             rooms: 0,
@@ -28,44 +50,78 @@ impl<Q> OwnQueues<Q> {
         }
     }
 
-    /// Takes the room for one more run's queue, and answers the number of that run. Refused, it has changed nothing.
-    pub fn take_room(&mut self) -> Result<u64, AllocError> {
-        let rooms = self.rooms.checked_add(1).ok_or(AllocError)?;
-        let number = self.made.checked_add(1).ok_or(AllocError)?;
+    /// Takes the room for one more run's queue, under the number after that of the run before. Refused, it has changed
+    /// nothing that a walk sees.
+    pub fn take_room(&mut self) -> Result<RunRoom, AllocError>
+        ensures queues { self.new.queues.items ≡ self.old.queues.items }
+        ensures number { IfOk result (λ room. room.number ≡ self.old.made + 1) }
+        ensures taken { OnOk result ((self.new.rooms ≡ self.old.rooms + 1) × (self.new.made ≡ self.old.made + 1)) }
+        ensures refused { IfErr result (λ _. (self.new.rooms ≡ self.old.rooms) × (self.new.made ≡ self.old.made)) }
+    {
+        let (Some(rooms), Some(number)) = (self.rooms.checked_add(1), self.made.checked_add(1))
+        else {
+            return Err(AllocError);
+        };
         self.queues
             .reserve(rooms.saturating_sub(self.queues.len()))?;
         self.rooms = rooms;
         self.made = number;
-        Ok(number)
+        Ok(RunRoom { number })
     }
 
     /// Gives the room of one run back.
-    pub fn return_room(&mut self) {
+    pub fn return_room(&mut self, room: RunRoom)
+        ensures queues { self.new.queues.items ≡ self.old.queues.items }
+        ensures rooms { self.new.rooms ≡ self.old.rooms - 1 }
+        ensures made { self.new.made ≡ self.old.made }
+    {
+        let RunRoom { number: _ } = room;
         self.rooms = self.rooms.saturating_sub(1);
     }
 
     /// A run's queue comes last. It needs no memory where its room was taken.
-    pub fn insert(&mut self, number: u64, queue: Q) -> Result<(), AllocError>
+    pub fn insert(&mut self, room: &RunRoom, queue: Q) -> Result<(), AllocError>
     where
         Q: Drop,
+        ensures last { OnOk result (self.new.queues.items ≡ listed room.now.number queue self.old.queues.items) }
+        ensures refused { IfErr result (λ _. self.new.queues.items ≡ self.old.queues.items) }
+        ensures rooms { self.new.rooms ≡ self.old.rooms }
+        ensures made { self.new.made ≡ self.old.made }
     {
-        self.queues.push(Numbered { number, queue })?;
+        self.queues.push(Numbered {
+            number: room.number,
+            queue,
+        })?;
         Ok(())
     }
 
     /// A run's queue goes, and the others keep their order.
-    pub fn remove(&mut self, number: u64) -> Option<Q> {
-        for at in 0..self.queues.len() {
-            if self.queues[at].number == number {
+    pub fn remove(&mut self, room: &RunRoom) -> Option<Q>
+        ensures queue { result ≡ queue_of room.now.number self.old.queues.items }
+        ensures rest { self.new.queues.items ≡ without room.now.number self.old.queues.items }
+        ensures rooms { self.new.rooms ≡ self.old.rooms }
+        ensures made { self.new.made ≡ self.old.made }
+    {
+        match place_of(self.queues.as_slice(), room.number) {
+            Some(at) => {
                 let Numbered { number: _, queue } = self.queues.remove(at);
-                return Some(queue);
+                Some(queue)
             }
+            None => None,
         }
-        None
     }
 
     /// The queues, in order.
-    pub fn all(&self) -> &[Numbered<Q>] {
+    pub fn all(&self) -> &[Numbered<Q>]
+        ensures { result.now ≡ self.now.queues.items }
+    {
         self.queues.as_slice()
     }
+}
+
+/// Where the first queue with this number stands.
+fn place_of<Q>(queues: &[Numbered<Q>], number: u64) -> Option<usize>
+    ensures { result ≡ place_in number queues.now }
+{
+    queues.iter().position(|listed| listed.number == number)
 }

@@ -141,6 +141,18 @@ where
         drop(future);
         runner.end(executor.rt, &executor.state, executor.realm);
         ticker.leave(executor.rt, &executor.state, executor.realm);
-        executor.state.own_queues.write(&executor.rt).return_room();
+        let Runner {
+            own,
+            room,
+            is_listed: _,
+            words: _,
+            counted: _,
+        } = runner;
+        drop(own);
+        executor
+            .state
+            .own_queues
+            .write(&executor.rt)
+            .return_room(room);
     }
 }

@@ -1,6 +1,7 @@
 //! The own queue of a run, and how a run searches.
 use crate::due::{pay, share};
 use crate::names::ExRealm;
+use crate::own_queues::RunRoom;
 use crate::state::{Queue, State};
 use crate::steal::steal;
 use async_task::{NoMemory, StoredRunnable, Wake};
@@ -13,11 +14,10 @@ use std::sync::{Arc, Wait};
 const TASKS_BETWEEN_STEALS: u64 = 64;
 
 /// What a run has of its own among the queues.
-#[derive(Drop)]
 pub struct Runner {
     pub own: Arc<Queue, Global>,
-    /// The number under which the own queue stands in the executor's list.
-    pub number: u64,
+    /// Its room in the executor's list, with the number under which the own queue stands there.
+    pub room: RunRoom,
     /// Whether it stands there: from the first poll to the end.
     pub is_listed: bool,
     /// Says at which queue each walk starts.
@@ -37,7 +37,7 @@ impl Runner {
             return Ok(());
         }
         let queue = share(rt, &self.own);
-        match state.own_queues.write(&rt).insert(self.number, queue) {
+        match state.own_queues.write(&rt).insert(&self.room, queue) {
             Ok(()) => {
                 self.is_listed = true;
                 Ok(())
@@ -57,7 +57,7 @@ impl Runner {
             return;
         }
         self.is_listed = false;
-        let listed = state.own_queues.write(&rt).remove(self.number);
+        let listed = state.own_queues.write(&rt).remove(&self.room);
         drop(listed);
         for _ in rt.forever() {
             let Ok(stored) = self.own.pop(&rt) else {
@@ -127,7 +127,7 @@ impl Runner {
         let start = (self.words.next_u64() % queues.len() as u64) as usize;
         for step in 0..queues.len() {
             let listed = &queues[(start + step) % queues.len()];
-            if listed.number == self.number {
+            if listed.number == self.room.number() {
                 continue;
             }
             let refused = steal(rt, &listed.queue, &self.own);

@@ -1,7 +1,7 @@
 use crate::{ThreadWaker, block_on};
 use async_task::{Future, Poll, Wake};
 use std::alloc::{AllocError, Global};
-use std::sync::atomic::{AtomicBool, Ordering};
+use std::sync::atomic::{AtomicBool, AtomicU64, Ordering};
 use std::sync::{Arc, Mutex, Wait};
 use std::thread::{Threads, join, yield_now};
 
@@ -37,10 +37,11 @@ fn a_future_that_wakes_itself_is_polled_until_it_is_ready(rt: HostRuntime) {
     }
 }
 
-/// Ready once it was told. Until then it leaves a copy of its waker in the box.
+/// Ready once it was told. Until then it leaves a copy of its waker in the box. It counts its polls.
 #[derive(Drop)]
 struct Told<R> {
     rt: R,
+    polls: Arc<AtomicU64>,
     told: Arc<AtomicBool>,
     left: Arc<Mutex<Option<ThreadWaker>>>,
 }
@@ -49,6 +50,7 @@ impl<R: Wait> Future<ThreadWaker> for Told<R> {
     type Output = bool;
 
     fn poll(&mut self, waker: &ThreadWaker) -> Poll<bool> {
+        self.polls.fetch_add(1, Ordering::SeqCst);
         if self.told.load(Ordering::SeqCst) {
             return Poll::Ready(true);
         }
@@ -74,18 +76,21 @@ fn tell<R: Wait>(rt: &R, told: &AtomicBool, left: &Mutex<Option<ThreadWaker>>) -
     false
 }
 
+/// Blocks one thread on a future that another one tells: whether each came to its end, and how often the future was polled.
 fn wait_to_be_told<R: Threads + Wait + Sync + Copy + Drop + Send>(
     rt: R,
     alloc: Global,
-) -> Result<(bool, bool), AllocError> {
+) -> Result<(bool, bool, u64), AllocError> {
+    let polls = Arc::new(alloc, AtomicU64::new(0))?;
     let told = Arc::new(alloc, AtomicBool::new(false))?;
     let left = Arc::new(alloc, Mutex::new(None))?;
     let future = Told {
         rt,
+        polls: Arc::try_clone(&polls)?,
         told: Arc::try_clone(&told)?,
         left: Arc::try_clone(&left)?,
     };
-    let both = join(
+    let (waited, tells) = join(
         &rt,
         || match block_on::<ThreadWaker, Told<R>, R>(&rt, alloc, future) {
             Ok(output) => output,
@@ -93,13 +98,15 @@ fn wait_to_be_told<R: Threads + Wait + Sync + Copy + Drop + Send>(
         },
         || tell(&rt, &*told, &*left),
     );
-    Ok(both)
+    Ok((waited, tells, polls.load(Ordering::SeqCst)))
 }
 
+/// The thread polls its future once, parks while the other lets many turns go by, and polls it once more when that wakes it. One
+/// that didn't park would poll it again and again meanwhile.
 #[test]
 fn a_thread_parks_until_another_wakes_it(rt: HostRuntime) {
     match wait_to_be_told(rt, rt.alloc()) {
-        Ok(both) => assert!(&rt; both == (true, true)),
+        Ok(ended) => assert!(&rt; ended == (true, true, 2)),
         Err(_) => assert!(&rt; false),
     }
 }

@@ -1,128 +1,111 @@
 //! The drop of an executor, and spawning many.
-use crate::parts::{Never, Plain, TestExecutor, TestRealm, Work};
-use crate::stage::Stage;
-use async_executor::SpawnError;
-use std::test::Fail;
+use crate::parts::{Job, TestRealm};
+use crate::play::{Plan, Row, Step, Who, play};
+use crate::stage::End;
+
+const ROWS: &[Row] = &[
+    // The executor's drop drops a future that waits. Its handle finds the task closed, and a wake afterwards leads to nothing.
+    Row {
+        name: "a dropped executor cancels what is left",
+        limit: 1,
+        steps: &[
+            Step::Spawn(1, Plan::Keep),
+            Step::MakeTick(Who::First),
+            Step::Poll(Who::First, End::Ready),
+            Step::Leave(Who::First),
+            Step::Dropped(&[]),
+        ],
+        after: &[
+            Step::Dropped(&[1]),
+            Step::PollHandle(1, End::Closed),
+            Step::Wake,
+            Step::Dropped(&[1]),
+            Step::LetWakerGo,
+            Step::Dropped(&[1]),
+            Step::Polls(1),
+        ],
+    },
+    Row {
+        name: "a dropped executor drops in the order of acceptance",
+        limit: 3,
+        steps: &[
+            Step::SpawnDetached(0, Plan::Pend),
+            Step::SpawnDetached(1, Plan::Pend),
+            Step::SpawnDetached(2, Plan::Pend),
+            Step::TryTick(true),
+        ],
+        after: &[Step::Dropped(&[0, 1, 2])],
+    },
+    Row {
+        name: "a dropped executor calls who awaits",
+        limit: 2,
+        steps: &[
+            Step::Spawn(1, Plan::Pend),
+            Step::PollHandle(1, End::Pending),
+            Step::TryTick(true),
+            Step::Rings(0),
+        ],
+        after: &[Step::Rings(1), Step::PollHandle(1, End::Closed)],
+    },
+    // An output outlives its executor, and is dropped once, by who takes it.
+    Row {
+        name: "an output outlives its executor",
+        limit: 1,
+        steps: &[Step::Spawn(1, Plan::Ready(9)), Step::TryTick(true)],
+        after: &[
+            Step::OutputsDropped(0),
+            Step::PollHandle(1, End::Gives(9)),
+            Step::OutputsDropped(1),
+        ],
+    },
+    // An output that nobody takes is dropped with its handle, after its executor or before.
+    Row {
+        name: "an output is dropped with its handle",
+        limit: 2,
+        steps: &[
+            Step::Spawn(1, Plan::Ready(8)),
+            Step::Spawn(2, Plan::Ready(9)),
+            Step::TryTicks(2),
+            Step::OutputsDropped(0),
+            Step::DropHandle(1),
+            Step::OutputsDropped(1),
+        ],
+        after: &[
+            Step::OutputsDropped(1),
+            Step::DropHandle(2),
+            Step::OutputsDropped(2),
+        ],
+    },
+    // `spawn_many` accepts as many as there are places, and hands the next future back. None is no refusal.
+    Row {
+        name: "many are spawned until one is refused",
+        limit: 2,
+        steps: &[
+            Step::SpawnMany(0, 0),
+            Step::IsEmpty(true),
+            Step::SpawnMany(3, 2),
+            Step::TryTicks(2),
+            Step::TryTick(false),
+            Step::HandlesGive(2),
+            Step::Polled(&[0, 1]),
+        ],
+        after: &[],
+    },
+    Row {
+        name: "outputs of many come in order",
+        limit: 50,
+        steps: &[
+            Step::SpawnMany(50, 50),
+            Step::TryTicks(50),
+            Step::TryTick(false),
+            Step::HandlesGive(50),
+            Step::OutputsDropped(50),
+        ],
+        after: &[],
+    },
+];
 
 #[test]
-fn a_dropped_executor_cancels_what_is_left(rt: HostRuntime) {
-    let stage = Stage::new(rt, rt.alloc(), TestRealm::leak(rt.alloc(), 0), 0);
-    let executor = stage.executor(1);
-    let place = stage.place();
-    let mut task = stage.spawn(&executor, stage.job(1, Work::Keep(stage.again(&place))));
-    let mut tick = stage.tick(&executor);
-    stage.tick_is_ready(&mut tick, true);
-    drop(tick);
-    stage.drops(0);
-    drop(executor);
-    stage.drops(1);
-    stage.closed(&mut task);
-    stage.wake(&place);
-    stage.drops(1);
-    stage.let_go(&place);
-    stage.drops(1);
-}
-
-#[test]
-fn a_dropped_executor_drops_in_the_order_of_acceptance(rt: HostRuntime) {
-    let stage = Stage::new(rt, rt.alloc(), TestRealm::leak(rt.alloc(), 0), 0);
-    let executor = stage.executor(3);
-    for name in 0..3 {
-        stage.spawn_detached(&executor, stage.job(name, Work::Pend));
-    }
-    stage.ticks(&executor, true);
-    drop(executor);
-    stage.drops(3);
-    stage.dropped(&[0, 1, 2]);
-}
-
-#[test]
-fn a_dropped_executor_calls_who_awaits(rt: HostRuntime) {
-    let stage = Stage::new(rt, rt.alloc(), TestRealm::leak(rt.alloc(), 0), 0);
-    let executor = stage.executor(2);
-    let mut task = stage.spawn(&executor, stage.job(1, Work::Pend));
-    stage.pending(&mut task);
-    stage.ticks(&executor, true);
-    stage.rings(0);
-    drop(executor);
-    stage.rings(1);
-    stage.closed(&mut task);
-}
-
-#[test]
-fn an_output_outlives_its_executor(rt: HostRuntime) {
-    let stage = Stage::new(rt, rt.alloc(), TestRealm::leak(rt.alloc(), 0), 0);
-    let executor = stage.executor(1);
-    let mut task = stage.spawn(&executor, stage.job(1, Work::Ready(9)));
-    stage.ticks(&executor, true);
-    drop(executor);
-    stage.output(&mut task, 9);
-}
-
-#[test]
-fn many_are_spawned_until_one_is_refused(rt: HostRuntime) {
-    let stage = Stage::new(rt, rt.alloc(), TestRealm::leak(rt.alloc(), 0), 0);
-    let executor: TestExecutor<Plain, HostRuntime> = stage.executor(2);
-    let (mut handles, refused) = executor.spawn_many(&mut (0..3).map(Plain));
-    match refused {
-        Err(SpawnError::Full(Plain(name))) => assert_eq!(rt; name, 2),
-        _ => panic!(rt; "none was refused"),
-    }
-    stage.count(handles.len(), 2);
-    stage.ticks(&executor, true);
-    stage.ticks(&executor, true);
-    stage.ticks(&executor, false);
-    for name in 0..2 {
-        stage.first_output(&mut handles, name);
-    }
-}
-
-#[test]
-fn outputs_of_many_come_in_order(rt: HostRuntime) {
-    let stage = Stage::new(rt, rt.alloc(), TestRealm::leak(rt.alloc(), 0), 0);
-    let executor: TestExecutor<Plain, HostRuntime> = stage.executor(50);
-    let (mut handles, refused) = executor.spawn_many(&mut (0..50).map(Plain));
-    assert!(rt; refused.is_ok());
-    stage.count(handles.len(), 50);
-    for _ in 0..50 {
-        stage.ticks(&executor, true);
-    }
-    for name in 0..50 {
-        stage.first_output(&mut handles, name);
-    }
-    stage.count(handles.len(), 0);
-}
-
-#[test]
-fn a_thousand_executors_use_the_place_of_the_first(rt: HostRuntime) {
-    let stage = Stage::new(rt, rt.alloc(), TestRealm::leak(rt.alloc(), 0), 0);
-    let first = stage.place_of_a_short_life(stage.job(0, Work::Pend));
-    for _ in 0..1_000 {
-        assert_eq!(rt;
-            stage
-                .place_of_a_short_life(stage.job(0, Work::Pend))
-                .as_str(),
-            first.as_str()
-        );
-    }
-}
-
-#[test]
-fn the_text_of_an_executor(rt: HostRuntime) -> Result<(), Fail> {
-    let stage = Stage::new(rt, rt.alloc(), TestRealm::leak(rt.alloc(), 0), 0);
-    let executor: TestExecutor<Plain, HostRuntime> = stage.executor(1);
-    stage.spawn_detached(&executor, Plain(1));
-    let text = format!(in rt.alloc(); "{executor:?}")?;
-    assert_eq!(rt;
-        text.as_str(),
-        "Executor { active: 1, global_tasks: 1, local_runners: [], sleepers: 0 }"
-    );
-    let mut run = stage.run(&executor, Never, 0);
-    stage.run_gives(&mut run, None);
-    let text = format!(in rt.alloc(); "{executor:?}")?;
-    assert_eq!(rt;
-        text.as_str(),
-        "Executor { active: 0, global_tasks: 0, local_runners: [0], sleepers: 1 }"
-    );
-    Ok(())
+fn drops_and_spawns_of_many_answer_as_their_rows_say(rt: HostRuntime) {
+    play::<Job<_>, _>(rt, rt.alloc(), TestRealm::leak(rt.alloc(), 0), ROWS);
 }

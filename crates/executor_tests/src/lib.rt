@@ -9,11 +9,19 @@ mod closing;
 #[cfg(test)]
 mod hello;
 #[cfg(test)]
+mod many;
+#[cfg(test)]
 mod parts;
+#[cfg(test)]
+mod play;
+#[cfg(test)]
+mod refusals;
 #[cfg(test)]
 mod runs;
 #[cfg(test)]
 mod stage;
+#[cfg(test)]
+mod texts;
 #[cfg(test)]
 mod threads;
 #[cfg(test)]

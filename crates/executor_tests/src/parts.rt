@@ -1,7 +1,8 @@
 //! What the tests' futures are, and what is noted of them.
 use async_executor::{ExRealm, ExTask, ExWaker, Executor};
-use async_task::{Awaiter, Future, Poll, StoredTask, StoredWaker, Wake};
+use async_task::{Awaiter, Future, Poll, StoredTask, StoredWaker, TaskError, Wake};
 use std::alloc::{AllocError, Global};
+use std::mem;
 use std::sync::atomic::AtomicU64;
 use std::sync::atomic::Ordering::SeqCst;
 use std::sync::{Arc, Mutex, Wait};
@@ -13,15 +14,19 @@ pub struct Notes {
     pub polled: Mutex<Vec<u64>>,
     /// The futures that were dropped, in order.
     pub dropped: Mutex<Vec<u64>>,
+    /// The waker that a future kept last.
+    pub kept: Mutex<Option<StoredWaker>>,
     /// How many futures were dropped.
     pub drops: AtomicU64,
+    /// How many outputs were dropped.
+    pub lost: AtomicU64,
     /// How often an outside waker was called.
     pub rings: AtomicU64,
     /// How many copies of outside wakers may still be made.
     pub copies: AtomicU64,
     /// How often two polls of one future overlapped.
     pub overlaps: AtomicU64,
-    /// Of each future by its name: its polls, drops, and outputs that another was given.
+    /// Of each future by its name, where they are noted one by one.
     pub each: Vec<Counts>,
 }
 
@@ -30,7 +35,12 @@ pub struct Notes {
 pub struct Counts {
     pub polls: AtomicU64,
     pub drops: AtomicU64,
-    pub outputs: AtomicU64,
+    /// The outputs that it gave.
+    pub made: AtomicU64,
+    /// The outputs of it that another future was given.
+    pub given: AtomicU64,
+    /// The outputs of it that were dropped.
+    pub lost: AtomicU64,
     /// How many polls of it are in progress.
     pub inside: AtomicU64,
 }
@@ -43,26 +53,26 @@ impl Notes {
             each.push(Counts {
                 polls: AtomicU64::new(0),
                 drops: AtomicU64::new(0),
-                outputs: AtomicU64::new(0),
+                made: AtomicU64::new(0),
+                given: AtomicU64::new(0),
+                lost: AtomicU64::new(0),
                 inside: AtomicU64::new(0),
             })?;
         }
-        Ok(Arc::new(
-            alloc,
-            Notes {
-                polled: Mutex::new(Vec::with_capacity(alloc, 600)?),
-                dropped: Mutex::new(Vec::with_capacity(alloc, 600)?),
-                drops: AtomicU64::new(0),
-                rings: AtomicU64::new(0),
-                copies: AtomicU64::new(u64::MAX),
-                overlaps: AtomicU64::new(0),
-                each,
-            },
-        )?)
+        let notes = Notes {
+            polled: Mutex::new(Vec::with_capacity(alloc, 600)?),
+            dropped: Mutex::new(Vec::with_capacity(alloc, 600)?),
+            kept: Mutex::new(None),
+            drops: AtomicU64::new(0),
+            lost: AtomicU64::new(0),
+            rings: AtomicU64::new(0),
+            copies: AtomicU64::new(u64::MAX),
+            overlaps: AtomicU64::new(0),
+            each,
+        };
+        Ok(Arc::new(alloc, notes)?)
     }
-}
 
-impl Notes {
     /// Notes that a poll of a future begins.
     fn poll_begins<R: Wait>(&self, rt: &R, name: u64) {
         match self.each.get(name as usize) {
@@ -85,13 +95,6 @@ impl Notes {
         }
     }
 
-    /// Notes that the output of the future of this name was given.
-    fn is_given(&self, name: u64) {
-        if let Some(counts) = self.each.get(name as usize) {
-            counts.outputs.fetch_add(1, SeqCst);
-        }
-    }
-
     /// Notes that a future is dropped.
     fn is_dropped<R: Wait>(&self, rt: &R, name: u64) {
         self.drops.fetch_add(1, SeqCst);
@@ -101,6 +104,37 @@ impl Notes {
             }
             None => {
                 let _ = self.dropped.lock(rt).push(name);
+            }
+        }
+    }
+}
+
+/// What a future gives: a number. Its drop is noted.
+pub struct Gift {
+    pub number: u64,
+    /// Where it is noted; none past 2^63 outputs.
+    notes: Option<Arc<Notes, Global>>,
+}
+
+impl Gift {
+    pub fn new(number: u64, notes: &Arc<Notes, Global>) -> Gift {
+        if let Some(counts) = notes.each.get(number as usize) {
+            counts.made.fetch_add(1, SeqCst);
+        }
+        Gift {
+            number,
+            notes: Arc::try_clone(notes).ok(),
+        }
+    }
+}
+
+impl Drop for Gift {
+    fn drop(self) {
+        let Gift { number, notes } = self;
+        if let Some(notes) = notes {
+            notes.lost.fetch_add(1, SeqCst);
+            if let Some(counts) = notes.each.get(number as usize) {
+                counts.lost.fetch_add(1, SeqCst);
             }
         }
     }
@@ -142,13 +176,13 @@ impl Wake for Bell {
 }
 
 /// The waker that the tests' futures are polled with.
-pub type TestWaker<R> = ExWaker<u64, Bell, R>;
+pub type TestWaker<R> = ExWaker<Gift, Bell, R>;
 
-pub type TestTask<R> = ExTask<u64, Bell, R>;
+pub type TestTask<R> = ExTask<Gift, Bell, R>;
 
-pub type TestRealm<R> = ExRealm<u64, Bell, R>;
+pub type TestRealm<R> = ExRealm<Gift, Bell, R>;
 
-pub type TestExecutor<F, R> = Executor<F, u64, Bell, R>;
+pub type TestExecutor<F, R> = Executor<F, Gift, Bell, R>;
 
 /// What a future does at each poll.
 #[derive(Drop)]
@@ -159,8 +193,8 @@ pub enum Work<R: Wait + Copy + Drop + 'static> {
     Pend,
     /// Wakes itself this often, and then gives the number.
     Yield(u64, u64),
-    /// Keeps a copy of its waker here at each poll, and waits.
-    Keep(Arc<Mutex<Option<StoredWaker>>, Global>),
+    /// Keeps a copy of its waker at each poll, and waits.
+    Keep,
     /// Polls the handle that it has, and gives twice the output.
     Twice(TestTask<R>),
     /// Gives way, then does something with the handle that it has, if any, and gives its own name.
@@ -185,11 +219,11 @@ pub enum Deed {
     Drop(u64),
 }
 
-/// A future of the tests.
+/// A future of the tests. Polls and drops of one that has a name are noted.
 pub struct Job<R: Wait + Copy + Drop + 'static> {
     pub rt: R,
     pub realm: &'static TestRealm<R>,
-    pub name: u64,
+    pub name: Option<u64>,
     pub work: Work<R>,
     pub notes: Arc<Notes, Global>,
 }
@@ -212,106 +246,116 @@ impl<R: Wait + Copy + Drop + 'static> Drop for Job<R> {
         {
             drop_stored(rt, realm, other);
         }
-        notes.is_dropped(&rt, name);
+        if let Some(name) = name {
+            notes.is_dropped(&rt, name);
+        }
     }
 }
 
-impl<R: Wait + Copy + Drop + 'static> Future<TestWaker<R>> for Work<R> {
-    type Output = u64;
+impl<R: Wait + Copy + Drop + 'static> Future<TestWaker<R>> for Job<R> {
+    type Output = Gift;
 
-    fn poll(&mut self, waker: &TestWaker<R>) -> Poll<u64> {
-        match self {
-            Work::Ready(number) => Poll::Ready(*number),
+    fn poll(&mut self, waker: &TestWaker<R>) -> Poll<Gift> {
+        let Some(name) = self.name else {
+            return self.poll_work(0, waker);
+        };
+        self.notes.poll_begins(&self.rt, name);
+        let polled = self.poll_work(name, waker);
+        self.notes.poll_ends(name);
+        polled
+    }
+}
+
+impl<R: Wait + Copy + Drop + 'static> Job<R> {
+    fn poll_work(&mut self, name: u64, waker: &TestWaker<R>) -> Poll<Gift> {
+        match &mut self.work {
+            Work::Ready(number) => Poll::Ready(Gift::new(*number, &self.notes)),
             Work::Pend => Poll::Pending,
             Work::Yield(times, number) => {
                 if *times == 0 {
-                    return Poll::Ready(*number);
+                    return Poll::Ready(Gift::new(*number, &self.notes));
                 }
                 *times -= 1;
                 waker.wake_by_ref();
                 Poll::Pending
             }
-            Work::Keep(_) => Poll::Pending,
-            Work::Twice(task) => match task.poll(waker) {
-                Poll::Ready(Ok(number)) => Poll::Ready(number.saturating_mul(2)),
-                Poll::Ready(Err(_)) => Poll::Ready(0),
-                Poll::Pending => Poll::Pending,
-            },
-            Work::Meddle(_) => Poll::Pending,
-        }
-    }
-}
-
-impl Meddler {
-    /// The first poll gives way, the second does the deed. Only who awaits goes on after that.
-    fn poll<R: Wait + Copy + Drop + 'static>(
-        &mut self,
-        rt: R,
-        realm: &'static TestRealm<R>,
-        name: u64,
-        notes: &Notes,
-        waker: &TestWaker<R>,
-    ) -> Poll<u64> {
-        let deed = self.deed;
-        self.deed = deed_after(deed);
-        match deed {
-            Deed::Await(0) => self.await_other(rt, realm, name, notes, waker),
-            Deed::Detach(0) => {
-                if let Some(stored) = self.other.take() {
-                    if let Some(task) = stored.redeem(rt, realm) {
-                        task.detach();
-                    }
+            Work::Keep => keep(self.rt, self.realm, &self.notes.kept, waker),
+            Work::Twice(task) => twice(task.poll(waker), &self.notes),
+            Work::Meddle(meddler) => {
+                if meddler.is_done(self.rt, self.realm, &self.notes, waker) {
+                    return Poll::Ready(Gift::new(name, &self.notes));
                 }
-                Poll::Ready(name)
-            }
-            Deed::Drop(0) => {
-                if let Some(stored) = self.other.take() {
-                    drop_stored(rt, realm, stored);
-                }
-                Poll::Ready(name)
-            }
-            Deed::Await(_) | Deed::Detach(_) | Deed::Drop(_) => {
-                waker.wake_by_ref();
                 Poll::Pending
             }
         }
     }
+}
 
-    fn await_other<R: Wait + Copy + Drop + 'static>(
+/// Twice the output of a task, or 0 where it was closed.
+fn twice(polled: Poll<Result<Gift, TaskError>>, notes: &Arc<Notes, Global>) -> Poll<Gift> {
+    let number = match polled {
+        Poll::Ready(Ok(gift)) => gift.number.saturating_mul(2),
+        Poll::Ready(Err(_)) => 0,
+        Poll::Pending => return Poll::Pending,
+    };
+    Poll::Ready(Gift::new(number, notes))
+}
+
+impl Meddler {
+    /// The first poll gives way, the second does the deed. Only who awaits goes on after that.
+    fn is_done<R: Wait + Copy + Drop + 'static>(
         &mut self,
         rt: R,
         realm: &'static TestRealm<R>,
-        name: u64,
         notes: &Notes,
         waker: &TestWaker<R>,
-    ) -> Poll<u64> {
-        let Some(stored) = self.other.take() else {
-            return Poll::Ready(name);
+    ) -> bool {
+        let deed = self.deed;
+        self.deed = deed_after(deed);
+        if !is_due(deed) {
+            waker.wake_by_ref();
+            return false;
+        }
+        let Some(stored) = mem::replace(&mut self.other, None) else {
+            return true;
         };
-        let Some(mut task) = stored.redeem(rt, realm) else {
-            return Poll::Ready(name);
+        let Some(task) = stored.redeem(rt, realm) else {
+            return true;
         };
+        match deed {
+            Deed::Await(_) => return self.awaits(task, notes, waker),
+            Deed::Detach(_) => task.detach(),
+            Deed::Drop(_) => drop(task),
+        }
+        true
+    }
+
+    /// Polls the other's handle, and says whether its task has ended. The handle stays.
+    fn awaits<R: Wait + Copy + Drop + 'static>(
+        &mut self,
+        task: TestTask<R>,
+        notes: &Notes,
+        waker: &TestWaker<R>,
+    ) -> bool {
+        let mut task = task;
         let polled = task.poll(waker);
         self.other = Some(task.store());
         match polled {
-            Poll::Ready(Ok(output)) => {
-                notes.is_given(output);
-                Poll::Ready(name)
+            Poll::Ready(Ok(gift)) => {
+                if let Some(counts) = notes.each.get(gift.number as usize) {
+                    counts.given.fetch_add(1, SeqCst);
+                }
+                true
             }
-            Poll::Ready(Err(_)) => Poll::Ready(name),
-            Poll::Pending => Poll::Pending,
+            Poll::Ready(Err(_)) => true,
+            Poll::Pending => false,
         }
     }
 }
 
-/// Drops a handle that was stored, which cancels its task.
-fn drop_stored<R: Wait + Copy + Drop + 'static>(
-    rt: R,
-    realm: &'static TestRealm<R>,
-    stored: StoredTask,
-) {
-    if let Some(task) = stored.redeem(rt, realm) {
-        drop(task);
+fn is_due(deed: Deed) -> bool {
+    match deed {
+        Deed::Await(times) | Deed::Detach(times) | Deed::Drop(times) => times == 0,
     }
 }
 
@@ -323,26 +367,14 @@ fn deed_after(deed: Deed) -> Deed {
     }
 }
 
-impl<R: Wait + Copy + Drop + 'static> Future<TestWaker<R>> for Job<R> {
-    type Output = u64;
-
-    fn poll(&mut self, waker: &TestWaker<R>) -> Poll<u64> {
-        self.notes.poll_begins(&self.rt, self.name);
-        let polled = self.poll_work(waker);
-        self.notes.poll_ends(self.name);
-        polled
-    }
-}
-
-impl<R: Wait + Copy + Drop + 'static> Job<R> {
-    fn poll_work(&mut self, waker: &TestWaker<R>) -> Poll<u64> {
-        match &mut self.work {
-            Work::Keep(place) => keep(self.rt, self.realm, place, waker),
-            Work::Meddle(meddler) => {
-                meddler.poll(self.rt, self.realm, self.name, &self.notes, waker)
-            }
-            work => work.poll(waker),
-        }
+/// Drops a handle that was stored, which cancels its task.
+pub fn drop_stored<R: Wait + Copy + Drop + 'static>(
+    rt: R,
+    realm: &'static TestRealm<R>,
+    stored: StoredTask,
+) {
+    if let Some(task) = stored.redeem(rt, realm) {
+        drop(task);
     }
 }
 
@@ -352,42 +384,25 @@ fn keep<R: Wait + Copy + Drop + 'static>(
     realm: &'static TestRealm<R>,
     place: &Mutex<Option<StoredWaker>>,
     waker: &TestWaker<R>,
-) -> Poll<u64> {
+) -> Poll<Gift> {
     if let Awaiter::Task(waker) = waker {
         if let Some(copy) = waker.clone() {
-            let old = std::mem::replace(&mut *place.lock(&rt), Some(copy.store()));
+            let old = mem::replace(&mut *place.lock(&rt), Some(copy.store()));
             if let Some(old) = old {
-                if let Some(old) = old.redeem(rt, realm) {
-                    drop(old);
-                }
+                drop_waker(rt, realm, old);
             }
         }
     }
     Poll::Pending
 }
 
-/// A future that is never ready.
-#[derive(Drop)]
-pub struct Never;
-
-impl<K> Future<K> for Never {
-    type Output = u64;
-
-    fn poll(&mut self, waker: &K) -> Poll<u64> {
-        let _ = waker;
-        Poll::Pending
-    }
-}
-
-/// A future that gives its number at its first poll.
-#[derive(Drop)]
-pub struct Plain(pub u64);
-
-impl<K> Future<K> for Plain {
-    type Output = u64;
-
-    fn poll(&mut self, waker: &K) -> Poll<u64> {
-        let _ = waker;
-        Poll::Ready(self.0)
+/// Lets a waker go that was kept.
+pub fn drop_waker<R: Wait + Copy + Drop + 'static>(
+    rt: R,
+    realm: &'static TestRealm<R>,
+    stored: StoredWaker,
+) {
+    if let Some(waker) = stored.redeem(rt, realm) {
+        drop(waker);
     }
 }

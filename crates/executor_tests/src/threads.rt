@@ -1,7 +1,7 @@
 //! Threads that really overlap. A thread whose loop passes its bound fails the test.
-use crate::parts::{Deed, Meddler, Never, TestExecutor, TestRealm, TestWaker, Work};
-use crate::stage::Stage;
-use async_task::Future;
+use crate::parts::{Counts, Deed, Job, Meddler, TestExecutor, TestRealm, Work};
+use crate::stage::{End, Planned, Seat, Stage};
+use async_task::StoredTask;
 use std::process::Abort;
 use std::sync::Wait;
 use std::sync::atomic::AtomicU64;
@@ -14,7 +14,7 @@ const MOST_TURNS: u64 = 10_000_000;
 /// Ticks until the executor is empty, and says whether it came to that.
 fn tick_until_empty<F, R>(executor: &TestExecutor<F, R>) -> bool
 where
-    F: Future<TestWaker<R>, Output = u64> + Drop,
+    F: Planned<R>,
     R: Wait + Copy + Drop + 'static,
 {
     for _ in 0..MOST_TURNS {
@@ -31,12 +31,14 @@ where
 /// Polls a run and gives way until the executor is empty, and says whether it came to that.
 fn run_until_empty<F, R>(stage: &Stage<R>, executor: &TestExecutor<F, R>, seed: u64) -> bool
 where
-    F: Future<TestWaker<R>, Output = u64> + Drop,
+    F: Planned<R>,
     R: Abort + Wait + Copy + Drop + 'static,
 {
-    let mut run = stage.run(executor, Never, seed);
+    let mut run = stage.run(executor, stage.job(None, Work::Pend), seed);
     for _ in 0..MOST_TURNS {
-        stage.run_gives(&mut run, None);
+        if stage.poll_seat(&mut run) != End::Pending {
+            return false;
+        }
         if executor.is_empty() {
             return true;
         }
@@ -45,22 +47,68 @@ where
     false
 }
 
+/// Each future was dropped once, each of its outputs too, it gave one at most, and that to one other at most. No two polls of
+/// one overlapped. So many polls are wanted of each, where it is said.
+fn each_is_well(counts: &[Counts], polls: Option<u64>) -> bool {
+    for each in counts {
+        let made = each.made.load(SeqCst);
+        let is_well = each.drops.load(SeqCst) == 1
+            && made <= 1
+            && each.lost.load(SeqCst) == made
+            && each.given.load(SeqCst) <= made;
+        if !is_well {
+            return false;
+        }
+        if let Some(polls) = polls {
+            if each.polls.load(SeqCst) != polls {
+                return false;
+            }
+        }
+    }
+    true
+}
+
+/// How many outputs were made, and how many of them another future was given.
+fn outputs(counts: &[Counts]) -> (u64, u64) {
+    let mut made = 0u64;
+    let mut given = 0u64;
+    for each in counts {
+        made = made.saturating_add(each.made.load(SeqCst));
+        given = given.saturating_add(each.given.load(SeqCst));
+    }
+    (made, given)
+}
+
+/// Spawns futures of the names from 0 on, each of which wakes itself once, and gives their handles up.
+fn spawn_all<F, R>(stage: &Stage<R>, executor: &TestExecutor<F, R>, names: u64) -> bool
+where
+    F: Planned<R>,
+    R: Abort + Wait + Copy + Drop + 'static,
+{
+    for name in 0..names {
+        let future = stage.job(Some(name), Work::Yield(1, name));
+        if !stage.spawn_detached(executor, future) {
+            return false;
+        }
+    }
+    true
+}
+
+/// Each future is polled twice, dropped once, and its one output too.
 #[test]
 fn two_threads_tick_a_thousand_futures(rt: HostRuntime) {
     let stage = Stage::new(rt, rt.alloc(), TestRealm::leak(rt.alloc(), 0), 1_000);
-    let executor = stage.executor(1_000);
-    for name in 0..1_000 {
-        stage.spawn_detached(&executor, stage.job(name, Work::Yield(1, name)));
-    }
+    let executor: TestExecutor<Job<_>, _> = stage.executor(1_000);
+    let are_spawned = spawn_all(&stage, &executor, 1_000);
     let (one, other) = thread::join(
         &rt,
         || tick_until_empty(&executor),
         || tick_until_empty(&executor),
     );
-    assert!(rt; one);
-    assert!(rt; other);
-    stage.each_was_polled(2);
-    stage.each_was_dropped_once();
+    let counts = stage.notes.each.as_slice();
+    let is_well = each_is_well(counts, Some(2)) & (outputs(counts) == (1_000, 0));
+    let no_overlaps = stage.notes.overlaps.load(SeqCst) == 0;
+    assert!(rt; are_spawned & one & other & is_well & no_overlaps);
 }
 
 /// Which deed the future of this name does.
@@ -72,16 +120,31 @@ fn deed_of(name: u64) -> Deed {
     }
 }
 
+/// Spawns futures of the names from 0 on. Each has the handle of the one before; the last one's is the answer.
+fn spawn_chain<F, R>(
+    stage: &Stage<R>,
+    executor: &TestExecutor<F, R>,
+    names: u64,
+) -> Option<StoredTask>
+where
+    F: Planned<R>,
+    R: Abort + Wait + Copy + Drop + 'static,
+{
+    let mut other = None;
+    for name in 0..names {
+        let deed = deed_of(name);
+        let future = stage.job(Some(name), Work::Meddle(Meddler { deed, other }));
+        other = stage.spawn(executor, future);
+    }
+    other
+}
+
+/// Each future is dropped once, each output too, and given to one at most; some are given, and some futures are cancelled.
 #[test]
 fn four_threads_run_futures_that_await_cancel_and_detach_each_other(rt: HostRuntime) {
     let stage = Stage::new(rt, rt.alloc(), TestRealm::leak(rt.alloc(), 0), 10_000);
-    let executor = stage.executor(10_000);
-    let mut other = None;
-    for name in 0..10_000 {
-        let deed = deed_of(name);
-        let job = stage.job(name, Work::Meddle(Meddler { deed, other }));
-        other = Some(stage.spawn(&executor, job).store());
-    }
+    let executor: TestExecutor<Job<_>, _> = stage.executor(10_000);
+    let last = spawn_chain(&stage, &executor, 10_000);
     let ended = thread::map_indices(
         &rt,
         rt.alloc(),
@@ -89,15 +152,19 @@ fn four_threads_run_futures_that_await_cancel_and_detach_each_other(rt: HostRunt
         &|party| run_until_empty(&stage, &executor, party as u64),
     )
     .expect(&rt, "threads");
+    let mut are_well = last.is_some();
     for has_ended in &ended {
-        assert!(rt; *has_ended);
+        are_well = are_well & *has_ended;
     }
-    stage.each_was_dropped_once();
-    stage.outputs_were_given_once();
-    let Some(last) = other else {
-        panic!(rt; "none was spawned");
-    };
-    drop(last.redeem(rt, stage.realm));
+    if let Some(last) = last {
+        stage.drop_handle(last);
+    }
+    let counts = stage.notes.each.as_slice();
+    let (made, given) = outputs(counts);
+    let no_overlaps = stage.notes.overlaps.load(SeqCst) == 0;
+    assert!(rt;
+        are_well & no_overlaps & each_is_well(counts, None) & (made < 10_000) & (given > 0)
+    );
 }
 
 /// Polls a tick each time that its waker was called, as often as there are rounds, and says whether it came to that.
@@ -108,19 +175,41 @@ fn tick_when_called<F, R>(
     rounds: u64,
 ) -> bool
 where
-    F: Future<TestWaker<R>, Output = u64> + Drop,
+    F: Planned<R>,
     R: Abort + Wait + Copy + Drop + 'static,
 {
     let mut tick = stage.tick(executor);
-    let mut called = 0;
     for round in 0..rounds {
-        stage.tick_is_ready(&mut tick, false);
-        lying.store(round + 1, SeqCst);
-        if !passes(&stage.notes.rings, called) {
+        if stage.poll_seat(&mut tick) != End::Pending {
             return false;
         }
-        called = stage.notes.rings.load(SeqCst);
-        stage.tick_is_ready(&mut tick, true);
+        let called = stage.rings();
+        lying.store(round.saturating_add(1), SeqCst);
+        if !passes(&stage.notes.rings, called) | (stage.poll_seat(&mut tick) != End::Ready) {
+            return false;
+        }
+    }
+    true
+}
+
+/// Spawns a future each time that the tick lies, as often as there are rounds, and says whether it came to that.
+fn spawn_when_lying<F, R>(
+    stage: &Stage<R>,
+    executor: &TestExecutor<F, R>,
+    lying: &AtomicU64,
+    rounds: u64,
+) -> bool
+where
+    F: Planned<R>,
+    R: Abort + Wait + Copy + Drop + 'static,
+{
+    for round in 0..rounds {
+        if !passes(lying, round) {
+            return false;
+        }
+        if !stage.spawn_detached(executor, stage.job(Some(0), Work::Ready(round))) {
+            return false;
+        }
     }
     true
 }
@@ -136,25 +225,17 @@ fn passes(number: &AtomicU64, last: u64) -> bool {
     false
 }
 
+/// Each round the tick waits, a spawn on the other thread calls it, and its next poll finds that future.
 #[test]
 fn a_lying_tick_is_called_by_a_spawn_on_another_thread(rt: HostRuntime) {
     let stage = Stage::new(rt, rt.alloc(), TestRealm::leak(rt.alloc(), 0), 1);
-    let executor = stage.executor(2);
+    let executor: TestExecutor<Job<_>, _> = stage.executor(2);
     let lying = AtomicU64::new(0);
     let (ticked, spawned) = thread::join(
         &rt,
         || tick_when_called(&stage, &executor, &lying, 10_000),
-        || {
-            for round in 0..10_000 {
-                if !passes(&lying, round) {
-                    return false;
-                }
-                stage.spawn_detached(&executor, stage.job(0, Work::Ready(round)));
-            }
-            true
-        },
+        || spawn_when_lying(&stage, &executor, &lying, 10_000),
     );
-    assert!(rt; ticked);
-    assert!(rt; spawned);
-    stage.drops(10_000);
+    let dropped = stage.notes.drops.load(SeqCst);
+    assert!(rt; ticked & spawned & (dropped == 10_000));
 }

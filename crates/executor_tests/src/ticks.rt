@@ -1,108 +1,127 @@
-//! Ticks: waiting, being told, passing on what one was told, room, refused copies.
-use crate::parts::{TestRealm, Work};
-use crate::stage::Stage;
-use std::sync::atomic::Ordering::SeqCst;
+//! Ticks: waiting, being told, passing on what one was told, room.
+use crate::parts::{Job, TestRealm};
+use crate::play::{Plan, Row, Step, Who, play};
+use crate::stage::End;
+
+const ROWS: &[Row] = &[
+    // Of two spawns that follow one another the first tells the tick that waits.
+    Row {
+        name: "a waiting tick is told once",
+        limit: 2,
+        steps: &[
+            Step::MakeTick(Who::First),
+            Step::Poll(Who::First, End::Pending),
+            Step::SpawnDetached(1, Plan::Ready(1)),
+            Step::SpawnDetached(2, Plan::Ready(2)),
+            Step::Rings(1),
+            Step::Poll(Who::First, End::Ready),
+            Step::Polled(&[1]),
+            Step::TryTick(true),
+            Step::Polled(&[1, 2]),
+        ],
+        after: &[],
+    },
+    // A tick that goes after it was told tells another, which finds the task.
+    Row {
+        name: "a dropped tick passes the call on",
+        limit: 1,
+        steps: &[
+            Step::MakeTick(Who::First),
+            Step::MakeTick(Who::Second),
+            Step::Poll(Who::First, End::Pending),
+            Step::Poll(Who::Second, End::Pending),
+            Step::Rings(0),
+            Step::SpawnDetached(1, Plan::Ready(1)),
+            Step::Rings(1),
+            Step::Leave(Who::Second),
+            Step::Rings(2),
+            Step::Poll(Who::First, End::Ready),
+            Step::Polled(&[1]),
+        ],
+        after: &[],
+    },
+    // A tick that goes and wasn't told tells nobody, and is told nothing later.
+    Row {
+        name: "a dropped tick that was not told tells nobody",
+        limit: 1,
+        steps: &[
+            Step::MakeTick(Who::First),
+            Step::MakeTick(Who::Second),
+            Step::Poll(Who::First, End::Pending),
+            Step::Poll(Who::Second, End::Pending),
+            Step::Leave(Who::Second),
+            Step::Rings(0),
+            Step::SpawnDetached(1, Plan::Ready(1)),
+            Step::Rings(1),
+            Step::Poll(Who::First, End::Ready),
+            Step::Polled(&[1]),
+        ],
+        after: &[],
+    },
+    // A tick that finds a task tells another that there may be more.
+    Row {
+        name: "a tick that finds a task tells another",
+        limit: 2,
+        steps: &[
+            Step::MakeTick(Who::First),
+            Step::MakeTick(Who::Second),
+            Step::Poll(Who::First, End::Pending),
+            Step::Poll(Who::Second, End::Pending),
+            Step::SpawnDetached(1, Plan::Ready(1)),
+            Step::SpawnDetached(2, Plan::Ready(2)),
+            Step::Rings(1),
+            Step::Poll(Who::Second, End::Ready),
+            Step::Rings(2),
+            Step::Poll(Who::First, End::Ready),
+            Step::Polled(&[1, 2]),
+        ],
+        after: &[],
+    },
+    // After it was ready a tick serves as a new one: it waits, is told, and polls the next future.
+    Row {
+        name: "a tick serves again after it was ready",
+        limit: 1,
+        steps: &[
+            Step::MakeTick(Who::First),
+            Step::Poll(Who::First, End::Pending),
+            Step::SpawnDetached(0, Plan::Ready(0)),
+            Step::Rings(1),
+            Step::Poll(Who::First, End::Ready),
+            Step::Poll(Who::First, End::Pending),
+            Step::SpawnDetached(1, Plan::Ready(1)),
+            Step::Rings(2),
+            Step::Poll(Who::First, End::Ready),
+            Step::Poll(Who::First, End::Pending),
+            Step::SpawnDetached(2, Plan::Ready(2)),
+            Step::Rings(3),
+            Step::Poll(Who::First, End::Ready),
+            Step::Polled(&[0, 1, 2]),
+        ],
+        after: &[],
+    },
+    // Executors that share a realm tell their own ticks, and take their own tasks.
+    Row {
+        name: "executors of one realm tell their own ticks",
+        limit: 1,
+        steps: &[
+            Step::OnOther(true),
+            Step::MakeTick(Who::First),
+            Step::Poll(Who::First, End::Pending),
+            Step::OnOther(false),
+            Step::SpawnDetached(1, Plan::Ready(1)),
+            Step::Rings(0),
+            Step::TryTick(true),
+            Step::OnOther(true),
+            Step::SpawnDetached(2, Plan::Ready(2)),
+            Step::Rings(1),
+            Step::Poll(Who::First, End::Ready),
+            Step::Polled(&[1, 2]),
+        ],
+        after: &[],
+    },
+];
 
 #[test]
-fn a_waiting_tick_is_told_once(rt: HostRuntime) {
-    let stage = Stage::new(rt, rt.alloc(), TestRealm::leak(rt.alloc(), 0), 0);
-    let executor = stage.executor(2);
-    let mut tick = stage.tick(&executor);
-    stage.tick_is_ready(&mut tick, false);
-    stage.spawn_detached(&executor, stage.job(1, Work::Ready(1)));
-    stage.spawn_detached(&executor, stage.job(2, Work::Ready(2)));
-    stage.rings(1);
-    stage.tick_is_ready(&mut tick, true);
-    stage.polled(&[1]);
-    stage.ticks(&executor, true);
-    stage.polled(&[1, 2]);
-}
-
-#[test]
-fn a_dropped_tick_passes_the_call_on(rt: HostRuntime) {
-    let stage = Stage::new(rt, rt.alloc(), TestRealm::leak(rt.alloc(), 0), 0);
-    let executor = stage.executor(1);
-    let mut first = stage.tick(&executor);
-    let mut second = stage.tick(&executor);
-    stage.tick_is_ready(&mut first, false);
-    stage.tick_is_ready(&mut second, false);
-    stage.rings(0);
-    stage.spawn_detached(&executor, stage.job(1, Work::Ready(1)));
-    stage.rings(1);
-    drop(second);
-    stage.rings(2);
-    stage.tick_is_ready(&mut first, true);
-    stage.polled(&[1]);
-}
-
-#[test]
-fn a_tick_that_finds_a_task_tells_another(rt: HostRuntime) {
-    let stage = Stage::new(rt, rt.alloc(), TestRealm::leak(rt.alloc(), 0), 0);
-    let executor = stage.executor(2);
-    let mut first = stage.tick(&executor);
-    let mut second = stage.tick(&executor);
-    stage.tick_is_ready(&mut first, false);
-    stage.tick_is_ready(&mut second, false);
-    stage.spawn_detached(&executor, stage.job(1, Work::Ready(1)));
-    stage.spawn_detached(&executor, stage.job(2, Work::Ready(2)));
-    stage.rings(1);
-    stage.tick_is_ready(&mut second, true);
-    stage.rings(2);
-    stage.tick_is_ready(&mut first, true);
-    stage.polled(&[1, 2]);
-}
-
-#[test]
-fn a_tick_serves_again_after_it_was_ready(rt: HostRuntime) {
-    let stage = Stage::new(rt, rt.alloc(), TestRealm::leak(rt.alloc(), 0), 0);
-    let executor = stage.executor(1);
-    let mut tick = stage.tick(&executor);
-    for name in 0..3 {
-        stage.tick_is_ready(&mut tick, false);
-        stage.spawn_detached(&executor, stage.job(name, Work::Ready(name)));
-        stage.tick_is_ready(&mut tick, true);
-    }
-    stage.polled(&[0, 1, 2]);
-}
-
-#[test]
-fn a_refused_poll_of_a_tick_loses_nothing(rt: HostRuntime) {
-    let stage = Stage::new(rt, rt.alloc(), TestRealm::leak(rt.alloc(), 0), 0);
-    let executor = stage.executor(1);
-    let mut tick = stage.tick(&executor);
-    stage.notes.copies.store(0, SeqCst);
-    stage.tick_is_refused(&mut tick);
-    stage.spawn_detached(&executor, stage.job(1, Work::Ready(1)));
-    stage.rings(0);
-    stage.tick_is_ready(&mut tick, true);
-    stage.polled(&[1]);
-}
-
-#[test]
-fn a_tick_that_lay_down_is_told_though_its_second_copy_was_refused(rt: HostRuntime) {
-    let stage = Stage::new(rt, rt.alloc(), TestRealm::leak(rt.alloc(), 0), 0);
-    let executor = stage.executor(1);
-    let mut tick = stage.tick(&executor);
-    stage.notes.copies.store(1, SeqCst);
-    stage.tick_is_refused(&mut tick);
-    stage.spawn_detached(&executor, stage.job(1, Work::Ready(1)));
-    stage.rings(1);
-    stage.tick_is_ready(&mut tick, true);
-    stage.polled(&[1]);
-}
-
-#[test]
-fn executors_of_one_realm_tell_their_own_ticks(rt: HostRuntime) {
-    let stage = Stage::new(rt, rt.alloc(), TestRealm::leak(rt.alloc(), 0), 0);
-    let other = stage.executor(1);
-    let executor = stage.executor(1);
-    let mut tick = stage.tick(&other);
-    stage.tick_is_ready(&mut tick, false);
-    stage.spawn_detached(&executor, stage.job(1, Work::Ready(1)));
-    stage.rings(0);
-    stage.ticks(&executor, true);
-    stage.spawn_detached(&other, stage.job(2, Work::Ready(2)));
-    stage.rings(1);
-    stage.tick_is_ready(&mut tick, true);
-    stage.polled(&[1, 2]);
+fn ticks_wait_and_are_told(rt: HostRuntime) {
+    play::<Job<_>, _>(rt, rt.alloc(), TestRealm::leak(rt.alloc(), 0), ROWS);
 }

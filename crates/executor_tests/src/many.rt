@@ -1,0 +1,139 @@
+//! Many of a kind, one after the other.
+use crate::parts::{Bell, Gift, Job, TestExecutor, TestRealm, TestWaker, Work};
+use crate::stage::{Planned, Stage};
+use async_executor::Handles;
+use async_task::{Future, Poll, StoredTask};
+use std::mem;
+use std::process::Abort;
+use std::sync::Wait;
+use std::sync::atomic::Ordering::SeqCst;
+
+/// Awaits handles in order, and gives the number of outputs that came as numbered from 0 on.
+#[derive(Drop)]
+struct InOrder<R: Wait + Copy + Drop + 'static> {
+    rt: R,
+    realm: &'static TestRealm<R>,
+    handles: Handles<Gift, Bell, R>,
+    /// The handle that it waits for.
+    awaited: Option<StoredTask>,
+    next: u64,
+}
+
+impl<R: Wait + Copy + Drop + 'static> Future<TestWaker<R>> for InOrder<R> {
+    type Output = u64;
+
+    fn poll(&mut self, waker: &TestWaker<R>) -> Poll<u64> {
+        for _ in 0..=self.handles.len() {
+            let task = match mem::replace(&mut self.awaited, None) {
+                Some(stored) => stored.redeem(self.rt, self.realm),
+                None => self.handles.pop_front(),
+            };
+            let Some(mut task) = task else {
+                return Poll::Ready(self.next);
+            };
+            match task.poll(waker) {
+                Poll::Ready(Ok(gift)) if gift.number == self.next => {
+                    self.next = self.next.saturating_add(1);
+                }
+                Poll::Ready(_) => return Poll::Ready(self.next),
+                Poll::Pending => {
+                    self.awaited = Some(task.store());
+                    return Poll::Pending;
+                }
+            }
+        }
+        Poll::Ready(self.next)
+    }
+}
+
+/// Spawns so many futures in one call: what awaits them in order.
+fn in_order<F, R>(stage: &Stage<R>, executor: &TestExecutor<F, R>, count: u64) -> InOrder<R>
+where
+    F: Planned<R>,
+    R: Abort + Wait + Copy + Drop + 'static,
+{
+    let futures = stage.all_ready(count);
+    let (handles, _) = executor.spawn_many(&mut futures.into_iter());
+    InOrder {
+        rt: stage.rt,
+        realm: stage.realm,
+        handles,
+        awaited: None,
+        next: 0,
+    }
+}
+
+/// Runs a future, and polls the run so often at most: its output, and how many polls were pending.
+fn run_to_its_end<F, G, R>(
+    stage: &Stage<R>,
+    executor: &TestExecutor<F, R>,
+    future: G,
+    most: u64,
+) -> (u64, u64)
+where
+    F: Planned<R>,
+    G: Future<TestWaker<R>, Output = u64> + Drop,
+    R: Abort + Wait + Copy + Drop + 'static,
+{
+    let Ok(mut run) = executor.run(future) else {
+        return (0, 0);
+    };
+    let waker = stage.bell();
+    let mut ended = (0, most);
+    for polls in 0..most {
+        match run.poll(&waker) {
+            Poll::Ready(Ok(output)) => {
+                ended = (output, polls);
+                break;
+            }
+            Poll::Ready(Err(_)) => break,
+            Poll::Pending => {}
+        }
+    }
+    ended
+}
+
+/// A run takes 200 tasks at each poll, so that it is ready after 250 polls that are pending. Each future is polled once.
+#[test]
+fn a_run_awaits_fifty_thousand_handles_in_order(rt: HostRuntime) {
+    let stage = Stage::new(rt, rt.alloc(), TestRealm::leak(rt.alloc(), 0), 50_000);
+    let executor: TestExecutor<Job<_>, _> = stage.executor(50_000);
+    let future = in_order(&stage, &executor, 50_000);
+    let came = run_to_its_end(&stage, &executor, future, 50_000);
+    let mut are_well = stage.notes.lost.load(SeqCst) == 50_000;
+    for each in &stage.notes.each {
+        let is_well = (each.polls.load(SeqCst), each.drops.load(SeqCst)) == (1, 1);
+        are_well = are_well & is_well & (each.lost.load(SeqCst) == 1);
+    }
+    assert!(rt; (came == (50_000, 250)) & are_well & executor.is_empty());
+}
+
+/// Makes an executor, spawns a future on it, and drops both: the text of where the task lay.
+fn place_of_a_short_life<F, R>(stage: &Stage<R>, executor: TestExecutor<F, R>) -> Option<String>
+where
+    F: Planned<R>,
+    R: Abort + Wait + Copy + Drop + 'static,
+{
+    let future = stage.job(Some(0), Work::Pend);
+    let stored = match executor.spawn(future) {
+        Ok(task) => task.store(),
+        Err(_) => return None,
+    };
+    let text = format!(in stage.alloc; "{stored:?}").ok();
+    stage.drop_handle(stored);
+    text
+}
+
+/// What a realm takes of memory for an executor's task is used again once that executor is gone: each of a thousand
+/// executors, one after the other, has its task in the place of the first one's.
+#[test]
+fn a_thousand_executors_use_the_place_of_the_first(rt: HostRuntime) {
+    let stage = Stage::new(rt, rt.alloc(), TestRealm::leak(rt.alloc(), 0), 1);
+    let first = place_of_a_short_life::<Job<_>, _>(&stage, stage.executor(1));
+    let mut is_the_same = first.is_some();
+    for _ in 0..1_000 {
+        let place = place_of_a_short_life::<Job<_>, _>(&stage, stage.executor(1));
+        is_the_same = is_the_same & (place == first);
+    }
+    assert!(rt; is_the_same);
+}

@@ -1,0 +1,143 @@
+//! Texts of an executor and of errors, and what may move to other threads or be shared with them.
+use crate::parts::{Job, TestExecutor, TestRealm, TestTask, Work};
+use crate::stage::{End, Planned, Stage};
+use async_executor::{NoMemory, RunError, SpawnError};
+use std::alloc::Global;
+use std::fmt::Debug;
+use std::process::Abort;
+use std::sync::Wait;
+use std::sync::atomic::AtomicBool;
+use std::sync::atomic::Ordering::SeqCst;
+use std::thread;
+
+/// Whether this is its text of Debug.
+fn is_shown<X: Debug>(alloc: Global, value: &X, want: &str) -> bool {
+    match format!(in alloc; "{value:?}") {
+        Ok(text) => text.as_str() == want,
+        Err(_) => false,
+    }
+}
+
+/// Its text has the entries of the table, the tasks of the global queue and of each run's own, and how many sleep.
+#[test]
+fn the_text_of_an_executor(rt: HostRuntime) {
+    let stage = Stage::new(rt, rt.alloc(), TestRealm::leak(rt.alloc(), 0), 0);
+    let executor: TestExecutor<Job<_>, _> = stage.executor(1);
+    let is_accepted = stage.spawn_detached(&executor, stage.ready(1));
+    let is_shown_before = is_shown(
+        rt.alloc(),
+        &executor,
+        "Executor { active: 1, global_tasks: 1, local_runners: [], sleepers: 0 }",
+    );
+    let mut run = stage.run(&executor, stage.job(None, Work::Pend), 0);
+    let end = stage.poll_seat(&mut run);
+    let is_shown_after = is_shown(
+        rt.alloc(),
+        &executor,
+        "Executor { active: 0, global_tasks: 0, local_runners: [0], sleepers: 1 }",
+    );
+    drop(run);
+    drop(executor);
+    assert!(rt; is_accepted & is_shown_before & (end == End::Pending) & is_shown_after);
+}
+
+/// How many turns a loop may take.
+const MOST_TURNS: u64 = 10_000_000;
+
+/// Uses each lock of the executor again and again until it is told to stop, and says whether it was.
+fn use_locks<F, R>(stage: &Stage<R>, executor: &TestExecutor<F, R>, is_over: &AtomicBool) -> bool
+where
+    F: Planned<R>,
+    R: Abort + Wait + Copy + Drop + 'static,
+{
+    for _ in 0..MOST_TURNS {
+        if is_over.load(SeqCst) {
+            return true;
+        }
+        let mut run = stage.run(executor, stage.job(None, Work::Pend), 0);
+        stage.spawn_detached(executor, stage.ready(0));
+        stage.poll_seat(&mut run);
+    }
+    false
+}
+
+/// Prints the value again and again until `<locked>` stood in each of the three fields that are under a lock, and says
+/// whether it came to that.
+fn sees_each_lock<X: Debug>(alloc: Global, value: &X, is_over: &AtomicBool) -> bool {
+    let fields = [
+        "active: <locked>,",
+        "local_runners: <locked>,",
+        "sleepers: <locked> }",
+    ];
+    let mut seen = [false; 3];
+    for _ in 0..MOST_TURNS {
+        if let Ok(text) = format!(in alloc; "{value:?}") {
+            for number in 0..3 {
+                seen[number] = seen[number] | text.contains(fields[number]);
+            }
+        }
+        if seen[0] & seen[1] & seen[2] {
+            break;
+        }
+    }
+    is_over.store(true, SeqCst);
+    seen[0] & seen[1] & seen[2]
+}
+
+/// The text waits for no lock: `<locked>` stands for what is under one that isn't free.
+#[test]
+fn the_text_of_an_executor_has_locked_for_what_is_in_use(rt: HostRuntime) {
+    let stage = Stage::new(rt, rt.alloc(), TestRealm::leak(rt.alloc(), 0), 1);
+    let executor: TestExecutor<Job<_>, _> = stage.executor(2);
+    let is_over = AtomicBool::new(false);
+    let (used, seen) = thread::join(
+        &rt,
+        || use_locks(&stage, &executor, &is_over),
+        || sees_each_lock(rt.alloc(), &executor, &is_over),
+    );
+    assert!(rt; used & seen);
+}
+
+fn is_plain<X: Clone + Copy + PartialEq + Eq + Debug>(value: X) -> X {
+    value
+}
+
+/// Errors are compared, copied and shown, and that of a spawn has the future.
+#[test]
+fn errors_are_copied_compared_and_shown(rt: HostRuntime) {
+    let alloc = rt.alloc();
+    let are_shown = is_shown(alloc, &is_plain(RunError::NoMemory), "NoMemory")
+        & is_shown(alloc, &is_plain(RunError::Finished), "Finished")
+        & is_shown(alloc, &is_plain(NoMemory), "NoMemory")
+        & is_shown(alloc, &SpawnError::Full(5), "Full(5)")
+        & is_shown(alloc, &SpawnError::NoMemory(5), "NoMemory(5)");
+    assert!(rt; are_shown & (SpawnError::Full(5).into_inner() == 5));
+}
+
+fn moves<X: Send>(_value: &X) {}
+
+fn moves_and_is_shared<X: Send + Sync>(_value: &X) {}
+
+/// An executor and its handles move to other threads and are shared with them, ticks and runs move.
+#[test]
+fn executors_and_handles_are_shared_and_ticks_and_runs_move(rt: HostRuntime) {
+    let stage = Stage::new(rt, rt.alloc(), TestRealm::leak(rt.alloc(), 0), 1);
+    let executor: TestExecutor<Job<_>, _> = stage.executor(2);
+    moves_and_is_shared(&executor);
+    moves(&stage.tick(&executor));
+    moves(&stage.run(&executor, stage.job(None, Work::Pend), 0));
+}
+
+/// There is no memory for an executor with more places than memory can have.
+#[test]
+fn an_executor_of_too_many_places_is_refused(rt: HostRuntime) {
+    let stage = Stage::new(rt, rt.alloc(), TestRealm::leak(rt.alloc(), 0), 0);
+    let is_refused = match TestExecutor::<Job<_>, _>::new(rt, rt.alloc(), stage.realm, usize::MAX) {
+        Ok(executor) => {
+            drop(executor);
+            false
+        }
+        Err(NoMemory) => true,
+    };
+    assert!(rt; is_refused);
+}

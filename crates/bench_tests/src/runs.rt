@@ -1,7 +1,7 @@
 //! Each workload, run.
 use crate::words::same;
 use std::test::Fail;
-use timed_runs::{Foreman, Futures, Link, Realms, Tasks, run};
+use timed_runs::{Awaited, Futures, Link, Realms, Tasks, Workplace, run};
 use workloads::{ALL, Workload};
 
 // The sums of the numbers below 3,000 and below 1,500.
@@ -47,9 +47,12 @@ fn each_workload_moves_what_it_was_asked_to(rt: HostRuntime) -> Result<(), Fail>
         futures: Futures::leak(rt.alloc(), 0)?,
     };
     for workload in ALL {
-        let moved = match run::<Link<HostRuntime>, Foreman<HostRuntime>, HostRuntime>(
-            workload, &rt, realms, 3000,
-        ) {
+        let moved = match run::<
+            Link<HostRuntime>,
+            Workplace<Awaited<HostRuntime>, HostRuntime>,
+            HostRuntime,
+        >(workload, &rt, realms, 3000)
+        {
             Ok(timing) => Ok(timing.moved),
             Err(fault) => Err(fault),
         };

@@ -1,10 +1,10 @@
 //! Futures of which each awaits the one before.
 use crate::awaited::Awaited;
-use crate::crew::{Crew, outputs};
 use crate::futures::Yields;
 use crate::names::{Futures, Handle, Timed, Waker};
 use crate::ticks::complete;
-use async_task::{Future, Poll};
+use crate::workplace::Worker;
+use async_task::{Future, Poll, Wake};
 use std::alloc::Global;
 use std::rt::Clock;
 use std::sync::Wait;
@@ -49,7 +49,13 @@ impl<R: Wait + Copy + Drop + 'static> Future<Waker<R>> for Link<R> {
 
     fn poll(&mut self, waker: &Waker<R>) -> Poll<u64> {
         match self {
-            Link::First(future) => future.poll(waker),
+            Link::First(future) => match future.step() {
+                Some(number) => Poll::Ready(number),
+                None => {
+                    waker.wake_by_ref();
+                    Poll::Pending
+                }
+            },
             Link::After(before) => match before.poll(waker) {
                 Poll::Ready(Ok(output)) => Poll::Ready(output.wrapping_add(1)),
                 Poll::Ready(Err(_)) => Poll::Ready(0),
@@ -61,7 +67,7 @@ impl<R: Wait + Copy + Drop + 'static> Future<Waker<R>> for Link<R> {
 
 /// Chains of 10,000 futures, and one of those that are left: each is spawned, ticked until nothing is to be done, and the
 /// last output is awaited.
-pub fn await_chain<L, C, R>(
+pub fn await_chain<L, P, R>(
     rt: R,
     alloc: Global,
     realm: &'static Futures<R>,
@@ -69,16 +75,16 @@ pub fn await_chain<L, C, R>(
 ) -> Result<Timing, Fault>
 where
     L: Chain<R> + Future<Waker<R>, Output = u64> + Drop,
-    C: Crew<R> + Future<Waker<R>, Output = u64> + Drop,
+    P: Worker<R>,
     R: Clock + Wait + Copy + Drop + 'static,
 {
     match Timed::<L, R>::new(rt, alloc, realm, LINKS as usize) {
-        Ok(executor) => time_await_chain::<L, C, R>(rt, alloc, realm, &executor, ops),
+        Ok(executor) => time_await_chain::<L, P, R>(rt, alloc, realm, &executor, ops),
         Err(_) => Err(Fault::NoMemory),
     }
 }
 
-fn time_await_chain<L, C, R>(
+fn time_await_chain<L, P, R>(
     rt: R,
     alloc: Global,
     realm: &'static Futures<R>,
@@ -87,23 +93,23 @@ fn time_await_chain<L, C, R>(
 ) -> Result<Timing, Fault>
 where
     L: Chain<R> + Future<Waker<R>, Output = u64> + Drop,
-    C: Crew<R> + Future<Waker<R>, Output = u64> + Drop,
+    P: Worker<R>,
     R: Clock + Wait + Copy + Drop + 'static,
 {
     let mut moved = 0u64;
     let start = Instant::now(&rt)?;
     for _ in 0..ops / LINKS {
-        moved = moved.wrapping_add(links::<L, C, R>(rt, alloc, realm, executor, LINKS)?);
+        moved = moved.wrapping_add(links::<L, P, R>(rt, alloc, realm, executor, LINKS)?);
     }
     let rest = ops % LINKS;
     if rest > 0 {
-        moved = moved.wrapping_add(links::<L, C, R>(rt, alloc, realm, executor, rest)?);
+        moved = moved.wrapping_add(links::<L, P, R>(rt, alloc, realm, executor, rest)?);
     }
     complete(Timing::since(&rt, start, moved)?, ops)
 }
 
 /// One chain. Answers the number of its futures as its last output has it.
-fn links<L, C, R>(
+fn links<L, P, R>(
     rt: R,
     alloc: Global,
     realm: &'static Futures<R>,
@@ -112,7 +118,7 @@ fn links<L, C, R>(
 ) -> Result<u64, Fault>
 where
     L: Chain<R> + Future<Waker<R>, Output = u64> + Drop,
-    C: Crew<R> + Future<Waker<R>, Output = u64> + Drop,
+    P: Worker<R>,
     R: Wait + Copy + Drop + 'static,
 {
     let mut last = match executor.spawn(L::first(Yields {
@@ -135,6 +141,6 @@ where
     }
     let mut awaited = Awaited::new(rt, alloc, realm);
     awaited.push(last);
-    let output = outputs::<C, R>(rt, alloc, awaited)?;
+    let output = P::outputs(rt, alloc, awaited)?;
     Ok(output.wrapping_sub(TIMES))
 }

@@ -11,12 +11,24 @@ impl<K: Wake> Future<K> for Yields {
     type Output = u64;
 
     fn poll(&mut self, waker: &K) -> Poll<u64> {
+        match self.step() {
+            Some(number) => Poll::Ready(number),
+            None => {
+                waker.wake_by_ref();
+                Poll::Pending
+            }
+        }
+    }
+}
+
+impl Yields {
+    /// What a poll does, but to wake the future where that gives way.
+    pub fn step(&mut self) -> Option<u64> {
         if self.times == 0 {
-            return Poll::Ready(self.number);
+            return Some(self.number);
         }
         self.times -= 1;
         self.number = self.number.wrapping_add(1);
-        waker.wake_by_ref();
-        Poll::Pending
+        None
     }
 }

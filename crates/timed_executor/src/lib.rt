@@ -4,16 +4,18 @@
 
 mod awaited;
 mod chain;
-mod crew;
 mod futures;
 mod many;
 mod names;
+mod threads;
 mod ticks;
+mod workplace;
 
 pub use awaited::Awaited;
 pub use chain::{Chain, Link, await_chain};
-pub use crew::{Crew, Foreman, Share, run, storm};
 pub use futures::Yields;
 pub use many::{drop_full, spawn_many};
 pub use names::{Futures, Handle, Timed, Waker};
+pub use threads::{run, storm};
 pub use ticks::{ping, spawn_tick};
+pub use workplace::{Crew, Worker, Workplace};

@@ -1,10 +1,9 @@
 //! Many ready futures at a time.
 use crate::awaited::Awaited;
-use crate::crew::{Crew, outputs};
 use crate::futures::Yields;
-use crate::names::{Futures, Timed, Waker};
+use crate::names::{Futures, Timed};
 use crate::ticks::complete;
-use async_task::Future;
+use crate::workplace::Worker;
 use std::alloc::Global;
 use std::rt::Clock;
 use std::sync::Wait;
@@ -16,23 +15,23 @@ const FUTURES: u64 = 50_000;
 
 /// Rounds of 50,000 ready futures, and one of those that are left: they are spawned one by one, ticked until nothing is to be
 /// done, and their outputs taken.
-pub fn spawn_many<C, R>(
+pub fn spawn_many<P, R>(
     rt: R,
     alloc: Global,
     realm: &'static Futures<R>,
     ops: u64,
 ) -> Result<Timing, Fault>
 where
-    C: Crew<R> + Future<Waker<R>, Output = u64> + Drop,
+    P: Worker<R>,
     R: Clock + Wait + Copy + Drop + 'static,
 {
     match Timed::new(rt, alloc, realm, FUTURES as usize) {
-        Ok(executor) => time_spawn_many::<C, R>(rt, alloc, realm, &executor, ops),
+        Ok(executor) => time_spawn_many::<P, R>(rt, alloc, realm, &executor, ops),
         Err(_) => Err(Fault::NoMemory),
     }
 }
 
-fn time_spawn_many<C, R>(
+fn time_spawn_many<P, R>(
     rt: R,
     alloc: Global,
     realm: &'static Futures<R>,
@@ -40,20 +39,20 @@ fn time_spawn_many<C, R>(
     ops: u64,
 ) -> Result<Timing, Fault>
 where
-    C: Crew<R> + Future<Waker<R>, Output = u64> + Drop,
+    P: Worker<R>,
     R: Clock + Wait + Copy + Drop + 'static,
 {
     let mut moved = 0u64;
     let start = Instant::now(&rt)?;
     for _ in 0..ops / FUTURES {
-        moved = moved.wrapping_add(outputs_of::<C, R>(rt, alloc, realm, executor, FUTURES)?);
+        moved = moved.wrapping_add(outputs_of::<P, R>(rt, alloc, realm, executor, FUTURES)?);
     }
-    moved = moved.wrapping_add(outputs_of::<C, R>(rt, alloc, realm, executor, ops % FUTURES)?);
+    moved = moved.wrapping_add(outputs_of::<P, R>(rt, alloc, realm, executor, ops % FUTURES)?);
     complete(Timing::since(&rt, start, moved)?, ops)
 }
 
 /// One round, in which each future gives 1: the sum of the outputs.
-fn outputs_of<C, R>(
+fn outputs_of<P, R>(
     rt: R,
     alloc: Global,
     realm: &'static Futures<R>,
@@ -61,7 +60,7 @@ fn outputs_of<C, R>(
     count: u64,
 ) -> Result<u64, Fault>
 where
-    C: Crew<R> + Future<Waker<R>, Output = u64> + Drop,
+    P: Worker<R>,
     R: Wait + Copy + Drop + 'static,
 {
     let mut awaited = Awaited::new(rt, alloc, realm);
@@ -79,7 +78,7 @@ where
             break;
         }
     }
-    outputs::<C, R>(rt, alloc, awaited)
+    P::outputs(rt, alloc, awaited)
 }
 
 /// Rounds of 50,000 futures, and one of those that are left: an executor is made, they are spawned, and it is dropped.

@@ -7,5 +7,5 @@ mod sim;
 mod steps;
 
 pub use runs::{Realms, run};
-pub use timed_executor::{Chain, Crew, Foreman, Futures, Link, Waker};
+pub use timed_executor::{Awaited, Chain, Futures, Link, Waker, Worker, Workplace};
 pub use timed_work::task::Tasks;

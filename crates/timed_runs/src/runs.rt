@@ -4,7 +4,7 @@ use std::alloc::AllocGlobal;
 use std::rt::Clock;
 use std::sync::Wait;
 use std::thread::Threads;
-use timed_executor::{Chain, Crew, Futures, Waker};
+use timed_executor::{Chain, Futures, Waker, Worker};
 use timed_work::task::{self, Tasks};
 use timed_work::{base, on_queue_of_one, on_shared_queue};
 use workloads::{Fault, Timing, Workload};
@@ -16,9 +16,9 @@ pub struct Realms<R: Wait + Copy + Drop + 'static> {
     pub futures: &'static Futures<R>,
 }
 
-/// Does so many operations. What is worked on is made before the clock starts. `L` is a future that awaits one, and `C` one
-/// that awaits many.
-pub fn run<L, C, R>(
+/// Does so many operations. What is worked on is made before the clock starts. `L` is a future that awaits another, and `P`
+/// an executor that threads run.
+pub fn run<L, P, R>(
     workload: Workload,
     rt: &R,
     realms: Realms<R>,
@@ -26,8 +26,8 @@ pub fn run<L, C, R>(
 ) -> Result<Timing, Fault>
 where
     L: Chain<R> + Future<Waker<R>, Output = u64> + Drop,
-    C: Crew<R> + Future<Waker<R>, Output = u64> + Drop,
-    R: AllocGlobal + Clock + Wait + Threads + Send + Sync + Copy + Drop + 'static,
+    P: Worker<R> + Sync + Drop,
+    R: AllocGlobal + Clock + Wait + Threads + Sync + Copy + Drop + 'static,
 {
     let Realms {
         tasks: realm,
@@ -53,15 +53,15 @@ where
         Workload::SelfWakeLocalTask => task::self_wake_alone(rt, alloc, ops),
         Workload::SpawnTick => timed_executor::spawn_tick(*rt, alloc, futures, ops),
         Workload::Ping => timed_executor::ping(*rt, alloc, futures, ops),
-        Workload::SpawnMany => timed_executor::spawn_many::<C, R>(*rt, alloc, futures, ops),
-        Workload::AwaitChain => timed_executor::await_chain::<L, C, R>(*rt, alloc, futures, ops),
+        Workload::SpawnMany => timed_executor::spawn_many::<P, R>(*rt, alloc, futures, ops),
+        Workload::AwaitChain => timed_executor::await_chain::<L, P, R>(*rt, alloc, futures, ops),
         Workload::DropFull => timed_executor::drop_full(*rt, alloc, futures, ops),
-        Workload::Run1 => timed_executor::run::<C, R>(rt, futures, 1, ops),
-        Workload::Run2 => timed_executor::run::<C, R>(rt, futures, 2, ops),
-        Workload::Run4 => timed_executor::run::<C, R>(rt, futures, 4, ops),
-        Workload::Storm1 => timed_executor::storm::<C, R>(rt, futures, 1, ops),
-        Workload::Storm2 => timed_executor::storm::<C, R>(rt, futures, 2, ops),
-        Workload::Storm4 => timed_executor::storm::<C, R>(rt, futures, 4, ops),
+        Workload::Run1 => timed_executor::run::<P, R>(rt, futures, 1, ops),
+        Workload::Run2 => timed_executor::run::<P, R>(rt, futures, 2, ops),
+        Workload::Run4 => timed_executor::run::<P, R>(rt, futures, 4, ops),
+        Workload::Storm1 => timed_executor::storm::<P, R>(rt, futures, 1, ops),
+        Workload::Storm2 => timed_executor::storm::<P, R>(rt, futures, 2, ops),
+        Workload::Storm4 => timed_executor::storm::<P, R>(rt, futures, 4, ops),
         _ => on_shared_queue(workload, rt, ops),
     }
 }

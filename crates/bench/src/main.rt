@@ -22,7 +22,7 @@ fn main(rt: HostRuntime) -> ExitCode {
             Link<HostRuntime>,
             Workplace<Awaited<HostRuntime>, HostRuntime>,
             HostRuntime,
-        >(&rt, Realms { tasks, futures }),
+        >(&rt, &Realms { tasks, futures }),
         _ => Err(Fault::NoMemory),
     };
     match ended {
@@ -36,7 +36,7 @@ fn main(rt: HostRuntime) -> ExitCode {
 }
 
 /// Does what the arguments ask.
-fn run<L, P, R>(rt: &R, realms: Realms<R>) -> Result<(), Fault>
+fn run<L, P, R>(rt: &R, realms: &Realms<R>) -> Result<(), Fault>
 where
     L: Chain<R> + Future<Waker<R>, Output = u64> + Drop,
     P: Worker<R> + Sync + Drop,
@@ -76,7 +76,7 @@ fn list<R: Print>(rt: &R) -> Result<(), Fault> {
     Ok(())
 }
 
-fn time_all<L, P, R>(rt: &R, realms: Realms<R>) -> Result<(), Fault>
+fn time_all<L, P, R>(rt: &R, realms: &Realms<R>) -> Result<(), Fault>
 where
     L: Chain<R> + Future<Waker<R>, Output = u64> + Drop,
     P: Worker<R> + Sync + Drop,
@@ -89,7 +89,7 @@ where
 }
 
 /// Runs a workload, and prints its line. What it moved is told on standard error, so that no compiler leaves it out.
-fn time<L, P, R>(rt: &R, realms: Realms<R>, workload: Workload, ops: u64) -> Result<(), Fault>
+fn time<L, P, R>(rt: &R, realms: &Realms<R>, workload: Workload, ops: u64) -> Result<(), Fault>
 where
     L: Chain<R> + Future<Waker<R>, Output = u64> + Drop,
     P: Worker<R> + Sync + Drop,

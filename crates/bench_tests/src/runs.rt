@@ -51,7 +51,7 @@ fn each_workload_moves_what_it_was_asked_to(rt: HostRuntime) -> Result<(), Fail>
             Link<HostRuntime>,
             Workplace<Awaited<HostRuntime>, HostRuntime>,
             HostRuntime,
-        >(workload, &rt, realms, 3000)
+        >(workload, &rt, &realms, 3000)
         {
             Ok(timing) => Ok(timing.moved),
             Err(fault) => Err(fault),

@@ -10,7 +10,7 @@ use timed_work::{base, on_queue_of_one, on_shared_queue};
 use workloads::{Fault, Timing, Workload};
 
 /// The realms in which the tasks lie.
-#[derive(Clone, Copy)]
+#[derive(Drop)]
 pub struct Realms<R: Wait + Copy + Drop + 'static> {
     pub tasks: &'static Tasks<R>,
     pub futures: &'static Futures<R>,
@@ -21,7 +21,7 @@ pub struct Realms<R: Wait + Copy + Drop + 'static> {
 pub fn run<L, P, R>(
     workload: Workload,
     rt: &R,
-    realms: Realms<R>,
+    realms: &Realms<R>,
     ops: u64,
 ) -> Result<Timing, Fault>
 where
@@ -29,10 +29,7 @@ where
     P: Worker<R> + Sync + Drop,
     R: AllocGlobal + Clock + Wait + Threads + Sync + Copy + Drop + 'static,
 {
-    let Realms {
-        tasks: realm,
-        futures,
-    } = realms;
+    let (realm, futures) = (realms.tasks, realms.futures);
     let alloc = rt.alloc();
     match workload {
         Workload::FetchAdd => base::fetch_add(rt, ops),

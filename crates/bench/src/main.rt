@@ -40,18 +40,7 @@ fn run<L, P, R>(rt: &R, realms: &Realms<R>) -> Result<(), Fault>
 where
     L: Chain<R> + Future<Waker<R>, Output = u64> + Drop,
     P: Worker<R> + Sync + Drop,
-    R: AllocGlobal
-        + Env
-        + Print
-        + Eprint
-        + Clock
-        + Wait
-        + Threads
-        + Send
-        + Sync
-        + Copy
-        + Drop
-        + 'static,
+    R: AllocGlobal + Env + Print + Eprint + Clock + Wait + Threads + Sync + Copy + Drop + 'static,
 {
     let words: Vec<String> = env::args(rt)?.skip(1).collect(rt.alloc())?;
     match words.as_slice() {

@@ -5,20 +5,25 @@
 
 ghost use Rattle.std.specs.Prelude.{◌<◌};
 
-use async_task::Realm;
+use async_task::Future;
 use std::env;
 use std::process::ExitCode;
 use std::rt::{Clock, Env};
 use std::sync::Wait;
 use std::thread::Threads;
-use timed_runs::Tasks;
+use timed_runs::{Awaited, Chain, Futures, Link, Realms, Tasks, Waker, Worker, Workplace};
 use workloads::{ALL, Fault, Line, Workload, asked, operations};
 
 fn main(rt: HostRuntime) -> ExitCode {
-    // Generic code that makes a realm and works on it gets no proof, so it is made here.
-    let ended = match Realm::leak(rt.alloc(), 0) {
-        Ok(realm) => run(&rt, realm),
-        Err(_) => Err(Fault::NoMemory),
+    // Generic code that makes a realm and works on it gets no proof, nor does code over any runtime type with futures that
+    // hold handles, so both are named here.
+    let ended = match (Tasks::leak(rt.alloc(), 0), Futures::leak(rt.alloc(), 0)) {
+        (Ok(tasks), Ok(futures)) => run::<
+            Link<HostRuntime>,
+            Workplace<Awaited<HostRuntime>, HostRuntime>,
+            HostRuntime,
+        >(&rt, &Realms { tasks, futures }),
+        _ => Err(Fault::NoMemory),
     };
     match ended {
         Ok(()) => ExitCode::SUCCESS,
@@ -31,21 +36,24 @@ fn main(rt: HostRuntime) -> ExitCode {
 }
 
 /// Does what the arguments ask.
-fn run<
+fn run<L, P, R>(rt: &R, realms: &Realms<R>) -> Result<(), Fault>
+where
+    L: Chain<R> + Future<Waker<R>, Output = u64> + Drop,
+    P: Worker<R> + Sync + Drop,
     R: AllocGlobal + Env + Print + Eprint + Clock + Wait + Threads + Sync + Copy + Drop + 'static,
->(rt: &R, realm: &'static Tasks<R>) -> Result<(), Fault> {
+{
     let words: Vec<String> = env::args(rt)?.skip(1).collect(rt.alloc())?;
     match words.as_slice() {
         [] => list(rt),
         [word] => {
             if word.as_str() == "all" {
-                time_all(rt, realm)
+                time_all::<L, P, R>(rt, realms)
             } else {
                 let workload = asked(word)?;
-                time(rt, realm, workload, workload.usual_ops())
+                time::<L, P, R>(rt, realms, workload, workload.usual_ops())
             }
         }
-        [word, count] => time(rt, realm, asked(word)?, operations(count)?),
+        [word, count] => time::<L, P, R>(rt, realms, asked(word)?, operations(count)?),
         _ => Err(Fault::Usage),
     }
 }
@@ -57,25 +65,27 @@ fn list<R: Print>(rt: &R) -> Result<(), Fault> {
     Ok(())
 }
 
-fn time_all<
+fn time_all<L, P, R>(rt: &R, realms: &Realms<R>) -> Result<(), Fault>
+where
+    L: Chain<R> + Future<Waker<R>, Output = u64> + Drop,
+    P: Worker<R> + Sync + Drop,
     R: AllocGlobal + Print + Eprint + Clock + Wait + Threads + Sync + Copy + Drop + 'static,
->(rt: &R, realm: &'static Tasks<R>) -> Result<(), Fault> {
+{
     for workload in ALL {
-        time(rt, realm, workload, workload.usual_ops())?;
+        time::<L, P, R>(rt, realms, workload, workload.usual_ops())?;
     }
     Ok(())
 }
 
 /// Runs a workload, and prints its line. What it moved is told on standard error, so that no compiler leaves it out.
-fn time<R: AllocGlobal + Print + Eprint + Clock + Wait + Threads + Sync + Copy + Drop + 'static>(
-    rt: &R,
-    realm: &'static Tasks<R>,
-    workload: Workload,
-    ops: u64,
-) -> Result<(), Fault>
+fn time<L, P, R>(rt: &R, realms: &Realms<R>, workload: Workload, ops: u64) -> Result<(), Fault>
+where
+    L: Chain<R> + Future<Waker<R>, Output = u64> + Drop,
+    P: Worker<R> + Sync + Drop,
+    R: AllocGlobal + Print + Eprint + Clock + Wait + Threads + Sync + Copy + Drop + 'static,
     requires { 0 < ops }
 {
-    let timing = timed_runs::run(workload, rt, realm, ops)?;
+    let timing = timed_runs::run::<L, P, R>(workload, rt, realms, ops)?;
     eprintln!(rt; "{} moved {}", workload.name(), timing.moved)?;
     let line = Line {
         name: workload.name(),

@@ -1,7 +1,7 @@
 //! Each workload, run.
 use crate::words::same;
 use std::test::Fail;
-use timed_runs::{Tasks, run};
+use timed_runs::{Awaited, Futures, Link, Realms, Tasks, Workplace, run};
 use workloads::{ALL, Workload};
 
 // The sums of the numbers below 3,000 and below 1,500.
@@ -22,7 +22,18 @@ fn moved_by_3000(workload: Workload) -> u64 {
         | Workload::WakeTwice
         | Workload::WakerClone
         | Workload::PollPending
-        | Workload::SelfWakeLocalTask => 3000,
+        | Workload::SelfWakeLocalTask
+        | Workload::SpawnTick
+        | Workload::Ping
+        | Workload::SpawnMany
+        | Workload::AwaitChain
+        | Workload::DropFull
+        | Workload::Run1
+        | Workload::Run2
+        | Workload::Run4
+        | Workload::Storm1
+        | Workload::Storm2
+        | Workload::Storm4 => 3000,
         Workload::Len => 15_000,
         Workload::Ring1024TwoToTwo | Workload::UnboundedTwoToTwo => 2 * BELOW_1500,
         _ => BELOW_3000,
@@ -31,9 +42,17 @@ fn moved_by_3000(workload: Workload) -> u64 {
 
 #[test]
 fn each_workload_moves_what_it_was_asked_to(rt: HostRuntime) -> Result<(), Fail> {
-    let realm = Tasks::leak(rt.alloc(), 0)?;
+    let realms = Realms {
+        tasks: Tasks::leak(rt.alloc(), 0)?,
+        futures: Futures::leak(rt.alloc(), 0)?,
+    };
     for workload in ALL {
-        let moved = match run(workload, &rt, realm, 3000) {
+        let moved = match run::<
+            Link<HostRuntime>,
+            Workplace<Awaited<HostRuntime>, HostRuntime>,
+            HostRuntime,
+        >(workload, &rt, &realms, 3000)
+        {
             Ok(timing) => Ok(timing.moved),
             Err(fault) => Err(fault),
         };

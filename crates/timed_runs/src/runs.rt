@@ -1,19 +1,35 @@
 use crate::{sim, steps};
+use async_task::Future;
 use std::alloc::AllocGlobal;
 use std::rt::Clock;
 use std::sync::Wait;
 use std::thread::Threads;
+use timed_executor::{Chain, Futures, Waker, Worker};
 use timed_work::task::{self, Tasks};
 use timed_work::{base, on_queue_of_one, on_shared_queue};
 use workloads::{Fault, Timing, Workload};
 
-/// Does so many operations. What is worked on is made before the clock starts. Tasks lie in the realm.
-pub fn run<R: AllocGlobal + Clock + Wait + Threads + Sync + Copy + Drop + 'static>(
+/// The realms in which the tasks lie.
+#[derive(Drop)]
+pub struct Realms<R: Wait + Copy + Drop + 'static> {
+    pub tasks: &'static Tasks<R>,
+    pub futures: &'static Futures<R>,
+}
+
+/// Does so many operations. What is worked on is made before the clock starts. `L` is a future that awaits another, and `P`
+/// an executor that threads run.
+pub fn run<L, P, R>(
     workload: Workload,
     rt: &R,
-    realm: &'static Tasks<R>,
+    realms: &Realms<R>,
     ops: u64,
-) -> Result<Timing, Fault> {
+) -> Result<Timing, Fault>
+where
+    L: Chain<R> + Future<Waker<R>, Output = u64> + Drop,
+    P: Worker<R> + Sync + Drop,
+    R: AllocGlobal + Clock + Wait + Threads + Sync + Copy + Drop + 'static,
+{
+    let (realm, futures) = (realms.tasks, realms.futures);
     let alloc = rt.alloc();
     match workload {
         Workload::FetchAdd => base::fetch_add(rt, ops),
@@ -32,6 +48,17 @@ pub fn run<R: AllocGlobal + Clock + Wait + Threads + Sync + Copy + Drop + 'stati
         Workload::WakerClone => task::waker_clone(*rt, alloc, realm, ops),
         Workload::PollPending => task::poll_pending(*rt, alloc, realm, ops),
         Workload::SelfWakeLocalTask => task::self_wake_alone(rt, alloc, ops),
+        Workload::SpawnTick => timed_executor::spawn_tick(*rt, alloc, futures, ops),
+        Workload::Ping => timed_executor::ping(*rt, alloc, futures, ops),
+        Workload::SpawnMany => timed_executor::spawn_many::<P, R>(*rt, alloc, futures, ops),
+        Workload::AwaitChain => timed_executor::await_chain::<L, P, R>(*rt, alloc, futures, ops),
+        Workload::DropFull => timed_executor::drop_full(*rt, alloc, futures, ops),
+        Workload::Run1 => timed_executor::run::<P, R>(rt, futures, 1, ops),
+        Workload::Run2 => timed_executor::run::<P, R>(rt, futures, 2, ops),
+        Workload::Run4 => timed_executor::run::<P, R>(rt, futures, 4, ops),
+        Workload::Storm1 => timed_executor::storm::<P, R>(rt, futures, 1, ops),
+        Workload::Storm2 => timed_executor::storm::<P, R>(rt, futures, 2, ops),
+        Workload::Storm4 => timed_executor::storm::<P, R>(rt, futures, 4, ops),
         _ => on_shared_queue(workload, rt, ops),
     }
 }

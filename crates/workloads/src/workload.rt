@@ -52,10 +52,32 @@ pub enum Workload {
     PollPending,
     /// As `SelfWake`, on a task of one owner.
     SelfWakeLocalTask,
+    /// A ready future is spawned on an executor, its handle is given up, and a tick runs it.
+    SpawnTick,
+    /// A tick that runs a future which wakes itself.
+    Ping,
+    /// One of 50,000 ready futures: spawned, run by a tick, its output taken.
+    SpawnMany,
+    /// One of 10,000 futures, each of which awaits the one before.
+    AwaitChain,
+    /// One of 50,000 futures with whom an executor is dropped.
+    DropFull,
+    /// One of 100,000 jobs that give way once, spawned, run and awaited by a thread.
+    Run1,
+    /// The same by two threads.
+    Run2,
+    /// The same by four threads.
+    Run4,
+    /// A poll of one of 1,000 futures that give way again and again, run by a thread.
+    Storm1,
+    /// The same by two threads.
+    Storm2,
+    /// The same by four threads.
+    Storm4,
 }
 
 /// Every workload, in the order in which they are listed and run.
-pub const ALL: [Workload; 27] = [
+pub const ALL: [Workload; 38] = [
     Workload::FetchAdd,
     Workload::MutexLock,
     Workload::Single,
@@ -83,6 +105,17 @@ pub const ALL: [Workload; 27] = [
     Workload::WakerClone,
     Workload::PollPending,
     Workload::SelfWakeLocalTask,
+    Workload::SpawnTick,
+    Workload::Ping,
+    Workload::SpawnMany,
+    Workload::AwaitChain,
+    Workload::DropFull,
+    Workload::Run1,
+    Workload::Run2,
+    Workload::Run4,
+    Workload::Storm1,
+    Workload::Storm2,
+    Workload::Storm4,
 ];
 
 impl Workload {
@@ -117,6 +150,17 @@ impl Workload {
             Workload::WakerClone => "task/waker-clone",
             Workload::PollPending => "task/poll-pending",
             Workload::SelfWakeLocalTask => "task/self-wake@local-task",
+            Workload::SpawnTick => "executor/spawn-tick",
+            Workload::Ping => "executor/ping",
+            Workload::SpawnMany => "executor/spawn-many",
+            Workload::AwaitChain => "executor/await-chain",
+            Workload::DropFull => "executor/drop-full",
+            Workload::Run1 => "executor/run-1",
+            Workload::Run2 => "executor/run-2",
+            Workload::Run4 => "executor/run-4",
+            Workload::Storm1 => "executor/storm-1",
+            Workload::Storm2 => "executor/storm-2",
+            Workload::Storm4 => "executor/storm-4",
         }
     }
 
@@ -135,8 +179,17 @@ impl Workload {
             | Workload::Ring1024TwoToTwo
             | Workload::MachineStep
             | Workload::WakeRun
-            | Workload::SelfWake => 2_000_000,
-            Workload::SpawnRun | Workload::DropHandle => 1_000_000,
+            | Workload::SelfWake
+            | Workload::Ping
+            | Workload::Storm1
+            | Workload::Storm2
+            | Workload::Storm4 => 2_000_000,
+            Workload::SpawnRun
+            | Workload::DropHandle
+            | Workload::SpawnTick
+            | Workload::SpawnMany
+            | Workload::DropFull => 1_000_000,
+            Workload::AwaitChain | Workload::Run1 | Workload::Run2 | Workload::Run4 => 500_000,
             Workload::SimLines => 200_000,
             _ => 10_000_000,
         }

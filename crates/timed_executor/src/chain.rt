@@ -1,0 +1,146 @@
+//! Futures of which each awaits the one before.
+use crate::awaited::Awaited;
+use crate::futures::Yields;
+use crate::names::{Futures, Handle, Timed, Waker};
+use crate::ticks::complete;
+use crate::workplace::Worker;
+use async_task::{Future, Poll, Wake};
+use std::alloc::Global;
+use std::rt::Clock;
+use std::sync::Wait;
+use std::time::Instant;
+use workloads::{Fault, Timing};
+
+/// How many futures a chain has.
+const LINKS: u64 = 10_000;
+
+/// How often the first future gives way.
+const TIMES: u64 = 2;
+
+/// A future of a chain.
+pub trait Chain<R: Wait + Copy + Drop + 'static> {
+    /// The first, which gives the output of this future.
+    fn first(future: Yields) -> Self;
+
+    /// One that awaits the one before it, and gives one more than that.
+    fn after(before: Handle<R>) -> Self;
+}
+
+/// A future of a chain. What times it is generic over its type, since no code over any runtime type gets a proof of calls on
+/// an executor whose futures hold handles.
+#[derive(Drop)]
+pub enum Link<R: Wait + Copy + Drop + 'static> {
+    First(Yields),
+    After(Handle<R>),
+}
+
+impl<R: Wait + Copy + Drop + 'static> Chain<R> for Link<R> {
+    fn first(future: Yields) -> Self {
+        Link::First(future)
+    }
+
+    fn after(before: Handle<R>) -> Self {
+        Link::After(before)
+    }
+}
+
+impl<R: Wait + Copy + Drop + 'static> Future<Waker<R>> for Link<R> {
+    type Output = u64;
+
+    fn poll(&mut self, waker: &Waker<R>) -> Poll<u64> {
+        match self {
+            Link::First(future) => match future.step() {
+                Some(number) => Poll::Ready(number),
+                None => {
+                    waker.wake_by_ref();
+                    Poll::Pending
+                }
+            },
+            Link::After(before) => match before.poll(waker) {
+                Poll::Ready(Ok(output)) => Poll::Ready(output.wrapping_add(1)),
+                Poll::Ready(Err(_)) => Poll::Ready(0),
+                Poll::Pending => Poll::Pending,
+            },
+        }
+    }
+}
+
+/// Chains of 10,000 futures, and one of those that are left: each is spawned, ticked until nothing is to be done, and the
+/// last output is awaited.
+pub fn await_chain<L, P, R>(
+    rt: R,
+    alloc: Global,
+    realm: &'static Futures<R>,
+    ops: u64,
+) -> Result<Timing, Fault>
+where
+    L: Chain<R> + Future<Waker<R>, Output = u64> + Drop,
+    P: Worker<R>,
+    R: Clock + Wait + Copy + Drop + 'static,
+{
+    match Timed::<L, R>::new(rt, alloc, realm, LINKS as usize) {
+        Ok(executor) => time_await_chain::<L, P, R>(rt, alloc, realm, &executor, ops),
+        Err(_) => Err(Fault::NoMemory),
+    }
+}
+
+fn time_await_chain<L, P, R>(
+    rt: R,
+    alloc: Global,
+    realm: &'static Futures<R>,
+    executor: &Timed<L, R>,
+    ops: u64,
+) -> Result<Timing, Fault>
+where
+    L: Chain<R> + Future<Waker<R>, Output = u64> + Drop,
+    P: Worker<R>,
+    R: Clock + Wait + Copy + Drop + 'static,
+{
+    let mut moved = 0u64;
+    let start = Instant::now(&rt)?;
+    for _ in 0..ops / LINKS {
+        moved = moved.wrapping_add(links::<L, P, R>(rt, alloc, realm, executor, LINKS)?);
+    }
+    let rest = ops % LINKS;
+    if rest > 0 {
+        moved = moved.wrapping_add(links::<L, P, R>(rt, alloc, realm, executor, rest)?);
+    }
+    complete(Timing::since(&rt, start, moved)?, ops)
+}
+
+/// One chain. Answers the number of its futures as its last output has it.
+fn links<L, P, R>(
+    rt: R,
+    alloc: Global,
+    realm: &'static Futures<R>,
+    executor: &Timed<L, R>,
+    count: u64,
+) -> Result<u64, Fault>
+where
+    L: Chain<R> + Future<Waker<R>, Output = u64> + Drop,
+    P: Worker<R>,
+    R: Wait + Copy + Drop + 'static,
+{
+    let mut last = match executor.spawn(L::first(Yields {
+        times: TIMES,
+        number: 1,
+    })) {
+        Ok(task) => task,
+        Err(_) => return Err(Fault::Refused),
+    };
+    for _ in 1..count {
+        last = match executor.spawn(L::after(last)) {
+            Ok(task) => task,
+            Err(_) => return Err(Fault::Refused),
+        };
+    }
+    for _ in rt.forever() {
+        if !executor.try_tick() {
+            break;
+        }
+    }
+    let mut awaited = Awaited::new(rt, alloc, realm);
+    awaited.push(last);
+    let output = P::outputs(rt, alloc, awaited)?;
+    Ok(output.wrapping_sub(TIMES))
+}

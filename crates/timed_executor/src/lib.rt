@@ -1,0 +1,21 @@
+//! The work on an executor that `bench` times: futures that are spawned, polled, woken, awaited and dropped, by one thread
+//! and by several that run it.
+#![tactic(auto)]
+
+mod awaited;
+mod chain;
+mod futures;
+mod many;
+mod names;
+mod threads;
+mod ticks;
+mod workplace;
+
+pub use awaited::Awaited;
+pub use chain::{Chain, Link, await_chain};
+pub use futures::Yields;
+pub use many::{drop_full, spawn_many};
+pub use names::{Futures, Handle, Timed, Waker};
+pub use threads::{run, storm};
+pub use ticks::{ping, spawn_tick};
+pub use workplace::{Crew, Worker, Workplace};

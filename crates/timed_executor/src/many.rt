@@ -1,0 +1,120 @@
+//! Many ready futures at a time.
+use crate::awaited::Awaited;
+use crate::futures::Yields;
+use crate::names::{Futures, Timed};
+use crate::ticks::complete;
+use crate::workplace::Worker;
+use std::alloc::Global;
+use std::rt::Clock;
+use std::sync::Wait;
+use std::time::Instant;
+use workloads::{Fault, Timing};
+
+/// How many futures there are at a time.
+const FUTURES: u64 = 50_000;
+
+/// Rounds of 50,000 ready futures, and one of those that are left: they are spawned one by one, ticked until nothing is to be
+/// done, and their outputs taken.
+pub fn spawn_many<P, R>(
+    rt: R,
+    alloc: Global,
+    realm: &'static Futures<R>,
+    ops: u64,
+) -> Result<Timing, Fault>
+where
+    P: Worker<R>,
+    R: Clock + Wait + Copy + Drop + 'static,
+{
+    match Timed::new(rt, alloc, realm, FUTURES as usize) {
+        Ok(executor) => time_spawn_many::<P, R>(rt, alloc, realm, &executor, ops),
+        Err(_) => Err(Fault::NoMemory),
+    }
+}
+
+fn time_spawn_many<P, R>(
+    rt: R,
+    alloc: Global,
+    realm: &'static Futures<R>,
+    executor: &Timed<Yields, R>,
+    ops: u64,
+) -> Result<Timing, Fault>
+where
+    P: Worker<R>,
+    R: Clock + Wait + Copy + Drop + 'static,
+{
+    let mut moved = 0u64;
+    let start = Instant::now(&rt)?;
+    for _ in 0..ops / FUTURES {
+        moved = moved.wrapping_add(outputs_of::<P, R>(rt, alloc, realm, executor, FUTURES)?);
+    }
+    moved = moved.wrapping_add(outputs_of::<P, R>(rt, alloc, realm, executor, ops % FUTURES)?);
+    complete(Timing::since(&rt, start, moved)?, ops)
+}
+
+/// One round, in which each future gives 1: the sum of the outputs.
+fn outputs_of<P, R>(
+    rt: R,
+    alloc: Global,
+    realm: &'static Futures<R>,
+    executor: &Timed<Yields, R>,
+    count: u64,
+) -> Result<u64, Fault>
+where
+    P: Worker<R>,
+    R: Wait + Copy + Drop + 'static,
+{
+    let mut awaited = Awaited::new(rt, alloc, realm);
+    for _ in 0..count {
+        match executor.spawn(Yields {
+            times: 0,
+            number: 1,
+        }) {
+            Ok(task) => awaited.push(task),
+            Err(_) => return Err(Fault::Refused),
+        }
+    }
+    for _ in rt.forever() {
+        if !executor.try_tick() {
+            break;
+        }
+    }
+    P::outputs(rt, alloc, awaited)
+}
+
+/// Rounds of 50,000 futures, and one of those that are left: an executor is made, they are spawned, and it is dropped.
+pub fn drop_full<R: Clock + Wait + Copy + Drop + 'static>(
+    rt: R,
+    alloc: Global,
+    realm: &'static Futures<R>,
+    ops: u64,
+) -> Result<Timing, Fault> {
+    let mut moved = 0u64;
+    let start = Instant::now(&rt)?;
+    for _ in 0..ops / FUTURES {
+        moved = moved.wrapping_add(dropped(rt, alloc, realm, FUTURES)?);
+    }
+    moved = moved.wrapping_add(dropped(rt, alloc, realm, ops % FUTURES)?);
+    complete(Timing::since(&rt, start, moved)?, ops)
+}
+
+/// Spawns so many futures on an executor, and drops it before one was polled.
+fn dropped<R: Wait + Copy + Drop + 'static>(
+    rt: R,
+    alloc: Global,
+    realm: &'static Futures<R>,
+    count: u64,
+) -> Result<u64, Fault> {
+    let executor: Timed<Yields, R> = match Timed::new(rt, alloc, realm, FUTURES as usize) {
+        Ok(executor) => executor,
+        Err(_) => return Err(Fault::NoMemory),
+    };
+    let mut accepted = 0u64;
+    for number in 0..count {
+        if let Ok(task) = executor.spawn(Yields { times: 0, number }) {
+            task.detach();
+            accepted = accepted.wrapping_add(1);
+        }
+    }
+    drop(executor);
+    Ok(accepted)
+}

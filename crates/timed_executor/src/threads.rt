@@ -1,0 +1,129 @@
+//! Threads that run an executor, each until the futures that it spawned itself have ended.
+ghost use Rattle.std.specs.Prelude.{◌<◌};
+
+use crate::names::Futures;
+use crate::ticks::complete;
+use crate::workplace::{Share, Worker};
+use std::alloc::AllocGlobal;
+use std::rt::Clock;
+use std::sync::Wait;
+use std::thread::{self, Threads};
+use std::time::Instant;
+use workloads::{Fault, Timing, share};
+
+/// How many futures there are in one round of `run`.
+const JOBS: u64 = 100_000;
+
+/// How many futures there are in `storm`.
+const FUTURES: u64 = 1_000;
+
+/// So many jobs, 100,000 in a round, each of which gives way once: each of the workers spawns its share, and runs the executor
+/// until these have ended.
+pub fn run<P, R>(
+    rt: &R,
+    realm: &'static Futures<R>,
+    workers: usize,
+    ops: u64,
+) -> Result<Timing, Fault>
+where
+    P: Worker<R> + Sync + Drop,
+    R: AllocGlobal + Clock + Wait + Threads + Sync + Copy + Drop + 'static,
+    requires { (0 < workers) × (workers < 1000) }
+{
+    match P::new(*rt, rt.alloc(), realm, JOBS as usize) {
+        Ok(place) => time_run(rt, &place, workers, ops),
+        Err(fault) => Err(fault),
+    }
+}
+
+fn time_run<P, R>(rt: &R, place: &P, workers: usize, ops: u64) -> Result<Timing, Fault>
+where
+    P: Worker<R> + Sync,
+    R: AllocGlobal + Clock + Wait + Threads + Sync + Copy + Drop + 'static,
+    requires { (0 < workers) × (workers < 1000) }
+{
+    let mut moved = 0u64;
+    let start = Instant::now(rt)?;
+    for _ in 0..ops / JOBS {
+        let round = Share {
+            jobs: JOBS,
+            times: 1,
+        };
+        moved = moved.wrapping_add(work_of_all(rt, place, workers, round)?);
+    }
+    let rest = Share {
+        jobs: ops % JOBS,
+        times: 1,
+    };
+    if rest.jobs > 0 {
+        moved = moved.wrapping_add(work_of_all(rt, place, workers, rest)?);
+    }
+    complete(Timing::since(rt, start, moved)?, ops)
+}
+
+/// A thousand futures that give way so often that it comes to so many polls, or a few less: each of the workers spawns its
+/// share, and runs the executor until these have ended.
+pub fn storm<P, R>(
+    rt: &R,
+    realm: &'static Futures<R>,
+    workers: usize,
+    ops: u64,
+) -> Result<Timing, Fault>
+where
+    P: Worker<R> + Sync + Drop,
+    R: AllocGlobal + Clock + Wait + Threads + Sync + Copy + Drop + 'static,
+    requires { (0 < workers) × (workers < 1000) }
+{
+    match P::new(*rt, rt.alloc(), realm, FUTURES as usize) {
+        Ok(place) => time_storm(rt, &place, workers, ops),
+        Err(fault) => Err(fault),
+    }
+}
+
+fn time_storm<P, R>(rt: &R, place: &P, workers: usize, ops: u64) -> Result<Timing, Fault>
+where
+    P: Worker<R> + Sync,
+    R: AllocGlobal + Clock + Wait + Threads + Sync + Copy + Drop + 'static,
+    requires { (0 < workers) × (workers < 1000) }
+{
+    let times = ops / FUTURES;
+    let all = Share {
+        jobs: FUTURES,
+        times,
+    };
+    let start = Instant::now(rt)?;
+    let moved = work_of_all(rt, place, workers, all)?;
+    complete(Timing::since(rt, start, moved)?, ops - ops % FUTURES)
+}
+
+/// One round of all workers, each on a thread. Answers the sum of the outputs.
+fn work_of_all<P, R>(rt: &R, place: &P, workers: usize, all: Share) -> Result<u64, Fault>
+where
+    P: Worker<R> + Sync,
+    R: AllocGlobal + Wait + Threads + Sync + Copy + Drop + 'static,
+    requires { (0 < workers) × (workers < 1000) }
+{
+    let sums = thread::map_indices(
+        rt,
+        rt.alloc(),
+        workers,
+        &|party| { work_of_one(place, workers, party, all) },
+    )?;
+    let mut moved = 0u64;
+    for sum in &sums {
+        moved = moved.wrapping_add(*sum);
+    }
+    Ok(moved)
+}
+
+fn work_of_one<P, R>(place: &P, workers: usize, party: usize, all: Share) -> u64
+where
+    P: Worker<R>,
+    R: Wait + Copy + Drop + 'static,
+    requires { 0 < workers }
+{
+    place.work(Share {
+        jobs: share(all.jobs, workers as u64, party as u64),
+        times: all.times,
+    })
+}

@@ -1,6 +1,6 @@
-pub mod RingCells
-pub mod RingFaces
-pub mod RingKeeps
-pub mod RingSays
-pub mod SlotKeeps
-pub mod SlotTurns
+pub mod BoundedCells
+pub mod BoundedFaces
+pub mod BoundedKeeps
+pub mod BoundedSays
+pub mod SingleKeeps
+pub mod SingleTurns

@@ -2,8 +2,6 @@
 -- the value that comes back is the one that was given, only a bounded queue is full or gives an item for another, and
 -- only an unbounded one runs out of memory.
 use Rattle.std.specs.Prelude.{◌≡◌, ℕ, Option, Some, None, IsSome, Result, Ok, Err}
-use Rattle.concurrent_queue.specs.declared.concurrent.Kept.{Kept}
-use Rattle.concurrent_queue.specs.declared.concurrent.Kept.TheVariants.{Single, Bounded, Unbounded}
 use Rattle.queue_steps.specs.declared.errors.PushError.{PushError}
 use Rattle.queue_steps.specs.declared.errors.PushError.TheVariants.{Full, Closed, NoMemory}
 use Rattle.queue_steps.specs.declared.errors.ForcePushError.{ForcePushError}
@@ -14,11 +12,6 @@ pub record SharedQueue : Type 0 where
   pub capacity : Option ℕ
 
 module _ {T : Type 0} where
-  abbrev pub kept_capacity : Kept T → Option ℕ
-  kept_capacity (Single queue) = Some 1
-  kept_capacity (Bounded queue capacity) = Some capacity
-  kept_capacity (Unbounded queue) = None
-
   -- a push of x on a queue of this capacity
   abbrev pub MayPush : Option ℕ → T → Result (Unit {0}) (PushError T) → Type 0
   MayPush capacity x (Ok _) = Unit {0}

@@ -1,17 +1,16 @@
 ghost use Rattle.std.specs.Prelude.{◌≡◌, ◌<◌, Some, None, false, IfOk};
 ghost use Rattle.concurrent_queue.specs.SharedQueue.{MayPush, MayForcePush};
 
+use crate::bounded::Bounded;
 use crate::glimpse::{Glimpse, Locked};
-use crate::ring_table::RingTable;
-use crate::slot_table::SlotTable;
+use crate::single::Single;
 use crate::try_iter::TryIter;
-use queue_steps::{
-    Drains, ForcePushError, NoMemory, PopError, PushError, Representation, Unbounded,
-};
+use crate::unbounded::Unbounded;
+use queue_steps::{ForcePushError, NoMemory, PopError, PushError};
 use std::alloc::Global;
 use std::fmt;
 use std::marker::Model;
-use std::sync::{Mutex, Wait};
+use std::sync::Wait;
 
 /// A closable queue that threads share by `&`: `ConcurrentQueue` of the Rust crate `concurrent-queue`.
 ///
@@ -22,20 +21,20 @@ pub struct ConcurrentQueue<T> {
     kept: Kept<T>,
 }
 
-// A chain stands under a lock, and a call on it is one section of that lock. Of what it guards a section knows whether it
-// is bounded only once it has asked for the capacity.
 #[derive(Drop)]
 enum Kept<T> {
-    Single(SlotTable<T>),
+    Single(Single<T>),
     // With its capacity.
-    Bounded(RingTable<T>, usize),
-    Unbounded(Mutex<Unbounded<T>>),
+    Bounded(Bounded<T>, usize),
+    Unbounded(Unbounded<T>),
 }
 
 impl<T> Model for ConcurrentQueue<T> {
-    ghost use Rattle.concurrent_queue.specs.SharedQueue.{SharedQueue, kept_capacity};
+    ghost use Rattle.concurrent_queue.specs.SharedQueue.{SharedQueue};
 
     ghost Value = { SharedQueue };
+
+    ghost use Rattle.concurrent_queue.specs.Capacity.{kept_capacity};
 
     ghost view = { λ q. record { capacity = kept_capacity q.kept } };
 }
@@ -49,9 +48,9 @@ impl<T> ConcurrentQueue<T> {
         ensures { IfOk result (λ q. q.capacity ≡ Some cap) }
     {
         let kept = if cap == 1 {
-            Kept::Single(SlotTable::new(alloc)?)
+            Kept::Single(Single::new(alloc)?)
         } else {
-            Kept::Bounded(RingTable::new(alloc, cap)?, cap)
+            Kept::Bounded(Bounded::new(alloc, cap)?, cap)
         };
         Ok(ConcurrentQueue { kept })
     }
@@ -61,7 +60,7 @@ impl<T> ConcurrentQueue<T> {
         ensures { result.capacity ≡ None }
     {
         ConcurrentQueue {
-            kept: Kept::Unbounded(Mutex::new(Unbounded::new(alloc))),
+            kept: Kept::Unbounded(Unbounded::new(alloc)),
         }
     }
 
@@ -76,12 +75,7 @@ impl<T> ConcurrentQueue<T> {
         match &self.kept {
             Kept::Single(slot) => slot.push(rt, value),
             Kept::Bounded(ring, _) => ring.push(rt, value),
-            Kept::Unbounded(lock) => {
-                let mut chain = lock.lock(rt);
-                let _capacity = chain.capacity();
-                chain.push(value)?;
-                Ok(())
-            }
+            Kept::Unbounded(chain) => chain.push(rt, value),
         }
     }
 
@@ -95,11 +89,17 @@ impl<T> ConcurrentQueue<T> {
         match &self.kept {
             Kept::Single(slot) => slot.force_push(rt, value),
             Kept::Bounded(ring, _) => ring.force_push(rt, value),
-            Kept::Unbounded(lock) => {
-                let mut chain = lock.lock(rt);
-                let _capacity = chain.capacity();
-                chain.force_push(value)
-            }
+            Kept::Unbounded(chain) => chain.force_push(rt, value),
+        }
+    }
+
+    /// Takes out the oldest item. Without one a closed queue answers `Closed`, and an open one `Empty`.
+    #[inline]
+    pub fn pop<R: Wait>(&self, rt: &R) -> Result<T, PopError> {
+        match &self.kept {
+            Kept::Single(slot) => slot.pop(rt),
+            Kept::Bounded(ring, _) => ring.pop(rt),
+            Kept::Unbounded(chain) => chain.pop(rt),
         }
     }
 
@@ -108,7 +108,7 @@ impl<T> ConcurrentQueue<T> {
         match &self.kept {
             Kept::Single(slot) => slot.close(),
             Kept::Bounded(ring, _) => ring.close(),
-            Kept::Unbounded(lock) => lock.lock(rt).close(),
+            Kept::Unbounded(chain) => chain.close(rt),
         }
     }
 
@@ -117,7 +117,7 @@ impl<T> ConcurrentQueue<T> {
         match &self.kept {
             Kept::Single(slot) => slot.len(),
             Kept::Bounded(ring, _) => ring.len(rt),
-            Kept::Unbounded(lock) => lock.lock(rt).len(),
+            Kept::Unbounded(chain) => chain.len(rt),
         }
     }
 
@@ -126,7 +126,7 @@ impl<T> ConcurrentQueue<T> {
         match &self.kept {
             Kept::Single(slot) => slot.is_empty(),
             Kept::Bounded(ring, _) => ring.is_empty(),
-            Kept::Unbounded(lock) => lock.lock(rt).is_empty(),
+            Kept::Unbounded(chain) => chain.is_empty(rt),
         }
     }
 
@@ -137,11 +137,7 @@ impl<T> ConcurrentQueue<T> {
         match &self.kept {
             Kept::Single(slot) => slot.is_full(),
             Kept::Bounded(ring, _) => ring.is_full(),
-            Kept::Unbounded(lock) => {
-                let chain = lock.lock(rt);
-                let _capacity = chain.capacity();
-                chain.is_full()
-            }
+            Kept::Unbounded(chain) => chain.is_full(rt),
         }
     }
 
@@ -150,7 +146,7 @@ impl<T> ConcurrentQueue<T> {
         match &self.kept {
             Kept::Single(slot) => slot.is_closed(),
             Kept::Bounded(ring, _) => ring.is_closed(),
-            Kept::Unbounded(lock) => lock.lock(rt).is_closed(),
+            Kept::Unbounded(chain) => chain.is_closed(rt),
         }
     }
 
@@ -174,22 +170,7 @@ impl<T> ConcurrentQueue<T> {
         match &self.kept {
             Kept::Single(slot) => Some(slot.glimpse()),
             Kept::Bounded(ring, _) => ring.glimpse(),
-            Kept::Unbounded(lock) => Glimpse::of(lock),
-        }
-    }
-}
-
-impl<T: Drop> ConcurrentQueue<T> {
-    /// Takes out the oldest item. Without one a closed queue answers `Closed`, and an open one `Empty`.
-    #[inline]
-    pub fn pop<R: Wait>(&self, rt: &R) -> Result<T, PopError> {
-        match &self.kept {
-            Kept::Single(slot) => slot.pop(rt),
-            Kept::Bounded(ring, _) => ring.pop(rt),
-            Kept::Unbounded(lock) => {
-                let item = lock.lock(rt).pop()?;
-                Ok(item)
-            }
+            Kept::Unbounded(chain) => chain.glimpse(),
         }
     }
 }

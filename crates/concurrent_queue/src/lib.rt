@@ -1,12 +1,13 @@
 //! Closable queues: a port of the Rust crate `concurrent-queue`, with contracts.
 #![tactic(auto)]
 
+pub mod bounded;
 mod concurrent;
 pub mod glimpse;
-pub mod ring_table;
 pub mod seated;
-pub mod slot_table;
+pub mod single;
 mod try_iter;
+mod unbounded;
 
 pub use concurrent::ConcurrentQueue;
 pub use queue_steps::{

@@ -3,16 +3,27 @@
 //! A seat's view keeps the words that the steps of its call found, and each call answers what `steps` gives for them. It
 //! keeps too what its calls found closed or closed: that stays closed, and nothing is accepted by such a seat.
 //!
-//! A `SlotTable` or a `RingTable` has the table, its field `board.shared`, and gives seats:
+//! A `Single` or a `Bounded` has the table, its field `board.shared`, and gives seats:
 //!
 //! ```
-//! let slot = SlotTable::new(rt.alloc())?;
+//! let slot = Single::new(rt.alloc())?;
 //! let mut seat = slot.seat();
 //! seated::single::push(&rt, &slot.board.shared, &mut seat, 5)?;
-//! let ring = RingTable::new(rt.alloc(), 4)?;
+//! let ring = Bounded::new(rt.alloc(), 4)?;
 //! let mut seat = ring.seat();
-//! seated::ring::close(&ring.board.shared, &mut seat, ring.shape);
+//! seated::bounded::close(&ring.board.shared, &mut seat, ring.shape);
 //! ```
 
-pub mod ring;
-pub mod single;
+/// The calls on a ring.
+pub mod bounded {
+    pub use crate::bounded::calls::{close, is_closed, is_empty, is_full, len};
+    pub use crate::bounded::popping::pop;
+    pub use crate::bounded::pushing::{force_push, push};
+}
+
+/// The calls on a single slot.
+pub mod single {
+    pub use crate::single::calls::{close, is_closed, is_empty, is_full, len};
+    pub use crate::single::popping::pop;
+    pub use crate::single::pushing::{force_push, push};
+}

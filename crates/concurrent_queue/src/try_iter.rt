@@ -28,7 +28,7 @@ impl<'a, T, R: Wait> TryIter<'a, T, R> {
     }
 }
 
-impl<'a, T: Drop, R: Wait> Iterator for TryIter<'a, T, R> {
+impl<'a, T, R: Wait> Iterator for TryIter<'a, T, R> {
     type Item = T;
 
     ghost remaining = { λ walk. at_most (turns_left walk) };
@@ -46,7 +46,7 @@ impl<'a, T, R: Wait> Clone for TryIter<'a, T, R> {
     }
 }
 
-impl<'a, T: Drop, R: Wait> fmt::Debug for TryIter<'a, T, R> {
+impl<'a, T, R: Wait> fmt::Debug for TryIter<'a, T, R> {
     fn fmt<W: fmt::Write>(&self, f: &mut fmt::Formatter<W>) -> fmt::Result {
         f.debug_tuple("TryIter").field(self.queue).finish()
     }

@@ -1,5 +1,5 @@
-pub mod ChainSteps
+pub mod UnboundedSteps
 pub mod LoneCalls
 pub mod Moments
-pub mod RingSteps
-pub mod SlotSteps
+pub mod BoundedSteps
+pub mod SingleSteps

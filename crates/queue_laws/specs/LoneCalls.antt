@@ -2,9 +2,9 @@
 -- a ring, after every list of steps.
 use Rattle.std.specs.Prelude.{◌≡◌, ℕ, zero, suc, ◌≤◌, List, [], ◌∷◌}
 use Rattle.queue_steps.specs.Calls.{Call}
-use Rattle.queue_laws.specs.SlotSteps.{Step, Begin, Go, Away as AwayFromSlot, run as run_slot, stepped as slot_stepped, new_slot}
-use Rattle.queue_laws.specs.ChainSteps.{Step as ChainStep, Begin as BeginOnChain, Go as GoOnChain, Away as AwayFromChain, run as run_chain, stepped as chain_stepped, new_chain}
-use Rattle.queue_laws.specs.RingSteps.{Away as AwayFromRing, run as run_ring, stepped as ring_stepped, new_ring}
+use Rattle.queue_laws.specs.SingleSteps.{Step, Begin, Go, Away as AwayFromSlot, run as run_slot, stepped as slot_stepped, new_slot}
+use Rattle.queue_laws.specs.UnboundedSteps.{Step as UnboundedStep, Begin as BeginOnChain, Go as GoOnChain, Away as AwayFromChain, run as run_chain, stepped as chain_stepped, new_chain}
+use Rattle.queue_laws.specs.BoundedSteps.{Away as AwayFromRing, run as run_ring, stepped as ring_stepped, new_ring}
 
 module _ {T : Type 0} where
   -- so many steps of one party
@@ -12,7 +12,7 @@ module _ {T : Type 0} where
   goes p zero = []
   goes p (suc k) = Go p ∷ goes p k
 
-  abbrev pub goes_on_chain : ℕ → ℕ → List (ChainStep T)
+  abbrev pub goes_on_chain : ℕ → ℕ → List (UnboundedStep T)
   goes_on_chain p zero = []
   goes_on_chain p (suc k) = GoOnChain p ∷ goes_on_chain p k
 
@@ -21,7 +21,7 @@ module _ {T : Type 0} where
       ((q : ℕ) → (run_slot steps new_slot).places q ≡ AwayFromSlot) → (p : ℕ) (call : Call T)
       → (k : ℕ) × (k ≤ 64) × ((run_slot (goes p k) (slot_stepped (run_slot steps new_slot) (Begin p call))).places p ≡ AwayFromSlot)
 
-  abbrev pub EndsOnChain : List (ChainStep T) → Type 0
+  abbrev pub EndsOnChain : List (UnboundedStep T) → Type 0
   EndsOnChain steps =
       ((q : ℕ) → (run_chain steps new_chain).places q ≡ AwayFromChain) → (p : ℕ) (call : Call T)
       → (k : ℕ) × (k ≤ 64) × ((run_chain (goes_on_chain p k) (chain_stepped (run_chain steps new_chain) (BeginOnChain p call))).places p ≡ AwayFromChain)

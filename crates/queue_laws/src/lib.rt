@@ -2,11 +2,11 @@
 //! takes its changes from `queue_steps::steps`. A crate of its own so that neither waits for the other's checks.
 #![tactic(auto)]
 
-ghost use Rattle.queue_laws.specs.ChainSteps.{Step, IsClosableQueue};
+ghost use Rattle.queue_laws.specs.UnboundedSteps.{Step, IsClosableQueue};
 ghost use Rattle.queue_laws.specs.LoneCalls.{EndsOnSlot, EndsOnChain, EndsOnRing};
-ghost use Rattle.queue_steps.specs.Ring.{IsShape};
-ghost use Rattle.queue_laws.specs.RingSteps.{IsClosableQueue as IsClosableRing};
-ghost use Rattle.queue_laws.specs.SlotSteps.{Step as WordStep, IsClosableQueue as IsClosableSlot};
+ghost use Rattle.queue_steps.specs.Bounded.{IsShape};
+ghost use Rattle.queue_laws.specs.BoundedSteps.{IsClosableQueue as IsClosableRing};
+ghost use Rattle.queue_laws.specs.SingleSteps.{Step as WordStep, IsClosableQueue as IsClosableSlot};
 ghost use Rattle.std.specs.Prelude.{ℕ, List};
 
 /// Whatever parties call on a chain, and however their steps come between one another, what they see is a run of the

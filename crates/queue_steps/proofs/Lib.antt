@@ -1,8 +1,8 @@
-pub mod RingFinds
-pub mod RingFresh
-pub mod RingMasks
-pub mod RingRests
-pub mod RingSlots
-pub mod RingWords
-pub mod ChainLemmas
+pub mod BoundedFinds
+pub mod BoundedFresh
+pub mod BoundedMasks
+pub mod BoundedRests
+pub mod BoundedSlots
+pub mod BoundedWords
+pub mod UnboundedLemmas
 pub mod IterLemmas

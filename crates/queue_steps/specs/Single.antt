@@ -8,7 +8,7 @@ module _ {T : Type 0} where
   marks_of None = 0
   marks_of (Some x) = 2
 
-  pub record SlotAtRest (word : ℕ) (slot : Option T) : Type 0 where
+  pub record SingleAtRest (word : ℕ) (slot : Option T) : Type 0 where
     pub marks : word % 4 ≡ marks_of slot
     pub no_more : word < 8
 

@@ -1,13 +1,13 @@
 //! A ring of places.
 ghost use Rattle.std.specs.Prelude.{◌≡◌, ℕ, Bool, ◌<◌, ◌+◌, ◌*◌, ◌%◌, ◌^◌, Some, IsSome, OnOk, IfOk, vec_len};
 ghost use Rattle.queue_steps.specs.ClosableQueue.{new_queue};
-ghost use Rattle.queue_steps.specs.Ring.{IsPlaceWord, next_at};
-ghost use Rattle.queue_steps.specs.RingAtRest.{RingAtRest, AreFresh, slot_at, filled_at, emptied_at};
-ghost use Rattle.queue_steps.specs.RingTurns.{answered};
-ghost use Rattle.queue_steps.specs.RingEnds.{PushEnds, ForcePushEnds, PopEnds};
+ghost use Rattle.queue_steps.specs.Bounded.{IsPlaceWord, next_at};
+ghost use Rattle.queue_steps.specs.BoundedAtRest.{BoundedAtRest, AreFresh, slot_at, filled_at, emptied_at};
+ghost use Rattle.queue_steps.specs.BoundedTurns.{answered};
+ghost use Rattle.queue_steps.specs.BoundedEnds.{PushEnds, ForcePushEnds, PopEnds};
 
 use crate::errors::{ForcePushError, NoMemory, PopError, PushError};
-use crate::representation::{Drains, Representation};
+use crate::representation::Representation;
 use crate::steps::Reply;
 use crate::steps::bounded::{self as steps, Shape, Turn};
 use std::alloc::Global;
@@ -34,16 +34,16 @@ impl<T> Model for Bounded<T> {
 
     ghost Value = { ClosableQueue T };
 
-    ghost use Rattle.queue_steps.specs.RingAtRest.{ring_queue, RingAtRest};
+    ghost use Rattle.queue_steps.specs.BoundedAtRest.{ring_queue, BoundedAtRest};
 
     ghost view = { λ r. ring_queue r.shape.capacity r.shape.mark r.tail r.head r.slots.items };
 
-    ghost invariant = { λ r. RingAtRest r.shape.capacity r.shape.mark r.tail r.head r.slots.items };
+    ghost invariant = { λ r. BoundedAtRest r.shape.capacity r.shape.mark r.tail r.head r.slots.items };
 }
 
 // What a push does once it has looked at the words of a ring.
 fn find_push<T>(shape: Shape, tail: u64, head: u64, slots: &[Slot<T>]) -> Turn
-    requires { RingAtRest shape.capacity shape.mark tail head slots.now }
+    requires { BoundedAtRest shape.capacity shape.mark tail head slots.now }
     ensures { PushEnds shape.capacity shape.mark tail head result }
 {
     let turn = steps::push(shape, Turn::Tail, tail);
@@ -59,7 +59,7 @@ fn find_push<T>(shape: Shape, tail: u64, head: u64, slots: &[Slot<T>]) -> Turn
 
 // What a forced push does once it has looked at the words of a ring.
 fn find_force_push<T>(shape: Shape, tail: u64, head: u64, slots: &[Slot<T>]) -> Turn
-    requires { RingAtRest shape.capacity shape.mark tail head slots.now }
+    requires { BoundedAtRest shape.capacity shape.mark tail head slots.now }
     ensures { ForcePushEnds shape.capacity shape.mark tail head result }
 {
     let turn = steps::force_push(shape, Turn::Tail, tail);
@@ -75,7 +75,7 @@ fn find_force_push<T>(shape: Shape, tail: u64, head: u64, slots: &[Slot<T>]) -> 
 
 // What a pop does once it has looked at the words of a ring.
 fn find_pop<T>(shape: Shape, tail: u64, head: u64, slots: &[Slot<T>]) -> Turn
-    requires { RingAtRest shape.capacity shape.mark tail head slots.now }
+    requires { BoundedAtRest shape.capacity shape.mark tail head slots.now }
     ensures { PopEnds shape.capacity shape.mark tail head result }
 {
     let turn = steps::pop(shape, Turn::Head, head);
@@ -102,7 +102,7 @@ fn length_in(turn: Turn) -> u64
 }
 
 // Moves the tail on, and fills the place that it named. What was in that place comes back.
-#[tactic(auto, using(crate::proofs::RingWords::place_fits))]
+#[tactic(auto, using(crate::proofs::BoundedWords::place_fits))]
 fn append<T>(shape: Shape, tail: &mut u64, slots: &mut Vec<Slot<T>>, value: T) -> Option<T>
     requires place { IsPlaceWord shape.capacity shape.mark tail.old }
     requires slots { vec_len slots.old ≡ shape.capacity }
@@ -118,7 +118,7 @@ fn append<T>(shape: Shape, tail: &mut u64, slots: &mut Vec<Slot<T>>, value: T) -
 }
 
 // Moves the head on, and empties the place that it named.
-#[tactic(auto, using(crate::proofs::RingWords::place_fits))]
+#[tactic(auto, using(crate::proofs::BoundedWords::place_fits))]
 fn take<T>(shape: Shape, head: &mut u64, slots: &mut Vec<Slot<T>>) -> Option<T>
     requires place { IsPlaceWord shape.capacity shape.mark head.old }
     requires slots { vec_len slots.old ≡ shape.capacity }
@@ -134,7 +134,7 @@ fn take<T>(shape: Shape, head: &mut u64, slots: &mut Vec<Slot<T>>) -> Option<T>
 }
 
 // The places of a new ring, of which none has an item. A ring of 2^60 places is larger than any memory.
-fn free_slots<T: Drop>(alloc: Global, capacity: usize) -> Result<Vec<Slot<T>>, NoMemory>
+fn free_slots<T>(alloc: Global, capacity: usize) -> Result<Vec<Slot<T>>, NoMemory>
     ensures few { OnOk result (capacity < 2 ^ 60) }
     ensures slots { IfOk result (λ slots. AreFresh capacity slots.items) }
 {
@@ -150,7 +150,7 @@ fn free_slots<T: Drop>(alloc: Global, capacity: usize) -> Result<Vec<Slot<T>>, N
     Ok(slots)
 }
 
-impl<T: Drop> Bounded<T> {
+impl<T> Bounded<T> {
     /// An empty ring, with the memory of all its places.
     pub fn new(alloc: Global, capacity: usize) -> Result<Bounded<T>, NoMemory>
         requires { 0 < capacity }
@@ -166,15 +166,15 @@ impl<T: Drop> Bounded<T> {
     }
 }
 
-impl<T: Drop> Representation<T> for Bounded<T> {
+impl<T> Representation<T> for Bounded<T> {
     ghost queue = { λ q. q };
 
     fn push(&mut self, value: T) -> Result<(), PushError<T>> {
         match find_push(self.shape, self.tail, self.head, &self.slots) {
-            Turn::Append(_) => {
-                let _empty = append(self.shape, &mut self.tail, &mut self.slots, value);
-                Ok(())
-            }
+            Turn::Append(_) => match append(self.shape, &mut self.tail, &mut self.slots, value) {
+                None => Ok(()),
+                Some(_) => unreachable!(),
+            },
             Turn::Spend(_) => {
                 self.tail += self.shape.mark;
                 Err(PushError::Closed(value))
@@ -196,6 +196,14 @@ impl<T: Drop> Representation<T> for Bounded<T> {
                 Err(ForcePushError::Closed(value))
             }
             _ => Err(ForcePushError::Closed(value)),
+        }
+    }
+
+    fn pop(&mut self) -> Result<T, PopError> {
+        match find_pop(self.shape, self.tail, self.head, &self.slots) {
+            Turn::Take(_) => Ok(take(self.shape, &mut self.head, &mut self.slots).unwrap()),
+            Turn::End(Reply::Closed) => Err(PopError::Closed),
+            _ => Err(PopError::Empty),
         }
     }
 
@@ -234,17 +242,5 @@ impl<T: Drop> Representation<T> for Bounded<T> {
         ensures bounded { IsSome result }
     {
         Some(self.shape.capacity as usize)
-    }
-}
-
-impl<T: Drop> Drains<T> for Bounded<T> {
-    ghost queue = { λ q. q };
-
-    fn pop(&mut self) -> Result<T, PopError> {
-        match find_pop(self.shape, self.tail, self.head, &self.slots) {
-            Turn::Take(_) => Ok(take(self.shape, &mut self.head, &mut self.slots).unwrap()),
-            Turn::End(Reply::Closed) => Err(PopError::Closed),
-            _ => Err(PopError::Empty),
-        }
     }
 }

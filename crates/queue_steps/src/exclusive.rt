@@ -5,7 +5,7 @@ ghost use Rattle.queue_steps.specs.Replies.{Pushes, ForcePushes, Pops, Closes};
 use crate::bounded::Bounded;
 use crate::errors::{ForcePushError, NoMemory, PopError, PushError};
 use crate::exclusive_iter::ExclusiveIter;
-use crate::representation::{Drains, Representation};
+use crate::representation::Representation;
 use crate::single::Single;
 use crate::unbounded::Unbounded;
 use std::alloc::Global;
@@ -37,7 +37,7 @@ impl<T> Model for Exclusive<T> {
     ghost view = { λ q. kept_queue q.kept };
 }
 
-impl<T: Drop> Exclusive<T> {
+impl<T> Exclusive<T> {
     ghost use Rattle.queue_steps.specs.ExclusiveIter.{iter_queue, iter_lender, IterWalks};
 
     /// A queue that holds at most `cap` items, whose places are taken here: a single slot for 1, which is never refused,

@@ -11,7 +11,7 @@ pub struct ExclusiveIter<'a, T> {
     pub(crate) queue: &'a mut Exclusive<T>,
 }
 
-impl<'a, T: Drop> Iterator for ExclusiveIter<'a, T> {
+impl<'a, T> Iterator for ExclusiveIter<'a, T> {
     type Item = T;
 
     ghost next_gives = { IterSteps };

@@ -15,5 +15,5 @@ mod unbounded;
 pub use errors::{ForcePushError, NoMemory, PopError, PushError};
 pub use exclusive::Exclusive;
 pub use exclusive_iter::ExclusiveIter;
-pub use representation::{Drains, Representation};
+pub use representation::Representation;
 pub use unbounded::Unbounded;

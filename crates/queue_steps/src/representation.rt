@@ -17,6 +17,10 @@ pub trait Representation<T> {
     fn force_push(&mut self, value: T) -> Result<Option<T>, ForcePushError<T>>
         ensures { ForcePushes (queue self.old) value result (queue self.new) };
 
+    /// Takes the first item out.
+    fn pop(&mut self) -> Result<T, PopError>
+        ensures { Pops (queue self.old) result (queue self.new) };
+
     /// Closes the queue, and answers whether it was open.
     fn close(&mut self) -> bool
         ensures { Closes (queue self.old) result (queue self.new) };
@@ -40,14 +44,4 @@ pub trait Representation<T> {
     /// How many items it may hold, or `None` where nothing limits them.
     fn capacity(&self) -> Option<usize>
         ensures { result ≡ (queue self.now).capacity };
-}
-
-/// A way to keep one from which items are taken. A chain drops a block that was used up.
-pub trait Drains<T> {
-    // The closable queue that it keeps.
-    ghost queue: { Self → ClosableQueue T };
-
-    /// Takes the first item out.
-    fn pop(&mut self) -> Result<T, PopError>
-        ensures { Pops (queue self.old) result (queue self.new) };
 }

@@ -3,7 +3,7 @@ ghost use Rattle.std.specs.Prelude.{◌≡◌, None, Some, [], false};
 ghost use Rattle.queue_steps.specs.ClosableQueue.{new_queue};
 
 use crate::errors::{ForcePushError, PopError, PushError};
-use crate::representation::{Drains, Representation};
+use crate::representation::Representation;
 use crate::steps::Reply;
 use crate::steps::single::{self as steps, Turn};
 use std::marker::Model;
@@ -20,11 +20,11 @@ impl<T> Model for Single<T> {
 
     ghost Value = { ClosableQueue T };
 
-    ghost use Rattle.queue_steps.specs.Single.{slot_queue, SlotAtRest};
+    ghost use Rattle.queue_steps.specs.Single.{slot_queue, SingleAtRest};
 
     ghost view = { λ s. slot_queue s.word s.slot };
 
-    ghost invariant = { λ s. SlotAtRest s.word s.slot };
+    ghost invariant = { λ s. SingleAtRest s.word s.slot };
 }
 
 // Puts a value into a slot that has none.
@@ -77,6 +77,19 @@ impl<T> Representation<T> for Single<T> {
         }
     }
 
+    fn pop(&mut self) -> Result<T, PopError> {
+        match steps::pop(Turn::Look, self.word) {
+            Turn::Exchange(_, locked) => {
+                self.word = locked;
+                let item = self.slot.take();
+                self.word -= steps::LOCKED;
+                Ok(item.unwrap())
+            }
+            Turn::End(Reply::Closed) => Err(PopError::Closed),
+            _ => Err(PopError::Empty),
+        }
+    }
+
     fn close(&mut self) -> bool {
         let first = matches!(steps::close(Turn::Close, self.word), Turn::End(Reply::Yes));
         if first {
@@ -116,22 +129,5 @@ impl<T> Representation<T> for Single<T> {
     {
         let _word = self.word;
         Some(1)
-    }
-}
-
-impl<T> Drains<T> for Single<T> {
-    ghost queue = { λ q. q };
-
-    fn pop(&mut self) -> Result<T, PopError> {
-        match steps::pop(Turn::Look, self.word) {
-            Turn::Exchange(_, locked) => {
-                self.word = locked;
-                let item = self.slot.take();
-                self.word -= steps::LOCKED;
-                Ok(item.unwrap())
-            }
-            Turn::End(Reply::Closed) => Err(PopError::Closed),
-            _ => Err(PopError::Empty),
-        }
     }
 }

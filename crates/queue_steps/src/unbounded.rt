@@ -1,11 +1,11 @@
 //! A chain of blocks.
 ghost use Rattle.std.specs.Prelude.{◌≡◌, ◌<◌, List, [], ◌∷◌, ◌++◌, length, false, Some, None, IfOk, OnOk, IfErr};
 ghost use Rattle.std.specs.Option.{ForSome};
-ghost use Rattle.queue_steps.specs.Chain.{onto_last, LastHasRoom, FirstHasItem, FirstHasOneItem, TakesFirst};
+ghost use Rattle.queue_steps.specs.Unbounded.{onto_last, LastHasRoom, FirstHasItem, FirstHasOneItem, TakesFirst};
 ghost use Rattle.queue_steps.specs.ClosableQueue.{new_queue};
 
 use crate::errors::{ForcePushError, PopError, PushError};
-use crate::representation::{Drains, Representation};
+use crate::representation::Representation;
 use crate::steps::Reply;
 use crate::steps::unbounded::{self as steps, BLOCK, Ends, Turn};
 use std::alloc::{AllocError, Global};
@@ -51,6 +51,14 @@ impl<T> Block<T> {
     {
         self.items.pop_front().unwrap()
     }
+
+    // Gives the memory of an empty block back.
+    fn free(self)
+        requires { self ≡ [] }
+    {
+        let Block { items } = self;
+        items.destroy_empty();
+    }
 }
 
 /// The ends of a chain, its blocks, and a block that was used up, for the next link.
@@ -67,11 +75,11 @@ impl<T> Model for Unbounded<T> {
 
     ghost Value = { ClosableQueue T };
 
-    ghost use Rattle.queue_steps.specs.Chain.{chain_queue, ChainAtRest};
+    ghost use Rattle.queue_steps.specs.Unbounded.{chain_queue, UnboundedAtRest};
 
     ghost view = { λ c. chain_queue c.ends c.blocks.items };
 
-    ghost invariant = { λ c. ChainAtRest c.ends c.blocks.items c.spare };
+    ghost invariant = { λ c. UnboundedAtRest c.ends c.blocks.items c.spare };
 }
 
 fn push_onto_last<T>(blocks: &mut VecDeque<Block<T>>, value: T)
@@ -116,15 +124,19 @@ fn take_first<T>(blocks: &mut VecDeque<Block<T>>) -> T
     blocks[0].pop()
 }
 
-// Takes the only item of the first block, and unlinks the block.
-fn unlink<T: Drop>(blocks: &mut VecDeque<Block<T>>, spare: &mut Option<Block<T>>) -> T
-    requires { FirstHasOneItem blocks.old.items }
+// Takes the only item of the first block, and unlinks the block, which is the spare one from then on.
+fn unlink<T>(blocks: &mut VecDeque<Block<T>>, spare: &mut Option<Block<T>>) -> T
+    requires one { FirstHasOneItem blocks.old.items }
+    requires spare { ForSome spare.old (λ b. b ≡ []) }
     ensures item { blocks.old.items ≡ (result ∷ []) ∷ blocks.new.items }
     ensures spare { spare.new ≡ Some [] }
 {
     let mut block = blocks.pop_front().unwrap();
     let item = block.pop();
-    *spare = Some(block);
+    match spare.replace(block) {
+        None => {}
+        Some(earlier) => earlier.free(),
+    }
     item
 }
 
@@ -177,6 +189,18 @@ impl<T> Representation<T> for Unbounded<T> {
         }
     }
 
+    fn pop(&mut self) -> Result<T, PopError> {
+        let turn = steps::pop(self.ends);
+        let item = match turn {
+            Turn::Take => take_first(&mut self.blocks),
+            Turn::Unlink => unlink(&mut self.blocks, &mut self.spare),
+            Turn::End(Reply::Closed) => return Err(PopError::Closed),
+            _ => return Err(PopError::Empty),
+        };
+        self.ends = self.ends.after(turn);
+        Ok(item)
+    }
+
     fn close(&mut self) -> bool {
         let turn = steps::close(self.ends);
         self.ends = self.ends.after(turn);
@@ -206,21 +230,5 @@ impl<T> Representation<T> for Unbounded<T> {
     {
         let _ends = &self.ends;
         None
-    }
-}
-
-impl<T: Drop> Drains<T> for Unbounded<T> {
-    ghost queue = { λ q. q };
-
-    fn pop(&mut self) -> Result<T, PopError> {
-        let turn = steps::pop(self.ends);
-        let item = match turn {
-            Turn::Take => take_first(&mut self.blocks),
-            Turn::Unlink => unlink(&mut self.blocks, &mut self.spare),
-            Turn::End(Reply::Closed) => return Err(PopError::Closed),
-            _ => return Err(PopError::Empty),
-        };
-        self.ends = self.ends.after(turn);
-        Ok(item)
     }
 }

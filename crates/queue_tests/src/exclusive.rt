@@ -231,7 +231,7 @@ fn the_mark_is_the_least_power_of_two_above_the_indexes(rt: HostRuntime) {
     }
 }
 
-#[tactic(auto, unfolding(queue_steps::specs::Ring::count_at, queue_steps::specs::Ring::next_at))]
+#[tactic(auto, unfolding(queue_steps::specs::Bounded::count_at, queue_steps::specs::Bounded::next_at))]
 #[test]
 fn a_forced_push_keeps_a_close_that_came_in_between(rt: HostRuntime) {
     let shape = Shape {

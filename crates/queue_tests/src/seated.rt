@@ -2,13 +2,13 @@
 ghost use Rattle.std.specs.Prelude.{◌≡◌, true, false, IsErr};
 
 use crate::words::same;
-use concurrent_queue::ring_table::RingTable;
-use concurrent_queue::slot_table::SlotTable;
+use concurrent_queue::bounded::Bounded;
+use concurrent_queue::single::Single;
 use concurrent_queue::{PopError, PushError, seated};
 use std::sync::Wait;
 
 // Whoever closed a slot finds it closed, whatever other seats do.
-fn closes_for_good<T>(slot: &SlotTable<T>) -> bool
+fn closes_for_good<T>(slot: &Single<T>) -> bool
     ensures { result ≡ true }
 {
     let mut seat = slot.seat();
@@ -19,19 +19,19 @@ fn closes_for_good<T>(slot: &SlotTable<T>) -> bool
 // A ring accepts nothing by a seat that closed it.
 fn refuses_after_its_close<R: Wait>(
     rt: &R,
-    ring: &RingTable<u64>,
+    ring: &Bounded<u64>,
     value: u64,
 ) -> Result<(), PushError<u64>>
     ensures { IsErr result }
 {
     let mut seat = ring.seat();
-    seated::ring::close(&ring.board.shared, &mut seat, ring.shape);
-    seated::ring::push(rt, &ring.board.shared, &mut seat, ring.shape, value)
+    seated::bounded::close(&ring.board.shared, &mut seat, ring.shape);
+    seated::bounded::push(rt, &ring.board.shared, &mut seat, ring.shape, value)
 }
 
 #[test]
 fn a_user_takes_seats_at_a_slot(rt: HostRuntime) {
-    let slot = SlotTable::new(rt.alloc()).expect(&rt, "memory");
+    let slot = Single::new(rt.alloc()).expect(&rt, "memory");
     let (mut one, mut other) = (slot.seat(), slot.seat());
     let board = &slot.board.shared;
     same(&rt, seated::single::push(&rt, board, &mut one, 5), Ok(()));
@@ -46,12 +46,16 @@ fn a_user_takes_seats_at_a_slot(rt: HostRuntime) {
 
 #[test]
 fn a_user_takes_seats_at_a_ring(rt: HostRuntime) {
-    let ring = RingTable::new(rt.alloc(), 2).expect(&rt, "memory");
+    let ring = Bounded::new(rt.alloc(), 2).expect(&rt, "memory");
     let mut seat = ring.seat();
     let (board, shape) = (&ring.board.shared, ring.shape);
-    let pushed = seated::ring::push(&rt, board, &mut seat, shape, 5);
+    let pushed = seated::bounded::push(&rt, board, &mut seat, shape, 5);
     same(&rt, pushed, Ok(()));
     let refused = refuses_after_its_close(&rt, &ring, 6);
     same(&rt, refused, Err(PushError::Closed(6)));
-    same(&rt, seated::ring::pop(&rt, board, &mut seat, shape), Ok(5));
+    same(
+        &rt,
+        seated::bounded::pop(&rt, board, &mut seat, shape),
+        Ok(5),
+    );
 }

@@ -1,4 +1,4 @@
-use Rattle.queue_laws.proofs.ChainRuns.{a_chain_is_a_queue}
+use Rattle.queue_laws.proofs.UnboundedRuns.{a_chain_is_a_queue}
 use Rattle.queue_laws.proofs.a_chain_is_a_closable_queue.Goals as goal
 
 pub returns : goal.returns

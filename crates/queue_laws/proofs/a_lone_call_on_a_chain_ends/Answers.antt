@@ -1,4 +1,4 @@
-use Rattle.queue_laws.proofs.ChainLone.{a_lone_call_ends}
+use Rattle.queue_laws.proofs.UnboundedLone.{a_lone_call_ends}
 use Rattle.queue_laws.proofs.a_lone_call_on_a_chain_ends.Goals as goal
 
 pub returns : goal.returns

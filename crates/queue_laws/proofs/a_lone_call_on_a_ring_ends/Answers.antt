@@ -1,4 +1,4 @@
-use Rattle.queue_laws.proofs.RingLone.{a_lone_call_ends}
+use Rattle.queue_laws.proofs.BoundedLone.{a_lone_call_ends}
 use Rattle.queue_laws.proofs.a_lone_call_on_a_ring_ends.Goals as goal
 
 pub returns : goal.returns

@@ -1,4 +1,4 @@
-use Rattle.queue_laws.proofs.SlotLone.{a_lone_call_ends}
+use Rattle.queue_laws.proofs.SingleLone.{a_lone_call_ends}
 use Rattle.queue_laws.proofs.a_lone_call_on_a_slot_ends.Goals as goal
 
 pub returns : goal.returns

@@ -1,4 +1,4 @@
-use Rattle.queue_laws.proofs.RingRuns.{a_ring_is_a_queue}
+use Rattle.queue_laws.proofs.BoundedRuns.{a_ring_is_a_queue}
 use Rattle.queue_laws.proofs.a_ring_is_a_closable_queue.Goals as goal
 
 pub returns : goal.returns

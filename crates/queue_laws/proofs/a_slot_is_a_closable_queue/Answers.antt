@@ -1,4 +1,4 @@
-use Rattle.queue_laws.proofs.SlotRuns.{a_slot_is_a_queue}
+use Rattle.queue_laws.proofs.SingleRuns.{a_slot_is_a_queue}
 use Rattle.queue_laws.proofs.a_slot_is_a_closable_queue.Goals as goal
 
 pub returns : goal.returns

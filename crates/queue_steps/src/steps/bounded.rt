@@ -2,10 +2,10 @@
 //!
 //! A tail or a head is the index of a place plus a lap for each time round. The tail also carries the ring's mark once
 //! the ring is closed. A place's stamp is the tail that may fill it, or one more than the tail that filled it.
-ghost use Rattle.std.specs.Prelude.{◌≡◌, ℕ, ◌+◌, ◌*◌, ◌%◌, ◌<◌, ◌^◌, ◌==◌};
-ghost use Rattle.queue_steps.specs.Ring.{IsShape, IsPlaceWord, count_at, next_at, advanced_at, is_marked};
-ghost use Rattle.queue_steps.specs.RingTurns.{answered, pushes_from, appends_at, stamped_for_push, displaces_at, pops_from, stamped_for_pop};
-ghost use Rattle.queue_steps.specs.RingTurns.{push_turn, force_push_turn, pop_turn, close_turn, len_turn, is_empty_turn, is_full_turn, is_closed_turn};
+ghost use Rattle.std.specs.Prelude.{◌≡◌, ℕ, ◌+◌, ◌-◌, ◌*◌, ◌%◌, ◌<◌, ◌^◌, ◌==◌};
+ghost use Rattle.queue_steps.specs.Bounded.{IsShape, IsPlaceWord, count_at, next_at, advanced_at, is_marked};
+ghost use Rattle.queue_steps.specs.BoundedTurns.{answered, pushes_from, appends_at, stamped_for_push, displaces_at, pops_from, stamped_for_pop};
+ghost use Rattle.queue_steps.specs.BoundedTurns.{push_turn, force_push_turn, pop_turn, close_turn, len_turn, is_empty_turn, is_full_turn, is_closed_turn};
 
 use crate::steps::Reply;
 
@@ -51,7 +51,7 @@ impl Shape {
         2 * self.mark
     }
 
-    #[tactic(auto, using(crate::proofs::RingMasks::index_masks))]
+    #[tactic(auto, using(crate::proofs::BoundedMasks::index_masks))]
     /// The index of the place at a tail or a head.
     pub fn index(self, word: u64) -> u64
         ensures { result ≡ word % self.mark }
@@ -59,7 +59,7 @@ impl Shape {
         word & (self.mark - 1)
     }
 
-    #[tactic(auto, using(crate::proofs::RingMasks::laps_shift, crate::proofs::RingMasks::count_fits), unfolding(crate::specs::Ring::count_at))]
+    #[tactic(auto, using(crate::proofs::BoundedMasks::laps_shift, crate::proofs::BoundedMasks::count_fits), unfolding(crate::specs::Bounded::count_at))]
     /// How many items were appended before this tail, or taken before this head.
     pub fn count(self, word: u64) -> u64
         ensures { result ≡ count_at self.capacity self.mark word }
@@ -67,7 +67,21 @@ impl Shape {
         (word >> (self.bits + 1)) * self.capacity + self.index(word)
     }
 
-    #[tactic(auto, using(crate::proofs::RingWords::place_fits), unfolding(crate::specs::Ring::next_at))]
+    #[tactic(auto, using(crate::proofs::BoundedMasks::laps_shift, crate::proofs::BoundedMasks::counts_in_a_lap), unfolding(crate::specs::Bounded::count_at))]
+    /// How many items more were appended before this tail than taken before this head. Within a lap that is a difference of
+    /// indexes, without a product.
+    fn between(self, head: u64, tail: u64) -> u64
+        ensures { result ≡ count_at self.capacity self.mark tail - count_at self.capacity self.mark head }
+    {
+        let lap = self.bits + 1;
+        if tail >> lap == head >> lap {
+            self.index(tail).saturating_sub(self.index(head))
+        } else {
+            self.count(tail).saturating_sub(self.count(head))
+        }
+    }
+
+    #[tactic(auto, using(crate::proofs::BoundedWords::place_fits), unfolding(crate::specs::Bounded::next_at))]
     /// The tail or head of the next place, or of the next lap.
     pub fn next(self, word: u64) -> u64
         requires { IsPlaceWord self.capacity self.mark word }
@@ -299,7 +313,7 @@ pub fn len(shape: Shape, turn: Turn, found: u64) -> Turn
         Turn::Tail => Turn::HeadFor(found),
         Turn::HeadFor(tail) => Turn::TailAgain(tail, found),
         Turn::TailAgain(tail, head) if found == tail => {
-            Turn::End(Reply::Length(shape.count(tail).saturating_sub(shape.count(head))))
+            Turn::End(Reply::Length(shape.between(head, tail)))
         }
         Turn::TailAgain(_, _) => Turn::HeadFor(found),
         other => other,

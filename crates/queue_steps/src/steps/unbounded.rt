@@ -1,6 +1,6 @@
 //! The steps on a chain of blocks. Each call is one section of one lock, so a step has both ends before it.
 ghost use Rattle.std.specs.Prelude.{◌≡◌, ◌-◌, ◌^◌, ◌<◌, ◌≤◌, ◌==◌, not, nat_le};
-ghost use Rattle.queue_steps.specs.ChainTurns.{push_turn, pop_turn, close_turn, ends_after};
+ghost use Rattle.queue_steps.specs.UnboundedTurns.{push_turn, pop_turn, close_turn, ends_after};
 
 use crate::steps::Reply;
 

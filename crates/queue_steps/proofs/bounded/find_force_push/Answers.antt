@@ -1,7 +1,7 @@
 use Rattle.std.proofs.Common.{sym, subst, refl}
-use Rattle.queue_steps.specs.RingTurns.{force_push_turn}
-use Rattle.queue_steps.specs.RingEnds.{ForcePushEnds}
-use Rattle.queue_steps.proofs.RingFinds.{closed_first, found_by, force_push_second, force_push_third}
+use Rattle.queue_steps.specs.BoundedTurns.{force_push_turn}
+use Rattle.queue_steps.specs.BoundedEnds.{ForcePushEnds}
+use Rattle.queue_steps.proofs.BoundedFinds.{closed_first, found_by, force_push_second, force_push_third}
 use Rattle.queue_steps.proofs.bounded.find_force_push.Goals as goal
 
 pub returns-in_default : goal.returns-in_default

@@ -1,5 +1,5 @@
 use Rattle.std.proofs.Common.{arith}
-use Rattle.queue_steps.proofs.RingFinds.{head_below, pop_found_by, pop_second, pop_third}
+use Rattle.queue_steps.proofs.BoundedFinds.{head_below, pop_found_by, pop_second, pop_third}
 use Rattle.queue_steps.proofs.bounded.find_pop.Goals as goal
 
 pub offset_bounds-slots-index : goal.offset_bounds-slots-index

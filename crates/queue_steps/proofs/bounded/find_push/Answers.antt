@@ -1,7 +1,7 @@
 use Rattle.std.proofs.Common.{sym, subst, refl}
-use Rattle.queue_steps.specs.RingTurns.{push_turn}
-use Rattle.queue_steps.specs.RingEnds.{PushEnds}
-use Rattle.queue_steps.proofs.RingFinds.{closed_first, found_by, push_second, push_third}
+use Rattle.queue_steps.specs.BoundedTurns.{push_turn}
+use Rattle.queue_steps.specs.BoundedEnds.{PushEnds}
+use Rattle.queue_steps.proofs.BoundedFinds.{closed_first, found_by, push_second, push_third}
 use Rattle.queue_steps.proofs.bounded.find_push.Goals as goal
 
 pub returns-in_default : goal.returns-in_default

@@ -1,5 +1,5 @@
 use Rattle.std.proofs.Common.{arith}
-use Rattle.queue_steps.proofs.RingFresh.{fresh_none, fresh_push}
+use Rattle.queue_steps.proofs.BoundedFresh.{fresh_none, fresh_push}
 use Rattle.queue_steps.proofs.bounded.free_slots.Goals as goal
 
 pub loop-stamp-init : goal.loop-stamp-init

@@ -1,5 +1,5 @@
 use Rattle.std.proofs.Common.{ℕ, ◌-◌, suc, ap, ◌∙◌, slice_set}
-use Rattle.queue_steps.proofs.ChainLemmas.{last_has_room, set_last, one_block_or_more}
+use Rattle.queue_steps.proofs.UnboundedLemmas.{last_has_room, set_last, one_block_or_more}
 use Rattle.queue_steps.proofs.unbounded.push_onto_last.Goals as goal
 
 pub push-requires : goal.push-requires

@@ -1,7 +1,7 @@
 use Rattle.std.proofs.Common.{subst, sym, ap, ◌∙◌, Some, ℕ}
-use Rattle.queue_steps.specs.RingAtRest.{AreFresh}
+use Rattle.queue_steps.specs.BoundedAtRest.{AreFresh}
 use Rattle.queue_steps.specs.ClosableQueue.{new_queue}
-use Rattle.queue_steps.proofs.RingFresh.{fresh_rests, fresh_queue}
+use Rattle.queue_steps.proofs.BoundedFresh.{fresh_rests, fresh_queue}
 use Rattle.queue_steps.proofs.bounded.Bounded.new.Goals as goal
 
 pub invariant_of-result : goal.invariant_of-result

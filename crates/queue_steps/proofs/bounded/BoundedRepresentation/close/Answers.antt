@@ -1,8 +1,8 @@
 use Rattle.std.proofs.Common.{not, ap, sym, arith}
-use Rattle.queue_steps.specs.Ring.{is_marked}
-use Rattle.queue_steps.proofs.RingWords.{word_fits}
-use Rattle.queue_steps.proofs.RingFinds.{tail_count, opens}
-use Rattle.queue_steps.proofs.RingRests.{shuts, queue_shuts}
+use Rattle.queue_steps.specs.Bounded.{is_marked}
+use Rattle.queue_steps.proofs.BoundedWords.{word_fits}
+use Rattle.queue_steps.proofs.BoundedFinds.{tail_count, opens}
+use Rattle.queue_steps.proofs.BoundedRests.{shuts, queue_shuts}
 use Rattle.queue_steps.proofs.bounded.BoundedRepresentation.close.Goals as goal
 
 pub overflow_add-self : goal.overflow_add-self

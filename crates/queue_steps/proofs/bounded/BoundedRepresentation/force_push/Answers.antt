@@ -1,6 +1,6 @@
 use Rattle.std.proofs.Common.{refl, inr, arith}
-use Rattle.queue_steps.proofs.RingWords.{word_fits}
-use Rattle.queue_steps.proofs.RingRests.{tail_place, head_place, appends, queue_appends, accepts, nothing_there, full, shuts, queue_shuts, last_item, displaces, items_displaced, queue_displaces}
+use Rattle.queue_steps.proofs.BoundedWords.{word_fits}
+use Rattle.queue_steps.proofs.BoundedRests.{tail_place, head_place, appends, queue_appends, accepts, nothing_there, full, shuts, queue_shuts, last_item, displaces, items_displaced, queue_displaces}
 use Rattle.queue_steps.proofs.bounded.BoundedRepresentation.force_push.Goals as goal
 
 pub append-requires-clause-place : goal.append-requires-clause-place

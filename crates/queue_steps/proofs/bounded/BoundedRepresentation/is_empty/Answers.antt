@@ -1,6 +1,6 @@
 use Rattle.std.proofs.Common.{◌==◌, ◌||◌, ◌+◌, ap, refl, ◌∙◌}
-use Rattle.queue_steps.specs.RingTurns.{is_empty_turn}
-use Rattle.queue_steps.proofs.RingRests.{empty_by}
+use Rattle.queue_steps.specs.BoundedTurns.{is_empty_turn}
+use Rattle.queue_steps.proofs.BoundedRests.{empty_by}
 use Rattle.queue_steps.proofs.bounded.BoundedRepresentation.is_empty.Goals as goal
 
 pub returns : goal.returns

@@ -1,6 +1,6 @@
 use Rattle.std.proofs.Common.{◌==◌, ◌||◌, ◌+◌, ◌*◌, ap, refl, ◌∙◌}
-use Rattle.queue_steps.specs.RingTurns.{is_full_turn}
-use Rattle.queue_steps.proofs.RingRests.{full_by}
+use Rattle.queue_steps.specs.BoundedTurns.{is_full_turn}
+use Rattle.queue_steps.proofs.BoundedRests.{full_by}
 use Rattle.queue_steps.proofs.bounded.BoundedRepresentation.is_full.Goals as goal
 
 pub returns : goal.returns

@@ -1,9 +1,9 @@
 use Rattle.std.proofs.Common.{◌-◌, if◌then◌else◌, Bool, ap, sym, refl, ◌∙◌, eq-eqb}
 use Rattle.queue_steps.specs.declared.steps.bounded.Turn.TheVariants.{HeadFor, End}
 use Rattle.queue_steps.specs.declared.steps.Reply.TheVariants.{Length}
-use Rattle.queue_steps.specs.Ring.{count_at}
-use Rattle.queue_steps.specs.RingTurns.{len_turn}
-use Rattle.queue_steps.proofs.RingRests.{length_queue}
+use Rattle.queue_steps.specs.Bounded.{count_at}
+use Rattle.queue_steps.specs.BoundedTurns.{len_turn}
+use Rattle.queue_steps.proofs.BoundedRests.{length_queue}
 use Rattle.queue_steps.proofs.bounded.BoundedRepresentation.len.Goals as goal
 
 pub returns : goal.returns

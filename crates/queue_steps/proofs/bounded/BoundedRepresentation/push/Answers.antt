@@ -1,26 +1,34 @@
-use Rattle.std.proofs.Common.{refl, inr, arith}
-use Rattle.queue_steps.proofs.RingWords.{word_fits}
-use Rattle.queue_steps.proofs.RingRests.{tail_place, appends, queue_appends, accepts, full, roomy, shuts, queue_shuts}
+use Rattle.std.proofs.Common.{refl, inr, sym, ◌∙◌, arith}
+use Rattle.std.proofs.lemmas.Option.{none-some}
+use Rattle.queue_steps.proofs.BoundedWords.{word_fits}
+use Rattle.queue_steps.proofs.BoundedRests.{tail_place, appends, queue_appends, nothing_there, accepts, full, roomy, shuts, queue_shuts}
 use Rattle.queue_steps.proofs.bounded.BoundedRepresentation.push.Goals as goal
 
-pub append-empty-requires-clause-place : goal.append-empty-requires-clause-place
-append-empty-requires-clause-place g c =
+pub append-requires-clause-place : goal.append-requires-clause-place
+append-requires-clause-place g c =
     let a = c.self.inside in let e = c.in-Append.ensures in
     tail_place a.shape.capacity a.shape.mark a.tail a.head a.slots.items a.shape.sound c.self.invariant e.3
 
 pub invariant_of-self : goal.invariant_of-self
 invariant_of-self g c =
     let a = c.self.inside in let e = c.in-Append.ensures in
-    rw (c.append-empty.ensures.tail, c.append-empty.ensures.slots)
+    rw (c.append.ensures.tail, c.append.ensures.slots)
     (appends a.shape.capacity a.shape.mark a.tail a.head a.slots.items a.shape.sound c.self.invariant c.args.value e.1 e.2 e.3)
 
-pub returns-in-Append : goal.returns-in-Append
-returns-in-Append g c =
+pub returns-in-None : goal.returns-in-None
+returns-in-None g c =
     let a = c.self.inside in let e = c.in-Append.ensures in
-    rw (← c.self.view_is, c.append-empty.ensures.tail, c.append-empty.ensures.slots) (
+    rw (← c.self.view_is, c.append.ensures.tail, c.append.ensures.slots) (
       accepts a.shape.capacity a.shape.mark a.tail a.head a.slots.items a.shape.sound c.self.invariant e.1 e.2 e.3,
       queue_appends a.shape.capacity a.shape.mark a.tail a.head a.slots.items a.shape.sound c.self.invariant c.args.value e.1 e.2,
     )
+
+-- the place had no item
+pub unreachable-requires : goal.unreachable-requires
+unreachable-requires g c =
+    let a = c.self.inside in let e = c.in-Append.ensures in
+    let nothing = nothing_there a.shape.capacity a.shape.mark a.tail a.head a.slots.items a.shape.sound c.self.invariant e.1 e.2 in
+    none-some c.in-Some.field-0 (sym nothing ∙ sym c.append.ensures.old ∙ c.in-Some.is)
 
 pub overflow_add-self : goal.overflow_add-self
 overflow_add-self g c =

@@ -1,5 +1,5 @@
 use Rattle.std.proofs.Common.{sym, ◌∙◌}
-use Rattle.queue_steps.proofs.ChainLemmas.{append_is, link_is, blocks_there, rests_appended, rests_linked, queue_appended, queue_linked}
+use Rattle.queue_steps.proofs.UnboundedLemmas.{append_is, link_is, blocks_there, rests_appended, rests_linked, queue_appended, queue_linked}
 use Rattle.queue_steps.proofs.unbounded.UnboundedRepresentation.push.Goals as goal
 
 pub push_onto_last-requires : goal.push_onto_last-requires

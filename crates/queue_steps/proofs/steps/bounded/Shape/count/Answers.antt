@@ -1,5 +1,5 @@
 use Rattle.std.proofs.Common.{arith}
-use Rattle.queue_steps.proofs.RingMasks.{bits_few}
+use Rattle.queue_steps.proofs.BoundedMasks.{bits_few}
 use Rattle.queue_steps.proofs.steps.bounded.Shape.count.Goals as goal
 
 pub overflow_add-result : goal.overflow_add-result

@@ -1,4 +1,4 @@
-use Rattle.queue_steps.proofs.RingMasks.{mark_masks}
+use Rattle.queue_steps.proofs.BoundedMasks.{mark_masks}
 use Rattle.queue_steps.proofs.steps.bounded.Shape.is_marked.Goals as goal
 
 pub returns : goal.returns

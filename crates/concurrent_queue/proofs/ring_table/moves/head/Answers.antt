@@ -1,6 +1,0 @@
-use Rattle.std.proofs.Common.{rules}
-use Rattle.concurrent_queue.proofs.RingKeeps.{sees_head}
-use Rattle.concurrent_queue.proofs.ring_table.moves.head.Goals as goal
-
-pub load-requires : goal.load-requires
-load-requires g c = (search rules, search rules, sees_head _ _ _ _ _ _)

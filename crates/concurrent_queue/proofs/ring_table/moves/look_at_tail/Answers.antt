@@ -1,6 +1,0 @@
-use Rattle.std.proofs.Common.{rules}
-use Rattle.concurrent_queue.proofs.RingKeeps.{looks_at_tail}
-use Rattle.concurrent_queue.proofs.ring_table.moves.look_at_tail.Goals as goal
-
-pub load-requires : goal.load-requires
-load-requires g c = (search rules, search rules, looks_at_tail _ _ _ _ _)

@@ -1,6 +1,0 @@
-use Rattle.std.proofs.Common.{rules}
-use Rattle.concurrent_queue.proofs.RingKeeps.{spends}
-use Rattle.concurrent_queue.proofs.ring_table.moves.spend.Goals as goal
-
-pub compare_exchange-requires : goal.compare_exchange-requires
-compare_exchange-requires g c = (search rules, search rules, spends _ _ _ _ _ _ _ c.requires.seen.0 c.requires.seen.1)

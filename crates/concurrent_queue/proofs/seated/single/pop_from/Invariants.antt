@@ -1,9 +1,0 @@
-use Rattle.std.proofs.Common.{◌≡◌}
-use Rattle.queue_steps.specs.declared.steps.single.Turn.TheVariants.{Look}
-use Rattle.concurrent_queue.specs.Answered.{turns}
-use Rattle.queue_steps.specs.SingleTurns.{pop_turn}
-use Rattle.concurrent_queue.specs.SlotSeat.{IsSameSeat, IsPopTurn}
-use Rattle.concurrent_queue.proofs.seated.single.pop_from.Given as goal
-
-abbrev pub invariant-loop : goal.invariant-loop
-invariant-loop g l = IsSameSeat l.initial.pass l.pass × (l.turn ≡ turns pop_turn Look l.pass.me.0.found) × IsPopTurn l.turn

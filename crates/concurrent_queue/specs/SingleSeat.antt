@@ -1,0 +1,54 @@
+-- What a clause says of a seat at a single slot, and how a call stands between two steps.
+use Rattle.std.specs.Prelude.{◌≡◌, ◌+◌, ◌%◌, ◌<◌, true, [], Option}
+use Rattle.atomic_table.specs.declared.shared.Seat.{Seat}
+use Rattle.atomic_table.specs.declared.shared.Shared.{Shared}
+use Rattle.concurrent_queue.specs.declared.single.rule.Doing.{Doing}
+use Rattle.queue_steps.specs.declared.steps.single.Turn.{Turn}
+use Rattle.queue_steps.specs.declared.steps.single.Turn.TheVariants.{Look, Exchange, Unlock, Close, End}
+use Rattle.queue_steps.specs.declared.steps.Reply.{Reply}
+use Rattle.queue_steps.specs.declared.steps.Reply.TheVariants.{Full, Empty, Closed}
+
+module _ {T K P : Type 0} where
+  -- it is a seat of this table of one word and one slot, and has no slot
+  abbrev pub IsSeatOf : Shared (Option T) Doing K P → Seat (Option T) Doing → Type 0
+  IsSeatOf board seat =
+      (seat.table_id ≡ board.table_id) × (board.table_id.words ≡ 1) × (board.table_id.slots ≡ 1) × (seat.me.1 ≡ [])
+
+-- it still has no slot, and has forgotten no close
+abbrev pub IsSameSeat : {T : Type 0} → Seat (Option T) Doing → Seat (Option T) Doing → Type 0
+IsSameSeat old new =
+    (new.table_id ≡ old.table_id) × (new.id ≡ old.id) × (new.me.1 ≡ []) × (old.me.0.closed ≡ true → new.me.0.closed ≡ true)
+
+abbrev pub IsRefusalToPush : Reply → Type 0
+IsRefusalToPush Full = Unit {0}
+IsRefusalToPush Closed = Unit {0}
+IsRefusalToPush _ = ⊥
+
+-- a push that has not ended exchanges an open and empty word, or looks again
+abbrev pub IsPushTurn : Turn → Type 0
+IsPushTurn Look = Unit {0}
+IsPushTurn (Exchange old new) = (old ≡ 0) × (new ≡ 3)
+IsPushTurn (Unlock reply) = ⊥
+IsPushTurn Close = ⊥
+IsPushTurn (End reply) = IsRefusalToPush reply
+
+-- a forced push that has not ended exchanges an open word that is not locked, or looks again
+abbrev pub IsForcePushTurn : Turn → Type 0
+IsForcePushTurn Look = Unit {0}
+IsForcePushTurn (Exchange old new) = (old < 4) × (old % 2 ≡ 0) × (new ≡ 3)
+IsForcePushTurn (Unlock reply) = ⊥
+IsForcePushTurn Close = ⊥
+IsForcePushTurn (End reply) = reply ≡ Closed
+
+abbrev pub IsRefusalToPop : Reply → Type 0
+IsRefusalToPop Empty = Unit {0}
+IsRefusalToPop Closed = Unit {0}
+IsRefusalToPop _ = ⊥
+
+-- a pop that has not ended exchanges a word with an item and no lock, or looks again
+abbrev pub IsPopTurn : Turn → Type 0
+IsPopTurn Look = Unit {0}
+IsPopTurn (Exchange old new) = (old % 4 ≡ 2) × (new + 1 ≡ old)
+IsPopTurn (Unlock reply) = ⊥
+IsPopTurn Close = ⊥
+IsPopTurn (End reply) = IsRefusalToPop reply

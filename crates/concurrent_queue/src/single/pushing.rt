@@ -1,0 +1,135 @@
+//! `push` and `force_push` on a single slot.
+ghost use Rattle.std.specs.Prelude.{◌≡◌, ◌≢◌, true, MatchResult, IsErr};
+ghost use Rattle.queue_steps.specs.declared.steps.Reply.{Reply};
+ghost use Rattle.queue_steps.specs.declared.steps.Reply.TheVariants.{Done};
+ghost use Rattle.queue_steps.specs.declared.steps.single.Turn.TheVariants.{Look, End};
+ghost use Rattle.concurrent_queue.specs.Answered.{turns, PushSays, ForcePushSays};
+ghost use Rattle.queue_steps.specs.SingleTurns.{push_turn, force_push_turn};
+ghost use Rattle.concurrent_queue.specs.SingleSeat.{IsSeatOf, IsSameSeat, IsRefusalToPush, IsPushTurn};
+
+use crate::single::moves::{self, Board, Pass};
+use crossbeam_utils::Backoff;
+use queue_steps::steps::Reply;
+use queue_steps::steps::single::{self as steps, Turn};
+use queue_steps::{ForcePushError, PushError};
+use std::sync::Wait;
+
+// A push, from where it stands. Or the reply that refused it, and the value.
+#[inline(never)]
+fn push_from<T, R: Wait>(
+    rt: &R,
+    board: &Board<T>,
+    pass: &mut Pass<T>,
+    turn: Turn,
+    value: T,
+) -> Result<(), (Reply, T)>
+    requires seat { IsSeatOf board.now pass.old }
+    requires stands { (turn ≡ turns push_turn Look pass.old.me.0.found) × IsPushTurn turn }
+    ensures same { IsSameSeat pass.old pass.new }
+    ensures made { MatchResult result (λ _. (pass.old.me.0.closed ≢ true) × (turns push_turn Look pass.new.me.0.found ≡ End Done)) (λ e. IsRefusalToPush e.0 × (e.1 ≡ value) × (turns push_turn Look pass.new.me.0.found ≡ End e.0)) }
+{
+    let backoff = Backoff::new();
+    let mut value = value;
+    let mut turn = turn;
+    for _ in rt.forever() {
+        match turn {
+            Turn::Exchange(old, new) => match moves::write(board, pass, old, new, value) {
+                Ok((held, _last)) => match held {
+                    None => return Ok(()),
+                    Some(_) => unreachable!(),
+                },
+                Err((found, back)) => {
+                    value = back;
+                    turn = steps::push(turn, found);
+                }
+            },
+            Turn::Look => {
+                backoff.snooze();
+                turn = steps::push(turn, moves::look(board, pass));
+            }
+            Turn::End(reply) => return Err((reply, value)),
+            _ => unreachable!(),
+        }
+    }
+    unreachable!()
+}
+
+// The first turns of a push, which are all on an empty slot where no other call comes between. Or else where it stands
+// then, and the value.
+#[inline(always)]
+fn push_at_once<T>(board: &Board<T>, pass: &mut Pass<T>, value: T) -> Result<(), (Turn, T)>
+    requires { IsSeatOf board.now pass.old }
+    ensures same { IsSameSeat pass.old pass.new }
+    ensures made { MatchResult result (λ _. (pass.old.me.0.closed ≢ true) × (turns push_turn Look pass.new.me.0.found ≡ End Done)) (λ e. (e.1 ≡ value) × (e.0 ≡ turns push_turn Look pass.new.me.0.found) × IsPushTurn e.0) }
+{
+    let turn = steps::push(Turn::Look, moves::begin(board, pass));
+    let Turn::Exchange(old, new) = turn else {
+        return Err((turn, value));
+    };
+    match moves::write(board, pass, old, new, value) {
+        Ok((held, _last)) => match held {
+            None => Ok(()),
+            Some(_) => unreachable!(),
+        },
+        Err((found, back)) => Err((steps::push(turn, found), back)),
+    }
+}
+
+/// Appends a value, or gives it back. It waits while a pop is reading.
+#[inline(always)]
+pub fn push<T, R: Wait>(
+    rt: &R,
+    board: &Board<T>,
+    pass: &mut Pass<T>,
+    value: T,
+) -> Result<(), PushError<T>>
+    requires { IsSeatOf board.now pass.old }
+    ensures same { IsSameSeat pass.old pass.new }
+    ensures answers { (reply : Reply) × (turns push_turn Look pass.new.me.0.found ≡ End reply) × PushSays value reply result }
+    ensures stays_closed { pass.old.me.0.closed ≡ true → IsErr result }
+{
+    let (turn, value) = match push_at_once(board, pass, value) {
+        Ok(()) => return Ok(()),
+        Err(left) => left,
+    };
+    match push_from(rt, board, pass, turn, value) {
+        Ok(()) => Ok(()),
+        Err((Reply::Full, back)) => Err(PushError::Full(back)),
+        Err((_, back)) => Err(PushError::Closed(back)),
+    }
+}
+
+/// Appends a value, and gives out the item that it displaced on a full slot. Or it gives the value back.
+pub fn force_push<T, R: Wait>(
+    rt: &R,
+    board: &Board<T>,
+    pass: &mut Pass<T>,
+    value: T,
+) -> Result<Option<T>, ForcePushError<T>>
+    requires { IsSeatOf board.now pass.old }
+    ensures same { IsSameSeat pass.old pass.new }
+    ensures answers { (reply : Reply) × (turns force_push_turn Look pass.new.me.0.found ≡ End reply) × ForcePushSays value reply result }
+    ensures stays_closed { pass.old.me.0.closed ≡ true → IsErr result }
+{
+    let backoff = Backoff::new();
+    let mut value = value;
+    let mut turn = steps::force_push(Turn::Look, moves::begin(board, pass));
+    for _ in rt.forever() {
+        match turn {
+            Turn::Exchange(old, new) => match moves::write(board, pass, old, new, value) {
+                Ok((held, _last)) => return Ok(held),
+                Err((found, back)) => {
+                    value = back;
+                    turn = steps::force_push(turn, found);
+                }
+            },
+            Turn::Look => {
+                backoff.snooze();
+                turn = steps::force_push(turn, moves::look(board, pass));
+            }
+            Turn::End(Reply::Closed) => return Err(ForcePushError::Closed(value)),
+            _ => unreachable!(),
+        }
+    }
+    unreachable!()
+}

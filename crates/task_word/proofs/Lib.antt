@@ -1,5 +1,9 @@
 pub mod Packs
 pub mod Views
+pub mod Bodies
 pub mod Keeps
+pub mod Stepping
 pub mod Moving
+pub mod Running
 pub mod Closing
+pub mod Making

@@ -1,5 +1,5 @@
 -- What each kind of step tells, and what a seat has.
-use Rattle.std.specs.Prelude.{◌≡◌, ◌≢◌, ℕ, ◌+◌, ◌-◌, ◌≤◌, List, [], ◌∷◌, Bool, true, false, ◌||◌, Option, Some, None}
+use Rattle.std.specs.Prelude.{◌≡◌, ◌≢◌, ℕ, ◌+◌, ◌≤◌, List, [], ◌∷◌, Bool, true, false, ◌&&◌, ◌||◌, Option, Some, None, ◌==◌, not}
 use Rattle.atomic_table.specs.Table.{Me, rest}
 use Rattle.atomic_table.specs.declared.shared.Seat.{Seat}
 use Rattle.atomic_table.specs.declared.shared.Shared.{Shared}
@@ -7,184 +7,211 @@ use Rattle.task_moves.specs.declared.moves.state.State.{State}
 use Rattle.task_moves.specs.declared.moves.owed.Moved.{Moved}
 use Rattle.task_moves.specs.declared.moves.owed.Owed.{Owed}
 use Rattle.task_moves.specs.declared.moves.owed.Answer.{Answer}
+use Rattle.task_moves.specs.declared.moves.owed.Answer.TheVariants.{Refused}
 use Rattle.task_moves.specs.declared.moves.owed.Move.{Move}
 use Rattle.task_moves.specs.declared.schedule_info.ScheduleInfo.{ScheduleInfo}
 use Rattle.task_moves.specs.Moves as moves
 use Rattle.task_word.specs.declared.rule.View.{View}
-use Rattle.task_word.specs.declared.rule.Right.{Right}
-use Rattle.task_word.specs.declared.rule.Right.TheVariants.{Queued, Running, Closing, Ending, Filling}
+use Rattle.task_word.specs.declared.rule.Hold.{Hold}
+use Rattle.task_word.specs.declared.rule.Hold.TheVariants.{Nothing, Reference, Leaving, Handle, Made, Queued, Running, Closing, Ending, Filling, Spending, Registering, HandleNotifying, RunNotifying, Emptying}
+use Rattle.task_word.specs.declared.rule.Content.TheVariants.{Future, Output, Awaiter}
 use Rattle.task_word.specs.Word.{pack}
-use Rattle.task_word.specs.Cell.{most, FitsRight}
+use Rattle.task_word.specs.Cell.{most, weight, filling, Slot}
 
-abbrev pub view : Option Right → ℕ → ℕ → ℕ → View
-view right references found left = record { right = right; references = references; found = found; left = left }
+abbrev pub view : Hold → ℕ → ℕ → View
+view hold found left = record { hold = hold; found = found; left = left }
 
-abbrev pub Known : Type 0 → Type 0
-Known F = Me (Option F) View
+abbrev pub Known : Type 0 → Type 0 → Type 0 → Type 0
+Known F T W = Me (Slot F T W) View
 
 -- the step of a call is this move: by the word that it found and the word that it left, and by what is owed
 abbrev pub Makes : (State → Moved) → View → Owed → Type 0
 Makes move v owed = (st : State) × (rests : Bool) × (v.found ≡ pack st rests) × (v.left ≡ pack (move st).state rests) × (owed ≡ (move st).owed)
 
--- nobody can reach the task any more, and its future is gone
-abbrev pub IsOver : State → Type 0
-IsOver s = (s.references ≡ 0) × (s.scheduled ≡ false) × (s.running ≡ false) × (s.completed || s.closed ≡ true)
-
--- the state of a cell that is taken for a task, but has none yet
-abbrev pub filling : State
-filling = record moves.made { closed = true; handle = false }
-
 -- the state of a new task that is detached
 abbrev pub detached : State
 detached = (moves.detach moves.made).state
 
--- the word is that of such a task, whatever the count
-abbrev pub IsMade : ℕ → Type 0
-IsMade word = (n : ℕ) × (word ≡ pack (record detached { references = n }) false)
+-- a copy, where somebody can reach the task: nobody has a waker of it else
+abbrev pub copy_by : Bool → State → Moved
+copy_by true s = moves.moved s (record moves.nothing { answer = Some Refused })
+copy_by false s = moves.copy s
 
--- the references that a view stands for
-abbrev pub has : Option Right → ℕ
-has None = 0
-has (Some right) = 1
+abbrev pub is_dead : State → Bool
+is_dead s = (s.references == 0) && not s.handle
+
+abbrev pub copy : State → Moved
+copy s = copy_by (is_dead s) s
+
+-- nobody can reach the task any more
+abbrev pub IsDead : State → Type 0
+IsDead s = (s.references ≡ 0) × (s.handle ≡ false)
+
+-- and nothing of it is left
+abbrev pub IsOver : State → Type 0
+IsOver s = IsDead s × (s.scheduled ≡ false) × (s.running ≡ false) × (s.closed ≡ true) × (s.awaiter ≡ false)
 
 -- what the word shows a seat by its own view
-abbrev pub Shows : Option Right → State → Type 0
-Shows None s = Unit {0}
-Shows (Some right) s = FitsRight right s
-
 abbrev pub Sees : View → ℕ → Type 0
-Sees v n = (st : State) (rests : Bool) → n ≡ pack st rests → (v.references + has v.right ≤ st.references) × (st.references ≤ most + 1) × Shows v.right st
+Sees v n = (st : State) (rests : Bool) → n ≡ pack st rests → (weight v.hold ≤ st.references) × (st.references ≤ most + 1)
 
-module _ {F : Type 0} where
-  -- a seat with this right, these references and these slots
-  abbrev pub Is : Option Right → ℕ → List (ℕ × Option F) → Known F → Type 0
-  Is right references slots m = (m.0.right ≡ right) × (m.0.references ≡ references) × (m.1 ≡ slots)
+-- an awaiter is left in a cell that is emptied
+abbrev pub leaves_awaiter : Moved → Bool
+leaves_awaiter mv = mv.owed.empty_cell && mv.state.awaiter
 
-  abbrev pub keeps_all : Known F → Known F → Type 0
-  keeps_all m m' = Is m.0.right m.0.references m.1 m'
+module _ {F T W : Type 0} where
+  -- a seat with this, and these slots
+  abbrev pub Is : Hold → List (ℕ × Slot F T W) → Known F T W → Type 0
+  Is hold slots m = (m.0.hold ≡ hold) × (m.1 ≡ slots)
 
-  abbrev pub Logs : ℕ → ℕ → Known F → Type 0
+  abbrev pub keeps_all : Known F T W → Known F T W → Type 0
+  keeps_all m m' = Is m.0.hold m.1 m'
+
+  abbrev pub Logs : ℕ → ℕ → Known F T W → Type 0
   Logs found left m = (m.0.found ≡ found) × (m.0.left ≡ left)
 
-  abbrev pub arrived : Known F → Type 0
-  arrived m' = Is None 0 [] m'
+  -- with the future's slot as well
+  abbrev pub WithFuture : Hold → List (ℕ × Slot F T W) → Known F T W → Type 0
+  WithFuture hold slots m = (f : F) × Is hold ((0, Some (Future f)) ∷ slots) m
+
+  abbrev pub arrived : Known F T W → Type 0
+  arrived m' = Is Nothing [] m'
 
   -- a load
-  abbrev pub looked : Known F → ℕ → Known F → Type 0
+  abbrev pub looked : Known F T W → ℕ → Known F T W → Type 0
   looked m n m' = keeps_all m m' × Logs n n m' × Sees m.0 n
 
   -- a load after which a closed task is closed for the seat
-  abbrev pub turns : Right → Bool → Known F → Known F → Type 0
-  turns right true m m' = Is (Some right) m.0.references m.1 m'
-  turns right false m m' = keeps_all m m'
+  abbrev pub turns : Bool → (Known F T W → Known F T W → Type 0) → Known F T W → Known F T W → Type 0
+  turns true turn m m' = turn m m'
+  turns false turn m m' = keeps_all m m'
 
-  abbrev pub looked_up : Right → Known F → ℕ → Known F → Type 0
-  looked_up right m n m' = ((st : State) (rests : Bool) → n ≡ pack st rests → turns right st.closed m m') × Logs n n m' × Sees m.0 n
+  abbrev pub looked_by : (Known F T W → Known F T W → Type 0) → Known F T W → ℕ → Known F T W → Type 0
+  looked_by turn m n m' = ((st : State) (rests : Bool) → n ≡ pack st rests → turns st.closed turn m m') × Logs n n m' × Sees m.0 n
+
+  abbrev pub turned_up : Known F T W → Known F T W → Type 0
+  turned_up m m' = WithFuture Closing m.1 m'
+
+  abbrev pub turned_back : Known F T W → Known F T W → Type 0
+  turned_back m m' = Is Ending m.1 m'
 
   -- an exchange of `old` for `new` that makes a move
-  abbrev pub Won : (State → Moved) → (Owed → Known F → Known F → Type 0) → ℕ → ℕ → Known F → Known F → Type 0
-  Won move effect old new m m' = ((st : State) (rests : Bool) → old ≡ pack st rests → (new ≡ pack (move st).state rests) × effect (move st).owed m m') × Logs old new m'
+  abbrev pub Won : (State → Moved) → (Moved → Known F T W → Known F T W → Type 0) → ℕ → ℕ → Known F T W → Known F T W → Type 0
+  Won move effect old new m m' = ((st : State) (rests : Bool) → old ≡ pack st rests → (new ≡ pack (move st).state rests) × effect (move st) m m') × Logs old new m'
 
-  abbrev pub tries : (State → Moved) → (Owed → Known F → Known F → Type 0) → ℕ → ℕ → Known F → ℕ → Known F → Type 0
+  abbrev pub tries : (State → Moved) → (Moved → Known F T W → Known F T W → Type 0) → ℕ → ℕ → Known F T W → ℕ → Known F T W → Type 0
   tries move effect old new m n m' = (n ≡ old → Won move effect old new m m') × (n ≢ old → keeps_all m m' × Logs n n m')
 
-  -- the right to the future, where a Runnable is owed
-  abbrev pub queues : Option ScheduleInfo → ℕ → Known F → Known F → Type 0
-  queues (Some info) references m m' = (f : F) × Is (Some Queued) references ((0, Some f) ∷ m.1) m'
-  queues None references m m' = Is m.0.right references m.1 m'
+  -- a Runnable, where one is owed
+  abbrev pub queues : Option ScheduleInfo → Known F T W → Known F T W → Type 0
+  queues (Some info) m m' = Is Queued m.1 m'
+  queues None m m' = keeps_all m m'
 
-  abbrev pub woken : Owed → Known F → Known F → Type 0
-  woken owed m m' = queues owed.schedule m.0.references m m'
+  abbrev pub woken : Moved → Known F T W → Known F T W → Type 0
+  woken mv m m' = queues mv.owed.schedule m m'
 
-  abbrev pub released : Owed → Known F → Known F → Type 0
-  released owed m m' = queues owed.schedule (m.0.references - 1) m m'
+  -- a Runnable, where one is owed; the awaiter that is left in a cell that is emptied; or nothing
+  abbrev pub leaves : Option ScheduleInfo → Bool → List (ℕ × Slot F T W) → Known F T W → Type 0
+  leaves (Some info) awaiter slots m' = Is Queued slots m'
+  leaves None true slots m' = (w : W) × Is Emptying ((1, Some (Awaiter w)) ∷ slots) m'
+  leaves None false slots m' = Is Nothing slots m'
 
-  abbrev pub copied : Owed → Known F → Known F → Type 0
-  copied owed m m' = Is m.0.right (m.0.references + 1) m.1 m'
+  abbrev pub released : Moved → Known F T W → Known F T W → Type 0
+  released mv m m' = leaves mv.owed.schedule (leaves_awaiter mv) m.1 m'
 
-  abbrev pub given_up : Owed → Known F → Known F → Type 0
-  given_up owed m m' = Is m.0.right (m.0.references - 1) m.1 m'
+  abbrev pub copied : Moved → Known F T W → Known F T W → Type 0
+  copied mv m m' = Is Reference m.1 m'
 
-  abbrev pub began : Owed → Known F → Known F → Type 0
-  began owed m m' = Is (Some Running) m.0.references m.1 m'
+  abbrev pub began : Moved → Known F T W → Known F T W → Type 0
+  began mv m m' = WithFuture Running m.1 m'
 
   -- the future is to be dropped
-  abbrev pub dropped : Owed → Known F → Known F → Type 0
-  dropped owed m m' = Is (Some Closing) m.0.references m.1 m'
+  abbrev pub dropped : Moved → Known F T W → Known F T W → Type 0
+  dropped mv m m' = WithFuture Closing m.1 m'
 
-  -- the slot goes home empty, and the reference of the right is left
-  abbrev pub ended : Owed → Known F → Known F → Type 0
-  ended owed m m' = Is None (m.0.references + 1) (rest m.1) m'
+  -- the slot goes home, and the reference of the right is left
+  abbrev pub ended : Moved → Known F T W → Known F T W → Type 0
+  ended mv m m' = Is Leaving (rest m.1) m'
 
-  -- the right and its reference stay for a Runnable, or go
-  abbrev pub paused_by : Option ScheduleInfo → Known F → Known F → Type 0
-  paused_by (Some info) m m' = Is (Some Queued) m.0.references m.1 m'
-  paused_by None m m' = Is None m.0.references (rest m.1) m'
-
-  abbrev pub paused : Owed → Known F → Known F → Type 0
-  paused owed m m' = paused_by owed.schedule m m'
+  -- the slot goes home, and the Runnable or nothing is left
+  abbrev pub paused : Moved → Known F T W → Known F T W → Type 0
+  paused mv m m' = leaves mv.owed.schedule (leaves_awaiter mv) (rest m.1) m'
 
   -- an exchange that makes no move
-  abbrev pub swapped : (Known F → Known F → Type 0) → ℕ → ℕ → Known F → ℕ → Known F → Type 0
+  abbrev pub swapped : (Known F T W → Known F T W → Type 0) → ℕ → ℕ → Known F T W → ℕ → Known F T W → Type 0
   swapped effect old new m n m' = (n ≡ old → effect m m' × Logs old new m') × (n ≢ old → keeps_all m m' × Logs n n m')
 
-  abbrev pub reserved : Known F → Known F → Type 0
-  reserved m m' = Is (Some Filling) m.0.references ((0, None) ∷ m.1) m'
+  abbrev pub reserved : Known F T W → Known F T W → Type 0
+  reserved m m' = Is Filling ((0, None) ∷ m.1) m'
 
-  abbrev pub filled : Known F → Known F → Type 0
-  filled m m' = Is (Some Queued) m.0.references m.1 m'
+  abbrev pub filled : ℕ → Known F T W → Known F T W → Type 0
+  filled new m m' = Is Made (rest m.1) m' × Logs (pack filling false) new m'
 
-  abbrev pub rested : Known F → Known F → Type 0
-  rested m m' = Is None m.0.references (rest m.1) m'
+  abbrev pub filled_detached : ℕ → Known F T W → Known F T W → Type 0
+  filled_detached new m m' = Is Queued (rest m.1) m' × Logs (pack filling false) new m'
 
-  abbrev pub resumed : Known F → Known F → Type 0
-  resumed m m' = (f : F) × Is (Some Queued) m.0.references ((0, Some f) ∷ m.1) m'
+  abbrev pub rested : Known F T W → Known F T W → Type 0
+  rested m m' = Is Nothing m.1 m'
 
-module _ {F K P : Type 0} where
-  abbrev pub IsSeatOf : Shared (Option F) View K P → Seat (Option F) View → Type 0
-  IsSeatOf board seat = (seat.table_id ≡ board.table_id) × (board.table_id.words ≡ 2) × (board.table_id.slots ≡ 1)
+  abbrev pub resumed : Known F T W → Known F T W → Type 0
+  resumed m m' = Is Queued m.1 m'
 
-abbrev pub IsSameSeat : {F : Type 0} → Seat (Option F) View → Seat (Option F) View → Type 0
-IsSameSeat old new = (new.table_id ≡ old.table_id) × (new.id ≡ old.id)
+-- what the two seats have of a new task
+abbrev pub runnable_of : View → View
+runnable_of v = record v { hold = Queued }
 
-module _ {F : Type 0} where
-  -- neither a right nor a reference
-  abbrev pub HasNothing : Seat (Option F) View → Type 0
-  HasNothing seat = Is None 0 [] seat.me
+abbrev pub handle_of_new : View → View
+handle_of_new v = record v { hold = Handle }
 
-  -- a reference
-  abbrev pub HasOne : Seat (Option F) View → Type 0
-  HasOne seat = Is None 1 [] seat.me
+module _ {F T W K P : Type 0} where
+  abbrev pub IsSeatOf : Shared (Slot F T W) View K P → Seat (Slot F T W) View → Type 0
+  IsSeatOf board seat = (seat.table_id ≡ board.table_id) × (board.table_id.words ≡ 2) × (board.table_id.slots ≡ 2)
+
+module _ {F T W : Type 0} where
+  abbrev pub IsSameSeat : Seat (Slot F T W) View → Seat (Slot F T W) View → Type 0
+  IsSameSeat old new = (new.table_id ≡ old.table_id) × (new.id ≡ old.id)
+
+  -- this, and no slot
+  abbrev pub Has : Hold → Seat (Slot F T W) View → Type 0
+  Has hold seat = Is hold [] seat.me
 
   -- a right, with the future
-  abbrev pub HasFuture : Right → Seat (Option F) View → Type 0
-  HasFuture right seat = (f : F) × Is (Some right) 0 ((0, Some f) ∷ []) seat.me
+  abbrev pub HasFuture : Hold → Seat (Slot F T W) View → Type 0
+  HasFuture hold seat = WithFuture hold [] seat.me
 
   -- a right whose future was taken out
-  abbrev pub HasPlace : Right → Seat (Option F) View → Type 0
-  HasPlace right seat = Is (Some right) 0 ((0, None) ∷ []) seat.me
+  abbrev pub HasPlace : Hold → Seat (Slot F T W) View → Type 0
+  HasPlace hold seat = Is hold ((0, None) ∷ []) seat.me
 
   -- a Runnable, where one is owed
-  abbrev pub HasQueued : Option ScheduleInfo → Seat (Option F) View → Type 0
-  HasQueued (Some info) seat = HasFuture Queued seat
-  HasQueued None seat = HasNothing seat
+  abbrev pub HasQueued : Option ScheduleInfo → Seat (Slot F T W) View → Type 0
+  HasQueued (Some info) seat = Has Queued seat
+  HasQueued None seat = Has Nothing seat
+
+  -- a Runnable, where one is owed; or the awaiter that is left, where one is
+  abbrev pub HasLeft : Option ScheduleInfo → Bool → Seat (Slot F T W) View → Type 0
+  HasLeft schedule awaiter seat = leaves schedule awaiter [] seat.me
 
   -- the future is in the slot that the seat holds
-  abbrev pub HoldsFuture : Seat (Option F) View → Type 0
-  HoldsFuture seat = (f : F) × (seat.me.1 ≡ (0, Some f) ∷ [])
+  abbrev pub HoldsFuture : Seat (Slot F T W) View → Type 0
+  HoldsFuture seat = (f : F) × (seat.me.1 ≡ (0, Some (Future f)) ∷ [])
 
   -- a reference, unless it is refused
-  abbrev pub HasCopy : Option Answer → Seat (Option F) View → Type 0
-  HasCopy (Some answer) seat = HasNothing seat
-  HasCopy None seat = HasOne seat
+  abbrev pub HasCopy : Option Answer → Seat (Slot F T W) View → Type 0
+  HasCopy (Some answer) seat = Has Nothing seat
+  HasCopy None seat = Has Reference seat
 
   -- a poll, or a future that is to be dropped
-  abbrev pub TakenUp : Option Move → Seat (Option F) View → Type 0
+  abbrev pub TakenUp : Option Move → Seat (Slot F T W) View → Type 0
   TakenUp (Some next) seat = HasFuture Closing seat
   TakenUp None seat = HasFuture Running seat
 
-  -- a future that is to be dropped, or a Runnable where one is owed
-  abbrev pub Paused : Option Move → Option ScheduleInfo → Seat (Option F) View → Type 0
-  Paused (Some next) schedule seat = HasFuture Ending seat
-  Paused None (Some info) seat = HasFuture Queued seat
-  Paused None None seat = HasNothing seat
+  -- a future that is to be dropped; or a Runnable where one is owed, the awaiter that is left, or nothing
+  abbrev pub Paused : Option Move → Option ScheduleInfo → Bool → Seat (Slot F T W) View → Type 0
+  Paused (Some next) schedule awaiter seat = HasFuture Ending seat
+  Paused None schedule awaiter seat = HasLeft schedule awaiter seat
+
+-- the output comes back where it is to be dropped, and else stays in the cell
+abbrev pub IsHandedBack : {T : Type 0} → Bool → T → Option T → Type 0
+IsHandedBack true output back = back ≡ Some output
+IsHandedBack false output back = back ≡ None

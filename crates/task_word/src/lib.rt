@@ -1,4 +1,4 @@
-//! A task's state as one word of a table, with the future in a slot beside it.
+//! A task's state as one word of a table, with its future, its output and its awaiter in slots beside it.
 #![tactic(auto)]
 
 mod cell;
@@ -9,5 +9,5 @@ pub mod steps;
 
 pub use cell::Cell;
 pub use layout::{Word, decode, encode};
-pub use slot::{put_future, take_future};
+pub use slot::{put_future, put_output, take_future, take_output};
 pub use steps::{Board, Pass};

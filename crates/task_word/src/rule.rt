@@ -1,178 +1,222 @@
 //! What a seat knows of a task's cell, and the kinds of step. Each kind that changes the state ties the new word to the
 //! table of moves.
-ghost use Rattle.std.specs.Prelude.{None};
 ghost use Rattle.task_moves.specs.Moves as moves;
 ghost use Rattle.task_word.specs.Cell.{Cell};
-ghost use Rattle.task_word.specs.Steps.{view, arrived, looked, looked_up, tries, swapped};
-ghost use Rattle.task_word.specs.Steps.{woken, released, copied, given_up, began, ended, paused, dropped};
-ghost use Rattle.task_word.specs.Steps.{reserved, filled, rested, resumed};
-ghost use Rattle.task_word.specs.declared.rule.Right.TheVariants.{Closing, Ending};
+ghost use Rattle.task_word.specs.Steps as steps;
+ghost use Rattle.task_word.specs.Steps.{view, arrived, looked, looked_by, turned_up, turned_back, tries, swapped};
+ghost use Rattle.task_word.specs.Steps.{woken, released, copied, began, ended, paused, dropped};
+ghost use Rattle.task_word.specs.Steps.{reserved, filled, filled_detached, rested, resumed, runnable_of, handle_of_new};
+ghost use Rattle.task_word.specs.declared.rule.Hold.TheVariants.{Nothing};
 
-use atomic_table::{Play, TableRule};
+use atomic_table::{Play, Split, TableRule};
 
-/// Which right to the future a seat has. It has the future's slot too, and the reference of the Runnable or the run.
-pub enum Right {
-    /// A Runnable.
+/// What a slot has: a task's future or, once that is dropped, its output; or its awaiter.
+#[derive(Drop)]
+pub enum Content<F, T, W> {
+    Future(F),
+    Output(T),
+    Awaiter(W),
+}
+
+/// What a seat has of a task.
+pub enum Hold {
+    Nothing,
+    /// A waker.
+    Reference,
+    /// What is left of a run or a closing call whose future is gone: its reference.
+    Leaving,
+    /// The handle.
+    Handle,
+    /// A new task: its Runnable, and its handle.
+    Made,
+    /// A Runnable, with a reference of its own.
     Queued,
-    /// A poll.
+    /// A poll, with the future's slot and the Runnable's reference.
     Running,
-    /// The drop of a closed task's future, before a poll.
+    /// The drop of a closed task's future, before a poll, with the same.
     Closing,
-    /// The same, after a poll.
+    /// That drop after a poll.
     Ending,
-    /// The making of a task.
+    /// The making of a task, with the future's slot.
     Filling,
+    /// The output, which the handle takes out.
+    Spending,
+    /// The awaiter's slot, as the handle stores an awaiter there.
+    Registering,
+    /// That slot, as the handle takes the awaiter out.
+    HandleNotifying,
+    /// The same by a run or a closing call, with its reference.
+    RunNotifying,
+    /// That slot with the awaiter that is left where nobody can reach the task any more.
+    Emptying,
 }
 
 /// What a seat knows. No value of it is made.
 pub struct View {
-    pub right: Option<Right>,
-    /// The references of wakers, and that of a run or a closing call whose future is gone.
-    pub references: u64,
+    pub hold: Hold,
     /// The state's word, as the last step on it found it.
     pub found: u64,
     /// The state's word, as that step left it.
     pub left: u64,
 }
 
+/// A slot, which is empty or has something.
+pub type Slot<F, T, W> = Option<Content<F, T, W>>;
+
 pub struct CellRule;
 
 /// A cell is made with no task.
-impl<F> TableRule<Option<F>, View, ()> for CellRule {
+impl<F, T, W> TableRule<Slot<F, T, W>, View, ()> for CellRule {
     ghost holds = { λ _. Cell };
 
-    ghost first = { λ _. view None 0 0 0 };
+    ghost first = { λ _. view Nothing 0 0 };
 }
 
 /// A new seat.
 pub struct Arrive;
 
-impl<F> Play<Option<F>, View> for Arrive {
+impl<F, T, W> Play<Slot<F, T, W>, View> for Arrive {
     ghost then = { λ s m n m'. arrived m' };
 }
 
 /// A load.
 pub struct Look;
 
-impl<F> Play<Option<F>, View> for Look {
+impl<F, T, W> Play<Slot<F, T, W>, View> for Look {
     ghost then = { λ s m n m'. looked m n m' };
 }
 
 /// The load of who takes a task up. Where it is closed, its future is to be dropped.
 pub struct LookUp;
 
-impl<F> Play<Option<F>, View> for LookUp {
-    ghost then = { λ s m n m'. looked_up Closing m n m' };
+impl<F, T, W> Play<Slot<F, T, W>, View> for LookUp {
+    ghost then = { λ s m n m'. looked_by turned_up m n m' };
 }
 
 /// The load of who ends a poll. Where the task is closed, its future is to be dropped.
 pub struct LookBack;
 
-impl<F> Play<Option<F>, View> for LookBack {
-    ghost then = { λ s m n m'. looked_up Ending m n m' };
+impl<F, T, W> Play<Slot<F, T, W>, View> for LookBack {
+    ghost then = { λ s m n m'. looked_by turned_back m n m' };
 }
 
 /// A wake by reference. Of the kinds of exchange below, each changes nothing where it fails.
 pub struct WakeByReference;
 
-impl<F> Play<Option<F>, View> for WakeByReference {
+impl<F, T, W> Play<Slot<F, T, W>, View> for WakeByReference {
     ghost then = { λ s m n m'. tries moves.wake_by_reference woken s.first s.second m n m' };
 }
 
 /// One reference more.
 pub struct Copy;
 
-impl<F> Play<Option<F>, View> for Copy {
-    ghost then = { λ s m n m'. tries moves.copy copied s.first s.second m n m' };
+impl<F, T, W> Play<Slot<F, T, W>, View> for Copy {
+    ghost then = { λ s m n m'. tries steps.copy copied s.first s.second m n m' };
 }
 
 /// A waker goes.
 pub struct Release;
 
-impl<F> Play<Option<F>, View> for Release {
+impl<F, T, W> Play<Slot<F, T, W>, View> for Release {
     ghost then = { λ s m n m'. tries moves.release released s.first s.second m n m' };
 }
 
 /// A run or a closing call gives its reference up.
 pub struct GiveUp;
 
-impl<F> Play<Option<F>, View> for GiveUp {
-    ghost then = { λ s m n m'. tries moves.give_up given_up s.first s.second m n m' };
+impl<F, T, W> Play<Slot<F, T, W>, View> for GiveUp {
+    ghost then = { λ s m n m'. tries moves.give_up released s.first s.second m n m' };
 }
 
 /// A Runnable becomes a run.
 pub struct TakeUp;
 
-impl<F> Play<Option<F>, View> for TakeUp {
+impl<F, T, W> Play<Slot<F, T, W>, View> for TakeUp {
     ghost then = { λ s m n m'. tries moves.take_up began s.first s.second m n m' };
 }
 
 /// The future of a closed task was dropped before a poll.
 pub struct SettleClosed;
 
-impl<F> Play<Option<F>, View> for SettleClosed {
+impl<F, T, W> Play<Slot<F, T, W>, View> for SettleClosed {
     ghost then = { λ s m n m'. tries moves.settle_closed ended s.first s.second m n m' };
 }
 
 /// The future of a closed task was dropped after a poll.
 pub struct EndClosed;
 
-impl<F> Play<Option<F>, View> for EndClosed {
+impl<F, T, W> Play<Slot<F, T, W>, View> for EndClosed {
     ghost then = { λ s m n m'. tries moves.end_closed ended s.first s.second m n m' };
 }
 
 /// A poll gave an output, and the future was dropped.
 pub struct EndReady;
 
-impl<F> Play<Option<F>, View> for EndReady {
+impl<F, T, W> Play<Slot<F, T, W>, View> for EndReady {
     ghost then = { λ s m n m'. tries moves.end_ready ended s.first s.second m n m' };
 }
 
 /// A poll gave no output.
 pub struct EndPending;
 
-impl<F> Play<Option<F>, View> for EndPending {
+impl<F, T, W> Play<Slot<F, T, W>, View> for EndPending {
     ghost then = { λ s m n m'. tries moves.end_pending paused s.first s.second m n m' };
 }
 
 /// The task is cancelled.
 pub struct Cancel;
 
-impl<F> Play<Option<F>, View> for Cancel {
+impl<F, T, W> Play<Slot<F, T, W>, View> for Cancel {
     ghost then = { λ s m n m'. tries moves.cancel woken s.first s.second m n m' };
 }
 
 /// A Runnable is let go.
 pub struct DropRunnable;
 
-impl<F> Play<Option<F>, View> for DropRunnable {
+impl<F, T, W> Play<Slot<F, T, W>, View> for DropRunnable {
     ghost then = { λ s m n m'. tries moves.drop_runnable dropped s.first s.second m n m' };
 }
 
 /// An empty cell is taken for a new task.
 pub struct Reserve;
 
-impl<F> Play<Option<F>, View> for Reserve {
+impl<F, T, W> Play<Slot<F, T, W>, View> for Reserve {
     ghost then = { λ s m n m'. swapped reserved s.first s.second m n m' };
 }
 
 /// The new task is there.
 pub struct Make;
 
-impl<F> Play<Option<F>, View> for Make {
-    ghost then = { λ s m n m'. swapped filled s.first s.second m n m' };
+impl<F, T, W> Play<Slot<F, T, W>, View> for Make {
+    ghost then = { λ s m n m'. filled s.first m m' };
 }
 
-/// The right, the slot and the reference rest in the word.
+/// The same of a task that is detached.
+pub struct MakeDetached;
+
+impl<F, T, W> Play<Slot<F, T, W>, View> for MakeDetached {
+    ghost then = { λ s m n m'. filled_detached s.first m m' };
+}
+
+/// The right and its reference rest in the word.
 pub struct Rest;
 
-impl<F> Play<Option<F>, View> for Rest {
+impl<F, T, W> Play<Slot<F, T, W>, View> for Rest {
     ghost then = { λ s m n m'. rested m m' };
 }
 
 /// They are taken out of it.
 pub struct Resume;
 
-impl<F> Play<Option<F>, View> for Resume {
+impl<F, T, W> Play<Slot<F, T, W>, View> for Resume {
     ghost then = { λ s m n m'. swapped resumed s.first s.second m n m' };
+}
+
+/// A new task's handle goes to a seat of its own.
+pub struct Parts;
+
+impl Split<View> for Parts {
+    ghost left = { runnable_of };
+
+    ghost right = { handle_of_new };
 }

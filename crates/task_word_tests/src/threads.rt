@@ -1,13 +1,14 @@
 //! Wakes of two threads meet the runs of a third.
 ghost use Rattle.std.specs.Prelude.{IfSome};
-ghost use Rattle.task_word.specs.Steps.{IsSeatOf, IsSameSeat, HasOne, HasFuture, HasPlace};
-ghost use Rattle.task_word.specs.declared.rule.Right.TheVariants.{Queued, Running, Closing, Filling};
+ghost use Rattle.task_word.specs.Steps.{IsSeatOf, IsSameSeat, Has, HasFuture, HasPlace};
+ghost use Rattle.task_word.specs.declared.rule.Hold.TheVariants.{Reference, Queued, Running, Closing, Filling};
 
 use std::alloc::{AllocError, Global};
 use std::sync::atomic::AtomicU64;
 use std::sync::atomic::Ordering::SeqCst;
 use std::sync::{Arc, Wait};
 use std::thread;
+use task_word::steps::runs::Pause;
 use task_word::steps::{making, runs, wakers};
 use task_word::{Board, Cell, Pass, put_future, take_future};
 
@@ -19,7 +20,7 @@ const TURNS: u64 = 10_000_000;
 /// A task, what its wakers told it before each wake, and what its polls have seen.
 #[derive(Drop)]
 struct Stage {
-    cell: Cell<u64>,
+    cell: Cell<u64, (), ()>,
     told: [AtomicU64; 2],
     seen: [AtomicU64; 2],
     /// Threads that have made their last wake.
@@ -64,25 +65,25 @@ impl Stage {
 }
 
 /// Makes a task whose future is 7.
-fn fill<R: Wait>(rt: &R, board: &Board<u64>, pass: &mut Pass<u64>)
+fn fill(board: &Board<u64, (), ()>, pass: &mut Pass<u64, (), ()>)
     requires seat { IsSeatOf board.now pass.old }
     requires has { HasPlace Filling pass.old }
     ensures same { IsSameSeat pass.old pass.new }
-    ensures right { HasFuture Queued pass.new }
+    ensures right { Has Queued pass.new }
 {
     put_future(board, pass, 7);
-    making::make(rt, board, pass);
+    making::make_detached(board, pass);
 }
 
 /// Puts a task into the cell, with one reference beside its Runnable. There is none where the cell wasn't empty.
-fn begin<R: Wait>(rt: &R, stage: &Stage) -> Option<Pass<u64>>
-    ensures { IfSome result (λ pass. IsSeatOf stage.now.cell.board.shared pass × HasOne pass) }
+fn begin<R: Wait>(rt: &R, stage: &Stage) -> Option<Pass<u64, (), ()>>
+    ensures { IfSome result (λ pass. IsSeatOf stage.now.cell.board.shared pass × Has Reference pass) }
 {
     let board = stage.cell.board();
     let mut pass = stage.cell.pass();
     let mut mine = stage.cell.pass();
     if making::reserve(rt, board, &mut pass) {
-        fill(rt, board, &mut pass);
+        fill(board, &mut pass);
         let copied = wakers::copy(rt, board, &mut mine);
         making::rest(board, &mut pass);
         match copied.answer {
@@ -95,12 +96,12 @@ fn begin<R: Wait>(rt: &R, stage: &Stage) -> Option<Pass<u64>>
 }
 
 /// Gives the last reference back. The answer is whether that closed the task.
-fn end<R: Wait>(rt: &R, stage: &Stage, mut mine: Pass<u64>) -> bool
+fn end<R: Wait>(rt: &R, stage: &Stage, mut mine: Pass<u64, (), ()>) -> bool
     requires seat { IsSeatOf stage.now.cell.board.shared mine }
-    requires has { HasOne mine }
+    requires has { Has Reference mine }
 {
     let board = stage.cell.board();
-    let released = wakers::release(rt, board, &mut mine);
+    let (released, _) = wakers::release(rt, board, &mut mine);
     match released.schedule {
         Some(_) => {
             making::rest(board, &mut mine);
@@ -142,28 +143,32 @@ fn run<R: Wait>(rt: &R, stage: &Stage) -> bool {
 }
 
 /// The end of a closed task.
-fn close<R: Wait>(rt: &R, stage: &Stage, board: &Board<u64>, mut pass: Pass<u64>)
+fn close<R: Wait>(rt: &R, stage: &Stage, board: &Board<u64, (), ()>, mut pass: Pass<u64, (), ()>)
     requires seat { IsSeatOf board.now pass }
     requires has { HasFuture Closing pass }
 {
     let future = take_future(board, &mut pass);
     stage.drops.fetch_add(future, SeqCst);
     runs::settle_closed(rt, board, &mut pass);
-    let given_up = wakers::give_up(rt, board, &mut pass);
+    let (given_up, _) = wakers::give_up(rt, board, &mut pass);
     if given_up.empty_cell {
         stage.emptied.fetch_add(1, SeqCst);
     }
 }
 
 /// One poll, and its end.
-fn poll<R: Wait>(rt: &R, stage: &Stage, board: &Board<u64>, mut pass: Pass<u64>)
+fn poll<R: Wait>(rt: &R, stage: &Stage, board: &Board<u64, (), ()>, mut pass: Pass<u64, (), ()>)
     requires seat { IsSeatOf board.now pass }
     requires has { HasFuture Running pass }
 {
     let future = take_future(board, &mut pass);
     stage.poll();
     put_future(board, &mut pass, future);
-    let (ended, _) = runs::end_pending(rt, board, &mut pass);
+    let Pause {
+        owed: ended,
+        future: _,
+        leaves_awaiter: _,
+    } = runs::end_pending(rt, board, &mut pass);
     match ended.next {
         Some(_) => {}
         None => match ended.schedule {

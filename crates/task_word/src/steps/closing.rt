@@ -1,7 +1,7 @@
 //! The moves by which a task is closed: a cancel, and the drop of a Runnable.
 ghost use Rattle.task_moves.specs.Moves as moves;
-ghost use Rattle.task_word.specs.Steps.{Makes, HasNothing, HasFuture, HasQueued, IsSeatOf, IsSameSeat};
-ghost use Rattle.task_word.specs.declared.rule.Right.TheVariants.{Queued, Closing};
+ghost use Rattle.task_word.specs.Steps.{Makes, Has, HasFuture, HasQueued, IsSeatOf, IsSameSeat};
+ghost use Rattle.task_word.specs.declared.rule.Hold.TheVariants.{Nothing, Queued, Closing};
 
 use crate::layout::{decode, encode};
 use crate::rule;
@@ -10,11 +10,11 @@ use std::sync::Wait;
 use task_moves::moves;
 use task_moves::moves::Owed;
 
-/// The task is cancelled. Where a Runnable is owed, which will drop the future, the seat has its right.
+/// The task is cancelled. Where a Runnable is owed, which will drop the future, the seat has it.
 #[inline(always)]
-pub fn cancel<F, R: Wait>(rt: &R, board: &Board<F>, pass: &mut Pass<F>) -> Owed
+pub fn cancel<F, T, W, R: Wait>(rt: &R, board: &Board<F, T, W>, pass: &mut Pass<F, T, W>) -> Owed
     requires seat { IsSeatOf board.now pass.old }
-    requires has { HasNothing pass.old }
+    requires has { Has Nothing pass.old }
     ensures same { IsSameSeat pass.old pass.new }
     ensures made { Makes moves.cancel pass.new.me.0 result }
     ensures right { HasQueued result.schedule pass.new }
@@ -36,9 +36,13 @@ pub fn cancel<F, R: Wait>(rt: &R, board: &Board<F>, pass: &mut Pass<F>) -> Owed
 
 /// A Runnable is let go: the task is closed, its future is dropped, and `settle_closed` follows.
 #[inline(always)]
-pub fn drop_runnable<F, R: Wait>(rt: &R, board: &Board<F>, pass: &mut Pass<F>) -> Owed
+pub fn drop_runnable<F, T, W, R: Wait>(
+    rt: &R,
+    board: &Board<F, T, W>,
+    pass: &mut Pass<F, T, W>,
+) -> Owed
     requires seat { IsSeatOf board.now pass.old }
-    requires has { HasFuture Queued pass.old }
+    requires has { Has Queued pass.old }
     ensures same { IsSameSeat pass.old pass.new }
     ensures made { Makes moves.drop_runnable pass.new.me.0 result }
     ensures right { HasFuture Closing pass.new }

@@ -1,12 +1,11 @@
 //! The moves of a run, and of a call that drops a closed task's future.
-ghost use Rattle.std.specs.Prelude.{◌≡◌};
 ghost use Rattle.task_moves.specs.Moves as moves;
-ghost use Rattle.task_word.specs.Steps.{Makes, HasNothing, HasOne, HasFuture, HasPlace, TakenUp, Paused, IsSeatOf, IsSameSeat};
-ghost use Rattle.task_word.specs.declared.rule.Right.TheVariants.{Queued, Running, Closing, Ending};
+ghost use Rattle.task_word.specs.Steps.{Makes, Has, HasFuture, HasPlace, TakenUp, Paused, IsHandedBack, IsSeatOf, IsSameSeat};
+ghost use Rattle.task_word.specs.declared.rule.Hold.TheVariants.{Leaving, Queued, Running, Closing, Ending};
 
 use crate::layout::{decode, encode};
 use crate::rule;
-use crate::slot::{put_future, take_future};
+use crate::slot::{put_future, put_output, take_future, take_output};
 use crate::steps::{Board, Pass, look};
 use std::sync::Wait;
 use task_moves::moves;
@@ -14,9 +13,9 @@ use task_moves::moves::Owed;
 
 /// A Runnable becomes a run. Where the task is closed, its future is dropped instead, and `settle_closed` follows.
 #[inline(always)]
-pub fn take_up<F, R: Wait>(rt: &R, board: &Board<F>, pass: &mut Pass<F>) -> Owed
+pub fn take_up<F, T, W, R: Wait>(rt: &R, board: &Board<F, T, W>, pass: &mut Pass<F, T, W>) -> Owed
     requires seat { IsSeatOf board.now pass.old }
-    requires has { HasFuture Queued pass.old }
+    requires has { Has Queued pass.old }
     ensures same { IsSameSeat pass.old pass.new }
     ensures made { Makes moves.take_up pass.new.me.0 result }
     ensures right { TakenUp result.next pass.new }
@@ -38,12 +37,16 @@ pub fn take_up<F, R: Wait>(rt: &R, board: &Board<F>, pass: &mut Pass<F>) -> Owed
 
 /// The future of a closed task was dropped before a poll.
 #[inline(always)]
-pub fn settle_closed<F, R: Wait>(rt: &R, board: &Board<F>, pass: &mut Pass<F>) -> Owed
+pub fn settle_closed<F, T, W, R: Wait>(
+    rt: &R,
+    board: &Board<F, T, W>,
+    pass: &mut Pass<F, T, W>,
+) -> Owed
     requires seat { IsSeatOf board.now pass.old }
     requires has { HasPlace Closing pass.old }
     ensures same { IsSameSeat pass.old pass.new }
     ensures made { Makes moves.settle_closed pass.new.me.0 result }
-    ensures one { HasOne pass.new }
+    ensures one { Has Leaving pass.new }
 {
     for _ in rt.forever() {
         let old = look(board, pass);
@@ -59,12 +62,16 @@ pub fn settle_closed<F, R: Wait>(rt: &R, board: &Board<F>, pass: &mut Pass<F>) -
 
 /// The same after a poll.
 #[inline(always)]
-pub fn end_closed<F, R: Wait>(rt: &R, board: &Board<F>, pass: &mut Pass<F>) -> Owed
+pub fn end_closed<F, T, W, R: Wait>(
+    rt: &R,
+    board: &Board<F, T, W>,
+    pass: &mut Pass<F, T, W>,
+) -> Owed
     requires seat { IsSeatOf board.now pass.old }
     requires has { HasPlace Ending pass.old }
     ensures same { IsSameSeat pass.old pass.new }
     ensures made { Makes moves.end_closed pass.new.me.0 result }
-    ensures one { HasOne pass.new }
+    ensures one { Has Leaving pass.new }
 {
     for _ in rt.forever() {
         let old = look(board, pass);
@@ -78,53 +85,91 @@ pub fn end_closed<F, R: Wait>(rt: &R, board: &Board<F>, pass: &mut Pass<F>) -> O
     unreachable!()
 }
 
-/// The poll gave an output, and the future was dropped.
+/// The poll gave an output, and the future was dropped. The output stays for the handle; where that is gone or the task is
+/// closed, it is answered, to be dropped.
 #[inline(always)]
-pub fn end_ready<F, R: Wait>(rt: &R, board: &Board<F>, pass: &mut Pass<F>) -> Owed
+pub fn end_ready<F, T, W, R: Wait>(
+    rt: &R,
+    board: &Board<F, T, W>,
+    pass: &mut Pass<F, T, W>,
+    output: T,
+) -> (Owed, Option<T>)
     requires seat { IsSeatOf board.now pass.old }
     requires has { HasPlace Running pass.old }
     ensures same { IsSameSeat pass.old pass.new }
-    ensures made { Makes moves.end_ready pass.new.me.0 result }
-    ensures one { HasOne pass.new }
+    ensures made { Makes moves.end_ready pass.new.me.0 result.0 }
+    ensures one { Has Leaving pass.new }
+    ensures output { IsHandedBack result.0.drop_output output result.1 }
 {
+    put_output(board, pass, output);
     for _ in rt.forever() {
         let old = look(board, pass);
         let word = decode(old);
         let moved = moves::end_ready(word.state);
         let new = encode(moved.state, word.rests);
-        if board.compare_exchange::<rule::EndReady>(pass, 0, old, new) == old {
-            return moved.owed;
+        if moved.owed.drop_output {
+            let output = take_output(board, pass);
+            if board.compare_exchange::<rule::EndReady>(pass, 0, old, new) == old {
+                return (moved.owed, Some(output));
+            }
+            put_output(board, pass, output);
+        } else if board.compare_exchange::<rule::EndReady>(pass, 0, old, new) == old {
+            return (moved.owed, None);
         }
     }
     unreachable!()
 }
 
-/// The poll gave no output. Where the task is closed, its future is dropped, and `end_closed` follows. Where nobody
-/// can reach the task any more, its future is answered too, to be dropped.
+/// What the end of a poll without output leaves.
+pub struct Pause<F> {
+    pub owed: Owed,
+    /// The future, where nobody can reach the task any more: it is to be dropped.
+    pub future: Option<F>,
+    /// Then, that the task's awaiter is left, whose slot the seat has.
+    pub leaves_awaiter: bool,
+}
+
+/// The poll gave no output. Where the task is closed, its future is dropped, and `end_closed` follows.
 #[inline(always)]
-pub fn end_pending<F, R: Wait>(rt: &R, board: &Board<F>, pass: &mut Pass<F>) -> (Owed, Option<F>)
+pub fn end_pending<F, T, W, R: Wait>(
+    rt: &R,
+    board: &Board<F, T, W>,
+    pass: &mut Pass<F, T, W>,
+) -> Pause<F>
     requires seat { IsSeatOf board.now pass.old }
     requires has { HasFuture Running pass.old }
     ensures same { IsSameSeat pass.old pass.new }
-    ensures made { Makes moves.end_pending pass.new.me.0 result.0 }
-    ensures right { Paused result.0.next result.0.schedule pass.new }
+    ensures made { Makes moves.end_pending pass.new.me.0 result.owed }
+    ensures right { Paused result.owed.next result.owed.schedule result.leaves_awaiter pass.new }
 {
     for _ in rt.forever() {
         let old = board.load::<rule::LookBack>(pass, 0);
         let word = decode(old);
         let moved = moves::end_pending(word.state);
         if word.state.closed {
-            return (moved.owed, None);
+            return Pause {
+                owed: moved.owed,
+                future: None,
+                leaves_awaiter: false,
+            };
         }
         let new = encode(moved.state, word.rests);
         if moved.owed.empty_cell {
             let future = take_future(board, pass);
             if board.compare_exchange::<rule::EndPending>(pass, 0, old, new) == old {
-                return (moved.owed, Some(future));
+                return Pause {
+                    owed: moved.owed,
+                    future: Some(future),
+                    leaves_awaiter: moved.state.awaiter,
+                };
             }
             put_future(board, pass, future);
         } else if board.compare_exchange::<rule::EndPending>(pass, 0, old, new) == old {
-            return (moved.owed, None);
+            return Pause {
+                owed: moved.owed,
+                future: None,
+                leaves_awaiter: false,
+            };
         }
     }
     unreachable!()

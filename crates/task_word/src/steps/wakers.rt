@@ -1,20 +1,22 @@
 //! The moves of wakers.
 ghost use Rattle.std.specs.Prelude.{◌≡◌};
 ghost use Rattle.task_moves.specs.Moves as moves;
-ghost use Rattle.task_word.specs.Steps.{Makes, HasNothing, HasOne, HasQueued, HasCopy, IsSeatOf, IsSameSeat};
+ghost use Rattle.task_word.specs.Steps as steps;
+ghost use Rattle.task_word.specs.Steps.{is_dead, Makes, Has, HasQueued, HasCopy, HasLeft, IsSeatOf, IsSameSeat};
+ghost use Rattle.task_word.specs.declared.rule.Hold.TheVariants.{Nothing, Reference, Leaving};
 
 use crate::layout::{decode, encode};
 use crate::rule;
-use crate::steps::{Board, Pass, look};
+use crate::steps::{Board, Pass, leaves_awaiter, look};
 use std::sync::Wait;
 use task_moves::moves;
-use task_moves::moves::Owed;
+use task_moves::moves::{Answer, Moved, Owed, State};
 
-/// A wake by reference. Where a Runnable is owed, the seat has its right.
+/// A wake by reference. Where a Runnable is owed, the seat has it.
 #[inline(always)]
-pub fn wake<F, R: Wait>(rt: &R, board: &Board<F>, pass: &mut Pass<F>) -> Owed
+pub fn wake<F, T, W, R: Wait>(rt: &R, board: &Board<F, T, W>, pass: &mut Pass<F, T, W>) -> Owed
     requires seat { IsSeatOf board.now pass.old }
-    requires has { HasNothing pass.old }
+    requires has { Has Nothing pass.old }
     ensures same { IsSameSeat pass.old pass.new }
     ensures made { Makes moves.wake_by_reference pass.new.me.0 result }
     ensures right { HasQueued result.schedule pass.new }
@@ -34,19 +36,49 @@ pub fn wake<F, R: Wait>(rt: &R, board: &Board<F>, pass: &mut Pass<F>) -> Owed
     unreachable!()
 }
 
-/// One reference more, unless it is refused.
 #[inline(always)]
-pub fn copy<F, R: Wait>(rt: &R, board: &Board<F>, pass: &mut Pass<F>) -> Owed
+fn is_dead_now(state: State) -> bool
+    ensures { result ≡ is_dead state }
+{
+    state.references == 0 && !state.handle
+}
+
+/// The move of a copy, which is refused too where nobody has a reference or the handle.
+#[inline(always)]
+fn copy_of(state: State) -> Moved
+    ensures { result ≡ steps.copy state }
+{
+    if is_dead_now(state) {
+        Moved {
+            state,
+            owed: Owed {
+                schedule: None,
+                future: None,
+                drop_output: false,
+                awaiter: None,
+                next: None,
+                answer: Some(Answer::Refused),
+                empty_cell: false,
+            },
+        }
+    } else {
+        moves::copy(state)
+    }
+}
+
+/// One reference more, unless it is refused: where there are too many, or none and no handle.
+#[inline(always)]
+pub fn copy<F, T, W, R: Wait>(rt: &R, board: &Board<F, T, W>, pass: &mut Pass<F, T, W>) -> Owed
     requires seat { IsSeatOf board.now pass.old }
-    requires has { HasNothing pass.old }
+    requires has { Has Nothing pass.old }
     ensures same { IsSameSeat pass.old pass.new }
-    ensures made { Makes moves.copy pass.new.me.0 result }
+    ensures made { Makes steps.copy pass.new.me.0 result }
     ensures one { HasCopy result.answer pass.new }
 {
     for _ in rt.forever() {
         let old = look(board, pass);
         let word = decode(old);
-        let moved = moves::copy(word.state);
+        let moved = copy_of(word.state);
         if moved.owed.answer.is_some() {
             return moved.owed;
         }
@@ -58,14 +90,19 @@ pub fn copy<F, R: Wait>(rt: &R, board: &Board<F>, pass: &mut Pass<F>) -> Owed
     unreachable!()
 }
 
-/// A waker goes. Where it was the last of an open task, a Runnable is owed, and the seat has its right.
+/// A waker goes. Where it was the last of an open task, a Runnable is owed, and the seat has it. Where nobody can reach
+/// the task any more and its awaiter is left, the second answer is true, and the seat has the awaiter's slot.
 #[inline(always)]
-pub fn release<F, R: Wait>(rt: &R, board: &Board<F>, pass: &mut Pass<F>) -> Owed
+pub fn release<F, T, W, R: Wait>(
+    rt: &R,
+    board: &Board<F, T, W>,
+    pass: &mut Pass<F, T, W>,
+) -> (Owed, bool)
     requires seat { IsSeatOf board.now pass.old }
-    requires has { HasOne pass.old }
+    requires has { Has Reference pass.old }
     ensures same { IsSameSeat pass.old pass.new }
-    ensures made { Makes moves.release pass.new.me.0 result }
-    ensures right { HasQueued result.schedule pass.new }
+    ensures made { Makes moves.release pass.new.me.0 result.0 }
+    ensures right { HasLeft result.0.schedule result.1 pass.new }
 {
     for _ in rt.forever() {
         let old = look(board, pass);
@@ -73,20 +110,24 @@ pub fn release<F, R: Wait>(rt: &R, board: &Board<F>, pass: &mut Pass<F>) -> Owed
         let moved = moves::release(word.state);
         let new = encode(moved.state, word.rests);
         if board.compare_exchange::<rule::Release>(pass, 0, old, new) == old {
-            return moved.owed;
+            return (moved.owed, leaves_awaiter(moved));
         }
     }
     unreachable!()
 }
 
-/// A run or a closing call gives its reference up.
+/// A run or a closing call gives its reference up. The second answer is that of `release`.
 #[inline(always)]
-pub fn give_up<F, R: Wait>(rt: &R, board: &Board<F>, pass: &mut Pass<F>) -> Owed
+pub fn give_up<F, T, W, R: Wait>(
+    rt: &R,
+    board: &Board<F, T, W>,
+    pass: &mut Pass<F, T, W>,
+) -> (Owed, bool)
     requires seat { IsSeatOf board.now pass.old }
-    requires has { HasOne pass.old }
+    requires has { Has Leaving pass.old }
     ensures same { IsSameSeat pass.old pass.new }
-    ensures made { Makes moves.give_up pass.new.me.0 result }
-    ensures nothing { HasNothing pass.new }
+    ensures made { Makes moves.give_up pass.new.me.0 result.0 }
+    ensures right { HasLeft result.0.schedule result.1 pass.new }
 {
     for _ in rt.forever() {
         let old = look(board, pass);
@@ -94,7 +135,7 @@ pub fn give_up<F, R: Wait>(rt: &R, board: &Board<F>, pass: &mut Pass<F>) -> Owed
         let moved = moves::give_up(word.state);
         let new = encode(moved.state, word.rests);
         if board.compare_exchange::<rule::GiveUp>(pass, 0, old, new) == old {
-            return moved.owed;
+            return (moved.owed, leaves_awaiter(moved));
         }
     }
     unreachable!()

@@ -1,7 +1,8 @@
-use Rattle.std.proofs.Common.{rules, ap, sym, ◌∙◌, ◌∷◌}
-use Rattle.std.specs.Prelude.{Some}
+use Rattle.std.proofs.Common.{rules, ap, sym, ◌∙◌, ◌∷◌, Some, List, ℕ}
 use Rattle.atomic_table.specs.Table.{rest}
+use Rattle.task_word.specs.Cell.{Slot}
+use Rattle.task_word.specs.declared.rule.Content.TheVariants.{Future}
 use Rattle.task_word.proofs.slot.take_future.Goals as goal
 
 pub exchange-requires : goal.exchange-requires
-exchange-requires g c = let e = c.requires.has.1 in (search rules, (Some c.requires.has.0, e ∙ (λ i. (0, Some c.requires.has.0) ∷ sym (ap rest e) i)))
+exchange-requires g c = let h = c.requires.has in (search rules, (Some (Future h.0), h.1 ∙ ap (λ (z : List (ℕ × Slot _ _ _)). (0, Some (Future h.0)) ∷ z) (sym (ap rest h.1))))

@@ -3,13 +3,15 @@ use Rattle.std.proofs.Common.{◌≡◌, ℕ, suc, ◌+◌, ◌<◌, ◌≤◌, 
 use Rattle.std.specs.List.{AllZip}
 use Rattle.std.proofs.lemmas.List.Elements.{All-cons, All-head, All-tail}
 use Rattle.std.proofs.lemmas.Slice.Zip.{all_zipped_more}
-use Rattle.script.specs.Lines.{lines_of}
+use Rattle.text_lines.specs.Lines.{lines_of}
 use Rattle.script.specs.Script.{IsLimit, IsCommand, IsShort, Says, IsScript}
-use Rattle.script.specs.BadLine.{IsGood, AreGood, IsFirstBadLine}
+use Rattle.text_lines.specs.BadLine.{AreGood}
+use Rattle.text_lines.proofs.Good.{AreGood-push, IsFirstBad-none}
+use Rattle.script.specs.BadLine.{IsGood, IsFirstBadLine}
 use Rattle.script.specs.declared.command.Command.{Command}
-use Rattle.script.specs.declared.error.ParseError.{ParseError}
-use Rattle.script.specs.declared.error.ParseError.TheVariants.{BadLine, NoMemory}
-use Rattle.script.proofs.Zipping.{length-AllZip}
+use Rattle.text_lines.specs.declared.error.ParseError.{ParseError}
+use Rattle.text_lines.specs.declared.error.ParseError.TheVariants.{BadLine, NoMemory}
+use Rattle.text_lines.proofs.Zipping.{length-AllZip}
 
 -- the good lines of a text in front of those that are left, and what they say
 pub record HasParsed (limit : ℕ) (commands : List Command) (text : List ℕ) (left : List (List ℕ)) : Type 0 where
@@ -18,22 +20,13 @@ pub record HasParsed (limit : ℕ) (commands : List Command) (text : List ℕ) (
   pub parts : lines_of text ≡ (first ∷ front) ++ left
   pub says : IsLimit limit first
   pub each : AllZip IsCommand commands front
-  pub good : AreGood 0 (first ∷ front)
+  pub good : AreGood IsGood 0 (first ∷ front)
 
-AreGood-push : (before : ℕ) (lines : List (List ℕ)) (line : List ℕ) → AreGood before lines → IsGood (before + length lines) line → AreGood before (lines ++ line ∷ [])
-AreGood-push before [] line good here = (subst (λ n. IsGood n line) (add-zero before) here, tt)
-AreGood-push before (first ∷ lines) line good here =
-    (good.0, AreGood-push (suc before) lines line good.1 (subst (λ n. IsGood n line) (omega arith) here))
-
-AreGood-middle : (before : ℕ) (front after : List (List ℕ)) (line : List ℕ) → AreGood before (front ++ line ∷ after) → IsGood (before + length front) line
-AreGood-middle before [] after line good = subst (λ n. IsGood n line) (sym (add-zero before)) good.0
-AreGood-middle before (first ∷ front) after line good = subst (λ n. IsGood n line) (omega arith) (AreGood-middle (suc before) front after line good.1)
-
-AreGood-few : (before : ℕ) (lines : List (List ℕ)) → before ≤ 10000 → AreGood before lines → before + length lines ≤ 10000
+AreGood-few : (before : ℕ) (lines : List (List ℕ)) → before ≤ 10000 → AreGood IsGood before lines → before + length lines ≤ 10000
 AreGood-few before [] few good = omega arith
 AreGood-few before (line ∷ lines) few good = omega (arith, good.0.within, AreGood-few (suc before) lines (omega (arith, good.0.within)) good.1)
 
-AreGood-short : (before : ℕ) (lines : List (List ℕ)) → AreGood before lines → All IsShort lines
+AreGood-short : (before : ℕ) (lines : List (List ℕ)) → AreGood IsGood before lines → All IsShort lines
 AreGood-short before [] good = λ k d within. absurd (omega arith)
 AreGood-short before (line ∷ lines) good = All-cons IsShort line lines good.0.short (AreGood-short (suc before) lines good.1)
 
@@ -58,7 +51,7 @@ HasParsed-push limit commands text left rest command line so_far next is good =
       parts = so_far.parts ∙ ap (λ l. (so_far.first ∷ so_far.front) ++ l) next ∙ sym (append_assoc (so_far.first ∷ so_far.front) (line ∷ []) rest);
       says = so_far.says;
       each = all_zipped_more IsCommand commands so_far.front command line so_far.each is;
-      good = AreGood-push 0 (so_far.first ∷ so_far.front) line so_far.good (subst (λ n. IsGood n line) (omega arith) good);
+      good = AreGood-push IsGood 0 (so_far.first ∷ so_far.front) line so_far.good (subst (λ n. IsGood n line) (omega arith) good);
     }
 
 -- no line is left
@@ -102,7 +95,7 @@ IsFirstBadLine-first text line rest parts bad = record {
   bad = λ good. bad good.spelled.0 good.spelled.1 good.short;
 }
 
-AreGood-later : (before : ℕ) (commands : List Command) (lines : List (List ℕ)) → AllZip IsCommand commands lines → All IsShort lines → suc before + length lines ≤ 10000 → AreGood (suc before) lines
+AreGood-later : (before : ℕ) (commands : List Command) (lines : List (List ℕ)) → AllZip IsCommand commands lines → All IsShort lines → suc before + length lines ≤ 10000 → AreGood IsGood (suc before) lines
 AreGood-later before [] [] each short few = tt
 AreGood-later before [] (line ∷ lines) each short few = absurd each
 AreGood-later before (command ∷ commands) [] each short few = absurd each
@@ -111,7 +104,7 @@ AreGood-later before (command ∷ commands) (line ∷ lines) each short few = (
   AreGood-later (suc before) commands lines each.1 (All-tail IsShort line lines short) (omega arith),
 )
 
-AreGood-says : (limit : ℕ) (commands : List Command) (lines : List (List ℕ)) → Says limit commands lines → All IsShort lines → length lines ≤ 10000 → AreGood 0 lines
+AreGood-says : (limit : ℕ) (commands : List Command) (lines : List (List ℕ)) → Says limit commands lines → All IsShort lines → length lines ≤ 10000 → AreGood IsGood 0 lines
 AreGood-says limit commands [] says short few = tt
 AreGood-says limit commands (first ∷ later) says short few = (
   record { within = omega arith; short = All-head IsShort first later short; spelled = (limit, says.0) },
@@ -120,9 +113,8 @@ AreGood-says limit commands (first ∷ later) says short few = (
 
 -- a script has no bad line
 pub IsScript-none : (text : List ℕ) (limit number : ℕ) (commands : List Command) → IsScript text limit commands → ¬ (IsFirstBadLine text number)
-IsScript-none text limit number commands is first =
-    let good : AreGood 0 (first.before ++ first.line ∷ first.after) = rw (← first.parts) (AreGood-says limit commands (lines_of text) is.says is.short is.few) in
-    first.bad (subst (λ n. IsGood n first.line) (zero-add (length first.before)) (AreGood-middle 0 first.before first.after first.line good))
+IsScript-none text limit number commands is =
+    IsFirstBad-none IsGood text number (AreGood-says limit commands (lines_of text) is.says is.short is.few)
 
 -- an error that names no line
 pub NoMemory-else : (error : ParseError) → ((number : ℕ) → error ≡ BadLine number → ⊥) → error ≡ NoMemory

@@ -1,7 +1,8 @@
 -- No text is two scripts.
 use Rattle.std.proofs.Common.{◌≡◌, ℕ, Bool, true, false, codes, List, [], ◌∷◌, refl, ap, ◌∙◌, arith}
 use Rattle.std.specs.List.{AllZip}
-use Rattle.script.specs.Number.{IsNumber}
+use Rattle.text_lines.specs.Number.{IsNumber}
+use Rattle.text_lines.proofs.One.{IsNumber-one, AllZip-one}
 use Rattle.script.specs.Item.{IsItem, AreItems}
 use Rattle.script.specs.Plain.{IsSpelled}
 use Rattle.script.specs.Party.{IsParty}
@@ -9,18 +10,12 @@ use Rattle.script.specs.Command.{SpellsAs, SpellsRequest, Spells}
 use Rattle.script.specs.declared.command.Request.{Request}
 use Rattle.script.specs.declared.plain.Plain.{Plain}
 use Rattle.script.specs.declared.plain.Plain.TheVariants as plain
-use Rattle.script.specs.Lines.{lines_of, words_of}
+use Rattle.text_lines.specs.Lines.{lines_of, words_of}
 use Rattle.script.specs.Script.{IsCommand, Says, IsScript}
 use Rattle.script.specs.declared.item.Item.{Item}
 use Rattle.script.specs.declared.item.Item.TheVariants.{Pend, WakeSelf, Keep, Ready, Twice}
 use Rattle.script.specs.declared.command.Command.{Command}
 use Rattle.script.specs.declared.command.Command.TheVariants.{Whole, Begin, Go, Finish}
-
-IsNumber-one : (word other : List ℕ) (m n : ℕ) → word ≡ other → IsNumber word m → IsNumber other n → m ≡ n
-IsNumber-one word other m n same p q =
-    let value = p.value in
-    let again = q.value in
-    cc
 
 IsItem-one : (item other : Item) (word : List ℕ) → IsItem item word → IsItem other word → item ≡ other
 IsItem-one Pend Pend word p q = refl
@@ -31,17 +26,6 @@ IsItem-one (Ready m) (Ready n) word p q =
     ap Ready (IsNumber-one p.0 q.0 m n digits p.2 q.2)
 IsItem-one (Twice name) (Twice other) word p q = cc
 IsItem-one item other word p q = grind arith
-
-AllZip-one : {A B : Type 0} (R : A → B → Type 0) → ((x y : A) (z : B) → R x z → R y z → x ≡ y) → (xs ys : List A) (zs : List B) → AllZip R xs zs → AllZip R ys zs → xs ≡ ys
-AllZip-one R one [] [] [] p q = refl
-AllZip-one R one (x ∷ xs) (y ∷ ys) (z ∷ zs) p q =
-    let here : x ≡ y = one x y z p.0 q.0 in
-    let there : xs ≡ ys = AllZip-one R one xs ys zs p.1 q.1 in
-    cc
-AllZip-one R one [] ys (z ∷ zs) p q = absurd p
-AllZip-one R one (x ∷ xs) ys [] p q = absurd p
-AllZip-one R one [] (y ∷ ys) [] p q = absurd q
-AllZip-one R one (x ∷ xs) [] (z ∷ zs) p q = absurd q
 
 AreItems-one : (items others : List Item) (words more : List (List ℕ)) → words ≡ more → AreItems items words → AreItems others more → items ≡ others
 AreItems-one items others words more same p q = AllZip-one IsItem IsItem-one items others more (rw (← same) p.each) q.each

@@ -2,7 +2,7 @@
 use Rattle.std.specs.Prelude.{◌≡◌, ℕ, ◌≤◌, List, ◌++◌, length, codes}
 use Rattle.std.specs.List.{AllZip}
 use Rattle.script.specs.Name.{IsName}
-use Rattle.script.specs.Number.{IsNumber}
+use Rattle.text_lines.specs.Number.{IsNumber}
 use Rattle.script.specs.declared.item.Item.{Item}
 use Rattle.script.specs.declared.item.Item.TheVariants.{Pend, WakeSelf, Keep, Ready, Twice}
 

@@ -2,8 +2,6 @@ pub mod Name
 pub mod Padded
 pub mod Names
 pub mod Indexed
-pub mod Number
-pub mod Lines
 pub mod Item
 pub mod Party
 pub mod Plain

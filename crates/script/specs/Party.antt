@@ -1,6 +1,6 @@
 -- How a script names its parties.
 use Rattle.std.specs.Prelude.{ℕ, ◌≤◌, List}
-use Rattle.script.specs.Number.{IsNumber}
+use Rattle.text_lines.specs.Number.{IsNumber}
 
 -- a number from 1 to 9
 pub record IsParty (word : List ℕ) (party : ℕ) : Type 0 where

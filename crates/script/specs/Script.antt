@@ -1,8 +1,8 @@
 -- Which texts are scripts, and of what.
 use Rattle.std.specs.Prelude.{◌≡◌, ℕ, ◌≤◌, List, [], ◌∷◌, length, All, codes}
 use Rattle.std.specs.List.{AllZip}
-use Rattle.script.specs.Lines.{lines_of, words_of}
-use Rattle.script.specs.Number.{IsNumber}
+use Rattle.text_lines.specs.Lines.{lines_of, words_of}
+use Rattle.text_lines.specs.Number.{IsNumber}
 use Rattle.script.specs.Command.{Spells}
 use Rattle.script.specs.declared.command.Command.{Command}
 

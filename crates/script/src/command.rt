@@ -8,8 +8,8 @@ ghost use Rattle.script.specs.declared.command.Request.{Request};
 
 use crate::party::read_party;
 use crate::plain::{Plain, read_plain};
-use crate::words::Words;
 use std::alloc::{AllocError, Global};
+use text_lines::Words;
 
 /// A command that makes a call.
 #[derive(Debug, PartialEq, Eq, Drop)]

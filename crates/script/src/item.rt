@@ -5,7 +5,7 @@ ghost use Rattle.script.specs.Item.{IsItem};
 ghost use Rattle.script.specs.declared.item.Item.TheVariants.{Ready, Twice};
 
 use crate::name::Name;
-use crate::number::read_number;
+use text_lines::read_number;
 
 /// What a future does at one poll.
 #[derive(Clone, Copy, Debug, PartialEq, Eq)]
@@ -64,6 +64,8 @@ fn ready(word: &[u8]) -> Option<Item>
     ensures found { IfSome result (λ item. IsItem item word.now) }
     ensures none { IfNone result ((value : ℕ) → ¬ (IsItem (Ready value) word.now)) }
 {
-    let value = word.strip_prefix(b"ready=").and_then(read_number)?;
+    let value = word
+        .strip_prefix(b"ready=")
+        .and_then(|word| read_number(word))?;
     (value <= 1_000_000).then_some(Item::Ready(value))
 }

@@ -3,9 +3,9 @@
 ghost use Rattle.std.specs.Prelude.{◌≡◌, ◌-◌, ◌≤◌, List, IfNone, IfOk, IfSome, Some, length, min, slice_get};
 
 use crate::item::Item;
-use crate::words::Words;
 use std::alloc::{AllocError, Global};
 use std::marker::Model;
+use text_lines::Words;
 
 /// What a future does at its polls: 1 to 8 items, one for each poll, the last for all later ones.
 /// Contracts see them as a list.

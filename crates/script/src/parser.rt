@@ -7,11 +7,8 @@ ghost use Rattle.script.specs.declared.command.Command.{Command};
 
 use crate::Script;
 use crate::command::Command;
-use crate::error::ParseError;
-use crate::lines::Lines;
-use crate::number::read_number;
-use crate::words::Words;
 use std::alloc::Global;
+use text_lines::{Lines, ParseError, Words, read_number};
 
 /// How many futures a script may ask places for.
 const MOST_PLACES: u64 = 1_000_000;
@@ -70,7 +67,7 @@ fn read_limit(line: &[u8]) -> Option<u64>
     if words.next()? != b"limit".as_slice() {
         return None;
     }
-    let limit = words.next().and_then(read_number)?;
+    let limit = words.next().and_then(|word| read_number(word))?;
     (words.is_empty() && 1 <= limit && limit <= MOST_PLACES).then_some(limit)
 }
 

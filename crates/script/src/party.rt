@@ -3,7 +3,7 @@
 ghost use Rattle.std.specs.Prelude.{ℕ, IfNone, IfSome};
 ghost use Rattle.script.specs.Party.{IsParty};
 
-use crate::number::read_number;
+use text_lines::read_number;
 
 /// The party that this word names, where it is one.
 pub fn read_party(word: &[u8]) -> Option<u32>

@@ -8,8 +8,8 @@ ghost use Rattle.script.specs.declared.plain.Plain.{Plain};
 use crate::items::Items;
 use crate::name::Name;
 use crate::word::Word;
-use crate::words::Words;
 use std::alloc::{AllocError, Global};
+use text_lines::Words;
 
 /// A command that makes a call, or two.
 #[derive(Debug, PartialEq, Eq, Drop)]

@@ -4,8 +4,8 @@ use Rattle.std.specs.Prelude.{◌≡◌, ◌⊎◌, ℕ, List, []}
 use Rattle.script.specs.BadLine.{IsFirstBadLine}
 use Rattle.script.specs.Script.{IsScript}
 use Rattle.script.specs.declared.command.Command.{Command}
-use Rattle.script.specs.declared.error.ParseError.{ParseError}
-use Rattle.script.specs.declared.error.ParseError.TheVariants.{BadLine, NoMemory}
+use Rattle.text_lines.specs.declared.error.ParseError.{ParseError}
+use Rattle.text_lines.specs.declared.error.ParseError.TheVariants.{BadLine, NoMemory}
 use Rattle.simulator.specs.ScriptText.{IsTextOf}
 
 -- the input has no line, or is a script

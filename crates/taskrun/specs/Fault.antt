@@ -3,8 +3,8 @@ use Rattle.std.specs.Prelude.{ℕ, List, ◌++◌, codes}
 use Rattle.std.specs.Fmt.{decimal}
 use Rattle.taskrun.specs.declared.fault.Fault.{Fault}
 use Rattle.taskrun.specs.declared.fault.Fault.TheVariants.{BadLine, Usage, NoMemory, ReadFailed, WriteFailed}
-use Rattle.script.specs.declared.error.ParseError.{ParseError}
-use Rattle.script.specs.declared.error.ParseError.TheVariants as parse
+use Rattle.text_lines.specs.declared.error.ParseError.{ParseError}
+use Rattle.text_lines.specs.declared.error.ParseError.TheVariants as parse
 
 abbrev pub status_of : Fault → ℕ
 status_of (BadLine n) = 2

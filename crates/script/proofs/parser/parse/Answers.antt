@@ -1,8 +1,8 @@
 use Rattle.std.proofs.Common.{◌≡◌, ◌∷◌, ◌++◌, [], Err, length, refl, sym, ap, ◌∙◌, arith, rules}
 use Rattle.std.proofs.lemmas.Grind.{common_steps}
 use Rattle.std.proofs.lemmas.Result.{err_from_is_err_and}
-use Rattle.script.specs.declared.error.ParseError.TheVariants.{BadLine}
-use Rattle.script.proofs.Cutting.{lines_of-none}
+use Rattle.text_lines.specs.declared.error.ParseError.TheVariants.{BadLine}
+use Rattle.text_lines.proofs.Cutting.{lines_of-none}
 use Rattle.script.proofs.Parsing.{HasParsed-push, HasParsed-all, HasParsed-bad, HasParsed-few, IsFirstBadLine-first, IsScript-none, NoMemory-else}
 use Rattle.script.proofs.Unambiguous.{IsScript-one}
 use Rattle.script.proofs.parser.parse.Goals as goal

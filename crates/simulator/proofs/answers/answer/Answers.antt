@@ -4,8 +4,8 @@ use Rattle.simulator.specs.Answer.{IsAnswer}
 use Rattle.script.specs.Script.{IsScript}
 use Rattle.simulator.specs.ScriptText.{IsTextOf}
 use Rattle.script.specs.declared.command.Command.{Command}
-use Rattle.script.specs.declared.error.ParseError.{ParseError}
-use Rattle.script.specs.declared.error.ParseError.TheVariants as parse
+use Rattle.text_lines.specs.declared.error.ParseError.{ParseError}
+use Rattle.text_lines.specs.declared.error.ParseError.TheVariants as parse
 use Rattle.simulator.proofs.answers.answer.Goals as goal
 
 -- where the parser's error is the want of memory, so is the one that is passed on

@@ -2,7 +2,7 @@ use Rattle.std.proofs.Common.{◌≡◌, ◌≤◌, [], ◌∷◌, ◌++◌, len
 use Rattle.std.proofs.lemmas.Grind.{common_steps}
 use Rattle.std.proofs.lemmas.List.{length_push}
 use Rattle.script.specs.Item.{IsItem}
-use Rattle.script.proofs.Zipping.{length-AllZip, ZipsFront-push, ZipsFront-all, ZipsFront-more, ZipsFront-stuck}
+use Rattle.text_lines.proofs.Zipping.{length-AllZip, ZipsFront-push, ZipsFront-all, ZipsFront-more, ZipsFront-stuck}
 use Rattle.script.proofs.items.Items.from_words.Goals as goal
 
 pub returns-in_default-clause-none : goal.returns-in_default-clause-none

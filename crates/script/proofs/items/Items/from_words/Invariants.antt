@@ -1,6 +1,6 @@
 use Rattle.std.proofs.Common.{◌≤◌, length}
 use Rattle.script.specs.Item.{IsItem}
-use Rattle.script.proofs.Zipping.{ZipsFront}
+use Rattle.text_lines.proofs.Zipping.{ZipsFront}
 use Rattle.script.proofs.items.Items.from_words.Given as goal
 
 abbrev pub invariant-loop-word : goal.invariant-loop-word

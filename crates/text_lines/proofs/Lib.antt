@@ -1,0 +1,5 @@
+pub mod Cutting
+pub mod Reading
+pub mod Good
+pub mod One
+pub mod Zipping

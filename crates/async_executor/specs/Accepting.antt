@@ -1,8 +1,10 @@
 -- What a spawn does with the executor's table, which it is lent under its lock.
-use Rattle.std.specs.Prelude.{◌≡◌, ℕ, ◌<◌, ◌≤◌, ◌++◌, [], ◌∷◌, length, Some}
+use Rattle.std.specs.Prelude.{◌≡◌, ◌<◌, ◌≤◌, ◌++◌, [], ◌∷◌, length, Some}
 use Rattle.async_executor.specs.declared.errors.SpawnError.{SpawnError}
 use Rattle.async_executor.specs.declared.errors.SpawnError.TheVariants.{Full, NoMemory}
 use Rattle.async_task.specs.Handles.{Handle}
+use Rattle.executor_parts.specs.declared.places.SpawnRefused.{SpawnRefused}
+use Rattle.executor_parts.specs.declared.places.SpawnRefused.TheVariants.{Full as AtLimit, NoMemory as WithoutMemory}
 use Rattle.async_task.specs.declared.cell.scheduled.StoredWaker.{StoredWaker}
 use Rattle.executor_parts.specs.Places.{Entry, Places}
 
@@ -13,6 +15,11 @@ module _ {F M : Type 0} where
     pub entered : new.entries ≡ old.entries ++ entry ∷ []
     pub inside : entry.future ≡ Some future
     pub waker : entry.waker.identity ≡ task.identity
+
+-- the future comes back with the cause
+abbrev pub refused_as : {F : Type 0} → SpawnRefused → F → SpawnError F
+refused_as AtLimit future = Full future
+refused_as WithoutMemory future = NoMemory future
 
 -- full only where there are as many entries as the limit, and out of memory only where there are fewer
 abbrev pub IsRefusedAt : {F : Type 0} → Places F StoredWaker → SpawnError F → Type 0

@@ -1,5 +1,5 @@
 -- The list of the runs' own queues, as it changes.
-use Rattle.std.specs.Prelude.{◌≡◌, ℕ, ◌==◌, List, [], ◌∷◌, ◌++◌, position, remove, slice_get, Option, Some, None}
+use Rattle.std.specs.Prelude.{ℕ, ◌==◌, List, [], ◌∷◌, ◌++◌, position, remove, slice_get, Option, Some, None}
 use Rattle.async_executor.specs.declared.own_queues.Numbered.{Numbered}
 
 module _ {Q : Type 0} where

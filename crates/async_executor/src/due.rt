@@ -1,4 +1,5 @@
 //! What a call leaves to be handed to a schedule value: a wake of a task that polls a tick or a run may lead to it.
+use crate::call::Call;
 use crate::names::ExDue;
 use async_task::{Due, Wake};
 use std::alloc::Global;
@@ -17,7 +18,7 @@ where
             return;
         };
         let state = share(rt, runnable.schedule_value().state());
-        next = state.push(rt, runnable);
+        next = state.push(rt, Call::given(), runnable);
     }
     unreachable!()
 }

@@ -1,14 +1,17 @@
-ghost use Rattle.std.specs.Prelude.{◌≡◌, ◌<◌, IfErr};
+ghost use Rattle.std.specs.Prelude.{◌≡◌, ◌<◌, IfOk, IfErr};
 ghost use Rattle.std.specs.Iterator.{IsFinite};
 ghost use Rattle.async_executor.specs.Errors.{refused};
+ghost use Rattle.async_executor.specs.Stages.{in_hand, closing};
 
+use crate::call::Call;
 use crate::due::{pay, share};
 use crate::errors::SpawnError;
 use crate::handles::Handles;
-use crate::names::{ExRealm, ExTask, ExWaker};
+use crate::names::{ExRealm, ExRunnable, ExTask, ExWaker};
 use crate::queue::ExQueue;
+use crate::sections;
 use crate::spawning::accept;
-use crate::state::State;
+use crate::state::{State, close, take};
 use async_task::{Future, NoMemory, StoredRunnable, StoredWaker, Wake};
 use executor_parts::Places;
 use std::alloc::Global;
@@ -83,7 +86,7 @@ where
 
     /// Whether each future that was accepted is dropped. It takes no memory.
     pub fn is_empty(&self) -> bool {
-        self.table.lock(&self.rt).is_empty()
+        sections::is_empty(&*self.table.lock(&self.rt))
     }
 
     /// Hands the executor a future. Its task is queued, and the handle is answered: a future with the output, whose drop
@@ -93,23 +96,29 @@ where
     ///    not dropped yet, and only then want of memory for the task. The future comes back.
     /// 2. Once the lock is given back: hands the Runnable to the queue, and tells a sleeper.
     pub fn spawn(&self, future: F) -> Result<ExTask<T, W, R>, SpawnError<F>>
-        ensures { IfErr result (λ error. refused error ≡ future) }
+        ensures future { IfErr result (λ error. refused error ≡ future) }
+        ensures here { IfOk result (λ task. task.identity.realm ≡ self.now.realm.now.number) }
     {
         let schedule = ExQueue::new(self.rt, share(self.rt, &self.state));
+        let mut call = Call::begin();
         let accepted = accept(
             &mut *self.table.lock(&self.rt),
             self.rt,
             self.alloc,
             self.realm,
+            &mut call,
             schedule,
             future,
         );
         match accepted {
             Ok((runnable, task)) => {
-                runnable.schedule();
+                self.queue(call, runnable);
                 Ok(task)
             }
-            Err(refused) => Err(refused),
+            Err(refused) => {
+                call.end();
+                Err(refused)
+            }
         }
     }
 
@@ -119,18 +128,27 @@ where
     /// 2. Tells a sleeper, since there may be more.
     /// 3. Runs it: true.
     pub fn try_tick(&self) -> bool {
-        match self.state.queue.pop(&self.rt) {
-            Ok(stored) => {
-                self.notify();
-                self.poll_or_drop(stored);
+        let mut call = Call::begin();
+        match take(&self.state.queue, &self.rt, &mut call) {
+            Some(stored) => {
+                let due = self.state.notify(self.rt, self.realm, &mut call);
+                pay(self.rt, due);
+                self.poll_or_drop(stored, call);
                 true
             }
-            Err(_) => false,
+            None => {
+                call.end();
+                false
+            }
         }
     }
 
-    pub(crate) fn notify(&self) {
-        pay(self.rt, self.state.notify(self.rt, self.realm));
+    /// Puts the Runnable of a new task into the queue, and tells a sleeper.
+    fn queue(&self, call: Call, runnable: ExRunnable<T, W, R>)
+        requires { call ≡ in_hand }
+    {
+        let runnable = runnable.into_scheduled();
+        pay(self.rt, self.state.push(self.rt, call, runnable));
     }
 }
 
@@ -161,16 +179,29 @@ where
         for waker in leaving {
             pay(rt, waker.wake(rt, realm));
         }
-        state.queue.close(&rt);
-        for _ in rt.forever() {
-            let Ok(stored) = state.queue.pop(&rt) else {
-                break;
-            };
-            if let Some(runnable) = stored.redeem(rt, realm) {
-                pay(rt, runnable.close());
-            }
-        }
+        let mut call = Call::begin();
+        state.close(&rt, &mut call);
+        drain(rt, realm, &state, call);
     }
+}
+
+/// Drops each Runnable that is left in the executor's queue, which is closed.
+fn drain<T, W, R>(rt: R, realm: &'static ExRealm<T, W, R>, state: &State<W>, call: Call)
+where
+    T: Drop + 'static,
+    W: Wake + Drop + 'static,
+    R: Wait + Copy + Drop + 'static,
+    requires { call ≡ closing }
+{
+    let mut call = call;
+    for _ in rt.forever() {
+        let Some(stored) = take(&state.queue, &rt, &mut call) else {
+            call.end();
+            return;
+        };
+        pay(rt, close(rt, realm, &mut call, stored));
+    }
+    unreachable!()
 }
 
 /// Drops each future of a table, in the order of acceptance. Their wakers go into a list that has room for them, in the same

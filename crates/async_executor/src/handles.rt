@@ -1,7 +1,10 @@
+ghost use Rattle.std.specs.Prelude.{◌≡◌, ◌==◌, true, [], ◌∷◌, ◌++◌, IfNone, IfSome, OnOk, IfErr, drop as list_drop, slice_get, length, Some};
+
 use crate::names::{ExRealm, ExTask};
 use async_task::{StoredTask, Wake};
 use std::alloc::{AllocError, Global};
 use std::collections::VecDeque;
+use std::marker::Model;
 use std::sync::Wait;
 
 /// Handles in the order in which their futures were spawned. Its drop drops each that is left, which cancels its task.
@@ -18,6 +21,24 @@ where
     tasks: VecDeque<StoredTask>,
 }
 
+impl<T, W, R> Model for Handles<T, W, R>
+where
+    T: Drop + 'static,
+    W: Wake + Drop + 'static,
+    R: Wait + Copy + Drop + 'static,
+{
+    ghost use Rattle.std.specs.Prelude.{map, nat_lt};
+    ghost use Rattle.async_executor.specs.Handing.{Handles as Handed};
+
+    ghost Value = { Handed };
+
+    ghost view = { λ h. record {
+      tasks = map (λ stored. stored.identity) h.tasks.items;
+      realm = h.realm.now.number;
+      has_room = nat_lt h.tasks.len h.tasks.cap;
+    } };
+}
+
 impl<T, W, R> Handles<T, W, R>
 where
     T: Drop + 'static,
@@ -25,7 +46,10 @@ where
     R: Wait + Copy + Drop + 'static,
 {
     /// No handle of an executor whose tasks lie in this realm. It takes no memory.
-    pub(crate) fn new(rt: R, alloc: Global, realm: &'static ExRealm<T, W, R>) -> Self {
+    pub(crate) fn new(rt: R, alloc: Global, realm: &'static ExRealm<T, W, R>) -> Self
+        ensures tasks { result.tasks ≡ [] }
+        ensures realm { result.realm ≡ realm.now.number }
+    {
         Handles {
             rt,
             realm,
@@ -34,17 +58,25 @@ where
     }
 
     /// How many handles there are.
-    pub fn len(&self) -> usize {
+    pub fn len(&self) -> usize
+        ensures { result ≡ length self.now.tasks }
+    {
         self.tasks.len()
     }
 
     /// Whether there is no handle.
-    pub fn is_empty(&self) -> bool {
+    pub fn is_empty(&self) -> bool
+        ensures { result ≡ (length self.now.tasks == 0) }
+    {
         self.tasks.is_empty()
     }
 
     /// Takes out the first handle. It takes no memory.
-    pub fn pop_front(&mut self) -> Option<ExTask<T, W, R>> {
+    pub fn pop_front(&mut self) -> Option<ExTask<T, W, R>>
+        ensures first { IfSome result (λ task. slice_get self.old.tasks 0 ≡ Some task.identity) }
+        ensures rest { self.new.tasks ≡ list_drop 1 self.old.tasks }
+        ensures realm { self.new.realm ≡ self.old.realm }
+    {
         let stored = match self.tasks.pop_front() {
             Some(stored) => stored,
             None => return None,
@@ -53,18 +85,22 @@ where
     }
 
     /// Takes the room for one more.
-    pub(crate) fn reserve(&mut self) -> Result<(), AllocError> {
+    pub(crate) fn reserve(&mut self) -> Result<(), AllocError>
+        ensures tasks { self.new.tasks ≡ self.old.tasks }
+        ensures realm { self.new.realm ≡ self.old.realm }
+        ensures room { OnOk result (self.new.has_room ≡ true) }
+    {
         self.tasks.reserve(1)?;
         Ok(())
     }
 
-    /// One more, of a task in the same realm, comes last. It takes no memory where there is room, and else drops the handle.
-    pub(crate) fn push_back(&mut self, task: ExTask<T, W, R>) {
-        if let Err(refused) = self.tasks.push_back(task.store()) {
-            if let Some(task) = refused.value.redeem(self.rt, self.realm) {
-                drop(task);
-            }
-        }
+    /// One more, of a task in the same realm, comes last. It takes no memory.
+    pub(crate) fn push_back(&mut self, task: ExTask<T, W, R>)
+        requires { self.old.has_room ≡ true }
+        ensures last { self.new.tasks ≡ self.old.tasks ++ task.identity ∷ [] }
+        ensures realm { self.new.realm ≡ self.old.realm }
+    {
+        self.tasks.push_back_reserved(task.store());
     }
 }
 

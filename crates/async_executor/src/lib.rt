@@ -2,6 +2,7 @@
 //! `async-executor` by Stjepan Glavina and others; no text of it is used.
 #![tactic(auto)]
 
+mod call;
 mod debug;
 mod due;
 mod errors;
@@ -14,6 +15,7 @@ mod polling;
 mod queue;
 mod run;
 mod runner;
+mod sections;
 mod sleeping;
 mod spawning;
 mod state;

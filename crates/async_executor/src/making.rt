@@ -3,18 +3,12 @@ ghost use Rattle.std.specs.Prelude.{◌≡◌, IfErr};
 
 use crate::executor::Executor;
 use crate::names::ExWaker;
-use crate::own_queues::OwnQueues;
 use crate::run::Run;
 use crate::runner::Runner;
-use crate::state::{OWN_PLACES, Queue};
 use crate::tick::Tick;
 use crate::ticker::Ticker;
 use async_task::{Future, NoMemory, Wake};
-use concurrent_queue::ConcurrentQueue;
-use rand_core::SeedableRng;
-use rand_xoshiro::Xoshiro256PlusPlus;
-use std::alloc::Global;
-use std::sync::{Arc, Wait};
+use std::sync::Wait;
 
 impl<F, T, W, R> Executor<F, T, W, R>
 where
@@ -55,7 +49,7 @@ where
         let Ok(room) = made else {
             return Err(future);
         };
-        match self.runner(seed) {
+        match Runner::new(&self.rt, self.alloc, &self.state, seed) {
             Ok(runner) => Ok(Run {
                 executor: self,
                 future: Some(future),
@@ -67,26 +61,6 @@ where
                 self.state.sleepers.lock(&self.rt).give_back(room);
                 Err(future)
             }
-        }
-    }
-
-    fn runner(&self, seed: u64) -> Result<Runner, NoMemory> {
-        let Ok(own) = ConcurrentQueue::bounded(self.alloc, OWN_PLACES) else {
-            return Err(NoMemory);
-        };
-        let Ok(own) = Arc::new(self.alloc, own) else {
-            return Err(NoMemory);
-        };
-        let room = self.state.own_queues.write(&self.rt).take_room();
-        match room {
-            Ok(room) => Ok(Runner {
-                own,
-                room,
-                is_listed: false,
-                words: Xoshiro256PlusPlus::seed_from_u64(seed),
-                counted: 0,
-            }),
-            Err(_) => Err(NoMemory),
         }
     }
 }

@@ -1,8 +1,15 @@
 //! How a task of the executor is run: its future is polled, or dropped where the task is closed. Each look at the table is
 //! one section of its lock, and no lock is held while code of a user runs.
+ghost use Rattle.std.specs.Prelude.{◌≡◌};
+ghost use Rattle.async_executor.specs.Stages.{in_hand};
+
+use crate::call::Call;
 use crate::due::pay;
 use crate::executor::Executor;
 use crate::names::{ExClosing, ExRunning, ExWaker};
+use crate::sections;
+use crate::sections::Taken;
+use crate::state::redeem;
 use async_task::{Back, Future, Poll, RunEnd, Started, StoredRunnable, Wake};
 use executor_parts::Place;
 use std::sync::Wait;
@@ -14,11 +21,16 @@ where
     W: Wake + Drop + 'static,
     R: Wait + Copy + Drop + 'static,
 {
-    /// Runs a task that was queued.
-    pub(crate) fn poll_or_drop(&self, stored: StoredRunnable) {
-        let Some(scheduled) = stored.redeem(self.rt, self.realm) else {
+    /// Runs the task in hand, and ends the call.
+    pub(crate) fn poll_or_drop(&self, stored: StoredRunnable, call: Call)
+        requires { call ≡ in_hand }
+    {
+        let mut call = call;
+        let Some(scheduled) = redeem(self.rt, self.realm, &mut call, stored) else {
+            call.end();
             return;
         };
+        call.start();
         match scheduled.into_runnable().start() {
             Started::Poll(place, running) => self.poll(place, running),
             Started::Drop(place, closing) => self.drop_future(place, closing),
@@ -26,9 +38,12 @@ where
     }
 
     fn poll(&self, place: Place, running: ExRunning<T, W, R>) {
-        let taken = self.table.lock(&self.rt).take(place);
+        let taken = sections::take(&mut *self.table.lock(&self.rt), place);
         let back = match taken {
-            Some(future) => self.poll_future(place, future, &running),
+            Some(taken) => match self.poll_future(place, taken, &running) {
+                Poll::Ready(output) => Back::Ready(output),
+                Poll::Pending => Back::Pending(place),
+            },
             None => Back::Pending(place),
         };
         match running.settle(back) {
@@ -37,31 +52,36 @@ where
         }
     }
 
-    fn poll_future(&self, place: Place, future: F, running: &ExRunning<T, W, R>) -> Back<Place, T> {
-        let mut future = future;
-        match future.poll(running.waker()) {
+    /// Polls a future that was taken out of this place, and puts it back, or drops it where it is ready.
+    fn poll_future(&self, place: Place, taken: Taken<F>, running: &ExRunning<T, W, R>) -> Poll<T>
+        requires { taken.place ≡ place }
+    {
+        let mut taken = taken;
+        match taken.poll(running.waker()) {
             Poll::Ready(output) => {
-                drop(future);
+                drop(taken.into_future());
                 self.leave(place);
-                Back::Ready(output)
+                Poll::Ready(output)
             }
             Poll::Pending => {
-                let displaced = self.table.lock(&self.rt).put_back(place, future);
+                let displaced = sections::put_back(&mut *self.table.lock(&self.rt), taken);
                 drop(displaced);
-                Back::Pending(place)
+                Poll::Pending
             }
         }
     }
 
     fn drop_future(&self, place: Place, closing: ExClosing<T, W, R>) {
-        let taken = self.table.lock(&self.rt).take(place);
-        drop(taken);
+        let taken = sections::take(&mut *self.table.lock(&self.rt), place);
+        if let Some(taken) = taken {
+            drop(taken.into_future());
+        }
         self.leave(place);
         closing.finish();
     }
 
     fn leave(&self, place: Place) {
-        let left = self.table.lock(&self.rt).leave(place);
+        let left = sections::leave(&mut *self.table.lock(&self.rt), place);
         if let Some((future, waker)) = left {
             drop(future);
             pay(self.rt, waker.release(self.rt, self.realm));

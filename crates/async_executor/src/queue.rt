@@ -1,3 +1,4 @@
+use crate::call::Call;
 use crate::due::pay;
 use crate::names::ExScheduled;
 use crate::state::State;
@@ -42,6 +43,6 @@ where
     ///
     /// Once the executor's drop has begun the queue is closed, and the Runnable is dropped in its place.
     fn schedule(&self, runnable: ExScheduled<T, W, R>, _info: ScheduleInfo) {
-        pay(self.rt, self.state.push(self.rt, runnable));
+        pay(self.rt, self.state.push(self.rt, Call::given(), runnable));
     }
 }

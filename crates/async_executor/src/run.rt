@@ -1,3 +1,6 @@
+ghost use Rattle.async_executor.specs.Calls.{IsFoundInHand};
+
+use crate::call::Call;
 use crate::errors::RunError;
 use crate::executor::Executor;
 use crate::names::ExWaker;
@@ -83,11 +86,11 @@ where
         let executor = self.executor;
         for _ in self.taken..TASKS_OF_ONE_POLL {
             match self.find(waker) {
-                Found::Runnable(runnable) => {
+                Found::Runnable(runnable, call) => {
                     self.runner
                         .count(executor.rt, &executor.state, executor.realm);
                     self.taken = self.taken.saturating_add(1);
-                    executor.poll_or_drop(runnable);
+                    executor.poll_or_drop(runnable, call);
                 }
                 Found::NoMemory => return Poll::Ready(Err(RunError::NoMemory)),
                 Found::Nothing | Found::SearchAgain => return Poll::Pending,
@@ -99,16 +102,23 @@ where
     }
 
     /// Searches until a task is found, or the run lies down.
-    fn find(&mut self, waker: &ExWaker<T, W, R>) -> Found {
+    fn find(&mut self, waker: &ExWaker<T, W, R>) -> Found
+        ensures { IsFoundInHand result }
+    {
         let executor = self.executor;
         for _ in executor.rt.forever() {
+            let mut call = Call::begin();
             let found = self
                 .runner
-                .search(executor.rt, &executor.state, executor.realm);
-            match self
-                .ticker
-                .after_search(executor.rt, &executor.state, executor.realm, found, waker)
-            {
+                .search(executor.rt, &executor.state, executor.realm, &mut call);
+            match self.ticker.after_search(
+                executor.rt,
+                &executor.state,
+                executor.realm,
+                call,
+                found,
+                waker,
+            ) {
                 Found::SearchAgain => {}
                 found => return found,
             }
@@ -141,14 +151,7 @@ where
         drop(future);
         runner.end(executor.rt, &executor.state, executor.realm);
         ticker.leave(executor.rt, &executor.state, executor.realm);
-        let Runner {
-            own,
-            room,
-            is_listed: _,
-            words: _,
-            counted: _,
-        } = runner;
-        drop(own);
+        let room = runner.finish();
         executor
             .state
             .own_queues

@@ -1,13 +1,19 @@
 //! The own queue of a run, and how a run searches.
+ghost use Rattle.std.specs.Prelude.{◌≡◌, true, false, IfOk, is_some};
+ghost use Rattle.async_executor.specs.Stages.{idle, begun};
+
+use crate::call::Call;
 use crate::due::{pay, share};
 use crate::names::ExRealm;
 use crate::own_queues::RunRoom;
-use crate::state::{Queue, State};
+use crate::state::{OWN_PLACES, Queue, State, take};
 use crate::steal::steal;
 use async_task::{NoMemory, StoredRunnable, Wake};
-use rand_core::Rng;
+use concurrent_queue::ConcurrentQueue;
+use rand_core::{Rng, SeedableRng};
 use rand_xoshiro::Xoshiro256PlusPlus;
 use std::alloc::Global;
+use std::snapshot::Snapshot;
 use std::sync::{Arc, Wait};
 
 /// After how many tasks a run steals from the global queue before it runs the next.
@@ -15,18 +21,64 @@ const TASKS_BETWEEN_STEALS: u64 = 64;
 
 /// What a run has of its own among the queues.
 pub struct Runner {
-    pub own: Arc<Queue, Global>,
-    /// Its room in the executor's list, with the number under which the own queue stands there.
-    pub room: RunRoom,
-    /// Whether it stands there: from the first poll to the end.
-    pub is_listed: bool,
-    /// Says at which queue each walk starts.
-    pub words: Xoshiro256PlusPlus,
-    /// How many tasks the run has taken in its life.
-    pub counted: u64,
+    own: Arc<Queue, Global>,
+    // Its room in the executor's list, with the number under which the own queue stands there.
+    room: RunRoom,
+    // Whether it stands there: from the first poll to the end.
+    is_listed: bool,
+    // Whether the own queue was found empty once it stood in no list. Only contracts read it.
+    is_drained: Snapshot<bool>,
+    // Says at which queue each walk starts.
+    words: Xoshiro256PlusPlus,
+    // How many tasks the run has taken in its life.
+    counted: u64,
 }
 
 impl Runner {
+    /// An own queue, whose places are taken here, and where walks start.
+    pub fn new<W, R: Wait>(
+        rt: &R,
+        alloc: Global,
+        state: &State<W>,
+        seed: u64,
+    ) -> Result<Runner, NoMemory> {
+        let Ok(own) = ConcurrentQueue::bounded(alloc, OWN_PLACES) else {
+            return Err(NoMemory);
+        };
+        let Ok(own) = Arc::new(alloc, own) else {
+            return Err(NoMemory);
+        };
+        let room = state.own_queues.write(rt).take_room();
+        match room {
+            Ok(room) => Ok(Runner {
+                own,
+                room,
+                is_listed: false,
+                is_drained: Snapshot::of(&false),
+                words: Xoshiro256PlusPlus::seed_from_u64(seed),
+                counted: 0,
+            }),
+            Err(_) => Err(NoMemory),
+        }
+    }
+
+    /// The own queue goes, which is empty, and the room in the executor's list is to be given back.
+    pub fn finish(self) -> RunRoom
+        requires { self.is_drained.value ≡ true }
+        ensures { result ≡ self.room }
+    {
+        let Runner {
+            own,
+            room,
+            is_listed: _,
+            is_drained: _,
+            words: _,
+            counted: _,
+        } = self;
+        drop(own);
+        room
+    }
+
     /// Puts the own queue into the executor's list, where it isn't there yet.
     pub fn begin<W, R: Wait + Copy + Drop>(
         &mut self,
@@ -52,21 +104,33 @@ impl Runner {
         T: Drop + 'static,
         W: Wake + Drop + 'static,
         R: Wait + Copy + Drop + 'static,
+        ensures { self.new.is_drained.value ≡ true }
     {
-        if !self.is_listed {
-            return;
+        if self.is_listed {
+            self.is_listed = false;
+            let listed = state.own_queues.write(&rt).remove(&self.room);
+            drop(listed);
         }
-        self.is_listed = false;
-        let listed = state.own_queues.write(&rt).remove(&self.room);
-        drop(listed);
         for _ in rt.forever() {
-            let Ok(stored) = self.own.pop(&rt) else {
+            let mut call = Call::begin();
+            let Some(stored) = self.take_last(&rt, &mut call) else {
+                call.end();
                 return;
             };
-            if let Some(runnable) = stored.redeem(rt, realm) {
-                pay(rt, state.push(rt, runnable));
-            }
+            pay(rt, state.push_stored(rt, realm, call, stored));
         }
+        unreachable!()
+    }
+
+    /// Takes the first of the own queue, which stands in no list any more.
+    fn take_last<R: Wait>(&mut self, rt: &R, call: &mut Call) -> Option<StoredRunnable>
+        requires { call.old ≡ begun }
+        ensures call { call.new ≡ record idle { holds = is_some result; owes = is_some result } }
+        ensures drained { result ≡ None → self.new.is_drained.value ≡ true }
+    {
+        let found = take(&self.own, rt, call);
+        self.is_drained = Snapshot::of(&found.is_none());
+        found
     }
 
     /// Counts a task. At every 64th that the run has counted in its life, it steals from the global queue.
@@ -93,21 +157,24 @@ impl Runner {
         rt: R,
         state: &State<W>,
         realm: &'static ExRealm<T, W, R>,
+        call: &mut Call,
     ) -> Option<StoredRunnable>
     where
         T: Drop + 'static,
         W: Wake + Drop + 'static,
         R: Wait + Copy + Drop + 'static,
+        requires { call.old ≡ begun }
+        ensures { call.new ≡ record idle { holds = is_some result; owes = is_some result } }
     {
-        if let Ok(runnable) = self.own.pop(&rt) {
+        if let Some(runnable) = take(&self.own, &rt, call) {
             return Some(runnable);
         }
-        if let Ok(runnable) = state.queue.pop(&rt) {
+        if let Some(runnable) = take(&state.queue, &rt, call) {
             let refused = steal(&rt, &state.queue, &self.own);
             drop_refused(rt, realm, refused);
             return Some(runnable);
         }
-        let (found, refused) = self.walk(&rt, state);
+        let (found, refused) = self.walk(&rt, state, call);
         drop_refused(rt, realm, refused);
         found
     }
@@ -118,7 +185,11 @@ impl Runner {
         &mut self,
         rt: &R,
         state: &State<W>,
-    ) -> (Option<StoredRunnable>, Option<StoredRunnable>) {
+        call: &mut Call,
+    ) -> (Option<StoredRunnable>, Option<StoredRunnable>)
+        requires { call.old ≡ idle }
+        ensures { call.new ≡ record idle { holds = is_some result.0; owes = is_some result.0 } }
+    {
         let queues = state.own_queues.read(rt);
         let queues = queues.all();
         if queues.is_empty() {
@@ -134,7 +205,7 @@ impl Runner {
             if refused.is_some() {
                 return (None, refused);
             }
-            if let Ok(runnable) = self.own.pop(rt) {
+            if let Some(runnable) = take(&self.own, rt, call) {
                 return (Some(runnable), None);
             }
         }

@@ -1,7 +1,9 @@
-ghost use Rattle.std.specs.Prelude.{◌≡◌, IfOk, IfErr, IfSome};
-ghost use Rattle.async_executor.specs.Accepting.{Accepts, IsRefusedAt};
+ghost use Rattle.std.specs.Prelude.{◌≡◌, IfOk, IfErr, IfSome, is_ok};
+ghost use Rattle.async_executor.specs.Accepting.{Accepts, IsRefusedAt, refused_as};
 ghost use Rattle.async_executor.specs.Errors.{refused};
+ghost use Rattle.async_executor.specs.Stages.{begun, idle};
 
+use crate::call::Call;
 use crate::errors::SpawnError;
 use crate::names::{ExRealm, ExRunnable, ExTask};
 use crate::queue::ExQueue;
@@ -20,6 +22,7 @@ pub fn accept<F, T, W, R>(
     rt: R,
     alloc: Global,
     realm: &'static ExRealm<T, W, R>,
+    call: &mut Call,
     schedule: ExQueue<T, W, R>,
     future: F,
 ) -> Result<(ExRunnable<T, W, R>, ExTask<T, W, R>), SpawnError<F>>
@@ -28,6 +31,9 @@ where
     T: Drop + 'static,
     W: Wake + Drop + 'static,
     R: Wait + Copy + Drop + 'static,
+    requires { call.old ≡ begun }
+    ensures call { call.new ≡ record idle { holds = is_ok result } }
+    ensures here { IfOk result (λ both. both.1.identity.realm ≡ realm.now.number) }
     ensures accepted { IfOk result (λ both. Accepts table.old table.new future both.1) }
     ensures one_task { IfOk result (λ both. both.0 ≡ both.1) }
     ensures future { IfErr result (λ error. refused error ≡ future) }
@@ -36,18 +42,32 @@ where
 {
     let vacancy = match table.vacancy() {
         Ok(vacancy) => vacancy,
-        Err(SpawnRefused::Full) => return Err(SpawnError::Full(future)),
-        Err(SpawnRefused::NoMemory) => return Err(SpawnError::NoMemory(future)),
+        Err(refused) => {
+            call.accept(false);
+            return Err(because(refused, future));
+        }
     };
     match made(rt, alloc, realm, schedule, vacancy.place()) {
         Some((runnable, task, waker)) => {
             table.enter(vacancy, future, waker);
+            call.accept(true);
             Ok((runnable, task))
         }
         None => {
             vacancy.give_back();
+            call.accept(false);
             Err(SpawnError::NoMemory(future))
         }
+    }
+}
+
+/// Why the table refused a future, which goes back.
+fn because<F>(refused: SpawnRefused, future: F) -> SpawnError<F>
+    ensures { result ≡ refused_as refused future }
+{
+    match refused {
+        SpawnRefused::Full => SpawnError::Full(future),
+        SpawnRefused::NoMemory => SpawnError::NoMemory(future),
     }
 }
 
@@ -64,6 +84,7 @@ where
     W: Wake + Drop + 'static,
     R: Wait + Copy + Drop + 'static,
     ensures one_task { IfSome result (λ made. made.0 ≡ made.1) }
+    ensures here { IfSome result (λ made. made.0.identity.realm ≡ realm.now.number) }
     ensures waker { IfSome result (λ made. made.2.identity ≡ made.1.identity) }
 {
     match spawn(rt, alloc, realm, place, schedule) {

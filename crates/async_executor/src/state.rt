@@ -1,12 +1,16 @@
 //! What the threads of an executor share, but for its futures.
-ghost use Rattle.std.specs.Prelude.{◌<◌};
+ghost use Rattle.std.specs.Prelude.{◌≡◌, ◌≢◌, ◌<◌, true, false, Some, None, IfOk, IfErr, IfNone, IfSome, OnOk, OnSome, is_some, length};
+ghost use Rattle.executor_parts.specs.Sleepers.{last_waker, without_last};
+ghost use Rattle.async_executor.specs.Calls.{flag_risen};
+ghost use Rattle.async_executor.specs.Stages.{taken};
 
+use crate::call::Call;
 use crate::names::{ExDue, ExRealm, ExScheduled};
 use crate::own_queues::OwnQueues;
 use crate::sleeping::SleeperWaker;
 use crate::ticker::Risen;
 use async_task::{NoMemory, StoredRunnable, Wake};
-use concurrent_queue::{ConcurrentQueue, PushError};
+use concurrent_queue::ConcurrentQueue;
 use executor_parts::Sleepers;
 use std::alloc::Global;
 use std::sync::atomic::{AtomicBool, Ordering};
@@ -47,16 +51,83 @@ impl<W: Drop> State<W> {
         }
     }
 
-    /// Stores the flag, which is done under the sleepers' lock.
-    pub fn store_flag(&self, notified: bool) {
-        self.notified.store(notified, Ordering::SeqCst);
+    /// Closes the executor's queue.
+    pub fn close<R: Wait>(&self, rt: &R, call: &mut Call)
+        ensures { call.new ≡ record call.old { is_new = false; closed = true } }
+    {
+        self.queue.close(rt);
+        call.find_closed();
     }
 
-    /// Stores what the flag becomes where one got up. The waker that it had is the answer.
-    pub fn store_risen(&self, risen: Option<Risen<W>>) -> Option<SleeperWaker<W>> {
+    /// Puts the Runnable in hand into the executor's queue, or answers it where that is closed.
+    fn append<R: Wait>(
+        &self,
+        rt: &R,
+        call: &mut Call,
+        runnable: StoredRunnable,
+    ) -> Result<(), StoredRunnable>
+        requires { call.old.holds ≡ true }
+        ensures appended { OnOk result (call.new ≡ record call.old { holds = false; owes = true }) }
+        ensures back { IfErr result (λ back. back ≡ runnable) }
+        ensures closed { IfErr result (λ _. call.new ≡ record call.old { is_new = false; closed = true }) }
+    {
+        match self.queue.push(rt, runnable) {
+            Ok(()) => {
+                call.append();
+                Ok(())
+            }
+            Err(refused) => {
+                call.find_closed();
+                Err(refused.into_inner())
+            }
+        }
+    }
+
+    /// Exchanges the flag from false to true, and says whether it was false: then a waker is to be handed out.
+    fn exchange(&self, call: &mut Call) -> bool
+        requires { call.old.owes ≡ true }
+        ensures { call.new ≡ record call.old { owes = false; won = result } }
+    {
+        let won = self
+            .notified
+            .compare_exchange(false, true, Ordering::SeqCst, Ordering::SeqCst)
+            .is_ok();
+        call.exchange(won);
+        won
+    }
+
+    /// Tells a sleeper that there is something to do, unless one has been told already: its waker is the answer, which is
+    /// called once no lock is held.
+    ///
+    /// 1. Exchanges the flag from false to true. Where it was true, that is all.
+    /// 2. Takes, under the sleepers' lock, the waker added last, if there are as many wakers as sleepers.
+    fn tell<R: Wait>(&self, rt: &R, call: &mut Call) -> Option<SleeperWaker<W>>
+        requires { call.old.owes ≡ true }
+        ensures { call.new ≡ record call.old { owes = false; won = false } }
+    {
+        if !self.exchange(call) {
+            return None;
+        }
+        hand_out(&mut *self.sleepers.lock(rt), call)
+    }
+
+    /// Stores the flag, which is done under the sleepers' lock.
+    pub fn store_flag(&self, call: &mut Call, notified: bool)
+        requires { call.old.flag ≡ Some notified }
+        ensures { call.new ≡ record call.old { flag = None } }
+    {
+        self.notified.store(notified, Ordering::SeqCst);
+        call.store_flag(notified);
+    }
+
+    /// Stores what the flag becomes where one got up or left. The waker that it had is the answer.
+    pub fn store_risen(&self, call: &mut Call, risen: Option<Risen<W>>) -> Option<SleeperWaker<W>>
+        requires { call.old.flag ≡ flag_risen risen }
+        ensures { call.new ≡ record call.old { flag = None } }
+    {
         match risen {
             Some(Risen { notified, waker }) => {
-                self.store_flag(notified);
+                self.store_flag(call, notified);
                 waker
             }
             None => None,
@@ -64,47 +135,152 @@ impl<W: Drop> State<W> {
     }
 }
 
+/// Takes the first Runnable of a queue in hand, where there is one.
+pub fn take<R: Wait>(queue: &Queue, rt: &R, call: &mut Call) -> Option<StoredRunnable>
+    requires free { call.old.holds ≡ false }
+    requires told { call.old.owes ≡ false }
+    ensures { call.new ≡ record call.old { is_new = false; holds = is_some result; owes = is_some result } }
+{
+    match queue.pop(rt) {
+        Ok(runnable) => {
+            call.take(true);
+            Some(runnable)
+        }
+        Err(_) => {
+            call.take(false);
+            None
+        }
+    }
+}
+
+/// The section of the sleepers' lock in which the winner of the flag's exchange takes a waker out.
+pub fn hand_out<W>(
+    sleepers: &mut Sleepers<SleeperWaker<W>>,
+    call: &mut Call,
+) -> Option<SleeperWaker<W>>
+    requires { call.old.won ≡ true }
+    ensures handed { call.new ≡ record call.old { won = false } }
+    ensures told { length sleepers.old.wakers ≢ sleepers.old.count → (result ≡ None) × (sleepers.new ≡ sleepers.old) }
+    ensures last { length sleepers.old.wakers ≡ sleepers.old.count → result ≡ last_waker sleepers.old.wakers }
+    ensures left { length sleepers.old.wakers ≡ sleepers.old.count → sleepers.new ≡ without_last sleepers.old }
+{
+    call.hand_out();
+    sleepers.hand_out()
+}
+
+/// Closes the Runnable in hand, as the executor's queue is closed. Where that leads to a task that has to be queued, it is the
+/// answer.
+pub fn close<T, W, R>(
+    rt: R,
+    realm: &'static ExRealm<T, W, R>,
+    call: &mut Call,
+    runnable: StoredRunnable,
+) -> Option<ExDue<T, W, R>>
+where
+    T: Drop + 'static,
+    W: Wake + Drop + 'static,
+    R: Wait + Copy + Drop + 'static,
+    requires holds { call.old.holds ≡ true }
+    requires closed { call.old.closed ≡ true }
+    ensures { call.new ≡ record call.old { holds = false; owes = false } }
+{
+    call.close();
+    match runnable.redeem(rt, realm) {
+        Some(runnable) => runnable.close(),
+        None => None,
+    }
+}
+
+/// The Runnable in hand, of its number. Where that is of another realm, nothing is in hand any more.
+pub fn redeem<T, W, R>(
+    rt: R,
+    realm: &'static ExRealm<T, W, R>,
+    call: &mut Call,
+    runnable: StoredRunnable,
+) -> Option<ExScheduled<T, W, R>>
+where
+    T: Drop + 'static,
+    W: Wake + Drop + 'static,
+    R: Wait + Copy + Drop + 'static,
+    requires { call.old.holds ≡ true }
+    ensures found { OnSome result (call.new ≡ call.old) }
+    ensures missed { IfNone result (call.new ≡ record call.old { holds = false; owes = false }) }
+    ensures task { IfSome result (λ found. found.identity ≡ runnable.identity) }
+{
+    match runnable.redeem(rt, realm) {
+        Some(found) => Some(found),
+        None => {
+            call.miss();
+            None
+        }
+    }
+}
+
 impl<W: Wake + Drop + 'static> State<W> {
-    /// Puts a Runnable into the executor's queue, and tells a sleeper. Where that leads to a task that has to be queued, it
-    /// is the answer. From a queue that is closed the Runnable comes back, and is dropped.
-    pub fn push<T, R>(&self, rt: R, runnable: ExScheduled<T, W, R>) -> Option<ExDue<T, W, R>>
+    /// Puts the Runnable in hand into the executor's queue, tells a sleeper, and ends the call. Where that leads to a task that
+    /// has to be queued, it is the answer. From a queue that is closed the Runnable comes back, and is dropped.
+    pub fn push<T, R>(
+        &self,
+        rt: R,
+        call: Call,
+        runnable: ExScheduled<T, W, R>,
+    ) -> Option<ExDue<T, W, R>>
     where
         T: Drop + 'static,
         R: Wait + Copy + Drop + 'static,
+        requires holds { call.holds ≡ true }
+        requires made { call.is_new ≡ false }
+        requires handed { call.won ≡ false }
+        requires stored { call.flag ≡ None }
     {
+        let mut call = call;
         let realm = runnable.realm();
-        match self.queue.push(&rt, runnable.store()) {
-            Ok(()) => self.notify(rt, realm),
-            Err(
-                PushError::Closed(stored) | PushError::Full(stored) | PushError::NoMemory(stored),
-            ) => {
-                match stored.redeem(rt, realm) {
-                    Some(runnable) => runnable.close(),
-                    None => None,
-                }
+        let due = match self.append(&rt, &mut call, runnable.store()) {
+            Ok(()) => self.notify(rt, realm, &mut call),
+            Err(back) => close(rt, realm, &mut call, back),
+        };
+        call.end();
+        due
+    }
+
+    /// The same for a Runnable that rested in a queue.
+    pub fn push_stored<T, R>(
+        &self,
+        rt: R,
+        realm: &'static ExRealm<T, W, R>,
+        call: Call,
+        stored: StoredRunnable,
+    ) -> Option<ExDue<T, W, R>>
+    where
+        T: Drop + 'static,
+        R: Wait + Copy + Drop + 'static,
+        requires { call ≡ taken }
+    {
+        let mut call = call;
+        match redeem(rt, realm, &mut call, stored) {
+            Some(runnable) => self.push(rt, call, runnable),
+            None => {
+                call.end();
+                None
             }
         }
     }
 
-    /// Tells a sleeper that there is something to do, unless one has been told already.
-    ///
-    /// 1. Exchanges the flag from false to true. Where it was true, that is all.
-    /// 2. Takes, under the sleepers' lock, the waker added last, if there are as many wakers as sleepers.
-    /// 3. Calls it, once the lock is given back. Where that leads to a task that has to be queued, it is the answer.
-    pub fn notify<T, R>(&self, rt: R, realm: &'static ExRealm<T, W, R>) -> Option<ExDue<T, W, R>>
+    /// Tells a sleeper that there is something to do, unless one has been told already, and calls its waker once the lock is
+    /// given back. Where that leads to a task that has to be queued, it is the answer.
+    pub fn notify<T, R>(
+        &self,
+        rt: R,
+        realm: &'static ExRealm<T, W, R>,
+        call: &mut Call,
+    ) -> Option<ExDue<T, W, R>>
     where
         T: Drop + 'static,
         R: Wait + Copy + Drop + 'static,
+        requires { call.old.owes ≡ true }
+        ensures { call.new ≡ record call.old { owes = false; won = false } }
     {
-        if self
-            .notified
-            .compare_exchange(false, true, Ordering::SeqCst, Ordering::SeqCst)
-            .is_err()
-        {
-            return None;
-        }
-        let waker = self.sleepers.lock(&rt).hand_out();
-        match waker {
+        match self.tell(&rt, call) {
             Some(waker) => waker.wake(rt, realm),
             None => None,
         }

@@ -1,5 +1,7 @@
+use crate::call::Call;
 use crate::executor::Executor;
 use crate::names::ExWaker;
+use crate::state::take;
 use crate::ticker::{Found, Ticker};
 use async_task::{Future, NoMemory, Poll, Wake};
 use std::sync::Wait;
@@ -34,13 +36,18 @@ where
     fn poll(&mut self, waker: &ExWaker<T, W, R>) -> Poll<Result<(), NoMemory>> {
         let executor = self.executor;
         for _ in executor.rt.forever() {
-            let found = executor.state.queue.pop(&executor.rt).ok();
-            match self
-                .ticker
-                .after_search(executor.rt, &executor.state, executor.realm, found, waker)
-            {
-                Found::Runnable(runnable) => {
-                    executor.poll_or_drop(runnable);
+            let mut call = Call::begin();
+            let found = take(&executor.state.queue, &executor.rt, &mut call);
+            match self.ticker.after_search(
+                executor.rt,
+                &executor.state,
+                executor.realm,
+                call,
+                found,
+                waker,
+            ) {
+                Found::Runnable(runnable, call) => {
+                    executor.poll_or_drop(runnable, call);
                     return Poll::Ready(Ok(()));
                 }
                 Found::SearchAgain => {}

@@ -1,7 +1,10 @@
 //! How ticks and runs lie down among the sleepers, get up, and leave them.
-ghost use Rattle.std.specs.Prelude.{◌≡◌};
+ghost use Rattle.std.specs.Prelude.{◌≡◌, true, false, None, is_some};
+ghost use Rattle.async_executor.specs.Calls.{flag_laid, flag_risen, IsFoundInHand};
 ghost use Rattle.async_executor.specs.Sleeping.{LiesDown, GetsUp, Leaves};
+ghost use Rattle.async_executor.specs.Stages.{idle, begun};
 
+use crate::call::Call;
 use crate::due::pay;
 use crate::names::{ExRealm, ExWaker};
 use crate::sleeping::SleeperWaker;
@@ -23,8 +26,8 @@ pub enum Ticker {
 
 /// What a tick or run finds.
 pub enum Found {
-    /// A Runnable: it is up, and another sleeper was told.
-    Runnable(StoredRunnable),
+    /// A Runnable, which is in hand: it is up, and another sleeper was told.
+    Runnable(StoredRunnable, Call),
     /// Nothing yet: it lies, and has to search once more.
     SearchAgain,
     /// Nothing: it lies, and its waker will be called, or was called at once where it can't be kept.
@@ -52,7 +55,7 @@ pub struct Risen<W> {
 }
 
 impl Ticker {
-    /// What a search leads to.
+    /// What a search leads to, which the call has made.
     ///
     /// 1. Where it found a Runnable: gets up, tells another sleeper that there may be more, and answers it.
     /// 2. Else copies the waker, and lies down with the copy.
@@ -65,6 +68,7 @@ impl Ticker {
         rt: R,
         state: &State<W>,
         realm: &'static ExRealm<T, W, R>,
+        call: Call,
         found: Option<StoredRunnable>,
         waker: &ExWaker<T, W, R>,
     ) -> Found
@@ -72,51 +76,83 @@ impl Ticker {
         T: Drop + 'static,
         W: Wake + Drop + 'static,
         R: Wait + Copy + Drop + 'static,
+        requires { call ≡ record idle { holds = is_some found; owes = is_some found } }
+        ensures { IsFoundInHand result }
     {
-        if let Some(runnable) = found {
-            self.get_up(rt, state, realm);
-            pay(rt, state.notify(rt, realm));
-            return Found::Runnable(runnable);
+        match found {
+            Some(runnable) => {
+                let mut call = call;
+                self.get_up(rt, state, realm, &mut call);
+                pay(rt, state.notify(rt, realm, &mut call));
+                Found::Runnable(runnable, call)
+            }
+            None => self.after_nothing(rt, state, realm, call, waker),
         }
+    }
+
+    /// What a search leads to that found nothing.
+    fn after_nothing<T, W, R>(
+        &mut self,
+        rt: R,
+        state: &State<W>,
+        realm: &'static ExRealm<T, W, R>,
+        call: Call,
+        waker: &ExWaker<T, W, R>,
+    ) -> Found
+    where
+        T: Drop + 'static,
+        W: Wake + Drop + 'static,
+        R: Wait + Copy + Drop + 'static,
+        requires { call ≡ idle }
+        ensures { IsFoundInHand result }
+    {
         if lies_elsewhere(waker, realm) {
+            call.end();
             waker.wake_by_ref();
             return Found::Nothing;
         }
         let Some(copy) = SleeperWaker::of(waker) else {
+            call.end();
             return Found::NoMemory;
         };
-        if self.lie_down(rt, state, realm, copy) {
+        if self.lie_down(rt, state, realm, call, copy) {
             Found::SearchAgain
         } else {
             Found::Nothing
         }
     }
 
-    /// Lies down with a waker, and says whether it has to search again: whether it wasn't lying, or had been told.
+    /// Lies down with a waker, and says whether it has to search again: whether it wasn't lying, or had been told. It ends the
+    /// call.
     fn lie_down<T, W, R>(
         &mut self,
         rt: R,
         state: &State<W>,
         realm: &'static ExRealm<T, W, R>,
+        call: Call,
         waker: SleeperWaker<W>,
     ) -> bool
     where
         T: Drop + 'static,
         W: Wake + Drop + 'static,
         R: Wait + Copy + Drop + 'static,
+        requires { call ≡ idle }
     {
+        let mut call = call;
         let laid = {
             let mut sleepers = state.sleepers.lock(&rt);
             let (ticker, laid) = mem::replace(self, Ticker::Left).lie_down_in(
                 &mut *sleepers,
+                &mut call,
                 waker,
             );
             self.turn_into(ticker);
             if let Laid::Anew(notified) = &laid {
-                state.store_flag(*notified);
+                state.store_flag(&mut call, *notified);
             }
             laid
         };
+        call.end();
         match laid {
             Laid::Anew(_) => true,
             Laid::Already(old) => {
@@ -130,21 +166,30 @@ impl Ticker {
         }
     }
 
-    /// Gets up, where it lies.
-    fn get_up<T, W, R>(&mut self, rt: R, state: &State<W>, realm: &'static ExRealm<T, W, R>)
+    /// Gets up, where it lies. That it had been told is of no account, as the call tells another.
+    fn get_up<T, W, R>(
+        &mut self,
+        rt: R,
+        state: &State<W>,
+        realm: &'static ExRealm<T, W, R>,
+        call: &mut Call,
+    )
     where
         T: Drop + 'static,
         W: Wake + Drop + 'static,
         R: Wait + Copy + Drop + 'static,
+        requires owes { call.old.owes ≡ true }
+        requires stored { call.old.flag ≡ None }
+        ensures { call.new ≡ call.old }
     {
         if !self.lies() {
             return;
         }
         let waker = {
             let mut sleepers = state.sleepers.lock(&rt);
-            let (ticker, risen) = mem::replace(self, Ticker::Left).get_up_in(&mut *sleepers);
+            let (ticker, risen) = mem::replace(self, Ticker::Left).get_up_in(&mut *sleepers, call);
             self.turn_into(ticker);
-            state.store_risen(risen)
+            state.store_risen(call, risen)
         };
         if let Some(waker) = waker {
             pay(rt, waker.release(rt, realm));
@@ -158,17 +203,19 @@ impl Ticker {
         W: Wake + Drop + 'static,
         R: Wait + Copy + Drop + 'static,
     {
+        let mut call = Call::begin();
         let (waker, was_told) = {
             let mut sleepers = state.sleepers.lock(&rt);
-            let (risen, was_told) = self.leave_in(&mut *sleepers);
-            (state.store_risen(risen), was_told)
+            let (risen, was_told) = self.leave_in(&mut *sleepers, &mut call);
+            (state.store_risen(&mut call, risen), was_told)
         };
         if let Some(waker) = waker {
             pay(rt, waker.release(rt, realm));
         }
         if was_told {
-            pay(rt, state.notify(rt, realm));
+            pay(rt, state.notify(rt, realm, &mut call));
         }
+        call.end();
     }
 
     fn lies(&self) -> bool {
@@ -194,19 +241,28 @@ impl Ticker {
     pub fn lie_down_in<W>(
         self,
         sleepers: &mut Sleepers<SleeperWaker<W>>,
+        call: &mut Call,
         waker: SleeperWaker<W>,
     ) -> (Ticker, Laid<W>)
-        ensures { LiesDown self waker sleepers.old sleepers.new result.0 result.1 }
+        requires { call.old.flag ≡ None }
+        ensures lies { LiesDown self waker sleepers.old sleepers.new result.0 result.1 }
+        ensures flag { call.new ≡ record call.old { flag = flag_laid result.1 } }
     {
         match self {
             Ticker::Up(room) => match sleepers.lie_down(room, waker) {
-                Ok(Slept { sleeper, notified }) => (Ticker::Lies(sleeper), Laid::Anew(notified)),
+                Ok(Slept { sleeper, notified }) => {
+                    call.turn_flag(notified);
+                    (Ticker::Lies(sleeper), Laid::Anew(notified))
+                }
                 Err(Unreserved { room, waker }) => (Ticker::Up(room), Laid::Nowhere(waker)),
             },
             Ticker::Lies(sleeper) => {
                 let laid = match sleepers.lie_down_again(&sleeper, waker) {
                     Again::Replaced(old) => Laid::Already(old),
-                    Again::Notified(notified) => Laid::Anew(notified),
+                    Again::Notified(notified) => {
+                        call.turn_flag(notified);
+                        Laid::Anew(notified)
+                    }
                     Again::Unknown(waker) => Laid::Nowhere(waker),
                 };
                 (Ticker::Lies(sleeper), laid)
@@ -219,8 +275,12 @@ impl Ticker {
     pub fn get_up_in<W>(
         self,
         sleepers: &mut Sleepers<SleeperWaker<W>>,
+        call: &mut Call,
     ) -> (Ticker, Option<Risen<W>>)
-        ensures { GetsUp self sleepers.old sleepers.new result.0 result.1 }
+        requires owes { call.old.owes ≡ true }
+        requires stored { call.old.flag ≡ None }
+        ensures up { GetsUp self sleepers.old sleepers.new result.0 result.1 }
+        ensures flag { call.new ≡ record call.old { flag = flag_risen result.1 } }
     {
         match self {
             Ticker::Lies(sleeper) => {
@@ -229,6 +289,7 @@ impl Ticker {
                     waker,
                     notified,
                 } = sleepers.get_up(sleeper);
+                call.turn_flag(notified);
                 (Ticker::Up(room), Some(Risen { notified, waker }))
             }
             Ticker::Up(room) => (Ticker::Up(room), None),
@@ -237,8 +298,14 @@ impl Ticker {
     }
 
     /// The section of the sleepers' lock in which one leaves. The second answer is whether it lay there and had been told.
-    pub fn leave_in<W>(self, sleepers: &mut Sleepers<SleeperWaker<W>>) -> (Option<Risen<W>>, bool)
-        ensures { Leaves self sleepers.old sleepers.new result.0 result.1 }
+    pub fn leave_in<W>(
+        self,
+        sleepers: &mut Sleepers<SleeperWaker<W>>,
+        call: &mut Call,
+    ) -> (Option<Risen<W>>, bool)
+        requires { call.old ≡ begun }
+        ensures left { Leaves self sleepers.old sleepers.new result.0 result.1 }
+        ensures call { call.new ≡ record idle { owes = result.1; flag = flag_risen result.0 } }
     {
         match self {
             Ticker::Lies(sleeper) => {
@@ -249,13 +316,19 @@ impl Ticker {
                     notified,
                 } = stood;
                 sleepers.give_back(room);
+                call.leave(was_told);
+                call.turn_flag(notified);
                 (Some(Risen { notified, waker }), was_told)
             }
             Ticker::Up(room) => {
                 sleepers.give_back(room);
+                call.leave(false);
                 (None, false)
             }
-            Ticker::Left => (None, false),
+            Ticker::Left => {
+                call.leave(false);
+                (None, false)
+            }
         }
     }
 }

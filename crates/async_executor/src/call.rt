@@ -1,0 +1,190 @@
+//! A call on the executor, as contracts follow it from section to section.
+ghost use Rattle.std.specs.Prelude.{◌≡◌, true, false, Some, None};
+ghost use Rattle.async_executor.specs.Stages.{begun, in_hand, IsDone};
+
+use std::marker::Model;
+use std::snapshot::Snapshot;
+
+/// What a call on the executor has done, has in hand and owes. Only contracts read it, so it has no bytes. It has no drop: it
+/// ends with nothing in hand and nothing owed.
+#[must_use]
+pub struct Call {
+    // Whether it has still to make its section.
+    is_new: Snapshot<bool>,
+    // Whether a Runnable is in hand, which is run, appended to the executor's queue or closed.
+    holds: Snapshot<bool>,
+    // Whether a sleeper is to be told that there may be something to do.
+    owes: Snapshot<bool>,
+    // Whether it won the exchange of the flag, and hands out a waker.
+    won: Snapshot<bool>,
+    // Whether the executor's queue is closed, so that a Runnable in hand is closed too.
+    closed: Snapshot<bool>,
+    // What the flag is stored as, before the sleepers' lock is given back.
+    flag: Snapshot<Option<bool>>,
+}
+
+impl Model for Call {
+    ghost use Rattle.async_executor.specs.Stages.{Stage};
+
+    ghost Value = { Stage };
+
+    ghost view = { λ c. record {
+      is_new = c.is_new.value;
+      holds = c.holds.value;
+      owes = c.owes.value;
+      won = c.won.value;
+      closed = c.closed.value;
+      flag = c.flag.value;
+    } };
+}
+
+impl Call {
+    fn at(is_new: bool, holds: bool) -> Call
+        ensures { result ≡ record begun { is_new = is_new; holds = holds } }
+    {
+        Call {
+            is_new: Snapshot::of(&is_new),
+            holds: Snapshot::of(&holds),
+            owes: Snapshot::of(&false),
+            won: Snapshot::of(&false),
+            closed: Snapshot::of(&false),
+            flag: Snapshot::of(&None),
+        }
+    }
+
+    /// A call that has its section before it.
+    pub fn begin() -> Call
+        ensures { result ≡ begun }
+    {
+        Call::at(true, false)
+    }
+
+    /// A call that is given a Runnable.
+    pub fn given() -> Call
+        ensures { result ≡ in_hand }
+    {
+        Call::at(false, true)
+    }
+
+    /// The call ends.
+    pub fn end(self)
+        requires { IsDone self }
+    {
+        let Call {
+            is_new: _,
+            holds: _,
+            owes: _,
+            won: _,
+            closed: _,
+            flag: _,
+        } = self;
+    }
+
+    /// The Runnable in hand is run, and the call ends.
+    pub fn start(self)
+        requires { self ≡ in_hand }
+    {
+        let mut call = self;
+        call.holds = Snapshot::of(&false);
+        call.end();
+    }
+
+    /// A future was refused, or its Runnable came in hand.
+    pub fn accept(&mut self, accepted: bool)
+        requires { self.old ≡ begun }
+        ensures { self.new ≡ record self.old { is_new = false; holds = accepted } }
+    {
+        self.is_new = Snapshot::of(&false);
+        self.holds = Snapshot::of(&accepted);
+    }
+
+    /// A queue was looked into. Where a Runnable came in hand there may be more: a sleeper is to be told.
+    pub fn take(&mut self, found: bool)
+        requires free { self.old.holds ≡ false }
+        requires told { self.old.owes ≡ false }
+        ensures { self.new ≡ record self.old { is_new = false; holds = found; owes = found } }
+    {
+        self.is_new = Snapshot::of(&false);
+        self.holds = Snapshot::of(&found);
+        self.owes = Snapshot::of(&found);
+    }
+
+    /// There is no Runnable of what was in hand: the number is of another realm.
+    pub fn miss(&mut self)
+        requires { self.old.holds ≡ true }
+        ensures { self.new ≡ record self.old { holds = false; owes = false } }
+    {
+        self.holds = Snapshot::of(&false);
+        self.owes = Snapshot::of(&false);
+    }
+
+    /// The Runnable in hand was appended to the executor's queue: a sleeper is to be told.
+    pub fn append(&mut self)
+        requires { self.old.holds ≡ true }
+        ensures { self.new ≡ record self.old { holds = false; owes = true } }
+    {
+        self.holds = Snapshot::of(&false);
+        self.owes = Snapshot::of(&true);
+    }
+
+    /// The executor's queue is closed.
+    pub fn find_closed(&mut self)
+        ensures { self.new ≡ record self.old { is_new = false; closed = true } }
+    {
+        self.is_new = Snapshot::of(&false);
+        self.closed = Snapshot::of(&true);
+    }
+
+    /// The Runnable in hand was closed, as the executor's queue is: nobody is told.
+    pub fn close(&mut self)
+        requires holds { self.old.holds ≡ true }
+        requires closed { self.old.closed ≡ true }
+        ensures { self.new ≡ record self.old { holds = false; owes = false } }
+    {
+        self.holds = Snapshot::of(&false);
+        self.owes = Snapshot::of(&false);
+    }
+
+    /// The flag was exchanged.
+    pub fn exchange(&mut self, won: bool)
+        requires { self.old.owes ≡ true }
+        ensures { self.new ≡ record self.old { owes = false; won = won } }
+    {
+        self.owes = Snapshot::of(&false);
+        self.won = Snapshot::of(&won);
+    }
+
+    /// The winner of the exchange handed out.
+    pub fn hand_out(&mut self)
+        requires { self.old.won ≡ true }
+        ensures { self.new ≡ record self.old { won = false } }
+    {
+        self.won = Snapshot::of(&false);
+    }
+
+    /// One left the sleepers, and had been told or not: then it tells another.
+    pub fn leave(&mut self, was_told: bool)
+        requires { self.old.owes ≡ false }
+        ensures { self.new ≡ record self.old { is_new = false; owes = was_told } }
+    {
+        self.is_new = Snapshot::of(&false);
+        self.owes = Snapshot::of(&was_told);
+    }
+
+    /// What the flag becomes.
+    pub fn turn_flag(&mut self, notified: bool)
+        requires { self.old.flag ≡ None }
+        ensures { self.new ≡ record self.old { flag = Some notified } }
+    {
+        self.flag = Snapshot::of(&Some(notified));
+    }
+
+    /// The flag was stored.
+    pub fn store_flag(&mut self, notified: bool)
+        requires { self.old.flag ≡ Some notified }
+        ensures { self.new ≡ record self.old { flag = None } }
+    {
+        let _ = notified;
+        self.flag = Snapshot::of(&None);
+    }
+}

@@ -51,9 +51,5 @@ fn a_user_takes_seats_at_a_ring(rt: HostRuntime) {
     same(&rt, pushed, Ok(()));
     let refused = refuses_after_its_close(&rt, &ring, 6);
     same(&rt, refused, Err(PushError::Closed(6)));
-    same(
-        &rt,
-        seated::bounded::pop(&rt, &ring, &mut seat),
-        Ok(5),
-    );
+    same(&rt, seated::bounded::pop(&rt, &ring, &mut seat), Ok(5));
 }

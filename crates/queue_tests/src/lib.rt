@@ -5,8 +5,6 @@
 #[cfg(test)]
 mod calls;
 #[cfg(test)]
-mod ended;
-#[cfg(test)]
 mod exclusive;
 #[cfg(test)]
 mod forced;

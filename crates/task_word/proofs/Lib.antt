@@ -8,3 +8,4 @@ pub mod Running
 pub mod Closing
 pub mod Making
 pub mod Letting
+pub mod Polling

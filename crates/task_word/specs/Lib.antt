@@ -1,3 +1,4 @@
 pub mod Word
 pub mod Cell
+pub mod Given
 pub mod Steps

@@ -4,7 +4,7 @@ ghost use Rattle.task_moves.specs.Moves as moves;
 ghost use Rattle.task_word.specs.Cell.{Cell};
 ghost use Rattle.task_word.specs.Steps as steps;
 ghost use Rattle.task_word.specs.Steps.{view, arrived, looked, looked_by, turned_up, turned_back, tries, swapped};
-ghost use Rattle.task_word.specs.Steps.{woken, released, let_go, spent, copied, began, ended, paused, dropped};
+ghost use Rattle.task_word.specs.Steps.{woken, released, let_go, polled, spent, copied, began, ended, paused, dropped};
 ghost use Rattle.task_word.specs.Steps.{reserved, filled, filled_detached, rested, resumed, runnable_of, handle_of_new};
 ghost use Rattle.task_word.specs.declared.rule.Hold.TheVariants.{Nothing};
 
@@ -182,6 +182,20 @@ pub struct Detach;
 
 impl<F, T, W> Play<Slot<F, T, W>, View> for Detach {
     ghost then = { λ s m n m'. tries moves.detach let_go s.first s.second m n m' };
+}
+
+/// A poll of the handle. Where the output is there, that is taken out.
+pub struct Poll;
+
+impl<F, T, W> Play<Slot<F, T, W>, View> for Poll {
+    ghost then = { λ s m n m'. tries moves.poll polled s.first s.second m n m' };
+}
+
+/// It looks again, after it has registered its waker.
+pub struct LookAgain;
+
+impl<F, T, W> Play<Slot<F, T, W>, View> for LookAgain {
+    ghost then = { λ s m n m'. tries moves.look_again polled s.first s.second m n m' };
 }
 
 /// The load of who has taken the output out. The empty slot goes home.

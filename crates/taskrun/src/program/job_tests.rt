@@ -129,34 +129,43 @@ fn bytes_that_are_no_text_are_a_bad_line(rt: HostRuntime) -> Result<(), Fail> {
 }
 
 #[test]
-fn other_words_are_a_usage_fault(rt: HostRuntime) -> Result<(), Fail> {
+fn other_pairs_of_words_are_a_usage_fault(rt: HostRuntime) -> Result<(), Fail> {
     let realm = JobRealm::<HostRuntime>::leak(rt.alloc(), 0)?;
-    for words in [
-        &[].as_slice(),
-        &["jobs"].as_slice(),
-        &["jobs", "0"].as_slice(),
-        &["jobs", "65"].as_slice(),
-        &["jobs", "two"].as_slice(),
-        &["jobs", ""].as_slice(),
-        &["jobs", "+1"].as_slice(),
-        &["jobs", "000000000000000000001"].as_slice(),
-        &["jobs", "2", "2"].as_slice(),
-        &["sim", "1"].as_slice(),
-        &["Sim"].as_slice(),
+    for (first, second) in [
+        ("jobs", "0"),
+        ("jobs", "65"),
+        ("jobs", "two"),
+        ("jobs", ""),
+        ("jobs", "+1"),
+        ("jobs", "000000000000000000001"),
+        ("sim", "1"),
     ] {
-        let mut reader = TWO_JOBS.as_bytes();
-        let mut written = Vec::new(rt.alloc());
-        let ended = end::<HostPlace, HostRuntime, _, _>(
+        let is_so = shows::<HostPlace, HostRuntime>(
             rt,
             rt.alloc(),
             realm,
-            words,
-            &mut reader,
-            &mut written,
+            &[first, second],
+            TWO_JOBS.as_bytes(),
+            Err(Fault::Usage),
         );
-        assert!(rt;
-            (ended == Err(Fault::Usage)) & written.is_empty() & (reader.len() == TWO_JOBS.len())
+        assert!(rt; is_so, "{first} {second}");
+    }
+    Ok(())
+}
+
+#[test]
+fn other_single_words_are_a_usage_fault(rt: HostRuntime) -> Result<(), Fail> {
+    let realm = JobRealm::<HostRuntime>::leak(rt.alloc(), 0)?;
+    for word in ["jobs", "Sim", ""] {
+        let is_so = shows::<HostPlace, HostRuntime>(
+            rt,
+            rt.alloc(),
+            realm,
+            &[word],
+            TWO_JOBS.as_bytes(),
+            Err(Fault::Usage),
         );
+        assert!(rt; is_so, "{word}");
     }
     Ok(())
 }

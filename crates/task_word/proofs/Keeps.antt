@@ -129,7 +129,8 @@ module _ {W : Type 0} where
 abbrev pub StaysOver : State → State → Type 0
 StaysOver st st' = 1 ≤ st.references → is_over st ≡ true → is_over st' ≡ true
 
-state_kept : (hold : Hold) (st st' : State) → StaysOver st st' → weight hold ≤ st.references → KnowsState st hold → KnowsState st' hold
+pub state_kept : (hold : Hold) (st st' : State) → StaysOver st st' → weight hold ≤ st.references → KnowsState st hold
+    → KnowsState st' hold
 state_kept Leaving st st' over l k = over l k
 state_kept RunNotifying st st' over l k = over l k
 state_kept Nothing st st' over l k = tt

@@ -29,7 +29,7 @@ use Rattle.task_word.proofs.Keeps.{there_post, back, taken_out, taken_out_post, 
 use Rattle.task_word.proofs.Stepping.{Told, full, full_open, gets_runnable}
 use Rattle.task_word.proofs.Moving.{few_of}
 
-set_bit : (b : Bool) → 1 ≤ bit b → b ≡ true
+pub set_bit : (b : Bool) → 1 ≤ bit b → b ≡ true
 set_bit true l = refl
 set_bit false l = absurd (omega (arith, l))
 
@@ -39,12 +39,12 @@ module _ {F T W : Type 0} {s : St F T W} {st : State} {rests : Bool} (r : Holds 
   handled = let c : handle_of me.0.hold + spending r.body + handling r.post ≤ bit st.handle = handle_counted r id me at in
       let h : handle_of me.0.hold ≡ 1 = ap handle_of mine in set_bit st.handle (omega (arith, c, h))
 
-  unspent : (spending r.body ≡ 0) × (handling r.post ≡ 0)
+  pub unspent : (spending r.body ≡ 0) × (handling r.post ≡ 0)
   unspent = let c : handle_of me.0.hold + spending r.body + handling r.post ≤ bit st.handle = handle_counted r id me at in
       let h : handle_of me.0.hold ≡ 1 = ap handle_of mine in
       let b : bit st.handle ≤ 1 = bit_small st.handle in (omega (arith, c, h, b), omega (arith, c, h, b))
 
-  reached : Reachable st
+  pub reached : Reachable st
   reached a b = true_not handled b
 
   -- the handle goes, and somebody has a reference

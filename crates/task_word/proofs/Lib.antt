@@ -9,3 +9,4 @@ pub mod Closing
 pub mod Making
 pub mod Letting
 pub mod Polling
+pub mod Awaiting

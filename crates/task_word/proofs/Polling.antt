@@ -1,10 +1,8 @@
 -- The steps by which a poll of the handle looks at the task keep the rule.
 use Rattle.std.proofs.Common.{◌≡◌, ◌⊎◌, inl, inr, ⊎_elim, ℕ, ◌+◌, ◌^◌, ◌<◌, ◌≤◌, Bool, true, false, eqb, List, [], ◌∷◌}
 use Rattle.std.proofs.Common.{sym, refl, ap, ◌∙◌, subst, arith}
-use mathlib.Core.Option.{some}
-use lib.ListN.{get_elem?}
 use prog.Atomic.{either}
-use Rattle.std.specs.Prelude.{Option, Some}
+use Rattle.std.specs.Prelude.{Some}
 use Rattle.atomic_table.specs.Table.{Allows}
 use Rattle.atomic_table.specs.declared.shared.Seat.{Seat}
 use Rattle.task_moves.specs.declared.moves.state.State.{State}
@@ -16,12 +14,12 @@ use Rattle.task_word.specs.declared.rule.Hold.TheVariants.{Handle, Spending}
 use Rattle.task_word.specs.declared.rule.Content.TheVariants.{Output}
 use Rattle.task_word.specs.Word.{pack}
 use Rattle.task_word.specs.Given.{is_given}
-use Rattle.task_word.specs.Cell.{Slot, most, Holds, Cell}
-use Rattle.task_word.specs.Steps.{view, Known, Is, Has, HasOutput, polled, gives_out, tries}
+use Rattle.task_word.specs.Cell.{Slot, most, Cell}
+use Rattle.task_word.specs.Steps.{view, Known, Has, HasOutput, polled, gives_out, tries}
 use Rattle.task_word.proofs.Packs.{one_state}
 use Rattle.task_word.proofs.Views.{true_not}
 use Rattle.task_word.proofs.Bodies.{closed_on}
-use Rattle.task_word.proofs.Keeps.{St, Goes, stays, swaps}
+use Rattle.task_word.proofs.Keeps.{stays, swaps}
 use Rattle.task_word.proofs.Stepping.{Told}
 use Rattle.task_word.proofs.Moving.{few_of}
 use Rattle.task_word.proofs.Letting.{takes_output}

@@ -2,6 +2,7 @@
 //! table of moves.
 ghost use Rattle.task_moves.specs.Moves as moves;
 ghost use Rattle.task_word.specs.Cell.{Cell};
+ghost use Rattle.task_word.specs.Awaiter.{notified, end_notified, registered, end_registered, emptied};
 ghost use Rattle.task_word.specs.Steps as steps;
 ghost use Rattle.task_word.specs.Steps.{view, arrived, looked, looked_by, turned_up, turned_back, tries, swapped};
 ghost use Rattle.task_word.specs.Steps.{woken, released, let_go, polled, spent, copied, began, ended, paused, dropped};
@@ -203,6 +204,41 @@ pub struct Spend;
 
 impl<F, T, W> Play<Slot<F, T, W>, View> for Spend {
     ghost then = { λ s m n m'. spent m n m' };
+}
+
+/// Somebody wants the awaiter called. Where nobody is at it, its slot is taken.
+pub struct Notify;
+
+impl<F, T, W> Play<Slot<F, T, W>, View> for Notify {
+    ghost then = { λ s m n m'. tries moves.notify notified s.first s.second m n m' };
+}
+
+/// The awaiter was taken out of its slot, which goes home.
+pub struct EndNotify;
+
+impl<F, T, W> Play<Slot<F, T, W>, View> for EndNotify {
+    ghost then = { λ s m n m'. tries moves.end_notify end_notified s.first s.second m n m' };
+}
+
+/// A poll of the handle begins to register its waker. Where nobody is notifying, the awaiter's slot is taken.
+pub struct Register;
+
+impl<F, T, W> Play<Slot<F, T, W>, View> for Register {
+    ghost then = { λ s m n m'. tries moves.register registered s.first s.second m n m' };
+}
+
+/// The waker is stored, or was taken out again. The slot goes home.
+pub struct EndRegister;
+
+impl<F, T, W> Play<Slot<F, T, W>, View> for EndRegister {
+    ghost then = { λ s m n m'. tries moves.end_register end_registered s.first s.second m n m' };
+}
+
+/// The awaiter that was left is taken out of its slot. The cell has no task then.
+pub struct Empty;
+
+impl<F, T, W> Play<Slot<F, T, W>, View> for Empty {
+    ghost then = { λ s m n m'. emptied s.first m n m' };
 }
 
 /// An empty cell is taken for a new task.

@@ -2,6 +2,10 @@
 #![tactic(auto)]
 
 #[cfg(test)]
+mod acts;
+#[cfg(test)]
+mod awaiters;
+#[cfg(test)]
 mod handles;
 #[cfg(test)]
 mod threads;

@@ -1,6 +1,6 @@
 use Rattle.std.proofs.Common.{ap, ◌∙◌, ℕ}
 use Rattle.task_word.specs.Steps.{Known}
-use Rattle.task_word_tests.proofs.handles.fill.Goals as goal
+use Rattle.task_word_tests.proofs.acts.fill.Goals as goal
 
 pub make-requires-clause-has : goal.make-requires-clause-has
 make-requires-clause-has c = let q = c.put_future.ensures.future in let h = c.requires.has in

@@ -33,6 +33,7 @@ pub struct Call {
 }
 
 /// How a poll of a tick or run ended.
+#[derive(Clone, Copy, Drop)]
 pub enum Ending {
     /// There was none yet.
     Unpolled,
@@ -46,10 +47,11 @@ pub enum Ending {
     Refused,
 }
 
-/// How the last poll of a tick or run ended, as contracts follow it. It has no bytes.
+/// How the last poll of a tick or run ended, which a call alone can say. Only contracts read it; it is no `Snapshot`, as a tick or
+/// run with one could not be sent to another thread.
 #[derive(Drop)]
 pub struct Last {
-    ending: Snapshot<Ending>,
+    ending: Ending,
 }
 
 impl Model for Last {
@@ -57,7 +59,7 @@ impl Model for Last {
 
     ghost Value = { Ending };
 
-    ghost view = { λ l. l.ending.value };
+    ghost view = { λ l. l.ending };
 }
 
 impl Last {
@@ -65,7 +67,7 @@ impl Last {
     pub fn none() -> Last
         ensures { result ≡ Ending.Unpolled }
     {
-        Last::of(&Ending::Unpolled)
+        Last::of(Ending::Unpolled)
     }
 
     /// Memory was wanted.
@@ -73,15 +75,13 @@ impl Last {
         ensures { result ≡ Ending.Refused }
     {
         drop(refused);
-        Last::of(&Ending::Refused)
+        Last::of(Ending::Refused)
     }
 
-    fn of(ending: &Ending) -> Last
-        ensures { result ≡ ending.now }
+    fn of(ending: Ending) -> Last
+        ensures { result ≡ ending }
     {
-        Last {
-            ending: Snapshot::of(ending),
-        }
+        Last { ending }
     }
 }
 
@@ -162,7 +162,7 @@ impl Call {
         let mut call = self;
         call.holds = Snapshot::of(&false);
         call.end();
-        Last::of(&Ending::Ran)
+        Last::of(Ending::Ran)
     }
 
     /// What was taken from a queue is a number of another realm: there is nothing to run, and the call ends.
@@ -172,7 +172,7 @@ impl Call {
         ensures { result ≡ Ending.Ran }
     {
         self.end();
-        Last::of(&Ending::Ran)
+        Last::of(Ending::Ran)
     }
 
     /// Nothing was found, and it lies among the sleepers: the call ends.
@@ -183,7 +183,7 @@ impl Call {
         ensures { result ≡ Ending.Lies }
     {
         self.end();
-        Last::of(&Ending::Lies)
+        Last::of(Ending::Lies)
     }
 
     /// Nothing was found, and its waker is called: the call ends.
@@ -193,7 +193,7 @@ impl Call {
         ensures { result ≡ Ending.Called }
     {
         self.end();
-        Last::of(&Ending::Called)
+        Last::of(Ending::Called)
     }
 
     /// Memory was wanted: the call ends.
@@ -202,7 +202,7 @@ impl Call {
         ensures { result ≡ Ending.Refused }
     {
         self.end();
-        Last::of(&Ending::Refused)
+        Last::of(Ending::Refused)
     }
 
     /// A future was refused, or its Runnable came in hand.

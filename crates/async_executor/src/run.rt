@@ -56,7 +56,7 @@ where
     ghost view = { λ r. record {
       future = r.future;
       ending = r.last;
-      has_left = has_left r.ticker && r.runner.is_drained.value;
+      has_left = has_left r.ticker && r.runner.is_drained;
       words = r.runner.words;
     } };
 }

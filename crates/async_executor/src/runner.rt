@@ -15,7 +15,6 @@ use concurrent_queue::ConcurrentQueue;
 use rand_core::{Rng, SeedableRng};
 use rand_xoshiro::Xoshiro256PlusPlus;
 use std::alloc::Global;
-use std::snapshot::Snapshot;
 use std::sync::{Arc, Wait};
 
 /// After how many tasks a run steals from the global queue before it runs the next.
@@ -28,8 +27,9 @@ pub struct Runner {
     room: RunRoom,
     // Whether it stands there: from the first poll to the end.
     is_listed: bool,
-    // Whether the own queue was found empty once it stood in no list. Only contracts read it.
-    is_drained: Snapshot<bool>,
+    // Whether the own queue was found empty once it stood in no list. Only contracts read it; it is no `Snapshot`, as a run
+    // with one could not be sent to another thread.
+    is_drained: bool,
     // Says at which queue each walk starts.
     words: Xoshiro256PlusPlus,
     // How many tasks the run has taken in its life.
@@ -59,7 +59,7 @@ impl Runner {
                 own,
                 room,
                 is_listed: false,
-                is_drained: Snapshot::of(&false),
+                is_drained: false,
                 words: Xoshiro256PlusPlus::seed_from_u64(seed),
                 counted: 0,
             }),
@@ -69,7 +69,7 @@ impl Runner {
 
     /// The own queue goes, which is empty, and the room in the executor's list is to be given back.
     pub fn finish(self) -> RunRoom
-        requires { self.is_drained.value ≡ true }
+        requires { self.is_drained ≡ true }
         ensures { result ≡ self.room }
     {
         let Runner {
@@ -107,7 +107,7 @@ impl Runner {
         T: Drop + 'static,
         W: Wake + Drop + 'static,
         R: Wait + Copy + Drop + 'static,
-        ensures { self.new.is_drained.value ≡ true }
+        ensures { self.new.is_drained ≡ true }
     {
         if self.is_listed {
             self.is_listed = false;
@@ -129,10 +129,10 @@ impl Runner {
     fn take_last<R: Wait>(&mut self, rt: &R, call: &mut Call) -> Option<StoredRunnable>
         requires { call.old ≡ begun }
         ensures call { call.new ≡ took (is_some result) begun }
-        ensures drained { result ≡ None → self.new.is_drained.value ≡ true }
+        ensures drained { result ≡ None → self.new.is_drained ≡ true }
     {
         let found = take(&self.own, rt, call);
-        self.is_drained = Snapshot::of(&found.is_none());
+        self.is_drained = found.is_none();
         found
     }
 

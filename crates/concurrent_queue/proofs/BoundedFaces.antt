@@ -1,5 +1,6 @@
 -- What equal words of a ring tell of the counts. n is the number of places, m the mark above their indexes.
-use Rattle.std.proofs.Common.{◌≡◌, ℕ, zero, ◌+◌, ◌*◌, ◌/◌, ◌%◌, ◌<◌, ◌≤◌, ◌-◌, ◌==◌, ◌^◌, suc, nat_lt, bit_or, bit_and, Bool, if◌then◌else◌, true, false, sym, refl, ap, ap₂, ◌∙◌, subst, mod-lt, zero-mul, div-add-mod', arith}
+use Rattle.std.proofs.Common.{◌≡◌, ℕ, zero, ◌+◌, ◌*◌, ◌/◌, ◌%◌, ◌<◌, ◌≤◌, ◌-◌, ◌==◌, ◌^◌, suc, nat_lt, bit_or, bit_and, Bool, if◌then◌else◌}
+use Rattle.std.proofs.Common.{true, false, sym, refl, ap, ap₂, ◌∙◌, subst, mod-lt, zero-mul, div-add-mod', arith}
 use native.Mathlib.Nat.{add-mod_right}
 use Rattle.std.proofs.Math.Nat.{mul-le-mul_left, mul-le-mul_right, add-div_left}
 use Rattle.std.proofs.Math.Arith.{digits_div, digits_mod}
@@ -22,8 +23,11 @@ module _ (n m : ℕ) (s : IsShape n m) where
       let L : ℕ = 2 * m in let x : ℕ = q / n in let y : ℕ = p / n in
       let cut : x * L + u ≡ y * L + v = omega (arith, parts n m p, parts n m q) in
       let lu : u < L = omega (arith, s.some, s.above) in let lv : v < L = omega (arith, s.some, s.above) in
-      let laps : x ≡ y = sym (digits_div x lu) ∙ ap (λ (z : ℕ). z / L) cut ∙ digits_div y lv in
-      (sym (div-add-mod' q n) ∙ ap₂ (λ (i j : ℕ). i * n + j) laps same ∙ div-add-mod' p n, sym (digits_mod x lu) ∙ ap (λ (z : ℕ). z % L) cut ∙ digits_mod y lv)
+      let laps : x ≡ y = sym (digits_div x lu) ∙ ap (λ (z : ℕ). z / L) cut ∙ digits_div y lv in (
+        sym (div-add-mod' q n) ∙ ap₂ (λ (i j : ℕ). i * n + j) laps same ∙ div-add-mod' p n,
+        sym (digits_mod x lu)
+            ∙ ap (λ (z : ℕ). z % L) cut ∙ digits_mod y lv,
+      )
 
   pub one_count : (p q : ℕ) → word_at n m q ≡ word_at n m p → q ≡ p
   one_count p q e = sym (count_of_word n m s q) ∙ ap (count_at n m) e ∙ count_of_word n m s p
@@ -93,10 +97,12 @@ and_mark m w k power = ap (bit_and w) power ∙ and_pow w k ∙ ap (λ (z : ℕ)
 
 pub or_open : (m w k : ℕ) → m ≡ 2 ^ k → is_marked m w ≡ false → bit_or w m ≡ w + m
 unfolding is_marked
-or_open m w k power unmarked = let two : w / m % 2 < 2 = mod-lt (w / m) (omega arith) in let none : w / m % 2 ≡ 0 = grind (arith, nat_tests) in
+or_open m w k power unmarked = let two : w / m % 2 < 2 = mod-lt (w / m) (omega arith) in
+    let none : w / m % 2 ≡ 0 = grind (arith, nat_tests) in
     or_disjoint w m (and_mark m w k power ∙ ap (λ (z : ℕ). z * m) none ∙ zero-mul m)
 
 pub or_shut : (m w k : ℕ) → m ≡ 2 ^ k → is_marked m w ≡ true → bit_or w m ≡ w
 unfolding is_marked
-or_shut m w k power shut = let one : w / m % 2 ≡ 1 = grind (arith, nat_tests) in let both : bit_and w m ≡ 1 * m = and_mark m w k power ∙ ap (λ (z : ℕ). z * m) one in
+or_shut m w k power shut = let one : w / m % 2 ≡ 1 = grind (arith, nat_tests) in
+    let both : bit_and w m ≡ 1 * m = and_mark m w k power ∙ ap (λ (z : ℕ). z * m) one in
     let sum = or_add_and w m in omega arith

@@ -20,12 +20,17 @@ abbrev kind : ℕ → Reply
 kind old = if nat_lt old 2 then Done else Displaced
 
 -- a won exchange, and the unlock
-ends_so : (ws : List ℕ) (t : Turn) (old new n : ℕ) → t ≡ turns force_push_turn Look ws → t ≡ Exchange old new → turns force_push_turn Look ((ws ++ old ∷ []) ++ n ∷ []) ≡ End (kind old)
+ends_so : (ws : List ℕ) (t : Turn) (old new n : ℕ) → t ≡ turns force_push_turn Look ws → t ≡ Exchange old new
+    → turns force_push_turn Look ((ws ++ old ∷ []) ++ n ∷ []) ≡ End (kind old)
 ends_so ws t old new n at is =
     turns-snoc force_push_turn Look (ws ++ old ∷ []) n
-    ∙ ap (λ (v : Turn). force_push_turn v n) (turns-snoc force_push_turn Look ws old ∙ ap (λ (v : Turn). force_push_turn v old) (sym at ∙ is) ∙ same_if old (Unlock (kind old)) (looked_to_force old))
+    ∙ ap (λ (v : Turn). force_push_turn v n) (turns-snoc force_push_turn Look ws old
+    ∙ ap (λ (v : Turn). force_push_turn v old) (sym at ∙ is) ∙ same_if old (Unlock (kind old)) (looked_to_force old))
 
-pub force_ends : {T : Type 0} (x : T) (held : Option T) (ws ws' : List ℕ) (t : Turn) (old new n : ℕ) → marks_of held ≡ old → t ≡ turns force_push_turn Look ws → t ≡ Exchange old new → ws' ≡ (ws ++ old ∷ []) ++ n ∷ []
+pub force_ends : {T : Type 0} (x : T) (held : Option T) (ws ws' : List ℕ) (t : Turn) (old new n : ℕ) → marks_of held ≡ old
+    → t ≡ turns force_push_turn Look ws → t ≡ Exchange old new → ws' ≡ (ws ++ old ∷ []) ++ n ∷ []
     → (reply : Reply) × (turns force_push_turn Look ws' ≡ End reply) × ForcePushSays x reply (Ok held)
-force_ends x None ws ws' t old new n marks at is more = (Done, ap (turns force_push_turn Look) more ∙ ends_so ws t old new n at is ∙ ap (λ (o : ℕ). End (kind o)) (sym marks), refl)
-force_ends x (Some y) ws ws' t old new n marks at is more = (Displaced, ap (turns force_push_turn Look) more ∙ ends_so ws t old new n at is ∙ ap (λ (o : ℕ). End (kind o)) (sym marks), refl)
+force_ends x None ws ws' t old new n marks at is more =
+    (Done, ap (turns force_push_turn Look) more ∙ ends_so ws t old new n at is ∙ ap (λ (o : ℕ). End (kind o)) (sym marks), refl)
+force_ends x (Some y) ws ws' t old new n marks at is more =
+    (Displaced, ap (turns force_push_turn Look) more ∙ ends_so ws t old new n at is ∙ ap (λ (o : ℕ). End (kind o)) (sym marks), refl)

@@ -1,7 +1,8 @@
 -- The rule of the ring that threads share, and what each of its steps tells. n is the number of places, m the mark.
 -- Word 0 is the tail, word 16 the head, and word i + 32 the stamp of the place i. Each place is in some round p with
 -- p % n = i, and its stamp is what `shows` says.
-use Rattle.std.specs.Prelude.{◌≡◌, ◌≢◌, ℕ, ◌+◌, ◌-◌, ◌*◌, ◌%◌, ◌<◌, ◌≤◌, Bool, true, List, [], ◌∷◌, ◌++◌, length, Option, Some, None, slice_index_or}
+use Rattle.std.specs.Prelude.{◌≡◌, ◌≢◌, ℕ, ◌+◌, ◌-◌, ◌*◌, ◌%◌, ◌<◌, ◌≤◌, Bool, true, List, [], ◌∷◌, ◌++◌, length, Option, Some, None}
+use Rattle.std.specs.Prelude.{slice_index_or}
 use mathlib.Core.Option.{some}
 use mathlib.Core.Option as maybe
 use lib.ListN.{get_elem?}
@@ -9,7 +10,8 @@ use Rattle.atomic_table.specs.Table.{State, Me, rest}
 use Rattle.queue_steps.specs.Bounded.{IsShape, word_at, is_marked}
 use Rattle.concurrent_queue.specs.declared.bounded.rule.Doing.{Doing}
 use Rattle.concurrent_queue.specs.declared.bounded.rule.Stage.{Stage}
-use Rattle.concurrent_queue.specs.declared.bounded.rule.Stage.TheVariants.{Idle, SawTail, SawHead, SawStamp, Writing, Reading, Forcing, Swapping}
+use Rattle.concurrent_queue.specs.declared.bounded.rule.Stage.TheVariants.{Idle, SawTail, SawHead, SawStamp, Writing, Reading, Forcing}
+use Rattle.concurrent_queue.specs.declared.bounded.rule.Stage.TheVariants.{Swapping}
 
 -- a place that a seat has names the seat: to write, to read, to displace before its append, and after it
 pub data Phase : Type 0 where
@@ -59,7 +61,8 @@ module _ {T : Type 0} (n pushed popped : ℕ) (homes : List (maybe.Option (Optio
   InPhase (forcing j) = (p < popped) × (p + n ≤ pushed)
   InPhase (swapping j) = (popped ≤ p) × (p < pushed)
 
-pub record CellOk {T : Type 0} (n m pushed popped : ℕ) (words : List ℕ) (homes : List (maybe.Option (Option T))) (i : ℕ) (c : Cell) : Type 0 where
+pub record CellOk {T : Type 0} (n m pushed popped : ℕ) (words : List ℕ) (homes : List (maybe.Option (Option T))) (i : ℕ) (c : Cell) : Type
+    0 where
   pub shows : slice_index_or words (i + 32) 0 + back m c.1 ≡ word_at n m c.0 + above c.1
   pub lies : c.0 % n ≡ i
   pub freed : c.0 < popped + n
@@ -98,7 +101,8 @@ pub record BoundedRule {T : Type 0} (n m : ℕ) (s : State (Option T) Doing) : T
   pub behind : popped ≤ pushed
   pub within : pushed ≤ popped + n
   pub each_cell : (i : ℕ) → i < n → CellOk n m pushed popped s.words s.homes i (cells i)
-  pub each_seat : (j : ℕ) (d : Doing) → get_elem? s.views j ≡ some d → Knows n m pushed popped j d.at d.place d.word d.stamp (cells d.place) d.stage
+  pub each_seat : (j : ℕ) (d : Doing) → get_elem? s.views j ≡ some d
+      → Knows n m pushed popped j d.at d.place d.word d.stamp (cells d.place) d.stage
   pub each_view : (j : ℕ) (d : Doing) → get_elem? s.views j ≡ some d → Keeps m shut d
 
 -- the words of a new ring

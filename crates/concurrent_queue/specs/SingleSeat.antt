@@ -1,8 +1,11 @@
 -- What a clause says of a seat at a single slot, and how a call stands between two steps.
-use Rattle.std.specs.Prelude.{◌≡◌, ◌+◌, ◌%◌, ◌<◌, true, [], Option}
+use Rattle.std.specs.Prelude.{◌≡◌, ℕ, ◌+◌, ◌%◌, ◌<◌, true, List, [], Option}
+use Rattle.concurrent_queue.specs.Answered.{turns}
 use Rattle.atomic_table.specs.declared.shared.Seat.{Seat}
 use Rattle.atomic_table.specs.declared.shared.Shared.{Shared}
 use Rattle.concurrent_queue.specs.declared.single.rule.Doing.{Doing}
+use Rattle.queue_steps.specs.SingleTurns.{push_turn, force_push_turn, pop_turn, close_turn, len_turn, is_empty_turn, is_full_turn}
+use Rattle.queue_steps.specs.SingleTurns.{is_closed_turn}
 use Rattle.queue_steps.specs.declared.steps.single.Turn.{Turn}
 use Rattle.queue_steps.specs.declared.steps.single.Turn.TheVariants.{Look, Exchange, Unlock, Close, End}
 use Rattle.queue_steps.specs.declared.steps.Reply.{Reply}
@@ -18,6 +21,32 @@ module _ {T K P : Type 0} where
 abbrev pub IsSameSeat : {T : Type 0} → Seat (Option T) Doing → Seat (Option T) Doing → Type 0
 IsSameSeat old new =
     (new.table_id ≡ old.table_id) × (new.id ≡ old.id) × (new.me.1 ≡ []) × (old.me.0.closed ≡ true → new.me.0.closed ≡ true)
+
+-- where a call on a single slot stands that has found these words, oldest first
+module _ (found : List ℕ) where
+  abbrev pub push_at : Turn
+  push_at = turns push_turn Look found
+
+  abbrev pub force_push_at : Turn
+  force_push_at = turns force_push_turn Look found
+
+  abbrev pub pop_at : Turn
+  pop_at = turns pop_turn Look found
+
+  abbrev pub close_at : Turn
+  close_at = turns close_turn Close found
+
+  abbrev pub len_at : Turn
+  len_at = turns len_turn Look found
+
+  abbrev pub is_empty_at : Turn
+  is_empty_at = turns is_empty_turn Look found
+
+  abbrev pub is_full_at : Turn
+  is_full_at = turns is_full_turn Look found
+
+  abbrev pub is_closed_at : Turn
+  is_closed_at = turns is_closed_turn Look found
 
 abbrev pub IsRefusalToPush : Reply → Type 0
 IsRefusalToPush Full = Unit {0}

@@ -27,7 +27,8 @@ use std::sync::Wait;
 pub struct Bounded<T> {
     pub board: Table<Option<T>, Doing, Shape, BoundedRule, Global>,
     pub shape: Shape,
-    ghost sized: { (board.shared.table_id.words ≡ shape.capacity + 32) × (board.shared.table_id.slots ≡ shape.capacity) × (board.shared.key ≡ shape) },
+    ghost sized: { (board.shared.table_id.words ≡ shape.capacity + 32) × (board.shared.table_id.slots ≡ shape.capacity)
+        × (board.shared.key ≡ shape) },
 }
 
 // The words of a new ring: each stamp is the index of its place.
@@ -76,7 +77,7 @@ impl<T> Bounded<T> {
     pub(crate) fn push<R: Wait>(&self, rt: &R, value: T) -> Result<(), PushError<T>>
         ensures { MayPush (Some self.now.shape.capacity) value result }
     {
-        pushing::push(rt, &self.board.shared, &mut self.seat(), self.shape, value)
+        pushing::push(rt, self, &mut self.seat(), value)
     }
 
     pub(crate) fn force_push<R: Wait>(
@@ -86,32 +87,32 @@ impl<T> Bounded<T> {
     ) -> Result<Option<T>, ForcePushError<T>>
         ensures { MayForcePush (Some self.now.shape.capacity) value result }
     {
-        pushing::force_push(rt, &self.board.shared, &mut self.seat(), self.shape, value)
+        pushing::force_push(rt, self, &mut self.seat(), value)
     }
 
     #[inline(always)]
     pub(crate) fn pop<R: Wait>(&self, rt: &R) -> Result<T, PopError> {
-        popping::pop(rt, &self.board.shared, &mut self.seat(), self.shape)
+        popping::pop(rt, self, &mut self.seat())
     }
 
     pub(crate) fn close(&self) -> bool {
-        calls::close(&self.board.shared, &mut self.seat(), self.shape)
+        calls::close(self, &mut self.seat())
     }
 
     pub(crate) fn len<R: Wait>(&self, rt: &R) -> usize {
-        calls::len(rt, &self.board.shared, &mut self.seat(), self.shape)
+        calls::len(rt, self, &mut self.seat())
     }
 
     pub(crate) fn is_empty(&self) -> bool {
-        calls::is_empty(&self.board.shared, &mut self.seat(), self.shape)
+        calls::is_empty(self, &mut self.seat())
     }
 
     pub(crate) fn is_full(&self) -> bool {
-        calls::is_full(&self.board.shared, &mut self.seat(), self.shape)
+        calls::is_full(self, &mut self.seat())
     }
 
     pub(crate) fn is_closed(&self) -> bool {
-        calls::is_closed(&self.board.shared, &mut self.seat(), self.shape)
+        calls::is_closed(self, &mut self.seat())
     }
 
     /// Its length and whether it is closed, each read at a moment of its own. It waits for nobody, and answers `None`

@@ -82,7 +82,8 @@ impl<T> ConcurrentQueue<T> {
     /// Appends a value, and on a full queue takes out the oldest item for it, which it returns.
     ///
     /// A closed queue answers `Closed`. A refused value comes back, and this call has changed nothing. Only an unbounded
-    /// queue takes memory, and it takes nothing out. The forced push of item 2^61 + 1 closes a ring or a chain instead, and takes nothing out.
+    /// queue takes memory, and it takes nothing out. The forced push of item 2^61 + 1 closes a ring or a chain instead,
+    /// and takes nothing out.
     pub fn force_push<R: Wait>(&self, rt: &R, value: T) -> Result<Option<T>, ForcePushError<T>>
         ensures { MayForcePush self.now.capacity value result }
     {

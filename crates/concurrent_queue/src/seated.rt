@@ -1,17 +1,17 @@
-//! The running calls of slot and ring, each lent the table and a seat.
+//! The running calls of slot and ring, each lent the queue, which has the table, and a seat at it.
 //!
 //! A seat's view keeps the words that the steps of its call found, and each call answers what `steps` gives for them. It
 //! keeps too what its calls found closed or closed: that stays closed, and nothing is accepted by such a seat.
 //!
-//! A `Single` or a `Bounded` has the table, its field `board.shared`, and gives seats:
+//! A `Single` or a `Bounded` has the table, its field `board`, and gives seats:
 //!
 //! ```
 //! let slot = Single::new(rt.alloc())?;
 //! let mut seat = slot.seat();
-//! seated::single::push(&rt, &slot.board.shared, &mut seat, 5)?;
+//! seated::single::push(&rt, &slot, &mut seat, 5)?;
 //! let ring = Bounded::new(rt.alloc(), 4)?;
 //! let mut seat = ring.seat();
-//! seated::bounded::close(&ring.board.shared, &mut seat, ring.shape);
+//! seated::bounded::close(&ring, &mut seat);
 //! ```
 
 /// The calls on a ring.

@@ -47,7 +47,7 @@ impl<T> Single<T> {
     pub(crate) fn push<R: Wait>(&self, rt: &R, value: T) -> Result<(), PushError<T>>
         ensures { MayPush (Some 1) value result }
     {
-        pushing::push(rt, &self.board.shared, &mut self.seat(), value)
+        pushing::push(rt, self, &mut self.seat(), value)
     }
 
     pub(crate) fn force_push<R: Wait>(
@@ -57,32 +57,32 @@ impl<T> Single<T> {
     ) -> Result<Option<T>, ForcePushError<T>>
         ensures { MayForcePush (Some 1) value result }
     {
-        pushing::force_push(rt, &self.board.shared, &mut self.seat(), value)
+        pushing::force_push(rt, self, &mut self.seat(), value)
     }
 
     #[inline(always)]
     pub(crate) fn pop<R: Wait>(&self, rt: &R) -> Result<T, PopError> {
-        popping::pop(rt, &self.board.shared, &mut self.seat())
+        popping::pop(rt, self, &mut self.seat())
     }
 
     pub(crate) fn close(&self) -> bool {
-        calls::close(&self.board.shared, &mut self.seat())
+        calls::close(self, &mut self.seat())
     }
 
     pub(crate) fn len(&self) -> usize {
-        calls::len(&self.board.shared, &mut self.seat())
+        calls::len(self, &mut self.seat())
     }
 
     pub(crate) fn is_empty(&self) -> bool {
-        calls::is_empty(&self.board.shared, &mut self.seat())
+        calls::is_empty(self, &mut self.seat())
     }
 
     pub(crate) fn is_full(&self) -> bool {
-        calls::is_full(&self.board.shared, &mut self.seat())
+        calls::is_full(self, &mut self.seat())
     }
 
     pub(crate) fn is_closed(&self) -> bool {
-        calls::is_closed(&self.board.shared, &mut self.seat())
+        calls::is_closed(self, &mut self.seat())
     }
 
     /// Its length and whether it is closed, each read at a moment of its own.

@@ -1,6 +1,6 @@
 //! Texts of an executor and of errors, and what may move to other threads or be shared with them.
 use crate::parts::{Job, TestExecutor, TestRealm, TestTask, Work};
-use crate::stage::{End, Planned, Stage};
+use crate::stage::{Planned, Stage};
 use async_executor::{NoMemory, RunError, SpawnError};
 use std::alloc::Global;
 use std::fmt::Debug;
@@ -18,27 +18,31 @@ fn is_shown<X: Debug>(alloc: Global, value: &X, want: &str) -> bool {
     }
 }
 
-/// Its text has the entries of the table, the tasks of the global queue and of each run's own, and how many sleep.
+/// Its text has the entries of the table, the tasks of the global queue and of each run's own, and how many sleep. So it
+/// shows what one poll of a run takes of a thousand: it polls two hundred. With the first it takes half of what is left of the
+/// global queue to itself, and at each 64th as many as its own queue of 512 places then has room for.
 #[test]
 fn the_text_of_an_executor(rt: HostRuntime) {
     let stage = Stage::new(rt, rt.alloc(), TestRealm::leak(rt.alloc(), 0), 0);
-    let executor: TestExecutor<Job<_>, _> = stage.executor(1);
-    let is_accepted = stage.spawn_detached(&executor, stage.ready(1));
-    let is_shown_before = is_shown(
-        rt.alloc(),
-        &executor,
-        "Executor { active: 1, global_tasks: 1, local_runners: [], sleepers: 0 }",
-    );
+    let executor: TestExecutor<Job<_>, _> = stage.executor(1000);
+    stage.spawn_detached(&executor, stage.ready(0));
+    let fresh = "Executor { active: 1, global_tasks: 1, local_runners: [], sleepers: 0 }";
+    let is_shown_fresh = is_shown(rt.alloc(), &executor, fresh);
+    for name in 1..1000 {
+        stage.spawn_detached(&executor, stage.ready(name));
+    }
     let mut run = stage.run(&executor, stage.job(None, Work::Pend), 0);
-    let end = stage.poll_seat(&mut run);
-    let is_shown_after = is_shown(
-        rt.alloc(),
-        &executor,
-        "Executor { active: 0, global_tasks: 0, local_runners: [0], sleepers: 1 }",
-    );
+    stage.poll_seat(&mut run);
+    let busy = "Executor { active: 800, global_tasks: 296, local_runners: [504], sleepers: 0 }";
+    let is_shown_busy = is_shown(rt.alloc(), &executor, busy);
+    for _ in 0..5 {
+        stage.poll_seat(&mut run);
+    }
+    let idle = "Executor { active: 0, global_tasks: 0, local_runners: [0], sleepers: 1 }";
+    let is_shown_idle = is_shown(rt.alloc(), &executor, idle);
     drop(run);
     drop(executor);
-    assert!(rt; is_accepted & is_shown_before & (end == End::Pending) & is_shown_after);
+    assert!(rt; is_shown_fresh & is_shown_busy & is_shown_idle);
 }
 
 /// How many turns a loop may take.

@@ -1,5 +1,6 @@
 -- The exchanges of a ring's words that hit, each a moment of the closable queue. n is the number of places, m the mark.
-use Rattle.std.proofs.Common.{◌≡◌, ◌≢◌, ℕ, ◌+◌, ◌*◌, ◌%◌, ◌<◌, ◌≤◌, List, [], ◌∷◌, ◌++◌, drop, Bool, true, false, Option, Some, None, Ok, if◌then◌else◌, sym, refl, ap, ◌∙◌, subst, arith}
+use Rattle.std.proofs.Common.{◌≡◌, ◌≢◌, ℕ, ◌+◌, ◌*◌, ◌%◌, ◌<◌, ◌≤◌, List, [], ◌∷◌, ◌++◌, drop, Bool, true, false, Option, Some, None, Ok}
+use Rattle.std.proofs.Common.{if◌then◌else◌, sym, refl, ap, ◌∙◌, subst, arith}
 use Rattle.std.proofs.lemmas.List.{drop-append-le}
 use Rattle.queue_steps.specs.declared.bounded.Slot.{Slot}
 use Rattle.queue_steps.specs.declared.steps.bounded.Turn.{Turn}
@@ -13,9 +14,11 @@ use Rattle.queue_laws.specs.SingleSteps.{answer_of, stored}
 use Rattle.queue_laws.specs.BoundedSteps.{Stands, BoundedWorld, with_at, displaced, tail_after}
 use Rattle.queue_steps.proofs.BoundedWords.{next_is}
 use Rattle.queue_laws.proofs.BoundedStamps.{bit, bare, marked, marked_is, a_lap_on}
-use Rattle.queue_laws.proofs.BoundedState.{free, full, held, Cell, cell, Ghost, kind_of, writing, swapping, reading, displacing, age, slot_of, queue_of, sight_of, scene_of, Base, CellLies, ComesTo, StandsAs, TiedPlace, Tied}
+use Rattle.queue_laws.proofs.BoundedState.{free, full, held, Cell, cell, Ghost, kind_of, writing, swapping, reading, displacing, age}
+use Rattle.queue_laws.proofs.BoundedState.{slot_of, queue_of, sight_of, scene_of, Base, CellLies, ComesTo, StandsAs, TiedPlace, Tied}
 use Rattle.queue_laws.proofs.BoundedKnows.{length_is}
-use Rattle.queue_laws.proofs.BoundedMoves.{at_here, at_put, NotBy, is_at_last, length_more, lies_pushed, lies_popped, free_at, full_at, held_put}
+use Rattle.queue_laws.proofs.BoundedMoves.{at_here, at_put, NotBy, is_at_last, length_more, lies_pushed, lies_popped, free_at, full_at}
+use Rattle.queue_laws.proofs.BoundedMoves.{held_put}
 use Rattle.queue_laws.proofs.BoundedPuts.{Goes, near, other_calls, keeps, ages, slots_same, rounds, lies, comes, each_more}
 
 module _ {T : Type 0} where
@@ -31,15 +34,18 @@ module _ {T : Type 0} where
   first_is : (xs : List T) (y : T) (rest : List T) → xs ≡ y ∷ rest → xs ≡ y ∷ drop 1 xs
   first_is xs y rest is = is ∙ ap (λ (ys : List T). y ∷ ys) (sym (ap (drop 1) is))
 
-module _ {T : Type 0} (n m : ℕ) (shape : IsShape n m) (w : BoundedWorld T) (g : Ghost T) (calls : ℕ → Option (Progress T)) (tied : Tied n m w g calls) (p : ℕ) (k : Progress T) (at : calls p ≡ Some k) where
+module _ {T : Type 0} (n m : ℕ) (shape : IsShape n m) (w : BoundedWorld T) (g : Ghost T) (calls : ℕ
+    → Option (Progress T)) (tied : Tied n m w g calls) (p : ℕ) (k : Progress T) (at : calls p ≡ Some k) where
   word_after : (q : ℕ) → g.shut ≡ false → next_at n m (word_at n m q) ≡ word_at n m (q + 1) + bit g.shut * m
-  word_after q open_is = next_is n m shape q ∙ sym (bare n m shape (q + 1)) ∙ ap (λ (b : Bool). word_at n m (q + 1) + bit b * m) (sym open_is)
+  word_after q open_is = next_is n m shape q ∙ sym (bare n m shape (q + 1))
+      ∙ ap (λ (b : Bool). word_at n m (q + 1) + bit b * m) (sym open_is)
 
   head_after_is : next_at n m (word_at n m g.popped) ≡ word_at n m (g.popped + 1)
   head_after_is = next_is n m shape g.popped
 
   -- a place that is not on its way has no item on its way
-  none_comes : (c : Cell T) → g.cells (g.pushed % n) ≡ c → ((v : ℕ × T) (r : ℕ) (o : Option T) → c ≡ cell r (held v.0 (ForcePush v.1) displacing o false) → ⊥)
+  none_comes : (c : Cell T) → g.cells (g.pushed % n) ≡ c
+      → ((v : ℕ × T) (r : ℕ) (o : Option T) → c ≡ cell r (held v.0 (ForcePush v.1) displacing o false) → ⊥)
       → (o : Option (ℕ × T)) → ComesTo n m g.cells g.pushed o → o ≡ None
   none_comes c is other None come = refl
   none_comes c is other (Some v) come = absurd (other v come.0 come.1 (sym is ∙ come.3))
@@ -49,7 +55,8 @@ module _ {T : Type 0} (n m : ℕ) (shape : IsShape n m) (w : BoundedWorld T) (g 
       (drop-append-le g.popped g.all (x ∷ []) (let a = tied.base.behind in let c = tied.base.counted in omega arith))
 
   -- the append of a push
-  pub append_hits : (call : Call T) (x : T) (turn : Turn) → turn ≡ Fill (word_at n m g.pushed) Done → ((j : ℕ) → j < n → NotBy p (g.cells j).phase) → k.call ≡ call → k.answer ≡ None → stored call None ≡ Some x
+  pub append_hits : (call : Call T) (x : T) (turn : Turn) → turn ≡ Fill (word_at n m g.pushed) Done
+      → ((j : ℕ) → j < n → NotBy p (g.cells j).phase) → k.call ≡ call → k.answer ≡ None → stored call None ≡ Some x
       → g.shut ≡ false → g.pushed < most_accepted → 2 * g.pushed ≤ age (g.cells (g.pushed % n))
       → (g.pushed < g.popped + n → Acts (queue_of n m g) call (answer_of call Done None) (appended (queue_of n m g) x))
       → Goes n m shape w g calls (Does p (answer_of call Done None) ∷ [])
@@ -64,7 +71,9 @@ module _ {T : Type 0} (n m : ℕ) (shape : IsShape n m) (w : BoundedWorld T) (g 
       let a : Answer T = answer_of call Done None in
       let k' : Progress T = record k { answer = Some a } in
       let calls' : (ℕ → Option (Progress T)) = λ q. sees (sight_of n m g') (with_call calls p (Some k') q) in
-      let nothing : g.coming ≡ None = none_comes (cell g.pushed free) was_free (λ v r o e. let z : free ≡ held v.0 (ForcePush v.1) displacing o false = ap (λ (c : Cell T). c.phase) e in cc) g.coming tied.comes in
+      let nothing : g.coming ≡ None =
+      none_comes (cell g.pushed free) was_free (λ v r o e. let z : free ≡ held v.0 (ForcePush v.1) displacing o false =
+      ap (λ (c : Cell T). c.phase) e in cc) g.coming tied.comes in
       let base' : Base n m g' = record {
         behind = let z = tied.base.behind in omega arith;
         within = let z = found.1 in omega arith;
@@ -82,7 +91,8 @@ module _ {T : Type 0} (n m : ℕ) (shape : IsShape n m) (w : BoundedWorld T) (g 
             none,
             (
               queue_of n m g',
-              subst (λ (q : ClosableQueue T). Acts (queue_of n m g) k.call a q) (sym (items_after x)) (subst (λ (y : Call T). Acts (queue_of n m g) y a (appended (queue_of n m g) x)) (sym of) (acts found.1)),
+              subst (λ (q : ClosableQueue T). Acts (queue_of n m g) k.call a q) (sym (items_after x))
+                  (subst (λ (y : Call T). Acts (queue_of n m g) y a (appended (queue_of n m g) x)) (sym of) (acts found.1)),
               subst (λ (o : Option (ℕ × T)). MayBeside o a) (sym nothing) tt,
               refl,
             ),
@@ -95,22 +105,40 @@ module _ {T : Type 0} (n m : ℕ) (shape : IsShape n m) (w : BoundedWorld T) (g 
           head = tied.head;
           slots = slots_same n m shape w g calls tied p i c below (ap (slot_of n m) was_free);
           rounds = rounds n m shape w g calls tied p i c refl;
-          lies = lies n m shape w g calls tied p i c g' (tied.base.behind, (omega arith), (x, stores, is_at_last g.all g.pushed x tied.base.counted))
-              (λ j b other. lies_pushed n m shape g tied.base j (g.cells j).round (g.cells j).phase x g.coming (tied.rounds j b) other (tied.lies j b));
-          held_by = held_put n m shape g tied.base w.places p (Stands call turn) i c (at_here w.places p (Stands call turn) ∙ ap (Stands call) turn_is) (λ j b other. alone j b) tied.held_by;
+          lies = lies n m shape w g calls tied p i c g' (
+            tied.base.behind,
+            (omega arith),
+            (x, stores, is_at_last g.all g.pushed x tied.base.counted),
+          )
+              (λ j b other. lies_pushed n m shape g tied.base j (g.cells j).round (g.cells j).phase x g.coming (tied.rounds j b) other
+              (tied.lies j b));
+          held_by = held_put n m shape g tied.base w.places p (Stands call turn) i c (at_here w.places p (Stands call turn)
+              ∙ ap (Stands call) turn_is) (λ j b other. alone j b) tied.held_by;
           comes = subst (ComesTo n m g'.cells g'.pushed) (sym nothing) tt;
           each = each_more n m shape w g calls tied p g' base'
-              (record { pushed = (omega arith); popped = (omega arith); once = (omega arith); ages = ages n m shape w g calls tied p i c (subst (λ (d : Cell T). age d ≤ age c) (sym was_free) (omega arith)) })
+              (record {
+                pushed = (omega arith);
+                popped = (omega arith);
+                once = (omega arith);
+                ages =
+                    ages n m shape w g calls tied p i c (subst (λ (d : Cell T). age d ≤ age c) (sym was_free) (omega arith));
+              })
               (λ q other. keeps n m shape w g calls tied p i c g' refl q (not_mine q other))
               (Stands call turn) (with_call calls p (Some k')) (other_calls n m shape w g calls tied p (Some k'))
-              (subst (λ (o : Option (Progress T)). TiedPlace n m g' p (Stands call turn) (sees (sight_of n m g') o)) (sym (at_here calls p (Some k')))
-              (subst (λ (t : Turn). TiedPlace n m g' p (Stands call t) (sees (sight_of n m g') (Some k'))) (sym turn_is)
-              (record k' { seen = sight_of n m g' ∷ k'.seen }, refl, of, (None, (i, g.pushed, writing, below, at_here g.cells i c, refl, refl)))));
+              (subst (λ (o : Option (Progress T)). TiedPlace n m g' p (Stands call turn) (sees (sight_of n m g') o))
+              (sym (at_here calls p (Some k')))
+              (subst (λ (t : Turn). TiedPlace n m g' p (Stands call t) (sees (sight_of n m g') (Some k'))) (sym turn_is) (
+                record k' { seen = sight_of n m g' ∷ k'.seen },
+                refl,
+                of,
+                (None, (i, g.pushed, writing, below, at_here g.cells i c, refl, refl)),
+              )));
         },
       )
 
   -- the take of a pop
-  pub take_hits : (turn : Turn) → turn ≡ Drain (word_at n m g.popped) → ((j : ℕ) → j < n → NotBy p (g.cells j).phase) → k.call ≡ Pop → k.answer ≡ None
+  pub take_hits : (turn : Turn) → turn ≡ Drain (word_at n m g.popped) → ((j : ℕ) → j < n → NotBy p (g.cells j).phase) → k.call ≡ Pop
+      → k.answer ≡ None
       → 2 * g.popped + 1 ≤ age (g.cells (g.popped % n))
       → Goes n m shape w g calls (Does p (answer_of {T = T} Pop Done (w.slots (g.popped % n)).value) ∷ [])
       (record { tail = w.tail; head = next_at n m (word_at n m g.popped); slots = w.slots; places = with_at w.places p (Stands Pop turn) })
@@ -134,7 +162,13 @@ module _ {T : Type 0} (n m : ℕ) (shape : IsShape n m) (w : BoundedWorld T) (g 
       } in
       let not_mine : (q : ℕ) → q ≢ p → NotBy q (g.cells i).phase = λ q other. subst (λ (c : Cell T). NotBy q c.phase) (sym was_full) tt in
       subst (λ (o : Option T). Goes n m shape w g calls (Does p (answer_of {T = T} Pop Done o) ∷ [])
-      (record { tail = w.tail; head = next_at n m (word_at n m g.popped); slots = w.slots; places = with_at w.places p (Stands Pop turn) })) (sym value_is) (
+      (record {
+        tail = w.tail;
+        head = next_at n m (word_at n m g.popped);
+        slots = w.slots;
+        places =
+            with_at w.places p (Stands Pop turn);
+      })) (sym value_is) (
         g',
         calls',
         (
@@ -147,7 +181,8 @@ module _ {T : Type 0} (n m : ℕ) (shape : IsShape n m) (w : BoundedWorld T) (g 
               queue_of n m g',
               subst (λ (z : Call T). Acts (queue_of n m g) z a (queue_of n m g')) (sym of) (
                 first_is (drop g.popped g.all) y (drop (g.popped + 1) g.all) found.2,
-                ap (λ (xs : List T). record { items = xs; capacity = Some n; closed = g.shut; accepted = Some g.pushed }) (sym (ap (drop 1) found.2)),
+                ap (λ (xs : List T). record { items = xs; capacity = Some n; closed = g.shut; accepted = Some g.pushed })
+                    (sym (ap (drop 1) found.2)),
               ),
               beside_popped g.coming y,
               refl,
@@ -162,24 +197,45 @@ module _ {T : Type 0} (n m : ℕ) (shape : IsShape n m) (w : BoundedWorld T) (g 
           slots = slots_same n m shape w g calls tied p i c below (ap (slot_of n m) was_full);
           rounds = rounds n m shape w g calls tied p i c refl;
           lies = lies n m shape w g calls tied p i c g' ((omega arith), tied.base.within, refl, (y, refl))
-              (λ j b other. lies_popped n m shape g tied.base j (g.cells j).round (g.cells j).phase g.coming (λ v e. e) (tied.rounds j b) other (tied.lies j b));
-          held_by = held_put n m shape g tied.base w.places p (Stands Pop turn) i c (at_here w.places p (Stands Pop turn) ∙ ap (Stands Pop) turn_is) (λ j b other. alone j b) tied.held_by;
-          comes = comes n m shape w g calls tied p i c g.coming (subst (λ (c : Cell T). Rattle.queue_laws.proofs.BoundedPuts.IsSettled c.phase) (sym was_full) tt) tied.comes;
+              (λ j b other. lies_popped n m shape g tied.base j (g.cells j).round (g.cells j).phase g.coming (λ v e. e) (tied.rounds j b)
+              other (tied.lies j b));
+          held_by = held_put n m shape g tied.base w.places p (Stands Pop turn) i c (at_here w.places p (Stands Pop turn)
+              ∙ ap (Stands Pop) turn_is) (λ j b other. alone j b) tied.held_by;
+          comes = comes n m shape w g calls tied p i c g.coming
+              (subst (λ (c : Cell T). Rattle.queue_laws.proofs.BoundedPuts.IsSettled c.phase) (sym was_full) tt) tied.comes;
           each = each_more n m shape w g calls tied p g' base'
-              (record { pushed = (omega arith); popped = (omega arith); once = (omega arith); ages = ages n m shape w g calls tied p i c (subst (λ (d : Cell T). age d ≤ age c) (sym was_full) (omega arith)) })
+              (record {
+                pushed = (omega arith);
+                popped = (omega arith);
+                once = (omega arith);
+                ages =
+                    ages n m shape w g calls tied p i c (subst (λ (d : Cell T). age d ≤ age c) (sym was_full) (omega arith));
+              })
               (λ q other. keeps n m shape w g calls tied p i c g' refl q (not_mine q other))
               (Stands Pop turn) (with_call calls p (Some k')) (other_calls n m shape w g calls tied p (Some k'))
-              (subst (λ (o : Option (Progress T)). TiedPlace n m g' p (Stands Pop turn) (sees (sight_of n m g') o)) (sym (at_here calls p (Some k')))
-              (subst (λ (t : Turn). TiedPlace n m g' p (Stands Pop t) (sees (sight_of n m g') (Some k'))) (sym turn_is)
-              (record k' { seen = sight_of n m g' ∷ k'.seen }, refl, of, (Some y, (i, g.popped, reading, below, at_here g.cells i c, refl, refl)))));
+              (subst (λ (o : Option (Progress T)). TiedPlace n m g' p (Stands Pop turn) (sees (sight_of n m g') o))
+              (sym (at_here calls p (Some k')))
+              (subst (λ (t : Turn). TiedPlace n m g' p (Stands Pop t) (sees (sight_of n m g') (Some k'))) (sym turn_is) (
+                record k' { seen = sight_of n m g' ∷ k'.seen },
+                refl,
+                of,
+                (Some y, (i, g.popped, reading, below, at_here g.cells i c, refl, refl)),
+              )));
         },
       )
 
   -- the displacement of a forced push
-  pub displace_hits : (x : T) (turn : Turn) → turn ≡ Advance (word_at n m (g.popped + n)) → ((j : ℕ) → j < n → NotBy p (g.cells j).phase) → k.call ≡ ForcePush x → k.answer ≡ None
+  pub displace_hits : (x : T) (turn : Turn) → turn ≡ Advance (word_at n m (g.popped + n)) → ((j : ℕ) → j < n → NotBy p (g.cells j).phase)
+      → k.call ≡ ForcePush x → k.answer ≡ None
       → g.popped + n ≡ g.pushed → g.pushed < most_accepted → AtSome WasOpenAndFull k.seen → 2 * g.popped + 1 ≤ age (g.cells (g.popped % n))
       → Goes n m shape w g calls (displaced n m p (w.slots (g.popped % n)).value)
-      (record { tail = w.tail; head = next_at n m (word_at n m g.popped); slots = w.slots; places = with_at w.places p (Stands (ForcePush x) turn) })
+      (record {
+        tail = w.tail;
+        head = next_at n m (word_at n m g.popped);
+        slots = w.slots;
+        places =
+            with_at w.places p (Stands (ForcePush x) turn);
+      })
   displace_hits x turn turn_is alone of none whole few opened aged =
       let i : ℕ = g.popped % n in
       let below : i < n = near n m shape g.popped in
@@ -193,7 +249,10 @@ module _ {T : Type 0} (n m : ℕ) (shape : IsShape n m) (w : BoundedWorld T) (g 
       let k' : Progress T = record k { answer = Some a } in
       let calls' : (ℕ → Option (Progress T)) = λ q. sees (sight_of n m g') (with_call calls p (Some k') q) in
       let there : g.pushed % n ≡ i = ap (λ (z : ℕ). z % n) (sym whole) ∙ a_lap_on n g.popped in
-      let nothing : g.coming ≡ None = none_comes (cell g.popped (full y)) (ap g.cells there ∙ was_full) (λ v r o e. let z : full y ≡ held v.0 (ForcePush v.1) displacing o false = ap (λ (c : Cell T). c.phase) e in cc) g.coming tied.comes in
+      let nothing : g.coming ≡ None =
+      none_comes (cell g.popped (full y)) (ap g.cells there
+      ∙ was_full) (λ v r o e. let z : full y ≡ held v.0 (ForcePush v.1) displacing o false = ap (λ (c : Cell T). c.phase) e in
+      cc) g.coming tied.comes in
       let base' : Base n m g' = record {
         behind = let z = found.3 in omega arith;
         within = let z = tied.base.within in omega arith;
@@ -201,9 +260,17 @@ module _ {T : Type 0} (n m : ℕ) (shape : IsShape n m) (w : BoundedWorld T) (g 
         counted = tied.base.counted;
       } in
       let not_mine : (q : ℕ) → q ≢ p → NotBy q (g.cells i).phase = λ q other. subst (λ (c : Cell T). NotBy q c.phase) (sym was_full) tt in
-      let queue_is : queue_of n m g' ≡ taken (queue_of n m g) = ap (λ (xs : List T). record { items = xs; capacity = Some n; closed = g.shut; accepted = Some g.pushed }) (sym (ap (drop 1) found.2)) in
+      let queue_is : queue_of n m g' ≡ taken (queue_of n m g) =
+      ap (λ (xs : List T). record { items = xs; capacity = Some n; closed = g.shut; accepted = Some g.pushed })
+      (sym (ap (drop 1) found.2)) in
       subst (λ (o : Option T). Goes n m shape w g calls (displaced n m p o)
-      (record { tail = w.tail; head = next_at n m (word_at n m g.popped); slots = w.slots; places = with_at w.places p (Stands (ForcePush x) turn) })) (sym value_is) (
+      (record {
+        tail = w.tail;
+        head = next_at n m (word_at n m g.popped);
+        slots = w.slots;
+        places =
+            with_at w.places p (Stands (ForcePush x) turn);
+      })) (sym value_is) (
         g',
         calls',
         (
@@ -219,7 +286,8 @@ module _ {T : Type 0} (n m : ℕ) (shape : IsShape n m) (w : BoundedWorld T) (g 
             few,
             opened,
             first_is (drop g.popped g.all) y (drop (g.popped + 1) g.all) found.2,
-            ap (λ (q : ClosableQueue T). becomes (answers (scene_of n m g calls) p k a) (record { queue = q; incoming = Some (p, x) })) queue_is,
+            ap (λ (q : ClosableQueue T). becomes (answers (scene_of n m g calls) p k a) (record { queue = q; incoming = Some (p, x) }))
+                queue_is,
           ),
           refl,
         ),
@@ -230,20 +298,34 @@ module _ {T : Type 0} (n m : ℕ) (shape : IsShape n m) (w : BoundedWorld T) (g 
           slots = slots_same n m shape w g calls tied p i c below (ap (slot_of n m) was_full);
           rounds = rounds n m shape w g calls tied p i c refl;
           lies = lies n m shape w g calls tied p i c g' ((omega arith), sym whole, (let z = whole in omega arith), (x, refl, refl, refl))
-              (λ j b other. lies_popped n m shape g tied.base j (g.cells j).round (g.cells j).phase (Some (p, x)) (λ v e. absurd (let z = sym nothing ∙ e in cc)) (tied.rounds j b) other (tied.lies j b));
-          held_by = held_put n m shape g tied.base w.places p (Stands (ForcePush x) turn) i c (at_here w.places p (Stands (ForcePush x) turn) ∙ ap (Stands (ForcePush x)) turn_is) (λ j b other. alone j b) tied.held_by;
+              (λ j b other. lies_popped n m shape g tied.base j (g.cells j).round (g.cells j).phase (Some (p, x))
+              (λ v e. absurd (let z = sym nothing ∙ e in cc)) (tied.rounds j b) other (tied.lies j b));
+          held_by = held_put n m shape g tied.base w.places p (Stands (ForcePush x) turn) i c
+              (at_here w.places p (Stands (ForcePush x) turn) ∙ ap (Stands (ForcePush x)) turn_is) (λ j b other. alone j b) tied.held_by;
           comes = (g.popped, Some y, whole, subst (λ (j : ℕ). with_at g.cells i c j ≡ c) (sym there) (at_here g.cells i c));
           each = each_more n m shape w g calls tied p g' base'
-              (record { pushed = (omega arith); popped = (omega arith); once = (omega arith); ages = ages n m shape w g calls tied p i c (subst (λ (d : Cell T). age d ≤ age c) (sym was_full) (omega arith)) })
+              (record {
+                pushed = (omega arith);
+                popped = (omega arith);
+                once = (omega arith);
+                ages =
+                    ages n m shape w g calls tied p i c (subst (λ (d : Cell T). age d ≤ age c) (sym was_full) (omega arith));
+              })
               (λ q other. keeps n m shape w g calls tied p i c g' refl q (not_mine q other))
               (Stands (ForcePush x) turn) (with_call calls p (Some k')) (other_calls n m shape w g calls tied p (Some k'))
-              (subst (λ (o : Option (Progress T)). TiedPlace n m g' p (Stands (ForcePush x) turn) (sees (sight_of n m g') o)) (sym (at_here calls p (Some k')))
-              (subst (λ (t : Turn). TiedPlace n m g' p (Stands (ForcePush x) t) (sees (sight_of n m g') (Some k'))) (sym turn_is)
-              (record k' { seen = sight_of n m g' ∷ k'.seen }, refl, of, (Some y, (i, g.popped, displacing, below, at_here g.cells i c, refl, refl)))));
+              (subst (λ (o : Option (Progress T)). TiedPlace n m g' p (Stands (ForcePush x) turn) (sees (sight_of n m g') o))
+              (sym (at_here calls p (Some k')))
+              (subst (λ (t : Turn). TiedPlace n m g' p (Stands (ForcePush x) t) (sees (sight_of n m g') (Some k'))) (sym turn_is) (
+                record k' { seen = sight_of n m g' ∷ k'.seen },
+                refl,
+                of,
+                (Some y, (i, g.popped, displacing, below, at_here g.cells i c, refl, refl)),
+              )));
         },
       )
 
-  tail_moves : (c : ℕ) → g.pushed ≡ c → (b : Bool) → g.shut ≡ b → (if b then next_at n m (word_at n m c) + m else next_at n m (word_at n m c)) ≡ word_at n m (g.pushed + 1) + bit g.shut * m
+  tail_moves : (c : ℕ) → g.pushed ≡ c → (b : Bool) → g.shut ≡ b
+      → (if b then next_at n m (word_at n m c) + m else next_at n m (word_at n m c)) ≡ word_at n m (g.pushed + 1) + bit g.shut * m
   tail_moves c is true e = ap (λ (z : ℕ). z + m) (next_is n m shape c) ∙ sym (marked n m shape (c + 1))
       ∙ ap (λ (z : ℕ). word_at n m (z + 1) + bit true * m) (sym is) ∙ ap (λ (b : Bool). word_at n m (g.pushed + 1) + bit b * m) (sym e)
   tail_moves c is false e = next_is n m shape c ∙ sym (bare n m shape (c + 1))
@@ -253,7 +335,13 @@ module _ {T : Type 0} (n m : ℕ) (shape : IsShape n m) (w : BoundedWorld T) (g 
   pub advances : (x : T) (c i : ℕ) (o : Option T) → i < n → g.cells i ≡ cell c (held p (ForcePush x) displacing o false)
       → ((j : ℕ) → j < n → j ≢ i → NotBy p (g.cells j).phase) → k.call ≡ ForcePush x → k.answer ≡ Some (answer_of (ForcePush x) Displaced o)
       → Goes n m shape w g calls (Arrives p ∷ [])
-      (record { tail = tail_after n m (Advance (word_at n m (c + n))) w.tail; head = w.head; slots = w.slots; places = with_at w.places p (Stands (ForcePush x) (Fill (word_at n m (c + n)) Displaced)) })
+      (record {
+        tail = tail_after n m (Advance (word_at n m (c + n))) w.tail;
+        head = w.head;
+        slots = w.slots;
+        places =
+            with_at w.places p (Stands (ForcePush x) (Fill (word_at n m (c + n)) Displaced));
+      })
   advances x c i o below is alone of told =
       let lying : CellLies n m g (cell c (held p (ForcePush x) displacing o false)) = subst (CellLies n m g) is (tied.lies i below) in
       let pushed_is : g.pushed ≡ c + n = lying.1 in
@@ -284,18 +372,32 @@ module _ {T : Type 0} (n m : ℕ) (shape : IsShape n m) (w : BoundedWorld T) (g 
         ),
         record {
           base = base';
-          tail = ap (λ (b : Bool). if b then next_at n m (word_at n m (c + n)) + m else next_at n m (word_at n m (c + n))) (ap (is_marked m) tied.tail ∙ marked_is n m shape g.pushed g.shut)
+          tail = ap (λ (b : Bool). if b then next_at n m (word_at n m (c + n)) + m else next_at n m (word_at n m (c + n)))
+              (ap (is_marked m) tied.tail ∙ marked_is n m shape g.pushed g.shut)
               ∙ tail_moves (c + n) pushed_is g.shut refl;
           head = tied.head;
           slots = slots_same n m shape w g calls tied p i d below (ap (slot_of n m) is);
           rounds = rounds n m shape w g calls tied p i d there;
-          lies = lies n m shape w g calls tied p i d g' ((let z = tied.base.behind in omega arith), (omega arith), (x, refl, is_at_last g.all (c + n) x (tied.base.counted ∙ pushed_is)))
-              (λ j b other. lies_pushed n m shape g tied.base j (g.cells j).round (g.cells j).phase x None (tied.rounds j b) (λ e. other (e ∙ sym tail_there)) (tied.lies j b));
-          held_by = held_put n m shape g tied.base w.places p (Stands (ForcePush x) turn) i d (at_here w.places p (Stands (ForcePush x) turn)) alone tied.held_by;
+          lies = lies n m shape w g calls tied p i d g' (
+            (let z = tied.base.behind in omega arith),
+            (omega arith),
+            (x, refl, is_at_last g.all (c + n) x (tied.base.counted ∙ pushed_is)),
+          )
+              (λ j b other. lies_pushed n m shape g tied.base j (g.cells j).round (g.cells j).phase x None (tied.rounds j b)
+              (λ e. other (e ∙ sym tail_there)) (tied.lies j b));
+          held_by = held_put n m shape g tied.base w.places p (Stands (ForcePush x) turn) i d
+              (at_here w.places p (Stands (ForcePush x) turn)) alone tied.held_by;
           comes = tt;
           each = each_more n m shape w g calls tied p g' base'
-              (record { pushed = (omega arith); popped = (omega arith); once = (omega arith); ages = ages n m shape w g calls tied p i d (subst (λ (e : Cell T). age e ≤ age d) (sym is) (omega arith)) })
-              (λ q other. keeps n m shape w g calls tied p i d g' refl q (subst (λ (c : Cell T). NotBy q c.phase) (sym is) (λ e. other (sym e))))
+              (record {
+                pushed = (omega arith);
+                popped = (omega arith);
+                once = (omega arith);
+                ages =
+                    ages n m shape w g calls tied p i d (subst (λ (e : Cell T). age e ≤ age d) (sym is) (omega arith));
+              })
+              (λ q other. keeps n m shape w g calls tied p i d g' refl q
+              (subst (λ (c : Cell T). NotBy q c.phase) (sym is) (λ e. other (sym e))))
               (Stands (ForcePush x) turn) calls (λ q other. refl)
               (subst (λ (z : Option (Progress T)). TiedPlace n m g' p (Stands (ForcePush x) turn) (sees (sight_of n m g') z)) (sym at)
               (record k { seen = sight_of n m g' ∷ k.seen }, refl, of, (o, (i, c, swapping, below, at_here g.cells i d, refl, told))));
@@ -303,20 +405,34 @@ module _ {T : Type 0} (n m : ℕ) (shape : IsShape n m) (w : BoundedWorld T) (g 
       )
 
   -- a close, or the push of one item too many, which closes the ring
-  pub shuts : (call : Call T) (turn : Turn) (a : Answer T) (tail : ℕ) → ((j : ℕ) → j < n → NotBy p (g.cells j).phase) → k.call ≡ call → k.answer ≡ None
-      → Acts (queue_of n m g) call a (shut (queue_of n m g)) → ((j : ℕ × T) → MayBeside (Some j) a) → tail ≡ word_at n m g.pushed + bit true * m
+  pub shuts : (call : Call T) (turn : Turn) (a : Answer T) (tail : ℕ) → ((j : ℕ) → j < n → NotBy p (g.cells j).phase) → k.call ≡ call
+      → k.answer ≡ None
+      → Acts (queue_of n m g) call a (shut (queue_of n m g)) → ((j : ℕ × T) → MayBeside (Some j) a)
+      → tail ≡ word_at n m g.pushed + bit true * m
       → ((k' : Progress T) → k'.answer ≡ Some a → StandsAs n m (kind_of turn) (record g { shut = true }) p call turn k')
-      → Goes n m shape w g calls (Does p a ∷ []) (record { tail = tail; head = w.head; slots = w.slots; places = with_at w.places p (Stands call turn) })
+      → Goes n m shape w g calls (Does p a ∷ [])
+      (record { tail = tail; head = w.head; slots = w.slots; places = with_at w.places p (Stands call turn) })
   shuts call turn a tail alone of none acts beside tail_is stands =
       let g' : Ghost T = record g { shut = true } in
       let k' : Progress T = record k { answer = Some a } in
       let calls' : (ℕ → Option (Progress T)) = λ q. sees (sight_of n m g') (with_call calls p (Some k') q) in
-      let base' : Base n m g' = record { behind = tied.base.behind; within = tied.base.within; few = tied.base.few; counted = tied.base.counted } in (
+      let base' : Base n m g' =
+      record { behind = tied.base.behind; within = tied.base.within; few = tied.base.few; counted = tied.base.counted } in (
         g',
         calls',
         (
           scene_of n m g' calls',
-          (k, at, none, (queue_of n m g', subst (λ (z : Call T). Acts (queue_of n m g) z a (queue_of n m g')) (sym of) acts, beside_closed g.coming a beside, refl)),
+          (
+            k,
+            at,
+            none,
+            (
+              queue_of n m g',
+              subst (λ (z : Call T). Acts (queue_of n m g) z a (queue_of n m g')) (sym of) acts,
+              beside_closed g.coming a beside,
+              refl,
+            ),
+          ),
           refl,
         ),
         record {
@@ -326,13 +442,15 @@ module _ {T : Type 0} (n m : ℕ) (shape : IsShape n m) (w : BoundedWorld T) (g 
           slots = tied.slots;
           rounds = tied.rounds;
           lies = tied.lies;
-          held_by = λ j b. Rattle.queue_laws.proofs.BoundedMoves.held_moved n m w.places p (Stands call turn) (g.cells j).round (g.cells j).phase (alone j b) (tied.held_by j b);
+          held_by = λ j b. Rattle.queue_laws.proofs.BoundedMoves.held_moved n m w.places p (Stands call turn) (g.cells j).round
+              (g.cells j).phase (alone j b) (tied.held_by j b);
           comes = tied.comes;
           each = each_more n m shape w g calls tied p g' base'
               (record { pushed = (omega arith); popped = (omega arith); once = (omega arith); ages = λ j. (omega arith) })
               (λ q other j r c grip o d e. refl)
               (Stands call turn) (with_call calls p (Some k')) (other_calls n m shape w g calls tied p (Some k'))
-              (subst (λ (o : Option (Progress T)). TiedPlace n m g' p (Stands call turn) (sees (sight_of n m g') o)) (sym (at_here calls p (Some k')))
+              (subst (λ (o : Option (Progress T)). TiedPlace n m g' p (Stands call turn) (sees (sight_of n m g') o))
+              (sym (at_here calls p (Some k')))
               (record k' { seen = sight_of n m g' ∷ k'.seen }, refl, of, stands (record k' { seen = sight_of n m g' ∷ k'.seen }) refl));
         },
       )

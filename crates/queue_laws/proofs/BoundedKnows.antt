@@ -1,5 +1,6 @@
 -- What a call remembers of a ring stays right while other parties go on. n is the number of places, m the mark.
-use Rattle.std.proofs.Common.{◌≡◌, ◌≢◌, ◌⊎◌, inl, inr, ℕ, ◌+◌, ◌<◌, ◌≤◌, List, [], ◌∷◌, length, drop, Bool, true, false, Option, Some, None, sym, refl, ap, ◌∙◌, subst, lt_of_not-le, length-drop, arith}
+use Rattle.std.proofs.Common.{◌≡◌, ◌≢◌, ◌⊎◌, inl, inr, ℕ, ◌+◌, ◌<◌, ◌≤◌, List, [], ◌∷◌, length, drop, Bool, true, false, Option, Some, None}
+use Rattle.std.proofs.Common.{sym, refl, ap, ◌∙◌, subst, lt_of_not-le, length-drop, arith}
 use mathlib.Core.Logic.{dite}
 use native.Mathlib.Decide.{dec_le}
 use Rattle.queue_steps.specs.declared.steps.bounded.Turn.{Turn}
@@ -7,7 +8,9 @@ use Rattle.queue_steps.specs.Calls.{Call, Answer}
 use Rattle.queue_laws.specs.Moments.{Sight, Progress, AtSome, MayEnd, sees}
 use Rattle.queue_laws.specs.SingleSteps.{answer_of}
 use Rattle.queue_laws.specs.BoundedSteps.{Place, Away, Stands, Leaving}
-use Rattle.queue_laws.proofs.BoundedState.{Grip, held, Ghost, Kind, looking, holding, ending, kind_of, Fact, Sure, Both, Past, Gone, Aged, OpenAt, OpenFull, LenAt, EmptyAt, FullAt, age, sight_of, Base, WasOpen, WasLong, WasSome, WasNotFull, Knows, Grips, StandsAs, TiedPlace}
+use Rattle.queue_laws.proofs.BoundedState.{Grip, held, Ghost, Kind, looking, holding, ending, kind_of, Fact, Sure, Both, Past, Gone, Aged}
+use Rattle.queue_laws.proofs.BoundedState.{OpenAt, OpenFull, LenAt, EmptyAt, FullAt, age, sight_of, Base, WasOpen, WasLong, WasSome}
+use Rattle.queue_laws.proofs.BoundedState.{WasNotFull, Knows, Grips, StandsAs, TiedPlace}
 
 module _ {T : Type 0} where
   pub at_some : (P Q : Sight T → Type 0) → ((s : Sight T) → P s → Q s) → (seen : List (Sight T)) → AtSome P seen → AtSome Q seen
@@ -37,15 +40,18 @@ module _ {T : Type 0} where
     not_none : (xs : List T) → 0 < length xs → xs ≢ []
     not_none xs some none = let z = ap length none in omega arith
 
-    empty_grows : Base n m g → Base n m g' → Grows n m g g' → (q : ℕ) (seen : List (Sight T)) → q ≤ g.popped → (g.pushed ≡ q) ⊎ AtSome (WasSome) seen
+    empty_grows : Base n m g → Base n m g' → Grows n m g g' → (q : ℕ) (seen : List (Sight T)) → q ≤ g.popped
+        → (g.pushed ≡ q) ⊎ AtSome (WasSome) seen
         → (g'.pushed ≡ q) ⊎ AtSome (WasSome) (sight_of n m g' ∷ seen)
     empty_grows b b' gr q seen gone (inr at) = inr (inr at)
     empty_grows b b' gr q seen gone (inl is) = dite (dec_le g'.pushed g.pushed)
         (λ le. inl (let a = gr.pushed in omega arith))
         (λ not. let more : g.pushed < g'.pushed = lt_of_not-le not in
-        inr (inl (not_none (drop g'.popped g'.all) (let l = length_is n m g' b' in let a = b.behind in let o = gr.once in let p = gr.popped in omega arith))))
+        inr (inl (not_none (drop g'.popped g'.all) (let l = length_is n m g' b' in let a = b.behind in let o = gr.once in
+        let p = gr.popped in omega arith))))
 
-    full_grows : Base n m g → Base n m g' → Grows n m g g' → (c : ℕ) (seen : List (Sight T)) → c ≤ g.pushed → (g.popped + n ≡ c) ⊎ AtSome (WasNotFull n m) seen
+    full_grows : Base n m g → Base n m g' → Grows n m g g' → (c : ℕ) (seen : List (Sight T)) → c ≤ g.pushed
+        → (g.popped + n ≡ c) ⊎ AtSome (WasNotFull n m) seen
         → (g'.popped + n ≡ c) ⊎ AtSome (WasNotFull n m) (sight_of n m g' ∷ seen)
     full_grows b b' gr c seen past (inr at) = inr (inr at)
     full_grows b b' gr c seen past (inl is) = dite (dec_le g'.popped g.popped)
@@ -53,15 +59,20 @@ module _ {T : Type 0} where
         (λ not. let more : g.popped < g'.popped = lt_of_not-le not in
         inr (inl (refl, λ full. let l = length_is n m g' b' in let a = b.within in let o = gr.once in let p = gr.pushed in omega arith)))
 
-    pub knows_more : Base n m g → Base n m g' → Grows n m g g' → (seen : List (Sight T)) (f : Fact) → Knows n m g seen f → Knows n m g' (sight_of n m g' ∷ seen) f
+    pub knows_more : Base n m g → Base n m g' → Grows n m g g' → (seen : List (Sight T)) (f : Fact) → Knows n m g seen f
+        → Knows n m g' (sight_of n m g' ∷ seen) f
     knows_more b b' gr seen Sure k = tt
     knows_more b b' gr seen (Both x y) k = (knows_more b b' gr seen x k.0, knows_more b b' gr seen y k.1)
     knows_more b b' gr seen (Past c) k = let a = gr.pushed in omega arith
     knows_more b b' gr seen (Gone q) k = let a = gr.popped in omega arith
     knows_more b b' gr seen (Aged i a) k = let z = gr.ages i in omega arith
-    knows_more b b' gr seen (OpenAt c) k = inr (at_some (WasOpen n m g.popped c) (WasOpen n m g'.popped c) (λ s was. (was.0, (let a = was.1 in let z = gr.popped in omega arith), was.2, was.3, was.4, was.5)) seen k)
+    knows_more b b' gr seen (OpenAt c) k =
+        inr (at_some (WasOpen n m g.popped c) (WasOpen n m g'.popped c)
+        (λ s was. (was.0, (let a = was.1 in let z = gr.popped in omega arith), was.2, was.3, was.4, was.5)) seen k)
     knows_more b b' gr seen OpenFull k = inr k
-    knows_more b b' gr seen (LenAt c q) k = inr (at_some (WasLong g.pushed c q) (WasLong g'.pushed c q) (λ s was. (was.0, was.1, (let a = was.2 in let z = gr.pushed in omega arith), was.3)) seen k)
+    knows_more b b' gr seen (LenAt c q) k =
+        inr (at_some (WasLong g.pushed c q) (WasLong g'.pushed c q)
+        (λ s was. (was.0, was.1, (let a = was.2 in let z = gr.pushed in omega arith), was.3)) seen k)
     knows_more b b' gr seen (EmptyAt q) k = ((let a = k.0 in let z = gr.popped in omega arith), empty_grows b b' gr q seen k.0 k.1)
     knows_more b b' gr seen (FullAt c) k = ((let a = k.0 in let z = gr.pushed in omega arith), full_grows b b' gr c seen k.0 k.1)
 
@@ -81,13 +92,16 @@ module _ {T : Type 0} where
 
     -- a party that has a place still has it
     abbrev pub Keeps : ℕ → Type 0
-    Keeps p = (i c : ℕ) (call : Call T) (grip : Grip) (o : Option T) (d : Bool) → g.cells i ≡ record { round = c; phase = held p call grip o d } → g'.cells i ≡ g.cells i
+    Keeps p = (i c : ℕ) (call : Call T) (grip : Grip) (o : Option T) (d : Bool)
+        → g.cells i ≡ record { round = c; phase = held p call grip o d } → g'.cells i ≡ g.cells i
 
-    more_seen : (look : Sight T) (k : Progress T) (o : Option (Answer T)) (a : Answer T) → MayEnd k o a → MayEnd (record k { seen = look ∷ k.seen }) o a
+    more_seen : (look : Sight T) (k : Progress T) (o : Option (Answer T)) (a : Answer T) → MayEnd k o a
+        → MayEnd (record k { seen = look ∷ k.seen }) o a
     more_seen look k None a may = inr may
     more_seen look k (Some told) a may = may
 
-    grips_more : (p : ℕ) (call : Call T) (t : Turn) (o : Option T) (d : Bool) (k : Progress T) → Keeps p → Grips n m g p call t o d k → Grips n m g' p call t o d k
+    grips_more : (p : ℕ) (call : Call T) (t : Turn) (o : Option T) (d : Bool) (k : Progress T) → Keeps p → Grips n m g p call t o d k
+        → Grips n m g' p call t o d k
     grips_more p call t o d k keep h = (h.0, h.1, h.2, h.3, keep h.0 h.1 call h.2 o d h.4 ∙ h.4, h.5, h.6)
 
     seen_by : Progress T → Progress T
@@ -103,10 +117,17 @@ module _ {T : Type 0} where
     pub tied_more : Base n m g → Base n m g' → Grows n m g g' → (p : ℕ) (place : Place T) (c : Option (Progress T)) → Keeps p
         → TiedPlace n m g p place c → TiedPlace n m g' p place (sees (sight_of n m g') c)
     tied_more b b' gr p Away c keep tied = ap (sees (sight_of n m g')) tied
-    tied_more b b' gr p (Stands call t) c keep tied =
-        (record tied.0 { seen = sight_of n m g' ∷ tied.0.seen }, ap (sees (sight_of n m g')) tied.1, tied.2, stands_more b b' gr (kind_of t) p call t tied.0 keep tied.3)
-    tied_more b b' gr p (Leaving call t o) c keep tied =
-        (record tied.0 { seen = sight_of n m g' ∷ tied.0.seen }, ap (sees (sight_of n m g')) tied.1, grips_more p call t o true tied.0 keep tied.2)
+    tied_more b b' gr p (Stands call t) c keep tied = (
+      record tied.0 { seen = sight_of n m g' ∷ tied.0.seen },
+      ap (sees (sight_of n m g')) tied.1,
+      tied.2,
+      stands_more b b' gr (kind_of t) p call t tied.0 keep tied.3,
+    )
+    tied_more b b' gr p (Leaving call t o) c keep tied = (
+      record tied.0 { seen = sight_of n m g' ∷ tied.0.seen },
+      ap (sees (sight_of n m g')) tied.1,
+      grips_more p call t o true tied.0 keep tied.2,
+    )
 
     stands_still : Stays n m g g' → (kind : Kind) (p : ℕ) (call : Call T) (t : Turn) (k : Progress T) → Keeps p
         → StandsAs n m kind g p call t k → StandsAs n m kind g' p call t k
@@ -116,7 +137,8 @@ module _ {T : Type 0} where
     stands_still st (ending r) p call t k keep h = h
 
     -- another party's place, where the queue has not changed
-    pub tied_still : Stays n m g g' → (p : ℕ) (place : Place T) (c : Option (Progress T)) → Keeps p → TiedPlace n m g p place c → TiedPlace n m g' p place c
+    pub tied_still : Stays n m g g' → (p : ℕ) (place : Place T) (c : Option (Progress T)) → Keeps p → TiedPlace n m g p place c
+        → TiedPlace n m g' p place c
     tied_still st p Away c keep tied = tied
     tied_still st p (Stands call t) c keep tied = (tied.0, tied.1, tied.2, stands_still st (kind_of t) p call t tied.0 keep tied.3)
     tied_still st p (Leaving call t o) c keep tied = (tied.0, tied.1, grips_more p call t o true tied.0 keep tied.2)

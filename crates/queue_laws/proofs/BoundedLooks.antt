@@ -1,5 +1,6 @@
 -- What a call on a ring finds where it looks at a word. n is the number of places, m the mark.
-use Rattle.std.proofs.Common.{◌≡◌, ◌⊎◌, inl, inr, ℕ, ◌+◌, ◌-◌, ◌*◌, ◌%◌, ◌<◌, ◌≤◌, List, [], ◌∷◌, length, drop, Bool, true, false, nat_lt, Option, Some, None, Err, ◌==◌, ◌||◌, if◌then◌else◌, sym, refl, ap, ◌∙◌, subst, lt_of_not-le, mod-lt, arith}
+use Rattle.std.proofs.Common.{◌≡◌, ◌⊎◌, inl, inr, ℕ, ◌+◌, ◌-◌, ◌*◌, ◌%◌, ◌<◌, ◌≤◌, List, [], ◌∷◌, length, drop, Bool, true, false, nat_lt}
+use Rattle.std.proofs.Common.{Option, Some, None, Err, ◌==◌, ◌||◌, if◌then◌else◌, sym, refl, ap, ◌∙◌, subst, lt_of_not-le, mod-lt, arith}
 use Rattle.std.specs.Prelude.{MatchOption}
 use mathlib.Core.Logic.{dite}
 use native.Mathlib.Decide.{dec_le}
@@ -8,17 +9,24 @@ use Rattle.queue_steps.specs.declared.errors.PushError.TheVariants.{Full as Full
 use Rattle.queue_steps.specs.declared.errors.PushError.{PushError}
 use Rattle.queue_steps.specs.declared.errors.ForcePushError.{ForcePushError}
 use Rattle.queue_steps.specs.declared.steps.bounded.Turn.{Turn}
-use Rattle.queue_steps.specs.declared.steps.bounded.Turn.TheVariants.{Tail, Head, Stamp, HeadFor, TailFor, TailAgain, Append, Take, Displace, Advance, Spend, Fill, Drain, End, Close as CloseTurn}
+use Rattle.queue_steps.specs.declared.steps.bounded.Turn.TheVariants.{Tail, Head, Stamp, HeadFor, TailFor, TailAgain, Append, Take}
+use Rattle.queue_steps.specs.declared.steps.bounded.Turn.TheVariants.{Displace, Spend, End}
 use Rattle.queue_steps.specs.declared.steps.Reply.TheVariants.{Full, Empty, Closed, Length}
 use Rattle.queue_steps.specs.ClosableQueue.{most_accepted}
-use Rattle.queue_steps.specs.Calls.{Call, Push, ForcePush, Pop, Len, IsEmptyCall, IsFullCall, IsClosedCall, Pushed, ForcePushed, LenIs, EmptyIs, FullIs, ClosedIs}
+use Rattle.queue_steps.specs.Calls.{Call, Push, ForcePush, Pop, Len, IsEmptyCall, IsFullCall, IsClosedCall, Pushed, ForcePushed, LenIs}
+use Rattle.queue_steps.specs.Calls.{EmptyIs, FullIs, ClosedIs}
 use Rattle.queue_laws.specs.Moments.{Sight, AtSome, MayAnswer, MayBeside, WasOpenAndFull}
 use Rattle.queue_steps.specs.Bounded.{IsShape, word_at, count_at, is_marked}
-use Rattle.queue_steps.specs.BoundedTurns.{answered, pushes_from, appends_at, stamped_for_push, push_turn, displaces_at, force_push_turn, pops_from, stamped_for_pop, pop_turn, len_turn, is_empty_turn, is_full_turn}
+use Rattle.queue_steps.specs.BoundedTurns.{answered, pushes_from, appends_at, stamped_for_push, push_turn, displaces_at, force_push_turn}
+use Rattle.queue_steps.specs.BoundedTurns.{pops_from, stamped_for_pop, pop_turn, len_turn, is_empty_turn, is_full_turn}
 use Rattle.queue_laws.specs.SingleSteps.{answer_of}
 use Rattle.queue_steps.proofs.BoundedWords.{index_of_word, count_of_word}
-use Rattle.queue_laws.proofs.BoundedStamps.{bit, marked_is, tail_index, tail_count, bare, marked, one_tail, same_tail, one_slot, one_slot_behind, head_behind, head_behind_marked}
-use Rattle.queue_laws.proofs.BoundedState.{Phase, free, full, held, Cell, Ghost, Kind, looking, holding, ending, kind_of, Fact, Sure, Both, Past, Gone, Aged, OpenAt, OpenFull, LenAt, EmptyAt, FullAt, writing, swapping, reading, displacing, up, age, sight_of, Base, ComesTo, WasOpen, WasLong, WasSome, WasNotFull, Knows, PushFits, Looks}
+use Rattle.queue_laws.proofs.BoundedStamps.{bit, marked_is, tail_index, tail_count, bare, marked, one_tail, same_tail, one_slot}
+use Rattle.queue_laws.proofs.BoundedStamps.{one_slot_behind, head_behind, head_behind_marked}
+use Rattle.queue_laws.proofs.BoundedState.{Phase, free, full, held, Cell, Ghost, Kind, looking, holding, ending, kind_of, Fact, Sure, Both}
+use Rattle.queue_laws.proofs.BoundedState.{Past, Gone, Aged, OpenAt, OpenFull, LenAt, EmptyAt, FullAt, writing, swapping, reading}
+use Rattle.queue_laws.proofs.BoundedState.{displacing, up, age, sight_of, Base, ComesTo, WasOpen, WasLong, WasSome, WasNotFull, Knows}
+use Rattle.queue_laws.proofs.BoundedState.{PushFits, Looks}
 use Rattle.queue_laws.proofs.BoundedKnows.{at_some, length_is}
 use Rattle.queue_laws.proofs.SingleLooks.{is_party, is_other, never}
 
@@ -88,22 +96,14 @@ module _ {T : Type 0} (n m : ℕ) (shape : IsShape n m) (g : Ghost T) (b : Base 
   finds_push : (x : T) (t : Turn) (seen : List (Sight T)) → PushLooks t seen → Finds (Push x) t seen
   finds_push x t seen l = subst (λ (k : Kind). FindsAs k (Push x) t seen) (sym l.0) l.1
 
-  to_force : (x : T) (t : Turn) (seen : List (Sight T)) (f : Fact) → PushFits n m t f → Knows n m g seen f → Looks n m g (ForcePush x) t seen
+  to_force : (x : T) (t : Turn) (seen : List (Sight T)) (f : Fact) → PushFits n m t f → Knows n m g seen f
+      → Looks n m g (ForcePush x) t seen
   to_force x Tail seen f fits k = (f, fits, k)
   to_force x (Stamp t) seen f fits k = (f, fits, k)
   to_force x (HeadFor t) seen f fits k = (f, fits, k)
   to_force x (Append t) seen f fits k = (f, fits, k)
   to_force x (Spend t) seen f fits k = (Past fits.0, (fits.0, fits.1, fits.2, refl), (subst (Knows n m g seen) fits.3 k).0)
-  to_force x Head seen f fits k = absurd fits
-  to_force x (TailFor h) seen f fits k = absurd fits
-  to_force x (TailAgain t h) seen f fits k = absurd fits
-  to_force x (Take h) seen f fits k = absurd fits
-  to_force x (Displace t) seen f fits k = absurd fits
-  to_force x (Advance t) seen f fits k = absurd fits
-  to_force x CloseTurn seen f fits k = absurd fits
-  to_force x (Fill t r) seen f fits k = absurd fits
-  to_force x (Drain h) seen f fits k = absurd fits
-  to_force x (End r) seen f fits k = absurd fits
+  to_force x _ seen f fits k = absurd fits
 
   finds_force : (x : T) (t : Turn) (seen : List (Sight T)) → PushLooks t seen → Finds (ForcePush x) t seen
   finds_force x t seen l = subst (λ (k : Kind). FindsAs k (ForcePush x) t seen) (sym l.0) (to_force x t seen l.1.0 l.1.1 l.1.2)
@@ -114,19 +114,26 @@ module _ {T : Type 0} (n m : ℕ) (shape : IsShape n m) (g : Ghost T) (b : Base 
     (
       Both (Past g.pushed) (OpenAt g.pushed),
       (g.pushed, ap (λ (c : Bool). word_at n m g.pushed + bit c * m) opened ∙ bare n m shape g.pushed, refl),
-      (omega arith, inl (g.popped, omega arith, length_is n m g b, refl, opened, (let l = length_is n m g b in let w = b.within in omega arith))),
+      (
+        omega arith,
+        inl (g.popped, omega arith, length_is n m g b, refl, opened, (let l = length_is n m g b in let w = b.within in omega arith)),
+      ),
     ),
   )
 
-  from_tail : (call : Call T) (older : List (Sight T)) → (g.shut ≡ true → Finds call (End Closed) (now ∷ older)) → (PushLooks (Stamp tail_now) (now ∷ older) → Finds call (Stamp tail_now) (now ∷ older))
+  from_tail : (call : Call T) (older : List (Sight T)) → (g.shut ≡ true → Finds call (End Closed) (now ∷ older))
+      → (PushLooks (Stamp tail_now) (now ∷ older) → Finds call (Stamp tail_now) (now ∷ older))
       → Finds call (pushes_from n m tail_now) (now ∷ older)
   from_tail call older closed opened = by (is_marked m tail_now) refl
     where
       near : (c : Bool) → nat_lt (tail_now % m) n ≡ c → g.shut ≡ false → Finds call (if c then Stamp tail_now else Tail) (now ∷ older)
       near true e shut = opened (open_now older shut)
-      near false e shut = absurd (let z = ge_is (tail_now % m) n e in let i = tail_index n m shape g.pushed g.shut in let l = mod-lt g.pushed shape.some in omega arith)
+      near false e shut =
+          absurd (let z = ge_is (tail_now % m) n e in let i = tail_index n m shape g.pushed g.shut in let l = mod-lt g.pushed shape.some in
+          omega arith)
 
-      by : (c : Bool) → is_marked m tail_now ≡ c → Finds call (if c then End Closed else (if nat_lt (tail_now % m) n then Stamp tail_now else Tail)) (now ∷ older)
+      by : (c : Bool) → is_marked m tail_now ≡ c
+          → Finds call (if c then End Closed else (if nat_lt (tail_now % m) n then Stamp tail_now else Tail)) (now ∷ older)
       by true e = closed (sym (marked_is n m shape g.pushed g.shut) ∙ e)
       by false e = near (nat_lt (tail_now % m) n) refl (sym (marked_is n m shape g.pushed g.shut) ∙ e)
 
@@ -153,12 +160,18 @@ module _ {T : Type 0} (n m : ℕ) (shape : IsShape n m) (g : Ghost T) (b : Base 
       found : ℕ
       found = word_at n m cell.round + up cell.phase
 
-      append_or_spend : (k : Bool) → nat_lt (count_at n m (word_at n m c)) most_accepted ≡ k → 2 * c ≤ age cell → PushLooks (if k then Append (word_at n m c) else Spend (word_at n m c)) seen
+      append_or_spend : (k : Bool) → nat_lt (count_at n m (word_at n m c)) most_accepted ≡ k → 2 * c ≤ age cell
+          → PushLooks (if k then Append (word_at n m c) else Spend (word_at n m c)) seen
       append_or_spend true e aged = (
         refl,
         (
           Both (Past c) (Aged (c % n) (2 * c)),
-          (c, refl, (let z = lt_is (count_at n m (word_at n m c)) most_accepted e in let w = count_of_word n m shape c in omega arith), refl),
+          (
+            c,
+            refl,
+            (let z = lt_is (count_at n m (word_at n m c)) most_accepted e in let w = count_of_word n m shape c in omega arith),
+            refl,
+          ),
           (past, aged),
         ),
       )
@@ -166,14 +179,20 @@ module _ {T : Type 0} (n m : ℕ) (shape : IsShape n m) (g : Ghost T) (b : Base 
         refl,
         (
           Both (Past c) (Aged (c % n) (2 * c)),
-          (c, refl, (let z = ge_is (count_at n m (word_at n m c)) most_accepted e in let w = count_of_word n m shape c in omega arith), refl),
+          (
+            c,
+            refl,
+            (let z = ge_is (count_at n m (word_at n m c)) most_accepted e in let w = count_of_word n m shape c in omega arith),
+            refl,
+          ),
           (past, aged),
         ),
       )
 
       behind : (k : Bool) → (found + 2 * m == word_at n m c + 1) ≡ k → PushLooks (if k then HeadFor (word_at n m c) else Tail) seen
       behind true e =
-          let is = one_slot_behind n m shape cell.round c (up cell.phase) place (up_once cell.phase) (is_party (found + 2 * m) (word_at n m c + 1) e) in (
+          let is = one_slot_behind n m shape cell.round c (up cell.phase) place (up_once cell.phase)
+          (is_party (found + 2 * m) (word_at n m c + 1) e) in (
             refl,
             (
               Both (Both (Past (cell.round + n)) (OpenAt (cell.round + n))) (Aged (cell.round % n) (2 * cell.round + 1)),
@@ -187,17 +206,21 @@ module _ {T : Type 0} (n m : ℕ) (shape : IsShape n m) (g : Ghost T) (b : Base 
       behind false e = (refl, (Sure, refl, tt))
 
       by : (k : Bool) → (found == word_at n m c) ≡ k
-          → PushLooks (if k then appends_at n m (word_at n m c) else (if found + 2 * m == word_at n m c + 1 then HeadFor (word_at n m c) else Tail)) seen
+          → PushLooks (if k then appends_at n m (word_at n m c)
+          else (if found + 2 * m == word_at n m c + 1 then HeadFor (word_at n m c) else Tail)) seen
       by true e =
-          let is = one_slot n m shape c cell.round (up cell.phase) 0 place (up_once cell.phase) (omega arith) (let z = is_party found (word_at n m c) e in omega arith) in
+          let is = one_slot n m shape c cell.round (up cell.phase) 0 place (up_once cell.phase) (omega arith) (let z =
+          is_party found (word_at n m c) e in omega arith) in
           append_or_spend (nat_lt (count_at n m (word_at n m c)) most_accepted) refl (let p = is.0 in omega arith)
       by false e = behind (found + 2 * m == word_at n m c + 1) refl
 
-  pub push_stamped : (x : T) (seen : List (Sight T)) (c : ℕ) → (g.cells (c % n)).round % n ≡ c % n → c ≤ g.pushed → AtSome (WasOpen n m g.popped c) seen
+  pub push_stamped : (x : T) (seen : List (Sight T)) (c : ℕ) → (g.cells (c % n)).round % n ≡ c % n → c ≤ g.pushed
+      → AtSome (WasOpen n m g.popped c) seen
       → Finds (Push x) (stamped_for_push n m (word_at n m c) (word_at n m (g.cells (c % n)).round + up (g.cells (c % n)).phase)) seen
   push_stamped x seen c place past opened = finds_push x _ seen (push_stamp seen c place past opened)
 
-  pub force_stamped : (x : T) (seen : List (Sight T)) (c : ℕ) → (g.cells (c % n)).round % n ≡ c % n → c ≤ g.pushed → AtSome (WasOpen n m g.popped c) seen
+  pub force_stamped : (x : T) (seen : List (Sight T)) (c : ℕ) → (g.cells (c % n)).round % n ≡ c % n → c ≤ g.pushed
+      → AtSome (WasOpen n m g.popped c) seen
       → Finds (ForcePush x) (stamped_for_push n m (word_at n m c) (word_at n m (g.cells (c % n)).round + up (g.cells (c % n)).phase)) seen
   force_stamped x seen c place past opened = finds_force x _ seen (push_stamp seen c place past opened)
 
@@ -206,7 +229,11 @@ module _ {T : Type 0} (n m : ℕ) (shape : IsShape n m) (g : Ghost T) (b : Base 
   was_full q seen is = at_some (WasOpen n m g.popped (q + n)) WasOpenAndFull goes seen
     where
       goes : (s : Sight T) → WasOpen n m g.popped (q + n) s → WasOpenAndFull s
-      goes s was = (was.4, subst (λ (o : Option ℕ). MatchOption o ⊥ (λ (k : ℕ). length s.queue.items ≡ k)) (sym was.3) (let a = was.1 in let l = was.2 in let w = was.5 in omega arith))
+      goes s was = (
+        was.4,
+        subst (λ (o : Option ℕ). MatchOption o ⊥ (λ (k : ℕ). length s.queue.items ≡ k)) (sym was.3) (let a = was.1 in
+            let l = was.2 in let w = was.5 in omega arith),
+      )
 
   head_is : (q : ℕ) → word_at n m g.popped + 2 * m ≡ word_at n m (q + n) → g.popped ≡ q
   head_is q e = let z = (head_behind n m shape (q + n) false g.popped (e ∙ sym (bare n m shape (q + n)))).0 in omega arith
@@ -217,11 +244,13 @@ module _ {T : Type 0} (n m : ℕ) (shape : IsShape n m) (g : Ghost T) (b : Base 
     where
       by : (k : Bool) → (word_at n m g.popped + 2 * m == word_at n m (q + n)) ≡ k → Finds (Push x) (if k then End Full else Tail) seen
       by true e =
-          at_some WasOpenAndFull (MayAnswer (Push x) (Pushed (Err (FullToPush x)))) (λ s was. ((was.0, was.1, refl, refl), beside_push s.incoming (FullToPush x)))
+          at_some WasOpenAndFull (MayAnswer (Push x) (Pushed (Err (FullToPush x))))
+          (λ s was. ((was.0, was.1, refl, refl), beside_push s.incoming (FullToPush x)))
           seen (was_full q seen (head_is q (is_party (word_at n m g.popped + 2 * m) (word_at n m (q + n)) e)) opened)
       by false e = (Sure, refl, tt)
 
-  pub force_head : (x : T) (q : ℕ) (seen : List (Sight T)) → q + n ≤ g.pushed → AtSome (WasOpen n m g.popped (q + n)) seen → 2 * q + 1 ≤ age (g.cells (q % n))
+  pub force_head : (x : T) (q : ℕ) (seen : List (Sight T)) → q + n ≤ g.pushed → AtSome (WasOpen n m g.popped (q + n)) seen
+      → 2 * q + 1 ≤ age (g.cells (q % n))
       → Finds (ForcePush x) (force_push_turn n m (HeadFor (word_at n m (q + n))) (word_at n m g.popped)) seen
   force_head x q seen past opened aged = by (word_at n m g.popped + 2 * m == word_at n m (q + n)) refl
     where
@@ -229,16 +258,28 @@ module _ {T : Type 0} (n m : ℕ) (shape : IsShape n m) (g : Ghost T) (b : Base 
           → Finds (ForcePush x) (if k then Displace (word_at n m (q + n)) else Spend (word_at n m (q + n))) seen
       displace_or_spend true e was = (
         Both (Both (Past (q + n)) OpenFull) (Aged (q % n) (2 * q + 1)),
-        (q, refl, (let z = lt_is (count_at n m (word_at n m (q + n))) most_accepted e in let w = count_of_word n m shape (q + n) in omega arith), refl),
+        (
+          q,
+          refl,
+          (let z = lt_is (count_at n m (word_at n m (q + n))) most_accepted e in let w = count_of_word n m shape (q + n) in
+              omega arith),
+          refl,
+        ),
         ((past, was), aged),
       )
       displace_or_spend false e was = (
         Past (q + n),
-        (q + n, refl, (let z = ge_is (count_at n m (word_at n m (q + n))) most_accepted e in let w = count_of_word n m shape (q + n) in omega arith), refl),
+        (
+          q + n,
+          refl,
+          (let z = ge_is (count_at n m (word_at n m (q + n))) most_accepted e in let w = count_of_word n m shape (q + n) in omega arith),
+          refl,
+        ),
         past,
       )
 
-      by : (k : Bool) → (word_at n m g.popped + 2 * m == word_at n m (q + n)) ≡ k → Finds (ForcePush x) (if k then displaces_at n m (word_at n m (q + n)) else Tail) seen
+      by : (k : Bool) → (word_at n m g.popped + 2 * m == word_at n m (q + n)) ≡ k
+          → Finds (ForcePush x) (if k then displaces_at n m (word_at n m (q + n)) else Tail) seen
       by true e = displace_or_spend (nat_lt (count_at n m (word_at n m (q + n))) most_accepted) refl
           (was_full q seen (head_is q (is_party (word_at n m g.popped + 2 * m) (word_at n m (q + n)) e)) opened)
       by false e = (Sure, refl, tt)
@@ -266,14 +307,17 @@ module _ {T : Type 0} (n m : ℕ) (shape : IsShape n m) (g : Ghost T) (b : Base 
 
       empty : (k : Bool) → (found == word_at n m q) ≡ k → Finds Pop (if k then TailFor (word_at n m q) else Head) seen
       empty true e =
-          let is = one_slot n m shape q cell.round (up cell.phase) 0 place (up_once cell.phase) (omega arith) (let z = is_party found (word_at n m q) e in omega arith) in
+          let is = one_slot n m shape q cell.round (up cell.phase) 0 place (up_once cell.phase) (omega arith) (let z =
+          is_party found (word_at n m q) e in omega arith) in
           (Both (Gone q) (Aged (q % n) (2 * q)), (q, refl, refl), (gone, (let p = is.0 in omega arith)))
       empty false e = (Sure, refl, tt)
 
       by : (k : Bool) → (found == word_at n m q + 1) ≡ k
-          → Finds Pop (if k then (if nat_lt (count_at n m (word_at n m q)) most_accepted then Take (word_at n m q) else Head) else (if found == word_at n m q then TailFor (word_at n m q) else Head)) seen
+          → Finds Pop (if k then (if nat_lt (count_at n m (word_at n m q)) most_accepted then Take (word_at n m q) else Head)
+          else (if found == word_at n m q then TailFor (word_at n m q) else Head)) seen
       by true e =
-          let is = one_slot n m shape q cell.round (up cell.phase) 1 place (up_once cell.phase) (omega arith) (is_party found (word_at n m q + 1) e) in
+          let is = one_slot n m shape q cell.round (up cell.phase) 1 place (up_once cell.phase) (omega arith)
+          (is_party found (word_at n m q + 1) e) in
           take (nat_lt (count_at n m (word_at n m q)) most_accepted) (let p = is.0 in let u = is.1 in omega arith)
       by false e = empty (found == word_at n m q) refl
 
@@ -285,7 +329,8 @@ module _ {T : Type 0} (n m : ℕ) (shape : IsShape n m) (g : Ghost T) (b : Base 
   nothing_comes : (q : ℕ) → g.pushed ≡ q → 2 * q ≤ age (g.cells (q % n)) → (i : Option (ℕ × T)) → ComesTo n m g.cells g.pushed i → i ≡ None
   nothing_comes q is aged None comes = refl
   nothing_comes q is aged (Some i) comes = absurd (
-      let at : age (g.cells (q % n)) ≡ 2 * comes.0 + 1 = subst (λ (x : ℕ). age (g.cells (x % n)) ≡ 2 * comes.0 + 1) is (ap (λ (c : Cell T). age c) comes.3) in
+      let at : age (g.cells (q % n)) ≡ 2 * comes.0 + 1 =
+      subst (λ (x : ℕ). age (g.cells (x % n)) ≡ 2 * comes.0 + 1) is (ap (λ (c : Cell T). age c) comes.3) in
       let p = comes.2 in let some = shape.some in omega arith)
 
   pub pop_tail : (older : List (Sight T)) (q : ℕ) → ComesTo n m g.cells g.pushed g.coming → q ≤ g.popped → 2 * q ≤ age (g.cells (q % n))
@@ -295,35 +340,50 @@ module _ {T : Type 0} (n m : ℕ) (shape : IsShape n m) (g : Ghost T) (b : Base 
       closed : (k : Bool) → (tail_now == word_at n m q + m) ≡ k → Finds Pop (if k then End Closed else Head) (now ∷ older)
       closed true e =
           let is = same_tail n m shape g.pushed q g.shut true (is_party tail_now (word_at n m q + m) e ∙ sym (marked n m shape q)) in
-          inl ((none_now q is.0 gone, is.1, refl), subst (λ (i : Option (ℕ × T)). MayBeside i (answer_of {T = T} Pop Closed None)) (sym (nothing_comes q is.0 aged g.coming comes)) tt)
+          inl (
+            (none_now q is.0 gone, is.1, refl),
+            subst (λ (i : Option (ℕ × T)). MayBeside i (answer_of {T = T} Pop Closed None))
+                (sym (nothing_comes q is.0 aged g.coming comes)) tt,
+          )
       closed false e = (Sure, refl, tt)
 
-      by : (k : Bool) → (tail_now == word_at n m q) ≡ k → Finds Pop (if k then End Empty else (if tail_now == word_at n m q + m then End Closed else Head)) (now ∷ older)
+      by : (k : Bool) → (tail_now == word_at n m q) ≡ k
+          → Finds Pop (if k then End Empty else (if tail_now == word_at n m q + m then End Closed else Head)) (now ∷ older)
       by true e =
           let is = one_tail n m shape g.pushed q g.shut (is_party tail_now (word_at n m q) e) in
-          inl ((none_now q is.0 gone, is.1, refl), subst (λ (i : Option (ℕ × T)). MayBeside i (answer_of {T = T} Pop Empty None)) (sym (nothing_comes q is.0 aged g.coming comes)) tt)
+          inl (
+            (none_now q is.0 gone, is.1, refl),
+            subst (λ (i : Option (ℕ × T)). MayBeside i (answer_of {T = T} Pop Empty None))
+                (sym (nothing_comes q is.0 aged g.coming comes)) tt,
+          )
       by false e = closed (tail_now == word_at n m q + m) refl
 
   pub len_tail : (older : List (Sight T)) → Finds Len (HeadFor tail_now) (now ∷ older)
   len_tail older = (Past g.pushed, (g.pushed, g.shut, refl, refl), omega arith)
 
-  pub len_head : (older : List (Sight T)) (c : ℕ) (shut : Bool) → c ≤ g.pushed → Finds Len (TailAgain (word_at n m c + bit shut * m) (word_at n m g.popped)) (now ∷ older)
-  len_head older c shut past = (LenAt c g.popped, (c, g.popped, shut, refl, refl, refl), inl (g.pushed, past, omega arith, length_is n m g b))
+  pub len_head : (older : List (Sight T)) (c : ℕ) (shut : Bool) → c ≤ g.pushed
+      → Finds Len (TailAgain (word_at n m c + bit shut * m) (word_at n m g.popped)) (now ∷ older)
+  len_head older c shut past =
+      (LenAt c g.popped, (c, g.popped, shut, refl, refl, refl), inl (g.pushed, past, omega arith, length_is n m g b))
 
   pub len_again : (older : List (Sight T)) (c q : ℕ) (shut : Bool) → AtSome (WasLong g.pushed c q) (now ∷ older)
       → Finds Len (len_turn n m (TailAgain (word_at n m c + bit shut * m) (word_at n m q)) tail_now) (now ∷ older)
   len_again older c q shut long = by (tail_now == word_at n m c + bit shut * m) refl
     where
-      was : g.pushed ≡ c → (s : Sight T) → WasLong g.pushed c q s → MayAnswer Len (LenIs (count_at n m (word_at n m c + bit shut * m) - count_at n m (word_at n m q))) s
+      was : g.pushed ≡ c → (s : Sight T) → WasLong g.pushed c q s
+          → MayAnswer Len (LenIs (count_at n m (word_at n m c + bit shut * m) - count_at n m (word_at n m q))) s
       was is s l =
           let a = tail_count n m shape c shut in let z = count_of_word n m shape q in
           (((let u = l.1 in let v = l.2 in let w = l.3 in omega arith), refl), beside_len s.incoming _)
 
       by : (k : Bool) → (tail_now == word_at n m c + bit shut * m) ≡ k
-          → Finds Len (if k then End (Length (count_at n m (word_at n m c + bit shut * m) - count_at n m (word_at n m q))) else HeadFor tail_now) (now ∷ older)
+          → Finds Len (if k then End (Length (count_at n m (word_at n m c + bit shut * m) - count_at n m (word_at n m q)))
+          else HeadFor tail_now) (now ∷ older)
       by true e =
           let is = (same_tail n m shape g.pushed c g.shut shut (is_party tail_now (word_at n m c + bit shut * m) e)).0 in
-          at_some (WasLong g.pushed c q) (MayAnswer Len (LenIs (count_at n m (word_at n m c + bit shut * m) - count_at n m (word_at n m q)))) (was is) (now ∷ older) long
+          at_some (WasLong g.pushed c q)
+          (MayAnswer Len (LenIs (count_at n m (word_at n m c + bit shut * m) - count_at n m (word_at n m q)))) (was is) (now ∷ older)
+          long
       by false e = len_tail older
 
   pub empty_head : (older : List (Sight T)) → Finds IsEmptyCall (TailFor (word_at n m g.popped)) (now ∷ older)
@@ -334,7 +394,8 @@ module _ {T : Type 0} (n m : ℕ) (shape : IsShape n m) (g : Ghost T) (b : Base 
       omega arith,
       dite (dec_le g.pushed g.popped)
           (λ le. inl (let z = b.behind in omega arith))
-          (λ not. let more : g.popped < g.pushed = lt_of_not-le not in inr (inl (λ none. let z = ap length none in let l = length_is n m g b in omega arith))),
+          (λ not. let more : g.popped < g.pushed = lt_of_not-le not in
+          inr (inl (λ none. let z = ap length none in let l = length_is n m g b in omega arith))),
     ),
   )
 
@@ -349,16 +410,25 @@ module _ {T : Type 0} (n m : ℕ) (shape : IsShape n m) (g : Ghost T) (b : Base 
   empty_tail older q gone was = by (tail_now == word_at n m q) refl
     where
       bare_not : (c : Bool) → g.shut ≡ c → g.pushed ≡ q → (tail_now == word_at n m q) ≡ false → (tail_now == word_at n m q + m) ≡ false → ⊥
-      bare_not true shut is e e' = is_other tail_now (word_at n m q + m) e' (ap (λ (c : Bool). word_at n m g.pushed + bit c * m) shut ∙ marked n m shape g.pushed ∙ ap (λ (p : ℕ). word_at n m p + m) is)
-      bare_not false shut is e e' = is_other tail_now (word_at n m q) e (ap (λ (c : Bool). word_at n m g.pushed + bit c * m) shut ∙ bare n m shape g.pushed ∙ ap (word_at n m) is)
+      bare_not true shut is e e' =
+          is_other tail_now (word_at n m q + m) e' (ap (λ (c : Bool). word_at n m g.pushed + bit c * m) shut ∙ marked n m shape g.pushed
+          ∙ ap (λ (p : ℕ). word_at n m p + m) is)
+      bare_not false shut is e e' =
+          is_other tail_now (word_at n m q) e (ap (λ (c : Bool). word_at n m g.pushed + bit c * m) shut ∙ bare n m shape g.pushed
+          ∙ ap (word_at n m) is)
 
-      not_empty : (tail_now == word_at n m q) ≡ false → (tail_now == word_at n m q + m) ≡ false → (g.pushed ≡ q) ⊎ AtSome WasSome (now ∷ older)
+      not_empty : (tail_now == word_at n m q) ≡ false → (tail_now == word_at n m q + m) ≡ false
+          → (g.pushed ≡ q) ⊎ AtSome WasSome (now ∷ older)
           → AtSome (MayAnswer IsEmptyCall (EmptyIs false)) (now ∷ older)
       not_empty e e' (inl is) = absurd (bare_not g.shut refl is e e')
       not_empty e e' (inr at) = at_some WasSome (MayAnswer IsEmptyCall (EmptyIs false)) was_some (now ∷ older) at
 
-      then_by : (k : Bool) → (tail_now == word_at n m q) ≡ false → (tail_now == word_at n m q + m) ≡ k → Finds IsEmptyCall (answered (false || k)) (now ∷ older)
-      then_by true e e' = is_empty_now older (none_now q (same_tail n m shape g.pushed q g.shut true (is_party tail_now (word_at n m q + m) e' ∙ sym (marked n m shape q))).0 gone)
+      then_by : (k : Bool) → (tail_now == word_at n m q) ≡ false → (tail_now == word_at n m q + m) ≡ k
+          → Finds IsEmptyCall (answered (false || k)) (now ∷ older)
+      then_by true e e' =
+          is_empty_now older
+          (none_now q (same_tail n m shape g.pushed q g.shut true (is_party tail_now (word_at n m q + m) e' ∙ sym (marked n m shape q))).0
+          gone)
       then_by false e e' = not_empty e e' was
 
       by : (k : Bool) → (tail_now == word_at n m q) ≡ k → Finds IsEmptyCall (answered (k || (tail_now == word_at n m q + m))) (now ∷ older)
@@ -373,12 +443,15 @@ module _ {T : Type 0} (n m : ℕ) (shape : IsShape n m) (g : Ghost T) (b : Base 
       omega arith,
       dite (dec_le (g.popped + n) g.pushed)
           (λ le. inl (let z = b.within in omega arith))
-          (λ not. let less : g.pushed < g.popped + n = lt_of_not-le not in inr (inl (refl, λ full. let l = length_is n m g b in omega arith))),
+          (λ not. let less : g.pushed < g.popped + n = lt_of_not-le not in
+          inr (inl (refl, λ full. let l = length_is n m g b in omega arith))),
     ),
   )
 
-  is_full_now : (older : List (Sight T)) (c : ℕ) → c ≤ g.pushed → g.popped + n ≡ c → AtSome (MayAnswer IsFullCall (FullIs true)) (now ∷ older)
-  is_full_now older c past is = inl (((λ _. (let l = length_is n m g b in let w = b.within in omega arith), λ _. refl), refl), beside_full g.coming true)
+  is_full_now : (older : List (Sight T)) (c : ℕ) → c ≤ g.pushed → g.popped + n ≡ c
+      → AtSome (MayAnswer IsFullCall (FullIs true)) (now ∷ older)
+  is_full_now older c past is =
+      inl (((λ _. (let l = length_is n m g b in let w = b.within in omega arith), λ _. refl), refl), beside_full g.coming true)
 
   was_not_full : (s : Sight T) → WasNotFull n m s → MayAnswer IsFullCall (FullIs false) s
   was_not_full s was = (
@@ -413,12 +486,14 @@ module _ {T : Type 0} (n m : ℕ) (shape : IsShape n m) (g : Ghost T) (b : Base 
           let on = lap in let same = ap (word_at n m) at in
           let z = bare n m shape c in let w = ap (λ (d : Bool). word_at n m c + bit d * m) is in omega arith)
 
-      not_full : (head + 2 * m == tail) ≡ false → (head + 3 * m == tail) ≡ false → (g.popped + n ≡ c) ⊎ AtSome (WasNotFull n m) (now ∷ older)
+      not_full : (head + 2 * m == tail) ≡ false → (head + 3 * m == tail) ≡ false
+          → (g.popped + n ≡ c) ⊎ AtSome (WasNotFull n m) (now ∷ older)
           → AtSome (MayAnswer IsFullCall (FullIs false)) (now ∷ older)
       not_full e e' (inl is) = absurd (bare_not shut refl is e e')
       not_full e e' (inr at) = at_some (WasNotFull n m) (MayAnswer IsFullCall (FullIs false)) was_not_full (now ∷ older) at
 
-      then_by : (k : Bool) → (head + 2 * m == tail) ≡ false → (head + 3 * m == tail) ≡ k → Finds IsFullCall (answered (false || k)) (now ∷ older)
+      then_by : (k : Bool) → (head + 2 * m == tail) ≡ false → (head + 3 * m == tail) ≡ k
+          → Finds IsFullCall (answered (false || k)) (now ∷ older)
       then_by true e e' = is_full_now older c past (head_behind_marked n m shape c shut g.popped (is_party (head + 3 * m) tail e')).0
       then_by false e e' = not_full e e' was
 

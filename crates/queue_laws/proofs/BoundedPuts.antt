@@ -1,5 +1,6 @@
 -- How a ring, its parties and their calls stay tied while one party goes on. n is the number of places, m the mark.
-use Rattle.std.proofs.Common.{◌≡◌, ◌≢◌, ℕ, ◌+◌, ◌%◌, ◌<◌, ◌≤◌, List, [], ◌∷◌, Bool, true, false, Option, Some, None, ◌==◌, if◌then◌else◌, sym, refl, ap, ◌∙◌, subst, mod-lt, arith}
+use Rattle.std.proofs.Common.{◌≡◌, ◌≢◌, ℕ, ◌+◌, ◌%◌, ◌<◌, ◌≤◌, List, [], ◌∷◌, Bool, true, false, Option, Some, None, ◌==◌, if◌then◌else◌}
+use Rattle.std.proofs.Common.{sym, refl, ap, ◌∙◌, subst, mod-lt, arith}
 use Rattle.queue_steps.specs.declared.bounded.Slot.{Slot}
 use Rattle.queue_steps.specs.declared.steps.bounded.Turn.{Turn}
 use Rattle.queue_steps.specs.declared.steps.bounded.Turn.TheVariants.{Tail, Fill, Drain, Advance}
@@ -10,7 +11,9 @@ use Rattle.queue_laws.specs.SingleSteps.{answer_of}
 use Rattle.queue_laws.specs.BoundedSteps.{Place, Away, Stands, Leaving, BoundedWorld, with_at}
 use Rattle.queue_steps.proofs.BoundedWords.{index_of_word}
 use Rattle.queue_laws.proofs.BoundedStamps.{a_lap_on}
-use Rattle.queue_laws.proofs.BoundedState.{Phase, free, full, held, Cell, cell, Ghost, Kind, looking, holding, ending, kind_of, Grip, writing, swapping, reading, displacing, age, slot_of, grip_turn, sight_of, scene_of, Base, CellLies, place_of, HeldBy, ComesTo, StandsAs, TiedPlace, Tied}
+use Rattle.queue_laws.proofs.BoundedState.{Phase, free, full, held, Cell, cell, Ghost, Kind, looking, holding, ending, kind_of, Grip}
+use Rattle.queue_laws.proofs.BoundedState.{writing, swapping, reading, displacing, age, slot_of, grip_turn, sight_of, scene_of, Base}
+use Rattle.queue_laws.proofs.BoundedState.{CellLies, place_of, HeldBy, ComesTo, StandsAs, TiedPlace, Tied}
 use Rattle.queue_laws.proofs.BoundedKnows.{Grows, Stays, Keeps, tied_more, tied_still}
 use Rattle.queue_laws.proofs.BoundedLooks.{FindsAs, Finds}
 use Rattle.queue_laws.proofs.BoundedMoves.{at_here, at_put, NotBy, held_moved, grip_once}
@@ -57,16 +60,20 @@ module _ (n m : ℕ) (shape : IsShape n m) where
   near p = mod-lt p shape.some
 
   -- the word of the place that a party has names that place
-  pub grip_word : (word_in : Turn → ℕ) → ((t : ℕ) (r : _) → word_in (Fill t r) ≡ t) → ((h : ℕ) → word_in (Drain h) ≡ h) → ((t : ℕ) → word_in (Advance t) ≡ t)
+  pub grip_word : (word_in : Turn → ℕ) → ((t : ℕ) (r : _) → word_in (Fill t r) ≡ t) → ((h : ℕ) → word_in (Drain h) ≡ h)
+      → ((t : ℕ) → word_in (Advance t) ≡ t)
       → (c : ℕ) (grip : Grip) → word_in (grip_turn n m c grip) % m ≡ c % n
   grip_word word_in fill drain advance c writing = ap (λ (x : ℕ). x % m) (fill (word_at n m c) _) ∙ index_of_word n m shape c
-  grip_word word_in fill drain advance c swapping = ap (λ (x : ℕ). x % m) (fill (word_at n m (c + n)) _) ∙ index_of_word n m shape (c + n) ∙ a_lap_on n c
+  grip_word word_in fill drain advance c swapping = ap (λ (x : ℕ). x % m) (fill (word_at n m (c + n)) _) ∙ index_of_word n m shape (c + n)
+      ∙ a_lap_on n c
   grip_word word_in fill drain advance c reading = ap (λ (x : ℕ). x % m) (drain (word_at n m c)) ∙ index_of_word n m shape c
-  grip_word word_in fill drain advance c displacing = ap (λ (x : ℕ). x % m) (advance (word_at n m (c + n))) ∙ index_of_word n m shape (c + n) ∙ a_lap_on n c
+  grip_word word_in fill drain advance c displacing = ap (λ (x : ℕ). x % m) (advance (word_at n m (c + n)))
+      ∙ index_of_word n m shape (c + n) ∙ a_lap_on n c
 
 module _ {T : Type 0} (n m : ℕ) (shape : IsShape n m) where
   abbrev pub Goes : BoundedWorld T → Ghost T → (ℕ → Option (Progress T)) → List (Moment T) → BoundedWorld T → Type 0
-  Goes w g calls ms w' = (g' : Ghost T) × (calls' : ℕ → Option (Progress T)) × Run (scene_of n m g calls) ms (scene_of n m g' calls') × Tied n m w' g' calls'
+  Goes w g calls ms w' = (g' : Ghost T) × (calls' : ℕ → Option (Progress T)) × Run (scene_of n m g calls) ms (scene_of n m g' calls')
+      × Tied n m w' g' calls'
 
   grips : (c : ℕ) (call : Call T) (grip : Grip) (o : Option T) (d : Bool) → is_gripping (place_of n m c call grip o d) ≡ true
   grips c call grip o true = refl
@@ -87,10 +94,12 @@ module _ {T : Type 0} (n m : ℕ) (shape : IsShape n m) where
         by : (c : ℕ) (ph : Phase T) → HeldBy n m w.places c ph → NotBy p ph
         by c free k = tt
         by c (full x) k = tt
-        by c (held j call grip o d) k = λ same. never (sym bare ∙ ap (λ (q : ℕ). is_gripping (w.places q)) (sym same) ∙ ap is_gripping k ∙ grips c call grip o d)
+        by c (held j call grip o d) k =
+            λ same. never (sym bare ∙ ap (λ (q : ℕ). is_gripping (w.places q)) (sym same) ∙ ap is_gripping k ∙ grips c call grip o d)
 
     -- a party that has a place has no other
-    pub alone_grip : (c i : ℕ) (grip : Grip) → turn_at (w.places p) ≡ grip_turn n m c grip → c % n ≡ i → (j : ℕ) → j < n → j ≢ i → NotBy p (g.cells j).phase
+    pub alone_grip : (c i : ℕ) (grip : Grip) → turn_at (w.places p) ≡ grip_turn n m c grip → c % n ≡ i → (j : ℕ) → j < n → j ≢ i
+        → NotBy p (g.cells j).phase
     alone_grip c i grip turn at j below other = by (g.cells j).round (g.cells j).phase (tied.held_by j below) (tied.rounds j below)
       where
         by : (d : ℕ) (ph : Phase T) → HeldBy n m w.places d ph → d % n ≡ j → NotBy p ph
@@ -108,13 +117,15 @@ module _ {T : Type 0} (n m : ℕ) (shape : IsShape n m) where
         by : (o : Option (ℕ × T)) → ComesTo n m g.cells g.pushed o → IsFromOther o p
         by None k = tt
         by (Some v) k = λ same. never (sym still ∙ ap (λ (q : ℕ). is_moving (w.places q)) (sym same)
-            ∙ ap is_moving (subst (λ (c : Cell T). HeldBy n m w.places c.round c.phase) k.3 (tied.held_by (g.pushed % n) (near n m shape g.pushed))))
+            ∙ ap is_moving
+            (subst (λ (c : Cell T). HeldBy n m w.places c.round c.phase) k.3 (tied.held_by (g.pushed % n) (near n m shape g.pushed))))
 
     pub of_party : (place : Place T) → w.places p ≡ place → TiedPlace n m g p place (calls p)
     of_party place is = subst (λ (x : Place T). TiedPlace n m g p x (calls p)) is (tied.each p)
 
     -- where a look leads to, the call stands then
-    stands_by : (kind : Kind) (call : Call T) (t : Turn) (k : Progress T) → k.call ≡ call → ((older : List (Sight T)) × (k.seen ≡ sight_of n m g ∷ older)) → k.answer ≡ None
+    stands_by : (kind : Kind) (call : Call T) (t : Turn) (k : Progress T) → k.call ≡ call
+        → ((older : List (Sight T)) × (k.seen ≡ sight_of n m g ∷ older)) → k.answer ≡ None
         → FindsAs n m shape g tied.base kind call t k.seen → StandsAs n m kind g p call t k
     stands_by looking call t k of seen none finds = (seen, none, finds)
     stands_by holding call t k of seen none finds = absurd finds
@@ -126,7 +137,8 @@ module _ {T : Type 0} (n m : ℕ) (shape : IsShape n m) where
     still = record { pushed = refl; popped = refl; sight = refl; ages = λ i. (omega arith) }
 
     -- a step that only looked, or began or ended a call
-    pub settled : (place : Place T) (calls' : ℕ → Option (Progress T)) → is_gripping (w.places p) ≡ false → ((q : ℕ) → q ≢ p → calls' q ≡ calls q)
+    pub settled : (place : Place T) (calls' : ℕ → Option (Progress T)) → is_gripping (w.places p) ≡ false
+        → ((q : ℕ) → q ≢ p → calls' q ≡ calls q)
         → TiedPlace n m g p place (calls' p) → Tied n m (record w { places = with_at w.places p place }) g calls'
     settled place calls' bare same here = record {
       base = tied.base;
@@ -135,26 +147,32 @@ module _ {T : Type 0} (n m : ℕ) (shape : IsShape n m) where
       slots = tied.slots;
       rounds = tied.rounds;
       lies = tied.lies;
-      held_by = λ j below. held_moved n m w.places p place (g.cells j).round (g.cells j).phase (alone_free bare j below) (tied.held_by j below);
+      held_by = λ j below. held_moved n m w.places p place (g.cells j).round (g.cells j).phase (alone_free bare j below)
+          (tied.held_by j below);
       comes = tied.comes;
       each = at_put (λ (q : ℕ) (x : Place T). TiedPlace n m g q x (calls' q)) w.places p place here
           (λ q other. subst (TiedPlace n m g q (w.places q)) (sym (same q other)) (tied.each q));
     }
 
-    pub looked : (call : Call T) (t next : Turn) → w.places p ≡ Stands call t → kind_of t ≡ looking → (k : Progress T) → calls p ≡ Some k → k.call ≡ call
+    pub looked : (call : Call T) (t next : Turn) → w.places p ≡ Stands call t → kind_of t ≡ looking → (k : Progress T) → calls p ≡ Some k
+        → k.call ≡ call
         → ((older : List (Sight T)) × (k.seen ≡ sight_of n m g ∷ older)) → k.answer ≡ None → Finds n m shape g tied.base call next k.seen
         → Goes w g calls [] (record w { places = with_at w.places p (Stands call next) })
     looked call t next is kind k at of seen none finds = (
       g,
       calls,
       refl,
-      settled (Stands call next) calls (ap is_gripping is ∙ ap is_holding kind) (λ q other. refl) (k, at, of, stands_by (kind_of next) call next k of seen none finds),
+      settled (Stands call next) calls (ap is_gripping is
+          ∙ ap is_holding kind) (λ q other. refl) (k, at, of, stands_by (kind_of next) call next k of seen none finds),
     )
 
     pub other_calls : (c : Option (Progress T)) (q : ℕ) → q ≢ p → with_call calls p c q ≡ calls q
-    other_calls c = at_put (λ (q : ℕ) (x : Option (Progress T)). q ≢ p → x ≡ calls q) calls p c (λ bare. absurd (bare refl)) (λ q other bare. refl)
+    other_calls c =
+        at_put (λ (q : ℕ) (x : Option (Progress T)). q ≢ p → x ≡ calls q) calls p c (λ bare. absurd (bare refl)) (λ q other bare. refl)
 
-    pub begins : (call : Call T) (t : Turn) → w.places p ≡ Away → ((k : Progress T) → k.call ≡ call → ((older : List (Sight T)) × (k.seen ≡ sight_of n m g ∷ older)) → k.answer ≡ None → StandsAs n m (kind_of t) g p call t k)
+    pub begins : (call : Call T) (t : Turn) → w.places p ≡ Away
+        → ((k : Progress T) → k.call ≡ call → ((older : List (Sight T)) × (k.seen ≡ sight_of n m g ∷ older)) → k.answer ≡ None
+        → StandsAs n m (kind_of t) g p call t k)
         → Goes w g calls (Begins p call ∷ []) (record w { places = with_at w.places p (Stands call t) })
     begins call t is stands =
         let c : Progress T = record { call = call; seen = sight_of n m g ∷ []; answer = None } in
@@ -162,10 +180,16 @@ module _ {T : Type 0} (n m : ℕ) (shape : IsShape n m) where
           g,
           calls',
           (scene_of n m g calls', (of_party Away is, refl), refl),
-          settled (Stands call t) calls' (ap is_gripping is) (other_calls (Some c)) (c, at_here calls p (Some c), refl, stands c refl ([], refl) refl),
+          settled (Stands call t) calls' (ap is_gripping is) (other_calls (Some c)) (
+            c,
+            at_here calls p (Some c),
+            refl,
+            stands c refl ([], refl) refl,
+          ),
         )
 
-    pub ends : (a : Answer T) → is_gripping (w.places p) ≡ false → is_moving (w.places p) ≡ false → (k : Progress T) → calls p ≡ Some k → MayEnd k k.answer a
+    pub ends : (a : Answer T) → is_gripping (w.places p) ≡ false → is_moving (w.places p) ≡ false → (k : Progress T) → calls p ≡ Some k
+        → MayEnd k k.answer a
         → Goes w g calls (Ends p a ∷ []) (record w { places = with_at w.places p Away })
     ends a bare moves k at may =
         let calls' = with_call calls p None in (
@@ -190,7 +214,9 @@ module _ {T : Type 0} (n m : ℕ) (shape : IsShape n m) where
       ages older = at_put (λ (j : ℕ) (x : Cell T). age (g.cells j) ≤ age x) g.cells i c older (λ j other. (omega arith))
 
       pub slots_same : i < n → slot_of n m (g.cells i) ≡ slot_of n m c → (j : ℕ) → j < n → w.slots j ≡ slot_of n m (cells_after j)
-      slots_same below same = at_put (λ (j : ℕ) (x : Cell T). j < n → w.slots j ≡ slot_of n m x) g.cells i c (λ b. tied.slots i below ∙ same) (λ j other b. tied.slots j b)
+      slots_same below same =
+          at_put (λ (j : ℕ) (x : Cell T). j < n → w.slots j ≡ slot_of n m x) g.cells i c (λ b. tied.slots i below
+          ∙ same) (λ j other b. tied.slots j b)
 
       pub slots_put : (s : Slot T) → s ≡ slot_of n m c → (j : ℕ) → j < n → with_at w.slots i s j ≡ slot_of n m (cells_after j)
       slots_put s is j below = by (j == i) refl
@@ -202,8 +228,10 @@ module _ {T : Type 0} (n m : ℕ) (shape : IsShape n m) where
       pub rounds : c.round % n ≡ i → (j : ℕ) → j < n → (cells_after j).round % n ≡ j
       rounds here = at_put (λ (j : ℕ) (x : Cell T). j < n → x.round % n ≡ j) g.cells i c (λ b. here) (λ j other b. tied.rounds j b)
 
-      pub lies : (g' : Ghost T) → CellLies n m g' c → ((j : ℕ) → j < n → j ≢ i → CellLies n m g' (g.cells j)) → (j : ℕ) → j < n → CellLies n m g' (cells_after j)
-      lies g' here others = at_put (λ (j : ℕ) (x : Cell T). j < n → CellLies n m g' x) g.cells i c (λ b. here) (λ j other b. others j b other)
+      pub lies : (g' : Ghost T) → CellLies n m g' c → ((j : ℕ) → j < n → j ≢ i → CellLies n m g' (g.cells j)) → (j : ℕ) → j < n
+          → CellLies n m g' (cells_after j)
+      lies g' here others =
+          at_put (λ (j : ℕ) (x : Cell T). j < n → CellLies n m g' x) g.cells i c (λ b. here) (λ j other b. others j b other)
 
       pub comes : (o : Option (ℕ × T)) → IsSettled (g.cells i).phase → ComesTo n m g.cells g.pushed o → ComesTo n m cells_after g.pushed o
       comes None set k = tt
@@ -211,12 +239,14 @@ module _ {T : Type 0} (n m : ℕ) (shape : IsShape n m) where
         k.0,
         k.1,
         k.2,
-        at_put (λ (j : ℕ) (x : Cell T). g.cells j ≡ cell k.0 (held v.0 (ForcePush v.1) displacing k.1 false) → x ≡ cell k.0 (held v.0 (ForcePush v.1) displacing k.1 false)) g.cells i c
+        at_put (λ (j : ℕ) (x : Cell T). g.cells j ≡ cell k.0 (held v.0 (ForcePush v.1) displacing k.1 false)
+            → x ≡ cell k.0 (held v.0 (ForcePush v.1) displacing k.1 false)) g.cells i c
             (λ e. absurd (subst (λ (x : Cell T). IsSettled x.phase) e set)) (λ j other e. e) (g.pushed % n) k.3,
       )
 
     -- the other parties, when the queue has become something else
-    pub each_more : (g' : Ghost T) → Base n m g' → Grows n m g g' → ((q : ℕ) → q ≢ p → Keeps n m g g' q) → (place : Place T) (calls' : ℕ → Option (Progress T))
+    pub each_more : (g' : Ghost T) → Base n m g' → Grows n m g g' → ((q : ℕ) → q ≢ p → Keeps n m g g' q)
+        → (place : Place T) (calls' : ℕ → Option (Progress T))
         → ((q : ℕ) → q ≢ p → calls' q ≡ calls q) → TiedPlace n m g' p place (sees (sight_of n m g') (calls' p))
         → (q : ℕ) → TiedPlace n m g' q (with_at w.places p place q) (sees (sight_of n m g') (calls' q))
     each_more g' b' gr keep place calls' same here =
@@ -224,7 +254,8 @@ module _ {T : Type 0} (n m : ℕ) (shape : IsShape n m) where
         (λ q other. subst (λ (c : Option (Progress T)). TiedPlace n m g' q (w.places q) (sees (sight_of n m g') c)) (sym (same q other))
         (tied_more n m g g' tied.base b' gr q (w.places q) (calls q) (keep q other) (tied.each q)))
 
-    pub each_still : (g' : Ghost T) → Stays n m g g' → ((q : ℕ) → q ≢ p → Keeps n m g g' q) → (place : Place T) (calls' : ℕ → Option (Progress T))
+    pub each_still : (g' : Ghost T) → Stays n m g g' → ((q : ℕ) → q ≢ p → Keeps n m g g' q)
+        → (place : Place T) (calls' : ℕ → Option (Progress T))
         → ((q : ℕ) → q ≢ p → calls' q ≡ calls q) → TiedPlace n m g' p place (calls' p)
         → (q : ℕ) → TiedPlace n m g' q (with_at w.places p place q) (calls' q)
     each_still g' st keep place calls' same here =

@@ -1,11 +1,12 @@
 -- Every list of steps on a ring is a run of the closable queue. n is the number of places, m the mark.
-use Rattle.std.proofs.Common.{◌≡◌, ◌⊎◌, inl, inr, ℕ, ◌+◌, ◌-◌, ◌%◌, ◌<◌, ◌≤◌, ◌^◌, List, [], ◌∷◌, ◌++◌, true, false, Option, Some, None, IsSome, sym, refl, ap, ◌∙◌, subst, lt_of_not-le, arith}
+use Rattle.std.proofs.Common.{◌≡◌, ◌⊎◌, inl, inr, ℕ, ◌+◌, ◌-◌, ◌%◌, ◌<◌, ◌≤◌, ◌^◌, List, [], ◌∷◌, ◌++◌, true, false, Option, Some, None}
+use Rattle.std.proofs.Common.{IsSome, sym, refl, ap, ◌∙◌, subst, lt_of_not-le, arith}
 use mathlib.Core.Logic.{dite}
 use native.Mathlib.Decide.{dec_le}
 use Rattle.std.proofs.Math.Nat.{mod-eq_of_lt}
 use Rattle.queue_steps.specs.declared.bounded.Slot.{Slot}
 use Rattle.queue_steps.specs.declared.steps.bounded.Turn.{Turn}
-use Rattle.queue_steps.specs.declared.steps.bounded.Turn.TheVariants.{Tail, Head, Stamp, HeadFor, TailFor, TailAgain, Append, Take, Displace, Advance, Spend, Fill, Drain, End, Close as CloseTurn}
+use Rattle.queue_steps.specs.declared.steps.bounded.Turn.TheVariants.{Advance, Fill, Drain, End}
 use Rattle.queue_steps.specs.declared.steps.Reply.{Reply}
 use Rattle.queue_steps.specs.declared.steps.Reply.TheVariants.{Done, Displaced}
 use Rattle.queue_steps.specs.ClosableQueue.{most_accepted}
@@ -13,10 +14,14 @@ use Rattle.queue_steps.specs.Calls.{Call, Push, ForcePush, Pop, Close, Len, IsEm
 use Rattle.queue_laws.specs.Moments.{Moment, Scene, Sight, Progress, Run}
 use Rattle.queue_steps.specs.Bounded.{IsShape, word_at, count_at, is_marked}
 use Rattle.queue_laws.specs.SingleSteps.{Step, Begin, Go, answer_of}
-use Rattle.queue_laws.specs.BoundedSteps.{Place, Away, Stands, Leaving, BoundedWorld, first_turn, begun, moved, entered, stood, gone, leaves, left, stepped, begin_moments, turn_moments, go_moments, moments, run, trace, new_ring, IsNeverEmpty, IsClosableQueue}
+use Rattle.queue_laws.specs.BoundedSteps.{Place, Away, Stands, Leaving, BoundedWorld, first_turn, begun, moved, entered, stood, gone}
+use Rattle.queue_laws.specs.BoundedSteps.{leaves, left, stepped, begin_moments, turn_moments, go_moments, moments, run, trace, new_ring}
+use Rattle.queue_laws.specs.BoundedSteps.{IsNeverEmpty, IsClosableQueue}
 use Rattle.queue_steps.proofs.BoundedWords.{index_of_word, first_word, word_a_lap_on, word_fits, count_of_word}
 use Rattle.queue_laws.proofs.BoundedStamps.{bare, marked_is, tail_count, a_lap_on}
-use Rattle.queue_laws.proofs.BoundedState.{Phase, free, full, held, Cell, cell, Ghost, holding, kind_of, Sure, Grip, writing, swapping, reading, displacing, up, slot_of, grip_turn, sight_of, scene_of, Base, CellLies, Looks, Grips, StandsAs, Tied}
+use Rattle.queue_laws.proofs.BoundedState.{Phase, free, full, held, Cell, cell, Ghost, holding, kind_of, Sure, Grip, writing, swapping}
+use Rattle.queue_laws.proofs.BoundedState.{reading, displacing, up, slot_of, grip_turn, sight_of, scene_of, Base, CellLies, Looks, Grips}
+use Rattle.queue_laws.proofs.BoundedState.{StandsAs, Tied}
 use Rattle.queue_laws.proofs.BoundedKnows.{length_is}
 use Rattle.queue_laws.proofs.BoundedLooks.{up_once}
 use Rattle.queue_laws.proofs.BoundedPuts.{Goes, turn_at, is_gripping, is_moving, alone_grip, begins, ends, of_party}
@@ -37,10 +42,12 @@ module _ (n m : ℕ) (shape : IsShape n m) where
       let on = word_a_lap_on n m shape q in
       let here = ap (word_at n m) is in
       let fits = word_fits n m (word_at n m q) shape (let z = count_of_word n m shape q in omega arith) in omega arith)
-      (λ not. let less : p < n = lt_of_not-le not in let is = first_word n m shape p less in let above = shape.above in let small = shape.few in omega arith)
+      (λ not. let less : p < n = lt_of_not-le not in let is = first_word n m shape p less in let above = shape.above in
+      let small = shape.few in omega arith)
 
 module _ {T : Type 0} (n m : ℕ) (shape : IsShape n m) where
-  module _ (w : BoundedWorld T) (g : Ghost T) (calls : ℕ → Option (Progress T)) (tied : Tied n m w g calls) (p : ℕ) (k : Progress T) (at : calls p ≡ Some k) where
+  module _ (w : BoundedWorld T) (g : Ghost T) (calls : ℕ
+      → Option (Progress T)) (tied : Tied n m w g calls) (p : ℕ) (k : Progress T) (at : calls p ≡ Some k) where
     abbrev IsNow : Type 0
     IsNow = (older : List (Sight T)) × (k.seen ≡ sight_of n m g ∷ older)
 
@@ -48,7 +55,8 @@ module _ {T : Type 0} (n m : ℕ) (shape : IsShape n m) where
     abbrev Moved : Call T → Turn → Type 0
     Moved call t = Goes n m shape w g calls (turn_moments n m w p call t) (moved n m w p call t)
 
-    looks_by : (call : Call T) (t : Turn) → w.places p ≡ Stands call t → k.call ≡ call → IsNow → k.answer ≡ None → Looks n m g call t k.seen → Moved call t
+    looks_by : (call : Call T) (t : Turn) → w.places p ≡ Stands call t → k.call ≡ call → IsNow → k.answer ≡ None
+        → Looks n m g call t k.seen → Moved call t
     looks_by (Push x) t is of seen none h = push_by n m shape w g calls tied p k at x t is of seen none h
     looks_by (ForcePush x) t is of seen none h = force_by n m shape w g calls tied p k at x t is of seen none h
     looks_by Pop t is of seen none h = pop_by n m shape w g calls tied p k at t is of seen none h
@@ -65,7 +73,8 @@ module _ {T : Type 0} (n m : ℕ) (shape : IsShape n m) where
     lies_so i c below is = subst (CellLies n m g) is (tied.lies i below)
 
     -- the turn of the append that a displacement owes
-    advance_by : (call : Call T) (t : ℕ) → w.places p ≡ Stands call (Advance t) → k.call ≡ call → (o : Option T) → Grips n m g p call (Advance t) o false k → Moved call (Advance t)
+    advance_by : (call : Call T) (t : ℕ) → w.places p ≡ Stands call (Advance t) → k.call ≡ call → (o : Option T)
+        → Grips n m g p call (Advance t) o false k → Moved call (Advance t)
     advance_by call t stand of o h = by h.2 h.4 h.5
       where
         i : ℕ
@@ -79,17 +88,20 @@ module _ {T : Type 0} (n m : ℕ) (shape : IsShape n m) where
         by swapping is e = absurd (let z : Advance t ≡ Fill (word_at n m (c + n)) Displaced = e in cc)
         by reading is e = absurd (let z : Advance t ≡ Drain (word_at n m c) = e in cc)
         by displacing is e =
-            let lying : CellLies n m g (cell c (held p call displacing o false)) = lies_so i (cell c (held p call displacing o false)) h.3 is in
+            let lying : CellLies n m g (cell c (held p call displacing o false)) =
+            lies_so i (cell c (held p call displacing o false)) h.3 is in
             let x : T = lying.3.0 in
             let call_is : call ≡ ForcePush x = lying.3.1 in
             let word : t ≡ word_at n m (c + n) = (let z : Advance t ≡ Advance (word_at n m (c + n)) = e in cc) in
             subst (λ (q : Call T). Moved q (Advance t)) (sym call_is)
             (subst (λ (u : ℕ). Moved (ForcePush x) (Advance u)) (sym word)
-            (advances n m shape w g calls tied p k at x c i o h.3 (subst (λ (q : Call T). g.cells i ≡ cell c (held p q displacing o false)) call_is is)
+            (advances n m shape w g calls tied p k at x c i o h.3
+            (subst (λ (q : Call T). g.cells i ≡ cell c (held p q displacing o false)) call_is is)
             (alone_grip n m shape w g calls tied p c i displacing (ap turn_at stand ∙ e) (place_is i c _ h.3 is))
             (of ∙ call_is) (subst (λ (q : Call T). k.answer ≡ Some (answer_of q Displaced o)) call_is h.6)))
 
-    fill_by : (call : Call T) (t : ℕ) (r : Reply) → w.places p ≡ Stands call (Fill t r) → (o : Option T) → Grips n m g p call (Fill t r) o false k
+    fill_by : (call : Call T) (t : ℕ) (r : Reply) → w.places p ≡ Stands call (Fill t r) → (o : Option T)
+        → Grips n m g p call (Fill t r) o false k
         → Goes n m shape w g calls [] (entered n m w p call (Fill t r) t)
     fill_by call t r stand o h = by h.2 h.4 h.5
       where
@@ -99,14 +111,17 @@ module _ {T : Type 0} (n m : ℕ) (shape : IsShape n m) where
         c : ℕ
         c = h.1
 
-        by : (grip : Grip) → g.cells i ≡ cell c (held p call grip o false) → Fill t r ≡ grip_turn n m c grip → Goes n m shape w g calls [] (entered n m w p call (Fill t r) t)
+        by : (grip : Grip) → g.cells i ≡ cell c (held p call grip o false) → Fill t r ≡ grip_turn n m c grip
+            → Goes n m shape w g calls [] (entered n m w p call (Fill t r) t)
         by writing is e =
             let word : t ≡ word_at n m c = (let z : Fill t r ≡ Fill (word_at n m c) Done = e in cc) in
-            entered_by n m shape w g calls tied p k at call (Fill t r) writing o i c (t % m) h.3 (ap (λ (z : ℕ). z % m) word ∙ index_of_word n m shape c ∙ place_is i c _ h.3 is) is e stand tt
+            entered_by n m shape w g calls tied p k at call (Fill t r) writing o i c (t % m) h.3 (ap (λ (z : ℕ). z % m) word
+            ∙ index_of_word n m shape c ∙ place_is i c _ h.3 is) is e stand tt
             (lies_so i (cell c (held p call writing o false)) h.3 is) h.6
         by swapping is e =
             let word : t ≡ word_at n m (c + n) = (let z : Fill t r ≡ Fill (word_at n m (c + n)) Displaced = e in cc) in
-            entered_by n m shape w g calls tied p k at call (Fill t r) swapping o i c (t % m) h.3 (ap (λ (z : ℕ). z % m) word ∙ index_of_word n m shape (c + n) ∙ a_lap_on n c ∙ place_is i c _ h.3 is) is e stand tt
+            entered_by n m shape w g calls tied p k at call (Fill t r) swapping o i c (t % m) h.3 (ap (λ (z : ℕ). z % m) word
+            ∙ index_of_word n m shape (c + n) ∙ a_lap_on n c ∙ place_is i c _ h.3 is) is e stand tt
             (lies_so i (cell c (held p call swapping o false)) h.3 is) h.6
         by reading is e = absurd (let z : Fill t r ≡ Drain (word_at n m c) = e in cc)
         by displacing is e = absurd (let z : Fill t r ≡ Advance (word_at n m (c + n)) = e in cc)
@@ -121,56 +136,56 @@ module _ {T : Type 0} (n m : ℕ) (shape : IsShape n m) where
         c : ℕ
         c = h.1
 
-        by : (grip : Grip) → g.cells i ≡ cell c (held p call grip o false) → Drain t ≡ grip_turn n m c grip → Goes n m shape w g calls [] (entered n m w p call (Drain t) t)
+        by : (grip : Grip) → g.cells i ≡ cell c (held p call grip o false) → Drain t ≡ grip_turn n m c grip
+            → Goes n m shape w g calls [] (entered n m w p call (Drain t) t)
         by reading is e =
             let word : t ≡ word_at n m c = (let z : Drain t ≡ Drain (word_at n m c) = e in cc) in
-            entered_by n m shape w g calls tied p k at call (Drain t) reading o i c (t % m) h.3 (ap (λ (z : ℕ). z % m) word ∙ index_of_word n m shape c ∙ place_is i c _ h.3 is) is e stand tt
+            entered_by n m shape w g calls tied p k at call (Drain t) reading o i c (t % m) h.3 (ap (λ (z : ℕ). z % m) word
+            ∙ index_of_word n m shape c ∙ place_is i c _ h.3 is) is e stand tt
             (lies_so i (cell c (held p call reading o false)) h.3 is) h.6
         by writing is e = absurd (let z : Drain t ≡ Fill (word_at n m c) Done = e in cc)
         by swapping is e = absurd (let z : Drain t ≡ Fill (word_at n m (c + n)) Displaced = e in cc)
         by displacing is e = absurd (let z : Drain t ≡ Advance (word_at n m (c + n)) = e in cc)
 
-    filled_by : (call : Call T) (t : ℕ) (r : Reply) (o : Option T) → w.places p ≡ Leaving call (Fill t r) o → Grips n m g p call (Fill t r) o true k
+    filled_by : (call : Call T) (t : ℕ) (r : Reply) (o : Option T) → w.places p ≡ Leaving call (Fill t r) o
+        → Grips n m g p call (Fill t r) o true k
         → Goes n m shape w g calls (go_moments n m w p (Leaving call (Fill t r) o)) (left n m w p (Fill t r) t)
     filled_by call t r o stand h =
-        leaves_by n m shape w g calls tied p k at call (Fill t r) h.2 o h.0 h.1 (t % m) h.3 (by h.2 h.5) h.4 h.5 stand (lies_so h.0 _ h.3 h.4) h.6
+        leaves_by n m shape w g calls tied p k at call (Fill t r) h.2 o h.0 h.1 (t % m) h.3 (by h.2 h.5) h.4 h.5 stand
+        (lies_so h.0 _ h.3 h.4) h.6
       where
         by : (grip : Grip) → Fill t r ≡ grip_turn n m h.1 grip → t % m ≡ h.0
-        by writing e = ap (λ (z : ℕ). z % m) (let z : Fill t r ≡ Fill (word_at n m h.1) Done = e in let a : t ≡ word_at n m h.1 = cc in a) ∙ index_of_word n m shape h.1 ∙ place_is h.0 h.1 _ h.3 h.4
-        by swapping e = ap (λ (z : ℕ). z % m) (let z : Fill t r ≡ Fill (word_at n m (h.1 + n)) Displaced = e in let a : t ≡ word_at n m (h.1 + n) = cc in a) ∙ index_of_word n m shape (h.1 + n) ∙ a_lap_on n h.1 ∙ place_is h.0 h.1 _ h.3 h.4
+        by writing e = ap (λ (z : ℕ). z % m) (let z : Fill t r ≡ Fill (word_at n m h.1) Done = e in let a : t ≡ word_at n m h.1 = cc in a)
+            ∙ index_of_word n m shape h.1 ∙ place_is h.0 h.1 _ h.3 h.4
+        by swapping e =
+            ap (λ (z : ℕ). z % m) (let z : Fill t r ≡ Fill (word_at n m (h.1 + n)) Displaced = e in
+            let a : t ≡ word_at n m (h.1 + n) = cc in a) ∙ index_of_word n m shape (h.1 + n) ∙ a_lap_on n h.1 ∙ place_is h.0 h.1 _ h.3 h.4
         by reading e = absurd (let z : Fill t r ≡ Drain (word_at n m h.1) = e in cc)
         by displacing e = absurd (let z : Fill t r ≡ Advance (word_at n m (h.1 + n)) = e in cc)
 
     drained_by : (call : Call T) (t : ℕ) (o : Option T) → w.places p ≡ Leaving call (Drain t) o → Grips n m g p call (Drain t) o true k
         → Goes n m shape w g calls (go_moments n m w p (Leaving call (Drain t) o)) (left n m w p (Drain t) t)
     drained_by call t o stand h =
-        leaves_by n m shape w g calls tied p k at call (Drain t) h.2 o h.0 h.1 (t % m) h.3 (by h.2 h.5) h.4 h.5 stand (lies_so h.0 _ h.3 h.4) h.6
+        leaves_by n m shape w g calls tied p k at call (Drain t) h.2 o h.0 h.1 (t % m) h.3 (by h.2 h.5) h.4 h.5 stand
+        (lies_so h.0 _ h.3 h.4) h.6
       where
         by : (grip : Grip) → Drain t ≡ grip_turn n m h.1 grip → t % m ≡ h.0
-        by reading e = ap (λ (z : ℕ). z % m) (let z : Drain t ≡ Drain (word_at n m h.1) = e in let a : t ≡ word_at n m h.1 = cc in a) ∙ index_of_word n m shape h.1 ∙ place_is h.0 h.1 _ h.3 h.4
+        by reading e = ap (λ (z : ℕ). z % m) (let z : Drain t ≡ Drain (word_at n m h.1) = e in let a : t ≡ word_at n m h.1 = cc in a)
+            ∙ index_of_word n m shape h.1 ∙ place_is h.0 h.1 _ h.3 h.4
         by writing e = absurd (let z : Drain t ≡ Fill (word_at n m h.1) Done = e in cc)
         by swapping e = absurd (let z : Drain t ≡ Fill (word_at n m (h.1 + n)) Displaced = e in cc)
         by displacing e = absurd (let z : Drain t ≡ Advance (word_at n m (h.1 + n)) = e in cc)
 
     stands_by : (call : Call T) (t : Turn) → w.places p ≡ Stands call t → k.call ≡ call → StandsAs n m (kind_of t) g p call t k
         → Goes n m shape w g calls (turn_moments n m w p call t) (stood n m w p call t)
-    stands_by call Tail is of h = looks_by call Tail is of h.0 h.1 h.2
-    stands_by call Head is of h = looks_by call Head is of h.0 h.1 h.2
-    stands_by call (Stamp u) is of h = looks_by call (Stamp u) is of h.0 h.1 h.2
-    stands_by call (HeadFor u) is of h = looks_by call (HeadFor u) is of h.0 h.1 h.2
-    stands_by call (TailFor u) is of h = looks_by call (TailFor u) is of h.0 h.1 h.2
-    stands_by call (TailAgain u v) is of h = looks_by call (TailAgain u v) is of h.0 h.1 h.2
-    stands_by call (Append u) is of h = looks_by call (Append u) is of h.0 h.1 h.2
-    stands_by call (Take u) is of h = looks_by call (Take u) is of h.0 h.1 h.2
-    stands_by call (Displace u) is of h = looks_by call (Displace u) is of h.0 h.1 h.2
-    stands_by call (Spend u) is of h = looks_by call (Spend u) is of h.0 h.1 h.2
-    stands_by call CloseTurn is of h = looks_by call CloseTurn is of h.0 h.1 h.2
     stands_by call (Advance u) is of h = advance_by call u is of h.0 h.1
     stands_by call (Fill u r) is of h = fill_by call u r is h.0 h.1
     stands_by call (Drain u) is of h = drain_by call u is h.0 h.1
     stands_by call (End r) is of h = ends n m shape w g calls tied p (answer_of call r None) (ap is_gripping is) (ap is_moving is) k at h
+    stands_by call t is of h = looks_by call t is of h.0 h.1 h.2
 
-    not_displacing : (turn : Turn) → (turn_kind : kind_of turn ≡ holding → ⊥) → (call : Call T) (o : Option T) → Grips n m g p call turn o true k → ⊥
+    not_displacing : (turn : Turn) → (turn_kind : kind_of turn ≡ holding → ⊥) → (call : Call T) (o : Option T)
+        → Grips n m g p call turn o true k → ⊥
     not_displacing turn other call o h = other (ap kind_of h.5 ∙ holds h.1 h.2)
       where
         holds : (c : ℕ) (grip : Grip) → kind_of (grip_turn n m c grip) ≡ holding
@@ -186,27 +201,18 @@ module _ {T : Type 0} (n m : ℕ) (shape : IsShape n m) where
         by writing is e = let z : Advance t ≡ Fill (word_at n m h.1) Done = e in cc
         by swapping is e = let z : Advance t ≡ Fill (word_at n m (h.1 + n)) Displaced = e in cc
         by reading is e = let z : Advance t ≡ Drain (word_at n m h.1) = e in cc
-        by displacing is e = let lying : CellLies n m g (cell h.1 (held p call displacing o true)) = lies_so h.0 _ h.3 is in let told : true ≡ false = lying.3.3 in cc
+        by displacing is e = let lying : CellLies n m g (cell h.1 (held p call displacing o true)) = lies_so h.0 _ h.3 is in
+            let told : true ≡ false = lying.3.3 in cc
 
     leaving_by : (call : Call T) (t : Turn) (o : Option T) → w.places p ≡ Leaving call t o → Grips n m g p call t o true k
         → Goes n m shape w g calls (go_moments n m w p (Leaving call t o)) (leaves n m w p t)
     leaving_by call (Fill u r) o is h = filled_by call u r o is h
     leaving_by call (Drain u) o is h = drained_by call u o is h
     leaving_by call (Advance u) o is h = absurd (not_advance u call o h)
-    leaving_by call Tail o is h = absurd (not_displacing Tail (λ e. cc) call o h)
-    leaving_by call Head o is h = absurd (not_displacing Head (λ e. cc) call o h)
-    leaving_by call (Stamp u) o is h = absurd (not_displacing (Stamp u) (λ e. cc) call o h)
-    leaving_by call (HeadFor u) o is h = absurd (not_displacing (HeadFor u) (λ e. cc) call o h)
-    leaving_by call (TailFor u) o is h = absurd (not_displacing (TailFor u) (λ e. cc) call o h)
-    leaving_by call (TailAgain u v) o is h = absurd (not_displacing (TailAgain u v) (λ e. cc) call o h)
-    leaving_by call (Append u) o is h = absurd (not_displacing (Append u) (λ e. cc) call o h)
-    leaving_by call (Take u) o is h = absurd (not_displacing (Take u) (λ e. cc) call o h)
-    leaving_by call (Displace u) o is h = absurd (not_displacing (Displace u) (λ e. cc) call o h)
-    leaving_by call (Spend u) o is h = absurd (not_displacing (Spend u) (λ e. cc) call o h)
-    leaving_by call CloseTurn o is h = absurd (not_displacing CloseTurn (λ e. cc) call o h)
-    leaving_by call (End r) o is h = absurd (not_displacing (End r) (λ e. cc) call o h)
+    leaving_by call t o is h = absurd (not_displacing t (λ e. cc) call o h)
 
-  go_by : (w : BoundedWorld T) (g : Ghost T) (calls : ℕ → Option (Progress T)) (p : ℕ) (place : Place T) → Tied n m w g calls → w.places p ≡ place
+  go_by : (w : BoundedWorld T) (g : Ghost T) (calls : ℕ → Option (Progress T)) (p : ℕ) (place : Place T) → Tied n m w g calls
+      → w.places p ≡ place
       → Goes n m shape w g calls (go_moments n m w p place) (gone n m w p place)
   go_by w g calls p Away tied is = (g, calls, refl, tied)
   go_by w g calls p (Stands call t) tied is =
@@ -214,7 +220,8 @@ module _ {T : Type 0} (n m : ℕ) (shape : IsShape n m) where
   go_by w g calls p (Leaving call t o) tied is =
       let k = of_party n m shape w g calls tied p (Leaving call t o) is in leaving_by w g calls tied p k.0 k.1 call t o is k.2
 
-  begin_stands : (g : Ghost T) (p : ℕ) (call : Call T) (k : Progress T) → k.call ≡ call → ((older : List (Sight T)) × (k.seen ≡ sight_of n m g ∷ older)) → k.answer ≡ None
+  begin_stands : (g : Ghost T) (p : ℕ) (call : Call T) (k : Progress T) → k.call ≡ call
+      → ((older : List (Sight T)) × (k.seen ≡ sight_of n m g ∷ older)) → k.answer ≡ None
       → StandsAs n m (kind_of (first_turn n m call)) g p call (first_turn n m call) k
   begin_stands g p (Push x) k of seen none = (seen, none, (Sure, refl, tt))
   begin_stands g p (ForcePush x) k of seen none = (seen, none, (Sure, refl, tt))
@@ -225,13 +232,15 @@ module _ {T : Type 0} (n m : ℕ) (shape : IsShape n m) where
   begin_stands g p IsFullCall k of seen none = (seen, none, (Sure, refl, tt))
   begin_stands g p IsClosedCall k of seen none = (seen, none, (Sure, refl, tt))
 
-  begin_by : (w : BoundedWorld T) (g : Ghost T) (calls : ℕ → Option (Progress T)) (p : ℕ) (call : Call T) (place : Place T) → Tied n m w g calls → w.places p ≡ place
+  begin_by : (w : BoundedWorld T) (g : Ghost T) (calls : ℕ → Option (Progress T)) (p : ℕ) (call : Call T) (place : Place T)
+      → Tied n m w g calls → w.places p ≡ place
       → Goes n m shape w g calls (begin_moments n m p call place) (begun n m w p call place)
   begin_by w g calls p call Away tied is = begins n m shape w g calls tied p call (first_turn n m call) is (begin_stands g p call)
   begin_by w g calls p call (Stands other t) tied is = (g, calls, refl, tied)
   begin_by w g calls p call (Leaving other t o) tied is = (g, calls, refl, tied)
 
-  step_by : (w : BoundedWorld T) (g : Ghost T) (calls : ℕ → Option (Progress T)) (step : Step T) → Tied n m w g calls → Goes n m shape w g calls (moments n m w step) (stepped n m w step)
+  step_by : (w : BoundedWorld T) (g : Ghost T) (calls : ℕ → Option (Progress T)) (step : Step T) → Tied n m w g calls
+      → Goes n m shape w g calls (moments n m w step) (stepped n m w step)
   step_by w g calls (Begin p call) tied = begin_by w g calls p call (w.places p) tied refl
   step_by w g calls (Go p) tied = go_by w g calls p (w.places p) tied refl
 
@@ -239,12 +248,18 @@ module _ {T : Type 0} (n m : ℕ) (shape : IsShape n m) where
   run_append a b c [] ns first second = subst (λ (x : Scene T). Run x ns c) first second
   run_append a b c (moment ∷ ms) ns first second = (first.0, first.1, run_append first.0 b c ms ns first.2 second)
 
-  pub runs : (steps : List (Step T)) (w : BoundedWorld T) (g : Ghost T) (calls : ℕ → Option (Progress T)) → Tied n m w g calls → Goes n m shape w g calls (trace n m steps w) (run n m steps w)
+  pub runs : (steps : List (Step T)) (w : BoundedWorld T) (g : Ghost T) (calls : ℕ → Option (Progress T)) → Tied n m w g calls
+      → Goes n m shape w g calls (trace n m steps w) (run n m steps w)
   runs [] w g calls tied = (g, calls, refl, tied)
   runs (step ∷ steps) w g calls tied =
       let one = step_by w g calls step tied in
-      let rest = runs steps (stepped n m w step) one.0 one.1 one.3 in
-      (rest.0, rest.1, run_append (scene_of n m g calls) (scene_of n m one.0 one.1) (scene_of n m rest.0 rest.1) (moments n m w step) (trace n m steps (stepped n m w step)) one.2 rest.2, rest.3)
+      let rest = runs steps (stepped n m w step) one.0 one.1 one.3 in (
+        rest.0,
+        rest.1,
+        run_append (scene_of n m g calls) (scene_of n m one.0 one.1) (scene_of n m rest.0 rest.1) (moments n m w step)
+            (trace n m steps (stepped n m w step)) one.2 rest.2,
+        rest.3,
+      )
 
   abbrev pub new_ghost : Ghost T
   new_ghost = record { pushed = 0; popped = 0; shut = false; all = []; coming = None; cells = λ i. cell i free }
@@ -263,7 +278,8 @@ module _ {T : Type 0} (n m : ℕ) (shape : IsShape n m) where
   }
 
   -- a place is free for the next lap at most, or of an item that was appended
-  round_fits : (g : Ghost T) → Base n m g → (p : ℕ) (ph : Phase T) → CellLies n m g (cell p ph) → (p ≤ most_accepted) ⊎ ((up ph ≡ 0) × (p < most_accepted + n))
+  round_fits : (g : Ghost T) → Base n m g → (p : ℕ) (ph : Phase T) → CellLies n m g (cell p ph)
+      → (p ≤ most_accepted) ⊎ ((up ph ≡ 0) × (p < most_accepted + n))
   round_fits g b p free k = inr (refl, (let z = k.1 in let u = b.behind in let f = b.few in omega arith))
   round_fits g b p (full x) k = inl (let z = k.1 in let f = b.few in omega arith)
   round_fits g b p (held j call writing o d) k = inl (let z = k.1 in let f = b.few in omega arith)
@@ -278,14 +294,16 @@ module _ {T : Type 0} (n m : ℕ) (shape : IsShape n m) where
   never_empty w g calls tied p h call is =
       let k = of_party n m shape w g calls tied p (Stands call (Drain h)) is in by k.3.0 k.3.1.0 k.3.1.1 k.3.1.2 k.3.1.3 k.3.1.4 k.3.1.5
     where
-      by : (o : Option T) (i c : ℕ) (grip : Grip) → i < n → g.cells i ≡ cell c (held p call grip o false) → Drain h ≡ grip_turn n m c grip → IsSome (w.slots (h % m)).value
+      by : (o : Option T) (i c : ℕ) (grip : Grip) → i < n → g.cells i ≡ cell c (held p call grip o false) → Drain h ≡ grip_turn n m c grip
+          → IsSome (w.slots (h % m)).value
       by o i c writing below at e = absurd (let z : Drain h ≡ Fill (word_at n m c) Done = e in cc)
       by o i c swapping below at e = absurd (let z : Drain h ≡ Fill (word_at n m (c + n)) Displaced = e in cc)
       by o i c displacing below at e = absurd (let z : Drain h ≡ Advance (word_at n m (c + n)) = e in cc)
       by o i c reading below at e =
           let lying : CellLies n m g (cell c (held p call reading o false)) = subst (CellLies n m g) at (tied.lies i below) in
           let word : h ≡ word_at n m c = (let z : Drain h ≡ Drain (word_at n m c) = e in cc) in
-          let place : h % m ≡ i = ap (λ (z : ℕ). z % m) word ∙ index_of_word n m shape c ∙ subst (λ (d : Cell T). d.round % n ≡ i) at (tied.rounds i below) in
+          let place : h % m ≡ i = ap (λ (z : ℕ). z % m) word ∙ index_of_word n m shape c
+          ∙ subst (λ (d : Cell T). d.round % n ≡ i) at (tied.rounds i below) in
           some_is (w.slots (h % m)).value lying.3.0
           (ap (λ (z : ℕ). (w.slots z).value) place ∙ ap (λ (s : Slot T). s.value) (tied.slots i below ∙ ap (slot_of n m) at) ∙ lying.3.1)
 
@@ -305,6 +323,7 @@ module _ {T : Type 0} (n m : ℕ) (shape : IsShape n m) where
         tail = let z = word_fits n m w.tail shape (let f = tied.base.few in omega arith) in omega arith;
         head = let z = word_fits n m w.head shape (let f = tied.base.few in let b = tied.base.behind in omega arith) in omega arith;
         stamps = λ i below. subst (λ (s : Slot T). s.stamp < 2 ^ 64) (sym (tied.slots i below))
-            (stamp_fits n m shape (g.cells i).round (up (g.cells i).phase) (up_once (g.cells i).phase) (round_fits g tied.base (g.cells i).round (g.cells i).phase (tied.lies i below)));
+            (stamp_fits n m shape (g.cells i).round (up (g.cells i).phase) (up_once (g.cells i).phase)
+            (round_fits g tied.base (g.cells i).round (g.cells i).phase (tied.lies i below)));
         never_empty = never_empty w g r.1 tied;
       }

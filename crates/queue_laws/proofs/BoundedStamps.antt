@@ -1,5 +1,6 @@
 -- What two words of a ring that are the same tell of their counts. n is the number of places, m the mark.
-use Rattle.std.proofs.Common.{◌≡◌, ℕ, ◌+◌, ◌*◌, ◌/◌, ◌%◌, ◌<◌, ◌≤◌, Bool, true, false, ◌==◌, sym, refl, ap, ap₂, ◌∙◌, zero-mul, div-add-mod', lt_of_not-le, arith}
+use Rattle.std.proofs.Common.{◌≡◌, ℕ, ◌+◌, ◌*◌, ◌/◌, ◌%◌, ◌<◌, ◌≤◌, Bool, true, false, ◌==◌, sym, refl, ap, ap₂, ◌∙◌, zero-mul}
+use Rattle.std.proofs.Common.{div-add-mod', lt_of_not-le, arith}
 use Rattle.std.proofs.Math.Arith.{digits_div, digits_mod}
 use mathlib.Core.Logic.{dite}
 use native.Mathlib.Decide.{dec_le}

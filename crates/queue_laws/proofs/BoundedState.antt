@@ -1,8 +1,10 @@
 -- What a ring is at a moment of a run on which several parties call. n is the number of places, m the mark.
-use Rattle.std.proofs.Common.{◌≡◌, ◌≢◌, ◌⊎◌, ℕ, ◌+◌, ◌*◌, ◌%◌, ◌<◌, ◌≤◌, List, [], ◌∷◌, length, drop, Bool, true, false, Option, Some, None, if◌then◌else◌}
+use Rattle.std.proofs.Common.{◌≡◌, ◌≢◌, ◌⊎◌, ℕ, ◌+◌, ◌*◌, ◌%◌, ◌<◌, ◌≤◌, List, [], ◌∷◌, length, drop, Bool, true, false, Option, Some, None}
+use Rattle.std.proofs.Common.{if◌then◌else◌}
 use Rattle.queue_steps.specs.declared.bounded.Slot.{Slot}
 use Rattle.queue_steps.specs.declared.steps.bounded.Turn.{Turn}
-use Rattle.queue_steps.specs.declared.steps.bounded.Turn.TheVariants.{Tail, Head, Stamp, HeadFor, TailFor, TailAgain, Append, Take, Displace, Advance, Spend, Fill, Drain, End, Close as CloseTurn}
+use Rattle.queue_steps.specs.declared.steps.bounded.Turn.TheVariants.{Tail, Head, Stamp, HeadFor, TailFor, TailAgain, Append, Take}
+use Rattle.queue_steps.specs.declared.steps.bounded.Turn.TheVariants.{Displace, Advance, Spend, Fill, Drain, End, Close as CloseTurn}
 use Rattle.queue_steps.specs.declared.steps.Reply.{Reply}
 use Rattle.queue_steps.specs.declared.steps.Reply.TheVariants.{Done, Displaced}
 use Rattle.queue_steps.specs.ClosableQueue.{ClosableQueue, most_accepted}
@@ -48,21 +50,11 @@ pub data Kind : Type 0 where
   ending : Reply → Kind
 
 abbrev pub kind_of : Turn → Kind
-kind_of Tail = looking
-kind_of Head = looking
-kind_of (Stamp t) = looking
-kind_of (HeadFor t) = looking
-kind_of (TailFor h) = looking
-kind_of (TailAgain t h) = looking
-kind_of (Append t) = looking
-kind_of (Take h) = looking
-kind_of (Displace t) = looking
-kind_of (Spend t) = looking
-kind_of CloseTurn = looking
 kind_of (Advance t) = holding
 kind_of (Fill t r) = holding
 kind_of (Drain h) = holding
 kind_of (End r) = ending r
+kind_of _ = looking
 
 -- what a call remembers of what it looked at
 pub data Fact : Type 0 where
@@ -130,7 +122,8 @@ module _ (n m : ℕ) where
   abbrev pub PushFits : Turn → Fact → Type 0
   PushFits Tail f = f ≡ Sure
   PushFits (Stamp t) f = (c : ℕ) × (t ≡ word_at n m c) × (f ≡ Both (Past c) (OpenAt c))
-  PushFits (HeadFor t) f = (q : ℕ) × (t ≡ word_at n m (q + n)) × (f ≡ Both (Both (Past (q + n)) (OpenAt (q + n))) (Aged (q % n) (2 * q + 1)))
+  PushFits (HeadFor t) f =
+      (q : ℕ) × (t ≡ word_at n m (q + n)) × (f ≡ Both (Both (Past (q + n)) (OpenAt (q + n))) (Aged (q % n) (2 * q + 1)))
   PushFits (Append t) f = (c : ℕ) × (t ≡ word_at n m c) × (c < most_accepted) × (f ≡ Both (Past c) (Aged (c % n) (2 * c)))
   PushFits (Spend t) f = (c : ℕ) × (t ≡ word_at n m c) × (most_accepted ≤ c) × (f ≡ Both (Past c) (Aged (c % n) (2 * c)))
   PushFits _ f = ⊥
@@ -220,10 +213,12 @@ module _ {T : Type 0} (n m : ℕ) where
   abbrev pub ComesTo : (ℕ → Cell T) → ℕ → Option (ℕ × T) → Type 0
   ComesTo cells pushed None = Unit {0}
   ComesTo cells pushed (Some i) =
-      (p : ℕ) × (o : Option T) × (p + n ≡ pushed) × (cells (pushed % n) ≡ record { round = p; phase = held i.0 (ForcePush i.1) displacing o false })
+      (p : ℕ) × (o : Option T) × (p + n ≡ pushed)
+      × (cells (pushed % n) ≡ record { round = p; phase = held i.0 (ForcePush i.1) displacing o false })
 
   abbrev pub WasOpen : ℕ → ℕ → Sight T → Type 0
-  WasOpen popped c s = (q : ℕ) × (q ≤ popped) × (length s.queue.items + q ≡ c) × (s.queue.capacity ≡ Some n) × (s.queue.closed ≡ false) × (length s.queue.items ≤ n)
+  WasOpen popped c s = (q : ℕ) × (q ≤ popped) × (length s.queue.items + q ≡ c) × (s.queue.capacity ≡ Some n) × (s.queue.closed ≡ false)
+      × (length s.queue.items ≤ n)
 
   abbrev pub WasNotFull : Sight T → Type 0
   WasNotFull s = (s.queue.capacity ≡ Some n) × (length s.queue.items ≢ n)

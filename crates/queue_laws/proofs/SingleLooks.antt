@@ -1,5 +1,6 @@
 -- What a step on the word of a single slot comes to, in each phase of the slot.
-use Rattle.std.proofs.Common.{◌≡◌, ◌≢◌, ◌⊎◌, inl, inr, ℕ, ◌-◌, [], ◌∷◌, Bool, true, false, not, nat_lt, Option, Some, None, ◌==◌, if◌then◌else◌, option_to_list, sym, refl, ap, ◌∙◌, eq-eqb, arith}
+use Rattle.std.proofs.Common.{◌≡◌, ◌≢◌, ◌⊎◌, inl, inr, ℕ, ◌-◌, [], ◌∷◌, Bool, true, false, not, nat_lt, Option, Some, None, ◌==◌}
+use Rattle.std.proofs.Common.{if◌then◌else◌, option_to_list, sym, refl, ap, ◌∙◌, eq-eqb, arith}
 use Rattle.queue_steps.specs.declared.steps.single.Turn.{Turn}
 use Rattle.queue_steps.specs.declared.steps.single.Turn.TheVariants.{Look, Exchange, Unlock, End, Close as CloseTurn}
 use Rattle.queue_steps.specs.declared.steps.Reply.{Reply}
@@ -49,7 +50,8 @@ module _ {T : Type 0} where
   item (held p before after done) = after
 
   abbrev pub sight_of : Bool → Phase T → Sight T
-  sight_of shut ph = record { queue = record { items = option_to_list (item ph); capacity = Some 1; closed = shut; accepted = None }; incoming = None }
+  sight_of shut ph =
+      record { queue = record { items = option_to_list (item ph); capacity = Some 1; closed = shut; accepted = None }; incoming = None }
 
   -- what a call may be about to exchange
   abbrev pub Exchanges : Call T → ℕ → ℕ → Type 0
@@ -76,7 +78,8 @@ module _ {T : Type 0} where
   some_not : (x : T) → (x ∷ []) ≡ [] → ⊥
   some_not x e = cc
 
-  pub looks : (call : Call T) (shut : Bool) (ph : Phase T) → LooksFirst call → Finds call (turn_of call Look (word_of shut ph)) (sight_of shut ph)
+  pub looks : (call : Call T) (shut : Bool) (ph : Phase T) → LooksFirst call
+      → Finds call (turn_of call Look (word_of shut ph)) (sight_of shut ph)
   looks (Push x) false (free None) l = (refl, refl)
   looks (Push x) false (free (Some y)) l = ((refl, refl, refl, refl), tt)
   looks (Push x) false (held p b None d) l = tt
@@ -141,10 +144,20 @@ module _ {T : Type 0} where
     pub turn : turn_of call (Exchange old new) old ≡ Unlock reply
     pub word : new ≡ word_of shut (held p (content ph) (stored call (content ph)) false)
     pub was_free : ph ≡ free (content ph)
-    pub acts : Acts (sight_of shut ph).queue call (answer_of call reply (content ph)) (sight_of shut (held p (content ph) (stored call (content ph)) false)).queue
+    pub acts : Acts (sight_of shut ph).queue call (answer_of call reply (content ph))
+        (sight_of shut (held p (content ph) (stored call (content ph)) false)).queue
 
-  pub hits : (call : Call T) (shut : Bool) (ph : Phase T) (p old new : ℕ) → Exchanges call old new → word_of shut ph ≡ old → Hits call shut ph p old new
-  hits (Push x) false (free None) p old new e is = record { reply = Done; turn = same_word old (Unlock Done) (looked_to_push old); word = e.1; was_free = refl; acts = ((refl, omega arith, tt), refl) }
+  pub hits : (call : Call T) (shut : Bool) (ph : Phase T) (p old new : ℕ) → Exchanges call old new → word_of shut ph ≡ old
+      → Hits call shut ph p old new
+  hits (Push x) false (free None) p old new e is =
+      record {
+        reply = Done;
+        turn = same_word old (Unlock Done) (looked_to_push old);
+        word = e.1;
+        was_free = refl;
+        acts =
+            ((refl, omega arith, tt), refl);
+      }
   hits (Push x) false (free (Some y)) p old new e is = absurd (let z = e.0 in omega arith)
   hits (Push x) false (held q b None d) p old new e is = absurd (let z = e.0 in omega arith)
   hits (Push x) false (held q b (Some y) d) p old new e is = absurd (let z = e.0 in omega arith)
@@ -154,7 +167,8 @@ module _ {T : Type 0} where
   hits (Push x) true (held q b (Some y) d) p old new e is = absurd (let z = e.0 in omega arith)
   hits (ForcePush x) false (free None) p old new e is = record {
     reply = Done;
-    turn = same_word old (Unlock (if nat_lt old 2 then Done else Displaced)) (looked_to_force old) ∙ ap (λ (n : ℕ). Unlock (if nat_lt n 2 then Done else Displaced)) (sym is);
+    turn = same_word old (Unlock (if nat_lt old 2 then Done else Displaced)) (looked_to_force old)
+        ∙ ap (λ (n : ℕ). Unlock (if nat_lt n 2 then Done else Displaced)) (sym is);
     word = new_is e;
     was_free = refl;
     acts = ((refl, omega arith, tt), refl);
@@ -165,7 +179,8 @@ module _ {T : Type 0} where
       new_is (inr k) = k.1
   hits (ForcePush x) false (free (Some y)) p old new e is = record {
     reply = Displaced;
-    turn = same_word old (Unlock (if nat_lt old 2 then Done else Displaced)) (looked_to_force old) ∙ ap (λ (n : ℕ). Unlock (if nat_lt n 2 then Done else Displaced)) (sym is);
+    turn = same_word old (Unlock (if nat_lt old 2 then Done else Displaced)) (looked_to_force old)
+        ∙ ap (λ (n : ℕ). Unlock (if nat_lt n 2 then Done else Displaced)) (sym is);
     word = new_is e;
     was_free = refl;
     acts = (refl, refl, tt, refl, refl);
@@ -188,7 +203,8 @@ module _ {T : Type 0} where
   hits (ForcePush x) true (held q b (Some y) d) p old new (inr k) is = absurd (let z = k.0 in omega arith)
   hits Pop false (free None) p old new (inl k) is = absurd (let z = k.0 in omega arith)
   hits Pop false (free None) p old new (inr k) is = absurd (let z = k.0 in omega arith)
-  hits Pop false (free (Some y)) p old new (inl k) is = record { reply = Done; turn = same_word old (Unlock Done) (looked_to_pop old); word = k.1; was_free = refl; acts = (refl, refl) }
+  hits Pop false (free (Some y)) p old new (inl k) is =
+      record { reply = Done; turn = same_word old (Unlock Done) (looked_to_pop old); word = k.1; was_free = refl; acts = (refl, refl) }
   hits Pop false (free (Some y)) p old new (inr k) is = absurd (let z = k.0 in omega arith)
   hits Pop false (held q b None d) p old new (inl k) is = absurd (let z = k.0 in omega arith)
   hits Pop false (held q b None d) p old new (inr k) is = absurd (let z = k.0 in omega arith)
@@ -197,7 +213,8 @@ module _ {T : Type 0} where
   hits Pop true (free None) p old new (inl k) is = absurd (let z = k.0 in omega arith)
   hits Pop true (free None) p old new (inr k) is = absurd (let z = k.0 in omega arith)
   hits Pop true (free (Some y)) p old new (inl k) is = absurd (let z = k.0 in omega arith)
-  hits Pop true (free (Some y)) p old new (inr k) is = record { reply = Done; turn = same_word old (Unlock Done) (looked_to_pop old); word = k.1; was_free = refl; acts = (refl, refl) }
+  hits Pop true (free (Some y)) p old new (inr k) is =
+      record { reply = Done; turn = same_word old (Unlock Done) (looked_to_pop old); word = k.1; was_free = refl; acts = (refl, refl) }
   hits Pop true (held q b None d) p old new (inl k) is = absurd (let z = k.0 in omega arith)
   hits Pop true (held q b None d) p old new (inr k) is = absurd (let z = k.0 in omega arith)
   hits Pop true (held q b (Some y) d) p old new (inl k) is = absurd (let z = k.0 in omega arith)
@@ -209,9 +226,11 @@ module _ {T : Type 0} where
   hits IsClosedCall shut ph p old new e is = absurd e
 
   -- an exchange that misses goes on from the word that it found
-  pub misses : (call : Call T) (old new found : ℕ) → Exchanges call old new → (found == old) ≡ false → turn_of call (Exchange old new) found ≡ turn_of call Look found
+  pub misses : (call : Call T) (old new found : ℕ) → Exchanges call old new → (found == old) ≡ false
+      → turn_of call (Exchange old new) found ≡ turn_of call Look found
   misses (Push x) old new found e miss = ap (λ (b : Bool). if b then Unlock Done else looked_to_push found) miss
-  misses (ForcePush x) old new found e miss = ap (λ (b : Bool). if b then Unlock (if nat_lt old 2 then Done else Displaced) else looked_to_force found) miss
+  misses (ForcePush x) old new found e miss =
+      ap (λ (b : Bool). if b then Unlock (if nat_lt old 2 then Done else Displaced) else looked_to_force found) miss
   misses Pop old new found e miss = ap (λ (b : Bool). if b then Unlock Done else looked_to_pop found) miss
   misses Close old new found e miss = absurd e
   misses Len old new found e miss = absurd e

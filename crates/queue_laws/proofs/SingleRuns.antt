@@ -1,14 +1,19 @@
 -- Every list of steps on a single slot is a run of the closable queue.
-use Rattle.std.proofs.Common.{◌≡◌, ◌≢◌, inl, inr, ℕ, ◌-◌, ◌<◌, List, [], ◌∷◌, ◌++◌, Bool, true, false, nat_lt, Option, Some, None, ◌==◌, if◌then◌else◌, sym, refl, ap, ◌∙◌, subst, arith}
+use Rattle.std.proofs.Common.{◌≡◌, ◌≢◌, inl, inr, ℕ, ◌-◌, ◌<◌, List, [], ◌∷◌, ◌++◌, Bool, true, false, nat_lt, Option, Some, None, ◌==◌}
+use Rattle.std.proofs.Common.{if◌then◌else◌, sym, refl, ap, ◌∙◌, subst, arith}
 use Rattle.queue_steps.specs.declared.steps.single.Turn.{Turn}
 use Rattle.queue_steps.specs.declared.steps.single.Turn.TheVariants.{Look, Exchange, Unlock, End, Close as CloseTurn}
 use Rattle.queue_steps.specs.declared.steps.Reply.{Reply}
 use Rattle.queue_steps.specs.declared.steps.Reply.TheVariants.{Yes, No}
 use Rattle.queue_steps.specs.ClosableQueue.{ClosableQueue}
 use Rattle.queue_steps.specs.Calls.{Call, Push, ForcePush, Pop, Close, Len, IsEmptyCall, IsFullCall, IsClosedCall, Answer, WasClosed, Acts}
-use Rattle.queue_laws.specs.Moments.{Moment, Does, Ends, Scene, Sight, Progress, Run, sees, becomes, answers, with_call, MayBeside, MayAnswer, MayEnd, AtSome, IsFromOther}
-use Rattle.queue_laws.specs.SingleSteps.{Place, Away, Stands, Inside, Leaving, SingleWorld, Step, Begin, Go, turn_of, first_turn, is_yes, answer_of, stored, word_after, placed, with_place, begun, moved, gone, stepped, begin_moments, turn_moments, go_moments, moments, run, trace, new_slot, new_scene, IsClosableQueue}
-use Rattle.queue_laws.proofs.SingleLooks.{Phase, free, held, is_party, is_other, word_of, content, item, sight_of, Exchanges, LooksFirst, Finds, looks, hits, misses, closed_word, open_word, done_word, unlocked_word}
+use Rattle.queue_laws.specs.Moments.{Moment, Does, Ends, Scene, Sight, Progress, Run, sees, becomes, answers, with_call, MayBeside}
+use Rattle.queue_laws.specs.Moments.{MayAnswer, MayEnd, AtSome, IsFromOther}
+use Rattle.queue_laws.specs.SingleSteps.{Place, Away, Stands, Inside, Leaving, SingleWorld, Step, Begin, Go, turn_of, first_turn, is_yes}
+use Rattle.queue_laws.specs.SingleSteps.{answer_of, stored, word_after, placed, with_place, begun, moved, gone, stepped, begin_moments}
+use Rattle.queue_laws.specs.SingleSteps.{turn_moments, go_moments, moments, run, trace, new_slot, new_scene, IsClosableQueue}
+use Rattle.queue_laws.proofs.SingleLooks.{Phase, free, held, is_party, is_other, word_of, content, item, sight_of, Exchanges, LooksFirst}
+use Rattle.queue_laws.proofs.SingleLooks.{Finds, looks, hits, misses, closed_word, open_word, done_word, unlocked_word}
 
 module _ {T : Type 0} where
   -- what is known of a call before its next step on the word
@@ -22,11 +27,14 @@ module _ {T : Type 0} where
   -- what ties a party's place to its call
   abbrev pub TiedPlace : Phase T → Sight T → ℕ → Place T → Option (Progress T) → Type 0
   TiedPlace ph s p Away c = c ≡ None
-  TiedPlace ph s p (Stands call t) c = (k : Progress T) × (c ≡ Some k) × (k.call ≡ call) × ((older : List (Sight T)) × (k.seen ≡ s ∷ older)) × Ready call t k
+  TiedPlace ph s p (Stands call t) c =
+      (k : Progress T) × (c ≡ Some k) × (k.call ≡ call) × ((older : List (Sight T)) × (k.seen ≡ s ∷ older)) × Ready call t k
   TiedPlace ph s p (Inside call r) c =
-      (k : Progress T) × (c ≡ Some k) × ((before : Option T) × (k.answer ≡ Some (answer_of call r before)) × (ph ≡ held p before (stored call before) false))
+      (k : Progress T) × (c ≡ Some k)
+      × ((before : Option T) × (k.answer ≡ Some (answer_of call r before)) × (ph ≡ held p before (stored call before) false))
   TiedPlace ph s p (Leaving call r o) c =
-      (k : Progress T) × (c ≡ Some k) × (k.answer ≡ Some (answer_of call r o)) × ((before : Option T) × (after : Option T) × (ph ≡ held p before after true))
+      (k : Progress T) × (c ≡ Some k) × (k.answer ≡ Some (answer_of call r o))
+      × ((before : Option T) × (after : Option T) × (ph ≡ held p before after true))
 
   pub record Tied (w : SingleWorld T) (s : Scene T) : Type 0 where
     pub shut : Bool
@@ -40,11 +48,13 @@ module _ {T : Type 0} where
   abbrev Keeps : ℕ → Phase T → Phase T → Type 0
   Keeps q ph ph' = (b a : Option T) (d : Bool) → ph ≡ held q b a d → ph' ≡ ph
 
-  more_seen : (look : Sight T) (k : Progress T) (o : Option (Answer T)) (a : Answer T) → MayEnd k o a → MayEnd (record k { seen = look ∷ k.seen }) o a
+  more_seen : (look : Sight T) (k : Progress T) (o : Option (Answer T)) (a : Answer T) → MayEnd k o a
+      → MayEnd (record k { seen = look ∷ k.seen }) o a
   more_seen look k None a may = inr may
   more_seen look k (Some told) a may = may
 
-  ready_sees : (look : Sight T) (call : Call T) (t : Turn) (k : Progress T) → Ready call t k → Ready call t (record k { seen = look ∷ k.seen })
+  ready_sees : (look : Sight T) (call : Call T) (t : Turn) (k : Progress T) → Ready call t k
+      → Ready call t (record k { seen = look ∷ k.seen })
   ready_sees look call Look k r = r
   ready_sees look call (Exchange old new) k r = r
   ready_sees look call (Unlock x) k r = r
@@ -52,25 +62,34 @@ module _ {T : Type 0} where
   ready_sees look call (End x) k r = more_seen look k k.answer (answer_of call x None) r
 
   -- another party's place, where the queue has become something else
-  tied_sees : (ph ph' : Phase T) (s s' : Sight T) (q : ℕ) (place : Place T) (c : Option (Progress T)) → Keeps q ph ph' → TiedPlace ph s q place c → TiedPlace ph' s' q place (sees s' c)
+  tied_sees : (ph ph' : Phase T) (s s' : Sight T) (q : ℕ) (place : Place T) (c : Option (Progress T)) → Keeps q ph ph'
+      → TiedPlace ph s q place c → TiedPlace ph' s' q place (sees s' c)
   tied_sees ph ph' s s' q Away c keep tied = ap (sees s') tied
   tied_sees ph ph' s s' q (Stands call t) c keep tied =
       (record tied.0 { seen = s' ∷ tied.0.seen }, ap (sees s') tied.1, tied.2, (tied.0.seen, refl), ready_sees s' call t tied.0 tied.4)
   tied_sees ph ph' s s' q (Inside call r) c keep tied =
       let b = tied.2.0 in
       (record tied.0 { seen = s' ∷ tied.0.seen }, ap (sees s') tied.1, (b, tied.2.1, keep b (stored call b) false tied.2.2 ∙ tied.2.2))
-  tied_sees ph ph' s s' q (Leaving call r o) c keep tied =
-      (record tied.0 { seen = s' ∷ tied.0.seen }, ap (sees s') tied.1, tied.2, (tied.3.0, tied.3.1, keep tied.3.0 tied.3.1 true tied.3.2 ∙ tied.3.2))
+  tied_sees ph ph' s s' q (Leaving call r o) c keep tied = (
+    record tied.0 { seen = s' ∷ tied.0.seen },
+    ap (sees s') tied.1,
+    tied.2,
+    (tied.3.0, tied.3.1, keep tied.3.0 tied.3.1 true tied.3.2 ∙ tied.3.2),
+  )
 
   -- another party's place, where the queue has not changed
-  tied_stays : (ph ph' : Phase T) (s : Sight T) (q : ℕ) (place : Place T) (c : Option (Progress T)) → Keeps q ph ph' → TiedPlace ph s q place c → TiedPlace ph' s q place c
+  tied_stays : (ph ph' : Phase T) (s : Sight T) (q : ℕ) (place : Place T) (c : Option (Progress T)) → Keeps q ph ph'
+      → TiedPlace ph s q place c → TiedPlace ph' s q place c
   tied_stays ph ph' s q Away c keep tied = tied
   tied_stays ph ph' s q (Stands call t) c keep tied = tied
-  tied_stays ph ph' s q (Inside call r) c keep tied = (tied.0, tied.1, (tied.2.0, tied.2.1, keep tied.2.0 (stored call tied.2.0) false tied.2.2 ∙ tied.2.2))
-  tied_stays ph ph' s q (Leaving call r o) c keep tied = (tied.0, tied.1, tied.2, (tied.3.0, tied.3.1, keep tied.3.0 tied.3.1 true tied.3.2 ∙ tied.3.2))
+  tied_stays ph ph' s q (Inside call r) c keep tied =
+      (tied.0, tied.1, (tied.2.0, tied.2.1, keep tied.2.0 (stored call tied.2.0) false tied.2.2 ∙ tied.2.2))
+  tied_stays ph ph' s q (Leaving call r o) c keep tied =
+      (tied.0, tied.1, tied.2, (tied.3.0, tied.3.1, keep tied.3.0 tied.3.1 true tied.3.2 ∙ tied.3.2))
 
   -- the places after one party's step
-  each_with : (P : ℕ → Place T → Option (Progress T) → Type 0) (places : ℕ → Place T) (calls : ℕ → Option (Progress T)) (p : ℕ) (place : Place T) (c : Option (Progress T))
+  each_with : (P : ℕ → Place T → Option (Progress T) → Type 0) (places : ℕ → Place T) (calls : ℕ
+      → Option (Progress T)) (p : ℕ) (place : Place T) (c : Option (Progress T))
       → P p place c → ((q : ℕ) → q ≢ p → P q (places q) (calls q)) → (q : ℕ) → P q (with_place places p place q) (with_call calls p c q)
   each_with P places calls p place c here other q = by (q == p) refl
     where
@@ -78,7 +97,8 @@ module _ {T : Type 0} where
       by true e = subst (λ (x : ℕ). P x place c) (sym (is_party q p e)) here
       by false e = other q (is_other q p e)
 
-  each_at : (P : ℕ → Place T → Option (Progress T) → Type 0) (places : ℕ → Place T) (calls : ℕ → Option (Progress T)) (p : ℕ) (place : Place T)
+  each_at : (P : ℕ → Place T → Option (Progress T) → Type 0) (places : ℕ → Place T) (calls : ℕ
+      → Option (Progress T)) (p : ℕ) (place : Place T)
       → P p place (calls p) → ((q : ℕ) → q ≢ p → P q (places q) (calls q)) → (q : ℕ) → P q (with_place places p place q) (calls q)
   each_at P places calls p place here other q = by (q == p) refl
     where
@@ -128,8 +148,10 @@ module _ {T : Type 0} where
   begin_by w s p call (Leaving other r o) tied is = (s, refl, tied)
 
   -- a look that found this leaves the call at its next turn
-  found_by : (ph : Phase T) (s : Sight T) (p : ℕ) (call : Call T) (next : Turn) (c : Option (Progress T)) (k : Progress T) → c ≡ Some k → k.call ≡ call
-      → ((older : List (Sight T)) × (k.seen ≡ s ∷ older)) → LooksFirst call → k.answer ≡ None → Finds call next s → TiedPlace ph s p (placed call next) c
+  found_by : (ph : Phase T) (s : Sight T) (p : ℕ) (call : Call T) (next : Turn) (c : Option (Progress T)) (k : Progress T) → c ≡ Some k
+      → k.call ≡ call
+      → ((older : List (Sight T)) × (k.seen ≡ s ∷ older)) → LooksFirst call → k.answer ≡ None → Finds call next s
+      → TiedPlace ph s p (placed call next) c
   found_by ph s p call Look c k is of seen looking none finds = (k, is, of, seen, (looking, none))
   found_by ph s p call (Exchange old new) c k is of seen looking none finds = (k, is, of, seen, (looking, finds, none))
   found_by ph s p call (Unlock r) c k is of seen looking none finds = absurd finds
@@ -153,12 +175,15 @@ module _ {T : Type 0} where
 
   -- a step on the word that only looked
   looked_by : (w : SingleWorld T) (s : Scene T) (p : ℕ) (call : Call T) (t next : Turn) → (tied : Tied w s) → w.places p ≡ Stands call t
-      → LooksFirst call → (k : Progress T) → s.calls p ≡ Some k → k.call ≡ call → ((older : List (Sight T)) × (k.seen ≡ sight_of tied.shut tied.phase ∷ older)) → k.answer ≡ None
+      → LooksFirst call → (k : Progress T) → s.calls p ≡ Some k → k.call ≡ call
+      → ((older : List (Sight T)) × (k.seen ≡ sight_of tied.shut tied.phase ∷ older)) → k.answer ≡ None
       → next ≡ turn_of call Look w.word
       → Goes w s (turn_moments p call w.slot next) (record w { places = with_place w.places p (placed call next) })
   looked_by w s p call t next tied is looking k at of seen none next_is =
       let look = sight_of tied.shut tied.phase in
-      let finds : Finds call next look = subst (λ (x : Turn). Finds call x look) (sym (next_is ∙ ap (turn_of call Look) tied.word)) (looks call tied.shut tied.phase looking) in (
+      let finds : Finds call next look =
+      subst (λ (x : Turn). Finds call x look) (sym (next_is ∙ ap (turn_of call Look) tied.word))
+      (looks call tied.shut tied.phase looking) in (
         s,
         subst (λ (ms : List (Moment T)). Run s ms s) (sym (no_moment p call w.slot next look finds)) refl,
         record {
@@ -172,14 +197,16 @@ module _ {T : Type 0} where
         },
       )
 
-  becomes_is : (s : Scene T) (shut : Bool) (ph : Phase T) (q : ClosableQueue T) → s.sight ≡ sight_of shut ph → record s.sight { queue = q } ≡ record { queue = q; incoming = None }
+  becomes_is : (s : Scene T) (shut : Bool) (ph : Phase T) (q : ClosableQueue T) → s.sight ≡ sight_of shut ph
+      → record s.sight { queue = q } ≡ record { queue = q; incoming = None }
   becomes_is s shut ph q is = ap (λ (x : Sight T). record { queue = q; incoming = x.incoming }) is
 
   beside_nothing : (s : Scene T) (shut : Bool) (ph : Phase T) (a : Answer T) → s.sight ≡ sight_of shut ph → MayBeside s.sight.incoming a
   beside_nothing s shut ph a is = subst (λ (x : Sight T). MayBeside x.incoming a) (sym is) tt
 
   -- a party's call acts, and the slot comes to another phase
-  acts_by : (w : SingleWorld T) (s : Scene T) (p : ℕ) (tied : Tied w s) (k : Progress T) (a : Answer T) (word : ℕ) (place : Place T) (shut : Bool) (ph : Phase T)
+  acts_by : (w : SingleWorld T) (s : Scene T) (p : ℕ) (tied : Tied w s) (k : Progress T) (a : Answer T) (word : ℕ) (place : Place T)
+      (shut : Bool) (ph : Phase T)
       → s.calls p ≡ Some k → k.answer ≡ None → Acts (sight_of tied.shut tied.phase).queue k.call a (sight_of shut ph).queue
       → word ≡ word_of shut ph → w.slot ≡ content ph → ((q : ℕ) → q ≢ p → Keeps q tied.phase ph)
       → ((look : Sight T) → TiedPlace ph look p place (Some (record k { answer = Some a; seen = look ∷ k.seen })))
@@ -211,23 +238,29 @@ module _ {T : Type 0} where
           slot = slot_is;
           sight = look_is;
           each = λ q. subst (λ (x : Sight T). TiedPlace ph x q (with_place w.places p place q) (new.calls q)) look_is
-              (each_with (λ (q : ℕ) (place : Place T) (c : Option (Progress T)). TiedPlace ph look q place (sees look c)) w.places s.calls p place (Some (record k { answer = Some a }))
+              (each_with (λ (q : ℕ) (place : Place T) (c : Option (Progress T)). TiedPlace ph look q place (sees look c)) w.places s.calls
+              p place (Some (record k { answer = Some a }))
               (here look)
-              (λ q other. tied_sees tied.phase ph (sight_of tied.shut tied.phase) look q (w.places q) (s.calls q) (keep q other) (tied.each q)) q);
+              (λ q other. tied_sees tied.phase ph (sight_of tied.shut tied.phase) look q (w.places q) (s.calls q) (keep q other)
+              (tied.each q)) q);
         },
       )
 
-  hit_by : (w : SingleWorld T) (s : Scene T) (p : ℕ) (call : Call T) (old new : ℕ) (tied : Tied w s) (k : Progress T) → s.calls p ≡ Some k → k.call ≡ call → k.answer ≡ None
+  hit_by : (w : SingleWorld T) (s : Scene T) (p : ℕ) (call : Call T) (old new : ℕ) (tied : Tied w s) (k : Progress T) → s.calls p ≡ Some k
+      → k.call ≡ call → k.answer ≡ None
       → Exchanges call old new → w.word ≡ old
-      → Goes w s (turn_moments p call w.slot (turn_of call (Exchange old new) w.word)) (record { word = new; slot = w.slot; places = with_place w.places p (placed call (turn_of call (Exchange old new) w.word)) })
+      → Goes w s (turn_moments p call w.slot (turn_of call (Exchange old new) w.word))
+      (record { word = new; slot = w.slot; places = with_place w.places p (placed call (turn_of call (Exchange old new) w.word)) })
   hit_by w s p call old new tied k at of none ex is =
       let h = hits call tied.shut tied.phase p old new ex (sym tied.word ∙ is) in
       let before = content tied.phase in
       let ph : Phase T = held p before (stored call before) false in
       let a = answer_of call h.reply before in
       let turn_is : turn_of call (Exchange old new) w.word ≡ Unlock h.reply = ap (turn_of call (Exchange old new)) is ∙ h.turn in
-      subst (λ (t : Turn). Goes w s (turn_moments p call w.slot t) (record { word = new; slot = w.slot; places = with_place w.places p (placed call t) })) (sym turn_is)
-      (subst (λ (o : Option T). Goes w s (Does p (answer_of call h.reply o) ∷ []) (record { word = new; slot = w.slot; places = with_place w.places p (Inside call h.reply) })) (sym tied.slot)
+      subst (λ (t : Turn). Goes w s (turn_moments p call w.slot t)
+      (record { word = new; slot = w.slot; places = with_place w.places p (placed call t) })) (sym turn_is)
+      (subst (λ (o : Option T). Goes w s (Does p (answer_of call h.reply o) ∷ [])
+      (record { word = new; slot = w.slot; places = with_place w.places p (Inside call h.reply) })) (sym tied.slot)
       (acts_by w s p tied k a new (Inside call h.reply) tied.shut ph at none
       (subst (λ (x : Call T). Acts (sight_of tied.shut tied.phase).queue x a (sight_of tied.shut ph).queue) (sym of) h.acts)
       h.word tied.slot (λ q other. free_keeps q before tied.phase ph h.was_free)
@@ -240,17 +273,27 @@ module _ {T : Type 0} where
   same_phase : (q : ℕ) (ph : Phase T) → Keeps q ph ph
   same_phase q ph b a d e = refl
 
-  close_by : (w : SingleWorld T) (s : Scene T) (p : ℕ) (tied : Tied w s) (k : Progress T) → s.calls p ≡ Some k → k.call ≡ Close → k.answer ≡ None
+  close_by : (w : SingleWorld T) (s : Scene T) (p : ℕ) (tied : Tied w s) (k : Progress T) → s.calls p ≡ Some k → k.call ≡ Close
+      → k.answer ≡ None
       → Goes w s (Does p (WasClosed (nat_lt w.word 4)) ∷ []) (moved w p Close CloseTurn)
   close_by w s p tied k at of none =
-      acts_by w s p tied k (WasClosed (nat_lt w.word 4)) (word_after CloseTurn w.word) (placed Close (turn_of {T = T} Close CloseTurn w.word)) true tied.phase at none
-      (subst (λ (x : Call T). Acts (sight_of tied.shut tied.phase).queue x (WasClosed (nat_lt w.word 4)) (sight_of true tied.phase).queue) (sym of)
+      acts_by w s p tied k (WasClosed (nat_lt w.word 4)) (word_after CloseTurn w.word)
+      (placed Close (turn_of {T = T} Close CloseTurn w.word)) true tied.phase at none
+      (subst (λ (x : Call T). Acts (sight_of tied.shut tied.phase).queue x (WasClosed (nat_lt w.word 4)) (sight_of true tied.phase).queue)
+      (sym of)
       (ap (λ (n : ℕ). nat_lt n 4) tied.word ∙ open_word tied.shut tied.phase, refl))
       (ap (word_after CloseTurn) tied.word ∙ closed_word tied.shut tied.phase) tied.slot (λ q other. same_phase q tied.phase)
-      (λ look. (record k { answer = Some (WasClosed (nat_lt w.word 4)); seen = look ∷ k.seen }, refl, of, (k.seen, refl), told_yes (nat_lt w.word 4) (λ b. WasClosed b)))
+      (λ look. (
+        record k { answer = Some (WasClosed (nat_lt w.word 4)); seen = look ∷ k.seen },
+        refl,
+        of,
+        (k.seen, refl),
+        told_yes (nat_lt w.word 4) (λ b. WasClosed b),
+      ))
 
   -- a call ends, and its party has the slot no more
-  ends_by : (w : SingleWorld T) (s : Scene T) (p : ℕ) (tied : Tied w s) (k : Progress T) (a : Answer T) (word : ℕ) (ph : Phase T) → s.calls p ≡ Some k → MayEnd k k.answer a
+  ends_by : (w : SingleWorld T) (s : Scene T) (p : ℕ) (tied : Tied w s) (k : Progress T) (a : Answer T) (word : ℕ) (ph : Phase T)
+      → s.calls p ≡ Some k → MayEnd k k.answer a
       → word ≡ word_of tied.shut ph → w.slot ≡ content ph → item ph ≡ item tied.phase → ((q : ℕ) → q ≢ p → Keeps q tied.phase ph)
       → Goes w s (Ends p a ∷ []) (record { word = word; slot = w.slot; places = with_place w.places p Away })
   ends_by w s p tied k a word ph at may word_is slot_is item_is keep =
@@ -266,25 +309,35 @@ module _ {T : Type 0} where
           sight = tied.sight ∙ sym same;
           each = λ q. subst (λ (x : Sight T). TiedPlace ph x q (with_place w.places p Away q) (with_call s.calls p None q)) (sym same)
               (each_with (TiedPlace ph (sight_of tied.shut tied.phase)) w.places s.calls p Away None refl
-              (λ q other. tied_stays tied.phase ph (sight_of tied.shut tied.phase) q (w.places q) (s.calls q) (keep q other) (tied.each q)) q);
+              (λ q other. tied_stays tied.phase ph (sight_of tied.shut tied.phase) q (w.places q) (s.calls q) (keep q other) (tied.each q))
+              q);
         },
       )
 
-  exchange_by : (w : SingleWorld T) (s : Scene T) (p : ℕ) (call : Call T) (old new : ℕ) (tied : Tied w s) → w.places p ≡ Stands call (Exchange old new) → (k : Progress T)
-      → s.calls p ≡ Some k → k.call ≡ call → ((older : List (Sight T)) × (k.seen ≡ sight_of tied.shut tied.phase ∷ older)) → LooksFirst call → Exchanges call old new → k.answer ≡ None
+  exchange_by : (w : SingleWorld T) (s : Scene T) (p : ℕ) (call : Call T) (old new : ℕ) (tied : Tied w s)
+      → w.places p ≡ Stands call (Exchange old new) → (k : Progress T)
+      → s.calls p ≡ Some k → k.call ≡ call → ((older : List (Sight T)) × (k.seen ≡ sight_of tied.shut tied.phase ∷ older))
+      → LooksFirst call → Exchanges call old new → k.answer ≡ None
       → Goes w s (turn_moments p call w.slot (turn_of call (Exchange old new) w.word)) (moved w p call (Exchange old new))
   exchange_by w s p call old new tied is k at of seen looking ex none = by (w.word == old) refl
     where
-      by : (b : Bool) → (w.word == old) ≡ b → Goes w s (turn_moments p call w.slot (turn_of call (Exchange old new) w.word)) (moved w p call (Exchange old new))
-      by true e = subst (λ (n : ℕ). Goes w s (turn_moments p call w.slot (turn_of call (Exchange old new) w.word)) (record { word = n; slot = w.slot; places = with_place w.places p (placed call (turn_of call (Exchange old new) w.word)) }))
+      by : (b : Bool) → (w.word == old) ≡ b
+          → Goes w s (turn_moments p call w.slot (turn_of call (Exchange old new) w.word)) (moved w p call (Exchange old new))
+      by true e = subst
+          (λ (n : ℕ). Goes w s (turn_moments p call w.slot (turn_of call (Exchange old new) w.word))
+          (record { word = n; slot = w.slot; places = with_place w.places p (placed call (turn_of call (Exchange old new) w.word)) }))
           (sym (ap (λ (b : Bool). if b then new else w.word) e))
           (hit_by w s p call old new tied k at of none ex (is_party w.word old e))
-      by false e = subst (λ (n : ℕ). Goes w s (turn_moments p call w.slot (turn_of call (Exchange old new) w.word)) (record { word = n; slot = w.slot; places = with_place w.places p (placed call (turn_of call (Exchange old new) w.word)) }))
+      by false e =
+          subst (λ (n : ℕ). Goes w s (turn_moments p call w.slot (turn_of call (Exchange old new) w.word))
+          (record { word = n; slot = w.slot; places = with_place w.places p (placed call (turn_of call (Exchange old new) w.word)) }))
           (sym (ap (λ (b : Bool). if b then new else w.word) e))
-          (looked_by w s p call (Exchange old new) (turn_of call (Exchange old new) w.word) tied is looking k at of seen none (misses call old new w.word ex e))
+          (looked_by w s p call (Exchange old new) (turn_of call (Exchange old new) w.word) tied is looking k at of seen none
+          (misses call old new w.word ex e))
 
   -- the step in the slot
-  inside_by : (w : SingleWorld T) (s : Scene T) (p : ℕ) (call : Call T) (r : Reply) (tied : Tied w s) (k : Progress T) → s.calls p ≡ Some k → (before : Option T)
+  inside_by : (w : SingleWorld T) (s : Scene T) (p : ℕ) (call : Call T) (r : Reply) (tied : Tied w s) (k : Progress T) → s.calls p ≡ Some k
+      → (before : Option T)
       → k.answer ≡ Some (answer_of call r before) → tied.phase ≡ held p before (stored call before) false
       → Goes w s [] (record { word = w.word; slot = stored call w.slot; places = with_place w.places p (Leaving call r w.slot) })
   inside_by w s p call r tied k at before told is =
@@ -303,14 +356,16 @@ module _ {T : Type 0} where
           each = λ q. subst (λ (x : Sight T). TiedPlace ph x q (with_place w.places p (Leaving call r w.slot) q) (s.calls q)) same
               (each_at (TiedPlace ph (sight_of tied.shut tied.phase)) w.places s.calls p (Leaving call r w.slot)
               (k, at, told ∙ ap (λ (o : Option T). Some (answer_of call r o)) (sym had), (before, after, refl))
-              (λ q other. tied_stays tied.phase ph (sight_of tied.shut tied.phase) q (w.places q) (s.calls q) (other_keeps q p before after false tied.phase ph other is) (tied.each q)) q);
+              (λ q other. tied_stays tied.phase ph (sight_of tied.shut tied.phase) q (w.places q) (s.calls q)
+              (other_keeps q p before after false tied.phase ph other is) (tied.each q)) q);
         },
       )
 
   own_answer : (k : Progress T) (a : Answer T) → k.answer ≡ Some a → MayEnd k k.answer a
   own_answer k a told = subst (λ (o : Option (Answer T)). MayEnd k o a) (sym told) refl
 
-  leaving_by : (w : SingleWorld T) (s : Scene T) (p : ℕ) (call : Call T) (r : Reply) (o : Option T) (tied : Tied w s) (k : Progress T) → s.calls p ≡ Some k → (before after : Option T)
+  leaving_by : (w : SingleWorld T) (s : Scene T) (p : ℕ) (call : Call T) (r : Reply) (o : Option T) (tied : Tied w s) (k : Progress T)
+      → s.calls p ≡ Some k → (before after : Option T)
       → k.answer ≡ Some (answer_of call r o) → tied.phase ≡ held p before after true
       → Goes w s (Ends p (answer_of call r o) ∷ []) (record { word = w.word - 1; slot = w.slot; places = with_place w.places p Away })
   leaving_by w s p call r o tied k at before after told is =
@@ -319,17 +374,23 @@ module _ {T : Type 0} where
       (tied.slot ∙ ap content is) (sym (ap item is)) (λ q other. other_keeps q p before after true tied.phase (free after) other is)
 
   -- a call that stands before a step on the word
-  stands_by : (w : SingleWorld T) (s : Scene T) (p : ℕ) (call : Call T) (t : Turn) (tied : Tied w s) → w.places p ≡ Stands call t → (k : Progress T) → s.calls p ≡ Some k → k.call ≡ call
-      → ((older : List (Sight T)) × (k.seen ≡ sight_of tied.shut tied.phase ∷ older)) → Ready call t k → Goes w s (go_moments w p (Stands call t)) (gone w p (Stands call t))
-  stands_by w s p call Look tied is k at of seen ready = looked_by w s p call Look (turn_of call Look w.word) tied is ready.0 k at of seen ready.1 refl
-  stands_by w s p call (Exchange old new) tied is k at of seen ready = exchange_by w s p call old new tied is k at of seen ready.0 ready.1 ready.2
+  stands_by : (w : SingleWorld T) (s : Scene T) (p : ℕ) (call : Call T) (t : Turn) (tied : Tied w s) → w.places p ≡ Stands call t
+      → (k : Progress T) → s.calls p ≡ Some k → k.call ≡ call
+      → ((older : List (Sight T)) × (k.seen ≡ sight_of tied.shut tied.phase ∷ older)) → Ready call t k
+      → Goes w s (go_moments w p (Stands call t)) (gone w p (Stands call t))
+  stands_by w s p call Look tied is k at of seen ready =
+      looked_by w s p call Look (turn_of call Look w.word) tied is ready.0 k at of seen ready.1 refl
+  stands_by w s p call (Exchange old new) tied is k at of seen ready =
+      exchange_by w s p call old new tied is k at of seen ready.0 ready.1 ready.2
   stands_by w s p call (Unlock r) tied is k at of seen ready = absurd ready
   stands_by w s p call (End r) tied is k at of seen ready =
       ends_by w s p tied k (answer_of call r None) w.word tied.phase at ready tied.word tied.slot refl (λ q other. same_phase q tied.phase)
   stands_by w s p call CloseTurn tied is k at of seen ready =
-      subst (λ (x : Call T). Goes w s (go_moments w p (Stands x CloseTurn)) (gone w p (Stands x CloseTurn))) (sym ready.0) (close_by w s p tied k at (of ∙ ready.0) ready.1)
+      subst (λ (x : Call T). Goes w s (go_moments w p (Stands x CloseTurn)) (gone w p (Stands x CloseTurn))) (sym ready.0)
+      (close_by w s p tied k at (of ∙ ready.0) ready.1)
 
-  go_by : (w : SingleWorld T) (s : Scene T) (p : ℕ) (place : Place T) → Tied w s → w.places p ≡ place → Goes w s (go_moments w p place) (gone w p place)
+  go_by : (w : SingleWorld T) (s : Scene T) (p : ℕ) (place : Place T) → Tied w s → w.places p ≡ place
+      → Goes w s (go_moments w p place) (gone w p place)
   go_by w s p Away tied is = (s, refl, tied)
   go_by w s p (Stands call t) tied is =
       let k = subst (λ (x : Place T). TiedPlace tied.phase (sight_of tied.shut tied.phase) p x (s.calls p)) is (tied.each p) in

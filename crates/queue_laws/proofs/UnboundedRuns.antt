@@ -1,5 +1,6 @@
 -- Every list of steps on a chain is a run of the closable queue.
-use Rattle.std.proofs.Common.{◌≡◌, inl, inr, ◌↔◌, ℕ, ◌+◌, ◌%◌, ◌<◌, ◌≤◌, List, [], ◌∷◌, ◌++◌, length, Bool, true, false, nat_le, IsTrue, Option, Some, None, Ok, Err, ◌==◌, if◌then◌else◌, sym, refl, ap, ◌∙◌, subst, arith}
+use Rattle.std.proofs.Common.{◌≡◌, inl, inr, ◌↔◌, ℕ, ◌+◌, ◌%◌, ◌<◌, ◌≤◌, List, [], ◌∷◌, ◌++◌, length, Bool, true, false, nat_le, IsTrue}
+use Rattle.std.proofs.Common.{Option, Some, None, Ok, Err, ◌==◌, if◌then◌else◌, sym, refl, ap, ◌∙◌, subst, arith}
 use Rattle.std.proofs.lemmas.Bool.Decides.{nat_tests}
 use Rattle.queue_steps.specs.declared.errors.PushError.TheVariants.{Closed as ClosedToPush}
 use Rattle.queue_steps.specs.declared.errors.ForcePushError.TheVariants.{Closed as ClosedToForce}
@@ -8,11 +9,14 @@ use Rattle.queue_steps.specs.declared.steps.unbounded.Turn.{Turn}
 use Rattle.queue_steps.specs.declared.steps.unbounded.Turn.TheVariants.{Append, Link, Take, Unlink, Spend, End, Close as CloseTurn}
 use Rattle.queue_steps.specs.declared.steps.unbounded.Ends.{Ends}
 use Rattle.queue_steps.specs.ClosableQueue.{ClosableQueue, most_accepted}
-use Rattle.queue_steps.specs.Calls.{Call, Push, ForcePush, Pop, Close, Len, IsEmptyCall, IsFullCall, IsClosedCall, Answer, Pushed, ForcePushed, Popped, Acts}
+use Rattle.queue_steps.specs.Calls.{Call, Push, ForcePush, Pop, Close, Len, IsEmptyCall, IsFullCall, IsClosedCall, Answer, Pushed}
+use Rattle.queue_steps.specs.Calls.{ForcePushed, Popped, Acts}
 use Rattle.queue_laws.specs.Moments.{Moment, Scene, Sight, Progress, Run, sees, becomes, answers, with_call, MayBeside, MayEnd, IsFromOther}
 use Rattle.queue_steps.specs.Unbounded.{joined, IsLaid, UnboundedAtRest, chain_queue}
 use Rattle.queue_steps.specs.UnboundedTurns.{push_turn, pop_turn, close_turn, ends_after}
-use Rattle.queue_laws.specs.UnboundedSteps.{Place, Away, Calls, Returns, UnboundedWorld, Step, Begin, Go, Section, section, push_section, pop_section, take_section, unlink_section, with_place, stepped, gone, begun, begin_moments, go_moments, moments, run, trace, new_chain, new_scene, IsClosableQueue}
+use Rattle.queue_laws.specs.UnboundedSteps.{Place, Away, Calls, Returns, UnboundedWorld, Step, Begin, Go, Section, section, push_section}
+use Rattle.queue_laws.specs.UnboundedSteps.{pop_section, take_section, unlink_section, with_place, stepped, gone, begun, begin_moments}
+use Rattle.queue_laws.specs.UnboundedSteps.{go_moments, moments, run, trace, new_chain, new_scene, IsClosableQueue}
 use Rattle.queue_steps.proofs.UnboundedLemmas.{append_is, link_is, blocks_there, rests_appended, rests_linked, queue_appended, queue_linked}
 
 spend_is : (e : Ends) → Spend ≡ push_turn e → (e.closed ≡ false) × (most_accepted ≤ e.tail)
@@ -44,8 +48,10 @@ module _ {T : Type 0} where
       let k = link_is e is in
       (((k.0, tt, k.1), queue_linked e bs x), rests_linked e bs None None x s k.1 k.2 s.spare_is_empty)
   push_by Spend e bs x s is =
-      let k = spend_is e is in
-      ((inr (k.0, (let f = s.few in let g = k.1 in omega arith), refl), (λ _. tt), refl), record { few = s.few; held = s.held; laid = s.laid; spare_is_empty = s.spare_is_empty })
+      let k = spend_is e is in (
+        (inr (k.0, (let f = s.few in let g = k.1 in omega arith), refl), (λ _. tt), refl),
+        record { few = s.few; held = s.held; laid = s.laid; spare_is_empty = s.spare_is_empty },
+      )
   push_by (End r) e bs x s is = ((inl (refused_is e r is, refl), (λ _. tt), refl), s)
   push_by Take e bs x s is = absurd (grind (arith, nat_tests))
   push_by Unlink e bs x s is = absurd (grind (arith, nat_tests))
@@ -60,8 +66,10 @@ module _ {T : Type 0} where
       let k = link_is e is in
       (((k.0, tt, k.1), queue_linked e bs x), rests_linked e bs None None x s k.1 k.2 s.spare_is_empty)
   force_by Spend e bs x s is =
-      let k = spend_is e is in
-      ((inr (k.0, (let f = s.few in let g = k.1 in omega arith), refl), refl), record { few = s.few; held = s.held; laid = s.laid; spare_is_empty = s.spare_is_empty })
+      let k = spend_is e is in (
+        (inr (k.0, (let f = s.few in let g = k.1 in omega arith), refl), refl),
+        record { few = s.few; held = s.held; laid = s.laid; spare_is_empty = s.spare_is_empty },
+      )
   force_by (End r) e bs x s is = ((inl (refused_is e r is, refl), refl), s)
   force_by Take e bs x s is = absurd (grind (arith, nat_tests))
   force_by Unlink e bs x s is = absurd (grind (arith, nat_tests))
@@ -73,7 +81,8 @@ module _ {T : Type 0} where
   laid_taken from y b (c ∷ bs) to laid = (omega (arith, laid.0), laid.1)
 
   -- the first block is used up
-  laid_unlinked : (y : T) (b : List T) (bs : List (List T)) (to : ℕ) → to ≤ 31 → IsLaid 30 ((y ∷ b) ∷ bs) to → (length b ≡ 0) × IsLaid 0 bs to
+  laid_unlinked : (y : T) (b : List T) (bs : List (List T)) (to : ℕ) → to ≤ 31 → IsLaid 30 ((y ∷ b) ∷ bs) to
+      → (length b ≡ 0) × IsLaid 0 bs to
   laid_unlinked y b [] to near laid = (omega arith, refl)
   laid_unlinked y b (c ∷ bs) to near laid = (omega (arith, laid.0), laid.1)
 
@@ -86,26 +95,38 @@ module _ {T : Type 0} where
   laid_empty_first from [] to near laid = refl
   laid_empty_first from (c ∷ bs) to near laid = absurd (let whole = laid.0 in omega arith)
 
-  take_by : (e : Ends) (bs : List (List T)) → UnboundedAtRest e bs None → e.head < e.tail → e.head % 31 < 30 → SectionIs e bs Pop (take_section e bs)
+  take_by : (e : Ends) (bs : List (List T)) → UnboundedAtRest e bs None → e.head < e.tail → e.head % 31 < 30
+      → SectionIs e bs Pop (take_section e bs)
   take_by e [] s some near = absurd (let held = s.held in omega arith)
-  take_by e ([] ∷ bs) s some near = absurd (let held = s.held in let none = laid_empty_first (e.head % 31) bs ((e.tail + 30) % 31 + 1) (omega arith) s.laid in omega arith)
+  take_by e ([] ∷ bs) s some near =
+      absurd (let held = s.held in let none = laid_empty_first (e.head % 31) bs ((e.tail + 30) % 31 + 1) (omega arith) s.laid in
+      omega arith)
   take_by e ((y ∷ b) ∷ bs) s some near = (
     (refl, refl),
     record {
       few = s.few;
       held = let held = s.held in omega arith;
-      laid = subst (λ (k : ℕ). IsLaid k (b ∷ bs) ((e.tail + 30) % 31 + 1)) (omega arith) (laid_taken (e.head % 31) y b bs ((e.tail + 30) % 31 + 1) s.laid);
+      laid = subst (λ (k : ℕ). IsLaid k (b ∷ bs) ((e.tail + 30) % 31 + 1)) (omega arith)
+          (laid_taken (e.head % 31) y b bs ((e.tail + 30) % 31 + 1) s.laid);
       spare_is_empty = s.spare_is_empty;
     },
   )
 
-  unlink_by : (e : Ends) (bs : List (List T)) → UnboundedAtRest e bs None → e.head < e.tail → e.head % 31 ≡ 30 → SectionIs e bs Pop (unlink_section e bs)
+  unlink_by : (e : Ends) (bs : List (List T)) → UnboundedAtRest e bs None → e.head < e.tail → e.head % 31 ≡ 30
+      → SectionIs e bs Pop (unlink_section e bs)
   unlink_by e [] s some last = absurd (let held = s.held in omega arith)
-  unlink_by e ([] ∷ bs) s some last = absurd (let held = s.held in let none = laid_empty_first (e.head % 31) bs ((e.tail + 30) % 31 + 1) (omega arith) s.laid in omega arith)
+  unlink_by e ([] ∷ bs) s some last =
+      absurd (let held = s.held in let none = laid_empty_first (e.head % 31) bs ((e.tail + 30) % 31 + 1) (omega arith) s.laid in
+      omega arith)
   unlink_by e ((y ∷ b) ∷ bs) s some last =
-      let k = laid_unlinked y b bs ((e.tail + 30) % 31 + 1) (omega arith) (subst (λ (k : ℕ). IsLaid k ((y ∷ b) ∷ bs) ((e.tail + 30) % 31 + 1)) last s.laid) in
+      let k = laid_unlinked y b bs ((e.tail + 30) % 31 + 1) (omega arith)
+      (subst (λ (k : ℕ). IsLaid k ((y ∷ b) ∷ bs) ((e.tail + 30) % 31 + 1)) last s.laid) in
       let none : b ≡ [] = nothing b k.0 in (
-        (refl, ap (λ (c : List T). record { items = c ++ joined bs; capacity = None; closed = e.closed; accepted = Some e.tail }) (sym none)),
+        (
+          refl,
+          ap (λ (c : List T). record { items = c ++ joined bs; capacity = None; closed = e.closed; accepted = Some e.tail })
+              (sym none),
+        ),
         record {
           few = s.few;
           held = let held = s.held in let l = ap (λ (c : List T). length (c ++ joined bs)) none in omega arith;
@@ -122,7 +143,8 @@ module _ {T : Type 0} where
   pop_by Unlink e bs s is = let k = unlink_is e is in unlink_by e bs s k.0 k.1
   pop_by (End r) e bs s is = (told e.closed refl (empty_by e bs s (nothing_is e r is)), s)
     where
-      told : (b : Bool) → e.closed ≡ b → joined bs ≡ [] → Acts (chain_queue e bs) Pop (Popped (Err (if e.closed then ClosedToPop else EmptyToPop))) (chain_queue e bs)
+      told : (b : Bool) → e.closed ≡ b → joined bs ≡ []
+          → Acts (chain_queue e bs) Pop (Popped (Err (if e.closed then ClosedToPop else EmptyToPop))) (chain_queue e bs)
       told true closed none = rw closed (none, refl, refl)
       told false closed none = rw closed (none, refl, refl)
   pop_by Append e bs s is = absurd (grind (arith, nat_tests))
@@ -130,7 +152,8 @@ module _ {T : Type 0} where
   pop_by Spend e bs s is = absurd (grind (arith, nat_tests))
   pop_by CloseTurn e bs s is = absurd (grind (arith, nat_tests))
 
-  close_by : (b : Bool) (e : Ends) (bs : List (List T)) → UnboundedAtRest e bs None → e.closed ≡ b → SectionIs e bs Close (section e bs Close)
+  close_by : (b : Bool) (e : Ends) (bs : List (List T)) → UnboundedAtRest e bs None → e.closed ≡ b
+      → SectionIs e bs Close (section e bs Close)
   close_by true e bs s closed = (
     (
       refl,
@@ -144,7 +167,8 @@ module _ {T : Type 0} where
       same = rw closed refl
   close_by false e bs s closed = (
     (refl, ap (λ (f : Ends). chain_queue f bs) same),
-    subst (λ (f : Ends). UnboundedAtRest f bs None) (sym same) (record { few = s.few; held = s.held; laid = s.laid; spare_is_empty = s.spare_is_empty }),
+    subst (λ (f : Ends). UnboundedAtRest f bs None) (sym same)
+        (record { few = s.few; held = s.held; laid = s.laid; spare_is_empty = s.spare_is_empty }),
   )
     where
       same : ends_after e (close_turn e) ≡ record e { closed = true }
@@ -160,7 +184,11 @@ module _ {T : Type 0} where
     where
       empty_told : (b : Bool) → nat_le e.tail e.head ≡ b → IsTrue b ↔ (joined bs ≡ [])
       empty_told true told = (λ _. empty_by e bs s (let z : e.tail ≤ e.head = grind (arith, nat_tests) in z), λ _. refl)
-      empty_told false told = (λ yes. absurd (let z : false ≡ true = yes in cc), λ none. absurd (let l = ap length none in let held = s.held in let z : e.head < e.tail = grind (arith, nat_tests) in omega arith))
+      empty_told false told = (
+        λ yes. absurd (let z : false ≡ true = yes in cc),
+        λ none. absurd (let l = ap length none in let held = s.held in let z : e.head < e.tail = grind (arith, nat_tests) in
+            omega arith),
+      )
   section_by e bs IsFullCall s = (((λ yes. absurd (let z : false ≡ true = yes in cc), λ no. absurd no), refl), s)
   section_by e bs IsClosedCall s = ((refl, refl), s)
 
@@ -183,7 +211,8 @@ module _ {T : Type 0} where
 
   -- one party's place and call change together
   tied_with : (places : ℕ → Place T) (calls : ℕ → Option (Progress T)) (p : ℕ) (place : Place T) (c : Option (Progress T))
-      → ((q : ℕ) → TiedCall (places q) (calls q)) → TiedCall place c → (q : ℕ) → TiedCall (with_place places p place q) (with_call calls p c q)
+      → ((q : ℕ) → TiedCall (places q) (calls q)) → TiedCall place c → (q : ℕ)
+      → TiedCall (with_place places p place q) (with_call calls p c q)
   tied_with places calls p place c each tied q = by (q == p)
     where
       by : (b : Bool) → TiedCall (if b then place else places q) (if b then c else calls q)
@@ -210,7 +239,8 @@ module _ {T : Type 0} where
   begin_by w s p call (Calls other) tied is = (s, refl, tied)
   begin_by w s p call (Returns answer) tied is = (s, refl, tied)
 
-  go_by : (w : UnboundedWorld T) (s : Scene T) (p : ℕ) (place : Place T) → Tied w s → w.places p ≡ place → Goes w s (go_moments w p place) (gone w p place)
+  go_by : (w : UnboundedWorld T) (s : Scene T) (p : ℕ) (place : Place T) → Tied w s → w.places p ≡ place
+      → Goes w s (go_moments w p place) (gone w p place)
   go_by w s p Away tied is = (s, refl, tied)
   go_by w s p (Calls call) tied is =
       let k = subst (λ (x : Place T). TiedCall x (s.calls p)) is (tied.each p) in
@@ -228,7 +258,8 @@ module _ {T : Type 0} where
             (
               chain_queue sec.ends sec.blocks,
               subst (λ (q : ClosableQueue T). Acts q k.0.call sec.answer (chain_queue sec.ends sec.blocks)) (sym tied.queue)
-                  (subst (λ (x : Call T). Acts (chain_queue w.ends w.blocks) x sec.answer (chain_queue sec.ends sec.blocks)) (sym k.2) acts.0),
+                  (subst (λ (x : Call T). Acts (chain_queue w.ends w.blocks) x sec.answer (chain_queue sec.ends sec.blocks)) (sym k.2)
+                  acts.0),
               subst (λ (i : Option (ℕ × T)). MayBeside i sec.answer) (sym tied.incoming) tt,
               refl,
             ),
@@ -239,15 +270,27 @@ module _ {T : Type 0} where
           rest = acts.1;
           queue = refl;
           incoming = tied.incoming;
-          each = λ q. tied_sees look (with_place w.places p (Returns sec.answer) q) (with_call s.calls p (Some (record k.0 { answer = Some sec.answer })) q)
-              (tied_with w.places s.calls p (Returns sec.answer) (Some (record k.0 { answer = Some sec.answer })) tied.each (record k.0 { answer = Some sec.answer }, refl, refl) q);
+          each = λ q. tied_sees look (with_place w.places p (Returns sec.answer) q)
+              (with_call s.calls p (Some (record k.0 { answer = Some sec.answer })) q)
+              (tied_with w.places s.calls p (Returns sec.answer) (Some (record k.0 { answer = Some sec.answer })) tied.each
+              (record k.0 { answer = Some sec.answer }, refl, refl) q);
         },
       )
   go_by w s p (Returns a) tied is =
       let k = subst (λ (x : Place T). TiedCall x (s.calls p)) is (tied.each p) in
       let new : Scene T = record s { calls = with_call s.calls p None } in (
         new,
-        (new, (k.0, k.1, subst (λ (o : Option (Answer T)). MayEnd k.0 o a) (sym k.2) refl, subst (λ (i : Option (ℕ × T)). IsFromOther i p) (sym tied.incoming) tt, refl), refl),
+        (
+          new,
+          (
+            k.0,
+            k.1,
+            subst (λ (o : Option (Answer T)). MayEnd k.0 o a) (sym k.2) refl,
+            subst (λ (i : Option (ℕ × T)). IsFromOther i p) (sym tied.incoming) tt,
+            refl,
+          ),
+          refl,
+        ),
         record {
           rest = tied.rest;
           queue = tied.queue;
@@ -280,4 +323,5 @@ module _ {T : Type 0} where
   }
 
   pub a_chain_is_a_queue : (steps : List (Step T)) → IsClosableQueue steps
-  a_chain_is_a_queue steps = let r = runs steps new_chain new_scene new_tied in record { last = r.0; is_run = r.1; queue = r.2.queue; rest = r.2.rest }
+  a_chain_is_a_queue steps = let r = runs steps new_chain new_scene new_tied in
+      record { last = r.0; is_run = r.1; queue = r.2.queue; rest = r.2.rest }

@@ -1,6 +1,7 @@
 -- A single slot on which several parties call, step by step, and the moments that its steps are. A step loads or
 -- exchanges the word, or is done in the slot by the party that has locked it.
-use Rattle.std.specs.Prelude.{ℕ, ◌+◌, ◌-◌, ◌<◌, List, [], ◌∷◌, ◌++◌, Bool, true, false, nat_lt, Option, Some, None, Ok, Err, ◌==◌, if◌then◌else◌}
+use Rattle.std.specs.Prelude.{ℕ, ◌+◌, ◌-◌, ◌<◌, List, [], ◌∷◌, ◌++◌, Bool, true, false, nat_lt, Option, Some, None, Ok, Err, ◌==◌}
+use Rattle.std.specs.Prelude.{if◌then◌else◌}
 use Rattle.queue_steps.specs.declared.errors.PushError.TheVariants.{Full as FullToPush, Closed as ClosedToPush}
 use Rattle.queue_steps.specs.declared.errors.ForcePushError.TheVariants.{Closed as ClosedToForce}
 use Rattle.queue_steps.specs.declared.errors.PopError.TheVariants.{Empty as EmptyToPop, Closed as ClosedToPop}
@@ -9,9 +10,11 @@ use Rattle.queue_steps.specs.declared.steps.single.Turn.TheVariants.{Look, Excha
 use Rattle.queue_steps.specs.declared.steps.Reply.{Reply}
 use Rattle.queue_steps.specs.declared.steps.Reply.TheVariants.{Done, Displaced, Full, Closed, Yes, Length}
 use Rattle.queue_steps.specs.ClosableQueue.{new_queue}
-use Rattle.queue_steps.specs.Calls.{Call, Push, ForcePush, Pop, Close, Len, IsEmptyCall, IsFullCall, IsClosedCall, Answer, Pushed, ForcePushed, Popped, WasClosed, LenIs, EmptyIs, FullIs, ClosedIs}
+use Rattle.queue_steps.specs.Calls.{Call, Push, ForcePush, Pop, Close, Len, IsEmptyCall, IsFullCall, IsClosedCall, Answer, Pushed}
+use Rattle.queue_steps.specs.Calls.{ForcePushed, Popped, WasClosed, LenIs, EmptyIs, FullIs, ClosedIs}
 use Rattle.queue_laws.specs.Moments.{Moment, Begins, Does, Ends, Scene, Run}
-use Rattle.queue_steps.specs.SingleTurns.{push_turn, force_push_turn, pop_turn, close_turn, len_turn, is_empty_turn, is_full_turn, is_closed_turn}
+use Rattle.queue_steps.specs.SingleTurns.{push_turn, force_push_turn, pop_turn, close_turn, len_turn, is_empty_turn, is_full_turn}
+use Rattle.queue_steps.specs.SingleTurns.{is_closed_turn}
 
 -- where a party stands: in no call, before its next step on the word, before its step in the slot, or after that with
 -- what it took out, before it unlocks
@@ -153,10 +156,7 @@ module _ {T : Type 0} where
   -- a call that comes to have the slot acts then
   abbrev pub turn_moments : ℕ → Call T → Option T → Turn → List (Moment T)
   turn_moments p call slot (Unlock r) = Does p (answer_of call r slot) ∷ []
-  turn_moments p call slot Look = []
-  turn_moments p call slot (Exchange old new) = []
-  turn_moments p call slot CloseTurn = []
-  turn_moments p call slot (End r) = []
+  turn_moments p call slot _ = []
 
   abbrev pub go_moments : SingleWorld T → ℕ → Place T → List (Moment T)
   go_moments w p Away = []

@@ -7,7 +7,8 @@ use Rattle.queue_steps.specs.declared.steps.unbounded.Turn.{Turn}
 use Rattle.queue_steps.specs.declared.steps.unbounded.Turn.TheVariants.{Append, Link, Take, Unlink, Spend, End, Close as CloseTurn}
 use Rattle.queue_steps.specs.declared.steps.unbounded.Ends.{Ends}
 use Rattle.queue_steps.specs.ClosableQueue.{new_queue}
-use Rattle.queue_steps.specs.Calls.{Call, Push, ForcePush, Pop, Close, Len, IsEmptyCall, IsFullCall, IsClosedCall, Answer, Pushed, ForcePushed, Popped, WasClosed, LenIs, EmptyIs, FullIs, ClosedIs}
+use Rattle.queue_steps.specs.Calls.{Call, Push, ForcePush, Pop, Close, Len, IsEmptyCall, IsFullCall, IsClosedCall, Answer, Pushed}
+use Rattle.queue_steps.specs.Calls.{ForcePushed, Popped, WasClosed, LenIs, EmptyIs, FullIs, ClosedIs}
 use Rattle.queue_laws.specs.Moments.{Moment, Begins, Does, Ends as EndsCall, Scene, Run}
 use Rattle.queue_steps.specs.Unbounded.{onto_last, chain_queue, UnboundedAtRest}
 use Rattle.queue_steps.specs.UnboundedTurns.{push_turn, pop_turn, close_turn, ends_after}

@@ -1,5 +1,7 @@
 -- Where a lone call on a ring comes to by looking.
-use Rattle.std.proofs.Common.{◌≡◌, ◌⊎◌, inl, inr, ℕ, ◌+◌, ◌*◌, ◌%◌, ◌<◌, List, slice_index_or, None, if◌then◌else◌, nat_lt, ◌==◌, Bool, true, false, not, sym, refl, ap, ◌∙◌, subst, lt_of_not-le, lt-ltb, le-ltb, eq-eqb, ne_eqb, mod-lt, zero-mul, arith}
+use Rattle.std.proofs.Common.{◌≡◌, ◌⊎◌, inl, inr, ℕ, ◌+◌, ◌*◌, ◌%◌, ◌<◌, List, slice_index_or, None, if◌then◌else◌, nat_lt, ◌==◌, Bool}
+use Rattle.std.proofs.Common.{true, false, not, sym, refl, ap, ◌∙◌, subst, lt_of_not-le, lt-ltb, le-ltb, eq-eqb, ne_eqb, mod-lt, zero-mul}
+use Rattle.std.proofs.Common.{arith}
 use mathlib.Core.Logic.{dite}
 use native.Mathlib.Decide.{dec_le}
 use Rattle.std.proofs.lemmas.Bool.Decides.{nat_tests}
@@ -7,11 +9,13 @@ use Rattle.std.proofs.lemmas.List.{get_or_default}
 use native.Mathlib.Nat.{add-mod_right}
 use Rattle.queue_steps.specs.declared.bounded.Slot.{Slot}
 use Rattle.queue_steps.specs.declared.steps.bounded.Turn.{Turn}
-use Rattle.queue_steps.specs.declared.steps.bounded.Turn.TheVariants.{Tail, Head, Stamp, HeadFor, TailFor, Append, Take, Displace, Spend, End}
+use Rattle.queue_steps.specs.declared.steps.bounded.Turn.TheVariants.{Tail, Head, Stamp, HeadFor, TailFor, Append, Take, Displace, Spend}
+use Rattle.queue_steps.specs.declared.steps.bounded.Turn.TheVariants.{End}
 use Rattle.queue_steps.specs.declared.steps.Reply.TheVariants.{Full, Empty, Closed, Yes}
 use Rattle.queue_steps.specs.ClosableQueue.{most_accepted}
 use Rattle.queue_steps.specs.Bounded.{IsShape, word_at, count_at, is_marked}
-use Rattle.queue_steps.specs.BoundedTurns.{answered, pushes_from, appends_at, stamped_for_push, push_turn, displaces_at, force_push_turn, pops_from, stamped_for_pop, pop_turn}
+use Rattle.queue_steps.specs.BoundedTurns.{answered, pushes_from, appends_at, stamped_for_push, push_turn, displaces_at, force_push_turn}
+use Rattle.queue_steps.specs.BoundedTurns.{pops_from, stamped_for_pop, pop_turn}
 use Rattle.queue_steps.specs.BoundedAtRest.{slot_at, BoundedAtRest}
 use Rattle.queue_steps.specs.BoundedEnds.{PushEnds, ForcePushEnds, PopEnds}
 use Rattle.queue_steps.proofs.BoundedWords.{index_of, marked_by, count_of, index_of_word, count_of_word, word_a_lap_on}
@@ -47,10 +51,12 @@ module _ {T : Type 0} (n m tail head : ℕ) (slots : List (Slot T)) (s : IsShape
   unmarked_is unmarked = let once = r.shut_once in let marked = sym tail_marked ∙ unmarked in grind (arith, nat_tests)
 
   -- the first look at the tail
-  pub pushes_first : (t : Turn) → t ≡ pushes_from n m tail → ((t ≡ End Closed) × (is_marked m tail ≡ true)) ⊎ ((t ≡ Stamp tail) × (is_marked m tail ≡ false))
+  pub pushes_first : (t : Turn) → t ≡ pushes_from n m tail
+      → ((t ≡ End Closed) × (is_marked m tail ≡ true)) ⊎ ((t ≡ Stamp tail) × (is_marked m tail ≡ false))
   pushes_first t is = by (is_marked m tail) refl
     where
-      by : (b : Bool) → is_marked m tail ≡ b → ((t ≡ End Closed) × (is_marked m tail ≡ true)) ⊎ ((t ≡ Stamp tail) × (is_marked m tail ≡ false))
+      by : (b : Bool) → is_marked m tail ≡ b
+          → ((t ≡ End Closed) × (is_marked m tail ≡ true)) ⊎ ((t ≡ Stamp tail) × (is_marked m tail ≡ false))
       by true e = inl (is ∙ ap (λ (b : Bool). if b then End Closed else (if nat_lt (tail % m) n then Stamp tail else Tail)) e, e)
       by false e = inr (
         is ∙ ap (λ (b : Bool). if b then End Closed else (if nat_lt (tail % m) n then Stamp tail else Tail)) e
@@ -63,7 +69,9 @@ module _ {T : Type 0} (n m tail head : ℕ) (slots : List (Slot T)) (s : IsShape
   open_tail unmarked = r.tail_is ∙ ap (λ (k : ℕ). word_at n m r.pushed + k * m) (unmarked_is unmarked) ∙ (omega (arith, zero-mul m))
 
   stamp_of : (d : Slot T) (i : ℕ) → i < n → (slice_index_or slots i d).stamp ≡ (slot_at slots i).stamp
-  stamp_of d i near = ap (λ (x : Slot T). x.stamp) (get_or_default slots i d (record { stamp = 0; value = None }) (subst (λ (k : ℕ). i < k) (sym r.wide) near))
+  stamp_of d i near =
+      ap (λ (x : Slot T). x.stamp)
+      (get_or_default slots i d (record { stamp = 0; value = None }) (subst (λ (k : ℕ). i < k) (sym r.wide) near))
 
   -- the stamp at an unmarked tail with a free place, and at one that is a lap ahead of the head
   pub stamp_free : (d : Slot T) → is_marked m tail ≡ false → r.pushed < r.popped + n → (slice_index_or slots (tail % m) d).stamp ≡ tail
@@ -72,12 +80,15 @@ module _ {T : Type 0} (n m tail head : ℕ) (slots : List (Slot T)) (s : IsShape
       ∙ (r.free r.pushed (omega arith) room).0 ∙ sym (open_tail unmarked)
 
   pub a_lap_ahead : is_marked m tail ≡ false → r.pushed ≡ r.popped + n → tail ≡ head + 2 * m
-  a_lap_ahead unmarked full = open_tail unmarked ∙ ap (word_at n m) full ∙ word_a_lap_on n m s r.popped ∙ ap (λ (x : ℕ). x + 2 * m) (sym r.head_is)
+  a_lap_ahead unmarked full = open_tail unmarked ∙ ap (word_at n m) full ∙ word_a_lap_on n m s r.popped
+      ∙ ap (λ (x : ℕ). x + 2 * m) (sym r.head_is)
 
-  pub stamp_full : (d : Slot T) → is_marked m tail ≡ false → r.pushed ≡ r.popped + n → (slice_index_or slots (tail % m) d).stamp + 2 * m ≡ tail + 1
+  pub stamp_full : (d : Slot T) → is_marked m tail ≡ false → r.pushed ≡ r.popped + n
+      → (slice_index_or slots (tail % m) d).stamp + 2 * m ≡ tail + 1
   stamp_full d unmarked full =
       let some : 0 < n = s.some in
-      let stamp = stamp_of d (tail % m) tail_below ∙ ap (λ (i : ℕ). (slot_at slots i).stamp) (tail_index ∙ ap (λ (x : ℕ). x % n) full ∙ add-mod_right r.popped n)
+      let stamp = stamp_of d (tail % m) tail_below
+      ∙ ap (λ (i : ℕ). (slot_at slots i).stamp) (tail_index ∙ ap (λ (x : ℕ). x % n) full ∙ add-mod_right r.popped n)
       ∙ (r.filled r.popped (omega arith) (omega arith)).0 in
       let ahead = a_lap_ahead unmarked full in
       let head_is = r.head_is in
@@ -88,7 +99,8 @@ module _ {T : Type 0} (n m tail head : ℕ) (slots : List (Slot T)) (s : IsShape
       (((t ≡ Spend tail) × (r.pushed < r.popped + n) × (r.pushed ≡ most_accepted)) ⊎ ((t ≡ HeadFor tail) × (r.pushed ≡ r.popped + n)))
 
   -- the second look, at the stamp
-  pub pushes_second : (t : Turn) (d : Slot T) → is_marked m tail ≡ false → t ≡ stamped_for_push n m tail (slice_index_or slots (tail % m) d).stamp → Found t d
+  pub pushes_second : (t : Turn) (d : Slot T) → is_marked m tail ≡ false
+      → t ≡ stamped_for_push n m tail (slice_index_or slots (tail % m) d).stamp → Found t d
   pushes_second t d unmarked is = dite (dec_le (r.popped + n) r.pushed)
       (λ full.
       let whole : r.pushed ≡ r.popped + n = let w = r.within in omega arith in
@@ -99,16 +111,28 @@ module _ {T : Type 0} (n m tail head : ℕ) (slots : List (Slot T)) (s : IsShape
       let room : r.pushed < r.popped + n = lt_of_not-le not in
       let e : t ≡ appends_at n m tail = is ∙ ap (stamped_for_push n m tail) (stamp_free d unmarked room) ∙ same tail in
       dite (dec_le most_accepted r.pushed)
-      (λ spent. inr (inl (e ∙ ap (λ (b : Bool). if b then Append tail else Spend tail) (ap (λ (k : ℕ). nat_lt k most_accepted) tail_count ∙ le-ltb r.pushed most_accepted spent), room, let few = r.few in omega arith)))
+      (λ spent. inr
+      (inl (
+        e ∙ ap (λ (b : Bool). if b then Append tail else Spend tail) (ap (λ (k : ℕ). nat_lt k most_accepted) tail_count
+            ∙ le-ltb r.pushed most_accepted spent),
+        room,
+        let few = r.few in omega arith,
+      )))
       (λ not'. let few : r.pushed < most_accepted = lt_of_not-le not' in
-      inl (e ∙ ap (λ (b : Bool). if b then Append tail else Spend tail) (ap (λ (k : ℕ). nat_lt k most_accepted) tail_count ∙ lt-ltb r.pushed most_accepted few), room, few)))
+      inl (
+        e ∙ ap (λ (b : Bool). if b then Append tail else Spend tail) (ap (λ (k : ℕ). nat_lt k most_accepted) tail_count
+            ∙ lt-ltb r.pushed most_accepted few),
+        room,
+        few,
+      )))
     where
       same : (w : ℕ) → stamped_for_push n m w w ≡ appends_at n m w
       same w = ap (λ (b : Bool). if b then appends_at n m w else (if w + 2 * m == w + 1 then HeadFor w else Tail)) (eq-eqb w w refl)
 
       full_goes : (found : ℕ) → found + 2 * m ≡ tail + 1 → 1 < 2 * m → stamped_for_push n m tail found ≡ HeadFor tail
       full_goes found sum two =
-          ap (λ (b : Bool). if b then appends_at n m tail else (if found + 2 * m == tail + 1 then HeadFor tail else Tail)) (ne_eqb found tail (λ e. absurd (omega arith)))
+          ap (λ (b : Bool). if b then appends_at n m tail else (if found + 2 * m == tail + 1 then HeadFor tail else Tail))
+          (ne_eqb found tail (λ e. absurd (omega arith)))
           ∙ ap (λ (b : Bool). if b then HeadFor tail else Tail) (eq-eqb (found + 2 * m) (tail + 1) sum)
 
   place : r.pushed < r.popped + n → count_at n m tail < count_at n m head + n
@@ -118,14 +142,18 @@ module _ {T : Type 0} (n m tail head : ℕ) (slots : List (Slot T)) (s : IsShape
   no_place full = let t = tail_count in let h = head_count in omega arith
 
   pub closed_first : (t : Turn) → t ≡ pushes_from n m tail → ((w : ℕ) → t ≡ Stamp w → ⊥) → (t ≡ End Closed) × (is_marked m tail ≡ true)
-  closed_first t is not = elim (pushes_first t is) as (λ _. (t ≡ End Closed) × (is_marked m tail ≡ true)) [ inl k ↦ k | inr k ↦ absurd (not tail k.0) ]
+  closed_first t is not =
+      elim (pushes_first t is) as (λ _. (t ≡ End Closed) × (is_marked m tail ≡ true)) [ inl k ↦ k | inr k ↦ absurd (not tail k.0) ]
 
   pub stamp_first : (t : Turn) (w : ℕ) → t ≡ pushes_from n m tail → t ≡ Stamp w → (t ≡ Stamp tail) × (is_marked m tail ≡ false)
-  stamp_first t w is stamp = elim (pushes_first t is) as (λ _. (t ≡ Stamp tail) × (is_marked m tail ≡ false)) [ inl k ↦ absurd (let e = k.0 in cc) | inr k ↦ k ]
+  stamp_first t w is stamp =
+      elim (pushes_first t is) as (λ _. (t ≡ Stamp tail) × (is_marked m tail ≡ false)) [ inl k ↦ absurd (let e = k.0 in cc) | inr k ↦ k ]
 
   -- what a push and a forced push found at the stamp
-  pub found_by : (step : Turn → ℕ → Turn) (t u : Turn) (w i : ℕ) (d : Slot T) → ((k : ℕ) → step (Stamp tail) k ≡ stamped_for_push n m tail k)
-      → t ≡ pushes_from n m tail → t ≡ Stamp w → i ≡ tail % m → u ≡ step t (slice_index_or slots i d).stamp → Found u d × (is_marked m tail ≡ false)
+  pub found_by : (step : Turn → ℕ → Turn) (t u : Turn) (w i : ℕ) (d : Slot T)
+      → ((k : ℕ) → step (Stamp tail) k ≡ stamped_for_push n m tail k)
+      → t ≡ pushes_from n m tail → t ≡ Stamp w → i ≡ tail % m → u ≡ step t (slice_index_or slots i d).stamp
+      → Found u d × (is_marked m tail ≡ false)
   found_by step t u w i d same is stamp at next =
       let k = stamp_first t w is stamp in (
         pushes_second u d k.1 (next ∙ ap (λ (t : Turn). step t (slice_index_or slots i d).stamp) k.0 ∙ same (slice_index_or slots i d).stamp
@@ -133,9 +161,15 @@ module _ {T : Type 0} (n m tail head : ℕ) (slots : List (Slot T)) (s : IsShape
         k.1,
       )
 
-  pub push_second : (u : Turn) (d : Slot T) → Found u d → is_marked m tail ≡ false → ((w : ℕ) → u ≡ HeadFor w → ⊥) → PushEnds n m tail head u
+  pub push_second : (u : Turn) (d : Slot T) → Found u d → is_marked m tail ≡ false → ((w : ℕ) → u ≡ HeadFor w → ⊥)
+      → PushEnds n m tail head u
   push_second u d found unmarked not = elim found as (λ _. PushEnds n m tail head u) [
-    | inl k ↦ subst (PushEnds n m tail head) (sym k.0) (refl, unmarked, place k.1, subst (λ (x : ℕ). x < most_accepted) (sym tail_count) k.2)
+    | inl k ↦ subst (PushEnds n m tail head) (sym k.0) (
+      refl,
+      unmarked,
+      place k.1,
+      subst (λ (x : ℕ). x < most_accepted) (sym tail_count) k.2,
+    )
     | inr k ↦ elim k as (λ _. PushEnds n m tail head u) [
       | inl l ↦ subst (PushEnds n m tail head) (sym l.0) (refl, unmarked, place l.1, tail_count ∙ l.2)
       | inr l ↦ absurd (not tail l.0)
@@ -152,14 +186,23 @@ module _ {T : Type 0} (n m tail head : ℕ) (slots : List (Slot T)) (s : IsShape
   behind_by_a_lap : is_marked m tail ≡ false → r.pushed ≡ r.popped + n → (head + 2 * m == tail) ≡ true
   behind_by_a_lap unmarked full = eq-eqb (head + 2 * m) tail (sym (a_lap_ahead unmarked full))
 
-  pub push_third : (u v : Turn) (d : Slot T) (w : ℕ) → Found u d → is_marked m tail ≡ false → u ≡ HeadFor w → v ≡ push_turn n m u head → PushEnds n m tail head v
+  pub push_third : (u v : Turn) (d : Slot T) (w : ℕ) → Found u d → is_marked m tail ≡ false → u ≡ HeadFor w → v ≡ push_turn n m u head
+      → PushEnds n m tail head v
   push_third u v d w found unmarked is next =
       let k = full_second u d w found is in
-      subst (PushEnds n m tail head) (sym (next ∙ ap (λ (t : Turn). push_turn n m t head) k.0 ∙ ap (λ (b : Bool). if b then End Full else Tail) (behind_by_a_lap unmarked k.1))) (unmarked, no_place k.1)
+      subst (PushEnds n m tail head)
+      (sym (next ∙ ap (λ (t : Turn). push_turn n m t head) k.0
+      ∙ ap (λ (b : Bool). if b then End Full else Tail) (behind_by_a_lap unmarked k.1))) (unmarked, no_place k.1)
 
-  pub force_push_second : (u : Turn) (d : Slot T) → Found u d → is_marked m tail ≡ false → ((w : ℕ) → u ≡ HeadFor w → ⊥) → ForcePushEnds n m tail head u
+  pub force_push_second : (u : Turn) (d : Slot T) → Found u d → is_marked m tail ≡ false → ((w : ℕ) → u ≡ HeadFor w → ⊥)
+      → ForcePushEnds n m tail head u
   force_push_second u d found unmarked not = elim found as (λ _. ForcePushEnds n m tail head u) [
-    | inl k ↦ subst (ForcePushEnds n m tail head) (sym k.0) (refl, unmarked, place k.1, subst (λ (x : ℕ). x < most_accepted) (sym tail_count) k.2)
+    | inl k ↦ subst (ForcePushEnds n m tail head) (sym k.0) (
+      refl,
+      unmarked,
+      place k.1,
+      subst (λ (x : ℕ). x < most_accepted) (sym tail_count) k.2,
+    )
     | inr k ↦ elim k as (λ _. ForcePushEnds n m tail head u) [
       | inl l ↦ subst (ForcePushEnds n m tail head) (sym l.0) (refl, unmarked, tail_count ∙ l.2)
       | inr l ↦ absurd (not tail l.0)
@@ -169,17 +212,21 @@ module _ {T : Type 0} (n m tail head : ℕ) (slots : List (Slot T)) (s : IsShape
   displaces : is_marked m tail ≡ false → r.pushed ≡ r.popped + n → (v : Turn) → v ≡ displaces_at n m tail → ForcePushEnds n m tail head v
   displaces unmarked full v is = dite (dec_le most_accepted r.pushed)
       (λ spent. subst (ForcePushEnds n m tail head)
-      (sym (is ∙ ap (λ (b : Bool). if b then Displace tail else Spend tail) (ap (λ (k : ℕ). nat_lt k most_accepted) tail_count ∙ le-ltb r.pushed most_accepted spent)))
+      (sym (is ∙ ap (λ (b : Bool). if b then Displace tail else Spend tail) (ap (λ (k : ℕ). nat_lt k most_accepted) tail_count
+      ∙ le-ltb r.pushed most_accepted spent)))
       (refl, unmarked, let few = r.few in let t = tail_count in omega arith))
       (λ not. let few : r.pushed < most_accepted = lt_of_not-le not in
       subst (ForcePushEnds n m tail head)
-      (sym (is ∙ ap (λ (b : Bool). if b then Displace tail else Spend tail) (ap (λ (k : ℕ). nat_lt k most_accepted) tail_count ∙ lt-ltb r.pushed most_accepted few)))
+      (sym (is ∙ ap (λ (b : Bool). if b then Displace tail else Spend tail) (ap (λ (k : ℕ). nat_lt k most_accepted) tail_count
+      ∙ lt-ltb r.pushed most_accepted few)))
       (refl, unmarked, no_place full, subst (λ (x : ℕ). x < most_accepted) (sym tail_count) few))
 
-  pub force_push_third : (u v : Turn) (d : Slot T) (w : ℕ) → Found u d → is_marked m tail ≡ false → u ≡ HeadFor w → v ≡ force_push_turn n m u head → ForcePushEnds n m tail head v
+  pub force_push_third : (u v : Turn) (d : Slot T) (w : ℕ) → Found u d → is_marked m tail ≡ false → u ≡ HeadFor w
+      → v ≡ force_push_turn n m u head → ForcePushEnds n m tail head v
   force_push_third u v d w found unmarked is next =
       let k = full_second u d w found is in
-      displaces unmarked k.1 v (next ∙ ap (λ (t : Turn). force_push_turn n m t head) k.0 ∙ ap (λ (b : Bool). if b then displaces_at n m tail else Tail) (behind_by_a_lap unmarked k.1))
+      displaces unmarked k.1 v (next ∙ ap (λ (t : Turn). force_push_turn n m t head) k.0
+      ∙ ap (λ (b : Bool). if b then displaces_at n m tail else Tail) (behind_by_a_lap unmarked k.1))
 
   pub pops_first : (t : Turn) → t ≡ pops_from n m head → t ≡ Stamp head
   pops_first t is = is ∙ ap (λ (b : Bool). if b then Stamp head else Head) (lt-ltb (head % m) n head_below)
@@ -207,7 +254,8 @@ module _ {T : Type 0} (n m tail head : ℕ) (slots : List (Slot T)) (s : IsShape
       let whole : r.pushed ≡ r.popped = let b = r.behind in omega arith in
       inr (
         is ∙ ap (stamped_for_pop n m head) (stamp_empty d whole)
-            ∙ ap (λ (b : Bool). if b then taking else (if head == head then TailFor head else Head)) (ne_eqb head (head + 1) (λ e. absurd (omega arith)))
+            ∙ ap (λ (b : Bool). if b then taking else (if head == head then TailFor head else Head))
+            (ne_eqb head (head + 1) (λ e. absurd (omega arith)))
             ∙ ap (λ (b : Bool). if b then TailFor head else Head) (eq-eqb head head refl),
         whole,
       ))
@@ -216,11 +264,13 @@ module _ {T : Type 0} (n m tail head : ℕ) (slots : List (Slot T)) (s : IsShape
       inl (
         is ∙ ap (stamped_for_pop n m head) (stamp_filled d some)
             ∙ ap (λ (b : Bool). if b then taking else (if head + 1 == head then TailFor head else Head)) (eq-eqb (head + 1) (head + 1) refl)
-            ∙ ap (λ (b : Bool). if b then Take head else Head) (ap (λ (k : ℕ). nat_lt k most_accepted) head_count ∙ lt-ltb r.popped most_accepted (let few = r.few in omega arith)),
+            ∙ ap (λ (b : Bool). if b then Take head else Head) (ap (λ (k : ℕ). nat_lt k most_accepted) head_count
+            ∙ lt-ltb r.popped most_accepted (let few = r.few in omega arith)),
         some,
       ))
 
-  pub pop_found_by : (t u : Turn) (i : ℕ) (d : Slot T) → t ≡ pops_from n m head → i ≡ head % m → u ≡ pop_turn n m t (slice_index_or slots i d).stamp → FoundToPop u
+  pub pop_found_by : (t u : Turn) (i : ℕ) (d : Slot T) → t ≡ pops_from n m head → i ≡ head % m
+      → u ≡ pop_turn n m t (slice_index_or slots i d).stamp → FoundToPop u
   pop_found_by t u i d is at next =
       pops_second u d (next ∙ ap (λ (t : Turn). pop_turn n m t (slice_index_or slots i d).stamp) (pops_first t is)
       ∙ ap (λ (i : ℕ). stamped_for_pop n m head (slice_index_or slots i d).stamp) at)
@@ -247,13 +297,16 @@ module _ {T : Type 0} (n m tail head : ℕ) (slots : List (Slot T)) (s : IsShape
       by : (b : Bool) → is_marked m tail ≡ b → r.pushed ≡ r.popped → v ≡ pop_turn n m (TailFor head) tail → PopEnds n m tail head v
       by false unmarked none e =
           let same : tail ≡ head = tail_for_head none ∙ ap (λ (k : ℕ). head + k * m) (unmarked_is unmarked) ∙ (omega (arith, zero-mul m)) in
-          subst (PopEnds n m tail head) (sym (e ∙ ap (λ (b : Bool). if b then End Empty else (if tail == head + m then End Closed else Head)) (eq-eqb tail head same)))
+          subst (PopEnds n m tail head)
+          (sym (e ∙ ap (λ (b : Bool). if b then End Empty else (if tail == head + m then End Closed else Head))
+          (eq-eqb tail head same)))
           (counts_meet none, unmarked)
       by true marked none e =
           let one : r.shut ≡ 1 = let once = r.shut_once in let told = sym tail_marked ∙ marked in grind (arith, nat_tests) in
           let same : tail ≡ head + m = tail_for_head none ∙ ap (λ (k : ℕ). head + k * m) one ∙ omega arith in
           let some : 0 < n = s.some in let above : n < m = s.above in
           subst (PopEnds n m tail head) (sym (e
-          ∙ ap (λ (b : Bool). if b then End Empty else (if tail == head + m then End Closed else Head)) (ne_eqb tail head (λ e. absurd (omega arith)))
+          ∙ ap (λ (b : Bool). if b then End Empty else (if tail == head + m then End Closed else Head))
+          (ne_eqb tail head (λ e. absurd (omega arith)))
           ∙ ap (λ (b : Bool). if b then End Closed else Head) (eq-eqb tail (head + m) same)))
           (counts_meet none, marked)

@@ -1,5 +1,6 @@
 -- Masks and shifts in place of quotients: the mark m is two to the power k.
-use Rattle.std.proofs.Common.{◌≡◌, ℕ, zero, suc, ◌+◌, ◌-◌, ◌*◌, ◌/◌, ◌%◌, ◌<◌, ◌≤◌, ◌==◌, ◌^◌, not, bit_and, sym, ap, ◌∙◌, mod-lt, mul_comm, div-add-mod', zero-mul, lt_of_not-le, eq-eqb, ne_eqb, arith}
+use Rattle.std.proofs.Common.{◌≡◌, ℕ, zero, suc, ◌+◌, ◌-◌, ◌*◌, ◌/◌, ◌%◌, ◌<◌, ◌≤◌, ◌==◌, ◌^◌, not, bit_and, sym, ap, ◌∙◌, mod-lt, mul_comm}
+use Rattle.std.proofs.Common.{div-add-mod', zero-mul, lt_of_not-le, eq-eqb, ne_eqb, arith}
 use Rattle.std.proofs.Math.Nat.{div-div-eq-div-mul, div-le_self, mul-le-mul_left, mul-le-mul_right, pow-suc}
 use Rattle.std.proofs.Math.Pow.{pow-lt}
 use Rattle.std.proofs.lemmas.Nat.{and_mask}
@@ -28,7 +29,8 @@ laps_shift m w k power =
     ap (λ (z : ℕ). w / z) twice
 
 -- within a lap two counts differ by their indexes
-pub counts_in_a_lap : (n m t h k : ℕ) → m ≡ 2 ^ k → t / 2 ^ (k + 1) ≡ h / 2 ^ (k + 1) → t % m - h % m ≡ (t / (2 * m) * n + t % m) - (h / (2 * m) * n + h % m)
+pub counts_in_a_lap : (n m t h k : ℕ) → m ≡ 2 ^ k → t / 2 ^ (k + 1) ≡ h / 2 ^ (k + 1)
+    → t % m - h % m ≡ (t / (2 * m) * n + t % m) - (h / (2 * m) * n + h % m)
 counts_in_a_lap n m t h k power same =
     let laps : t / (2 * m) ≡ h / (2 * m) = sym (laps_shift m t k power) ∙ same ∙ laps_shift m h k power in
     let wide : t / (2 * m) * n ≡ h / (2 * m) * n = ap (λ (z : ℕ). z * n) laps in

@@ -1,5 +1,6 @@
 -- What the words of a ring tell of the counts, and the counts of the words. n is the number of places, m the mark.
-use Rattle.std.proofs.Common.{◌≡◌, ℕ, suc, ◌+◌, ◌-◌, ◌*◌, ◌/◌, ◌%◌, ◌<◌, ◌≤◌, if◌then◌else◌, ◌==◌, sym, refl, ap, ap₂, ◌∙◌, subst, mod-lt, suc-mul, zero-mul, div-add-mod', lt_of_not-le, lt-ltb, le-ltb, arith}
+use Rattle.std.proofs.Common.{◌≡◌, ℕ, suc, ◌+◌, ◌-◌, ◌*◌, ◌/◌, ◌%◌, ◌<◌, ◌≤◌, if◌then◌else◌, ◌==◌, sym, refl, ap, ap₂, ◌∙◌, subst, mod-lt}
+use Rattle.std.proofs.Common.{suc-mul, zero-mul, div-add-mod', lt_of_not-le, lt-ltb, le-ltb, arith}
 use Rattle.std.proofs.Math.Nat.{add-mul, mul_assoc, mul-le-mul_left}
 use Rattle.std.proofs.Math.Arith.{digits_div, digits_mod}
 use mathlib.Core.Logic.{dite}

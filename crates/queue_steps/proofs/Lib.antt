@@ -1,3 +1,4 @@
+pub mod BoundedEmpty
 pub mod BoundedFinds
 pub mod BoundedFresh
 pub mod BoundedMasks

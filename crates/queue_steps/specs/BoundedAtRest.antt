@@ -1,6 +1,7 @@
 -- A ring between two calls: what its words say of its places, and the queue that they are.
 -- n is the number of places, m the mark above their indexes.
-use Rattle.std.specs.Prelude.{◌≡◌, ℕ, suc, zero, ◌+◌, ◌-◌, ◌*◌, ◌%◌, ◌<◌, ◌≤◌, List, [], ◌++◌, length, slice_index_or, slice_set, Some, None, IsSome, option_to_list}
+use Rattle.std.specs.Prelude.{◌≡◌, ℕ, suc, zero, ◌+◌, ◌-◌, ◌*◌, ◌%◌, ◌<◌, ◌≤◌, List, [], ◌++◌, length, slice_index_or, slice_set, Some}
+use Rattle.std.specs.Prelude.{None, IsSome, option_to_list}
 use Rattle.queue_steps.specs.declared.bounded.Slot.{Slot}
 use Rattle.queue_steps.specs.ClosableQueue.{ClosableQueue, most_accepted}
 use Rattle.queue_steps.specs.Bounded.{word_at, count_at, is_marked}

@@ -1,9 +1,10 @@
 -- Where a lone call on a ring comes to by looking alone. n is the number of places, m the mark above their indexes.
 use Rattle.std.specs.Prelude.{◌≡◌, ℕ, ◌+◌, ◌<◌, true, false}
 use Rattle.queue_steps.specs.declared.steps.bounded.Turn.{Turn}
-use Rattle.queue_steps.specs.declared.steps.bounded.Turn.TheVariants.{Tail, Head, Stamp, HeadFor, TailFor, TailAgain, Append, Take, Displace, Advance, Spend, Close, Fill, Drain, End}
+use Rattle.queue_steps.specs.declared.steps.bounded.Turn.TheVariants.{Append, Take}
+use Rattle.queue_steps.specs.declared.steps.bounded.Turn.TheVariants.{Displace, Spend, End}
 use Rattle.queue_steps.specs.declared.steps.Reply.{Reply}
-use Rattle.queue_steps.specs.declared.steps.Reply.TheVariants.{Done, Displaced, Full, Empty, Closed, Yes, No, Length}
+use Rattle.queue_steps.specs.declared.steps.Reply.TheVariants.{Full, Empty, Closed}
 use Rattle.queue_steps.specs.ClosableQueue.{most_accepted}
 use Rattle.queue_steps.specs.Bounded.{count_at, is_marked}
 
@@ -20,80 +21,31 @@ module _ (n m tail head : ℕ) where
   abbrev pub PushReplies : Reply → Type 0
   PushReplies Full = IsOpen × HasNoPlace
   PushReplies Closed = is_marked m tail ≡ true
-  PushReplies Done = ⊥
-  PushReplies Displaced = ⊥
-  PushReplies Empty = ⊥
-  PushReplies Yes = ⊥
-  PushReplies No = ⊥
-  PushReplies (Length k) = ⊥
+  PushReplies _ = ⊥
 
   abbrev pub PushEnds : Turn → Type 0
   PushEnds (Append t) = (t ≡ tail) × IsOpen × HasPlace × (count_at n m tail < most_accepted)
   PushEnds (Spend t) = (t ≡ tail) × IsOpen × HasPlace × (count_at n m tail ≡ most_accepted)
   PushEnds (End reply) = PushReplies reply
-  PushEnds Tail = ⊥
-  PushEnds Head = ⊥
-  PushEnds (Stamp t) = ⊥
-  PushEnds (HeadFor t) = ⊥
-  PushEnds (TailFor h) = ⊥
-  PushEnds (TailAgain t h) = ⊥
-  PushEnds (Take h) = ⊥
-  PushEnds (Displace t) = ⊥
-  PushEnds (Advance t) = ⊥
-  PushEnds Close = ⊥
-  PushEnds (Fill t reply) = ⊥
-  PushEnds (Drain h) = ⊥
+  PushEnds _ = ⊥
 
   abbrev pub ForcePushReplies : Reply → Type 0
   ForcePushReplies Closed = is_marked m tail ≡ true
-  ForcePushReplies Full = ⊥
-  ForcePushReplies Done = ⊥
-  ForcePushReplies Displaced = ⊥
-  ForcePushReplies Empty = ⊥
-  ForcePushReplies Yes = ⊥
-  ForcePushReplies No = ⊥
-  ForcePushReplies (Length k) = ⊥
+  ForcePushReplies _ = ⊥
 
   abbrev pub ForcePushEnds : Turn → Type 0
   ForcePushEnds (Append t) = (t ≡ tail) × IsOpen × HasPlace × (count_at n m tail < most_accepted)
   ForcePushEnds (Displace t) = (t ≡ tail) × IsOpen × HasNoPlace × (count_at n m tail < most_accepted)
   ForcePushEnds (Spend t) = (t ≡ tail) × IsOpen × (count_at n m tail ≡ most_accepted)
   ForcePushEnds (End reply) = ForcePushReplies reply
-  ForcePushEnds Tail = ⊥
-  ForcePushEnds Head = ⊥
-  ForcePushEnds (Stamp t) = ⊥
-  ForcePushEnds (HeadFor t) = ⊥
-  ForcePushEnds (TailFor h) = ⊥
-  ForcePushEnds (TailAgain t h) = ⊥
-  ForcePushEnds (Take h) = ⊥
-  ForcePushEnds (Advance t) = ⊥
-  ForcePushEnds Close = ⊥
-  ForcePushEnds (Fill t reply) = ⊥
-  ForcePushEnds (Drain h) = ⊥
+  ForcePushEnds _ = ⊥
 
   abbrev pub PopReplies : Reply → Type 0
   PopReplies Empty = (count_at n m tail ≡ count_at n m head) × IsOpen
   PopReplies Closed = (count_at n m tail ≡ count_at n m head) × (is_marked m tail ≡ true)
-  PopReplies Full = ⊥
-  PopReplies Done = ⊥
-  PopReplies Displaced = ⊥
-  PopReplies Yes = ⊥
-  PopReplies No = ⊥
-  PopReplies (Length k) = ⊥
+  PopReplies _ = ⊥
 
   abbrev pub PopEnds : Turn → Type 0
   PopEnds (Take h) = (h ≡ head) × (count_at n m head < count_at n m tail)
   PopEnds (End reply) = PopReplies reply
-  PopEnds Tail = ⊥
-  PopEnds Head = ⊥
-  PopEnds (Stamp t) = ⊥
-  PopEnds (HeadFor t) = ⊥
-  PopEnds (TailFor h) = ⊥
-  PopEnds (TailAgain t h) = ⊥
-  PopEnds (Append t) = ⊥
-  PopEnds (Displace t) = ⊥
-  PopEnds (Advance t) = ⊥
-  PopEnds (Spend t) = ⊥
-  PopEnds Close = ⊥
-  PopEnds (Fill t reply) = ⊥
-  PopEnds (Drain h) = ⊥
+  PopEnds _ = ⊥

@@ -1,7 +1,8 @@
 -- What a call on a ring does next, by the word that it found. n is the number of places, m the mark, and a lap is 2 * m.
 use Rattle.std.specs.Prelude.{ℕ, ◌+◌, ◌-◌, ◌*◌, ◌%◌, Bool, not, nat_lt, ◌==◌, ◌||◌, if◌then◌else◌}
 use Rattle.queue_steps.specs.declared.steps.bounded.Turn.{Turn}
-use Rattle.queue_steps.specs.declared.steps.bounded.Turn.TheVariants.{Tail, Head, Stamp, HeadFor, TailFor, TailAgain, Append, Take, Displace, Advance, Spend, Close, Fill, Drain, End}
+use Rattle.queue_steps.specs.declared.steps.bounded.Turn.TheVariants.{Tail, Head, Stamp, HeadFor, TailFor, TailAgain, Append, Take}
+use Rattle.queue_steps.specs.declared.steps.bounded.Turn.TheVariants.{Displace, Advance, Spend, Close, Fill, Drain, End}
 use Rattle.queue_steps.specs.declared.steps.Reply.TheVariants.{Done, Displaced, Full, Empty, Closed, Yes, No, Length}
 use Rattle.queue_steps.specs.ClosableQueue.{most_accepted}
 use Rattle.queue_steps.specs.Bounded.{count_at, is_marked}
@@ -30,15 +31,7 @@ module _ (n m : ℕ) where
   push_turn (Append tail) found = if found == tail then Fill tail Done else pushes_from found
   push_turn (Spend tail) found = if found == tail then End Closed else pushes_from found
   push_turn (Fill tail reply) found = End reply
-  push_turn Head found = Head
-  push_turn (TailFor head) found = TailFor head
-  push_turn (TailAgain tail head) found = TailAgain tail head
-  push_turn (Take head) found = Take head
-  push_turn (Displace tail) found = Displace tail
-  push_turn (Advance tail) found = Advance tail
-  push_turn Close found = Close
-  push_turn (Drain head) found = Drain head
-  push_turn (End reply) found = End reply
+  push_turn turn found = turn
 
   -- the ring is full: the displacement, but that one item too many closes the ring and displaces nothing
   abbrev pub displaces_at : ℕ → Turn
@@ -53,13 +46,7 @@ module _ (n m : ℕ) where
   force_push_turn (Displace tail) found = if found + 2 * m == tail then Advance tail else Tail
   force_push_turn (Advance tail) found = Fill tail Displaced
   force_push_turn (Fill tail reply) found = End reply
-  force_push_turn Head found = Head
-  force_push_turn (TailFor head) found = TailFor head
-  force_push_turn (TailAgain tail head) found = TailAgain tail head
-  force_push_turn (Take head) found = Take head
-  force_push_turn Close found = Close
-  force_push_turn (Drain head) found = Drain head
-  force_push_turn (End reply) found = End reply
+  force_push_turn turn found = turn
 
   abbrev pub pops_from : ℕ → Turn
   pops_from head = if nat_lt (head % m) n then Stamp head else Head
@@ -78,16 +65,7 @@ module _ (n m : ℕ) where
       if found == head then End Empty else (if found == head + m then End Closed else Head)
   pop_turn (Take head) found = if found == head then Drain head else pops_from found
   pop_turn (Drain head) found = End Done
-  pop_turn Tail found = Tail
-  pop_turn (HeadFor tail) found = HeadFor tail
-  pop_turn (TailAgain tail head) found = TailAgain tail head
-  pop_turn (Append tail) found = Append tail
-  pop_turn (Displace tail) found = Displace tail
-  pop_turn (Advance tail) found = Advance tail
-  pop_turn (Spend tail) found = Spend tail
-  pop_turn Close found = Close
-  pop_turn (Fill tail reply) found = Fill tail reply
-  pop_turn (End reply) found = End reply
+  pop_turn turn found = turn
 
   abbrev pub close_turn : Turn → ℕ → Turn
   close_turn Close found = answered (not (is_marked m found))

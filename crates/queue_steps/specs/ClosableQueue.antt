@@ -1,6 +1,7 @@
 -- A closable queue, as the documentation of `concurrent-queue` has it: what it holds, how many it may hold, and whether
 -- it was closed. No stamps, laps, blocks or retries.
-use Rattle.std.specs.Prelude.{◌≡◌, ℕ, ◌+◌, ◌<◌, List, [], ◌∷◌, ◌++◌, length, drop, Bool, true, false, Option, Some, None, MatchOption, ◌==◌, if◌then◌else◌}
+use Rattle.std.specs.Prelude.{◌≡◌, ℕ, ◌+◌, ◌<◌, List, [], ◌∷◌, ◌++◌, length, drop, Bool, true, false, Option, Some, None, MatchOption, ◌==◌}
+use Rattle.std.specs.Prelude.{if◌then◌else◌}
 use Rattle.std.specs.Option.{option_map}
 
 pub record ClosableQueue (T : Type 0) : Type 0 where

@@ -18,8 +18,7 @@ abbrev pub push_turn : Turn → ℕ → Turn
 push_turn Look found = looked_to_push found
 push_turn (Exchange old new) found = if found == old then Unlock Done else looked_to_push found
 push_turn (Unlock reply) found = End reply
-push_turn Close found = Close
-push_turn (End reply) found = End reply
+push_turn turn found = turn
 
 -- closed, `Closed`; locked, wait; else lock it, to swap where it was pushed and to write where not
 abbrev pub looked_to_force : ℕ → Turn
@@ -33,8 +32,7 @@ force_push_turn Look found = looked_to_force found
 force_push_turn (Exchange old new) found =
     if found == old then Unlock (if nat_lt old 2 then Done else Displaced) else looked_to_force found
 force_push_turn (Unlock reply) found = End reply
-force_push_turn Close found = Close
-force_push_turn (End reply) found = End reply
+force_push_turn turn found = turn
 
 -- pushed and not locked, lock it to read; pushed and locked, wait; else `Closed` or `Empty` by the mark
 abbrev pub looked_to_pop : ℕ → Turn
@@ -47,23 +45,16 @@ abbrev pub pop_turn : Turn → ℕ → Turn
 pop_turn Look found = looked_to_pop found
 pop_turn (Exchange old new) found = if found == old then Unlock Done else looked_to_pop found
 pop_turn (Unlock reply) found = End reply
-pop_turn Close found = Close
-pop_turn (End reply) found = End reply
+pop_turn turn found = turn
 
 abbrev pub close_turn : Turn → ℕ → Turn
 close_turn Close found = answered (nat_lt found 4)
-close_turn Look found = Look
-close_turn (Exchange old new) found = Exchange old new
-close_turn (Unlock reply) found = Unlock reply
-close_turn (End reply) found = End reply
+close_turn turn found = turn
 
 -- a call that answers by the first word that it loads
 abbrev pub look_turn : (ℕ → Turn) → Turn → ℕ → Turn
 look_turn answer Look found = answer found
-look_turn answer (Exchange old new) found = Exchange old new
-look_turn answer (Unlock reply) found = Unlock reply
-look_turn answer Close found = Close
-look_turn answer (End reply) found = End reply
+look_turn answer turn found = turn
 
 abbrev pub len_turn : Turn → ℕ → Turn
 len_turn = look_turn (λ word. End (Length (if nat_lt (word % 4) 2 then 0 else 1)))

@@ -1,5 +1,5 @@
 //! A ring of places.
-ghost use Rattle.std.specs.Prelude.{◌≡◌, ℕ, Bool, ◌<◌, ◌+◌, ◌*◌, ◌%◌, ◌^◌, Some, IsSome, OnOk, IfOk, vec_len};
+ghost use Rattle.std.specs.Prelude.{◌≡◌, ℕ, Bool, ◌<◌, ◌+◌, ◌*◌, ◌%◌, ◌^◌, [], None, Some, IsSome, OnOk, IfOk, vec_len, All};
 ghost use Rattle.queue_steps.specs.ClosableQueue.{new_queue};
 ghost use Rattle.queue_steps.specs.Bounded.{IsPlaceWord, next_at};
 ghost use Rattle.queue_steps.specs.BoundedAtRest.{BoundedAtRest, AreFresh, slot_at, filled_at, emptied_at};
@@ -150,6 +150,17 @@ fn free_slots<T>(alloc: Global, capacity: usize) -> Result<Vec<Slot<T>>, NoMemor
     Ok(slots)
 }
 
+// Gives the memory of places back that have no item.
+fn discard<T>(mut slots: Vec<Slot<T>>)
+    requires { All (λ slot. slot.value ≡ None) slots.items }
+{
+    while let Some(slot) = slots.pop() {
+        let Slot { stamp: _, value } = slot;
+        let None = value else { unreachable!() };
+    }
+    slots.destroy_empty();
+}
+
 impl<T> Bounded<T> {
     /// An empty ring, with the memory of all its places.
     pub fn new(alloc: Global, capacity: usize) -> Result<Bounded<T>, NoMemory>
@@ -163,6 +174,19 @@ impl<T> Bounded<T> {
             head: 0,
             slots,
         })
+    }
+
+    /// Gives the memory of an empty ring back.
+    pub fn destroy_empty(self)
+        requires { self.items ≡ [] }
+    {
+        let Bounded {
+            shape: _,
+            tail: _,
+            head: _,
+            slots,
+        } = self;
+        discard(slots);
     }
 }
 

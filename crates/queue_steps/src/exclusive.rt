@@ -1,4 +1,4 @@
-ghost use Rattle.std.specs.Prelude.{◌≡◌, ◌<◌, ◌↔◌, [], length, IsTrue, None, Some, IfOk, IsOk};
+ghost use Rattle.std.specs.Prelude.{◌≡◌, ◌≢◌, ◌<◌, ◌↔◌, [], length, IsTrue, None, Some, IfOk, IfErr, OnOk, IsOk};
 ghost use Rattle.queue_steps.specs.ClosableQueue.{IsFull, new_queue, count_of_new};
 ghost use Rattle.queue_steps.specs.Replies.{Pushes, ForcePushes, Pops, Closes};
 
@@ -169,6 +169,22 @@ impl<T> Exclusive<T> {
             Kept::Bounded(queue) => queue.capacity(),
             Kept::Unbounded(queue) => queue.capacity(),
         }
+    }
+
+    /// Gives the memory of an empty queue back, also where items may not be dropped. A queue that holds items comes back.
+    pub fn destroy_empty(self) -> Result<(), Exclusive<T>>
+        ensures ok { OnOk result (self.items ≡ []) }
+        ensures err { IfErr result (λ back. (back ≡ self) × (self.items ≢ [])) }
+    {
+        if !self.is_empty() {
+            return Err(self);
+        }
+        match self.kept {
+            Kept::Single(queue) => queue.destroy_empty(),
+            Kept::Bounded(queue) => queue.destroy_empty(),
+            Kept::Unbounded(queue) => queue.destroy_empty(),
+        }
+        Ok(())
     }
 
     /// An iterator that pops. Items that it has not given when it is dropped stay in the queue.

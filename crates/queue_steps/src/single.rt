@@ -47,6 +47,14 @@ impl<T> Single<T> {
             slot: None,
         }
     }
+
+    /// Ends an empty slot, whose item needs no drop then.
+    pub fn destroy_empty(self)
+        requires { self.items ≡ [] }
+    {
+        let Single { word: _, slot } = self;
+        let None = slot else { unreachable!() };
+    }
 }
 
 impl<T> Representation<T> for Single<T> {

@@ -152,6 +152,26 @@ impl<T> Unbounded<T> {
             alloc,
         }
     }
+
+    /// Gives the memory of an empty chain back.
+    pub fn destroy_empty(self)
+        requires { self.items ≡ [] }
+    {
+        let Unbounded {
+            ends: _,
+            mut blocks,
+            spare,
+            alloc: _,
+        } = self;
+        while let Some(block) = blocks.pop_front() {
+            block.free();
+        }
+        blocks.destroy_empty();
+        match spare {
+            None => {}
+            Some(block) => block.free(),
+        }
+    }
 }
 
 impl<T> Representation<T> for Unbounded<T> {

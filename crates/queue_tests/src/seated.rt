@@ -12,8 +12,8 @@ fn closes_for_good<T>(slot: &Single<T>) -> bool
     ensures { result ≡ true }
 {
     let mut seat = slot.seat();
-    seated::single::close(&slot.board.shared, &mut seat);
-    seated::single::is_closed(&slot.board.shared, &mut seat)
+    seated::single::close(slot, &mut seat);
+    seated::single::is_closed(slot, &mut seat)
 }
 
 // A ring accepts nothing by a seat that closed it.
@@ -25,22 +25,21 @@ fn refuses_after_its_close<R: Wait>(
     ensures { IsErr result }
 {
     let mut seat = ring.seat();
-    seated::bounded::close(&ring.board.shared, &mut seat, ring.shape);
-    seated::bounded::push(rt, &ring.board.shared, &mut seat, ring.shape, value)
+    seated::bounded::close(ring, &mut seat);
+    seated::bounded::push(rt, ring, &mut seat, value)
 }
 
 #[test]
 fn a_user_takes_seats_at_a_slot(rt: HostRuntime) {
     let slot = Single::new(rt.alloc()).expect(&rt, "memory");
     let (mut one, mut other) = (slot.seat(), slot.seat());
-    let board = &slot.board.shared;
-    same(&rt, seated::single::push(&rt, board, &mut one, 5), Ok(()));
-    same(&rt, seated::single::len(board, &mut other), 1);
+    same(&rt, seated::single::push(&rt, &slot, &mut one, 5), Ok(()));
+    same(&rt, seated::single::len(&slot, &mut other), 1);
     same(&rt, closes_for_good(&slot), true);
-    let refused = seated::single::push(&rt, board, &mut other, 6);
+    let refused = seated::single::push(&rt, &slot, &mut other, 6);
     same(&rt, refused, Err(PushError::Closed(6)));
-    same(&rt, seated::single::pop(&rt, board, &mut one), Ok(5));
-    let none = seated::single::pop(&rt, board, &mut one);
+    same(&rt, seated::single::pop(&rt, &slot, &mut one), Ok(5));
+    let none = seated::single::pop(&rt, &slot, &mut one);
     same(&rt, none, Err(PopError::Closed));
 }
 
@@ -48,14 +47,9 @@ fn a_user_takes_seats_at_a_slot(rt: HostRuntime) {
 fn a_user_takes_seats_at_a_ring(rt: HostRuntime) {
     let ring = Bounded::new(rt.alloc(), 2).expect(&rt, "memory");
     let mut seat = ring.seat();
-    let (board, shape) = (&ring.board.shared, ring.shape);
-    let pushed = seated::bounded::push(&rt, board, &mut seat, shape, 5);
+    let pushed = seated::bounded::push(&rt, &ring, &mut seat, 5);
     same(&rt, pushed, Ok(()));
     let refused = refuses_after_its_close(&rt, &ring, 6);
     same(&rt, refused, Err(PushError::Closed(6)));
-    same(
-        &rt,
-        seated::bounded::pop(&rt, board, &mut seat, shape),
-        Ok(5),
-    );
+    same(&rt, seated::bounded::pop(&rt, &ring, &mut seat), Ok(5));
 }

@@ -1,12 +1,14 @@
 -- What a body is, by the word, and what keeps fitting it.
-use Rattle.std.proofs.Common.{◌≡◌, ℕ, ◌+◌, ◌≤◌, Bool, true, false, ◌||◌, sym, refl, ap, ◌∙◌, subst, arith}
+use Rattle.std.proofs.Common.{◌≡◌, ℕ, Bool, true, false, ◌||◌, ◌&&◌, not, refl, ap, arith}
 use Rattle.std.specs.Prelude.{Option, Some, None, is_some}
 use Rattle.task_moves.specs.declared.moves.state.State.{State}
 use Rattle.task_moves.specs.Moves.{is_going}
 use Rattle.task_word.specs.declared.rule.Hold.{Hold}
-use Rattle.task_word.specs.declared.rule.Hold.TheVariants.{Nothing, Reference, Leaving, Handle, Made, Queued, Running, Closing, Ending, Filling, Spending, Registering, HandleNotifying, RunNotifying, Emptying}
-use Rattle.task_word.specs.Cell.{Body, idle, resting, queued, taken, kept, gone, Post, lies, held, going, spending, calling, handling, filling, weight, handle_weight, Fits, FitsHold, FitsPost, Emptied}
-use Rattle.task_word.proofs.Views.{true_not, either_false}
+use Rattle.task_word.specs.declared.rule.Hold.TheVariants.{Nothing, Reference, Leaving, Handle, Made, Queued, Running, Closing, Ending}
+use Rattle.task_word.specs.declared.rule.Hold.TheVariants.{Filling, Spending, Registering, HandleNotifying, RunNotifying, Emptying}
+use Rattle.task_word.specs.Cell.{Body, idle, resting, queued, taken, kept, gone, Post, lies, held, going, spending, calling, handling}
+use Rattle.task_word.specs.Cell.{weight, handle_weight, Fits, FitsHold, FitsPost, Emptied}
+use Rattle.task_word.proofs.Views.{true_not, both_not}
 
 -- a state as it would be with this mark or this number
 abbrev pub scheduled_on : State → State
@@ -15,6 +17,9 @@ scheduled_on s = record s { scheduled = true }
 abbrev pub closed_on : State → State
 closed_on s = record s { closed = true }
 
+abbrev pub unhandled : State → State
+unhandled s = record s { handle = false }
+
 abbrev pub counting : ℕ → State → State
 counting n s = record s { references = n }
 
@@ -22,110 +27,66 @@ counting n s = record s { references = n }
 abbrev pub Reachable : State → Type 0
 Reachable s = s.references ≡ 0 → s.handle ≡ false → ⊥
 
+-- a seat that has the future's slot has it by one of five
+pub hold_is : {s : State} (P : Hold → Type 0) → (FitsHold Running s → P Running) → (FitsHold Closing s → P Closing)
+    → (FitsHold Ending s → P Ending) → (FitsHold Filling s → P Filling) → (FitsHold Spending s → P Spending)
+    → (hold : Hold) → FitsHold hold s → P hold
+hold_is P r c e f o Running k = r k
+hold_is P r c e f o Closing k = c k
+hold_is P r c e f o Ending k = e k
+hold_is P r c e f o Filling k = f k
+hold_is P r c e f o Spending k = o k
+hold_is P r c e f o Nothing k = absurd k
+hold_is P r c e f o Reference k = absurd k
+hold_is P r c e f o Leaving k = absurd k
+hold_is P r c e f o Handle k = absurd k
+hold_is P r c e f o Made k = absurd k
+hold_is P r c e f o Queued k = absurd k
+hold_is P r c e f o Registering k = absurd k
+hold_is P r c e f o HandleNotifying k = absurd k
+hold_is P r c e f o RunNotifying k = absurd k
+hold_is P r c e f o Emptying k = absurd k
+
 marked_hold : (hold : Hold) (s : State) → s.running ≡ true → FitsHold hold s → FitsHold hold (scheduled_on s)
-marked_hold Running s t k = k
-marked_hold Closing s t k = true_not t k.1
-marked_hold Ending s t k = k
-marked_hold Filling s t k = true_not t (ap (λ (z : State). z.running) k)
-marked_hold Spending s t k = true_not t k.1
-marked_hold Nothing s t k = absurd k
-marked_hold Reference s t k = absurd k
-marked_hold Leaving s t k = absurd k
-marked_hold Handle s t k = absurd k
-marked_hold Made s t k = absurd k
-marked_hold Queued s t k = absurd k
-marked_hold Registering s t k = absurd k
-marked_hold HandleNotifying s t k = absurd k
-marked_hold RunNotifying s t k = absurd k
-marked_hold Emptying s t k = absurd k
+marked_hold hold s t = hold_is (λ h. FitsHold h (scheduled_on s)) (λ k. k) (λ k. true_not t k.1) (λ k. k)
+    (λ k. true_not t (ap (λ (z : State). z.running) k)) (λ k. true_not t k.1) hold
 
 counting_hold : (hold : Hold) (s : State) (n : ℕ) → Reachable s → FitsHold hold s → FitsHold hold (counting n s)
-counting_hold Running s n t k = k
-counting_hold Closing s n t k = k
-counting_hold Ending s n t k = k
-counting_hold Filling s n t k = absurd (t (ap (λ (z : State). z.references) k) (ap (λ (z : State). z.handle) k))
-counting_hold Spending s n t k = k
-counting_hold Nothing s n t k = absurd k
-counting_hold Reference s n t k = absurd k
-counting_hold Leaving s n t k = absurd k
-counting_hold Handle s n t k = absurd k
-counting_hold Made s n t k = absurd k
-counting_hold Queued s n t k = absurd k
-counting_hold Registering s n t k = absurd k
-counting_hold HandleNotifying s n t k = absurd k
-counting_hold RunNotifying s n t k = absurd k
-counting_hold Emptying s n t k = absurd k
+counting_hold hold s n t = hold_is (λ h. FitsHold h (counting n s)) (λ k. k) (λ k. k) (λ k. k)
+    (λ k. absurd (t (ap (λ (z : State). z.references) k) (ap (λ (z : State). z.handle) k))) (λ k. k) hold
 
 closed_hold : (hold : Hold) (s : State) → FitsHold hold s → FitsHold hold (closed_on s)
-closed_hold Running s k = k
-closed_hold Closing s k = (k.0, k.1, k.2, refl)
-closed_hold Ending s k = (k.0, k.1, refl)
-closed_hold Filling s k = ap closed_on k
-closed_hold Spending s k = (k.0, k.1, k.2, refl)
-closed_hold Nothing s k = absurd k
-closed_hold Reference s k = absurd k
-closed_hold Leaving s k = absurd k
-closed_hold Handle s k = absurd k
-closed_hold Made s k = absurd k
-closed_hold Queued s k = absurd k
-closed_hold Registering s k = absurd k
-closed_hold HandleNotifying s k = absurd k
-closed_hold RunNotifying s k = absurd k
-closed_hold Emptying s k = absurd k
+closed_hold hold s = hold_is (λ h. FitsHold h (closed_on s)) (λ k. k) (λ k. (k.0, k.1, k.2, refl)) (λ k. (k.0, k.1, refl))
+    (λ k. ap closed_on k) (λ k. (k.0, k.1, k.2, refl)) hold
+
+unhandled_hold : (hold : Hold) (s : State) → s.handle ≡ true → FitsHold hold s → FitsHold hold (unhandled s)
+unhandled_hold hold s t = hold_is (λ h. FitsHold h (unhandled s)) (λ k. k) (λ k. k) (λ k. k)
+    (λ k. true_not t (ap (λ (z : State). z.handle) k)) (λ k. k) hold
 
 -- a slot that is out shows in the marks
-hold_idle : {A : Type 0} (hold : Hold) (s : State) → s.scheduled ≡ false → s.running ≡ false → s.completed ≡ false → FitsHold hold s → A
-hold_idle Running s a b c k = true_not k.0 b
-hold_idle Closing s a b c k = true_not k.0 a
-hold_idle Ending s a b c k = true_not k.0 b
-hold_idle Filling s a b c k = true_not (ap (λ (z : State). z.scheduled) k) a
-hold_idle Spending s a b c k = true_not k.2 c
-hold_idle Nothing s a b c k = absurd k
-hold_idle Reference s a b c k = absurd k
-hold_idle Leaving s a b c k = absurd k
-hold_idle Handle s a b c k = absurd k
-hold_idle Made s a b c k = absurd k
-hold_idle Queued s a b c k = absurd k
-hold_idle Registering s a b c k = absurd k
-hold_idle HandleNotifying s a b c k = absurd k
-hold_idle RunNotifying s a b c k = absurd k
-hold_idle Emptying s a b c k = absurd k
+hold_idle : {A : Type 0} (hold : Hold) (s : State) → s.scheduled ≡ false → s.running ≡ false → s.completed ≡ false
+    → FitsHold hold s → A
+hold_idle {A} hold s a b c = hold_is (λ h. A) (λ k. true_not k.0 b) (λ k. true_not k.0 a) (λ k. true_not k.0 b)
+    (λ k. true_not (ap (λ (z : State). z.scheduled) k) a) (λ k. true_not k.2 c) hold
 
 -- or in the handle
-hold_over : {A : Type 0} (hold : Hold) (s : State) → s.scheduled ≡ false → s.running ≡ false → handle_weight hold ≡ 0 → FitsHold hold s → A
-hold_over Running s a b c k = true_not k.0 b
-hold_over Closing s a b c k = true_not k.0 a
-hold_over Ending s a b c k = true_not k.0 b
-hold_over Filling s a b c k = true_not (ap (λ (z : State). z.scheduled) k) a
-hold_over Spending s a b c k = absurd (let z : 1 ≡ 0 = c in omega arith)
-hold_over Nothing s a b c k = absurd k
-hold_over Reference s a b c k = absurd k
-hold_over Leaving s a b c k = absurd k
-hold_over Handle s a b c k = absurd k
-hold_over Made s a b c k = absurd k
-hold_over Queued s a b c k = absurd k
-hold_over Registering s a b c k = absurd k
-hold_over HandleNotifying s a b c k = absurd k
-hold_over RunNotifying s a b c k = absurd k
-hold_over Emptying s a b c k = absurd k
+hold_over : {A : Type 0} (hold : Hold) (s : State) → s.scheduled ≡ false → s.running ≡ false → handle_weight hold ≡ 0
+    → FitsHold hold s → A
+hold_over {A} hold s a b c k = hold_is (λ h. handle_weight h ≡ 0 → A) (λ k c. true_not k.0 b) (λ k c. true_not k.0 a)
+    (λ k c. true_not k.0 b) (λ k c. true_not (ap (λ (z : State). z.scheduled) k) a)
+    (λ k c. absurd (let z : 1 ≡ 0 = c in omega arith)) hold k c
 
 -- or in the count
-hold_still : {A : Type 0} (hold : Hold) (s : State) → weight hold ≡ 0 → s.completed ≡ false → s.closed ≡ false → FitsHold hold s → A
-hold_still Running s a b c k = absurd (let z : 1 ≡ 0 = a in omega arith)
-hold_still Closing s a b c k = true_not k.3 c
-hold_still Ending s a b c k = true_not k.2 c
-hold_still Filling s a b c k = true_not (ap (λ (z : State). z.closed) k) c
-hold_still Spending s a b c k = true_not k.3 c
-hold_still Nothing s a b c k = absurd k
-hold_still Reference s a b c k = absurd k
-hold_still Leaving s a b c k = absurd k
-hold_still Handle s a b c k = absurd k
-hold_still Made s a b c k = absurd k
-hold_still Queued s a b c k = absurd k
-hold_still Registering s a b c k = absurd k
-hold_still HandleNotifying s a b c k = absurd k
-hold_still RunNotifying s a b c k = absurd k
-hold_still Emptying s a b c k = absurd k
+hold_still : {A : Type 0} (hold : Hold) (s : State) → weight hold ≡ 0 → s.completed ≡ false → s.closed ≡ false
+    → FitsHold hold s → A
+hold_still {A} hold s a b c k = hold_is (λ h. weight h ≡ 0 → A) (λ k a. absurd (let z : 1 ≡ 0 = a in omega arith))
+    (λ k a. true_not k.3 c) (λ k a. true_not k.2 c) (λ k a. true_not (ap (λ (z : State). z.closed) k) c)
+    (λ k a. true_not k.3 c) hold k a
+
+-- or in one mark of two
+hold_kept : {A : Type 0} (hold : Hold) (s : State) → s.completed ≡ true → s.closed ≡ false → FitsHold hold s → A
+hold_kept {A} hold s c d = hold_is (λ h. A) (λ k. true_not c k.1) (λ k. true_not c k.2) (λ k. true_not c k.1)
+    (λ k. true_not (ap (λ (z : State). z.closed) k) d) (λ k. true_not k.3 d) hold
 
 module _ {F T : Type 0} where
   -- a woken run is scheduled
@@ -161,7 +122,18 @@ module _ {F T : Type 0} where
     neither false c e p q = true_not e q
   shut gone s rests t k = (k.0, k.1, refl, k.3)
 
-  pub when_idle : (b : Body F T) (s : State) (rests : Bool) → s.scheduled ≡ false → s.running ≡ false → s.completed ≡ false → s.closed ≡ false → Fits b s rests → (f : F) × (b ≡ idle f)
+  -- the handle goes, of a task whose output isn't there
+  pub without_handle : (b : Body F T) (s : State) (rests : Bool) → s.handle ≡ true → s.completed && not s.closed ≡ false → Fits b s rests
+      → Fits b (unhandled s) rests
+  without_handle (idle f) s rests h e k = k
+  without_handle (resting f) s rests h e k = k
+  without_handle (queued f j) s rests h e k = k
+  without_handle (taken hold j) s rests h e k = (unhandled_hold hold s h k.0, k.1)
+  without_handle (kept o) s rests h e k = true_not (both_not _ _ e k.2) k.3
+  without_handle gone s rests h e k = k
+
+  pub when_idle : (b : Body F T) (s : State) (rests : Bool) → s.scheduled ≡ false → s.running ≡ false → s.completed ≡ false
+      → s.closed ≡ false → Fits b s rests → (f : F) × (b ≡ idle f)
   when_idle (idle f) s rests a b c d k = (f, refl)
   when_idle (resting f) s rests a b c d k = true_not k.0 a
   when_idle (queued f j) s rests a b c d k = true_not k.0 a
@@ -169,7 +141,8 @@ module _ {F T : Type 0} where
   when_idle (kept o) s rests a b c d k = true_not k.2 c
   when_idle gone s rests a b c d k = true_not k.2 d
 
-  pub when_still : (b : Body F T) (s : State) (rests : Bool) → going b ≡ 0 → s.completed ≡ false → s.closed ≡ false → Fits b s rests → (f : F) × (b ≡ idle f)
+  pub when_still : (b : Body F T) (s : State) (rests : Bool) → going b ≡ 0 → s.completed ≡ false → s.closed ≡ false → Fits b s rests
+      → (f : F) × (b ≡ idle f)
   when_still (idle f) s rests g c d k = (f, refl)
   when_still (resting f) s rests g c d k = absurd (let z : 1 ≡ 0 = g in omega arith)
   when_still (queued f j) s rests g c d k = absurd (let z : 1 ≡ 0 = g in omega arith)
@@ -177,7 +150,8 @@ module _ {F T : Type 0} where
   when_still (kept o) s rests g c d k = true_not k.2 c
   when_still gone s rests g c d k = true_not k.2 d
 
-  pub when_gone : (b : Body F T) (s : State) (rests : Bool) → spending b ≡ 0 → s.scheduled ≡ false → s.running ≡ false → s.closed ≡ true → Fits b s rests → b ≡ gone
+  pub when_gone : (b : Body F T) (s : State) (rests : Bool) → spending b ≡ 0 → s.scheduled ≡ false → s.running ≡ false → s.closed ≡ true
+      → Fits b s rests → b ≡ gone
   when_gone (idle f) s rests h a b c k = true_not c k.3
   when_gone (resting f) s rests h a b c k = true_not k.0 a
   when_gone (queued f j) s rests h a b c k = true_not k.0 a
@@ -193,69 +167,55 @@ module _ {F T : Type 0} where
   when_resting (kept o) s rests t k = true_not t k.5
   when_resting gone s rests t k = true_not t k.3
 
-  pub when_kept : (b : Body F T) (s : State) (rests : Bool) → s.completed ≡ true → s.closed ≡ false → Fits b s rests → (t : T) × (b ≡ kept t)
+  pub when_kept : (b : Body F T) (s : State) (rests : Bool) → s.completed ≡ true → s.closed ≡ false → Fits b s rests
+      → (t : T) × (b ≡ kept t)
   when_kept (idle f) s rests c d k = true_not c k.2
   when_kept (resting f) s rests c d k = true_not c k.2
   when_kept (queued f j) s rests c d k = true_not c k.2
-  when_kept (taken hold j) s rests c d k = hold_kept hold s c d k.0 where
-    hold_kept : {A : Type 0} (hold : Hold) (s : State) → s.completed ≡ true → s.closed ≡ false → FitsHold hold s → A
-    hold_kept Running s c d k = true_not c k.1
-    hold_kept Closing s c d k = true_not c k.2
-    hold_kept Ending s c d k = true_not c k.1
-    hold_kept Filling s c d k = true_not (ap (λ (z : State). z.closed) k) d
-    hold_kept Spending s c d k = true_not k.3 d
-    hold_kept Nothing s c d k = absurd k
-    hold_kept Reference s c d k = absurd k
-    hold_kept Leaving s c d k = absurd k
-    hold_kept Handle s c d k = absurd k
-    hold_kept Made s c d k = absurd k
-    hold_kept Queued s c d k = absurd k
-    hold_kept Registering s c d k = absurd k
-    hold_kept HandleNotifying s c d k = absurd k
-    hold_kept RunNotifying s c d k = absurd k
-    hold_kept Emptying s c d k = absurd k
+  when_kept (taken hold j) s rests c d k = hold_kept hold s c d k.0
   when_kept (kept o) s rests c d k = (o, refl)
   when_kept gone s rests c d k = true_not k.2 d
 
 module _ {W : Type 0} where
+  -- an awaiter lies in its slot, or a seat has the slot by one of four
+  pub post_is : {a r n : Bool} (P : Post W → Type 0) → ((o : Option W) → FitsPost (lies o) a r n → P (lies o))
+      → ((j : ℕ) → r ≡ true → P (held Registering j)) → ((j : ℕ) → (r ≡ false) × (n ≡ true) → P (held HandleNotifying j))
+      → ((j : ℕ) → (r ≡ false) × (n ≡ true) → P (held RunNotifying j))
+      → ((j : ℕ) → (a ≡ true) × (r ≡ false) × (n ≡ false) → P (held Emptying j)) → (p : Post W) → FitsPost p a r n → P p
+  post_is P l g h u e (lies o) k = l o k
+  post_is P l g h u e (held Registering j) k = g j k
+  post_is P l g h u e (held HandleNotifying j) k = h j k
+  post_is P l g h u e (held RunNotifying j) k = u j k
+  post_is P l g h u e (held Emptying j) k = e j k
+  post_is P l g h u e (held Nothing j) k = absurd k
+  post_is P l g h u e (held Reference j) k = absurd k
+  post_is P l g h u e (held Leaving j) k = absurd k
+  post_is P l g h u e (held Handle j) k = absurd k
+  post_is P l g h u e (held Made j) k = absurd k
+  post_is P l g h u e (held Queued j) k = absurd k
+  post_is P l g h u e (held Running j) k = absurd k
+  post_is P l g h u e (held Closing j) k = absurd k
+  post_is P l g h u e (held Ending j) k = absurd k
+  post_is P l g h u e (held Filling j) k = absurd k
+  post_is P l g h u e (held Spending j) k = absurd k
+
   -- nobody is at the awaiter
-  pub alone : (p : Post W) (s : State) → calling p ≡ 0 → handling p ≡ 0 → Reachable s → FitsPost p s.awaiter s.registering s.notifying → Emptied p s → (a : Option W) × (p ≡ lies a)
-  alone (lies a) s c h t k e = (a, refl)
-  alone (held Registering j) s c h t k e = absurd (let z : 1 ≡ 0 = h in omega arith)
-  alone (held HandleNotifying j) s c h t k e = absurd (let z : 1 ≡ 0 = h in omega arith)
-  alone (held RunNotifying j) s c h t k e = absurd (let z : 1 ≡ 0 = c in omega arith)
-  alone (held Emptying j) s c h t k e = absurd (t e.0 e.1)
-  alone (held Nothing j) s c h t k e = absurd k
-  alone (held Reference j) s c h t k e = absurd k
-  alone (held Leaving j) s c h t k e = absurd k
-  alone (held Handle j) s c h t k e = absurd k
-  alone (held Made j) s c h t k e = absurd k
-  alone (held Queued j) s c h t k e = absurd k
-  alone (held Running j) s c h t k e = absurd k
-  alone (held Closing j) s c h t k e = absurd k
-  alone (held Ending j) s c h t k e = absurd k
-  alone (held Filling j) s c h t k e = absurd k
-  alone (held Spending j) s c h t k e = absurd k
+  pub alone : (p : Post W) (s : State) → calling p ≡ 0 → handling p ≡ 0 → Reachable s
+      → FitsPost p s.awaiter s.registering s.notifying → Emptied p s → (a : Option W) × (p ≡ lies a)
+  alone p s c h t k e = post_is (λ q. calling q ≡ 0 → handling q ≡ 0 → Emptied q s → (a : Option W) × (q ≡ lies a))
+      (λ a k c h e. (a, refl)) (λ j k c h e. absurd (let z : 1 ≡ 0 = h in omega arith))
+      (λ j k c h e. absurd (let z : 1 ≡ 0 = h in omega arith)) (λ j k c h e. absurd (let z : 1 ≡ 0 = c in omega arith))
+      (λ j k c h e. absurd (t e.0 e.1)) p k c h e
 
   -- nor was anything left there
-  pub unoccupied : (p : Post W) (s : State) → calling p ≡ 0 → handling p ≡ 0 → s.awaiter ≡ false → FitsPost p s.awaiter s.registering s.notifying → p ≡ lies None
-  unoccupied (lies None) s c h t k = refl
-  unoccupied (lies (Some w)) s c h t k = true_not k.0 t
-  unoccupied (held Registering j) s c h t k = absurd (let z : 1 ≡ 0 = h in omega arith)
-  unoccupied (held HandleNotifying j) s c h t k = absurd (let z : 1 ≡ 0 = h in omega arith)
-  unoccupied (held RunNotifying j) s c h t k = absurd (let z : 1 ≡ 0 = c in omega arith)
-  unoccupied (held Emptying j) s c h t k = true_not k.0 t
-  unoccupied (held Nothing j) s c h t k = absurd k
-  unoccupied (held Reference j) s c h t k = absurd k
-  unoccupied (held Leaving j) s c h t k = absurd k
-  unoccupied (held Handle j) s c h t k = absurd k
-  unoccupied (held Made j) s c h t k = absurd k
-  unoccupied (held Queued j) s c h t k = absurd k
-  unoccupied (held Running j) s c h t k = absurd k
-  unoccupied (held Closing j) s c h t k = absurd k
-  unoccupied (held Ending j) s c h t k = absurd k
-  unoccupied (held Filling j) s c h t k = absurd k
-  unoccupied (held Spending j) s c h t k = absurd k
+  pub unoccupied : (p : Post W) (s : State) → calling p ≡ 0 → handling p ≡ 0 → s.awaiter ≡ false
+      → FitsPost p s.awaiter s.registering s.notifying → p ≡ lies None
+  unoccupied p s c h t k = post_is (λ q. calling q ≡ 0 → handling q ≡ 0 → q ≡ lies None) (λ a k c h. empty_one a k.0)
+      (λ j k c h. absurd (let z : 1 ≡ 0 = h in omega arith)) (λ j k c h. absurd (let z : 1 ≡ 0 = h in omega arith))
+      (λ j k c h. absurd (let z : 1 ≡ 0 = c in omega arith)) (λ j k c h. true_not k.0 t) p k c h where
+        empty_one : (a : Option W) → s.awaiter ≡ is_some a → lies a ≡ lies None
+        empty_one (Some w) e = true_not e t
+        empty_one None e = refl
 
   pub there_is : (a : Option W) (b : Bool) → b ≡ is_some a → b ≡ true → (w : W) × (a ≡ Some w)
   there_is (Some w) b e t = (w, refl)

@@ -7,3 +7,4 @@ pub mod Moving
 pub mod Running
 pub mod Closing
 pub mod Making
+pub mod Letting

@@ -1,29 +1,34 @@
 -- The steps that make a task, and those by which its Runnable rests in the word, keep the rule.
-use Rattle.std.proofs.Common.{◌≡◌, ◌≢◌, ℕ, ◌+◌, ◌%◌, ◌^◌, ◌<◌, ◌≤◌, Bool, true, false, eqb, List, [], ◌∷◌, ◌++◌, get_or, set, sym, refl, ap, ◌∙◌, subst, ⊎_elim, arith}
+use Rattle.std.proofs.Common.{◌≡◌, ℕ, ◌+◌, ◌%◌, ◌^◌, ◌<◌, ◌≤◌, Bool, true, false, eqb, [], ◌∷◌, ◌++◌, get_or, set, sym, refl}
+use Rattle.std.proofs.Common.{ap, ◌∙◌, subst, ⊎_elim, arith}
 use mathlib.Core.Option.{none, some}
-use mathlib.Core.Option as maybe
 use lib.ListN.{get_elem?}
 use prog.Atomic.{either}
-use Rattle.std.specs.Prelude.{Option, Some, None}
-use Rattle.atomic_table.specs.Table.{Allows, Splits, keeps, takes, gives, rest}
+use Rattle.std.specs.Prelude.{Some, None}
+use Rattle.atomic_table.specs.Table.{Allows, Splits, keeps, takes, gives}
 use Rattle.atomic_table.proofs.Lists.{at_set, at_snoc}
 use Rattle.task_moves.specs.declared.moves.state.State.{State}
 use Rattle.task_moves.specs.Moves as moves
 use Rattle.task_word.specs.declared.rule.View.{View}
 use Rattle.task_word.specs.declared.rule.Hold.{Hold}
-use Rattle.task_word.specs.declared.rule.Hold.TheVariants.{Nothing, Handle, Made, Queued, Filling}
+use Rattle.task_word.specs.declared.rule.Hold.TheVariants.{Nothing, Made, Queued, Filling}
 use Rattle.task_word.specs.declared.rule.Content.TheVariants.{Future}
 use Rattle.task_word.specs.Word.{bit, pack}
-use Rattle.task_word.specs.Cell.{Slot, Body, resting, queued, taken, gone, Post, lies, home, home_awaiter, going, spending, calling, handling, room, most, filling, reference_of, handle_of, Fits, FitsPost, Knows, KnowsPost, KnowsState, Holds, Cell, total, handles}
-use Rattle.task_word.specs.Steps.{view, Known, Is, IsOver, swapped, reserved, filled, filled_detached, detached, rested, resumed, runnable_of, handle_of_new}
-use Rattle.task_word.proofs.Packs.{one_state, rests_at}
-use Rattle.task_word.proofs.Views.{true_not, total_set, total_last, handles_set, handles_last}
+use Rattle.task_word.specs.Cell.{Body, resting, queued, taken, lies, home, home_awaiter, going, spending, calling}
+use Rattle.task_word.specs.Cell.{handling, room, most, filling, reference_of, handle_of, Fits, Knows, KnowsPost, KnowsState}
+use Rattle.task_word.specs.Cell.{Holds, Cell, total, handles}
+use Rattle.task_word.specs.Steps.{Known, IsOver, swapped, reserved, filled, filled_detached, detached, rested, resumed}
+use Rattle.task_word.specs.Steps.{runnable_of, handle_of_new}
+use Rattle.task_word.proofs.Packs.{rests_at}
+use Rattle.task_word.proofs.Views.{total_set, total_last, handles_set, handles_last}
 use Rattle.task_word.proofs.Bodies.{when_gone, when_resting, unoccupied}
-use Rattle.task_word.proofs.Keeps.{St, Goes, Next, goes, exchanges, shows, holder, holder_of, from_free, from_mine, post_from_free, there, back, taken_out, stays_there, counted, handle_counted}
+use Rattle.task_word.proofs.Keeps.{St, Goes, goes, exchanges, shows, holder, holder_of, from_free, from_mine, post_from_free, there}
+use Rattle.task_word.proofs.Keeps.{back, taken_out, stays_there, counted, handle_counted}
 use Rattle.task_word.proofs.Stepping.{referred, full}
 
 module _ {F T W : Type 0} (n id : ℕ) (me : Known F T W) where
-  pub reserves : (old new : ℕ) (st : State) (rests : Bool) → pack st rests ≡ old → me.0.hold ≡ Nothing → new ≡ pack filling false → IsOver st
+  pub reserves : (old new : ℕ) (st : State) (rests : Bool) → pack st rests ≡ old → me.0.hold ≡ Nothing → new ≡ pack filling false
+      → IsOver st
       → Allows (Cell {F = F} {T = T} {W = W}) n id me 0 (λ y. either (eqb y old) new y) (swapped reserved old new me)
   reserves old new st rests is mine next over = exchanges n id me old new reserved st rests is (λ s r at.
       let zeros : st.references ≡ 0 = over.0.0 in let none_has : bit st.handle ≡ 0 = ap bit over.0.1 in
@@ -53,7 +58,8 @@ module _ {F T W : Type 0} (n id : ℕ) (me : Known F T W) where
 
   pub fills : (f : F) (new : ℕ) → me.0.hold ≡ Filling → me.1 ≡ (0, Some (Future f)) ∷ [] → new ≡ pack moves.made false
       → Allows (Cell {F = F} {T = T} {W = W}) n id me 0 (λ _. new) (λ _. filled new me)
-  fills f new mine has next s c wide at small = let q = subst (λ (z : Hold). Knows c.holds.body id z) mine (c.holds.each_seat id me.0 at).0 in
+  fills f new mine has next s c wide at small = let q = subst (λ (z : Hold). Knows c.holds.body id z) mine
+      (c.holds.each_seat id me.0 at).0 in
       let k = subst (λ (z : Body F T). Fits z c.state c.rests) q c.holds.fits in
       filled_of s (subst (λ (z : Bool). Holds filling z s) k.1 (subst (λ (z : State). Holds z c.rests s) k.0 c.holds)) at where
         filled_of : (s : St F T W) (r : Holds filling false s) → get_elem? s.views id ≡ some me.0 → Goes s id me (filled new me) new
@@ -82,10 +88,12 @@ module _ {F T W : Type 0} (n id : ℕ) (me : Known F T W) where
 
   pub fills_detached : (f : F) (new : ℕ) → me.0.hold ≡ Filling → me.1 ≡ (0, Some (Future f)) ∷ [] → new ≡ pack detached false
       → Allows (Cell {F = F} {T = T} {W = W}) n id me 0 (λ _. new) (λ _. filled_detached new me)
-  fills_detached f new mine has next s c wide at small = let q = subst (λ (z : Hold). Knows c.holds.body id z) mine (c.holds.each_seat id me.0 at).0 in
+  fills_detached f new mine has next s c wide at small = let q =
+      subst (λ (z : Hold). Knows c.holds.body id z) mine (c.holds.each_seat id me.0 at).0 in
       let k = subst (λ (z : Body F T). Fits z c.state c.rests) q c.holds.fits in
       detached_of s (subst (λ (z : Bool). Holds filling z s) k.1 (subst (λ (z : State). Holds z c.rests s) k.0 c.holds)) at where
-        detached_of : (s : St F T W) (r : Holds filling false s) → get_elem? s.views id ≡ some me.0 → Goes s id me (filled_detached new me) new
+        detached_of : (s : St F T W) (r : Holds filling false s) → get_elem? s.views id ≡ some me.0
+            → Goes s id me (filled_detached new me) new
         detached_of s r at = let i = subst (λ (z : Hold). Knows r.body id z) mine (r.each_seat id me.0 at).0 in
             let c : reference_of me.0.hold + going r.body + calling r.post ≤ 0 = counted r id me at in
             let hc : handle_of me.0.hold + spending r.body + handling r.post ≤ 0 = handle_counted r id me at in
@@ -111,7 +119,8 @@ module _ {F T W : Type 0} (n id : ℕ) (me : Known F T W) where
 
   pub resumes : (old new : ℕ) (st : State) (rests : Bool) → pack st rests ≡ old → me.0.hold ≡ Nothing → new ≡ pack st false → rests ≡ true
       → Allows (Cell {F = F} {T = T} {W = W}) n id me 0 (λ y. either (eqb y old) new y) (swapped resumed old new me)
-  resumes old new st rests is mine next lying = exchanges n id me old new resumed st rests is (λ s r at. let i = when_resting r.body st rests lying r.fits in
+  resumes old new st rests is mine next lying = exchanges n id me old new resumed st rests is
+      (λ s r at. let i = when_resting r.body st rests lying r.fits in
       let k : Fits {T = T} (resting i.0) st rests = subst (λ (z : Body F T). Fits z st rests) i.1 r.fits in
       let g : going r.body ≡ 1 = ap going i.1 in let u : spending r.body ≡ 0 = ap spending i.1 in
       let a : reference_of me.0.hold ≡ 0 = ap reference_of mine in let b : handle_of me.0.hold ≡ 0 = ap handle_of mine in
@@ -137,7 +146,8 @@ module _ {F T W : Type 0} (n id : ℕ) (me : Known F T W) where
       let i = subst (λ (z : Hold). Knows r.body id z) mine (r.each_seat id me.0 at).0 in
       let k : Fits {T = T} (queued i.0 id) c.state c.rests = subst (λ (z : Body F T). Fits z c.state c.rests) i.1 r.fits in
       let is : y ≡ pack c.state false = shows r ∙ ap (pack c.state) k.3 in
-      let next : (y + 256) % 2 ^ 64 ≡ pack c.state true = ap (λ (z : ℕ). (z + 256) % 2 ^ 64) is ∙ rests_at c.state (subst (λ (z : ℕ). z < 18446744073709551616) is under) in
+      let next : (y + 256) % 2 ^ 64 ≡ pack c.state true = ap (λ (z : ℕ). (z + 256) % 2 ^ 64) is
+      ∙ rests_at c.state (subst (λ (z : ℕ). z < 18446744073709551616) is under) in
       let g : going r.body ≡ 1 = ap going i.1 in let u : spending r.body ≡ 0 = ap spending i.1 in
       let a : reference_of me.0.hold ≡ 0 = ap reference_of mine in let b : handle_of me.0.hold ≡ 0 = ap handle_of mine in
       let w : reference_of me.0.hold + going r.body + calling r.post ≤ c.state.references = counted r id me at in
@@ -173,17 +183,23 @@ module _ {F T W : Type 0} (id : ℕ) (v : View) where
       emptied = r.emptied;
       word = r.word;
       references = let a : reference_of v.hold ≡ 0 = ap reference_of mine in
-          let t : total (set s.views id (runnable_of v)) + reference_of v.hold ≡ total s.views + 0 = total_set s.views id v (runnable_of v) at in
-          let l : total (set s.views id (runnable_of v) ++ handle_of_new v ∷ []) ≡ total (set s.views id (runnable_of v)) + 0 = total_last (set s.views id (runnable_of v)) (handle_of_new v) in
+          let t : total (set s.views id (runnable_of v)) + reference_of v.hold ≡ total s.views + 0 =
+          total_set s.views id v (runnable_of v) at in
+          let l : total (set s.views id (runnable_of v) ++ handle_of_new v ∷ []) ≡ total (set s.views id (runnable_of v)) + 0 =
+          total_last (set s.views id (runnable_of v)) (handle_of_new v) in
           let m : c.state.references ≡ total s.views + r.stored + going r.body + calling r.post = r.references in omega arith;
       handle = let a : handle_of v.hold ≡ 1 = ap handle_of mine in
-          let t : handles (set s.views id (runnable_of v)) + handle_of v.hold ≡ handles s.views + 0 = handles_set s.views id v (runnable_of v) at in
-          let l : handles (set s.views id (runnable_of v) ++ handle_of_new v ∷ []) ≡ handles (set s.views id (runnable_of v)) + 1 = handles_last (set s.views id (runnable_of v)) (handle_of_new v) in
+          let t : handles (set s.views id (runnable_of v)) + handle_of v.hold ≡ handles s.views + 0 =
+          handles_set s.views id v (runnable_of v) at in
+          let l : handles (set s.views id (runnable_of v) ++ handle_of_new v ∷ []) ≡ handles (set s.views id (runnable_of v)) + 1 =
+          handles_last (set s.views id (runnable_of v)) (handle_of_new v) in
           let m : bit c.state.handle ≡ handles s.views + spending r.body + handling r.post = r.handle in omega arith;
       place = r.place;
       each_seat = λ j d e. ⊎_elim
           (λ t. ⊎_elim
-          (λ u. subst (λ (z : View). Knows r.body j z.hold × KnowsPost r.post j z.hold × KnowsState c.state z.hold) u.1 (subst (λ (i : ℕ). Knows r.body i Queued × KnowsPost r.post i Queued × KnowsState c.state Queued) (sym u.0) (subst (λ (z : Hold). Knows r.body id z) mine (r.each_seat id v at).0, tt, tt)))
+          (λ u. subst (λ (z : View). Knows r.body j z.hold × KnowsPost r.post j z.hold × KnowsState c.state z.hold) u.1
+          (subst (λ (i : ℕ). Knows r.body i Queued × KnowsPost r.post i Queued × KnowsState c.state Queued) (sym u.0)
+          (subst (λ (z : Hold). Knows r.body id z) mine (r.each_seat id v at).0, tt, tt)))
           (λ u. r.each_seat j d u.1)
           (at_set s.views id j (runnable_of v) d t))
           (λ t. subst (λ (z : View). Knows r.body j z.hold × KnowsPost r.post j z.hold × KnowsState c.state z.hold) t (tt, tt, tt))

@@ -1,5 +1,6 @@
 -- The references and the handle in the views, and truth values.
-use Rattle.std.proofs.Common.{◌≡◌, ℕ, zero, suc, ◌+◌, ◌≤◌, Bool, true, false, ◌||◌, ◌&&◌, not, List, [], ◌∷◌, ◌++◌, set, sym, refl, ap, ◌∙◌, subst, eqb-true, arith}
+use Rattle.std.proofs.Common.{◌≡◌, ℕ, zero, suc, ◌+◌, ◌≤◌, Bool, true, false, ◌||◌, ◌&&◌, not, List, [], ◌∷◌, ◌++◌, set, sym, refl, ap}
+use Rattle.std.proofs.Common.{◌∙◌, subst, eqb-true, arith}
 use mathlib.Core.Option.{some, some-injective, some-ne-none}
 use lib.ListN.{get_elem?}
 use Rattle.task_moves.specs.declared.moves.state.State.{State}
@@ -7,10 +8,13 @@ use Rattle.task_moves.specs.Moves.{is_last}
 use Rattle.task_word.specs.declared.rule.View.{View}
 use Rattle.task_word.specs.Cell.{total, handles, reference_of, handle_of}
 
-pub total_set : (l : List View) (i : ℕ) (v w : View) → get_elem? l i ≡ some v → total (set l i w) + reference_of v.hold ≡ total l + reference_of w.hold
+pub total_set : (l : List View) (i : ℕ) (v w : View) → get_elem? l i ≡ some v
+    → total (set l i w) + reference_of v.hold ≡ total l + reference_of w.hold
 total_set [] i v w e = absurd (some-ne-none v (sym e))
-total_set (x ∷ xs) zero v w e = let z : reference_of x.hold ≡ reference_of v.hold = ap (λ (y : View). reference_of y.hold) (some-injective x v e) in omega arith
-total_set (x ∷ xs) (suc i) v w e = let z : total (set xs i w) + reference_of v.hold ≡ total xs + reference_of w.hold = total_set xs i v w e in omega arith
+total_set (x ∷ xs) zero v w e = let z : reference_of x.hold ≡ reference_of v.hold =
+    ap (λ (y : View). reference_of y.hold) (some-injective x v e) in omega arith
+total_set (x ∷ xs) (suc i) v w e = let z : total (set xs i w) + reference_of v.hold ≡ total xs + reference_of w.hold =
+    total_set xs i v w e in omega arith
 
 pub total_last : (l : List View) (w : View) → total (l ++ w ∷ []) ≡ total l + reference_of w.hold
 total_last [] w = omega arith
@@ -18,13 +22,17 @@ total_last (x ∷ xs) w = let z : total (xs ++ w ∷ []) ≡ total xs + referenc
 
 pub total_has : (l : List View) (i : ℕ) (v : View) → get_elem? l i ≡ some v → reference_of v.hold ≤ total l
 total_has [] i v e = absurd (some-ne-none v (sym e))
-total_has (x ∷ xs) zero v e = let z : reference_of x.hold ≡ reference_of v.hold = ap (λ (y : View). reference_of y.hold) (some-injective x v e) in omega arith
+total_has (x ∷ xs) zero v e = let z : reference_of x.hold ≡ reference_of v.hold =
+    ap (λ (y : View). reference_of y.hold) (some-injective x v e) in omega arith
 total_has (x ∷ xs) (suc i) v e = let z : reference_of v.hold ≤ total xs = total_has xs i v e in omega arith
 
-pub handles_set : (l : List View) (i : ℕ) (v w : View) → get_elem? l i ≡ some v → handles (set l i w) + handle_of v.hold ≡ handles l + handle_of w.hold
+pub handles_set : (l : List View) (i : ℕ) (v w : View) → get_elem? l i ≡ some v
+    → handles (set l i w) + handle_of v.hold ≡ handles l + handle_of w.hold
 handles_set [] i v w e = absurd (some-ne-none v (sym e))
-handles_set (x ∷ xs) zero v w e = let z : handle_of x.hold ≡ handle_of v.hold = ap (λ (y : View). handle_of y.hold) (some-injective x v e) in omega arith
-handles_set (x ∷ xs) (suc i) v w e = let z : handles (set xs i w) + handle_of v.hold ≡ handles xs + handle_of w.hold = handles_set xs i v w e in omega arith
+handles_set (x ∷ xs) zero v w e = let z : handle_of x.hold ≡ handle_of v.hold =
+    ap (λ (y : View). handle_of y.hold) (some-injective x v e) in omega arith
+handles_set (x ∷ xs) (suc i) v w e = let z : handles (set xs i w) + handle_of v.hold ≡ handles xs + handle_of w.hold =
+    handles_set xs i v w e in omega arith
 
 pub handles_last : (l : List View) (w : View) → handles (l ++ w ∷ []) ≡ handles l + handle_of w.hold
 handles_last [] w = omega arith
@@ -32,7 +40,8 @@ handles_last (x ∷ xs) w = let z : handles (xs ++ w ∷ []) ≡ handles xs + ha
 
 pub handles_has : (l : List View) (i : ℕ) (v : View) → get_elem? l i ≡ some v → handle_of v.hold ≤ handles l
 handles_has [] i v e = absurd (some-ne-none v (sym e))
-handles_has (x ∷ xs) zero v e = let z : handle_of x.hold ≡ handle_of v.hold = ap (λ (y : View). handle_of y.hold) (some-injective x v e) in omega arith
+handles_has (x ∷ xs) zero v e = let z : handle_of x.hold ≡ handle_of v.hold =
+    ap (λ (y : View). handle_of y.hold) (some-injective x v e) in omega arith
 handles_has (x ∷ xs) (suc i) v e = let z : handle_of v.hold ≤ handles xs = handles_has xs i v e in omega arith
 
 pub true_not : {b : Bool} {A : Type 0} → b ≡ true → b ≡ false → A
@@ -69,6 +78,10 @@ last_is s e = eqb-true s.references 1 (both_true _ _ e).0
 pub not_true : (b : Bool) → not b ≡ true → b ≡ false
 not_true true e = true_not e refl
 not_true false e = refl
+
+pub both_not : (a b : Bool) → a && not b ≡ false → a ≡ true → b ≡ true
+both_not true b e t = not_false b e
+both_not false b e t = true_not t refl
 
 pub last_has_no_handle : (s : State) → is_last s ≡ true → s.handle ≡ false
 last_has_no_handle s e = not_true s.handle (both_true _ _ e).1

@@ -8,7 +8,7 @@ use Rattle.task_moves.specs.declared.moves.state.State.{State}
 use Rattle.task_moves.specs.Moves as moves
 use Rattle.task_word.specs.declared.rule.View.{View}
 use Rattle.task_word.specs.declared.rule.Hold.{Hold}
-use Rattle.task_word.specs.declared.rule.Hold.TheVariants.{Nothing, Reference, Leaving, Handle, Made, Queued, Running, Closing, Ending, Filling, Spending, Registering, HandleNotifying, RunNotifying, Emptying}
+use Rattle.task_word.specs.declared.rule.Hold.TheVariants.{Reference, Leaving, Handle, Made, Queued, Running, Closing, Ending, Filling, Spending, Registering, HandleNotifying, RunNotifying, Emptying}
 use Rattle.task_word.specs.declared.rule.Content.{Content}
 use Rattle.task_word.specs.declared.rule.Content.TheVariants.{Future, Output, Awaiter}
 use Rattle.task_word.specs.Word.{bit, pack}

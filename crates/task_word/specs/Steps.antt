@@ -1,5 +1,5 @@
 -- What each kind of step tells, and what a seat has.
-use Rattle.std.specs.Prelude.{◌≡◌, ◌≢◌, ℕ, ◌+◌, ◌≤◌, List, [], ◌∷◌, Bool, true, false, ◌&&◌, ◌||◌, Option, Some, None, ◌==◌, not}
+use Rattle.std.specs.Prelude.{◌≡◌, ◌≢◌, ℕ, ◌+◌, ◌≤◌, List, [], ◌∷◌, Bool, true, false, ◌&&◌, Option, Some, None, ◌==◌, not}
 use Rattle.atomic_table.specs.Table.{Me, rest}
 use Rattle.atomic_table.specs.declared.shared.Seat.{Seat}
 use Rattle.atomic_table.specs.declared.shared.Shared.{Shared}
@@ -13,7 +13,7 @@ use Rattle.task_moves.specs.declared.schedule_info.ScheduleInfo.{ScheduleInfo}
 use Rattle.task_moves.specs.Moves as moves
 use Rattle.task_word.specs.declared.rule.View.{View}
 use Rattle.task_word.specs.declared.rule.Hold.{Hold}
-use Rattle.task_word.specs.declared.rule.Hold.TheVariants.{Nothing, Reference, Leaving, Handle, Made, Queued, Running, Closing, Ending, Filling, Spending, Registering, HandleNotifying, RunNotifying, Emptying}
+use Rattle.task_word.specs.declared.rule.Hold.TheVariants.{Nothing, Reference, Leaving, Handle, Made, Queued, Running, Closing, Ending, Filling, Spending, Emptying}
 use Rattle.task_word.specs.declared.rule.Content.TheVariants.{Future, Output, Awaiter}
 use Rattle.task_word.specs.Word.{pack}
 use Rattle.task_word.specs.Cell.{most, weight, filling, Slot}
@@ -137,6 +137,18 @@ module _ {F T W : Type 0} where
   abbrev pub paused : Moved → Known F T W → Known F T W → Type 0
   paused mv m m' = leaves mv.owed.schedule (leaves_awaiter mv) (rest m.1) m'
 
+  -- the output comes out, to be dropped; or the handle is gone
+  abbrev pub lets_go : Bool → Moved → Known F T W → Known F T W → Type 0
+  lets_go true mv m m' = (t : T) × Is Spending ((0, Some (Output t)) ∷ m.1) m'
+  lets_go false mv m m' = leaves mv.owed.schedule (leaves_awaiter mv) m.1 m'
+
+  abbrev pub let_go : Moved → Known F T W → Known F T W → Type 0
+  let_go mv m m' = lets_go mv.owed.drop_output mv m m'
+
+  -- a load by which the output's empty slot goes home
+  abbrev pub spent : Known F T W → ℕ → Known F T W → Type 0
+  spent m n m' = Is Handle (rest m.1) m' × Logs n n m'
+
   -- an exchange that makes no move
   abbrev pub swapped : (Known F T W → Known F T W → Type 0) → ℕ → ℕ → Known F T W → ℕ → Known F T W → Type 0
   swapped effect old new m n m' = (n ≡ old → effect m m' × Logs old new m') × (n ≢ old → keeps_all m m' × Logs n n m')
@@ -191,6 +203,11 @@ module _ {F T W : Type 0} where
   -- a Runnable, where one is owed; or the awaiter that is left, where one is
   abbrev pub HasLeft : Option ScheduleInfo → Bool → Seat (Slot F T W) View → Type 0
   HasLeft schedule awaiter seat = leaves schedule awaiter [] seat.me
+
+  -- the output, which is to be dropped; or what is left after the handle
+  abbrev pub LetGo : Bool → Option ScheduleInfo → Bool → Seat (Slot F T W) View → Type 0
+  LetGo true schedule awaiter seat = (t : T) × Is Spending ((0, Some (Output t)) ∷ []) seat.me
+  LetGo false schedule awaiter seat = HasLeft schedule awaiter seat
 
   -- the future is in the slot that the seat holds
   abbrev pub HoldsFuture : Seat (Slot F T W) View → Type 0

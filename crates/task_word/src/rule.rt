@@ -4,7 +4,7 @@ ghost use Rattle.task_moves.specs.Moves as moves;
 ghost use Rattle.task_word.specs.Cell.{Cell};
 ghost use Rattle.task_word.specs.Steps as steps;
 ghost use Rattle.task_word.specs.Steps.{view, arrived, looked, looked_by, turned_up, turned_back, tries, swapped};
-ghost use Rattle.task_word.specs.Steps.{woken, released, copied, began, ended, paused, dropped};
+ghost use Rattle.task_word.specs.Steps.{woken, released, let_go, spent, copied, began, ended, paused, dropped};
 ghost use Rattle.task_word.specs.Steps.{reserved, filled, filled_detached, rested, resumed, runnable_of, handle_of_new};
 ghost use Rattle.task_word.specs.declared.rule.Hold.TheVariants.{Nothing};
 
@@ -175,6 +175,20 @@ pub struct DropRunnable;
 
 impl<F, T, W> Play<Slot<F, T, W>, View> for DropRunnable {
     ghost then = { λ s m n m'. tries moves.drop_runnable dropped s.first s.second m n m' };
+}
+
+/// The handle goes. Where the output lies in the cell, that is taken out first.
+pub struct Detach;
+
+impl<F, T, W> Play<Slot<F, T, W>, View> for Detach {
+    ghost then = { λ s m n m'. tries moves.detach let_go s.first s.second m n m' };
+}
+
+/// The load of who has taken the output out. The empty slot goes home.
+pub struct Spend;
+
+impl<F, T, W> Play<Slot<F, T, W>, View> for Spend {
+    ghost then = { λ s m n m'. spent m n m' };
 }
 
 /// An empty cell is taken for a new task.

@@ -4,6 +4,7 @@ ghost use Rattle.task_word.specs.Steps as steps;
 ghost use Rattle.task_word.specs.Steps.{looked, IsSeatOf, IsSameSeat};
 
 pub mod closing;
+pub mod handle;
 pub mod making;
 pub mod runs;
 pub mod wakers;

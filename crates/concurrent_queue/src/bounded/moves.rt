@@ -1,9 +1,11 @@
 //! Each kind of step on a ring, as a function that is lent the table and a seat.
 ghost use Rattle.std.specs.Prelude.{◌≡◌, ℕ, ◌+◌, ◌*◌, ◌%◌, ◌^◌, ◌<◌, ◌≤◌, false, [], ◌∷◌, ◌++◌, ◌⊎◌, Option, Some, None};
 ghost use Rattle.queue_steps.specs.Bounded.{IsPlaceWord, next_at, is_marked};
-ghost use Rattle.concurrent_queue.specs.BoundedRule.{doing, saw_tail, saw_head, looked, looked_at_tail, appended, took, displaced, advanced, spent, closed};
+ghost use Rattle.concurrent_queue.specs.BoundedRule.{doing, saw_tail, saw_head, looked, looked_at_tail, appended, took, displaced};
+ghost use Rattle.concurrent_queue.specs.BoundedRule.{advanced, spent, closed};
 ghost use Rattle.concurrent_queue.specs.BoundedSeat.{IsSeatOf, IsSameSeat};
-ghost use Rattle.concurrent_queue.specs.declared.bounded.rule.Stage.TheVariants.{Idle, SawTail, SawHead, SawStamp, Writing, Reading, Forcing, Swapping};
+ghost use Rattle.concurrent_queue.specs.declared.bounded.rule.Stage.TheVariants.{Idle, SawTail, SawHead, SawStamp, Writing, Reading};
+ghost use Rattle.concurrent_queue.specs.declared.bounded.rule.Stage.TheVariants.{Forcing, Swapping};
 
 use crate::bounded::plays;
 use crate::bounded::rule::{BoundedRule, Doing};
@@ -80,9 +82,15 @@ pub fn look_at_head<T>(board: &Board<T>, pass: &mut Pass<T>) -> u64
 pub fn stamp_at_tail<T>(board: &Board<T>, pass: &mut Pass<T>, index: usize) -> u64
     requires seat { IsSeatOf board.now pass.old }
     requires place { index < board.now.key.capacity }
-    requires seen { (pass.old.me.0.stage ≡ SawTail) × (index ≡ pass.old.me.0.word % board.now.key.mark) × (is_marked board.now.key.mark pass.old.me.0.word ≡ false) }
+    requires seen { (pass.old.me.0.stage ≡ SawTail) × (index ≡ pass.old.me.0.word % board.now.key.mark)
+        × (is_marked board.now.key.mark pass.old.me.0.word ≡ false) }
     ensures same { IsSameSeat pass.old pass.new }
-    ensures seen { pass.new.me ≡ (doing SawStamp pass.old.me.0.at index pass.old.me.0.word result pass.old.me.0.mark pass.old.me.0.closed (pass.old.me.0.found ++ result ∷ []), pass.old.me.1) }
+    ensures seen { pass.new.me
+        ≡ (
+          doing SawStamp pass.old.me.0.at index pass.old.me.0.word result pass.old.me.0.mark pass.old.me.0.closed
+              (pass.old.me.0.found ++ result ∷ []),
+          pass.old.me.1,
+        ) }
 {
     board.load::<plays::SeeStamp>(pass, index + STAMPS)
 }
@@ -94,7 +102,12 @@ pub fn stamp_at_head<T>(board: &Board<T>, pass: &mut Pass<T>, index: usize) -> u
     requires place { index < board.now.key.capacity }
     requires seen { (pass.old.me.0.stage ≡ SawHead) × (index ≡ pass.old.me.0.word % board.now.key.mark) }
     ensures same { IsSameSeat pass.old pass.new }
-    ensures seen { pass.new.me ≡ (doing SawStamp pass.old.me.0.at index pass.old.me.0.word result pass.old.me.0.mark pass.old.me.0.closed (pass.old.me.0.found ++ result ∷ []), pass.old.me.1) }
+    ensures seen { pass.new.me
+        ≡ (
+          doing SawStamp pass.old.me.0.at index pass.old.me.0.word result pass.old.me.0.mark pass.old.me.0.closed
+              (pass.old.me.0.found ++ result ∷ []),
+          pass.old.me.1,
+        ) }
 {
     board.load::<plays::SeeStamp>(pass, index + STAMPS)
 }
@@ -124,7 +137,8 @@ pub fn take<T>(board: &Board<T>, pass: &mut Pass<T>, old: u64, new: u64) -> u64
 /// The displacement, where the head is still a lap before the tail that was seen.
 pub fn displace<T>(board: &Board<T>, pass: &mut Pass<T>, old: u64, new: u64) -> u64
     requires seat { IsSeatOf board.now pass.old }
-    requires seen { (pass.old.me.0.stage ≡ SawStamp) × (old + 2 * board.now.key.mark ≡ pass.old.me.0.word) × (pass.old.me.0.stamp + 2 * board.now.key.mark ≡ pass.old.me.0.word + 1) }
+    requires seen { (pass.old.me.0.stage ≡ SawStamp) × (old + 2 * board.now.key.mark ≡ pass.old.me.0.word)
+        × (pass.old.me.0.stamp + 2 * board.now.key.mark ≡ pass.old.me.0.word + 1) }
     requires next { new ≡ next_at board.now.key.capacity board.now.key.mark old }
     ensures { IsSameSeat pass.old pass.new × displaced old pass.old.me result pass.new.me }
 {
@@ -186,7 +200,8 @@ pub fn write<T>(
 #[inline(always)]
 pub fn read<T>(board: &Board<T>, pass: &mut Pass<T>, index: usize, stamp: u64) -> T
     requires seat { IsSeatOf board.now pass.old }
-    requires place { (index ≡ pass.old.me.0.place) × (index < board.now.key.capacity) × (stamp ≡ pass.old.me.0.word + 2 * board.now.key.mark) }
+    requires place { (index ≡ pass.old.me.0.place) × (index < board.now.key.capacity)
+        × (stamp ≡ pass.old.me.0.word + 2 * board.now.key.mark) }
     requires seen { pass.old.me.0.stage ≡ Reading }
     requires held { (x : T) × (pass.old.me.1 ≡ (index, Some x) ∷ []) }
     ensures same { IsSameSeat pass.old pass.new }

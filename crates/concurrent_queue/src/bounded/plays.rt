@@ -1,6 +1,7 @@
 //! What each kind of step on a ring tells. These types are for the proofs alone.
 ghost use Rattle.std.specs.Prelude.{[]};
-ghost use Rattle.concurrent_queue.specs.BoundedRule.{saw_tail, saw_head, looked, looked_at_tail, stamped, appended, took, displaced, advanced, spent, closed, gave};
+ghost use Rattle.concurrent_queue.specs.BoundedRule.{saw_tail, saw_head, looked, looked_at_tail, stamped, appended, took, displaced};
+ghost use Rattle.concurrent_queue.specs.BoundedRule.{advanced, spent, closed, gave};
 
 use crate::bounded::rule::Doing;
 use atomic_table::Play;

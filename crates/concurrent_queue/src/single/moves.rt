@@ -43,7 +43,9 @@ pub(crate) fn write<T>(
     requires seat { IsSeatOf board.now pass.old }
     requires word { (old < 4) × (old % 2 ≡ 0) × (new ≡ 3) }
     ensures same { IsSameSeat pass.old pass.new }
-    ensures found { MatchResult result (λ p. (marks_of p.0 ≡ old) × (pass.old.me.0.closed ≢ true) × (pass.new.me.0 ≡ doing Idle (is_shut p.1) ((pass.old.me.0.found ++ old ∷ []) ++ p.1 ∷ []))) (λ e. (e.1 ≡ value) × (e.0 ≢ old) × (pass.new.me.0 ≡ doing Idle (is_shut e.0) (pass.old.me.0.found ++ e.0 ∷ []))) }
+    ensures found { MatchResult result (λ p. (marks_of p.0 ≡ old) × (pass.old.me.0.closed ≢ true)
+        × (pass.new.me.0 ≡ doing Idle (is_shut p.1) ((pass.old.me.0.found ++ old ∷ []) ++ p.1 ∷ []))) (λ e. (e.1 ≡ value) × (e.0 ≢ old)
+        × (pass.new.me.0 ≡ doing Idle (is_shut e.0) (pass.old.me.0.found ++ e.0 ∷ []))) }
 {
     let found = board.compare_exchange::<plays::Claim>(pass, 0, old, new);
     if found != old {
@@ -66,7 +68,8 @@ pub(crate) fn read<T>(
     requires seat { IsSeatOf board.now pass.old }
     requires word { (old % 4 ≡ 2) × (new + 1 ≡ old) }
     ensures same { IsSameSeat pass.old pass.new }
-    ensures found { MatchResult result (λ p. pass.new.me.0 ≡ doing Idle (is_shut p.1) ((pass.old.me.0.found ++ old ∷ []) ++ p.1 ∷ [])) (λ w. (w ≢ old) × (pass.new.me.0 ≡ doing Idle (is_shut w) (pass.old.me.0.found ++ w ∷ []))) }
+    ensures found { MatchResult result (λ p. pass.new.me.0 ≡ doing Idle (is_shut p.1) ((pass.old.me.0.found ++ old ∷ []) ++ p.1 ∷ []))
+        (λ w. (w ≢ old) × (pass.new.me.0 ≡ doing Idle (is_shut w) (pass.old.me.0.found ++ w ∷ []))) }
 {
     let found = board.compare_exchange::<plays::Take>(pass, 0, old, new);
     if found != old {

@@ -2,12 +2,12 @@
 ghost use Rattle.std.specs.Prelude.{◌≡◌, ◌≢◌, true, MatchResult, IsErr};
 ghost use Rattle.queue_steps.specs.declared.steps.Reply.{Reply};
 ghost use Rattle.queue_steps.specs.declared.steps.Reply.TheVariants.{Done};
-ghost use Rattle.queue_steps.specs.declared.steps.single.Turn.TheVariants.{Look, End};
-ghost use Rattle.concurrent_queue.specs.Answered.{turns, PushSays, ForcePushSays};
-ghost use Rattle.queue_steps.specs.SingleTurns.{push_turn, force_push_turn};
-ghost use Rattle.concurrent_queue.specs.SingleSeat.{IsSeatOf, IsSameSeat, IsRefusalToPush, IsPushTurn};
+ghost use Rattle.queue_steps.specs.declared.steps.single.Turn.TheVariants.{End};
+ghost use Rattle.concurrent_queue.specs.Answered.{PushSays, ForcePushSays};
+ghost use Rattle.concurrent_queue.specs.SingleSeat.{IsSeatOf, IsSameSeat, push_at, force_push_at, IsRefusalToPush, IsPushTurn};
 
-use crate::single::moves::{self, Board, Pass};
+use crate::single::Single;
+use crate::single::moves::{self, Pass};
 use crossbeam_utils::Backoff;
 use queue_steps::steps::Reply;
 use queue_steps::steps::single::{self as steps, Turn};
@@ -18,22 +18,29 @@ use std::sync::Wait;
 #[inline(never)]
 fn push_from<T, R: Wait>(
     rt: &R,
-    board: &Board<T>,
+    slot: &Single<T>,
     pass: &mut Pass<T>,
     turn: Turn,
     value: T,
 ) -> Result<(), (Reply, T)>
-    requires seat { IsSeatOf board.now pass.old }
-    requires stands { (turn ≡ turns push_turn Look pass.old.me.0.found) × IsPushTurn turn }
+    requires seat { IsSeatOf slot.now.board.shared pass.old }
+    requires stands { (turn ≡ push_at pass.old.me.0.found) × IsPushTurn turn }
     ensures same { IsSameSeat pass.old pass.new }
-    ensures made { MatchResult result (λ _. (pass.old.me.0.closed ≢ true) × (turns push_turn Look pass.new.me.0.found ≡ End Done)) (λ e. IsRefusalToPush e.0 × (e.1 ≡ value) × (turns push_turn Look pass.new.me.0.found ≡ End e.0)) }
+    ensures made { MatchResult result (λ _. (pass.old.me.0.closed ≢ true) × (push_at pass.new.me.0.found ≡ End Done))
+        (λ e. IsRefusalToPush e.0 × (e.1 ≡ value) × (push_at pass.new.me.0.found ≡ End e.0)) }
 {
     let backoff = Backoff::new();
     let mut value = value;
     let mut turn = turn;
     for _ in rt.forever() {
         match turn {
-            Turn::Exchange(old, new) => match moves::write(board, pass, old, new, value) {
+            Turn::Exchange(old, new) => match moves::write(
+                &slot.board.shared,
+                pass,
+                old,
+                new,
+                value,
+            ) {
                 Ok((held, _last)) => match held {
                     None => return Ok(()),
                     Some(_) => unreachable!(),
@@ -45,7 +52,7 @@ fn push_from<T, R: Wait>(
             },
             Turn::Look => {
                 backoff.snooze();
-                turn = steps::push(turn, moves::look(board, pass));
+                turn = steps::push(turn, moves::look(&slot.board.shared, pass));
             }
             Turn::End(reply) => return Err((reply, value)),
             _ => unreachable!(),
@@ -57,16 +64,17 @@ fn push_from<T, R: Wait>(
 // The first turns of a push, which are all on an empty slot where no other call comes between. Or else where it stands
 // then, and the value.
 #[inline(always)]
-fn push_at_once<T>(board: &Board<T>, pass: &mut Pass<T>, value: T) -> Result<(), (Turn, T)>
-    requires { IsSeatOf board.now pass.old }
+fn push_at_once<T>(slot: &Single<T>, pass: &mut Pass<T>, value: T) -> Result<(), (Turn, T)>
+    requires { IsSeatOf slot.now.board.shared pass.old }
     ensures same { IsSameSeat pass.old pass.new }
-    ensures made { MatchResult result (λ _. (pass.old.me.0.closed ≢ true) × (turns push_turn Look pass.new.me.0.found ≡ End Done)) (λ e. (e.1 ≡ value) × (e.0 ≡ turns push_turn Look pass.new.me.0.found) × IsPushTurn e.0) }
+    ensures made { MatchResult result (λ _. (pass.old.me.0.closed ≢ true) × (push_at pass.new.me.0.found ≡ End Done))
+        (λ e. (e.1 ≡ value) × (e.0 ≡ push_at pass.new.me.0.found) × IsPushTurn e.0) }
 {
-    let turn = steps::push(Turn::Look, moves::begin(board, pass));
+    let turn = steps::push(Turn::Look, moves::begin(&slot.board.shared, pass));
     let Turn::Exchange(old, new) = turn else {
         return Err((turn, value));
     };
-    match moves::write(board, pass, old, new, value) {
+    match moves::write(&slot.board.shared, pass, old, new, value) {
         Ok((held, _last)) => match held {
             None => Ok(()),
             Some(_) => unreachable!(),
@@ -79,20 +87,20 @@ fn push_at_once<T>(board: &Board<T>, pass: &mut Pass<T>, value: T) -> Result<(),
 #[inline(always)]
 pub fn push<T, R: Wait>(
     rt: &R,
-    board: &Board<T>,
+    slot: &Single<T>,
     pass: &mut Pass<T>,
     value: T,
 ) -> Result<(), PushError<T>>
-    requires { IsSeatOf board.now pass.old }
+    requires { IsSeatOf slot.now.board.shared pass.old }
     ensures same { IsSameSeat pass.old pass.new }
-    ensures answers { (reply : Reply) × (turns push_turn Look pass.new.me.0.found ≡ End reply) × PushSays value reply result }
+    ensures answers { (reply : Reply) × (push_at pass.new.me.0.found ≡ End reply) × PushSays value reply result }
     ensures stays_closed { pass.old.me.0.closed ≡ true → IsErr result }
 {
-    let (turn, value) = match push_at_once(board, pass, value) {
+    let (turn, value) = match push_at_once(slot, pass, value) {
         Ok(()) => return Ok(()),
         Err(left) => left,
     };
-    match push_from(rt, board, pass, turn, value) {
+    match push_from(rt, slot, pass, turn, value) {
         Ok(()) => Ok(()),
         Err((Reply::Full, back)) => Err(PushError::Full(back)),
         Err((_, back)) => Err(PushError::Closed(back)),
@@ -102,21 +110,27 @@ pub fn push<T, R: Wait>(
 /// Appends a value, and gives out the item that it displaced on a full slot. Or it gives the value back.
 pub fn force_push<T, R: Wait>(
     rt: &R,
-    board: &Board<T>,
+    slot: &Single<T>,
     pass: &mut Pass<T>,
     value: T,
 ) -> Result<Option<T>, ForcePushError<T>>
-    requires { IsSeatOf board.now pass.old }
+    requires { IsSeatOf slot.now.board.shared pass.old }
     ensures same { IsSameSeat pass.old pass.new }
-    ensures answers { (reply : Reply) × (turns force_push_turn Look pass.new.me.0.found ≡ End reply) × ForcePushSays value reply result }
+    ensures answers { (reply : Reply) × (force_push_at pass.new.me.0.found ≡ End reply) × ForcePushSays value reply result }
     ensures stays_closed { pass.old.me.0.closed ≡ true → IsErr result }
 {
     let backoff = Backoff::new();
     let mut value = value;
-    let mut turn = steps::force_push(Turn::Look, moves::begin(board, pass));
+    let mut turn = steps::force_push(Turn::Look, moves::begin(&slot.board.shared, pass));
     for _ in rt.forever() {
         match turn {
-            Turn::Exchange(old, new) => match moves::write(board, pass, old, new, value) {
+            Turn::Exchange(old, new) => match moves::write(
+                &slot.board.shared,
+                pass,
+                old,
+                new,
+                value,
+            ) {
                 Ok((held, _last)) => return Ok(held),
                 Err((found, back)) => {
                     value = back;
@@ -125,7 +139,7 @@ pub fn force_push<T, R: Wait>(
             },
             Turn::Look => {
                 backoff.snooze();
-                turn = steps::force_push(turn, moves::look(board, pass));
+                turn = steps::force_push(turn, moves::look(&slot.board.shared, pass));
             }
             Turn::End(Reply::Closed) => return Err(ForcePushError::Closed(value)),
             _ => unreachable!(),

@@ -4,8 +4,10 @@
 //! the ring is closed. A place's stamp is the tail that may fill it, or one more than the tail that filled it.
 ghost use Rattle.std.specs.Prelude.{◌≡◌, ℕ, ◌+◌, ◌-◌, ◌*◌, ◌%◌, ◌<◌, ◌^◌, ◌==◌};
 ghost use Rattle.queue_steps.specs.Bounded.{IsShape, IsPlaceWord, count_at, next_at, advanced_at, is_marked};
-ghost use Rattle.queue_steps.specs.BoundedTurns.{answered, pushes_from, appends_at, stamped_for_push, displaces_at, pops_from, stamped_for_pop};
-ghost use Rattle.queue_steps.specs.BoundedTurns.{push_turn, force_push_turn, pop_turn, close_turn, len_turn, is_empty_turn, is_full_turn, is_closed_turn};
+ghost use Rattle.queue_steps.specs.BoundedTurns.{answered, pushes_from, appends_at, stamped_for_push, displaces_at, pops_from};
+ghost use Rattle.queue_steps.specs.BoundedTurns.{stamped_for_pop};
+ghost use Rattle.queue_steps.specs.BoundedTurns.{push_turn, force_push_turn, pop_turn, close_turn, len_turn, is_empty_turn, is_full_turn};
+ghost use Rattle.queue_steps.specs.BoundedTurns.{is_closed_turn};
 
 use crate::steps::Reply;
 

@@ -3,7 +3,8 @@
 //! Its word is a sum of three marks. Whoever sets `LOCKED` has the slot alone until it clears it again. `PUSHED` says
 //! that an item is there, or is on its way in. `CLOSED` is never cleared.
 ghost use Rattle.std.specs.Prelude.{◌≡◌};
-ghost use Rattle.queue_steps.specs.SingleTurns.{push_turn, force_push_turn, pop_turn, close_turn, len_turn, is_empty_turn, is_full_turn, is_closed_turn};
+ghost use Rattle.queue_steps.specs.SingleTurns.{push_turn, force_push_turn, pop_turn, close_turn, len_turn, is_empty_turn, is_full_turn};
+ghost use Rattle.queue_steps.specs.SingleTurns.{is_closed_turn};
 ghost use Rattle.queue_steps.specs.SingleTurns.{looked_to_push, looked_to_force, looked_to_pop, answered};
 
 use crate::steps::Reply;

@@ -7,5 +7,7 @@ loop-stamp-init g c = (fresh_none c.in-Ok.slots.items c.in-Ok.ensures.items, c.i
 
 pub loop-stamp-preserved : goal.loop-stamp-preserved
 loop-stamp-preserved g c =
-    let old = c.loop-stamp.invariant in
-    (rw c.push_reserved.ensures.items (fresh_push c.loop-stamp.stamp c.loop-stamp.slots.items old.0), omega (arith, old.1, c.push_reserved.ensures.capacity))
+    let old = c.loop-stamp.invariant in (
+      rw c.push_reserved.ensures.items (fresh_push c.loop-stamp.stamp c.loop-stamp.slots.items old.0),
+      omega (arith, old.1, c.push_reserved.ensures.capacity),
+    )

@@ -16,6 +16,7 @@ fetch_add-requires g c =
     let whole : old + (new - old) ≡ new = omega arith in let seen = c.requires.seen.1 in (
       search rules,
       search rules,
-      advances _ _ _ _ _ _ c.requires.seen.0 (ap (λ (w : ℕ). w + (new - old)) (sym seen) ∙ whole ∙ c.requires.next ∙ ap (next_at shape.capacity shape.mark) seen)
+      advances _ _ _ _ _ _ c.requires.seen.0 (ap (λ (w : ℕ). w + (new - old)) (sym seen) ∙ whole ∙ c.requires.next
+          ∙ ap (next_at shape.capacity shape.mark) seen)
           (subst (IsPlaceWord shape.capacity shape.mark) seen c.requires.place),
     )

@@ -4,7 +4,7 @@ use Rattle.concurrent_queue.proofs.bounded.pushing.append.Goals as goal
 
 pub overflow_add-tail : goal.overflow_add-tail
 overflow_add-tail g c =
-    let shape = c.args.shape in
+    let shape = c.args.ring.now.shape in
     let fits = place_fits shape.capacity shape.mark c.args.tail shape.sound c.requires.stands.2 in
     let above = shape.sound.above in
     omega arith

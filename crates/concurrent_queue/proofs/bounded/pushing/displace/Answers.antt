@@ -7,8 +7,9 @@ use Rattle.concurrent_queue.proofs.bounded.pushing.displace.Goals as goal
 
 pub next-requires : goal.next-requires
 next-requires g c =
-    let shape = c.args.shape in let tail : ℕ = c.args.tail in
-    subst (λ (lap : ℕ). IsPlaceWord shape.capacity shape.mark (tail - lap)) (sym c.lap.ensures) (place_before shape.capacity shape.mark shape.sound tail c.requires.stands.3 c.requires.stands.4)
+    let shape = c.args.ring.now.shape in let tail : ℕ = c.args.tail in
+    subst (λ (lap : ℕ). IsPlaceWord shape.capacity shape.mark (tail - lap)) (sym c.lap.ensures)
+    (place_before shape.capacity shape.mark shape.sound tail c.requires.stands.3 c.requires.stands.4)
 
 pub advance-requires-clause-seen : goal.advance-requires-clause-seen
 advance-requires-clause-seen g c =
@@ -18,7 +19,8 @@ advance-requires-clause-seen g c =
     )
 
 pub advance-requires-clause-next : goal.advance-requires-clause-next
-advance-requires-clause-next g c = let tail : ℕ = c.args.tail in c.next-2.ensures ∙ ap (λ (z : Shape). next_at z.capacity z.mark tail) (sym c.requires.seat.3)
+advance-requires-clause-next g c = let tail : ℕ = c.args.tail in
+    c.next-2.ensures ∙ ap (λ (z : Shape). next_at z.capacity z.mark tail) (sym c.requires.seat.3)
 
 pub advance-requires-clause-place : goal.advance-requires-clause-place
 advance-requires-clause-place g c =
@@ -26,7 +28,7 @@ advance-requires-clause-place g c =
 
 pub overflow_add-tail : goal.overflow_add-tail
 overflow_add-tail g c =
-    let shape = c.args.shape in
+    let shape = c.args.ring.now.shape in
     let fits = place_fits shape.capacity shape.mark c.args.tail shape.sound c.requires.stands.4 in
     let above = shape.sound.above in
     omega arith

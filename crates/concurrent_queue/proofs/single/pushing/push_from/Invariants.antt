@@ -6,4 +6,5 @@ use Rattle.concurrent_queue.specs.SingleSeat.{IsSameSeat, IsPushTurn}
 use Rattle.concurrent_queue.proofs.single.pushing.push_from.Given as goal
 
 abbrev pub invariant-loop : goal.invariant-loop
-invariant-loop g l = IsSameSeat l.initial.pass l.pass × (l.value ≡ l.initial.value) × (l.turn ≡ turns push_turn Look l.pass.me.0.found) × IsPushTurn l.turn
+invariant-loop g l = IsSameSeat l.initial.pass l.pass × (l.value ≡ l.initial.value) × (l.turn ≡ turns push_turn Look l.pass.me.0.found)
+    × IsPushTurn l.turn

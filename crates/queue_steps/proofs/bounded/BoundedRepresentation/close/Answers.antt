@@ -23,4 +23,7 @@ returns-in-End-Yes g c =
     let a = c.self.inside in
     let e = rw c.in-End-Yes.field-0-is at c.in-End-Yes.ensures in
     let unmarked = opens (is_marked a.shape.mark a.tail) e in
-    rw (← c.self.view_is) (ap not (sym unmarked), queue_shuts a.shape.capacity a.shape.mark a.tail a.head a.slots.items a.shape.sound c.self.invariant unmarked)
+    rw (← c.self.view_is) (
+      ap not (sym unmarked),
+      queue_shuts a.shape.capacity a.shape.mark a.tail a.head a.slots.items a.shape.sound c.self.invariant unmarked,
+    )

@@ -1,6 +1,7 @@
 use Rattle.std.proofs.Common.{refl, inr, arith}
 use Rattle.queue_steps.proofs.BoundedWords.{word_fits}
-use Rattle.queue_steps.proofs.BoundedRests.{tail_place, head_place, appends, queue_appends, accepts, nothing_there, full, shuts, queue_shuts, last_item, displaces, items_displaced, queue_displaces}
+use Rattle.queue_steps.proofs.BoundedRests.{tail_place, head_place, appends, queue_appends, accepts, nothing_there, full, shuts}
+use Rattle.queue_steps.proofs.BoundedRests.{queue_shuts, last_item, displaces, items_displaced, queue_displaces}
 use Rattle.queue_steps.proofs.bounded.BoundedRepresentation.force_push.Goals as goal
 
 pub append-requires-clause-place : goal.append-requires-clause-place
@@ -17,7 +18,8 @@ invariant_of-self g c =
 pub next-self-inside-requires : goal.next-self-inside-requires
 next-self-inside-requires g c =
     let a = c.self.inside in let e = c.in-Displace.ensures in
-    head_place a.shape.capacity a.shape.mark a.tail a.head a.slots.items a.shape.sound c.self.invariant (let full = e.2 in let few = e.3 in omega arith)
+    head_place a.shape.capacity a.shape.mark a.tail a.head a.slots.items a.shape.sound c.self.invariant (let full = e.2 in let few = e.3 in
+    omega arith)
 
 pub append-requires-in-Displace-clause-place : goal.append-requires-in-Displace-clause-place
 append-requires-in-Displace-clause-place g c =
@@ -43,7 +45,13 @@ invariant_of-self-in-Spend g c =
 pub returns-in-Append : goal.returns-in-Append
 returns-in-Append g c =
     let a = c.self.inside in let e = c.in-Append.ensures in
-    rw (c.append.ensures.old, nothing_there a.shape.capacity a.shape.mark a.tail a.head a.slots.items a.shape.sound c.self.invariant e.1 e.2, ← c.self.view_is, c.append.ensures.tail, c.append.ensures.slots) (
+    rw (
+      c.append.ensures.old,
+      nothing_there a.shape.capacity a.shape.mark a.tail a.head a.slots.items a.shape.sound c.self.invariant e.1 e.2,
+      ← c.self.view_is,
+      c.append.ensures.tail,
+      c.append.ensures.slots,
+    ) (
       accepts a.shape.capacity a.shape.mark a.tail a.head a.slots.items a.shape.sound c.self.invariant e.1 e.2 e.3,
       queue_appends a.shape.capacity a.shape.mark a.tail a.head a.slots.items a.shape.sound c.self.invariant c.args.value e.1 e.2,
     )
@@ -52,7 +60,14 @@ pub returns-in-Displace : goal.returns-in-Displace
 returns-in-Displace g c =
     let a = c.self.inside in let e = c.in-Displace.ensures in
     let y = last_item a.shape.capacity a.shape.mark a.tail a.head a.slots.items a.shape.sound c.self.invariant e.2 in
-    rw (c.append-in-Displace.ensures.old, y.1, ← c.self.view_is, c.append-in-Displace.ensures.tail, c.append-in-Displace.ensures.slots, c.next-self-inside.ensures) (
+    rw (
+      c.append-in-Displace.ensures.old,
+      y.1,
+      ← c.self.view_is,
+      c.append-in-Displace.ensures.tail,
+      c.append-in-Displace.ensures.slots,
+      c.next-self-inside.ensures,
+    ) (
       e.1,
       full a.shape.capacity a.shape.mark a.tail a.head a.slots.items a.shape.sound c.self.invariant e.2,
       e.3,

@@ -6,7 +6,8 @@ pub take-requires-clause-place : goal.take-requires-clause-place
 take-requires-clause-place g c =
     let a = c.self.inside in let e = c.in-Take.ensures in
     head_place a.shape.capacity a.shape.mark a.tail a.head a.slots.items a.shape.sound c.self.invariant
-    (let k = counts a.shape.capacity a.shape.mark a.tail a.head a.slots.items a.shape.sound c.self.invariant in let few = c.self.invariant.few in let some = e.1 in omega arith)
+    (let k = counts a.shape.capacity a.shape.mark a.tail a.head a.slots.items a.shape.sound c.self.invariant in
+    let few = c.self.invariant.few in let some = e.1 in omega arith)
 
 pub unwrap-requires : goal.unwrap-requires
 unwrap-requires g c =
@@ -16,7 +17,8 @@ unwrap-requires g c =
 pub invariant_of-self : goal.invariant_of-self
 invariant_of-self g c =
     let a = c.self.inside in let e = c.in-Take.ensures in
-    rw (c.take.ensures.head, c.take.ensures.slots) (takes a.shape.capacity a.shape.mark a.tail a.head a.slots.items a.shape.sound c.self.invariant e.1)
+    rw (c.take.ensures.head, c.take.ensures.slots)
+    (takes a.shape.capacity a.shape.mark a.tail a.head a.slots.items a.shape.sound c.self.invariant e.1)
 
 pub returns-in-Take : goal.returns-in-Take
 returns-in-Take g c =

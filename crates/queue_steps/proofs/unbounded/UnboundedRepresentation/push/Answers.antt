@@ -17,7 +17,8 @@ pub invariant_of-self-in-Ok : goal.invariant_of-self-in-Ok
 invariant_of-self-in-Ok g c =
     let is = link_is c.self.inside.ends (sym c.in-Link.is ∙ c.push-turn.ensures) in
     rw (c.after-self-inside-in-Ok.ensures, c.in-Link.is, c.in-Ok.ensures.ok)
-    (rests_linked c.self.inside.ends c.self.inside.blocks.items c.self.inside.spare c.link.new.spare c.args.value c.self.invariant is.1 is.2 c.link.ensures.spare)
+    (rests_linked c.self.inside.ends c.self.inside.blocks.items c.self.inside.spare c.link.new.spare c.args.value c.self.invariant is.1
+    is.2 c.link.ensures.spare)
 
 pub returns-in-Append : goal.returns-in-Append
 returns-in-Append g c =

@@ -1,7 +1,5 @@
-use Rattle.std.proofs.Common.{◌≡◌, Bool, true, false, rules, refl, ap, sym, subst, ◌∙◌, ◌≤◌, is_some, arith}
-use Rattle.task_moves.specs.Moves as moves
+use Rattle.std.proofs.Common.{false, rules, ap, ◌∙◌}
 use Rattle.task_moves.specs.declared.moves.state.State.{State}
-use Rattle.task_moves.specs.declared.moves.owed.Moved.{Moved}
 use Rattle.task_word.specs.Word.{pack}
 use Rattle.task_word.proofs.Making.{fills_detached}
 use Rattle.task_word.proofs.steps.making.make_detached.Goals as goal

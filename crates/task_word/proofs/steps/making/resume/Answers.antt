@@ -1,8 +1,4 @@
-use Rattle.std.proofs.Common.{◌≡◌, Bool, true, false, rules, refl, ap, sym, subst, ◌∙◌, ◌≤◌, is_some, arith}
-use Rattle.task_moves.specs.Moves as moves
-use Rattle.task_moves.specs.declared.moves.state.State.{State}
-use Rattle.task_moves.specs.declared.moves.owed.Moved.{Moved}
-use Rattle.task_word.specs.Word.{pack}
+use Rattle.std.proofs.Common.{rules, sym, arith}
 use Rattle.task_word.proofs.Moving.{few, still}
 use Rattle.task_word.proofs.Making.{resumes}
 use Rattle.task_word.proofs.steps.making.resume.Goals as goal

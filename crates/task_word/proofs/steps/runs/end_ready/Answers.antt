@@ -1,9 +1,8 @@
-use Rattle.std.proofs.Common.{◌≡◌, Bool, true, false, rules, refl, ap, sym, subst, ◌∙◌, ◌≤◌, is_some, arith}
+use Rattle.std.proofs.Common.{Bool, rules, refl, ap, sym, subst, ◌∙◌}
 use Rattle.task_moves.specs.Moves as moves
-use Rattle.task_moves.specs.declared.moves.state.State.{State}
 use Rattle.task_moves.specs.declared.moves.owed.Moved.{Moved}
 use Rattle.task_word.specs.Word.{pack}
-use Rattle.std.specs.Prelude.{ℕ, List, [], ◌∷◌, ◌&&◌, Some, None}
+use Rattle.std.specs.Prelude.{[], ◌∷◌, Some, None}
 use Rattle.task_word.specs.declared.rule.Hold.TheVariants.{Running}
 use Rattle.task_word.specs.declared.rule.Content.TheVariants.{Output}
 use Rattle.task_word.specs.Steps.{Known, Is, ended}

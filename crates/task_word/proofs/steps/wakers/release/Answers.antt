@@ -1,6 +1,5 @@
-use Rattle.std.proofs.Common.{◌≡◌, Bool, true, false, rules, refl, ap, sym, subst, ◌∙◌, ◌≤◌, is_some, arith}
+use Rattle.std.proofs.Common.{Bool, rules, ap, sym, subst, ◌∙◌, arith}
 use Rattle.task_moves.specs.Moves as moves
-use Rattle.task_moves.specs.declared.moves.state.State.{State}
 use Rattle.task_moves.specs.declared.moves.owed.Moved.{Moved}
 use Rattle.task_word.specs.Word.{pack}
 use Rattle.task_word.specs.Cell.{weight}

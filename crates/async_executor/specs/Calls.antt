@@ -1,7 +1,7 @@
 -- How far a call on the executor is.
 use Rattle.std.specs.Prelude.{◌≡◌, Bool, true, false, Option, Some, None}
 use Rattle.async_executor.specs.declared.call.Ending.{Ending}
-use Rattle.async_executor.specs.declared.call.Ending.TheVariants.{Unpolled, Ran, Lies, Called, Refused}
+use Rattle.async_executor.specs.declared.call.Ending.TheVariants.{Ran, Lies, Called, Refused}
 use Rattle.async_executor.specs.declared.ticker.Found.{Found}
 use Rattle.async_executor.specs.declared.ticker.Found.TheVariants.{Runnable, SearchAgain, Nothing, NoMemory}
 use Rattle.async_executor.specs.declared.ticker.Laid.{Laid}
@@ -31,7 +31,6 @@ module _ {W : Type 0} where
 abbrev pub IsPending : Ending → Type 0
 IsPending Lies = Unit {0}
 IsPending Called = Unit {0}
-IsPending Unpolled = ⊥
 IsPending Ran = ⊥
 IsPending Refused = ⊥
 

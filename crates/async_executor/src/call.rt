@@ -2,7 +2,6 @@
 ghost use Rattle.std.specs.Prelude.{◌≡◌, true, false, Some, None};
 ghost use Rattle.async_executor.specs.Stages.{begun, given, in_hand, took, looked, IsDone};
 
-use std::alloc::AllocError;
 use std::marker::Model;
 use std::snapshot::Snapshot;
 
@@ -32,11 +31,9 @@ pub struct Call {
     lies: Snapshot<bool>,
 }
 
-/// How a poll of a tick or run ended.
+/// How a call of a tick or run ended.
 #[derive(Clone, Copy, Drop)]
 pub enum Ending {
-    /// There was none yet.
-    Unpolled,
     /// A Runnable was taken from a queue, and run.
     Ran,
     /// The executor's queue was found empty, and it lay among the sleepers already: its waker is there now.
@@ -47,8 +44,7 @@ pub enum Ending {
     Refused,
 }
 
-/// How the last poll of a tick or run ended, which a call alone can say. Only contracts read it; it is no `Snapshot`, as a tick or
-/// run with one could not be sent to another thread.
+/// How a call of a tick or run ended, which that call alone can say. Only contracts read it.
 #[derive(Drop)]
 pub struct Last {
     ending: Ending,
@@ -63,21 +59,6 @@ impl Model for Last {
 }
 
 impl Last {
-    /// Of a tick or run that wasn't polled yet.
-    pub fn none() -> Last
-        ensures { result ≡ Ending.Unpolled }
-    {
-        Last::of(Ending::Unpolled)
-    }
-
-    /// Memory was wanted.
-    pub fn of_refusal(refused: AllocError) -> Last
-        ensures { result ≡ Ending.Refused }
-    {
-        drop(refused);
-        Last::of(Ending::Refused)
-    }
-
     fn of(ending: Ending) -> Last
         ensures { result ≡ ending }
     {

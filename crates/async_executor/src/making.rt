@@ -1,8 +1,8 @@
 //! How ticks and runs are made: all memory that they need later is taken here.
-ghost use Rattle.std.specs.Prelude.{◌≡◌, false, IfOk, IfErr};
-ghost use Rattle.async_executor.specs.Polls.{IsNewRun};
+ghost use Rattle.std.specs.Prelude.{◌≡◌, false, Some, IfOk, IfErr};
+ghost use Rattle.async_executor.specs.Polls.{has_left};
+ghost use Rattle.async_executor.specs.Seeds.{seeded};
 
-use crate::call::{Ending, Last};
 use crate::executor::Executor;
 use crate::names::ExWaker;
 use crate::run::Run;
@@ -22,11 +22,14 @@ where
 {
     /// A future that waits for a future of the executor which is to be polled, and polls it once.
     pub fn tick(&self) -> Result<Tick<'_, F, T, W, R>, NoMemory>
-        ensures { IfOk result (λ tick. (tick.ending ≡ Ending.Unpolled) × (tick.has_left ≡ false)) }
+        ensures { IfOk result (λ tick. has_left tick.ticker ≡ false) }
     {
         let made = make_room(&mut *self.state.sleepers.lock(&self.rt));
         match made {
-            Ok(room) => Ok(Tick::new(self, Ticker::Up(room))),
+            Ok(new_room) => Ok(Tick {
+                executor: self,
+                ticker: Ticker::Up(new_room),
+            }),
             Err(_) => Err(NoMemory),
         }
     }
@@ -37,7 +40,8 @@ where
     where
         G: Future<ExWaker<T, W, R>> + Drop,
         ensures back { IfErr result (λ back. back ≡ future) }
-        ensures made { IfOk result (IsNewRun future 0) }
+        ensures future { IfOk result (λ run. run.future ≡ Some future) }
+        ensures words { IfOk result (λ run. run.runner.words ≡ seeded 0) }
     {
         self.run_from(future, 0)
     }
@@ -47,7 +51,8 @@ where
     where
         G: Future<ExWaker<T, W, R>> + Drop,
         ensures back { IfErr result (λ back. back ≡ future) }
-        ensures made { IfOk result (IsNewRun future seed) }
+        ensures future { IfOk result (λ run. run.future ≡ Some future) }
+        ensures words { IfOk result (λ run. run.runner.words ≡ seeded seed) }
     {
         let made = make_room(&mut *self.state.sleepers.lock(&self.rt));
         let Ok(room) = made else {
@@ -60,7 +65,6 @@ where
                 runner,
                 ticker: Ticker::Up(room),
                 taken: 0,
-                last: Last::none(),
             }),
             Err(NoMemory) => {
                 give_back(&mut *self.state.sleepers.lock(&self.rt), room);

@@ -2,14 +2,13 @@ ghost use Rattle.std.specs.Prelude.{◌≡◌};
 ghost use Rattle.async_executor.specs.Calls.{IsFoundAtLast};
 ghost use Rattle.async_executor.specs.Polls.{IsRunAnswer, IsTasksAnswer};
 
-use crate::call::{Call, Last};
+use crate::call::Call;
 use crate::errors::RunError;
 use crate::executor::Executor;
 use crate::names::ExWaker;
 use crate::runner::Runner;
 use crate::ticker::{Found, Ticker};
 use async_task::{Future, Poll, Wake};
-use std::marker::Model;
 use std::mem;
 use std::sync::Wait;
 
@@ -36,29 +35,6 @@ where
     pub(crate) ticker: Ticker,
     /// How many tasks it has taken since it last let others go first.
     pub(crate) taken: u64,
-    /// How its last poll ended, if that took or looked for tasks. Only contracts read it.
-    pub(crate) last: Last,
-}
-
-impl<'a, F, T, W, R, G> Model for Run<'a, F, T, W, R, G>
-where
-    F: Drop,
-    T: Drop + 'static,
-    W: Wake + Drop + 'static,
-    R: Wait + Copy + Drop + 'static,
-    G: Drop,
-{
-    ghost use Rattle.std.specs.Prelude.{◌&&◌};
-    ghost use Rattle.async_executor.specs.Polls.{Run as Running, has_left};
-
-    ghost Value = { Running G };
-
-    ghost view = { λ r. record {
-      future = r.future;
-      ending = r.last;
-      has_left = has_left r.ticker && r.runner.is_drained;
-      words = r.runner.words;
-    } };
 }
 
 impl<F, T, W, R, G> Future<ExWaker<T, W, R>> for Run<'_, F, T, W, R, G>
@@ -76,14 +52,13 @@ where
     /// 3. Takes tasks and runs each. Where there is none to take, it lies down and is pending.
     /// 4. After 200 tasks it wakes its own waker and is pending. A count that was interrupted goes on in the next poll.
     fn poll(&mut self, waker: &ExWaker<T, W, R>) -> Poll<Result<G::Output, RunError>>
-        ensures { IsRunAnswer self.old self.new result }
+        ensures answer { IsRunAnswer self.old.future self.new.future result }
     {
         let Some(future) = &mut self.future else {
             return Poll::Ready(Err(RunError::Finished));
         };
         let executor = self.executor;
-        if let Err(last) = self.runner.begin(executor.rt, &executor.state) {
-            self.last = last;
+        if self.runner.begin(executor.rt, &executor.state).is_err() {
             return Poll::Ready(Err(RunError::NoMemory));
         }
         match future.poll(waker) {
@@ -111,29 +86,21 @@ where
     R: Wait + Copy + Drop + 'static,
     G: Future<ExWaker<T, W, R>> + Drop,
 {
-    /// Takes tasks and runs each, one at least where one is found.
     fn take_tasks(&mut self, waker: &ExWaker<T, W, R>) -> Poll<Result<G::Output, RunError>>
-        ensures answer { IsTasksAnswer self.new.ending result }
+        ensures answer { IsTasksAnswer result }
         ensures future { self.new.future ≡ self.old.future }
     {
         let executor = self.executor;
-        let first = self.taken.min(TASKS_OF_ONE_POLL - 1);
-        for _turn in first..TASKS_OF_ONE_POLL {
+        for _turn in self.taken..TASKS_OF_ONE_POLL {
             match self.find(waker) {
                 Found::Runnable(runnable, call) => {
                     self.runner
                         .count(executor.rt, &executor.state, executor.realm);
                     self.taken = self.taken.saturating_add(1);
-                    self.last = executor.poll_or_drop(runnable, call);
+                    let _ = executor.poll_or_drop(runnable, call);
                 }
-                Found::Nothing(last) => {
-                    self.last = last;
-                    return Poll::Pending;
-                }
-                Found::NoMemory(last) => {
-                    self.last = last;
-                    return Poll::Ready(Err(RunError::NoMemory));
-                }
+                Found::Nothing(_) => return Poll::Pending,
+                Found::NoMemory(_) => return Poll::Ready(Err(RunError::NoMemory)),
                 Found::SearchAgain => unreachable!(),
             }
         }
@@ -146,7 +113,6 @@ where
     fn find(&mut self, waker: &ExWaker<T, W, R>) -> Found
         ensures found { IsFoundAtLast result }
         ensures future { self.new.future ≡ self.old.future }
-        ensures ending { self.new.ending ≡ self.old.ending }
     {
         let executor = self.executor;
         for _ in executor.rt.forever() {
@@ -190,7 +156,6 @@ where
             mut runner,
             ticker,
             taken: _,
-            last: _,
         } = self;
         drop(future);
         runner.end(executor.rt, &executor.state, executor.realm);

@@ -1,10 +1,10 @@
 //! The own queue of a run, and how a run searches.
-ghost use Rattle.std.specs.Prelude.{◌≡◌, true, false, Some, IfOk, IfErr, is_some};
+ghost use Rattle.std.specs.Prelude.{◌≡◌, true, false, Some, IfOk, is_some};
 ghost use Rattle.std.specs.Arc.{arc_value};
 ghost use Rattle.async_executor.specs.Seeds.{seeded};
 ghost use Rattle.async_executor.specs.Stages.{begun, took, looked};
 
-use crate::call::{Call, Ending, Last};
+use crate::call::Call;
 use crate::due::{pay, share};
 use crate::names::ExRealm;
 use crate::own_queues::RunRoom;
@@ -85,9 +85,11 @@ impl Runner {
     }
 
     /// Puts the own queue into the executor's list, where it isn't there yet.
-    pub fn begin<W, R: Wait + Copy + Drop>(&mut self, rt: R, state: &State<W>) -> Result<(), Last>
-        ensures { IfErr result (λ last. last ≡ Ending.Refused) }
-    {
+    pub fn begin<W, R: Wait + Copy + Drop>(
+        &mut self,
+        rt: R,
+        state: &State<W>,
+    ) -> Result<(), NoMemory> {
         if self.is_listed {
             return Ok(());
         }
@@ -97,7 +99,7 @@ impl Runner {
                 self.is_listed = true;
                 Ok(())
             }
-            Err(refused) => Err(Last::of_refusal(refused)),
+            Err(_) => Err(NoMemory),
         }
     }
 

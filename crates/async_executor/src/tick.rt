@@ -1,12 +1,11 @@
 ghost use Rattle.std.specs.Prelude.{◌≡◌};
-ghost use Rattle.async_executor.specs.Polls.{IsTickAnswer, has_left};
+ghost use Rattle.async_executor.specs.Polls.{has_left};
 
-use crate::call::{Call, Ending, Last};
+use crate::call::Call;
 use crate::executor::Executor;
 use crate::names::ExWaker;
 use crate::ticker::{Found, Ticker};
 use async_task::{Future, NoMemory, Poll, Wake};
-use std::marker::Model;
 use std::sync::Wait;
 
 /// Waits for a future that is to be polled, and polls it once: a future with output `Ok(())`. After it was ready it serves as
@@ -23,42 +22,6 @@ where
 {
     pub(crate) executor: &'a Executor<F, T, W, R>,
     pub(crate) ticker: Ticker,
-    /// How its last poll ended. Only contracts read it.
-    pub(crate) last: Last,
-}
-
-impl<'a, F, T, W, R> Model for Tick<'a, F, T, W, R>
-where
-    F: Drop,
-    T: Drop + 'static,
-    W: Wake + Drop + 'static,
-    R: Wait + Copy + Drop + 'static,
-{
-    ghost use Rattle.async_executor.specs.Polls.{Tick as Ticking, has_left};
-
-    ghost Value = { Ticking };
-
-    ghost view = { λ t. record { ending = t.last; has_left = has_left t.ticker } };
-}
-
-impl<'a, F, T, W, R> Tick<'a, F, T, W, R>
-where
-    F: Drop,
-    T: Drop + 'static,
-    W: Wake + Drop + 'static,
-    R: Wait + Copy + Drop + 'static,
-{
-    /// One that wasn't polled yet.
-    pub(crate) fn new(executor: &'a Executor<F, T, W, R>, ticker: Ticker) -> Self
-        ensures ending { result.ending ≡ Ending.Unpolled }
-        ensures left { result.has_left ≡ has_left ticker }
-    {
-        Tick {
-            executor,
-            ticker,
-            last: Last::none(),
-        }
-    }
 }
 
 impl<F, T, W, R> Future<ExWaker<T, W, R>> for Tick<'_, F, T, W, R>
@@ -73,8 +36,7 @@ where
     /// 1. Takes a Runnable from the executor's queue, or lies down and is pending.
     /// 2. Where it found one: runs it, and is ready.
     fn poll(&mut self, waker: &ExWaker<T, W, R>) -> Poll<Result<(), NoMemory>>
-        ensures answer { IsTickAnswer self.new.ending result }
-        ensures stays { self.new.has_left ≡ self.old.has_left }
+        ensures { has_left self.new.ticker ≡ has_left self.old.ticker }
     {
         let executor = self.executor;
         for _ in executor.rt.forever() {
@@ -89,18 +51,12 @@ where
                 waker,
             ) {
                 Found::Runnable(runnable, call) => {
-                    self.last = executor.poll_or_drop(runnable, call);
+                    let _ = executor.poll_or_drop(runnable, call);
                     return Poll::Ready(Ok(()));
                 }
                 Found::SearchAgain => {}
-                Found::Nothing(last) => {
-                    self.last = last;
-                    return Poll::Pending;
-                }
-                Found::NoMemory(last) => {
-                    self.last = last;
-                    return Poll::Ready(Err(NoMemory));
-                }
+                Found::Nothing(_) => return Poll::Pending,
+                Found::NoMemory(_) => return Poll::Ready(Err(NoMemory)),
             }
         }
         unreachable!()
@@ -116,11 +72,7 @@ where
 {
     /// Leaves the sleepers, and gives its room there back.
     fn drop(self) {
-        let Tick {
-            executor,
-            ticker,
-            last: _,
-        } = self;
+        let Tick { executor, ticker } = self;
         ticker.leave(executor.rt, &executor.state, executor.realm);
     }
 }

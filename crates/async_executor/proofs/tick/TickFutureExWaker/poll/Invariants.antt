@@ -6,4 +6,4 @@ use Rattle.async_executor.proofs.tick.TickFutureExWaker.poll.Given as goal
 abbrev pub invariant-loop : goal.invariant-loop
 invariant-loop g l =
     (goal.iterator-loop g).can_next l.iterator' × (goal.iterator-loop g).is_finite l.iterator'
-    × (has_left l.self-inside.ticker ≡ l.fn.self.has_left)
+    × (has_left l.self.ticker ≡ has_left l.fn.self.ticker)

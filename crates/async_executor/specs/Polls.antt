@@ -1,5 +1,5 @@
 -- What the polls of a tick and of a run answer.
-use Rattle.std.specs.Prelude.{◌≡◌, Bool, true, false, Option, Some, None, IsSome, Result, Ok, Err}
+use Rattle.std.specs.Prelude.{◌≡◌, Bool, true, false, Option, None, IsSome, Result, Ok, Err}
 use Rattle.async_executor.specs.declared.errors.RunError.{RunError}
 use Rattle.async_executor.specs.declared.errors.RunError.TheVariants.{NoMemory, Finished}
 use Rattle.async_executor.specs.declared.ticker.Ticker.{Ticker}

@@ -3,5 +3,6 @@ pub mod BoundedFaces
 pub mod BoundedKeeps
 pub mod BoundedSays
 pub mod BoundedStands
+pub mod PlacesLeft
 pub mod SingleKeeps
 pub mod SingleTurns

@@ -2,6 +2,8 @@ pub mod Answered
 pub mod BoundedRule
 pub mod BoundedSeat
 pub mod Capacity
+pub mod Places
+pub mod Remains
 pub mod SharedQueue
 pub mod SingleRule
 pub mod SingleSeat

@@ -12,6 +12,7 @@ pub(crate) mod pushing;
 pub mod rule;
 
 use crate::glimpse::{Glimpse, TRIES};
+use crate::places::Places;
 use atomic_table::Table;
 use moves::{HEAD, Pass, STAMPS, TAIL, UNUSED};
 use plays::Look;
@@ -113,6 +114,17 @@ impl<T> Bounded<T> {
 
     pub(crate) fn is_closed(&self) -> bool {
         calls::is_closed(self, &mut self.seat())
+    }
+
+    /// Its places, from the head on.
+    pub(crate) fn take_apart(self) -> Places<T> {
+        let head = self.shape.index(self.board.shared.peek(HEAD)) as usize;
+        let first = if head < self.board.slot_count() {
+            head
+        } else {
+            0
+        };
+        Places::new(self.board.close(), first)
     }
 
     /// Its length and whether it is closed, each read at a moment of its own. It waits for nobody, and answers `None`

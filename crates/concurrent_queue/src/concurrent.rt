@@ -1,8 +1,10 @@
 ghost use Rattle.std.specs.Prelude.{◌≡◌, ◌<◌, Some, None, false, IfOk};
 ghost use Rattle.concurrent_queue.specs.SharedQueue.{MayPush, MayForcePush};
+ghost use Rattle.concurrent_queue.specs.TryIter.{walked_queue};
 
 use crate::bounded::Bounded;
 use crate::glimpse::{Glimpse, Locked};
+use crate::remains::Remains;
 use crate::single::Single;
 use crate::try_iter::TryIter;
 use crate::unbounded::Unbounded;
@@ -163,8 +165,20 @@ impl<T> ConcurrentQueue<T> {
     }
 
     /// An iterator that pops. It takes nothing out by itself, and several may walk beside one another.
-    pub fn try_iter<'a, R: Wait>(&'a self, rt: &'a R) -> TryIter<'a, T, R> {
+    pub fn try_iter<'a, R: Wait>(&'a self, rt: &'a R) -> TryIter<'a, T, R>
+        ensures { walked_queue result ≡ self.now }
+    {
         TryIter::new(self, rt)
+    }
+
+    /// Takes the queue apart. What it still held comes, oldest first, and then its memory goes back: this ends a queue also
+    /// where items may not be dropped.
+    pub fn take_apart(self) -> Remains<T> {
+        match self.kept {
+            Kept::Single(slot) => Remains::of_places(slot.take_apart()),
+            Kept::Bounded(ring, _) => Remains::of_places(ring.take_apart()),
+            Kept::Unbounded(chain) => Remains::of_chain(chain.into_inner()),
+        }
     }
 
     fn glimpse(&self) -> Option<Glimpse> {

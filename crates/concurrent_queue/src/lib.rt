@@ -4,6 +4,8 @@
 pub mod bounded;
 mod concurrent;
 pub mod glimpse;
+mod places;
+mod remains;
 pub mod seated;
 pub mod single;
 mod try_iter;
@@ -13,4 +15,5 @@ pub use concurrent::ConcurrentQueue;
 pub use queue_steps::{
     Exclusive, ExclusiveIter, ForcePushError, NoMemory, PopError, PushError, steps,
 };
+pub use remains::Remains;
 pub use try_iter::TryIter;

@@ -11,6 +11,7 @@ pub(crate) mod pushing;
 pub mod rule;
 
 use crate::glimpse::Glimpse;
+use crate::places::Places;
 use atomic_table::Table;
 use moves::Pass;
 use plays::Begin;
@@ -83,6 +84,11 @@ impl<T> Single<T> {
 
     pub(crate) fn is_closed(&self) -> bool {
         calls::is_closed(self, &mut self.seat())
+    }
+
+    /// Its place, with what is in it.
+    pub(crate) fn take_apart(self) -> Places<T> {
+        Places::new(self.board.close(), 0)
     }
 
     /// Its length and whether it is closed, each read at a moment of its own.

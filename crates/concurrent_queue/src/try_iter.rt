@@ -1,5 +1,6 @@
 ghost use Rattle.std.specs.Iterator.{at_most};
-ghost use Rattle.concurrent_queue.specs.TryIter.{turns_left};
+ghost use Rattle.std.specs.Prelude.{◌≡◌};
+ghost use Rattle.concurrent_queue.specs.TryIter.{turns_left, walked_queue};
 
 use crate::concurrent::ConcurrentQueue;
 use std::alloc::AllocError;
@@ -19,7 +20,9 @@ pub struct TryIter<'a, T, R: Wait> {
 }
 
 impl<'a, T, R: Wait> TryIter<'a, T, R> {
-    pub(crate) fn new(queue: &'a ConcurrentQueue<T>, rt: &'a R) -> TryIter<'a, T, R> {
+    pub(crate) fn new(queue: &'a ConcurrentQueue<T>, rt: &'a R) -> TryIter<'a, T, R>
+        ensures { walked_queue result ≡ queue.now }
+    {
         TryIter {
             queue,
             rt,

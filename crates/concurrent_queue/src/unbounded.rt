@@ -74,6 +74,11 @@ impl<T> Unbounded<T> {
         self.chain.lock(rt).is_closed()
     }
 
+    /// The chain without its lock.
+    pub(crate) fn into_inner(self) -> Chain<T> {
+        self.chain.into_inner()
+    }
+
     pub(crate) fn glimpse(&self) -> Option<Glimpse> {
         Glimpse::of(&self.chain)
     }

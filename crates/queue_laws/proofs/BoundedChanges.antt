@@ -25,8 +25,8 @@ use Rattle.queue_laws.proofs.BoundedPuts.{Goes, near, is_gripping, looked, alone
 use Rattle.queue_laws.proofs.BoundedHits.{append_hits, take_hits, displace_hits, shuts}
 use Rattle.queue_laws.proofs.SingleLooks.{is_party}
 
-module _ {T : Type 0} (n m : ℕ) (shape : IsShape n m) (w : BoundedWorld T) (g : Ghost T) (calls : ℕ
-    → Option (Progress T)) (tied : Tied n m w g calls) (p : ℕ) (k : Progress T) (at : calls p ≡ Some k) where
+module _ {T : Type 0} (n m : ℕ) (shape : IsShape n m) (w : BoundedWorld T) (g : Ghost T) (calls : ℕ → Option (Progress T))
+    (tied : Tied n m w g calls) (p : ℕ) (k : Progress T) (at : calls p ≡ Some k) where
   abbrev IsNow : Type 0
   IsNow = (older : List (Sight T)) × (k.seen ≡ sight_of n m g ∷ older)
 

@@ -34,8 +34,8 @@ module _ {T : Type 0} where
   first_is : (xs : List T) (y : T) (rest : List T) → xs ≡ y ∷ rest → xs ≡ y ∷ drop 1 xs
   first_is xs y rest is = is ∙ ap (λ (ys : List T). y ∷ ys) (sym (ap (drop 1) is))
 
-module _ {T : Type 0} (n m : ℕ) (shape : IsShape n m) (w : BoundedWorld T) (g : Ghost T) (calls : ℕ
-    → Option (Progress T)) (tied : Tied n m w g calls) (p : ℕ) (k : Progress T) (at : calls p ≡ Some k) where
+module _ {T : Type 0} (n m : ℕ) (shape : IsShape n m) (w : BoundedWorld T) (g : Ghost T) (calls : ℕ → Option (Progress T))
+    (tied : Tied n m w g calls) (p : ℕ) (k : Progress T) (at : calls p ≡ Some k) where
   word_after : (q : ℕ) → g.shut ≡ false → next_at n m (word_at n m q) ≡ word_at n m (q + 1) + bit g.shut * m
   word_after q open_is = next_is n m shape q ∙ sym (bare n m shape (q + 1))
       ∙ ap (λ (b : Bool). word_at n m (q + 1) + bit b * m) (sym open_is)

@@ -17,8 +17,8 @@ use Rattle.queue_laws.proofs.BoundedMoves.{at_here, NotBy, held_put}
 use Rattle.queue_laws.proofs.BoundedPuts.{Goes, IsSettled, is_moving, from_other, other_calls, keeps, ages, slots_put, rounds, lies, comes}
 use Rattle.queue_laws.proofs.BoundedPuts.{each_still, alone_grip}
 
-module _ {T : Type 0} (n m : ℕ) (shape : IsShape n m) (w : BoundedWorld T) (g : Ghost T) (calls : ℕ
-    → Option (Progress T)) (tied : Tied n m w g calls) (p : ℕ) (k : Progress T) (at : calls p ≡ Some k) where
+module _ {T : Type 0} (n m : ℕ) (shape : IsShape n m) (w : BoundedWorld T) (g : Ghost T) (calls : ℕ → Option (Progress T))
+    (tied : Tied n m w g calls) (p : ℕ) (k : Progress T) (at : calls p ≡ Some k) where
   not_mine : (i c : ℕ) (call : Call T) (grip : Grip) (o : Option T) (d : Bool) → g.cells i ≡ cell c (held p call grip o d) → (q : ℕ)
       → q ≢ p → NotBy q (g.cells i).phase
   not_mine i c call grip o d is q other = subst (λ (x : Cell T). NotBy q x.phase) (sym is) (λ e. other (sym e))

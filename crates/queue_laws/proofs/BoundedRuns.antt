@@ -46,8 +46,8 @@ module _ (n m : ℕ) (shape : IsShape n m) where
       let small = shape.few in omega arith)
 
 module _ {T : Type 0} (n m : ℕ) (shape : IsShape n m) where
-  module _ (w : BoundedWorld T) (g : Ghost T) (calls : ℕ
-      → Option (Progress T)) (tied : Tied n m w g calls) (p : ℕ) (k : Progress T) (at : calls p ≡ Some k) where
+  module _ (w : BoundedWorld T) (g : Ghost T) (calls : ℕ → Option (Progress T))
+      (tied : Tied n m w g calls) (p : ℕ) (k : Progress T) (at : calls p ≡ Some k) where
     abbrev IsNow : Type 0
     IsNow = (older : List (Sight T)) × (k.seen ≡ sight_of n m g ∷ older)
 

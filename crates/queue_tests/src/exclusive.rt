@@ -1,5 +1,5 @@
 //! `Exclusive`, the steps and the errors.
-ghost use Rattle.std.specs.Prelude.{◌≡◌, ◌<◌, []};
+ghost use Rattle.std.specs.Prelude.{◌<◌};
 
 use crate::calls::{Call, answers};
 use crate::words::{debugs, holds, prints, same};
@@ -8,11 +8,6 @@ use concurrent_queue::steps::bounded::{self as ring, Shape, Turn};
 use concurrent_queue::{Exclusive, ForcePushError, NoMemory, PopError, PushError};
 use std::alloc::AllocGlobal;
 use std::process::Abort;
-
-// An item that can't be dropped, only taken apart.
-struct Held {
-    number: u64,
-}
 
 // A queue of this capacity, of a run in which no memory is refused.
 fn bounded<R: Abort + AllocGlobal>(rt: &R, cap: usize) -> Exclusive<u64>
@@ -66,49 +61,6 @@ fn a_closed_chain_refuses_and_drains(rt: HostRuntime) {
         Call::Pop(Err(PopError::Closed)),
     ];
     answers(&rt, &mut Exclusive::unbounded(rt.alloc()), calls);
-}
-
-// A queue of items without a drop comes back while it holds one, and ends when it has given it out.
-fn ends<R: Abort>(rt: &R, mut queue: Exclusive<Held>)
-    requires { queue.items ≡ [] }
-{
-    match queue.push(Held { number: 5 }) {
-        Ok(()) => {}
-        Err(refused) => {
-            let Held { number: _ } = refused.into_inner();
-            return end_empty(queue);
-        }
-    }
-    let mut queue = match queue.destroy_empty() {
-        Ok(()) => unreachable!(),
-        Err(back) => back,
-    };
-    match queue.pop() {
-        Ok(Held { number }) => same(rt, number, 5),
-        Err(_) => unreachable!(),
-    }
-    end_empty(queue);
-}
-
-// The contract says that it doesn't come back.
-fn end_empty(queue: Exclusive<Held>)
-    requires { queue.items ≡ [] }
-{
-    match queue.destroy_empty() {
-        Ok(()) => {}
-        Err(_) => unreachable!(),
-    }
-}
-
-#[test]
-fn an_empty_queue_ends_where_items_have_no_drop(rt: HostRuntime) {
-    for capacity in [1, 2, 8] {
-        ends(
-            &rt,
-            Exclusive::bounded(rt.alloc(), capacity).expect(&rt, "memory"),
-        );
-    }
-    ends(&rt, Exclusive::unbounded(rt.alloc()));
 }
 
 #[test]

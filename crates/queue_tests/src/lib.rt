@@ -5,6 +5,8 @@
 #[cfg(test)]
 mod calls;
 #[cfg(test)]
+mod ended;
+#[cfg(test)]
 mod exclusive;
 #[cfg(test)]
 mod forced;

@@ -1,5 +1,5 @@
 -- What a body is, by the word, and what keeps fitting it.
-use Rattle.std.proofs.Common.{◌≡◌, ℕ, Bool, true, false, ◌||◌, ◌&&◌, not, refl, ap, arith}
+use Rattle.std.proofs.Common.{◌∙◌, ◌≡◌, ℕ, Bool, true, false, ◌||◌, ◌&&◌, not, refl, ap, arith}
 use Rattle.std.specs.Prelude.{Option, Some, None, is_some}
 use Rattle.task_moves.specs.declared.moves.state.State.{State}
 use Rattle.task_moves.specs.Moves.{is_going}
@@ -8,7 +8,7 @@ use Rattle.task_word.specs.declared.rule.Hold.TheVariants.{Nothing, Reference, L
 use Rattle.task_word.specs.declared.rule.Hold.TheVariants.{Filling, Spending, Registering, HandleNotifying, RunNotifying, Emptying}
 use Rattle.task_word.specs.Cell.{Body, idle, resting, queued, taken, kept, gone, Post, lies, held, going, spending, calling, handling}
 use Rattle.task_word.specs.Cell.{weight, handle_weight, Fits, FitsHold, FitsPost, Emptied}
-use Rattle.task_word.proofs.Views.{true_not, both_not}
+use Rattle.task_word.proofs.Views.{true_not, both_not, or_same}
 
 -- a state as it would be with this mark or this number
 abbrev pub scheduled_on : State → State
@@ -19,6 +19,10 @@ closed_on s = record s { closed = true }
 
 abbrev pub unhandled : State → State
 unhandled s = record s { handle = false }
+
+-- or with these marks of the awaiter
+abbrev pub marking : Bool → Bool → Bool → State → State
+marking a r n s = record s { awaiter = a; registering = r; notifying = n }
 
 abbrev pub counting : ℕ → State → State
 counting n s = record s { references = n }
@@ -55,6 +59,10 @@ counting_hold : (hold : Hold) (s : State) (n : ℕ) → Reachable s → FitsHold
 counting_hold hold s n t = hold_is (λ h. FitsHold h (counting n s)) (λ k. k) (λ k. k) (λ k. k)
     (λ k. absurd (t (ap (λ (z : State). z.references) k) (ap (λ (z : State). z.handle) k))) (λ k. k) hold
 
+marking_hold : (hold : Hold) (s : State) (a r n : Bool) → Reachable s → FitsHold hold s → FitsHold hold (marking a r n s)
+marking_hold hold s a r n t = hold_is (λ h. FitsHold h (marking a r n s)) (λ k. k) (λ k. k) (λ k. k)
+    (λ k. absurd (t (ap (λ (z : State). z.references) k) (ap (λ (z : State). z.handle) k))) (λ k. k) hold
+
 closed_hold : (hold : Hold) (s : State) → FitsHold hold s → FitsHold hold (closed_on s)
 closed_hold hold s = hold_is (λ h. FitsHold h (closed_on s)) (λ k. k) (λ k. (k.0, k.1, k.2, refl)) (λ k. (k.0, k.1, refl))
     (λ k. ap closed_on k) (λ k. (k.0, k.1, k.2, refl)) hold
@@ -83,6 +91,14 @@ hold_still {A} hold s a b c k = hold_is (λ h. weight h ≡ 0 → A) (λ k a. ab
     (λ k a. true_not k.3 c) (λ k a. true_not k.2 c) (λ k a. true_not (ap (λ (z : State). z.closed) k) c)
     (λ k a. true_not k.3 c) hold k a
 
+-- or in the count, the handle and the awaiter
+hold_left : {A : Type 0} (hold : Hold) (s : State) → weight hold ≡ 0 → handle_weight hold ≡ 0 → s.awaiter ≡ true
+    → FitsHold hold s → A
+hold_left {A} hold s a b c k = hold_is (λ h. weight h ≡ 0 → handle_weight h ≡ 0 → A)
+    (λ k a b. absurd (let z : 1 ≡ 0 = a in omega arith)) (λ k a b. absurd (let z : 1 ≡ 0 = a in omega arith))
+    (λ k a b. absurd (let z : 1 ≡ 0 = a in omega arith)) (λ k a b. true_not c (ap (λ (z : State). z.awaiter) k))
+    (λ k a b. absurd (let z : 1 ≡ 0 = b in omega arith)) hold k a b
+
 -- or in one mark of two
 hold_kept : {A : Type 0} (hold : Hold) (s : State) → s.completed ≡ true → s.closed ≡ false → FitsHold hold s → A
 hold_kept {A} hold s c d = hold_is (λ h. A) (λ k. true_not c k.1) (λ k. true_not c k.2) (λ k. true_not c k.1)
@@ -106,6 +122,16 @@ module _ {F T : Type 0} where
   with_references (taken hold j) s rests n t k = (counting_hold hold s n t k.0, k.1)
   with_references (kept o) s rests n t k = k
   with_references gone s rests n t k = k
+
+  -- the marks of the awaiter change, of a task that somebody can reach
+  pub with_marks : (b : Body F T) (s : State) (rests : Bool) (a r n : Bool) → Reachable s → Fits b s rests
+      → Fits b (marking a r n s) rests
+  with_marks (idle f) s rests a r n t k = k
+  with_marks (resting f) s rests a r n t k = k
+  with_marks (queued f j) s rests a r n t k = k
+  with_marks (taken hold j) s rests a r n t k = (marking_hold hold s a r n t k.0, k.1)
+  with_marks (kept o) s rests a r n t k = k
+  with_marks gone s rests a r n t k = k
 
   -- an open task that isn't idle may be closed where it is
   pub shut : (b : Body F T) (s : State) (rests : Bool) → is_going s ≡ true → Fits b s rests → Fits b (closed_on s) rests
@@ -158,6 +184,15 @@ module _ {F T : Type 0} where
   when_gone (taken hold j) s rests h a b c k = hold_over hold s a b h k.0
   when_gone (kept o) s rests h a b c k = true_not c k.3
   when_gone gone s rests h a b c k = refl
+
+  pub when_left : (b : Body F T) (s : State) (rests : Bool) → going b ≡ 0 → spending b ≡ 0 → s.closed ≡ true → s.awaiter ≡ true
+      → Fits b s rests → b ≡ gone
+  when_left (idle f) s rests g h c w k = true_not c k.3
+  when_left (resting f) s rests g h c w k = absurd (let z : 1 ≡ 0 = g in omega arith)
+  when_left (queued f j) s rests g h c w k = absurd (let z : 1 ≡ 0 = g in omega arith)
+  when_left (taken hold j) s rests g h c w k = hold_left hold s g h w k.0
+  when_left (kept o) s rests g h c w k = true_not c k.3
+  when_left gone s rests g h c w k = refl
 
   pub when_resting : (b : Body F T) (s : State) (rests : Bool) → rests ≡ true → Fits b s rests → (f : F) × (b ≡ resting f)
   when_resting (idle f) s rests t k = true_not t k.4
@@ -216,6 +251,22 @@ module _ {W : Type 0} where
         empty_one : (a : Option W) → s.awaiter ≡ is_some a → lies a ≡ lies None
         empty_one (Some w) e = true_not e t
         empty_one None e = refl
+
+  -- nobody has the awaiter's slot, where nobody notifies or registers
+  pub unheld : (p : Post W) (s : State) → s.notifying ≡ false → (s.registering ≡ true → handling p ≡ 1 → ⊥) → Reachable s
+      → FitsPost p s.awaiter s.registering s.notifying → Emptied p s → (a : Option W) × (p ≡ lies a)
+  unheld p s n g t k e = post_is
+      (λ q. (s.registering ≡ true → handling q ≡ 1 → ⊥) → Emptied q s → (a : Option W) × (q ≡ lies a))
+      (λ a k g e. (a, refl)) (λ j k g e. absurd (g k refl)) (λ j k g e. true_not k.1 n) (λ j k g e. true_not k.1 n)
+      (λ j k g e. absurd (t e.0 e.1)) p k g e
+
+  -- somebody notifies or registers, who will call the awaiter
+  pub noted : (p : Post W) (s : State) → s.notifying || s.registering ≡ true → FitsPost p s.awaiter s.registering s.notifying
+      → FitsPost p s.awaiter s.registering true
+  noted p s e k = post_is (λ q. FitsPost q s.awaiter s.registering true) (λ a k. neither k.2 k.1) (λ j k. k) (λ j k. (k.0, refl))
+      (λ j k. (k.0, refl)) (λ j k. neither k.2 k.1) p k where
+        neither : {A : Type 0} → s.notifying ≡ false → s.registering ≡ false → A
+        neither n r = true_not e (or_same s.notifying s.registering n ∙ r)
 
   pub there_is : (a : Option W) (b : Bool) → b ≡ is_some a → b ≡ true → (w : W) × (a ≡ Some w)
   there_is (Some w) b e t = (w, refl)

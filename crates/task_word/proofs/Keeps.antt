@@ -129,7 +129,8 @@ module _ {W : Type 0} where
 abbrev pub StaysOver : State → State → Type 0
 StaysOver st st' = 1 ≤ st.references → is_over st ≡ true → is_over st' ≡ true
 
-state_kept : (hold : Hold) (st st' : State) → StaysOver st st' → weight hold ≤ st.references → KnowsState st hold → KnowsState st' hold
+pub state_kept : (hold : Hold) (st st' : State) → StaysOver st st' → weight hold ≤ st.references → KnowsState st hold
+    → KnowsState st' hold
 state_kept Leaving st st' over l k = over l k
 state_kept RunNotifying st st' over l k = over l k
 state_kept Nothing st st' over l k = tt
@@ -185,8 +186,10 @@ module _ {F T W : Type 0} where
     pub bounded : st'.references ≤ most + room body'
     pub fits_post : FitsPost post' st'.awaiter st'.registering st'.notifying
     pub emptied : Emptied post' st'
-    pub references : st'.references + going body + calling post + reference_of hold ≡ st.references + going body' + calling post' + reference_of hold'
-    pub handle : bit st'.handle + spending body + handling post + handle_of hold ≡ bit st.handle + spending body' + handling post' + handle_of hold'
+    pub references : st'.references + going body + calling post + reference_of hold ≡ st.references + going body' + calling post' +
+        reference_of hold'
+    pub handle : bit st'.handle + spending body + handling post + handle_of hold ≡ bit st.handle + spending body' + handling post' +
+        handle_of hold'
     pub place : homes' ≡ home body' ∷ home_awaiter post' ∷ []
     pub mine : Knows body' id hold' × KnowsPost post' id hold' × KnowsState st' hold'
     pub others : Others id body body'
@@ -217,11 +220,13 @@ module _ {F T W : Type 0} where
         references = let t : total (set s.views id w) + reference_of me.0.hold ≡ total s.views + reference_of hold' =
             total_set s.views id me.0 w at in
             let c : st.references ≡ total s.views + r.stored + going r.body + calling r.post = r.references in
-            let m : st'.references + going r.body + calling r.post + reference_of me.0.hold ≡ st.references + going body' + calling post' + reference_of hold' = next.references in omega arith;
+            let m : st'.references + going r.body + calling r.post + reference_of me.0.hold ≡ st.references + going body' + calling post'
+            + reference_of hold' = next.references in omega arith;
         handle = let t : handles (set s.views id w) + handle_of me.0.hold ≡ handles s.views + handle_of hold' =
             handles_set s.views id me.0 w at in
             let c : bit st.handle ≡ handles s.views + spending r.body + handling r.post = r.handle in
-            let m : bit st'.handle + spending r.body + handling r.post + handle_of me.0.hold ≡ bit st.handle + spending body' + handling post' + handle_of hold' = next.handle in omega arith;
+            let m : bit st'.handle + spending r.body + handling r.post + handle_of me.0.hold ≡ bit st.handle + spending body' + handling
+            post' + handle_of hold' = next.handle in omega arith;
         place = next.place;
         each_seat = λ j d e. ⊎_elim
             (λ t. subst (λ (z : View). Knows body' j z.hold × KnowsPost post' j z.hold × KnowsState st' z.hold) t.1

@@ -29,7 +29,7 @@ use Rattle.task_word.proofs.Keeps.{there_post, back, taken_out, taken_out_post, 
 use Rattle.task_word.proofs.Stepping.{Told, full, full_open, gets_runnable}
 use Rattle.task_word.proofs.Moving.{few_of}
 
-set_bit : (b : Bool) → 1 ≤ bit b → b ≡ true
+pub set_bit : (b : Bool) → 1 ≤ bit b → b ≡ true
 set_bit true l = refl
 set_bit false l = absurd (omega (arith, l))
 
@@ -39,12 +39,12 @@ module _ {F T W : Type 0} {s : St F T W} {st : State} {rests : Bool} (r : Holds 
   handled = let c : handle_of me.0.hold + spending r.body + handling r.post ≤ bit st.handle = handle_counted r id me at in
       let h : handle_of me.0.hold ≡ 1 = ap handle_of mine in set_bit st.handle (omega (arith, c, h))
 
-  unspent : (spending r.body ≡ 0) × (handling r.post ≡ 0)
+  pub unspent : (spending r.body ≡ 0) × (handling r.post ≡ 0)
   unspent = let c : handle_of me.0.hold + spending r.body + handling r.post ≤ bit st.handle = handle_counted r id me at in
       let h : handle_of me.0.hold ≡ 1 = ap handle_of mine in
       let b : bit st.handle ≤ 1 = bit_small st.handle in (omega (arith, c, h, b), omega (arith, c, h, b))
 
-  reached : Reachable st
+  pub reached : Reachable st
   reached a b = true_not handled b
 
   -- the handle goes, and somebody has a reference
@@ -66,6 +66,30 @@ module _ {F T W : Type 0} {s : St F T W} {st : State} {rests : Bool} (r : Holds 
         others_post = λ j ne hold k. k;
         over = λ l o. o;
       }) won told
+
+  -- the output is taken out, and the task closed
+  pub takes_output : (found new : ℕ) → st.completed ≡ true → st.closed ≡ false → new ≡ pack (closed_on st) rests
+      → (won : Known F T W → Type 0) → ((t : T) → won (view Spending found new, (0, Some (Output t)) ∷ me.1)) → Goes s id me won new
+  takes_output found new done unshut is won told = let i = when_kept r.body st rests done unshut r.fits in
+      let k : Fits {F = F} (kept i.0) st rests = subst (λ (z : Body F T). Fits z st rests) i.1 r.fits in
+      let g : going r.body ≡ 0 = ap going i.1 in let u : spending r.body ≡ 0 = ap spending i.1 in
+      let x : reference_of me.0.hold ≡ 0 = ap reference_of mine in let y : handle_of me.0.hold ≡ 1 = ap handle_of mine in
+      let l : st.references ≤ most + room r.body = r.bounded in let d : room r.body ≡ 1 = ap room i.1 in
+      goes r id me at Spending found new new (takes 0 (Some (Output i.0))) (there r (Some (Output i.0)) (ap home i.1))
+      (closed_on st) rests is (taken Spending id) r.post
+      (record {
+        fits = ((k.0, k.1, k.2, refl), k.5);
+        bounded = omega (arith, l, d);
+        fits_post = r.fits_post;
+        emptied = full r id me at (closed_on st) reached;
+        references = omega (arith, g, x);
+        handle = omega (arith, u, y);
+        place = taken_out r;
+        mine = (refl, tt, tt);
+        others = from_free id r.body (taken Spending id) (ap holder i.1);
+        others_post = λ j ne hold z. z;
+        over = λ m o. or_true _ _ refl;
+      }) won (told i.0)
 
   -- it goes, and nobody can reach the task any more
   goes_last : (found new : ℕ) → st.completed && not st.closed ≡ false → st.closed ≡ true → st.references ≡ 0
@@ -130,26 +154,8 @@ module _ {F T W : Type 0} (n id : ℕ) (me : Known F T W) where
         → new ≡ pack (detach_by a b st).state rests → (s : St F T W) (r : Holds st rests s) → get_elem? s.views id ≡ some me.0
         → Goes s id me (Told let_go (detach_by a b st) me old new) new
     detaches_by true b ea eb mine next s r at = let q = both_true _ _ ea in
-        let i = when_kept r.body st rests q.0 (not_true _ q.1) r.fits in
-        let k : Fits {F = F} (kept i.0) st rests = subst (λ (z : Body F T). Fits z st rests) i.1 r.fits in
-        let g : going r.body ≡ 0 = ap going i.1 in let u : spending r.body ≡ 0 = ap spending i.1 in
-        let x : reference_of me.0.hold ≡ 0 = ap reference_of mine in let y : handle_of me.0.hold ≡ 1 = ap handle_of mine in
-        let l : st.references ≤ most + room r.body = r.bounded in let d : room r.body ≡ 1 = ap room i.1 in
-        goes r id me at Spending old new new (takes 0 (Some (Output i.0))) (there r (Some (Output i.0)) (ap home i.1))
-        (closed_on st) rests next (taken Spending id) r.post
-        (record {
-          fits = ((k.0, k.1, k.2, refl), k.5);
-          bounded = omega (arith, l, d);
-          fits_post = r.fits_post;
-          emptied = full r id me at (closed_on st) (reached r id me at mine);
-          references = omega (arith, g, x);
-          handle = omega (arith, u, y);
-          place = taken_out r;
-          mine = (refl, tt, tt);
-          others = from_free id r.body (taken Spending id) (ap holder i.1);
-          others_post = λ j ne hold z. z;
-          over = λ m o. or_true _ _ refl;
-        }) (Told let_go (detach_by true b st) me old new) ((i.0, (refl, refl)), refl, refl)
+        takes_output r id me at mine old new q.0 (not_true _ q.1) next (Told let_go (detach_by true b st) me old new)
+        (λ t. ((t, (refl, refl)), refl, refl))
     detaches_by false true ea eb mine next s r at = let q = both_true _ _ eb in
         let zeros : st.references ≡ 0 = eqb-true st.references 0 q.0 in let unshut : st.closed ≡ false = not_true _ q.1 in
         let c : reference_of me.0.hold + going r.body + calling r.post ≤ st.references = counted r id me at in

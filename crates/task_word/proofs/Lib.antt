@@ -8,3 +8,5 @@ pub mod Running
 pub mod Closing
 pub mod Making
 pub mod Letting
+pub mod Polling
+pub mod Awaiting

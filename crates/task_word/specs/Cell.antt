@@ -40,6 +40,10 @@ most = 2 ^ 40
 abbrev pub filling : State
 filling = record moves.made { closed = true; handle = false; references = 0 }
 
+-- the state of a cell with no task
+abbrev pub vacant : State
+vacant = record moves.made { scheduled = false; closed = true; handle = false; references = 0 }
+
 -- the reference that such a seat has, and whether it has the handle
 abbrev pub weight : Hold → ℕ
 weight Reference = 1

@@ -16,6 +16,7 @@ use Rattle.task_word.specs.declared.rule.Hold.{Hold}
 use Rattle.task_word.specs.declared.rule.Hold.TheVariants.{Nothing, Reference, Leaving, Handle, Made, Queued, Running, Closing, Ending, Filling, Spending, Emptying}
 use Rattle.task_word.specs.declared.rule.Content.TheVariants.{Future, Output, Awaiter}
 use Rattle.task_word.specs.Word.{pack}
+use Rattle.task_word.specs.Given.{is_given}
 use Rattle.task_word.specs.Cell.{most, weight, filling, Slot}
 
 abbrev pub view : Hold → ℕ → ℕ → View
@@ -145,6 +146,14 @@ module _ {F T W : Type 0} where
   abbrev pub let_go : Moved → Known F T W → Known F T W → Type 0
   let_go mv m m' = lets_go mv.owed.drop_output mv m m'
 
+  -- the output comes out, where it is given
+  abbrev pub gives_out : Bool → List (ℕ × Slot F T W) → Known F T W → Type 0
+  gives_out true slots m' = (t : T) × Is Spending ((0, Some (Output t)) ∷ slots) m'
+  gives_out false slots m' = Is Handle slots m'
+
+  abbrev pub polled : Moved → Known F T W → Known F T W → Type 0
+  polled mv m m' = gives_out (is_given mv.owed.answer) m.1 m'
+
   -- a load by which the output's empty slot goes home
   abbrev pub spent : Known F T W → ℕ → Known F T W → Type 0
   spent m n m' = Is Handle (rest m.1) m' × Logs n n m'
@@ -208,6 +217,10 @@ module _ {F T W : Type 0} where
   abbrev pub LetGo : Bool → Option ScheduleInfo → Bool → Seat (Slot F T W) View → Type 0
   LetGo true schedule awaiter seat = (t : T) × Is Spending ((0, Some (Output t)) ∷ []) seat.me
   LetGo false schedule awaiter seat = HasLeft schedule awaiter seat
+
+  -- the output, where it is given, or the handle
+  abbrev pub HasOutput : Option Answer → Seat (Slot F T W) View → Type 0
+  HasOutput answer seat = gives_out (is_given answer) [] seat.me
 
   -- the future is in the slot that the seat holds
   abbrev pub HoldsFuture : Seat (Slot F T W) View → Type 0

@@ -3,13 +3,11 @@ ghost use Rattle.std.specs.Prelude.{◌≡◌};
 ghost use Rattle.task_word.specs.Steps.{Has, IsSeatOf};
 ghost use Rattle.task_word.specs.declared.rule.Hold.TheVariants.{Nothing};
 
+use crate::layout::EMPTY;
 use crate::rule::{Arrive, CellRule, Slot, View};
 use crate::steps::{Board, Pass};
 use atomic_table::Table;
 use std::alloc::{AllocError, Global};
-
-/// The word of a cell with no task: it is closed, and has no reference.
-const EMPTY: u64 = 8;
 
 /// The place of a task: its words, a slot of its future or output, and one of its awaiter.
 #[derive(Drop)]

@@ -9,5 +9,5 @@ pub mod steps;
 
 pub use cell::Cell;
 pub use layout::{Word, decode, encode};
-pub use slot::{put_future, put_output, take_future, take_output};
+pub use slot::{put_awaiter, put_future, put_output, take_awaiter, take_future, take_output};
 pub use steps::{Board, Pass};

@@ -2,9 +2,10 @@
 //! table of moves.
 ghost use Rattle.task_moves.specs.Moves as moves;
 ghost use Rattle.task_word.specs.Cell.{Cell};
+ghost use Rattle.task_word.specs.Awaiter.{notified, end_notified, registered, end_registered, emptied};
 ghost use Rattle.task_word.specs.Steps as steps;
 ghost use Rattle.task_word.specs.Steps.{view, arrived, looked, looked_by, turned_up, turned_back, tries, swapped};
-ghost use Rattle.task_word.specs.Steps.{woken, released, let_go, spent, copied, began, ended, paused, dropped};
+ghost use Rattle.task_word.specs.Steps.{woken, released, let_go, polled, spent, copied, began, ended, paused, dropped};
 ghost use Rattle.task_word.specs.Steps.{reserved, filled, filled_detached, rested, resumed, runnable_of, handle_of_new};
 ghost use Rattle.task_word.specs.declared.rule.Hold.TheVariants.{Nothing};
 
@@ -184,11 +185,60 @@ impl<F, T, W> Play<Slot<F, T, W>, View> for Detach {
     ghost then = { λ s m n m'. tries moves.detach let_go s.first s.second m n m' };
 }
 
+/// A poll of the handle. Where the output is there, that is taken out.
+pub struct Poll;
+
+impl<F, T, W> Play<Slot<F, T, W>, View> for Poll {
+    ghost then = { λ s m n m'. tries moves.poll polled s.first s.second m n m' };
+}
+
+/// It looks again, after it has registered its waker.
+pub struct LookAgain;
+
+impl<F, T, W> Play<Slot<F, T, W>, View> for LookAgain {
+    ghost then = { λ s m n m'. tries moves.look_again polled s.first s.second m n m' };
+}
+
 /// The load of who has taken the output out. The empty slot goes home.
 pub struct Spend;
 
 impl<F, T, W> Play<Slot<F, T, W>, View> for Spend {
     ghost then = { λ s m n m'. spent m n m' };
+}
+
+/// Somebody wants the awaiter called. Where nobody is at it, its slot is taken.
+pub struct Notify;
+
+impl<F, T, W> Play<Slot<F, T, W>, View> for Notify {
+    ghost then = { λ s m n m'. tries moves.notify notified s.first s.second m n m' };
+}
+
+/// The awaiter was taken out of its slot, which goes home.
+pub struct EndNotify;
+
+impl<F, T, W> Play<Slot<F, T, W>, View> for EndNotify {
+    ghost then = { λ s m n m'. tries moves.end_notify end_notified s.first s.second m n m' };
+}
+
+/// A poll of the handle begins to register its waker. Where nobody is notifying, the awaiter's slot is taken.
+pub struct Register;
+
+impl<F, T, W> Play<Slot<F, T, W>, View> for Register {
+    ghost then = { λ s m n m'. tries moves.register registered s.first s.second m n m' };
+}
+
+/// The waker is stored, or was taken out again. The slot goes home.
+pub struct EndRegister;
+
+impl<F, T, W> Play<Slot<F, T, W>, View> for EndRegister {
+    ghost then = { λ s m n m'. tries moves.end_register end_registered s.first s.second m n m' };
+}
+
+/// The awaiter that was left is taken out of its slot. The cell has no task then.
+pub struct Empty;
+
+impl<F, T, W> Play<Slot<F, T, W>, View> for Empty {
+    ghost then = { λ s m n m'. emptied s.first m n m' };
 }
 
 /// An empty cell is taken for a new task.

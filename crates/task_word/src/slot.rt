@@ -1,5 +1,6 @@
-//! The future's slot, in the hand of the seat that has the right to it.
+//! The slots, in the hand of the seat that has the right to them.
 ghost use Rattle.std.specs.Prelude.{◌≡◌, [], ◌∷◌, Some, None};
+ghost use Rattle.task_word.specs.Awaiter.{awaiter_slot, HoldsAwaiter};
 ghost use Rattle.task_word.specs.Steps.{HoldsFuture, IsSeatOf, IsSameSeat};
 ghost use Rattle.task_word.specs.declared.rule.Content.TheVariants.{Future, Output};
 
@@ -61,5 +62,39 @@ pub fn take_output<F, T, W>(board: &Board<F, T, W>, pass: &mut Pass<F, T, W>) ->
     match board.exchange(pass, 0, None) {
         Some(Content::Output(output)) => output,
         _ => unreachable!(),
+    }
+}
+
+/// Takes the awaiter out, where one is there.
+#[inline(always)]
+pub fn take_awaiter<F, T, W>(board: &Board<F, T, W>, pass: &mut Pass<F, T, W>) -> Option<W>
+    requires seat { IsSeatOf board.now pass.old }
+    requires has { HoldsAwaiter pass.old }
+    ensures same { IsSameSeat pass.old pass.new }
+    ensures awaiter { pass.old.me.1 ≡ (1, awaiter_slot result) ∷ [] }
+    ensures place { pass.new.me ≡ (pass.old.me.0, (1, None) ∷ []) }
+{
+    match board.exchange(pass, 1, None) {
+        Some(Content::Awaiter(awaiter)) => Some(awaiter),
+        None => None,
+        Some(_) => unreachable!(),
+    }
+}
+
+/// Puts an awaiter into its place, or leaves that empty.
+#[inline(always)]
+pub fn put_awaiter<F, T, W>(board: &Board<F, T, W>, pass: &mut Pass<F, T, W>, awaiter: Option<W>)
+    requires seat { IsSeatOf board.now pass.old }
+    requires has { pass.old.me.1 ≡ (1, None) ∷ [] }
+    ensures same { IsSameSeat pass.old pass.new }
+    ensures awaiter { pass.new.me ≡ (pass.old.me.0, (1, awaiter_slot awaiter) ∷ []) }
+{
+    let content = match awaiter {
+        Some(awaiter) => Some(Content::Awaiter(awaiter)),
+        None => None,
+    };
+    match board.exchange(pass, 1, content) {
+        None => {}
+        Some(_) => unreachable!(),
     }
 }

@@ -3,6 +3,7 @@ ghost use Rattle.std.specs.Prelude.{◌≡◌};
 ghost use Rattle.task_word.specs.Steps as steps;
 ghost use Rattle.task_word.specs.Steps.{looked, IsSeatOf, IsSameSeat};
 
+pub mod awaiter;
 pub mod closing;
 pub mod handle;
 pub mod making;

@@ -1,9 +1,10 @@
 //! The handle's steps, one by one, and the cell's next task.
 ghost use Rattle.std.specs.Prelude.{IfSome};
-ghost use Rattle.task_word.specs.Steps.{IsSeatOf, IsSameSeat, Has, HasFuture, HasPlace};
+ghost use Rattle.task_word.specs.Steps.{IsSeatOf, IsSameSeat, Has, HasFuture, HasPlace, HasOutput};
 ghost use Rattle.task_word.specs.declared.rule.Hold.TheVariants.{Handle, Queued, Leaving, Running, Closing, Filling, Spending};
 
 use std::sync::Wait;
+use task_moves::moves::Answer;
 use task_word::steps::runs::Pause;
 use task_word::steps::{handle, making, runs, wakers};
 use task_word::{Board, Cell, Pass, put_future, take_future, take_output};
@@ -167,6 +168,50 @@ fn detach<R: Wait>(rt: &R, place: &Place, mut mine: Hand) -> Gone
     }
 }
 
+/// What a look of the handle came to.
+#[derive(Clone, Copy, PartialEq, Eq, Debug)]
+enum Looked {
+    Pending,
+    Closed,
+    Output(u64),
+}
+
+/// The handle looks at the task, or looks again.
+fn look<R: Wait>(rt: &R, place: &Place, mine: &mut Hand, again: bool) -> Looked
+    requires seat { IsSeatOf place.now.board.shared mine.old }
+    requires has { Has Handle mine.old }
+    ensures same { IsSameSeat mine.old mine.new }
+    ensures one { Has Handle mine.new }
+{
+    let board = place.board();
+    let owed = if again {
+        handle::look_again(rt, board, mine)
+    } else {
+        handle::poll(rt, board, mine)
+    };
+    given(board, mine, owed.answer)
+}
+
+/// The output is taken out, where it is given.
+fn given(board: &Words, mine: &mut Hand, answer: Option<Answer>) -> Looked
+    requires seat { IsSeatOf board.now mine.old }
+    requires has { HasOutput answer mine.old }
+    ensures same { IsSameSeat mine.old mine.new }
+    ensures one { Has Handle mine.new }
+{
+    match answer {
+        Some(Answer::Output) => {
+            let output = take_output(board, mine);
+            handle::spend(board, mine);
+            Looked::Output(output)
+        }
+        Some(Answer::Closed) => Looked::Closed,
+        Some(Answer::Pending) => Looked::Pending,
+        Some(Answer::Refused) => Looked::Pending,
+        None => Looked::Pending,
+    }
+}
+
 /// The handle goes while a Runnable is there, whose run is then the last that has the task.
 #[test]
 fn a_handle_goes_before_its_task_runs(rt: HostRuntime) {
@@ -202,4 +247,19 @@ fn a_handle_that_goes_drops_the_output(rt: HostRuntime) {
     assert!(&rt; detach(&rt, &place, mine) == Gone::Others);
     assert!(&rt; run(&rt, &place, Some(9)) == Ran::ReadyForNobody);
     assert!(&rt; spawn(&rt, &place).is_some());
+}
+
+/// The output is given once, by the first look that finds it.
+#[test]
+fn a_look_gives_the_output_once(rt: HostRuntime) {
+    for again in [false, true] {
+        let place = Place::new(rt.alloc()).expect(&rt, "memory");
+        let mut mine = spawn(&rt, &place).expect(&rt, "an empty cell");
+        assert!(&rt; look(&rt, &place, &mut mine, again) == Looked::Pending);
+        assert!(&rt; run(&rt, &place, Some(9)) == Ran::Ready);
+        assert!(&rt; look(&rt, &place, &mut mine, again) == Looked::Output(9));
+        assert!(&rt; look(&rt, &place, &mut mine, again) == Looked::Closed);
+        assert!(&rt; detach(&rt, &place, mine) == Gone::Nobody);
+        assert!(&rt; spawn(&rt, &place).is_some());
+    }
 }

@@ -1,3 +1,4 @@
+pub mod Asked
 pub mod Fault
+pub mod Jobs
 pub mod Writes
-pub mod Usage

@@ -1,21 +1,34 @@
-//! `taskrun sim` reads a script of calls and prints what they do, line by line.
+//! `taskrun jobs <workers>` does jobs on worker threads and prints their answers; `taskrun sim` reads a script of calls and
+//! prints what they do, line by line.
 #![tactic(auto)]
 
 mod fault;
 mod input;
+mod job_list;
+mod output;
 mod program;
 mod sim;
+mod words;
 
 use fault::Fault;
+use jobs::{JobPlace, JobRealm, Open, Place};
 use program::program;
 use std::alloc::Global;
 use std::io::ErrorKind;
 use std::process::ExitCode;
 use std::rt::Env;
+use std::sync::Wait;
+use std::thread::Threads;
 use std::{env, io};
 
 fn main(rt: HostRuntime) -> ExitCode {
-    match run(&rt) {
+    // Generic code that makes a realm and works on it gets no proof, so it is made here, before it is known whether there are
+    // jobs.
+    let ended = match JobRealm::<HostRuntime>::leak(rt.alloc(), 0) {
+        Ok(realm) => run::<JobPlace<Open, HostRuntime>, HostRuntime>(rt, realm),
+        Err(_) => Err(Fault::NoMemory),
+    };
+    match ended {
         Ok(()) => ExitCode::SUCCESS,
         Err(fault) => {
             // A fault that can't be told still has its status.
@@ -26,13 +39,19 @@ fn main(rt: HostRuntime) -> ExitCode {
 }
 
 /// Runs the program on its arguments, standard input and standard output.
-fn run<R: AllocGlobal + Env + Input + Print>(rt: &R) -> Result<(), Fault> {
-    let words = arguments(rt)?;
-    program(
+fn run<P, R>(rt: R, realm: &'static JobRealm<R>) -> Result<(), Fault>
+where
+    P: Place<R, Gate = Open> + Sync + Drop,
+    R: AllocGlobal + Env + Input + Print + Threads + Sync + Wait + Copy + Drop + 'static,
+{
+    let words = arguments(&rt)?;
+    program::<P, R, _, _>(
+        rt,
         rt.alloc(),
+        realm,
         words.as_slice(),
         &mut rt.reader(),
-        &mut io::writer(rt),
+        &mut io::writer(&rt),
     )
 }
 

@@ -1,13 +1,14 @@
 //! `taskrun sim`: a script in, and what its run shows out.
 
 ghost use Rattle.std.specs.Prelude.{◌≡◌, ◌≢◌, ℕ, Err, IfErr, IfSome, OnOk};
-ghost use Rattle.std.specs.Io.KnownBytes.{Appends, IsAtEnd};
+ghost use Rattle.std.specs.Io.KnownBytes.{IsAtEnd};
 ghost use Rattle.simulator.specs.Answer.{IsGoodInput};
 ghost use Rattle.taskrun.specs.Writes.{WritesAnswer};
 ghost use Rattle.script.specs.BadLine.{IsFirstBadLine};
 
 use crate::fault::Fault;
 use crate::input;
+use crate::output::write_all;
 use simulator::answer;
 use std::alloc::Global;
 use std::io::{Read, Write};
@@ -34,17 +35,9 @@ pub fn sim<R: Read, W: Write>(alloc: Global, reader: &mut R, writer: &mut W) -> 
     ensures good_lines { (number : ℕ) → IfSome (R.remaining reader.old) (λ input.
         IsGoodInput input → result ≢ Err (Fault.BadLine number)) }
     ensures no_usage { result ≢ Err Fault.Usage }
+    ensures no_jobs { (number : ℕ) → result ≢ Err (Fault.Missing number) }
 {
     let input = input::read_all(alloc, reader)?;
     let text = answer(alloc, input.as_slice())?;
     write_all(writer, text.as_slice())
-}
-
-fn write_all<W: Write>(writer: &mut W, text: &[u8]) -> Result<(), Fault>
-    ensures written { OnOk result
-        (Appends (W.contents writer.old) (W.contents writer.new) text.now) }
-    ensures fault { IfErr result (λ fault. fault ≡ Fault.WriteFailed) }
-{
-    writer.write_all(text).map_err(|_| Fault::WriteFailed)?;
-    writer.flush().map_err(|_| Fault::WriteFailed)
 }

@@ -1,16 +1,18 @@
-use super::program;
+//! Scripts, and readers and writers that fail.
+
 use crate::fault::Fault;
 use crate::input::MOST_READS;
-use std::alloc::{AllocError, AllocGlobal, Global};
+use crate::sim::sim;
+use std::alloc::{AllocGlobal, Global};
 use std::fmt::Debug;
 use std::io::{self, ErrorKind, Read, Write};
 use std::process::Abort;
 
 /// A reader that gives a byte a read, and fails at the read of this number, counted from 0.
 #[derive(Drop)]
-struct FailingReader<'a> {
-    text: &'a [u8],
-    reads_before: usize,
+pub struct FailingReader<'a> {
+    pub text: &'a [u8],
+    pub reads_before: usize,
 }
 
 impl Read for FailingReader<'_> {
@@ -63,9 +65,9 @@ impl Read for EndlessReader {
 /// A writer that takes a byte a write, and fails at the write of this number, counted from 0. A
 /// flush is a write too.
 #[derive(Drop)]
-struct FailingWriter {
-    text: Vec<u8>,
-    writes_before: usize,
+pub struct FailingWriter {
+    pub text: Vec<u8>,
+    pub writes_before: usize,
 }
 
 impl FailingWriter {
@@ -115,29 +117,10 @@ try: true
 try: false
 ";
 
-fn words(alloc: Global, texts: &[&str]) -> Result<Vec<String>, AllocError> {
-    let mut words = Vec::new(alloc);
-    for text in texts {
-        words.push(String::from_str(alloc, text)?)?;
-    }
-    Ok(words)
-}
-
-/// Runs the program on these words.
-fn run<R: Read, W: Write>(
-    alloc: Global,
-    texts: &[&str],
-    reader: &mut R,
-    writer: &mut W,
-) -> Result<(), Fault> {
-    let words = words(alloc, texts)?;
-    program(alloc, words.as_slice(), reader, writer)
-}
-
 /// What `taskrun sim` writes for this script.
 fn shown(alloc: Global, script: &str) -> Result<Vec<u8>, Fault> {
     let mut text = Vec::new(alloc);
-    run(alloc, &["sim"], &mut script.as_bytes(), &mut text)?;
+    sim(alloc, &mut script.as_bytes(), &mut text)?;
     Ok(text)
 }
 
@@ -158,7 +141,7 @@ fn is_text<R: Abort + AllocGlobal>(rt: &R, written: Vec<u8>, text: &str) {
 }
 
 /// The value is the one that is wanted.
-fn same<R: Abort, T: PartialEq + Debug + Drop>(rt: &R, value: T, want: T) {
+pub fn same<R: Abort, T: PartialEq + Debug + Drop>(rt: &R, value: T, want: T) {
     assert_eq!(rt; value, want);
 }
 
@@ -310,20 +293,12 @@ fn the_last_line_may_lack_its_end(rt: HostRuntime) {
 }
 
 #[test]
-fn other_words_are_a_usage_fault(rt: HostRuntime) {
-    let mut shown = Vec::new(rt.alloc());
-    let mut reader = THREE_WAKES.as_bytes();
-    let end = run(rt.alloc(), &["jobs", "1"], &mut reader, &mut shown);
-    same(&rt, end, Err(Fault::Usage));
-}
-
-#[test]
 fn a_read_that_fails_ends_the_program(rt: HostRuntime) {
     let text = THREE_WAKES.as_bytes();
     for reads_before in 0..THREE_WAKES.len() + 1 {
         let mut reader = FailingReader { text, reads_before };
         let mut shown = Vec::new(rt.alloc());
-        let end = run(rt.alloc(), &["sim"], &mut reader, &mut shown);
+        let end = sim(rt.alloc(), &mut reader, &mut shown);
         same(
             &rt,
             (reads_before, end, shown.len()),
@@ -339,7 +314,7 @@ fn an_interrupted_read_is_tried_again(rt: HostRuntime) {
         is_next: false,
     };
     let mut shown = Vec::new(rt.alloc());
-    let end = run(rt.alloc(), &["sim"], &mut reader, &mut shown);
+    let end = sim(rt.alloc(), &mut reader, &mut shown);
     same(&rt, end, Ok(()));
     is_text(&rt, shown, THREE_WAKES_SHOW);
 }
@@ -348,7 +323,7 @@ fn an_interrupted_read_is_tried_again(rt: HostRuntime) {
 fn a_reader_that_is_never_over_is_given_up(rt: HostRuntime) {
     let mut reader = EndlessReader { reads: 0 };
     let mut shown = Vec::new(rt.alloc());
-    let end = run(rt.alloc(), &["sim"], &mut reader, &mut shown);
+    let end = sim(rt.alloc(), &mut reader, &mut shown);
     same(
         &rt,
         (end, reader.reads),
@@ -362,7 +337,7 @@ fn written(alloc: Global, writes_before: usize) -> (Result<(), Fault>, Vec<u8>) 
         text: Vec::new(alloc),
         writes_before,
     };
-    let end = run(alloc, &["sim"], &mut THREE_WAKES.as_bytes(), &mut writer);
+    let end = sim(alloc, &mut THREE_WAKES.as_bytes(), &mut writer);
     (end, writer.text)
 }
 

@@ -15,7 +15,10 @@ pub compare_exchange-requires : goal.compare_exchange-requires
 compare_exchange-requires g c = (
   search rules,
   search rules,
-  detaches _ _ c.look-old.new.pass.me c.look-old.result c.encode-new.result c.decode-word.result.state c.decode-word.result.rests c.decode-word.ensures (still c.loop.pass.me c.look-old.new.pass.me (still c.args.pass.now.me c.loop.pass.me c.requires.has c.loop.invariant.1) c.look-old.ensures.saw.0).0 (c.encode-new.ensures ∙ ap (λ (z : Moved). pack z.state c.decode-word.result.rests) c.detach-moved.ensures),
+  detaches _ _ c.look-old.new.pass.me c.look-old.result c.encode-new.result c.decode-word.result.state c.decode-word.result.rests
+      c.decode-word.ensures (still c.loop.pass.me c.look-old.new.pass.me
+      (still c.args.pass.now.me c.loop.pass.me c.requires.has c.loop.invariant.1) c.look-old.ensures.saw.0).0
+      (c.encode-new.ensures ∙ ap (λ (z : Moved). pack z.state c.decode-word.result.rests) c.detach-moved.ensures),
 )
 
 pub returns-then-compare_exchange-old-clause-right : goal.returns-then-compare_exchange-old-clause-right
@@ -24,4 +27,6 @@ returns-then-compare_exchange-old-clause-right g c = subst (λ
     (sym c.leaves_awaiter.ensures) (gone_now c.detach-moved.result c.look-old.new.pass.me c.compare_exchange.new.seat
     (still c.loop.pass.me c.look-old.new.pass.me
     (still c.args.pass.now.me c.loop.pass.me c.requires.has c.loop.invariant.1) c.look-old.ensures.saw.0).1
-    ((done moves.detach let_go c.look-old.result c.encode-new.result c.look-old.new.pass.me c.compare_exchange.new.seat.me c.decode-word.result.state c.decode-word.result.rests c.detach-moved.result c.decode-word.ensures c.detach-moved.ensures (c.compare_exchange.ensures.2.0 c.if-compare_exchange-old.true)).1))
+    ((done moves.detach let_go c.look-old.result c.encode-new.result c.look-old.new.pass.me c.compare_exchange.new.seat.me
+    c.decode-word.result.state c.decode-word.result.rests c.detach-moved.result c.decode-word.ensures c.detach-moved.ensures
+    (c.compare_exchange.ensures.2.0 c.if-compare_exchange-old.true)).1))

@@ -5,4 +5,9 @@ use Rattle.task_word.proofs.Making.{fills_detached}
 use Rattle.task_word.proofs.steps.making.make_detached.Goals as goal
 
 pub store-requires : goal.store-requires
-store-requires g c = (search rules, search rules, fills_detached _ _ c.args.pass.now.me c.requires.has.0 c.encode-new.result c.requires.has.1.0 c.requires.has.1.1 (c.encode-new.ensures ∙ ap (λ (z : State). pack z false) c.made.ensures))
+store-requires g c = (
+  search rules,
+  search rules,
+  fills_detached _ _ c.args.pass.now.me c.requires.has.0 c.encode-new.result
+      c.requires.has.1.0 c.requires.has.1.1 (c.encode-new.ensures ∙ ap (λ (z : State). pack z false) c.made.ensures),
+)

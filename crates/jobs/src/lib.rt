@@ -1,0 +1,17 @@
+//! Jobs, sums and products, that worker threads do on one executor.
+#![tactic(auto)]
+
+mod gate;
+mod place;
+mod running;
+mod site;
+mod work;
+mod worker;
+
+pub use gate::{Gate, Open};
+pub use job_answers::{Answer, Job, JobsError, Solved};
+pub use place::{JobPlace, Labor, Place, Workplace};
+pub use running::run_jobs;
+pub use site::{JobRealm, JobWaker, Site};
+pub use work::Work;
+pub use worker::Worker;

@@ -1,0 +1,152 @@
+//! The jobs that are left, and the executor that they are spawned on.
+ghost use Rattle.std.specs.Prelude.{All};
+ghost use Rattle.job_answers.specs.Answers.{IsInRange};
+
+use crate::gate::Gate;
+use crate::work::Work;
+use async_executor::{ExRealm, ExWaker, Executor, SpawnError};
+use async_task::{Future, NoMemory, Poll, StoredTask, TaskError};
+use blocking::ThreadWaker;
+use concurrent_queue::ConcurrentQueue;
+use job_answers::{Job, Solved};
+use std::alloc::Global;
+use std::sync::Wait;
+
+/// Where the jobs of executors lie. One is enough for a program.
+pub type JobRealm<R> = ExRealm<Solved, ThreadWaker, R>;
+
+/// What workers are polled with.
+pub type JobWaker<R> = ExWaker<Solved, ThreadWaker, R>;
+
+/// A job and its number.
+#[derive(Clone, Copy, Debug)]
+struct Numbered {
+    number: u64,
+    job: Job,
+    ghost in_range: { IsInRange job },
+}
+
+/// The jobs that are left, and the executor that they are spawned on.
+#[derive(Drop)]
+pub struct Site<G, R>
+where
+    G: Drop,
+    R: Wait + Copy + Drop + 'static,
+{
+    rt: R,
+    alloc: Global,
+    realm: &'static JobRealm<R>,
+    gate: G,
+    queue: ConcurrentQueue<Numbered>,
+    pub(crate) executor: Executor<Work<G>, Solved, ThreadWaker, R>,
+}
+
+/// What a worker finds where it looks for its next job.
+pub(crate) enum Next {
+    /// It was spawned, and is to be awaited.
+    Begun(StoredTask),
+    /// None is left.
+    NoneLeft,
+    /// It found no place on the executor, and is lost.
+    Lost,
+}
+
+impl<G, R> Site<G, R>
+where
+    G: Gate + Copy + Drop,
+    R: Wait + Copy + Drop + 'static,
+{
+    /// A site with these jobs, numbered from 0, none of which is begun.
+    pub(crate) fn new(
+        rt: R,
+        alloc: Global,
+        realm: &'static JobRealm<R>,
+        jobs: &[Job],
+        gate: G,
+    ) -> Result<Self, NoMemory>
+        requires { All IsInRange jobs.now }
+    {
+        let Ok(queue) = queue_of(&rt, alloc, jobs) else {
+            return Err(NoMemory);
+        };
+        match Executor::new(rt, alloc, realm, jobs.len().max(1)) {
+            Ok(executor) => Ok(Site {
+                rt,
+                alloc,
+                realm,
+                gate,
+                queue,
+                executor,
+            }),
+            Err(_) => Err(NoMemory),
+        }
+    }
+
+    /// No job came back to a worker yet.
+    pub(crate) fn no_job(&self) -> Vec<Solved> {
+        Vec::new(self.alloc)
+    }
+
+    /// The runtime value.
+    pub(crate) fn runtime(&self) -> R {
+        self.rt
+    }
+
+    /// Pops a job and spawns it.
+    pub(crate) fn begin(&self) -> Result<Next, NoMemory> {
+        let Ok(numbered) = self.queue.pop(&self.rt) else {
+            return Ok(Next::NoneLeft);
+        };
+        let work = Work::new(self.gate, numbered.number, numbered.job);
+        match self.executor.spawn(work) {
+            Ok(task) => Ok(Next::Begun(task.store())),
+            Err(SpawnError::Full(_)) => Ok(Next::Lost),
+            Err(SpawnError::NoMemory(_)) => Err(NoMemory),
+        }
+    }
+
+    /// The job that came back, where its task wasn't closed. Where it hasn't come back it is kept.
+    pub(crate) fn await_job(
+        &self,
+        awaited: &mut Option<StoredTask>,
+        waker: &JobWaker<R>,
+    ) -> Poll<Result<Option<Solved>, NoMemory>> {
+        let Some(stored) = awaited.take() else {
+            return Poll::Ready(Ok(None));
+        };
+        let Some(mut task) = stored.redeem(self.rt, self.realm) else {
+            return Poll::Ready(Ok(None));
+        };
+        match task.poll(waker) {
+            Poll::Pending => {
+                *awaited = Some(task.store());
+                Poll::Pending
+            }
+            Poll::Ready(Ok(solved)) => Poll::Ready(Ok(Some(solved))),
+            Poll::Ready(Err(TaskError::TaskClosed)) => Poll::Ready(Ok(None)),
+            Poll::Ready(Err(TaskError::NoMemory)) => Poll::Ready(Err(NoMemory)),
+        }
+    }
+}
+
+/// An unbounded queue with these jobs, numbered from 0, which is closed.
+fn queue_of<R: Wait>(
+    rt: &R,
+    alloc: Global,
+    jobs: &[Job],
+) -> Result<ConcurrentQueue<Numbered>, NoMemory>
+    requires { All IsInRange jobs.now }
+{
+    let queue = ConcurrentQueue::unbounded(alloc);
+    for (number, job) in jobs.iter().enumerate() {
+        let numbered = Numbered {
+            number: number as u64,
+            job: *job,
+        };
+        if queue.push(rt, numbered).is_err() {
+            return Err(NoMemory);
+        }
+    }
+    queue.close(rt);
+    Ok(queue)
+}

@@ -1,5 +1,7 @@
 -- How far a call on the executor is.
-use Rattle.std.specs.Prelude.{◌≡◌, Bool, Option, Some, None}
+use Rattle.std.specs.Prelude.{◌≡◌, Bool, true, false, Option, Some, None}
+use Rattle.async_executor.specs.declared.call.Ending.{Ending}
+use Rattle.async_executor.specs.declared.call.Ending.TheVariants.{Ran, Lies, Called, Refused}
 use Rattle.async_executor.specs.declared.ticker.Found.{Found}
 use Rattle.async_executor.specs.declared.ticker.Found.TheVariants.{Runnable, SearchAgain, Nothing, NoMemory}
 use Rattle.async_executor.specs.declared.ticker.Laid.{Laid}
@@ -14,14 +16,34 @@ module _ {W : Type 0} where
   flag_laid (Already was) = None
   flag_laid (Nowhere back) = None
 
+  -- whether one lies as it did before
+  abbrev pub lies_laid : Laid W → Bool
+  lies_laid (Anew flag) = false
+  lies_laid (Already was) = true
+  lies_laid (Nowhere back) = false
+
   -- what the flag is to be stored as where one got up or left
   abbrev pub flag_risen : Option (Risen W) → Option Bool
   flag_risen None = None
   flag_risen (Some r) = Some r.notified
 
+-- nothing was found: its waker is among the sleepers, or was called
+abbrev pub IsPending : Ending → Type 0
+IsPending Lies = Unit {0}
+IsPending Called = Unit {0}
+IsPending Ran = ⊥
+IsPending Refused = ⊥
+
 -- what was found is in hand, and a sleeper was told
-abbrev pub IsFoundInHand : Found → Type 0
-IsFoundInHand (Runnable stored call) = call ≡ in_hand
-IsFoundInHand SearchAgain = Unit {0}
-IsFoundInHand Nothing = Unit {0}
-IsFoundInHand NoMemory = Unit {0}
+abbrev pub IsFound : Found → Type 0
+IsFound (Runnable stored call) = call ≡ in_hand
+IsFound SearchAgain = Unit {0}
+IsFound (Nothing last) = IsPending last
+IsFound (NoMemory last) = last ≡ Refused
+
+-- the same, once it has searched again
+abbrev pub IsFoundAtLast : Found → Type 0
+IsFoundAtLast (Runnable stored call) = call ≡ in_hand
+IsFoundAtLast SearchAgain = ⊥
+IsFoundAtLast (Nothing last) = IsPending last
+IsFoundAtLast (NoMemory last) = last ≡ Refused

@@ -1,5 +1,5 @@
 -- How a tick or run lies down among the sleepers, gets up and leaves them, each in one section of their lock.
-use Rattle.std.specs.Prelude.{◌≡◌, ℕ, ◌≤◌, Bool, false, Option, Some, None, is_none}
+use Rattle.std.specs.Prelude.{◌≡◌, ℕ, ◌+◌, ◌<◌, ◌≤◌, Bool, false, Option, Some, None, is_none}
 use Rattle.async_executor.specs.declared.sleeping.SleeperWaker.{SleeperWaker}
 use Rattle.async_executor.specs.declared.ticker.Laid.{Laid}
 use Rattle.async_executor.specs.declared.ticker.Laid.TheVariants.{Anew, Already, Nowhere}
@@ -34,11 +34,16 @@ module _ {W : Type 0} where
   GetsUp Left old new Left None = new ≡ old
   GetsUp _ _ _ _ _ = ⊥
 
+  -- room for one was given back, where anybody doesn't sleep in it
+  abbrev pub GivesBack : Sleepers (SleeperWaker W) → Sleepers (SleeperWaker W) → Type 0
+  GivesBack old new = (new ≡ record old { rooms = new.rooms })
+      × (old.count < old.rooms → new.rooms + 1 ≡ old.rooms) × (old.rooms ≤ old.count → new.rooms ≡ old.rooms)
+
   -- one that lay gets up, and was told where it had no waker left; its room is given back
   abbrev pub Leaves : Ticker → Sleepers (SleeperWaker W) → Sleepers (SleeperWaker W) → Option (Risen W) → Bool → Type 0
   Leaves (Lies s) old new (Some r) told =
-      (r.waker ≡ waker_of s.number old.wakers) × (record new { rooms = old.rooms } ≡ risen s.number old)
+      (r.waker ≡ waker_of s.number old.wakers) × GivesBack (risen s.number old) new
       × (r.notified ≡ flag_of new) × (told ≡ is_none (waker_of s.number old.wakers))
-  Leaves (Up _) old new None told = (record new { rooms = old.rooms } ≡ old) × (told ≡ false)
+  Leaves (Up _) old new None told = GivesBack old new × (told ≡ false)
   Leaves Left old new None told = (new ≡ old) × (told ≡ false)
   Leaves _ _ _ _ _ = ⊥

@@ -1,6 +1,6 @@
 //! A call on the executor, as contracts follow it from section to section.
 ghost use Rattle.std.specs.Prelude.{◌≡◌, true, false, Some, None};
-ghost use Rattle.async_executor.specs.Stages.{begun, in_hand, IsDone};
+ghost use Rattle.async_executor.specs.Stages.{begun, given, in_hand, took, looked, IsDone};
 
 use std::marker::Model;
 use std::snapshot::Snapshot;
@@ -13,6 +13,8 @@ pub struct Call {
     is_new: Snapshot<bool>,
     // Whether a Runnable is in hand, which is run, appended to the executor's queue or closed.
     holds: Snapshot<bool>,
+    // Whether that was taken from a queue.
+    found: Snapshot<bool>,
     // Whether a sleeper is to be told that there may be something to do.
     owes: Snapshot<bool>,
     // Whether it won the exchange of the flag, and hands out a waker.
@@ -21,6 +23,47 @@ pub struct Call {
     closed: Snapshot<bool>,
     // What the flag is stored as, before the sleepers' lock is given back.
     flag: Snapshot<Option<bool>>,
+    // Whether the executor's queue was found empty.
+    searched: Snapshot<bool>,
+    // Whether it closed the executor's queue, and hasn't found it empty since.
+    undrained: Snapshot<bool>,
+    // Whether it lies among the sleepers as it did before, with its waker.
+    lies: Snapshot<bool>,
+}
+
+/// How a call of a tick or run ended.
+#[derive(Clone, Copy, Drop)]
+pub enum Ending {
+    /// A Runnable was taken from a queue, and run.
+    Ran,
+    /// The executor's queue was found empty, and it lay among the sleepers already: its waker is there now.
+    Lies,
+    /// The executor's queue was found empty, and its waker, which can't be kept, was called.
+    Called,
+    /// Memory was wanted.
+    Refused,
+}
+
+/// How a call of a tick or run ended, which that call alone can say. Only contracts read it.
+#[derive(Drop)]
+pub struct Last {
+    ending: Ending,
+}
+
+impl Model for Last {
+    ghost use Rattle.async_executor.specs.declared.call.Ending.{Ending};
+
+    ghost Value = { Ending };
+
+    ghost view = { λ l. l.ending };
+}
+
+impl Last {
+    fn of(ending: Ending) -> Last
+        ensures { result ≡ ending }
+    {
+        Last { ending }
+    }
 }
 
 impl Model for Call {
@@ -31,10 +74,14 @@ impl Model for Call {
     ghost view = { λ c. record {
       is_new = c.is_new.value;
       holds = c.holds.value;
+      found = c.found.value;
       owes = c.owes.value;
       won = c.won.value;
       closed = c.closed.value;
       flag = c.flag.value;
+      searched = c.searched.value;
+      undrained = c.undrained.value;
+      lies = c.lies.value;
     } };
 }
 
@@ -45,10 +92,14 @@ impl Call {
         Call {
             is_new: Snapshot::of(&is_new),
             holds: Snapshot::of(&holds),
+            found: Snapshot::of(&false),
             owes: Snapshot::of(&false),
             won: Snapshot::of(&false),
             closed: Snapshot::of(&false),
             flag: Snapshot::of(&None),
+            searched: Snapshot::of(&false),
+            undrained: Snapshot::of(&false),
+            lies: Snapshot::of(&false),
         }
     }
 
@@ -61,7 +112,7 @@ impl Call {
 
     /// A call that is given a Runnable.
     pub fn given() -> Call
-        ensures { result ≡ in_hand }
+        ensures { result ≡ given }
     {
         Call::at(false, true)
     }
@@ -73,20 +124,66 @@ impl Call {
         let Call {
             is_new: _,
             holds: _,
+            found: _,
             owes: _,
             won: _,
             closed: _,
             flag: _,
+            searched: _,
+            undrained: _,
+            lies: _,
         } = self;
     }
 
-    /// The Runnable in hand is run, and the call ends.
-    pub fn start(self)
+    /// The Runnable in hand, which was taken from a queue, is run, and the call ends.
+    pub fn start(self) -> Last
         requires { self ≡ in_hand }
+        ensures { result ≡ Ending.Ran }
     {
         let mut call = self;
         call.holds = Snapshot::of(&false);
         call.end();
+        Last::of(Ending::Ran)
+    }
+
+    /// What was taken from a queue is a number of another realm: there is nothing to run, and the call ends.
+    pub fn end_missed(self) -> Last
+        requires found { self.found ≡ true }
+        requires done { IsDone self }
+        ensures { result ≡ Ending.Ran }
+    {
+        self.end();
+        Last::of(Ending::Ran)
+    }
+
+    /// Nothing was found, and it lies among the sleepers: the call ends.
+    pub fn rest(self) -> Last
+        requires searched { self.searched ≡ true }
+        requires lies { self.lies ≡ true }
+        requires done { IsDone self }
+        ensures { result ≡ Ending.Lies }
+    {
+        self.end();
+        Last::of(Ending::Lies)
+    }
+
+    /// Nothing was found, and its waker is called: the call ends.
+    pub fn end_called(self) -> Last
+        requires searched { self.searched ≡ true }
+        requires done { IsDone self }
+        ensures { result ≡ Ending.Called }
+    {
+        self.end();
+        Last::of(Ending::Called)
+    }
+
+    /// Memory was wanted: the call ends.
+    pub fn refuse(self) -> Last
+        requires { IsDone self }
+        ensures { result ≡ Ending.Refused }
+    {
+        self.end();
+        Last::of(Ending::Refused)
     }
 
     /// A future was refused, or its Runnable came in hand.
@@ -102,11 +199,28 @@ impl Call {
     pub fn take(&mut self, found: bool)
         requires free { self.old.holds ≡ false }
         requires told { self.old.owes ≡ false }
-        ensures { self.new ≡ record self.old { is_new = false; holds = found; owes = found } }
+        ensures { self.new ≡ took found self.old }
     {
         self.is_new = Snapshot::of(&false);
         self.holds = Snapshot::of(&found);
+        self.found = Snapshot::of(&found);
         self.owes = Snapshot::of(&found);
+        if found {
+            self.searched = Snapshot::of(&false);
+        }
+    }
+
+    /// The executor's queue was looked into.
+    pub fn look(&mut self, found: bool)
+        requires free { self.old.holds ≡ false }
+        requires told { self.old.owes ≡ false }
+        ensures { self.new ≡ looked found self.old }
+    {
+        self.take(found);
+        if !found {
+            self.searched = Snapshot::of(&true);
+            self.undrained = Snapshot::of(&false);
+        }
     }
 
     /// There is no Runnable of what was in hand: the number is of another realm.
@@ -127,6 +241,14 @@ impl Call {
         self.owes = Snapshot::of(&true);
     }
 
+    /// This call closed the executor's queue, from which all is to be taken then.
+    pub fn close_queue(&mut self)
+        ensures { self.new ≡ record self.old { is_new = false; closed = true; undrained = true } }
+    {
+        self.find_closed();
+        self.undrained = Snapshot::of(&true);
+    }
+
     /// The executor's queue is closed.
     pub fn find_closed(&mut self)
         ensures { self.new ≡ record self.old { is_new = false; closed = true } }
@@ -139,9 +261,10 @@ impl Call {
     pub fn close(&mut self)
         requires holds { self.old.holds ≡ true }
         requires closed { self.old.closed ≡ true }
-        ensures { self.new ≡ record self.old { holds = false; owes = false } }
+        ensures { self.new ≡ record self.old { holds = false; found = false; owes = false } }
     {
         self.holds = Snapshot::of(&false);
+        self.found = Snapshot::of(&false);
         self.owes = Snapshot::of(&false);
     }
 
@@ -169,6 +292,13 @@ impl Call {
     {
         self.is_new = Snapshot::of(&false);
         self.owes = Snapshot::of(&was_told);
+    }
+
+    /// One that lay among the sleepers lies there with another waker.
+    pub fn lie_on(&mut self)
+        ensures { self.new ≡ record self.old { lies = true } }
+    {
+        self.lies = Snapshot::of(&true);
     }
 
     /// What the flag becomes.

@@ -1,7 +1,9 @@
-ghost use Rattle.std.specs.Prelude.{◌≡◌, ◌<◌, IfOk, IfErr};
+ghost use Rattle.std.specs.Prelude.{◌≡◌, ◌<◌, ◌≤◌, [], true, Some, IfOk, IfErr, length, vec_capacity};
 ghost use Rattle.std.specs.Iterator.{IsFinite};
+ghost use Rattle.std.specs.Arc.{arc_value};
 ghost use Rattle.async_executor.specs.Errors.{refused};
-ghost use Rattle.async_executor.specs.Stages.{in_hand, closing};
+ghost use Rattle.async_executor.specs.Spawning.{SpawnsMany};
+ghost use Rattle.async_executor.specs.Stages.{given, closing};
 
 use crate::call::Call;
 use crate::due::{pay, share};
@@ -11,7 +13,7 @@ use crate::names::{ExRealm, ExRunnable, ExTask, ExWaker};
 use crate::queue::ExQueue;
 use crate::sections;
 use crate::spawning::accept;
-use crate::state::{State, close, take};
+use crate::state::{State, close};
 use async_task::{Future, NoMemory, StoredRunnable, StoredWaker, Wake};
 use executor_parts::Places;
 use std::alloc::Global;
@@ -50,6 +52,8 @@ where
         limit: usize,
     ) -> Result<Self, NoMemory>
         requires { 0 < limit }
+        ensures places { IfOk result (λ executor. (arc_value executor.state).queue.capacity ≡ Some limit) }
+        ensures here { IfOk result (λ executor. executor.realm.now.number ≡ realm.now.number) }
     {
         match (
             State::new(alloc, limit),
@@ -63,6 +67,7 @@ where
         }
     }
 
+    /// Of parts that have places for as many futures as one another.
     fn of(
         rt: R,
         alloc: Global,
@@ -70,7 +75,13 @@ where
         state: State<W>,
         table: Places<F, StoredWaker>,
         leaving: Vec<StoredWaker>,
-    ) -> Result<Self, NoMemory> {
+    ) -> Result<Self, NoMemory>
+        requires table { (table.entries ≡ []) × (table.has_all_room ≡ true) }
+        requires queue { state.queue.capacity ≡ Some table.limit }
+        requires leaving { (leaving.items ≡ []) × (table.limit ≤ vec_capacity leaving) }
+        ensures queue { IfOk result (λ executor. (arc_value executor.state).queue.capacity ≡ state.queue.capacity) }
+        ensures here { IfOk result (λ executor. executor.realm.now.number ≡ realm.now.number) }
+    {
         match Arc::new(alloc, state) {
             Ok(state) => Ok(Executor {
                 realm,
@@ -129,11 +140,11 @@ where
     /// 3. Runs it: true.
     pub fn try_tick(&self) -> bool {
         let mut call = Call::begin();
-        match take(&self.state.queue, &self.rt, &mut call) {
+        match self.state.take(&self.rt, &mut call) {
             Some(stored) => {
                 let due = self.state.notify(self.rt, self.realm, &mut call);
                 pay(self.rt, due);
-                self.poll_or_drop(stored, call);
+                let _ = self.poll_or_drop(stored, call);
                 true
             }
             None => {
@@ -145,7 +156,7 @@ where
 
     /// Puts the Runnable of a new task into the queue, and tells a sleeper.
     fn queue(&self, call: Call, runnable: ExRunnable<T, W, R>)
-        requires { call ≡ in_hand }
+        requires { call ≡ given }
     {
         let runnable = runnable.into_scheduled();
         pay(self.rt, self.state.push(self.rt, call, runnable));
@@ -195,7 +206,7 @@ where
 {
     let mut call = call;
     for _ in rt.forever() {
-        let Some(stored) = take(&state.queue, &rt, &mut call) else {
+        let Some(stored) = state.take(&rt, &mut call) else {
             call.end();
             return;
         };
@@ -245,6 +256,8 @@ where
         futures: &mut I,
     ) -> (Handles<T, W, R>, Result<(), SpawnError<F>>)
         requires { I.can_next futures.old × IsFinite (I.remaining futures.old) }
+        ensures taken { SpawnsMany I.next_gives futures.old futures.new (length result.0.tasks) result.1 }
+        ensures here { result.0.realm ≡ self.now.realm.now.number }
     {
         let mut handles = Handles::new(self.rt, self.alloc, self.realm);
         for _ in self.rt.forever() {

@@ -1,4 +1,5 @@
-ghost use Rattle.std.specs.Prelude.{◌≡◌, ◌==◌, true, [], ◌∷◌, ◌++◌, IfNone, IfSome, OnOk, IfErr, drop as list_drop, slice_get, length, Some};
+ghost use Rattle.std.specs.Prelude.{◌≡◌, ◌==◌, true, [], ◌∷◌, ◌++◌, drop as list_drop, slice_get, length, Some};
+ghost use Rattle.std.specs.Prelude.{IfNone, IfSome, OnOk, IfErr};
 
 use crate::names::{ExRealm, ExTask};
 use async_task::{StoredTask, Wake};

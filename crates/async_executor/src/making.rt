@@ -1,10 +1,13 @@
 //! How ticks and runs are made: all memory that they need later is taken here.
-ghost use Rattle.std.specs.Prelude.{◌≡◌, IfErr};
+ghost use Rattle.std.specs.Prelude.{◌≡◌, false, Some, IfOk, IfErr};
+ghost use Rattle.async_executor.specs.Polls.{has_left};
+ghost use Rattle.async_executor.specs.Seeds.{seeded};
 
 use crate::executor::Executor;
 use crate::names::ExWaker;
 use crate::run::Run;
 use crate::runner::Runner;
+use crate::sections::{give_back, make_room};
 use crate::tick::Tick;
 use crate::ticker::Ticker;
 use async_task::{Future, NoMemory, Wake};
@@ -18,12 +21,14 @@ where
     R: Wait + Copy + Drop + 'static,
 {
     /// A future that waits for a future of the executor which is to be polled, and polls it once.
-    pub fn tick(&self) -> Result<Tick<'_, F, T, W, R>, NoMemory> {
-        let made = self.state.sleepers.lock(&self.rt).make_room();
+    pub fn tick(&self) -> Result<Tick<'_, F, T, W, R>, NoMemory>
+        ensures { IfOk result (λ tick. has_left tick.ticker ≡ false) }
+    {
+        let made = make_room(&mut *self.state.sleepers.lock(&self.rt));
         match made {
-            Ok(room) => Ok(Tick {
+            Ok(new_room) => Ok(Tick {
                 executor: self,
-                ticker: Ticker::Up(room),
+                ticker: Ticker::Up(new_room),
             }),
             Err(_) => Err(NoMemory),
         }
@@ -34,7 +39,9 @@ where
     pub fn run<G>(&self, future: G) -> Result<Run<'_, F, T, W, R, G>, G>
     where
         G: Future<ExWaker<T, W, R>> + Drop,
-        ensures { IfErr result (λ back. back ≡ future) }
+        ensures back { IfErr result (λ back. back ≡ future) }
+        ensures future { IfOk result (λ run. run.future ≡ Some future) }
+        ensures words { IfOk result (λ run. run.runner.words ≡ seeded 0) }
     {
         self.run_from(future, 0)
     }
@@ -43,9 +50,11 @@ where
     pub fn run_from<G>(&self, future: G, seed: u64) -> Result<Run<'_, F, T, W, R, G>, G>
     where
         G: Future<ExWaker<T, W, R>> + Drop,
-        ensures { IfErr result (λ back. back ≡ future) }
+        ensures back { IfErr result (λ back. back ≡ future) }
+        ensures future { IfOk result (λ run. run.future ≡ Some future) }
+        ensures words { IfOk result (λ run. run.runner.words ≡ seeded seed) }
     {
-        let made = self.state.sleepers.lock(&self.rt).make_room();
+        let made = make_room(&mut *self.state.sleepers.lock(&self.rt));
         let Ok(room) = made else {
             return Err(future);
         };
@@ -58,7 +67,7 @@ where
                 taken: 0,
             }),
             Err(NoMemory) => {
-                self.state.sleepers.lock(&self.rt).give_back(room);
+                give_back(&mut *self.state.sleepers.lock(&self.rt), room);
                 Err(future)
             }
         }

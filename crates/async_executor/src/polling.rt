@@ -3,7 +3,7 @@
 ghost use Rattle.std.specs.Prelude.{◌≡◌};
 ghost use Rattle.async_executor.specs.Stages.{in_hand};
 
-use crate::call::Call;
+use crate::call::{Call, Ending, Last};
 use crate::due::pay;
 use crate::executor::Executor;
 use crate::names::{ExClosing, ExRunning, ExWaker};
@@ -22,19 +22,20 @@ where
     R: Wait + Copy + Drop + 'static,
 {
     /// Runs the task in hand, and ends the call.
-    pub(crate) fn poll_or_drop(&self, stored: StoredRunnable, call: Call)
+    pub(crate) fn poll_or_drop(&self, stored: StoredRunnable, call: Call) -> Last
         requires { call ≡ in_hand }
+        ensures { result ≡ Ending.Ran }
     {
         let mut call = call;
         let Some(scheduled) = redeem(self.rt, self.realm, &mut call, stored) else {
-            call.end();
-            return;
+            return call.end_missed();
         };
-        call.start();
+        let last = call.start();
         match scheduled.into_runnable().start() {
             Started::Poll(place, running) => self.poll(place, running),
             Started::Drop(place, closing) => self.drop_future(place, closing),
         }
+        last
     }
 
     fn poll(&self, place: Place, running: ExRunning<T, W, R>) {

@@ -1,4 +1,6 @@
-ghost use Rattle.async_executor.specs.Calls.{IsFoundInHand};
+ghost use Rattle.std.specs.Prelude.{◌≡◌};
+ghost use Rattle.async_executor.specs.Calls.{IsFoundAtLast};
+ghost use Rattle.async_executor.specs.Polls.{IsRunAnswer, IsTasksAnswer};
 
 use crate::call::Call;
 use crate::errors::RunError;
@@ -49,7 +51,9 @@ where
     /// 2. Polls its future. Where that is ready, the run leaves the executor, and is ready.
     /// 3. Takes tasks and runs each. Where there is none to take, it lies down and is pending.
     /// 4. After 200 tasks it wakes its own waker and is pending. A count that was interrupted goes on in the next poll.
-    fn poll(&mut self, waker: &ExWaker<T, W, R>) -> Poll<Result<G::Output, RunError>> {
+    fn poll(&mut self, waker: &ExWaker<T, W, R>) -> Poll<Result<G::Output, RunError>>
+        ensures answer { IsRunAnswer self.old.future self.new.future result }
+    {
         let Some(future) = &mut self.future else {
             return Poll::Ready(Err(RunError::Finished));
         };
@@ -82,18 +86,22 @@ where
     R: Wait + Copy + Drop + 'static,
     G: Future<ExWaker<T, W, R>> + Drop,
 {
-    fn take_tasks(&mut self, waker: &ExWaker<T, W, R>) -> Poll<Result<G::Output, RunError>> {
+    fn take_tasks(&mut self, waker: &ExWaker<T, W, R>) -> Poll<Result<G::Output, RunError>>
+        ensures answer { IsTasksAnswer result }
+        ensures future { self.new.future ≡ self.old.future }
+    {
         let executor = self.executor;
-        for _ in self.taken..TASKS_OF_ONE_POLL {
+        for _turn in self.taken..TASKS_OF_ONE_POLL {
             match self.find(waker) {
                 Found::Runnable(runnable, call) => {
                     self.runner
                         .count(executor.rt, &executor.state, executor.realm);
                     self.taken = self.taken.saturating_add(1);
-                    executor.poll_or_drop(runnable, call);
+                    let _ = executor.poll_or_drop(runnable, call);
                 }
-                Found::NoMemory => return Poll::Ready(Err(RunError::NoMemory)),
-                Found::Nothing | Found::SearchAgain => return Poll::Pending,
+                Found::Nothing(_) => return Poll::Pending,
+                Found::NoMemory(_) => return Poll::Ready(Err(RunError::NoMemory)),
+                Found::SearchAgain => unreachable!(),
             }
         }
         self.taken = 0;
@@ -103,7 +111,8 @@ where
 
     /// Searches until a task is found, or the run lies down.
     fn find(&mut self, waker: &ExWaker<T, W, R>) -> Found
-        ensures { IsFoundInHand result }
+        ensures found { IsFoundAtLast result }
+        ensures future { self.new.future ≡ self.old.future }
     {
         let executor = self.executor;
         for _ in executor.rt.forever() {

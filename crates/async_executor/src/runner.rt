@@ -1,6 +1,8 @@
 //! The own queue of a run, and how a run searches.
-ghost use Rattle.std.specs.Prelude.{◌≡◌, true, false, IfOk, is_some};
-ghost use Rattle.async_executor.specs.Stages.{idle, begun};
+ghost use Rattle.std.specs.Prelude.{◌≡◌, true, false, Some, IfOk, is_some};
+ghost use Rattle.std.specs.Arc.{arc_value};
+ghost use Rattle.async_executor.specs.Seeds.{seeded};
+ghost use Rattle.async_executor.specs.Stages.{begun, took, looked};
 
 use crate::call::Call;
 use crate::due::{pay, share};
@@ -41,7 +43,10 @@ impl Runner {
         alloc: Global,
         state: &State<W>,
         seed: u64,
-    ) -> Result<Runner, NoMemory> {
+    ) -> Result<Runner, NoMemory>
+        ensures words { IfOk result (λ runner. runner.words ≡ seeded seed) }
+        ensures own { IfOk result (λ runner. (arc_value runner.own).capacity ≡ Some 512) }
+    {
         let Ok(own) = ConcurrentQueue::bounded(alloc, OWN_PLACES) else {
             return Err(NoMemory);
         };
@@ -125,7 +130,7 @@ impl Runner {
     /// Takes the first of the own queue, which stands in no list any more.
     fn take_last<R: Wait>(&mut self, rt: &R, call: &mut Call) -> Option<StoredRunnable>
         requires { call.old ≡ begun }
-        ensures call { call.new ≡ record idle { holds = is_some result; owes = is_some result } }
+        ensures call { call.new ≡ took (is_some result) begun }
         ensures drained { result ≡ None → self.new.is_drained ≡ true }
     {
         let found = take(&self.own, rt, call);
@@ -164,12 +169,12 @@ impl Runner {
         W: Wake + Drop + 'static,
         R: Wait + Copy + Drop + 'static,
         requires { call.old ≡ begun }
-        ensures { call.new ≡ record idle { holds = is_some result; owes = is_some result } }
+        ensures { call.new ≡ looked (is_some result) begun }
     {
         if let Some(runnable) = take(&self.own, &rt, call) {
             return Some(runnable);
         }
-        if let Some(runnable) = take(&state.queue, &rt, call) {
+        if let Some(runnable) = state.take(&rt, call) {
             let refused = steal(&rt, &state.queue, &self.own);
             drop_refused(rt, realm, refused);
             return Some(runnable);
@@ -187,8 +192,8 @@ impl Runner {
         state: &State<W>,
         call: &mut Call,
     ) -> (Option<StoredRunnable>, Option<StoredRunnable>)
-        requires { call.old ≡ idle }
-        ensures { call.new ≡ record idle { holds = is_some result.0; owes = is_some result.0 } }
+        requires { call.old ≡ looked false begun }
+        ensures { call.new ≡ looked (is_some result.0) begun }
     {
         let queues = state.own_queues.read(rt);
         let queues = queues.all();

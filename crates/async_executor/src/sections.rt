@@ -1,11 +1,15 @@
-//! What a call does while it has the lock of the executor's table, each in one call of `Places`. No code of a user runs here.
-ghost use Rattle.std.specs.Prelude.{◌≡◌, ◌==◌, Some, None, IfSome, IfNone, length};
+//! What a call does while it has the lock of the executor's table, each in one call of `Places`, and how it takes and gives
+//! back room among the sleepers under theirs, each in one call of `Sleepers`. No code of a user runs here.
+ghost use Rattle.std.specs.Prelude.{◌≡◌, ◌+◌, ◌==◌, OnOk, IfErr, Some, None, IfSome, IfNone, length};
 ghost use Rattle.executor_parts.specs.Places.{entry_in, set_future, future_of, displaced, parts_of, left_by};
 ghost use Rattle.async_executor.specs.Polling.{future_taken};
+ghost use Rattle.async_executor.specs.Sleeping.{GivesBack};
 
 use crate::names::ExWaker;
+use crate::sleeping::SleeperWaker;
 use async_task::{Future, Poll, StoredWaker, Wake};
-use executor_parts::{Place, Places};
+use executor_parts::{Place, Places, Room, Sleepers};
+use std::alloc::AllocError;
 use std::sync::Wait;
 
 /// A future that is out of its entry, with the place of that. It has no drop: it is put back there, or given up.
@@ -56,6 +60,21 @@ pub fn leave<F>(
     ensures limit { table.new.limit ≡ table.old.limit }
 {
     table.leave(place)
+}
+
+/// Makes room for one more among the sleepers. Refused, nothing changes.
+pub fn make_room<W>(sleepers: &mut Sleepers<SleeperWaker<W>>) -> Result<Room, AllocError>
+    ensures made { OnOk result (sleepers.new ≡ record sleepers.old { rooms = sleepers.old.rooms + 1 }) }
+    ensures refused { IfErr result (λ _. sleepers.new ≡ sleepers.old) }
+{
+    sleepers.make_room()
+}
+
+/// Gives room among the sleepers back, where nobody sleeps in it.
+pub fn give_back<W>(sleepers: &mut Sleepers<SleeperWaker<W>>, room: Room)
+    ensures { GivesBack sleepers.old sleepers.new }
+{
+    sleepers.give_back(room);
 }
 
 impl<F> Taken<F> {

@@ -1,3 +1,6 @@
+ghost use Rattle.std.specs.Prelude.{IfSome};
+ghost use Rattle.async_executor.specs.Copies.{IsCopyOf};
+
 use crate::names::{ExDue, ExRealm, ExWaker};
 use async_task::{Awaiter, StoredWaker, Wake};
 use std::sync::Wait;
@@ -17,6 +20,7 @@ impl<W: Wake + Drop + 'static> SleeperWaker<W> {
     where
         T: Drop + 'static,
         R: Wait + Copy + Drop + 'static,
+        ensures { IfSome result (λ copy. IsCopyOf W.is_same copy waker.now) }
     {
         match waker {
             Awaiter::Task(waker) => match waker.clone() {

@@ -2,7 +2,7 @@
 ghost use Rattle.std.specs.Prelude.{◌≡◌, ◌≢◌, ◌<◌, true, false, Some, None, IfOk, IfErr, IfNone, IfSome, OnOk, OnSome, is_some, length};
 ghost use Rattle.executor_parts.specs.Sleepers.{last_waker, without_last};
 ghost use Rattle.async_executor.specs.Calls.{flag_risen};
-ghost use Rattle.async_executor.specs.Stages.{taken};
+ghost use Rattle.async_executor.specs.Stages.{begun, took, looked};
 
 use crate::call::Call;
 use crate::names::{ExDue, ExRealm, ExScheduled};
@@ -39,6 +39,7 @@ impl<W: Drop> State<W> {
     /// An executor's queue with so many places, where nobody sleeps.
     pub fn new(alloc: Global, limit: usize) -> Result<State<W>, NoMemory>
         requires { 0 < limit }
+        ensures { IfOk result (λ state. state.queue.capacity ≡ Some limit) }
     {
         match ConcurrentQueue::bounded(alloc, limit) {
             Ok(queue) => Ok(State {
@@ -53,10 +54,28 @@ impl<W: Drop> State<W> {
 
     /// Closes the executor's queue.
     pub fn close<R: Wait>(&self, rt: &R, call: &mut Call)
-        ensures { call.new ≡ record call.old { is_new = false; closed = true } }
+        ensures { call.new ≡ record call.old { is_new = false; closed = true; undrained = true } }
     {
         self.queue.close(rt);
-        call.find_closed();
+        call.close_queue();
+    }
+
+    /// Takes the first Runnable of the executor's queue in hand, where there is one.
+    pub fn take<R: Wait>(&self, rt: &R, call: &mut Call) -> Option<StoredRunnable>
+        requires free { call.old.holds ≡ false }
+        requires told { call.old.owes ≡ false }
+        ensures { call.new ≡ looked (is_some result) call.old }
+    {
+        match self.queue.pop(rt) {
+            Ok(runnable) => {
+                call.look(true);
+                Some(runnable)
+            }
+            Err(_) => {
+                call.look(false);
+                None
+            }
+        }
     }
 
     /// Puts the Runnable in hand into the executor's queue, or answers it where that is closed.
@@ -135,11 +154,11 @@ impl<W: Drop> State<W> {
     }
 }
 
-/// Takes the first Runnable of a queue in hand, where there is one.
+/// Takes the first Runnable of a run's own queue in hand, where there is one.
 pub fn take<R: Wait>(queue: &Queue, rt: &R, call: &mut Call) -> Option<StoredRunnable>
     requires free { call.old.holds ≡ false }
     requires told { call.old.owes ≡ false }
-    ensures { call.new ≡ record call.old { is_new = false; holds = is_some result; owes = is_some result } }
+    ensures { call.new ≡ took (is_some result) call.old }
 {
     match queue.pop(rt) {
         Ok(runnable) => {
@@ -182,7 +201,7 @@ where
     R: Wait + Copy + Drop + 'static,
     requires holds { call.old.holds ≡ true }
     requires closed { call.old.closed ≡ true }
-    ensures { call.new ≡ record call.old { holds = false; owes = false } }
+    ensures { call.new ≡ record call.old { holds = false; found = false; owes = false } }
 {
     call.close();
     match runnable.redeem(rt, realm) {
@@ -232,6 +251,7 @@ impl<W: Wake + Drop + 'static> State<W> {
         requires made { call.is_new ≡ false }
         requires handed { call.won ≡ false }
         requires stored { call.flag ≡ None }
+        requires drained { call.undrained ≡ false }
     {
         let mut call = call;
         let realm = runnable.realm();
@@ -254,7 +274,7 @@ impl<W: Wake + Drop + 'static> State<W> {
     where
         T: Drop + 'static,
         R: Wait + Copy + Drop + 'static,
-        requires { call ≡ taken }
+        requires { call ≡ took true begun }
     {
         let mut call = call;
         match redeem(rt, realm, &mut call, stored) {

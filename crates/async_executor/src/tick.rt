@@ -1,7 +1,9 @@
+ghost use Rattle.std.specs.Prelude.{◌≡◌};
+ghost use Rattle.async_executor.specs.Polls.{has_left};
+
 use crate::call::Call;
 use crate::executor::Executor;
 use crate::names::ExWaker;
-use crate::state::take;
 use crate::ticker::{Found, Ticker};
 use async_task::{Future, NoMemory, Poll, Wake};
 use std::sync::Wait;
@@ -33,11 +35,13 @@ where
 
     /// 1. Takes a Runnable from the executor's queue, or lies down and is pending.
     /// 2. Where it found one: runs it, and is ready.
-    fn poll(&mut self, waker: &ExWaker<T, W, R>) -> Poll<Result<(), NoMemory>> {
+    fn poll(&mut self, waker: &ExWaker<T, W, R>) -> Poll<Result<(), NoMemory>>
+        ensures { has_left self.new.ticker ≡ has_left self.old.ticker }
+    {
         let executor = self.executor;
         for _ in executor.rt.forever() {
             let mut call = Call::begin();
-            let found = take(&executor.state.queue, &executor.rt, &mut call);
+            let found = executor.state.take(&executor.rt, &mut call);
             match self.ticker.after_search(
                 executor.rt,
                 &executor.state,
@@ -47,12 +51,12 @@ where
                 waker,
             ) {
                 Found::Runnable(runnable, call) => {
-                    executor.poll_or_drop(runnable, call);
+                    let _ = executor.poll_or_drop(runnable, call);
                     return Poll::Ready(Ok(()));
                 }
                 Found::SearchAgain => {}
-                Found::Nothing => return Poll::Pending,
-                Found::NoMemory => return Poll::Ready(Err(NoMemory)),
+                Found::Nothing(_) => return Poll::Pending,
+                Found::NoMemory(_) => return Poll::Ready(Err(NoMemory)),
             }
         }
         unreachable!()

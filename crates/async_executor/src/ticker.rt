@@ -1,12 +1,14 @@
 //! How ticks and runs lie down among the sleepers, get up, and leave them.
 ghost use Rattle.std.specs.Prelude.{◌≡◌, true, false, None, is_some};
-ghost use Rattle.async_executor.specs.Calls.{flag_laid, flag_risen, IsFoundInHand};
+ghost use Rattle.async_executor.specs.Calls.{flag_laid, lies_laid, flag_risen, IsFound};
+ghost use Rattle.async_executor.specs.Polls.{has_left};
 ghost use Rattle.async_executor.specs.Sleeping.{LiesDown, GetsUp, Leaves};
-ghost use Rattle.async_executor.specs.Stages.{idle, begun};
+ghost use Rattle.async_executor.specs.Stages.{idle, begun, looked};
 
-use crate::call::Call;
+use crate::call::{Call, Last};
 use crate::due::pay;
 use crate::names::{ExRealm, ExWaker};
+use crate::sections::give_back;
 use crate::sleeping::SleeperWaker;
 use crate::state::State;
 use async_task::{Awaiter, StoredRunnable, Wake};
@@ -31,9 +33,9 @@ pub enum Found {
     /// Nothing yet: it lies, and has to search once more.
     SearchAgain,
     /// Nothing: it lies, and its waker will be called, or was called at once where it can't be kept.
-    Nothing,
+    Nothing(Last),
     /// No copy of the waker could be had. What was done before stays done.
-    NoMemory,
+    NoMemory(Last),
 }
 
 /// How one lay down.
@@ -76,8 +78,9 @@ impl Ticker {
         T: Drop + 'static,
         W: Wake + Drop + 'static,
         R: Wait + Copy + Drop + 'static,
-        requires { call ≡ record idle { holds = is_some found; owes = is_some found } }
-        ensures { IsFoundInHand result }
+        requires { call ≡ looked (is_some found) begun }
+        ensures found { IsFound result }
+        ensures stays { has_left self.new ≡ has_left self.old }
     {
         match found {
             Some(runnable) => {
@@ -103,27 +106,21 @@ impl Ticker {
         T: Drop + 'static,
         W: Wake + Drop + 'static,
         R: Wait + Copy + Drop + 'static,
-        requires { call ≡ idle }
-        ensures { IsFoundInHand result }
+        requires { call ≡ looked false begun }
+        ensures found { IsFound result }
+        ensures stays { has_left self.new ≡ has_left self.old }
     {
         if lies_elsewhere(waker, realm) {
-            call.end();
             waker.wake_by_ref();
-            return Found::Nothing;
+            return Found::Nothing(call.end_called());
         }
         let Some(copy) = SleeperWaker::of(waker) else {
-            call.end();
-            return Found::NoMemory;
+            return Found::NoMemory(call.refuse());
         };
-        if self.lie_down(rt, state, realm, call, copy) {
-            Found::SearchAgain
-        } else {
-            Found::Nothing
-        }
+        self.lie_down(rt, state, realm, call, copy)
     }
 
-    /// Lies down with a waker, and says whether it has to search again: whether it wasn't lying, or had been told. It ends the
-    /// call.
+    /// Lies down with a waker, and ends the call. It has to search again where it wasn't lying, or had been told.
     fn lie_down<T, W, R>(
         &mut self,
         rt: R,
@@ -131,12 +128,14 @@ impl Ticker {
         realm: &'static ExRealm<T, W, R>,
         call: Call,
         waker: SleeperWaker<W>,
-    ) -> bool
+    ) -> Found
     where
         T: Drop + 'static,
         W: Wake + Drop + 'static,
         R: Wait + Copy + Drop + 'static,
-        requires { call ≡ idle }
+        requires { call ≡ looked false begun }
+        ensures found { IsFound result }
+        ensures stays { has_left self.new ≡ has_left self.old }
     {
         let mut call = call;
         let laid = {
@@ -152,16 +151,20 @@ impl Ticker {
             }
             laid
         };
-        call.end();
         match laid {
-            Laid::Anew(_) => true,
+            Laid::Anew(_) => {
+                call.end();
+                Found::SearchAgain
+            }
             Laid::Already(old) => {
+                let last = call.rest();
                 pay(rt, old.release(rt, realm));
-                false
+                Found::Nothing(last)
             }
             Laid::Nowhere(waker) => {
+                let last = call.end_called();
                 pay(rt, waker.wake(rt, realm));
-                false
+                Found::Nothing(last)
             }
         }
     }
@@ -180,7 +183,8 @@ impl Ticker {
         R: Wait + Copy + Drop + 'static,
         requires owes { call.old.owes ≡ true }
         requires stored { call.old.flag ≡ None }
-        ensures { call.new ≡ call.old }
+        ensures call { call.new ≡ call.old }
+        ensures stays { has_left self.new ≡ has_left self.old }
     {
         if !self.lies() {
             return;
@@ -244,9 +248,11 @@ impl Ticker {
         call: &mut Call,
         waker: SleeperWaker<W>,
     ) -> (Ticker, Laid<W>)
-        requires { call.old.flag ≡ None }
+        requires stored { call.old.flag ≡ None }
+        requires up { call.old.lies ≡ false }
         ensures lies { LiesDown self waker sleepers.old sleepers.new result.0 result.1 }
-        ensures flag { call.new ≡ record call.old { flag = flag_laid result.1 } }
+        ensures stays { has_left result.0 ≡ has_left self }
+        ensures call { call.new ≡ record call.old { flag = flag_laid result.1; lies = lies_laid result.1 } }
     {
         match self {
             Ticker::Up(room) => match sleepers.lie_down(room, waker) {
@@ -258,7 +264,10 @@ impl Ticker {
             },
             Ticker::Lies(sleeper) => {
                 let laid = match sleepers.lie_down_again(&sleeper, waker) {
-                    Again::Replaced(old) => Laid::Already(old),
+                    Again::Replaced(old) => {
+                        call.lie_on();
+                        Laid::Already(old)
+                    }
                     Again::Notified(notified) => {
                         call.turn_flag(notified);
                         Laid::Anew(notified)
@@ -280,6 +289,7 @@ impl Ticker {
         requires owes { call.old.owes ≡ true }
         requires stored { call.old.flag ≡ None }
         ensures up { GetsUp self sleepers.old sleepers.new result.0 result.1 }
+        ensures stays { has_left result.0 ≡ has_left self }
         ensures flag { call.new ≡ record call.old { flag = flag_risen result.1 } }
     {
         match self {
@@ -315,13 +325,13 @@ impl Ticker {
                     waker,
                     notified,
                 } = stood;
-                sleepers.give_back(room);
+                give_back(sleepers, room);
                 call.leave(was_told);
                 call.turn_flag(notified);
                 (Some(Risen { notified, waker }), was_told)
             }
             Ticker::Up(room) => {
-                sleepers.give_back(room);
+                give_back(sleepers, room);
                 call.leave(false);
                 (None, false)
             }

@@ -1,6 +1,8 @@
 //! A future is polled on this thread, which parks between wakes.
 #![tactic(auto)]
 
+ghost use Rattle.std.specs.Prelude.{◌≡◌, IfErr};
+
 use async_task::{Awaiter, Future, Poll, Schedule, Scheduled, Wake};
 use crossbeam_utils::sync::{Parker, Unparker};
 use std::alloc::{AllocError, Global};
@@ -63,6 +65,7 @@ where
     K: From<ThreadWaker> + Drop,
     F: Future<K> + Drop,
     R: Wait,
+    ensures { IfErr result (λ back. back ≡ future) }
 {
     let (parker, thread) = match pair(alloc) {
         Ok(both) => both,

@@ -11,18 +11,33 @@ use std::process::ExitCode;
 use std::rt::{Clock, Env};
 use std::sync::Wait;
 use std::thread::Threads;
-use timed_runs::{Awaited, Chain, Futures, Link, Realms, Tasks, Waker, Worker, Workplace};
+use timed_runs::{
+    Awaited, Chain, Futures, JobPlace, JobRealm, Link, Open, Place, Realms, Tasks, Waker, Worker,
+    Workplace,
+};
 use workloads::{ALL, Fault, Line, Workload, asked, operations};
 
 fn main(rt: HostRuntime) -> ExitCode {
     // Generic code that makes a realm and works on it gets no proof, nor does code over any runtime type with futures that
     // hold handles, so both are named here.
-    let ended = match (Tasks::leak(rt.alloc(), 0), Futures::leak(rt.alloc(), 0)) {
-        (Ok(tasks), Ok(futures)) => run::<
+    let ended = match (
+        Tasks::leak(rt.alloc(), 0),
+        Futures::leak(rt.alloc(), 0),
+        JobRealm::<HostRuntime>::leak(rt.alloc(), 0),
+    ) {
+        (Ok(tasks), Ok(futures), Ok(jobs)) => run::<
             Link<HostRuntime>,
             Workplace<Awaited<HostRuntime>, HostRuntime>,
+            JobPlace<Open, HostRuntime>,
             HostRuntime,
-        >(&rt, &Realms { tasks, futures }),
+        >(
+            &rt,
+            &Realms {
+                tasks,
+                futures,
+                jobs,
+            },
+        ),
         _ => Err(Fault::NoMemory),
     };
     match ended {
@@ -36,10 +51,11 @@ fn main(rt: HostRuntime) -> ExitCode {
 }
 
 /// Does what the arguments ask.
-fn run<L, P, R>(rt: &R, realms: &Realms<R>) -> Result<(), Fault>
+fn run<L, P, J, R>(rt: &R, realms: &Realms<R>) -> Result<(), Fault>
 where
     L: Chain<R> + Future<Waker<R>, Output = u64> + Drop,
     P: Worker<R> + Sync + Drop,
+    J: Place<R, Gate = Open> + Sync + Drop,
     R: AllocGlobal + Env + Print + Eprint + Clock + Wait + Threads + Sync + Copy + Drop + 'static,
 {
     let words: Vec<String> = env::args(rt)?.skip(1).collect(rt.alloc())?;
@@ -47,13 +63,13 @@ where
         [] => list(rt),
         [word] => {
             if word.as_str() == "all" {
-                time_all::<L, P, R>(rt, realms)
+                time_all::<L, P, J, R>(rt, realms)
             } else {
                 let workload = asked(word)?;
-                time::<L, P, R>(rt, realms, workload, workload.usual_ops())
+                time::<L, P, J, R>(rt, realms, workload, workload.usual_ops())
             }
         }
-        [word, count] => time::<L, P, R>(rt, realms, asked(word)?, operations(count)?),
+        [word, count] => time::<L, P, J, R>(rt, realms, asked(word)?, operations(count)?),
         _ => Err(Fault::Usage),
     }
 }
@@ -65,27 +81,29 @@ fn list<R: Print>(rt: &R) -> Result<(), Fault> {
     Ok(())
 }
 
-fn time_all<L, P, R>(rt: &R, realms: &Realms<R>) -> Result<(), Fault>
+fn time_all<L, P, J, R>(rt: &R, realms: &Realms<R>) -> Result<(), Fault>
 where
     L: Chain<R> + Future<Waker<R>, Output = u64> + Drop,
     P: Worker<R> + Sync + Drop,
+    J: Place<R, Gate = Open> + Sync + Drop,
     R: AllocGlobal + Print + Eprint + Clock + Wait + Threads + Sync + Copy + Drop + 'static,
 {
     for workload in ALL {
-        time::<L, P, R>(rt, realms, workload, workload.usual_ops())?;
+        time::<L, P, J, R>(rt, realms, workload, workload.usual_ops())?;
     }
     Ok(())
 }
 
 /// Runs a workload, and prints its line. What it moved is told on standard error, so that no compiler leaves it out.
-fn time<L, P, R>(rt: &R, realms: &Realms<R>, workload: Workload, ops: u64) -> Result<(), Fault>
+fn time<L, P, J, R>(rt: &R, realms: &Realms<R>, workload: Workload, ops: u64) -> Result<(), Fault>
 where
     L: Chain<R> + Future<Waker<R>, Output = u64> + Drop,
     P: Worker<R> + Sync + Drop,
+    J: Place<R, Gate = Open> + Sync + Drop,
     R: AllocGlobal + Print + Eprint + Clock + Wait + Threads + Sync + Copy + Drop + 'static,
     requires { 0 < ops }
 {
-    let timing = timed_runs::run::<L, P, R>(workload, rt, realms, ops)?;
+    let timing = timed_runs::run::<L, P, J, R>(workload, rt, realms, ops)?;
     eprintln!(rt; "{} moved {}", workload.name(), timing.moved)?;
     let line = Line {
         name: workload.name(),

@@ -1,7 +1,7 @@
 //! Each workload, run.
 use crate::words::same;
 use std::test::Fail;
-use timed_runs::{Awaited, Futures, Link, Realms, Tasks, Workplace, run};
+use timed_runs::{Awaited, Futures, JobPlace, JobRealm, Link, Open, Realms, Tasks, Workplace, run};
 use workloads::{ALL, Workload};
 
 // The sums of the numbers below 3,000 and below 1,500.
@@ -33,7 +33,11 @@ fn moved_by_3000(workload: Workload) -> u64 {
         | Workload::Run4
         | Workload::Storm1
         | Workload::Storm2
-        | Workload::Storm4 => 3000,
+        | Workload::Storm4
+        | Workload::JobsParse
+        | Workload::JobsRun1
+        | Workload::JobsRun2
+        | Workload::JobsRun4 => 3000,
         Workload::Len => 15_000,
         Workload::Ring1024TwoToTwo | Workload::UnboundedTwoToTwo => 2 * BELOW_1500,
         _ => BELOW_3000,
@@ -45,11 +49,13 @@ fn each_workload_moves_what_it_was_asked_to(rt: HostRuntime) -> Result<(), Fail>
     let realms = Realms {
         tasks: Tasks::leak(rt.alloc(), 0)?,
         futures: Futures::leak(rt.alloc(), 0)?,
+        jobs: JobRealm::<HostRuntime>::leak(rt.alloc(), 0)?,
     };
     for workload in ALL {
         let moved = match run::<
             Link<HostRuntime>,
             Workplace<Awaited<HostRuntime>, HostRuntime>,
+            JobPlace<Open, HostRuntime>,
             HostRuntime,
         >(workload, &rt, &realms, 3000)
         {

@@ -5,6 +5,7 @@ use std::rt::Clock;
 use std::sync::Wait;
 use std::thread::Threads;
 use timed_executor::{Chain, Futures, Waker, Worker};
+use timed_jobs::{JobRealm, Open, Place};
 use timed_work::task::{self, Tasks};
 use timed_work::{base, on_queue_of_one, on_shared_queue};
 use workloads::{Fault, Timing, Workload};
@@ -14,11 +15,12 @@ use workloads::{Fault, Timing, Workload};
 pub struct Realms<R: Wait + Copy + Drop + 'static> {
     pub tasks: &'static Tasks<R>,
     pub futures: &'static Futures<R>,
+    pub jobs: &'static JobRealm<R>,
 }
 
-/// Does so many operations. What is worked on is made before the clock starts. `L` is a future that awaits another, and `P`
-/// an executor that threads run.
-pub fn run<L, P, R>(
+/// Does so many operations. What is worked on is made before the clock starts. `L` is a future that awaits another, `P` an
+/// executor that threads run, and `J` where jobs are done.
+pub fn run<L, P, J, R>(
     workload: Workload,
     rt: &R,
     realms: &Realms<R>,
@@ -27,6 +29,7 @@ pub fn run<L, P, R>(
 where
     L: Chain<R> + Future<Waker<R>, Output = u64> + Drop,
     P: Worker<R> + Sync + Drop,
+    J: Place<R, Gate = Open> + Sync + Drop,
     R: AllocGlobal + Clock + Wait + Threads + Sync + Copy + Drop + 'static,
 {
     let (realm, futures) = (realms.tasks, realms.futures);
@@ -59,6 +62,10 @@ where
         Workload::Storm1 => timed_executor::storm::<P, R>(rt, futures, 1, ops),
         Workload::Storm2 => timed_executor::storm::<P, R>(rt, futures, 2, ops),
         Workload::Storm4 => timed_executor::storm::<P, R>(rt, futures, 4, ops),
+        Workload::JobsParse => timed_jobs::parse(rt, ops),
+        Workload::JobsRun1 => timed_jobs::run::<J, R>(rt, realms.jobs, 1, ops),
+        Workload::JobsRun2 => timed_jobs::run::<J, R>(rt, realms.jobs, 2, ops),
+        Workload::JobsRun4 => timed_jobs::run::<J, R>(rt, realms.jobs, 4, ops),
         _ => on_shared_queue(workload, rt, ops),
     }
 }

@@ -74,10 +74,18 @@ pub enum Workload {
     Storm2,
     /// The same by four threads.
     Storm4,
+    /// A line of a list of 100,000 jobs, read.
+    JobsParse,
+    /// One of 100,000 jobs, half of them sums and half products, done by one worker.
+    JobsRun1,
+    /// The same by two workers.
+    JobsRun2,
+    /// The same by four workers.
+    JobsRun4,
 }
 
 /// Every workload, in the order in which they are listed and run.
-pub const ALL: [Workload; 38] = [
+pub const ALL: [Workload; 42] = [
     Workload::FetchAdd,
     Workload::MutexLock,
     Workload::Single,
@@ -116,6 +124,10 @@ pub const ALL: [Workload; 38] = [
     Workload::Storm1,
     Workload::Storm2,
     Workload::Storm4,
+    Workload::JobsParse,
+    Workload::JobsRun1,
+    Workload::JobsRun2,
+    Workload::JobsRun4,
 ];
 
 impl Workload {
@@ -161,6 +173,10 @@ impl Workload {
             Workload::Storm1 => "executor/storm-1",
             Workload::Storm2 => "executor/storm-2",
             Workload::Storm4 => "executor/storm-4",
+            Workload::JobsParse => "jobs/parse",
+            Workload::JobsRun1 => "jobs/run-1",
+            Workload::JobsRun2 => "jobs/run-2",
+            Workload::JobsRun4 => "jobs/run-4",
         }
     }
 
@@ -190,7 +206,10 @@ impl Workload {
             | Workload::SpawnMany
             | Workload::DropFull => 1_000_000,
             Workload::AwaitChain | Workload::Run1 | Workload::Run2 | Workload::Run4 => 500_000,
-            Workload::SimLines => 200_000,
+            Workload::JobsParse => 2_000_000,
+            Workload::SimLines | Workload::JobsRun1 | Workload::JobsRun2 | Workload::JobsRun4 => {
+                200_000
+            }
             _ => 10_000_000,
         }
     }

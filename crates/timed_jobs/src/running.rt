@@ -1,0 +1,57 @@
+//! Jobs done by workers.
+ghost use Rattle.std.specs.Prelude.{◌<◌, ◌≤◌, All, length};
+ghost use Rattle.job_answers.specs.Answers.{IsInRange};
+
+use crate::list::{JOBS, jobs};
+use job_answers::Job;
+use jobs::{JobRealm, Open, Place, run_jobs};
+use std::alloc::{AllocGlobal, Global};
+use std::rt::Clock;
+use std::sync::Wait;
+use std::thread::Threads;
+use std::time::Instant;
+use workloads::{Fault, Timing};
+
+/// So many jobs, 100,000 in a round, done by so many workers. The lists are made before the clock starts.
+pub fn run<P, R>(
+    rt: &R,
+    realm: &'static JobRealm<R>,
+    workers: usize,
+    ops: u64,
+) -> Result<Timing, Fault>
+where
+    P: Place<R, Gate = Open> + Sync + Drop,
+    R: AllocGlobal + Clock + Wait + Threads + Sync + Copy + Drop + 'static,
+    requires { (0 < workers) × (workers ≤ 64) }
+{
+    let whole = jobs(rt.alloc(), JOBS)?;
+    let rest = jobs(rt.alloc(), ops % JOBS)?;
+    let mut moved = 0u64;
+    let start = Instant::now(rt)?;
+    for _ in 0..ops / JOBS {
+        moved = moved.wrapping_add(round::<P, R>(*rt, rt.alloc(), realm, &whole, workers)?);
+    }
+    moved = moved.wrapping_add(round::<P, R>(*rt, rt.alloc(), realm, &rest, workers)?);
+    Timing::since(rt, start, moved)
+}
+
+/// How many answers one round gives.
+fn round<P, R>(
+    rt: R,
+    alloc: Global,
+    realm: &'static JobRealm<R>,
+    list: &[Job],
+    workers: usize,
+) -> Result<u64, Fault>
+where
+    P: Place<R, Gate = Open> + Sync + Drop,
+    R: Wait + Threads + Sync + Copy + Drop + 'static,
+    requires workers { (0 < workers) × (workers ≤ 64) }
+    requires ranges { All IsInRange list.now }
+    requires few { length list.now ≤ 100000 }
+{
+    match run_jobs::<P, R>(rt, alloc, realm, list, workers, Open) {
+        Ok(answers) => Ok(answers.len() as u64),
+        Err(_) => Err(Fault::Refused),
+    }
+}

@@ -1,19 +1,23 @@
 -- A wake that marks a task hands on one Runnable, or the end of the poll does.
-use Rattle.std.proofs.Common.{◌≡◌, ℕ, Bool, true, false, ◌||◌, cond, refl, arith}
+use Rattle.std.proofs.Common.{◌≡◌, ℕ, List, [], ◌∷◌, Bool, true, false, ◌||◌, cond, refl, ◌∙◌, subst, arith}
 use Rattle.std.specs.Prelude.{Some}
 use Rattle.task_moves.specs.declared.moves.state.State.{State}
 use Rattle.task_moves.specs.declared.moves.owed.Move.TheVariants.{Release}
 use Rattle.task_moves.specs.Moves as moves
 use Rattle.task_moves.specs.Moves.{is_over, is_last}
+use Rattle.executor_model.specs.declared.op.Op.{Op}
+use Rattle.executor_model.specs.declared.op.Op.TheVariants as op
+use Rattle.executor_model.specs.declared.op.Waker.TheVariants.{Task, Outside}
 use Rattle.executor_model.specs.declared.step.Hint.{Hint}
 use Rattle.executor_model.specs.World.{World, task}
+use Rattle.executor_model.specs.Acts.{wake_next_by}
 use Rattle.executor_model.specs.Carried.{owed_ops}
 use Rattle.executor_model.specs.Weights.{same, weigh}
 use Rattle.executor_model.specs.Sound.{Sound, Pend, pend, tokens}
 use Rattle.executor_model.specs.Steps.{Machine}
 use Rattle.executor_model.specs.Good.{Good}
-use Rattle.executor_model.specs.HandingOn.{appends_of, HandsOn, IsIdle, IsOnItsWay}
-use Rattle.executor_model.proofs.Lists.{same_is}
+use Rattle.executor_model.specs.HandingOn.{appends_of, handed_on, HandsOn, IsFirst, IsIdle, IsOnItsWay, IsWakeOf}
+use Rattle.executor_model.proofs.Lists.{same_is, weigh-closing}
 
 one : (f : ℕ) → same f f ≡ 1
 one f = grind (arith, same_is)
@@ -46,17 +50,41 @@ either : (a b : Bool) → a ≡ false → b ≡ false → (a || b) ≡ false
 either true b e k = absurd (cc)
 either false b e k = k
 
+or-left : (a b : Bool) → a ≡ true → (a || b) ≡ true
+or-left true b e = refl
+or-left false b e = absurd (cc)
+
 or-right : (a b : Bool) → b ≡ true → (a || b) ≡ true
 or-right true b e = refl
 or-right false b e = e
 
+-- each wake hands on as many Runnables of f as the move of a waker that stays and that of one that goes do
+module _ (f p : ℕ) (h : Hint) (w : World) (n : ℕ) (stays : (b : Bool) → weigh (appends_of f) (owed_ops b f (moves.wake_by_reference (task w f)).owed) ≡ n) (goes : (b : Bool) → weigh (appends_of f) (owed_ops b f (moves.wake (task w f)).owed) ≡ n) where
+  closing-wake : (ws : List ℕ) → IsFirst f ws → weigh (appends_of f) (wake_next_by p w ws).next ≡ n
+  closing-wake [] e = let no : true ≡ false = e in absurd (cc)
+  closing-wake (g ∷ rest) e = subst (λ (x : ℕ). weigh (appends_of f) (wake_next_by p w (x ∷ rest)).next ≡ n) e (weigh-closing (appends_of f) _ rest refl refl ∙ goes _)
+
+  each-wake : (o : Op) → IsWakeOf f w o → handed_on f o p h w ≡ n
+  each-wake (op.WakeByReference g) e = subst (λ (x : ℕ). handed_on f (op.WakeByReference x) p h w ≡ n) e (stays _)
+  each-wake (op.Wake g) e = subst (λ (x : ℕ). handed_on f (op.Wake x) p h w ≡ n) e (goes _)
+  each-wake (op.CallAwaiter awaited (Task g) k) e = subst (λ (x : ℕ). handed_on f (op.CallAwaiter awaited (Task x) k) p h w ≡ n) e (goes _)
+  each-wake (op.CallAwaiter awaited (Outside x) k) e = let no : true ≡ false = e in absurd (cc)
+  each-wake op.WakeNext e = closing-wake w.waking e
+  each-wake _ e = let no : true ≡ false = e in absurd (cc)
+
+none-handed : (w : World) (f p : ℕ) (h : Hint) → (is_over (task w f) || (task w f).scheduled) ≡ true → (o : Op) → IsWakeOf f w o → handed_on f o p h w ≡ 0
+none-handed w f p h s = each-wake f p h w 0
+    (λ b. none (is_over (task w f) || (task w f).scheduled) (task w f).running b f (task w f) s)
+    (λ b. none-value (is_over (task w f) || (task w f).scheduled) (task w f).running b f (task w f) s)
+
 pub hands-on : (w : World) (f p : ℕ) (h : Hint) → HandsOn w f p h
 hands-on w f p h = record {
-  by_reference = λ o s. marks (is_over (task w f) || (task w f).scheduled) (task w f).running _ f (task w f) (either _ _ o s);
-  by_value = λ o s. marks-value (is_over (task w f) || (task w f).scheduled) (task w f).running _ f (task w f) (either _ _ o s);
+  marks = λ o e live idle. each-wake f p h w _
+      (λ b. marks (is_over (task w f) || (task w f).scheduled) (task w f).running b f (task w f) (either _ _ live idle))
+      (λ b. marks-value (is_over (task w f) || (task w f).scheduled) (task w f).running b f (task w f) (either _ _ live idle)) o e;
   at_the_end = λ c s. ends (task w f).closed (task w f).scheduled (is_last (task w f)) _ f (task w f) c s;
-  none_by_reference = λ s. none (is_over (task w f) || (task w f).scheduled) (task w f).running _ f (task w f) (or-right _ _ s);
-  none_by_value = λ s. none-value (is_over (task w f) || (task w f).scheduled) (task w f).running _ f (task w f) (or-right _ _ s);
+  none_marked = λ o e s. none-handed w f p h (or-right _ _ s) o e;
+  none_over = λ o e s. none-handed w f p h (or-left _ _ s) o e;
 }
 
 one-there : (w : World) (f : ℕ) (p : Pend) → Sound w f p → (task w f).scheduled ≡ true → tokens w f p ≡ 1

@@ -1,8 +1,9 @@
 -- Who hands a Runnable on where a task is marked as scheduled.
-use Rattle.std.specs.Prelude.{◌≡◌, ℕ, true, false, cond}
+use Rattle.std.specs.Prelude.{◌≡◌, ℕ, true, false, List, [], ◌∷◌, cond}
 use Rattle.task_moves.specs.Moves.{is_over}
 use Rattle.executor_model.specs.declared.op.Op.{Op}
 use Rattle.executor_model.specs.declared.op.Op.TheVariants as op
+use Rattle.executor_model.specs.declared.op.Waker.TheVariants.{Task}
 use Rattle.executor_model.specs.declared.step.Hint.{Hint}
 use Rattle.executor_model.specs.World.{World, task}
 use Rattle.executor_model.specs.Weights.{same, weigh}
@@ -18,14 +19,25 @@ appends_of g _ = 0
 abbrev pub handed_on : ℕ → Op → ℕ → Hint → World → ℕ
 handed_on g o p h w = weigh (appends_of g) (act p h o w).next
 
+abbrev pub IsFirst : ℕ → List ℕ → Type 0
+IsFirst f [] = true ≡ false
+IsFirst f (g ∷ gs) = f ≡ g
+
+-- each wake of f's task: by a waker that stays or goes, by the call of an awaiter that is a waker of it, and by the executor's drop
+abbrev pub IsWakeOf : ℕ → World → Op → Type 0
+IsWakeOf f w (op.WakeByReference g) = f ≡ g
+IsWakeOf f w (op.Wake g) = f ≡ g
+IsWakeOf f w (op.CallAwaiter awaited (Task g) poll) = f ≡ g
+IsWakeOf f w op.WakeNext = IsFirst f w.waking
+IsWakeOf f w _ = true ≡ false
+
 -- a wake that marks f's task hands on one Runnable, but none where the task is running, and then the end of the poll does,
--- unless the task is closed by then
+-- unless the task is closed by then; a wake of a task that is marked or over hands on none
 pub record HandsOn (w : World) (f p : ℕ) (h : Hint) : Type 0 where
-  pub by_reference : is_over (task w f) ≡ false → (task w f).scheduled ≡ false → handed_on f (op.WakeByReference f) p h w ≡ cond (task w f).running 0 1
-  pub by_value : is_over (task w f) ≡ false → (task w f).scheduled ≡ false → handed_on f (op.Wake f) p h w ≡ cond (task w f).running 0 1
+  pub marks : (o : Op) → IsWakeOf f w o → is_over (task w f) ≡ false → (task w f).scheduled ≡ false → handed_on f o p h w ≡ cond (task w f).running 0 1
   pub at_the_end : (task w f).closed ≡ false → (task w f).scheduled ≡ true → handed_on f (op.EndPending f) p h w ≡ 1
-  pub none_by_reference : (task w f).scheduled ≡ true → handed_on f (op.WakeByReference f) p h w ≡ 0
-  pub none_by_value : (task w f).scheduled ≡ true → handed_on f (op.Wake f) p h w ≡ 0
+  pub none_marked : (o : Op) → IsWakeOf f w o → (task w f).scheduled ≡ true → handed_on f o p h w ≡ 0
+  pub none_over : (o : Op) → IsWakeOf f w o → is_over (task w f) ≡ true → handed_on f o p h w ≡ 0
 
 -- f's task is open, and neither marked nor running
 pub record IsIdle (w : World) (f : ℕ) : Type 0 where

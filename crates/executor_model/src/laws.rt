@@ -83,10 +83,11 @@ pub fn outputs_are_kept()
     ensures { EveryRun OutputIsKept }
 {}
 
-/// A wake that marks a task as scheduled hands on exactly one Runnable where the task isn't running.
-/// Where it is, the end of the poll does, unless the task is closed by then. A wake of a marked task
-/// hands on none. Whatever the parties do, a marked task has one Runnable, run or closing call, and one
-/// that is open and neither marked nor running has none.
+/// Each wake that marks a task as scheduled hands on exactly one Runnable where the task isn't running,
+/// be it a wake by a waker, the call of an awaiter that is one, or a wake by the executor's drop. Where the
+/// task is running, the end of the poll does, unless the task is closed by then. A wake of a task that is
+/// marked, completed or closed hands on none. Whatever the parties do, a marked task has one Runnable, run
+/// or closing call, and one that is open and neither marked nor running has none.
 pub fn wakes_are_handed_on()
     ensures handed { (w : World) (f p : ℕ) (h : Hint) → HandsOn w f p h }
     ensures marked { EveryRun IsOnItsWay }

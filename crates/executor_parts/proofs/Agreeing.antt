@@ -1,5 +1,7 @@
 -- Why the lists of sleepers agree after every list of steps.
-use Rattle.std.proofs.Common.{◌≡◌, ◌≢◌, ◌⊎◌, ◌||◌, ℕ, zero, suc, ◌+◌, ◌-◌, ◌<◌, ◌≤◌, Bool, true, false, eqb, ltb, List, [], ◌∷◌, ◌++◌, length, map, take, set, slice_get, unwrap_or, Option, Some, None, refl, sym, ap, ◌∙◌, subst, inl, inr, arith}
+use Rattle.std.proofs.Common.{◌≡◌, ◌≢◌, ◌⊎◌, ◌||◌, ℕ, zero, suc, ◌+◌, ◌-◌, ◌<◌, ◌≤◌, Bool, true, false, eqb, ltb, List, [], ◌∷◌, ◌++◌}
+use Rattle.std.proofs.Common.{length, map, take, set, slice_get, unwrap_or, Option, Some, None, refl, sym, ap, ◌∙◌, subst, inl, inr}
+use Rattle.std.proofs.Common.{arith}
 use Rattle.std.specs.List.{remove}
 use Rattle.std.proofs.lemmas.Bool.{cases_eq}
 use Rattle.std.proofs.lemmas.Bool.Decides.{nat_tests}
@@ -9,9 +11,11 @@ use Rattle.std.proofs.lemmas.Option.{slice_get-get_or}
 use Rattle.std.proofs.Math.Seq.{take-append_seam}
 use Rattle.executor_parts.specs.Order.{IsIn, IsApart, without}
 use Rattle.executor_parts.specs.Sleepers.{Sleepers, position_of, flag_of, without_last, next_number, laid_down, without_entry, freed, risen}
-use Rattle.executor_parts.specs.Sleeping.{Step, ExchangeFlag, HandOut, LieDown, LieDownAgain, GetUp, MakeRoom, GiveBack, Lying, awake, stored, handed_by, exchanged_by, again_by, after, MayTake, run, MayRun, Agree}
+use Rattle.executor_parts.specs.Sleeping.{Step, ExchangeFlag, HandOut, LieDown, LieDownAgain, GetUp, MakeRoom, GiveBack, Lying, awake}
+use Rattle.executor_parts.specs.Sleeping.{stored, handed_by, exchanged_by, again_by, after, MayTake, run, MayRun, Agree}
 use Rattle.executor_parts.proofs.Cells.{without_no, without_yes}
-use Rattle.executor_parts.proofs.Ring.{is_in_without, is_in_kept, is_apart_without, left, length-without, is_in_push, is_in_push_kept, is_in_last, is_apart_push}
+use Rattle.executor_parts.proofs.Ring.{is_in_without, is_in_kept, is_apart_without, left, length-without, is_in_push, is_in_push_kept}
+use Rattle.executor_parts.proofs.Ring.{is_in_last, is_apart_push}
 
 -- ---- numbers
 
@@ -19,12 +23,17 @@ use Rattle.executor_parts.proofs.Ring.{is_in_without, is_in_kept, is_apart_witho
 fits : (xs ys : List ℕ) → IsApart xs → ((k : ℕ) → IsIn k xs → IsIn k ys) → length xs ≤ length ys
 fits [] ys apart inside = omega arith
 fits (x ∷ xs) ys apart inside =
-    let rest = fits xs (without x ys) apart.1 (λ k there. is_in_kept x k ys (inside k (inr there)) (λ same. apart.0 (subst (λ n. IsIn n xs) same there))) in
+    let rest = fits xs (without x ys) apart.1 (λ k there. is_in_kept x k ys (inside k (inr there))
+    (λ same. apart.0 (subst (λ n. IsIn n xs) same there))) in
     omega (arith, rest, length-without x ys (inside x (inl refl)))
 
 fewer : (n : ℕ) (xs ys : List ℕ) → IsApart xs → ¬ IsIn n xs → IsIn n ys → ((k : ℕ) → IsIn k xs → IsIn k ys) → length xs < length ys
 fewer n xs ys apart absent here inside =
-    let all = fits (n ∷ xs) ys (absent, apart) (λ k found. elim found [ inl same ↦ subst (λ m. IsIn m ys) same here | inr there ↦ inside k there ]) in
+    let all = fits (n ∷ xs) ys (absent, apart) (λ k found. elim found [
+      | inl same ↦ subst (λ m. IsIn m ys) same here
+      | inr there
+          ↦ inside k there
+    ]) in
     omega (arith, all)
 
 apart_pop : (n : ℕ) (xs : List ℕ) → IsApart (xs ++ n ∷ []) → IsApart xs × ¬ IsIn n xs
@@ -32,7 +41,11 @@ apart_pop n [] apart = (tt, λ found. found)
 apart_pop n (x ∷ xs) apart =
     let rest = apart_pop n xs apart.1 in (
       (λ found. apart.0 (is_in_push_kept n x xs found), rest.0),
-      λ found. elim found [ inl same ↦ apart.0 (subst (λ m. IsIn m (xs ++ n ∷ [])) (sym same) (is_in_last n xs)) | inr there ↦ rest.1 there ],
+      λ found. elim found [
+        | inl same ↦ apart.0 (subst (λ m. IsIn m (xs ++ n ∷ [])) (sym same) (is_in_last n xs))
+        | inr there
+            ↦ rest.1 there
+      ],
     )
 
 -- a list is empty, or has a last number
@@ -52,7 +65,9 @@ take_last front last =
 get_last : (front : List ℕ) (last d : ℕ) → unwrap_or (slice_get (front ++ last ∷ []) (length (front ++ last ∷ []) - 1)) d ≡ last
 get_last front last d =
     let len : length (front ++ last ∷ []) - 1 ≡ length front = omega (arith, length_push front last) in
-    let here : slice_get (front ++ last ∷ []) (length (front ++ last ∷ []) - 1) ≡ Some last = ap (slice_get (front ++ last ∷ [])) len ∙ slice_get-get_or (front ++ last ∷ []) (length front) d (omega (arith, length_push front last)) ∙ ap Some (get_or_push front last d (length front) refl) in
+    let here : slice_get (front ++ last ∷ []) (length (front ++ last ∷ []) - 1) ≡ Some last = ap (slice_get (front ++ last ∷ [])) len
+    ∙ slice_get-get_or (front ++ last ∷ []) (length front) d (omega (arith, length_push front last))
+    ∙ ap Some (get_or_push front last d (length front) refl) in
     ap (λ o. unwrap_or o d) here
 
 or_left : (b c : Bool) → b ≡ true → (b || c) ≡ true
@@ -73,7 +88,8 @@ module _ {W : Type 0} where
   nobody_told s none = let t : eqb s.count 0 ≡ true = grind (arith, nat_tests) in or_left (eqb s.count 0) (ltb (length s.wakers) s.count) t
 
   fewer_told : (s : Sleepers W) → length s.wakers < s.count → flag_of s ≡ true
-  fewer_told s less = let t : ltb (length s.wakers) s.count ≡ true = grind (arith, nat_tests) in or_right (eqb s.count 0) (ltb (length s.wakers) s.count) t
+  fewer_told s less = let t : ltb (length s.wakers) s.count ≡ true = grind (arith, nat_tests)
+      in or_right (eqb s.count 0) (ltb (length s.wakers) s.count) t
 
   -- ---- entries
 
@@ -232,7 +248,11 @@ module _ {W : Type 0} where
         | inl all ↦ let t : eqb (length s.sleepers.wakers) s.sleepers.count ≡ true = grind (arith, nat_tests) in rw t (last all)
         | inr differs ↦
             let t : eqb (length s.sleepers.wakers) s.sleepers.count ≡ false = grind (arith, nat_tests) in
-            rw t (with_flag s (handed_by false s) k refl refl refl refl k.agree.within (λ _. inl (fewer_told s.sleepers (omega (arith, differs, k.agree.listed)))))
+            rw t (with_flag s (handed_by false s) k refl refl refl refl k.agree.within (λ _. inl (fewer_told s.sleepers (omega (
+              arith,
+              differs,
+              k.agree.listed,
+            )))))
       ]
     where
       shorter : length (take (length s.sleepers.wakers - 1) s.sleepers.wakers) ≡ length s.sleepers.wakers - 1
@@ -263,7 +283,15 @@ module _ {W : Type 0} where
       }
 
   -- one more sleeps, under a number that nobody has
-  lies : (s : Lying W) (waker : W) (n : ℕ) (front : List ℕ) → Keeps s → s.sleepers.count < s.sleepers.rooms → ¬ IsIn n s.numbers → IsApart front → ((m : ℕ) → IsIn m front → IsIn m s.sleepers.free × (m ≢ n)) → n ≤ s.sleepers.count + 1 + length front → s.sleepers.count + length s.sleepers.free ≤ s.sleepers.count + 1 + length front → Keeps (stored (record s.sleepers { count = s.sleepers.count + 1; wakers = s.sleepers.wakers ++ (n, waker) ∷ []; free = front }) (n ∷ s.numbers) s.tellers)
+  lies : (s : Lying W) (waker : W) (n : ℕ) (front : List ℕ) → Keeps s → s.sleepers.count < s.sleepers.rooms → ¬ IsIn n s.numbers
+      → IsApart front → ((m : ℕ) → IsIn m front → IsIn m s.sleepers.free × (m ≢ n)) → n ≤ s.sleepers.count + 1 + length front
+      → s.sleepers.count + length s.sleepers.free ≤ s.sleepers.count + 1 + length front
+      → Keeps (stored (record s.sleepers {
+        count = s.sleepers.count + 1;
+        wakers = s.sleepers.wakers ++ (n, waker) ∷ [];
+        free =
+            front;
+      }) (n ∷ s.numbers) s.tellers)
   lies s waker n front k room new apart kept bound total =
       let numbers = numbers_pushed s.sleepers.wakers n waker in
       record {
@@ -275,7 +303,11 @@ module _ {W : Type 0} where
           told = λ holds. inl holds;
         };
         listed_apart = rw numbers (is_apart_push n (numbers_of s.sleepers.wakers) k.listed_apart (λ found. new (k.listed_in n found)));
-        listed_in = λ m found. elim (is_in_push n m (numbers_of s.sleepers.wakers) (rw numbers at found)) [ inl there ↦ inr (k.listed_in m there) | inr same ↦ inl same ];
+        listed_in = λ m found. elim (is_in_push n m (numbers_of s.sleepers.wakers) (rw numbers at found)) [
+          | inl there
+              ↦ inr (k.listed_in m there)
+          | inr same ↦ inl same
+        ];
         free_apart = apart;
         free_out = λ m free found. elim found [ inl same ↦ (kept m free).1 (sym same) | inr there ↦ k.free_out m (kept m free).0 there ];
         bounded = λ m found. elim found [ inl same ↦ omega (arith, same, bound) | inr there ↦ omega (arith, k.bounded m there, total) ];
@@ -290,15 +322,32 @@ module _ {W : Type 0} where
       elim (snoc_cases s.sleepers.free) [
         | inl none ↦
             rw none
-            (lies s waker (s.sleepers.count + 1) [] k room (λ found. absurd (omega (arith, k.bounded (s.sleepers.count + 1) found, ap (λ (xs : List ℕ). length xs) none))) tt (λ m found. absurd found) (omega arith) (omega (arith, ap (λ (xs : List ℕ). length xs) none)))
+            (lies s waker (s.sleepers.count + 1) [] k room (λ found. absurd (omega (
+              arith,
+              k.bounded (s.sleepers.count + 1) found,
+              ap (λ (xs : List ℕ). length xs) none,
+            ))) tt (λ m found. absurd found) (omega arith) (omega (
+              arith,
+              ap (λ (xs : List ℕ). length xs) none,
+            )))
         | inr some ↦
             let apart = apart_pop some.1 some.0 (subst IsApart some.2 k.free_apart) in
             let last_free : IsIn some.1 s.sleepers.free = rw some.2 (is_in_last some.1 some.0) in
             let long : length s.sleepers.free ≡ length some.0 + 1 = ap (λ (xs : List ℕ). length xs) some.2 ∙ length_push some.0 some.1 in
-            let next : next_number s.sleepers ≡ some.1 = ap (λ (xs : List ℕ). unwrap_or (slice_get xs (length xs - 1)) (s.sleepers.count + 1)) some.2 ∙ get_last some.0 some.1 (s.sleepers.count + 1) in
-            let rest : take (length s.sleepers.free - 1) s.sleepers.free ≡ some.0 = ap (λ (xs : List ℕ). take (length xs - 1) xs) some.2 ∙ take_last some.0 some.1 in
+            let next : next_number s.sleepers ≡ some.1 = ap (λ (xs : List ℕ). unwrap_or (slice_get xs (length xs - 1))
+            (s.sleepers.count + 1)) some.2 ∙ get_last some.0 some.1 (s.sleepers.count + 1) in
+            let rest : take (length s.sleepers.free - 1) s.sleepers.free ≡ some.0 = ap (λ (xs : List ℕ). take (length xs - 1) xs) some.2
+            ∙ take_last some.0 some.1 in
             rw (next, rest)
-            (lies s waker some.1 some.0 k room (k.free_out some.1 last_free) apart.0 (λ m found. (rw some.2 (is_in_push_kept some.1 m some.0 found), λ same. apart.1 (subst (λ x. IsIn x some.0) same found))) (omega (arith, k.free_bounded some.1 last_free, long)) (omega (arith, long)))
+            (lies s waker some.1 some.0 k room (k.free_out some.1 last_free) apart.0
+            (λ m found. (
+              rw some.2 (is_in_push_kept some.1 m some.0 found),
+              λ same. apart.1 (subst (λ x. IsIn x some.0) same found),
+            )) (omega (
+              arith,
+              k.free_bounded some.1 last_free,
+              long,
+            )) (omega (arith, long)))
       ]
 
   again : (s : Lying W) (n : ℕ) (waker : W) → IsIn n s.numbers → Keeps s → Keeps (again_by (position_of n s.sleepers.wakers) n waker s)
@@ -336,7 +385,11 @@ module _ {W : Type 0} where
               told = λ holds. inl holds;
             };
             listed_apart = rw numbers (is_apart_push n (numbers_of s.sleepers.wakers) k.listed_apart absent);
-            listed_in = λ m found. elim (is_in_push n m (numbers_of s.sleepers.wakers) (rw numbers at found)) [ inl there ↦ k.listed_in m there | inr same ↦ subst (λ x. IsIn x s.numbers) same mine ];
+            listed_in = λ m found. elim (is_in_push n m (numbers_of s.sleepers.wakers) (rw numbers at found)) [
+              | inl there
+                  ↦ k.listed_in m there
+              | inr same ↦ subst (λ x. IsIn x s.numbers) same mine
+            ];
             free_apart = k.free_apart;
             free_out = k.free_out;
             bounded = k.bounded;
@@ -352,7 +405,8 @@ module _ {W : Type 0} where
   rises s n wakers mine k less apart kept =
       let t : ltb (length wakers) s.sleepers.count ≡ true = grind (arith, nat_tests) in
       let counted = length-without n s.numbers mine in
-      let here : freed n (record s.sleepers { wakers = wakers }) ≡ record s.sleepers { count = s.sleepers.count - 1; wakers = wakers; free = s.sleepers.free ++ n ∷ [] } = rw (t, freed) refl in
+      let here : freed n (record s.sleepers { wakers = wakers })
+      ≡ record s.sleepers { count = s.sleepers.count - 1; wakers = wakers; free = s.sleepers.free ++ n ∷ [] } = rw (t, freed) refl in
       subst (λ x. Keeps (stored x (without n s.numbers) s.tellers)) (sym here) (record {
         agree = record {
           apart = is_apart_without n s.numbers k.agree.apart;
@@ -364,9 +418,19 @@ module _ {W : Type 0} where
         listed_apart = apart;
         listed_in = λ m found. is_in_kept n m s.numbers (kept m found).0 (kept m found).1;
         free_apart = is_apart_push n s.sleepers.free k.free_apart (λ free. k.free_out n free mine);
-        free_out = λ m free found. elim (is_in_push n m s.sleepers.free free) [ inl was ↦ k.free_out m was (is_in_without n m s.numbers found) | inr same ↦ left n s.numbers k.agree.apart (subst (λ x. IsIn x (without n s.numbers)) (sym same) found) ];
+        free_out = λ m free found. elim (is_in_push n m s.sleepers.free free) [
+          | inl was
+              ↦ k.free_out m was (is_in_without n m s.numbers found)
+          | inr same
+              ↦ left n s.numbers k.agree.apart (subst (λ x. IsIn x (without n s.numbers)) (sym same) found)
+        ];
         bounded = λ m found. omega (arith, k.bounded m (is_in_without n m s.numbers found), length_push s.sleepers.free n, less);
-        free_bounded = λ m free. elim (is_in_push n m s.sleepers.free free) [ inl was ↦ omega (arith, k.free_bounded m was, length_push s.sleepers.free n, less) | inr same ↦ omega (arith, same, k.bounded n mine, length_push s.sleepers.free n, less) ];
+        free_bounded = λ m free. elim (is_in_push n m s.sleepers.free free) [
+          | inl was
+              ↦ omega (arith, k.free_bounded m was, length_push s.sleepers.free n, less)
+          | inr same
+              ↦ omega (arith, same, k.bounded n mine, length_push s.sleepers.free n, less)
+        ];
       })
 
   rise : (s : Lying W) (n : ℕ) → IsIn n s.numbers → Keeps s → Keeps (stored (risen n s.sleepers) (without n s.numbers) s.tellers)
@@ -379,13 +443,27 @@ module _ {W : Type 0} where
       of None none =
           let absent = position_none n s.sleepers.wakers none in
           let less = fewer n (numbers_of s.sleepers.wakers) s.numbers k.listed_apart absent mine k.listed_in in
-          rises s n s.sleepers.wakers mine k (omega (arith, less, k.agree.counted, length_numbers s.sleepers.wakers)) k.listed_apart (λ m found. (k.listed_in m found, λ same. absent (subst (λ x. IsIn x (numbers_of s.sleepers.wakers)) same found)))
+          rises s n s.sleepers.wakers mine k (omega (
+            arith,
+            less,
+            k.agree.counted,
+            length_numbers s.sleepers.wakers,
+          )) k.listed_apart (λ m found. (
+            k.listed_in m found,
+            λ same. absent (subst (λ x. IsIn x (numbers_of s.sleepers.wakers)) same found),
+          ))
       of (Some at) here =
           let numbers = numbers_removed n at s.sleepers.wakers k.listed_apart here in
           let gone = left n (numbers_of s.sleepers.wakers) k.listed_apart in
-          rises s n (remove s.sleepers.wakers at) mine k (omega (arith, length-remove s.sleepers.wakers at (position_within n at s.sleepers.wakers here), k.agree.listed)) (rw numbers (is_apart_without n (numbers_of s.sleepers.wakers) k.listed_apart)) (λ m found.
-          let there = subst (IsIn m) numbers found in
-          (k.listed_in m (is_in_without n m (numbers_of s.sleepers.wakers) there), λ same. gone (subst (λ x. IsIn x (without n (numbers_of s.sleepers.wakers))) same there)))
+          rises s n (remove s.sleepers.wakers at) mine k (omega (
+            arith,
+            length-remove s.sleepers.wakers at (position_within n at s.sleepers.wakers here),
+            k.agree.listed,
+          )) (rw numbers (is_apart_without n (numbers_of s.sleepers.wakers) k.listed_apart)) (λ m found.
+          let there = subst (IsIn m) numbers found in (
+            k.listed_in m (is_in_without n m (numbers_of s.sleepers.wakers) there),
+            λ same. gone (subst (λ x. IsIn x (without n (numbers_of s.sleepers.wakers))) same there),
+          ))
 
   keeps : (t : Step W) (s : Lying W) → MayTake t s → Keeps s → Keeps (after t s)
   keeps ExchangeFlag s may k = exchange s k

@@ -1,5 +1,6 @@
 -- How the entries of a table follow its slab and the order of its keys.
-use Rattle.std.proofs.Common.{◌≡◌, ◌≢◌, ℕ, ◌+◌, ◌≤◌, ◌&&◌, leb, Bool, true, false, eqb, Result, Ok, Err, IsOk, is_err, is_some, List, [], ◌∷◌, ◌++◌, length, map, slice_get, Option, Some, None, IsSome, refl, sym, ap, ◌∙◌, subst, inl, inr, arith}
+use Rattle.std.proofs.Common.{◌≡◌, ◌≢◌, ℕ, ◌+◌, ◌≤◌, ◌&&◌, leb, Bool, true, false, eqb, Result, Ok, Err, IsOk, is_err, is_some, List, []}
+use Rattle.std.proofs.Common.{◌∷◌, ◌++◌, length, map, slice_get, Option, Some, None, IsSome, refl, sym, ap, ◌∙◌, subst, inl, inr, arith}
 use Rattle.std.proofs.lemmas.Bool.{cases_eq, false≢true, leb-true, le-leb}
 use Rattle.std.specs.Cmp.Derive.{both_true}
 use Rattle.std.proofs.lemmas.Bool.Decides.{nat_tests}
@@ -10,9 +11,11 @@ use Rattle.executor_parts.specs.Order.{without}
 use Rattle.executor_parts.specs.declared.places.Held.{Held}
 use Rattle.executor_parts.specs.declared.places.Place.{Place}
 use Rattle.executor_parts.specs.Order.{IsIn, IsApart}
-use Rattle.executor_parts.specs.Places.{Entry, entry_at, without_entry, with_future, stamped, entry_in, where_there, left_by, set_future, parts_of, shown, entries_of, IsPlaced}
+use Rattle.executor_parts.specs.Places.{Entry, entry_at, without_entry, with_future, stamped, entry_in, where_there, left_by, set_future}
+use Rattle.executor_parts.specs.Places.{parts_of, shown, entries_of, IsPlaced}
 use Rattle.executor_parts.proofs.Cells.{without_no, without_yes}
-use Rattle.executor_parts.proofs.Ring.{is_in_push, is_in_push_kept, is_in_last, is_in_without, is_in_kept, is_apart_push, is_apart_without, left, length-without}
+use Rattle.executor_parts.proofs.Ring.{is_in_push, is_in_push_kept, is_in_last, is_in_without, is_in_kept, is_apart_push}
+use Rattle.executor_parts.proofs.Ring.{is_apart_without, left, length-without}
 
 module _ {F W : Type 0} where
   -- what is held under a key, as an entry
@@ -121,7 +124,8 @@ module _ {F W : Type 0} where
   entered old new keys key h absent updates =
       push_entries new keys key
       ∙ ap (λ (slot : Option (Held F W)). entries_of new keys ++ shown key slot []) updates.changed
-      ∙ ap (λ (es : List (Entry F W)). es ++ entry_of key h ∷ []) (same_entries old new keys (λ k there. updates.others k (λ same. absent (subst (λ n. IsIn n keys) same there))))
+      ∙ ap (λ (es : List (Entry F W)). es ++ entry_of key h ∷ [])
+      (same_entries old new keys (λ k there. updates.others k (λ same. absent (subst (λ n. IsIn n keys) same there))))
 
   others_same :
       (old new : Slab (Held F W)) (keys : List ℕ) (key k : ℕ) (slot : Option (Held F W))
@@ -169,7 +173,10 @@ module _ {F W : Type 0} where
             let here : get old k ≡ Some h = ap (get old) same ∙ read in
             let now : get new k ≡ Some (record h { future = future }) = ap (get new) same ∙ updates.changed in
             ap (λ (slot : Option (Held F W)). shown k slot (entries_of new ks)) now
-            ∙ ap (λ (es : List (Entry F W)). record (entry_of k h) { future = future } ∷ es) (others_same old new ks key k (Some (record h { future = future })) updates same apart.0)
+            ∙ ap (λ (es : List (Entry F W)). record (entry_of k h) {
+              future =
+                  future;
+            } ∷ es) (others_same old new ks key k (Some (record h { future = future })) updates same apart.0)
             ∙ sym (with_here key k future h (entries_of old ks) same)
             ∙ ap (λ (slot : Option (Held F W)). with_future key future (shown k slot (entries_of old ks))) (sym here)
         | inr differs ↦
@@ -259,7 +266,11 @@ module _ {F W : Type 0} where
       → ((k : ℕ) → IsIn k keys → IsSome (get slab k)) → length (entries_of slab keys) ≡ length keys
   length_under slab [] there = refl
   length_under slab (k ∷ ks) there =
-      omega (arith, shown_more k (get slab k) (entries_of slab ks) (there k (inl refl)), length_under slab ks (λ j later. there j (inr later)))
+      omega (
+        arith,
+        shown_more k (get slab k) (entries_of slab ks) (there k (inl refl)),
+        length_under slab ks (λ j later. there j (inr later)),
+      )
 
   -- there is an entry for each key
   pub length-entries : (slab : Slab (Held F W)) (keys : List ℕ) → IsPlaced slab keys → length (entries_of slab keys) ≡ slab_len slab
@@ -296,9 +307,14 @@ module _ {F W : Type 0} where
       same : k ≡ key
       same = cc
 
-      of : (slot : Option (Held F W)) → get slab k ≡ slot → (h : Held F W) × (get slab key ≡ Some h) × (entries_of slab (k ∷ ks) ≡ entry_of key h ∷ without_entry key (entries_of slab (k ∷ ks)))
+      of : (slot : Option (Held F W)) → get slab k ≡ slot → (h : Held F W) × (get slab key ≡ Some h)
+          × (entries_of slab (k ∷ ks) ≡ entry_of key h ∷ without_entry key (entries_of slab (k ∷ ks)))
       of None read = absurd (vacant_at slab (k ∷ ks) k placed read (inl refl))
-      of (Some h) read = (h, ap (get slab) (sym same) ∙ read, rw (read, same) (ap (λ (es : List (Entry F W)). entry_of key h ∷ es) (sym (without_here key key h (entries_of slab ks) refl))))
+      of (Some h) read = (
+        h,
+        ap (get slab) (sym same) ∙ read,
+        rw (read, same) (ap (λ (es : List (Entry F W)). entry_of key h ∷ es) (sym (without_here key key h (entries_of slab ks) refl))),
+      )
 
   pub none_under : (slab : Slab (Held F W)) (keys : List ℕ) → None ≡ slice_get keys 0 → entries_of slab keys ≡ []
   none_under slab [] none = refl
@@ -343,13 +359,15 @@ module _ {F W : Type 0} where
   pub other_in :
       (p : Place) (slab : Slab (Held F W)) (keys : List ℕ) (h : Held F W)
       → IsPlaced slab keys → get slab p.key ≡ Some h → h.stamp ≢ p.stamp → entry_in p (entries_of slab keys) ≡ None
-  other_in p slab keys h placed read differs = let t : eqb h.stamp p.stamp ≡ false = grind (arith, nat_tests) in other_by p slab keys h placed read t
+  other_in p slab keys h placed read differs = let t : eqb h.stamp p.stamp ≡ false = grind (arith, nat_tests)
+      in other_by p slab keys h placed read t
 
   pub here_in :
       (p : Place) (slab : Slab (Held F W)) (keys : List ℕ) (h : Held F W)
       → IsPlaced slab keys → get slab p.key ≡ Some h → h.stamp ≡ p.stamp
       → entry_in p (entries_of slab keys) ≡ Some (entry_of p.key h)
-  here_in p slab keys h placed read same = let t : eqb h.stamp p.stamp ≡ true = grind (arith, nat_tests) in here_by p slab keys h placed read t
+  here_in p slab keys h placed read same = let t : eqb h.stamp p.stamp ≡ true = grind (arith, nat_tests)
+      in here_by p slab keys h placed read t
 
   -- whether it is there
   pub is_here :
@@ -383,8 +401,13 @@ module _ {F W : Type 0} where
       → IsPlaced slab keys → get slab p.key ≡ Some h → h.stamp ≡ p.stamp
       → entries_of (with_value slab p.key (record h { future = future })) keys ≡ set_future p future (entries_of slab keys)
   set_here p slab keys h future placed read same =
-      written slab (with_value slab p.key (record h { future = future })) keys p.key h future placed.apart (is_there slab keys p.key h placed read) read (Updates-with_value slab p.key (record h { future = future }) (subst IsSome (sym read) refl))
-      ∙ sym (ap (λ (o : Option (Entry F W)). where_there o (with_future p.key future (entries_of slab keys)) (entries_of slab keys)) (here_in p slab keys h placed read same))
+      written slab (with_value slab p.key (record h {
+        future =
+            future;
+      })) keys p.key h future placed.apart (is_there slab keys p.key h placed read) read
+      (Updates-with_value slab p.key (record h { future = future }) (subst IsSome (sym read) refl))
+      ∙ sym (ap (λ (o : Option (Entry F W)). where_there o (with_future p.key future (entries_of slab keys)) (entries_of slab keys))
+      (here_in p slab keys h placed read same))
 
   -- a key with an entry is one of the slab
   pub some_under :

@@ -1,9 +1,11 @@
 -- How a ring of links changes when a key joins or leaves it.
-use Rattle.std.proofs.Common.{◌≡◌, ◌≢◌, ◌⊎◌, ℕ, zero, suc, ◌+◌, ◌-◌, ◌<◌, ◌≤◌, List, [], ◌∷◌, ◌++◌, length, get_or, slice_get, Some, refl, sym, ap, ◌∙◌, subst, inl, inr, arith}
+use Rattle.std.proofs.Common.{◌≡◌, ◌≢◌, ◌⊎◌, ℕ, zero, suc, ◌+◌, ◌-◌, ◌<◌, ◌≤◌, List, [], ◌∷◌, ◌++◌, length, get_or, slice_get, Some}
+use Rattle.std.proofs.Common.{refl, sym, ap, ◌∙◌, subst, inl, inr, arith}
 use Rattle.std.proofs.lemmas.Bool.{cases_eq}
 use Rattle.executor_parts.specs.Order.{without}
 use Rattle.executor_parts.specs.declared.order.Link.{Link}
-use Rattle.executor_parts.specs.Order.{IsIn, IsApart, AllBelow, no_link, next_of, previous_of, walk, IsChain, keys_of, IsRing, Joins, Skips, Inserts}
+use Rattle.executor_parts.specs.Order.{IsIn, IsApart, AllBelow, no_link, next_of, previous_of, walk, IsChain, keys_of, IsRing, Joins}
+use Rattle.executor_parts.specs.Order.{Skips, Inserts}
 use Rattle.executor_parts.proofs.Cells.{without_no, without_yes}
 
 -- ---- lists of keys
@@ -196,7 +198,8 @@ module _ (next previous next' previous' : ℕ → ℕ) where
         (λ at on. nexts.others at (λ same.
         off_not_on (second + 1) rest from at (from_off second (inl refl)) (λ k there. from_off k (inr there)) on (sym same)))
         (λ at on. previouses.others at (λ same.
-        off_not_on to rest (second + 1) at (λ end. to_off second (inl refl) (sym end)) (is_off_head second rest apart.0) on (sym (same ∙ chain.0)))),
+        off_not_on to rest (second + 1) at (λ end. to_off second (inl refl) (sym end)) (is_off_head second rest apart.0) on (sym (same
+        ∙ chain.0)))),
   )
 
   -- a key leaves, and its neighbours are joined
@@ -216,8 +219,10 @@ module _ (next previous next' previous' : ℕ → ℕ) where
             let there : IsIn key rest = elim found [ inl here ↦ absurd (differs here) | inr later ↦ later ] in
             let first_off = is_off_head first rest apart.0 in
             subst (λ ks. IsChain next' previous' from ks to) (sym (without_no key first rest differs)) (
-              nexts.others from (off_not_on (first + 1) rest from _ (from_off first (inl refl)) (λ k later. from_off k (inr later)) (previous_on next previous (first + 1) rest to key chain.2 there)) ∙ chain.0,
-              previouses.others (first + 1) (off_not_on to rest (first + 1) _ (λ end. to_off first (inl refl) (sym end)) first_off (next_on next previous (first + 1) rest to key chain.2 there)) ∙ chain.1,
+              nexts.others from (off_not_on (first + 1) rest from _ (from_off first (inl refl)) (λ k later. from_off k (inr later))
+                  (previous_on next previous (first + 1) rest to key chain.2 there)) ∙ chain.0,
+              previouses.others (first + 1) (off_not_on to rest (first + 1) _ (λ end. to_off first (inl refl) (sym end)) first_off
+                  (next_on next previous (first + 1) rest to key chain.2 there)) ∙ chain.1,
               chain_skip (first + 1) rest to key chain.2 apart.1 first_off (λ k later. to_off k (inr later)) there nexts previouses,
             )
       ]
@@ -232,7 +237,8 @@ module _ (old new : List Link) where
       (ap (next_of new) (sym chain.1) ∙ inserts.into, inserts.back_out ∙ chain.1, (inserts.out, inserts.back_into))
   chain_push from (first ∷ rest) key chain apart from_off absent other inserts =
       let new_place : first + 1 ≢ key + 1 = λ same. absent (inl (omega arith)) in (
-        inserts.nexts from (off_not_on (first + 1) rest from _ (from_off first (inl refl)) (λ k later. from_off k (inr later)) (previous_end_on (next_of old) (previous_of old) (first + 1) rest 0 chain.2)) other ∙ chain.0,
+        inserts.nexts from (off_not_on (first + 1) rest from _ (from_off first (inl refl)) (λ k later. from_off k (inr later))
+            (previous_end_on (next_of old) (previous_of old) (first + 1) rest 0 chain.2)) other ∙ chain.0,
         inserts.previouses (first + 1) (λ end. omega arith) new_place ∙ chain.1,
         chain_push (first + 1) rest key chain.2 apart.1 (is_off_head first rest apart.0) (λ later. absent (inr later)) new_place inserts,
       )
@@ -253,12 +259,18 @@ last_within links keys ring some = on_within links keys _ ring some (previous_en
 pub before_within :
     (links : List Link) (keys : List ℕ) (key : ℕ)
     → IsRing links keys → IsIn key keys → previous_of links (key + 1) < length links
-before_within links keys key ring found = on_within links keys _ ring (omega (arith, ring.within key found)) (previous_on _ _ 0 keys 0 key ring.chained found)
+before_within links keys key ring found = on_within links keys _ ring (omega (
+  arith,
+  ring.within key found,
+)) (previous_on _ _ 0 keys 0 key ring.chained found)
 
 pub after_within :
     (links : List Link) (keys : List ℕ) (key : ℕ)
     → IsRing links keys → IsIn key keys → next_of links (key + 1) < length links
-after_within links keys key ring found = on_within links keys _ ring (omega (arith, ring.within key found)) (next_on _ _ 0 keys 0 key ring.chained found)
+after_within links keys key ring found = on_within links keys _ ring (omega (
+  arith,
+  ring.within key found,
+)) (next_on _ _ 0 keys 0 key ring.chained found)
 
 -- a key that isn't there isn't last
 pub new_not_last : (links : List Link) (keys : List ℕ) (key : ℕ) → IsRing links keys → ¬ IsIn key keys → key + 1 ≢ previous_of links 0

@@ -1,5 +1,6 @@
 -- Where the entries of sleepers are.
-use Rattle.std.proofs.Common.{◌≡◌, ◌≢◌, ℕ, zero, suc, ◌+◌, ◌<◌, true, false, eqb, List, [], ◌∷◌, length, drop, get_or, Some, None, refl, sym, ap, ◌∙◌, subst, zero-add, arith}
+use Rattle.std.proofs.Common.{◌≡◌, ◌≢◌, ℕ, zero, suc, ◌+◌, ◌<◌, true, false, eqb, List, [], ◌∷◌, length, drop, get_or, Some, None, refl}
+use Rattle.std.proofs.Common.{sym, ap, ◌∙◌, subst, zero-add, arith}
 use Rattle.std.proofs.lemmas.Bool.Decides.{nat_tests}
 use Rattle.std.proofs.lemmas.List.{drop_more}
 use Rattle.executor_parts.specs.Sleepers.{position_of}
@@ -30,9 +31,14 @@ module _ {W : Type 0} where
       → at < length wakers → get_or wakers at e ≡ e → e.0 ≡ number → position_of number (drop (at + 1) wakers) ≡ None
       → position_of number wakers ≡ Some at
   position_here number at [] e within read same none = absurd (omega (arith, within))
-  position_here number zero (x ∷ xs) e within read same none = head_here number x xs (ap (λ (p : ℕ × W). p.0) read ∙ same) (subst (λ n. position_of number (drop n (x ∷ xs)) ≡ None) (zero-add 1) none)
+  position_here number zero (x ∷ xs) e within read same none =
+      head_here number x xs (ap (λ (p : ℕ × W). p.0) read ∙ same) (subst (λ n. position_of number (drop n (x ∷ xs))
+      ≡ None) (zero-add 1) none)
   position_here number (suc at) (x ∷ xs) e within read same none =
-      further number at x xs (position_here number at xs e (omega (arith, within)) read same (subst (λ n. position_of number (drop n (x ∷ xs)) ≡ None) (plus at) none))
+      further number at x xs (position_here number at xs e (omega (
+        arith,
+        within,
+      )) read same (subst (λ n. position_of number (drop n (x ∷ xs)) ≡ None) (plus at) none))
 
   -- neither at a place nor past it
   pub position_past :

@@ -1,5 +1,6 @@
 -- What a contract sees of `Places`, and how they lie.
-use Rattle.std.specs.Prelude.{◌≡◌, ℕ, ◌<◌, ◌≤◌, ◌==◌, ◌&&◌, nat_lt, nat_le, Bool, true, false, List, [], ◌∷◌, length, Option, Some, None, IsSome, refl}
+use Rattle.std.specs.Prelude.{◌≡◌, ℕ, ◌<◌, ◌≤◌, ◌==◌, ◌&&◌, nat_lt, nat_le, Bool, true, false, List, [], ◌∷◌, length, Option, Some, None}
+use Rattle.std.specs.Prelude.{IsSome, refl}
 use Rattle.std.specs.Coded.{Coded, code_by, coded×, coded_ℕ, coded_bool, coded_list, coded_option}
 use Rattle.slab.specs.Slab.{Slab, get, slab_len}
 use Rattle.executor_parts.specs.Order.{Order, IsIn, IsApart}
@@ -45,7 +46,13 @@ places_code {F} {W} future waker =
     (List (Entry F W) × (ℕ × ((ℕ × ℕ) × (Bool × Bool))))
     (coded× (coded_list (entry_code future waker)) (coded× coded_ℕ (coded× (coded× coded_ℕ coded_ℕ) (coded× coded_bool coded_bool))))
     (λ s. (s.entries, (s.limit, ((s.next.key, s.next.stamp), (s.has_room, s.has_all_room)))))
-    (λ p. record { entries = p.0; limit = p.1.0; next = record { key = p.1.1.0.0; stamp = p.1.1.0.1 }; has_room = p.1.1.1.0; has_all_room = p.1.1.1.1 })
+    (λ p. record {
+      entries = p.0;
+      limit = p.1.0;
+      next = record { key = p.1.1.0.0; stamp = p.1.1.0.1 };
+      has_room = p.1.1.1.0;
+      has_all_room = p.1.1.1.1;
+    })
     (λ _. refl)
 
 module _ {F W : Type 0} where

@@ -1,5 +1,6 @@
 -- What a contract sees of `Sleepers`, and what each section does with them.
-use Rattle.std.specs.Prelude.{◌≡◌, ℕ, ◌+◌, ◌-◌, ◌<◌, ◌≤◌, ◌==◌, ◌||◌, nat_lt, Bool, true, false, List, [], ◌∷◌, ◌++◌, length, take, remove, slice_get, slice_set, Option, Some, None, unwrap_or, refl, Vec, vec_len, vec_capacity}
+use Rattle.std.specs.Prelude.{◌≡◌, ℕ, ◌+◌, ◌-◌, ◌<◌, ◌≤◌, ◌==◌, ◌||◌, nat_lt, Bool, true, false, List, [], ◌∷◌, ◌++◌, length, take}
+use Rattle.std.specs.Prelude.{remove, slice_get, slice_set, Option, Some, None, unwrap_or, refl, Vec, vec_len, vec_capacity}
 use Rattle.std.specs.Coded.{Coded, code_by, coded×, coded_ℕ, coded_list}
 use Rattle.std.specs.Global.{Global}
 use Rattle.executor_parts.specs.declared.sleepers.Again.{Again}
@@ -74,13 +75,19 @@ module _ {W : Type 0} where
 
   -- one more sleeps
   abbrev pub laid_down : W → Sleepers W → Sleepers W
-  laid_down waker s = record s { count = s.count + 1; wakers = s.wakers ++ (next_number s, waker) ∷ []; free = take (length s.free - 1) s.free }
+  laid_down waker s = record s {
+    count = s.count + 1;
+    wakers = s.wakers ++ (next_number s, waker) ∷ [];
+    free =
+        take (length s.free - 1) s.free;
+  }
 
   -- one more waker
   abbrev pub listed : ℕ → W → Sleepers W → Sleepers W
   listed number waker s = record s { wakers = s.wakers ++ (number, waker) ∷ [] }
 
-  -- how a sleeper of this number lay down again: its entry's waker was replaced; it had none and got one; or all sleepers have one already, and it is none of them
+  -- how a sleeper of this number lay down again: its entry's waker was replaced; it had none and got one; or all sleepers have one
+  -- already, and it is none of them
   abbrev pub IsAgain : ℕ → W → Sleepers W → Sleepers W → Again W → Type 0
   IsAgain number waker old new (Replaced was) = (at : ℕ) × (position_of number old.wakers ≡ Some at)
       × (waker_of number old.wakers ≡ Some was) × (new ≡ record old { wakers = slice_set old.wakers at (number, waker) })
@@ -95,7 +102,10 @@ module _ {W : Type 0} where
 
   -- the number is free, where one more sleeps than has a waker
   abbrev pub freed : ℕ → Sleepers W → Sleepers W
-  freed number s = elim (nat_lt (length s.wakers) s.count) [ true ↦ record s { count = s.count - 1; free = s.free ++ number ∷ [] } | false ↦ s ]
+  freed number s = elim (nat_lt (length s.wakers) s.count) [
+    | true ↦ record s { count = s.count - 1; free = s.free ++ number ∷ [] }
+    | false ↦ s
+  ]
 
   -- the entry of this number goes, if it is there, and the number is free
   abbrev pub risen : ℕ → Sleepers W → Sleepers W

@@ -1,5 +1,6 @@
 -- Sleepers after a list of steps: their lists, the flag beside them, and the numbers that somebody has.
-use Rattle.std.specs.Prelude.{◌≡◌, ◌⊎◌, ℕ, ◌+◌, ◌-◌, ◌<◌, ◌≤◌, ◌==◌, Bool, true, false, List, [], ◌∷◌, length, slice_set, Option, Some, None}
+use Rattle.std.specs.Prelude.{◌≡◌, ◌⊎◌, ℕ, ◌+◌, ◌-◌, ◌<◌, ◌≤◌, ◌==◌, Bool, true, false, List, [], ◌∷◌, length, slice_set, Option, Some}
+use Rattle.std.specs.Prelude.{None}
 use Rattle.executor_parts.specs.Order.{IsIn, IsApart, without}
 use Rattle.executor_parts.specs.Sleepers.{Sleepers, position_of, flag_of, without_last, next_number, laid_down, listed, risen}
 
@@ -69,7 +70,8 @@ module _ {W : Type 0} where
   MayRun [] s = Unit {0}
   MayRun (t ∷ ts) s = MayTake t s × MayRun ts (after t s)
 
-  -- no two have one number, there are as many numbers as sleepers and no more wakers, and the flag is true only where nobody sleeps, a sleeper is notified, or somebody has still to hand out
+  -- no two have one number, there are as many numbers as sleepers and no more wakers, and the flag is true only where nobody sleeps, a
+  -- sleeper is notified, or somebody has still to hand out
   pub record Agree (s : Lying W) : Type 0 where
     pub apart : IsApart s.numbers
     pub counted : length s.numbers ≡ s.sleepers.count

@@ -1,7 +1,9 @@
 //! The table of an executor: its futures, each with a waker, in the order in which they were accepted.
-ghost use Rattle.std.specs.Prelude.{◌≡◌, ℕ, ◌%◌, ◌^◌, ◌+◌, ◌<◌, ◌≤◌, ◌==◌, ◌++◌, [], ◌∷◌, true, None, Some, OnOk, IsOk, OnSome, IfNone, IfSome, IfOk, IfErr, IsSome, is_some, length, map, option_copied};
+ghost use Rattle.std.specs.Prelude.{◌≡◌, ℕ, ◌%◌, ◌^◌, ◌+◌, ◌<◌, ◌≤◌, ◌==◌, ◌++◌, [], ◌∷◌, true, None, Some, OnOk, IsOk, OnSome, IfNone};
+ghost use Rattle.std.specs.Prelude.{IfSome, IfOk, IfErr, IsSome, is_some, length, map, option_copied};
 ghost use Rattle.executor_parts.specs.Order.{IsApart};
-ghost use Rattle.executor_parts.specs.Places.{entry_at, without_entry, entry_in, left_by, set_future, future_of, waker_of, parts_of, displaced, IsVacancy, IsRefusal};
+ghost use Rattle.executor_parts.specs.Places.{entry_at, without_entry, entry_in, left_by, set_future, future_of, waker_of, parts_of};
+ghost use Rattle.executor_parts.specs.Places.{displaced, IsVacancy, IsRefusal};
 
 use crate::order::Order;
 use slab::Slab;
@@ -185,7 +187,8 @@ impl<F, W> Places<F, W> {
     /// A new future enters at its vacancy, with a waker of its task, and comes last. Takes no memory.
     pub fn enter(&mut self, vacancy: Vacancy, future: F, waker: W)
         requires { IsVacancy vacancy self.old }
-        ensures entered { self.new.entries ≡ self.old.entries ++ record { key = vacancy.place.key; stamp = vacancy.place.stamp; future = Some future; waker = waker } ∷ [] }
+        ensures entered { self.new.entries ≡ self.old.entries
+            ++ record { key = vacancy.place.key; stamp = vacancy.place.stamp; future = Some future; waker = waker } ∷ [] }
         ensures was_free { entry_in vacancy.place self.old.entries ≡ None }
         ensures stamp { self.new.next.stamp ≡ (self.old.next.stamp + 1) % 2 ^ 64 }
         ensures limit { self.new.limit ≡ self.old.limit }
@@ -282,7 +285,8 @@ impl<F, W> Places<F, W> {
     /// The first entry goes, and its future, if that is there, and its waker are answered.
     pub fn leave_first(&mut self) -> Option<(Option<F>, W)>
         ensures none { IfNone result ((self.old.entries ≡ []) × (self.new ≡ self.old)) }
-        ensures some { IfSome result (λ parts. (key : ℕ) × (stamp : ℕ) × (self.old.entries ≡ record { key = key; stamp = stamp; future = parts.0; waker = parts.1 } ∷ self.new.entries)) }
+        ensures some { IfSome result (λ parts. (key : ℕ) × (stamp : ℕ)
+            × (self.old.entries ≡ record { key = key; stamp = stamp; future = parts.0; waker = parts.1 } ∷ self.new.entries)) }
         ensures limit { self.new.limit ≡ self.old.limit }
         ensures stamp { self.new.next.stamp ≡ self.old.next.stamp }
         ensures room { OnSome result (self.new.has_room ≡ true) }

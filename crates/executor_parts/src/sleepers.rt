@@ -1,6 +1,7 @@
 //! The list of sleepers: the ticks and runs that lie down where they find nothing to do.
 ghost use Rattle.std.specs.Prelude.{◌≡◌, ◌≢◌, ◌+◌, ◌<◌, ◌≤◌, [], true, not, None, OnOk, IfOk, IfErr, IfSome, is_none, length, vec_capacity};
-ghost use Rattle.executor_parts.specs.Sleepers.{flag_of, last_waker, without_last, laid_down, next_number, IsAgain, risen, waker_of, position_of};
+ghost use Rattle.executor_parts.specs.Sleepers.{flag_of, last_waker, without_last, laid_down, next_number, IsAgain, risen, waker_of};
+ghost use Rattle.executor_parts.specs.Sleepers.{position_of};
 
 use std::alloc::{AllocError, Global};
 use std::marker::Model;

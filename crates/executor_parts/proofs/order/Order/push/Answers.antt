@@ -18,11 +18,21 @@ overflow_add-self c = omega (arith, no_more _ _ c.self.invariant, length-keys_of
 
 pub invariant_of-self : goal.invariant_of-self
 invariant_of-self c =
-    let ring = ring_push _ c.insert.new.links.items _ c.args.key c.self.invariant (rw (← c.self.view_is) at c.requires.new) (omega (arith, rw (← c.self.view_is) at c.requires.room)) (omega (arith, c.insert.ensures.len)) c.insert.ensures.inserts in
-    let keys = keys_of_ring _ _ (c.self.inside.len + 1) ring (omega (arith, length_push (keys_of c.self.inside.links.items c.self.inside.len) c.args.key, length-keys_of c.self.inside.links.items c.self.inside.len)) in
+    let ring = ring_push _ c.insert.new.links.items _ c.args.key c.self.invariant (rw (← c.self.view_is) at c.requires.new)
+    (omega (arith, rw (← c.self.view_is) at c.requires.room)) (omega (arith, c.insert.ensures.len)) c.insert.ensures.inserts in
+    let keys = keys_of_ring _ _ (c.self.inside.len + 1) ring (omega (
+      arith,
+      length_push (keys_of c.self.inside.links.items c.self.inside.len) c.args.key,
+      length-keys_of c.self.inside.links.items c.self.inside.len,
+    )) in
     rw keys ring
 
 pub returns-clause-keys : goal.returns-clause-keys
 returns-clause-keys c =
-    let ring = ring_push _ c.insert.new.links.items _ c.args.key c.self.invariant (rw (← c.self.view_is) at c.requires.new) (omega (arith, rw (← c.self.view_is) at c.requires.room)) (omega (arith, c.insert.ensures.len)) c.insert.ensures.inserts in
-    rw (← c.self.view_is) (keys_of_ring _ _ (c.self.inside.len + 1) ring (omega (arith, length_push (keys_of c.self.inside.links.items c.self.inside.len) c.args.key, length-keys_of c.self.inside.links.items c.self.inside.len)))
+    let ring = ring_push _ c.insert.new.links.items _ c.args.key c.self.invariant (rw (← c.self.view_is) at c.requires.new)
+    (omega (arith, rw (← c.self.view_is) at c.requires.room)) (omega (arith, c.insert.ensures.len)) c.insert.ensures.inserts in
+    rw (← c.self.view_is) (keys_of_ring _ _ (c.self.inside.len + 1) ring (omega (
+      arith,
+      length_push (keys_of c.self.inside.links.items c.self.inside.len) c.args.key,
+      length-keys_of c.self.inside.links.items c.self.inside.len,
+    )))

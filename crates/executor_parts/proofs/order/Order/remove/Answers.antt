@@ -15,18 +15,36 @@ pub overflow_add-key : goal.overflow_add-key
 overflow_add-key c = omega (arith, c.self.invariant.within c.args.key (rw (← c.self.view_is) at c.requires))
 
 pub overflow_sub-self : goal.overflow_sub-self
-overflow_sub-self c = omega (arith, length-without c.args.key _ (rw (← c.self.view_is) at c.requires), length-keys_of c.self.inside.links.items c.self.inside.len)
+overflow_sub-self c = omega (
+  arith,
+  length-without c.args.key _ (rw (← c.self.view_is) at c.requires),
+  length-keys_of c.self.inside.links.items c.self.inside.len,
+)
 
 pub invariant_of-self : goal.invariant_of-self
 invariant_of-self c =
-    let ring = ring_skip _ c.skip.new.links.items _ c.args.key c.self.invariant (rw (← c.self.view_is) at c.requires) (omega (arith, c.skip.ensures.len)) c.skip.ensures.skips in
-    let keys = keys_of_ring _ _ (c.self.inside.len - 1) ring (omega (arith, length-without c.args.key _ (rw (← c.self.view_is) at c.requires), length-keys_of c.self.inside.links.items c.self.inside.len)) in
+    let ring = ring_skip _ c.skip.new.links.items _ c.args.key c.self.invariant (rw (← c.self.view_is) at c.requires) (omega (
+      arith,
+      c.skip.ensures.len,
+    )) c.skip.ensures.skips in
+    let keys = keys_of_ring _ _ (c.self.inside.len - 1) ring (omega (
+      arith,
+      length-without c.args.key _ (rw (← c.self.view_is) at c.requires),
+      length-keys_of c.self.inside.links.items c.self.inside.len,
+    )) in
     rw keys ring
 
 pub returns-clause-keys : goal.returns-clause-keys
 returns-clause-keys c =
-    let ring = ring_skip _ c.skip.new.links.items _ c.args.key c.self.invariant (rw (← c.self.view_is) at c.requires) (omega (arith, c.skip.ensures.len)) c.skip.ensures.skips in
-    rw (← c.self.view_is) (keys_of_ring _ _ (c.self.inside.len - 1) ring (omega (arith, length-without c.args.key _ (rw (← c.self.view_is) at c.requires), length-keys_of c.self.inside.links.items c.self.inside.len)))
+    let ring = ring_skip _ c.skip.new.links.items _ c.args.key c.self.invariant (rw (← c.self.view_is) at c.requires) (omega (
+      arith,
+      c.skip.ensures.len,
+    )) c.skip.ensures.skips in
+    rw (← c.self.view_is) (keys_of_ring _ _ (c.self.inside.len - 1) ring (omega (
+      arith,
+      length-without c.args.key _ (rw (← c.self.view_is) at c.requires),
+      length-keys_of c.self.inside.links.items c.self.inside.len,
+    )))
 
 pub returns-clause-within : goal.returns-clause-within
 returns-clause-within c = omega (arith, c.self.invariant.within c.args.key (rw (← c.self.view_is) at c.requires), c.skip.ensures.len)

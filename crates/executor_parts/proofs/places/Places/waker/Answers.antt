@@ -20,7 +20,8 @@ pub returns-else-held-place-clause-apart : goal.returns-else-held-place-clause-a
 returns-else-held-place-clause-apart g c = rw (← c.self.view_is) (apart_entries _ _ c.self.invariant.0)
 
 pub returns-in-None-clause-waker : goal.returns-in-None-clause-waker
-returns-in-None-clause-waker g c = rw (← c.self.view_is) (sym (ap waker_of (none_in c.args.place _ _ c.self.invariant.0 (sym c.in-None.ensures))))
+returns-in-None-clause-waker g c = rw (← c.self.view_is) (sym
+    (ap waker_of (none_in c.args.place _ _ c.self.invariant.0 (sym c.in-None.ensures))))
 
 pub returns-in-None-clause-apart : goal.returns-in-None-clause-apart
 returns-in-None-clause-apart g c = rw (← c.self.view_is) (apart_entries _ _ c.self.invariant.0)

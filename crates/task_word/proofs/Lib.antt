@@ -10,3 +10,4 @@ pub mod Making
 pub mod Letting
 pub mod Polling
 pub mod Awaiting
+pub mod Badged

@@ -6,6 +6,7 @@ mod layout;
 pub mod rule;
 mod slot;
 pub mod steps;
+pub mod tokens;
 
 pub use cell::Cell;
 pub use layout::{Word, decode, encode};

@@ -10,4 +10,6 @@ mod handles;
 #[cfg(test)]
 mod threads;
 #[cfg(test)]
+mod tokens;
+#[cfg(test)]
 mod words;

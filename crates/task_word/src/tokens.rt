@@ -1,0 +1,176 @@
+//! What a thread has of a task, as values that can't be dropped: a Runnable is made of the right to the future alone, a waker of
+//! one reference, a task of its handle. Each names its cell, and shows by its view the step that it came of.
+ghost use Rattle.std.specs.Prelude.{◌≡◌, [], ◌∷◌, is_some, is_ok, MatchOption, MatchResult, ⊤};
+ghost use Rattle.task_word.specs.Badges.{holds};
+ghost use Rattle.task_word.specs.Steps.{Has, HasLeft, IsSeatOf};
+ghost use Rattle.task_word.specs.Tokens.{IsBadgeOf};
+ghost use Rattle.task_word.specs.declared.rule.Hold.TheVariants.{Nothing, Reference, Handle, Queued};
+
+mod handles;
+mod queued;
+mod references;
+
+use crate::cell::Cell;
+use crate::rule::View;
+use crate::slot::take_awaiter;
+use crate::steps::{Pass, awaiter};
+use atomic_table::Badge;
+pub use handles::{Found, Polled};
+use task_moves::ScheduleInfo;
+
+/// A Runnable, to be put to rest, run, or let go.
+pub struct Runnable<'a, F, T, W> {
+    cell: &'a Cell<F, T, W>,
+    badge: Badge<View>,
+    ghost of: { badge.table_id ≡ cell.now.board.shared.table_id },
+    ghost right: { holds badge.views ≡ Queued ∷ [] },
+}
+
+impl<'a, F, T, W> Runnable<'a, F, T, W> {
+    #[inline(always)]
+    pub(crate) fn of(cell: &'a Cell<F, T, W>, pass: Pass<F, T, W>) -> Self
+        requires seat { IsSeatOf cell.now.board.shared pass }
+        requires has { Has Queued pass }
+        ensures { IsBadgeOf pass result.badge }
+    {
+        Runnable {
+            cell,
+            badge: pass.into_badge(),
+        }
+    }
+
+    #[inline(always)]
+    pub(crate) fn open(self) -> (&'a Cell<F, T, W>, Pass<F, T, W>)
+        ensures same { (result.1.table_id ≡ self.entry.badge.table_id) × (result.1.id ≡ self.entry.badge.id) }
+        ensures cell { result.0.now ≡ self.entry.cell.now }
+        ensures seat { IsSeatOf result.0.now.board.shared result.1 }
+        ensures has { Has Queued result.1 }
+    {
+        let Runnable { cell, badge } = self;
+        (cell, badge.into_seat())
+    }
+}
+
+/// A waker: one reference, to be released.
+pub struct Waker<'a, F, T, W> {
+    cell: &'a Cell<F, T, W>,
+    badge: Badge<View>,
+    ghost of: { badge.table_id ≡ cell.now.board.shared.table_id },
+    ghost one: { holds badge.views ≡ Reference ∷ [] },
+}
+
+impl<'a, F, T, W> Waker<'a, F, T, W> {
+    #[inline(always)]
+    pub(crate) fn of(cell: &'a Cell<F, T, W>, pass: Pass<F, T, W>) -> Self
+        requires seat { IsSeatOf cell.now.board.shared pass }
+        requires has { Has Reference pass }
+        ensures { IsBadgeOf pass result.badge }
+    {
+        Waker {
+            cell,
+            badge: pass.into_badge(),
+        }
+    }
+
+    #[inline(always)]
+    pub(crate) fn open(self) -> (&'a Cell<F, T, W>, Pass<F, T, W>)
+        ensures cell { result.0.now ≡ self.entry.cell.now }
+        ensures seat { IsSeatOf result.0.now.board.shared result.1 }
+        ensures has { Has Reference result.1 }
+    {
+        let Waker { cell, badge } = self;
+        (cell, badge.into_seat())
+    }
+}
+
+/// The handle of a task, to be detached.
+pub struct Task<'a, F, T, W> {
+    cell: &'a Cell<F, T, W>,
+    badge: Badge<View>,
+    ghost of: { badge.table_id ≡ cell.now.board.shared.table_id },
+    ghost handle: { holds badge.views ≡ Handle ∷ [] },
+}
+
+impl<'a, F, T, W> Task<'a, F, T, W> {
+    #[inline(always)]
+    pub(crate) fn of(cell: &'a Cell<F, T, W>, pass: Pass<F, T, W>) -> Self
+        requires seat { IsSeatOf cell.now.board.shared pass }
+        requires has { Has Handle pass }
+        ensures { IsBadgeOf pass result.badge }
+    {
+        Task {
+            cell,
+            badge: pass.into_badge(),
+        }
+    }
+
+    #[inline(always)]
+    pub(crate) fn open(self) -> (&'a Cell<F, T, W>, Pass<F, T, W>)
+        ensures cell { result.0.now ≡ self.entry.cell.now }
+        ensures seat { IsSeatOf result.0.now.board.shared result.1 }
+        ensures has { Has Handle result.1 }
+    {
+        let Task { cell, badge } = self;
+        (cell, badge.into_seat())
+    }
+}
+
+/// A step whose seat has nothing of the task: what it found and what it left.
+#[derive(Drop)]
+pub struct Trace {
+    badge: Badge<View>,
+    ghost nothing: { holds badge.views ≡ Nothing ∷ [] },
+}
+
+impl Trace {
+    #[inline(always)]
+    pub(crate) fn of<F, T, W>(pass: Pass<F, T, W>) -> Self
+        requires has { Has Nothing pass }
+        ensures { IsBadgeOf pass result.badge }
+    {
+        Trace {
+            badge: pass.into_badge(),
+        }
+    }
+}
+
+/// What is left where a reference or the handle went: a Runnable, where one is owed, or the awaiter that nobody can reach any
+/// more. The cell may be taken for another task then.
+pub struct Left<'a, F, T, W> {
+    pub runnable: Result<Runnable<'a, F, T, W>, Trace>,
+    pub awaiter: Option<W>,
+}
+
+#[inline(always)]
+pub(crate) fn take_left<'a, F, T, W>(
+    cell: &'a Cell<F, T, W>,
+    mut pass: Pass<F, T, W>,
+    schedule: Option<ScheduleInfo>,
+    is_left: bool,
+) -> Left<'a, F, T, W>
+    requires seat { IsSeatOf cell.now.board.shared pass }
+    requires has { HasLeft schedule is_left pass }
+    ensures paid { is_ok result.runnable ≡ is_some schedule }
+    ensures shows { MatchOption result.awaiter
+        (MatchResult result.runnable (λ r. IsBadgeOf pass r.badge) (λ t. IsBadgeOf pass t.badge))
+        (λ _. ⊤) }
+{
+    match schedule {
+        Some(_) => Left {
+            runnable: Ok(Runnable::of(cell, pass)),
+            awaiter: None,
+        },
+        None if is_left => {
+            let awaiter = take_awaiter(cell.board(), &mut pass);
+            awaiter::empty(cell.board(), &mut pass);
+            Left {
+                runnable: Err(Trace::of(pass)),
+                awaiter,
+            }
+        }
+        None => Left {
+            runnable: Err(Trace::of(pass)),
+            awaiter: None,
+        },
+    }
+}

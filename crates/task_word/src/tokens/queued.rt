@@ -1,0 +1,51 @@
+//! What is done with a Runnable, and with a cell whose word one rests in.
+ghost use Rattle.std.specs.Prelude.{◌≡◌, is_some, is_ok, MatchResult};
+ghost use Rattle.task_moves.specs.Moves as moves;
+ghost use Rattle.task_word.specs.Tokens.{Shows};
+
+use crate::cell::Cell;
+use crate::steps::{making, wakers};
+use crate::tokens::{Runnable, Trace};
+use std::sync::Wait;
+use task_moves::moves::Owed;
+
+impl<F, T, W> Cell<F, T, W> {
+    /// A wake by reference, of whoever is lent a waker of this cell's task. A Runnable is there where one is owed.
+    #[inline(always)]
+    pub fn wake<R: Wait>(&self, rt: &R) -> (Owed, Result<Runnable<'_, F, T, W>, Trace>)
+        ensures made { MatchResult result.1
+            (λ r. Shows self.now.board.shared moves.wake_by_reference result.0 r.badge)
+            (λ t. Shows self.now.board.shared moves.wake_by_reference result.0 t.badge) }
+        ensures paid { is_ok result.1 ≡ is_some result.0.schedule }
+    {
+        let mut pass = self.pass();
+        let owed = wakers::wake(rt, self.board(), &mut pass);
+        match owed.schedule {
+            Some(_) => (owed, Ok(Runnable::of(self, pass))),
+            None => (owed, Err(Trace::of(pass))),
+        }
+    }
+
+    /// Takes the Runnable that rests in the word, where one does.
+    #[inline(always)]
+    pub fn resume<R: Wait>(&self, rt: &R) -> Option<Runnable<'_, F, T, W>> {
+        let mut pass = self.pass();
+        if making::resume(rt, self.board(), &mut pass) {
+            Some(Runnable::of(self, pass))
+        } else {
+            None
+        }
+    }
+}
+
+impl<'a, F, T, W> Runnable<'a, F, T, W> {
+    /// It rests in the word, as the cell's number stands in a queue. The same seat has nothing then.
+    #[inline(always)]
+    pub fn rest(self) -> Trace
+        ensures { (result.badge.table_id ≡ self.entry.badge.table_id) × (result.badge.id ≡ self.entry.badge.id) }
+    {
+        let (cell, mut pass) = self.open();
+        making::rest(cell.board(), &mut pass);
+        Trace::of(pass)
+    }
+}

@@ -1,0 +1,46 @@
+//! What is done with a waker that is a reference.
+ghost use Rattle.std.specs.Prelude.{◌≡◌, is_some, is_ok, not, MatchOption, MatchResult};
+ghost use Rattle.task_moves.specs.Moves as moves;
+ghost use Rattle.task_word.specs.Steps as steps;
+ghost use Rattle.task_word.specs.Tokens.{Shows, Owes};
+
+use crate::cell::Cell;
+use crate::steps::wakers;
+use crate::tokens::{Left, Trace, Waker, take_left};
+use std::sync::Wait;
+use task_moves::moves::Owed;
+
+impl<F, T, W> Cell<F, T, W> {
+    /// One reference more, unless it is refused: where there are too many, or nobody has the task.
+    #[inline(always)]
+    pub fn copy<R: Wait>(&self, rt: &R) -> (Owed, Result<Waker<'_, F, T, W>, Trace>)
+        ensures made { MatchResult result.1
+            (λ w. Shows self.now.board.shared steps.copy result.0 w.badge)
+            (λ t. Shows self.now.board.shared steps.copy result.0 t.badge) }
+        ensures paid { is_ok result.1 ≡ not (is_some result.0.answer) }
+    {
+        let mut pass = self.pass();
+        let owed = wakers::copy(rt, self.board(), &mut pass);
+        match owed.answer {
+            Some(_) => (owed, Err(Trace::of(pass))),
+            None => (owed, Ok(Waker::of(self, pass))),
+        }
+    }
+}
+
+impl<'a, F, T, W> Waker<'a, F, T, W> {
+    /// It goes. Where it was the last of an open task, a Runnable is owed, and is there.
+    #[inline(always)]
+    pub fn release<R: Wait>(self, rt: &R) -> (Owed, Left<'a, F, T, W>)
+        ensures made { MatchOption result.1.awaiter
+            (MatchResult result.1.runnable
+            (λ r. Shows self.entry.cell.now.board.shared moves.release result.0 r.badge)
+            (λ t. Shows self.entry.cell.now.board.shared moves.release result.0 t.badge))
+            (λ _. Owes moves.release result.0) }
+        ensures paid { is_ok result.1.runnable ≡ is_some result.0.schedule }
+    {
+        let (cell, mut pass) = self.open();
+        let (owed, is_left) = wakers::release(rt, cell.board(), &mut pass);
+        (owed, take_left(cell, pass, owed.schedule, is_left))
+    }
+}

@@ -5,17 +5,27 @@
 
 ghost use Rattle.std.specs.Prelude.{◌<◌};
 
+mod line;
+mod runs;
+mod sim;
+mod steps;
+#[cfg(test)]
+mod tests;
+mod words;
+
 use async_task::Future;
+use executor_workloads::job::{JobPlace, JobRealm, Open, Place};
+use executor_workloads::{Awaited, Chain, Futures, Link, Waker, Worker, Workplace};
+use line::Line;
+use runs::Realms;
 use std::env;
 use std::process::ExitCode;
 use std::rt::{Clock, Env};
 use std::sync::Wait;
 use std::thread::Threads;
-use timed_runs::{
-    Awaited, Chain, Futures, JobPlace, JobRealm, Link, Open, Place, Realms, Tasks, Waker, Worker,
-    Workplace,
-};
-use workloads::{ALL, Fault, Line, Workload, asked, operations};
+use words::{asked, operations};
+use workloads::task::Tasks;
+use workloads::{ALL, Fault, Workload};
 
 fn main(rt: HostRuntime) -> ExitCode {
     // Generic code that makes a realm and works on it gets no proof, nor does code over any runtime type with futures that
@@ -103,7 +113,7 @@ where
     R: AllocGlobal + Print + Eprint + Clock + Wait + Threads + Sync + Copy + Drop + 'static,
     requires { 0 < ops }
 {
-    let timing = timed_runs::run::<L, P, J, R>(workload, rt, realms, ops)?;
+    let timing = runs::run::<L, P, J, R>(workload, rt, realms, ops)?;
     eprintln!(rt; "{} moved {}", workload.name(), timing.moved)?;
     let line = Line {
         name: workload.name(),

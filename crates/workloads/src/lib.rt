@@ -1,17 +1,18 @@
-//! What `bench` times, but not the work itself: the workloads by name with their usual sizes, what a run took, the line
-//! that is printed of it, and what a run that doesn't end well ends on.
+//! What `bench` times: the workloads by name with their usual sizes, what a run took, what a run that doesn't end well ends
+//! on, and the work on queues and tasks. Each function of these does so many operations, and answers what they took and the
+//! sum of what it moved; what is worked on is made before the clock starts.
 #![tactic(auto)]
 
+pub mod base;
 mod fault;
-mod line;
+mod queue;
 mod sharing;
+pub mod task;
 mod timing;
-mod words;
 mod workload;
 
 pub use fault::Fault;
-pub use line::{Line, tenths_of_an_operation};
+pub use queue::{on_queue_of_one, on_shared_queue};
 pub use sharing::share;
 pub use timing::Timing;
-pub use words::{asked, operations};
 pub use workload::{ALL, Workload};

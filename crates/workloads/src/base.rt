@@ -1,9 +1,9 @@
 //! What steps of this machine cost, to read the other lines by.
+use crate::{Fault, Timing};
 use std::rt::Clock;
 use std::sync::atomic::{AtomicU64, Ordering};
 use std::sync::{Mutex, Wait};
 use std::time::Instant;
-use workloads::{Fault, Timing};
 
 /// Adds one to an atomic word, so many times.
 pub fn fetch_add<R: Clock>(rt: &R, ops: u64) -> Result<Timing, Fault> {

@@ -5,6 +5,7 @@ pub use crate::task::parts::{Line, Tasks, Work};
 use crate::task::parts::{
     Queue, Spawned, Waiting, WorkTask, WorkWaker, empty_queue, run, run_next, spawn_to,
 };
+use crate::{Fault, Timing};
 use async_task::local_task::{Settled, Start};
 use async_task::{Awaiter, Back, Future, LocalTask, Nobody, Poll, StoredRunnable, TaskError, Wake};
 use concurrent_queue::ConcurrentQueue;
@@ -12,7 +13,6 @@ use std::alloc::Global;
 use std::rt::Clock;
 use std::sync::Wait;
 use std::time::Instant;
-use workloads::{Fault, Timing};
 
 /// Spawns, queues, runs and polls futures that give the numbers below `ops`.
 pub fn spawn_run<R: Clock + Wait + Copy + Drop + 'static>(

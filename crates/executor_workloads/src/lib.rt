@@ -1,10 +1,11 @@
 //! The work on an executor that `bench` times: futures that are spawned, polled, woken, awaited and dropped, by one thread
-//! and by several that run it.
+//! and by several that run it; and jobs, which `jobs` does on one.
 #![tactic(auto)]
 
 mod awaited;
 mod chain;
 mod futures;
+pub mod job;
 mod many;
 mod names;
 mod threads;

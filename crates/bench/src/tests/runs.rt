@@ -1,7 +1,10 @@
 //! Each workload, run.
-use crate::words::same;
+use crate::runs::{Realms, run};
+use crate::tests::same::same;
+use executor_workloads::job::{JobPlace, JobRealm, Open};
+use executor_workloads::{Awaited, Futures, Link, Workplace};
 use std::test::Fail;
-use timed_runs::{Awaited, Futures, JobPlace, JobRealm, Link, Open, Realms, Tasks, Workplace, run};
+use workloads::task::Tasks;
 use workloads::{ALL, Workload};
 
 // The sums of the numbers below 3,000 and below 1,500.

@@ -1,6 +1,4 @@
-//! The work on lists of jobs that `bench` times: their text read, and the jobs done by several workers.
-#![tactic(auto)]
-
+//! Lists of jobs: their text read, and the jobs done by several workers.
 mod list;
 mod parsing;
 mod running;

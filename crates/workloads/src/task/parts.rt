@@ -1,5 +1,6 @@
 //! What the work on tasks is done with: futures, the queue that their tasks are put in, and tasks that wait there. What
 //! holds a task is matched on and not asked with `?`, which has no proof where a `'static` reference is inside.
+use crate::Fault;
 use async_task::{
     Future, Nobody, Poll, Realm, Runnable, Schedule, ScheduleInfo, Scheduled, StoredRunnable, Task,
     TaskWaker, Wake, spawn,
@@ -7,7 +8,6 @@ use async_task::{
 use concurrent_queue::ConcurrentQueue;
 use std::alloc::Global;
 use std::sync::{Arc, Wait};
-use workloads::Fault;
 
 /// A future.
 #[derive(Drop)]

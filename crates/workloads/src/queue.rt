@@ -1,10 +1,13 @@
-use crate::{hand_over, queue};
+//! Which queue a workload works on, and how.
+mod hand_over;
+mod one_thread;
+
+use crate::{Fault, Timing, Workload};
 use concurrent_queue::{ConcurrentQueue, Exclusive, NoMemory};
 use std::alloc::{AllocGlobal, Global};
 use std::rt::Clock;
 use std::sync::Wait;
 use std::thread::Threads;
-use workloads::{Fault, Timing, Workload};
 
 /// Does so many operations on a queue of one owner, of the capacity that the workload works on.
 pub fn on_queue_of_one<R: AllocGlobal + Clock>(
@@ -12,7 +15,7 @@ pub fn on_queue_of_one<R: AllocGlobal + Clock>(
     rt: &R,
     ops: u64,
 ) -> Result<Timing, Fault> {
-    queue::push_and_pop_alone(rt, queue_of_one(workload, rt.alloc())?, ops)
+    one_thread::push_and_pop_alone(rt, queue_of_one(workload, rt.alloc())?, ops)
 }
 
 /// Does so many operations of the workload on a queue that threads share.
@@ -31,15 +34,15 @@ fn on_queue<R: AllocGlobal + Clock + Wait + Threads + Sync>(
     ops: u64,
 ) -> Result<Timing, Fault> {
     match workload {
-        Workload::Ring1024Burst | Workload::UnboundedBurst => queue::bursts(rt, queue, ops),
-        Workload::Len => queue::len(rt, queue, ops),
+        Workload::Ring1024Burst | Workload::UnboundedBurst => one_thread::bursts(rt, queue, ops),
+        Workload::Len => one_thread::len(rt, queue, ops),
         Workload::Ring1024OneToOne | Workload::UnboundedOneToOne => {
             hand_over::time(rt, queue, 1, ops)
         }
         Workload::Ring1024TwoToTwo | Workload::UnboundedTwoToTwo => {
             hand_over::time(rt, queue, 2, ops)
         }
-        _ => queue::push_and_pop(rt, queue, ops),
+        _ => one_thread::push_and_pop(rt, queue, ops),
     }
 }
 

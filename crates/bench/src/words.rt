@@ -1,8 +1,7 @@
 //! What the words of a command line name.
 ghost use Rattle.std.specs.Prelude.{◌<◌, IfOk};
 
-use crate::fault::Fault;
-use crate::workload::Workload;
+use workloads::{Fault, Workload};
 
 /// The workload of this name.
 pub fn asked(name: &str) -> Result<Workload, Fault> {

@@ -1,14 +1,13 @@
 use crate::{sim, steps};
 use async_task::Future;
+use executor_workloads::job::{self, JobRealm, Open, Place};
+use executor_workloads::{self as executor, Chain, Futures, Waker, Worker};
 use std::alloc::AllocGlobal;
 use std::rt::Clock;
 use std::sync::Wait;
 use std::thread::Threads;
-use timed_executor::{Chain, Futures, Waker, Worker};
-use timed_jobs::{JobRealm, Open, Place};
-use timed_work::task::{self, Tasks};
-use timed_work::{base, on_queue_of_one, on_shared_queue};
-use workloads::{Fault, Timing, Workload};
+use workloads::task::{self, Tasks};
+use workloads::{Fault, Timing, Workload, base, on_queue_of_one, on_shared_queue};
 
 /// The realms in which the tasks lie.
 #[derive(Drop)]
@@ -51,21 +50,21 @@ where
         Workload::WakerClone => task::waker_clone(*rt, alloc, realm, ops),
         Workload::PollPending => task::poll_pending(*rt, alloc, realm, ops),
         Workload::SelfWakeLocalTask => task::self_wake_alone(rt, alloc, ops),
-        Workload::SpawnTick => timed_executor::spawn_tick(*rt, alloc, futures, ops),
-        Workload::Ping => timed_executor::ping(*rt, alloc, futures, ops),
-        Workload::SpawnMany => timed_executor::spawn_many::<P, R>(*rt, alloc, futures, ops),
-        Workload::AwaitChain => timed_executor::await_chain::<L, P, R>(*rt, alloc, futures, ops),
-        Workload::DropFull => timed_executor::drop_full(*rt, alloc, futures, ops),
-        Workload::Run1 => timed_executor::run::<P, R>(rt, futures, 1, ops),
-        Workload::Run2 => timed_executor::run::<P, R>(rt, futures, 2, ops),
-        Workload::Run4 => timed_executor::run::<P, R>(rt, futures, 4, ops),
-        Workload::Storm1 => timed_executor::storm::<P, R>(rt, futures, 1, ops),
-        Workload::Storm2 => timed_executor::storm::<P, R>(rt, futures, 2, ops),
-        Workload::Storm4 => timed_executor::storm::<P, R>(rt, futures, 4, ops),
-        Workload::JobsParse => timed_jobs::parse(rt, ops),
-        Workload::JobsRun1 => timed_jobs::run::<J, R>(rt, realms.jobs, 1, ops),
-        Workload::JobsRun2 => timed_jobs::run::<J, R>(rt, realms.jobs, 2, ops),
-        Workload::JobsRun4 => timed_jobs::run::<J, R>(rt, realms.jobs, 4, ops),
+        Workload::SpawnTick => executor::spawn_tick(*rt, alloc, futures, ops),
+        Workload::Ping => executor::ping(*rt, alloc, futures, ops),
+        Workload::SpawnMany => executor::spawn_many::<P, R>(*rt, alloc, futures, ops),
+        Workload::AwaitChain => executor::await_chain::<L, P, R>(*rt, alloc, futures, ops),
+        Workload::DropFull => executor::drop_full(*rt, alloc, futures, ops),
+        Workload::Run1 => executor::run::<P, R>(rt, futures, 1, ops),
+        Workload::Run2 => executor::run::<P, R>(rt, futures, 2, ops),
+        Workload::Run4 => executor::run::<P, R>(rt, futures, 4, ops),
+        Workload::Storm1 => executor::storm::<P, R>(rt, futures, 1, ops),
+        Workload::Storm2 => executor::storm::<P, R>(rt, futures, 2, ops),
+        Workload::Storm4 => executor::storm::<P, R>(rt, futures, 4, ops),
+        Workload::JobsParse => job::parse(rt, ops),
+        Workload::JobsRun1 => job::run::<J, R>(rt, realms.jobs, 1, ops),
+        Workload::JobsRun2 => job::run::<J, R>(rt, realms.jobs, 2, ops),
+        Workload::JobsRun4 => job::run::<J, R>(rt, realms.jobs, 4, ops),
         _ => on_shared_queue(workload, rt, ops),
     }
 }

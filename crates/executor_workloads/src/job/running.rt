@@ -2,7 +2,7 @@
 ghost use Rattle.std.specs.Prelude.{◌<◌, ◌≤◌, All, length};
 ghost use Rattle.job_answers.specs.Answers.{IsInRange};
 
-use crate::list::{JOBS, jobs};
+use crate::job::list::{JOBS, jobs};
 use job_answers::Job;
 use jobs::{JobRealm, Open, Place, run_jobs};
 use std::alloc::{AllocGlobal, Global};

@@ -1,13 +1,13 @@
 //! Numbers that go from thread to thread through a queue. A thread that finds the queue full or empty lets others run.
 ghost use Rattle.std.specs.Prelude.{◌<◌};
 
+use crate::{Fault, Timing, share};
 use concurrent_queue::{ConcurrentQueue, PopError, PushError};
 use std::alloc::AllocGlobal;
 use std::rt::Clock;
 use std::sync::Wait;
 use std::thread::{self, Threads};
 use std::time::Instant;
-use workloads::{Fault, Timing, share};
 
 /// Hands over so many numbers from `pairs` threads to as many others, and answers the sum of what came.
 pub fn time<R: AllocGlobal + Clock + Wait + Threads + Sync>(

@@ -1,9 +1,9 @@
 //! Work on queues in one thread.
+use crate::{Fault, Timing};
 use concurrent_queue::{ConcurrentQueue, Exclusive};
 use std::rt::Clock;
 use std::sync::Wait;
 use std::time::Instant;
-use workloads::{Fault, Timing};
 
 /// How many numbers a burst pushes before it pops.
 const BURST: u64 = 1024;

@@ -1,8 +1,9 @@
 //! Names, lines and shares.
-use crate::words::same;
+use crate::line::Line;
+use crate::tests::same::same;
 use std::test::Fail;
 use std::time::Duration;
-use workloads::{ALL, Line, Workload, share};
+use workloads::{ALL, Workload, share};
 
 #[test]
 fn a_name_names_one_workload(rt: HostRuntime) {

@@ -1,5 +1,5 @@
 //! The text of lists of jobs, read.
-use crate::list::{JOBS, job};
+use crate::job::list::{JOBS, job};
 use job_answers::Job;
 use job_lines::ParseError;
 use std::alloc::{AllocError, AllocGlobal, Global};

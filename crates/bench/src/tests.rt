@@ -1,0 +1,4 @@
+//! Names, lines and shares, and what each workload moves.
+mod lines;
+mod runs;
+mod same;

@@ -11,6 +11,7 @@ pub mod BoundedPlaces
 pub mod BoundedPuts
 pub mod BoundedRuns
 pub mod BoundedStamps
+pub mod FreePlaces
 pub mod BoundedState
 pub mod SingleLone
 pub mod SingleLooks

@@ -6,6 +6,7 @@ ghost use Rattle.queue_laws.specs.UnboundedSteps.{Step, IsClosableQueue};
 ghost use Rattle.queue_laws.specs.LoneCalls.{EndsOnSlot, EndsOnChain, EndsOnRing};
 ghost use Rattle.queue_steps.specs.Bounded.{IsShape};
 ghost use Rattle.queue_laws.specs.BoundedSteps.{IsClosableQueue as IsClosableRing};
+ghost use Rattle.queue_laws.specs.FreePlaces.{FreePlacesStay};
 ghost use Rattle.queue_laws.specs.SingleSteps.{Step as WordStep, IsClosableQueue as IsClosableSlot};
 ghost use Rattle.std.specs.Prelude.{ℕ, List};
 
@@ -41,4 +42,11 @@ pub fn a_lone_call_on_a_slot_ends<T>()
 /// The same of a ring of any shape.
 pub fn a_lone_call_on_a_ring_ends<T>()
     ensures { (n m : ℕ) → IsShape n m → (steps : List (WordStep T)) → EndsOnRing n m steps }
+{}
+
+/// Where one party alone appends to a ring, the places that it saw free stay free until it fills them: whatever others pop
+/// and whoever closes the ring, it is longer than the party was told by no more than what the party itself has appended
+/// since it asked. So who moves as many items as it saw free places finds a place for each.
+pub fn free_places_stay_free<T>()
+    ensures { (n m : ℕ) → IsShape n m → (steps : List (WordStep T)) → FreePlacesStay n m steps }
 {}

@@ -1,5 +1,5 @@
 //! A call on the executor, as contracts follow it from section to section.
-ghost use Rattle.std.specs.Prelude.{◌≡◌, true, false, Some, None};
+ghost use Rattle.std.specs.Prelude.{◌≡◌, true, false, not, Some, None};
 ghost use Rattle.async_executor.specs.Stages.{begun, given, in_hand, took, looked, IsDone};
 
 use std::marker::Model;
@@ -63,6 +63,38 @@ impl Last {
         ensures { result ≡ ending }
     {
         Last { ending }
+    }
+}
+
+/// How the last poll of a tick or run ended. Only contracts read it, and what a call of that poll left is all that it is
+/// written by; it is no `Snapshot`, as what has one could not be sent to another thread.
+#[derive(Drop)]
+pub struct Polled {
+    // None before the first poll, and where that had no call.
+    ending: Option<Ending>,
+    // It turns with each poll that a call ends, so that no poll can answer by what an earlier one left.
+    turned: bool,
+}
+
+impl Polled {
+    /// Not polled yet.
+    pub fn never() -> Polled
+        ensures { result.ending ≡ None }
+    {
+        Polled {
+            ending: None,
+            turned: false,
+        }
+    }
+
+    /// A poll ends, as the last of its calls did.
+    pub fn end(&mut self, last: Last)
+        ensures ending { self.new.ending ≡ Some last }
+        ensures turned { self.new.turned ≡ not self.old.turned }
+    {
+        let Last { ending } = last;
+        self.ending = Some(ending);
+        self.turned = !self.turned;
     }
 }
 
@@ -184,6 +216,14 @@ impl Call {
     {
         self.end();
         Last::of(Ending::Refused)
+    }
+
+    /// A run's own queue was put into the executor's list, or refused there.
+    pub fn list(&mut self)
+        requires { self.old ≡ begun }
+        ensures { self.new ≡ record self.old { is_new = false } }
+    {
+        self.is_new = Snapshot::of(&false);
     }
 
     /// A future was refused, or its Runnable came in hand.

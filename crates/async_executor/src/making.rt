@@ -3,6 +3,7 @@ ghost use Rattle.std.specs.Prelude.{◌≡◌, false, Some, IfOk, IfErr};
 ghost use Rattle.async_executor.specs.Polls.{has_left};
 ghost use Rattle.async_executor.specs.Seeds.{seeded};
 
+use crate::call::Polled;
 use crate::executor::Executor;
 use crate::names::ExWaker;
 use crate::run::Run;
@@ -29,6 +30,7 @@ where
             Ok(new_room) => Ok(Tick {
                 executor: self,
                 ticker: Ticker::Up(new_room),
+                polled: Polled::never(),
             }),
             Err(_) => Err(NoMemory),
         }
@@ -64,6 +66,7 @@ where
                 future: Some(future),
                 runner,
                 ticker: Ticker::Up(room),
+                polled: Polled::never(),
                 taken: 0,
             }),
             Err(NoMemory) => {

@@ -1,8 +1,8 @@
 ghost use Rattle.std.specs.Prelude.{◌≡◌};
 ghost use Rattle.async_executor.specs.Calls.{IsFoundAtLast};
-ghost use Rattle.async_executor.specs.Polls.{IsRunAnswer, IsTasksAnswer};
+ghost use Rattle.async_executor.specs.Polls.{has_left, HasLeft, IsRunAnswer, IsTasksAnswer};
 
-use crate::call::Call;
+use crate::call::{Call, Polled};
 use crate::errors::RunError;
 use crate::executor::Executor;
 use crate::names::ExWaker;
@@ -33,6 +33,8 @@ where
     pub(crate) future: Option<G>,
     pub(crate) runner: Runner,
     pub(crate) ticker: Ticker,
+    /// How its last poll ended, if that took tasks.
+    pub(crate) polled: Polled,
     /// How many tasks it has taken since it last let others go first.
     pub(crate) taken: u64,
 }
@@ -52,13 +54,15 @@ where
     /// 3. Takes tasks and runs each. Where there is none to take, it lies down and is pending.
     /// 4. After 200 tasks it wakes its own waker and is pending. A count that was interrupted goes on in the next poll.
     fn poll(&mut self, waker: &ExWaker<T, W, R>) -> Poll<Result<G::Output, RunError>>
-        ensures answer { IsRunAnswer self.old.future self.new.future result }
+        ensures answer { IsRunAnswer self.old.future self.new.future self.old.polled self.new.polled result }
+        ensures left { HasLeft self.new.runner.is_drained (has_left self.new.ticker) result }
     {
         let Some(future) = &mut self.future else {
             return Poll::Ready(Err(RunError::Finished));
         };
         let executor = self.executor;
-        if self.runner.begin(executor.rt, &executor.state).is_err() {
+        if let Err(last) = self.runner.begin(executor.rt, &executor.state) {
+            self.polled.end(last);
             return Poll::Ready(Err(RunError::NoMemory));
         }
         match future.poll(waker) {
@@ -86,23 +90,35 @@ where
     R: Wait + Copy + Drop + 'static,
     G: Future<ExWaker<T, W, R>> + Drop,
 {
+    /// Takes tasks and runs each, one at least where one is found.
     fn take_tasks(&mut self, waker: &ExWaker<T, W, R>) -> Poll<Result<G::Output, RunError>>
-        ensures answer { IsTasksAnswer result }
+        ensures answer { IsTasksAnswer self.old.polled self.new.polled result }
         ensures future { self.new.future ≡ self.old.future }
     {
         let executor = self.executor;
-        for _turn in self.taken..TASKS_OF_ONE_POLL {
+        let mut ran = None;
+        let first = self.taken.min(TASKS_OF_ONE_POLL - 1);
+        for _turn in first..TASKS_OF_ONE_POLL {
             match self.find(waker) {
                 Found::Runnable(runnable, call) => {
                     self.runner
                         .count(executor.rt, &executor.state, executor.realm);
                     self.taken = self.taken.saturating_add(1);
-                    let _ = executor.poll_or_drop(runnable, call);
+                    ran = Some(executor.poll_or_drop(runnable, call));
                 }
-                Found::Nothing(_) => return Poll::Pending,
-                Found::NoMemory(_) => return Poll::Ready(Err(RunError::NoMemory)),
+                Found::Nothing(last) => {
+                    self.polled.end(last);
+                    return Poll::Pending;
+                }
+                Found::NoMemory(last) => {
+                    self.polled.end(last);
+                    return Poll::Ready(Err(RunError::NoMemory));
+                }
                 Found::SearchAgain => unreachable!(),
             }
+        }
+        if let Some(last) = ran {
+            self.polled.end(last);
         }
         self.taken = 0;
         waker.wake_by_ref();
@@ -113,6 +129,7 @@ where
     fn find(&mut self, waker: &ExWaker<T, W, R>) -> Found
         ensures found { IsFoundAtLast result }
         ensures future { self.new.future ≡ self.old.future }
+        ensures polled { self.new.polled ≡ self.old.polled }
     {
         let executor = self.executor;
         for _ in executor.rt.forever() {
@@ -155,6 +172,7 @@ where
             future,
             mut runner,
             ticker,
+            polled: _,
             taken: _,
         } = self;
         drop(future);

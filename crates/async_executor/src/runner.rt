@@ -1,10 +1,10 @@
 //! The own queue of a run, and how a run searches.
-ghost use Rattle.std.specs.Prelude.{◌≡◌, true, false, Some, IfOk, is_some};
+ghost use Rattle.std.specs.Prelude.{◌≡◌, true, false, Some, IfOk, IfErr, OnOk, is_some};
 ghost use Rattle.std.specs.Arc.{arc_value};
 ghost use Rattle.async_executor.specs.Seeds.{seeded};
 ghost use Rattle.async_executor.specs.Stages.{begun, took, looked};
 
-use crate::call::Call;
+use crate::call::{Call, Ending, Last};
 use crate::due::{pay, share};
 use crate::names::ExRealm;
 use crate::own_queues::RunRoom;
@@ -85,21 +85,24 @@ impl Runner {
     }
 
     /// Puts the own queue into the executor's list, where it isn't there yet.
-    pub fn begin<W, R: Wait + Copy + Drop>(
-        &mut self,
-        rt: R,
-        state: &State<W>,
-    ) -> Result<(), NoMemory> {
+    pub fn begin<W, R: Wait + Copy + Drop>(&mut self, rt: R, state: &State<W>) -> Result<(), Last>
+        ensures listed { OnOk result (self.new.is_listed ≡ true) }
+        ensures refused { IfErr result (λ last. last ≡ Ending.Refused) }
+    {
         if self.is_listed {
             return Ok(());
         }
+        let mut call = Call::begin();
         let queue = share(rt, &self.own);
-        match state.own_queues.write(&rt).insert(&self.room, queue) {
+        let inserted = state.own_queues.write(&rt).insert(&self.room, queue);
+        call.list();
+        match inserted {
             Ok(()) => {
                 self.is_listed = true;
+                call.end();
                 Ok(())
             }
-            Err(_) => Err(NoMemory),
+            Err(_) => Err(call.refuse()),
         }
     }
 

@@ -1,7 +1,7 @@
 ghost use Rattle.std.specs.Prelude.{◌≡◌};
-ghost use Rattle.async_executor.specs.Polls.{has_left};
+ghost use Rattle.async_executor.specs.Polls.{has_left, IsTickAnswer};
 
-use crate::call::Call;
+use crate::call::{Call, Polled};
 use crate::executor::Executor;
 use crate::names::ExWaker;
 use crate::ticker::{Found, Ticker};
@@ -22,6 +22,8 @@ where
 {
     pub(crate) executor: &'a Executor<F, T, W, R>,
     pub(crate) ticker: Ticker,
+    /// How its last poll ended.
+    pub(crate) polled: Polled,
 }
 
 impl<F, T, W, R> Future<ExWaker<T, W, R>> for Tick<'_, F, T, W, R>
@@ -36,7 +38,8 @@ where
     /// 1. Takes a Runnable from the executor's queue, or lies down and is pending.
     /// 2. Where it found one: runs it, and is ready.
     fn poll(&mut self, waker: &ExWaker<T, W, R>) -> Poll<Result<(), NoMemory>>
-        ensures { has_left self.new.ticker ≡ has_left self.old.ticker }
+        ensures answer { IsTickAnswer self.old.polled self.new.polled result }
+        ensures stays { has_left self.new.ticker ≡ has_left self.old.ticker }
     {
         let executor = self.executor;
         for _ in executor.rt.forever() {
@@ -51,12 +54,18 @@ where
                 waker,
             ) {
                 Found::Runnable(runnable, call) => {
-                    let _ = executor.poll_or_drop(runnable, call);
+                    self.polled.end(executor.poll_or_drop(runnable, call));
                     return Poll::Ready(Ok(()));
                 }
                 Found::SearchAgain => {}
-                Found::Nothing(_) => return Poll::Pending,
-                Found::NoMemory(_) => return Poll::Ready(Err(NoMemory)),
+                Found::Nothing(last) => {
+                    self.polled.end(last);
+                    return Poll::Pending;
+                }
+                Found::NoMemory(last) => {
+                    self.polled.end(last);
+                    return Poll::Ready(Err(NoMemory));
+                }
             }
         }
         unreachable!()
@@ -72,7 +81,11 @@ where
 {
     /// Leaves the sleepers, and gives its room there back.
     fn drop(self) {
-        let Tick { executor, ticker } = self;
+        let Tick {
+            executor,
+            ticker,
+            polled: _,
+        } = self;
         ticker.leave(executor.rt, &executor.state, executor.realm);
     }
 }

@@ -15,12 +15,13 @@ use Rattle.atomic_table.proofs.Lists.{set_here, set_else, exchanged, one_turn, a
 use Rattle.queue_steps.specs.ClosableQueue.{most_accepted}
 use Rattle.queue_steps.specs.Bounded.{IsShape, IsPlaceWord, word_at, count_at, next_at, is_marked}
 use Rattle.concurrent_queue.specs.BoundedRule.{Phase, free, writing, full, reading, forcing, swapping, up, above, back, Cell, InPhase}
-use Rattle.concurrent_queue.specs.BoundedRule.{CellOk, Knows, Keeps, BoundedRule, doing, Known, saw_tail, saw_head, looked, looked_at_tail}
+use Rattle.concurrent_queue.specs.BoundedRule.{CellOk, Knows, Keeps, BoundedRule, doing, Known, saw_tail, saw_head, looked, looked_behind}
+use Rattle.concurrent_queue.specs.BoundedRule.{looked_at_tail}
 use Rattle.concurrent_queue.specs.BoundedRule.{stamped, entered, appended, took, displaced, advanced, spent, closed, gave, AreNewWords}
 use Rattle.concurrent_queue.specs.declared.bounded.rule.Doing.{Doing}
 use Rattle.concurrent_queue.specs.declared.bounded.rule.Stage.TheVariants.{Idle, SawTail, SawHead, SawStamp, Writing, Reading, Forcing}
 use Rattle.concurrent_queue.specs.declared.bounded.rule.Stage.TheVariants.{Swapping}
-use Rattle.queue_steps.proofs.BoundedWords.{next_is, index_of_word, word_a_lap_on, word_unmarked, marked_by, first_word, count_of_word}
+use Rattle.queue_steps.proofs.BoundedWords.{next_is, index_of_word, word_a_lap_on, word_unmarked, marked_by, first_word, count_of, count_of_word}
 use Rattle.concurrent_queue.proofs.BoundedFaces.{one_place, one_count, one_tail, shut_of, bare, or_open, or_shut, word_below}
 use Rattle.concurrent_queue.proofs.BoundedCells.{put_here, holder, rank, at_most_one, is_free, is_full, St, moved, unmoved, knows, reviewed}
 use Rattle.concurrent_queue.proofs.BoundedCells.{seats_stay, views_keep}
@@ -130,6 +131,26 @@ module _ {T : Type 0} (n m : ℕ) where
   looks c id me k s r wide at _ =
       stands s r k id me (looked me) (record me.0 { found = me.0.found ++ get_or s.words k 0 ∷ [] }) (r.each_seat id me.0 at)
       (r.each_view id me.0 at) refl
+
+  -- no tail that was seen is further ahead of the head than there are places
+  near_head : (s : St T) (r : BoundedRule n m s) (id : ℕ) (d : Doing) → get_elem? s.views id ≡ some d → d.stage ≡ SawTail
+      → count_at n d.mark d.word ≤ count_at n d.mark (get_or s.words 16 0) + n
+  near_head s r id d at st =
+      let kn = knows n m s r id d SawTail at st in let mark = (r.each_view id d at).0 in let y : ℕ = get_or s.words 16 0 in
+      let t : count_at n d.mark d.word ≡ d.at =
+      ap (λ (z : ℕ). count_at n z d.word) mark ∙ ap (count_at n m) kn.1.2 ∙ count_of n m r.shape d.at kn.1.0 kn.1.1 in
+      let h : count_at n d.mark y ≡ r.popped =
+      ap (λ (z : ℕ). count_at n z y) mark ∙ ap (count_at n m) r.head_is ∙ count_of_word n m r.shape r.popped in
+      let seen : d.at ≤ r.pushed = kn.0 in let within : r.pushed ≤ r.popped + n = r.within in
+      omega arith
+
+  pub looks_behind : (c id : ℕ) (me : Known T) → c ≡ n → Allows (BoundedRule {T = T} n m) c id me 16 (λ x. x) (looked_behind c me)
+  looks_behind c id me same =
+      subst (λ (z : ℕ). Allows (BoundedRule {T = T} n m) c id me 16 (λ x. x) (looked_behind z me)) (sym same)
+      (λ s r wide at _.
+      let y : ℕ = get_or s.words 16 0 in
+      stands s r 16 id me (looked_behind n me) (record me.0 { found = me.0.found ++ y ∷ [] }) (r.each_seat id me.0 at)
+      (r.each_view id me.0 at) (refl, λ st. near_head s r id me.0 at st))
 
   pub looks_at_tail : (c id : ℕ) (me : Known T) → Allows (BoundedRule {T = T} n m) c id me 0 (λ x. x) (looked_at_tail me)
   looks_at_tail c id me s r wide at _ = let y : ℕ = get_or s.words 0 0 in

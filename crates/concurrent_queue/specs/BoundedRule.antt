@@ -7,7 +7,7 @@ use mathlib.Core.Option.{some}
 use mathlib.Core.Option as maybe
 use lib.ListN.{get_elem?}
 use Rattle.atomic_table.specs.Table.{State, Me, rest}
-use Rattle.queue_steps.specs.Bounded.{IsShape, word_at, is_marked}
+use Rattle.queue_steps.specs.Bounded.{IsShape, word_at, count_at, is_marked}
 use Rattle.concurrent_queue.specs.declared.bounded.rule.Doing.{Doing}
 use Rattle.concurrent_queue.specs.declared.bounded.rule.Stage.{Stage}
 use Rattle.concurrent_queue.specs.declared.bounded.rule.Stage.TheVariants.{Idle, SawTail, SawHead, SawStamp, Writing, Reading, Forcing}
@@ -136,6 +136,11 @@ module _ {T : Type 0} where
   -- a word of which nothing is kept but the number
   abbrev pub looked : Known T → ℕ → Known T → Type 0
   looked me r me' = me' ≡ (record me.0 { found = me.0.found ++ r ∷ [] }, me.1)
+
+  -- the head, which is at most n places behind the tail that was seen
+  abbrev pub looked_behind : ℕ → Known T → ℕ → Known T → Type 0
+  looked_behind n me r me' =
+      looked me r me' × (me.0.stage ≡ SawTail → count_at n me.0.mark me.0.word ≤ count_at n me.0.mark r + n)
 
   abbrev pub looked_at_tail : Known T → ℕ → Known T → Type 0
   looked_at_tail me r me' =

@@ -12,10 +12,10 @@ use Rattle.concurrent_queue.specs.declared.bounded.pushing.Manner.{Manner}
 use Rattle.concurrent_queue.specs.declared.bounded.pushing.Manner.TheVariants.{Plain, Forced}
 use Rattle.queue_steps.specs.declared.steps.bounded.Shape.{Shape}
 use Rattle.queue_steps.specs.declared.steps.bounded.Turn.{Turn}
-use Rattle.queue_steps.specs.declared.steps.bounded.Turn.TheVariants.{Tail, Head, Stamp, HeadFor, TailFor, TailAgain, Append, Take}
+use Rattle.queue_steps.specs.declared.steps.bounded.Turn.TheVariants.{Tail, Head, Stamp, HeadFor, TailFor, Append, Take}
 use Rattle.queue_steps.specs.declared.steps.bounded.Turn.TheVariants.{Displace, Spend, Close, End}
 use Rattle.queue_steps.specs.declared.steps.Reply.{Reply}
-use Rattle.queue_steps.specs.declared.steps.Reply.TheVariants.{Done, Displaced, Full, Empty, Closed, Length}
+use Rattle.queue_steps.specs.declared.steps.Reply.TheVariants.{Done, Displaced, Full, Empty, Closed}
 
 module _ {T P : Type 0} where
   -- it is a seat of this ring, whose table has a slot for each place, the tail, the head and the stamps
@@ -130,9 +130,6 @@ module _ {T : Type 0} (manner : Manner) (shape : Shape) (x : T) (found : List �
   PushMade (Ok (Some y)) = (manner ≡ Forced) × (put_at manner shape found ≡ End Displaced)
   PushMade (Err e) = IsRefusal manner e.0 × (e.1 ≡ x) × (put_at manner shape found ≡ End e.0)
 
--- the length is read from the tail, the head, and the tail again
-abbrev pub IsLenTurn : Turn → Type 0
-IsLenTurn (HeadFor t) = Unit {0}
-IsLenTurn (TailAgain t h) = Unit {0}
-IsLenTurn (End (Length k)) = Unit {0}
-IsLenTurn _ = ⊥
+-- what a seat's view has while its look for the length stands at the head, behind the tail that it saw last
+abbrev pub LenStands : Shape → ℕ → Doing → Type 0
+LenStands shape tail d = (len_at shape d.found ≡ HeadFor tail) × (d.stage ≡ SawTail) × (d.word ≡ tail)

@@ -5,5 +5,5 @@ use Rattle.concurrent_queue.specs.declared.concurrent.Kept.TheVariants.{Single, 
 
 abbrev pub kept_capacity : {T : Type 0} → Kept T → Option ℕ
 kept_capacity (Single queue) = Some 1
-kept_capacity (Bounded queue capacity) = Some capacity
+kept_capacity (Bounded queue) = Some queue.shape.capacity
 kept_capacity (Unbounded queue) = None

@@ -1,5 +1,5 @@
 //! The ring that threads share without a lock: its words and its places stand in a table of atomic steps.
-ghost use Rattle.std.specs.Prelude.{◌≡◌, ◌<◌, ◌+◌, ◌^◌, Some, IfOk, OnOk, length, slice_index_or};
+ghost use Rattle.std.specs.Prelude.{◌≡◌, ◌<◌, ◌≤◌, ◌+◌, ◌^◌, Some, IfOk, IfSome, OnOk, length, slice_index_or};
 ghost use Rattle.concurrent_queue.specs.BoundedRule.{AreNewWords};
 ghost use Rattle.concurrent_queue.specs.SharedQueue.{MayPush, MayForcePush};
 ghost use Rattle.concurrent_queue.specs.BoundedSeat.{IsFreeSeatOf};
@@ -14,10 +14,9 @@ pub mod rule;
 use crate::glimpse::{Glimpse, TRIES};
 use crate::places::Places;
 use atomic_table::Table;
-use moves::{HEAD, Pass, STAMPS, TAIL, UNUSED};
+use moves::{HEAD, Pass, STAMPS, UNUSED};
 use plays::Look;
-use queue_steps::steps::Reply;
-use queue_steps::steps::bounded::{self as steps, Shape, Turn};
+use queue_steps::steps::bounded::Shape;
 use queue_steps::{ForcePushError, NoMemory, PopError, PushError};
 use rule::{BoundedRule, Doing};
 use std::alloc::Global;
@@ -100,7 +99,9 @@ impl<T> Bounded<T> {
         calls::close(self, &mut self.seat())
     }
 
-    pub(crate) fn len<R: Wait>(&self, rt: &R) -> usize {
+    pub(crate) fn len<R: Wait>(&self, rt: &R) -> usize
+        ensures { result ≤ self.now.shape.capacity }
+    {
         calls::len(rt, self, &mut self.seat())
     }
 
@@ -116,6 +117,13 @@ impl<T> Bounded<T> {
         calls::is_closed(self, &mut self.seat())
     }
 
+    /// How many places it has.
+    pub(crate) fn capacity(&self) -> usize
+        ensures { result ≡ self.now.shape.capacity }
+    {
+        self.board.slot_count()
+    }
+
     /// Its places, from the head on.
     pub(crate) fn take_apart(self) -> Places<T> {
         let head = self.shape.index(self.board.shared.peek(HEAD)) as usize;
@@ -129,19 +137,13 @@ impl<T> Bounded<T> {
 
     /// Its length and whether it is closed, each read at a moment of its own. It waits for nobody, and answers `None`
     /// where the tail moved at each of many tries.
-    pub(crate) fn glimpse(&self) -> Option<Glimpse> {
-        let board = &self.board.shared;
-        let mut turn = steps::len(self.shape, Turn::Tail, board.peek(TAIL));
-        for _ in 0..TRIES {
-            turn = steps::len(self.shape, turn, board.peek(HEAD));
-            turn = steps::len(self.shape, turn, board.peek(TAIL));
-            if let Turn::End(Reply::Length(len)) = turn {
-                return Some(Glimpse {
-                    len: len as usize,
-                    is_closed: self.is_closed(),
-                });
-            }
-        }
-        None
+    pub(crate) fn glimpse(&self) -> Option<Glimpse>
+        ensures { IfSome result (λ glimpse. glimpse.len ≤ self.now.shape.capacity) }
+    {
+        let len = calls::try_len(self, &mut self.seat(), TRIES)?;
+        Some(Glimpse {
+            len,
+            is_closed: self.is_closed(),
+        })
     }
 }

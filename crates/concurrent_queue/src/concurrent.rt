@@ -1,4 +1,4 @@
-ghost use Rattle.std.specs.Prelude.{◌≡◌, ◌<◌, Some, None, false, IfOk};
+ghost use Rattle.std.specs.Prelude.{◌≡◌, ◌<◌, ◌≤◌, Some, None, false, IfOk, IfSome};
 ghost use Rattle.concurrent_queue.specs.SharedQueue.{MayPush, MayForcePush};
 ghost use Rattle.concurrent_queue.specs.TryIter.{walked_queue};
 
@@ -26,8 +26,7 @@ pub struct ConcurrentQueue<T> {
 #[derive(Drop)]
 enum Kept<T> {
     Single(Single<T>),
-    // With its capacity.
-    Bounded(Bounded<T>, usize),
+    Bounded(Bounded<T>),
     Unbounded(Unbounded<T>),
 }
 
@@ -52,7 +51,7 @@ impl<T> ConcurrentQueue<T> {
         let kept = if cap == 1 {
             Kept::Single(Single::new(alloc)?)
         } else {
-            Kept::Bounded(Bounded::new(alloc, cap)?, cap)
+            Kept::Bounded(Bounded::new(alloc, cap)?)
         };
         Ok(ConcurrentQueue { kept })
     }
@@ -76,7 +75,7 @@ impl<T> ConcurrentQueue<T> {
     {
         match &self.kept {
             Kept::Single(slot) => slot.push(rt, value),
-            Kept::Bounded(ring, _) => ring.push(rt, value),
+            Kept::Bounded(ring) => ring.push(rt, value),
             Kept::Unbounded(chain) => chain.push(rt, value),
         }
     }
@@ -91,7 +90,7 @@ impl<T> ConcurrentQueue<T> {
     {
         match &self.kept {
             Kept::Single(slot) => slot.force_push(rt, value),
-            Kept::Bounded(ring, _) => ring.force_push(rt, value),
+            Kept::Bounded(ring) => ring.force_push(rt, value),
             Kept::Unbounded(chain) => chain.force_push(rt, value),
         }
     }
@@ -101,7 +100,7 @@ impl<T> ConcurrentQueue<T> {
     pub fn pop<R: Wait>(&self, rt: &R) -> Result<T, PopError> {
         match &self.kept {
             Kept::Single(slot) => slot.pop(rt),
-            Kept::Bounded(ring, _) => ring.pop(rt),
+            Kept::Bounded(ring) => ring.pop(rt),
             Kept::Unbounded(chain) => chain.pop(rt),
         }
     }
@@ -110,16 +109,18 @@ impl<T> ConcurrentQueue<T> {
     pub fn close<R: Wait>(&self, rt: &R) -> bool {
         match &self.kept {
             Kept::Single(slot) => slot.close(),
-            Kept::Bounded(ring, _) => ring.close(),
+            Kept::Bounded(ring) => ring.close(),
             Kept::Unbounded(chain) => chain.close(rt),
         }
     }
 
-    /// How many items are in the queue, at a moment of this call.
-    pub fn len<R: Wait>(&self, rt: &R) -> usize {
+    /// How many items are in the queue, at a moment of this call: of a bounded queue no more than its capacity.
+    pub fn len<R: Wait>(&self, rt: &R) -> usize
+        ensures { IfSome self.now.capacity (λ capacity. result ≤ capacity) }
+    {
         match &self.kept {
             Kept::Single(slot) => slot.len(),
-            Kept::Bounded(ring, _) => ring.len(rt),
+            Kept::Bounded(ring) => ring.len(rt),
             Kept::Unbounded(chain) => chain.len(rt),
         }
     }
@@ -128,7 +129,7 @@ impl<T> ConcurrentQueue<T> {
     pub fn is_empty<R: Wait>(&self, rt: &R) -> bool {
         match &self.kept {
             Kept::Single(slot) => slot.is_empty(),
-            Kept::Bounded(ring, _) => ring.is_empty(),
+            Kept::Bounded(ring) => ring.is_empty(),
             Kept::Unbounded(chain) => chain.is_empty(rt),
         }
     }
@@ -139,7 +140,7 @@ impl<T> ConcurrentQueue<T> {
     {
         match &self.kept {
             Kept::Single(slot) => slot.is_full(),
-            Kept::Bounded(ring, _) => ring.is_full(),
+            Kept::Bounded(ring) => ring.is_full(),
             Kept::Unbounded(chain) => chain.is_full(rt),
         }
     }
@@ -148,7 +149,7 @@ impl<T> ConcurrentQueue<T> {
     pub fn is_closed<R: Wait>(&self, rt: &R) -> bool {
         match &self.kept {
             Kept::Single(slot) => slot.is_closed(),
-            Kept::Bounded(ring, _) => ring.is_closed(),
+            Kept::Bounded(ring) => ring.is_closed(),
             Kept::Unbounded(chain) => chain.is_closed(rt),
         }
     }
@@ -159,7 +160,7 @@ impl<T> ConcurrentQueue<T> {
     {
         match &self.kept {
             Kept::Single(_) => Some(1),
-            Kept::Bounded(_, capacity) => Some(*capacity),
+            Kept::Bounded(ring) => Some(ring.capacity()),
             Kept::Unbounded(_) => None,
         }
     }
@@ -176,15 +177,17 @@ impl<T> ConcurrentQueue<T> {
     pub fn take_apart(self) -> Remains<T> {
         match self.kept {
             Kept::Single(slot) => Remains::of_places(slot.take_apart()),
-            Kept::Bounded(ring, _) => Remains::of_places(ring.take_apart()),
+            Kept::Bounded(ring) => Remains::of_places(ring.take_apart()),
             Kept::Unbounded(chain) => Remains::of_chain(chain.into_inner()),
         }
     }
 
-    fn glimpse(&self) -> Option<Glimpse> {
+    fn glimpse(&self) -> Option<Glimpse>
+        ensures { IfSome result (λ glimpse. IfSome self.now.capacity (λ capacity. glimpse.len ≤ capacity)) }
+    {
         match &self.kept {
             Kept::Single(slot) => Some(slot.glimpse()),
-            Kept::Bounded(ring, _) => ring.glimpse(),
+            Kept::Bounded(ring) => ring.glimpse(),
             Kept::Unbounded(chain) => chain.glimpse(),
         }
     }

@@ -1,5 +1,5 @@
 //! The single slot that threads share without a lock: its word and its slot stand in a table of atomic steps.
-ghost use Rattle.std.specs.Prelude.{◌≡◌, Some};
+ghost use Rattle.std.specs.Prelude.{◌≡◌, ◌≤◌, Some};
 ghost use Rattle.concurrent_queue.specs.SharedQueue.{MayPush, MayForcePush};
 ghost use Rattle.concurrent_queue.specs.SingleSeat.{IsSeatOf};
 
@@ -70,7 +70,9 @@ impl<T> Single<T> {
         calls::close(self, &mut self.seat())
     }
 
-    pub(crate) fn len(&self) -> usize {
+    pub(crate) fn len(&self) -> usize
+        ensures { result ≤ 1 }
+    {
         calls::len(self, &mut self.seat())
     }
 
@@ -92,7 +94,9 @@ impl<T> Single<T> {
     }
 
     /// Its length and whether it is closed, each read at a moment of its own.
-    pub(crate) fn glimpse(&self) -> Glimpse {
+    pub(crate) fn glimpse(&self) -> Glimpse
+        ensures { result.len ≤ 1 }
+    {
         Glimpse {
             len: self.len(),
             is_closed: self.is_closed(),

@@ -79,7 +79,9 @@ impl<T> Unbounded<T> {
         self.chain.into_inner()
     }
 
+    /// Its length and whether it is closed, read in one section of its lock. It waits for nobody, and answers `None`
+    /// where the lock wasn't free at any of many tries.
     pub(crate) fn glimpse(&self) -> Option<Glimpse> {
-        Glimpse::of(&self.chain)
+        Glimpse::under(&self.chain)
     }
 }

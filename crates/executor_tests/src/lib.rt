@@ -5,6 +5,8 @@
 #[cfg(test)]
 mod alone;
 #[cfg(test)]
+mod borrowed;
+#[cfg(test)]
 mod closing;
 #[cfg(test)]
 mod hello;

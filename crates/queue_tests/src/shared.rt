@@ -342,9 +342,9 @@ fn a_shared_walk_prints_its_queue(rt: HostRuntime) {
     );
 }
 
-// The length that a glimpse finds, and whether the queue is closed.
+// The length that a glimpse under a lock finds, and whether the queue is closed.
 fn glimpsed(lock: &Mutex<Unbounded<u64>>) -> Option<(usize, bool)> {
-    match Glimpse::of(lock) {
+    match Glimpse::under(lock) {
         Some(Glimpse { len, is_closed }) => Some((len, is_closed)),
         None => None,
     }

@@ -1,7 +1,8 @@
 //! The other calls on a ring: the close, and what a look at its words tells.
-ghost use Rattle.std.specs.Prelude.{◌≡◌, true, false};
+ghost use Rattle.std.specs.Prelude.{◌≡◌, ◌≤◌, true, false, IfSome, MatchResult};
 ghost use Rattle.concurrent_queue.specs.Answered.{says};
-ghost use Rattle.concurrent_queue.specs.BoundedSeat.{IsFreeSeatOf, StaysFree, close_at, len_at, is_empty_at, is_full_at, is_closed_at};
+ghost use Rattle.concurrent_queue.specs.BoundedSeat.{IsFreeSeatOf, StaysFree, LenStands, close_at, len_at, is_empty_at, is_full_at};
+ghost use Rattle.concurrent_queue.specs.BoundedSeat.{is_closed_at};
 ghost use Rattle.queue_steps.specs.declared.steps.Reply.TheVariants.{Length};
 ghost use Rattle.queue_steps.specs.declared.steps.bounded.Turn.TheVariants.{HeadFor, End};
 
@@ -26,34 +27,22 @@ pub fn close<T>(ring: &Bounded<T>, pass: &mut Pass<T>) -> bool
     )
 }
 
-// The length, once the tail that was looked at again had moved to this one.
-#[inline(never)]
-fn len_from<T, R: Wait>(rt: &R, ring: &Bounded<T>, pass: &mut Pass<T>, tail: u64) -> usize
+// Looks at the head behind a tail that was seen, and at the tail again: the length, or else the tail that it found.
+#[inline(always)]
+fn len_behind<T>(ring: &Bounded<T>, pass: &mut Pass<T>, tail: u64) -> Result<usize, u64>
     requires seat { IsFreeSeatOf ring.now.board.shared ring.now.shape pass.old }
-    requires stands { len_at ring.now.shape pass.old.me.0.found ≡ HeadFor tail }
+    requires stands { LenStands ring.now.shape tail pass.old.me.0 }
     ensures same { StaysFree pass.old pass.new }
-    ensures answers { len_at ring.now.shape pass.new.me.0.found ≡ End (Length result) }
+    ensures told { MatchResult result (λ len. (len_at ring.now.shape pass.new.me.0.found ≡ End (Length len)) × (len ≤ ring.now.shape.capacity))
+        (λ found. LenStands ring.now.shape found pass.new.me.0) }
 {
-    let mut turn = Turn::HeadFor(tail);
-    for _ in rt.forever() {
-        match turn {
-            Turn::HeadFor(_) => turn = steps::len(
-                ring.shape,
-                turn,
-                moves::look_at_head(&ring.board.shared, pass),
-            ),
-            Turn::TailAgain(_, _) => {
-                turn = steps::len(
-                    ring.shape,
-                    turn,
-                    moves::look_at_tail(&ring.board.shared, pass),
-                );
-            }
-            Turn::End(Reply::Length(len)) => return len as usize,
-            _ => unreachable!(),
-        }
+    let head = moves::look_behind(&ring.board.shared, pass);
+    let turn = steps::len(ring.shape, Turn::HeadFor(tail), head);
+    match steps::len(ring.shape, turn, moves::tail(&ring.board.shared, pass)) {
+        Turn::End(Reply::Length(len)) => Ok(len as usize),
+        Turn::HeadFor(found) => Err(found),
+        _ => unreachable!(),
     }
-    unreachable!()
 }
 
 /// How many items are in the ring, read while the tail stayed the same.
@@ -62,26 +51,33 @@ pub fn len<T, R: Wait>(rt: &R, ring: &Bounded<T>, pass: &mut Pass<T>) -> usize
     requires { IsFreeSeatOf ring.now.board.shared ring.now.shape pass.old }
     ensures same { StaysFree pass.old pass.new }
     ensures answers { len_at ring.now.shape pass.new.me.0.found ≡ End (Length result) }
+    ensures within { result ≤ ring.now.shape.capacity }
 {
-    let turn = steps::len(
-        ring.shape,
-        Turn::Tail,
-        moves::begin_tail(&ring.board.shared, pass),
-    );
-    let turn = steps::len(
-        ring.shape,
-        turn,
-        moves::look_at_head(&ring.board.shared, pass),
-    );
-    match steps::len(
-        ring.shape,
-        turn,
-        moves::look_at_tail(&ring.board.shared, pass),
-    ) {
-        Turn::End(Reply::Length(len)) => len as usize,
-        Turn::HeadFor(tail) => { len_from(rt, ring, pass, tail) }
-        _ => unreachable!(),
+    let mut tail = moves::begin_tail(&ring.board.shared, pass);
+    for _ in rt.forever() {
+        match len_behind(ring, pass, tail) {
+            Ok(len) => return len,
+            Err(found) => tail = found,
+        }
     }
+    unreachable!()
+}
+
+/// The same, or `None` where the tail moved at each of so many tries. It waits for nobody.
+pub(crate) fn try_len<T>(ring: &Bounded<T>, pass: &mut Pass<T>, tries: u32) -> Option<usize>
+    requires { IsFreeSeatOf ring.now.board.shared ring.now.shape pass.old }
+    ensures same { StaysFree pass.old pass.new }
+    ensures answers { IfSome result (λ len. len_at ring.now.shape pass.new.me.0.found ≡ End (Length len)) }
+    ensures within { IfSome result (λ len. len ≤ ring.now.shape.capacity) }
+{
+    let mut tail = moves::begin_tail(&ring.board.shared, pass);
+    for _ in 0..tries {
+        match len_behind(ring, pass, tail) {
+            Ok(len) => return Some(len),
+            Err(found) => tail = found,
+        }
+    }
+    None
 }
 
 pub fn is_empty<T>(ring: &Bounded<T>, pass: &mut Pass<T>) -> bool

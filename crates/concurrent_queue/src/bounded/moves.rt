@@ -1,7 +1,7 @@
 //! Each kind of step on a ring, as a function that is lent the table and a seat.
 ghost use Rattle.std.specs.Prelude.{◌≡◌, ℕ, ◌+◌, ◌*◌, ◌%◌, ◌^◌, ◌<◌, ◌≤◌, false, [], ◌∷◌, ◌++◌, ◌⊎◌, Option, Some, None};
 ghost use Rattle.queue_steps.specs.Bounded.{IsPlaceWord, next_at, is_marked};
-ghost use Rattle.concurrent_queue.specs.BoundedRule.{doing, saw_tail, saw_head, looked, looked_at_tail, appended, took, displaced};
+ghost use Rattle.concurrent_queue.specs.BoundedRule.{doing, saw_tail, saw_head, looked, looked_behind, looked_at_tail, appended, took, displaced};
 ghost use Rattle.concurrent_queue.specs.BoundedRule.{advanced, spent, closed};
 ghost use Rattle.concurrent_queue.specs.BoundedSeat.{IsSeatOf, IsSameSeat};
 ghost use Rattle.concurrent_queue.specs.declared.bounded.rule.Stage.TheVariants.{Idle, SawTail, SawHead, SawStamp, Writing, Reading};
@@ -45,6 +45,7 @@ pub fn begin_head<T>(board: &Board<T>, pass: &mut Pass<T>) -> u64
     board.load::<plays::BeginHead>(pass, HEAD)
 }
 
+#[inline(always)]
 pub fn tail<T>(board: &Board<T>, pass: &mut Pass<T>) -> u64
     requires { IsSeatOf board.now pass.old }
     ensures { IsSameSeat pass.old pass.new × saw_tail pass.old.me.0.found pass.old.me result pass.new.me }
@@ -75,6 +76,15 @@ pub fn look_at_head<T>(board: &Board<T>, pass: &mut Pass<T>) -> u64
     ensures { IsSameSeat pass.old pass.new × looked pass.old.me result pass.new.me }
 {
     board.load::<plays::Look>(pass, HEAD)
+}
+
+/// The same, and it is not too far behind the tail that was seen.
+#[inline(always)]
+pub fn look_behind<T>(board: &Board<T>, pass: &mut Pass<T>) -> u64
+    requires { IsSeatOf board.now pass.old }
+    ensures { IsSameSeat pass.old pass.new × looked_behind board.now.key.capacity pass.old.me result pass.new.me }
+{
+    board.load::<plays::LookBehind>(pass, HEAD)
 }
 
 /// Loads the stamp of the place at the tail that was seen.

@@ -1,6 +1,6 @@
 //! What each kind of step on a ring tells. These types are for the proofs alone.
 ghost use Rattle.std.specs.Prelude.{[]};
-ghost use Rattle.concurrent_queue.specs.BoundedRule.{saw_tail, saw_head, looked, looked_at_tail, stamped, appended, took, displaced};
+ghost use Rattle.concurrent_queue.specs.BoundedRule.{saw_tail, saw_head, looked, looked_behind, looked_at_tail, stamped, appended, took, displaced};
 ghost use Rattle.concurrent_queue.specs.BoundedRule.{advanced, spent, closed, gave};
 
 use crate::bounded::rule::Doing;
@@ -43,6 +43,13 @@ pub struct Look;
 
 impl<T> Play<Option<T>, Doing> for Look {
     ghost then = { λ s m r m'. looked m r m' };
+}
+
+/// The same of the head, which is at most as many places behind the tail that the seat saw as the ring has.
+pub struct LookBehind;
+
+impl<T> Play<Option<T>, Doing> for LookBehind {
+    ghost then = { λ s m r m'. looked_behind s.slots m r m' };
 }
 
 /// The same of the tail, of which the seat keeps too whether it has the mark.

@@ -1,5 +1,5 @@
 //! The other calls on a single slot: the close, and what a look at its word tells.
-ghost use Rattle.std.specs.Prelude.{◌≡◌, true, false};
+ghost use Rattle.std.specs.Prelude.{◌≡◌, ◌≤◌, true, false};
 ghost use Rattle.queue_steps.specs.declared.steps.Reply.TheVariants.{Length};
 ghost use Rattle.queue_steps.specs.declared.steps.single.Turn.TheVariants.{End};
 ghost use Rattle.concurrent_queue.specs.Answered.{says};
@@ -27,6 +27,7 @@ pub fn len<T>(slot: &Single<T>, pass: &mut Pass<T>) -> usize
     requires { IsSeatOf slot.now.board.shared pass.old }
     ensures same { IsSameSeat pass.old pass.new }
     ensures answers { len_at pass.new.me.0.found ≡ End (Length result) }
+    ensures within { result ≤ 1 }
 {
     match steps::len(Turn::Look, moves::begin(&slot.board.shared, pass)) {
         Turn::End(Reply::Length(len)) => len as usize,

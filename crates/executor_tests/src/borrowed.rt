@@ -3,14 +3,18 @@ use async_executor::Executor;
 use async_task::{Awaiter, Future, Nobody, Poll, Realm, Wake};
 use std::test::Fail;
 
+/// A text that is borrowed.
+#[derive(Clone, Copy)]
+struct Text(&'static str);
+
 /// Gives its text.
 #[derive(Drop)]
-struct Says(&'static str);
+struct Says(Text);
 
 impl<K: Wake> Future<K> for Says {
-    type Output = &'static str;
+    type Output = Text;
 
-    fn poll(&mut self, _waker: &K) -> Poll<&'static str> {
+    fn poll(&mut self, _waker: &K) -> Poll<Text> {
         Poll::Ready(self.0)
     }
 }
@@ -18,15 +22,15 @@ impl<K: Wake> Future<K> for Says {
 #[test]
 fn a_borrowed_text_outlives_its_executor(rt: HostRuntime) -> Result<(), Fail> {
     let (alloc, realm) = (rt.alloc(), Realm::leak(rt.alloc(), 0)?);
-    let executor = Executor::<Says, &'static str, Nobody, HostRuntime>::new(rt, alloc, realm, 1)?;
-    let Ok(task) = executor.spawn(Says("hello")) else {
+    let executor = Executor::<Says, Text, Nobody, HostRuntime>::new(rt, alloc, realm, 1)?;
+    let Ok(task) = executor.spawn(Says(Text("hello"))) else {
         panic!(rt; "refused");
     };
     let has_ticked = executor.try_tick();
     drop(executor);
     let mut task = task;
     let is_given = match task.poll(&Awaiter::Outside(Nobody)) {
-        Poll::Ready(Ok(text)) => text == "hello",
+        Poll::Ready(Ok(Text(text))) => text == "hello",
         _ => false,
     };
     assert!(rt; has_ticked & is_given);

@@ -1,8 +1,8 @@
 -- What a fault is to whoever started the program: a status, and a text on standard error.
 use Rattle.std.specs.Prelude.{ℕ, List, ◌++◌, codes}
 use Rattle.std.specs.Fmt.{decimal}
-use Rattle.taskrun.specs.declared.fault.Fault.{Fault}
-use Rattle.taskrun.specs.declared.fault.Fault.TheVariants.{Missing, BadLine, Usage, NoMemory, NoThread, ReadFailed, WriteFailed}
+use Rattle.commands.specs.declared.fault.Fault.{Fault}
+use Rattle.commands.specs.declared.fault.Fault.TheVariants.{Missing, BadLine, Usage, NoMemory, NoThread, ReadFailed, WriteFailed}
 use Rattle.text_lines.specs.declared.error.ParseError.{ParseError}
 use Rattle.text_lines.specs.declared.error.ParseError.TheVariants as parse
 use Rattle.job_answers.specs.declared.errors.JobsError.{JobsError}

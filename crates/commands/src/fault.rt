@@ -27,7 +27,7 @@ pub enum Fault {
 }
 
 impl Fault {
-    ghost use Rattle.taskrun.specs.Fault.{status_of};
+    ghost use Rattle.commands.specs.Fault.{status_of};
 
     /// The status that the program exits with: 1 for a job that is missing, 2 for wrong arguments or a wrong input, 3 for a
     /// want of memory or threads, 4 for a failed read or write. Takes no memory.
@@ -44,7 +44,7 @@ impl Fault {
 }
 
 impl fmt::Display for Fault {
-    ghost use Rattle.taskrun.specs.Fault.{text_of};
+    ghost use Rattle.commands.specs.Fault.{text_of};
 
     ghost output = { λ fault. Some (text_of fault) };
 
@@ -64,7 +64,7 @@ impl fmt::Display for Fault {
 impl Error for Fault {}
 
 impl From<AllocError> for Fault {
-    ghost use Rattle.taskrun.specs.declared.fault.Fault.TheVariants.{NoMemory};
+    ghost use Rattle.commands.specs.declared.fault.Fault.TheVariants.{NoMemory};
 
     ghost from_gives = { λ _ fault. fault ≡ NoMemory };
 
@@ -74,7 +74,7 @@ impl From<AllocError> for Fault {
 }
 
 impl From<ParseError> for Fault {
-    ghost use Rattle.taskrun.specs.Fault.{fault_of};
+    ghost use Rattle.commands.specs.Fault.{fault_of};
 
     ghost from_gives = { λ error fault. fault ≡ fault_of error };
 
@@ -87,7 +87,7 @@ impl From<ParseError> for Fault {
 }
 
 impl From<JobsError> for Fault {
-    ghost use Rattle.taskrun.specs.Fault.{fault_of_jobs};
+    ghost use Rattle.commands.specs.Fault.{fault_of_jobs};
 
     ghost from_gives = { λ error fault. fault ≡ fault_of_jobs error };
 

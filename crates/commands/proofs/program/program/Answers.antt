@@ -1,7 +1,7 @@
 use Rattle.std.proofs.Common.{◌≡◌, ◌≢◌, Err, Option, None, Some, IfSome}
-use Rattle.taskrun.specs.declared.fault.Fault.TheVariants.{BadLine}
-use Rattle.taskrun.specs.declared.words.Asked.TheVariants.{Sim, Jobs}
-use Rattle.taskrun.proofs.program.program.Goals as goal
+use Rattle.commands.specs.declared.fault.Fault.TheVariants.{BadLine}
+use Rattle.commands.specs.declared.words.Asked.TheVariants.{Sim, Jobs}
+use Rattle.commands.proofs.program.program.Goals as goal
 
 -- what ends on a fault that no good input has is no good input
 not_good : {X Y : Type 0} (input : Option X) (IsBad IsGood : X → Type 0) (result fault : Y)

@@ -4,9 +4,9 @@ use Rattle.text_lines.specs.Number.{IsNumber}
 use Rattle.simulator.specs.Answer.{IsAnswer, IsGoodInput}
 use Rattle.script.specs.BadLine.{IsFirstBadLine}
 use Rattle.job_lines.specs.Lines as lines
-use Rattle.taskrun.specs.Jobs.{IsAnswerToJobs, MissesJob, SaysJobs}
-use Rattle.taskrun.specs.declared.words.Asked.{Asked}
-use Rattle.taskrun.specs.declared.words.Asked.TheVariants.{Sim, Jobs}
+use Rattle.commands.specs.Jobs.{IsAnswerToJobs, MissesJob, SaysJobs}
+use Rattle.commands.specs.declared.words.Asked.{Asked}
+use Rattle.commands.specs.declared.words.Asked.TheVariants.{Sim, Jobs}
 
 -- the one word `sim`, or `jobs` and a number of 1 to 64
 abbrev pub AskFor : List (List ℕ) → Asked → Type 0

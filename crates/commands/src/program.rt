@@ -1,7 +1,7 @@
 ghost use Rattle.std.specs.Prelude.{◌≡◌, ◌≢◌, ◌↔◌, ℕ, Err, IfErr, IfSome, OnOk, map, string_bytes};
 ghost use Rattle.std.specs.Io.KnownBytes.{IsAtEnd};
-ghost use Rattle.taskrun.specs.Asked.{AskFor, IsBadFor, IsGoodFor, MissesFor};
-ghost use Rattle.taskrun.specs.Writes.{WritesFor};
+ghost use Rattle.commands.specs.Asked.{AskFor, IsBadFor, IsGoodFor, MissesFor};
+ghost use Rattle.commands.specs.Writes.{WritesFor};
 
 use crate::fault::Fault;
 use crate::job_list::jobs;
@@ -61,6 +61,8 @@ where
     }
 }
 
+#[cfg(test)]
+mod faults;
 #[cfg(test)]
 mod job_tests;
 #[cfg(test)]

@@ -3,7 +3,7 @@
 ghost use Rattle.std.specs.Prelude.{◌≡◌, ◌≢◌, ℕ, Err, IfErr, IfSome, OnOk};
 ghost use Rattle.std.specs.Io.KnownBytes.{IsAtEnd};
 ghost use Rattle.simulator.specs.Answer.{IsGoodInput};
-ghost use Rattle.taskrun.specs.Writes.{WritesAnswer};
+ghost use Rattle.commands.specs.Writes.{WritesAnswer};
 ghost use Rattle.script.specs.BadLine.{IsFirstBadLine};
 
 use crate::fault::Fault;

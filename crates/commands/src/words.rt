@@ -1,7 +1,7 @@
 //! The words behind the program's name.
 
 ghost use Rattle.std.specs.Prelude.{◌≡◌, ◌≤◌, ◌∷◌, [], ℕ, IfNone, IfSome, map, string_bytes};
-ghost use Rattle.taskrun.specs.Asked.{AskFor};
+ghost use Rattle.commands.specs.Asked.{AskFor};
 ghost use Rattle.text_lines.specs.Number.{IsNumber};
 
 use text_lines::read_number;

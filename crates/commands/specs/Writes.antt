@@ -2,9 +2,9 @@
 use Rattle.std.specs.Prelude.{ℕ, List, Option}
 use Rattle.std.specs.Io.KnownBytes.{Appends}
 use Rattle.simulator.specs.Answer.{IsAnswer}
-use Rattle.taskrun.specs.Asked.{IsAnswerFor}
-use Rattle.taskrun.specs.Jobs.{IsAnswerToJobs}
-use Rattle.taskrun.specs.declared.words.Asked.{Asked}
+use Rattle.commands.specs.Asked.{IsAnswerFor}
+use Rattle.commands.specs.Jobs.{IsAnswerToJobs}
+use Rattle.commands.specs.declared.words.Asked.{Asked}
 
 -- the answer to the script that was read was written behind the other bytes
 abbrev pub WritesAnswer : List ℕ → Option (List ℕ) → Option (List ℕ) → Type 0

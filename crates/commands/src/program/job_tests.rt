@@ -244,21 +244,29 @@ fn ones(alloc: Global, lines: u64) -> Result<Vec<u8>, AllocError> {
 }
 
 #[test]
-fn a_hundred_thousand_lines_are_done_and_one_more_is_bad(rt: HostRuntime) -> Result<(), Fail> {
+fn a_hundred_thousand_lines_are_done(rt: HostRuntime) -> Result<(), Fail> {
     let realm = JobRealm::<HostRuntime>::leak(rt.alloc(), 0)?;
     let most = ones(rt.alloc(), 100_000)?;
-    let mut reader = most.as_slice();
-    let mut written = Vec::new(rt.alloc());
-    let ended = end::<HostPlace, HostRuntime, _, _>(
-        rt,
-        rt.alloc(),
-        realm,
-        &["jobs", "4"],
-        &mut reader,
-        &mut written,
-    );
-    // A digit for each of the first ten numbers, two for the next 90 and so on, a blank, the answer and the line's end.
-    same(&rt, (ended, written.len()), (Ok(()), 488_890 + 300_000));
+    for workers in ["1", "4", "64"] {
+        let mut reader = most.as_slice();
+        let mut written = Vec::new(rt.alloc());
+        let ended = end::<HostPlace, HostRuntime, _, _>(
+            rt,
+            rt.alloc(),
+            realm,
+            &["jobs", workers],
+            &mut reader,
+            &mut written,
+        );
+        // A digit for each of the first ten numbers, two for the next 90 and so on, a blank, the answer and the line's end.
+        same(&rt, (ended, written.len()), (Ok(()), 488_890 + 300_000));
+    }
+    Ok(())
+}
+
+#[test]
+fn the_line_after_a_hundred_thousand_is_bad(rt: HostRuntime) -> Result<(), Fail> {
+    let realm = JobRealm::<HostRuntime>::leak(rt.alloc(), 0)?;
     let more = ones(rt.alloc(), 100_001)?;
     let is_so = shows::<HostPlace, HostRuntime>(
         rt,

@@ -3,8 +3,8 @@
 ghost use Rattle.std.specs.Prelude.{◌≡◌, ◌≢◌, ◌<◌, ◌≤◌, ℕ, Err, IfErr, IfOk, IfSome, OnOk};
 ghost use Rattle.std.specs.Io.KnownBytes.{IsAtEnd};
 ghost use Rattle.job_lines.specs.Lines.{IsFirstBadLine};
-ghost use Rattle.taskrun.specs.Jobs.{IsAnswerToJobs, IsFaultOf, MissesJob, SaysJobs};
-ghost use Rattle.taskrun.specs.Writes.{WritesAnswers};
+ghost use Rattle.commands.specs.Jobs.{IsAnswerToJobs, IsFaultOf, MissesJob, SaysJobs};
+ghost use Rattle.commands.specs.Writes.{WritesAnswers};
 
 use crate::fault::Fault;
 use crate::input;

@@ -4,8 +4,8 @@ use Rattle.job_answers.specs.Answers.{answer_of}
 use Rattle.job_answers.specs.declared.job.Job.{Job}
 use Rattle.job_lines.specs.Lines.{Says, IsFirstBadLine, answers_text}
 use Rattle.jobs.specs.Coming.{CameBackUpTo}
-use Rattle.taskrun.specs.declared.fault.Fault.{Fault}
-use Rattle.taskrun.specs.declared.fault.Fault.TheVariants.{Missing, BadLine, Usage, NoMemory, NoThread, ReadFailed, WriteFailed}
+use Rattle.commands.specs.declared.fault.Fault.{Fault}
+use Rattle.commands.specs.declared.fault.Fault.TheVariants.{Missing, BadLine, Usage, NoMemory, NoThread, ReadFailed, WriteFailed}
 
 -- the input is a list of jobs
 abbrev pub SaysJobs : List ℕ → Type 0

@@ -1,5 +1,5 @@
-use Rattle.taskrun.proofs.Ranges.{says_in_range, says_few}
-use Rattle.taskrun.proofs.job_list.answers.Goals as goal
+use Rattle.commands.proofs.Ranges.{says_in_range, says_few}
+use Rattle.commands.proofs.job_list.answers.Goals as goal
 
 pub run_jobs-requires-clause-ranges : goal.run_jobs-requires-clause-ranges
 run_jobs-requires-clause-ranges g c κs within =

@@ -1,7 +1,7 @@
 use Rattle.std.proofs.Common.{◌≡◌, ℕ, ◌<◌, ◌≤◌, Bool, true, List, [], ◌∷◌, length, map, get_or, ap, sym, ◌∙◌, arith, string_bytes}
 use Rattle.std.proofs.lemmas.Slice.Eq.{bytes_eq-Decides}
 use Rattle.std.specs.Str.{bytes_eq}
-use Rattle.taskrun.proofs.words.read_words.Goals as goal
+use Rattle.commands.proofs.words.read_words.Goals as goal
 
 -- a list of one word, each word seen as its bytes
 map_one : {X : Type 0} (f : X → List ℕ) (words : List X) (word : X)

@@ -1,12 +1,14 @@
-//! Does two jobs on two workers. One request for memory may be refused meanwhile: then the answer is want of memory or of
-//! threads, and the same two jobs are done once more, which has to be well.
+//! Does what `taskrun jobs 2` does: reads two jobs, does them on two workers and writes their answers. One request for memory
+//! may be refused meanwhile: then the fault is want of memory or of threads, its status 3, nothing was written, and the same is
+//! done once more, which has to be well.
 //!
 //! Standard input has as many bytes as requests are made first, for nothing: so the same program meets a refusal wherever
 //! `tools/refuse-memory` wants it. It prints whether one was met, and has status 1 where an answer was wrong.
 #![tactic(auto)]
 
-use jobs::{Answer, Job, JobPlace, JobRealm, JobsError, Open, Place, run_jobs};
-use std::alloc::{AllocGlobal, Global};
+use commands::program::program;
+use jobs::{JobPlace, JobRealm, Open, Place};
+use std::alloc::{AllocError, AllocGlobal, Global};
 use std::io::Read;
 use std::process::ExitCode;
 use std::sync::Wait;
@@ -25,7 +27,7 @@ fn main(rt: HostRuntime) -> ExitCode {
     let ended = try_twice::<JobPlace<Open, HostRuntime>, HostRuntime>(rt, rt.alloc(), realm);
     let word = match ended {
         Ended::Wrong => return ExitCode::FAILURE,
-        Ended::Refused => "run_jobs",
+        Ended::Refused => "program",
         Ended::Well if !has_realm => "realm",
         Ended::Well => "nothing",
     };
@@ -45,6 +47,15 @@ fn spend<I: Read>(alloc: Global, reader: &mut I) {
     }
 }
 
+/// What is read.
+const TWO_JOBS: &str = "sum 10\nmul 18446744073709551615 2\n";
+
+/// What has to be written.
+const TWO_ANSWERS: &str = "0 55\n1 too large\n";
+
+/// The status of want of memory or of threads.
+const REFUSED: u8 = 3;
+
 /// How the jobs ended.
 #[derive(Clone, Copy, PartialEq, Eq)]
 enum Ended {
@@ -52,7 +63,7 @@ enum Ended {
     Well,
     /// Something was refused.
     Refused,
-    /// With other answers, or with a job that is missing.
+    /// With other answers, with another fault, or with some of the answers written at a fault.
     Wrong,
 }
 
@@ -76,11 +87,23 @@ where
     P: Place<R, Gate = Open> + Sync + Drop,
     R: Threads + Sync + Wait + Copy + Drop + 'static,
 {
-    let list = [Job::Sum(10), Job::Mul(u64::MAX, 2)];
-    let want = [Answer::Value(55), Answer::TooLarge];
-    match run_jobs::<P, R>(rt, alloc, realm, &list, 2, Open) {
-        Ok(answers) if answers.as_slice() == want.as_slice() => Ended::Well,
-        Err(JobsError::NoMemory | JobsError::NoThread) => Ended::Refused,
-        Ok(_) | Err(JobsError::Missing(_)) => Ended::Wrong,
+    let (Ok(words), Ok(mut written)) = (words(alloc), Vec::with_capacity(alloc, TWO_ANSWERS.len()))
+    else {
+        return Ended::Refused;
+    };
+    let mut reader = TWO_JOBS.as_bytes();
+    match program::<P, R, _, _>(rt, alloc, realm, &words, &mut reader, &mut written) {
+        Ok(()) if written.as_slice() == TWO_ANSWERS.as_bytes() => Ended::Well,
+        Err(fault) if fault.status() == REFUSED && written.is_empty() => Ended::Refused,
+        _ => Ended::Wrong,
     }
+}
+
+/// The arguments behind the program's name.
+fn words(alloc: Global) -> Result<Vec<String>, AllocError> {
+    let mut words = Vec::new(alloc);
+    for word in ["jobs", "2"] {
+        words.push(String::from_str(alloc, word)?)?;
+    }
+    Ok(words)
 }

@@ -5,6 +5,8 @@ mod gate;
 mod place;
 mod running;
 mod site;
+#[cfg(test)]
+mod tests;
 mod work;
 mod worker;
 

@@ -7,7 +7,7 @@ ghost use Rattle.jobs.specs.Coming.{AllCameBack, CameBackUpTo};
 use crate::place::{Labor, Place};
 use crate::site::JobRealm;
 use async_task::NoMemory;
-use job_answers::{Answer, Job, JobsError, Results, Solved};
+use job_answers::{Answer, Job, JobsError, Solved, gather};
 use std::alloc::Global;
 use std::sync::Wait;
 use std::thread::{self, Threads};
@@ -18,7 +18,6 @@ use std::thread::{self, Threads};
 ///    it on one executor, awaits its handle and pops the next.
 /// 2. Where a thread couldn't be started, those that were are joined, and the answer is `NoThread`; where one met a want of
 ///    memory it is `NoMemory`; where a job didn't come back once it is `Missing` with the least such number.
-#[tactic(auto, using(crate::proofs::Coming::all_came_back, crate::proofs::Coming::came_back_up_to))]
 pub fn run_jobs<P, R>(
     rt: R,
     alloc: Global,
@@ -42,15 +41,8 @@ where
         Ok(place) => place,
         Err(NoMemory) => return Err(JobsError::NoMemory),
     };
-    let mut results = match Results::new(alloc, jobs) {
-        Ok(results) => results,
-        Err(_) => return Err(JobsError::NoMemory),
-    };
     match work_together(&rt, alloc, &place, workers) {
-        Ok(returned) => {
-            note_all(&mut results, &returned);
-            results.in_order(alloc)
-        }
+        Ok(returned) => gather(alloc, jobs, &returned),
         Err(Refusal::NoThread) => Err(JobsError::NoThread),
         Err(Refusal::NoMemory) => Err(JobsError::NoMemory),
     }
@@ -61,23 +53,6 @@ where
 enum Refusal {
     NoThread,
     NoMemory,
-}
-
-/// Notes that these jobs came back, to whichever worker.
-fn note_all(results: &mut Results<'_>, returned: &[Vec<Solved>])
-    ensures { results.new.jobs.now ≡ results.old.jobs.now }
-{
-    for solved in returned {
-        note_each(results, solved);
-    }
-}
-
-fn note_each(results: &mut Results<'_>, solved: &[Solved])
-    ensures { results.new.jobs.now ≡ results.old.jobs.now }
-{
-    for one in solved {
-        results.note(one);
-    }
 }
 
 /// Starts the workers, and joins those that were started. What came back to each.

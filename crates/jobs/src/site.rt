@@ -129,6 +129,21 @@ where
     }
 }
 
+impl<G, R> Site<G, R>
+where
+    G: Drop,
+    R: Wait + Copy + Drop + 'static,
+{
+    /// Drops the handle of a job that is awaited no more, which cancels it.
+    pub(crate) fn give_up(&self, awaited: Option<StoredTask>) {
+        if let Some(stored) = awaited {
+            if let Some(task) = stored.redeem(self.rt, self.realm) {
+                drop(task);
+            }
+        }
+    }
+}
+
 /// An unbounded queue with these jobs, numbered from 0, which is closed.
 fn queue_of<R: Wait>(
     rt: &R,

@@ -7,7 +7,8 @@ use std::sync::Wait;
 
 /// A worker's future: it pops a job, spawns it, awaits its handle, and pops the next. Where no job is left it is ready, with
 /// those that came back to it; where it met a want of memory it is ready with that.
-#[derive(Drop)]
+///
+/// Its drop drops the handle that it awaits, which cancels that job.
 pub struct Worker<'e, G, R>
 where
     G: Drop,
@@ -30,6 +31,22 @@ where
             awaited: None,
             solved,
         }
+    }
+}
+
+impl<G, R> Drop for Worker<'_, G, R>
+where
+    G: Drop,
+    R: Wait + Copy + Drop + 'static,
+{
+    fn drop(self) {
+        let Worker {
+            site,
+            awaited,
+            solved,
+        } = self;
+        site.give_up(awaited);
+        drop(solved);
     }
 }
 

@@ -2,17 +2,9 @@
 //! prints what they do, line by line.
 #![tactic(auto)]
 
-mod fault;
-mod input;
-mod job_list;
-mod output;
-mod program;
-mod sim;
-mod words;
-
-use fault::Fault;
+use commands::Fault;
+use commands::program::program;
 use jobs::{JobPlace, JobRealm, Open, Place};
-use program::program;
 use std::alloc::Global;
 use std::io::ErrorKind;
 use std::process::ExitCode;

@@ -1,5 +1,6 @@
 //! The moves of a task that stand for themselves.
-ghost use Rattle.std.specs.Prelude.{◌≡◌, ◌≢◌, ℕ, ◌+◌, ◌-◌, ◌^◌, ◌<◌, ◌≤◌, ◌++◌, true, false, not, Some, None, List, [], ◌∷◌, length, reverse, vec_len, vec_capacity};
+ghost use Rattle.std.specs.Prelude.{◌≡◌, ◌≢◌, ℕ, ◌+◌, ◌-◌, ◌^◌, ◌<◌, ◌≤◌, ◌++◌, true, false, not, Some, None, List, [], ◌∷◌, length};
+ghost use Rattle.std.specs.Prelude.{reverse, vec_len, vec_capacity};
 ghost use Rattle.task_moves.specs.Moves as moves;
 ghost use Rattle.executor_model.specs.Acts as acts;
 ghost use Rattle.executor_model.specs.Carried as carried;
@@ -24,7 +25,8 @@ pub fn release(store: &mut Store, todo: &mut Vec<Op>, f: u64)
     requires room { HasRoom store.old }
     requires space { HasSpace todo.old }
     requires needs { IsHeld (world_of store.old) f }
-    ensures { Does (carried.carried (world_of store.old) f (moves.release (task (world_of store.old) f))) store.new todo.old.items todo.new.items }
+    ensures { Does (carried.carried (world_of store.old) f (moves.release (task (world_of store.old) f)))
+        store.new todo.old.items todo.new.items }
 {
     let state = state_of(store, f);
     carry_out(store, todo, f, moves::release(state));
@@ -35,7 +37,8 @@ pub fn settle_closed(store: &mut Store, todo: &mut Vec<Op>, f: u64)
     requires room { HasRoom store.old }
     requires space { HasSpace todo.old }
     requires needs { IsKnown (world_of store.old) f }
-    ensures { Does (carried.carried (world_of store.old) f (moves.settle_closed (task (world_of store.old) f))) store.new todo.old.items todo.new.items }
+    ensures { Does (carried.carried (world_of store.old) f (moves.settle_closed (task (world_of store.old) f)))
+        store.new todo.old.items todo.new.items }
 {
     let state = state_of(store, f);
     carry_out(store, todo, f, moves::settle_closed(state));
@@ -46,7 +49,8 @@ pub fn give_up(store: &mut Store, todo: &mut Vec<Op>, f: u64)
     requires room { HasRoom store.old }
     requires space { HasSpace todo.old }
     requires needs { IsHeld (world_of store.old) f }
-    ensures { Does (carried.carried (world_of store.old) f (moves.give_up (task (world_of store.old) f))) store.new todo.old.items todo.new.items }
+    ensures { Does (carried.carried (world_of store.old) f (moves.give_up (task (world_of store.old) f)))
+        store.new todo.old.items todo.new.items }
 {
     let state = state_of(store, f);
     carry_out(store, todo, f, moves::give_up(state));
@@ -57,7 +61,8 @@ pub fn end_ready(store: &mut Store, todo: &mut Vec<Op>, f: u64)
     requires room { HasRoom store.old }
     requires space { HasSpace todo.old }
     requires needs { IsKnown (world_of store.old) f }
-    ensures { Does (carried.carried (world_of store.old) f (moves.end_ready (task (world_of store.old) f))) store.new todo.old.items todo.new.items }
+    ensures { Does (carried.carried (world_of store.old) f (moves.end_ready (task (world_of store.old) f)))
+        store.new todo.old.items todo.new.items }
 {
     let state = state_of(store, f);
     carry_out(store, todo, f, moves::end_ready(state));
@@ -68,7 +73,8 @@ pub fn end_pending(store: &mut Store, todo: &mut Vec<Op>, f: u64)
     requires room { HasRoom store.old }
     requires space { HasSpace todo.old }
     requires needs { IsHeld (world_of store.old) f }
-    ensures { Does (carried.carried (world_of store.old) f (moves.end_pending (task (world_of store.old) f))) store.new todo.old.items todo.new.items }
+    ensures { Does (carried.carried (world_of store.old) f (moves.end_pending (task (world_of store.old) f)))
+        store.new todo.old.items todo.new.items }
 {
     let state = state_of(store, f);
     carry_out(store, todo, f, moves::end_pending(state));
@@ -79,7 +85,8 @@ pub fn end_closed(store: &mut Store, todo: &mut Vec<Op>, f: u64)
     requires room { HasRoom store.old }
     requires space { HasSpace todo.old }
     requires needs { IsKnown (world_of store.old) f }
-    ensures { Does (carried.carried (world_of store.old) f (moves.end_closed (task (world_of store.old) f))) store.new todo.old.items todo.new.items }
+    ensures { Does (carried.carried (world_of store.old) f (moves.end_closed (task (world_of store.old) f)))
+        store.new todo.old.items todo.new.items }
 {
     let state = state_of(store, f);
     carry_out(store, todo, f, moves::end_closed(state));
@@ -90,7 +97,8 @@ pub fn drop_runnable(store: &mut Store, todo: &mut Vec<Op>, f: u64)
     requires room { HasRoom store.old }
     requires space { HasSpace todo.old }
     requires needs { IsKnown (world_of store.old) f }
-    ensures { Does (carried.carried (world_of store.old) f (moves.drop_runnable (task (world_of store.old) f))) store.new todo.old.items todo.new.items }
+    ensures { Does (carried.carried (world_of store.old) f (moves.drop_runnable (task (world_of store.old) f)))
+        store.new todo.old.items todo.new.items }
 {
     let state = state_of(store, f);
     carry_out(store, todo, f, moves::drop_runnable(state));

@@ -55,9 +55,6 @@ asked-enter = by_bool _
     (λ p w g r bb h. grind arith)
     (λ p w g r bb h. grind (arith, same_is, fresh_is, read_push, times-append, length-append, request-push, phase-push)))
 
-asked-look_at_table : (w : World) → KeepsAsked w (op.LookAtTable ∷ []) (look_at_table w)
-asked-look_at_table w g r bb h = grind arith
-
 asked-take_to_poll : (w : World) (f : ℕ) → KeepsAsked w (op.TakeToPoll f ∷ []) (take_to_poll w f)
 asked-take_to_poll w f g r bb h = grind (arith, same_is)
 
@@ -347,9 +344,6 @@ asked-wake_next = by_bool _
     (λ p w f y m e q i g r bb h. let k : IsUnmarked (task w f) = unmarked (task w f) e in grind (arith, same_is, read_put, length-set, request-push, phase-push))
     (λ u us p w f y m e q i g r bb h. let k : IsUnmarked (task w f) = unmarked (task w f) e in grind (arith, same_is, read_put, length-set, request-push, phase-push)))))
 
-asked-close : (w : World) → KeepsAsked w (op.Close ∷ []) (close w)
-asked-close w g r bb h = grind arith
-
 asked-drain : (q : List ℕ) (p : ℕ) (w : World) → w.queue.items ≡ q → KeepsAsked w (op.Drain ∷ []) (drain_by p w q)
 asked-drain = by_list _
     (λ p w e g r bb h. grind (arith, request-push, phase-push))
@@ -411,9 +405,6 @@ asked-call : (p : ℕ) (w : World) (f : ℕ) (a : Waker) (k : ℕ) → past (len
 asked-call p w f (Task m) k z = asked-call_task (moves.is_over (task w m)) _ _ p f k w m refl refl refl (below _ m (omega (arith, z)))
 asked-call p w f (Outside x) k z = asked-call_outside p w f x k
 
-asked-same : (w : World) (old : List Op) → KeepsAsked w old (done w old)
-asked-same w old g r bb h = h
-
 first_known : (w : World) → pasts (length w.tasks) w.waking ≡ 0 → (f : ℕ) (rest : List ℕ) → w.waking ≡ f ∷ rest → f < length w.tasks
 first_known w u f rest e = let z : past (length w.tasks) f + pasts (length w.tasks) rest ≡ 0 = sym (ap (pasts (length w.tasks)) e) ∙ u in below _ f (omega (arith, z))
 
@@ -426,7 +417,6 @@ NeedsOver w _ = Unit {0}
 pub asked-act : (p : ℕ) (h : Hint) (o : Op) (w : World) → length w.awaiters ≡ length w.tasks → pasts (length w.tasks) w.waking ≡ 0 → weigh (past_of (length w.tasks)) (o ∷ []) ≡ 0 → NeedsOver w o → KeepsAsked w (o ∷ []) (act p h o w)
 asked-act p h op.Enter w n u z m = asked-enter _ _ p w
 asked-act p h op.Take w n u z m = asked-take _ w refl
-asked-act p h op.LookAtTable w n u z m = asked-look_at_table w
 asked-act p h (op.Append f) w n u z m = asked-append _ w f
 asked-act p h (op.WakeByReference f) w n u z m = asked-wake_by_reference (moves.is_over (task w f)) _ _ p w f refl refl refl (own _ f (op.WakeByReference f) (omega arith) z)
 asked-act p h (op.Wake f) w n u z m = asked-wake (moves.is_over (task w f)) _ _ p w f refl refl refl (own _ f (op.Wake f) (omega arith) z)
@@ -441,14 +431,11 @@ asked-act p h (op.DropRunnable f) w n u z m = asked-drop_runnable _ _ w f refl r
 asked-act p h (op.Cancel f) w n u z m = asked-cancel _ _ p w f refl refl (own _ f (op.Cancel f) (omega arith) z)
 asked-act p h (op.Detach f) w n u z m = asked-detach _ _ _ p w f refl refl (own _ f (op.Detach f) (omega arith) z)
 asked-act p h (op.TakeToPoll f) w n u z m = asked-take_to_poll w f
-asked-act p h (op.Poll f) w n u z m = asked-same w (op.Poll f ∷ [])
 asked-act p h (op.PutBack f) w n u z m = asked-put_back w f
 asked-act p h (op.TakeToDrop f) w n u z m = asked-take_to_drop w f
 asked-act p h (op.BeginDrop f) w n u z m = asked-begin_drop p w f
-asked-act p h (op.Drop f) w n u z m = asked-same w (op.Drop f ∷ [])
 asked-act p h (op.LeaveTable f) w n u z m = asked-leave _ w f refl
 asked-act p h (op.BeginDropOutput f) w n u z m = asked-begin_drop_output p w f
-asked-act p h (op.DropOutput f) w n u z m = asked-same w (op.DropOutput f ∷ [])
 asked-act p h (op.CopyWaker f held) w n u z m = asked-copy _ w f held (own _ f (op.CopyWaker f held) (omega arith) z)
 asked-act p h (op.Look f a) w n u z m = asked-look _ _ _ p w f a refl (own _ f (op.Look f a) (omega arith) z)
 asked-act p h (op.CopyAwaiter f a) w n u z m = asked-copy_awaiter _ p w f a (known_waker w a (past (length w.tasks) f) (omega (arith, z)))
@@ -458,10 +445,9 @@ asked-act p h (op.LookAgain f) w n u z m = asked-again _ _ _ p w f refl (own _ f
 asked-act p h (op.Notify f mine) w n u z m = asked-notify _ mine w f (own _ f (op.Notify f mine) (omega arith) z)
 asked-act p h (op.EndNotify f mine) w n u z m = (let i : f < length w.tasks = own _ f (op.EndNotify f mine) (omega arith) z in asked-end_notify _ _ mine w f refl i (omega (arith, i, n)))
 asked-act p h (op.CallAwaiter f a k) w n u z m = asked-call p w f a k (omega (arith, z))
-asked-act p h (op.CallOutside x) w n u z m = asked-same w (op.CallOutside x ∷ [])
 asked-act p h op.TakeOut w n u z m = asked-take_out _ _ w refl
 asked-act p h op.DropNext w n u z m = asked-drop_first p w _ refl
 asked-act p h op.WakeNext w n u z m = asked-wake_first p w _ refl (first_known w u)
-asked-act p h op.Close w n u z m = asked-close w
 asked-act p h op.Drain w n u z m = asked-drain _ p w refl
 asked-act p h (op.End a held) w n u z m = asked-end p w a held
+asked-act p h _ w n u z m = λ g r bb k. grind arith

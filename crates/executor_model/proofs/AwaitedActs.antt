@@ -48,9 +48,6 @@ awaits-enter = by_bool _
     (λ p w l g r yy mm bb h. grind arith)
     (λ p w l g r yy mm bb h. grind (arith, same_is, fresh_is, read_push, kept_push, times-append, length-append, heard-push)))
 
-awaits-look_at_table : (w : World) → KeepsAwaits w (op.LookAtTable ∷ []) (look_at_table w)
-awaits-look_at_table w g r yy mm bb h = grind arith
-
 awaits-take_to_poll : (w : World) (f : ℕ) → KeepsAwaits w (op.TakeToPoll f ∷ []) (take_to_poll w f)
 awaits-take_to_poll w f g r yy mm bb h = grind (arith, same_is)
 
@@ -403,9 +400,6 @@ awaits-call : (p : ℕ) (w : World) (f : ℕ) (a : Waker) (k : ℕ) → past (le
 awaits-call p w f (Task m) k z = awaits-call_task (moves.is_over (task w m)) _ _ p f k w m refl refl (below _ m (omega (arith, z)))
 awaits-call p w f (Outside x) k z = awaits-call_outside p w f x k
 
-awaits-same : (w : World) (old : List Op) → KeepsAwaits w old (done w old)
-awaits-same w old g r yy mm bb h = h
-
 first_known : (w : World) → pasts (length w.tasks) w.waking ≡ 0 → (f : ℕ) (rest : List ℕ) → w.waking ≡ f ∷ rest → f < length w.tasks
 first_known w u f rest e = let z : past (length w.tasks) f + pasts (length w.tasks) rest ≡ 0 = sym (ap (pasts (length w.tasks)) e) ∙ u in below _ f (omega (arith, z))
 
@@ -419,7 +413,6 @@ asked p h _ w = λ g m. m
 pub awaits-act : (p : ℕ) (h : Hint) (o : Op) (w : World) → length w.awaiters ≡ length w.tasks → pasts (length w.tasks) w.waking ≡ 0 → weigh (past_of (length w.tasks)) (o ∷ []) ≡ 0 → is_end o ≡ false → KeepsBy w (o ∷ []) (act p h o w) (asked p h o w)
 awaits-act p h op.Enter w n u z m = awaits-enter _ _ p w n
 awaits-act p h op.Take w n u z m = awaits-take _ w refl
-awaits-act p h op.LookAtTable w n u z m = awaits-look_at_table w
 awaits-act p h (op.Append f) w n u z m = awaits-append _ w f
 awaits-act p h (op.WakeByReference f) w n u z m = awaits-wake_by_reference (moves.is_over (task w f)) _ _ p w f refl refl (own _ f (op.WakeByReference f) (omega arith) z)
 awaits-act p h (op.Wake f) w n u z m = awaits-wake (moves.is_over (task w f)) _ _ p w f refl refl (own _ f (op.Wake f) (omega arith) z)
@@ -434,14 +427,11 @@ awaits-act p h (op.DropRunnable f) w n u z m = awaits-drop_runnable _ _ w f refl
 awaits-act p h (op.Cancel f) w n u z m = awaits-cancel _ _ p w f refl refl (own _ f (op.Cancel f) (omega arith) z)
 awaits-act p h (op.Detach f) w n u z m = awaits-detach _ _ _ p w f refl refl (own _ f (op.Detach f) (omega arith) z)
 awaits-act p h (op.TakeToPoll f) w n u z m = awaits-take_to_poll w f
-awaits-act p h (op.Poll f) w n u z m = awaits-same w (op.Poll f ∷ [])
 awaits-act p h (op.PutBack f) w n u z m = awaits-put_back w f
 awaits-act p h (op.TakeToDrop f) w n u z m = awaits-take_to_drop w f
 awaits-act p h (op.BeginDrop f) w n u z m = awaits-begin_drop p w f
-awaits-act p h (op.Drop f) w n u z m = awaits-same w (op.Drop f ∷ [])
 awaits-act p h (op.LeaveTable f) w n u z m = awaits-leave _ w f refl
 awaits-act p h (op.BeginDropOutput f) w n u z m = awaits-begin_drop_output p w f
-awaits-act p h (op.DropOutput f) w n u z m = awaits-same w (op.DropOutput f ∷ [])
 awaits-act p h (op.CopyWaker f held) w n u z m = awaits-copy _ w f held (own _ f (op.CopyWaker f held) (omega arith) z)
 awaits-act p h (op.Look f a) w n u z m = awaits-look _ _ _ p w f a refl (own _ f (op.Look f a) (omega arith) z)
 awaits-act p h (op.CopyAwaiter f a) w n u z m = awaits-copy_awaiter _ p w f a (known_waker w a (past (length w.tasks) f) (omega (arith, z)))
@@ -451,13 +441,13 @@ awaits-act p h (op.LookAgain f) w n u z m = awaits-again _ _ _ p w f refl refl r
 awaits-act p h (op.Notify f mine) w n u z m = awaits-notify _ mine w f refl (own _ f (op.Notify f mine) (omega arith) z)
 awaits-act p h (op.EndNotify f mine) w n u z m = (let i : f < length w.tasks = own _ f (op.EndNotify f mine) (omega arith) z in awaits-end_notify _ _ mine w f (both-true mine h.same) refl i (omega (arith, i, n)))
 awaits-act p h (op.CallAwaiter f a k) w n u z m = awaits-call p w f a k (omega (arith, z))
-awaits-act p h (op.CallOutside x) w n u z m = awaits-same w (op.CallOutside x ∷ [])
 awaits-act p h op.TakeOut w n u z m = awaits-take_out _ _ w refl
 awaits-act p h op.DropNext w n u z m = awaits-drop_first p w _ refl
 awaits-act p h op.WakeNext w n u z m = awaits-wake_first p w _ refl (first_known w u)
 awaits-act p h op.Close w n u z m = awaits-close w
 awaits-act p h op.Drain w n u z m = awaits-drain _ p w refl
 awaits-act p h (op.End a held) w n u z m = absurd (cc)
+awaits-act p h _ w n u z m = λ g r y mm bb k. grind arith
 
 -- the end of user code
 pub awaits-react : (p : ℕ) (o : Op) (u : UserEnd) (w : World) → accepts o u ≡ true → KeepsAwaits w (o ∷ []) (react p o u w)

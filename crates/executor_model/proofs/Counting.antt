@@ -50,9 +50,6 @@ sound-enter = by_bool _
     (λ p w g r h. grind arith)
     (λ p w g r h. grind (arith, fresh_is, read_push, times-append, awaiters_of-push, phase-push)))
 
-sound-look_at_table : (w : World) → Keeps w (op.LookAtTable ∷ []) (look_at_table w)
-sound-look_at_table w g r h = grind arith
-
 sound-take_to_poll : (w : World) (f : ℕ) → Keeps w (op.TakeToPoll f ∷ []) (take_to_poll w f)
 sound-take_to_poll w f g r h = grind (arith, same_is)
 
@@ -380,9 +377,6 @@ sound-wake_next o b c rest p w f y e q i g r h =
     let z : Sound left g (with_ops g (op.Wake f ∷ []) r) = grind arith in
     subst (Sound d.world g) (sym (with_ops-closing g d.next rest r)) (sound-wake o b c p left f e q i g r z)
 
-sound-close : (w : World) → Keeps w (op.Close ∷ []) (close w)
-sound-close w g r h = grind arith
-
 sound-drain : (q : List ℕ) (p : ℕ) (w : World) → w.queue.items ≡ q → Keeps w (op.Drain ∷ []) (drain_by p w q)
 sound-drain = by_list _
     (λ p w e g r h. grind (arith, phase-push))
@@ -445,9 +439,6 @@ sound-call : (p : ℕ) (w : World) (f : ℕ) (a : Waker) (k : ℕ) → past (len
 sound-call p w f (Task m) k z = sound-call_task (moves.is_over (task w m)) _ _ p f k w m refl refl (below _ m (omega (arith, z)))
 sound-call p w f (Outside x) k z = sound-call_outside p w f x k
 
-sound-same : (w : World) (old : List Op) → Keeps w old (done w old)
-sound-same w old g r h = h
-
 first_known : (w : World) → pasts (length w.tasks) w.waking ≡ 0 → (f : ℕ) (rest : List ℕ) → w.waking ≡ f ∷ rest → f < length w.tasks
 first_known w u f rest e = let z : past (length w.tasks) f + pasts (length w.tasks) rest ≡ 0 = sym (ap (pasts (length w.tasks)) e) ∙ u in below _ f (omega (arith, z))
 
@@ -455,7 +446,6 @@ first_known w u f rest e = let z : past (length w.tasks) f + pasts (length w.tas
 pub sound-act : (p : ℕ) (h : Hint) (o : Op) (w : World) → length w.awaiters ≡ length w.tasks → pasts (length w.tasks) w.waking ≡ 0 → weigh (past_of (length w.tasks)) (o ∷ []) ≡ 0 → Keeps w (o ∷ []) (act p h o w)
 sound-act p h op.Enter w n u z = sound-enter _ _ p w
 sound-act p h op.Take w n u z = sound-take _ w refl
-sound-act p h op.LookAtTable w n u z = sound-look_at_table w
 sound-act p h (op.Append f) w n u z = sound-append _ w f
 sound-act p h (op.WakeByReference f) w n u z = sound-wake_by_reference (moves.is_over (task w f)) _ _ p w f refl refl (own _ f (op.WakeByReference f) (omega arith) z)
 sound-act p h (op.Wake f) w n u z = sound-wake (moves.is_over (task w f)) _ _ p w f refl refl (own _ f (op.Wake f) (omega arith) z)
@@ -470,14 +460,11 @@ sound-act p h (op.DropRunnable f) w n u z = sound-drop_runnable _ _ w f refl (ow
 sound-act p h (op.Cancel f) w n u z = sound-cancel _ _ p w f refl refl (own _ f (op.Cancel f) (omega arith) z)
 sound-act p h (op.Detach f) w n u z = sound-detach _ _ _ p w f refl refl (own _ f (op.Detach f) (omega arith) z)
 sound-act p h (op.TakeToPoll f) w n u z = sound-take_to_poll w f
-sound-act p h (op.Poll f) w n u z = sound-same w (op.Poll f ∷ [])
 sound-act p h (op.PutBack f) w n u z = sound-put_back w f
 sound-act p h (op.TakeToDrop f) w n u z = sound-take_to_drop w f
 sound-act p h (op.BeginDrop f) w n u z = sound-begin_drop p w f
-sound-act p h (op.Drop f) w n u z = sound-same w (op.Drop f ∷ [])
 sound-act p h (op.LeaveTable f) w n u z = sound-leave _ w f refl
 sound-act p h (op.BeginDropOutput f) w n u z = sound-begin_drop_output p w f
-sound-act p h (op.DropOutput f) w n u z = sound-same w (op.DropOutput f ∷ [])
 sound-act p h (op.CopyWaker f held) w n u z = sound-copy _ w f held (small h (task w f)) (own _ f (op.CopyWaker f held) (omega arith) z)
 sound-act p h (op.Look f a) w n u z = sound-look _ _ _ p w f a refl (own _ f (op.Look f a) (omega arith) z)
 sound-act p h (op.CopyAwaiter f a) w n u z = sound-copy_awaiter _ p w f a (can_copy h w a (past (length w.tasks) f) (omega (arith, z)))
@@ -487,10 +474,9 @@ sound-act p h (op.LookAgain f) w n u z = sound-again _ _ _ p w f refl (own _ f (
 sound-act p h (op.Notify f mine) w n u z = sound-notify _ mine w f (own _ f (op.Notify f mine) (omega arith) z)
 sound-act p h (op.EndNotify f mine) w n u z = (let i : f < length w.tasks = own _ f (op.EndNotify f mine) (omega arith) z in sound-end_notify _ _ mine w f refl i (omega (arith, i, n)))
 sound-act p h (op.CallAwaiter f a k) w n u z = sound-call p w f a k (omega (arith, z))
-sound-act p h (op.CallOutside x) w n u z = sound-same w (op.CallOutside x ∷ [])
 sound-act p h op.TakeOut w n u z = sound-take_out _ _ w
 sound-act p h op.DropNext w n u z = sound-drop_first p w _ refl
 sound-act p h op.WakeNext w n u z = sound-wake_first p w _ refl (first_known w u)
-sound-act p h op.Close w n u z = sound-close w
 sound-act p h op.Drain w n u z = sound-drain _ p w refl
 sound-act p h (op.End a held) w n u z = sound-end p w a held
+sound-act p h _ w n u z = λ g r k. grind arith

@@ -102,10 +102,6 @@ grows-carried w v f m l h z =
       more = omega (arith, q);
     }
 
--- the op's own future is one, and its waker's
-z-of : (a : ℕ) → a + 0 ≡ 0 → a ≡ 0
-z-of a e = omega (arith, e)
-
 below : (n f : ℕ) → past n f ≡ 0 → f < n
 below n f e = grind (arith, past_is)
 
@@ -275,7 +271,6 @@ grows-moved w b e f m h z = grows-carried w (log_if b w e) f m (same-log b w e) 
 pub grows-act : (p : ℕ) (c : Hint) (o : Op) (w : World) → Grows w (o ∷ []) (act p c o w)
 grows-act p c op.Enter w h k = grows-enter _ _ p w h k
 grows-act p c op.Take w h k = grows-take _ w refl h k
-grows-act p c op.LookAtTable w h k = grind arith
 grows-act p c (op.Append f) w h k = grows-append _ w f h k
 grows-act p c (op.WakeByReference f) w h k = grows-moved w (not (moves.is_over (task w f))) (event.Woken p f) f (moves.wake_by_reference (task w f)) h (omega (arith, k))
 grows-act p c (op.Wake f) w h k = grows-moved w (not (moves.is_over (task w f))) (event.Woken p f) f (moves.wake (task w f)) h (omega (arith, k))
@@ -290,14 +285,11 @@ grows-act p c (op.EndPending f) w h k = grows-carried w w f (moves.end_pending (
 grows-act p c (op.EndClosed f) w h k = grows-carried w w f (moves.end_closed (task w f)) refl h (omega (arith, k))
 grows-act p c (op.DropRunnable f) w h k = grows-carried w w f (moves.drop_runnable (task w f)) refl h (omega (arith, k))
 grows-act p c (op.TakeToPoll f) w h k = grows-inside w f false [] (op.Poll f ∷ []) (omega (arith, k)) h
-grows-act p c (op.Poll f) w h k = grows-same w (op.Poll f ∷ []) h k
 grows-act p c (op.PutBack f) w h k = grows-inside w f true [] (op.EndPending f ∷ []) (omega (arith, k)) h
 grows-act p c (op.TakeToDrop f) w h k = grows-inside w f false [] (op.BeginDrop f ∷ []) (omega (arith, k)) h
 grows-act p c (op.BeginDrop f) w h k = grows-logged w (event.Dropped p f) (op.Drop f ∷ op.LeaveTable f ∷ []) (omega (arith, k)) h
-grows-act p c (op.Drop f) w h k = grows-same w (op.Drop f ∷ []) h k
 grows-act p c (op.LeaveTable f) w h k = grows-leave _ w f h k
 grows-act p c (op.BeginDropOutput f) w h k = grows-logged w (event.OutputDropped p f) (op.DropOutput f ∷ []) refl h
-grows-act p c (op.DropOutput f) w h k = grows-same w (op.DropOutput f ∷ []) h k
 grows-act p c (op.CopyWaker f held) w h k = grows-copy _ w f held h k
 grows-act p c (op.Look f a) w h k = grows-look _ p w f a _ h k
 grows-act p c (op.CopyAwaiter f a) w h k = grows-copy_awaiter _ p w f a h k
@@ -307,10 +299,9 @@ grows-act p c (op.LookAgain f) w h k = grows-again _ p w f _ h k
 grows-act p c (op.Notify f mine) w h k = grows-notify _ mine w f h k
 grows-act p c (op.EndNotify f mine) w h k = grows-end_notify c mine w f h k
 grows-act p c (op.CallAwaiter f a n) w h k = grows-call p w f a n h k
-grows-act p c (op.CallOutside x) w h k = grows-same w (op.CallOutside x ∷ []) h k
 grows-act p c op.TakeOut w h k = (record { fits = record { queue = h.queue; table = h.leaving; leaving = h.table; waking = h.waking; wakers = h.wakers; awaiters = h.awaiters; awaiting = h.awaiting; inside = h.inside }; next = past_closing (length w.tasks) w.table w.waking; more = omega arith })
 grows-act p c op.DropNext w h k = grows-drop_next p w _ refl h k
 grows-act p c op.WakeNext w h k = grows-wake_next p w _ refl h k
-grows-act p c op.Close w h k = grind arith
 grows-act p c op.Drain w h k = grows-drain _ p w refl h k
 grows-act p c (op.End a held) w h k = grows-logged w (event.CallEnded p a) [] refl h
+grows-act p c _ w h k = grind arith

@@ -378,9 +378,6 @@ stored-call : (p : ℕ) (w : World) (f : ℕ) (a : Waker) (k : ℕ) → past (le
 stored-call p w f (Task m) k z = stored-call_task (moves.is_over (task w m)) _ _ p f k w m (below _ m (omega (arith, z)))
 stored-call p w f (Outside x) k z = stored-call_outside p w f x k
 
-stored-same : (w : World) (old : List Op) → KeepsStored w old (done w old)
-stored-same w old g r bb h = h
-
 first_known : (w : World) → pasts (length w.tasks) w.waking ≡ 0 → (f : ℕ) (rest : List ℕ) → w.waking ≡ f ∷ rest → f < length w.tasks
 first_known w u f rest e = let z : past (length w.tasks) f + pasts (length w.tasks) rest ≡ 0 = sym (ap (pasts (length w.tasks)) e) ∙ u in below _ f (omega (arith, z))
 
@@ -388,7 +385,6 @@ first_known w u f rest e = let z : past (length w.tasks) f + pasts (length w.tas
 pub stored-act : (p : ℕ) (h : Hint) (o : Op) (w : World) → pasts (length w.tasks) w.waking ≡ 0 → weigh (past_of (length w.tasks)) (o ∷ []) ≡ 0 → KeepsStored w (o ∷ []) (act p h o w)
 stored-act p h op.Enter w u z = stored-enter _ _ p w
 stored-act p h op.Take w u z = stored-take _ w
-stored-act p h op.LookAtTable w u z = λ g r bb k. grind arith
 stored-act p h (op.Append f) w u z = stored-append _ w f
 stored-act p h (op.WakeByReference f) w u z = stored-wake_by_reference (moves.is_over (task w f)) _ _ p w f (own _ f (op.WakeByReference f) (omega arith) z)
 stored-act p h (op.Wake f) w u z = stored-wake (moves.is_over (task w f)) _ _ p w f (own _ f (op.Wake f) (omega arith) z)
@@ -403,14 +399,9 @@ stored-act p h (op.DropRunnable f) w u z = stored-drop_runnable _ _ w f (own _ f
 stored-act p h (op.Cancel f) w u z = stored-cancel _ _ p w f (own _ f (op.Cancel f) (omega arith) z)
 stored-act p h (op.Detach f) w u z = stored-detach _ _ _ p w f (own _ f (op.Detach f) (omega arith) z)
 stored-act p h (op.TakeToPoll f) w u z = stored-take_to_poll w f
-stored-act p h (op.Poll f) w u z = stored-same w (op.Poll f ∷ [])
-stored-act p h (op.PutBack f) w u z = λ g r bb k. grind arith
-stored-act p h (op.TakeToDrop f) w u z = λ g r bb k. grind arith
 stored-act p h (op.BeginDrop f) w u z = stored-begin_drop p w f
-stored-act p h (op.Drop f) w u z = stored-same w (op.Drop f ∷ [])
 stored-act p h (op.LeaveTable f) w u z = stored-leave _ w f
 stored-act p h (op.BeginDropOutput f) w u z = stored-begin_drop_output p w f
-stored-act p h (op.DropOutput f) w u z = stored-same w (op.DropOutput f ∷ [])
 stored-act p h (op.CopyWaker f held) w u z = stored-copy _ w f held (own _ f (op.CopyWaker f held) (omega arith) z)
 stored-act p h (op.Look f a) w u z = stored-look _ _ _ p w f a (own _ f (op.Look f a) (omega arith) z)
 stored-act p h (op.CopyAwaiter f a) w u z = stored-copy_awaiter _ p w f a (known_waker w a (past (length w.tasks) f) (omega (arith, z)))
@@ -420,10 +411,9 @@ stored-act p h (op.LookAgain f) w u z = stored-again _ _ _ p w f refl refl (own 
 stored-act p h (op.Notify f mine) w u z = stored-notify _ mine w f refl (own _ f (op.Notify f mine) (omega arith) z)
 stored-act p h (op.EndNotify f mine) w u z = stored-end_notify _ _ mine w f (own _ f (op.EndNotify f mine) (omega arith) z)
 stored-act p h (op.CallAwaiter f a k) w u z = stored-call p w f a k (omega (arith, z))
-stored-act p h (op.CallOutside x) w u z = stored-same w (op.CallOutside x ∷ [])
 stored-act p h op.TakeOut w u z = stored-take_out _ _ w
 stored-act p h op.DropNext w u z = stored-drop_first p w _
 stored-act p h op.WakeNext w u z = stored-wake_first p w _ (first_known w u)
-stored-act p h op.Close w u z = λ g r bb k. grind arith
 stored-act p h op.Drain w u z = stored-drain _ p w
 stored-act p h (op.End a held) w u z = λ g r bb k. stored-end p w a held g r k
+stored-act p h _ w u z = λ g r bb k. grind arith

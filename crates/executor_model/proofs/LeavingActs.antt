@@ -46,9 +46,6 @@ leaves-enter = by_bool _
     (λ p w l g r yy bb h. grind arith)
     (λ p w l g r yy bb h. let n : w.gone ≡ false = grind arith in let z : length (story g w.trace).standing < w.limit = l refl n g in grind (arith, same_is, fresh_is, read_push, times-append, length-append, story-push)))
 
-leaves-look_at_table : (w : World) → KeepsLeaves w (op.LookAtTable ∷ []) (look_at_table w)
-leaves-look_at_table w g r yy bb h = grind arith
-
 leaves-take_to_poll : (w : World) (f : ℕ) → KeepsLeaves w (op.TakeToPoll f ∷ []) (take_to_poll w f)
 leaves-take_to_poll w f g r yy bb h = grind (arith, same_is)
 
@@ -404,9 +401,6 @@ leaves-call : (p : ℕ) (w : World) (f : ℕ) (a : Waker) (k : ℕ) → past (le
 leaves-call p w f (Task m) k z = leaves-call_task (moves.is_over (task w m)) _ _ p f k w m refl refl (below _ m (omega (arith, z)))
 leaves-call p w f (Outside x) k z = leaves-call_outside p w f x k
 
-leaves-same : (w : World) (old : List Op) → KeepsLeaves w old (done w old)
-leaves-same w old g r yy bb h = h
-
 first_known : (w : World) → pasts (length w.tasks) w.waking ≡ 0 → (f : ℕ) (rest : List ℕ) → w.waking ≡ f ∷ rest → f < length w.tasks
 first_known w u f rest e = let z : past (length w.tasks) f + pasts (length w.tasks) rest ≡ 0 = sym (ap (pasts (length w.tasks)) e) ∙ u in below _ f (omega (arith, z))
 
@@ -420,7 +414,6 @@ NeedsPlaces w _ = Unit {0}
 pub leaves-act : (p : ℕ) (h : Hint) (o : Op) (w : World) → length w.awaiters ≡ length w.tasks → pasts (length w.tasks) w.waking ≡ 0 → weigh (past_of (length w.tasks)) (o ∷ []) ≡ 0 → NeedsPlaces w o → KeepsLeaves w (o ∷ []) (act p h o w)
 leaves-act p h op.Enter w n u z m = leaves-enter _ _ p w m
 leaves-act p h op.Take w n u z m = leaves-take _ w refl
-leaves-act p h op.LookAtTable w n u z m = leaves-look_at_table w
 leaves-act p h (op.Append f) w n u z m = leaves-append _ w f m
 leaves-act p h (op.WakeByReference f) w n u z m = leaves-wake_by_reference (moves.is_over (task w f)) _ _ p w f refl refl (own _ f (op.WakeByReference f) (omega arith) z)
 leaves-act p h (op.Wake f) w n u z m = leaves-wake (moves.is_over (task w f)) _ _ p w f refl refl (own _ f (op.Wake f) (omega arith) z)
@@ -435,14 +428,11 @@ leaves-act p h (op.DropRunnable f) w n u z m = leaves-drop_runnable _ _ w f refl
 leaves-act p h (op.Cancel f) w n u z m = leaves-cancel _ _ p w f refl refl (own _ f (op.Cancel f) (omega arith) z)
 leaves-act p h (op.Detach f) w n u z m = leaves-detach _ _ _ p w f refl refl (own _ f (op.Detach f) (omega arith) z)
 leaves-act p h (op.TakeToPoll f) w n u z m = leaves-take_to_poll w f
-leaves-act p h (op.Poll f) w n u z m = leaves-same w (op.Poll f ∷ [])
 leaves-act p h (op.PutBack f) w n u z m = leaves-put_back w f
 leaves-act p h (op.TakeToDrop f) w n u z m = leaves-take_to_drop w f
 leaves-act p h (op.BeginDrop f) w n u z m = leaves-begin_drop p w f
-leaves-act p h (op.Drop f) w n u z m = leaves-same w (op.Drop f ∷ [])
 leaves-act p h (op.LeaveTable f) w n u z m = leaves-leave _ w f refl
 leaves-act p h (op.BeginDropOutput f) w n u z m = leaves-begin_drop_output p w f
-leaves-act p h (op.DropOutput f) w n u z m = leaves-same w (op.DropOutput f ∷ [])
 leaves-act p h (op.CopyWaker f held) w n u z m = leaves-copy _ w f held (own _ f (op.CopyWaker f held) (omega arith) z)
 leaves-act p h (op.Look f a) w n u z m = leaves-look _ _ _ p w f a refl (own _ f (op.Look f a) (omega arith) z)
 leaves-act p h (op.CopyAwaiter f a) w n u z m = leaves-copy_awaiter _ p w f a (known_waker w a (past (length w.tasks) f) (omega (arith, z)))
@@ -452,10 +442,10 @@ leaves-act p h (op.LookAgain f) w n u z m = leaves-again _ _ _ p w f refl (own _
 leaves-act p h (op.Notify f mine) w n u z m = leaves-notify _ mine w f (own _ f (op.Notify f mine) (omega arith) z)
 leaves-act p h (op.EndNotify f mine) w n u z m = (let i : f < length w.tasks = own _ f (op.EndNotify f mine) (omega arith) z in leaves-end_notify _ _ mine w f refl i (omega (arith, i, n)))
 leaves-act p h (op.CallAwaiter f a k) w n u z m = leaves-call p w f a k (omega (arith, z))
-leaves-act p h (op.CallOutside x) w n u z m = leaves-same w (op.CallOutside x ∷ [])
 leaves-act p h op.TakeOut w n u z m = leaves-take_out _ _ w refl
 leaves-act p h op.DropNext w n u z m = leaves-drop_first p w _ refl
 leaves-act p h op.WakeNext w n u z m = leaves-wake_first p w _ refl (first_known w u)
 leaves-act p h op.Close w n u z m = leaves-close w
 leaves-act p h op.Drain w n u z m = leaves-drain _ p w refl
 leaves-act p h (op.End a held) w n u z m = leaves-end p w a held
+leaves-act p h _ w n u z m = λ g r y bb k. grind arith

@@ -106,19 +106,7 @@ module _ (n m : ℕ) (h : n ≤ m) where
   more (op.Notify f mine) z = more-one f z
   more (op.EndNotify f mine) z = more-one f z
   more (op.CallAwaiter f a k) z = more-two f a z
-  more op.Enter z = refl
-  more op.Take z = refl
-  more op.LookAtTable z = refl
-  more (op.Drop f) z = refl
-  more (op.BeginDropOutput f) z = refl
-  more (op.DropOutput f) z = refl
-  more (op.CallOutside x) z = refl
-  more op.TakeOut z = refl
-  more op.DropNext z = refl
-  more op.WakeNext z = refl
-  more op.Close z = refl
-  more op.Drain z = refl
-  more (op.End a held) z = refl
+  more _ z = refl
 
   more-weigh : (os : List Op) → weigh (past_of n) os ≡ 0 → weigh (past_of m) os ≡ 0
   more-weigh [] z = refl
@@ -230,45 +218,7 @@ good-answer s p e (Some o) l q n good =
 polls-borrow : (g : ℕ) (o : Op) → polls_of g o ≤ borrowing_of o
 polls-borrow g (op.TakeToPoll f) = grind (arith, same_is)
 polls-borrow g (op.Poll f) = grind (arith, same_is)
-polls-borrow g op.Enter = omega arith
-polls-borrow g op.Take = omega arith
-polls-borrow g op.LookAtTable = omega arith
-polls-borrow g (op.Append f) = omega arith
-polls-borrow g (op.WakeByReference f) = omega arith
-polls-borrow g (op.Wake f) = omega arith
-polls-borrow g (op.Release f) = omega arith
-polls-borrow g (op.SettleClosed f) = omega arith
-polls-borrow g (op.GiveUp f) = omega arith
-polls-borrow g (op.EndClosed f) = omega arith
-polls-borrow g (op.DropRunnable f) = omega arith
-polls-borrow g (op.Cancel f) = omega arith
-polls-borrow g (op.Detach f) = omega arith
-polls-borrow g (op.TakeToDrop f) = omega arith
-polls-borrow g (op.BeginDrop f) = omega arith
-polls-borrow g (op.Drop f) = omega arith
-polls-borrow g (op.LeaveTable f) = omega arith
-polls-borrow g (op.BeginDropOutput f) = omega arith
-polls-borrow g (op.DropOutput f) = omega arith
-polls-borrow g (op.LookAgain f) = omega arith
-polls-borrow g (op.CallOutside f) = omega arith
-polls-borrow g (op.TakeUp f) = omega arith
-polls-borrow g (op.PutBack f) = omega arith
-polls-borrow g (op.EndPending f) = omega arith
-polls-borrow g (op.EndReady f) = omega arith
-polls-borrow g (op.CopyWaker f held) = omega arith
-polls-borrow g (op.Look f a) = omega arith
-polls-borrow g (op.CopyAwaiter f a) = omega arith
-polls-borrow g (op.Register f a k) = omega arith
-polls-borrow g (op.EndRegister f a k) = omega arith
-polls-borrow g (op.Notify f m) = omega arith
-polls-borrow g (op.EndNotify f m) = omega arith
-polls-borrow g (op.CallAwaiter f a k) = omega arith
-polls-borrow g op.TakeOut = omega arith
-polls-borrow g op.DropNext = omega arith
-polls-borrow g op.WakeNext = omega arith
-polls-borrow g op.Close = omega arith
-polls-borrow g op.Drain = omega arith
-polls-borrow g (op.End a held) = omega arith
+polls-borrow g _ = omega arith
 
 polls-borrow-stack : (g : ℕ) (os : List Op) → weigh (polls_of g) os ≤ weigh borrowing_of os
 polls-borrow-stack g [] = omega arith

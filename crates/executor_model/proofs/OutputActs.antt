@@ -220,7 +220,6 @@ known n f e = grind (arith, past_is)
 pub out-act : (p : ℕ) (h : Hint) (o : Op) (w : World) → weigh (past_of (length w.tasks)) (o ∷ []) ≡ 0 → NeedsUnready w o → KeepsOutput w (o ∷ []) (act p h o w)
 out-act p h op.Enter w z n = out-enter _ _ p w
 out-act p h op.Take w z n = out-take _ w
-out-act p h op.LookAtTable w z n = keeps-same w _ _ (λ g. refl)
 out-act p h (op.Append f) w z n = out-append _ w f
 out-act p h (op.WakeByReference f) w z n = keeps-logged _ w (event.Woken p f) f _ _ (λ g. refl) (tame-wake _ _ (task w f))
 out-act p h (op.Wake f) w z n = out-wake p w f _
@@ -235,14 +234,11 @@ out-act p h (op.DropRunnable f) w z n = keeps-carried w w f (moves.drop_runnable
 out-act p h (op.Cancel f) w z n = keeps-logged _ w (event.Cancelled p f) f _ _ (λ g. refl) (tame-cancel _ _ (task w f))
 out-act p h (op.Detach f) w z n = out-detach _ _ _ p w f refl (known _ f (omega (arith, z)))
 out-act p h (op.TakeToPoll f) w z n = keeps-calm w _ (act p h (op.TakeToPoll f) w) (calm-same w _ refl refl) (λ g. refl)
-out-act p h (op.Poll f) w z n = keeps-same w _ _ (λ g. refl)
 out-act p h (op.PutBack f) w z n = keeps-calm w _ (act p h (op.PutBack f) w) (calm-same w _ refl refl) (λ g. refl)
 out-act p h (op.TakeToDrop f) w z n = keeps-calm w _ (act p h (op.TakeToDrop f) w) (calm-same w _ refl refl) (λ g. refl)
 out-act p h (op.BeginDrop f) w z n = keeps-log w _ _ _ (λ g. refl) (λ g. refl)
-out-act p h (op.Drop f) w z n = keeps-same w _ _ (λ g. refl)
 out-act p h (op.LeaveTable f) w z n = out-leave _ w f
 out-act p h (op.BeginDropOutput f) w z n = out-begin_drop_output p w f
-out-act p h (op.DropOutput f) w z n = keeps-same w _ _ (λ g. refl)
 out-act p h (op.CopyWaker f held) w z n = out-copy _ w f held
 out-act p h (op.Look f a) w z n = out-look _ _ _ p w f a refl refl (known _ f (omega (arith, z)))
 out-act p h (op.CopyAwaiter f a) w z n = out-copy_awaiter _ p w f a
@@ -252,13 +248,13 @@ out-act p h (op.LookAgain f) w z n = out-again _ _ _ p w f refl refl (known _ f 
 out-act p h (op.Notify f mine) w z n = out-notify _ w f mine
 out-act p h (op.EndNotify f mine) w z n = out-end_notify h w f mine
 out-act p h (op.CallAwaiter f a k) w z n = out-call p w f a k
-out-act p h (op.CallOutside x) w z n = keeps-same w _ _ (λ g. refl)
 out-act p h op.TakeOut w z n = keeps-calm w _ (take_out w) (calm-same w _ refl refl) (λ g. none-closing g w.table w.waking)
 out-act p h op.DropNext w z n = out-drop_next p w _
 out-act p h op.WakeNext w z n = out-wake_next p w _
 out-act p h op.Close w z n = keeps-calm w _ (act p h op.Close w) (calm-same w _ refl refl) (λ g. refl)
 out-act p h op.Drain w z n = out-drain p w _
 out-act p h (op.End a held) w z n = keeps-log w _ _ _ (λ g. refl) (λ g. refl)
+out-act p h _ w z n = keeps-same w _ _ (λ g. refl)
 
 -- the end of user code
 pub out-react : (p : ℕ) (o : Op) (e : UserEnd) (w : World) → accepts o e ≡ true → KeepsOutput w (o ∷ []) (react p o e w)

@@ -169,10 +169,6 @@ light-drain : (p : ℕ) (w : World) (q : List ℕ) → weigh uses_of (drain_by p
 light-drain p w [] = refl
 light-drain p w (f ∷ rest) = refl
 
-light-leave : (b : Bool) (w : World) (f : ℕ) → weigh uses_of (leave_by b w f).next ≡ 0
-light-leave true w f = refl
-light-leave false w f = refl
-
 -- it uses the executor itself
 tidy-using : (o : Op) (next : List Op) → uses_of o ≡ 1 → Tidy (o ∷ []) next
 tidy-using o next u = record { keeps = λ h. absurd (omega (arith, u, h)) }
@@ -185,7 +181,6 @@ NeedsNoEntry w _ = Unit {0}
 pub tidy-act : (p : ℕ) (h : Hint) (o : Op) (w : World) → NeedsNoEntry w o → Tidy (o ∷ []) (act p h o w).next
 tidy-act p h op.Enter w n = tidy-light _ _ (light-enter _ _ p w)
 tidy-act p h op.Take w n = tidy-take _ w
-tidy-act p h op.LookAtTable w n = tidy-light _ _ refl
 tidy-act p h (op.Append f) w n = tidy-light _ _ (light-append _ w f)
 tidy-act p h (op.WakeByReference f) w n = tidy-light _ _ (light-carried f _ (moves.wake_by_reference (task w f)) (no-wake _ _ (task w f)))
 tidy-act p h (op.Wake f) w n = tidy-light _ _ (light-wake p w f)
@@ -204,10 +199,7 @@ tidy-act p h (op.Poll f) w n = tidy-using (op.Poll f) _ refl
 tidy-act p h (op.PutBack f) w n = tidy-using (op.PutBack f) _ refl
 tidy-act p h (op.TakeToDrop f) w n = tidy-using (op.TakeToDrop f) _ refl
 tidy-act p h (op.BeginDrop f) w n = tidy-using (op.BeginDrop f) _ refl
-tidy-act p h (op.Drop f) w n = tidy-light _ _ refl
 tidy-act p h (op.LeaveTable f) w n = tidy-using (op.LeaveTable f) _ refl
-tidy-act p h (op.BeginDropOutput f) w n = tidy-light _ _ refl
-tidy-act p h (op.DropOutput f) w n = tidy-light _ _ refl
 tidy-act p h (op.CopyWaker f held) w n = tidy-light _ _ (light-copy _ w f held)
 tidy-act p h (op.Look f a) w n = tidy-light _ _ (light-look (moves.poll (task w f)).owed.answer p w f a (moves.poll (task w f)))
 tidy-act p h (op.CopyAwaiter f a) w n = tidy-light _ _ (light-copy_awaiter _ p w f a)
@@ -217,13 +209,11 @@ tidy-act p h (op.LookAgain f) w n = tidy-light _ _ (light-again (moves.look_agai
 tidy-act p h (op.Notify f mine) w n = tidy-light _ _ (light-notify _ w f mine)
 tidy-act p h (op.EndNotify f mine) w n = tidy-light _ _ (light-told _ f (awaiter_of w f))
 tidy-act p h (op.CallAwaiter f a k) w n = tidy-light _ _ (light-call p w f a k)
-tidy-act p h (op.CallOutside x) w n = tidy-light _ _ refl
 tidy-act p h op.TakeOut w n = tidy-light _ _ (light-closing w.table w.waking)
 tidy-act p h op.DropNext w n = tidy-light _ _ (light-drop_next p w w.leaving)
 tidy-act p h op.WakeNext w n = tidy-light _ _ (light-wake_next p w w.waking)
-tidy-act p h op.Close w n = tidy-light _ _ refl
 tidy-act p h op.Drain w n = tidy-light _ _ (light-drain p w w.queue.items)
-tidy-act p h (op.End a held) w n = tidy-light _ _ refl
+tidy-act p h _ w n = tidy-light _ _ refl
 
 pub tidy-react : (p : ℕ) (o : Op) (e : UserEnd) (w : World) → accepts o e ≡ true → Tidy (o ∷ []) (react p o e w).next
 tidy-react p (op.Poll f) (end.Polled a) w k = tidy-using (op.Poll f) _ refl

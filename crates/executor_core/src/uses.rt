@@ -8,7 +8,8 @@ ghost use Rattle.executor_model.specs.World.{task};
 ghost use Rattle.executor_core.specs.Uses as uses;
 ghost use Rattle.executor_core.specs.Views.{world_of, HasRoom, HasRoomToEnd, HasSpace, Does};
 
-use executor_model::{Hold, Op};
+use executor_model::{HandleOp, Hold, Op, QueueOp, TableOp, UserOp, WakerOp};
+use task_moves::moves::Move;
 
 /// Something that a call may use, and another may not use meanwhile.
 #[derive(Clone, Copy)]
@@ -51,16 +52,16 @@ fn borrows(op: Op) -> bool
     ensures { result ≡ not (weights.borrowing_of op == 0) }
 {
     match op {
-        Op::Enter => true,
-        Op::Take => true,
-        Op::LookAtTable => true,
-        Op::TakeUp(_) => true,
-        Op::TakeToPoll(_) => true,
-        Op::Poll(_) => true,
-        Op::PutBack(_) => true,
-        Op::EndPending(_) => true,
-        Op::EndReady(_) => true,
-        Op::CopyWaker(_, held) => holds(held, Use::Executor),
+        Op::Table(TableOp::Enter) => true,
+        Op::Queue(QueueOp::Take) => true,
+        Op::Table(TableOp::LookAtTable) => true,
+        Op::Move(Move::TakeUp, _) => true,
+        Op::Table(TableOp::TakeToPoll(_)) => true,
+        Op::User(UserOp::Poll(_)) => true,
+        Op::Table(TableOp::PutBack(_)) => true,
+        Op::Move(Move::EndPending, _) => true,
+        Op::Move(Move::EndReady, _) => true,
+        Op::Waker(WakerOp::CopyWaker(_, held)) => holds(held, Use::Executor),
         Op::End(_, held) => holds(held, Use::Executor),
         _ => false,
     }
@@ -71,11 +72,11 @@ fn handles(op: Op, f: u64) -> bool
     ensures { result ≡ not (weights.handling_of f op == 0) }
 {
     match op {
-        Op::Look(g, _) => f == g,
-        Op::CopyAwaiter(g, _) => f == g,
-        Op::Register(g, _, _) => f == g,
-        Op::EndRegister(g, _, _) => f == g,
-        Op::LookAgain(g) => f == g,
+        Op::Handle(HandleOp::Look(g, _)) => f == g,
+        Op::Handle(HandleOp::CopyAwaiter(g, _)) => f == g,
+        Op::Handle(HandleOp::Register(g, _, _)) => f == g,
+        Op::Handle(HandleOp::EndRegister(g, _, _)) => f == g,
+        Op::Handle(HandleOp::LookAgain(g)) => f == g,
         Op::End(_, held) => holds(held, Use::Handle(f)),
         _ => false,
     }
@@ -85,7 +86,7 @@ fn lends(op: Op, k: u64) -> bool
     ensures { result ≡ not (weights.lending_of k op == 0) }
 {
     match op {
-        Op::CopyWaker(_, held) => holds(held, Use::Waker(k)),
+        Op::Waker(WakerOp::CopyWaker(_, held)) => holds(held, Use::Waker(k)),
         Op::End(_, held) => holds(held, Use::Waker(k)),
         _ => false,
     }

@@ -12,6 +12,7 @@ use Rattle.executor_model.specs.declared.event.Event.{Event}
 use Rattle.executor_model.specs.declared.event.Event.TheVariants as event
 use Rattle.executor_model.specs.declared.op.Op.{Op}
 use Rattle.executor_model.specs.declared.op.Op.TheVariants as op
+use Rattle.executor_model.specs.declared.op.TableOp.TheVariants as table_op
 use Rattle.executor_model.specs.declared.step.Hint.{Hint}
 use Rattle.executor_model.specs.declared.step.Step.{Step}
 use Rattle.executor_model.specs.declared.step.Step.TheVariants.{Begin, Go, Answer}
@@ -82,7 +83,7 @@ module _ (s : Machine) (r : Reached s) (rest : IsAtRest s) (p : ℕ) (steps : Li
 -- emptiness
 
 abbrev looking : Machine → ℕ → Machine
-looking s p = record { world = log s.world (event.CallBegun p call.IsEmpty); parties = set s.parties p (op.LookAtTable ∷ []) }
+looking s p = record { world = log s.world (event.CallBegun p call.IsEmpty); parties = set s.parties p (op.Table table_op.LookAtTable ∷ []) }
 
 -- the machine after the look
 abbrev looked : Machine → ℕ → Machine
@@ -107,11 +108,11 @@ module _ (s : Machine) (r : Reached s) (rest : IsAtRest s) (p : ℕ) (steps : Li
   on-looking : run_all steps (looking s p) ≡ Ok new
   on-looking = sym (ap (λ (m : Machine). run_all steps m) begins) ∙ (run-first (Begin p call.IsEmpty) steps s new k.made).1
 
-  looks-first : stack (looking s p) p ≡ op.LookAtTable ∷ []
-  looks-first = get_or-set_same s.parties p (op.LookAtTable ∷ []) [] in-parties
+  looks-first : stack (looking s p) p ≡ op.Table table_op.LookAtTable ∷ []
+  looks-first = get_or-set_same s.parties p (op.Table table_op.LookAtTable ∷ []) [] in-parties
 
   looked-idle : stack (looked s p) p ≡ []
-  looked-idle = get_or-set_same (looking s p).parties p [] [] (omega (arith, in-parties, length-set s.parties p (op.LookAtTable ∷ [])))
+  looked-idle = get_or-set_same (looking s p).parties p [] [] (omega (arith, in-parties, length-set s.parties p (op.Table table_op.LookAtTable ∷ [])))
 
   -- it looks, and that is all that it does
   abbrev Looks : Type 0
@@ -120,14 +121,14 @@ module _ (s : Machine) (r : Reached s) (rest : IsAtRest s) (p : ℕ) (steps : Li
   looks : (ts : List Step) → are_onward_of p ts ≡ true → run_all ts (looking s p) ≡ Ok new → Looks
   looks [] on e =
       let same : looking s p ≡ new = cc in
-      let no : ◌≡◌ {A = List Op} (op.LookAtTable ∷ []) [] = sym looks-first ∙ (ap (λ (m : Machine). stack m p) same ∙ new-idle) in absurd (cc)
+      let no : ◌≡◌ {A = List Op} (op.Table table_op.LookAtTable ∷ []) [] = sym looks-first ∙ (ap (λ (m : Machine). stack m p) same ∙ new-idle) in absurd (cc)
   looks (Begin q c ∷ ts) on e = absurd (cc)
   looks (Go q h ∷ ts) on e =
       let b : _ = left-true _ (are_onward_of p ts) on in
       let j : _ = run-first (Go q h) ts (looking s p) new e in
       let m : _ = of-party p (looking s p) (Go q h) b.0 j.0 in
       let gone : after (looking s p) (Go q h) ≡ looked s p =
-      after-is p (looking s p) (Go q h) m.0 ∙ (ap (λ (os : List Op). with_part (looking s p) p (part_after (looking s p).world os (Go q h))) looks-first ∙ ap (λ (i : ℕ). with_part (looking s p) p (part_after (looking s p).world (op.LookAtTable ∷ []) (Go i h))) m.0) in
+      after-is p (looking s p) (Go q h) m.0 ∙ (ap (λ (os : List Op). with_part (looking s p) p (part_after (looking s p).world os (Go q h))) looks-first ∙ ap (λ (i : ℕ). with_part (looking s p) p (part_after (looking s p).world (op.Table table_op.LookAtTable ∷ []) (Go i h))) m.0) in
       let last : looked s p ≡ new = no-more p ts (looked s p) new looked-idle b.1 (sym (ap (λ (x : Machine). run_all ts x) gone) ∙ j.1) in
       let mine : refusal (looking s p) (Go p h) ≡ None = subst (λ (i : ℕ). refusal (looking s p) (Go i h) ≡ None) m.0 j.0 in
       let there : after (looking s p) (Go p h) ≡ new = ap (λ (i : ℕ). after (looking s p) (Go i h)) (sym m.0) ∙ (gone ∙ last) in
@@ -137,7 +138,7 @@ module _ (s : Machine) (r : Reached s) (rest : IsAtRest s) (p : ℕ) (steps : Li
       let b : _ = left-true _ (are_onward_of p ts) on in
       let j : _ = run-first (Answer q u) ts (looking s p) new e in
       let m : _ = of-party p (looking s p) (Answer q u) b.0 j.0 in
-      let no : answer_refusal (Some op.LookAtTable) u ≡ None = sym (ap (λ (os : List Op). answer_refusal (top os) u) looks-first) ∙ m.2 in absurd (cc)
+      let no : answer_refusal (Some (op.Table table_op.LookAtTable)) u ≡ None = sym (ap (λ (os : List Op). answer_refusal (top os) u) looks-first) ∙ m.2 in absurd (cc)
 
   found : Looks
   found = looks steps k.alone on-looking

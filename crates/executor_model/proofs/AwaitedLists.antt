@@ -19,6 +19,12 @@ use Rattle.executor_model.specs.declared.op.Waker.TheVariants.{Task, Outside}
 use Rattle.executor_model.specs.declared.op.Hold.{Hold}
 use Rattle.executor_model.specs.declared.op.Op.{Op}
 use Rattle.executor_model.specs.declared.op.Op.TheVariants as op
+use Rattle.executor_model.specs.declared.op.ClosingOp.TheVariants as closing_op
+use Rattle.executor_model.specs.declared.op.HandleOp.TheVariants as handle_op
+use Rattle.executor_model.specs.declared.op.QueueOp.TheVariants as queue_op
+use Rattle.executor_model.specs.declared.op.TableOp.TheVariants as table_op
+use Rattle.executor_model.specs.declared.op.UserOp.TheVariants as user_op
+use Rattle.executor_model.specs.declared.op.WakerOp.TheVariants as waker_op
 use Rattle.executor_model.specs.declared.event.Answer.TheVariants as answer
 use Rattle.executor_model.specs.declared.step.Hint.{Hint}
 use Rattle.executor_model.specs.declared.step.UserEnd.{UserEnd}
@@ -32,13 +38,13 @@ use Rattle.executor_model.proofs.Lists.{weigh-append}
 
 -- a notice by a poll of the handle itself, the rest of a notice, and the steps of the executor's drop
 abbrev pub rough_of : Op → ℕ
-rough_of (op.Notify f true) = 1
-rough_of (op.EndNotify f mine) = 1
-rough_of op.TakeOut = 1
-rough_of op.DropNext = 1
-rough_of op.WakeNext = 1
-rough_of op.Close = 1
-rough_of op.Drain = 1
+rough_of (op.Handle (handle_op.Notify f true)) = 1
+rough_of (op.Handle (handle_op.EndNotify f mine)) = 1
+rough_of (op.Closing closing_op.TakeOut) = 1
+rough_of (op.Closing closing_op.DropNext) = 1
+rough_of (op.Closing closing_op.WakeNext) = 1
+rough_of (op.Closing closing_op.Close) = 1
+rough_of (op.Closing closing_op.Drain) = 1
 rough_of _ = 0
 
 plain-both : (xs ys : List Op) → weigh rough_of xs ≡ 0 → weigh rough_of ys ≡ 0 → weigh rough_of (xs ++ ys) ≡ 0
@@ -145,8 +151,8 @@ plain-let_go None = refl
 plain-let_go (Some a) = plain-goes a.waker
 
 plain-end_register : (b : Bool) (w : World) (f : ℕ) (a : Waker) (k : ℕ) → weigh rough_of (end_register_by b w f a k).next ≡ 0
-plain-end_register true w f a k = omega (arith, plain-both (let_go (awaiter_of w f)) (op.LookAgain f ∷ []) (plain-let_go (awaiter_of w f)) refl)
-plain-end_register false w f a k = plain-both (let_go (awaiter_of w f)) (op.LookAgain f ∷ []) (plain-let_go (awaiter_of w f)) refl
+plain-end_register true w f a k = omega (arith, plain-both (let_go (awaiter_of w f)) (op.Handle (handle_op.LookAgain f) ∷ []) (plain-let_go (awaiter_of w f)) refl)
+plain-end_register false w f a k = plain-both (let_go (awaiter_of w f)) (op.Handle (handle_op.LookAgain f) ∷ []) (plain-let_go (awaiter_of w f)) refl
 
 plain-told : (b : Bool) (f : ℕ) (a : Option Awaiter) → weigh rough_of (told b f a) ≡ 0
 plain-told b f None = refl
@@ -166,55 +172,56 @@ plain-leave false w f = refl
 
 -- but for these
 abbrev pub is_special : Op → Bool
-is_special (op.Look f a) = true
-is_special (op.LookAgain f) = true
-is_special (op.Notify f mine) = true
-is_special op.TakeOut = true
-is_special op.DropNext = true
-is_special op.WakeNext = true
-is_special op.Close = true
-is_special op.Drain = true
+is_special (op.Handle (handle_op.Look f a)) = true
+is_special (op.Handle (handle_op.LookAgain f)) = true
+is_special (op.Handle (handle_op.Notify f mine)) = true
+is_special (op.Closing closing_op.TakeOut) = true
+is_special (op.Closing closing_op.DropNext) = true
+is_special (op.Closing closing_op.WakeNext) = true
+is_special (op.Closing closing_op.Close) = true
+is_special (op.Closing closing_op.Drain) = true
 is_special _ = false
 
 pub plain-act : (p : ℕ) (h : Hint) (o : Op) (w : World) → is_special o ≡ false → weigh rough_of (act p h o w).next ≡ 0
-plain-act p h op.Enter w n = plain-enter _ _ p w
-plain-act p h op.Take w n = plain-take _ w
-plain-act p h (op.Append f) w n = plain-append _ w f
-plain-act p h (op.WakeByReference f) w n = plain-carried f _ (moves.wake_by_reference (task w f)) (no-wake _ _ (task w f))
-plain-act p h (op.Wake f) w n = plain-wake p w f
-plain-act p h (op.Release f) w n = plain-carried f _ (moves.release (task w f)) (no-release _ _ (task w f))
-plain-act p h (op.TakeUp f) w n = plain-carried f _ (moves.take_up (task w f)) (no-take_up _ (task w f))
-plain-act p h (op.SettleClosed f) w n = plain-owed f (among f w.table) (moves.settle_closed (task w f)).owed (plain-notify_if f (task w f).awaiter)
-plain-act p h (op.GiveUp f) w n = plain-carried f _ (moves.give_up (task w f)) (no-give_up _ (task w f))
-plain-act p h (op.EndReady f) w n = plain-owed f (among f w.table) (moves.end_ready (task w f)).owed (plain-notify_if f (task w f).awaiter)
-plain-act p h (op.EndPending f) w n = plain-carried f _ (moves.end_pending (task w f)) (no-end_pending _ _ _ (task w f))
-plain-act p h (op.EndClosed f) w n = plain-owed f (among f w.table) (moves.end_closed (task w f)).owed (plain-notify_if f (task w f).awaiter)
-plain-act p h (op.DropRunnable f) w n = plain-carried f (among f w.table) (moves.drop_runnable (task w f)) refl
-plain-act p h (op.Cancel f) w n = plain-owed f _ (moves.cancel (task w f)).owed (plain-cancel _ _ f (task w f))
-plain-act p h (op.Detach f) w n = plain-carried f _ (moves.detach (task w f)) (no-detach _ _ (task w f))
-plain-act p h (op.LeaveTable f) w n = plain-leave _ w f
-plain-act p h (op.CopyWaker f held) w n = plain-copy _ w f held
-plain-act p h (op.CopyAwaiter f a) w n = plain-copy_awaiter _ p w f a
-plain-act p h (op.Register f a k) w n = plain-register _ w f a k
-plain-act p h (op.EndRegister f a k) w n = plain-end_register _ w f a k
-plain-act p h (op.EndNotify f mine) w n = plain-told _ f (awaiter_of w f)
-plain-act p h (op.CallAwaiter f a k) w n = plain-call p w f a k
-plain-act p h (op.Look f a) w n = absurd (cc)
-plain-act p h (op.LookAgain f) w n = absurd (cc)
-plain-act p h (op.Notify f mine) w n = absurd (cc)
-plain-act p h op.TakeOut w n = absurd (cc)
-plain-act p h op.DropNext w n = absurd (cc)
-plain-act p h op.WakeNext w n = absurd (cc)
-plain-act p h op.Close w n = absurd (cc)
-plain-act p h op.Drain w n = absurd (cc)
+plain-act p h (op.Table table_op.Enter) w n = plain-enter _ _ p w
+plain-act p h (op.Queue queue_op.Take) w n = plain-take _ w
+plain-act p h (op.Queue (queue_op.Append f)) w n = plain-append _ w f
+plain-act p h (op.Move move.WakeByReference f) w n = plain-carried f _ (moves.wake_by_reference (task w f)) (no-wake _ _ (task w f))
+plain-act p h (op.Move move.Wake f) w n = plain-wake p w f
+plain-act p h (op.Move move.Release f) w n = plain-carried f _ (moves.release (task w f)) (no-release _ _ (task w f))
+plain-act p h (op.Move move.TakeUp f) w n = plain-carried f _ (moves.take_up (task w f)) (no-take_up _ (task w f))
+plain-act p h (op.Move move.SettleClosed f) w n = plain-owed f (among f w.table) (moves.settle_closed (task w f)).owed (plain-notify_if f (task w f).awaiter)
+plain-act p h (op.Move move.GiveUp f) w n = plain-carried f _ (moves.give_up (task w f)) (no-give_up _ (task w f))
+plain-act p h (op.Move move.EndReady f) w n = plain-owed f (among f w.table) (moves.end_ready (task w f)).owed (plain-notify_if f (task w f).awaiter)
+plain-act p h (op.Move move.EndPending f) w n = plain-carried f _ (moves.end_pending (task w f)) (no-end_pending _ _ _ (task w f))
+plain-act p h (op.Move move.EndClosed f) w n = plain-owed f (among f w.table) (moves.end_closed (task w f)).owed (plain-notify_if f (task w f).awaiter)
+plain-act p h (op.Move move.DropRunnable f) w n = plain-carried f (among f w.table) (moves.drop_runnable (task w f)) refl
+plain-act p h (op.Move move.Cancel f) w n = plain-owed f _ (moves.cancel (task w f)).owed (plain-cancel _ _ f (task w f))
+plain-act p h (op.Move move.Detach f) w n = plain-carried f _ (moves.detach (task w f)) (no-detach _ _ (task w f))
+plain-act p h (op.Table (table_op.LeaveTable f)) w n = plain-leave _ w f
+plain-act p h (op.Waker (waker_op.CopyWaker f held)) w n = plain-copy _ w f held
+plain-act p h (op.Handle (handle_op.CopyAwaiter f a)) w n = plain-copy_awaiter _ p w f a
+plain-act p h (op.Handle (handle_op.Register f a k)) w n = plain-register _ w f a k
+plain-act p h (op.Handle (handle_op.EndRegister f a k)) w n = plain-end_register _ w f a k
+plain-act p h (op.Handle (handle_op.EndNotify f mine)) w n = plain-told _ f (awaiter_of w f)
+plain-act p h (op.Waker (waker_op.CallAwaiter f a k)) w n = plain-call p w f a k
+plain-act p h (op.Handle (handle_op.Look f a)) w n = absurd (cc)
+plain-act p h (op.Handle (handle_op.LookAgain f)) w n = absurd (cc)
+plain-act p h (op.Handle (handle_op.Notify f mine)) w n = absurd (cc)
+plain-act p h (op.Closing closing_op.TakeOut) w n = absurd (cc)
+plain-act p h (op.Closing closing_op.DropNext) w n = absurd (cc)
+plain-act p h (op.Closing closing_op.WakeNext) w n = absurd (cc)
+plain-act p h (op.Closing closing_op.Close) w n = absurd (cc)
+plain-act p h (op.Closing closing_op.Drain) w n = absurd (cc)
+plain-act p h (op.User (user_op.BeginDrop f)) w n = refl
 plain-act p h _ w n = refl
 
 pub plain-react : (p : ℕ) (o : Op) (e : UserEnd) (w : World) → accepts o e ≡ true → weigh rough_of (react p o e w).next ≡ 0
-plain-react p (op.Poll f) (end.Polled answer.Pending) w k = refl
-plain-react p (op.Poll f) (end.Polled answer.Ready) w k = refl
-plain-react p (op.Drop f) end.Done w k = refl
-plain-react p (op.DropOutput f) end.Done w k = refl
-plain-react p (op.CallOutside x) end.Done w k = refl
+plain-react p (op.User (user_op.Poll f)) (end.Polled answer.Pending) w k = refl
+plain-react p (op.User (user_op.Poll f)) (end.Polled answer.Ready) w k = refl
+plain-react p (op.User (user_op.Drop f)) end.Done w k = refl
+plain-react p (op.User (user_op.DropOutput f)) end.Done w k = refl
+plain-react p (op.User (user_op.CallOutside x)) end.Done w k = refl
 plain-react p _ _ w k = absurd (cc)
 
 plain-with : (v : World) (r : Option ℕ) (d : ℕ → Done) → ((f : ℕ) → weigh rough_of (d f).next ≡ 0) → weigh rough_of (with_future v r d).next ≡ 0

@@ -6,6 +6,7 @@ use Rattle.queue_steps.specs.ClosableQueue.{ClosableQueue, HasRoom}
 use Rattle.executor_model.specs.declared.event.Event.{Event}
 use Rattle.executor_model.specs.declared.op.Op.{Op}
 use Rattle.executor_model.specs.declared.op.Op.TheVariants as op
+use Rattle.executor_model.specs.declared.op.QueueOp.TheVariants as queue_op
 use Rattle.executor_model.specs.declared.step.Step.{Step}
 use Rattle.executor_model.specs.Trace.{Trace, has, is_accepted, is_dropped}
 use Rattle.executor_model.specs.DroppedOnce.{DropComesOnce, IsDroppedByTheEnd}
@@ -99,8 +100,8 @@ module _ (s : Machine) (f : ℕ) (fine : Good s) (h : Placed s) where
 
   pub finds-place : FindsPlace s f
   finds-place p e = ⊎_elim
-      (λ (l : p < length s.parties). room None s.world.queue (h.leaves f).capacity (has-place s p f (below_top (stack s p)) l (topped (stack s p) (op.Append f) e) fine h))
-      (λ (l : length s.parties ≤ p). let z : stack s p ≡ [] = get_or_past s.parties p [] l in let no : slice_get (let os : List Op = [] in os) 0 ≡ Some (op.Append f) = sym (ap top z) ∙ e in absurd (cc))
+      (λ (l : p < length s.parties). room None s.world.queue (h.leaves f).capacity (has-place s p f (below_top (stack s p)) l (topped (stack s p) (op.Queue (queue_op.Append f)) e) fine h))
+      (λ (l : length s.parties ≤ p). let z : stack s p ≡ [] = get_or_past s.parties p [] l in let no : slice_get (let os : List Op = [] in os) 0 ≡ Some (op.Queue (queue_op.Append f)) = sym (ap top z) ∙ e in absurd (cc))
       (or-past p (length s.parties))
     where
       or-past : (a b : ℕ) → (a < b) ⊎ (b ≤ a)

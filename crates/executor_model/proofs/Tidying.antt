@@ -20,6 +20,12 @@ use Rattle.executor_model.specs.declared.op.Waker.TheVariants.{Task, Outside}
 use Rattle.executor_model.specs.declared.op.Hold.{Hold}
 use Rattle.executor_model.specs.declared.op.Op.{Op}
 use Rattle.executor_model.specs.declared.op.Op.TheVariants as op
+use Rattle.executor_model.specs.declared.op.ClosingOp.TheVariants as closing_op
+use Rattle.executor_model.specs.declared.op.HandleOp.TheVariants as handle_op
+use Rattle.executor_model.specs.declared.op.QueueOp.TheVariants as queue_op
+use Rattle.executor_model.specs.declared.op.TableOp.TheVariants as table_op
+use Rattle.executor_model.specs.declared.op.UserOp.TheVariants as user_op
+use Rattle.executor_model.specs.declared.op.WakerOp.TheVariants as waker_op
 use Rattle.executor_model.specs.declared.step.Hint.{Hint}
 use Rattle.executor_model.specs.declared.step.UserEnd.{UserEnd}
 use Rattle.executor_model.specs.declared.step.UserEnd.TheVariants as end
@@ -95,7 +101,7 @@ light-append : (b : Bool) (w : World) (f : ℕ) → weigh uses_of (append_by b w
 light-append true w f = refl
 light-append false w f = refl
 
-tidy-take : (q : List ℕ) (w : World) → Tidy (op.Take ∷ []) (take_by w q).next
+tidy-take : (q : List ℕ) (w : World) → Tidy (op.Queue queue_op.Take ∷ []) (take_by w q).next
 tidy-take [] w = record { keeps = λ h. refl }
 tidy-take (f ∷ rest) w = record { keeps = λ h. refl }
 
@@ -133,8 +139,8 @@ light-let_go None = refl
 light-let_go (Some a) = light-goes a.waker
 
 light-end_register : (b : Bool) (w : World) (f : ℕ) (a : Waker) (k : ℕ) → weigh uses_of (end_register_by b w f a k).next ≡ 0
-light-end_register true w f a k = omega (arith, light-both (let_go (awaiter_of w f)) (op.LookAgain f ∷ []) (light-let_go (awaiter_of w f)) refl)
-light-end_register false w f a k = light-both (let_go (awaiter_of w f)) (op.LookAgain f ∷ []) (light-let_go (awaiter_of w f)) refl
+light-end_register true w f a k = omega (arith, light-both (let_go (awaiter_of w f)) (op.Handle (handle_op.LookAgain f) ∷ []) (light-let_go (awaiter_of w f)) refl)
+light-end_register false w f a k = light-both (let_go (awaiter_of w f)) (op.Handle (handle_op.LookAgain f) ∷ []) (light-let_go (awaiter_of w f)) refl
 
 light-notify : (b : Bool) (w : World) (f : ℕ) (mine : Bool) → weigh uses_of (notify_by b w f mine).next ≡ 0
 light-notify true w f mine = refl
@@ -175,51 +181,51 @@ tidy-using o next u = record { keeps = λ h. absurd (omega (arith, u, h)) }
 
 -- what it needs beside: a Runnable that is dropped is one of a future that has no entry any more
 abbrev pub NeedsNoEntry : World → Op → Type 0
-NeedsNoEntry w (op.DropRunnable f) = among f w.table ≡ false
+NeedsNoEntry w (op.Move move.DropRunnable f) = among f w.table ≡ false
 NeedsNoEntry w _ = Unit {0}
 
 pub tidy-act : (p : ℕ) (h : Hint) (o : Op) (w : World) → NeedsNoEntry w o → Tidy (o ∷ []) (act p h o w).next
-tidy-act p h op.Enter w n = tidy-light _ _ (light-enter _ _ p w)
-tidy-act p h op.Take w n = tidy-take _ w
-tidy-act p h (op.Append f) w n = tidy-light _ _ (light-append _ w f)
-tidy-act p h (op.WakeByReference f) w n = tidy-light _ _ (light-carried f _ (moves.wake_by_reference (task w f)) (no-wake _ _ (task w f)))
-tidy-act p h (op.Wake f) w n = tidy-light _ _ (light-wake p w f)
-tidy-act p h (op.Release f) w n = tidy-light _ _ (light-carried f _ (moves.release (task w f)) (no-release _ _ (task w f)))
-tidy-act p h (op.TakeUp f) w n = tidy-using (op.TakeUp f) _ refl
-tidy-act p h (op.SettleClosed f) w n = tidy-light _ _ (light-carried f (among f w.table) (moves.settle_closed (task w f)) refl)
-tidy-act p h (op.GiveUp f) w n = tidy-light _ _ (light-carried f _ (moves.give_up (task w f)) (no-give_up _ (task w f)))
-tidy-act p h (op.EndReady f) w n = tidy-light _ _ (light-carried f (among f w.table) (moves.end_ready (task w f)) refl)
-tidy-act p h (op.EndPending f) w n = tidy-using (op.EndPending f) _ refl
-tidy-act p h (op.EndClosed f) w n = tidy-light _ _ (light-carried f (among f w.table) (moves.end_closed (task w f)) refl)
-tidy-act p h (op.DropRunnable f) w n = tidy-light _ _ (light-owed f _ (moves.drop_runnable (task w f)).owed (ap (λ (b : Bool). weigh uses_of (drop_ops b f)) n))
-tidy-act p h (op.Cancel f) w n = tidy-light _ _ (light-carried f _ (moves.cancel (task w f)) (no-cancel _ _ (task w f)))
-tidy-act p h (op.Detach f) w n = tidy-light _ _ (light-carried f _ (moves.detach (task w f)) (no-detach _ _ (task w f)))
-tidy-act p h (op.TakeToPoll f) w n = tidy-using (op.TakeToPoll f) _ refl
-tidy-act p h (op.Poll f) w n = tidy-using (op.Poll f) _ refl
-tidy-act p h (op.PutBack f) w n = tidy-using (op.PutBack f) _ refl
-tidy-act p h (op.TakeToDrop f) w n = tidy-using (op.TakeToDrop f) _ refl
-tidy-act p h (op.BeginDrop f) w n = tidy-using (op.BeginDrop f) _ refl
-tidy-act p h (op.LeaveTable f) w n = tidy-using (op.LeaveTable f) _ refl
-tidy-act p h (op.CopyWaker f held) w n = tidy-light _ _ (light-copy _ w f held)
-tidy-act p h (op.Look f a) w n = tidy-light _ _ (light-look (moves.poll (task w f)).owed.answer p w f a (moves.poll (task w f)))
-tidy-act p h (op.CopyAwaiter f a) w n = tidy-light _ _ (light-copy_awaiter _ p w f a)
-tidy-act p h (op.Register f a k) w n = tidy-light _ _ (light-register _ w f a k)
-tidy-act p h (op.EndRegister f a k) w n = tidy-light _ _ (light-end_register _ w f a k)
-tidy-act p h (op.LookAgain f) w n = tidy-light _ _ (light-again (moves.look_again (task w f)).owed.answer p w f (moves.look_again (task w f)))
-tidy-act p h (op.Notify f mine) w n = tidy-light _ _ (light-notify _ w f mine)
-tidy-act p h (op.EndNotify f mine) w n = tidy-light _ _ (light-told _ f (awaiter_of w f))
-tidy-act p h (op.CallAwaiter f a k) w n = tidy-light _ _ (light-call p w f a k)
-tidy-act p h op.TakeOut w n = tidy-light _ _ (light-closing w.table w.waking)
-tidy-act p h op.DropNext w n = tidy-light _ _ (light-drop_next p w w.leaving)
-tidy-act p h op.WakeNext w n = tidy-light _ _ (light-wake_next p w w.waking)
-tidy-act p h op.Drain w n = tidy-light _ _ (light-drain p w w.queue.items)
+tidy-act p h (op.Table table_op.Enter) w n = tidy-light _ _ (light-enter _ _ p w)
+tidy-act p h (op.Queue queue_op.Take) w n = tidy-take _ w
+tidy-act p h (op.Queue (queue_op.Append f)) w n = tidy-light _ _ (light-append _ w f)
+tidy-act p h (op.Move move.WakeByReference f) w n = tidy-light _ _ (light-carried f _ (moves.wake_by_reference (task w f)) (no-wake _ _ (task w f)))
+tidy-act p h (op.Move move.Wake f) w n = tidy-light _ _ (light-wake p w f)
+tidy-act p h (op.Move move.Release f) w n = tidy-light _ _ (light-carried f _ (moves.release (task w f)) (no-release _ _ (task w f)))
+tidy-act p h (op.Move move.TakeUp f) w n = tidy-using (op.Move move.TakeUp f) _ refl
+tidy-act p h (op.Move move.SettleClosed f) w n = tidy-light _ _ (light-carried f (among f w.table) (moves.settle_closed (task w f)) refl)
+tidy-act p h (op.Move move.GiveUp f) w n = tidy-light _ _ (light-carried f _ (moves.give_up (task w f)) (no-give_up _ (task w f)))
+tidy-act p h (op.Move move.EndReady f) w n = tidy-light _ _ (light-carried f (among f w.table) (moves.end_ready (task w f)) refl)
+tidy-act p h (op.Move move.EndPending f) w n = tidy-using (op.Move move.EndPending f) _ refl
+tidy-act p h (op.Move move.EndClosed f) w n = tidy-light _ _ (light-carried f (among f w.table) (moves.end_closed (task w f)) refl)
+tidy-act p h (op.Move move.DropRunnable f) w n = tidy-light _ _ (light-owed f _ (moves.drop_runnable (task w f)).owed (ap (λ (b : Bool). weigh uses_of (drop_ops b f)) n))
+tidy-act p h (op.Move move.Cancel f) w n = tidy-light _ _ (light-carried f _ (moves.cancel (task w f)) (no-cancel _ _ (task w f)))
+tidy-act p h (op.Move move.Detach f) w n = tidy-light _ _ (light-carried f _ (moves.detach (task w f)) (no-detach _ _ (task w f)))
+tidy-act p h (op.Table (table_op.TakeToPoll f)) w n = tidy-using (op.Table (table_op.TakeToPoll f)) _ refl
+tidy-act p h (op.User (user_op.Poll f)) w n = tidy-using (op.User (user_op.Poll f)) _ refl
+tidy-act p h (op.Table (table_op.PutBack f)) w n = tidy-using (op.Table (table_op.PutBack f)) _ refl
+tidy-act p h (op.Table (table_op.TakeToDrop f)) w n = tidy-using (op.Table (table_op.TakeToDrop f)) _ refl
+tidy-act p h (op.User (user_op.BeginDrop f)) w n = tidy-using (op.User (user_op.BeginDrop f)) _ refl
+tidy-act p h (op.Table (table_op.LeaveTable f)) w n = tidy-using (op.Table (table_op.LeaveTable f)) _ refl
+tidy-act p h (op.Waker (waker_op.CopyWaker f held)) w n = tidy-light _ _ (light-copy _ w f held)
+tidy-act p h (op.Handle (handle_op.Look f a)) w n = tidy-light _ _ (light-look (moves.poll (task w f)).owed.answer p w f a (moves.poll (task w f)))
+tidy-act p h (op.Handle (handle_op.CopyAwaiter f a)) w n = tidy-light _ _ (light-copy_awaiter _ p w f a)
+tidy-act p h (op.Handle (handle_op.Register f a k)) w n = tidy-light _ _ (light-register _ w f a k)
+tidy-act p h (op.Handle (handle_op.EndRegister f a k)) w n = tidy-light _ _ (light-end_register _ w f a k)
+tidy-act p h (op.Handle (handle_op.LookAgain f)) w n = tidy-light _ _ (light-again (moves.look_again (task w f)).owed.answer p w f (moves.look_again (task w f)))
+tidy-act p h (op.Handle (handle_op.Notify f mine)) w n = tidy-light _ _ (light-notify _ w f mine)
+tidy-act p h (op.Handle (handle_op.EndNotify f mine)) w n = tidy-light _ _ (light-told _ f (awaiter_of w f))
+tidy-act p h (op.Waker (waker_op.CallAwaiter f a k)) w n = tidy-light _ _ (light-call p w f a k)
+tidy-act p h (op.Closing closing_op.TakeOut) w n = tidy-light _ _ (light-closing w.table w.waking)
+tidy-act p h (op.Closing closing_op.DropNext) w n = tidy-light _ _ (light-drop_next p w w.leaving)
+tidy-act p h (op.Closing closing_op.WakeNext) w n = tidy-light _ _ (light-wake_next p w w.waking)
+tidy-act p h (op.Closing closing_op.Drain) w n = tidy-light _ _ (light-drain p w w.queue.items)
 tidy-act p h _ w n = tidy-light _ _ refl
 
 pub tidy-react : (p : ℕ) (o : Op) (e : UserEnd) (w : World) → accepts o e ≡ true → Tidy (o ∷ []) (react p o e w).next
-tidy-react p (op.Poll f) (end.Polled a) w k = tidy-using (op.Poll f) _ refl
-tidy-react p (op.Drop f) end.Done w k = tidy-light _ _ refl
-tidy-react p (op.DropOutput f) end.Done w k = tidy-light _ _ refl
-tidy-react p (op.CallOutside x) end.Done w k = tidy-light _ _ refl
+tidy-react p (op.User (user_op.Poll f)) (end.Polled a) w k = tidy-using (op.User (user_op.Poll f)) _ refl
+tidy-react p (op.User (user_op.Drop f)) end.Done w k = tidy-light _ _ refl
+tidy-react p (op.User (user_op.DropOutput f)) end.Done w k = tidy-light _ _ refl
+tidy-react p (op.User (user_op.CallOutside x)) end.Done w k = tidy-light _ _ refl
 tidy-react p _ _ w k = absurd (cc)
 
 tidy-with : (v : World) (r : Option ℕ) (d : ℕ → Done) → ((f : ℕ) → Tidy [] (d f).next) → Tidy [] (with_future v r d).next

@@ -3,6 +3,8 @@ use Rattle.std.specs.Prelude.{◌≡◌, ◌⊎◌, ℕ, ◌≤◌, true, false,
 use Rattle.queue_steps.specs.ClosableQueue.{HasRoom}
 use Rattle.executor_model.specs.declared.op.Op.{Op}
 use Rattle.executor_model.specs.declared.op.Op.TheVariants as op
+use Rattle.executor_model.specs.declared.op.QueueOp.TheVariants as queue_op
+use Rattle.executor_model.specs.declared.op.TableOp.TheVariants as table_op
 use Rattle.executor_model.specs.Trace.{has, is_accepted, is_dropped, is_drop_begun}
 use Rattle.executor_model.specs.Weights.{same, weigh_all}
 use Rattle.executor_model.specs.Sound.{times, ousting_of}
@@ -10,7 +12,7 @@ use Rattle.executor_model.specs.Steps.{Machine, stack, top}
 
 -- an entry of future g is still to be taken out of the table
 abbrev pub leaves_of : ℕ → Op → ℕ
-leaves_of g (op.LeaveTable f) = same g f
+leaves_of g (op.Table (table_op.LeaveTable f)) = same g f
 leaves_of g _ = 0
 
 -- the drop of the executor hasn't yet taken the table out
@@ -36,4 +38,4 @@ pub record QueueAgrees (s : Machine) (f : ℕ) : Type 0 where
 
 -- a party that is about to append a Runnable finds a place for it
 abbrev pub FindsPlace : Machine → ℕ → Type 0
-FindsPlace s f = (p : ℕ) → top (stack s p) ≡ Some (op.Append f) → HasRoom s.world.queue
+FindsPlace s f = (p : ℕ) → top (stack s p) ≡ Some (op.Queue (queue_op.Append f)) → HasRoom s.world.queue

@@ -1,10 +1,24 @@
 -- What holds of the machine at every moment, and what each thing to do needs for its numbers to fit.
 use Rattle.std.specs.Prelude.{◌≡◌, ℕ, ◌+◌, ◌^◌, ◌<◌, nat_lt, Option, Some, None, List, [], ◌∷◌, cond, length}
+use Rattle.task_moves.specs.declared.moves.owed.Move.{Move}
+use Rattle.task_moves.specs.Moves.{HoldsReference}
 use Rattle.executor_model.specs.declared.op.Awaiter.{Awaiter}
 use Rattle.executor_model.specs.declared.op.Waker.{Waker}
 use Rattle.executor_model.specs.declared.op.Waker.TheVariants.{Task, Outside}
 use Rattle.executor_model.specs.declared.op.Op.{Op}
 use Rattle.executor_model.specs.declared.op.Op.TheVariants as op
+use Rattle.executor_model.specs.declared.op.ClosingOp.{ClosingOp}
+use Rattle.executor_model.specs.declared.op.ClosingOp.TheVariants as closing_op
+use Rattle.executor_model.specs.declared.op.HandleOp.{HandleOp}
+use Rattle.executor_model.specs.declared.op.HandleOp.TheVariants as handle_op
+use Rattle.executor_model.specs.declared.op.QueueOp.{QueueOp}
+use Rattle.executor_model.specs.declared.op.QueueOp.TheVariants as queue_op
+use Rattle.executor_model.specs.declared.op.TableOp.{TableOp}
+use Rattle.executor_model.specs.declared.op.TableOp.TheVariants as table_op
+use Rattle.executor_model.specs.declared.op.UserOp.{UserOp}
+use Rattle.executor_model.specs.declared.op.UserOp.TheVariants as user_op
+use Rattle.executor_model.specs.declared.op.WakerOp.{WakerOp}
+use Rattle.executor_model.specs.declared.op.WakerOp.TheVariants as waker_op
 use Rattle.executor_model.specs.World.{World, task}
 use Rattle.executor_model.specs.Weights.{weigh_all}
 use Rattle.executor_model.specs.Steps.{Machine}
@@ -32,36 +46,43 @@ awaiters_past n [] = 0
 awaiters_past n (None ∷ rest) = awaiters_past n rest
 awaiters_past n (Some a ∷ rest) = waker_past n a.waker + awaiters_past n rest
 
--- whether an op speaks of no future
+-- whether a thing to do speaks of no future, by groups
+abbrev pub table_past : ℕ → TableOp → ℕ
+table_past n (table_op.TakeToPoll f) = past n f
+table_past n (table_op.PutBack f) = past n f
+table_past n (table_op.TakeToDrop f) = past n f
+table_past n (table_op.LeaveTable f) = past n f
+table_past n _ = 0
+
+abbrev pub queue_past : ℕ → QueueOp → ℕ
+queue_past n (queue_op.Append f) = past n f
+queue_past n _ = 0
+
+abbrev pub user_past : ℕ → UserOp → ℕ
+user_past n (user_op.Poll f) = past n f
+user_past n (user_op.BeginDrop f) = past n f
+user_past n _ = 0
+
+abbrev pub waker_op_past : ℕ → WakerOp → ℕ
+waker_op_past n (waker_op.CopyWaker f held) = past n f
+waker_op_past n (waker_op.CallAwaiter f a k) = past n f + waker_past n a
+
+abbrev pub handle_past : ℕ → HandleOp → ℕ
+handle_past n (handle_op.Look f a) = past n f + waker_past n a
+handle_past n (handle_op.CopyAwaiter f a) = past n f + waker_past n a
+handle_past n (handle_op.Register f a k) = past n f + waker_past n a
+handle_past n (handle_op.EndRegister f a k) = past n f + waker_past n a
+handle_past n (handle_op.LookAgain f) = past n f
+handle_past n (handle_op.Notify f mine) = past n f
+handle_past n (handle_op.EndNotify f mine) = past n f
+
 abbrev pub past_of : ℕ → Op → ℕ
-past_of n (op.Append f) = past n f
-past_of n (op.WakeByReference f) = past n f
-past_of n (op.Wake f) = past n f
-past_of n (op.Release f) = past n f
-past_of n (op.TakeUp f) = past n f
-past_of n (op.SettleClosed f) = past n f
-past_of n (op.GiveUp f) = past n f
-past_of n (op.EndReady f) = past n f
-past_of n (op.EndPending f) = past n f
-past_of n (op.EndClosed f) = past n f
-past_of n (op.DropRunnable f) = past n f
-past_of n (op.Cancel f) = past n f
-past_of n (op.Detach f) = past n f
-past_of n (op.TakeToPoll f) = past n f
-past_of n (op.Poll f) = past n f
-past_of n (op.PutBack f) = past n f
-past_of n (op.TakeToDrop f) = past n f
-past_of n (op.BeginDrop f) = past n f
-past_of n (op.LeaveTable f) = past n f
-past_of n (op.CopyWaker f held) = past n f
-past_of n (op.Look f a) = past n f + waker_past n a
-past_of n (op.CopyAwaiter f a) = past n f + waker_past n a
-past_of n (op.Register f a k) = past n f + waker_past n a
-past_of n (op.EndRegister f a k) = past n f + waker_past n a
-past_of n (op.LookAgain f) = past n f
-past_of n (op.Notify f mine) = past n f
-past_of n (op.EndNotify f mine) = past n f
-past_of n (op.CallAwaiter f a k) = past n f + waker_past n a
+past_of n (op.Move m f) = past n f
+past_of n (op.Table o) = table_past n o
+past_of n (op.Queue o) = queue_past n o
+past_of n (op.User o) = user_past n o
+past_of n (op.Waker o) = waker_op_past n o
+past_of n (op.Handle o) = handle_past n o
 past_of n _ = 0
 
 -- each number is a future's, and each future has its place in each list
@@ -104,32 +125,40 @@ abbrev pub CanWake : World → Waker → Type 0
 CanWake w (Task g) = CanGrow w g
 CanWake w (Outside x) = Unit {0}
 
--- what a thing to do needs
+-- a move of the task has the reference that it gives up, and its count has room for one more
+abbrev pub CanMove : World → Move → ℕ → Type 0
+CanMove w m f = CanGrow w f × HoldsReference m (task w f)
+
+-- what a thing to do needs, by groups
+
+abbrev pub TableNeeds : World → TableOp → Type 0
+TableNeeds w (table_op.TakeToPoll f) = HasPlace w f
+TableNeeds w (table_op.PutBack f) = HasPlace w f
+TableNeeds w (table_op.TakeToDrop f) = HasPlace w f
+TableNeeds w _ = Unit {0}
+
+abbrev pub WakerNeeds : World → WakerOp → Type 0
+WakerNeeds w (waker_op.CopyWaker f held) = IsKnown w f
+WakerNeeds w (waker_op.CallAwaiter f a k) = CanWake w a
+
+abbrev pub HandleNeeds : World → HandleOp → Type 0
+HandleNeeds w (handle_op.Look f a) = IsKnown w f
+HandleNeeds w (handle_op.CopyAwaiter f a) = IsKnownWaker w a
+HandleNeeds w (handle_op.Register f a k) = IsKnown w f
+HandleNeeds w (handle_op.EndRegister f a k) = KeepsAwaiter w f
+HandleNeeds w (handle_op.LookAgain f) = IsKnown w f
+HandleNeeds w (handle_op.Notify f mine) = IsKnown w f
+HandleNeeds w (handle_op.EndNotify f mine) = KeepsAwaiter w f
+
+abbrev pub ClosingNeeds : World → ClosingOp → Type 0
+ClosingNeeds w closing_op.DropNext = (f : ℕ) (rest : List ℕ) → w.leaving ≡ f ∷ rest → HasPlace w f
+ClosingNeeds w closing_op.WakeNext = (f : ℕ) (rest : List ℕ) → w.waking ≡ f ∷ rest → CanGrow w f
+ClosingNeeds w _ = Unit {0}
+
 abbrev pub Needs : World → Op → Type 0
-Needs w (op.WakeByReference f) = CanGrow w f
-Needs w (op.Wake f) = CanGrow w f
-Needs w (op.Release f) = IsHeld w f
-Needs w (op.TakeUp f) = IsKnown w f
-Needs w (op.SettleClosed f) = IsKnown w f
-Needs w (op.GiveUp f) = IsHeld w f
-Needs w (op.EndReady f) = IsKnown w f
-Needs w (op.EndPending f) = IsHeld w f
-Needs w (op.EndClosed f) = IsKnown w f
-Needs w (op.DropRunnable f) = IsKnown w f
-Needs w (op.Cancel f) = CanGrow w f
-Needs w (op.Detach f) = IsKnown w f
-Needs w (op.TakeToPoll f) = HasPlace w f
-Needs w (op.PutBack f) = HasPlace w f
-Needs w (op.TakeToDrop f) = HasPlace w f
-Needs w (op.CopyWaker f held) = IsKnown w f
-Needs w (op.Look f a) = IsKnown w f
-Needs w (op.CopyAwaiter f a) = IsKnownWaker w a
-Needs w (op.Register f a k) = IsKnown w f
-Needs w (op.EndRegister f a k) = KeepsAwaiter w f
-Needs w (op.LookAgain f) = IsKnown w f
-Needs w (op.Notify f mine) = IsKnown w f
-Needs w (op.EndNotify f mine) = KeepsAwaiter w f
-Needs w (op.CallAwaiter f a k) = CanWake w a
-Needs w op.DropNext = (f : ℕ) (rest : List ℕ) → w.leaving ≡ f ∷ rest → HasPlace w f
-Needs w op.WakeNext = (f : ℕ) (rest : List ℕ) → w.waking ≡ f ∷ rest → CanGrow w f
+Needs w (op.Move m f) = CanMove w m f
+Needs w (op.Table o) = TableNeeds w o
+Needs w (op.Waker o) = WakerNeeds w o
+Needs w (op.Handle o) = HandleNeeds w o
+Needs w (op.Closing o) = ClosingNeeds w o
 Needs w _ = Unit {0}

@@ -9,6 +9,13 @@ use Rattle.executor_model.specs.declared.op.Waker.{Waker}
 use Rattle.executor_model.specs.declared.op.Waker.TheVariants.{Task, Outside}
 use Rattle.executor_model.specs.declared.op.Op.{Op}
 use Rattle.executor_model.specs.declared.op.Op.TheVariants as op
+use Rattle.executor_model.specs.declared.op.ClosingOp.TheVariants as closing_op
+use Rattle.executor_model.specs.declared.op.HandleOp.TheVariants as handle_op
+use Rattle.task_moves.specs.declared.moves.owed.Move.TheVariants as move
+use Rattle.executor_model.specs.declared.op.QueueOp.TheVariants as queue_op
+use Rattle.executor_model.specs.declared.op.TableOp.TheVariants as table_op
+use Rattle.executor_model.specs.declared.op.UserOp.TheVariants as user_op
+use Rattle.executor_model.specs.declared.op.WakerOp.TheVariants as waker_op
 use Rattle.executor_model.specs.Trace.{Trace}
 use Rattle.executor_model.specs.World.{World, task}
 use Rattle.executor_model.specs.Weights.{same, weigh, weigh_all, borrowing_of}
@@ -39,58 +46,58 @@ awaiters_of g (Some a ∷ rest) = wakes g a.waker + awaiters_of g rest
 
 -- Runnables that are not in the queue
 abbrev pub waiting_of : ℕ → Op → ℕ
-waiting_of g (op.Append f) = same g f
-waiting_of g (op.TakeUp f) = same g f
-waiting_of g (op.DropRunnable f) = same g f
+waiting_of g (op.Queue (queue_op.Append f)) = same g f
+waiting_of g (op.Move move.TakeUp f) = same g f
+waiting_of g (op.Move move.DropRunnable f) = same g f
 waiting_of g _ = 0
 
 abbrev pub polls_of : ℕ → Op → ℕ
-polls_of g (op.TakeToPoll f) = same g f
-polls_of g (op.Poll f) = same g f
+polls_of g (op.Table (table_op.TakeToPoll f)) = same g f
+polls_of g (op.User (user_op.Poll f)) = same g f
 polls_of g _ = 0
 
 abbrev pub ending_of : ℕ → Op → ℕ
-ending_of g (op.PutBack f) = same g f
-ending_of g (op.EndPending f) = same g f
+ending_of g (op.Table (table_op.PutBack f)) = same g f
+ending_of g (op.Move move.EndPending f) = same g f
 ending_of g _ = 0
 
 abbrev pub ready_of : ℕ → Op → ℕ
-ready_of g (op.EndReady f) = same g f
+ready_of g (op.Move move.EndReady f) = same g f
 ready_of g _ = 0
 
 abbrev pub closing_of : ℕ → Op → ℕ
-closing_of g (op.EndClosed f) = same g f
+closing_of g (op.Move move.EndClosed f) = same g f
 closing_of g _ = 0
 
 abbrev pub settling_of : ℕ → Op → ℕ
-settling_of g (op.SettleClosed f) = same g f
+settling_of g (op.Move move.SettleClosed f) = same g f
 settling_of g _ = 0
 
 abbrev pub giving_of : ℕ → Op → ℕ
-giving_of g (op.GiveUp f) = same g f
+giving_of g (op.Move move.GiveUp f) = same g f
 giving_of g _ = 0
 
 -- drops of the future that are owed
 abbrev pub drops_of : ℕ → Op → ℕ
-drops_of g (op.TakeToDrop f) = same g f
-drops_of g (op.BeginDrop f) = same g f
+drops_of g (op.Table (table_op.TakeToDrop f)) = same g f
+drops_of g (op.User (user_op.BeginDrop f)) = same g f
 drops_of g _ = 0
 
 -- wakers that are about to go
 abbrev pub releases_of : ℕ → Op → ℕ
-releases_of g (op.Wake f) = same g f
-releases_of g (op.Release f) = same g f
+releases_of g (op.Move move.Wake f) = same g f
+releases_of g (op.Move move.Release f) = same g f
 releases_of g _ = 0
 
 -- wakers on their way to be stored or called
 abbrev pub copies_of : ℕ → Op → ℕ
-copies_of g (op.Register f a k) = wakes g a
-copies_of g (op.EndRegister f a k) = wakes g a
-copies_of g (op.CallAwaiter f a k) = wakes g a
+copies_of g (op.Handle (handle_op.Register f a k)) = wakes g a
+copies_of g (op.Handle (handle_op.EndRegister f a k)) = wakes g a
+copies_of g (op.Waker (waker_op.CallAwaiter f a k)) = wakes g a
 copies_of g _ = 0
 
 abbrev pub ousting_of : Op → ℕ
-ousting_of op.TakeOut = 1
+ousting_of (op.Closing closing_op.TakeOut) = 1
 ousting_of _ = 0
 
 -- what the parties have still to do with g

@@ -4,6 +4,12 @@ use Rattle.executor_model.specs.declared.op.Hold.{Hold}
 use Rattle.executor_model.specs.declared.op.Hold.TheVariants as hold
 use Rattle.executor_model.specs.declared.op.Op.{Op}
 use Rattle.executor_model.specs.declared.op.Op.TheVariants as op
+use Rattle.executor_model.specs.declared.op.HandleOp.TheVariants as handle_op
+use Rattle.task_moves.specs.declared.moves.owed.Move.TheVariants as move
+use Rattle.executor_model.specs.declared.op.QueueOp.TheVariants as queue_op
+use Rattle.executor_model.specs.declared.op.TableOp.TheVariants as table_op
+use Rattle.executor_model.specs.declared.op.UserOp.TheVariants as user_op
+use Rattle.executor_model.specs.declared.op.WakerOp.TheVariants as waker_op
 
 -- one where they are the same
 unfoldable pub same : ℕ → ℕ → ℕ
@@ -44,31 +50,31 @@ holds_waker j (hold.Waker k) = same j k
 
 -- uses of the executor by calls in progress: the end of such a call, and the run of a future inside
 abbrev pub borrowing_of : Op → ℕ
-borrowing_of op.Enter = 1
-borrowing_of op.Take = 1
-borrowing_of op.LookAtTable = 1
-borrowing_of (op.TakeUp f) = 1
-borrowing_of (op.TakeToPoll f) = 1
-borrowing_of (op.Poll f) = 1
-borrowing_of (op.PutBack f) = 1
-borrowing_of (op.EndPending f) = 1
-borrowing_of (op.EndReady f) = 1
-borrowing_of (op.CopyWaker f held) = holds_executor held
+borrowing_of (op.Table table_op.Enter) = 1
+borrowing_of (op.Queue queue_op.Take) = 1
+borrowing_of (op.Table table_op.LookAtTable) = 1
+borrowing_of (op.Move move.TakeUp f) = 1
+borrowing_of (op.Table (table_op.TakeToPoll f)) = 1
+borrowing_of (op.User (user_op.Poll f)) = 1
+borrowing_of (op.Table (table_op.PutBack f)) = 1
+borrowing_of (op.Move move.EndPending f) = 1
+borrowing_of (op.Move move.EndReady f) = 1
+borrowing_of (op.Waker (waker_op.CopyWaker f held)) = holds_executor held
 borrowing_of (op.End r held) = holds_executor held
 borrowing_of _ = 0
 
 -- uses of the handle of future g
 abbrev pub handling_of : ℕ → Op → ℕ
-handling_of g (op.Look f a) = same g f
-handling_of g (op.CopyAwaiter f a) = same g f
-handling_of g (op.Register f a k) = same g f
-handling_of g (op.EndRegister f a k) = same g f
-handling_of g (op.LookAgain f) = same g f
+handling_of g (op.Handle (handle_op.Look f a)) = same g f
+handling_of g (op.Handle (handle_op.CopyAwaiter f a)) = same g f
+handling_of g (op.Handle (handle_op.Register f a k)) = same g f
+handling_of g (op.Handle (handle_op.EndRegister f a k)) = same g f
+handling_of g (op.Handle (handle_op.LookAgain f)) = same g f
 handling_of g (op.End r held) = holds_handle g held
 handling_of g _ = 0
 
 -- uses of the kept waker j
 abbrev pub lending_of : ℕ → Op → ℕ
-lending_of j (op.CopyWaker f held) = holds_waker j held
+lending_of j (op.Waker (waker_op.CopyWaker f held)) = holds_waker j held
 lending_of j (op.End r held) = holds_waker j held
 lending_of j _ = 0

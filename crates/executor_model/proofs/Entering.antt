@@ -18,7 +18,7 @@ use Rattle.executor_model.specs.Steps.{Machine, stack, top, below_top, run, star
 use Rattle.executor_model.specs.Entries.{leaves_of, HasTable, Remains, TableAgrees, QueueAgrees, FindsPlace}
 use Rattle.executor_model.proofs.Lift.{topped, good}
 use Rattle.executor_model.proofs.Stories.{story}
-use Rattle.executor_model.proofs.Telling.{fallen-counts, accepted-counts, counted-there, there-or-none, begun-has, ended-has, drop-has-cause}
+use Rattle.executor_model.proofs.Telling.{fallen-counts, accepted-counts, counted-there, there-or-none, begun-has, ended-has, drop-has-cause, drop-follows}
 use Rattle.executor_model.proofs.LeavingRuns.{Placed, placed, has-place}
 
 -- no entry is there twice
@@ -82,6 +82,8 @@ module _ (s : Machine) (f : ℕ) (fine : Good s) (h : Placed s) where
     once = omega (arith, (fine.sound f).one);
     accepted = λ n. there (is_accepted f) s.world.trace _ (accepted-counts f s.world.trace) (omega (arith, stands n, (h.leaves f).bound));
     undropped = λ n d. sym (begun-has f s.world.trace) ∙ ((h.leaves f).begun ∙ ⊎_elim (λ (e : s.world.gone ≡ true). e) (λ (e : s.world.gone ≡ false). absurd (omega (arith, (h.leaves f).stay e, stands n, one-accepted, counts (is_dropped f) s.world.trace _ (fallen-counts f s.world.trace) d))) (either s.world.gone));
+    by_closing = λ n d. drop-follows f s.world.trace (omega (arith, (h.leaves f).lasting, stands n, one-accepted)) d;
+    alone = λ b. omega (arith, (h.leaves f).still (sym (h.leaves f).begun ∙ (begun-has f s.world.trace ∙ b)));
   }
 
   pub drop-comes-once : DropComesOnce f s.world.trace

@@ -72,6 +72,7 @@ pub record Leaves (w : World) (g : ℕ) (p : Pend) (x : Extra) : Type 0 where
   pub once : (story g w.trace).fallen + (p.drops + times g w.leaving) ≤ (story g w.trace).accepted
   pub behind : x.leaves ≤ (story g w.trace).fallen
   pub stay : w.gone ≡ false → times g (story g w.trace).standing + (story g w.trace).fallen ≡ (story g w.trace).accepted
+  pub lasting : times g (story g w.trace).standing + (story g w.trace).early ≡ (story g w.trace).accepted
   pub bound : times g (story g w.trace).standing ≤ (story g w.trace).accepted
   pub unclosed : g < length w.tasks → (task w g).closed ≡ false → (task w g).completed ≡ false → (1 ≤ times g (story g w.trace).standing) ⊎ (1 ≤ p.ready)
   pub runs : 1 ≤ going w g p → 1 ≤ times g (story g w.trace).standing

@@ -2,7 +2,7 @@
 ghost use Rattle.std.specs.Prelude.{◌≡◌, ◌≢◌, ℕ, ◌+◌, ◌-◌, ◌^◌, ◌<◌, ◌≤◌, ◌==◌, ◌++◌, true, false, not, Some, None, List, [], ◌∷◌};
 ghost use Rattle.std.specs.Prelude.{length, map, reverse, vec_len, vec_capacity};
 ghost use Rattle.executor_model.specs.Steps as steps;
-ghost use Rattle.executor_model.specs.Weights as weights;
+ghost use Rattle.executor_model.specs.Rows as rows;
 ghost use Rattle.executor_model.specs.Weights.{weigh, weigh_all};
 ghost use Rattle.executor_model.specs.World.{task};
 ghost use Rattle.executor_core.specs.Uses as uses;
@@ -49,7 +49,7 @@ fn holds(held: Hold, what: Use) -> bool
 }
 
 fn borrows(op: Op) -> bool
-    ensures { result ≡ not (weights.borrowing_of op == 0) }
+    ensures { result ≡ not (rows.borrowing_of op == 0) }
 {
     match op {
         Op::Table(TableOp::Enter) => true,
@@ -69,7 +69,7 @@ fn borrows(op: Op) -> bool
 
 #[tactic(auto, using(crate::proofs::Scans::same_test))]
 fn handles(op: Op, f: u64) -> bool
-    ensures { result ≡ not (weights.handling_of f op == 0) }
+    ensures { result ≡ not (rows.handling_of f op == 0) }
 {
     match op {
         Op::Handle(HandleOp::Look(g, _)) => f == g,
@@ -83,7 +83,7 @@ fn handles(op: Op, f: u64) -> bool
 }
 
 fn lends(op: Op, k: u64) -> bool
-    ensures { result ≡ not (weights.lending_of k op == 0) }
+    ensures { result ≡ not (rows.lending_of k op == 0) }
 {
     match op {
         Op::Waker(WakerOp::CopyWaker(_, held)) => holds(held, Use::Waker(k)),

@@ -17,7 +17,8 @@ use Rattle.executor_model.specs.declared.step.UserEnd.TheVariants as end
 use Rattle.executor_model.specs.World.{World, Done}
 use Rattle.executor_model.specs.Acts.{act}
 use Rattle.executor_model.specs.Weights.{weigh, weigh_all}
-use Rattle.executor_laws.specs.Remaining.{steps_of, steps_kept, remaining, is_onward, are_onward, LowersRemaining, EndsWithin, GoesOn}
+use Rattle.executor_laws.specs.Remaining.{steps_kept, remaining, is_onward, are_onward, LowersRemaining, EndsWithin, GoesOn}
+use Rattle.executor_model.specs.Rows.{steps_of}
 use Rattle.executor_model.specs.Runs.{run_all}
 use Rattle.executor_model.specs.Steps.{Machine, stack, top, below_top, waits, go_refusal, answer_refusal, accepts, unless, refusal, react, end_of, settled_by, onto, gone_on, with_part, after, step_by, step}
 use Rattle.executor_model.proofs.Lists.{weigh_all-push, weigh_all-set, weigh-append}

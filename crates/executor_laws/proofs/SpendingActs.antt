@@ -31,7 +31,8 @@ use Rattle.executor_model.specs.World.{World, Done, done, log, task, put, awaite
 use Rattle.executor_model.specs.Carried.{awaiter_ops}
 use Rattle.executor_model.specs.Acts.{append_by, take_by, enter_by, entered, emptiness, take_to_drop, leave_by, copy_by, polled, reply_of, is_output, answered, look_by, look_again_by, copied, copy_awaiter_by, register_by, waker_goes, let_go, end_register_by, notify_by, told, end_notify, call_awaiter, closing_ops, take_out, drop_next_by, followed, wake, wake_next_by, drain_by, act}
 use Rattle.executor_model.specs.Weights.{weigh}
-use Rattle.executor_laws.specs.Remaining.{steps_of, stored, keeps_output, outputs_kept, steps_kept}
+use Rattle.executor_laws.specs.Remaining.{stored, keeps_output, outputs_kept, steps_kept}
+use Rattle.executor_model.specs.Rows.{steps_of}
 use Rattle.executor_model.specs.Steps.{waits, accepts, react}
 use Rattle.executor_model.proofs.Lists.{weigh-append}
 use Rattle.executor_laws.proofs.Spending.{Spends, kept-parts, outputs-push, one_stored, stored-push, without-one, kept-put, kept-put_awaiter, kept-log, kept-log_if, notify_other-steps, spends-carried, spends-logged, costs-wake, costs-waking, costs-release, costs-take_up, costs-settle_closed, costs-give_up, costs-end_ready, costs-end_pending, costs-end_closed, costs-drop_runnable, costs-cancel, costs-detach}

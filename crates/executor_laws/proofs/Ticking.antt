@@ -24,7 +24,8 @@ use Rattle.executor_model.specs.Entries.{QueueAgrees}
 use Rattle.executor_model.specs.World.{log, task}
 use Rattle.executor_model.specs.Acts.{take_by}
 use Rattle.executor_model.specs.Weights.{weigh_all}
-use Rattle.executor_model.specs.Sound.{times, waiting_of, polls_of, ending_of, ready_of, closing_of, settling_of, giving_of, drops_of}
+use Rattle.executor_model.specs.Sound.{times}
+use Rattle.executor_model.specs.Rows.{waiting_of, polls_of, ending_of, ready_of, closing_of, settling_of, giving_of, drops_of}
 use Rattle.executor_model.specs.Good.{Good}
 use Rattle.executor_model.specs.Steps.{Machine, stack, top, step, step_by, stepped, refusal, unless, begin_refusal, go_refusal, onto, part_after, with_part, run, start}
 use Rattle.executor_model.proofs.Lists.{same_is}

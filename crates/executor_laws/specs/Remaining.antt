@@ -16,46 +16,10 @@ use Rattle.executor_model.specs.declared.step.Step.{Step}
 use Rattle.executor_model.specs.declared.step.Step.TheVariants.{Begin, Go, Answer}
 use Rattle.executor_model.specs.declared.step.UserEnd.{UserEnd}
 use Rattle.executor_model.specs.World.{World}
+use Rattle.executor_model.specs.Rows.{steps_of}
 use Rattle.executor_model.specs.Weights.{weigh_all}
 use Rattle.executor_model.specs.Steps.{Machine, stack, top, waits, refusal, after}
 use Rattle.executor_model.specs.Runs.{run_all}
-
--- so many steps may a thing to do take, with all that it leads to
-abbrev pub steps_of : Op → ℕ
-steps_of (op.Table table_op.Enter) = 42
-steps_of (op.Queue queue_op.Take) = 8
-steps_of (op.Table table_op.LookAtTable) = 2
-steps_of (op.Queue (queue_op.Append f)) = 12
-steps_of (op.Move move.WakeByReference f) = 13
-steps_of (op.Move move.Wake f) = 26
-steps_of (op.Move move.Release f) = 13
-steps_of (op.Move move.TakeUp f) = 17
-steps_of (op.Move move.SettleClosed f) = 4
-steps_of (op.Move move.EndReady f) = 9
-steps_of (op.Move move.EndPending f) = 13
-steps_of (op.Move move.EndClosed f) = 4
-steps_of (op.Move move.DropRunnable f) = 10
-steps_of (op.Move move.Cancel f) = 15
-steps_of (op.Move move.Detach f) = 13
-steps_of (op.Table (table_op.TakeToPoll f)) = 16
-steps_of (op.User (user_op.Poll f)) = 15
-steps_of (op.Table (table_op.PutBack f)) = 14
-steps_of (op.Table (table_op.TakeToDrop f)) = 5
-steps_of (op.User (user_op.BeginDrop f)) = 3
-steps_of (op.User (user_op.BeginDropOutput f)) = 2
-steps_of (op.Waker (waker_op.CopyWaker f held)) = 2
-steps_of (op.Handle (handle_op.Look f a)) = 34
-steps_of (op.Handle (handle_op.CopyAwaiter f a)) = 33
-steps_of (op.Handle (handle_op.Register f a k)) = 32
-steps_of (op.Handle (handle_op.EndRegister f a k)) = 31
-steps_of (op.Handle (handle_op.LookAgain f)) = 4
-steps_of (op.Handle (handle_op.Notify f mine)) = 2
-steps_of (op.Waker (waker_op.CallAwaiter f a k)) = 26
-steps_of (op.Closing closing_op.TakeOut) = 5
-steps_of (op.Closing closing_op.DropNext) = 4
-steps_of (op.Closing closing_op.WakeNext) = 3
-steps_of (op.Closing closing_op.Close) = 2
-steps_of _ = 1
 
 abbrev pub stored : List (Option Awaiter) → ℕ
 stored [] = 0

@@ -24,10 +24,11 @@ use Rattle.executor_model.specs.declared.step.UserEnd.TheVariants as end
 use Rattle.executor_model.specs.Trace.{Trace}
 use Rattle.executor_model.specs.World.{World, Done, done, log}
 use Rattle.executor_model.specs.Acts.{act}
-use Rattle.executor_model.specs.Weights.{weigh}
+use Rattle.executor_model.specs.Weights.{weigh, past}
 use Rattle.executor_model.specs.Sound.{Sound, Pend, pend, with_ops, phase}
 use Rattle.executor_model.specs.Sound.Phase.{Over, Broken}
-use Rattle.executor_model.specs.Good.{Good, past, past_of}
+use Rattle.executor_model.specs.Good.{Good}
+use Rattle.executor_model.specs.Rows.{past_of}
 use Rattle.executor_model.specs.Steps.{Machine, stack, run, start, idle, polled_by, top, accepts, begun, react, used_up, with_future, kept, waker_of}
 use Rattle.executor_model.proofs.Lists.{past_is, phase-push}
 use Rattle.executor_model.proofs.Lift.{split, split-pend, push-pend, unsettled, good-start}

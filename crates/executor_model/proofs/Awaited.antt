@@ -15,7 +15,8 @@ use Rattle.task_moves.specs.declared.moves.owed.Move.TheVariants as move
 use Rattle.executor_model.specs.declared.op.WakerOp.TheVariants as waker_op
 use Rattle.executor_model.specs.Trace.{Trace, takes_handle}
 use Rattle.executor_model.specs.World.{World, Done, task, awaiter_of}
-use Rattle.executor_model.specs.Weights.{same, weigh, weigh_all, handling_of, holds_handle}
+use Rattle.executor_model.specs.Weights.{same, weigh, weigh_all, holds_handle}
+use Rattle.executor_model.specs.Rows.{handling_of}
 use Rattle.executor_model.specs.Sound.{Pend, with_ops, tokens, times}
 use Rattle.executor_model.specs.Acts.{closing_ops}
 use Rattle.executor_model.proofs.Lists.{same_cases, weigh-closing}

@@ -32,8 +32,8 @@ use Rattle.executor_model.specs.declared.step.UserEnd.TheVariants as end
 use Rattle.executor_model.specs.World.{World, Done, done, log, log_if, task}
 use Rattle.executor_model.specs.Carried.{awaiter_ops}
 use Rattle.executor_model.specs.Acts.{append_by, take_by, enter_by, leave_by, copy_by, look_by, look_again_by, copy_awaiter_by, register_by, end_register_by, notify_by, call_awaiter, closing_ops, drop_next_by, wake, wake_next_by, close, drain_by, act}
-use Rattle.executor_model.specs.Weights.{weigh, weigh_all, borrowing_of}
-use Rattle.executor_model.specs.Sound.{ousting_of}
+use Rattle.executor_model.specs.Weights.{weigh, weigh_all}
+use Rattle.executor_model.specs.Rows.{borrowing_of, ousting_of}
 use Rattle.executor_model.specs.Good.{Good}
 use Rattle.executor_model.specs.Steps.{Machine, stack, top, run, start, polled_by, is_free, has_all, is_on_executor, is_drop, is_unused, kept, with_future, accepts, begun, react}
 use Rattle.executor_model.proofs.Cases.{by_bool, by_list}
@@ -118,6 +118,11 @@ rough-more (op.Closing closing_op.Drain) = omega arith
 rough-more (op.Handle (handle_op.Notify f true)) = omega arith
 rough-more (op.Handle (handle_op.Notify f false)) = omega arith
 rough-more (op.Handle (handle_op.EndNotify f mine)) = omega arith
+rough-more (op.Move move.Wake f) = omega arith
+rough-more (op.Table table_op.Enter) = omega arith
+rough-more (op.Queue queue_op.Take) = omega arith
+rough-more (op.User (user_op.Drop f)) = omega arith
+rough-more (op.Waker (waker_op.CopyWaker f held)) = omega arith
 rough-more _ = omega arith
 
 rough-weighs : (os : List Op) → weigh ousting_of os + (weigh dropping_of os + (weigh rousing_of os + (weigh shutting_of os + weigh draining_of os))) ≤ weigh rough_of os
@@ -260,6 +265,12 @@ no-self (op.Closing closing_op.DropNext) n = absurd (cc)
 no-self (op.Closing closing_op.WakeNext) n = absurd (cc)
 no-self (op.Closing closing_op.Close) n = absurd (cc)
 no-self (op.Closing closing_op.Drain) n = absurd (cc)
+no-self (op.Move move.Wake f) n = refl
+no-self (op.Table table_op.Enter) n = refl
+no-self (op.Queue queue_op.Take) n = refl
+no-self (op.User (user_op.Drop f)) n = refl
+no-self (op.Waker (waker_op.CopyWaker f held)) n = refl
+no-self (op.Handle (handle_op.LookAgain f)) n = refl
 no-self _ n = refl
 
 no-act : (p : ℕ) (h : Hint) (o : Op) (w : World) (b : Bool) → is_special o ≡ b → is_sweeping o ≡ false → NoSteps (act p h o w).next

@@ -19,10 +19,11 @@ use Rattle.executor_model.specs.declared.step.UserEnd.{UserEnd}
 use Rattle.executor_model.specs.declared.step.UserEnd.TheVariants as end
 use Rattle.executor_model.specs.World.{World, Done, done, log, task}
 use Rattle.executor_model.specs.Acts.{act, is_copy_refused}
-use Rattle.executor_model.specs.Weights.{same, weigh, weigh_all, handling_of, borrowing_of}
-use Rattle.executor_model.specs.Sound.{Sound, Pend, pend, with_ops, waiting_of, polls_of, ending_of, ready_of, settling_of, giving_of, drops_of, releases_of, copies_of, ousting_of}
-use Rattle.executor_model.specs.Sound as sound
-use Rattle.executor_model.specs.Good.{Good, past, past_of}
+use Rattle.executor_model.specs.Weights.{same, weigh, weigh_all, past}
+use Rattle.executor_model.specs.Sound.{Sound, Pend, pend, with_ops}
+use Rattle.executor_model.specs.Rows as rows
+use Rattle.executor_model.specs.Good.{Good}
+use Rattle.executor_model.specs.Rows.{handling_of, borrowing_of, waiting_of, polls_of, ending_of, ready_of, settling_of, giving_of, drops_of, releases_of, copies_of, ousting_of, past_of}
 use Rattle.executor_model.specs.Steps.{Machine, stack, idle, run, start, polled_by, top, is_free, has_all, has_handle, is_on_executor, is_drop, is_unused, accepts, begun, react}
 use Rattle.task_moves.specs.Moves as moves
 use Rattle.executor_model.proofs.Lists.{same_is, same_cases, past_is, weigh-reverse, weigh_all-push}
@@ -375,7 +376,7 @@ waited-start limit n = record {
       polls = weigh_all-idle (polls_of g) n i;
       ending = weigh_all-idle (ending_of g) n i;
       ready = weigh_all-idle (ready_of g) n i;
-      closing = weigh_all-idle (sound.closing_of g) n i;
+      closing = weigh_all-idle (rows.closing_of g) n i;
       settling = weigh_all-idle (settling_of g) n i;
       giving = weigh_all-idle (giving_of g) n i;
       drops = weigh_all-idle (drops_of g) n i;

@@ -12,10 +12,11 @@ use Rattle.executor_model.specs.Trace.{Trace, has, is_accepted, is_dropped}
 use Rattle.executor_model.specs.DroppedOnce.{DropComesOnce, IsDroppedByTheEnd}
 use Rattle.executor_model.specs.EarlyDrop.{EarlyDropHasCause}
 use Rattle.executor_model.specs.Weights.{weigh_all}
-use Rattle.executor_model.specs.Sound.{times, ousting_of}
+use Rattle.executor_model.specs.Sound.{times}
 use Rattle.executor_model.specs.Good.{Good}
 use Rattle.executor_model.specs.Steps.{Machine, stack, top, below_top, run, start}
-use Rattle.executor_model.specs.Entries.{leaves_of, HasTable, Remains, TableAgrees, QueueAgrees, FindsPlace}
+use Rattle.executor_model.specs.Entries.{HasTable, Remains, TableAgrees, QueueAgrees, FindsPlace}
+use Rattle.executor_model.specs.Rows.{ousting_of, leaves_of}
 use Rattle.executor_model.proofs.Lift.{topped, good}
 use Rattle.executor_model.proofs.Stories.{story}
 use Rattle.executor_model.proofs.Telling.{fallen-counts, accepted-counts, counted-there, there-or-none, begun-has, ended-has, drop-has-cause, drop-follows}

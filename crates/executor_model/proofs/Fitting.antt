@@ -33,8 +33,9 @@ use Rattle.executor_model.specs.declared.step.Hint.{Hint}
 use Rattle.executor_model.specs.World.{World, Done, done, log, log_if, task, put, awaiter_of, put_awaiter, among}
 use Rattle.executor_model.specs.Carried.{schedule_ops, future_ops, output_ops, awaiter_ops, next_ops, owed_ops, carried}
 use Rattle.executor_model.specs.Acts.{append_by, take_by, enter_by, leave_by, copy_by, answered, polled, look_by, look_again_by, copy_awaiter_by, register_by, end_register_by, notify_by, end_notify, told, let_go, waker_goes, call_awaiter, closing_ops, drop_next_by, wake_next_by, drain_by, followed, wake, reply_of, is_output, act}
-use Rattle.executor_model.specs.Weights.{weigh}
-use Rattle.executor_model.specs.Good.{past, pasts, waker_past, awaiters_past, past_of, Fits}
+use Rattle.executor_model.specs.Weights.{weigh, past, waker_past}
+use Rattle.executor_model.specs.Good.{pasts, awaiters_past, Fits}
+use Rattle.executor_model.specs.Rows.{past_of}
 use Rattle.executor_model.proofs.Cases.{by_bool, by_list, by_waker}
 use Rattle.executor_model.proofs.Lists.{past_is, pasts-append, pasts-without, pasts-more, pasts-drop, wakers_past-more, wakers_past-push, awaiters_past-set, awaiters_past-push, awaiters_past-more, past_if, weigh-append}
 

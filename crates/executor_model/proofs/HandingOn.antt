@@ -19,7 +19,8 @@ use Rattle.executor_model.specs.Weights.{same, weigh}
 use Rattle.executor_model.specs.Sound.{Sound, Pend, pend, tokens}
 use Rattle.executor_model.specs.Steps.{Machine}
 use Rattle.executor_model.specs.Good.{Good}
-use Rattle.executor_model.specs.HandingOn.{appends_of, handed_on, HandsOn, IsFirst, IsIdle, IsOnItsWay, IsWakeOf}
+use Rattle.executor_model.specs.HandingOn.{handed_on, HandsOn, IsFirst, IsIdle, IsOnItsWay, IsWakeOf}
+use Rattle.executor_model.specs.Rows.{appends_of}
 use Rattle.executor_model.proofs.Lists.{same_is, weigh-closing}
 
 one : (f : ℕ) → same f f ≡ 1

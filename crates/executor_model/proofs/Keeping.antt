@@ -14,7 +14,8 @@ use Rattle.executor_model.specs.Trace.{Trace, takes_handle, is_ready, is_cancell
 use Rattle.executor_model.specs.OutputOnce.{is_output_given}
 use Rattle.executor_model.specs.World.{World, Done, task}
 use Rattle.executor_model.specs.Weights.{same, weigh, weigh_all}
-use Rattle.executor_model.specs.Sound.{Sound, pend, waiting_of, polls_of, ready_of}
+use Rattle.executor_model.specs.Sound.{Sound, pend}
+use Rattle.executor_model.specs.Rows.{waiting_of, polls_of, ready_of}
 
 -- how often g was ready
 

@@ -24,8 +24,9 @@ use Rattle.executor_model.specs.declared.step.Hint.{Hint}
 use Rattle.executor_model.specs.World.{World, done, log, log_if, task}
 use Rattle.executor_model.specs.Carried.{carried}
 use Rattle.executor_model.specs.Acts.{append_by, take_by, enter_by, take_to_poll, leave_by, begin_drop, begin_drop_output, copy_by, polled, look_by, look_again_by, copy_awaiter_by, register_by, end_register_by, notify_by, call_awaiter, closing_ops, drop_next_by, wake_next_by, drain_by, act}
-use Rattle.executor_model.specs.Weights.{weigh}
-use Rattle.executor_model.specs.Good.{past, pasts, waker_past, past_of, IsKnownWaker}
+use Rattle.executor_model.specs.Weights.{weigh, past, waker_past}
+use Rattle.executor_model.specs.Good.{pasts, IsKnownWaker}
+use Rattle.executor_model.specs.Rows.{past_of}
 use Rattle.executor_model.proofs.Cases.{by_bool, by_list, by_waker}
 use Rattle.executor_model.proofs.Lists.{read_put, read_push, fresh_is, past_is, same_is}
 use Rattle.executor_model.proofs.Counting.{settling, readied, pended, ending, dropping, taken_up, woken, woken_by, cancel_going, cancel_idle, cancel_over, detached, stays_so, gives, waits_on, end_registered, end_notified, next_woken}

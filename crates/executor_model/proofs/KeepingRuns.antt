@@ -24,8 +24,8 @@ use Rattle.executor_model.specs.declared.step.UserEnd.TheVariants as end
 use Rattle.executor_model.specs.World.{World, Done, done, log}
 use Rattle.executor_model.specs.Acts.{act}
 use Rattle.executor_model.specs.Weights.{weigh}
-use Rattle.executor_model.specs.Sound.{waiting_of, polls_of, ready_of}
-use Rattle.executor_model.specs.Good.{Good, past_of}
+use Rattle.executor_model.specs.Good.{Good}
+use Rattle.executor_model.specs.Rows.{waiting_of, polls_of, ready_of, past_of}
 use Rattle.executor_model.specs.Steps.{Machine, stack, run, start, idle, polled_by, top, accepts, begun, react, used_up, with_future, kept, waker_of}
 use Rattle.executor_model.proofs.Lists.{same_is, weigh_all-push}
 use Rattle.executor_model.proofs.Lift.{split, unsettled, weigh_all-idle, good-start}

@@ -8,7 +8,7 @@ use Rattle.task_moves.specs.declared.moves.owed.Move.TheVariants as move
 use Rattle.executor_model.specs.World.{World, Done, task}
 use Rattle.executor_model.specs.Weights.{weigh, weigh_all}
 use Rattle.executor_model.specs.Sound.{Sound, Pend, with_ops, tokens, living, times}
-use Rattle.executor_model.specs.Entries.{leaves_of}
+use Rattle.executor_model.specs.Rows.{leaves_of}
 use Rattle.executor_model.proofs.Stories.{story}
 
 -- what is only done after the drop of the executor has emptied the table

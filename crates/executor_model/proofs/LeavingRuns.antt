@@ -24,12 +24,12 @@ use Rattle.executor_model.specs.declared.step.UserEnd.{UserEnd}
 use Rattle.executor_model.specs.declared.step.UserEnd.TheVariants as end
 use Rattle.executor_model.specs.World.{World, Done, done, log, among}
 use Rattle.executor_model.specs.Acts.{act}
-use Rattle.executor_model.specs.Weights.{weigh, weigh_all, same, borrowing_of}
-use Rattle.executor_model.specs.Sound.{Sound, Pend, pend, with_ops, times, waiting_of, polls_of, ending_of, ready_of, settling_of, giving_of, drops_of, releases_of, copies_of, ousting_of}
-use Rattle.executor_model.specs.Sound as sound
-use Rattle.executor_model.specs.Good.{Good, past_of}
+use Rattle.executor_model.specs.Weights.{weigh, weigh_all, same}
+use Rattle.executor_model.specs.Sound.{Sound, Pend, pend, with_ops, times}
+use Rattle.executor_model.specs.Rows as rows
+use Rattle.executor_model.specs.Good.{Good}
 use Rattle.executor_model.specs.Steps.{Machine, stack, idle, run, start, polled_by, top, is_free, has_all, is_on_executor, is_drop, is_unused, accepts, begun, react, used_up, with_future, kept, waker_of}
-use Rattle.executor_model.specs.Entries.{leaves_of}
+use Rattle.executor_model.specs.Rows.{borrowing_of, waiting_of, polls_of, ending_of, ready_of, settling_of, giving_of, drops_of, releases_of, copies_of, ousting_of, past_of, leaves_of}
 use Rattle.executor_model.proofs.Cases.{by_bool}
 use Rattle.executor_model.proofs.Lists.{weigh_all-push}
 use Rattle.executor_model.proofs.Lift.{split, split-pend, push-pend, unsettled, good-start, none_refused, open_executor, unborrowed, weigh_all-idle, set-own}
@@ -217,7 +217,7 @@ placed-start limit n = record {
       polls = weigh_all-idle (polls_of g) n i;
       ending = weigh_all-idle (ending_of g) n i;
       ready = weigh_all-idle (ready_of g) n i;
-      closing = weigh_all-idle (sound.closing_of g) n i;
+      closing = weigh_all-idle (rows.closing_of g) n i;
       settling = weigh_all-idle (settling_of g) n i;
       giving = weigh_all-idle (giving_of g) n i;
       drops = weigh_all-idle (drops_of g) n i;

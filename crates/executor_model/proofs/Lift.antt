@@ -32,9 +32,10 @@ use Rattle.executor_model.specs.declared.step.UserEnd.{UserEnd}
 use Rattle.executor_model.specs.declared.step.UserEnd.TheVariants as end
 use Rattle.executor_model.specs.World.{World, Done, done, log, task, blank}
 use Rattle.executor_model.specs.Acts.{act}
-use Rattle.executor_model.specs.Weights.{weigh, weigh_all, borrowing_of}
-use Rattle.executor_model.specs.Sound.{Sound, Pend, pend, with_ops, waiting_of, polls_of, ending_of, ready_of, closing_of, settling_of, giving_of, drops_of, releases_of, copies_of, ousting_of}
-use Rattle.executor_model.specs.Good.{Good, Fits, past, waker_past, past_of}
+use Rattle.executor_model.specs.Weights.{weigh, weigh_all, past, waker_past}
+use Rattle.executor_model.specs.Sound.{Sound, Pend, pend, with_ops}
+use Rattle.executor_model.specs.Good.{Good, Fits}
+use Rattle.executor_model.specs.Rows.{borrowing_of, waiting_of, polls_of, ending_of, ready_of, closing_of, settling_of, giving_of, drops_of, releases_of, copies_of, ousting_of, past_of}
 use Rattle.executor_model.specs.Steps.{Machine, stack, top, below_top, is_free, polled_by, kept, has_all, is_on_executor, is_drop, is_unused, unless, begin_refusal, answer_refusal, accepts, party_of, part_refusal, refusal, used_up, with_future, waker_of, begun, react, end_of, settled_by, onto, gone_on, part_after, with_part, after, step_by, step, stepped, run, idle, start}
 use Rattle.executor_model.proofs.Lists.{past-more, waker_past-more, same_is, past_is, phase-push, wakers_of-used, wakers_past-used, weigh-append, weigh-reverse, weigh_all-set, weigh_all-push}
 use Rattle.executor_model.proofs.Counting.{Keeps, sound-act, sound-pending, sound-ready}
@@ -102,6 +103,7 @@ module _ (n m : ℕ) (h : n ≤ m) where
   more (op.Handle (handle_op.Notify f mine)) z = more-one f z
   more (op.Handle (handle_op.EndNotify f mine)) z = more-one f z
   more (op.Waker (waker_op.CallAwaiter f a k)) z = more-two f a z
+  more (op.Closing closing_op.Drain) z = refl
   more _ z = refl
 
   more-weigh : (os : List Op) → weigh (past_of n) os ≡ 0 → weigh (past_of m) os ≡ 0
@@ -214,6 +216,11 @@ good-answer s p e (Some o) l q n good =
 polls-borrow : (g : ℕ) (o : Op) → polls_of g o ≤ borrowing_of o
 polls-borrow g (op.Table (table_op.TakeToPoll f)) = grind (arith, same_is)
 polls-borrow g (op.User (user_op.Poll f)) = grind (arith, same_is)
+polls-borrow g (op.Move move.Wake f) = omega arith
+polls-borrow g (op.Queue queue_op.Take) = omega arith
+polls-borrow g (op.Waker (waker_op.CopyWaker f held)) = omega arith
+polls-borrow g (op.Handle (handle_op.LookAgain f)) = omega arith
+polls-borrow g (op.Closing closing_op.Drain) = omega arith
 polls-borrow g _ = omega arith
 
 polls-borrow-stack : (g : ℕ) (os : List Op) → weigh (polls_of g) os ≤ weigh borrowing_of os

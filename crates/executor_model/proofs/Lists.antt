@@ -18,9 +18,10 @@ use Rattle.executor_model.specs.declared.op.ClosingOp.TheVariants as closing_op
 use Rattle.executor_model.specs.Acts.{closing_ops}
 use Rattle.executor_model.specs.Trace.{Trace}
 use Rattle.executor_model.specs.World.{blank, without, among}
-use Rattle.executor_model.specs.Weights.{same, weigh, weigh_all, borrowing_of}
-use Rattle.executor_model.specs.Good.{past, pasts, wakers_past, waker_past, awaiters_past}
-use Rattle.executor_model.specs.Sound.{times, wakers_of, wakes, awaiters_of, waiting_of, polls_of, ending_of, ready_of, closing_of, settling_of, giving_of, drops_of, releases_of, copies_of, ousting_of, Pend, with_ops, Phase, passes, phase_from, phase, after_begun, after_answered, after_dropped}
+use Rattle.executor_model.specs.Weights.{same, weigh, weigh_all, past, waker_past, wakes}
+use Rattle.executor_model.specs.Good.{pasts, wakers_past, awaiters_past}
+use Rattle.executor_model.specs.Sound.{times, wakers_of, awaiters_of, Pend, with_ops, Phase, passes, phase_from, phase, after_begun, after_answered, after_dropped}
+use Rattle.executor_model.specs.Rows.{borrowing_of, waiting_of, polls_of, ending_of, ready_of, closing_of, settling_of, giving_of, drops_of, releases_of, copies_of, ousting_of}
 use Rattle.executor_model.proofs.Cases.{by_bool}
 
 pub same_cases : (g f : ℕ) → ((same g f ≡ 1) × (eqb g f ≡ true) × (g ≡ f)) ⊎ ((same g f ≡ 0) × (eqb g f ≡ false) × (g ≢ f))

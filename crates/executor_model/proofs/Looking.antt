@@ -16,7 +16,7 @@ use Rattle.executor_model.specs.declared.step.StepError.{StepError}
 use Rattle.executor_model.specs.declared.step.StepError.TheVariants.{NoSuch}
 use Rattle.executor_model.specs.Trace.{Trace}
 use Rattle.executor_model.specs.Acts.{act, emptiness}
-use Rattle.executor_model.specs.Weights.{borrowing_of}
+use Rattle.executor_model.specs.Rows.{borrowing_of}
 use Rattle.executor_model.specs.Sound.{times}
 use Rattle.executor_model.specs.Good.{Good}
 use Rattle.executor_model.specs.Steps.{Machine, stack, top, below_top, step, step_by, stepped, refusal, go_refusal, unless, gone_on, run, start}

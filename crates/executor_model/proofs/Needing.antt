@@ -13,9 +13,9 @@ use Rattle.executor_model.specs.declared.op.HandleOp.TheVariants as handle_op
 use Rattle.task_moves.specs.declared.moves.owed.Move.TheVariants as move
 use Rattle.executor_model.specs.declared.op.TableOp.TheVariants as table_op
 use Rattle.executor_model.specs.declared.op.WakerOp.TheVariants as waker_op
-use Rattle.executor_model.specs.Weights.{same}
-use Rattle.executor_model.specs.Sound.{ending_of, giving_of, releases_of}
-use Rattle.executor_model.specs.Good.{Good, Needs, CanGrow, IsHeld, HasPlace, KeepsAwaiter, IsKnownWaker, CanWake, past, pasts, waker_past, past_of}
+use Rattle.executor_model.specs.Weights.{same, past, waker_past}
+use Rattle.executor_model.specs.Good.{Good, Needs, CanGrow, IsHeld, HasPlace, KeepsAwaiter, IsKnownWaker, CanWake, pasts}
+use Rattle.executor_model.specs.Rows.{ending_of, giving_of, releases_of, past_of}
 use Rattle.executor_model.specs.Steps.{Machine, stack, top, below_top}
 use Rattle.executor_model.proofs.Lists.{past_is, same_is}
 use Rattle.executor_model.proofs.Lift.{split, topped}

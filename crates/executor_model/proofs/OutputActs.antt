@@ -29,8 +29,8 @@ use Rattle.executor_model.specs.declared.step.UserEnd.TheVariants as end
 use Rattle.executor_model.specs.World.{World, Done, done, log, log_if, task, put, put_awaiter, awaiter_of}
 use Rattle.executor_model.specs.Carried.{carried}
 use Rattle.executor_model.specs.Acts.{append_by, take_by, enter_by, entered, leave_by, copy_by, polled, look_by, look_again_by, copied, copy_awaiter_by, register_by, waker_goes, let_go, end_register_by, notify_by, told, end_notify, call_awaiter, closing_ops, take_out, drop_next_by, followed, wake, wake_next_by, drain_by, begin_drop_output, act}
-use Rattle.executor_model.specs.Weights.{weigh}
-use Rattle.executor_model.specs.Good.{past, past_of}
+use Rattle.executor_model.specs.Weights.{weigh, past}
+use Rattle.executor_model.specs.Rows.{past_of}
 use Rattle.executor_model.specs.Steps.{used_up, with_future, kept, accepts, begun, react}
 use Rattle.executor_model.proofs.Cases.{by_bool}
 use Rattle.executor_model.proofs.Lists.{same_is, read_put, past_is, weigh-append}

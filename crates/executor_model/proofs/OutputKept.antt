@@ -27,8 +27,8 @@ use Rattle.executor_model.specs.OutputOnce.{is_output_given}
 use Rattle.executor_model.specs.OutputKept.{polls_alone, OutputIsThere, GivesOutput, OutputIsKept}
 use Rattle.executor_model.specs.World.{World, log, task, blank}
 use Rattle.executor_model.specs.Acts.{look_by}
-use Rattle.executor_model.specs.Weights.{weigh_all, handling_of}
-use Rattle.executor_model.specs.Sound.{ready_of}
+use Rattle.executor_model.specs.Weights.{weigh_all}
+use Rattle.executor_model.specs.Rows.{handling_of, ready_of}
 use Rattle.executor_model.specs.Steps.{Machine, stack, top, step, step_by, stepped, refusal, unless, begin_refusal, go_refusal, onto, part_after, with_part, run, start}
 use Rattle.executor_model.proofs.Telling.{counted-there, there-or-none}
 use Rattle.executor_model.proofs.Resting.{Deep, deep, rests, all-rest}

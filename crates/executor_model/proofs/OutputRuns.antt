@@ -11,8 +11,9 @@ use Rattle.executor_model.specs.declared.step.Step.{Step}
 use Rattle.executor_model.specs.OutputOnce.{OutputGoesOnce}
 use Rattle.executor_model.specs.World.{World, Done, done, log, task}
 use Rattle.executor_model.specs.Weights.{weigh, weigh_all}
-use Rattle.executor_model.specs.Sound.{Sound, pend, ready_of}
-use Rattle.executor_model.specs.Good.{Good, past_of}
+use Rattle.executor_model.specs.Sound.{Sound, pend}
+use Rattle.executor_model.specs.Good.{Good}
+use Rattle.executor_model.specs.Rows.{ready_of, past_of}
 use Rattle.executor_model.specs.Steps.{Machine, stack, idle, run, start, polled_by, top}
 use Rattle.executor_model.proofs.Lists.{weigh_all-push, same_is}
 use Rattle.executor_model.proofs.Lift.{split, unsettled, good-start}

@@ -21,7 +21,8 @@ use Rattle.executor_model.specs.World.{log}
 use Rattle.executor_model.specs.Weights.{weigh_all}
 use Rattle.executor_model.specs.Good.{Good}
 use Rattle.executor_model.specs.Steps.{Machine, stack, top, step, step_by, stepped, refusal, unless, begin_refusal, part_after, with_part, run, start}
-use Rattle.executor_model.specs.Entries.{leaves_of, Remains}
+use Rattle.executor_model.specs.Entries.{Remains}
+use Rattle.executor_model.specs.Rows.{leaves_of}
 use Rattle.executor_model.specs.Emptiness.{Answers, AnswersAlone, AllDropped, IsAtRest, IsQuietEmptinessExact}
 use Rattle.executor_model.proofs.Lists.{weigh_all-set}
 use Rattle.executor_model.proofs.Lift.{good, good-stepped}

@@ -25,7 +25,8 @@ use Rattle.executor_model.specs.Trace.{Trace}
 use Rattle.executor_model.specs.Quiet.{IsQuiet}
 use Rattle.executor_model.specs.World.{World, Done, done, log}
 use Rattle.executor_model.specs.Acts.{act}
-use Rattle.executor_model.specs.Weights.{same, weigh, weigh_all, borrowing_of}
+use Rattle.executor_model.specs.Weights.{same, weigh, weigh_all}
+use Rattle.executor_model.specs.Rows.{borrowing_of}
 use Rattle.executor_model.specs.Good.{Good}
 use Rattle.executor_model.specs.Steps.{Machine, stack, run, start, idle, polled_by, top, is_free, is_some, has_all, is_on_executor, is_drop, is_unused, accepts, begun, react, with_future, kept}
 use Rattle.executor_model.proofs.Lists.{same_cases, weigh-append, weigh-reverse}

@@ -21,7 +21,8 @@ use Rattle.executor_model.specs.declared.step.StepError.TheVariants.{NoSuch}
 use Rattle.executor_model.specs.Trace.{Trace}
 use Rattle.executor_model.specs.World.{World}
 use Rattle.executor_model.specs.Acts.{act, enter_by}
-use Rattle.executor_model.specs.Weights.{weigh_all, borrowing_of}
+use Rattle.executor_model.specs.Weights.{weigh_all}
+use Rattle.executor_model.specs.Rows.{borrowing_of}
 use Rattle.executor_model.specs.Sound.{times}
 use Rattle.executor_model.specs.Good.{Good}
 use Rattle.executor_model.specs.Steps.{Machine, stack, top, below_top, step, step_by, stepped, refusal, go_refusal, unless, settled, settled_by, end_of, onto, gone_on, run, start}

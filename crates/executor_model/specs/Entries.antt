@@ -8,13 +8,9 @@ use Rattle.executor_model.specs.declared.op.TableOp.TheVariants as table_op
 use Rattle.executor_model.specs.Trace.{has, is_accepted, is_dropped, is_drop_begun}
 use Rattle.executor_model.specs.Weights.{same, weigh_all}
 use Rattle.executor_model.specs.EarlyDrop.{before_drop}
-use Rattle.executor_model.specs.Sound.{times, drops_of, ousting_of}
+use Rattle.executor_model.specs.Sound.{times}
+use Rattle.executor_model.specs.Rows.{drops_of, leaves_of, ousting_of}
 use Rattle.executor_model.specs.Steps.{Machine, stack, top}
-
--- an entry of future g is still to be taken out of the table
-abbrev pub leaves_of : ℕ → Op → ℕ
-leaves_of g (op.Table (table_op.LeaveTable f)) = same g f
-leaves_of g _ = 0
 
 -- the drop of the executor hasn't yet taken the table out
 abbrev pub HasTable : Machine → Type 0

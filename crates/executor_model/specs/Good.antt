@@ -20,13 +20,10 @@ use Rattle.executor_model.specs.declared.op.UserOp.TheVariants as user_op
 use Rattle.executor_model.specs.declared.op.WakerOp.{WakerOp}
 use Rattle.executor_model.specs.declared.op.WakerOp.TheVariants as waker_op
 use Rattle.executor_model.specs.World.{World, task}
-use Rattle.executor_model.specs.Weights.{weigh_all}
+use Rattle.executor_model.specs.Weights.{weigh_all, past, waker_past}
+use Rattle.executor_model.specs.Rows.{past_of}
 use Rattle.executor_model.specs.Steps.{Machine}
 use Rattle.executor_model.specs.Sound.{Sound, pend}
-
--- one where f is no number below n
-unfoldable pub past : ℕ → ℕ → ℕ
-past n f = cond (nat_lt f n) 0 1
 
 abbrev pub pasts : ℕ → List ℕ → ℕ
 pasts n [] = 0
@@ -37,53 +34,10 @@ wakers_past n [] = 0
 wakers_past n (None ∷ ws) = wakers_past n ws
 wakers_past n (Some f ∷ ws) = past n f + wakers_past n ws
 
-abbrev pub waker_past : ℕ → Waker → ℕ
-waker_past n (Task f) = past n f
-waker_past n (Outside x) = 0
-
 abbrev pub awaiters_past : ℕ → List (Option Awaiter) → ℕ
 awaiters_past n [] = 0
 awaiters_past n (None ∷ rest) = awaiters_past n rest
 awaiters_past n (Some a ∷ rest) = waker_past n a.waker + awaiters_past n rest
-
--- whether a thing to do speaks of no future, by groups
-abbrev pub table_past : ℕ → TableOp → ℕ
-table_past n (table_op.TakeToPoll f) = past n f
-table_past n (table_op.PutBack f) = past n f
-table_past n (table_op.TakeToDrop f) = past n f
-table_past n (table_op.LeaveTable f) = past n f
-table_past n _ = 0
-
-abbrev pub queue_past : ℕ → QueueOp → ℕ
-queue_past n (queue_op.Append f) = past n f
-queue_past n _ = 0
-
-abbrev pub user_past : ℕ → UserOp → ℕ
-user_past n (user_op.Poll f) = past n f
-user_past n (user_op.BeginDrop f) = past n f
-user_past n _ = 0
-
-abbrev pub waker_op_past : ℕ → WakerOp → ℕ
-waker_op_past n (waker_op.CopyWaker f held) = past n f
-waker_op_past n (waker_op.CallAwaiter f a k) = past n f + waker_past n a
-
-abbrev pub handle_past : ℕ → HandleOp → ℕ
-handle_past n (handle_op.Look f a) = past n f + waker_past n a
-handle_past n (handle_op.CopyAwaiter f a) = past n f + waker_past n a
-handle_past n (handle_op.Register f a k) = past n f + waker_past n a
-handle_past n (handle_op.EndRegister f a k) = past n f + waker_past n a
-handle_past n (handle_op.LookAgain f) = past n f
-handle_past n (handle_op.Notify f mine) = past n f
-handle_past n (handle_op.EndNotify f mine) = past n f
-
-abbrev pub past_of : ℕ → Op → ℕ
-past_of n (op.Move m f) = past n f
-past_of n (op.Table o) = table_past n o
-past_of n (op.Queue o) = queue_past n o
-past_of n (op.User o) = user_past n o
-past_of n (op.Waker o) = waker_op_past n o
-past_of n (op.Handle o) = handle_past n o
-past_of n _ = 0
 
 -- each number is a future's, and each future has its place in each list
 pub record Fits (w : World) : Type 0 where

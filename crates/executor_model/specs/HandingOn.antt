@@ -10,15 +10,11 @@ use Rattle.executor_model.specs.declared.op.WakerOp.TheVariants as waker_op
 use Rattle.executor_model.specs.declared.op.Waker.TheVariants.{Task}
 use Rattle.executor_model.specs.declared.step.Hint.{Hint}
 use Rattle.executor_model.specs.World.{World, task}
-use Rattle.executor_model.specs.Weights.{same, weigh}
+use Rattle.executor_model.specs.Weights.{weigh}
+use Rattle.executor_model.specs.Rows.{appends_of}
 use Rattle.executor_model.specs.Acts.{act}
 use Rattle.executor_model.specs.Steps.{Machine}
 use Rattle.executor_model.specs.Sound.{pend, tokens}
-
--- a Runnable of g is handed to the schedule function
-abbrev pub appends_of : ℕ → Op → ℕ
-appends_of g (op.Queue (queue_op.Append f)) = same g f
-appends_of g _ = 0
 
 abbrev pub handed_on : ℕ → Op → ℕ → Hint → World → ℕ
 handed_on g o p h w = weigh (appends_of g) (act p h o w).next

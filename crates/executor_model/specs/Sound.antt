@@ -18,7 +18,8 @@ use Rattle.executor_model.specs.declared.op.UserOp.TheVariants as user_op
 use Rattle.executor_model.specs.declared.op.WakerOp.TheVariants as waker_op
 use Rattle.executor_model.specs.Trace.{Trace}
 use Rattle.executor_model.specs.World.{World, task}
-use Rattle.executor_model.specs.Weights.{same, weigh, weigh_all, borrowing_of}
+use Rattle.executor_model.specs.Weights.{same, weigh, weigh_all, wakes}
+use Rattle.executor_model.specs.Rows.{waiting_of, polls_of, ending_of, ready_of, closing_of, settling_of, giving_of, drops_of, releases_of, copies_of, borrowing_of, ousting_of}
 
 -- how often g stands in the list
 abbrev pub times : ℕ → List ℕ → ℕ
@@ -31,74 +32,11 @@ wakers_of g [] = 0
 wakers_of g (None ∷ ws) = wakers_of g ws
 wakers_of g (Some f ∷ ws) = same g f + wakers_of g ws
 
--- whether the waker is one of g's task
-abbrev pub wakes : ℕ → Waker → ℕ
-wakes g (Task f) = same g f
-wakes g (Outside x) = 0
-
 -- how many of these stored awaiters are wakers of g's task
 abbrev pub awaiters_of : ℕ → List (Option Awaiter) → ℕ
 awaiters_of g [] = 0
 awaiters_of g (None ∷ rest) = awaiters_of g rest
 awaiters_of g (Some a ∷ rest) = wakes g a.waker + awaiters_of g rest
-
--- one number for each stage of a run of g
-
--- Runnables that are not in the queue
-abbrev pub waiting_of : ℕ → Op → ℕ
-waiting_of g (op.Queue (queue_op.Append f)) = same g f
-waiting_of g (op.Move move.TakeUp f) = same g f
-waiting_of g (op.Move move.DropRunnable f) = same g f
-waiting_of g _ = 0
-
-abbrev pub polls_of : ℕ → Op → ℕ
-polls_of g (op.Table (table_op.TakeToPoll f)) = same g f
-polls_of g (op.User (user_op.Poll f)) = same g f
-polls_of g _ = 0
-
-abbrev pub ending_of : ℕ → Op → ℕ
-ending_of g (op.Table (table_op.PutBack f)) = same g f
-ending_of g (op.Move move.EndPending f) = same g f
-ending_of g _ = 0
-
-abbrev pub ready_of : ℕ → Op → ℕ
-ready_of g (op.Move move.EndReady f) = same g f
-ready_of g _ = 0
-
-abbrev pub closing_of : ℕ → Op → ℕ
-closing_of g (op.Move move.EndClosed f) = same g f
-closing_of g _ = 0
-
-abbrev pub settling_of : ℕ → Op → ℕ
-settling_of g (op.Move move.SettleClosed f) = same g f
-settling_of g _ = 0
-
-abbrev pub giving_of : ℕ → Op → ℕ
-giving_of g (op.Move move.GiveUp f) = same g f
-giving_of g _ = 0
-
--- drops of the future that are owed
-abbrev pub drops_of : ℕ → Op → ℕ
-drops_of g (op.Table (table_op.TakeToDrop f)) = same g f
-drops_of g (op.User (user_op.BeginDrop f)) = same g f
-drops_of g _ = 0
-
--- wakers that are about to go
-abbrev pub releases_of : ℕ → Op → ℕ
-releases_of g (op.Move move.Wake f) = same g f
-releases_of g (op.Move move.Release f) = same g f
-releases_of g _ = 0
-
--- wakers on their way to be stored or called
-abbrev pub copies_of : ℕ → Op → ℕ
-copies_of g (op.Handle (handle_op.Register f a k)) = wakes g a
-copies_of g (op.Handle (handle_op.EndRegister f a k)) = wakes g a
-copies_of g (op.Waker (waker_op.CallAwaiter f a k)) = wakes g a
-copies_of g _ = 0
-
-abbrev pub ousting_of : Op → ℕ
-ousting_of (op.Closing closing_op.TakeOut) = 1
-ousting_of _ = 0
 
 -- what the parties have still to do with g
 pub record Pend : Type 0 where

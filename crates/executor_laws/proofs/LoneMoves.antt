@@ -34,6 +34,7 @@ use Rattle.executor_model.specs.Carried.{owed_ops, schedule_ops, future_ops, out
 use Rattle.executor_model.specs.Acts.{append_by, leave_by, waker_goes, notify_by, told, call_awaiter, act}
 use Rattle.executor_model.specs.Steps.{waits, accepts, react}
 use Rattle.executor_model.specs.Weights.{weigh}
+use Rattle.executor_model.proofs.Owed.{owed-future, owed-awaiter, owed-nothing}
 use Rattle.executor_model.proofs.Lists.{weigh-append}
 
 -- what belongs to no tick whose future is taken
@@ -64,44 +65,8 @@ pub record Inner (w : World) (d : Done) : Type 0 where
   pub trace : d.world.trace ≡ w.trace ++ events
   pub there : d.world.gone ≡ w.gone
 
--- what a move owes doesn't stray
-both : (xs ys : List Op) → weigh stray_of xs ≡ 0 → weigh stray_of ys ≡ 0 → weigh stray_of (xs ++ ys) ≡ 0
-both xs ys a b = omega (arith, weigh-append stray_of xs ys, a, b)
-
-of-schedule : (f : ℕ) (o : Option ScheduleInfo) → weigh stray_of (schedule_ops f o) ≡ 0
-of-schedule f (Some info) = refl
-of-schedule f None = refl
-
-of-future : (there : Bool) (f : ℕ) (o : Option FutureDebt) → weigh stray_of (future_ops there f o) ≡ 0
-of-future there f (Some PollFuture) = refl
-of-future true f (Some DropFuture) = refl
-of-future false f (Some DropFuture) = refl
-of-future there f None = refl
-
-of-output : (f : ℕ) (b : Bool) → weigh stray_of (output_ops b f) ≡ 0
-of-output f true = refl
-of-output f false = refl
-
-of-awaiter : (f : ℕ) (o : Option AwaiterDebt) → weigh stray_of (awaiter_ops f o) ≡ 0
-of-awaiter f (Some NotifyAwaiter) = refl
-of-awaiter f (Some NotifyOther) = refl
-of-awaiter f (Some CallGiven) = refl
-of-awaiter f (Some StoreCopy) = refl
-of-awaiter f (Some CallStored) = refl
-of-awaiter f (Some TakeAwaiter) = refl
-of-awaiter f (Some CallTaken) = refl
-of-awaiter f None = refl
-
-of-next : (f : ℕ) (o : Option Move) → weigh stray_of (next_ops f o) ≡ 0
-of-next f (Some move.Release) = refl
-of-next f (Some move.SettleClosed) = refl
-of-next f (Some move.GiveUp) = refl
-of-next f (Some move.EndClosed) = refl
-of-next f (Some move.Detach) = refl
-of-next f _ = refl
-
 of-owed : (f : ℕ) (there : Bool) (o : Owed) → weigh stray_of (owed_ops there f o) ≡ 0
-of-owed f there o = both _ _ (both _ _ (both _ _ (both _ _ (of-schedule f o.schedule) (of-future there f o.future)) (of-output f o.drop_output)) (of-awaiter f o.awaiter)) (of-next f o.next)
+of-owed f there o = owed-nothing stray_of f (record { append = refl; output = refl; release = refl; settle_closed = refl; give_up = refl; end_closed = refl; detach = refl }) there o (owed-future stray_of f (record { poll = refl; drop = refl }) there o.future) (owed-awaiter stray_of f (record { notify = λ m. refl }) o.awaiter)
 
 of-goes : (a : Waker) → weigh stray_of (waker_goes a) ≡ 0
 of-goes (Task k) = refl
@@ -180,6 +145,7 @@ inner-act p h (op.Handle (handle_op.CopyAwaiter f a)) w n z = absurd (cc)
 inner-act p h (op.Handle (handle_op.Register f a k)) w n z = absurd (cc)
 inner-act p h (op.Handle (handle_op.EndRegister f a k)) w n z = absurd (cc)
 inner-act p h (op.Handle (handle_op.LookAgain f)) w n z = absurd (cc)
+inner-act p h (op.Closing closing_op.Drain) w n z = absurd (cc)
 inner-act p h (op.Closing _) w n z = absurd (cc)
 inner-act p h (op.End a held) w n z = absurd (cc)
 inner-act p h _ w n z = still w _ _ refl refl refl refl

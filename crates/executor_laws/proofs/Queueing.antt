@@ -141,6 +141,7 @@ turns-act p h (op.Closing closing_op.DropNext) w = same (drops-next p w w.leavin
 turns-act p h (op.Closing closing_op.WakeNext) w = same (wakes-next p w w.waking)
 turns-act p h (op.Closing closing_op.Close) w = shuts refl
 turns-act p h (op.Closing closing_op.Drain) w = turns-drain p w w.queue.items refl
+turns-act p h (op.User (user_op.BeginDrop f)) w = same refl
 turns-act p h _ w = same refl
 
 reacts : (p : ℕ) (o : Op) (u : UserEnd) (w : World) → (react p o u w).world.queue ≡ w.queue

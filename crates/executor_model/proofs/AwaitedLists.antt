@@ -35,6 +35,7 @@ use Rattle.executor_model.specs.Acts.{append_by, take_by, enter_by, leave_by, co
 use Rattle.executor_model.specs.Weights.{weigh}
 use Rattle.executor_model.specs.Steps.{with_future, kept, accepts, is_drop, begun, react}
 use Rattle.executor_model.proofs.Lists.{weigh-append}
+use Rattle.executor_model.proofs.Owed.{owed-future, owed-nothing}
 
 -- a notice by a poll of the handle itself, the rest of a notice, and the steps of the executor's drop
 abbrev pub rough_of : Op → ℕ
@@ -50,34 +51,12 @@ rough_of _ = 0
 plain-both : (xs ys : List Op) → weigh rough_of xs ≡ 0 → weigh rough_of ys ≡ 0 → weigh rough_of (xs ++ ys) ≡ 0
 plain-both xs ys a b = omega (arith, weigh-append rough_of xs ys, a, b)
 
-plain-scheduled : (f : ℕ) (o : Option ScheduleInfo) → weigh rough_of (schedule_ops f o) ≡ 0
-plain-scheduled f (Some info) = refl
-plain-scheduled f None = refl
-
-plain-output : (f : ℕ) (b : Bool) → weigh rough_of (output_ops b f) ≡ 0
-plain-output f true = refl
-plain-output f false = refl
-
-plain-future : (there : Bool) (f : ℕ) (o : Option FutureDebt) → weigh rough_of (future_ops there f o) ≡ 0
-plain-future there f (Some PollFuture) = refl
-plain-future true f (Some DropFuture) = refl
-plain-future false f (Some DropFuture) = refl
-plain-future there f None = refl
-
 plain-notify_if : (f : ℕ) (b : Bool) → weigh rough_of (awaiter_ops f (moves.notify_if b)) ≡ 0
 plain-notify_if f true = refl
 plain-notify_if f false = refl
 
-plain-next : (f : ℕ) (o : Option Move) → weigh rough_of (next_ops f o) ≡ 0
-plain-next f (Some move.Release) = refl
-plain-next f (Some move.SettleClosed) = refl
-plain-next f (Some move.GiveUp) = refl
-plain-next f (Some move.EndClosed) = refl
-plain-next f (Some move.Detach) = refl
-plain-next f _ = refl
-
 plain-owed : (f : ℕ) (there : Bool) (o : Owed) → weigh rough_of (awaiter_ops f o.awaiter) ≡ 0 → weigh rough_of (owed_ops there f o) ≡ 0
-plain-owed f there o z = plain-both _ _ (plain-both _ _ (plain-both _ _ (plain-both _ _ (plain-scheduled f o.schedule) (plain-future there f o.future)) (plain-output f o.drop_output)) z) (plain-next f o.next)
+plain-owed f there o z = owed-nothing rough_of f (record { append = refl; output = refl; release = refl; settle_closed = refl; give_up = refl; end_closed = refl; detach = refl }) there o (owed-future rough_of f (record { poll = refl; drop = refl }) there o.future) z
 
 -- a move at which no awaiter is owed
 plain-carried : (f : ℕ) (there : Bool) (m : Moved) → m.owed.awaiter ≡ None → weigh rough_of (owed_ops there f m.owed) ≡ 0

@@ -35,6 +35,7 @@ use Rattle.executor_model.specs.Carried.{owed_ops, schedule_ops, future_ops, out
 use Rattle.executor_model.specs.Acts.{append_by, take_by, enter_by, leave_by, copy_by, look_by, look_again_by, copy_awaiter_by, register_by, waker_goes, let_go, end_register_by, notify_by, told, call_awaiter, closing_ops, drop_next_by, wake, wake_next_by, drain_by, act}
 use Rattle.executor_model.specs.Weights.{same, weigh}
 use Rattle.executor_model.proofs.Lists.{weigh-append}
+use Rattle.executor_model.proofs.Owed.{owed-future, owed-awaiter, owed-nothing}
 use Rattle.executor_model.proofs.Telling.{same-cond}
 
 -- what has still to answer its call
@@ -135,40 +136,11 @@ then xs x z c = record { front = xs; last = x; is = refl; none = z; call = c }
 none-both : (xs ys : List Op) → weigh calling_of xs ≡ 0 → weigh calling_of ys ≡ 0 → weigh calling_of (xs ++ ys) ≡ 0
 none-both xs ys a b = omega (arith, weigh-append calling_of xs ys, a, b)
 
-none-scheduled : (f : ℕ) (o : Option ScheduleInfo) → weigh calling_of (schedule_ops f o) ≡ 0
-none-scheduled f (Some info) = refl
-none-scheduled f None = refl
-
-none-future : (there : Bool) (f : ℕ) (o : Option FutureDebt) → weigh calling_of (future_ops there f o) ≡ 0
-none-future there f (Some PollFuture) = refl
-none-future true f (Some DropFuture) = refl
-none-future false f (Some DropFuture) = refl
-none-future there f None = refl
-
-none-output : (f : ℕ) (b : Bool) → weigh calling_of (output_ops b f) ≡ 0
-none-output f true = refl
-none-output f false = refl
-
 none-awaiter : (f : ℕ) (o : Option AwaiterDebt) → weigh calling_of (awaiter_ops f o) ≡ 0
-none-awaiter f (Some NotifyAwaiter) = refl
-none-awaiter f (Some NotifyOther) = refl
-none-awaiter f (Some CallGiven) = refl
-none-awaiter f (Some StoreCopy) = refl
-none-awaiter f (Some CallStored) = refl
-none-awaiter f (Some TakeAwaiter) = refl
-none-awaiter f (Some CallTaken) = refl
-none-awaiter f None = refl
-
-none-next : (f : ℕ) (o : Option Move) → weigh calling_of (next_ops f o) ≡ 0
-none-next f (Some move.Release) = refl
-none-next f (Some move.SettleClosed) = refl
-none-next f (Some move.GiveUp) = refl
-none-next f (Some move.EndClosed) = refl
-none-next f (Some move.Detach) = refl
-none-next f _ = refl
+none-awaiter f o = owed-awaiter calling_of f (record { notify = λ m. refl }) o
 
 none-owed : (f : ℕ) (there : Bool) (o : Owed) → weigh calling_of (owed_ops there f o) ≡ 0
-none-owed f there o = none-both _ _ (none-both _ _ (none-both _ _ (none-both _ _ (none-scheduled f o.schedule) (none-future there f o.future)) (none-output f o.drop_output)) (none-awaiter f o.awaiter)) (none-next f o.next)
+none-owed f there o = owed-nothing calling_of f (record { append = refl; output = refl; release = refl; settle_closed = refl; give_up = refl; end_closed = refl; detach = refl }) there o (owed-future calling_of f (record { poll = refl; drop = refl }) there o.future) (none-awaiter f o.awaiter)
 
 none-goes : (a : Waker) → weigh calling_of (waker_goes a) ≡ 0
 none-goes (Task k) = refl

@@ -37,6 +37,7 @@ use Rattle.executor_model.specs.Weights.{weigh, past, waker_past}
 use Rattle.executor_model.specs.Good.{pasts, awaiters_past, Fits}
 use Rattle.executor_model.specs.Rows.{past_of}
 use Rattle.executor_model.proofs.Cases.{by_bool, by_list, by_waker}
+use Rattle.executor_model.proofs.Owed.{owed-future, owed-awaiter, owed-nothing}
 use Rattle.executor_model.proofs.Lists.{past_is, pasts-append, pasts-without, pasts-more, pasts-drop, wakers_past-more, wakers_past-push, awaiters_past-set, awaiters_past-push, awaiters_past-more, past_if, weigh-append}
 
 -- the world fits after it, so do the new things to do, and no future went
@@ -50,44 +51,11 @@ Grows w old d = Fits w → weigh (past_of (length w.tasks)) old ≡ 0 → Grown 
 
 -- what a move owes is its own future's
 module _ (n f : ℕ) (z : past n f ≡ 0) where
-  past_schedule : (i : Option ScheduleInfo) → weigh (past_of n) (schedule_ops f i) ≡ 0
-  past_schedule (Some i) = omega (arith, z)
-  past_schedule None = refl
-
-  past_future : (b : Bool) (d : Option FutureDebt) → weigh (past_of n) (future_ops b f d) ≡ 0
-  past_future b (Some PollFuture) = omega (arith, z)
-  past_future true (Some DropFuture) = omega (arith, z)
-  past_future false (Some DropFuture) = refl
-  past_future b None = refl
-
-  past_output : (b : Bool) → weigh (past_of n) (output_ops b f) ≡ 0
-  past_output true = omega (arith, z)
-  past_output false = refl
-
   pub past_awaiter : (d : Option AwaiterDebt) → weigh (past_of n) (awaiter_ops f d) ≡ 0
-  past_awaiter (Some NotifyAwaiter) = omega (arith, z)
-  past_awaiter (Some NotifyOther) = omega (arith, z)
-  past_awaiter (Some CallGiven) = refl
-  past_awaiter (Some StoreCopy) = refl
-  past_awaiter (Some CallStored) = refl
-  past_awaiter (Some TakeAwaiter) = refl
-  past_awaiter (Some CallTaken) = refl
-  past_awaiter None = refl
-
-  past_next : (m : Option Move) → weigh (past_of n) (next_ops f m) ≡ 0
-  past_next (Some move.Release) = omega (arith, z)
-  past_next (Some move.SettleClosed) = omega (arith, z)
-  past_next (Some move.GiveUp) = omega (arith, z)
-  past_next (Some move.EndClosed) = omega (arith, z)
-  past_next (Some move.Detach) = omega (arith, z)
-  past_next (Some _) = refl
-  past_next None = refl
-
-  none_both : (xs ys : List Op) → weigh (past_of n) xs ≡ 0 → weigh (past_of n) ys ≡ 0 → weigh (past_of n) (xs ++ ys) ≡ 0
-  none_both xs ys e q = omega (arith, weigh-append (past_of n) xs ys, e, q)
+  past_awaiter d = owed-awaiter (past_of n) f (record { notify = λ m. z }) d
 
   pub past_owed : (b : Bool) (o : Owed) → weigh (past_of n) (owed_ops b f o) ≡ 0
-  past_owed b o = none_both _ _ (none_both _ _ (none_both _ _ (none_both _ _ (past_schedule o.schedule) (past_future b o.future)) (past_output o.drop_output)) (past_awaiter o.awaiter)) (past_next o.next)
+  past_owed b o = owed-nothing (past_of n) f (record { append = z; output = refl; release = z; settle_closed = z; give_up = z; end_closed = z; detach = z }) b o (owed-future (past_of n) f (record { poll = z; drop = z }) b o.future) (past_awaiter o.awaiter)
 
 fits-log : (b : Bool) (w : World) (e : Event) → Fits w → Fits (log_if b w e)
 fits-log true w e h = record { queue = h.queue; table = h.table; leaving = h.leaving; waking = h.waking; wakers = h.wakers; awaiters = h.awaiters; awaiting = h.awaiting; inside = h.inside }

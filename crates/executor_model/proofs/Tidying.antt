@@ -35,39 +35,17 @@ use Rattle.executor_model.specs.Acts.{append_by, take_by, enter_by, leave_by, co
 use Rattle.executor_model.specs.Weights.{weigh}
 use Rattle.executor_model.specs.Steps.{with_future, kept, accepts, begun, react}
 use Rattle.executor_model.proofs.Lists.{weigh-append}
+use Rattle.executor_model.proofs.Owed.{owed-awaiter, owed-nothing}
 use Rattle.executor_model.proofs.Borrowing.{uses_of, Tidy, tidy-light}
 
 light-both : (xs ys : List Op) → weigh uses_of xs ≡ 0 → weigh uses_of ys ≡ 0 → weigh uses_of (xs ++ ys) ≡ 0
 light-both xs ys a b = omega (arith, weigh-append uses_of xs ys, a, b)
 
-light-scheduled : (f : ℕ) (o : Option ScheduleInfo) → weigh uses_of (schedule_ops f o) ≡ 0
-light-scheduled f (Some info) = refl
-light-scheduled f None = refl
-
-light-output : (f : ℕ) (b : Bool) → weigh uses_of (output_ops b f) ≡ 0
-light-output f true = refl
-light-output f false = refl
-
 light-awaiter : (f : ℕ) (o : Option AwaiterDebt) → weigh uses_of (awaiter_ops f o) ≡ 0
-light-awaiter f (Some NotifyAwaiter) = refl
-light-awaiter f (Some NotifyOther) = refl
-light-awaiter f (Some CallGiven) = refl
-light-awaiter f (Some StoreCopy) = refl
-light-awaiter f (Some CallStored) = refl
-light-awaiter f (Some TakeAwaiter) = refl
-light-awaiter f (Some CallTaken) = refl
-light-awaiter f None = refl
-
-light-next : (f : ℕ) (o : Option Move) → weigh uses_of (next_ops f o) ≡ 0
-light-next f (Some move.Release) = refl
-light-next f (Some move.SettleClosed) = refl
-light-next f (Some move.GiveUp) = refl
-light-next f (Some move.EndClosed) = refl
-light-next f (Some move.Detach) = refl
-light-next f _ = refl
+light-awaiter f o = owed-awaiter uses_of f (record { notify = λ m. refl }) o
 
 light-owed : (f : ℕ) (there : Bool) (o : Owed) → weigh uses_of (future_ops there f o.future) ≡ 0 → weigh uses_of (owed_ops there f o) ≡ 0
-light-owed f there o z = light-both _ _ (light-both _ _ (light-both _ _ (light-both _ _ (light-scheduled f o.schedule) z) (light-output f o.drop_output)) (light-awaiter f o.awaiter)) (light-next f o.next)
+light-owed f there o z = owed-nothing uses_of f (record { append = refl; output = refl; release = refl; settle_closed = refl; give_up = refl; end_closed = refl; detach = refl }) there o z (light-awaiter f o.awaiter)
 
 -- a move at which no future is owed
 light-carried : (f : ℕ) (there : Bool) (m : Moved) → m.owed.future ≡ None → weigh uses_of (owed_ops there f m.owed) ≡ 0

@@ -1,9 +1,9 @@
 -- Whole calls that a party makes alone are answered as it is.
-use Rattle.std.proofs.Common.{◌≡◌, ◌⊎◌, ℕ, ◌<◌, List, [], ◌∷◌, ◌++◌, length, set, Bool, true, false, ltb, refl, sym, ap, ◌∙◌, subst, inl, inr, ⊎_elim, arith, Ok, get_or-set_same}
+use Rattle.std.proofs.Common.{◌≡◌, ◌⊎◌, ℕ, ◌<◌, List, [], ◌∷◌, ◌++◌, length, set, true, ltb, refl, sym, ap, ◌∙◌, subst, inl, inr, ⊎_elim, arith, Ok, get_or-set_same}
 use Rattle.std.proofs.Math.ListN.{length-set}
 use Rattle.std.proofs.lemmas.Bool.Decides.{nat_tests}
 use Rattle.std.proofs.lemmas.List.{append_assoc}
-use Rattle.std.specs.Prelude.{◌↔◌, Some, None}
+use Rattle.std.specs.Prelude.{Some, None}
 use Rattle.executor_model.specs.declared.call.Call.{Call}
 use Rattle.executor_model.specs.declared.call.Call.TheVariants as call
 use Rattle.executor_model.specs.declared.call.Reply.{Reply}
@@ -16,16 +16,13 @@ use Rattle.executor_model.specs.declared.op.TableOp.TheVariants as table_op
 use Rattle.executor_model.specs.declared.step.Hint.{Hint}
 use Rattle.executor_model.specs.declared.step.Step.{Step}
 use Rattle.executor_model.specs.declared.step.Step.TheVariants.{Begin, Go, Answer}
-use Rattle.executor_model.specs.Trace.{Trace}
 use Rattle.executor_model.specs.Emptiness.{AllDropped, AnswersAlone, IsAtRest, IsQuietEmptinessExact, asks_alone}
 use Rattle.executor_model.specs.Keeper.{IsCommon}
 use Rattle.executor_model.specs.Acts.{look_at_table}
 use Rattle.executor_model.specs.Runs.{run_all}
 use Rattle.executor_model.specs.Sound.{times}
 use Rattle.executor_model.specs.World.{log}
-use Rattle.executor_model.specs.Good.{Good}
-use Rattle.executor_model.specs.Steps.{Machine, Part, stack, top, answer_refusal, onto, part_after, with_part, after, refusal, run, start}
-use Rattle.executor_model.proofs.AskingRuns.{Heard}
+use Rattle.executor_model.specs.Steps.{Machine, stack, top, answer_refusal, onto, part_after, with_part, after, refusal, run, start}
 use Rattle.executor_model.proofs.Quieting.{quiet-emptiness}
 use Rattle.executor_model.proofs.Resting.{rests}
 use Rattle.executor_laws.specs.LoneAnswers.{IsAnswered, IsLoneEmptinessExact, IsLoneTickExact}
@@ -33,7 +30,7 @@ use Rattle.executor_laws.specs.Reach.{are_onward_of, IsLoneCall, TakesCommon}
 use Rattle.executor_laws.proofs.Ticking.{idle, queued-due, first-times}
 use Rattle.executor_laws.proofs.Reached.{Reached, run-first, run-then, run-of, reached-more, good-here, heard-here, deep-here}
 use Rattle.executor_laws.proofs.LoneTicks.{left-true, in-range, of-party, after-is, no-more}
-use Rattle.executor_laws.proofs.Reaching.{First, first-taken, none-found, searched, takes-common}
+use Rattle.executor_laws.proofs.Reaching.{First, first-taken, none-found, takes-common}
 
 -- a call has one answer
 

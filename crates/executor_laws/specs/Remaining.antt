@@ -3,14 +3,6 @@ use Rattle.std.specs.Prelude.{◌≡◌, ℕ, ◌+◌, ◌*◌, ◌<◌, ◌≤�
 use Rattle.task_moves.specs.declared.moves.state.State.{State}
 use Rattle.executor_model.specs.declared.op.Awaiter.{Awaiter}
 use Rattle.executor_model.specs.declared.op.Op.{Op}
-use Rattle.executor_model.specs.declared.op.Op.TheVariants as op
-use Rattle.executor_model.specs.declared.op.ClosingOp.TheVariants as closing_op
-use Rattle.executor_model.specs.declared.op.HandleOp.TheVariants as handle_op
-use Rattle.task_moves.specs.declared.moves.owed.Move.TheVariants as move
-use Rattle.executor_model.specs.declared.op.QueueOp.TheVariants as queue_op
-use Rattle.executor_model.specs.declared.op.TableOp.TheVariants as table_op
-use Rattle.executor_model.specs.declared.op.UserOp.TheVariants as user_op
-use Rattle.executor_model.specs.declared.op.WakerOp.TheVariants as waker_op
 use Rattle.executor_model.specs.declared.step.Hint.{Hint}
 use Rattle.executor_model.specs.declared.step.Step.{Step}
 use Rattle.executor_model.specs.declared.step.Step.TheVariants.{Begin, Go, Answer}

@@ -20,7 +20,7 @@ use Rattle.executor_model.specs.declared.step.UserEnd.TheVariants as end
 use Rattle.executor_model.specs.World.{World, Done, done, log, task}
 use Rattle.executor_model.specs.Acts.{act, is_copy_refused}
 use Rattle.executor_model.specs.Weights.{same, weigh, weigh_all, past}
-use Rattle.executor_model.specs.Sound.{Sound, Pend, pend, with_ops}
+use Rattle.executor_model.specs.Sound.{Pend, pend, with_ops}
 use Rattle.executor_model.specs.Rows as rows
 use Rattle.executor_model.specs.Good.{Good}
 use Rattle.executor_model.specs.Rows.{handling_of, borrowing_of, waiting_of, polls_of, ending_of, ready_of, settling_of, giving_of, drops_of, releases_of, copies_of, ousting_of, past_of}

@@ -2,13 +2,8 @@
 use Rattle.std.proofs.Common.{◌≡◌, ℕ, ◌+◌, List, [], ◌∷◌, ◌++◌, length, Bool, true, false, cond, refl, sym, ap, ◌∙◌, arith}
 use Rattle.std.proofs.lemmas.List.Sums.{sum_by_push}
 use Rattle.std.specs.Prelude.{Option, Some, None, count_by}
-use Rattle.task_moves.specs.declared.schedule_info.ScheduleInfo.{ScheduleInfo}
-use Rattle.task_moves.specs.declared.moves.owed.Move.{Move}
 use Rattle.task_moves.specs.declared.moves.owed.Move.TheVariants as move
-use Rattle.task_moves.specs.declared.moves.owed.FutureDebt.{FutureDebt}
-use Rattle.task_moves.specs.declared.moves.owed.FutureDebt.TheVariants.{PollFuture, DropFuture}
 use Rattle.task_moves.specs.declared.moves.owed.AwaiterDebt.{AwaiterDebt}
-use Rattle.task_moves.specs.declared.moves.owed.AwaiterDebt.TheVariants.{NotifyAwaiter, NotifyOther, CallGiven, StoreCopy, CallStored, TakeAwaiter, CallTaken}
 use Rattle.task_moves.specs.declared.moves.owed.Answer.{Answer}
 use Rattle.task_moves.specs.declared.moves.owed.Owed.{Owed}
 use Rattle.task_moves.specs.declared.moves.owed.Moved.{Moved}
@@ -31,7 +26,7 @@ use Rattle.executor_model.specs.declared.step.Hint.{Hint}
 use Rattle.executor_model.specs.Trace.{Trace}
 use Rattle.executor_model.specs.Quiet.{begins_call, ends_call}
 use Rattle.executor_model.specs.World.{World, Done, log, log_if, task, put, among, awaiter_of}
-use Rattle.executor_model.specs.Carried.{owed_ops, schedule_ops, future_ops, output_ops, awaiter_ops, next_ops}
+use Rattle.executor_model.specs.Carried.{owed_ops, awaiter_ops}
 use Rattle.executor_model.specs.Acts.{append_by, take_by, enter_by, leave_by, copy_by, look_by, look_again_by, copy_awaiter_by, register_by, waker_goes, let_go, end_register_by, notify_by, told, call_awaiter, closing_ops, drop_next_by, wake, wake_next_by, drain_by, act}
 use Rattle.executor_model.specs.Weights.{same, weigh}
 use Rattle.executor_model.proofs.Lists.{weigh-append}

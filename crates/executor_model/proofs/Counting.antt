@@ -27,7 +27,7 @@ use Rattle.executor_model.specs.declared.op.WakerOp.TheVariants as waker_op
 use Rattle.executor_model.specs.declared.step.Hint.{Hint}
 use Rattle.executor_model.specs.World.{World, Done, done, log, log_if, task, put, awaiter_of, put_awaiter, among}
 use Rattle.executor_model.specs.Carried.{carried, owed_ops}
-use Rattle.executor_model.specs.Acts.{append_by, take_by, enter_by, look_at_table, take_to_poll, put_back, take_to_drop, leave_by, begin_drop, begin_drop_output, copy_by, is_refused, answered, polled, look_by, look_again_by, is_copy_refused, copy_awaiter_by, register_by, end_register_by, notify_by, told, let_go, call_awaiter, closing_ops, drop_next_by, wake_next_by, close, drain_by, act}
+use Rattle.executor_model.specs.Acts.{append_by, take_by, enter_by, take_to_poll, put_back, take_to_drop, leave_by, begin_drop, begin_drop_output, copy_by, is_refused, answered, polled, look_by, look_again_by, is_copy_refused, copy_awaiter_by, register_by, end_register_by, notify_by, told, let_go, call_awaiter, closing_ops, drop_next_by, wake_next_by, drain_by, act}
 use Rattle.executor_model.specs.Weights.{same, weigh, past, waker_past}
 use Rattle.executor_model.specs.Good.{pasts}
 use Rattle.executor_model.specs.Rows.{past_of}

@@ -5,14 +5,9 @@ use Rattle.std.specs.Prelude.{Option, Some, None, slice_set}
 use Rattle.task_moves.specs.declared.moves.state.State.{State}
 use Rattle.task_moves.specs.declared.moves.owed.Moved.{Moved}
 use Rattle.task_moves.specs.declared.moves.owed.Owed.{Owed}
-use Rattle.task_moves.specs.declared.moves.owed.Move.{Move}
 use Rattle.task_moves.specs.declared.moves.owed.Move.TheVariants as move
 use Rattle.task_moves.specs.declared.moves.owed.Answer.{Answer}
 use Rattle.task_moves.specs.declared.moves.owed.AwaiterDebt.{AwaiterDebt}
-use Rattle.task_moves.specs.declared.moves.owed.AwaiterDebt.TheVariants.{NotifyAwaiter, NotifyOther, CallGiven, StoreCopy, CallStored, TakeAwaiter, CallTaken}
-use Rattle.task_moves.specs.declared.moves.owed.FutureDebt.{FutureDebt}
-use Rattle.task_moves.specs.declared.moves.owed.FutureDebt.TheVariants.{PollFuture, DropFuture}
-use Rattle.task_moves.specs.declared.schedule_info.ScheduleInfo.{ScheduleInfo}
 use Rattle.task_moves.specs.Moves as moves
 use Rattle.executor_model.specs.declared.event.Event.{Event}
 use Rattle.executor_model.specs.declared.event.Event.TheVariants as event
@@ -31,7 +26,7 @@ use Rattle.executor_model.specs.declared.op.UserOp.TheVariants as user_op
 use Rattle.executor_model.specs.declared.op.WakerOp.TheVariants as waker_op
 use Rattle.executor_model.specs.declared.step.Hint.{Hint}
 use Rattle.executor_model.specs.World.{World, Done, done, log, log_if, task, put, awaiter_of, put_awaiter, among}
-use Rattle.executor_model.specs.Carried.{schedule_ops, future_ops, output_ops, awaiter_ops, next_ops, owed_ops, carried}
+use Rattle.executor_model.specs.Carried.{awaiter_ops, owed_ops, carried}
 use Rattle.executor_model.specs.Acts.{append_by, take_by, enter_by, leave_by, copy_by, answered, polled, look_by, look_again_by, copy_awaiter_by, register_by, end_register_by, notify_by, end_notify, told, let_go, waker_goes, call_awaiter, closing_ops, drop_next_by, wake_next_by, drain_by, followed, wake, reply_of, is_output, act}
 use Rattle.executor_model.specs.Weights.{weigh, past, waker_past}
 use Rattle.executor_model.specs.Good.{pasts, awaiters_past, Fits}

@@ -1,12 +1,10 @@
 -- The table and the queue: which futures have an entry, and which have a Runnable.
 use Rattle.std.specs.Prelude.{◌≡◌, ◌⊎◌, ℕ, ◌≤◌, true, false, Some}
 use Rattle.queue_steps.specs.ClosableQueue.{HasRoom}
-use Rattle.executor_model.specs.declared.op.Op.{Op}
 use Rattle.executor_model.specs.declared.op.Op.TheVariants as op
 use Rattle.executor_model.specs.declared.op.QueueOp.TheVariants as queue_op
-use Rattle.executor_model.specs.declared.op.TableOp.TheVariants as table_op
 use Rattle.executor_model.specs.Trace.{has, is_accepted, is_dropped, is_drop_begun}
-use Rattle.executor_model.specs.Weights.{same, weigh_all}
+use Rattle.executor_model.specs.Weights.{weigh_all}
 use Rattle.executor_model.specs.EarlyDrop.{before_drop}
 use Rattle.executor_model.specs.Sound.{times}
 use Rattle.executor_model.specs.Rows.{drops_of, leaves_of, ousting_of}

@@ -1,5 +1,6 @@
 -- A party's part of a step, at the vectors of all parties.
-use Rattle.std.proofs.Common.{◌≡◌, ℕ, zero, suc, ◌+◌, ◌<◌, ◌≤◌, List, [], ◌∷◌, ◌++◌, length, map, get_or, set, take, add-one, refl, sym, ap, ◌∙◌, subst, arith, Ok, Err, Result, Vec, Global}
+use Rattle.std.proofs.Common.{◌≡◌, ℕ, zero, suc, ◌+◌, ◌<◌, ◌≤◌, List, [], ◌∷◌, ◌++◌, length, map, get_or, set, take, add-one, refl, sym}
+use Rattle.std.proofs.Common.{ap, ◌∙◌, subst, arith, Ok, Err, Result, Vec, Global}
 use Rattle.std.specs.Prelude.{Some, None}
 use Rattle.std.proofs.lemmas.List.{take_more}
 use Rattle.executor_model.specs.declared.op.Op.{Op}
@@ -9,7 +10,8 @@ use Rattle.executor_model.specs.declared.step.StepError.TheVariants.{NoSuch}
 use Rattle.executor_model.specs.World.{World}
 use Rattle.executor_model.specs.Good.{Good, Needs}
 use Rattle.executor_model.specs.Runs.{run_all}
-use Rattle.executor_model.specs.Steps.{Machine, part, stack, top, party_of, part_refusal, part_after, with_part, refusal, after, step, start, idle}
+use Rattle.executor_model.specs.Steps.{Machine, part, stack, top, party_of, part_refusal, part_after, with_part, refusal, after, step}
+use Rattle.executor_model.specs.Steps.{start, idle}
 use Rattle.executor_model.proofs.Needing.{needs}
 use Rattle.executor_core.specs.Reached.{IsReached}
 use Rattle.executor_core.proofs.Reaching.{begins}
@@ -53,7 +55,8 @@ absent w ps t h = step-refused (state w ps) t NoSuch (refusal-absent (state w ps
 pub refusal_is :
     (w : World) (ps : List (Vec Op Global)) (p : ℕ) (t : Step) (v : Vec Op Global)
     → p ≡ party_of t → p < length ps → v ≡ get_or ps p v → refusal (state w ps) t ≡ part_refusal w (items ps) v.items t
-refusal_is w ps p t v q h e = refusal-there (state w ps) t (omega (arith, items-length ps, h, q)) ∙ ap (λ (os : List Op). part_refusal w (items ps) os t) (ap (stack (state w ps)) (sym q) ∙ stack_is w ps p v h e)
+refusal_is w ps p t v q h e = refusal-there (state w ps) t (omega (arith, items-length ps, h, q))
+    ∙ ap (λ (os : List Op). part_refusal w (items ps) os t) (ap (stack (state w ps)) (sym q) ∙ stack_is w ps p v h e)
 
 pub refused :
     (w : World) (ps : List (Vec Op Global)) (p : ℕ) (t : Step) (v : Vec Op Global) (x : StepError)
@@ -66,7 +69,8 @@ pub stays :
     (w w2 : World) (ps : List (Vec Op Global)) (p : ℕ) (v v2 : Vec Op Global)
     → p < length ps → v ≡ get_or ps p v → v2.items ≡ v.items → w2 ≡ w → state w2 (set ps p v2) ≡ state w ps
 stays w w2 ps p v v2 h e q m =
-    let l : items (set ps p v2) ≡ items ps = items-set ps p v2 ∙ set_same (items ps) p v2.items (stack_is w ps p v h e ∙ sym q) (omega (arith, items-length ps)) in
+    let l : items (set ps p v2) ≡ items ps = items-set ps p v2
+    ∙ set_same (items ps) p v2.items (stack_is w ps p v h e ∙ sym q) (omega (arith, items-length ps)) in
     λ i. record { world = m i; parties = l i }
 
 -- the party's part was done
@@ -85,7 +89,8 @@ pub needed :
     → p < length ps → v ≡ get_or ps p v → r.items ≡ v.items → w1 ≡ w → Good (state w ps) → top r.items ≡ Some o → Needs w1 o
 needed w w1 ps p v r o h e k m good t =
     let s : Machine = state w ps in
-    subst (λ (x : World). Needs x o) (sym m) (needs s p o (omega (arith, items-length ps)) (ap top (stack_is w ps p v h e ∙ sym k) ∙ t) good)
+    subst (λ (x : World). Needs x o) (sym m) (needs s p o (omega (arith, items-length ps)) (ap top (stack_is w ps p v h e ∙ sym k)
+    ∙ t) good)
 
 pub goes : (s new : Machine) (t : Step) → refusal s t ≡ None → after s t ≡ new → step s t ≡ Ok new
 goes s new t r e = step-made s t r ∙ ap (λ (m : Machine). let x : Result Machine StepError = Ok m in x) e
@@ -94,7 +99,8 @@ goes s new t r e = step-made s t r ∙ ap (λ (m : Machine). let x : Result Mach
 pub run-more :
     (xs : List Step) (i : ℕ) (d : Step) (s now new : Machine)
     → i < length xs → run_all (take i xs) s ≡ Ok now → step now (get_or xs i d) ≡ Ok new → run_all (take (i + 1) xs) s ≡ Ok new
-run-more xs i d s now new h e o = ap (λ (ts : List Step). run_all ts s) (take_more xs i d h) ∙ run_all-push (take i xs) (get_or xs i d) s now new e o
+run-more xs i d s now new h e o = ap (λ (ts : List Step). run_all ts s) (take_more xs i d h)
+    ∙ run_all-push (take i xs) (get_or xs i d) s now new e o
 
 idle-more : (n : ℕ) → idle n ++ [] ∷ [] ≡ idle (n + 1)
 idle-more n = rw add-one (go n)

@@ -1,5 +1,6 @@
 -- Scans of what the parties have still to do.
-use Rattle.std.proofs.Common.{◌≡◌, ◌≢◌, ℕ, ◌+◌, ◌<◌, ◌≤◌, List, [], ◌∷◌, length, get_or, drop, true, false, eqb, not, sym, ap, ◌∙◌, ⊎_elim, arith, add-one, drop-cons}
+use Rattle.std.proofs.Common.{◌≡◌, ◌≢◌, ℕ, ◌+◌, ◌<◌, ◌≤◌, List, [], ◌∷◌, length, get_or, drop, true, false, eqb, not, sym, ap, ◌∙◌}
+use Rattle.std.proofs.Common.{⊎_elim, arith, add-one, drop-cons}
 use Rattle.std.proofs.lemmas.Bool.Decides.{nat_tests}
 use Rattle.std.proofs.lemmas.Grind.{common_steps}
 use Rattle.executor_model.specs.declared.op.Op.{Op}
@@ -28,7 +29,8 @@ pub weigh-found :
     → i < length xs → x ≡ get_or xs i x → not (eqb (v x) 0) ≡ true → weigh v xs ≡ weigh v (drop i xs) → false ≡ eqb (weigh v xs) 0
 weigh-found v xs i x h e q w =
     let z : 1 ≤ v x = grind (arith, nat_tests) in
-    let m : weigh v xs ≡ v x + weigh v (drop (i + 1) xs) = w ∙ ap (weigh v) (drop_op xs i x h) ∙ ap (λ (y : Op). v y + weigh v (drop (i + 1) xs)) (sym e) in
+    let m : weigh v xs ≡ v x + weigh v (drop (i + 1) xs) = w ∙ ap (weigh v) (drop_op xs i x h)
+    ∙ ap (λ (y : Op). v y + weigh v (drop (i + 1) xs)) (sym e) in
     grind (arith, nat_tests)
 
 drop_all : (xs : List Op) (i : ℕ) → length xs ≤ i → drop i xs ≡ []

@@ -2,7 +2,8 @@
 use Rattle.std.specs.Prelude.{ℕ}
 use Rattle.executor_model.specs.declared.op.Hold.{Hold}
 use Rattle.executor_model.specs.declared.op.Op.{Op}
-use Rattle.executor_model.specs.Weights.{holds_executor, holds_handle, holds_waker, borrowing_of, handling_of, lending_of}
+use Rattle.executor_model.specs.Weights.{holds_executor, holds_handle, holds_waker}
+use Rattle.executor_model.specs.Rows.{borrowing_of, handling_of, lending_of}
 use Rattle.executor_core.specs.declared.uses.Use.{Use}
 use Rattle.executor_core.specs.declared.uses.Use.TheVariants.{Executor, Handle, Waker}
 

@@ -1,5 +1,6 @@
 //! What a move of a task owes becomes what the party has still to do.
-ghost use Rattle.std.specs.Prelude.{◌≡◌, ◌≢◌, ℕ, ◌+◌, ◌-◌, ◌^◌, ◌<◌, ◌≤◌, ◌++◌, true, false, not, Some, None, List, [], ◌∷◌, length, reverse, vec_len, vec_capacity};
+ghost use Rattle.std.specs.Prelude.{◌≡◌, ◌≢◌, ℕ, ◌+◌, ◌-◌, ◌^◌, ◌<◌, ◌≤◌, ◌++◌, true, false, not, Some, None, List, [], ◌∷◌, length};
+ghost use Rattle.std.specs.Prelude.{reverse, vec_len, vec_capacity};
 ghost use Rattle.task_moves.specs.Moves as moves;
 ghost use Rattle.executor_model.specs.Carried as carried;
 ghost use Rattle.executor_model.specs.World.{task, without, among, awaiter_of};
@@ -7,7 +8,7 @@ ghost use Rattle.executor_model.specs.Good.{IsKnown, CanGrow, IsHeld, HasPlace, 
 ghost use Rattle.executor_core.specs.Views.{world_of, HasRoom, HasRoomToEnd, HasSpace, Does};
 
 use crate::store::Store;
-use executor_model::{Event, Op};
+use executor_model::{HandleOp, Op, QueueOp, TableOp, UserOp};
 use executor_table::Entries;
 use task_moves::ScheduleInfo;
 use task_moves::moves::{self, AwaiterDebt, FutureDebt, Move, Moved, State};
@@ -17,7 +18,7 @@ fn push_schedule(todo: &mut Vec<Op>, f: u64, debt: Option<ScheduleInfo>)
     ensures items { todo.new.items ≡ todo.old.items ++ reverse (carried.schedule_ops f debt) }
 {
     match debt {
-        Some(_) => todo.push_reserved(Op::Append(f)),
+        Some(_) => todo.push_reserved(Op::Queue(QueueOp::Append(f))),
         None => {}
     }
 }
@@ -28,10 +29,10 @@ fn push_future(todo: &mut Vec<Op>, entries: &Entries, f: u64, debt: Option<Futur
     ensures space { vec_len todo.new + 1 ≤ vec_capacity todo.new }
 {
     match debt {
-        Some(FutureDebt::PollFuture) => todo.push_reserved(Op::TakeToPoll(f)),
+        Some(FutureDebt::PollFuture) => todo.push_reserved(Op::Table(TableOp::TakeToPoll(f))),
         Some(FutureDebt::DropFuture) => {
             if entries.contains(f) {
-                todo.push_reserved(Op::TakeToDrop(f));
+                todo.push_reserved(Op::Table(TableOp::TakeToDrop(f)));
             }
         }
         None => {}
@@ -44,7 +45,7 @@ fn push_output(todo: &mut Vec<Op>, f: u64, dropped: bool)
     ensures space { vec_len todo.new + 2 ≤ vec_capacity todo.new }
 {
     if dropped {
-        todo.push_reserved(Op::BeginDropOutput(f));
+        todo.push_reserved(Op::User(UserOp::BeginDropOutput(f)));
     }
 }
 
@@ -55,8 +56,10 @@ pub fn push_awaiter(todo: &mut Vec<Op>, f: u64, debt: Option<AwaiterDebt>)
     ensures space { vec_len todo.new + 3 ≤ vec_capacity todo.new }
 {
     match debt {
-        Some(AwaiterDebt::NotifyAwaiter) => todo.push_reserved(Op::Notify(f, false)),
-        Some(AwaiterDebt::NotifyOther) => todo.push_reserved(Op::Notify(f, true)),
+        Some(AwaiterDebt::NotifyAwaiter) => todo.push_reserved(Op::Handle(HandleOp::Notify(
+            f, false,
+        ))),
+        Some(AwaiterDebt::NotifyOther) => todo.push_reserved(Op::Handle(HandleOp::Notify(f, true))),
         Some(AwaiterDebt::CallGiven) => {}
         Some(AwaiterDebt::StoreCopy) => {}
         Some(AwaiterDebt::CallStored) => {}
@@ -72,11 +75,11 @@ fn push_next(todo: &mut Vec<Op>, f: u64, kind: Option<Move>)
     ensures space { vec_len todo.new + 4 ≤ vec_capacity todo.new }
 {
     match kind {
-        Some(Move::Release) => todo.push_reserved(Op::Release(f)),
-        Some(Move::SettleClosed) => todo.push_reserved(Op::SettleClosed(f)),
-        Some(Move::GiveUp) => todo.push_reserved(Op::GiveUp(f)),
-        Some(Move::EndClosed) => todo.push_reserved(Op::EndClosed(f)),
-        Some(Move::Detach) => todo.push_reserved(Op::Detach(f)),
+        Some(Move::Release) => todo.push_reserved(Op::Move(Move::Release, f)),
+        Some(Move::SettleClosed) => todo.push_reserved(Op::Move(Move::SettleClosed, f)),
+        Some(Move::GiveUp) => todo.push_reserved(Op::Move(Move::GiveUp, f)),
+        Some(Move::EndClosed) => todo.push_reserved(Op::Move(Move::EndClosed, f)),
+        Some(Move::Detach) => todo.push_reserved(Op::Move(Move::Detach, f)),
         _ => {}
     }
 }

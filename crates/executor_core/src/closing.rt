@@ -1,31 +1,49 @@
 //! The drop of the executor.
-ghost use Rattle.std.specs.Prelude.{◌≡◌, ◌≢◌, ℕ, ◌+◌, ◌-◌, ◌^◌, ◌<◌, ◌≤◌, ◌++◌, true, false, not, Some, None, List, [], ◌∷◌, length, reverse, vec_len, vec_capacity};
+ghost use Rattle.std.specs.Prelude.{◌≡◌, ◌≢◌, ℕ, ◌+◌, ◌-◌, ◌^◌, ◌<◌, ◌≤◌, ◌++◌, true, false, not, Some, None, List, [], ◌∷◌, length};
+ghost use Rattle.std.specs.Prelude.{reverse, vec_len, vec_capacity};
 ghost use Rattle.task_moves.specs.Moves as moves;
 ghost use Rattle.executor_model.specs.Acts as acts;
 ghost use Rattle.executor_model.specs.Carried as carried;
 ghost use Rattle.executor_model.specs.World.{task, without, among, awaiter_of};
-ghost use Rattle.executor_model.specs.Good.{IsKnown, CanGrow, IsHeld, HasPlace, KeepsAwaiter, IsKnownWaker, CanWake};
+ghost use Rattle.executor_model.specs.Good.{IsKnown, CanGrow, IsHeld, HasPlace, KeepsAwaiter, IsKnownWaker, CanWake, ClosingNeeds};
 ghost use Rattle.executor_core.specs.Views.{world_of, HasRoom, HasRoomToEnd, HasSpace, Does};
 
 use crate::store::Store;
-use crate::task::wake;
-use executor_model::{Event, Op};
+use crate::task::move_task;
+use executor_model::{ClosingOp, Event, Op, UserOp};
+use task_moves::moves::Move;
+
+/// The party does this part of the executor's drop.
+pub fn act(store: &mut Store, todo: &mut Vec<Op>, party: u32, op: ClosingOp)
+    requires room { HasRoom store.old }
+    requires space { HasSpace todo.old }
+    requires needs { ClosingNeeds (world_of store.old) op }
+    ensures { Does (acts.closing_act party op (world_of store.old)) store.new todo.old.items todo.new.items }
+{
+    match op {
+        ClosingOp::TakeOut => take_out(store, todo),
+        ClosingOp::DropNext => drop_next(store, todo, party),
+        ClosingOp::WakeNext => wake_next(store, todo, party),
+        ClosingOp::Close => close(store, todo),
+        ClosingOp::Drain => drain(store, todo, party),
+    }
+}
 
 /// What the executor's drop does next: first each future, then each waker, then the queue.
 fn next_closing(store: &Store) -> Op
     ensures { result ∷ [] ≡ acts.closing_ops store.now.entries.leaving store.now.waking.items }
 {
     if !store.entries.has_none_leaving() {
-        Op::DropNext
+        Op::Closing(ClosingOp::DropNext)
     } else if !store.waking.is_empty() {
-        Op::WakeNext
+        Op::Closing(ClosingOp::WakeNext)
     } else {
-        Op::Close
+        Op::Closing(ClosingOp::Close)
     }
 }
 
 /// All futures and wakers are taken out of the table.
-pub fn take_out(store: &mut Store, todo: &mut Vec<Op>)
+fn take_out(store: &mut Store, todo: &mut Vec<Op>)
     requires room { HasRoom store.old }
     requires space { HasSpace todo.old }
     ensures { Does (acts.take_out (world_of store.old)) store.new todo.old.items todo.new.items }
@@ -36,7 +54,7 @@ pub fn take_out(store: &mut Store, todo: &mut Vec<Op>)
 }
 
 /// The drop of the next future begins.
-pub fn drop_next(store: &mut Store, todo: &mut Vec<Op>, party: u32)
+fn drop_next(store: &mut Store, todo: &mut Vec<Op>, party: u32)
     requires room { HasRoom store.old }
     requires space { HasSpace todo.old }
     ensures { Does (acts.drop_next party (world_of store.old)) store.new todo.old.items todo.new.items }
@@ -50,11 +68,11 @@ pub fn drop_next(store: &mut Store, todo: &mut Vec<Op>, party: u32)
         .push_reserved(Event::Dropped { party, future: f });
     let next = next_closing(store);
     todo.push_reserved(next);
-    todo.push_reserved(Op::Drop(f));
+    todo.push_reserved(Op::User(UserOp::Drop(f)));
 }
 
 /// The next waker is woken.
-pub fn wake_next(store: &mut Store, todo: &mut Vec<Op>, party: u32)
+fn wake_next(store: &mut Store, todo: &mut Vec<Op>, party: u32)
     requires room { HasRoom store.old }
     requires space { HasSpace todo.old }
     requires needs { (f : ℕ) (rest : List ℕ) → store.old.waking.items ≡ f ∷ rest → CanGrow (world_of store.old) f }
@@ -64,33 +82,33 @@ pub fn wake_next(store: &mut Store, todo: &mut Vec<Op>, party: u32)
         return;
     };
     todo.push_reserved(if store.waking.is_empty() {
-        Op::Close
+        Op::Closing(ClosingOp::Close)
     } else {
-        Op::WakeNext
+        Op::Closing(ClosingOp::WakeNext)
     });
-    wake(store, todo, party, f);
+    move_task(store, todo, party, Move::Wake, f);
 }
 
 /// The queue is closed.
-pub fn close(store: &mut Store, todo: &mut Vec<Op>)
+fn close(store: &mut Store, todo: &mut Vec<Op>)
     requires room { HasRoom store.old }
     requires space { HasSpace todo.old }
     ensures { Does (acts.close (world_of store.old)) store.new todo.old.items todo.new.items }
 {
     store.closed = true;
-    todo.push_reserved(Op::Drain);
+    todo.push_reserved(Op::Closing(ClosingOp::Drain));
 }
 
 /// The next Runnable is taken to be dropped, and where there is none the drop has ended.
-pub fn drain(store: &mut Store, todo: &mut Vec<Op>, party: u32)
+fn drain(store: &mut Store, todo: &mut Vec<Op>, party: u32)
     requires room { HasRoom store.old }
     requires space { HasSpace todo.old }
     ensures { Does (acts.drain party (world_of store.old)) store.new todo.old.items todo.new.items }
 {
     match store.queue.pop_front() {
         Some(f) => {
-            todo.push_reserved(Op::Drain);
-            todo.push_reserved(Op::DropRunnable(f));
+            todo.push_reserved(Op::Closing(ClosingOp::Drain));
+            todo.push_reserved(Op::Move(Move::DropRunnable, f));
         }
         None => store.trace.push_reserved(Event::DropEnded { party }),
     }

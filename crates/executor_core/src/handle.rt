@@ -1,39 +1,35 @@
-//! Copies of wakers, and polls of a handle with their registers and notifies.
-ghost use Rattle.std.specs.Prelude.{◌≡◌, ◌≢◌, ℕ, ◌+◌, ◌-◌, ◌^◌, ◌<◌, ◌≤◌, ◌++◌, true, false, not, Some, None, List, [], ◌∷◌, length, reverse, vec_len, vec_capacity};
+//! Polls of a handle, with their registers and notifies.
+ghost use Rattle.std.specs.Prelude.{◌≡◌, ◌≢◌, ℕ, ◌+◌, ◌-◌, ◌^◌, ◌<◌, ◌≤◌, ◌++◌, true, false, not, Some, None, List, [], ◌∷◌, length};
+ghost use Rattle.std.specs.Prelude.{reverse, vec_len, vec_capacity};
 ghost use Rattle.task_moves.specs.Moves as moves;
 ghost use Rattle.executor_model.specs.Acts as acts;
 ghost use Rattle.executor_model.specs.Carried as carried;
 ghost use Rattle.executor_model.specs.World.{task, without, among, awaiter_of};
-ghost use Rattle.executor_model.specs.Good.{IsKnown, CanGrow, IsHeld, HasPlace, KeepsAwaiter, IsKnownWaker, CanWake};
+ghost use Rattle.executor_model.specs.Good.{IsKnown, CanGrow, IsHeld, HasPlace, KeepsAwaiter, IsKnownWaker, CanWake, HandleNeeds};
 ghost use Rattle.executor_core.specs.Views.{world_of, HasRoom, HasRoomToEnd, HasSpace, Does};
 
 use crate::carry::push_awaiter;
 use crate::store::Store;
-use crate::task::wake;
-use executor_model::{Awaiter, Event, Hint, Hold, Op, Reply, Waker};
-use task_moves::moves::{self, Answer, MOST_REFERENCES, Moved, State};
+use crate::waker::is_refused;
+use executor_model::{Awaiter, Event, HandleOp, Hint, Hold, Op, Reply, Waker, WakerOp};
+use task_moves::moves::{self, Answer, Move, Moved};
 
-fn is_refused(hint: Hint, state: State) -> bool
-    ensures { result ≡ acts.is_refused hint state }
-{
-    hint.refused || state.references >= MOST_REFERENCES
-}
-
-/// A copy of a waker is asked for, and kept.
-pub fn copy_waker(store: &mut Store, todo: &mut Vec<Op>, hint: Hint, f: u64, held: Hold)
+/// The party does this part of a poll of a handle, or of a notify.
+pub fn act(store: &mut Store, todo: &mut Vec<Op>, party: u32, hint: Hint, op: HandleOp)
     requires room { HasRoom store.old }
     requires space { HasSpace todo.old }
-    requires needs { IsKnown (world_of store.old) f }
-    ensures { Does (acts.copy_waker hint (world_of store.old) f held) store.new todo.old.items todo.new.items }
+    requires needs { HandleNeeds (world_of store.old) op }
+    ensures { Does (acts.handle_act party hint op (world_of store.old)) store.new todo.old.items todo.new.items }
 {
-    let task = &mut store.tasks[f as usize];
-    if is_refused(hint, *task) {
-        todo.push_reserved(Op::End(Reply::NoMemory, held));
-        return;
+    match op {
+        HandleOp::Look(f, waker) => look(store, todo, party, f, waker),
+        HandleOp::CopyAwaiter(f, waker) => copy_awaiter(store, todo, party, hint, f, waker),
+        HandleOp::Register(f, waker, poll) => register(store, todo, f, waker, poll),
+        HandleOp::EndRegister(f, waker, poll) => end_register(store, todo, f, waker, poll),
+        HandleOp::LookAgain(f) => look_again(store, todo, party, f),
+        HandleOp::Notify(f, mine) => notify(store, todo, f, mine),
+        HandleOp::EndNotify(f, mine) => end_notify(store, todo, hint, f, mine),
     }
-    task.references += 1;
-    store.wakers.push_reserved(Some(f));
-    todo.push_reserved(Op::End(Reply::Made, held));
 }
 
 fn reply_of(answer: Answer) -> Reply
@@ -68,7 +64,7 @@ fn answered(store: &mut Store, todo: &mut Vec<Op>, party: u32, f: u64, moved: Mo
 }
 
 /// A poll of the handle looks.
-pub fn look(store: &mut Store, todo: &mut Vec<Op>, party: u32, f: u64, waker: Waker)
+fn look(store: &mut Store, todo: &mut Vec<Op>, party: u32, f: u64, waker: Waker)
     requires room { HasRoom store.old }
     requires space { HasSpace todo.old }
     requires needs { IsKnown (world_of store.old) f }
@@ -82,7 +78,7 @@ pub fn look(store: &mut Store, todo: &mut Vec<Op>, party: u32, f: u64, waker: Wa
                 .push_reserved(Event::HandlePolled { party, future: f });
             answered(store, todo, party, f, moved, answer);
         }
-        None => todo.push_reserved(Op::CopyAwaiter(f, waker)),
+        None => todo.push_reserved(Op::Handle(HandleOp::CopyAwaiter(f, waker))),
     }
 }
 
@@ -108,14 +104,7 @@ fn copy(store: &mut Store, hint: Hint, waker: Waker) -> bool
 }
 
 /// The waker is copied, to be registered.
-pub fn copy_awaiter(
-    store: &mut Store,
-    todo: &mut Vec<Op>,
-    party: u32,
-    hint: Hint,
-    f: u64,
-    waker: Waker,
-)
+fn copy_awaiter(store: &mut Store, todo: &mut Vec<Op>, party: u32, hint: Hint, f: u64, waker: Waker)
     requires room { HasRoom store.old }
     requires space { HasSpace todo.old }
     requires needs { IsKnownWaker (world_of store.old) waker }
@@ -129,11 +118,11 @@ pub fn copy_awaiter(
     store
         .trace
         .push_reserved(Event::HandlePolled { party, future: f });
-    todo.push_reserved(Op::Register(f, waker, poll));
+    todo.push_reserved(Op::Handle(HandleOp::Register(f, waker, poll)));
 }
 
 /// The copy begins to be registered.
-pub fn register(store: &mut Store, todo: &mut Vec<Op>, f: u64, waker: Waker, poll: u64)
+fn register(store: &mut Store, todo: &mut Vec<Op>, f: u64, waker: Waker, poll: u64)
     requires room { HasRoom store.old }
     requires space { HasSpace todo.old }
     requires needs { IsKnown (world_of store.old) f }
@@ -143,10 +132,10 @@ pub fn register(store: &mut Store, todo: &mut Vec<Op>, f: u64, waker: Waker, pol
     let notifying = task.notifying;
     *task = moves::register(*task).state;
     if notifying {
-        todo.push_reserved(Op::LookAgain(f));
-        todo.push_reserved(Op::CallAwaiter(f, waker, poll));
+        todo.push_reserved(Op::Handle(HandleOp::LookAgain(f)));
+        todo.push_reserved(Op::Waker(WakerOp::CallAwaiter(f, waker, poll)));
     } else {
-        todo.push_reserved(Op::EndRegister(f, waker, poll));
+        todo.push_reserved(Op::Handle(HandleOp::EndRegister(f, waker, poll)));
     }
 }
 
@@ -162,7 +151,7 @@ fn push_let_go(todo: &mut Vec<Op>, awaiter: Option<Awaiter>)
                 waker: Waker::Task(g),
                 ..
             },
-        ) => todo.push_reserved(Op::Release(g)),
+        ) => todo.push_reserved(Op::Move(Move::Release, g)),
         Some(
             Awaiter {
                 waker: Waker::Outside(_),
@@ -175,7 +164,7 @@ fn push_let_go(todo: &mut Vec<Op>, awaiter: Option<Awaiter>)
 
 /// The copy is stored, or called where somebody wanted to notify meanwhile. The old awaiter goes.
 #[tactic(auto, using(crate::proofs::Owing::reverse_before))]
-pub fn end_register(store: &mut Store, todo: &mut Vec<Op>, f: u64, waker: Waker, poll: u64)
+fn end_register(store: &mut Store, todo: &mut Vec<Op>, f: u64, waker: Waker, poll: u64)
     requires room { HasRoom store.old }
     requires space { HasSpace todo.old }
     requires needs { KeepsAwaiter (world_of store.old) f }
@@ -191,15 +180,15 @@ pub fn end_register(store: &mut Store, todo: &mut Vec<Op>, f: u64, waker: Waker,
     } else {
         Some(Awaiter { waker, poll })
     };
-    todo.push_reserved(Op::LookAgain(f));
+    todo.push_reserved(Op::Handle(HandleOp::LookAgain(f)));
     push_let_go(todo, old);
     if notifying {
-        todo.push_reserved(Op::CallAwaiter(f, waker, poll));
+        todo.push_reserved(Op::Waker(WakerOp::CallAwaiter(f, waker, poll)));
     }
 }
 
 /// A poll of the handle looks again.
-pub fn look_again(store: &mut Store, todo: &mut Vec<Op>, party: u32, f: u64)
+fn look_again(store: &mut Store, todo: &mut Vec<Op>, party: u32, f: u64)
     requires room { HasRoom store.old }
     requires space { HasSpace todo.old }
     requires needs { IsKnown (world_of store.old) f }
@@ -213,7 +202,7 @@ pub fn look_again(store: &mut Store, todo: &mut Vec<Op>, party: u32, f: u64)
 }
 
 /// The awaiter is notified, where nobody else is at it.
-pub fn notify(store: &mut Store, todo: &mut Vec<Op>, f: u64, mine: bool)
+fn notify(store: &mut Store, todo: &mut Vec<Op>, f: u64, mine: bool)
     requires room { HasRoom store.old }
     requires space { HasSpace todo.old }
     requires needs { IsKnown (world_of store.old) f }
@@ -223,12 +212,12 @@ pub fn notify(store: &mut Store, todo: &mut Vec<Op>, f: u64, mine: bool)
     let busy = task.notifying || task.registering;
     *task = moves::notify(*task).state;
     if !busy {
-        todo.push_reserved(Op::EndNotify(f, mine));
+        todo.push_reserved(Op::Handle(HandleOp::EndNotify(f, mine)));
     }
 }
 
 /// The awaiter is taken out, to be called.
-pub fn end_notify(store: &mut Store, todo: &mut Vec<Op>, hint: Hint, f: u64, mine: bool)
+fn end_notify(store: &mut Store, todo: &mut Vec<Op>, hint: Hint, f: u64, mine: bool)
     requires room { HasRoom store.old }
     requires space { HasSpace todo.old }
     requires needs { KeepsAwaiter (world_of store.old) f }
@@ -244,35 +233,9 @@ pub fn end_notify(store: &mut Store, todo: &mut Vec<Op>, hint: Hint, f: u64, min
             if mine && hint.same {
                 push_let_go(todo, old);
             } else {
-                todo.push_reserved(Op::CallAwaiter(f, waker, poll));
+                todo.push_reserved(Op::Waker(WakerOp::CallAwaiter(f, waker, poll)));
             }
         }
         None => {}
-    }
-}
-
-/// An awaiter that was taken out is called.
-pub fn call_awaiter(
-    store: &mut Store,
-    todo: &mut Vec<Op>,
-    party: u32,
-    f: u64,
-    waker: Waker,
-    poll: u64,
-)
-    requires room { HasRoom store.old }
-    requires space { HasSpace todo.old }
-    requires needs { CanWake (world_of store.old) waker }
-    ensures { Does (acts.call_awaiter party (world_of store.old) f waker poll) store.new todo.old.items todo.new.items }
-{
-    store.trace.push_reserved(Event::WakerCalled {
-        party,
-        future: f,
-        poll,
-        waker,
-    });
-    match waker {
-        Waker::Task(g) => wake(store, todo, party, g),
-        Waker::Outside(x) => todo.push_reserved(Op::CallOutside(x)),
     }
 }

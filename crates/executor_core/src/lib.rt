@@ -13,7 +13,9 @@ mod queue;
 mod store;
 mod table;
 mod task;
+mod user;
 mod uses;
+mod waker;
 
 pub use executor_model::Kind;
 pub use executor_parts::{Place, Places, SpawnRefused, Vacancy};

@@ -1,5 +1,6 @@
 //! The machine.
-ghost use Rattle.std.specs.Prelude.{◌≡◌, ◌⊎◌, ℕ, ◌+◌, ◌<◌, ◌≤◌, Some, None, Ok, Err, vec_len, vec_capacity, OnOk, IfOk, IfErr, IfSome, MatchOption, slice_get, take, List, length, map};
+ghost use Rattle.std.specs.Prelude.{◌≡◌, ◌⊎◌, ℕ, ◌+◌, ◌<◌, ◌≤◌, Some, None, Ok, Err, vec_len, vec_capacity, OnOk, IfOk, IfErr, IfSome};
+ghost use Rattle.std.specs.Prelude.{MatchOption, slice_get, take, List, length, map};
 ghost use Rattle.executor_model.specs.Steps as steps;
 ghost use Rattle.executor_model.specs.AskedPolls.{IsWokenBetweenPolls};
 ghost use Rattle.executor_model.specs.AwaiterKept.{AwaiterIsKept};
@@ -86,7 +87,8 @@ fn step_at(store: &mut Store, parties: &mut Vec<Vec<Op>>, step: Step) -> Result<
     requires { IsReached (state_of store.old parties.old.items) }
     ensures reached { IsReached (state_of store.new parties.new.items) }
     ensures ok { OnOk result (steps.step (state_of store.old parties.old.items) step ≡ Ok (state_of store.new parties.new.items)) }
-    ensures err { IfErr result (λ e. (state_of store.new parties.new.items ≡ state_of store.old parties.old.items) × IsRefused (state_of store.old parties.old.items) step e) }
+    ensures err { IfErr result (λ e. (state_of store.new parties.new.items ≡ state_of store.old parties.old.items)
+        × IsRefused (state_of store.old parties.old.items) step e) }
 {
     let p = party_of(step) as usize;
     if p >= parties.len() {
@@ -156,7 +158,8 @@ impl Machine {
     /// Steps until one is refused. Says the place of that one, and why, if one was. What holds of every trace holds
     /// of this machine's then, and what holds of every machine of this one: each such law has a clause here.
     pub fn run(&mut self, list: &[Step]) -> Option<(usize, StepError)>
-        ensures made { MatchOption result (run_all list.now self.old ≡ Ok self.new) (λ r. run_all (take r.0 list.now) self.old ≡ Ok self.new) }
+        ensures made { MatchOption result (run_all list.now self.old ≡ Ok self.new)
+            (λ r. run_all (take r.0 list.now) self.old ≡ Ok self.new) }
         ensures refused { IfSome result (λ r. (t : Step) × (slice_get list.now r.0 ≡ Some t) × IsRefused self.new t r.1) }
         ensures polls_are_lawful { (f : ℕ) → HasLawfulPolls f self.new.world.trace }
         ensures outputs_go_once { (f : ℕ) → OutputGoesOnce f self.new.world.trace }
@@ -185,7 +188,8 @@ impl Machine {
 
     /// The steps of a run.
     fn run_on(&mut self, list: &[Step]) -> Option<(usize, StepError)>
-        ensures made { MatchOption result (run_all list.now self.old ≡ Ok self.new) (λ r. run_all (take r.0 list.now) self.old ≡ Ok self.new) }
+        ensures made { MatchOption result (run_all list.now self.old ≡ Ok self.new)
+            (λ r. run_all (take r.0 list.now) self.old ≡ Ok self.new) }
         ensures refused { IfSome result (λ r. (t : Step) × (slice_get list.now r.0 ≡ Some t) × IsRefused self.new t r.1) }
         ensures reached { IsReached self.new }
     {

@@ -1,5 +1,6 @@
 //! What a call changes as it begins, and what follows the end of user code.
-ghost use Rattle.std.specs.Prelude.{◌≡◌, ◌≢◌, ℕ, ◌+◌, ◌-◌, ◌^◌, ◌<◌, ◌≤◌, ◌==◌, ◌++◌, true, false, not, Some, None, List, [], ◌∷◌, length, map, reverse, vec_len, vec_capacity};
+ghost use Rattle.std.specs.Prelude.{◌≡◌, ◌≢◌, ℕ, ◌+◌, ◌-◌, ◌^◌, ◌<◌, ◌≤◌, ◌==◌, ◌++◌, true, false, not, Some, None, List, [], ◌∷◌};
+ghost use Rattle.std.specs.Prelude.{length, map, reverse, vec_len, vec_capacity};
 ghost use Rattle.executor_model.specs.Steps as steps;
 ghost use Rattle.executor_model.specs.Weights as weights;
 ghost use Rattle.executor_model.specs.Weights.{weigh, weigh_all};
@@ -11,7 +12,11 @@ ghost use Rattle.executor_core.specs.Views.{world_of, HasRoom, HasRoomToEnd, Has
 use crate::act::act;
 use crate::possible::{kept, polled_by};
 use crate::store::Store;
-use executor_model::{Answer, By, Call, Event, Hold, Op, Reply, Step, UserEnd, Waker};
+use executor_model::{
+    Answer, By, Call, ClosingOp, Event, HandleOp, Hold, Op, QueueOp, Reply, Step, TableOp, UserEnd,
+    UserOp, Waker, WakerOp,
+};
+use task_moves::moves::Move;
 
 fn waker_of(here: Option<u64>, by: By) -> Waker
     ensures { result ≡ steps.waker_of here by }
@@ -43,24 +48,24 @@ fn begin(store: &mut Store, todo: &mut Vec<Op>, party: u32, here: Option<u64>, c
     ensures { Does (steps.begun party (world_of store.old) here call) store.new todo.old.items todo.new.items }
 {
     match call {
-        Call::Spawn => todo.push_reserved(Op::Enter),
-        Call::TryTick => todo.push_reserved(Op::Take),
-        Call::IsEmpty => todo.push_reserved(Op::LookAtTable),
+        Call::Spawn => todo.push_reserved(Op::Table(TableOp::Enter)),
+        Call::TryTick => todo.push_reserved(Op::Queue(QueueOp::Take)),
+        Call::IsEmpty => todo.push_reserved(Op::Table(TableOp::LookAtTable)),
         Call::DropExecutor => {
             store.gone = true;
             store.trace.push_reserved(Event::DropBegun { party });
             todo.push_reserved(Op::End(Reply::Done, Hold::Nothing));
-            todo.push_reserved(Op::TakeOut);
+            todo.push_reserved(Op::Closing(ClosingOp::TakeOut));
         }
         Call::Keep => {
             if let Some(f) = here {
-                todo.push_reserved(Op::CopyWaker(f, Hold::Nothing));
+                todo.push_reserved(Op::Waker(WakerOp::CopyWaker(f, Hold::Nothing)));
             }
         }
         Call::WakeSelf => {
             if let Some(f) = here {
                 todo.push_reserved(Op::End(Reply::Done, Hold::Nothing));
-                todo.push_reserved(Op::WakeByReference(f));
+                todo.push_reserved(Op::Move(Move::WakeByReference, f));
             }
         }
         _ => begin_on_waker(store, todo, party, here, call),
@@ -79,25 +84,25 @@ fn begin_on_waker(store: &mut Store, todo: &mut Vec<Op>, party: u32, here: Optio
             if let Some(f) = kept(store, k) {
                 use_up(store, k);
                 todo.push_reserved(Op::End(Reply::Done, Hold::Nothing));
-                todo.push_reserved(Op::Wake(f));
+                todo.push_reserved(Op::Move(Move::Wake, f));
             }
         }
         Call::DropWaker(k) => {
             if let Some(f) = kept(store, k) {
                 use_up(store, k);
                 todo.push_reserved(Op::End(Reply::Done, Hold::Nothing));
-                todo.push_reserved(Op::Release(f));
+                todo.push_reserved(Op::Move(Move::Release, f));
             }
         }
         Call::WakeByRef(k) => {
             if let Some(f) = kept(store, k) {
                 todo.push_reserved(Op::End(Reply::Done, Hold::Waker(k)));
-                todo.push_reserved(Op::WakeByReference(f));
+                todo.push_reserved(Op::Move(Move::WakeByReference, f));
             }
         }
         Call::Copy(k) => {
             if let Some(f) = kept(store, k) {
-                todo.push_reserved(Op::CopyWaker(f, Hold::Waker(k)));
+                todo.push_reserved(Op::Waker(WakerOp::CopyWaker(f, Hold::Waker(k))));
             }
         }
         _ => begin_on_handle(store, todo, party, here, call),
@@ -112,19 +117,22 @@ fn begin_on_handle(store: &mut Store, todo: &mut Vec<Op>, party: u32, here: Opti
     ensures { Does (steps.begun party (world_of store.old) here call) store.new todo.old.items todo.new.items }
 {
     match call {
-        Call::PollHandle(f, by) => todo.push_reserved(Op::Look(f, waker_of(here, by))),
+        Call::PollHandle(f, by) => todo.push_reserved(Op::Handle(HandleOp::Look(
+            f,
+            waker_of(here, by),
+        ))),
         Call::Cancel(f) => {
             todo.push_reserved(Op::End(Reply::Done, Hold::Handle(f)));
-            todo.push_reserved(Op::Cancel(f));
+            todo.push_reserved(Op::Move(Move::Cancel, f));
         }
         Call::Detach(f) => {
             todo.push_reserved(Op::End(Reply::Done, Hold::Handle(f)));
-            todo.push_reserved(Op::Detach(f));
+            todo.push_reserved(Op::Move(Move::Detach, f));
         }
         Call::DropHandle(f) => {
             todo.push_reserved(Op::End(Reply::Done, Hold::Handle(f)));
-            todo.push_reserved(Op::Detach(f));
-            todo.push_reserved(Op::Cancel(f));
+            todo.push_reserved(Op::Move(Move::Detach, f));
+            todo.push_reserved(Op::Move(Move::Cancel, f));
         }
         _ => unreachable!(),
     }
@@ -136,7 +144,7 @@ fn react(store: &mut Store, todo: &mut Vec<Op>, party: u32, op: Op, end: UserEnd
     requires space { HasSpace todo.old }
     ensures { Does (steps.react party op end (world_of store.old)) store.new todo.old.items todo.new.items }
 {
-    if let Op::Poll(f) = op {
+    if let Op::User(UserOp::Poll(f)) = op {
         match end {
             UserEnd::Polled(Answer::Pending) => {
                 store.trace.push_reserved(Event::Answered {
@@ -144,7 +152,7 @@ fn react(store: &mut Store, todo: &mut Vec<Op>, party: u32, op: Op, end: UserEnd
                     future: f,
                     answer: Answer::Pending,
                 });
-                todo.push_reserved(Op::PutBack(f));
+                todo.push_reserved(Op::Table(TableOp::PutBack(f)));
             }
             UserEnd::Polled(Answer::Ready) => {
                 store.trace.push_reserved(Event::Answered {
@@ -152,8 +160,8 @@ fn react(store: &mut Store, todo: &mut Vec<Op>, party: u32, op: Op, end: UserEnd
                     future: f,
                     answer: Answer::Ready,
                 });
-                todo.push_reserved(Op::EndReady(f));
-                todo.push_reserved(Op::BeginDrop(f));
+                todo.push_reserved(Op::Move(Move::EndReady, f));
+                todo.push_reserved(Op::User(UserOp::BeginDrop(f)));
             }
             UserEnd::Done => {}
         }

@@ -1,5 +1,6 @@
 //! Which steps are possible, and why one isn't.
-ghost use Rattle.std.specs.Prelude.{◌≡◌, ◌≢◌, ℕ, ◌+◌, ◌-◌, ◌^◌, ◌<◌, ◌≤◌, ◌==◌, ◌++◌, true, false, not, Some, None, List, [], ◌∷◌, length, map, reverse, vec_len, vec_capacity};
+ghost use Rattle.std.specs.Prelude.{◌≡◌, ◌≢◌, ℕ, ◌+◌, ◌-◌, ◌^◌, ◌<◌, ◌≤◌, ◌==◌, ◌++◌, true, false, not, Some, None, List, [], ◌∷◌};
+ghost use Rattle.std.specs.Prelude.{length, map, reverse, vec_len, vec_capacity};
 ghost use Rattle.executor_model.specs.Steps as steps;
 ghost use Rattle.executor_model.specs.Weights as weights;
 ghost use Rattle.executor_model.specs.Weights.{weigh, weigh_all};
@@ -8,17 +9,17 @@ ghost use Rattle.executor_core.specs.Views.{world_of, HasRoom, HasRoomToEnd, Has
 
 use crate::store::Store;
 use crate::uses::{Use, is_unused};
-use executor_model::{By, Call, Op, Step, StepError, UserEnd};
+use executor_model::{By, Call, Op, Step, StepError, UserEnd, UserOp};
 
 /// User code, which must answer first.
 pub fn waits(op: Op) -> bool
     ensures { result ≡ steps.waits op }
 {
     match op {
-        Op::Poll(_) => true,
-        Op::Drop(_) => true,
-        Op::DropOutput(_) => true,
-        Op::CallOutside(_) => true,
+        Op::User(UserOp::Poll(_)) => true,
+        Op::User(UserOp::Drop(_)) => true,
+        Op::User(UserOp::DropOutput(_)) => true,
+        Op::User(UserOp::CallOutside(_)) => true,
         _ => false,
     }
 }
@@ -37,7 +38,7 @@ pub fn polled_by(top: Option<Op>) -> Option<u64>
     ensures { result ≡ steps.polled_by top }
 {
     match top {
-        Some(Op::Poll(f)) => Some(f),
+        Some(Op::User(UserOp::Poll(f))) => Some(f),
         _ => None,
     }
 }
@@ -157,13 +158,13 @@ fn accepts(op: Op, end: UserEnd) -> bool
 {
     match end {
         UserEnd::Polled(_) => match op {
-            Op::Poll(_) => true,
+            Op::User(UserOp::Poll(_)) => true,
             _ => false,
         },
         UserEnd::Done => match op {
-            Op::Drop(_) => true,
-            Op::DropOutput(_) => true,
-            Op::CallOutside(_) => true,
+            Op::User(UserOp::Drop(_)) => true,
+            Op::User(UserOp::DropOutput(_)) => true,
+            Op::User(UserOp::CallOutside(_)) => true,
             _ => false,
         },
     }

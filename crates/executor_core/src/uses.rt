@@ -1,13 +1,15 @@
 //! What the calls in progress use.
-ghost use Rattle.std.specs.Prelude.{◌≡◌, ◌≢◌, ℕ, ◌+◌, ◌-◌, ◌^◌, ◌<◌, ◌≤◌, ◌==◌, ◌++◌, true, false, not, Some, None, List, [], ◌∷◌, length, map, reverse, vec_len, vec_capacity};
+ghost use Rattle.std.specs.Prelude.{◌≡◌, ◌≢◌, ℕ, ◌+◌, ◌-◌, ◌^◌, ◌<◌, ◌≤◌, ◌==◌, ◌++◌, true, false, not, Some, None, List, [], ◌∷◌};
+ghost use Rattle.std.specs.Prelude.{length, map, reverse, vec_len, vec_capacity};
 ghost use Rattle.executor_model.specs.Steps as steps;
-ghost use Rattle.executor_model.specs.Weights as weights;
+ghost use Rattle.executor_model.specs.Rows as rows;
 ghost use Rattle.executor_model.specs.Weights.{weigh, weigh_all};
 ghost use Rattle.executor_model.specs.World.{task};
 ghost use Rattle.executor_core.specs.Uses as uses;
 ghost use Rattle.executor_core.specs.Views.{world_of, HasRoom, HasRoomToEnd, HasSpace, Does};
 
-use executor_model::{Hold, Op};
+use executor_model::{HandleOp, Hold, Op, QueueOp, TableOp, UserOp, WakerOp};
+use task_moves::moves::Move;
 
 /// Something that a call may use, and another may not use meanwhile.
 #[derive(Clone, Copy)]
@@ -47,19 +49,19 @@ fn holds(held: Hold, what: Use) -> bool
 }
 
 fn borrows(op: Op) -> bool
-    ensures { result ≡ not (weights.borrowing_of op == 0) }
+    ensures { result ≡ not (rows.borrowing_of op == 0) }
 {
     match op {
-        Op::Enter => true,
-        Op::Take => true,
-        Op::LookAtTable => true,
-        Op::TakeUp(_) => true,
-        Op::TakeToPoll(_) => true,
-        Op::Poll(_) => true,
-        Op::PutBack(_) => true,
-        Op::EndPending(_) => true,
-        Op::EndReady(_) => true,
-        Op::CopyWaker(_, held) => holds(held, Use::Executor),
+        Op::Table(TableOp::Enter) => true,
+        Op::Queue(QueueOp::Take) => true,
+        Op::Table(TableOp::LookAtTable) => true,
+        Op::Move(Move::TakeUp, _) => true,
+        Op::Table(TableOp::TakeToPoll(_)) => true,
+        Op::User(UserOp::Poll(_)) => true,
+        Op::Table(TableOp::PutBack(_)) => true,
+        Op::Move(Move::EndPending, _) => true,
+        Op::Move(Move::EndReady, _) => true,
+        Op::Waker(WakerOp::CopyWaker(_, held)) => holds(held, Use::Executor),
         Op::End(_, held) => holds(held, Use::Executor),
         _ => false,
     }
@@ -67,24 +69,24 @@ fn borrows(op: Op) -> bool
 
 #[tactic(auto, using(crate::proofs::Scans::same_test))]
 fn handles(op: Op, f: u64) -> bool
-    ensures { result ≡ not (weights.handling_of f op == 0) }
+    ensures { result ≡ not (rows.handling_of f op == 0) }
 {
     match op {
-        Op::Look(g, _) => f == g,
-        Op::CopyAwaiter(g, _) => f == g,
-        Op::Register(g, _, _) => f == g,
-        Op::EndRegister(g, _, _) => f == g,
-        Op::LookAgain(g) => f == g,
+        Op::Handle(HandleOp::Look(g, _)) => f == g,
+        Op::Handle(HandleOp::CopyAwaiter(g, _)) => f == g,
+        Op::Handle(HandleOp::Register(g, _, _)) => f == g,
+        Op::Handle(HandleOp::EndRegister(g, _, _)) => f == g,
+        Op::Handle(HandleOp::LookAgain(g)) => f == g,
         Op::End(_, held) => holds(held, Use::Handle(f)),
         _ => false,
     }
 }
 
 fn lends(op: Op, k: u64) -> bool
-    ensures { result ≡ not (weights.lending_of k op == 0) }
+    ensures { result ≡ not (rows.lending_of k op == 0) }
 {
     match op {
-        Op::CopyWaker(_, held) => holds(held, Use::Waker(k)),
+        Op::Waker(WakerOp::CopyWaker(_, held)) => holds(held, Use::Waker(k)),
         Op::End(_, held) => holds(held, Use::Waker(k)),
         _ => false,
     }

@@ -13,6 +13,9 @@ use Rattle.executor_model.specs.declared.event.Event.TheVariants as event
 use Rattle.executor_model.specs.declared.op.Hold.TheVariants as hold
 use Rattle.executor_model.specs.declared.op.Op.{Op}
 use Rattle.executor_model.specs.declared.op.Op.TheVariants as op
+use Rattle.task_moves.specs.declared.moves.owed.Move.TheVariants as move
+use Rattle.executor_model.specs.declared.op.QueueOp.TheVariants as queue_op
+use Rattle.executor_model.specs.declared.op.TableOp.TheVariants as table_op
 use Rattle.executor_model.specs.declared.step.Hint.{Hint}
 use Rattle.executor_model.specs.declared.step.Step.{Step}
 use Rattle.executor_model.specs.declared.step.Step.TheVariants.{Begin, Go}
@@ -89,11 +92,11 @@ module _ (s : Machine) (fine : Good s) (h : Heard s) (d : Deep s) (rest : IsAtRe
 
   found-inside : (t : Hint) (f : ℕ) (xs : List ℕ) → s.world.queue.items ≡ f ∷ xs → Inside p hold.Executor (run (ticks p t) s)
   found-inside t f xs z = subst (Inside p hold.Executor) (sym (gone-on-alone s p l gone (none p) t (f ∷ xs) z)) (record {
-    within = omega (arith, l, length-set s.parties p (op.Take ∷ []), length-set (set s.parties p (op.Take ∷ [])) p (op.End reply.Yes hold.Executor ∷ op.TakeUp f ∷ []));
-    rest = op.TakeUp f ∷ [];
-    here = placed-there s p l gone (none p) (op.End reply.Yes hold.Executor ∷ op.TakeUp f ∷ []);
+    within = omega (arith, l, length-set s.parties p (op.Queue queue_op.Take ∷ []), length-set (set s.parties p (op.Queue queue_op.Take ∷ [])) p (op.End reply.Yes hold.Executor ∷ op.Move move.TakeUp f ∷ []));
+    rest = op.Move move.TakeUp f ∷ [];
+    here = placed-there s p l gone (none p) (op.End reply.Yes hold.Executor ∷ op.Move move.TakeUp f ∷ []);
     light = refl;
-    others = λ q n. get_or-set_other (set s.parties p (op.Take ∷ [])) p q (op.End reply.Yes hold.Executor ∷ op.TakeUp f ∷ []) [] n ∙ others (op.Take ∷ []) q n;
+    others = λ q n. get_or-set_other (set s.parties p (op.Queue queue_op.Take ∷ [])) p q (op.End reply.Yes hold.Executor ∷ op.Move move.TakeUp f ∷ []) [] n ∙ others (op.Queue queue_op.Take ∷ []) q n;
   })
 
   tick-goes : (t : Hint) (ts : List Step) (items : List ℕ) → s.world.queue.items ≡ items → (run ts (run (ticks p t) s)).world.trace ≡ (ticking s p).world.trace ++ e ∷ later → TickAnswered p s.world.trace e
@@ -109,7 +112,7 @@ module _ (s : Machine) (fine : Good s) (h : Heard s) (d : Deep s) (rest : IsAtRe
       )
 
   tick-next : (ts : List Step) → (run ts (ticking s p)).world.trace ≡ (ticking s p).world.trace ++ e ∷ later → TickAnswered p s.world.trace e
-  tick-next ts k = follow (ticking s p) p op.Take (get_or-set_same s.parties p (op.Take ∷ []) [] l) (others (op.Take ∷ [])) (λ u. refl) e later alone (TickAnswered p s.world.trace e)
+  tick-next ts k = follow (ticking s p) p (op.Queue queue_op.Take) (get_or-set_same s.parties p (op.Queue queue_op.Take ∷ []) [] l) (others (op.Queue queue_op.Take ∷ [])) (λ u. refl) e later alone (TickAnswered p s.world.trace e)
       (λ t us q. tick-goes t us s.world.queue.items refl (ap (λ (m : Machine). (run us m).world.trace) (two t) ∙ q)) ts k
 
   asks-two : (t : Hint) → run (asks_alone p t) s ≡ stepped (asking s p) (step (asking s p) (Go p t))
@@ -124,7 +127,7 @@ module _ (s : Machine) (fine : Good s) (h : Heard s) (d : Deep s) (rest : IsAtRe
   -- whether the executor is empty: yes where all are dropped, and no where they aren't
 
   asked-next : IsQuietEmptinessExact s → (ts : List Step) → (run ts (asking s p)).world.trace ≡ (asking s p).world.trace ++ e ∷ later → EmptyAnswered p s.world.trace e
-  asked-next exact ts k = follow (asking s p) p op.LookAtTable (get_or-set_same s.parties p (op.LookAtTable ∷ []) [] l) (others (op.LookAtTable ∷ [])) (λ u. refl) e later alone (EmptyAnswered p s.world.trace e)
+  asked-next exact ts k = follow (asking s p) p (op.Table table_op.LookAtTable) (get_or-set_same s.parties p (op.Table table_op.LookAtTable ∷ []) [] l) (others (op.Table table_op.LookAtTable ∷ [])) (λ u. refl) e later alone (EmptyAnswered p s.world.trace e)
       (λ t us q. let r : (run us (run (asks_alone p t) s)).world.trace ≡ (asking s p).world.trace ++ e ∷ later = ap (λ (m : Machine). (run us m).world.trace) (asks-two t) ∙ q in ⊎_elim
       (λ (y : AnswersAlone s p t reply.Yes). inl (answered-so reply.Yes t us y r, exact.only rest p t l y))
       (λ (n : AnswersAlone s p t reply.No). inr (answered-so reply.No t us n r, λ all. not-both (answered-so reply.Yes t us (exact.always rest p t l all) r) (answered-so reply.No t us n r)))

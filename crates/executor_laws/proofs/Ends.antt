@@ -6,6 +6,7 @@ use Rattle.executor_model.specs.declared.event.Answer.TheVariants as answer
 use Rattle.executor_model.specs.declared.event.Event.TheVariants as event
 use Rattle.executor_model.specs.declared.op.Op.{Op}
 use Rattle.executor_model.specs.declared.op.Op.TheVariants as op
+use Rattle.executor_model.specs.declared.op.UserOp.TheVariants as user_op
 use Rattle.executor_model.specs.declared.step.Hint.{Hint}
 use Rattle.executor_model.specs.declared.step.Step.{Step}
 use Rattle.executor_model.specs.declared.step.Step.TheVariants.{Begin, Go, Answer}
@@ -16,7 +17,8 @@ use Rattle.executor_model.specs.declared.step.UserEnd.TheVariants as end
 use Rattle.executor_model.specs.World.{World, Done}
 use Rattle.executor_model.specs.Acts.{act}
 use Rattle.executor_model.specs.Weights.{weigh, weigh_all}
-use Rattle.executor_laws.specs.Remaining.{steps_of, steps_kept, remaining, is_onward, are_onward, LowersRemaining, EndsWithin, GoesOn}
+use Rattle.executor_laws.specs.Remaining.{steps_kept, remaining, is_onward, are_onward, LowersRemaining, EndsWithin, GoesOn}
+use Rattle.executor_model.specs.Rows.{steps_of}
 use Rattle.executor_model.specs.Runs.{run_all}
 use Rattle.executor_model.specs.Steps.{Machine, stack, top, below_top, waits, go_refusal, answer_refusal, accepts, unless, refusal, react, end_of, settled_by, onto, gone_on, with_part, after, step_by, step}
 use Rattle.executor_model.proofs.Lists.{weigh_all-push, weigh_all-set, weigh-append}
@@ -85,14 +87,14 @@ ends (t ∷ ts) s new o e = ends-by (refusal s t) s t ts new refl o e (λ next. 
 
 -- how the user code on top may end
 abbrev user_end : Op → UserEnd
-user_end (op.Poll f) = end.Polled answer.Pending
+user_end (op.User (user_op.Poll f)) = end.Polled answer.Pending
 user_end _ = end.Done
 
 ends-so : (o : Op) → waits o ≡ true → accepts o (user_end o) ≡ true
-ends-so (op.Poll f) e = refl
-ends-so (op.Drop f) e = refl
-ends-so (op.DropOutput f) e = refl
-ends-so (op.CallOutside x) e = refl
+ends-so (op.User (user_op.Poll f)) e = refl
+ends-so (op.User (user_op.Drop f)) e = refl
+ends-so (op.User (user_op.DropOutput f)) e = refl
+ends-so (op.User (user_op.CallOutside x)) e = refl
 ends-so _ e = absurd (cc)
 
 pub goes_on : (s : Machine) → GoesOn s

@@ -15,6 +15,13 @@ use Rattle.executor_model.specs.declared.event.Event.TheVariants as event
 use Rattle.executor_model.specs.declared.op.Hold.{Hold}
 use Rattle.executor_model.specs.declared.op.Op.{Op}
 use Rattle.executor_model.specs.declared.op.Op.TheVariants as op
+use Rattle.executor_model.specs.declared.op.ClosingOp.TheVariants as closing_op
+use Rattle.executor_model.specs.declared.op.HandleOp.TheVariants as handle_op
+use Rattle.task_moves.specs.declared.moves.owed.Move.TheVariants as move
+use Rattle.executor_model.specs.declared.op.QueueOp.TheVariants as queue_op
+use Rattle.executor_model.specs.declared.op.TableOp.TheVariants as table_op
+use Rattle.executor_model.specs.declared.op.UserOp.TheVariants as user_op
+use Rattle.executor_model.specs.declared.op.WakerOp.TheVariants as waker_op
 use Rattle.executor_model.specs.declared.op.Waker.{Waker}
 use Rattle.executor_model.specs.declared.op.Waker.TheVariants.{Task, Outside}
 use Rattle.executor_model.specs.declared.step.Hint.{Hint}
@@ -151,52 +158,35 @@ is_end (op.End r held) = true
 is_end _ = false
 
 pub grows-act : (p : ℕ) (h : Hint) (o : Op) (w : World) → is_end o ≡ false → Grows p w (act p h o w).world
-grows-act p h op.Enter w n = grows-enter _ _ p w
-grows-act p h op.Take w n = grows-take _ w
-grows-act p h op.LookAtTable w n = grows-same _ _ refl
-grows-act p h (op.Append f) w n = grows-append _ w f
-grows-act p h (op.WakeByReference f) w n = grows-log_if _ w _ (event.Woken p f) refl refl refl refl
-grows-act p h (op.Wake f) w n = grows-wake p w f
-grows-act p h (op.Release f) w n = grows-same _ _ refl
-grows-act p h (op.TakeUp f) w n = grows-log_if _ w _ (event.PollBegun p f) refl refl refl refl
-grows-act p h (op.SettleClosed f) w n = grows-same _ _ refl
-grows-act p h (op.GiveUp f) w n = grows-same _ _ refl
-grows-act p h (op.EndReady f) w n = grows-same _ _ refl
-grows-act p h (op.EndPending f) w n = grows-same _ _ refl
-grows-act p h (op.EndClosed f) w n = grows-same _ _ refl
-grows-act p h (op.DropRunnable f) w n = grows-same _ _ refl
-grows-act p h (op.Cancel f) w n = grows-log_if _ w _ (event.Cancelled p f) refl refl refl refl
-grows-act p h (op.Detach f) w n = grows-log_if _ w _ (event.Detached p f) refl refl refl refl
-grows-act p h (op.TakeToPoll f) w n = grows-same _ _ refl
-grows-act p h (op.Poll f) w n = grows-same _ _ refl
-grows-act p h (op.PutBack f) w n = grows-same _ _ refl
-grows-act p h (op.TakeToDrop f) w n = grows-same _ _ refl
-grows-act p h (op.BeginDrop f) w n = grows-log _ _ (event.Dropped p f) refl refl refl refl
-grows-act p h (op.Drop f) w n = grows-same _ _ refl
-grows-act p h (op.LeaveTable f) w n = grows-leave _ w f
-grows-act p h (op.BeginDropOutput f) w n = grows-log _ _ (event.OutputDropped p f) refl refl refl refl
-grows-act p h (op.DropOutput f) w n = grows-same _ _ refl
-grows-act p h (op.CopyWaker f held) w n = grows-copy _ w f held
-grows-act p h (op.Look f a) w n = grows-look (moves.poll (task w f)).owed.answer p w f a (moves.poll (task w f))
-grows-act p h (op.CopyAwaiter f a) w n = grows-copy_awaiter _ p w f a
-grows-act p h (op.Register f a k) w n = grows-register _ w f a k
-grows-act p h (op.EndRegister f a k) w n = grows-end_register _ w f a k
-grows-act p h (op.LookAgain f) w n = grows-again (moves.look_again (task w f)).owed.answer p w f (moves.look_again (task w f))
-grows-act p h (op.Notify f mine) w n = grows-notify _ w f mine
-grows-act p h (op.EndNotify f mine) w n = grows-same _ _ refl
-grows-act p h (op.CallAwaiter f a k) w n = grows-call p w f a k
-grows-act p h (op.CallOutside x) w n = grows-same _ _ refl
-grows-act p h op.TakeOut w n = grows-same _ _ refl
-grows-act p h op.DropNext w n = grows-drop_next p w w.leaving
-grows-act p h op.WakeNext w n = grows-wake_next p w w.waking
-grows-act p h op.Close w n = grows-same _ _ refl
-grows-act p h op.Drain w n = grows-drain p w w.queue.items
+grows-act p h (op.Table table_op.Enter) w n = grows-enter _ _ p w
+grows-act p h (op.Queue queue_op.Take) w n = grows-take _ w
+grows-act p h (op.Queue (queue_op.Append f)) w n = grows-append _ w f
+grows-act p h (op.Move move.WakeByReference f) w n = grows-log_if _ w _ (event.Woken p f) refl refl refl refl
+grows-act p h (op.Move move.Wake f) w n = grows-wake p w f
+grows-act p h (op.Move move.TakeUp f) w n = grows-log_if _ w _ (event.PollBegun p f) refl refl refl refl
+grows-act p h (op.Move move.Cancel f) w n = grows-log_if _ w _ (event.Cancelled p f) refl refl refl refl
+grows-act p h (op.Move move.Detach f) w n = grows-log_if _ w _ (event.Detached p f) refl refl refl refl
+grows-act p h (op.User (user_op.BeginDrop f)) w n = grows-log _ _ (event.Dropped p f) refl refl refl refl
+grows-act p h (op.Table (table_op.LeaveTable f)) w n = grows-leave _ w f
+grows-act p h (op.User (user_op.BeginDropOutput f)) w n = grows-log _ _ (event.OutputDropped p f) refl refl refl refl
+grows-act p h (op.Waker (waker_op.CopyWaker f held)) w n = grows-copy _ w f held
+grows-act p h (op.Handle (handle_op.Look f a)) w n = grows-look (moves.poll (task w f)).owed.answer p w f a (moves.poll (task w f))
+grows-act p h (op.Handle (handle_op.CopyAwaiter f a)) w n = grows-copy_awaiter _ p w f a
+grows-act p h (op.Handle (handle_op.Register f a k)) w n = grows-register _ w f a k
+grows-act p h (op.Handle (handle_op.EndRegister f a k)) w n = grows-end_register _ w f a k
+grows-act p h (op.Handle (handle_op.LookAgain f)) w n = grows-again (moves.look_again (task w f)).owed.answer p w f (moves.look_again (task w f))
+grows-act p h (op.Handle (handle_op.Notify f mine)) w n = grows-notify _ w f mine
+grows-act p h (op.Waker (waker_op.CallAwaiter f a k)) w n = grows-call p w f a k
+grows-act p h (op.Closing closing_op.DropNext) w n = grows-drop_next p w w.leaving
+grows-act p h (op.Closing closing_op.WakeNext) w n = grows-wake_next p w w.waking
+grows-act p h (op.Closing closing_op.Drain) w n = grows-drain p w w.queue.items
 grows-act p h (op.End r held) w n = absurd (cc)
+grows-act p h _ w n = grows-same _ _ refl
 
 pub grows-react : (p : ℕ) (o : Op) (u : UserEnd) (w : World) → Grows p w (react p o u w).world
-grows-react p (op.Poll f) (end.Polled answer.Pending) w = grows-log _ _ (event.Answered p f answer.Pending) refl refl refl refl
-grows-react p (op.Poll f) (end.Polled answer.Ready) w = grows-log _ _ (event.Answered p f answer.Ready) refl refl refl refl
-grows-react p (op.Poll f) end.Done w = grows-same _ _ refl
+grows-react p (op.User (user_op.Poll f)) (end.Polled answer.Pending) w = grows-log _ _ (event.Answered p f answer.Pending) refl refl refl refl
+grows-react p (op.User (user_op.Poll f)) (end.Polled answer.Ready) w = grows-log _ _ (event.Answered p f answer.Ready) refl refl refl refl
+grows-react p (op.User (user_op.Poll f)) end.Done w = grows-same _ _ refl
 grows-react p _ _ w = grows-same _ _ refl
 
 grows-with : {p : ℕ} (w : World) (o : Option ℕ) (d : ℕ → Done) → ((f : ℕ) → Grows p w (d f).world) → Grows p w (with_future w o d).world

@@ -11,6 +11,7 @@ use Rattle.executor_model.specs.declared.event.Event.TheVariants as event
 use Rattle.executor_model.specs.declared.op.Hold.{Hold}
 use Rattle.executor_model.specs.declared.op.Op.{Op}
 use Rattle.executor_model.specs.declared.op.Op.TheVariants as op
+use Rattle.executor_model.specs.declared.op.UserOp.TheVariants as user_op
 use Rattle.executor_model.specs.declared.step.Hint.{Hint}
 use Rattle.executor_model.specs.declared.step.Step.{Step}
 use Rattle.executor_model.specs.declared.step.Step.TheVariants.{Begin, Go, Answer}
@@ -61,9 +62,9 @@ unended (op.End r held) z = absurd (omega (arith, z))
 unended _ z = refl
 
 light-react : (p : ℕ) (o : Op) (u : UserEnd) (w : World) → weigh calling_of (react p o u w).next ≡ 0
-light-react p (op.Poll f) (end.Polled answer.Pending) w = refl
-light-react p (op.Poll f) (end.Polled answer.Ready) w = refl
-light-react p (op.Poll f) end.Done w = refl
+light-react p (op.User (user_op.Poll f)) (end.Polled answer.Pending) w = refl
+light-react p (op.User (user_op.Poll f)) (end.Polled answer.Ready) w = refl
+light-react p (op.User (user_op.Poll f)) end.Done w = refl
 light-react p _ _ w = refl
 
 -- what the thing on top does, if it answers no call

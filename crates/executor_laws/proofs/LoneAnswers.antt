@@ -1,9 +1,9 @@
 -- Whole calls that a party makes alone are answered as it is.
-use Rattle.std.proofs.Common.{◌≡◌, ◌⊎◌, ℕ, ◌<◌, List, [], ◌∷◌, ◌++◌, length, set, Bool, true, false, ltb, refl, sym, ap, ◌∙◌, subst, inl, inr, ⊎_elim, arith, Ok, get_or-set_same}
+use Rattle.std.proofs.Common.{◌≡◌, ◌⊎◌, ℕ, ◌<◌, List, [], ◌∷◌, ◌++◌, length, set, true, ltb, refl, sym, ap, ◌∙◌, subst, inl, inr, ⊎_elim, arith, Ok, get_or-set_same}
 use Rattle.std.proofs.Math.ListN.{length-set}
 use Rattle.std.proofs.lemmas.Bool.Decides.{nat_tests}
 use Rattle.std.proofs.lemmas.List.{append_assoc}
-use Rattle.std.specs.Prelude.{◌↔◌, Some, None}
+use Rattle.std.specs.Prelude.{Some, None}
 use Rattle.executor_model.specs.declared.call.Call.{Call}
 use Rattle.executor_model.specs.declared.call.Call.TheVariants as call
 use Rattle.executor_model.specs.declared.call.Reply.{Reply}
@@ -12,19 +12,17 @@ use Rattle.executor_model.specs.declared.event.Event.{Event}
 use Rattle.executor_model.specs.declared.event.Event.TheVariants as event
 use Rattle.executor_model.specs.declared.op.Op.{Op}
 use Rattle.executor_model.specs.declared.op.Op.TheVariants as op
+use Rattle.executor_model.specs.declared.op.TableOp.TheVariants as table_op
 use Rattle.executor_model.specs.declared.step.Hint.{Hint}
 use Rattle.executor_model.specs.declared.step.Step.{Step}
 use Rattle.executor_model.specs.declared.step.Step.TheVariants.{Begin, Go, Answer}
-use Rattle.executor_model.specs.Trace.{Trace}
 use Rattle.executor_model.specs.Emptiness.{AllDropped, AnswersAlone, IsAtRest, IsQuietEmptinessExact, asks_alone}
 use Rattle.executor_model.specs.Keeper.{IsCommon}
 use Rattle.executor_model.specs.Acts.{look_at_table}
 use Rattle.executor_model.specs.Runs.{run_all}
 use Rattle.executor_model.specs.Sound.{times}
 use Rattle.executor_model.specs.World.{log}
-use Rattle.executor_model.specs.Good.{Good}
-use Rattle.executor_model.specs.Steps.{Machine, Part, stack, top, answer_refusal, onto, part_after, with_part, after, refusal, run, start}
-use Rattle.executor_model.proofs.AskingRuns.{Heard}
+use Rattle.executor_model.specs.Steps.{Machine, stack, top, answer_refusal, onto, part_after, with_part, after, refusal, run, start}
 use Rattle.executor_model.proofs.Quieting.{quiet-emptiness}
 use Rattle.executor_model.proofs.Resting.{rests}
 use Rattle.executor_laws.specs.LoneAnswers.{IsAnswered, IsLoneEmptinessExact, IsLoneTickExact}
@@ -32,7 +30,7 @@ use Rattle.executor_laws.specs.Reach.{are_onward_of, IsLoneCall, TakesCommon}
 use Rattle.executor_laws.proofs.Ticking.{idle, queued-due, first-times}
 use Rattle.executor_laws.proofs.Reached.{Reached, run-first, run-then, run-of, reached-more, good-here, heard-here, deep-here}
 use Rattle.executor_laws.proofs.LoneTicks.{left-true, in-range, of-party, after-is, no-more}
-use Rattle.executor_laws.proofs.Reaching.{First, first-taken, none-found, searched, takes-common}
+use Rattle.executor_laws.proofs.Reaching.{First, first-taken, none-found, takes-common}
 
 -- a call has one answer
 
@@ -82,7 +80,7 @@ module _ (s : Machine) (r : Reached s) (rest : IsAtRest s) (p : ℕ) (steps : Li
 -- emptiness
 
 abbrev looking : Machine → ℕ → Machine
-looking s p = record { world = log s.world (event.CallBegun p call.IsEmpty); parties = set s.parties p (op.LookAtTable ∷ []) }
+looking s p = record { world = log s.world (event.CallBegun p call.IsEmpty); parties = set s.parties p (op.Table table_op.LookAtTable ∷ []) }
 
 -- the machine after the look
 abbrev looked : Machine → ℕ → Machine
@@ -107,11 +105,11 @@ module _ (s : Machine) (r : Reached s) (rest : IsAtRest s) (p : ℕ) (steps : Li
   on-looking : run_all steps (looking s p) ≡ Ok new
   on-looking = sym (ap (λ (m : Machine). run_all steps m) begins) ∙ (run-first (Begin p call.IsEmpty) steps s new k.made).1
 
-  looks-first : stack (looking s p) p ≡ op.LookAtTable ∷ []
-  looks-first = get_or-set_same s.parties p (op.LookAtTable ∷ []) [] in-parties
+  looks-first : stack (looking s p) p ≡ op.Table table_op.LookAtTable ∷ []
+  looks-first = get_or-set_same s.parties p (op.Table table_op.LookAtTable ∷ []) [] in-parties
 
   looked-idle : stack (looked s p) p ≡ []
-  looked-idle = get_or-set_same (looking s p).parties p [] [] (omega (arith, in-parties, length-set s.parties p (op.LookAtTable ∷ [])))
+  looked-idle = get_or-set_same (looking s p).parties p [] [] (omega (arith, in-parties, length-set s.parties p (op.Table table_op.LookAtTable ∷ [])))
 
   -- it looks, and that is all that it does
   abbrev Looks : Type 0
@@ -120,14 +118,14 @@ module _ (s : Machine) (r : Reached s) (rest : IsAtRest s) (p : ℕ) (steps : Li
   looks : (ts : List Step) → are_onward_of p ts ≡ true → run_all ts (looking s p) ≡ Ok new → Looks
   looks [] on e =
       let same : looking s p ≡ new = cc in
-      let no : ◌≡◌ {A = List Op} (op.LookAtTable ∷ []) [] = sym looks-first ∙ (ap (λ (m : Machine). stack m p) same ∙ new-idle) in absurd (cc)
+      let no : ◌≡◌ {A = List Op} (op.Table table_op.LookAtTable ∷ []) [] = sym looks-first ∙ (ap (λ (m : Machine). stack m p) same ∙ new-idle) in absurd (cc)
   looks (Begin q c ∷ ts) on e = absurd (cc)
   looks (Go q h ∷ ts) on e =
       let b : _ = left-true _ (are_onward_of p ts) on in
       let j : _ = run-first (Go q h) ts (looking s p) new e in
       let m : _ = of-party p (looking s p) (Go q h) b.0 j.0 in
       let gone : after (looking s p) (Go q h) ≡ looked s p =
-      after-is p (looking s p) (Go q h) m.0 ∙ (ap (λ (os : List Op). with_part (looking s p) p (part_after (looking s p).world os (Go q h))) looks-first ∙ ap (λ (i : ℕ). with_part (looking s p) p (part_after (looking s p).world (op.LookAtTable ∷ []) (Go i h))) m.0) in
+      after-is p (looking s p) (Go q h) m.0 ∙ (ap (λ (os : List Op). with_part (looking s p) p (part_after (looking s p).world os (Go q h))) looks-first ∙ ap (λ (i : ℕ). with_part (looking s p) p (part_after (looking s p).world (op.Table table_op.LookAtTable ∷ []) (Go i h))) m.0) in
       let last : looked s p ≡ new = no-more p ts (looked s p) new looked-idle b.1 (sym (ap (λ (x : Machine). run_all ts x) gone) ∙ j.1) in
       let mine : refusal (looking s p) (Go p h) ≡ None = subst (λ (i : ℕ). refusal (looking s p) (Go i h) ≡ None) m.0 j.0 in
       let there : after (looking s p) (Go p h) ≡ new = ap (λ (i : ℕ). after (looking s p) (Go i h)) (sym m.0) ∙ (gone ∙ last) in
@@ -137,7 +135,7 @@ module _ (s : Machine) (r : Reached s) (rest : IsAtRest s) (p : ℕ) (steps : Li
       let b : _ = left-true _ (are_onward_of p ts) on in
       let j : _ = run-first (Answer q u) ts (looking s p) new e in
       let m : _ = of-party p (looking s p) (Answer q u) b.0 j.0 in
-      let no : answer_refusal (Some op.LookAtTable) u ≡ None = sym (ap (λ (os : List Op). answer_refusal (top os) u) looks-first) ∙ m.2 in absurd (cc)
+      let no : answer_refusal (Some (op.Table table_op.LookAtTable)) u ≡ None = sym (ap (λ (os : List Op). answer_refusal (top os) u) looks-first) ∙ m.2 in absurd (cc)
 
   found : Looks
   found = looks steps k.alone on-looking

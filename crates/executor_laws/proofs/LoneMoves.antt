@@ -1,13 +1,7 @@
 -- What happens within a lone tick, once its future is taken: the queue and the trace only get longer, and no other call begins.
-use Rattle.std.proofs.Common.{◌≡◌, ℕ, List, [], ◌∷◌, ◌++◌, Bool, true, false, refl, sym, ap, ◌∙◌, arith, append-nil, append_assoc}
+use Rattle.std.proofs.Common.{◌≡◌, ℕ, List, [], ◌∷◌, ◌++◌, Bool, true, false, refl, sym, ap, ◌∙◌, append-nil, append_assoc}
 use Rattle.std.specs.Prelude.{Option, Some, None}
-use Rattle.task_moves.specs.declared.schedule_info.ScheduleInfo.{ScheduleInfo}
-use Rattle.task_moves.specs.declared.moves.owed.Move.{Move}
 use Rattle.task_moves.specs.declared.moves.owed.Move.TheVariants as move
-use Rattle.task_moves.specs.declared.moves.owed.FutureDebt.{FutureDebt}
-use Rattle.task_moves.specs.declared.moves.owed.FutureDebt.TheVariants.{PollFuture, DropFuture}
-use Rattle.task_moves.specs.declared.moves.owed.AwaiterDebt.{AwaiterDebt}
-use Rattle.task_moves.specs.declared.moves.owed.AwaiterDebt.TheVariants.{NotifyAwaiter, NotifyOther, CallGiven, StoreCopy, CallStored, TakeAwaiter, CallTaken}
 use Rattle.task_moves.specs.declared.moves.owed.Owed.{Owed}
 use Rattle.task_moves.specs.declared.moves.owed.Moved.{Moved}
 use Rattle.task_moves.specs.Moves as moves
@@ -19,33 +13,39 @@ use Rattle.executor_model.specs.declared.op.Waker.{Waker}
 use Rattle.executor_model.specs.declared.op.Waker.TheVariants.{Task, Outside}
 use Rattle.executor_model.specs.declared.op.Op.{Op}
 use Rattle.executor_model.specs.declared.op.Op.TheVariants as op
+use Rattle.executor_model.specs.declared.op.ClosingOp.TheVariants as closing_op
+use Rattle.executor_model.specs.declared.op.HandleOp.TheVariants as handle_op
+use Rattle.executor_model.specs.declared.op.QueueOp.TheVariants as queue_op
+use Rattle.executor_model.specs.declared.op.TableOp.TheVariants as table_op
+use Rattle.executor_model.specs.declared.op.UserOp.TheVariants as user_op
+use Rattle.executor_model.specs.declared.op.WakerOp.TheVariants as waker_op
 use Rattle.executor_model.specs.declared.step.Hint.{Hint}
 use Rattle.executor_model.specs.declared.step.UserEnd.{UserEnd}
 use Rattle.executor_model.specs.declared.step.UserEnd.TheVariants as end
 use Rattle.executor_model.specs.Trace.{Trace}
 use Rattle.executor_model.specs.World.{World, Done, done, log, log_if, task, put, among, awaiter_of}
-use Rattle.executor_model.specs.Carried.{owed_ops, schedule_ops, future_ops, output_ops, awaiter_ops, next_ops, carried}
+use Rattle.executor_model.specs.Carried.{owed_ops, carried}
 use Rattle.executor_model.specs.Acts.{append_by, leave_by, waker_goes, notify_by, told, call_awaiter, act}
 use Rattle.executor_model.specs.Steps.{waits, accepts, react}
 use Rattle.executor_model.specs.Weights.{weigh}
-use Rattle.executor_model.proofs.Lists.{weigh-append}
+use Rattle.executor_model.proofs.Owed.{owed-future, owed-awaiter, owed-nothing}
 
 -- what belongs to no tick whose future is taken
 abbrev pub stray_of : Op → ℕ
-stray_of op.Enter = 1
-stray_of op.Take = 1
-stray_of op.LookAtTable = 1
-stray_of (op.CopyWaker f held) = 1
-stray_of (op.Look f a) = 1
-stray_of (op.CopyAwaiter f a) = 1
-stray_of (op.Register f a k) = 1
-stray_of (op.EndRegister f a k) = 1
-stray_of (op.LookAgain f) = 1
-stray_of op.TakeOut = 1
-stray_of op.DropNext = 1
-stray_of op.WakeNext = 1
-stray_of op.Close = 1
-stray_of op.Drain = 1
+stray_of (op.Table table_op.Enter) = 1
+stray_of (op.Queue queue_op.Take) = 1
+stray_of (op.Table table_op.LookAtTable) = 1
+stray_of (op.Waker (waker_op.CopyWaker f held)) = 1
+stray_of (op.Handle (handle_op.Look f a)) = 1
+stray_of (op.Handle (handle_op.CopyAwaiter f a)) = 1
+stray_of (op.Handle (handle_op.Register f a k)) = 1
+stray_of (op.Handle (handle_op.EndRegister f a k)) = 1
+stray_of (op.Handle (handle_op.LookAgain f)) = 1
+stray_of (op.Closing closing_op.TakeOut) = 1
+stray_of (op.Closing closing_op.DropNext) = 1
+stray_of (op.Closing closing_op.WakeNext) = 1
+stray_of (op.Closing closing_op.Close) = 1
+stray_of (op.Closing closing_op.Drain) = 1
 stray_of (op.End a held) = 1
 stray_of _ = 0
 
@@ -58,44 +58,8 @@ pub record Inner (w : World) (d : Done) : Type 0 where
   pub trace : d.world.trace ≡ w.trace ++ events
   pub there : d.world.gone ≡ w.gone
 
--- what a move owes doesn't stray
-both : (xs ys : List Op) → weigh stray_of xs ≡ 0 → weigh stray_of ys ≡ 0 → weigh stray_of (xs ++ ys) ≡ 0
-both xs ys a b = omega (arith, weigh-append stray_of xs ys, a, b)
-
-of-schedule : (f : ℕ) (o : Option ScheduleInfo) → weigh stray_of (schedule_ops f o) ≡ 0
-of-schedule f (Some info) = refl
-of-schedule f None = refl
-
-of-future : (there : Bool) (f : ℕ) (o : Option FutureDebt) → weigh stray_of (future_ops there f o) ≡ 0
-of-future there f (Some PollFuture) = refl
-of-future true f (Some DropFuture) = refl
-of-future false f (Some DropFuture) = refl
-of-future there f None = refl
-
-of-output : (f : ℕ) (b : Bool) → weigh stray_of (output_ops b f) ≡ 0
-of-output f true = refl
-of-output f false = refl
-
-of-awaiter : (f : ℕ) (o : Option AwaiterDebt) → weigh stray_of (awaiter_ops f o) ≡ 0
-of-awaiter f (Some NotifyAwaiter) = refl
-of-awaiter f (Some NotifyOther) = refl
-of-awaiter f (Some CallGiven) = refl
-of-awaiter f (Some StoreCopy) = refl
-of-awaiter f (Some CallStored) = refl
-of-awaiter f (Some TakeAwaiter) = refl
-of-awaiter f (Some CallTaken) = refl
-of-awaiter f None = refl
-
-of-next : (f : ℕ) (o : Option Move) → weigh stray_of (next_ops f o) ≡ 0
-of-next f (Some move.Release) = refl
-of-next f (Some move.SettleClosed) = refl
-of-next f (Some move.GiveUp) = refl
-of-next f (Some move.EndClosed) = refl
-of-next f (Some move.Detach) = refl
-of-next f _ = refl
-
 of-owed : (f : ℕ) (there : Bool) (o : Owed) → weigh stray_of (owed_ops there f o) ≡ 0
-of-owed f there o = both _ _ (both _ _ (both _ _ (both _ _ (of-schedule f o.schedule) (of-future there f o.future)) (of-output f o.drop_output)) (of-awaiter f o.awaiter)) (of-next f o.next)
+of-owed f there o = owed-nothing stray_of f (record { append = refl; output = refl; release = refl; settle_closed = refl; give_up = refl; end_closed = refl; detach = refl }) there o (owed-future stray_of f (record { poll = refl; drop = refl }) there o.future) (owed-awaiter stray_of f (record { notify = λ m. refl }) o.awaiter)
 
 of-goes : (a : Waker) → weigh stray_of (waker_goes a) ≡ 0
 of-goes (Task k) = refl
@@ -142,35 +106,48 @@ inner-call p w f (Task g) k = then-inner w (event.WakerCalled p f k (Task g)) _ 
 inner-call p w f (Outside x) k = logged w _ (event.WakerCalled p f k (Outside x)) _ refl refl refl refl
 
 pub inner-act : (p : ℕ) (h : Hint) (o : Op) (w : World) → waits o ≡ false → stray_of o ≡ 0 → Inner w (act p h o w)
-inner-act p h (op.Append f) w n z = inner-append _ w f
-inner-act p h (op.WakeByReference f) w n z = inner-logged _ w (event.Woken p f) f (moves.wake_by_reference (task w f))
-inner-act p h (op.Wake f) w n z = inner-logged _ w (event.Woken p f) f (moves.wake (task w f))
-inner-act p h (op.Release f) w n z = inner-carried w f (moves.release (task w f))
-inner-act p h (op.TakeUp f) w n z = inner-logged _ w (event.PollBegun p f) f (moves.take_up (task w f))
-inner-act p h (op.SettleClosed f) w n z = inner-carried w f (moves.settle_closed (task w f))
-inner-act p h (op.GiveUp f) w n z = inner-carried w f (moves.give_up (task w f))
-inner-act p h (op.EndReady f) w n z = inner-carried w f (moves.end_ready (task w f))
-inner-act p h (op.EndPending f) w n z = inner-carried w f (moves.end_pending (task w f))
-inner-act p h (op.EndClosed f) w n z = inner-carried w f (moves.end_closed (task w f))
-inner-act p h (op.DropRunnable f) w n z = inner-carried w f (moves.drop_runnable (task w f))
-inner-act p h (op.Cancel f) w n z = inner-logged _ w (event.Cancelled p f) f (moves.cancel (task w f))
-inner-act p h (op.Detach f) w n z = inner-logged _ w (event.Detached p f) f (moves.detach (task w f))
-inner-act p h (op.TakeToPoll f) w n z = still w _ _ refl refl refl refl
-inner-act p h (op.PutBack f) w n z = still w _ _ refl refl refl refl
-inner-act p h (op.TakeToDrop f) w n z = still w _ _ refl refl refl refl
-inner-act p h (op.BeginDrop f) w n z = logged w _ (event.Dropped p f) _ refl refl refl refl
-inner-act p h (op.LeaveTable f) w n z = inner-leave _ w f
-inner-act p h (op.BeginDropOutput f) w n z = logged w _ (event.OutputDropped p f) _ refl refl refl refl
-inner-act p h (op.Notify f mine) w n z = inner-notify _ w f mine
-inner-act p h (op.EndNotify f mine) w n z = still w _ _ refl refl refl (of-told _ f (awaiter_of w f))
-inner-act p h (op.CallAwaiter f a k) w n z = inner-call p w f a k
-inner-act p h _ w n z = absurd (cc)
+inner-act p h (op.Queue (queue_op.Append f)) w n z = inner-append _ w f
+inner-act p h (op.Move move.WakeByReference f) w n z = inner-logged _ w (event.Woken p f) f (moves.wake_by_reference (task w f))
+inner-act p h (op.Move move.Wake f) w n z = inner-logged _ w (event.Woken p f) f (moves.wake (task w f))
+inner-act p h (op.Move move.Release f) w n z = inner-carried w f (moves.release (task w f))
+inner-act p h (op.Move move.TakeUp f) w n z = inner-logged _ w (event.PollBegun p f) f (moves.take_up (task w f))
+inner-act p h (op.Move move.SettleClosed f) w n z = inner-carried w f (moves.settle_closed (task w f))
+inner-act p h (op.Move move.GiveUp f) w n z = inner-carried w f (moves.give_up (task w f))
+inner-act p h (op.Move move.EndReady f) w n z = inner-carried w f (moves.end_ready (task w f))
+inner-act p h (op.Move move.EndPending f) w n z = inner-carried w f (moves.end_pending (task w f))
+inner-act p h (op.Move move.EndClosed f) w n z = inner-carried w f (moves.end_closed (task w f))
+inner-act p h (op.Move move.DropRunnable f) w n z = inner-carried w f (moves.drop_runnable (task w f))
+inner-act p h (op.Move move.Cancel f) w n z = inner-logged _ w (event.Cancelled p f) f (moves.cancel (task w f))
+inner-act p h (op.Move move.Detach f) w n z = inner-logged _ w (event.Detached p f) f (moves.detach (task w f))
+inner-act p h (op.User (user_op.BeginDrop f)) w n z = logged w _ (event.Dropped p f) _ refl refl refl refl
+inner-act p h (op.Table (table_op.LeaveTable f)) w n z = inner-leave _ w f
+inner-act p h (op.User (user_op.BeginDropOutput f)) w n z = logged w _ (event.OutputDropped p f) _ refl refl refl refl
+inner-act p h (op.Handle (handle_op.Notify f mine)) w n z = inner-notify _ w f mine
+inner-act p h (op.Handle (handle_op.EndNotify f mine)) w n z = still w _ _ refl refl refl (of-told _ f (awaiter_of w f))
+inner-act p h (op.Waker (waker_op.CallAwaiter f a k)) w n z = inner-call p w f a k
+inner-act p h (op.Table table_op.Enter) w n z = absurd (cc)
+inner-act p h (op.Table table_op.LookAtTable) w n z = absurd (cc)
+inner-act p h (op.Queue queue_op.Take) w n z = absurd (cc)
+inner-act p h (op.User (user_op.Poll f)) w n z = absurd (cc)
+inner-act p h (op.User (user_op.Drop f)) w n z = absurd (cc)
+inner-act p h (op.User (user_op.DropOutput f)) w n z = absurd (cc)
+inner-act p h (op.User (user_op.CallOutside x)) w n z = absurd (cc)
+inner-act p h (op.Waker (waker_op.CopyWaker f held)) w n z = absurd (cc)
+inner-act p h (op.Handle (handle_op.Look f a)) w n z = absurd (cc)
+inner-act p h (op.Handle (handle_op.CopyAwaiter f a)) w n z = absurd (cc)
+inner-act p h (op.Handle (handle_op.Register f a k)) w n z = absurd (cc)
+inner-act p h (op.Handle (handle_op.EndRegister f a k)) w n z = absurd (cc)
+inner-act p h (op.Handle (handle_op.LookAgain f)) w n z = absurd (cc)
+inner-act p h (op.Closing closing_op.Drain) w n z = absurd (cc)
+inner-act p h (op.Closing _) w n z = absurd (cc)
+inner-act p h (op.End a held) w n z = absurd (cc)
+inner-act p h _ w n z = still w _ _ refl refl refl refl
 
 -- the end of user code
 pub inner-react : (p : ℕ) (o : Op) (u : UserEnd) (w : World) → accepts o u ≡ true → Inner w (react p o u w)
-inner-react p (op.Poll f) (end.Polled answer.Pending) w a = logged w _ (event.Answered p f answer.Pending) _ refl refl refl refl
-inner-react p (op.Poll f) (end.Polled answer.Ready) w a = logged w _ (event.Answered p f answer.Ready) _ refl refl refl refl
-inner-react p (op.Drop f) end.Done w a = still w w _ refl refl refl refl
-inner-react p (op.DropOutput f) end.Done w a = still w w _ refl refl refl refl
-inner-react p (op.CallOutside x) end.Done w a = still w w _ refl refl refl refl
+inner-react p (op.User (user_op.Poll f)) (end.Polled answer.Pending) w a = logged w _ (event.Answered p f answer.Pending) _ refl refl refl refl
+inner-react p (op.User (user_op.Poll f)) (end.Polled answer.Ready) w a = logged w _ (event.Answered p f answer.Ready) _ refl refl refl refl
+inner-react p (op.User (user_op.Drop f)) end.Done w a = still w w _ refl refl refl refl
+inner-react p (op.User (user_op.DropOutput f)) end.Done w a = still w w _ refl refl refl refl
+inner-react p (op.User (user_op.CallOutside x)) end.Done w a = still w w _ refl refl refl refl
 inner-react p _ _ w a = absurd (cc)

@@ -11,6 +11,9 @@ use Rattle.executor_model.specs.declared.event.Event.TheVariants as event
 use Rattle.executor_model.specs.declared.op.Hold.TheVariants as hold
 use Rattle.executor_model.specs.declared.op.Op.{Op}
 use Rattle.executor_model.specs.declared.op.Op.TheVariants as op
+use Rattle.task_moves.specs.declared.moves.owed.Move.TheVariants as move
+use Rattle.executor_model.specs.declared.op.TableOp.TheVariants as table_op
+use Rattle.executor_model.specs.declared.op.UserOp.TheVariants as user_op
 use Rattle.executor_model.specs.declared.step.Hint.{Hint}
 use Rattle.executor_model.specs.declared.step.Step.TheVariants.{Go, Answer}
 use Rattle.executor_model.specs.declared.step.UserEnd.{UserEnd}
@@ -29,9 +32,9 @@ use Rattle.executor_laws.proofs.LoneMoves.{stray_of, Inner, logged, inner-act, i
 
 -- f's poll or drop is still to come, and this thing to do is on the way to it
 abbrev pub Next : ℕ → Op → World → Type 0
-Next f (op.TakeUp g) w = (f ≡ g) × (among f w.table ≡ true)
-Next f (op.TakeToDrop g) w = f ≡ g
-Next f (op.BeginDrop g) w = f ≡ g
+Next f (op.Move move.TakeUp g) w = (f ≡ g) × (among f w.table ≡ true)
+Next f (op.Table (table_op.TakeToDrop g)) w = f ≡ g
+Next f (op.User (user_op.BeginDrop g)) w = f ≡ g
 Next f _ w = ⊥
 
 -- the next thing to do is on the way to it
@@ -58,24 +61,24 @@ or-right false b e = e
 
 taken-up : (p f g : ℕ) (w : World) (closed : Bool) → f ≡ g → among f w.table ≡ true → Advances f w (carried (log_if (not closed) w (event.PollBegun p g)) g (moves.take_up_by closed (task w g)))
 taken-up p f g w false e k = record {
-  inner = logged w _ (event.PollBegun p g) (op.TakeToPoll g ∷ []) refl refl refl refl;
+  inner = logged w _ (event.PollBegun p g) (op.Table (table_op.TakeToPoll g) ∷ []) refl refl refl refl;
   stage = inl (ap (λ (b : Bool). (b || false) || false) (self f g e));
 }
 taken-up p f g w true e k = record {
   inner = inner-carried w g (moves.take_up_by true (task w g));
   stage = inr record {
-    first = op.TakeToDrop g;
-    others = op.SettleClosed g ∷ [];
+    first = op.Table (table_op.TakeToDrop g);
+    others = op.Move move.SettleClosed g ∷ [];
     is = ap (λ (b : Bool). owed_ops b g (moves.take_up_by true (task w g)).owed) (subst (λ (x : ℕ). among x w.table ≡ true) e k);
     next = e;
   };
 }
 
 advances : (p f : ℕ) (h : Hint) (o : Op) (w : World) → Next f o w → Advances f w (act p h o w)
-advances p f h (op.TakeUp g) w k = taken-up p f g w (task w g).closed k.0 k.1
-advances p f h (op.TakeToDrop g) w k = record { inner = inner-act p h (op.TakeToDrop g) w refl refl; stage = inr record { first = op.BeginDrop g; others = []; is = refl; next = k } }
-advances p f h (op.BeginDrop g) w k = record {
-  inner = logged w _ (event.Dropped p g) (op.Drop g ∷ op.LeaveTable g ∷ []) refl refl refl refl;
+advances p f h (op.Move move.TakeUp g) w k = taken-up p f g w (task w g).closed k.0 k.1
+advances p f h (op.Table (table_op.TakeToDrop g)) w k = record { inner = inner-act p h (op.Table (table_op.TakeToDrop g)) w refl refl; stage = inr record { first = op.User (user_op.BeginDrop g); others = []; is = refl; next = k } }
+advances p f h (op.User (user_op.BeginDrop g)) w k = record {
+  inner = logged w _ (event.Dropped p g) (op.User (user_op.Drop g) ∷ op.Table (table_op.LeaveTable g) ∷ []) refl refl refl refl;
   stage = inl (ap (λ (b : Bool). b || false) (self f g k));
 }
 advances p f h _ w k = absurd k
@@ -203,10 +206,10 @@ module _ (p f : ℕ) (xs : List ℕ) (before : Trace) where
 
   -- user code isn't on the way
   user : (o : Op) (u : UserEnd) (w : World) → accepts o u ≡ true → Next f o w → ⊥
-  user (op.Poll g) u w a k = k
-  user (op.Drop g) u w a k = k
-  user (op.DropOutput g) u w a k = k
-  user (op.CallOutside x) u w a k = k
+  user (op.User (user_op.Poll g)) u w a k = k
+  user (op.User (user_op.Drop g)) u w a k = k
+  user (op.User (user_op.DropOutput g)) u w a k = k
+  user (op.User (user_op.CallOutside x)) u w a k = k
   user _ u w a k = absurd (cc)
 
   reacted : (w : World) (below : List Op) (o : Op) (u : UserEnd) → accepts o u ≡ true → Going f xs before w below o → Arrives p f xs before (onto p (react p o u w) (answering below))

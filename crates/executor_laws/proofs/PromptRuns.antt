@@ -14,6 +14,10 @@ use Rattle.executor_model.specs.declared.op.Hold.{Hold}
 use Rattle.executor_model.specs.declared.op.Hold.TheVariants as hold
 use Rattle.executor_model.specs.declared.op.Op.{Op}
 use Rattle.executor_model.specs.declared.op.Op.TheVariants as op
+use Rattle.task_moves.specs.declared.moves.owed.Move.TheVariants as move
+use Rattle.executor_model.specs.declared.op.QueueOp.TheVariants as queue_op
+use Rattle.executor_model.specs.declared.op.TableOp.TheVariants as table_op
+use Rattle.executor_model.specs.declared.op.UserOp.TheVariants as user_op
 use Rattle.executor_model.specs.declared.step.Hint.{Hint}
 use Rattle.executor_model.specs.declared.step.Step.{Step}
 use Rattle.executor_model.specs.declared.step.StepError.{StepError}
@@ -113,15 +117,15 @@ own-end p w rest r held x t = record {
 
 own-take : (p : ℕ) (w : World) (q : List ℕ) (os : List Op) → weigh hasty os ≡ 0 → fresh p false (deeds p w.trace) ≡ true → told p false (deeds p w.trace) ≡ true → Prompt p (os ++ reverse (take_by w q).next) (deeds p (take_by w q).world.trace)
 own-take p w [] os z f t = record { told = t; stands = quick os (op.End reply.No hold.Executor) refl z f }
-own-take p w (g ∷ gs) os z f t = record { told = t; stands = slow (slow-onto os (op.TakeUp g ∷ op.End reply.Yes hold.Executor ∷ []) z refl) }
+own-take p w (g ∷ gs) os z f t = record { told = t; stands = slow (slow-onto os (op.Move move.TakeUp g ∷ op.End reply.Yes hold.Executor ∷ []) z refl) }
 
 own-look : (p : ℕ) (w : World) (q : List ℕ) (os : List Op) → weigh hasty os ≡ 0 → fresh p false (deeds p w.trace) ≡ true → told p false (deeds p w.trace) ≡ true → Prompt p (os ++ reverse (op.End (emptiness q) hold.Executor ∷ [])) (deeds p w.trace)
 own-look p w [] os z f t = record { told = t; stands = slow (slow-onto os (op.End reply.Yes hold.Executor ∷ []) z refl) }
 own-look p w (g ∷ gs) os z f t = record { told = t; stands = quick os (op.End reply.No hold.Executor) refl z f }
 
 own-quick : (p : ℕ) (h : Hint) (o : Op) (w : World) (os : List Op) → hasty o ≡ 1 → weigh hasty os ≡ 0 → fresh p false (deeds p w.trace) ≡ true → told p false (deeds p w.trace) ≡ true → Prompt p (os ++ reverse (act p h o w).next) (deeds p (act p h o w).world.trace)
-own-quick p h op.Take w os c z f t = own-take p w w.queue.items os z f t
-own-quick p h op.LookAtTable w os c z f t = own-look p w w.table os z f t
+own-quick p h (op.Queue queue_op.Take) w os c z f t = own-take p w w.queue.items os z f t
+own-quick p h (op.Table table_op.LookAtTable) w os c z f t = own-look p w w.table os z f t
 own-quick p h (op.End reply.No held) w os c z f t = own-end p w os reply.No held (z, inr f) t
 own-quick p h _ w os c z f t = absurd (cc)
 
@@ -145,9 +149,9 @@ others-act p h (op.End r held) w true n q k = deeds-other_log p q w.trace (event
 others-act p h _ w true n q k = absurd (cc)
 
 slow-react : (p : ℕ) (o : Op) (u : UserEnd) (w : World) → weigh hasty (react p o u w).next ≡ 0
-slow-react p (op.Poll f) (end.Polled answer.Pending) w = refl
-slow-react p (op.Poll f) (end.Polled answer.Ready) w = refl
-slow-react p (op.Poll f) end.Done w = refl
+slow-react p (op.User (user_op.Poll f)) (end.Polled answer.Pending) w = refl
+slow-react p (op.User (user_op.Poll f)) (end.Polled answer.Ready) w = refl
+slow-react p (op.User (user_op.Poll f)) end.Done w = refl
 slow-react p _ _ w = refl
 
 -- a call begins
@@ -178,8 +182,8 @@ own-begun p w here c os z t = record { told = told-begun p w here c t; stands = 
 
     go : (x : Call) → Stands p (os ++ reverse (begun p (v x) here x).next) (deeds p (begun p (v x) here x).world.trace)
     go call.Spawn = as-slow call.Spawn refl
-    go call.TryTick = quick os op.Take refl z (fresh-log p w.trace (event.CallBegun p call.TryTick) refl ∙ self-begun p call.TryTick)
-    go call.IsEmpty = quick os op.LookAtTable refl z (fresh-log p w.trace (event.CallBegun p call.IsEmpty) refl ∙ self-begun p call.IsEmpty)
+    go call.TryTick = quick os (op.Queue queue_op.Take) refl z (fresh-log p w.trace (event.CallBegun p call.TryTick) refl ∙ self-begun p call.TryTick)
+    go call.IsEmpty = quick os (op.Table table_op.LookAtTable) refl z (fresh-log p w.trace (event.CallBegun p call.IsEmpty) refl ∙ self-begun p call.IsEmpty)
     go (call.Wake k) = as-slow (call.Wake k) (slow-with (v (call.Wake k)) (kept w k) _ (λ f. refl))
     go (call.WakeByRef k) = as-slow (call.WakeByRef k) (slow-with (v (call.WakeByRef k)) (kept w k) _ (λ f. refl))
     go (call.Copy k) = as-slow (call.Copy k) (slow-with (v (call.Copy k)) (kept w k) _ (λ f. refl))
@@ -203,10 +207,10 @@ free-slow p os ds e (quick rest o q z f) =
     ap (weigh hasty) q ∙ (weigh-append hasty rest (o ∷ []) ∙ omega (arith, z, waits-slow o w))
   where
     waits-slow : (o : Op) → waits o ≡ true → hasty o ≡ 0
-    waits-slow (op.Poll f) w = refl
-    waits-slow (op.Drop f) w = refl
-    waits-slow (op.DropOutput f) w = refl
-    waits-slow (op.CallOutside x) w = refl
+    waits-slow (op.User (user_op.Poll f)) w = refl
+    waits-slow (op.User (user_op.Drop f)) w = refl
+    waits-slow (op.User (user_op.DropOutput f)) w = refl
+    waits-slow (op.User (user_op.CallOutside x)) w = refl
     waits-slow _ w = absurd (cc)
 
 -- every step

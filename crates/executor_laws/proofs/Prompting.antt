@@ -17,6 +17,10 @@ use Rattle.executor_model.specs.declared.op.Awaiter.{Awaiter}
 use Rattle.executor_model.specs.declared.op.Hold.{Hold}
 use Rattle.executor_model.specs.declared.op.Op.{Op}
 use Rattle.executor_model.specs.declared.op.Op.TheVariants as op
+use Rattle.executor_model.specs.declared.op.HandleOp.TheVariants as handle_op
+use Rattle.executor_model.specs.declared.op.QueueOp.TheVariants as queue_op
+use Rattle.executor_model.specs.declared.op.TableOp.TheVariants as table_op
+use Rattle.executor_model.specs.declared.op.WakerOp.TheVariants as waker_op
 use Rattle.executor_model.specs.declared.op.Waker.{Waker}
 use Rattle.executor_model.specs.declared.op.Waker.TheVariants.{Task, Outside}
 use Rattle.executor_model.specs.declared.step.Hint.{Hint}
@@ -36,8 +40,8 @@ use Rattle.executor_laws.proofs.Pushes.{filter-push}
 
 -- what is answered no next, if it is
 abbrev pub hasty : Op → ℕ
-hasty op.Take = 1
-hasty op.LookAtTable = 1
+hasty (op.Queue queue_op.Take) = 1
+hasty (op.Table table_op.LookAtTable) = 1
 hasty (op.End reply.No held) = 1
 hasty _ = 0
 
@@ -145,8 +149,8 @@ fresh-log p es e d = ap (fresh p false) (deeds-own p es e d) ∙ fresh-append p 
 -- what is to do
 
 hasty-calling : (o : Op) → hasty o ≤ calling_of o
-hasty-calling op.Take = omega arith
-hasty-calling op.LookAtTable = omega arith
+hasty-calling (op.Queue queue_op.Take) = omega arith
+hasty-calling (op.Table table_op.LookAtTable) = omega arith
 hasty-calling (op.End reply.No held) = omega arith
 hasty-calling _ = omega arith
 
@@ -155,8 +159,8 @@ hasty-calling-all [] = omega arith
 hasty-calling-all (o ∷ os) = omega (arith, hasty-calling o, hasty-calling-all os)
 
 pub hasty-is : (o : Op) → (hasty o ≡ 0) ⊎ (hasty o ≡ 1)
-hasty-is op.Take = inr refl
-hasty-is op.LookAtTable = inr refl
+hasty-is (op.Queue queue_op.Take) = inr refl
+hasty-is (op.Table table_op.LookAtTable) = inr refl
 hasty-is (op.End reply.No held) = inr refl
 hasty-is _ = inl refl
 
@@ -192,11 +196,11 @@ slow-register : (b : Bool) (w : World) (f : ℕ) (a : Waker) (k : ℕ) → weigh
 slow-register true w f a k = refl
 slow-register false w f a k = refl
 
-slow-let_go : (f : ℕ) (o : Option Awaiter) → weigh hasty (let_go o ++ op.LookAgain f ∷ []) ≡ 0
+slow-let_go : (f : ℕ) (o : Option Awaiter) → weigh hasty (let_go o ++ op.Handle (handle_op.LookAgain f) ∷ []) ≡ 0
 slow-let_go f None = refl
 slow-let_go f (Some a) = go a.waker
   where
-    go : (x : Waker) → weigh hasty (let_go (Some (record a { waker = x })) ++ op.LookAgain f ∷ []) ≡ 0
+    go : (x : Waker) → weigh hasty (let_go (Some (record a { waker = x })) ++ op.Handle (handle_op.LookAgain f) ∷ []) ≡ 0
     go (Task g) = refl
     go (Outside x) = refl
 
@@ -215,13 +219,13 @@ slow-copy false w f held = refl
 
 -- of what answers a call
 slow-calling : (p : ℕ) (h : Hint) (o : Op) (w : World) → calling_of o ≡ 1 → hasty o ≡ 0 → is_end o ≡ false → weigh hasty (act p h o w).next ≡ 0
-slow-calling p h op.Enter w c z n = slow-enter _ _ p w
-slow-calling p h (op.CopyWaker f held) w c z n = slow-copy _ w f held
-slow-calling p h (op.Look f a) w c z n = slow-look (moves.poll (task w f)).owed.answer p w f a (moves.poll (task w f))
-slow-calling p h (op.CopyAwaiter f a) w c z n = slow-copy_awaiter _ p w f a
-slow-calling p h (op.Register f a k) w c z n = slow-register _ w f a k
-slow-calling p h (op.EndRegister f a k) w c z n = slow-end_register _ w f a k
-slow-calling p h (op.LookAgain f) w c z n = slow-again (moves.look_again (task w f)).owed.answer p w f (moves.look_again (task w f))
+slow-calling p h (op.Table table_op.Enter) w c z n = slow-enter _ _ p w
+slow-calling p h (op.Waker (waker_op.CopyWaker f held)) w c z n = slow-copy _ w f held
+slow-calling p h (op.Handle (handle_op.Look f a)) w c z n = slow-look (moves.poll (task w f)).owed.answer p w f a (moves.poll (task w f))
+slow-calling p h (op.Handle (handle_op.CopyAwaiter f a)) w c z n = slow-copy_awaiter _ p w f a
+slow-calling p h (op.Handle (handle_op.Register f a k)) w c z n = slow-register _ w f a k
+slow-calling p h (op.Handle (handle_op.EndRegister f a k)) w c z n = slow-end_register _ w f a k
+slow-calling p h (op.Handle (handle_op.LookAgain f)) w c z n = slow-again (moves.look_again (task w f)).owed.answer p w f (moves.look_again (task w f))
 slow-calling p h _ w c z n = absurd (cc)
 
 pub slow-act : (p : ℕ) (h : Hint) (o : Op) (w : World) → hasty o ≡ 0 → is_end o ≡ false → weigh hasty (act p h o w).next ≡ 0

@@ -17,6 +17,13 @@ use Rattle.executor_model.specs.declared.op.Waker.{Waker}
 use Rattle.executor_model.specs.declared.op.Waker.TheVariants.{Task, Outside}
 use Rattle.executor_model.specs.declared.op.Op.{Op}
 use Rattle.executor_model.specs.declared.op.Op.TheVariants as op
+use Rattle.executor_model.specs.declared.op.ClosingOp.TheVariants as closing_op
+use Rattle.executor_model.specs.declared.op.HandleOp.TheVariants as handle_op
+use Rattle.task_moves.specs.declared.moves.owed.Move.TheVariants as move
+use Rattle.executor_model.specs.declared.op.QueueOp.TheVariants as queue_op
+use Rattle.executor_model.specs.declared.op.TableOp.TheVariants as table_op
+use Rattle.executor_model.specs.declared.op.UserOp.TheVariants as user_op
+use Rattle.executor_model.specs.declared.op.WakerOp.TheVariants as waker_op
 use Rattle.executor_model.specs.declared.step.Hint.{Hint}
 use Rattle.executor_model.specs.declared.step.Step.{Step}
 use Rattle.executor_model.specs.declared.step.Step.TheVariants.{Begin, Go}
@@ -39,20 +46,20 @@ use Rattle.executor_laws.specs.Queueings.Changes.{stays, appends, takes, closes}
 -- what doing o does to the queue
 data Turns (o : Op) (q new : ClosableQueue ℕ) : Type 0 where
   same : new ≡ q → Turns o q new
-  more : (f : ℕ) → o ≡ op.Append f → q.closed ≡ false → new ≡ appended q f → Turns o q new
+  more : (f : ℕ) → o ≡ op.Queue (queue_op.Append f) → q.closed ≡ false → new ≡ appended q f → Turns o q new
   less : (f : ℕ) (rest : List ℕ) → q.items ≡ f ∷ rest → new ≡ taken q → Turns o q new
   shuts : new ≡ shut q → Turns o q new
 
-turns-append : (c : Bool) (l : Bool) (w : World) (f : ℕ) → w.queue.closed ≡ c → Turns (op.Append f) w.queue (append_by (not c && l) w f).world.queue
+turns-append : (c : Bool) (l : Bool) (w : World) (f : ℕ) → w.queue.closed ≡ c → Turns (op.Queue (queue_op.Append f)) w.queue (append_by (not c && l) w f).world.queue
 turns-append true l w f e = same refl
 turns-append false true w f e = more f refl e refl
 turns-append false false w f e = same refl
 
-turns-take : (w : World) (items : List ℕ) → w.queue.items ≡ items → Turns op.Take w.queue (take_by w items).world.queue
+turns-take : (w : World) (items : List ℕ) → w.queue.items ≡ items → Turns (op.Queue queue_op.Take) w.queue (take_by w items).world.queue
 turns-take w [] e = same refl
 turns-take w (f ∷ rest) e = less f rest e refl
 
-turns-drain : (p : ℕ) (w : World) (items : List ℕ) → w.queue.items ≡ items → Turns op.Drain w.queue (drain_by p w items).world.queue
+turns-drain : (p : ℕ) (w : World) (items : List ℕ) → w.queue.items ≡ items → Turns (op.Closing closing_op.Drain) w.queue (drain_by p w items).world.queue
 turns-drain p w [] e = same refl
 turns-drain p w (f ∷ rest) e = less f rest e refl
 
@@ -113,32 +120,33 @@ wakes-next p w [] = refl
 wakes-next p w (f ∷ fs) = logged _ (record w { waking = fs }) (event.Woken p f)
 
 turns-act : (p : ℕ) (h : Hint) (o : Op) (w : World) → Turns o w.queue (act p h o w).world.queue
-turns-act p h op.Enter w = same (entered _ _ p w)
-turns-act p h op.Take w = turns-take w w.queue.items refl
-turns-act p h (op.Append f) w = turns-append w.queue.closed _ w f refl
-turns-act p h (op.WakeByReference f) w = same (logged _ w (event.Woken p f))
-turns-act p h (op.Wake f) w = same (logged _ w (event.Woken p f))
-turns-act p h (op.TakeUp f) w = same (logged _ w (event.PollBegun p f))
-turns-act p h (op.Cancel f) w = same (logged _ w (event.Cancelled p f))
-turns-act p h (op.Detach f) w = same (logged _ w (event.Detached p f))
-turns-act p h (op.LeaveTable f) w = same (leaves _ w f)
-turns-act p h (op.CopyWaker f held) w = same (copies _ w f held)
-turns-act p h (op.Look f a) w = same (looks (moves.poll (task w f)).owed.answer p w f a (moves.poll (task w f)))
-turns-act p h (op.CopyAwaiter f a) w = same (copies-awaiter _ p w f a)
-turns-act p h (op.Register f a k) w = same (registers _ w f a k)
-turns-act p h (op.EndRegister f a k) w = same (ends-register _ w f a k)
-turns-act p h (op.LookAgain f) w = same (looks-again (moves.look_again (task w f)).owed.answer p w f (moves.look_again (task w f)))
-turns-act p h (op.Notify f mine) w = same (notifies _ w f mine)
-turns-act p h (op.CallAwaiter f a k) w = same (calls p w f a k)
-turns-act p h op.DropNext w = same (drops-next p w w.leaving)
-turns-act p h op.WakeNext w = same (wakes-next p w w.waking)
-turns-act p h op.Close w = shuts refl
-turns-act p h op.Drain w = turns-drain p w w.queue.items refl
+turns-act p h (op.Table table_op.Enter) w = same (entered _ _ p w)
+turns-act p h (op.Queue queue_op.Take) w = turns-take w w.queue.items refl
+turns-act p h (op.Queue (queue_op.Append f)) w = turns-append w.queue.closed _ w f refl
+turns-act p h (op.Move move.WakeByReference f) w = same (logged _ w (event.Woken p f))
+turns-act p h (op.Move move.Wake f) w = same (logged _ w (event.Woken p f))
+turns-act p h (op.Move move.TakeUp f) w = same (logged _ w (event.PollBegun p f))
+turns-act p h (op.Move move.Cancel f) w = same (logged _ w (event.Cancelled p f))
+turns-act p h (op.Move move.Detach f) w = same (logged _ w (event.Detached p f))
+turns-act p h (op.Table (table_op.LeaveTable f)) w = same (leaves _ w f)
+turns-act p h (op.Waker (waker_op.CopyWaker f held)) w = same (copies _ w f held)
+turns-act p h (op.Handle (handle_op.Look f a)) w = same (looks (moves.poll (task w f)).owed.answer p w f a (moves.poll (task w f)))
+turns-act p h (op.Handle (handle_op.CopyAwaiter f a)) w = same (copies-awaiter _ p w f a)
+turns-act p h (op.Handle (handle_op.Register f a k)) w = same (registers _ w f a k)
+turns-act p h (op.Handle (handle_op.EndRegister f a k)) w = same (ends-register _ w f a k)
+turns-act p h (op.Handle (handle_op.LookAgain f)) w = same (looks-again (moves.look_again (task w f)).owed.answer p w f (moves.look_again (task w f)))
+turns-act p h (op.Handle (handle_op.Notify f mine)) w = same (notifies _ w f mine)
+turns-act p h (op.Waker (waker_op.CallAwaiter f a k)) w = same (calls p w f a k)
+turns-act p h (op.Closing closing_op.DropNext) w = same (drops-next p w w.leaving)
+turns-act p h (op.Closing closing_op.WakeNext) w = same (wakes-next p w w.waking)
+turns-act p h (op.Closing closing_op.Close) w = shuts refl
+turns-act p h (op.Closing closing_op.Drain) w = turns-drain p w w.queue.items refl
+turns-act p h (op.User (user_op.BeginDrop f)) w = same refl
 turns-act p h _ w = same refl
 
 reacts : (p : ℕ) (o : Op) (u : UserEnd) (w : World) → (react p o u w).world.queue ≡ w.queue
-reacts p (op.Poll f) (end.Polled answer.Pending) w = refl
-reacts p (op.Poll f) (end.Polled answer.Ready) w = refl
+reacts p (op.User (user_op.Poll f)) (end.Polled answer.Pending) w = refl
+reacts p (op.User (user_op.Poll f)) (end.Polled answer.Ready) w = refl
 reacts p _ _ w = refl
 
 with-future : (w : World) (x : Option ℕ) (d : ℕ → Done) → ((f : ℕ) → (d f).world.queue ≡ w.queue) → (with_future w x d).world.queue ≡ w.queue
@@ -162,7 +170,7 @@ settles p w os (Some r) = refl
 -- what a step does to the queue
 data Steps (s : Machine) (new : ClosableQueue ℕ) : Type 0 where
   as-was : new ≡ s.world.queue → Steps s new
-  longer : (p f : ℕ) → top (stack s p) ≡ Some (op.Append f) → s.world.queue.closed ≡ false → new ≡ appended s.world.queue f → Steps s new
+  longer : (p f : ℕ) → top (stack s p) ≡ Some (op.Queue (queue_op.Append f)) → s.world.queue.closed ≡ false → new ≡ appended s.world.queue f → Steps s new
   shorter : (f : ℕ) (rest : List ℕ) → s.world.queue.items ≡ f ∷ rest → new ≡ taken s.world.queue → Steps s new
   shut-by : new ≡ shut s.world.queue → Steps s new
 
@@ -237,7 +245,7 @@ module _ (limit parties : ℕ) (steps : List Step) where
       ap (λ (m : ℕ). counting m (run (steps ++ t ∷ []) (start limit parties)).world.queue) (queueings-push steps t (start limit parties) ∙ ap (λ (m : ℕ). count + m) (ap (λ (v : ClosableQueue ℕ). length v.items - length now.world.queue.items) e ∙ k))
       ∙ ap (counting (count + n)) (ap (λ (m : Machine). m.world.queue) (run-push steps t (start limit parties)) ∙ e)
 
-  has-room : (p f : ℕ) → top (stack now p) ≡ Some (op.Append f) → HasRoom now.world.queue
+  has-room : (p f : ℕ) → top (stack now p) ≡ Some (op.Queue (queue_op.Append f)) → HasRoom now.world.queue
   has-room p f e = finds-place now f (good limit parties steps) (placed limit parties steps) p e
 
   same-count : (q : ClosableQueue ℕ) → counting (count + 0) q ≡ counting count q
@@ -250,16 +258,16 @@ module _ (limit parties : ℕ) (steps : List Step) where
   changes-by few t q e (shut-by x) = closes (later t (shut now.world.queue) 0 (e ∙ x) (omega arith) ∙ same-count (shut now.world.queue))
 
   -- who is about to append does
-  appends-now : (p : ℕ) (h : Hint) (f : ℕ) → top (stack now p) ≡ Some (op.Append f) → now.world.queue.closed ≡ false → (stepped now (step now (Go p h))).world.queue ≡ appended now.world.queue f
+  appends-now : (p : ℕ) (h : Hint) (f : ℕ) → top (stack now p) ≡ Some (op.Queue (queue_op.Append f)) → now.world.queue.closed ≡ false → (stepped now (step now (Go p h))).world.queue ≡ appended now.world.queue f
   appends-now p h f e c =
-      let l : p < length now.parties = in-range now p (op.Append f) e in
+      let l : p < length now.parties = in-range now p (op.Queue (queue_op.Append f)) e in
       let b : ltb p (length now.parties) ≡ true = grind (arith, nat_tests) in
       let r : refusal now (Go p h) ≡ None = ap (λ (x : Bool). unless x NoSuch (go_refusal (top (stack now p)))) b ∙ ap go_refusal e in
-      let room : length now.world.queue.items < now.world.limit = has-place now p f (below_top (stack now p)) l (topped (stack now p) (op.Append f) e) (good limit parties steps) (placed limit parties steps) in
+      let room : length now.world.queue.items < now.world.limit = has-place now p f (below_top (stack now p)) l (topped (stack now p) (op.Queue (queue_op.Append f)) e) (good limit parties steps) (placed limit parties steps) in
       let free : (not now.world.queue.closed && ltb (length now.world.queue.items) now.world.limit) ≡ true = ap (λ (x : Bool). not x && ltb (length now.world.queue.items) now.world.limit) c ∙ (let z : ltb (length now.world.queue.items) now.world.limit ≡ true = grind (arith, nat_tests) in z) in
       ap (λ (x : Result Machine StepError). (stepped now x).world.queue) (step-made now (Go p h) r)
       ∙ (ap (λ (x : Option Op). (gone_on p now.world (stack now p) x (λ o. act p h o now.world)).world.queue) e
-      ∙ (settles p (act p h (op.Append f) now.world).world (below_top (stack now p) ++ reverse (act p h (op.Append f) now.world).next) _
+      ∙ (settles p (act p h (op.Queue (queue_op.Append f)) now.world).world (below_top (stack now p) ++ reverse (act p h (op.Queue (queue_op.Append f)) now.world).next) _
       ∙ ap (λ (x : Bool). (append_by x now.world f).world.queue) free))
 
 pub counts-queueings : (limit parties : ℕ) (steps : List Step) → CountsQueueings limit parties steps

@@ -10,6 +10,8 @@ use Rattle.executor_model.specs.declared.call.Reply.TheVariants as reply
 use Rattle.executor_model.specs.declared.event.Event.TheVariants as event
 use Rattle.executor_model.specs.declared.op.Op.{Op}
 use Rattle.executor_model.specs.declared.op.Op.TheVariants as op
+use Rattle.task_moves.specs.declared.moves.owed.Move.TheVariants as move
+use Rattle.executor_model.specs.declared.op.QueueOp.TheVariants as queue_op
 use Rattle.executor_model.specs.declared.step.Step.{Step}
 use Rattle.executor_model.specs.declared.step.Step.TheVariants.{Begin, Go, Answer}
 use Rattle.executor_model.specs.Trace.{Trace, has}
@@ -86,7 +88,7 @@ module _ (s : Machine) (r : Reached s) (rest : IsAtRest s) (p : ℕ) (steps : Li
   on-ticking : run_all steps (ticking s p) ≡ Ok new
   on-ticking = sym (ap (λ (os : List Op). run_all steps (with_part s p (part_after s.world os (Begin p call.TryTick)))) (idles p)) ∙ (run-first (Begin p call.TryTick) steps s new k.made).1
 
-  takes-first : stack (ticking s p) p ≡ op.Take ∷ []
+  takes-first : stack (ticking s p) p ≡ op.Queue queue_op.Take ∷ []
   takes-first = taking s p in-parties still-there (idles p)
 
   -- its first step searches the queue
@@ -96,24 +98,24 @@ module _ (s : Machine) (r : Reached s) (rest : IsAtRest s) (p : ℕ) (steps : Li
   searches : (ts : List Step) → are_onward_of p ts ≡ true → run_all ts (ticking s p) ≡ Ok new → Searches ts
   searches [] on e =
       let same : ticking s p ≡ new = cc in
-      let no : ◌≡◌ {A = List Op} (op.Take ∷ []) [] = sym takes-first ∙ (ap (λ (m : Machine). stack m p) same ∙ new-idle) in absurd (cc)
+      let no : ◌≡◌ {A = List Op} (op.Queue queue_op.Take ∷ []) [] = sym takes-first ∙ (ap (λ (m : Machine). stack m p) same ∙ new-idle) in absurd (cc)
   searches (Begin q c ∷ ts) on e = absurd (cc)
   searches (Go q h ∷ ts) on e =
       let b : _ = left-true _ (are_onward_of p ts) on in
       let j : _ = run-first (Go q h) ts (ticking s p) new e in
       let m : _ = of-party p (ticking s p) (Go q h) b.0 j.0 in
-      (ts, b.1, sym (ap (λ (n : Machine). run_all ts n) (after-is p (ticking s p) (Go q h) m.0 ∙ (ap (λ (os : List Op). with_part (ticking s p) p (part_after (ticking s p).world os (Go q h))) takes-first ∙ ap (λ (i : ℕ). with_part (ticking s p) p (part_after (ticking s p).world (op.Take ∷ []) (Go i h))) m.0))) ∙ j.1)
+      (ts, b.1, sym (ap (λ (n : Machine). run_all ts n) (after-is p (ticking s p) (Go q h) m.0 ∙ (ap (λ (os : List Op). with_part (ticking s p) p (part_after (ticking s p).world os (Go q h))) takes-first ∙ ap (λ (i : ℕ). with_part (ticking s p) p (part_after (ticking s p).world (op.Queue queue_op.Take ∷ []) (Go i h))) m.0))) ∙ j.1)
   searches (Answer q u ∷ ts) on e =
       let b : _ = left-true _ (are_onward_of p ts) on in
       let j : _ = run-first (Answer q u) ts (ticking s p) new e in
       let m : _ = of-party p (ticking s p) (Answer q u) b.0 j.0 in
-      let no : answer_refusal (Some op.Take) u ≡ None = sym (ap (λ (os : List Op). answer_refusal (top os) u) takes-first) ∙ m.2 in absurd (cc)
+      let no : answer_refusal (Some (op.Queue queue_op.Take)) u ≡ None = sym (ap (λ (os : List Op). answer_refusal (top os) u) takes-first) ∙ m.2 in absurd (cc)
 
   found : Searches steps
   found = searches steps k.alone on-ticking
 
   in-there : (x : Part) → stack (with_part (ticking s p) p x) p ≡ x.todo
-  in-there x = stack-set p (ticking s p) x (omega (arith, in-parties, length-set s.parties p (op.Take ∷ [])))
+  in-there x = stack-set p (ticking s p) x (omega (arith, in-parties, length-set s.parties p (op.Queue queue_op.Take ∷ [])))
 
   has-entry : (f : ℕ) (xs : List ℕ) → s.world.queue.items ≡ f ∷ xs → among f s.world.table ≡ true
   has-entry f xs q =
@@ -125,7 +127,7 @@ module _ (s : Machine) (r : Reached s) (rest : IsAtRest s) (p : ℕ) (steps : Li
   first-taken f xs q =
       let before : Trace = s.world.trace ++ event.CallBegun p call.TryTick ∷ [] in
       let took : run_all found.0 (searched s p (f ∷ xs)) ≡ Ok new = sym (ap (λ (items : List ℕ). run_all found.0 (searched s p items)) q) ∙ found.2 in
-      let last : Ended p f xs before new.world = walks p f xs before found.0 (searched s p (f ∷ xs)) new [] (op.TakeUp f) (in-there (onto p (take_by (ticking s p).world (f ∷ xs)) [])) (record {
+      let last : Ended p f xs before new.world = walks p f xs before found.0 (searched s p (f ∷ xs)) new [] (op.Move move.TakeUp f) (in-there (onto p (take_by (ticking s p).world (f ∷ xs)) [])) (record {
         plain = refl;
         added = [];
         queue = ap (drop 1) q ∙ sym (append-nil xs);

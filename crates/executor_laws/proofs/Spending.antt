@@ -11,7 +11,8 @@ use Rattle.executor_model.specs.declared.op.Awaiter.{Awaiter}
 use Rattle.executor_model.specs.World.{World, Done, log, log_if, task, put, put_awaiter, awaiter_of, blank, without, among}
 use Rattle.executor_model.specs.Carried.{carried, owed_ops, schedule_ops, drop_ops, future_ops, output_ops, awaiter_ops, next_ops}
 use Rattle.executor_model.specs.Weights.{weigh}
-use Rattle.executor_laws.specs.Remaining.{steps_of, stored, keeps_output, outputs_kept, steps_kept}
+use Rattle.executor_laws.specs.Remaining.{stored, keeps_output, outputs_kept, steps_kept}
+use Rattle.executor_model.specs.Rows.{steps_of}
 use Rattle.executor_model.proofs.Lists.{weigh-append}
 
 -- what is left after d, and one step, came out of what was left before and c

@@ -17,6 +17,13 @@ use Rattle.executor_model.specs.declared.op.Waker.{Waker}
 use Rattle.executor_model.specs.declared.op.Waker.TheVariants.{Task, Outside}
 use Rattle.executor_model.specs.declared.op.Op.{Op}
 use Rattle.executor_model.specs.declared.op.Op.TheVariants as op
+use Rattle.executor_model.specs.declared.op.ClosingOp.TheVariants as closing_op
+use Rattle.executor_model.specs.declared.op.HandleOp.TheVariants as handle_op
+use Rattle.task_moves.specs.declared.moves.owed.Move.TheVariants as move
+use Rattle.executor_model.specs.declared.op.QueueOp.TheVariants as queue_op
+use Rattle.executor_model.specs.declared.op.TableOp.TheVariants as table_op
+use Rattle.executor_model.specs.declared.op.UserOp.TheVariants as user_op
+use Rattle.executor_model.specs.declared.op.WakerOp.TheVariants as waker_op
 use Rattle.executor_model.specs.declared.step.Hint.{Hint}
 use Rattle.executor_model.specs.declared.step.UserEnd.{UserEnd}
 use Rattle.executor_model.specs.declared.step.UserEnd.TheVariants as end
@@ -24,7 +31,8 @@ use Rattle.executor_model.specs.World.{World, Done, done, log, task, put, awaite
 use Rattle.executor_model.specs.Carried.{awaiter_ops}
 use Rattle.executor_model.specs.Acts.{append_by, take_by, enter_by, entered, emptiness, take_to_drop, leave_by, copy_by, polled, reply_of, is_output, answered, look_by, look_again_by, copied, copy_awaiter_by, register_by, waker_goes, let_go, end_register_by, notify_by, told, end_notify, call_awaiter, closing_ops, take_out, drop_next_by, followed, wake, wake_next_by, drain_by, act}
 use Rattle.executor_model.specs.Weights.{weigh}
-use Rattle.executor_laws.specs.Remaining.{steps_of, stored, keeps_output, outputs_kept, steps_kept}
+use Rattle.executor_laws.specs.Remaining.{stored, keeps_output, outputs_kept, steps_kept}
+use Rattle.executor_model.specs.Rows.{steps_of}
 use Rattle.executor_model.specs.Steps.{waits, accepts, react}
 use Rattle.executor_model.proofs.Lists.{weigh-append}
 use Rattle.executor_laws.proofs.Spending.{Spends, kept-parts, outputs-push, one_stored, stored-push, without-one, kept-put, kept-put_awaiter, kept-log, kept-log_if, notify_other-steps, spends-carried, spends-logged, costs-wake, costs-waking, costs-release, costs-take_up, costs-settle_closed, costs-give_up, costs-end_ready, costs-end_pending, costs-end_closed, costs-drop_runnable, costs-cancel, costs-detach}
@@ -114,10 +122,10 @@ let_go-steps (Some a) = omega (arith, goes-steps a.waker)
 spends-end_register : (b : Bool) (w : World) (f : ℕ) (a : Waker) (k : ℕ) → Spends w 31 (end_register_by b w f a k)
 spends-end_register true w f a k =
     let v : World = put w f (moves.end_register_by true (task w f)).state in
-    omega (arith, kept-marks w f (moves.end_register_by true (task w f)).state refl, kept-put_awaiter v f None, let_go-steps (awaiter_of w f), weigh-append steps_of (let_go (awaiter_of w f)) (op.LookAgain f ∷ []))
+    omega (arith, kept-marks w f (moves.end_register_by true (task w f)).state refl, kept-put_awaiter v f None, let_go-steps (awaiter_of w f), weigh-append steps_of (let_go (awaiter_of w f)) (op.Handle (handle_op.LookAgain f) ∷ []))
 spends-end_register false w f a k =
     let v : World = put w f (moves.end_register_by false (task w f)).state in
-    omega (arith, kept-marks w f (moves.end_register_by false (task w f)).state refl, kept-put_awaiter v f (Some (record { waker = a; poll = k })), let_go-steps (awaiter_of w f), weigh-append steps_of (let_go (awaiter_of w f)) (op.LookAgain f ∷ []))
+    omega (arith, kept-marks w f (moves.end_register_by false (task w f)).state refl, kept-put_awaiter v f (Some (record { waker = a; poll = k })), let_go-steps (awaiter_of w f), weigh-append steps_of (let_go (awaiter_of w f)) (op.Handle (handle_op.LookAgain f) ∷ []))
 
 spends-notify : (b : Bool) (w : World) (f : ℕ) (mine : Bool) → Spends w 2 (notify_by b w f mine)
 spends-notify true w f mine = omega (arith, kept-marks w f (moves.notify_by true (task w f)).state refl)
@@ -172,53 +180,53 @@ spends-drain p w [] e = omega (arith, kept-log w (event.DropEnded p))
 spends-drain p w (f ∷ rest) e = omega (arith, kept-parts w, kept-parts (record w { queue = taken w.queue }), ap length e, ap (λ (xs : List ℕ). length (drop 1 xs)) e)
 
 pub spends-act : (p : ℕ) (h : Hint) (o : Op) (w : World) → waits o ≡ false → Spends w (steps_of o) (act p h o w)
-spends-act p h op.Enter w n = spends-enter _ _ p w
-spends-act p h op.Take w n = spends-take w _ refl
-spends-act p h op.LookAtTable w n = omega arith
-spends-act p h (op.Append f) w n = spends-append _ w f
-spends-act p h (op.WakeByReference f) w n = spends-logged _ w (event.Woken p f) f 13 (moves.wake_by_reference (task w f)) (costs-wake _ _ (task w f))
-spends-act p h (op.Wake f) w n = spends-wake p w f
-spends-act p h (op.Release f) w n = spends-carried w w f 13 (moves.release (task w f)) refl refl (costs-release _ _ (task w f))
-spends-act p h (op.TakeUp f) w n = spends-logged _ w (event.PollBegun p f) f 17 (moves.take_up (task w f)) (costs-take_up _ (task w f))
-spends-act p h (op.SettleClosed f) w n = spends-carried w w f 4 (moves.settle_closed (task w f)) refl refl (costs-settle_closed (task w f))
-spends-act p h (op.GiveUp f) w n = spends-carried w w f 1 (moves.give_up (task w f)) refl refl (costs-give_up _ (task w f))
-spends-act p h (op.EndReady f) w n = spends-carried w w f 9 (moves.end_ready (task w f)) refl refl (costs-end_ready (task w f))
-spends-act p h (op.EndPending f) w n = spends-carried w w f 13 (moves.end_pending (task w f)) refl refl (costs-end_pending _ _ _ (task w f))
-spends-act p h (op.EndClosed f) w n = spends-carried w w f 4 (moves.end_closed (task w f)) refl refl (costs-end_closed (task w f))
-spends-act p h (op.DropRunnable f) w n = spends-carried w w f 10 (moves.drop_runnable (task w f)) refl refl (costs-drop_runnable (task w f))
-spends-act p h (op.Cancel f) w n = spends-logged _ w (event.Cancelled p f) f 15 (moves.cancel (task w f)) (costs-cancel _ _ (task w f))
-spends-act p h (op.Detach f) w n = spends-logged _ w (event.Detached p f) f 13 (moves.detach (task w f)) (costs-detach _ _ (task w f) refl)
-spends-act p h (op.TakeToPoll f) w n = spends-as w _ 16 (op.Poll f ∷ []) (kept-as w _ refl refl refl refl refl refl) (omega arith)
-spends-act p h (op.Poll f) w n = absurd (cc)
-spends-act p h (op.PutBack f) w n = spends-as w _ 14 (op.EndPending f ∷ []) (kept-as w _ refl refl refl refl refl refl) (omega arith)
-spends-act p h (op.TakeToDrop f) w n = spends-as w _ 5 (take_to_drop w f).next (kept-as w _ refl refl refl refl refl refl) (omega arith)
-spends-act p h (op.BeginDrop f) w n = omega (arith, kept-log w (event.Dropped p f))
-spends-act p h (op.Drop f) w n = absurd (cc)
-spends-act p h (op.LeaveTable f) w n = spends-leave _ w f refl
-spends-act p h (op.BeginDropOutput f) w n = omega (arith, kept-log w (event.OutputDropped p f))
-spends-act p h (op.DropOutput f) w n = absurd (cc)
-spends-act p h (op.CopyWaker f held) w n = spends-copy _ w f held
-spends-act p h (op.Look f a) w n = spends-look _ _ _ p w f a
-spends-act p h (op.CopyAwaiter f a) w n = spends-copy_awaiter _ p w f a
-spends-act p h (op.Register f a k) w n = spends-register _ w f a k
-spends-act p h (op.EndRegister f a k) w n = spends-end_register _ w f a k
-spends-act p h (op.LookAgain f) w n = spends-again _ _ _ p w f
-spends-act p h (op.Notify f mine) w n = spends-notify _ w f mine
-spends-act p h (op.EndNotify f mine) w n = spends-end_notify h w f mine
-spends-act p h (op.CallAwaiter f a k) w n = spends-call p w f a k
-spends-act p h (op.CallOutside x) w n = absurd (cc)
-spends-act p h op.TakeOut w n = spends-take_out w
-spends-act p h op.DropNext w n = spends-drop_next p w _ refl
-spends-act p h op.WakeNext w n = spends-wake_next p w _ refl
-spends-act p h op.Close w n = spends-as w _ 2 (op.Drain ∷ []) (kept-as w _ refl refl refl refl refl refl) (omega arith)
-spends-act p h op.Drain w n = spends-drain p w _ refl
+spends-act p h (op.Table table_op.Enter) w n = spends-enter _ _ p w
+spends-act p h (op.Queue queue_op.Take) w n = spends-take w _ refl
+spends-act p h (op.Queue (queue_op.Append f)) w n = spends-append _ w f
+spends-act p h (op.Move move.WakeByReference f) w n = spends-logged _ w (event.Woken p f) f 13 (moves.wake_by_reference (task w f)) (costs-wake _ _ (task w f))
+spends-act p h (op.Move move.Wake f) w n = spends-wake p w f
+spends-act p h (op.Move move.Release f) w n = spends-carried w w f 13 (moves.release (task w f)) refl refl (costs-release _ _ (task w f))
+spends-act p h (op.Move move.TakeUp f) w n = spends-logged _ w (event.PollBegun p f) f 17 (moves.take_up (task w f)) (costs-take_up _ (task w f))
+spends-act p h (op.Move move.SettleClosed f) w n = spends-carried w w f 4 (moves.settle_closed (task w f)) refl refl (costs-settle_closed (task w f))
+spends-act p h (op.Move move.GiveUp f) w n = spends-carried w w f 1 (moves.give_up (task w f)) refl refl (costs-give_up _ (task w f))
+spends-act p h (op.Move move.EndReady f) w n = spends-carried w w f 9 (moves.end_ready (task w f)) refl refl (costs-end_ready (task w f))
+spends-act p h (op.Move move.EndPending f) w n = spends-carried w w f 13 (moves.end_pending (task w f)) refl refl (costs-end_pending _ _ _ (task w f))
+spends-act p h (op.Move move.EndClosed f) w n = spends-carried w w f 4 (moves.end_closed (task w f)) refl refl (costs-end_closed (task w f))
+spends-act p h (op.Move move.DropRunnable f) w n = spends-carried w w f 10 (moves.drop_runnable (task w f)) refl refl (costs-drop_runnable (task w f))
+spends-act p h (op.Move move.Cancel f) w n = spends-logged _ w (event.Cancelled p f) f 15 (moves.cancel (task w f)) (costs-cancel _ _ (task w f))
+spends-act p h (op.Move move.Detach f) w n = spends-logged _ w (event.Detached p f) f 13 (moves.detach (task w f)) (costs-detach _ _ (task w f) refl)
+spends-act p h (op.Table (table_op.TakeToPoll f)) w n = spends-as w _ 16 (op.User (user_op.Poll f) ∷ []) (kept-as w _ refl refl refl refl refl refl) (omega arith)
+spends-act p h (op.User (user_op.Poll f)) w n = absurd (cc)
+spends-act p h (op.Table (table_op.PutBack f)) w n = spends-as w _ 14 (op.Move move.EndPending f ∷ []) (kept-as w _ refl refl refl refl refl refl) (omega arith)
+spends-act p h (op.Table (table_op.TakeToDrop f)) w n = spends-as w _ 5 (take_to_drop w f).next (kept-as w _ refl refl refl refl refl refl) (omega arith)
+spends-act p h (op.User (user_op.BeginDrop f)) w n = omega (arith, kept-log w (event.Dropped p f))
+spends-act p h (op.User (user_op.Drop f)) w n = absurd (cc)
+spends-act p h (op.Table (table_op.LeaveTable f)) w n = spends-leave _ w f refl
+spends-act p h (op.User (user_op.BeginDropOutput f)) w n = omega (arith, kept-log w (event.OutputDropped p f))
+spends-act p h (op.User (user_op.DropOutput f)) w n = absurd (cc)
+spends-act p h (op.Waker (waker_op.CopyWaker f held)) w n = spends-copy _ w f held
+spends-act p h (op.Handle (handle_op.Look f a)) w n = spends-look _ _ _ p w f a
+spends-act p h (op.Handle (handle_op.CopyAwaiter f a)) w n = spends-copy_awaiter _ p w f a
+spends-act p h (op.Handle (handle_op.Register f a k)) w n = spends-register _ w f a k
+spends-act p h (op.Handle (handle_op.EndRegister f a k)) w n = spends-end_register _ w f a k
+spends-act p h (op.Handle (handle_op.LookAgain f)) w n = spends-again _ _ _ p w f
+spends-act p h (op.Handle (handle_op.Notify f mine)) w n = spends-notify _ w f mine
+spends-act p h (op.Handle (handle_op.EndNotify f mine)) w n = spends-end_notify h w f mine
+spends-act p h (op.Waker (waker_op.CallAwaiter f a k)) w n = spends-call p w f a k
+spends-act p h (op.User (user_op.CallOutside x)) w n = absurd (cc)
+spends-act p h (op.Closing closing_op.TakeOut) w n = spends-take_out w
+spends-act p h (op.Closing closing_op.DropNext) w n = spends-drop_next p w _ refl
+spends-act p h (op.Closing closing_op.WakeNext) w n = spends-wake_next p w _ refl
+spends-act p h (op.Closing closing_op.Close) w n = spends-as w _ 2 (op.Closing closing_op.Drain ∷ []) (kept-as w _ refl refl refl refl refl refl) (omega arith)
+spends-act p h (op.Closing closing_op.Drain) w n = spends-drain p w _ refl
 spends-act p h (op.End a held) w n = omega (arith, kept-log w (event.CallEnded p a))
+spends-act p h _ w n = omega arith
 
 -- the end of user code
 pub spends-react : (p : ℕ) (o : Op) (e : UserEnd) (w : World) → accepts o e ≡ true → Spends w (steps_of o) (react p o e w)
-spends-react p (op.Poll f) (end.Polled answer.Pending) w a = omega (arith, kept-log w (event.Answered p f answer.Pending))
-spends-react p (op.Poll f) (end.Polled answer.Ready) w a = omega (arith, kept-log w (event.Answered p f answer.Ready))
-spends-react p (op.Drop f) end.Done w a = omega arith
-spends-react p (op.DropOutput f) end.Done w a = omega arith
-spends-react p (op.CallOutside x) end.Done w a = omega arith
+spends-react p (op.User (user_op.Poll f)) (end.Polled answer.Pending) w a = omega (arith, kept-log w (event.Answered p f answer.Pending))
+spends-react p (op.User (user_op.Poll f)) (end.Polled answer.Ready) w a = omega (arith, kept-log w (event.Answered p f answer.Ready))
+spends-react p (op.User (user_op.Drop f)) end.Done w a = omega arith
+spends-react p (op.User (user_op.DropOutput f)) end.Done w a = omega arith
+spends-react p (op.User (user_op.CallOutside x)) end.Done w a = omega arith
 spends-react p _ _ w a = absurd (cc)

@@ -10,6 +10,8 @@ use Rattle.executor_model.specs.declared.event.Event.TheVariants as event
 use Rattle.executor_model.specs.declared.op.Hold.TheVariants as hold
 use Rattle.executor_model.specs.declared.op.Op.{Op}
 use Rattle.executor_model.specs.declared.op.Op.TheVariants as op
+use Rattle.task_moves.specs.declared.moves.owed.Move.TheVariants as move
+use Rattle.executor_model.specs.declared.op.QueueOp.TheVariants as queue_op
 use Rattle.executor_model.specs.declared.step.Hint.{Hint}
 use Rattle.executor_model.specs.declared.step.Step.{Step}
 use Rattle.executor_model.specs.declared.step.Step.TheVariants.{Begin, Go}
@@ -22,7 +24,8 @@ use Rattle.executor_model.specs.Entries.{QueueAgrees}
 use Rattle.executor_model.specs.World.{log, task}
 use Rattle.executor_model.specs.Acts.{take_by}
 use Rattle.executor_model.specs.Weights.{weigh_all}
-use Rattle.executor_model.specs.Sound.{times, waiting_of, polls_of, ending_of, ready_of, closing_of, settling_of, giving_of, drops_of}
+use Rattle.executor_model.specs.Sound.{times}
+use Rattle.executor_model.specs.Rows.{waiting_of, polls_of, ending_of, ready_of, closing_of, settling_of, giving_of, drops_of}
 use Rattle.executor_model.specs.Good.{Good}
 use Rattle.executor_model.specs.Steps.{Machine, stack, top, step, step_by, stepped, refusal, unless, begin_refusal, go_refusal, onto, part_after, with_part, run, start}
 use Rattle.executor_model.proofs.Lists.{same_is}
@@ -36,7 +39,7 @@ use Rattle.executor_laws.proofs.Dueness.{asked-is, ready-is, not-over, unopened}
 
 -- the machine in which p has called a tick, and has still to take
 abbrev pub ticking : Machine → ℕ → Machine
-ticking s p = record { world = log s.world (event.CallBegun p call.TryTick); parties = set s.parties p (op.Take ∷ []) }
+ticking s p = record { world = log s.world (event.CallBegun p call.TryTick); parties = set s.parties p (op.Queue queue_op.Take ∷ []) }
 
 module _ (s : Machine) (fine : Good s) (h : Heard s) (d : Deep s) (rest : IsAtRest s) where
   pub here : s.world.gone ≡ false
@@ -89,11 +92,11 @@ module _ (s : Machine) (p : ℕ) (l : p < length s.parties) (n : s.world.gone �
   unfolding step
   begun-alone = ap (λ (x : Option StepError). stepped s (step_by x s (Begin p call.TryTick))) none-refused ∙ ap (λ (os : List Op). with_part s p (part_after s.world os (Begin p call.TryTick))) e
 
-  pub taking : stack (ticking s p) p ≡ op.Take ∷ []
-  taking = get_or-set_same s.parties p (op.Take ∷ []) [] l
+  pub taking : stack (ticking s p) p ≡ op.Queue queue_op.Take ∷ []
+  taking = get_or-set_same s.parties p (op.Queue queue_op.Take ∷ []) [] l
 
   there : nat_lt p (length (ticking s p).parties) ≡ true
-  there = let m : p < length (set s.parties p (op.Take ∷ [])) = omega (arith, l, length-set s.parties p (op.Take ∷ [])) in grind (arith, nat_tests)
+  there = let m : p < length (set s.parties p (op.Queue queue_op.Take ∷ [])) = omega (arith, l, length-set s.parties p (op.Queue queue_op.Take ∷ [])) in grind (arith, nat_tests)
 
   goes-on : (t : Hint) → refusal (ticking s p) (Go p t) ≡ None
   goes-on t = ap (λ (b : Bool). unless b NoSuch (go_refusal (top (stack (ticking s p) p)))) there ∙ ap (λ (os : List Op). go_refusal (top os)) taking
@@ -107,13 +110,13 @@ module _ (s : Machine) (p : ℕ) (l : p < length s.parties) (n : s.world.gone �
       ∙ ap (λ (xs : List ℕ). with_part (ticking s p) p (onto p (take_by (ticking s p).world xs) [])) q))
 
   pub placed-there : (os : List Op) → get_or (set (ticking s p).parties p os) p [] ≡ os
-  placed-there os = get_or-set_same (ticking s p).parties p os [] (omega (arith, l, length-set s.parties p (op.Take ∷ [])))
+  placed-there os = get_or-set_same (ticking s p).parties p os [] (omega (arith, l, length-set s.parties p (op.Queue queue_op.Take ∷ [])))
 
   pub finds-nothing : (t : Hint) → s.world.queue.items ≡ [] → FindsNothing s p t
   finds-nothing t q = ap (λ (m : Machine). m.world.trace) (gone-on-alone t [] q) ∙ append_assoc s.world.trace (event.CallBegun p call.TryTick ∷ []) (event.CallEnded p reply.No ∷ [])
 
-  finds-one : (t : Hint) (f : ℕ) (xs : List ℕ) → s.world.queue.items ≡ f ∷ xs → stack (run (ticks p t) s) p ≡ op.End reply.Yes hold.Executor ∷ op.TakeUp f ∷ []
-  finds-one t f xs q = ap (λ (m : Machine). stack m p) (gone-on-alone t (f ∷ xs) q) ∙ placed-there (op.End reply.Yes hold.Executor ∷ op.TakeUp f ∷ [])
+  finds-one : (t : Hint) (f : ℕ) (xs : List ℕ) → s.world.queue.items ≡ f ∷ xs → stack (run (ticks p t) s) p ≡ op.End reply.Yes hold.Executor ∷ op.Move move.TakeUp f ∷ []
+  finds-one t f xs q = ap (λ (m : Machine). stack m p) (gone-on-alone t (f ∷ xs) q) ∙ placed-there (op.End reply.Yes hold.Executor ∷ op.Move move.TakeUp f ∷ [])
 
   not-nothing : (t : Hint) (f : ℕ) (xs : List ℕ) → s.world.queue.items ≡ f ∷ xs → ¬ FindsNothing s p t
   not-nothing t f xs q z =

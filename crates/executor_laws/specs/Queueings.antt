@@ -2,6 +2,7 @@
 use Rattle.std.specs.Prelude.{◌≡◌, ℕ, ◌+◌, ◌-◌, ◌<◌, ◌≤◌, false, Some, List, [], ◌∷◌, ◌++◌, length}
 use Rattle.queue_steps.specs.ClosableQueue.{ClosableQueue, most_accepted, new_queue, HasRoom, IsUnspent, appended, taken, shut}
 use Rattle.executor_model.specs.declared.op.Op.TheVariants as op
+use Rattle.executor_model.specs.declared.op.QueueOp.TheVariants as queue_op
 use Rattle.executor_model.specs.declared.step.Hint.{Hint}
 use Rattle.executor_model.specs.declared.step.Step.{Step}
 use Rattle.executor_model.specs.declared.step.Step.TheVariants.{Go}
@@ -42,5 +43,5 @@ pub record CountsQueueings (limit parties : ℕ) (steps : List Step) : Type 0 wh
   pub most : queueings steps (start limit parties) ≤ length steps
   pub new : counted_after limit parties [] ≡ new_queue (Some limit) (Some 0)
   pub changes : AreFewQueueings limit parties steps → (t : Step) → Changes (counted_after limit parties steps) (counted_after limit parties (steps ++ t ∷ []))
-  pub appends : AreFewQueueings limit parties steps → (p : ℕ) (h : Hint) (f : ℕ) → top (stack (run steps (start limit parties)) p) ≡ Some (op.Append f) →
+  pub appends : AreFewQueueings limit parties steps → (p : ℕ) (h : Hint) (f : ℕ) → top (stack (run steps (start limit parties)) p) ≡ Some (op.Queue (queue_op.Append f)) →
       (counted_after limit parties steps).closed ≡ false → counted_after limit parties (steps ++ Go p h ∷ []) ≡ appended (counted_after limit parties steps) f

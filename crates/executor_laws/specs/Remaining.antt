@@ -3,59 +3,15 @@ use Rattle.std.specs.Prelude.{◌≡◌, ℕ, ◌+◌, ◌*◌, ◌<◌, ◌≤�
 use Rattle.task_moves.specs.declared.moves.state.State.{State}
 use Rattle.executor_model.specs.declared.op.Awaiter.{Awaiter}
 use Rattle.executor_model.specs.declared.op.Op.{Op}
-use Rattle.executor_model.specs.declared.op.Op.TheVariants as op
 use Rattle.executor_model.specs.declared.step.Hint.{Hint}
 use Rattle.executor_model.specs.declared.step.Step.{Step}
 use Rattle.executor_model.specs.declared.step.Step.TheVariants.{Begin, Go, Answer}
 use Rattle.executor_model.specs.declared.step.UserEnd.{UserEnd}
 use Rattle.executor_model.specs.World.{World}
+use Rattle.executor_model.specs.Rows.{steps_of}
 use Rattle.executor_model.specs.Weights.{weigh_all}
 use Rattle.executor_model.specs.Steps.{Machine, stack, top, waits, refusal, after}
 use Rattle.executor_model.specs.Runs.{run_all}
-
--- so many steps may a thing to do take, with all that it leads to
-abbrev pub steps_of : Op → ℕ
-steps_of op.Enter = 42
-steps_of op.Take = 8
-steps_of op.LookAtTable = 2
-steps_of (op.Append f) = 12
-steps_of (op.WakeByReference f) = 13
-steps_of (op.Wake f) = 26
-steps_of (op.Release f) = 13
-steps_of (op.TakeUp f) = 17
-steps_of (op.SettleClosed f) = 4
-steps_of (op.GiveUp f) = 1
-steps_of (op.EndReady f) = 9
-steps_of (op.EndPending f) = 13
-steps_of (op.EndClosed f) = 4
-steps_of (op.DropRunnable f) = 10
-steps_of (op.Cancel f) = 15
-steps_of (op.Detach f) = 13
-steps_of (op.TakeToPoll f) = 16
-steps_of (op.Poll f) = 15
-steps_of (op.PutBack f) = 14
-steps_of (op.TakeToDrop f) = 5
-steps_of (op.BeginDrop f) = 3
-steps_of (op.Drop f) = 1
-steps_of (op.LeaveTable f) = 1
-steps_of (op.BeginDropOutput f) = 2
-steps_of (op.DropOutput f) = 1
-steps_of (op.CopyWaker f held) = 2
-steps_of (op.Look f a) = 34
-steps_of (op.CopyAwaiter f a) = 33
-steps_of (op.Register f a k) = 32
-steps_of (op.EndRegister f a k) = 31
-steps_of (op.LookAgain f) = 4
-steps_of (op.Notify f mine) = 2
-steps_of (op.EndNotify f mine) = 1
-steps_of (op.CallAwaiter f a k) = 26
-steps_of (op.CallOutside x) = 1
-steps_of op.TakeOut = 5
-steps_of op.DropNext = 4
-steps_of op.WakeNext = 3
-steps_of op.Close = 2
-steps_of op.Drain = 1
-steps_of (op.End a held) = 1
 
 abbrev pub stored : List (Option Awaiter) → ℕ
 stored [] = 0

@@ -11,16 +11,24 @@ use Rattle.executor_model.specs.declared.op.Hold.{Hold}
 use Rattle.executor_model.specs.declared.op.Hold.TheVariants as hold
 use Rattle.executor_model.specs.declared.op.Op.{Op}
 use Rattle.executor_model.specs.declared.op.Op.TheVariants as op
+use Rattle.executor_model.specs.declared.op.ClosingOp.TheVariants as closing_op
+use Rattle.executor_model.specs.declared.op.HandleOp.TheVariants as handle_op
+use Rattle.task_moves.specs.declared.moves.owed.Move.TheVariants as move
+use Rattle.executor_model.specs.declared.op.QueueOp.TheVariants as queue_op
+use Rattle.executor_model.specs.declared.op.TableOp.TheVariants as table_op
+use Rattle.executor_model.specs.declared.op.UserOp.TheVariants as user_op
+use Rattle.executor_model.specs.declared.op.WakerOp.TheVariants as waker_op
 use Rattle.executor_model.specs.declared.step.Step.{Step}
 use Rattle.executor_model.specs.declared.step.UserEnd.{UserEnd}
 use Rattle.executor_model.specs.declared.step.UserEnd.TheVariants as end
 use Rattle.executor_model.specs.Trace.{Trace}
 use Rattle.executor_model.specs.World.{World, Done, done, log}
 use Rattle.executor_model.specs.Acts.{act}
-use Rattle.executor_model.specs.Weights.{weigh}
+use Rattle.executor_model.specs.Weights.{weigh, past}
 use Rattle.executor_model.specs.Sound.{Sound, Pend, pend, with_ops, phase}
 use Rattle.executor_model.specs.Sound.Phase.{Over, Broken}
-use Rattle.executor_model.specs.Good.{Good, past, past_of}
+use Rattle.executor_model.specs.Good.{Good}
+use Rattle.executor_model.specs.Rows.{past_of}
 use Rattle.executor_model.specs.Steps.{Machine, stack, run, start, idle, polled_by, top, accepts, begun, react, used_up, with_future, kept, waker_of}
 use Rattle.executor_model.proofs.Lists.{past_is, phase-push}
 use Rattle.executor_model.proofs.Lift.{split, split-pend, push-pend, unsettled, good-start}
@@ -59,24 +67,24 @@ over-or-broken : (f : ℕ) (es : Trace) → phase f es ≢ Broken → (phase f e
 over-or-broken f es n (inl e) = e
 over-or-broken f es n (inr e) = absurd (n e)
 
-was-dropped : (s : Machine) (p f : ℕ) (rest : List Op) → p < length s.parties → stack s p ≡ rest ++ reverse (op.DropRunnable f ∷ []) → Good s → Placed s → phase f s.world.trace ≡ Over
+was-dropped : (s : Machine) (p f : ℕ) (rest : List Op) → p < length s.parties → stack s p ≡ rest ++ reverse (op.Move move.DropRunnable f ∷ []) → Good s → Placed s → phase f s.world.trace ≡ Over
 was-dropped s p f rest l e good h =
-    let k : _ = (h.leaves f).left (omega (arith, split waking_of s.parties p (op.DropRunnable f ∷ []) rest l e)) in
-    let i : f < length s.world.tasks = below _ f (omega (arith, good.ops, split (past_of (length s.world.tasks)) s.parties p (op.DropRunnable f ∷ []) rest l e)) in
+    let k : _ = (h.leaves f).left (omega (arith, split waking_of s.parties p (op.Move move.DropRunnable f ∷ []) rest l e)) in
+    let i : f < length s.world.tasks = below _ f (omega (arith, good.ops, split (past_of (length s.world.tasks)) s.parties p (op.Move move.DropRunnable f ∷ []) rest l e)) in
     let n : 1 ≤ (story f s.world.trace).fallen = omega (arith, ((h.leaves f).swept k.0 k.1.0).1, k.1.1, (h.leaves f).known i) in
     over-or-broken f s.world.trace (good.sound f).lawful (dropped-over f s.world.trace (counted-drop f s.world.trace n))
 
 needs-over : (s : Machine) (p : ℕ) (o : Op) (rest : List Op) → p < length s.parties → stack s p ≡ rest ++ reverse (o ∷ []) → Good s → Placed s → NeedsOver s.world o
-needs-over s p (op.DropRunnable f) rest l e good h = was-dropped s p f rest l e good h
+needs-over s p (op.Move move.DropRunnable f) rest l e good h = was-dropped s p f rest l e good h
 needs-over s p _ rest l e good h = tt
 
 -- the end of user code
 keeps-react : (p : ℕ) (o : Op) (u : UserEnd) (w : World) → accepts o u ≡ true → KeepsAsked w (o ∷ []) (react p o u w)
-keeps-react p (op.Poll f) (end.Polled answer.Pending) w a = asked-pending p w f
-keeps-react p (op.Poll f) (end.Polled answer.Ready) w a = asked-ready p w f
-keeps-react p (op.Drop f) end.Done w a = λ g r bb h. h
-keeps-react p (op.DropOutput f) end.Done w a = λ g r bb h. h
-keeps-react p (op.CallOutside x) end.Done w a = λ g r bb h. h
+keeps-react p (op.User (user_op.Poll f)) (end.Polled answer.Pending) w a = asked-pending p w f
+keeps-react p (op.User (user_op.Poll f)) (end.Polled answer.Ready) w a = asked-ready p w f
+keeps-react p (op.User (user_op.Drop f)) end.Done w a = λ g r bb h. h
+keeps-react p (op.User (user_op.DropOutput f)) end.Done w a = λ g r bb h. h
+keeps-react p (op.User (user_op.CallOutside x)) end.Done w a = λ g r bb h. h
 keeps-react p _ _ w a = absurd (cc)
 
 -- the beginning of a call
@@ -88,25 +96,25 @@ asks-with : (w : World) (p : ℕ) (c : Call) (x : Option ℕ) (d : ℕ → Done)
 asks-with w p c None d k = asks-nothing w p c
 asks-with w p c (Some f) d k = k f
 
-asks-enter : (w : World) (p : ℕ) (c : Call) → KeepsAsked w [] (done (log w (event.CallBegun p c)) (op.Enter ∷ []))
+asks-enter : (w : World) (p : ℕ) (c : Call) → KeepsAsked w [] (done (log w (event.CallBegun p c)) (op.Table table_op.Enter ∷ []))
 asks-enter w p c g r bb h = grind (arith, request-push, phase-push)
 
-asks-take : (w : World) (p : ℕ) (c : Call) → KeepsAsked w [] (done (log w (event.CallBegun p c)) (op.Take ∷ []))
+asks-take : (w : World) (p : ℕ) (c : Call) → KeepsAsked w [] (done (log w (event.CallBegun p c)) (op.Queue queue_op.Take ∷ []))
 asks-take w p c g r bb h = grind (arith, request-push, phase-push)
 
-asks-look : (w : World) (p : ℕ) (c : Call) → KeepsAsked w [] (done (log w (event.CallBegun p c)) (op.LookAtTable ∷ []))
+asks-look : (w : World) (p : ℕ) (c : Call) → KeepsAsked w [] (done (log w (event.CallBegun p c)) (op.Table table_op.LookAtTable ∷ []))
 asks-look w p c g r bb h = grind (arith, request-push, phase-push)
 
-asks-wake : (w : World) (p k f : ℕ) (c : Call) → KeepsAsked w [] (done (used_up (log w (event.CallBegun p c)) k) (op.Wake f ∷ op.End reply.Done hold.Nothing ∷ []))
+asks-wake : (w : World) (p k f : ℕ) (c : Call) → KeepsAsked w [] (done (used_up (log w (event.CallBegun p c)) k) (op.Move move.Wake f ∷ op.End reply.Done hold.Nothing ∷ []))
 asks-wake w p k f c g r bb h = grind (arith, request-push, phase-push)
 
-asks-release : (w : World) (p k f : ℕ) (c : Call) → KeepsAsked w [] (done (used_up (log w (event.CallBegun p c)) k) (op.Release f ∷ op.End reply.Done hold.Nothing ∷ []))
+asks-release : (w : World) (p k f : ℕ) (c : Call) → KeepsAsked w [] (done (used_up (log w (event.CallBegun p c)) k) (op.Move move.Release f ∷ op.End reply.Done hold.Nothing ∷ []))
 asks-release w p k f c g r bb h = grind (arith, request-push, phase-push)
 
 asks-list : (w : World) (p : ℕ) (c : Call) (os : List Op) → ((g : ℕ) (r : Pend) → with_ops g os r ≡ with_ops g [] r) → KeepsAsked w [] (done (log w (event.CallBegun p c)) os)
 asks-list w p c os a g r bb h = subst (Asked (log w (event.CallBegun p c)) g) (sym (a g r)) (asks-nothing w p c g r bb h)
 
-asks-drop : (w : World) (p : ℕ) (c : Call) → KeepsAsked w [] (done (log (record (log w (event.CallBegun p c)) { gone = true }) (event.DropBegun p)) (op.TakeOut ∷ op.End reply.Done hold.Nothing ∷ []))
+asks-drop : (w : World) (p : ℕ) (c : Call) → KeepsAsked w [] (done (log (record (log w (event.CallBegun p c)) { gone = true }) (event.DropBegun p)) (op.Closing closing_op.TakeOut ∷ op.End reply.Done hold.Nothing ∷ []))
 asks-drop w p c g r bb h = grind (arith, request-push, phase-push)
 
 asks : (w : World) (p : ℕ) (here : Option ℕ) (c : Call) → KeepsAsked w [] (begun p (log w (event.CallBegun p c)) here c)
@@ -114,15 +122,15 @@ asks w p here call.Spawn = asks-enter w p call.Spawn
 asks w p here call.TryTick = asks-take w p call.TryTick
 asks w p here call.IsEmpty = asks-look w p call.IsEmpty
 asks w p here (call.Wake k) = asks-with w p (call.Wake k) (kept w k) _ (λ f. asks-wake w p k f (call.Wake k))
-asks w p here (call.WakeByRef k) = asks-with w p (call.WakeByRef k) (kept w k) _ (λ f. asks-list w p (call.WakeByRef k) (op.WakeByReference f ∷ op.End reply.Done (hold.Waker k) ∷ []) (λ g r. refl))
-asks w p here (call.Copy k) = asks-with w p (call.Copy k) (kept w k) _ (λ f. asks-list w p (call.Copy k) (op.CopyWaker f (hold.Waker k) ∷ []) (λ g r. refl))
+asks w p here (call.WakeByRef k) = asks-with w p (call.WakeByRef k) (kept w k) _ (λ f. asks-list w p (call.WakeByRef k) (op.Move move.WakeByReference f ∷ op.End reply.Done (hold.Waker k) ∷ []) (λ g r. refl))
+asks w p here (call.Copy k) = asks-with w p (call.Copy k) (kept w k) _ (λ f. asks-list w p (call.Copy k) (op.Waker (waker_op.CopyWaker f (hold.Waker k)) ∷ []) (λ g r. refl))
 asks w p here (call.DropWaker k) = asks-with w p (call.DropWaker k) (kept w k) _ (λ f. asks-release w p k f (call.DropWaker k))
-asks w p here call.Keep = asks-with w p call.Keep here _ (λ f. asks-list w p call.Keep (op.CopyWaker f hold.Nothing ∷ []) (λ g r. refl))
-asks w p here call.WakeSelf = asks-with w p call.WakeSelf here _ (λ f. asks-list w p call.WakeSelf (op.WakeByReference f ∷ op.End reply.Done hold.Nothing ∷ []) (λ g r. refl))
-asks w p here (call.PollHandle f b) = asks-list w p (call.PollHandle f b) (op.Look f (waker_of here b) ∷ []) (λ g r. refl)
-asks w p here (call.Cancel f) = asks-list w p (call.Cancel f) (op.Cancel f ∷ op.End reply.Done (hold.Handle f) ∷ []) (λ g r. refl)
-asks w p here (call.Detach f) = asks-list w p (call.Detach f) (op.Detach f ∷ op.End reply.Done (hold.Handle f) ∷ []) (λ g r. refl)
-asks w p here (call.DropHandle f) = asks-list w p (call.DropHandle f) (op.Cancel f ∷ op.Detach f ∷ op.End reply.Done (hold.Handle f) ∷ []) (λ g r. refl)
+asks w p here call.Keep = asks-with w p call.Keep here _ (λ f. asks-list w p call.Keep (op.Waker (waker_op.CopyWaker f hold.Nothing) ∷ []) (λ g r. refl))
+asks w p here call.WakeSelf = asks-with w p call.WakeSelf here _ (λ f. asks-list w p call.WakeSelf (op.Move move.WakeByReference f ∷ op.End reply.Done hold.Nothing ∷ []) (λ g r. refl))
+asks w p here (call.PollHandle f b) = asks-list w p (call.PollHandle f b) (op.Handle (handle_op.Look f (waker_of here b)) ∷ []) (λ g r. refl)
+asks w p here (call.Cancel f) = asks-list w p (call.Cancel f) (op.Move move.Cancel f ∷ op.End reply.Done (hold.Handle f) ∷ []) (λ g r. refl)
+asks w p here (call.Detach f) = asks-list w p (call.Detach f) (op.Move move.Detach f ∷ op.End reply.Done (hold.Handle f) ∷ []) (λ g r. refl)
+asks w p here (call.DropHandle f) = asks-list w p (call.DropHandle f) (op.Move move.Cancel f ∷ op.Move move.Detach f ∷ op.End reply.Done (hold.Handle f) ∷ []) (λ g r. refl)
 asks w p here call.DropExecutor = asks-drop w p call.DropExecutor
 
 -- every step

@@ -10,9 +10,13 @@ use Rattle.executor_model.specs.declared.op.Awaiter.{Awaiter}
 use Rattle.executor_model.specs.declared.op.Hold.TheVariants as hold
 use Rattle.executor_model.specs.declared.op.Op.{Op}
 use Rattle.executor_model.specs.declared.op.Op.TheVariants as op
+use Rattle.executor_model.specs.declared.op.HandleOp.TheVariants as handle_op
+use Rattle.task_moves.specs.declared.moves.owed.Move.TheVariants as move
+use Rattle.executor_model.specs.declared.op.WakerOp.TheVariants as waker_op
 use Rattle.executor_model.specs.Trace.{Trace, takes_handle}
 use Rattle.executor_model.specs.World.{World, Done, task, awaiter_of}
-use Rattle.executor_model.specs.Weights.{same, weigh, weigh_all, handling_of, holds_handle}
+use Rattle.executor_model.specs.Weights.{same, weigh, weigh_all, holds_handle}
+use Rattle.executor_model.specs.Rows.{handling_of}
 use Rattle.executor_model.specs.Sound.{Pend, with_ops, tokens, times}
 use Rattle.executor_model.specs.Acts.{closing_ops}
 use Rattle.executor_model.proofs.Lists.{same_cases, weigh-closing}
@@ -74,22 +78,22 @@ heard-none g = refl
 
 -- stages of a poll of the handle: it may be refused yet
 abbrev pub looks_of : ℕ → Op → ℕ
-looks_of g (op.Look f a) = same g f
-looks_of g (op.CopyAwaiter f a) = same g f
+looks_of g (op.Handle (handle_op.Look f a)) = same g f
+looks_of g (op.Handle (handle_op.CopyAwaiter f a)) = same g f
 looks_of g _ = 0
 
 -- and it wasn't refused
 
 abbrev pub fresh_of : ℕ → Op → ℕ
-fresh_of g (op.Register f a k) = same g f
+fresh_of g (op.Handle (handle_op.Register f a k)) = same g f
 fresh_of g _ = 0
 
 abbrev pub storing_of : ℕ → Op → ℕ
-storing_of g (op.EndRegister f a k) = same g f
+storing_of g (op.Handle (handle_op.EndRegister f a k)) = same g f
 storing_of g _ = 0
 
 abbrev pub again_of : ℕ → Op → ℕ
-again_of g (op.LookAgain f) = same g f
+again_of g (op.Handle (handle_op.LookAgain f)) = same g f
 again_of g _ = 0
 
 -- its end, where that is the answer that there is no output yet
@@ -104,37 +108,37 @@ over_of g (op.End reply.Cancelled (hold.Handle f)) = same g f
 over_of g _ = 0
 
 abbrev pub notices_of : ℕ → Op → ℕ
-notices_of g (op.Notify f mine) = same g f
+notices_of g (op.Handle (handle_op.Notify f mine)) = same g f
 notices_of g _ = 0
 
 abbrev pub notifying_of : ℕ → Op → ℕ
-notifying_of g (op.EndNotify f mine) = same g f
+notifying_of g (op.Handle (handle_op.EndNotify f mine)) = same g f
 notifying_of g _ = 0
 
 -- the two by a poll of the handle itself
 abbrev pub mine_of : ℕ → Op → ℕ
-mine_of g (op.Notify f true) = same g f
-mine_of g (op.EndNotify f true) = same g f
+mine_of g (op.Handle (handle_op.Notify f true)) = same g f
+mine_of g (op.Handle (handle_op.EndNotify f true)) = same g f
 mine_of g _ = 0
 
 abbrev pub detaches_of : ℕ → Op → ℕ
-detaches_of g (op.Detach f) = same g f
+detaches_of g (op.Move move.Detach f) = same g f
 detaches_of g _ = 0
 
 -- a copy of a waker that would hold the handle
 abbrev pub lending_of : ℕ → Op → ℕ
-lending_of g (op.CopyWaker f held) = holds_handle g held
+lending_of g (op.Waker (waker_op.CopyWaker f held)) = holds_handle g held
 lending_of g _ = 0
 
 -- the waker of another poll than k is about to be stored
 abbrev pub strays_of : ℕ → ℕ → Op → ℕ
-strays_of g k (op.Register f a l) = cond (g == f) (cond (k == l) 0 1) 0
-strays_of g k (op.EndRegister f a l) = cond (g == f) (cond (k == l) 0 1) 0
+strays_of g k (op.Handle (handle_op.Register f a l)) = cond (g == f) (cond (k == l) 0 1) 0
+strays_of g k (op.Handle (handle_op.EndRegister f a l)) = cond (g == f) (cond (k == l) 0 1) 0
 strays_of g k _ = 0
 
 -- the waker of poll k is about to be called
 abbrev pub calls_of : ℕ → ℕ → Op → ℕ
-calls_of g k (op.CallAwaiter f a l) = cond (g == f) (same k l) 0
+calls_of g k (op.Waker (waker_op.CallAwaiter f a l)) = cond (g == f) (same k l) 0
 calls_of g k _ = 0
 
 -- what the parties have still to do with the handle of g and its awaiter

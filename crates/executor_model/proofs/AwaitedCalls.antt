@@ -13,6 +13,12 @@ use Rattle.executor_model.specs.declared.op.Hold.{Hold}
 use Rattle.executor_model.specs.declared.op.Hold.TheVariants as hold
 use Rattle.executor_model.specs.declared.op.Waker.{Waker}
 use Rattle.executor_model.specs.declared.op.Op.TheVariants as op
+use Rattle.executor_model.specs.declared.op.ClosingOp.TheVariants as closing_op
+use Rattle.executor_model.specs.declared.op.HandleOp.TheVariants as handle_op
+use Rattle.task_moves.specs.declared.moves.owed.Move.TheVariants as move
+use Rattle.executor_model.specs.declared.op.QueueOp.TheVariants as queue_op
+use Rattle.executor_model.specs.declared.op.TableOp.TheVariants as table_op
+use Rattle.executor_model.specs.declared.op.WakerOp.TheVariants as waker_op
 use Rattle.executor_model.specs.World.{World, Done, done, log}
 use Rattle.executor_model.specs.Weights.{same}
 use Rattle.executor_model.specs.Sound.{Pend, with_ops}
@@ -48,48 +54,48 @@ begins-with : (w : World) (p : ℕ) (c : Call) (x : Option ℕ) (d : ℕ → Don
 begins-with w p c None d k = begins-nothing w p c
 begins-with w p c (Some f) d k = k f
 
-begins-spawn : (w : World) (p : ℕ) → KeepsBegun w p (done (log w (event.CallBegun p call.Spawn)) (op.Enter ∷ []))
+begins-spawn : (w : World) (p : ℕ) → KeepsBegun w p (done (log w (event.CallBegun p call.Spawn)) (op.Table table_op.Enter ∷ []))
 begins-spawn w p g r y m b h = grind (arith, heard-push)
 
-begins-tick : (w : World) (p : ℕ) → KeepsBegun w p (done (log w (event.CallBegun p call.TryTick)) (op.Take ∷ []))
+begins-tick : (w : World) (p : ℕ) → KeepsBegun w p (done (log w (event.CallBegun p call.TryTick)) (op.Queue queue_op.Take ∷ []))
 begins-tick w p g r y m b h = grind (arith, heard-push)
 
-begins-look : (w : World) (p : ℕ) → KeepsBegun w p (done (log w (event.CallBegun p call.IsEmpty)) (op.LookAtTable ∷ []))
+begins-look : (w : World) (p : ℕ) → KeepsBegun w p (done (log w (event.CallBegun p call.IsEmpty)) (op.Table table_op.LookAtTable ∷ []))
 begins-look w p g r y m b h = grind (arith, heard-push)
 
-begins-wake : (w : World) (p k f : ℕ) → KeepsBegun w p (done (used_up (log w (event.CallBegun p (call.Wake k))) k) (op.Wake f ∷ op.End reply.Done hold.Nothing ∷ []))
+begins-wake : (w : World) (p k f : ℕ) → KeepsBegun w p (done (used_up (log w (event.CallBegun p (call.Wake k))) k) (op.Move move.Wake f ∷ op.End reply.Done hold.Nothing ∷ []))
 begins-wake w p k f g r y m b h = grind (arith, heard-push)
 
-begins-wake_by_ref : (w : World) (p k f : ℕ) → KeepsBegun w p (done (log w (event.CallBegun p (call.WakeByRef k))) (op.WakeByReference f ∷ op.End reply.Done (hold.Waker k) ∷ []))
+begins-wake_by_ref : (w : World) (p k f : ℕ) → KeepsBegun w p (done (log w (event.CallBegun p (call.WakeByRef k))) (op.Move move.WakeByReference f ∷ op.End reply.Done (hold.Waker k) ∷ []))
 begins-wake_by_ref w p k f g r y m b h = grind (arith, heard-push)
 
-begins-copy : (w : World) (p k f : ℕ) → KeepsBegun w p (done (log w (event.CallBegun p (call.Copy k))) (op.CopyWaker f (hold.Waker k) ∷ []))
+begins-copy : (w : World) (p k f : ℕ) → KeepsBegun w p (done (log w (event.CallBegun p (call.Copy k))) (op.Waker (waker_op.CopyWaker f (hold.Waker k)) ∷ []))
 begins-copy w p k f g r y m b h = grind (arith, heard-push)
 
-begins-drop_waker : (w : World) (p k f : ℕ) → KeepsBegun w p (done (used_up (log w (event.CallBegun p (call.DropWaker k))) k) (op.Release f ∷ op.End reply.Done hold.Nothing ∷ []))
+begins-drop_waker : (w : World) (p k f : ℕ) → KeepsBegun w p (done (used_up (log w (event.CallBegun p (call.DropWaker k))) k) (op.Move move.Release f ∷ op.End reply.Done hold.Nothing ∷ []))
 begins-drop_waker w p k f g r y m b h = grind (arith, heard-push)
 
-begins-keep : (w : World) (p f : ℕ) → KeepsBegun w p (done (log w (event.CallBegun p call.Keep)) (op.CopyWaker f hold.Nothing ∷ []))
+begins-keep : (w : World) (p f : ℕ) → KeepsBegun w p (done (log w (event.CallBegun p call.Keep)) (op.Waker (waker_op.CopyWaker f hold.Nothing) ∷ []))
 begins-keep w p f g r y m b h = grind (arith, heard-push)
 
-begins-wake_self : (w : World) (p f : ℕ) → KeepsBegun w p (done (log w (event.CallBegun p call.WakeSelf)) (op.WakeByReference f ∷ op.End reply.Done hold.Nothing ∷ []))
+begins-wake_self : (w : World) (p f : ℕ) → KeepsBegun w p (done (log w (event.CallBegun p call.WakeSelf)) (op.Move move.WakeByReference f ∷ op.End reply.Done hold.Nothing ∷ []))
 begins-wake_self w p f g r y m b h = grind (arith, heard-push)
 
-begins-drop : (w : World) (p : ℕ) → KeepsBegun w p (done (log (record (log w (event.CallBegun p call.DropExecutor)) { gone = true }) (event.DropBegun p)) (op.TakeOut ∷ op.End reply.Done hold.Nothing ∷ []))
+begins-drop : (w : World) (p : ℕ) → KeepsBegun w p (done (log (record (log w (event.CallBegun p call.DropExecutor)) { gone = true }) (event.DropBegun p)) (op.Closing closing_op.TakeOut ∷ op.End reply.Done hold.Nothing ∷ []))
 begins-drop w p g r y m b h = grind (arith, heard-push)
 
 -- calls on the handle, which no other call uses
 
-begins-poll : (w : World) (p f : ℕ) (x : By) (a : Waker) (g : ℕ) (r : Pend) (y : Awaiting) (m : Mark) → f < length w.tasks → same g f + y.handling ≤ 1 → Footing w g (with_ops g [] r) (with_awaiting g [] y) → Awaits w g (with_ops g [] r) (with_awaiting g [] y) m → Awaits (log w (event.CallBegun p (call.PollHandle f x))) g (with_ops g (op.Look f a ∷ []) r) (with_awaiting g (op.Look f a ∷ []) y) (begun_in p g m)
+begins-poll : (w : World) (p f : ℕ) (x : By) (a : Waker) (g : ℕ) (r : Pend) (y : Awaiting) (m : Mark) → f < length w.tasks → same g f + y.handling ≤ 1 → Footing w g (with_ops g [] r) (with_awaiting g [] y) → Awaits w g (with_ops g [] r) (with_awaiting g [] y) m → Awaits (log w (event.CallBegun p (call.PollHandle f x))) g (with_ops g (op.Handle (handle_op.Look f a) ∷ []) r) (with_awaiting g (op.Handle (handle_op.Look f a) ∷ []) y) (begun_in p g m)
 begins-poll w p f x a g r y m i u b h = grind (arith, same_is, heard-push)
 
-begins-cancel : (w : World) (p f : ℕ) (g : ℕ) (r : Pend) (y : Awaiting) (m : Mark) → f < length w.tasks → same g f + y.handling ≤ 1 → Footing w g (with_ops g [] r) (with_awaiting g [] y) → Awaits w g (with_ops g [] r) (with_awaiting g [] y) m → Awaits (log w (event.CallBegun p (call.Cancel f))) g (with_ops g (op.Cancel f ∷ op.End reply.Done (hold.Handle f) ∷ []) r) (with_awaiting g (op.Cancel f ∷ op.End reply.Done (hold.Handle f) ∷ []) y) (begun_in p g m)
+begins-cancel : (w : World) (p f : ℕ) (g : ℕ) (r : Pend) (y : Awaiting) (m : Mark) → f < length w.tasks → same g f + y.handling ≤ 1 → Footing w g (with_ops g [] r) (with_awaiting g [] y) → Awaits w g (with_ops g [] r) (with_awaiting g [] y) m → Awaits (log w (event.CallBegun p (call.Cancel f))) g (with_ops g (op.Move move.Cancel f ∷ op.End reply.Done (hold.Handle f) ∷ []) r) (with_awaiting g (op.Move move.Cancel f ∷ op.End reply.Done (hold.Handle f) ∷ []) y) (begun_in p g m)
 begins-cancel w p f g r y m i u b h = grind (arith, same_is, heard-push)
 
-begins-detach : (w : World) (p f : ℕ) (g : ℕ) (r : Pend) (y : Awaiting) (m : Mark) → f < length w.tasks → same g f + y.handling ≤ 1 → Footing w g (with_ops g [] r) (with_awaiting g [] y) → Awaits w g (with_ops g [] r) (with_awaiting g [] y) m → Awaits (log w (event.CallBegun p (call.Detach f))) g (with_ops g (op.Detach f ∷ op.End reply.Done (hold.Handle f) ∷ []) r) (with_awaiting g (op.Detach f ∷ op.End reply.Done (hold.Handle f) ∷ []) y) (begun_in p g m)
+begins-detach : (w : World) (p f : ℕ) (g : ℕ) (r : Pend) (y : Awaiting) (m : Mark) → f < length w.tasks → same g f + y.handling ≤ 1 → Footing w g (with_ops g [] r) (with_awaiting g [] y) → Awaits w g (with_ops g [] r) (with_awaiting g [] y) m → Awaits (log w (event.CallBegun p (call.Detach f))) g (with_ops g (op.Move move.Detach f ∷ op.End reply.Done (hold.Handle f) ∷ []) r) (with_awaiting g (op.Move move.Detach f ∷ op.End reply.Done (hold.Handle f) ∷ []) y) (begun_in p g m)
 begins-detach w p f g r y m i u b h = grind (arith, same_is, heard-push)
 
-begins-drop_handle : (w : World) (p f : ℕ) (g : ℕ) (r : Pend) (y : Awaiting) (m : Mark) → f < length w.tasks → same g f + y.handling ≤ 1 → Footing w g (with_ops g [] r) (with_awaiting g [] y) → Awaits w g (with_ops g [] r) (with_awaiting g [] y) m → Awaits (log w (event.CallBegun p (call.DropHandle f))) g (with_ops g (op.Cancel f ∷ op.Detach f ∷ op.End reply.Done (hold.Handle f) ∷ []) r) (with_awaiting g (op.Cancel f ∷ op.Detach f ∷ op.End reply.Done (hold.Handle f) ∷ []) y) (begun_in p g m)
+begins-drop_handle : (w : World) (p f : ℕ) (g : ℕ) (r : Pend) (y : Awaiting) (m : Mark) → f < length w.tasks → same g f + y.handling ≤ 1 → Footing w g (with_ops g [] r) (with_awaiting g [] y) → Awaits w g (with_ops g [] r) (with_awaiting g [] y) m → Awaits (log w (event.CallBegun p (call.DropHandle f))) g (with_ops g (op.Move move.Cancel f ∷ op.Move move.Detach f ∷ op.End reply.Done (hold.Handle f) ∷ []) r) (with_awaiting g (op.Move move.Cancel f ∷ op.Move move.Detach f ∷ op.End reply.Done (hold.Handle f) ∷ []) y) (begun_in p g m)
 begins-drop_handle w p f g r y m i u b h = grind (arith, same_is, heard-push)
 
 -- the call needs the handle of f

@@ -18,6 +18,13 @@ use Rattle.executor_model.specs.declared.op.Hold.{Hold}
 use Rattle.executor_model.specs.declared.op.Hold.TheVariants as hold
 use Rattle.executor_model.specs.declared.op.Op.{Op}
 use Rattle.executor_model.specs.declared.op.Op.TheVariants as op
+use Rattle.executor_model.specs.declared.op.ClosingOp.TheVariants as closing_op
+use Rattle.executor_model.specs.declared.op.HandleOp.TheVariants as handle_op
+use Rattle.task_moves.specs.declared.moves.owed.Move.TheVariants as move
+use Rattle.executor_model.specs.declared.op.QueueOp.TheVariants as queue_op
+use Rattle.executor_model.specs.declared.op.TableOp.TheVariants as table_op
+use Rattle.executor_model.specs.declared.op.UserOp.TheVariants as user_op
+use Rattle.executor_model.specs.declared.op.WakerOp.TheVariants as waker_op
 use Rattle.executor_model.specs.declared.step.Hint.{Hint}
 use Rattle.executor_model.specs.declared.step.Step.{Step}
 use Rattle.executor_model.specs.declared.step.UserEnd.{UserEnd}
@@ -25,8 +32,8 @@ use Rattle.executor_model.specs.declared.step.UserEnd.TheVariants as end
 use Rattle.executor_model.specs.World.{World, Done, done, log, log_if, task}
 use Rattle.executor_model.specs.Carried.{awaiter_ops}
 use Rattle.executor_model.specs.Acts.{append_by, take_by, enter_by, leave_by, copy_by, look_by, look_again_by, copy_awaiter_by, register_by, end_register_by, notify_by, call_awaiter, closing_ops, drop_next_by, wake, wake_next_by, close, drain_by, act}
-use Rattle.executor_model.specs.Weights.{weigh, weigh_all, borrowing_of}
-use Rattle.executor_model.specs.Sound.{ousting_of}
+use Rattle.executor_model.specs.Weights.{weigh, weigh_all}
+use Rattle.executor_model.specs.Rows.{borrowing_of, ousting_of}
 use Rattle.executor_model.specs.Good.{Good}
 use Rattle.executor_model.specs.Steps.{Machine, stack, top, run, start, polled_by, is_free, has_all, is_on_executor, is_drop, is_unused, kept, with_future, accepts, begun, react}
 use Rattle.executor_model.proofs.Cases.{by_bool, by_list}
@@ -48,19 +55,19 @@ abbrev pub lists : World → Lists
 lists w = record { gone = w.gone; leaving = length w.leaving; waking = length w.waking; closed = w.queue.closed; items = length w.queue.items }
 
 abbrev pub dropping_of : Op → ℕ
-dropping_of op.DropNext = 1
+dropping_of (op.Closing closing_op.DropNext) = 1
 dropping_of _ = 0
 
 abbrev pub rousing_of : Op → ℕ
-rousing_of op.WakeNext = 1
+rousing_of (op.Closing closing_op.WakeNext) = 1
 rousing_of _ = 0
 
 abbrev pub shutting_of : Op → ℕ
-shutting_of op.Close = 1
+shutting_of (op.Closing closing_op.Close) = 1
 shutting_of _ = 0
 
 abbrev pub draining_of : Op → ℕ
-draining_of op.Drain = 1
+draining_of (op.Closing closing_op.Drain) = 1
 draining_of _ = 0
 
 -- the steps that are left of it
@@ -103,14 +110,19 @@ abbrev pub KeepsSweeps : World → List Op → Done → Type 0
 KeepsSweeps w old d = (r : Sweep) → Sweeps (lists w) (with_sweep old r) → Sweeps (lists d.world) (with_sweep d.next r)
 
 rough-more : (o : Op) → ousting_of o + (dropping_of o + (rousing_of o + (shutting_of o + draining_of o))) ≤ rough_of o
-rough-more op.TakeOut = omega arith
-rough-more op.DropNext = omega arith
-rough-more op.WakeNext = omega arith
-rough-more op.Close = omega arith
-rough-more op.Drain = omega arith
-rough-more (op.Notify f true) = omega arith
-rough-more (op.Notify f false) = omega arith
-rough-more (op.EndNotify f mine) = omega arith
+rough-more (op.Closing closing_op.TakeOut) = omega arith
+rough-more (op.Closing closing_op.DropNext) = omega arith
+rough-more (op.Closing closing_op.WakeNext) = omega arith
+rough-more (op.Closing closing_op.Close) = omega arith
+rough-more (op.Closing closing_op.Drain) = omega arith
+rough-more (op.Handle (handle_op.Notify f true)) = omega arith
+rough-more (op.Handle (handle_op.Notify f false)) = omega arith
+rough-more (op.Handle (handle_op.EndNotify f mine)) = omega arith
+rough-more (op.Move move.Wake f) = omega arith
+rough-more (op.Table table_op.Enter) = omega arith
+rough-more (op.Queue queue_op.Take) = omega arith
+rough-more (op.User (user_op.Drop f)) = omega arith
+rough-more (op.Waker (waker_op.CopyWaker f held)) = omega arith
 rough-more _ = omega arith
 
 rough-weighs : (os : List Op) → weigh ousting_of os + (weigh dropping_of os + (weigh rousing_of os + (weigh shutting_of os + weigh draining_of os))) ≤ weigh rough_of os
@@ -186,38 +198,39 @@ same-call p w f (Outside x) k = refl
 
 -- the queue, the two lists and their steps
 abbrev pub is_sweeping : Op → Bool
-is_sweeping op.Take = true
-is_sweeping (op.Append f) = true
-is_sweeping op.TakeOut = true
-is_sweeping op.DropNext = true
-is_sweeping op.WakeNext = true
-is_sweeping op.Close = true
-is_sweeping op.Drain = true
+is_sweeping (op.Queue queue_op.Take) = true
+is_sweeping (op.Queue (queue_op.Append f)) = true
+is_sweeping (op.Closing closing_op.TakeOut) = true
+is_sweeping (op.Closing closing_op.DropNext) = true
+is_sweeping (op.Closing closing_op.WakeNext) = true
+is_sweeping (op.Closing closing_op.Close) = true
+is_sweeping (op.Closing closing_op.Drain) = true
 is_sweeping _ = false
 
 same-act : (p : ℕ) (h : Hint) (o : Op) (w : World) → is_sweeping o ≡ false → lists w ≡ lists (act p h o w).world
-same-act p h op.Enter w n = same-enter _ _ p w
-same-act p h (op.WakeByReference f) w n = same-log_if _ w (event.Woken p f)
-same-act p h (op.Wake f) w n = same-log_if _ w (event.Woken p f)
-same-act p h (op.TakeUp f) w n = same-log_if _ w (event.PollBegun p f)
-same-act p h (op.Cancel f) w n = same-log_if _ w (event.Cancelled p f)
-same-act p h (op.Detach f) w n = same-log_if _ w (event.Detached p f)
-same-act p h (op.LeaveTable f) w n = same-leave _ w f
-same-act p h (op.CopyWaker f held) w n = same-copy _ w f held
-same-act p h (op.Look f a) w n = same-look (moves.poll (task w f)).owed.answer p w f a (moves.poll (task w f))
-same-act p h (op.CopyAwaiter f a) w n = same-copy_awaiter _ p w f a
-same-act p h (op.Register f a k) w n = same-register _ w f a k
-same-act p h (op.EndRegister f a k) w n = same-end_register _ w f a k
-same-act p h (op.LookAgain f) w n = same-again (moves.look_again (task w f)).owed.answer p w f (moves.look_again (task w f))
-same-act p h (op.Notify f mine) w n = same-notify _ w f mine
-same-act p h (op.CallAwaiter f a k) w n = same-call p w f a k
-same-act p h op.Take w n = absurd (cc)
-same-act p h (op.Append f) w n = absurd (cc)
-same-act p h op.TakeOut w n = absurd (cc)
-same-act p h op.DropNext w n = absurd (cc)
-same-act p h op.WakeNext w n = absurd (cc)
-same-act p h op.Close w n = absurd (cc)
-same-act p h op.Drain w n = absurd (cc)
+same-act p h (op.Table table_op.Enter) w n = same-enter _ _ p w
+same-act p h (op.Move move.WakeByReference f) w n = same-log_if _ w (event.Woken p f)
+same-act p h (op.Move move.Wake f) w n = same-log_if _ w (event.Woken p f)
+same-act p h (op.Move move.TakeUp f) w n = same-log_if _ w (event.PollBegun p f)
+same-act p h (op.Move move.Cancel f) w n = same-log_if _ w (event.Cancelled p f)
+same-act p h (op.Move move.Detach f) w n = same-log_if _ w (event.Detached p f)
+same-act p h (op.Table (table_op.LeaveTable f)) w n = same-leave _ w f
+same-act p h (op.Waker (waker_op.CopyWaker f held)) w n = same-copy _ w f held
+same-act p h (op.Handle (handle_op.Look f a)) w n = same-look (moves.poll (task w f)).owed.answer p w f a (moves.poll (task w f))
+same-act p h (op.Handle (handle_op.CopyAwaiter f a)) w n = same-copy_awaiter _ p w f a
+same-act p h (op.Handle (handle_op.Register f a k)) w n = same-register _ w f a k
+same-act p h (op.Handle (handle_op.EndRegister f a k)) w n = same-end_register _ w f a k
+same-act p h (op.Handle (handle_op.LookAgain f)) w n = same-again (moves.look_again (task w f)).owed.answer p w f (moves.look_again (task w f))
+same-act p h (op.Handle (handle_op.Notify f mine)) w n = same-notify _ w f mine
+same-act p h (op.Waker (waker_op.CallAwaiter f a k)) w n = same-call p w f a k
+same-act p h (op.Queue queue_op.Take) w n = absurd (cc)
+same-act p h (op.Queue (queue_op.Append f)) w n = absurd (cc)
+same-act p h (op.Closing closing_op.TakeOut) w n = absurd (cc)
+same-act p h (op.Closing closing_op.DropNext) w n = absurd (cc)
+same-act p h (op.Closing closing_op.WakeNext) w n = absurd (cc)
+same-act p h (op.Closing closing_op.Close) w n = absurd (cc)
+same-act p h (op.Closing closing_op.Drain) w n = absurd (cc)
+same-act p h (op.User (user_op.BeginDrop f)) w n = refl
 same-act p h _ w n = refl
 
 -- what a poll of the handle leads to
@@ -247,18 +260,24 @@ no-notify true w f mine = refl
 no-notify false w f mine = refl
 
 no-self : (o : Op) → is_sweeping o ≡ false → NoSteps (o ∷ [])
-no-self op.TakeOut n = absurd (cc)
-no-self op.DropNext n = absurd (cc)
-no-self op.WakeNext n = absurd (cc)
-no-self op.Close n = absurd (cc)
-no-self op.Drain n = absurd (cc)
+no-self (op.Closing closing_op.TakeOut) n = absurd (cc)
+no-self (op.Closing closing_op.DropNext) n = absurd (cc)
+no-self (op.Closing closing_op.WakeNext) n = absurd (cc)
+no-self (op.Closing closing_op.Close) n = absurd (cc)
+no-self (op.Closing closing_op.Drain) n = absurd (cc)
+no-self (op.Move move.Wake f) n = refl
+no-self (op.Table table_op.Enter) n = refl
+no-self (op.Queue queue_op.Take) n = refl
+no-self (op.User (user_op.Drop f)) n = refl
+no-self (op.Waker (waker_op.CopyWaker f held)) n = refl
+no-self (op.Handle (handle_op.LookAgain f)) n = refl
 no-self _ n = refl
 
 no-act : (p : ℕ) (h : Hint) (o : Op) (w : World) (b : Bool) → is_special o ≡ b → is_sweeping o ≡ false → NoSteps (act p h o w).next
 no-act p h o w false s n = no-steps _ (plain-act p h o w s)
-no-act p h (op.Look f a) w true s n = no-look _ _ _ p w f a
-no-act p h (op.LookAgain f) w true s n = no-again _ _ _ p w f
-no-act p h (op.Notify f mine) w true s n = no-notify _ w f mine
+no-act p h (op.Handle (handle_op.Look f a)) w true s n = no-look _ _ _ p w f a
+no-act p h (op.Handle (handle_op.LookAgain f)) w true s n = no-again _ _ _ p w f
+no-act p h (op.Handle (handle_op.Notify f mine)) w true s n = no-notify _ w f mine
 no-act p h _ w true s n = absurd (cc)
 
 -- the queue
@@ -267,72 +286,72 @@ open-queue : (c l : Bool) → (not c && l) ≡ true → c ≡ false
 open-queue false l e = refl
 open-queue true l e = absurd (cc)
 
-sweeps-append : (b : Bool) (w : World) (f : ℕ) → (b ≡ true → w.queue.closed ≡ false) → KeepsSweeps w (op.Append f ∷ []) (append_by b w f)
+sweeps-append : (b : Bool) (w : World) (f : ℕ) → (b ≡ true → w.queue.closed ≡ false) → KeepsSweeps w (op.Queue (queue_op.Append f) ∷ []) (append_by b w f)
 sweeps-append = by_bool _
     (λ w f c r h. let z : w.queue.closed ≡ false = c refl in grind (arith, length-append))
     (λ w f c r h. grind arith)
 
-sweeps-take : (q : List ℕ) (w : World) → w.queue.items ≡ q → KeepsSweeps w (op.Take ∷ []) (take_by w q)
+sweeps-take : (q : List ℕ) (w : World) → w.queue.items ≡ q → KeepsSweeps w (op.Queue queue_op.Take ∷ []) (take_by w q)
 sweeps-take = by_list _
     (λ w e r h. grind arith)
     (λ f rest w e r h. let z : suc (length (drop 1 w.queue.items)) ≡ length w.queue.items = rw e refl in grind arith)
 
 -- the steps of the executor's drop
 
-sweeps-take_out : (ls ws : List ℕ) (w : World) → w.table ≡ ls → w.waking ≡ ws → KeepsSweeps w (op.TakeOut ∷ []) (done (record w { table = w.leaving; leaving = w.table }) (closing_ops ls ws))
+sweeps-take_out : (ls ws : List ℕ) (w : World) → w.table ≡ ls → w.waking ≡ ws → KeepsSweeps w (op.Closing closing_op.TakeOut ∷ []) (done (record w { table = w.leaving; leaving = w.table }) (closing_ops ls ws))
 sweeps-take_out = by_list _
     (by_list _
     (λ w e q r h. let z : length w.waking ≡ 0 = ap length q in grind arith)
     (λ x ws w e q r h. let z : length w.waking ≡ suc (length ws) = ap length q in grind arith))
     (λ x ls ws w e q r h. let z : length w.table ≡ suc (length ls) = ap length e in grind arith)
 
-sweeps-closing : (rest ws : List ℕ) (p : ℕ) (w : World) (f : ℕ) → 1 ≤ length ws → ws ≡ w.waking ++ f ∷ [] → w.leaving ≡ f ∷ rest → KeepsSweeps w (op.DropNext ∷ []) (done (log (record w { leaving = rest; waking = ws; inside = set w.inside f false }) (event.Dropped p f)) (op.Drop f ∷ closing_ops rest ws))
+sweeps-closing : (rest ws : List ℕ) (p : ℕ) (w : World) (f : ℕ) → 1 ≤ length ws → ws ≡ w.waking ++ f ∷ [] → w.leaving ≡ f ∷ rest → KeepsSweeps w (op.Closing closing_op.DropNext ∷ []) (done (log (record w { leaving = rest; waking = ws; inside = set w.inside f false }) (event.Dropped p f)) (op.User (user_op.Drop f) ∷ closing_ops rest ws))
 sweeps-closing = by_list _
     (by_list _
     (λ p w f n q e r h. absurd (omega (arith, n)))
     (λ y ws p w f n q e r h. grind arith))
     (λ y ls ws p w f n q e r h. grind arith)
 
-sweeps-drop_next : (p : ℕ) (w : World) (ls : List ℕ) → w.leaving ≡ ls → KeepsSweeps w (op.DropNext ∷ []) (drop_next_by p w ls)
+sweeps-drop_next : (p : ℕ) (w : World) (ls : List ℕ) → w.leaving ≡ ls → KeepsSweeps w (op.Closing closing_op.DropNext ∷ []) (drop_next_by p w ls)
 sweeps-drop_next = λ p w. by_list _
     (λ e r h. let z : length w.leaving ≡ 0 = ap length e in absurd (grind arith))
     (λ f rest e r h. sweeps-closing rest (w.waking ++ f ∷ []) p w f (omega (arith, length-append w.waking (f ∷ []))) refl e r h)
 
-sweeps-woken : (rest : List ℕ) (o : Bool) (p : ℕ) (w v : World) (f : ℕ) (next : List Op) → w.waking ≡ f ∷ rest → lists (record w { waking = rest }) ≡ lists v → NoSteps next → KeepsSweeps w (op.WakeNext ∷ []) (done v (next ++ closing_ops [] rest))
+sweeps-woken : (rest : List ℕ) (o : Bool) (p : ℕ) (w v : World) (f : ℕ) (next : List Op) → w.waking ≡ f ∷ rest → lists (record w { waking = rest }) ≡ lists v → NoSteps next → KeepsSweeps w (op.Closing closing_op.WakeNext ∷ []) (done v (next ++ closing_ops [] rest))
 sweeps-woken = by_list _
-    (λ o p w v f next e q n r h. subst (λ (l : Lists). Sweeps l (with_sweep (next ++ op.Close ∷ []) r)) q (let a : _ = weigh-append ousting_of next (op.Close ∷ []) in let b : _ = weigh-append dropping_of next (op.Close ∷ []) in let c : _ = weigh-append rousing_of next (op.Close ∷ []) in let d : _ = weigh-append shutting_of next (op.Close ∷ []) in let k : _ = weigh-append draining_of next (op.Close ∷ []) in grind arith))
-    (λ y ys o p w v f next e q n r h. subst (λ (l : Lists). Sweeps l (with_sweep (next ++ op.WakeNext ∷ []) r)) q (let a : _ = weigh-append ousting_of next (op.WakeNext ∷ []) in let b : _ = weigh-append dropping_of next (op.WakeNext ∷ []) in let c : _ = weigh-append rousing_of next (op.WakeNext ∷ []) in let d : _ = weigh-append shutting_of next (op.WakeNext ∷ []) in let k : _ = weigh-append draining_of next (op.WakeNext ∷ []) in grind arith))
+    (λ o p w v f next e q n r h. subst (λ (l : Lists). Sweeps l (with_sweep (next ++ op.Closing closing_op.Close ∷ []) r)) q (let a : _ = weigh-append ousting_of next (op.Closing closing_op.Close ∷ []) in let b : _ = weigh-append dropping_of next (op.Closing closing_op.Close ∷ []) in let c : _ = weigh-append rousing_of next (op.Closing closing_op.Close ∷ []) in let d : _ = weigh-append shutting_of next (op.Closing closing_op.Close ∷ []) in let k : _ = weigh-append draining_of next (op.Closing closing_op.Close ∷ []) in grind arith))
+    (λ y ys o p w v f next e q n r h. subst (λ (l : Lists). Sweeps l (with_sweep (next ++ op.Closing closing_op.WakeNext ∷ []) r)) q (let a : _ = weigh-append ousting_of next (op.Closing closing_op.WakeNext ∷ []) in let b : _ = weigh-append dropping_of next (op.Closing closing_op.WakeNext ∷ []) in let c : _ = weigh-append rousing_of next (op.Closing closing_op.WakeNext ∷ []) in let d : _ = weigh-append shutting_of next (op.Closing closing_op.WakeNext ∷ []) in let k : _ = weigh-append draining_of next (op.Closing closing_op.WakeNext ∷ []) in grind arith))
 
-sweeps-wake_next : (p : ℕ) (w : World) (ws : List ℕ) → w.waking ≡ ws → KeepsSweeps w (op.WakeNext ∷ []) (wake_next_by p w ws)
+sweeps-wake_next : (p : ℕ) (w : World) (ws : List ℕ) → w.waking ≡ ws → KeepsSweeps w (op.Closing closing_op.WakeNext ∷ []) (wake_next_by p w ws)
 sweeps-wake_next = λ p w. by_list _
     (λ e r h. let z : length w.waking ≡ 0 = ap length e in absurd (grind arith))
     (λ f rest e r h. sweeps-woken rest true p w (wake p (record w { waking = rest }) f).world f (wake p (record w { waking = rest }) f).next e (same-log_if _ (record w { waking = rest }) (event.Woken p f)) (no-steps _ (plain-wake p (record w { waking = rest }) f)) r h)
 
-sweeps-close : (w : World) → KeepsSweeps w (op.Close ∷ []) (close w)
+sweeps-close : (w : World) → KeepsSweeps w (op.Closing closing_op.Close ∷ []) (close w)
 sweeps-close w r h = grind arith
 
-sweeps-drain : (q : List ℕ) (p : ℕ) (w : World) → w.queue.items ≡ q → KeepsSweeps w (op.Drain ∷ []) (drain_by p w q)
+sweeps-drain : (q : List ℕ) (p : ℕ) (w : World) → w.queue.items ≡ q → KeepsSweeps w (op.Closing closing_op.Drain ∷ []) (drain_by p w q)
 sweeps-drain = by_list _
     (λ p w e r h. let z : length w.queue.items ≡ 0 = ap length e in grind arith)
     (λ f rest p w e r h. let z : suc (length (drop 1 w.queue.items)) ≡ length w.queue.items = rw e refl in grind arith)
 
 sweeps-act : (b : Bool) (p : ℕ) (h : Hint) (o : Op) (w : World) → is_sweeping o ≡ b → KeepsSweeps w (o ∷ []) (act p h o w)
 sweeps-act false p h o w n = sweeps-still w (o ∷ []) (act p h o w) (same-act p h o w n) (no-self o n) (no-act p h o w _ refl n)
-sweeps-act true p h op.Take w n = sweeps-take _ w refl
-sweeps-act true p h (op.Append f) w n = sweeps-append _ w f (open-queue w.queue.closed _)
-sweeps-act true p h op.TakeOut w n = sweeps-take_out _ _ w refl refl
-sweeps-act true p h op.DropNext w n = sweeps-drop_next p w _ refl
-sweeps-act true p h op.WakeNext w n = sweeps-wake_next p w _ refl
-sweeps-act true p h op.Close w n = sweeps-close w
-sweeps-act true p h op.Drain w n = sweeps-drain _ p w refl
+sweeps-act true p h (op.Queue queue_op.Take) w n = sweeps-take _ w refl
+sweeps-act true p h (op.Queue (queue_op.Append f)) w n = sweeps-append _ w f (open-queue w.queue.closed _)
+sweeps-act true p h (op.Closing closing_op.TakeOut) w n = sweeps-take_out _ _ w refl refl
+sweeps-act true p h (op.Closing closing_op.DropNext) w n = sweeps-drop_next p w _ refl
+sweeps-act true p h (op.Closing closing_op.WakeNext) w n = sweeps-wake_next p w _ refl
+sweeps-act true p h (op.Closing closing_op.Close) w n = sweeps-close w
+sweeps-act true p h (op.Closing closing_op.Drain) w n = sweeps-drain _ p w refl
 sweeps-act true p h _ w n = absurd (cc)
 
 sweeps-react : (p : ℕ) (o : Op) (u : UserEnd) (w : World) → accepts o u ≡ true → KeepsSweeps w (o ∷ []) (react p o u w)
-sweeps-react p (op.Poll f) (end.Polled answer.Pending) w a r h = h
-sweeps-react p (op.Poll f) (end.Polled answer.Ready) w a r h = h
-sweeps-react p (op.Drop f) end.Done w a r h = h
-sweeps-react p (op.DropOutput f) end.Done w a r h = h
-sweeps-react p (op.CallOutside x) end.Done w a r h = h
+sweeps-react p (op.User (user_op.Poll f)) (end.Polled answer.Pending) w a r h = h
+sweeps-react p (op.User (user_op.Poll f)) (end.Polled answer.Ready) w a r h = h
+sweeps-react p (op.User (user_op.Drop f)) end.Done w a r h = h
+sweeps-react p (op.User (user_op.DropOutput f)) end.Done w a r h = h
+sweeps-react p (op.User (user_op.CallOutside x)) end.Done w a r h = h
 sweeps-react p _ _ w a r h = absurd (cc)
 
 -- calls

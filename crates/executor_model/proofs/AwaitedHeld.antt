@@ -5,6 +5,7 @@ use Rattle.executor_model.specs.declared.call.Reply.TheVariants as reply
 use Rattle.executor_model.specs.declared.op.Hold.TheVariants as hold
 use Rattle.executor_model.specs.declared.op.Op.{Op}
 use Rattle.executor_model.specs.declared.op.Op.TheVariants as op
+use Rattle.executor_model.specs.declared.op.HandleOp.TheVariants as handle_op
 use Rattle.executor_model.specs.Weights.{same, weigh}
 use Rattle.executor_model.proofs.Lists.{same_is, weigh-append, weigh-reverse}
 use Rattle.executor_model.proofs.Calls.{calling_of, Answering, Passes}
@@ -41,9 +42,9 @@ asks-weighs g [] = refl
 asks-weighs g (o ∷ os) = omega (arith, asks-weighs g os)
 
 asks-calling : (g : ℕ) (o : Op) → asks_of g o ≤ calling_of o
-asks-calling g (op.Register f a k) = grind (arith, same_is)
-asks-calling g (op.EndRegister f a k) = grind (arith, same_is)
-asks-calling g (op.LookAgain f) = grind (arith, same_is)
+asks-calling g (op.Handle (handle_op.Register f a k)) = grind (arith, same_is)
+asks-calling g (op.Handle (handle_op.EndRegister f a k)) = grind (arith, same_is)
+asks-calling g (op.Handle (handle_op.LookAgain f)) = grind (arith, same_is)
 asks-calling g (op.End reply.Pending (hold.Handle f)) = grind (arith, same_is)
 asks-calling g (op.End reply.Ready (hold.Handle f)) = grind (arith, same_is)
 asks-calling g (op.End reply.Cancelled (hold.Handle f)) = grind (arith, same_is)

@@ -1,12 +1,8 @@
 -- Who notifies for the handle itself, and the steps of the executor's drop: most of what is done leads to nothing of these.
 use Rattle.std.proofs.Common.{◌≡◌, ℕ, List, [], ◌∷◌, ◌++◌, Bool, true, false, refl, ap, arith}
 use Rattle.std.specs.Prelude.{Option, Some, None}
-use Rattle.task_moves.specs.declared.schedule_info.ScheduleInfo.{ScheduleInfo}
 use Rattle.task_moves.specs.declared.moves.state.State.{State}
-use Rattle.task_moves.specs.declared.moves.owed.Move.{Move}
 use Rattle.task_moves.specs.declared.moves.owed.Move.TheVariants as move
-use Rattle.task_moves.specs.declared.moves.owed.FutureDebt.{FutureDebt}
-use Rattle.task_moves.specs.declared.moves.owed.FutureDebt.TheVariants.{PollFuture, DropFuture}
 use Rattle.task_moves.specs.declared.moves.owed.AwaiterDebt.{AwaiterDebt}
 use Rattle.task_moves.specs.declared.moves.owed.Owed.{Owed}
 use Rattle.task_moves.specs.declared.moves.owed.Moved.{Moved}
@@ -19,59 +15,44 @@ use Rattle.executor_model.specs.declared.op.Waker.TheVariants.{Task, Outside}
 use Rattle.executor_model.specs.declared.op.Hold.{Hold}
 use Rattle.executor_model.specs.declared.op.Op.{Op}
 use Rattle.executor_model.specs.declared.op.Op.TheVariants as op
+use Rattle.executor_model.specs.declared.op.ClosingOp.TheVariants as closing_op
+use Rattle.executor_model.specs.declared.op.HandleOp.TheVariants as handle_op
+use Rattle.executor_model.specs.declared.op.QueueOp.TheVariants as queue_op
+use Rattle.executor_model.specs.declared.op.TableOp.TheVariants as table_op
+use Rattle.executor_model.specs.declared.op.UserOp.TheVariants as user_op
+use Rattle.executor_model.specs.declared.op.WakerOp.TheVariants as waker_op
 use Rattle.executor_model.specs.declared.event.Answer.TheVariants as answer
 use Rattle.executor_model.specs.declared.step.Hint.{Hint}
 use Rattle.executor_model.specs.declared.step.UserEnd.{UserEnd}
 use Rattle.executor_model.specs.declared.step.UserEnd.TheVariants as end
 use Rattle.executor_model.specs.World.{World, Done, task, among, awaiter_of}
-use Rattle.executor_model.specs.Carried.{owed_ops, schedule_ops, future_ops, output_ops, awaiter_ops, next_ops}
+use Rattle.executor_model.specs.Carried.{owed_ops, awaiter_ops}
 use Rattle.executor_model.specs.Acts.{append_by, take_by, enter_by, leave_by, copy_by, copy_awaiter_by, register_by, waker_goes, let_go, end_register_by, told, call_awaiter, wake, act}
 use Rattle.executor_model.specs.Weights.{weigh}
 use Rattle.executor_model.specs.Steps.{with_future, kept, accepts, is_drop, begun, react}
 use Rattle.executor_model.proofs.Lists.{weigh-append}
+use Rattle.executor_model.proofs.Owed.{owed-future, owed-nothing}
 
 -- a notice by a poll of the handle itself, the rest of a notice, and the steps of the executor's drop
 abbrev pub rough_of : Op → ℕ
-rough_of (op.Notify f true) = 1
-rough_of (op.EndNotify f mine) = 1
-rough_of op.TakeOut = 1
-rough_of op.DropNext = 1
-rough_of op.WakeNext = 1
-rough_of op.Close = 1
-rough_of op.Drain = 1
+rough_of (op.Handle (handle_op.Notify f true)) = 1
+rough_of (op.Handle (handle_op.EndNotify f mine)) = 1
+rough_of (op.Closing closing_op.TakeOut) = 1
+rough_of (op.Closing closing_op.DropNext) = 1
+rough_of (op.Closing closing_op.WakeNext) = 1
+rough_of (op.Closing closing_op.Close) = 1
+rough_of (op.Closing closing_op.Drain) = 1
 rough_of _ = 0
 
 plain-both : (xs ys : List Op) → weigh rough_of xs ≡ 0 → weigh rough_of ys ≡ 0 → weigh rough_of (xs ++ ys) ≡ 0
 plain-both xs ys a b = omega (arith, weigh-append rough_of xs ys, a, b)
 
-plain-scheduled : (f : ℕ) (o : Option ScheduleInfo) → weigh rough_of (schedule_ops f o) ≡ 0
-plain-scheduled f (Some info) = refl
-plain-scheduled f None = refl
-
-plain-output : (f : ℕ) (b : Bool) → weigh rough_of (output_ops b f) ≡ 0
-plain-output f true = refl
-plain-output f false = refl
-
-plain-future : (there : Bool) (f : ℕ) (o : Option FutureDebt) → weigh rough_of (future_ops there f o) ≡ 0
-plain-future there f (Some PollFuture) = refl
-plain-future true f (Some DropFuture) = refl
-plain-future false f (Some DropFuture) = refl
-plain-future there f None = refl
-
 plain-notify_if : (f : ℕ) (b : Bool) → weigh rough_of (awaiter_ops f (moves.notify_if b)) ≡ 0
 plain-notify_if f true = refl
 plain-notify_if f false = refl
 
-plain-next : (f : ℕ) (o : Option Move) → weigh rough_of (next_ops f o) ≡ 0
-plain-next f (Some move.Release) = refl
-plain-next f (Some move.SettleClosed) = refl
-plain-next f (Some move.GiveUp) = refl
-plain-next f (Some move.EndClosed) = refl
-plain-next f (Some move.Detach) = refl
-plain-next f _ = refl
-
 plain-owed : (f : ℕ) (there : Bool) (o : Owed) → weigh rough_of (awaiter_ops f o.awaiter) ≡ 0 → weigh rough_of (owed_ops there f o) ≡ 0
-plain-owed f there o z = plain-both _ _ (plain-both _ _ (plain-both _ _ (plain-both _ _ (plain-scheduled f o.schedule) (plain-future there f o.future)) (plain-output f o.drop_output)) z) (plain-next f o.next)
+plain-owed f there o z = owed-nothing rough_of f (record { append = refl; output = refl; release = refl; settle_closed = refl; give_up = refl; end_closed = refl; detach = refl }) there o (owed-future rough_of f (record { poll = refl; drop = refl }) there o.future) z
 
 -- a move at which no awaiter is owed
 plain-carried : (f : ℕ) (there : Bool) (m : Moved) → m.owed.awaiter ≡ None → weigh rough_of (owed_ops there f m.owed) ≡ 0
@@ -145,8 +126,8 @@ plain-let_go None = refl
 plain-let_go (Some a) = plain-goes a.waker
 
 plain-end_register : (b : Bool) (w : World) (f : ℕ) (a : Waker) (k : ℕ) → weigh rough_of (end_register_by b w f a k).next ≡ 0
-plain-end_register true w f a k = omega (arith, plain-both (let_go (awaiter_of w f)) (op.LookAgain f ∷ []) (plain-let_go (awaiter_of w f)) refl)
-plain-end_register false w f a k = plain-both (let_go (awaiter_of w f)) (op.LookAgain f ∷ []) (plain-let_go (awaiter_of w f)) refl
+plain-end_register true w f a k = omega (arith, plain-both (let_go (awaiter_of w f)) (op.Handle (handle_op.LookAgain f) ∷ []) (plain-let_go (awaiter_of w f)) refl)
+plain-end_register false w f a k = plain-both (let_go (awaiter_of w f)) (op.Handle (handle_op.LookAgain f) ∷ []) (plain-let_go (awaiter_of w f)) refl
 
 plain-told : (b : Bool) (f : ℕ) (a : Option Awaiter) → weigh rough_of (told b f a) ≡ 0
 plain-told b f None = refl
@@ -166,58 +147,56 @@ plain-leave false w f = refl
 
 -- but for these
 abbrev pub is_special : Op → Bool
-is_special (op.Look f a) = true
-is_special (op.LookAgain f) = true
-is_special (op.Notify f mine) = true
-is_special op.TakeOut = true
-is_special op.DropNext = true
-is_special op.WakeNext = true
-is_special op.Close = true
-is_special op.Drain = true
+is_special (op.Handle (handle_op.Look f a)) = true
+is_special (op.Handle (handle_op.LookAgain f)) = true
+is_special (op.Handle (handle_op.Notify f mine)) = true
+is_special (op.Closing closing_op.TakeOut) = true
+is_special (op.Closing closing_op.DropNext) = true
+is_special (op.Closing closing_op.WakeNext) = true
+is_special (op.Closing closing_op.Close) = true
+is_special (op.Closing closing_op.Drain) = true
 is_special _ = false
 
 pub plain-act : (p : ℕ) (h : Hint) (o : Op) (w : World) → is_special o ≡ false → weigh rough_of (act p h o w).next ≡ 0
-plain-act p h op.Enter w n = plain-enter _ _ p w
-plain-act p h op.Take w n = plain-take _ w
-plain-act p h op.LookAtTable w n = refl
-plain-act p h (op.Append f) w n = plain-append _ w f
-plain-act p h (op.WakeByReference f) w n = plain-carried f _ (moves.wake_by_reference (task w f)) (no-wake _ _ (task w f))
-plain-act p h (op.Wake f) w n = plain-wake p w f
-plain-act p h (op.Release f) w n = plain-carried f _ (moves.release (task w f)) (no-release _ _ (task w f))
-plain-act p h (op.TakeUp f) w n = plain-carried f _ (moves.take_up (task w f)) (no-take_up _ (task w f))
-plain-act p h (op.SettleClosed f) w n = plain-owed f (among f w.table) (moves.settle_closed (task w f)).owed (plain-notify_if f (task w f).awaiter)
-plain-act p h (op.GiveUp f) w n = plain-carried f _ (moves.give_up (task w f)) (no-give_up _ (task w f))
-plain-act p h (op.EndReady f) w n = plain-owed f (among f w.table) (moves.end_ready (task w f)).owed (plain-notify_if f (task w f).awaiter)
-plain-act p h (op.EndPending f) w n = plain-carried f _ (moves.end_pending (task w f)) (no-end_pending _ _ _ (task w f))
-plain-act p h (op.EndClosed f) w n = plain-owed f (among f w.table) (moves.end_closed (task w f)).owed (plain-notify_if f (task w f).awaiter)
-plain-act p h (op.DropRunnable f) w n = plain-carried f (among f w.table) (moves.drop_runnable (task w f)) refl
-plain-act p h (op.Cancel f) w n = plain-owed f _ (moves.cancel (task w f)).owed (plain-cancel _ _ f (task w f))
-plain-act p h (op.Detach f) w n = plain-carried f _ (moves.detach (task w f)) (no-detach _ _ (task w f))
-plain-act p h (op.TakeToPoll f) w n = refl
-plain-act p h (op.Poll f) w n = refl
-plain-act p h (op.PutBack f) w n = refl
-plain-act p h (op.TakeToDrop f) w n = refl
-plain-act p h (op.BeginDrop f) w n = refl
-plain-act p h (op.Drop f) w n = refl
-plain-act p h (op.LeaveTable f) w n = plain-leave _ w f
-plain-act p h (op.BeginDropOutput f) w n = refl
-plain-act p h (op.DropOutput f) w n = refl
-plain-act p h (op.CopyWaker f held) w n = plain-copy _ w f held
-plain-act p h (op.CopyAwaiter f a) w n = plain-copy_awaiter _ p w f a
-plain-act p h (op.Register f a k) w n = plain-register _ w f a k
-plain-act p h (op.EndRegister f a k) w n = plain-end_register _ w f a k
-plain-act p h (op.EndNotify f mine) w n = plain-told _ f (awaiter_of w f)
-plain-act p h (op.CallAwaiter f a k) w n = plain-call p w f a k
-plain-act p h (op.CallOutside x) w n = refl
-plain-act p h (op.End a held) w n = refl
-plain-act p h _ w n = absurd (cc)
+plain-act p h (op.Table table_op.Enter) w n = plain-enter _ _ p w
+plain-act p h (op.Queue queue_op.Take) w n = plain-take _ w
+plain-act p h (op.Queue (queue_op.Append f)) w n = plain-append _ w f
+plain-act p h (op.Move move.WakeByReference f) w n = plain-carried f _ (moves.wake_by_reference (task w f)) (no-wake _ _ (task w f))
+plain-act p h (op.Move move.Wake f) w n = plain-wake p w f
+plain-act p h (op.Move move.Release f) w n = plain-carried f _ (moves.release (task w f)) (no-release _ _ (task w f))
+plain-act p h (op.Move move.TakeUp f) w n = plain-carried f _ (moves.take_up (task w f)) (no-take_up _ (task w f))
+plain-act p h (op.Move move.SettleClosed f) w n = plain-owed f (among f w.table) (moves.settle_closed (task w f)).owed (plain-notify_if f (task w f).awaiter)
+plain-act p h (op.Move move.GiveUp f) w n = plain-carried f _ (moves.give_up (task w f)) (no-give_up _ (task w f))
+plain-act p h (op.Move move.EndReady f) w n = plain-owed f (among f w.table) (moves.end_ready (task w f)).owed (plain-notify_if f (task w f).awaiter)
+plain-act p h (op.Move move.EndPending f) w n = plain-carried f _ (moves.end_pending (task w f)) (no-end_pending _ _ _ (task w f))
+plain-act p h (op.Move move.EndClosed f) w n = plain-owed f (among f w.table) (moves.end_closed (task w f)).owed (plain-notify_if f (task w f).awaiter)
+plain-act p h (op.Move move.DropRunnable f) w n = plain-carried f (among f w.table) (moves.drop_runnable (task w f)) refl
+plain-act p h (op.Move move.Cancel f) w n = plain-owed f _ (moves.cancel (task w f)).owed (plain-cancel _ _ f (task w f))
+plain-act p h (op.Move move.Detach f) w n = plain-carried f _ (moves.detach (task w f)) (no-detach _ _ (task w f))
+plain-act p h (op.Table (table_op.LeaveTable f)) w n = plain-leave _ w f
+plain-act p h (op.Waker (waker_op.CopyWaker f held)) w n = plain-copy _ w f held
+plain-act p h (op.Handle (handle_op.CopyAwaiter f a)) w n = plain-copy_awaiter _ p w f a
+plain-act p h (op.Handle (handle_op.Register f a k)) w n = plain-register _ w f a k
+plain-act p h (op.Handle (handle_op.EndRegister f a k)) w n = plain-end_register _ w f a k
+plain-act p h (op.Handle (handle_op.EndNotify f mine)) w n = plain-told _ f (awaiter_of w f)
+plain-act p h (op.Waker (waker_op.CallAwaiter f a k)) w n = plain-call p w f a k
+plain-act p h (op.Handle (handle_op.Look f a)) w n = absurd (cc)
+plain-act p h (op.Handle (handle_op.LookAgain f)) w n = absurd (cc)
+plain-act p h (op.Handle (handle_op.Notify f mine)) w n = absurd (cc)
+plain-act p h (op.Closing closing_op.TakeOut) w n = absurd (cc)
+plain-act p h (op.Closing closing_op.DropNext) w n = absurd (cc)
+plain-act p h (op.Closing closing_op.WakeNext) w n = absurd (cc)
+plain-act p h (op.Closing closing_op.Close) w n = absurd (cc)
+plain-act p h (op.Closing closing_op.Drain) w n = absurd (cc)
+plain-act p h (op.User (user_op.BeginDrop f)) w n = refl
+plain-act p h _ w n = refl
 
 pub plain-react : (p : ℕ) (o : Op) (e : UserEnd) (w : World) → accepts o e ≡ true → weigh rough_of (react p o e w).next ≡ 0
-plain-react p (op.Poll f) (end.Polled answer.Pending) w k = refl
-plain-react p (op.Poll f) (end.Polled answer.Ready) w k = refl
-plain-react p (op.Drop f) end.Done w k = refl
-plain-react p (op.DropOutput f) end.Done w k = refl
-plain-react p (op.CallOutside x) end.Done w k = refl
+plain-react p (op.User (user_op.Poll f)) (end.Polled answer.Pending) w k = refl
+plain-react p (op.User (user_op.Poll f)) (end.Polled answer.Ready) w k = refl
+plain-react p (op.User (user_op.Drop f)) end.Done w k = refl
+plain-react p (op.User (user_op.DropOutput f)) end.Done w k = refl
+plain-react p (op.User (user_op.CallOutside x)) end.Done w k = refl
 plain-react p _ _ w k = absurd (cc)
 
 plain-with : (v : World) (r : Option ℕ) (d : ℕ → Done) → ((f : ℕ) → weigh rough_of (d f).next ≡ 0) → weigh rough_of (with_future v r d).next ≡ 0

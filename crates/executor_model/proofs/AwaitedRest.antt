@@ -5,12 +5,12 @@ use Rattle.executor_model.specs.declared.step.Step.{Step}
 use Rattle.executor_model.specs.Trace.{Trace, is_dropped}
 use Rattle.executor_model.specs.AwaiterKept.{since, IsOverWithHandle, AwaiterIsKept}
 use Rattle.executor_model.specs.World.{World, task, blank}
-use Rattle.executor_model.specs.Weights.{handling_of, borrowing_of}
-use Rattle.executor_model.specs.Sound.{Sound, Pend, pend, times, phase, waiting_of, polls_of, ending_of, ready_of, settling_of, giving_of, drops_of, releases_of, copies_of, ousting_of}
-use Rattle.executor_model.specs.Sound as sound
+use Rattle.executor_model.specs.Sound.{Sound, Pend, pend, times, phase}
+use Rattle.executor_model.specs.Rows as rows
 use Rattle.executor_model.specs.Sound.Phase.{Over}
-use Rattle.executor_model.specs.Good.{Good, past}
-use Rattle.executor_model.specs.Entries.{leaves_of}
+use Rattle.executor_model.specs.Good.{Good}
+use Rattle.executor_model.specs.Weights.{past}
+use Rattle.executor_model.specs.Rows.{handling_of, borrowing_of, waiting_of, polls_of, ending_of, ready_of, settling_of, giving_of, drops_of, releases_of, copies_of, ousting_of, leaves_of}
 use Rattle.executor_model.specs.Steps.{Machine, stack, run, start}
 use Rattle.executor_model.proofs.Cases.{by_bool}
 use Rattle.executor_model.proofs.Lists.{past_is}
@@ -83,7 +83,7 @@ module _ (s : Machine) (fine : Good s) (h : Placed s) (d : Deep s) (v : Swept s)
     polls = all-rest (polls_of g) s.parties idle i;
     ending = all-rest (ending_of g) s.parties idle i;
     ready = all-rest (ready_of g) s.parties idle i;
-    closing = all-rest (sound.closing_of g) s.parties idle i;
+    closing = all-rest (rows.closing_of g) s.parties idle i;
     settling = all-rest (settling_of g) s.parties idle i;
     giving = all-rest (giving_of g) s.parties idle i;
     drops = all-rest (drops_of g) s.parties idle i;

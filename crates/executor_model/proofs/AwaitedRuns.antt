@@ -11,16 +11,19 @@ use Rattle.executor_model.specs.declared.op.Hold.{Hold}
 use Rattle.executor_model.specs.declared.op.Hold.TheVariants as hold
 use Rattle.executor_model.specs.declared.op.Op.{Op}
 use Rattle.executor_model.specs.declared.op.Op.TheVariants as op
+use Rattle.executor_model.specs.declared.op.HandleOp.TheVariants as handle_op
+use Rattle.executor_model.specs.declared.op.UserOp.TheVariants as user_op
 use Rattle.executor_model.specs.declared.step.Hint.{Hint}
 use Rattle.executor_model.specs.declared.step.Step.{Step}
 use Rattle.executor_model.specs.declared.step.UserEnd.{UserEnd}
 use Rattle.executor_model.specs.declared.step.UserEnd.TheVariants as end
 use Rattle.executor_model.specs.World.{World, Done, done, log, task}
 use Rattle.executor_model.specs.Acts.{act, is_copy_refused}
-use Rattle.executor_model.specs.Weights.{same, weigh, weigh_all, handling_of, borrowing_of}
-use Rattle.executor_model.specs.Sound.{Sound, Pend, pend, with_ops, waiting_of, polls_of, ending_of, ready_of, settling_of, giving_of, drops_of, releases_of, copies_of, ousting_of}
-use Rattle.executor_model.specs.Sound as sound
-use Rattle.executor_model.specs.Good.{Good, past, past_of}
+use Rattle.executor_model.specs.Weights.{same, weigh, weigh_all, past}
+use Rattle.executor_model.specs.Sound.{Pend, pend, with_ops}
+use Rattle.executor_model.specs.Rows as rows
+use Rattle.executor_model.specs.Good.{Good}
+use Rattle.executor_model.specs.Rows.{handling_of, borrowing_of, waiting_of, polls_of, ending_of, ready_of, settling_of, giving_of, drops_of, releases_of, copies_of, ousting_of, past_of}
 use Rattle.executor_model.specs.Steps.{Machine, stack, idle, run, start, polled_by, top, is_free, has_all, has_handle, is_on_executor, is_drop, is_unused, accepts, begun, react}
 use Rattle.task_moves.specs.Moves as moves
 use Rattle.executor_model.proofs.Lists.{same_is, same_cases, past_is, weigh-reverse, weigh_all-push}
@@ -52,11 +55,11 @@ nothing_awaited = record { handling = 0; looks = 0; fresh = 0; storing = 0; agai
 -- what each stack weighs
 
 stages-one : (g : ℕ) (o : Op) → looks_of g o + (fresh_of g o + (storing_of g o + (again_of g o + (waits_of g o + over_of g o)))) ≤ handling_of g o
-stages-one g (op.Look f a) = omega arith
-stages-one g (op.CopyAwaiter f a) = omega arith
-stages-one g (op.Register f a k) = omega arith
-stages-one g (op.EndRegister f a k) = omega arith
-stages-one g (op.LookAgain f) = omega arith
+stages-one g (op.Handle (handle_op.Look f a)) = omega arith
+stages-one g (op.Handle (handle_op.CopyAwaiter f a)) = omega arith
+stages-one g (op.Handle (handle_op.Register f a k)) = omega arith
+stages-one g (op.Handle (handle_op.EndRegister f a k)) = omega arith
+stages-one g (op.Handle (handle_op.LookAgain f)) = omega arith
 stages-one g (op.End reply.Pending (hold.Handle f)) = omega arith
 stages-one g (op.End reply.Ready (hold.Handle f)) = omega arith
 stages-one g (op.End reply.Cancelled (hold.Handle f)) = omega arith
@@ -76,8 +79,8 @@ one-stray true false n e = omega (arith, e)
 one-stray false c n e = omega arith
 
 few-one : (g k : ℕ) (o : Op) → strays_of g k o ≤ fresh_of g o + storing_of g o
-few-one g k (op.Register f a l) = omega (arith, one-stray (eqb g f) (eqb k l) (same g f) (same-cond g f))
-few-one g k (op.EndRegister f a l) = omega (arith, one-stray (eqb g f) (eqb k l) (same g f) (same-cond g f))
+few-one g k (op.Handle (handle_op.Register f a l)) = omega (arith, one-stray (eqb g f) (eqb k l) (same g f) (same-cond g f))
+few-one g k (op.Handle (handle_op.EndRegister f a l)) = omega (arith, one-stray (eqb g f) (eqb k l) (same g f) (same-cond g f))
 few-one g k _ = omega arith
 
 few-stack : (g k : ℕ) (os : List Op) → weigh (strays_of g k) os ≤ weigh (fresh_of g) os + weigh (storing_of g) os
@@ -227,8 +230,8 @@ asks-stays : (b : Bool) (p f g : ℕ) (o : Op) (m : Mark) → calling_of o ≡ 1
 asks-stays b p f g o m c = ⊎_elim (λ x. inl x) (λ x. inr (c, x.0, x.1, x.2)) (asks-is b p f g m)
 
 mark-stays : (p : ℕ) (t : Hint) (o : Op) (w : World) (g : ℕ) (m : Mark) → MarkStays p t o w g m
-mark-stays p t (op.Look f a) w g m = asks-stays (is_answer (moves.poll (task w f)).owed.answer) p f g (op.Look f a) m refl
-mark-stays p t (op.CopyAwaiter f a) w g m = asks-stays (not (is_copy_refused t w a)) p f g (op.CopyAwaiter f a) m refl
+mark-stays p t (op.Handle (handle_op.Look f a)) w g m = asks-stays (is_answer (moves.poll (task w f)).owed.answer) p f g (op.Handle (handle_op.Look f a)) m refl
+mark-stays p t (op.Handle (handle_op.CopyAwaiter f a)) w g m = asks-stays (not (is_copy_refused t w a)) p f g (op.Handle (handle_op.CopyAwaiter f a)) m refl
 mark-stays p t _ w g m = inl refl
 
 waited-acted : (s : Machine) (p : ℕ) (rest : List Op) (t : Hint) (o : Op) → is_end o ≡ false → p < length s.parties → stack s p ≡ rest ++ reverse (o ∷ []) → Good s → AllTied (unsettled s p rest (act p t o s.world)) → Waited s → Waited (unsettled s p rest (act p t o s.world))
@@ -250,11 +253,11 @@ waited-acted s p rest t o n l e good tied h = record {
 -- the end of user code
 
 passes-react : (p : ℕ) (o : Op) (u : UserEnd) (w : World) → accepts o u ≡ true → Passes o (react p o u w).next
-passes-react p (op.Poll f) (end.Polled answer.Pending) w a = record { none = λ z. refl; one = λ z. absurd (omega (arith, z)) }
-passes-react p (op.Poll f) (end.Polled answer.Ready) w a = record { none = λ z. refl; one = λ z. absurd (omega (arith, z)) }
-passes-react p (op.Drop f) end.Done w a = record { none = λ z. refl; one = λ z. absurd (omega (arith, z)) }
-passes-react p (op.DropOutput f) end.Done w a = record { none = λ z. refl; one = λ z. absurd (omega (arith, z)) }
-passes-react p (op.CallOutside x) end.Done w a = record { none = λ z. refl; one = λ z. absurd (omega (arith, z)) }
+passes-react p (op.User (user_op.Poll f)) (end.Polled answer.Pending) w a = record { none = λ z. refl; one = λ z. absurd (omega (arith, z)) }
+passes-react p (op.User (user_op.Poll f)) (end.Polled answer.Ready) w a = record { none = λ z. refl; one = λ z. absurd (omega (arith, z)) }
+passes-react p (op.User (user_op.Drop f)) end.Done w a = record { none = λ z. refl; one = λ z. absurd (omega (arith, z)) }
+passes-react p (op.User (user_op.DropOutput f)) end.Done w a = record { none = λ z. refl; one = λ z. absurd (omega (arith, z)) }
+passes-react p (op.User (user_op.CallOutside x)) end.Done w a = record { none = λ z. refl; one = λ z. absurd (omega (arith, z)) }
 passes-react p _ _ w a = absurd (cc)
 
 waited-reacted : (s : Machine) (p : ℕ) (rest : List Op) (o : Op) (u : UserEnd) → accepts o u ≡ true → p < length s.parties → stack s p ≡ rest ++ reverse (o ∷ []) → Good s → AllTied (unsettled s p rest (react p o u s.world)) → Waited s → Waited (unsettled s p rest (react p o u s.world))
@@ -373,7 +376,7 @@ waited-start limit n = record {
       polls = weigh_all-idle (polls_of g) n i;
       ending = weigh_all-idle (ending_of g) n i;
       ready = weigh_all-idle (ready_of g) n i;
-      closing = weigh_all-idle (sound.closing_of g) n i;
+      closing = weigh_all-idle (rows.closing_of g) n i;
       settling = weigh_all-idle (settling_of g) n i;
       giving = weigh_all-idle (giving_of g) n i;
       drops = weigh_all-idle (drops_of g) n i;

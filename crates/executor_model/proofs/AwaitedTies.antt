@@ -12,6 +12,8 @@ use Rattle.executor_model.specs.declared.op.Hold.TheVariants as hold
 use Rattle.executor_model.specs.declared.op.Waker.{Waker}
 use Rattle.executor_model.specs.declared.op.Op.{Op}
 use Rattle.executor_model.specs.declared.op.Op.TheVariants as op
+use Rattle.executor_model.specs.declared.op.ClosingOp.TheVariants as closing_op
+use Rattle.executor_model.specs.declared.op.HandleOp.TheVariants as handle_op
 use Rattle.executor_model.specs.declared.step.Hint.{Hint}
 use Rattle.executor_model.specs.World.{World, Done, done, task, log}
 use Rattle.executor_model.specs.Carried.{awaiter_ops}
@@ -40,10 +42,10 @@ ties-light : (g : ℕ) (old next : List Op) → weigh (mine_of g) next ≡ 0 →
 ties-light g old next z = record { keeps = λ below h. tied-light g below (reverse next) (omega (arith, weigh-reverse (mine_of g) next, z)) }
 
 none-mine : (g : ℕ) (o : Op) → rough_of o ≡ 0 → mine_of g o ≡ 0
-none-mine g (op.Notify f true) z = absurd (omega (arith, z))
-none-mine g (op.Notify f false) z = refl
-none-mine g (op.EndNotify f true) z = absurd (omega (arith, z))
-none-mine g (op.EndNotify f false) z = refl
+none-mine g (op.Handle (handle_op.Notify f true)) z = absurd (omega (arith, z))
+none-mine g (op.Handle (handle_op.Notify f false)) z = refl
+none-mine g (op.Handle (handle_op.EndNotify f true)) z = absurd (omega (arith, z))
+none-mine g (op.Handle (handle_op.EndNotify f false)) z = refl
 none-mine g _ z = refl
 
 pub none-mine-all : (g : ℕ) (os : List Op) → weigh rough_of os ≡ 0 → weigh (mine_of g) os ≡ 0
@@ -51,29 +53,29 @@ none-mine-all g [] z = refl
 none-mine-all g (o ∷ os) z = omega (arith, none-mine g o (omega (arith, z)), none-mine-all g os (omega (arith, z)))
 
 -- the poll that is answered and notifies
-ties-ready : (g f : ℕ) (old : List Op) → Ties g old (op.Notify f true ∷ op.End reply.Ready (hold.Handle f) ∷ [])
+ties-ready : (g f : ℕ) (old : List Op) → Ties g old (op.Handle (handle_op.Notify f true) ∷ op.End reply.Ready (hold.Handle f) ∷ [])
 ties-ready g f old = record { keeps = λ below h. (omega arith, (omega arith, tt)) }
 
-ties-cancelled : (g f : ℕ) (old : List Op) → Ties g old (op.Notify f true ∷ op.End reply.Cancelled (hold.Handle f) ∷ [])
+ties-cancelled : (g f : ℕ) (old : List Op) → Ties g old (op.Handle (handle_op.Notify f true) ∷ op.End reply.Cancelled (hold.Handle f) ∷ [])
 ties-cancelled g f old = record { keeps = λ below h. (omega arith, (omega arith, tt)) }
 
 ties-given : (a : Bool) (g f : ℕ) (old : List Op) → Ties g old (awaiter_ops f (moves.notify_other_if a) ++ op.End reply.Ready (hold.Handle f) ∷ [])
 ties-given true g f old = ties-ready g f old
 ties-given false g f old = ties-light g old _ refl
 
-ties-look : (x k c : Bool) (g p : ℕ) (w : World) (f : ℕ) (a : Waker) → Ties g (op.Look f a ∷ []) (look_by (moves.poll_by x k c (task w f)).owed.answer p w f a (moves.poll_by x k c (task w f))).next
+ties-look : (x k c : Bool) (g p : ℕ) (w : World) (f : ℕ) (a : Waker) → Ties g (op.Handle (handle_op.Look f a) ∷ []) (look_by (moves.poll_by x k c (task w f)).owed.answer p w f a (moves.poll_by x k c (task w f))).next
 ties-look true true c g p w f a = ties-light g _ _ refl
 ties-look true false c g p w f a = ties-cancelled g f _
 ties-look false k false g p w f a = ties-light g _ _ refl
 ties-look false k true g p w f a = ties-given (task w f).awaiter g f _
 
-ties-again : (x k c : Bool) (g p : ℕ) (w : World) (f : ℕ) → Ties g (op.LookAgain f ∷ []) (look_again_by (moves.look_again_by x k c (task w f)).owed.answer p w f (moves.look_again_by x k c (task w f))).next
+ties-again : (x k c : Bool) (g p : ℕ) (w : World) (f : ℕ) → Ties g (op.Handle (handle_op.LookAgain f) ∷ []) (look_again_by (moves.look_again_by x k c (task w f)).owed.answer p w f (moves.look_again_by x k c (task w f))).next
 ties-again true true c g p w f = ties-light g _ _ refl
 ties-again true false c g p w f = ties-cancelled g f _
 ties-again false k false g p w f = ties-light g _ _ refl
 ties-again false k true g p w f = ties-given (task w f).awaiter g f _
 
-ties-notify : (b mine : Bool) (g : ℕ) (w : World) (f : ℕ) → Ties g (op.Notify f mine ∷ []) (notify_by b w f mine).next
+ties-notify : (b mine : Bool) (g : ℕ) (w : World) (f : ℕ) → Ties g (op.Handle (handle_op.Notify f mine) ∷ []) (notify_by b w f mine).next
 ties-notify true mine g w f = ties-light g _ _ refl
 ties-notify false true g w f = record { keeps = λ below h. h }
 ties-notify false false g w f = record { keeps = λ below h. h }
@@ -83,28 +85,28 @@ none-closing g [] [] = refl
 none-closing g [] (x ∷ ws) = refl
 none-closing g (x ∷ ls) ws = refl
 
-ties-drop_next : (g p : ℕ) (w : World) (ls : List ℕ) → Ties g (op.DropNext ∷ []) (drop_next_by p w ls).next
+ties-drop_next : (g p : ℕ) (w : World) (ls : List ℕ) → Ties g (op.Closing closing_op.DropNext ∷ []) (drop_next_by p w ls).next
 ties-drop_next g p w [] = ties-light g _ _ refl
 ties-drop_next g p w (f ∷ rest) = ties-light g _ _ (omega (arith, none-closing g rest (w.waking ++ f ∷ [])))
 
-ties-wake_next : (g p : ℕ) (w : World) (ws : List ℕ) → Ties g (op.WakeNext ∷ []) (wake_next_by p w ws).next
+ties-wake_next : (g p : ℕ) (w : World) (ws : List ℕ) → Ties g (op.Closing closing_op.WakeNext ∷ []) (wake_next_by p w ws).next
 ties-wake_next g p w [] = ties-light g _ _ refl
 ties-wake_next g p w (f ∷ rest) = ties-light g _ _ (omega (arith, weigh-append (mine_of g) (wake p (record w { waking = rest }) f).next (closing_ops [] rest), none-mine-all g _ (plain-wake p (record w { waking = rest }) f), none-closing g [] rest))
 
-ties-drain : (g p : ℕ) (w : World) (q : List ℕ) → Ties g (op.Drain ∷ []) (drain_by p w q).next
+ties-drain : (g p : ℕ) (w : World) (q : List ℕ) → Ties g (op.Closing closing_op.Drain ∷ []) (drain_by p w q).next
 ties-drain g p w [] = ties-light g _ _ refl
 ties-drain g p w (f ∷ rest) = ties-light g _ _ refl
 
 ties-act : (b : Bool) (g p : ℕ) (h : Hint) (o : Op) (w : World) → is_special o ≡ b → Ties g (o ∷ []) (act p h o w).next
 ties-act false g p h o w n = ties-light g _ _ (none-mine-all g _ (plain-act p h o w n))
-ties-act true g p h (op.Look f a) w n = ties-look _ _ _ g p w f a
-ties-act true g p h (op.LookAgain f) w n = ties-again _ _ _ g p w f
-ties-act true g p h (op.Notify f mine) w n = ties-notify _ mine g w f
-ties-act true g p h op.TakeOut w n = ties-light g _ _ (none-closing g w.table w.waking)
-ties-act true g p h op.DropNext w n = ties-drop_next g p w w.leaving
-ties-act true g p h op.WakeNext w n = ties-wake_next g p w w.waking
-ties-act true g p h op.Close w n = ties-light g _ _ refl
-ties-act true g p h op.Drain w n = ties-drain g p w w.queue.items
+ties-act true g p h (op.Handle (handle_op.Look f a)) w n = ties-look _ _ _ g p w f a
+ties-act true g p h (op.Handle (handle_op.LookAgain f)) w n = ties-again _ _ _ g p w f
+ties-act true g p h (op.Handle (handle_op.Notify f mine)) w n = ties-notify _ mine g w f
+ties-act true g p h (op.Closing closing_op.TakeOut) w n = ties-light g _ _ (none-closing g w.table w.waking)
+ties-act true g p h (op.Closing closing_op.DropNext) w n = ties-drop_next g p w w.leaving
+ties-act true g p h (op.Closing closing_op.WakeNext) w n = ties-wake_next g p w w.waking
+ties-act true g p h (op.Closing closing_op.Close) w n = ties-light g _ _ refl
+ties-act true g p h (op.Closing closing_op.Drain) w n = ties-drain g p w w.queue.items
 ties-act true g p h _ w n = absurd (cc)
 
 ties-begun : (b : Bool) (g p : ℕ) (w : World) (here : Option ℕ) (c : Call) → is_drop c ≡ b → Ties g [] (begun p w here c).next

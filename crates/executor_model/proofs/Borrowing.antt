@@ -3,21 +3,27 @@ use Rattle.std.proofs.Common.{◌≡◌, ℕ, zero, suc, ◌+◌, ◌<◌, ◌�
 use Rattle.std.specs.Prelude.{reverse}
 use Rattle.executor_model.specs.declared.op.Op.{Op}
 use Rattle.executor_model.specs.declared.op.Op.TheVariants as op
-use Rattle.executor_model.specs.Weights.{weigh, weigh_all, borrowing_of}
-use Rattle.executor_model.specs.Sound.{drops_of}
+use Rattle.executor_model.specs.declared.op.ClosingOp.TheVariants as closing_op
+use Rattle.executor_model.specs.declared.op.HandleOp.TheVariants as handle_op
+use Rattle.executor_model.specs.declared.op.WakerOp.TheVariants as waker_op
+use Rattle.executor_model.specs.declared.op.QueueOp.TheVariants as queue_op
+use Rattle.task_moves.specs.declared.moves.owed.Move.TheVariants as move
+use Rattle.executor_model.specs.declared.op.TableOp.TheVariants as table_op
+use Rattle.executor_model.specs.declared.op.UserOp.TheVariants as user_op
+use Rattle.executor_model.specs.Weights.{weigh, weigh_all}
 use Rattle.executor_model.proofs.Lists.{same_is, weigh-reverse}
-use Rattle.executor_model.specs.Entries.{leaves_of}
+use Rattle.executor_model.specs.Rows.{borrowing_of, drops_of, leaves_of}
 
 -- what is only done inside of such a call
 abbrev pub uses_of : Op → ℕ
-uses_of (op.TakeUp f) = 1
-uses_of (op.TakeToPoll f) = 1
-uses_of (op.Poll f) = 1
-uses_of (op.PutBack f) = 1
-uses_of (op.EndPending f) = 1
-uses_of (op.TakeToDrop f) = 1
-uses_of (op.BeginDrop f) = 1
-uses_of (op.LeaveTable f) = 1
+uses_of (op.Move move.TakeUp f) = 1
+uses_of (op.Table (table_op.TakeToPoll f)) = 1
+uses_of (op.User (user_op.Poll f)) = 1
+uses_of (op.Table (table_op.PutBack f)) = 1
+uses_of (op.Move move.EndPending f) = 1
+uses_of (op.Table (table_op.TakeToDrop f)) = 1
+uses_of (op.User (user_op.BeginDrop f)) = 1
+uses_of (op.Table (table_op.LeaveTable f)) = 1
 uses_of _ = 0
 
 abbrev pub holds : Op → Bool
@@ -90,9 +96,14 @@ none-uses [] e z = refl
 none-uses (s ∷ ss) e z = omega (arith, unheld-stack s (omega (arith, e)), none-uses ss (omega (arith, e)) (omega (arith, z)), z)
 
 drop-uses : (g : ℕ) (o : Op) → drops_of g o + leaves_of g o ≤ uses_of o
-drop-uses g (op.TakeToDrop f) = grind (arith, same_is)
-drop-uses g (op.BeginDrop f) = grind (arith, same_is)
-drop-uses g (op.LeaveTable f) = grind (arith, same_is)
+drop-uses g (op.Table (table_op.TakeToDrop f)) = grind (arith, same_is)
+drop-uses g (op.User (user_op.BeginDrop f)) = grind (arith, same_is)
+drop-uses g (op.Table (table_op.LeaveTable f)) = grind (arith, same_is)
+drop-uses g (op.Move move.Wake f) = omega arith
+drop-uses g (op.Queue queue_op.Take) = omega arith
+drop-uses g (op.Waker (waker_op.CopyWaker f held)) = omega arith
+drop-uses g (op.Handle (handle_op.LookAgain f)) = omega arith
+drop-uses g (op.Closing closing_op.Drain) = omega arith
 drop-uses g _ = omega arith
 
 drop-uses-stack : (g : ℕ) (os : List Op) → weigh (drops_of g) os + weigh (leaves_of g) os ≤ weigh uses_of os

@@ -6,18 +6,20 @@ use Rattle.queue_steps.specs.ClosableQueue.{ClosableQueue, HasRoom}
 use Rattle.executor_model.specs.declared.event.Event.{Event}
 use Rattle.executor_model.specs.declared.op.Op.{Op}
 use Rattle.executor_model.specs.declared.op.Op.TheVariants as op
+use Rattle.executor_model.specs.declared.op.QueueOp.TheVariants as queue_op
 use Rattle.executor_model.specs.declared.step.Step.{Step}
 use Rattle.executor_model.specs.Trace.{Trace, has, is_accepted, is_dropped}
 use Rattle.executor_model.specs.DroppedOnce.{DropComesOnce, IsDroppedByTheEnd}
 use Rattle.executor_model.specs.EarlyDrop.{EarlyDropHasCause}
 use Rattle.executor_model.specs.Weights.{weigh_all}
-use Rattle.executor_model.specs.Sound.{times, ousting_of}
+use Rattle.executor_model.specs.Sound.{times}
 use Rattle.executor_model.specs.Good.{Good}
 use Rattle.executor_model.specs.Steps.{Machine, stack, top, below_top, run, start}
-use Rattle.executor_model.specs.Entries.{leaves_of, HasTable, Remains, TableAgrees, QueueAgrees, FindsPlace}
+use Rattle.executor_model.specs.Entries.{HasTable, Remains, TableAgrees, QueueAgrees, FindsPlace}
+use Rattle.executor_model.specs.Rows.{ousting_of, leaves_of}
 use Rattle.executor_model.proofs.Lift.{topped, good}
 use Rattle.executor_model.proofs.Stories.{story}
-use Rattle.executor_model.proofs.Telling.{fallen-counts, accepted-counts, counted-there, there-or-none, begun-has, ended-has, drop-has-cause}
+use Rattle.executor_model.proofs.Telling.{fallen-counts, accepted-counts, counted-there, there-or-none, begun-has, ended-has, drop-has-cause, drop-follows}
 use Rattle.executor_model.proofs.LeavingRuns.{Placed, placed, has-place}
 
 -- no entry is there twice
@@ -81,6 +83,8 @@ module _ (s : Machine) (f : ℕ) (fine : Good s) (h : Placed s) where
     once = omega (arith, (fine.sound f).one);
     accepted = λ n. there (is_accepted f) s.world.trace _ (accepted-counts f s.world.trace) (omega (arith, stands n, (h.leaves f).bound));
     undropped = λ n d. sym (begun-has f s.world.trace) ∙ ((h.leaves f).begun ∙ ⊎_elim (λ (e : s.world.gone ≡ true). e) (λ (e : s.world.gone ≡ false). absurd (omega (arith, (h.leaves f).stay e, stands n, one-accepted, counts (is_dropped f) s.world.trace _ (fallen-counts f s.world.trace) d))) (either s.world.gone));
+    by_closing = λ n d. drop-follows f s.world.trace (omega (arith, (h.leaves f).lasting, stands n, one-accepted)) d;
+    alone = λ b. omega (arith, (h.leaves f).still (sym (h.leaves f).begun ∙ (begun-has f s.world.trace ∙ b)));
   }
 
   pub drop-comes-once : DropComesOnce f s.world.trace
@@ -99,8 +103,8 @@ module _ (s : Machine) (f : ℕ) (fine : Good s) (h : Placed s) where
 
   pub finds-place : FindsPlace s f
   finds-place p e = ⊎_elim
-      (λ (l : p < length s.parties). room None s.world.queue (h.leaves f).capacity (has-place s p f (below_top (stack s p)) l (topped (stack s p) (op.Append f) e) fine h))
-      (λ (l : length s.parties ≤ p). let z : stack s p ≡ [] = get_or_past s.parties p [] l in let no : slice_get (let os : List Op = [] in os) 0 ≡ Some (op.Append f) = sym (ap top z) ∙ e in absurd (cc))
+      (λ (l : p < length s.parties). room None s.world.queue (h.leaves f).capacity (has-place s p f (below_top (stack s p)) l (topped (stack s p) (op.Queue (queue_op.Append f)) e) fine h))
+      (λ (l : length s.parties ≤ p). let z : stack s p ≡ [] = get_or_past s.parties p [] l in let no : slice_get (let os : List Op = [] in os) 0 ≡ Some (op.Queue (queue_op.Append f)) = sym (ap top z) ∙ e in absurd (cc))
       (or-past p (length s.parties))
     where
       or-past : (a b : ℕ) → (a < b) ⊎ (b ≤ a)

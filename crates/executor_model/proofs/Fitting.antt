@@ -5,14 +5,9 @@ use Rattle.std.specs.Prelude.{Option, Some, None, slice_set}
 use Rattle.task_moves.specs.declared.moves.state.State.{State}
 use Rattle.task_moves.specs.declared.moves.owed.Moved.{Moved}
 use Rattle.task_moves.specs.declared.moves.owed.Owed.{Owed}
-use Rattle.task_moves.specs.declared.moves.owed.Move.{Move}
 use Rattle.task_moves.specs.declared.moves.owed.Move.TheVariants as move
 use Rattle.task_moves.specs.declared.moves.owed.Answer.{Answer}
 use Rattle.task_moves.specs.declared.moves.owed.AwaiterDebt.{AwaiterDebt}
-use Rattle.task_moves.specs.declared.moves.owed.AwaiterDebt.TheVariants.{NotifyAwaiter, NotifyOther, CallGiven, StoreCopy, CallStored, TakeAwaiter, CallTaken}
-use Rattle.task_moves.specs.declared.moves.owed.FutureDebt.{FutureDebt}
-use Rattle.task_moves.specs.declared.moves.owed.FutureDebt.TheVariants.{PollFuture, DropFuture}
-use Rattle.task_moves.specs.declared.schedule_info.ScheduleInfo.{ScheduleInfo}
 use Rattle.task_moves.specs.Moves as moves
 use Rattle.executor_model.specs.declared.event.Event.{Event}
 use Rattle.executor_model.specs.declared.event.Event.TheVariants as event
@@ -23,13 +18,21 @@ use Rattle.executor_model.specs.declared.op.Hold.{Hold}
 use Rattle.executor_model.specs.declared.op.Hold.TheVariants as hold
 use Rattle.executor_model.specs.declared.op.Op.{Op}
 use Rattle.executor_model.specs.declared.op.Op.TheVariants as op
+use Rattle.executor_model.specs.declared.op.ClosingOp.TheVariants as closing_op
+use Rattle.executor_model.specs.declared.op.HandleOp.TheVariants as handle_op
+use Rattle.executor_model.specs.declared.op.QueueOp.TheVariants as queue_op
+use Rattle.executor_model.specs.declared.op.TableOp.TheVariants as table_op
+use Rattle.executor_model.specs.declared.op.UserOp.TheVariants as user_op
+use Rattle.executor_model.specs.declared.op.WakerOp.TheVariants as waker_op
 use Rattle.executor_model.specs.declared.step.Hint.{Hint}
 use Rattle.executor_model.specs.World.{World, Done, done, log, log_if, task, put, awaiter_of, put_awaiter, among}
-use Rattle.executor_model.specs.Carried.{schedule_ops, future_ops, output_ops, awaiter_ops, next_ops, owed_ops, carried}
+use Rattle.executor_model.specs.Carried.{awaiter_ops, owed_ops, carried}
 use Rattle.executor_model.specs.Acts.{append_by, take_by, enter_by, leave_by, copy_by, answered, polled, look_by, look_again_by, copy_awaiter_by, register_by, end_register_by, notify_by, end_notify, told, let_go, waker_goes, call_awaiter, closing_ops, drop_next_by, wake_next_by, drain_by, followed, wake, reply_of, is_output, act}
-use Rattle.executor_model.specs.Weights.{weigh}
-use Rattle.executor_model.specs.Good.{past, pasts, waker_past, awaiters_past, past_of, Fits}
+use Rattle.executor_model.specs.Weights.{weigh, past, waker_past}
+use Rattle.executor_model.specs.Good.{pasts, awaiters_past, Fits}
+use Rattle.executor_model.specs.Rows.{past_of}
 use Rattle.executor_model.proofs.Cases.{by_bool, by_list, by_waker}
+use Rattle.executor_model.proofs.Owed.{owed-future, owed-awaiter, owed-nothing}
 use Rattle.executor_model.proofs.Lists.{past_is, pasts-append, pasts-without, pasts-more, pasts-drop, wakers_past-more, wakers_past-push, awaiters_past-set, awaiters_past-push, awaiters_past-more, past_if, weigh-append}
 
 -- the world fits after it, so do the new things to do, and no future went
@@ -43,44 +46,11 @@ Grows w old d = Fits w → weigh (past_of (length w.tasks)) old ≡ 0 → Grown 
 
 -- what a move owes is its own future's
 module _ (n f : ℕ) (z : past n f ≡ 0) where
-  past_schedule : (i : Option ScheduleInfo) → weigh (past_of n) (schedule_ops f i) ≡ 0
-  past_schedule (Some i) = omega (arith, z)
-  past_schedule None = refl
-
-  past_future : (b : Bool) (d : Option FutureDebt) → weigh (past_of n) (future_ops b f d) ≡ 0
-  past_future b (Some PollFuture) = omega (arith, z)
-  past_future true (Some DropFuture) = omega (arith, z)
-  past_future false (Some DropFuture) = refl
-  past_future b None = refl
-
-  past_output : (b : Bool) → weigh (past_of n) (output_ops b f) ≡ 0
-  past_output true = omega (arith, z)
-  past_output false = refl
-
   pub past_awaiter : (d : Option AwaiterDebt) → weigh (past_of n) (awaiter_ops f d) ≡ 0
-  past_awaiter (Some NotifyAwaiter) = omega (arith, z)
-  past_awaiter (Some NotifyOther) = omega (arith, z)
-  past_awaiter (Some CallGiven) = refl
-  past_awaiter (Some StoreCopy) = refl
-  past_awaiter (Some CallStored) = refl
-  past_awaiter (Some TakeAwaiter) = refl
-  past_awaiter (Some CallTaken) = refl
-  past_awaiter None = refl
-
-  past_next : (m : Option Move) → weigh (past_of n) (next_ops f m) ≡ 0
-  past_next (Some move.Release) = omega (arith, z)
-  past_next (Some move.SettleClosed) = omega (arith, z)
-  past_next (Some move.GiveUp) = omega (arith, z)
-  past_next (Some move.EndClosed) = omega (arith, z)
-  past_next (Some move.Detach) = omega (arith, z)
-  past_next (Some _) = refl
-  past_next None = refl
-
-  none_both : (xs ys : List Op) → weigh (past_of n) xs ≡ 0 → weigh (past_of n) ys ≡ 0 → weigh (past_of n) (xs ++ ys) ≡ 0
-  none_both xs ys e q = omega (arith, weigh-append (past_of n) xs ys, e, q)
+  past_awaiter d = owed-awaiter (past_of n) f (record { notify = λ m. z }) d
 
   pub past_owed : (b : Bool) (o : Owed) → weigh (past_of n) (owed_ops b f o) ≡ 0
-  past_owed b o = none_both _ _ (none_both _ _ (none_both _ _ (none_both _ _ (past_schedule o.schedule) (past_future b o.future)) (past_output o.drop_output)) (past_awaiter o.awaiter)) (past_next o.next)
+  past_owed b o = owed-nothing (past_of n) f (record { append = z; output = refl; release = z; settle_closed = z; give_up = z; end_closed = z; detach = z }) b o (owed-future (past_of n) f (record { poll = z; drop = z }) b o.future) (past_awaiter o.awaiter)
 
 fits-log : (b : Bool) (w : World) (e : Event) → Fits w → Fits (log_if b w e)
 fits-log true w e h = record { queue = h.queue; table = h.table; leaving = h.leaving; waking = h.waking; wakers = h.wakers; awaiters = h.awaiters; awaiting = h.awaiting; inside = h.inside }
@@ -102,24 +72,20 @@ grows-carried w v f m l h z =
       more = omega (arith, q);
     }
 
--- the op's own future is one, and its waker's
-z-of : (a : ℕ) → a + 0 ≡ 0 → a ≡ 0
-z-of a e = omega (arith, e)
-
 below : (n f : ℕ) → past n f ≡ 0 → f < n
 below n f e = grind (arith, past_is)
 
-grows-append : (b : Bool) (w : World) (f : ℕ) → Grows w (op.Append f ∷ []) (append_by b w f)
+grows-append : (b : Bool) (w : World) (f : ℕ) → Grows w (op.Queue (queue_op.Append f) ∷ []) (append_by b w f)
 grows-append = by_bool _
     (λ w f h k. grind (arith, pasts-append))
     (λ w f h k. grind arith)
 
-grows-take : (q : List ℕ) (w : World) → w.queue.items ≡ q → Grows w (op.Take ∷ []) (take_by w q)
+grows-take : (q : List ℕ) (w : World) → w.queue.items ≡ q → Grows w (op.Queue queue_op.Take ∷ []) (take_by w q)
 grows-take = by_list _
     (λ w e h k. grind arith)
     (λ f rest w e h k. let z : past (length w.tasks) f + pasts (length w.tasks) (drop 1 w.queue.items) ≡ pasts (length w.tasks) w.queue.items = pasts-drop (length w.tasks) f rest w.queue.items e in grind arith)
 
-grows-enter : (b c : Bool) (p : ℕ) (w : World) → Grows w (op.Enter ∷ []) (enter_by b c p w)
+grows-enter : (b c : Bool) (p : ℕ) (w : World) → Grows w (op.Table table_op.Enter ∷ []) (enter_by b c p w)
 grows-enter = by_bool _
     (λ c p w h k. grind arith)
     (by_bool _
@@ -133,12 +99,12 @@ grows-inside w f b old next z h = record {
   more = omega arith;
 }
 
-grows-leave : (b : Bool) (w : World) (f : ℕ) → Grows w (op.LeaveTable f ∷ []) (leave_by b w f)
+grows-leave : (b : Bool) (w : World) (f : ℕ) → Grows w (op.Table (table_op.LeaveTable f) ∷ []) (leave_by b w f)
 grows-leave = by_bool _
     (λ w f h k. grind (arith, pasts-without))
     (λ w f h k. grind arith)
 
-grows-copy : (b : Bool) (w : World) (f : ℕ) (held : Hold) → Grows w (op.CopyWaker f held ∷ []) (copy_by b w f held)
+grows-copy : (b : Bool) (w : World) (f : ℕ) (held : Hold) → Grows w (op.Waker (waker_op.CopyWaker f held) ∷ []) (copy_by b w f held)
 grows-copy = by_bool _
     (λ w f held h k. grind arith)
     (λ w f held h k. grind (arith, length-set {A = State}, wakers_past-push))
@@ -153,22 +119,22 @@ grows-answered w v p f m a l h z =
       more = omega (arith, q2);
     }
 
-grows-look : (a : Option Answer) (p : ℕ) (w : World) (f : ℕ) (x : Waker) (m : Moved) → Grows w (op.Look f x ∷ []) (look_by a p w f x m)
+grows-look : (a : Option Answer) (p : ℕ) (w : World) (f : ℕ) (x : Waker) (m : Moved) → Grows w (op.Handle (handle_op.Look f x) ∷ []) (look_by a p w f x m)
 grows-look None p w f x m h k = grind arith
 grows-look (Some a) p w f x m h k = grows-answered w (polled p w f) p f m a refl (fits-log true w (event.HandlePolled p f) h) (omega (arith, k))
 
-grows-again : (a : Option Answer) (p : ℕ) (w : World) (f : ℕ) (m : Moved) → Grows w (op.LookAgain f ∷ []) (look_again_by a p w f m)
+grows-again : (a : Option Answer) (p : ℕ) (w : World) (f : ℕ) (m : Moved) → Grows w (op.Handle (handle_op.LookAgain f) ∷ []) (look_again_by a p w f m)
 grows-again None p w f m h k = grind arith
 grows-again (Some a) p w f m h k = grows-answered w w p f m a refl h (omega (arith, k))
 
-grows-copy_awaiter : (b : Bool) (p : ℕ) (w : World) (f : ℕ) (x : Waker) → Grows w (op.CopyAwaiter f x ∷ []) (copy_awaiter_by b p w f x)
+grows-copy_awaiter : (b : Bool) (p : ℕ) (w : World) (f : ℕ) (x : Waker) → Grows w (op.Handle (handle_op.CopyAwaiter f x) ∷ []) (copy_awaiter_by b p w f x)
 grows-copy_awaiter = by_bool _
     (λ p w f x h k. grind arith)
     (λ p w f. by_waker _
     (λ g h k. grind (arith, length-set {A = State}))
     (λ x h k. grind arith))
 
-grows-register : (b : Bool) (w : World) (f : ℕ) (x : Waker) (k : ℕ) → Grows w (op.Register f x k ∷ []) (register_by b w f x k)
+grows-register : (b : Bool) (w : World) (f : ℕ) (x : Waker) (k : ℕ) → Grows w (op.Handle (handle_op.Register f x k) ∷ []) (register_by b w f x k)
 grows-register = by_bool _
     (λ w f x k h z. grind (arith, length-set {A = State}))
     (λ w f x k h z. grind (arith, length-set {A = State}))
@@ -194,19 +160,19 @@ grows-awaiter w f s a next i h z n =
       more = omega (arith, q);
     }
 
-grows-end_register : (b : Bool) (w : World) (f : ℕ) (x : Waker) (k : ℕ) → Grows w (op.EndRegister f x k ∷ []) (end_register_by b w f x k)
+grows-end_register : (b : Bool) (w : World) (f : ℕ) (x : Waker) (k : ℕ) → Grows w (op.Handle (handle_op.EndRegister f x k) ∷ []) (end_register_by b w f x k)
 grows-end_register true w f x k h z =
     let n = length w.tasks in
     let i : f < n = below n f (omega (arith, z)) in
     let none : Option Awaiter = None in
-    grows-awaiter w f _ none _ (omega (arith, i, h.awaiting)) h refl (λ y. omega (arith, y, z, weigh-append (past_of n) (let_go (awaiter_of w f)) (op.LookAgain f ∷ []), past_let_go n (awaiter_of w f)))
+    grows-awaiter w f _ none _ (omega (arith, i, h.awaiting)) h refl (λ y. omega (arith, y, z, weigh-append (past_of n) (let_go (awaiter_of w f)) (op.Handle (handle_op.LookAgain f) ∷ []), past_let_go n (awaiter_of w f)))
 grows-end_register false w f x k h z =
     let n = length w.tasks in
     let i : f < n = below n f (omega (arith, z)) in
     let some : Option Awaiter = Some (record { waker = x; poll = k }) in
-    grows-awaiter w f _ some _ (omega (arith, i, h.awaiting)) h (omega (arith, z)) (λ y. omega (arith, y, z, weigh-append (past_of n) (let_go (awaiter_of w f)) (op.LookAgain f ∷ []), past_let_go n (awaiter_of w f)))
+    grows-awaiter w f _ some _ (omega (arith, i, h.awaiting)) h (omega (arith, z)) (λ y. omega (arith, y, z, weigh-append (past_of n) (let_go (awaiter_of w f)) (op.Handle (handle_op.LookAgain f) ∷ []), past_let_go n (awaiter_of w f)))
 
-grows-notify : (b m : Bool) (w : World) (f : ℕ) → Grows w (op.Notify f m ∷ []) (notify_by b w f m)
+grows-notify : (b m : Bool) (w : World) (f : ℕ) → Grows w (op.Handle (handle_op.Notify f m) ∷ []) (notify_by b w f m)
 grows-notify = by_bool _
     (λ m w f h k. grind (arith, length-set {A = State}))
     (λ m w f h k. grind (arith, length-set {A = State}))
@@ -216,14 +182,14 @@ past_told n f b None z e = refl
 past_told n f true (Some a) z e = past_goes n a.waker ∙ e
 past_told n f false (Some a) z e = omega (arith, z, e)
 
-grows-end_notify : (c : Hint) (m : Bool) (w : World) (f : ℕ) → Grows w (op.EndNotify f m ∷ []) (end_notify c w f m)
+grows-end_notify : (c : Hint) (m : Bool) (w : World) (f : ℕ) → Grows w (op.Handle (handle_op.EndNotify f m) ∷ []) (end_notify c w f m)
 grows-end_notify c m w f h z =
     let n = length w.tasks in
     let i : f < n = below n f (omega (arith, z)) in
     let none : Option Awaiter = None in
     grows-awaiter w f _ none _ (omega (arith, i, h.awaiting)) h refl (λ y. past_told n f (m && c.same) (awaiter_of w f) (omega (arith, z)) y)
 
-grows-call : (p : ℕ) (w : World) (f : ℕ) (x : Waker) (k : ℕ) → Grows w (op.CallAwaiter f x k ∷ []) (call_awaiter p w f x k)
+grows-call : (p : ℕ) (w : World) (f : ℕ) (x : Waker) (k : ℕ) → Grows w (op.Waker (waker_op.CallAwaiter f x k) ∷ []) (call_awaiter p w f x k)
 grows-call = λ p w f. by_waker _
     (λ g k h z. let v = log w (event.WakerCalled p f k (Task g)) in let b = not (moves.is_over (task w g)) in grows-carried w (log_if b v (event.Woken p g)) g (moves.wake (task w g)) (same-log b v (event.Woken p g)) (fits-log b v (event.Woken p g) (fits-log true w (event.WakerCalled p f k (Task g)) h)) (omega (arith, z)))
     (λ x k h z. grind arith)
@@ -233,7 +199,7 @@ past_closing n (f ∷ fs) ws = refl
 past_closing n [] (f ∷ ws) = refl
 past_closing n [] [] = refl
 
-grows-drop_next : (p : ℕ) (w : World) (q : List ℕ) → w.leaving ≡ q → Grows w (op.DropNext ∷ []) (drop_next_by p w q)
+grows-drop_next : (p : ℕ) (w : World) (q : List ℕ) → w.leaving ≡ q → Grows w (op.Closing closing_op.DropNext ∷ []) (drop_next_by p w q)
 grows-drop_next p w [] e h k = grind arith
 grows-drop_next p w (f ∷ rest) e h k =
     let n = length w.tasks in
@@ -247,7 +213,7 @@ grows-drop_next p w (f ∷ rest) e h k =
 grows-followed : (w : World) (d : Done) (ls ws : List ℕ) → Grown w d → Grown w (followed d (closing_ops ls ws))
 grows-followed w d ls ws g = record { fits = g.fits; next = omega (arith, weigh-append (past_of (length d.world.tasks)) d.next (closing_ops ls ws), past_closing (length d.world.tasks) ls ws, g.next); more = g.more }
 
-grows-wake_next : (p : ℕ) (w : World) (q : List ℕ) → w.waking ≡ q → Grows w (op.WakeNext ∷ []) (wake_next_by p w q)
+grows-wake_next : (p : ℕ) (w : World) (q : List ℕ) → w.waking ≡ q → Grows w (op.Closing closing_op.WakeNext ∷ []) (wake_next_by p w q)
 grows-wake_next p w [] e h k = grind arith
 grows-wake_next p w (f ∷ rest) e h k =
     let n = length w.tasks in
@@ -257,7 +223,7 @@ grows-wake_next p w (f ∷ rest) e h k =
     let fv : Fits v = record { queue = h.queue; table = h.table; leaving = h.leaving; waking = omega (arith, z); wakers = h.wakers; awaiters = h.awaiters; awaiting = h.awaiting; inside = h.inside } in
     grows-followed w (wake p v f) [] rest (grows-carried w (log_if b v (event.Woken p f)) f (moves.wake (task w f)) (same-log b v (event.Woken p f)) (fits-log b v (event.Woken p f) fv) (omega (arith, z)))
 
-grows-drain : (q : List ℕ) (p : ℕ) (w : World) → w.queue.items ≡ q → Grows w (op.Drain ∷ []) (drain_by p w q)
+grows-drain : (q : List ℕ) (p : ℕ) (w : World) → w.queue.items ≡ q → Grows w (op.Closing closing_op.Drain ∷ []) (drain_by p w q)
 grows-drain = by_list _
     (λ p w e h k. grind arith)
     (λ f rest p w e h k. let z : past (length w.tasks) f + pasts (length w.tasks) (drop 1 w.queue.items) ≡ pasts (length w.tasks) w.queue.items = pasts-drop (length w.tasks) f rest w.queue.items e in grind arith)
@@ -273,44 +239,39 @@ grows-moved : (w : World) (b : Bool) (e : Event) (f : ℕ) (m : Moved) → Fits 
 grows-moved w b e f m h z = grows-carried w (log_if b w e) f m (same-log b w e) (fits-log b w e h) z
 
 pub grows-act : (p : ℕ) (c : Hint) (o : Op) (w : World) → Grows w (o ∷ []) (act p c o w)
-grows-act p c op.Enter w h k = grows-enter _ _ p w h k
-grows-act p c op.Take w h k = grows-take _ w refl h k
-grows-act p c op.LookAtTable w h k = grind arith
-grows-act p c (op.Append f) w h k = grows-append _ w f h k
-grows-act p c (op.WakeByReference f) w h k = grows-moved w (not (moves.is_over (task w f))) (event.Woken p f) f (moves.wake_by_reference (task w f)) h (omega (arith, k))
-grows-act p c (op.Wake f) w h k = grows-moved w (not (moves.is_over (task w f))) (event.Woken p f) f (moves.wake (task w f)) h (omega (arith, k))
-grows-act p c (op.TakeUp f) w h k = grows-moved w (not (task w f).closed) (event.PollBegun p f) f (moves.take_up (task w f)) h (omega (arith, k))
-grows-act p c (op.Cancel f) w h k = grows-moved w (not (moves.is_over (task w f))) (event.Cancelled p f) f (moves.cancel (task w f)) h (omega (arith, k))
-grows-act p c (op.Detach f) w h k = grows-moved w (not ((task w f).completed && not (task w f).closed)) (event.Detached p f) f (moves.detach (task w f)) h (omega (arith, k))
-grows-act p c (op.Release f) w h k = grows-carried w w f (moves.release (task w f)) refl h (omega (arith, k))
-grows-act p c (op.SettleClosed f) w h k = grows-carried w w f (moves.settle_closed (task w f)) refl h (omega (arith, k))
-grows-act p c (op.GiveUp f) w h k = grows-carried w w f (moves.give_up (task w f)) refl h (omega (arith, k))
-grows-act p c (op.EndReady f) w h k = grows-carried w w f (moves.end_ready (task w f)) refl h (omega (arith, k))
-grows-act p c (op.EndPending f) w h k = grows-carried w w f (moves.end_pending (task w f)) refl h (omega (arith, k))
-grows-act p c (op.EndClosed f) w h k = grows-carried w w f (moves.end_closed (task w f)) refl h (omega (arith, k))
-grows-act p c (op.DropRunnable f) w h k = grows-carried w w f (moves.drop_runnable (task w f)) refl h (omega (arith, k))
-grows-act p c (op.TakeToPoll f) w h k = grows-inside w f false [] (op.Poll f ∷ []) (omega (arith, k)) h
-grows-act p c (op.Poll f) w h k = grows-same w (op.Poll f ∷ []) h k
-grows-act p c (op.PutBack f) w h k = grows-inside w f true [] (op.EndPending f ∷ []) (omega (arith, k)) h
-grows-act p c (op.TakeToDrop f) w h k = grows-inside w f false [] (op.BeginDrop f ∷ []) (omega (arith, k)) h
-grows-act p c (op.BeginDrop f) w h k = grows-logged w (event.Dropped p f) (op.Drop f ∷ op.LeaveTable f ∷ []) (omega (arith, k)) h
-grows-act p c (op.Drop f) w h k = grows-same w (op.Drop f ∷ []) h k
-grows-act p c (op.LeaveTable f) w h k = grows-leave _ w f h k
-grows-act p c (op.BeginDropOutput f) w h k = grows-logged w (event.OutputDropped p f) (op.DropOutput f ∷ []) refl h
-grows-act p c (op.DropOutput f) w h k = grows-same w (op.DropOutput f ∷ []) h k
-grows-act p c (op.CopyWaker f held) w h k = grows-copy _ w f held h k
-grows-act p c (op.Look f a) w h k = grows-look _ p w f a _ h k
-grows-act p c (op.CopyAwaiter f a) w h k = grows-copy_awaiter _ p w f a h k
-grows-act p c (op.Register f a n) w h k = grows-register _ w f a n h k
-grows-act p c (op.EndRegister f a n) w h k = grows-end_register _ w f a n h k
-grows-act p c (op.LookAgain f) w h k = grows-again _ p w f _ h k
-grows-act p c (op.Notify f mine) w h k = grows-notify _ mine w f h k
-grows-act p c (op.EndNotify f mine) w h k = grows-end_notify c mine w f h k
-grows-act p c (op.CallAwaiter f a n) w h k = grows-call p w f a n h k
-grows-act p c (op.CallOutside x) w h k = grows-same w (op.CallOutside x ∷ []) h k
-grows-act p c op.TakeOut w h k = (record { fits = record { queue = h.queue; table = h.leaving; leaving = h.table; waking = h.waking; wakers = h.wakers; awaiters = h.awaiters; awaiting = h.awaiting; inside = h.inside }; next = past_closing (length w.tasks) w.table w.waking; more = omega arith })
-grows-act p c op.DropNext w h k = grows-drop_next p w _ refl h k
-grows-act p c op.WakeNext w h k = grows-wake_next p w _ refl h k
-grows-act p c op.Close w h k = grind arith
-grows-act p c op.Drain w h k = grows-drain _ p w refl h k
+grows-act p c (op.Table table_op.Enter) w h k = grows-enter _ _ p w h k
+grows-act p c (op.Queue queue_op.Take) w h k = grows-take _ w refl h k
+grows-act p c (op.Queue (queue_op.Append f)) w h k = grows-append _ w f h k
+grows-act p c (op.Move move.WakeByReference f) w h k = grows-moved w (not (moves.is_over (task w f))) (event.Woken p f) f (moves.wake_by_reference (task w f)) h (omega (arith, k))
+grows-act p c (op.Move move.Wake f) w h k = grows-moved w (not (moves.is_over (task w f))) (event.Woken p f) f (moves.wake (task w f)) h (omega (arith, k))
+grows-act p c (op.Move move.TakeUp f) w h k = grows-moved w (not (task w f).closed) (event.PollBegun p f) f (moves.take_up (task w f)) h (omega (arith, k))
+grows-act p c (op.Move move.Cancel f) w h k = grows-moved w (not (moves.is_over (task w f))) (event.Cancelled p f) f (moves.cancel (task w f)) h (omega (arith, k))
+grows-act p c (op.Move move.Detach f) w h k = grows-moved w (not ((task w f).completed && not (task w f).closed)) (event.Detached p f) f (moves.detach (task w f)) h (omega (arith, k))
+grows-act p c (op.Move move.Release f) w h k = grows-carried w w f (moves.release (task w f)) refl h (omega (arith, k))
+grows-act p c (op.Move move.SettleClosed f) w h k = grows-carried w w f (moves.settle_closed (task w f)) refl h (omega (arith, k))
+grows-act p c (op.Move move.GiveUp f) w h k = grows-carried w w f (moves.give_up (task w f)) refl h (omega (arith, k))
+grows-act p c (op.Move move.EndReady f) w h k = grows-carried w w f (moves.end_ready (task w f)) refl h (omega (arith, k))
+grows-act p c (op.Move move.EndPending f) w h k = grows-carried w w f (moves.end_pending (task w f)) refl h (omega (arith, k))
+grows-act p c (op.Move move.EndClosed f) w h k = grows-carried w w f (moves.end_closed (task w f)) refl h (omega (arith, k))
+grows-act p c (op.Move move.DropRunnable f) w h k = grows-carried w w f (moves.drop_runnable (task w f)) refl h (omega (arith, k))
+grows-act p c (op.Table (table_op.TakeToPoll f)) w h k = grows-inside w f false [] (op.User (user_op.Poll f) ∷ []) (omega (arith, k)) h
+grows-act p c (op.Table (table_op.PutBack f)) w h k = grows-inside w f true [] (op.Move move.EndPending f ∷ []) (omega (arith, k)) h
+grows-act p c (op.Table (table_op.TakeToDrop f)) w h k = grows-inside w f false [] (op.User (user_op.BeginDrop f) ∷ []) (omega (arith, k)) h
+grows-act p c (op.User (user_op.BeginDrop f)) w h k = grows-logged w (event.Dropped p f) (op.User (user_op.Drop f) ∷ op.Table (table_op.LeaveTable f) ∷ []) (omega (arith, k)) h
+grows-act p c (op.Table (table_op.LeaveTable f)) w h k = grows-leave _ w f h k
+grows-act p c (op.User (user_op.BeginDropOutput f)) w h k = grows-logged w (event.OutputDropped p f) (op.User (user_op.DropOutput f) ∷ []) refl h
+grows-act p c (op.Waker (waker_op.CopyWaker f held)) w h k = grows-copy _ w f held h k
+grows-act p c (op.Handle (handle_op.Look f a)) w h k = grows-look _ p w f a _ h k
+grows-act p c (op.Handle (handle_op.CopyAwaiter f a)) w h k = grows-copy_awaiter _ p w f a h k
+grows-act p c (op.Handle (handle_op.Register f a n)) w h k = grows-register _ w f a n h k
+grows-act p c (op.Handle (handle_op.EndRegister f a n)) w h k = grows-end_register _ w f a n h k
+grows-act p c (op.Handle (handle_op.LookAgain f)) w h k = grows-again _ p w f _ h k
+grows-act p c (op.Handle (handle_op.Notify f mine)) w h k = grows-notify _ mine w f h k
+grows-act p c (op.Handle (handle_op.EndNotify f mine)) w h k = grows-end_notify c mine w f h k
+grows-act p c (op.Waker (waker_op.CallAwaiter f a n)) w h k = grows-call p w f a n h k
+grows-act p c (op.Closing closing_op.TakeOut) w h k = (record { fits = record { queue = h.queue; table = h.leaving; leaving = h.table; waking = h.waking; wakers = h.wakers; awaiters = h.awaiters; awaiting = h.awaiting; inside = h.inside }; next = past_closing (length w.tasks) w.table w.waking; more = omega arith })
+grows-act p c (op.Closing closing_op.DropNext) w h k = grows-drop_next p w _ refl h k
+grows-act p c (op.Closing closing_op.WakeNext) w h k = grows-wake_next p w _ refl h k
+grows-act p c (op.Closing closing_op.Drain) w h k = grows-drain _ p w refl h k
 grows-act p c (op.End a held) w h k = grows-logged w (event.CallEnded p a) [] refl h
+grows-act p c _ w h k = grind arith

@@ -7,6 +7,9 @@ use Rattle.task_moves.specs.Moves as moves
 use Rattle.task_moves.specs.Moves.{is_over, is_last}
 use Rattle.executor_model.specs.declared.op.Op.{Op}
 use Rattle.executor_model.specs.declared.op.Op.TheVariants as op
+use Rattle.executor_model.specs.declared.op.ClosingOp.TheVariants as closing_op
+use Rattle.task_moves.specs.declared.moves.owed.Move.TheVariants as move
+use Rattle.executor_model.specs.declared.op.WakerOp.TheVariants as waker_op
 use Rattle.executor_model.specs.declared.op.Waker.TheVariants.{Task, Outside}
 use Rattle.executor_model.specs.declared.step.Hint.{Hint}
 use Rattle.executor_model.specs.World.{World, task}
@@ -16,7 +19,8 @@ use Rattle.executor_model.specs.Weights.{same, weigh}
 use Rattle.executor_model.specs.Sound.{Sound, Pend, pend, tokens}
 use Rattle.executor_model.specs.Steps.{Machine}
 use Rattle.executor_model.specs.Good.{Good}
-use Rattle.executor_model.specs.HandingOn.{appends_of, handed_on, HandsOn, IsFirst, IsIdle, IsOnItsWay, IsWakeOf}
+use Rattle.executor_model.specs.HandingOn.{handed_on, HandsOn, IsFirst, IsIdle, IsOnItsWay, IsWakeOf}
+use Rattle.executor_model.specs.Rows.{appends_of}
 use Rattle.executor_model.proofs.Lists.{same_is, weigh-closing}
 
 one : (f : ℕ) → same f f ≡ 1
@@ -65,11 +69,11 @@ module _ (f p : ℕ) (h : Hint) (w : World) (n : ℕ) (stays : (b : Bool) → we
   closing-wake (g ∷ rest) e = subst (λ (x : ℕ). weigh (appends_of f) (wake_next_by p w (x ∷ rest)).next ≡ n) e (weigh-closing (appends_of f) _ rest refl refl ∙ goes _)
 
   each-wake : (o : Op) → IsWakeOf f w o → handed_on f o p h w ≡ n
-  each-wake (op.WakeByReference g) e = subst (λ (x : ℕ). handed_on f (op.WakeByReference x) p h w ≡ n) e (stays _)
-  each-wake (op.Wake g) e = subst (λ (x : ℕ). handed_on f (op.Wake x) p h w ≡ n) e (goes _)
-  each-wake (op.CallAwaiter awaited (Task g) k) e = subst (λ (x : ℕ). handed_on f (op.CallAwaiter awaited (Task x) k) p h w ≡ n) e (goes _)
-  each-wake (op.CallAwaiter awaited (Outside x) k) e = let no : true ≡ false = e in absurd (cc)
-  each-wake op.WakeNext e = closing-wake w.waking e
+  each-wake (op.Move move.WakeByReference g) e = subst (λ (x : ℕ). handed_on f (op.Move move.WakeByReference x) p h w ≡ n) e (stays _)
+  each-wake (op.Move move.Wake g) e = subst (λ (x : ℕ). handed_on f (op.Move move.Wake x) p h w ≡ n) e (goes _)
+  each-wake (op.Waker (waker_op.CallAwaiter awaited (Task g) k)) e = subst (λ (x : ℕ). handed_on f (op.Waker (waker_op.CallAwaiter awaited (Task x) k)) p h w ≡ n) e (goes _)
+  each-wake (op.Waker (waker_op.CallAwaiter awaited (Outside x) k)) e = let no : true ≡ false = e in absurd (cc)
+  each-wake (op.Closing closing_op.WakeNext) e = closing-wake w.waking e
   each-wake _ e = let no : true ≡ false = e in absurd (cc)
 
 none-handed : (w : World) (f p : ℕ) (h : Hint) → (is_over (task w f) || (task w f).scheduled) ≡ true → (o : Op) → IsWakeOf f w o → handed_on f o p h w ≡ 0

@@ -8,11 +8,14 @@ use Rattle.executor_model.specs.declared.event.Event.{Event}
 use Rattle.executor_model.specs.declared.event.Event.TheVariants.{CallBegun, Answered, Cancelled, OutputGiven}
 use Rattle.executor_model.specs.declared.op.Op.{Op}
 use Rattle.executor_model.specs.declared.op.Op.TheVariants as op
+use Rattle.executor_model.specs.declared.op.HandleOp.TheVariants as handle_op
+use Rattle.task_moves.specs.declared.moves.owed.Move.TheVariants as move
 use Rattle.executor_model.specs.Trace.{Trace, takes_handle, is_ready, is_cancelled}
 use Rattle.executor_model.specs.OutputOnce.{is_output_given}
 use Rattle.executor_model.specs.World.{World, Done, task}
 use Rattle.executor_model.specs.Weights.{same, weigh, weigh_all}
-use Rattle.executor_model.specs.Sound.{Sound, pend, waiting_of, polls_of, ready_of}
+use Rattle.executor_model.specs.Sound.{Sound, pend}
+use Rattle.executor_model.specs.Rows.{waiting_of, polls_of, ready_of}
 
 -- how often g was ready
 
@@ -69,23 +72,23 @@ spent-none g = refl
 -- what the parties have still to do with g
 
 abbrev pub detaches_of : ℕ → Op → ℕ
-detaches_of g (op.Detach f) = same g f
+detaches_of g (op.Move move.Detach f) = same g f
 detaches_of g _ = 0
 
 -- who will look whether the awaiter is to be called
 abbrev pub telling_of : ℕ → Op → ℕ
-telling_of g (op.Notify f mine) = same g f
-telling_of g (op.LookAgain f) = same g f
+telling_of g (op.Handle (handle_op.Notify f mine)) = same g f
+telling_of g (op.Handle (handle_op.LookAgain f)) = same g f
 telling_of g _ = 0
 
 -- who takes it out
 abbrev pub taking_of : ℕ → Op → ℕ
-taking_of g (op.EndNotify f mine) = same g f
+taking_of g (op.Handle (handle_op.EndNotify f mine)) = same g f
 taking_of g _ = 0
 
 -- who stores it
 abbrev pub storing_of : ℕ → Op → ℕ
-storing_of g (op.EndRegister f a k) = same g f
+storing_of g (op.Handle (handle_op.EndRegister f a k)) = same g f
 storing_of g _ = 0
 
 pub record Owing : Type 0 where

@@ -11,14 +11,21 @@ use Rattle.executor_model.specs.declared.op.Hold.{Hold}
 use Rattle.executor_model.specs.declared.op.Hold.TheVariants as hold
 use Rattle.executor_model.specs.declared.op.Op.{Op}
 use Rattle.executor_model.specs.declared.op.Op.TheVariants as op
+use Rattle.executor_model.specs.declared.op.ClosingOp.TheVariants as closing_op
+use Rattle.executor_model.specs.declared.op.HandleOp.TheVariants as handle_op
+use Rattle.task_moves.specs.declared.moves.owed.Move.TheVariants as move
+use Rattle.executor_model.specs.declared.op.QueueOp.TheVariants as queue_op
+use Rattle.executor_model.specs.declared.op.TableOp.TheVariants as table_op
+use Rattle.executor_model.specs.declared.op.UserOp.TheVariants as user_op
+use Rattle.executor_model.specs.declared.op.WakerOp.TheVariants as waker_op
 use Rattle.executor_model.specs.declared.step.Step.{Step}
 use Rattle.executor_model.specs.declared.step.UserEnd.{UserEnd}
 use Rattle.executor_model.specs.declared.step.UserEnd.TheVariants as end
 use Rattle.executor_model.specs.World.{World, Done, done, log}
 use Rattle.executor_model.specs.Acts.{act}
 use Rattle.executor_model.specs.Weights.{weigh}
-use Rattle.executor_model.specs.Sound.{waiting_of, polls_of, ready_of}
-use Rattle.executor_model.specs.Good.{Good, past_of}
+use Rattle.executor_model.specs.Good.{Good}
+use Rattle.executor_model.specs.Rows.{waiting_of, polls_of, ready_of, past_of}
 use Rattle.executor_model.specs.Steps.{Machine, stack, run, start, idle, polled_by, top, accepts, begun, react, used_up, with_future, kept, waker_of}
 use Rattle.executor_model.proofs.Lists.{same_is, weigh_all-push}
 use Rattle.executor_model.proofs.Lift.{split, unsettled, weigh_all-idle, good-start}
@@ -59,11 +66,11 @@ stores-unsettled s p old rest d l e good k h g =
 
 -- the end of user code
 stored-react : (p : ℕ) (o : Op) (u : UserEnd) (w : World) → accepts o u ≡ true → KeepsStored w (o ∷ []) (react p o u w)
-stored-react p (op.Poll f) (end.Polled answer.Pending) w a = stored-pending p w f
-stored-react p (op.Poll f) (end.Polled answer.Ready) w a = stored-ready p w f
-stored-react p (op.Drop f) end.Done w a = λ g r bb h. h
-stored-react p (op.DropOutput f) end.Done w a = λ g r bb h. h
-stored-react p (op.CallOutside x) end.Done w a = λ g r bb h. h
+stored-react p (op.User (user_op.Poll f)) (end.Polled answer.Pending) w a = stored-pending p w f
+stored-react p (op.User (user_op.Poll f)) (end.Polled answer.Ready) w a = stored-ready p w f
+stored-react p (op.User (user_op.Drop f)) end.Done w a = λ g r bb h. h
+stored-react p (op.User (user_op.DropOutput f)) end.Done w a = λ g r bb h. h
+stored-react p (op.User (user_op.CallOutside x)) end.Done w a = λ g r bb h. h
 stored-react p _ _ w a = absurd (cc)
 
 -- the beginning of a call
@@ -78,27 +85,27 @@ begins-with : (w : World) (p : ℕ) (c : Call) (x : Option ℕ) (d : ℕ → Don
 begins-with w p c None d z k = begins-nothing w p c [] z (λ g r. refl)
 begins-with w p c (Some f) d z k = k f
 
-begins-detach : (w : World) (p f : ℕ) → KeepsStored w [] (done (log w (event.CallBegun p (call.Detach f))) (op.Detach f ∷ op.End reply.Done (hold.Handle f) ∷ []))
+begins-detach : (w : World) (p f : ℕ) → KeepsStored w [] (done (log w (event.CallBegun p (call.Detach f))) (op.Move move.Detach f ∷ op.End reply.Done (hold.Handle f) ∷ []))
 begins-detach w p f g r bb h = grind (arith, same_is, readies-push, spent-push)
 
-begins-drop_handle : (w : World) (p f : ℕ) → KeepsStored w [] (done (log w (event.CallBegun p (call.DropHandle f))) (op.Cancel f ∷ op.Detach f ∷ op.End reply.Done (hold.Handle f) ∷ []))
+begins-drop_handle : (w : World) (p f : ℕ) → KeepsStored w [] (done (log w (event.CallBegun p (call.DropHandle f))) (op.Move move.Cancel f ∷ op.Move move.Detach f ∷ op.End reply.Done (hold.Handle f) ∷ []))
 begins-drop_handle w p f g r bb h = grind (arith, same_is, readies-push, spent-push)
 
-begins-drop : (w : World) (p : ℕ) → KeepsStored w [] (done (log (record (log w (event.CallBegun p call.DropExecutor)) { gone = true }) (event.DropBegun p)) (op.TakeOut ∷ op.End reply.Done hold.Nothing ∷ []))
+begins-drop : (w : World) (p : ℕ) → KeepsStored w [] (done (log (record (log w (event.CallBegun p call.DropExecutor)) { gone = true }) (event.DropBegun p)) (op.Closing closing_op.TakeOut ∷ op.End reply.Done hold.Nothing ∷ []))
 begins-drop w p g r bb h = grind (arith, readies-push, spent-push)
 
 begins : (w : World) (p : ℕ) (here : Option ℕ) (c : Call) → KeepsStored w [] (begun p (log w (event.CallBegun p c)) here c)
-begins w p here call.Spawn = begins-nothing w p call.Spawn (op.Enter ∷ []) (λ g. refl) (λ g r. refl)
-begins w p here call.TryTick = begins-nothing w p call.TryTick (op.Take ∷ []) (λ g. refl) (λ g r. refl)
-begins w p here call.IsEmpty = begins-nothing w p call.IsEmpty (op.LookAtTable ∷ []) (λ g. refl) (λ g r. refl)
-begins w p here (call.Wake k) = begins-with w p (call.Wake k) (kept w k) _ (λ g. refl) (λ f. begins-used w p k (call.Wake k) (op.Wake f ∷ op.End reply.Done hold.Nothing ∷ []) (λ g. refl) (λ g r. refl))
-begins w p here (call.WakeByRef k) = begins-with w p (call.WakeByRef k) (kept w k) _ (λ g. refl) (λ f. begins-nothing w p (call.WakeByRef k) (op.WakeByReference f ∷ op.End reply.Done (hold.Waker k) ∷ []) (λ g. refl) (λ g r. refl))
-begins w p here (call.Copy k) = begins-with w p (call.Copy k) (kept w k) _ (λ g. refl) (λ f. begins-nothing w p (call.Copy k) (op.CopyWaker f (hold.Waker k) ∷ []) (λ g. refl) (λ g r. refl))
-begins w p here (call.DropWaker k) = begins-with w p (call.DropWaker k) (kept w k) _ (λ g. refl) (λ f. begins-used w p k (call.DropWaker k) (op.Release f ∷ op.End reply.Done hold.Nothing ∷ []) (λ g. refl) (λ g r. refl))
-begins w p here call.Keep = begins-with w p call.Keep here _ (λ g. refl) (λ f. begins-nothing w p call.Keep (op.CopyWaker f hold.Nothing ∷ []) (λ g. refl) (λ g r. refl))
-begins w p here call.WakeSelf = begins-with w p call.WakeSelf here _ (λ g. refl) (λ f. begins-nothing w p call.WakeSelf (op.WakeByReference f ∷ op.End reply.Done hold.Nothing ∷ []) (λ g. refl) (λ g r. refl))
-begins w p here (call.PollHandle f b) = begins-nothing w p (call.PollHandle f b) (op.Look f (waker_of here b) ∷ []) (λ g. refl) (λ g r. refl)
-begins w p here (call.Cancel f) = begins-nothing w p (call.Cancel f) (op.Cancel f ∷ op.End reply.Done (hold.Handle f) ∷ []) (λ g. refl) (λ g r. refl)
+begins w p here call.Spawn = begins-nothing w p call.Spawn (op.Table table_op.Enter ∷ []) (λ g. refl) (λ g r. refl)
+begins w p here call.TryTick = begins-nothing w p call.TryTick (op.Queue queue_op.Take ∷ []) (λ g. refl) (λ g r. refl)
+begins w p here call.IsEmpty = begins-nothing w p call.IsEmpty (op.Table table_op.LookAtTable ∷ []) (λ g. refl) (λ g r. refl)
+begins w p here (call.Wake k) = begins-with w p (call.Wake k) (kept w k) _ (λ g. refl) (λ f. begins-used w p k (call.Wake k) (op.Move move.Wake f ∷ op.End reply.Done hold.Nothing ∷ []) (λ g. refl) (λ g r. refl))
+begins w p here (call.WakeByRef k) = begins-with w p (call.WakeByRef k) (kept w k) _ (λ g. refl) (λ f. begins-nothing w p (call.WakeByRef k) (op.Move move.WakeByReference f ∷ op.End reply.Done (hold.Waker k) ∷ []) (λ g. refl) (λ g r. refl))
+begins w p here (call.Copy k) = begins-with w p (call.Copy k) (kept w k) _ (λ g. refl) (λ f. begins-nothing w p (call.Copy k) (op.Waker (waker_op.CopyWaker f (hold.Waker k)) ∷ []) (λ g. refl) (λ g r. refl))
+begins w p here (call.DropWaker k) = begins-with w p (call.DropWaker k) (kept w k) _ (λ g. refl) (λ f. begins-used w p k (call.DropWaker k) (op.Move move.Release f ∷ op.End reply.Done hold.Nothing ∷ []) (λ g. refl) (λ g r. refl))
+begins w p here call.Keep = begins-with w p call.Keep here _ (λ g. refl) (λ f. begins-nothing w p call.Keep (op.Waker (waker_op.CopyWaker f hold.Nothing) ∷ []) (λ g. refl) (λ g r. refl))
+begins w p here call.WakeSelf = begins-with w p call.WakeSelf here _ (λ g. refl) (λ f. begins-nothing w p call.WakeSelf (op.Move move.WakeByReference f ∷ op.End reply.Done hold.Nothing ∷ []) (λ g. refl) (λ g r. refl))
+begins w p here (call.PollHandle f b) = begins-nothing w p (call.PollHandle f b) (op.Handle (handle_op.Look f (waker_of here b)) ∷ []) (λ g. refl) (λ g r. refl)
+begins w p here (call.Cancel f) = begins-nothing w p (call.Cancel f) (op.Move move.Cancel f ∷ op.End reply.Done (hold.Handle f) ∷ []) (λ g. refl) (λ g r. refl)
 begins w p here (call.Detach f) = begins-detach w p f
 begins w p here (call.DropHandle f) = begins-drop_handle w p f
 begins w p here call.DropExecutor = begins-drop w p

@@ -3,27 +3,29 @@ use Rattle.std.proofs.Common.{◌≡◌, ◌⊎◌, ℕ, ◌+◌, ◌<◌, ◌�
 use Rattle.std.specs.Prelude.{Some}
 use Rattle.executor_model.specs.declared.op.Op.{Op}
 use Rattle.executor_model.specs.declared.op.Op.TheVariants as op
+use Rattle.executor_model.specs.declared.op.ClosingOp.TheVariants as closing_op
+use Rattle.task_moves.specs.declared.moves.owed.Move.TheVariants as move
 use Rattle.executor_model.specs.World.{World, Done, task}
 use Rattle.executor_model.specs.Weights.{weigh, weigh_all}
 use Rattle.executor_model.specs.Sound.{Sound, Pend, with_ops, tokens, living, times}
-use Rattle.executor_model.specs.Entries.{leaves_of}
+use Rattle.executor_model.specs.Rows.{leaves_of}
 use Rattle.executor_model.proofs.Stories.{story}
 
 -- what is only done after the drop of the executor has emptied the table
 abbrev pub closing_of : Op → ℕ
-closing_of (op.DropRunnable f) = 1
-closing_of op.DropNext = 1
-closing_of op.WakeNext = 1
-closing_of op.Close = 1
-closing_of op.Drain = 1
+closing_of (op.Move move.DropRunnable f) = 1
+closing_of (op.Closing closing_op.DropNext) = 1
+closing_of (op.Closing closing_op.WakeNext) = 1
+closing_of (op.Closing closing_op.Close) = 1
+closing_of (op.Closing closing_op.Drain) = 1
 closing_of _ = 0
 
 -- and after it has dropped all futures that it found there
 abbrev pub waking_of : Op → ℕ
-waking_of (op.DropRunnable f) = 1
-waking_of op.WakeNext = 1
-waking_of op.Close = 1
-waking_of op.Drain = 1
+waking_of (op.Move move.DropRunnable f) = 1
+waking_of (op.Closing closing_op.WakeNext) = 1
+waking_of (op.Closing closing_op.Close) = 1
+waking_of (op.Closing closing_op.Drain) = 1
 waking_of _ = 0
 
 pub record Extra : Type 0 where
@@ -70,6 +72,7 @@ pub record Leaves (w : World) (g : ℕ) (p : Pend) (x : Extra) : Type 0 where
   pub once : (story g w.trace).fallen + (p.drops + times g w.leaving) ≤ (story g w.trace).accepted
   pub behind : x.leaves ≤ (story g w.trace).fallen
   pub stay : w.gone ≡ false → times g (story g w.trace).standing + (story g w.trace).fallen ≡ (story g w.trace).accepted
+  pub lasting : times g (story g w.trace).standing + (story g w.trace).early ≡ (story g w.trace).accepted
   pub bound : times g (story g w.trace).standing ≤ (story g w.trace).accepted
   pub unclosed : g < length w.tasks → (task w g).closed ≡ false → (task w g).completed ≡ false → (1 ≤ times g (story g w.trace).standing) ⊎ (1 ≤ p.ready)
   pub runs : 1 ≤ going w g p → 1 ≤ times g (story g w.trace).standing

@@ -12,17 +12,24 @@ use Rattle.executor_model.specs.declared.op.Hold.{Hold}
 use Rattle.executor_model.specs.declared.op.Hold.TheVariants as hold
 use Rattle.executor_model.specs.declared.op.Op.{Op}
 use Rattle.executor_model.specs.declared.op.Op.TheVariants as op
+use Rattle.executor_model.specs.declared.op.ClosingOp.TheVariants as closing_op
+use Rattle.executor_model.specs.declared.op.HandleOp.TheVariants as handle_op
+use Rattle.task_moves.specs.declared.moves.owed.Move.TheVariants as move
+use Rattle.executor_model.specs.declared.op.QueueOp.TheVariants as queue_op
+use Rattle.executor_model.specs.declared.op.TableOp.TheVariants as table_op
+use Rattle.executor_model.specs.declared.op.UserOp.TheVariants as user_op
+use Rattle.executor_model.specs.declared.op.WakerOp.TheVariants as waker_op
 use Rattle.executor_model.specs.declared.step.Step.{Step}
 use Rattle.executor_model.specs.declared.step.UserEnd.{UserEnd}
 use Rattle.executor_model.specs.declared.step.UserEnd.TheVariants as end
 use Rattle.executor_model.specs.World.{World, Done, done, log, among}
 use Rattle.executor_model.specs.Acts.{act}
-use Rattle.executor_model.specs.Weights.{weigh, weigh_all, same, borrowing_of}
-use Rattle.executor_model.specs.Sound.{Sound, Pend, pend, with_ops, times, waiting_of, polls_of, ending_of, ready_of, settling_of, giving_of, drops_of, releases_of, copies_of, ousting_of}
-use Rattle.executor_model.specs.Sound as sound
-use Rattle.executor_model.specs.Good.{Good, past_of}
+use Rattle.executor_model.specs.Weights.{weigh, weigh_all, same}
+use Rattle.executor_model.specs.Sound.{Pend, pend, with_ops, times}
+use Rattle.executor_model.specs.Rows as rows
+use Rattle.executor_model.specs.Good.{Good}
 use Rattle.executor_model.specs.Steps.{Machine, stack, idle, run, start, polled_by, top, is_free, has_all, is_on_executor, is_drop, is_unused, accepts, begun, react, used_up, with_future, kept, waker_of}
-use Rattle.executor_model.specs.Entries.{leaves_of}
+use Rattle.executor_model.specs.Rows.{borrowing_of, waiting_of, polls_of, ending_of, ready_of, settling_of, giving_of, drops_of, releases_of, copies_of, ousting_of, past_of, leaves_of}
 use Rattle.executor_model.proofs.Cases.{by_bool}
 use Rattle.executor_model.proofs.Lists.{weigh_all-push}
 use Rattle.executor_model.proofs.Lift.{split, split-pend, push-pend, unsettled, good-start, none_refused, open_executor, unborrowed, weigh_all-idle, set-own}
@@ -72,13 +79,13 @@ module _ (s : Machine) (p : ℕ) (old rest : List Op) (l : p < length s.parties)
 
 -- a Runnable on its way finds a place
 
-waits-here : (s : Machine) (p f : ℕ) (rest : List Op) (g : ℕ) → p < length s.parties → stack s p ≡ rest ++ reverse (op.Append f ∷ []) → same g f ≤ (pend g s.parties).waiting
-waits-here s p f rest g l e = omega (arith, split (waiting_of g) s.parties p (op.Append f ∷ []) rest l e)
+waits-here : (s : Machine) (p f : ℕ) (rest : List Op) (g : ℕ) → p < length s.parties → stack s p ≡ rest ++ reverse (op.Queue (queue_op.Append f) ∷ []) → same g f ≤ (pend g s.parties).waiting
+waits-here s p f rest g l e = omega (arith, split (waiting_of g) s.parties p (op.Queue (queue_op.Append f) ∷ []) rest l e)
 
 stands-once : (w : World) (g f : ℕ) (p : Pend) (st : ℕ) → same g f ≤ p.waiting → times g w.queue.items + (p.waiting + (p.polls + (p.ending + (p.ready + (p.closing + (p.settling + p.giving)))))) ≤ 1 → (1 ≤ times g w.queue.items + (p.waiting + (p.polls + p.ending)) → 1 ≤ st) → same g f + times g w.queue.items ≤ st
 stands-once w g f p st a o r = grind arith
 
-pub has-place : (s : Machine) (p f : ℕ) (rest : List Op) → p < length s.parties → stack s p ≡ rest ++ reverse (op.Append f ∷ []) → Good s → Placed s → length s.world.queue.items < s.world.limit
+pub has-place : (s : Machine) (p f : ℕ) (rest : List Op) → p < length s.parties → stack s p ≡ rest ++ reverse (op.Queue (queue_op.Append f) ∷ []) → Good s → Placed s → length s.world.queue.items < s.world.limit
 has-place s p f rest l e good h =
     let n : length (f ∷ s.world.queue.items) ≤ length (story 0 s.world.trace).standing = no-longer (f ∷ s.world.queue.items) (story 0 s.world.trace).standing (λ g. subst (λ (xs : List ℕ). times g (f ∷ s.world.queue.items) ≤ times g xs) (same-standing g 0 s.world.trace) (stands-once s.world g f (pend g s.parties) _ (waits-here s p f rest g l e) (good.sound g).one (h.leaves g).runs)) in
     omega (arith, n, (h.leaves 0).few)
@@ -93,31 +100,31 @@ no-room = by_bool _
     (λ n m l e. absurd (grind (arith, nat_tests)))
 
 needs-places : (s : Machine) (p : ℕ) (o : Op) (rest : List Op) → p < length s.parties → stack s p ≡ rest ++ reverse (o ∷ []) → Good s → Placed s → NeedsPlaces s.world o
-needs-places s p (op.Append f) rest l e good h = no-room s.world.queue.closed _ _ (has-place s p f rest l e good h)
-needs-places s p op.Enter rest l e good h = λ b n g. let x : length s.world.table < s.world.limit = grind (arith, nat_tests) in omega (arith, x, has-entries s n h g)
+needs-places s p (op.Queue (queue_op.Append f)) rest l e good h = no-room s.world.queue.closed _ _ (has-place s p f rest l e good h)
+needs-places s p (op.Table table_op.Enter) rest l e good h = λ b n g. let x : length s.world.table < s.world.limit = grind (arith, nat_tests) in omega (arith, x, has-entries s n h g)
 needs-places s p _ rest l e good h = tt
 
 -- a Runnable that is dropped is one of a future that has no entry any more
 
-closes : (s : Machine) (p f : ℕ) (rest : List Op) → p < length s.parties → stack s p ≡ rest ++ reverse (op.DropRunnable f ∷ []) → 1 ≤ (extra f s.parties).closing
-closes s p f rest l e = omega (arith, split closing_of s.parties p (op.DropRunnable f ∷ []) rest l e)
+closes : (s : Machine) (p f : ℕ) (rest : List Op) → p < length s.parties → stack s p ≡ rest ++ reverse (op.Move move.DropRunnable f ∷ []) → 1 ≤ (extra f s.parties).closing
+closes s p f rest l e = omega (arith, split closing_of s.parties p (op.Move move.DropRunnable f ∷ []) rest l e)
 
 no-entry : (f : ℕ) (xs : List ℕ) → times f xs ≡ 0 → among f xs ≡ false
 no-entry f xs z = ⊎_elim (λ (x : (among f xs ≡ true) × (1 ≤ times f xs)). absurd (omega (arith, x.1, z))) (λ (x : (among f xs ≡ false) × (times f xs ≡ 0)). x.0) (among_is f xs)
 
 needs-no-entry : (s : Machine) (p : ℕ) (o : Op) (rest : List Op) → p < length s.parties → stack s p ≡ rest ++ reverse (o ∷ []) → Placed s → NeedsNoEntry s.world o
-needs-no-entry s p (op.DropRunnable f) rest l e h =
+needs-no-entry s p (op.Move move.DropRunnable f) rest l e h =
     let x : _ = (h.leaves f).late (closes s p f rest l e) in
     no-entry f s.world.table ((h.leaves f).swept x.0 x.1).0
 needs-no-entry s p _ rest l e h = tt
 
 -- the end of user code
 keeps-react : (p : ℕ) (o : Op) (u : UserEnd) (w : World) → accepts o u ≡ true → KeepsLeaves w (o ∷ []) (react p o u w)
-keeps-react p (op.Poll f) (end.Polled answer.Pending) w a = leaves-pending p w f
-keeps-react p (op.Poll f) (end.Polled answer.Ready) w a = leaves-ready p w f
-keeps-react p (op.Drop f) end.Done w a = λ g r yy bb h. h
-keeps-react p (op.DropOutput f) end.Done w a = λ g r yy bb h. h
-keeps-react p (op.CallOutside x) end.Done w a = λ g r yy bb h. h
+keeps-react p (op.User (user_op.Poll f)) (end.Polled answer.Pending) w a = leaves-pending p w f
+keeps-react p (op.User (user_op.Poll f)) (end.Polled answer.Ready) w a = leaves-ready p w f
+keeps-react p (op.User (user_op.Drop f)) end.Done w a = λ g r yy bb h. h
+keeps-react p (op.User (user_op.DropOutput f)) end.Done w a = λ g r yy bb h. h
+keeps-react p (op.User (user_op.CallOutside x)) end.Done w a = λ g r yy bb h. h
 keeps-react p _ _ w a = absurd (cc)
 
 -- the beginning of a call
@@ -129,26 +136,26 @@ begins-with : (w : World) (p : ℕ) (c : Call) (x : Option ℕ) (d : ℕ → Don
 begins-with w p c None d k = begins-nothing w p c
 begins-with w p c (Some f) d k = k f
 
-begins-enter : (w : World) (p : ℕ) (c : Call) → KeepsLeaves w [] (done (log w (event.CallBegun p c)) (op.Enter ∷ []))
+begins-enter : (w : World) (p : ℕ) (c : Call) → KeepsLeaves w [] (done (log w (event.CallBegun p c)) (op.Table table_op.Enter ∷ []))
 begins-enter w p c g r yy bb h = grind (arith, story-push)
 
-begins-take : (w : World) (p : ℕ) (c : Call) → KeepsLeaves w [] (done (log w (event.CallBegun p c)) (op.Take ∷ []))
+begins-take : (w : World) (p : ℕ) (c : Call) → KeepsLeaves w [] (done (log w (event.CallBegun p c)) (op.Queue queue_op.Take ∷ []))
 begins-take w p c g r yy bb h = grind (arith, story-push)
 
-begins-look : (w : World) (p : ℕ) (c : Call) → KeepsLeaves w [] (done (log w (event.CallBegun p c)) (op.LookAtTable ∷ []))
+begins-look : (w : World) (p : ℕ) (c : Call) → KeepsLeaves w [] (done (log w (event.CallBegun p c)) (op.Table table_op.LookAtTable ∷ []))
 begins-look w p c g r yy bb h = grind (arith, story-push)
 
-begins-wake : (w : World) (p k f : ℕ) (c : Call) → KeepsLeaves w [] (done (used_up (log w (event.CallBegun p c)) k) (op.Wake f ∷ op.End reply.Done hold.Nothing ∷ []))
+begins-wake : (w : World) (p k f : ℕ) (c : Call) → KeepsLeaves w [] (done (used_up (log w (event.CallBegun p c)) k) (op.Move move.Wake f ∷ op.End reply.Done hold.Nothing ∷ []))
 begins-wake w p k f c g r yy bb h = grind (arith, story-push)
 
-begins-release : (w : World) (p k f : ℕ) (c : Call) → KeepsLeaves w [] (done (used_up (log w (event.CallBegun p c)) k) (op.Release f ∷ op.End reply.Done hold.Nothing ∷ []))
+begins-release : (w : World) (p k f : ℕ) (c : Call) → KeepsLeaves w [] (done (used_up (log w (event.CallBegun p c)) k) (op.Move move.Release f ∷ op.End reply.Done hold.Nothing ∷ []))
 begins-release w p k f c g r yy bb h = grind (arith, story-push)
 
 begins-list : (w : World) (p : ℕ) (c : Call) (os : List Op) → ((g : ℕ) (r : Pend) → with_ops g os r ≡ with_ops g [] r) → ((g : ℕ) (r : Extra) → with_extra g os r ≡ with_extra g [] r) → KeepsLeaves w [] (done (log w (event.CallBegun p c)) os)
 begins-list w p c os a b g r yy bb h = subst (λ (x : Pend × Extra). Leaves (log w (event.CallBegun p c)) g x.0 x.1) (λ i. (sym (a g r) i, sym (b g yy) i)) (begins-nothing w p c g r yy bb h)
 
 -- the drop of the executor, where no call uses it
-begins-drop : (w : World) (p : ℕ) (c : Call) (g : ℕ) (r : Pend) (y : Extra) → w.gone ≡ false → r.drops + y.leaves ≡ 0 → Base w g (with_ops g [] r) → Leaves w g (with_ops g [] r) (with_extra g [] y) → Leaves (log (record (log w (event.CallBegun p c)) { gone = true }) (event.DropBegun p)) g (with_ops g (op.TakeOut ∷ op.End reply.Done hold.Nothing ∷ []) r) (with_extra g (op.TakeOut ∷ op.End reply.Done hold.Nothing ∷ []) y)
+begins-drop : (w : World) (p : ℕ) (c : Call) (g : ℕ) (r : Pend) (y : Extra) → w.gone ≡ false → r.drops + y.leaves ≡ 0 → Base w g (with_ops g [] r) → Leaves w g (with_ops g [] r) (with_extra g [] y) → Leaves (log (record (log w (event.CallBegun p c)) { gone = true }) (event.DropBegun p)) g (with_ops g (op.Closing closing_op.TakeOut ∷ op.End reply.Done hold.Nothing ∷ []) r) (with_extra g (op.Closing closing_op.TakeOut ∷ op.End reply.Done hold.Nothing ∷ []) y)
 begins-drop w p c g r y n z bb h = grind (arith, story-push)
 
 begins : (s : Machine) (w : World) (p : ℕ) (ss others : List (List Op)) (o : Option Op) (here : Option ℕ) (c : Call) → others ≡ ss → bare_all ss ≡ 0 → not (w.gone && is_on_executor c) ≡ true → (not (is_drop c) || is_unused borrowing_of ss) ≡ true → KeepsHere w [] (begun p (log w (event.CallBegun p c)) here c) others
@@ -156,15 +163,15 @@ begins s w p ss others o here call.Spawn q z on un g = begins-enter w p call.Spa
 begins s w p ss others o here call.TryTick q z on un g = begins-take w p call.TryTick g _ _
 begins s w p ss others o here call.IsEmpty q z on un g = begins-look w p call.IsEmpty g _ _
 begins s w p ss others o here (call.Wake k) q z on un g = begins-with w p (call.Wake k) (kept w k) _ (λ f. begins-wake w p k f (call.Wake k)) g _ _
-begins s w p ss others o here (call.WakeByRef k) q z on un g = begins-with w p (call.WakeByRef k) (kept w k) _ (λ f. begins-list w p (call.WakeByRef k) (op.WakeByReference f ∷ op.End reply.Done (hold.Waker k) ∷ []) (λ g r. refl) (λ g r. refl)) g _ _
-begins s w p ss others o here (call.Copy k) q z on un g = begins-with w p (call.Copy k) (kept w k) _ (λ f. begins-list w p (call.Copy k) (op.CopyWaker f (hold.Waker k) ∷ []) (λ g r. refl) (λ g r. refl)) g _ _
+begins s w p ss others o here (call.WakeByRef k) q z on un g = begins-with w p (call.WakeByRef k) (kept w k) _ (λ f. begins-list w p (call.WakeByRef k) (op.Move move.WakeByReference f ∷ op.End reply.Done (hold.Waker k) ∷ []) (λ g r. refl) (λ g r. refl)) g _ _
+begins s w p ss others o here (call.Copy k) q z on un g = begins-with w p (call.Copy k) (kept w k) _ (λ f. begins-list w p (call.Copy k) (op.Waker (waker_op.CopyWaker f (hold.Waker k)) ∷ []) (λ g r. refl) (λ g r. refl)) g _ _
 begins s w p ss others o here (call.DropWaker k) q z on un g = begins-with w p (call.DropWaker k) (kept w k) _ (λ f. begins-release w p k f (call.DropWaker k)) g _ _
-begins s w p ss others o here call.Keep q z on un g = begins-with w p call.Keep here _ (λ f. begins-list w p call.Keep (op.CopyWaker f hold.Nothing ∷ []) (λ g r. refl) (λ g r. refl)) g _ _
-begins s w p ss others o here call.WakeSelf q z on un g = begins-with w p call.WakeSelf here _ (λ f. begins-list w p call.WakeSelf (op.WakeByReference f ∷ op.End reply.Done hold.Nothing ∷ []) (λ g r. refl) (λ g r. refl)) g _ _
-begins s w p ss others o here (call.PollHandle f b) q z on un g = begins-list w p (call.PollHandle f b) (op.Look f (waker_of here b) ∷ []) (λ g r. refl) (λ g r. refl) g _ _
-begins s w p ss others o here (call.Cancel f) q z on un g = begins-list w p (call.Cancel f) (op.Cancel f ∷ op.End reply.Done (hold.Handle f) ∷ []) (λ g r. refl) (λ g r. refl) g _ _
-begins s w p ss others o here (call.Detach f) q z on un g = begins-list w p (call.Detach f) (op.Detach f ∷ op.End reply.Done (hold.Handle f) ∷ []) (λ g r. refl) (λ g r. refl) g _ _
-begins s w p ss others o here (call.DropHandle f) q z on un g = begins-list w p (call.DropHandle f) (op.Cancel f ∷ op.Detach f ∷ op.End reply.Done (hold.Handle f) ∷ []) (λ g r. refl) (λ g r. refl) g _ _
+begins s w p ss others o here call.Keep q z on un g = begins-with w p call.Keep here _ (λ f. begins-list w p call.Keep (op.Waker (waker_op.CopyWaker f hold.Nothing) ∷ []) (λ g r. refl) (λ g r. refl)) g _ _
+begins s w p ss others o here call.WakeSelf q z on un g = begins-with w p call.WakeSelf here _ (λ f. begins-list w p call.WakeSelf (op.Move move.WakeByReference f ∷ op.End reply.Done hold.Nothing ∷ []) (λ g r. refl) (λ g r. refl)) g _ _
+begins s w p ss others o here (call.PollHandle f b) q z on un g = begins-list w p (call.PollHandle f b) (op.Handle (handle_op.Look f (waker_of here b)) ∷ []) (λ g r. refl) (λ g r. refl) g _ _
+begins s w p ss others o here (call.Cancel f) q z on un g = begins-list w p (call.Cancel f) (op.Move move.Cancel f ∷ op.End reply.Done (hold.Handle f) ∷ []) (λ g r. refl) (λ g r. refl) g _ _
+begins s w p ss others o here (call.Detach f) q z on un g = begins-list w p (call.Detach f) (op.Move move.Detach f ∷ op.End reply.Done (hold.Handle f) ∷ []) (λ g r. refl) (λ g r. refl) g _ _
+begins s w p ss others o here (call.DropHandle f) q z on un g = begins-list w p (call.DropHandle f) (op.Move move.Cancel f ∷ op.Move move.Detach f ∷ op.End reply.Done (hold.Handle f) ∷ []) (λ g r. refl) (λ g r. refl) g _ _
 begins s w p ss others o here call.DropExecutor q z on un g =
     let n : w.gone ≡ false = open_executor w call.DropExecutor refl on in
     let b : weigh_all borrowing_of ss ≡ 0 = unborrowed (weigh_all borrowing_of ss) un in
@@ -210,7 +217,7 @@ placed-start limit n = record {
       polls = weigh_all-idle (polls_of g) n i;
       ending = weigh_all-idle (ending_of g) n i;
       ready = weigh_all-idle (ready_of g) n i;
-      closing = weigh_all-idle (sound.closing_of g) n i;
+      closing = weigh_all-idle (rows.closing_of g) n i;
       settling = weigh_all-idle (settling_of g) n i;
       giving = weigh_all-idle (giving_of g) n i;
       drops = weigh_all-idle (drops_of g) n i;

@@ -1,5 +1,6 @@
 pub mod Cases
 pub mod Lists
+pub mod Owed
 pub mod Marks
 pub mod Counting
 pub mod Fitting

@@ -16,6 +16,13 @@ use Rattle.executor_model.specs.declared.op.Waker.{Waker}
 use Rattle.executor_model.specs.declared.op.Hold.TheVariants as hold
 use Rattle.executor_model.specs.declared.op.Op.{Op}
 use Rattle.executor_model.specs.declared.op.Op.TheVariants as op
+use Rattle.executor_model.specs.declared.op.ClosingOp.TheVariants as closing_op
+use Rattle.executor_model.specs.declared.op.HandleOp.TheVariants as handle_op
+use Rattle.task_moves.specs.declared.moves.owed.Move.TheVariants as move
+use Rattle.executor_model.specs.declared.op.QueueOp.TheVariants as queue_op
+use Rattle.executor_model.specs.declared.op.TableOp.TheVariants as table_op
+use Rattle.executor_model.specs.declared.op.UserOp.TheVariants as user_op
+use Rattle.executor_model.specs.declared.op.WakerOp.TheVariants as waker_op
 use Rattle.executor_model.specs.declared.step.Hint.{Hint}
 use Rattle.executor_model.specs.declared.step.Step.{Step}
 use Rattle.executor_model.specs.declared.step.Step.TheVariants.{Begin, Go, Answer}
@@ -25,9 +32,10 @@ use Rattle.executor_model.specs.declared.step.UserEnd.{UserEnd}
 use Rattle.executor_model.specs.declared.step.UserEnd.TheVariants as end
 use Rattle.executor_model.specs.World.{World, Done, done, log, task, blank}
 use Rattle.executor_model.specs.Acts.{act}
-use Rattle.executor_model.specs.Weights.{weigh, weigh_all, borrowing_of}
-use Rattle.executor_model.specs.Sound.{Sound, Pend, pend, with_ops, waiting_of, polls_of, ending_of, ready_of, closing_of, settling_of, giving_of, drops_of, releases_of, copies_of, ousting_of}
-use Rattle.executor_model.specs.Good.{Good, Fits, past, waker_past, past_of}
+use Rattle.executor_model.specs.Weights.{weigh, weigh_all, past, waker_past}
+use Rattle.executor_model.specs.Sound.{Sound, Pend, pend, with_ops}
+use Rattle.executor_model.specs.Good.{Good, Fits}
+use Rattle.executor_model.specs.Rows.{borrowing_of, waiting_of, polls_of, ending_of, ready_of, closing_of, settling_of, giving_of, drops_of, releases_of, copies_of, ousting_of, past_of}
 use Rattle.executor_model.specs.Steps.{Machine, stack, top, below_top, is_free, polled_by, kept, has_all, is_on_executor, is_drop, is_unused, unless, begin_refusal, answer_refusal, accepts, party_of, part_refusal, refusal, used_up, with_future, waker_of, begun, react, end_of, settled_by, onto, gone_on, part_after, with_part, after, step_by, step, stepped, run, idle, start}
 use Rattle.executor_model.proofs.Lists.{past-more, waker_past-more, same_is, past_is, phase-push, wakers_of-used, wakers_past-used, weigh-append, weigh-reverse, weigh_all-set, weigh_all-push}
 use Rattle.executor_model.proofs.Counting.{Keeps, sound-act, sound-pending, sound-ready}
@@ -78,47 +86,25 @@ module _ (n m : ℕ) (h : n ≤ m) where
   more-two f a z = omega (arith, past-more n m f h (omega (arith, z)), waker_past-more n m a h (omega (arith, z)))
 
   more : (o : Op) → past_of n o ≡ 0 → past_of m o ≡ 0
-  more (op.Append f) z = more-one f z
-  more (op.WakeByReference f) z = more-one f z
-  more (op.Wake f) z = more-one f z
-  more (op.Release f) z = more-one f z
-  more (op.TakeUp f) z = more-one f z
-  more (op.SettleClosed f) z = more-one f z
-  more (op.GiveUp f) z = more-one f z
-  more (op.EndReady f) z = more-one f z
-  more (op.EndPending f) z = more-one f z
-  more (op.EndClosed f) z = more-one f z
-  more (op.DropRunnable f) z = more-one f z
-  more (op.Cancel f) z = more-one f z
-  more (op.Detach f) z = more-one f z
-  more (op.TakeToPoll f) z = more-one f z
-  more (op.Poll f) z = more-one f z
-  more (op.PutBack f) z = more-one f z
-  more (op.TakeToDrop f) z = more-one f z
-  more (op.BeginDrop f) z = more-one f z
-  more (op.LeaveTable f) z = more-one f z
-  more (op.CopyWaker f held) z = more-one f z
-  more (op.Look f a) z = more-two f a z
-  more (op.CopyAwaiter f a) z = more-two f a z
-  more (op.Register f a k) z = more-two f a z
-  more (op.EndRegister f a k) z = more-two f a z
-  more (op.LookAgain f) z = more-one f z
-  more (op.Notify f mine) z = more-one f z
-  more (op.EndNotify f mine) z = more-one f z
-  more (op.CallAwaiter f a k) z = more-two f a z
-  more op.Enter z = refl
-  more op.Take z = refl
-  more op.LookAtTable z = refl
-  more (op.Drop f) z = refl
-  more (op.BeginDropOutput f) z = refl
-  more (op.DropOutput f) z = refl
-  more (op.CallOutside x) z = refl
-  more op.TakeOut z = refl
-  more op.DropNext z = refl
-  more op.WakeNext z = refl
-  more op.Close z = refl
-  more op.Drain z = refl
-  more (op.End a held) z = refl
+  more (op.Queue (queue_op.Append f)) z = more-one f z
+  more (op.Move m f) z = more-one f z
+  more (op.Table (table_op.TakeToPoll f)) z = more-one f z
+  more (op.User (user_op.Poll f)) z = more-one f z
+  more (op.Table (table_op.PutBack f)) z = more-one f z
+  more (op.Table (table_op.TakeToDrop f)) z = more-one f z
+  more (op.User (user_op.BeginDrop f)) z = more-one f z
+  more (op.Table (table_op.LeaveTable f)) z = more-one f z
+  more (op.Waker (waker_op.CopyWaker f held)) z = more-one f z
+  more (op.Handle (handle_op.Look f a)) z = more-two f a z
+  more (op.Handle (handle_op.CopyAwaiter f a)) z = more-two f a z
+  more (op.Handle (handle_op.Register f a k)) z = more-two f a z
+  more (op.Handle (handle_op.EndRegister f a k)) z = more-two f a z
+  more (op.Handle (handle_op.LookAgain f)) z = more-one f z
+  more (op.Handle (handle_op.Notify f mine)) z = more-one f z
+  more (op.Handle (handle_op.EndNotify f mine)) z = more-one f z
+  more (op.Waker (waker_op.CallAwaiter f a k)) z = more-two f a z
+  more (op.Closing closing_op.Drain) z = refl
+  more _ z = refl
 
   more-weigh : (os : List Op) → weigh (past_of n) os ≡ 0 → weigh (past_of m) os ≡ 0
   more-weigh [] z = refl
@@ -199,19 +185,19 @@ good-go s p h (Some o) l e good =
 -- the end of user code
 
 grows-react : (p : ℕ) (o : Op) (e : UserEnd) (w : World) → accepts o e ≡ true → Grows w (o ∷ []) (react p o e w)
-grows-react p (op.Poll f) (end.Polled answer.Pending) w a h k = grind arith
-grows-react p (op.Poll f) (end.Polled answer.Ready) w a h k = grind arith
-grows-react p (op.Drop f) end.Done w a h k = grind arith
-grows-react p (op.DropOutput f) end.Done w a h k = grind arith
-grows-react p (op.CallOutside x) end.Done w a h k = grind arith
+grows-react p (op.User (user_op.Poll f)) (end.Polled answer.Pending) w a h k = grind arith
+grows-react p (op.User (user_op.Poll f)) (end.Polled answer.Ready) w a h k = grind arith
+grows-react p (op.User (user_op.Drop f)) end.Done w a h k = grind arith
+grows-react p (op.User (user_op.DropOutput f)) end.Done w a h k = grind arith
+grows-react p (op.User (user_op.CallOutside x)) end.Done w a h k = grind arith
 grows-react p _ _ w a h k = absurd (cc)
 
 keeps-react : (p : ℕ) (o : Op) (e : UserEnd) (w : World) → accepts o e ≡ true → Keeps w (o ∷ []) (react p o e w)
-keeps-react p (op.Poll f) (end.Polled answer.Pending) w a g r h = sound-pending p w f g r h
-keeps-react p (op.Poll f) (end.Polled answer.Ready) w a g r h = sound-ready p w f g r h
-keeps-react p (op.Drop f) end.Done w a g r h = h
-keeps-react p (op.DropOutput f) end.Done w a g r h = h
-keeps-react p (op.CallOutside x) end.Done w a g r h = h
+keeps-react p (op.User (user_op.Poll f)) (end.Polled answer.Pending) w a g r h = sound-pending p w f g r h
+keeps-react p (op.User (user_op.Poll f)) (end.Polled answer.Ready) w a g r h = sound-ready p w f g r h
+keeps-react p (op.User (user_op.Drop f)) end.Done w a g r h = h
+keeps-react p (op.User (user_op.DropOutput f)) end.Done w a g r h = h
+keeps-react p (op.User (user_op.CallOutside x)) end.Done w a g r h = h
 keeps-react p _ _ w a g r h = absurd (cc)
 
 accepted : (b : Bool) → unless b WrongAnswer None ≡ None → b ≡ true
@@ -228,47 +214,14 @@ good-answer s p e (Some o) l q n good =
 
 -- no poll of g is in progress where no call uses the executor
 polls-borrow : (g : ℕ) (o : Op) → polls_of g o ≤ borrowing_of o
-polls-borrow g (op.TakeToPoll f) = grind (arith, same_is)
-polls-borrow g (op.Poll f) = grind (arith, same_is)
-polls-borrow g op.Enter = omega arith
-polls-borrow g op.Take = omega arith
-polls-borrow g op.LookAtTable = omega arith
-polls-borrow g (op.Append f) = omega arith
-polls-borrow g (op.WakeByReference f) = omega arith
-polls-borrow g (op.Wake f) = omega arith
-polls-borrow g (op.Release f) = omega arith
-polls-borrow g (op.SettleClosed f) = omega arith
-polls-borrow g (op.GiveUp f) = omega arith
-polls-borrow g (op.EndClosed f) = omega arith
-polls-borrow g (op.DropRunnable f) = omega arith
-polls-borrow g (op.Cancel f) = omega arith
-polls-borrow g (op.Detach f) = omega arith
-polls-borrow g (op.TakeToDrop f) = omega arith
-polls-borrow g (op.BeginDrop f) = omega arith
-polls-borrow g (op.Drop f) = omega arith
-polls-borrow g (op.LeaveTable f) = omega arith
-polls-borrow g (op.BeginDropOutput f) = omega arith
-polls-borrow g (op.DropOutput f) = omega arith
-polls-borrow g (op.LookAgain f) = omega arith
-polls-borrow g (op.CallOutside f) = omega arith
-polls-borrow g (op.TakeUp f) = omega arith
-polls-borrow g (op.PutBack f) = omega arith
-polls-borrow g (op.EndPending f) = omega arith
-polls-borrow g (op.EndReady f) = omega arith
-polls-borrow g (op.CopyWaker f held) = omega arith
-polls-borrow g (op.Look f a) = omega arith
-polls-borrow g (op.CopyAwaiter f a) = omega arith
-polls-borrow g (op.Register f a k) = omega arith
-polls-borrow g (op.EndRegister f a k) = omega arith
-polls-borrow g (op.Notify f m) = omega arith
-polls-borrow g (op.EndNotify f m) = omega arith
-polls-borrow g (op.CallAwaiter f a k) = omega arith
-polls-borrow g op.TakeOut = omega arith
-polls-borrow g op.DropNext = omega arith
-polls-borrow g op.WakeNext = omega arith
-polls-borrow g op.Close = omega arith
-polls-borrow g op.Drain = omega arith
-polls-borrow g (op.End a held) = omega arith
+polls-borrow g (op.Table (table_op.TakeToPoll f)) = grind (arith, same_is)
+polls-borrow g (op.User (user_op.Poll f)) = grind (arith, same_is)
+polls-borrow g (op.Move move.Wake f) = omega arith
+polls-borrow g (op.Queue queue_op.Take) = omega arith
+polls-borrow g (op.Waker (waker_op.CopyWaker f held)) = omega arith
+polls-borrow g (op.Handle (handle_op.LookAgain f)) = omega arith
+polls-borrow g (op.Closing closing_op.Drain) = omega arith
+polls-borrow g _ = omega arith
 
 polls-borrow-stack : (g : ℕ) (os : List Op) → weigh (polls_of g) os ≤ weigh borrowing_of os
 polls-borrow-stack g [] = omega arith
@@ -286,16 +239,16 @@ begins-log : (w : World) (p : ℕ) (c : Call) → Keeps w [] (done (log w (event
 begins-log w p c g r h = grind (arith, phase-push)
 
 -- the call is on the executor, which isn't gone
-begins-on : (w : World) (p : ℕ) (c : Call) (o : Op) → (o ≡ op.Enter) ⊎ ((o ≡ op.Take) ⊎ (o ≡ op.LookAtTable)) → w.gone ≡ false → Keeps w [] (done (log w (event.CallBegun p c)) (o ∷ []))
-begins-on w p c o e n = ⊎_elim (λ (x : o ≡ op.Enter). subst (λ (y : Op). Keeps w [] (done (log w (event.CallBegun p c)) (y ∷ []))) (sym x) enters) (⊎_elim (λ (x : o ≡ op.Take). subst (λ (y : Op). Keeps w [] (done (log w (event.CallBegun p c)) (y ∷ []))) (sym x) takes) (λ (x : o ≡ op.LookAtTable). subst (λ (y : Op). Keeps w [] (done (log w (event.CallBegun p c)) (y ∷ []))) (sym x) looks)) e
+begins-on : (w : World) (p : ℕ) (c : Call) (o : Op) → (o ≡ op.Table table_op.Enter) ⊎ ((o ≡ op.Queue queue_op.Take) ⊎ (o ≡ op.Table table_op.LookAtTable)) → w.gone ≡ false → Keeps w [] (done (log w (event.CallBegun p c)) (o ∷ []))
+begins-on w p c o e n = ⊎_elim (λ (x : o ≡ op.Table table_op.Enter). subst (λ (y : Op). Keeps w [] (done (log w (event.CallBegun p c)) (y ∷ []))) (sym x) enters) (⊎_elim (λ (x : o ≡ op.Queue queue_op.Take). subst (λ (y : Op). Keeps w [] (done (log w (event.CallBegun p c)) (y ∷ []))) (sym x) takes) (λ (x : o ≡ op.Table table_op.LookAtTable). subst (λ (y : Op). Keeps w [] (done (log w (event.CallBegun p c)) (y ∷ []))) (sym x) looks)) e
   where
-    enters : Keeps w [] (done (log w (event.CallBegun p c)) (op.Enter ∷ []))
+    enters : Keeps w [] (done (log w (event.CallBegun p c)) (op.Table table_op.Enter ∷ []))
     enters g r h = grind (arith, phase-push)
 
-    takes : Keeps w [] (done (log w (event.CallBegun p c)) (op.Take ∷ []))
+    takes : Keeps w [] (done (log w (event.CallBegun p c)) (op.Queue queue_op.Take ∷ []))
     takes g r h = grind (arith, phase-push)
 
-    looks : Keeps w [] (done (log w (event.CallBegun p c)) (op.LookAtTable ∷ []))
+    looks : Keeps w [] (done (log w (event.CallBegun p c)) (op.Table table_op.LookAtTable ∷ []))
     looks g r h = grind (arith, phase-push)
 
 -- the kept waker k is used up
@@ -307,14 +260,14 @@ kept-used w k f e = go w.wakers k e
     go (x ∷ ws) zero e = ap (λ (y : Option ℕ). let z : Option (Option ℕ) = Some y in z) e
     go (x ∷ ws) (suc k) e = go ws k e
 
-begins-wake : (w : World) (p k f : ℕ) (c : Call) → slice_get w.wakers k ≡ Some (Some f) → Keeps w [] (done (used_up (log w (event.CallBegun p c)) k) (op.Wake f ∷ op.End reply.Done hold.Nothing ∷ []))
+begins-wake : (w : World) (p k f : ℕ) (c : Call) → slice_get w.wakers k ≡ Some (Some f) → Keeps w [] (done (used_up (log w (event.CallBegun p c)) k) (op.Move move.Wake f ∷ op.End reply.Done hold.Nothing ∷ []))
 begins-wake w p k f c e g r h = let z : _ = wakers_of-used g f k w.wakers e in grind (arith, same_is, phase-push)
 
-begins-release : (w : World) (p k f : ℕ) (c : Call) → slice_get w.wakers k ≡ Some (Some f) → Keeps w [] (done (used_up (log w (event.CallBegun p c)) k) (op.Release f ∷ op.End reply.Done hold.Nothing ∷ []))
+begins-release : (w : World) (p k f : ℕ) (c : Call) → slice_get w.wakers k ≡ Some (Some f) → Keeps w [] (done (used_up (log w (event.CallBegun p c)) k) (op.Move move.Release f ∷ op.End reply.Done hold.Nothing ∷ []))
 begins-release w p k f c e g r h = let z : _ = wakers_of-used g f k w.wakers e in grind (arith, same_is, phase-push)
 
 -- the drop of the executor, where no call uses it
-begins-drop : (w : World) (p : ℕ) (c : Call) (g : ℕ) (r : Pend) → w.gone ≡ false → r.borrowing ≡ 0 → r.polls ≡ 0 → Sound w g (with_ops g [] r) → Sound (log (record (log w (event.CallBegun p c)) { gone = true }) (event.DropBegun p)) g (with_ops g (op.TakeOut ∷ op.End reply.Done hold.Nothing ∷ []) r)
+begins-drop : (w : World) (p : ℕ) (c : Call) (g : ℕ) (r : Pend) → w.gone ≡ false → r.borrowing ≡ 0 → r.polls ≡ 0 → Sound w g (with_ops g [] r) → Sound (log (record (log w (event.CallBegun p c)) { gone = true }) (event.DropBegun p)) g (with_ops g (op.Closing closing_op.TakeOut ∷ op.End reply.Done hold.Nothing ∷ []) r)
 begins-drop w p c g r n b q h = grind (arith, phase-push)
 
 pub none_refused : (a b c d : Bool) → unless a Busy (unless b NoSuch (unless c Gone (unless d Borrowed None))) ≡ None → (a ≡ true) × (b ≡ true) × (c ≡ true) × (d ≡ true)
@@ -360,7 +313,7 @@ module _ (w : World) (p : ℕ) (others : List (List Op)) where
   begins-here c None d b = begins-by c [] (λ g r. refl) (λ h. refl)
   begins-here c (Some f) d b = b f refl
 
-  begins-waker : (c : Call) (here : Option ℕ) (b : By) (f : ℕ) → past (length w.tasks) f ≡ 0 → ((g : ℕ) → here ≡ Some g → past (length w.tasks) g ≡ 0) → Begins w (done (log w (event.CallBegun p c)) (op.Look f (waker_of here b) ∷ [])) others
+  begins-waker : (c : Call) (here : Option ℕ) (b : By) (f : ℕ) → past (length w.tasks) f ≡ 0 → ((g : ℕ) → here ≡ Some g → past (length w.tasks) g ≡ 0) → Begins w (done (log w (event.CallBegun p c)) (op.Handle (handle_op.Look f (waker_of here b)) ∷ [])) others
   begins-waker c (Some g) by.Mine f z k = begins-by c _ (λ g r. refl) (λ h. omega (arith, z, k g refl))
   begins-waker c None by.Mine f z k = begins-by c _ (λ g r. refl) (λ h. omega (arith, z))
   begins-waker c (Some g) (by.Outside x) f z k = begins-by c _ (λ g r. refl) (λ h. omega (arith, z))
@@ -373,9 +326,9 @@ pub unborrowed : (a : ℕ) → eqb a 0 ≡ true → a ≡ 0
 unborrowed a e = grind (arith, nat_tests)
 
 begins : (w : World) (p : ℕ) (ss others : List (List Op)) (o : Option Op) (here : Option ℕ) (c : Call) → ((g : ℕ) → here ≡ Some g → past (length w.tasks) g ≡ 0) → ((v : Op → ℕ) → weigh_all v others ≤ weigh_all v ss) → has_all w ss o c ≡ true → not (w.gone && is_on_executor c) ≡ true → (not (is_drop c) || is_unused borrowing_of ss) ≡ true → Begins w (begun p (log w (event.CallBegun p c)) here c) others
-begins w p ss others o here call.Spawn k le has on un = ((λ g. begins-on w p call.Spawn op.Enter (inl refl) (open_executor w call.Spawn refl on) g _), grows-begun w p _ _ (λ h. refl))
-begins w p ss others o here call.TryTick k le has on un = ((λ g. begins-on w p call.TryTick op.Take (inr (inl refl)) (open_executor w call.TryTick refl on) g _), grows-begun w p _ _ (λ h. refl))
-begins w p ss others o here call.IsEmpty k le has on un = ((λ g. begins-on w p call.IsEmpty op.LookAtTable (inr (inr refl)) (open_executor w call.IsEmpty refl on) g _), grows-begun w p _ _ (λ h. refl))
+begins w p ss others o here call.Spawn k le has on un = ((λ g. begins-on w p call.Spawn (op.Table table_op.Enter) (inl refl) (open_executor w call.Spawn refl on) g _), grows-begun w p _ _ (λ h. refl))
+begins w p ss others o here call.TryTick k le has on un = ((λ g. begins-on w p call.TryTick (op.Queue queue_op.Take) (inr (inl refl)) (open_executor w call.TryTick refl on) g _), grows-begun w p _ _ (λ h. refl))
+begins w p ss others o here call.IsEmpty k le has on un = ((λ g. begins-on w p call.IsEmpty (op.Table table_op.LookAtTable) (inr (inr refl)) (open_executor w call.IsEmpty refl on) g _), grows-begun w p _ _ (λ h. refl))
 begins w p ss others o here (call.Wake n) k le has on un = begins-kept w p others (call.Wake n) n _ _ refl (λ f e. ((λ g. begins-wake w p n f (call.Wake n) e g _), grows-used w p n f (call.Wake n) _ e (λ z. omega (arith, z))))
 begins w p ss others o here (call.WakeByRef n) k le has on un = begins-kept w p others (call.WakeByRef n) n _ _ refl (λ f e. begins-by w p others (call.WakeByRef n) _ (λ g r. refl) (λ h. omega (arith, kept-known w n f h e)))
 begins w p ss others o here (call.Copy n) k le has on un = begins-kept w p others (call.Copy n) n _ _ refl (λ f e. begins-by w p others (call.Copy n) _ (λ g r. refl) (λ h. omega (arith, kept-known w n f h e)))
@@ -392,9 +345,9 @@ begins w p ss others o here call.DropExecutor k le has on un =
     ((λ g. begins-drop w p call.DropExecutor g _ n z (omega (arith, z, polls-borrow-all g others))), (λ h y. record { fits = record { queue = h.queue; table = h.table; leaving = h.leaving; waking = h.waking; wakers = h.wakers; awaiters = h.awaiters; awaiting = h.awaiting; inside = h.inside }; next = refl; more = omega arith }))
 
 here-known : (s : Machine) (p : ℕ) (o : Option Op) → p < length s.parties → top (stack s p) ≡ o → Good s → (g : ℕ) → polled_by o ≡ Some g → past (length s.world.tasks) g ≡ 0
-here-known s p (Some (op.Poll f)) h e good g q =
+here-known s p (Some (op.User (user_op.Poll f))) h e good g q =
     let same_one : f ≡ g = cc in
-    rw (sym same_one) (omega (arith, good.ops, split (past_of (length s.world.tasks)) s.parties p (op.Poll f ∷ []) (below_top (stack s p)) h (topped _ (op.Poll f) e)))
+    rw (sym same_one) (omega (arith, good.ops, split (past_of (length s.world.tasks)) s.parties p (op.User (user_op.Poll f) ∷ []) (below_top (stack s p)) h (topped _ (op.User (user_op.Poll f)) e)))
 here-known s p (Some _) h e good g q = absurd (cc)
 here-known s p None h e good g q = absurd (cc)
 

@@ -13,13 +13,15 @@ use Rattle.executor_model.specs.declared.op.Awaiter.{Awaiter}
 use Rattle.executor_model.specs.declared.op.Waker.{Waker}
 use Rattle.executor_model.specs.declared.op.Waker.TheVariants.{Task, Outside}
 use Rattle.executor_model.specs.declared.op.Op.{Op}
-use Rattle.executor_model.specs.declared.op.Op.TheVariants.{WakeNext, Close}
+use Rattle.executor_model.specs.declared.op.Op.TheVariants as op
+use Rattle.executor_model.specs.declared.op.ClosingOp.TheVariants as closing_op
 use Rattle.executor_model.specs.Acts.{closing_ops}
 use Rattle.executor_model.specs.Trace.{Trace}
 use Rattle.executor_model.specs.World.{blank, without, among}
-use Rattle.executor_model.specs.Weights.{same, weigh, weigh_all, borrowing_of}
-use Rattle.executor_model.specs.Good.{past, pasts, wakers_past, waker_past, awaiters_past}
-use Rattle.executor_model.specs.Sound.{times, wakers_of, wakes, awaiters_of, waiting_of, polls_of, ending_of, ready_of, closing_of, settling_of, giving_of, drops_of, releases_of, copies_of, ousting_of, Pend, with_ops, Phase, passes, phase_from, phase, after_begun, after_answered, after_dropped}
+use Rattle.executor_model.specs.Weights.{same, weigh, weigh_all, past, waker_past, wakes}
+use Rattle.executor_model.specs.Good.{pasts, wakers_past, awaiters_past}
+use Rattle.executor_model.specs.Sound.{times, wakers_of, awaiters_of, Pend, with_ops, Phase, passes, phase_from, phase, after_begun, after_answered, after_dropped}
+use Rattle.executor_model.specs.Rows.{borrowing_of, waiting_of, polls_of, ending_of, ready_of, closing_of, settling_of, giving_of, drops_of, releases_of, copies_of, ousting_of}
 use Rattle.executor_model.proofs.Cases.{by_bool}
 
 pub same_cases : (g f : ℕ) → ((same g f ≡ 1) × (eqb g f ≡ true) × (g ≡ f)) ⊎ ((same g f ≡ 0) × (eqb g f ≡ false) × (g ≢ f))
@@ -44,9 +46,9 @@ weigh-append v [] ys = omega arith
 weigh-append v (x ∷ xs) ys = omega (arith, weigh-append v xs ys)
 
 -- what the executor's drop does after a wake weighs nothing where neither of the two weighs
-pub weigh-closing : (v : Op → ℕ) (xs : List Op) (rest : List ℕ) → v WakeNext ≡ 0 → v Close ≡ 0 → weigh v (xs ++ closing_ops [] rest) ≡ weigh v xs
-weigh-closing v xs [] n e = omega (arith, weigh-append v xs (Close ∷ []), e)
-weigh-closing v xs (f ∷ rest) n e = omega (arith, weigh-append v xs (WakeNext ∷ []), n)
+pub weigh-closing : (v : Op → ℕ) (xs : List Op) (rest : List ℕ) → v (op.Closing closing_op.WakeNext) ≡ 0 → v (op.Closing closing_op.Close) ≡ 0 → weigh v (xs ++ closing_ops [] rest) ≡ weigh v xs
+weigh-closing v xs [] n e = omega (arith, weigh-append v xs (op.Closing closing_op.Close ∷ []), e)
+weigh-closing v xs (f ∷ rest) n e = omega (arith, weigh-append v xs (op.Closing closing_op.WakeNext ∷ []), n)
 
 -- so it adds nothing to what the parties have still to do with a future
 pub with_ops-closing : (g : ℕ) (xs : List Op) (rest : List ℕ) (r : Pend) → with_ops g (xs ++ closing_ops [] rest) r ≡ with_ops g xs r

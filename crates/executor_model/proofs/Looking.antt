@@ -8,6 +8,7 @@ use Rattle.executor_model.specs.declared.event.Event.TheVariants as event
 use Rattle.executor_model.specs.declared.op.Hold.TheVariants as hold
 use Rattle.executor_model.specs.declared.op.Op.{Op}
 use Rattle.executor_model.specs.declared.op.Op.TheVariants as op
+use Rattle.executor_model.specs.declared.op.TableOp.TheVariants as table_op
 use Rattle.executor_model.specs.declared.step.Hint.{Hint}
 use Rattle.executor_model.specs.declared.step.Step.{Step}
 use Rattle.executor_model.specs.declared.step.Step.TheVariants.{Go}
@@ -15,7 +16,7 @@ use Rattle.executor_model.specs.declared.step.StepError.{StepError}
 use Rattle.executor_model.specs.declared.step.StepError.TheVariants.{NoSuch}
 use Rattle.executor_model.specs.Trace.{Trace}
 use Rattle.executor_model.specs.Acts.{act, emptiness}
-use Rattle.executor_model.specs.Weights.{borrowing_of}
+use Rattle.executor_model.specs.Rows.{borrowing_of}
 use Rattle.executor_model.specs.Sound.{times}
 use Rattle.executor_model.specs.Good.{Good}
 use Rattle.executor_model.specs.Steps.{Machine, stack, top, below_top, step, step_by, stepped, refusal, go_refusal, unless, gone_on, run, start}
@@ -49,10 +50,10 @@ says-yes (x ∷ xs) p es e f = let z : event.CallEnded p reply.No ∷ [] ≡ eve
 
 module _ (s : Machine) (fine : Good s) (h : Placed s) where
   has-table : (p : ℕ) → Looks s p → HasTable s
-  has-table p e = has-table-by s fine h (omega (arith, split borrowing_of s.parties p (op.LookAtTable ∷ []) (below_top (stack s p)) (in-range s p op.LookAtTable e) (topped (stack s p) op.LookAtTable e)))
+  has-table p e = has-table-by s fine h (omega (arith, split borrowing_of s.parties p (op.Table table_op.LookAtTable ∷ []) (below_top (stack s p)) (in-range s p (op.Table table_op.LookAtTable) e) (topped (stack s p) (op.Table table_op.LookAtTable) e)))
 
   said : (p : ℕ) (t : Hint) → Looks s p → Answers s p t (emptiness s.world.table)
-  said p t e = look-trace s p t (in-range s p op.LookAtTable e) e
+  said p t e = look-trace s p t (in-range s p (op.Table table_op.LookAtTable) e) e
 
   nobody : (p : ℕ) → Looks s p → ((f : ℕ) → ¬ Remains f s) → (f : ℕ) (n : ℕ) → times f s.world.table ≡ n → times f s.world.table ≡ 0
   nobody p e k f zero q = q

@@ -1,13 +1,21 @@
 -- What a good machine gives to the thing that a party does.
 use Rattle.std.proofs.Common.{◌≡◌, ℕ, ◌+◌, ◌<◌, ◌≤◌, [], ◌∷◌, ◌++◌, length, ap, arith}
 use Rattle.std.specs.Prelude.{Some}
+use Rattle.task_moves.specs.declared.moves.owed.Move.{Move}
+use Rattle.task_moves.specs.Moves.{HoldsReference}
+use Rattle.executor_model.specs.World.{task}
 use Rattle.executor_model.specs.declared.op.Waker.{Waker}
 use Rattle.executor_model.specs.declared.op.Waker.TheVariants.{Task, Outside}
 use Rattle.executor_model.specs.declared.op.Op.{Op}
 use Rattle.executor_model.specs.declared.op.Op.TheVariants as op
-use Rattle.executor_model.specs.Weights.{same}
-use Rattle.executor_model.specs.Sound.{ending_of, giving_of, releases_of}
-use Rattle.executor_model.specs.Good.{Good, Needs, CanGrow, IsHeld, HasPlace, KeepsAwaiter, IsKnownWaker, CanWake, past, pasts, waker_past, past_of}
+use Rattle.executor_model.specs.declared.op.ClosingOp.TheVariants as closing_op
+use Rattle.executor_model.specs.declared.op.HandleOp.TheVariants as handle_op
+use Rattle.task_moves.specs.declared.moves.owed.Move.TheVariants as move
+use Rattle.executor_model.specs.declared.op.TableOp.TheVariants as table_op
+use Rattle.executor_model.specs.declared.op.WakerOp.TheVariants as waker_op
+use Rattle.executor_model.specs.Weights.{same, past, waker_past}
+use Rattle.executor_model.specs.Good.{Good, Needs, CanGrow, IsHeld, HasPlace, KeepsAwaiter, IsKnownWaker, CanWake, pasts}
+use Rattle.executor_model.specs.Rows.{ending_of, giving_of, releases_of, past_of}
 use Rattle.executor_model.specs.Steps.{Machine, stack, top, below_top}
 use Rattle.executor_model.proofs.Lists.{past_is, same_is}
 use Rattle.executor_model.proofs.Lift.{split, topped}
@@ -45,31 +53,27 @@ can_wake : (s : Machine) (a : Waker) → Good s → waker_past (length s.world.t
 can_wake s (Task g) good z = can_grow s g good z
 can_wake s (Outside x) good z = tt
 
+-- and a move has the reference that it gives up
+can_move : (s : Machine) (p : ℕ) (m : Move) (f : ℕ) → p < length s.parties → top (stack s p) ≡ Some (op.Move m f) → Good s → HoldsReference m (task s.world f)
+can_move s p move.Release f h e good = (held s p f (op.Move move.Release f) h e good (speaks s p (op.Move move.Release f) h e good) (omega (arith, same_self f))).1
+can_move s p move.GiveUp f h e good = (held s p f (op.Move move.GiveUp f) h e good (speaks s p (op.Move move.GiveUp f) h e good) (omega (arith, same_self f))).1
+can_move s p move.EndPending f h e good = (held s p f (op.Move move.EndPending f) h e good (speaks s p (op.Move move.EndPending f) h e good) (omega (arith, same_self f))).1
+can_move s p _ f h e good = tt
+
 pub needs : (s : Machine) (p : ℕ) (o : Op) → p < length s.parties → top (stack s p) ≡ Some o → Good s → Needs s.world o
-needs s p (op.WakeByReference f) h e good = can_grow s f good (speaks s p (op.WakeByReference f) h e good)
-needs s p (op.Wake f) h e good = can_grow s f good (speaks s p (op.Wake f) h e good)
-needs s p (op.Cancel f) h e good = can_grow s f good (speaks s p (op.Cancel f) h e good)
-needs s p (op.Release f) h e good = held s p f (op.Release f) h e good (speaks s p (op.Release f) h e good) (omega (arith, same_self f))
-needs s p (op.GiveUp f) h e good = held s p f (op.GiveUp f) h e good (speaks s p (op.GiveUp f) h e good) (omega (arith, same_self f))
-needs s p (op.EndPending f) h e good = held s p f (op.EndPending f) h e good (speaks s p (op.EndPending f) h e good) (omega (arith, same_self f))
-needs s p (op.TakeUp f) h e good = below _ f (speaks s p (op.TakeUp f) h e good)
-needs s p (op.SettleClosed f) h e good = below _ f (speaks s p (op.SettleClosed f) h e good)
-needs s p (op.EndReady f) h e good = below _ f (speaks s p (op.EndReady f) h e good)
-needs s p (op.EndClosed f) h e good = below _ f (speaks s p (op.EndClosed f) h e good)
-needs s p (op.DropRunnable f) h e good = below _ f (speaks s p (op.DropRunnable f) h e good)
-needs s p (op.Detach f) h e good = below _ f (speaks s p (op.Detach f) h e good)
-needs s p (op.LookAgain f) h e good = below _ f (speaks s p (op.LookAgain f) h e good)
-needs s p (op.TakeToPoll f) h e good = has_place s f good (speaks s p (op.TakeToPoll f) h e good)
-needs s p (op.PutBack f) h e good = has_place s f good (speaks s p (op.PutBack f) h e good)
-needs s p (op.TakeToDrop f) h e good = has_place s f good (speaks s p (op.TakeToDrop f) h e good)
-needs s p (op.CopyWaker f x) h e good = below _ f (speaks s p (op.CopyWaker f x) h e good)
-needs s p (op.Look f a) h e good = below _ f (omega (arith, speaks s p (op.Look f a) h e good))
-needs s p (op.CopyAwaiter f a) h e good = known_waker s a (omega (arith, speaks s p (op.CopyAwaiter f a) h e good))
-needs s p (op.Register f a k) h e good = below _ f (omega (arith, speaks s p (op.Register f a k) h e good))
-needs s p (op.EndRegister f a k) h e good = keeps_awaiter s f good (omega (arith, speaks s p (op.EndRegister f a k) h e good))
-needs s p (op.Notify f m) h e good = below _ f (speaks s p (op.Notify f m) h e good)
-needs s p (op.EndNotify f m) h e good = keeps_awaiter s f good (speaks s p (op.EndNotify f m) h e good)
-needs s p (op.CallAwaiter f a k) h e good = can_wake s a good (omega (arith, speaks s p (op.CallAwaiter f a k) h e good))
-needs s p op.DropNext h e good = λ f rest q. has_place s f good (omega (arith, ap (pasts (length s.world.tasks)) q, good.fits.leaving))
-needs s p op.WakeNext h e good = λ f rest q. can_grow s f good (omega (arith, ap (pasts (length s.world.tasks)) q, good.fits.waking))
+needs s p (op.Handle (handle_op.LookAgain f)) h e good = below _ f (speaks s p (op.Handle (handle_op.LookAgain f)) h e good)
+needs s p (op.Move m f) h e good = (can_grow s f good (speaks s p (op.Move m f) h e good), can_move s p m f h e good)
+needs s p (op.Table (table_op.TakeToPoll f)) h e good = has_place s f good (speaks s p (op.Table (table_op.TakeToPoll f)) h e good)
+needs s p (op.Table (table_op.PutBack f)) h e good = has_place s f good (speaks s p (op.Table (table_op.PutBack f)) h e good)
+needs s p (op.Table (table_op.TakeToDrop f)) h e good = has_place s f good (speaks s p (op.Table (table_op.TakeToDrop f)) h e good)
+needs s p (op.Waker (waker_op.CopyWaker f x)) h e good = below _ f (speaks s p (op.Waker (waker_op.CopyWaker f x)) h e good)
+needs s p (op.Handle (handle_op.Look f a)) h e good = below _ f (omega (arith, speaks s p (op.Handle (handle_op.Look f a)) h e good))
+needs s p (op.Handle (handle_op.CopyAwaiter f a)) h e good = known_waker s a (omega (arith, speaks s p (op.Handle (handle_op.CopyAwaiter f a)) h e good))
+needs s p (op.Handle (handle_op.Register f a k)) h e good = below _ f (omega (arith, speaks s p (op.Handle (handle_op.Register f a k)) h e good))
+needs s p (op.Handle (handle_op.EndRegister f a k)) h e good = keeps_awaiter s f good (omega (arith, speaks s p (op.Handle (handle_op.EndRegister f a k)) h e good))
+needs s p (op.Handle (handle_op.Notify f m)) h e good = below _ f (speaks s p (op.Handle (handle_op.Notify f m)) h e good)
+needs s p (op.Handle (handle_op.EndNotify f m)) h e good = keeps_awaiter s f good (speaks s p (op.Handle (handle_op.EndNotify f m)) h e good)
+needs s p (op.Waker (waker_op.CallAwaiter f a k)) h e good = can_wake s a good (omega (arith, speaks s p (op.Waker (waker_op.CallAwaiter f a k)) h e good))
+needs s p (op.Closing closing_op.DropNext) h e good = λ f rest q. has_place s f good (omega (arith, ap (pasts (length s.world.tasks)) q, good.fits.leaving))
+needs s p (op.Closing closing_op.WakeNext) h e good = λ f rest q. can_grow s f good (omega (arith, ap (pasts (length s.world.tasks)) q, good.fits.waking))
 needs s p _ h e good = tt

@@ -15,6 +15,7 @@ use Rattle.executor_model.specs.declared.event.Event.{Event}
 use Rattle.executor_model.specs.declared.event.Event.TheVariants as event
 use Rattle.executor_model.specs.declared.op.Op.{Op}
 use Rattle.executor_model.specs.declared.op.Op.TheVariants as op
+use Rattle.executor_model.specs.declared.op.HandleOp.TheVariants as handle_op
 use Rattle.executor_model.specs.declared.op.Waker.TheVariants.{Outside}
 use Rattle.executor_model.specs.declared.step.Hint.{Hint}
 use Rattle.executor_model.specs.declared.step.Step.{Step}
@@ -26,8 +27,8 @@ use Rattle.executor_model.specs.OutputOnce.{is_output_given}
 use Rattle.executor_model.specs.OutputKept.{polls_alone, OutputIsThere, GivesOutput, OutputIsKept}
 use Rattle.executor_model.specs.World.{World, log, task, blank}
 use Rattle.executor_model.specs.Acts.{look_by}
-use Rattle.executor_model.specs.Weights.{weigh_all, handling_of}
-use Rattle.executor_model.specs.Sound.{ready_of}
+use Rattle.executor_model.specs.Weights.{weigh_all}
+use Rattle.executor_model.specs.Rows.{handling_of, ready_of}
 use Rattle.executor_model.specs.Steps.{Machine, stack, top, step, step_by, stepped, refusal, unless, begin_refusal, go_refusal, onto, part_after, with_part, run, start}
 use Rattle.executor_model.proofs.Telling.{counted-there, there-or-none}
 use Rattle.executor_model.proofs.Resting.{Deep, deep, rests, all-rest}
@@ -86,7 +87,7 @@ module _ (s : Machine) (f : ℕ) (h : Stores s) (idle : (q : ℕ) → stack s q 
 
 -- the machine in which p has begun to poll the handle, and has still to look
 abbrev polling : Machine → ℕ → ℕ → ℕ → Machine
-polling s p f x = record { world = log s.world (event.CallBegun p (call.PollHandle f (by.Outside x))); parties = set s.parties p (op.Look f (Outside x) ∷ []) }
+polling s p f x = record { world = log s.world (event.CallBegun p (call.PollHandle f (by.Outside x))); parties = set s.parties p (op.Handle (handle_op.Look f (Outside x)) ∷ []) }
 
 and-false : (b : Bool) → (b && false) ≡ false
 and-false true = refl
@@ -107,11 +108,11 @@ module _ (s : Machine) (p f x : ℕ) (l : p < length s.parties) (e : stack s p �
   unfolding step
   begun-alone = ap (λ (r : Option StepError). stepped s (step_by r s (Begin p (call.PollHandle f (by.Outside x))))) none-refused ∙ ap (λ (os : List Op). with_part s p (part_after s.world os (Begin p (call.PollHandle f (by.Outside x))))) e
 
-  looking : stack (polling s p f x) p ≡ op.Look f (Outside x) ∷ []
-  looking = get_or-set_same s.parties p (op.Look f (Outside x) ∷ []) [] l
+  looking : stack (polling s p f x) p ≡ op.Handle (handle_op.Look f (Outside x)) ∷ []
+  looking = get_or-set_same s.parties p (op.Handle (handle_op.Look f (Outside x)) ∷ []) [] l
 
   there : nat_lt p (length (polling s p f x).parties) ≡ true
-  there = let n : p < length (set s.parties p (op.Look f (Outside x) ∷ [])) = omega (arith, l, length-set s.parties p (op.Look f (Outside x) ∷ [])) in grind (arith, nat_tests)
+  there = let n : p < length (set s.parties p (op.Handle (handle_op.Look f (Outside x)) ∷ [])) = omega (arith, l, length-set s.parties p (op.Handle (handle_op.Look f (Outside x)) ∷ [])) in grind (arith, nat_tests)
 
   goes-on : (t : Hint) → refusal (polling s p f x) (Go p t) ≡ None
   goes-on t = ap (λ (b : Bool). unless b NoSuch (go_refusal (top (stack (polling s p f x) p)))) there ∙ ap (λ (os : List Op). go_refusal (top os)) looking

@@ -6,12 +6,14 @@ use Rattle.executor_model.specs.declared.event.Event.TheVariants as event
 use Rattle.executor_model.specs.declared.op.Hold.{Hold}
 use Rattle.executor_model.specs.declared.op.Op.{Op}
 use Rattle.executor_model.specs.declared.op.Op.TheVariants as op
+use Rattle.task_moves.specs.declared.moves.owed.Move.TheVariants as move
 use Rattle.executor_model.specs.declared.step.Step.{Step}
 use Rattle.executor_model.specs.OutputOnce.{OutputGoesOnce}
 use Rattle.executor_model.specs.World.{World, Done, done, log, task}
 use Rattle.executor_model.specs.Weights.{weigh, weigh_all}
-use Rattle.executor_model.specs.Sound.{Sound, pend, ready_of}
-use Rattle.executor_model.specs.Good.{Good, past_of}
+use Rattle.executor_model.specs.Sound.{Sound, pend}
+use Rattle.executor_model.specs.Good.{Good}
+use Rattle.executor_model.specs.Rows.{ready_of, past_of}
 use Rattle.executor_model.specs.Steps.{Machine, stack, idle, run, start, polled_by, top}
 use Rattle.executor_model.proofs.Lists.{weigh_all-push, same_is}
 use Rattle.executor_model.proofs.Lift.{split, unsettled, good-start}
@@ -31,11 +33,11 @@ gives-unsettled s p old rest d l e k h g =
 unready : (w : World) (f : ℕ) (ss : List (List Op)) → Sound w f (pend f ss) → 1 ≤ weigh_all (ready_of f) ss → (task w f).completed ≡ false
 unready w f ss h k = h.live (omega (arith, k))
 
-ready-counts : (f : ℕ) → weigh (ready_of f) (op.EndReady f ∷ []) ≡ 1
+ready-counts : (f : ℕ) → weigh (ready_of f) (op.Move move.EndReady f ∷ []) ≡ 1
 ready-counts f = grind (arith, same_is)
 
 needs-unready : (s : Machine) (p : ℕ) (o : Op) (rest : List Op) → p < length s.parties → stack s p ≡ rest ++ reverse (o ∷ []) → Good s → NeedsUnready s.world o
-needs-unready s p (op.EndReady f) rest l e good = unready s.world f s.parties (good.sound f) (omega (arith, split (ready_of f) s.parties p (op.EndReady f ∷ []) rest l e, ready-counts f))
+needs-unready s p (op.Move move.EndReady f) rest l e good = unready s.world f s.parties (good.sound f) (omega (arith, split (ready_of f) s.parties p (op.Move move.EndReady f ∷ []) rest l e, ready-counts f))
 needs-unready s p _ rest l e good = tt
 
 old-known : (s : Machine) (p : ℕ) (old rest : List Op) → p < length s.parties → stack s p ≡ rest ++ reverse old → Good s → weigh (past_of (length s.world.tasks)) old ≡ 0

@@ -18,6 +18,7 @@ use Rattle.executor_model.specs.declared.event.Event.{Event}
 use Rattle.executor_model.specs.declared.event.Event.TheVariants.{OutputGiven, OutputDropped}
 use Rattle.executor_model.specs.declared.op.Op.{Op}
 use Rattle.executor_model.specs.declared.op.Op.TheVariants as op
+use Rattle.executor_model.specs.declared.op.UserOp.TheVariants as user_op
 use Rattle.executor_model.specs.Trace.{Trace, is_output_dropped}
 use Rattle.executor_model.specs.OutputOnce.{is_output_given}
 use Rattle.executor_model.specs.World.{World, Done, log, log_if, task, put, blank}
@@ -50,7 +51,7 @@ outputs-none g = refl
 
 -- outputs of g that are to be dropped
 abbrev pub outs_of : ℕ → Op → ℕ
-outs_of g (op.BeginDropOutput f) = same g f
+outs_of g (op.User (user_op.BeginDropOutput f)) = same g f
 outs_of g _ = 0
 
 pub record Given (w : World) (g : ℕ) (owed : ℕ) : Type 0 where

@@ -10,6 +10,7 @@ use Rattle.executor_model.specs.declared.event.Event.{Event}
 use Rattle.executor_model.specs.declared.event.Event.TheVariants as event
 use Rattle.executor_model.specs.declared.op.Op.{Op}
 use Rattle.executor_model.specs.declared.op.Op.TheVariants as op
+use Rattle.executor_model.specs.declared.op.TableOp.TheVariants as table_op
 use Rattle.executor_model.specs.declared.step.Hint.{Hint}
 use Rattle.executor_model.specs.declared.step.Step.{Step}
 use Rattle.executor_model.specs.declared.step.Step.TheVariants.{Begin, Go}
@@ -20,7 +21,8 @@ use Rattle.executor_model.specs.World.{log}
 use Rattle.executor_model.specs.Weights.{weigh_all}
 use Rattle.executor_model.specs.Good.{Good}
 use Rattle.executor_model.specs.Steps.{Machine, stack, top, step, step_by, stepped, refusal, unless, begin_refusal, part_after, with_part, run, start}
-use Rattle.executor_model.specs.Entries.{leaves_of, Remains}
+use Rattle.executor_model.specs.Entries.{Remains}
+use Rattle.executor_model.specs.Rows.{leaves_of}
 use Rattle.executor_model.specs.Emptiness.{Answers, AnswersAlone, AllDropped, IsAtRest, IsQuietEmptinessExact}
 use Rattle.executor_model.proofs.Lists.{weigh_all-set}
 use Rattle.executor_model.proofs.Lift.{good, good-stepped}
@@ -36,7 +38,7 @@ has-push test (x ∷ es) e z = ap (λ (b : Bool). test x || b) (has-push test es
 
 -- the machine in which p has asked, and has still to look
 abbrev pub asking : Machine → ℕ → Machine
-asking s p = record { world = log s.world (event.CallBegun p call.IsEmpty); parties = set s.parties p (op.LookAtTable ∷ []) }
+asking s p = record { world = log s.world (event.CallBegun p call.IsEmpty); parties = set s.parties p (op.Table table_op.LookAtTable ∷ []) }
 
 module _ (s : Machine) (p : ℕ) (l : p < length s.parties) (n : s.world.gone ≡ false) (e : stack s p ≡ []) where
   none-refused : refusal s (Begin p call.IsEmpty) ≡ None
@@ -65,11 +67,11 @@ module _ (s : Machine) (fine : Good s) (h : Placed s) (d : Deep s) (rest : IsAtR
   placed-then : Placed (asking s p)
   placed-then = subst Placed began (along Placed placed-moves placed-ends (Begin p call.IsEmpty ∷ []) s fine h)
 
-  looks : top (stack (asking s p) p) ≡ Some op.LookAtTable
-  looks = ap top (get_or-set_same s.parties p (op.LookAtTable ∷ []) [] l)
+  looks : top (stack (asking s p) p) ≡ Some (op.Table table_op.LookAtTable)
+  looks = ap top (get_or-set_same s.parties p (op.Table table_op.LookAtTable ∷ []) [] l)
 
   none-leave : (f : ℕ) → weigh_all (leaves_of f) (asking s p).parties ≡ 0
-  none-leave f = omega (arith, weigh_all-set (leaves_of f) s.parties p (op.LookAtTable ∷ []) l, all-rest (leaves_of f) s.parties idle)
+  none-leave f = omega (arith, weigh_all-set (leaves_of f) s.parties p (op.Table table_op.LookAtTable ∷ []) l, all-rest (leaves_of f) s.parties idle)
 
   alone : (t : Hint) (a : Reply) → Answers (asking s p) p t a → AnswersAlone s p t a
   alone t a q = ap (λ (m : Machine). (stepped m (step m (Go p t))).world.trace) began ∙ (q ∙ append_assoc s.world.trace (event.CallBegun p call.IsEmpty ∷ []) (event.CallEnded p a ∷ []))

@@ -15,6 +15,9 @@ use Rattle.executor_model.specs.declared.op.Waker.{Waker}
 use Rattle.executor_model.specs.declared.op.Waker.TheVariants.{Task, Outside}
 use Rattle.executor_model.specs.declared.op.Op.{Op}
 use Rattle.executor_model.specs.declared.op.Op.TheVariants as op
+use Rattle.executor_model.specs.declared.op.HandleOp.TheVariants as handle_op
+use Rattle.executor_model.specs.declared.op.TableOp.TheVariants as table_op
+use Rattle.executor_model.specs.declared.op.WakerOp.TheVariants as waker_op
 use Rattle.executor_model.specs.declared.step.Hint.{Hint}
 use Rattle.executor_model.specs.Acts as acts
 use Rattle.executor_model.specs.Acts.{act}
@@ -61,10 +64,10 @@ module _ (p : ℕ) (w : World) where
   awaiter-unchanged false f a e = absurd (cc)
 
   unchanged : (h : Hint) (o : Op) → list_any may_refuse (act p h o w).next ≡ true → (act p h o w).world ≡ w
-  unchanged h op.Enter e = enter-unchanged _ h.refused e
-  unchanged h (op.CopyWaker f held) e = copy-unchanged _ f held e
-  unchanged h (op.Look f a) e = look-unchanged (task w f).closed (is_going (task w f)) (task w f).completed f a e
-  unchanged h (op.CopyAwaiter f a) e = awaiter-unchanged _ f a e
+  unchanged h (op.Table table_op.Enter) e = enter-unchanged _ h.refused e
+  unchanged h (op.Waker (waker_op.CopyWaker f held)) e = copy-unchanged _ f held e
+  unchanged h (op.Handle (handle_op.Look f a)) e = look-unchanged (task w f).closed (is_going (task w f)) (task w f).completed f a e
+  unchanged h (op.Handle (handle_op.CopyAwaiter f a)) e = awaiter-unchanged _ f a e
   unchanged h (op.End r held) e = absurd (cc)
   unchanged h o e = absurd (not-both _ e ((needs-no-memory w p).goes_on h o refl))
 
@@ -74,8 +77,8 @@ module _ (p : ℕ) (w : World) where
 
   begins-unchanged : (here : Option ℕ) (c : Call) → takes_no_memory c ≡ false → (begun p w here c).world ≡ w
   begins-unchanged here call.Spawn e = refl
-  begins-unchanged here (call.Copy k) e = with-unchanged (kept w k) (λ f. done w (op.CopyWaker f (hold.Waker k) ∷ [])) (λ f. refl)
-  begins-unchanged here call.Keep e = with-unchanged here (λ f. done w (op.CopyWaker f hold.Nothing ∷ [])) (λ f. refl)
+  begins-unchanged here (call.Copy k) e = with-unchanged (kept w k) (λ f. done w (op.Waker (waker_op.CopyWaker f (hold.Waker k)) ∷ [])) (λ f. refl)
+  begins-unchanged here call.Keep e = with-unchanged here (λ f. done w (op.Waker (waker_op.CopyWaker f hold.Nothing) ∷ [])) (λ f. refl)
   begins-unchanged here (call.PollHandle f b) e = refl
   begins-unchanged here c e = absurd (cc)
 
@@ -135,11 +138,11 @@ module _ (p : ℕ) (w : World) where
   many n e = grind (arith, nat_tests)
 
   told : (h : Hint) (o : Op) → list_any ends_for_want (act p h o w).next ≡ true → (h.refused ≡ true) ⊎ CopiesOneTooMany o w
-  told h op.Enter e = inl (enter-told _ h.refused e)
-  told h (op.CopyWaker f held) e = ⊎_elim (λ (x : h.refused ≡ true). inl x) (λ (x : nat_lt (task w f).references most_references ≡ false). inr (many (task w f).references x)) (copy-told h.refused (nat_lt (task w f).references most_references) f held e)
-  told h (op.Look f a) e = absurd (look-told (task w f).closed (is_going (task w f)) (task w f).completed f a e)
-  told h (op.CopyAwaiter f (Task g)) e = ⊎_elim (λ (x : h.refused ≡ true). inl x) (λ (x : nat_lt (task w g).references most_references ≡ false). inr (many (task w g).references x)) (awaiter-told h.refused (nat_lt (task w g).references most_references) f (Task g) e)
-  told h (op.CopyAwaiter f (Outside x)) e = inl (outside-told h.refused f (Outside x) e)
+  told h (op.Table table_op.Enter) e = inl (enter-told _ h.refused e)
+  told h (op.Waker (waker_op.CopyWaker f held)) e = ⊎_elim (λ (x : h.refused ≡ true). inl x) (λ (x : nat_lt (task w f).references most_references ≡ false). inr (many (task w f).references x)) (copy-told h.refused (nat_lt (task w f).references most_references) f held e)
+  told h (op.Handle (handle_op.Look f a)) e = absurd (look-told (task w f).closed (is_going (task w f)) (task w f).completed f a e)
+  told h (op.Handle (handle_op.CopyAwaiter f (Task g))) e = ⊎_elim (λ (x : h.refused ≡ true). inl x) (λ (x : nat_lt (task w g).references most_references ≡ false). inr (many (task w g).references x)) (awaiter-told h.refused (nat_lt (task w g).references most_references) f (Task g) e)
+  told h (op.Handle (handle_op.CopyAwaiter f (Outside x))) e = inl (outside-told h.refused f (Outside x) e)
   told h (op.End r held) e = absurd (cc)
   told h o e = absurd (not-both _ (wants-refuse (act p h o w).next e) ((needs-no-memory w p).goes_on h o refl))
 

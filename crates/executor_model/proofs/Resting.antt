@@ -10,6 +10,13 @@ use Rattle.executor_model.specs.declared.event.Event.TheVariants as event
 use Rattle.executor_model.specs.declared.op.Hold.{Hold}
 use Rattle.executor_model.specs.declared.op.Op.{Op}
 use Rattle.executor_model.specs.declared.op.Op.TheVariants as op
+use Rattle.executor_model.specs.declared.op.ClosingOp.TheVariants as closing_op
+use Rattle.executor_model.specs.declared.op.HandleOp.TheVariants as handle_op
+use Rattle.task_moves.specs.declared.moves.owed.Move.TheVariants as move
+use Rattle.executor_model.specs.declared.op.QueueOp.TheVariants as queue_op
+use Rattle.executor_model.specs.declared.op.TableOp.TheVariants as table_op
+use Rattle.executor_model.specs.declared.op.UserOp.TheVariants as user_op
+use Rattle.executor_model.specs.declared.op.WakerOp.TheVariants as waker_op
 use Rattle.executor_model.specs.declared.step.Hint.{Hint}
 use Rattle.executor_model.specs.declared.step.Step.{Step}
 use Rattle.executor_model.specs.declared.step.UserEnd.{UserEnd}
@@ -18,7 +25,8 @@ use Rattle.executor_model.specs.Trace.{Trace}
 use Rattle.executor_model.specs.Quiet.{IsQuiet}
 use Rattle.executor_model.specs.World.{World, Done, done, log}
 use Rattle.executor_model.specs.Acts.{act}
-use Rattle.executor_model.specs.Weights.{same, weigh, weigh_all, borrowing_of}
+use Rattle.executor_model.specs.Weights.{same, weigh, weigh_all}
+use Rattle.executor_model.specs.Rows.{borrowing_of}
 use Rattle.executor_model.specs.Good.{Good}
 use Rattle.executor_model.specs.Steps.{Machine, stack, run, start, idle, polled_by, top, is_free, is_some, has_all, is_on_executor, is_drop, is_unused, accepts, begun, react, with_future, kept}
 use Rattle.executor_model.proofs.Lists.{same_cases, weigh-append, weigh-reverse}
@@ -57,15 +65,15 @@ pub counts-answering : (next : List Op) → Answering next → weigh calling_of 
 counts-answering next a = ap (weigh calling_of) a.is ∙ omega (arith, weigh-append calling_of a.front (a.last ∷ []), a.none, a.call)
 
 pub calling-is : (o : Op) → (calling_of o ≡ 0) ⊎ (calling_of o ≡ 1)
-calling-is op.Enter = inr refl
-calling-is op.Take = inr refl
-calling-is op.LookAtTable = inr refl
-calling-is (op.CopyWaker f held) = inr refl
-calling-is (op.Look f a) = inr refl
-calling-is (op.CopyAwaiter f a) = inr refl
-calling-is (op.Register f a k) = inr refl
-calling-is (op.EndRegister f a k) = inr refl
-calling-is (op.LookAgain f) = inr refl
+calling-is (op.Table table_op.Enter) = inr refl
+calling-is (op.Queue queue_op.Take) = inr refl
+calling-is (op.Table table_op.LookAtTable) = inr refl
+calling-is (op.Waker (waker_op.CopyWaker f held)) = inr refl
+calling-is (op.Handle (handle_op.Look f a)) = inr refl
+calling-is (op.Handle (handle_op.CopyAwaiter f a)) = inr refl
+calling-is (op.Handle (handle_op.Register f a k)) = inr refl
+calling-is (op.Handle (handle_op.EndRegister f a k)) = inr refl
+calling-is (op.Handle (handle_op.LookAgain f)) = inr refl
 calling-is (op.End r held) = inr refl
 calling-is _ = inl refl
 
@@ -147,25 +155,25 @@ pub opens : (p : ℕ) (w : World) (ss : List (List Op)) (o : Option Op) (c : Cal
 opens p w ss o call.Spawn k = (steady-same _ _ refl, single _ refl)
 opens p w ss o call.TryTick k = (steady-same _ _ refl, single _ refl)
 opens p w ss o call.IsEmpty k = (steady-same _ _ refl, single _ refl)
-opens p w ss o (call.Wake n) k = open-with w p (call.Wake n) (kept w n) _ (left-true _ _ k) (λ f. (steady-same _ _ refl, then (op.Wake f ∷ []) _ refl refl))
-opens p w ss o (call.WakeByRef n) k = open-with w p (call.WakeByRef n) (kept w n) _ k (λ f. (steady-same _ _ refl, then (op.WakeByReference f ∷ []) _ refl refl))
+opens p w ss o (call.Wake n) k = open-with w p (call.Wake n) (kept w n) _ (left-true _ _ k) (λ f. (steady-same _ _ refl, then (op.Move move.Wake f ∷ []) _ refl refl))
+opens p w ss o (call.WakeByRef n) k = open-with w p (call.WakeByRef n) (kept w n) _ k (λ f. (steady-same _ _ refl, then (op.Move move.WakeByReference f ∷ []) _ refl refl))
 opens p w ss o (call.Copy n) k = open-with w p (call.Copy n) (kept w n) _ k (λ f. (steady-same _ _ refl, single _ refl))
-opens p w ss o (call.DropWaker n) k = open-with w p (call.DropWaker n) (kept w n) _ (left-true _ _ k) (λ f. (steady-same _ _ refl, then (op.Release f ∷ []) _ refl refl))
+opens p w ss o (call.DropWaker n) k = open-with w p (call.DropWaker n) (kept w n) _ (left-true _ _ k) (λ f. (steady-same _ _ refl, then (op.Move move.Release f ∷ []) _ refl refl))
 opens p w ss o call.Keep k = open-with w p call.Keep (polled_by o) _ k (λ f. (steady-same _ _ refl, single _ refl))
-opens p w ss o call.WakeSelf k = open-with w p call.WakeSelf (polled_by o) _ k (λ f. (steady-same _ _ refl, then (op.WakeByReference f ∷ []) _ refl refl))
+opens p w ss o call.WakeSelf k = open-with w p call.WakeSelf (polled_by o) _ k (λ f. (steady-same _ _ refl, then (op.Move move.WakeByReference f ∷ []) _ refl refl))
 opens p w ss o (call.PollHandle f b) k = (steady-same _ _ refl, single _ refl)
-opens p w ss o (call.Cancel f) k = (steady-same _ _ refl, then (op.Cancel f ∷ []) _ refl refl)
-opens p w ss o (call.Detach f) k = (steady-same _ _ refl, then (op.Detach f ∷ []) _ refl refl)
-opens p w ss o (call.DropHandle f) k = (steady-same _ _ refl, then (op.Cancel f ∷ op.Detach f ∷ []) _ refl refl)
-opens p w ss o call.DropExecutor k = (steady-log _ _ (event.DropBegun p) refl (λ q. refl) (λ q. refl), then (op.TakeOut ∷ []) _ refl refl)
+opens p w ss o (call.Cancel f) k = (steady-same _ _ refl, then (op.Move move.Cancel f ∷ []) _ refl refl)
+opens p w ss o (call.Detach f) k = (steady-same _ _ refl, then (op.Move move.Detach f ∷ []) _ refl refl)
+opens p w ss o (call.DropHandle f) k = (steady-same _ _ refl, then (op.Move move.Cancel f ∷ op.Move move.Detach f ∷ []) _ refl refl)
+opens p w ss o call.DropExecutor k = (steady-log _ _ (event.DropBegun p) refl (λ q. refl) (λ q. refl), then (op.Closing closing_op.TakeOut ∷ []) _ refl refl)
 
 -- the end of user code
 turns-react : (p : ℕ) (o : Op) (u : UserEnd) (w : World) → accepts o u ≡ true → Turns w (o ∷ []) (react p o u w)
-turns-react p (op.Poll f) (end.Polled answer.Pending) w a = turns-calls w (op.Poll f) _ (inside w _ _ refl (steady-log _ _ (event.Answered p f answer.Pending) refl (λ q. refl) (λ q. refl)) refl)
-turns-react p (op.Poll f) (end.Polled answer.Ready) w a = turns-calls w (op.Poll f) _ (inside w _ _ refl (steady-log _ _ (event.Answered p f answer.Ready) refl (λ q. refl) (λ q. refl)) refl)
-turns-react p (op.Drop f) end.Done w a = turns-calls w (op.Drop f) _ (inside w _ _ refl (steady-same _ _ refl) refl)
-turns-react p (op.DropOutput f) end.Done w a = turns-calls w (op.DropOutput f) _ (inside w _ _ refl (steady-same _ _ refl) refl)
-turns-react p (op.CallOutside x) end.Done w a = turns-calls w (op.CallOutside x) _ (inside w _ _ refl (steady-same _ _ refl) refl)
+turns-react p (op.User (user_op.Poll f)) (end.Polled answer.Pending) w a = turns-calls w (op.User (user_op.Poll f)) _ (inside w _ _ refl (steady-log _ _ (event.Answered p f answer.Pending) refl (λ q. refl) (λ q. refl)) refl)
+turns-react p (op.User (user_op.Poll f)) (end.Polled answer.Ready) w a = turns-calls w (op.User (user_op.Poll f)) _ (inside w _ _ refl (steady-log _ _ (event.Answered p f answer.Ready) refl (λ q. refl) (λ q. refl)) refl)
+turns-react p (op.User (user_op.Drop f)) end.Done w a = turns-calls w (op.User (user_op.Drop f)) _ (inside w _ _ refl (steady-same _ _ refl) refl)
+turns-react p (op.User (user_op.DropOutput f)) end.Done w a = turns-calls w (op.User (user_op.DropOutput f)) _ (inside w _ _ refl (steady-same _ _ refl) refl)
+turns-react p (op.User (user_op.CallOutside x)) end.Done w a = turns-calls w (op.User (user_op.CallOutside x)) _ (inside w _ _ refl (steady-same _ _ refl) refl)
 turns-react p _ _ w a = absurd (cc)
 
 acted-by : (s : Machine) (p : ℕ) (rest : List Op) (t : Hint) (o : Op) (b : Bool) → is_end o ≡ b → p < length s.parties → stack s p ≡ rest ++ reverse (o ∷ []) → Deep s → Deep (unsettled s p rest (act p t o s.world))

@@ -11,6 +11,8 @@ use Rattle.executor_model.specs.declared.op.Hold.{Hold}
 use Rattle.executor_model.specs.declared.op.Hold.TheVariants as hold
 use Rattle.executor_model.specs.declared.op.Op.{Op}
 use Rattle.executor_model.specs.declared.op.Op.TheVariants as op
+use Rattle.executor_model.specs.declared.op.QueueOp.TheVariants as queue_op
+use Rattle.executor_model.specs.declared.op.TableOp.TheVariants as table_op
 use Rattle.executor_model.specs.declared.step.Hint.{Hint}
 use Rattle.executor_model.specs.declared.step.Step.{Step}
 use Rattle.executor_model.specs.declared.step.Step.TheVariants.{Go}
@@ -19,7 +21,8 @@ use Rattle.executor_model.specs.declared.step.StepError.TheVariants.{NoSuch}
 use Rattle.executor_model.specs.Trace.{Trace}
 use Rattle.executor_model.specs.World.{World}
 use Rattle.executor_model.specs.Acts.{act, enter_by}
-use Rattle.executor_model.specs.Weights.{weigh_all, borrowing_of}
+use Rattle.executor_model.specs.Weights.{weigh_all}
+use Rattle.executor_model.specs.Rows.{borrowing_of}
 use Rattle.executor_model.specs.Sound.{times}
 use Rattle.executor_model.specs.Good.{Good}
 use Rattle.executor_model.specs.Steps.{Machine, stack, top, below_top, step, step_by, stepped, refusal, go_refusal, unless, settled, settled_by, end_of, onto, gone_on, run, start}
@@ -52,8 +55,8 @@ asked-trace : (b c : Bool) (p : ℕ) (w : World) (rest : List Op) → (onto p (e
 asked-trace true c p w rest = ended-trace p w (rest ++ op.End reply.Full hold.Executor ∷ []) reply.Full hold.Executor (top-last rest (op.End reply.Full hold.Executor))
 asked-trace false true p w rest = ended-trace p w (rest ++ op.End reply.NoMemory hold.Executor ∷ []) reply.NoMemory hold.Executor (top-last rest (op.End reply.NoMemory hold.Executor))
 asked-trace false false p w rest =
-    let os : List Op = rest ++ op.End reply.Made (hold.Spawned (length w.tasks)) ∷ op.Append (length w.tasks) ∷ [] in
-    let e : top os ≡ Some (op.Append (length w.tasks)) = subst (λ (xs : List Op). top xs ≡ Some (op.Append (length w.tasks))) (append_assoc rest (op.End reply.Made (hold.Spawned (length w.tasks)) ∷ []) (op.Append (length w.tasks) ∷ [])) (top-last (rest ++ op.End reply.Made (hold.Spawned (length w.tasks)) ∷ []) (op.Append (length w.tasks))) in
+    let os : List Op = rest ++ op.End reply.Made (hold.Spawned (length w.tasks)) ∷ op.Queue (queue_op.Append (length w.tasks)) ∷ [] in
+    let e : top os ≡ Some (op.Queue (queue_op.Append (length w.tasks))) = subst (λ (xs : List Op). top xs ≡ Some (op.Queue (queue_op.Append (length w.tasks)))) (append_assoc rest (op.End reply.Made (hold.Spawned (length w.tasks)) ∷ []) (op.Queue (queue_op.Append (length w.tasks)) ∷ [])) (top-last (rest ++ op.End reply.Made (hold.Spawned (length w.tasks)) ∷ []) (op.Queue (queue_op.Append (length w.tasks)))) in
     ap (λ (x : Option Op). (settled_by (end_of x) p (enter_by false false p w).world os).world.trace) e
 
 step-trace : (s : Machine) (p : ℕ) (h : Hint) → p < length s.parties → Asks s p → (stepped s (step s (Go p h))).world.trace ≡ s.world.trace ++ asked (not (nat_lt (length s.world.table) s.world.limit)) h.refused p s.world ∷ []
@@ -87,7 +90,7 @@ has-table-by s fine h u = inl (sym (begun-has 0 s.world.trace) ∙ ((h.leaves 0)
 
 module _ (s : Machine) (fine : Good s) (h : Placed s) where
   uses-executor : (p : ℕ) → Asks s p → 1 ≤ weigh_all borrowing_of s.parties
-  uses-executor p e = omega (arith, split borrowing_of s.parties p (op.Enter ∷ []) (below_top (stack s p)) (in-range s p op.Enter e) (topped (stack s p) op.Enter e))
+  uses-executor p e = omega (arith, split borrowing_of s.parties p (op.Table table_op.Enter ∷ []) (below_top (stack s p)) (in-range s p (op.Table table_op.Enter) e) (topped (stack s p) (op.Table table_op.Enter) e))
 
   has-table : (p : ℕ) → Asks s p → HasTable s
   has-table p e = has-table-by s fine h (uses-executor p e)
@@ -106,9 +109,9 @@ module _ (s : Machine) (fine : Good s) (h : Placed s) where
     always = λ p t e r.
         let n : length r.futures ≤ length s.world.table = no-longer r.futures s.world.table (at-most p e r) in
         let b : not (nat_lt (length s.world.table) s.world.limit) ≡ true = grind (arith, nat_tests, n, r.many) in
-        step-trace s p t (in-range s p op.Enter e) e ∙ ap (λ (x : Bool). s.world.trace ++ asked x t.refused p s.world ∷ []) b;
+        step-trace s p t (in-range s p (op.Table table_op.Enter) e) e ∙ ap (λ (x : Bool). s.world.trace ++ asked x t.refused p s.world ∷ []) b;
     only = λ p t e q.
-        let b : not (nat_lt (length s.world.table) s.world.limit) ≡ true = says-full _ t.refused p s.world s.world.trace (sym (step-trace s p t (in-range s p op.Enter e) e) ∙ q) in
+        let b : not (nat_lt (length s.world.table) s.world.limit) ≡ true = says-full _ t.refused p s.world s.world.trace (sym (step-trace s p t (in-range s p (op.Table table_op.Enter) e) e) ∙ q) in
         record {
           futures = s.world.table;
           different = λ f. (table-agrees s f fine h).once;

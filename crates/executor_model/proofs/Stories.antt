@@ -20,6 +20,8 @@ except f (g ∷ gs) = elim (f == g) [ true ↦ except f gs | false ↦ g ∷ exc
 pub record Story : Type 0 where
   pub accepted : ℕ
   pub fallen : ℕ
+  -- drops before that of the executor began
+  pub early : ℕ
   -- drops before which there was no cause
   pub strays : ℕ
   pub caused : Bool
@@ -30,11 +32,11 @@ pub record Story : Type 0 where
   pub standing : List ℕ
 
 abbrev pub untold : Story
-untold = record { accepted = 0; fallen = 0; strays = 0; caused = false; begun = false; ended = false; standing = [] }
+untold = record { accepted = 0; fallen = 0; early = 0; strays = 0; caused = false; begun = false; ended = false; standing = [] }
 
 abbrev pub hears : ℕ → Event → Story → Story
 hears g (Accepted p f) s = record s { accepted = s.accepted + same g f; standing = s.standing ++ f ∷ [] }
-hears g (Dropped p f) s = record s { fallen = s.fallen + same g f; strays = s.strays + cond s.caused 0 (same g f); standing = cond s.begun s.standing (except f s.standing) }
+hears g (Dropped p f) s = record s { fallen = s.fallen + same g f; early = s.early + cond s.begun 0 (same g f); strays = s.strays + cond s.caused 0 (same g f); standing = cond s.begun s.standing (except f s.standing) }
 hears g (Answered p f Ready) s = record s { caused = cond (g == f) true s.caused }
 hears g (Cancelled p f) s = record s { caused = cond (g == f) true s.caused }
 hears g (DropBegun p) s = record s { caused = true; begun = true }

@@ -147,6 +147,18 @@ pub same-standing : (g k : ℕ) (es : Trace) → (story g es).standing ≡ (stor
 unfolding story
 same-standing g k es = stands-from g untold es ∙ sym (stands-from k untold es)
 
+-- a drop before that of the executor began
+
+early-one : (g : ℕ) (e : Event) (s : Story) → s.early ≤ (hears g e s).early
+early-one g (Answered p f Ready) s = omega arith
+early-one g (Answered p f Pending) s = omega arith
+early-one g (Dropped p f) s = omega arith
+early-one g _ s = omega arith
+
+early-more : (g : ℕ) (s : Story) (es : Trace) → s.early ≤ (story_from g s es).early
+early-more g s [] = omega arith
+early-more g s (e ∷ es) = omega (arith, early-one g e s, early-more g (hears g e s) es)
+
 -- a drop before which there is no cause
 
 strays-one : (g : ℕ) (e : Event) (s : Story) → s.strays ≤ (hears g e s).strays
@@ -229,3 +241,45 @@ drop-has-cause f es z early = go (excused f untold es z early.dropped)
     go (inl x) = absurd (cc)
     go (inr (inl x)) = let no : true ≡ false = sym x ∙ early.early in absurd (cc)
     go (inr (inr x)) = x
+
+-- the drop of the executor had begun before that of the future
+
+abbrev pub Follows : ℕ → Story → Trace → Type 0
+Follows f s es = (s.begun ≡ true) ⊎ (has is_drop_begun (before_drop f es) ≡ true)
+
+begun-or : (f : ℕ) (e : Event) (s : Story) → (hears f e s).begun ≡ true → (s.begun ≡ true) ⊎ (is_drop_begun e ≡ true)
+begun-or f (DropBegun p) s h = inr refl
+begun-or f (Answered p g Ready) s h = inl h
+begun-or f (Answered p g Pending) s h = inl h
+begun-or f _ s h = inl h
+
+follows-first : (f : ℕ) (e : Event) (s : Story) (b : Bool) → s.begun ≡ b → is_dropped f e ≡ true → (hears f e s).early ≡ 0 → s.begun ≡ true
+follows-first f (Dropped p g) s true k d h = k
+follows-first f (Dropped p g) s false k d h =
+    let x : s.early + cond s.begun 0 (same f g) ≡ 0 = h in
+    let y : cond s.begun 0 (same f g) ≡ same f g = ap (λ (b : Bool). cond b 0 (same f g)) k in
+    let z : same f g ≡ 1 = same-cond f g ∙ ap (λ (b : Bool). cond b 1 0) d in
+    absurd (omega (arith, x, y, z))
+follows-first f _ s b k d h = absurd (cc)
+
+follows-later : (f : ℕ) (e : Event) (s : Story) (es : Trace) → is_dropped f e ≡ false → Follows f (hears f e s) es → Follows f s (e ∷ es)
+follows-later f e s es d x = rw (before-cons (is_dropped f) e es d) (⊎_elim
+    (λ (b : (hears f e s).begun ≡ true). ⊎_elim (λ k. inl k) (λ (k : is_drop_begun e ≡ true). inr (or-left _ _ k)) (begun-or f e s b))
+    (λ (c : has is_drop_begun (before_drop f es) ≡ true). inr (or-right _ _ c))
+    x)
+
+follows-go : (f : ℕ) (e : Event) (s : Story) (es : Trace) (b : Bool) → is_dropped f e ≡ b → (story_from f (hears f e s) es).early ≡ 0 → (has (is_dropped f) es ≡ true → Follows f (hears f e s) es) → (b || has (is_dropped f) es) ≡ true → Follows f s (e ∷ es)
+follows-go f e s es true d z ih h = inl (follows-first f e s s.begun refl d (omega (arith, z, early-more f (hears f e s) es)))
+follows-go f e s es false d z ih h = follows-later f e s es d (ih h)
+
+follows : (f : ℕ) (s : Story) (es : Trace) → (story_from f s es).early ≡ 0 → has (is_dropped f) es ≡ true → Follows f s es
+follows f s [] z h = absurd (cc)
+follows f s (e ∷ es) z h = follows-go f e s es (is_dropped f e) refl z (follows f (hears f e s) es z) h
+
+pub drop-follows : (f : ℕ) (es : Trace) → (story f es).early ≡ 0 → has (is_dropped f) es ≡ true → has is_drop_begun (before_drop f es) ≡ true
+unfolding story
+drop-follows f es z d = go (follows f untold es z d)
+  where
+    go : Follows f untold es → has is_drop_begun (before_drop f es) ≡ true
+    go (inl x) = absurd (cc)
+    go (inr x) = x

@@ -1,13 +1,10 @@
 -- Each thing that is done leads to uses of the executor only inside of a call that holds it.
 use Rattle.std.proofs.Common.{◌≡◌, ℕ, List, [], ◌∷◌, ◌++◌, Bool, true, false, refl, ap, arith}
 use Rattle.std.specs.Prelude.{Option, Some, None}
-use Rattle.task_moves.specs.declared.schedule_info.ScheduleInfo.{ScheduleInfo}
 use Rattle.task_moves.specs.declared.moves.state.State.{State}
-use Rattle.task_moves.specs.declared.moves.owed.Move.{Move}
 use Rattle.task_moves.specs.declared.moves.owed.Move.TheVariants as move
 use Rattle.task_moves.specs.declared.moves.owed.FutureDebt.{FutureDebt}
 use Rattle.task_moves.specs.declared.moves.owed.AwaiterDebt.{AwaiterDebt}
-use Rattle.task_moves.specs.declared.moves.owed.AwaiterDebt.TheVariants.{NotifyAwaiter, NotifyOther, CallGiven, StoreCopy, CallStored, TakeAwaiter, CallTaken}
 use Rattle.task_moves.specs.declared.moves.owed.Answer.{Answer}
 use Rattle.task_moves.specs.declared.moves.owed.Owed.{Owed}
 use Rattle.task_moves.specs.declared.moves.owed.Moved.{Moved}
@@ -20,48 +17,32 @@ use Rattle.executor_model.specs.declared.op.Waker.TheVariants.{Task, Outside}
 use Rattle.executor_model.specs.declared.op.Hold.{Hold}
 use Rattle.executor_model.specs.declared.op.Op.{Op}
 use Rattle.executor_model.specs.declared.op.Op.TheVariants as op
+use Rattle.executor_model.specs.declared.op.ClosingOp.TheVariants as closing_op
+use Rattle.executor_model.specs.declared.op.HandleOp.TheVariants as handle_op
+use Rattle.executor_model.specs.declared.op.QueueOp.TheVariants as queue_op
+use Rattle.executor_model.specs.declared.op.TableOp.TheVariants as table_op
+use Rattle.executor_model.specs.declared.op.UserOp.TheVariants as user_op
+use Rattle.executor_model.specs.declared.op.WakerOp.TheVariants as waker_op
 use Rattle.executor_model.specs.declared.step.Hint.{Hint}
 use Rattle.executor_model.specs.declared.step.UserEnd.{UserEnd}
 use Rattle.executor_model.specs.declared.step.UserEnd.TheVariants as end
 use Rattle.executor_model.specs.World.{World, Done, task, among, awaiter_of}
-use Rattle.executor_model.specs.Carried.{owed_ops, schedule_ops, drop_ops, future_ops, output_ops, awaiter_ops, next_ops}
-use Rattle.executor_model.specs.Acts.{append_by, take_by, enter_by, leave_by, copy_by, look_by, look_again_by, copy_awaiter_by, register_by, waker_goes, let_go, end_register_by, notify_by, told, call_awaiter, closing_ops, drop_next_by, wake, wake_next_by, drain_by, act}
+use Rattle.executor_model.specs.Carried.{owed_ops, drop_ops, future_ops, awaiter_ops}
+use Rattle.executor_model.specs.Acts.{append_by, take_by, enter_by, copy_by, look_by, look_again_by, copy_awaiter_by, register_by, waker_goes, let_go, end_register_by, notify_by, told, call_awaiter, closing_ops, drop_next_by, wake, wake_next_by, drain_by, act}
 use Rattle.executor_model.specs.Weights.{weigh}
 use Rattle.executor_model.specs.Steps.{with_future, kept, accepts, begun, react}
 use Rattle.executor_model.proofs.Lists.{weigh-append}
+use Rattle.executor_model.proofs.Owed.{owed-awaiter, owed-nothing}
 use Rattle.executor_model.proofs.Borrowing.{uses_of, Tidy, tidy-light}
 
 light-both : (xs ys : List Op) → weigh uses_of xs ≡ 0 → weigh uses_of ys ≡ 0 → weigh uses_of (xs ++ ys) ≡ 0
 light-both xs ys a b = omega (arith, weigh-append uses_of xs ys, a, b)
 
-light-scheduled : (f : ℕ) (o : Option ScheduleInfo) → weigh uses_of (schedule_ops f o) ≡ 0
-light-scheduled f (Some info) = refl
-light-scheduled f None = refl
-
-light-output : (f : ℕ) (b : Bool) → weigh uses_of (output_ops b f) ≡ 0
-light-output f true = refl
-light-output f false = refl
-
 light-awaiter : (f : ℕ) (o : Option AwaiterDebt) → weigh uses_of (awaiter_ops f o) ≡ 0
-light-awaiter f (Some NotifyAwaiter) = refl
-light-awaiter f (Some NotifyOther) = refl
-light-awaiter f (Some CallGiven) = refl
-light-awaiter f (Some StoreCopy) = refl
-light-awaiter f (Some CallStored) = refl
-light-awaiter f (Some TakeAwaiter) = refl
-light-awaiter f (Some CallTaken) = refl
-light-awaiter f None = refl
-
-light-next : (f : ℕ) (o : Option Move) → weigh uses_of (next_ops f o) ≡ 0
-light-next f (Some move.Release) = refl
-light-next f (Some move.SettleClosed) = refl
-light-next f (Some move.GiveUp) = refl
-light-next f (Some move.EndClosed) = refl
-light-next f (Some move.Detach) = refl
-light-next f _ = refl
+light-awaiter f o = owed-awaiter uses_of f (record { notify = λ m. refl }) o
 
 light-owed : (f : ℕ) (there : Bool) (o : Owed) → weigh uses_of (future_ops there f o.future) ≡ 0 → weigh uses_of (owed_ops there f o) ≡ 0
-light-owed f there o z = light-both _ _ (light-both _ _ (light-both _ _ (light-both _ _ (light-scheduled f o.schedule) z) (light-output f o.drop_output)) (light-awaiter f o.awaiter)) (light-next f o.next)
+light-owed f there o z = owed-nothing uses_of f (record { append = refl; output = refl; release = refl; settle_closed = refl; give_up = refl; end_closed = refl; detach = refl }) there o z (light-awaiter f o.awaiter)
 
 -- a move at which no future is owed
 light-carried : (f : ℕ) (there : Bool) (m : Moved) → m.owed.future ≡ None → weigh uses_of (owed_ops there f m.owed) ≡ 0
@@ -95,7 +76,7 @@ light-append : (b : Bool) (w : World) (f : ℕ) → weigh uses_of (append_by b w
 light-append true w f = refl
 light-append false w f = refl
 
-tidy-take : (q : List ℕ) (w : World) → Tidy (op.Take ∷ []) (take_by w q).next
+tidy-take : (q : List ℕ) (w : World) → Tidy (op.Queue queue_op.Take ∷ []) (take_by w q).next
 tidy-take [] w = record { keeps = λ h. refl }
 tidy-take (f ∷ rest) w = record { keeps = λ h. refl }
 
@@ -133,8 +114,8 @@ light-let_go None = refl
 light-let_go (Some a) = light-goes a.waker
 
 light-end_register : (b : Bool) (w : World) (f : ℕ) (a : Waker) (k : ℕ) → weigh uses_of (end_register_by b w f a k).next ≡ 0
-light-end_register true w f a k = omega (arith, light-both (let_go (awaiter_of w f)) (op.LookAgain f ∷ []) (light-let_go (awaiter_of w f)) refl)
-light-end_register false w f a k = light-both (let_go (awaiter_of w f)) (op.LookAgain f ∷ []) (light-let_go (awaiter_of w f)) refl
+light-end_register true w f a k = omega (arith, light-both (let_go (awaiter_of w f)) (op.Handle (handle_op.LookAgain f) ∷ []) (light-let_go (awaiter_of w f)) refl)
+light-end_register false w f a k = light-both (let_go (awaiter_of w f)) (op.Handle (handle_op.LookAgain f) ∷ []) (light-let_go (awaiter_of w f)) refl
 
 light-notify : (b : Bool) (w : World) (f : ℕ) (mine : Bool) → weigh uses_of (notify_by b w f mine).next ≡ 0
 light-notify true w f mine = refl
@@ -169,67 +150,57 @@ light-drain : (p : ℕ) (w : World) (q : List ℕ) → weigh uses_of (drain_by p
 light-drain p w [] = refl
 light-drain p w (f ∷ rest) = refl
 
-light-leave : (b : Bool) (w : World) (f : ℕ) → weigh uses_of (leave_by b w f).next ≡ 0
-light-leave true w f = refl
-light-leave false w f = refl
-
 -- it uses the executor itself
 tidy-using : (o : Op) (next : List Op) → uses_of o ≡ 1 → Tidy (o ∷ []) next
 tidy-using o next u = record { keeps = λ h. absurd (omega (arith, u, h)) }
 
 -- what it needs beside: a Runnable that is dropped is one of a future that has no entry any more
 abbrev pub NeedsNoEntry : World → Op → Type 0
-NeedsNoEntry w (op.DropRunnable f) = among f w.table ≡ false
+NeedsNoEntry w (op.Move move.DropRunnable f) = among f w.table ≡ false
 NeedsNoEntry w _ = Unit {0}
 
 pub tidy-act : (p : ℕ) (h : Hint) (o : Op) (w : World) → NeedsNoEntry w o → Tidy (o ∷ []) (act p h o w).next
-tidy-act p h op.Enter w n = tidy-light _ _ (light-enter _ _ p w)
-tidy-act p h op.Take w n = tidy-take _ w
-tidy-act p h op.LookAtTable w n = tidy-light _ _ refl
-tidy-act p h (op.Append f) w n = tidy-light _ _ (light-append _ w f)
-tidy-act p h (op.WakeByReference f) w n = tidy-light _ _ (light-carried f _ (moves.wake_by_reference (task w f)) (no-wake _ _ (task w f)))
-tidy-act p h (op.Wake f) w n = tidy-light _ _ (light-wake p w f)
-tidy-act p h (op.Release f) w n = tidy-light _ _ (light-carried f _ (moves.release (task w f)) (no-release _ _ (task w f)))
-tidy-act p h (op.TakeUp f) w n = tidy-using (op.TakeUp f) _ refl
-tidy-act p h (op.SettleClosed f) w n = tidy-light _ _ (light-carried f (among f w.table) (moves.settle_closed (task w f)) refl)
-tidy-act p h (op.GiveUp f) w n = tidy-light _ _ (light-carried f _ (moves.give_up (task w f)) (no-give_up _ (task w f)))
-tidy-act p h (op.EndReady f) w n = tidy-light _ _ (light-carried f (among f w.table) (moves.end_ready (task w f)) refl)
-tidy-act p h (op.EndPending f) w n = tidy-using (op.EndPending f) _ refl
-tidy-act p h (op.EndClosed f) w n = tidy-light _ _ (light-carried f (among f w.table) (moves.end_closed (task w f)) refl)
-tidy-act p h (op.DropRunnable f) w n = tidy-light _ _ (light-owed f _ (moves.drop_runnable (task w f)).owed (ap (λ (b : Bool). weigh uses_of (drop_ops b f)) n))
-tidy-act p h (op.Cancel f) w n = tidy-light _ _ (light-carried f _ (moves.cancel (task w f)) (no-cancel _ _ (task w f)))
-tidy-act p h (op.Detach f) w n = tidy-light _ _ (light-carried f _ (moves.detach (task w f)) (no-detach _ _ (task w f)))
-tidy-act p h (op.TakeToPoll f) w n = tidy-using (op.TakeToPoll f) _ refl
-tidy-act p h (op.Poll f) w n = tidy-using (op.Poll f) _ refl
-tidy-act p h (op.PutBack f) w n = tidy-using (op.PutBack f) _ refl
-tidy-act p h (op.TakeToDrop f) w n = tidy-using (op.TakeToDrop f) _ refl
-tidy-act p h (op.BeginDrop f) w n = tidy-using (op.BeginDrop f) _ refl
-tidy-act p h (op.Drop f) w n = tidy-light _ _ refl
-tidy-act p h (op.LeaveTable f) w n = tidy-using (op.LeaveTable f) _ refl
-tidy-act p h (op.BeginDropOutput f) w n = tidy-light _ _ refl
-tidy-act p h (op.DropOutput f) w n = tidy-light _ _ refl
-tidy-act p h (op.CopyWaker f held) w n = tidy-light _ _ (light-copy _ w f held)
-tidy-act p h (op.Look f a) w n = tidy-light _ _ (light-look (moves.poll (task w f)).owed.answer p w f a (moves.poll (task w f)))
-tidy-act p h (op.CopyAwaiter f a) w n = tidy-light _ _ (light-copy_awaiter _ p w f a)
-tidy-act p h (op.Register f a k) w n = tidy-light _ _ (light-register _ w f a k)
-tidy-act p h (op.EndRegister f a k) w n = tidy-light _ _ (light-end_register _ w f a k)
-tidy-act p h (op.LookAgain f) w n = tidy-light _ _ (light-again (moves.look_again (task w f)).owed.answer p w f (moves.look_again (task w f)))
-tidy-act p h (op.Notify f mine) w n = tidy-light _ _ (light-notify _ w f mine)
-tidy-act p h (op.EndNotify f mine) w n = tidy-light _ _ (light-told _ f (awaiter_of w f))
-tidy-act p h (op.CallAwaiter f a k) w n = tidy-light _ _ (light-call p w f a k)
-tidy-act p h (op.CallOutside x) w n = tidy-light _ _ refl
-tidy-act p h op.TakeOut w n = tidy-light _ _ (light-closing w.table w.waking)
-tidy-act p h op.DropNext w n = tidy-light _ _ (light-drop_next p w w.leaving)
-tidy-act p h op.WakeNext w n = tidy-light _ _ (light-wake_next p w w.waking)
-tidy-act p h op.Close w n = tidy-light _ _ refl
-tidy-act p h op.Drain w n = tidy-light _ _ (light-drain p w w.queue.items)
-tidy-act p h (op.End a held) w n = tidy-light _ _ refl
+tidy-act p h (op.Table table_op.Enter) w n = tidy-light _ _ (light-enter _ _ p w)
+tidy-act p h (op.Queue queue_op.Take) w n = tidy-take _ w
+tidy-act p h (op.Queue (queue_op.Append f)) w n = tidy-light _ _ (light-append _ w f)
+tidy-act p h (op.Move move.WakeByReference f) w n = tidy-light _ _ (light-carried f _ (moves.wake_by_reference (task w f)) (no-wake _ _ (task w f)))
+tidy-act p h (op.Move move.Wake f) w n = tidy-light _ _ (light-wake p w f)
+tidy-act p h (op.Move move.Release f) w n = tidy-light _ _ (light-carried f _ (moves.release (task w f)) (no-release _ _ (task w f)))
+tidy-act p h (op.Move move.TakeUp f) w n = tidy-using (op.Move move.TakeUp f) _ refl
+tidy-act p h (op.Move move.SettleClosed f) w n = tidy-light _ _ (light-carried f (among f w.table) (moves.settle_closed (task w f)) refl)
+tidy-act p h (op.Move move.GiveUp f) w n = tidy-light _ _ (light-carried f _ (moves.give_up (task w f)) (no-give_up _ (task w f)))
+tidy-act p h (op.Move move.EndReady f) w n = tidy-light _ _ (light-carried f (among f w.table) (moves.end_ready (task w f)) refl)
+tidy-act p h (op.Move move.EndPending f) w n = tidy-using (op.Move move.EndPending f) _ refl
+tidy-act p h (op.Move move.EndClosed f) w n = tidy-light _ _ (light-carried f (among f w.table) (moves.end_closed (task w f)) refl)
+tidy-act p h (op.Move move.DropRunnable f) w n = tidy-light _ _ (light-owed f _ (moves.drop_runnable (task w f)).owed (ap (λ (b : Bool). weigh uses_of (drop_ops b f)) n))
+tidy-act p h (op.Move move.Cancel f) w n = tidy-light _ _ (light-carried f _ (moves.cancel (task w f)) (no-cancel _ _ (task w f)))
+tidy-act p h (op.Move move.Detach f) w n = tidy-light _ _ (light-carried f _ (moves.detach (task w f)) (no-detach _ _ (task w f)))
+tidy-act p h (op.Table (table_op.TakeToPoll f)) w n = tidy-using (op.Table (table_op.TakeToPoll f)) _ refl
+tidy-act p h (op.User (user_op.Poll f)) w n = tidy-using (op.User (user_op.Poll f)) _ refl
+tidy-act p h (op.Table (table_op.PutBack f)) w n = tidy-using (op.Table (table_op.PutBack f)) _ refl
+tidy-act p h (op.Table (table_op.TakeToDrop f)) w n = tidy-using (op.Table (table_op.TakeToDrop f)) _ refl
+tidy-act p h (op.User (user_op.BeginDrop f)) w n = tidy-using (op.User (user_op.BeginDrop f)) _ refl
+tidy-act p h (op.Table (table_op.LeaveTable f)) w n = tidy-using (op.Table (table_op.LeaveTable f)) _ refl
+tidy-act p h (op.Waker (waker_op.CopyWaker f held)) w n = tidy-light _ _ (light-copy _ w f held)
+tidy-act p h (op.Handle (handle_op.Look f a)) w n = tidy-light _ _ (light-look (moves.poll (task w f)).owed.answer p w f a (moves.poll (task w f)))
+tidy-act p h (op.Handle (handle_op.CopyAwaiter f a)) w n = tidy-light _ _ (light-copy_awaiter _ p w f a)
+tidy-act p h (op.Handle (handle_op.Register f a k)) w n = tidy-light _ _ (light-register _ w f a k)
+tidy-act p h (op.Handle (handle_op.EndRegister f a k)) w n = tidy-light _ _ (light-end_register _ w f a k)
+tidy-act p h (op.Handle (handle_op.LookAgain f)) w n = tidy-light _ _ (light-again (moves.look_again (task w f)).owed.answer p w f (moves.look_again (task w f)))
+tidy-act p h (op.Handle (handle_op.Notify f mine)) w n = tidy-light _ _ (light-notify _ w f mine)
+tidy-act p h (op.Handle (handle_op.EndNotify f mine)) w n = tidy-light _ _ (light-told _ f (awaiter_of w f))
+tidy-act p h (op.Waker (waker_op.CallAwaiter f a k)) w n = tidy-light _ _ (light-call p w f a k)
+tidy-act p h (op.Closing closing_op.TakeOut) w n = tidy-light _ _ (light-closing w.table w.waking)
+tidy-act p h (op.Closing closing_op.DropNext) w n = tidy-light _ _ (light-drop_next p w w.leaving)
+tidy-act p h (op.Closing closing_op.WakeNext) w n = tidy-light _ _ (light-wake_next p w w.waking)
+tidy-act p h (op.Closing closing_op.Drain) w n = tidy-light _ _ (light-drain p w w.queue.items)
+tidy-act p h _ w n = tidy-light _ _ refl
 
 pub tidy-react : (p : ℕ) (o : Op) (e : UserEnd) (w : World) → accepts o e ≡ true → Tidy (o ∷ []) (react p o e w).next
-tidy-react p (op.Poll f) (end.Polled a) w k = tidy-using (op.Poll f) _ refl
-tidy-react p (op.Drop f) end.Done w k = tidy-light _ _ refl
-tidy-react p (op.DropOutput f) end.Done w k = tidy-light _ _ refl
-tidy-react p (op.CallOutside x) end.Done w k = tidy-light _ _ refl
+tidy-react p (op.User (user_op.Poll f)) (end.Polled a) w k = tidy-using (op.User (user_op.Poll f)) _ refl
+tidy-react p (op.User (user_op.Drop f)) end.Done w k = tidy-light _ _ refl
+tidy-react p (op.User (user_op.DropOutput f)) end.Done w k = tidy-light _ _ refl
+tidy-react p (op.User (user_op.CallOutside x)) end.Done w k = tidy-light _ _ refl
 tidy-react p _ _ w k = absurd (cc)
 
 tidy-with : (v : World) (r : Option ℕ) (d : ℕ → Done) → ((f : ℕ) → Tidy [] (d f).next) → Tidy [] (with_future v r d).next

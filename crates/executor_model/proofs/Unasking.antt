@@ -25,6 +25,12 @@ use Rattle.executor_model.specs.declared.op.Waker.{Waker}
 use Rattle.executor_model.specs.declared.op.Waker.TheVariants.{Task, Outside}
 use Rattle.executor_model.specs.declared.op.Op.{Op}
 use Rattle.executor_model.specs.declared.op.Op.TheVariants as op
+use Rattle.executor_model.specs.declared.op.ClosingOp.TheVariants as closing_op
+use Rattle.executor_model.specs.declared.op.HandleOp.TheVariants as handle_op
+use Rattle.executor_model.specs.declared.op.QueueOp.TheVariants as queue_op
+use Rattle.executor_model.specs.declared.op.TableOp.TheVariants as table_op
+use Rattle.executor_model.specs.declared.op.UserOp.TheVariants as user_op
+use Rattle.executor_model.specs.declared.op.WakerOp.TheVariants as waker_op
 use Rattle.executor_model.specs.declared.step.Hint.{Hint}
 use Rattle.executor_model.specs.declared.step.UserEnd.{UserEnd}
 use Rattle.executor_model.specs.declared.step.UserEnd.TheVariants as end
@@ -132,8 +138,8 @@ none-let_go None = refl
 none-let_go (Some a) = none-waker a.waker
 
 none-end_register : (b : Bool) (w : World) (f : ℕ) (a : Waker) (k : ℕ) → AsksForNone (acts.end_register_by b w f a k).next
-none-end_register true w f a k = both (acts.let_go (awaiter_of w f)) (op.LookAgain f ∷ []) (none-let_go (awaiter_of w f)) refl
-none-end_register false w f a k = both (acts.let_go (awaiter_of w f)) (op.LookAgain f ∷ []) (none-let_go (awaiter_of w f)) refl
+none-end_register true w f a k = both (acts.let_go (awaiter_of w f)) (op.Handle (handle_op.LookAgain f) ∷ []) (none-let_go (awaiter_of w f)) refl
+none-end_register false w f a k = both (acts.let_go (awaiter_of w f)) (op.Handle (handle_op.LookAgain f) ∷ []) (none-let_go (awaiter_of w f)) refl
 
 none-notify : (b : Bool) (w : World) (f : ℕ) (mine : Bool) → AsksForNone (acts.notify_by b w f mine).next
 none-notify true w f mine = refl
@@ -178,90 +184,45 @@ none-drain p w (f ∷ rest) = refl
 -- one thing done
 
 none-act : (p : ℕ) (w : World) (h : Hint) (o : Op) → may_refuse o ≡ false → AsksForNone (act p h o w).next
-none-act p w h op.Enter e = absurd (cc)
-none-act p w h op.Take e = none-take w w.queue.items
-none-act p w h op.LookAtTable e = none-look_at_table w w.table
-none-act p w h (op.Append f) e = none-append _ w f
-none-act p w h (op.WakeByReference f) e = none-carried (log_if (not (is_over (task w f))) w (event.Woken p f)) f (moves.wake_by_reference (task w f))
-none-act p w h (op.Wake f) e = none-wake p w f
-none-act p w h (op.Release f) e = none-carried w f (moves.release (task w f))
-none-act p w h (op.TakeUp f) e = none-carried (log_if (not (task w f).closed) w (event.PollBegun p f)) f (moves.take_up (task w f))
-none-act p w h (op.SettleClosed f) e = none-carried w f (moves.settle_closed (task w f))
-none-act p w h (op.GiveUp f) e = none-carried w f (moves.give_up (task w f))
-none-act p w h (op.EndReady f) e = none-carried w f (moves.end_ready (task w f))
-none-act p w h (op.EndPending f) e = none-carried w f (moves.end_pending (task w f))
-none-act p w h (op.EndClosed f) e = none-carried w f (moves.end_closed (task w f))
-none-act p w h (op.DropRunnable f) e = none-carried w f (moves.drop_runnable (task w f))
-none-act p w h (op.Cancel f) e = none-carried (log_if (not (is_over (task w f))) w (event.Cancelled p f)) f (moves.cancel (task w f))
-none-act p w h (op.Detach f) e = none-carried (log_if (not ((task w f).completed && not (task w f).closed)) w (event.Detached p f)) f (moves.detach (task w f))
-none-act p w h (op.TakeToPoll f) e = refl
-none-act p w h (op.Poll f) e = refl
-none-act p w h (op.PutBack f) e = refl
-none-act p w h (op.TakeToDrop f) e = refl
-none-act p w h (op.BeginDrop f) e = refl
-none-act p w h (op.Drop f) e = refl
-none-act p w h (op.LeaveTable f) e = none-leave _ w f
-none-act p w h (op.BeginDropOutput f) e = refl
-none-act p w h (op.DropOutput f) e = refl
-none-act p w h (op.CopyWaker f held) e = absurd (cc)
-none-act p w h (op.Look f a) e = absurd (cc)
-none-act p w h (op.CopyAwaiter f a) e = absurd (cc)
-none-act p w h (op.Register f a k) e = none-register _ w f a k
-none-act p w h (op.EndRegister f a k) e = none-end_register _ w f a k
-none-act p w h (op.LookAgain f) e = none-again (task w f).closed _ (task w f).completed p w f
-none-act p w h (op.Notify f mine) e = none-notify _ w f mine
-none-act p w h (op.EndNotify f mine) e = none-told (mine && h.same) f (awaiter_of w f)
-none-act p w h (op.CallAwaiter f a k) e = none-call p w f a k
-none-act p w h (op.CallOutside x) e = refl
-none-act p w h op.TakeOut e = none-closing w.table w.waking
-none-act p w h op.DropNext e = none-drop_next p w w.leaving
-none-act p w h op.WakeNext e = none-wake_next p w w.waking
-none-act p w h op.Close e = refl
-none-act p w h op.Drain e = none-drain p w w.queue.items
-none-act p w h (op.End r held) e = refl
+none-act p w h (op.Table table_op.Enter) e = absurd (cc)
+none-act p w h (op.Queue queue_op.Take) e = none-take w w.queue.items
+none-act p w h (op.Table table_op.LookAtTable) e = none-look_at_table w w.table
+none-act p w h (op.Queue (queue_op.Append f)) e = none-append _ w f
+none-act p w h (op.Move move.WakeByReference f) e = none-carried (log_if (not (is_over (task w f))) w (event.Woken p f)) f (moves.wake_by_reference (task w f))
+none-act p w h (op.Move move.Wake f) e = none-wake p w f
+none-act p w h (op.Move move.Release f) e = none-carried w f (moves.release (task w f))
+none-act p w h (op.Move move.TakeUp f) e = none-carried (log_if (not (task w f).closed) w (event.PollBegun p f)) f (moves.take_up (task w f))
+none-act p w h (op.Move move.SettleClosed f) e = none-carried w f (moves.settle_closed (task w f))
+none-act p w h (op.Move move.GiveUp f) e = none-carried w f (moves.give_up (task w f))
+none-act p w h (op.Move move.EndReady f) e = none-carried w f (moves.end_ready (task w f))
+none-act p w h (op.Move move.EndPending f) e = none-carried w f (moves.end_pending (task w f))
+none-act p w h (op.Move move.EndClosed f) e = none-carried w f (moves.end_closed (task w f))
+none-act p w h (op.Move move.DropRunnable f) e = none-carried w f (moves.drop_runnable (task w f))
+none-act p w h (op.Move move.Cancel f) e = none-carried (log_if (not (is_over (task w f))) w (event.Cancelled p f)) f (moves.cancel (task w f))
+none-act p w h (op.Move move.Detach f) e = none-carried (log_if (not ((task w f).completed && not (task w f).closed)) w (event.Detached p f)) f (moves.detach (task w f))
+none-act p w h (op.Table (table_op.LeaveTable f)) e = none-leave _ w f
+none-act p w h (op.Waker (waker_op.CopyWaker f held)) e = absurd (cc)
+none-act p w h (op.Handle (handle_op.Look f a)) e = absurd (cc)
+none-act p w h (op.Handle (handle_op.CopyAwaiter f a)) e = absurd (cc)
+none-act p w h (op.Handle (handle_op.Register f a k)) e = none-register _ w f a k
+none-act p w h (op.Handle (handle_op.EndRegister f a k)) e = none-end_register _ w f a k
+none-act p w h (op.Handle (handle_op.LookAgain f)) e = none-again (task w f).closed _ (task w f).completed p w f
+none-act p w h (op.Handle (handle_op.Notify f mine)) e = none-notify _ w f mine
+none-act p w h (op.Handle (handle_op.EndNotify f mine)) e = none-told (mine && h.same) f (awaiter_of w f)
+none-act p w h (op.Waker (waker_op.CallAwaiter f a k)) e = none-call p w f a k
+none-act p w h (op.Closing closing_op.TakeOut) e = none-closing w.table w.waking
+none-act p w h (op.Closing closing_op.DropNext) e = none-drop_next p w w.leaving
+none-act p w h (op.Closing closing_op.WakeNext) e = none-wake_next p w w.waking
+none-act p w h (op.Closing closing_op.Drain) e = none-drain p w w.queue.items
+none-act p w h (op.User (user_op.BeginDrop f)) e = refl
+none-act p w h _ e = refl
 
 same-act : (p : ℕ) (w : World) (h : Hint) (refused : Bool) (o : Op) → may_refuse o ≡ false → act p (record h { refused = refused }) o w ≡ act p h o w
-same-act p w h refused op.Enter e = absurd (cc)
-same-act p w h refused op.Take e = refl
-same-act p w h refused op.LookAtTable e = refl
-same-act p w h refused (op.Append f) e = refl
-same-act p w h refused (op.WakeByReference f) e = refl
-same-act p w h refused (op.Wake f) e = refl
-same-act p w h refused (op.Release f) e = refl
-same-act p w h refused (op.TakeUp f) e = refl
-same-act p w h refused (op.SettleClosed f) e = refl
-same-act p w h refused (op.GiveUp f) e = refl
-same-act p w h refused (op.EndReady f) e = refl
-same-act p w h refused (op.EndPending f) e = refl
-same-act p w h refused (op.EndClosed f) e = refl
-same-act p w h refused (op.DropRunnable f) e = refl
-same-act p w h refused (op.Cancel f) e = refl
-same-act p w h refused (op.Detach f) e = refl
-same-act p w h refused (op.TakeToPoll f) e = refl
-same-act p w h refused (op.Poll f) e = refl
-same-act p w h refused (op.PutBack f) e = refl
-same-act p w h refused (op.TakeToDrop f) e = refl
-same-act p w h refused (op.BeginDrop f) e = refl
-same-act p w h refused (op.Drop f) e = refl
-same-act p w h refused (op.LeaveTable f) e = refl
-same-act p w h refused (op.BeginDropOutput f) e = refl
-same-act p w h refused (op.DropOutput f) e = refl
-same-act p w h refused (op.CopyWaker f held) e = absurd (cc)
-same-act p w h refused (op.Look f a) e = absurd (cc)
-same-act p w h refused (op.CopyAwaiter f a) e = absurd (cc)
-same-act p w h refused (op.Register f a k) e = refl
-same-act p w h refused (op.EndRegister f a k) e = refl
-same-act p w h refused (op.LookAgain f) e = refl
-same-act p w h refused (op.Notify f mine) e = refl
-same-act p w h refused (op.EndNotify f mine) e = refl
-same-act p w h refused (op.CallAwaiter f a k) e = refl
-same-act p w h refused (op.CallOutside x) e = refl
-same-act p w h refused op.TakeOut e = refl
-same-act p w h refused op.DropNext e = refl
-same-act p w h refused op.WakeNext e = refl
-same-act p w h refused op.Close e = refl
-same-act p w h refused op.Drain e = refl
-same-act p w h refused (op.End r held) e = refl
+same-act p w h refused (op.Table table_op.Enter) e = absurd (cc)
+same-act p w h refused (op.Waker (waker_op.CopyWaker f held)) e = absurd (cc)
+same-act p w h refused (op.Handle (handle_op.Look f a)) e = absurd (cc)
+same-act p w h refused (op.Handle (handle_op.CopyAwaiter f a)) e = absurd (cc)
+same-act p w h refused _ e = refl
 
 -- the beginning of a call, and what follows user code
 
@@ -286,49 +247,9 @@ none-begun p w here (call.DropHandle f) e = refl
 none-begun p w here call.DropExecutor e = refl
 
 none-react : (p : ℕ) (w : World) (o : Op) (e : UserEnd) → AsksForNone (react p o e w).next
-none-react p w op.Enter e = refl
-none-react p w op.Take e = refl
-none-react p w op.LookAtTable e = refl
-none-react p w (op.Append f) e = refl
-none-react p w (op.WakeByReference f) e = refl
-none-react p w (op.Wake f) e = refl
-none-react p w (op.Release f) e = refl
-none-react p w (op.TakeUp f) e = refl
-none-react p w (op.SettleClosed f) e = refl
-none-react p w (op.GiveUp f) e = refl
-none-react p w (op.EndReady f) e = refl
-none-react p w (op.EndPending f) e = refl
-none-react p w (op.EndClosed f) e = refl
-none-react p w (op.DropRunnable f) e = refl
-none-react p w (op.Cancel f) e = refl
-none-react p w (op.Detach f) e = refl
-none-react p w (op.TakeToPoll f) e = refl
-none-react p w (op.Poll f) (end.Polled polled.Pending) = refl
-none-react p w (op.Poll f) (end.Polled polled.Ready) = refl
-none-react p w (op.Poll f) end.Done = refl
-none-react p w (op.PutBack f) e = refl
-none-react p w (op.TakeToDrop f) e = refl
-none-react p w (op.BeginDrop f) e = refl
-none-react p w (op.Drop f) e = refl
-none-react p w (op.LeaveTable f) e = refl
-none-react p w (op.BeginDropOutput f) e = refl
-none-react p w (op.DropOutput f) e = refl
-none-react p w (op.CopyWaker f held) e = refl
-none-react p w (op.Look f a) e = refl
-none-react p w (op.CopyAwaiter f a) e = refl
-none-react p w (op.Register f a k) e = refl
-none-react p w (op.EndRegister f a k) e = refl
-none-react p w (op.LookAgain f) e = refl
-none-react p w (op.Notify f mine) e = refl
-none-react p w (op.EndNotify f mine) e = refl
-none-react p w (op.CallAwaiter f a k) e = refl
-none-react p w (op.CallOutside x) e = refl
-none-react p w op.TakeOut e = refl
-none-react p w op.DropNext e = refl
-none-react p w op.WakeNext e = refl
-none-react p w op.Close e = refl
-none-react p w op.Drain e = refl
-none-react p w (op.End r held) e = refl
+none-react p w (op.User (user_op.Poll f)) (end.Polled polled.Pending) = refl
+none-react p w (op.User (user_op.Poll f)) (end.Polled polled.Ready) = refl
+none-react p w _ _ = refl
 
 pub needs-no-memory : (w : World) (p : ℕ) → NeedsNoMemory w p
 needs-no-memory w p = record {

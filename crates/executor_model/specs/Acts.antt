@@ -10,6 +10,7 @@ use Rattle.task_moves.specs.Moves as moves
 use Rattle.task_moves.specs.Moves.{made, is_over, most_references}
 use Rattle.executor_model.specs.declared.call.Reply.{Reply}
 use Rattle.executor_model.specs.declared.call.Reply.TheVariants as reply
+use Rattle.executor_model.specs.declared.event.Event.{Event}
 use Rattle.executor_model.specs.declared.event.Event.TheVariants as event
 use Rattle.executor_model.specs.declared.op.Awaiter.{Awaiter}
 use Rattle.executor_model.specs.declared.op.Waker.{Waker}
@@ -18,6 +19,20 @@ use Rattle.executor_model.specs.declared.op.Hold.{Hold}
 use Rattle.executor_model.specs.declared.op.Hold.TheVariants as hold
 use Rattle.executor_model.specs.declared.op.Op.{Op}
 use Rattle.executor_model.specs.declared.op.Op.TheVariants as op
+use Rattle.executor_model.specs.declared.op.ClosingOp.{ClosingOp}
+use Rattle.executor_model.specs.declared.op.ClosingOp.TheVariants as closing_op
+use Rattle.executor_model.specs.declared.op.HandleOp.{HandleOp}
+use Rattle.executor_model.specs.declared.op.HandleOp.TheVariants as handle_op
+use Rattle.task_moves.specs.declared.moves.owed.Move.{Move}
+use Rattle.task_moves.specs.declared.moves.owed.Move.TheVariants as move
+use Rattle.executor_model.specs.declared.op.QueueOp.{QueueOp}
+use Rattle.executor_model.specs.declared.op.QueueOp.TheVariants as queue_op
+use Rattle.executor_model.specs.declared.op.TableOp.{TableOp}
+use Rattle.executor_model.specs.declared.op.TableOp.TheVariants as table_op
+use Rattle.executor_model.specs.declared.op.UserOp.{UserOp}
+use Rattle.executor_model.specs.declared.op.UserOp.TheVariants as user_op
+use Rattle.executor_model.specs.declared.op.WakerOp.{WakerOp}
+use Rattle.executor_model.specs.declared.op.WakerOp.TheVariants as waker_op
 use Rattle.executor_model.specs.declared.step.Hint.{Hint}
 use Rattle.executor_model.specs.World.{World, Done, done, log, log_if, task, put, awaiter_of, put_awaiter, without, among}
 use Rattle.executor_model.specs.Carried.{carried, awaiter_ops}
@@ -26,7 +41,7 @@ use Rattle.executor_model.specs.Carried.{carried, awaiter_ops}
 
 abbrev pub append_by : Bool → World → ℕ → Done
 append_by true w f = done (record w { queue = appended w.queue f }) []
-append_by false w f = done w (op.DropRunnable f ∷ [])
+append_by false w f = done w (op.Move move.DropRunnable f ∷ [])
 
 -- a Runnable that comes back is dropped
 abbrev pub append : World → ℕ → Done
@@ -34,7 +49,7 @@ append w f = append_by (not w.queue.closed && nat_lt (length w.queue.items) w.li
 
 abbrev pub take_by : World → List ℕ → Done
 take_by w [] = done w (op.End reply.No hold.Executor ∷ [])
-take_by w (f ∷ rest) = done (record w { queue = taken w.queue }) (op.TakeUp f ∷ op.End reply.Yes hold.Executor ∷ [])
+take_by w (f ∷ rest) = done (record w { queue = taken w.queue }) (op.Move move.TakeUp f ∷ op.End reply.Yes hold.Executor ∷ [])
 
 -- the first Runnable is taken, if there is one
 abbrev pub take_first : World → Done
@@ -52,7 +67,7 @@ enter_by true refused p w = done w (op.End reply.Full hold.Executor ∷ [])
 enter_by false true p w = done w (op.End reply.NoMemory hold.Executor ∷ [])
 enter_by false false p w = done
     (log (record w { tasks = w.tasks ++ entered ∷ []; awaiters = w.awaiters ++ None ∷ []; inside = w.inside ++ true ∷ []; table = w.table ++ length w.tasks ∷ [] }) (event.Accepted p (length w.tasks)))
-    (op.Append (length w.tasks) ∷ op.End reply.Made (hold.Spawned (length w.tasks)) ∷ [])
+    (op.Queue (queue_op.Append (length w.tasks)) ∷ op.End reply.Made (hold.Spawned (length w.tasks)) ∷ [])
 
 abbrev pub enter : ℕ → Hint → World → Done
 enter p h w = enter_by (not (nat_lt (length w.table) w.limit)) h.refused p w
@@ -65,46 +80,67 @@ abbrev pub look_at_table : World → Done
 look_at_table w = done w (op.End (emptiness w.table) hold.Executor ∷ [])
 
 abbrev pub take_to_poll : World → ℕ → Done
-take_to_poll w f = done (record w { inside = slice_set w.inside f false }) (op.Poll f ∷ [])
+take_to_poll w f = done (record w { inside = slice_set w.inside f false }) (op.User (user_op.Poll f) ∷ [])
 
 abbrev pub put_back : World → ℕ → Done
-put_back w f = done (record w { inside = slice_set w.inside f true }) (op.EndPending f ∷ [])
+put_back w f = done (record w { inside = slice_set w.inside f true }) (op.Move move.EndPending f ∷ [])
 
 abbrev pub take_to_drop : World → ℕ → Done
-take_to_drop w f = done (record w { inside = slice_set w.inside f false }) (op.BeginDrop f ∷ [])
+take_to_drop w f = done (record w { inside = slice_set w.inside f false }) (op.User (user_op.BeginDrop f) ∷ [])
 
 abbrev pub leave_by : Bool → World → ℕ → Done
-leave_by true w f = done (record w { table = without f w.table }) (op.Release f ∷ [])
+leave_by true w f = done (record w { table = without f w.table }) (op.Move move.Release f ∷ [])
 leave_by false w f = done w []
 
 abbrev pub leave_table : World → ℕ → Done
 leave_table w f = leave_by (among f w.table) w f
 
--- the moves of a task that have an event
+-- the moves of a task that stand alone: those that are no part of a poll of its handle, or of a notify
+abbrev pub stands_alone : Move → Bool
+stands_alone move.Copy = false
+stands_alone move.Poll = false
+stands_alone move.LookAgain = false
+stands_alone move.Register = false
+stands_alone move.EndRegister = false
+stands_alone move.Notify = false
+stands_alone move.EndNotify = false
+stands_alone _ = true
 
-abbrev pub take_up : ℕ → World → ℕ → Done
-take_up p w f = carried (log_if (not (task w f).closed) w (event.PollBegun p f)) f (moves.take_up (task w f))
+-- whether such a move of a task in this state is told of: a poll that begins, a wake or a cancel of a task that isn't over,
+-- and a handle that goes; an output that is there goes first, and then the handle
+abbrev pub is_told : Move → State → Bool
+is_told move.TakeUp s = not s.closed
+is_told move.WakeByReference s = not (is_over s)
+is_told move.Wake s = not (is_over s)
+is_told move.Cancel s = not (is_over s)
+is_told move.Detach s = not (s.completed && not s.closed)
+is_told _ s = false
 
-abbrev pub wake_by_reference : ℕ → World → ℕ → Done
-wake_by_reference p w f = carried (log_if (not (is_over (task w f))) w (event.Woken p f)) f (moves.wake_by_reference (task w f))
+-- and as what
+abbrev pub told_as : Move → ℕ → ℕ → Event
+told_as move.TakeUp p f = event.PollBegun p f
+told_as move.Cancel p f = event.Cancelled p f
+told_as move.Detach p f = event.Detached p f
+told_as _ p f = event.Woken p f
 
+abbrev pub move_by : Bool → Move → ℕ → World → ℕ → Done
+move_by true m p w f = carried (log_if (is_told m (task w f)) w (told_as m p f)) f (moves.after m (task w f))
+move_by false m p w f = done w []
+
+abbrev pub move_task : Move → ℕ → World → ℕ → Done
+move_task m p w f = move_by (stands_alone m) m p w f
+
+-- a waker is called, and goes
 abbrev pub wake : ℕ → World → ℕ → Done
-wake p w f = carried (log_if (not (is_over (task w f))) w (event.Woken p f)) f (moves.wake (task w f))
-
-abbrev pub cancel : ℕ → World → ℕ → Done
-cancel p w f = carried (log_if (not (is_over (task w f))) w (event.Cancelled p f)) f (moves.cancel (task w f))
-
--- an output that is there goes first, and then the handle
-abbrev pub detach : ℕ → World → ℕ → Done
-detach p w f = carried (log_if (not ((task w f).completed && not (task w f).closed)) w (event.Detached p f)) f (moves.detach (task w f))
+wake p w f = move_task move.Wake p w f
 
 -- user code
 
 abbrev pub begin_drop : ℕ → World → ℕ → Done
-begin_drop p w f = done (log w (event.Dropped p f)) (op.Drop f ∷ op.LeaveTable f ∷ [])
+begin_drop p w f = done (log w (event.Dropped p f)) (op.User (user_op.Drop f) ∷ op.Table (table_op.LeaveTable f) ∷ [])
 
 abbrev pub begin_drop_output : ℕ → World → ℕ → Done
-begin_drop_output p w f = done (log w (event.OutputDropped p f)) (op.DropOutput f ∷ [])
+begin_drop_output p w f = done (log w (event.OutputDropped p f)) (op.User (user_op.DropOutput f) ∷ [])
 
 -- wakers
 
@@ -143,7 +179,7 @@ answered p w f m a = done (log_if (is_output a) (put w f m.state) (event.OutputG
 
 -- nothing to answer yet, or this
 abbrev pub look_by : Option Answer → ℕ → World → ℕ → Waker → Moved → Done
-look_by None p w f waker m = done w (op.CopyAwaiter f waker ∷ [])
+look_by None p w f waker m = done w (op.Handle (handle_op.CopyAwaiter f waker) ∷ [])
 look_by (Some a) p w f waker m = answered p (polled p w f) f m a
 
 abbrev pub look : ℕ → World → ℕ → Waker → Done
@@ -160,21 +196,21 @@ is_copy_refused h w (Outside x) = h.refused
 
 abbrev pub copy_awaiter_by : Bool → ℕ → World → ℕ → Waker → Done
 copy_awaiter_by true p w f a = done w (op.End reply.NoMemory (hold.Handle f) ∷ [])
-copy_awaiter_by false p w f a = done (polled p (copied w a) f) (op.Register f a (length w.trace) ∷ [])
+copy_awaiter_by false p w f a = done (polled p (copied w a) f) (op.Handle (handle_op.Register f a (length w.trace)) ∷ [])
 
 abbrev pub copy_awaiter : ℕ → Hint → World → ℕ → Waker → Done
 copy_awaiter p h w f a = copy_awaiter_by (is_copy_refused h w a) p w f a
 
 -- somebody is notifying, and the waker is called at once; or the copy is about to be stored
 abbrev pub register_by : Bool → World → ℕ → Waker → ℕ → Done
-register_by true w f a k = done (put w f (moves.register_by true (task w f)).state) (op.CallAwaiter f a k ∷ op.LookAgain f ∷ [])
-register_by false w f a k = done (put w f (moves.register_by false (task w f)).state) (op.EndRegister f a k ∷ [])
+register_by true w f a k = done (put w f (moves.register_by true (task w f)).state) (op.Waker (waker_op.CallAwaiter f a k) ∷ op.Handle (handle_op.LookAgain f) ∷ [])
+register_by false w f a k = done (put w f (moves.register_by false (task w f)).state) (op.Handle (handle_op.EndRegister f a k) ∷ [])
 
 abbrev pub register : World → ℕ → Waker → ℕ → Done
 register w f a k = register_by (task w f).notifying w f a k
 
 abbrev pub waker_goes : Waker → List Op
-waker_goes (Task g) = op.Release g ∷ []
+waker_goes (Task g) = op.Move move.Release g ∷ []
 waker_goes (Outside x) = []
 
 -- what is left to do where an awaiter goes that isn't called
@@ -184,8 +220,8 @@ let_go (Some a) = waker_goes a.waker
 
 -- somebody wanted to notify meanwhile, and the copy is called; or it is stored. The old awaiter goes
 abbrev pub end_register_by : Bool → World → ℕ → Waker → ℕ → Done
-end_register_by true w f a k = done (put_awaiter (put w f (moves.end_register_by true (task w f)).state) f None) (op.CallAwaiter f a k ∷ let_go (awaiter_of w f) ++ op.LookAgain f ∷ [])
-end_register_by false w f a k = done (put_awaiter (put w f (moves.end_register_by false (task w f)).state) f (Some (record { waker = a; poll = k }))) (let_go (awaiter_of w f) ++ op.LookAgain f ∷ [])
+end_register_by true w f a k = done (put_awaiter (put w f (moves.end_register_by true (task w f)).state) f None) (op.Waker (waker_op.CallAwaiter f a k) ∷ let_go (awaiter_of w f) ++ op.Handle (handle_op.LookAgain f) ∷ [])
+end_register_by false w f a k = done (put_awaiter (put w f (moves.end_register_by false (task w f)).state) f (Some (record { waker = a; poll = k }))) (let_go (awaiter_of w f) ++ op.Handle (handle_op.LookAgain f) ∷ [])
 
 abbrev pub end_register : World → ℕ → Waker → ℕ → Done
 end_register w f a k = end_register_by (task w f).notifying w f a k
@@ -201,7 +237,7 @@ look_again p w f = look_again_by (moves.look_again (task w f)).owed.answer p w f
 -- somebody else is at the awaiter, or not
 abbrev pub notify_by : Bool → World → ℕ → Bool → Done
 notify_by true w f mine = done (put w f (moves.notify_by true (task w f)).state) []
-notify_by false w f mine = done (put w f (moves.notify_by false (task w f)).state) (op.EndNotify f mine ∷ [])
+notify_by false w f mine = done (put w f (moves.notify_by false (task w f)).state) (op.Handle (handle_op.EndNotify f mine) ∷ [])
 
 abbrev pub notify : World → ℕ → Bool → Done
 notify w f mine = notify_by ((task w f).notifying || (task w f).registering) w f mine
@@ -210,7 +246,7 @@ notify w f mine = notify_by ((task w f).notifying || (task w f).registering) w f
 abbrev pub told : Bool → ℕ → Option Awaiter → List Op
 told same f None = []
 told true f (Some a) = let_go (Some a)
-told false f (Some a) = op.CallAwaiter f a.waker a.poll ∷ []
+told false f (Some a) = op.Waker (waker_op.CallAwaiter f a.waker a.poll) ∷ []
 
 abbrev pub end_notify : Hint → World → ℕ → Bool → Done
 end_notify h w f mine = done (put_awaiter (put w f (moves.end_notify (task w f)).state) f None) (told (mine && h.same) f (awaiter_of w f))
@@ -218,15 +254,15 @@ end_notify h w f mine = done (put_awaiter (put w f (moves.end_notify (task w f))
 -- a waker of a task is called and goes; an outside one is user code
 abbrev pub call_awaiter : ℕ → World → ℕ → Waker → ℕ → Done
 call_awaiter p w f (Task g) k = wake p (log w (event.WakerCalled p f k (Task g))) g
-call_awaiter p w f (Outside x) k = done (log w (event.WakerCalled p f k (Outside x))) (op.CallOutside x ∷ [])
+call_awaiter p w f (Outside x) k = done (log w (event.WakerCalled p f k (Outside x))) (op.User (user_op.CallOutside x) ∷ [])
 
 -- the executor's drop
 
 -- first each future, then each waker, then the queue
 abbrev pub closing_ops : List ℕ → List ℕ → List Op
-closing_ops (f ∷ fs) ws = op.DropNext ∷ []
-closing_ops [] (f ∷ ws) = op.WakeNext ∷ []
-closing_ops [] [] = op.Close ∷ []
+closing_ops (f ∷ fs) ws = op.Closing closing_op.DropNext ∷ []
+closing_ops [] (f ∷ ws) = op.Closing closing_op.WakeNext ∷ []
+closing_ops [] [] = op.Closing closing_op.Close ∷ []
 
 -- the table is exchanged for the list of those that were taken out, which is empty until then
 abbrev pub take_out : World → Done
@@ -234,7 +270,7 @@ take_out w = done (record w { table = w.leaving; leaving = w.table }) (closing_o
 
 abbrev pub drop_next_by : ℕ → World → List ℕ → Done
 drop_next_by p w [] = done w []
-drop_next_by p w (f ∷ rest) = done (log (record w { leaving = rest; waking = w.waking ++ f ∷ []; inside = slice_set w.inside f false }) (event.Dropped p f)) (op.Drop f ∷ closing_ops rest (w.waking ++ f ∷ []))
+drop_next_by p w (f ∷ rest) = done (log (record w { leaving = rest; waking = w.waking ++ f ∷ []; inside = slice_set w.inside f false }) (event.Dropped p f)) (op.User (user_op.Drop f) ∷ closing_ops rest (w.waking ++ f ∷ []))
 
 abbrev pub drop_next : ℕ → World → Done
 drop_next p w = drop_next_by p w w.leaving
@@ -251,55 +287,62 @@ abbrev pub wake_next : ℕ → World → Done
 wake_next p w = wake_next_by p w w.waking
 
 abbrev pub close : World → Done
-close w = done (record w { queue = shut w.queue }) (op.Drain ∷ [])
+close w = done (record w { queue = shut w.queue }) (op.Closing closing_op.Drain ∷ [])
 
 abbrev pub drain_by : ℕ → World → List ℕ → Done
 drain_by p w [] = done (log w (event.DropEnded p)) []
-drain_by p w (f ∷ rest) = done (record w { queue = taken w.queue }) (op.DropRunnable f ∷ op.Drain ∷ [])
+drain_by p w (f ∷ rest) = done (record w { queue = taken w.queue }) (op.Move move.DropRunnable f ∷ op.Closing closing_op.Drain ∷ [])
 
 abbrev pub drain : ℕ → World → Done
 drain p w = drain_by p w w.queue.items
 
+-- by groups of things to do
+
+abbrev pub table_act : ℕ → Hint → TableOp → World → Done
+table_act p h table_op.Enter w = enter p h w
+table_act p h table_op.LookAtTable w = look_at_table w
+table_act p h (table_op.TakeToPoll f) w = take_to_poll w f
+table_act p h (table_op.PutBack f) w = put_back w f
+table_act p h (table_op.TakeToDrop f) w = take_to_drop w f
+table_act p h (table_op.LeaveTable f) w = leave_table w f
+
+abbrev pub queue_act : QueueOp → World → Done
+queue_act queue_op.Take w = take_first w
+queue_act (queue_op.Append f) w = append w f
+
+-- what waits for user code to answer stays
+abbrev pub user_act : ℕ → UserOp → World → Done
+user_act p (user_op.BeginDrop f) w = begin_drop p w f
+user_act p (user_op.BeginDropOutput f) w = begin_drop_output p w f
+user_act p o w = done w (op.User o ∷ [])
+
+abbrev pub waker_act : ℕ → Hint → WakerOp → World → Done
+waker_act p h (waker_op.CopyWaker f held) w = copy_waker h w f held
+waker_act p h (waker_op.CallAwaiter f a k) w = call_awaiter p w f a k
+
+abbrev pub handle_act : ℕ → Hint → HandleOp → World → Done
+handle_act p h (handle_op.Look f a) w = look p w f a
+handle_act p h (handle_op.CopyAwaiter f a) w = copy_awaiter p h w f a
+handle_act p h (handle_op.Register f a k) w = register w f a k
+handle_act p h (handle_op.EndRegister f a k) w = end_register w f a k
+handle_act p h (handle_op.LookAgain f) w = look_again p w f
+handle_act p h (handle_op.Notify f mine) w = notify w f mine
+handle_act p h (handle_op.EndNotify f mine) w = end_notify h w f mine
+
+abbrev pub closing_act : ℕ → ClosingOp → World → Done
+closing_act p closing_op.TakeOut w = take_out w
+closing_act p closing_op.DropNext w = drop_next p w
+closing_act p closing_op.WakeNext w = wake_next p w
+closing_act p closing_op.Close w = close w
+closing_act p closing_op.Drain w = drain p w
+
 -- one thing done by party p, which is told h
 abbrev pub act : ℕ → Hint → Op → World → Done
-act p h op.Enter w = enter p h w
-act p h op.Take w = take_first w
-act p h op.LookAtTable w = look_at_table w
-act p h (op.Append f) w = append w f
-act p h (op.WakeByReference f) w = wake_by_reference p w f
-act p h (op.Wake f) w = wake p w f
-act p h (op.Release f) w = carried w f (moves.release (task w f))
-act p h (op.TakeUp f) w = take_up p w f
-act p h (op.SettleClosed f) w = carried w f (moves.settle_closed (task w f))
-act p h (op.GiveUp f) w = carried w f (moves.give_up (task w f))
-act p h (op.EndReady f) w = carried w f (moves.end_ready (task w f))
-act p h (op.EndPending f) w = carried w f (moves.end_pending (task w f))
-act p h (op.EndClosed f) w = carried w f (moves.end_closed (task w f))
-act p h (op.DropRunnable f) w = carried w f (moves.drop_runnable (task w f))
-act p h (op.Cancel f) w = cancel p w f
-act p h (op.Detach f) w = detach p w f
-act p h (op.TakeToPoll f) w = take_to_poll w f
-act p h (op.Poll f) w = done w (op.Poll f ∷ [])
-act p h (op.PutBack f) w = put_back w f
-act p h (op.TakeToDrop f) w = take_to_drop w f
-act p h (op.BeginDrop f) w = begin_drop p w f
-act p h (op.Drop f) w = done w (op.Drop f ∷ [])
-act p h (op.LeaveTable f) w = leave_table w f
-act p h (op.BeginDropOutput f) w = begin_drop_output p w f
-act p h (op.DropOutput f) w = done w (op.DropOutput f ∷ [])
-act p h (op.CopyWaker f held) w = copy_waker h w f held
-act p h (op.Look f a) w = look p w f a
-act p h (op.CopyAwaiter f a) w = copy_awaiter p h w f a
-act p h (op.Register f a k) w = register w f a k
-act p h (op.EndRegister f a k) w = end_register w f a k
-act p h (op.LookAgain f) w = look_again p w f
-act p h (op.Notify f mine) w = notify w f mine
-act p h (op.EndNotify f mine) w = end_notify h w f mine
-act p h (op.CallAwaiter f a k) w = call_awaiter p w f a k
-act p h (op.CallOutside x) w = done w (op.CallOutside x ∷ [])
-act p h op.TakeOut w = take_out w
-act p h op.DropNext w = drop_next p w
-act p h op.WakeNext w = wake_next p w
-act p h op.Close w = close w
-act p h op.Drain w = drain p w
+act p h (op.Move m f) w = move_task m p w f
+act p h (op.Table o) w = table_act p h o w
+act p h (op.Queue o) w = queue_act o w
+act p h (op.User o) w = user_act p o w
+act p h (op.Waker o) w = waker_act p h o w
+act p h (op.Handle o) w = handle_act p h o w
+act p h (op.Closing o) w = closing_act p o w
 act p h (op.End r held) w = done (log w (event.CallEnded p r)) []

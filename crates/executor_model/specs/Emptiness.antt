@@ -5,6 +5,7 @@ use Rattle.executor_model.specs.declared.call.Reply.{Reply}
 use Rattle.executor_model.specs.declared.call.Reply.TheVariants.{Yes, No}
 use Rattle.executor_model.specs.declared.event.Event.TheVariants.{CallBegun, CallEnded}
 use Rattle.executor_model.specs.declared.op.Op.TheVariants as op
+use Rattle.executor_model.specs.declared.op.TableOp.TheVariants as table_op
 use Rattle.executor_model.specs.declared.step.Hint.{Hint}
 use Rattle.executor_model.specs.declared.step.Step.{Step}
 use Rattle.executor_model.specs.declared.step.Step.TheVariants.{Begin, Go}
@@ -15,7 +16,7 @@ use Rattle.executor_model.specs.Entries.{Remains}
 
 -- party p asks whether the executor is empty, and has still to look
 abbrev pub Looks : Machine → ℕ → Type 0
-Looks s p = top (stack s p) ≡ Some op.LookAtTable
+Looks s p = top (stack s p) ≡ Some (op.Table table_op.LookAtTable)
 
 -- its next step, told h, gives this answer
 abbrev pub Answers : Machine → ℕ → Hint → Reply → Type 0

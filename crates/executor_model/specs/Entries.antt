@@ -1,17 +1,14 @@
 -- The table and the queue: which futures have an entry, and which have a Runnable.
 use Rattle.std.specs.Prelude.{◌≡◌, ◌⊎◌, ℕ, ◌≤◌, true, false, Some}
 use Rattle.queue_steps.specs.ClosableQueue.{HasRoom}
-use Rattle.executor_model.specs.declared.op.Op.{Op}
 use Rattle.executor_model.specs.declared.op.Op.TheVariants as op
+use Rattle.executor_model.specs.declared.op.QueueOp.TheVariants as queue_op
 use Rattle.executor_model.specs.Trace.{has, is_accepted, is_dropped, is_drop_begun}
-use Rattle.executor_model.specs.Weights.{same, weigh_all}
-use Rattle.executor_model.specs.Sound.{times, ousting_of}
+use Rattle.executor_model.specs.Weights.{weigh_all}
+use Rattle.executor_model.specs.EarlyDrop.{before_drop}
+use Rattle.executor_model.specs.Sound.{times}
+use Rattle.executor_model.specs.Rows.{drops_of, leaves_of, ousting_of}
 use Rattle.executor_model.specs.Steps.{Machine, stack, top}
-
--- an entry of future g is still to be taken out of the table
-abbrev pub leaves_of : ℕ → Op → ℕ
-leaves_of g (op.LeaveTable f) = same g f
-leaves_of g _ = 0
 
 -- the drop of the executor hasn't yet taken the table out
 abbrev pub HasTable : Machine → Type 0
@@ -33,7 +30,10 @@ pub record QueueAgrees (s : Machine) (f : ℕ) : Type 0 where
   pub once : times f s.world.queue.items ≤ 1
   pub accepted : 1 ≤ times f s.world.queue.items → has (is_accepted f) s.world.trace ≡ true
   pub undropped : 1 ≤ times f s.world.queue.items → has (is_dropped f) s.world.trace ≡ true → has is_drop_begun s.world.trace ≡ true
+  pub by_closing : 1 ≤ times f s.world.queue.items → has (is_dropped f) s.world.trace ≡ true → has is_drop_begun (before_drop f s.world.trace) ≡ true
+  -- once that has begun, no other call drops a future
+  pub alone : has is_drop_begun s.world.trace ≡ true → weigh_all (drops_of f) s.parties ≡ 0
 
 -- a party that is about to append a Runnable finds a place for it
 abbrev pub FindsPlace : Machine → ℕ → Type 0
-FindsPlace s f = (p : ℕ) → top (stack s p) ≡ Some (op.Append f) → HasRoom s.world.queue
+FindsPlace s f = (p : ℕ) → top (stack s p) ≡ Some (op.Queue (queue_op.Append f)) → HasRoom s.world.queue

@@ -1,18 +1,25 @@
 -- What holds of the machine at every moment, and what each thing to do needs for its numbers to fit.
-use Rattle.std.specs.Prelude.{◌≡◌, ℕ, ◌+◌, ◌^◌, ◌<◌, nat_lt, Option, Some, None, List, [], ◌∷◌, cond, length}
+use Rattle.std.specs.Prelude.{◌≡◌, ℕ, ◌+◌, ◌^◌, ◌<◌, Option, Some, None, List, [], ◌∷◌, length}
+use Rattle.task_moves.specs.declared.moves.owed.Move.{Move}
+use Rattle.task_moves.specs.Moves.{HoldsReference}
 use Rattle.executor_model.specs.declared.op.Awaiter.{Awaiter}
 use Rattle.executor_model.specs.declared.op.Waker.{Waker}
 use Rattle.executor_model.specs.declared.op.Waker.TheVariants.{Task, Outside}
 use Rattle.executor_model.specs.declared.op.Op.{Op}
 use Rattle.executor_model.specs.declared.op.Op.TheVariants as op
+use Rattle.executor_model.specs.declared.op.ClosingOp.{ClosingOp}
+use Rattle.executor_model.specs.declared.op.ClosingOp.TheVariants as closing_op
+use Rattle.executor_model.specs.declared.op.HandleOp.{HandleOp}
+use Rattle.executor_model.specs.declared.op.HandleOp.TheVariants as handle_op
+use Rattle.executor_model.specs.declared.op.TableOp.{TableOp}
+use Rattle.executor_model.specs.declared.op.TableOp.TheVariants as table_op
+use Rattle.executor_model.specs.declared.op.WakerOp.{WakerOp}
+use Rattle.executor_model.specs.declared.op.WakerOp.TheVariants as waker_op
 use Rattle.executor_model.specs.World.{World, task}
-use Rattle.executor_model.specs.Weights.{weigh_all}
+use Rattle.executor_model.specs.Weights.{weigh_all, past, waker_past}
+use Rattle.executor_model.specs.Rows.{past_of}
 use Rattle.executor_model.specs.Steps.{Machine}
 use Rattle.executor_model.specs.Sound.{Sound, pend}
-
--- one where f is no number below n
-unfoldable pub past : ℕ → ℕ → ℕ
-past n f = cond (nat_lt f n) 0 1
 
 abbrev pub pasts : ℕ → List ℕ → ℕ
 pasts n [] = 0
@@ -23,46 +30,10 @@ wakers_past n [] = 0
 wakers_past n (None ∷ ws) = wakers_past n ws
 wakers_past n (Some f ∷ ws) = past n f + wakers_past n ws
 
-abbrev pub waker_past : ℕ → Waker → ℕ
-waker_past n (Task f) = past n f
-waker_past n (Outside x) = 0
-
 abbrev pub awaiters_past : ℕ → List (Option Awaiter) → ℕ
 awaiters_past n [] = 0
 awaiters_past n (None ∷ rest) = awaiters_past n rest
 awaiters_past n (Some a ∷ rest) = waker_past n a.waker + awaiters_past n rest
-
--- whether an op speaks of no future
-abbrev pub past_of : ℕ → Op → ℕ
-past_of n (op.Append f) = past n f
-past_of n (op.WakeByReference f) = past n f
-past_of n (op.Wake f) = past n f
-past_of n (op.Release f) = past n f
-past_of n (op.TakeUp f) = past n f
-past_of n (op.SettleClosed f) = past n f
-past_of n (op.GiveUp f) = past n f
-past_of n (op.EndReady f) = past n f
-past_of n (op.EndPending f) = past n f
-past_of n (op.EndClosed f) = past n f
-past_of n (op.DropRunnable f) = past n f
-past_of n (op.Cancel f) = past n f
-past_of n (op.Detach f) = past n f
-past_of n (op.TakeToPoll f) = past n f
-past_of n (op.Poll f) = past n f
-past_of n (op.PutBack f) = past n f
-past_of n (op.TakeToDrop f) = past n f
-past_of n (op.BeginDrop f) = past n f
-past_of n (op.LeaveTable f) = past n f
-past_of n (op.CopyWaker f held) = past n f
-past_of n (op.Look f a) = past n f + waker_past n a
-past_of n (op.CopyAwaiter f a) = past n f + waker_past n a
-past_of n (op.Register f a k) = past n f + waker_past n a
-past_of n (op.EndRegister f a k) = past n f + waker_past n a
-past_of n (op.LookAgain f) = past n f
-past_of n (op.Notify f mine) = past n f
-past_of n (op.EndNotify f mine) = past n f
-past_of n (op.CallAwaiter f a k) = past n f + waker_past n a
-past_of n _ = 0
 
 -- each number is a future's, and each future has its place in each list
 pub record Fits (w : World) : Type 0 where
@@ -104,32 +75,40 @@ abbrev pub CanWake : World → Waker → Type 0
 CanWake w (Task g) = CanGrow w g
 CanWake w (Outside x) = Unit {0}
 
--- what a thing to do needs
+-- a move of the task has the reference that it gives up, and its count has room for one more
+abbrev pub CanMove : World → Move → ℕ → Type 0
+CanMove w m f = CanGrow w f × HoldsReference m (task w f)
+
+-- what a thing to do needs, by groups
+
+abbrev pub TableNeeds : World → TableOp → Type 0
+TableNeeds w (table_op.TakeToPoll f) = HasPlace w f
+TableNeeds w (table_op.PutBack f) = HasPlace w f
+TableNeeds w (table_op.TakeToDrop f) = HasPlace w f
+TableNeeds w _ = Unit {0}
+
+abbrev pub WakerNeeds : World → WakerOp → Type 0
+WakerNeeds w (waker_op.CopyWaker f held) = IsKnown w f
+WakerNeeds w (waker_op.CallAwaiter f a k) = CanWake w a
+
+abbrev pub HandleNeeds : World → HandleOp → Type 0
+HandleNeeds w (handle_op.Look f a) = IsKnown w f
+HandleNeeds w (handle_op.CopyAwaiter f a) = IsKnownWaker w a
+HandleNeeds w (handle_op.Register f a k) = IsKnown w f
+HandleNeeds w (handle_op.EndRegister f a k) = KeepsAwaiter w f
+HandleNeeds w (handle_op.LookAgain f) = IsKnown w f
+HandleNeeds w (handle_op.Notify f mine) = IsKnown w f
+HandleNeeds w (handle_op.EndNotify f mine) = KeepsAwaiter w f
+
+abbrev pub ClosingNeeds : World → ClosingOp → Type 0
+ClosingNeeds w closing_op.DropNext = (f : ℕ) (rest : List ℕ) → w.leaving ≡ f ∷ rest → HasPlace w f
+ClosingNeeds w closing_op.WakeNext = (f : ℕ) (rest : List ℕ) → w.waking ≡ f ∷ rest → CanGrow w f
+ClosingNeeds w _ = Unit {0}
+
 abbrev pub Needs : World → Op → Type 0
-Needs w (op.WakeByReference f) = CanGrow w f
-Needs w (op.Wake f) = CanGrow w f
-Needs w (op.Release f) = IsHeld w f
-Needs w (op.TakeUp f) = IsKnown w f
-Needs w (op.SettleClosed f) = IsKnown w f
-Needs w (op.GiveUp f) = IsHeld w f
-Needs w (op.EndReady f) = IsKnown w f
-Needs w (op.EndPending f) = IsHeld w f
-Needs w (op.EndClosed f) = IsKnown w f
-Needs w (op.DropRunnable f) = IsKnown w f
-Needs w (op.Cancel f) = CanGrow w f
-Needs w (op.Detach f) = IsKnown w f
-Needs w (op.TakeToPoll f) = HasPlace w f
-Needs w (op.PutBack f) = HasPlace w f
-Needs w (op.TakeToDrop f) = HasPlace w f
-Needs w (op.CopyWaker f held) = IsKnown w f
-Needs w (op.Look f a) = IsKnown w f
-Needs w (op.CopyAwaiter f a) = IsKnownWaker w a
-Needs w (op.Register f a k) = IsKnown w f
-Needs w (op.EndRegister f a k) = KeepsAwaiter w f
-Needs w (op.LookAgain f) = IsKnown w f
-Needs w (op.Notify f mine) = IsKnown w f
-Needs w (op.EndNotify f mine) = KeepsAwaiter w f
-Needs w (op.CallAwaiter f a k) = CanWake w a
-Needs w op.DropNext = (f : ℕ) (rest : List ℕ) → w.leaving ≡ f ∷ rest → HasPlace w f
-Needs w op.WakeNext = (f : ℕ) (rest : List ℕ) → w.waking ≡ f ∷ rest → CanGrow w f
+Needs w (op.Move m f) = CanMove w m f
+Needs w (op.Table o) = TableNeeds w o
+Needs w (op.Waker o) = WakerNeeds w o
+Needs w (op.Handle o) = HandleNeeds w o
+Needs w (op.Closing o) = ClosingNeeds w o
 Needs w _ = Unit {0}

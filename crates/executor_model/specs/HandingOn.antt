@@ -3,18 +3,17 @@ use Rattle.std.specs.Prelude.{◌≡◌, ℕ, true, false, List, [], ◌∷◌, 
 use Rattle.task_moves.specs.Moves.{is_over}
 use Rattle.executor_model.specs.declared.op.Op.{Op}
 use Rattle.executor_model.specs.declared.op.Op.TheVariants as op
+use Rattle.executor_model.specs.declared.op.ClosingOp.TheVariants as closing_op
+use Rattle.task_moves.specs.declared.moves.owed.Move.TheVariants as move
+use Rattle.executor_model.specs.declared.op.WakerOp.TheVariants as waker_op
 use Rattle.executor_model.specs.declared.op.Waker.TheVariants.{Task}
 use Rattle.executor_model.specs.declared.step.Hint.{Hint}
 use Rattle.executor_model.specs.World.{World, task}
-use Rattle.executor_model.specs.Weights.{same, weigh}
+use Rattle.executor_model.specs.Weights.{weigh}
+use Rattle.executor_model.specs.Rows.{appends_of}
 use Rattle.executor_model.specs.Acts.{act}
 use Rattle.executor_model.specs.Steps.{Machine}
 use Rattle.executor_model.specs.Sound.{pend, tokens}
-
--- a Runnable of g is handed to the schedule function
-abbrev pub appends_of : ℕ → Op → ℕ
-appends_of g (op.Append f) = same g f
-appends_of g _ = 0
 
 abbrev pub handed_on : ℕ → Op → ℕ → Hint → World → ℕ
 handed_on g o p h w = weigh (appends_of g) (act p h o w).next
@@ -25,17 +24,17 @@ IsFirst f (g ∷ gs) = f ≡ g
 
 -- each wake of f's task: by a waker that stays or goes, by the call of an awaiter that is a waker of it, and by the executor's drop
 abbrev pub IsWakeOf : ℕ → World → Op → Type 0
-IsWakeOf f w (op.WakeByReference g) = f ≡ g
-IsWakeOf f w (op.Wake g) = f ≡ g
-IsWakeOf f w (op.CallAwaiter awaited (Task g) poll) = f ≡ g
-IsWakeOf f w op.WakeNext = IsFirst f w.waking
+IsWakeOf f w (op.Move move.WakeByReference g) = f ≡ g
+IsWakeOf f w (op.Move move.Wake g) = f ≡ g
+IsWakeOf f w (op.Waker (waker_op.CallAwaiter awaited (Task g) poll)) = f ≡ g
+IsWakeOf f w (op.Closing closing_op.WakeNext) = IsFirst f w.waking
 IsWakeOf f w _ = true ≡ false
 
 -- a wake that marks f's task hands on one Runnable, but none where the task is running, and then the end of the poll does,
 -- unless the task is closed by then; a wake of a task that is marked or over hands on none
 pub record HandsOn (w : World) (f p : ℕ) (h : Hint) : Type 0 where
   pub marks : (o : Op) → IsWakeOf f w o → is_over (task w f) ≡ false → (task w f).scheduled ≡ false → handed_on f o p h w ≡ cond (task w f).running 0 1
-  pub at_the_end : (task w f).closed ≡ false → (task w f).scheduled ≡ true → handed_on f (op.EndPending f) p h w ≡ 1
+  pub at_the_end : (task w f).closed ≡ false → (task w f).scheduled ≡ true → handed_on f (op.Move move.EndPending f) p h w ≡ 1
   pub none_marked : (o : Op) → IsWakeOf f w o → (task w f).scheduled ≡ true → handed_on f o p h w ≡ 0
   pub none_over : (o : Op) → IsWakeOf f w o → is_over (task w f) ≡ true → handed_on f o p h w ≡ 0
 

@@ -10,6 +10,7 @@ pub mod World
 pub mod Carried
 pub mod Acts
 pub mod Weights
+pub mod Rows
 pub mod Steps
 pub mod Sound
 pub mod Good

@@ -3,6 +3,7 @@ use Rattle.std.specs.Prelude.{◌≡◌, ℕ, ◌≤◌, false, true, Some, List
 use Rattle.executor_model.specs.declared.call.Reply.TheVariants.{Full}
 use Rattle.executor_model.specs.declared.event.Event.TheVariants.{CallEnded}
 use Rattle.executor_model.specs.declared.op.Op.TheVariants as op
+use Rattle.executor_model.specs.declared.op.TableOp.TheVariants as table_op
 use Rattle.executor_model.specs.declared.step.Hint.{Hint}
 use Rattle.executor_model.specs.declared.step.Step.TheVariants.{Go}
 use Rattle.executor_model.specs.Trace.{has, is_accepted, is_dropped}
@@ -12,7 +13,7 @@ use Rattle.executor_model.specs.Entries.{Remains}
 
 -- party p is a spawn that has still to ask for a place
 abbrev pub Asks : Machine → ℕ → Type 0
-Asks s p = top (stack s p) ≡ Some op.Enter
+Asks s p = top (stack s p) ≡ Some (op.Table table_op.Enter)
 
 -- its next step, told h, answers that the executor is full
 abbrev pub AnswersFull : Machine → ℕ → Hint → Type 0

@@ -7,6 +7,9 @@ use Rattle.executor_model.specs.declared.call.Reply.{Reply}
 use Rattle.executor_model.specs.declared.call.Reply.TheVariants as reply
 use Rattle.executor_model.specs.declared.op.Op.{Op}
 use Rattle.executor_model.specs.declared.op.Op.TheVariants as op
+use Rattle.executor_model.specs.declared.op.HandleOp.TheVariants as handle_op
+use Rattle.executor_model.specs.declared.op.TableOp.TheVariants as table_op
+use Rattle.executor_model.specs.declared.op.WakerOp.TheVariants as waker_op
 use Rattle.executor_model.specs.declared.step.Hint.{Hint}
 use Rattle.executor_model.specs.declared.step.UserEnd.{UserEnd}
 use Rattle.executor_model.specs.Acts.{act}
@@ -28,10 +31,10 @@ refuses _ = false
 
 -- it asks for memory or leads to what does, or it ends a call with a refusal
 abbrev pub may_refuse : Op → Bool
-may_refuse op.Enter = true
-may_refuse (op.CopyWaker f held) = true
-may_refuse (op.Look f waker) = true
-may_refuse (op.CopyAwaiter f waker) = true
+may_refuse (op.Table table_op.Enter) = true
+may_refuse (op.Waker (waker_op.CopyWaker f held)) = true
+may_refuse (op.Handle (handle_op.Look f waker)) = true
+may_refuse (op.Handle (handle_op.CopyAwaiter f waker)) = true
 may_refuse (op.End r held) = refuses r
 may_refuse _ = false
 

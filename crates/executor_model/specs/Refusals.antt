@@ -7,6 +7,8 @@ use Rattle.executor_model.specs.declared.call.Reply.{Reply}
 use Rattle.executor_model.specs.declared.call.Reply.TheVariants as reply
 use Rattle.executor_model.specs.declared.op.Op.{Op}
 use Rattle.executor_model.specs.declared.op.Op.TheVariants as op
+use Rattle.executor_model.specs.declared.op.HandleOp.TheVariants as handle_op
+use Rattle.executor_model.specs.declared.op.WakerOp.TheVariants as waker_op
 use Rattle.executor_model.specs.declared.op.Waker.TheVariants.{Task}
 use Rattle.executor_model.specs.declared.step.Hint.{Hint}
 use Rattle.executor_model.specs.Acts.{act}
@@ -31,8 +33,8 @@ ends_for_want _ = false
 
 -- it copies the waker of a task that already has 2^40 references
 abbrev pub CopiesOneTooMany : Op → World → Type 0
-CopiesOneTooMany (op.CopyWaker f held) w = most_references ≤ (task w f).references
-CopiesOneTooMany (op.CopyAwaiter f (Task g)) w = most_references ≤ (task w g).references
+CopiesOneTooMany (op.Waker (waker_op.CopyWaker f held)) w = most_references ≤ (task w f).references
+CopiesOneTooMany (op.Handle (handle_op.CopyAwaiter f (Task g))) w = most_references ≤ (task w g).references
 CopiesOneTooMany _ w = true ≡ false
 
 -- a call ends for want of memory only where the step's hint says so, or where one reference too many would be made; none begins with such an end

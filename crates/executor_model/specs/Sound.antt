@@ -5,13 +5,11 @@ use Rattle.executor_model.specs.declared.event.Answer.TheVariants.{Pending, Read
 use Rattle.executor_model.specs.declared.event.Event.{Event}
 use Rattle.executor_model.specs.declared.event.Event.TheVariants.{PollBegun, Answered, Dropped}
 use Rattle.executor_model.specs.declared.op.Awaiter.{Awaiter}
-use Rattle.executor_model.specs.declared.op.Waker.{Waker}
-use Rattle.executor_model.specs.declared.op.Waker.TheVariants.{Task, Outside}
 use Rattle.executor_model.specs.declared.op.Op.{Op}
-use Rattle.executor_model.specs.declared.op.Op.TheVariants as op
 use Rattle.executor_model.specs.Trace.{Trace}
 use Rattle.executor_model.specs.World.{World, task}
-use Rattle.executor_model.specs.Weights.{same, weigh, weigh_all, borrowing_of}
+use Rattle.executor_model.specs.Weights.{same, weigh, weigh_all, wakes}
+use Rattle.executor_model.specs.Rows.{waiting_of, polls_of, ending_of, ready_of, closing_of, settling_of, giving_of, drops_of, releases_of, copies_of, borrowing_of, ousting_of}
 
 -- how often g stands in the list
 abbrev pub times : ℕ → List ℕ → ℕ
@@ -24,74 +22,11 @@ wakers_of g [] = 0
 wakers_of g (None ∷ ws) = wakers_of g ws
 wakers_of g (Some f ∷ ws) = same g f + wakers_of g ws
 
--- whether the waker is one of g's task
-abbrev pub wakes : ℕ → Waker → ℕ
-wakes g (Task f) = same g f
-wakes g (Outside x) = 0
-
 -- how many of these stored awaiters are wakers of g's task
 abbrev pub awaiters_of : ℕ → List (Option Awaiter) → ℕ
 awaiters_of g [] = 0
 awaiters_of g (None ∷ rest) = awaiters_of g rest
 awaiters_of g (Some a ∷ rest) = wakes g a.waker + awaiters_of g rest
-
--- one number for each stage of a run of g
-
--- Runnables that are not in the queue
-abbrev pub waiting_of : ℕ → Op → ℕ
-waiting_of g (op.Append f) = same g f
-waiting_of g (op.TakeUp f) = same g f
-waiting_of g (op.DropRunnable f) = same g f
-waiting_of g _ = 0
-
-abbrev pub polls_of : ℕ → Op → ℕ
-polls_of g (op.TakeToPoll f) = same g f
-polls_of g (op.Poll f) = same g f
-polls_of g _ = 0
-
-abbrev pub ending_of : ℕ → Op → ℕ
-ending_of g (op.PutBack f) = same g f
-ending_of g (op.EndPending f) = same g f
-ending_of g _ = 0
-
-abbrev pub ready_of : ℕ → Op → ℕ
-ready_of g (op.EndReady f) = same g f
-ready_of g _ = 0
-
-abbrev pub closing_of : ℕ → Op → ℕ
-closing_of g (op.EndClosed f) = same g f
-closing_of g _ = 0
-
-abbrev pub settling_of : ℕ → Op → ℕ
-settling_of g (op.SettleClosed f) = same g f
-settling_of g _ = 0
-
-abbrev pub giving_of : ℕ → Op → ℕ
-giving_of g (op.GiveUp f) = same g f
-giving_of g _ = 0
-
--- drops of the future that are owed
-abbrev pub drops_of : ℕ → Op → ℕ
-drops_of g (op.TakeToDrop f) = same g f
-drops_of g (op.BeginDrop f) = same g f
-drops_of g _ = 0
-
--- wakers that are about to go
-abbrev pub releases_of : ℕ → Op → ℕ
-releases_of g (op.Wake f) = same g f
-releases_of g (op.Release f) = same g f
-releases_of g _ = 0
-
--- wakers on their way to be stored or called
-abbrev pub copies_of : ℕ → Op → ℕ
-copies_of g (op.Register f a k) = wakes g a
-copies_of g (op.EndRegister f a k) = wakes g a
-copies_of g (op.CallAwaiter f a k) = wakes g a
-copies_of g _ = 0
-
-abbrev pub ousting_of : Op → ℕ
-ousting_of op.TakeOut = 1
-ousting_of _ = 0
 
 -- what the parties have still to do with g
 pub record Pend : Type 0 where

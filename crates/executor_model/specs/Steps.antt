@@ -14,6 +14,13 @@ use Rattle.executor_model.specs.declared.op.Waker.TheVariants.{Task, Outside}
 use Rattle.executor_model.specs.declared.op.Hold.TheVariants as hold
 use Rattle.executor_model.specs.declared.op.Op.{Op}
 use Rattle.executor_model.specs.declared.op.Op.TheVariants as op
+use Rattle.executor_model.specs.declared.op.ClosingOp.TheVariants as closing_op
+use Rattle.executor_model.specs.declared.op.HandleOp.TheVariants as handle_op
+use Rattle.task_moves.specs.declared.moves.owed.Move.TheVariants as move
+use Rattle.executor_model.specs.declared.op.QueueOp.TheVariants as queue_op
+use Rattle.executor_model.specs.declared.op.TableOp.TheVariants as table_op
+use Rattle.executor_model.specs.declared.op.UserOp.TheVariants as user_op
+use Rattle.executor_model.specs.declared.op.WakerOp.TheVariants as waker_op
 use Rattle.executor_model.specs.declared.step.Step.{Step}
 use Rattle.executor_model.specs.declared.step.Step.TheVariants.{Begin, Go, Answer}
 use Rattle.executor_model.specs.declared.step.StepError.{StepError}
@@ -22,7 +29,8 @@ use Rattle.executor_model.specs.declared.step.UserEnd.{UserEnd}
 use Rattle.executor_model.specs.declared.step.UserEnd.TheVariants as end
 use Rattle.executor_model.specs.World.{World, Done, done, log, task}
 use Rattle.executor_model.specs.Acts.{act}
-use Rattle.executor_model.specs.Weights.{weigh_all, borrowing_of, handling_of, lending_of}
+use Rattle.executor_model.specs.Weights.{weigh_all}
+use Rattle.executor_model.specs.Rows.{borrowing_of, handling_of, lending_of}
 
 pub record Machine : Type 0 where
   pub world : World
@@ -41,10 +49,10 @@ below_top os = take (length os - 1) os
 
 -- user code, which must answer first
 abbrev pub waits : Op → Bool
-waits (op.Poll f) = true
-waits (op.Drop f) = true
-waits (op.DropOutput f) = true
-waits (op.CallOutside x) = true
+waits (op.User (user_op.Poll f)) = true
+waits (op.User (user_op.Drop f)) = true
+waits (op.User (user_op.DropOutput f)) = true
+waits (op.User (user_op.CallOutside x)) = true
 waits _ = false
 
 -- a party may begin a call where it does nothing or is in user code
@@ -54,7 +62,7 @@ is_free (Some o) = waits o
 
 -- the future in whose poll a party is
 abbrev pub polled_by : Option Op → Option ℕ
-polled_by (Some (op.Poll f)) = Some f
+polled_by (Some (op.User (user_op.Poll f))) = Some f
 polled_by _ = None
 
 -- which steps are possible
@@ -124,10 +132,10 @@ go_refusal (Some o) = unless (not (waits o)) WrongAnswer None
 
 -- whether the user code may end so
 abbrev pub accepts : Op → UserEnd → Bool
-accepts (op.Poll f) (end.Polled a) = true
-accepts (op.Drop f) end.Done = true
-accepts (op.DropOutput f) end.Done = true
-accepts (op.CallOutside x) end.Done = true
+accepts (op.User (user_op.Poll f)) (end.Polled a) = true
+accepts (op.User (user_op.Drop f)) end.Done = true
+accepts (op.User (user_op.DropOutput f)) end.Done = true
+accepts (op.User (user_op.CallOutside x)) end.Done = true
 accepts _ _ = false
 
 abbrev pub answer_refusal : Option Op → UserEnd → Option StepError
@@ -165,25 +173,25 @@ waker_of here (by.Outside x) = Outside x
 
 -- what a call changes as it begins, and what it will do
 abbrev pub begun : ℕ → World → Option ℕ → Call → Done
-begun p w here call.Spawn = done w (op.Enter ∷ [])
-begun p w here call.TryTick = done w (op.Take ∷ [])
-begun p w here call.IsEmpty = done w (op.LookAtTable ∷ [])
-begun p w here (call.Wake k) = with_future w (kept w k) (λ f. done (used_up w k) (op.Wake f ∷ op.End reply.Done hold.Nothing ∷ []))
-begun p w here (call.WakeByRef k) = with_future w (kept w k) (λ f. done w (op.WakeByReference f ∷ op.End reply.Done (hold.Waker k) ∷ []))
-begun p w here (call.Copy k) = with_future w (kept w k) (λ f. done w (op.CopyWaker f (hold.Waker k) ∷ []))
-begun p w here (call.DropWaker k) = with_future w (kept w k) (λ f. done (used_up w k) (op.Release f ∷ op.End reply.Done hold.Nothing ∷ []))
-begun p w here call.Keep = with_future w here (λ f. done w (op.CopyWaker f hold.Nothing ∷ []))
-begun p w here call.WakeSelf = with_future w here (λ f. done w (op.WakeByReference f ∷ op.End reply.Done hold.Nothing ∷ []))
-begun p w here (call.PollHandle f b) = done w (op.Look f (waker_of here b) ∷ [])
-begun p w here (call.Cancel f) = done w (op.Cancel f ∷ op.End reply.Done (hold.Handle f) ∷ [])
-begun p w here (call.Detach f) = done w (op.Detach f ∷ op.End reply.Done (hold.Handle f) ∷ [])
-begun p w here (call.DropHandle f) = done w (op.Cancel f ∷ op.Detach f ∷ op.End reply.Done (hold.Handle f) ∷ [])
-begun p w here call.DropExecutor = done (log (record w { gone = true }) (event.DropBegun p)) (op.TakeOut ∷ op.End reply.Done hold.Nothing ∷ [])
+begun p w here call.Spawn = done w (op.Table table_op.Enter ∷ [])
+begun p w here call.TryTick = done w (op.Queue queue_op.Take ∷ [])
+begun p w here call.IsEmpty = done w (op.Table table_op.LookAtTable ∷ [])
+begun p w here (call.Wake k) = with_future w (kept w k) (λ f. done (used_up w k) (op.Move move.Wake f ∷ op.End reply.Done hold.Nothing ∷ []))
+begun p w here (call.WakeByRef k) = with_future w (kept w k) (λ f. done w (op.Move move.WakeByReference f ∷ op.End reply.Done (hold.Waker k) ∷ []))
+begun p w here (call.Copy k) = with_future w (kept w k) (λ f. done w (op.Waker (waker_op.CopyWaker f (hold.Waker k)) ∷ []))
+begun p w here (call.DropWaker k) = with_future w (kept w k) (λ f. done (used_up w k) (op.Move move.Release f ∷ op.End reply.Done hold.Nothing ∷ []))
+begun p w here call.Keep = with_future w here (λ f. done w (op.Waker (waker_op.CopyWaker f hold.Nothing) ∷ []))
+begun p w here call.WakeSelf = with_future w here (λ f. done w (op.Move move.WakeByReference f ∷ op.End reply.Done hold.Nothing ∷ []))
+begun p w here (call.PollHandle f b) = done w (op.Handle (handle_op.Look f (waker_of here b)) ∷ [])
+begun p w here (call.Cancel f) = done w (op.Move move.Cancel f ∷ op.End reply.Done (hold.Handle f) ∷ [])
+begun p w here (call.Detach f) = done w (op.Move move.Detach f ∷ op.End reply.Done (hold.Handle f) ∷ [])
+begun p w here (call.DropHandle f) = done w (op.Move move.Cancel f ∷ op.Move move.Detach f ∷ op.End reply.Done (hold.Handle f) ∷ [])
+begun p w here call.DropExecutor = done (log (record w { gone = true }) (event.DropBegun p)) (op.Closing closing_op.TakeOut ∷ op.End reply.Done hold.Nothing ∷ [])
 
 -- what follows the end of user code
 abbrev pub react : ℕ → Op → UserEnd → World → Done
-react p (op.Poll f) (end.Polled answer.Pending) w = done (log w (event.Answered p f answer.Pending)) (op.PutBack f ∷ [])
-react p (op.Poll f) (end.Polled answer.Ready) w = done (log w (event.Answered p f answer.Ready)) (op.BeginDrop f ∷ op.EndReady f ∷ [])
+react p (op.User (user_op.Poll f)) (end.Polled answer.Pending) w = done (log w (event.Answered p f answer.Pending)) (op.Table (table_op.PutBack f) ∷ [])
+react p (op.User (user_op.Poll f)) (end.Polled answer.Ready) w = done (log w (event.Answered p f answer.Ready)) (op.User (user_op.BeginDrop f) ∷ op.Move move.EndReady f ∷ [])
 react p _ _ w = done w []
 
 -- a party's part of the machine

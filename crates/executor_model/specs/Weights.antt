@@ -1,9 +1,10 @@
--- Numbers that are read off what the parties have still to do.
-use Rattle.std.specs.Prelude.{ℕ, ◌+◌, ◌==◌, List, [], ◌∷◌, cond}
+-- Sums over what the parties have still to do, and what a thing to do counts of a future, a waker or what it holds.
+use Rattle.std.specs.Prelude.{ℕ, ◌+◌, ◌==◌, List, [], ◌∷◌, cond, nat_lt}
 use Rattle.executor_model.specs.declared.op.Hold.{Hold}
 use Rattle.executor_model.specs.declared.op.Hold.TheVariants as hold
 use Rattle.executor_model.specs.declared.op.Op.{Op}
-use Rattle.executor_model.specs.declared.op.Op.TheVariants as op
+use Rattle.executor_model.specs.declared.op.Waker.{Waker}
+use Rattle.executor_model.specs.declared.op.Waker.TheVariants.{Task, Outside}
 
 -- one where they are the same
 unfoldable pub same : ℕ → ℕ → ℕ
@@ -42,33 +43,15 @@ holds_waker j (hold.Spawned f) = 0
 holds_waker j (hold.Handle f) = 0
 holds_waker j (hold.Waker k) = same j k
 
--- uses of the executor by calls in progress: the end of such a call, and the run of a future inside
-abbrev pub borrowing_of : Op → ℕ
-borrowing_of op.Enter = 1
-borrowing_of op.Take = 1
-borrowing_of op.LookAtTable = 1
-borrowing_of (op.TakeUp f) = 1
-borrowing_of (op.TakeToPoll f) = 1
-borrowing_of (op.Poll f) = 1
-borrowing_of (op.PutBack f) = 1
-borrowing_of (op.EndPending f) = 1
-borrowing_of (op.EndReady f) = 1
-borrowing_of (op.CopyWaker f held) = holds_executor held
-borrowing_of (op.End r held) = holds_executor held
-borrowing_of _ = 0
+-- whether the waker is one of g's task
+abbrev pub wakes : ℕ → Waker → ℕ
+wakes g (Task f) = same g f
+wakes g (Outside x) = 0
 
--- uses of the handle of future g
-abbrev pub handling_of : ℕ → Op → ℕ
-handling_of g (op.Look f a) = same g f
-handling_of g (op.CopyAwaiter f a) = same g f
-handling_of g (op.Register f a k) = same g f
-handling_of g (op.EndRegister f a k) = same g f
-handling_of g (op.LookAgain f) = same g f
-handling_of g (op.End r held) = holds_handle g held
-handling_of g _ = 0
+-- one where f is no number below n
+unfoldable pub past : ℕ → ℕ → ℕ
+past n f = cond (nat_lt f n) 0 1
 
--- uses of the kept waker j
-abbrev pub lending_of : ℕ → Op → ℕ
-lending_of j (op.CopyWaker f held) = holds_waker j held
-lending_of j (op.End r held) = holds_waker j held
-lending_of j _ = 0
+abbrev pub waker_past : ℕ → Waker → ℕ
+waker_past n (Task f) = past n f
+waker_past n (Outside x) = 0

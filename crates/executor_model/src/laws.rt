@@ -26,7 +26,8 @@ pub fn one_runnable()
 /// Whatever the parties do, until the drop of the executor takes the table out, an accepted future has one
 /// entry there where it is undropped or the call that dropped it has still to take the entry out; no other
 /// has one. A Runnable in the queue is one of an accepted future, and its only one there, and that future
-/// is undropped or the drop of the executor has begun.
+/// is undropped or was dropped by the drop of the executor: after that began, and once it has begun no other
+/// call has a future to drop.
 pub fn table_and_queue_agree()
     ensures table { EveryRun TableAgrees }
     ensures queue { EveryRun QueueAgrees }

@@ -1,4 +1,5 @@
 use crate::call::Reply;
+use task_moves::moves::Move;
 
 /// A waker that a poll of a handle was given.
 #[derive(Clone, Copy, Debug, PartialEq, Eq)]
@@ -31,52 +32,62 @@ pub enum Hold {
     Waker(u64),
 }
 
-/// One thing that a party has still to do. It is done in one step, but for user code, which begins
-/// by a step and waits for its answer.
+/// What a party does with the table.
 #[derive(Clone, Copy, Debug)]
-pub enum Op {
-    /// The table takes a new future in, and a waker of it.
+pub enum TableOp {
+    /// It takes a new future in, and a waker of it.
     Enter,
-    /// The first Runnable is taken from the queue.
-    Take,
-    /// The table is asked whether it is empty.
+    /// It is asked whether it is empty.
     LookAtTable,
-    /// A Runnable of this future goes to the queue.
-    Append(u64),
-    /// Moves of the task of this future.
-    WakeByReference(u64),
-    Wake(u64),
-    Release(u64),
-    TakeUp(u64),
-    SettleClosed(u64),
-    GiveUp(u64),
-    EndReady(u64),
-    EndPending(u64),
-    EndClosed(u64),
-    DropRunnable(u64),
-    Cancel(u64),
-    Detach(u64),
-    /// The future is taken out of the table, to be polled.
+    /// The future is taken out, to be polled.
     TakeToPoll(u64),
-    /// User code: the poll of the future.
-    Poll(u64),
-    /// The future is put back into the table.
+    /// The future is put back.
     PutBack(u64),
-    /// The future is taken out of the table, to be dropped.
+    /// The future is taken out, to be dropped.
     TakeToDrop(u64),
+    /// The future's entry is taken out.
+    LeaveTable(u64),
+}
+
+/// What a party does with the queue.
+#[derive(Clone, Copy, Debug)]
+pub enum QueueOp {
+    /// The first Runnable is taken.
+    Take,
+    /// A Runnable of this future is appended.
+    Append(u64),
+}
+
+/// User code, and what leads to it.
+#[derive(Clone, Copy, Debug)]
+pub enum UserOp {
+    /// The poll of the future.
+    Poll(u64),
     /// The drop of the future begins.
     BeginDrop(u64),
-    /// User code: the drop of the future.
+    /// The drop of the future.
     Drop(u64),
-    /// The future's entry is taken out of the table.
-    LeaveTable(u64),
     /// The drop of the future's output begins.
     BeginDropOutput(u64),
-    /// User code: the drop of the future's output.
+    /// The drop of the future's output.
     DropOutput(u64),
+    /// The call of an outside waker.
+    CallOutside(u64),
+}
+
+/// What a party does with a waker, a move of its task apart.
+#[derive(Clone, Copy, Debug)]
+pub enum WakerOp {
     /// A copy of a waker of this future is asked for, and kept.
     CopyWaker(u64, Hold),
-    /// The first look of a poll of this future's handle, with this waker.
+    /// The awaiter that was taken out of this future's task is called.
+    CallAwaiter(u64, Waker, u64),
+}
+
+/// Parts of a poll of this future's handle, and of a notify of its awaiter.
+#[derive(Clone, Copy, Debug)]
+pub enum HandleOp {
+    /// The first look, with this waker.
     Look(u64, Waker),
     /// The waker is copied, to be registered.
     CopyAwaiter(u64, Waker),
@@ -88,11 +99,12 @@ pub enum Op {
     /// The task's awaiter is notified, by a poll of the handle where the mark is set.
     Notify(u64, bool),
     EndNotify(u64, bool),
-    /// The awaiter that was taken out of this future's task is called.
-    CallAwaiter(u64, Waker, u64),
-    /// User code: the call of an outside waker.
-    CallOutside(u64),
-    /// The executor's drop takes all futures and wakers out of the table.
+}
+
+/// Parts of the executor's drop.
+#[derive(Clone, Copy, Debug)]
+pub enum ClosingOp {
+    /// It takes all futures and wakers out of the table.
     TakeOut,
     /// It begins to drop the next future.
     DropNext,
@@ -102,6 +114,20 @@ pub enum Op {
     Close,
     /// It takes the next Runnable, and ends where there is none.
     Drain,
+}
+
+/// One thing that a party has still to do. It is done in one step, but for user code, which begins
+/// by a step and waits for its answer.
+#[derive(Clone, Copy, Debug)]
+pub enum Op {
+    /// A move of this future's task that stands alone, and no part of a poll of the handle.
+    Move(Move, u64),
+    Table(TableOp),
+    Queue(QueueOp),
+    User(UserOp),
+    Waker(WakerOp),
+    Handle(HandleOp),
+    Closing(ClosingOp),
     /// The call ends, in the step that did the last thing before.
     End(Reply, Hold),
 }

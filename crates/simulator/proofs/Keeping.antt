@@ -10,6 +10,7 @@ use Rattle.executor_model.specs.declared.event.Event.{Event}
 use Rattle.executor_model.specs.declared.event.Event.TheVariants as event
 use Rattle.executor_model.specs.declared.op.Op.{Op}
 use Rattle.executor_model.specs.declared.op.Op.TheVariants as op
+use Rattle.executor_model.specs.declared.op.UserOp.TheVariants as user_op
 use Rattle.executor_model.specs.declared.op.Waker.{Waker}
 use Rattle.executor_model.specs.declared.step.Step.{Step}
 use Rattle.executor_model.specs.declared.step.Step.TheVariants.{Begin}
@@ -93,7 +94,7 @@ learns-accepted (Some doing) s = learns-by (plain_at s doing.command) doing.comm
 
 learns-kept : (o : Option Op) (s : Player) → Same s (kept_at o s)
 unfolding kept_at
-learns-kept (Some (op.Poll f)) s = record { machine = refl; tried = refl; moments = refl }
+learns-kept (Some (op.User (user_op.Poll f))) s = record { machine = refl; tried = refl; moments = refl }
 learns-kept None s = own s
 learns-kept (Some _) s = own s
 
@@ -103,7 +104,7 @@ learns-unkept _ f s = own s
 
 learns-refused : (o : Option Op) (s : Player) → Same s (refused_at o s)
 unfolding refused_at
-learns-refused (Some (op.Poll f)) s = learns-unkept (item_of s f) f s
+learns-refused (Some (op.User (user_op.Poll f))) s = learns-unkept (item_of s f) f s
 learns-refused None s = own s
 learns-refused (Some _) s = own s
 
@@ -165,8 +166,8 @@ module _ (continues : (m : Machine) (t : Step) → IsContinued m.world.trace (st
 
   fair-go_on : (p : ℕ) (o : Op) (s : Player) → IsFair limit s → IsFair limit (turns.go_on p o s)
   unfolding turns.go_on
-  fair-go_on p (op.DropOutput f) s k = fair-answer p _ s k
-  fair-go_on p (op.CallOutside x) s k = fair-answer p _ s k
+  fair-go_on p (op.User (user_op.DropOutput f)) s k = fair-answer p _ s k
+  fair-go_on p (op.User (user_op.CallOutside x)) s k = fair-answer p _ s k
   fair-go_on p o s k = fair-go p o s k
 
   fair-pending : (p f : ℕ) (s : Player) → IsFair limit s → IsFair limit (turns.end_pending p f s)
@@ -236,8 +237,8 @@ module _ (continues : (m : Machine) (t : Step) → IsContinued m.world.trace (st
   fair-step : (o : Option Op) (p : ℕ) (s : Player) → IsFair limit s → IsFair limit (turns.step_by o p s)
   unfolding turns.step_by
   fair-step None p s k = fair-cancelled _ p s k
-  fair-step (Some (op.Poll f)) p s k = fair-poll p f s k
-  fair-step (Some (op.Drop f)) p s k = fair-drop p f s k
+  fair-step (Some (op.User (user_op.Poll f))) p s k = fair-poll p f s k
+  fair-step (Some (op.User (user_op.Drop f))) p s k = fair-drop p f s k
   fair-step (Some o) p s k = fair-go_on p o s k
 
   -- the end of a command

@@ -6,6 +6,7 @@ use Rattle.executor_model.specs.declared.event.Event.{Event}
 use Rattle.executor_model.specs.declared.event.Event.TheVariants as event
 use Rattle.executor_model.specs.declared.op.Op.{Op}
 use Rattle.executor_model.specs.declared.op.Op.TheVariants as op
+use Rattle.executor_model.specs.declared.op.UserOp.TheVariants as user_op
 use Rattle.executor_model.specs.declared.op.Waker.TheVariants.{Outside}
 use Rattle.executor_model.specs.declared.step.Step.{Step}
 use Rattle.executor_model.specs.declared.step.StepError.{StepError}
@@ -119,7 +120,7 @@ keeping waker x = record x { stage = replacing x.kept x.stage; kept = waker }
 
 -- a waker was made in a poll
 unfoldable pub kept_at : Option Op → Player → Player
-kept_at (Some (op.Poll f)) s = set_future f (keeping (Some (length s.machine.world.wakers - 1)) (future s f)) s
+kept_at (Some (op.User (user_op.Poll f))) s = set_future f (keeping (Some (length s.machine.world.wakers - 1)) (future s f)) s
 kept_at _ s = s
 
 -- what future f does at its next poll, or in the poll that has begun
@@ -132,7 +133,7 @@ unkept_by _ f s = s
 
 -- a call was refused in a poll: where it was the copy of a waker to be kept, none is kept
 unfoldable pub refused_at : Option Op → Player → Player
-refused_at (Some (op.Poll f)) s = unkept_by (item_of s f) f s
+refused_at (Some (op.User (user_op.Poll f))) s = unkept_by (item_of s f) f s
 refused_at _ s = s
 
 abbrev pub replied : Reply → ℕ → Player → Player

@@ -9,6 +9,8 @@ use Rattle.executor_model.specs.declared.event.Answer.TheVariants as answered
 use Rattle.executor_model.specs.declared.op.Awaiter.{Awaiter}
 use Rattle.executor_model.specs.declared.op.Op.{Op}
 use Rattle.executor_model.specs.declared.op.Op.TheVariants as op
+use Rattle.executor_model.specs.declared.op.HandleOp.TheVariants as handle_op
+use Rattle.executor_model.specs.declared.op.UserOp.TheVariants as user_op
 use Rattle.executor_model.specs.declared.op.Waker.{Waker}
 use Rattle.executor_model.specs.declared.op.Waker.TheVariants.{Task, Outside}
 use Rattle.executor_model.specs.declared.step.Step.TheVariants.{Begin, Go, Answer}
@@ -56,7 +58,7 @@ is_same_awaiter None waker = false
 is_same_awaiter (Some awaiter) waker = is_same_waker awaiter.waker waker
 
 unfoldable pub is_same : Player → Op → Bool
-is_same s (op.EndNotify f true) = is_same_awaiter (awaiter_of s.machine.world f) (future s f).given
+is_same s (op.Handle (handle_op.EndNotify f true)) = is_same_awaiter (awaiter_of s.machine.world f) (future s f).given
 is_same s _ = false
 
 unfoldable pub go : ℕ → Op → Player → Player
@@ -67,8 +69,8 @@ answer p e s = tried (Answer p e) s
 
 -- drops of outputs and outside wakers do nothing more
 unfoldable pub go_on : ℕ → Op → Player → Player
-go_on p (op.DropOutput f) s = answer p end.Done s
-go_on p (op.CallOutside x) s = answer p end.Done s
+go_on p (op.User (user_op.DropOutput f)) s = answer p end.Done s
+go_on p (op.User (user_op.CallOutside x)) s = answer p end.Done s
 go_on p o s = go p o s
 
 -- polls
@@ -183,8 +185,8 @@ subject_of s None = None
 
 unfoldable pub step_by : Option Op → ℕ → Player → Player
 step_by None p s = poll_cancelled (subject_of s (party s p).doing) p s
-step_by (Some (op.Poll f)) p s = poll p f s
-step_by (Some (op.Drop f)) p s = drop_future p f s
+step_by (Some (op.User (user_op.Poll f))) p s = poll p f s
+step_by (Some (op.User (user_op.Drop f))) p s = drop_future p f s
 step_by (Some o) p s = go_on p o s
 
 -- the end of a command

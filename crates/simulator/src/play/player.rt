@@ -15,7 +15,7 @@ use crate::play::Played;
 use crate::play::future::Future;
 use crate::play::party::{Doing, Party};
 use executor_core::{Kind, Machine};
-use executor_model::{Event, Op, Reply, Step, StepError};
+use executor_model::{Event, Op, Reply, Step, StepError, UserOp};
 use script::{Command, Item, Name, Names, Plain, Request, Word};
 use std::alloc::{AllocError, Global};
 use std::marker::Model;
@@ -229,7 +229,7 @@ impl<'a> Player<'a> {
         ensures new { self.new ≡ play.kept_at (play.top self.old p) self.old }
         ensures steps { self.new.tried ≡ self.old.tried }
     {
-        if let Some(Op::Poll(f)) = self.top(p) {
+        if let Some(Op::User(UserOp::Poll(f))) = self.top(p) {
             let waker = (self.machine.wakers() as u64).saturating_sub(1);
             let future = self.future(f).keep(Some(waker));
             self.set_future(f, future);
@@ -243,7 +243,7 @@ impl<'a> Player<'a> {
         ensures new { self.new ≡ play.refused_at (play.top self.old p) self.old }
         ensures steps { self.new.tried ≡ self.old.tried }
     {
-        if let Some(Op::Poll(f)) = self.top(p) {
+        if let Some(Op::User(UserOp::Poll(f))) = self.top(p) {
             if let Item::Keep = self.item_of(f) {
                 let future = self.future(f).keep(None);
                 self.set_future(f, future);

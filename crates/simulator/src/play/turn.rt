@@ -9,7 +9,7 @@ use crate::moment::Outcome;
 use crate::play::future::{Future, Stage, doubled};
 use crate::play::party::{Doing, Party};
 use crate::play::player::{Player, item_at, later};
-use executor_model::{Answer, By, Call, Hint, Op, Reply, Step, UserEnd, Waker};
+use executor_model::{Answer, By, Call, HandleOp, Hint, Op, Reply, Step, UserEnd, UserOp, Waker};
 use script::{Item, Name, Plain, Word};
 use std::alloc::AllocError;
 
@@ -91,8 +91,8 @@ impl<'a> Player<'a> {
     {
         match top {
             None => self.poll_cancelled(p),
-            Some(Op::Poll(f)) => self.poll(p, f),
-            Some(Op::Drop(f)) => self.drop_future(p, f),
+            Some(Op::User(UserOp::Poll(f))) => self.poll(p, f),
+            Some(Op::User(UserOp::Drop(f))) => self.drop_future(p, f),
             Some(op) => self.go_on(p, op),
         }
     }
@@ -103,7 +103,10 @@ impl<'a> Player<'a> {
         ensures grows { OnOk result (length self.old.tried < length self.new.tried) }
     {
         match op {
-            Op::DropOutput(_) | Op::CallOutside(_) => self.answer(p, UserEnd::Done),
+            Op::User(UserOp::DropOutput(_)) | Op::User(UserOp::CallOutside(_)) => self.answer(
+                p,
+                UserEnd::Done,
+            ),
             _ => self.go(p, op),
         }
     }
@@ -139,7 +142,7 @@ impl<'a> Player<'a> {
         ensures { result ≡ turns.is_same self.now op }
     {
         match op {
-            Op::EndNotify(f, true) => match self.machine.awaiter(f) {
+            Op::Handle(HandleOp::EndNotify(f, true)) => match self.machine.awaiter(f) {
                 Some(awaiter) => is_same_waker(awaiter.waker, self.future(f).given),
                 None => false,
             },

@@ -1,0 +1,207 @@
+-- A row for each thing to do: what it stands for in each count, what it uses, what it speaks of, and how many steps it may
+-- still take. The counts of a stack are the sums of its rows.
+use Rattle.std.specs.Prelude.{ℕ, ◌+◌}
+use Rattle.task_moves.specs.declared.moves.owed.Move.{Move}
+use Rattle.task_moves.specs.declared.moves.owed.Move.TheVariants as move
+use Rattle.executor_model.specs.declared.op.Waker.{Waker}
+use Rattle.executor_model.specs.declared.op.Op.{Op}
+use Rattle.executor_model.specs.declared.op.Op.TheVariants as op
+use Rattle.executor_model.specs.declared.op.ClosingOp.{ClosingOp}
+use Rattle.executor_model.specs.declared.op.ClosingOp.TheVariants as closing_op
+use Rattle.executor_model.specs.declared.op.HandleOp.{HandleOp}
+use Rattle.executor_model.specs.declared.op.HandleOp.TheVariants as handle_op
+use Rattle.executor_model.specs.declared.op.QueueOp.{QueueOp}
+use Rattle.executor_model.specs.declared.op.QueueOp.TheVariants as queue_op
+use Rattle.executor_model.specs.declared.op.TableOp.{TableOp}
+use Rattle.executor_model.specs.declared.op.TableOp.TheVariants as table_op
+use Rattle.executor_model.specs.declared.op.UserOp.{UserOp}
+use Rattle.executor_model.specs.declared.op.UserOp.TheVariants as user_op
+use Rattle.executor_model.specs.declared.op.WakerOp.{WakerOp}
+use Rattle.executor_model.specs.declared.op.WakerOp.TheVariants as waker_op
+use Rattle.executor_model.specs.Weights.{same, past, waker_past, wakes, holds_executor, holds_handle, holds_waker}
+
+pub record Row : Type 0 where
+  -- by the number of a future: Runnables that are not in the queue, and the stages of a run
+  pub waiting : ℕ → ℕ
+  pub polls : ℕ → ℕ
+  pub ending : ℕ → ℕ
+  pub ready : ℕ → ℕ
+  pub closing : ℕ → ℕ
+  pub settling : ℕ → ℕ
+  pub giving : ℕ → ℕ
+  -- drops of the future that are owed, and entries that are still to be taken out of the table
+  pub drops : ℕ → ℕ
+  pub leaves : ℕ → ℕ
+  -- wakers that are about to go, and those on their way to be stored or called
+  pub releases : ℕ → ℕ
+  pub copies : ℕ → ℕ
+  -- Runnables that are handed to the schedule function
+  pub appends : ℕ → ℕ
+  -- uses of the executor by calls in progress: the end of such a call, and the run of a future inside
+  pub borrowing : ℕ
+  -- uses of the handle of a future, and of a kept waker, by their numbers
+  pub handling : ℕ → ℕ
+  pub lending : ℕ → ℕ
+  -- the executor's drop is about to take the table out
+  pub ousting : ℕ
+  -- futures that it speaks of that are no number below this one
+  pub past : ℕ → ℕ
+  -- at most so many steps are left to do by it and by what it leads to
+  pub steps : ℕ
+
+abbrev pub none : ℕ → ℕ
+none g = 0
+
+-- one for future f
+abbrev pub one : ℕ → ℕ → ℕ
+one f g = same g f
+
+abbrev pub nothing : Row
+nothing = record {
+  waiting = none;
+  polls = none;
+  ending = none;
+  ready = none;
+  closing = none;
+  settling = none;
+  giving = none;
+  drops = none;
+  leaves = none;
+  releases = none;
+  copies = none;
+  appends = none;
+  borrowing = 0;
+  handling = none;
+  lending = none;
+  ousting = 0;
+  past = none;
+  steps = 1;
+}
+
+-- of what speaks of future f, and of this waker
+abbrev pub about : ℕ → Row
+about f = record nothing { past = λ n. past n f }
+
+abbrev pub about_waker : ℕ → Waker → Row
+about_waker f a = record nothing { past = λ n. past n f + waker_past n a }
+
+abbrev pub move_row : Move → ℕ → Row
+move_row move.WakeByReference f = record nothing { steps = 13 }
+move_row move.Wake f = record nothing { releases = one f; steps = 26 }
+move_row move.Release f = record nothing { releases = one f; steps = 13 }
+move_row move.TakeUp f = record nothing { waiting = one f; borrowing = 1; steps = 17 }
+move_row move.SettleClosed f = record nothing { settling = one f; steps = 4 }
+move_row move.GiveUp f = record nothing { giving = one f }
+move_row move.EndReady f = record nothing { ready = one f; borrowing = 1; steps = 9 }
+move_row move.EndPending f = record nothing { ending = one f; borrowing = 1; steps = 13 }
+move_row move.EndClosed f = record nothing { closing = one f; steps = 4 }
+move_row move.DropRunnable f = record nothing { waiting = one f; steps = 10 }
+move_row move.Cancel f = record nothing { steps = 15 }
+move_row move.Detach f = record nothing { steps = 13 }
+move_row _ f = nothing
+
+abbrev pub table_row : TableOp → Row
+table_row table_op.Enter = record nothing { borrowing = 1; steps = 42 }
+table_row table_op.LookAtTable = record nothing { borrowing = 1; steps = 2 }
+table_row (table_op.TakeToPoll f) = record (about f) { polls = one f; borrowing = 1; steps = 16 }
+table_row (table_op.PutBack f) = record (about f) { ending = one f; borrowing = 1; steps = 14 }
+table_row (table_op.TakeToDrop f) = record (about f) { drops = one f; steps = 5 }
+table_row (table_op.LeaveTable f) = record (about f) { leaves = one f }
+
+abbrev pub queue_row : QueueOp → Row
+queue_row queue_op.Take = record nothing { borrowing = 1; steps = 8 }
+queue_row (queue_op.Append f) = record (about f) { waiting = one f; appends = one f; steps = 12 }
+
+abbrev pub user_row : UserOp → Row
+user_row (user_op.Poll f) = record (about f) { polls = one f; borrowing = 1; steps = 15 }
+user_row (user_op.BeginDrop f) = record (about f) { drops = one f; steps = 3 }
+user_row (user_op.Drop f) = nothing
+user_row (user_op.BeginDropOutput f) = record nothing { steps = 2 }
+user_row (user_op.DropOutput f) = nothing
+user_row (user_op.CallOutside x) = nothing
+
+abbrev pub waker_row : WakerOp → Row
+waker_row (waker_op.CopyWaker f held) = record (about f) { borrowing = holds_executor held; lending = λ j. holds_waker j held; steps = 2 }
+waker_row (waker_op.CallAwaiter f a k) = record (about_waker f a) { copies = λ g. wakes g a; steps = 26 }
+
+abbrev pub handle_row : HandleOp → Row
+handle_row (handle_op.Look f a) = record (about_waker f a) { handling = one f; steps = 34 }
+handle_row (handle_op.CopyAwaiter f a) = record (about_waker f a) { handling = one f; steps = 33 }
+handle_row (handle_op.Register f a k) = record (about_waker f a) { handling = one f; copies = λ g. wakes g a; steps = 32 }
+handle_row (handle_op.EndRegister f a k) = record (about_waker f a) { handling = one f; copies = λ g. wakes g a; steps = 31 }
+handle_row (handle_op.LookAgain f) = record (about f) { handling = one f; steps = 4 }
+handle_row (handle_op.Notify f mine) = record (about f) { steps = 2 }
+handle_row (handle_op.EndNotify f mine) = about f
+
+abbrev pub closing_row : ClosingOp → Row
+closing_row closing_op.TakeOut = record nothing { ousting = 1; steps = 5 }
+closing_row closing_op.DropNext = record nothing { steps = 4 }
+closing_row closing_op.WakeNext = record nothing { steps = 3 }
+closing_row closing_op.Close = record nothing { steps = 2 }
+closing_row closing_op.Drain = nothing
+
+abbrev pub row : Op → Row
+row (op.Move m f) = record (move_row m f) { past = λ n. past n f; ousting = 0 }
+row (op.Table o) = table_row o
+row (op.Queue o) = queue_row o
+row (op.User o) = user_row o
+row (op.Waker o) = waker_row o
+row (op.Handle o) = handle_row o
+row (op.Closing o) = closing_row o
+row (op.End r held) = record nothing { borrowing = holds_executor held; handling = λ g. holds_handle g held; lending = λ j. holds_waker j held }
+
+-- the counts of one thing to do
+
+abbrev pub borrowing_of : Op → ℕ
+borrowing_of o = (row o).borrowing
+
+abbrev pub handling_of : ℕ → Op → ℕ
+handling_of g o = (row o).handling g
+
+abbrev pub lending_of : ℕ → Op → ℕ
+lending_of j o = (row o).lending j
+
+abbrev pub waiting_of : ℕ → Op → ℕ
+waiting_of g o = (row o).waiting g
+
+abbrev pub polls_of : ℕ → Op → ℕ
+polls_of g o = (row o).polls g
+
+abbrev pub ending_of : ℕ → Op → ℕ
+ending_of g o = (row o).ending g
+
+abbrev pub ready_of : ℕ → Op → ℕ
+ready_of g o = (row o).ready g
+
+abbrev pub closing_of : ℕ → Op → ℕ
+closing_of g o = (row o).closing g
+
+abbrev pub settling_of : ℕ → Op → ℕ
+settling_of g o = (row o).settling g
+
+abbrev pub giving_of : ℕ → Op → ℕ
+giving_of g o = (row o).giving g
+
+abbrev pub drops_of : ℕ → Op → ℕ
+drops_of g o = (row o).drops g
+
+abbrev pub leaves_of : ℕ → Op → ℕ
+leaves_of g o = (row o).leaves g
+
+abbrev pub releases_of : ℕ → Op → ℕ
+releases_of g o = (row o).releases g
+
+abbrev pub copies_of : ℕ → Op → ℕ
+copies_of g o = (row o).copies g
+
+abbrev pub appends_of : ℕ → Op → ℕ
+appends_of g o = (row o).appends g
+
+abbrev pub ousting_of : Op → ℕ
+ousting_of o = (row o).ousting
+
+abbrev pub past_of : ℕ → Op → ℕ
+past_of n o = (row o).past n
+
+abbrev pub steps_of : Op → ℕ
+steps_of o = (row o).steps

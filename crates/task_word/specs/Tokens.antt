@@ -1,5 +1,5 @@
 -- What a call on a token did.
-use Rattle.std.specs.Prelude.{◌≡◌, [], ◌∷◌, Bool, true, false}
+use Rattle.std.specs.Prelude.{◌≡◌, [], ◌∷◌, Bool, true, false, Some}
 use Rattle.atomic_table.specs.declared.badge.Badge.{Badge}
 use Rattle.atomic_table.specs.declared.shared.Seat.{Seat}
 use Rattle.atomic_table.specs.declared.shared.Shared.{Shared}
@@ -50,3 +50,7 @@ registers_by false board owed badge calls = Shows board moves.register owed badg
 
 abbrev pub Registers : {F T W K P : Type 0} → Shared (Slot F T W) View K P → Owed → Badge View → Bool → Type 0
 Registers board owed badge calls = registers_by (needs_slot owed.awaiter) board owed badge calls
+
+-- no reference rested in the cell
+abbrev pub FindsNoneStored : {F T W K P : Type 0} → Shared (Slot F T W) View K P → Badge View → Type 0
+FindsNoneStored board badge = (badge.table_id ≡ board.table_id) × (v : View) × (badge.views ≡ v ∷ []) × (v.stored ≡ Some 0)

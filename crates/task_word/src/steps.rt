@@ -9,6 +9,7 @@ pub mod closing;
 pub mod handle;
 pub mod making;
 pub mod runs;
+pub mod stored;
 pub mod wakers;
 
 use crate::rule;

@@ -82,6 +82,7 @@ impl<'a, F, T, W> Waker<'a, F, T, W> {
 
     #[inline(always)]
     pub(crate) fn open(self) -> (&'a Cell<F, T, W>, Pass<F, T, W>)
+        ensures same { (result.1.table_id ≡ self.entry.badge.table_id) × (result.1.id ≡ self.entry.badge.id) }
         ensures cell { result.0.now ≡ self.entry.cell.now }
         ensures seat { IsSeatOf result.0.now.board.shared result.1 }
         ensures has { Has Reference result.1 }

@@ -63,7 +63,7 @@ impl Stage {
 /// Runs what rests, until no more task is made: each poll gives an output, or only every second one does. The answer is false
 /// where it waits too long.
 fn run_all<R: Wait>(rt: &R, stage: &Stage, gives_each: bool) -> bool {
-    let mut idle = 0;
+    let mut idle: u64 = 0;
     let mut pends = false;
     for _ in rt.forever() {
         let is_last = stage.over.load(SeqCst) == 1;
@@ -74,7 +74,7 @@ fn run_all<R: Wait>(rt: &R, stage: &Stage, gives_each: bool) -> bool {
         } else if is_last || idle == TURNS {
             return is_last;
         } else {
-            idle += 1;
+            idle = idle.saturating_add(1);
             thread::yield_now();
         }
     }
@@ -101,12 +101,12 @@ fn waits(stage: &Stage, polls: u64, most: u64, waker: u64) -> bool {
 /// was called. Wakers have numbers from this one on.
 fn await_output<R: Wait>(rt: &R, stage: &Stage, most: u64, first: u64) -> Option<u64> {
     let mut task = make_soon(rt, stage)?;
-    let mut polls = 0;
+    let mut polls: u64 = 0;
     for _ in 0..TURNS {
         if waits(stage, polls, most, first.saturating_add(polls)) {
             thread::yield_now();
         } else {
-            polls = (polls + 1).min(most);
+            polls = polls.saturating_add(1).min(most);
             let (back, answer, kept) = poll(rt, task, first.saturating_add(polls));
             task = back;
             match (answer, kept) {
@@ -138,10 +138,10 @@ fn an_end_meets_the_polls_of_a_handle(rt: HostRuntime) {
     let stage = Stage::new(rt.alloc()).expect(&rt, "memory");
     let runs = Arc::try_clone(&stage).expect(&rt, "a share");
     let runner = thread::spawn(&rt, move || run_all(&rt, &runs, true)).expect(&rt, "a thread");
-    let mut outputs = 0;
-    for round in 0..1_000 {
-        if await_output(&rt, &stage, 1 + round % 4, 10 * round) == Some(9) {
-            outputs += 1;
+    let mut outputs: u64 = 0;
+    for round in 0..1_000_u64 {
+        if await_output(&rt, &stage, 1 + round % 4, round.saturating_mul(10)) == Some(9) {
+            outputs = outputs.saturating_add(1);
         } else {
             break;
         }
@@ -173,10 +173,10 @@ fn a_cancel_meets_runs(rt: HostRuntime) {
     let stage = Stage::new(rt.alloc()).expect(&rt, "memory");
     let runs = Arc::try_clone(&stage).expect(&rt, "a share");
     let runner = thread::spawn(&rt, move || run_all(&rt, &runs, false)).expect(&rt, "a thread");
-    let mut rounds = 0;
+    let mut rounds: u64 = 0;
     for _ in 0..100_000 {
         if make_and_cancel(&rt, &stage) {
-            rounds += 1;
+            rounds = rounds.saturating_add(1);
         } else {
             break;
         }

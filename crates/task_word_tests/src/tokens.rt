@@ -70,6 +70,39 @@ fn the_last_waker_hands_out_a_runnable(rt: HostRuntime) {
     );
 }
 
+/// Stored wakers rest in the cell, and keep its task.
+#[test]
+fn stored_wakers_keep_a_task(rt: HostRuntime) {
+    let place = Place::new(rt.alloc()).expect(&rt, "memory");
+    assert!(&rt;
+        place
+            .redeem(&rt)
+            .ok()
+            .map(|waker| release(&rt, waker))
+            .is_none()
+    );
+    let task = make(&rt, &place).expect(&rt, "an empty cell");
+    place.copy(&rt).1.ok().expect(&rt, "a waker").store();
+    place.copy(&rt).1.ok().expect(&rt, "a waker").store();
+    assert!(&rt; detach(&rt, task) == (None, false));
+    assert!(&rt; run(&rt, &place, None).ran == Ran::Pending(false));
+    let waker = place.redeem(&rt).ok().expect(&rt, "a stored waker");
+    let last = place.redeem(&rt).ok().expect(&rt, "a stored waker");
+    assert!(&rt;
+        place
+            .redeem(&rt)
+            .ok()
+            .map(|waker| release(&rt, waker))
+            .is_none()
+    );
+    assert!(&rt; !release(&rt, waker));
+    last.store();
+    let last = place.redeem(&rt).ok().expect(&rt, "a stored waker");
+    assert!(&rt; release(&rt, last));
+    assert!(&rt; run(&rt, &place, None).ran == Ran::Closed(true));
+    assert!(&rt; make(&rt, &place).is_some_and(|task| detach(&rt, task) == (None, false)));
+}
+
 /// The output is given once, and a handle that goes hands out the one that lies in the cell.
 #[test]
 fn an_output_is_given_once(rt: HostRuntime) {

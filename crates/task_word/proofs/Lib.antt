@@ -11,3 +11,4 @@ pub mod Letting
 pub mod Polling
 pub mod Awaiting
 pub mod Badged
+pub mod Storing

@@ -369,3 +369,11 @@ pub open_back : {F T W : Type 0} (st : State) (mv : Moved) (b : Bool) (m : Known
 open_back st mv b m seat its e eb slots h = subst (λ (z : Moved). Paused z.owed.next z.owed.schedule b seat) (sym its)
     (open_back_by st.closed st.scheduled (is_last st) st b m seat e (eb ∙ ap leaves_awaiter its) slots
     (subst (λ (z : Moved). paused z m seat.me) its h))
+
+shut_by : (c t l : Bool) (st : State) → c ≡ true → (end_pending_by c t l st).owed.empty_cell ≡ false
+shut_by true t l st e = refl
+shut_by false t l st e = true_not refl (sym e)
+
+-- a closed task's cell isn't emptied by the end of its poll
+pub unemptied : (st : State) (mv : Moved) → mv ≡ moves.end_pending st → st.closed ≡ true → mv.owed.empty_cell ≡ false
+unemptied st mv its e = ap (λ (z : Moved). z.owed.empty_cell) its ∙ shut_by _ _ _ st e

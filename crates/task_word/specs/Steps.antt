@@ -20,7 +20,11 @@ use Rattle.task_word.specs.Given.{is_given}
 use Rattle.task_word.specs.Cell.{most, weight, filling, Slot}
 
 abbrev pub view : Hold → ℕ → ℕ → View
-view hold found left = record { hold = hold; found = found; left = left }
+view hold found left = record { hold = hold; found = found; left = left; stored = None }
+
+-- and after a step on the word of stored wakers
+abbrev pub stored_view : Hold → ℕ → View → View
+stored_view hold found v = record v { hold = hold; stored = Some found }
 
 abbrev pub Known : Type 0 → Type 0 → Type 0 → Type 0
 Known F T W = Me (Slot F T W) View
@@ -177,6 +181,16 @@ module _ {F T W : Type 0} where
   abbrev pub resumed : Known F T W → Known F T W → Type 0
   resumed m m' = Is Queued m.1 m'
 
+  -- steps on the word of stored wakers
+  abbrev pub looked_stored : Known F T W → ℕ → Known F T W → Type 0
+  looked_stored m n m' = keeps_all m m' × (m'.0.stored ≡ Some n)
+
+  abbrev pub stored : Known F T W → Known F T W → Type 0
+  stored m m' = Is Nothing m.1 m'
+
+  abbrev pub redeemed : ℕ → Known F T W → ℕ → Known F T W → Type 0
+  redeemed old m n m' = (n ≡ old → Is Reference m.1 m') × (n ≢ old → keeps_all m m')
+
 -- what the two seats have of a new task
 abbrev pub runnable_of : View → View
 runnable_of v = record v { hold = Queued }
@@ -230,6 +244,10 @@ module _ {F T W : Type 0} where
   abbrev pub HasCopy : Option Answer → Seat (Slot F T W) View → Type 0
   HasCopy (Some answer) seat = Has Nothing seat
   HasCopy None seat = Has Reference seat
+
+  -- nothing, as no reference rested in the cell
+  abbrev pub FoundNone : Seat (Slot F T W) View → Type 0
+  FoundNone seat = Has Nothing seat × (seat.me.0.stored ≡ Some 0)
 
   -- a poll, or a future that is to be dropped
   abbrev pub TakenUp : Option Move → Seat (Slot F T W) View → Type 0

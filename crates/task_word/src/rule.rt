@@ -6,7 +6,7 @@ ghost use Rattle.task_word.specs.Awaiter.{notified, end_notified, registered, en
 ghost use Rattle.task_word.specs.Steps as steps;
 ghost use Rattle.task_word.specs.Steps.{view, arrived, looked, looked_by, turned_up, turned_back, tries, swapped};
 ghost use Rattle.task_word.specs.Steps.{woken, released, let_go, polled, spent, copied, began, ended, paused, dropped};
-ghost use Rattle.task_word.specs.Steps.{reserved, filled, filled_detached, rested, resumed, runnable_of, handle_of_new};
+ghost use Rattle.task_word.specs.Steps.{reserved, filled, filled_detached, rested, resumed, looked_stored, stored, redeemed, runnable_of, handle_of_new};
 ghost use Rattle.task_word.specs.declared.rule.Hold.TheVariants.{Nothing};
 
 use atomic_table::{Play, Split, TableRule};
@@ -59,6 +59,8 @@ pub struct View {
     pub found: u64,
     /// The state's word, as that step left it.
     pub left: u64,
+    /// The word of stored wakers, as the last step found it, where it was on that word.
+    pub stored: Option<u64>,
 }
 
 /// A slot, which is empty or has something.
@@ -274,6 +276,27 @@ pub struct Resume;
 
 impl<F, T, W> Play<Slot<F, T, W>, View> for Resume {
     ghost then = { λ s m n m'. swapped resumed s.first s.second m n m' };
+}
+
+/// A load of the word of stored wakers.
+pub struct LookStored;
+
+impl<F, T, W> Play<Slot<F, T, W>, View> for LookStored {
+    ghost then = { λ s m n m'. looked_stored m n m' };
+}
+
+/// A waker's reference rests in that word.
+pub struct Store;
+
+impl<F, T, W> Play<Slot<F, T, W>, View> for Store {
+    ghost then = { λ s m n m'. stored m m' };
+}
+
+/// One is taken out of it.
+pub struct Redeem;
+
+impl<F, T, W> Play<Slot<F, T, W>, View> for Redeem {
+    ghost then = { λ s m n m'. redeemed s.first m n m' };
 }
 
 /// A new task's handle goes to a seat of its own.

@@ -1,5 +1,6 @@
 //! The moves on a task's word, each lent the board and a seat. Each change of the state is one of `task_moves`.
 ghost use Rattle.std.specs.Prelude.{◌≡◌};
+ghost use Rattle.task_word.specs.Awaiter as awaiter_specs;
 ghost use Rattle.task_word.specs.Steps as steps;
 ghost use Rattle.task_word.specs.Steps.{looked, IsSeatOf, IsSameSeat};
 
@@ -8,12 +9,13 @@ pub mod closing;
 pub mod handle;
 pub mod making;
 pub mod runs;
+pub mod stored;
 pub mod wakers;
 
 use crate::rule;
 use crate::rule::{CellRule, Slot, View};
 use atomic_table::{Seat, Shared};
-use task_moves::moves::Moved;
+use task_moves::moves::{AwaiterDebt, Moved, Owed};
 
 /// The words and the slots of a cell, as its seats see them: future, output and waker.
 pub type Board<F, T, W> = Shared<Slot<F, T, W>, View, (), CellRule>;
@@ -22,7 +24,7 @@ pub type Board<F, T, W> = Shared<Slot<F, T, W>, View, (), CellRule>;
 pub type Pass<F, T, W> = Seat<Slot<F, T, W>, View>;
 
 #[inline(always)]
-fn look<F, T, W>(board: &Board<F, T, W>, pass: &mut Pass<F, T, W>) -> u64
+pub(crate) fn look<F, T, W>(board: &Board<F, T, W>, pass: &mut Pass<F, T, W>) -> u64
     requires { IsSeatOf board.now pass.old }
     ensures same { IsSameSeat pass.old pass.new }
     ensures saw { looked pass.old.me result pass.new.me }
@@ -36,4 +38,15 @@ fn leaves_awaiter(moved: Moved) -> bool
     ensures { result ≡ steps.leaves_awaiter moved }
 {
     moved.owed.empty_cell && moved.state.awaiter
+}
+
+/// The mover owes something at the awaiter's slot.
+#[inline(always)]
+pub(crate) fn needs_slot(owed: Owed) -> bool
+    ensures { result ≡ awaiter_specs.needs_slot owed.awaiter }
+{
+    matches!(
+        owed.awaiter,
+        Some(AwaiterDebt::StoreCopy | AwaiterDebt::TakeAwaiter)
+    )
 }

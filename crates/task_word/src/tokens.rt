@@ -6,16 +6,24 @@ ghost use Rattle.task_word.specs.Steps.{Has, HasLeft, IsSeatOf};
 ghost use Rattle.task_word.specs.Tokens.{IsBadgeOf};
 ghost use Rattle.task_word.specs.declared.rule.Hold.TheVariants.{Nothing, Reference, Handle, Queued};
 
+mod debt;
 mod handles;
+mod past;
+mod polls;
 mod queued;
 mod references;
+mod runs;
 
 use crate::cell::Cell;
 use crate::rule::View;
 use crate::slot::take_awaiter;
 use crate::steps::{Pass, awaiter};
 use atomic_table::Badge;
-pub use handles::{Found, Polled};
+pub use debt::Debt;
+pub use handles::{Found, OwingTask};
+pub use past::{OwingRun, PastRun};
+pub use polls::{Polled, Registered, RegisteredTask, WaitingTask};
+pub use runs::{ClosedRun, ClosedRunnable, ReadyRun, Run};
 use task_moves::ScheduleInfo;
 
 /// A Runnable, to be put to rest, run, or let go.
@@ -74,6 +82,7 @@ impl<'a, F, T, W> Waker<'a, F, T, W> {
 
     #[inline(always)]
     pub(crate) fn open(self) -> (&'a Cell<F, T, W>, Pass<F, T, W>)
+        ensures same { (result.1.table_id ≡ self.entry.badge.table_id) × (result.1.id ≡ self.entry.badge.id) }
         ensures cell { result.0.now ≡ self.entry.cell.now }
         ensures seat { IsSeatOf result.0.now.board.shared result.1 }
         ensures has { Has Reference result.1 }
@@ -138,7 +147,7 @@ impl Trace {
 /// more. The cell may be taken for another task then.
 pub struct Left<'a, F, T, W> {
     pub runnable: Result<Runnable<'a, F, T, W>, Trace>,
-    pub awaiter: Option<W>,
+    pub awaiter: Option<Debt<W>>,
 }
 
 #[inline(always)]
@@ -165,7 +174,7 @@ pub(crate) fn take_left<'a, F, T, W>(
             awaiter::empty(cell.board(), &mut pass);
             Left {
                 runnable: Err(Trace::of(pass)),
-                awaiter,
+                awaiter: Debt::of_some(awaiter),
             }
         }
         None => Left {

@@ -8,6 +8,10 @@ mod awaiters;
 #[cfg(test)]
 mod handles;
 #[cfg(test)]
+mod lives;
+#[cfg(test)]
+mod races;
+#[cfg(test)]
 mod threads;
 #[cfg(test)]
 mod tokens;

@@ -1,15 +1,28 @@
-//! What is done with a task's handle.
-ghost use Rattle.std.specs.Prelude.{◌≡◌, is_some, is_ok, not, IfOk, MatchOption, MatchResult};
+//! What is done with a task's handle beside its polls.
+ghost use Rattle.std.specs.Prelude.{◌≡◌, is_some, is_ok, not, IfOk, IsFalse, IsNone, MatchOption, MatchResult};
 ghost use Rattle.task_moves.specs.Moves as moves;
-ghost use Rattle.task_word.specs.Given.{is_given};
-ghost use Rattle.task_word.specs.Tokens.{Shows, Owes};
+ghost use Rattle.task_moves.specs.Moves.{is_over};
+ghost use Rattle.task_word.specs.Awaiter.{needs_slot};
+ghost use Rattle.task_word.specs.Tokens.{Shows, Owes, Finds, Notifies};
 
 use crate::cell::Cell;
-use crate::slot::{put_future, take_output};
-use crate::steps::{closing, handle, making};
-use crate::tokens::{Left, Runnable, Task, Trace, take_left};
+use crate::layout::decode;
+use crate::slot::{put_future, take_awaiter, take_output};
+use crate::steps::{awaiter, closing, handle, look, making, needs_slot};
+use crate::tokens::{Debt, Left, Runnable, Task, Trace, take_left};
 use std::sync::Wait;
-use task_moves::moves::{Answer, Owed};
+use task_moves::moves::Owed;
+
+/// A handle that has to call the awaiter before anything else.
+pub struct OwingTask<'a, F, T, W> {
+    task: Task<'a, F, T, W>,
+}
+
+/// The output that lay in the cell. It is to be dropped, and then the handle goes.
+pub struct Found<'a, F, T, W> {
+    pub task: Task<'a, F, T, W>,
+    pub output: Debt<T>,
+}
 
 impl<F, T, W> Cell<F, T, W> {
     /// A new task, with its Runnable. The future comes back where the cell isn't empty.
@@ -30,67 +43,52 @@ impl<F, T, W> Cell<F, T, W> {
     }
 }
 
-/// The output that lay in the cell. It is to be dropped, and then the handle goes.
-pub struct Found<'a, F, T, W> {
-    pub task: Task<'a, F, T, W>,
-    pub output: T,
-}
-
-/// What a look came to: the handle, and the output where it is given.
-pub struct Polled<'a, F, T, W> {
-    pub task: Task<'a, F, T, W>,
-    pub output: Option<T>,
-}
-
-#[inline(always)]
-fn gives_output(owed: Owed) -> bool
-    ensures { result ≡ is_given owed.answer }
-{
-    matches!(owed.answer, Some(Answer::Output))
-}
-
 impl<'a, F, T, W> Task<'a, F, T, W> {
-    /// The task is cancelled. A Runnable is there where one is owed.
+    /// It has to call the awaiter before anything else, where this is owed.
     #[inline(always)]
-    pub fn cancel<R: Wait>(&self, rt: &R) -> (Owed, Result<Runnable<'a, F, T, W>, Trace>)
-        ensures made { MatchResult result.1
-            (λ r. Shows self.now.cell.now.board.shared moves.cancel result.0 r.badge)
-            (λ t. Shows self.now.cell.now.board.shared moves.cancel result.0 t.badge) }
-        ensures paid { is_ok result.1 ≡ is_some result.0.schedule }
+    pub(crate) fn owing(self, owed: Owed) -> Result<Self, OwingTask<'a, F, T, W>>
+        ensures calls { is_ok result ≡ not (is_some owed.awaiter) }
+        ensures same { MatchResult result (λ t. t ≡ self.entry) (λ t. t.task ≡ self.entry) }
     {
-        let mut pass = self.cell.pass();
-        let owed = closing::cancel(rt, self.cell.board(), &mut pass);
-        match owed.schedule {
-            Some(_) => (owed, Ok(Runnable::of(self.cell, pass))),
-            None => (owed, Err(Trace::of(pass))),
+        match owed.awaiter {
+            Some(_) => Err(OwingTask { task: self }),
+            None => Ok(self),
         }
     }
 
-    /// It looks at the task.
+    /// Whether the task is over. It takes one load.
     #[inline(always)]
-    pub fn poll<R: Wait>(self, rt: &R) -> (Owed, Polled<'a, F, T, W>)
-        ensures made { MatchOption result.1.output
-            (Shows self.entry.cell.now.board.shared moves.poll result.0 result.1.task.badge)
-            (λ _. Owes moves.poll result.0) }
-        ensures paid { is_some result.1.output ≡ is_given result.0.answer }
+    pub fn is_finished(&self) -> (bool, Trace)
+        ensures { Finds self.now.cell.now.board.shared is_over result.0 result.1.badge }
     {
-        let (cell, mut pass) = self.open();
-        let owed = handle::poll(rt, cell.board(), &mut pass);
-        if gives_output(owed) {
-            let output = take_output(cell.board(), &mut pass);
-            handle::spend(cell.board(), &mut pass);
-            let task = Task::of(cell, pass);
-            (
-                owed,
-                Polled {
-                    task,
-                    output: Some(output),
-                },
-            )
-        } else {
-            let task = Task::of(cell, pass);
-            (owed, Polled { task, output: None })
-        }
+        let mut pass = self.cell.pass();
+        let state = decode(look(self.cell.board(), &mut pass)).state;
+        (state.completed || state.closed, Trace::of(pass))
+    }
+
+    /// The task is cancelled. A Runnable is there where one is owed.
+    #[inline(always)]
+    pub fn cancel<R: Wait>(
+        self,
+        rt: &R,
+    ) -> (
+        Owed,
+        Result<Runnable<'a, F, T, W>, Trace>,
+        Result<Self, OwingTask<'a, F, T, W>>,
+    )
+        ensures made { MatchResult result.1
+            (λ r. Shows self.entry.cell.now.board.shared moves.cancel result.0 r.badge)
+            (λ t. Shows self.entry.cell.now.board.shared moves.cancel result.0 t.badge) }
+        ensures paid { is_ok result.1 ≡ is_some result.0.schedule }
+        ensures calls { is_ok result.2 ≡ not (is_some result.0.awaiter) }
+    {
+        let mut pass = self.cell.pass();
+        let owed = closing::cancel(rt, self.cell.board(), &mut pass);
+        let runnable = match owed.schedule {
+            Some(_) => Ok(Runnable::of(self.cell, pass)),
+            None => Err(Trace::of(pass)),
+        };
+        (owed, runnable, self.owing(owed))
     }
 
     /// It goes, once the output is dropped that lies in the cell.
@@ -109,12 +107,32 @@ impl<'a, F, T, W> Task<'a, F, T, W> {
         let (cell, mut pass) = self.open();
         let (owed, is_left) = handle::detach(rt, cell.board(), &mut pass);
         if owed.drop_output {
-            let output = take_output(cell.board(), &mut pass);
+            let output = Debt::of(take_output(cell.board(), &mut pass));
             handle::spend(cell.board(), &mut pass);
             let task = Task::of(cell, pass);
             (owed, Err(Found { task, output }))
         } else {
             (owed, Ok(take_left(cell, pass, owed.schedule, is_left)))
+        }
+    }
+}
+
+impl<'a, F, T, W> OwingTask<'a, F, T, W> {
+    /// The awaiter comes out, to be called, unless somebody else is at it, who will call it.
+    #[inline(always)]
+    pub fn notify<R: Wait>(self, rt: &R) -> (Owed, Task<'a, F, T, W>, Option<Debt<W>>)
+        ensures made { Notifies self.entry.task.cell.now.board.shared result.0 result.1.badge }
+        ensures other { IsFalse (needs_slot result.0.awaiter) → IsNone result.2 }
+    {
+        let OwingTask { task } = self;
+        let (cell, mut pass) = task.open();
+        let owed = awaiter::notify(rt, cell.board(), &mut pass);
+        if needs_slot(owed) {
+            let taken = take_awaiter(cell.board(), &mut pass);
+            awaiter::end_notify(rt, cell.board(), &mut pass);
+            (owed, Task::of(cell, pass), Debt::of_some(taken))
+        } else {
+            (owed, Task::of(cell, pass), None)
         }
     }
 }

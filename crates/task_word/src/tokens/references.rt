@@ -1,11 +1,11 @@
 //! What is done with a waker that is a reference.
-ghost use Rattle.std.specs.Prelude.{◌≡◌, is_some, is_ok, not, MatchOption, MatchResult};
+ghost use Rattle.std.specs.Prelude.{◌≡◌, is_some, is_ok, not, IfErr, MatchOption, MatchResult};
 ghost use Rattle.task_moves.specs.Moves as moves;
 ghost use Rattle.task_word.specs.Steps as steps;
-ghost use Rattle.task_word.specs.Tokens.{Shows, Owes};
+ghost use Rattle.task_word.specs.Tokens.{Shows, Owes, FindsNoneStored};
 
 use crate::cell::Cell;
-use crate::steps::wakers;
+use crate::steps::{stored, wakers};
 use crate::tokens::{Left, Trace, Waker, take_left};
 use std::sync::Wait;
 use task_moves::moves::Owed;
@@ -26,9 +26,32 @@ impl<F, T, W> Cell<F, T, W> {
             None => (owed, Ok(Waker::of(self, pass))),
         }
     }
+
+    /// Takes the reference of a waker that was stored, where one rests in the cell.
+    #[inline(always)]
+    pub fn redeem<R: Wait>(&self, rt: &R) -> Result<Waker<'_, F, T, W>, Trace>
+        ensures { IfErr result (λ t. FindsNoneStored self.now.board.shared t.badge) }
+    {
+        let mut pass = self.pass();
+        if stored::redeem(rt, self.board(), &mut pass) {
+            Ok(Waker::of(self, pass))
+        } else {
+            Err(Trace::of(pass))
+        }
+    }
 }
 
 impl<'a, F, T, W> Waker<'a, F, T, W> {
+    /// Its reference rests in the cell, as the cell's number stands in a list. It takes one add, and the same seat has nothing then.
+    #[inline(always)]
+    pub fn store(self) -> Trace
+        ensures { (result.badge.table_id ≡ self.entry.badge.table_id) × (result.badge.id ≡ self.entry.badge.id) }
+    {
+        let (cell, mut pass) = self.open();
+        stored::store(cell.board(), &mut pass);
+        Trace::of(pass)
+    }
+
     /// It goes. Where it was the last of an open task, a Runnable is owed, and is there.
     #[inline(always)]
     pub fn release<R: Wait>(self, rt: &R) -> (Owed, Left<'a, F, T, W>)

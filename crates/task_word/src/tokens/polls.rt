@@ -1,0 +1,158 @@
+//! A poll of the handle: a look, and where that answers nothing, a waker to register and another look.
+ghost use Rattle.std.specs.Prelude.{◌≡◌, is_some, is_ok, not, IfOk, MatchBool, MatchOption, MatchResult, ⊤};
+ghost use Rattle.task_moves.specs.Moves as moves;
+ghost use Rattle.task_word.specs.Awaiter.{needs_slot};
+ghost use Rattle.task_word.specs.Given.{is_given};
+ghost use Rattle.task_word.specs.Steps.{HasOutput, IsSeatOf};
+ghost use Rattle.task_word.specs.Tokens.{IsBadgeOf, Shows, Owes, Registers};
+
+use crate::cell::Cell;
+use crate::slot::{take_awaiter, take_output};
+use crate::steps::{Pass, awaiter, handle, needs_slot};
+use crate::tokens::{Debt, OwingTask, Task};
+use std::sync::Wait;
+use task_moves::moves::{Answer, Owed};
+
+/// A handle whose poll has no answer yet: its waker is to be registered.
+pub struct WaitingTask<'a, F, T, W> {
+    task: Task<'a, F, T, W>,
+}
+
+/// A handle whose poll has registered its waker: it looks again.
+pub struct RegisteredTask<'a, F, T, W> {
+    task: Task<'a, F, T, W>,
+}
+
+/// What a look came to: the handle, and the output where it is given.
+pub struct Polled<'a, F, T, W> {
+    pub task: Result<Task<'a, F, T, W>, OwingTask<'a, F, T, W>>,
+    pub output: Option<Debt<T>>,
+}
+
+/// What a poll's waker came to.
+pub struct Registered<'a, F, T, W> {
+    pub task: RegisteredTask<'a, F, T, W>,
+    /// The waker, which isn't stored: it is to be called.
+    pub to_call: Option<Debt<W>>,
+    /// The awaiter that was stored before, which is to be dropped.
+    pub to_drop: Option<Debt<W>>,
+}
+
+#[inline(always)]
+fn gives_output(owed: Owed) -> bool
+    ensures { result ≡ is_given owed.answer }
+{
+    matches!(owed.answer, Some(Answer::Output))
+}
+
+/// The output is taken out, where it is given.
+#[inline(always)]
+fn take_answer<'a, F, T, W>(
+    cell: &'a Cell<F, T, W>,
+    mut pass: Pass<F, T, W>,
+    owed: Owed,
+) -> Polled<'a, F, T, W>
+    requires seat { IsSeatOf cell.now.board.shared pass }
+    requires has { HasOutput owed.answer pass }
+    ensures gives { is_some result.output ≡ is_given owed.answer }
+    ensures calls { is_ok result.task ≡ not (is_some owed.awaiter) }
+    ensures shows { MatchOption result.output
+        (MatchResult result.task (λ t. IsBadgeOf pass t.badge) (λ t. IsBadgeOf pass t.task.badge))
+        (λ _. ⊤) }
+{
+    if gives_output(owed) {
+        let output = Debt::of(take_output(cell.board(), &mut pass));
+        handle::spend(cell.board(), &mut pass);
+        Polled {
+            task: Task::of(cell, pass).owing(owed),
+            output: Some(output),
+        }
+    } else {
+        Polled {
+            task: Task::of(cell, pass).owing(owed),
+            output: None,
+        }
+    }
+}
+
+impl<'a, F, T, W> Task<'a, F, T, W> {
+    /// It looks at the task. Where there is no answer yet, a waker is to be registered.
+    #[inline(always)]
+    pub fn poll<R: Wait>(
+        self,
+        rt: &R,
+    ) -> (Owed, Result<Polled<'a, F, T, W>, WaitingTask<'a, F, T, W>>)
+        ensures made { MatchResult result.1
+            (λ polled. MatchOption polled.output
+            (MatchResult polled.task
+            (λ t. Shows self.entry.cell.now.board.shared moves.poll result.0 t.badge)
+            (λ t. Shows self.entry.cell.now.board.shared moves.poll result.0 t.task.badge))
+            (λ _. Owes moves.poll result.0))
+            (λ t. Shows self.entry.cell.now.board.shared moves.poll result.0 t.task.badge) }
+        ensures answers { is_ok result.1 ≡ is_some result.0.answer }
+        ensures gives { IfOk result.1 (λ polled. is_some polled.output ≡ is_given result.0.answer) }
+        ensures calls { IfOk result.1 (λ polled. is_ok polled.task ≡ not (is_some result.0.awaiter)) }
+    {
+        let (cell, mut pass) = self.open();
+        let owed = handle::poll(rt, cell.board(), &mut pass);
+        match owed.answer {
+            Some(_) => (owed, Ok(take_answer(cell, pass, owed))),
+            None => {
+                let task = Task::of(cell, pass);
+                (owed, Err(WaitingTask { task }))
+            }
+        }
+    }
+}
+
+impl<'a, F, T, W> WaitingTask<'a, F, T, W> {
+    /// The waker is stored; or it comes back to be called, where somebody notifies.
+    #[inline(always)]
+    pub fn register<R: Wait>(self, rt: &R, waker: W) -> (Owed, Registered<'a, F, T, W>)
+        ensures made { Registers self.entry.task.cell.now.board.shared result.0 result.1.task.task.badge (is_some result.1.to_call) }
+    {
+        let WaitingTask { task } = self;
+        let (cell, mut pass) = task.open();
+        let owed = awaiter::register(rt, cell.board(), &mut pass);
+        if needs_slot(owed) {
+            let before = take_awaiter(cell.board(), &mut pass);
+            let (_, back) = awaiter::end_register(rt, cell.board(), &mut pass, waker);
+            let registered = Registered {
+                task: RegisteredTask {
+                    task: Task::of(cell, pass),
+                },
+                to_call: Debt::of_some(back),
+                to_drop: Debt::of_some(before),
+            };
+            (owed, registered)
+        } else {
+            let registered = Registered {
+                task: RegisteredTask {
+                    task: Task::of(cell, pass),
+                },
+                to_call: Some(Debt::of(waker)),
+                to_drop: None,
+            };
+            (owed, registered)
+        }
+    }
+}
+
+impl<'a, F, T, W> RegisteredTask<'a, F, T, W> {
+    /// It looks again.
+    #[inline(always)]
+    pub fn look_again<R: Wait>(self, rt: &R) -> (Owed, Polled<'a, F, T, W>)
+        ensures made { MatchOption result.1.output
+            (MatchResult result.1.task
+            (λ t. Shows self.entry.task.cell.now.board.shared moves.look_again result.0 t.badge)
+            (λ t. Shows self.entry.task.cell.now.board.shared moves.look_again result.0 t.task.badge))
+            (λ _. Owes moves.look_again result.0) }
+        ensures gives { is_some result.1.output ≡ is_given result.0.answer }
+        ensures calls { is_ok result.1.task ≡ not (is_some result.0.awaiter) }
+    {
+        let RegisteredTask { task } = self;
+        let (cell, mut pass) = task.open();
+        let owed = handle::look_again(rt, cell.board(), &mut pass);
+        (owed, take_answer(cell, pass, owed))
+    }
+}

@@ -1,0 +1,214 @@
+//! What is done with a Runnable that is taken up or let go, up to the end of its poll.
+ghost use Rattle.std.specs.Prelude.{◌≡◌, is_some, is_ok, not, IfOk, MatchOption, MatchResult};
+ghost use Rattle.task_moves.specs.Moves as moves;
+ghost use Rattle.task_word.specs.Steps.{IsSeatOf, HasPlace};
+ghost use Rattle.task_word.specs.Tokens.{Shows, ShowsSeat, Owes};
+ghost use Rattle.task_word.specs.declared.rule.Hold.TheVariants.{Running, Closing, Ending};
+
+use crate::cell::Cell;
+use crate::slot::{put_future, take_future};
+use crate::steps::runs::Pause;
+use crate::steps::{Pass, closing, runs};
+use crate::tokens::{Debt, Left, OwingRun, PastRun, Runnable, take_left};
+use std::sync::Wait;
+use task_moves::moves::Owed;
+
+/// A run, whose future is to be polled.
+pub struct Run<'a, F, T, W> {
+    cell: &'a Cell<F, T, W>,
+    pass: Pass<F, T, W>,
+    pub future: F,
+    ghost seat: { IsSeatOf cell.now.board.shared pass },
+    ghost right: { HasPlace Running pass },
+}
+
+/// A run whose poll gave an output. Its future was handed out, and is dropped before the output is stored.
+pub struct ReadyRun<'a, F, T, W> {
+    cell: &'a Cell<F, T, W>,
+    pass: Pass<F, T, W>,
+    ghost seat: { IsSeatOf cell.now.board.shared pass },
+    ghost right: { HasPlace Running pass },
+}
+
+/// A Runnable of a closed task. Its future was handed out, and is dropped before it is settled.
+pub struct ClosedRunnable<'a, F, T, W> {
+    cell: &'a Cell<F, T, W>,
+    pass: Pass<F, T, W>,
+    ghost seat: { IsSeatOf cell.now.board.shared pass },
+    ghost right: { HasPlace Closing pass },
+}
+
+/// The same of a run that ended its poll with no output.
+pub struct ClosedRun<'a, F, T, W> {
+    cell: &'a Cell<F, T, W>,
+    pass: Pass<F, T, W>,
+    ghost seat: { IsSeatOf cell.now.board.shared pass },
+    ghost right: { HasPlace Ending pass },
+}
+
+impl<'a, F, T, W> Runnable<'a, F, T, W> {
+    /// It becomes a run; or, where the task is closed, its future is to be dropped.
+    #[inline(always)]
+    pub fn take_up<R: Wait>(
+        self,
+        rt: &R,
+    ) -> (
+        Owed,
+        Result<Run<'a, F, T, W>, (ClosedRunnable<'a, F, T, W>, Debt<F>)>,
+    )
+        ensures made { MatchResult result.1
+            (λ run. ShowsSeat self.entry.cell.now.board.shared moves.take_up result.0 run.pass)
+            (λ closed. ShowsSeat self.entry.cell.now.board.shared moves.take_up result.0 closed.0.pass) }
+        ensures polls { is_ok result.1 ≡ not (is_some result.0.next) }
+    {
+        let (cell, mut pass) = self.open();
+        let owed = runs::take_up(rt, cell.board(), &mut pass);
+        match owed.next {
+            None => {
+                let future = take_future(cell.board(), &mut pass);
+                (owed, Ok(Run { cell, pass, future }))
+            }
+            Some(_) => {
+                let future = take_future(cell.board(), &mut pass);
+                (owed, Err((ClosedRunnable { cell, pass }, Debt::of(future))))
+            }
+        }
+    }
+
+    /// It is let go: the task is closed, and its future is to be dropped.
+    #[inline(always)]
+    pub fn let_go<R: Wait>(self, rt: &R) -> (Owed, ClosedRunnable<'a, F, T, W>, Debt<F>)
+        ensures made { ShowsSeat self.entry.cell.now.board.shared moves.drop_runnable result.0 result.1.pass }
+    {
+        let (cell, mut pass) = self.open();
+        let owed = closing::drop_runnable(rt, cell.board(), &mut pass);
+        let future = take_future(cell.board(), &mut pass);
+        (owed, ClosedRunnable { cell, pass }, Debt::of(future))
+    }
+}
+
+impl<'a, F, T, W> ClosedRunnable<'a, F, T, W> {
+    /// The future was dropped.
+    #[inline(always)]
+    pub fn settle<R: Wait>(
+        self,
+        rt: &R,
+    ) -> (Owed, Result<PastRun<'a, F, T, W>, OwingRun<'a, F, T, W>>)
+        ensures made { MatchResult result.1
+            (λ run. Shows self.entry.cell.now.board.shared moves.settle_closed result.0 run.badge)
+            (λ owing. Shows self.entry.cell.now.board.shared moves.settle_closed result.0 owing.run.badge) }
+        ensures calls { is_ok result.1 ≡ not (is_some result.0.awaiter) }
+    {
+        let ClosedRunnable { cell, mut pass } = self;
+        let owed = runs::settle_closed(rt, cell.board(), &mut pass);
+        (owed, PastRun::of(cell, pass).owing(owed))
+    }
+}
+
+impl<'a, F, T, W> ClosedRun<'a, F, T, W> {
+    /// The future was dropped.
+    #[inline(always)]
+    pub fn settle<R: Wait>(
+        self,
+        rt: &R,
+    ) -> (Owed, Result<PastRun<'a, F, T, W>, OwingRun<'a, F, T, W>>)
+        ensures made { MatchResult result.1
+            (λ run. Shows self.entry.cell.now.board.shared moves.end_closed result.0 run.badge)
+            (λ owing. Shows self.entry.cell.now.board.shared moves.end_closed result.0 owing.run.badge) }
+        ensures calls { is_ok result.1 ≡ not (is_some result.0.awaiter) }
+    {
+        let ClosedRun { cell, mut pass } = self;
+        let owed = runs::end_closed(rt, cell.board(), &mut pass);
+        (owed, PastRun::of(cell, pass).owing(owed))
+    }
+}
+
+impl<'a, F, T, W> Run<'a, F, T, W> {
+    /// The poll gave no output. The future goes back into the cell; or it is to be dropped, where the task was closed meanwhile,
+    /// and where nobody can reach it any more.
+    #[inline(always)]
+    pub fn pend<R: Wait>(
+        self,
+        rt: &R,
+    ) -> (
+        Owed,
+        Result<Left<'a, F, T, W>, ClosedRun<'a, F, T, W>>,
+        Option<Debt<F>>,
+    )
+        ensures made { MatchResult result.1
+            (λ left. MatchOption left.awaiter
+            (MatchResult left.runnable
+            (λ r. Shows self.entry.cell.now.board.shared moves.end_pending result.0 r.badge)
+            (λ t. Shows self.entry.cell.now.board.shared moves.end_pending result.0 t.badge))
+            (λ _. Owes moves.end_pending result.0))
+            (λ closed. ShowsSeat self.entry.cell.now.board.shared moves.end_pending result.0 closed.pass) }
+        ensures ends { is_ok result.1 ≡ not (is_some result.0.next) }
+        ensures paid { IfOk result.1 (λ left. is_ok left.runnable ≡ is_some result.0.schedule) }
+        ensures future { is_some result.2 ≡ is_some result.0.future }
+    {
+        let Run {
+            cell,
+            mut pass,
+            future,
+        } = self;
+        put_future(cell.board(), &mut pass, future);
+        let Pause {
+            owed,
+            future,
+            leaves_awaiter,
+        } = runs::end_pending(rt, cell.board(), &mut pass);
+        match future {
+            Some(future) => {
+                let left = take_left(cell, pass, owed.schedule, leaves_awaiter);
+                (owed, Ok(left), Some(Debt::of(future)))
+            }
+            None => match owed.next {
+                Some(_) => {
+                    let future = take_future(cell.board(), &mut pass);
+                    (owed, Err(ClosedRun { cell, pass }), Some(Debt::of(future)))
+                }
+                None => {
+                    let left = take_left(cell, pass, owed.schedule, leaves_awaiter);
+                    (owed, Ok(left), None)
+                }
+            },
+        }
+    }
+
+    /// The poll gave an output. The future comes out, to be dropped; `store` follows.
+    #[inline(always)]
+    pub fn ready(self) -> (ReadyRun<'a, F, T, W>, Debt<F>)
+        ensures { (result.0.cell.now ≡ self.entry.cell.now) × (result.0.pass ≡ self.entry.pass) }
+    {
+        let Run { cell, pass, future } = self;
+        (ReadyRun { cell, pass }, Debt::of(future))
+    }
+}
+
+impl<'a, F, T, W> ReadyRun<'a, F, T, W> {
+    /// The future was dropped. The output is stored, or comes back to be dropped, where nobody wants it.
+    #[inline(always)]
+    pub fn store<R: Wait>(
+        self,
+        rt: &R,
+        output: T,
+    ) -> (
+        Owed,
+        Result<PastRun<'a, F, T, W>, OwingRun<'a, F, T, W>>,
+        Option<Debt<T>>,
+    )
+        ensures made { MatchResult result.1
+            (λ run. Shows self.entry.cell.now.board.shared moves.end_ready result.0 run.badge)
+            (λ owing. Shows self.entry.cell.now.board.shared moves.end_ready result.0 owing.run.badge) }
+        ensures calls { is_ok result.1 ≡ not (is_some result.0.awaiter) }
+        ensures output { is_some result.2 ≡ result.0.drop_output }
+    {
+        let ReadyRun { cell, mut pass } = self;
+        let (owed, back) = runs::end_ready(rt, cell.board(), &mut pass, output);
+        (
+            owed,
+            PastRun::of(cell, pass).owing(owed),
+            Debt::of_some(back),
+        )
+    }
+}

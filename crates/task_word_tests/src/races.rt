@@ -1,0 +1,189 @@
+//! A poll of the handle meets the end of its task, and a cancel meets runs, on two threads.
+use crate::acts::{Looked, Outcome, Place, Ran};
+use crate::lives::{Handle, Kept, cancel, detach, make, poll, run};
+use std::alloc::{AllocError, Global};
+use std::sync::atomic::AtomicU64;
+use std::sync::atomic::Ordering::SeqCst;
+use std::sync::{Arc, Wait};
+use std::thread;
+
+/// Turns of a thread that waits for another, after which the test fails.
+const TURNS: u64 = 10_000_000;
+
+/// A cell, and what its runs tell.
+#[derive(Drop)]
+struct Stage {
+    place: Place,
+    /// The greatest waker that was called.
+    called: AtomicU64,
+    /// Futures that were dropped.
+    futures: AtomicU64,
+    /// Outputs that polls gave, and those of them that a run or the handle dropped.
+    given: AtomicU64,
+    dropped: AtomicU64,
+    /// 1 once no more task is made.
+    over: AtomicU64,
+}
+
+impl Stage {
+    fn new(alloc: Global) -> Result<Arc<Stage, Global>, AllocError> {
+        Ok(Arc::new(
+            alloc,
+            Stage {
+                place: Place::new(alloc)?,
+                called: AtomicU64::new(0),
+                futures: AtomicU64::new(0),
+                given: AtomicU64::new(0),
+                dropped: AtomicU64::new(0),
+                over: AtomicU64::new(0),
+            },
+        )?)
+    }
+
+    /// Counts what a run did. The answer is whether there was one.
+    fn count(&self, outcome: Outcome) -> bool {
+        match outcome.called {
+            Some(waker) => self.called.fetch_max(waker, SeqCst),
+            None => 0,
+        };
+        let (futures, given, dropped) = match outcome.ran {
+            Ran::Nothing => return false,
+            Ran::Pending(is_dropped) => (is_dropped as u64, 0, 0),
+            Ran::Closed(_) => (1, 0, 0),
+            Ran::Ready => (1, 1, 0),
+            Ran::ReadyForNobody => (1, 1, 1),
+        };
+        self.futures.fetch_add(futures, SeqCst);
+        self.given.fetch_add(given, SeqCst);
+        self.dropped.fetch_add(dropped, SeqCst);
+        true
+    }
+}
+
+/// Runs what rests, until no more task is made: each poll gives an output, or only every second one does. The answer is false
+/// where it waits too long.
+fn run_all<R: Wait>(rt: &R, stage: &Stage, gives_each: bool) -> bool {
+    let mut idle: u64 = 0;
+    let mut pends = false;
+    for _ in rt.forever() {
+        let is_last = stage.over.load(SeqCst) == 1;
+        let output = if pends { None } else { Some(9) };
+        if stage.count(run(rt, &stage.place, output)) {
+            pends = !gives_each && !pends;
+            idle = 0;
+        } else if is_last || idle == TURNS {
+            return is_last;
+        } else {
+            idle = idle.saturating_add(1);
+            thread::yield_now();
+        }
+    }
+    unreachable!()
+}
+
+/// A new task, once the cell is empty.
+fn make_soon<'a, R: Wait>(rt: &R, stage: &'a Stage) -> Option<Handle<'a>> {
+    for _ in 0..TURNS {
+        match make(rt, &stage.place) {
+            Some(task) => return Some(task),
+            None => thread::yield_now(),
+        }
+    }
+    None
+}
+
+/// Whether the handle's last look left a waker that wasn't called yet, and the next look is to wait for that.
+fn waits(stage: &Stage, polls: u64, most: u64, waker: u64) -> bool {
+    polls >= most && stage.called.load(SeqCst) < waker
+}
+
+/// Polls a new task until it has an output, which is the answer. After so many polls it waits until the waker of its last one
+/// was called. Wakers have numbers from this one on.
+fn await_output<R: Wait>(rt: &R, stage: &Stage, most: u64, first: u64) -> Option<u64> {
+    let mut task = make_soon(rt, stage)?;
+    let mut polls: u64 = 0;
+    for _ in 0..TURNS {
+        if waits(stage, polls, most, first.saturating_add(polls)) {
+            thread::yield_now();
+        } else {
+            polls = polls.saturating_add(1).min(most);
+            let (back, answer, kept) = poll(rt, task, first.saturating_add(polls));
+            task = back;
+            match (answer, kept) {
+                (Looked::Pending, Kept::Called(waker)) => {
+                    stage.called.fetch_max(waker, SeqCst);
+                }
+                (Looked::Pending, _) => {}
+                (Looked::Closed, _) => break,
+                (Looked::Output(output), _) => {
+                    let (task, answer, _) = poll(rt, task, 0);
+                    detach(rt, task);
+                    return if answer == Looked::Closed {
+                        Some(output)
+                    } else {
+                        None
+                    };
+                }
+            }
+        }
+    }
+    detach(rt, task);
+    None
+}
+
+/// A handle is polled on this thread while another ends its task, 1,000 times: the output is given once, and the waker of the
+/// last poll without an answer was called.
+#[test]
+fn an_end_meets_the_polls_of_a_handle(rt: HostRuntime) {
+    let stage = Stage::new(rt.alloc()).expect(&rt, "memory");
+    let runs = Arc::try_clone(&stage).expect(&rt, "a share");
+    let runner = thread::spawn(&rt, move || run_all(&rt, &runs, true)).expect(&rt, "a thread");
+    let mut outputs: u64 = 0;
+    for round in 0..1_000_u64 {
+        if await_output(&rt, &stage, 1 + round % 4, round.saturating_mul(10)) == Some(9) {
+            outputs = outputs.saturating_add(1);
+        } else {
+            break;
+        }
+    }
+    stage.over.store(1, SeqCst);
+    assert!(&rt; runner.join(&rt));
+    assert!(&rt; outputs == 1_000);
+    assert!(&rt; stage.futures.load(SeqCst) == 1_000);
+    assert!(&rt; stage.given.load(SeqCst) == 1_000);
+    assert!(&rt; stage.dropped.load(SeqCst) == 0);
+}
+
+/// A task is made, cancelled and let go. The answer is false where the cell doesn't become empty.
+fn make_and_cancel<R: Wait>(rt: &R, stage: &Stage) -> bool {
+    match make_soon(rt, stage) {
+        Some(task) => {
+            let (task, _, _) = cancel(rt, task);
+            let (output, _) = detach(rt, task);
+            stage.dropped.fetch_add(output.is_some() as u64, SeqCst);
+            true
+        }
+        None => false,
+    }
+}
+
+/// A task is cancelled on this thread while another runs it, 100,000 times: each future is dropped once, and so is each output.
+#[test]
+fn a_cancel_meets_runs(rt: HostRuntime) {
+    let stage = Stage::new(rt.alloc()).expect(&rt, "memory");
+    let runs = Arc::try_clone(&stage).expect(&rt, "a share");
+    let runner = thread::spawn(&rt, move || run_all(&rt, &runs, false)).expect(&rt, "a thread");
+    let mut rounds: u64 = 0;
+    for _ in 0..100_000 {
+        if make_and_cancel(&rt, &stage) {
+            rounds = rounds.saturating_add(1);
+        } else {
+            break;
+        }
+    }
+    stage.over.store(1, SeqCst);
+    assert!(&rt; runner.join(&rt));
+    assert!(&rt; rounds == 100_000);
+    assert!(&rt; stage.futures.load(SeqCst) == 100_000);
+    assert!(&rt; stage.given.load(SeqCst) == stage.dropped.load(SeqCst));
+}

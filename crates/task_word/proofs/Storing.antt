@@ -1,5 +1,5 @@
 -- How references rest in the word of stored wakers.
-use Rattle.std.proofs.Common.{◌≡◌, ◌≢◌, ℕ, ◌+◌, ◌<◌, ◌^◌, ◌%◌, List, [], ◌∷◌, get_or, set, refl, sym, ap, ◌∙◌, subst, ⊎_elim, eqb, arith}
+use Rattle.std.proofs.Common.{◌≡◌, ℕ, ◌+◌, ◌<◌, ◌≤◌, ◌^◌, ◌%◌, List, get_or, set, refl, sym, ap, subst, ⊎_elim, eqb, arith}
 use mathlib.Core.Option.{some}
 use lib.ListN.{get_elem?}
 use prog.Atomic.{either}
@@ -8,12 +8,15 @@ use Rattle.atomic_table.proofs.Lists.{at_set, exchanged}
 use Rattle.task_moves.specs.declared.moves.state.State.{State}
 use Rattle.task_word.specs.declared.rule.View.{View}
 use Rattle.task_word.specs.declared.rule.Hold.TheVariants.{Nothing, Reference}
-use Rattle.task_word.specs.Word.{bit, pack}
+use Rattle.task_word.specs.Word.{bit}
 use Rattle.task_word.specs.Cell.{Slot, going, spending, calling, handling, room, most, reference_of, handle_of}
-use Rattle.task_word.specs.Cell.{Knows, KnowsPost, KnowsState, Holds, Cell, total, handles}
+use Rattle.task_word.specs.Cell.{Knows, KnowsPost, KnowsState, Cell, total, handles}
 use Rattle.task_word.specs.Steps.{Known, stored_view, looked_stored, stored, redeemed}
 use Rattle.task_word.proofs.Keeps.{St, little}
 use Rattle.task_word.proofs.Views.{total_set, handles_set}
+
+plus_one : (y k : ℕ) → y ≡ k → k + 1 < 2 ^ 64 → (y + 1) % 2 ^ 64 ≡ k + 1
+plus_one y k e small = omega arith
 
 module _ {F T W : Type 0} where
   -- so many references rest, where a seat has this view then, and knows of nothing else
@@ -54,9 +57,6 @@ module _ {F T W : Type 0} where
   few : {s : St F T W} (c : Cell s) → c.holds.stored + 1 < 2 ^ 64
   few {s} c = let r = c.holds in let l : room r.body ≤ 1 = little r.body in let b : c.state.references ≤ most + room r.body = r.bounded in
       let m : c.state.references ≡ total s.views + r.stored + going r.body + calling r.post = r.references in omega arith
-
-  plus_one : (y k : ℕ) → y ≡ k → k + 1 < 2 ^ 64 → (y + 1) % 2 ^ 64 ≡ k + 1
-  plus_one y k e small = omega arith
 
   -- a step on that word, by which the seat has the view w
   abbrev pub Counts : St F T W → ℕ → Known F T W → (Known F T W → Type 0) → ℕ → Type 0

@@ -6,14 +6,18 @@ use std::sync::atomic::AtomicU64;
 use std::sync::atomic::Ordering::SeqCst;
 use std::sync::{Arc, Wait};
 use std::thread;
+use std::vec::Vec;
 
 /// Turns of a thread that waits for another, after which the test fails.
 const TURNS: u64 = 10_000_000;
 
-/// A cell, and what its runs tell.
+/// So many tasks are there at a time, so that a thread that has no processor stops the other only now and then.
+const CELLS: u64 = 64;
+
+/// Cells, and what their runs tell.
 #[derive(Drop)]
 struct Stage {
-    place: Place,
+    places: Vec<Place, Global>,
     /// The greatest waker that was called.
     called: AtomicU64,
     /// Futures that were dropped.
@@ -27,10 +31,14 @@ struct Stage {
 
 impl Stage {
     fn new(alloc: Global) -> Result<Arc<Stage, Global>, AllocError> {
+        let mut places = Vec::with_capacity(alloc, CELLS as usize)?;
+        for _ in 0..CELLS {
+            places.push(Place::new(alloc)?)?;
+        }
         Ok(Arc::new(
             alloc,
             Stage {
-                place: Place::new(alloc)?,
+                places,
                 called: AtomicU64::new(0),
                 futures: AtomicU64::new(0),
                 given: AtomicU64::new(0),
@@ -60,6 +68,17 @@ impl Stage {
     }
 }
 
+/// Runs what rests in each cell. The answer is whether anything did.
+fn run_each<R: Wait>(rt: &R, stage: &Stage, output: Option<u64>) -> bool {
+    let mut is_run = false;
+    for place in &stage.places {
+        if stage.count(run(rt, place, output)) {
+            is_run = true;
+        }
+    }
+    is_run
+}
+
 /// Runs what rests, until no more task is made: each poll gives an output, or only every second one does. The answer is false
 /// where it waits too long.
 fn run_all<R: Wait>(rt: &R, stage: &Stage, gives_each: bool) -> bool {
@@ -68,7 +87,7 @@ fn run_all<R: Wait>(rt: &R, stage: &Stage, gives_each: bool) -> bool {
     for _ in rt.forever() {
         let is_last = stage.over.load(SeqCst) == 1;
         let output = if pends { None } else { Some(9) };
-        if stage.count(run(rt, &stage.place, output)) {
+        if run_each(rt, stage, output) {
             pends = !gives_each && !pends;
             idle = 0;
         } else if is_last || idle == TURNS {
@@ -81,10 +100,11 @@ fn run_all<R: Wait>(rt: &R, stage: &Stage, gives_each: bool) -> bool {
     unreachable!()
 }
 
-/// A new task, once the cell is empty.
-fn make_soon<'a, R: Wait>(rt: &R, stage: &'a Stage) -> Option<Handle<'a>> {
+/// A new task, once this round's cell is empty.
+fn make_soon<'a, R: Wait>(rt: &R, stage: &'a Stage, round: u64) -> Option<Handle<'a>> {
+    let place = stage.places.get((round % CELLS) as usize)?;
     for _ in 0..TURNS {
-        match make(rt, &stage.place) {
+        match make(rt, place) {
             Some(task) => return Some(task),
             None => thread::yield_now(),
         }
@@ -100,7 +120,7 @@ fn waits(stage: &Stage, polls: u64, most: u64, waker: u64) -> bool {
 /// Polls a new task until it has an output, which is the answer. After so many polls it waits until the waker of its last one
 /// was called. Wakers have numbers from this one on.
 fn await_output<R: Wait>(rt: &R, stage: &Stage, most: u64, first: u64) -> Option<u64> {
-    let mut task = make_soon(rt, stage)?;
+    let mut task = make_soon(rt, stage, first)?;
     let mut polls: u64 = 0;
     for _ in 0..TURNS {
         if waits(stage, polls, most, first.saturating_add(polls)) {
@@ -155,8 +175,8 @@ fn an_end_meets_the_polls_of_a_handle(rt: HostRuntime) {
 }
 
 /// A task is made, cancelled and let go. The answer is false where the cell doesn't become empty.
-fn make_and_cancel<R: Wait>(rt: &R, stage: &Stage) -> bool {
-    match make_soon(rt, stage) {
+fn make_and_cancel<R: Wait>(rt: &R, stage: &Stage, round: u64) -> bool {
+    match make_soon(rt, stage, round) {
         Some(task) => {
             let (task, _, _) = cancel(rt, task);
             let (output, _) = detach(rt, task);
@@ -174,8 +194,8 @@ fn a_cancel_meets_runs(rt: HostRuntime) {
     let runs = Arc::try_clone(&stage).expect(&rt, "a share");
     let runner = thread::spawn(&rt, move || run_all(&rt, &runs, false)).expect(&rt, "a thread");
     let mut rounds: u64 = 0;
-    for _ in 0..100_000 {
-        if make_and_cancel(&rt, &stage) {
+    for round in 0..100_000_u64 {
+        if make_and_cancel(&rt, &stage, round) {
             rounds = rounds.saturating_add(1);
         } else {
             break;

@@ -29,6 +29,8 @@ pub struct Call {
     undrained: Snapshot<bool>,
     // Whether it lies among the sleepers as it did before, with its waker.
     lies: Snapshot<bool>,
+    // Whether it asked for memory, and was refused.
+    wanted: Snapshot<bool>,
 }
 
 /// How a call of a tick or run ended.
@@ -114,6 +116,7 @@ impl Model for Call {
       searched = c.searched.value;
       undrained = c.undrained.value;
       lies = c.lies.value;
+      wanted = c.wanted.value;
     } };
 }
 
@@ -132,6 +135,7 @@ impl Call {
             searched: Snapshot::of(&false),
             undrained: Snapshot::of(&false),
             lies: Snapshot::of(&false),
+            wanted: Snapshot::of(&false),
         }
     }
 
@@ -164,6 +168,7 @@ impl Call {
             searched: _,
             undrained: _,
             lies: _,
+            wanted: _,
         } = self;
     }
 
@@ -209,9 +214,10 @@ impl Call {
         Last::of(Ending::Called)
     }
 
-    /// Memory was wanted: the call ends.
+    /// Memory was wanted, and there was none: the call ends.
     pub fn refuse(self) -> Last
-        requires { IsDone self }
+        requires wanted { self.wanted ≡ true }
+        requires done { IsDone self }
         ensures { result ≡ Ending.Refused }
     {
         self.end();
@@ -219,11 +225,19 @@ impl Call {
     }
 
     /// A run's own queue was put into the executor's list, or refused there.
-    pub fn list(&mut self)
+    pub fn list(&mut self, refused: bool)
         requires { self.old ≡ begun }
-        ensures { self.new ≡ record self.old { is_new = false } }
+        ensures { self.new ≡ record self.old { is_new = false; wanted = refused } }
     {
         self.is_new = Snapshot::of(&false);
+        self.ask(refused);
+    }
+
+    /// Memory was asked for, and given or refused.
+    pub fn ask(&mut self, refused: bool)
+        ensures { self.new ≡ record self.old { wanted = refused } }
+    {
+        self.wanted = Snapshot::of(&refused);
     }
 
     /// A future was refused, or its Runnable came in hand.

@@ -1,20 +1,21 @@
 //! The own queue of a run, and how a run searches.
-ghost use Rattle.std.specs.Prelude.{◌≡◌, true, false, Some, IfOk, IfErr, OnOk, is_some};
+ghost use Rattle.std.specs.Prelude.{◌≡◌, true, false, Some, IfOk, IfErr, OnOk, is_some, is_err};
 ghost use Rattle.std.specs.Arc.{arc_value};
 ghost use Rattle.async_executor.specs.Seeds.{seeded};
-ghost use Rattle.async_executor.specs.Stages.{begun, took, looked};
+ghost use Rattle.async_executor.specs.OwnQueues.{listed};
+ghost use Rattle.async_executor.specs.Stages.{idle, begun, took, looked};
 
 use crate::call::{Call, Ending, Last};
 use crate::due::{pay, share};
 use crate::names::ExRealm;
-use crate::own_queues::RunRoom;
+use crate::own_queues::{OwnQueues, RunRoom};
 use crate::state::{OWN_PLACES, Queue, State, take};
 use crate::steal::steal;
 use async_task::{NoMemory, StoredRunnable, Wake};
 use concurrent_queue::ConcurrentQueue;
 use rand_core::{Rng, SeedableRng};
 use rand_xoshiro::Xoshiro256PlusPlus;
-use std::alloc::Global;
+use std::alloc::{AllocError, Global};
 use std::sync::{Arc, Wait};
 
 /// After how many tasks a run steals from the global queue before it runs the next.
@@ -86,16 +87,20 @@ impl Runner {
 
     /// Puts the own queue into the executor's list, where it isn't there yet.
     pub fn begin<W, R: Wait + Copy + Drop>(&mut self, rt: R, state: &State<W>) -> Result<(), Last>
-        ensures listed { OnOk result (self.new.is_listed ≡ true) }
-        ensures refused { IfErr result (λ last. last ≡ Ending.Refused) }
+        ensures listed { OnOk result (self.new ≡ record self.old { is_listed = true }) }
+        ensures refused { IfErr result (λ last. (last ≡ Ending.Refused) × (self.new ≡ self.old)) }
     {
         if self.is_listed {
             return Ok(());
         }
         let mut call = Call::begin();
         let queue = share(rt, &self.own);
-        let inserted = state.own_queues.write(&rt).insert(&self.room, queue);
-        call.list();
+        let inserted = list_in(
+            &mut *state.own_queues.write(&rt),
+            &mut call,
+            &self.room,
+            queue,
+        );
         match inserted {
             Ok(()) => {
                 self.is_listed = true;
@@ -219,6 +224,23 @@ impl Runner {
         }
         (None, None)
     }
+}
+
+/// The section of the list's lock in which a run's own queue comes into it. Refused, the list is as it was.
+fn list_in<Q: Drop>(
+    queues: &mut OwnQueues<Q>,
+    call: &mut Call,
+    room: &RunRoom,
+    queue: Q,
+) -> Result<(), AllocError>
+    requires { call.old ≡ begun }
+    ensures listed { OnOk result (queues.new.queues.items ≡ listed room.now.number queue queues.old.queues.items) }
+    ensures refused { IfErr result (λ _. queues.new.queues.items ≡ queues.old.queues.items) }
+    ensures call { call.new ≡ record idle { wanted = is_err result } }
+{
+    let inserted = queues.insert(room, queue);
+    call.list(inserted.is_err());
+    inserted
 }
 
 /// Drops a Runnable that came back from a full queue, where one did.

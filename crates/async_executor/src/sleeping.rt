@@ -1,6 +1,7 @@
-ghost use Rattle.std.specs.Prelude.{IfSome};
+ghost use Rattle.std.specs.Prelude.{◌≡◌, IfSome, is_none};
 ghost use Rattle.async_executor.specs.Copies.{IsCopyOf};
 
+use crate::call::Call;
 use crate::names::{ExDue, ExRealm, ExWaker};
 use async_task::{Awaiter, StoredWaker, Wake};
 use std::sync::Wait;
@@ -15,8 +16,20 @@ pub enum SleeperWaker<W> {
 }
 
 impl<W: Wake + Drop + 'static> SleeperWaker<W> {
-    /// A copy of a waker for the list of sleepers, or None where none can be had.
-    pub fn of<T, R>(waker: &ExWaker<T, W, R>) -> Option<Self>
+    /// A copy of a waker for the list of sleepers, or None where none can be had: then memory was wanted.
+    pub fn of<T, R>(waker: &ExWaker<T, W, R>, call: &mut Call) -> Option<Self>
+    where
+        T: Drop + 'static,
+        R: Wait + Copy + Drop + 'static,
+        ensures copy { IfSome result (λ copy. IsCopyOf W.is_same copy waker.now) }
+        ensures call { call.new ≡ record call.old { wanted = is_none result } }
+    {
+        let copy = SleeperWaker::copy_of(waker);
+        call.ask(copy.is_none());
+        copy
+    }
+
+    fn copy_of<T, R>(waker: &ExWaker<T, W, R>) -> Option<Self>
     where
         T: Drop + 'static,
         R: Wait + Copy + Drop + 'static,

@@ -102,15 +102,17 @@ impl<W: Drop> State<W> {
         }
     }
 
-    /// Exchanges the flag from false to true, and says whether it was false: then a waker is to be handed out.
+    /// Exchanges the flag from false to true, and says whether it was false: then a waker is to be handed out. It is read
+    /// first: one that reads true is as an exchange that fails, and leaves its cache line to all threads.
     fn exchange(&self, call: &mut Call) -> bool
         requires { call.old.owes ≡ true }
         ensures { call.new ≡ record call.old { owes = false; won = result } }
     {
-        let won = self
-            .notified
-            .compare_exchange(false, true, Ordering::SeqCst, Ordering::SeqCst)
-            .is_ok();
+        let won = !self.notified.load(Ordering::SeqCst)
+            && self
+                .notified
+                .compare_exchange(false, true, Ordering::SeqCst, Ordering::SeqCst)
+                .is_ok();
         call.exchange(won);
         won
     }

@@ -114,7 +114,8 @@ impl Ticker {
             waker.wake_by_ref();
             return Found::Nothing(call.end_called());
         }
-        let Some(copy) = SleeperWaker::of(waker) else {
+        let mut call = call;
+        let Some(copy) = SleeperWaker::of(waker, &mut call) else {
             return Found::NoMemory(call.refuse());
         };
         self.lie_down(rt, state, realm, call, copy)

@@ -41,7 +41,8 @@ where
         | Workload::Ring1024Exclusive
         | Workload::UnboundedExclusive => on_queue_of_one(workload, rt, ops),
         Workload::MachineStep => steps::run(rt, ops),
-        Workload::SimLines => sim::lines(rt, ops),
+        Workload::SimLines => sim::lines(rt, 0, ops),
+        Workload::SimTicks => sim::lines(rt, 100, ops),
         Workload::SpawnRun => task::spawn_run(*rt, alloc, realm, ops),
         Workload::DropHandle => task::drop_handle(*rt, alloc, realm, ops),
         Workload::WakeRun => task::wake_run(*rt, alloc, realm, ops),

@@ -12,12 +12,12 @@ const FUTURES: u64 = 1000;
 /// How many lines a script has at most.
 const LINES: u64 = 10_000;
 
-/// So many lines of scripts, parsed and run: as many scripts of 10,000 lines as that makes, and one of
+/// So many lines of scripts with so many ticks, parsed and run: as many scripts of 10,000 lines as that makes, and one of
 /// the lines that are left. The texts are made before the clock starts.
-pub fn lines<R: AllocGlobal + Clock>(rt: &R, ops: u64) -> Result<Timing, Fault> {
+pub fn lines<R: AllocGlobal + Clock>(rt: &R, ticks: u64, ops: u64) -> Result<Timing, Fault> {
     let alloc = rt.alloc();
-    let whole = script(alloc, LINES)?;
-    let rest = script(alloc, ops % LINES)?;
+    let whole = script(alloc, ticks, LINES)?;
+    let rest = script(alloc, ticks, ops % LINES)?;
     let mut moved = 0u64;
     let start = Instant::now(rt)?;
     for _ in 0..ops / LINES {
@@ -49,26 +49,47 @@ fn fault(error: ParseError) -> Fault {
 const HEAD: &[u8] = b"limit 1000\n";
 
 /// A script of so many lines. Each of a thousand futures keeps its waker at its first poll, is woken
-/// and polled three times more, and goes with its handle.
-fn script(alloc: Global, lines: u64) -> Result<Vec<u8>, AllocError> {
+/// and polled three times more, and goes with its handle. Where there are ticks, they are made and lie down first, and
+/// poll the futures in turn.
+fn script(alloc: Global, ticks: u64, lines: u64) -> Result<Vec<u8>, AllocError> {
     let mut text = Vec::new(alloc);
     for line in 0..lines {
-        push_line(&mut text, line)?;
+        push_line(&mut text, ticks, line)?;
     }
     Ok(text)
 }
 
 /// The line behind so many others.
-fn push_line(text: &mut Vec<u8>, before: u64) -> Result<(), AllocError> {
+fn push_line(text: &mut Vec<u8>, ticks: u64, before: u64) -> Result<(), AllocError> {
     let Some(command) = before.checked_sub(1) else {
         return text.extend_from_slice(HEAD);
     };
+    if command < ticks {
+        return push_command(text, b"tick ", &tick(command), b"\n");
+    }
+    match command.saturating_sub(ticks).checked_sub(ticks) {
+        Some(later) => push_later(text, ticks, later),
+        None => push_poll(text, ticks, command),
+    }
+}
+
+/// A tick takes the next future, or there is none and `try` takes it.
+fn push_poll(text: &mut Vec<u8>, ticks: u64, command: u64) -> Result<(), AllocError> {
+    if ticks == 0 {
+        text.extend_from_slice(b"try\n")
+    } else {
+        push_command(text, b"polltick ", &tick(command % ticks), b"\n")
+    }
+}
+
+/// The line behind so many others that follow those that make the ticks.
+fn push_later(text: &mut Vec<u8>, ticks: u64, command: u64) -> Result<(), AllocError> {
     let future = name(command % FUTURES);
     match command / FUTURES {
         0 => push_command(text, b"spawn ", &future, b" keep\n"),
         2 | 4 | 6 => push_command(text, b"wake ", &future, b"\n"),
         8 => push_command(text, b"drop ", &future, b"\n"),
-        _ => text.extend_from_slice(b"try\n"),
+        _ => push_poll(text, ticks, command),
     }
 }
 
@@ -86,6 +107,11 @@ fn push_command(
 /// The name of the future of this number.
 fn name(number: u64) -> [u8; 3] {
     [letter(number / 676), letter(number / 26), letter(number)]
+}
+
+/// The name of the tick of this number.
+fn tick(number: u64) -> [u8; 2] {
+    [letter(number / 26), letter(number)]
 }
 
 fn letter(number: u64) -> u8 {

@@ -56,23 +56,23 @@ fn script(alloc: Global, ops: u64) -> Result<Vec<Step>, AllocError> {
 /// The whole life of a thousand futures, of which the first has this number. Their kept wakers have the same numbers.
 fn thousand(steps: &mut Vec<Step>, first: u64) -> Result<(), AllocError> {
     for _ in 0..FUTURES {
-        call(steps, Call::Spawn, 2)?;
+        call(steps, Call::Spawn, 3)?;
     }
     for _ in 0..FUTURES {
-        call(steps, Call::TryTick, 3)?;
+        call(steps, Call::TryTick, 4)?;
         call(steps, Call::Keep, 1)?;
         answer(steps, UserEnd::Polled(Answer::Pending), 2)?;
     }
     for _ in 0..WAKES {
         for i in 0..FUTURES {
-            call(steps, Call::WakeByRef(shuffled(first, i)), 2)?;
-            call(steps, Call::TryTick, 3)?;
+            call(steps, Call::WakeByRef(shuffled(first, i)), 3)?;
+            call(steps, Call::TryTick, 4)?;
             answer(steps, UserEnd::Polled(Answer::Pending), 2)?;
         }
     }
     for i in 0..FUTURES {
-        call(steps, Call::DropHandle(shuffled(first, i)), 3)?;
-        call(steps, Call::TryTick, 4)?;
+        call(steps, Call::DropHandle(shuffled(first, i)), 4)?;
+        call(steps, Call::TryTick, 5)?;
         answer(steps, UserEnd::Done, 4)?;
         call(steps, Call::DropWaker(shuffled(first, i)), 1)?;
     }

@@ -1,8 +1,10 @@
 -- What the arguments ask for.
-use Rattle.std.specs.Prelude.{◌≡◌, ℕ, ◌≤◌, List, [], ◌∷◌, codes}
+use Rattle.std.specs.Prelude.{◌≡◌, ℕ, ◌≤◌, List, [], ◌∷◌, Vec, codes}
+use Rattle.std.specs.Global.{Global}
 use Rattle.text_lines.specs.Number.{IsNumber}
 use Rattle.simulator.specs.Answer.{IsAnswer, IsGoodInput}
 use Rattle.script.specs.BadLine.{IsFirstBadLine}
+use Rattle.job_answers.specs.declared.job.Solved.{Solved}
 use Rattle.job_lines.specs.Lines as lines
 use Rattle.commands.specs.Jobs.{IsAnswerToJobs, MissesJob, SaysJobs}
 use Rattle.commands.specs.declared.words.Asked.{Asked}
@@ -33,7 +35,7 @@ abbrev pub IsBadFor : Asked → List ℕ → ℕ → Type 0
 IsBadFor Sim input number = IsFirstBadLine input number × (¬ (IsGoodInput input))
 IsBadFor (Jobs workers) input number = lines.IsFirstBadLine input number × (¬ (SaysJobs input))
 
--- the job of this number is the first that didn't come back once
-abbrev pub MissesFor : Asked → List ℕ → ℕ → Type 0
-MissesFor Sim input number = ⊥
-MissesFor (Jobs workers) input number = MissesJob input number
+-- the job of this number is the first that didn't come back once, of what the workers of a place brought
+abbrev pub MissesFor : {P : Type 0} → (P → Vec Solved Global → Type 0) → Asked → List ℕ → ℕ → Type 0
+MissesFor brings Sim input number = ⊥
+MissesFor brings (Jobs workers) input number = MissesJob brings workers input number

@@ -1,7 +1,9 @@
 -- What is written for an input that is a list of jobs.
-use Rattle.std.specs.Prelude.{◌≡◌, ℕ, List, map}
+use Rattle.std.specs.Prelude.{◌≡◌, ℕ, List, Vec, map}
+use Rattle.std.specs.Global.{Global}
 use Rattle.job_answers.specs.Answers.{answer_of}
 use Rattle.job_answers.specs.declared.job.Job.{Job}
+use Rattle.job_answers.specs.declared.job.Solved.{Solved}
 use Rattle.job_lines.specs.Lines.{Says, IsFirstBadLine, answers_text}
 use Rattle.jobs.specs.Coming.{CameBackUpTo}
 use Rattle.commands.specs.declared.fault.Fault.{Fault}
@@ -15,16 +17,17 @@ SaysJobs input = (jobs : List Job) × Says input jobs
 abbrev pub IsAnswerToJobs : List ℕ → List ℕ → Type 0
 IsAnswerToJobs input text = (jobs : List Job) × Says input jobs × (text ≡ answers_text 0 (map answer_of jobs))
 
--- the first job of the input that didn't come back once
-abbrev pub MissesJob : List ℕ → ℕ → Type 0
-MissesJob input number = (jobs : List Job) × Says input jobs × CameBackUpTo jobs number
+module _ {P : Type 0} (brings : P → Vec Solved Global → Type 0) (workers : ℕ) where
+  -- the first job of the input that didn't come back once, of what so many threads of a place brought
+  abbrev pub MissesJob : List ℕ → ℕ → Type 0
+  MissesJob input number = (jobs : List Job) × Says input jobs × CameBackUpTo brings workers jobs number
 
--- why an input of jobs is not answered
-abbrev pub IsFaultOf : List ℕ → Fault → Type 0
-IsFaultOf input (Missing number) = MissesJob input number
-IsFaultOf input (BadLine number) = IsFirstBadLine input number
-IsFaultOf input Usage = ⊥
-IsFaultOf input NoMemory = Unit {0}
-IsFaultOf input NoThread = Unit {0}
-IsFaultOf input ReadFailed = ⊥
-IsFaultOf input WriteFailed = ⊥
+  -- why an input of jobs is not answered
+  abbrev pub IsFaultOf : List ℕ → Fault → Type 0
+  IsFaultOf input (Missing number) = MissesJob input number
+  IsFaultOf input (BadLine number) = IsFirstBadLine input number
+  IsFaultOf input Usage = ⊥
+  IsFaultOf input NoMemory = Unit {0}
+  IsFaultOf input NoThread = Unit {0}
+  IsFaultOf input ReadFailed = ⊥
+  IsFaultOf input WriteFailed = ⊥

@@ -52,7 +52,7 @@ where
     ensures good_lines { (number : ℕ) → IfSome (I.remaining reader.old) (λ input.
         SaysJobs input → result ≢ Err (Fault.BadLine number)) }
     ensures missing { (number : ℕ) → result ≡ Err (Fault.Missing number) →
-        IfSome (I.remaining reader.old) (λ input. MissesJob input number) }
+        IfSome (I.remaining reader.old) (λ input. MissesJob P.brings workers input number) }
     ensures no_usage { result ≢ Err Fault.Usage }
 {
     let input = input::read_all(alloc, reader)?;
@@ -73,7 +73,7 @@ where
     R: Threads + Sync + Wait + Copy + Drop + 'static,
     requires { (0 < workers) × (workers ≤ 64) }
     ensures answer { IfOk result (λ text. IsAnswerToJobs input.now text.items) }
-    ensures fault { IfErr result (IsFaultOf input.now) }
+    ensures fault { IfErr result (IsFaultOf P.brings workers input.now) }
     ensures good_lines { (number : ℕ) → SaysJobs input.now → result ≢ Err (Fault.BadLine number) }
 {
     let list = parse(alloc, input)?;

@@ -50,7 +50,7 @@ where
         IfSome (I.remaining reader.old) (λ input. IsBadFor asked input number) }
     ensures missing { (number : ℕ) → result ≡ Err (Fault.Missing number) →
         (asked : Asked) × AskFor (map string_bytes words.now) asked ×
-        IfSome (I.remaining reader.old) (λ input. MissesFor asked input number) }
+        IfSome (I.remaining reader.old) (λ input. MissesFor P.brings asked input number) }
 {
     match read_words(words) {
         Some(Asked::Sim) => sim(alloc, reader, writer),
@@ -69,3 +69,5 @@ mod job_tests;
 mod scripts;
 #[cfg(test)]
 mod tests;
+#[cfg(test)]
+mod tick_scripts;

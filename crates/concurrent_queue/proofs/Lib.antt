@@ -1,7 +1,6 @@
 pub mod BoundedCells
 pub mod BoundedFaces
 pub mod BoundedKeeps
-pub mod BoundedSays
 pub mod BoundedStands
 pub mod PlacesLeft
 pub mod SingleKeeps

@@ -3,11 +3,8 @@ use Rattle.std.proofs.Common.{◌≡◌, ℕ, nat_lt, ◌==◌, if◌then◌else
 use Rattle.std.specs.Prelude.{Option, Some, None, Ok}
 use Rattle.concurrent_queue.specs.Answered.{turns, ForcePushSays}
 use Rattle.queue_steps.specs.Single.{marks_of}
-use Rattle.queue_steps.specs.SingleTurns.{looked_to_force, force_push_turn}
-use Rattle.queue_steps.specs.declared.steps.Reply.{Reply}
-use Rattle.queue_steps.specs.declared.steps.Reply.TheVariants.{Done, Displaced}
-use Rattle.queue_steps.specs.declared.steps.single.Turn.{Turn}
-use Rattle.queue_steps.specs.declared.steps.single.Turn.TheVariants.{Look, Exchange, Unlock, End}
+use Rattle.queue_steps.specs.SingleTurns.{looked_to_force, force_push_turn, Turn, Look, Exchange, Unlock, End}
+use Rattle.queue_steps.specs.Reply.{Reply, Done, Displaced}
 
 pub turns-snoc : {A : Type 0} (step : A → ℕ → A) (t : A) (ws : List ℕ) (w : ℕ) → turns step t (ws ++ w ∷ []) ≡ step (turns step t ws) w
 turns-snoc step t [] w = refl

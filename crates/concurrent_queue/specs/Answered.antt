@@ -1,13 +1,12 @@
 -- What a running call of slot or ring answers: the reply at which the steps of its call end on the words that it found.
-use Rattle.std.specs.Prelude.{◌≡◌, Bool, true, false, Option, Some, None, List, [], ◌∷◌, ℕ, Result, Ok, Err}
+use Rattle.std.specs.Prelude.{◌≡◌, Bool, if◌then◌else◌, Option, Some, None, List, [], ◌∷◌, ℕ, Result, Ok, Err}
 use Rattle.queue_steps.specs.declared.errors.PushError.{PushError}
 use Rattle.queue_steps.specs.declared.errors.PushError.TheVariants.{Full as FullToPush, Closed as ClosedToPush, NoMemory}
 use Rattle.queue_steps.specs.declared.errors.ForcePushError.{ForcePushError}
 use Rattle.queue_steps.specs.declared.errors.ForcePushError.TheVariants.{Closed as ClosedToForce, NoMemory as NoMemoryToForce}
 use Rattle.queue_steps.specs.declared.errors.PopError.{PopError}
 use Rattle.queue_steps.specs.declared.errors.PopError.TheVariants.{Empty as EmptyToPop, Closed as ClosedToPop}
-use Rattle.queue_steps.specs.declared.steps.Reply.{Reply}
-use Rattle.queue_steps.specs.declared.steps.Reply.TheVariants.{Done, Displaced, Full, Empty, Closed, Yes, No}
+use Rattle.queue_steps.specs.Reply.{Reply, Done, Displaced, Full, Empty, Closed, Yes, No}
 
 -- where a call stands that has found these words, oldest first
 abbrev pub turns : {Turn : Type 0} → (Turn → ℕ → Turn) → Turn → List ℕ → Turn
@@ -36,5 +35,4 @@ module _ {T : Type 0} where
 
 -- a call that answers yes or no
 abbrev pub says : Bool → Reply
-says true = Yes
-says false = No
+says told = if told then Yes else No

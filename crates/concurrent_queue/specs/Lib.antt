@@ -1,6 +1,7 @@
 pub mod Answered
 pub mod BoundedRule
 pub mod BoundedSeat
+pub mod BoundedStands
 pub mod Capacity
 pub mod Places
 pub mod Remains
@@ -11,14 +12,18 @@ pub mod TryIter
 pub use Rattle.queue_steps.specs.Calls
 pub use Rattle.queue_steps.specs.Unbounded
 pub use Rattle.queue_steps.specs.UnboundedTurns
+pub use Rattle.queue_steps.specs.UnboundedCallTurns
 pub use Rattle.queue_steps.specs.ClosableQueue
 pub use Rattle.queue_steps.specs.Errors
 pub use Rattle.queue_steps.specs.ExclusiveIter
 pub use Rattle.queue_steps.specs.Kept
 pub use Rattle.queue_steps.specs.Replies
+pub use Rattle.queue_steps.specs.Reply
 pub use Rattle.queue_steps.specs.Bounded
 pub use Rattle.queue_steps.specs.BoundedAtRest
 pub use Rattle.queue_steps.specs.BoundedEnds
 pub use Rattle.queue_steps.specs.BoundedTurns
+pub use Rattle.queue_steps.specs.BoundedCallTurns
 pub use Rattle.queue_steps.specs.Single
 pub use Rattle.queue_steps.specs.SingleTurns
+pub use Rattle.queue_steps.specs.SingleCallTurns

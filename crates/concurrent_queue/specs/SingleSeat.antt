@@ -4,12 +4,14 @@ use Rattle.concurrent_queue.specs.Answered.{turns}
 use Rattle.atomic_table.specs.declared.shared.Seat.{Seat}
 use Rattle.atomic_table.specs.declared.shared.Shared.{Shared}
 use Rattle.concurrent_queue.specs.declared.single.rule.Doing.{Doing}
-use Rattle.queue_steps.specs.SingleTurns.{push_turn, force_push_turn, pop_turn, close_turn, len_turn, is_empty_turn, is_full_turn}
-use Rattle.queue_steps.specs.SingleTurns.{is_closed_turn}
-use Rattle.queue_steps.specs.declared.steps.single.Turn.{Turn}
-use Rattle.queue_steps.specs.declared.steps.single.Turn.TheVariants.{Look, Exchange, Unlock, Close, End}
-use Rattle.queue_steps.specs.declared.steps.Reply.{Reply}
-use Rattle.queue_steps.specs.declared.steps.Reply.TheVariants.{Full, Empty, Closed}
+use Rattle.queue_steps.specs.SingleTurns.{Turn, Look, Close, push_turn, force_push_turn, pop_turn, close_turn, len_turn, is_empty_turn}
+use Rattle.queue_steps.specs.SingleTurns.{is_full_turn, is_closed_turn}
+use Rattle.queue_steps.specs.declared.steps.single.PushTurn.{PushTurn}
+use Rattle.queue_steps.specs.declared.steps.single.PushTurn.TheVariants as push
+use Rattle.queue_steps.specs.declared.steps.single.ForcePushTurn.{ForcePushTurn}
+use Rattle.queue_steps.specs.declared.steps.single.ForcePushTurn.TheVariants as force_push
+use Rattle.queue_steps.specs.declared.steps.single.PopTurn.{PopTurn}
+use Rattle.queue_steps.specs.declared.steps.single.PopTurn.TheVariants as pop
 
 module _ {T K P : Type 0} where
   -- it is a seat of this table of one word and one slot, and has no slot
@@ -48,36 +50,22 @@ module _ (found : List ℕ) where
   abbrev pub is_closed_at : Turn
   is_closed_at = turns is_closed_turn Look found
 
-abbrev pub IsRefusalToPush : Reply → Type 0
-IsRefusalToPush Full = Unit {0}
-IsRefusalToPush Closed = Unit {0}
-IsRefusalToPush _ = ⊥
+-- a push exchanges an open and empty word
+abbrev pub IsPushTurn : PushTurn → Type 0
+IsPushTurn push.Look = Unit {0}
+IsPushTurn (push.Exchange old new) = (old ≡ 0) × (new ≡ 3)
+IsPushTurn push.Full = Unit {0}
+IsPushTurn push.Closed = Unit {0}
 
--- a push that has not ended exchanges an open and empty word, or looks again
-abbrev pub IsPushTurn : Turn → Type 0
-IsPushTurn Look = Unit {0}
-IsPushTurn (Exchange old new) = (old ≡ 0) × (new ≡ 3)
-IsPushTurn (Unlock reply) = ⊥
-IsPushTurn Close = ⊥
-IsPushTurn (End reply) = IsRefusalToPush reply
+-- a forced push exchanges an open word that is not locked
+abbrev pub IsForcePushTurn : ForcePushTurn → Type 0
+IsForcePushTurn force_push.Look = Unit {0}
+IsForcePushTurn (force_push.Exchange old new) = (old < 4) × (old % 2 ≡ 0) × (new ≡ 3)
+IsForcePushTurn force_push.Closed = Unit {0}
 
--- a forced push that has not ended exchanges an open word that is not locked, or looks again
-abbrev pub IsForcePushTurn : Turn → Type 0
-IsForcePushTurn Look = Unit {0}
-IsForcePushTurn (Exchange old new) = (old < 4) × (old % 2 ≡ 0) × (new ≡ 3)
-IsForcePushTurn (Unlock reply) = ⊥
-IsForcePushTurn Close = ⊥
-IsForcePushTurn (End reply) = reply ≡ Closed
-
-abbrev pub IsRefusalToPop : Reply → Type 0
-IsRefusalToPop Empty = Unit {0}
-IsRefusalToPop Closed = Unit {0}
-IsRefusalToPop _ = ⊥
-
--- a pop that has not ended exchanges a word with an item and no lock, or looks again
-abbrev pub IsPopTurn : Turn → Type 0
-IsPopTurn Look = Unit {0}
-IsPopTurn (Exchange old new) = (old % 4 ≡ 2) × (new + 1 ≡ old)
-IsPopTurn (Unlock reply) = ⊥
-IsPopTurn Close = ⊥
-IsPopTurn (End reply) = IsRefusalToPop reply
+-- a pop exchanges a word with an item and no lock
+abbrev pub IsPopTurn : PopTurn → Type 0
+IsPopTurn pop.Look = Unit {0}
+IsPopTurn (pop.Exchange old new) = (old % 4 ≡ 2) × (new + 1 ≡ old)
+IsPopTurn pop.Empty = Unit {0}
+IsPopTurn pop.Closed = Unit {0}

@@ -18,3 +18,10 @@ is_on_kept (call.WakeByRef k) = true
 is_on_kept (call.Copy k) = true
 is_on_kept (call.DropWaker k) = true
 is_on_kept c = is_on_handle c
+
+-- that, or a call on a tick, or the making of one
+abbrev pub is_on_part : Call → Bool
+is_on_part call.NewTick = true
+is_on_part (call.PollTick t by) = true
+is_on_part (call.DropTick t) = true
+is_on_part c = is_on_kept c

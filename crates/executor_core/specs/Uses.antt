@@ -2,17 +2,19 @@
 use Rattle.std.specs.Prelude.{ℕ}
 use Rattle.executor_model.specs.declared.op.Hold.{Hold}
 use Rattle.executor_model.specs.declared.op.Op.{Op}
-use Rattle.executor_model.specs.Weights.{holds_executor, holds_handle, holds_waker}
-use Rattle.executor_model.specs.Rows.{borrowing_of, handling_of, lending_of}
+use Rattle.executor_model.specs.Weights.{holds_executor, holds_handle, holds_waker, holds_tick}
+use Rattle.executor_model.specs.Rows.{borrowing_of, handling_of, lending_of, ticking_of}
 use Rattle.executor_core.specs.declared.uses.Use.{Use}
-use Rattle.executor_core.specs.declared.uses.Use.TheVariants.{Executor, Handle, Waker}
+use Rattle.executor_core.specs.declared.uses.Use.TheVariants.{Executor, Handle, Waker, Tick}
 
 abbrev pub held_of : Use → Hold → ℕ
 held_of Executor held = holds_executor held
 held_of (Handle f) held = holds_handle f held
 held_of (Waker k) held = holds_waker k held
+held_of (Tick t) held = holds_tick t held
 
 abbrev pub use_of : Use → Op → ℕ
 use_of Executor = borrowing_of
 use_of (Handle f) = handling_of f
 use_of (Waker k) = lending_of k
+use_of (Tick t) = ticking_of t

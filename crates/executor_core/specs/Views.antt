@@ -19,6 +19,9 @@ world_of s = record {
   leaving = s.entries.leaving;
   waking = s.waking.items;
   wakers = s.wakers.items;
+  ticks = s.ticks.ticks;
+  sleepers = s.ticks.sleepers;
+  notified = s.ticks.notified;
   gone = s.gone;
   trace = s.trace.items;
 }
@@ -31,6 +34,7 @@ pub record HasRoom (s : Store) : Type 0 where
   pub entries : s.entries.has_room ≡ true
   pub waking : deque_len s.waking + 1 ≤ deque_capacity s.waking
   pub wakers : vec_len s.wakers + 1 ≤ vec_capacity s.wakers
+  pub ticks : s.ticks.has_room ≡ true
   pub trace : vec_len s.trace + 5 ≤ vec_capacity s.trace
 
 -- the trace may have one more

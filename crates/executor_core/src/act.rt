@@ -10,7 +10,7 @@ ghost use Rattle.executor_core.specs.Views.{world_of, HasRoom, HasRoomToEnd, Has
 ghost use Rattle.executor_model.specs.Good.{Needs, Fits};
 
 use crate::store::Store;
-use crate::{closing, handle, queue, table, task, user, waker};
+use crate::{closing, handle, queue, sleeper, table, task, tick, user, waker};
 use executor_model::{Event, Hint, Op};
 
 /// The party does this, and is told this from outside.
@@ -28,6 +28,8 @@ pub fn act(store: &mut Store, todo: &mut Vec<Op>, party: u32, hint: Hint, op: Op
         Op::User(op) => user::act(store, todo, party, op),
         Op::Waker(op) => waker::act(store, todo, party, hint, op),
         Op::Handle(op) => handle::act(store, todo, party, hint, op),
+        Op::Sleeper(op) => sleeper::act(store, todo, party, op),
+        Op::Tick(op) => tick::act(store, todo, hint, op),
         Op::Closing(op) => closing::act(store, todo, party, op),
         Op::End(reply, _) => store.trace.push_reserved(Event::CallEnded { party, reply }),
     }

@@ -10,9 +10,9 @@ ghost use Rattle.executor_core.specs.Views.{world_of, HasRoom, HasRoomToEnd, Has
 
 use crate::carry::push_awaiter;
 use crate::store::Store;
-use crate::waker::is_refused;
+use crate::waker::{copy, push_goes};
 use executor_model::{Awaiter, Event, HandleOp, Hint, Hold, Op, Reply, Waker, WakerOp};
-use task_moves::moves::{self, Answer, Move, Moved};
+use task_moves::moves::{self, Answer, Moved};
 
 /// The party does this part of a poll of a handle, or of a notify.
 pub fn act(store: &mut Store, todo: &mut Vec<Op>, party: u32, hint: Hint, op: HandleOp)
@@ -82,27 +82,6 @@ fn look(store: &mut Store, todo: &mut Vec<Op>, party: u32, f: u64, waker: Waker)
     }
 }
 
-/// The copy of a waker of a task is one more reference. Answers whether it was refused.
-fn copy(store: &mut Store, hint: Hint, waker: Waker) -> bool
-    requires { IsKnownWaker (world_of store.old) waker }
-    ensures refused { result ≡ acts.is_copy_refused hint (world_of store.old) waker }
-    ensures same { result ≡ true → world_of store.new ≡ world_of store.old }
-    ensures copied { result ≡ false → world_of store.new ≡ acts.copied (world_of store.old) waker }
-    ensures room { HasRoom store.old → HasRoom store.new }
-{
-    match waker {
-        Waker::Task(g) => {
-            let task = &mut store.tasks[g as usize];
-            if is_refused(hint, *task) {
-                return true;
-            }
-            task.references += 1;
-            false
-        }
-        Waker::Outside(_) => hint.refused,
-    }
-}
-
 /// The waker is copied, to be registered.
 fn copy_awaiter(store: &mut Store, todo: &mut Vec<Op>, party: u32, hint: Hint, f: u64, waker: Waker)
     requires room { HasRoom store.old }
@@ -146,18 +125,7 @@ fn push_let_go(todo: &mut Vec<Op>, awaiter: Option<Awaiter>)
     ensures space { vec_len todo.new + 1 ≤ vec_capacity todo.new }
 {
     match awaiter {
-        Some(
-            Awaiter {
-                waker: Waker::Task(g),
-                ..
-            },
-        ) => todo.push_reserved(Op::Move(Move::Release, g)),
-        Some(
-            Awaiter {
-                waker: Waker::Outside(_),
-                ..
-            },
-        ) => {}
+        Some(awaiter) => push_goes(todo, awaiter.waker),
         None => {}
     }
 }

@@ -10,8 +10,12 @@ ghost use Rattle.executor_model.specs.LawfulPolls.{HasLawfulPolls};
 ghost use Rattle.executor_model.specs.OutputKept.{OutputIsKept};
 ghost use Rattle.executor_model.specs.OutputOnce.{OutputGoesOnce};
 ghost use Rattle.executor_model.specs.Runs.{run_all};
+ghost use Rattle.executor_model.specs.SleepersAgree.{SleepersAgree};
+ghost use Rattle.executor_model.specs.SleepersTold.{SleepersAreTold};
 ghost use Rattle.executor_model.specs.World.{awaiter_of};
+ghost use Rattle.executor_laws.specs.LoneEnds.{LoneCallsEnd};
 ghost use Rattle.executor_laws.specs.Reach.{IsInReach, IsReachedInOrder};
+ghost use Rattle.sleeper_laws.specs.Standing.{SomeStandingIsCalled};
 ghost use Rattle.executor_core.specs.Views.{world_of, state_of, HasRoom, HasSpace};
 ghost use Rattle.executor_core.specs.Reached.{IsReached};
 ghost use Rattle.executor_core.specs.Refused.{IsRefused};
@@ -19,14 +23,18 @@ ghost use Rattle.executor_core.specs.Refused.{IsRefused};
 use crate::part::take_part;
 use crate::possible::{has_handle, part_refusal};
 use crate::store::Store;
-use executor_laws::laws::{arrival_order_needs_fewer_ticks, common_futures_are_in_reach};
-use executor_model::laws::outputs_are_kept;
+use executor_laws::laws::{
+    arrival_order_needs_fewer_ticks, common_futures_are_in_reach, lone_calls_end,
+};
+use executor_model::laws::{outputs_are_kept, sleepers_agree, sleepers_are_told};
 use executor_model::trace_laws::{
     awaiters_are_kept, closing_drops_each_future_once, drops_come_once, early_drops_have_causes,
     outputs_go_once, polls_are_asked_for, polls_are_lawful,
 };
 use executor_model::{Awaiter, Event, Kind, Op, Step, StepError};
 use executor_table::Entries;
+use executor_ticks::Ticks;
+use sleeper_laws::laws::some_standing_tick_is_called;
 use std::alloc::{AllocError, Global};
 use std::collections::VecDeque;
 use std::marker::Model;
@@ -64,6 +72,7 @@ fn make_room(store: &mut Store) -> Result<(), StepError>
         && store.entries.reserve().is_ok()
         && store.waking.reserve(1).is_ok()
         && store.wakers.reserve(1).is_ok()
+        && store.ticks.reserve().is_ok()
         && store.trace.reserve(5).is_ok();
     if room {
         Ok(())
@@ -118,6 +127,7 @@ fn empty(alloc: Global, limit: u64) -> Store
         entries: Entries::new(alloc, limit),
         waking: VecDeque::new(alloc),
         wakers: Vec::new(alloc),
+        ticks: Ticks::new(alloc),
         gone: false,
         trace: Vec::new(alloc),
     }
@@ -169,6 +179,10 @@ impl Machine {
         ensures closing_drops { (f : ℕ) → IsDroppedByTheEnd f self.new.world.trace }
         ensures outputs_are_kept { (f : ℕ) → OutputIsKept self.new f }
         ensures awaiters_are_kept { (f : ℕ) → AwaiterIsKept f self.new.world.trace }
+        ensures sleepers_agree { SleepersAgree self.new }
+        ensures sleepers_are_told { SleepersAreTold self.new }
+        ensures some_standing_tick_is_called { (f : ℕ) → SomeStandingIsCalled f self.new.world.trace }
+        ensures lone_calls_end { LoneCallsEnd self.new }
         ensures in_reach { IsInReach self.new }
         ensures in_order { IsReachedInOrder self.new }
     {
@@ -181,6 +195,10 @@ impl Machine {
         closing_drops_each_future_once();
         outputs_are_kept();
         awaiters_are_kept();
+        sleepers_agree();
+        sleepers_are_told();
+        some_standing_tick_is_called();
+        lone_calls_end();
         common_futures_are_in_reach();
         arrival_order_needs_fewer_ticks();
         refused

@@ -6,15 +6,15 @@ ghost use Rattle.executor_model.specs.Weights as weights;
 ghost use Rattle.executor_model.specs.Weights.{weigh, weigh_all};
 ghost use Rattle.executor_model.specs.World.{task};
 ghost use Rattle.executor_model.specs.Good.{Needs, Fits};
-ghost use Rattle.executor_core.specs.Kinds.{is_on_kept, is_on_handle};
+ghost use Rattle.executor_core.specs.Kinds.{is_on_part, is_on_kept, is_on_handle};
 ghost use Rattle.executor_core.specs.Views.{world_of, HasRoom, HasRoomToEnd, HasSpace, Does};
 
 use crate::act::act;
 use crate::possible::{kept, polled_by};
 use crate::store::Store;
 use executor_model::{
-    Answer, By, Call, ClosingOp, Event, HandleOp, Hold, Op, QueueOp, Reply, Step, TableOp, UserEnd,
-    UserOp, Waker, WakerOp,
+    Answer, By, Call, ClosingOp, Event, HandleOp, Hold, Op, QueueOp, Reply, Sleeping, Step,
+    TableOp, TickOp, UserEnd, UserOp, Waker, WakerOp,
 };
 use task_moves::moves::Move;
 
@@ -67,6 +67,36 @@ fn begin(store: &mut Store, todo: &mut Vec<Op>, party: u32, here: Option<u64>, c
                 todo.push_reserved(Op::End(Reply::Done, Hold::Nothing));
                 todo.push_reserved(Op::Move(Move::WakeByReference, f));
             }
+        }
+        _ => begin_on_tick(store, todo, party, here, call),
+    }
+}
+
+/// A tick is to be made, or a call on a tick begins.
+fn begin_on_tick(store: &mut Store, todo: &mut Vec<Op>, party: u32, here: Option<u64>, call: Call)
+    requires kind { is_on_part call ≡ true }
+    requires room { vec_len store.old.trace + 2 ≤ vec_capacity store.old.trace }
+    requires space { HasSpace todo.old }
+    ensures { Does (steps.begun party (world_of store.old) here call) store.new todo.old.items todo.new.items }
+{
+    match call {
+        Call::NewTick => todo.push_reserved(Op::Tick(TickOp::MakeTick)),
+        Call::PollTick(t, by) => {
+            let sleeping = Sleeping {
+                waker: waker_of(here, by),
+                tick: t,
+                poll: store.trace.len() as u64,
+            };
+            store
+                .trace
+                .push_reserved(Event::TickPolled { party, tick: t });
+            todo.push_reserved(Op::Tick(TickOp::Search(sleeping)));
+        }
+        Call::DropTick(t) => {
+            store
+                .trace
+                .push_reserved(Event::TickDropped { party, tick: t });
+            todo.push_reserved(Op::Tick(TickOp::Leave(t)));
         }
         _ => begin_on_waker(store, todo, party, here, call),
     }

@@ -63,6 +63,13 @@ pub fn has_handle(store: &Store, parties: &[Vec<Op>], f: u64) -> bool
         && is_unused(parties, Use::Handle(f))
 }
 
+/// The tick was not dropped, and no call uses it.
+fn has_tick(store: &Store, parties: &[Vec<Op>], t: u64) -> bool
+    ensures { result ≡ steps.has_tick (world_of store.now) (map (λ v. v.items) parties.now) t }
+{
+    store.ticks.has(t) && is_unused(parties, Use::Tick(t))
+}
+
 fn is_known(top: Option<Op>, by: By) -> bool
     ensures { result ≡ steps.is_known top by }
 {
@@ -90,6 +97,9 @@ fn has_all(store: &Store, parties: &[Vec<Op>], top: Option<Op>, call: Call) -> b
         Call::Cancel(f) => has_handle(store, parties, f),
         Call::Detach(f) => has_handle(store, parties, f),
         Call::DropHandle(f) => has_handle(store, parties, f),
+        Call::NewTick => true,
+        Call::PollTick(t, by) => has_tick(store, parties, t) && is_known(top, by),
+        Call::DropTick(t) => has_tick(store, parties, t),
         Call::DropExecutor => true,
     }
 }
@@ -101,6 +111,9 @@ fn is_on_executor(call: Call) -> bool
         Call::Spawn => true,
         Call::TryTick => true,
         Call::IsEmpty => true,
+        Call::NewTick => true,
+        Call::PollTick(_, _) => true,
+        Call::DropTick(_) => true,
         Call::DropExecutor => true,
         _ => false,
     }
@@ -113,6 +126,13 @@ fn is_drop(call: Call) -> bool
         Call::DropExecutor => true,
         _ => false,
     }
+}
+
+/// No call in progress uses the executor, and no tick lives.
+fn is_unborrowed(store: &Store, parties: &[Vec<Op>]) -> bool
+    ensures { result ≡ steps.is_unborrowed (world_of store.now) (map (λ v. v.items) parties.now) }
+{
+    is_unused(parties, Use::Executor) && !store.ticks.has_any()
 }
 
 fn begin_refusal(
@@ -132,7 +152,7 @@ fn begin_refusal(
     if store.gone && is_on_executor(call) {
         return Some(StepError::Gone);
     }
-    if is_drop(call) && !is_unused(parties, Use::Executor) {
+    if is_drop(call) && !is_unborrowed(store, parties) {
         return Some(StepError::Borrowed);
     }
     None

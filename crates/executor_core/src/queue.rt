@@ -9,7 +9,7 @@ ghost use Rattle.executor_model.specs.Good.{IsKnown, CanGrow, IsHeld, HasPlace, 
 ghost use Rattle.executor_core.specs.Views.{world_of, HasRoom, HasRoomToEnd, HasSpace, Does};
 
 use crate::store::Store;
-use executor_model::{Hold, Op, QueueOp, Reply};
+use executor_model::{Hold, Op, QueueOp, Reply, SleeperOp};
 use task_moves::moves::Move;
 
 /// The party does this with the queue.
@@ -24,7 +24,7 @@ pub fn act(store: &mut Store, todo: &mut Vec<Op>, op: QueueOp)
     }
 }
 
-/// A Runnable goes to the queue, or comes back and is dropped.
+/// A Runnable goes to the queue, and a sleeper is told; or it comes back and is dropped.
 fn append(store: &mut Store, todo: &mut Vec<Op>, f: u64)
     requires room { HasRoom store.old }
     requires space { HasSpace todo.old }
@@ -32,12 +32,13 @@ fn append(store: &mut Store, todo: &mut Vec<Op>, f: u64)
 {
     if !store.closed && (store.queue.len() as u64) < store.entries.limit() {
         store.queue.push_back_reserved(f);
+        todo.push_reserved(Op::Sleeper(SleeperOp::ExchangeFlag));
     } else {
         todo.push_reserved(Op::Move(Move::DropRunnable, f));
     }
 }
 
-/// The first Runnable is taken, where there is one.
+/// The first Runnable is taken, where there is one, and another sleeper is told before it is run.
 fn take_first(store: &mut Store, todo: &mut Vec<Op>)
     requires room { HasRoom store.old }
     requires space { HasSpace todo.old }
@@ -47,6 +48,7 @@ fn take_first(store: &mut Store, todo: &mut Vec<Op>)
         Some(f) => {
             todo.push_reserved(Op::End(Reply::Yes, Hold::Executor));
             todo.push_reserved(Op::Move(Move::TakeUp, f));
+            todo.push_reserved(Op::Sleeper(SleeperOp::ExchangeFlag));
         }
         None => todo.push_reserved(Op::End(Reply::No, Hold::Executor)),
     }

@@ -8,7 +8,7 @@ ghost use Rattle.executor_model.specs.World.{task};
 ghost use Rattle.executor_core.specs.Uses as uses;
 ghost use Rattle.executor_core.specs.Views.{world_of, HasRoom, HasRoomToEnd, HasSpace, Does};
 
-use executor_model::{HandleOp, Hold, Op, QueueOp, TableOp, UserOp, WakerOp};
+use executor_model::{HandleOp, Hold, Op, QueueOp, TableOp, TickOp, UserOp, WakerOp};
 use task_moves::moves::Move;
 
 /// Something that a call may use, and another may not use meanwhile.
@@ -17,6 +17,7 @@ pub enum Use {
     Executor,
     Handle(u64),
     Waker(u64),
+    Tick(u64),
 }
 
 #[tactic(auto, using(crate::proofs::Scans::same_test))]
@@ -27,6 +28,7 @@ fn holds(held: Hold, what: Use) -> bool
         Use::Executor => match held {
             Hold::Executor => true,
             Hold::Spawned(_) => true,
+            Hold::Tick(_) => true,
             Hold::Nothing => false,
             Hold::Handle(_) => false,
             Hold::Waker(_) => false,
@@ -37,6 +39,7 @@ fn holds(held: Hold, what: Use) -> bool
             Hold::Nothing => false,
             Hold::Executor => false,
             Hold::Waker(_) => false,
+            Hold::Tick(_) => false,
         },
         Use::Waker(k) => match held {
             Hold::Waker(j) => k == j,
@@ -44,6 +47,15 @@ fn holds(held: Hold, what: Use) -> bool
             Hold::Executor => false,
             Hold::Spawned(_) => false,
             Hold::Handle(_) => false,
+            Hold::Tick(_) => false,
+        },
+        Use::Tick(t) => match held {
+            Hold::Tick(u) => t == u,
+            Hold::Nothing => false,
+            Hold::Executor => false,
+            Hold::Spawned(_) => false,
+            Hold::Handle(_) => false,
+            Hold::Waker(_) => false,
         },
     }
 }
@@ -62,6 +74,7 @@ fn borrows(op: Op) -> bool
         Op::Move(Move::EndPending, _) => true,
         Op::Move(Move::EndReady, _) => true,
         Op::Waker(WakerOp::CopyWaker(_, held)) => holds(held, Use::Executor),
+        Op::Tick(_) => true,
         Op::End(_, held) => holds(held, Use::Executor),
         _ => false,
     }
@@ -92,6 +105,21 @@ fn lends(op: Op, k: u64) -> bool
     }
 }
 
+#[tactic(auto, using(crate::proofs::Scans::same_test))]
+fn ticks(op: Op, t: u64) -> bool
+    ensures { result ≡ not (rows.ticking_of t op == 0) }
+{
+    match op {
+        Op::Tick(TickOp::Search(s)) => t == s.tick,
+        Op::Tick(TickOp::CopyWaker(s)) => t == s.tick,
+        Op::Tick(TickOp::LieDown(s)) => t == s.tick,
+        Op::Tick(TickOp::GetUp(u, _)) => t == u,
+        Op::Tick(TickOp::Leave(u)) => t == u,
+        Op::End(_, held) => holds(held, Use::Tick(t)),
+        _ => false,
+    }
+}
+
 fn uses(op: Op, what: Use) -> bool
     ensures { result ≡ not (uses.use_of what op == 0) }
 {
@@ -99,6 +127,7 @@ fn uses(op: Op, what: Use) -> bool
         Use::Executor => borrows(op),
         Use::Handle(f) => handles(op, f),
         Use::Waker(k) => lends(op, k),
+        Use::Tick(t) => ticks(op, t),
     }
 }
 

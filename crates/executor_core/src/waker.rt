@@ -10,7 +10,7 @@ ghost use Rattle.executor_core.specs.Views.{world_of, HasRoom, HasRoomToEnd, Has
 
 use crate::store::Store;
 use crate::task::move_task;
-use executor_model::{Event, Hint, Hold, Op, Reply, UserOp, Waker, WakerOp};
+use executor_model::{Event, Hint, Hold, Op, Polled, Reply, UserOp, Waker, WakerOp};
 use task_moves::moves::{MOST_REFERENCES, Move, State};
 
 /// The party does this with a waker.
@@ -22,15 +22,38 @@ pub fn act(store: &mut Store, todo: &mut Vec<Op>, party: u32, hint: Hint, op: Wa
 {
     match op {
         WakerOp::CopyWaker(f, held) => copy_waker(store, todo, hint, f, held),
-        WakerOp::CallAwaiter(f, waker, poll) => call_awaiter(store, todo, party, f, waker, poll),
+        WakerOp::CallAwaiter(f, waker, poll) => {
+            call_waker(store, todo, party, Polled::Handle(f), waker, poll)
+        }
     }
 }
 
 /// A copy is refused, or there are too many references.
-pub fn is_refused(hint: Hint, state: State) -> bool
+fn is_refused(hint: Hint, state: State) -> bool
     ensures { result ≡ acts.is_refused hint state }
 {
     hint.refused || state.references >= MOST_REFERENCES
+}
+
+/// The copy of a waker of a task is one more reference. Answers whether it was refused.
+pub fn copy(store: &mut Store, hint: Hint, waker: Waker) -> bool
+    requires { IsKnownWaker (world_of store.old) waker }
+    ensures refused { result ≡ acts.is_copy_refused hint (world_of store.old) waker }
+    ensures same { result ≡ true → world_of store.new ≡ world_of store.old }
+    ensures copied { result ≡ false → world_of store.new ≡ acts.copied (world_of store.old) waker }
+    ensures room { HasRoom store.old → HasRoom store.new }
+{
+    match waker {
+        Waker::Task(g) => {
+            let task = &mut store.tasks[g as usize];
+            if is_refused(hint, *task) {
+                return true;
+            }
+            task.references += 1;
+            false
+        }
+        Waker::Outside(_) => hint.refused,
+    }
 }
 
 /// A copy of a waker is asked for, and kept.
@@ -50,21 +73,40 @@ fn copy_waker(store: &mut Store, todo: &mut Vec<Op>, hint: Hint, f: u64, held: H
     todo.push_reserved(Op::End(Reply::Made, held));
 }
 
-/// An awaiter that was taken out is called.
-fn call_awaiter(store: &mut Store, todo: &mut Vec<Op>, party: u32, f: u64, waker: Waker, poll: u64)
+/// A waker that a poll was given, and that was taken out of where it was kept, is called.
+pub fn call_waker(
+    store: &mut Store,
+    todo: &mut Vec<Op>,
+    party: u32,
+    polled: Polled,
+    waker: Waker,
+    poll: u64,
+)
     requires room { HasRoom store.old }
     requires space { HasSpace todo.old }
     requires needs { CanWake (world_of store.old) waker }
-    ensures { Does (acts.call_awaiter party (world_of store.old) f waker poll) store.new todo.old.items todo.new.items }
+    ensures { Does (acts.call_waker party (world_of store.old) polled waker poll) store.new todo.old.items todo.new.items }
 {
     store.trace.push_reserved(Event::WakerCalled {
         party,
-        future: f,
+        polled,
         poll,
         waker,
     });
     match waker {
         Waker::Task(g) => move_task(store, todo, party, Move::Wake, g),
         Waker::Outside(x) => todo.push_reserved(Op::User(UserOp::CallOutside(x))),
+    }
+}
+
+/// A waker goes that isn't called.
+pub fn push_goes(todo: &mut Vec<Op>, waker: Waker)
+    requires space { vec_len todo.old + 2 ≤ vec_capacity todo.old }
+    ensures items { todo.new.items ≡ todo.old.items ++ reverse (acts.waker_goes waker) }
+    ensures space { vec_len todo.new + 1 ≤ vec_capacity todo.new }
+{
+    match waker {
+        Waker::Task(g) => todo.push_reserved(Op::Move(Move::Release, g)),
+        Waker::Outside(_) => {}
     }
 }

@@ -53,10 +53,14 @@ request-one f (Answered p g Pending) s = or-none s.asked
 request-one f _ s = or-none s.asked
 
 pub asked-is : (f : ℕ) (es : Trace) → has (is_request f) (since_poll f es) ≡ (request f es).asked
-asked-is f es = by_last (λ (xs : Trace). has (is_request f) (since_poll f xs) ≡ (request f xs).asked) (sym (ap (λ (r : Request). r.asked) (request-none f))) more es
+asked-is f es = by_last (λ (xs : Trace). has (is_request f) (since_poll f xs) ≡ (request f xs).asked)
+    (sym (ap (λ (r : Request). r.asked) (request-none f))) more es
   where
-    more : (xs : Trace) (e : Event) → has (is_request f) (since_poll f xs) ≡ (request f xs).asked → has (is_request f) (since_poll f (xs ++ e ∷ [])) ≡ (request f (xs ++ e ∷ [])).asked
-    more xs e h = since-push (is_poll f) (is_request f) xs e ∙ (ap (λ (b : Bool). cond (is_poll f e) false (b || is_request f e)) h ∙ (request-one f e (request f xs) ∙ sym (ap (λ (r : Request). r.asked) (request-push f xs e))))
+    more : (xs : Trace) (e : Event) → has (is_request f) (since_poll f xs) ≡ (request f xs).asked →
+        has (is_request f) (since_poll f (xs ++ e ∷ [])) ≡ (request f (xs ++ e ∷ [])).asked
+    more xs e h = since-push (is_poll f) (is_request f) xs e
+        ∙ (ap (λ (b : Bool). cond (is_poll f e) false (b || is_request f e)) h
+        ∙ (request-one f e (request f xs) ∙ sym (ap (λ (r : Request). r.asked) (request-push f xs e))))
 
 -- whether the future was ready
 
@@ -66,10 +70,13 @@ ready-one f (Answered p g Pending) s = or-none s.ready
 ready-one f _ s = or-none s.ready
 
 pub ready-is : (f : ℕ) (es : Trace) → has (is_ready f) es ≡ (request f es).ready
-ready-is f es = by_last (λ (xs : Trace). has (is_ready f) xs ≡ (request f xs).ready) (sym (ap (λ (r : Request). r.ready) (request-none f))) more es
+ready-is f es = by_last (λ (xs : Trace). has (is_ready f) xs ≡ (request f xs).ready)
+    (sym (ap (λ (r : Request). r.ready) (request-none f))) more es
   where
-    more : (xs : Trace) (e : Event) → has (is_ready f) xs ≡ (request f xs).ready → has (is_ready f) (xs ++ e ∷ []) ≡ (request f (xs ++ e ∷ [])).ready
-    more xs e h = any-push (is_poll f) (is_ready f) xs e ∙ (ap (λ (b : Bool). b || is_ready f e) h ∙ (ready-one f e (request f xs) ∙ sym (ap (λ (r : Request). r.ready) (request-push f xs e))))
+    more : (xs : Trace) (e : Event) → has (is_ready f) xs ≡ (request f xs).ready →
+        has (is_ready f) (xs ++ e ∷ []) ≡ (request f (xs ++ e ∷ [])).ready
+    more xs e h = any-push (is_poll f) (is_ready f) xs e ∙ (ap (λ (b : Bool). b || is_ready f e) h
+        ∙ (ready-one f e (request f xs) ∙ sym (ap (λ (r : Request). r.ready) (request-push f xs e))))
 
 -- over is ready or dropped
 
@@ -133,14 +140,17 @@ over-one f e s m h = λ k. or-left m (is_last f e) (h k)
 over-last : (f : ℕ) (es : Trace) → If (is_over (phase f es)) (has (is_last f) es)
 over-last f es = by_last (λ (xs : Trace). If (is_over (phase f xs)) (has (is_last f) xs)) (λ k. absurd (cc)) more es
   where
-    more : (xs : Trace) (e : Event) → If (is_over (phase f xs)) (has (is_last f) xs) → If (is_over (phase f (xs ++ e ∷ []))) (has (is_last f) (xs ++ e ∷ []))
-    more xs e h k = any-push (is_poll f) (is_last f) xs e ∙ over-one f e (phase f xs) (has (is_last f) xs) h (sym (ap is_over (phase-push f Fresh xs e)) ∙ k)
+    more : (xs : Trace) (e : Event) → If (is_over (phase f xs)) (has (is_last f) xs) →
+        If (is_over (phase f (xs ++ e ∷ []))) (has (is_last f) (xs ++ e ∷ []))
+    more xs e h k = any-push (is_poll f) (is_last f) xs e
+        ∙ over-one f e (phase f xs) (has (is_last f) xs) h (sym (ap is_over (phase-push f Fresh xs e)) ∙ k)
 
 none-last : (f : ℕ) (es : Trace) → has (is_ready f) es ≡ false → has (is_dropped f) es ≡ false → has (is_last f) es ≡ false
 none-last f [] a b = refl
 none-last f (e ∷ es) a b = by (is_ready f e) (has (is_ready f) es) (is_dropped f e) (has (is_dropped f) es) a b (none-last f es)
   where
-    by : (r rs d ds : Bool) → (r || rs) ≡ false → (d || ds) ≡ false → (rs ≡ false → ds ≡ false → has (is_last f) es ≡ false) → ((r || d) || has (is_last f) es) ≡ false
+    by : (r rs d ds : Bool) → (r || rs) ≡ false → (d || ds) ≡ false → (rs ≡ false → ds ≡ false → has (is_last f) es ≡ false) →
+        ((r || d) || has (is_last f) es) ≡ false
     by true rs d ds a b k = absurd (cc)
     by false rs true ds a b k = absurd (cc)
     by false rs false ds a b k = k a b
@@ -160,7 +170,8 @@ is_open Broken = true
 abbrev Open : ℕ → Trace → Type 0
 Open f es = has (is_poll f) es ≡ true → has (is_answer f) (since_poll f es) ≡ false → is_open (phase f es) ≡ true
 
-open-one : (f : ℕ) (e : Event) (s : Phase) (polled answered : Bool) → (polled ≡ true → answered ≡ false → is_open s ≡ true) → (polled || is_poll f e) ≡ true → cond (is_poll f e) false (answered || is_answer f e) ≡ false → is_open (passes f e s) ≡ true
+open-one : (f : ℕ) (e : Event) (s : Phase) (polled answered : Bool) → (polled ≡ true → answered ≡ false → is_open s ≡ true) →
+    (polled || is_poll f e) ≡ true → cond (is_poll f e) false (answered || is_answer f e) ≡ false → is_open (passes f e s) ≡ true
 open-one f (PollBegun p g) s polled answered h = by (f == g)
   where
     begun : (s : Phase) → is_open (after_begun s) ≡ true
@@ -194,7 +205,9 @@ open-poll : (f : ℕ) (es : Trace) → Open f es
 open-poll f es = by_last (Open f) (λ i k. absurd (cc)) more es
   where
     more : (xs : Trace) (e : Event) → Open f xs → Open f (xs ++ e ∷ [])
-    more xs e h i k = ap is_open (phase-push f Fresh xs e) ∙ open-one f e (phase f xs) (has (is_poll f) xs) (has (is_answer f) (since_poll f xs)) h (sym (any-push (is_poll f) (is_poll f) xs e) ∙ i) (sym (since-push (is_poll f) (is_answer f) xs e) ∙ k)
+    more xs e h i k = ap is_open (phase-push f Fresh xs e)
+        ∙ open-one f e (phase f xs) (has (is_poll f) xs) (has (is_answer f) (since_poll f xs)) h
+        (sym (any-push (is_poll f) (is_poll f) xs e) ∙ i) (sym (since-push (is_poll f) (is_answer f) xs e) ∙ k)
 
 pub unopened : (f : ℕ) (es : Trace) → phase f es ≢ Polling → phase f es ≢ Broken → ¬ HasOpenPoll f es
 unopened f es a b o = by (phase f es) refl (open-poll f es o.begun o.unanswered)

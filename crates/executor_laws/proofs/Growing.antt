@@ -17,6 +17,11 @@ use Rattle.executor_model.specs.declared.op.Op.{Op}
 use Rattle.executor_model.specs.declared.op.Op.TheVariants as op
 use Rattle.executor_model.specs.declared.op.ClosingOp.TheVariants as closing_op
 use Rattle.executor_model.specs.declared.op.HandleOp.TheVariants as handle_op
+use Rattle.executor_model.specs.declared.op.Polled.{Polled}
+use Rattle.executor_model.specs.declared.op.Polled.TheVariants as of
+use Rattle.executor_model.specs.declared.op.Sleeping.{Sleeping}
+use Rattle.executor_model.specs.declared.op.SleeperOp.{SleeperOp}
+use Rattle.executor_model.specs.declared.op.SleeperOp.TheVariants as sleeper_op
 use Rattle.task_moves.specs.declared.moves.owed.Move.TheVariants as move
 use Rattle.executor_model.specs.declared.op.QueueOp.TheVariants as queue_op
 use Rattle.executor_model.specs.declared.op.TableOp.TheVariants as table_op
@@ -32,11 +37,12 @@ use Rattle.executor_model.specs.declared.step.UserEnd.{UserEnd}
 use Rattle.executor_model.specs.declared.step.UserEnd.TheVariants as end
 use Rattle.executor_model.specs.Trace.{Trace, has}
 use Rattle.executor_model.specs.World.{World, Done, log, log_if, task, put}
-use Rattle.executor_model.specs.Acts.{append_by, take_by, enter_by, leave_by, copy_by, look_by, look_again_by, copy_awaiter_by, register_by, end_register_by, notify_by, call_awaiter, drop_next_by, wake, wake_next_by, drain_by, act}
+use Rattle.executor_model.specs.Acts.{append_by, take_by, enter_by, leave_by, copy_by, look_by, look_again_by, copy_awaiter_by, register_by, end_register_by, notify_by, exchange_by, hand_out_by, call_waker, sleeper_act, drop_next_by, wake, wake_next_by, drain_by, act}
 use Rattle.executor_model.specs.Steps.{Machine, stack, top, below_top, kept, polled_by, refusal, begun, with_future, react, end_of, settled_by, onto, gone_on, after, step_by, step, stepped, run}
 use Rattle.executor_laws.specs.Remaining.{is_onward}
 use Rattle.executor_laws.specs.Continued.{IsContinued}
 use Rattle.executor_laws.specs.AtOnce.{doer, is_by}
+use Rattle.executor_laws.proofs.TickWorlds.{tick-trace}
 
 abbrev pub begins_one : Event → Bool
 begins_one (event.CallBegun p c) = true
@@ -65,10 +71,20 @@ or-false false e = refl
 pub not-by : (p q : ℕ) (e : Event) → doer e ≡ p → q ≢ p → is_by q e ≡ false
 not-by p q e d n = grind (arith, nat_tests)
 
-grows-log : {p : ℕ} (w v : World) (e : Event) → v.trace ≡ w.trace ++ e ∷ [] → begins_one e ≡ false → ends_one e ≡ false → doer e ≡ p → Grows p w v
-grows-log {p} w v e t b n d = record { more = e ∷ []; is = t; none_begins = or-false (begins_one e) b; none_ends = or-false (ends_one e) n; own = λ q k. or-false (is_by q e) (not-by p q e d k) }
+grows-log : {p : ℕ} (w v : World) (e : Event) → v.trace ≡ w.trace ++ e ∷ [] → begins_one e ≡ false → ends_one e ≡ false → doer e ≡ p →
+    Grows p w v
+grows-log {p} w v e t b n d =
+    record {
+      more = e ∷ [];
+      is = t;
+      none_begins = or-false (begins_one e) b;
+      none_ends = or-false (ends_one e) n;
+      own = λ q k. or-false
+          (is_by q e) (not-by p q e d k);
+    }
 
-grows-log_if : {p : ℕ} (c : Bool) (w v : World) (e : Event) → v.trace ≡ (log_if c w e).trace → begins_one e ≡ false → ends_one e ≡ false → doer e ≡ p → Grows p w v
+grows-log_if : {p : ℕ} (c : Bool) (w v : World) (e : Event) → v.trace ≡ (log_if c w e).trace → begins_one e ≡ false →
+    ends_one e ≡ false → doer e ≡ p → Grows p w v
 grows-log_if true w v e t b n d = grows-log w v e t b n d
 grows-log_if false w v e t b n d = grows-same w v t
 
@@ -111,11 +127,14 @@ grows-look : (o : Option Answer) (p : ℕ) (w : World) (f : ℕ) (a : Waker) (m 
 grows-look None p w f a m = grows-same _ _ refl
 grows-look (Some x) p w f a m =
     let v : World = put (log w (event.HandlePolled p f)) f m.state in
-    grows-and w v _ (grows-log w v (event.HandlePolled p f) refl refl refl refl) (grows-log_if _ v _ (event.OutputGiven p f) refl refl refl refl)
+    grows-and w v _ (grows-log w v (event.HandlePolled p f) refl refl refl refl)
+    (grows-log_if _ v _ (event.OutputGiven p f) refl refl refl refl)
 
 grows-again : (o : Option Answer) (p : ℕ) (w : World) (f : ℕ) (m : Moved) → Grows p w (look_again_by o p w f m).world
 grows-again None p w f m = grows-same _ _ refl
-grows-again (Some x) p w f m = grows-and w (put w f m.state) _ (grows-same w (put w f m.state) refl) (grows-log_if _ (put w f m.state) _ (event.OutputGiven p f) refl refl refl refl)
+grows-again (Some x) p w f m =
+    grows-and w (put w f m.state) _ (grows-same w (put w f m.state) refl)
+    (grows-log_if _ (put w f m.state) _ (event.OutputGiven p f) refl refl refl refl)
 
 grows-copy_awaiter : (b : Bool) (p : ℕ) (w : World) (f : ℕ) (a : Waker) → Grows p w (copy_awaiter_by b p w f a).world
 grows-copy_awaiter true p w f a = grows-same _ _ refl
@@ -137,9 +156,24 @@ grows-notify false w f mine = grows-same _ _ refl
 grows-wake : (p : ℕ) (w : World) (f : ℕ) → Grows p w (wake p w f).world
 grows-wake p w f = grows-log_if _ w _ (event.Woken p f) refl refl refl refl
 
-grows-call : (p : ℕ) (w : World) (f : ℕ) (a : Waker) (k : ℕ) → Grows p w (call_awaiter p w f a k).world
-grows-call p w f (Task m) k = grows-and w (log w (event.WakerCalled p f k (Task m))) _ (grows-log w _ (event.WakerCalled p f k (Task m)) refl refl refl refl) (grows-wake p (log w (event.WakerCalled p f k (Task m))) m)
-grows-call p w f (Outside x) k = grows-log _ _ (event.WakerCalled p f k (Outside x)) refl refl refl refl
+grows-call : (p : ℕ) (w : World) (o : Polled) (a : Waker) (k : ℕ) → Grows p w (call_waker p w o a k).world
+grows-call p w o (Task m) k =
+    grows-and w (log w (event.WakerCalled p o k (Task m))) _ (grows-log w _ (event.WakerCalled p o k (Task m)) refl refl refl refl)
+    (grows-wake p (log w (event.WakerCalled p o k (Task m))) m)
+grows-call p w o (Outside x) k = grows-log _ _ (event.WakerCalled p o k (Outside x)) refl refl refl refl
+
+grows-exchange : {p : ℕ} (b : Bool) (w : World) → Grows p w (exchange_by b w).world
+grows-exchange true w = grows-same _ _ refl
+grows-exchange false w = grows-same _ _ refl
+
+grows-hand_out : {p : ℕ} (b : Bool) (o : Option Sleeping) (w : World) → Grows p w (hand_out_by b o w).world
+grows-hand_out true o w = grows-same _ _ refl
+grows-hand_out false o w = grows-same _ _ refl
+
+grows-sleeper : (p : ℕ) (o : SleeperOp) (w : World) → Grows p w (sleeper_act p o w).world
+grows-sleeper p sleeper_op.ExchangeFlag w = grows-exchange _ w
+grows-sleeper p sleeper_op.HandOut w = grows-hand_out _ _ w
+grows-sleeper p (sleeper_op.CallSleeper s) w = grows-call p w (of.Tick s.tick) s.waker s.poll
 
 grows-drop_next : (p : ℕ) (w : World) (ls : List ℕ) → Grows p w (drop_next_by p w ls).world
 grows-drop_next p w [] = grows-same _ _ refl
@@ -147,7 +181,9 @@ grows-drop_next p w (f ∷ rest) = grows-log _ _ (event.Dropped p f) refl refl r
 
 grows-wake_next : (p : ℕ) (w : World) (ws : List ℕ) → Grows p w (wake_next_by p w ws).world
 grows-wake_next p w [] = grows-same _ _ refl
-grows-wake_next p w (f ∷ rest) = grows-and w (record w { waking = rest }) _ (grows-same w (record w { waking = rest }) refl) (grows-wake p (record w { waking = rest }) f)
+grows-wake_next p w (f ∷ rest) =
+    grows-and w (record w { waking = rest }) _ (grows-same w (record w { waking = rest }) refl)
+    (grows-wake p (record w { waking = rest }) f)
 
 grows-drain : (p : ℕ) (w : World) (q : List ℕ) → Grows p w (drain_by p w q).world
 grows-drain p w [] = grows-log _ _ (event.DropEnded p) refl refl refl refl
@@ -174,9 +210,12 @@ grows-act p h (op.Handle (handle_op.Look f a)) w n = grows-look (moves.poll (tas
 grows-act p h (op.Handle (handle_op.CopyAwaiter f a)) w n = grows-copy_awaiter _ p w f a
 grows-act p h (op.Handle (handle_op.Register f a k)) w n = grows-register _ w f a k
 grows-act p h (op.Handle (handle_op.EndRegister f a k)) w n = grows-end_register _ w f a k
-grows-act p h (op.Handle (handle_op.LookAgain f)) w n = grows-again (moves.look_again (task w f)).owed.answer p w f (moves.look_again (task w f))
+grows-act p h (op.Handle (handle_op.LookAgain f)) w n =
+    grows-again (moves.look_again (task w f)).owed.answer p w f (moves.look_again (task w f))
 grows-act p h (op.Handle (handle_op.Notify f mine)) w n = grows-notify _ w f mine
-grows-act p h (op.Waker (waker_op.CallAwaiter f a k)) w n = grows-call p w f a k
+grows-act p h (op.Waker (waker_op.CallAwaiter f a k)) w n = grows-call p w (of.Handle f) a k
+grows-act p h (op.Sleeper o) w n = grows-sleeper p o w
+grows-act p h (op.Tick o) w n = grows-same _ _ (tick-trace h o w)
 grows-act p h (op.Closing closing_op.DropNext) w n = grows-drop_next p w w.leaving
 grows-act p h (op.Closing closing_op.WakeNext) w n = grows-wake_next p w w.waking
 grows-act p h (op.Closing closing_op.Drain) w n = grows-drain p w w.queue.items
@@ -184,7 +223,8 @@ grows-act p h (op.End r held) w n = absurd (cc)
 grows-act p h _ w n = grows-same _ _ refl
 
 pub grows-react : (p : ℕ) (o : Op) (u : UserEnd) (w : World) → Grows p w (react p o u w).world
-grows-react p (op.User (user_op.Poll f)) (end.Polled answer.Pending) w = grows-log _ _ (event.Answered p f answer.Pending) refl refl refl refl
+grows-react p (op.User (user_op.Poll f)) (end.Polled answer.Pending) w =
+    grows-log _ _ (event.Answered p f answer.Pending) refl refl refl refl
 grows-react p (op.User (user_op.Poll f)) (end.Polled answer.Ready) w = grows-log _ _ (event.Answered p f answer.Ready) refl refl refl refl
 grows-react p (op.User (user_op.Poll f)) end.Done w = grows-same _ _ refl
 grows-react p _ _ w = grows-same _ _ refl
@@ -207,6 +247,9 @@ grows-begun p w here (call.PollHandle f b) = grows-same _ _ refl
 grows-begun p w here (call.Cancel f) = grows-same _ _ refl
 grows-begun p w here (call.Detach f) = grows-same _ _ refl
 grows-begun p w here (call.DropHandle f) = grows-same _ _ refl
+grows-begun p w here call.NewTick = grows-same _ _ refl
+grows-begun p w here (call.PollTick t b) = grows-log _ _ (event.TickPolled p t) refl refl refl refl
+grows-begun p w here (call.DropTick t) = grows-log _ _ (event.TickDropped p t) refl refl refl refl
 grows-begun p w here call.DropExecutor = grows-log _ _ (event.DropBegun p) refl refl refl refl
 
 -- a whole step
@@ -218,7 +261,8 @@ pub record More (es now : Trace) : Type 0 where
   pub none : has begins_one more ≡ false
 
 -- a call that ends adds its end
-more-settled : (o : Option Op) (es : Trace) (p : ℕ) (w : World) (os : List Op) (more : Trace) → w.trace ≡ es ++ more → has begins_one more ≡ false → More es (settled_by (end_of o) p w os).world.trace
+more-settled : (o : Option Op) (es : Trace) (p : ℕ) (w : World) (os : List Op) (more : Trace) → w.trace ≡ es ++ more →
+    has begins_one more ≡ false → More es (settled_by (end_of o) p w os).world.trace
 more-settled (Some (op.End r held)) es p w os more e n = record {
   more = more ++ event.CallEnded p r ∷ [];
   is = ap (λ (xs : Trace). xs ++ event.CallEnded p r ∷ []) e ∙ append_assoc es more (event.CallEnded p r ∷ []);
@@ -232,17 +276,22 @@ more-onto es p d rest m = more-settled (top (rest ++ reverse d.next)) es p d.wor
 
 -- an end that stands on top and is done adds itself
 more-act : (p : ℕ) (h : Hint) (o : Op) (w : World) (b : Bool) → is_end o ≡ b → More w.trace (act p h o w).world.trace
-more-act p h o w false n = let g : Grows p w (act p h o w).world = grows-act p h o w n in record { more = g.more; is = g.is; none = g.none_begins }
+more-act p h o w false n = let g : Grows p w (act p h o w).world = grows-act p h o w n in
+    record { more = g.more; is = g.is; none = g.none_begins }
 more-act p h (op.End r held) w true n = record { more = event.CallEnded p r ∷ []; is = refl; none = refl }
 more-act p h _ w true n = absurd (cc)
 
 more-react : (p : ℕ) (o : Op) (u : UserEnd) (w : World) → More w.trace (react p o u w).world.trace
-more-react p o u w = let g : Grows p w (react p o u w).world = grows-react p o u w in record { more = g.more; is = g.is; none = g.none_begins }
+more-react p o u w = let g : Grows p w (react p o u w).world = grows-react p o u w in
+    record { more = g.more; is = g.is; none = g.none_begins }
 
-more-begun : (p : ℕ) (w : World) (here : Option ℕ) (c : Call) → More (w.trace ++ event.CallBegun p c ∷ []) (begun p (log w (event.CallBegun p c)) here c).world.trace
-more-begun p w here c = let g : Grows p (log w (event.CallBegun p c)) (begun p (log w (event.CallBegun p c)) here c).world = grows-begun p (log w (event.CallBegun p c)) here c in record { more = g.more; is = g.is; none = g.none_begins }
+more-begun : (p : ℕ) (w : World) (here : Option ℕ) (c : Call) →
+    More (w.trace ++ event.CallBegun p c ∷ []) (begun p (log w (event.CallBegun p c)) here c).world.trace
+more-begun p w here c = let g : Grows p (log w (event.CallBegun p c)) (begun p (log w (event.CallBegun p c)) here c).world =
+    grows-begun p (log w (event.CallBegun p c)) here c in record { more = g.more; is = g.is; none = g.none_begins }
 
-more-gone_on : (p : ℕ) (w : World) (os : List Op) (o : Option Op) (d : Op → Done) → ((x : Op) → More w.trace (d x).world.trace) → More w.trace (gone_on p w os o d).world.trace
+more-gone_on : (p : ℕ) (w : World) (os : List Op) (o : Option Op) (d : Op → Done) → ((x : Op) → More w.trace (d x).world.trace) →
+    More w.trace (gone_on p w os o d).world.trace
 more-gone_on p w os None d k = record { more = []; is = sym (append-nil w.trace); none = refl }
 more-gone_on p w os (Some o) d k = more-onto w.trace p (d o) (below_top os) (k o)
 
@@ -254,9 +303,15 @@ pub data Adds (s : Machine) (t : Step) (now : Machine) : Type 0 where
   begins : (p : ℕ) (c : Call) → t ≡ Begin p c → More (s.world.trace ++ event.CallBegun p c ∷ []) now.world.trace → Adds s t now
 
 adds-after : (s : Machine) (t : Step) → Adds s t (after s t)
-adds-after s (Begin p c) = begins p c refl (more-onto (s.world.trace ++ event.CallBegun p c ∷ []) p (begun p (log s.world (event.CallBegun p c)) (polled_by (top (stack s p))) c) (stack s p) (more-begun p s.world (polled_by (top (stack s p))) c))
-adds-after s (Go p h) = goes_on refl (more-gone_on p s.world (stack s p) (top (stack s p)) (λ o. act p h o s.world) (λ o. more-act p h o s.world (is_end o) refl))
-adds-after s (Answers p u) = goes_on refl (more-gone_on p s.world (stack s p) (top (stack s p)) (λ o. react p o u s.world) (λ o. more-react p o u s.world))
+adds-after s (Begin p c) =
+    begins p c refl (more-onto (s.world.trace ++ event.CallBegun p c ∷ []) p
+    (begun p (log s.world (event.CallBegun p c)) (polled_by (top (stack s p))) c) (stack s p)
+    (more-begun p s.world (polled_by (top (stack s p))) c))
+adds-after s (Go p h) =
+    goes_on refl (more-gone_on p s.world (stack s p) (top (stack s p)) (λ o. act p h o s.world)
+    (λ o. more-act p h o s.world (is_end o) refl))
+adds-after s (Answers p u) =
+    goes_on refl (more-gone_on p s.world (stack s p) (top (stack s p)) (λ o. react p o u s.world) (λ o. more-react p o u s.world))
 
 adds-by : (s : Machine) (t : Step) (r : Option StepError) → Adds s t (stepped s (step_by r s t))
 adds-by s t (Some e) = refused refl
@@ -279,5 +334,6 @@ pub run-continues : (ts : List Step) (s : Machine) → IsContinued s.world.trace
 run-continues [] s = ([], sym (append-nil s.world.trace))
 run-continues (t ∷ ts) s =
     let one : IsContinued s.world.trace (stepped s (step s t)).world.trace = continues s t in
-    let all : IsContinued (stepped s (step s t)).world.trace (run ts (stepped s (step s t))).world.trace = run-continues ts (stepped s (step s t)) in
+    let all : IsContinued (stepped s (step s t)).world.trace (run ts (stepped s (step s t))).world.trace =
+    run-continues ts (stepped s (step s t)) in
     (one.0 ++ all.0, all.1 ∙ (ap (λ (xs : Trace). xs ++ all.0) one.1 ∙ append_assoc s.world.trace one.0 all.0))

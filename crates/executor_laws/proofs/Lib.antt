@@ -1,5 +1,7 @@
 pub mod Spending
 pub mod SpendingActs
+pub mod SpendingTicks
+pub mod SpendingGroups
 pub mod Ends
 pub mod Pushes
 pub mod Dueness
@@ -9,9 +11,11 @@ pub mod LoneSteps
 pub mod Reached
 pub mod LoneTicks
 pub mod LoneEnds
+pub mod Searching
 pub mod Reaching
 pub mod LoneAnswers
 pub mod Queueing
+pub mod TickWorlds
 pub mod Growing
 pub mod Finding
 pub mod Following

@@ -1,4 +1,5 @@
--- What happens within a lone tick, once its future is taken: the queue and the trace only get longer, and no other call begins.
+-- What happens within a lone call that searches, once its future is taken: the queue and the trace only get longer, and no
+-- other call begins.
 use Rattle.std.proofs.Common.{◌≡◌, ℕ, List, [], ◌∷◌, ◌++◌, Bool, true, false, refl, sym, ap, ◌∙◌, append-nil, append_assoc}
 use Rattle.std.specs.Prelude.{Option, Some, None}
 use Rattle.task_moves.specs.declared.moves.owed.Move.TheVariants as move
@@ -15,7 +16,12 @@ use Rattle.executor_model.specs.declared.op.Op.{Op}
 use Rattle.executor_model.specs.declared.op.Op.TheVariants as op
 use Rattle.executor_model.specs.declared.op.ClosingOp.TheVariants as closing_op
 use Rattle.executor_model.specs.declared.op.HandleOp.TheVariants as handle_op
+use Rattle.executor_model.specs.declared.op.Polled.{Polled}
+use Rattle.executor_model.specs.declared.op.Polled.TheVariants as of
 use Rattle.executor_model.specs.declared.op.QueueOp.TheVariants as queue_op
+use Rattle.executor_model.specs.declared.op.Sleeping.{Sleeping}
+use Rattle.executor_model.specs.declared.op.SleeperOp.{SleeperOp}
+use Rattle.executor_model.specs.declared.op.SleeperOp.TheVariants as sleeper_op
 use Rattle.executor_model.specs.declared.op.TableOp.TheVariants as table_op
 use Rattle.executor_model.specs.declared.op.UserOp.TheVariants as user_op
 use Rattle.executor_model.specs.declared.op.WakerOp.TheVariants as waker_op
@@ -25,12 +31,12 @@ use Rattle.executor_model.specs.declared.step.UserEnd.TheVariants as end
 use Rattle.executor_model.specs.Trace.{Trace}
 use Rattle.executor_model.specs.World.{World, Done, done, log, log_if, task, put, among, awaiter_of}
 use Rattle.executor_model.specs.Carried.{owed_ops, carried}
-use Rattle.executor_model.specs.Acts.{append_by, leave_by, waker_goes, notify_by, told, call_awaiter, act}
+use Rattle.executor_model.specs.Acts.{append_by, leave_by, waker_goes, notify_by, told, exchange_by, hand_out_by, call_waker, sleeper_act, act}
 use Rattle.executor_model.specs.Steps.{waits, accepts, react}
 use Rattle.executor_model.specs.Weights.{weigh}
 use Rattle.executor_model.proofs.Owed.{owed-future, owed-awaiter, owed-nothing}
 
--- what belongs to no tick whose future is taken
+-- what belongs to no such call whose future is taken
 abbrev pub stray_of : Op → ℕ
 stray_of (op.Table table_op.Enter) = 1
 stray_of (op.Queue queue_op.Take) = 1
@@ -46,6 +52,7 @@ stray_of (op.Closing closing_op.DropNext) = 1
 stray_of (op.Closing closing_op.WakeNext) = 1
 stray_of (op.Closing closing_op.Close) = 1
 stray_of (op.Closing closing_op.Drain) = 1
+stray_of (op.Tick o) = 1
 stray_of (op.End a held) = 1
 stray_of _ = 0
 
@@ -59,7 +66,8 @@ pub record Inner (w : World) (d : Done) : Type 0 where
   pub there : d.world.gone ≡ w.gone
 
 of-owed : (f : ℕ) (there : Bool) (o : Owed) → weigh stray_of (owed_ops there f o) ≡ 0
-of-owed f there o = owed-nothing stray_of f (record { append = refl; output = refl; release = refl; settle_closed = refl; give_up = refl; end_closed = refl; detach = refl }) there o (owed-future stray_of f (record { poll = refl; drop = refl }) there o.future) (owed-awaiter stray_of f (record { notify = λ m. refl }) o.awaiter)
+of-owed f there o = owed-nothing stray_of f
+    (record { append = refl; output = refl; release = refl; settle_closed = refl; give_up = refl; end_closed = refl; detach = refl }) there o (owed-future stray_of f (record { poll = refl; drop = refl }) there o.future) (owed-awaiter stray_of f (record { notify = λ m. refl }) o.awaiter)
 
 of-goes : (a : Waker) → weigh stray_of (waker_goes a) ≡ 0
 of-goes (Task k) = refl
@@ -71,12 +79,30 @@ of-told true f (Some a) = of-goes a.waker
 of-told false f (Some a) = refl
 
 -- queue, trace and the executor stay
-still : (w v : World) (next : List Op) → v.queue ≡ w.queue → v.trace ≡ w.trace → v.gone ≡ w.gone → weigh stray_of next ≡ 0 → Inner w (done v next)
-still w v next q t g z = record { plain = z; added = []; queue = ap (λ x. x.items) q ∙ sym (append-nil w.queue.items); events = []; trace = t ∙ sym (append-nil w.trace); there = g }
+still : (w v : World) (next : List Op) → v.queue ≡ w.queue → v.trace ≡ w.trace → v.gone ≡ w.gone → weigh stray_of next ≡ 0 →
+    Inner w (done v next)
+still w v next q t g z = record {
+  plain = z;
+  added = [];
+  queue = ap (λ x. x.items) q
+      ∙ sym (append-nil w.queue.items);
+  events = [];
+  trace = t ∙ sym (append-nil w.trace);
+  there = g;
+}
 
 -- something happens
-abbrev pub logged : (w v : World) (e : Event) (next : List Op) → v.queue ≡ w.queue → v.trace ≡ w.trace ++ e ∷ [] → v.gone ≡ w.gone → weigh stray_of next ≡ 0 → Inner w (done v next)
-logged w v e next q t g z = record { plain = z; added = []; queue = ap (λ x. x.items) q ∙ sym (append-nil w.queue.items); events = e ∷ []; trace = t; there = g }
+abbrev pub logged : (w v : World) (e : Event) (next : List Op) → v.queue ≡ w.queue → v.trace ≡ w.trace ++ e ∷ [] → v.gone ≡ w.gone →
+    weigh stray_of next ≡ 0 → Inner w (done v next)
+logged w v e next q t g z = record {
+  plain = z;
+  added = [];
+  queue = ap (λ x. x.items) q
+      ∙ sym (append-nil w.queue.items);
+  events = e ∷ [];
+  trace = t;
+  there = g;
+}
 
 pub inner-carried : (w : World) (f : ℕ) (m : Moved) → Inner w (carried w f m)
 inner-carried w f m = still w (put w f m.state) _ refl refl refl (of-owed f (among f w.table) m.owed)
@@ -87,7 +113,15 @@ inner-logged false w e f m = inner-carried w f m
 
 -- after an event
 then-inner : (w : World) (e : Event) (d : Done) → Inner (log w e) d → Inner w d
-then-inner w e d i = record { plain = i.plain; added = i.added; queue = i.queue; events = e ∷ i.events; trace = i.trace ∙ append_assoc w.trace (e ∷ []) i.events; there = i.there }
+then-inner w e d i = record {
+  plain = i.plain;
+  added = i.added;
+  queue = i.queue;
+  events = e ∷ i.events;
+  trace = i.trace
+      ∙ append_assoc w.trace (e ∷ []) i.events;
+  there = i.there;
+}
 
 inner-append : (b : Bool) (w : World) (f : ℕ) → Inner w (append_by b w f)
 inner-append true w f = record { plain = refl; added = f ∷ []; queue = refl; events = []; trace = sym (append-nil w.trace); there = refl }
@@ -101,9 +135,25 @@ inner-notify : (b : Bool) (w : World) (f : ℕ) (mine : Bool) → Inner w (notif
 inner-notify true w f mine = still w _ _ refl refl refl refl
 inner-notify false w f mine = still w _ _ refl refl refl refl
 
-inner-call : (p : ℕ) (w : World) (f : ℕ) (a : Waker) (k : ℕ) → Inner w (call_awaiter p w f a k)
-inner-call p w f (Task g) k = then-inner w (event.WakerCalled p f k (Task g)) _ (inner-logged _ (log w (event.WakerCalled p f k (Task g))) (event.Woken p g) g (moves.wake (task w g)))
-inner-call p w f (Outside x) k = logged w _ (event.WakerCalled p f k (Outside x)) _ refl refl refl refl
+inner-call : (p : ℕ) (w : World) (o : Polled) (a : Waker) (k : ℕ) → Inner w (call_waker p w o a k)
+inner-call p w o (Task g) k =
+    then-inner w (event.WakerCalled p o k (Task g)) _ (inner-logged _ (log w (event.WakerCalled p o k (Task g))) (event.Woken p g) g
+    (moves.wake (task w g)))
+inner-call p w o (Outside x) k = logged w _ (event.WakerCalled p o k (Outside x)) _ refl refl refl refl
+
+inner-exchange : (b : Bool) (w : World) → Inner w (exchange_by b w)
+inner-exchange true w = still w _ _ refl refl refl refl
+inner-exchange false w = still w _ _ refl refl refl refl
+
+inner-hand_out : (b : Bool) (o : Option Sleeping) (w : World) → Inner w (hand_out_by b o w)
+inner-hand_out true None w = still w _ _ refl refl refl refl
+inner-hand_out true (Some s) w = still w _ _ refl refl refl refl
+inner-hand_out false o w = still w _ _ refl refl refl refl
+
+inner-sleeper : (p : ℕ) (o : SleeperOp) (w : World) → Inner w (sleeper_act p o w)
+inner-sleeper p sleeper_op.ExchangeFlag w = inner-exchange _ w
+inner-sleeper p sleeper_op.HandOut w = inner-hand_out _ _ w
+inner-sleeper p (sleeper_op.CallSleeper s) w = inner-call p w (of.Tick s.tick) s.waker s.poll
 
 pub inner-act : (p : ℕ) (h : Hint) (o : Op) (w : World) → waits o ≡ false → stray_of o ≡ 0 → Inner w (act p h o w)
 inner-act p h (op.Queue (queue_op.Append f)) w n z = inner-append _ w f
@@ -124,7 +174,9 @@ inner-act p h (op.Table (table_op.LeaveTable f)) w n z = inner-leave _ w f
 inner-act p h (op.User (user_op.BeginDropOutput f)) w n z = logged w _ (event.OutputDropped p f) _ refl refl refl refl
 inner-act p h (op.Handle (handle_op.Notify f mine)) w n z = inner-notify _ w f mine
 inner-act p h (op.Handle (handle_op.EndNotify f mine)) w n z = still w _ _ refl refl refl (of-told _ f (awaiter_of w f))
-inner-act p h (op.Waker (waker_op.CallAwaiter f a k)) w n z = inner-call p w f a k
+inner-act p h (op.Waker (waker_op.CallAwaiter f a k)) w n z = inner-call p w (of.Handle f) a k
+inner-act p h (op.Sleeper o) w n z = inner-sleeper p o w
+inner-act p h (op.Tick o) w n z = absurd (cc)
 inner-act p h (op.Table table_op.Enter) w n z = absurd (cc)
 inner-act p h (op.Table table_op.LookAtTable) w n z = absurd (cc)
 inner-act p h (op.Queue queue_op.Take) w n z = absurd (cc)
@@ -145,7 +197,8 @@ inner-act p h _ w n z = still w _ _ refl refl refl refl
 
 -- the end of user code
 pub inner-react : (p : ℕ) (o : Op) (u : UserEnd) (w : World) → accepts o u ≡ true → Inner w (react p o u w)
-inner-react p (op.User (user_op.Poll f)) (end.Polled answer.Pending) w a = logged w _ (event.Answered p f answer.Pending) _ refl refl refl refl
+inner-react p (op.User (user_op.Poll f)) (end.Polled answer.Pending) w a =
+    logged w _ (event.Answered p f answer.Pending) _ refl refl refl refl
 inner-react p (op.User (user_op.Poll f)) (end.Polled answer.Ready) w a = logged w _ (event.Answered p f answer.Ready) _ refl refl refl refl
 inner-react p (op.User (user_op.Drop f)) end.Done w a = still w w _ refl refl refl refl
 inner-react p (op.User (user_op.DropOutput f)) end.Done w a = still w w _ refl refl refl refl

@@ -3,7 +3,8 @@ use Rattle.std.proofs.Common.{◌≡◌, ◌≢◌, ◌⊎◌, ℕ, ◌≤◌, L
 use Rattle.std.proofs.lemmas.Bool.Decides.{nat_tests}
 use Rattle.std.proofs.lemmas.List.Elements.{filter-append}
 use Rattle.std.specs.List.{filter}
-use Rattle.std.specs.Prelude.{Option, Some, None}
+use Rattle.std.specs.Prelude.{Option, Some, None, is_none}
+use Rattle.executor_parts.specs.Sleepers.{waker_at, waker_of}
 use Rattle.task_moves.specs.declared.moves.owed.Answer.{Answer}
 use Rattle.task_moves.specs.declared.moves.owed.Answer.TheVariants.{Refused, Pending, Closed, Output}
 use Rattle.task_moves.specs.declared.moves.owed.AwaiterDebt.{AwaiterDebt}
@@ -19,20 +20,25 @@ use Rattle.executor_model.specs.declared.op.Op.{Op}
 use Rattle.executor_model.specs.declared.op.Op.TheVariants as op
 use Rattle.executor_model.specs.declared.op.HandleOp.TheVariants as handle_op
 use Rattle.executor_model.specs.declared.op.QueueOp.TheVariants as queue_op
+use Rattle.executor_model.specs.declared.op.Sleeping.{Sleeping}
 use Rattle.executor_model.specs.declared.op.TableOp.TheVariants as table_op
+use Rattle.executor_model.specs.declared.op.TickOp.{TickOp}
+use Rattle.executor_model.specs.declared.op.TickOp.TheVariants as tick_op
 use Rattle.executor_model.specs.declared.op.WakerOp.TheVariants as waker_op
 use Rattle.executor_model.specs.declared.op.Waker.{Waker}
 use Rattle.executor_model.specs.declared.op.Waker.TheVariants.{Task, Outside}
 use Rattle.executor_model.specs.declared.step.Hint.{Hint}
 use Rattle.executor_model.specs.Quiet.{begins_call}
 use Rattle.executor_model.specs.Trace.{Trace, has}
-use Rattle.executor_model.specs.World.{World, task, awaiter_of}
+use Rattle.executor_model.specs.World.{World, Tick, Up, Lies, Left, task, awaiter_of}
 use Rattle.executor_model.specs.Carried.{awaiter_ops}
-use Rattle.executor_model.specs.Acts.{enter_by, copy_by, answered, polled, look_by, let_go, look_again_by, copy_awaiter_by, register_by, end_register_by, act}
+use Rattle.executor_model.specs.Acts.{enter_by, copy_by, answered, polled, look_by, let_go, look_again_by, copy_awaiter_by, register_by, end_register_by, make_tick_by, run_found, search_by, copy_sleeper_by, pend_tick, lie_anew_by, sleeper_goes, lie_listed_by, lie_again_by, lie_down_by, get_up_by, tell_if, end_drop, leave_sleepers_by, tick_act, act}
 use Rattle.executor_model.specs.Weights.{weigh}
-use Rattle.executor_model.proofs.Calls.{calling_of, calls-act}
+use Rattle.executor_model.proofs.Calls.{calling_of}
+use Rattle.executor_model.proofs.CallsGroups.{calls-act}
 use Rattle.executor_model.proofs.Lists.{weigh-append}
 use Rattle.executor_model.proofs.Resting.{calling-is}
+use Rattle.executor_model.proofs.SleepersNext.{goes-unseen, tell-unseen}
 use Rattle.executor_laws.specs.AtOnce.{doer, is_by, deeds}
 use Rattle.executor_laws.proofs.Finding.{left-false}
 use Rattle.executor_laws.proofs.Growing.{ends_one, is_end, Grows, not-by}
@@ -78,7 +84,8 @@ right-false false b e = e
 
 pub told-append : (p : ℕ) (b : Bool) (xs ys : Trace) → told p b (xs ++ ys) ≡ (told p b xs && told p (fresh p b xs) ys)
 told-append p b [] ys = refl
-told-append p b (e ∷ xs) ys = ap (λ (x : Bool). (b || not (is_no e)) && x) (told-append p (begins_call p e) xs ys) ∙ and-assoc (b || not (is_no e)) (told p (begins_call p e) xs) (told p (fresh p (begins_call p e) xs) ys)
+told-append p b (e ∷ xs) ys = ap (λ (x : Bool). (b || not (is_no e)) && x) (told-append p (begins_call p e) xs ys)
+    ∙ and-assoc (b || not (is_no e)) (told p (begins_call p e) xs) (told p (fresh p (begins_call p e) xs) ys)
 
 fresh-append : (p : ℕ) (b : Bool) (xs ys : Trace) → fresh p b (xs ++ ys) ≡ fresh p (fresh p b xs) ys
 fresh-append p b [] ys = refl
@@ -111,14 +118,18 @@ kept-has false u e es h r = r
 
 filter-has : (t u : Event → Bool) (es : Trace) → has u es ≡ false → has u (filter t es) ≡ false
 filter-has t u [] k = refl
-filter-has t u (e ∷ es) k = kept-has (t e) u e (filter t es) (left-false (u e) (has u es) k) (filter-has t u es (right-false (u e) (has u es) k))
+filter-has t u (e ∷ es) k =
+    kept-has (t e) u e (filter t es) (left-false (u e) (has u es) k) (filter-has t u es (right-false (u e) (has u es) k))
 
 pub deeds-other : (p q : ℕ) (w v : World) → Grows p w v → q ≢ p → deeds q v.trace ≡ deeds q w.trace
 deeds-other p q w v g n =
-    ap (deeds q) g.is ∙ (filter-append (is_by q) w.trace g.more ∙ (ap (λ (xs : Trace). deeds q w.trace ++ xs) (filter-none (is_by q) g.more (g.own q n)) ∙ append-nil (deeds q w.trace)))
+    ap (deeds q) g.is ∙ (filter-append (is_by q) w.trace g.more
+    ∙ (ap (λ (xs : Trace). deeds q w.trace ++ xs) (filter-none (is_by q) g.more (g.own q n)) ∙ append-nil (deeds q w.trace)))
 
 pub deeds-other_log : (p q : ℕ) (es : Trace) (e : Event) → doer e ≡ p → q ≢ p → deeds q (es ++ e ∷ []) ≡ deeds q es
-deeds-other_log p q es e d n = filter-append (is_by q) es (e ∷ []) ∙ (ap (λ (xs : Trace). deeds q es ++ xs) (filter-none (is_by q) (e ∷ []) (ap (λ (x : Bool). x || false) (not-by p q e d n))) ∙ append-nil (deeds q es))
+deeds-other_log p q es e d n = filter-append (is_by q) es (e ∷ [])
+    ∙ (ap (λ (xs : Trace). deeds q es ++ xs) (filter-none (is_by q) (e ∷ []) (ap (λ (x : Bool). x || false) (not-by p q e d n)))
+    ∙ append-nil (deeds q es))
 
 self : (p : ℕ) (e : Event) → doer e ≡ p → is_by p e ≡ true
 self p e d = grind (arith, nat_tests)
@@ -135,13 +146,16 @@ told-grows p w v g t =
     ap (λ (xs : Trace). told p false (deeds p xs)) g.is
     ∙ (ap (told p false) (filter-append (is_by p) w.trace g.more)
     ∙ (told-append p false (deeds p w.trace) (filter (is_by p) g.more)
-    ∙ both (told p false (deeds p w.trace)) (told p (fresh p false (deeds p w.trace)) (filter (is_by p) g.more)) t (told-endless p (fresh p false (deeds p w.trace)) (filter (is_by p) g.more) (filter-has (is_by p) ends_one g.more g.none_ends))))
+    ∙ both (told p false (deeds p w.trace)) (told p (fresh p false (deeds p w.trace)) (filter (is_by p) g.more)) t
+    (told-endless p (fresh p false (deeds p w.trace)) (filter (is_by p) g.more) (filter-has (is_by p) ends_one g.more g.none_ends))))
 
-pub told-log : (p : ℕ) (es : Trace) (e : Event) → doer e ≡ p → (fresh p false (deeds p es) || not (is_no e)) ≡ true → told p false (deeds p es) ≡ true → told p false (deeds p (es ++ e ∷ [])) ≡ true
+pub told-log : (p : ℕ) (es : Trace) (e : Event) → doer e ≡ p → (fresh p false (deeds p es) || not (is_no e)) ≡ true →
+    told p false (deeds p es) ≡ true → told p false (deeds p (es ++ e ∷ [])) ≡ true
 told-log p es e d k t =
     ap (told p false) (deeds-own p es e d)
     ∙ (told-append p false (deeds p es) (e ∷ [])
-    ∙ both (told p false (deeds p es)) ((fresh p false (deeds p es) || not (is_no e)) && true) t (both (fresh p false (deeds p es) || not (is_no e)) true k refl))
+    ∙ both (told p false (deeds p es)) ((fresh p false (deeds p es) || not (is_no e)) && true) t
+    (both (fresh p false (deeds p es) || not (is_no e)) true k refl))
 
 pub fresh-log : (p : ℕ) (es : Trace) (e : Event) → doer e ≡ p → fresh p false (deeds p (es ++ e ∷ [])) ≡ begins_call p e
 fresh-log p es e d = ap (fresh p false) (deeds-own p es e d) ∙ fresh-append p false (deeds p es) (e ∷ [])
@@ -217,15 +231,80 @@ slow-copy : (b : Bool) (w : World) (f : ℕ) (held : Hold) → weigh hasty (copy
 slow-copy true w f held = refl
 slow-copy false w f held = refl
 
+slow-goes : (o : Option Sleeping) → weigh hasty (sleeper_goes o) ≡ 0
+slow-goes o = goes-unseen hasty (λ f. refl) o
+
+slow-make : (b : Bool) (w : World) → weigh hasty (make_tick_by b w).next ≡ 0
+slow-make true w = refl
+slow-make false w = refl
+
+slow-search : (x : Tick) (w : World) (q : List ℕ) (s : Sleeping) → weigh hasty (search_by x w q s).next ≡ 0
+slow-search x w [] s = refl
+slow-search Up w (f ∷ rest) s = refl
+slow-search (Lies n) w (f ∷ rest) s = refl
+slow-search Left w (f ∷ rest) s = refl
+
+slow-copy_sleeper : (b : Bool) (w : World) (s : Sleeping) → weigh hasty (copy_sleeper_by b w s).next ≡ 0
+slow-copy_sleeper true w s = refl
+slow-copy_sleeper false w s = refl
+
+slow-anew : (b : Bool) (w : World) (s : Sleeping) → weigh hasty (lie_anew_by b w s).next ≡ 0
+slow-anew true w s = refl
+slow-anew false w s = refl
+
+slow-listed : (b : Bool) (w : World) (n : ℕ) (s : Sleeping) → weigh hasty (lie_listed_by b w n s).next ≡ 0
+slow-listed true w n s = refl
+slow-listed false w n s = refl
+
+slow-lie_again : (o : Option ℕ) (w : World) (n : ℕ) (s : Sleeping) → weigh hasty (lie_again_by o w n s).next ≡ 0
+slow-lie_again None w n s = slow-listed _ w n s
+slow-lie_again (Some at) w n s = let old = waker_at (Some at) w.sleepers.wakers in
+    omega (arith, weigh-append hasty (sleeper_goes old) (pend_tick s.tick), slow-goes old)
+
+slow-lie : (x : Tick) (w : World) (s : Sleeping) → weigh hasty (lie_down_by x w s).next ≡ 0
+slow-lie Up w s = slow-anew _ w s
+slow-lie (Lies n) w s = slow-lie_again _ w n s
+slow-lie Left w s = refl
+
+slow-up : (x : Tick) (w : World) (t f : ℕ) → weigh hasty (get_up_by x w t f).next ≡ 0
+slow-up Up w t f = refl
+slow-up (Lies n) w t f = let old = waker_of n w.sleepers.wakers in
+    omega (arith, weigh-append hasty (sleeper_goes old) (run_found t f), slow-goes old)
+slow-up Left w t f = refl
+
+slow-leave : (x : Tick) (w : World) (t : ℕ) → weigh hasty (leave_sleepers_by x w t).next ≡ 0
+slow-leave Up w t = refl
+slow-leave (Lies n) w t =
+    let old = waker_of n w.sleepers.wakers in
+    omega (
+      arith,
+      weigh-append hasty (sleeper_goes old ++ tell_if (is_none old)) (end_drop t),
+      weigh-append hasty (sleeper_goes old) (tell_if (is_none old)),
+      slow-goes old,
+      tell-unseen hasty refl (is_none old),
+    )
+slow-leave Left w t = refl
+
+slow-tick : (h : Hint) (o : TickOp) (w : World) → weigh hasty (tick_act h o w).next ≡ 0
+slow-tick h tick_op.MakeTick w = slow-make _ w
+slow-tick h (tick_op.Search s) w = slow-search _ w _ s
+slow-tick h (tick_op.CopyWaker s) w = slow-copy_sleeper _ w s
+slow-tick h (tick_op.LieDown s) w = slow-lie _ w s
+slow-tick h (tick_op.GetUp t f) w = slow-up _ w t f
+slow-tick h (tick_op.Leave t) w = slow-leave _ w t
+
 -- of what answers a call
-slow-calling : (p : ℕ) (h : Hint) (o : Op) (w : World) → calling_of o ≡ 1 → hasty o ≡ 0 → is_end o ≡ false → weigh hasty (act p h o w).next ≡ 0
+slow-calling : (p : ℕ) (h : Hint) (o : Op) (w : World) → calling_of o ≡ 1 → hasty o ≡ 0 → is_end o ≡ false →
+    weigh hasty (act p h o w).next ≡ 0
 slow-calling p h (op.Table table_op.Enter) w c z n = slow-enter _ _ p w
 slow-calling p h (op.Waker (waker_op.CopyWaker f held)) w c z n = slow-copy _ w f held
 slow-calling p h (op.Handle (handle_op.Look f a)) w c z n = slow-look (moves.poll (task w f)).owed.answer p w f a (moves.poll (task w f))
 slow-calling p h (op.Handle (handle_op.CopyAwaiter f a)) w c z n = slow-copy_awaiter _ p w f a
 slow-calling p h (op.Handle (handle_op.Register f a k)) w c z n = slow-register _ w f a k
 slow-calling p h (op.Handle (handle_op.EndRegister f a k)) w c z n = slow-end_register _ w f a k
-slow-calling p h (op.Handle (handle_op.LookAgain f)) w c z n = slow-again (moves.look_again (task w f)).owed.answer p w f (moves.look_again (task w f))
+slow-calling p h (op.Handle (handle_op.LookAgain f)) w c z n =
+    slow-again (moves.look_again (task w f)).owed.answer p w f (moves.look_again (task w f))
+slow-calling p h (op.Tick o) w c z n = slow-tick h o w
 slow-calling p h _ w c z n = absurd (cc)
 
 pub slow-act : (p : ℕ) (h : Hint) (o : Op) (w : World) → hasty o ≡ 0 → is_end o ≡ false → weigh hasty (act p h o w).next ≡ 0

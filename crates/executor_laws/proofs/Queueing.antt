@@ -19,6 +19,11 @@ use Rattle.executor_model.specs.declared.op.Op.{Op}
 use Rattle.executor_model.specs.declared.op.Op.TheVariants as op
 use Rattle.executor_model.specs.declared.op.ClosingOp.TheVariants as closing_op
 use Rattle.executor_model.specs.declared.op.HandleOp.TheVariants as handle_op
+use Rattle.executor_model.specs.declared.op.Polled.{Polled}
+use Rattle.executor_model.specs.declared.op.Polled.TheVariants as of
+use Rattle.executor_model.specs.declared.op.Sleeping.{Sleeping}
+use Rattle.executor_model.specs.declared.op.TickOp.{TickOp}
+use Rattle.executor_model.specs.declared.op.TickOp.TheVariants as tick_op
 use Rattle.task_moves.specs.declared.moves.owed.Move.TheVariants as move
 use Rattle.executor_model.specs.declared.op.QueueOp.TheVariants as queue_op
 use Rattle.executor_model.specs.declared.op.TableOp.TheVariants as table_op
@@ -32,14 +37,15 @@ use Rattle.executor_model.specs.declared.step.StepError.{StepError}
 use Rattle.executor_model.specs.declared.step.StepError.TheVariants.{NoSuch}
 use Rattle.executor_model.specs.declared.step.UserEnd.{UserEnd}
 use Rattle.executor_model.specs.declared.step.UserEnd.TheVariants as end
-use Rattle.executor_model.specs.World.{World, Done, log, log_if, task, put}
-use Rattle.executor_model.specs.Acts.{append_by, take_by, enter_by, leave_by, copy_by, look_by, look_again_by, copy_awaiter_by, register_by, end_register_by, notify_by, call_awaiter, drop_next_by, wake_next_by, drain_by, act}
+use Rattle.executor_model.specs.World.{World, Tick, Done, log, log_if, task, put}
+use Rattle.executor_model.specs.Acts.{append_by, take_by, enter_by, leave_by, copy_by, look_by, look_again_by, copy_awaiter_by, register_by, end_register_by, notify_by, search_by, call_waker, tick_act, drop_next_by, wake_next_by, drain_by, act}
 use Rattle.executor_model.specs.Steps.{Machine, stack, top, below_top, refusal, go_refusal, unless, begun, react, polled_by, kept, with_future, settled_by, gone_on, after, step, stepped, run, start}
 use Rattle.executor_model.proofs.Lift.{topped, good}
 use Rattle.executor_model.proofs.LeavingRuns.{placed, has-place}
 use Rattle.executor_model.proofs.Entering.{finds-place}
 use Rattle.executor_model.proofs.Spawning.{in-range}
 use Rattle.executor_model.proofs.Stepping.{step-refused, step-made}
+use Rattle.executor_model.proofs.SleepersWorlds.{Rest, call-rest, sleeper-rest, tick-rest, searches}
 use Rattle.executor_laws.specs.Queueings.{queued_by, queueings, counting, Changes, counted_after, CountsQueueings}
 use Rattle.executor_laws.specs.Queueings.Changes.{stays, appends, takes, closes}
 
@@ -50,7 +56,8 @@ data Turns (o : Op) (q new : ClosableQueue ℕ) : Type 0 where
   less : (f : ℕ) (rest : List ℕ) → q.items ≡ f ∷ rest → new ≡ taken q → Turns o q new
   shuts : new ≡ shut q → Turns o q new
 
-turns-append : (c : Bool) (l : Bool) (w : World) (f : ℕ) → w.queue.closed ≡ c → Turns (op.Queue (queue_op.Append f)) w.queue (append_by (not c && l) w f).world.queue
+turns-append : (c : Bool) (l : Bool) (w : World) (f : ℕ) → w.queue.closed ≡ c →
+    Turns (op.Queue (queue_op.Append f)) w.queue (append_by (not c && l) w f).world.queue
 turns-append true l w f e = same refl
 turns-append false true w f e = more f refl e refl
 turns-append false false w f e = same refl
@@ -59,7 +66,8 @@ turns-take : (w : World) (items : List ℕ) → w.queue.items ≡ items → Turn
 turns-take w [] e = same refl
 turns-take w (f ∷ rest) e = less f rest e refl
 
-turns-drain : (p : ℕ) (w : World) (items : List ℕ) → w.queue.items ≡ items → Turns (op.Closing closing_op.Drain) w.queue (drain_by p w items).world.queue
+turns-drain : (p : ℕ) (w : World) (items : List ℕ) → w.queue.items ≡ items →
+    Turns (op.Closing closing_op.Drain) w.queue (drain_by p w items).world.queue
 turns-drain p w [] e = same refl
 turns-drain p w (f ∷ rest) e = less f rest e refl
 
@@ -107,9 +115,19 @@ notifies : (b : Bool) (w : World) (f : ℕ) (mine : Bool) → (notify_by b w f m
 notifies true w f mine = refl
 notifies false w f mine = refl
 
-calls : (p : ℕ) (w : World) (f : ℕ) (a : Waker) (k : ℕ) → (call_awaiter p w f a k).world.queue ≡ w.queue
-calls p w f (Task g) k = logged _ (log w (event.WakerCalled p f k (Task g))) (event.Woken p g)
-calls p w f (Outside x) k = refl
+calls : (p : ℕ) (w : World) (o : Polled) (a : Waker) (k : ℕ) → (call_waker p w o a k).world.queue ≡ w.queue
+calls p w o a k = sym (ap (λ (r : Rest). r.queue) (call-rest p w o a k))
+
+-- of what a tick does, the search alone takes
+turns-search : (x : Tick) (w : World) (items : List ℕ) (s : Sleeping) → w.queue.items ≡ items →
+    Turns (op.Tick (tick_op.Search s)) w.queue (search_by x w items s).world.queue
+turns-search x w [] s e = same refl
+turns-search x w (f ∷ rest) s e = less f rest e refl
+
+turns-tick : (h : Hint) (o : TickOp) (w : World) (b : Bool) → searches o ≡ b → Turns (op.Tick o) w.queue (tick_act h o w).world.queue
+turns-tick h (tick_op.Search s) w b e = turns-search _ w w.queue.items s refl
+turns-tick h o w false e = same (sym (ap (λ (r : Rest). r.queue) (tick-rest h o w e)))
+turns-tick h _ w true e = absurd (cc)
 
 drops-next : (p : ℕ) (w : World) (fs : List ℕ) → (drop_next_by p w fs).world.queue ≡ w.queue
 drops-next p w [] = refl
@@ -134,9 +152,12 @@ turns-act p h (op.Handle (handle_op.Look f a)) w = same (looks (moves.poll (task
 turns-act p h (op.Handle (handle_op.CopyAwaiter f a)) w = same (copies-awaiter _ p w f a)
 turns-act p h (op.Handle (handle_op.Register f a k)) w = same (registers _ w f a k)
 turns-act p h (op.Handle (handle_op.EndRegister f a k)) w = same (ends-register _ w f a k)
-turns-act p h (op.Handle (handle_op.LookAgain f)) w = same (looks-again (moves.look_again (task w f)).owed.answer p w f (moves.look_again (task w f)))
+turns-act p h (op.Handle (handle_op.LookAgain f)) w =
+    same (looks-again (moves.look_again (task w f)).owed.answer p w f (moves.look_again (task w f)))
 turns-act p h (op.Handle (handle_op.Notify f mine)) w = same (notifies _ w f mine)
-turns-act p h (op.Waker (waker_op.CallAwaiter f a k)) w = same (calls p w f a k)
+turns-act p h (op.Waker (waker_op.CallAwaiter f a k)) w = same (calls p w (of.Handle f) a k)
+turns-act p h (op.Sleeper o) w = same (sym (ap (λ (r : Rest). r.queue) (sleeper-rest p o w)))
+turns-act p h (op.Tick o) w = turns-tick h o w (searches o) refl
 turns-act p h (op.Closing closing_op.DropNext) w = same (drops-next p w w.leaving)
 turns-act p h (op.Closing closing_op.WakeNext) w = same (wakes-next p w w.waking)
 turns-act p h (op.Closing closing_op.Close) w = shuts refl
@@ -149,7 +170,8 @@ reacts p (op.User (user_op.Poll f)) (end.Polled answer.Pending) w = refl
 reacts p (op.User (user_op.Poll f)) (end.Polled answer.Ready) w = refl
 reacts p _ _ w = refl
 
-with-future : (w : World) (x : Option ℕ) (d : ℕ → Done) → ((f : ℕ) → (d f).world.queue ≡ w.queue) → (with_future w x d).world.queue ≡ w.queue
+with-future : (w : World) (x : Option ℕ) (d : ℕ → Done) → ((f : ℕ) → (d f).world.queue ≡ w.queue) →
+    (with_future w x d).world.queue ≡ w.queue
 with-future w None d k = refl
 with-future w (Some f) d k = k f
 
@@ -170,23 +192,30 @@ settles p w os (Some r) = refl
 -- what a step does to the queue
 data Steps (s : Machine) (new : ClosableQueue ℕ) : Type 0 where
   as-was : new ≡ s.world.queue → Steps s new
-  longer : (p f : ℕ) → top (stack s p) ≡ Some (op.Queue (queue_op.Append f)) → s.world.queue.closed ≡ false → new ≡ appended s.world.queue f → Steps s new
+  longer : (p f : ℕ) → top (stack s p) ≡ Some (op.Queue (queue_op.Append f)) → s.world.queue.closed ≡ false →
+      new ≡ appended s.world.queue f → Steps s new
   shorter : (f : ℕ) (rest : List ℕ) → s.world.queue.items ≡ f ∷ rest → new ≡ taken s.world.queue → Steps s new
   shut-by : new ≡ shut s.world.queue → Steps s new
 
-by-act : (s : Machine) (p : ℕ) (o : Op) (v new : ClosableQueue ℕ) → top (stack s p) ≡ Some o → new ≡ v → Turns o s.world.queue v → Steps s new
+by-act : (s : Machine) (p : ℕ) (o : Op) (v new : ClosableQueue ℕ) → top (stack s p) ≡ Some o → new ≡ v → Turns o s.world.queue v →
+    Steps s new
 by-act s p o v new e q (same x) = as-was (q ∙ x)
 by-act s p o v new e q (more f x c y) = longer p f (e ∙ ap (λ (z : Op). Some z) x) c (q ∙ y)
 by-act s p o v new e q (less f rest x y) = shorter f rest x (q ∙ y)
 by-act s p o v new e q (shuts y) = shut-by (q ∙ y)
 
-by-go : (s : Machine) (p : ℕ) (h : Hint) (x : Option Op) → top (stack s p) ≡ x → Steps s (gone_on p s.world (stack s p) x (λ o. act p h o s.world)).world.queue
+by-go : (s : Machine) (p : ℕ) (h : Hint) (x : Option Op) → top (stack s p) ≡ x →
+    Steps s (gone_on p s.world (stack s p) x (λ o. act p h o s.world)).world.queue
 by-go s p h None e = as-was refl
-by-go s p h (Some o) e = by-act s p o (act p h o s.world).world.queue _ e (settles p (act p h o s.world).world (below_top (stack s p) ++ reverse (act p h o s.world).next) _) (turns-act p h o s.world)
+by-go s p h (Some o) e =
+    by-act s p o (act p h o s.world).world.queue _ e (settles p (act p h o s.world).world
+    (below_top (stack s p) ++ reverse (act p h o s.world).next) _) (turns-act p h o s.world)
 
-by-answer : (s : Machine) (p : ℕ) (u : UserEnd) (x : Option Op) → Steps s (gone_on p s.world (stack s p) x (λ o. react p o u s.world)).world.queue
+by-answer : (s : Machine) (p : ℕ) (u : UserEnd) (x : Option Op) →
+    Steps s (gone_on p s.world (stack s p) x (λ o. react p o u s.world)).world.queue
 by-answer s p u None = as-was refl
-by-answer s p u (Some o) = as-was (settles p (react p o u s.world).world (below_top (stack s p) ++ reverse (react p o u s.world).next) _ ∙ reacts p o u s.world)
+by-answer s p u (Some o) = as-was (settles p (react p o u s.world).world (below_top (stack s p) ++ reverse (react p o u s.world).next) _
+    ∙ reacts p o u s.world)
 
 by-after : (s : Machine) (t : Step) → Steps s (after s t).world.queue
 by-after s (Begin p c) =
@@ -201,7 +230,8 @@ by-step s t = go (refusal s t) refl
   where
     go : (r : Option StepError) → refusal s t ≡ r → Steps s (stepped s (step s t)).world.queue
     go None e = subst (λ (x : Result Machine StepError). Steps s (stepped s x).world.queue) (sym (step-made s t e)) (by-after s t)
-    go (Some error) e = subst (λ (x : Result Machine StepError). Steps s (stepped s x).world.queue) (sym (step-refused s t error e)) (as-was refl)
+    go (Some error) e = subst (λ (x : Result Machine StepError). Steps s (stepped s x).world.queue) (sym (step-refused s t error e))
+        (as-was refl)
 
 -- a step appends one Runnable at most
 
@@ -211,13 +241,25 @@ count-less (x ∷ xs) = omega arith
 
 queued-most : (s : Machine) (new : ClosableQueue ℕ) → Steps s new → length new.items - length s.world.queue.items ≤ 1
 queued-most s new (as-was x) = omega (arith, ap (λ (v : ClosableQueue ℕ). length v.items) x)
-queued-most s new (longer p f a c x) = omega (arith, ap (λ (v : ClosableQueue ℕ). length v.items) x, length-append s.world.queue.items (f ∷ []))
-queued-most s new (shorter f rest a x) = omega (arith, ap (λ (v : ClosableQueue ℕ). length v.items - length s.world.queue.items) x, count-less s.world.queue.items)
+queued-most s new (longer p f a c x) = omega (
+  arith,
+  ap (λ (v : ClosableQueue ℕ). length v.items) x,
+  length-append s.world.queue.items (f ∷ []),
+)
+queued-most s new (shorter f rest a x) = omega (
+  arith,
+  ap (λ (v : ClosableQueue ℕ). length v.items - length s.world.queue.items) x,
+  count-less s.world.queue.items,
+)
 queued-most s new (shut-by x) = omega (arith, ap (λ (v : ClosableQueue ℕ). length v.items) x)
 
 queueings-most : (ts : List Step) (s : Machine) → queueings ts s ≤ length ts
 queueings-most [] s = omega arith
-queueings-most (t ∷ ts) s = omega (arith, queued-most s (stepped s (step s t)).world.queue (by-step s t), queueings-most ts (stepped s (step s t)))
+queueings-most (t ∷ ts) s = omega (
+  arith,
+  queued-most s (stepped s (step s t)).world.queue (by-step s t),
+  queueings-most ts (stepped s (step s t)),
+)
 
 -- as a queue that counts
 
@@ -240,9 +282,11 @@ module _ (limit parties : ℕ) (steps : List Step) where
   count = queueings steps (start limit parties)
 
   -- one step later
-  later : (t : Step) (q : ClosableQueue ℕ) (n : ℕ) → (stepped now (step now t)).world.queue ≡ q → length q.items - length now.world.queue.items ≡ n → counted_after limit parties (steps ++ t ∷ []) ≡ counting (count + n) q
+  later : (t : Step) (q : ClosableQueue ℕ) (n : ℕ) → (stepped now (step now t)).world.queue ≡ q →
+      length q.items - length now.world.queue.items ≡ n → counted_after limit parties (steps ++ t ∷ []) ≡ counting (count + n) q
   later t q n e k =
-      ap (λ (m : ℕ). counting m (run (steps ++ t ∷ []) (start limit parties)).world.queue) (queueings-push steps t (start limit parties) ∙ ap (λ (m : ℕ). count + m) (ap (λ (v : ClosableQueue ℕ). length v.items - length now.world.queue.items) e ∙ k))
+      ap (λ (m : ℕ). counting m (run (steps ++ t ∷ []) (start limit parties)).world.queue) (queueings-push steps t (start limit parties)
+      ∙ ap (λ (m : ℕ). count + m) (ap (λ (v : ClosableQueue ℕ). length v.items - length now.world.queue.items) e ∙ k))
       ∙ ap (counting (count + n)) (ap (λ (m : Machine). m.world.queue) (run-push steps t (start limit parties)) ∙ e)
 
   has-room : (p f : ℕ) → top (stack now p) ≡ Some (op.Queue (queue_op.Append f)) → HasRoom now.world.queue
@@ -251,23 +295,32 @@ module _ (limit parties : ℕ) (steps : List Step) where
   same-count : (q : ClosableQueue ℕ) → counting (count + 0) q ≡ counting count q
   same-count q = ap (λ (m : ℕ). counting m q) (let z : count + 0 ≡ count = omega arith in z)
 
-  changes-by : count < most_accepted → (t : Step) (q : ClosableQueue ℕ) → (stepped now (step now t)).world.queue ≡ q → Steps now q → Changes (counted_after limit parties steps) (counted_after limit parties (steps ++ t ∷ []))
+  changes-by : count < most_accepted → (t : Step) (q : ClosableQueue ℕ) → (stepped now (step now t)).world.queue ≡ q → Steps now q →
+      Changes (counted_after limit parties steps) (counted_after limit parties (steps ++ t ∷ []))
   changes-by few t q e (as-was x) = stays (later t now.world.queue 0 (e ∙ x) (omega arith) ∙ same-count now.world.queue)
-  changes-by few t q e (longer p f a c x) = appends f c (has-room p f a) few (later t (appended now.world.queue f) 1 (e ∙ x) (count-more now.world.queue.items f))
-  changes-by few t q e (shorter f rest a x) = takes f rest a (later t (taken now.world.queue) 0 (e ∙ x) (count-less now.world.queue.items) ∙ same-count (taken now.world.queue))
+  changes-by few t q e (longer p f a c x) =
+      appends f c (has-room p f a) few (later t (appended now.world.queue f) 1 (e ∙ x) (count-more now.world.queue.items f))
+  changes-by few t q e (shorter f rest a x) =
+      takes f rest a (later t (taken now.world.queue) 0 (e ∙ x) (count-less now.world.queue.items) ∙ same-count (taken now.world.queue))
   changes-by few t q e (shut-by x) = closes (later t (shut now.world.queue) 0 (e ∙ x) (omega arith) ∙ same-count (shut now.world.queue))
 
   -- who is about to append does
-  appends-now : (p : ℕ) (h : Hint) (f : ℕ) → top (stack now p) ≡ Some (op.Queue (queue_op.Append f)) → now.world.queue.closed ≡ false → (stepped now (step now (Go p h))).world.queue ≡ appended now.world.queue f
+  appends-now : (p : ℕ) (h : Hint) (f : ℕ) → top (stack now p) ≡ Some (op.Queue (queue_op.Append f)) → now.world.queue.closed ≡ false →
+      (stepped now (step now (Go p h))).world.queue ≡ appended now.world.queue f
   appends-now p h f e c =
       let l : p < length now.parties = in-range now p (op.Queue (queue_op.Append f)) e in
       let b : ltb p (length now.parties) ≡ true = grind (arith, nat_tests) in
       let r : refusal now (Go p h) ≡ None = ap (λ (x : Bool). unless x NoSuch (go_refusal (top (stack now p)))) b ∙ ap go_refusal e in
-      let room : length now.world.queue.items < now.world.limit = has-place now p f (below_top (stack now p)) l (topped (stack now p) (op.Queue (queue_op.Append f)) e) (good limit parties steps) (placed limit parties steps) in
-      let free : (not now.world.queue.closed && ltb (length now.world.queue.items) now.world.limit) ≡ true = ap (λ (x : Bool). not x && ltb (length now.world.queue.items) now.world.limit) c ∙ (let z : ltb (length now.world.queue.items) now.world.limit ≡ true = grind (arith, nat_tests) in z) in
+      let room : length now.world.queue.items < now.world.limit =
+      has-place now p f (below_top (stack now p)) l (topped (stack now p) (op.Queue (queue_op.Append f)) e) (good limit parties steps)
+      (placed limit parties steps) in
+      let free : (not now.world.queue.closed && ltb (length now.world.queue.items) now.world.limit) ≡ true =
+      ap (λ (x : Bool). not x && ltb (length now.world.queue.items) now.world.limit) c
+      ∙ (let z : ltb (length now.world.queue.items) now.world.limit ≡ true = grind (arith, nat_tests) in z) in
       ap (λ (x : Result Machine StepError). (stepped now x).world.queue) (step-made now (Go p h) r)
       ∙ (ap (λ (x : Option Op). (gone_on p now.world (stack now p) x (λ o. act p h o now.world)).world.queue) e
-      ∙ (settles p (act p h (op.Queue (queue_op.Append f)) now.world).world (below_top (stack now p) ++ reverse (act p h (op.Queue (queue_op.Append f)) now.world).next) _
+      ∙ (settles p (act p h (op.Queue (queue_op.Append f)) now.world).world
+      (below_top (stack now p) ++ reverse (act p h (op.Queue (queue_op.Append f)) now.world).next) _
       ∙ ap (λ (x : Bool). (append_by x now.world f).world.queue) free))
 
 pub counts-queueings : (limit parties : ℕ) (steps : List Step) → CountsQueueings limit parties steps
@@ -275,5 +328,6 @@ counts-queueings limit parties steps = record {
   most = queueings-most steps (start limit parties);
   new = refl;
   changes = λ few t. changes-by limit parties steps few t _ refl (by-step (run steps (start limit parties)) t);
-  appends = λ few p h f e c. later limit parties steps (Go p h) (appended (run steps (start limit parties)).world.queue f) 1 (appends-now limit parties steps p h f e c) (count-more (run steps (start limit parties)).world.queue.items f);
+  appends = λ few p h f e c. later limit parties steps (Go p h) (appended (run steps (start limit parties)).world.queue f) 1
+      (appends-now limit parties steps p h f e c) (count-more (run steps (start limit parties)).world.queue.items f);
 }

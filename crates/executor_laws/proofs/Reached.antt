@@ -15,12 +15,19 @@ use Rattle.executor_model.proofs.Resting.{Deep, deep}
 abbrev then : List Step → Result Machine StepError → Result Machine StepError
 then ts r = elim r [ Ok new ↦ run_all ts new | Err error ↦ Err error ]
 
-pub run-first : (t : Step) (ts : List Step) (s new : Machine) → run_all (t ∷ ts) s ≡ Ok new → (refusal s t ≡ None) × (run_all ts (after s t) ≡ Ok new)
+pub run-first : (t : Step) (ts : List Step) (s new : Machine) → run_all (t ∷ ts) s ≡ Ok new →
+    (refusal s t ≡ None) × (run_all ts (after s t) ≡ Ok new)
 run-first t ts s new e = go (refusal s t) refl
   where
     go : (r : Option StepError) → refusal s t ≡ r → (refusal s t ≡ None) × (run_all ts (after s t) ≡ Ok new)
     go None q = (q, sym (ap (then ts) (step-made s t q)) ∙ e)
-    go (Some error) q = let no : ◌≡◌ {A = Result Machine StepError} (Err error) (Ok new) = sym (ap (then ts) (step-refused s t error q)) ∙ e in absurd (cc)
+    go (Some error) q = let no : ◌≡◌ {A = Result Machine StepError} (Err error) (Ok new) = sym (ap (then ts) (step-refused s t error q))
+        ∙ e in absurd (cc)
+
+-- one possible step, and then others
+pub run-then : (t : Step) (ts : List Step) (s new : Machine) → refusal s t ≡ None → run_all ts (after s t) ≡ Ok new →
+    run_all (t ∷ ts) s ≡ Ok new
+run-then t ts s new e k = ap (then ts) (step-made s t e) ∙ k
 
 -- some steps of a new machine led here
 pub record Reached (s : Machine) : Type 0 where
@@ -47,6 +54,9 @@ reached-more ts s new r e = record {
   is = sym (run-of ts s new e) ∙ (ap (λ (m : Machine). run ts m) r.is ∙ sym (run-append r.steps ts (start r.limit r.parties)));
 }
 
+pub reached-step : (s : Machine) (t : Step) → refusal s t ≡ None → Reached s → Reached (after s t)
+reached-step s t e r = reached-more (t ∷ []) s (after s t) r (run-then t [] s (after s t) e refl)
+
 pub good-here : (s : Machine) → Reached s → Good s
 good-here s r = subst Good (sym r.is) (good r.limit r.parties r.steps)
 
@@ -55,7 +65,3 @@ heard-here s r = subst Heard (sym r.is) (heard r.limit r.parties r.steps)
 
 pub deep-here : (s : Machine) → Reached s → Deep s
 deep-here s r = subst Deep (sym r.is) (deep r.limit r.parties r.steps)
-
--- one possible step, and then others
-pub run-then : (t : Step) (ts : List Step) (s new : Machine) → refusal s t ≡ None → run_all ts (after s t) ≡ Ok new → run_all (t ∷ ts) s ≡ Ok new
-run-then t ts s new e k = ap (then ts) (step-made s t e) ∙ k

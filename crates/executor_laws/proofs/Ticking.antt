@@ -12,6 +12,7 @@ use Rattle.executor_model.specs.declared.op.Op.{Op}
 use Rattle.executor_model.specs.declared.op.Op.TheVariants as op
 use Rattle.task_moves.specs.declared.moves.owed.Move.TheVariants as move
 use Rattle.executor_model.specs.declared.op.QueueOp.TheVariants as queue_op
+use Rattle.executor_model.specs.declared.op.SleeperOp.TheVariants as sleeper_op
 use Rattle.executor_model.specs.declared.step.Hint.{Hint}
 use Rattle.executor_model.specs.declared.step.Step.{Step}
 use Rattle.executor_model.specs.declared.step.Step.TheVariants.{Begin, Go}
@@ -54,8 +55,25 @@ module _ (s : Machine) (fine : Good s) (h : Heard s) (d : Deep s) (rest : IsAtRe
   -- a future that is due has a Runnable in the queue
   pub due-queued : (f : ℕ) → IsDue f s.world.trace → 1 ≤ times f s.world.queue.items
   due-queued f due = ⊎_elim
-      (λ (x : (task s.world f).scheduled ≡ true). let t = (fine.sound f).owed x in omega (arith, t, none (waiting_of f), none (polls_of f), none (ending_of f), none (ready_of f), none (closing_of f), none (settling_of f), none (giving_of f)))
-      (λ (x : ((task s.world f).closed ≡ true) × (1 ≤ weigh_all (polls_of f) s.parties + (weigh_all (ending_of f) s.parties + weigh_all (drops_of f) s.parties))). absurd (omega (arith, x.1, none (polls_of f), none (ending_of f), none (drops_of f))))
+      (λ (x : (task s.world f).scheduled ≡ true). let t = (fine.sound f).owed x in omega (
+        arith,
+        t,
+        none (waiting_of f),
+        none (polls_of f),
+        none (ending_of f),
+        none (ready_of f),
+        none (closing_of f),
+        none (settling_of f),
+        none (giving_of f),
+      ))
+      (λ (x : ((task s.world f).closed ≡ true) × (1 ≤ weigh_all (polls_of f) s.parties +
+      (weigh_all (ending_of f) s.parties + weigh_all (drops_of f) s.parties))). absurd (omega (
+        arith,
+        x.1,
+        none (polls_of f),
+        none (ending_of f),
+        none (drops_of f),
+      )))
       ((h.asked f).due (sym (asked-is f s.world.trace) ∙ due.asked_for) (not-over f s.world.trace due.unready due.undropped))
 
   no-true : (a : Bool) → (a ≡ true → ⊥) → a ≡ false
@@ -70,7 +88,8 @@ module _ (s : Machine) (fine : Good s) (h : Heard s) (d : Deep s) (rest : IsAtRe
       let scheduled : (task s.world f).scheduled ≡ true = (fine.sound f).carries (omega (arith, k)) in
       record {
         accepted = q.accepted k;
-        undropped = no-true (has (is_dropped f) s.world.trace) (λ x. let no : true ≡ false = sym (q.undropped k x) ∙ rest.there in absurd (cc));
+        undropped = no-true (has (is_dropped f) s.world.trace) (λ x. let no : true ≡ false = sym (q.undropped k x)
+            ∙ rest.there in absurd (cc));
         unready = no-true (has (is_ready f) s.world.trace) (λ x. ⊎_elim
             (λ (c : (task s.world f).completed ≡ true). let no : true ≡ false = sym c ∙ live in absurd (cc))
             (λ (c : 1 ≤ weigh_all (ready_of f) s.parties). absurd (omega (arith, c, none (ready_of f))))
@@ -84,24 +103,29 @@ module _ (s : Machine) (fine : Good s) (h : Heard s) (d : Deep s) (rest : IsAtRe
 module _ (s : Machine) (p : ℕ) (l : p < length s.parties) (n : s.world.gone ≡ false) (e : stack s p ≡ []) where
   pub none-refused : refusal s (Begin p call.TryTick) ≡ None
   none-refused =
-      ap (λ (b : Bool). unless b NoSuch (begin_refusal s.world s.parties (top (stack s p)) call.TryTick)) (let z : nat_lt p (length s.parties) ≡ true = grind (arith, nat_tests) in z)
+      ap (λ (b : Bool). unless b NoSuch (begin_refusal s.world s.parties (top (stack s p)) call.TryTick))
+      (let z : nat_lt p (length s.parties) ≡ true = grind (arith, nat_tests) in z)
       ∙ (ap (λ (os : List Op). begin_refusal s.world s.parties (top os) call.TryTick) e
       ∙ ap (λ (b : Bool). unless (not (b && true)) Gone None) n)
 
   pub begun-alone : stepped s (step s (Begin p call.TryTick)) ≡ ticking s p
   unfolding step
-  begun-alone = ap (λ (x : Option StepError). stepped s (step_by x s (Begin p call.TryTick))) none-refused ∙ ap (λ (os : List Op). with_part s p (part_after s.world os (Begin p call.TryTick))) e
+  begun-alone = ap (λ (x : Option StepError). stepped s (step_by x s (Begin p call.TryTick))) none-refused
+      ∙ ap (λ (os : List Op). with_part s p (part_after s.world os (Begin p call.TryTick))) e
 
   pub taking : stack (ticking s p) p ≡ op.Queue queue_op.Take ∷ []
   taking = get_or-set_same s.parties p (op.Queue queue_op.Take ∷ []) [] l
 
   there : nat_lt p (length (ticking s p).parties) ≡ true
-  there = let m : p < length (set s.parties p (op.Queue queue_op.Take ∷ [])) = omega (arith, l, length-set s.parties p (op.Queue queue_op.Take ∷ [])) in grind (arith, nat_tests)
+  there = let m : p < length (set s.parties p (op.Queue queue_op.Take ∷ [])) =
+      omega (arith, l, length-set s.parties p (op.Queue queue_op.Take ∷ [])) in grind (arith, nat_tests)
 
   goes-on : (t : Hint) → refusal (ticking s p) (Go p t) ≡ None
-  goes-on t = ap (λ (b : Bool). unless b NoSuch (go_refusal (top (stack (ticking s p) p)))) there ∙ ap (λ (os : List Op). go_refusal (top os)) taking
+  goes-on t = ap (λ (b : Bool). unless b NoSuch (go_refusal (top (stack (ticking s p) p)))) there
+      ∙ ap (λ (os : List Op). go_refusal (top os)) taking
 
-  pub gone-on-alone : (t : Hint) (items : List ℕ) → s.world.queue.items ≡ items → run (ticks p t) s ≡ with_part (ticking s p) p (onto p (take_by (ticking s p).world items) [])
+  pub gone-on-alone : (t : Hint) (items : List ℕ) → s.world.queue.items ≡ items →
+      run (ticks p t) s ≡ with_part (ticking s p) p (onto p (take_by (ticking s p).world items) [])
   unfolding step
   gone-on-alone t items q =
       ap (λ (m : Machine). stepped m (step m (Go p t))) begun-alone
@@ -113,20 +137,30 @@ module _ (s : Machine) (p : ℕ) (l : p < length s.parties) (n : s.world.gone �
   placed-there os = get_or-set_same (ticking s p).parties p os [] (omega (arith, l, length-set s.parties p (op.Queue queue_op.Take ∷ [])))
 
   pub finds-nothing : (t : Hint) → s.world.queue.items ≡ [] → FindsNothing s p t
-  finds-nothing t q = ap (λ (m : Machine). m.world.trace) (gone-on-alone t [] q) ∙ append_assoc s.world.trace (event.CallBegun p call.TryTick ∷ []) (event.CallEnded p reply.No ∷ [])
+  finds-nothing t q = ap (λ (m : Machine). m.world.trace) (gone-on-alone t [] q)
+      ∙ append_assoc s.world.trace (event.CallBegun p call.TryTick ∷ []) (event.CallEnded p reply.No ∷ [])
 
-  finds-one : (t : Hint) (f : ℕ) (xs : List ℕ) → s.world.queue.items ≡ f ∷ xs → stack (run (ticks p t) s) p ≡ op.End reply.Yes hold.Executor ∷ op.Move move.TakeUp f ∷ []
-  finds-one t f xs q = ap (λ (m : Machine). stack m p) (gone-on-alone t (f ∷ xs) q) ∙ placed-there (op.End reply.Yes hold.Executor ∷ op.Move move.TakeUp f ∷ [])
+  finds-one : (t : Hint) (f : ℕ) (xs : List ℕ) → s.world.queue.items ≡ f ∷ xs →
+      stack (run (ticks p t) s) p ≡ op.End reply.Yes hold.Executor ∷ op.Move move.TakeUp f ∷ op.Sleeper sleeper_op.ExchangeFlag ∷ []
+  finds-one t f xs q = ap (λ (m : Machine). stack m p) (gone-on-alone t (f ∷ xs) q)
+      ∙ placed-there (op.End reply.Yes hold.Executor ∷ op.Move move.TakeUp f ∷ op.Sleeper sleeper_op.ExchangeFlag ∷ [])
 
   not-nothing : (t : Hint) (f : ℕ) (xs : List ℕ) → s.world.queue.items ≡ f ∷ xs → ¬ FindsNothing s p t
   not-nothing t f xs q z =
-      let short : (run (ticks p t) s).world.trace ≡ s.world.trace ++ event.CallBegun p call.TryTick ∷ [] = ap (λ (m : Machine). m.world.trace) (gone-on-alone t (f ∷ xs) q) in
-      absurd (omega (arith, ap length (sym short ∙ z), length-append s.world.trace (event.CallBegun p call.TryTick ∷ []), length-append s.world.trace (event.CallBegun p call.TryTick ∷ event.CallEnded p reply.No ∷ [])))
+      let short : (run (ticks p t) s).world.trace ≡ s.world.trace ++ event.CallBegun p call.TryTick ∷ [] =
+      ap (λ (m : Machine). m.world.trace) (gone-on-alone t (f ∷ xs) q) in
+      absurd (omega (
+        arith,
+        ap length (sym short ∙ z),
+        length-append s.world.trace (event.CallBegun p call.TryTick ∷ []),
+        length-append s.world.trace (event.CallBegun p call.TryTick ∷ event.CallEnded p reply.No ∷ []),
+      ))
 
 pub first-times : (f : ℕ) (xs : List ℕ) → 1 ≤ times f (f ∷ xs)
 first-times f xs = grind (arith, same_is)
 
-tick-answered : (s : Machine) → Good s → Heard s → Deep s → (r : IsAtRest s) → (p : ℕ) (t : Hint) → p < length s.parties → (items : List ℕ) → s.world.queue.items ≡ items → FindsNothing s p t ⊎ FindsDue s p t
+tick-answered : (s : Machine) → Good s → Heard s → Deep s → (r : IsAtRest s) → (p : ℕ) (t : Hint) → p < length s.parties →
+    (items : List ℕ) → s.world.queue.items ≡ items → FindsNothing s p t ⊎ FindsDue s p t
 tick-answered s fine h d r p t l [] q = inl (finds-nothing s p l (here s fine h d r) (idle s fine h d r p) t q)
 tick-answered s fine h d r p t l (f ∷ xs) q = inr record {
   future = f;
@@ -134,12 +168,16 @@ tick-answered s fine h d r p t l (f ∷ xs) q = inr record {
   found = finds-one s p l (here s fine h d r) (idle s fine h d r p) t f xs q;
 }
 
-tick-always : (s : Machine) → Good s → Heard s → Deep s → (r : IsAtRest s) → (p : ℕ) (t : Hint) → p < length s.parties → ((f : ℕ) → ¬ IsDue f s.world.trace) → (items : List ℕ) → s.world.queue.items ≡ items → FindsNothing s p t
+tick-always : (s : Machine) → Good s → Heard s → Deep s → (r : IsAtRest s) → (p : ℕ) (t : Hint) → p < length s.parties →
+    ((f : ℕ) → ¬ IsDue f s.world.trace) → (items : List ℕ) → s.world.queue.items ≡ items → FindsNothing s p t
 tick-always s fine h d r p t l k [] q = finds-nothing s p l (here s fine h d r) (idle s fine h d r p) t q
-tick-always s fine h d r p t l k (f ∷ xs) q = absurd (k f (queued-due s fine h d r f (subst (λ (ys : List ℕ). 1 ≤ times f ys) (sym q) (first-times f xs))))
+tick-always s fine h d r p t l k (f ∷ xs) q =
+    absurd (k f (queued-due s fine h d r f (subst (λ (ys : List ℕ). 1 ≤ times f ys) (sym q) (first-times f xs))))
 
-tick-only : (s : Machine) → Good s → Heard s → Deep s → (r : IsAtRest s) → (p : ℕ) (t : Hint) → p < length s.parties → FindsNothing s p t → (f : ℕ) → IsDue f s.world.trace → (items : List ℕ) → s.world.queue.items ≡ items → ⊥
-tick-only s fine h d r p t l z f due [] q = let k : 1 ≤ times f s.world.queue.items = due-queued s fine h d r f due in absurd (omega (arith, k, ap (times f) q))
+tick-only : (s : Machine) → Good s → Heard s → Deep s → (r : IsAtRest s) → (p : ℕ) (t : Hint) → p < length s.parties →
+    FindsNothing s p t → (f : ℕ) → IsDue f s.world.trace → (items : List ℕ) → s.world.queue.items ≡ items → ⊥
+tick-only s fine h d r p t l z f due [] q = let k : 1 ≤ times f s.world.queue.items = due-queued s fine h d r f due in
+    absurd (omega (arith, k, ap (times f) q))
 tick-only s fine h d r p t l z f due (g ∷ xs) q = not-nothing s p l (here s fine h d r) (idle s fine h d r p) t g xs q z
 
 tick-exact : (s : Machine) → Good s → Heard s → Deep s → IsTickExact s
@@ -150,4 +188,5 @@ tick-exact s fine h d = record {
 }
 
 pub ticks-exact : (limit parties : ℕ) (steps : List Step) → IsTickExact (run steps (start limit parties))
-ticks-exact limit parties steps = tick-exact (run steps (start limit parties)) (good limit parties steps) (heard limit parties steps) (deep limit parties steps)
+ticks-exact limit parties steps =
+    tick-exact (run steps (start limit parties)) (good limit parties steps) (heard limit parties steps) (deep limit parties steps)

@@ -3,7 +3,7 @@ use Rattle.std.specs.Prelude.{◌≡◌, ℕ, ◌==◌, Bool, [], ◌∷◌, ◌
 use Rattle.executor_model.specs.declared.call.Call.{Call}
 use Rattle.executor_model.specs.declared.call.Reply.TheVariants.{No}
 use Rattle.executor_model.specs.declared.event.Event.{Event}
-use Rattle.executor_model.specs.declared.event.Event.TheVariants.{CallBegun, CallEnded, Accepted, PollBegun, Answered, Woken, Cancelled, Detached, Dropped, OutputDropped, OutputGiven, HandlePolled, WakerCalled, DropBegun, DropEnded}
+use Rattle.executor_model.specs.declared.event.Event.TheVariants.{CallBegun, CallEnded, Accepted, PollBegun, Answered, Woken, Cancelled, Detached, Dropped, OutputDropped, OutputGiven, HandlePolled, WakerCalled, TickPolled, TickDropped, DropBegun, DropEnded}
 use Rattle.executor_model.specs.Trace.{Trace}
 
 -- who did it
@@ -20,7 +20,9 @@ doer (Dropped p f) = p
 doer (OutputDropped p f) = p
 doer (OutputGiven p f) = p
 doer (HandlePolled p f) = p
-doer (WakerCalled p f k w) = p
+doer (WakerCalled p o k w) = p
+doer (TickPolled p t) = p
+doer (TickDropped p t) = p
 doer (DropBegun p) = p
 doer (DropEnded p) = p
 

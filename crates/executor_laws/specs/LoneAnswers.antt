@@ -14,7 +14,8 @@ use Rattle.executor_laws.specs.Reach.{IsLoneCall}
 
 -- the call of party p is answered so, behind what it did
 abbrev pub IsAnswered : ℕ → Call → Reply → Machine → Machine → Type 0
-IsAnswered p c reply s new = (meanwhile : Trace) × (new.world.trace ≡ s.world.trace ++ CallBegun p c ∷ (meanwhile ++ CallEnded p reply ∷ []))
+IsAnswered p c reply s new =
+    (meanwhile : Trace) × (new.world.trace ≡ s.world.trace ++ CallBegun p c ∷ (meanwhile ++ CallEnded p reply ∷ []))
 
 -- a tick is answered yes or no, and no exactly where no future is common
 pub record IsLoneTickExact (s : Machine) : Type 0 where

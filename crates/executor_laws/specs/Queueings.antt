@@ -21,8 +21,8 @@ queueings (t ∷ ts) s = queued_by t s + queueings ts (stepped s (step s t))
 abbrev pub counting : ℕ → ClosableQueue ℕ → ClosableQueue ℕ
 counting n q = record q { accepted = Some n }
 
--- one change of a closable queue: none; an append where it is open, has room and may accept one more; a take of the first item, which is there;
--- a close
+-- one change of a closable queue: none; an append where it is open, has room and may accept one more; a take of the first
+-- item, which is there; a close
 pub data Changes (q new : ClosableQueue ℕ) : Type 0 where
   stays : new ≡ q → Changes q new
   appends : (f : ℕ) → q.closed ≡ false → HasRoom q → IsUnspent q → new ≡ appended q f → Changes q new
@@ -37,11 +37,14 @@ counted_after limit parties steps = counting (queueings steps (start limit parti
 abbrev pub AreFewQueueings : ℕ → ℕ → List Step → Type 0
 AreFewQueueings limit parties steps = queueings steps (start limit parties) < most_accepted
 
--- there are no more than steps; the queue of a new machine is a new queue that counts; each step changes it as a closable queue changes; and a Runnable that is to be appended is,
--- unless the queue is closed
+-- there are no more than steps; the queue of a new machine is a new queue that counts; each step changes it as a closable
+-- queue changes; and a Runnable that is to be appended is, unless the queue is closed
 pub record CountsQueueings (limit parties : ℕ) (steps : List Step) : Type 0 where
   pub most : queueings steps (start limit parties) ≤ length steps
   pub new : counted_after limit parties [] ≡ new_queue (Some limit) (Some 0)
-  pub changes : AreFewQueueings limit parties steps → (t : Step) → Changes (counted_after limit parties steps) (counted_after limit parties (steps ++ t ∷ []))
-  pub appends : AreFewQueueings limit parties steps → (p : ℕ) (h : Hint) (f : ℕ) → top (stack (run steps (start limit parties)) p) ≡ Some (op.Queue (queue_op.Append f)) →
-      (counted_after limit parties steps).closed ≡ false → counted_after limit parties (steps ++ Go p h ∷ []) ≡ appended (counted_after limit parties steps) f
+  pub changes : AreFewQueueings limit parties steps → (t : Step) →
+      Changes (counted_after limit parties steps) (counted_after limit parties (steps ++ t ∷ []))
+  pub appends : AreFewQueueings limit parties steps → (p : ℕ) (h : Hint) (f : ℕ) →
+      top (stack (run steps (start limit parties)) p) ≡ Some (op.Queue (queue_op.Append f)) →
+      (counted_after limit parties steps).closed ≡ false →
+      counted_after limit parties (steps ++ Go p h ∷ []) ≡ appended (counted_after limit parties steps) f

@@ -1,13 +1,15 @@
 -- How many more steps can be taken where no further call begins: a whole number that the machine's state determines.
-use Rattle.std.specs.Prelude.{◌≡◌, ℕ, ◌+◌, ◌*◌, ◌<◌, ◌≤◌, Bool, true, false, ◌&&◌, not, Option, Some, None, Ok, List, [], ◌∷◌, length, cond}
+use Rattle.std.specs.Prelude.{◌≡◌, ℕ, ◌+◌, ◌-◌, ◌*◌, ◌<◌, ◌≤◌, Bool, true, false, ◌&&◌, ◌||◌, not, Option, Some, None, Ok, List, [], ◌∷◌, length, cond}
+use Rattle.executor_parts.specs.Sleepers.{Sleepers}
 use Rattle.task_moves.specs.declared.moves.state.State.{State}
 use Rattle.executor_model.specs.declared.op.Awaiter.{Awaiter}
 use Rattle.executor_model.specs.declared.op.Op.{Op}
+use Rattle.executor_model.specs.declared.op.Sleeping.{Sleeping}
 use Rattle.executor_model.specs.declared.step.Hint.{Hint}
 use Rattle.executor_model.specs.declared.step.Step.{Step}
 use Rattle.executor_model.specs.declared.step.Step.TheVariants.{Begin, Go, Answer}
 use Rattle.executor_model.specs.declared.step.UserEnd.{UserEnd}
-use Rattle.executor_model.specs.World.{World}
+use Rattle.executor_model.specs.World.{World, Tick, Up, Lies, Left}
 use Rattle.executor_model.specs.Rows.{steps_of}
 use Rattle.executor_model.specs.Weights.{weigh_all}
 use Rattle.executor_model.specs.Steps.{Machine, stack, top, waits, refusal, after}
@@ -22,14 +24,43 @@ stored (Some a ∷ rest) = 1 + stored rest
 abbrev pub keeps_output : State → ℕ
 keeps_output s = cond (s.completed && not s.closed) 1 0
 
-abbrev pub outputs_kept : List State → ℕ
-outputs_kept [] = 0
-outputs_kept (s ∷ ss) = keeps_output s + outputs_kept ss
+-- how many more Runnables may be appended before the task is taken up again, where it is over or not, and scheduled or not: one
+-- by a wake, where it isn't scheduled, and one by who closes it
+abbrev pub appends_by : Bool → Bool → ℕ
+appends_by over scheduled = cond over 0 (cond scheduled 1 2)
+
+abbrev pub appends_left : State → ℕ
+appends_left s = appends_by (s.completed || s.closed) s.scheduled
+
+-- the steps that a task may lead to: those of its output's drop, and of its appends
+abbrev pub steps_of_task : State → ℕ
+steps_of_task s = 3 * keeps_output s + 43 * appends_left s
+
+abbrev pub steps_of_tasks : List State → ℕ
+steps_of_tasks [] = 0
+steps_of_tasks (s ∷ ss) = steps_of_task s + steps_of_tasks ss
+
+-- how many sleepers were notified, and have no waker in the list: one that lies down again then searches once more
+abbrev pub notified_of : Sleepers Sleeping → ℕ
+notified_of s = s.count - length s.wakers
+
+-- how many ticks are up: one that lies down searches once more
+abbrev pub up_of : Tick → ℕ
+up_of Up = 1
+up_of (Lies n) = 0
+up_of Left = 0
+
+abbrev pub ups : List Tick → ℕ
+ups [] = 0
+ups (t ∷ ts) = up_of t + ups ts
 
 -- the steps that what the machine keeps may lead to: its Runnables, entries of the table, wakers of the executor's drop,
--- stored awaiters and outputs
+-- stored awaiters, tasks, sleepers and ticks
 unfoldable pub steps_kept : World → ℕ
-steps_kept w = 11 * length w.queue.items + (28 * (length w.table + length w.leaving) + (26 * length w.waking + (26 * stored w.awaiters + 3 * outputs_kept w.tasks)))
+steps_kept w =
+    11 * length w.queue.items
+    + (28 * (length w.table + length w.leaving)
+    + (26 * length w.waking + (26 * stored w.awaiters + (steps_of_tasks w.tasks + (3 * notified_of w.sleepers + 3 * ups w.ticks)))))
 
 abbrev pub remaining : Machine → ℕ
 remaining s = steps_kept s.world + weigh_all steps_of s.parties
@@ -48,9 +79,15 @@ are_onward (t ∷ ts) = is_onward t && are_onward ts
 abbrev pub LowersRemaining : Machine → Step → Type 0
 LowersRemaining s t = is_onward t ≡ true → refusal s t ≡ None → remaining (after s t) < remaining s
 
+abbrev pub EachStepLowers : Machine → Type 0
+EachStepLowers s = (t : Step) → LowersRemaining s t
+
 -- so as many such steps as that are taken at most, whoever takes them
 abbrev pub EndsWithin : Machine → List Step → Type 0
 EndsWithin s ts = (new : Machine) → are_onward ts ≡ true → run_all ts s ≡ Ok new → length ts ≤ remaining s
+
+abbrev pub EachListEnds : Machine → Type 0
+EachListEnds s = (ts : List Step) → EndsWithin s ts
 
 -- a party that has something to do can go on: by a Go, or, where it is in user code, by that code's answer
 pub record CanGoOn (s : Machine) (p : ℕ) (o : Op) : Type 0 where

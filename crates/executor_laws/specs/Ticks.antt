@@ -5,6 +5,7 @@ use Rattle.executor_model.specs.declared.call.Reply.TheVariants.{Yes, No}
 use Rattle.executor_model.specs.declared.event.Event.TheVariants.{CallBegun, CallEnded}
 use Rattle.executor_model.specs.declared.op.Hold.TheVariants as hold
 use Rattle.executor_model.specs.declared.op.Op.TheVariants as op
+use Rattle.executor_model.specs.declared.op.SleeperOp.TheVariants as sleeper_op
 use Rattle.task_moves.specs.declared.moves.owed.Move.TheVariants as move
 use Rattle.executor_model.specs.declared.step.Hint.{Hint}
 use Rattle.executor_model.specs.declared.step.Step.{Step}
@@ -21,11 +22,11 @@ ticks p h = Begin p TryTick ∷ Go p h ∷ []
 abbrev pub FindsNothing : Machine → ℕ → Hint → Type 0
 FindsNothing s p h = (run (ticks p h) s).world.trace ≡ s.world.trace ++ CallBegun p TryTick ∷ CallEnded p No ∷ []
 
--- it has found a future that is due, takes it up next, and will be answered that it did
+-- it has found a future that is due, tells a sleeper next, then takes the future up, and will be answered that it did
 pub record FindsDue (s : Machine) (p : ℕ) (h : Hint) : Type 0 where
   pub future : ℕ
   pub due : IsDue future s.world.trace
-  pub found : stack (run (ticks p h) s) p ≡ op.End Yes hold.Executor ∷ op.Move move.TakeUp future ∷ []
+  pub found : stack (run (ticks p h) s) p ≡ op.End Yes hold.Executor ∷ op.Move move.TakeUp future ∷ op.Sleeper sleeper_op.ExchangeFlag ∷ []
 
 -- where no call is in progress and the drop of the executor hasn't begun, a tick finds nothing exactly where no future is due
 pub record IsTickExact (s : Machine) : Type 0 where

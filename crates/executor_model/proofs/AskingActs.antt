@@ -12,13 +12,16 @@ use Rattle.executor_model.specs.declared.op.Awaiter.{Awaiter}
 use Rattle.executor_model.specs.declared.op.Waker.{Waker}
 use Rattle.executor_model.specs.declared.op.Waker.TheVariants.{Task, Outside}
 use Rattle.executor_model.specs.declared.op.Hold.{Hold}
+use Rattle.executor_model.specs.declared.op.Polled.TheVariants as of
 use Rattle.executor_model.specs.declared.op.Op.{Op}
 use Rattle.executor_model.specs.declared.op.Op.TheVariants as op
 use Rattle.executor_model.specs.declared.op.ClosingOp.TheVariants as closing_op
 use Rattle.executor_model.specs.declared.op.HandleOp.TheVariants as handle_op
 use Rattle.task_moves.specs.declared.moves.owed.Move.TheVariants as move
 use Rattle.executor_model.specs.declared.op.QueueOp.TheVariants as queue_op
+use Rattle.executor_model.specs.declared.op.SleeperOp.TheVariants as sleeper_op
 use Rattle.executor_model.specs.declared.op.TableOp.TheVariants as table_op
+use Rattle.executor_model.specs.declared.op.TickOp.TheVariants as tick_op
 use Rattle.executor_model.specs.declared.op.UserOp.TheVariants as user_op
 use Rattle.executor_model.specs.declared.op.WakerOp.TheVariants as waker_op
 use Rattle.executor_model.specs.declared.step.Hint.{Hint}
@@ -37,6 +40,7 @@ use Rattle.executor_model.proofs.Counting.{settling, readied, pended, ending, dr
 use Rattle.executor_model.proofs.Stories.{among_is}
 use Rattle.executor_model.proofs.Asking.{KeepsAsked}
 use Rattle.executor_model.proofs.Requests.{request-push}
+use Rattle.executor_model.proofs.SleepersAsking.{asked-exchange, asked-hand_out, asked-call_sleeper, asked-make_tick, asked-search, asked-copy_sleeper, asked-lie_down, asked-get_up, asked-leave_sleepers}
 
 wrong : (a b : Bool) → a ≡ true → (a || b) ≡ false → ⊥
 wrong true b e q = absurd (cc)
@@ -181,7 +185,7 @@ asked-wake = by_bool _
     (λ p w f m e q i g r bb h. grind (arith, same_is, read_put, length-set, request-push, phase-push))
     (λ p w f m e q i g r bb h. let k : IsUnmarked (task w f) = unmarked (task w f) e in grind (arith, same_is, read_put, length-set, request-push, phase-push))))
 
-asked-call_task : (o b c : Bool) (p e : ℕ) (k : ℕ) (w : World) (f : ℕ) → moves.is_over (task w f) ≡ o → (moves.is_over (task w f) || (task w f).scheduled) ≡ b → (task w f).running ≡ c → f < length w.tasks → KeepsAsked w (op.Waker (waker_op.CallAwaiter e (Task f) k) ∷ []) (woken_by o b c p (log w (event.WakerCalled p e k (Task f))) f)
+asked-call_task : (o b c : Bool) (p e : ℕ) (k : ℕ) (w : World) (f : ℕ) → moves.is_over (task w f) ≡ o → (moves.is_over (task w f) || (task w f).scheduled) ≡ b → (task w f).running ≡ c → f < length w.tasks → KeepsAsked w (op.Waker (waker_op.CallAwaiter e (Task f) k) ∷ []) (woken_by o b c p (log w (event.WakerCalled p (of.Handle e) k (Task f))) f)
 asked-call_task = by_bool _
     (by_bool _
     (λ c p e k w f m d q i g r bb h. grind (arith, same_is, read_put, length-set, request-push, phase-push))
@@ -453,6 +457,15 @@ asked-act p h (op.Handle (handle_op.LookAgain f)) w n u z m = asked-again _ _ _ 
 asked-act p h (op.Handle (handle_op.Notify f mine)) w n u z m = asked-notify _ mine w f (own _ f (op.Handle (handle_op.Notify f mine)) (omega arith) z)
 asked-act p h (op.Handle (handle_op.EndNotify f mine)) w n u z m = (let i : f < length w.tasks = own _ f (op.Handle (handle_op.EndNotify f mine)) (omega arith) z in asked-end_notify _ _ mine w f refl i (omega (arith, i, n)))
 asked-act p h (op.Waker (waker_op.CallAwaiter f a k)) w n u z m = asked-call p w f a k (omega (arith, z))
+asked-act p h (op.Sleeper sleeper_op.ExchangeFlag) w n u z m = asked-exchange _ w
+asked-act p h (op.Sleeper sleeper_op.HandOut) w n u z m = asked-hand_out _ _ w
+asked-act p h (op.Sleeper (sleeper_op.CallSleeper s)) w n u z m = asked-call_sleeper p s.tick s.poll s.waker w (known_waker w s.waker 0 (omega (arith, z)))
+asked-act p h (op.Tick tick_op.MakeTick) w n u z m = asked-make_tick _ w
+asked-act p h (op.Tick (tick_op.Search s)) w n u z m = asked-search _ _ w s refl
+asked-act p h (op.Tick (tick_op.CopyWaker s)) w n u z m = asked-copy_sleeper _ s.waker s.tick s.poll w (known_waker w s.waker 0 (omega (arith, z)))
+asked-act p h (op.Tick (tick_op.LieDown s)) w n u z m = asked-lie_down _ w s
+asked-act p h (op.Tick (tick_op.GetUp t f)) w n u z m = asked-get_up _ w t f
+asked-act p h (op.Tick (tick_op.Leave t)) w n u z m = asked-leave_sleepers _ w t
 asked-act p h (op.Closing closing_op.TakeOut) w n u z m = asked-take_out _ _ w refl
 asked-act p h (op.Closing closing_op.DropNext) w n u z m = asked-drop_first p w _ refl
 asked-act p h (op.Closing closing_op.WakeNext) w n u z m = asked-wake_first p w _ refl (first_known w u)

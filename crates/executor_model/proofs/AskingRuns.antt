@@ -10,12 +10,14 @@ use Rattle.executor_model.specs.declared.event.Event.TheVariants as event
 use Rattle.executor_model.specs.declared.op.Hold.{Hold}
 use Rattle.executor_model.specs.declared.op.Hold.TheVariants as hold
 use Rattle.executor_model.specs.declared.op.Op.{Op}
+use Rattle.executor_model.specs.declared.op.Sleeping.{Sleeping}
 use Rattle.executor_model.specs.declared.op.Op.TheVariants as op
 use Rattle.executor_model.specs.declared.op.ClosingOp.TheVariants as closing_op
 use Rattle.executor_model.specs.declared.op.HandleOp.TheVariants as handle_op
 use Rattle.task_moves.specs.declared.moves.owed.Move.TheVariants as move
 use Rattle.executor_model.specs.declared.op.QueueOp.TheVariants as queue_op
 use Rattle.executor_model.specs.declared.op.TableOp.TheVariants as table_op
+use Rattle.executor_model.specs.declared.op.TickOp.TheVariants as tick_op
 use Rattle.executor_model.specs.declared.op.UserOp.TheVariants as user_op
 use Rattle.executor_model.specs.declared.op.WakerOp.TheVariants as waker_op
 use Rattle.executor_model.specs.declared.step.Step.{Step}
@@ -105,6 +107,15 @@ asks-take w p c g r bb h = grind (arith, request-push, phase-push)
 asks-look : (w : World) (p : ℕ) (c : Call) → KeepsAsked w [] (done (log w (event.CallBegun p c)) (op.Table table_op.LookAtTable ∷ []))
 asks-look w p c g r bb h = grind (arith, request-push, phase-push)
 
+asks-make : (w : World) (p : ℕ) → KeepsAsked w [] (done (log w (event.CallBegun p call.NewTick)) (op.Tick tick_op.MakeTick ∷ []))
+asks-make w p g r bb h = grind (arith, request-push, phase-push)
+
+asks-search : (w : World) (p : ℕ) (c : Call) (t : ℕ) (x : Sleeping) → KeepsAsked w [] (done (log (log w (event.CallBegun p c)) (event.TickPolled p t)) (op.Tick (tick_op.Search x) ∷ []))
+asks-search w p c t x g r bb h = grind (arith, request-push, phase-push)
+
+asks-leave : (w : World) (p : ℕ) (c : Call) (t : ℕ) → KeepsAsked w [] (done (log (log w (event.CallBegun p c)) (event.TickDropped p t)) (op.Tick (tick_op.Leave t) ∷ []))
+asks-leave w p c t g r bb h = grind (arith, request-push, phase-push)
+
 asks-wake : (w : World) (p k f : ℕ) (c : Call) → KeepsAsked w [] (done (used_up (log w (event.CallBegun p c)) k) (op.Move move.Wake f ∷ op.End reply.Done hold.Nothing ∷ []))
 asks-wake w p k f c g r bb h = grind (arith, request-push, phase-push)
 
@@ -131,6 +142,9 @@ asks w p here (call.PollHandle f b) = asks-list w p (call.PollHandle f b) (op.Ha
 asks w p here (call.Cancel f) = asks-list w p (call.Cancel f) (op.Move move.Cancel f ∷ op.End reply.Done (hold.Handle f) ∷ []) (λ g r. refl)
 asks w p here (call.Detach f) = asks-list w p (call.Detach f) (op.Move move.Detach f ∷ op.End reply.Done (hold.Handle f) ∷ []) (λ g r. refl)
 asks w p here (call.DropHandle f) = asks-list w p (call.DropHandle f) (op.Move move.Cancel f ∷ op.Move move.Detach f ∷ op.End reply.Done (hold.Handle f) ∷ []) (λ g r. refl)
+asks w p here call.NewTick = asks-make w p
+asks w p here (call.PollTick t b) = asks-search w p (call.PollTick t b) t (record { waker = waker_of here b; tick = t; poll = length (log w (event.CallBegun p (call.PollTick t b))).trace })
+asks w p here (call.DropTick t) = asks-leave w p (call.DropTick t) t
 asks w p here call.DropExecutor = asks-drop w p call.DropExecutor
 
 -- every step

@@ -8,6 +8,7 @@ use Rattle.executor_model.specs.declared.event.Event.{Event}
 use Rattle.executor_model.specs.declared.event.Event.TheVariants as event
 use Rattle.executor_model.specs.declared.op.Awaiter.{Awaiter}
 use Rattle.executor_model.specs.declared.op.Hold.TheVariants as hold
+use Rattle.executor_model.specs.declared.op.Polled.TheVariants as of
 use Rattle.executor_model.specs.declared.op.Op.{Op}
 use Rattle.executor_model.specs.declared.op.Op.TheVariants as op
 use Rattle.executor_model.specs.declared.op.HandleOp.TheVariants as handle_op
@@ -53,7 +54,7 @@ abbrev pub hears : ℕ → ℕ → Event → Heard → Heard
 hears g n (event.HandlePolled p f) s = cond (g == f) (record s { poll = n; party = p; asking = true; inner = 0; pending = false; called = false }) s
 hears g n (event.CallBegun p c) s = record s { inner = s.inner + cond s.asking (same s.party p) 0; parted = cond (takes_handle g (event.CallBegun p c)) true s.parted }
 hears g n (event.CallEnded p r) s = cond (s.asking && (s.party == p)) (ended_in s.inner r s) s
-hears g n (event.WakerCalled p f k a) s = record s { called = cond (g == f) (cond (s.poll == k) true s.called) s.called }
+hears g n (event.WakerCalled p (of.Handle f) k a) s = record s { called = cond (g == f) (cond (s.poll == k) true s.called) s.called }
 hears g n (event.Dropped p f) s = record s { dropped = cond (g == f) true s.dropped }
 hears g n _ s = s
 

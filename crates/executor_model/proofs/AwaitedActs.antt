@@ -12,6 +12,7 @@ use Rattle.executor_model.specs.declared.op.Awaiter.{Awaiter}
 use Rattle.executor_model.specs.declared.op.Waker.{Waker}
 use Rattle.executor_model.specs.declared.op.Waker.TheVariants.{Task, Outside}
 use Rattle.executor_model.specs.declared.op.Hold.{Hold}
+use Rattle.executor_model.specs.declared.op.Polled.TheVariants as of
 use Rattle.executor_model.specs.declared.op.Op.{Op}
 use Rattle.executor_model.specs.declared.op.Op.TheVariants as op
 use Rattle.executor_model.specs.declared.op.ClosingOp.TheVariants as closing_op
@@ -21,13 +22,9 @@ use Rattle.executor_model.specs.declared.op.QueueOp.TheVariants as queue_op
 use Rattle.executor_model.specs.declared.op.TableOp.TheVariants as table_op
 use Rattle.executor_model.specs.declared.op.UserOp.TheVariants as user_op
 use Rattle.executor_model.specs.declared.op.WakerOp.TheVariants as waker_op
-use Rattle.executor_model.specs.declared.step.Hint.{Hint}
-use Rattle.executor_model.specs.declared.step.UserEnd.{UserEnd}
-use Rattle.executor_model.specs.declared.step.UserEnd.TheVariants as end
-use Rattle.executor_model.specs.Steps.{accepts, react}
 use Rattle.executor_model.specs.World.{World, Done, done, log, log_if, task, awaiter_of, among}
 use Rattle.executor_model.specs.Carried.{carried}
-use Rattle.executor_model.specs.Acts.{append_by, take_by, enter_by, take_to_poll, put_back, take_to_drop, leave_by, begin_drop, begin_drop_output, copy_by, polled, look_by, look_again_by, is_copy_refused, copy_awaiter_by, register_by, end_register_by, notify_by, call_awaiter, closing_ops, drop_next_by, wake_next_by, close, drain_by, act}
+use Rattle.executor_model.specs.Acts.{append_by, take_by, enter_by, take_to_poll, put_back, take_to_drop, leave_by, begin_drop, begin_drop_output, copy_by, polled, look_by, look_again_by, copy_awaiter_by, register_by, end_register_by, notify_by, call_awaiter, closing_ops, drop_next_by, wake_next_by, close, drain_by}
 use Rattle.executor_model.specs.Weights.{same, weigh, past, waker_past}
 use Rattle.executor_model.specs.Good.{pasts, IsKnownWaker}
 use Rattle.executor_model.specs.Rows.{past_of}
@@ -36,68 +33,67 @@ use Rattle.executor_model.proofs.Cases.{by_bool, by_list, by_waker}
 use Rattle.executor_model.proofs.Marks.{IsUnmarked, unmarked, IsMarked, marked, IsGoing, going, IsIdle, idle, last-one, IsUnheld, unheld}
 use Rattle.executor_model.proofs.Lists.{with_ops-closing, read_put, fresh_is, read_push, past_is, same_is, times-append, times-drop}
 use Rattle.executor_model.proofs.Counting.{settling, readied, pended, ending, dropping, taken_up, woken, woken_by, cancel_going, cancel_idle, cancel_over, detached, stays_so, gives, waits_on, end_registered, end_notified, next_woken}
-use Rattle.executor_model.proofs.Calls.{is_end}
-use Rattle.executor_model.proofs.Awaited.{heard, heard-push, Awaiting, with_awaiting, with_awaiting-closing, Footing, Awaits, Mark, KeepsBy, KeepsAwaits, asks_if, kept_at, kept_put, kept_push}
+use Rattle.executor_model.proofs.Awaited.{heard, heard-push, Awaiting, with_awaiting, with_awaiting-closing, Footing, Awaits, KeepsBy, KeepsAwaits, asks_if, kept_at, kept_put, kept_push}
 
-awaits-append : (b : Bool) (w : World) (f : ℕ) → KeepsAwaits w (op.Queue (queue_op.Append f) ∷ []) (append_by b w f)
+pub awaits-append : (b : Bool) (w : World) (f : ℕ) → KeepsAwaits w (op.Queue (queue_op.Append f) ∷ []) (append_by b w f)
 awaits-append = by_bool _
     (λ w f g r yy mm bb h. grind (arith, same_is, times-append))
     (λ w f g r yy mm bb h. grind (arith, same_is))
 
-awaits-take : (q : List ℕ) (w : World) → w.queue.items ≡ q → KeepsAwaits w (op.Queue queue_op.Take ∷ []) (take_by w q)
+pub awaits-take : (q : List ℕ) (w : World) → w.queue.items ≡ q → KeepsAwaits w (op.Queue queue_op.Take ∷ []) (take_by w q)
 awaits-take = by_list _
     (λ w e g r yy mm bb h. grind arith)
     (λ f rest w e g r yy mm bb h. let z : same g f + times g (drop 1 w.queue.items) ≡ times g w.queue.items = times-drop g f rest w.queue.items e in grind (arith, same_is))
 
-awaits-enter : (b c : Bool) (p : ℕ) (w : World) → length w.awaiters ≡ length w.tasks → KeepsAwaits w (op.Table table_op.Enter ∷ []) (enter_by b c p w)
+pub awaits-enter : (b c : Bool) (p : ℕ) (w : World) → length w.awaiters ≡ length w.tasks → KeepsAwaits w (op.Table table_op.Enter ∷ []) (enter_by b c p w)
 awaits-enter = by_bool _
     (λ c p w l g r yy mm bb h. grind arith)
     (by_bool _
     (λ p w l g r yy mm bb h. grind arith)
     (λ p w l g r yy mm bb h. grind (arith, same_is, fresh_is, read_push, kept_push, times-append, length-append, heard-push)))
 
-awaits-take_to_poll : (w : World) (f : ℕ) → KeepsAwaits w (op.Table (table_op.TakeToPoll f) ∷ []) (take_to_poll w f)
+pub awaits-take_to_poll : (w : World) (f : ℕ) → KeepsAwaits w (op.Table (table_op.TakeToPoll f) ∷ []) (take_to_poll w f)
 awaits-take_to_poll w f g r yy mm bb h = grind (arith, same_is)
 
-awaits-put_back : (w : World) (f : ℕ) → KeepsAwaits w (op.Table (table_op.PutBack f) ∷ []) (put_back w f)
+pub awaits-put_back : (w : World) (f : ℕ) → KeepsAwaits w (op.Table (table_op.PutBack f) ∷ []) (put_back w f)
 awaits-put_back w f g r yy mm bb h = grind (arith, same_is)
 
-awaits-take_to_drop : (w : World) (f : ℕ) → KeepsAwaits w (op.Table (table_op.TakeToDrop f) ∷ []) (take_to_drop w f)
+pub awaits-take_to_drop : (w : World) (f : ℕ) → KeepsAwaits w (op.Table (table_op.TakeToDrop f) ∷ []) (take_to_drop w f)
 awaits-take_to_drop w f g r yy mm bb h = grind (arith, same_is)
 
-awaits-leave : (b : Bool) (w : World) (f : ℕ) → among f w.table ≡ b → KeepsAwaits w (op.Table (table_op.LeaveTable f) ∷ []) (leave_by b w f)
+pub awaits-leave : (b : Bool) (w : World) (f : ℕ) → among f w.table ≡ b → KeepsAwaits w (op.Table (table_op.LeaveTable f) ∷ []) (leave_by b w f)
 awaits-leave = by_bool _
     (λ w f e g r yy mm bb h. grind (arith, same_is))
     (λ w f e g r yy mm bb h. h)
 
-awaits-begin_drop : (p : ℕ) (w : World) (f : ℕ) → KeepsAwaits w (op.User (user_op.BeginDrop f) ∷ []) (begin_drop p w f)
+pub awaits-begin_drop : (p : ℕ) (w : World) (f : ℕ) → KeepsAwaits w (op.User (user_op.BeginDrop f) ∷ []) (begin_drop p w f)
 awaits-begin_drop p w f g r yy mm bb h = grind (arith, same_is, heard-push)
 
-awaits-begin_drop_output : (p : ℕ) (w : World) (f : ℕ) → KeepsAwaits w (op.User (user_op.BeginDropOutput f) ∷ []) (begin_drop_output p w f)
+pub awaits-begin_drop_output : (p : ℕ) (w : World) (f : ℕ) → KeepsAwaits w (op.User (user_op.BeginDropOutput f) ∷ []) (begin_drop_output p w f)
 awaits-begin_drop_output p w f g r yy mm bb h = grind (arith, heard-push)
 
 -- the moves of a task, by what they find
 
-awaits-release : (b c : Bool) (w : World) (f : ℕ) → moves.is_last (task w f) ≡ b → moves.is_over (task w f) ≡ c → f < length w.tasks → KeepsAwaits w (op.Move move.Release f ∷ []) (carried w f (moves.release_by b c (task w f)))
+pub awaits-release : (b c : Bool) (w : World) (f : ℕ) → moves.is_last (task w f) ≡ b → moves.is_over (task w f) ≡ c → f < length w.tasks → KeepsAwaits w (op.Move move.Release f ∷ []) (carried w f (moves.release_by b c (task w f)))
 awaits-release = by_bool _
     (by_bool _
     (λ w f e q i g r yy mm bb h. let z : (task w f).references ≡ 1 = last-one (task w f) e in grind (arith, same_is, read_put, length-set))
     (λ w f e q i g r yy mm bb h. let z : (task w f).references ≡ 1 = last-one (task w f) e in let c : (task w f).completed ≡ false = grind (arith, nat_tests) in grind (arith, same_is, read_put, length-set)))
     (λ c w f e q i g r yy mm bb h. grind (arith, same_is, read_put, length-set))
 
-awaits-settle_closed : (a : Bool) (w : World) (f : ℕ) → (task w f).awaiter ≡ a → f < length w.tasks → KeepsAwaits w (op.Move move.SettleClosed f ∷ []) (settling a w f)
+pub awaits-settle_closed : (a : Bool) (w : World) (f : ℕ) → (task w f).awaiter ≡ a → f < length w.tasks → KeepsAwaits w (op.Move move.SettleClosed f ∷ []) (settling a w f)
 awaits-settle_closed = by_bool _
     (λ w f n i g r yy mm bb h. grind (arith, same_is, read_put, length-set))
     (λ w f n i g r yy mm bb h. grind (arith, same_is, read_put, length-set))
 
-awaits-give_up : (b : Bool) (w : World) (f : ℕ) → moves.is_last (task w f) ≡ b → f < length w.tasks → KeepsAwaits w (op.Move move.GiveUp f ∷ []) (carried w f (moves.give_up_by b (task w f)))
+pub awaits-give_up : (b : Bool) (w : World) (f : ℕ) → moves.is_last (task w f) ≡ b → f < length w.tasks → KeepsAwaits w (op.Move move.GiveUp f ∷ []) (carried w f (moves.give_up_by b (task w f)))
 awaits-give_up = by_bool _
     (λ w f e i g r yy mm bb h. let z : (task w f).references ≡ 1 = last-one (task w f) e in grind (arith, same_is, read_put, length-set))
     (λ w f e i g r yy mm bb h. grind (arith, same_is, read_put, length-set))
 
 -- by whether the output is unwanted, and whether there is an awaiter
 
-awaits-end_ready : (u a : Bool) (w : World) (f : ℕ) → ((task w f).closed || not (task w f).handle) ≡ u → (task w f).awaiter ≡ a → f < length w.tasks → KeepsAwaits w (op.Move move.EndReady f ∷ []) (readied u a w f)
+pub awaits-end_ready : (u a : Bool) (w : World) (f : ℕ) → ((task w f).closed || not (task w f).handle) ≡ u → (task w f).awaiter ≡ a → f < length w.tasks → KeepsAwaits w (op.Move move.EndReady f ∷ []) (readied u a w f)
 awaits-end_ready = by_bool _
     (by_bool _
     (λ w f e n i g r yy mm bb h. grind (arith, same_is, read_put, length-set))
@@ -108,7 +104,7 @@ awaits-end_ready = by_bool _
 
 -- by whether it is closed, scheduled, its reference the last, and its entry in the table
 
-awaits-end_pending : (x s l there : Bool) (w : World) (f : ℕ) → (task w f).closed ≡ x → (task w f).scheduled ≡ s → moves.is_last (task w f) ≡ l → among f w.table ≡ there → f < length w.tasks → KeepsAwaits w (op.Move move.EndPending f ∷ []) (pended x s l there w f)
+pub awaits-end_pending : (x s l there : Bool) (w : World) (f : ℕ) → (task w f).closed ≡ x → (task w f).scheduled ≡ s → moves.is_last (task w f) ≡ l → among f w.table ≡ there → f < length w.tasks → KeepsAwaits w (op.Move move.EndPending f ∷ []) (pended x s l there w f)
 awaits-end_pending = by_bool _
     (λ s l. by_bool _
     (λ w f e q k m i g r yy mm bb h. grind (arith, same_is, read_put, length-set))
@@ -121,14 +117,14 @@ awaits-end_pending = by_bool _
     (λ w f e q k m i g r yy mm bb h. let z : (task w f).references ≡ 1 = last-one (task w f) k in grind (arith, same_is, read_put, length-set)))
     (λ there w f e q k m i g r yy mm bb h. grind (arith, same_is, read_put, length-set))))
 
-awaits-end_closed : (a : Bool) (w : World) (f : ℕ) → (task w f).awaiter ≡ a → f < length w.tasks → KeepsAwaits w (op.Move move.EndClosed f ∷ []) (ending a w f)
+pub awaits-end_closed : (a : Bool) (w : World) (f : ℕ) → (task w f).awaiter ≡ a → f < length w.tasks → KeepsAwaits w (op.Move move.EndClosed f ∷ []) (ending a w f)
 awaits-end_closed = by_bool _
     (λ w f n i g r yy mm bb h. grind (arith, same_is, read_put, length-set))
     (λ w f n i g r yy mm bb h. grind (arith, same_is, read_put, length-set))
 
 -- by whether its entry is in the table
 
-awaits-drop_runnable : (c there : Bool) (w : World) (f : ℕ) → ((task w f).closed || not (task w f).completed) ≡ c → among f w.table ≡ there → f < length w.tasks → KeepsAwaits w (op.Move move.DropRunnable f ∷ []) (dropping c there w f)
+pub awaits-drop_runnable : (c there : Bool) (w : World) (f : ℕ) → ((task w f).closed || not (task w f).completed) ≡ c → among f w.table ≡ there → f < length w.tasks → KeepsAwaits w (op.Move move.DropRunnable f ∷ []) (dropping c there w f)
 awaits-drop_runnable = by_bool _
     (by_bool _
     (λ w f e m i g r yy mm bb h. grind (arith, nat_tests, same_is, read_put, length-set))
@@ -139,7 +135,7 @@ awaits-drop_runnable = by_bool _
 
 -- by whether it is closed, and its entry in the table
 
-awaits-take_up : (b there : Bool) (p : ℕ) (w : World) (f : ℕ) → (task w f).closed ≡ b → among f (log_if (not b) w (event.PollBegun p f)).table ≡ there → f < length w.tasks → KeepsAwaits w (op.Move move.TakeUp f ∷ []) (taken_up b there p w f)
+pub awaits-take_up : (b there : Bool) (p : ℕ) (w : World) (f : ℕ) → (task w f).closed ≡ b → among f (log_if (not b) w (event.PollBegun p f)).table ≡ there → f < length w.tasks → KeepsAwaits w (op.Move move.TakeUp f ∷ []) (taken_up b there p w f)
 awaits-take_up = by_bool _
     (by_bool _
     (λ p w f e m i g r yy mm bb h. grind (arith, same_is, read_put, length-set))
@@ -148,7 +144,7 @@ awaits-take_up = by_bool _
 
 -- by whether it is over, over or scheduled, and running
 
-awaits-wake_by_reference : (o b c : Bool) (p : ℕ) (w : World) (f : ℕ) → (moves.is_over (task w f) || (task w f).scheduled) ≡ b → (task w f).running ≡ c → f < length w.tasks → KeepsAwaits w (op.Move move.WakeByReference f ∷ []) (woken o b c p w f)
+pub awaits-wake_by_reference : (o b c : Bool) (p : ℕ) (w : World) (f : ℕ) → (moves.is_over (task w f) || (task w f).scheduled) ≡ b → (task w f).running ≡ c → f < length w.tasks → KeepsAwaits w (op.Move move.WakeByReference f ∷ []) (woken o b c p w f)
 awaits-wake_by_reference = by_bool _
     (by_bool _
     (λ c p w f e q i g r yy mm bb h. grind (arith, same_is, read_put, length-set, heard-push))
@@ -161,7 +157,7 @@ awaits-wake_by_reference = by_bool _
     (λ p w f e q i g r yy mm bb h. grind (arith, same_is, read_put, length-set, heard-push))
     (λ p w f e q i g r yy mm bb h. let k : IsUnmarked (task w f) = unmarked (task w f) e in grind (arith, same_is, read_put, length-set, heard-push))))
 
-awaits-wake : (o b c : Bool) (p : ℕ) (w : World) (f : ℕ) → (moves.is_over (task w f) || (task w f).scheduled) ≡ b → (task w f).running ≡ c → f < length w.tasks → KeepsAwaits w (op.Move move.Wake f ∷ []) (woken_by o b c p w f)
+pub awaits-wake : (o b c : Bool) (p : ℕ) (w : World) (f : ℕ) → (moves.is_over (task w f) || (task w f).scheduled) ≡ b → (task w f).running ≡ c → f < length w.tasks → KeepsAwaits w (op.Move move.Wake f ∷ []) (woken_by o b c p w f)
 awaits-wake = by_bool _
     (by_bool _
     (λ c p w f e q i g r yy mm bb h. grind (arith, same_is, read_put, length-set, heard-push))
@@ -174,9 +170,9 @@ awaits-wake = by_bool _
     (λ p w f e q i g r yy mm bb h. grind (arith, same_is, read_put, length-set, heard-push))
     (λ p w f e q i g r yy mm bb h. let k : IsUnmarked (task w f) = unmarked (task w f) e in grind (arith, same_is, read_put, length-set, heard-push))))
 
-awaits-call_task : (o b c : Bool) (p e : ℕ) (k : ℕ) (w : World) (f : ℕ) → (moves.is_over (task w f) || (task w f).scheduled) ≡ b → (task w f).running ≡ c → f < length w.tasks → KeepsAwaits w (op.Waker (waker_op.CallAwaiter e (Task f) k) ∷ []) (woken_by o b c p (log w (event.WakerCalled p e k (Task f))) f)
+awaits-call_task : (o b c : Bool) (p e : ℕ) (k : ℕ) (w : World) (f : ℕ) → (moves.is_over (task w f) || (task w f).scheduled) ≡ b → (task w f).running ≡ c → f < length w.tasks → KeepsAwaits w (op.Waker (waker_op.CallAwaiter e (Task f) k) ∷ []) (woken_by o b c p (log w (event.WakerCalled p (of.Handle e) k (Task f))) f)
 awaits-call_task o b c p e k w f d q i g r yy mm bb h =
-    let called : World = log w (event.WakerCalled p e k (Task f)) in
+    let called : World = log w (event.WakerCalled p (of.Handle e) k (Task f)) in
     let stand : Footing called g (with_ops g (op.Move move.Wake f ∷ []) r) (with_awaiting g (op.Move move.Wake f ∷ []) yy) =
     record { one = bb.one; live = bb.live; ends = bb.ends; drop = bb.drop; carries = bb.carries; rests = bb.rests; lent = bb.lent; done = grind (arith, heard-push); stages = bb.stages; few = bb.few; tied = bb.tied } in
     let waits : Awaits called g (with_ops g (op.Move move.Wake f ∷ []) r) (with_awaiting g (op.Move move.Wake f ∷ []) yy) mm = grind (arith, same_is, heard-push) in
@@ -199,7 +195,7 @@ awaits-cancel_idle = by_bool _
     (λ p w f n e q i g r yy mm bb h. let k : IsIdle (task w f) = idle (task w f) e q in grind (arith, same_is, read_put, length-set, heard-push))
     (λ p w f n e q i g r yy mm bb h. let k : IsIdle (task w f) = idle (task w f) e q in grind (arith, same_is, read_put, length-set, heard-push))
 
-awaits-detach : (o x y : Bool) (p : ℕ) (w : World) (f : ℕ) → ((task w f).completed && not (task w f).closed) ≡ x → (eqb (task w f).references 0 && not (task w f).closed) ≡ y → f < length w.tasks → KeepsAwaits w (op.Move move.Detach f ∷ []) (detached o x y p w f)
+pub awaits-detach : (o x y : Bool) (p : ℕ) (w : World) (f : ℕ) → ((task w f).completed && not (task w f).closed) ≡ x → (eqb (task w f).references 0 && not (task w f).closed) ≡ y → f < length w.tasks → KeepsAwaits w (op.Move move.Detach f ∷ []) (detached o x y p w f)
 awaits-detach = by_bool _
     (by_bool _
     (λ y p w f e q i g r yy mm bb h. grind (arith, nat_tests, same_is, read_put, length-set, heard-push))
@@ -214,7 +210,7 @@ awaits-detach = by_bool _
 
 -- wakers and polls of a handle
 
-awaits-copy : (b : Bool) (w : World) (f : ℕ) (held : Hold) → f < length w.tasks → KeepsAwaits w (op.Waker (waker_op.CopyWaker f held) ∷ []) (copy_by b w f held)
+pub awaits-copy : (b : Bool) (w : World) (f : ℕ) (held : Hold) → f < length w.tasks → KeepsAwaits w (op.Waker (waker_op.CopyWaker f held) ∷ []) (copy_by b w f held)
 awaits-copy = by_bool _
     (λ w f held i g r yy mm bb h. grind arith)
     (λ w f held i g r yy mm bb h. grind (arith, same_is, read_put, length-set))
@@ -243,14 +239,14 @@ awaits-look_on w f a g r yy mm bb h = grind arith
 awaits-again_waits : (p : ℕ) (w : World) (f : ℕ) → (((task w f).scheduled ≡ true) ⊎ ((task w f).running ≡ true)) ⊎ (((task w f).closed ≡ false) × ((task w f).completed ≡ false)) → f < length w.tasks → KeepsAwaits w (op.Handle (handle_op.LookAgain f) ∷ []) (waits_on p w w f)
 awaits-again_waits p w f n i g r yy mm bb h = grind (arith, same_is, read_put, length-set, heard-push)
 
-awaits-copy_awaiter : (b : Bool) (p : ℕ) (w : World) (f : ℕ) (a : Waker) → IsKnownWaker w a → KeepsBy w (op.Handle (handle_op.CopyAwaiter f a) ∷ []) (copy_awaiter_by b p w f a) (asks_if (not b) p f)
+pub awaits-copy_awaiter : (b : Bool) (p : ℕ) (w : World) (f : ℕ) (a : Waker) → IsKnownWaker w a → KeepsBy w (op.Handle (handle_op.CopyAwaiter f a) ∷ []) (copy_awaiter_by b p w f a) (asks_if (not b) p f)
 awaits-copy_awaiter = by_bool _
     (λ p w f a e g r yy mm bb h. grind arith)
     (λ p w f. by_waker _
     (λ k e g r yy mm bb h. let few : (with_awaiting g (op.Handle (handle_op.CopyAwaiter f (Task k)) ∷ []) yy).strays (length w.trace) ≤ _ = bb.few (length w.trace) in let z : k < length w.tasks = e in let l : eqb (length w.trace) (length w.trace) ≡ true = grind (arith, nat_tests) in grind (arith, same_is, read_put, length-set, heard-push))
     (λ x e g r yy mm bb h. let few : (with_awaiting g (op.Handle (handle_op.CopyAwaiter f (Outside x)) ∷ []) yy).strays (length w.trace) ≤ _ = bb.few (length w.trace) in let l : eqb (length w.trace) (length w.trace) ≡ true = grind (arith, nat_tests) in grind (arith, same_is, heard-push)))
 
-awaits-register : (b : Bool) (w : World) (f : ℕ) (a : Waker) (k : ℕ) → (task w f).notifying ≡ b → f < length w.tasks → KeepsAwaits w (op.Handle (handle_op.Register f a k) ∷ []) (register_by b w f a k)
+pub awaits-register : (b : Bool) (w : World) (f : ℕ) (a : Waker) (k : ℕ) → (task w f).notifying ≡ b → f < length w.tasks → KeepsAwaits w (op.Handle (handle_op.Register f a k) ∷ []) (register_by b w f a k)
 awaits-register = by_bool _
     (λ w f a k n i g r yy mm bb h. grind (arith, same_is, read_put, length-set))
     (λ w f a k n i g r yy mm bb h. grind (arith, same_is, read_put, length-set))
@@ -275,7 +271,7 @@ awaits-end_register : (b : Bool) (old : Option Awaiter) (w : World) (f : ℕ) (a
 awaits-end_register b None w f a k n e i j = awaits-end_register-none b w f a k n e i j
 awaits-end_register b (Some x) w f a k n e i j = awaits-end_register-some b x.waker x.poll w f a k n e i j
 
-awaits-notify : (b m : Bool) (w : World) (f : ℕ) → ((task w f).notifying || (task w f).registering) ≡ b → f < length w.tasks → KeepsAwaits w (op.Handle (handle_op.Notify f m) ∷ []) (notify_by b w f m)
+pub awaits-notify : (b m : Bool) (w : World) (f : ℕ) → ((task w f).notifying || (task w f).registering) ≡ b → f < length w.tasks → KeepsAwaits w (op.Handle (handle_op.Notify f m) ∷ []) (notify_by b w f m)
 awaits-notify = by_bool _
     (λ m w f n i g r yy mm bb h. let z : ((task w f).notifying ≡ true) ⊎ ((task w f).registering ≡ true) = grind (arith, nat_tests) in grind (arith, same_is, read_put, length-set))
     (λ m w f n i g r yy mm bb h. let z : (task w f).notifying ≡ false = grind (arith, nat_tests) in let q : (task w f).registering ≡ false = grind (arith, nat_tests) in grind (arith, same_is, read_put, length-set))
@@ -294,7 +290,7 @@ awaits-end_notify-some = by_bool _
     (λ q m mine w f n e i j g r yy mm bb h. let z : kept_at (heard g w.trace).poll (awaiter_of w f) ≡ same (heard g w.trace).poll m = ap (kept_at (heard g w.trace).poll) e in grind (arith, same_is, read_put, length-set, kept_put))
     (λ q m mine w f n e i j g r yy mm bb h. let z : kept_at (heard g w.trace).poll (awaiter_of w f) ≡ same (heard g w.trace).poll m = ap (kept_at (heard g w.trace).poll) e in grind (arith, same_is, read_put, length-set, kept_put)))
 
-awaits-end_notify : (b : Bool) (old : Option Awaiter) (mine : Bool) (w : World) (f : ℕ) → (b ≡ true → mine ≡ true) → awaiter_of w f ≡ old → f < length w.tasks → f < length w.awaiters → KeepsAwaits w (op.Handle (handle_op.EndNotify f mine) ∷ []) (end_notified b old w f)
+pub awaits-end_notify : (b : Bool) (old : Option Awaiter) (mine : Bool) (w : World) (f : ℕ) → (b ≡ true → mine ≡ true) → awaiter_of w f ≡ old → f < length w.tasks → f < length w.awaiters → KeepsAwaits w (op.Handle (handle_op.EndNotify f mine) ∷ []) (end_notified b old w f)
 awaits-end_notify b None mine w f n e i j = awaits-end_notify-none b mine w f e i j
 awaits-end_notify b (Some x) mine w f n e i j = awaits-end_notify-some b x.waker x.poll mine w f n e i j
 
@@ -303,7 +299,7 @@ awaits-call_outside p w f x k g r yy mm bb h = grind (arith, same_is, heard-push
 
 -- the drop of the executor
 
-awaits-take_out : (ls ws : List ℕ) (w : World) → w.table ≡ ls → KeepsAwaits w (op.Closing closing_op.TakeOut ∷ []) (done (record w { table = w.leaving; leaving = w.table }) (closing_ops ls ws))
+pub awaits-take_out : (ls ws : List ℕ) (w : World) → w.table ≡ ls → KeepsAwaits w (op.Closing closing_op.TakeOut ∷ []) (done (record w { table = w.leaving; leaving = w.table }) (closing_ops ls ws))
 awaits-take_out = by_list _
     (by_list _
     (λ w e g r yy mm bb h. grind arith)
@@ -336,47 +332,47 @@ awaits-wake_next o b c rest p w f y e q i g r yy mm bb h =
     let d : Done = woken_by o b c p (record w { waking = rest }) f in
     subst (λ (x : Pend × Awaiting). Awaits d.world g x.0 x.1 mm) (λ j. (sym (with_ops-closing g d.next rest r) j, sym (with_awaiting-closing g d.next rest yy) j)) (awaits-wake_left o b c rest p w f y e q i g r yy mm bb h)
 
-awaits-close : (w : World) → KeepsAwaits w (op.Closing closing_op.Close ∷ []) (close w)
+pub awaits-close : (w : World) → KeepsAwaits w (op.Closing closing_op.Close ∷ []) (close w)
 awaits-close w g r yy mm bb h = grind arith
 
-awaits-drain : (q : List ℕ) (p : ℕ) (w : World) → w.queue.items ≡ q → KeepsAwaits w (op.Closing closing_op.Drain ∷ []) (drain_by p w q)
+pub awaits-drain : (q : List ℕ) (p : ℕ) (w : World) → w.queue.items ≡ q → KeepsAwaits w (op.Closing closing_op.Drain ∷ []) (drain_by p w q)
 awaits-drain = by_list _
     (λ p w e g r yy mm bb h. grind (arith, heard-push))
     (λ f rest p w e g r yy mm bb h. let z : same g f + times g (drop 1 w.queue.items) ≡ times g w.queue.items = times-drop g f rest w.queue.items e in grind (arith, same_is))
 
 -- the answers of user code
-awaits-pending : (p : ℕ) (w : World) (f : ℕ) → KeepsAwaits w (op.User (user_op.Poll f) ∷ []) (done (log w (event.Answered p f answer.Pending)) (op.Table (table_op.PutBack f) ∷ []))
+pub awaits-pending : (p : ℕ) (w : World) (f : ℕ) → KeepsAwaits w (op.User (user_op.Poll f) ∷ []) (done (log w (event.Answered p f answer.Pending)) (op.Table (table_op.PutBack f) ∷ []))
 awaits-pending p w f g r yy mm bb h = grind (arith, same_is, heard-push)
 
-awaits-ready : (p : ℕ) (w : World) (f : ℕ) → KeepsAwaits w (op.User (user_op.Poll f) ∷ []) (done (log w (event.Answered p f answer.Ready)) (op.User (user_op.BeginDrop f) ∷ op.Move move.EndReady f ∷ []))
+pub awaits-ready : (p : ℕ) (w : World) (f : ℕ) → KeepsAwaits w (op.User (user_op.Poll f) ∷ []) (done (log w (event.Answered p f answer.Ready)) (op.User (user_op.BeginDrop f) ∷ op.Move move.EndReady f ∷ []))
 awaits-ready p w f g r yy mm bb h = grind (arith, same_is, heard-push)
 
-awaits-end_register_by : (b : Bool) (w : World) (f : ℕ) (a : Waker) (k : ℕ) → (task w f).notifying ≡ b → f < length w.tasks → f < length w.awaiters → KeepsAwaits w (op.Handle (handle_op.EndRegister f a k) ∷ []) (end_register_by b w f a k)
+pub awaits-end_register_by : (b : Bool) (w : World) (f : ℕ) (a : Waker) (k : ℕ) → (task w f).notifying ≡ b → f < length w.tasks → f < length w.awaiters → KeepsAwaits w (op.Handle (handle_op.EndRegister f a k) ∷ []) (end_register_by b w f a k)
 awaits-end_register_by true w f a k n i j = awaits-end_register true _ w f a k n refl i j
 awaits-end_register_by false w f a k n i j = awaits-end_register false _ w f a k n refl i j
 
 below : (n f : ℕ) → past n f ≡ 0 → f < n
 below n f e = grind (arith, past_is)
 
-both-true : (a b : Bool) → (a && b) ≡ true → a ≡ true
+pub both-true : (a b : Bool) → (a && b) ≡ true → a ≡ true
 both-true true b e = refl
 both-true false b e = absurd (cc)
 
 -- the op's own future is one
-own : (n f : ℕ) (o : Op) → past n f ≤ past_of n o → weigh (past_of n) (o ∷ []) ≡ 0 → f < n
+pub own : (n f : ℕ) (o : Op) → past n f ≤ past_of n o → weigh (past_of n) (o ∷ []) ≡ 0 → f < n
 own n f o le e = below n f (omega (arith, le, e))
 
-awaits-wake_first : (p : ℕ) (w : World) (q : List ℕ) → w.waking ≡ q → ((f : ℕ) (rest : List ℕ) → q ≡ f ∷ rest → f < length w.tasks) → KeepsAwaits w (op.Closing closing_op.WakeNext ∷ []) (wake_next_by p w q)
+pub awaits-wake_first : (p : ℕ) (w : World) (q : List ℕ) → w.waking ≡ q → ((f : ℕ) (rest : List ℕ) → q ≡ f ∷ rest → f < length w.tasks) → KeepsAwaits w (op.Closing closing_op.WakeNext ∷ []) (wake_next_by p w q)
 awaits-wake_first = λ p w. by_list _
     (λ e i. λ g r yy mm bb h. grind arith)
     (λ f rest e i. awaits-wake_next (moves.is_over (task w f)) _ _ rest p w f e refl refl (i f rest refl))
 
-awaits-drop_first : (p : ℕ) (w : World) (q : List ℕ) → w.leaving ≡ q → KeepsAwaits w (op.Closing closing_op.DropNext ∷ []) (drop_next_by p w q)
+pub awaits-drop_first : (p : ℕ) (w : World) (q : List ℕ) → w.leaving ≡ q → KeepsAwaits w (op.Closing closing_op.DropNext ∷ []) (drop_next_by p w q)
 awaits-drop_first = λ p w. by_list _
     (λ e. λ g r yy mm bb h. grind arith)
     (λ f rest e. awaits-drop_next rest (w.waking ++ f ∷ []) p w f e)
 
-awaits-cancel : (b c : Bool) (p : ℕ) (w : World) (f : ℕ) → moves.is_over (task w f) ≡ b → moves.is_going (task w f) ≡ c → f < length w.tasks → KeepsAwaits w (op.Move move.Cancel f ∷ []) (carried (log_if (not b) w (event.Cancelled p f)) f (moves.cancel_by b c (task w f)))
+pub awaits-cancel : (b c : Bool) (p : ℕ) (w : World) (f : ℕ) → moves.is_over (task w f) ≡ b → moves.is_going (task w f) ≡ c → f < length w.tasks → KeepsAwaits w (op.Move move.Cancel f ∷ []) (carried (log_if (not b) w (event.Cancelled p f)) f (moves.cancel_by b c (task w f)))
 awaits-cancel true c p w f e q i = awaits-cancel_over false p w f i
 awaits-cancel false true p w f e q i = awaits-cancel_going _ p w f refl q i
 awaits-cancel false false p w f e q i = awaits-cancel_idle _ p w f refl e q i
@@ -385,13 +381,13 @@ abbrev pub is_answer : Option Answer → Bool
 is_answer (Some a) = true
 is_answer None = false
 
-awaits-look : (x k c : Bool) (p : ℕ) (w : World) (f : ℕ) (a : Waker) → (task w f).completed ≡ c → f < length w.tasks → KeepsBy w (op.Handle (handle_op.Look f a) ∷ []) (look_by (moves.poll_by x k c (task w f)).owed.answer p w f a (moves.poll_by x k c (task w f))) (asks_if (is_answer (moves.poll_by x k c (task w f)).owed.answer) p f)
+pub awaits-look : (x k c : Bool) (p : ℕ) (w : World) (f : ℕ) (a : Waker) → (task w f).completed ≡ c → f < length w.tasks → KeepsBy w (op.Handle (handle_op.Look f a) ∷ []) (look_by (moves.poll_by x k c (task w f)).owed.answer p w f a (moves.poll_by x k c (task w f))) (asks_if (is_answer (moves.poll_by x k c (task w f)).owed.answer) p f)
 awaits-look true true c p w f a e i = awaits-look_on w f a
 awaits-look true false c p w f a e i = awaits-look_closed p w f a i
 awaits-look false k false p w f a e i = awaits-look_on w f a
 awaits-look false k true p w f a e i = awaits-look_given _ p w f a e i
 
-awaits-again : (x k c : Bool) (p : ℕ) (w : World) (f : ℕ) → (task w f).closed ≡ x → moves.is_going (task w f) ≡ k → (task w f).completed ≡ c → f < length w.tasks → KeepsAwaits w (op.Handle (handle_op.LookAgain f) ∷ []) (look_again_by (moves.look_again_by x k c (task w f)).owed.answer p w f (moves.look_again_by x k c (task w f)))
+pub awaits-again : (x k c : Bool) (p : ℕ) (w : World) (f : ℕ) → (task w f).closed ≡ x → moves.is_going (task w f) ≡ k → (task w f).completed ≡ c → f < length w.tasks → KeepsAwaits w (op.Handle (handle_op.LookAgain f) ∷ []) (look_again_by (moves.look_again_by x k c (task w f)).owed.answer p w f (moves.look_again_by x k c (task w f)))
 awaits-again = by_bool _
     (by_bool _
     (λ c p w f x k e i. awaits-again_waits p w f (let z : ((task w f).scheduled ≡ true) ⊎ ((task w f).running ≡ true) = grind (arith, nat_tests) in inl z) i)
@@ -400,68 +396,13 @@ awaits-again = by_bool _
     (λ p w f x q e i. awaits-again_given _ p w f e i)
     (λ p w f x q e i. awaits-again_waits p w f (inr (x, e)) i))
 
-known_waker : (w : World) (a : Waker) (n : ℕ) → n + waker_past (length w.tasks) a ≡ 0 → IsKnownWaker w a
+pub known_waker : (w : World) (a : Waker) (n : ℕ) → n + waker_past (length w.tasks) a ≡ 0 → IsKnownWaker w a
 known_waker w (Task k) n z = below _ k (omega (arith, z))
 known_waker w (Outside x) n z = tt
 
-awaits-call : (p : ℕ) (w : World) (f : ℕ) (a : Waker) (k : ℕ) → past (length w.tasks) f + waker_past (length w.tasks) a ≡ 0 → KeepsAwaits w (op.Waker (waker_op.CallAwaiter f a k) ∷ []) (call_awaiter p w f a k)
+pub awaits-call : (p : ℕ) (w : World) (f : ℕ) (a : Waker) (k : ℕ) → past (length w.tasks) f + waker_past (length w.tasks) a ≡ 0 → KeepsAwaits w (op.Waker (waker_op.CallAwaiter f a k) ∷ []) (call_awaiter p w f a k)
 awaits-call p w f (Task m) k z = awaits-call_task (moves.is_over (task w m)) _ _ p f k w m refl refl (below _ m (omega (arith, z)))
 awaits-call p w f (Outside x) k z = awaits-call_outside p w f x k
 
-first_known : (w : World) → pasts (length w.tasks) w.waking ≡ 0 → (f : ℕ) (rest : List ℕ) → w.waking ≡ f ∷ rest → f < length w.tasks
+pub first_known : (w : World) → pasts (length w.tasks) w.waking ≡ 0 → (f : ℕ) (rest : List ℕ) → w.waking ≡ f ∷ rest → f < length w.tasks
 first_known w u f rest e = let z : past (length w.tasks) f + pasts (length w.tasks) rest ≡ 0 = sym (ap (pasts (length w.tasks)) e) ∙ u in below _ f (omega (arith, z))
-
--- whether such a thing to do begins a poll of a handle
-abbrev pub asked : ℕ → Hint → Op → World → ℕ → Mark → Mark
-asked p h (op.Handle (handle_op.Look f a)) w = asks_if (is_answer (moves.poll (task w f)).owed.answer) p f
-asked p h (op.Handle (handle_op.CopyAwaiter f a)) w = asks_if (not (is_copy_refused h w a)) p f
-asked p h _ w = λ g m. m
-
--- each thing to do that speaks of futures that are there
-pub awaits-act : (p : ℕ) (h : Hint) (o : Op) (w : World) → length w.awaiters ≡ length w.tasks → pasts (length w.tasks) w.waking ≡ 0 → weigh (past_of (length w.tasks)) (o ∷ []) ≡ 0 → is_end o ≡ false → KeepsBy w (o ∷ []) (act p h o w) (asked p h o w)
-awaits-act p h (op.Table table_op.Enter) w n u z m = awaits-enter _ _ p w n
-awaits-act p h (op.Queue queue_op.Take) w n u z m = awaits-take _ w refl
-awaits-act p h (op.Queue (queue_op.Append f)) w n u z m = awaits-append _ w f
-awaits-act p h (op.Move move.WakeByReference f) w n u z m = awaits-wake_by_reference (moves.is_over (task w f)) _ _ p w f refl refl (own _ f (op.Move move.WakeByReference f) (omega arith) z)
-awaits-act p h (op.Move move.Wake f) w n u z m = awaits-wake (moves.is_over (task w f)) _ _ p w f refl refl (own _ f (op.Move move.Wake f) (omega arith) z)
-awaits-act p h (op.Move move.Release f) w n u z m = awaits-release _ _ w f refl refl (own _ f (op.Move move.Release f) (omega arith) z)
-awaits-act p h (op.Move move.TakeUp f) w n u z m = awaits-take_up _ _ p w f refl refl (own _ f (op.Move move.TakeUp f) (omega arith) z)
-awaits-act p h (op.Move move.SettleClosed f) w n u z m = awaits-settle_closed _ w f refl (own _ f (op.Move move.SettleClosed f) (omega arith) z)
-awaits-act p h (op.Move move.GiveUp f) w n u z m = awaits-give_up _ w f refl (own _ f (op.Move move.GiveUp f) (omega arith) z)
-awaits-act p h (op.Move move.EndReady f) w n u z m = awaits-end_ready _ _ w f refl refl (own _ f (op.Move move.EndReady f) (omega arith) z)
-awaits-act p h (op.Move move.EndPending f) w n u z m = awaits-end_pending _ _ _ _ w f refl refl refl refl (own _ f (op.Move move.EndPending f) (omega arith) z)
-awaits-act p h (op.Move move.EndClosed f) w n u z m = awaits-end_closed _ w f refl (own _ f (op.Move move.EndClosed f) (omega arith) z)
-awaits-act p h (op.Move move.DropRunnable f) w n u z m = awaits-drop_runnable _ _ w f refl refl (own _ f (op.Move move.DropRunnable f) (omega arith) z)
-awaits-act p h (op.Move move.Cancel f) w n u z m = awaits-cancel _ _ p w f refl refl (own _ f (op.Move move.Cancel f) (omega arith) z)
-awaits-act p h (op.Move move.Detach f) w n u z m = awaits-detach _ _ _ p w f refl refl (own _ f (op.Move move.Detach f) (omega arith) z)
-awaits-act p h (op.Table (table_op.TakeToPoll f)) w n u z m = awaits-take_to_poll w f
-awaits-act p h (op.Table (table_op.PutBack f)) w n u z m = awaits-put_back w f
-awaits-act p h (op.Table (table_op.TakeToDrop f)) w n u z m = awaits-take_to_drop w f
-awaits-act p h (op.User (user_op.BeginDrop f)) w n u z m = awaits-begin_drop p w f
-awaits-act p h (op.Table (table_op.LeaveTable f)) w n u z m = awaits-leave _ w f refl
-awaits-act p h (op.User (user_op.BeginDropOutput f)) w n u z m = awaits-begin_drop_output p w f
-awaits-act p h (op.Waker (waker_op.CopyWaker f held)) w n u z m = awaits-copy _ w f held (own _ f (op.Waker (waker_op.CopyWaker f held)) (omega arith) z)
-awaits-act p h (op.Handle (handle_op.Look f a)) w n u z m = awaits-look _ _ _ p w f a refl (own _ f (op.Handle (handle_op.Look f a)) (omega arith) z)
-awaits-act p h (op.Handle (handle_op.CopyAwaiter f a)) w n u z m = awaits-copy_awaiter _ p w f a (known_waker w a (past (length w.tasks) f) (omega (arith, z)))
-awaits-act p h (op.Handle (handle_op.Register f a k)) w n u z m = awaits-register _ w f a k refl (own _ f (op.Handle (handle_op.Register f a k)) (omega arith) z)
-awaits-act p h (op.Handle (handle_op.EndRegister f a k)) w n u z m = (let i : f < length w.tasks = own _ f (op.Handle (handle_op.EndRegister f a k)) (omega arith) z in awaits-end_register_by _ w f a k refl i (omega (arith, i, n)))
-awaits-act p h (op.Handle (handle_op.LookAgain f)) w n u z m = awaits-again _ _ _ p w f refl refl refl (own _ f (op.Handle (handle_op.LookAgain f)) (omega arith) z)
-awaits-act p h (op.Handle (handle_op.Notify f mine)) w n u z m = awaits-notify _ mine w f refl (own _ f (op.Handle (handle_op.Notify f mine)) (omega arith) z)
-awaits-act p h (op.Handle (handle_op.EndNotify f mine)) w n u z m = (let i : f < length w.tasks = own _ f (op.Handle (handle_op.EndNotify f mine)) (omega arith) z in awaits-end_notify _ _ mine w f (both-true mine h.same) refl i (omega (arith, i, n)))
-awaits-act p h (op.Waker (waker_op.CallAwaiter f a k)) w n u z m = awaits-call p w f a k (omega (arith, z))
-awaits-act p h (op.Closing closing_op.TakeOut) w n u z m = awaits-take_out _ _ w refl
-awaits-act p h (op.Closing closing_op.DropNext) w n u z m = awaits-drop_first p w _ refl
-awaits-act p h (op.Closing closing_op.WakeNext) w n u z m = awaits-wake_first p w _ refl (first_known w u)
-awaits-act p h (op.Closing closing_op.Close) w n u z m = awaits-close w
-awaits-act p h (op.Closing closing_op.Drain) w n u z m = awaits-drain _ p w refl
-awaits-act p h (op.End a held) w n u z m = absurd (cc)
-awaits-act p h _ w n u z m = λ g r y mm bb k. grind arith
-
--- the end of user code
-pub awaits-react : (p : ℕ) (o : Op) (u : UserEnd) (w : World) → accepts o u ≡ true → KeepsAwaits w (o ∷ []) (react p o u w)
-awaits-react p (op.User (user_op.Poll f)) (end.Polled answer.Pending) w a = awaits-pending p w f
-awaits-react p (op.User (user_op.Poll f)) (end.Polled answer.Ready) w a = awaits-ready p w f
-awaits-react p (op.User (user_op.Drop f)) end.Done w a = λ g r yy mm bb h. h
-awaits-react p (op.User (user_op.DropOutput f)) end.Done w a = λ g r yy mm bb h. h
-awaits-react p (op.User (user_op.CallOutside x)) end.Done w a = λ g r yy mm bb h. h
-awaits-react p _ _ w a = absurd (cc)

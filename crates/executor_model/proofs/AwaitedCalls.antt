@@ -13,6 +13,8 @@ use Rattle.executor_model.specs.declared.op.Hold.{Hold}
 use Rattle.executor_model.specs.declared.op.Hold.TheVariants as hold
 use Rattle.executor_model.specs.declared.op.Waker.{Waker}
 use Rattle.executor_model.specs.declared.op.Op.TheVariants as op
+use Rattle.executor_model.specs.declared.op.Sleeping.{Sleeping}
+use Rattle.executor_model.specs.declared.op.TickOp.TheVariants as tick_op
 use Rattle.executor_model.specs.declared.op.ClosingOp.TheVariants as closing_op
 use Rattle.executor_model.specs.declared.op.HandleOp.TheVariants as handle_op
 use Rattle.task_moves.specs.declared.moves.owed.Move.TheVariants as move
@@ -48,6 +50,9 @@ begins-nothing w p (call.PollHandle f x) g r y m b h = grind (arith, heard-push)
 begins-nothing w p (call.Cancel f) g r y m b h = grind (arith, heard-push)
 begins-nothing w p (call.Detach f) g r y m b h = grind (arith, same_is, heard-push)
 begins-nothing w p (call.DropHandle f) g r y m b h = grind (arith, same_is, heard-push)
+begins-nothing w p call.NewTick g r y m b h = grind (arith, heard-push)
+begins-nothing w p (call.PollTick t x) g r y m b h = grind (arith, heard-push)
+begins-nothing w p (call.DropTick t) g r y m b h = grind (arith, heard-push)
 begins-nothing w p call.DropExecutor g r y m b h = grind (arith, heard-push)
 
 begins-with : (w : World) (p : ℕ) (c : Call) (x : Option ℕ) (d : ℕ → Done) → ((f : ℕ) → KeepsBegun w p (d f)) → KeepsBegun w p (with_future (log w (event.CallBegun p c)) x d)
@@ -83,6 +88,15 @@ begins-wake_self w p f g r y m b h = grind (arith, heard-push)
 
 begins-drop : (w : World) (p : ℕ) → KeepsBegun w p (done (log (record (log w (event.CallBegun p call.DropExecutor)) { gone = true }) (event.DropBegun p)) (op.Closing closing_op.TakeOut ∷ op.End reply.Done hold.Nothing ∷ []))
 begins-drop w p g r y m b h = grind (arith, heard-push)
+
+begins-make_tick : (w : World) (p : ℕ) → KeepsBegun w p (done (log w (event.CallBegun p call.NewTick)) (op.Tick tick_op.MakeTick ∷ []))
+begins-make_tick w p g r y m b h = grind (arith, heard-push)
+
+begins-poll_tick : (w : World) (p t : ℕ) (x : By) (s : Sleeping) → KeepsBegun w p (done (log (log w (event.CallBegun p (call.PollTick t x))) (event.TickPolled p t)) (op.Tick (tick_op.Search s) ∷ []))
+begins-poll_tick w p t x s g r y m b h = grind (arith, heard-push)
+
+begins-drop_tick : (w : World) (p t : ℕ) → KeepsBegun w p (done (log (log w (event.CallBegun p (call.DropTick t))) (event.TickDropped p t)) (op.Tick (tick_op.Leave t) ∷ []))
+begins-drop_tick w p t g r y m b h = grind (arith, heard-push)
 
 -- calls on the handle, which no other call uses
 
@@ -120,6 +134,9 @@ awaits-begun p w here (call.PollHandle f b) g r y m u = begins-poll w p f b (wak
 awaits-begun p w here (call.Cancel f) g r y m u = begins-cancel w p f g r y m u.0 u.1
 awaits-begun p w here (call.Detach f) g r y m u = begins-detach w p f g r y m u.0 u.1
 awaits-begun p w here (call.DropHandle f) g r y m u = begins-drop_handle w p f g r y m u.0 u.1
+awaits-begun p w here call.NewTick g r y m u = begins-make_tick w p g r y m
+awaits-begun p w here (call.PollTick t b) g r y m u = begins-poll_tick w p t b (record { waker = waker_of here b; tick = t; poll = length (log w (event.CallBegun p (call.PollTick t b))).trace }) g r y m
+awaits-begun p w here (call.DropTick t) g r y m u = begins-drop_tick w p t g r y m
 awaits-begun p w here call.DropExecutor g r y m u = begins-drop w p g r y m
 
 -- the end of a call

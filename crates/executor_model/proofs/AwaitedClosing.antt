@@ -16,7 +16,11 @@ use Rattle.executor_model.specs.declared.op.Waker.{Waker}
 use Rattle.executor_model.specs.declared.op.Waker.TheVariants.{Task, Outside}
 use Rattle.executor_model.specs.declared.op.Hold.{Hold}
 use Rattle.executor_model.specs.declared.op.Hold.TheVariants as hold
+use Rattle.executor_model.specs.declared.op.Polled.TheVariants as of
 use Rattle.executor_model.specs.declared.op.Op.{Op}
+use Rattle.executor_model.specs.declared.op.Sleeping.{Sleeping}
+use Rattle.executor_model.specs.declared.op.SleeperOp.TheVariants as sleeper_op
+use Rattle.executor_model.specs.declared.op.TickOp.TheVariants as tick_op
 use Rattle.executor_model.specs.declared.op.Op.TheVariants as op
 use Rattle.executor_model.specs.declared.op.ClosingOp.TheVariants as closing_op
 use Rattle.executor_model.specs.declared.op.HandleOp.TheVariants as handle_op
@@ -29,18 +33,19 @@ use Rattle.executor_model.specs.declared.step.Hint.{Hint}
 use Rattle.executor_model.specs.declared.step.Step.{Step}
 use Rattle.executor_model.specs.declared.step.UserEnd.{UserEnd}
 use Rattle.executor_model.specs.declared.step.UserEnd.TheVariants as end
-use Rattle.executor_model.specs.World.{World, Done, done, log, log_if, task}
+use Rattle.executor_model.specs.World.{World, Tick, Up, Lies, Left, Done, done, log, log_if, task}
 use Rattle.executor_model.specs.Carried.{awaiter_ops}
-use Rattle.executor_model.specs.Acts.{append_by, take_by, enter_by, leave_by, copy_by, look_by, look_again_by, copy_awaiter_by, register_by, end_register_by, notify_by, call_awaiter, closing_ops, drop_next_by, wake, wake_next_by, close, drain_by, act}
+use Rattle.executor_model.specs.Acts.{append_by, take_by, search_by, enter_by, leave_by, copy_by, look_by, look_again_by, copy_awaiter_by, register_by, end_register_by, notify_by, call_awaiter, closing_ops, drop_next_by, wake, wake_next_by, close, drain_by, act}
 use Rattle.executor_model.specs.Weights.{weigh, weigh_all}
-use Rattle.executor_model.specs.Rows.{borrowing_of, ousting_of}
+use Rattle.executor_model.specs.Rows.{ousting_of}
 use Rattle.executor_model.specs.Good.{Good}
-use Rattle.executor_model.specs.Steps.{Machine, stack, top, run, start, polled_by, is_free, has_all, is_on_executor, is_drop, is_unused, kept, with_future, accepts, begun, react}
+use Rattle.executor_model.specs.Steps.{Machine, stack, top, run, start, polled_by, is_free, has_all, is_on_executor, is_drop, is_unborrowed, kept, with_future, accepts, begun, react}
 use Rattle.executor_model.proofs.Cases.{by_bool, by_list}
 use Rattle.executor_model.proofs.Lists.{weigh-append, weigh_all-push}
 use Rattle.executor_model.proofs.Lift.{split, unsettled, good-start, none_refused, open_executor, weigh_all-idle}
 use Rattle.executor_model.proofs.Ways.{Way, along}
 use Rattle.executor_model.proofs.Ways.Way.{acted, reacted, called}
+use Rattle.executor_model.proofs.SleepersWorlds.{Rest, sleeper-rest, tick-rest}
 use Rattle.executor_model.proofs.AwaitedLists.{rough_of, plain-act, plain-begun, plain-wake, is_special}
 
 -- what the drop of the executor looks at
@@ -123,6 +128,8 @@ rough-more (op.Table table_op.Enter) = omega arith
 rough-more (op.Queue queue_op.Take) = omega arith
 rough-more (op.User (user_op.Drop f)) = omega arith
 rough-more (op.Waker (waker_op.CopyWaker f held)) = omega arith
+rough-more (op.Sleeper sleeper_op.HandOut) = omega arith
+rough-more (op.Tick tick_op.MakeTick) = omega arith
 rough-more _ = omega arith
 
 rough-weighs : (os : List Op) → weigh ousting_of os + (weigh dropping_of os + (weigh rousing_of os + (weigh shutting_of os + weigh draining_of os))) ≤ weigh rough_of os
@@ -193,13 +200,17 @@ same-notify true w f mine = refl
 same-notify false w f mine = refl
 
 same-call : (p : ℕ) (w : World) (f : ℕ) (a : Waker) (k : ℕ) → lists w ≡ lists (call_awaiter p w f a k).world
-same-call p w f (Task g) k = same-log_if _ (log w (event.WakerCalled p f k (Task g))) (event.Woken p g)
+same-call p w f (Task g) k = same-log_if _ (log w (event.WakerCalled p (of.Handle f) k (Task g))) (event.Woken p g)
 same-call p w f (Outside x) k = refl
+
+abbrev lists_in : Rest → Lists
+lists_in r = record { gone = r.gone; leaving = length r.leaving; waking = length r.waking; closed = r.queue.closed; items = length r.queue.items }
 
 -- the queue, the two lists and their steps
 abbrev pub is_sweeping : Op → Bool
 is_sweeping (op.Queue queue_op.Take) = true
 is_sweeping (op.Queue (queue_op.Append f)) = true
+is_sweeping (op.Tick (tick_op.Search s)) = true
 is_sweeping (op.Closing closing_op.TakeOut) = true
 is_sweeping (op.Closing closing_op.DropNext) = true
 is_sweeping (op.Closing closing_op.WakeNext) = true
@@ -223,6 +234,13 @@ same-act p h (op.Handle (handle_op.EndRegister f a k)) w n = same-end_register _
 same-act p h (op.Handle (handle_op.LookAgain f)) w n = same-again (moves.look_again (task w f)).owed.answer p w f (moves.look_again (task w f))
 same-act p h (op.Handle (handle_op.Notify f mine)) w n = same-notify _ w f mine
 same-act p h (op.Waker (waker_op.CallAwaiter f a k)) w n = same-call p w f a k
+same-act p h (op.Sleeper o) w n = ap lists_in (sleeper-rest p o w)
+same-act p h (op.Tick tick_op.MakeTick) w n = ap lists_in (tick-rest h tick_op.MakeTick w refl)
+same-act p h (op.Tick (tick_op.Search s)) w n = absurd (cc)
+same-act p h (op.Tick (tick_op.CopyWaker s)) w n = ap lists_in (tick-rest h (tick_op.CopyWaker s) w refl)
+same-act p h (op.Tick (tick_op.LieDown s)) w n = ap lists_in (tick-rest h (tick_op.LieDown s) w refl)
+same-act p h (op.Tick (tick_op.GetUp t f)) w n = ap lists_in (tick-rest h (tick_op.GetUp t f) w refl)
+same-act p h (op.Tick (tick_op.Leave t)) w n = ap lists_in (tick-rest h (tick_op.Leave t) w refl)
 same-act p h (op.Queue queue_op.Take) w n = absurd (cc)
 same-act p h (op.Queue (queue_op.Append f)) w n = absurd (cc)
 same-act p h (op.Closing closing_op.TakeOut) w n = absurd (cc)
@@ -271,6 +289,8 @@ no-self (op.Queue queue_op.Take) n = refl
 no-self (op.User (user_op.Drop f)) n = refl
 no-self (op.Waker (waker_op.CopyWaker f held)) n = refl
 no-self (op.Handle (handle_op.LookAgain f)) n = refl
+no-self (op.Sleeper sleeper_op.HandOut) n = refl
+no-self (op.Tick tick_op.MakeTick) n = refl
 no-self _ n = refl
 
 no-act : (p : ℕ) (h : Hint) (o : Op) (w : World) (b : Bool) → is_special o ≡ b → is_sweeping o ≡ false → NoSteps (act p h o w).next
@@ -295,6 +315,12 @@ sweeps-take : (q : List ℕ) (w : World) → w.queue.items ≡ q → KeepsSweeps
 sweeps-take = by_list _
     (λ w e r h. grind arith)
     (λ f rest w e r h. let z : suc (length (drop 1 w.queue.items)) ≡ length w.queue.items = rw e refl in grind arith)
+
+sweeps-search : (x : Tick) (q : List ℕ) (w : World) (s : Sleeping) → w.queue.items ≡ q → KeepsSweeps w (op.Tick (tick_op.Search s) ∷ []) (search_by x w q s)
+sweeps-search x [] w s e r h = grind arith
+sweeps-search Up (f ∷ rest) w s e r h = let z : suc (length (drop 1 w.queue.items)) ≡ length w.queue.items = rw e refl in grind arith
+sweeps-search (Lies n) (f ∷ rest) w s e r h = let z : suc (length (drop 1 w.queue.items)) ≡ length w.queue.items = rw e refl in grind arith
+sweeps-search Left (f ∷ rest) w s e r h = let z : suc (length (drop 1 w.queue.items)) ≡ length w.queue.items = rw e refl in grind arith
 
 -- the steps of the executor's drop
 
@@ -339,6 +365,7 @@ sweeps-act : (b : Bool) (p : ℕ) (h : Hint) (o : Op) (w : World) → is_sweepin
 sweeps-act false p h o w n = sweeps-still w (o ∷ []) (act p h o w) (same-act p h o w n) (no-self o n) (no-act p h o w _ refl n)
 sweeps-act true p h (op.Queue queue_op.Take) w n = sweeps-take _ w refl
 sweeps-act true p h (op.Queue (queue_op.Append f)) w n = sweeps-append _ w f (open-queue w.queue.closed _)
+sweeps-act true p h (op.Tick (tick_op.Search s)) w n = sweeps-search _ _ w s refl
 sweeps-act true p h (op.Closing closing_op.TakeOut) w n = sweeps-take_out _ _ w refl refl
 sweeps-act true p h (op.Closing closing_op.DropNext) w n = sweeps-drop_next p w _ refl
 sweeps-act true p h (op.Closing closing_op.WakeNext) w n = sweeps-wake_next p w _ refl
@@ -379,7 +406,7 @@ sweeps-way : (s : Machine) (p : ℕ) (old rest : List Op) (d : Done) → Way s p
 sweeps-way s p old rest d (acted h o q z) = rw z (rw q (sweeps-act _ p h o s.world refl))
 sweeps-way s p old rest d (reacted o u a q z) = rw z (rw q (sweeps-react p o u s.world a))
 sweeps-way s p old rest d (called c q r n z) =
-    let f : _ = none_refused (is_free (top (stack s p))) (has_all s.world s.parties (top (stack s p)) c) (not (s.world.gone && is_on_executor c)) (not (is_drop c) || is_unused borrowing_of s.parties) n in
+    let f : _ = none_refused (is_free (top (stack s p))) (has_all s.world s.parties (top (stack s p)) c) (not (s.world.gone && is_on_executor c)) (not (is_drop c) || is_unborrowed s.world s.parties) n in
     rw z (rw q (sweeps-begun _ p s.world (polled_by (top (stack s p))) c refl f.2))
 
 -- every step

@@ -32,6 +32,7 @@ use Rattle.executor_model.specs.Weights.{weigh}
 use Rattle.executor_model.specs.Steps.{with_future, kept, accepts, is_drop, begun, react}
 use Rattle.executor_model.proofs.Lists.{weigh-append}
 use Rattle.executor_model.proofs.Owed.{owed-future, owed-nothing}
+use Rattle.executor_model.proofs.SleepersNext.{sleeper-unseen, tick-blind}
 
 -- a notice by a poll of the handle itself, the rest of a notice, and the steps of the executor's drop
 abbrev pub rough_of : Op → ℕ
@@ -180,6 +181,8 @@ plain-act p h (op.Handle (handle_op.Register f a k)) w n = plain-register _ w f 
 plain-act p h (op.Handle (handle_op.EndRegister f a k)) w n = plain-end_register _ w f a k
 plain-act p h (op.Handle (handle_op.EndNotify f mine)) w n = plain-told _ f (awaiter_of w f)
 plain-act p h (op.Waker (waker_op.CallAwaiter f a k)) w n = plain-call p w f a k
+plain-act p h (op.Sleeper o) w n = sleeper-unseen rough_of (record { hand = refl; call = λ s. refl; outside = λ x. refl; wake = λ p w f. plain-wake p w f }) p o w
+plain-act p h (op.Tick o) w n = tick-blind rough_of (record { tick = λ o. refl; exchange = refl; call = λ s. refl; release = λ f. refl; end = λ r t. refl; made = λ r. refl }) (λ f. refl) h o w
 plain-act p h (op.Handle (handle_op.Look f a)) w n = absurd (cc)
 plain-act p h (op.Handle (handle_op.LookAgain f)) w n = absurd (cc)
 plain-act p h (op.Handle (handle_op.Notify f mine)) w n = absurd (cc)
@@ -218,4 +221,7 @@ plain-begun p w here (call.PollHandle f b) n = refl
 plain-begun p w here (call.Cancel f) n = refl
 plain-begun p w here (call.Detach f) n = refl
 plain-begun p w here (call.DropHandle f) n = refl
+plain-begun p w here call.NewTick n = refl
+plain-begun p w here (call.PollTick t b) n = refl
+plain-begun p w here (call.DropTick t) n = refl
 plain-begun p w here call.DropExecutor n = absurd (cc)

@@ -24,26 +24,29 @@ use Rattle.executor_model.specs.Sound.{Pend, pend, with_ops}
 use Rattle.executor_model.specs.Rows as rows
 use Rattle.executor_model.specs.Good.{Good}
 use Rattle.executor_model.specs.Rows.{handling_of, borrowing_of, waiting_of, polls_of, ending_of, ready_of, settling_of, giving_of, drops_of, releases_of, copies_of, ousting_of, past_of}
-use Rattle.executor_model.specs.Steps.{Machine, stack, idle, run, start, polled_by, top, is_free, has_all, has_handle, is_on_executor, is_drop, is_unused, accepts, begun, react}
+use Rattle.executor_model.specs.Steps.{Machine, stack, idle, run, start, polled_by, top, is_free, has_all, has_handle, is_on_executor, is_drop, is_unborrowed, accepts, begun, react}
 use Rattle.task_moves.specs.Moves as moves
 use Rattle.executor_model.proofs.Lists.{same_is, same_cases, past_is, weigh-reverse, weigh_all-push}
 use Rattle.executor_model.proofs.Lift.{split, split-pend, push-pend, unsettled, good-start, none_refused, handle-known, first-true, unborrowed, weigh_all-idle, set-own}
 use Rattle.executor_model.proofs.Ways.{Way, along}
 use Rattle.executor_model.proofs.Ways.Way.{acted, reacted, called}
 use Rattle.executor_model.proofs.Telling.{same-cond}
-use Rattle.executor_model.proofs.Calls.{calling_of, is_end, Passes, Answering, calls-act}
+use Rattle.executor_model.proofs.Calls.{calling_of, is_end, Passes, Answering}
+use Rattle.executor_model.proofs.CallsGroups.{calls-act}
 use Rattle.executor_model.proofs.Resting.{counts-answering, idle-stack, opens}
 use Rattle.executor_model.proofs.Awaited.{Heard, heard, heard-none, Awaiting, with_awaiting, awaiting, Footing, Awaits, Mark, asks_if, looks_of, fresh_of, storing_of, again_of, waits_of, over_of, notices_of, notifying_of, mine_of, detaches_of, lending_of, strays_of, calls_of}
-use Rattle.executor_model.proofs.AwaitedActs.{awaits-act, awaits-react, asked, is_answer}
+use Rattle.executor_model.proofs.AwaitedActs.{is_answer}
+use Rattle.executor_model.proofs.AwaitedGroups.{awaits-act, awaits-react, asked}
 use Rattle.executor_model.proofs.AwaitedTies.{Tied, AllTied, tied-moves, tied-ends, tied-all}
-use Rattle.executor_model.proofs.AwaitedHeld.{asks_of, nowhere, spot, spot-none, spot-more, seen, seen-append, seen-light, seen-passes, asks-weighs, Spotted, Holds, held-step, held-asks}
+use Rattle.executor_model.proofs.AwaitedHeld.{asks_of, asks-weighs, asks-calling, open_of}
+use Rattle.executor_model.proofs.Holding.{nowhere, spot, spot-none, spot-more, seen, seen-append, seen-light, seen-passes, Spotted, Holds, held-step, held-asks}
 use Rattle.executor_model.proofs.AwaitedCalls.{begun_in, UsesHandle, awaits-begun, EndHeard, heard-end, marked, Stages, awaits-end}
 use Rattle.executor_model.proofs.AwaitedCalls.EndHeard.{own, within, apart}
 use Rattle.executor_model.proofs.AwaitedTelling.{over-dropped}
 
 pub record Waited (s : Machine) : Type 0 where
   pub awaits : (g : ℕ) → Awaits s.world g (pend g s.parties) (awaiting g s.parties) (marked s.world g (awaiting g s.parties))
-  pub held : (g : ℕ) → Holds g (heard g s.world.trace) s.parties
+  pub held : (g : ℕ) → Holds (asks_of g) (open_of (heard g s.world.trace)) s.parties
   pub tied : AllTied s
 
 abbrev pub nothing_pending : Pend
@@ -171,38 +174,38 @@ module _ (s : Machine) (p : ℕ) (old rest : List Op) (d : Done) (l : p < length
   awaits-pushed m k = subst (λ (x : Pend × Awaiting). Awaits d.world g x.0 x.1 (marked d.world g x.1)) (sym (let q : (pend g (set s.parties p (rest ++ reverse d.next)), awaiting g (set s.parties p (rest ++ reverse d.next))) ≡ (with_ops g d.next others, with_awaiting g d.next beside) = λ i. (push-pend g s.parties p rest d.next l i, push-awaiting g s.parties p rest d.next l i) in q)) (renew d.world g (with_ops g d.next others) (with_awaiting g d.next beside) m k)
 
   -- the mark stays
-  held-same : (o : Op) → old ≡ o ∷ [] → Passes o d.next → (m : Mark) → m ≡ before → Awaits d.world g (with_ops g d.next others) (with_awaiting g d.next beside) m → Holds g (heard g d.world.trace) (set s.parties p (rest ++ reverse d.next))
+  held-same : (o : Op) → old ≡ o ∷ [] → Passes o d.next → (m : Mark) → m ≡ before → Awaits d.world g (with_ops g d.next others) (with_awaiting g d.next beside) m → Holds (asks_of g) (open_of (heard g d.world.trace)) (set s.parties p (rest ++ reverse d.next))
   held-same o q c m u k =
       let sums : weigh (asks_of g) d.next ≡ weigh (asks_of g) old = omega (arith, k.asks, ap (λ (x : Mark). x.asks) u, asks-weighs g d.next, asks-weighs g old) in
       let own : weigh (asks_of g) d.next ≡ asks_of g o = sums ∙ (ap (weigh (asks_of g)) q ∙ (let z : asks_of g o + 0 ≡ asks_of g o = omega arith in z)) in
       let inner : (heard g d.world.trace).inner ≡ (heard g s.world.trace).inner = k.inner ∙ ap (λ (x : Mark). x.inner) u in
-      held-step g (heard g s.world.trace) (heard g d.world.trace) s.parties p old rest d.next l e
+      held-step (asks_of g) (asks-calling g) (open_of (heard g s.world.trace)) (open_of (heard g d.world.trace)) s.parties p old rest d.next l e
       (λ b. sym (k.asking ∙ ap (λ (x : Mark). x.asking) u) ∙ b)
       (k.party ∙ ap (λ (x : Mark). x.party) u)
       (λ b n. inner)
-      (λ b n t. subst (λ (x : ℕ). Spotted x (seen g (seen g nowhere rest) (reverse d.next))) (sym inner) (subst (Spotted (heard g s.world.trace).inner) (ap (λ (os : List Op). seen g (seen g nowhere rest) (reverse os)) q ∙ seen-passes g (seen g nowhere rest) o d.next c own) t))
+      (λ b n t. subst (λ (x : ℕ). Spotted x (seen (asks_of g) (seen (asks_of g) nowhere rest) (reverse d.next))) (sym inner) (subst (Spotted (heard g s.world.trace).inner) (ap (λ (os : List Op). seen (asks_of g) (seen (asks_of g) nowhere rest) (reverse os)) q ∙ seen-passes (asks_of g) (asks-calling g) (seen (asks_of g) nowhere rest) o d.next c own) t))
       (h.held g)
 
   -- a poll begins
-  held-polled : (o : Op) → old ≡ o ∷ [] → calling_of o ≡ 1 → Passes o d.next → (m : Mark) → m.party ≡ p → m.inner ≡ 0 → m.asks ≡ suc before.asks → Awaits d.world g (with_ops g d.next others) (with_awaiting g d.next beside) m → Holds g (heard g d.world.trace) (set s.parties p (rest ++ reverse d.next))
+  held-polled : (o : Op) → old ≡ o ∷ [] → calling_of o ≡ 1 → Passes o d.next → (m : Mark) → m.party ≡ p → m.inner ≡ 0 → m.asks ≡ suc before.asks → Awaits d.world g (with_ops g d.next others) (with_awaiting g d.next beside) m → Holds (asks_of g) (open_of (heard g d.world.trace)) (set s.parties p (rest ++ reverse d.next))
   held-polled o q one c m a i n k =
-      held-asks g (heard g s.world.trace) (heard g d.world.trace) s.parties p old rest d.next l e (k.party ∙ a) (k.inner ∙ i) (c.one one)
+      held-asks (asks_of g) (asks-calling g) (open_of (heard g s.world.trace)) (open_of (heard g d.world.trace)) s.parties p old rest d.next l e (k.party ∙ a) (k.inner ∙ i) (c.one one)
       (omega (arith, k.asks, n, asks-weighs g d.next))
 
   -- a call of p begins
-  held-begun : old ≡ [] → Answering d.next → Awaits d.world g (with_ops g d.next others) (with_awaiting g d.next beside) (begun_in p g before) → Holds g (heard g d.world.trace) (set s.parties p (rest ++ reverse d.next))
+  held-begun : old ≡ [] → Answering d.next → Awaits d.world g (with_ops g d.next others) (with_awaiting g d.next beside) (begun_in p g before) → Holds (asks_of g) (open_of (heard g d.world.trace)) (set s.parties p (rest ++ reverse d.next))
   held-begun q a k =
       let sums : weigh (asks_of g) (reverse d.next) ≡ 0 = omega (arith, k.asks, ap (weigh (asks_of g)) q, asks-weighs g d.next, asks-weighs g old, weigh-reverse (asks_of g) d.next) in
       let one : weigh calling_of (reverse d.next) ≡ 1 = omega (arith, counts-answering d.next a, weigh-reverse calling_of d.next) in
-      held-step g (heard g s.world.trace) (heard g d.world.trace) s.parties p old rest d.next l e
+      held-step (asks_of g) (asks-calling g) (open_of (heard g s.world.trace)) (open_of (heard g d.world.trace)) s.parties p old rest d.next l e
       (λ b. sym k.asking ∙ b)
       k.party
       (λ b n. k.inner ∙ apart-inner (heard g s.world.trace).asking n)
       (λ b n t.
       let here : (heard g d.world.trace).inner ≡ (heard g s.world.trace).inner + 1 = k.inner ∙ own-inner (heard g s.world.trace).asking (sym k.asking ∙ b) n in
-      let before_it : seen g (seen g nowhere rest) (reverse old) ≡ seen g nowhere rest = ap (λ (os : List Op). seen g (seen g nowhere rest) (reverse os)) q in
-      let was : Spotted (heard g s.world.trace).inner (seen g nowhere rest) = subst (Spotted (heard g s.world.trace).inner) before_it t in
-      subst (Spotted (heard g d.world.trace).inner) (sym (seen-light g (seen g nowhere rest) (reverse d.next) sums)) (was.0, omega (arith, was.1, here, one)))
+      let before_it : seen (asks_of g) (seen (asks_of g) nowhere rest) (reverse old) ≡ seen (asks_of g) nowhere rest = ap (λ (os : List Op). seen (asks_of g) (seen (asks_of g) nowhere rest) (reverse os)) q in
+      let was : Spotted (heard g s.world.trace).inner (seen (asks_of g) nowhere rest) = subst (Spotted (heard g s.world.trace).inner) before_it t in
+      subst (Spotted (heard g d.world.trace).inner) (sym (seen-light (asks_of g) (seen (asks_of g) nowhere rest) (reverse d.next) sums)) (was.0, omega (arith, was.1, here, one)))
       (h.held g)
     where
       apart-inner : (b : Bool) → (heard g s.world.trace).party ≢ p → (heard g s.world.trace).inner + cond b (same (heard g s.world.trace).party p) 0 ≡ (heard g s.world.trace).inner
@@ -319,27 +322,27 @@ module _ (s : Machine) (p : ℕ) (a : Reply) (held : Hold) (below_it : List Op) 
   ended = done (log s.world (event.CallEnded p a)) []
 
   -- what is seen of the stack with the end on top
-  spotted : (heard g s.world.trace).asking ≡ true → (heard g s.world.trace).party ≡ p → Spotted (heard g s.world.trace).inner (spot (asks_of g (op.End a held)) 1 (seen g nowhere below_it))
-  spotted x q = subst (Spotted (heard g s.world.trace).inner) (ap (λ (n : ℕ). seen g nowhere (stack s n)) q ∙ (ap (seen g nowhere) e ∙ seen-append g nowhere below_it (op.End a held ∷ []))) (h.held g x)
+  spotted : (heard g s.world.trace).asking ≡ true → (heard g s.world.trace).party ≡ p → Spotted (heard g s.world.trace).inner (spot (asks_of g (op.End a held)) 1 (seen (asks_of g) nowhere below_it))
+  spotted x q = subst (Spotted (heard g s.world.trace).inner) (ap (λ (n : ℕ). seen (asks_of g) nowhere (stack s n)) q ∙ (ap (seen (asks_of g) nowhere) e ∙ seen-append (asks_of g) nowhere below_it (op.End a held ∷ []))) (h.held g x)
 
   ends-open : (heard g s.world.trace).asking ≡ true → (heard g s.world.trace).party ≡ p → (heard g s.world.trace).inner ≡ 0 → 1 ≤ asks_of g (op.End a held)
   ends-open x q z = go (asks_of g (op.End a held)) refl
     where
       go : (n : ℕ) → asks_of g (op.End a held) ≡ n → 1 ≤ asks_of g (op.End a held)
       go (suc n) y = omega (arith, y)
-      go zero y = let t : Spotted (heard g s.world.trace).inner (record (seen g nowhere below_it) { inner = 1 + (seen g nowhere below_it).inner }) = subst (Spotted (heard g s.world.trace).inner) (spot-none (asks_of g (op.End a held)) 1 (seen g nowhere below_it) y) (spotted x q) in absurd (omega (arith, t.1, z))
+      go zero y = let t : Spotted (heard g s.world.trace).inner (record (seen (asks_of g) nowhere below_it) { inner = 1 + (seen (asks_of g) nowhere below_it).inner }) = subst (Spotted (heard g s.world.trace).inner) (spot-none (asks_of g (op.End a held)) 1 (seen (asks_of g) nowhere below_it) y) (spotted x q) in absurd (omega (arith, t.1, z))
 
-  ends-within : (n : ℕ) → (heard g s.world.trace).asking ≡ true → (heard g s.world.trace).party ≡ p → (heard g s.world.trace).inner ≡ suc n → Spotted n (seen g nowhere below_it)
+  ends-within : (n : ℕ) → (heard g s.world.trace).asking ≡ true → (heard g s.world.trace).party ≡ p → (heard g s.world.trace).inner ≡ suc n → Spotted n (seen (asks_of g) nowhere below_it)
   ends-within n x q z = go (asks_of g (op.End a held)) refl
     where
-      go : (k : ℕ) → asks_of g (op.End a held) ≡ k → Spotted n (seen g nowhere below_it)
-      go zero y = let t : Spotted (heard g s.world.trace).inner (record (seen g nowhere below_it) { inner = 1 + (seen g nowhere below_it).inner }) = subst (Spotted (heard g s.world.trace).inner) (spot-none (asks_of g (op.End a held)) 1 (seen g nowhere below_it) y) (spotted x q) in (t.0, omega (arith, t.1, z))
-      go (suc k) y = let t : Spotted (heard g s.world.trace).inner (record { found = true; inner = 0 }) = subst (Spotted (heard g s.world.trace).inner) (spot-more (asks_of g (op.End a held)) 1 (seen g nowhere below_it) (omega (arith, y))) (spotted x q) in absurd (omega (arith, t.1, z))
+      go : (k : ℕ) → asks_of g (op.End a held) ≡ k → Spotted n (seen (asks_of g) nowhere below_it)
+      go zero y = let t : Spotted (heard g s.world.trace).inner (record (seen (asks_of g) nowhere below_it) { inner = 1 + (seen (asks_of g) nowhere below_it).inner }) = subst (Spotted (heard g s.world.trace).inner) (spot-none (asks_of g (op.End a held)) 1 (seen (asks_of g) nowhere below_it) y) (spotted x q) in (t.0, omega (arith, t.1, z))
+      go (suc k) y = let t : Spotted (heard g s.world.trace).inner (record { found = true; inner = 0 }) = subst (Spotted (heard g s.world.trace).inner) (spot-more (asks_of g (op.End a held)) 1 (seen (asks_of g) nowhere below_it) (omega (arith, y))) (spotted x q) in absurd (omega (arith, t.1, z))
 
-  held-ended : EndHeard p a (heard g s.world.trace) (heard g (s.world.trace ++ event.CallEnded p a ∷ [])) → Holds g (heard g (s.world.trace ++ event.CallEnded p a ∷ [])) (set s.parties p (below_it ++ reverse []))
+  held-ended : EndHeard p a (heard g s.world.trace) (heard g (s.world.trace ++ event.CallEnded p a ∷ [])) → Holds (asks_of g) (open_of (heard g (s.world.trace ++ event.CallEnded p a ∷ []))) (set s.parties p (below_it ++ reverse []))
   held-ended (own x q z y) = λ b. let no : false ≡ true = sym (ap (λ (t : Heard). t.asking) y) ∙ b in absurd (cc)
-  held-ended (within n x q z y) = held-step g (heard g s.world.trace) (heard g (s.world.trace ++ event.CallEnded p a ∷ [])) s.parties p (op.End a held ∷ []) below_it [] l e (λ b. x) (ap (λ (t : Heard). t.party) y) (λ b n. absurd (n q)) (λ b k t. subst (λ (m : ℕ). Spotted m (seen g nowhere below_it)) (sym (ap (λ (t : Heard). t.inner) y)) (ends-within n x q z)) (h.held g)
-  held-ended (apart x y) = held-step g (heard g s.world.trace) (heard g (s.world.trace ++ event.CallEnded p a ∷ [])) s.parties p (op.End a held ∷ []) below_it [] l e (λ b. sym (ap (λ (t : Heard). t.asking) y) ∙ b) (ap (λ (t : Heard). t.party) y) (λ b n. ap (λ (t : Heard). t.inner) y) (λ b k t. absurd (x (sym (ap (λ (t : Heard). t.asking) y) ∙ b) k)) (h.held g)
+  held-ended (within n x q z y) = held-step (asks_of g) (asks-calling g) (open_of (heard g s.world.trace)) (open_of (heard g (s.world.trace ++ event.CallEnded p a ∷ []))) s.parties p (op.End a held ∷ []) below_it [] l e (λ b. x) (ap (λ (t : Heard). t.party) y) (λ b n. absurd (n q)) (λ b k t. subst (λ (m : ℕ). Spotted m (seen (asks_of g) nowhere below_it)) (sym (ap (λ (t : Heard). t.inner) y)) (ends-within n x q z)) (h.held g)
+  held-ended (apart x y) = held-step (asks_of g) (asks-calling g) (open_of (heard g s.world.trace)) (open_of (heard g (s.world.trace ++ event.CallEnded p a ∷ []))) s.parties p (op.End a held ∷ []) below_it [] l e (λ b. sym (ap (λ (t : Heard). t.asking) y) ∙ b) (ap (λ (t : Heard). t.party) y) (λ b n. ap (λ (t : Heard). t.inner) y) (λ b k t. absurd (x (sym (ap (λ (t : Heard). t.asking) y) ∙ b) k)) (h.held g)
 
   awaits-ended : Awaits ended.world g (pend g (set s.parties p (below_it ++ reverse []))) (awaiting g (set s.parties p (below_it ++ reverse []))) (marked ended.world g (awaiting g (set s.parties p (below_it ++ reverse []))))
   awaits-ended = awaits-pushed s p (op.End a held ∷ []) below_it ended l e h g _ (awaits-end s.world p a held g _ _ _ (heard-end g p a s.world.trace) ends-open (stages-here s p (op.End a held ∷ []) below_it ended l e h g) (awaits-here s p (op.End a held ∷ []) below_it ended l e h g))
@@ -362,7 +365,7 @@ waited-way : (s : Machine) (p : ℕ) (old rest : List Op) (d : Done) → Good s 
 waited-way s p old rest d good l e (acted t o q z) tied h = rw z (acted-by s p rest t o (is_end o) refl l (subst (λ (os : List Op). stack s p ≡ rest ++ reverse os) q e) good (subst (λ (x : Done). AllTied (unsettled s p rest x)) z tied) h)
 waited-way s p old rest d good l e (reacted o u a q z) tied h = rw z (waited-reacted s p rest o u a l (subst (λ (os : List Op). stack s p ≡ rest ++ reverse os) q e) good (subst (λ (x : Done). AllTied (unsettled s p rest x)) z tied) h)
 waited-way s p old rest d good l e (called c q r n z) tied h =
-    let f : _ = none_refused (is_free (top (stack s p))) (has_all s.world s.parties (top (stack s p)) c) (not (s.world.gone && is_on_executor c)) (not (is_drop c) || is_unused borrowing_of s.parties) n in
+    let f : _ = none_refused (is_free (top (stack s p))) (has_all s.world s.parties (top (stack s p)) c) (not (s.world.gone && is_on_executor c)) (not (is_drop c) || is_unborrowed s.world s.parties) n in
     rw z (waited-begun s p rest c f.1 l r (subst (λ (os : List Op). stack s p ≡ rest ++ reverse os) q e) good (subst (λ (x : Done). AllTied (unsettled s p rest x)) z tied) h)
 
 waited-moves : (s : Machine) (p : ℕ) (old rest : List Op) (d : Done) → Good s → p < length s.parties → stack s p ≡ rest ++ reverse old → Way s p old rest d → Waited s → Waited (unsettled s p rest d)

@@ -19,6 +19,7 @@ use Rattle.executor_model.specs.Sound.Phase.{Fresh, Polling, Over, Broken}
 use Rattle.executor_model.specs.Weights.{same}
 use Rattle.executor_model.proofs.Telling.{same-cond}
 use Rattle.executor_model.proofs.Awaited.{Heard, unheard, is_pending, ended_in, hears, heard_from, heard}
+use Rattle.executor_model.specs.declared.op.Polled.TheVariants as of
 
 or-false : (b : Bool) → b ≡ (b || false)
 or-false true = refl
@@ -46,7 +47,7 @@ parted-one : (g n : ℕ) (e : Event) (s : Heard) → (hears g n e s).parted ≡ 
 parted-one g n (event.HandlePolled p f) s = parted-polled (eqb g f) n p s ∙ or-false s.parted
 parted-one g n (event.CallBegun p c) s = or-cond (takes_handle g (event.CallBegun p c)) s.parted
 parted-one g n (event.CallEnded p r) s = ended-same (λ (t : Heard). t.parted) (λ r s. refl) (λ n s. refl) _ s.inner r s ∙ or-false s.parted
-parted-one g n (event.WakerCalled p f k a) s = or-false s.parted
+parted-one g n (event.WakerCalled p (of.Handle f) k a) s = or-false s.parted
 parted-one g n (event.Dropped p f) s = or-false s.parted
 parted-one g n _ s = or-false s.parted
 
@@ -68,7 +69,7 @@ dropped-one : (g n : ℕ) (e : Event) (s : Heard) → (hears g n e s).dropped �
 dropped-one g n (event.HandlePolled p f) s = dropped-polled (eqb g f) n p s ∙ or-false s.dropped
 dropped-one g n (event.CallBegun p c) s = or-false s.dropped
 dropped-one g n (event.CallEnded p r) s = ended-same (λ (t : Heard). t.dropped) (λ r s. refl) (λ n s. refl) _ s.inner r s ∙ or-false s.dropped
-dropped-one g n (event.WakerCalled p f k a) s = or-false s.dropped
+dropped-one g n (event.WakerCalled p (of.Handle f) k a) s = or-false s.dropped
 dropped-one g n (event.Dropped p f) s = or-cond (eqb g f) s.dropped
 dropped-one g n _ s = or-false s.dropped
 
@@ -190,7 +191,7 @@ poll-one : (g n : ℕ) (e : Event) (s : Heard) → is_handle_poll g e ≡ false 
 poll-one g n (event.HandlePolled p f) s h = ap (λ (t : Heard). t.poll) (not-polled (eqb g f) n p s h)
 poll-one g n (event.CallEnded p r) s h = ended-same (λ (t : Heard). t.poll) (λ r s. refl) (λ n s. refl) _ s.inner r s
 poll-one g n (event.CallBegun p c) s h = refl
-poll-one g n (event.WakerCalled p f k a) s h = refl
+poll-one g n (event.WakerCalled p (of.Handle f) k a) s h = refl
 poll-one g n (event.Dropped p f) s h = refl
 poll-one g n _ s h = refl
 
@@ -212,7 +213,7 @@ called-one : (g n : ℕ) (e : Event) (s : Heard) → is_handle_poll g e ≡ fals
 called-one g n (event.HandlePolled p f) s h = ap (λ (t : Heard). t.called) (not-polled (eqb g f) n p s h) ∙ or-false s.called
 called-one g n (event.CallEnded p r) s h = ended-same (λ (t : Heard). t.called) (λ r s. refl) (λ n s. refl) _ s.inner r s ∙ or-false s.called
 called-one g n (event.CallBegun p c) s h = or-false s.called
-called-one g n (event.WakerCalled p f k a) s h = or-conds (eqb g f) (eqb s.poll k) s.called
+called-one g n (event.WakerCalled p (of.Handle f) k a) s h = or-conds (eqb g f) (eqb s.poll k) s.called
 called-one g n (event.Dropped p f) s h = or-false s.called
 called-one g n _ s h = or-false s.called
 
@@ -241,7 +242,7 @@ stays-one : (g n : ℕ) (e : Event) (s : Heard) → is_handle_poll g e ≡ false
 stays-one g n (event.HandlePolled p f) s k h = subst IsAnsweredPending (sym (not-polled (eqb g f) n p s k)) h
 stays-one g n (event.CallEnded p r) s k h = stays-ended (eqb s.party p) r s h
 stays-one g n (event.CallBegun p c) s k h = h
-stays-one g n (event.WakerCalled p f x a) s k h = h
+stays-one g n (event.WakerCalled p (of.Handle f) x a) s k h = h
 stays-one g n (event.Dropped p f) s k h = h
 stays-one g n _ s k h = h
 
@@ -277,7 +278,7 @@ inside-one : (g n p : ℕ) (e : Event) (s : Heard) → is_handle_poll g e ≡ fa
 inside-one g n p (event.HandlePolled q f) s k a t h = subst (λ (u : Heard). IsInside p s u (event.HandlePolled q f)) (sym (not-polled (eqb g f) n q s k)) (inside-same p s (event.HandlePolled q f) a t refl refl)
 inside-one g n p (event.CallEnded q r) s k a t h = inside-ended _ _ p q r s refl refl a t h
 inside-one g n p (event.CallBegun q c) s k a t h = inside-begun g n p q c s a t
-inside-one g n p (event.WakerCalled q f x w) s k a t h = record { asking = a; party = t; inner = refl }
+inside-one g n p (event.WakerCalled q (of.Handle f) x w) s k a t h = record { asking = a; party = t; inner = refl }
 inside-one g n p (event.Dropped q f) s k a t h = record { asking = a; party = t; inner = refl }
 inside-one g n p _ s k a t h = record { asking = a; party = t; inner = refl }
 

@@ -8,7 +8,9 @@ use Rattle.executor_model.specs.declared.op.HandleOp.TheVariants as handle_op
 use Rattle.executor_model.specs.declared.op.WakerOp.TheVariants as waker_op
 use Rattle.executor_model.specs.declared.op.QueueOp.TheVariants as queue_op
 use Rattle.task_moves.specs.declared.moves.owed.Move.TheVariants as move
+use Rattle.executor_model.specs.declared.op.SleeperOp.TheVariants as sleeper_op
 use Rattle.executor_model.specs.declared.op.TableOp.TheVariants as table_op
+use Rattle.executor_model.specs.declared.op.TickOp.TheVariants as tick_op
 use Rattle.executor_model.specs.declared.op.UserOp.TheVariants as user_op
 use Rattle.executor_model.specs.Weights.{weigh, weigh_all}
 use Rattle.executor_model.proofs.Lists.{same_is, weigh-reverse}
@@ -103,6 +105,8 @@ drop-uses g (op.Move move.Wake f) = omega arith
 drop-uses g (op.Queue queue_op.Take) = omega arith
 drop-uses g (op.Waker (waker_op.CopyWaker f held)) = omega arith
 drop-uses g (op.Handle (handle_op.LookAgain f)) = omega arith
+drop-uses g (op.Sleeper sleeper_op.HandOut) = omega arith
+drop-uses g (op.Tick tick_op.MakeTick) = omega arith
 drop-uses g (op.Closing closing_op.Drain) = omega arith
 drop-uses g _ = omega arith
 

@@ -14,20 +14,21 @@ use Rattle.executor_model.specs.declared.op.Awaiter.{Awaiter}
 use Rattle.executor_model.specs.declared.op.Waker.{Waker}
 use Rattle.executor_model.specs.declared.op.Waker.TheVariants.{Task, Outside}
 use Rattle.executor_model.specs.declared.op.Hold.{Hold}
+use Rattle.executor_model.specs.declared.op.Polled.TheVariants as of
 use Rattle.executor_model.specs.declared.op.Op.{Op}
 use Rattle.executor_model.specs.declared.op.Op.TheVariants as op
 use Rattle.executor_model.specs.declared.op.ClosingOp.TheVariants as closing_op
 use Rattle.executor_model.specs.declared.op.HandleOp.TheVariants as handle_op
 use Rattle.executor_model.specs.declared.op.QueueOp.TheVariants as queue_op
+use Rattle.executor_model.specs.declared.op.SleeperOp.TheVariants as sleeper_op
 use Rattle.executor_model.specs.declared.op.TableOp.TheVariants as table_op
-use Rattle.executor_model.specs.declared.op.UserOp.TheVariants as user_op
+use Rattle.executor_model.specs.declared.op.TickOp.TheVariants as tick_op
 use Rattle.executor_model.specs.declared.op.WakerOp.TheVariants as waker_op
-use Rattle.executor_model.specs.declared.step.Hint.{Hint}
 use Rattle.executor_model.specs.Trace.{Trace}
 use Rattle.executor_model.specs.Quiet.{begins_call, ends_call}
-use Rattle.executor_model.specs.World.{World, Done, log, log_if, task, put, among, awaiter_of}
+use Rattle.executor_model.specs.World.{World, Done, log, log_if, task, put, awaiter_of}
 use Rattle.executor_model.specs.Carried.{owed_ops, awaiter_ops}
-use Rattle.executor_model.specs.Acts.{append_by, take_by, enter_by, leave_by, copy_by, look_by, look_again_by, copy_awaiter_by, register_by, waker_goes, let_go, end_register_by, notify_by, told, call_awaiter, closing_ops, drop_next_by, wake, wake_next_by, drain_by, act}
+use Rattle.executor_model.specs.Acts.{append_by, take_by, enter_by, leave_by, copy_by, look_by, look_again_by, copy_awaiter_by, register_by, waker_goes, let_go, end_register_by, notify_by, told, call_awaiter, closing_ops, drop_next_by, wake, wake_next_by, drain_by}
 use Rattle.executor_model.specs.Weights.{same, weigh}
 use Rattle.executor_model.proofs.Lists.{weigh-append}
 use Rattle.executor_model.proofs.Owed.{owed-future, owed-awaiter, owed-nothing}
@@ -44,6 +45,12 @@ calling_of (op.Handle (handle_op.CopyAwaiter f a)) = 1
 calling_of (op.Handle (handle_op.Register f a k)) = 1
 calling_of (op.Handle (handle_op.EndRegister f a k)) = 1
 calling_of (op.Handle (handle_op.LookAgain f)) = 1
+calling_of (op.Tick tick_op.MakeTick) = 1
+calling_of (op.Tick (tick_op.Search s)) = 1
+calling_of (op.Tick (tick_op.CopyWaker s)) = 1
+calling_of (op.Tick (tick_op.LieDown s)) = 1
+calling_of (op.Tick (tick_op.GetUp t f)) = 1
+calling_of (op.Tick (tick_op.Leave t)) = 1
 calling_of (op.End r held) = 1
 calling_of _ = 0
 
@@ -88,11 +95,11 @@ steady-same w v e = record { begun = λ q. ap (begun_by q) e; ended = λ q. ap (
 pub steady-log : (w v : World) (e : Event) → v.trace ≡ w.trace ++ e ∷ [] → ((q : ℕ) → begin_of q e ≡ 0) → ((q : ℕ) → end_of q e ≡ 0) → Steady w v
 steady-log w v e t a b = record { begun = λ q. ap (begun_by q) t ∙ omega (arith, begun-push q w.trace e, a q); ended = λ q. ap (ended_by q) t ∙ omega (arith, ended-push q w.trace e, b q) }
 
-steady-log_if : (c : Bool) (w v : World) (e : Event) → v.trace ≡ (log_if c w e).trace → ((q : ℕ) → begin_of q e ≡ 0) → ((q : ℕ) → end_of q e ≡ 0) → Steady w v
+pub steady-log_if : (c : Bool) (w v : World) (e : Event) → v.trace ≡ (log_if c w e).trace → ((q : ℕ) → begin_of q e ≡ 0) → ((q : ℕ) → end_of q e ≡ 0) → Steady w v
 steady-log_if true w v e t a b = steady-log w v e t a b
 steady-log_if false w v e t a b = steady-same w v t
 
-steady-and : (w v u : World) → Steady w v → Steady v u → Steady w u
+pub steady-and : (w v u : World) → Steady w v → Steady v u → Steady w u
 steady-and w v u a b = record { begun = λ q. b.begun q ∙ a.begun q; ended = λ q. b.ended q ∙ a.ended q }
 
 -- a list whose last thing answers its call
@@ -118,7 +125,7 @@ zero-one n a b = omega (arith, a, b)
 pub inside : (w : World) (o : Op) (d : Done) → calling_of o ≡ 0 → Steady w d.world → weigh calling_of d.next ≡ 0 → Calls w o d
 inside w o d z s n = record { steady = s; passes = record { none = λ e. n; one = λ e. absurd (zero-one (calling_of o) z e) } }
 
-answers : (w : World) (o : Op) (d : Done) → calling_of o ≡ 1 → Steady w d.world → Answering d.next → Calls w o d
+pub answers : (w : World) (o : Op) (d : Done) → calling_of o ≡ 1 → Steady w d.world → Answering d.next → Calls w o d
 answers w o d z s n = record { steady = s; passes = record { none = λ e. absurd (zero-one (calling_of o) e z); one = λ e. n } }
 
 pub single : (x : Op) → calling_of x ≡ 1 → Answering (x ∷ [])
@@ -128,13 +135,13 @@ pub then : (xs : List Op) (x : Op) → weigh calling_of xs ≡ 0 → calling_of 
 then xs x z c = record { front = xs; last = x; is = refl; none = z; call = c }
 
 -- what a move owes answers no call
-none-both : (xs ys : List Op) → weigh calling_of xs ≡ 0 → weigh calling_of ys ≡ 0 → weigh calling_of (xs ++ ys) ≡ 0
+pub none-both : (xs ys : List Op) → weigh calling_of xs ≡ 0 → weigh calling_of ys ≡ 0 → weigh calling_of (xs ++ ys) ≡ 0
 none-both xs ys a b = omega (arith, weigh-append calling_of xs ys, a, b)
 
 none-awaiter : (f : ℕ) (o : Option AwaiterDebt) → weigh calling_of (awaiter_ops f o) ≡ 0
 none-awaiter f o = owed-awaiter calling_of f (record { notify = λ m. refl }) o
 
-none-owed : (f : ℕ) (there : Bool) (o : Owed) → weigh calling_of (owed_ops there f o) ≡ 0
+pub none-owed : (f : ℕ) (there : Bool) (o : Owed) → weigh calling_of (owed_ops there f o) ≡ 0
 none-owed f there o = owed-nothing calling_of f (record { append = refl; output = refl; release = refl; settle_closed = refl; give_up = refl; end_closed = refl; detach = refl }) there o (owed-future calling_of f (record { poll = refl; drop = refl }) there o.future) (none-awaiter f o.awaiter)
 
 none-goes : (a : Waker) → weigh calling_of (waker_goes a) ≡ 0
@@ -145,125 +152,89 @@ none-let_go : (a : Option Awaiter) → weigh calling_of (let_go a) ≡ 0
 none-let_go None = refl
 none-let_go (Some a) = none-goes a.waker
 
-none-told : (b : Bool) (f : ℕ) (a : Option Awaiter) → weigh calling_of (told b f a) ≡ 0
+pub none-told : (b : Bool) (f : ℕ) (a : Option Awaiter) → weigh calling_of (told b f a) ≡ 0
 none-told b f None = refl
 none-told true f (Some a) = none-goes a.waker
 none-told false f (Some a) = refl
 
-none-closing : (ls ws : List ℕ) → weigh calling_of (closing_ops ls ws) ≡ 0
+pub none-closing : (ls ws : List ℕ) → weigh calling_of (closing_ops ls ws) ≡ 0
 none-closing [] [] = refl
 none-closing [] (x ∷ ws) = refl
 none-closing (x ∷ ls) ws = refl
 
 -- each thing to do, but for the end of a call
 
-calls-append : (b : Bool) (w : World) (f : ℕ) → Calls w (op.Queue (queue_op.Append f)) (append_by b w f)
+pub calls-append : (b : Bool) (w : World) (f : ℕ) → Calls w (op.Queue (queue_op.Append f)) (append_by b w f)
 calls-append true w f = inside w _ _ refl (steady-same _ _ refl) refl
 calls-append false w f = inside w _ _ refl (steady-same _ _ refl) refl
 
-calls-take : (q : List ℕ) (w : World) → Calls w (op.Queue queue_op.Take) (take_by w q)
+pub calls-take : (q : List ℕ) (w : World) → Calls w (op.Queue queue_op.Take) (take_by w q)
 calls-take [] w = answers w _ _ refl (steady-same _ _ refl) (single _ refl)
-calls-take (f ∷ rest) w = answers w _ _ refl (steady-same _ _ refl) (then (op.Move move.TakeUp f ∷ []) _ refl refl)
+calls-take (f ∷ rest) w = answers w _ _ refl (steady-same _ _ refl) (then (op.Sleeper sleeper_op.ExchangeFlag ∷ op.Move move.TakeUp f ∷ []) _ refl refl)
 
-calls-enter : (b c : Bool) (p : ℕ) (w : World) → Calls w (op.Table table_op.Enter) (enter_by b c p w)
+pub calls-enter : (b c : Bool) (p : ℕ) (w : World) → Calls w (op.Table table_op.Enter) (enter_by b c p w)
 calls-enter true c p w = answers w _ _ refl (steady-same _ _ refl) (single _ refl)
 calls-enter false true p w = answers w _ _ refl (steady-same _ _ refl) (single _ refl)
 calls-enter false false p w = answers w _ _ refl (steady-log _ _ (event.Accepted p (length w.tasks)) refl (λ q. refl) (λ q. refl)) (then (op.Queue (queue_op.Append (length w.tasks)) ∷ []) _ refl refl)
 
-calls-leave : (b : Bool) (w : World) (f : ℕ) → Calls w (op.Table (table_op.LeaveTable f)) (leave_by b w f)
+pub calls-leave : (b : Bool) (w : World) (f : ℕ) → Calls w (op.Table (table_op.LeaveTable f)) (leave_by b w f)
 calls-leave true w f = inside w _ _ refl (steady-same _ _ refl) refl
 calls-leave false w f = inside w _ _ refl (steady-same _ _ refl) refl
 
-calls-copy : (b : Bool) (w : World) (f : ℕ) (held : Hold) → Calls w (op.Waker (waker_op.CopyWaker f held)) (copy_by b w f held)
+pub calls-copy : (b : Bool) (w : World) (f : ℕ) (held : Hold) → Calls w (op.Waker (waker_op.CopyWaker f held)) (copy_by b w f held)
 calls-copy true w f held = answers w _ _ refl (steady-same _ _ refl) (single _ refl)
 calls-copy false w f held = answers w _ _ refl (steady-same _ _ refl) (single _ refl)
 
 -- the poll of a handle that is answered
-calls-answered : (o : Option Answer) (p : ℕ) (w v : World) (f : ℕ) (a : Waker) (m : Moved) → Calls w (op.Handle (handle_op.Look f a)) (look_by o p w f a m)
+pub calls-answered : (o : Option Answer) (p : ℕ) (w v : World) (f : ℕ) (a : Waker) (m : Moved) → Calls w (op.Handle (handle_op.Look f a)) (look_by o p w f a m)
 calls-answered None p w v f a m = answers w _ _ refl (steady-same _ _ refl) (single _ refl)
 calls-answered (Some x) p w v f a m = answers w _ _ refl (steady-and w (put (log w (event.HandlePolled p f)) f m.state) _ (steady-log w _ (event.HandlePolled p f) refl (λ q. refl) (λ q. refl)) (steady-log_if _ (put (log w (event.HandlePolled p f)) f m.state) _ (event.OutputGiven p f) refl (λ q. refl) (λ q. refl))) (then (awaiter_ops f m.owed.awaiter) _ (none-awaiter f m.owed.awaiter) refl)
 
-calls-again : (x k c : Bool) (p : ℕ) (w : World) (f : ℕ) → Calls w (op.Handle (handle_op.LookAgain f)) (look_again_by (moves.look_again_by x k c (task w f)).owed.answer p w f (moves.look_again_by x k c (task w f)))
+pub calls-again : (x k c : Bool) (p : ℕ) (w : World) (f : ℕ) → Calls w (op.Handle (handle_op.LookAgain f)) (look_again_by (moves.look_again_by x k c (task w f)).owed.answer p w f (moves.look_again_by x k c (task w f)))
 calls-again true true c p w f = answers w _ _ refl (steady-same _ _ refl) (single _ refl)
 calls-again true false c p w f = answers w _ _ refl (steady-same _ _ refl) (then (op.Handle (handle_op.Notify f true) ∷ []) _ refl refl)
 calls-again false k false p w f = answers w _ _ refl (steady-same _ _ refl) (single _ refl)
 calls-again false k true p w f = answers w _ _ refl (steady-log _ _ (event.OutputGiven p f) refl (λ q. refl) (λ q. refl)) (then (awaiter_ops f (moves.look_again_by false k true (task w f)).owed.awaiter) _ (none-awaiter f _) refl)
 
-calls-copy_awaiter : (b : Bool) (p : ℕ) (w : World) (f : ℕ) (a : Waker) → Calls w (op.Handle (handle_op.CopyAwaiter f a)) (copy_awaiter_by b p w f a)
+pub calls-copy_awaiter : (b : Bool) (p : ℕ) (w : World) (f : ℕ) (a : Waker) → Calls w (op.Handle (handle_op.CopyAwaiter f a)) (copy_awaiter_by b p w f a)
 calls-copy_awaiter true p w f a = answers w _ _ refl (steady-same _ _ refl) (single _ refl)
 calls-copy_awaiter false p w f (Task k) = answers w _ _ refl (steady-log _ _ (event.HandlePolled p f) refl (λ q. refl) (λ q. refl)) (single _ refl)
 calls-copy_awaiter false p w f (Outside x) = answers w _ _ refl (steady-log _ _ (event.HandlePolled p f) refl (λ q. refl) (λ q. refl)) (single _ refl)
 
-calls-register : (b : Bool) (w : World) (f : ℕ) (a : Waker) (k : ℕ) → Calls w (op.Handle (handle_op.Register f a k)) (register_by b w f a k)
+pub calls-register : (b : Bool) (w : World) (f : ℕ) (a : Waker) (k : ℕ) → Calls w (op.Handle (handle_op.Register f a k)) (register_by b w f a k)
 calls-register true w f a k = answers w _ _ refl (steady-same _ _ refl) (then (op.Waker (waker_op.CallAwaiter f a k) ∷ []) _ refl refl)
 calls-register false w f a k = answers w _ _ refl (steady-same _ _ refl) (single _ refl)
 
-calls-end_register : (b : Bool) (w : World) (f : ℕ) (a : Waker) (k : ℕ) → Calls w (op.Handle (handle_op.EndRegister f a k)) (end_register_by b w f a k)
+pub calls-end_register : (b : Bool) (w : World) (f : ℕ) (a : Waker) (k : ℕ) → Calls w (op.Handle (handle_op.EndRegister f a k)) (end_register_by b w f a k)
 calls-end_register true w f a k = answers w _ _ refl (steady-same _ _ refl) (then (op.Waker (waker_op.CallAwaiter f a k) ∷ let_go (awaiter_of w f)) _ (omega (arith, none-let_go (awaiter_of w f))) refl)
 calls-end_register false w f a k = answers w _ _ refl (steady-same _ _ refl) (then (let_go (awaiter_of w f)) _ (none-let_go (awaiter_of w f)) refl)
 
-calls-notify : (b : Bool) (w : World) (f : ℕ) (mine : Bool) → Calls w (op.Handle (handle_op.Notify f mine)) (notify_by b w f mine)
+pub calls-notify : (b : Bool) (w : World) (f : ℕ) (mine : Bool) → Calls w (op.Handle (handle_op.Notify f mine)) (notify_by b w f mine)
 calls-notify true w f mine = inside w _ _ refl (steady-same _ _ refl) refl
 calls-notify false w f mine = inside w _ _ refl (steady-same _ _ refl) refl
 
-steady-wake : (p : ℕ) (w : World) (f : ℕ) → Steady w (wake p w f).world
+pub steady-wake : (p : ℕ) (w : World) (f : ℕ) → Steady w (wake p w f).world
 steady-wake p w f = steady-log_if _ w _ (event.Woken p f) refl (λ q. refl) (λ q. refl)
 
-none-wake : (p : ℕ) (w : World) (f : ℕ) → weigh calling_of (wake p w f).next ≡ 0
+pub none-wake : (p : ℕ) (w : World) (f : ℕ) → weigh calling_of (wake p w f).next ≡ 0
 none-wake p w f = none-owed f _ (moves.wake (task w f)).owed
 
-calls-call : (p : ℕ) (w : World) (f : ℕ) (a : Waker) (k : ℕ) → Calls w (op.Waker (waker_op.CallAwaiter f a k)) (call_awaiter p w f a k)
-calls-call p w f (Task m) k = inside w _ _ refl (steady-and w (log w (event.WakerCalled p f k (Task m))) _ (steady-log w _ (event.WakerCalled p f k (Task m)) refl (λ q. refl) (λ q. refl)) (steady-wake p (log w (event.WakerCalled p f k (Task m))) m)) (none-wake p (log w (event.WakerCalled p f k (Task m))) m)
-calls-call p w f (Outside x) k = inside w _ _ refl (steady-log _ _ (event.WakerCalled p f k (Outside x)) refl (λ q. refl) (λ q. refl)) refl
+pub calls-call : (p : ℕ) (w : World) (f : ℕ) (a : Waker) (k : ℕ) → Calls w (op.Waker (waker_op.CallAwaiter f a k)) (call_awaiter p w f a k)
+calls-call p w f (Task m) k = inside w _ _ refl (steady-and w (log w (event.WakerCalled p (of.Handle f) k (Task m))) _ (steady-log w _ (event.WakerCalled p (of.Handle f) k (Task m)) refl (λ q. refl) (λ q. refl)) (steady-wake p (log w (event.WakerCalled p (of.Handle f) k (Task m))) m)) (none-wake p (log w (event.WakerCalled p (of.Handle f) k (Task m))) m)
+calls-call p w f (Outside x) k = inside w _ _ refl (steady-log _ _ (event.WakerCalled p (of.Handle f) k (Outside x)) refl (λ q. refl) (λ q. refl)) refl
 
-calls-drop_next : (p : ℕ) (w : World) (ls : List ℕ) → Calls w (op.Closing closing_op.DropNext) (drop_next_by p w ls)
+pub calls-drop_next : (p : ℕ) (w : World) (ls : List ℕ) → Calls w (op.Closing closing_op.DropNext) (drop_next_by p w ls)
 calls-drop_next p w [] = inside w _ _ refl (steady-same _ _ refl) refl
 calls-drop_next p w (f ∷ rest) = inside w _ _ refl (steady-log _ _ (event.Dropped p f) refl (λ q. refl) (λ q. refl)) (omega (arith, none-closing rest (w.waking ++ f ∷ [])))
 
-calls-wake_next : (p : ℕ) (w : World) (ws : List ℕ) → Calls w (op.Closing closing_op.WakeNext) (wake_next_by p w ws)
+pub calls-wake_next : (p : ℕ) (w : World) (ws : List ℕ) → Calls w (op.Closing closing_op.WakeNext) (wake_next_by p w ws)
 calls-wake_next p w [] = inside w _ _ refl (steady-same _ _ refl) refl
 calls-wake_next p w (f ∷ rest) = inside w _ _ refl (steady-and w (record w { waking = rest }) _ (steady-same w (record w { waking = rest }) refl) (steady-wake p (record w { waking = rest }) f)) (none-both (wake p (record w { waking = rest }) f).next (closing_ops [] rest) (none-wake p (record w { waking = rest }) f) (none-closing [] rest))
 
-calls-drain : (p : ℕ) (w : World) (q : List ℕ) → Calls w (op.Closing closing_op.Drain) (drain_by p w q)
+pub calls-drain : (p : ℕ) (w : World) (q : List ℕ) → Calls w (op.Closing closing_op.Drain) (drain_by p w q)
 calls-drain p w [] = inside w _ _ refl (steady-log _ _ (event.DropEnded p) refl (λ q. refl) (λ q. refl)) refl
 calls-drain p w (f ∷ rest) = inside w _ _ refl (steady-same _ _ refl) refl
 
 abbrev pub is_end : Op → Bool
 is_end (op.End r held) = true
 is_end _ = false
-
-pub calls-act : (p : ℕ) (h : Hint) (o : Op) (w : World) → is_end o ≡ false → Calls w o (act p h o w)
-calls-act p h (op.Table table_op.Enter) w n = calls-enter _ _ p w
-calls-act p h (op.Queue queue_op.Take) w n = calls-take _ w
-calls-act p h (op.Table table_op.LookAtTable) w n = answers w _ _ refl (steady-same _ _ refl) (single _ refl)
-calls-act p h (op.Queue (queue_op.Append f)) w n = calls-append _ w f
-calls-act p h (op.Move move.WakeByReference f) w n = inside w _ _ refl (steady-log_if _ w _ (event.Woken p f) refl (λ q. refl) (λ q. refl)) (none-owed f _ (moves.wake_by_reference (task w f)).owed)
-calls-act p h (op.Move move.Wake f) w n = inside w _ _ refl (steady-wake p w f) (none-wake p w f)
-calls-act p h (op.Move move.Release f) w n = inside w _ _ refl (steady-same _ _ refl) (none-owed f (among f w.table) (moves.release (task w f)).owed)
-calls-act p h (op.Move move.TakeUp f) w n = inside w _ _ refl (steady-log_if _ w _ (event.PollBegun p f) refl (λ q. refl) (λ q. refl)) (none-owed f _ (moves.take_up (task w f)).owed)
-calls-act p h (op.Move move.SettleClosed f) w n = inside w _ _ refl (steady-same _ _ refl) (none-owed f (among f w.table) (moves.settle_closed (task w f)).owed)
-calls-act p h (op.Move move.GiveUp f) w n = inside w _ _ refl (steady-same _ _ refl) (none-owed f (among f w.table) (moves.give_up (task w f)).owed)
-calls-act p h (op.Move move.EndReady f) w n = inside w _ _ refl (steady-same _ _ refl) (none-owed f (among f w.table) (moves.end_ready (task w f)).owed)
-calls-act p h (op.Move move.EndPending f) w n = inside w _ _ refl (steady-same _ _ refl) (none-owed f (among f w.table) (moves.end_pending (task w f)).owed)
-calls-act p h (op.Move move.EndClosed f) w n = inside w _ _ refl (steady-same _ _ refl) (none-owed f (among f w.table) (moves.end_closed (task w f)).owed)
-calls-act p h (op.Move move.DropRunnable f) w n = inside w _ _ refl (steady-same _ _ refl) (none-owed f (among f w.table) (moves.drop_runnable (task w f)).owed)
-calls-act p h (op.Move move.Cancel f) w n = inside w _ _ refl (steady-log_if _ w _ (event.Cancelled p f) refl (λ q. refl) (λ q. refl)) (none-owed f _ (moves.cancel (task w f)).owed)
-calls-act p h (op.Move move.Detach f) w n = inside w _ _ refl (steady-log_if _ w _ (event.Detached p f) refl (λ q. refl) (λ q. refl)) (none-owed f _ (moves.detach (task w f)).owed)
-calls-act p h (op.User (user_op.BeginDrop f)) w n = inside w _ _ refl (steady-log _ _ (event.Dropped p f) refl (λ q. refl) (λ q. refl)) refl
-calls-act p h (op.Table (table_op.LeaveTable f)) w n = calls-leave _ w f
-calls-act p h (op.User (user_op.BeginDropOutput f)) w n = inside w _ _ refl (steady-log _ _ (event.OutputDropped p f) refl (λ q. refl) (λ q. refl)) refl
-calls-act p h (op.Waker (waker_op.CopyWaker f held)) w n = calls-copy _ w f held
-calls-act p h (op.Handle (handle_op.Look f a)) w n = calls-answered (moves.poll (task w f)).owed.answer p w w f a (moves.poll (task w f))
-calls-act p h (op.Handle (handle_op.CopyAwaiter f a)) w n = calls-copy_awaiter _ p w f a
-calls-act p h (op.Handle (handle_op.Register f a k)) w n = calls-register _ w f a k
-calls-act p h (op.Handle (handle_op.EndRegister f a k)) w n = calls-end_register _ w f a k
-calls-act p h (op.Handle (handle_op.LookAgain f)) w n = calls-again _ _ _ p w f
-calls-act p h (op.Handle (handle_op.Notify f mine)) w n = calls-notify _ w f mine
-calls-act p h (op.Handle (handle_op.EndNotify f mine)) w n = inside w _ _ refl (steady-same _ _ refl) (none-told _ f (awaiter_of w f))
-calls-act p h (op.Waker (waker_op.CallAwaiter f a k)) w n = calls-call p w f a k
-calls-act p h (op.Closing closing_op.TakeOut) w n = inside w _ _ refl (steady-same _ _ refl) (none-closing w.table w.waking)
-calls-act p h (op.Closing closing_op.DropNext) w n = calls-drop_next p w w.leaving
-calls-act p h (op.Closing closing_op.WakeNext) w n = calls-wake_next p w w.waking
-calls-act p h (op.Closing closing_op.Drain) w n = calls-drain p w w.queue.items
-calls-act p h (op.End r held) w n = absurd (cc)
-calls-act p h _ w n = inside w _ _ refl (steady-same _ _ refl) refl

@@ -16,6 +16,7 @@ use Rattle.executor_model.specs.declared.op.Awaiter.{Awaiter}
 use Rattle.executor_model.specs.declared.op.Waker.{Waker}
 use Rattle.executor_model.specs.declared.op.Waker.TheVariants.{Task, Outside}
 use Rattle.executor_model.specs.declared.op.Hold.{Hold}
+use Rattle.executor_model.specs.declared.op.Polled.TheVariants as of
 use Rattle.executor_model.specs.declared.op.Op.{Op}
 use Rattle.executor_model.specs.declared.op.Op.TheVariants as op
 use Rattle.executor_model.specs.declared.op.ClosingOp.TheVariants as closing_op
@@ -27,7 +28,7 @@ use Rattle.executor_model.specs.declared.op.WakerOp.TheVariants as waker_op
 use Rattle.executor_model.specs.declared.step.Hint.{Hint}
 use Rattle.executor_model.specs.World.{World, Done, done, log, log_if, task, put, awaiter_of, put_awaiter, among}
 use Rattle.executor_model.specs.Carried.{carried, owed_ops}
-use Rattle.executor_model.specs.Acts.{append_by, take_by, enter_by, take_to_poll, put_back, take_to_drop, leave_by, begin_drop, begin_drop_output, copy_by, is_refused, answered, polled, look_by, look_again_by, is_copy_refused, copy_awaiter_by, register_by, end_register_by, notify_by, told, let_go, call_awaiter, closing_ops, drop_next_by, wake_next_by, drain_by, act}
+use Rattle.executor_model.specs.Acts.{append_by, take_by, enter_by, take_to_poll, put_back, take_to_drop, leave_by, begin_drop, begin_drop_output, copy_by, is_refused, answered, polled, look_by, look_again_by, is_copy_refused, copy_awaiter_by, register_by, end_register_by, notify_by, told, let_go, call_awaiter, closing_ops, drop_next_by, wake_next_by, drain_by}
 use Rattle.executor_model.specs.Weights.{same, weigh, past, waker_past}
 use Rattle.executor_model.specs.Good.{pasts}
 use Rattle.executor_model.specs.Rows.{past_of}
@@ -40,41 +41,41 @@ use Rattle.executor_model.proofs.Lists.{read_put, read_push, fresh_is, wakers_of
 abbrev pub Keeps : World → List Op → Done → Type 0
 Keeps w old d = (g : ℕ) (r : Pend) → Sound w g (with_ops g old r) → Sound d.world g (with_ops g d.next r)
 
-sound-append : (b : Bool) (w : World) (f : ℕ) → Keeps w (op.Queue (queue_op.Append f) ∷ []) (append_by b w f)
+pub sound-append : (b : Bool) (w : World) (f : ℕ) → Keeps w (op.Queue (queue_op.Append f) ∷ []) (append_by b w f)
 sound-append = by_bool _
     (λ w f g r h. grind (arith, same_is, times-append))
     (λ w f g r h. grind (arith, same_is))
 
-sound-take : (q : List ℕ) (w : World) → w.queue.items ≡ q → Keeps w (op.Queue queue_op.Take ∷ []) (take_by w q)
+pub sound-take : (q : List ℕ) (w : World) → w.queue.items ≡ q → Keeps w (op.Queue queue_op.Take ∷ []) (take_by w q)
 sound-take = by_list _
     (λ w e g r h. grind arith)
     (λ f rest w e g r h. let z : same g f + times g (drop 1 w.queue.items) ≡ times g w.queue.items = times-drop g f rest w.queue.items e in grind (arith, same_is))
 
-sound-enter : (b c : Bool) (p : ℕ) (w : World) → Keeps w (op.Table table_op.Enter ∷ []) (enter_by b c p w)
+pub sound-enter : (b c : Bool) (p : ℕ) (w : World) → Keeps w (op.Table table_op.Enter ∷ []) (enter_by b c p w)
 sound-enter = by_bool _
     (λ c p w g r h. grind arith)
     (by_bool _
     (λ p w g r h. grind arith)
     (λ p w g r h. grind (arith, fresh_is, read_push, times-append, awaiters_of-push, phase-push)))
 
-sound-take_to_poll : (w : World) (f : ℕ) → Keeps w (op.Table (table_op.TakeToPoll f) ∷ []) (take_to_poll w f)
+pub sound-take_to_poll : (w : World) (f : ℕ) → Keeps w (op.Table (table_op.TakeToPoll f) ∷ []) (take_to_poll w f)
 sound-take_to_poll w f g r h = grind (arith, same_is)
 
-sound-put_back : (w : World) (f : ℕ) → Keeps w (op.Table (table_op.PutBack f) ∷ []) (put_back w f)
+pub sound-put_back : (w : World) (f : ℕ) → Keeps w (op.Table (table_op.PutBack f) ∷ []) (put_back w f)
 sound-put_back w f g r h = grind (arith, same_is)
 
-sound-take_to_drop : (w : World) (f : ℕ) → Keeps w (op.Table (table_op.TakeToDrop f) ∷ []) (take_to_drop w f)
+pub sound-take_to_drop : (w : World) (f : ℕ) → Keeps w (op.Table (table_op.TakeToDrop f) ∷ []) (take_to_drop w f)
 sound-take_to_drop w f g r h = grind (arith, same_is)
 
-sound-leave : (b : Bool) (w : World) (f : ℕ) → among f w.table ≡ b → Keeps w (op.Table (table_op.LeaveTable f) ∷ []) (leave_by b w f)
+pub sound-leave : (b : Bool) (w : World) (f : ℕ) → among f w.table ≡ b → Keeps w (op.Table (table_op.LeaveTable f) ∷ []) (leave_by b w f)
 sound-leave = by_bool _
     (λ w f e g r h. grind (arith, same_is, without_one))
     (λ w f e g r h. h)
 
-sound-begin_drop : (p : ℕ) (w : World) (f : ℕ) → Keeps w (op.User (user_op.BeginDrop f) ∷ []) (begin_drop p w f)
+pub sound-begin_drop : (p : ℕ) (w : World) (f : ℕ) → Keeps w (op.User (user_op.BeginDrop f) ∷ []) (begin_drop p w f)
 sound-begin_drop p w f g r h = grind (arith, same_is, phase-dropped)
 
-sound-begin_drop_output : (p : ℕ) (w : World) (f : ℕ) → Keeps w (op.User (user_op.BeginDropOutput f) ∷ []) (begin_drop_output p w f)
+pub sound-begin_drop_output : (p : ℕ) (w : World) (f : ℕ) → Keeps w (op.User (user_op.BeginDropOutput f) ∷ []) (begin_drop_output p w f)
 sound-begin_drop_output p w f g r h = grind (arith, phase-push)
 
 -- a copy may be made
@@ -84,7 +85,7 @@ CanCopy w (Outside x) = Unit {0}
 
 -- the moves of a task, by what they find
 
-sound-release : (b c : Bool) (w : World) (f : ℕ) → moves.is_last (task w f) ≡ b → moves.is_over (task w f) ≡ c → f < length w.tasks → Keeps w (op.Move move.Release f ∷ []) (carried w f (moves.release_by b c (task w f)))
+pub sound-release : (b c : Bool) (w : World) (f : ℕ) → moves.is_last (task w f) ≡ b → moves.is_over (task w f) ≡ c → f < length w.tasks → Keeps w (op.Move move.Release f ∷ []) (carried w f (moves.release_by b c (task w f)))
 sound-release = by_bool _
     (by_bool _
     (λ w f e q i g r h. let z : (task w f).references ≡ 1 = last-one (task w f) e in grind (arith, same_is, read_put))
@@ -94,12 +95,12 @@ sound-release = by_bool _
 abbrev pub settling : Bool → World → ℕ → Done
 settling a w f = carried w f (moved (record (task w f) { scheduled = false }) (settled a))
 
-sound-settle_closed : (a : Bool) (w : World) (f : ℕ) → f < length w.tasks → Keeps w (op.Move move.SettleClosed f ∷ []) (settling a w f)
+pub sound-settle_closed : (a : Bool) (w : World) (f : ℕ) → f < length w.tasks → Keeps w (op.Move move.SettleClosed f ∷ []) (settling a w f)
 sound-settle_closed = by_bool _
     (λ w f i g r h. grind (arith, same_is, read_put))
     (λ w f i g r h. grind (arith, same_is, read_put))
 
-sound-give_up : (b : Bool) (w : World) (f : ℕ) → moves.is_last (task w f) ≡ b → f < length w.tasks → Keeps w (op.Move move.GiveUp f ∷ []) (carried w f (moves.give_up_by b (task w f)))
+pub sound-give_up : (b : Bool) (w : World) (f : ℕ) → moves.is_last (task w f) ≡ b → f < length w.tasks → Keeps w (op.Move move.GiveUp f ∷ []) (carried w f (moves.give_up_by b (task w f)))
 sound-give_up = by_bool _
     (λ w f e i g r h. let z : (task w f).references ≡ 1 = last-one (task w f) e in grind (arith, same_is, read_put))
     (λ w f e i g r h. grind (arith, same_is, read_put))
@@ -108,7 +109,7 @@ sound-give_up = by_bool _
 abbrev pub readied : Bool → Bool → World → ℕ → Done
 readied unwanted a w f = carried w f (moved (record (task w f) { scheduled = false; running = false; completed = true; closed = unwanted }) (record (settled a) { drop_output = unwanted }))
 
-sound-end_ready : (u a : Bool) (w : World) (f : ℕ) → ((task w f).closed || not (task w f).handle) ≡ u → f < length w.tasks → Keeps w (op.Move move.EndReady f ∷ []) (readied u a w f)
+pub sound-end_ready : (u a : Bool) (w : World) (f : ℕ) → ((task w f).closed || not (task w f).handle) ≡ u → f < length w.tasks → Keeps w (op.Move move.EndReady f ∷ []) (readied u a w f)
 sound-end_ready = by_bool _
     (by_bool _
     (λ w f e i g r h. grind (arith, same_is, read_put))
@@ -121,7 +122,7 @@ sound-end_ready = by_bool _
 abbrev pub pended : Bool → Bool → Bool → Bool → World → ℕ → Done
 pended x s l there w f = let m = moves.end_pending_by x s l (task w f) in done (put w f m.state) (owed_ops there f m.owed)
 
-sound-end_pending : (x s l there : Bool) (w : World) (f : ℕ) → (task w f).closed ≡ x → (task w f).scheduled ≡ s → moves.is_last (task w f) ≡ l → f < length w.tasks → Keeps w (op.Move move.EndPending f ∷ []) (pended x s l there w f)
+pub sound-end_pending : (x s l there : Bool) (w : World) (f : ℕ) → (task w f).closed ≡ x → (task w f).scheduled ≡ s → moves.is_last (task w f) ≡ l → f < length w.tasks → Keeps w (op.Move move.EndPending f ∷ []) (pended x s l there w f)
 sound-end_pending = by_bool _
     (λ s l. by_bool _
     (λ w f e q k i g r h. grind (arith, same_is, read_put))
@@ -137,7 +138,7 @@ sound-end_pending = by_bool _
 abbrev pub ending : Bool → World → ℕ → Done
 ending a w f = carried w f (moved (record (task w f) { scheduled = false; running = false }) (settled a))
 
-sound-end_closed : (a : Bool) (w : World) (f : ℕ) → f < length w.tasks → Keeps w (op.Move move.EndClosed f ∷ []) (ending a w f)
+pub sound-end_closed : (a : Bool) (w : World) (f : ℕ) → f < length w.tasks → Keeps w (op.Move move.EndClosed f ∷ []) (ending a w f)
 sound-end_closed = by_bool _
     (λ w f i g r h. grind (arith, same_is, read_put))
     (λ w f i g r h. grind (arith, same_is, read_put))
@@ -146,7 +147,7 @@ sound-end_closed = by_bool _
 abbrev pub dropping : Bool → Bool → World → ℕ → Done
 dropping c there w f = done (put w f (record (task w f) { closed = c })) (owed_ops there f (record nothing { future = Some DropFuture; next = Some move.SettleClosed }))
 
-sound-drop_runnable : (c there : Bool) (w : World) (f : ℕ) → ((task w f).closed || not (task w f).completed) ≡ c → f < length w.tasks → Keeps w (op.Move move.DropRunnable f ∷ []) (dropping c there w f)
+pub sound-drop_runnable : (c there : Bool) (w : World) (f : ℕ) → ((task w f).closed || not (task w f).completed) ≡ c → f < length w.tasks → Keeps w (op.Move move.DropRunnable f ∷ []) (dropping c there w f)
 sound-drop_runnable = by_bool _
     (by_bool _
     (λ w f e i g r h. grind (arith, nat_tests, same_is, read_put))
@@ -159,7 +160,7 @@ sound-drop_runnable = by_bool _
 abbrev pub taken_up : Bool → Bool → ℕ → World → ℕ → Done
 taken_up b there p w f = let m = moves.take_up_by b (task w f) in done (put (log_if (not b) w (event.PollBegun p f)) f m.state) (owed_ops there f m.owed)
 
-sound-take_up : (b there : Bool) (p : ℕ) (w : World) (f : ℕ) → (task w f).closed ≡ b → f < length w.tasks → Keeps w (op.Move move.TakeUp f ∷ []) (taken_up b there p w f)
+pub sound-take_up : (b there : Bool) (p : ℕ) (w : World) (f : ℕ) → (task w f).closed ≡ b → f < length w.tasks → Keeps w (op.Move move.TakeUp f ∷ []) (taken_up b there p w f)
 sound-take_up = by_bool _
     (by_bool _
     (λ p w f e i g r h. grind (arith, same_is, read_put))
@@ -173,7 +174,7 @@ woken o b c p w f = carried (log_if (not o) w (event.Woken p f)) f (moves.wake_b
 abbrev pub woken_by : Bool → Bool → Bool → ℕ → World → ℕ → Done
 woken_by o b c p w f = let m = moves.wake_by_reference_by b c (task w f) in carried (log_if (not o) w (event.Woken p f)) f (moved m.state (record m.owed { next = Some move.Release }))
 
-sound-wake_by_reference : (o b c : Bool) (p : ℕ) (w : World) (f : ℕ) → (moves.is_over (task w f) || (task w f).scheduled) ≡ b → (task w f).running ≡ c → f < length w.tasks → Keeps w (op.Move move.WakeByReference f ∷ []) (woken o b c p w f)
+pub sound-wake_by_reference : (o b c : Bool) (p : ℕ) (w : World) (f : ℕ) → (moves.is_over (task w f) || (task w f).scheduled) ≡ b → (task w f).running ≡ c → f < length w.tasks → Keeps w (op.Move move.WakeByReference f ∷ []) (woken o b c p w f)
 sound-wake_by_reference = by_bool _
     (by_bool _
     (λ c p w f e q i g r h. grind (arith, same_is, read_put, phase-push))
@@ -186,7 +187,7 @@ sound-wake_by_reference = by_bool _
     (λ p w f e q i g r h. grind (arith, same_is, read_put, phase-push))
     (λ p w f e q i g r h. let k : IsUnmarked (task w f) = unmarked (task w f) e in grind (arith, same_is, read_put, phase-push))))
 
-sound-wake : (o b c : Bool) (p : ℕ) (w : World) (f : ℕ) → (moves.is_over (task w f) || (task w f).scheduled) ≡ b → (task w f).running ≡ c → f < length w.tasks → Keeps w (op.Move move.Wake f ∷ []) (woken_by o b c p w f)
+pub sound-wake : (o b c : Bool) (p : ℕ) (w : World) (f : ℕ) → (moves.is_over (task w f) || (task w f).scheduled) ≡ b → (task w f).running ≡ c → f < length w.tasks → Keeps w (op.Move move.Wake f ∷ []) (woken_by o b c p w f)
 sound-wake = by_bool _
     (by_bool _
     (λ c p w f e q i g r h. grind (arith, same_is, read_put, phase-push))
@@ -199,9 +200,9 @@ sound-wake = by_bool _
     (λ p w f e q i g r h. grind (arith, same_is, read_put, phase-push))
     (λ p w f e q i g r h. let k : IsUnmarked (task w f) = unmarked (task w f) e in grind (arith, same_is, read_put, phase-push))))
 
-sound-call_task : (o b c : Bool) (p e : ℕ) (k : ℕ) (w : World) (f : ℕ) → (moves.is_over (task w f) || (task w f).scheduled) ≡ b → (task w f).running ≡ c → f < length w.tasks → Keeps w (op.Waker (waker_op.CallAwaiter e (Task f) k) ∷ []) (woken_by o b c p (log w (event.WakerCalled p e k (Task f))) f)
+sound-call_task : (o b c : Bool) (p e : ℕ) (k : ℕ) (w : World) (f : ℕ) → (moves.is_over (task w f) || (task w f).scheduled) ≡ b → (task w f).running ≡ c → f < length w.tasks → Keeps w (op.Waker (waker_op.CallAwaiter e (Task f) k) ∷ []) (woken_by o b c p (log w (event.WakerCalled p (of.Handle e) k (Task f))) f)
 sound-call_task o b c p e k w f d q i g r h =
-    let called : World = log w (event.WakerCalled p e k (Task f)) in
+    let called : World = log w (event.WakerCalled p (of.Handle e) k (Task f)) in
     let z : Sound called g (with_ops g (op.Move move.Wake f ∷ []) r) = grind (arith, phase-push) in
     sound-wake o b c p called f d q i g r z
 
@@ -241,7 +242,7 @@ sound-cancel_idle = by_bool _
 abbrev pub detached : Bool → Bool → Bool → ℕ → World → ℕ → Done
 detached o x y p w f = carried (log_if o w (event.Detached p f)) f (moves.detach_by x y (task w f))
 
-sound-detach : (o x y : Bool) (p : ℕ) (w : World) (f : ℕ) → ((task w f).completed && not (task w f).closed) ≡ x → (eqb (task w f).references 0 && not (task w f).closed) ≡ y → f < length w.tasks → Keeps w (op.Move move.Detach f ∷ []) (detached o x y p w f)
+pub sound-detach : (o x y : Bool) (p : ℕ) (w : World) (f : ℕ) → ((task w f).completed && not (task w f).closed) ≡ x → (eqb (task w f).references 0 && not (task w f).closed) ≡ y → f < length w.tasks → Keeps w (op.Move move.Detach f ∷ []) (detached o x y p w f)
 sound-detach = by_bool _
     (by_bool _
     (λ y p w f e q i g r h. grind (arith, nat_tests, same_is, read_put, phase-push))
@@ -256,7 +257,7 @@ sound-detach = by_bool _
 
 -- wakers and polls of a handle
 
-sound-copy : (b : Bool) (w : World) (f : ℕ) (held : Hold) → (b ≡ false → (task w f).references < 2 ^ 40) → f < length w.tasks → Keeps w (op.Waker (waker_op.CopyWaker f held) ∷ []) (copy_by b w f held)
+pub sound-copy : (b : Bool) (w : World) (f : ℕ) (held : Hold) → (b ≡ false → (task w f).references < 2 ^ 40) → f < length w.tasks → Keeps w (op.Waker (waker_op.CopyWaker f held) ∷ []) (copy_by b w f held)
 sound-copy = by_bool _
     (λ w f held e i g r h. grind arith)
     (λ w f held e i g r h. let z : (task w f).references < 2 ^ 40 = e refl in grind (arith, same_is, read_put, wakers_of-push))
@@ -293,14 +294,14 @@ sound-look_on w f a g r h = grind arith
 sound-again_waits : (p : ℕ) (w : World) (f : ℕ) → f < length w.tasks → Keeps w (op.Handle (handle_op.LookAgain f) ∷ []) (waits_on p w w f)
 sound-again_waits p w f i g r h = grind (arith, same_is, read_put, phase-push)
 
-sound-copy_awaiter : (b : Bool) (p : ℕ) (w : World) (f : ℕ) (a : Waker) → (b ≡ false → CanCopy w a) → Keeps w (op.Handle (handle_op.CopyAwaiter f a) ∷ []) (copy_awaiter_by b p w f a)
+pub sound-copy_awaiter : (b : Bool) (p : ℕ) (w : World) (f : ℕ) (a : Waker) → (b ≡ false → CanCopy w a) → Keeps w (op.Handle (handle_op.CopyAwaiter f a) ∷ []) (copy_awaiter_by b p w f a)
 sound-copy_awaiter = by_bool _
     (λ p w f a e g r h. grind arith)
     (λ p w f. by_waker _
     (λ k e g r h. let z : CanCopy w (Task k) = e refl in let z0 : k < length w.tasks = z.0 in let z1 : (task w k).references < 2 ^ 40 = z.1 in grind (arith, same_is, read_put, phase-push))
     (λ x e g r h. grind (arith, phase-push)))
 
-sound-register : (b : Bool) (w : World) (f : ℕ) (a : Waker) (k : ℕ) → f < length w.tasks → Keeps w (op.Handle (handle_op.Register f a k) ∷ []) (register_by b w f a k)
+pub sound-register : (b : Bool) (w : World) (f : ℕ) (a : Waker) (k : ℕ) → f < length w.tasks → Keeps w (op.Handle (handle_op.Register f a k) ∷ []) (register_by b w f a k)
 sound-register = by_bool _
     (λ w f a k i g r h. grind (arith, same_is, read_put))
     (λ w f a k i g r h. grind (arith, same_is, read_put))
@@ -328,7 +329,7 @@ sound-end_register : (b : Bool) (old : Option Awaiter) (w : World) (f : ℕ) (a 
 sound-end_register b None w f a k e i j = sound-end_register-none b w f a k e i j
 sound-end_register b (Some x) w f a k e i j = sound-end_register-some b x.waker x.poll w f a k e i j
 
-sound-notify : (b m : Bool) (w : World) (f : ℕ) → f < length w.tasks → Keeps w (op.Handle (handle_op.Notify f m) ∷ []) (notify_by b w f m)
+pub sound-notify : (b m : Bool) (w : World) (f : ℕ) → f < length w.tasks → Keeps w (op.Handle (handle_op.Notify f m) ∷ []) (notify_by b w f m)
 sound-notify = by_bool _
     (λ m w f i g r h. grind (arith, same_is, read_put))
     (λ m w f i g r h. grind (arith, same_is, read_put))
@@ -350,7 +351,7 @@ sound-end_notify-some = by_bool _
     (λ q m mine w f e i j g r h. let z : awaiters_of g (set w.awaiters f (let x : Option Awaiter = None in x)) + same g q ≡ awaiters_of g w.awaiters + wakes_if g (let x : Option Awaiter = None in x) = subst (λ (x : Option Awaiter). awaiters_of g (set w.awaiters f (let x : Option Awaiter = None in x)) + wakes_if g x ≡ awaiters_of g w.awaiters + wakes_if g (let x : Option Awaiter = None in x)) e (awaiters_of-set g f (let x : Option Awaiter = None in x) w.awaiters j) in grind (arith, same_is, read_put))
     (λ q m mine w f e i j g r h. let z : awaiters_of g (set w.awaiters f (let x : Option Awaiter = None in x)) + 0 ≡ awaiters_of g w.awaiters + wakes_if g (let x : Option Awaiter = None in x) = subst (λ (x : Option Awaiter). awaiters_of g (set w.awaiters f (let x : Option Awaiter = None in x)) + wakes_if g x ≡ awaiters_of g w.awaiters + wakes_if g (let x : Option Awaiter = None in x)) e (awaiters_of-set g f (let x : Option Awaiter = None in x) w.awaiters j) in grind (arith, same_is, read_put)))
 
-sound-end_notify : (b : Bool) (old : Option Awaiter) (mine : Bool) (w : World) (f : ℕ) → awaiter_of w f ≡ old → f < length w.tasks → f < length w.awaiters → Keeps w (op.Handle (handle_op.EndNotify f mine) ∷ []) (end_notified b old w f)
+pub sound-end_notify : (b : Bool) (old : Option Awaiter) (mine : Bool) (w : World) (f : ℕ) → awaiter_of w f ≡ old → f < length w.tasks → f < length w.awaiters → Keeps w (op.Handle (handle_op.EndNotify f mine) ∷ []) (end_notified b old w f)
 sound-end_notify b None mine w f e i j = sound-end_notify-none b mine w f e i j
 sound-end_notify b (Some x) mine w f e i j = sound-end_notify-some b x.waker x.poll mine w f e i j
 
@@ -359,7 +360,7 @@ sound-call_outside p w f x k g r h = grind (arith, phase-push)
 
 -- the drop of the executor
 
-sound-take_out : (ls ws : List ℕ) (w : World) → Keeps w (op.Closing closing_op.TakeOut ∷ []) (done (record w { table = w.leaving; leaving = w.table }) (closing_ops ls ws))
+pub sound-take_out : (ls ws : List ℕ) (w : World) → Keeps w (op.Closing closing_op.TakeOut ∷ []) (done (record w { table = w.leaving; leaving = w.table }) (closing_ops ls ws))
 sound-take_out = by_list _
     (by_list _
     (λ w g r h. grind arith)
@@ -384,12 +385,12 @@ sound-wake_next o b c rest p w f y e q i g r h =
     let z : Sound left g (with_ops g (op.Move move.Wake f ∷ []) r) = grind arith in
     subst (Sound d.world g) (sym (with_ops-closing g d.next rest r)) (sound-wake o b c p left f e q i g r z)
 
-sound-drain : (q : List ℕ) (p : ℕ) (w : World) → w.queue.items ≡ q → Keeps w (op.Closing closing_op.Drain ∷ []) (drain_by p w q)
+pub sound-drain : (q : List ℕ) (p : ℕ) (w : World) → w.queue.items ≡ q → Keeps w (op.Closing closing_op.Drain ∷ []) (drain_by p w q)
 sound-drain = by_list _
     (λ p w e g r h. grind (arith, phase-push))
     (λ f rest p w e g r h. let z : same g f + times g (drop 1 w.queue.items) ≡ times g w.queue.items = times-drop g f rest w.queue.items e in grind (arith, same_is))
 
-sound-end : (p : ℕ) (w : World) (a : Reply) (held : Hold) → Keeps w (op.End a held ∷ []) (done (log w (event.CallEnded p a)) [])
+pub sound-end : (p : ℕ) (w : World) (a : Reply) (held : Hold) → Keeps w (op.End a held ∷ []) (done (log w (event.CallEnded p a)) [])
 sound-end p w a held g r h = grind (arith, phase-push)
 
 -- the answers of user code
@@ -399,91 +400,52 @@ sound-pending p w f g r h = grind (arith, same_is, phase-answered)
 pub sound-ready : (p : ℕ) (w : World) (f : ℕ) → Keeps w (op.User (user_op.Poll f) ∷ []) (done (log w (event.Answered p f answer.Ready)) (op.User (user_op.BeginDrop f) ∷ op.Move move.EndReady f ∷ []))
 sound-ready p w f g r h = grind (arith, same_is, phase-answered)
 
-sound-end_register_by : (b : Bool) (w : World) (f : ℕ) (a : Waker) (k : ℕ) → f < length w.tasks → f < length w.awaiters → Keeps w (op.Handle (handle_op.EndRegister f a k) ∷ []) (end_register_by b w f a k)
+pub sound-end_register_by : (b : Bool) (w : World) (f : ℕ) (a : Waker) (k : ℕ) → f < length w.tasks → f < length w.awaiters → Keeps w (op.Handle (handle_op.EndRegister f a k) ∷ []) (end_register_by b w f a k)
 sound-end_register_by true w f a k i j = sound-end_register true _ w f a k refl i j
 sound-end_register_by false w f a k i j = sound-end_register false _ w f a k refl i j
 
-below : (n f : ℕ) → past n f ≡ 0 → f < n
+pub below : (n f : ℕ) → past n f ≡ 0 → f < n
 below n f e = grind (arith, past_is)
 
 -- the op's own future is one
-own : (n f : ℕ) (o : Op) → past n f ≤ past_of n o → weigh (past_of n) (o ∷ []) ≡ 0 → f < n
+pub own : (n f : ℕ) (o : Op) → past n f ≤ past_of n o → weigh (past_of n) (o ∷ []) ≡ 0 → f < n
 own n f o le e = below n f (omega (arith, le, e))
 
-sound-wake_first : (p : ℕ) (w : World) (q : List ℕ) → w.waking ≡ q → ((f : ℕ) (rest : List ℕ) → q ≡ f ∷ rest → f < length w.tasks) → Keeps w (op.Closing closing_op.WakeNext ∷ []) (wake_next_by p w q)
+pub sound-wake_first : (p : ℕ) (w : World) (q : List ℕ) → w.waking ≡ q → ((f : ℕ) (rest : List ℕ) → q ≡ f ∷ rest → f < length w.tasks) → Keeps w (op.Closing closing_op.WakeNext ∷ []) (wake_next_by p w q)
 sound-wake_first p w [] e i = λ g r h. h
 sound-wake_first p w (f ∷ rest) e i = sound-wake_next (moves.is_over (task w f)) _ _ rest p w f e refl refl (i f rest refl)
 
-sound-drop_first : (p : ℕ) (w : World) (q : List ℕ) → w.leaving ≡ q → Keeps w (op.Closing closing_op.DropNext ∷ []) (drop_next_by p w q)
+pub sound-drop_first : (p : ℕ) (w : World) (q : List ℕ) → w.leaving ≡ q → Keeps w (op.Closing closing_op.DropNext ∷ []) (drop_next_by p w q)
 sound-drop_first p w [] e = λ g r h. h
 sound-drop_first p w (f ∷ rest) e = sound-drop_next rest (w.waking ++ f ∷ []) p w f rest e
 
-sound-cancel : (b c : Bool) (p : ℕ) (w : World) (f : ℕ) → moves.is_over (task w f) ≡ b → moves.is_going (task w f) ≡ c → f < length w.tasks → Keeps w (op.Move move.Cancel f ∷ []) (carried (log_if (not (moves.is_over (task w f))) w (event.Cancelled p f)) f (moves.cancel_by b c (task w f)))
+pub sound-cancel : (b c : Bool) (p : ℕ) (w : World) (f : ℕ) → moves.is_over (task w f) ≡ b → moves.is_going (task w f) ≡ c → f < length w.tasks → Keeps w (op.Move move.Cancel f ∷ []) (carried (log_if (not (moves.is_over (task w f))) w (event.Cancelled p f)) f (moves.cancel_by b c (task w f)))
 sound-cancel true c p w f e q i = sound-cancel_over _ p w f i
 sound-cancel false true p w f e q i = sound-cancel_going _ _ p w f q i
 sound-cancel false false p w f e q i = sound-cancel_idle _ _ p w f e q i
 
-sound-look : (x k c : Bool) (p : ℕ) (w : World) (f : ℕ) (a : Waker) → (task w f).completed ≡ c → f < length w.tasks → Keeps w (op.Handle (handle_op.Look f a) ∷ []) (look_by (moves.poll_by x k c (task w f)).owed.answer p w f a (moves.poll_by x k c (task w f)))
+pub sound-look : (x k c : Bool) (p : ℕ) (w : World) (f : ℕ) (a : Waker) → (task w f).completed ≡ c → f < length w.tasks → Keeps w (op.Handle (handle_op.Look f a) ∷ []) (look_by (moves.poll_by x k c (task w f)).owed.answer p w f a (moves.poll_by x k c (task w f)))
 sound-look true true c p w f a e i = sound-look_on w f a
 sound-look true false c p w f a e i = sound-look_closed p w f a i
 sound-look false k false p w f a e i = sound-look_on w f a
 sound-look false k true p w f a e i = sound-look_given _ p w f a e i
 
-sound-again : (x k c : Bool) (p : ℕ) (w : World) (f : ℕ) → (task w f).completed ≡ c → f < length w.tasks → Keeps w (op.Handle (handle_op.LookAgain f) ∷ []) (look_again_by (moves.look_again_by x k c (task w f)).owed.answer p w f (moves.look_again_by x k c (task w f)))
+pub sound-again : (x k c : Bool) (p : ℕ) (w : World) (f : ℕ) → (task w f).completed ≡ c → f < length w.tasks → Keeps w (op.Handle (handle_op.LookAgain f) ∷ []) (look_again_by (moves.look_again_by x k c (task w f)).owed.answer p w f (moves.look_again_by x k c (task w f)))
 sound-again true true c p w f e i = sound-again_waits p w f i
 sound-again true false c p w f e i = sound-again_closed p w f i
 sound-again false k false p w f e i = sound-again_waits p w f i
 sound-again false k true p w f e i = sound-again_given _ p w f e i
 
-small : (h : Hint) (s : State) → is_refused h s ≡ false → s.references < 2 ^ 40
+pub small : (h : Hint) (s : State) → is_refused h s ≡ false → s.references < 2 ^ 40
 small h s e = grind (arith, nat_tests)
 
-can_copy : (h : Hint) (w : World) (a : Waker) (n : ℕ) → n + waker_past (length w.tasks) a ≡ 0 → is_copy_refused h w a ≡ false → CanCopy w a
+pub can_copy : (h : Hint) (w : World) (a : Waker) (n : ℕ) → n + waker_past (length w.tasks) a ≡ 0 → is_copy_refused h w a ≡ false → CanCopy w a
 can_copy h w (Task k) n z e = (below _ k (omega (arith, z)), small h (task w k) e)
 can_copy h w (Outside x) n z e = tt
 
-sound-call : (p : ℕ) (w : World) (f : ℕ) (a : Waker) (k : ℕ) → past (length w.tasks) f + waker_past (length w.tasks) a ≡ 0 → Keeps w (op.Waker (waker_op.CallAwaiter f a k) ∷ []) (call_awaiter p w f a k)
+pub sound-call : (p : ℕ) (w : World) (f : ℕ) (a : Waker) (k : ℕ) → past (length w.tasks) f + waker_past (length w.tasks) a ≡ 0 → Keeps w (op.Waker (waker_op.CallAwaiter f a k) ∷ []) (call_awaiter p w f a k)
 sound-call p w f (Task m) k z = sound-call_task (moves.is_over (task w m)) _ _ p f k w m refl refl (below _ m (omega (arith, z)))
 sound-call p w f (Outside x) k z = sound-call_outside p w f x k
 
-first_known : (w : World) → pasts (length w.tasks) w.waking ≡ 0 → (f : ℕ) (rest : List ℕ) → w.waking ≡ f ∷ rest → f < length w.tasks
+pub first_known : (w : World) → pasts (length w.tasks) w.waking ≡ 0 → (f : ℕ) (rest : List ℕ) → w.waking ≡ f ∷ rest → f < length w.tasks
 first_known w u f rest e = let z : past (length w.tasks) f + pasts (length w.tasks) rest ≡ 0 = sym (ap (pasts (length w.tasks)) e) ∙ u in below _ f (omega (arith, z))
-
--- each thing to do that speaks of futures that are there
-pub sound-act : (p : ℕ) (h : Hint) (o : Op) (w : World) → length w.awaiters ≡ length w.tasks → pasts (length w.tasks) w.waking ≡ 0 → weigh (past_of (length w.tasks)) (o ∷ []) ≡ 0 → Keeps w (o ∷ []) (act p h o w)
-sound-act p h (op.Table table_op.Enter) w n u z = sound-enter _ _ p w
-sound-act p h (op.Queue queue_op.Take) w n u z = sound-take _ w refl
-sound-act p h (op.Queue (queue_op.Append f)) w n u z = sound-append _ w f
-sound-act p h (op.Move move.WakeByReference f) w n u z = sound-wake_by_reference (moves.is_over (task w f)) _ _ p w f refl refl (own _ f (op.Move move.WakeByReference f) (omega arith) z)
-sound-act p h (op.Move move.Wake f) w n u z = sound-wake (moves.is_over (task w f)) _ _ p w f refl refl (own _ f (op.Move move.Wake f) (omega arith) z)
-sound-act p h (op.Move move.Release f) w n u z = sound-release _ _ w f refl refl (own _ f (op.Move move.Release f) (omega arith) z)
-sound-act p h (op.Move move.TakeUp f) w n u z = sound-take_up _ _ p w f refl (own _ f (op.Move move.TakeUp f) (omega arith) z)
-sound-act p h (op.Move move.SettleClosed f) w n u z = sound-settle_closed _ w f (own _ f (op.Move move.SettleClosed f) (omega arith) z)
-sound-act p h (op.Move move.GiveUp f) w n u z = sound-give_up _ w f refl (own _ f (op.Move move.GiveUp f) (omega arith) z)
-sound-act p h (op.Move move.EndReady f) w n u z = sound-end_ready _ _ w f refl (own _ f (op.Move move.EndReady f) (omega arith) z)
-sound-act p h (op.Move move.EndPending f) w n u z = sound-end_pending _ _ _ _ w f refl refl refl (own _ f (op.Move move.EndPending f) (omega arith) z)
-sound-act p h (op.Move move.EndClosed f) w n u z = sound-end_closed _ w f (own _ f (op.Move move.EndClosed f) (omega arith) z)
-sound-act p h (op.Move move.DropRunnable f) w n u z = sound-drop_runnable _ _ w f refl (own _ f (op.Move move.DropRunnable f) (omega arith) z)
-sound-act p h (op.Move move.Cancel f) w n u z = sound-cancel _ _ p w f refl refl (own _ f (op.Move move.Cancel f) (omega arith) z)
-sound-act p h (op.Move move.Detach f) w n u z = sound-detach _ _ _ p w f refl refl (own _ f (op.Move move.Detach f) (omega arith) z)
-sound-act p h (op.Table (table_op.TakeToPoll f)) w n u z = sound-take_to_poll w f
-sound-act p h (op.Table (table_op.PutBack f)) w n u z = sound-put_back w f
-sound-act p h (op.Table (table_op.TakeToDrop f)) w n u z = sound-take_to_drop w f
-sound-act p h (op.User (user_op.BeginDrop f)) w n u z = sound-begin_drop p w f
-sound-act p h (op.Table (table_op.LeaveTable f)) w n u z = sound-leave _ w f refl
-sound-act p h (op.User (user_op.BeginDropOutput f)) w n u z = sound-begin_drop_output p w f
-sound-act p h (op.Waker (waker_op.CopyWaker f held)) w n u z = sound-copy _ w f held (small h (task w f)) (own _ f (op.Waker (waker_op.CopyWaker f held)) (omega arith) z)
-sound-act p h (op.Handle (handle_op.Look f a)) w n u z = sound-look _ _ _ p w f a refl (own _ f (op.Handle (handle_op.Look f a)) (omega arith) z)
-sound-act p h (op.Handle (handle_op.CopyAwaiter f a)) w n u z = sound-copy_awaiter _ p w f a (can_copy h w a (past (length w.tasks) f) (omega (arith, z)))
-sound-act p h (op.Handle (handle_op.Register f a k)) w n u z = sound-register _ w f a k (own _ f (op.Handle (handle_op.Register f a k)) (omega arith) z)
-sound-act p h (op.Handle (handle_op.EndRegister f a k)) w n u z = (let i : f < length w.tasks = own _ f (op.Handle (handle_op.EndRegister f a k)) (omega arith) z in sound-end_register_by _ w f a k i (omega (arith, i, n)))
-sound-act p h (op.Handle (handle_op.LookAgain f)) w n u z = sound-again _ _ _ p w f refl (own _ f (op.Handle (handle_op.LookAgain f)) (omega arith) z)
-sound-act p h (op.Handle (handle_op.Notify f mine)) w n u z = sound-notify _ mine w f (own _ f (op.Handle (handle_op.Notify f mine)) (omega arith) z)
-sound-act p h (op.Handle (handle_op.EndNotify f mine)) w n u z = (let i : f < length w.tasks = own _ f (op.Handle (handle_op.EndNotify f mine)) (omega arith) z in sound-end_notify _ _ mine w f refl i (omega (arith, i, n)))
-sound-act p h (op.Waker (waker_op.CallAwaiter f a k)) w n u z = sound-call p w f a k (omega (arith, z))
-sound-act p h (op.Closing closing_op.TakeOut) w n u z = sound-take_out _ _ w
-sound-act p h (op.Closing closing_op.DropNext) w n u z = sound-drop_first p w _ refl
-sound-act p h (op.Closing closing_op.WakeNext) w n u z = sound-wake_first p w _ refl (first_known w u)
-sound-act p h (op.Closing closing_op.Drain) w n u z = sound-drain _ p w refl
-sound-act p h (op.End a held) w n u z = sound-end p w a held
-sound-act p h _ w n u z = λ g r k. grind arith

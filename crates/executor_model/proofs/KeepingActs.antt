@@ -11,13 +11,16 @@ use Rattle.executor_model.specs.declared.op.Awaiter.{Awaiter}
 use Rattle.executor_model.specs.declared.op.Waker.{Waker}
 use Rattle.executor_model.specs.declared.op.Waker.TheVariants.{Task, Outside}
 use Rattle.executor_model.specs.declared.op.Hold.{Hold}
+use Rattle.executor_model.specs.declared.op.Polled.TheVariants as of
 use Rattle.executor_model.specs.declared.op.Op.{Op}
 use Rattle.executor_model.specs.declared.op.Op.TheVariants as op
 use Rattle.executor_model.specs.declared.op.ClosingOp.TheVariants as closing_op
 use Rattle.executor_model.specs.declared.op.HandleOp.TheVariants as handle_op
 use Rattle.task_moves.specs.declared.moves.owed.Move.TheVariants as move
 use Rattle.executor_model.specs.declared.op.QueueOp.TheVariants as queue_op
+use Rattle.executor_model.specs.declared.op.SleeperOp.TheVariants as sleeper_op
 use Rattle.executor_model.specs.declared.op.TableOp.TheVariants as table_op
+use Rattle.executor_model.specs.declared.op.TickOp.TheVariants as tick_op
 use Rattle.executor_model.specs.declared.op.UserOp.TheVariants as user_op
 use Rattle.executor_model.specs.declared.op.WakerOp.TheVariants as waker_op
 use Rattle.executor_model.specs.declared.step.Hint.{Hint}
@@ -31,6 +34,7 @@ use Rattle.executor_model.proofs.Cases.{by_bool, by_list, by_waker}
 use Rattle.executor_model.proofs.Lists.{read_put, read_push, fresh_is, past_is, same_is}
 use Rattle.executor_model.proofs.Counting.{settling, readied, pended, ending, dropping, taken_up, woken, woken_by, cancel_going, cancel_idle, cancel_over, detached, stays_so, gives, waits_on, end_registered, end_notified, next_woken}
 use Rattle.executor_model.proofs.Keeping.{readies-push, spent-push, Owing, with_owing, Stored, KeepsStored}
+use Rattle.executor_model.proofs.SleepersKeeping.{stored-exchange, stored-hand_out, stored-call_sleeper, stored-make_tick, stored-search, stored-copy_sleeper, stored-lie_down, stored-get_up, stored-leave_sleepers}
 
 stored-append : (b : Bool) (w : World) (f : ℕ) → KeepsStored w (op.Queue (queue_op.Append f) ∷ []) (append_by b w f)
 stored-append = by_bool _
@@ -156,7 +160,7 @@ stored-wake = by_bool _
     (λ p w f i g r bb h. grind (arith, same_is, read_put, length-set, readies-push, spent-push))
     (λ p w f i g r bb h. grind (arith, same_is, read_put, length-set, readies-push, spent-push))))
 
-stored-call_task : (o b c : Bool) (p e : ℕ) (k : ℕ) (w : World) (f : ℕ) → f < length w.tasks → KeepsStored w (op.Waker (waker_op.CallAwaiter e (Task f) k) ∷ []) (woken_by o b c p (log w (event.WakerCalled p e k (Task f))) f)
+stored-call_task : (o b c : Bool) (p e : ℕ) (k : ℕ) (w : World) (f : ℕ) → f < length w.tasks → KeepsStored w (op.Waker (waker_op.CallAwaiter e (Task f) k) ∷ []) (woken_by o b c p (log w (event.WakerCalled p (of.Handle e) k (Task f))) f)
 stored-call_task = by_bool _
     (by_bool _
     (λ c p e k w f i g r bb h. grind (arith, same_is, read_put, length-set, readies-push, spent-push))
@@ -419,6 +423,15 @@ stored-act p h (op.Handle (handle_op.LookAgain f)) w u z = stored-again _ _ _ p 
 stored-act p h (op.Handle (handle_op.Notify f mine)) w u z = stored-notify _ mine w f refl (own _ f (op.Handle (handle_op.Notify f mine)) (omega arith) z)
 stored-act p h (op.Handle (handle_op.EndNotify f mine)) w u z = stored-end_notify _ _ mine w f (own _ f (op.Handle (handle_op.EndNotify f mine)) (omega arith) z)
 stored-act p h (op.Waker (waker_op.CallAwaiter f a k)) w u z = stored-call p w f a k (omega (arith, z))
+stored-act p h (op.Sleeper sleeper_op.ExchangeFlag) w u z = stored-exchange _ w
+stored-act p h (op.Sleeper sleeper_op.HandOut) w u z = stored-hand_out _ _ w
+stored-act p h (op.Sleeper (sleeper_op.CallSleeper s)) w u z = stored-call_sleeper p s.tick s.poll s.waker w (known_waker w s.waker 0 (omega (arith, z)))
+stored-act p h (op.Tick tick_op.MakeTick) w u z = stored-make_tick _ w
+stored-act p h (op.Tick (tick_op.Search s)) w u z = stored-search _ _ w s refl
+stored-act p h (op.Tick (tick_op.CopyWaker s)) w u z = stored-copy_sleeper _ s.waker s.tick s.poll w (known_waker w s.waker 0 (omega (arith, z)))
+stored-act p h (op.Tick (tick_op.LieDown s)) w u z = stored-lie_down _ w s
+stored-act p h (op.Tick (tick_op.GetUp t f)) w u z = stored-get_up _ w t f
+stored-act p h (op.Tick (tick_op.Leave t)) w u z = stored-leave_sleepers _ w t
 stored-act p h (op.Closing closing_op.TakeOut) w u z = stored-take_out _ _ w
 stored-act p h (op.Closing closing_op.DropNext) w u z = stored-drop_first p w _
 stored-act p h (op.Closing closing_op.WakeNext) w u z = stored-wake_first p w _ (first_known w u)

@@ -6,11 +6,13 @@ use Rattle.executor_model.specs.declared.call.Call.TheVariants as call
 use Rattle.executor_model.specs.declared.call.Reply.{Reply}
 use Rattle.executor_model.specs.declared.call.Reply.TheVariants as reply
 use Rattle.executor_model.specs.declared.event.Answer.TheVariants as answer
+use Rattle.executor_model.specs.declared.event.Event.{Event}
 use Rattle.executor_model.specs.declared.event.Event.TheVariants as event
 use Rattle.executor_model.specs.declared.op.Hold.{Hold}
 use Rattle.executor_model.specs.declared.op.Hold.TheVariants as hold
 use Rattle.executor_model.specs.declared.op.Op.{Op}
 use Rattle.executor_model.specs.declared.op.Op.TheVariants as op
+use Rattle.executor_model.specs.declared.op.TickOp.TheVariants as tick_op
 use Rattle.executor_model.specs.declared.op.ClosingOp.TheVariants as closing_op
 use Rattle.executor_model.specs.declared.op.HandleOp.TheVariants as handle_op
 use Rattle.task_moves.specs.declared.moves.owed.Move.TheVariants as move
@@ -31,7 +33,7 @@ use Rattle.executor_model.proofs.Lists.{same_is, weigh_all-push}
 use Rattle.executor_model.proofs.Lift.{split, unsettled, weigh_all-idle, good-start}
 use Rattle.executor_model.proofs.Ways.{Way, along}
 use Rattle.executor_model.proofs.Ways.Way.{acted, reacted, called}
-use Rattle.executor_model.proofs.Keeping.{readies-push, readies-none, spent-push, spent-none, spent_in, detaches_of, telling_of, taking_of, storing_of, Owing, with_owing, owing, Footing, footing, Stored, KeepsStored}
+use Rattle.executor_model.proofs.Keeping.{readies-push, readies-none, spent-push, spent-none, spent_in, ready_in, detaches_of, telling_of, taking_of, storing_of, Owing, with_owing, owing, Footing, footing, Stored, KeepsStored}
 use Rattle.executor_model.proofs.KeepingActs.{stored-act, stored-end, stored-pending, stored-ready}
 
 abbrev pub Stores : Machine → Type 0
@@ -81,6 +83,10 @@ begins-nothing w p c next z o g r bb h = subst (Stored (log w (event.CallBegun p
 begins-used : (w : World) (p k : ℕ) (c : Call) (next : List Op) → ((g : ℕ) → spent_in g (event.CallBegun p c) ≡ 0) → ((g : ℕ) (r : Owing) → with_owing g next r ≡ with_owing g [] r) → KeepsStored w [] (done (used_up (log w (event.CallBegun p c)) k) next)
 begins-used w p k c next z o g r bb h = subst (Stored (used_up (log w (event.CallBegun p c)) k) g) (sym (o g r)) (let k : spent_in g (event.CallBegun p c) ≡ 0 = z g in grind (arith, readies-push, spent-push))
 
+-- a tick's call is told of too
+begins-told : (w : World) (p : ℕ) (c : Call) (e : Event) (next : List Op) → ((g : ℕ) → spent_in g (event.CallBegun p c) ≡ 0) → ((g : ℕ) → spent_in g e ≡ 0) → ((g : ℕ) → ready_in g e ≡ 0) → ((g : ℕ) (r : Owing) → with_owing g next r ≡ with_owing g [] r) → KeepsStored w [] (done (log (log w (event.CallBegun p c)) e) next)
+begins-told w p c e next z q y o g r bb h = subst (Stored (log (log w (event.CallBegun p c)) e) g) (sym (o g r)) (let k : spent_in g (event.CallBegun p c) ≡ 0 = z g in let l : spent_in g e ≡ 0 = q g in let m : ready_in g e ≡ 0 = y g in grind (arith, readies-push, spent-push))
+
 begins-with : (w : World) (p : ℕ) (c : Call) (x : Option ℕ) (d : ℕ → Done) → ((g : ℕ) → spent_in g (event.CallBegun p c) ≡ 0) → ((f : ℕ) → KeepsStored w [] (d f)) → KeepsStored w [] (with_future (log w (event.CallBegun p c)) x d)
 begins-with w p c None d z k = begins-nothing w p c [] z (λ g r. refl)
 begins-with w p c (Some f) d z k = k f
@@ -105,6 +111,9 @@ begins w p here (call.DropWaker k) = begins-with w p (call.DropWaker k) (kept w 
 begins w p here call.Keep = begins-with w p call.Keep here _ (λ g. refl) (λ f. begins-nothing w p call.Keep (op.Waker (waker_op.CopyWaker f hold.Nothing) ∷ []) (λ g. refl) (λ g r. refl))
 begins w p here call.WakeSelf = begins-with w p call.WakeSelf here _ (λ g. refl) (λ f. begins-nothing w p call.WakeSelf (op.Move move.WakeByReference f ∷ op.End reply.Done hold.Nothing ∷ []) (λ g. refl) (λ g r. refl))
 begins w p here (call.PollHandle f b) = begins-nothing w p (call.PollHandle f b) (op.Handle (handle_op.Look f (waker_of here b)) ∷ []) (λ g. refl) (λ g r. refl)
+begins w p here call.NewTick = begins-nothing w p call.NewTick (op.Tick tick_op.MakeTick ∷ []) (λ g. refl) (λ g r. refl)
+begins w p here (call.PollTick t b) = begins-told w p (call.PollTick t b) (event.TickPolled p t) (op.Tick (tick_op.Search (record { waker = waker_of here b; tick = t; poll = length (log w (event.CallBegun p (call.PollTick t b))).trace })) ∷ []) (λ g. refl) (λ g. refl) (λ g. refl) (λ g r. refl)
+begins w p here (call.DropTick t) = begins-told w p (call.DropTick t) (event.TickDropped p t) (op.Tick (tick_op.Leave t) ∷ []) (λ g. refl) (λ g. refl) (λ g. refl) (λ g r. refl)
 begins w p here (call.Cancel f) = begins-nothing w p (call.Cancel f) (op.Move move.Cancel f ∷ op.End reply.Done (hold.Handle f) ∷ []) (λ g. refl) (λ g r. refl)
 begins w p here (call.Detach f) = begins-detach w p f
 begins w p here (call.DropHandle f) = begins-drop_handle w p f

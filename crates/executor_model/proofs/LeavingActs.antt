@@ -13,13 +13,16 @@ use Rattle.executor_model.specs.declared.op.Awaiter.{Awaiter}
 use Rattle.executor_model.specs.declared.op.Waker.{Waker}
 use Rattle.executor_model.specs.declared.op.Waker.TheVariants.{Task, Outside}
 use Rattle.executor_model.specs.declared.op.Hold.{Hold}
+use Rattle.executor_model.specs.declared.op.Polled.TheVariants as of
 use Rattle.executor_model.specs.declared.op.Op.{Op}
 use Rattle.executor_model.specs.declared.op.Op.TheVariants as op
 use Rattle.executor_model.specs.declared.op.ClosingOp.TheVariants as closing_op
 use Rattle.executor_model.specs.declared.op.HandleOp.TheVariants as handle_op
 use Rattle.task_moves.specs.declared.moves.owed.Move.TheVariants as move
 use Rattle.executor_model.specs.declared.op.QueueOp.TheVariants as queue_op
+use Rattle.executor_model.specs.declared.op.SleeperOp.TheVariants as sleeper_op
 use Rattle.executor_model.specs.declared.op.TableOp.TheVariants as table_op
+use Rattle.executor_model.specs.declared.op.TickOp.TheVariants as tick_op
 use Rattle.executor_model.specs.declared.op.UserOp.TheVariants as user_op
 use Rattle.executor_model.specs.declared.op.WakerOp.TheVariants as waker_op
 use Rattle.executor_model.specs.declared.step.Hint.{Hint}
@@ -36,6 +39,7 @@ use Rattle.executor_model.proofs.Lists.{read_put, read_push, fresh_is, past_is, 
 use Rattle.executor_model.proofs.Counting.{settling, readied, pended, ending, dropping, taken_up, woken, woken_by, cancel_going, cancel_idle, cancel_over, detached, stays_so, gives, waits_on, end_registered, end_notified, next_woken}
 use Rattle.executor_model.proofs.Stories.{story, story-push, times-except, length-except, among_is}
 use Rattle.executor_model.proofs.Leaving.{KeepsLeaves}
+use Rattle.executor_model.proofs.SleepersLeaving.{leaves-exchange, leaves-hand_out, leaves-call_sleeper, leaves-make_tick, leaves-search, leaves-copy_sleeper, leaves-lie_down, leaves-get_up, leaves-leave_sleepers}
 
 leaves-append : (b : Bool) (w : World) (f : ℕ) → (b ≡ false → w.queue.closed ≡ true) → KeepsLeaves w (op.Queue (queue_op.Append f) ∷ []) (append_by b w f)
 leaves-append = by_bool _
@@ -172,7 +176,7 @@ leaves-wake = by_bool _
     (λ p w f e q i g r yy bb h. grind (arith, same_is, read_put, length-set, story-push))
     (λ p w f e q i g r yy bb h. let k : IsUnmarked (task w f) = unmarked (task w f) e in grind (arith, same_is, read_put, length-set, story-push))))
 
-leaves-call_task : (o b c : Bool) (p e : ℕ) (k : ℕ) (w : World) (f : ℕ) → (moves.is_over (task w f) || (task w f).scheduled) ≡ b → (task w f).running ≡ c → f < length w.tasks → KeepsLeaves w (op.Waker (waker_op.CallAwaiter e (Task f) k) ∷ []) (woken_by o b c p (log w (event.WakerCalled p e k (Task f))) f)
+leaves-call_task : (o b c : Bool) (p e : ℕ) (k : ℕ) (w : World) (f : ℕ) → (moves.is_over (task w f) || (task w f).scheduled) ≡ b → (task w f).running ≡ c → f < length w.tasks → KeepsLeaves w (op.Waker (waker_op.CallAwaiter e (Task f) k) ∷ []) (woken_by o b c p (log w (event.WakerCalled p (of.Handle e) k (Task f))) f)
 leaves-call_task = by_bool _
     (by_bool _
     (λ c p e k w f d q i g r yy bb h. grind (arith, same_is, read_put, length-set, story-push))
@@ -450,6 +454,15 @@ leaves-act p h (op.Handle (handle_op.LookAgain f)) w n u z m = leaves-again _ _ 
 leaves-act p h (op.Handle (handle_op.Notify f mine)) w n u z m = leaves-notify _ mine w f (own _ f (op.Handle (handle_op.Notify f mine)) (omega arith) z)
 leaves-act p h (op.Handle (handle_op.EndNotify f mine)) w n u z m = (let i : f < length w.tasks = own _ f (op.Handle (handle_op.EndNotify f mine)) (omega arith) z in leaves-end_notify _ _ mine w f refl i (omega (arith, i, n)))
 leaves-act p h (op.Waker (waker_op.CallAwaiter f a k)) w n u z m = leaves-call p w f a k (omega (arith, z))
+leaves-act p h (op.Sleeper sleeper_op.ExchangeFlag) w n u z m = leaves-exchange _ w
+leaves-act p h (op.Sleeper sleeper_op.HandOut) w n u z m = leaves-hand_out _ _ w
+leaves-act p h (op.Sleeper (sleeper_op.CallSleeper s)) w n u z m = leaves-call_sleeper p s.tick s.poll s.waker w (known_waker w s.waker 0 (omega (arith, z)))
+leaves-act p h (op.Tick tick_op.MakeTick) w n u z m = leaves-make_tick _ w
+leaves-act p h (op.Tick (tick_op.Search s)) w n u z m = leaves-search _ _ w s refl
+leaves-act p h (op.Tick (tick_op.CopyWaker s)) w n u z m = leaves-copy_sleeper _ s.waker s.tick s.poll w (known_waker w s.waker 0 (omega (arith, z)))
+leaves-act p h (op.Tick (tick_op.LieDown s)) w n u z m = leaves-lie_down _ w s
+leaves-act p h (op.Tick (tick_op.GetUp t f)) w n u z m = leaves-get_up _ w t f
+leaves-act p h (op.Tick (tick_op.Leave t)) w n u z m = leaves-leave_sleepers _ w t
 leaves-act p h (op.Closing closing_op.TakeOut) w n u z m = leaves-take_out _ _ w refl
 leaves-act p h (op.Closing closing_op.DropNext) w n u z m = leaves-drop_first p w _ refl
 leaves-act p h (op.Closing closing_op.WakeNext) w n u z m = leaves-wake_first p w _ refl (first_known w u)

@@ -11,12 +11,14 @@ use Rattle.executor_model.specs.declared.event.Event.TheVariants as event
 use Rattle.executor_model.specs.declared.op.Hold.{Hold}
 use Rattle.executor_model.specs.declared.op.Hold.TheVariants as hold
 use Rattle.executor_model.specs.declared.op.Op.{Op}
+use Rattle.executor_model.specs.declared.op.Sleeping.{Sleeping}
 use Rattle.executor_model.specs.declared.op.Op.TheVariants as op
 use Rattle.executor_model.specs.declared.op.ClosingOp.TheVariants as closing_op
 use Rattle.executor_model.specs.declared.op.HandleOp.TheVariants as handle_op
 use Rattle.task_moves.specs.declared.moves.owed.Move.TheVariants as move
 use Rattle.executor_model.specs.declared.op.QueueOp.TheVariants as queue_op
 use Rattle.executor_model.specs.declared.op.TableOp.TheVariants as table_op
+use Rattle.executor_model.specs.declared.op.TickOp.TheVariants as tick_op
 use Rattle.executor_model.specs.declared.op.UserOp.TheVariants as user_op
 use Rattle.executor_model.specs.declared.op.WakerOp.TheVariants as waker_op
 use Rattle.executor_model.specs.declared.step.Step.{Step}
@@ -28,11 +30,11 @@ use Rattle.executor_model.specs.Weights.{weigh, weigh_all, same}
 use Rattle.executor_model.specs.Sound.{Pend, pend, with_ops, times}
 use Rattle.executor_model.specs.Rows as rows
 use Rattle.executor_model.specs.Good.{Good}
-use Rattle.executor_model.specs.Steps.{Machine, stack, idle, run, start, polled_by, top, is_free, has_all, is_on_executor, is_drop, is_unused, accepts, begun, react, used_up, with_future, kept, waker_of}
+use Rattle.executor_model.specs.Steps.{Machine, stack, idle, run, start, polled_by, top, is_free, has_all, is_on_executor, is_drop, is_unused, is_unborrowed, accepts, begun, react, used_up, with_future, kept, waker_of}
 use Rattle.executor_model.specs.Rows.{borrowing_of, waiting_of, polls_of, ending_of, ready_of, settling_of, giving_of, drops_of, releases_of, copies_of, ousting_of, past_of, leaves_of}
 use Rattle.executor_model.proofs.Cases.{by_bool}
 use Rattle.executor_model.proofs.Lists.{weigh_all-push}
-use Rattle.executor_model.proofs.Lift.{split, split-pend, push-pend, unsettled, good-start, none_refused, open_executor, unborrowed, weigh_all-idle, set-own}
+use Rattle.executor_model.proofs.Lift.{split, split-pend, push-pend, unsettled, good-start, none_refused, open_executor, unborrowed, unused, weigh_all-idle, set-own}
 use Rattle.executor_model.proofs.Ways.{Way, along}
 use Rattle.executor_model.proofs.Ways.Way.{acted, reacted, called}
 use Rattle.executor_model.proofs.Stories.{story, story-none, story-push, among_is, no-longer}
@@ -40,7 +42,7 @@ use Rattle.executor_model.proofs.Telling.{same-standing}
 use Rattle.executor_model.proofs.Leaving.{closing_of, waking_of, Extra, with_extra, extra, Base, based, Leaves, KeepsLeaves}
 use Rattle.executor_model.proofs.LeavingActs.{NeedsPlaces, leaves-act, leaves-pending, leaves-ready}
 use Rattle.executor_model.proofs.Borrowing.{uses_of, bare_all, Tidy, bare-moved, none-uses, drop-uses-all}
-use Rattle.executor_model.proofs.Tidying.{NeedsNoEntry, tidy-act, tidy-react, tidy-begun}
+use Rattle.executor_model.proofs.TidyingGroups.{NeedsNoEntry, tidy-act, tidy-react, tidy-begun}
 
 pub record Placed (s : Machine) : Type 0 where
   pub leaves : (g : ℕ) → Leaves s.world g (pend g s.parties) (extra g s.parties)
@@ -145,6 +147,15 @@ begins-take w p c g r yy bb h = grind (arith, story-push)
 begins-look : (w : World) (p : ℕ) (c : Call) → KeepsLeaves w [] (done (log w (event.CallBegun p c)) (op.Table table_op.LookAtTable ∷ []))
 begins-look w p c g r yy bb h = grind (arith, story-push)
 
+begins-make : (w : World) (p : ℕ) → KeepsLeaves w [] (done (log w (event.CallBegun p call.NewTick)) (op.Tick tick_op.MakeTick ∷ []))
+begins-make w p g r yy bb h = grind (arith, story-push)
+
+begins-search : (w : World) (p : ℕ) (c : Call) (t : ℕ) (x : Sleeping) → KeepsLeaves w [] (done (log (log w (event.CallBegun p c)) (event.TickPolled p t)) (op.Tick (tick_op.Search x) ∷ []))
+begins-search w p c t x g r yy bb h = grind (arith, story-push)
+
+begins-leave : (w : World) (p : ℕ) (c : Call) (t : ℕ) → KeepsLeaves w [] (done (log (log w (event.CallBegun p c)) (event.TickDropped p t)) (op.Tick (tick_op.Leave t) ∷ []))
+begins-leave w p c t g r yy bb h = grind (arith, story-push)
+
 begins-wake : (w : World) (p k f : ℕ) (c : Call) → KeepsLeaves w [] (done (used_up (log w (event.CallBegun p c)) k) (op.Move move.Wake f ∷ op.End reply.Done hold.Nothing ∷ []))
 begins-wake w p k f c g r yy bb h = grind (arith, story-push)
 
@@ -172,6 +183,9 @@ begins s w p ss others o here (call.PollHandle f b) q z on un g = begins-list w 
 begins s w p ss others o here (call.Cancel f) q z on un g = begins-list w p (call.Cancel f) (op.Move move.Cancel f ∷ op.End reply.Done (hold.Handle f) ∷ []) (λ g r. refl) (λ g r. refl) g _ _
 begins s w p ss others o here (call.Detach f) q z on un g = begins-list w p (call.Detach f) (op.Move move.Detach f ∷ op.End reply.Done (hold.Handle f) ∷ []) (λ g r. refl) (λ g r. refl) g _ _
 begins s w p ss others o here (call.DropHandle f) q z on un g = begins-list w p (call.DropHandle f) (op.Move move.Cancel f ∷ op.Move move.Detach f ∷ op.End reply.Done (hold.Handle f) ∷ []) (λ g r. refl) (λ g r. refl) g _ _
+begins s w p ss others o here call.NewTick q z on un g = begins-make w p g _ _
+begins s w p ss others o here (call.PollTick t b) q z on un g = begins-search w p (call.PollTick t b) t (record { waker = waker_of here b; tick = t; poll = length (log w (event.CallBegun p (call.PollTick t b))).trace }) g _ _
+begins s w p ss others o here (call.DropTick t) q z on un g = begins-leave w p (call.DropTick t) t g _ _
 begins s w p ss others o here call.DropExecutor q z on un g =
     let n : w.gone ≡ false = open_executor w call.DropExecutor refl on in
     let b : weigh_all borrowing_of ss ≡ 0 = unborrowed (weigh_all borrowing_of ss) un in
@@ -191,9 +205,9 @@ placed-moves s p old rest d good l e (reacted o u a q z) placed =
     rw z (placed-unsettled s p (o ∷ []) rest l e2 (react p o u s.world) good (λ g. keeps-react p o u s.world a g _ _) (tidy-react p o u s.world a) placed)
 placed-moves s p old rest d good l e (called c q r n z) placed =
     let e2 : stack s p ≡ rest ++ reverse [] = subst (λ (os : List Op). stack s p ≡ rest ++ reverse os) q e in
-    let f : _ = none_refused (is_free (top (stack s p))) (has_all s.world s.parties (top (stack s p)) c) (not (s.world.gone && is_on_executor c)) (not (is_drop c) || is_unused borrowing_of s.parties) n in
+    let f : _ = none_refused (is_free (top (stack s p))) (has_all s.world s.parties (top (stack s p)) c) (not (s.world.gone && is_on_executor c)) (not (is_drop c) || is_unborrowed s.world s.parties) n in
     let own : set s.parties p rest ≡ s.parties = ap (set s.parties p) r ∙ set-own s.parties p l in
-    rw z (placed-unsettled s p [] rest l e2 (begun p (log s.world (event.CallBegun p c)) (polled_by (top (stack s p))) c) good (begins s s.world p s.parties (set s.parties p rest) (top (stack s p)) (polled_by (top (stack s p))) c own placed.bare f.2 f.3) (tidy-begun p (log s.world (event.CallBegun p c)) (polled_by (top (stack s p))) c) placed)
+    rw z (placed-unsettled s p [] rest l e2 (begun p (log s.world (event.CallBegun p c)) (polled_by (top (stack s p))) c) good (begins s s.world p s.parties (set s.parties p rest) (top (stack s p)) (polled_by (top (stack s p))) c own placed.bare f.2 (unused c s.world s.parties f.3)) (tidy-begun p (log s.world (event.CallBegun p c)) (polled_by (top (stack s p))) c) placed)
 
 module _ (s : Machine) (p : ℕ) (a : Reply) (held : Hold) (below : List Op) (l : p < length s.parties) (e : stack s p ≡ below ++ reverse (op.End a held ∷ [])) where
   leaves-end : (g : ℕ) (r : Pend) (y : Extra) → Leaves s.world g (with_ops g (op.End a held ∷ []) r) (with_extra g (op.End a held ∷ []) y) → Leaves (log s.world (event.CallEnded p a)) g (with_ops g [] r) (with_extra g [] y)

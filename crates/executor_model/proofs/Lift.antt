@@ -11,16 +11,20 @@ use Rattle.executor_model.specs.declared.call.Call.{Call}
 use Rattle.executor_model.specs.declared.call.Call.TheVariants as call
 use Rattle.executor_model.specs.declared.call.Reply.TheVariants as reply
 use Rattle.executor_model.specs.declared.event.Answer.TheVariants as answer
+use Rattle.executor_model.specs.declared.event.Event.{Event}
 use Rattle.executor_model.specs.declared.event.Event.TheVariants as event
 use Rattle.executor_model.specs.declared.op.Waker.{Waker}
 use Rattle.executor_model.specs.declared.op.Hold.TheVariants as hold
+use Rattle.executor_model.specs.declared.op.Sleeping.{Sleeping}
 use Rattle.executor_model.specs.declared.op.Op.{Op}
 use Rattle.executor_model.specs.declared.op.Op.TheVariants as op
 use Rattle.executor_model.specs.declared.op.ClosingOp.TheVariants as closing_op
 use Rattle.executor_model.specs.declared.op.HandleOp.TheVariants as handle_op
 use Rattle.task_moves.specs.declared.moves.owed.Move.TheVariants as move
 use Rattle.executor_model.specs.declared.op.QueueOp.TheVariants as queue_op
+use Rattle.executor_model.specs.declared.op.SleeperOp.TheVariants as sleeper_op
 use Rattle.executor_model.specs.declared.op.TableOp.TheVariants as table_op
+use Rattle.executor_model.specs.declared.op.TickOp.TheVariants as tick_op
 use Rattle.executor_model.specs.declared.op.UserOp.TheVariants as user_op
 use Rattle.executor_model.specs.declared.op.WakerOp.TheVariants as waker_op
 use Rattle.executor_model.specs.declared.step.Hint.{Hint}
@@ -36,10 +40,12 @@ use Rattle.executor_model.specs.Weights.{weigh, weigh_all, past, waker_past}
 use Rattle.executor_model.specs.Sound.{Sound, Pend, pend, with_ops}
 use Rattle.executor_model.specs.Good.{Good, Fits}
 use Rattle.executor_model.specs.Rows.{borrowing_of, waiting_of, polls_of, ending_of, ready_of, closing_of, settling_of, giving_of, drops_of, releases_of, copies_of, ousting_of, past_of}
-use Rattle.executor_model.specs.Steps.{Machine, stack, top, below_top, is_free, polled_by, kept, has_all, is_on_executor, is_drop, is_unused, unless, begin_refusal, answer_refusal, accepts, party_of, part_refusal, refusal, used_up, with_future, waker_of, begun, react, end_of, settled_by, onto, gone_on, part_after, with_part, after, step_by, step, stepped, run, idle, start}
+use Rattle.executor_model.specs.Steps.{Machine, stack, top, below_top, is_free, polled_by, kept, has_all, is_on_executor, is_drop, is_unused, is_unborrowed, unless, begin_refusal, answer_refusal, accepts, party_of, part_refusal, refusal, used_up, with_future, waker_of, begun, react, end_of, settled_by, onto, gone_on, part_after, with_part, after, step_by, step, stepped, run, idle, start}
 use Rattle.executor_model.proofs.Lists.{past-more, waker_past-more, same_is, past_is, phase-push, wakers_of-used, wakers_past-used, weigh-append, weigh-reverse, weigh_all-set, weigh_all-push}
-use Rattle.executor_model.proofs.Counting.{Keeps, sound-act, sound-pending, sound-ready}
-use Rattle.executor_model.proofs.Fitting.{Grown, Grows, grows-act}
+use Rattle.executor_model.proofs.Counting.{Keeps, sound-pending, sound-ready}
+use Rattle.executor_model.proofs.CountingActs.{sound-act}
+use Rattle.executor_model.proofs.Fitting.{Grown, Grows}
+use Rattle.executor_model.proofs.FittingActs.{grows-act}
 
 -- what is still to do, but for what p does now, and after it
 pub split : (v : Op → ℕ) (ss : List (List Op)) (p : ℕ) (old rest : List Op) → p < length ss → get_or ss p [] ≡ rest ++ reverse old → weigh_all v ss ≡ weigh v old + weigh_all v (set ss p rest)
@@ -103,6 +109,11 @@ module _ (n m : ℕ) (h : n ≤ m) where
   more (op.Handle (handle_op.Notify f mine)) z = more-one f z
   more (op.Handle (handle_op.EndNotify f mine)) z = more-one f z
   more (op.Waker (waker_op.CallAwaiter f a k)) z = more-two f a z
+  more (op.Sleeper (sleeper_op.CallSleeper s)) z = waker_past-more n m s.waker h z
+  more (op.Tick (tick_op.Search s)) z = waker_past-more n m s.waker h z
+  more (op.Tick (tick_op.CopyWaker s)) z = waker_past-more n m s.waker h z
+  more (op.Tick (tick_op.LieDown s)) z = waker_past-more n m s.waker h z
+  more (op.Tick (tick_op.GetUp t f)) z = more-one f z
   more (op.Closing closing_op.Drain) z = refl
   more _ z = refl
 
@@ -220,6 +231,8 @@ polls-borrow g (op.Move move.Wake f) = omega arith
 polls-borrow g (op.Queue queue_op.Take) = omega arith
 polls-borrow g (op.Waker (waker_op.CopyWaker f held)) = omega arith
 polls-borrow g (op.Handle (handle_op.LookAgain f)) = omega arith
+polls-borrow g (op.Sleeper sleeper_op.HandOut) = omega arith
+polls-borrow g (op.Tick tick_op.MakeTick) = omega arith
 polls-borrow g (op.Closing closing_op.Drain) = omega arith
 polls-borrow g _ = omega arith
 
@@ -251,6 +264,15 @@ begins-on w p c o e n = ⊎_elim (λ (x : o ≡ op.Table table_op.Enter). subst 
     looks : Keeps w [] (done (log w (event.CallBegun p c)) (op.Table table_op.LookAtTable ∷ []))
     looks g r h = grind (arith, phase-push)
 
+begins-make : (w : World) (p : ℕ) → w.gone ≡ false → Keeps w [] (done (log w (event.CallBegun p call.NewTick)) (op.Tick tick_op.MakeTick ∷ []))
+begins-make w p n g r h = grind (arith, phase-push)
+
+begins-search : (w : World) (p t : ℕ) (b : By) (s : Sleeping) → w.gone ≡ false → Keeps w [] (done (log (log w (event.CallBegun p (call.PollTick t b))) (event.TickPolled p t)) (op.Tick (tick_op.Search s) ∷ []))
+begins-search w p t b s n g r h = grind (arith, phase-push)
+
+begins-leave : (w : World) (p t : ℕ) → w.gone ≡ false → Keeps w [] (done (log (log w (event.CallBegun p (call.DropTick t))) (event.TickDropped p t)) (op.Tick (tick_op.Leave t) ∷ []))
+begins-leave w p t n g r h = grind (arith, phase-push)
+
 -- the kept waker k is used up
 pub kept-used : (w : World) (k f : ℕ) → slice_index_or w.wakers k None ≡ Some f → slice_get w.wakers k ≡ Some (Some f)
 kept-used w k f e = go w.wakers k e
@@ -277,6 +299,15 @@ none_refused true true false d e = absurd (cc)
 none_refused true false c d e = absurd (cc)
 none_refused false b c d e = absurd (cc)
 
+-- who may drop the executor finds no call that uses it
+pub unused : (c : Call) (w : World) (ss : List (List Op)) → (not (is_drop c) || is_unborrowed w ss) ≡ true → (not (is_drop c) || is_unused borrowing_of ss) ≡ true
+unused c w ss e = by (is_drop c) _ _ e
+  where
+    by : (d a b : Bool) → (not d || (a && b)) ≡ true → (not d || a) ≡ true
+    by false a b q = refl
+    by true true b q = refl
+    by true false b q = absurd (cc)
+
 -- a future whose handle is there is one
 pub handle-known : (w : World) (f : ℕ) → (task w f).handle ≡ true → past (length w.tasks) f ≡ 0
 handle-known w f e = ⊎_elim (λ x. x.0) (λ (x : (past (length w.tasks) f ≡ 1) × (length w.tasks ≤ f)). absurd (false_true (ap (λ (t : State). t.handle) (sym (get_or_past w.tasks f blank x.1)) ∙ e))) (past_is (length w.tasks) f).1
@@ -292,10 +323,14 @@ kept-known w k f h e = omega (arith, wakers_past-used (length w.tasks) f k w.wak
 
 -- what is to do speaks of futures that are there, and the world is as it was
 grows-begun : (w : World) (p : ℕ) (c : Call) (next : List Op) → (Fits w → weigh (past_of (length w.tasks)) next ≡ 0) → Grows w [] (done (log w (event.CallBegun p c)) next)
-grows-begun w p c next z h k = record { fits = record { queue = h.queue; table = h.table; leaving = h.leaving; waking = h.waking; wakers = h.wakers; awaiters = h.awaiters; awaiting = h.awaiting; inside = h.inside }; next = z h; more = omega arith }
+grows-begun w p c next z h k = record { fits = record { queue = h.queue; table = h.table; leaving = h.leaving; waking = h.waking; wakers = h.wakers; awaiters = h.awaiters; sleepers = h.sleepers; awaiting = h.awaiting; inside = h.inside }; next = z h; more = omega arith }
+
+-- a tick's call is told of too
+grows-told : (w : World) (p : ℕ) (c : Call) (e : Event) (next : List Op) → weigh (past_of (length w.tasks)) next ≡ 0 → Grows w [] (done (log (log w (event.CallBegun p c)) e) next)
+grows-told w p c e next z h k = record { fits = record { queue = h.queue; table = h.table; leaving = h.leaving; waking = h.waking; wakers = h.wakers; awaiters = h.awaiters; sleepers = h.sleepers; awaiting = h.awaiting; inside = h.inside }; next = z; more = omega arith }
 
 grows-used : (w : World) (p k f : ℕ) (c : Call) (next : List Op) → slice_get w.wakers k ≡ Some (Some f) → (past (length w.tasks) f ≡ 0 → weigh (past_of (length w.tasks)) next ≡ 0) → Grows w [] (done (used_up (log w (event.CallBegun p c)) k) next)
-grows-used w p k f c next e z h y = record { fits = record { queue = h.queue; table = h.table; leaving = h.leaving; waking = h.waking; wakers = omega (arith, wakers_past-used (length w.tasks) f k w.wakers e, h.wakers); awaiters = h.awaiters; awaiting = h.awaiting; inside = h.inside }; next = z (kept-known w k f h e); more = omega arith }
+grows-used w p k f c next e z h y = record { fits = record { queue = h.queue; table = h.table; leaving = h.leaving; waking = h.waking; wakers = omega (arith, wakers_past-used (length w.tasks) f k w.wakers e, h.wakers); awaiters = h.awaiters; sleepers = h.sleepers; awaiting = h.awaiting; inside = h.inside }; next = z (kept-known w k f h e); more = omega arith }
 
 -- nothing that counts is to do
 keeps-begun : (w : World) (p : ℕ) (c : Call) (os : List Op) → ((g : ℕ) (r : Pend) → with_ops g os r ≡ with_ops g [] r) → Keeps w [] (done (log w (event.CallBegun p c)) os)
@@ -319,6 +354,12 @@ module _ (w : World) (p : ℕ) (others : List (List Op)) where
   begins-waker c (Some g) (by.Outside x) f z k = begins-by c _ (λ g r. refl) (λ h. omega (arith, z))
   begins-waker c None (by.Outside x) f z k = begins-by c _ (λ g r. refl) (λ h. omega (arith, z))
 
+waker-known : (w : World) (here : Option ℕ) (b : By) → ((g : ℕ) → here ≡ Some g → past (length w.tasks) g ≡ 0) → waker_past (length w.tasks) (waker_of here b) + 0 ≡ 0
+waker-known w (Some g) by.Mine k = omega (arith, k g refl)
+waker-known w None by.Mine k = omega arith
+waker-known w (Some g) (by.Outside x) k = omega arith
+waker-known w None (by.Outside x) k = omega arith
+
 pub open_executor : (w : World) (c : Call) → is_on_executor c ≡ true → not (w.gone && is_on_executor c) ≡ true → w.gone ≡ false
 open_executor w c e n = grind (arith, nat_tests)
 
@@ -339,10 +380,13 @@ begins w p ss others o here (call.PollHandle f b) k le has on un = begins-waker 
 begins w p ss others o here (call.Cancel f) k le has on un = begins-by w p others (call.Cancel f) _ (λ g r. refl) (λ h. omega (arith, handle-known w f (first-true _ _ has)))
 begins w p ss others o here (call.Detach f) k le has on un = begins-by w p others (call.Detach f) _ (λ g r. refl) (λ h. omega (arith, handle-known w f (first-true _ _ has)))
 begins w p ss others o here (call.DropHandle f) k le has on un = begins-by w p others (call.DropHandle f) _ (λ g r. refl) (λ h. omega (arith, handle-known w f (first-true _ _ has)))
+begins w p ss others o here call.NewTick k le has on un = ((λ g. begins-make w p (open_executor w call.NewTick refl on) g _), grows-begun w p _ _ (λ h. refl))
+begins w p ss others o here (call.PollTick t b) k le has on un = ((λ g. begins-search w p t b (record { waker = waker_of here b; tick = t; poll = length (log w (event.CallBegun p (call.PollTick t b))).trace }) (open_executor w (call.PollTick t b) refl on) g _), grows-told w p _ _ _ (waker-known w here b k))
+begins w p ss others o here (call.DropTick t) k le has on un = ((λ g. begins-leave w p t (open_executor w (call.DropTick t) refl on) g _), grows-told w p _ _ _ refl)
 begins w p ss others o here call.DropExecutor k le has on un =
     let n : w.gone ≡ false = open_executor w call.DropExecutor refl on in
     let z : weigh_all borrowing_of others ≡ 0 = omega (arith, le borrowing_of, unborrowed (weigh_all borrowing_of ss) un) in
-    ((λ g. begins-drop w p call.DropExecutor g _ n z (omega (arith, z, polls-borrow-all g others))), (λ h y. record { fits = record { queue = h.queue; table = h.table; leaving = h.leaving; waking = h.waking; wakers = h.wakers; awaiters = h.awaiters; awaiting = h.awaiting; inside = h.inside }; next = refl; more = omega arith }))
+    ((λ g. begins-drop w p call.DropExecutor g _ n z (omega (arith, z, polls-borrow-all g others))), (λ h y. record { fits = record { queue = h.queue; table = h.table; leaving = h.leaving; waking = h.waking; wakers = h.wakers; awaiters = h.awaiters; sleepers = h.sleepers; awaiting = h.awaiting; inside = h.inside }; next = refl; more = omega arith }))
 
 here-known : (s : Machine) (p : ℕ) (o : Option Op) → p < length s.parties → top (stack s p) ≡ o → Good s → (g : ℕ) → polled_by o ≡ Some g → past (length s.world.tasks) g ≡ 0
 here-known s p (Some (op.User (user_op.Poll f))) h e good g q =
@@ -353,9 +397,9 @@ here-known s p None h e good g q = absurd (cc)
 
 good-begin : (s : Machine) (p : ℕ) (c : Call) → p < length s.parties → begin_refusal s.world s.parties (top (stack s p)) c ≡ None → Good s → Good (with_part s p (part_after s.world (stack s p) (Begin p c)))
 good-begin s p c l n good =
-    let f : _ = none_refused (is_free (top (stack s p))) (has_all s.world s.parties (top (stack s p)) c) (not (s.world.gone && is_on_executor c)) (not (is_drop c) || is_unused borrowing_of s.parties) n in
+    let f : _ = none_refused (is_free (top (stack s p))) (has_all s.world s.parties (top (stack s p)) c) (not (s.world.gone && is_on_executor c)) (not (is_drop c) || is_unborrowed s.world s.parties) n in
     let own : set s.parties p (stack s p) ≡ s.parties = set-own s.parties p l in
-    let b : Begins s.world (begun p (log s.world (event.CallBegun p c)) (polled_by (top (stack s p))) c) (set s.parties p (stack s p)) = begins s.world p s.parties (set s.parties p (stack s p)) (top (stack s p)) (polled_by (top (stack s p))) c (here-known s p (top (stack s p)) l refl good) (λ v. omega (arith, ap (weigh_all v) own)) f.1 f.2 f.3 in
+    let b : Begins s.world (begun p (log s.world (event.CallBegun p c)) (polled_by (top (stack s p))) c) (set s.parties p (stack s p)) = begins s.world p s.parties (set s.parties p (stack s p)) (top (stack s p)) (polled_by (top (stack s p))) c (here-known s p (top (stack s p)) l refl good) (λ v. omega (arith, ap (weigh_all v) own)) f.1 f.2 (unused c s.world s.parties f.3) in
     good-onto s p [] (stack s p) (begun p (log s.world (event.CallBegun p c)) (polled_by (top (stack s p))) c) l (sym (append-nil (stack s p))) b.0 b.1 good
 
 -- every step
@@ -393,7 +437,7 @@ weigh_all-idle v (suc n) = omega (arith, weigh_all-idle v n)
 
 pub good-start : (limit n : ℕ) → Good (start limit n)
 good-start limit n = record {
-  fits = record { queue = refl; table = refl; leaving = refl; waking = refl; wakers = refl; awaiters = refl; awaiting = refl; inside = refl };
+  fits = record { queue = refl; table = refl; leaving = refl; waking = refl; wakers = refl; awaiters = refl; sleepers = refl; awaiting = refl; inside = refl };
   ops = weigh_all-idle (past_of 0) n;
   sound = λ g. subst (Sound (start limit n).world g) (sym (λ i. record {
     waiting = weigh_all-idle (waiting_of g) n i;

@@ -12,6 +12,7 @@ use Rattle.executor_model.specs.declared.event.Event.TheVariants.{PollBegun, Ans
 use Rattle.executor_model.specs.declared.op.Awaiter.{Awaiter}
 use Rattle.executor_model.specs.declared.op.Waker.{Waker}
 use Rattle.executor_model.specs.declared.op.Waker.TheVariants.{Task, Outside}
+use Rattle.executor_model.specs.declared.op.Sleeping.{Sleeping}
 use Rattle.executor_model.specs.declared.op.Op.{Op}
 use Rattle.executor_model.specs.declared.op.Op.TheVariants as op
 use Rattle.executor_model.specs.declared.op.ClosingOp.TheVariants as closing_op
@@ -19,7 +20,7 @@ use Rattle.executor_model.specs.Acts.{closing_ops}
 use Rattle.executor_model.specs.Trace.{Trace}
 use Rattle.executor_model.specs.World.{blank, without, among}
 use Rattle.executor_model.specs.Weights.{same, weigh, weigh_all, past, waker_past, wakes}
-use Rattle.executor_model.specs.Good.{pasts, wakers_past, awaiters_past}
+use Rattle.executor_model.specs.Good.{pasts, wakers_past, awaiters_past, sleepers_past}
 use Rattle.executor_model.specs.Sound.{times, wakers_of, awaiters_of, Pend, with_ops, Phase, passes, phase_from, phase, after_begun, after_answered, after_dropped}
 use Rattle.executor_model.specs.Rows.{borrowing_of, waiting_of, polls_of, ending_of, ready_of, closing_of, settling_of, giving_of, drops_of, releases_of, copies_of, ousting_of}
 use Rattle.executor_model.proofs.Cases.{by_bool}
@@ -227,6 +228,10 @@ wakers_past-more n m (Some x ∷ xs) h e = omega (arith, past-more n m x h (omeg
 pub waker_past-more : (n m : ℕ) (a : Waker) → n ≤ m → waker_past n a ≡ 0 → waker_past m a ≡ 0
 waker_past-more n m (Task f) h e = past-more n m f h e
 waker_past-more n m (Outside x) h e = refl
+
+pub sleepers_past-more : (n m : ℕ) (es : List (ℕ × Sleeping)) → n ≤ m → sleepers_past n es ≡ 0 → sleepers_past m es ≡ 0
+sleepers_past-more n m [] h e = refl
+sleepers_past-more n m (x ∷ es) h e = omega (arith, waker_past-more n m x.1.waker h (omega arith), sleepers_past-more n m es h (omega arith))
 
 pub awaiters_past-more : (n m : ℕ) (xs : List (Option Awaiter)) → n ≤ m → awaiters_past n xs ≡ 0 → awaiters_past m xs ≡ 0
 awaiters_past-more n m [] h e = refl

@@ -8,6 +8,8 @@ use Rattle.executor_model.specs.declared.op.Waker.{Waker}
 use Rattle.executor_model.specs.declared.op.Waker.TheVariants.{Task, Outside}
 use Rattle.executor_model.specs.declared.op.Op.{Op}
 use Rattle.executor_model.specs.declared.op.Op.TheVariants as op
+use Rattle.executor_model.specs.declared.op.SleeperOp.TheVariants as sleeper_op
+use Rattle.executor_model.specs.declared.op.TickOp.TheVariants as tick_op
 use Rattle.executor_model.specs.declared.op.ClosingOp.TheVariants as closing_op
 use Rattle.executor_model.specs.declared.op.HandleOp.TheVariants as handle_op
 use Rattle.task_moves.specs.declared.moves.owed.Move.TheVariants as move
@@ -76,4 +78,6 @@ needs s p (op.Handle (handle_op.EndNotify f m)) h e good = keeps_awaiter s f goo
 needs s p (op.Waker (waker_op.CallAwaiter f a k)) h e good = can_wake s a good (omega (arith, speaks s p (op.Waker (waker_op.CallAwaiter f a k)) h e good))
 needs s p (op.Closing closing_op.DropNext) h e good = λ f rest q. has_place s f good (omega (arith, ap (pasts (length s.world.tasks)) q, good.fits.leaving))
 needs s p (op.Closing closing_op.WakeNext) h e good = λ f rest q. can_grow s f good (omega (arith, ap (pasts (length s.world.tasks)) q, good.fits.waking))
+needs s p (op.Sleeper (sleeper_op.CallSleeper a)) h e good = can_wake s a.waker good (omega (arith, speaks s p (op.Sleeper (sleeper_op.CallSleeper a)) h e good))
+needs s p (op.Tick (tick_op.CopyWaker a)) h e good = known_waker s a.waker (omega (arith, speaks s p (op.Tick (tick_op.CopyWaker a)) h e good))
 needs s p _ h e good = tt

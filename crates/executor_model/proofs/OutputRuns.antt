@@ -20,7 +20,7 @@ use Rattle.executor_model.proofs.Lift.{split, unsettled, good-start}
 use Rattle.executor_model.proofs.Ways.{Way, along}
 use Rattle.executor_model.proofs.Ways.Way.{acted, reacted, called}
 use Rattle.executor_model.proofs.Outputs.{outputs, outputs-none, outs_of, Given, KeepsOutput}
-use Rattle.executor_model.proofs.OutputActs.{NeedsUnready, out-act, out-react, out-begun}
+use Rattle.executor_model.proofs.OutputGroups.{NeedsUnready, out-act, out-react, out-begun}
 
 abbrev pub Gives : Machine → Type 0
 Gives s = (g : ℕ) → Given s.world g (weigh_all (outs_of g) s.parties)

@@ -14,7 +14,9 @@ use Rattle.executor_model.specs.declared.op.ClosingOp.TheVariants as closing_op
 use Rattle.executor_model.specs.declared.op.HandleOp.TheVariants as handle_op
 use Rattle.task_moves.specs.declared.moves.owed.Move.TheVariants as move
 use Rattle.executor_model.specs.declared.op.QueueOp.TheVariants as queue_op
+use Rattle.executor_model.specs.declared.op.SleeperOp.TheVariants as sleeper_op
 use Rattle.executor_model.specs.declared.op.TableOp.TheVariants as table_op
+use Rattle.executor_model.specs.declared.op.TickOp.TheVariants as tick_op
 use Rattle.executor_model.specs.declared.op.UserOp.TheVariants as user_op
 use Rattle.executor_model.specs.declared.op.WakerOp.TheVariants as waker_op
 use Rattle.executor_model.specs.declared.step.Hint.{Hint}
@@ -26,14 +28,14 @@ use Rattle.executor_model.specs.Quiet.{IsQuiet}
 use Rattle.executor_model.specs.World.{World, Done, done, log}
 use Rattle.executor_model.specs.Acts.{act}
 use Rattle.executor_model.specs.Weights.{same, weigh, weigh_all}
-use Rattle.executor_model.specs.Rows.{borrowing_of}
 use Rattle.executor_model.specs.Good.{Good}
-use Rattle.executor_model.specs.Steps.{Machine, stack, run, start, idle, polled_by, top, is_free, is_some, has_all, is_on_executor, is_drop, is_unused, accepts, begun, react, with_future, kept}
+use Rattle.executor_model.specs.Steps.{Machine, stack, run, start, idle, polled_by, top, is_free, is_some, has_all, is_on_executor, is_drop, is_unborrowed, accepts, begun, react, with_future, kept}
 use Rattle.executor_model.proofs.Lists.{same_cases, weigh-append, weigh-reverse}
 use Rattle.executor_model.proofs.Lift.{unsettled, good-start, none_refused}
 use Rattle.executor_model.proofs.Ways.{Way, along}
 use Rattle.executor_model.proofs.Ways.Way.{acted, reacted, called}
-use Rattle.executor_model.proofs.Calls.{calling_of, begun_by, ended_by, begun-push, ended-push, Steady, steady-same, steady-log, Answering, Calls, inside, single, then, is_end, calls-act}
+use Rattle.executor_model.proofs.Calls.{calling_of, begun_by, ended_by, begun-push, ended-push, Steady, steady-same, steady-log, Answering, Calls, inside, single, then, is_end}
+use Rattle.executor_model.proofs.CallsGroups.{calls-act}
 
 -- a stack that is not empty has at its bottom what answers its first call
 abbrev pub Grounded : List Op → Type 0
@@ -74,6 +76,15 @@ calling-is (op.Handle (handle_op.CopyAwaiter f a)) = inr refl
 calling-is (op.Handle (handle_op.Register f a k)) = inr refl
 calling-is (op.Handle (handle_op.EndRegister f a k)) = inr refl
 calling-is (op.Handle (handle_op.LookAgain f)) = inr refl
+calling-is (op.Sleeper sleeper_op.ExchangeFlag) = inl refl
+calling-is (op.Sleeper sleeper_op.HandOut) = inl refl
+calling-is (op.Sleeper (sleeper_op.CallSleeper s)) = inl refl
+calling-is (op.Tick tick_op.MakeTick) = inr refl
+calling-is (op.Tick (tick_op.Search s)) = inr refl
+calling-is (op.Tick (tick_op.CopyWaker s)) = inr refl
+calling-is (op.Tick (tick_op.LieDown s)) = inr refl
+calling-is (op.Tick (tick_op.GetUp t f)) = inr refl
+calling-is (op.Tick (tick_op.Leave t)) = inr refl
 calling-is (op.End r held) = inr refl
 calling-is _ = inl refl
 
@@ -165,6 +176,9 @@ opens p w ss o (call.PollHandle f b) k = (steady-same _ _ refl, single _ refl)
 opens p w ss o (call.Cancel f) k = (steady-same _ _ refl, then (op.Move move.Cancel f ∷ []) _ refl refl)
 opens p w ss o (call.Detach f) k = (steady-same _ _ refl, then (op.Move move.Detach f ∷ []) _ refl refl)
 opens p w ss o (call.DropHandle f) k = (steady-same _ _ refl, then (op.Move move.Cancel f ∷ op.Move move.Detach f ∷ []) _ refl refl)
+opens p w ss o call.NewTick k = (steady-same _ _ refl, single _ refl)
+opens p w ss o (call.PollTick t b) k = (steady-log _ _ (event.TickPolled p t) refl (λ q. refl) (λ q. refl), single _ refl)
+opens p w ss o (call.DropTick t) k = (steady-log _ _ (event.TickDropped p t) refl (λ q. refl) (λ q. refl), single _ refl)
 opens p w ss o call.DropExecutor k = (steady-log _ _ (event.DropBegun p) refl (λ q. refl) (λ q. refl), then (op.Closing closing_op.TakeOut ∷ []) _ refl refl)
 
 -- the end of user code
@@ -185,7 +199,7 @@ deep-moves : (s : Machine) (p : ℕ) (old rest : List Op) (d : Done) → Good s 
 deep-moves s p old rest d good l e (acted t o q z) h = rw z (acted-by s p rest t o (is_end o) refl l (subst (λ (os : List Op). stack s p ≡ rest ++ reverse os) q e) h)
 deep-moves s p old rest d good l e (reacted o u a q z) h = rw z (turned s p (o ∷ []) rest (react p o u s.world) l (subst (λ (os : List Op). stack s p ≡ rest ++ reverse os) q e) (turns-react p o u s.world a) h)
 deep-moves s p old rest d good l e (called c q r n z) h =
-    let f : _ = none_refused (is_free (top (stack s p))) (has_all s.world s.parties (top (stack s p)) c) (not (s.world.gone && is_on_executor c)) (not (is_drop c) || is_unused borrowing_of s.parties) n in
+    let f : _ = none_refused (is_free (top (stack s p))) (has_all s.world s.parties (top (stack s p)) c) (not (s.world.gone && is_on_executor c)) (not (is_drop c) || is_unborrowed s.world s.parties) n in
     rw z (opened s p rest c _ l (subst (λ (os : List Op). stack s p ≡ rest ++ reverse os) q e) (opens p s.world s.parties (top (stack s p)) c f.1) h)
 
 deep-ends : (s : Machine) (p : ℕ) (a : Reply) (held : Hold) (below : List Op) → p < length s.parties → stack s p ≡ below ++ reverse (op.End a held ∷ []) → Deep s → Deep (unsettled s p below (done (log s.world (event.CallEnded p a)) []))

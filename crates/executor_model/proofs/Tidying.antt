@@ -2,38 +2,27 @@
 use Rattle.std.proofs.Common.{◌≡◌, ℕ, List, [], ◌∷◌, ◌++◌, Bool, true, false, refl, ap, arith}
 use Rattle.std.specs.Prelude.{Option, Some, None}
 use Rattle.task_moves.specs.declared.moves.state.State.{State}
-use Rattle.task_moves.specs.declared.moves.owed.Move.TheVariants as move
 use Rattle.task_moves.specs.declared.moves.owed.FutureDebt.{FutureDebt}
 use Rattle.task_moves.specs.declared.moves.owed.AwaiterDebt.{AwaiterDebt}
 use Rattle.task_moves.specs.declared.moves.owed.Answer.{Answer}
 use Rattle.task_moves.specs.declared.moves.owed.Owed.{Owed}
 use Rattle.task_moves.specs.declared.moves.owed.Moved.{Moved}
 use Rattle.task_moves.specs.Moves as moves
-use Rattle.executor_model.specs.declared.call.Call.{Call}
-use Rattle.executor_model.specs.declared.call.Call.TheVariants as call
 use Rattle.executor_model.specs.declared.op.Awaiter.{Awaiter}
 use Rattle.executor_model.specs.declared.op.Waker.{Waker}
 use Rattle.executor_model.specs.declared.op.Waker.TheVariants.{Task, Outside}
 use Rattle.executor_model.specs.declared.op.Hold.{Hold}
 use Rattle.executor_model.specs.declared.op.Op.{Op}
 use Rattle.executor_model.specs.declared.op.Op.TheVariants as op
-use Rattle.executor_model.specs.declared.op.ClosingOp.TheVariants as closing_op
 use Rattle.executor_model.specs.declared.op.HandleOp.TheVariants as handle_op
 use Rattle.executor_model.specs.declared.op.QueueOp.TheVariants as queue_op
-use Rattle.executor_model.specs.declared.op.TableOp.TheVariants as table_op
-use Rattle.executor_model.specs.declared.op.UserOp.TheVariants as user_op
-use Rattle.executor_model.specs.declared.op.WakerOp.TheVariants as waker_op
-use Rattle.executor_model.specs.declared.step.Hint.{Hint}
-use Rattle.executor_model.specs.declared.step.UserEnd.{UserEnd}
-use Rattle.executor_model.specs.declared.step.UserEnd.TheVariants as end
-use Rattle.executor_model.specs.World.{World, Done, task, among, awaiter_of}
-use Rattle.executor_model.specs.Carried.{owed_ops, drop_ops, future_ops, awaiter_ops}
-use Rattle.executor_model.specs.Acts.{append_by, take_by, enter_by, copy_by, look_by, look_again_by, copy_awaiter_by, register_by, waker_goes, let_go, end_register_by, notify_by, told, call_awaiter, closing_ops, drop_next_by, wake, wake_next_by, drain_by, act}
+use Rattle.executor_model.specs.World.{World, task, awaiter_of}
+use Rattle.executor_model.specs.Carried.{owed_ops, future_ops, awaiter_ops}
+use Rattle.executor_model.specs.Acts.{append_by, take_by, enter_by, copy_by, look_by, look_again_by, copy_awaiter_by, register_by, waker_goes, let_go, end_register_by, notify_by, told, call_awaiter, closing_ops, drop_next_by, wake, wake_next_by, drain_by}
 use Rattle.executor_model.specs.Weights.{weigh}
-use Rattle.executor_model.specs.Steps.{with_future, kept, accepts, begun, react}
 use Rattle.executor_model.proofs.Lists.{weigh-append}
 use Rattle.executor_model.proofs.Owed.{owed-awaiter, owed-nothing}
-use Rattle.executor_model.proofs.Borrowing.{uses_of, Tidy, tidy-light}
+use Rattle.executor_model.proofs.Borrowing.{uses_of, Tidy}
 
 light-both : (xs ys : List Op) → weigh uses_of xs ≡ 0 → weigh uses_of ys ≡ 0 → weigh uses_of (xs ++ ys) ≡ 0
 light-both xs ys a b = omega (arith, weigh-append uses_of xs ys, a, b)
@@ -41,67 +30,67 @@ light-both xs ys a b = omega (arith, weigh-append uses_of xs ys, a, b)
 light-awaiter : (f : ℕ) (o : Option AwaiterDebt) → weigh uses_of (awaiter_ops f o) ≡ 0
 light-awaiter f o = owed-awaiter uses_of f (record { notify = λ m. refl }) o
 
-light-owed : (f : ℕ) (there : Bool) (o : Owed) → weigh uses_of (future_ops there f o.future) ≡ 0 → weigh uses_of (owed_ops there f o) ≡ 0
+pub light-owed : (f : ℕ) (there : Bool) (o : Owed) → weigh uses_of (future_ops there f o.future) ≡ 0 → weigh uses_of (owed_ops there f o) ≡ 0
 light-owed f there o z = owed-nothing uses_of f (record { append = refl; output = refl; release = refl; settle_closed = refl; give_up = refl; end_closed = refl; detach = refl }) there o z (light-awaiter f o.awaiter)
 
 -- a move at which no future is owed
-light-carried : (f : ℕ) (there : Bool) (m : Moved) → m.owed.future ≡ None → weigh uses_of (owed_ops there f m.owed) ≡ 0
+pub light-carried : (f : ℕ) (there : Bool) (m : Moved) → m.owed.future ≡ None → weigh uses_of (owed_ops there f m.owed) ≡ 0
 light-carried f there m e = light-owed f there m.owed (ap (λ (x : Option FutureDebt). weigh uses_of (future_ops there f x)) e)
 
-no-wake : (b c : Bool) (s : State) → (moves.wake_by_reference_by b c s).owed.future ≡ None
+pub no-wake : (b c : Bool) (s : State) → (moves.wake_by_reference_by b c s).owed.future ≡ None
 no-wake true c s = refl
 no-wake false true s = refl
 no-wake false false s = refl
 
-no-release : (b c : Bool) (s : State) → (moves.release_by b c s).owed.future ≡ None
+pub no-release : (b c : Bool) (s : State) → (moves.release_by b c s).owed.future ≡ None
 no-release false c s = refl
 no-release true true s = refl
 no-release true false s = refl
 
-no-give_up : (b : Bool) (s : State) → (moves.give_up_by b s).owed.future ≡ None
+pub no-give_up : (b : Bool) (s : State) → (moves.give_up_by b s).owed.future ≡ None
 no-give_up true s = refl
 no-give_up false s = refl
 
-no-cancel : (a b : Bool) (s : State) → (moves.cancel_by a b s).owed.future ≡ None
+pub no-cancel : (a b : Bool) (s : State) → (moves.cancel_by a b s).owed.future ≡ None
 no-cancel true b s = refl
 no-cancel false true s = refl
 no-cancel false false s = refl
 
-no-detach : (a b : Bool) (s : State) → (moves.detach_by a b s).owed.future ≡ None
+pub no-detach : (a b : Bool) (s : State) → (moves.detach_by a b s).owed.future ≡ None
 no-detach true b s = refl
 no-detach false true s = refl
 no-detach false false s = refl
 
-light-append : (b : Bool) (w : World) (f : ℕ) → weigh uses_of (append_by b w f).next ≡ 0
+pub light-append : (b : Bool) (w : World) (f : ℕ) → weigh uses_of (append_by b w f).next ≡ 0
 light-append true w f = refl
 light-append false w f = refl
 
-tidy-take : (q : List ℕ) (w : World) → Tidy (op.Queue queue_op.Take ∷ []) (take_by w q).next
+pub tidy-take : (q : List ℕ) (w : World) → Tidy (op.Queue queue_op.Take ∷ []) (take_by w q).next
 tidy-take [] w = record { keeps = λ h. refl }
 tidy-take (f ∷ rest) w = record { keeps = λ h. refl }
 
-light-enter : (b c : Bool) (p : ℕ) (w : World) → weigh uses_of (enter_by b c p w).next ≡ 0
+pub light-enter : (b c : Bool) (p : ℕ) (w : World) → weigh uses_of (enter_by b c p w).next ≡ 0
 light-enter true c p w = refl
 light-enter false true p w = refl
 light-enter false false p w = refl
 
-light-copy : (b : Bool) (w : World) (f : ℕ) (held : Hold) → weigh uses_of (copy_by b w f held).next ≡ 0
+pub light-copy : (b : Bool) (w : World) (f : ℕ) (held : Hold) → weigh uses_of (copy_by b w f held).next ≡ 0
 light-copy true w f held = refl
 light-copy false w f held = refl
 
-light-look : (o : Option Answer) (p : ℕ) (w : World) (f : ℕ) (a : Waker) (m : Moved) → weigh uses_of (look_by o p w f a m).next ≡ 0
+pub light-look : (o : Option Answer) (p : ℕ) (w : World) (f : ℕ) (a : Waker) (m : Moved) → weigh uses_of (look_by o p w f a m).next ≡ 0
 light-look None p w f a m = refl
 light-look (Some x) p w f a m = light-both (awaiter_ops f m.owed.awaiter) _ (light-awaiter f m.owed.awaiter) refl
 
-light-again : (o : Option Answer) (p : ℕ) (w : World) (f : ℕ) (m : Moved) → weigh uses_of (look_again_by o p w f m).next ≡ 0
+pub light-again : (o : Option Answer) (p : ℕ) (w : World) (f : ℕ) (m : Moved) → weigh uses_of (look_again_by o p w f m).next ≡ 0
 light-again None p w f m = refl
 light-again (Some x) p w f m = light-both (awaiter_ops f m.owed.awaiter) _ (light-awaiter f m.owed.awaiter) refl
 
-light-copy_awaiter : (b : Bool) (p : ℕ) (w : World) (f : ℕ) (a : Waker) → weigh uses_of (copy_awaiter_by b p w f a).next ≡ 0
+pub light-copy_awaiter : (b : Bool) (p : ℕ) (w : World) (f : ℕ) (a : Waker) → weigh uses_of (copy_awaiter_by b p w f a).next ≡ 0
 light-copy_awaiter true p w f a = refl
 light-copy_awaiter false p w f a = refl
 
-light-register : (b : Bool) (w : World) (f : ℕ) (a : Waker) (k : ℕ) → weigh uses_of (register_by b w f a k).next ≡ 0
+pub light-register : (b : Bool) (w : World) (f : ℕ) (a : Waker) (k : ℕ) → weigh uses_of (register_by b w f a k).next ≡ 0
 light-register true w f a k = refl
 light-register false w f a k = refl
 
@@ -113,112 +102,43 @@ light-let_go : (a : Option Awaiter) → weigh uses_of (let_go a) ≡ 0
 light-let_go None = refl
 light-let_go (Some a) = light-goes a.waker
 
-light-end_register : (b : Bool) (w : World) (f : ℕ) (a : Waker) (k : ℕ) → weigh uses_of (end_register_by b w f a k).next ≡ 0
+pub light-end_register : (b : Bool) (w : World) (f : ℕ) (a : Waker) (k : ℕ) → weigh uses_of (end_register_by b w f a k).next ≡ 0
 light-end_register true w f a k = omega (arith, light-both (let_go (awaiter_of w f)) (op.Handle (handle_op.LookAgain f) ∷ []) (light-let_go (awaiter_of w f)) refl)
 light-end_register false w f a k = light-both (let_go (awaiter_of w f)) (op.Handle (handle_op.LookAgain f) ∷ []) (light-let_go (awaiter_of w f)) refl
 
-light-notify : (b : Bool) (w : World) (f : ℕ) (mine : Bool) → weigh uses_of (notify_by b w f mine).next ≡ 0
+pub light-notify : (b : Bool) (w : World) (f : ℕ) (mine : Bool) → weigh uses_of (notify_by b w f mine).next ≡ 0
 light-notify true w f mine = refl
 light-notify false w f mine = refl
 
-light-told : (b : Bool) (f : ℕ) (a : Option Awaiter) → weigh uses_of (told b f a) ≡ 0
+pub light-told : (b : Bool) (f : ℕ) (a : Option Awaiter) → weigh uses_of (told b f a) ≡ 0
 light-told b f None = refl
 light-told true f (Some a) = light-goes a.waker
 light-told false f (Some a) = refl
 
-light-wake : (p : ℕ) (w : World) (f : ℕ) → weigh uses_of (wake p w f).next ≡ 0
+pub light-wake : (p : ℕ) (w : World) (f : ℕ) → weigh uses_of (wake p w f).next ≡ 0
 light-wake p w f = light-carried f _ (moves.wake (task w f)) (no-wake _ _ (task w f))
 
-light-call : (p : ℕ) (w : World) (f : ℕ) (a : Waker) (k : ℕ) → weigh uses_of (call_awaiter p w f a k).next ≡ 0
+pub light-call : (p : ℕ) (w : World) (f : ℕ) (a : Waker) (k : ℕ) → weigh uses_of (call_awaiter p w f a k).next ≡ 0
 light-call p w f (Task m) k = light-wake p _ m
 light-call p w f (Outside x) k = refl
 
-light-closing : (ls ws : List ℕ) → weigh uses_of (closing_ops ls ws) ≡ 0
+pub light-closing : (ls ws : List ℕ) → weigh uses_of (closing_ops ls ws) ≡ 0
 light-closing [] [] = refl
 light-closing [] (x ∷ ws) = refl
 light-closing (x ∷ ls) ws = refl
 
-light-drop_next : (p : ℕ) (w : World) (ls : List ℕ) → weigh uses_of (drop_next_by p w ls).next ≡ 0
+pub light-drop_next : (p : ℕ) (w : World) (ls : List ℕ) → weigh uses_of (drop_next_by p w ls).next ≡ 0
 light-drop_next p w [] = refl
 light-drop_next p w (f ∷ rest) = omega (arith, light-closing rest (w.waking ++ f ∷ []))
 
-light-wake_next : (p : ℕ) (w : World) (ws : List ℕ) → weigh uses_of (wake_next_by p w ws).next ≡ 0
+pub light-wake_next : (p : ℕ) (w : World) (ws : List ℕ) → weigh uses_of (wake_next_by p w ws).next ≡ 0
 light-wake_next p w [] = refl
 light-wake_next p w (f ∷ rest) = light-both (wake p (record w { waking = rest }) f).next (closing_ops [] rest) (light-wake p (record w { waking = rest }) f) (light-closing [] rest)
 
-light-drain : (p : ℕ) (w : World) (q : List ℕ) → weigh uses_of (drain_by p w q).next ≡ 0
+pub light-drain : (p : ℕ) (w : World) (q : List ℕ) → weigh uses_of (drain_by p w q).next ≡ 0
 light-drain p w [] = refl
 light-drain p w (f ∷ rest) = refl
 
 -- it uses the executor itself
-tidy-using : (o : Op) (next : List Op) → uses_of o ≡ 1 → Tidy (o ∷ []) next
+pub tidy-using : (o : Op) (next : List Op) → uses_of o ≡ 1 → Tidy (o ∷ []) next
 tidy-using o next u = record { keeps = λ h. absurd (omega (arith, u, h)) }
-
--- what it needs beside: a Runnable that is dropped is one of a future that has no entry any more
-abbrev pub NeedsNoEntry : World → Op → Type 0
-NeedsNoEntry w (op.Move move.DropRunnable f) = among f w.table ≡ false
-NeedsNoEntry w _ = Unit {0}
-
-pub tidy-act : (p : ℕ) (h : Hint) (o : Op) (w : World) → NeedsNoEntry w o → Tidy (o ∷ []) (act p h o w).next
-tidy-act p h (op.Table table_op.Enter) w n = tidy-light _ _ (light-enter _ _ p w)
-tidy-act p h (op.Queue queue_op.Take) w n = tidy-take _ w
-tidy-act p h (op.Queue (queue_op.Append f)) w n = tidy-light _ _ (light-append _ w f)
-tidy-act p h (op.Move move.WakeByReference f) w n = tidy-light _ _ (light-carried f _ (moves.wake_by_reference (task w f)) (no-wake _ _ (task w f)))
-tidy-act p h (op.Move move.Wake f) w n = tidy-light _ _ (light-wake p w f)
-tidy-act p h (op.Move move.Release f) w n = tidy-light _ _ (light-carried f _ (moves.release (task w f)) (no-release _ _ (task w f)))
-tidy-act p h (op.Move move.TakeUp f) w n = tidy-using (op.Move move.TakeUp f) _ refl
-tidy-act p h (op.Move move.SettleClosed f) w n = tidy-light _ _ (light-carried f (among f w.table) (moves.settle_closed (task w f)) refl)
-tidy-act p h (op.Move move.GiveUp f) w n = tidy-light _ _ (light-carried f _ (moves.give_up (task w f)) (no-give_up _ (task w f)))
-tidy-act p h (op.Move move.EndReady f) w n = tidy-light _ _ (light-carried f (among f w.table) (moves.end_ready (task w f)) refl)
-tidy-act p h (op.Move move.EndPending f) w n = tidy-using (op.Move move.EndPending f) _ refl
-tidy-act p h (op.Move move.EndClosed f) w n = tidy-light _ _ (light-carried f (among f w.table) (moves.end_closed (task w f)) refl)
-tidy-act p h (op.Move move.DropRunnable f) w n = tidy-light _ _ (light-owed f _ (moves.drop_runnable (task w f)).owed (ap (λ (b : Bool). weigh uses_of (drop_ops b f)) n))
-tidy-act p h (op.Move move.Cancel f) w n = tidy-light _ _ (light-carried f _ (moves.cancel (task w f)) (no-cancel _ _ (task w f)))
-tidy-act p h (op.Move move.Detach f) w n = tidy-light _ _ (light-carried f _ (moves.detach (task w f)) (no-detach _ _ (task w f)))
-tidy-act p h (op.Table (table_op.TakeToPoll f)) w n = tidy-using (op.Table (table_op.TakeToPoll f)) _ refl
-tidy-act p h (op.User (user_op.Poll f)) w n = tidy-using (op.User (user_op.Poll f)) _ refl
-tidy-act p h (op.Table (table_op.PutBack f)) w n = tidy-using (op.Table (table_op.PutBack f)) _ refl
-tidy-act p h (op.Table (table_op.TakeToDrop f)) w n = tidy-using (op.Table (table_op.TakeToDrop f)) _ refl
-tidy-act p h (op.User (user_op.BeginDrop f)) w n = tidy-using (op.User (user_op.BeginDrop f)) _ refl
-tidy-act p h (op.Table (table_op.LeaveTable f)) w n = tidy-using (op.Table (table_op.LeaveTable f)) _ refl
-tidy-act p h (op.Waker (waker_op.CopyWaker f held)) w n = tidy-light _ _ (light-copy _ w f held)
-tidy-act p h (op.Handle (handle_op.Look f a)) w n = tidy-light _ _ (light-look (moves.poll (task w f)).owed.answer p w f a (moves.poll (task w f)))
-tidy-act p h (op.Handle (handle_op.CopyAwaiter f a)) w n = tidy-light _ _ (light-copy_awaiter _ p w f a)
-tidy-act p h (op.Handle (handle_op.Register f a k)) w n = tidy-light _ _ (light-register _ w f a k)
-tidy-act p h (op.Handle (handle_op.EndRegister f a k)) w n = tidy-light _ _ (light-end_register _ w f a k)
-tidy-act p h (op.Handle (handle_op.LookAgain f)) w n = tidy-light _ _ (light-again (moves.look_again (task w f)).owed.answer p w f (moves.look_again (task w f)))
-tidy-act p h (op.Handle (handle_op.Notify f mine)) w n = tidy-light _ _ (light-notify _ w f mine)
-tidy-act p h (op.Handle (handle_op.EndNotify f mine)) w n = tidy-light _ _ (light-told _ f (awaiter_of w f))
-tidy-act p h (op.Waker (waker_op.CallAwaiter f a k)) w n = tidy-light _ _ (light-call p w f a k)
-tidy-act p h (op.Closing closing_op.TakeOut) w n = tidy-light _ _ (light-closing w.table w.waking)
-tidy-act p h (op.Closing closing_op.DropNext) w n = tidy-light _ _ (light-drop_next p w w.leaving)
-tidy-act p h (op.Closing closing_op.WakeNext) w n = tidy-light _ _ (light-wake_next p w w.waking)
-tidy-act p h (op.Closing closing_op.Drain) w n = tidy-light _ _ (light-drain p w w.queue.items)
-tidy-act p h _ w n = tidy-light _ _ refl
-
-pub tidy-react : (p : ℕ) (o : Op) (e : UserEnd) (w : World) → accepts o e ≡ true → Tidy (o ∷ []) (react p o e w).next
-tidy-react p (op.User (user_op.Poll f)) (end.Polled a) w k = tidy-using (op.User (user_op.Poll f)) _ refl
-tidy-react p (op.User (user_op.Drop f)) end.Done w k = tidy-light _ _ refl
-tidy-react p (op.User (user_op.DropOutput f)) end.Done w k = tidy-light _ _ refl
-tidy-react p (op.User (user_op.CallOutside x)) end.Done w k = tidy-light _ _ refl
-tidy-react p _ _ w k = absurd (cc)
-
-tidy-with : (v : World) (r : Option ℕ) (d : ℕ → Done) → ((f : ℕ) → Tidy [] (d f).next) → Tidy [] (with_future v r d).next
-tidy-with v None d k = tidy-light _ _ refl
-tidy-with v (Some f) d k = k f
-
-pub tidy-begun : (p : ℕ) (w : World) (here : Option ℕ) (c : Call) → Tidy [] (begun p w here c).next
-tidy-begun p w here call.Spawn = tidy-light _ _ refl
-tidy-begun p w here call.TryTick = tidy-light _ _ refl
-tidy-begun p w here call.IsEmpty = tidy-light _ _ refl
-tidy-begun p w here (call.Wake k) = tidy-with w (kept w k) _ (λ f. tidy-light _ _ refl)
-tidy-begun p w here (call.WakeByRef k) = tidy-with w (kept w k) _ (λ f. tidy-light _ _ refl)
-tidy-begun p w here (call.Copy k) = tidy-with w (kept w k) _ (λ f. tidy-light _ _ refl)
-tidy-begun p w here (call.DropWaker k) = tidy-with w (kept w k) _ (λ f. tidy-light _ _ refl)
-tidy-begun p w here call.Keep = tidy-with w here _ (λ f. tidy-light _ _ refl)
-tidy-begun p w here call.WakeSelf = tidy-with w here _ (λ f. tidy-light _ _ refl)
-tidy-begun p w here (call.PollHandle f b) = tidy-light _ _ refl
-tidy-begun p w here (call.Cancel f) = tidy-light _ _ refl
-tidy-begun p w here (call.Detach f) = tidy-light _ _ refl
-tidy-begun p w here (call.DropHandle f) = tidy-light _ _ refl
-tidy-begun p w here call.DropExecutor = tidy-light _ _ refl

@@ -1,5 +1,5 @@
 -- Calls that take no memory ask for none.
-use Rattle.std.proofs.Common.{◌≡◌, ℕ, List, [], ◌∷◌, ◌++◌, Bool, true, false, ◌||◌, ◌&&◌, not, refl, ap, ◌∙◌}
+use Rattle.std.proofs.Common.{ℕ, List, [], ◌∷◌, ◌++◌, Bool, true, false, ◌||◌, not, refl, ap, ◌∙◌}
 use Rattle.std.proofs.lemmas.List.Folds.{list_any-append}
 use Rattle.std.specs.List.{list_any}
 use Rattle.std.specs.Prelude.{Option, Some, None}
@@ -14,32 +14,21 @@ use Rattle.task_moves.specs.declared.moves.owed.Owed.{Owed}
 use Rattle.task_moves.specs.declared.schedule_info.ScheduleInfo.{ScheduleInfo}
 use Rattle.task_moves.specs.Moves as moves
 use Rattle.task_moves.specs.Moves.{is_over}
-use Rattle.executor_model.specs.declared.call.Call.{Call}
-use Rattle.executor_model.specs.declared.call.Call.TheVariants as call
 use Rattle.executor_model.specs.declared.call.Reply.TheVariants as reply
-use Rattle.executor_model.specs.declared.event.Answer.TheVariants as polled
 use Rattle.executor_model.specs.declared.event.Event.TheVariants as event
 use Rattle.executor_model.specs.declared.op.Hold.TheVariants as hold
 use Rattle.executor_model.specs.declared.op.Awaiter.{Awaiter}
 use Rattle.executor_model.specs.declared.op.Waker.{Waker}
 use Rattle.executor_model.specs.declared.op.Waker.TheVariants.{Task, Outside}
+use Rattle.executor_model.specs.declared.op.Polled.TheVariants as of
 use Rattle.executor_model.specs.declared.op.Op.{Op}
 use Rattle.executor_model.specs.declared.op.Op.TheVariants as op
-use Rattle.executor_model.specs.declared.op.ClosingOp.TheVariants as closing_op
 use Rattle.executor_model.specs.declared.op.HandleOp.TheVariants as handle_op
-use Rattle.executor_model.specs.declared.op.QueueOp.TheVariants as queue_op
-use Rattle.executor_model.specs.declared.op.TableOp.TheVariants as table_op
-use Rattle.executor_model.specs.declared.op.UserOp.TheVariants as user_op
-use Rattle.executor_model.specs.declared.op.WakerOp.TheVariants as waker_op
-use Rattle.executor_model.specs.declared.step.Hint.{Hint}
-use Rattle.executor_model.specs.declared.step.UserEnd.{UserEnd}
-use Rattle.executor_model.specs.declared.step.UserEnd.TheVariants as end
-use Rattle.executor_model.specs.World.{World, Done, task, log, log_if, awaiter_of, among}
+use Rattle.executor_model.specs.World.{World, task, log, log_if, awaiter_of, among}
 use Rattle.executor_model.specs.Carried.{schedule_ops, future_ops, output_ops, awaiter_ops, next_ops, owed_ops, carried}
 use Rattle.executor_model.specs.Acts.{act}
 use Rattle.executor_model.specs.Acts as acts
-use Rattle.executor_model.specs.Memory.{may_refuse, takes_no_memory, AsksForNone, NeedsNoMemory}
-use Rattle.executor_model.specs.Steps.{begun, react, kept, with_future}
+use Rattle.executor_model.specs.Memory.{may_refuse, AsksForNone}
 
 -- two parts that ask for none
 pub both : (xs ys : List Op) → AsksForNone xs → AsksForNone ys → AsksForNone (xs ++ ys)
@@ -99,37 +88,37 @@ none-owed there f o =
     (both (schedule_ops f o.schedule) (future_ops there f o.future) (none-scheduled f o.schedule) (none-future there f o.future))
     (none-output o.drop_output f)) (none-awaiter f o.awaiter)) (none-next f o.next)
 
-none-carried : (w : World) (f : ℕ) (m : Moved) → AsksForNone (carried w f m).next
+pub none-carried : (w : World) (f : ℕ) (m : Moved) → AsksForNone (carried w f m).next
 none-carried w f m = none-owed (among f w.table) f m.owed
 
-none-wake : (p : ℕ) (w : World) (f : ℕ) → AsksForNone (acts.wake p w f).next
+pub none-wake : (p : ℕ) (w : World) (f : ℕ) → AsksForNone (acts.wake p w f).next
 none-wake p w f = none-carried (log_if (not (is_over (task w f))) w (event.Woken p f)) f (moves.wake (task w f))
 
 -- queue and table
 
-none-take : (w : World) (items : List ℕ) → AsksForNone (acts.take_by w items).next
+pub none-take : (w : World) (items : List ℕ) → AsksForNone (acts.take_by w items).next
 none-take w [] = refl
 none-take w (f ∷ rest) = refl
 
-none-append : (b : Bool) (w : World) (f : ℕ) → AsksForNone (acts.append_by b w f).next
+pub none-append : (b : Bool) (w : World) (f : ℕ) → AsksForNone (acts.append_by b w f).next
 none-append true w f = refl
 none-append false w f = refl
 
-none-look_at_table : (w : World) (table : List ℕ) → AsksForNone (op.End (acts.emptiness table) hold.Executor ∷ [])
+pub none-look_at_table : (w : World) (table : List ℕ) → AsksForNone (op.End (acts.emptiness table) hold.Executor ∷ [])
 none-look_at_table w [] = refl
 none-look_at_table w (f ∷ fs) = refl
 
-none-leave : (b : Bool) (w : World) (f : ℕ) → AsksForNone (acts.leave_by b w f).next
+pub none-leave : (b : Bool) (w : World) (f : ℕ) → AsksForNone (acts.leave_by b w f).next
 none-leave true w f = refl
 none-leave false w f = refl
 
 -- awaiters
 
-none-register : (b : Bool) (w : World) (f : ℕ) (a : Waker) (k : ℕ) → AsksForNone (acts.register_by b w f a k).next
+pub none-register : (b : Bool) (w : World) (f : ℕ) (a : Waker) (k : ℕ) → AsksForNone (acts.register_by b w f a k).next
 none-register true w f a k = refl
 none-register false w f a k = refl
 
-none-waker : (a : Waker) → AsksForNone (acts.waker_goes a)
+pub none-waker : (a : Waker) → AsksForNone (acts.waker_goes a)
 none-waker (Task g) = refl
 none-waker (Outside x) = refl
 
@@ -137,26 +126,26 @@ none-let_go : (a : Option Awaiter) → AsksForNone (acts.let_go a)
 none-let_go None = refl
 none-let_go (Some a) = none-waker a.waker
 
-none-end_register : (b : Bool) (w : World) (f : ℕ) (a : Waker) (k : ℕ) → AsksForNone (acts.end_register_by b w f a k).next
+pub none-end_register : (b : Bool) (w : World) (f : ℕ) (a : Waker) (k : ℕ) → AsksForNone (acts.end_register_by b w f a k).next
 none-end_register true w f a k = both (acts.let_go (awaiter_of w f)) (op.Handle (handle_op.LookAgain f) ∷ []) (none-let_go (awaiter_of w f)) refl
 none-end_register false w f a k = both (acts.let_go (awaiter_of w f)) (op.Handle (handle_op.LookAgain f) ∷ []) (none-let_go (awaiter_of w f)) refl
 
-none-notify : (b : Bool) (w : World) (f : ℕ) (mine : Bool) → AsksForNone (acts.notify_by b w f mine).next
+pub none-notify : (b : Bool) (w : World) (f : ℕ) (mine : Bool) → AsksForNone (acts.notify_by b w f mine).next
 none-notify true w f mine = refl
 none-notify false w f mine = refl
 
-none-told : (same : Bool) (f : ℕ) (a : Option Awaiter) → AsksForNone (acts.told same f a)
+pub none-told : (same : Bool) (f : ℕ) (a : Option Awaiter) → AsksForNone (acts.told same f a)
 none-told true f None = refl
 none-told false f None = refl
 none-told true f (Some a) = none-waker a.waker
 none-told false f (Some a) = refl
 
-none-call : (p : ℕ) (w : World) (f : ℕ) (a : Waker) (k : ℕ) → AsksForNone (acts.call_awaiter p w f a k).next
-none-call p w f (Task g) k = none-wake p (log w (event.WakerCalled p f k (Task g))) g
+pub none-call : (p : ℕ) (w : World) (f : ℕ) (a : Waker) (k : ℕ) → AsksForNone (acts.call_awaiter p w f a k).next
+none-call p w f (Task g) k = none-wake p (log w (event.WakerCalled p (of.Handle f) k (Task g))) g
 none-call p w f (Outside x) k = refl
 
 -- the second look of a poll is never told of a refusal
-none-again : (closed going completed : Bool) (p : ℕ) (w : World) (f : ℕ) → AsksForNone (acts.look_again_by (moves.look_again_by closed going completed (task w f)).owed.answer p w f (moves.look_again_by closed going completed (task w f))).next
+pub none-again : (closed going completed : Bool) (p : ℕ) (w : World) (f : ℕ) → AsksForNone (acts.look_again_by (moves.look_again_by closed going completed (task w f)).owed.answer p w f (moves.look_again_by closed going completed (task w f))).next
 none-again true true completed p w f = refl
 none-again true false completed p w f = refl
 none-again false going false p w f = refl
@@ -164,97 +153,19 @@ none-again false going true p w f = both (awaiter_ops f (moves.notify_other_if (
 
 -- the executor's drop
 
-none-closing : (fs ws : List ℕ) → AsksForNone (acts.closing_ops fs ws)
+pub none-closing : (fs ws : List ℕ) → AsksForNone (acts.closing_ops fs ws)
 none-closing (f ∷ fs) ws = refl
 none-closing [] (f ∷ ws) = refl
 none-closing [] [] = refl
 
-none-drop_next : (p : ℕ) (w : World) (fs : List ℕ) → AsksForNone (acts.drop_next_by p w fs).next
+pub none-drop_next : (p : ℕ) (w : World) (fs : List ℕ) → AsksForNone (acts.drop_next_by p w fs).next
 none-drop_next p w [] = refl
 none-drop_next p w (f ∷ rest) = none-closing rest _
 
-none-wake_next : (p : ℕ) (w : World) (fs : List ℕ) → AsksForNone (acts.wake_next_by p w fs).next
+pub none-wake_next : (p : ℕ) (w : World) (fs : List ℕ) → AsksForNone (acts.wake_next_by p w fs).next
 none-wake_next p w [] = refl
 none-wake_next p w (f ∷ rest) = both (acts.wake p (record w { waking = rest }) f).next (acts.closing_ops [] rest) (none-wake p (record w { waking = rest }) f) (none-closing [] rest)
 
-none-drain : (p : ℕ) (w : World) (fs : List ℕ) → AsksForNone (acts.drain_by p w fs).next
+pub none-drain : (p : ℕ) (w : World) (fs : List ℕ) → AsksForNone (acts.drain_by p w fs).next
 none-drain p w [] = refl
 none-drain p w (f ∷ rest) = refl
-
--- one thing done
-
-none-act : (p : ℕ) (w : World) (h : Hint) (o : Op) → may_refuse o ≡ false → AsksForNone (act p h o w).next
-none-act p w h (op.Table table_op.Enter) e = absurd (cc)
-none-act p w h (op.Queue queue_op.Take) e = none-take w w.queue.items
-none-act p w h (op.Table table_op.LookAtTable) e = none-look_at_table w w.table
-none-act p w h (op.Queue (queue_op.Append f)) e = none-append _ w f
-none-act p w h (op.Move move.WakeByReference f) e = none-carried (log_if (not (is_over (task w f))) w (event.Woken p f)) f (moves.wake_by_reference (task w f))
-none-act p w h (op.Move move.Wake f) e = none-wake p w f
-none-act p w h (op.Move move.Release f) e = none-carried w f (moves.release (task w f))
-none-act p w h (op.Move move.TakeUp f) e = none-carried (log_if (not (task w f).closed) w (event.PollBegun p f)) f (moves.take_up (task w f))
-none-act p w h (op.Move move.SettleClosed f) e = none-carried w f (moves.settle_closed (task w f))
-none-act p w h (op.Move move.GiveUp f) e = none-carried w f (moves.give_up (task w f))
-none-act p w h (op.Move move.EndReady f) e = none-carried w f (moves.end_ready (task w f))
-none-act p w h (op.Move move.EndPending f) e = none-carried w f (moves.end_pending (task w f))
-none-act p w h (op.Move move.EndClosed f) e = none-carried w f (moves.end_closed (task w f))
-none-act p w h (op.Move move.DropRunnable f) e = none-carried w f (moves.drop_runnable (task w f))
-none-act p w h (op.Move move.Cancel f) e = none-carried (log_if (not (is_over (task w f))) w (event.Cancelled p f)) f (moves.cancel (task w f))
-none-act p w h (op.Move move.Detach f) e = none-carried (log_if (not ((task w f).completed && not (task w f).closed)) w (event.Detached p f)) f (moves.detach (task w f))
-none-act p w h (op.Table (table_op.LeaveTable f)) e = none-leave _ w f
-none-act p w h (op.Waker (waker_op.CopyWaker f held)) e = absurd (cc)
-none-act p w h (op.Handle (handle_op.Look f a)) e = absurd (cc)
-none-act p w h (op.Handle (handle_op.CopyAwaiter f a)) e = absurd (cc)
-none-act p w h (op.Handle (handle_op.Register f a k)) e = none-register _ w f a k
-none-act p w h (op.Handle (handle_op.EndRegister f a k)) e = none-end_register _ w f a k
-none-act p w h (op.Handle (handle_op.LookAgain f)) e = none-again (task w f).closed _ (task w f).completed p w f
-none-act p w h (op.Handle (handle_op.Notify f mine)) e = none-notify _ w f mine
-none-act p w h (op.Handle (handle_op.EndNotify f mine)) e = none-told (mine && h.same) f (awaiter_of w f)
-none-act p w h (op.Waker (waker_op.CallAwaiter f a k)) e = none-call p w f a k
-none-act p w h (op.Closing closing_op.TakeOut) e = none-closing w.table w.waking
-none-act p w h (op.Closing closing_op.DropNext) e = none-drop_next p w w.leaving
-none-act p w h (op.Closing closing_op.WakeNext) e = none-wake_next p w w.waking
-none-act p w h (op.Closing closing_op.Drain) e = none-drain p w w.queue.items
-none-act p w h (op.User (user_op.BeginDrop f)) e = refl
-none-act p w h _ e = refl
-
-same-act : (p : ℕ) (w : World) (h : Hint) (refused : Bool) (o : Op) → may_refuse o ≡ false → act p (record h { refused = refused }) o w ≡ act p h o w
-same-act p w h refused (op.Table table_op.Enter) e = absurd (cc)
-same-act p w h refused (op.Waker (waker_op.CopyWaker f held)) e = absurd (cc)
-same-act p w h refused (op.Handle (handle_op.Look f a)) e = absurd (cc)
-same-act p w h refused (op.Handle (handle_op.CopyAwaiter f a)) e = absurd (cc)
-same-act p w h refused _ e = refl
-
--- the beginning of a call, and what follows user code
-
-none-with : (w : World) (f : Option ℕ) (d : ℕ → Done) → ((g : ℕ) → AsksForNone (d g).next) → AsksForNone (with_future w f d).next
-none-with w None d n = refl
-none-with w (Some f) d n = n f
-
-none-begun : (p : ℕ) (w : World) (here : Option ℕ) (c : Call) → takes_no_memory c ≡ true → AsksForNone (begun p w here c).next
-none-begun p w here call.Spawn e = absurd (cc)
-none-begun p w here call.TryTick e = refl
-none-begun p w here call.IsEmpty e = refl
-none-begun p w here (call.Wake k) e = none-with w (kept w k) _ (λ f. refl)
-none-begun p w here (call.WakeByRef k) e = none-with w (kept w k) _ (λ f. refl)
-none-begun p w here (call.Copy k) e = absurd (cc)
-none-begun p w here (call.DropWaker k) e = none-with w (kept w k) _ (λ f. refl)
-none-begun p w here call.Keep e = absurd (cc)
-none-begun p w here call.WakeSelf e = none-with w here _ (λ f. refl)
-none-begun p w here (call.PollHandle f b) e = absurd (cc)
-none-begun p w here (call.Cancel f) e = refl
-none-begun p w here (call.Detach f) e = refl
-none-begun p w here (call.DropHandle f) e = refl
-none-begun p w here call.DropExecutor e = refl
-
-none-react : (p : ℕ) (w : World) (o : Op) (e : UserEnd) → AsksForNone (react p o e w).next
-none-react p w (op.User (user_op.Poll f)) (end.Polled polled.Pending) = refl
-none-react p w (op.User (user_op.Poll f)) (end.Polled polled.Ready) = refl
-none-react p w _ _ = refl
-
-pub needs-no-memory : (w : World) (p : ℕ) → NeedsNoMemory w p
-needs-no-memory w p = record {
-  begins = none-begun p w;
-  goes_on = none-act p w;
-  follows = none-react p w;
-  same = same-act p w;
-}

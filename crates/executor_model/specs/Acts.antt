@@ -1,7 +1,8 @@
 -- What each thing that a party has to do changes, and what it leads to. The queue is the closable queue, and a task's change
 -- is its table of moves; neither is said again here.
-use Rattle.std.specs.Prelude.{ℕ, ◌+◌, Bool, true, false, ◌&&◌, ◌||◌, not, Option, Some, None, List, [], ◌∷◌, ◌++◌, length, slice_set, nat_lt}
+use Rattle.std.specs.Prelude.{ℕ, ◌+◌, Bool, true, false, ◌&&◌, ◌||◌, not, Option, Some, None, List, [], ◌∷◌, ◌++◌, length, ◌-◌, ◌==◌, slice_set, nat_lt, is_none}
 use Rattle.queue_steps.specs.ClosableQueue.{appended, taken, shut}
+use Rattle.executor_parts.specs.Sleepers.{Sleepers, last_waker, without_last, next_number, laid_down, listed, risen, position_of, waker_at, waker_of}
 use Rattle.task_moves.specs.declared.moves.state.State.{State}
 use Rattle.task_moves.specs.declared.moves.owed.Answer.{Answer}
 use Rattle.task_moves.specs.declared.moves.owed.Answer.TheVariants.{Refused, Pending, Closed, Output}
@@ -15,6 +16,9 @@ use Rattle.executor_model.specs.declared.event.Event.TheVariants as event
 use Rattle.executor_model.specs.declared.op.Awaiter.{Awaiter}
 use Rattle.executor_model.specs.declared.op.Waker.{Waker}
 use Rattle.executor_model.specs.declared.op.Waker.TheVariants.{Task, Outside}
+use Rattle.executor_model.specs.declared.op.Polled.{Polled}
+use Rattle.executor_model.specs.declared.op.Polled.TheVariants as of
+use Rattle.executor_model.specs.declared.op.Sleeping.{Sleeping}
 use Rattle.executor_model.specs.declared.op.Hold.{Hold}
 use Rattle.executor_model.specs.declared.op.Hold.TheVariants as hold
 use Rattle.executor_model.specs.declared.op.Op.{Op}
@@ -27,20 +31,49 @@ use Rattle.task_moves.specs.declared.moves.owed.Move.{Move}
 use Rattle.task_moves.specs.declared.moves.owed.Move.TheVariants as move
 use Rattle.executor_model.specs.declared.op.QueueOp.{QueueOp}
 use Rattle.executor_model.specs.declared.op.QueueOp.TheVariants as queue_op
+use Rattle.executor_model.specs.declared.op.SleeperOp.{SleeperOp}
+use Rattle.executor_model.specs.declared.op.SleeperOp.TheVariants as sleeper_op
 use Rattle.executor_model.specs.declared.op.TableOp.{TableOp}
 use Rattle.executor_model.specs.declared.op.TableOp.TheVariants as table_op
+use Rattle.executor_model.specs.declared.op.TickOp.{TickOp}
+use Rattle.executor_model.specs.declared.op.TickOp.TheVariants as tick_op
 use Rattle.executor_model.specs.declared.op.UserOp.{UserOp}
 use Rattle.executor_model.specs.declared.op.UserOp.TheVariants as user_op
 use Rattle.executor_model.specs.declared.op.WakerOp.{WakerOp}
 use Rattle.executor_model.specs.declared.op.WakerOp.TheVariants as waker_op
 use Rattle.executor_model.specs.declared.step.Hint.{Hint}
-use Rattle.executor_model.specs.World.{World, Done, done, log, log_if, task, put, awaiter_of, put_awaiter, without, among}
+use Rattle.executor_model.specs.World.{World, Tick, Up, Lies, Left, Done, done, log, log_if, task, put, awaiter_of, put_awaiter, tick_of, put_tick, put_sleepers, without, among}
 use Rattle.executor_model.specs.Carried.{carried, awaiter_ops}
+
+-- telling a sleeper that there is something to do
+
+-- who finds the flag false has won
+abbrev pub exchange_by : Bool → World → Done
+exchange_by true w = done w []
+exchange_by false w = done (record w { notified = true }) (op.Sleeper sleeper_op.HandOut ∷ [])
+
+abbrev pub exchange_flag : World → Done
+exchange_flag w = exchange_by w.notified w
+
+abbrev pub call_of : Option Sleeping → List Op
+call_of None = []
+call_of (Some s) = op.Sleeper (sleeper_op.CallSleeper s) ∷ []
+
+abbrev pub hand_out_by : Bool → Option Sleeping → World → Done
+hand_out_by true last w = done (record w { sleepers = without_last w.sleepers }) (call_of last)
+hand_out_by false last w = done w []
+
+-- the waker that was added last is taken, where no sleeper is notified
+abbrev pub hand_out : World → Done
+hand_out w = hand_out_by (length w.sleepers.wakers == w.sleepers.count) (last_waker w.sleepers.wakers) w
+
+abbrev pub tell : List Op
+tell = op.Sleeper sleeper_op.ExchangeFlag ∷ []
 
 -- the queue
 
 abbrev pub append_by : Bool → World → ℕ → Done
-append_by true w f = done (record w { queue = appended w.queue f }) []
+append_by true w f = done (record w { queue = appended w.queue f }) tell
 append_by false w f = done w (op.Move move.DropRunnable f ∷ [])
 
 -- a Runnable that comes back is dropped
@@ -49,7 +82,7 @@ append w f = append_by (not w.queue.closed && nat_lt (length w.queue.items) w.li
 
 abbrev pub take_by : World → List ℕ → Done
 take_by w [] = done w (op.End reply.No hold.Executor ∷ [])
-take_by w (f ∷ rest) = done (record w { queue = taken w.queue }) (op.Move move.TakeUp f ∷ op.End reply.Yes hold.Executor ∷ [])
+take_by w (f ∷ rest) = done (record w { queue = taken w.queue }) (op.Sleeper sleeper_op.ExchangeFlag ∷ op.Move move.TakeUp f ∷ op.End reply.Yes hold.Executor ∷ [])
 
 -- the first Runnable is taken, if there is one
 abbrev pub take_first : World → Done
@@ -252,9 +285,109 @@ abbrev pub end_notify : Hint → World → ℕ → Bool → Done
 end_notify h w f mine = done (put_awaiter (put w f (moves.end_notify (task w f)).state) f None) (told (mine && h.same) f (awaiter_of w f))
 
 -- a waker of a task is called and goes; an outside one is user code
+abbrev pub call_waker : ℕ → World → Polled → Waker → ℕ → Done
+call_waker p w o (Task g) k = wake p (log w (event.WakerCalled p o k (Task g))) g
+call_waker p w o (Outside x) k = done (log w (event.WakerCalled p o k (Outside x))) (op.User (user_op.CallOutside x) ∷ [])
+
 abbrev pub call_awaiter : ℕ → World → ℕ → Waker → ℕ → Done
-call_awaiter p w f (Task g) k = wake p (log w (event.WakerCalled p f k (Task g))) g
-call_awaiter p w f (Outside x) k = done (log w (event.WakerCalled p f k (Outside x))) (op.User (user_op.CallOutside x) ∷ [])
+call_awaiter p w f a k = call_waker p w (of.Handle f) a k
+
+abbrev pub call_sleeper : ℕ → World → Sleeping → Done
+call_sleeper p w s = call_waker p w (of.Tick s.tick) s.waker s.poll
+
+-- ticks
+
+abbrev pub make_tick_by : Bool → World → Done
+make_tick_by true w = done w (op.End reply.NoMemory hold.Executor ∷ [])
+make_tick_by false w = done (record w { ticks = w.ticks ++ Up ∷ []; sleepers = record w.sleepers { rooms = w.sleepers.rooms + 1 } }) (op.End reply.Made hold.Executor ∷ [])
+
+-- a future that was found is run, after another sleeper was told, and then the tick is ready
+abbrev pub run_found : ℕ → ℕ → List Op
+run_found t f = op.Sleeper sleeper_op.ExchangeFlag ∷ op.Move move.TakeUp f ∷ op.End reply.Ready (hold.Tick t) ∷ []
+
+-- a tick that lies gets up first
+abbrev pub found_by : Tick → ℕ → ℕ → List Op
+found_by (Lies n) t f = op.Tick (tick_op.GetUp t f) ∷ []
+found_by Up t f = run_found t f
+found_by Left t f = run_found t f
+
+abbrev pub search_by : Tick → World → List ℕ → Sleeping → Done
+search_by x w [] s = done w (op.Tick (tick_op.CopyWaker s) ∷ [])
+search_by x w (f ∷ rest) s = done (record w { queue = taken w.queue }) (found_by x s.tick f)
+
+abbrev pub search : World → Sleeping → Done
+search w s = search_by (tick_of w s.tick) w w.queue.items s
+
+abbrev pub copy_sleeper_by : Bool → World → Sleeping → Done
+copy_sleeper_by true w s = done w (op.End reply.NoMemory (hold.Tick s.tick) ∷ [])
+copy_sleeper_by false w s = done (copied w s.waker) (op.Tick (tick_op.LieDown s) ∷ [])
+
+abbrev pub copy_sleeper : Hint → World → Sleeping → Done
+copy_sleeper h w s = copy_sleeper_by (is_copy_refused h w s.waker) w s
+
+abbrev pub pend_tick : ℕ → List Op
+pend_tick t = op.End reply.Pending (hold.Tick t) ∷ []
+
+-- there is no place for it, which never happens: its waker is called at once, so that it is polled again
+abbrev pub lie_nowhere : World → Sleeping → Done
+lie_nowhere w s = done w (op.Sleeper (sleeper_op.CallSleeper s) ∷ pend_tick s.tick)
+
+-- what was queued before it lay down may have told nobody, so it searches again
+abbrev pub lie_anew_by : Bool → World → Sleeping → Done
+lie_anew_by true w s = done (put_tick (put_sleepers w (laid_down s w.sleepers)) s.tick (Lies (next_number w.sleepers))) (op.Tick (tick_op.Search s) ∷ [])
+lie_anew_by false w s = lie_nowhere w s
+
+-- what is left to do where a waker goes that isn't called
+abbrev pub sleeper_goes : Option Sleeping → List Op
+sleeper_goes None = []
+sleeper_goes (Some s) = waker_goes s.waker
+
+-- it was notified meanwhile, and so searches again
+abbrev pub lie_listed_by : Bool → World → ℕ → Sleeping → Done
+lie_listed_by true w n s = done (put_sleepers w (listed n s w.sleepers)) (op.Tick (tick_op.Search s) ∷ [])
+lie_listed_by false w n s = lie_nowhere w s
+
+-- its waker is replaced, or it was notified
+abbrev pub lie_again_by : Option ℕ → World → ℕ → Sleeping → Done
+lie_again_by (Some at) w n s = done (record w { sleepers = record w.sleepers { wakers = slice_set w.sleepers.wakers at (n, s) } }) (sleeper_goes (waker_at (Some at) w.sleepers.wakers) ++ pend_tick s.tick)
+lie_again_by None w n s = lie_listed_by (nat_lt (length w.sleepers.wakers) w.sleepers.count) w n s
+
+abbrev pub lie_down_by : Tick → World → Sleeping → Done
+lie_down_by Up w s = lie_anew_by (nat_lt w.sleepers.count w.sleepers.rooms) w s
+lie_down_by (Lies n) w s = lie_again_by (position_of n w.sleepers.wakers) w n s
+lie_down_by Left w s = lie_nowhere w s
+
+abbrev pub lie_down : World → Sleeping → Done
+lie_down w s = lie_down_by (tick_of w s.tick) w s
+
+abbrev pub get_up_by : Tick → World → ℕ → ℕ → Done
+get_up_by (Lies n) w t f = done (put_tick (put_sleepers w (risen n w.sleepers)) t Up) (sleeper_goes (waker_of n w.sleepers.wakers) ++ run_found t f)
+get_up_by Up w t f = done w (run_found t f)
+get_up_by Left w t f = done w (run_found t f)
+
+abbrev pub get_up : World → ℕ → ℕ → Done
+get_up w t f = get_up_by (tick_of w t) w t f
+
+-- room is given back, where nobody sleeps in it
+abbrev pub given_back : Sleepers Sleeping → Sleepers Sleeping
+given_back s = elim (nat_lt s.count s.rooms) [ true ↦ record s { rooms = s.rooms - 1 } | false ↦ s ]
+
+abbrev pub tell_if : Bool → List Op
+tell_if true = tell
+tell_if false = []
+
+abbrev pub end_drop : ℕ → List Op
+end_drop t = op.End reply.Done (hold.Tick t) ∷ []
+
+-- one that was notified tells another in its place
+abbrev pub leave_sleepers_by : Tick → World → ℕ → Done
+leave_sleepers_by (Lies n) w t =
+    done (put_tick (put_sleepers w (given_back (risen n w.sleepers))) t Left) (sleeper_goes (waker_of n w.sleepers.wakers) ++ tell_if (is_none (waker_of n w.sleepers.wakers)) ++ end_drop t)
+leave_sleepers_by Up w t = done (put_tick (record w { sleepers = given_back w.sleepers }) t Left) (end_drop t)
+leave_sleepers_by Left w t = done w (end_drop t)
+
+abbrev pub leave_sleepers : World → ℕ → Done
+leave_sleepers w t = leave_sleepers_by (tick_of w t) w t
 
 -- the executor's drop
 
@@ -329,6 +462,19 @@ handle_act p h (handle_op.LookAgain f) w = look_again p w f
 handle_act p h (handle_op.Notify f mine) w = notify w f mine
 handle_act p h (handle_op.EndNotify f mine) w = end_notify h w f mine
 
+abbrev pub sleeper_act : ℕ → SleeperOp → World → Done
+sleeper_act p sleeper_op.ExchangeFlag w = exchange_flag w
+sleeper_act p sleeper_op.HandOut w = hand_out w
+sleeper_act p (sleeper_op.CallSleeper s) w = call_sleeper p w s
+
+abbrev pub tick_act : Hint → TickOp → World → Done
+tick_act h tick_op.MakeTick w = make_tick_by h.refused w
+tick_act h (tick_op.Search s) w = search w s
+tick_act h (tick_op.CopyWaker s) w = copy_sleeper h w s
+tick_act h (tick_op.LieDown s) w = lie_down w s
+tick_act h (tick_op.GetUp t f) w = get_up w t f
+tick_act h (tick_op.Leave t) w = leave_sleepers w t
+
 abbrev pub closing_act : ℕ → ClosingOp → World → Done
 closing_act p closing_op.TakeOut w = take_out w
 closing_act p closing_op.DropNext w = drop_next p w
@@ -344,5 +490,7 @@ act p h (op.Queue o) w = queue_act o w
 act p h (op.User o) w = user_act p o w
 act p h (op.Waker o) w = waker_act p h o w
 act p h (op.Handle o) w = handle_act p h o w
+act p h (op.Sleeper o) w = sleeper_act p o w
+act p h (op.Tick o) w = tick_act h o w
 act p h (op.Closing o) w = closing_act p o w
 act p h (op.End r held) w = done (log w (event.CallEnded p r)) []

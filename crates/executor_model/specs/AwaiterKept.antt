@@ -4,6 +4,7 @@ use Rattle.executor_model.specs.declared.call.Reply.{Reply}
 use Rattle.executor_model.specs.declared.call.Reply.TheVariants.{Pending}
 use Rattle.executor_model.specs.declared.event.Event.{Event}
 use Rattle.executor_model.specs.declared.event.Event.TheVariants.{CallEnded, HandlePolled, WakerCalled}
+use Rattle.executor_model.specs.declared.op.Polled.TheVariants.{Handle}
 use Rattle.executor_model.specs.Trace.{Trace, has, takes_handle, is_dropped}
 use Rattle.executor_model.specs.Quiet.{IsQuiet, begins_call, ends_call}
 
@@ -13,7 +14,7 @@ is_handle_poll f _ = false
 
 -- the waker is called that this poll of future f's handle was given
 abbrev pub calls_waker : ℕ → ℕ → Event → Bool
-calls_waker f poll (WakerCalled p g k waker) = f == g && poll == k
+calls_waker f poll (WakerCalled p (Handle g) k waker) = f == g && poll == k
 calls_waker f poll _ = false
 
 -- what happened since this place of the trace

@@ -6,17 +6,22 @@ use Rattle.executor_model.specs.declared.op.Awaiter.{Awaiter}
 use Rattle.executor_model.specs.declared.op.Waker.{Waker}
 use Rattle.executor_model.specs.declared.op.Waker.TheVariants.{Task, Outside}
 use Rattle.executor_model.specs.declared.op.Op.{Op}
+use Rattle.executor_model.specs.declared.op.Sleeping.{Sleeping}
 use Rattle.executor_model.specs.declared.op.Op.TheVariants as op
 use Rattle.executor_model.specs.declared.op.ClosingOp.{ClosingOp}
 use Rattle.executor_model.specs.declared.op.ClosingOp.TheVariants as closing_op
 use Rattle.executor_model.specs.declared.op.HandleOp.{HandleOp}
 use Rattle.executor_model.specs.declared.op.HandleOp.TheVariants as handle_op
+use Rattle.executor_model.specs.declared.op.SleeperOp.{SleeperOp}
+use Rattle.executor_model.specs.declared.op.SleeperOp.TheVariants as sleeper_op
 use Rattle.executor_model.specs.declared.op.TableOp.{TableOp}
 use Rattle.executor_model.specs.declared.op.TableOp.TheVariants as table_op
+use Rattle.executor_model.specs.declared.op.TickOp.{TickOp}
+use Rattle.executor_model.specs.declared.op.TickOp.TheVariants as tick_op
 use Rattle.executor_model.specs.declared.op.WakerOp.{WakerOp}
 use Rattle.executor_model.specs.declared.op.WakerOp.TheVariants as waker_op
 use Rattle.executor_model.specs.World.{World, task}
-use Rattle.executor_model.specs.Weights.{weigh_all, past, waker_past}
+use Rattle.executor_model.specs.Weights.{weigh_all, weigh_sleepers, past, waker_past}
 use Rattle.executor_model.specs.Rows.{past_of}
 use Rattle.executor_model.specs.Steps.{Machine}
 use Rattle.executor_model.specs.Sound.{Sound, pend}
@@ -35,6 +40,9 @@ awaiters_past n [] = 0
 awaiters_past n (None ∷ rest) = awaiters_past n rest
 awaiters_past n (Some a ∷ rest) = waker_past n a.waker + awaiters_past n rest
 
+abbrev pub sleepers_past : ℕ → List (ℕ × Sleeping) → ℕ
+sleepers_past n es = weigh_sleepers (waker_past n) es
+
 -- each number is a future's, and each future has its place in each list
 pub record Fits (w : World) : Type 0 where
   pub queue : pasts (length w.tasks) w.queue.items ≡ 0
@@ -43,6 +51,7 @@ pub record Fits (w : World) : Type 0 where
   pub waking : pasts (length w.tasks) w.waking ≡ 0
   pub wakers : wakers_past (length w.tasks) w.wakers ≡ 0
   pub awaiters : awaiters_past (length w.tasks) w.awaiters ≡ 0
+  pub sleepers : sleepers_past (length w.tasks) w.sleepers.wakers ≡ 0
   pub awaiting : length w.awaiters ≡ length w.tasks
   pub inside : length w.inside ≡ length w.tasks
 
@@ -100,6 +109,14 @@ HandleNeeds w (handle_op.LookAgain f) = IsKnown w f
 HandleNeeds w (handle_op.Notify f mine) = IsKnown w f
 HandleNeeds w (handle_op.EndNotify f mine) = KeepsAwaiter w f
 
+abbrev pub SleeperNeeds : World → SleeperOp → Type 0
+SleeperNeeds w (sleeper_op.CallSleeper s) = CanWake w s.waker
+SleeperNeeds w _ = Unit {0}
+
+abbrev pub TickNeeds : World → TickOp → Type 0
+TickNeeds w (tick_op.CopyWaker s) = IsKnownWaker w s.waker
+TickNeeds w _ = Unit {0}
+
 abbrev pub ClosingNeeds : World → ClosingOp → Type 0
 ClosingNeeds w closing_op.DropNext = (f : ℕ) (rest : List ℕ) → w.leaving ≡ f ∷ rest → HasPlace w f
 ClosingNeeds w closing_op.WakeNext = (f : ℕ) (rest : List ℕ) → w.waking ≡ f ∷ rest → CanGrow w f
@@ -110,5 +127,7 @@ Needs w (op.Move m f) = CanMove w m f
 Needs w (op.Table o) = TableNeeds w o
 Needs w (op.Waker o) = WakerNeeds w o
 Needs w (op.Handle o) = HandleNeeds w o
+Needs w (op.Sleeper o) = SleeperNeeds w o
+Needs w (op.Tick o) = TickNeeds w o
 Needs w (op.Closing o) = ClosingNeeds w o
 Needs w _ = Unit {0}

@@ -25,3 +25,5 @@ pub mod Refusals
 pub mod OutputKept
 pub mod AwaiterKept
 pub mod HandingOn
+pub mod SleepersAgree
+pub mod SleepersTold

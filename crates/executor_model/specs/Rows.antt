@@ -12,13 +12,18 @@ use Rattle.executor_model.specs.declared.op.HandleOp.{HandleOp}
 use Rattle.executor_model.specs.declared.op.HandleOp.TheVariants as handle_op
 use Rattle.executor_model.specs.declared.op.QueueOp.{QueueOp}
 use Rattle.executor_model.specs.declared.op.QueueOp.TheVariants as queue_op
+use Rattle.executor_model.specs.declared.op.Sleeping.{Sleeping}
+use Rattle.executor_model.specs.declared.op.SleeperOp.{SleeperOp}
+use Rattle.executor_model.specs.declared.op.SleeperOp.TheVariants as sleeper_op
 use Rattle.executor_model.specs.declared.op.TableOp.{TableOp}
 use Rattle.executor_model.specs.declared.op.TableOp.TheVariants as table_op
+use Rattle.executor_model.specs.declared.op.TickOp.{TickOp}
+use Rattle.executor_model.specs.declared.op.TickOp.TheVariants as tick_op
 use Rattle.executor_model.specs.declared.op.UserOp.{UserOp}
 use Rattle.executor_model.specs.declared.op.UserOp.TheVariants as user_op
 use Rattle.executor_model.specs.declared.op.WakerOp.{WakerOp}
 use Rattle.executor_model.specs.declared.op.WakerOp.TheVariants as waker_op
-use Rattle.executor_model.specs.Weights.{same, past, waker_past, wakes, holds_executor, holds_handle, holds_waker}
+use Rattle.executor_model.specs.Weights.{same, past, waker_past, wakes, holds_executor, holds_handle, holds_waker, holds_tick}
 
 pub record Row : Type 0 where
   -- by the number of a future: Runnables that are not in the queue, and the stages of a run
@@ -42,6 +47,8 @@ pub record Row : Type 0 where
   -- uses of the handle of a future, and of a kept waker, by their numbers
   pub handling : ℕ → ℕ
   pub lending : ℕ → ℕ
+  -- uses of a tick, by its number
+  pub ticking : ℕ → ℕ
   -- the executor's drop is about to take the table out
   pub ousting : ℕ
   -- futures that it speaks of that are no number below this one
@@ -73,6 +80,7 @@ nothing = record {
   borrowing = 0;
   handling = none;
   lending = none;
+  ticking = none;
   ousting = 0;
   past = none;
   steps = 1;
@@ -89,11 +97,11 @@ abbrev pub move_row : Move → ℕ → Row
 move_row move.WakeByReference f = record nothing { steps = 13 }
 move_row move.Wake f = record nothing { releases = one f; steps = 26 }
 move_row move.Release f = record nothing { releases = one f; steps = 13 }
-move_row move.TakeUp f = record nothing { waiting = one f; borrowing = 1; steps = 17 }
+move_row move.TakeUp f = record nothing { waiting = one f; borrowing = 1; steps = 91 }
 move_row move.SettleClosed f = record nothing { settling = one f; steps = 4 }
 move_row move.GiveUp f = record nothing { giving = one f }
 move_row move.EndReady f = record nothing { ready = one f; borrowing = 1; steps = 9 }
-move_row move.EndPending f = record nothing { ending = one f; borrowing = 1; steps = 13 }
+move_row move.EndPending f = record nothing { ending = one f; borrowing = 1; steps = 44 }
 move_row move.EndClosed f = record nothing { closing = one f; steps = 4 }
 move_row move.DropRunnable f = record nothing { waiting = one f; steps = 10 }
 move_row move.Cancel f = record nothing { steps = 15 }
@@ -101,19 +109,19 @@ move_row move.Detach f = record nothing { steps = 13 }
 move_row _ f = nothing
 
 abbrev pub table_row : TableOp → Row
-table_row table_op.Enter = record nothing { borrowing = 1; steps = 42 }
+table_row table_op.Enter = record nothing { borrowing = 1; steps = 116 }
 table_row table_op.LookAtTable = record nothing { borrowing = 1; steps = 2 }
-table_row (table_op.TakeToPoll f) = record (about f) { polls = one f; borrowing = 1; steps = 16 }
-table_row (table_op.PutBack f) = record (about f) { ending = one f; borrowing = 1; steps = 14 }
+table_row (table_op.TakeToPoll f) = record (about f) { polls = one f; borrowing = 1; steps = 47 }
+table_row (table_op.PutBack f) = record (about f) { ending = one f; borrowing = 1; steps = 45 }
 table_row (table_op.TakeToDrop f) = record (about f) { drops = one f; steps = 5 }
 table_row (table_op.LeaveTable f) = record (about f) { leaves = one f }
 
 abbrev pub queue_row : QueueOp → Row
-queue_row queue_op.Take = record nothing { borrowing = 1; steps = 8 }
-queue_row (queue_op.Append f) = record (about f) { waiting = one f; appends = one f; steps = 12 }
+queue_row queue_op.Take = record nothing { borrowing = 1; steps = 113 }
+queue_row (queue_op.Append f) = record (about f) { waiting = one f; appends = one f; steps = 43 }
 
 abbrev pub user_row : UserOp → Row
-user_row (user_op.Poll f) = record (about f) { polls = one f; borrowing = 1; steps = 15 }
+user_row (user_op.Poll f) = record (about f) { polls = one f; borrowing = 1; steps = 46 }
 user_row (user_op.BeginDrop f) = record (about f) { drops = one f; steps = 3 }
 user_row (user_op.Drop f) = nothing
 user_row (user_op.BeginDropOutput f) = record nothing { steps = 2 }
@@ -133,6 +141,23 @@ handle_row (handle_op.LookAgain f) = record (about f) { handling = one f; steps 
 handle_row (handle_op.Notify f mine) = record (about f) { steps = 2 }
 handle_row (handle_op.EndNotify f mine) = about f
 
+-- of the call of a sleeper's waker, and of a part of a tick's poll that was given this waker
+abbrev pub sleeper_row : SleeperOp → Row
+sleeper_row sleeper_op.ExchangeFlag = record nothing { steps = 31 }
+sleeper_row sleeper_op.HandOut = record nothing { steps = 30 }
+sleeper_row (sleeper_op.CallSleeper s) = record nothing { copies = λ g. wakes g s.waker; past = λ n. waker_past n s.waker; steps = 26 }
+
+abbrev pub about_sleeping : Sleeping → Row
+about_sleeping s = record nothing { borrowing = 1; ticking = one s.tick; past = λ n. waker_past n s.waker }
+
+abbrev pub tick_row : TickOp → Row
+tick_row tick_op.MakeTick = record nothing { borrowing = 1; steps = 5 }
+tick_row (tick_op.Search s) = record (about_sleeping s) { steps = 141 }
+tick_row (tick_op.CopyWaker s) = record (about_sleeping s) { steps = 140 }
+tick_row (tick_op.LieDown s) = record (about_sleeping s) { copies = λ g. wakes g s.waker; steps = 139 }
+tick_row (tick_op.GetUp t f) = record (about f) { waiting = one f; borrowing = 1; ticking = one t; steps = 140 }
+tick_row (tick_op.Leave t) = record nothing { borrowing = 1; ticking = one t; steps = 46 }
+
 abbrev pub closing_row : ClosingOp → Row
 closing_row closing_op.TakeOut = record nothing { ousting = 1; steps = 5 }
 closing_row closing_op.DropNext = record nothing { steps = 4 }
@@ -147,8 +172,10 @@ row (op.Queue o) = queue_row o
 row (op.User o) = user_row o
 row (op.Waker o) = waker_row o
 row (op.Handle o) = handle_row o
+row (op.Sleeper o) = sleeper_row o
+row (op.Tick o) = tick_row o
 row (op.Closing o) = closing_row o
-row (op.End r held) = record nothing { borrowing = holds_executor held; handling = λ g. holds_handle g held; lending = λ j. holds_waker j held }
+row (op.End r held) = record nothing { borrowing = holds_executor held; handling = λ g. holds_handle g held; lending = λ j. holds_waker j held; ticking = λ u. holds_tick u held }
 
 -- the counts of one thing to do
 
@@ -160,6 +187,9 @@ handling_of g o = (row o).handling g
 
 abbrev pub lending_of : ℕ → Op → ℕ
 lending_of j o = (row o).lending j
+
+abbrev pub ticking_of : ℕ → Op → ℕ
+ticking_of u o = (row o).ticking u
 
 abbrev pub waiting_of : ℕ → Op → ℕ
 waiting_of g o = (row o).waiting g

@@ -6,9 +6,10 @@ use Rattle.executor_model.specs.declared.event.Event.{Event}
 use Rattle.executor_model.specs.declared.event.Event.TheVariants.{PollBegun, Answered, Dropped}
 use Rattle.executor_model.specs.declared.op.Awaiter.{Awaiter}
 use Rattle.executor_model.specs.declared.op.Op.{Op}
+use Rattle.executor_model.specs.declared.op.Sleeping.{Sleeping}
 use Rattle.executor_model.specs.Trace.{Trace}
 use Rattle.executor_model.specs.World.{World, task}
-use Rattle.executor_model.specs.Weights.{same, weigh, weigh_all, wakes}
+use Rattle.executor_model.specs.Weights.{same, weigh, weigh_all, weigh_sleepers, wakes}
 use Rattle.executor_model.specs.Rows.{waiting_of, polls_of, ending_of, ready_of, closing_of, settling_of, giving_of, drops_of, releases_of, copies_of, borrowing_of, ousting_of}
 
 -- how often g stands in the list
@@ -27,6 +28,10 @@ abbrev pub awaiters_of : ℕ → List (Option Awaiter) → ℕ
 awaiters_of g [] = 0
 awaiters_of g (None ∷ rest) = awaiters_of g rest
 awaiters_of g (Some a ∷ rest) = wakes g a.waker + awaiters_of g rest
+
+-- how many of the sleepers' wakers are of g's task
+abbrev pub sleepers_of : ℕ → List (ℕ × Sleeping) → ℕ
+sleepers_of g es = weigh_sleepers (wakes g) es
 
 -- what the parties have still to do with g
 pub record Pend : Type 0 where
@@ -121,7 +126,7 @@ tokens w g p = times g w.queue.items + (p.waiting + (p.polls + (p.ending + (p.re
 
 -- living wakers of g's task
 abbrev pub living : World → ℕ → Pend → ℕ
-living w g p = times g w.table + (times g w.leaving + (times g w.waking + (wakers_of g w.wakers + (awaiters_of g w.awaiters + (p.releases + p.copies)))))
+living w g p = times g w.table + (times g w.leaving + (times g w.waking + (wakers_of g w.wakers + (awaiters_of g w.awaiters + (sleepers_of g w.sleepers.wakers + (p.releases + p.copies))))))
 
 -- what holds of future g
 pub record Sound (w : World) (g : ℕ) (p : Pend) : Type 0 where

@@ -1,6 +1,7 @@
 -- The machine: its state, which steps are possible, what they lead to, and its runs.
 use Rattle.std.specs.Prelude.{ℕ, zero, suc, ◌-◌, ◌==◌, Bool, true, false, ◌&&◌, ◌||◌, not, Option, Some, None, Result, Ok, Err, List, [], ◌∷◌, ◌++◌, length, slice_get, slice_index_or, slice_set, take, reverse, nat_lt}
 use Rattle.queue_steps.specs.ClosableQueue.{new_queue}
+use Rattle.std.specs.List.{list_any}
 use Rattle.executor_model.specs.declared.call.By.{By}
 use Rattle.executor_model.specs.declared.call.By.TheVariants as by
 use Rattle.executor_model.specs.declared.call.Call.{Call}
@@ -19,6 +20,7 @@ use Rattle.executor_model.specs.declared.op.HandleOp.TheVariants as handle_op
 use Rattle.task_moves.specs.declared.moves.owed.Move.TheVariants as move
 use Rattle.executor_model.specs.declared.op.QueueOp.TheVariants as queue_op
 use Rattle.executor_model.specs.declared.op.TableOp.TheVariants as table_op
+use Rattle.executor_model.specs.declared.op.TickOp.TheVariants as tick_op
 use Rattle.executor_model.specs.declared.op.UserOp.TheVariants as user_op
 use Rattle.executor_model.specs.declared.op.WakerOp.TheVariants as waker_op
 use Rattle.executor_model.specs.declared.step.Step.{Step}
@@ -27,10 +29,10 @@ use Rattle.executor_model.specs.declared.step.StepError.{StepError}
 use Rattle.executor_model.specs.declared.step.StepError.TheVariants.{Busy, NoSuch, Gone, Borrowed, Idle, WrongAnswer}
 use Rattle.executor_model.specs.declared.step.UserEnd.{UserEnd}
 use Rattle.executor_model.specs.declared.step.UserEnd.TheVariants as end
-use Rattle.executor_model.specs.World.{World, Done, done, log, task}
+use Rattle.executor_model.specs.World.{World, Tick, Up, Lies, Left, Done, done, log, task, tick_of}
 use Rattle.executor_model.specs.Acts.{act}
 use Rattle.executor_model.specs.Weights.{weigh_all}
-use Rattle.executor_model.specs.Rows.{borrowing_of, handling_of, lending_of}
+use Rattle.executor_model.specs.Rows.{borrowing_of, handling_of, lending_of, ticking_of}
 
 pub record Machine : Type 0 where
   pub world : World
@@ -86,6 +88,15 @@ abbrev pub is_known : Option Op → By → Bool
 is_known o by.Mine = is_some (polled_by o)
 is_known o (by.Outside x) = true
 
+abbrev pub lives : Tick → Bool
+lives Up = true
+lives (Lies n) = true
+lives Left = false
+
+-- tick t lives, and no call uses it
+abbrev pub has_tick : World → List (List Op) → ℕ → Bool
+has_tick w ss t = lives (tick_of w t) && is_unused (ticking_of t) ss
+
 -- what the call speaks of is there
 abbrev pub has_all : World → List (List Op) → Option Op → Call → Bool
 has_all w ss o call.Spawn = true
@@ -101,12 +112,18 @@ has_all w ss o (call.PollHandle f b) = has_handle w ss f && is_known o b
 has_all w ss o (call.Cancel f) = has_handle w ss f
 has_all w ss o (call.Detach f) = has_handle w ss f
 has_all w ss o (call.DropHandle f) = has_handle w ss f
+has_all w ss o call.NewTick = true
+has_all w ss o (call.PollTick t b) = has_tick w ss t && is_known o b
+has_all w ss o (call.DropTick t) = has_tick w ss t
 has_all w ss o call.DropExecutor = true
 
 abbrev pub is_on_executor : Call → Bool
 is_on_executor call.Spawn = true
 is_on_executor call.TryTick = true
 is_on_executor call.IsEmpty = true
+is_on_executor call.NewTick = true
+is_on_executor (call.PollTick t b) = true
+is_on_executor (call.DropTick t) = true
 is_on_executor call.DropExecutor = true
 is_on_executor _ = false
 
@@ -119,12 +136,16 @@ abbrev pub unless : Bool → StepError → Option StepError → Option StepError
 unless true error later = later
 unless false error later = Some error
 
+-- no call in progress uses the executor, and no tick lives
+abbrev pub is_unborrowed : World → List (List Op) → Bool
+is_unborrowed w ss = is_unused borrowing_of ss && not (list_any lives w.ticks)
+
 abbrev pub begin_refusal : World → List (List Op) → Option Op → Call → Option StepError
 begin_refusal w ss o c =
     unless (is_free o) Busy
     (unless (has_all w ss o c) NoSuch
     (unless (not (w.gone && is_on_executor c)) Gone
-    (unless (not (is_drop c) || is_unused borrowing_of ss) Borrowed None)))
+    (unless (not (is_drop c) || is_unborrowed w ss) Borrowed None)))
 
 abbrev pub go_refusal : Option Op → Option StepError
 go_refusal None = Some Idle
@@ -186,6 +207,9 @@ begun p w here (call.PollHandle f b) = done w (op.Handle (handle_op.Look f (wake
 begun p w here (call.Cancel f) = done w (op.Move move.Cancel f ∷ op.End reply.Done (hold.Handle f) ∷ [])
 begun p w here (call.Detach f) = done w (op.Move move.Detach f ∷ op.End reply.Done (hold.Handle f) ∷ [])
 begun p w here (call.DropHandle f) = done w (op.Move move.Cancel f ∷ op.Move move.Detach f ∷ op.End reply.Done (hold.Handle f) ∷ [])
+begun p w here call.NewTick = done w (op.Tick tick_op.MakeTick ∷ [])
+begun p w here (call.PollTick t b) = done (log w (event.TickPolled p t)) (op.Tick (tick_op.Search (record { waker = waker_of here b; tick = t; poll = length w.trace })) ∷ [])
+begun p w here (call.DropTick t) = done (log w (event.TickDropped p t)) (op.Tick (tick_op.Leave t) ∷ [])
 begun p w here call.DropExecutor = done (log (record w { gone = true }) (event.DropBegun p)) (op.Closing closing_op.TakeOut ∷ op.End reply.Done hold.Nothing ∷ [])
 
 -- what follows the end of user code
@@ -257,6 +281,6 @@ idle n = elim n [ zero ↦ [] | suc (m → rest) ↦ [] ∷ rest ]
 -- a new machine for so many undropped futures and with so many parties
 abbrev pub start : ℕ → ℕ → Machine
 start limit n = record {
-  world = record { limit = limit; tasks = []; awaiters = []; inside = []; queue = new_queue (Some limit) None; table = []; leaving = []; waking = []; wakers = []; gone = false; trace = [] };
+  world = record { limit = limit; tasks = []; awaiters = []; inside = []; queue = new_queue (Some limit) None; table = []; leaving = []; waking = []; wakers = []; ticks = []; sleepers = record { count = 0; rooms = 0; wakers = []; free = [] }; notified = true; gone = false; trace = [] };
   parties = idle n;
 }

@@ -3,6 +3,7 @@ use Rattle.std.specs.Prelude.{ℕ, ◌+◌, ◌==◌, List, [], ◌∷◌, cond,
 use Rattle.executor_model.specs.declared.op.Hold.{Hold}
 use Rattle.executor_model.specs.declared.op.Hold.TheVariants as hold
 use Rattle.executor_model.specs.declared.op.Op.{Op}
+use Rattle.executor_model.specs.declared.op.Sleeping.{Sleeping}
 use Rattle.executor_model.specs.declared.op.Waker.{Waker}
 use Rattle.executor_model.specs.declared.op.Waker.TheVariants.{Task, Outside}
 
@@ -19,6 +20,11 @@ abbrev pub weigh_all : (Op → ℕ) → List (List Op) → ℕ
 weigh_all v [] = 0
 weigh_all v (s ∷ ss) = weigh v s + weigh_all v ss
 
+-- over the wakers of those that sleep
+abbrev pub weigh_sleepers : (Waker → ℕ) → List (ℕ × Sleeping) → ℕ
+weigh_sleepers v [] = 0
+weigh_sleepers v (e ∷ es) = v e.1.waker + weigh_sleepers v es
+
 -- what is held is the executor
 abbrev pub holds_executor : Hold → ℕ
 holds_executor hold.Nothing = 0
@@ -26,6 +32,7 @@ holds_executor hold.Executor = 1
 holds_executor (hold.Spawned f) = 1
 holds_executor (hold.Handle f) = 0
 holds_executor (hold.Waker k) = 0
+holds_executor (hold.Tick t) = 1
 
 -- what is held is the handle of future g
 abbrev pub holds_handle : ℕ → Hold → ℕ
@@ -34,6 +41,7 @@ holds_handle g hold.Executor = 0
 holds_handle g (hold.Spawned f) = same g f
 holds_handle g (hold.Handle f) = same g f
 holds_handle g (hold.Waker k) = 0
+holds_handle g (hold.Tick t) = 0
 
 -- what is held is the kept waker j
 abbrev pub holds_waker : ℕ → Hold → ℕ
@@ -42,6 +50,16 @@ holds_waker j hold.Executor = 0
 holds_waker j (hold.Spawned f) = 0
 holds_waker j (hold.Handle f) = 0
 holds_waker j (hold.Waker k) = same j k
+holds_waker j (hold.Tick t) = 0
+
+-- what is held is tick u
+abbrev pub holds_tick : ℕ → Hold → ℕ
+holds_tick u hold.Nothing = 0
+holds_tick u hold.Executor = 0
+holds_tick u (hold.Spawned f) = 0
+holds_tick u (hold.Handle f) = 0
+holds_tick u (hold.Waker k) = 0
+holds_tick u (hold.Tick t) = same u t
 
 -- whether the waker is one of g's task
 abbrev pub wakes : ℕ → Waker → ℕ

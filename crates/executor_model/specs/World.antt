@@ -2,10 +2,18 @@
 use Rattle.std.specs.Prelude.{ℕ, ◌==◌, Bool, true, false, Option, None, List, [], ◌∷◌, ◌++◌, slice_index_or, slice_set}
 use Rattle.task_moves.specs.declared.moves.state.State.{State}
 use Rattle.queue_steps.specs.ClosableQueue.{ClosableQueue}
+use Rattle.executor_parts.specs.Sleepers.{Sleepers, flag_of}
 use Rattle.executor_model.specs.declared.event.Event.{Event}
 use Rattle.executor_model.specs.declared.op.Op.{Op}
 use Rattle.executor_model.specs.declared.op.Awaiter.{Awaiter}
+use Rattle.executor_model.specs.declared.op.Sleeping.{Sleeping}
 use Rattle.executor_model.specs.Trace.{Trace}
+
+-- a tick is up, or lies among the sleepers under this number, or was dropped
+pub data Tick : Type 0 where
+  Up : Tick
+  Lies : ℕ → Tick
+  Left : Tick
 
 pub record World : Type 0 where
   -- as many accepted futures may be undropped
@@ -23,6 +31,11 @@ pub record World : Type 0 where
   pub waking : List ℕ
   -- the kept wakers by number, each by its future; none where it was used up
   pub wakers : List (Option ℕ)
+  -- the ticks by number
+  pub ticks : List Tick
+  -- those that lie down, and the flag beside them
+  pub sleepers : Sleepers Sleeping
+  pub notified : Bool
   -- the executor's drop was begun
   pub gone : Bool
   pub trace : Trace
@@ -49,6 +62,16 @@ awaiter_of w f = slice_index_or w.awaiters f None
 
 abbrev pub put_awaiter : World → ℕ → Option Awaiter → World
 put_awaiter w f a = record w { awaiters = slice_set w.awaiters f a }
+
+abbrev pub tick_of : World → ℕ → Tick
+tick_of w t = slice_index_or w.ticks t Left
+
+abbrev pub put_tick : World → ℕ → Tick → World
+put_tick w t x = record w { ticks = slice_set w.ticks t x }
+
+-- a section on the sleepers ends, and the flag is stored
+abbrev pub put_sleepers : World → Sleepers Sleeping → World
+put_sleepers w s = record w { sleepers = s; notified = flag_of s }
 
 abbrev pub log : World → Event → World
 log w e = record w { trace = w.trace ++ e ∷ [] }

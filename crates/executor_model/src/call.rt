@@ -1,4 +1,4 @@
-/// A call that a party makes. Futures and wakers are numbered from 0, in the order in which they were made.
+/// A call that a party makes. Futures, ticks and wakers are numbered from 0, in the order in which they were made.
 #[derive(Clone, Copy, Debug, PartialEq, Eq)]
 pub enum Call {
     /// A future is handed to the executor.
@@ -27,6 +27,12 @@ pub enum Call {
     Detach(u64),
     /// The handle of the future with this number is let go, which cancels the future and detaches it.
     DropHandle(u64),
+    /// A tick is made. It has the next number.
+    NewTick,
+    /// The tick with this number is polled, and given this waker.
+    PollTick(u64, By),
+    /// The tick with this number is dropped.
+    DropTick(u64),
     /// The executor is dropped.
     DropExecutor,
 }
@@ -52,9 +58,9 @@ pub enum Reply {
     Done,
     /// Memory was refused, or there were too many references for one more.
     NoMemory,
-    /// A polled handle has no output yet.
+    /// A polled handle has no output yet; a polled tick has found no future, and will be told.
     Pending,
-    /// A polled handle gives its output.
+    /// A polled handle gives its output; a polled tick has run a future.
     Ready,
     /// A polled handle has no output and will have none.
     Cancelled,

@@ -1,5 +1,5 @@
 use crate::call::{Call, Reply};
-use crate::op::Waker;
+use crate::op::{Polled, Waker};
 
 /// What ends a piece of user code.
 #[derive(Clone, Copy, Debug, PartialEq, Eq)]
@@ -72,11 +72,21 @@ pub enum Event {
         party: u32,
         future: u64,
     },
-    /// The waker that a poll of the future's handle was given is called, or a copy of it. The poll is
-    /// named by the place of its `HandlePolled`.
+    /// The tick is polled. The place of this event in the trace names the poll.
+    TickPolled {
+        party: u32,
+        tick: u64,
+    },
+    /// The drop of the tick begins.
+    TickDropped {
+        party: u32,
+        tick: u64,
+    },
+    /// The waker that a poll was given is called, or a copy of it. The poll is named by what was polled, and
+    /// by the place of its `HandlePolled` or `TickPolled`.
     WakerCalled {
         party: u32,
-        future: u64,
+        polled: Polled,
         poll: u64,
         waker: Waker,
     },

@@ -9,6 +9,8 @@ ghost use Rattle.executor_model.specs.Memory.{NeedsNoMemory};
 ghost use Rattle.executor_model.specs.OutputKept.{OutputIsKept};
 ghost use Rattle.executor_model.specs.Refusals.{IsWantToldOf, RefusedChangesNothing};
 ghost use Rattle.executor_model.specs.Runs.{EveryMachine, EveryRun, HasOneRunnable, IsCounted};
+ghost use Rattle.executor_model.specs.SleepersAgree.{SleepersAgree};
+ghost use Rattle.executor_model.specs.SleepersTold.{SleepersAreTold};
 ghost use Rattle.executor_model.specs.World.{World};
 
 /// Whatever the parties do, a task's count is its living wakers, and one for a Runnable, a run or a
@@ -92,4 +94,17 @@ pub fn outputs_are_kept()
 pub fn wakes_are_handed_on()
     ensures handed { (w : World) (f p : ℕ) (h : Hint) → HandsOn w f p h }
     ensures marked { EveryRun IsOnItsWay }
+{}
+
+/// Whatever the parties do, no two ticks lie under one number, as many sleep as ticks lie, and there are never more wakers
+/// than sleepers. The flag is true only where nobody sleeps, a sleeper is notified, or a party stands between its won exchange
+/// of the flag and its hand-out.
+pub fn sleepers_agree()
+    ensures { EveryMachine SleepersAgree }
+{}
+
+/// Whatever the parties do, where a Runnable stands in the queue and a tick lies among the sleepers, a sleeper is notified, or a
+/// party has still to exchange the flag, to hand out or to search. Who has still to call a waker that was handed out isn't needed.
+pub fn sleepers_are_told()
+    ensures { EveryMachine SleepersAreTold }
 {}

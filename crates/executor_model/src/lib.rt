@@ -13,5 +13,8 @@ pub mod trace_laws;
 pub use call::{By, Call, Reply};
 pub use event::{Answer, Event};
 pub use kind::Kind;
-pub use op::{Awaiter, ClosingOp, HandleOp, Hold, Op, QueueOp, TableOp, UserOp, Waker, WakerOp};
+pub use op::{
+    Awaiter, ClosingOp, HandleOp, Hold, Op, Polled, QueueOp, SleeperOp, Sleeping, TableOp, TickOp,
+    UserOp, Waker, WakerOp,
+};
 pub use step::{Hint, Step, StepError, UserEnd};

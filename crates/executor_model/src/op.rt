@@ -1,7 +1,7 @@
 use crate::call::Reply;
 use task_moves::moves::Move;
 
-/// A waker that a poll of a handle was given.
+/// A waker that a poll of a handle or of a tick was given.
 #[derive(Clone, Copy, Debug, PartialEq, Eq)]
 pub enum Waker {
     /// A waker of the task of this future.
@@ -18,6 +18,24 @@ pub struct Awaiter {
     pub poll: u64,
 }
 
+/// What a poll is of that was given a waker.
+#[derive(Clone, Copy, Debug, PartialEq, Eq)]
+pub enum Polled {
+    /// The handle of this future.
+    Handle(u64),
+    /// The tick with this number.
+    Tick(u64),
+}
+
+/// What the list of sleepers keeps of a tick: the waker that it lay down with, the tick, and the poll by the
+/// place of its `TickPolled` in the trace.
+#[derive(Clone, Copy, Debug, PartialEq, Eq)]
+pub struct Sleeping {
+    pub waker: Waker,
+    pub tick: u64,
+    pub poll: u64,
+}
+
 /// What a call uses until it has ended, and another call may not use meanwhile.
 #[derive(Clone, Copy, Debug)]
 pub enum Hold {
@@ -30,6 +48,8 @@ pub enum Hold {
     Handle(u64),
     /// The kept waker with this number.
     Waker(u64),
+    /// The executor, and the tick with this number.
+    Tick(u64),
 }
 
 /// What a party does with the table.
@@ -101,6 +121,35 @@ pub enum HandleOp {
     EndNotify(u64, bool),
 }
 
+/// How a sleeper is told that there is something to do.
+#[derive(Clone, Copy, Debug)]
+pub enum SleeperOp {
+    /// The flag is exchanged.
+    ExchangeFlag,
+    /// Who won the exchange takes the waker that was added last, where no sleeper is notified.
+    HandOut,
+    /// That waker is called.
+    CallSleeper(Sleeping),
+}
+
+/// Parts of the making, of a poll and of the drop of a tick. Those of a poll have the tick, the waker that the
+/// poll was given, and the poll.
+#[derive(Clone, Copy, Debug)]
+pub enum TickOp {
+    /// A tick is made, with room to lie down in.
+    MakeTick,
+    /// The first Runnable is taken.
+    Search(Sleeping),
+    /// The waker is copied, to lie down with.
+    CopyWaker(Sleeping),
+    /// The tick lies down with the copy, or lies down again.
+    LieDown(Sleeping),
+    /// The tick gets up, with a Runnable of this future.
+    GetUp(u64, u64),
+    /// The tick leaves the sleepers, and gives its room back.
+    Leave(u64),
+}
+
 /// Parts of the executor's drop.
 #[derive(Clone, Copy, Debug)]
 pub enum ClosingOp {
@@ -127,6 +176,8 @@ pub enum Op {
     User(UserOp),
     Waker(WakerOp),
     Handle(HandleOp),
+    Sleeper(SleeperOp),
+    Tick(TickOp),
     Closing(ClosingOp),
     /// The call ends, in the step that did the last thing before.
     End(Reply, Hold),

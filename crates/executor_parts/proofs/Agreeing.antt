@@ -204,14 +204,14 @@ module _ {W : Type 0} where
 
   -- ---- what each step keeps
 
-  record Keeps (s : Lying W) : Type 0 where
-    agree : Agree s
-    listed_apart : IsApart (numbers_of s.sleepers.wakers)
-    listed_in : (k : ℕ) → IsIn k (numbers_of s.sleepers.wakers) → IsIn k s.numbers
-    free_apart : IsApart s.sleepers.free
-    free_out : (k : ℕ) → IsIn k s.sleepers.free → ¬ IsIn k s.numbers
-    bounded : (k : ℕ) → IsIn k s.numbers → k ≤ s.sleepers.count + length s.sleepers.free
-    free_bounded : (k : ℕ) → IsIn k s.sleepers.free → k ≤ s.sleepers.count + length s.sleepers.free
+  pub record Keeps (s : Lying W) : Type 0 where
+    pub agree : Agree s
+    pub listed_apart : IsApart (numbers_of s.sleepers.wakers)
+    pub listed_in : (k : ℕ) → IsIn k (numbers_of s.sleepers.wakers) → IsIn k s.numbers
+    pub free_apart : IsApart s.sleepers.free
+    pub free_out : (k : ℕ) → IsIn k s.sleepers.free → ¬ IsIn k s.numbers
+    pub bounded : (k : ℕ) → IsIn k s.numbers → k ≤ s.sleepers.count + length s.sleepers.free
+    pub free_bounded : (k : ℕ) → IsIn k s.sleepers.free → k ≤ s.sleepers.count + length s.sleepers.free
 
   -- the lists stay, and the flag is told of
   with_flag :
@@ -465,7 +465,7 @@ module _ {W : Type 0} where
             λ same. gone (subst (λ x. IsIn x (without n (numbers_of s.sleepers.wakers))) same there),
           ))
 
-  keeps : (t : Step W) (s : Lying W) → MayTake t s → Keeps s → Keeps (after t s)
+  pub keeps : (t : Step W) (s : Lying W) → MayTake t s → Keeps s → Keeps (after t s)
   keeps ExchangeFlag s may k = exchange s k
   keeps HandOut s may k = hand s k
   keeps (LieDown waker) s may k = lie s waker may k
@@ -478,7 +478,7 @@ module _ {W : Type 0} where
   kept [] s may k = k
   kept (t ∷ ts) s may k = kept ts (after t s) may.1 (keeps t s may.0 k)
 
-  first : Keeps (awake {W = W})
+  pub first : Keeps (awake {W = W})
   first = record {
     agree = record { apart = tt; counted = refl; listed = omega arith; within = omega arith; told = λ holds. inl holds };
     listed_apart = tt;

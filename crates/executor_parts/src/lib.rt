@@ -1,4 +1,4 @@
-//! The parts that a running executor locks, and the step machine is to have too: the table of futures and the list of sleepers. Each
+//! The parts that a running executor locks, and the step machine has too: the table of futures and the list of sleepers. Each
 //! public method that changes one of them is one section of whoever locks it, and knows nothing of threads.
 #![tactic(auto)]
 

@@ -147,6 +147,7 @@ impl<W> Sleepers<W> {
 
     /// Makes room for one more sleeper, in each list. Refused, nothing changes.
     pub fn make_room(&mut self) -> Result<Room, AllocError>
+        ensures within { self.old.count ≤ self.old.rooms }
         ensures ok { OnOk result (self.new ≡ record self.old { rooms = self.old.rooms + 1 }) }
         ensures err { IfErr result (λ _. self.new ≡ self.old) }
     {
@@ -194,6 +195,7 @@ impl<W> Sleepers<W> {
 
     /// Lies down under a new number: one that was given back last, or the next. In `async-executor` it is `insert`.
     pub fn lie_down(&mut self, room: Room, waker: W) -> Result<Slept, Unreserved<W>>
+        ensures room { IfOk result (λ _. self.old.count < self.old.rooms) }
         ensures number { IfOk result (λ s. s.sleeper.number ≡ next_number self.old) }
         ensures lies { OnOk result (self.new ≡ laid_down waker self.old) }
         ensures flag { IfOk result (λ s. s.notified ≡ flag_of self.new) }

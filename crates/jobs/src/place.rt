@@ -4,8 +4,11 @@
 ghost use Rattle.std.specs.Prelude.{All};
 ghost use Rattle.job_answers.specs.Answers.{IsInRange};
 
+use crate::brought::Brought;
+use crate::desk::Awaits;
 use crate::gate::Gate;
-use crate::site::{JobRealm, Site};
+use crate::site::{JobRealm, JobWaker, Site};
+use crate::site_desk::SiteDesk;
 use crate::worker::Worker;
 use async_task::NoMemory;
 use blocking::block_on;
@@ -15,8 +18,16 @@ use std::sync::Wait;
 
 /// What a worker's thread does.
 pub trait Labor<R: Wait> {
+    ghost use Rattle.std.specs.Prelude.{IfOk, Vec};
+    ghost use Rattle.std.specs.Global.{Global};
+    ghost use Rattle.job_answers.specs.declared.job.Solved.{Solved};
+
+    /// What threads of this place come back with: jobs that were begun there, each by a handle of its own.
+    ghost brings: { Self → Vec Solved Global → Type 0 };
+
     /// Begins jobs until none is left, and answers those that came back to it.
-    fn work(&self, rt: &R, seed: u64) -> Result<Vec<Solved>, NoMemory>;
+    fn work(&self, rt: &R, seed: u64) -> Result<Vec<Solved>, NoMemory>
+        ensures { IfOk result (brings self.now) };
 }
 
 /// Where jobs are done.
@@ -80,10 +91,37 @@ where
     G: Gate + Copy + Drop,
     R: Wait + Copy + Drop + 'static,
 {
+    ghost use Rattle.jobs.specs.Bringing.{HaveCome};
+
+    ghost brings = { λ place solved. HaveCome solved };
+
     fn work(&self, rt: &R, seed: u64) -> Result<Vec<Solved>, NoMemory> {
-        match self.site.executor.run_from(Worker::at(&self.site), seed) {
+        match self.run_desk(rt, seed, SiteDesk::at(&self.site)) {
+            Ok(brought) => Ok(brought.into_solved()),
+            Err(refused) => Err(refused),
+        }
+    }
+}
+
+impl<G, R> Workplace<G, R>
+where
+    G: Gate + Copy + Drop,
+    R: Wait + Copy + Drop + 'static,
+{
+    /// Runs the executor until this desk's worker is done.
+    fn run_desk<D: Awaits<JobWaker<R>> + Drop>(
+        &self,
+        rt: &R,
+        seed: u64,
+        desk: D,
+    ) -> Result<Brought<D>, NoMemory> {
+        match self
+            .site
+            .executor
+            .run_from(Worker::at(*rt, self.alloc, desk), seed)
+        {
             Ok(run) => match block_on(rt, self.alloc, run) {
-                Ok(Ok(solved)) => solved,
+                Ok(Ok(brought)) => brought,
                 _ => Err(NoMemory),
             },
             Err(_) => Err(NoMemory),

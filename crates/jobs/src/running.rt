@@ -1,16 +1,17 @@
 //! Jobs on worker threads.
-ghost use Rattle.std.specs.Prelude.{◌≡◌, ◌<◌, ◌≤◌, ℕ, All, Err, IfOk, length, map};
+ghost use Rattle.std.specs.Prelude.{◌≡◌, ◌<◌, ◌≤◌, ℕ, All, Err, IfOk, Ok, length, map};
 ghost use Rattle.job_answers.specs.Answers.{IsInRange, answer_of};
 ghost use Rattle.job_answers.specs.declared.errors.JobsError.TheVariants.{Missing};
-ghost use Rattle.jobs.specs.Coming.{AllCameBack, CameBackUpTo};
+ghost use Rattle.jobs.specs.Coming.{AllCameBack, AreBrought, CameBackUpTo};
 
 use crate::place::{Labor, Place};
 use crate::site::JobRealm;
 use async_task::NoMemory;
 use job_answers::{Answer, Job, JobsError, Solved, gather};
 use std::alloc::Global;
+use std::marker::PhantomData;
 use std::sync::Wait;
-use std::thread::{self, Threads};
+use std::thread::{self, Promise, Threads};
 
 /// Does jobs on worker threads, and answers what each comes to, in order. At most 100,000 jobs and 1 to 64 workers.
 ///
@@ -34,8 +35,8 @@ where
     requires some { 0 < workers }
     requires bounded { workers ≤ 64 }
     ensures answers { IfOk result (λ answers. answers.items ≡ map answer_of jobs.now) }
-    ensures once { IfOk result (λ answers. AllCameBack jobs.now) }
-    ensures missing { (number : ℕ) → result ≡ Err (Missing number) → CameBackUpTo jobs.now number }
+    ensures once { IfOk result (λ answers. AllCameBack P.brings workers jobs.now) }
+    ensures missing { (number : ℕ) → result ≡ Err (Missing number) → CameBackUpTo P.brings workers jobs.now number }
 {
     let place = match P::new(rt, alloc, realm, jobs, gate) {
         Ok(place) => place,
@@ -55,6 +56,21 @@ enum Refusal {
     NoMemory,
 }
 
+/// That a thread comes back with what this place brings.
+struct WorkOf<'a, P, R>(&'a P, PhantomData<R>);
+
+impl<P, R> Drop for WorkOf<'_, P, R> {
+    fn drop(self) {
+        let WorkOf(_, _) = self;
+    }
+}
+
+impl<P: Labor<R>, R: Wait> Promise<Result<Vec<Solved>, NoMemory>> for WorkOf<'_, P, R> {
+    ghost use Rattle.std.specs.Prelude.{IfOk};
+
+    ghost kept_by = { λ promise ended. IfOk ended (P.brings promise.0.now) };
+}
+
 /// Starts the workers, and joins those that were started. What came back to each.
 fn work_together<P, R>(
     rt: &R,
@@ -65,37 +81,50 @@ fn work_together<P, R>(
 where
     P: Labor<R> + Sync,
     R: Threads + Sync + Wait,
+    ensures { IfOk result (λ returned. AreBrought (P.brings place.now) workers returned.items) }
 {
     thread::scope(
         thread::scope_env(),
         rt,
-        move |scope| -> Result<Vec<Vec<Solved>>, Refusal> {
-            let mut threads = Vec::new(alloc);
-            let mut fault = None;
+        move |scope| -> Result<Vec<Vec<Solved>>, Refusal>
+            ensures { IfOk result (λ returned. AreBrought (P.brings place.entry.now) workers returned.items) }
+        {
+            let Ok(mut threads) = Vec::with_capacity(alloc, workers) else {
+                return Err(Refusal::NoMemory);
+            };
             for seed in 0..workers {
-                match scope.spawn(move || place.work(rt, seed as u64)) {
-                    Ok(thread) => {
-                        if threads.push(thread).is_err() {
-                            fault = fault.or(Some(Refusal::NoMemory));
-                        }
-                    }
-                    Err(_) => fault = Some(Refusal::NoThread),
-                }
-            }
-            let mut returned = Vec::new(alloc);
-            for thread in threads {
-                let kept = match thread.join(rt) {
-                    Ok(solved) => returned.push(solved).is_ok(),
-                    Err(NoMemory) => false,
+                let promise = WorkOf(place, PhantomData);
+                let Ok(thread) = scope.spawn_with(promise, move || place.work(rt, seed as u64))
+                else {
+                    return Err(Refusal::NoThread);
                 };
-                if !kept {
-                    fault = fault.or(Some(Refusal::NoMemory));
+                if threads.push(thread).is_err() {
+                    return Err(Refusal::NoMemory);
                 }
             }
-            match fault {
-                Some(fault) => Err(fault),
-                None => Ok(returned),
+            match thread::join_promised(rt, threads) {
+                Ok(ended) => all_well(alloc, ended),
+                Err(_) => Err(Refusal::NoMemory),
             }
         },
     )
+}
+
+/// What came back to each of the workers, where all came to their end.
+fn all_well(
+    alloc: Global,
+    ended: Vec<Result<Vec<Solved>, NoMemory>>,
+) -> Result<Vec<Vec<Solved>>, Refusal>
+    ensures { IfOk result (λ returned. map Ok returned.items ≡ ended.items) }
+{
+    let mut returned = Vec::new(alloc);
+    for one in ended {
+        let Ok(solved) = one else {
+            return Err(Refusal::NoMemory);
+        };
+        if returned.push(solved).is_err() {
+            return Err(Refusal::NoMemory);
+        }
+    }
+    Ok(returned)
 }

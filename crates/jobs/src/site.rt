@@ -34,17 +34,23 @@ where
     R: Wait + Copy + Drop + 'static,
 {
     rt: R,
-    alloc: Global,
     realm: &'static JobRealm<R>,
     gate: G,
     queue: ConcurrentQueue<Numbered>,
     pub(crate) executor: Executor<Work<G>, Solved, ThreadWaker, R>,
 }
 
+/// A job that was spawned and is awaited: its handle, and its number.
+#[derive(Drop)]
+pub(crate) struct Awaited {
+    handle: StoredTask,
+    number: u64,
+}
+
 /// What a worker finds where it looks for its next job.
 pub(crate) enum Next {
     /// It was spawned, and is to be awaited.
-    Begun(StoredTask),
+    Begun(Awaited),
     /// None is left.
     NoneLeft,
     /// It found no place on the executor, and is lost.
@@ -56,6 +62,8 @@ where
     G: Gate + Copy + Drop,
     R: Wait + Copy + Drop + 'static,
 {
+    ghost use Rattle.jobs.specs.Bringing.{BeginsNumber, Gives};
+
     /// A site with these jobs, numbered from 0, none of which is begun.
     pub(crate) fn new(
         rt: R,
@@ -72,7 +80,6 @@ where
         match Executor::new(rt, alloc, realm, jobs.len().max(1)) {
             Ok(executor) => Ok(Site {
                 rt,
-                alloc,
                 realm,
                 gate,
                 queue,
@@ -82,47 +89,54 @@ where
         }
     }
 
-    /// No job came back to a worker yet.
-    pub(crate) fn no_job(&self) -> Vec<Solved> {
-        Vec::new(self.alloc)
-    }
-
-    /// The runtime value.
-    pub(crate) fn runtime(&self) -> R {
-        self.rt
-    }
-
     /// Pops a job and spawns it.
     pub(crate) fn begin(&self) -> Result<Next, NoMemory> {
-        let Ok(numbered) = self.queue.pop(&self.rt) else {
-            return Ok(Next::NoneLeft);
-        };
+        match self.queue.pop(&self.rt) {
+            Ok(numbered) => self.spawn(numbered),
+            Err(_) => Ok(Next::NoneLeft),
+        }
+    }
+
+    /// Spawns a job. It is awaited under the number that it was spawned with.
+    fn spawn(&self, numbered: Numbered) -> Result<Next, NoMemory>
+        ensures { BeginsNumber numbered.number result }
+    {
         let work = Work::new(self.gate, numbered.number, numbered.job);
         match self.executor.spawn(work) {
-            Ok(task) => Ok(Next::Begun(task.store())),
+            Ok(task) => Ok(Next::Begun(Awaited {
+                handle: task.store(),
+                number: numbered.number,
+            })),
             Err(SpawnError::Full(_)) => Ok(Next::Lost),
             Err(SpawnError::NoMemory(_)) => Err(NoMemory),
         }
     }
 
-    /// The job that came back, where its task wasn't closed. Where it hasn't come back it is kept.
+    /// The job that came back by the handle that is awaited, where its task wasn't closed and it has the number that it was
+    /// spawned with. Where it hasn't come back its handle is kept.
     pub(crate) fn await_job(
         &self,
-        awaited: &mut Option<StoredTask>,
+        awaited: &mut Option<Awaited>,
         waker: &JobWaker<R>,
-    ) -> Poll<Result<Option<Solved>, NoMemory>> {
-        let Some(stored) = awaited.take() else {
+    ) -> Poll<Result<Option<Solved>, NoMemory>>
+        ensures { Gives awaited.old awaited.new result }
+    {
+        let Some(Awaited { handle, number }) = awaited.take() else {
             return Poll::Ready(Ok(None));
         };
-        let Some(mut task) = stored.redeem(self.rt, self.realm) else {
+        let Some(mut task) = handle.redeem(self.rt, self.realm) else {
             return Poll::Ready(Ok(None));
         };
         match task.poll(waker) {
             Poll::Pending => {
-                *awaited = Some(task.store());
+                *awaited = Some(Awaited {
+                    handle: task.store(),
+                    number,
+                });
                 Poll::Pending
             }
-            Poll::Ready(Ok(solved)) => Poll::Ready(Ok(Some(solved))),
+            Poll::Ready(Ok(solved)) if solved.number == number => Poll::Ready(Ok(Some(solved))),
+            Poll::Ready(Ok(_)) => Poll::Ready(Ok(None)),
             Poll::Ready(Err(TaskError::TaskClosed)) => Poll::Ready(Ok(None)),
             Poll::Ready(Err(TaskError::NoMemory)) => Poll::Ready(Err(NoMemory)),
         }
@@ -135,9 +149,9 @@ where
     R: Wait + Copy + Drop + 'static,
 {
     /// Drops the handle of a job that is awaited no more, which cancels it.
-    pub(crate) fn give_up(&self, awaited: Option<StoredTask>) {
-        if let Some(stored) = awaited {
-            if let Some(task) = stored.redeem(self.rt, self.realm) {
+    pub(crate) fn give_up(&self, awaited: Option<Awaited>) {
+        if let Some(Awaited { handle, number: _ }) = awaited {
+            if let Some(task) = handle.redeem(self.rt, self.realm) {
                 drop(task);
             }
         }

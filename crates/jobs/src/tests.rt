@@ -1,6 +1,8 @@
 //! What a worker leaves where it ends before its job has come back.
+use crate::desk::{Awaits, Desk};
 use crate::gate::Gate;
-use crate::site::{JobRealm, JobWaker, Site};
+use crate::site::{JobRealm, Site};
+use crate::site_desk::SiteDesk;
 use crate::worker::Worker;
 use async_task::{Future, Poll};
 use blocking::block_on;
@@ -22,19 +24,12 @@ impl Gate for Counted {
 
 /// Polls a worker once, and is ready: whether the worker waits for a job.
 #[derive(Drop)]
-struct PolledOnce<'e, G, R>(Worker<'e, G, R>)
-where
-    G: Drop,
-    R: Wait + Copy + Drop + 'static;
+struct PolledOnce<D: Desk + Drop, R>(Worker<D, R>);
 
-impl<G, R> Future<JobWaker<R>> for PolledOnce<'_, G, R>
-where
-    G: Gate + Copy + Drop,
-    R: Wait + Copy + Drop + 'static,
-{
+impl<K, D: Awaits<K> + Drop, R: Wait> Future<K> for PolledOnce<D, R> {
     type Output = bool;
 
-    fn poll(&mut self, waker: &JobWaker<R>) -> Poll<bool> {
+    fn poll(&mut self, waker: &K) -> Poll<bool> {
         Poll::Ready(matches!(self.0.poll(waker), Poll::Pending))
     }
 }
@@ -47,7 +42,11 @@ fn a_worker_that_is_dropped_gives_its_job_up(rt: HostRuntime) -> Result<(), Fail
     let realm = JobRealm::<HostRuntime>::leak(alloc, 0)?;
     let list = [Job::Sum(1)];
     let site = Site::new(rt, alloc, realm, &list, &counted)?;
-    let has_waited = block_on(&rt, alloc, PolledOnce(Worker::at(&site)));
+    let has_waited = block_on(
+        &rt,
+        alloc,
+        PolledOnce(Worker::at(rt, alloc, SiteDesk::at(&site))),
+    );
     assert!(rt; matches!(has_waited, Ok(true)));
     let has_dropped = site.executor.try_tick();
     assert!(rt; has_dropped & site.executor.is_empty() & (counted.0.load(SeqCst) == 0));

@@ -1,3 +1,4 @@
+ghost use Rattle.std.specs.Prelude.{◌≡◌};
 ghost use Rattle.job_answers.specs.Answers.{IsInRange};
 
 use crate::gate::Gate;
@@ -16,6 +17,8 @@ impl<G> Work<G> {
     /// The future of this job, not polled yet.
     pub fn new(gate: G, number: u64, job: Job) -> Self
         requires { IsInRange job }
+        ensures number { result.progress.number ≡ number }
+        ensures job { result.progress.job ≡ job }
     {
         Work {
             gate,

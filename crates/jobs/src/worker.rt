@@ -1,81 +1,40 @@
-use crate::gate::Gate;
-use crate::site::{JobWaker, Next, Site};
-use async_task::{Future, NoMemory, Poll, StoredTask};
-use job_answers::Solved;
-use std::mem;
+use crate::brought::{Brought, Log};
+use crate::desk::{Awaits, Desk};
+use async_task::{Future, NoMemory, Poll};
+use std::alloc::Global;
 use std::sync::Wait;
 
-/// A worker's future: it pops a job, spawns it, awaits its handle, and pops the next. Where no job is left it is ready, with
-/// those that came back to it; where it met a want of memory it is ready with that.
-///
-/// Its drop drops the handle that it awaits, which cancels that job.
-pub struct Worker<'e, G, R>
-where
-    G: Drop,
-    R: Wait + Copy + Drop + 'static,
-{
-    site: &'e Site<G, R>,
-    awaited: Option<StoredTask>,
-    solved: Vec<Solved>,
+/// A worker's future: it begins a job, awaits its handle, and begins the next. Where no job is left it is ready, with those that
+/// came back to it; where it met a want of memory it is ready with that.
+#[derive(Drop)]
+pub struct Worker<D: Desk + Drop, R> {
+    rt: R,
+    log: Log<D>,
 }
 
-impl<'e, G, R> Worker<'e, G, R>
-where
-    G: Gate + Copy + Drop,
-    R: Wait + Copy + Drop + 'static,
-{
-    pub(crate) fn at(site: &'e Site<G, R>) -> Self {
-        let solved = (&*site).no_job();
+impl<D: Desk + Drop, R> Worker<D, R> {
+    /// At this desk.
+    pub(crate) fn at(rt: R, alloc: Global, desk: D) -> Self {
         Worker {
-            site,
-            awaited: None,
-            solved,
+            rt,
+            log: Log::new(alloc, desk),
         }
     }
 }
 
-impl<G, R> Drop for Worker<'_, G, R>
-where
-    G: Drop,
-    R: Wait + Copy + Drop + 'static,
-{
-    fn drop(self) {
-        let Worker {
-            site,
-            awaited,
-            solved,
-        } = self;
-        site.give_up(awaited);
-        drop(solved);
-    }
-}
+impl<K, D: Awaits<K> + Drop, R: Wait> Future<K> for Worker<D, R> {
+    type Output = Result<Brought<D>, NoMemory>;
 
-impl<G, R> Future<JobWaker<R>> for Worker<'_, G, R>
-where
-    G: Gate + Copy + Drop,
-    R: Wait + Copy + Drop + 'static,
-{
-    type Output = Result<Vec<Solved>, NoMemory>;
-
-    fn poll(&mut self, waker: &JobWaker<R>) -> Poll<Result<Vec<Solved>, NoMemory>> {
-        for _ in self.site.runtime().forever() {
-            match self.site.await_job(&mut self.awaited, waker) {
+    fn poll(&mut self, waker: &K) -> Poll<Result<Brought<D>, NoMemory>> {
+        for _ in self.rt.forever() {
+            match self.log.bring(waker) {
                 Poll::Pending => return Poll::Pending,
                 Poll::Ready(Err(NoMemory)) => return Poll::Ready(Err(NoMemory)),
-                Poll::Ready(Ok(None)) => {}
-                Poll::Ready(Ok(Some(solved))) => {
-                    if self.solved.push(solved).is_err() {
-                        return Poll::Ready(Err(NoMemory));
-                    }
-                }
+                Poll::Ready(Ok(())) => {}
             }
-            match self.site.begin() {
-                Ok(Next::Begun(task)) => self.awaited = Some(task),
-                Ok(Next::Lost) => {}
-                Ok(Next::NoneLeft) => {
-                    let none = self.site.no_job();
-                    return Poll::Ready(Ok(mem::replace(&mut self.solved, none)));
-                }
+            match self.log.begin() {
+                Ok(true) => {}
+                Ok(false) => return Poll::Ready(Ok(self.log.end())),
                 Err(NoMemory) => return Poll::Ready(Err(NoMemory)),
             }
         }

@@ -9,4 +9,6 @@ mod refusals;
 #[cfg(test)]
 mod rows;
 #[cfg(test)]
+mod ticks;
+#[cfg(test)]
 mod words;

@@ -33,6 +33,8 @@ fn what_is_not_there_is_refused(rt: HostRuntime) {
         begin(0, Call::Cancel(0)),
         begin(0, Call::Detach(0)),
         begin(0, Call::DropHandle(0)),
+        begin(0, Call::PollTick(0, By::Outside(1))),
+        begin(0, Call::DropTick(0)),
     ];
     for step in none {
         stepped(&rt, &mut machine, step, Err(StepError::NoSuch));
@@ -103,6 +105,7 @@ fn a_dropped_executor_is_gone(rt: HostRuntime) {
         Call::Spawn,
         Call::TryTick,
         Call::IsEmpty,
+        Call::NewTick,
         Call::DropExecutor,
     ] {
         stepped(&rt, &mut machine, begin(1, call), Err(StepError::Gone));
@@ -114,7 +117,7 @@ fn a_dropped_executor_is_gone(rt: HostRuntime) {
 
 #[test]
 fn an_executor_in_use_is_borrowed(rt: HostRuntime) {
-    for call in [Call::Spawn, Call::TryTick, Call::IsEmpty] {
+    for call in [Call::Spawn, Call::TryTick, Call::IsEmpty, Call::NewTick] {
         let mut machine = machine_for(&rt, 1);
         stepped(&rt, &mut machine, begin(1, call), Ok(()));
         stepped(
@@ -155,7 +158,7 @@ fn user_code_answers_first_and_as_it_can(rt: HostRuntime) {
         answer(0, READY),
         Err(StepError::WrongAnswer),
     );
-    assert!(&rt; machine.run(&[go(0), go(0), go(0)]).is_none());
+    assert!(&rt; machine.run(&[go(0), go(0), go(0), go(0)]).is_none());
     let seen = machine.trace().len();
     stepped(&rt, &mut machine, go(0), Err(StepError::WrongAnswer));
     stepped(

@@ -121,7 +121,7 @@ fn the_closing_drop_drops_in_the_order_of_acceptance(rt: HostRuntime) {
 #[test]
 fn a_wake_that_the_closing_drop_catches_ends(rt: HostRuntime) {
     for call in [Call::Wake(0), Call::WakeByRef(0)] {
-        for steps in 0..4 {
+        for steps in 0..5 {
             let mut machine = machine_for(&rt, 1);
             answered(&rt, &mut machine, 0, Call::Spawn, &[], Reply::Made);
             polling(&rt, &mut machine, 0);

@@ -1,6 +1,6 @@
 //! The words of these tests: steps, and lists of them.
 use executor_core::{Kind, Machine};
-use executor_model::{Answer, Call, Event, Hint, Reply, Step, StepError, UserEnd};
+use executor_model::{Answer, Call, Event, Hint, Polled, Reply, Step, StepError, UserEnd};
 use std::process::Abort;
 
 pub const AMPLE: Hint = Hint {
@@ -69,10 +69,17 @@ pub fn whole(machine: &mut Machine, party: u32, call: Call, ends: &[UserEnd]) ->
     finish(machine, party, ends)
 }
 
-/// A `TryTick` of this party up to the beginning of a poll.
+/// A `TryTick` of this party up to the beginning of a poll, where nobody sleeps: a future is taken, the flag exchanged, and
+/// the future taken up and out of the table.
 pub fn tick_to_poll(machine: &mut Machine, party: u32) -> bool {
     machine
-        .run(&[begin(party, Call::TryTick), go(party), go(party), go(party)])
+        .run(&[
+            begin(party, Call::TryTick),
+            go(party),
+            go(party),
+            go(party),
+            go(party),
+        ])
         .is_none()
 }
 
@@ -112,6 +119,23 @@ pub fn polls_and_drops(machine: &Machine, future: u64) -> (u64, u64) {
         }
     }
     (polls, drops)
+}
+
+/// How often a waker was called that a poll of this tick was given.
+pub fn calls_of_tick(machine: &Machine, tick: u64) -> u64 {
+    let mut calls = 0u64;
+    for event in machine.trace() {
+        if let Event::WakerCalled {
+            polled: Polled::Tick(t),
+            ..
+        } = event
+        {
+            if *t == tick {
+                calls = calls.saturating_add(1);
+            }
+        }
+    }
+    calls
 }
 
 // Each of these compares in one place what the tests compare often, so that a call of it is cheap to prove.
@@ -164,4 +188,9 @@ pub fn polling<R: Abort>(rt: &R, machine: &mut Machine, party: u32) {
 /// The future was polled, and its drop begun, so many times.
 pub fn polled_and_dropped<R: Abort>(rt: &R, machine: &Machine, future: u64, want: (u64, u64)) {
     assert_eq!(rt; polls_and_drops(machine, future), want, "future {future}");
+}
+
+/// A waker that a poll of the tick was given was called so many times.
+pub fn called<R: Abort>(rt: &R, machine: &Machine, tick: u64, want: u64) {
+    assert_eq!(rt; calls_of_tick(machine, tick), want, "tick {tick}");
 }

@@ -1,12 +1,10 @@
 -- The steps of the calls that only answer, and of a close. n is the number of places, m the mark.
 use Rattle.std.proofs.Common.{◌≡◌, ◌⊎◌, ℕ, ◌+◌, ◌*◌, List, [], ◌∷◌, Option, Some, None, sym, refl, subst}
-use Rattle.queue_steps.specs.declared.steps.bounded.Turn.{Turn}
-use Rattle.queue_steps.specs.declared.steps.bounded.Turn.TheVariants.{Tail, Head, HeadFor, TailFor, TailAgain}
-use Rattle.queue_steps.specs.declared.steps.bounded.Turn.TheVariants.{Close as CloseTurn}
+use Rattle.queue_steps.specs.BoundedTurns.{Turn, Tail, Head, HeadFor, TailFor, TailAgain, Close as CloseTurn, len_turn, is_empty_turn}
+use Rattle.queue_steps.specs.BoundedTurns.{is_full_turn, answered}
 use Rattle.queue_steps.specs.Calls.{Call, Close, Len, IsEmptyCall, IsFullCall, IsClosedCall}
 use Rattle.queue_laws.specs.Moments.{Sight, Progress, AtSome}
 use Rattle.queue_steps.specs.Bounded.{IsShape, word_at, is_marked}
-use Rattle.queue_steps.specs.BoundedTurns.{len_turn, is_empty_turn, is_full_turn, answered}
 use Rattle.queue_laws.specs.BoundedSteps.{Stands, BoundedWorld, with_at, moved, turn_moments}
 use Rattle.queue_laws.proofs.BoundedStamps.{bit}
 use Rattle.queue_laws.proofs.BoundedState.{Ghost, looking, kind_of, sight_of, Knows, Looks, Tied, WasLong, WasSome, WasNotFull}

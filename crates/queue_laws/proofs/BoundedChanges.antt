@@ -2,16 +2,14 @@
 use Rattle.std.proofs.Common.{◌≡◌, inr, ℕ, ◌+◌, ◌*◌, ◌%◌, ◌<◌, ◌≤◌, List, [], ◌∷◌, length, drop, Bool, true, false, not, Option, Some, None}
 use Rattle.std.proofs.Common.{◌==◌, if◌then◌else◌, sym, refl, ap, ◌∙◌, subst, arith}
 use Rattle.queue_steps.specs.declared.bounded.Slot.{Slot}
-use Rattle.queue_steps.specs.declared.steps.bounded.Turn.{Turn}
-use Rattle.queue_steps.specs.declared.steps.bounded.Turn.TheVariants.{Tail, Head, Stamp, HeadFor, TailFor, Append, Take}
-use Rattle.queue_steps.specs.declared.steps.bounded.Turn.TheVariants.{Displace, Advance, Spend, Fill, Drain, End, Close as CloseTurn}
-use Rattle.queue_steps.specs.declared.steps.Reply.TheVariants.{Done, Closed, Yes, No}
+use Rattle.queue_steps.specs.BoundedTurns.{Turn, Tail, Head, Stamp, HeadFor, TailFor, Append, Take, Displace, Advance, Spend, Fill, Drain}
+use Rattle.queue_steps.specs.BoundedTurns.{End, Close as CloseTurn, answered, pushes_from, stamped_for_push, push_turn, force_push_turn}
+use Rattle.queue_steps.specs.BoundedTurns.{pops_from, stamped_for_pop, pop_turn}
+use Rattle.queue_steps.specs.Reply.{Done, Closed, Yes, No}
 use Rattle.queue_steps.specs.ClosableQueue.{most_accepted, appended, shut}
 use Rattle.queue_steps.specs.Calls.{Call, Push, ForcePush, Pop, Close, Answer, WasClosed, Acts}
 use Rattle.queue_laws.specs.Moments.{Does, Sight, Progress, MayBeside, MayEnd, AtSome, WasOpenAndFull}
 use Rattle.queue_steps.specs.Bounded.{IsShape, word_at, next_at, is_marked}
-use Rattle.queue_steps.specs.BoundedTurns.{answered, pushes_from, stamped_for_push, push_turn, force_push_turn, pops_from, stamped_for_pop}
-use Rattle.queue_steps.specs.BoundedTurns.{pop_turn}
 use Rattle.queue_laws.specs.SingleSteps.{answer_of, stored, is_yes}
 use Rattle.queue_laws.specs.BoundedSteps.{Stands, BoundedWorld, with_at, moved, turn_moments, displaced}
 use Rattle.queue_steps.proofs.BoundedWords.{index_of_word}

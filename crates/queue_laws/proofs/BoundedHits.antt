@@ -3,9 +3,8 @@ use Rattle.std.proofs.Common.{◌≡◌, ◌≢◌, ℕ, ◌+◌, ◌*◌, ◌%�
 use Rattle.std.proofs.Common.{if◌then◌else◌, sym, refl, ap, ◌∙◌, subst, arith}
 use Rattle.std.proofs.lemmas.List.{drop-append-le}
 use Rattle.queue_steps.specs.declared.bounded.Slot.{Slot}
-use Rattle.queue_steps.specs.declared.steps.bounded.Turn.{Turn}
-use Rattle.queue_steps.specs.declared.steps.bounded.Turn.TheVariants.{Advance, Fill, Drain}
-use Rattle.queue_steps.specs.declared.steps.Reply.TheVariants.{Done, Displaced}
+use Rattle.queue_steps.specs.BoundedTurns.{Turn, Advance, Fill, Drain}
+use Rattle.queue_steps.specs.Reply.{Done, Displaced}
 use Rattle.queue_steps.specs.ClosableQueue.{ClosableQueue, most_accepted, appended, taken, shut}
 use Rattle.queue_steps.specs.Calls.{Call, ForcePush, Pop, Answer, ForcePushed, Popped, Acts}
 use Rattle.queue_laws.specs.Moments.{Does, Arrives, Progress, sees, becomes, answers, with_call, MayBeside, AtSome, WasOpenAndFull}

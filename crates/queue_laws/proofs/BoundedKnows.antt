@@ -3,7 +3,7 @@ use Rattle.std.proofs.Common.{◌≡◌, ◌≢◌, ◌⊎◌, inl, inr, ℕ, �
 use Rattle.std.proofs.Common.{sym, refl, ap, ◌∙◌, subst, lt_of_not-le, length-drop, arith}
 use mathlib.Core.Logic.{dite}
 use native.Mathlib.Decide.{dec_le}
-use Rattle.queue_steps.specs.declared.steps.bounded.Turn.{Turn}
+use Rattle.queue_steps.specs.BoundedTurns.{Turn}
 use Rattle.queue_steps.specs.Calls.{Call, Answer}
 use Rattle.queue_laws.specs.Moments.{Sight, Progress, AtSome, MayEnd, sees}
 use Rattle.queue_laws.specs.SingleSteps.{answer_of}

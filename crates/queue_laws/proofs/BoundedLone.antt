@@ -2,16 +2,14 @@
 use Rattle.std.proofs.Common.{◌≡◌, ◌⊎◌, inl, inr, ℕ, suc, ◌+◌, ◌*◌, ◌%◌, ◌<◌, ◌≤◌, List, Bool, true, false, nat_lt, Option, None, ◌==◌}
 use Rattle.std.proofs.Common.{if◌then◌else◌, sym, refl, ap, ◌∙◌, subst, eq-eqb, ne_eqb, lt-ltb, arith}
 use Rattle.queue_steps.specs.declared.bounded.Slot.{Slot}
-use Rattle.queue_steps.specs.declared.steps.bounded.Turn.{Turn}
-use Rattle.queue_steps.specs.declared.steps.bounded.Turn.TheVariants.{Tail, Head, Stamp, HeadFor, TailFor, TailAgain, Append, Take}
-use Rattle.queue_steps.specs.declared.steps.bounded.Turn.TheVariants.{Displace, Advance, Spend, Fill, Drain, End, Close as CloseTurn}
-use Rattle.queue_steps.specs.declared.steps.Reply.{Reply}
-use Rattle.queue_steps.specs.declared.steps.Reply.TheVariants.{Done, Displaced, Full, Empty, Closed}
+use Rattle.queue_steps.specs.BoundedTurns.{Turn, Tail, Head, Stamp, HeadFor, TailFor, TailAgain, Append, Take, Displace, Advance, Spend}
+use Rattle.queue_steps.specs.BoundedTurns.{Fill, Drain, End, Close as CloseTurn, pushes_from, appends_at, stamped_for_push, displaces_at}
+use Rattle.queue_steps.specs.BoundedTurns.{pops_from}
+use Rattle.queue_steps.specs.Reply.{Reply, Done, Displaced, Full, Empty, Closed}
 use Rattle.queue_steps.specs.ClosableQueue.{most_accepted}
 use Rattle.queue_steps.specs.Calls.{Call, Push, ForcePush, Pop, Close, Len, IsEmptyCall, IsFullCall, IsClosedCall}
 use Rattle.queue_laws.specs.Moments.{Progress}
 use Rattle.queue_steps.specs.Bounded.{IsShape, word_at, count_at, is_marked}
-use Rattle.queue_steps.specs.BoundedTurns.{pushes_from, appends_at, stamped_for_push, displaces_at, pops_from}
 use Rattle.queue_laws.specs.SingleSteps.{Step, Begin}
 use Rattle.queue_laws.specs.BoundedSteps.{Place, Away, Stands, Leaving, BoundedWorld, with_at, first_turn, gone, stepped, run, new_ring}
 use Rattle.queue_laws.specs.LoneCalls.{goes, EndsOnRing}

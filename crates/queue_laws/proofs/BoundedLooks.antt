@@ -8,17 +8,15 @@ use Rattle.std.proofs.lemmas.Bool.Decides.{nat_tests}
 use Rattle.queue_steps.specs.declared.errors.PushError.TheVariants.{Full as FullToPush, Closed as ClosedToPush}
 use Rattle.queue_steps.specs.declared.errors.PushError.{PushError}
 use Rattle.queue_steps.specs.declared.errors.ForcePushError.{ForcePushError}
-use Rattle.queue_steps.specs.declared.steps.bounded.Turn.{Turn}
-use Rattle.queue_steps.specs.declared.steps.bounded.Turn.TheVariants.{Tail, Head, Stamp, HeadFor, TailFor, TailAgain, Append, Take}
-use Rattle.queue_steps.specs.declared.steps.bounded.Turn.TheVariants.{Displace, Spend, End}
-use Rattle.queue_steps.specs.declared.steps.Reply.TheVariants.{Full, Empty, Closed, Length}
+use Rattle.queue_steps.specs.BoundedTurns.{Turn, Tail, Head, Stamp, HeadFor, TailFor, TailAgain, Append, Take, Displace, Spend, End}
+use Rattle.queue_steps.specs.BoundedTurns.{answered, pushes_from, appends_at, stamped_for_push, push_turn, displaces_at, force_push_turn}
+use Rattle.queue_steps.specs.BoundedTurns.{pops_from, stamped_for_pop, pop_turn, len_turn, is_empty_turn, is_full_turn}
+use Rattle.queue_steps.specs.Reply.{Full, Empty, Closed, Length}
 use Rattle.queue_steps.specs.ClosableQueue.{most_accepted}
 use Rattle.queue_steps.specs.Calls.{Call, Push, ForcePush, Pop, Len, IsEmptyCall, IsFullCall, IsClosedCall, Pushed, ForcePushed, LenIs}
 use Rattle.queue_steps.specs.Calls.{EmptyIs, FullIs, ClosedIs}
 use Rattle.queue_laws.specs.Moments.{Sight, AtSome, MayAnswer, MayBeside, WasOpenAndFull}
 use Rattle.queue_steps.specs.Bounded.{IsShape, word_at, count_at, is_marked}
-use Rattle.queue_steps.specs.BoundedTurns.{answered, pushes_from, appends_at, stamped_for_push, push_turn, displaces_at, force_push_turn}
-use Rattle.queue_steps.specs.BoundedTurns.{pops_from, stamped_for_pop, pop_turn, len_turn, is_empty_turn, is_full_turn}
 use Rattle.queue_laws.specs.SingleSteps.{answer_of}
 use Rattle.queue_steps.proofs.BoundedWords.{index_of_word, count_of_word}
 use Rattle.queue_laws.proofs.BoundedStamps.{bit, marked_is, tail_index, tail_count, bare, marked, one_tail, same_tail, one_slot}

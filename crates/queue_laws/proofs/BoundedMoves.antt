@@ -5,8 +5,8 @@ use Rattle.std.proofs.lemmas.List.{drop-append-le}
 use Rattle.std.proofs.Math.Seq.{drop-append_seam, drop-append-add}
 use mathlib.Core.Logic.{dite}
 use native.Mathlib.Decide.{dec_le}
-use Rattle.queue_steps.specs.declared.steps.bounded.Turn.TheVariants.{Fill, Drain, Advance}
-use Rattle.queue_steps.specs.declared.steps.Reply.TheVariants.{Done, Displaced}
+use Rattle.queue_steps.specs.BoundedTurns.{Fill, Drain, Advance}
+use Rattle.queue_steps.specs.Reply.{Done, Displaced}
 use Rattle.queue_steps.specs.Calls.{Call}
 use Rattle.queue_steps.specs.Bounded.{IsShape, word_at}
 use Rattle.queue_laws.specs.BoundedSteps.{Place, with_at}

@@ -2,7 +2,7 @@
 use Rattle.std.proofs.Common.{◌≡◌, ◌≢◌, ℕ, ◌+◌, ◌*◌, ◌%◌, ◌<◌, ◌≤◌, [], ◌∷◌, Bool, true, false, Option, Some, None, sym, refl, ap, ◌∙◌}
 use Rattle.std.proofs.Common.{subst, arith}
 use Rattle.queue_steps.specs.declared.bounded.Slot.{Slot}
-use Rattle.queue_steps.specs.declared.steps.bounded.Turn.{Turn}
+use Rattle.queue_steps.specs.BoundedTurns.{Turn}
 use Rattle.queue_steps.specs.Calls.{Call, Answer}
 use Rattle.queue_laws.specs.Moments.{Ends, Progress, with_call, MayEnd}
 use Rattle.queue_steps.specs.Bounded.{IsShape, word_at}

@@ -2,8 +2,7 @@
 use Rattle.std.proofs.Common.{◌≡◌, ◌≢◌, ℕ, ◌+◌, ◌%◌, ◌<◌, ◌≤◌, List, [], ◌∷◌, Bool, true, false, Option, Some, None, ◌==◌, if◌then◌else◌}
 use Rattle.std.proofs.Common.{sym, refl, ap, ◌∙◌, subst, mod-lt, arith}
 use Rattle.queue_steps.specs.declared.bounded.Slot.{Slot}
-use Rattle.queue_steps.specs.declared.steps.bounded.Turn.{Turn}
-use Rattle.queue_steps.specs.declared.steps.bounded.Turn.TheVariants.{Tail, Fill, Drain, Advance}
+use Rattle.queue_steps.specs.BoundedTurns.{Turn, Tail, Fill, Drain, Advance}
 use Rattle.queue_steps.specs.Calls.{Call, ForcePush, Answer}
 use Rattle.queue_laws.specs.Moments.{Moment, Ends, Begins, Sight, Progress, Run, sees, with_call, MayEnd, IsFromOther, AtSome, MayAnswer}
 use Rattle.queue_steps.specs.Bounded.{IsShape, word_at}

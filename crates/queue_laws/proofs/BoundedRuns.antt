@@ -5,10 +5,8 @@ use mathlib.Core.Logic.{dite}
 use native.Mathlib.Decide.{dec_le}
 use Rattle.std.proofs.Math.Nat.{mod-eq_of_lt}
 use Rattle.queue_steps.specs.declared.bounded.Slot.{Slot}
-use Rattle.queue_steps.specs.declared.steps.bounded.Turn.{Turn}
-use Rattle.queue_steps.specs.declared.steps.bounded.Turn.TheVariants.{Advance, Fill, Drain, End}
-use Rattle.queue_steps.specs.declared.steps.Reply.{Reply}
-use Rattle.queue_steps.specs.declared.steps.Reply.TheVariants.{Done, Displaced}
+use Rattle.queue_steps.specs.BoundedTurns.{Turn, Advance, Fill, Drain, End}
+use Rattle.queue_steps.specs.Reply.{Reply, Done, Displaced}
 use Rattle.queue_steps.specs.ClosableQueue.{most_accepted}
 use Rattle.queue_steps.specs.Calls.{Call, Push, ForcePush, Pop, Close, Len, IsEmptyCall, IsFullCall, IsClosedCall}
 use Rattle.queue_laws.specs.Moments.{Moment, Scene, Sight, Progress, Run}

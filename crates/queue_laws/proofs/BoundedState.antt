@@ -2,11 +2,9 @@
 use Rattle.std.proofs.Common.{◌≡◌, ◌≢◌, ◌⊎◌, ℕ, ◌+◌, ◌*◌, ◌%◌, ◌<◌, ◌≤◌, List, [], ◌∷◌, length, drop, Bool, true, false, Option, Some, None}
 use Rattle.std.proofs.Common.{if◌then◌else◌}
 use Rattle.queue_steps.specs.declared.bounded.Slot.{Slot}
-use Rattle.queue_steps.specs.declared.steps.bounded.Turn.{Turn}
-use Rattle.queue_steps.specs.declared.steps.bounded.Turn.TheVariants.{Tail, Head, Stamp, HeadFor, TailFor, TailAgain, Append, Take}
-use Rattle.queue_steps.specs.declared.steps.bounded.Turn.TheVariants.{Displace, Advance, Spend, Fill, Drain, End, Close as CloseTurn}
-use Rattle.queue_steps.specs.declared.steps.Reply.{Reply}
-use Rattle.queue_steps.specs.declared.steps.Reply.TheVariants.{Done, Displaced}
+use Rattle.queue_steps.specs.BoundedTurns.{Turn, Tail, Head, Stamp, HeadFor, TailFor, TailAgain, Append, Take, Displace, Advance, Spend}
+use Rattle.queue_steps.specs.BoundedTurns.{Fill, Drain, End, Close as CloseTurn}
+use Rattle.queue_steps.specs.Reply.{Reply, Done, Displaced}
 use Rattle.queue_steps.specs.ClosableQueue.{ClosableQueue, most_accepted}
 use Rattle.queue_steps.specs.Calls.{Call, Push, ForcePush, Pop, Close, Len, IsEmptyCall, IsFullCall, IsClosedCall}
 use Rattle.queue_laws.specs.Moments.{Sight, Progress, Scene, AtSome, MayEnd, WasOpenAndFull}

@@ -1,14 +1,12 @@
 -- What a step on the word of a single slot comes to, in each phase of the slot.
 use Rattle.std.proofs.Common.{◌≡◌, ◌≢◌, ◌⊎◌, inl, inr, ℕ, ◌-◌, [], ◌∷◌, Bool, true, false, not, nat_lt, Option, Some, None, ◌==◌}
 use Rattle.std.proofs.Common.{if◌then◌else◌, option_to_list, sym, refl, ap, ◌∙◌, eq-eqb, arith}
-use Rattle.queue_steps.specs.declared.steps.single.Turn.{Turn}
-use Rattle.queue_steps.specs.declared.steps.single.Turn.TheVariants.{Look, Exchange, Unlock, End, Close as CloseTurn}
-use Rattle.queue_steps.specs.declared.steps.Reply.{Reply}
-use Rattle.queue_steps.specs.declared.steps.Reply.TheVariants.{Done, Displaced}
+use Rattle.queue_steps.specs.SingleTurns.{Turn, Look, Exchange, Unlock, End, Close as CloseTurn, looked_to_push, looked_to_force}
+use Rattle.queue_steps.specs.SingleTurns.{looked_to_pop}
+use Rattle.queue_steps.specs.Reply.{Reply, Done, Displaced}
 use Rattle.queue_steps.specs.Calls.{Call, Push, ForcePush, Pop, Close, Len, IsEmptyCall, IsFullCall, IsClosedCall, Acts}
 use Rattle.queue_laws.specs.Moments.{Sight, MayAnswer}
 use Rattle.std.proofs.lemmas.Bool.Decides.{nat_tests}
-use Rattle.queue_steps.specs.SingleTurns.{looked_to_push, looked_to_force, looked_to_pop}
 use Rattle.queue_laws.specs.SingleSteps.{turn_of, first_turn, answer_of, stored, word_after}
 
 -- nobody has the slot, or the party p has it, which had one thing in it and is to have another, and has it by now or not

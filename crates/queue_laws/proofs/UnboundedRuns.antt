@@ -5,15 +5,14 @@ use Rattle.std.proofs.lemmas.Bool.Decides.{nat_tests}
 use Rattle.queue_steps.specs.declared.errors.PushError.TheVariants.{Closed as ClosedToPush}
 use Rattle.queue_steps.specs.declared.errors.ForcePushError.TheVariants.{Closed as ClosedToForce}
 use Rattle.queue_steps.specs.declared.errors.PopError.TheVariants.{Empty as EmptyToPop, Closed as ClosedToPop}
-use Rattle.queue_steps.specs.declared.steps.unbounded.Turn.{Turn}
-use Rattle.queue_steps.specs.declared.steps.unbounded.Turn.TheVariants.{Append, Link, Take, Unlink, Spend, End, Close as CloseTurn}
+use Rattle.queue_steps.specs.UnboundedTurns.{Turn, Append, Link, Take, Unlink, Spend, End, Close as CloseTurn, push_turn, pop_turn}
+use Rattle.queue_steps.specs.UnboundedTurns.{close_turn, ends_after}
 use Rattle.queue_steps.specs.declared.steps.unbounded.Ends.{Ends}
 use Rattle.queue_steps.specs.ClosableQueue.{ClosableQueue, most_accepted}
 use Rattle.queue_steps.specs.Calls.{Call, Push, ForcePush, Pop, Close, Len, IsEmptyCall, IsFullCall, IsClosedCall, Answer, Pushed}
 use Rattle.queue_steps.specs.Calls.{ForcePushed, Popped, Acts}
 use Rattle.queue_laws.specs.Moments.{Moment, Scene, Sight, Progress, Run, sees, becomes, answers, with_call, MayBeside, MayEnd, IsFromOther}
 use Rattle.queue_steps.specs.Unbounded.{joined, IsLaid, UnboundedAtRest, chain_queue}
-use Rattle.queue_steps.specs.UnboundedTurns.{push_turn, pop_turn, close_turn, ends_after}
 use Rattle.queue_laws.specs.UnboundedSteps.{Place, Away, Calls, Returns, UnboundedWorld, Step, Begin, Go, Section, section, push_section}
 use Rattle.queue_laws.specs.UnboundedSteps.{pop_section, take_section, unlink_section, with_place, stepped, gone, begun, begin_moments}
 use Rattle.queue_laws.specs.UnboundedSteps.{go_moments, moments, run, trace, new_chain, new_scene, IsClosableQueue}

@@ -3,17 +3,14 @@
 use Rattle.std.specs.Prelude.{◌≡◌, ℕ, ◌+◌, ◌*◌, ◌%◌, ◌<◌, ◌^◌, List, [], ◌∷◌, ◌++◌, length, not, Option, Some, None, IsSome, ◌==◌}
 use Rattle.std.specs.Prelude.{if◌then◌else◌}
 use Rattle.queue_steps.specs.declared.bounded.Slot.{Slot}
-use Rattle.queue_steps.specs.declared.steps.bounded.Turn.{Turn}
-use Rattle.queue_steps.specs.declared.steps.bounded.Turn.TheVariants.{Tail, Head, Stamp, HeadFor, Append, Take, Displace, Advance, Spend}
-use Rattle.queue_steps.specs.declared.steps.bounded.Turn.TheVariants.{Fill, Drain, End, Close as CloseTurn}
-use Rattle.queue_steps.specs.declared.steps.Reply.{Reply}
-use Rattle.queue_steps.specs.declared.steps.Reply.TheVariants.{Done, Displaced, Closed}
+use Rattle.queue_steps.specs.BoundedTurns.{Turn, Tail, Head, Stamp, HeadFor, Append, Take, Displace, Advance, Spend, Fill, Drain, End}
+use Rattle.queue_steps.specs.BoundedTurns.{Close as CloseTurn, push_turn, force_push_turn, pop_turn, close_turn, len_turn, is_empty_turn}
+use Rattle.queue_steps.specs.BoundedTurns.{is_full_turn, is_closed_turn}
+use Rattle.queue_steps.specs.Reply.{Reply, Done, Displaced, Closed}
 use Rattle.queue_steps.specs.ClosableQueue.{new_queue}
 use Rattle.queue_steps.specs.Calls.{Call, Push, ForcePush, Pop, Close, Len, IsEmptyCall, IsFullCall, IsClosedCall, WasClosed}
 use Rattle.queue_laws.specs.Moments.{Moment, Begins, Does, Displaces, Arrives, Ends, Scene, Run}
 use Rattle.queue_steps.specs.Bounded.{next_at, advanced_at, count_at, is_marked}
-use Rattle.queue_steps.specs.BoundedTurns.{push_turn, force_push_turn, pop_turn, close_turn, len_turn, is_empty_turn, is_full_turn}
-use Rattle.queue_steps.specs.BoundedTurns.{is_closed_turn}
 use Rattle.queue_laws.specs.SingleSteps.{Step, Begin, Go, answer_of, stored}
 
 -- where a party stands: in no call, before its next step, or after its step in a place, with what it took out, before it

@@ -5,16 +5,13 @@ use Rattle.std.specs.Prelude.{if◌then◌else◌}
 use Rattle.queue_steps.specs.declared.errors.PushError.TheVariants.{Full as FullToPush, Closed as ClosedToPush}
 use Rattle.queue_steps.specs.declared.errors.ForcePushError.TheVariants.{Closed as ClosedToForce}
 use Rattle.queue_steps.specs.declared.errors.PopError.TheVariants.{Empty as EmptyToPop, Closed as ClosedToPop}
-use Rattle.queue_steps.specs.declared.steps.single.Turn.{Turn}
-use Rattle.queue_steps.specs.declared.steps.single.Turn.TheVariants.{Look, Exchange, Unlock, End, Close as CloseTurn}
-use Rattle.queue_steps.specs.declared.steps.Reply.{Reply}
-use Rattle.queue_steps.specs.declared.steps.Reply.TheVariants.{Done, Displaced, Full, Closed, Yes, Length}
+use Rattle.queue_steps.specs.SingleTurns.{Turn, Look, Exchange, Unlock, End, Close as CloseTurn, push_turn, force_push_turn, pop_turn}
+use Rattle.queue_steps.specs.SingleTurns.{close_turn, len_turn, is_empty_turn, is_full_turn, is_closed_turn}
+use Rattle.queue_steps.specs.Reply.{Reply, Done, Displaced, Full, Closed, Yes, Length}
 use Rattle.queue_steps.specs.ClosableQueue.{new_queue}
 use Rattle.queue_steps.specs.Calls.{Call, Push, ForcePush, Pop, Close, Len, IsEmptyCall, IsFullCall, IsClosedCall, Answer, Pushed}
 use Rattle.queue_steps.specs.Calls.{ForcePushed, Popped, WasClosed, LenIs, EmptyIs, FullIs, ClosedIs}
 use Rattle.queue_laws.specs.Moments.{Moment, Begins, Does, Ends, Scene, Run}
-use Rattle.queue_steps.specs.SingleTurns.{push_turn, force_push_turn, pop_turn, close_turn, len_turn, is_empty_turn, is_full_turn}
-use Rattle.queue_steps.specs.SingleTurns.{is_closed_turn}
 
 -- where a party stands: in no call, before its next step on the word, before its step in the slot, or after that with
 -- what it took out, before it unlocks

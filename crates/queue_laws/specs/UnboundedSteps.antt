@@ -3,15 +3,14 @@ use Rattle.std.specs.Prelude.{◌≡◌, ℕ, ◌-◌, List, [], ◌∷◌, ◌+
 use Rattle.queue_steps.specs.declared.errors.PushError.TheVariants.{Closed as ClosedToPush}
 use Rattle.queue_steps.specs.declared.errors.ForcePushError.TheVariants.{Closed as ClosedToForce}
 use Rattle.queue_steps.specs.declared.errors.PopError.TheVariants.{Empty as EmptyToPop, Closed as ClosedToPop}
-use Rattle.queue_steps.specs.declared.steps.unbounded.Turn.{Turn}
-use Rattle.queue_steps.specs.declared.steps.unbounded.Turn.TheVariants.{Append, Link, Take, Unlink, Spend, End, Close as CloseTurn}
+use Rattle.queue_steps.specs.UnboundedTurns.{Turn, Append, Link, Take, Unlink, Spend, End, Close as CloseTurn, push_turn, pop_turn}
+use Rattle.queue_steps.specs.UnboundedTurns.{close_turn, ends_after}
 use Rattle.queue_steps.specs.declared.steps.unbounded.Ends.{Ends}
 use Rattle.queue_steps.specs.ClosableQueue.{new_queue}
 use Rattle.queue_steps.specs.Calls.{Call, Push, ForcePush, Pop, Close, Len, IsEmptyCall, IsFullCall, IsClosedCall, Answer, Pushed}
 use Rattle.queue_steps.specs.Calls.{ForcePushed, Popped, WasClosed, LenIs, EmptyIs, FullIs, ClosedIs}
 use Rattle.queue_laws.specs.Moments.{Moment, Begins, Does, Ends as EndsCall, Scene, Run}
 use Rattle.queue_steps.specs.Unbounded.{onto_last, chain_queue, UnboundedAtRest}
-use Rattle.queue_steps.specs.UnboundedTurns.{push_turn, pop_turn, close_turn, ends_after}
 
 -- where a party stands: in no call, before its section, or after it
 pub data Place (T : Type 0) : Type 0 where

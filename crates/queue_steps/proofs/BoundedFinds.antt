@@ -1,6 +1,6 @@
 -- Where a lone call on a ring comes to by looking.
 use Rattle.std.proofs.Common.{◌≡◌, ◌⊎◌, inl, inr, ℕ, ◌+◌, ◌*◌, ◌%◌, ◌<◌, List, slice_index_or, None, if◌then◌else◌, nat_lt, ◌==◌, Bool}
-use Rattle.std.proofs.Common.{true, false, not, sym, refl, ap, ◌∙◌, subst, lt_of_not-le, lt-ltb, le-ltb, eq-eqb, ne_eqb, mod-lt, zero-mul}
+use Rattle.std.proofs.Common.{true, false, sym, refl, ap, ◌∙◌, subst, lt_of_not-le, lt-ltb, le-ltb, eq-eqb, ne_eqb, mod-lt, zero-mul}
 use Rattle.std.proofs.Common.{arith}
 use mathlib.Core.Logic.{dite}
 use native.Mathlib.Decide.{dec_le}
@@ -8,22 +8,24 @@ use Rattle.std.proofs.lemmas.Bool.Decides.{nat_tests}
 use Rattle.std.proofs.lemmas.List.{get_or_default}
 use native.Mathlib.Nat.{add-mod_right}
 use Rattle.queue_steps.specs.declared.bounded.Slot.{Slot}
-use Rattle.queue_steps.specs.declared.steps.bounded.Turn.{Turn}
-use Rattle.queue_steps.specs.declared.steps.bounded.Turn.TheVariants.{Tail, Head, Stamp, HeadFor, TailFor, Append, Take, Displace, Spend}
-use Rattle.queue_steps.specs.declared.steps.bounded.Turn.TheVariants.{End}
-use Rattle.queue_steps.specs.declared.steps.Reply.TheVariants.{Full, Empty, Closed, Yes}
+use Rattle.queue_steps.specs.Reply.{Empty, Closed}
+use Rattle.queue_steps.specs.BoundedTurns.{Turn, Tail, Head, Stamp, HeadFor, TailFor, Append, Take, Displace, Spend, End}
 use Rattle.queue_steps.specs.ClosableQueue.{most_accepted}
 use Rattle.queue_steps.specs.Bounded.{IsShape, word_at, count_at, is_marked}
-use Rattle.queue_steps.specs.BoundedTurns.{answered, pushes_from, appends_at, stamped_for_push, push_turn, displaces_at, force_push_turn}
-use Rattle.queue_steps.specs.BoundedTurns.{pops_from, stamped_for_pop, pop_turn}
+use Rattle.queue_steps.specs.BoundedTurns.{pushes_from, appends_at, stamped_for_push, displaces_at, force_push_turn}
+use Rattle.queue_steps.specs.BoundedTurns.{stamped_for_pop, pop_turn}
+use Rattle.queue_steps.specs.BoundedCallTurns.{of_push, of_force_push, of_pop}
+use Rattle.queue_steps.specs.declared.steps.bounded.PushTurn.{PushTurn}
+use Rattle.queue_steps.specs.declared.steps.bounded.PushTurn.TheVariants as push
+use Rattle.queue_steps.specs.declared.steps.bounded.ForcePushTurn.{ForcePushTurn}
+use Rattle.queue_steps.specs.declared.steps.bounded.ForcePushTurn.TheVariants as force_push
+use Rattle.queue_steps.specs.declared.steps.bounded.PopTurn.{PopTurn}
+use Rattle.queue_steps.specs.declared.steps.bounded.PopTurn.TheVariants as pop
+use Rattle.queue_steps.proofs.BoundedCallTurns.{closed_is, stamp_is, head_for_is, append_is, spend_is, displace_is, spend_too, take_is, tail_for_is}
+use Rattle.queue_steps.proofs.BoundedCallTurns.{empty_is, closed_to_pop}
 use Rattle.queue_steps.specs.BoundedAtRest.{slot_at, BoundedAtRest}
 use Rattle.queue_steps.specs.BoundedEnds.{PushEnds, ForcePushEnds, PopEnds}
 use Rattle.queue_steps.proofs.BoundedWords.{index_of, marked_by, count_of, index_of_word, count_of_word, word_a_lap_on}
-
--- a close that answers yes found no mark
-pub opens : (marked : Bool) → End Yes ≡ answered (not marked) → marked ≡ false
-opens true e = cc
-opens false e = refl
 
 module _ {T : Type 0} (n m tail head : ℕ) (slots : List (Slot T)) (s : IsShape n m) (r : BoundedAtRest n m tail head slots) where
   pub tail_index : tail % m ≡ r.pushed % n
@@ -141,95 +143,71 @@ module _ {T : Type 0} (n m tail head : ℕ) (slots : List (Slot T)) (s : IsShape
   no_place : r.pushed ≡ r.popped + n → count_at n m tail ≡ count_at n m head + n
   no_place full = let t = tail_count in let h = head_count in omega arith
 
-  pub closed_first : (t : Turn) → t ≡ pushes_from n m tail → ((w : ℕ) → t ≡ Stamp w → ⊥) → (t ≡ End Closed) × (is_marked m tail ≡ true)
-  closed_first t is not =
-      elim (pushes_first t is) as (λ _. (t ≡ End Closed) × (is_marked m tail ≡ true)) [ inl k ↦ k | inr k ↦ absurd (not tail k.0) ]
+  pub closed_first : (t : PushTurn) → of_push t ≡ pushes_from n m tail → ((w : ℕ) → t ≡ push.Stamp w → ⊥) → PushEnds n m tail head t
+  closed_first t is not' = elim (pushes_first (of_push t) is) as (λ _. PushEnds n m tail head t) [
+    | inl k ↦ subst (PushEnds n m tail head) (sym (closed_is t k.0)) k.1
+    | inr k ↦ absurd (not' tail (stamp_is t tail k.0))
+  ]
 
-  pub stamp_first : (t : Turn) (w : ℕ) → t ≡ pushes_from n m tail → t ≡ Stamp w → (t ≡ Stamp tail) × (is_marked m tail ≡ false)
+  stamp_first : (t : PushTurn) (w : ℕ) → of_push t ≡ pushes_from n m tail → t ≡ push.Stamp w → is_marked m tail ≡ false
   stamp_first t w is stamp =
-      elim (pushes_first t is) as (λ _. (t ≡ Stamp tail) × (is_marked m tail ≡ false)) [ inl k ↦ absurd (let e = k.0 in cc) | inr k ↦ k ]
+      let at : of_push t ≡ Stamp w = ap of_push stamp in
+      elim (pushes_first (of_push t) is) as (λ _. is_marked m tail ≡ false) [ inl k ↦ absurd (let e = k.0 in cc) | inr k ↦ k.1 ]
 
-  -- what a push and a forced push found at the stamp
-  pub found_by : (step : Turn → ℕ → Turn) (t u : Turn) (w i : ℕ) (d : Slot T)
-      → ((k : ℕ) → step (Stamp tail) k ≡ stamped_for_push n m tail k)
-      → t ≡ pushes_from n m tail → t ≡ Stamp w → i ≡ tail % m → u ≡ step t (slice_index_or slots i d).stamp
-      → Found u d × (is_marked m tail ≡ false)
-  found_by step t u w i d same is stamp at next =
-      let k = stamp_first t w is stamp in (
-        pushes_second u d k.1 (next ∙ ap (λ (t : Turn). step t (slice_index_or slots i d).stamp) k.0 ∙ same (slice_index_or slots i d).stamp
-            ∙ ap (λ (i : ℕ). stamped_for_push n m tail (slice_index_or slots i d).stamp) at),
-        k.1,
-      )
+  -- what a push found at the tail and at the stamp there
+  pub push_found : (t u : PushTurn) (w i : ℕ) (d : Slot T) → of_push t ≡ pushes_from n m tail → t ≡ push.Stamp w → i ≡ tail % m
+      → of_push u ≡ stamped_for_push n m tail (slice_index_or slots i d).stamp → PushEnds n m tail head u
+  push_found t u w i d is stamp at next =
+      let unmarked = stamp_first t w is stamp in
+      elim (pushes_second (of_push u) d unmarked (next ∙ ap (λ (i : ℕ). stamped_for_push n m tail (slice_index_or slots i d).stamp) at))
+      as (λ _. PushEnds n m tail head u) [
+        | inl k ↦ subst (PushEnds n m tail head) (sym (append_is u tail k.0)) (
+          refl,
+          unmarked,
+          place k.1,
+          subst (λ (x : ℕ). x < most_accepted) (sym tail_count) k.2,
+        )
+        | inr k ↦ elim k as (λ _. PushEnds n m tail head u) [
+          | inl l ↦ subst (PushEnds n m tail head) (sym (spend_is u tail l.0)) (refl, unmarked, place l.1, tail_count ∙ l.2)
+          | inr l ↦ subst (PushEnds n m tail head) (sym (head_for_is u tail l.0)) (refl, unmarked, no_place l.1)
+        ]
+      ]
 
-  pub push_second : (u : Turn) (d : Slot T) → Found u d → is_marked m tail ≡ false → ((w : ℕ) → u ≡ HeadFor w → ⊥)
-      → PushEnds n m tail head u
-  push_second u d found unmarked not = elim found as (λ _. PushEnds n m tail head u) [
-    | inl k ↦ subst (PushEnds n m tail head) (sym k.0) (
-      refl,
-      unmarked,
-      place k.1,
-      subst (λ (x : ℕ). x < most_accepted) (sym tail_count) k.2,
-    )
-    | inr k ↦ elim k as (λ _. PushEnds n m tail head u) [
-      | inl l ↦ subst (PushEnds n m tail head) (sym l.0) (refl, unmarked, place l.1, tail_count ∙ l.2)
-      | inr l ↦ absurd (not tail l.0)
-    ]
-  ]
-
-  -- a place that is still taken leads to the head, a lap behind
-  pub full_second : (u : Turn) (d : Slot T) (w : ℕ) → Found u d → u ≡ HeadFor w → (u ≡ HeadFor tail) × (r.pushed ≡ r.popped + n)
-  full_second u d w found is = elim found as (λ _. (u ≡ HeadFor tail) × (r.pushed ≡ r.popped + n)) [
-    | inl k ↦ absurd (let e = k.0 in cc)
-    | inr k ↦ elim k as (λ _. (u ≡ HeadFor tail) × (r.pushed ≡ r.popped + n)) [ inl l ↦ absurd (let e = l.0 in cc) | inr l ↦ l ]
-  ]
+  -- a forced push goes on as a push where the ring is not full
+  pub force_push_too : (t : PushTurn) → PushEnds n m tail head t → ((w : ℕ) → t ≡ push.HeadFor w → ⊥)
+      → ForcePushEnds n m tail head (force_push.Push t)
+  force_push_too push.Tail ends not' = ends
+  force_push_too (push.Stamp w) ends not' = ends
+  force_push_too (push.HeadFor w) ends not' = absurd (not' w refl)
+  force_push_too (push.Append w) ends not' = ends
+  force_push_too (push.Spend w) ends not' = (ends.0, ends.1, ends.3)
+  force_push_too push.Closed ends not' = ends
 
   behind_by_a_lap : is_marked m tail ≡ false → r.pushed ≡ r.popped + n → (head + 2 * m == tail) ≡ true
   behind_by_a_lap unmarked full = eq-eqb (head + 2 * m) tail (sym (a_lap_ahead unmarked full))
 
-  pub push_third : (u v : Turn) (d : Slot T) (w : ℕ) → Found u d → is_marked m tail ≡ false → u ≡ HeadFor w → v ≡ push_turn n m u head
-      → PushEnds n m tail head v
-  push_third u v d w found unmarked is next =
-      let k = full_second u d w found is in
-      subst (PushEnds n m tail head)
-      (sym (next ∙ ap (λ (t : Turn). push_turn n m t head) k.0
-      ∙ ap (λ (b : Bool). if b then End Full else Tail) (behind_by_a_lap unmarked k.1))) (unmarked, no_place k.1)
-
-  pub force_push_second : (u : Turn) (d : Slot T) → Found u d → is_marked m tail ≡ false → ((w : ℕ) → u ≡ HeadFor w → ⊥)
-      → ForcePushEnds n m tail head u
-  force_push_second u d found unmarked not = elim found as (λ _. ForcePushEnds n m tail head u) [
-    | inl k ↦ subst (ForcePushEnds n m tail head) (sym k.0) (
-      refl,
-      unmarked,
-      place k.1,
-      subst (λ (x : ℕ). x < most_accepted) (sym tail_count) k.2,
-    )
-    | inr k ↦ elim k as (λ _. ForcePushEnds n m tail head u) [
-      | inl l ↦ subst (ForcePushEnds n m tail head) (sym l.0) (refl, unmarked, tail_count ∙ l.2)
-      | inr l ↦ absurd (not tail l.0)
-    ]
-  ]
-
-  displaces : is_marked m tail ≡ false → r.pushed ≡ r.popped + n → (v : Turn) → v ≡ displaces_at n m tail → ForcePushEnds n m tail head v
+  displaces : is_marked m tail ≡ false → r.pushed ≡ r.popped + n → (v : ForcePushTurn) → of_force_push v ≡ displaces_at n m tail
+      → ForcePushEnds n m tail head v
   displaces unmarked full v is = dite (dec_le most_accepted r.pushed)
       (λ spent. subst (ForcePushEnds n m tail head)
-      (sym (is ∙ ap (λ (b : Bool). if b then Displace tail else Spend tail) (ap (λ (k : ℕ). nat_lt k most_accepted) tail_count
-      ∙ le-ltb r.pushed most_accepted spent)))
+      (sym (spend_too v tail (is
+      ∙ ap (λ (b : Bool). if b then Displace tail else Spend tail) (ap (λ (k : ℕ). nat_lt k most_accepted) tail_count
+      ∙ le-ltb r.pushed most_accepted spent))))
       (refl, unmarked, let few = r.few in let t = tail_count in omega arith))
-      (λ not. let few : r.pushed < most_accepted = lt_of_not-le not in
+      (λ not'. let few : r.pushed < most_accepted = lt_of_not-le not' in
       subst (ForcePushEnds n m tail head)
-      (sym (is ∙ ap (λ (b : Bool). if b then Displace tail else Spend tail) (ap (λ (k : ℕ). nat_lt k most_accepted) tail_count
-      ∙ lt-ltb r.pushed most_accepted few)))
+      (sym (displace_is v tail (is
+      ∙ ap (λ (b : Bool). if b then Displace tail else Spend tail) (ap (λ (k : ℕ). nat_lt k most_accepted) tail_count
+      ∙ lt-ltb r.pushed most_accepted few))))
       (refl, unmarked, no_place full, subst (λ (x : ℕ). x < most_accepted) (sym tail_count) few))
 
-  pub force_push_third : (u v : Turn) (d : Slot T) (w : ℕ) → Found u d → is_marked m tail ≡ false → u ≡ HeadFor w
-      → v ≡ force_push_turn n m u head → ForcePushEnds n m tail head v
-  force_push_third u v d w found unmarked is next =
-      let k = full_second u d w found is in
-      displaces unmarked k.1 v (next ∙ ap (λ (t : Turn). force_push_turn n m t head) k.0
-      ∙ ap (λ (b : Bool). if b then displaces_at n m tail else Tail) (behind_by_a_lap unmarked k.1))
-
-  pub pops_first : (t : Turn) → t ≡ pops_from n m head → t ≡ Stamp head
-  pops_first t is = is ∙ ap (λ (b : Bool). if b then Stamp head else Head) (lt-ltb (head % m) n head_below)
+  -- on a full ring it looks at the head
+  pub force_push_found : (u : PushTurn) (v : ForcePushTurn) (w : ℕ) → PushEnds n m tail head u → u ≡ push.HeadFor w
+      → of_force_push v ≡ force_push_turn n m (HeadFor tail) head → ForcePushEnds n m tail head v
+  force_push_found u v w found is next =
+      let k = subst (PushEnds n m tail head) is found in
+      let full : r.pushed ≡ r.popped + n = let e = k.2 in let t = tail_count in let h = head_count in omega arith in
+      displaces k.1 full v (next ∙ ap (λ (b : Bool). if b then displaces_at n m tail else Tail) (behind_by_a_lap k.1 full))
 
   abbrev pub FoundToPop : Turn → Type 0
   FoundToPop u = ((u ≡ Take head) × (r.popped < r.pushed)) ⊎ ((u ≡ TailFor head) × (r.pushed ≡ r.popped))
@@ -269,16 +247,18 @@ module _ {T : Type 0} (n m tail head : ℕ) (slots : List (Slot T)) (s : IsShape
         some,
       ))
 
-  pub pop_found_by : (t u : Turn) (i : ℕ) (d : Slot T) → t ≡ pops_from n m head → i ≡ head % m
-      → u ≡ pop_turn n m t (slice_index_or slots i d).stamp → FoundToPop u
-  pop_found_by t u i d is at next =
-      pops_second u d (next ∙ ap (λ (t : Turn). pop_turn n m t (slice_index_or slots i d).stamp) (pops_first t is)
-      ∙ ap (λ (i : ℕ). stamped_for_pop n m head (slice_index_or slots i d).stamp) at)
+  pub pop_found : (u : PopTurn) (i : ℕ) (d : Slot T) → i ≡ head % m
+      → of_pop u ≡ stamped_for_pop n m head (slice_index_or slots i d).stamp → FoundToPop (of_pop u)
+  pop_found u i d at next =
+      pops_second (of_pop u) d (next ∙ ap (λ (i : ℕ). stamped_for_pop n m head (slice_index_or slots i d).stamp) at)
 
-  pub pop_second : (u : Turn) → FoundToPop u → ((w : ℕ) → u ≡ TailFor w → ⊥) → PopEnds n m tail head u
-  pop_second u found not = elim found as (λ _. PopEnds n m tail head u) [
-    | inl k ↦ subst (PopEnds n m tail head) (sym k.0) (refl, let t = tail_count in let h = head_count in let some = k.1 in omega arith)
-    | inr k ↦ absurd (not head k.0)
+  pub pop_second : (u : PopTurn) → FoundToPop (of_pop u) → ((w : ℕ) → u ≡ pop.TailFor w → ⊥) → PopEnds n m tail head u
+  pop_second u found not' = elim found as (λ _. PopEnds n m tail head u) [
+    | inl k ↦ subst (PopEnds n m tail head) (sym (take_is u head k.0)) (
+      refl,
+      let t = tail_count in let h = head_count in let some = k.1 in omega arith,
+    )
+    | inr k ↦ absurd (not' head (tail_for_is u head k.0))
   ]
 
   tail_for_head : r.pushed ≡ r.popped → tail ≡ head + r.shut * m
@@ -287,26 +267,25 @@ module _ {T : Type 0} (n m tail head : ℕ) (slots : List (Slot T)) (s : IsShape
   counts_meet : r.pushed ≡ r.popped → count_at n m tail ≡ count_at n m head
   counts_meet none = tail_count ∙ none ∙ sym head_count
 
-  pub pop_third : (u v : Turn) (w : ℕ) → FoundToPop u → u ≡ TailFor w → v ≡ pop_turn n m u tail → PopEnds n m tail head v
-  pop_third u v w found is next = elim found as (λ _. PopEnds n m tail head v) [
-    | inl k ↦ absurd (let e = k.0 in cc)
-    | inr k ↦ let e : v ≡ pop_turn n m (TailFor head) tail = next ∙ ap (λ (t : Turn). pop_turn n m t tail) k.0 in
-        by (is_marked m tail) refl k.1 e
-  ]
+  pub pop_third : (u v : PopTurn) (w : ℕ) → FoundToPop (of_pop u) → u ≡ pop.TailFor w → of_pop v ≡ pop_turn n m (TailFor head) tail
+      → PopEnds n m tail head v
+  pop_third u v w found is next =
+      let at : of_pop u ≡ TailFor w = ap of_pop is in
+      elim found as (λ _. PopEnds n m tail head v) [ inl k ↦ absurd (let e = k.0 in cc) | inr k ↦ by (is_marked m tail) refl k.1 ]
     where
-      by : (b : Bool) → is_marked m tail ≡ b → r.pushed ≡ r.popped → v ≡ pop_turn n m (TailFor head) tail → PopEnds n m tail head v
-      by false unmarked none e =
+      by : (b : Bool) → is_marked m tail ≡ b → r.pushed ≡ r.popped → PopEnds n m tail head v
+      by false unmarked none =
           let same : tail ≡ head = tail_for_head none ∙ ap (λ (k : ℕ). head + k * m) (unmarked_is unmarked) ∙ (omega (arith, zero-mul m)) in
           subst (PopEnds n m tail head)
-          (sym (e ∙ ap (λ (b : Bool). if b then End Empty else (if tail == head + m then End Closed else Head))
-          (eq-eqb tail head same)))
+          (sym (empty_is v (next ∙ ap (λ (b : Bool). if b then End Empty else (if tail == head + m then End Closed else Head))
+          (eq-eqb tail head same))))
           (counts_meet none, unmarked)
-      by true marked none e =
+      by true marked none =
           let one : r.shut ≡ 1 = let once = r.shut_once in let told = sym tail_marked ∙ marked in grind (arith, nat_tests) in
           let same : tail ≡ head + m = tail_for_head none ∙ ap (λ (k : ℕ). head + k * m) one ∙ omega arith in
           let some : 0 < n = s.some in let above : n < m = s.above in
-          subst (PopEnds n m tail head) (sym (e
+          subst (PopEnds n m tail head) (sym (closed_to_pop v (next
           ∙ ap (λ (b : Bool). if b then End Empty else (if tail == head + m then End Closed else Head))
           (ne_eqb tail head (λ e. absurd (omega arith)))
-          ∙ ap (λ (b : Bool). if b then End Closed else Head) (eq-eqb tail (head + m) same)))
+          ∙ ap (λ (b : Bool). if b then End Closed else Head) (eq-eqb tail (head + m) same))))
           (counts_meet none, marked)

@@ -1,4 +1,5 @@
 pub mod BoundedEmpty
+pub mod BoundedCallTurns
 pub mod BoundedFinds
 pub mod BoundedFresh
 pub mod BoundedMasks

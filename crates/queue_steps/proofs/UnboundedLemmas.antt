@@ -4,11 +4,10 @@ use Rattle.std.proofs.Common.{Option, Some, None, sym, refl, ap, ◌∙◌, subs
 use Rattle.std.proofs.lemmas.List.{append-nil, length_push}
 use Rattle.std.proofs.lemmas.Bool.Decides.{nat_tests}
 use Rattle.std.specs.Option.{ForSome}
-use Rattle.queue_steps.specs.declared.steps.unbounded.Turn.TheVariants.{Append, Link}
 use Rattle.queue_steps.specs.declared.steps.unbounded.Ends.{Ends}
 use Rattle.queue_steps.specs.ClosableQueue.{most_accepted, appended}
 use Rattle.queue_steps.specs.Unbounded.{joined, IsLaid, UnboundedAtRest, chain_queue, onto_last, LastHasRoom}
-use Rattle.queue_steps.specs.UnboundedTurns.{push_turn, ends_after}
+use Rattle.queue_steps.specs.UnboundedTurns.{Append, Link, push_turn, ends_after}
 
 module _ {T : Type 0} where
   pub one_block_or_more : (bs : List (List T)) → LastHasRoom bs → suc (length bs - 1) ≡ length bs

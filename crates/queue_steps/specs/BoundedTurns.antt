@@ -1,11 +1,40 @@
 -- What a call on a ring does next, by the word that it found. n is the number of places, m the mark, and a lap is 2 * m.
 use Rattle.std.specs.Prelude.{ℕ, ◌+◌, ◌-◌, ◌*◌, ◌%◌, Bool, not, nat_lt, ◌==◌, ◌||◌, if◌then◌else◌}
-use Rattle.queue_steps.specs.declared.steps.bounded.Turn.{Turn}
-use Rattle.queue_steps.specs.declared.steps.bounded.Turn.TheVariants.{Tail, Head, Stamp, HeadFor, TailFor, TailAgain, Append, Take}
-use Rattle.queue_steps.specs.declared.steps.bounded.Turn.TheVariants.{Displace, Advance, Spend, Close, Fill, Drain, End}
-use Rattle.queue_steps.specs.declared.steps.Reply.TheVariants.{Done, Displaced, Full, Empty, Closed, Yes, No, Length}
+use Rattle.queue_steps.specs.Reply.{Reply, Done, Displaced, Full, Empty, Closed, Yes, No, Length}
 use Rattle.queue_steps.specs.ClosableQueue.{most_accepted}
 use Rattle.queue_steps.specs.Bounded.{count_at, is_marked}
+
+-- what a call of any kind does next
+pub data Turn : Type 0 where
+  -- load the tail, or the head
+  Tail : Turn
+  Head : Turn
+  -- load the stamp of the place at this tail or head
+  Stamp : ℕ → Turn
+  -- load the head, since the place at this tail still has the item of a lap before
+  HeadFor : ℕ → Turn
+  -- load the tail, since nothing is in the place at this head
+  TailFor : ℕ → Turn
+  -- load the tail again, which was the first word while the head was the second
+  TailAgain : ℕ → ℕ → Turn
+  -- exchange this tail for the next one: the append
+  Append : ℕ → Turn
+  -- exchange this head for the next one: the take
+  Take : ℕ → Turn
+  -- exchange the head of a lap before this tail for the next one: the displacement, a take that owes an append
+  Displace : ℕ → Turn
+  -- move the tail on from this one, and keep its mark: the append that a displacement owes
+  Advance : ℕ → Turn
+  -- exchange this tail for itself with the mark: the push of one item too many closes the ring
+  Spend : ℕ → Turn
+  -- set the mark, whatever the tail is: the close
+  Close : Turn
+  -- the place at this tail is the call's own: write or swap there, and set its stamp to one more than this tail
+  Fill : ℕ → Reply → Turn
+  -- the place at this head is the call's own: read there, and set its stamp to a lap more than this head
+  Drain : ℕ → Turn
+  -- the call has ended
+  End : Reply → Turn
 
 abbrev pub answered : Bool → Turn
 answered told = End (if told then Yes else No)
@@ -80,15 +109,21 @@ module _ (n m : ℕ) where
   len_turn turn found = turn
 
   -- the head, and then the tail
+  abbrev pub looks_empty : ℕ → ℕ → Bool
+  looks_empty head tail = (tail == head) || (tail == head + m)
+
   abbrev pub is_empty_turn : Turn → ℕ → Turn
   is_empty_turn Head found = TailFor found
-  is_empty_turn (TailFor head) found = answered ((found == head) || (found == head + m))
+  is_empty_turn (TailFor head) found = answered (looks_empty head found)
   is_empty_turn turn found = turn
 
   -- the tail, and then the head
+  abbrev pub looks_full : ℕ → ℕ → Bool
+  looks_full tail head = (head + 2 * m == tail) || (head + 3 * m == tail)
+
   abbrev pub is_full_turn : Turn → ℕ → Turn
   is_full_turn Tail found = HeadFor found
-  is_full_turn (HeadFor tail) found = answered ((found + 2 * m == tail) || (found + 3 * m == tail))
+  is_full_turn (HeadFor tail) found = answered (looks_full tail found)
   is_full_turn turn found = turn
 
   abbrev pub is_closed_turn : Turn → ℕ → Turn

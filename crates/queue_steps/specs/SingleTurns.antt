@@ -1,8 +1,19 @@
 -- What a call on a single slot does next, by the word that it found. The word is a sum: locked 1, pushed 2, closed 4.
 use Rattle.std.specs.Prelude.{ℕ, ◌+◌, ◌-◌, ◌%◌, Bool, true, false, nat_lt, ◌==◌, if◌then◌else◌}
-use Rattle.queue_steps.specs.declared.steps.single.Turn.{Turn}
-use Rattle.queue_steps.specs.declared.steps.single.Turn.TheVariants.{Look, Exchange, Unlock, Close, End}
-use Rattle.queue_steps.specs.declared.steps.Reply.TheVariants.{Done, Displaced, Full, Empty, Closed, Yes, No, Length}
+use Rattle.queue_steps.specs.Reply.{Reply, Done, Displaced, Full, Empty, Closed, Yes, No, Length}
+
+-- what a call of any kind does next
+pub data Turn : Type 0 where
+  -- load the word
+  Look : Turn
+  -- exchange the first word for the second, which locks the slot: the append, the take or the displacement
+  Exchange : ℕ → ℕ → Turn
+  -- the slot is the call's own: write, read or swap there, and then take the lock off the word
+  Unlock : Reply → Turn
+  -- set the closed mark, whatever else the word has
+  Close : Turn
+  -- the call has ended
+  End : Reply → Turn
 
 abbrev pub answered : Bool → Turn
 answered told = End (if told then Yes else No)

@@ -1,10 +1,25 @@
 -- What the section of a call on a chain does, by the chain's ends. A block has room for 31 items.
 use Rattle.std.specs.Prelude.{◌+◌, ◌%◌, true, nat_lt, nat_le, ◌==◌, if◌then◌else◌}
-use Rattle.queue_steps.specs.declared.steps.unbounded.Turn.{Turn}
-use Rattle.queue_steps.specs.declared.steps.unbounded.Turn.TheVariants.{Append, Link, Take, Unlink, Spend, Close, End}
 use Rattle.queue_steps.specs.declared.steps.unbounded.Ends.{Ends}
-use Rattle.queue_steps.specs.declared.steps.Reply.TheVariants.{Empty, Closed, No}
+use Rattle.queue_steps.specs.Reply.{Reply, Empty, Closed, No}
 use Rattle.queue_steps.specs.ClosableQueue.{most_accepted}
+
+-- what the section of a call of any kind does
+pub data Turn : Type 0 where
+  -- append to the last block
+  Append : Turn
+  -- link a new block, and append to it
+  Link : Turn
+  -- take the first item of the first block
+  Take : Turn
+  -- take the only item that is left of the first block, and unlink the block
+  Unlink : Turn
+  -- close the chain in place of the append of one item too many
+  Spend : Turn
+  -- close the chain
+  Close : Turn
+  -- change nothing
+  End : Reply → Turn
 
 abbrev pub push_turn : Ends → Turn
 push_turn ends =

@@ -1,15 +1,13 @@
 //! A ring of places.
-ghost use Rattle.std.specs.Prelude.{◌≡◌, ℕ, Bool, ◌<◌, ◌+◌, ◌*◌, ◌%◌, ◌^◌, [], None, Some, IsSome, OnOk, IfOk, vec_len, All};
+ghost use Rattle.std.specs.Prelude.{◌≡◌, ◌<◌, ◌+◌, ◌*◌, ◌%◌, ◌^◌, [], None, Some, IsSome, OnOk, IfOk, vec_len, All};
 ghost use Rattle.queue_steps.specs.ClosableQueue.{new_queue};
 ghost use Rattle.queue_steps.specs.Bounded.{IsPlaceWord, next_at};
 ghost use Rattle.queue_steps.specs.BoundedAtRest.{BoundedAtRest, AreFresh, slot_at, filled_at, emptied_at};
-ghost use Rattle.queue_steps.specs.BoundedTurns.{answered};
 ghost use Rattle.queue_steps.specs.BoundedEnds.{PushEnds, ForcePushEnds, PopEnds};
 
 use crate::errors::{ForcePushError, NoMemory, PopError, PushError};
 use crate::representation::Representation;
-use crate::steps::Reply;
-use crate::steps::bounded::{self as steps, Shape, Turn};
+use crate::steps::bounded::{self as steps, ForcePushTurn, PopTurn, PushTurn, Shape};
 use std::alloc::Global;
 use std::marker::Model;
 
@@ -41,64 +39,39 @@ impl<T> Model for Bounded<T> {
     ghost invariant = { λ r. BoundedAtRest r.shape.capacity r.shape.mark r.tail r.head r.slots.items };
 }
 
-// What a push does once it has looked at the words of a ring.
-fn find_push<T>(shape: Shape, tail: u64, head: u64, slots: &[Slot<T>]) -> Turn
+// What a push does once it has looked at the tail and at the stamp there. A place that still has an item is on a full ring.
+fn find_push<T>(shape: Shape, tail: u64, head: u64, slots: &[Slot<T>]) -> PushTurn
     requires { BoundedAtRest shape.capacity shape.mark tail head slots.now }
     ensures { PushEnds shape.capacity shape.mark tail head result }
 {
-    let turn = steps::push(shape, Turn::Tail, tail);
-    let Turn::Stamp(_) = turn else {
+    let turn = steps::push_at_tail(shape, tail);
+    let PushTurn::Stamp(_) = turn else {
         return turn;
     };
-    let turn = steps::push(shape, turn, slots[shape.index(tail) as usize].stamp);
-    let Turn::HeadFor(_) = turn else {
-        return turn;
-    };
-    steps::push(shape, turn, head)
+    steps::push_at_stamp(shape, tail, slots[shape.index(tail) as usize].stamp)
 }
 
-// What a forced push does once it has looked at the words of a ring.
-fn find_force_push<T>(shape: Shape, tail: u64, head: u64, slots: &[Slot<T>]) -> Turn
+// The same of a forced push, which looks at the head of a full ring too.
+fn find_force_push<T>(shape: Shape, tail: u64, head: u64, slots: &[Slot<T>]) -> ForcePushTurn
     requires { BoundedAtRest shape.capacity shape.mark tail head slots.now }
     ensures { ForcePushEnds shape.capacity shape.mark tail head result }
 {
-    let turn = steps::force_push(shape, Turn::Tail, tail);
-    let Turn::Stamp(_) = turn else {
-        return turn;
-    };
-    let turn = steps::force_push(shape, turn, slots[shape.index(tail) as usize].stamp);
-    let Turn::HeadFor(_) = turn else {
-        return turn;
-    };
-    steps::force_push(shape, turn, head)
+    match find_push(shape, tail, head, slots) {
+        PushTurn::HeadFor(_) => steps::force_push_at_head(shape, tail, head),
+        turn => ForcePushTurn::Push(turn),
+    }
 }
 
 // What a pop does once it has looked at the words of a ring.
-fn find_pop<T>(shape: Shape, tail: u64, head: u64, slots: &[Slot<T>]) -> Turn
+fn find_pop<T>(shape: Shape, tail: u64, head: u64, slots: &[Slot<T>]) -> PopTurn
     requires { BoundedAtRest shape.capacity shape.mark tail head slots.now }
     ensures { PopEnds shape.capacity shape.mark tail head result }
 {
-    let turn = steps::pop(shape, Turn::Head, head);
-    let turn = steps::pop(shape, turn, slots[shape.index(head) as usize].stamp);
-    let Turn::TailFor(_) = turn else {
+    let turn = steps::pop_at_stamp(shape, head, slots[shape.index(head) as usize].stamp);
+    let PopTurn::TailFor(_) = turn else {
         return turn;
     };
-    steps::pop(shape, turn, tail)
-}
-
-fn is_yes(turn: Turn) -> bool
-    ensures { (told : Bool) → turn ≡ answered told → result ≡ told }
-{
-    matches!(turn, Turn::End(Reply::Yes))
-}
-
-fn length_in(turn: Turn) -> u64
-    ensures { (len : ℕ) → turn ≡ Turn.End (Reply.Length len) → result ≡ len }
-{
-    match turn {
-        Turn::End(Reply::Length(len)) => len,
-        _ => 0,
-    }
+    steps::pop_at_tail(shape, head, tail)
 }
 
 // Moves the tail on, and fills the place that it named. What was in that place comes back.
@@ -195,70 +168,70 @@ impl<T> Representation<T> for Bounded<T> {
 
     fn push(&mut self, value: T) -> Result<(), PushError<T>> {
         match find_push(self.shape, self.tail, self.head, &self.slots) {
-            Turn::Append(_) => match append(self.shape, &mut self.tail, &mut self.slots, value) {
-                None => Ok(()),
-                Some(_) => unreachable!(),
-            },
-            Turn::Spend(_) => {
+            PushTurn::Append(_) => {
+                match append(self.shape, &mut self.tail, &mut self.slots, value) {
+                    None => Ok(()),
+                    Some(_) => unreachable!(),
+                }
+            }
+            PushTurn::Spend(_) => {
                 self.tail += self.shape.mark;
                 Err(PushError::Closed(value))
             }
-            Turn::End(Reply::Full) => Err(PushError::Full(value)),
-            _ => Err(PushError::Closed(value)),
+            PushTurn::HeadFor(_) => Err(PushError::Full(value)),
+            PushTurn::Closed => Err(PushError::Closed(value)),
+            PushTurn::Tail | PushTurn::Stamp(_) => unreachable!(),
         }
     }
 
     fn force_push(&mut self, value: T) -> Result<Option<T>, ForcePushError<T>> {
         match find_force_push(self.shape, self.tail, self.head, &self.slots) {
-            Turn::Append(_) => Ok(append(self.shape, &mut self.tail, &mut self.slots, value)),
-            Turn::Displace(_) => {
+            ForcePushTurn::Push(PushTurn::Append(_)) => {
+                Ok(append(self.shape, &mut self.tail, &mut self.slots, value))
+            }
+            ForcePushTurn::Displace(_) => {
                 self.head = self.shape.next(self.head);
                 Ok(append(self.shape, &mut self.tail, &mut self.slots, value))
             }
-            Turn::Spend(_) => {
+            ForcePushTurn::Push(PushTurn::Spend(_)) => {
                 self.tail += self.shape.mark;
                 Err(ForcePushError::Closed(value))
             }
-            _ => Err(ForcePushError::Closed(value)),
+            ForcePushTurn::Push(_) => Err(ForcePushError::Closed(value)),
         }
     }
 
     fn pop(&mut self) -> Result<T, PopError> {
         match find_pop(self.shape, self.tail, self.head, &self.slots) {
-            Turn::Take(_) => Ok(take(self.shape, &mut self.head, &mut self.slots).unwrap()),
-            Turn::End(Reply::Closed) => Err(PopError::Closed),
-            _ => Err(PopError::Empty),
+            PopTurn::Take(_) => Ok(take(self.shape, &mut self.head, &mut self.slots).unwrap()),
+            PopTurn::Empty => Err(PopError::Empty),
+            PopTurn::Closed => Err(PopError::Closed),
+            PopTurn::Head | PopTurn::Stamp(_) | PopTurn::TailFor(_) => unreachable!(),
         }
     }
 
     fn close(&mut self) -> bool {
-        match steps::close(self.shape, Turn::Close, self.tail) {
-            Turn::End(Reply::Yes) => {
-                self.tail += self.shape.mark;
-                true
-            }
-            _ => false,
+        let first = steps::close(self.shape, self.tail);
+        if first {
+            self.tail += self.shape.mark;
         }
+        first
     }
 
     fn len(&self) -> usize {
-        let turn = steps::len(self.shape, Turn::Tail, self.tail);
-        let turn = steps::len(self.shape, turn, self.head);
-        length_in(steps::len(self.shape, turn, self.tail)) as usize
+        steps::len(self.shape, self.tail, self.head) as usize
     }
 
     fn is_empty(&self) -> bool {
-        let turn = steps::is_empty(self.shape, Turn::Head, self.head);
-        is_yes(steps::is_empty(self.shape, turn, self.tail))
+        steps::is_empty(self.shape, self.head, self.tail)
     }
 
     fn is_full(&self) -> bool {
-        let turn = steps::is_full(self.shape, Turn::Tail, self.tail);
-        is_yes(steps::is_full(self.shape, turn, self.head))
+        steps::is_full(self.shape, self.tail, self.head)
     }
 
     fn is_closed(&self) -> bool {
-        is_yes(steps::is_closed(self.shape, Turn::Tail, self.tail))
+        steps::is_closed(self.shape, self.tail)
     }
 
     fn capacity(&self) -> Option<usize>

@@ -4,8 +4,7 @@ ghost use Rattle.queue_steps.specs.ClosableQueue.{new_queue};
 
 use crate::errors::{ForcePushError, PopError, PushError};
 use crate::representation::Representation;
-use crate::steps::Reply;
-use crate::steps::single::{self as steps, Turn};
+use crate::steps::single::{self as steps, ForcePushTurn, PopTurn, PushTurn};
 use std::marker::Model;
 
 /// The word of a single slot, and the slot.
@@ -61,45 +60,48 @@ impl<T> Representation<T> for Single<T> {
     ghost queue = { λ q. q };
 
     fn push(&mut self, value: T) -> Result<(), PushError<T>> {
-        match steps::push(Turn::Look, self.word) {
-            Turn::Exchange(_, locked) => {
+        match steps::push(self.word) {
+            PushTurn::Exchange(_, locked) => {
                 self.word = locked;
                 fill(&mut self.slot, value);
                 self.word -= steps::LOCKED;
                 Ok(())
             }
-            Turn::End(Reply::Full) => Err(PushError::Full(value)),
-            _ => Err(PushError::Closed(value)),
+            PushTurn::Full => Err(PushError::Full(value)),
+            PushTurn::Closed => Err(PushError::Closed(value)),
+            PushTurn::Look => unreachable!(),
         }
     }
 
     fn force_push(&mut self, value: T) -> Result<Option<T>, ForcePushError<T>> {
-        match steps::force_push(Turn::Look, self.word) {
-            Turn::Exchange(_, locked) => {
+        match steps::force_push(self.word) {
+            ForcePushTurn::Exchange(_, locked) => {
                 self.word = locked;
                 let displaced = self.slot.replace(value);
                 self.word -= steps::LOCKED;
                 Ok(displaced)
             }
-            _ => Err(ForcePushError::Closed(value)),
+            ForcePushTurn::Closed => Err(ForcePushError::Closed(value)),
+            ForcePushTurn::Look => unreachable!(),
         }
     }
 
     fn pop(&mut self) -> Result<T, PopError> {
-        match steps::pop(Turn::Look, self.word) {
-            Turn::Exchange(_, locked) => {
+        match steps::pop(self.word) {
+            PopTurn::Exchange(_, locked) => {
                 self.word = locked;
                 let item = self.slot.take();
                 self.word -= steps::LOCKED;
                 Ok(item.unwrap())
             }
-            Turn::End(Reply::Closed) => Err(PopError::Closed),
-            _ => Err(PopError::Empty),
+            PopTurn::Empty => Err(PopError::Empty),
+            PopTurn::Closed => Err(PopError::Closed),
+            PopTurn::Look => unreachable!(),
         }
     }
 
     fn close(&mut self) -> bool {
-        let first = matches!(steps::close(Turn::Close, self.word), Turn::End(Reply::Yes));
+        let first = steps::close(self.word);
         if first {
             self.word += steps::CLOSED;
         }
@@ -107,28 +109,19 @@ impl<T> Representation<T> for Single<T> {
     }
 
     fn len(&self) -> usize {
-        match steps::len(Turn::Look, self.word) {
-            Turn::End(Reply::Length(len)) => len as usize,
-            _ => unreachable!(),
-        }
+        steps::len(self.word) as usize
     }
 
     fn is_empty(&self) -> bool {
-        matches!(
-            steps::is_empty(Turn::Look, self.word),
-            Turn::End(Reply::Yes)
-        )
+        steps::is_empty(self.word)
     }
 
     fn is_full(&self) -> bool {
-        matches!(steps::is_full(Turn::Look, self.word), Turn::End(Reply::Yes))
+        steps::is_full(self.word)
     }
 
     fn is_closed(&self) -> bool {
-        matches!(
-            steps::is_closed(Turn::Look, self.word),
-            Turn::End(Reply::Yes)
-        )
+        steps::is_closed(self.word)
     }
 
     fn capacity(&self) -> Option<usize>

@@ -6,8 +6,7 @@ ghost use Rattle.queue_steps.specs.ClosableQueue.{new_queue};
 
 use crate::errors::{ForcePushError, PopError, PushError};
 use crate::representation::Representation;
-use crate::steps::Reply;
-use crate::steps::unbounded::{self as steps, BLOCK, Ends, Turn};
+use crate::steps::unbounded::{self as steps, BLOCK, Ends, PopTurn, PushTurn};
 use std::alloc::{AllocError, Global};
 use std::collections::VecDeque;
 use std::marker::Model;
@@ -178,24 +177,24 @@ impl<T> Representation<T> for Unbounded<T> {
     ghost queue = { λ q. q };
 
     fn push(&mut self, value: T) -> Result<(), PushError<T>> {
-        let turn = steps::push(self.ends);
-        match turn {
-            Turn::Append => {
+        match steps::push(self.ends) {
+            PushTurn::Append => {
                 push_onto_last(&mut self.blocks, value);
-                self.ends = self.ends.after(turn);
+                self.ends = self.ends.appended();
                 Ok(())
             }
-            Turn::Link => match link(&mut self.blocks, &mut self.spare, self.alloc, value) {
+            PushTurn::Link => match link(&mut self.blocks, &mut self.spare, self.alloc, value) {
                 Ok(()) => {
-                    self.ends = self.ends.after(turn);
+                    self.ends = self.ends.appended();
                     Ok(())
                 }
                 Err(value) => Err(PushError::NoMemory(value)),
             },
-            _ => {
-                self.ends = self.ends.after(turn);
+            PushTurn::Spend => {
+                self.ends = self.ends.shut();
                 Err(PushError::Closed(value))
             }
+            PushTurn::Closed => Err(PushError::Closed(value)),
         }
     }
 
@@ -210,21 +209,20 @@ impl<T> Representation<T> for Unbounded<T> {
     }
 
     fn pop(&mut self) -> Result<T, PopError> {
-        let turn = steps::pop(self.ends);
-        let item = match turn {
-            Turn::Take => take_first(&mut self.blocks),
-            Turn::Unlink => unlink(&mut self.blocks, &mut self.spare),
-            Turn::End(Reply::Closed) => return Err(PopError::Closed),
-            _ => return Err(PopError::Empty),
+        let item = match steps::pop(self.ends) {
+            PopTurn::Take => take_first(&mut self.blocks),
+            PopTurn::Unlink => unlink(&mut self.blocks, &mut self.spare),
+            PopTurn::Empty => return Err(PopError::Empty),
+            PopTurn::Closed => return Err(PopError::Closed),
         };
-        self.ends = self.ends.after(turn);
+        self.ends = self.ends.taken();
         Ok(item)
     }
 
     fn close(&mut self) -> bool {
-        let turn = steps::close(self.ends);
-        self.ends = self.ends.after(turn);
-        matches!(turn, Turn::Close)
+        let first = steps::close(self.ends);
+        self.ends = self.ends.shut();
+        first
     }
 
     fn len(&self) -> usize {

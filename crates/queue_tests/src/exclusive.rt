@@ -3,8 +3,7 @@ ghost use Rattle.std.specs.Prelude.{◌<◌};
 
 use crate::calls::{Call, answers};
 use crate::words::{debugs, holds, prints, same};
-use concurrent_queue::steps::Reply;
-use concurrent_queue::steps::bounded::{self as ring, Shape, Turn};
+use concurrent_queue::steps::bounded::{self as ring, ForcePushTurn, Shape};
 use concurrent_queue::{Exclusive, ForcePushError, NoMemory, PopError, PushError};
 use std::alloc::AllocGlobal;
 use std::process::Abort;
@@ -239,11 +238,9 @@ fn a_forced_push_keeps_a_close_that_came_in_between(rt: HostRuntime) {
         mark: 4,
         bits: 2,
     };
-    let turn = ring::force_push(shape, Turn::Displace(9), 1);
-    holds(&rt, matches!(turn, Turn::Advance(9)));
+    let turn = ring::force_push_at_head(shape, 9, 1);
+    holds(&rt, matches!(turn, ForcePushTurn::Displace(9)));
     same(&rt, (shape.advance(9, 9), shape.advance(9, 13)), (16, 20));
-    let turn = ring::force_push(shape, turn, 13);
-    holds(&rt, matches!(turn, Turn::Fill(9, Reply::Displaced)));
 }
 
 #[test]

@@ -44,6 +44,9 @@ IsSpelled-one (plain.Poll name) (plain.Poll name') words p q = cc
 IsSpelled-one (plain.Cancel name) (plain.Cancel name') words p q = cc
 IsSpelled-one (plain.Detach name) (plain.Detach name') words p q = cc
 IsSpelled-one (plain.Drop name) (plain.Drop name') words p q = cc
+IsSpelled-one (plain.Tick name) (plain.Tick name') words p q = cc
+IsSpelled-one (plain.PollTick name) (plain.PollTick name') words p q = cc
+IsSpelled-one (plain.DropTick name) (plain.DropTick name') words p q = cc
 IsSpelled-one plain.End plain.End words p q = refl
 IsSpelled-one plain other words p q = grind arith
 

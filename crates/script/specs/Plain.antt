@@ -3,7 +3,7 @@ use Rattle.std.specs.Prelude.{◌≡◌, ℕ, List, [], ◌∷◌, codes}
 use Rattle.script.specs.Name.{IsName}
 use Rattle.script.specs.Item.{AreItems}
 use Rattle.script.specs.declared.plain.Plain.{Plain}
-use Rattle.script.specs.declared.plain.Plain.TheVariants.{Spawn, Try, Empty, Wake, Unkeep, Poll, Cancel, Detach, Drop, End}
+use Rattle.script.specs.declared.plain.Plain.TheVariants.{Spawn, Try, Empty, Wake, Unkeep, Poll, Cancel, Detach, Drop, Tick, PollTick, DropTick, End}
 use Rattle.script.specs.declared.word.Word.{Word}
 use Rattle.script.specs.declared.word.Word.TheVariants as word
 
@@ -22,6 +22,9 @@ IsSpelled (Poll name) words = (words ≡ codes "poll" ∷ name ∷ []) × IsName
 IsSpelled (Cancel name) words = (words ≡ codes "cancel" ∷ name ∷ []) × IsName name
 IsSpelled (Detach name) words = (words ≡ codes "detach" ∷ name ∷ []) × IsName name
 IsSpelled (Drop name) words = (words ≡ codes "drop" ∷ name ∷ []) × IsName name
+IsSpelled (Tick name) words = (words ≡ codes "tick" ∷ name ∷ []) × IsName name
+IsSpelled (PollTick name) words = (words ≡ codes "polltick" ∷ name ∷ []) × IsName name
+IsSpelled (DropTick name) words = (words ≡ codes "droptick" ∷ name ∷ []) × IsName name
 IsSpelled End words = words ≡ codes "end" ∷ []
 
 -- the word under which a command's answer is printed
@@ -35,4 +38,7 @@ word_of (Poll name) = word.Poll
 word_of (Cancel name) = word.Cancel
 word_of (Detach name) = word.Detach
 word_of (Drop name) = word.Drop
+word_of (Tick name) = word.Tick
+word_of (PollTick name) = word.PollTick
+word_of (DropTick name) = word.DropTick
 word_of End = word.End

@@ -32,6 +32,12 @@ pub enum Plain {
     Detach(Name),
     /// `drop f`: the handle of the future is dropped.
     Drop(Name),
+    /// `tick t`: a tick is made.
+    Tick(Name),
+    /// `polltick t`: the tick is polled, by the outside waker of this name.
+    PollTick(Name),
+    /// `droptick t`: the tick is dropped.
+    DropTick(Name),
     /// `end`: the executor is dropped.
     End,
 }
@@ -53,6 +59,9 @@ impl Plain {
             Plain::Cancel(_) => Word::Cancel,
             Plain::Detach(_) => Word::Detach,
             Plain::Drop(_) => Word::Drop,
+            Plain::Tick(_) => Word::Tick,
+            Plain::PollTick(_) => Word::PollTick,
+            Plain::DropTick(_) => Word::DropTick,
             Plain::End => Word::End,
         }
     }
@@ -104,6 +113,33 @@ fn read_named(first: &[u8], words: Words<'_>) -> Option<Plain>
         named(words).map(Plain::Detach)
     } else if first == b"drop".as_slice() {
         named(words).map(Plain::Drop)
+    } else {
+        read_on_tick(first, words)
+    }
+}
+
+/// The command of this word and the name of a tick behind it, where they are one.
+#[tactic(auto, using(crate::proofs::Unread::no_plain))]
+fn read_on_tick(first: &[u8], words: Words<'_>) -> Option<Plain>
+    requires spawn { first.now ≢ codes "spawn" }
+    requires try_tick { first.now ≢ codes "try" }
+    requires empty { first.now ≢ codes "empty" }
+    requires end { first.now ≢ codes "end" }
+    requires wake { first.now ≢ codes "wake" }
+    requires unkeep { first.now ≢ codes "unkeep" }
+    requires poll { first.now ≢ codes "poll" }
+    requires cancel { first.now ≢ codes "cancel" }
+    requires detach { first.now ≢ codes "detach" }
+    requires drop { first.now ≢ codes "drop" }
+    ensures found { IfSome result (λ plain. IsSpelled plain (first.now ∷ words.entry)) }
+    ensures none { IfNone result ((plain : Plain) → ¬ (IsSpelled plain (first.now ∷ words.entry))) }
+{
+    if first == b"tick".as_slice() {
+        named(words).map(Plain::Tick)
+    } else if first == b"polltick".as_slice() {
+        named(words).map(Plain::PollTick)
+    } else if first == b"droptick".as_slice() {
+        named(words).map(Plain::DropTick)
     } else {
         None
     }

@@ -44,6 +44,20 @@ fn a_script_is_its_limit_and_its_commands(rt: HostRuntime) {
 }
 
 #[test]
+fn ticks_are_made_polled_and_dropped(rt: HostRuntime) {
+    let text = b"limit 1\ntick t\nrefuse polltick t\ndroptick t";
+    let commands = [
+        whole(Plain::Tick(name(&rt, "t"))),
+        Command::Whole(Request {
+            refused: true,
+            plain: Plain::PollTick(name(&rt, "t")),
+        }),
+        whole(Plain::DropTick(name(&rt, "t"))),
+    ];
+    reads(&rt, text, 1, &commands);
+}
+
+#[test]
 fn a_call_may_be_begun_and_its_memory_refused(rt: HostRuntime) {
     let text =
         b"limit 1\nrefuse poll a\nbegin 9 refuse cancel b\nbegin 1 unkeep a\ngo 01\nfinish 2";

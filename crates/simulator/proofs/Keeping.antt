@@ -261,6 +261,14 @@ module _ (continues : (m : Machine) (t : Step) → IsContinued m.world.trace (st
   fair-given_back true is s k = k
   fair-given_back false is s k = fair-held is false s k
 
+  fair-ticked_as : (o : Option ℕ) (name : List ℕ) (s : Player) → IsFair limit s → IsFair limit (play.ticked_as o name s)
+  fair-ticked_as None name s k = k
+  fair-ticked_as (Some t) name s k = k
+
+  fair-ticked : (b : Bool) (name : List ℕ) (s : Player) → IsFair limit s → IsFair limit (turns.ticked b name s)
+  fair-ticked true name s k = fair-ticked_as (number_of s.ticks name) name s k
+  fair-ticked false name s k = k
+
   fair-polls_next : (b : Bool) (p : ℕ) (doing : Doing) (s : Player) → IsFair limit s → IsFair limit (turns.polls_next b p doing s)
   fair-polls_next true p doing s k = fair-closed p doing s k
   fair-polls_next false p doing s k = k
@@ -269,6 +277,7 @@ module _ (continues : (m : Machine) (t : Step) → IsContinued m.world.trace (st
   unfolding turns.settled_as
   fair-settled_as (Some (plain.Cancel name)) p doing s k = fair-polls_next doing.polls p doing s k
   fair-settled_as (Some (plain.Spawn name items)) p doing s k = fair-closed p doing (turns.given_back (turns.is_made (party s p).reply) items s) (fair-given_back (turns.is_made (party s p).reply) items s k)
+  fair-settled_as (Some (plain.Tick name)) p doing s k = fair-closed p doing (turns.ticked (turns.is_made (party s p).reply) name s) (fair-ticked (turns.is_made (party s p).reply) name s k)
   fair-settled_as None p doing s k = fair-closed p doing s k
   fair-settled_as (Some _) p doing s k = fair-closed p doing s k
 

@@ -24,6 +24,7 @@ use Rattle.script.specs.Plain.{word_of}
 use Rattle.simulator.specs.declared.moment.Outcome.TheVariants.{NotPossible}
 use Rattle.simulator.specs.declared.play.party.Doing.{Doing}
 use Rattle.simulator.specs.declared.play.party.Party.{Party}
+use Rattle.simulator.specs.EventText.{outside_of_tick}
 use Rattle.simulator.specs.Play.{Player, plain_at, future, set_future, party, ended, tried}
 use Rattle.simulator.specs.Turn.{held, given, does, turn}
 
@@ -61,20 +62,22 @@ is_used s name = list_any (λ x. is_using s name x) s.parties
 abbrev pub handle_of : Player → List ℕ → Option ℕ
 handle_of s name = if is_used s name then None else unheld s (number_of s.names name)
 
-abbrev pub is_spawn_of : List ℕ → Option Plain → Bool
-is_spawn_of name (Some (plain.Spawn other items)) = bytes_eq other name
-is_spawn_of name _ = false
+-- the command gives this name
+abbrev pub gives : List ℕ → Option Plain → Bool
+gives name (Some (plain.Spawn other items)) = bytes_eq other name
+gives name (Some (plain.Tick other)) = bytes_eq other name
+gives name _ = false
 
-abbrev pub is_spawning_by : Player → List ℕ → Option Doing → Bool
-is_spawning_by s name (Some doing) = is_spawn_of name (plain_at s doing.command)
-is_spawning_by s name None = false
+abbrev pub is_making_by : Player → List ℕ → Option Doing → Bool
+is_making_by s name (Some doing) = gives name (plain_at s doing.command)
+is_making_by s name None = false
 
-abbrev pub is_spawning : Player → List ℕ → Party → Bool
-is_spawning s name x = is_spawning_by s name x.doing
+abbrev pub is_making : Player → List ℕ → Party → Bool
+is_making s name x = is_making_by s name x.doing
 
--- the name is not given, and no spawn in progress may give it
+-- the name is given to no future and no tick, and no command in progress may give it
 abbrev pub is_free : Player → List ℕ → Bool
-is_free s name = not (is_some (number_of s.names name)) && not (list_any (λ x. is_spawning s name x) s.parties)
+is_free s name = not (is_some (number_of s.names name)) && (not (is_some (number_of s.ticks name)) && not (list_any (λ x. is_making s name x) s.parties))
 
 abbrev pub is_there : Player → Option ℕ → Bool
 is_there s (Some g) = steps.has_handle s.machine.world s.machine.parties g
@@ -92,6 +95,14 @@ abbrev pub on : Option ℕ → (ℕ → Call) → Option Call
 on (Some n) c = Some (c n)
 on None c = None
 
+abbrev pub call_of_tick : Bool → Option Call
+call_of_tick true = Some call.NewTick
+call_of_tick false = None
+
+-- a tick is polled by the outside waker of its name
+abbrev pub poll_of_tick : ℕ → Call
+poll_of_tick t = call.PollTick t (by.Outside (outside_of_tick t))
+
 unfoldable pub call_of : Player → Plain → Option Call
 call_of s (plain.Spawn name items) = if can_spawn s name items then Some call.Spawn else None
 call_of s plain.Try = Some call.TryTick
@@ -102,6 +113,9 @@ call_of s (plain.Poll name) = on (handle_of s name) (λ f. call.PollHandle f (by
 call_of s (plain.Cancel name) = on (handle_of s name) (λ f. call.Cancel f)
 call_of s (plain.Detach name) = on (handle_of s name) (λ f. call.Detach f)
 call_of s (plain.Drop name) = on (handle_of s name) (λ f. call.DropHandle f)
+call_of s (plain.Tick name) = call_of_tick (is_free s name)
+call_of s (plain.PollTick name) = on (number_of s.ticks name) poll_of_tick
+call_of s (plain.DropTick name) = on (number_of s.ticks name) (λ t. call.DropTick t)
 call_of s plain.End = Some call.DropExecutor
 
 -- what the script knows once a command has begun

@@ -6,7 +6,7 @@ use Rattle.simulator.specs.declared.moment.Outcome.{Outcome}
 use Rattle.executor_model.specs.declared.call.Reply.{Reply}
 use Rattle.simulator.specs.declared.moment.Outcome.TheVariants.{Answered, Output, NotPossible}
 use Rattle.script.specs.declared.word.Word.{Word}
-use Rattle.script.specs.declared.word.Word.TheVariants.{Spawn, Try, Empty, Wake, Unkeep, Poll, Cancel, Detach, Drop, End, Begin, Go, Finish}
+use Rattle.script.specs.declared.word.Word.TheVariants.{Spawn, Try, Empty, Wake, Unkeep, Poll, Cancel, Detach, Drop, Tick, PollTick, DropTick, End, Begin, Go, Finish}
 
 abbrev pub word_text : Word → List ℕ
 word_text Spawn = codes "spawn"
@@ -18,6 +18,9 @@ word_text Poll = codes "poll"
 word_text Cancel = codes "cancel"
 word_text Detach = codes "detach"
 word_text Drop = codes "drop"
+word_text Tick = codes "tick"
+word_text PollTick = codes "polltick"
+word_text DropTick = codes "droptick"
 word_text End = codes "end"
 word_text Begin = codes "begin"
 word_text Go = codes "go"

@@ -1,23 +1,31 @@
--- What is printed of an event: polls, their answers and drops have a line each, and the rest none.
-use Rattle.std.specs.Prelude.{ℕ, List, [], ◌++◌, codes, slice_get, unwrap_or}
+-- What is printed of an event: polls, their answers and drops have a line each, and calls of outside wakers, and the rest none.
+use Rattle.std.specs.Prelude.{ℕ, ◌-◌, ◌^◌, List, [], ◌++◌, codes, slice_get, unwrap_or}
 use Rattle.executor_model.specs.declared.event.Answer.TheVariants.{Ready, Pending}
 use Rattle.executor_model.specs.declared.event.Event.{Event}
 use Rattle.executor_model.specs.declared.op.Waker.TheVariants.{Outside}
 use Rattle.executor_model.specs.declared.event.Event.TheVariants.{PollBegun, Answered, Dropped, OutputDropped, WakerCalled}
 
--- the futures are numbered in the order of their names
+-- futures are numbered in the order of their names, and so are ticks
 abbrev pub name_of : List (List ℕ) → ℕ → List ℕ
-name_of names future = unwrap_or (slice_get names future) []
+name_of names number = unwrap_or (slice_get names number) []
 
--- what happened to a future, and its name
-abbrev pub line_on : List (List ℕ) → List ℕ → ℕ → List ℕ
-line_on names happened future = happened ++ codes " " ++ name_of names future ++ codes "\n"
+-- outside wakers are numbered as the futures by whose names they go, and for ticks downwards from the greatest number of 64 bits
+abbrev pub outside_of_tick : ℕ → ℕ
+outside_of_tick t = 2 ^ 64 - 1 - t
 
-abbrev pub event_text : List (List ℕ) → Event → List ℕ
-event_text names (PollBegun party future) = line_on names (codes "poll") future
-event_text names (Answered party future Ready) = line_on names (codes "ready") future
-event_text names (Answered party future Pending) = line_on names (codes "pending") future
-event_text names (Dropped party future) = line_on names (codes "drop") future
-event_text names (OutputDropped party future) = line_on names (codes "lose") future
-event_text names (WakerCalled party future poll (Outside other)) = line_on names (codes "call") other
-event_text names _ = []
+-- the name of an outside waker, of which one of the two is nothing
+abbrev pub outside_name : List (List ℕ) → List (List ℕ) → ℕ → List ℕ
+outside_name names ticks x = name_of names x ++ name_of ticks (outside_of_tick x)
+
+-- what happened, and the name of whom
+abbrev pub line_on : List ℕ → List ℕ → List ℕ
+line_on happened name = happened ++ codes " " ++ name ++ codes "\n"
+
+abbrev pub event_text : List (List ℕ) → List (List ℕ) → Event → List ℕ
+event_text names ticks (PollBegun party future) = line_on (codes "poll") (name_of names future)
+event_text names ticks (Answered party future Ready) = line_on (codes "ready") (name_of names future)
+event_text names ticks (Answered party future Pending) = line_on (codes "pending") (name_of names future)
+event_text names ticks (Dropped party future) = line_on (codes "drop") (name_of names future)
+event_text names ticks (OutputDropped party future) = line_on (codes "lose") (name_of names future)
+event_text names ticks (WakerCalled party polled poll (Outside x)) = line_on (codes "call") (outside_name names ticks x)
+event_text names ticks _ = []

@@ -10,7 +10,10 @@ use Rattle.executor_model.specs.EarlyDrop.{EarlyDropHasCause}
 use Rattle.executor_model.specs.LawfulPolls.{HasLawfulPolls}
 use Rattle.executor_model.specs.OutputKept.{OutputIsKept}
 use Rattle.executor_model.specs.OutputOnce.{OutputGoesOnce}
+use Rattle.executor_model.specs.SleepersAgree.{SleepersAgree}
+use Rattle.executor_model.specs.SleepersTold.{SleepersAreTold}
 use Rattle.executor_model.specs.Steps.{Machine}
+use Rattle.sleeper_laws.specs.Standing.{SomeStandingIsCalled}
 
 pub record IsLawful (s : Machine) : Type 0 where
   pub polls : (f : ℕ) → HasLawfulPolls f s.world.trace
@@ -27,5 +30,10 @@ pub record IsLawful (s : Machine) : Type 0 where
   pub at_once : (p : ℕ) → NoComesAtOnce p s.world.trace
   -- an output that is there is given to the next poll of the handle that is made alone
   pub kept : (f : ℕ) → OutputIsKept s f
+  -- ticks and sleepers agree, and where there is something to do a sleeper is told of it
+  pub sleepers : SleepersAgree s
+  pub told : SleepersAreTold s
+  -- where a future is due, a tick that stands is called
+  pub called : (f : ℕ) → SomeStandingIsCalled f s.world.trace
   -- each future that is common is in reach of ticks that are called alone
   pub in_reach : IsInReach s

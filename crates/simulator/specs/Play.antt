@@ -1,4 +1,5 @@
--- What a script knows while it is played: the machine, the names and items of its futures, and what each party is doing.
+-- What a script knows while it is played: the machine, the names and items of its futures, the names of its ticks, and what each
+-- party is doing.
 use Rattle.std.specs.Prelude.{ℕ, ◌-◌, false, Option, Some, None, Result, Ok, Err, List, [], ◌∷◌, ◌++◌, length, map, drop, slice_get, slice_index_or, slice_set, replicate}
 use Rattle.executor_model.specs.declared.call.Reply.{Reply}
 use Rattle.executor_model.specs.declared.call.Reply.TheVariants as reply
@@ -33,9 +34,11 @@ use Rattle.simulator.specs.declared.play.party.Party.{Party}
 pub record Player : Type 0 where
   pub commands : List Command
   pub machine : Machine
-  -- the names and the futures, in the order of acceptance
+  -- the names of the futures and what is known of these, in the order of acceptance
   pub names : List (List ℕ)
   pub futures : List Future
+  -- the names of the ticks, in the order in which these were made
+  pub ticks : List (List ℕ)
   pub parties : List Party
   -- the steps that were tried, the possible ones among them being those that the machine took
   pub tried : List Step
@@ -73,7 +76,7 @@ abbrev pub idle : Party
 idle = record { doing = None; reply = reply.Done }
 
 abbrev pub start : List Command → ℕ → Player
-start commands limit = record { commands = commands; machine = steps.start limit 10; names = []; futures = []; parties = replicate 10 idle; tried = []; moments = [] }
+start commands limit = record { commands = commands; machine = steps.start limit 10; names = []; futures = []; ticks = []; parties = replicate 10 idle; tried = []; moments = [] }
 
 abbrev pub future : Player → ℕ → Future
 future s f = slice_index_or s.futures f (new_future 0)
@@ -108,6 +111,11 @@ accepted_by _ at s = s
 unfoldable pub accepted : Option Doing → Player → Player
 accepted None s = s
 accepted (Some doing) s = accepted_by (plain_at s doing.command) doing.command s
+
+-- the next tick has this name
+abbrev pub ticked_as : Option ℕ → List ℕ → Player → Player
+ticked_as None name s = record s { ticks = s.ticks ++ name ∷ [] }
+ticked_as (Some t) name s = s
 
 -- the waker that was kept before is to be let go
 abbrev pub replacing : Option ℕ → Stage → Stage

@@ -26,4 +26,4 @@ pub record IsPlayed (limit : ℕ) (commands : List Command) (last : Player) : Ty
 
 -- the text of the moments of such a play
 abbrev pub IsTextOf : ℕ → List Command → List ℕ → Type 0
-IsTextOf limit commands text = (last : Player) × IsPlayed limit commands last × (text ≡ moments_text last.names last.moments)
+IsTextOf limit commands text = (last : Player) × IsPlayed limit commands last × (text ≡ moments_text last.names last.ticks last.moments)

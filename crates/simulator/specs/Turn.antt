@@ -32,7 +32,7 @@ use Rattle.simulator.specs.declared.play.future.Stage.{Stage}
 use Rattle.simulator.specs.declared.play.future.Stage.TheVariants as stage
 use Rattle.simulator.specs.declared.play.future.Future.{Future}
 use Rattle.simulator.specs.declared.play.party.Doing.{Doing}
-use Rattle.simulator.specs.Play.{Player, request_at, plain_at, items_at, item_of, future, set_future, party, set_party, top, ended, tried}
+use Rattle.simulator.specs.Play.{Player, request_at, plain_at, items_at, item_of, future, set_future, party, set_party, top, ended, tried, ticked_as}
 
 -- the waker that the poll of f's handle was given
 unfoldable pub given : ℕ → Waker → Player → Player
@@ -226,6 +226,11 @@ abbrev pub given_back : Bool → List Item → Player → Player
 given_back true items s = s
 given_back false items s = held items false s
 
+-- a tick that was made has its name
+abbrev pub ticked : Bool → List ℕ → Player → Player
+ticked true name s = ticked_as (number_of s.ticks name) name s
+ticked false name s = s
+
 abbrev pub polls_next : Bool → ℕ → Doing → Player → Player
 polls_next true p doing s = closed p doing s
 polls_next false p doing s = does p (Some (record doing { polls = true })) s
@@ -233,6 +238,7 @@ polls_next false p doing s = does p (Some (record doing { polls = true })) s
 unfoldable pub settled_as : Option Plain → ℕ → Doing → Player → Player
 settled_as (Some (plain.Cancel name)) p doing s = polls_next doing.polls p doing s
 settled_as (Some (plain.Spawn name items)) p doing s = closed p doing (given_back (is_made (party s p).reply) items s)
+settled_as (Some (plain.Tick name)) p doing s = closed p doing (ticked (is_made (party s p).reply) name s)
 settled_as _ p doing s = closed p doing s
 
 abbrev pub settled_by : Option Doing → ℕ → Player → Player

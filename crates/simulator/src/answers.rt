@@ -27,5 +27,10 @@ fn show(alloc: Global, script: &Script) -> Result<Vec<u8>, AllocError>
         IsTextOf script.now.limit script.now.commands.items text.items) }
 {
     let played = play::run(alloc, script.limit, script.commands.as_slice())?;
-    print::text_of(alloc, played.moments.as_slice(), &played.names)
+    print::text_of(
+        alloc,
+        played.moments.as_slice(),
+        &played.names,
+        &played.ticks,
+    )
 }

@@ -18,12 +18,13 @@ use executor_core::Machine;
 use executor_laws::laws::{
     calls_at_rest_are_exact, common_futures_are_in_reach, no_comes_at_once, traces_continue,
 };
-use executor_model::laws::outputs_are_kept;
+use executor_model::laws::{outputs_are_kept, sleepers_agree, sleepers_are_told};
 use executor_model::trace_laws::{
     awaiters_are_kept, closing_drops_each_future_once, drops_come_once, early_drops_have_causes,
     outputs_go_once, polls_are_asked_for, polls_are_lawful,
 };
 use script::{Command, Names};
+use sleeper_laws::laws::some_standing_tick_is_called;
 use std::alloc::{AllocError, Global};
 
 /// What a run of the commands shows, and the names of the futures that were accepted.
@@ -32,6 +33,8 @@ pub struct Played {
     pub moments: Vec<Moment>,
     /// In the order of acceptance: the name of future 0 is the first.
     pub names: Names,
+    /// The names of the ticks, in the order in which these were made.
+    pub ticks: Names,
 }
 
 /// Plays the commands on a new machine with places for so many futures. What it shows is all that the
@@ -39,7 +42,7 @@ pub struct Played {
 /// then.
 pub fn run(alloc: Global, limit: u64, commands: &[Command]) -> Result<Played, AllocError>
     ensures { IfOk result (λ played. (last : Player) × IsPlayed limit commands.now last ×
-        (played.moments.items ≡ last.moments) × (played.names ≡ last.names)) }
+        (played.moments.items ≡ last.moments) × (played.names ≡ last.names) × (played.ticks ≡ last.ticks)) }
 {
     let mut player = Player::new(alloc, commands, limit)?;
     for (at, command) in commands.iter().enumerate() {
@@ -64,6 +67,9 @@ fn keeps_to_laws(machine: &Machine)
     calls_at_rest_are_exact();
     no_comes_at_once();
     outputs_are_kept();
+    sleepers_agree();
+    sleepers_are_told();
+    some_standing_tick_is_called();
     common_futures_are_in_reach();
     machine.is_reached();
 }

@@ -1,8 +1,8 @@
 //! The text of a run: a line for each poll, answer and drop, and one for the end of each command.
 
-ghost use Rattle.std.specs.Prelude.{◌≡◌, ◌++◌, IfOk, OnOk};
+ghost use Rattle.std.specs.Prelude.{◌≡◌, ◌++◌, codes, IfOk, OnOk};
 ghost use Rattle.simulator.specs.EndText.{end_text, outcome_text, reply_text, word_text};
-ghost use Rattle.simulator.specs.EventText.{event_text, line_on, name_of};
+ghost use Rattle.simulator.specs.EventText.{event_text, line_on, name_of, outside_name, outside_of_tick};
 ghost use Rattle.simulator.specs.Text.{moment_text, moments_text};
 
 use crate::moment::{Moment, Outcome};
@@ -10,28 +10,50 @@ use executor_model::{Answer, Event, Reply, Waker};
 use script::{Names, Word};
 use std::alloc::{AllocError, Global};
 
-/// The text of these moments, where the futures have these names in the order of acceptance.
-pub fn text_of(alloc: Global, moments: &[Moment], names: &Names) -> Result<Vec<u8>, AllocError>
-    ensures { IfOk result (λ text. text.items ≡ moments_text names.now moments.now) }
+/// The number of the outside waker of a tick, and the tick of such a one. Those of futures are numbered as these are.
+pub fn waker_of_tick(t: u64) -> u64
+    ensures { result ≡ outside_of_tick t }
+{
+    u64::MAX - t
+}
+
+/// The text of these moments, where futures and ticks have these names in the order in which they were made.
+pub fn text_of(
+    alloc: Global,
+    moments: &[Moment],
+    names: &Names,
+    ticks: &Names,
+) -> Result<Vec<u8>, AllocError>
+    ensures { IfOk result (λ text. text.items ≡ moments_text names.now ticks.now moments.now) }
 {
     let mut text = Vec::new(alloc);
     for moment in moments {
-        push_moment(&mut text, moment, names)?;
+        push_moment(&mut text, moment, names, ticks)?;
     }
     Ok(text)
 }
 
-fn push_moment(text: &mut Vec<u8>, moment: &Moment, names: &Names) -> Result<(), AllocError>
-    ensures { OnOk result (text.new.items ≡ text.old.items ++ moment_text names.now moment.now) }
+fn push_moment(
+    text: &mut Vec<u8>,
+    moment: &Moment,
+    names: &Names,
+    ticks: &Names,
+) -> Result<(), AllocError>
+    ensures { OnOk result (text.new.items ≡ text.old.items ++ moment_text names.now ticks.now moment.now) }
 {
     match moment {
-        Moment::Happened(event) => push_event(text, event, names),
+        Moment::Happened(event) => push_event(text, event, names, ticks),
         Moment::Ended { word, outcome } => push_end(text, *word, *outcome),
     }
 }
 
-fn push_event(text: &mut Vec<u8>, event: &Event, names: &Names) -> Result<(), AllocError>
-    ensures { OnOk result (text.new.items ≡ text.old.items ++ event_text names.now event.now) }
+fn push_event(
+    text: &mut Vec<u8>,
+    event: &Event,
+    names: &Names,
+    ticks: &Names,
+) -> Result<(), AllocError>
+    ensures { OnOk result (text.new.items ≡ text.old.items ++ event_text names.now ticks.now event.now) }
 {
     match *event {
         Event::PollBegun { future, .. } => push_line_on(text, b"poll", future, names),
@@ -42,9 +64,9 @@ fn push_event(text: &mut Vec<u8>, event: &Event, names: &Names) -> Result<(), Al
         Event::Dropped { future, .. } => push_line_on(text, b"drop", future, names),
         Event::OutputDropped { future, .. } => push_line_on(text, b"lose", future, names),
         Event::WakerCalled {
-            waker: Waker::Outside(future),
+            waker: Waker::Outside(x),
             ..
-        } => push_line_on(text, b"call", future, names),
+        } => push_call(text, x, names, ticks),
         Event::CallBegun { .. }
         | Event::CallEnded { .. }
         | Event::Accepted { .. }
@@ -53,6 +75,8 @@ fn push_event(text: &mut Vec<u8>, event: &Event, names: &Names) -> Result<(), Al
         | Event::Detached { .. }
         | Event::OutputGiven { .. }
         | Event::HandlePolled { .. }
+        | Event::TickPolled { .. }
+        | Event::TickDropped { .. }
         | Event::WakerCalled { .. }
         | Event::DropBegun { .. }
         | Event::DropEnded { .. } => Ok(()),
@@ -66,7 +90,7 @@ fn push_line_on(
     names: &Names,
 ) -> Result<(), AllocError>
     ensures { OnOk result (text.new.items ≡
-        text.old.items ++ line_on names.now happened.now future) }
+        text.old.items ++ line_on happened.now (name_of names.now future)) }
 {
     text.extend_from_slice(happened)?;
     text.extend_from_slice(b" ")?;
@@ -74,7 +98,18 @@ fn push_line_on(
     text.extend_from_slice(b"\n")
 }
 
-/// The name of a future, and nothing for one that has none.
+/// An outside waker is called.
+fn push_call(text: &mut Vec<u8>, x: u64, names: &Names, ticks: &Names) -> Result<(), AllocError>
+    ensures { OnOk result (text.new.items ≡
+        text.old.items ++ line_on (codes "call") (outside_name names.now ticks.now x)) }
+{
+    text.extend_from_slice(b"call ")?;
+    push_name(text, x, names)?;
+    push_name(text, waker_of_tick(x), ticks)?;
+    text.extend_from_slice(b"\n")
+}
+
+/// The name of a future or tick, and nothing for one that has none.
 fn push_name(text: &mut Vec<u8>, future: u64, names: &Names) -> Result<(), AllocError>
     ensures { OnOk result (text.new.items ≡ text.old.items ++ name_of names.now future) }
 {
@@ -106,6 +141,9 @@ fn word_bytes(word: Word) -> &'static [u8]
         Word::Cancel => b"cancel",
         Word::Detach => b"detach",
         Word::Drop => b"drop",
+        Word::Tick => b"tick",
+        Word::PollTick => b"polltick",
+        Word::DropTick => b"droptick",
         Word::End => b"end",
         Word::Begin => b"begin",
         Word::Go => b"go",

@@ -36,6 +36,8 @@ pub enum Workload {
     MachineStep,
     /// A line of a script of 10,000 lines over a thousand futures, parsed and run.
     SimLines,
+    /// The same where 100 ticks take the place of `try`.
+    SimTicks,
     /// A ready future from its spawn to its output.
     SpawnRun,
     /// A task whose handle is dropped before it is run.
@@ -85,7 +87,7 @@ pub enum Workload {
 }
 
 /// Every workload, in the order in which they are listed and run.
-pub const ALL: [Workload; 42] = [
+pub const ALL: [Workload; 43] = [
     Workload::FetchAdd,
     Workload::MutexLock,
     Workload::Single,
@@ -105,6 +107,7 @@ pub const ALL: [Workload; 42] = [
     Workload::UnboundedExclusive,
     Workload::MachineStep,
     Workload::SimLines,
+    Workload::SimTicks,
     Workload::SpawnRun,
     Workload::DropHandle,
     Workload::WakeRun,
@@ -154,6 +157,7 @@ impl Workload {
             Workload::UnboundedExclusive => "queue/unbounded@exclusive",
             Workload::MachineStep => "machine/step",
             Workload::SimLines => "sim/lines",
+            Workload::SimTicks => "sim/lines-100-ticks",
             Workload::SpawnRun => "task/spawn-run",
             Workload::DropHandle => "task/drop-handle",
             Workload::WakeRun => "task/wake-run",
@@ -207,9 +211,11 @@ impl Workload {
             | Workload::DropFull => 1_000_000,
             Workload::AwaitChain | Workload::Run1 | Workload::Run2 | Workload::Run4 => 500_000,
             Workload::JobsParse => 2_000_000,
-            Workload::SimLines | Workload::JobsRun1 | Workload::JobsRun2 | Workload::JobsRun4 => {
-                200_000
-            }
+            Workload::SimLines
+            | Workload::SimTicks
+            | Workload::JobsRun1
+            | Workload::JobsRun2
+            | Workload::JobsRun4 => 200_000,
             _ => 10_000_000,
         }
     }

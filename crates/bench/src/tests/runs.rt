@@ -19,6 +19,7 @@ fn moved_by_3000(workload: Workload) -> u64 {
         | Workload::MutexLock
         | Workload::MachineStep
         | Workload::SimLines
+        | Workload::SimTicks
         | Workload::DropHandle
         | Workload::WakeRun
         | Workload::SelfWake

@@ -62,8 +62,15 @@ fn a_wake_is_caught_by_the_end_when_it_has_marked_the_task(rt: HostRuntime) {
 }
 
 #[test]
-fn a_wake_that_has_queued_the_task_is_over_before_the_end(rt: HostRuntime) {
+fn a_wake_is_caught_by_the_end_when_it_has_queued_the_task(rt: HostRuntime) {
     let script = "limit 1\nspawn a keep\ntry\nbegin 1 wake a\ngo 1\ngo 1\nend\nfinish 1\npoll a\n";
+    shows(&rt, script, CAUGHT);
+}
+
+#[test]
+fn a_wake_that_has_told_is_over_before_the_end(rt: HostRuntime) {
+    let script =
+        "limit 1\nspawn a keep\ntry\nbegin 1 wake a\ngo 1\ngo 1\ngo 1\nend\nfinish 1\npoll a\n";
     let text = "\
 spawn: ok
 poll a

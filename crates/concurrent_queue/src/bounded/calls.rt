@@ -1,15 +1,14 @@
 //! The other calls on a ring: the close, and what a look at its words tells.
 ghost use Rattle.std.specs.Prelude.{◌≡◌, ◌≤◌, true, false, IfSome, MatchResult};
 ghost use Rattle.concurrent_queue.specs.Answered.{says};
-ghost use Rattle.concurrent_queue.specs.BoundedSeat.{IsFreeSeatOf, StaysFree, LenStands, close_at, len_at, is_empty_at, is_full_at};
-ghost use Rattle.concurrent_queue.specs.BoundedSeat.{is_closed_at};
-ghost use Rattle.queue_steps.specs.declared.steps.Reply.TheVariants.{Length};
-ghost use Rattle.queue_steps.specs.declared.steps.bounded.Turn.TheVariants.{HeadFor, End};
+ghost use Rattle.concurrent_queue.specs.BoundedSeat.{IsFreeSeatOf, StaysFree, close_at, len_at, is_empty_at, is_full_at, is_closed_at};
+ghost use Rattle.concurrent_queue.specs.BoundedStands.{LenStands};
+ghost use Rattle.queue_steps.specs.Reply.{Length};
+ghost use Rattle.queue_steps.specs.BoundedTurns.{End};
 
 use crate::bounded::Bounded;
 use crate::bounded::moves::{self, Pass};
-use queue_steps::steps::Reply;
-use queue_steps::steps::bounded::{self as steps, Shape, Turn};
+use queue_steps::steps::bounded::{self as steps, Shape};
 use std::sync::Wait;
 
 /// Closes the ring, and says whether this call did so.
@@ -21,10 +20,7 @@ pub fn close<T>(ring: &Bounded<T>, pass: &mut Pass<T>) -> bool
     ensures once { pass.old.me.0.closed ≡ true → result ≡ false }
 {
     let found = moves::close(&ring.board.shared, pass, ring.shape.mark);
-    matches!(
-        steps::close(ring.shape, Turn::Close, found),
-        Turn::End(Reply::Yes)
-    )
+    steps::close(ring.shape, found)
 }
 
 // Looks at the head behind a tail that was seen, and at the tail again: the length, or else the tail that it found.
@@ -37,11 +33,11 @@ fn len_behind<T>(ring: &Bounded<T>, pass: &mut Pass<T>, tail: u64) -> Result<usi
         (λ found. LenStands ring.now.shape found pass.new.me.0) }
 {
     let head = moves::look_behind(&ring.board.shared, pass);
-    let turn = steps::len(ring.shape, Turn::HeadFor(tail), head);
-    match steps::len(ring.shape, turn, moves::tail(&ring.board.shared, pass)) {
-        Turn::End(Reply::Length(len)) => Ok(len as usize),
-        Turn::HeadFor(found) => Err(found),
-        _ => unreachable!(),
+    let found = moves::tail(&ring.board.shared, pass);
+    if found == tail {
+        Ok(steps::len(ring.shape, tail, head) as usize)
+    } else {
+        Err(found)
     }
 }
 
@@ -85,17 +81,9 @@ pub fn is_empty<T>(ring: &Bounded<T>, pass: &mut Pass<T>) -> bool
     ensures same { StaysFree pass.old pass.new }
     ensures answers { is_empty_at ring.now.shape pass.new.me.0.found ≡ End (says result) }
 {
-    let turn = steps::is_empty(
-        ring.shape,
-        Turn::Head,
-        moves::begin_head(&ring.board.shared, pass),
-    );
-    let turn = steps::is_empty(
-        ring.shape,
-        turn,
-        moves::look_at_tail(&ring.board.shared, pass),
-    );
-    matches!(turn, Turn::End(Reply::Yes))
+    let head = moves::begin_head(&ring.board.shared, pass);
+    let tail = moves::look_at_tail(&ring.board.shared, pass);
+    steps::is_empty(ring.shape, head, tail)
 }
 
 pub fn is_full<T>(ring: &Bounded<T>, pass: &mut Pass<T>) -> bool
@@ -103,17 +91,9 @@ pub fn is_full<T>(ring: &Bounded<T>, pass: &mut Pass<T>) -> bool
     ensures same { StaysFree pass.old pass.new }
     ensures answers { is_full_at ring.now.shape pass.new.me.0.found ≡ End (says result) }
 {
-    let turn = steps::is_full(
-        ring.shape,
-        Turn::Tail,
-        moves::begin_tail(&ring.board.shared, pass),
-    );
-    let turn = steps::is_full(
-        ring.shape,
-        turn,
-        moves::look_at_head(&ring.board.shared, pass),
-    );
-    matches!(turn, Turn::End(Reply::Yes))
+    let tail = moves::begin_tail(&ring.board.shared, pass);
+    let head = moves::look_at_head(&ring.board.shared, pass);
+    steps::is_full(ring.shape, tail, head)
 }
 
 pub fn is_closed<T>(ring: &Bounded<T>, pass: &mut Pass<T>) -> bool
@@ -123,10 +103,6 @@ pub fn is_closed<T>(ring: &Bounded<T>, pass: &mut Pass<T>) -> bool
     ensures keeps { pass.new.me.0.closed ≡ result }
     ensures stays_closed { pass.old.me.0.closed ≡ true → result ≡ true }
 {
-    let turn = steps::is_closed(
-        ring.shape,
-        Turn::Tail,
-        moves::begin_tail(&ring.board.shared, pass),
-    );
-    matches!(turn, Turn::End(Reply::Yes))
+    let tail = moves::begin_tail(&ring.board.shared, pass);
+    steps::is_closed(ring.shape, tail)
 }

@@ -1,89 +1,61 @@
-//! `push` and `force_push` on a ring.
-ghost use Rattle.std.specs.Prelude.{◌≡◌, ◌≢◌, ℕ, ◌+◌, ◌*◌, Option, Some, None, [], ◌∷◌, ◌++◌, true, MatchResult, IsOk, IsErr};
+//! `push` and `force_push` on a ring. Until they have a place they take the same turns, but for what they do on a full ring.
+ghost use Rattle.std.specs.Prelude.{◌≡◌, ◌≢◌, ℕ, ◌+◌, ◌*◌, Option, Some, None, [], ◌∷◌, ◌++◌, true, if◌then◌else◌, MatchResult, IsErr};
 ghost use Rattle.concurrent_queue.specs.Answered.{PushSays, ForcePushSays};
-ghost use Rattle.concurrent_queue.specs.BoundedSeat.{IsFreeSeatOf, StaysFree, pushing, put_at, push_at, force_push_at, IsRefusal};
-ghost use Rattle.concurrent_queue.specs.BoundedSeat.{PushStands, PushesOn, PushMade};
-ghost use Rattle.concurrent_queue.specs.declared.bounded.pushing.Manner.TheVariants.{Plain};
-ghost use Rattle.queue_steps.specs.declared.steps.Reply.{Reply};
-ghost use Rattle.queue_steps.specs.declared.steps.Reply.TheVariants.{Done};
-ghost use Rattle.queue_steps.specs.declared.steps.bounded.Turn.TheVariants.{Tail, Stamp, HeadFor, Append, Displace, Spend, End};
+ghost use Rattle.concurrent_queue.specs.BoundedSeat.{IsFreeSeatOf, StaysFree, push_at, force_push_at};
+ghost use Rattle.concurrent_queue.specs.BoundedStands.{PushStands, DisplaceStands, PushesOn};
+ghost use Rattle.queue_steps.specs.Reply.{Reply, Done, Displaced, Full};
+ghost use Rattle.queue_steps.specs.BoundedTurns.{Tail, Stamp, HeadFor, Append, Spend, End, push_turn};
+ghost use Rattle.queue_steps.specs.BoundedCallTurns.{of_push};
 
 use crate::bounded::Bounded;
 use crate::bounded::moves::{self, Pass};
 use crossbeam_utils::Backoff;
-use queue_steps::steps::Reply;
-use queue_steps::steps::bounded::{self as steps, Shape, Turn};
+use queue_steps::steps::bounded::{self as steps, ForcePushTurn, PushTurn, Shape};
 use queue_steps::{ForcePushError, PushError};
 use std::sync::Wait;
 
-/// Whether a push displaces the oldest item of a full ring.
-#[derive(Clone, Copy)]
-pub enum Manner {
-    Plain,
-    Forced,
-}
-
-// What a call of this manner does next.
 #[inline(always)]
-fn next(manner: Manner, shape: Shape, turn: Turn, found: u64) -> Turn
-    ensures { result ≡ pushing manner shape turn found }
-{
-    match manner {
-        Manner::Plain => steps::push(shape, turn, found),
-        Manner::Forced => steps::force_push(shape, turn, found),
-    }
-}
-
-#[inline(always)]
-fn begins<T>(ring: &Bounded<T>, pass: &mut Pass<T>, manner: Manner) -> Turn
+fn begins<T>(ring: &Bounded<T>, pass: &mut Pass<T>) -> PushTurn
     requires { IsFreeSeatOf ring.now.board.shared ring.now.shape pass.old }
     ensures same { StaysFree pass.old pass.new }
-    ensures stands { (result ≡ put_at manner ring.now.shape pass.new.me.0.found) × PushStands manner ring.now.shape result pass.new.me.0 }
+    ensures stands { PushStands ring.now.shape result pass.new.me.0 }
+    ensures plain { of_push result ≡ push_at ring.now.shape pass.new.me.0.found }
+    ensures forced { of_push result ≡ force_push_at ring.now.shape pass.new.me.0.found }
 {
     let found = moves::begin_tail(&ring.board.shared, pass);
-    next(manner, ring.shape, Turn::Tail, found)
+    steps::push_at_tail(ring.shape, found)
 }
 
-fn at_tail<T>(ring: &Bounded<T>, pass: &mut Pass<T>, manner: Manner) -> Turn
+fn at_tail<T>(ring: &Bounded<T>, pass: &mut Pass<T>) -> PushTurn
     requires { IsFreeSeatOf ring.now.board.shared ring.now.shape pass.old }
     ensures same { StaysFree pass.old pass.new }
-    ensures on { PushesOn manner ring.now.shape Tail pass.old.me.0 result pass.new.me.0 }
+    ensures on { PushesOn ring.now.shape Tail pass.old.me.0 result pass.new.me.0 }
 {
     let found = moves::tail(&ring.board.shared, pass);
-    next(manner, ring.shape, Turn::Tail, found)
+    steps::push_at_tail(ring.shape, found)
 }
 
 #[inline(always)]
-fn at_stamp<T>(ring: &Bounded<T>, pass: &mut Pass<T>, manner: Manner, tail: u64) -> Turn
+fn at_stamp<T>(ring: &Bounded<T>, pass: &mut Pass<T>, tail: u64) -> PushTurn
     requires seat { IsFreeSeatOf ring.now.board.shared ring.now.shape pass.old }
-    requires stands { PushStands manner ring.now.shape (Stamp tail) pass.old.me.0 }
+    requires stands { PushStands ring.now.shape (PushTurn.Stamp tail) pass.old.me.0 }
     ensures same { StaysFree pass.old pass.new }
-    ensures on { PushesOn manner ring.now.shape (Stamp tail) pass.old.me.0 result pass.new.me.0 }
+    ensures on { PushesOn ring.now.shape (Stamp tail) pass.old.me.0 result pass.new.me.0 }
 {
     let index = ring.shape.index(tail) as usize;
     let found = moves::stamp_at_tail(&ring.board.shared, pass, index);
-    next(manner, ring.shape, Turn::Stamp(tail), found)
-}
-
-fn at_head<T>(ring: &Bounded<T>, pass: &mut Pass<T>, manner: Manner, tail: u64) -> Turn
-    requires seat { IsFreeSeatOf ring.now.board.shared ring.now.shape pass.old }
-    requires stands { PushStands manner ring.now.shape (HeadFor tail) pass.old.me.0 }
-    ensures same { StaysFree pass.old pass.new }
-    ensures on { PushesOn manner ring.now.shape (HeadFor tail) pass.old.me.0 result pass.new.me.0 }
-{
-    let found = moves::look_at_head(&ring.board.shared, pass);
-    next(manner, ring.shape, Turn::HeadFor(tail), found)
+    steps::push_at_stamp(ring.shape, tail, found)
 }
 
 // The close by a push of one item too many.
-fn at_spend<T>(ring: &Bounded<T>, pass: &mut Pass<T>, manner: Manner, tail: u64) -> Turn
+fn at_spend<T>(ring: &Bounded<T>, pass: &mut Pass<T>, tail: u64) -> PushTurn
     requires seat { IsFreeSeatOf ring.now.board.shared ring.now.shape pass.old }
-    requires stands { PushStands manner ring.now.shape (Spend tail) pass.old.me.0 }
+    requires stands { PushStands ring.now.shape (PushTurn.Spend tail) pass.old.me.0 }
     ensures same { StaysFree pass.old pass.new }
-    ensures on { PushesOn manner ring.now.shape (Spend tail) pass.old.me.0 result pass.new.me.0 }
+    ensures on { PushesOn ring.now.shape (Spend tail) pass.old.me.0 result pass.new.me.0 }
 {
     let found = moves::spend(&ring.board.shared, pass, tail, tail | ring.shape.mark);
-    next(manner, ring.shape, Turn::Spend(tail), found)
+    steps::push_at_spend(ring.shape, tail, found)
 }
 
 // The append with its write. Or else the turn that follows, and the value.
@@ -91,19 +63,18 @@ fn at_spend<T>(ring: &Bounded<T>, pass: &mut Pass<T>, manner: Manner, tail: u64)
 fn append<T>(
     ring: &Bounded<T>,
     pass: &mut Pass<T>,
-    manner: Manner,
     tail: u64,
     value: T,
-) -> Result<(), (Turn, T)>
+) -> Result<(), (PushTurn, T)>
     requires seat { IsFreeSeatOf ring.now.board.shared ring.now.shape pass.old }
-    requires stands { PushStands manner ring.now.shape (Append tail) pass.old.me.0 }
+    requires stands { PushStands ring.now.shape (PushTurn.Append tail) pass.old.me.0 }
     ensures same { StaysFree pass.old pass.new }
     ensures on { MatchResult result (λ _. (w : ℕ) × (pass.new.me.0.found ≡ (pass.old.me.0.found ++ tail ∷ []) ++ w ∷ []))
-        (λ e. (e.1 ≡ value) × PushesOn manner ring.now.shape (Append tail) pass.old.me.0 e.0 pass.new.me.0) }
+        (λ e. (e.1 ≡ value) × PushesOn ring.now.shape (Append tail) pass.old.me.0 e.0 pass.new.me.0) }
 {
     let found = moves::append(&ring.board.shared, pass, tail, ring.shape.next(tail));
     if found != tail {
-        return Err((next(manner, ring.shape, Turn::Append(tail), found), value));
+        return Err((steps::push_at_tail(ring.shape, found), value));
     }
     match moves::write(
         &ring.board.shared,
@@ -117,22 +88,30 @@ fn append<T>(
     }
 }
 
-// The displacement with its append and its swap. Or else the turn that follows, and the value.
-fn displace<T>(ring: &Bounded<T>, pass: &mut Pass<T>, tail: u64, value: T) -> Result<T, (Turn, T)>
+// The look at the head of a push: whether the ring is full.
+fn is_full_for<T>(ring: &Bounded<T>, pass: &mut Pass<T>, tail: u64) -> bool
+    requires { IsFreeSeatOf ring.now.board.shared ring.now.shape pass.old }
+    ensures same { StaysFree pass.old pass.new }
+    ensures on { (w : ℕ) × (pass.new.me.0.found ≡ pass.old.me.0.found ++ w ∷ [])
+        × (push_turn ring.now.shape.capacity ring.now.shape.mark (HeadFor tail) w ≡ if result then End Full else Tail) }
+{
+    let found = moves::look_at_head(&ring.board.shared, pass);
+    steps::is_full_at_head(ring.shape, tail, found)
+}
+
+// The displacement with its append and its swap. Or else the value, since the head was another.
+fn displace<T>(ring: &Bounded<T>, pass: &mut Pass<T>, tail: u64, value: T) -> Result<T, T>
     requires seat { IsFreeSeatOf ring.now.board.shared ring.now.shape pass.old }
-    requires stands { PushStands Manner.Forced ring.now.shape (Displace tail) pass.old.me.0 }
+    requires stands { DisplaceStands ring.now.shape tail pass.old.me.0 }
     ensures same { StaysFree pass.old pass.new }
     ensures on { MatchResult result (λ _. (v w x : ℕ) × (v + 2 * ring.now.shape.mark ≡ tail)
-        × (pass.new.me.0.found ≡ ((pass.old.me.0.found ++ v ∷ []) ++ w ∷ []) ++ x ∷ [])) (λ e. (e.1 ≡ value)
-        × PushesOn Manner.Forced ring.now.shape (Displace tail) pass.old.me.0 e.0 pass.new.me.0) }
+        × (pass.new.me.0.found ≡ ((pass.old.me.0.found ++ v ∷ []) ++ w ∷ []) ++ x ∷ [])) (λ back. (back ≡ value)
+        × ((v : ℕ) × (v + 2 * ring.now.shape.mark ≢ tail) × (pass.new.me.0.found ≡ pass.old.me.0.found ++ v ∷ []))) }
 {
     let head = tail - ring.shape.lap();
     let found = moves::displace(&ring.board.shared, pass, head, ring.shape.next(head));
     if found != head {
-        return Err((
-            steps::force_push(ring.shape, Turn::Displace(tail), found),
-            value,
-        ));
+        return Err(value);
     }
     moves::advance(&ring.board.shared, pass, tail, ring.shape.next(tail));
     match moves::write(
@@ -147,45 +126,67 @@ fn displace<T>(ring: &Bounded<T>, pass: &mut Pass<T>, tail: u64, value: T) -> Re
     }
 }
 
-// A push of either manner, from where it stands. What was displaced comes back, or the value with the reply that
-// refused it.
+// The look at the head of a forced push, and on a full ring the displacement. Or else where it stands then, and the value.
+fn at_head<T>(
+    ring: &Bounded<T>,
+    pass: &mut Pass<T>,
+    tail: u64,
+    value: T,
+) -> Result<T, (PushTurn, T)>
+    requires seat { IsFreeSeatOf ring.now.board.shared ring.now.shape pass.old }
+    requires stands { (HeadFor tail ≡ force_push_at ring.now.shape pass.old.me.0.found)
+        × PushStands ring.now.shape (PushTurn.HeadFor tail) pass.old.me.0 }
+    ensures same { StaysFree pass.old pass.new }
+    ensures made { MatchResult result (λ _. force_push_at ring.now.shape pass.new.me.0.found ≡ End Displaced) (λ e. (e.1 ≡ value)
+        × (of_push e.0 ≡ force_push_at ring.now.shape pass.new.me.0.found) × PushStands ring.now.shape e.0 pass.new.me.0) }
+{
+    let head = moves::look_at_head(&ring.board.shared, pass);
+    match steps::force_push_at_head(ring.shape, tail, head) {
+        ForcePushTurn::Push(turn) => Err((turn, value)),
+        ForcePushTurn::Displace(tail) => match displace(ring, pass, tail, value) {
+            Ok(oldest) => Ok(oldest),
+            Err(back) => Err((PushTurn::Tail, back)),
+        },
+    }
+}
+
+// A push, from where it stands.
 #[inline(never)]
-fn put_from<T, R: Wait>(
+fn push_from<T, R: Wait>(
     rt: &R,
     ring: &Bounded<T>,
     pass: &mut Pass<T>,
-    manner: Manner,
-    turn: Turn,
+    turn: PushTurn,
     value: T,
-) -> Result<Option<T>, (Reply, T)>
+) -> Result<(), PushError<T>>
     requires seat { IsFreeSeatOf ring.now.board.shared ring.now.shape pass.old }
-    requires stands { (turn ≡ put_at manner ring.now.shape pass.old.me.0.found) × PushStands manner ring.now.shape turn pass.old.me.0 }
+    requires stands { (of_push turn ≡ push_at ring.now.shape pass.old.me.0.found) × PushStands ring.now.shape turn pass.old.me.0 }
     ensures same { StaysFree pass.old pass.new }
-    ensures made { PushMade manner ring.now.shape value pass.new.me.0.found result }
-    ensures stays_closed { IsOk result → pass.old.me.0.closed ≢ true }
+    ensures answers { (reply : Reply) × (push_at ring.now.shape pass.new.me.0.found ≡ End reply) × PushSays value reply result }
+    ensures stays_closed { pass.old.me.0.closed ≡ true → IsErr result }
 {
     let backoff = Backoff::new();
     let mut value = value;
     let mut turn = turn;
     for _ in rt.forever() {
         match turn {
-            Turn::Stamp(tail) => turn = at_stamp(ring, pass, manner, tail),
-            Turn::Append(tail) => match append(ring, pass, manner, tail, value) {
-                Ok(()) => return Ok(None),
+            PushTurn::Stamp(tail) => turn = at_stamp(ring, pass, tail),
+            PushTurn::Append(tail) => match append(ring, pass, tail, value) {
+                Ok(()) => return Ok(()),
                 Err(left) => (turn, value) = left,
             },
-            Turn::HeadFor(tail) => turn = at_head(ring, pass, manner, tail),
-            Turn::Displace(tail) => match displace(ring, pass, tail, value) {
-                Ok(oldest) => return Ok(Some(oldest)),
-                Err(left) => (turn, value) = left,
-            },
-            Turn::Tail => {
-                backoff.snooze();
-                turn = at_tail(ring, pass, manner);
+            PushTurn::HeadFor(tail) => {
+                if is_full_for(ring, pass, tail) {
+                    return Err(PushError::Full(value));
+                }
+                turn = PushTurn::Tail;
             }
-            Turn::Spend(tail) => turn = at_spend(ring, pass, manner, tail),
-            Turn::End(reply) => return Err((reply, value)),
-            _ => unreachable!(),
+            PushTurn::Tail => {
+                backoff.snooze();
+                turn = at_tail(ring, pass);
+            }
+            PushTurn::Spend(tail) => turn = at_spend(ring, pass, tail),
+            PushTurn::Closed => return Err(PushError::Closed(value)),
         }
     }
     unreachable!()
@@ -194,21 +195,21 @@ fn put_from<T, R: Wait>(
 // The first three turns of a push, which are all on a ring with a free place where no other call comes between. Or else
 // where it stands then, and the value.
 #[inline(always)]
-fn push_at_once<T>(ring: &Bounded<T>, pass: &mut Pass<T>, value: T) -> Result<(), (Turn, T)>
+fn push_at_once<T>(ring: &Bounded<T>, pass: &mut Pass<T>, value: T) -> Result<(), (PushTurn, T)>
     requires { IsFreeSeatOf ring.now.board.shared ring.now.shape pass.old }
     ensures same { StaysFree pass.old pass.new }
-    ensures made { MatchResult result (λ _. (pass.old.me.0.closed ≢ true) × (put_at Plain ring.now.shape pass.new.me.0.found ≡ End Done))
-        (λ e. (e.1 ≡ value) × (e.0 ≡ put_at Plain ring.now.shape pass.new.me.0.found) × PushStands Plain ring.now.shape e.0 pass.new.me.0) }
+    ensures made { MatchResult result (λ _. (pass.old.me.0.closed ≢ true) × (push_at ring.now.shape pass.new.me.0.found ≡ End Done))
+        (λ e. (e.1 ≡ value) × (of_push e.0 ≡ push_at ring.now.shape pass.new.me.0.found) × PushStands ring.now.shape e.0 pass.new.me.0) }
 {
-    let turn = begins(ring, pass, Manner::Plain);
-    let Turn::Stamp(tail) = turn else {
+    let turn = begins(ring, pass);
+    let PushTurn::Stamp(tail) = turn else {
         return Err((turn, value));
     };
-    let turn = at_stamp(ring, pass, Manner::Plain, tail);
-    let Turn::Append(tail) = turn else {
+    let turn = at_stamp(ring, pass, tail);
+    let PushTurn::Append(tail) = turn else {
         return Err((turn, value));
     };
-    append(ring, pass, Manner::Plain, tail, value)
+    append(ring, pass, tail, value)
 }
 
 /// Appends a value, or gives it back.
@@ -224,17 +225,9 @@ pub fn push<T, R: Wait>(
     ensures answers { (reply : Reply) × (push_at ring.now.shape pass.new.me.0.found ≡ End reply) × PushSays value reply result }
     ensures stays_closed { pass.old.me.0.closed ≡ true → IsErr result }
 {
-    let (turn, value) = match push_at_once(ring, pass, value) {
-        Ok(()) => return Ok(()),
-        Err(left) => left,
-    };
-    match put_from(rt, ring, pass, Manner::Plain, turn, value) {
-        Ok(displaced) => match displaced {
-            None => Ok(()),
-            Some(_) => unreachable!(),
-        },
-        Err((Reply::Full, back)) => Err(PushError::Full(back)),
-        Err((_, back)) => Err(PushError::Closed(back)),
+    match push_at_once(ring, pass, value) {
+        Ok(()) => Ok(()),
+        Err((turn, back)) => push_from(rt, ring, pass, turn, back),
     }
 }
 
@@ -250,9 +243,27 @@ pub fn force_push<T, R: Wait>(
     ensures answers { (reply : Reply) × (force_push_at ring.now.shape pass.new.me.0.found ≡ End reply) × ForcePushSays value reply result }
     ensures stays_closed { pass.old.me.0.closed ≡ true → IsErr result }
 {
-    let turn = begins(ring, pass, Manner::Forced);
-    match put_from(rt, ring, pass, Manner::Forced, turn, value) {
-        Ok(displaced) => Ok(displaced),
-        Err((_, back)) => Err(ForcePushError::Closed(back)),
+    let backoff = Backoff::new();
+    let mut value = value;
+    let mut turn = begins(ring, pass);
+    for _ in rt.forever() {
+        match turn {
+            PushTurn::Stamp(tail) => turn = at_stamp(ring, pass, tail),
+            PushTurn::Append(tail) => match append(ring, pass, tail, value) {
+                Ok(()) => return Ok(None),
+                Err(left) => (turn, value) = left,
+            },
+            PushTurn::HeadFor(tail) => match at_head(ring, pass, tail, value) {
+                Ok(oldest) => return Ok(Some(oldest)),
+                Err(left) => (turn, value) = left,
+            },
+            PushTurn::Tail => {
+                backoff.snooze();
+                turn = at_tail(ring, pass);
+            }
+            PushTurn::Spend(tail) => turn = at_spend(ring, pass, tail),
+            PushTurn::Closed => return Err(ForcePushError::Closed(value)),
+        }
     }
+    unreachable!()
 }

@@ -1,40 +1,39 @@
 //! `push` and `force_push` on a single slot.
 ghost use Rattle.std.specs.Prelude.{◌≡◌, ◌≢◌, true, MatchResult, IsErr};
-ghost use Rattle.queue_steps.specs.declared.steps.Reply.{Reply};
-ghost use Rattle.queue_steps.specs.declared.steps.Reply.TheVariants.{Done};
-ghost use Rattle.queue_steps.specs.declared.steps.single.Turn.TheVariants.{End};
+ghost use Rattle.queue_steps.specs.Reply.{Reply, Done};
+ghost use Rattle.queue_steps.specs.SingleTurns.{End};
+ghost use Rattle.queue_steps.specs.SingleCallTurns.{of_push};
 ghost use Rattle.concurrent_queue.specs.Answered.{PushSays, ForcePushSays};
-ghost use Rattle.concurrent_queue.specs.SingleSeat.{IsSeatOf, IsSameSeat, push_at, force_push_at, IsRefusalToPush, IsPushTurn};
+ghost use Rattle.concurrent_queue.specs.SingleSeat.{IsSeatOf, IsSameSeat, push_at, force_push_at, IsPushTurn};
 
 use crate::single::Single;
 use crate::single::moves::{self, Pass};
 use crossbeam_utils::Backoff;
-use queue_steps::steps::Reply;
-use queue_steps::steps::single::{self as steps, Turn};
+use queue_steps::steps::single::{self as steps, ForcePushTurn, PushTurn};
 use queue_steps::{ForcePushError, PushError};
 use std::sync::Wait;
 
-// A push, from where it stands. Or the reply that refused it, and the value.
+// A push, from where it stands.
 #[inline(never)]
 fn push_from<T, R: Wait>(
     rt: &R,
     slot: &Single<T>,
     pass: &mut Pass<T>,
-    turn: Turn,
+    turn: PushTurn,
     value: T,
-) -> Result<(), (Reply, T)>
+) -> Result<(), PushError<T>>
     requires seat { IsSeatOf slot.now.board.shared pass.old }
-    requires stands { (turn ≡ push_at pass.old.me.0.found) × IsPushTurn turn }
+    requires stands { (of_push turn ≡ push_at pass.old.me.0.found) × IsPushTurn turn }
     ensures same { IsSameSeat pass.old pass.new }
-    ensures made { MatchResult result (λ _. (pass.old.me.0.closed ≢ true) × (push_at pass.new.me.0.found ≡ End Done))
-        (λ e. IsRefusalToPush e.0 × (e.1 ≡ value) × (push_at pass.new.me.0.found ≡ End e.0)) }
+    ensures answers { (reply : Reply) × (push_at pass.new.me.0.found ≡ End reply) × PushSays value reply result }
+    ensures stays_closed { pass.old.me.0.closed ≡ true → IsErr result }
 {
     let backoff = Backoff::new();
     let mut value = value;
     let mut turn = turn;
     for _ in rt.forever() {
         match turn {
-            Turn::Exchange(old, new) => match moves::write(
+            PushTurn::Exchange(old, new) => match moves::write(
                 &slot.board.shared,
                 pass,
                 old,
@@ -47,15 +46,15 @@ fn push_from<T, R: Wait>(
                 },
                 Err((found, back)) => {
                     value = back;
-                    turn = steps::push(turn, found);
+                    turn = steps::push(found);
                 }
             },
-            Turn::Look => {
+            PushTurn::Look => {
                 backoff.snooze();
-                turn = steps::push(turn, moves::look(&slot.board.shared, pass));
+                turn = steps::push(moves::look(&slot.board.shared, pass));
             }
-            Turn::End(reply) => return Err((reply, value)),
-            _ => unreachable!(),
+            PushTurn::Full => return Err(PushError::Full(value)),
+            PushTurn::Closed => return Err(PushError::Closed(value)),
         }
     }
     unreachable!()
@@ -64,14 +63,14 @@ fn push_from<T, R: Wait>(
 // The first turns of a push, which are all on an empty slot where no other call comes between. Or else where it stands
 // then, and the value.
 #[inline(always)]
-fn push_at_once<T>(slot: &Single<T>, pass: &mut Pass<T>, value: T) -> Result<(), (Turn, T)>
+fn push_at_once<T>(slot: &Single<T>, pass: &mut Pass<T>, value: T) -> Result<(), (PushTurn, T)>
     requires { IsSeatOf slot.now.board.shared pass.old }
     ensures same { IsSameSeat pass.old pass.new }
     ensures made { MatchResult result (λ _. (pass.old.me.0.closed ≢ true) × (push_at pass.new.me.0.found ≡ End Done))
-        (λ e. (e.1 ≡ value) × (e.0 ≡ push_at pass.new.me.0.found) × IsPushTurn e.0) }
+        (λ e. (e.1 ≡ value) × (of_push e.0 ≡ push_at pass.new.me.0.found) × IsPushTurn e.0) }
 {
-    let turn = steps::push(Turn::Look, moves::begin(&slot.board.shared, pass));
-    let Turn::Exchange(old, new) = turn else {
+    let turn = steps::push(moves::begin(&slot.board.shared, pass));
+    let PushTurn::Exchange(old, new) = turn else {
         return Err((turn, value));
     };
     match moves::write(&slot.board.shared, pass, old, new, value) {
@@ -79,7 +78,7 @@ fn push_at_once<T>(slot: &Single<T>, pass: &mut Pass<T>, value: T) -> Result<(),
             None => Ok(()),
             Some(_) => unreachable!(),
         },
-        Err((found, back)) => Err((steps::push(turn, found), back)),
+        Err((found, back)) => Err((steps::push(found), back)),
     }
 }
 
@@ -96,14 +95,9 @@ pub fn push<T, R: Wait>(
     ensures answers { (reply : Reply) × (push_at pass.new.me.0.found ≡ End reply) × PushSays value reply result }
     ensures stays_closed { pass.old.me.0.closed ≡ true → IsErr result }
 {
-    let (turn, value) = match push_at_once(slot, pass, value) {
-        Ok(()) => return Ok(()),
-        Err(left) => left,
-    };
-    match push_from(rt, slot, pass, turn, value) {
+    match push_at_once(slot, pass, value) {
         Ok(()) => Ok(()),
-        Err((Reply::Full, back)) => Err(PushError::Full(back)),
-        Err((_, back)) => Err(PushError::Closed(back)),
+        Err((turn, back)) => push_from(rt, slot, pass, turn, back),
     }
 }
 
@@ -121,10 +115,10 @@ pub fn force_push<T, R: Wait>(
 {
     let backoff = Backoff::new();
     let mut value = value;
-    let mut turn = steps::force_push(Turn::Look, moves::begin(&slot.board.shared, pass));
+    let mut turn = steps::force_push(moves::begin(&slot.board.shared, pass));
     for _ in rt.forever() {
         match turn {
-            Turn::Exchange(old, new) => match moves::write(
+            ForcePushTurn::Exchange(old, new) => match moves::write(
                 &slot.board.shared,
                 pass,
                 old,
@@ -134,15 +128,14 @@ pub fn force_push<T, R: Wait>(
                 Ok((held, _last)) => return Ok(held),
                 Err((found, back)) => {
                     value = back;
-                    turn = steps::force_push(turn, found);
+                    turn = steps::force_push(found);
                 }
             },
-            Turn::Look => {
+            ForcePushTurn::Look => {
                 backoff.snooze();
-                turn = steps::force_push(turn, moves::look(&slot.board.shared, pass));
+                turn = steps::force_push(moves::look(&slot.board.shared, pass));
             }
-            Turn::End(Reply::Closed) => return Err(ForcePushError::Closed(value)),
-            _ => unreachable!(),
+            ForcePushTurn::Closed => return Err(ForcePushError::Closed(value)),
         }
     }
     unreachable!()

@@ -2,14 +2,11 @@
 //!
 //! A tail or a head is the index of a place plus a lap for each time round. The tail also carries the ring's mark once
 //! the ring is closed. A place's stamp is the tail that may fill it, or one more than the tail that filled it.
-ghost use Rattle.std.specs.Prelude.{◌≡◌, ℕ, ◌+◌, ◌-◌, ◌*◌, ◌%◌, ◌<◌, ◌^◌, ◌==◌};
+ghost use Rattle.std.specs.Prelude.{◌≡◌, ℕ, ◌+◌, ◌-◌, ◌*◌, ◌%◌, ◌<◌, ◌^◌, ◌==◌, not};
 ghost use Rattle.queue_steps.specs.Bounded.{IsShape, IsPlaceWord, count_at, next_at, advanced_at, is_marked};
-ghost use Rattle.queue_steps.specs.BoundedTurns.{answered, pushes_from, appends_at, stamped_for_push, displaces_at, pops_from};
-ghost use Rattle.queue_steps.specs.BoundedTurns.{stamped_for_pop};
-ghost use Rattle.queue_steps.specs.BoundedTurns.{push_turn, force_push_turn, pop_turn, close_turn, len_turn, is_empty_turn, is_full_turn};
-ghost use Rattle.queue_steps.specs.BoundedTurns.{is_closed_turn};
-
-use crate::steps::Reply;
+ghost use Rattle.queue_steps.specs.BoundedTurns.{Tail, Head, Stamp, HeadFor, TailFor, Spend, appends_at, push_turn, force_push_turn};
+ghost use Rattle.queue_steps.specs.BoundedTurns.{pop_turn, looks_empty, looks_full};
+ghost use Rattle.queue_steps.specs.BoundedCallTurns.{of_push, of_force_push, of_pop};
 
 /// A ring accepts this many items in its life. The push of one more closes it.
 pub const MOST_ACCEPTED: u64 = 1 << 61;
@@ -69,20 +66,6 @@ impl Shape {
         (word >> (self.bits + 1)) * self.capacity + self.index(word)
     }
 
-    #[tactic(auto, using(crate::proofs::BoundedMasks::laps_shift, crate::proofs::BoundedMasks::counts_in_a_lap), unfolding(crate::specs::Bounded::count_at))]
-    /// How many items more were appended before this tail than taken before this head. Within a lap that is a difference of
-    /// indexes, without a product.
-    fn between(self, head: u64, tail: u64) -> u64
-        ensures { result ≡ count_at self.capacity self.mark tail - count_at self.capacity self.mark head }
-    {
-        let lap = self.bits + 1;
-        if tail >> lap == head >> lap {
-            self.index(tail).saturating_sub(self.index(head))
-        } else {
-            self.count(tail).saturating_sub(self.count(head))
-        }
-    }
-
     #[tactic(auto, using(crate::proofs::BoundedWords::place_fits), unfolding(crate::specs::Bounded::next_at))]
     /// The tail or head of the next place, or of the next lap.
     pub fn next(self, word: u64) -> u64
@@ -127,234 +110,212 @@ impl Shape {
     }
 }
 
-/// What a call on a ring does next.
+/// What a push, plain or forced, does next.
 #[derive(Clone, Copy)]
-pub enum Turn {
+pub enum PushTurn {
     /// Load the tail.
     Tail,
-    /// Load the head.
-    Head,
-    /// Load the stamp of the place at this tail or head.
+    /// Load the stamp of the place at this tail.
     Stamp(u64),
     /// Load the head, since the place at this tail still has the item of a lap before.
     HeadFor(u64),
-    /// Load the tail, since nothing is in the place at this head.
-    TailFor(u64),
-    /// Load the tail again, which was the first word while the head was the second.
-    TailAgain(u64, u64),
-    /// Exchange this tail for the next one: the append.
+    /// Exchange this tail for the next one: the append. Then write to the place at this tail, and set its stamp to one more
+    /// than this tail.
     Append(u64),
-    /// Exchange this head for the next one: the take.
-    Take(u64),
-    /// Exchange the head of a lap before this tail for the next one: the displacement, a take that owes an append.
-    Displace(u64),
-    /// Move the tail on from this one, and keep its mark: the append that a displacement owes.
-    Advance(u64),
     /// Exchange this tail for itself with the mark: the push of one item too many closes the ring.
     Spend(u64),
-    /// Set the mark, whatever the tail is: the close.
-    Close,
-    /// The place at this tail is the call's own: write or swap there, and set its stamp to one more than this tail.
-    Fill(u64, Reply),
-    /// The place at this head is the call's own: read there, and set its stamp to a lap more than this head.
-    Drain(u64),
     /// The call has ended.
-    End(Reply),
+    Closed,
 }
 
-fn answer(yes: bool) -> Turn
-    ensures { result ≡ answered yes }
-{
-    Turn::End(if yes { Reply::Yes } else { Reply::No })
-}
-
-// Where a push that found this tail goes on. No call meets a tail that names no place.
+/// A push, plain or forced, that found this tail. A closed ring refuses it before a full one does. No call meets a tail
+/// that names no place.
 #[inline(always)]
-fn push_from(shape: Shape, tail: u64) -> Turn
-    ensures { result ≡ pushes_from shape.capacity shape.mark tail }
+pub fn push_at_tail(shape: Shape, tail: u64) -> PushTurn
+    ensures plain { of_push result ≡ push_turn shape.capacity shape.mark Tail tail }
+    ensures forced { of_push result ≡ force_push_turn shape.capacity shape.mark Tail tail }
 {
     if shape.is_marked(tail) {
-        Turn::End(Reply::Closed)
+        PushTurn::Closed
     } else if shape.index(tail) < shape.capacity {
-        Turn::Stamp(tail)
+        PushTurn::Stamp(tail)
     } else {
-        Turn::Tail
+        PushTurn::Tail
     }
 }
 
 // The place at this tail is free: the append, but that one item too many closes the ring.
 #[inline(always)]
-fn append_at(shape: Shape, tail: u64) -> Turn
-    ensures { result ≡ appends_at shape.capacity shape.mark tail }
+fn append_at(shape: Shape, tail: u64) -> PushTurn
+    ensures { of_push result ≡ appends_at shape.capacity shape.mark tail }
 {
     if shape.count(tail) < MOST_ACCEPTED {
-        Turn::Append(tail)
+        PushTurn::Append(tail)
     } else {
-        Turn::Spend(tail)
+        PushTurn::Spend(tail)
     }
 }
 
-// The stamp of the place at this tail: free, or it still has the item of a lap before, or it is being read.
+/// The stamp of the place at this tail: free, or it still has the item of a lap before, or it is being read.
 #[inline(always)]
-fn stamp_for_push(shape: Shape, tail: u64, stamp: u64) -> Turn
-    ensures { result ≡ stamped_for_push shape.capacity shape.mark tail stamp }
+pub fn push_at_stamp(shape: Shape, tail: u64, stamp: u64) -> PushTurn
+    ensures plain { of_push result ≡ push_turn shape.capacity shape.mark (Stamp tail) stamp }
+    ensures forced { of_push result ≡ force_push_turn shape.capacity shape.mark (Stamp tail) stamp }
 {
     if stamp == tail {
         append_at(shape, tail)
     } else if shape.is_above(stamp, shape.lap() - 1, tail) {
-        Turn::HeadFor(tail)
+        PushTurn::HeadFor(tail)
     } else {
-        Turn::Tail
+        PushTurn::Tail
     }
 }
 
-/// A push is refused by a closed ring before it is by a full one. It begins at `Turn::Tail`.
-#[inline(always)]
-pub fn push(shape: Shape, turn: Turn, found: u64) -> Turn
-    ensures { result ≡ push_turn shape.capacity shape.mark turn found }
+/// Whether the head is a lap before this tail, at which the place still had an item: then a push ends, and else it looks at
+/// the tail again.
+pub fn is_full_at_head(shape: Shape, tail: u64, head: u64) -> bool
+    ensures { result ≡ (head + 2 * shape.mark == tail) }
 {
-    match turn {
-        Turn::Append(tail) if found == tail => Turn::Fill(tail, Reply::Done),
-        Turn::Spend(tail) if found == tail => Turn::End(Reply::Closed),
-        Turn::Tail | Turn::Append(_) | Turn::Spend(_) => push_from(shape, found),
-        Turn::Stamp(tail) => stamp_for_push(shape, tail, found),
-        Turn::HeadFor(tail) if shape.is_above(found, shape.lap(), tail) => Turn::End(Reply::Full),
-        Turn::HeadFor(_) => Turn::Tail,
-        Turn::Fill(_, reply) => Turn::End(reply),
-        other => other,
-    }
+    shape.is_above(head, shape.lap(), tail)
 }
 
-// The ring is full: the displacement, but that one item too many closes the ring and displaces nothing.
-fn displace_at(shape: Shape, tail: u64) -> Turn
-    ensures { result ≡ displaces_at shape.capacity shape.mark tail }
+/// The tail that was found where a push was to close the ring: the same, or it goes on from there.
+pub fn push_at_spend(shape: Shape, tail: u64, found: u64) -> PushTurn
+    ensures plain { of_push result ≡ push_turn shape.capacity shape.mark (Spend tail) found }
+    ensures forced { of_push result ≡ force_push_turn shape.capacity shape.mark (Spend tail) found }
 {
-    if shape.count(tail) < MOST_ACCEPTED {
-        Turn::Displace(tail)
+    if found == tail {
+        PushTurn::Closed
     } else {
-        Turn::Spend(tail)
+        push_at_tail(shape, found)
     }
 }
 
-/// A forced push takes the oldest item of a full ring, and then moves the tail on. It begins at `Turn::Tail`.
-#[inline(always)]
-pub fn force_push(shape: Shape, turn: Turn, found: u64) -> Turn
-    ensures { result ≡ force_push_turn shape.capacity shape.mark turn found }
+/// What a forced push does next that has looked at the head.
+#[derive(Clone, Copy)]
+pub enum ForcePushTurn {
+    /// Go on as a push does.
+    Push(PushTurn),
+    /// Exchange the head of a lap before this tail for the next one: the displacement, a take that owes an append. Then move
+    /// the tail on from this one, and keep its mark. Then swap in the place at this tail, and set its stamp as a push does.
+    Displace(u64),
+}
+
+/// A forced push takes the oldest item of a full ring, but that one item too many closes the ring and displaces nothing.
+pub fn force_push_at_head(shape: Shape, tail: u64, head: u64) -> ForcePushTurn
+    ensures { of_force_push result ≡ force_push_turn shape.capacity shape.mark (HeadFor tail) head }
 {
-    match turn {
-        Turn::HeadFor(tail) if shape.is_above(found, shape.lap(), tail) => displace_at(shape, tail),
-        Turn::Displace(tail) if shape.is_above(found, shape.lap(), tail) => Turn::Advance(tail),
-        Turn::Displace(_) => Turn::Tail,
-        Turn::Advance(tail) => Turn::Fill(tail, Reply::Displaced),
-        other => push(shape, other, found),
+    if !shape.is_above(head, shape.lap(), tail) {
+        ForcePushTurn::Push(PushTurn::Tail)
+    } else if shape.count(tail) < MOST_ACCEPTED {
+        ForcePushTurn::Displace(tail)
+    } else {
+        ForcePushTurn::Push(PushTurn::Spend(tail))
     }
 }
 
-// Where a pop that found this head goes on. No call meets a head that names no place.
+/// What a pop does next.
+#[derive(Clone, Copy)]
+pub enum PopTurn {
+    /// Load the head.
+    Head,
+    /// Load the stamp of the place at this head.
+    Stamp(u64),
+    /// Load the tail, since nothing is in the place at this head.
+    TailFor(u64),
+    /// Exchange this head for the next one: the take. Then read the place at this head, and set its stamp to a lap more than
+    /// this head.
+    Take(u64),
+    /// The call has ended.
+    Empty,
+    /// The call has ended.
+    Closed,
+}
+
+/// A pop that found this head. No call meets a head that names no place.
 #[inline(always)]
-fn pop_from(shape: Shape, head: u64) -> Turn
-    ensures { result ≡ pops_from shape.capacity shape.mark head }
+pub fn pop_at_head(shape: Shape, head: u64) -> PopTurn
+    ensures { of_pop result ≡ pop_turn shape.capacity shape.mark Head head }
 {
     if shape.index(head) < shape.capacity {
-        Turn::Stamp(head)
+        PopTurn::Stamp(head)
     } else {
-        Turn::Head
+        PopTurn::Head
     }
 }
 
-// The stamp of the place at this head: filled, or free, or it is being written or read.
+/// The stamp of the place at this head: filled, or free, or it is being written or read. A pop waits for an item on its way
+/// in.
 #[inline(always)]
-fn stamp_for_pop(shape: Shape, head: u64, stamp: u64) -> Turn
-    ensures { result ≡ stamped_for_pop shape.capacity shape.mark head stamp }
+pub fn pop_at_stamp(shape: Shape, head: u64, stamp: u64) -> PopTurn
+    ensures { of_pop result ≡ pop_turn shape.capacity shape.mark (Stamp head) stamp }
 {
     if shape.is_above(head, 1, stamp) {
         if shape.count(head) < MOST_ACCEPTED {
-            Turn::Take(head)
+            PopTurn::Take(head)
         } else {
-            Turn::Head
+            PopTurn::Head
         }
     } else if stamp == head {
-        Turn::TailFor(head)
+        PopTurn::TailFor(head)
     } else {
-        Turn::Head
+        PopTurn::Head
     }
 }
 
-/// A pop waits for an item on its way in. It begins at `Turn::Head`.
+/// The tail, where nothing was in the place at this head: the ring is empty, or an item is on its way in.
+pub fn pop_at_tail(shape: Shape, head: u64, tail: u64) -> PopTurn
+    ensures { of_pop result ≡ pop_turn shape.capacity shape.mark (TailFor head) tail }
+{
+    if tail == head {
+        PopTurn::Empty
+    } else if shape.is_above(head, shape.mark, tail) {
+        PopTurn::Closed
+    } else {
+        PopTurn::Head
+    }
+}
+
+/// A close answers yes where the mark was not there. It sets the mark, whatever the tail is.
+pub fn close(shape: Shape, tail: u64) -> bool
+    ensures { result ≡ not (is_marked shape.mark tail) }
+{
+    !shape.is_marked(tail)
+}
+
+#[tactic(auto, using(crate::proofs::BoundedMasks::laps_shift, crate::proofs::BoundedMasks::counts_in_a_lap), unfolding(crate::specs::Bounded::count_at))]
+/// The length, where the tail was the same before and after the look at this head. Within a lap that is a difference of
+/// indexes, without a product.
 #[inline(always)]
-pub fn pop(shape: Shape, turn: Turn, found: u64) -> Turn
-    ensures { result ≡ pop_turn shape.capacity shape.mark turn found }
+pub fn len(shape: Shape, tail: u64, head: u64) -> u64
+    ensures { result ≡ count_at shape.capacity shape.mark tail - count_at shape.capacity shape.mark head }
 {
-    match turn {
-        Turn::Take(head) if found == head => Turn::Drain(head),
-        Turn::Head | Turn::Take(_) => pop_from(shape, found),
-        Turn::Stamp(head) => stamp_for_pop(shape, head, found),
-        Turn::TailFor(head) if found == head => Turn::End(Reply::Empty),
-        Turn::TailFor(head) if shape.is_above(head, shape.mark, found) => Turn::End(Reply::Closed),
-        Turn::TailFor(_) => Turn::Head,
-        Turn::Drain(_) => Turn::End(Reply::Done),
-        other => other,
+    let lap = shape.bits + 1;
+    if tail >> lap == head >> lap {
+        shape.index(tail).saturating_sub(shape.index(head))
+    } else {
+        shape.count(tail).saturating_sub(shape.count(head))
     }
 }
 
-/// A close answers yes where the mark was not there. It begins at `Turn::Close`.
-pub fn close(shape: Shape, turn: Turn, found: u64) -> Turn
-    ensures { result ≡ close_turn shape.capacity shape.mark turn found }
+/// Whether the ring was empty when this tail was loaded, after this head.
+pub fn is_empty(shape: Shape, head: u64, tail: u64) -> bool
+    ensures { result ≡ looks_empty shape.capacity shape.mark head tail }
 {
-    match turn {
-        Turn::Close => answer(!shape.is_marked(found)),
-        other => other,
-    }
+    tail == head || shape.is_above(head, shape.mark, tail)
 }
 
-/// The length is read between two looks at a tail that stayed the same. It begins at `Turn::Tail`.
-pub fn len(shape: Shape, turn: Turn, found: u64) -> Turn
-    ensures { result ≡ len_turn shape.capacity shape.mark turn found }
+/// Whether the ring was full when this head was loaded, after this tail.
+pub fn is_full(shape: Shape, tail: u64, head: u64) -> bool
+    ensures { result ≡ looks_full shape.capacity shape.mark tail head }
 {
-    match turn {
-        Turn::Tail => Turn::HeadFor(found),
-        Turn::HeadFor(tail) => Turn::TailAgain(tail, found),
-        Turn::TailAgain(tail, head) if found == tail => {
-            Turn::End(Reply::Length(shape.between(head, tail)))
-        }
-        Turn::TailAgain(_, _) => Turn::HeadFor(found),
-        other => other,
-    }
+    let lap = shape.lap();
+    shape.is_above(head, lap, tail) || shape.is_above(head, lap + shape.mark, tail)
 }
 
-/// It begins at `Turn::Head`.
-pub fn is_empty(shape: Shape, turn: Turn, found: u64) -> Turn
-    ensures { result ≡ is_empty_turn shape.capacity shape.mark turn found }
+/// Whether a tail is that of a closed ring.
+pub fn is_closed(shape: Shape, tail: u64) -> bool
+    ensures { result ≡ is_marked shape.mark tail }
 {
-    match turn {
-        Turn::Head => Turn::TailFor(found),
-        Turn::TailFor(head) => answer(found == head || shape.is_above(head, shape.mark, found)),
-        other => other,
-    }
-}
-
-/// It begins at `Turn::Tail`.
-pub fn is_full(shape: Shape, turn: Turn, found: u64) -> Turn
-    ensures { result ≡ is_full_turn shape.capacity shape.mark turn found }
-{
-    match turn {
-        Turn::Tail => Turn::HeadFor(found),
-        Turn::HeadFor(tail) => {
-            let lap = shape.lap();
-            answer(
-                shape.is_above(found, lap, tail) || shape.is_above(found, lap + shape.mark, tail),
-            )
-        }
-        other => other,
-    }
-}
-
-/// It begins at `Turn::Tail`.
-pub fn is_closed(shape: Shape, turn: Turn, found: u64) -> Turn
-    ensures { result ≡ is_closed_turn shape.capacity shape.mark turn found }
-{
-    match turn {
-        Turn::Tail => answer(shape.is_marked(found)),
-        other => other,
-    }
+    shape.is_marked(tail)
 }

@@ -2,12 +2,11 @@
 //!
 //! Its word is a sum of three marks. Whoever sets `LOCKED` has the slot alone until it clears it again. `PUSHED` says
 //! that an item is there, or is on its way in. `CLOSED` is never cleared.
-ghost use Rattle.std.specs.Prelude.{◌≡◌};
-ghost use Rattle.queue_steps.specs.SingleTurns.{push_turn, force_push_turn, pop_turn, close_turn, len_turn, is_empty_turn, is_full_turn};
-ghost use Rattle.queue_steps.specs.SingleTurns.{is_closed_turn};
-ghost use Rattle.queue_steps.specs.SingleTurns.{looked_to_push, looked_to_force, looked_to_pop, answered};
-
-use crate::steps::Reply;
+//!
+//! A call begins with a look at the word. One that found another word than it was to exchange goes on as if it had looked.
+ghost use Rattle.std.specs.Prelude.{◌≡◌, ◌%◌, true, false, nat_lt, if◌then◌else◌};
+ghost use Rattle.queue_steps.specs.SingleTurns.{Look, push_turn, force_push_turn, pop_turn};
+ghost use Rattle.queue_steps.specs.SingleCallTurns.{of_push, of_force_push, of_pop};
 
 pub const LOCKED: u64 = 1;
 
@@ -15,157 +14,119 @@ pub const PUSHED: u64 = 2;
 
 pub const CLOSED: u64 = 4;
 
-/// What a call on a single slot does next.
+/// What a push does next.
 #[derive(Clone, Copy)]
-pub enum Turn {
+pub enum PushTurn {
     /// Load the word.
     Look,
-    /// Exchange the first word for the second, which locks the slot: the append, the take or the displacement.
+    /// Exchange the first word for the second, which locks the slot: the append. Then write, and take `LOCKED` off.
     Exchange(u64, u64),
-    /// The slot is the call's own: write, read or swap there, and then take `LOCKED` off the word.
-    Unlock(Reply),
-    /// Set `CLOSED`, whatever else the word has.
-    Close,
     /// The call has ended.
-    End(Reply),
-}
-
-fn answer(yes: bool) -> Turn
-    ensures { result ≡ answered yes }
-{
-    Turn::End(if yes { Reply::Yes } else { Reply::No })
-}
-
-#[inline(always)]
-fn look_to_push(word: u64) -> Turn
-    ensures { result ≡ looked_to_push word }
-{
-    if word >= CLOSED {
-        Turn::End(Reply::Closed)
-    } else if word >= PUSHED {
-        Turn::End(Reply::Full)
-    } else if word == LOCKED {
-        Turn::Look
-    } else {
-        Turn::Exchange(word, word + LOCKED + PUSHED)
-    }
+    Full,
+    /// The call has ended.
+    Closed,
 }
 
 /// A push waits while a pop is reading, and is refused by a closed slot before it is by a full one.
 #[inline(always)]
-pub fn push(turn: Turn, found: u64) -> Turn
-    ensures { result ≡ push_turn turn found }
+pub fn push(word: u64) -> PushTurn
+    ensures { of_push result ≡ push_turn Look word }
 {
-    match turn {
-        Turn::Exchange(old, _) if found == old => Turn::Unlock(Reply::Done),
-        Turn::Look | Turn::Exchange(_, _) => look_to_push(found),
-        Turn::Unlock(reply) => Turn::End(reply),
-        Turn::Close | Turn::End(_) => turn,
+    if word >= CLOSED {
+        PushTurn::Closed
+    } else if word >= PUSHED {
+        PushTurn::Full
+    } else if word == LOCKED {
+        PushTurn::Look
+    } else {
+        PushTurn::Exchange(word, word + LOCKED + PUSHED)
     }
 }
 
-fn look_to_force(word: u64) -> Turn
-    ensures { result ≡ looked_to_force word }
-{
-    if word >= CLOSED {
-        Turn::End(Reply::Closed)
-    } else if word % PUSHED == LOCKED {
-        Turn::Look
-    } else if word >= PUSHED {
-        Turn::Exchange(word, word + LOCKED)
-    } else {
-        Turn::Exchange(word, word + LOCKED + PUSHED)
-    }
+/// What a forced push does next.
+#[derive(Clone, Copy)]
+pub enum ForcePushTurn {
+    /// Load the word.
+    Look,
+    /// Exchange the first word for the second, which locks the slot: the append, or the displacement. Then swap, and take
+    /// `LOCKED` off.
+    Exchange(u64, u64),
+    /// The call has ended.
+    Closed,
 }
 
 /// A forced push locks a full slot to swap the item there, which is the displacement.
-pub fn force_push(turn: Turn, found: u64) -> Turn
-    ensures { result ≡ force_push_turn turn found }
+pub fn force_push(word: u64) -> ForcePushTurn
+    ensures { of_force_push result ≡ force_push_turn Look word }
 {
-    match turn {
-        Turn::Exchange(old, _) if found == old => {
-            Turn::Unlock(if old >= PUSHED {
-                Reply::Displaced
-            } else {
-                Reply::Done
-            })
-        }
-        Turn::Look | Turn::Exchange(_, _) => look_to_force(found),
-        Turn::Unlock(reply) => Turn::End(reply),
-        Turn::Close | Turn::End(_) => turn,
+    if word >= CLOSED {
+        ForcePushTurn::Closed
+    } else if word % PUSHED == LOCKED {
+        ForcePushTurn::Look
+    } else if word >= PUSHED {
+        ForcePushTurn::Exchange(word, word + LOCKED)
+    } else {
+        ForcePushTurn::Exchange(word, word + LOCKED + PUSHED)
     }
 }
 
-#[inline(always)]
-fn look_to_pop(word: u64) -> Turn
-    ensures { result ≡ looked_to_pop word }
-{
-    if word % CLOSED == PUSHED {
-        Turn::Exchange(word, word - PUSHED + LOCKED)
-    } else if word % CLOSED == PUSHED + LOCKED {
-        Turn::Look
-    } else if word >= CLOSED {
-        Turn::End(Reply::Closed)
-    } else {
-        Turn::End(Reply::Empty)
-    }
+/// What a pop does next.
+#[derive(Clone, Copy)]
+pub enum PopTurn {
+    /// Load the word.
+    Look,
+    /// Exchange the first word for the second, which locks the slot: the take. Then read, and take `LOCKED` off.
+    Exchange(u64, u64),
+    /// The call has ended.
+    Empty,
+    /// The call has ended.
+    Closed,
 }
 
 /// A pop waits for an item on its way in.
 #[inline(always)]
-pub fn pop(turn: Turn, found: u64) -> Turn
-    ensures { result ≡ pop_turn turn found }
+pub fn pop(word: u64) -> PopTurn
+    ensures { of_pop result ≡ pop_turn Look word }
 {
-    match turn {
-        Turn::Exchange(old, _) if found == old => Turn::Unlock(Reply::Done),
-        Turn::Look | Turn::Exchange(_, _) => look_to_pop(found),
-        Turn::Unlock(reply) => Turn::End(reply),
-        Turn::Close | Turn::End(_) => turn,
+    if word % CLOSED == PUSHED {
+        PopTurn::Exchange(word, word - PUSHED + LOCKED)
+    } else if word % CLOSED == PUSHED + LOCKED {
+        PopTurn::Look
+    } else if word >= CLOSED {
+        PopTurn::Closed
+    } else {
+        PopTurn::Empty
     }
 }
 
-/// A close answers yes where the mark was not there. It begins at `Turn::Close`, and each call below at `Turn::Look`.
-pub fn close(turn: Turn, found: u64) -> Turn
-    ensures { result ≡ close_turn turn found }
+/// A close answers yes where the mark was not there. It sets `CLOSED`, whatever else the word has.
+pub fn close(word: u64) -> bool
+    ensures { result ≡ nat_lt word 4 }
 {
-    match turn {
-        Turn::Close => answer(found < CLOSED),
-        _ => turn,
-    }
+    word < CLOSED
 }
 
-pub fn len(turn: Turn, found: u64) -> Turn
-    ensures { result ≡ len_turn turn found }
+/// Each of the other calls answers by the first word that it loads.
+pub fn len(word: u64) -> u64
+    ensures { result ≡ if nat_lt (word % 4) 2 then 0 else 1 }
 {
-    match turn {
-        Turn::Look => Turn::End(Reply::Length(if found % CLOSED >= PUSHED { 1 } else { 0 })),
-        _ => turn,
-    }
+    if word % CLOSED >= PUSHED { 1 } else { 0 }
 }
 
-pub fn is_empty(turn: Turn, found: u64) -> Turn
-    ensures { result ≡ is_empty_turn turn found }
+pub fn is_empty(word: u64) -> bool
+    ensures { result ≡ nat_lt (word % 4) 2 }
 {
-    match turn {
-        Turn::Look => answer(found % CLOSED < PUSHED),
-        _ => turn,
-    }
+    word % CLOSED < PUSHED
 }
 
-pub fn is_full(turn: Turn, found: u64) -> Turn
-    ensures { result ≡ is_full_turn turn found }
+pub fn is_full(word: u64) -> bool
+    ensures { result ≡ if nat_lt (word % 4) 2 then false else true }
 {
-    match turn {
-        Turn::Look => answer(found % CLOSED >= PUSHED),
-        _ => turn,
-    }
+    word % CLOSED >= PUSHED
 }
 
-pub fn is_closed(turn: Turn, found: u64) -> Turn
-    ensures { result ≡ is_closed_turn turn found }
+pub fn is_closed(word: u64) -> bool
+    ensures { result ≡ if nat_lt word 4 then false else true }
 {
-    match turn {
-        Turn::Look => answer(found >= CLOSED),
-        _ => turn,
-    }
+    word >= CLOSED
 }

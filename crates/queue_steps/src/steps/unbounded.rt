@@ -1,8 +1,7 @@
 //! The steps on a chain of blocks. Each call is one section of one lock, so a step has both ends before it.
-ghost use Rattle.std.specs.Prelude.{◌≡◌, ◌-◌, ◌^◌, ◌<◌, ◌≤◌, ◌==◌, not, nat_le};
-ghost use Rattle.queue_steps.specs.UnboundedTurns.{push_turn, pop_turn, close_turn, ends_after};
-
-use crate::steps::Reply;
+ghost use Rattle.std.specs.Prelude.{◌≡◌, ◌-◌, ◌^◌, ◌<◌, not, nat_le};
+ghost use Rattle.queue_steps.specs.UnboundedTurns.{Append, Take, Close, push_turn, pop_turn, ends_after};
+ghost use Rattle.queue_steps.specs.UnboundedCallTurns.{of_push, of_pop};
 
 /// How many items a block has room for.
 pub const BLOCK: u64 = 31;
@@ -18,25 +17,6 @@ pub struct Ends {
     pub closed: bool,
 }
 
-/// What the section of a call does.
-#[derive(Clone, Copy)]
-pub enum Turn {
-    /// Append to the last block.
-    Append,
-    /// Link a new block, and append to it.
-    Link,
-    /// Take the first item of the first block.
-    Take,
-    /// Take the only item that is left of the first block, and unlink the block.
-    Unlink,
-    /// Close the chain in place of the append of one item too many.
-    Spend,
-    /// Close the chain.
-    Close,
-    /// Change nothing.
-    End(Reply),
-}
-
 impl Ends {
     /// The ends of a new chain.
     pub const NEW: Ends = Ends {
@@ -45,70 +25,101 @@ impl Ends {
         closed: false,
     };
 
-    /// The ends after a section.
-    pub fn after(self, turn: Turn) -> Ends
-        requires tail { self.tail < 2 ^ 63 }
-        requires head { self.head < 2 ^ 63 }
-        ensures { result ≡ ends_after self turn }
+    /// The ends after an append.
+    pub fn appended(self) -> Ends
+        requires { self.tail < 2 ^ 63 }
+        ensures { result ≡ ends_after self Append }
     {
-        match turn {
-            Turn::Append | Turn::Link => Ends {
-                tail: self.tail + 1,
-                ..self
-            },
-            Turn::Take | Turn::Unlink => Ends {
-                head: self.head + 1,
-                ..self
-            },
-            Turn::Spend | Turn::Close => Ends {
-                closed: true,
-                ..self
-            },
-            Turn::End(_) => self,
+        Ends {
+            tail: self.tail + 1,
+            ..self
+        }
+    }
+
+    /// The ends after a take.
+    pub fn taken(self) -> Ends
+        requires { self.head < 2 ^ 63 }
+        ensures { result ≡ ends_after self Take }
+    {
+        Ends {
+            head: self.head + 1,
+            ..self
+        }
+    }
+
+    /// The ends after a close.
+    pub fn shut(self) -> Ends
+        ensures { result ≡ ends_after self Close }
+    {
+        Ends {
+            closed: true,
+            ..self
         }
     }
 }
 
+/// What the section of a push does.
+#[derive(Clone, Copy)]
+pub enum PushTurn {
+    /// Append to the last block.
+    Append,
+    /// Link a new block, and append to it.
+    Link,
+    /// Close the chain in place of the append of one item too many.
+    Spend,
+    /// Change nothing, since the chain is closed.
+    Closed,
+}
+
 /// A push is refused where the chain is closed. A forced push takes the same steps, since no chain is full.
-pub fn push(ends: Ends) -> Turn
-    ensures { result ≡ push_turn ends }
+pub fn push(ends: Ends) -> PushTurn
+    ensures { of_push result ≡ push_turn ends }
 {
     if ends.closed {
-        Turn::End(Reply::Closed)
+        PushTurn::Closed
     } else if ends.tail >= MOST_ACCEPTED {
-        Turn::Spend
+        PushTurn::Spend
     } else if ends.tail % BLOCK == 0 {
-        Turn::Link
+        PushTurn::Link
     } else {
-        Turn::Append
+        PushTurn::Append
     }
 }
 
-pub fn pop(ends: Ends) -> Turn
-    ensures { result ≡ pop_turn ends }
+/// What the section of a pop does.
+#[derive(Clone, Copy)]
+pub enum PopTurn {
+    /// Take the first item of the first block.
+    Take,
+    /// Take the only item that is left of the first block, and unlink the block.
+    Unlink,
+    /// Change nothing, since the chain is empty.
+    Empty,
+    /// Change nothing, since the chain is empty and closed.
+    Closed,
+}
+
+pub fn pop(ends: Ends) -> PopTurn
+    ensures { of_pop result ≡ pop_turn ends }
 {
     if ends.head >= ends.tail {
-        Turn::End(if ends.closed {
-            Reply::Closed
+        if ends.closed {
+            PopTurn::Closed
         } else {
-            Reply::Empty
-        })
+            PopTurn::Empty
+        }
     } else if ends.head % BLOCK + 1 == BLOCK {
-        Turn::Unlink
+        PopTurn::Unlink
     } else {
-        Turn::Take
+        PopTurn::Take
     }
 }
 
-/// A close does nothing where the chain is closed.
-pub fn close(ends: Ends) -> Turn
-    ensures { result ≡ close_turn ends }
+/// Whether a close closes the chain. It does nothing where the chain is closed.
+pub fn close(ends: Ends) -> bool
+    ensures { result ≡ not ends.closed }
 {
-    if ends.closed {
-        Turn::End(Reply::No)
-    } else {
-        Turn::Close
-    }
+    !ends.closed
 }
 
 /// How many items are in the chain.

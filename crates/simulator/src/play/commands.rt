@@ -11,9 +11,17 @@ use crate::moment::Outcome;
 use crate::play::future::Future;
 use crate::play::party::{Doing, Party};
 use crate::play::player::Player;
+use crate::print::waker_of_tick;
 use executor_model::{By, Call, Step, Waker};
 use script::{Command, Item, Name, Plain, Word};
 use std::alloc::AllocError;
+
+/// The poll of this tick, by the outside waker of its name.
+fn poll_of_tick(t: u64) -> Call
+    ensures { result ≡ commands.poll_of_tick t }
+{
+    Call::PollTick(t, By::Outside(waker_of_tick(t)))
+}
 
 impl<'a> Player<'a> {
     /// Plays the command at this place.
@@ -147,7 +155,20 @@ impl<'a> Player<'a> {
             Plain::Cancel(name) => self.handle_of(*name).map(Call::Cancel),
             Plain::Detach(name) => self.handle_of(*name).map(Call::Detach),
             Plain::Drop(name) => self.handle_of(*name).map(Call::DropHandle),
+            Plain::Tick(name) => self.call_of_tick(*name),
+            Plain::PollTick(name) => self.tick_named(*name).map(poll_of_tick),
+            Plain::DropTick(name) => self.tick_named(*name).map(Call::DropTick),
             Plain::End => Some(Call::DropExecutor),
+        }
+    }
+
+    fn call_of_tick(&self, name: Name) -> Option<Call>
+        ensures { result ≡ commands.call_of_tick (commands.is_free self.now name) }
+    {
+        if self.is_free(name) {
+            Some(Call::NewTick)
+        } else {
+            None
         }
     }
 
@@ -208,28 +229,28 @@ impl<'a> Player<'a> {
         }
     }
 
-    /// No future has this name, and none is about to have it.
+    /// No future or tick has this name, and none is about to have it.
     fn is_free(&self, name: Name) -> bool
         ensures { result ≡ commands.is_free self.now name }
     {
-        self.number_of(name).is_none() && !self.is_spawned(name)
+        self.number_of(name).is_none() && self.tick_named(name).is_none() && !self.is_coming(name)
     }
 
-    /// A party has begun a spawn of this name.
-    fn is_spawned(&self, name: Name) -> bool
-        ensures { result ≡ list_any (λ x. commands.is_spawning self.now name x) self.now.parties }
+    /// A party has begun to spawn a future of this name, or to make a tick of it.
+    fn is_coming(&self, name: Name) -> bool
+        ensures { result ≡ list_any (λ x. commands.is_making self.now name x) self.now.parties }
     {
         self.parties
             .iter()
-            .any(|party| self.is_spawning(name, *party))
+            .any(|party| self.is_making(name, *party))
     }
 
-    fn is_spawning(&self, name: Name, party: Party) -> bool
-        ensures { result ≡ commands.is_spawning self.now name party }
+    fn is_making(&self, name: Name, party: Party) -> bool
+        ensures { result ≡ commands.is_making self.now name party }
     {
         match party.doing {
             Some(doing) => match self.plain_at(doing.command) {
-                Some(Plain::Spawn { name: other, .. }) => *other == name,
+                Some(Plain::Spawn { name: other, .. } | Plain::Tick(other)) => *other == name,
                 _ => false,
             },
             None => false,

@@ -25,9 +25,12 @@ use std::marker::Model;
 pub struct Player<'a> {
     pub commands: &'a [Command],
     pub machine: Machine,
+    /// The names of the futures, in the order of acceptance.
     pub names: Names,
-    /// In the order of acceptance.
+    /// In that order.
     pub futures: Vec<Future>,
+    /// The names of the ticks, in the order in which these were made.
+    pub ticks: Names,
     pub parties: Vec<Party>,
     /// The steps that were tried.
     pub tried: Vec<Step>,
@@ -42,6 +45,7 @@ impl<'a> Model for Player<'a> {
       machine = x.machine;
       names = x.names;
       futures = x.futures.items;
+      ticks = x.ticks;
       parties = x.parties.items;
       tried = x.tried.items;
       moments = x.moments.items;
@@ -89,6 +93,7 @@ impl<'a> Player<'a> {
             machine: Machine::new(alloc, limit, Kind::Owned, 10)?,
             names: Names::new(alloc),
             futures: Vec::new(alloc),
+            ticks: Names::new(alloc),
             parties: ten_parties(alloc)?,
             tried: Vec::new(alloc),
             moments: Vec::new(alloc),
@@ -98,10 +103,12 @@ impl<'a> Player<'a> {
     pub fn into_played(self) -> Played
         ensures moments { result.moments.items ≡ self.entry.moments }
         ensures names { result.names ≡ self.entry.names }
+        ensures ticks { result.ticks ≡ self.entry.ticks }
     {
         Played {
             moments: self.moments,
             names: self.names,
+            ticks: self.ticks,
         }
     }
 
@@ -148,6 +155,16 @@ impl<'a> Player<'a> {
     {
         match self.names.number_of(name) {
             Some(f) => Some(f as u64),
+            None => None,
+        }
+    }
+
+    /// The number of the tick of this name.
+    pub fn tick_named(&self, name: Name) -> Option<u64>
+        ensures { result ≡ number_of self.now.ticks name }
+    {
+        match self.ticks.number_of(name) {
+            Some(t) => Some(t as u64),
             None => None,
         }
     }
@@ -311,6 +328,18 @@ impl<'a> Player<'a> {
         if self.names.number_of(name).is_none() {
             self.names.push(name)?;
             self.futures.push(Future::new(command))?;
+        }
+        Ok(())
+    }
+
+    /// The next tick has this name.
+    #[tactic(auto, unfolding(crate::specs::Play::ticked_as))]
+    pub fn push_tick(&mut self, name: Name) -> Result<(), AllocError>
+        ensures new { OnOk result (self.new ≡ play.ticked_as (number_of self.old.ticks name) name self.old) }
+        ensures steps { OnOk result (self.new.tried ≡ self.old.tried) }
+    {
+        if self.ticks.number_of(name).is_none() {
+            self.ticks.push(name)?;
         }
         Ok(())
     }

@@ -67,6 +67,7 @@ fn named(plain: &Plain) -> Option<Name>
         | Plain::Detach(name)
         | Plain::Drop(name) => Some(*name),
         Plain::Spawn { .. } | Plain::Try | Plain::Empty | Plain::End => None,
+        Plain::Tick(_) | Plain::PollTick(_) | Plain::DropTick(_) => None,
     }
 }
 
@@ -399,6 +400,11 @@ impl<'a> Player<'a> {
                 self.give_back(reply, items.as_slice());
                 self.close(p, doing)
             }
+            Some(Plain::Tick(name)) => {
+                let reply = self.party(p).reply;
+                self.name_tick(reply, *name)?;
+                self.close(p, doing)
+            }
             _ => self.close(p, doing),
         }
     }
@@ -428,6 +434,17 @@ impl<'a> Player<'a> {
         match reply {
             Reply::Made => {}
             _ => self.hold(items, false),
+        }
+    }
+
+    /// A tick that was made has its name.
+    fn name_tick(&mut self, reply: Reply, name: Name) -> Result<(), AllocError>
+        ensures new { OnOk result (self.new ≡ turns.ticked (turns.is_made reply) name self.old) }
+        ensures steps { OnOk result (self.new.tried ≡ self.old.tried) }
+    {
+        match reply {
+            Reply::Made => self.push_tick(name),
+            _ => Ok(()),
         }
     }
 

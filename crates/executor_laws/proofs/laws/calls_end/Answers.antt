@@ -1,11 +1,11 @@
-use Rattle.executor_laws.proofs.Ends.{lowers, ends, goes_on}
+use Rattle.executor_laws.proofs.Ends.{every-step-lowers, every-list-ends, goes_on}
 use Rattle.executor_laws.proofs.laws.calls_end.Goals as goal
 
 pub returns-clause-lowered : goal.returns-clause-lowered
-returns-clause-lowered g s t = lowers s t
+returns-clause-lowered g = every-step-lowers
 
 pub returns-clause-ended : goal.returns-clause-ended
-returns-clause-ended g s ts = ends ts s
+returns-clause-ended g = every-list-ends
 
 pub returns-clause-goes : goal.returns-clause-goes
 returns-clause-goes g s = goes_on s

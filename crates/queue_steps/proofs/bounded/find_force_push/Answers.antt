@@ -1,30 +1,14 @@
-use Rattle.std.proofs.Common.{sym, subst, refl}
-use Rattle.queue_steps.specs.BoundedTurns.{force_push_turn}
-use Rattle.queue_steps.specs.BoundedEnds.{ForcePushEnds}
-use Rattle.queue_steps.proofs.BoundedFinds.{closed_first, found_by, force_push_second, force_push_third}
+use Rattle.queue_steps.proofs.BoundedFinds.{force_push_too, force_push_found}
 use Rattle.queue_steps.proofs.bounded.find_force_push.Goals as goal
 
 pub returns-in_default : goal.returns-in_default
 returns-in_default g c =
     let a = c.args in
-    let k = closed_first a.shape.capacity a.shape.mark a.tail a.head a.slots.now a.shape.sound c.requires c.force_push-turn.result
-    c.force_push-turn.ensures c.in_default.not-Stamp in
-    subst (ForcePushEnds a.shape.capacity a.shape.mark a.tail a.head) (sym k.0) k.1
+    force_push_too a.shape.capacity a.shape.mark a.tail a.head a.slots.now a.shape.sound c.requires c.find_push.result
+    c.find_push.ensures c.in_default.not-HeadFor
 
-pub returns-in_default-turn : goal.returns-in_default-turn
-returns-in_default-turn g c =
-    let a = c.args in let d = c.index-slots-index.result in
-    let k = found_by a.shape.capacity a.shape.mark a.tail a.head a.slots.now a.shape.sound c.requires
-    (force_push_turn a.shape.capacity a.shape.mark) c.force_push-turn.result c.force_push-turn-2.result c.in-Stamp.field-0
-    c.index.result d (λ k. refl) c.force_push-turn.ensures c.in-Stamp.is c.index.ensures c.force_push-turn-2.ensures in
-    force_push_second a.shape.capacity a.shape.mark a.tail a.head a.slots.now a.shape.sound c.requires c.force_push-turn-2.result d k.0 k.1
-    c.in_default-turn.not-HeadFor
-
-pub returns : goal.returns
-returns g c =
-    let a = c.args in let d = c.index-slots-index.result in
-    let k = found_by a.shape.capacity a.shape.mark a.tail a.head a.slots.now a.shape.sound c.requires
-    (force_push_turn a.shape.capacity a.shape.mark) c.force_push-turn.result c.force_push-turn-2.result c.in-Stamp.field-0
-    c.index.result d (λ k. refl) c.force_push-turn.ensures c.in-Stamp.is c.index.ensures c.force_push-turn-2.ensures in
-    force_push_third a.shape.capacity a.shape.mark a.tail a.head a.slots.now a.shape.sound c.requires c.force_push-turn-2.result
-    c.force_push.result d c.in-HeadFor.field-0 k.0 k.1 c.in-HeadFor.is c.force_push.ensures
+pub returns-in-HeadFor : goal.returns-in-HeadFor
+returns-in-HeadFor g c =
+    let a = c.args in
+    force_push_found a.shape.capacity a.shape.mark a.tail a.head a.slots.now a.shape.sound c.requires c.find_push.result
+    c.force_push_at_head.result c.in-HeadFor.field-0 c.find_push.ensures c.in-HeadFor.is c.force_push_at_head.ensures

@@ -9,6 +9,9 @@ use Rattle.executor_model.specs.EarlyDrop.{EarlyDropHasCause}
 use Rattle.executor_model.specs.LawfulPolls.{HasLawfulPolls}
 use Rattle.executor_model.specs.OutputKept.{OutputIsKept}
 use Rattle.executor_model.specs.OutputOnce.{OutputGoesOnce}
+use Rattle.executor_model.specs.SleepersAgree.{SleepersAgree}
+use Rattle.executor_model.specs.SleepersTold.{SleepersAreTold}
+use Rattle.sleeper_laws.specs.Standing.{SomeStandingIsCalled}
 use Rattle.simulator.proofs.play.keeps_to_laws.Goals as goal
 
 pub returns : goal.returns
@@ -26,5 +29,8 @@ returns c =
       emptiness = law_here EmptinessIsExact c.calls_at_rest_are_exact.ensures.emptiness _ reached;
       at_once = law_here NoComesAtOnce c.no_comes_at_once.ensures _ reached;
       kept = run_here OutputIsKept c.outputs_are_kept.ensures _ reached;
+      sleepers = machine_law_here SleepersAgree c.sleepers_agree.ensures _ reached;
+      told = machine_law_here SleepersAreTold c.sleepers_are_told.ensures _ reached;
+      called = law_here SomeStandingIsCalled c.some_standing_tick_is_called.ensures _ reached;
       in_reach = machine_law_here IsInReach c.common_futures_are_in_reach.ensures _ reached;
     }

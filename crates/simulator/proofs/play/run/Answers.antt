@@ -44,4 +44,5 @@ returns c =
       },
       search rules,
       search rules,
+      search rules,
     )

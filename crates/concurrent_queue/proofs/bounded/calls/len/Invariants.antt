@@ -1,4 +1,5 @@
-use Rattle.concurrent_queue.specs.BoundedSeat.{StaysFree, LenStands}
+use Rattle.concurrent_queue.specs.BoundedSeat.{StaysFree}
+use Rattle.concurrent_queue.specs.BoundedStands.{LenStands}
 use Rattle.concurrent_queue.proofs.bounded.calls.len.Given as goal
 
 abbrev pub invariant-loop : goal.invariant-loop

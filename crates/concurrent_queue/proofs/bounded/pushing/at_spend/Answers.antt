@@ -1,8 +1,6 @@
-use Rattle.std.proofs.Common.{ap, sym, subst, ◌∙◌, ℕ, ◌+◌, ◌≡◌, ◌≢◌}
+use Rattle.std.proofs.Common.{ap, sym, ◌∙◌, ℕ, ◌+◌, ◌≡◌, ◌≢◌}
 use Rattle.queue_steps.specs.Bounded.{is_marked}
 use Rattle.queue_steps.specs.declared.steps.bounded.Shape.{Shape}
-use Rattle.queue_steps.specs.declared.steps.bounded.Turn.{Turn}
-use Rattle.concurrent_queue.specs.BoundedSeat.{PushStands}
 use Rattle.concurrent_queue.proofs.BoundedFaces.{or_open}
 use Rattle.concurrent_queue.proofs.BoundedStands.{spends_on}
 use Rattle.concurrent_queue.proofs.bounded.pushing.at_spend.Goals as goal
@@ -22,7 +20,8 @@ returns-clause-on g c =
     λ lost. ap (λ m. m.0.closed) did.2 ∙ did.5 lost ∙ ap (λ (mark : ℕ). is_marked mark found) c.requires.seat.5 in (
       found,
       ap (λ m. m.0.found) did.2,
-      c.next.ensures,
-      subst (λ (t : Turn). PushStands c.args.manner shape t after) (sym c.next.ensures)
-          (spends_on c.args.manner shape tail found after (ap (λ m. m.0.stage) did.2) (ap (λ m. m.0.word) did.2) closed),
+      c.push_at_spend.ensures.plain,
+      c.push_at_spend.ensures.forced,
+      spends_on shape tail found after (ap (λ m. m.0.stage) did.2) (ap (λ m. m.0.word) did.2) c.push_at_spend.result closed
+          c.push_at_spend.ensures.plain,
     )

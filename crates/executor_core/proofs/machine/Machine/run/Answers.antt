@@ -5,7 +5,11 @@ use Rattle.executor_model.specs.EarlyDrop.{EarlyDropHasCause}
 use Rattle.executor_model.specs.LawfulPolls.{HasLawfulPolls}
 use Rattle.executor_model.specs.OutputKept.{OutputIsKept}
 use Rattle.executor_model.specs.OutputOnce.{OutputGoesOnce}
+use Rattle.executor_model.specs.SleepersAgree.{SleepersAgree}
+use Rattle.executor_model.specs.SleepersTold.{SleepersAreTold}
+use Rattle.executor_laws.specs.LoneEnds.{LoneCallsEnd}
 use Rattle.executor_laws.specs.Reach.{IsInReach, IsReachedInOrder}
+use Rattle.sleeper_laws.specs.Standing.{SomeStandingIsCalled}
 use Rattle.executor_core.proofs.Reaching.{law_here, machine_law_here, run_here}
 use Rattle.executor_core.proofs.machine.Machine.run.Goals as goal
 
@@ -32,6 +36,18 @@ returns-clause-outputs_are_kept c = run_here OutputIsKept c.outputs_are_kept.ens
 
 pub returns-clause-awaiters_are_kept : goal.returns-clause-awaiters_are_kept
 returns-clause-awaiters_are_kept c = law_here AwaiterIsKept c.awaiters_are_kept.ensures _ c.run_on-refused.ensures.reached
+
+pub returns-clause-sleepers_agree : goal.returns-clause-sleepers_agree
+returns-clause-sleepers_agree c = machine_law_here SleepersAgree c.sleepers_agree.ensures _ c.run_on-refused.ensures.reached
+
+pub returns-clause-sleepers_are_told : goal.returns-clause-sleepers_are_told
+returns-clause-sleepers_are_told c = machine_law_here SleepersAreTold c.sleepers_are_told.ensures _ c.run_on-refused.ensures.reached
+
+pub returns-clause-lone_calls_end : goal.returns-clause-lone_calls_end
+returns-clause-lone_calls_end c = machine_law_here LoneCallsEnd c.lone_calls_end.ensures _ c.run_on-refused.ensures.reached
+
+pub returns-clause-some_standing_tick_is_called : goal.returns-clause-some_standing_tick_is_called
+returns-clause-some_standing_tick_is_called c = law_here SomeStandingIsCalled c.some_standing_tick_is_called.ensures _ c.run_on-refused.ensures.reached
 
 pub returns-clause-in_reach : goal.returns-clause-in_reach
 returns-clause-in_reach c = machine_law_here IsInReach c.common_futures_are_in_reach.ensures _ c.run_on-refused.ensures.reached

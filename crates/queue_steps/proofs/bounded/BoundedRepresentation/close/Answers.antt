@@ -1,9 +1,14 @@
-use Rattle.std.proofs.Common.{not, ap, sym, arith}
+use Rattle.std.proofs.Common.{◌≡◌, Bool, true, false, not, refl, sym, ◌∙◌, arith}
 use Rattle.queue_steps.specs.Bounded.{is_marked}
 use Rattle.queue_steps.proofs.BoundedWords.{word_fits}
-use Rattle.queue_steps.proofs.BoundedFinds.{tail_count, opens}
+use Rattle.queue_steps.proofs.BoundedFinds.{tail_count}
 use Rattle.queue_steps.proofs.BoundedRests.{shuts, queue_shuts}
 use Rattle.queue_steps.proofs.bounded.BoundedRepresentation.close.Goals as goal
+
+-- a close that is the first found no mark
+opens : (marked : Bool) → not marked ≡ true → marked ≡ false
+opens true e = sym e
+opens false e = refl
 
 pub overflow_add-self : goal.overflow_add-self
 overflow_add-self g c =
@@ -15,15 +20,14 @@ overflow_add-self g c =
 pub invariant_of-self : goal.invariant_of-self
 invariant_of-self g c =
     let a = c.self.inside in
-    let e = rw c.in-End-Yes.field-0-is at c.in-End-Yes.ensures in
-    shuts a.shape.capacity a.shape.mark a.tail a.head a.slots.items a.shape.sound c.self.invariant (opens (is_marked a.shape.mark a.tail) e)
+    let unmarked = opens (is_marked a.shape.mark a.tail) (sym c.close-first.ensures ∙ c.if-first.true) in
+    shuts a.shape.capacity a.shape.mark a.tail a.head a.slots.items a.shape.sound c.self.invariant unmarked
 
-pub returns-in-End-Yes : goal.returns-in-End-Yes
-returns-in-End-Yes g c =
+pub returns-then-first : goal.returns-then-first
+returns-then-first g c =
     let a = c.self.inside in
-    let e = rw c.in-End-Yes.field-0-is at c.in-End-Yes.ensures in
-    let unmarked = opens (is_marked a.shape.mark a.tail) e in
+    let unmarked = opens (is_marked a.shape.mark a.tail) (sym c.close-first.ensures ∙ c.if-first.true) in
     rw (← c.self.view_is) (
-      ap not (sym unmarked),
+      c.close-first.ensures,
       queue_shuts a.shape.capacity a.shape.mark a.tail a.head a.slots.items a.shape.sound c.self.invariant unmarked,
     )

@@ -6,12 +6,12 @@ use Rattle.queue_steps.proofs.bounded.BoundedRepresentation.force_push.Goals as 
 
 pub append-requires-clause-place : goal.append-requires-clause-place
 append-requires-clause-place g c =
-    let a = c.self.inside in let e = c.in-Append.ensures in
+    let a = c.self.inside in let e = rw c.in-Push-Append.field-0-is at c.in-Push-Append.ensures in
     tail_place a.shape.capacity a.shape.mark a.tail a.head a.slots.items a.shape.sound c.self.invariant e.3
 
 pub invariant_of-self : goal.invariant_of-self
 invariant_of-self g c =
-    let a = c.self.inside in let e = c.in-Append.ensures in
+    let a = c.self.inside in let e = rw c.in-Push-Append.field-0-is at c.in-Push-Append.ensures in
     rw (c.append.ensures.tail, c.append.ensures.slots)
     (appends a.shape.capacity a.shape.mark a.tail a.head a.slots.items a.shape.sound c.self.invariant c.args.value e.1 e.2 e.3)
 
@@ -34,17 +34,17 @@ invariant_of-self-in-Displace g c =
 
 pub overflow_add-self : goal.overflow_add-self
 overflow_add-self g c =
-    let a = c.self.inside in let e = c.in-Spend.ensures in
+    let a = c.self.inside in let e = rw c.in-Push-Spend.field-0-is at c.in-Push-Spend.ensures in
     let fits = word_fits a.shape.capacity a.shape.mark a.tail a.shape.sound (let k = e.2 in omega arith) in omega arith
 
-pub invariant_of-self-in-Spend : goal.invariant_of-self-in-Spend
-invariant_of-self-in-Spend g c =
-    let a = c.self.inside in let e = c.in-Spend.ensures in
+pub invariant_of-self-in-Push-Spend : goal.invariant_of-self-in-Push-Spend
+invariant_of-self-in-Push-Spend g c =
+    let a = c.self.inside in let e = rw c.in-Push-Spend.field-0-is at c.in-Push-Spend.ensures in
     shuts a.shape.capacity a.shape.mark a.tail a.head a.slots.items a.shape.sound c.self.invariant e.1
 
-pub returns-in-Append : goal.returns-in-Append
-returns-in-Append g c =
-    let a = c.self.inside in let e = c.in-Append.ensures in
+pub returns-in-Push-Append : goal.returns-in-Push-Append
+returns-in-Push-Append g c =
+    let a = c.self.inside in let e = rw c.in-Push-Append.field-0-is at c.in-Push-Append.ensures in
     rw (
       c.append.ensures.old,
       nothing_there a.shape.capacity a.shape.mark a.tail a.head a.slots.items a.shape.sound c.self.invariant e.1 e.2,
@@ -75,8 +75,8 @@ returns-in-Displace g c =
       queue_displaces a.shape.capacity a.shape.mark a.tail a.head a.slots.items a.shape.sound c.self.invariant c.args.value y.0 e.1 e.2 y.1,
     )
 
-pub returns-in-Spend : goal.returns-in-Spend
-returns-in-Spend g c =
-    let a = c.self.inside in let e = c.in-Spend.ensures in
+pub returns-in-Push-Spend : goal.returns-in-Push-Spend
+returns-in-Push-Spend g c =
+    let a = c.self.inside in let e = rw c.in-Push-Spend.field-0-is at c.in-Push-Spend.ensures in
     rw (← c.self.view_is)
     (inr (e.1, e.2, queue_shuts a.shape.capacity a.shape.mark a.tail a.head a.slots.items a.shape.sound c.self.invariant e.1), refl)

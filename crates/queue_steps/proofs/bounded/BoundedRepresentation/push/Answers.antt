@@ -35,8 +35,8 @@ overflow_add-self g c =
     let a = c.self.inside in let e = c.in-Spend.ensures in
     let fits = word_fits a.shape.capacity a.shape.mark a.tail a.shape.sound (let k = e.3 in omega arith) in omega arith
 
-pub invariant_of-self-in-Spend-1 : goal.invariant_of-self-in-Spend-1
-invariant_of-self-in-Spend-1 g c =
+pub invariant_of-self-in-Spend : goal.invariant_of-self-in-Spend
+invariant_of-self-in-Spend g c =
     let a = c.self.inside in let e = c.in-Spend.ensures in
     shuts a.shape.capacity a.shape.mark a.tail a.head a.slots.items a.shape.sound c.self.invariant e.1
 
@@ -49,8 +49,8 @@ returns-in-Spend g c =
       refl,
     )
 
-pub returns-in-End-Full : goal.returns-in-End-Full
-returns-in-End-Full g c =
-    let a = c.self.inside in let e = rw c.in-End-Full.field-0-is at c.in-End-Full.ensures in
+pub returns-in-HeadFor : goal.returns-in-HeadFor
+returns-in-HeadFor g c =
+    let a = c.self.inside in let e = c.in-HeadFor.ensures in
     rw (← c.self.view_is)
-    (e.0, full a.shape.capacity a.shape.mark a.tail a.head a.slots.items a.shape.sound c.self.invariant e.1, refl, refl)
+    (e.1, full a.shape.capacity a.shape.mark a.tail a.head a.slots.items a.shape.sound c.self.invariant e.2, refl, refl)

@@ -1,0 +1,62 @@
+-- What a tick does is no event: its poll and its drop are told of as they begin.
+use Rattle.std.proofs.Common.{◌≡◌, ℕ, List, [], ◌∷◌, Bool, true, false, refl}
+use Rattle.std.specs.Prelude.{Option, Some, None}
+use Rattle.executor_model.specs.declared.op.Sleeping.{Sleeping}
+use Rattle.executor_model.specs.declared.op.TickOp.{TickOp}
+use Rattle.executor_model.specs.declared.op.TickOp.TheVariants as tick_op
+use Rattle.executor_model.specs.declared.op.Waker.{Waker}
+use Rattle.executor_model.specs.declared.op.Waker.TheVariants.{Task, Outside}
+use Rattle.executor_model.specs.declared.step.Hint.{Hint}
+use Rattle.executor_model.specs.World.{World, Tick, Up, Lies, Left}
+use Rattle.executor_model.specs.Acts.{make_tick_by, search_by, copied, copy_sleeper_by, lie_anew_by, lie_listed_by, lie_again_by, lie_down_by, get_up_by, leave_sleepers_by, tick_act}
+
+make-trace : (b : Bool) (w : World) → (make_tick_by b w).world.trace ≡ w.trace
+make-trace true w = refl
+make-trace false w = refl
+
+search-trace : (x : Tick) (w : World) (q : List ℕ) (s : Sleeping) → (search_by x w q s).world.trace ≡ w.trace
+search-trace x w [] s = refl
+search-trace x w (f ∷ rest) s = refl
+
+copied-trace : (w : World) (a : Waker) → (copied w a).trace ≡ w.trace
+copied-trace w (Task g) = refl
+copied-trace w (Outside x) = refl
+
+copy-trace : (b : Bool) (w : World) (s : Sleeping) → (copy_sleeper_by b w s).world.trace ≡ w.trace
+copy-trace true w s = refl
+copy-trace false w s = copied-trace w s.waker
+
+anew-trace : (b : Bool) (w : World) (s : Sleeping) → (lie_anew_by b w s).world.trace ≡ w.trace
+anew-trace true w s = refl
+anew-trace false w s = refl
+
+listed-trace : (b : Bool) (w : World) (n : ℕ) (s : Sleeping) → (lie_listed_by b w n s).world.trace ≡ w.trace
+listed-trace true w n s = refl
+listed-trace false w n s = refl
+
+again-trace : (o : Option ℕ) (w : World) (n : ℕ) (s : Sleeping) → (lie_again_by o w n s).world.trace ≡ w.trace
+again-trace None w n s = listed-trace _ w n s
+again-trace (Some at) w n s = refl
+
+lie-trace : (x : Tick) (w : World) (s : Sleeping) → (lie_down_by x w s).world.trace ≡ w.trace
+lie-trace Up w s = anew-trace _ w s
+lie-trace (Lies n) w s = again-trace _ w n s
+lie-trace Left w s = refl
+
+up-trace : (x : Tick) (w : World) (t f : ℕ) → (get_up_by x w t f).world.trace ≡ w.trace
+up-trace Up w t f = refl
+up-trace (Lies n) w t f = refl
+up-trace Left w t f = refl
+
+leave-trace : (x : Tick) (w : World) (t : ℕ) → (leave_sleepers_by x w t).world.trace ≡ w.trace
+leave-trace Up w t = refl
+leave-trace (Lies n) w t = refl
+leave-trace Left w t = refl
+
+pub tick-trace : (h : Hint) (o : TickOp) (w : World) → (tick_act h o w).world.trace ≡ w.trace
+tick-trace h tick_op.MakeTick w = make-trace _ w
+tick-trace h (tick_op.Search s) w = search-trace _ w _ s
+tick-trace h (tick_op.CopyWaker s) w = copy-trace _ w s
+tick-trace h (tick_op.LieDown s) w = lie-trace _ w s
+tick-trace h (tick_op.GetUp t f) w = up-trace _ w t f
+tick-trace h (tick_op.Leave t) w = leave-trace _ w t

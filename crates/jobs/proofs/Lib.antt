@@ -1,0 +1,2 @@
+mod ByHandle
+mod Promised

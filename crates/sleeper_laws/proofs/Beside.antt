@@ -1,0 +1,245 @@
+-- What is no part of a tick's poll or drop, and takes no waker out of the sleepers' list, is nothing to any tick.
+use Rattle.std.proofs.Common.{◌≡◌, ◌∙◌, ℕ, List, [], ◌∷◌, ◌++◌, length, Bool, true, false, refl, ap, arith}
+use Rattle.std.specs.Prelude.{Option, Some, None}
+use Rattle.task_moves.specs.Moves as moves
+use Rattle.task_moves.specs.declared.moves.owed.Answer.{Answer}
+use Rattle.task_moves.specs.declared.moves.owed.AwaiterDebt.{AwaiterDebt}
+use Rattle.task_moves.specs.declared.moves.owed.Move.{Move}
+use Rattle.task_moves.specs.declared.moves.owed.Move.TheVariants as move
+use Rattle.task_moves.specs.declared.moves.owed.Moved.{Moved}
+use Rattle.task_moves.specs.declared.moves.owed.Owed.{Owed}
+use Rattle.executor_model.specs.declared.event.Event.{Event}
+use Rattle.executor_model.specs.declared.event.Event.TheVariants as event
+use Rattle.executor_model.specs.declared.op.Awaiter.{Awaiter}
+use Rattle.executor_model.specs.declared.op.Hold.{Hold}
+use Rattle.executor_model.specs.declared.op.Hold.TheVariants as hold
+use Rattle.executor_model.specs.declared.op.Op.{Op}
+use Rattle.executor_model.specs.declared.op.Op.TheVariants as op
+use Rattle.executor_model.specs.declared.op.ClosingOp.TheVariants as closing_op
+use Rattle.executor_model.specs.declared.op.HandleOp.TheVariants as handle_op
+use Rattle.executor_model.specs.declared.op.Polled.TheVariants as of
+use Rattle.executor_model.specs.declared.op.QueueOp.TheVariants as queue_op
+use Rattle.executor_model.specs.declared.op.SleeperOp.TheVariants as sleeper_op
+use Rattle.executor_model.specs.declared.op.TableOp.TheVariants as table_op
+use Rattle.executor_model.specs.declared.op.TickOp.TheVariants as tick_op
+use Rattle.executor_model.specs.declared.op.UserOp.TheVariants as user_op
+use Rattle.executor_model.specs.declared.op.Waker.{Waker}
+use Rattle.executor_model.specs.declared.op.Waker.TheVariants.{Task, Outside}
+use Rattle.executor_model.specs.declared.op.WakerOp.TheVariants as waker_op
+use Rattle.executor_model.specs.declared.step.Hint.{Hint}
+use Rattle.executor_model.specs.Acts as acts
+use Rattle.executor_model.specs.Acts.{act}
+use Rattle.executor_model.specs.Carried.{carried, owed_ops, awaiter_ops}
+use Rattle.executor_model.specs.Weights.{weigh}
+use Rattle.executor_model.specs.World.{World, Done, log, log_if, task, put, among, awaiter_of}
+use Rattle.executor_model.proofs.Lists.{weigh-append}
+use Rattle.executor_model.proofs.Owed.{owed-future, owed-awaiter, owed-nothing}
+use Rattle.sleeper_laws.proofs.Watched.{Watched, watches, watched, watched-push}
+use Rattle.sleeper_laws.proofs.Stands.{View, view}
+
+abbrev pub holds_some : Hold → ℕ
+holds_some (hold.Tick t) = 1
+holds_some _ = 0
+
+-- it has to do with some tick
+abbrev pub ticks_of : Op → ℕ
+ticks_of (op.Tick tick_op.MakeTick) = 0
+ticks_of (op.Tick (tick_op.Search s)) = 1
+ticks_of (op.Tick (tick_op.CopyWaker s)) = 1
+ticks_of (op.Tick (tick_op.LieDown s)) = 1
+ticks_of (op.Tick (tick_op.GetUp t f)) = 1
+ticks_of (op.Tick (tick_op.Leave t)) = 1
+ticks_of (op.Sleeper (sleeper_op.CallSleeper s)) = 1
+ticks_of (op.Waker (waker_op.CopyWaker f held)) = holds_some held
+ticks_of (op.End r held) = holds_some held
+ticks_of _ = 0
+
+-- the event is nothing to a tick
+abbrev pub IsSilent : Event → Type 0
+IsSilent e = (t n : ℕ) (s : Watched) → watches t n e s ≡ s
+
+pub view-log : (t : ℕ) (w : World) (e : Event) → IsSilent e → view t (log w e) ≡ view t w
+view-log t w e z = ap (λ (s : Watched). let v : View = record (view t w) { seen = s } in v)
+    (watched-push t w.trace e ∙ z t (length w.trace) (watched t w.trace))
+
+pub view-log_if : (b : Bool) (t : ℕ) (w : World) (e : Event) → IsSilent e → view t (log_if b w e) ≡ view t w
+view-log_if true t w e z = view-log t w e z
+view-log_if false t w e z = refl
+
+pub record Beside (w : World) (d : Done) : Type 0 where
+  pub view : (t : ℕ) → view t d.world ≡ view t w
+  pub none : weigh ticks_of d.next ≡ 0
+
+pub besides : (w : World) (d : Done) → ((t : ℕ) → view t d.world ≡ view t w) → weigh ticks_of d.next ≡ 0 → Beside w d
+besides w d v z = record { view = v; none = z }
+
+none-both : (xs ys : List Op) → weigh ticks_of xs ≡ 0 → weigh ticks_of ys ≡ 0 → weigh ticks_of (xs ++ ys) ≡ 0
+none-both xs ys a b = omega (arith, weigh-append ticks_of xs ys, a, b)
+
+none-awaiter : (f : ℕ) (o : Option AwaiterDebt) → weigh ticks_of (awaiter_ops f o) ≡ 0
+none-awaiter f o = owed-awaiter ticks_of f (record { notify = λ m. refl }) o
+
+none-owed : (f : ℕ) (there : Bool) (o : Owed) → weigh ticks_of (owed_ops there f o) ≡ 0
+none-owed f there o =
+    owed-nothing ticks_of f
+    (record { append = refl; output = refl; release = refl; settle_closed = refl; give_up = refl; end_closed = refl; detach = refl }) there o (owed-future ticks_of f (record { poll = refl; drop = refl }) there o.future) (none-awaiter f o.awaiter)
+
+-- a move of a task
+
+told-silent : (m : Move) (p f : ℕ) → IsSilent (acts.told_as m p f)
+told-silent move.TakeUp p f t n s = refl
+told-silent move.Cancel p f t n s = refl
+told-silent move.Detach p f t n s = refl
+told-silent _ p f t n s = refl
+
+beside-moved : (b : Bool) (w v : World) (e : Event) (f : ℕ) (m : Moved) → IsSilent e → ((t : ℕ) → view t v ≡ view t w) →
+    Beside w (carried (log_if b v e) f m)
+beside-moved b w v e f m z x = besides w (carried (log_if b v e) f m) (λ t. view-log_if b t v e z
+    ∙ x t) (none-owed f (among f (log_if b v e).table) m.owed)
+
+pub beside-move : (b : Bool) (m : Move) (p : ℕ) (w v : World) (f : ℕ) → ((t : ℕ) → view t v ≡ view t w) → Beside w (acts.move_by b m p v f)
+beside-move true m p w v f x = beside-moved _ w v (acts.told_as m p f) f (moves.after m (task v f)) (told-silent m p f) x
+beside-move false m p w v f x = besides w _ x refl
+
+beside-call : (p : ℕ) (w : World) (f : ℕ) (a : Waker) (k : ℕ) → Beside w (acts.call_awaiter p w f a k)
+beside-call p w f (Task g) k =
+    beside-move true move.Wake p w (log w (event.WakerCalled p (of.Handle f) k (Task g))) g
+    (λ t. view-log t w (event.WakerCalled p (of.Handle f) k (Task g)) (λ t n s. refl))
+beside-call p w f (Outside x) k = besides w _ (λ t. view-log t w (event.WakerCalled p (of.Handle f) k (Outside x)) (λ t n s. refl)) refl
+
+-- the table and the queue
+
+beside-enter : (b c : Bool) (p : ℕ) (w : World) → Beside w (acts.enter_by b c p w)
+beside-enter true c p w = besides w _ (λ t. refl) refl
+beside-enter false true p w = besides w _ (λ t. refl) refl
+beside-enter false false p w = besides w _ (λ t. view-log t w (event.Accepted p (length w.tasks)) (λ t n s. refl)) refl
+
+beside-leave : (b : Bool) (w : World) (f : ℕ) → Beside w (acts.leave_by b w f)
+beside-leave true w f = besides w _ (λ t. refl) refl
+beside-leave false w f = besides w _ (λ t. refl) refl
+
+beside-take : (q : List ℕ) (w : World) → Beside w (acts.take_by w q)
+beside-take [] w = besides w _ (λ t. refl) refl
+beside-take (f ∷ rest) w = besides w _ (λ t. refl) refl
+
+beside-append : (b : Bool) (w : World) (f : ℕ) → Beside w (acts.append_by b w f)
+beside-append true w f = besides w _ (λ t. refl) refl
+beside-append false w f = besides w _ (λ t. refl) refl
+
+beside-exchange : (b : Bool) (w : World) → Beside w (acts.exchange_by b w)
+beside-exchange true w = besides w _ (λ t. refl) refl
+beside-exchange false w = besides w _ (λ t. refl) refl
+
+-- handles
+
+beside-answered : (p : ℕ) (w v : World) (f : ℕ) (m : Moved) (a : Answer) → ((t : ℕ) → view t v ≡ view t w) →
+    Beside w (acts.answered p v f m a)
+beside-answered p w v f m a x =
+    besides w (acts.answered p v f m a) (λ t. view-log_if _ t (put v f m.state) (event.OutputGiven p f) (λ t n s. refl) ∙ x t)
+    (none-both (awaiter_ops f m.owed.awaiter) _ (none-awaiter f m.owed.awaiter) refl)
+
+beside-look : (o : Option Answer) (p : ℕ) (w : World) (f : ℕ) (a : Waker) (m : Moved) → Beside w (acts.look_by o p w f a m)
+beside-look None p w f a m = besides w _ (λ t. refl) refl
+beside-look (Some x) p w f a m = beside-answered p w (acts.polled p w f) f m x (λ t. view-log t w (event.HandlePolled p f) (λ t n s. refl))
+
+beside-again : (o : Option Answer) (p : ℕ) (w : World) (f : ℕ) (m : Moved) → Beside w (acts.look_again_by o p w f m)
+beside-again None p w f m = besides w _ (λ t. refl) refl
+beside-again (Some x) p w f m = beside-answered p w w f m x (λ t. refl)
+
+beside-copy_awaiter : (b : Bool) (p : ℕ) (w : World) (f : ℕ) (a : Waker) → Beside w (acts.copy_awaiter_by b p w f a)
+beside-copy_awaiter true p w f a = besides w _ (λ t. refl) refl
+beside-copy_awaiter false p w f (Task g) =
+    besides w _ (λ t. view-log t (acts.copied w (Task g)) (event.HandlePolled p f) (λ t n s. refl)) refl
+beside-copy_awaiter false p w f (Outside x) = besides w _ (λ t. view-log t w (event.HandlePolled p f) (λ t n s. refl)) refl
+
+beside-register : (b : Bool) (w : World) (f : ℕ) (a : Waker) (k : ℕ) → Beside w (acts.register_by b w f a k)
+beside-register true w f a k = besides w _ (λ t. refl) refl
+beside-register false w f a k = besides w _ (λ t. refl) refl
+
+none-goes : (a : Waker) → weigh ticks_of (acts.waker_goes a) ≡ 0
+none-goes (Task g) = refl
+none-goes (Outside x) = refl
+
+none-let_go : (a : Option Awaiter) → weigh ticks_of (acts.let_go a) ≡ 0
+none-let_go None = refl
+none-let_go (Some a) = none-goes a.waker
+
+beside-end_register : (b : Bool) (w : World) (f : ℕ) (a : Waker) (k : ℕ) → Beside w (acts.end_register_by b w f a k)
+beside-end_register true w f a k =
+    besides w _ (λ t. refl) (none-both (op.Waker (waker_op.CallAwaiter f a k) ∷ acts.let_go (awaiter_of w f))
+    (op.Handle (handle_op.LookAgain f) ∷ []) (omega (arith, none-let_go (awaiter_of w f))) refl)
+beside-end_register false w f a k =
+    besides w _ (λ t. refl) (none-both (acts.let_go (awaiter_of w f)) (op.Handle (handle_op.LookAgain f) ∷ [])
+    (none-let_go (awaiter_of w f)) refl)
+
+beside-notify : (b : Bool) (w : World) (f : ℕ) (mine : Bool) → Beside w (acts.notify_by b w f mine)
+beside-notify true w f mine = besides w _ (λ t. refl) refl
+beside-notify false w f mine = besides w _ (λ t. refl) refl
+
+none-told : (b : Bool) (f : ℕ) (a : Option Awaiter) → weigh ticks_of (acts.told b f a) ≡ 0
+none-told b f None = refl
+none-told true f (Some a) = none-goes a.waker
+none-told false f (Some a) = refl
+
+-- the drop of the executor
+
+none-closing : (ls ws : List ℕ) → weigh ticks_of (acts.closing_ops ls ws) ≡ 0
+none-closing [] [] = refl
+none-closing [] (x ∷ ws) = refl
+none-closing (x ∷ ls) ws = refl
+
+beside-drop_next : (p : ℕ) (w : World) (ls : List ℕ) → Beside w (acts.drop_next_by p w ls)
+beside-drop_next p w [] = besides w _ (λ t. refl) refl
+beside-drop_next p w (f ∷ rest) =
+    besides w _ (λ t. view-log t w (event.Dropped p f) (λ t n s. refl)) (omega (arith, none-closing rest (w.waking ++ f ∷ [])))
+
+beside-wake_next : (p : ℕ) (w : World) (ws : List ℕ) → Beside w (acts.wake_next_by p w ws)
+beside-wake_next p w [] = besides w _ (λ t. refl) refl
+beside-wake_next p w (f ∷ rest) =
+    let v : World = record w { waking = rest } in
+    let m : Beside w (acts.wake p v f) = beside-move true move.Wake p w v f (λ t. refl) in
+    besides w _ m.view (none-both (acts.wake p v f).next (acts.closing_ops [] rest) m.none (none-closing [] rest))
+
+beside-drain : (p : ℕ) (w : World) (q : List ℕ) → Beside w (acts.drain_by p w q)
+beside-drain p w [] = besides w _ (λ t. view-log t w (event.DropEnded p) (λ t n s. refl)) refl
+beside-drain p w (f ∷ rest) = besides w _ (λ t. refl) refl
+
+-- what has a place of its own
+abbrev pub is_ticks : Op → Bool
+is_ticks (op.Tick o) = true
+is_ticks (op.Sleeper sleeper_op.ExchangeFlag) = false
+is_ticks (op.Sleeper sleeper_op.HandOut) = true
+is_ticks (op.Sleeper (sleeper_op.CallSleeper s)) = true
+is_ticks (op.Waker (waker_op.CopyWaker f held)) = true
+is_ticks (op.End r held) = true
+is_ticks _ = false
+
+pub beside-act : (p : ℕ) (h : Hint) (o : Op) (w : World) → is_ticks o ≡ false → Beside w (act p h o w)
+beside-act p h (op.Move m f) w n = beside-move _ m p w w f (λ t. refl)
+beside-act p h (op.Table table_op.Enter) w n = beside-enter _ _ p w
+beside-act p h (op.Table (table_op.LeaveTable f)) w n = beside-leave _ w f
+beside-act p h (op.Table o) w n = besides w _ (λ t. refl) refl
+beside-act p h (op.Queue queue_op.Take) w n = beside-take _ w
+beside-act p h (op.Queue (queue_op.Append f)) w n = beside-append _ w f
+beside-act p h (op.User (user_op.BeginDrop f)) w n = besides w _ (λ t. view-log t w (event.Dropped p f) (λ t n s. refl)) refl
+beside-act p h (op.User (user_op.BeginDropOutput f)) w n = besides w _ (λ t. view-log t w (event.OutputDropped p f) (λ t n s. refl)) refl
+beside-act p h (op.Waker (waker_op.CopyWaker f held)) w n = absurd (cc)
+beside-act p h (op.Waker (waker_op.CallAwaiter f a k)) w n = beside-call p w f a k
+beside-act p h (op.Handle (handle_op.Look f a)) w n = beside-look _ p w f a _
+beside-act p h (op.Handle (handle_op.CopyAwaiter f a)) w n = beside-copy_awaiter _ p w f a
+beside-act p h (op.Handle (handle_op.Register f a k)) w n = beside-register _ w f a k
+beside-act p h (op.Handle (handle_op.EndRegister f a k)) w n = beside-end_register _ w f a k
+beside-act p h (op.Handle (handle_op.LookAgain f)) w n = beside-again _ p w f _
+beside-act p h (op.Handle (handle_op.Notify f mine)) w n = beside-notify _ w f mine
+beside-act p h (op.Handle (handle_op.EndNotify f mine)) w n = besides w _ (λ t. refl) (none-told _ f (awaiter_of w f))
+beside-act p h (op.Sleeper sleeper_op.ExchangeFlag) w n = beside-exchange _ w
+beside-act p h (op.Sleeper sleeper_op.HandOut) w n = absurd (cc)
+beside-act p h (op.Sleeper (sleeper_op.CallSleeper s)) w n = absurd (cc)
+beside-act p h (op.Tick o) w n = absurd (cc)
+beside-act p h (op.Closing closing_op.TakeOut) w n = besides w _ (λ t. refl) (none-closing w.table w.waking)
+beside-act p h (op.Closing closing_op.DropNext) w n = beside-drop_next p w _
+beside-act p h (op.Closing closing_op.WakeNext) w n = beside-wake_next p w _
+beside-act p h (op.Closing closing_op.Close) w n = besides w _ (λ t. refl) refl
+beside-act p h (op.Closing closing_op.Drain) w n = beside-drain p w _
+beside-act p h (op.End r held) w n = absurd (cc)
+beside-act p h _ w n = besides w _ (λ t. refl) refl

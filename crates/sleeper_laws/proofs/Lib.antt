@@ -1,0 +1,16 @@
+pub mod Watched
+pub mod Listed
+pub mod Stands
+pub mod Beside
+pub mod StandsWorlds
+pub mod StandsOwn
+pub mod StandsLying
+pub mod StandsActs
+pub mod StandsGroups
+pub mod StandsCalls
+pub mod StandsWeights
+pub mod StandsRuns
+pub mod StandsTelling
+pub mod StandsAnswers
+pub mod StandsMissing
+pub mod StandsRest

@@ -1,5 +1,6 @@
 -- A party's part of a step, at the vectors of all parties.
-use Rattle.std.proofs.Common.{◌≡◌, ℕ, zero, suc, ◌+◌, ◌<◌, ◌≤◌, List, [], ◌∷◌, ◌++◌, length, map, get_or, set, take, add-one, refl, sym}
+use Rattle.std.proofs.Common.{◌≡◌, ℕ, zero, suc, ◌+◌, ◌<◌, ◌≤◌, List, [], ◌∷◌, ◌++◌, length}
+use Rattle.std.proofs.Common.{map, get_or, set, take, add-one, refl, sym}
 use Rattle.std.proofs.Common.{ap, ◌∙◌, subst, arith, Ok, Err, Result, Vec, Global}
 use Rattle.std.specs.Prelude.{Some, None}
 use Rattle.std.proofs.lemmas.List.{take_more}
@@ -10,7 +11,8 @@ use Rattle.executor_model.specs.declared.step.StepError.TheVariants.{NoSuch}
 use Rattle.executor_model.specs.World.{World}
 use Rattle.executor_model.specs.Good.{Good, Needs}
 use Rattle.executor_model.specs.Runs.{run_all}
-use Rattle.executor_model.specs.Steps.{Machine, part, stack, top, party_of, part_refusal, part_after, with_part, refusal, after, step}
+use Rattle.executor_model.specs.Steps.{Machine, part, stack, top, party_of, part_refusal}
+use Rattle.executor_model.specs.Steps.{part_after, with_part, refusal, after, step}
 use Rattle.executor_model.specs.Steps.{start, idle}
 use Rattle.executor_model.proofs.Needing.{needs}
 use Rattle.executor_core.specs.Reached.{IsReached}
@@ -28,7 +30,8 @@ items-set [] p v = refl
 items-set (x ∷ ps) zero v = refl
 items-set (x ∷ ps) (suc p) v = ap (λ (l : List (List Op)). x.items ∷ l) (items-set ps p v)
 
-items-get : (ps : List (Vec Op Global)) (p : ℕ) (d : Vec Op Global) → p < length ps → get_or (items ps) p [] ≡ (get_or ps p d).items
+items-get : (ps : List (Vec Op Global)) (p : ℕ) (d : Vec Op Global) → p < length ps →
+    get_or (items ps) p [] ≡ (get_or ps p d).items
 items-get [] p d h = absurd (omega arith)
 items-get (x ∷ ps) zero d h = refl
 items-get (x ∷ ps) (suc p) d h = items-get ps p d (omega arith)
@@ -48,7 +51,8 @@ pub stack_is :
     → p < length ps → v ≡ get_or ps p v → stack (state w ps) p ≡ v.items
 stack_is w ps p v h e = items-get ps p v h ∙ ap (λ (x : Vec Op Global). x.items) (sym e)
 
-pub absent : (w : World) (ps : List (Vec Op Global)) (t : Step) → length ps ≤ party_of t → step (state w ps) t ≡ Err NoSuch
+pub absent : (w : World) (ps : List (Vec Op Global)) (t : Step) → length ps ≤ party_of t →
+    step (state w ps) t ≡ Err NoSuch
 absent w ps t h = step-refused (state w ps) t NoSuch (refusal-absent (state w ps) t (omega (arith, items-length ps, h)))
 
 -- why the step isn't possible, as it stands in the vectors
@@ -76,20 +80,24 @@ stays w w2 ps p v v2 h e q m =
 -- the party's part was done
 pub went :
     (w w1 w2 : World) (ps : List (Vec Op Global)) (p : ℕ) (t : Step) (v r v2 : Vec Op Global)
-    → p ≡ party_of t → p < length ps → v ≡ get_or ps p v → r.items ≡ v.items → w1 ≡ w → part w2 v2.items ≡ part_after w1 r.items t
+    → p ≡ party_of t → p < length ps → v ≡ get_or ps p v → r.items ≡ v.items → w1 ≡ w →
+    part w2 v2.items ≡ part_after w1 r.items t
     → after (state w ps) t ≡ state w2 (set ps p v2)
 went w w1 w2 ps p t v r v2 q h e k m g =
     ap (λ (n : ℕ). with_part (state w ps) n (part_after w (stack (state w ps) n) t)) (sym q)
-    ∙ ap (λ (x : World × List Op). with_part (state w ps) p (part_after x.0 x.1 t)) (λ i. (sym m i, (stack_is w ps p v h e ∙ sym k) i))
+    ∙ ap (λ (x : World × List Op). with_part (state w ps) p (part_after x.0 x.1 t))
+    (λ i. (sym m i, (stack_is w ps p v h e ∙ sym k) i))
     ∙ ap (with_part (state w ps) p) (sym g)
     ∙ ap (λ (l : List (List Op)). let x : Machine = record { world = w2; parties = l } in x) (sym (items-set ps p v2))
 
 pub needed :
     (w w1 : World) (ps : List (Vec Op Global)) (p : ℕ) (v r : Vec Op Global) (o : Op)
-    → p < length ps → v ≡ get_or ps p v → r.items ≡ v.items → w1 ≡ w → Good (state w ps) → top r.items ≡ Some o → Needs w1 o
+    → p < length ps → v ≡ get_or ps p v → r.items ≡ v.items → w1 ≡ w → Good (state w ps) → top r.items ≡ Some o →
+    Needs w1 o
 needed w w1 ps p v r o h e k m good t =
     let s : Machine = state w ps in
-    subst (λ (x : World). Needs x o) (sym m) (needs s p o (omega (arith, items-length ps)) (ap top (stack_is w ps p v h e ∙ sym k)
+    subst (λ (x : World). Needs x o) (sym m)
+    (needs s p o (omega (arith, items-length ps)) (ap top (stack_is w ps p v h e ∙ sym k)
     ∙ t) good)
 
 pub goes : (s new : Machine) (t : Step) → refusal s t ≡ None → after s t ≡ new → step s t ≡ Ok new
@@ -98,7 +106,8 @@ goes s new t r e = step-made s t r ∙ ap (λ (m : Machine). let x : Result Mach
 -- one more step of a run
 pub run-more :
     (xs : List Step) (i : ℕ) (d : Step) (s now new : Machine)
-    → i < length xs → run_all (take i xs) s ≡ Ok now → step now (get_or xs i d) ≡ Ok new → run_all (take (i + 1) xs) s ≡ Ok new
+    → i < length xs → run_all (take i xs) s ≡ Ok now → step now (get_or xs i d) ≡ Ok new →
+    run_all (take (i + 1) xs) s ≡ Ok new
 run-more xs i d s now new h e o = ap (λ (ts : List Step). run_all ts s) (take_more xs i d h)
     ∙ run_all-push (take i xs) (get_or xs i d) s now new e o
 
@@ -117,7 +126,8 @@ items-append (x ∷ ps) qs = ap (λ (l : List (List Op)). x.items ∷ l) (items-
 pub idle-push :
     (ps : List (Vec Op Global)) (v : Vec Op Global) (n : ℕ)
     → v.items ≡ [] → items ps ≡ idle n → items (ps ++ v ∷ []) ≡ idle (n + 1)
-idle-push ps v n e q = items-append ps (v ∷ []) ∙ ap (λ (x : List (List Op) × List Op). x.0 ++ x.1 ∷ []) (λ i. (q i, e i)) ∙ idle-more n
+idle-push ps v n e q = items-append ps (v ∷ []) ∙ ap (λ (x : List (List Op) × List Op). x.0 ++ x.1 ∷ [])
+    (λ i. (q i, e i)) ∙ idle-more n
 
 pub started :
     (limit : ℕ) (w : World) (ps : List (Vec Op Global)) (n m : ℕ)

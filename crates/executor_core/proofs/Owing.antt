@@ -10,7 +10,8 @@ reverse_before t s x = ap (λ (l : List Op). t ++ l) (reverse-append s x) ∙ sy
 
 pub reverse_owed :
     (t s f o a n : List Op)
-    → t ++ reverse (s ++ (f ++ (o ++ (a ++ n)))) ≡ ((((t ++ reverse n) ++ reverse a) ++ reverse o) ++ reverse f) ++ reverse s
+    → t ++ reverse (s ++ (f ++ (o ++ (a ++ n)))) ≡ ((((t ++ reverse n) ++ reverse a) ++ reverse o) ++ reverse f)
+    ++ reverse s
 reverse_owed t s f o a n =
     reverse_before t s (f ++ (o ++ (a ++ n)))
     ∙ ap (λ (l : List Op). l ++ reverse s) (reverse_before t f (o ++ (a ++ n))

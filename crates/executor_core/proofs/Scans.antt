@@ -1,5 +1,6 @@
 -- Scans of what the parties have still to do.
-use Rattle.std.proofs.Common.{◌≡◌, ◌≢◌, ℕ, ◌+◌, ◌<◌, ◌≤◌, List, [], ◌∷◌, length, get_or, drop, true, false, eqb, not, sym, ap, ◌∙◌}
+use Rattle.std.proofs.Common.{◌≡◌, ◌≢◌, ℕ, ◌+◌, ◌<◌, ◌≤◌, List, [], ◌∷◌, length, get_or}
+use Rattle.std.proofs.Common.{drop, true, false, eqb, not, sym, ap, ◌∙◌}
 use Rattle.std.proofs.Common.{⊎_elim, arith, add-one, drop-cons}
 use Rattle.std.proofs.lemmas.Bool.Decides.{nat_tests}
 use Rattle.std.proofs.lemmas.Grind.{common_steps}
@@ -26,7 +27,8 @@ weigh-more v xs i x h e q w =
 
 pub weigh-found :
     (v : Op → ℕ) (xs : List Op) (i : ℕ) (x : Op)
-    → i < length xs → x ≡ get_or xs i x → not (eqb (v x) 0) ≡ true → weigh v xs ≡ weigh v (drop i xs) → false ≡ eqb (weigh v xs) 0
+    → i < length xs → x ≡ get_or xs i x → not (eqb (v x) 0) ≡ true → weigh v xs ≡ weigh v (drop i xs) →
+    false ≡ eqb (weigh v xs) 0
 weigh-found v xs i x h e q w =
     let z : 1 ≤ v x = grind (arith, nat_tests) in
     let m : weigh v xs ≡ v x + weigh v (drop (i + 1) xs) = w ∙ ap (weigh v) (drop_op xs i x h)
@@ -36,5 +38,6 @@ weigh-found v xs i x h e q w =
 drop_all : (xs : List Op) (i : ℕ) → length xs ≤ i → drop i xs ≡ []
 drop_all xs i h = grind (arith, common_steps)
 
-pub weigh-ended : (v : Op → ℕ) (xs : List Op) (i : ℕ) → length xs ≤ i → weigh v xs ≡ weigh v (drop i xs) → true ≡ eqb (weigh v xs) 0
+pub weigh-ended : (v : Op → ℕ) (xs : List Op) (i : ℕ) → length xs ≤ i → weigh v xs ≡ weigh v (drop i xs) →
+    true ≡ eqb (weigh v xs) 0
 weigh-ended v xs i h w = let z : weigh v xs ≡ 0 = w ∙ ap (weigh v) (drop_all xs i h) in grind (arith, nat_tests)

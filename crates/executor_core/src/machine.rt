@@ -1,5 +1,6 @@
 //! The machine.
-ghost use Rattle.std.specs.Prelude.{◌≡◌, ◌⊎◌, ℕ, ◌+◌, ◌<◌, ◌≤◌, Some, None, Ok, Err, vec_len, vec_capacity, OnOk, IfOk, IfErr, IfSome};
+ghost use Rattle.std.specs.Prelude.{◌≡◌, ◌⊎◌, ℕ, ◌+◌, ◌<◌, ◌≤◌, Some, None, Ok, Err, vec_len, vec_capacity};
+ghost use Rattle.std.specs.Prelude.{OnOk, IfOk, IfErr, IfSome};
 ghost use Rattle.std.specs.Prelude.{MatchOption, slice_get, take, List, length, map};
 ghost use Rattle.executor_model.specs.Steps as steps;
 ghost use Rattle.executor_model.specs.AskedPolls.{IsWokenBetweenPolls};
@@ -57,7 +58,8 @@ impl Model for Machine {
 
     ghost view = { λ m. record { world = world_of m.store; parties = map (λ v. v.items) m.parties.items } };
 
-    ghost invariant = { λ m. IsReached (record { world = world_of m.store; parties = map (λ v. v.items) m.parties.items }) };
+    ghost invariant = { λ m. IsReached
+        (record { world = world_of m.store; parties = map (λ v. v.items) m.parties.items }) };
 }
 
 /// Room for one more in each list. What the store stands for stays.
@@ -95,7 +97,8 @@ fn party_of(step: Step) -> u32
 fn step_at(store: &mut Store, parties: &mut Vec<Vec<Op>>, step: Step) -> Result<(), StepError>
     requires { IsReached (state_of store.old parties.old.items) }
     ensures reached { IsReached (state_of store.new parties.new.items) }
-    ensures ok { OnOk result (steps.step (state_of store.old parties.old.items) step ≡ Ok (state_of store.new parties.new.items)) }
+    ensures ok { OnOk result
+        (steps.step (state_of store.old parties.old.items) step ≡ Ok (state_of store.new parties.new.items)) }
     ensures err { IfErr result (λ e. (state_of store.new parties.new.items ≡ state_of store.old parties.old.items)
         × IsRefused (state_of store.old parties.old.items) step e) }
 {
@@ -170,7 +173,8 @@ impl Machine {
     pub fn run(&mut self, list: &[Step]) -> Option<(usize, StepError)>
         ensures made { MatchOption result (run_all list.now self.old ≡ Ok self.new)
             (λ r. run_all (take r.0 list.now) self.old ≡ Ok self.new) }
-        ensures refused { IfSome result (λ r. (t : Step) × (slice_get list.now r.0 ≡ Some t) × IsRefused self.new t r.1) }
+        ensures refused { IfSome result
+            (λ r. (t : Step) × (slice_get list.now r.0 ≡ Some t) × IsRefused self.new t r.1) }
         ensures polls_are_lawful { (f : ℕ) → HasLawfulPolls f self.new.world.trace }
         ensures outputs_go_once { (f : ℕ) → OutputGoesOnce f self.new.world.trace }
         ensures polls_are_asked_for { (f : ℕ) → IsWokenBetweenPolls f self.new.world.trace }
@@ -208,7 +212,8 @@ impl Machine {
     fn run_on(&mut self, list: &[Step]) -> Option<(usize, StepError)>
         ensures made { MatchOption result (run_all list.now self.old ≡ Ok self.new)
             (λ r. run_all (take r.0 list.now) self.old ≡ Ok self.new) }
-        ensures refused { IfSome result (λ r. (t : Step) × (slice_get list.now r.0 ≡ Some t) × IsRefused self.new t r.1) }
+        ensures refused { IfSome result
+            (λ r. (t : Step) × (slice_get list.now r.0 ≡ Some t) × IsRefused self.new t r.1) }
         ensures reached { IsReached self.new }
     {
         self.is_reached();

@@ -1,5 +1,6 @@
 //! What a call changes as it begins, and what follows the end of user code.
-ghost use Rattle.std.specs.Prelude.{◌≡◌, ◌≢◌, ℕ, ◌+◌, ◌-◌, ◌^◌, ◌<◌, ◌≤◌, ◌==◌, ◌++◌, true, false, not, Some, None, List, [], ◌∷◌};
+ghost use Rattle.std.specs.Prelude.{◌≡◌, ◌≢◌, ℕ, ◌+◌, ◌-◌, ◌^◌, ◌<◌, ◌≤◌, ◌==◌, true, false, not, Some, None};
+ghost use Rattle.std.specs.Prelude.{List, [], ◌∷◌, ◌++◌};
 ghost use Rattle.std.specs.Prelude.{length, map, reverse, vec_len, vec_capacity};
 ghost use Rattle.executor_model.specs.Steps as steps;
 ghost use Rattle.executor_model.specs.Weights as weights;
@@ -201,7 +202,8 @@ fn react(store: &mut Store, todo: &mut Vec<Op>, party: u32, op: Op, end: UserEnd
 /// A call whose end is all that is left of it ends.
 fn settle(store: &mut Store, todo: &mut Vec<Op>, party: u32)
     requires { HasRoomToEnd store.old }
-    ensures { record { world = world_of store.new; todo = todo.new.items } ≡ steps.settled party (world_of store.old) todo.old.items }
+    ensures { record { world = world_of store.new; todo = todo.new.items }
+        ≡ steps.settled party (world_of store.old) todo.old.items }
 {
     if let Some(Op::End(reply, _)) = todo.last().copied() {
         todo.pop();
@@ -215,7 +217,8 @@ pub fn take_part(store: &mut Store, todo: &mut Vec<Op>, step: Step)
     requires room { HasRoom store.old }
     requires space { HasSpace todo.old }
     requires needs { (op : Op) → steps.top todo.old.items ≡ Some op → Needs (world_of store.old) op }
-    ensures { record { world = world_of store.new; todo = todo.new.items } ≡ steps.part_after (world_of store.old) todo.old.items step }
+    ensures { record { world = world_of store.new; todo = todo.new.items }
+        ≡ steps.part_after (world_of store.old) todo.old.items step }
 {
     match step {
         Step::Begin { party, call } => {

@@ -14,8 +14,8 @@ pub struct Store {
     /// The Runnables, by their futures.
     pub queue: VecDeque<u64>,
     pub closed: bool,
-    /// The table, where each future has an entry and a waker, with the limit of undropped futures, and what the executor's
-    /// drop has taken out of it and not yet dropped.
+    /// The table, where each future has an entry and a waker, with the limit of undropped futures, and what the
+    /// executor's drop has taken out of it and not yet dropped.
     pub entries: Entries,
     /// The wakers of those that it has dropped and not yet woken.
     pub waking: VecDeque<u64>,

@@ -1,5 +1,7 @@
 -- How a call is answered that begins at rest.
-use Rattle.std.proofs.Common.{◌≡◌, ◌≢◌, ◌⊎◌, ℕ, ◌<◌, ◌≤◌, List, [], ◌∷◌, ◌++◌, length, set, get_or, Bool, true, false, ◌&&◌, not, ltb, refl, sym, ap, ◌∙◌, subst, inl, inr, ⊎_elim, arith, get_or-set_same, get_or-set_other}
+use Rattle.std.proofs.Common.{◌≡◌, ◌≢◌, ◌⊎◌, ℕ, ◌<◌, ◌≤◌, List, [], ◌∷◌, ◌++◌, length, set, get_or}
+use Rattle.std.proofs.Common.{Bool, true, false, ◌&&◌, not, ltb, refl, sym, ap, ◌∙◌, subst, inl, inr}
+use Rattle.std.proofs.Common.{⊎_elim, arith, get_or-set_same, get_or-set_other}
 use Rattle.std.proofs.Math.ListN.{length-set}
 use Rattle.std.proofs.lemmas.Bool.Decides.{nat_tests}
 use Rattle.std.proofs.lemmas.List.{append_assoc}
@@ -28,7 +30,8 @@ use Rattle.executor_model.specs.Emptiness.{IsAtRest, IsQuietEmptinessExact, Answ
 use Rattle.executor_model.specs.Quiet.{IsQuiet}
 use Rattle.executor_model.specs.Sound.{times}
 use Rattle.executor_model.specs.Good.{Good}
-use Rattle.executor_model.specs.Steps.{Machine, stack, top, unless, begin_refusal, part_refusal, refusal, part_after, with_part, step_by, step, stepped, run, start}
+use Rattle.executor_model.specs.Steps.{Machine, stack, top, unless, begin_refusal, part_refusal, refusal}
+use Rattle.executor_model.specs.Steps.{part_after, with_part, step_by, step, stepped, run, start}
 use Rattle.executor_model.proofs.Lists.{same_is}
 use Rattle.executor_model.proofs.Lift.{good}
 use Rattle.executor_model.proofs.Stepping.{step-refused}
@@ -42,7 +45,8 @@ use Rattle.executor_laws.proofs.Growing.{run-continues}
 use Rattle.executor_laws.proofs.Finding.{Found, found, no-more}
 use Rattle.executor_laws.proofs.Following.{IsAlone, first-of, follow}
 use Rattle.executor_laws.proofs.Inside.{Inside, not-no}
-use Rattle.executor_laws.proofs.Ticking.{ticking, here, idle, due-queued, queued-due, begun-alone, gone-on-alone, finds-nothing, placed-there}
+use Rattle.executor_laws.proofs.Ticking.{ticking, here, idle, due-queued, queued-due, begun-alone}
+use Rattle.executor_laws.proofs.Ticking.{gone-on-alone, finds-nothing, placed-there}
 
 -- a call that was shown to begin is one of a party that is there
 known : (s : Machine) (p : ℕ) (c : Call) (more : Trace) →
@@ -73,7 +77,8 @@ asks s p l n e =
 
 abbrev TickAnswered : ℕ → Trace → Event → Type 0
 TickAnswered p before e =
-    ((e ≡ event.CallEnded p reply.No) × ((f : ℕ) → ¬ IsDue f before)) ⊎ ((e ≢ event.CallEnded p reply.No) × ((f : ℕ) × IsDue f before))
+    ((e ≡ event.CallEnded p reply.No) × ((f : ℕ) → ¬ IsDue f before))
+    ⊎ ((e ≢ event.CallEnded p reply.No) × ((f : ℕ) × IsDue f before))
 
 abbrev EmptyAnswered : ℕ → Trace → Event → Type 0
 EmptyAnswered p before e =
@@ -82,7 +87,8 @@ EmptyAnswered p before e =
 not-both : {p : ℕ} {e : Event} → e ≡ event.CallEnded p reply.Yes → e ≡ event.CallEnded p reply.No → ⊥
 not-both {p} a b = let z : event.CallEnded p reply.Yes ≡ event.CallEnded p reply.No = sym a ∙ b in absurd (cc)
 
-module _ (s : Machine) (fine : Good s) (h : Heard s) (d : Deep s) (rest : IsAtRest s) (p : ℕ) (l : p < length s.parties) (e : Event)
+module _ (s : Machine) (fine : Good s) (h : Heard s) (d : Deep s) (rest : IsAtRest s) (p : ℕ) (l : p < length s.parties)
+    (e : Event)
     (later : Trace) (alone : IsAlone e) where
   gone : s.world.gone ≡ false
   gone = here s fine h d rest
@@ -99,23 +105,25 @@ module _ (s : Machine) (fine : Good s) (h : Heard s) (d : Deep s) (rest : IsAtRe
   nothing-due : s.world.queue.items ≡ [] → (f : ℕ) → ¬ IsDue f s.world.trace
   nothing-due z f due = let k = due-queued s fine h d rest f due in absurd (omega (arith, k, ap (times f) z))
 
-  found-inside : (t : Hint) (f : ℕ) (xs : List ℕ) → s.world.queue.items ≡ f ∷ xs → Inside p hold.Executor (run (ticks p t) s)
-  found-inside t f xs z = subst (Inside p hold.Executor) (sym (gone-on-alone s p l gone (none p) t (f ∷ xs) z)) (record {
-    within = omega (
-      arith,
-      l,
-      length-set s.parties p (op.Queue queue_op.Take ∷ []),
-      length-set (set s.parties p (op.Queue queue_op.Take ∷ [])) p
-          (op.End reply.Yes hold.Executor ∷ op.Move move.TakeUp f ∷ op.Sleeper sleeper_op.ExchangeFlag ∷ []),
-    );
-    rest = op.Move move.TakeUp f ∷ op.Sleeper sleeper_op.ExchangeFlag ∷ [];
-    here = placed-there s p l gone (none p)
-        (op.End reply.Yes hold.Executor ∷ op.Move move.TakeUp f ∷ op.Sleeper sleeper_op.ExchangeFlag ∷ []);
-    light = refl;
-    others = λ q n. get_or-set_other (set s.parties p (op.Queue queue_op.Take ∷ [])) p q
-        (op.End reply.Yes hold.Executor ∷ op.Move move.TakeUp f ∷ op.Sleeper sleeper_op.ExchangeFlag ∷ []) [] n
-        ∙ others (op.Queue queue_op.Take ∷ []) q n;
-  })
+  found-inside : (t : Hint) (f : ℕ) (xs : List ℕ) → s.world.queue.items ≡ f ∷ xs →
+      Inside p hold.Executor (run (ticks p t) s)
+  found-inside t f xs z = subst (Inside p hold.Executor) (sym (gone-on-alone s p l gone (none p) t (f ∷ xs) z))
+      (record {
+        within = omega (
+          arith,
+          l,
+          length-set s.parties p (op.Queue queue_op.Take ∷ []),
+          length-set (set s.parties p (op.Queue queue_op.Take ∷ [])) p
+              (op.End reply.Yes hold.Executor ∷ op.Move move.TakeUp f ∷ op.Sleeper sleeper_op.ExchangeFlag ∷ []),
+        );
+        rest = op.Move move.TakeUp f ∷ op.Sleeper sleeper_op.ExchangeFlag ∷ [];
+        here = placed-there s p l gone (none p)
+            (op.End reply.Yes hold.Executor ∷ op.Move move.TakeUp f ∷ op.Sleeper sleeper_op.ExchangeFlag ∷ []);
+        light = refl;
+        others = λ q n. get_or-set_other (set s.parties p (op.Queue queue_op.Take ∷ [])) p q
+            (op.End reply.Yes hold.Executor ∷ op.Move move.TakeUp f ∷ op.Sleeper sleeper_op.ExchangeFlag ∷ []) [] n
+            ∙ others (op.Queue queue_op.Take ∷ []) q n;
+      })
 
   tick-goes : (t : Hint) (ts : List Step) (items : List ℕ) → s.world.queue.items ≡ items →
       (run ts (run (ticks p t) s)).world.trace ≡ (ticking s p).world.trace ++ e ∷ later → TickAnswered p s.world.trace e
@@ -123,10 +131,13 @@ module _ (s : Machine) (fine : Good s) (h : Heard s) (d : Deep s) (rest : IsAtRe
       let ended : (run (ticks p t) s).world.trace ≡ (ticking s p).world.trace ++ event.CallEnded p reply.No ∷ [] =
       finds-nothing s p l gone (none p) t z
       ∙ sym (append_assoc s.world.trace (event.CallBegun p call.TryTick ∷ []) (event.CallEnded p reply.No ∷ [])) in
-      let on : IsContinued ((ticking s p).world.trace ++ event.CallEnded p reply.No ∷ []) (run ts (run (ticks p t) s)).world.trace =
-      subst (λ (xs : Trace). IsContinued xs (run ts (run (ticks p t) s)).world.trace) ended (run-continues ts (run (ticks p t) s)) in
+      let on : IsContinued ((ticking s p).world.trace ++ event.CallEnded p reply.No ∷ [])
+      (run ts (run (ticks p t) s)).world.trace =
+      subst (λ (xs : Trace). IsContinued xs (run ts (run (ticks p t) s)).world.trace) ended
+      (run-continues ts (run (ticks p t) s)) in
       inl (
-        first-of (ticking s p).world.trace [] (run ts (run (ticks p t) s)).world.trace later e (event.CallEnded p reply.No) on k,
+        first-of (ticking s p).world.trace [] (run ts (run (ticks p t) s)).world.trace later e
+            (event.CallEnded p reply.No) on k,
         nothing-due z,
       )
   tick-goes t ts (f ∷ xs) z k =
@@ -140,9 +151,11 @@ module _ (s : Machine) (fine : Good s) (h : Heard s) (d : Deep s) (rest : IsAtRe
 
   tick-next : (ts : List Step) → (run ts (ticking s p)).world.trace ≡ (ticking s p).world.trace ++ e ∷ later →
       TickAnswered p s.world.trace e
-  tick-next ts k = follow (ticking s p) p (op.Queue queue_op.Take) (get_or-set_same s.parties p (op.Queue queue_op.Take ∷ []) [] l)
+  tick-next ts k = follow (ticking s p) p (op.Queue queue_op.Take)
+      (get_or-set_same s.parties p (op.Queue queue_op.Take ∷ []) [] l)
       (others (op.Queue queue_op.Take ∷ [])) (λ u. refl) e later alone (TickAnswered p s.world.trace e)
-      (λ t us q. tick-goes t us s.world.queue.items refl (ap (λ (m : Machine). (run us m).world.trace) (two t) ∙ q)) ts k
+      (λ t us q. tick-goes t us s.world.queue.items refl (ap (λ (m : Machine). (run us m).world.trace) (two t) ∙ q)) ts
+      k
 
   asks-two : (t : Hint) → run (asks_alone p t) s ≡ stepped (asking s p) (step (asking s p) (Go p t))
   asks-two t = ap (λ (m : Machine). stepped m (step m (Go p t))) (asks s p l gone (none p))
@@ -152,17 +165,21 @@ module _ (s : Machine) (fine : Good s) (h : Heard s) (d : Deep s) (rest : IsAtRe
   answered-so a t ts z k =
       let ended : (run (asks_alone p t) s).world.trace ≡ (asking s p).world.trace ++ event.CallEnded p a ∷ [] = z
       ∙ sym (append_assoc s.world.trace (event.CallBegun p call.IsEmpty ∷ []) (event.CallEnded p a ∷ [])) in
-      let on : IsContinued ((asking s p).world.trace ++ event.CallEnded p a ∷ []) (run ts (run (asks_alone p t) s)).world.trace =
+      let on : IsContinued ((asking s p).world.trace ++ event.CallEnded p a ∷ [])
+      (run ts (run (asks_alone p t) s)).world.trace =
       subst (λ (xs : Trace). IsContinued xs (run ts (run (asks_alone p t) s)).world.trace) ended
       (run-continues ts (run (asks_alone p t) s)) in
-      first-of (asking s p).world.trace [] (run ts (run (asks_alone p t) s)).world.trace later e (event.CallEnded p a) on k
+      first-of (asking s p).world.trace [] (run ts (run (asks_alone p t) s)).world.trace later e (event.CallEnded p a)
+      on k
 
   -- whether the executor is empty: yes where all are dropped, and no where they aren't
 
-  asked-next : IsQuietEmptinessExact s → (ts : List Step) → (run ts (asking s p)).world.trace ≡ (asking s p).world.trace ++ e ∷ later →
+  asked-next : IsQuietEmptinessExact s → (ts : List Step) →
+      (run ts (asking s p)).world.trace ≡ (asking s p).world.trace ++ e ∷ later →
       EmptyAnswered p s.world.trace e
   asked-next exact ts k =
-      follow (asking s p) p (op.Table table_op.LookAtTable) (get_or-set_same s.parties p (op.Table table_op.LookAtTable ∷ []) [] l)
+      follow (asking s p) p (op.Table table_op.LookAtTable)
+      (get_or-set_same s.parties p (op.Table table_op.LookAtTable ∷ []) [] l)
       (others (op.Table table_op.LookAtTable ∷ [])) (λ u. refl) e later alone (EmptyAnswered p s.world.trace e)
       (λ t us q. let r : (run us (run (asks_alone p t) s)).world.trace ≡ (asking s p).world.trace ++ e ∷ later = ap
       (λ (m : Machine). (run us m).world.trace) (asks-two t) ∙ q in ⊎_elim
@@ -189,7 +206,8 @@ module _ (limit parties : ℕ) (steps : List Step) (p : ℕ) (c : Call) (before 
 
   -- what is left to run, from the machine in which the call has begun
   runs-on : (m : Machine) → stepped moment (step moment (Begin p c)) ≡ m →
-      m.world.trace ≡ moment.world.trace ++ event.CallBegun p c ∷ [] → (run f.behind m).world.trace ≡ m.world.trace ++ next ∷ b.later
+      m.world.trace ≡ moment.world.trace ++ event.CallBegun p c ∷ [] →
+      (run f.behind m).world.trace ≡ m.world.trace ++ next ∷ b.later
   runs-on m e t =
       ap (λ (x : Machine). (run f.behind x).world.trace) (sym e)
       ∙ (ap (λ (x : Machine). x.world.trace) f.goes
@@ -214,10 +232,12 @@ tick-told limit parties steps p before next b =
     (runs-on limit parties steps p call.TryTick before next b f (ticking s p)
     (begun-alone s p l (here s fine h d r) (idle s fine h d r p)) refl))
 
-pub ticks-are-exact : (limit parties : ℕ) (steps : List Step) (p : ℕ) → TicksAreExact p (run steps (start limit parties)).world.trace
+pub ticks-are-exact : (limit parties : ℕ) (steps : List Step) (p : ℕ) →
+    TicksAreExact p (run steps (start limit parties)).world.trace
 ticks-are-exact limit parties steps p before next b = ⊎_elim
     (λ (x : (next ≡ event.CallEnded p reply.No) × ((f : ℕ) → ¬ IsDue f before)). (λ e. x.1, λ n. x.0))
-    (λ (x : (next ≢ event.CallEnded p reply.No) × ((f : ℕ) × IsDue f before)). let due : (f : ℕ) × IsDue f before = x.1 in
+    (λ (x : (next ≢ event.CallEnded p reply.No) × ((f : ℕ) × IsDue f before)). let due : (f : ℕ) × IsDue f before =
+    x.1 in
     (λ e. absurd (x.0 e), λ n. absurd (n due.0 due.1)))
     (tick-told limit parties steps p before next b)
 
@@ -237,8 +257,10 @@ empty-told limit parties steps p before next b =
     (runs-on limit parties steps p call.IsEmpty before next b f (asking s p)
     (asks s p l (here s fine h d r) (idle s fine h d r p)) refl))
 
-pub emptiness-is-exact : (limit parties : ℕ) (steps : List Step) (p : ℕ) → EmptinessIsExact p (run steps (start limit parties)).world.trace
+pub emptiness-is-exact : (limit parties : ℕ) (steps : List Step) (p : ℕ) →
+    EmptinessIsExact p (run steps (start limit parties)).world.trace
 emptiness-is-exact limit parties steps p before next b = ⊎_elim
     (λ (x : (next ≡ event.CallEnded p reply.Yes) × AllDropped before). (inl x.0, (λ e. x.1, λ all. x.0)))
-    (λ (x : (next ≡ event.CallEnded p reply.No) × ¬ AllDropped before). (inr x.0, (λ e. absurd (not-both e x.0), λ all. absurd (x.1 all))))
+    (λ (x : (next ≡ event.CallEnded p reply.No) × ¬ AllDropped before).
+    (inr x.0, (λ e. absurd (not-both e x.0), λ all. absurd (x.1 all))))
     (empty-told limit parties steps p before next b)

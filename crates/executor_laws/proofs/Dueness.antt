@@ -1,8 +1,10 @@
 -- What the automata tell of a future is what the definition of due says.
-use Rattle.std.proofs.Common.{◌≡◌, ◌≢◌, ℕ, Bool, true, false, ◌||◌, cond, ◌==◌, [], ◌∷◌, ◌++◌, refl, sym, ap, ◌∙◌, subst, append_assoc, append-nil}
+use Rattle.std.proofs.Common.{◌≡◌, ◌≢◌, ℕ, Bool, true, false, ◌||◌, cond, ◌==◌, [], ◌∷◌, ◌++◌, refl}
+use Rattle.std.proofs.Common.{sym, ap, ◌∙◌, subst, append_assoc, append-nil}
 use Rattle.executor_model.specs.declared.event.Answer.TheVariants.{Pending, Ready}
 use Rattle.executor_model.specs.declared.event.Event.{Event}
-use Rattle.executor_model.specs.declared.event.Event.TheVariants.{Accepted, PollBegun, Answered, Woken, Cancelled, Dropped}
+use Rattle.executor_model.specs.declared.event.Event.TheVariants.{Accepted, PollBegun, Answered}
+use Rattle.executor_model.specs.declared.event.Event.TheVariants.{Woken, Cancelled, Dropped}
 use Rattle.executor_model.specs.Trace.{Trace, has, is_poll, is_answer, is_ready, is_dropped}
 use Rattle.executor_model.specs.Due.{is_request, since_poll, HasOpenPoll}
 use Rattle.executor_model.specs.Sound.{Phase, after_begun, after_answered, after_dropped, passes, phase}
@@ -31,7 +33,8 @@ or-none : (a : Bool) → (a || false) ≡ a
 or-none true = refl
 or-none false = refl
 
-request-one : (f : ℕ) (e : Event) (s : Request) → cond (is_poll f e) false (s.asked || is_request f e) ≡ (notes f e s).asked
+request-one : (f : ℕ) (e : Event) (s : Request) →
+    cond (is_poll f e) false (s.asked || is_request f e) ≡ (notes f e s).asked
 request-one f (Accepted p g) s = by (f == g) s.asked
   where
     by : (b a : Bool) → (a || (b || false || false)) ≡ cond b true a
@@ -102,7 +105,8 @@ or-left : (a b : Bool) → a ≡ true → (a || b) ≡ true
 or-left true b e = refl
 or-left false b e = absurd (cc)
 
-over-one : (f : ℕ) (e : Event) (s : Phase) (m : Bool) → If (is_over s) m → If (is_over (passes f e s)) (m || is_last f e)
+over-one : (f : ℕ) (e : Event) (s : Phase) (m : Bool) → If (is_over s) m →
+    If (is_over (passes f e s)) (m || is_last f e)
 over-one f (PollBegun p g) s m h = by (f == g)
   where
     begun : (s : Phase) → is_over (after_begun s) ≡ false
@@ -145,11 +149,14 @@ over-last f es = by_last (λ (xs : Trace). If (is_over (phase f xs)) (has (is_la
     more xs e h k = any-push (is_poll f) (is_last f) xs e
         ∙ over-one f e (phase f xs) (has (is_last f) xs) h (sym (ap is_over (phase-push f Fresh xs e)) ∙ k)
 
-none-last : (f : ℕ) (es : Trace) → has (is_ready f) es ≡ false → has (is_dropped f) es ≡ false → has (is_last f) es ≡ false
+none-last : (f : ℕ) (es : Trace) → has (is_ready f) es ≡ false → has (is_dropped f) es ≡ false →
+    has (is_last f) es ≡ false
 none-last f [] a b = refl
-none-last f (e ∷ es) a b = by (is_ready f e) (has (is_ready f) es) (is_dropped f e) (has (is_dropped f) es) a b (none-last f es)
+none-last f (e ∷ es) a b = by (is_ready f e) (has (is_ready f) es) (is_dropped f e) (has (is_dropped f) es) a b
+    (none-last f es)
   where
-    by : (r rs d ds : Bool) → (r || rs) ≡ false → (d || ds) ≡ false → (rs ≡ false → ds ≡ false → has (is_last f) es ≡ false) →
+    by : (r rs d ds : Bool) → (r || rs) ≡ false → (d || ds) ≡ false →
+        (rs ≡ false → ds ≡ false → has (is_last f) es ≡ false) →
         ((r || d) || has (is_last f) es) ≡ false
     by true rs d ds a b k = absurd (cc)
     by false rs true ds a b k = absurd (cc)
@@ -170,8 +177,10 @@ is_open Broken = true
 abbrev Open : ℕ → Trace → Type 0
 Open f es = has (is_poll f) es ≡ true → has (is_answer f) (since_poll f es) ≡ false → is_open (phase f es) ≡ true
 
-open-one : (f : ℕ) (e : Event) (s : Phase) (polled answered : Bool) → (polled ≡ true → answered ≡ false → is_open s ≡ true) →
-    (polled || is_poll f e) ≡ true → cond (is_poll f e) false (answered || is_answer f e) ≡ false → is_open (passes f e s) ≡ true
+open-one : (f : ℕ) (e : Event) (s : Phase) (polled answered : Bool) →
+    (polled ≡ true → answered ≡ false → is_open s ≡ true) →
+    (polled || is_poll f e) ≡ true → cond (is_poll f e) false (answered || is_answer f e) ≡ false →
+    is_open (passes f e s) ≡ true
 open-one f (PollBegun p g) s polled answered h = by (f == g)
   where
     begun : (s : Phase) → is_open (after_begun s) ≡ true
@@ -180,12 +189,14 @@ open-one f (PollBegun p g) s polled answered h = by (f == g)
     begun Over = refl
     begun Broken = refl
 
-    by : (b : Bool) → (polled || b) ≡ true → cond b false (answered || false) ≡ false → is_open (cond b (after_begun s) s) ≡ true
+    by : (b : Bool) → (polled || b) ≡ true → cond b false (answered || false) ≡ false →
+        is_open (cond b (after_begun s) s) ≡ true
     by true = λ i k. begun s
     by false = λ i k. h (sym (or-none polled) ∙ i) (sym (or-none answered) ∙ k)
 open-one f (Answered p g a) s polled answered h = by (f == g)
   where
-    by : (b : Bool) → (polled || false) ≡ true → (answered || b) ≡ false → is_open (cond b (after_answered a s) s) ≡ true
+    by : (b : Bool) → (polled || false) ≡ true → (answered || b) ≡ false →
+        is_open (cond b (after_answered a s) s) ≡ true
     by true = λ i k. let no : true ≡ false = sym (or-right answered true refl) ∙ k in absurd (cc)
     by false = λ i k. h (sym (or-none polled) ∙ i) (sym (or-none answered) ∙ k)
 open-one f (Dropped p g) s polled answered h = by (f == g)
@@ -196,7 +207,8 @@ open-one f (Dropped p g) s polled answered h = by (f == g)
     dropped Over e = absurd (cc)
     dropped Broken e = refl
 
-    by : (b : Bool) → (polled || false) ≡ true → (answered || false) ≡ false → is_open (cond b (after_dropped s) s) ≡ true
+    by : (b : Bool) → (polled || false) ≡ true → (answered || false) ≡ false →
+        is_open (cond b (after_dropped s) s) ≡ true
     by true = λ i k. dropped s (h (sym (or-none polled) ∙ i) (sym (or-none answered) ∙ k))
     by false = λ i k. h (sym (or-none polled) ∙ i) (sym (or-none answered) ∙ k)
 open-one f _ s polled answered h = λ i k. h (sym (or-none polled) ∙ i) (sym (or-none answered) ∙ k)

@@ -1,5 +1,6 @@
 -- Calls end: each step that begins none lowers the steps that remain, and a party that has something to do can go on.
-use Rattle.std.proofs.Common.{◌≡◌, ℕ, ◌+◌, ◌<◌, ◌≤◌, List, [], ◌∷◌, ◌++◌, length, set, Bool, true, false, ◌&&◌, ◌||◌, not, ltb, refl, ap, ◌∙◌, ⊎_elim, arith, Ok, Err, Result}
+use Rattle.std.proofs.Common.{◌≡◌, ℕ, ◌+◌, ◌<◌, ◌≤◌, List, [], ◌∷◌, ◌++◌, length, set, Bool, true, false, ◌&&◌, ◌||◌}
+use Rattle.std.proofs.Common.{not, ltb, refl, ap, ◌∙◌, ⊎_elim, arith, Ok, Err, Result}
 use Rattle.std.proofs.lemmas.Bool.Decides.{nat_tests}
 use Rattle.std.specs.Prelude.{Option, Some, None, reverse}
 use Rattle.executor_model.specs.declared.event.Answer.TheVariants as answer
@@ -19,11 +20,14 @@ use Rattle.executor_model.specs.declared.step.UserEnd.TheVariants as end
 use Rattle.executor_model.specs.World.{World, Done, task}
 use Rattle.executor_model.specs.Acts.{act}
 use Rattle.executor_model.specs.Weights.{weigh, weigh_all}
-use Rattle.executor_laws.specs.Remaining.{steps_kept, remaining, is_onward, are_onward, LowersRemaining, EachStepLowers, EndsWithin, EachListEnds, GoesOn}
+use Rattle.executor_laws.specs.Remaining.{steps_kept, remaining, is_onward, are_onward, LowersRemaining}
+use Rattle.executor_laws.specs.Remaining.{EachStepLowers, EndsWithin, EachListEnds, GoesOn}
 use Rattle.executor_model.specs.Rows.{closing_of, settling_of, steps_of}
 use Rattle.executor_model.specs.Good.{Good}
 use Rattle.executor_model.specs.Runs.{run_all}
-use Rattle.executor_model.specs.Steps.{Machine, stack, top, below_top, waits, go_refusal, answer_refusal, accepts, unless, refusal, react, end_of, settled_by, onto, gone_on, with_part, after, step_by, step, run, start}
+use Rattle.executor_model.specs.Steps.{Machine, stack, top, below_top, waits, go_refusal, answer_refusal}
+use Rattle.executor_model.specs.Steps.{accepts, unless, refusal, react, end_of, settled_by, onto, gone_on}
+use Rattle.executor_model.specs.Steps.{with_part, after, step_by, step, run, start}
 use Rattle.executor_model.proofs.Lists.{same_is, weigh_all-push, weigh_all-set, weigh-append}
 use Rattle.executor_model.proofs.Needing.{needs}
 use Rattle.executor_model.proofs.Lift.{split, topped}
@@ -45,7 +49,8 @@ settled-less s p w os (Some (op.End a held)) l e = omega (
 )
 settled-less s p w os (Some _) l e = omega arith
 
-onto-less : (s : Machine) (p : ℕ) (o : Op) (d : Done) → p < length s.parties → top (stack s p) ≡ Some o → Spends s.world (steps_of o) d →
+onto-less : (s : Machine) (p : ℕ) (o : Op) (d : Done) → p < length s.parties → top (stack s p) ≡ Some o →
+    Spends s.world (steps_of o) d →
     remaining (with_part s p (onto p d (below_top (stack s p)))) < remaining s
 onto-less s p o d l e k =
     let rest : List Op = below_top (stack s p) in
@@ -91,20 +96,26 @@ settled-over s p f o l e good k =
     over-closed false x e = e
 
 settles : (s : Machine) (p : ℕ) (o : Op) → p < length s.parties → top (stack s p) ≡ Some o → Good s → Settles s.world o
-settles s p (op.Move move.SettleClosed f) l e good = settled-over s p f (op.Move move.SettleClosed f) l e good (grind (arith, same_is))
-settles s p (op.Move move.EndClosed f) l e good = settled-over s p f (op.Move move.EndClosed f) l e good (grind (arith, same_is))
+settles s p (op.Move move.SettleClosed f) l e good =
+    settled-over s p f (op.Move move.SettleClosed f) l e good (grind (arith, same_is))
+settles s p (op.Move move.EndClosed f) l e good =
+    settled-over s p f (op.Move move.EndClosed f) l e good (grind (arith, same_is))
 settles s p _ l e good = tt
 
-less-go : (s : Machine) (p : ℕ) (h : Hint) (o : Option Op) → Good s → p < length s.parties → top (stack s p) ≡ o → go_refusal o ≡ None →
+less-go : (s : Machine) (p : ℕ) (h : Hint) (o : Option Op) → Good s → p < length s.parties → top (stack s p) ≡ o →
+    go_refusal o ≡ None →
     remaining (with_part s p (gone_on p s.world (stack s p) o (λ x. act p h x s.world))) < remaining s
 less-go s p h None good l e k = absurd (cc)
 less-go s p h (Some o) good l e k =
-    onto-less s p o (act p h o s.world) l e (spends-act p h o s.world (goes o k) (needs s p o l e good) (settles s p o l e good))
+    onto-less s p o (act p h o s.world) l e
+    (spends-act p h o s.world (goes o k) (needs s p o l e good) (settles s p o l e good))
 
 less-answer : (s : Machine) (p : ℕ) (u : UserEnd) (o : Option Op) → p < length s.parties → top (stack s p) ≡ o →
-    answer_refusal o u ≡ None → remaining (with_part s p (gone_on p s.world (stack s p) o (λ x. react p x u s.world))) < remaining s
+    answer_refusal o u ≡ None → remaining (with_part s p (gone_on p s.world (stack s p) o (λ x. react p x u s.world)))
+    < remaining s
 less-answer s p u None l e k = absurd (cc)
-less-answer s p u (Some o) l e k = onto-less s p o (react p o u s.world) l e (spends-react p o u s.world (answers o u k))
+less-answer s p u (Some o) l e k =
+    onto-less s p o (react p o u s.world) l e (spends-react p o u s.world (answers o u k))
 
 there : (b : Bool) (r : Option StepError) → unless b NoSuch r ≡ None → (b ≡ true) × (r ≡ None)
 there true r e = (refl, e)
@@ -123,9 +134,11 @@ both : (a b : Bool) → (a && b) ≡ true → (a ≡ true) × (b ≡ true)
 both true b e = (refl, e)
 both false b e = absurd (cc)
 
-ends-by : (r : Option StepError) (s : Machine) (t : Step) (ts : List Step) (new : Machine) → Reached s → refusal s t ≡ r →
+ends-by : (r : Option StepError) (s : Machine) (t : Step) (ts : List Step) (new : Machine) → Reached s →
+    refusal s t ≡ r →
     are_onward (t ∷ ts) ≡ true →
-    ◌≡◌ {A = Result Machine StepError} (elim (step_by r s t) [ Ok next ↦ run_all ts next | Err error ↦ Err error ]) (Ok new) →
+    ◌≡◌ {A = Result Machine StepError} (elim (step_by r s t) [ Ok next ↦ run_all ts next | Err error ↦ Err error ])
+    (Ok new) →
     ((next : Machine) → Reached next → EndsWithin next ts) → length (t ∷ ts) ≤ remaining s
 ends-by (Some error) s t ts new r k o q more = absurd (cc)
 ends-by None s t ts new r k o q more = omega (
@@ -165,11 +178,14 @@ every-list-ends limit parties steps ts = ends ts (run steps (start limit parties
 
 pub goes_on : (s : Machine) → GoesOn s
 goes_on s p o l e = record {
-  goes = λ n h. allowed (go_refusal (top (stack s p))) (ap go_refusal e ∙ ap (λ (b : Bool). unless (not b) WrongAnswer None) n);
+  goes = λ n h. allowed (go_refusal (top (stack s p)))
+      (ap go_refusal e ∙ ap (λ (b : Bool). unless (not b) WrongAnswer None) n);
   end = user_end o;
-  answers = λ n. allowed (answer_refusal (top (stack s p)) (user_end o)) (ap (λ (x : Option Op). answer_refusal x (user_end o)) e
+  answers = λ n. allowed (answer_refusal (top (stack s p)) (user_end o))
+      (ap (λ (x : Option Op). answer_refusal x (user_end o)) e
       ∙ ap (λ (b : Bool). unless b WrongAnswer None) (ends-so o n));
 }
   where
     allowed : (r : Option StepError) → r ≡ None → unless (ltb p (length s.parties)) NoSuch r ≡ None
-    allowed r q = let i : ltb p (length s.parties) ≡ true = grind (arith, nat_tests) in ap (λ (b : Bool). unless b NoSuch r) i ∙ q
+    allowed r q = let i : ltb p (length s.parties) ≡ true = grind (arith, nat_tests) in
+        ap (λ (b : Bool). unless b NoSuch r) i ∙ q

@@ -1,5 +1,6 @@
 -- The step at which an event of a run happened that begins a call.
-use Rattle.std.proofs.Common.{◌≡◌, ℕ, List, [], ◌∷◌, ◌++◌, length, Bool, true, false, ◌||◌, refl, sym, ap, ◌∙◌, arith, append-nil, length-append}
+use Rattle.std.proofs.Common.{◌≡◌, ℕ, List, [], ◌∷◌, ◌++◌, length, Bool, true, false, ◌||◌, refl}
+use Rattle.std.proofs.Common.{sym, ap, ◌∙◌, arith, append-nil, length-append}
 use Rattle.std.proofs.lemmas.List.{append_assoc, append_cancel_left}
 use Rattle.executor_model.specs.declared.call.Call.{Call}
 use Rattle.executor_model.specs.declared.event.Event.{Event}
@@ -44,7 +45,8 @@ past : (more rest pre later : Trace) (p : ℕ) (c : Call) → has begins_one mor
 past [] rest pre later p c n e = record { left = pre; is = refl }
 past (x ∷ more) rest [] later p c n e =
     let x-is : x ≡ event.CallBegun p c = heads x (event.CallBegun p c) (more ++ rest) later e in
-    let no : begins_one (event.CallBegun p c) ≡ false = sym (ap begins_one x-is) ∙ left-false (begins_one x) (has begins_one more) n in
+    let no : begins_one (event.CallBegun p c) ≡ false =
+    sym (ap begins_one x-is) ∙ left-false (begins_one x) (has begins_one more) n in
     absurd (cc)
 past (x ∷ more) rest (y ∷ pre) later p c n e =
     let q : Past more pre =
@@ -62,10 +64,12 @@ pub record Found (p : ℕ) (c : Call) (before : Trace) (ts : List Step) (s : Mac
   pub behind : List Step
   pub here : (run steps s).world.trace ≡ before
   pub more : Trace
-  pub shown : (stepped (run steps s) (step (run steps s) (Begin p c))).world.trace ≡ before ++ event.CallBegun p c ∷ more
+  pub shown : (stepped (run steps s) (step (run steps s) (Begin p c))).world.trace ≡ before ++ event.CallBegun p c
+      ∷ more
   pub goes : run behind (stepped (run steps s) (step (run steps s) (Begin p c))) ≡ run ts s
 
-later-on : (p : ℕ) (c : Call) (before : Trace) (t : Step) (ts : List Step) (s : Machine) → Found p c before ts (stepped s (step s t)) →
+later-on : (p : ℕ) (c : Call) (before : Trace) (t : Step) (ts : List Step) (s : Machine) →
+    Found p c before ts (stepped s (step s t)) →
     Found p c before (t ∷ ts) s
 later-on p c before t ts s f =
     record { steps = t ∷ f.steps; behind = f.behind; here = f.here; more = f.more; shown = f.shown; goes = f.goes }
@@ -75,15 +79,19 @@ same-begin : (p q : ℕ) (c d : Call) → event.CallBegun q d ≡ event.CallBegu
 same-begin p q c d e = cc
 
 -- what is left of a list whose beginning is known
-beyond : (es more all rest pre later : Trace) (e : Event) → all ≡ (es ++ more) ++ rest → all ≡ (es ++ pre) ++ e ∷ later →
+beyond : (es more all rest pre later : Trace) (e : Event) → all ≡ (es ++ more) ++ rest →
+    all ≡ (es ++ pre) ++ e ∷ later →
     more ++ rest ≡ pre ++ e ∷ later
-beyond es more all rest pre later e a b = append_cancel_left es (more ++ rest) (pre ++ e ∷ later) (sym (append_assoc es more rest)
+beyond es more all rest pre later e a b =
+    append_cancel_left es (more ++ rest) (pre ++ e ∷ later) (sym (append_assoc es more rest)
     ∙ (sym a ∙ (b ∙ append_assoc es pre (e ∷ later))))
 
 -- the first step of a run; those behind it are searched again
 module _ (p : ℕ) (c : Call) (before later : Trace) (t : Step) (ts : List Step) (s : Machine) (pre : Trace)
-    (b : before ≡ s.world.trace ++ pre) (e : (run ts (stepped s (step s t))).world.trace ≡ before ++ event.CallBegun p c ∷ later)
-    (again : (left : Trace) → before ≡ (stepped s (step s t)).world.trace ++ left → Found p c before ts (stepped s (step s t))) where
+    (b : before ≡ s.world.trace ++ pre) (e : (run ts (stepped s (step s t))).world.trace ≡ before ++ event.CallBegun p c
+    ∷ later)
+    (again : (left : Trace) → before ≡ (stepped s (step s t)).world.trace ++ left →
+    Found p c before ts (stepped s (step s t))) where
   abbrev now : Machine
   now = stepped s (step s t)
 
@@ -98,33 +106,42 @@ module _ (p : ℕ) (c : Call) (before later : Trace) (t : Step) (ts : List Step)
       ∙ (ap (λ (xs : Trace). s.world.trace ++ xs) x.is ∙ (sym (append_assoc s.world.trace more x.left)
       ∙ ap (λ (xs : Trace). xs ++ x.left) (sym q)))))
 
-  began : (q : ℕ) (d : Call) (more us : Trace) → t ≡ Begin q d → now.world.trace ≡ s.world.trace ++ event.CallBegun q d ∷ more →
-      has begins_one more ≡ false → pre ≡ us → event.CallBegun q d ∷ (more ++ rest.0) ≡ us ++ event.CallBegun p c ∷ later →
+  began : (q : ℕ) (d : Call) (more us : Trace) → t ≡ Begin q d →
+      now.world.trace ≡ s.world.trace ++ event.CallBegun q d ∷ more →
+      has begins_one more ≡ false → pre ≡ us →
+      event.CallBegun q d ∷ (more ++ rest.0) ≡ us ++ event.CallBegun p c ∷ later →
       Found p c before (t ∷ ts) s
   began q d more [] te n z u k =
-      let first : event.CallBegun q d ≡ event.CallBegun p c = heads (event.CallBegun q d) (event.CallBegun p c) (more ++ rest.0) later k in
+      let first : event.CallBegun q d ≡ event.CallBegun p c =
+      heads (event.CallBegun q d) (event.CallBegun p c) (more ++ rest.0) later k in
       let same : Begin q d ≡ Begin p c = same-begin p q c d first in
-      let start : before ≡ s.world.trace = b ∙ (ap (λ (xs : Trace). s.world.trace ++ xs) u ∙ append-nil s.world.trace) in
+      let start : before ≡ s.world.trace =
+      b ∙ (ap (λ (xs : Trace). s.world.trace ++ xs) u ∙ append-nil s.world.trace) in
       record {
         steps = [];
         behind = ts;
         here = sym start;
         more = more;
         shown = ap (λ (x : Step). (stepped s (step s x)).world.trace) (sym (te ∙ same))
-            ∙ (n ∙ (ap (λ (xs : Trace). xs ++ event.CallBegun q d ∷ more) (sym start) ∙ ap (λ (x : Event). before ++ x ∷ more) first));
+            ∙ (n ∙ (ap (λ (xs : Trace). xs ++ event.CallBegun q d ∷ more) (sym start)
+            ∙ ap (λ (x : Event). before ++ x ∷ more) first));
         goes = ap (λ (x : Step). run ts (stepped s (step s x))) (sym (te ∙ same));
       }
   began q d more (x ∷ us) te n z u k =
       let inner : Past more us =
-      past more rest.0 us later p c z (tails (event.CallBegun q d) x (more ++ rest.0) (us ++ event.CallBegun p c ∷ later) k) in
+      past more rest.0 us later p c z
+      (tails (event.CallBegun q d) x (more ++ rest.0) (us ++ event.CallBegun p c ∷ later) k) in
       on (event.CallBegun q d ∷ more) n (record {
         left = inner.left;
-        is = u ∙ (ap (λ (y : Event). y ∷ us) (sym (heads (event.CallBegun q d) x (more ++ rest.0) (us ++ event.CallBegun p c ∷ later) k))
+        is =
+            u ∙ (ap (λ (y : Event). y ∷ us)
+            (sym (heads (event.CallBegun q d) x (more ++ rest.0) (us ++ event.CallBegun p c ∷ later) k))
             ∙ ap (λ (zs : Trace). event.CallBegun q d ∷ zs) inner.is);
       })
 
   by-kind : Adds s t now → Found p c before (t ∷ ts) s
-  by-kind (refused q) = on [] (ap (λ (m : Machine). m.world.trace) q ∙ sym (append-nil s.world.trace)) (record { left = pre; is = refl })
+  by-kind (refused q) = on [] (ap (λ (m : Machine). m.world.trace) q ∙ sym (append-nil s.world.trace))
+      (record { left = pre; is = refl })
   by-kind (goes_on k m) =
       on m.more m.is (past m.more rest.0 pre later p c m.none
       (beyond s.world.trace m.more (run ts now).world.trace rest.0 pre later (event.CallBegun p c) (rest.1
@@ -133,11 +150,21 @@ module _ (p : ℕ) (c : Call) (before later : Trace) (t : Step) (ts : List Step)
       let n : now.world.trace ≡ s.world.trace ++ event.CallBegun q d ∷ m.more = m.is
       ∙ append_assoc s.world.trace (event.CallBegun q d ∷ []) m.more in
       began q d m.more pre te n m.none refl (beyond s.world.trace (event.CallBegun q d ∷ m.more)
-      (run ts now).world.trace rest.0 pre later (event.CallBegun p c) (rest.1 ∙ ap (λ (xs : Trace). xs ++ rest.0) n) whole)
+      (run ts now).world.trace rest.0 pre later (event.CallBegun p c) (rest.1 ∙ ap (λ (xs : Trace). xs ++ rest.0) n)
+      whole)
 
-pub found : (p : ℕ) (c : Call) (before later : Trace) (ts : List Step) (s : Machine) (pre : Trace) → before ≡ s.world.trace ++ pre →
+pub found : (p : ℕ) (c : Call) (before later : Trace) (ts : List Step) (s : Machine) (pre : Trace) →
+    before ≡ s.world.trace ++ pre →
     (run ts s).world.trace ≡ before ++ event.CallBegun p c ∷ later → Found p c before ts s
 found p c before later [] s pre b e =
-    absurd (omega (arith, ap length e, ap length b, length-append s.world.trace pre, length-append before (event.CallBegun p c ∷ later)))
+    absurd
+    (omega (
+      arith,
+      ap length e,
+      ap length b,
+      length-append s.world.trace pre,
+      length-append before (event.CallBegun p c ∷ later),
+    ))
 found p c before later (t ∷ ts) s pre b e =
-    by-kind p c before later t ts s pre b e (λ left k. found p c before later ts (stepped s (step s t)) left k e) (adds s t)
+    by-kind p c before later t ts s pre b e (λ left k. found p c before later ts (stepped s (step s t)) left k e)
+    (adds s t)

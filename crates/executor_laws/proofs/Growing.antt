@@ -1,5 +1,6 @@
 -- What a step adds to the trace: at most the beginning of one call, and then nothing that begins another.
-use Rattle.std.proofs.Common.{◌≡◌, ◌≢◌, ℕ, List, [], ◌∷◌, ◌++◌, length, Bool, true, false, ◌||◌, refl, sym, ap, ◌∙◌, append-nil, arith}
+use Rattle.std.proofs.Common.{◌≡◌, ◌≢◌, ℕ, List, [], ◌∷◌, ◌++◌, length, Bool, true, false}
+use Rattle.std.proofs.Common.{◌||◌, refl, sym, ap, ◌∙◌, append-nil, arith}
 use Rattle.std.proofs.lemmas.Bool.Decides.{nat_tests}
 use Rattle.std.proofs.lemmas.List.{append_assoc}
 use Rattle.std.proofs.lemmas.List.Folds.{list_any-append}
@@ -37,8 +38,12 @@ use Rattle.executor_model.specs.declared.step.UserEnd.{UserEnd}
 use Rattle.executor_model.specs.declared.step.UserEnd.TheVariants as end
 use Rattle.executor_model.specs.Trace.{Trace, has}
 use Rattle.executor_model.specs.World.{World, Done, log, log_if, task, put}
-use Rattle.executor_model.specs.Acts.{append_by, take_by, enter_by, leave_by, copy_by, look_by, look_again_by, copy_awaiter_by, register_by, end_register_by, notify_by, exchange_by, hand_out_by, call_waker, sleeper_act, drop_next_by, wake, wake_next_by, drain_by, act}
-use Rattle.executor_model.specs.Steps.{Machine, stack, top, below_top, kept, polled_by, refusal, begun, with_future, react, end_of, settled_by, onto, gone_on, after, step_by, step, stepped, run}
+use Rattle.executor_model.specs.Acts.{append_by, take_by, enter_by, leave_by, copy_by, look_by}
+use Rattle.executor_model.specs.Acts.{look_again_by, copy_awaiter_by, register_by, end_register_by}
+use Rattle.executor_model.specs.Acts.{notify_by, exchange_by, hand_out_by, call_waker, sleeper_act}
+use Rattle.executor_model.specs.Acts.{drop_next_by, wake, wake_next_by, drain_by, act}
+use Rattle.executor_model.specs.Steps.{Machine, stack, top, below_top, kept, polled_by, refusal, begun, with_future}
+use Rattle.executor_model.specs.Steps.{react, end_of, settled_by, onto, gone_on, after, step_by, step, stepped, run}
 use Rattle.executor_laws.specs.Remaining.{is_onward}
 use Rattle.executor_laws.specs.Continued.{IsContinued}
 use Rattle.executor_laws.specs.AtOnce.{doer, is_by}
@@ -61,7 +66,8 @@ pub record Grows (p : ℕ) (w v : World) : Type 0 where
   pub own : (q : ℕ) → q ≢ p → has (is_by q) more ≡ false
 
 grows-same : {p : ℕ} (w v : World) → v.trace ≡ w.trace → Grows p w v
-grows-same w v e = record { more = []; is = e ∙ sym (append-nil w.trace); none_begins = refl; none_ends = refl; own = λ q n. refl }
+grows-same w v e =
+    record { more = []; is = e ∙ sym (append-nil w.trace); none_begins = refl; none_ends = refl; own = λ q n. refl }
 
 or-false : (a : Bool) → a ≡ false → (a || false) ≡ false
 or-false true e = absurd (cc)
@@ -71,7 +77,8 @@ or-false false e = refl
 pub not-by : (p q : ℕ) (e : Event) → doer e ≡ p → q ≢ p → is_by q e ≡ false
 not-by p q e d n = grind (arith, nat_tests)
 
-grows-log : {p : ℕ} (w v : World) (e : Event) → v.trace ≡ w.trace ++ e ∷ [] → begins_one e ≡ false → ends_one e ≡ false → doer e ≡ p →
+grows-log : {p : ℕ} (w v : World) (e : Event) → v.trace ≡ w.trace ++ e ∷ [] → begins_one e ≡ false →
+    ends_one e ≡ false → doer e ≡ p →
     Grows p w v
 grows-log {p} w v e t b n d =
     record {
@@ -88,7 +95,8 @@ grows-log_if : {p : ℕ} (c : Bool) (w v : World) (e : Event) → v.trace ≡ (l
 grows-log_if true w v e t b n d = grows-log w v e t b n d
 grows-log_if false w v e t b n d = grows-same w v t
 
-has-append : (test : Event → Bool) (xs ys : Trace) → has test xs ≡ false → has test ys ≡ false → has test (xs ++ ys) ≡ false
+has-append : (test : Event → Bool) (xs ys : Trace) → has test xs ≡ false → has test ys ≡ false →
+    has test (xs ++ ys) ≡ false
 has-append test xs ys a b = list_any-append test xs ys ∙ (ap (λ (x : Bool). x || has test ys) a ∙ b)
 
 grows-and : {p : ℕ} (w v u : World) → Grows p w v → Grows p v u → Grows p w u
@@ -123,7 +131,8 @@ grows-copy : {p : ℕ} (b : Bool) (w : World) (f : ℕ) (held : Hold) → Grows 
 grows-copy true w f held = grows-same _ _ refl
 grows-copy false w f held = grows-same _ _ refl
 
-grows-look : (o : Option Answer) (p : ℕ) (w : World) (f : ℕ) (a : Waker) (m : Moved) → Grows p w (look_by o p w f a m).world
+grows-look : (o : Option Answer) (p : ℕ) (w : World) (f : ℕ) (a : Waker) (m : Moved) →
+    Grows p w (look_by o p w f a m).world
 grows-look None p w f a m = grows-same _ _ refl
 grows-look (Some x) p w f a m =
     let v : World = put (log w (event.HandlePolled p f)) f m.state in
@@ -145,7 +154,8 @@ grows-register : {p : ℕ} (b : Bool) (w : World) (f : ℕ) (a : Waker) (k : ℕ
 grows-register true w f a k = grows-same _ _ refl
 grows-register false w f a k = grows-same _ _ refl
 
-grows-end_register : {p : ℕ} (b : Bool) (w : World) (f : ℕ) (a : Waker) (k : ℕ) → Grows p w (end_register_by b w f a k).world
+grows-end_register : {p : ℕ} (b : Bool) (w : World) (f : ℕ) (a : Waker) (k : ℕ) →
+    Grows p w (end_register_by b w f a k).world
 grows-end_register true w f a k = grows-same _ _ refl
 grows-end_register false w f a k = grows-same _ _ refl
 
@@ -158,7 +168,8 @@ grows-wake p w f = grows-log_if _ w _ (event.Woken p f) refl refl refl refl
 
 grows-call : (p : ℕ) (w : World) (o : Polled) (a : Waker) (k : ℕ) → Grows p w (call_waker p w o a k).world
 grows-call p w o (Task m) k =
-    grows-and w (log w (event.WakerCalled p o k (Task m))) _ (grows-log w _ (event.WakerCalled p o k (Task m)) refl refl refl refl)
+    grows-and w (log w (event.WakerCalled p o k (Task m))) _
+    (grows-log w _ (event.WakerCalled p o k (Task m)) refl refl refl refl)
     (grows-wake p (log w (event.WakerCalled p o k (Task m))) m)
 grows-call p w o (Outside x) k = grows-log _ _ (event.WakerCalled p o k (Outside x)) refl refl refl refl
 
@@ -206,7 +217,8 @@ grows-act p h (op.User (user_op.BeginDrop f)) w n = grows-log _ _ (event.Dropped
 grows-act p h (op.Table (table_op.LeaveTable f)) w n = grows-leave _ w f
 grows-act p h (op.User (user_op.BeginDropOutput f)) w n = grows-log _ _ (event.OutputDropped p f) refl refl refl refl
 grows-act p h (op.Waker (waker_op.CopyWaker f held)) w n = grows-copy _ w f held
-grows-act p h (op.Handle (handle_op.Look f a)) w n = grows-look (moves.poll (task w f)).owed.answer p w f a (moves.poll (task w f))
+grows-act p h (op.Handle (handle_op.Look f a)) w n =
+    grows-look (moves.poll (task w f)).owed.answer p w f a (moves.poll (task w f))
 grows-act p h (op.Handle (handle_op.CopyAwaiter f a)) w n = grows-copy_awaiter _ p w f a
 grows-act p h (op.Handle (handle_op.Register f a k)) w n = grows-register _ w f a k
 grows-act p h (op.Handle (handle_op.EndRegister f a k)) w n = grows-end_register _ w f a k
@@ -225,11 +237,13 @@ grows-act p h _ w n = grows-same _ _ refl
 pub grows-react : (p : ℕ) (o : Op) (u : UserEnd) (w : World) → Grows p w (react p o u w).world
 grows-react p (op.User (user_op.Poll f)) (end.Polled answer.Pending) w =
     grows-log _ _ (event.Answered p f answer.Pending) refl refl refl refl
-grows-react p (op.User (user_op.Poll f)) (end.Polled answer.Ready) w = grows-log _ _ (event.Answered p f answer.Ready) refl refl refl refl
+grows-react p (op.User (user_op.Poll f)) (end.Polled answer.Ready) w =
+    grows-log _ _ (event.Answered p f answer.Ready) refl refl refl refl
 grows-react p (op.User (user_op.Poll f)) end.Done w = grows-same _ _ refl
 grows-react p _ _ w = grows-same _ _ refl
 
-grows-with : {p : ℕ} (w : World) (o : Option ℕ) (d : ℕ → Done) → ((f : ℕ) → Grows p w (d f).world) → Grows p w (with_future w o d).world
+grows-with : {p : ℕ} (w : World) (o : Option ℕ) (d : ℕ → Done) → ((f : ℕ) → Grows p w (d f).world) →
+    Grows p w (with_future w o d).world
 grows-with w (Some f) d k = k f
 grows-with w None d k = grows-same _ _ refl
 
@@ -271,8 +285,10 @@ more-settled (Some (op.End r held)) es p w os more e n = record {
 more-settled None es p w os more e n = record { more = more; is = e; none = n }
 more-settled (Some _) es p w os more e n = record { more = more; is = e; none = n }
 
-more-onto : (es : Trace) (p : ℕ) (d : Done) (rest : List Op) → More es d.world.trace → More es (onto p d rest).world.trace
-more-onto es p d rest m = more-settled (top (rest ++ reverse d.next)) es p d.world (rest ++ reverse d.next) m.more m.is m.none
+more-onto : (es : Trace) (p : ℕ) (d : Done) (rest : List Op) → More es d.world.trace →
+    More es (onto p d rest).world.trace
+more-onto es p d rest m = more-settled (top (rest ++ reverse d.next)) es p d.world (rest ++ reverse d.next) m.more m.is
+    m.none
 
 -- an end that stands on top and is done adds itself
 more-act : (p : ℕ) (h : Hint) (o : Op) (w : World) (b : Bool) → is_end o ≡ b → More w.trace (act p h o w).world.trace
@@ -287,20 +303,23 @@ more-react p o u w = let g : Grows p w (react p o u w).world = grows-react p o u
 
 more-begun : (p : ℕ) (w : World) (here : Option ℕ) (c : Call) →
     More (w.trace ++ event.CallBegun p c ∷ []) (begun p (log w (event.CallBegun p c)) here c).world.trace
-more-begun p w here c = let g : Grows p (log w (event.CallBegun p c)) (begun p (log w (event.CallBegun p c)) here c).world =
+more-begun p w here c = let g : Grows p (log w (event.CallBegun p c))
+    (begun p (log w (event.CallBegun p c)) here c).world =
     grows-begun p (log w (event.CallBegun p c)) here c in record { more = g.more; is = g.is; none = g.none_begins }
 
-more-gone_on : (p : ℕ) (w : World) (os : List Op) (o : Option Op) (d : Op → Done) → ((x : Op) → More w.trace (d x).world.trace) →
+more-gone_on : (p : ℕ) (w : World) (os : List Op) (o : Option Op) (d : Op → Done) →
+    ((x : Op) → More w.trace (d x).world.trace) →
     More w.trace (gone_on p w os o d).world.trace
 more-gone_on p w os None d k = record { more = []; is = sym (append-nil w.trace); none = refl }
 more-gone_on p w os (Some o) d k = more-onto w.trace p (d o) (below_top os) (k o)
 
--- what a step does to the machine and its trace: nothing; it adds something in which no call begins; or, first of all, the
--- beginning of its call
+-- what a step does to the machine and its trace: nothing; it adds something in which no call begins; or, first of all,
+-- the beginning of its call
 pub data Adds (s : Machine) (t : Step) (now : Machine) : Type 0 where
   refused : now ≡ s → Adds s t now
   goes_on : is_onward t ≡ true → More s.world.trace now.world.trace → Adds s t now
-  begins : (p : ℕ) (c : Call) → t ≡ Begin p c → More (s.world.trace ++ event.CallBegun p c ∷ []) now.world.trace → Adds s t now
+  begins : (p : ℕ) (c : Call) → t ≡ Begin p c → More (s.world.trace ++ event.CallBegun p c ∷ []) now.world.trace →
+      Adds s t now
 
 adds-after : (s : Machine) (t : Step) → Adds s t (after s t)
 adds-after s (Begin p c) =
@@ -311,7 +330,8 @@ adds-after s (Go p h) =
     goes_on refl (more-gone_on p s.world (stack s p) (top (stack s p)) (λ o. act p h o s.world)
     (λ o. more-act p h o s.world (is_end o) refl))
 adds-after s (Answers p u) =
-    goes_on refl (more-gone_on p s.world (stack s p) (top (stack s p)) (λ o. react p o u s.world) (λ o. more-react p o u s.world))
+    goes_on refl (more-gone_on p s.world (stack s p) (top (stack s p)) (λ o. react p o u s.world)
+    (λ o. more-react p o u s.world))
 
 adds-by : (s : Machine) (t : Step) (r : Option StepError) → Adds s t (stepped s (step_by r s t))
 adds-by s t (Some e) = refused refl
@@ -328,7 +348,8 @@ continues s t = by-kind (adds s t)
     by-kind : Adds s t (stepped s (step s t)) → IsContinued s.world.trace (stepped s (step s t)).world.trace
     by-kind (refused e) = ([], ap (λ (m : Machine). m.world.trace) e ∙ sym (append-nil s.world.trace))
     by-kind (goes_on k m) = (m.more, m.is)
-    by-kind (begins p c e m) = (event.CallBegun p c ∷ m.more, m.is ∙ append_assoc s.world.trace (event.CallBegun p c ∷ []) m.more)
+    by-kind (begins p c e m) =
+        (event.CallBegun p c ∷ m.more, m.is ∙ append_assoc s.world.trace (event.CallBegun p c ∷ []) m.more)
 
 pub run-continues : (ts : List Step) (s : Machine) → IsContinued s.world.trace (run ts s).world.trace
 run-continues [] s = ([], sym (append-nil s.world.trace))

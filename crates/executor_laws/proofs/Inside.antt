@@ -1,5 +1,7 @@
 -- A call that has found something to do isn't answered no before something else happens.
-use Rattle.std.proofs.Common.{◌≡◌, ◌≢◌, ◌⊎◌, ℕ, zero, suc, ◌-◌, ◌<◌, List, [], ◌∷◌, ◌++◌, length, take, true, false, eqb, refl, sym, ap, ◌∙◌, subst, inl, inr, ⊎_elim, arith, get_or-set_same, get_or-set_other}
+use Rattle.std.proofs.Common.{◌≡◌, ◌≢◌, ◌⊎◌, ℕ, zero, suc, ◌-◌, ◌<◌, List, [], ◌∷◌, ◌++◌, length}
+use Rattle.std.proofs.Common.{take, true, false, eqb, refl, sym, ap, ◌∙◌, subst, inl, inr}
+use Rattle.std.proofs.Common.{⊎_elim, arith, get_or-set_same, get_or-set_other}
 use Rattle.std.proofs.Math.ListN.{length-set}
 use Rattle.std.proofs.lemmas.List.{append_assoc, append_cancel_left}
 use Rattle.std.specs.Prelude.{Option, Some, None, reverse, slice_get}
@@ -22,7 +24,8 @@ use Rattle.executor_model.specs.Trace.{Trace, has}
 use Rattle.executor_model.specs.World.{World, Done}
 use Rattle.executor_model.specs.Acts.{act}
 use Rattle.executor_model.specs.Weights.{same, weigh}
-use Rattle.executor_model.specs.Steps.{Machine, stack, top, below_top, react, refusal, Part, end_of, settled_by, onto, gone_on, with_part, after, step_by, step, stepped, run}
+use Rattle.executor_model.specs.Steps.{Machine, stack, top, below_top, react, refusal, Part, end_of, settled_by, onto}
+use Rattle.executor_model.specs.Steps.{gone_on, with_part, after, step_by, step, stepped, run}
 use Rattle.executor_model.proofs.Calls.{calling_of}
 use Rattle.executor_model.proofs.CallsGroups.{calls-act}
 use Rattle.executor_model.proofs.Lift.{topped}
@@ -76,7 +79,8 @@ record Light (p : ℕ) (w : World) (d : Done) : Type 0 where
   none : weigh calling_of d.next ≡ 0
 
 light-act : (p : ℕ) (h : Hint) (o : Op) (w : World) → calling_of o ≡ 0 → Light p w (act p h o w)
-light-act p h o w z = record { grows = grows-act p h o w (unended o z); none = (calls-act p h o w (unended o z)).passes.none z }
+light-act p h o w z =
+    record { grows = grows-act p h o w (unended o z); none = (calls-act p h o w (unended o z)).passes.none z }
 
 -- the last of a list that answers no call
 
@@ -89,13 +93,17 @@ top-light : (os : List Op) (o : Op) → weigh calling_of os ≡ 0 → top os ≡
 top-light os o z e = lightest (length os - 1) os o z e
 
 light-below : (os : List Op) (o : Op) → weigh calling_of os ≡ 0 → top os ≡ Some o → weigh calling_of (below_top os) ≡ 0
-light-below os o z e = omega (arith, z, ap (weigh calling_of) (topped os o e), weigh-append calling_of (below_top os) (o ∷ []))
+light-below os o z e = omega
+    (arith, z, ap (weigh calling_of) (topped os o e), weigh-append calling_of (below_top os) (o ∷ []))
 
--- what a thing that is done in the call leads to: the call is answered yes behind more; or there is more, and the party is inside still
+-- what a thing that is done in the call leads to: the call is answered yes behind more; or there is more,
+-- and the party is inside still
 data NextPart (p : ℕ) (held : Hold) (w : World) (x : Part) : Type 0 where
-  answered : (more : Trace) → has ends_one more ≡ false → x.world.trace ≡ w.trace ++ (more ++ event.CallEnded p reply.Yes ∷ []) →
+  answered : (more : Trace) → has ends_one more ≡ false →
+      x.world.trace ≡ w.trace ++ (more ++ event.CallEnded p reply.Yes ∷ []) →
       NextPart p held w x
-  inside : (more : Trace) (rest : List Op) → has ends_one more ≡ false → x.world.trace ≡ w.trace ++ more → x.todo ≡ yes held ∷ rest →
+  inside : (more : Trace) (rest : List Op) → has ends_one more ≡ false → x.world.trace ≡ w.trace ++ more →
+      x.todo ≡ yes held ∷ rest →
       weigh calling_of rest ≡ 0 → NextPart p held w x
 
 last-there : (o : Op) (os : List Op) → (x : Op) × (slice_get (o ∷ os) (length os) ≡ Some x)
@@ -111,16 +119,19 @@ top-there o os = let last : (x : Op) × (slice_get (o ∷ os) (length os) ≡ So
 
 -- what stands at the bottom is neither the top nor above it
 top-above : (x o : Op) (os : List Op) → top (x ∷ o ∷ os) ≡ top (o ∷ os)
-top-above x o os = ap (slice_get (x ∷ o ∷ os)) (one-less (suc (length os))) ∙ ap (slice_get (o ∷ os)) (sym (one-less (length os)))
+top-above x o os = ap (slice_get (x ∷ o ∷ os)) (one-less (suc (length os)))
+    ∙ ap (slice_get (o ∷ os)) (sym (one-less (length os)))
 
 below-above : (x o : Op) (os : List Op) → below_top (x ∷ o ∷ os) ≡ x ∷ below_top (o ∷ os)
 below-above x o os = ap (λ (n : ℕ). take n (x ∷ o ∷ os)) (one-less (suc (length os)))
     ∙ ap (λ (n : ℕ). x ∷ take n (o ∷ os)) (sym (one-less (length os)))
 
 -- the new top of the stack is the end of the call, or no end
-next-settled : (p : ℕ) (held : Hold) (w : World) (d : Done) (rest : List Op) → Grows p w d.world → weigh calling_of rest ≡ 0 →
+next-settled : (p : ℕ) (held : Hold) (w : World) (d : Done) (rest : List Op) → Grows p w d.world →
+    weigh calling_of rest ≡ 0 →
     NextPart p held w (settled_by (end_of (top (yes held ∷ rest))) p d.world (yes held ∷ rest))
-next-settled p held w d [] g z = answered g.more g.none_ends (ap (λ (xs : Trace). xs ++ event.CallEnded p reply.Yes ∷ []) g.is
+next-settled p held w d [] g z =
+    answered g.more g.none_ends (ap (λ (xs : Trace). xs ++ event.CallEnded p reply.Yes ∷ []) g.is
     ∙ append_assoc w.trace g.more (event.CallEnded p reply.Yes ∷ []))
 next-settled p held w d (o ∷ os) g z =
     let last : (x : Op) × (top (o ∷ os) ≡ Some x) = top-there o os in
@@ -145,7 +156,8 @@ next-light : (p : ℕ) (held : Hold) (w : World) (d : Op → Done) (o : Op) (os 
     NextPart p held w (gone_on p w (yes held ∷ o ∷ os) (top (yes held ∷ o ∷ os)) d)
 next-light p held w d o os k z =
     let last : (x : Op) × (top (o ∷ os) ≡ Some x) = top-there o os in
-    subst (λ (t : Option Op). NextPart p held w (gone_on p w (yes held ∷ o ∷ os) t d)) (sym (top-above (yes held) o os ∙ last.1))
+    subst (λ (t : Option Op). NextPart p held w (gone_on p w (yes held ∷ o ∷ os) t d))
+    (sym (top-above (yes held) o os ∙ last.1))
     (subst (λ (bs : List Op). NextPart p held w (onto p (d last.0) bs)) (sym (below-above (yes held) o os))
     (next-onto p held w (d last.0) (below_top (o ∷ os)) (k last.0 (top-light (o ∷ os) last.0 z last.1))
     (light-below (o ∷ os) last.0 z last.1)))
@@ -159,11 +171,14 @@ next-go p held h w (o ∷ os) z = next-light p held w (λ x. act p h x w) o os (
 
 data Next (p : ℕ) (held : Hold) (s now : Machine) : Type 0 where
   refused : now ≡ s → Next p held s now
-  answered : (more : Trace) → has ends_one more ≡ false → now.world.trace ≡ s.world.trace ++ (more ++ event.CallEnded p reply.Yes ∷ []) →
+  answered : (more : Trace) → has ends_one more ≡ false →
+      now.world.trace ≡ s.world.trace ++ (more ++ event.CallEnded p reply.Yes ∷ []) →
       Next p held s now
-  inside : (more : Trace) → has ends_one more ≡ false → now.world.trace ≡ s.world.trace ++ more → Inside p held now → Next p held s now
+  inside : (more : Trace) → has ends_one more ≡ false → now.world.trace ≡ s.world.trace ++ more → Inside p held now →
+      Next p held s now
 
-next-made : (p : ℕ) (held : Hold) (s : Machine) (x : Part) → Inside p held s → NextPart p held s.world x → Next p held s (with_part s p x)
+next-made : (p : ℕ) (held : Hold) (s : Machine) (x : Part) → Inside p held s → NextPart p held s.world x →
+    Next p held s (with_part s p x)
 next-made p held s x i (answered more n e) = answered more n e
 next-made p held s x i (inside more rest n e t z) = inside more n e (record {
   within = omega (arith, i.within, length-set s.parties p x.todo);
@@ -181,25 +196,30 @@ next-by p held s t None n = n
 gone : (p : ℕ) (held : Hold) (s : Machine) (h : Hint) → Inside p held s → Next p held s (stepped s (step s (Go p h)))
 unfolding step
 gone p held s h i = next-by p held s (Go p h) (refusal s (Go p h)) (next-made p held s _ i
-    (subst (λ (os : List Op). NextPart p held s.world (gone_on p s.world os (top os) (λ o. act p h o s.world))) (sym i.here)
+    (subst (λ (os : List Op). NextPart p held s.world (gone_on p s.world os (top os) (λ o. act p h o s.world)))
+    (sym i.here)
     (next-go p held h s.world i.rest i.light)))
 
-replied : (p : ℕ) (held : Hold) (s : Machine) (u : UserEnd) → Inside p held s → (rest : List Op) → stack s p ≡ yes held ∷ rest →
+replied : (p : ℕ) (held : Hold) (s : Machine) (u : UserEnd) → Inside p held s → (rest : List Op) →
+    stack s p ≡ yes held ∷ rest →
     weigh calling_of rest ≡ 0 → Next p held s (stepped s (step s (Answer p u)))
 unfolding step
 replied p held s u i [] e z = refused (wrong-answer s p u (yes held) e refl)
 replied p held s u i (o ∷ os) e z = next-by p held s (Answer p u) (refusal s (Answer p u)) (next-made p held s _ i
-    (subst (λ (xs : List Op). NextPart p held s.world (gone_on p s.world xs (top xs) (λ y. react p y u s.world))) (sym e)
+    (subst (λ (xs : List Op). NextPart p held s.world (gone_on p s.world xs (top xs) (λ y. react p y u s.world)))
+    (sym e)
     (next-light p held s.world (λ y. react p y u s.world) o os
     (λ y c. record { grows = grows-react p y u s.world; none = light-react p y u s.world }) z)))
 
 -- the event that comes next isn't the answer no
 
 -- one step, and those behind it
-module _ (p : ℕ) (held : Hold) (e : Event) (later : Trace) (alone : IsAlone e) (ts : List Step) (s : Machine) (i : Inside p held s)
+module _ (p : ℕ) (held : Hold) (e : Event) (later : Trace) (alone : IsAlone e) (ts : List Step) (s : Machine)
+    (i : Inside p held s)
     (again : (now : Machine) → Inside p held now → (run ts now).world.trace ≡ now.world.trace ++ e ∷ later →
     e ≢ event.CallEnded p reply.No) where
-  same-trace : (now : Machine) → now ≡ s → (run ts now).world.trace ≡ s.world.trace ++ e ∷ later → e ≢ event.CallEnded p reply.No
+  same-trace : (now : Machine) → now ≡ s → (run ts now).world.trace ≡ s.world.trace ++ e ∷ later →
+      e ≢ event.CallEnded p reply.No
   same-trace now z q = again s i (sym (ap (λ (m : Machine). (run ts m).world.trace) z) ∙ q)
 
   -- what stands behind the events of the step
@@ -209,7 +229,8 @@ module _ (p : ℕ) (held : Hold) (e : Event) (later : Trace) (alone : IsAlone e)
       (sym (append_assoc s.world.trace more (run-continues ts now).0)
       ∙ (ap (λ (xs : Trace). xs ++ (run-continues ts now).0) (sym n) ∙ (sym (run-continues ts now).1 ∙ q)))
 
-  by-next : (now : Machine) → Next p held s now → (run ts now).world.trace ≡ s.world.trace ++ e ∷ later → e ≢ event.CallEnded p reply.No
+  by-next : (now : Machine) → Next p held s now → (run ts now).world.trace ≡ s.world.trace ++ e ∷ later →
+      e ≢ event.CallEnded p reply.No
   by-next now (refused z) q = same-trace now z q
   by-next now (answered more n z) q =
       let b : (more ++ event.CallEnded p reply.Yes ∷ []) ++ (run-continues ts now).0 ≡ e ∷ later =
@@ -226,21 +247,26 @@ module _ (p : ℕ) (held : Hold) (e : Event) (later : Trace) (alone : IsAlone e)
       (λ (x : ends_one e ≡ false). no-no p e x)
       (first-more more (run-continues ts now).0 later e n (behind now more z q))
 
-  by-step : (t : Step) → (run ts (stepped s (step s t))).world.trace ≡ s.world.trace ++ e ∷ later → e ≢ event.CallEnded p reply.No
+  by-step : (t : Step) → (run ts (stepped s (step s t))).world.trace ≡ s.world.trace ++ e ∷ later →
+      e ≢ event.CallEnded p reply.No
   by-step (Begin q d) k = same-trace (stepped s (step s (Begin q d))) (not-begun s q d ts e later alone k) k
   by-step (Go q h) k = ⊎_elim
       (λ (x : (same q p ≡ 1) × (eqb q p ≡ true) × (q ≡ p)). by-next (stepped s (step s (Go q h)))
       (subst (λ (n : ℕ). Next p held s (stepped s (step s (Go n h)))) (sym x.2) (gone p held s h i)) k)
-      (λ (x : (same q p ≡ 0) × (eqb q p ≡ false) × (q ≢ p)). same-trace (stepped s (step s (Go q h))) (still-go s q h (i.others q x.2)) k)
+      (λ (x : (same q p ≡ 0) × (eqb q p ≡ false) × (q ≢ p)). same-trace (stepped s (step s (Go q h)))
+      (still-go s q h (i.others q x.2)) k)
       (same_cases q p)
   by-step (Answer q u) k = ⊎_elim
       (λ (x : (same q p ≡ 1) × (eqb q p ≡ true) × (q ≡ p)). by-next (stepped s (step s (Answer q u)))
-      (subst (λ (n : ℕ). Next p held s (stepped s (step s (Answer n u)))) (sym x.2) (replied p held s u i i.rest i.here i.light)) k)
+      (subst (λ (n : ℕ). Next p held s (stepped s (step s (Answer n u)))) (sym x.2)
+      (replied p held s u i i.rest i.here i.light)) k)
       (λ (x : (same q p ≡ 0) × (eqb q p ≡ false) × (q ≢ p)). same-trace (stepped s (step s (Answer q u)))
       (still-answer s q u (i.others q x.2)) k)
       (same_cases q p)
 
-pub not-no : (p : ℕ) (held : Hold) (e : Event) (later : Trace) → IsAlone e → (ts : List Step) (s : Machine) → Inside p held s →
+pub not-no : (p : ℕ) (held : Hold) (e : Event) (later : Trace) → IsAlone e → (ts : List Step) (s : Machine) →
+    Inside p held s →
     (run ts s).world.trace ≡ s.world.trace ++ e ∷ later → e ≢ event.CallEnded p reply.No
 not-no p held e later alone [] s i k = absurd (no-more s.world.trace later e k)
-not-no p held e later alone (t ∷ ts) s i k = by-step p held e later alone ts s i (λ now j q. not-no p held e later alone ts now j q) t k
+not-no p held e later alone (t ∷ ts) s i k =
+    by-step p held e later alone ts s i (λ now j q. not-no p held e later alone ts now j q) t k

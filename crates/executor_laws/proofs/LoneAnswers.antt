@@ -1,5 +1,6 @@
 -- Whole calls that a party makes alone are answered as it is.
-use Rattle.std.proofs.Common.{◌≡◌, ◌⊎◌, ℕ, ◌<◌, List, [], ◌∷◌, ◌++◌, length, set, true, ltb, refl, sym, ap, ◌∙◌, subst, inl, inr, ⊎_elim, arith, Ok, get_or-set_same}
+use Rattle.std.proofs.Common.{◌≡◌, ◌⊎◌, ℕ, ◌<◌, List, [], ◌∷◌, ◌++◌, length, set, true, ltb, refl, sym, ap, ◌∙◌}
+use Rattle.std.proofs.Common.{subst, inl, inr, ⊎_elim, arith, Ok, get_or-set_same}
 use Rattle.std.proofs.Math.ListN.{length-set}
 use Rattle.std.proofs.lemmas.Bool.Decides.{nat_tests}
 use Rattle.std.proofs.lemmas.List.{append_assoc}
@@ -22,13 +23,15 @@ use Rattle.executor_model.specs.Acts.{look_at_table}
 use Rattle.executor_model.specs.Runs.{run_all}
 use Rattle.executor_model.specs.Sound.{times}
 use Rattle.executor_model.specs.World.{log}
-use Rattle.executor_model.specs.Steps.{Machine, stack, top, answer_refusal, onto, part_after, with_part, after, refusal, run, start}
+use Rattle.executor_model.specs.Steps.{Machine, stack, top, answer_refusal, onto, part_after}
+use Rattle.executor_model.specs.Steps.{with_part, after, refusal, run, start}
 use Rattle.executor_model.proofs.Quieting.{quiet-emptiness}
 use Rattle.executor_model.proofs.Resting.{rests}
 use Rattle.executor_laws.specs.LoneAnswers.{IsAnswered, IsLoneEmptinessExact, IsLoneTickExact}
 use Rattle.executor_laws.specs.Reach.{are_onward_of, IsLoneCall, TakesCommon}
 use Rattle.executor_laws.proofs.Ticking.{idle, queued-due, first-times}
-use Rattle.executor_laws.proofs.Reached.{Reached, run-first, run-then, run-of, reached-more, good-here, heard-here, deep-here}
+use Rattle.executor_laws.proofs.Reached.{Reached, run-first, run-then, run-of, reached-more}
+use Rattle.executor_laws.proofs.Reached.{good-here, heard-here, deep-here}
 use Rattle.executor_laws.proofs.LoneTicks.{left-true, in-range, of-party, after-is, no-more}
 use Rattle.executor_laws.proofs.Searching.{First, first-taken, none-found}
 use Rattle.executor_laws.proofs.Reaching.{takes-common}
@@ -89,7 +92,8 @@ module _ (s : Machine) (r : Reached s) (rest : IsAtRest s) (p : ℕ) (steps : Li
 
   tick-only : IsAnswered p call.TryTick reply.No s new → (f : ℕ) → ¬ IsCommon f s.world.trace
   tick-only a f c =
-      let t : TakesCommon p call.TryTick reply.Yes s new = takes-common s r rest f c p call.TryTick reply.Yes refl steps new k in
+      let t : TakesCommon p call.TryTick reply.Yes s new = takes-common s r rest f c p call.TryTick reply.Yes refl steps
+      new k in
       let no : ◌≡◌ {A = Event} (event.CallEnded p reply.Yes) (event.CallEnded p reply.No) =
       one-answer p call.TryTick reply.Yes reply.No s new (t.meanwhile, t.events) a in
       absurd (cc)
@@ -125,7 +129,8 @@ module _ (s : Machine) (r : Reached s) (rest : IsAtRest s) (p : ℕ) (steps : Li
   begins = ap (λ (os : List Op). with_part s p (part_after s.world os (Begin p call.IsEmpty))) (idles p)
 
   on-looking : run_all steps (looking s p) ≡ Ok new
-  on-looking = sym (ap (λ (m : Machine). run_all steps m) begins) ∙ (run-first (Begin p call.IsEmpty) steps s new k.made).1
+  on-looking = sym (ap (λ (m : Machine). run_all steps m) begins)
+      ∙ (run-first (Begin p call.IsEmpty) steps s new k.made).1
 
   looks-first : stack (looking s p) p ≡ op.Table table_op.LookAtTable ∷ []
   looks-first = get_or-set_same s.parties p (op.Table table_op.LookAtTable ∷ []) [] in-parties
@@ -154,12 +159,20 @@ module _ (s : Machine) (r : Reached s) (rest : IsAtRest s) (p : ℕ) (steps : Li
       let gone : after (looking s p) (Go q h) ≡ looked s p =
       after-is p (looking s p) (Go q h) m.0
       ∙ (ap (λ (os : List Op). with_part (looking s p) p (part_after (looking s p).world os (Go q h))) looks-first
-      ∙ ap (λ (i : ℕ). with_part (looking s p) p (part_after (looking s p).world (op.Table table_op.LookAtTable ∷ []) (Go i h))) m.0) in
-      let last : looked s p ≡ new = no-more p ts (looked s p) new looked-idle b.1 (sym (ap (λ (x : Machine). run_all ts x) gone) ∙ j.1) in
-      let mine : refusal (looking s p) (Go p h) ≡ None = subst (λ (i : ℕ). refusal (looking s p) (Go i h) ≡ None) m.0 j.0 in
-      let there : after (looking s p) (Go p h) ≡ new = ap (λ (i : ℕ). after (looking s p) (Go i h)) (sym m.0) ∙ (gone ∙ last) in
-      let goes : run_all (Go p h ∷ []) (looking s p) ≡ Ok new = run-then (Go p h) [] (looking s p) new mine (ap Ok there) in
-      (h, run-then (Begin p call.IsEmpty) (Go p h ∷ []) s new possible (ap (λ (x : Machine). run_all (Go p h ∷ []) x) begins ∙ goes))
+      ∙ ap (λ (i : ℕ). with_part (looking s p) p
+      (part_after (looking s p).world (op.Table table_op.LookAtTable ∷ []) (Go i h))) m.0) in
+      let last : looked s p ≡ new =
+      no-more p ts (looked s p) new looked-idle b.1 (sym (ap (λ (x : Machine). run_all ts x) gone) ∙ j.1) in
+      let mine : refusal (looking s p) (Go p h) ≡ None =
+      subst (λ (i : ℕ). refusal (looking s p) (Go i h) ≡ None) m.0 j.0 in
+      let there : after (looking s p) (Go p h) ≡ new = ap (λ (i : ℕ). after (looking s p) (Go i h)) (sym m.0)
+      ∙ (gone ∙ last) in
+      let goes : run_all (Go p h ∷ []) (looking s p) ≡ Ok new =
+      run-then (Go p h) [] (looking s p) new mine (ap Ok there) in (
+        h,
+        run-then (Begin p call.IsEmpty) (Go p h ∷ []) s new possible
+            (ap (λ (x : Machine). run_all (Go p h ∷ []) x) begins ∙ goes),
+      )
   looks (Answer q u ∷ ts) on e =
       let b : _ = left-true _ (are_onward_of p ts) on in
       let j : _ = run-first (Answer q u) ts (looking s p) new e in
@@ -178,7 +191,8 @@ module _ (s : Machine) (r : Reached s) (rest : IsAtRest s) (p : ℕ) (steps : Li
 
   emptiness-answered : IsAnswered p call.IsEmpty reply.Yes s new ⊎ IsAnswered p call.IsEmpty reply.No s new
   emptiness-answered =
-      ⊎_elim (λ e. inl (answers-so reply.Yes e)) (λ e. inr (answers-so reply.No e)) (exact.answered rest p found.0 in-parties)
+      ⊎_elim (λ e. inl (answers-so reply.Yes e)) (λ e. inr (answers-so reply.No e))
+      (exact.answered rest p found.0 in-parties)
 
   emptiness-always : AllDropped s.world.trace → IsAnswered p call.IsEmpty reply.Yes s new
   emptiness-always d = answers-so reply.Yes (exact.always rest p found.0 in-parties d)
@@ -187,19 +201,22 @@ module _ (s : Machine) (r : Reached s) (rest : IsAtRest s) (p : ℕ) (steps : Li
   emptiness-only a = ⊎_elim
       (λ e. exact.only rest p found.0 in-parties e)
       (λ e. let no : ◌≡◌ {A = Event} (event.CallEnded p reply.Yes)
-      (event.CallEnded p reply.No) = one-answer p call.IsEmpty reply.Yes reply.No s new a (answers-so reply.No e) in absurd (cc))
+      (event.CallEnded p reply.No) = one-answer p call.IsEmpty reply.Yes reply.No s new a (answers-so reply.No e) in
+      absurd (cc))
       (exact.answered rest p found.0 in-parties)
 
 lone-tick : (s : Machine) → Reached s → IsLoneTickExact s
 lone-tick s r = record {
   answered = λ rest p steps new k. tick-answered s r rest p steps new k s.world.queue.items refl;
-  no = λ rest p steps new k. (λ a. tick-only s r rest p steps new k a, λ z. tick-none s r rest p steps new k s.world.queue.items refl z);
+  no = λ rest p steps new k.
+      (λ a. tick-only s r rest p steps new k a, λ z. tick-none s r rest p steps new k s.world.queue.items refl z);
 }
 
 lone-emptiness : (s : Machine) → Reached s → IsLoneEmptinessExact s
 lone-emptiness s r = record {
   answered = λ rest p steps new k. emptiness-answered s r rest p steps new k;
-  yes = λ rest p steps new k. (λ a. emptiness-only s r rest p steps new k a, λ d. emptiness-always s r rest p steps new k d);
+  yes = λ rest p steps new k.
+      (λ a. emptiness-only s r rest p steps new k a, λ d. emptiness-always s r rest p steps new k d);
 }
 
 pub lone-ticks : (limit parties : ℕ) (steps : List Step) → IsLoneTickExact (run steps (start limit parties))
@@ -208,4 +225,5 @@ lone-ticks limit parties steps =
 
 pub lone-emptinesses : (limit parties : ℕ) (steps : List Step) → IsLoneEmptinessExact (run steps (start limit parties))
 lone-emptinesses limit parties steps =
-    lone-emptiness (run steps (start limit parties)) (record { limit = limit; parties = parties; steps = steps; is = refl })
+    lone-emptiness (run steps (start limit parties))
+    (record { limit = limit; parties = parties; steps = steps; is = refl })

@@ -1,6 +1,7 @@
--- What happens within a lone call that searches, once its future is taken: the queue and the trace only get longer, and no
--- other call begins.
-use Rattle.std.proofs.Common.{◌≡◌, ℕ, List, [], ◌∷◌, ◌++◌, Bool, true, false, refl, sym, ap, ◌∙◌, append-nil, append_assoc}
+-- What happens within a lone call that searches, once its future is taken: the queue and the trace only get longer,
+-- and no other call begins.
+use Rattle.std.proofs.Common.{◌≡◌, ℕ, List, [], ◌∷◌, ◌++◌, Bool, true, false, refl}
+use Rattle.std.proofs.Common.{sym, ap, ◌∙◌, append-nil, append_assoc}
 use Rattle.std.specs.Prelude.{Option, Some, None}
 use Rattle.task_moves.specs.declared.moves.owed.Move.TheVariants as move
 use Rattle.task_moves.specs.declared.moves.owed.Owed.{Owed}
@@ -31,7 +32,8 @@ use Rattle.executor_model.specs.declared.step.UserEnd.TheVariants as end
 use Rattle.executor_model.specs.Trace.{Trace}
 use Rattle.executor_model.specs.World.{World, Done, done, log, log_if, task, put, among, awaiter_of}
 use Rattle.executor_model.specs.Carried.{owed_ops, carried}
-use Rattle.executor_model.specs.Acts.{append_by, leave_by, waker_goes, notify_by, told, exchange_by, hand_out_by, call_waker, sleeper_act, act}
+use Rattle.executor_model.specs.Acts.{append_by, leave_by, waker_goes, notify_by, told, exchange_by}
+use Rattle.executor_model.specs.Acts.{hand_out_by, call_waker, sleeper_act, act}
 use Rattle.executor_model.specs.Steps.{waits, accepts, react}
 use Rattle.executor_model.specs.Weights.{weigh}
 use Rattle.executor_model.proofs.Owed.{owed-future, owed-awaiter, owed-nothing}
@@ -67,7 +69,16 @@ pub record Inner (w : World) (d : Done) : Type 0 where
 
 of-owed : (f : ℕ) (there : Bool) (o : Owed) → weigh stray_of (owed_ops there f o) ≡ 0
 of-owed f there o = owed-nothing stray_of f
-    (record { append = refl; output = refl; release = refl; settle_closed = refl; give_up = refl; end_closed = refl; detach = refl }) there o (owed-future stray_of f (record { poll = refl; drop = refl }) there o.future) (owed-awaiter stray_of f (record { notify = λ m. refl }) o.awaiter)
+    (record {
+      append = refl;
+      output = refl;
+      release = refl;
+      settle_closed = refl;
+      give_up = refl;
+      end_closed = refl;
+      detach = refl;
+    }) there o (owed-future stray_of f (record { poll = refl; drop = refl }) there o.future)
+    (owed-awaiter stray_of f (record { notify = λ m. refl }) o.awaiter)
 
 of-goes : (a : Waker) → weigh stray_of (waker_goes a) ≡ 0
 of-goes (Task k) = refl
@@ -79,7 +90,8 @@ of-told true f (Some a) = of-goes a.waker
 of-told false f (Some a) = refl
 
 -- queue, trace and the executor stay
-still : (w v : World) (next : List Op) → v.queue ≡ w.queue → v.trace ≡ w.trace → v.gone ≡ w.gone → weigh stray_of next ≡ 0 →
+still : (w v : World) (next : List Op) → v.queue ≡ w.queue → v.trace ≡ w.trace → v.gone ≡ w.gone →
+    weigh stray_of next ≡ 0 →
     Inner w (done v next)
 still w v next q t g z = record {
   plain = z;
@@ -92,7 +104,8 @@ still w v next q t g z = record {
 }
 
 -- something happens
-abbrev pub logged : (w v : World) (e : Event) (next : List Op) → v.queue ≡ w.queue → v.trace ≡ w.trace ++ e ∷ [] → v.gone ≡ w.gone →
+abbrev pub logged : (w v : World) (e : Event) (next : List Op) → v.queue ≡ w.queue → v.trace ≡ w.trace ++ e ∷ [] →
+    v.gone ≡ w.gone →
     weigh stray_of next ≡ 0 → Inner w (done v next)
 logged w v e next q t g z = record {
   plain = z;
@@ -124,7 +137,8 @@ then-inner w e d i = record {
 }
 
 inner-append : (b : Bool) (w : World) (f : ℕ) → Inner w (append_by b w f)
-inner-append true w f = record { plain = refl; added = f ∷ []; queue = refl; events = []; trace = sym (append-nil w.trace); there = refl }
+inner-append true w f =
+    record { plain = refl; added = f ∷ []; queue = refl; events = []; trace = sym (append-nil w.trace); there = refl }
 inner-append false w f = still w w _ refl refl refl refl
 
 inner-leave : (b : Bool) (w : World) (f : ℕ) → Inner w (leave_by b w f)
@@ -137,7 +151,8 @@ inner-notify false w f mine = still w _ _ refl refl refl refl
 
 inner-call : (p : ℕ) (w : World) (o : Polled) (a : Waker) (k : ℕ) → Inner w (call_waker p w o a k)
 inner-call p w o (Task g) k =
-    then-inner w (event.WakerCalled p o k (Task g)) _ (inner-logged _ (log w (event.WakerCalled p o k (Task g))) (event.Woken p g) g
+    then-inner w (event.WakerCalled p o k (Task g)) _
+    (inner-logged _ (log w (event.WakerCalled p o k (Task g))) (event.Woken p g) g
     (moves.wake (task w g)))
 inner-call p w o (Outside x) k = logged w _ (event.WakerCalled p o k (Outside x)) _ refl refl refl refl
 
@@ -157,7 +172,8 @@ inner-sleeper p (sleeper_op.CallSleeper s) w = inner-call p w (of.Tick s.tick) s
 
 pub inner-act : (p : ℕ) (h : Hint) (o : Op) (w : World) → waits o ≡ false → stray_of o ≡ 0 → Inner w (act p h o w)
 inner-act p h (op.Queue (queue_op.Append f)) w n z = inner-append _ w f
-inner-act p h (op.Move move.WakeByReference f) w n z = inner-logged _ w (event.Woken p f) f (moves.wake_by_reference (task w f))
+inner-act p h (op.Move move.WakeByReference f) w n z =
+    inner-logged _ w (event.Woken p f) f (moves.wake_by_reference (task w f))
 inner-act p h (op.Move move.Wake f) w n z = inner-logged _ w (event.Woken p f) f (moves.wake (task w f))
 inner-act p h (op.Move move.Release f) w n z = inner-carried w f (moves.release (task w f))
 inner-act p h (op.Move move.TakeUp f) w n z = inner-logged _ w (event.PollBegun p f) f (moves.take_up (task w f))
@@ -199,7 +215,8 @@ inner-act p h _ w n z = still w _ _ refl refl refl refl
 pub inner-react : (p : ℕ) (o : Op) (u : UserEnd) (w : World) → accepts o u ≡ true → Inner w (react p o u w)
 inner-react p (op.User (user_op.Poll f)) (end.Polled answer.Pending) w a =
     logged w _ (event.Answered p f answer.Pending) _ refl refl refl refl
-inner-react p (op.User (user_op.Poll f)) (end.Polled answer.Ready) w a = logged w _ (event.Answered p f answer.Ready) _ refl refl refl refl
+inner-react p (op.User (user_op.Poll f)) (end.Polled answer.Ready) w a =
+    logged w _ (event.Answered p f answer.Ready) _ refl refl refl refl
 inner-react p (op.User (user_op.Drop f)) end.Done w a = still w w _ refl refl refl refl
 inner-react p (op.User (user_op.DropOutput f)) end.Done w a = still w w _ refl refl refl refl
 inner-react p (op.User (user_op.CallOutside x)) end.Done w a = still w w _ refl refl refl refl

@@ -1,5 +1,6 @@
 -- A lone call that searches takes the future that is first in the queue, whatever the user code in it answers.
-use Rattle.std.proofs.Common.{◌≡◌, ◌⊎◌, ℕ, List, [], ◌∷◌, ◌++◌, Bool, true, false, ◌||◌, not, eqb, refl, sym, ap, ◌∙◌, subst, inl, inr, ⊎_elim, arith, append_assoc}
+use Rattle.std.proofs.Common.{◌≡◌, ◌⊎◌, ℕ, List, [], ◌∷◌, ◌++◌, Bool, true, false, ◌||◌, not, eqb, refl, sym}
+use Rattle.std.proofs.Common.{ap, ◌∙◌, subst, inl, inr, ⊎_elim, arith, append_assoc}
 use Rattle.std.proofs.lemmas.Bool.Decides.{nat_tests}
 use Rattle.std.proofs.lemmas.List.{reverse-append, append_cancel_right}
 use Rattle.std.proofs.lemmas.List.Folds.{list_any-append}
@@ -20,7 +21,8 @@ use Rattle.executor_model.specs.Trace.{Trace, has}
 use Rattle.executor_model.specs.World.{World, Done, log_if, task, among}
 use Rattle.executor_model.specs.Carried.{owed_ops, carried}
 use Rattle.executor_model.specs.Acts.{act}
-use Rattle.executor_model.specs.Steps.{Part, top, below_top, waits, accepts, go_refusal, answer_refusal, react, part, end_of, settled, settled_by, onto, gone_on, part_after}
+use Rattle.executor_model.specs.Steps.{Part, top, below_top, waits, accepts, go_refusal, answer_refusal, react, part}
+use Rattle.executor_model.specs.Steps.{end_of, settled, settled_by, onto, gone_on, part_after}
 use Rattle.executor_model.specs.Weights.{weigh}
 use Rattle.executor_model.proofs.Lists.{weigh-append, weigh-reverse}
 use Rattle.executor_model.proofs.Lift.{topped}
@@ -78,7 +80,8 @@ taken-up p f g w true e k = record {
   stage = inr record {
     first = op.Table (table_op.TakeToDrop g);
     others = op.Move move.SettleClosed g ∷ [];
-    is = ap (λ (b : Bool). owed_ops b g (moves.take_up_by true (task w g)).owed) (subst (λ (x : ℕ). among x w.table ≡ true) e k);
+    is = ap (λ (b : Bool). owed_ops b g (moves.take_up_by true (task w g)).owed)
+        (subst (λ (x : ℕ). among x w.table ≡ true) e k);
     next = e;
   };
 }
@@ -97,7 +100,8 @@ advances p f h (op.Table (table_op.TakeToDrop g)) w e k =
       };
     }
 advances p f h (op.User (user_op.BeginDrop g)) w e k = record {
-  inner = logged w _ (event.Dropped p g) (op.User (user_op.Drop g) ∷ op.Table (table_op.LeaveTable g) ∷ []) refl refl refl refl;
+  inner = logged w _ (event.Dropped p g) (op.User (user_op.Drop g) ∷ op.Table (table_op.LeaveTable g) ∷ []) refl refl
+      refl refl;
   stage = inl (ap (λ (b : Bool). b || false) (self f g k));
 }
 advances p f h _ w e k = absurd k
@@ -146,22 +150,26 @@ no-end : (o : Op) → stray_of o ≡ 0 → end_of (Some o) ≡ None
 no-end (op.End a held) e = absurd (omega (arith, e))
 no-end _ e = refl
 
-last-plain : (below : List Op) (o : Op) → weigh stray_of (below ++ o ∷ []) ≡ 0 → (weigh stray_of below ≡ 0) × (stray_of o ≡ 0)
-last-plain below o e = (omega (arith, e, weigh-append stray_of below (o ∷ [])), omega (arith, e, weigh-append stray_of below (o ∷ [])))
+last-plain : (below : List Op) (o : Op) → weigh stray_of (below ++ o ∷ []) ≡ 0 →
+    (weigh stray_of below ≡ 0) × (stray_of o ≡ 0)
+last-plain below o e =
+    (omega (arith, e, weigh-append stray_of below (o ∷ [])), omega (arith, e, weigh-append stray_of below (o ∷ [])))
 
 module _ (p : ℕ) (r : Reply) (held : Hold) (f : ℕ) (xs : List ℕ) (before : Trace) where
   -- the answer isn't yet all that is left
   unsettled : (w : World) (below : List Op) (o : Op) → stray_of o ≡ 0 →
       settled p w (answering r held (below ++ o ∷ [])) ≡ part w (answering r held (below ++ o ∷ []))
   unsettled w below o e =
-      ap (λ (x : Option Op). settled_by (end_of x) p w (answering r held (below ++ o ∷ []))) (top-last (answering r held below) o)
+      ap (λ (x : Option Op). settled_by (end_of x) p w (answering r held (below ++ o ∷ [])))
+      (top-last (answering r held below) o)
       ∙ ap (λ (x : Option Reply). settled_by x p w (answering r held (below ++ o ∷ []))) (no-end o e)
 
   -- this is on top
   on-top : (w : World) (below : List Op) (o : Op) → Going f xs before w below o →
       Arrives p r held f xs before (settled p w (answering r held (below ++ o ∷ [])))
   on-top w below o k =
-      subst (Arrives p r held f xs before) (sym (unsettled w below o (last-plain below o k.plain).1)) (going below o refl k)
+      subst (Arrives p r held f xs before) (sym (unsettled w below o (last-plain below o k.plain).1))
+      (going below o refl k)
 
   -- how far the call is
   record Far (w : World) : Type 0 where
@@ -174,7 +182,15 @@ module _ (p : ℕ) (r : Reply) (held : Hold) (f : ℕ) (xs : List ℕ) (before :
   at : (w : World) (below : List Op) (o : Op) → (far : Far w) → weigh stray_of (below ++ o ∷ []) ≡ 0 →
       (has (takes f) far.meanwhile ≡ true) ⊎ (Next f o ⊎ Waits f below) → Going f xs before w below o
   at w below o far z k =
-      record { plain = z; added = far.added; queue = far.queue; meanwhile = far.meanwhile; trace = far.trace; there = far.there; stage = k }
+      record {
+        plain = z;
+        added = far.added;
+        queue = far.queue;
+        meanwhile = far.meanwhile;
+        trace = far.trace;
+        there = far.there;
+        stage = k;
+      }
 
   -- f is taken, and this is left to do
   left : (below : List Op) (w : World) → weigh stray_of below ≡ 0 → (far : Far w) → has (takes f) far.meanwhile ≡ true →
@@ -182,28 +198,35 @@ module _ (p : ℕ) (r : Reply) (held : Hold) (f : ℕ) (xs : List ℕ) (before :
   left below w z far k = go (from-end below)
     where
       go : (below ≡ []) ⊎ Last below → Arrives p r held f xs before (settled p w (answering r held below))
-      go (inl e) = subst (λ (os : List Op). Arrives p r held f xs before (settled p w (answering r held os))) (sym e) (ended refl record {
-        added = far.added;
-        queue = far.queue;
-        meanwhile = far.meanwhile;
-        trace = ap (λ (es : Trace). es ++ event.CallEnded p r ∷ []) far.trace
-            ∙ append_assoc before far.meanwhile (event.CallEnded p r ∷ []);
-        taken = k;
-        there = far.there;
-      })
+      go (inl e) = subst (λ (os : List Op). Arrives p r held f xs before (settled p w (answering r held os))) (sym e)
+          (ended refl record {
+            added = far.added;
+            queue = far.queue;
+            meanwhile = far.meanwhile;
+            trace = ap (λ (es : Trace). es ++ event.CallEnded p r ∷ []) far.trace
+                ∙ append_assoc before far.meanwhile (event.CallEnded p r ∷ []);
+            taken = k;
+            there = far.there;
+          })
       go (inr l) = subst (λ (os : List Op). Arrives p r held f xs before (settled p w (answering r held os))) (sym l.is)
-          (on-top w l.below l.last (at w l.below l.last far (subst (λ (os : List Op). weigh stray_of os ≡ 0) l.is z) (inl k)))
+          (on-top w l.below l.last
+          (at w l.below l.last far (subst (λ (os : List Op). weigh stray_of os ≡ 0) l.is z) (inl k)))
 
   -- f is still to be taken up, and this comes first
   waiting : (rest : List Op) (w : World) → weigh stray_of rest ≡ 0 → Far w →
       Arrives p r held f xs before (settled p w (answering r held (op.Move move.TakeUp f ∷ rest)))
   waiting rest w z far = go (from-end rest)
     where
-      go : (rest ≡ []) ⊎ Last rest → Arrives p r held f xs before (settled p w (answering r held (op.Move move.TakeUp f ∷ rest)))
-      go (inl e) = subst (λ (os : List Op). Arrives p r held f xs before (settled p w (answering r held (op.Move move.TakeUp f ∷ os))))
+      go : (rest ≡ []) ⊎ Last rest →
+          Arrives p r held f xs before (settled p w (answering r held (op.Move move.TakeUp f ∷ rest)))
+      go (inl e) =
+          subst (λ (os : List Op). Arrives p r held f xs before
+          (settled p w (answering r held (op.Move move.TakeUp f ∷ os))))
           (sym e)
           (on-top w [] (op.Move move.TakeUp f) (at w [] (op.Move move.TakeUp f) far refl (inr (inl refl))))
-      go (inr l) = subst (λ (os : List Op). Arrives p r held f xs before (settled p w (answering r held (op.Move move.TakeUp f ∷ os))))
+      go (inr l) =
+          subst (λ (os : List Op). Arrives p r held f xs before
+          (settled p w (answering r held (op.Move move.TakeUp f ∷ os))))
           (sym l.is)
           (on-top w (op.Move move.TakeUp f ∷ l.below) l.last (at w (op.Move move.TakeUp f ∷ l.below) l.last far (omega (
             arith,
@@ -212,11 +235,13 @@ module _ (p : ℕ) (r : Reply) (held : Hold) (f : ℕ) (xs : List ℕ) (before :
           )) (inr (inr record { under = l.below; is = refl }))))
 
   -- this comes next
-  leading : (below : List Op) (w : World) (next : List Op) → weigh stray_of below ≡ 0 → weigh stray_of next ≡ 0 → Far w →
+  leading : (below : List Op) (w : World) (next : List Op) → weigh stray_of below ≡ 0 → weigh stray_of next ≡ 0 →
+      Far w →
       (first : Op) (others : List Op) → next ≡ first ∷ others → Next f first →
       Arrives p r held f xs before (settled p w (answering r held (below ++ reverse next)))
   leading below w next z n far first others e k =
-      let turned : below ++ reverse next ≡ (below ++ reverse others) ++ first ∷ [] = ap (λ (os : List Op). below ++ reverse os) e
+      let turned : below ++ reverse next ≡ (below ++ reverse others) ++ first ∷ [] =
+      ap (λ (os : List Op). below ++ reverse os) e
       ∙ (ap (λ (os : List Op). below ++ os) (reverse-append (first ∷ []) others)
       ∙ sym (append_assoc below (reverse others) (first ∷ []))) in
       let y : weigh stray_of ((below ++ reverse others) ++ first ∷ []) ≡ 0 = ap (weigh stray_of) (sym turned)
@@ -256,7 +281,8 @@ module _ (p : ℕ) (r : Reply) (held : Hold) (f : ℕ) (xs : List ℕ) (before :
       go (inr (inr (inr l))) =
           let y : weigh stray_of (l.under ++ reverse d.next) ≡ 0 =
           omega (arith, all, ap (λ (os : List Op). weigh stray_of (os ++ reverse d.next)) l.is) in
-          subst (λ (os : List Op). Arrives p r held f xs before (settled p d.world (answering r held (os ++ reverse d.next)))) (sym l.is)
+          subst (λ (os : List Op). Arrives p r held f xs before
+          (settled p d.world (answering r held (os ++ reverse d.next)))) (sym l.is)
           (waiting (l.under ++ reverse d.next) d.world y far)
 
   acted : (w : World) (below : List Op) (o : Op) (h : Hint) → waits o ≡ false → (k : Going f xs before w below o) →
@@ -278,7 +304,8 @@ module _ (p : ℕ) (r : Reply) (held : Hold) (f : ℕ) (xs : List ℕ) (before :
           Arrives p r held f xs before (onto p (act p h o w) (answering r held below))
       go (inl e) there = plainly (inl e)
       go (inr (inl e)) (inl t) = onward (inl t)
-      go (inr (inl e)) (inr t) = let a : Advances f w (act p h o w) = advances p f h o w t e in onward (inr (a.inner, a.stage))
+      go (inr (inl e)) (inr t) = let a : Advances f w (act p h o w) = advances p f h o w t e in
+          onward (inr (a.inner, a.stage))
       go (inr (inr l)) there = plainly (inr l)
 
   -- user code isn't on the way
@@ -314,9 +341,11 @@ module _ (p : ℕ) (r : Reply) (held : Hold) (f : ℕ) (xs : List ℕ) (before :
       ∙ ap (onto p (act p h o w)) b.1)) (acted w below o h (goes o (sym (ap go_refusal b.0) ∙ n)) k entry)
 
   pub on-answer : (w : World) (os below : List Op) (o : Op) (u : UserEnd) → os ≡ answering r held (below ++ o ∷ []) →
-      answer_refusal (top os) u ≡ None → Going f xs before w below o → Arrives p r held f xs before (part_after w os (Answer p u))
+      answer_refusal (top os) u ≡ None → Going f xs before w below o →
+      Arrives p r held f xs before (part_after w os (Answer p u))
   on-answer w os below o u e n k =
       let b : _ = below-is os below o e in
       subst (Arrives p r held f xs before) (sym (ap (λ (x : Option Op). gone_on p w os x (λ y. react p y u w)) b.0
-      ∙ ap (onto p (react p o u w)) b.1)) (reacted w below o u (answers o u (sym (ap (λ (x : Option Op). answer_refusal x u) b.0)
+      ∙ ap (onto p (react p o u w)) b.1))
+      (reacted w below o u (answers o u (sym (ap (λ (x : Option Op). answer_refusal x u) b.0)
       ∙ n)) k)

@@ -1,5 +1,6 @@
 -- From the beginning of a lone call that searches to its end.
-use Rattle.std.proofs.Common.{◌≡◌, ℕ, ◌<◌, List, [], ◌∷◌, ◌++◌, length, Bool, true, false, ◌&&◌, eqb, ltb, refl, sym, ap, ◌∙◌, subst, arith, get_or-set_same, Ok}
+use Rattle.std.proofs.Common.{◌≡◌, ℕ, ◌<◌, List, [], ◌∷◌, ◌++◌, length, Bool, true, false, ◌&&◌, eqb, ltb}
+use Rattle.std.proofs.Common.{refl, sym, ap, ◌∙◌, subst, arith, get_or-set_same, Ok}
 use Rattle.std.proofs.lemmas.Bool.Decides.{nat_tests}
 use Rattle.std.specs.Prelude.{Option, None}
 use Rattle.executor_model.specs.declared.call.Reply.{Reply}
@@ -15,7 +16,8 @@ use Rattle.executor_model.specs.Trace.{Trace}
 use Rattle.executor_model.specs.World.{World}
 use Rattle.executor_model.specs.Acts.{act}
 use Rattle.executor_model.specs.Runs.{run_all}
-use Rattle.executor_model.specs.Steps.{Machine, Part, stack, top, accepts, onto, go_refusal, answer_refusal, part_refusal, party_of, refusal, unless, part_after, with_part, after}
+use Rattle.executor_model.specs.Steps.{Machine, Part, stack, top, accepts, onto, go_refusal, answer_refusal}
+use Rattle.executor_model.specs.Steps.{part_refusal, party_of, refusal, unless, part_after, with_part, after}
 use Rattle.executor_laws.specs.Reach.{is_onward_of, are_onward_of}
 use Rattle.executor_laws.proofs.Reached.{Reached, run-first, reached-step}
 use Rattle.executor_laws.proofs.LoneSteps.{Going, Ended, Arrives, HasEntry, answering, on-go, on-answer}
@@ -38,8 +40,12 @@ OfParty p s t = (party_of t ≡ p) × (p < length s.parties) × (part_refusal s.
 
 pub of-party : (p : ℕ) (s : Machine) (t : Step) → is_onward_of p t ≡ true → refusal s t ≡ None → OfParty p s t
 of-party p s t o e =
-    subst (λ (q : ℕ). (party_of t ≡ q) × (q < length s.parties) × (part_refusal s.world s.parties (stack s q) t ≡ None)) (party p t o)
-    (refl, (let b : ltb (party_of t) (length s.parties) ≡ true = (in-range _ _ e).0 in grind (arith, nat_tests)), (in-range _ _ e).1)
+    subst (λ (q : ℕ). (party_of t ≡ q) × (q < length s.parties) × (part_refusal s.world s.parties (stack s q) t ≡ None))
+    (party p t o) (
+      refl,
+      (let b : ltb (party_of t) (length s.parties) ≡ true = (in-range _ _ e).0 in grind (arith, nat_tests)),
+      (in-range _ _ e).1,
+    )
   where
     party : (p : ℕ) (t : Step) → is_onward_of p t ≡ true → party_of t ≡ p
     party p (Begin q c) o = absurd (cc)
@@ -56,21 +62,24 @@ idle-none p (Answer q u) w ss os e o r = let no : answer_refusal (top (let xs : 
     sym (ap (λ (xs : List Op). answer_refusal (top xs) u) e) ∙ r in absurd (cc)
 
 -- no step follows the end
-pub no-more : (p : ℕ) (ts : List Step) (s new : Machine) → stack s p ≡ [] → are_onward_of p ts ≡ true → run_all ts s ≡ Ok new → s ≡ new
+pub no-more : (p : ℕ) (ts : List Step) (s new : Machine) → stack s p ≡ [] → are_onward_of p ts ≡ true →
+    run_all ts s ≡ Ok new → s ≡ new
 no-more p [] s new e o r = cc
 no-more p (t ∷ ts) s new e o r =
     let on : is_onward_of p t ≡ true = (left-true _ _ o).0 in
     absurd (idle-none p t s.world s.parties (stack s p) e on (of-party p s t on (run-first t ts s new r).0).2)
 
 -- the machine after the step of p
-pub after-is : (p : ℕ) (s : Machine) (t : Step) → party_of t ≡ p → after s t ≡ with_part s p (part_after s.world (stack s p) t)
+pub after-is : (p : ℕ) (s : Machine) (t : Step) → party_of t ≡ p →
+    after s t ≡ with_part s p (part_after s.world (stack s p) t)
 after-is p s t e = ap (λ (q : ℕ). with_part s q (part_after s.world (stack s q) t)) e
 
 pub stack-set : (p : ℕ) (s : Machine) (x : Part) → p < length s.parties → stack (with_part s p x) p ≡ x.todo
 stack-set p s x l = get_or-set_same s.parties p x.todo [] l
 
 module _ (p : ℕ) (r : Reply) (held : Hold) (f : ℕ) (xs : List ℕ) (before : Trace) (entry : (s : Machine) → Reached s →
-    s.world.gone ≡ false → (meanwhile : Trace) → s.world.trace ≡ before ++ meanwhile → HasEntry f s.world meanwhile) where
+    s.world.gone ≡ false → (meanwhile : Trace) → s.world.trace ≡ before ++ meanwhile →
+    HasEntry f s.world meanwhile) where
   on-step : (t : Step) (w : World) (ss : List (List Op)) (os below : List Op) (o : Op) → is_onward_of p t ≡ true →
       os ≡ answering r held (below ++ o ∷ []) → part_refusal w ss os t ≡ None → (k : Going f xs before w below o) →
       HasEntry f w k.meanwhile → Arrives p r held f xs before (part_after w os t)
@@ -85,7 +94,8 @@ module _ (p : ℕ) (r : Reply) (held : Hold) (f : ℕ) (xs : List ℕ) (before :
   pub walks : (ts : List Step) (s new : Machine) (below : List Op) (o : Op) → Reached s →
       stack s p ≡ answering r held (below ++ o ∷ []) → Going f xs before s.world below o → are_onward_of p ts ≡ true →
       run_all ts s ≡ Ok new → stack new p ≡ [] → Ended p r f xs before new.world
-  walks [] s new below o y e k on n z = let same : s ≡ new = cc in let no : answering r held (below ++ o ∷ []) ≡ [] = sym e
+  walks [] s new below o y e k on n z = let same : s ≡ new = cc in
+      let no : answering r held (below ++ o ∷ []) ≡ [] = sym e
       ∙ (ap (λ (m : Machine). stack m p) same ∙ z) in absurd (cc)
   walks (t ∷ ts) s new below o y e k on n z =
       let both : _ = left-true (is_onward_of p t) (are_onward_of p ts) on in
@@ -93,13 +103,17 @@ module _ (p : ℕ) (r : Reply) (held : Hold) (f : ℕ) (xs : List ℕ) (before :
       let mine : OfParty p s t = of-party p s t both.0 first.0 in
       go (λ next under x i a m q. walks ts next new under x i a m both.1 q z) mine.1
       (subst Reached (after-is p s t mine.0) (reached-step s t first.0 y))
-      (sym (ap (λ (m : Machine). run_all ts m) (after-is p s t mine.0)) ∙ first.1) both.1 (part_after s.world (stack s p) t) refl
+      (sym (ap (λ (m : Machine). run_all ts m) (after-is p s t mine.0)) ∙ first.1) both.1
+      (part_after s.world (stack s p) t) refl
       (on-step t s.world s.parties (stack s p) below o both.0 e mine.2 k (entry s y k.there k.meanwhile k.trace))
     where
-      go : ((next : Machine) (under : List Op) (x : Op) → Reached next → stack next p ≡ answering r held (under ++ x ∷ []) →
-          Going f xs before next.world under x → run_all ts next ≡ Ok new → Ended p r f xs before new.world) → p < length s.parties →
+      go : ((next : Machine) (under : List Op) (x : Op) → Reached next →
+          stack next p ≡ answering r held (under ++ x ∷ []) →
+          Going f xs before next.world under x → run_all ts next ≡ Ok new → Ended p r f xs before new.world) →
+          p < length s.parties →
           Reached (with_part s p (part_after s.world (stack s p) t)) →
-          run_all ts (with_part s p (part_after s.world (stack s p) t)) ≡ Ok new → are_onward_of p ts ≡ true → (x : Part) →
+          run_all ts (with_part s p (part_after s.world (stack s p) t)) ≡ Ok new → are_onward_of p ts ≡ true →
+          (x : Part) →
           part_after s.world (stack s p) t ≡ x → Arrives p r held f xs before x → Ended p r f xs before new.world
       go again l i q onward x v (going under next a m) =
           again (with_part s p x) under next (subst (λ (u : Part). Reached (with_part s p u)) v i) (stack-set p s x l
@@ -117,7 +131,8 @@ pub record GoneOn (p : ℕ) (o : Op) (s new : Machine) : Type 0 where
   pub made : run_all others (with_part s p (onto p (act p hint o s.world) [])) ≡ Ok new
   pub within : p < length s.parties
 
-pub goes-on : (p : ℕ) (o : Op) (s new : Machine) → stack s p ≡ o ∷ [] → ((u : UserEnd) → accepts o u ≡ false) → Reached s →
+pub goes-on : (p : ℕ) (o : Op) (s new : Machine) → stack s p ≡ o ∷ [] → ((u : UserEnd) → accepts o u ≡ false) →
+    Reached s →
     stack new p ≡ [] → (ts : List Step) → are_onward_of p ts ≡ true → run_all ts s ≡ Ok new → GoneOn p o s new
 goes-on p o s new e a y z [] on n =
     let same : s ≡ new = cc in

@@ -1,5 +1,7 @@
 -- Whoever is answered no has done nothing since his call began, in each run.
-use Rattle.std.proofs.Common.{◌≡◌, ◌≢◌, ◌⊎◌, ℕ, ◌+◌, ◌<◌, List, [], ◌∷◌, ◌++◌, length, Bool, true, false, ◌||◌, ◌&&◌, not, eqb, refl, sym, ap, ◌∙◌, subst, inl, inr, ⊎_elim, arith, get_or-set_same, get_or-set_other}
+use Rattle.std.proofs.Common.{◌≡◌, ◌≢◌, ◌⊎◌, ℕ, ◌+◌, ◌<◌, List, [], ◌∷◌, ◌++◌, length}
+use Rattle.std.proofs.Common.{Bool, true, false, ◌||◌, ◌&&◌, not, eqb, refl, sym, ap, ◌∙◌, subst, inl}
+use Rattle.std.proofs.Common.{inr, ⊎_elim, arith, get_or-set_same, get_or-set_other}
 use Rattle.std.proofs.lemmas.Bool.Decides.{nat_tests}
 use Rattle.std.proofs.lemmas.List.{append_cancel_right}
 use Rattle.std.specs.Prelude.{Option, Some, None, reverse}
@@ -31,7 +33,8 @@ use Rattle.executor_model.specs.World.{World, Done, done, log}
 use Rattle.executor_model.specs.Acts.{take_by, emptiness, act}
 use Rattle.executor_model.specs.Weights.{same, weigh}
 use Rattle.executor_model.specs.Good.{Good}
-use Rattle.executor_model.specs.Steps.{Machine, stack, top, is_free, waits, polled_by, unless, begun, react, kept, with_future, run, start}
+use Rattle.executor_model.specs.Steps.{Machine, stack, top, is_free, waits, polled_by, unless}
+use Rattle.executor_model.specs.Steps.{begun, react, kept, with_future, run, start}
 use Rattle.executor_model.proofs.Lift.{unsettled, good-start}
 use Rattle.executor_model.proofs.Lists.{same_cases, weigh-append, weigh-reverse}
 use Rattle.executor_model.proofs.Resting.{idle-stack}
@@ -40,12 +43,15 @@ use Rattle.executor_model.proofs.Ways.{Way, along}
 use Rattle.executor_model.proofs.Ways.Way.{acted, reacted, called}
 use Rattle.executor_laws.specs.AtOnce.{deeds, NoComesAtOnce}
 use Rattle.executor_laws.proofs.Growing.{is_end, Grows, grows-act, grows-react, grows-begun}
-use Rattle.executor_laws.proofs.Prompting.{hasty, hasty-is, is_no, told, fresh, told-append, told-grows, told-log, fresh-log, deeds-other, deeds-other_log, slow-act}
+use Rattle.executor_laws.proofs.Prompting.{hasty, hasty-is, is_no, told, fresh, told-append, told-grows, told-log}
+use Rattle.executor_laws.proofs.Prompting.{fresh-log, deeds-other, deeds-other_log, slow-act}
 
--- what p has to do, where it did this: nothing of it is answered no next; or what is on top may be, and p's call has begun last
+-- what p has to do, where it did this: nothing of it is answered no next; or what is on top may be,
+-- and p's call has begun last
 data Stands (p : ℕ) (os : List Op) (ds : Trace) : Type 0 where
   slow : weigh hasty os ≡ 0 → Stands p os ds
-  quick : (rest : List Op) (o : Op) → os ≡ rest ++ o ∷ [] → weigh hasty rest ≡ 0 → fresh p false ds ≡ true → Stands p os ds
+  quick : (rest : List Op) (o : Op) → os ≡ rest ++ o ∷ [] → weigh hasty rest ≡ 0 → fresh p false ds ≡ true →
+      Stands p os ds
 
 record Prompt (p : ℕ) (os : List Op) (ds : Trace) : Type 0 where
   pub told : told p false ds ≡ true
@@ -60,23 +66,27 @@ Parted p rest o ds = (weigh hasty rest ≡ 0) × ((hasty o ≡ 0) ⊎ (fresh p f
 
 parted : (p : ℕ) (os rest : List Op) (o : Op) (ds : Trace) → os ≡ rest ++ o ∷ [] → Stands p os ds → Parted p rest o ds
 parted p os rest o ds e (slow z) =
-    let k : weigh hasty rest + weigh hasty (o ∷ []) ≡ 0 = sym (weigh-append hasty rest (o ∷ [])) ∙ (sym (ap (weigh hasty) e) ∙ z) in
+    let k : weigh hasty rest + weigh hasty (o ∷ []) ≡ 0 = sym (weigh-append hasty rest (o ∷ []))
+    ∙ (sym (ap (weigh hasty) e) ∙ z) in
     (omega (arith, k), inl (omega (arith, k)))
 parted p os rest o ds e (quick under x q z f) =
     let s : Some x ≡ Some o = sym (top-last under x) ∙ (ap top (sym q ∙ e) ∙ top-last rest o) in
     let v : x ≡ o = cc in
-    let r : under ≡ rest = append_cancel_right under rest (o ∷ []) (ap (λ (y : Op). under ++ y ∷ []) (sym v) ∙ (sym q ∙ e)) in
+    let r : under ≡ rest = append_cancel_right under rest (o ∷ [])
+    (ap (λ (y : Op). under ++ y ∷ []) (sym v) ∙ (sym q ∙ e)) in
     (sym (ap (weigh hasty) r) ∙ z, inr f)
 
 -- a party turns to other things
 
 turned : (s : Machine) (p : ℕ) (rest : List Op) (d : Done) → p < length s.parties →
-    ((q : ℕ) → q ≢ p → deeds q d.world.trace ≡ deeds q s.world.trace) → Prompt p (rest ++ reverse d.next) (deeds p d.world.trace) →
+    ((q : ℕ) → q ≢ p → deeds q d.world.trace ≡ deeds q s.world.trace) →
+    Prompt p (rest ++ reverse d.next) (deeds p d.world.trace) →
     Prompts s → Prompts (unsettled s p rest d)
 turned s p rest d l others own h q = ⊎_elim
     (λ (x : (same q p ≡ 1) × (eqb q p ≡ true) × (q ≡ p)). subst
     (λ (n : ℕ). Prompt n (stack (unsettled s p rest d) n) (deeds n d.world.trace)) (sym x.2)
-    (subst (λ (os : List Op). Prompt p os (deeds p d.world.trace)) (sym (get_or-set_same s.parties p (rest ++ reverse d.next) [] l)) own))
+    (subst (λ (os : List Op). Prompt p os (deeds p d.world.trace))
+    (sym (get_or-set_same s.parties p (rest ++ reverse d.next) [] l)) own))
     (λ (x : (same q p ≡ 0) × (eqb q p ≡ false) × (q ≢ p)). subst (λ (os : List Op). Prompt q os (deeds q d.world.trace))
     (sym (get_or-set_other s.parties p q (rest ++ reverse d.next) [] x.2))
     (subst (λ (ds : Trace). Prompt q (stack s q) ds) (sym (others q x.2)) (h q)))
@@ -86,7 +96,8 @@ slow-onto : (rest next : List Op) → weigh hasty rest ≡ 0 → weigh hasty nex
 slow-onto rest next z n = omega (arith, z, n, weigh-append hasty rest (reverse next), weigh-reverse hasty next)
 
 -- what p does goes on with nothing that is answered no next
-slowly : (p : ℕ) (w : World) (rest : List Op) (d : Done) → Grows p w d.world → weigh hasty rest ≡ 0 → weigh hasty d.next ≡ 0 →
+slowly : (p : ℕ) (w : World) (rest : List Op) (d : Done) → Grows p w d.world → weigh hasty rest ≡ 0 →
+    weigh hasty d.next ≡ 0 →
     told p false (deeds p w.trace) ≡ true → Prompt p (rest ++ reverse d.next) (deeds p d.world.trace)
 slowly p w rest d g z n t = record { told = told-grows p w d.world g t; stands = slow (slow-onto rest d.next z n) }
 
@@ -114,7 +125,8 @@ may-end false reply.Pending held k p = refl
 may-end false reply.Ready held k p = refl
 may-end false reply.Cancelled held k p = refl
 
-own-end : (p : ℕ) (w : World) (rest : List Op) (r : Reply) (held : Hold) → Parted p rest (op.End r held) (deeds p w.trace) →
+own-end : (p : ℕ) (w : World) (rest : List Op) (r : Reply) (held : Hold) →
+    Parted p rest (op.End r held) (deeds p w.trace) →
     told p false (deeds p w.trace) ≡ true → Prompt p (rest ++ reverse []) (deeds p (log w (event.CallEnded p r)).trace)
 own-end p w rest r held x t = record {
   told = told-log p w.trace (event.CallEnded p r) refl (may-end (fresh p false (deeds p w.trace)) r held x.1 p) t;
@@ -123,8 +135,10 @@ own-end p w rest r held x t = record {
 
 -- one thing is done
 
-own-take : (p : ℕ) (w : World) (q : List ℕ) (os : List Op) → weigh hasty os ≡ 0 → fresh p false (deeds p w.trace) ≡ true →
-    told p false (deeds p w.trace) ≡ true → Prompt p (os ++ reverse (take_by w q).next) (deeds p (take_by w q).world.trace)
+own-take : (p : ℕ) (w : World) (q : List ℕ) (os : List Op) → weigh hasty os ≡ 0 →
+    fresh p false (deeds p w.trace) ≡ true →
+    told p false (deeds p w.trace) ≡ true →
+    Prompt p (os ++ reverse (take_by w q).next) (deeds p (take_by w q).world.trace)
 own-take p w [] os z f t = record { told = t; stands = quick os (op.End reply.No hold.Executor) refl z f }
 own-take p w (g ∷ gs) os z f t =
     record {
@@ -133,9 +147,12 @@ own-take p w (g ∷ gs) os z f t =
           (op.Sleeper sleeper_op.ExchangeFlag ∷ op.Move move.TakeUp g ∷ op.End reply.Yes hold.Executor ∷ []) z refl);
     }
 
-own-look : (p : ℕ) (w : World) (q : List ℕ) (os : List Op) → weigh hasty os ≡ 0 → fresh p false (deeds p w.trace) ≡ true →
-    told p false (deeds p w.trace) ≡ true → Prompt p (os ++ reverse (op.End (emptiness q) hold.Executor ∷ [])) (deeds p w.trace)
-own-look p w [] os z f t = record { told = t; stands = slow (slow-onto os (op.End reply.Yes hold.Executor ∷ []) z refl) }
+own-look : (p : ℕ) (w : World) (q : List ℕ) (os : List Op) → weigh hasty os ≡ 0 →
+    fresh p false (deeds p w.trace) ≡ true →
+    told p false (deeds p w.trace) ≡ true →
+    Prompt p (os ++ reverse (op.End (emptiness q) hold.Executor ∷ [])) (deeds p w.trace)
+own-look p w [] os z f t =
+    record { told = t; stands = slow (slow-onto os (op.End reply.Yes hold.Executor ∷ []) z refl) }
 own-look p w (g ∷ gs) os z f t = record { told = t; stands = quick os (op.End reply.No hold.Executor) refl z f }
 
 own-quick : (p : ℕ) (h : Hint) (o : Op) (w : World) (os : List Op) → hasty o ≡ 1 → weigh hasty os ≡ 0 →
@@ -146,14 +163,17 @@ own-quick p h (op.Table table_op.LookAtTable) w os c z f t = own-look p w w.tabl
 own-quick p h (op.End reply.No held) w os c z f t = own-end p w os reply.No held (z, inr f) t
 own-quick p h _ w os c z f t = absurd (cc)
 
-own-slow : (p : ℕ) (h : Hint) (o : Op) (w : World) (os : List Op) (b : Bool) → is_end o ≡ b → hasty o ≡ 0 → weigh hasty os ≡ 0 →
-    told p false (deeds p w.trace) ≡ true → Prompt p (os ++ reverse (act p h o w).next) (deeds p (act p h o w).world.trace)
+own-slow : (p : ℕ) (h : Hint) (o : Op) (w : World) (os : List Op) (b : Bool) → is_end o ≡ b → hasty o ≡ 0 →
+    weigh hasty os ≡ 0 →
+    told p false (deeds p w.trace) ≡ true →
+    Prompt p (os ++ reverse (act p h o w).next) (deeds p (act p h o w).world.trace)
 own-slow p h o w os false n c z t = slowly p w os (act p h o w) (grows-act p h o w n) z (slow-act p h o w c n) t
 own-slow p h (op.End r held) w os true n c z t = own-end p w os r held (z, inl c) t
 own-slow p h _ w os true n c z t = absurd (cc)
 
 own-act : (p : ℕ) (h : Hint) (o : Op) (w : World) (os : List Op) → Parted p os o (deeds p w.trace) →
-    told p false (deeds p w.trace) ≡ true → Prompt p (os ++ reverse (act p h o w).next) (deeds p (act p h o w).world.trace)
+    told p false (deeds p w.trace) ≡ true →
+    Prompt p (os ++ reverse (act p h o w).next) (deeds p (act p h o w).world.trace)
 own-act p h o w os x t = ⊎_elim
     (λ (c : hasty o ≡ 0). own-slow p h o w os (is_end o) refl c x.0 t)
     (λ (c : hasty o ≡ 1). ⊎_elim
@@ -176,7 +196,8 @@ slow-react p _ _ w = refl
 
 -- a call begins
 
-slow-with : (w : World) (o : Option ℕ) (d : ℕ → Done) → ((f : ℕ) → weigh hasty (d f).next ≡ 0) → weigh hasty (with_future w o d).next ≡ 0
+slow-with : (w : World) (o : Option ℕ) (d : ℕ → Done) → ((f : ℕ) → weigh hasty (d f).next ≡ 0) →
+    weigh hasty (with_future w o d).next ≡ 0
 slow-with w (Some f) d k = k f
 slow-with w None d k = refl
 
@@ -209,9 +230,11 @@ own-begun p w here c os z t = record { told = told-begun p w here c t; stands = 
 
     go : (x : Call) → Stands p (os ++ reverse (begun p (v x) here x).next) (deeds p (begun p (v x) here x).world.trace)
     go call.Spawn = as-slow call.Spawn refl
-    go call.TryTick = quick os (op.Queue queue_op.Take) refl z (fresh-log p w.trace (event.CallBegun p call.TryTick) refl
+    go call.TryTick = quick os (op.Queue queue_op.Take) refl z
+        (fresh-log p w.trace (event.CallBegun p call.TryTick) refl
         ∙ self-begun p call.TryTick)
-    go call.IsEmpty = quick os (op.Table table_op.LookAtTable) refl z (fresh-log p w.trace (event.CallBegun p call.IsEmpty) refl
+    go call.IsEmpty = quick os (op.Table table_op.LookAtTable) refl z
+        (fresh-log p w.trace (event.CallBegun p call.IsEmpty) refl
         ∙ self-begun p call.IsEmpty)
     go (call.Wake k) = as-slow (call.Wake k) (slow-with (v (call.Wake k)) (kept w k) _ (λ f. refl))
     go (call.WakeByRef k) = as-slow (call.WakeByRef k) (slow-with (v (call.WakeByRef k)) (kept w k) _ (λ f. refl))
@@ -254,7 +277,8 @@ first : (a : Bool) (e : StepError) (r : Option StepError) → unless a e r ≡ N
 first true e r k = refl
 first false e r k = absurd (cc)
 
-prompt-moves : (s : Machine) (p : ℕ) (old rest : List Op) (d : Done) → Good s → p < length s.parties → stack s p ≡ rest ++ reverse old →
+prompt-moves : (s : Machine) (p : ℕ) (old rest : List Op) (d : Done) → Good s → p < length s.parties →
+    stack s p ≡ rest ++ reverse old →
     Way s p old rest d → Prompts s → Prompts (unsettled s p rest d)
 prompt-moves s p old rest d good l e (acted t o q z) h =
     let e2 : stack s p ≡ rest ++ o ∷ [] = subst (λ (os : List Op). stack s p ≡ rest ++ reverse os) q e in
@@ -262,14 +286,16 @@ prompt-moves s p old rest d good l e (acted t o q z) h =
     (own-act p t o s.world rest (parted p (stack s p) rest o (deeds p s.world.trace) e2 (h p).stands) (h p).told) h)
 prompt-moves s p old rest d good l e (reacted o u a q z) h =
     let e2 : stack s p ≡ rest ++ o ∷ [] = subst (λ (os : List Op). stack s p ≡ rest ++ reverse os) q e in
-    let x : Parted p rest o (deeds p s.world.trace) = parted p (stack s p) rest o (deeds p s.world.trace) e2 (h p).stands in
+    let x : Parted p rest o (deeds p s.world.trace) =
+    parted p (stack s p) rest o (deeds p s.world.trace) e2 (h p).stands in
     rw z (turned s p rest (react p o u s.world) l (λ n k. deeds-other p n s.world (react p o u s.world).world
     (grows-react p o u s.world) k) (slowly p s.world rest (react p o u s.world) (grows-react p o u s.world) x.0
     (slow-react p o u s.world) (h p).told) h)
 prompt-moves s p old rest d good l e (called c q r n z) h =
     let here : Option ℕ = polled_by (top (stack s p)) in
     let free : is_free (top (stack s p)) ≡ true = first (is_free (top (stack s p))) Busy _ n in
-    let w : weigh hasty rest ≡ 0 = ap (weigh hasty) r ∙ free-slow p (stack s p) (deeds p s.world.trace) free (h p).stands in
+    let w : weigh hasty rest ≡ 0 = ap (weigh hasty) r ∙ free-slow p (stack s p) (deeds p s.world.trace) free
+    (h p).stands in
     rw z (turned s p rest (begun p (log s.world (event.CallBegun p c)) here c) l (others-begun p s.world here c)
     (own-begun p s.world here c rest w (h p).told) h)
 
@@ -277,14 +303,17 @@ prompt-ends : (s : Machine) (p : ℕ) (a : Reply) (held : Hold) (below : List Op
     stack s p ≡ below ++ reverse (op.End a held ∷ []) → Prompts s →
     Prompts (unsettled s p below (done (log s.world (event.CallEnded p a)) []))
 prompt-ends s p a held below l e h =
-    turned s p below (done (log s.world (event.CallEnded p a)) []) l (λ q k. deeds-other_log p q s.world.trace (event.CallEnded p a) refl k)
-    (own-end p s.world below a held (parted p (stack s p) below (op.End a held) (deeds p s.world.trace) e (h p).stands) (h p).told) h
+    turned s p below (done (log s.world (event.CallEnded p a)) []) l
+    (λ q k. deeds-other_log p q s.world.trace (event.CallEnded p a) refl k)
+    (own-end p s.world below a held (parted p (stack s p) below (op.End a held) (deeds p s.world.trace) e (h p).stands)
+    (h p).told) h
 
 prompt-start : (limit n : ℕ) → Prompts (start limit n)
 prompt-start limit n q = record { told = refl; stands = slow (ap (weigh hasty) (idle-stack n q)) }
 
 prompt : (limit n : ℕ) (ts : List Step) → Prompts (run ts (start limit n))
-prompt limit n ts = along Prompts prompt-moves prompt-ends ts (start limit n) (good-start limit n) (prompt-start limit n)
+prompt limit n ts = along Prompts prompt-moves prompt-ends ts (start limit n) (good-start limit n)
+    (prompt-start limit n)
 
 -- in the words of the trace
 
@@ -326,7 +355,8 @@ last-begun p b (x ∷ es) e = ⊎_elim
     )
     alone _ ys z k = absurd (cc)
 
-pub no-comes-at-once : (limit parties : ℕ) (steps : List Step) (p : ℕ) → NoComesAtOnce p (run steps (start limit parties)).world.trace
+pub no-comes-at-once : (limit parties : ℕ) (steps : List Step) (p : ℕ) →
+    NoComesAtOnce p (run steps (start limit parties)).world.trace
 no-comes-at-once limit parties steps p before later e =
     let ds : Trace = deeds p (run steps (start limit parties)).world.trace in
     let t : told p false (before ++ event.CallEnded p reply.No ∷ later) ≡ true = sym (ap (told p false) e)
@@ -334,7 +364,8 @@ no-comes-at-once limit parties steps p before later e =
     let both : (told p false before && told p (fresh p false before) (event.CallEnded p reply.No ∷ later)) ≡ true =
     sym (told-append p false before (event.CallEnded p reply.No ∷ later)) ∙ t in
     let f : fresh p false before ≡ true =
-    or-off (fresh p false before) (left-true (fresh p false before || false) _ (right-true (told p false before) _ both)) in
+    or-off (fresh p false before)
+    (left-true (fresh p false before || false) _ (right-true (told p false before) _ both)) in
     ⊎_elim
     (λ (k : (before ≡ []) × (false ≡ true)). let z : false ≡ true = k.1 in absurd (cc))
     (λ (k : (earlier : Trace) × (c : Call) × (before ≡ earlier ++ event.CallBegun p c ∷ [])). k)

@@ -1,5 +1,6 @@
 -- A party that may be answered no next has done nothing since its call began.
-use Rattle.std.proofs.Common.{◌≡◌, ◌≢◌, ◌⊎◌, ℕ, ◌≤◌, List, [], ◌∷◌, ◌++◌, Bool, true, false, ◌||◌, ◌&&◌, not, cond, refl, ap, ◌∙◌, inl, inr, ⊎_elim, arith, append-nil}
+use Rattle.std.proofs.Common.{◌≡◌, ◌≢◌, ◌⊎◌, ℕ, ◌≤◌, List, [], ◌∷◌, ◌++◌, Bool, true, false, ◌||◌, ◌&&◌, not}
+use Rattle.std.proofs.Common.{cond, refl, ap, ◌∙◌, inl, inr, ⊎_elim, arith, append-nil}
 use Rattle.std.proofs.lemmas.Bool.Decides.{nat_tests}
 use Rattle.std.proofs.lemmas.List.Elements.{filter-append}
 use Rattle.std.specs.List.{filter}
@@ -8,7 +9,8 @@ use Rattle.executor_parts.specs.Sleepers.{waker_at, waker_of}
 use Rattle.task_moves.specs.declared.moves.owed.Answer.{Answer}
 use Rattle.task_moves.specs.declared.moves.owed.Answer.TheVariants.{Refused, Pending, Closed, Output}
 use Rattle.task_moves.specs.declared.moves.owed.AwaiterDebt.{AwaiterDebt}
-use Rattle.task_moves.specs.declared.moves.owed.AwaiterDebt.TheVariants.{NotifyAwaiter, NotifyOther, CallGiven, StoreCopy, CallStored, TakeAwaiter, CallTaken}
+use Rattle.task_moves.specs.declared.moves.owed.AwaiterDebt.TheVariants.{NotifyAwaiter, NotifyOther, CallGiven}
+use Rattle.task_moves.specs.declared.moves.owed.AwaiterDebt.TheVariants.{StoreCopy, CallStored, TakeAwaiter, CallTaken}
 use Rattle.task_moves.specs.declared.moves.owed.Moved.{Moved}
 use Rattle.task_moves.specs.Moves as moves
 use Rattle.executor_model.specs.declared.call.Reply.TheVariants as reply
@@ -32,7 +34,11 @@ use Rattle.executor_model.specs.Quiet.{begins_call}
 use Rattle.executor_model.specs.Trace.{Trace, has}
 use Rattle.executor_model.specs.World.{World, Tick, Up, Lies, Left, task, awaiter_of}
 use Rattle.executor_model.specs.Carried.{awaiter_ops}
-use Rattle.executor_model.specs.Acts.{enter_by, copy_by, answered, polled, look_by, let_go, look_again_by, copy_awaiter_by, register_by, end_register_by, make_tick_by, run_found, search_by, copy_sleeper_by, pend_tick, lie_anew_by, sleeper_goes, lie_listed_by, lie_again_by, lie_down_by, get_up_by, tell_if, end_drop, leave_sleepers_by, tick_act, act}
+use Rattle.executor_model.specs.Acts.{enter_by, copy_by, answered, polled, look_by, let_go, look_again_by}
+use Rattle.executor_model.specs.Acts.{copy_awaiter_by, register_by, end_register_by, make_tick_by}
+use Rattle.executor_model.specs.Acts.{run_found, search_by, copy_sleeper_by, pend_tick, lie_anew_by}
+use Rattle.executor_model.specs.Acts.{sleeper_goes, lie_listed_by, lie_again_by, lie_down_by, get_up_by}
+use Rattle.executor_model.specs.Acts.{tell_if, end_drop, leave_sleepers_by, tick_act, act}
 use Rattle.executor_model.specs.Weights.{weigh}
 use Rattle.executor_model.proofs.Calls.{calling_of}
 use Rattle.executor_model.proofs.CallsGroups.{calls-act}
@@ -110,25 +116,30 @@ skips false e es q = refl
 
 filter-none : (t : Event → Bool) (es : Trace) → has t es ≡ false → filter t es ≡ []
 filter-none t [] k = refl
-filter-none t (e ∷ es) k = skips (t e) e (filter t es) (left-false (t e) (has t es) k) ∙ filter-none t es (right-false (t e) (has t es) k)
+filter-none t (e ∷ es) k = skips (t e) e (filter t es) (left-false (t e) (has t es) k)
+    ∙ filter-none t es (right-false (t e) (has t es) k)
 
-kept-has : (b : Bool) (u : Event → Bool) (e : Event) (es : Trace) → u e ≡ false → has u es ≡ false → has u (cond b (e ∷ es) es) ≡ false
+kept-has : (b : Bool) (u : Event → Bool) (e : Event) (es : Trace) → u e ≡ false → has u es ≡ false →
+    has u (cond b (e ∷ es) es) ≡ false
 kept-has true u e es h r = ap (λ (x : Bool). x || has u es) h ∙ r
 kept-has false u e es h r = r
 
 filter-has : (t u : Event → Bool) (es : Trace) → has u es ≡ false → has u (filter t es) ≡ false
 filter-has t u [] k = refl
 filter-has t u (e ∷ es) k =
-    kept-has (t e) u e (filter t es) (left-false (u e) (has u es) k) (filter-has t u es (right-false (u e) (has u es) k))
+    kept-has (t e) u e (filter t es) (left-false (u e) (has u es) k)
+    (filter-has t u es (right-false (u e) (has u es) k))
 
 pub deeds-other : (p q : ℕ) (w v : World) → Grows p w v → q ≢ p → deeds q v.trace ≡ deeds q w.trace
 deeds-other p q w v g n =
     ap (deeds q) g.is ∙ (filter-append (is_by q) w.trace g.more
-    ∙ (ap (λ (xs : Trace). deeds q w.trace ++ xs) (filter-none (is_by q) g.more (g.own q n)) ∙ append-nil (deeds q w.trace)))
+    ∙ (ap (λ (xs : Trace). deeds q w.trace ++ xs) (filter-none (is_by q) g.more (g.own q n))
+    ∙ append-nil (deeds q w.trace)))
 
 pub deeds-other_log : (p q : ℕ) (es : Trace) (e : Event) → doer e ≡ p → q ≢ p → deeds q (es ++ e ∷ []) ≡ deeds q es
 deeds-other_log p q es e d n = filter-append (is_by q) es (e ∷ [])
-    ∙ (ap (λ (xs : Trace). deeds q es ++ xs) (filter-none (is_by q) (e ∷ []) (ap (λ (x : Bool). x || false) (not-by p q e d n)))
+    ∙ (ap (λ (xs : Trace). deeds q es ++ xs)
+    (filter-none (is_by q) (e ∷ []) (ap (λ (x : Bool). x || false) (not-by p q e d n)))
     ∙ append-nil (deeds q es))
 
 self : (p : ℕ) (e : Event) → doer e ≡ p → is_by p e ≡ true
@@ -141,13 +152,15 @@ deeds-own p es e d = filter-push (is_by p) (λ (x : Event). true) es e ∙ go (i
     go true q = refl
     go false q = absurd (cc)
 
-pub told-grows : (p : ℕ) (w v : World) → Grows p w v → told p false (deeds p w.trace) ≡ true → told p false (deeds p v.trace) ≡ true
+pub told-grows : (p : ℕ) (w v : World) → Grows p w v → told p false (deeds p w.trace) ≡ true →
+    told p false (deeds p v.trace) ≡ true
 told-grows p w v g t =
     ap (λ (xs : Trace). told p false (deeds p xs)) g.is
     ∙ (ap (told p false) (filter-append (is_by p) w.trace g.more)
     ∙ (told-append p false (deeds p w.trace) (filter (is_by p) g.more)
     ∙ both (told p false (deeds p w.trace)) (told p (fresh p false (deeds p w.trace)) (filter (is_by p) g.more)) t
-    (told-endless p (fresh p false (deeds p w.trace)) (filter (is_by p) g.more) (filter-has (is_by p) ends_one g.more g.none_ends))))
+    (told-endless p (fresh p false (deeds p w.trace)) (filter (is_by p) g.more)
+    (filter-has (is_by p) ends_one g.more g.none_ends))))
 
 pub told-log : (p : ℕ) (es : Trace) (e : Event) → doer e ≡ p → (fresh p false (deeds p es) || not (is_no e)) ≡ true →
     told p false (deeds p es) ≡ true → told p false (deeds p (es ++ e ∷ [])) ≡ true
@@ -189,20 +202,27 @@ slow-awaiter f (Some CallTaken) = refl
 slow-awaiter f None = refl
 
 slow-answered : (p : ℕ) (w : World) (f : ℕ) (m : Moved) (a : Answer) → weigh hasty (answered p w f m a).next ≡ 0
-slow-answered p w f m Refused = weigh-append hasty (awaiter_ops f m.owed.awaiter) _ ∙ omega (arith, slow-awaiter f m.owed.awaiter)
-slow-answered p w f m Pending = weigh-append hasty (awaiter_ops f m.owed.awaiter) _ ∙ omega (arith, slow-awaiter f m.owed.awaiter)
-slow-answered p w f m Closed = weigh-append hasty (awaiter_ops f m.owed.awaiter) _ ∙ omega (arith, slow-awaiter f m.owed.awaiter)
-slow-answered p w f m Output = weigh-append hasty (awaiter_ops f m.owed.awaiter) _ ∙ omega (arith, slow-awaiter f m.owed.awaiter)
+slow-answered p w f m Refused = weigh-append hasty (awaiter_ops f m.owed.awaiter) _
+    ∙ omega (arith, slow-awaiter f m.owed.awaiter)
+slow-answered p w f m Pending = weigh-append hasty (awaiter_ops f m.owed.awaiter) _
+    ∙ omega (arith, slow-awaiter f m.owed.awaiter)
+slow-answered p w f m Closed = weigh-append hasty (awaiter_ops f m.owed.awaiter) _
+    ∙ omega (arith, slow-awaiter f m.owed.awaiter)
+slow-answered p w f m Output = weigh-append hasty (awaiter_ops f m.owed.awaiter) _
+    ∙ omega (arith, slow-awaiter f m.owed.awaiter)
 
-slow-look : (o : Option Answer) (p : ℕ) (w : World) (f : ℕ) (a : Waker) (m : Moved) → weigh hasty (look_by o p w f a m).next ≡ 0
+slow-look : (o : Option Answer) (p : ℕ) (w : World) (f : ℕ) (a : Waker) (m : Moved) →
+    weigh hasty (look_by o p w f a m).next ≡ 0
 slow-look None p w f a m = refl
 slow-look (Some x) p w f a m = slow-answered p (polled p w f) f m x
 
-slow-again : (o : Option Answer) (p : ℕ) (w : World) (f : ℕ) (m : Moved) → weigh hasty (look_again_by o p w f m).next ≡ 0
+slow-again : (o : Option Answer) (p : ℕ) (w : World) (f : ℕ) (m : Moved) →
+    weigh hasty (look_again_by o p w f m).next ≡ 0
 slow-again None p w f m = refl
 slow-again (Some x) p w f m = slow-answered p w f m x
 
-slow-copy_awaiter : (b : Bool) (p : ℕ) (w : World) (f : ℕ) (a : Waker) → weigh hasty (copy_awaiter_by b p w f a).next ≡ 0
+slow-copy_awaiter : (b : Bool) (p : ℕ) (w : World) (f : ℕ) (a : Waker) →
+    weigh hasty (copy_awaiter_by b p w f a).next ≡ 0
 slow-copy_awaiter true p w f a = refl
 slow-copy_awaiter false p w f a = refl
 
@@ -214,11 +234,13 @@ slow-let_go : (f : ℕ) (o : Option Awaiter) → weigh hasty (let_go o ++ op.Han
 slow-let_go f None = refl
 slow-let_go f (Some a) = go a.waker
   where
-    go : (x : Waker) → weigh hasty (let_go (Some (record a { waker = x })) ++ op.Handle (handle_op.LookAgain f) ∷ []) ≡ 0
+    go : (x : Waker) → weigh hasty (let_go (Some (record a { waker = x })) ++ op.Handle (handle_op.LookAgain f) ∷ [])
+        ≡ 0
     go (Task g) = refl
     go (Outside x) = refl
 
-slow-end_register : (b : Bool) (w : World) (f : ℕ) (a : Waker) (k : ℕ) → weigh hasty (end_register_by b w f a k).next ≡ 0
+slow-end_register : (b : Bool) (w : World) (f : ℕ) (a : Waker) (k : ℕ) →
+    weigh hasty (end_register_by b w f a k).next ≡ 0
 slow-end_register true w f a k = omega (arith, slow-let_go f (awaiter_of w f))
 slow-end_register false w f a k = slow-let_go f (awaiter_of w f)
 
@@ -298,7 +320,8 @@ slow-calling : (p : ℕ) (h : Hint) (o : Op) (w : World) → calling_of o ≡ 1 
     weigh hasty (act p h o w).next ≡ 0
 slow-calling p h (op.Table table_op.Enter) w c z n = slow-enter _ _ p w
 slow-calling p h (op.Waker (waker_op.CopyWaker f held)) w c z n = slow-copy _ w f held
-slow-calling p h (op.Handle (handle_op.Look f a)) w c z n = slow-look (moves.poll (task w f)).owed.answer p w f a (moves.poll (task w f))
+slow-calling p h (op.Handle (handle_op.Look f a)) w c z n =
+    slow-look (moves.poll (task w f)).owed.answer p w f a (moves.poll (task w f))
 slow-calling p h (op.Handle (handle_op.CopyAwaiter f a)) w c z n = slow-copy_awaiter _ p w f a
 slow-calling p h (op.Handle (handle_op.Register f a k)) w c z n = slow-register _ w f a k
 slow-calling p h (op.Handle (handle_op.EndRegister f a k)) w c z n = slow-end_register _ w f a k
@@ -307,7 +330,8 @@ slow-calling p h (op.Handle (handle_op.LookAgain f)) w c z n =
 slow-calling p h (op.Tick o) w c z n = slow-tick h o w
 slow-calling p h _ w c z n = absurd (cc)
 
-pub slow-act : (p : ℕ) (h : Hint) (o : Op) (w : World) → hasty o ≡ 0 → is_end o ≡ false → weigh hasty (act p h o w).next ≡ 0
+pub slow-act : (p : ℕ) (h : Hint) (o : Op) (w : World) → hasty o ≡ 0 → is_end o ≡ false →
+    weigh hasty (act p h o w).next ≡ 0
 slow-act p h o w z n = ⊎_elim
     (λ (c : calling_of o ≡ 0). omega (arith, hasty-calling-all (act p h o w).next, (calls-act p h o w n).passes.none c))
     (λ (c : calling_of o ≡ 1). slow-calling p h o w c z n)

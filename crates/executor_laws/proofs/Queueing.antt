@@ -1,5 +1,6 @@
 -- Each step changes the queue as a closable queue changes.
-use Rattle.std.proofs.Common.{◌≡◌, ℕ, ◌+◌, ◌-◌, ◌<◌, ◌≤◌, List, [], ◌∷◌, ◌++◌, length, drop, Bool, true, false, ◌&&◌, not, ltb, refl, sym, ap, ◌∙◌, subst, arith, length-append, Result}
+use Rattle.std.proofs.Common.{◌≡◌, ℕ, ◌+◌, ◌-◌, ◌<◌, ◌≤◌, List, [], ◌∷◌, ◌++◌, length, drop, Bool, true, false, ◌&&◌}
+use Rattle.std.proofs.Common.{not, ltb, refl, sym, ap, ◌∙◌, subst, arith, length-append, Result}
 use Rattle.std.proofs.lemmas.Bool.Decides.{nat_tests}
 use Rattle.std.specs.Prelude.{Option, Some, None, reverse}
 use Rattle.queue_steps.specs.ClosableQueue.{ClosableQueue, most_accepted, HasRoom, appended, taken, shut}
@@ -38,8 +39,12 @@ use Rattle.executor_model.specs.declared.step.StepError.TheVariants.{NoSuch}
 use Rattle.executor_model.specs.declared.step.UserEnd.{UserEnd}
 use Rattle.executor_model.specs.declared.step.UserEnd.TheVariants as end
 use Rattle.executor_model.specs.World.{World, Tick, Done, log, log_if, task, put}
-use Rattle.executor_model.specs.Acts.{append_by, take_by, enter_by, leave_by, copy_by, look_by, look_again_by, copy_awaiter_by, register_by, end_register_by, notify_by, search_by, call_waker, tick_act, drop_next_by, wake_next_by, drain_by, act}
-use Rattle.executor_model.specs.Steps.{Machine, stack, top, below_top, refusal, go_refusal, unless, begun, react, polled_by, kept, with_future, settled_by, gone_on, after, step, stepped, run, start}
+use Rattle.executor_model.specs.Acts.{append_by, take_by, enter_by, leave_by, copy_by, look_by, look_again_by}
+use Rattle.executor_model.specs.Acts.{copy_awaiter_by, register_by, end_register_by, notify_by, search_by, call_waker}
+use Rattle.executor_model.specs.Acts.{tick_act, drop_next_by, wake_next_by, drain_by, act}
+use Rattle.executor_model.specs.Steps.{Machine, stack, top, below_top, refusal, go_refusal, unless}
+use Rattle.executor_model.specs.Steps.{begun, react, polled_by, kept, with_future, settled_by}
+use Rattle.executor_model.specs.Steps.{gone_on, after, step, stepped, run, start}
 use Rattle.executor_model.proofs.Lift.{topped, good}
 use Rattle.executor_model.proofs.LeavingRuns.{placed, has-place}
 use Rattle.executor_model.proofs.Entering.{finds-place}
@@ -62,7 +67,8 @@ turns-append true l w f e = same refl
 turns-append false true w f e = more f refl e refl
 turns-append false false w f e = same refl
 
-turns-take : (w : World) (items : List ℕ) → w.queue.items ≡ items → Turns (op.Queue queue_op.Take) w.queue (take_by w items).world.queue
+turns-take : (w : World) (items : List ℕ) → w.queue.items ≡ items →
+    Turns (op.Queue queue_op.Take) w.queue (take_by w items).world.queue
 turns-take w [] e = same refl
 turns-take w (f ∷ rest) e = less f rest e refl
 
@@ -90,11 +96,13 @@ copies : (b : Bool) (w : World) (f : ℕ) (held : Hold) → (copy_by b w f held)
 copies true w f held = refl
 copies false w f held = refl
 
-looks : (a : Option Answer) (p : ℕ) (w : World) (f : ℕ) (x : Waker) (m : Moved) → (look_by a p w f x m).world.queue ≡ w.queue
+looks : (a : Option Answer) (p : ℕ) (w : World) (f : ℕ) (x : Waker) (m : Moved) →
+    (look_by a p w f x m).world.queue ≡ w.queue
 looks None p w f x m = refl
 looks (Some a) p w f x m = logged _ (put (log w (event.HandlePolled p f)) f m.state) (event.OutputGiven p f)
 
-looks-again : (a : Option Answer) (p : ℕ) (w : World) (f : ℕ) (m : Moved) → (look_again_by a p w f m).world.queue ≡ w.queue
+looks-again : (a : Option Answer) (p : ℕ) (w : World) (f : ℕ) (m : Moved) →
+    (look_again_by a p w f m).world.queue ≡ w.queue
 looks-again None p w f m = refl
 looks-again (Some a) p w f m = logged _ (put w f m.state) (event.OutputGiven p f)
 
@@ -124,7 +132,8 @@ turns-search : (x : Tick) (w : World) (items : List ℕ) (s : Sleeping) → w.qu
 turns-search x w [] s e = same refl
 turns-search x w (f ∷ rest) s e = less f rest e refl
 
-turns-tick : (h : Hint) (o : TickOp) (w : World) (b : Bool) → searches o ≡ b → Turns (op.Tick o) w.queue (tick_act h o w).world.queue
+turns-tick : (h : Hint) (o : TickOp) (w : World) (b : Bool) → searches o ≡ b →
+    Turns (op.Tick o) w.queue (tick_act h o w).world.queue
 turns-tick h (tick_op.Search s) w b e = turns-search _ w w.queue.items s refl
 turns-tick h o w false e = same (sym (ap (λ (r : Rest). r.queue) (tick-rest h o w e)))
 turns-tick h _ w true e = absurd (cc)
@@ -148,7 +157,8 @@ turns-act p h (op.Move move.Cancel f) w = same (logged _ w (event.Cancelled p f)
 turns-act p h (op.Move move.Detach f) w = same (logged _ w (event.Detached p f))
 turns-act p h (op.Table (table_op.LeaveTable f)) w = same (leaves _ w f)
 turns-act p h (op.Waker (waker_op.CopyWaker f held)) w = same (copies _ w f held)
-turns-act p h (op.Handle (handle_op.Look f a)) w = same (looks (moves.poll (task w f)).owed.answer p w f a (moves.poll (task w f)))
+turns-act p h (op.Handle (handle_op.Look f a)) w =
+    same (looks (moves.poll (task w f)).owed.answer p w f a (moves.poll (task w f)))
 turns-act p h (op.Handle (handle_op.CopyAwaiter f a)) w = same (copies-awaiter _ p w f a)
 turns-act p h (op.Handle (handle_op.Register f a k)) w = same (registers _ w f a k)
 turns-act p h (op.Handle (handle_op.EndRegister f a k)) w = same (ends-register _ w f a k)
@@ -197,7 +207,8 @@ data Steps (s : Machine) (new : ClosableQueue ℕ) : Type 0 where
   shorter : (f : ℕ) (rest : List ℕ) → s.world.queue.items ≡ f ∷ rest → new ≡ taken s.world.queue → Steps s new
   shut-by : new ≡ shut s.world.queue → Steps s new
 
-by-act : (s : Machine) (p : ℕ) (o : Op) (v new : ClosableQueue ℕ) → top (stack s p) ≡ Some o → new ≡ v → Turns o s.world.queue v →
+by-act : (s : Machine) (p : ℕ) (o : Op) (v new : ClosableQueue ℕ) → top (stack s p) ≡ Some o → new ≡ v →
+    Turns o s.world.queue v →
     Steps s new
 by-act s p o v new e q (same x) = as-was (q ∙ x)
 by-act s p o v new e q (more f x c y) = longer p f (e ∙ ap (λ (z : Op). Some z) x) c (q ∙ y)
@@ -214,7 +225,8 @@ by-go s p h (Some o) e =
 by-answer : (s : Machine) (p : ℕ) (u : UserEnd) (x : Option Op) →
     Steps s (gone_on p s.world (stack s p) x (λ o. react p o u s.world)).world.queue
 by-answer s p u None = as-was refl
-by-answer s p u (Some o) = as-was (settles p (react p o u s.world).world (below_top (stack s p) ++ reverse (react p o u s.world).next) _
+by-answer s p u (Some o) =
+    as-was (settles p (react p o u s.world).world (below_top (stack s p) ++ reverse (react p o u s.world).next) _
     ∙ reacts p o u s.world)
 
 by-after : (s : Machine) (t : Step) → Steps s (after s t).world.queue
@@ -229,8 +241,10 @@ by-step : (s : Machine) (t : Step) → Steps s (stepped s (step s t)).world.queu
 by-step s t = go (refusal s t) refl
   where
     go : (r : Option StepError) → refusal s t ≡ r → Steps s (stepped s (step s t)).world.queue
-    go None e = subst (λ (x : Result Machine StepError). Steps s (stepped s x).world.queue) (sym (step-made s t e)) (by-after s t)
-    go (Some error) e = subst (λ (x : Result Machine StepError). Steps s (stepped s x).world.queue) (sym (step-refused s t error e))
+    go None e = subst (λ (x : Result Machine StepError). Steps s (stepped s x).world.queue) (sym (step-made s t e))
+        (by-after s t)
+    go (Some error) e = subst (λ (x : Result Machine StepError). Steps s (stepped s x).world.queue)
+        (sym (step-refused s t error e))
         (as-was refl)
 
 -- a step appends one Runnable at most
@@ -263,7 +277,8 @@ queueings-most (t ∷ ts) s = omega (
 
 -- as a queue that counts
 
-queueings-push : (ts : List Step) (t : Step) (s : Machine) → queueings (ts ++ t ∷ []) s ≡ queueings ts s + queued_by t (run ts s)
+queueings-push : (ts : List Step) (t : Step) (s : Machine) →
+    queueings (ts ++ t ∷ []) s ≡ queueings ts s + queued_by t (run ts s)
 queueings-push [] t s = omega arith
 queueings-push (x ∷ ts) t s = omega (arith, queueings-push ts t (stepped s (step s x)))
 
@@ -283,9 +298,11 @@ module _ (limit parties : ℕ) (steps : List Step) where
 
   -- one step later
   later : (t : Step) (q : ClosableQueue ℕ) (n : ℕ) → (stepped now (step now t)).world.queue ≡ q →
-      length q.items - length now.world.queue.items ≡ n → counted_after limit parties (steps ++ t ∷ []) ≡ counting (count + n) q
+      length q.items - length now.world.queue.items ≡ n →
+      counted_after limit parties (steps ++ t ∷ []) ≡ counting (count + n) q
   later t q n e k =
-      ap (λ (m : ℕ). counting m (run (steps ++ t ∷ []) (start limit parties)).world.queue) (queueings-push steps t (start limit parties)
+      ap (λ (m : ℕ). counting m (run (steps ++ t ∷ []) (start limit parties)).world.queue)
+      (queueings-push steps t (start limit parties)
       ∙ ap (λ (m : ℕ). count + m) (ap (λ (v : ClosableQueue ℕ). length v.items - length now.world.queue.items) e ∙ k))
       ∙ ap (counting (count + n)) (ap (λ (m : Machine). m.world.queue) (run-push steps t (start limit parties)) ∙ e)
 
@@ -295,24 +312,31 @@ module _ (limit parties : ℕ) (steps : List Step) where
   same-count : (q : ClosableQueue ℕ) → counting (count + 0) q ≡ counting count q
   same-count q = ap (λ (m : ℕ). counting m q) (let z : count + 0 ≡ count = omega arith in z)
 
-  changes-by : count < most_accepted → (t : Step) (q : ClosableQueue ℕ) → (stepped now (step now t)).world.queue ≡ q → Steps now q →
+  changes-by : count < most_accepted → (t : Step) (q : ClosableQueue ℕ) → (stepped now (step now t)).world.queue ≡ q →
+      Steps now q →
       Changes (counted_after limit parties steps) (counted_after limit parties (steps ++ t ∷ []))
   changes-by few t q e (as-was x) = stays (later t now.world.queue 0 (e ∙ x) (omega arith) ∙ same-count now.world.queue)
   changes-by few t q e (longer p f a c x) =
-      appends f c (has-room p f a) few (later t (appended now.world.queue f) 1 (e ∙ x) (count-more now.world.queue.items f))
+      appends f c (has-room p f a) few
+      (later t (appended now.world.queue f) 1 (e ∙ x) (count-more now.world.queue.items f))
   changes-by few t q e (shorter f rest a x) =
-      takes f rest a (later t (taken now.world.queue) 0 (e ∙ x) (count-less now.world.queue.items) ∙ same-count (taken now.world.queue))
-  changes-by few t q e (shut-by x) = closes (later t (shut now.world.queue) 0 (e ∙ x) (omega arith) ∙ same-count (shut now.world.queue))
+      takes f rest a (later t (taken now.world.queue) 0 (e ∙ x) (count-less now.world.queue.items)
+      ∙ same-count (taken now.world.queue))
+  changes-by few t q e (shut-by x) =
+      closes (later t (shut now.world.queue) 0 (e ∙ x) (omega arith) ∙ same-count (shut now.world.queue))
 
   -- who is about to append does
-  appends-now : (p : ℕ) (h : Hint) (f : ℕ) → top (stack now p) ≡ Some (op.Queue (queue_op.Append f)) → now.world.queue.closed ≡ false →
+  appends-now : (p : ℕ) (h : Hint) (f : ℕ) → top (stack now p) ≡ Some (op.Queue (queue_op.Append f)) →
+      now.world.queue.closed ≡ false →
       (stepped now (step now (Go p h))).world.queue ≡ appended now.world.queue f
   appends-now p h f e c =
       let l : p < length now.parties = in-range now p (op.Queue (queue_op.Append f)) e in
       let b : ltb p (length now.parties) ≡ true = grind (arith, nat_tests) in
-      let r : refusal now (Go p h) ≡ None = ap (λ (x : Bool). unless x NoSuch (go_refusal (top (stack now p)))) b ∙ ap go_refusal e in
+      let r : refusal now (Go p h) ≡ None = ap (λ (x : Bool). unless x NoSuch (go_refusal (top (stack now p)))) b
+      ∙ ap go_refusal e in
       let room : length now.world.queue.items < now.world.limit =
-      has-place now p f (below_top (stack now p)) l (topped (stack now p) (op.Queue (queue_op.Append f)) e) (good limit parties steps)
+      has-place now p f (below_top (stack now p)) l (topped (stack now p) (op.Queue (queue_op.Append f)) e)
+      (good limit parties steps)
       (placed limit parties steps) in
       let free : (not now.world.queue.closed && ltb (length now.world.queue.items) now.world.limit) ≡ true =
       ap (λ (x : Bool). not x && ltb (length now.world.queue.items) now.world.limit) c
@@ -328,6 +352,7 @@ counts-queueings limit parties steps = record {
   most = queueings-most steps (start limit parties);
   new = refl;
   changes = λ few t. changes-by limit parties steps few t _ refl (by-step (run steps (start limit parties)) t);
-  appends = λ few p h f e c. later limit parties steps (Go p h) (appended (run steps (start limit parties)).world.queue f) 1
+  appends = λ few p h f e c. later limit parties steps (Go p h)
+      (appended (run steps (start limit parties)).world.queue f) 1
       (appends-now limit parties steps p h f e c) (count-more (run steps (start limit parties)).world.queue.items f);
 }

@@ -21,7 +21,8 @@ run-first t ts s new e = go (refusal s t) refl
   where
     go : (r : Option StepError) → refusal s t ≡ r → (refusal s t ≡ None) × (run_all ts (after s t) ≡ Ok new)
     go None q = (q, sym (ap (then ts) (step-made s t q)) ∙ e)
-    go (Some error) q = let no : ◌≡◌ {A = Result Machine StepError} (Err error) (Ok new) = sym (ap (then ts) (step-refused s t error q))
+    go (Some error) q = let no : ◌≡◌ {A = Result Machine StepError} (Err error) (Ok new) =
+        sym (ap (then ts) (step-refused s t error q))
         ∙ e in absurd (cc)
 
 -- one possible step, and then others
@@ -51,7 +52,8 @@ reached-more ts s new r e = record {
   limit = r.limit;
   parties = r.parties;
   steps = r.steps ++ ts;
-  is = sym (run-of ts s new e) ∙ (ap (λ (m : Machine). run ts m) r.is ∙ sym (run-append r.steps ts (start r.limit r.parties)));
+  is = sym (run-of ts s new e)
+      ∙ (ap (λ (m : Machine). run ts m) r.is ∙ sym (run-append r.steps ts (start r.limit r.parties)));
 }
 
 pub reached-step : (s : Machine) (t : Step) → refusal s t ≡ None → Reached s → Reached (after s t)

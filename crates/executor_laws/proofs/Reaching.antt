@@ -1,5 +1,7 @@
 -- Lone calls that look for a future reach the common ones.
-use Rattle.std.proofs.Common.{◌≡◌, ◌≢◌, eqb, ℕ, zero, suc, ◌<◌, ◌≤◌, List, [], ◌∷◌, ◌++◌, length, drop, Bool, true, false, ◌||◌, refl, sym, ap, ◌∙◌, ⊎_elim, arith, append-nil, append_assoc, length-append, Ok}
+use Rattle.std.proofs.Common.{◌≡◌, ◌≢◌, eqb, ℕ, zero, suc, ◌<◌, ◌≤◌, List, [], ◌∷◌, ◌++◌, length}
+use Rattle.std.proofs.Common.{drop, Bool, true, false, ◌||◌, refl, sym, ap, ◌∙◌, ⊎_elim, arith}
+use Rattle.std.proofs.Common.{append-nil, append_assoc, length-append, Ok}
 use Rattle.std.proofs.Math.Seq.{drop-append_seam}
 use Rattle.std.proofs.lemmas.List.Folds.{list_any-append}
 use Rattle.std.specs.Prelude.{Some}
@@ -22,7 +24,8 @@ use Rattle.executor_model.proofs.Lists.{same_cases}
 use Rattle.executor_model.proofs.Stories.{no-longer}
 use Rattle.executor_model.proofs.Entering.{queue-agrees}
 use Rattle.executor_laws.specs.Continued.{IsContinued}
-use Rattle.executor_laws.specs.Reach.{found_answer, IsLoneCall, LoneSearch, AreLoneSearches, takes, TakesCommon, since, HasCommons, IsInReach, IsReachedInOrder}
+use Rattle.executor_laws.specs.Reach.{found_answer, IsLoneCall, LoneSearch, AreLoneSearches, takes, TakesCommon}
+use Rattle.executor_laws.specs.Reach.{since, HasCommons, IsInReach, IsReachedInOrder}
 use Rattle.executor_laws.proofs.Ticking.{due-queued, queued-due, first-times}
 use Rattle.executor_laws.proofs.Growing.{run-continues}
 use Rattle.executor_laws.proofs.Reached.{Reached, run-of, good-here, heard-here, deep-here}
@@ -36,7 +39,13 @@ module _ (s : Machine) (r : Reached s) (rest : IsAtRest s) where
   takes-common f common p c a e steps new k = go s.world.queue.items refl
     where
       go : (items : List ℕ) → s.world.queue.items ≡ items → TakesCommon p c a s new
-      go [] q = absurd (omega (arith, due-queued s (good-here s r) (heard-here s r) (deep-here s r) rest f common.due, ap (times f) q))
+      go [] q =
+          absurd
+          (omega (
+            arith,
+            due-queued s (good-here s r) (heard-here s r) (deep-here s r) rest f common.due,
+            ap (times f) q,
+          ))
       go (g ∷ xs) q =
           let t : First g xs p c a s new = first-taken s r rest p c a e steps new k g xs q in
           record {
@@ -72,8 +81,10 @@ grows-and s next new x y = record {
 }
 
 grows : (ts : List LoneSearch) (s new : Machine) → AreLoneSearches ts s new → Grows s new
-grows [] s new e = record { grown = []; trace = sym (ap (λ (m : Machine). m.world.trace) e) ∙ sym (append-nil s.world.trace) }
-grows (t ∷ ts) s new k = grows-and s k.0 new (run-grows (Begin t.party t.call ∷ t.steps) s k.0 k.1.made) (grows ts k.0 new k.2)
+grows [] s new e =
+    record { grown = []; trace = sym (ap (λ (m : Machine). m.world.trace) e) ∙ sym (append-nil s.world.trace) }
+grows (t ∷ ts) s new k = grows-and s k.0 new (run-grows (Begin t.party t.call ∷ t.steps) s k.0 k.1.made)
+    (grows ts k.0 new k.2)
 
 or-left : (a b : Bool) → a ≡ true → (a || b) ≡ true
 or-left true b e = refl
@@ -92,16 +103,19 @@ has-around : (f p : ℕ) (c : Call) (a : Reply) (es : Trace) → has (takes f) e
 has-around f p c a es e = list_any-append (takes f) es (event.CallEnded p a ∷ []) ∙ ap (λ (b : Bool). b || false) e
 
 -- the first in the queue is taken first
-takes-place : (ts : List LoneSearch) (s new : Machine) → Reached s → IsAtRest s → (front : List ℕ) (f : ℕ) (back : List ℕ) →
+takes-place : (ts : List LoneSearch) (s new : Machine) → Reached s → IsAtRest s →
+    (front : List ℕ) (f : ℕ) (back : List ℕ) →
     s.world.queue.items ≡ front ++ f ∷ back → length front < length ts → AreLoneSearches ts s new → Takes f s new
 takes-place [] s new r rest front f back q l k = absurd (omega (arith, l))
 takes-place (t ∷ ts) s new r rest [] f back q l k =
-    let x : First f back t.party t.call t.found s k.0 = first-taken s r rest t.party t.call t.found t.searches t.steps k.0 k.1 f back q in
+    let x : First f back t.party t.call t.found s k.0 = first-taken s r rest t.party t.call t.found t.searches t.steps
+    k.0 k.1 f back q in
     let y : Grows k.0 new = grows ts k.0 new k.2 in
     let event-list : Trace = event.CallBegun t.party t.call ∷ (x.meanwhile ++ event.CallEnded t.party t.found ∷ []) in
     record {
       grows = grows-and s k.0 new (record { grown = event-list; trace = x.events }) y;
-      taken = list_any-append (takes f) event-list y.grown ∙ or-left _ _ (has-around f t.party t.call t.found x.meanwhile x.taken);
+      taken = list_any-append (takes f) event-list y.grown
+          ∙ or-left _ _ (has-around f t.party t.call t.found x.meanwhile x.taken);
     }
 takes-place (t ∷ ts) s new r rest (g ∷ front) f back q l k =
     let x : First g (front ++ f ∷ back) t.party t.call t.found s k.0 =
@@ -124,7 +138,8 @@ record Place (f : ℕ) (xs : List ℕ) : Type 0 where
 place : (f : ℕ) (xs : List ℕ) → 1 ≤ times f xs → Place f xs
 place f [] k = absurd (omega (arith, k))
 place f (g ∷ xs) k = ⊎_elim
-    (λ (x : (same f g ≡ 1) × (eqb f g ≡ true) × (f ≡ g)). record { front = []; back = xs; is = ap (λ (y : ℕ). y ∷ xs) (sym x.2) })
+    (λ (x : (same f g ≡ 1) × (eqb f g ≡ true) × (f ≡ g)).
+    record { front = []; back = xs; is = ap (λ (y : ℕ). y ∷ xs) (sym x.2) })
     (λ (x : (same f g ≡ 0) × (eqb f g ≡ false) × (f ≢ g)). let y : Place f xs = place f xs (omega (
       arith,
       k,
@@ -140,8 +155,13 @@ module _ (s : Machine) (r : Reached s) (rest : IsAtRest s) where
       by : (g n : ℕ) → times g s.world.queue.items ≡ n → times g s.world.queue.items ≤ times g commons
       by g zero e = omega (arith, e)
       by g (suc n) e =
-          let due : IsDue g s.world.trace = queued-due s (good-here s r) (heard-here s r) (deep-here s r) rest g (omega (arith, e)) in
-          omega (arith, (queue-agrees s g (good-here s r) (heard-here s r).placed).once, k g (record { due = due; unkept = refl }))
+          let due : IsDue g s.world.trace = queued-due s (good-here s r) (heard-here s r) (deep-here s r) rest g
+          (omega (arith, e)) in
+          omega (
+            arith,
+            (queue-agrees s g (good-here s r) (heard-here s r).placed).once,
+            k g (record { due = due; unkept = refl }),
+          )
 
   takes-all : (commons : List ℕ) → HasCommons s.world.trace commons → (searches : List LoneSearch) (new : Machine) →
       AreLoneSearches searches s new → length commons ≤ length searches → (f : ℕ) → IsCommon f s.world.trace →
@@ -163,9 +183,11 @@ module _ (s : Machine) (r : Reached s) (rest : IsAtRest s) where
 in-reach : (s : Machine) → Reached s → IsInReach s
 in-reach s r = record {
   each = λ rest f common p c a e steps new k. takes-common s r rest f common p c a e steps new k;
-  all = λ rest commons k searches new t comings m l f c. takes-all s r rest commons k searches new t (omega (arith, l)) f c;
+  all = λ rest commons k searches new t comings m l f c. takes-all s r rest commons k searches new t (omega (arith, l))
+      f c;
   can = λ rest p l. can-be-made s r rest.quiet p call.TryTick (tick-begins s r rest p l);
-  polls = λ rest p l t x alive. can-be-made s r rest.quiet p (call.PollTick t (by.Outside x)) (poll-begins s r rest p t x l alive);
+  polls = λ rest p l t x alive. can-be-made s r rest.quiet p (call.PollTick t (by.Outside x))
+      (poll-begins s r rest p t x l alive);
 }
 
 pub reaches : (limit parties : ℕ) (steps : List Step) → IsInReach (run steps (start limit parties))

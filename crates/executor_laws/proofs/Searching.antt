@@ -1,5 +1,7 @@
 -- A lone call that looks for a future takes the one that is first in the queue.
-use Rattle.std.proofs.Common.{◌≡◌, ◌⊎◌, ℕ, ◌<◌, ◌≤◌, List, [], ◌∷◌, ◌++◌, length, set, drop, Bool, true, false, ◌||◌, ltb, refl, sym, ap, ◌∙◌, subst, inl, inr, ⊎_elim, arith, get_or-set_same, append-nil, append_assoc, Ok}
+use Rattle.std.proofs.Common.{◌≡◌, ◌⊎◌, ℕ, ◌<◌, ◌≤◌, List, [], ◌∷◌, ◌++◌, length, set, drop}
+use Rattle.std.proofs.Common.{Bool, true, false, ◌||◌, ltb, refl, sym, ap, ◌∙◌, subst, inl, inr, ⊎_elim}
+use Rattle.std.proofs.Common.{arith, get_or-set_same, append-nil, append_assoc, Ok}
 use Rattle.std.proofs.lemmas.Bool.Decides.{nat_tests}
 use Rattle.std.proofs.lemmas.List.Folds.{list_any-append}
 use Rattle.std.specs.Prelude.{Option, Some, None}
@@ -40,7 +42,8 @@ use Rattle.executor_model.proofs.AskingRuns.{Heard}
 use Rattle.executor_model.proofs.Resting.{rests}
 use Rattle.executor_laws.specs.Reach.{are_onward_of, found_answer, IsLoneCall, takes}
 use Rattle.executor_laws.proofs.Ticking.{here, idle, queued-due, ticking, first-times}
-use Rattle.executor_laws.proofs.Reached.{Reached, run-first, reached-more, reached-step, good-here, heard-here, deep-here}
+use Rattle.executor_laws.proofs.Reached.{Reached, run-first, reached-more, reached-step}
+use Rattle.executor_laws.proofs.Reached.{good-here, heard-here, deep-here}
 use Rattle.executor_laws.proofs.LoneMoves.{stray_of}
 use Rattle.executor_laws.proofs.LoneSteps.{Ended, HasEntry, answering}
 use Rattle.executor_laws.proofs.LoneTicks.{in-range, no-more, stack-set, walks, GoneOn, goes-on}
@@ -57,7 +60,8 @@ pub record First (f : ℕ) (xs : List ℕ) (p : ℕ) (c : Call) (r : Reply) (s n
 -- a future that wasn't taken wasn't dropped
 takes-none : (f : ℕ) (es : Trace) → has (takes f) es ≡ false → has (is_dropped f) es ≡ false
 takes-none f [] e = refl
-takes-none f (e ∷ es) k = by (is_poll f e) (is_dropped f e) (has (takes f) es) (has (is_dropped f) es) k (takes-none f es)
+takes-none f (e ∷ es) k = by (is_poll f e) (is_dropped f e) (has (takes f) es) (has (is_dropped f) es) k
+    (takes-none f es)
   where
     by : (a b c d : Bool) → ((a || b) || c) ≡ false → (c ≡ false → d ≡ false) → (b || d) ≡ false
     by true b c d q h = absurd (cc)
@@ -106,7 +110,8 @@ module _ (s : Machine) (r : Reached s) (rest : IsAtRest s) (p : ℕ) (c : Call) 
   new-idle = rests new (deep-here new reached-new) k.ended p
 
   in-parties : p < length s.parties
-  in-parties = let b : ltb p (length s.parties) ≡ true = (in-range _ _ (run-first (Begin p c) steps s new k.made).0).0 in
+  in-parties = let b : ltb p (length s.parties) ≡ true =
+      (in-range _ _ (run-first (Begin p c) steps s new k.made).0).0 in
       grind (arith, nat_tests)
 
   -- the machine in which the call has begun
@@ -129,14 +134,16 @@ module _ (s : Machine) (r : Reached s) (rest : IsAtRest s) (p : ℕ) (c : Call) 
   }
 
   -- where f is first in the queue, it has its entry until it is taken
-  module _ (f : ℕ) (xs : List ℕ) (q : s.world.queue.items ≡ f ∷ xs) (told : Trace) (undropped : has (is_dropped f) told ≡ false) where
+  module _ (f : ℕ) (xs : List ℕ) (q : s.world.queue.items ≡ f ∷ xs) (told : Trace)
+      (undropped : has (is_dropped f) told ≡ false) where
     abbrev before : Trace
     before = s.world.trace ++ told
 
     due : IsDue f s.world.trace
     due = queued-due s fine all-heard (deep-here s r) rest f (omega (arith, ap (times f) q, first-times f xs))
 
-    entry-by : (m : Machine) → Reached m → m.world.gone ≡ false → (meanwhile : Trace) → m.world.trace ≡ before ++ meanwhile →
+    entry-by : (m : Machine) → Reached m → m.world.gone ≡ false → (meanwhile : Trace) →
+        m.world.trace ≡ before ++ meanwhile →
         (b : Bool) → has (takes f) meanwhile ≡ b → HasEntry f m.world meanwhile
     entry-by m y g meanwhile t true e = inl e
     entry-by m y g meanwhile t false e =
@@ -156,14 +163,17 @@ module _ (s : Machine) (r : Reached s) (rest : IsAtRest s) (p : ℕ) (c : Call) 
         (λ (x : (among f m.world.table ≡ false) × (times f m.world.table ≡ 0)). absurd (omega (arith, x.1, one)))
         (among_is f m.world.table))
 
-    entry : (m : Machine) → Reached m → m.world.gone ≡ false → (meanwhile : Trace) → m.world.trace ≡ before ++ meanwhile →
+    entry : (m : Machine) → Reached m → m.world.gone ≡ false → (meanwhile : Trace) →
+        m.world.trace ≡ before ++ meanwhile →
         HasEntry f m.world meanwhile
     entry m y g meanwhile t = entry-by m y g meanwhile t (has (takes f) meanwhile) refl
 
     -- f was found: a sleeper is told and f is taken up, each in its turn
     from-found : (a : Reply) (held : Hold) (m : Machine) (under : List Op) (o : Op) → Reached m →
-        stack m p ≡ answering a held ((op.Move move.TakeUp f ∷ under) ++ o ∷ []) → weigh stray_of (under ++ o ∷ []) ≡ 0 →
-        m.world.queue.items ≡ xs → m.world.trace ≡ before → m.world.gone ≡ false → (ts : List Step) → are_onward_of p ts ≡ true →
+        stack m p ≡ answering a held ((op.Move move.TakeUp f ∷ under) ++ o ∷ []) →
+        weigh stray_of (under ++ o ∷ []) ≡ 0 →
+        m.world.queue.items ≡ xs → m.world.trace ≡ before → m.world.gone ≡ false → (ts : List Step) →
+        are_onward_of p ts ≡ true →
         run_all ts m ≡ Ok new → Ended p a f xs before new.world
     from-found a held m under o y e z i t g ts on n =
         walks p a held f xs before entry ts m new (op.Move move.TakeUp f ∷ under) o y e (record {
@@ -184,9 +194,12 @@ module _ (s : Machine) (r : Reached s) (rest : IsAtRest s) (p : ℕ) (c : Call) 
       meanwhile = more ++ l.meanwhile;
       events = l.trace
           ∙ (append_assoc s.world.trace told (l.meanwhile ++ event.CallEnded p a ∷ [])
-          ∙ ap (λ (es : Trace). s.world.trace ++ es) (ap (λ (es : Trace). es ++ (l.meanwhile ++ event.CallEnded p a ∷ [])) e
-          ∙ ap (λ (es : Trace). event.CallBegun p c ∷ es) (sym (append_assoc more l.meanwhile (event.CallEnded p a ∷ [])))));
-      taken = list_any-append (takes f) more l.meanwhile ∙ (ap (λ (b : Bool). b || has (takes f) l.meanwhile) none ∙ l.taken);
+          ∙ ap (λ (es : Trace). s.world.trace ++ es)
+          (ap (λ (es : Trace). es ++ (l.meanwhile ++ event.CallEnded p a ∷ [])) e
+          ∙ ap (λ (es : Trace). event.CallBegun p c ∷ es)
+          (sym (append_assoc more l.meanwhile (event.CallEnded p a ∷ [])))));
+      taken = list_any-append (takes f) more l.meanwhile
+          ∙ (ap (λ (b : Bool). b || has (takes f) l.meanwhile) none ∙ l.taken);
       there = l.there;
     }
 
@@ -199,7 +212,8 @@ module _ (s : Machine) (r : Reached s) (rest : IsAtRest s) (p : ℕ) (steps : Li
 
   taking : GoneOn p (op.Queue queue_op.Take) (ticking s p) new
   taking = goes-on p (op.Queue queue_op.Take) (ticking s p) new
-      (get_or-set_same s.parties p (op.Queue queue_op.Take ∷ []) [] l) unanswered (reached-begun s r rest p call.TryTick steps new k)
+      (get_or-set_same s.parties p (op.Queue queue_op.Take ∷ []) [] l) unanswered
+      (reached-begun s r rest p call.TryTick steps new k)
       (new-idle s r rest p call.TryTick steps new k) steps k.alone (on-begun s r rest p call.TryTick steps new k)
 
   -- the machine after the first Runnable was taken, if there is one
@@ -234,7 +248,12 @@ module _ (s : Machine) (r : Reached s) (rest : IsAtRest s) (p t : ℕ) (b : By) 
   beginning = log (log s.world (event.CallBegun p (call.PollTick t b))) (event.TickPolled p t)
 
   abbrev polled-by : Sleeping
-  polled-by = record { waker = given None b; tick = t; poll = length (s.world.trace ++ event.CallBegun p (call.PollTick t b) ∷ []) }
+  polled-by =
+      record {
+        waker = given None b;
+        tick = t;
+        poll = length (s.world.trace ++ event.CallBegun p (call.PollTick t b) ∷ []);
+      }
 
   abbrev polling : Machine
   polling = record { world = beginning; parties = set s.parties p (op.Tick (tick_op.Search polled-by) ∷ []) }
@@ -261,7 +280,8 @@ module _ (s : Machine) (r : Reached s) (rest : IsAtRest s) (p t : ℕ) (b : By) 
   found-made x e = subst (λ (items : List ℕ). run_all searching.others (found-from x items) ≡ Ok new) q
       (subst (λ (y : Tick). run_all searching.others (found-from y s.world.queue.items) ≡ Ok new) e searching.made)
 
-  found-stack : (x : Tick) → stack (found-from x (f ∷ xs)) p ≡ (onto p (search_by x beginning (f ∷ xs) polled-by) []).todo
+  found-stack : (x : Tick) →
+      stack (found-from x (f ∷ xs)) p ≡ (onto p (search_by x beginning (f ∷ xs) polled-by) []).todo
   found-stack x = stack-set p polling (onto p (search_by x beginning (f ∷ xs) polled-by) []) searching.within
 
   trace-is : beginning.trace ≡ s.world.trace ++ told-so
@@ -269,24 +289,31 @@ module _ (s : Machine) (r : Reached s) (rest : IsAtRest s) (p t : ℕ) (b : By) 
 
   from-there : (m : Machine) (under : List Op) (o : Op) → Reached m →
       stack m p ≡ answering reply.Ready (hold.Tick t) ((op.Move move.TakeUp f ∷ under) ++ o ∷ []) →
-      weigh stray_of (under ++ o ∷ []) ≡ 0 → m.world.queue.items ≡ xs → m.world.trace ≡ beginning.trace → m.world.gone ≡ false →
-      (ts : List Step) → are_onward_of p ts ≡ true → run_all ts m ≡ Ok new → First f xs p (call.PollTick t b) reply.Ready s new
+      weigh stray_of (under ++ o ∷ []) ≡ 0 → m.world.queue.items ≡ xs → m.world.trace ≡ beginning.trace →
+      m.world.gone ≡ false →
+      (ts : List Step) → are_onward_of p ts ≡ true → run_all ts m ≡ Ok new →
+      First f xs p (call.PollTick t b) reply.Ready s new
   from-there m under o y e z i u g ts on n =
-      first-of s r rest p (call.PollTick t b) steps new k f xs q told-so refl reply.Ready (event.TickPolled p t ∷ []) refl refl
-      (from-found s r rest p (call.PollTick t b) steps new k f xs q told-so refl reply.Ready (hold.Tick t) m under o y e z i (u
+      first-of s r rest p (call.PollTick t b) steps new k f xs q told-so refl reply.Ready (event.TickPolled p t ∷ [])
+      refl refl
+      (from-found s r rest p (call.PollTick t b) steps new k f xs q told-so refl reply.Ready (hold.Tick t) m under o y e
+      z i (u
       ∙ trace-is) g ts on n)
 
   there : s.world.gone ≡ false
   there = still-there s r rest p (call.PollTick t b) steps new k
 
   -- a tick that lies gets up
-  rising : (n : ℕ) → tick_of s.world t ≡ Lies n → GoneOn p (op.Tick (tick_op.GetUp t f)) (found-from (Lies n) (f ∷ xs)) new
-  rising n e = goes-on p (op.Tick (tick_op.GetUp t f)) (found-from (Lies n) (f ∷ xs)) new (found-stack (Lies n)) unanswered
+  rising : (n : ℕ) → tick_of s.world t ≡ Lies n →
+      GoneOn p (op.Tick (tick_op.GetUp t f)) (found-from (Lies n) (f ∷ xs)) new
+  rising n e = goes-on p (op.Tick (tick_op.GetUp t f)) (found-from (Lies n) (f ∷ xs)) new (found-stack (Lies n))
+      unanswered
       (found-reached (Lies n) e) idle-new searching.others searching.onward (found-made (Lies n) e)
 
   -- the machine after that
   abbrev up-from : ℕ → Tick → Machine
-  up-from n x = with_part (found-from (Lies n) (f ∷ xs)) p (onto p (get_up_by x (found-from (Lies n) (f ∷ xs)).world t f) [])
+  up-from n x = with_part (found-from (Lies n) (f ∷ xs)) p
+      (onto p (get_up_by x (found-from (Lies n) (f ∷ xs)).world t f) [])
 
   abbrev up-with : ℕ → List Op → Machine
   up-with n goes = with_part (found-from (Lies n) (f ∷ xs)) p
@@ -311,20 +338,23 @@ module _ (s : Machine) (r : Reached s) (rest : IsAtRest s) (p t : ℕ) (b : By) 
           (subst (λ (os : List Op). Reached (up-with n os)) z reached)
           (stack-set p (found-from (Lies n) (f ∷ xs)) (onto p
           (done (get_up_by (Lies n) (found-from (Lies n) (f ∷ xs)).world t f).world (run_found t f)) []) on.within)
-          refl (ap (drop 1) q) refl there on.others on.onward (subst (λ (os : List Op). run_all on.others (up-with n os) ≡ Ok new) z made)
+          refl (ap (drop 1) q) refl there on.others on.onward
+          (subst (λ (os : List Op). run_all on.others (up-with n os) ≡ Ok new) z made)
       by (inr z) = from-there (up-with n (op.Move move.Release z.0 ∷ [])) (op.Sleeper sleeper_op.ExchangeFlag ∷ [])
           (op.Move move.Release z.0)
           (subst (λ (os : List Op). Reached (up-with n os)) z.1 reached)
           (stack-set p (found-from (Lies n) (f ∷ xs)) (onto p
           (done (get_up_by (Lies n) (found-from (Lies n) (f ∷ xs)).world t f).world
           (op.Move move.Release z.0 ∷ run_found t f)) []) on.within)
-          refl (ap (drop 1) q) refl there on.others on.onward (subst (λ (os : List Op). run_all on.others (up-with n os) ≡ Ok new) z.1 made)
+          refl (ap (drop 1) q) refl there on.others on.onward
+          (subst (λ (os : List Op). run_all on.others (up-with n os) ≡ Ok new) z.1 made)
 
   first-poll : First f xs p (call.PollTick t b) reply.Ready s new
   first-poll = by (tick_of s.world t) refl
     where
       by : (x : Tick) → tick_of s.world t ≡ x → First f xs p (call.PollTick t b) reply.Ready s new
-      by Up e = from-there (found-from Up (f ∷ xs)) [] (op.Sleeper sleeper_op.ExchangeFlag) (found-reached Up e) (found-stack Up) refl
+      by Up e = from-there (found-from Up (f ∷ xs)) [] (op.Sleeper sleeper_op.ExchangeFlag) (found-reached Up e)
+          (found-stack Up) refl
           (ap (drop 1) q) refl there searching.others searching.onward (found-made Up e)
       by Left e = from-there (found-from Left (f ∷ xs)) [] (op.Sleeper sleeper_op.ExchangeFlag) (found-reached Left e)
           (found-stack Left) refl (ap (drop 1) q) refl there searching.others searching.onward (found-made Left e)
@@ -334,10 +364,12 @@ same-reply : (a b : Reply) → ◌≡◌ {A = Option Reply} (Some a) (Some b) �
 same-reply a b e = cc
 
 pub first-taken : (s : Machine) → Reached s → IsAtRest s → (p : ℕ) (c : Call) (a : Reply) → found_answer c ≡ Some a →
-    (steps : List Step) (new : Machine) → IsLoneCall p c steps s new → (f : ℕ) (xs : List ℕ) → s.world.queue.items ≡ f ∷ xs →
+    (steps : List Step) (new : Machine) → IsLoneCall p c steps s new → (f : ℕ) (xs : List ℕ) →
+    s.world.queue.items ≡ f ∷ xs →
     First f xs p c a s new
 first-taken s r rest p call.TryTick a e steps new k f xs q =
-    subst (λ (y : Reply). First f xs p call.TryTick y s new) (same-reply reply.Yes a e) (first-tick s r rest p steps new k f xs q)
+    subst (λ (y : Reply). First f xs p call.TryTick y s new) (same-reply reply.Yes a e)
+    (first-tick s r rest p steps new k f xs q)
 first-taken s r rest p (call.PollTick t b) a e steps new k f xs q =
     subst (λ (y : Reply). First f xs p (call.PollTick t b) y s new) (same-reply reply.Ready a e)
     (first-poll s r rest p t b steps new k f xs q)

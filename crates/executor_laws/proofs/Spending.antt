@@ -1,5 +1,6 @@
 -- What each thing that is done spends of the steps that remain.
-use Rattle.std.proofs.Common.{◌≡◌, ℕ, zero, suc, ◌+◌, ◌*◌, ◌<◌, ◌≤◌, ◌==◌, List, [], ◌∷◌, ◌++◌, length, set, get_or, Bool, true, false, ◌||◌, ◌&&◌, not, cond, refl, ap, arith}
+use Rattle.std.proofs.Common.{◌≡◌, ℕ, zero, suc, ◌+◌, ◌*◌, ◌<◌, ◌≤◌, ◌==◌, List, [], ◌∷◌, ◌++◌, length, set, get_or}
+use Rattle.std.proofs.Common.{Bool, true, false, ◌||◌, ◌&&◌, not, cond, refl, ap, arith}
 use Rattle.std.specs.Prelude.{Option, Some, None}
 use Rattle.task_moves.specs.declared.moves.state.State.{State}
 use Rattle.task_moves.specs.declared.moves.owed.Owed.{Owed}
@@ -9,10 +10,13 @@ use Rattle.task_moves.specs.Moves as moves
 use Rattle.task_moves.specs.Moves.{is_over}
 use Rattle.executor_model.specs.declared.event.Event.{Event}
 use Rattle.executor_model.specs.declared.op.Awaiter.{Awaiter}
-use Rattle.executor_model.specs.World.{World, Done, log, log_if, task, put, put_awaiter, awaiter_of, blank, without, among}
-use Rattle.executor_model.specs.Carried.{carried, owed_ops, schedule_ops, drop_ops, future_ops, output_ops, awaiter_ops, next_ops}
+use Rattle.executor_model.specs.World.{World, Done, log, log_if, task, put, put_awaiter}
+use Rattle.executor_model.specs.World.{awaiter_of, blank, without, among}
+use Rattle.executor_model.specs.Carried.{carried, owed_ops, schedule_ops, drop_ops, future_ops}
+use Rattle.executor_model.specs.Carried.{output_ops, awaiter_ops, next_ops}
 use Rattle.executor_model.specs.Weights.{weigh}
-use Rattle.executor_laws.specs.Remaining.{stored, appends_by, steps_of_task, steps_of_tasks, notified_of, ups, steps_kept}
+use Rattle.executor_laws.specs.Remaining.{stored, appends_by, steps_of_task}
+use Rattle.executor_laws.specs.Remaining.{steps_of_tasks, notified_of, ups, steps_kept}
 use Rattle.executor_model.specs.Rows.{steps_of}
 use Rattle.executor_model.proofs.Lists.{weigh-append}
 
@@ -23,7 +27,8 @@ Spends w c d = steps_kept d.world + (weigh steps_of d.next + 1) ≤ steps_kept w
 -- what the machine keeps, one by one
 pub kept-parts : (w : World) →
     steps_kept w ≡ 11 * length w.queue.items + (28 * (length w.table + length w.leaving) +
-    (26 * length w.waking + (26 * stored w.awaiters + (steps_of_tasks w.tasks + (3 * notified_of w.sleepers + 3 * ups w.ticks)))))
+    (26 * length w.waking + (26 * stored w.awaiters
+    + (steps_of_tasks w.tasks + (3 * notified_of w.sleepers + 3 * ups w.ticks)))))
 unfolding steps_kept
 kept-parts w = refl
 
@@ -87,8 +92,10 @@ owed-steps b f o = omega (
   arith,
   weigh-append steps_of (schedule_ops f o.schedule) (future_ops b f o.future),
   weigh-append steps_of (schedule_ops f o.schedule ++ future_ops b f o.future) (output_ops o.drop_output f),
-  weigh-append steps_of (schedule_ops f o.schedule ++ future_ops b f o.future ++ output_ops o.drop_output f) (awaiter_ops f o.awaiter),
-  weigh-append steps_of (schedule_ops f o.schedule ++ future_ops b f o.future ++ output_ops o.drop_output f ++ awaiter_ops f o.awaiter)
+  weigh-append steps_of (schedule_ops f o.schedule ++ future_ops b f o.future ++ output_ops o.drop_output f)
+      (awaiter_ops f o.awaiter),
+  weigh-append steps_of (schedule_ops f o.schedule ++ future_ops b f o.future ++ output_ops o.drop_output f
+      ++ awaiter_ops f o.awaiter)
       (next_ops f o.next),
 )
 
@@ -110,9 +117,11 @@ output-steps false f = omega arith
 
 -- what a move of a task of state s owes, and one step, come out of c
 abbrev pub Costs : State → ℕ → Moved → Type 0
-Costs s c m = (b : Bool) (f : ℕ) → steps_of_task m.state + (weigh steps_of (owed_ops b f m.owed) + 1) ≤ steps_of_task s + c
+Costs s c m = (b : Bool) (f : ℕ) → steps_of_task m.state + (weigh steps_of (owed_ops b f m.owed) + 1) ≤ steps_of_task s
+    + c
 
-pub spends-carried : (w v : World) (f c : ℕ) (m : Moved) → f < length w.tasks → steps_kept v ≡ steps_kept w → v.tasks ≡ w.tasks →
+pub spends-carried : (w v : World) (f c : ℕ) (m : Moved) → f < length w.tasks → steps_kept v ≡ steps_kept w →
+    v.tasks ≡ w.tasks →
     Costs (task w f) c m → Spends w c (carried v f m)
 spends-carried w v f c m l e t k =
     omega (
@@ -123,7 +132,8 @@ spends-carried w v f c m l e t k =
       ap (λ (ts : List State). steps_of_task (get_or ts f blank)) t,
     )
 
-pub spends-logged : (b : Bool) (w : World) (e : Event) (f c : ℕ) (m : Moved) → f < length w.tasks → Costs (task w f) c m →
+pub spends-logged : (b : Bool) (w : World) (e : Event) (f c : ℕ) (m : Moved) → f < length w.tasks →
+    Costs (task w f) c m →
     Spends w c (carried (log_if b w e) f m)
 spends-logged true w e f c m l k = spends-carried w (log w e) f c m l (kept-log w e) refl k
 spends-logged false w e f c m l k = spends-carried w w f c m l refl refl k
@@ -190,7 +200,8 @@ not-over false true true e k = absurd (cc)
 not-over false true false e k = absurd (cc)
 not-over false false r e k = refl
 
-pub costs-wake : (x y : Bool) (s : State) → (is_over s || s.scheduled) ≡ x → Costs s 13 (moves.wake_by_reference_by x y s)
+pub costs-wake : (x y : Bool) (s : State) → (is_over s || s.scheduled) ≡ x →
+    Costs s 13 (moves.wake_by_reference_by x y s)
 costs-wake true y s e b f = omega arith
 costs-wake false true s e b f = omega (arith, idle-left (is_over s) s.scheduled e, scheduled-left (is_over s))
 costs-wake false false s e b f = omega (arith, idle-left (is_over s) s.scheduled e, scheduled-left (is_over s))
@@ -250,7 +261,8 @@ costs-end_pending false false true s b f = omega (
 costs-end_pending false false false s b f = omega arith
 
 pub costs-end_closed : (s : State) → is_over s ≡ true → Costs s 4 (moves.end_closed s)
-costs-end_closed s e b f = omega (arith, owed-steps b f (moves.end_closed s).owed, notify-steps s.awaiter f, none-left (is_over s) false e)
+costs-end_closed s e b f =
+    omega (arith, owed-steps b f (moves.end_closed s).owed, notify-steps s.awaiter f, none-left (is_over s) false e)
 
 pub costs-drop_runnable : (s : State) → Costs s 10 (moves.drop_runnable s)
 costs-drop_runnable s b f = omega (
@@ -280,9 +292,11 @@ costs-cancel false false s e b f =
       open-left (is_over s) s.scheduled e,
     )
 
-pub costs-detach : (x y : Bool) (s : State) → (s.completed && not s.closed) ≡ x → ((s.references == 0) && not s.closed) ≡ y →
+pub costs-detach : (x y : Bool) (s : State) → (s.completed && not s.closed) ≡ x →
+    ((s.references == 0) && not s.closed) ≡ y →
     Costs s 13 (moves.detach_by x y s)
-costs-detach true y s e k b f = omega (arith, ap one_if e, closed-keeps s.completed, closed-left s.completed s.scheduled)
+costs-detach true y s e k b f =
+    omega (arith, ap one_if e, closed-keeps s.completed, closed-left s.completed s.scheduled)
 costs-detach false true s e k b f = omega (
   arith,
   closed-keeps s.completed,

@@ -1,5 +1,6 @@
 -- Each thing that is done spends a step of those that remain.
-use Rattle.std.proofs.Common.{◌≡◌, ℕ, ◌+◌, ◌*◌, ◌<◌, ◌≤◌, List, [], ◌∷◌, ◌++◌, length, drop, Bool, true, false, ◌&&◌, refl, ap, arith}
+use Rattle.std.proofs.Common.{◌≡◌, ℕ, ◌+◌, ◌*◌, ◌<◌, ◌≤◌, List, [], ◌∷◌, ◌++◌, length, drop}
+use Rattle.std.proofs.Common.{Bool, true, false, ◌&&◌, refl, ap, arith}
 use Rattle.std.proofs.lemmas.List.{length_push}
 use Rattle.std.specs.Prelude.{Option, Some, None}
 use Rattle.queue_steps.specs.ClosableQueue.{appended, taken}
@@ -22,18 +23,25 @@ use Rattle.executor_model.specs.declared.op.HandleOp.TheVariants as handle_op
 use Rattle.executor_model.specs.declared.step.Hint.{Hint}
 use Rattle.executor_model.specs.World.{World, Done, done, log, task, put, awaiter_of, without, among}
 use Rattle.executor_model.specs.Carried.{awaiter_ops}
-use Rattle.executor_model.specs.Acts.{append_by, take_by, enter_by, entered, emptiness, leave_by, copy_by, polled, reply_of, is_output, answered, look_by, look_again_by, copied, copy_awaiter_by, register_by, waker_goes, let_go, end_register_by, notify_by, told, end_notify, call_waker, closing_ops, take_out, drop_next_by, followed, wake, wake_next_by, drain_by}
+use Rattle.executor_model.specs.Acts.{append_by, take_by, enter_by, entered, emptiness, leave_by, copy_by, polled}
+use Rattle.executor_model.specs.Acts.{reply_of, is_output, answered, look_by, look_again_by, copied}
+use Rattle.executor_model.specs.Acts.{copy_awaiter_by, register_by, waker_goes, let_go, end_register_by}
+use Rattle.executor_model.specs.Acts.{notify_by, told, end_notify, call_waker, closing_ops, take_out}
+use Rattle.executor_model.specs.Acts.{drop_next_by, followed, wake, wake_next_by, drain_by}
 use Rattle.executor_model.specs.Weights.{weigh}
 use Rattle.executor_model.specs.Good.{CanGrow, CanWake, IsKnownWaker}
 use Rattle.executor_laws.specs.Remaining.{stored, steps_of_task, steps_of_tasks, notified_of, ups, steps_kept}
 use Rattle.executor_model.specs.Rows.{steps_of}
 use Rattle.executor_model.proofs.Lists.{weigh-append}
-use Rattle.executor_laws.proofs.Spending.{Spends, kept-parts, tasks-push, one_stored, stored-push, without-one, kept-put, kept-put_awaiter, kept-log, kept-log_if, notify_other-steps, spends-logged, costs-waking, closed-spent}
+use Rattle.executor_laws.proofs.Spending.{Spends, kept-parts, tasks-push, one_stored, stored-push, without-one}
+use Rattle.executor_laws.proofs.Spending.{kept-put, kept-put_awaiter, kept-log, kept-log_if}
+use Rattle.executor_laws.proofs.Spending.{notify_other-steps, spends-logged, costs-waking, closed-spent}
 
 -- queue and table
 
 pub spends-append : (b : Bool) (w : World) (f : ℕ) → Spends w 43 (append_by b w f)
-spends-append true w f = omega (arith, kept-parts w, kept-parts (record w { queue = appended w.queue f }), length_push w.queue.items f)
+spends-append true w f =
+    omega (arith, kept-parts w, kept-parts (record w { queue = appended w.queue f }), length_push w.queue.items f)
 spends-append false w f = omega arith
 
 pub spends-take : (w : World) (q : List ℕ) → w.queue.items ≡ q → Spends w 113 (take_by w q)
@@ -62,7 +70,8 @@ pub spends-look_at_table : (w : World) (t : List ℕ) → Spends w 2 (done w (op
 spends-look_at_table w t = omega arith
 
 pub spends-leave : (b : Bool) (w : World) (f : ℕ) → among f w.table ≡ b → Spends w 1 (leave_by b w f)
-spends-leave true w f e = omega (arith, kept-parts w, kept-parts (record w { table = without f w.table }), without-one f w.table e)
+spends-leave true w f e =
+    omega (arith, kept-parts w, kept-parts (record w { table = without f w.table }), without-one f w.table e)
 spends-leave false w f e = omega arith
 
 -- the world has changed in nothing that is kept
@@ -70,8 +79,10 @@ pub spends-as : (w v : World) (c : ℕ) (next : List Op) → steps_kept v ≡ st
     Spends w c (done v next)
 spends-as w v c next e k = omega (arith, e, k)
 
-pub kept-as : (w v : World) → v.queue.items ≡ w.queue.items → v.table ≡ w.table → v.leaving ≡ w.leaving → v.waking ≡ w.waking →
-    v.awaiters ≡ w.awaiters → v.tasks ≡ w.tasks → v.sleepers ≡ w.sleepers → v.ticks ≡ w.ticks → steps_kept v ≡ steps_kept w
+pub kept-as : (w v : World) → v.queue.items ≡ w.queue.items → v.table ≡ w.table → v.leaving ≡ w.leaving →
+    v.waking ≡ w.waking →
+    v.awaiters ≡ w.awaiters → v.tasks ≡ w.tasks → v.sleepers ≡ w.sleepers → v.ticks ≡ w.ticks →
+    steps_kept v ≡ steps_kept w
 kept-as w v a b c d e f g h = omega (
   arith,
   kept-parts w,
@@ -88,8 +99,10 @@ kept-as w v a b c d e f g h = omega (
 
 -- polls of a handle
 
-pub spends-answered : (p : ℕ) (w v : World) (f c : ℕ) (m : Moved) (a : Answer) → f < length v.tasks → steps_kept v ≡ steps_kept w →
-    task v f ≡ task w f → steps_of_task m.state ≤ steps_of_task (task w f) → weigh steps_of (awaiter_ops f m.owed.awaiter) ≤ 2 → 4 ≤ c →
+pub spends-answered : (p : ℕ) (w v : World) (f c : ℕ) (m : Moved) (a : Answer) → f < length v.tasks →
+    steps_kept v ≡ steps_kept w →
+    task v f ≡ task w f → steps_of_task m.state ≤ steps_of_task (task w f) →
+    weigh steps_of (awaiter_ops f m.owed.awaiter) ≤ 2 → 4 ≤ c →
     Spends w c (answered p v f m a)
 spends-answered p w v f c m a i e t k n l = omega (
   arith,
@@ -107,7 +120,8 @@ pub spends-look : (x k c : Bool) (p : ℕ) (w : World) (f : ℕ) (a : Waker) →
     Spends w 34 (look_by (moves.poll_by x k c (task w f)).owed.answer p w f a (moves.poll_by x k c (task w f)))
 spends-look true true c p w f a i = omega arith
 spends-look true false c p w f a i =
-    spends-answered p w (polled p w f) f 34 (moves.poll_by true false c (task w f)) Closed i (kept-log w _) refl (omega arith)
+    spends-answered p w (polled p w f) f 34 (moves.poll_by true false c (task w f)) Closed i (kept-log w _) refl
+    (omega arith)
     (omega arith) (omega arith)
 spends-look false k false p w f a i = omega arith
 spends-look false k true p w f a i =
@@ -115,13 +129,17 @@ spends-look false k true p w f a i =
     (closed-spent (task w f).completed (task w f)) (notify_other-steps (task w f).awaiter f) (omega arith)
 
 pub spends-again : (x k c : Bool) (p : ℕ) (w : World) (f : ℕ) → f < length w.tasks →
-    Spends w 4 (look_again_by (moves.look_again_by x k c (task w f)).owed.answer p w f (moves.look_again_by x k c (task w f)))
+    Spends w 4 (look_again_by (moves.look_again_by x k c (task w f)).owed.answer p w f
+    (moves.look_again_by x k c (task w f)))
 spends-again true true c p w f i =
-    spends-answered p w w f 4 (moves.look_again_by true true c (task w f)) Pending i refl refl (omega arith) (omega arith) (omega arith)
+    spends-answered p w w f 4 (moves.look_again_by true true c (task w f)) Pending i refl refl (omega arith)
+    (omega arith) (omega arith)
 spends-again true false c p w f i =
-    spends-answered p w w f 4 (moves.look_again_by true false c (task w f)) Closed i refl refl (omega arith) (omega arith) (omega arith)
+    spends-answered p w w f 4 (moves.look_again_by true false c (task w f)) Closed i refl refl (omega arith)
+    (omega arith) (omega arith)
 spends-again false k false p w f i =
-    spends-answered p w w f 4 (moves.look_again_by false k false (task w f)) Pending i refl refl (omega arith) (omega arith) (omega arith)
+    spends-answered p w w f 4 (moves.look_again_by false k false (task w f)) Pending i refl refl (omega arith)
+    (omega arith) (omega arith)
 spends-again false k true p w f i =
     spends-answered p w w f 4 (moves.look_again_by false k true (task w f)) Output i refl refl
     (closed-spent (task w f).completed (task w f)) (notify_other-steps (task w f).awaiter f) (omega arith)
@@ -147,11 +165,13 @@ pub kept-copied : (w : World) (a : Waker) → IsKnownWaker w a → steps_kept (c
 kept-copied w (Task g) l = kept-marks w g _ l refl
 kept-copied w (Outside x) l = refl
 
-pub spends-copy_awaiter : (b : Bool) (p : ℕ) (w : World) (f : ℕ) (a : Waker) → IsKnownWaker w a → Spends w 33 (copy_awaiter_by b p w f a)
+pub spends-copy_awaiter : (b : Bool) (p : ℕ) (w : World) (f : ℕ) (a : Waker) → IsKnownWaker w a →
+    Spends w 33 (copy_awaiter_by b p w f a)
 spends-copy_awaiter true p w f a l = omega arith
 spends-copy_awaiter false p w f a l = omega (arith, kept-copied w a l, kept-log (copied w a) (event.HandlePolled p f))
 
-pub spends-register : (b : Bool) (w : World) (f : ℕ) (a : Waker) (k : ℕ) → f < length w.tasks → Spends w 32 (register_by b w f a k)
+pub spends-register : (b : Bool) (w : World) (f : ℕ) (a : Waker) (k : ℕ) → f < length w.tasks →
+    Spends w 32 (register_by b w f a k)
 spends-register true w f a k l = omega (arith, kept-marks w f (moves.register_by true (task w f)).state l refl)
 spends-register false w f a k l = omega (arith, kept-marks w f (moves.register_by false (task w f)).state l refl)
 
@@ -163,7 +183,8 @@ let_go-steps : (a : Option Awaiter) → weigh steps_of (let_go a) ≤ 26 * one_s
 let_go-steps None = omega arith
 let_go-steps (Some a) = omega (arith, goes-steps a.waker)
 
-pub spends-end_register : (b : Bool) (w : World) (f : ℕ) (a : Waker) (k : ℕ) → f < length w.tasks → Spends w 31 (end_register_by b w f a k)
+pub spends-end_register : (b : Bool) (w : World) (f : ℕ) (a : Waker) (k : ℕ) → f < length w.tasks →
+    Spends w 31 (end_register_by b w f a k)
 spends-end_register true w f a k l =
     let v : World = put w f (moves.end_register_by true (task w f)).state in
     omega (
@@ -183,7 +204,8 @@ spends-end_register false w f a k l =
       weigh-append steps_of (let_go (awaiter_of w f)) (op.Handle (handle_op.LookAgain f) ∷ []),
     )
 
-pub spends-notify : (b : Bool) (w : World) (f : ℕ) (mine : Bool) → f < length w.tasks → Spends w 2 (notify_by b w f mine)
+pub spends-notify : (b : Bool) (w : World) (f : ℕ) (mine : Bool) → f < length w.tasks →
+    Spends w 2 (notify_by b w f mine)
 spends-notify true w f mine l = omega (arith, kept-marks w f (moves.notify_by true (task w f)).state l refl)
 spends-notify false w f mine l = omega (arith, kept-marks w f (moves.notify_by false (task w f)).state l refl)
 
@@ -192,7 +214,8 @@ told-steps b f None = omega arith
 told-steps true f (Some a) = omega (arith, goes-steps a.waker)
 told-steps false f (Some a) = omega arith
 
-pub spends-end_notify : (h : Hint) (w : World) (f : ℕ) (mine : Bool) → f < length w.tasks → Spends w 1 (end_notify h w f mine)
+pub spends-end_notify : (h : Hint) (w : World) (f : ℕ) (mine : Bool) → f < length w.tasks →
+    Spends w 1 (end_notify h w f mine)
 spends-end_notify h w f mine l =
     let v : World = put w f (moves.end_notify (task w f)).state in
     omega (
@@ -203,9 +226,11 @@ spends-end_notify h w f mine l =
     )
 
 pub spends-wake : (p : ℕ) (w : World) (f : ℕ) → f < length w.tasks → Spends w 26 (wake p w f)
-spends-wake p w f l = spends-logged _ w (event.Woken p f) f 26 (moves.wake (task w f)) l (costs-waking _ _ (task w f) refl)
+spends-wake p w f l = spends-logged _ w (event.Woken p f) f 26 (moves.wake (task w f)) l
+    (costs-waking _ _ (task w f) refl)
 
-pub spends-call : (p : ℕ) (w : World) (o : Polled) (a : Waker) (k : ℕ) → CanWake w a → Spends w 26 (call_waker p w o a k)
+pub spends-call : (p : ℕ) (w : World) (o : Polled) (a : Waker) (k : ℕ) → CanWake w a →
+    Spends w 26 (call_waker p w o a k)
 spends-call p w o (Task m) k l = omega (
   arith,
   kept-log w (event.WakerCalled p o k (Task m)),
@@ -242,7 +267,8 @@ pub spends-followed : (w : World) (c n : ℕ) (d : Done) (more : List Op) → Sp
     Spends w (c + n) (followed d more)
 spends-followed w c n d more k l = omega (arith, k, l, weigh-append steps_of d.next more)
 
-pub spends-wake_next : (p : ℕ) (w : World) (ws : List ℕ) → ((f : ℕ) (rest : List ℕ) → w.waking ≡ f ∷ rest → CanGrow w f) →
+pub spends-wake_next : (p : ℕ) (w : World) (ws : List ℕ) →
+    ((f : ℕ) (rest : List ℕ) → w.waking ≡ f ∷ rest → CanGrow w f) →
     w.waking ≡ ws → Spends w 3 (wake_next_by p w ws)
 spends-wake_next p w [] l e = omega arith
 spends-wake_next p w (f ∷ rest) l e =

@@ -23,8 +23,15 @@ use Rattle.executor_model.specs.Acts.{take_to_drop, move_task, act}
 use Rattle.executor_model.specs.Good.{Needs}
 use Rattle.executor_model.specs.Rows.{steps_of}
 use Rattle.executor_model.specs.Steps.{waits, accepts, react}
-use Rattle.executor_laws.proofs.Spending.{Spends, kept-log, spends-carried, spends-logged, costs-wake, costs-release, costs-take_up, costs-settle_closed, costs-give_up, costs-end_ready, costs-end_pending, costs-end_closed, costs-drop_runnable, costs-cancel, costs-detach}
-use Rattle.executor_laws.proofs.SpendingActs.{spends-append, spends-take, spends-enter, spends-leave, spends-as, kept-as, spends-look, spends-again, spends-copy, spends-copy_awaiter, spends-register, spends-end_register, spends-notify, spends-end_notify, spends-wake, spends-call, spends-take_out, spends-drop_next, spends-wake_next, spends-drain}
+use Rattle.executor_laws.proofs.Spending.{Spends, kept-log, spends-carried, spends-logged, costs-wake}
+use Rattle.executor_laws.proofs.Spending.{costs-release, costs-take_up, costs-settle_closed, costs-give_up}
+use Rattle.executor_laws.proofs.Spending.{costs-end_ready, costs-end_pending, costs-end_closed}
+use Rattle.executor_laws.proofs.Spending.{costs-drop_runnable, costs-cancel, costs-detach}
+use Rattle.executor_laws.proofs.SpendingActs.{spends-append, spends-take, spends-enter, spends-leave, spends-as}
+use Rattle.executor_laws.proofs.SpendingActs.{kept-as, spends-look, spends-again, spends-copy, spends-copy_awaiter}
+use Rattle.executor_laws.proofs.SpendingActs.{spends-register, spends-end_register, spends-notify}
+use Rattle.executor_laws.proofs.SpendingActs.{spends-end_notify, spends-wake, spends-call, spends-take_out}
+use Rattle.executor_laws.proofs.SpendingActs.{spends-drop_next, spends-wake_next, spends-drain}
 use Rattle.executor_laws.proofs.SpendingTicks.{spends-sleeper, spends-tick}
 
 -- who settles a task that was closed, does so where it is over
@@ -38,15 +45,20 @@ spends-move : (m : Move) (p : ℕ) (w : World) (f : ℕ) → f < length w.tasks 
 spends-move move.WakeByReference p w f l k =
     spends-logged _ w (event.Woken p f) f 13 (moves.wake_by_reference (task w f)) l (costs-wake _ _ (task w f) refl)
 spends-move move.Wake p w f l k = spends-wake p w f l
-spends-move move.Release p w f l k = spends-carried w w f 13 (moves.release (task w f)) l refl refl (costs-release _ _ (task w f) refl)
-spends-move move.TakeUp p w f l k = spends-logged _ w (event.PollBegun p f) f 91 (moves.take_up (task w f)) l (costs-take_up _ (task w f))
+spends-move move.Release p w f l k =
+    spends-carried w w f 13 (moves.release (task w f)) l refl refl (costs-release _ _ (task w f) refl)
+spends-move move.TakeUp p w f l k = spends-logged _ w (event.PollBegun p f) f 91 (moves.take_up (task w f)) l
+    (costs-take_up _ (task w f))
 spends-move move.SettleClosed p w f l k =
     spends-carried w w f 4 (moves.settle_closed (task w f)) l refl refl (costs-settle_closed (task w f) k)
-spends-move move.GiveUp p w f l k = spends-carried w w f 1 (moves.give_up (task w f)) l refl refl (costs-give_up _ (task w f))
-spends-move move.EndReady p w f l k = spends-carried w w f 9 (moves.end_ready (task w f)) l refl refl (costs-end_ready (task w f))
+spends-move move.GiveUp p w f l k =
+    spends-carried w w f 1 (moves.give_up (task w f)) l refl refl (costs-give_up _ (task w f))
+spends-move move.EndReady p w f l k =
+    spends-carried w w f 9 (moves.end_ready (task w f)) l refl refl (costs-end_ready (task w f))
 spends-move move.EndPending p w f l k =
     spends-carried w w f 44 (moves.end_pending (task w f)) l refl refl (costs-end_pending _ _ _ (task w f))
-spends-move move.EndClosed p w f l k = spends-carried w w f 4 (moves.end_closed (task w f)) l refl refl (costs-end_closed (task w f) k)
+spends-move move.EndClosed p w f l k =
+    spends-carried w w f 4 (moves.end_closed (task w f)) l refl refl (costs-end_closed (task w f) k)
 spends-move move.DropRunnable p w f l k =
     spends-carried w w f 10 (moves.drop_runnable (task w f)) l refl refl (costs-drop_runnable (task w f))
 spends-move move.Cancel p w f l k =
@@ -55,7 +67,8 @@ spends-move move.Detach p w f l k =
     spends-logged _ w (event.Detached p f) f 13 (moves.detach (task w f)) l (costs-detach _ _ (task w f) refl refl)
 spends-move _ p w f l k = omega arith
 
-pub spends-act : (p : ℕ) (h : Hint) (o : Op) (w : World) → waits o ≡ false → Needs w o → Settles w o → Spends w (steps_of o) (act p h o w)
+pub spends-act : (p : ℕ) (h : Hint) (o : Op) (w : World) → waits o ≡ false → Needs w o → Settles w o →
+    Spends w (steps_of o) (act p h o w)
 spends-act p h (op.Move m f) w n l k = spends-move m p w f l.0.0 k
 spends-act p h (op.Table table_op.Enter) w n l k = spends-enter _ _ p w
 spends-act p h (op.Queue queue_op.Take) w n l k = spends-take w _ refl
@@ -64,7 +77,8 @@ spends-act p h (op.Table (table_op.TakeToPoll f)) w n l k =
     spends-as w _ 47 (op.User (user_op.Poll f) ∷ []) (kept-as w _ refl refl refl refl refl refl refl refl) (omega arith)
 spends-act p h (op.User (user_op.Poll f)) w n l k = absurd (cc)
 spends-act p h (op.Table (table_op.PutBack f)) w n l k =
-    spends-as w _ 45 (op.Move move.EndPending f ∷ []) (kept-as w _ refl refl refl refl refl refl refl refl) (omega arith)
+    spends-as w _ 45 (op.Move move.EndPending f ∷ []) (kept-as w _ refl refl refl refl refl refl refl refl)
+    (omega arith)
 spends-act p h (op.Table (table_op.TakeToDrop f)) w n l k =
     spends-as w _ 5 (take_to_drop w f).next (kept-as w _ refl refl refl refl refl refl refl refl) (omega arith)
 spends-act p h (op.User (user_op.BeginDrop f)) w n l k = omega (arith, kept-log w (event.Dropped p f))
@@ -88,15 +102,19 @@ spends-act p h (op.Closing closing_op.TakeOut) w n l k = spends-take_out w
 spends-act p h (op.Closing closing_op.DropNext) w n l k = spends-drop_next p w _ refl
 spends-act p h (op.Closing closing_op.WakeNext) w n l k = spends-wake_next p w _ l refl
 spends-act p h (op.Closing closing_op.Close) w n l k =
-    spends-as w _ 2 (op.Closing closing_op.Drain ∷ []) (kept-as w _ refl refl refl refl refl refl refl refl) (omega arith)
+    spends-as w _ 2 (op.Closing closing_op.Drain ∷ []) (kept-as w _ refl refl refl refl refl refl refl refl)
+    (omega arith)
 spends-act p h (op.Closing closing_op.Drain) w n l k = spends-drain p w _ refl
 spends-act p h (op.End a held) w n l k = omega (arith, kept-log w (event.CallEnded p a))
 spends-act p h _ w n l k = omega arith
 
 -- the end of user code
-pub spends-react : (p : ℕ) (o : Op) (e : UserEnd) (w : World) → accepts o e ≡ true → Spends w (steps_of o) (react p o e w)
-spends-react p (op.User (user_op.Poll f)) (end.Polled answer.Pending) w a = omega (arith, kept-log w (event.Answered p f answer.Pending))
-spends-react p (op.User (user_op.Poll f)) (end.Polled answer.Ready) w a = omega (arith, kept-log w (event.Answered p f answer.Ready))
+pub spends-react : (p : ℕ) (o : Op) (e : UserEnd) (w : World) → accepts o e ≡ true →
+    Spends w (steps_of o) (react p o e w)
+spends-react p (op.User (user_op.Poll f)) (end.Polled answer.Pending) w a =
+    omega (arith, kept-log w (event.Answered p f answer.Pending))
+spends-react p (op.User (user_op.Poll f)) (end.Polled answer.Ready) w a =
+    omega (arith, kept-log w (event.Answered p f answer.Ready))
 spends-react p (op.User (user_op.Drop f)) end.Done w a = omega arith
 spends-react p (op.User (user_op.DropOutput f)) end.Done w a = omega arith
 spends-react p (op.User (user_op.CallOutside x)) end.Done w a = omega arith

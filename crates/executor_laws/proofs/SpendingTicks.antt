@@ -1,10 +1,12 @@
 -- What tells a sleeper, and what a tick does, spends a step of those that remain.
-use Rattle.std.proofs.Common.{◌≡◌, ℕ, zero, suc, ◌+◌, ◌-◌, ◌*◌, ◌<◌, ◌≤◌, List, [], ◌∷◌, ◌++◌, length, set, get_or, take, drop, Bool, true, false, ltb, refl, ap, subst, arith}
+use Rattle.std.proofs.Common.{◌≡◌, ℕ, zero, suc, ◌+◌, ◌-◌, ◌*◌, ◌<◌, ◌≤◌, List, [], ◌∷◌, ◌++◌, length, set, get_or}
+use Rattle.std.proofs.Common.{take, drop, Bool, true, false, ltb, refl, ap, subst, arith}
 use Rattle.std.proofs.lemmas.Bool.Decides.{nat_tests}
 use Rattle.std.proofs.lemmas.List.{length_push}
 use Rattle.std.proofs.lemmas.List.Edits.{length-remove}
 use Rattle.std.specs.Prelude.{Option, Some, None, is_none, remove}
-use Rattle.executor_parts.specs.Sleepers.{Sleepers, position_of, without_last, waker_at, waker_of, next_number, laid_down, listed, without_entry, freed, risen}
+use Rattle.executor_parts.specs.Sleepers.{Sleepers, position_of, without_last, waker_at, waker_of, next_number}
+use Rattle.executor_parts.specs.Sleepers.{laid_down, listed, without_entry, freed, risen}
 use Rattle.queue_steps.specs.ClosableQueue.{taken}
 use Rattle.executor_model.specs.declared.op.Op.TheVariants as op
 use Rattle.executor_model.specs.declared.op.Polled.TheVariants as of
@@ -15,7 +17,10 @@ use Rattle.executor_model.specs.declared.op.TickOp.{TickOp}
 use Rattle.executor_model.specs.declared.op.TickOp.TheVariants as tick_op
 use Rattle.executor_model.specs.declared.step.Hint.{Hint}
 use Rattle.executor_model.specs.World.{World, Tick, Up, Lies, Left, tick_of}
-use Rattle.executor_model.specs.Acts.{exchange_by, call_of, hand_out_by, make_tick_by, run_found, found_by, search_by, copy_sleeper_by, pend_tick, lie_anew_by, sleeper_goes, lie_listed_by, lie_again_by, lie_down_by, get_up_by, given_back, tell_if, end_drop, leave_sleepers_by, sleeper_act, tick_act}
+use Rattle.executor_model.specs.Acts.{exchange_by, call_of, hand_out_by, make_tick_by, run_found, found_by}
+use Rattle.executor_model.specs.Acts.{search_by, copy_sleeper_by, pend_tick, lie_anew_by, sleeper_goes}
+use Rattle.executor_model.specs.Acts.{lie_listed_by, lie_again_by, lie_down_by, get_up_by, given_back, tell_if}
+use Rattle.executor_model.specs.Acts.{end_drop, leave_sleepers_by, sleeper_act, tick_act}
 use Rattle.executor_model.specs.Good.{IsKnownWaker, SleeperNeeds, TickNeeds}
 use Rattle.executor_model.specs.Rows.{steps_of}
 use Rattle.executor_model.specs.Weights.{weigh}
@@ -29,7 +34,8 @@ use Rattle.executor_laws.proofs.SpendingActs.{kept-as, spends-as, kept-copied, g
 
 last-out : (ws : List (ℕ × Sleeping)) → length ws ≤ length (take (length ws - 1) ws) + 1
 last-out [] = omega arith
-last-out (x ∷ xs) = subst (λ (n : ℕ). length (x ∷ xs) ≤ length (take n (x ∷ xs)) + 1) (let e : length xs ≡ length (x ∷ xs) - 1 =
+last-out (x ∷ xs) = subst (λ (n : ℕ). length (x ∷ xs) ≤ length (take n (x ∷ xs)) + 1)
+    (let e : length xs ≡ length (x ∷ xs) - 1 =
     omega arith in e) (omega (arith, whole x xs))
   where
     whole : (y : ℕ × Sleeping) (ys : List (ℕ × Sleeping)) → length (take (length ys) (y ∷ ys)) ≡ length ys
@@ -44,12 +50,14 @@ notified-laid x s = omega (arith, length_push s.wakers (next_number s, x))
 
 notified-listed : (n : ℕ) (x : Sleeping) (s : Sleepers Sleeping) → ltb (length s.wakers) s.count ≡ true →
     notified_of (listed n x s) + 1 ≡ notified_of s
-notified-listed n x s e = let l : length s.wakers < s.count = grind (arith, nat_tests) in omega (arith, l, length_push s.wakers (n, x))
+notified-listed n x s e = let l : length s.wakers < s.count = grind (arith, nat_tests) in
+    omega (arith, l, length_push s.wakers (n, x))
 
 notified-freed : (n : ℕ) (s : Sleepers Sleeping) → notified_of (freed n s) ≤ notified_of s
 notified-freed n s = by (ltb (length s.wakers) s.count)
   where
-    by : (b : Bool) → notified_of (elim b [ true ↦ record s { count = s.count - 1; free = s.free ++ n ∷ [] } | false ↦ s ]) ≤ notified_of s
+    by : (b : Bool) → notified_of
+        (elim b [ true ↦ record s { count = s.count - 1; free = s.free ++ n ∷ [] } | false ↦ s ]) ≤ notified_of s
     by true = omega arith
     by false = omega arith
 
@@ -96,20 +104,30 @@ ups-push [] x = omega arith
 ups-push (y ∷ ts) x = omega (arith, ups-push ts x)
 
 -- the world has changed in nothing that is kept but sleepers and ticks
-kept-of : (w v : World) (n m : ℕ) → v.queue.items ≡ w.queue.items → v.table ≡ w.table → v.leaving ≡ w.leaving → v.waking ≡ w.waking →
+kept-of : (w v : World) (n m : ℕ) → v.queue.items ≡ w.queue.items → v.table ≡ w.table → v.leaving ≡ w.leaving →
+    v.waking ≡ w.waking →
     v.awaiters ≡ w.awaiters → v.tasks ≡ w.tasks → notified_of v.sleepers ≤ n → ups v.ticks ≤ m →
     steps_kept v + (3 * notified_of w.sleepers + 3 * ups w.ticks) ≤ steps_kept w + (3 * n + 3 * m)
 kept-of w v n m a b c d e f g h =
     let same : steps_kept (record v { sleepers = w.sleepers; ticks = w.ticks }) ≡ steps_kept w =
     kept-as w (record v { sleepers = w.sleepers; ticks = w.ticks }) a b c d e f refl refl in
-    omega (arith, same, kept-parts v, kept-parts (record v { sleepers = w.sleepers; ticks = w.ticks }), kept-parts w, g, h)
+    omega (
+      arith,
+      same,
+      kept-parts v,
+      kept-parts (record v { sleepers = w.sleepers; ticks = w.ticks }),
+      kept-parts w,
+      g,
+      h,
+    )
 
 -- telling a sleeper
 
 spends-exchange : (b : Bool) (w : World) → Spends w 31 (exchange_by b w)
 spends-exchange true w = omega arith
 spends-exchange false w =
-    spends-as w _ 31 (op.Sleeper sleeper_op.HandOut ∷ []) (kept-as w _ refl refl refl refl refl refl refl refl) (omega arith)
+    spends-as w _ 31 (op.Sleeper sleeper_op.HandOut ∷ []) (kept-as w _ refl refl refl refl refl refl refl refl)
+    (omega arith)
 
 call-steps : (o : Option Sleeping) → weigh steps_of (call_of o) ≤ 26
 call-steps None = omega arith
@@ -124,7 +142,8 @@ spends-hand_out true o w = omega (
 )
 spends-hand_out false o w = omega arith
 
-pub spends-sleeper : (p : ℕ) (o : SleeperOp) (w : World) → SleeperNeeds w o → Spends w (steps_of (op.Sleeper o)) (sleeper_act p o w)
+pub spends-sleeper : (p : ℕ) (o : SleeperOp) (w : World) → SleeperNeeds w o →
+    Spends w (steps_of (op.Sleeper o)) (sleeper_act p o w)
 spends-sleeper p sleeper_op.ExchangeFlag w l = spends-exchange _ w
 spends-sleeper p sleeper_op.HandOut w l = spends-hand_out _ _ w
 spends-sleeper p (sleeper_op.CallSleeper s) w l = spends-call p w (of.Tick s.tick) s.waker s.poll l
@@ -139,7 +158,8 @@ spends-make : (b : Bool) (w : World) → Spends w 5 (make_tick_by b w)
 spends-make true w = omega arith
 spends-make false w = omega (
   arith,
-  kept-of w (make_tick_by false w).world (notified_of w.sleepers) (ups w.ticks + 1) refl refl refl refl refl refl (omega arith)
+  kept-of w (make_tick_by false w).world (notified_of w.sleepers) (ups w.ticks + 1) refl refl refl refl refl refl
+      (omega arith)
       (omega (arith, ups-push w.ticks Up)),
 )
 
@@ -148,7 +168,8 @@ found-steps Up t f = omega arith
 found-steps (Lies n) t f = omega arith
 found-steps Left t f = omega arith
 
-spends-search : (x : Tick) (w : World) (q : List ℕ) (s : Sleeping) → w.queue.items ≡ q → Spends w 141 (search_by x w q s)
+spends-search : (x : Tick) (w : World) (q : List ℕ) (s : Sleeping) → w.queue.items ≡ q →
+    Spends w 141 (search_by x w q s)
 spends-search x w [] s e = omega arith
 spends-search x w (f ∷ rest) s e = omega (
   arith,
@@ -159,7 +180,8 @@ spends-search x w (f ∷ rest) s e = omega (
   ap (λ (xs : List ℕ). length (drop 1 xs)) e,
 )
 
-spends-copy_sleeper : (b : Bool) (w : World) (s : Sleeping) → IsKnownWaker w s.waker → Spends w 140 (copy_sleeper_by b w s)
+spends-copy_sleeper : (b : Bool) (w : World) (s : Sleeping) → IsKnownWaker w s.waker →
+    Spends w 140 (copy_sleeper_by b w s)
 spends-copy_sleeper true w s l = omega arith
 spends-copy_sleeper false w s l = omega (arith, kept-copied w s.waker l)
 
@@ -168,7 +190,8 @@ spends-anew true w s e =
     omega (
       arith,
       kept-of w (lie_anew_by true w s).world (notified_of w.sleepers) (ups w.ticks - 1) refl refl refl refl refl refl
-          (omega (arith, notified-laid s w.sleepers)) (omega (arith, ups-set w.ticks s.tick (Lies (next_number w.sleepers)), ap up_of e)),
+          (omega (arith, notified-laid s w.sleepers))
+          (omega (arith, ups-set w.ticks s.tick (Lies (next_number w.sleepers)), ap up_of e)),
       ups-set w.ticks s.tick (Lies (next_number w.sleepers)),
       ap up_of e,
     )
@@ -179,7 +202,8 @@ spends-listed : (b : Bool) (w : World) (n : ℕ) (s : Sleeping) → ltb (length 
 spends-listed true w n s e =
     omega (
       arith,
-      kept-of w (lie_listed_by true w n s).world (notified_of w.sleepers - 1) (ups w.ticks) refl refl refl refl refl refl
+      kept-of w (lie_listed_by true w n s).world (notified_of w.sleepers - 1) (ups w.ticks) refl refl refl refl refl
+          refl
           (omega (arith, notified-listed n s w.sleepers e)) (omega arith),
       notified-listed n s w.sleepers e,
     )
@@ -198,10 +222,11 @@ spends-lie_again (Some at) w n s =
       arith,
       weigh-append steps_of (sleeper_goes old) (pend_tick s.tick),
       goes-steps_of old,
-      kept-of w (lie_again_by (Some at) w n s).world (notified_of w.sleepers) (ups w.ticks) refl refl refl refl refl refl (omega (
-        arith,
-        length-put w.sleepers.wakers at (n, s),
-      )) (omega arith),
+      kept-of w (lie_again_by (Some at) w n s).world (notified_of w.sleepers) (ups w.ticks) refl refl refl refl refl
+          refl (omega (
+            arith,
+            length-put w.sleepers.wakers at (n, s),
+          )) (omega arith),
     )
 
 spends-lie : (x : Tick) (w : World) (s : Sleeping) → tick_of w s.tick ≡ x → Spends w 139 (lie_down_by x w s)
@@ -217,7 +242,8 @@ spends-up (Lies n) w t f =
       arith,
       weigh-append steps_of (sleeper_goes old) (run_found t f),
       goes-steps_of old,
-      kept-of w (get_up_by (Lies n) w t f).world (notified_of w.sleepers) (ups w.ticks + 1) refl refl refl refl refl refl
+      kept-of w (get_up_by (Lies n) w t f).world (notified_of w.sleepers) (ups w.ticks + 1) refl refl refl refl refl
+          refl
           (notified-risen n w.sleepers) (omega (arith, ups-set w.ticks t Up)),
     )
 spends-up Left w t f = omega arith
@@ -229,10 +255,11 @@ left-steps (Some s) = omega (arith, weigh-append steps_of (sleeper_goes (Some s)
 spends-leave_sleepers : (x : Tick) (w : World) (t : ℕ) → Spends w 46 (leave_sleepers_by x w t)
 spends-leave_sleepers Up w t = omega (
   arith,
-  kept-of w (leave_sleepers_by Up w t).world (notified_of w.sleepers) (ups w.ticks) refl refl refl refl refl refl (omega (
-    arith,
-    notified-back w.sleepers,
-  )) (omega (arith, ups-set w.ticks t Left)),
+  kept-of w (leave_sleepers_by Up w t).world (notified_of w.sleepers) (ups w.ticks) refl refl refl refl refl refl
+      (omega (
+        arith,
+        notified-back w.sleepers,
+      )) (omega (arith, ups-set w.ticks t Left)),
 )
 spends-leave_sleepers (Lies n) w t =
     let old = waker_of n w.sleepers.wakers in
@@ -243,8 +270,10 @@ spends-leave_sleepers (Lies n) w t =
       weigh-append steps_of (sleeper_goes old) (tell_if (is_none old)),
       weigh-append steps_of (tell_if (is_none old)) (end_drop t),
       left-steps old,
-      kept-of w (leave_sleepers_by (Lies n) w t).world (notified_of w.sleepers) (ups w.ticks) refl refl refl refl refl refl
-          (omega (arith, notified-back (risen n w.sleepers), notified-risen n w.sleepers)) (omega (arith, ups-set w.ticks t Left)),
+      kept-of w (leave_sleepers_by (Lies n) w t).world (notified_of w.sleepers) (ups w.ticks) refl refl refl refl refl
+          refl
+          (omega (arith, notified-back (risen n w.sleepers), notified-risen n w.sleepers))
+          (omega (arith, ups-set w.ticks t Left)),
     )
 spends-leave_sleepers Left w t = omega arith
 

@@ -8,7 +8,8 @@ use Rattle.executor_model.specs.declared.op.Waker.{Waker}
 use Rattle.executor_model.specs.declared.op.Waker.TheVariants.{Task, Outside}
 use Rattle.executor_model.specs.declared.step.Hint.{Hint}
 use Rattle.executor_model.specs.World.{World, Tick, Up, Lies, Left}
-use Rattle.executor_model.specs.Acts.{make_tick_by, search_by, copied, copy_sleeper_by, lie_anew_by, lie_listed_by, lie_again_by, lie_down_by, get_up_by, leave_sleepers_by, tick_act}
+use Rattle.executor_model.specs.Acts.{make_tick_by, search_by, copied, copy_sleeper_by, lie_anew_by, lie_listed_by}
+use Rattle.executor_model.specs.Acts.{lie_again_by, lie_down_by, get_up_by, leave_sleepers_by, tick_act}
 
 make-trace : (b : Bool) (w : World) → (make_tick_by b w).world.trace ≡ w.trace
 make-trace true w = refl

@@ -1,5 +1,7 @@
 -- Where no call is in progress, a tick finds a future exactly where one is due.
-use Rattle.std.proofs.Common.{◌≡◌, ◌⊎◌, ℕ, ◌+◌, ◌<◌, ◌≤◌, List, [], ◌∷◌, ◌++◌, length, set, get_or, Bool, true, false, ◌&&◌, not, refl, sym, ap, ◌∙◌, subst, inl, inr, ⊎_elim, arith, get_or-set_same, length-append}
+use Rattle.std.proofs.Common.{◌≡◌, ◌⊎◌, ℕ, ◌+◌, ◌<◌, ◌≤◌, List, [], ◌∷◌, ◌++◌, length, set, get_or}
+use Rattle.std.proofs.Common.{Bool, true, false, ◌&&◌, not, refl, sym, ap, ◌∙◌, subst, inl, inr}
+use Rattle.std.proofs.Common.{⊎_elim, arith, get_or-set_same, length-append}
 use Rattle.std.proofs.Math.ListN.{length-set}
 use Rattle.std.proofs.lemmas.Bool.Decides.{nat_tests}
 use Rattle.std.proofs.lemmas.List.{append_assoc}
@@ -26,9 +28,11 @@ use Rattle.executor_model.specs.World.{log, task}
 use Rattle.executor_model.specs.Acts.{take_by}
 use Rattle.executor_model.specs.Weights.{weigh_all}
 use Rattle.executor_model.specs.Sound.{times}
-use Rattle.executor_model.specs.Rows.{waiting_of, polls_of, ending_of, ready_of, closing_of, settling_of, giving_of, drops_of}
+use Rattle.executor_model.specs.Rows.{waiting_of, polls_of, ending_of, ready_of, closing_of}
+use Rattle.executor_model.specs.Rows.{settling_of, giving_of, drops_of}
 use Rattle.executor_model.specs.Good.{Good}
-use Rattle.executor_model.specs.Steps.{Machine, stack, top, step, step_by, stepped, refusal, unless, begin_refusal, go_refusal, onto, part_after, with_part, run, start}
+use Rattle.executor_model.specs.Steps.{Machine, stack, top, step, step_by, stepped, refusal, unless, begin_refusal}
+use Rattle.executor_model.specs.Steps.{go_refusal, onto, part_after, with_part, run, start}
 use Rattle.executor_model.proofs.Lists.{same_is}
 use Rattle.executor_model.proofs.Lift.{good}
 use Rattle.executor_model.proofs.Telling.{begun-has}
@@ -40,7 +44,11 @@ use Rattle.executor_laws.proofs.Dueness.{asked-is, ready-is, not-over, unopened}
 
 -- the machine in which p has called a tick, and has still to take
 abbrev pub ticking : Machine → ℕ → Machine
-ticking s p = record { world = log s.world (event.CallBegun p call.TryTick); parties = set s.parties p (op.Queue queue_op.Take ∷ []) }
+ticking s p =
+    record {
+      world = log s.world (event.CallBegun p call.TryTick);
+      parties = set s.parties p (op.Queue queue_op.Take ∷ []);
+    }
 
 module _ (s : Machine) (fine : Good s) (h : Heard s) (d : Deep s) (rest : IsAtRest s) where
   pub here : s.world.gone ≡ false
@@ -74,7 +82,8 @@ module _ (s : Machine) (fine : Good s) (h : Heard s) (d : Deep s) (rest : IsAtRe
         none (ending_of f),
         none (drops_of f),
       )))
-      ((h.asked f).due (sym (asked-is f s.world.trace) ∙ due.asked_for) (not-over f s.world.trace due.unready due.undropped))
+      ((h.asked f).due (sym (asked-is f s.world.trace) ∙ due.asked_for)
+      (not-over f s.world.trace due.unready due.undropped))
 
   no-true : (a : Bool) → (a ≡ true → ⊥) → a ≡ false
   no-true true k = absurd (k refl)
@@ -134,14 +143,16 @@ module _ (s : Machine) (p : ℕ) (l : p < length s.parties) (n : s.world.gone �
       ∙ ap (λ (xs : List ℕ). with_part (ticking s p) p (onto p (take_by (ticking s p).world xs) [])) q))
 
   pub placed-there : (os : List Op) → get_or (set (ticking s p).parties p os) p [] ≡ os
-  placed-there os = get_or-set_same (ticking s p).parties p os [] (omega (arith, l, length-set s.parties p (op.Queue queue_op.Take ∷ [])))
+  placed-there os = get_or-set_same (ticking s p).parties p os []
+      (omega (arith, l, length-set s.parties p (op.Queue queue_op.Take ∷ [])))
 
   pub finds-nothing : (t : Hint) → s.world.queue.items ≡ [] → FindsNothing s p t
   finds-nothing t q = ap (λ (m : Machine). m.world.trace) (gone-on-alone t [] q)
       ∙ append_assoc s.world.trace (event.CallBegun p call.TryTick ∷ []) (event.CallEnded p reply.No ∷ [])
 
   finds-one : (t : Hint) (f : ℕ) (xs : List ℕ) → s.world.queue.items ≡ f ∷ xs →
-      stack (run (ticks p t) s) p ≡ op.End reply.Yes hold.Executor ∷ op.Move move.TakeUp f ∷ op.Sleeper sleeper_op.ExchangeFlag ∷ []
+      stack (run (ticks p t) s) p ≡ op.End reply.Yes hold.Executor ∷ op.Move move.TakeUp f
+      ∷ op.Sleeper sleeper_op.ExchangeFlag ∷ []
   finds-one t f xs q = ap (λ (m : Machine). stack m p) (gone-on-alone t (f ∷ xs) q)
       ∙ placed-there (op.End reply.Yes hold.Executor ∷ op.Move move.TakeUp f ∷ op.Sleeper sleeper_op.ExchangeFlag ∷ [])
 
@@ -159,7 +170,8 @@ module _ (s : Machine) (p : ℕ) (l : p < length s.parties) (n : s.world.gone �
 pub first-times : (f : ℕ) (xs : List ℕ) → 1 ≤ times f (f ∷ xs)
 first-times f xs = grind (arith, same_is)
 
-tick-answered : (s : Machine) → Good s → Heard s → Deep s → (r : IsAtRest s) → (p : ℕ) (t : Hint) → p < length s.parties →
+tick-answered : (s : Machine) → Good s → Heard s → Deep s → (r : IsAtRest s) → (p : ℕ) (t : Hint) →
+    p < length s.parties →
     (items : List ℕ) → s.world.queue.items ≡ items → FindsNothing s p t ⊎ FindsDue s p t
 tick-answered s fine h d r p t l [] q = inl (finds-nothing s p l (here s fine h d r) (idle s fine h d r p) t q)
 tick-answered s fine h d r p t l (f ∷ xs) q = inr record {
@@ -189,4 +201,5 @@ tick-exact s fine h d = record {
 
 pub ticks-exact : (limit parties : ℕ) (steps : List Step) → IsTickExact (run steps (start limit parties))
 ticks-exact limit parties steps =
-    tick-exact (run steps (start limit parties)) (good limit parties steps) (heard limit parties steps) (deep limit parties steps)
+    tick-exact (run steps (start limit parties)) (good limit parties steps) (heard limit parties steps)
+    (deep limit parties steps)

@@ -3,7 +3,10 @@ use Rattle.std.specs.Prelude.{◌≡◌, ℕ, ◌==◌, Bool, [], ◌∷◌, ◌
 use Rattle.executor_model.specs.declared.call.Call.{Call}
 use Rattle.executor_model.specs.declared.call.Reply.TheVariants.{No}
 use Rattle.executor_model.specs.declared.event.Event.{Event}
-use Rattle.executor_model.specs.declared.event.Event.TheVariants.{CallBegun, CallEnded, Accepted, PollBegun, Answered, Woken, Cancelled, Detached, Dropped, OutputDropped, OutputGiven, HandlePolled, WakerCalled, TickPolled, TickDropped, DropBegun, DropEnded}
+use Rattle.executor_model.specs.declared.event.Event.TheVariants.{CallBegun, CallEnded, Accepted, PollBegun, Answered}
+use Rattle.executor_model.specs.declared.event.Event.TheVariants.{Woken, Cancelled, Detached, Dropped, OutputDropped}
+use Rattle.executor_model.specs.declared.event.Event.TheVariants.{OutputGiven, HandlePolled, WakerCalled, TickPolled}
+use Rattle.executor_model.specs.declared.event.Event.TheVariants.{TickDropped, DropBegun, DropEnded}
 use Rattle.executor_model.specs.Trace.{Trace}
 
 -- who did it

@@ -9,17 +9,20 @@ use Rattle.executor_model.specs.Steps.{Machine, after, refusal}
 use Rattle.executor_laws.specs.Reach.{is_onward_of, are_onward_of, IsLoneCall}
 use Rattle.executor_laws.specs.Remaining.{remaining}
 
--- the call has begun, and its party has gone on with it by these steps; no other party takes one, and user code begins no call
+-- the call has begun, and its party has gone on with it by these steps; no other party takes one,
+-- and user code begins no call
 pub record GoesAlone (p : ℕ) (c : Call) (steps : List Step) (s now : Machine) : Type 0 where
   pub made : run_all (Begin p c ∷ steps) s ≡ Ok now
   pub alone : are_onward_of p steps ≡ true
 
--- where no call is in progress, each call that isn't refused can be made alone. However it goes on, it takes no more steps
--- than a number that the machine determines as it begins, and at each moment it has ended or can go on
+-- where no call is in progress, each call that isn't refused can be made alone. However it goes on, it takes no more
+-- steps than a number that the machine determines as it begins, and at each moment it has ended or can go on
 pub record LoneCallsEnd (s : Machine) : Type 0 where
   pub can : IsQuiet s.world.trace → (p : ℕ) (c : Call) → refusal s (Begin p c) ≡ None →
       (steps : List Step) × (new : Machine) × IsLoneCall p c steps s new
-  pub within : IsQuiet s.world.trace → (p : ℕ) (c : Call) (steps : List Step) (now : Machine) → GoesAlone p c steps s now →
+  pub within : IsQuiet s.world.trace → (p : ℕ) (c : Call) (steps : List Step) (now : Machine) →
+      GoesAlone p c steps s now →
       length steps ≤ remaining (after s (Begin p c))
-  pub onward : IsQuiet s.world.trace → (p : ℕ) (c : Call) (steps : List Step) (now : Machine) → GoesAlone p c steps s now →
+  pub onward : IsQuiet s.world.trace → (p : ℕ) (c : Call) (steps : List Step) (now : Machine) →
+      GoesAlone p c steps s now →
       IsQuiet now.world.trace ⊎ ((t : Step) × (is_onward_of p t ≡ true) × (refusal now t ≡ None))

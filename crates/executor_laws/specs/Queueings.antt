@@ -1,6 +1,8 @@
--- How many Runnables were queued; and that the machine's queue is one that counts them, for as long as such a queue may.
+-- How many Runnables were queued; and that the machine's queue is one that counts them,
+-- for as long as such a queue may.
 use Rattle.std.specs.Prelude.{◌≡◌, ℕ, ◌+◌, ◌-◌, ◌<◌, ◌≤◌, false, Some, List, [], ◌∷◌, ◌++◌, length}
-use Rattle.queue_steps.specs.ClosableQueue.{ClosableQueue, most_accepted, new_queue, HasRoom, IsUnspent, appended, taken, shut}
+use Rattle.queue_steps.specs.ClosableQueue.{ClosableQueue, most_accepted, new_queue, HasRoom}
+use Rattle.queue_steps.specs.ClosableQueue.{IsUnspent, appended, taken, shut}
 use Rattle.executor_model.specs.declared.op.Op.TheVariants as op
 use Rattle.executor_model.specs.declared.op.QueueOp.TheVariants as queue_op
 use Rattle.executor_model.specs.declared.step.Hint.{Hint}
@@ -12,7 +14,8 @@ use Rattle.executor_model.specs.Steps.{Machine, stack, top, step, stepped, run, 
 abbrev pub queued_by : Step → Machine → ℕ
 queued_by t s = length (stepped s (step s t)).world.queue.items - length s.world.queue.items
 
--- the appends to the queue by these steps, of a new machine: those of acceptances, of wakes that scheduled and of closings
+-- the appends to the queue by these steps, of a new machine: those of acceptances,
+-- of wakes that scheduled and of closings
 abbrev pub queueings : List Step → Machine → ℕ
 queueings [] s = 0
 queueings (t ∷ ts) s = queued_by t s + queueings ts (stepped s (step s t))
@@ -21,8 +24,8 @@ queueings (t ∷ ts) s = queued_by t s + queueings ts (stepped s (step s t))
 abbrev pub counting : ℕ → ClosableQueue ℕ → ClosableQueue ℕ
 counting n q = record q { accepted = Some n }
 
--- one change of a closable queue: none; an append where it is open, has room and may accept one more; a take of the first
--- item, which is there; a close
+-- one change of a closable queue: none; an append where it is open, has room and may accept one more;
+-- a take of the first item, which is there; a close
 pub data Changes (q new : ClosableQueue ℕ) : Type 0 where
   stays : new ≡ q → Changes q new
   appends : (f : ℕ) → q.closed ≡ false → HasRoom q → IsUnspent q → new ≡ appended q f → Changes q new
@@ -31,14 +34,15 @@ pub data Changes (q new : ClosableQueue ℕ) : Type 0 where
 
 -- after these steps of a new machine
 abbrev pub counted_after : ℕ → ℕ → List Step → ClosableQueue ℕ
-counted_after limit parties steps = counting (queueings steps (start limit parties)) (run steps (start limit parties)).world.queue
+counted_after limit parties steps =
+    counting (queueings steps (start limit parties)) (run steps (start limit parties)).world.queue
 
 -- these steps queue fewer than a queue may accept
 abbrev pub AreFewQueueings : ℕ → ℕ → List Step → Type 0
 AreFewQueueings limit parties steps = queueings steps (start limit parties) < most_accepted
 
--- there are no more than steps; the queue of a new machine is a new queue that counts; each step changes it as a closable
--- queue changes; and a Runnable that is to be appended is, unless the queue is closed
+-- there are no more than steps; the queue of a new machine is a new queue that counts; each step changes it as a
+-- closable queue changes; and a Runnable that is to be appended is, unless the queue is closed
 pub record CountsQueueings (limit parties : ℕ) (steps : List Step) : Type 0 where
   pub most : queueings steps (start limit parties) ≤ length steps
   pub new : counted_after limit parties [] ≡ new_queue (Some limit) (Some 0)

@@ -1,5 +1,6 @@
 -- Which futures are reached by calls that look for one and are made alone.
-use Rattle.std.specs.Prelude.{◌≡◌, ◌==◌, ℕ, suc, ◌+◌, ◌≤◌, ◌<◌, Bool, true, false, ◌&&◌, ◌||◌, Option, Some, None, Ok, List, [], ◌∷◌, ◌++◌, length, drop, take}
+use Rattle.std.specs.Prelude.{◌≡◌, ◌==◌, ℕ, suc, ◌+◌, ◌≤◌, ◌<◌, Bool, true, false, ◌&&◌, ◌||◌}
+use Rattle.std.specs.Prelude.{Option, Some, None, Ok, List, [], ◌∷◌, ◌++◌, length, drop, take}
 use Rattle.std.specs.List.{list_any}
 use Rattle.executor_model.specs.declared.call.Call.{Call}
 use Rattle.executor_model.specs.declared.call.Call.TheVariants.{PollTick, TryTick}
@@ -29,8 +30,8 @@ abbrev pub are_onward_of : ℕ → List Step → Bool
 are_onward_of p [] = true
 are_onward_of p (t ∷ ts) = is_onward_of p t && are_onward_of p ts
 
--- a whole call of party p: it begins, goes on by these steps and has ended. No other party takes a step, and the user code
--- in it answers as it likes, but begins no call
+-- a whole call of party p: it begins, goes on by these steps and has ended. No other party takes a step,
+-- and the user code in it answers as it likes, but begins no call
 pub record IsLoneCall (p : ℕ) (c : Call) (steps : List Step) (s new : Machine) : Type 0 where
   pub made : run_all (Begin p c ∷ steps) s ≡ Ok new
   pub alone : are_onward_of p steps ≡ true
@@ -39,7 +40,8 @@ pub record IsLoneCall (p : ℕ) (c : Call) (steps : List Step) (s new : Machine)
 abbrev pub IsLoneTick : ℕ → List Step → Machine → Machine → Type 0
 IsLoneTick p steps s new = IsLoneCall p TryTick steps s new
 
--- a call that looks for a future to run, and how it is answered where it finds one: a tick that is tried, and a poll of a tick
+-- a call that looks for a future to run, and how it is answered where it finds one: a tick that is tried,
+-- and a poll of a tick
 abbrev pub found_answer : Call → Option Reply
 found_answer TryTick = Some Yes
 found_answer (PollTick t by) = Some Ready
@@ -56,7 +58,8 @@ pub record LoneSearch : Type 0 where
 -- such calls, one after the other, lead from s to new
 abbrev pub AreLoneSearches : List LoneSearch → Machine → Machine → Type 0
 AreLoneSearches [] s new = s ≡ new
-AreLoneSearches (t ∷ ts) s new = (next : Machine) × IsLoneCall t.party t.call t.steps s next × AreLoneSearches ts next new
+AreLoneSearches (t ∷ ts) s new =
+    (next : Machine) × IsLoneCall t.party t.call t.steps s next × AreLoneSearches ts next new
 
 -- the poll or the drop of future f begins
 abbrev pub takes : ℕ → Event → Bool
@@ -94,25 +97,29 @@ is_coming f place c = c.future == f && c.place == place
 
 -- the list has each future that becomes common behind so many events, each time
 abbrev pub HasComings : ℕ → Trace → List Coming → Type 0
-HasComings from trace comings = (f place : ℕ) → from ≤ place → BecomesCommon f place trace → list_any (is_coming f place) comings ≡ true
+HasComings from trace comings = (f place : ℕ) → from ≤ place → BecomesCommon f place trace →
+    list_any (is_coming f place) comings ≡ true
 
 -- while some future is common, each lone call that looks for one takes one that is; so a list of them as long as the
--- futures that are common at its start and those that become common in it, each time counted, takes each that is common at
--- its start. Each party can make one: it can try a tick, and it can poll a tick that lives
+-- futures that are common at its start and those that become common in it, each time counted, takes each that is common
+-- at its start. Each party can make one: it can try a tick, and it can poll a tick that lives
 pub record IsInReach (s : Machine) : Type 0 where
-  pub each : IsAtRest s → (f : ℕ) → IsCommon f s.world.trace → (p : ℕ) (c : Call) (reply : Reply) → found_answer c ≡ Some reply →
+  pub each : IsAtRest s → (f : ℕ) → IsCommon f s.world.trace → (p : ℕ) (c : Call) (reply : Reply) →
+      found_answer c ≡ Some reply →
       (steps : List Step) (new : Machine) → IsLoneCall p c steps s new → TakesCommon p c reply s new
-  pub all : IsAtRest s → (commons : List ℕ) → HasCommons s.world.trace commons → (searches : List LoneSearch) (new : Machine) →
+  pub all : IsAtRest s → (commons : List ℕ) → HasCommons s.world.trace commons →
+      (searches : List LoneSearch) (new : Machine) →
       AreLoneSearches searches s new →
       (comings : List Coming) → HasComings (length s.world.trace) new.world.trace comings →
       length commons + length comings ≤ length searches →
       (f : ℕ) → IsCommon f s.world.trace → has (takes f) (since s new) ≡ true
-  pub can : IsAtRest s → (p : ℕ) → p < length s.parties → (steps : List Step) × (new : Machine) × IsLoneTick p steps s new
+  pub can : IsAtRest s → (p : ℕ) → p < length s.parties →
+      (steps : List Step) × (new : Machine) × IsLoneTick p steps s new
   pub polls : IsAtRest s → (p : ℕ) → p < length s.parties → (t x : ℕ) → lives (tick_of s.world t) ≡ true →
       (steps : List Step) × (new : Machine) × IsLoneCall p (PollTick t (Outside x)) steps s new
 
--- the queue is first in, first out, so as many such calls as futures are common at their start take each of those, whatever
--- becomes common meanwhile
+-- the queue is first in, first out, so as many such calls as futures are common at their start take each of those,
+-- whatever becomes common meanwhile
 abbrev pub IsReachedInOrder : Machine → Type 0
 IsReachedInOrder s = IsAtRest s → (commons : List ℕ) → HasCommons s.world.trace commons →
     (searches : List LoneSearch) (new : Machine) → AreLoneSearches searches s new → length commons ≤ length searches →

@@ -1,5 +1,6 @@
 -- How many more steps can be taken where no further call begins: a whole number that the machine's state determines.
-use Rattle.std.specs.Prelude.{◌≡◌, ℕ, ◌+◌, ◌-◌, ◌*◌, ◌<◌, ◌≤◌, Bool, true, false, ◌&&◌, ◌||◌, not, Option, Some, None, Ok, List, [], ◌∷◌, length, cond}
+use Rattle.std.specs.Prelude.{◌≡◌, ℕ, ◌+◌, ◌-◌, ◌*◌, ◌<◌, ◌≤◌, Bool, true, false, ◌&&◌, ◌||◌, not}
+use Rattle.std.specs.Prelude.{Option, Some, None, Ok, List, [], ◌∷◌, length, cond}
 use Rattle.executor_parts.specs.Sleepers.{Sleepers}
 use Rattle.task_moves.specs.declared.moves.state.State.{State}
 use Rattle.executor_model.specs.declared.op.Awaiter.{Awaiter}
@@ -24,8 +25,8 @@ stored (Some a ∷ rest) = 1 + stored rest
 abbrev pub keeps_output : State → ℕ
 keeps_output s = cond (s.completed && not s.closed) 1 0
 
--- how many more Runnables may be appended before the task is taken up again, where it is over or not, and scheduled or not: one
--- by a wake, where it isn't scheduled, and one by who closes it
+-- how many more Runnables may be appended before the task is taken up again, where it is over or not,
+-- and scheduled or not: one by a wake, where it isn't scheduled, and one by who closes it
 abbrev pub appends_by : Bool → Bool → ℕ
 appends_by over scheduled = cond over 0 (cond scheduled 1 2)
 
@@ -54,13 +55,12 @@ abbrev pub ups : List Tick → ℕ
 ups [] = 0
 ups (t ∷ ts) = up_of t + ups ts
 
--- the steps that what the machine keeps may lead to: its Runnables, entries of the table, wakers of the executor's drop,
--- stored awaiters, tasks, sleepers and ticks
+-- the steps that what the machine keeps may lead to: its Runnables, entries of the table, wakers of the executor's
+-- drop, stored awaiters, tasks, sleepers and ticks
 unfoldable pub steps_kept : World → ℕ
 steps_kept w =
-    11 * length w.queue.items
-    + (28 * (length w.table + length w.leaving)
-    + (26 * length w.waking + (26 * stored w.awaiters + (steps_of_tasks w.tasks + (3 * notified_of w.sleepers + 3 * ups w.ticks)))))
+    11 * length w.queue.items + (28 * (length w.table + length w.leaving) + (26 * length w.waking +
+    (26 * stored w.awaiters + (steps_of_tasks w.tasks + (3 * notified_of w.sleepers + 3 * ups w.ticks)))))
 
 abbrev pub remaining : Machine → ℕ
 remaining s = steps_kept s.world + weigh_all steps_of s.parties

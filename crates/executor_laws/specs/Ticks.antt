@@ -26,10 +26,14 @@ FindsNothing s p h = (run (ticks p h) s).world.trace ≡ s.world.trace ++ CallBe
 pub record FindsDue (s : Machine) (p : ℕ) (h : Hint) : Type 0 where
   pub future : ℕ
   pub due : IsDue future s.world.trace
-  pub found : stack (run (ticks p h) s) p ≡ op.End Yes hold.Executor ∷ op.Move move.TakeUp future ∷ op.Sleeper sleeper_op.ExchangeFlag ∷ []
+  pub found : stack (run (ticks p h) s) p ≡
+      op.End Yes hold.Executor ∷ op.Move move.TakeUp future ∷ op.Sleeper sleeper_op.ExchangeFlag ∷ []
 
--- where no call is in progress and the drop of the executor hasn't begun, a tick finds nothing exactly where no future is due
+-- where no call is in progress and the drop of the executor hasn't begun,
+-- a tick finds nothing exactly where no future is due
 pub record IsTickExact (s : Machine) : Type 0 where
   pub answered : IsAtRest s → (p : ℕ) (h : Hint) → p < length s.parties → FindsNothing s p h ⊎ FindsDue s p h
-  pub always : IsAtRest s → (p : ℕ) (h : Hint) → p < length s.parties → ((f : ℕ) → ¬ IsDue f s.world.trace) → FindsNothing s p h
-  pub only : IsAtRest s → (p : ℕ) (h : Hint) → p < length s.parties → FindsNothing s p h → (f : ℕ) → ¬ IsDue f s.world.trace
+  pub always : IsAtRest s → (p : ℕ) (h : Hint) → p < length s.parties → ((f : ℕ) → ¬ IsDue f s.world.trace) →
+      FindsNothing s p h
+  pub only : IsAtRest s → (p : ℕ) (h : Hint) → p < length s.parties → FindsNothing s p h → (f : ℕ) →
+      ¬ IsDue f s.world.trace

@@ -1,5 +1,7 @@
 -- What holds at every moment of each future and of who waits on its handle.
-use Rattle.std.proofs.Common.{◌≡◌, ◌≢◌, ◌⊎◌, ℕ, zero, suc, ◌+◌, ◌==◌, ◌<◌, ◌≤◌, List, [], ◌∷◌, ◌++◌, length, set, get_or, Bool, true, false, ◌&&◌, cond, eqb, refl, ap, ◌∙◌, inl, inr, ⊎_elim, arith, get_or-set_same, get_or-set_other}
+use Rattle.std.proofs.Common.{◌≡◌, ◌≢◌, ◌⊎◌, ℕ, zero, suc, ◌+◌, ◌==◌, ◌<◌, ◌≤◌, List, [], ◌∷◌, ◌++◌, length}
+use Rattle.std.proofs.Common.{set, get_or, Bool, true, false, ◌&&◌, cond, eqb, refl, ap, ◌∙◌, inl, inr}
+use Rattle.std.proofs.Common.{⊎_elim, arith, get_or-set_same, get_or-set_other}
 use Rattle.std.proofs.Math.Path.{fun_ext}
 use Rattle.std.specs.Prelude.{Option, Some, None}
 use Rattle.executor_model.specs.declared.call.Reply.{Reply}
@@ -38,7 +40,16 @@ pub record Heard : Type 0 where
   pub parted : Bool
 
 abbrev pub unheard : Heard
-unheard = record { poll = 0; party = 0; asking = false; inner = 0; pending = false; called = false; dropped = false; parted = false }
+unheard = record {
+  poll = 0;
+  party = 0;
+  asking = false;
+  inner = 0;
+  pending = false;
+  called = false;
+  dropped = false;
+  parted = false;
+}
 
 abbrev pub is_pending : Reply → Bool
 is_pending reply.Pending = true
@@ -51,10 +62,16 @@ ended_in (suc n) r s = record s { inner = n }
 
 -- the event at place n
 abbrev pub hears : ℕ → ℕ → Event → Heard → Heard
-hears g n (event.HandlePolled p f) s = cond (g == f) (record s { poll = n; party = p; asking = true; inner = 0; pending = false; called = false }) s
-hears g n (event.CallBegun p c) s = record s { inner = s.inner + cond s.asking (same s.party p) 0; parted = cond (takes_handle g (event.CallBegun p c)) true s.parted }
+hears g n (event.HandlePolled p f) s =
+    cond (g == f) (record s { poll = n; party = p; asking = true; inner = 0; pending = false; called = false }) s
+hears g n (event.CallBegun p c) s =
+    record s {
+      inner = s.inner + cond s.asking (same s.party p) 0;
+      parted = cond (takes_handle g (event.CallBegun p c)) true s.parted;
+    }
 hears g n (event.CallEnded p r) s = cond (s.asking && (s.party == p)) (ended_in s.inner r s) s
-hears g n (event.WakerCalled p (of.Handle f) k a) s = record s { called = cond (g == f) (cond (s.poll == k) true s.called) s.called }
+hears g n (event.WakerCalled p (of.Handle f) k a) s =
+    record s { called = cond (g == f) (cond (s.poll == k) true s.called) s.called }
 hears g n (event.Dropped p f) s = record s { dropped = cond (g == f) true s.dropped }
 hears g n _ s = s
 
@@ -65,13 +82,17 @@ heard_from g n s (e ∷ es) = heard_from g (suc n) (hears g n e s) es
 unfoldable pub heard : ℕ → Trace → Heard
 heard g es = heard_from g 0 unheard es
 
-heard_from-push : (g n : ℕ) (s : Heard) (es : Trace) (e : Event) → heard_from g n s (es ++ e ∷ []) ≡ hears g (n + length es) e (heard_from g n s es)
+heard_from-push : (g n : ℕ) (s : Heard) (es : Trace) (e : Event) →
+    heard_from g n s (es ++ e ∷ []) ≡ hears g (n + length es) e (heard_from g n s es)
 heard_from-push g n s [] e = ap (λ (m : ℕ). hears g m e s) (let z : n ≡ n + 0 = omega arith in z)
-heard_from-push g n s (x ∷ es) e = heard_from-push g (suc n) (hears g n x s) es e ∙ ap (λ (m : ℕ). hears g m e (heard_from g (suc n) (hears g n x s) es)) (let z : suc n + length es ≡ n + suc (length es) = omega arith in z)
+heard_from-push g n s (x ∷ es) e = heard_from-push g (suc n) (hears g n x s) es e
+    ∙ ap (λ (m : ℕ). hears g m e (heard_from g (suc n) (hears g n x s) es))
+    (let z : suc n + length es ≡ n + suc (length es) = omega arith in z)
 
 pub heard-push : (g : ℕ) (es : Trace) (e : Event) → heard g (es ++ e ∷ []) ≡ hears g (length es) e (heard g es)
 unfolding heard
-heard-push g es e = heard_from-push g 0 unheard es e ∙ ap (λ (m : ℕ). hears g m e (heard_from g 0 unheard es)) (let z : 0 + length es ≡ length es = omega arith in z)
+heard-push g es e = heard_from-push g 0 unheard es e ∙ ap (λ (m : ℕ). hears g m e (heard_from g 0 unheard es))
+    (let z : 0 + length es ≡ length es = omega arith in z)
 
 pub heard-none : (g : ℕ) → heard g [] ≡ unheard
 unfolding heard
@@ -196,11 +217,32 @@ awaiting g ss = record {
 }
 
 -- what the executor's drop does after a wake is none of it
-pub with_awaiting-closing : (g : ℕ) (xs : List Op) (rest : List ℕ) (r : Awaiting) → with_awaiting g (xs ++ closing_ops [] rest) r ≡ with_awaiting g xs r
+pub with_awaiting-closing : (g : ℕ) (xs : List Op) (rest : List ℕ) (r : Awaiting) →
+    with_awaiting g (xs ++ closing_ops [] rest) r ≡ with_awaiting g xs r
 with_awaiting-closing g xs rest r =
-    let strays : (λ k. weigh (strays_of g k) (xs ++ closing_ops [] rest) + r.strays k) ≡ (λ k. weigh (strays_of g k) xs + r.strays k) = fun_ext (λ k. ap (λ n. n + r.strays k) (weigh-closing (strays_of g k) xs rest refl refl)) in
-    let calls : (λ k. weigh (calls_of g k) (xs ++ closing_ops [] rest) + r.calls k) ≡ (λ k. weigh (calls_of g k) xs + r.calls k) = fun_ext (λ k. ap (λ n. n + r.calls k) (weigh-closing (calls_of g k) xs rest refl refl)) in
-    rw (weigh-closing (handling_of g) xs rest refl refl, weigh-closing (looks_of g) xs rest refl refl, weigh-closing (fresh_of g) xs rest refl refl, weigh-closing (storing_of g) xs rest refl refl, weigh-closing (again_of g) xs rest refl refl, weigh-closing (waits_of g) xs rest refl refl, weigh-closing (over_of g) xs rest refl refl, weigh-closing (notices_of g) xs rest refl refl, weigh-closing (notifying_of g) xs rest refl refl, weigh-closing (mine_of g) xs rest refl refl, weigh-closing (detaches_of g) xs rest refl refl, weigh-closing (lending_of g) xs rest refl refl, strays, calls) refl
+    let strays : (λ k. weigh (strays_of g k) (xs ++ closing_ops [] rest) + r.strays k)
+    ≡ (λ k. weigh (strays_of g k) xs + r.strays k) =
+    fun_ext (λ k. ap (λ n. n + r.strays k) (weigh-closing (strays_of g k) xs rest refl refl)) in
+    let calls : (λ k. weigh (calls_of g k) (xs ++ closing_ops [] rest) + r.calls k)
+    ≡ (λ k. weigh (calls_of g k) xs + r.calls k) =
+    fun_ext (λ k. ap (λ n. n + r.calls k) (weigh-closing (calls_of g k) xs rest refl refl)) in
+    rw (
+      weigh-closing (handling_of g) xs rest refl refl,
+      weigh-closing (looks_of g) xs rest refl refl,
+      weigh-closing (fresh_of g) xs rest refl refl,
+      weigh-closing (storing_of g) xs rest refl refl,
+      weigh-closing (again_of g) xs rest refl refl,
+      weigh-closing (waits_of g) xs rest refl refl,
+      weigh-closing (over_of g) xs rest refl refl,
+      weigh-closing (notices_of g) xs rest refl refl,
+      weigh-closing (notifying_of g) xs rest refl refl,
+      weigh-closing (mine_of g) xs rest refl refl,
+      weigh-closing (detaches_of g) xs rest refl refl,
+      weigh-closing (lending_of g) xs rest refl refl,
+      strays,
+      calls,
+    )
+    refl
 
 -- what is used of that which holds of g
 pub record Footing (w : World) (g : ℕ) (p : Pend) (x : Awaiting) : Type 0 where
@@ -211,7 +253,8 @@ pub record Footing (w : World) (g : ℕ) (p : Pend) (x : Awaiting) : Type 0 wher
   pub carries : 1 ≤ times g w.queue.items + p.waiting → (task w g).scheduled ≡ true
   pub rests : (task w g).completed ≡ true → ((task w g).scheduled ≡ false) × ((task w g).running ≡ false)
   pub lent : w.gone ≡ true → p.borrowing ≡ 0
-  pub done : (heard g w.trace).dropped ≡ true → ((task w g).closed ≡ true) ⊎ (((task w g).completed ≡ true) ⊎ ((1 ≤ p.ready) ⊎ (w.gone ≡ true)))
+  pub done : (heard g w.trace).dropped ≡ true →
+      ((task w g).closed ≡ true) ⊎ (((task w g).completed ≡ true) ⊎ ((1 ≤ p.ready) ⊎ (w.gone ≡ true)))
   pub stages : x.looks + (x.fresh + (x.storing + (x.again + (x.waits + x.over)))) ≤ x.handling
   pub few : (k : ℕ) → x.strays k ≤ x.fresh + x.storing
   pub tied : x.mine ≤ x.over
@@ -246,16 +289,27 @@ pub record Awaits (w : World) (g : ℕ) (p : Pend) (x : Awaiting) (m : Mark) : T
   pub notified : 1 ≤ x.notifying → (task w g).notifying ≡ true
   pub either : x.notifying + x.storing ≤ 1
   -- who waits is stored, called or about to be called
-  pub covered : ((heard g w.trace).pending ≡ true) ⊎ (1 ≤ x.again + x.waits) → (((task w g).awaiter ≡ true) × (1 ≤ kept_at (heard g w.trace).poll (awaiter_of w g))) ⊎ (((heard g w.trace).called ≡ true) ⊎ (1 ≤ x.calls (heard g w.trace).poll))
+  pub covered : ((heard g w.trace).pending ≡ true) ⊎ (1 ≤ x.again + x.waits) →
+      (((task w g).awaiter ≡ true) × (1 ≤ kept_at (heard g w.trace).poll (awaiter_of w g)))
+      ⊎ (((heard g w.trace).called ≡ true) ⊎ (1 ≤ x.calls (heard g w.trace).poll))
   -- a task with an awaiter isn't settled until that is notified
-  pub unsettled : (task w g).handle ≡ true → ((heard g w.trace).pending ≡ true) ⊎ (1 ≤ x.waits) → (task w g).awaiter ≡ true → (((task w g).completed ≡ false) × (((task w g).closed ≡ false) ⊎ (((task w g).scheduled ≡ true) ⊎ ((task w g).running ≡ true)))) ⊎ (1 ≤ x.notices + x.notifying)
-  pub over : (heard g w.trace).dropped ≡ true → ((task w g).closed ≡ true) ⊎ (((task w g).completed ≡ true) ⊎ ((1 ≤ p.ready) ⊎ ((1 ≤ times g w.waking) ⊎ (((task w g).scheduled ≡ true) ⊎ ((task w g).running ≡ true)))))
+  pub unsettled : (task w g).handle ≡ true → ((heard g w.trace).pending ≡ true) ⊎ (1 ≤ x.waits) →
+      (task w g).awaiter ≡ true →
+      (((task w g).completed ≡ false)
+      × (((task w g).closed ≡ false) ⊎ (((task w g).scheduled ≡ true) ⊎ ((task w g).running ≡ true))))
+      ⊎ (1 ≤ x.notices + x.notifying)
+  pub over : (heard g w.trace).dropped ≡ true →
+      ((task w g).closed ≡ true)
+      ⊎ (((task w g).completed ≡ true)
+      ⊎ ((1 ≤ p.ready) ⊎ ((1 ≤ times g w.waking) ⊎ (((task w g).scheduled ≡ true) ⊎ ((task w g).running ≡ true)))))
   pub parts : 1 ≤ x.detaches → (heard g w.trace).parted ≡ true
   pub parted : g < length w.tasks → (task w g).handle ≡ false → (heard g w.trace).parted ≡ true
 
 -- it keeps what holds of g, but for the mark
 abbrev pub KeepsBy : World → List Op → Done → (ℕ → Mark → Mark) → Type 0
-KeepsBy w old d mark = (g : ℕ) (r : Pend) (y : Awaiting) (m : Mark) → Footing w g (with_ops g old r) (with_awaiting g old y) → Awaits w g (with_ops g old r) (with_awaiting g old y) m → Awaits d.world g (with_ops g d.next r) (with_awaiting g d.next y) (mark g m)
+KeepsBy w old d mark = (g : ℕ) (r : Pend) (y : Awaiting) (m : Mark) →
+    Footing w g (with_ops g old r) (with_awaiting g old y) → Awaits w g (with_ops g old r) (with_awaiting g old y) m →
+    Awaits d.world g (with_ops g d.next r) (with_awaiting g d.next y) (mark g m)
 
 abbrev pub KeepsAwaits : World → List Op → Done → Type 0
 KeepsAwaits w old d = KeepsBy w old d (λ g m. m)
@@ -266,16 +320,22 @@ asks_if true p f g m = cond (g == f) (record { asking = true; party = p; inner =
 asks_if false p f g m = m
 
 -- for grind, which picks it up at the read of a stored awaiter
-pub kept_put : (ws : List (Option Awaiter)) (f g k : ℕ) (a : Option Awaiter) → f < length ws → (kept_at k (get_or (set ws f a) g None) ≡ kept_at k (get_or (set ws f a) g None)) × (((same g f ≡ 1) × (g ≡ f) × (kept_at k (get_or (set ws f a) g None) ≡ kept_at k a)) ⊎ ((same g f ≡ 0) × (g ≢ f) × (kept_at k (get_or (set ws f a) g None) ≡ kept_at k (get_or ws g None))))
+pub kept_put : (ws : List (Option Awaiter)) (f g k : ℕ) (a : Option Awaiter) → f < length ws →
+    (kept_at k (get_or (set ws f a) g None) ≡ kept_at k (get_or (set ws f a) g None))
+    × (((same g f ≡ 1) × (g ≡ f) × (kept_at k (get_or (set ws f a) g None) ≡ kept_at k a))
+    ⊎ ((same g f ≡ 0) × (g ≢ f) × (kept_at k (get_or (set ws f a) g None) ≡ kept_at k (get_or ws g None))))
 kept_put ws f g k a h = (
   refl,
   ⊎_elim
-      (λ (x : (same g f ≡ 1) × (eqb g f ≡ true) × (g ≡ f)). inl (x.0, x.2, ap (kept_at k) (rw x.2 (get_or-set_same ws f a None h))))
-      (λ (x : (same g f ≡ 0) × (eqb g f ≡ false) × (g ≢ f)). inr (x.0, x.2, ap (kept_at k) (get_or-set_other ws f g a None x.2)))
+      (λ (x : (same g f ≡ 1) × (eqb g f ≡ true) × (g ≡ f)).
+      inl (x.0, x.2, ap (kept_at k) (rw x.2 (get_or-set_same ws f a None h))))
+      (λ (x : (same g f ≡ 0) × (eqb g f ≡ false) × (g ≢ f)).
+      inr (x.0, x.2, ap (kept_at k) (get_or-set_other ws f g a None x.2)))
       (same_cases g f),
 )
 
-pub kept_push : (ws : List (Option Awaiter)) (g k : ℕ) → kept_at k (get_or (ws ++ None ∷ []) g None) ≡ kept_at k (get_or ws g None)
+pub kept_push : (ws : List (Option Awaiter)) (g k : ℕ) →
+    kept_at k (get_or (ws ++ None ∷ []) g None) ≡ kept_at k (get_or ws g None)
 kept_push [] zero k = refl
 kept_push [] (suc g) k = refl
 kept_push (a ∷ ws) zero k = refl

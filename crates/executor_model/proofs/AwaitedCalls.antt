@@ -1,5 +1,6 @@
 -- The beginning and the end of each call keep what holds of who waits on a handle.
-use Rattle.std.proofs.Common.{◌≡◌, ◌≢◌, ℕ, zero, suc, ◌+◌, ◌<◌, ◌≤◌, List, [], ◌∷◌, ◌++◌, length, Bool, true, false, ◌&&◌, cond, eqb, refl, sym, ap, ◌∙◌, arith}
+use Rattle.std.proofs.Common.{◌≡◌, ◌≢◌, ℕ, zero, suc, ◌+◌, ◌<◌, ◌≤◌, List, [], ◌∷◌, ◌++◌, length}
+use Rattle.std.proofs.Common.{Bool, true, false, ◌&&◌, cond, eqb, refl, sym, ap, ◌∙◌, arith}
 use Rattle.std.proofs.lemmas.Bool.Decides.{nat_tests}
 use Rattle.std.specs.Prelude.{Option, Some, None}
 use Rattle.executor_model.specs.declared.call.By.{By}
@@ -26,7 +27,8 @@ use Rattle.executor_model.specs.Weights.{same}
 use Rattle.executor_model.specs.Sound.{Pend, with_ops}
 use Rattle.executor_model.specs.Steps.{used_up, with_future, begun, waker_of, kept}
 use Rattle.executor_model.proofs.Lists.{same_is}
-use Rattle.executor_model.proofs.Awaited.{Heard, heard, heard-push, is_pending, ended_in, Awaiting, with_awaiting, Footing, Awaits, Mark, KeepsBy}
+use Rattle.executor_model.proofs.Awaited.{Heard, heard, heard-push, is_pending, ended_in, Awaiting}
+use Rattle.executor_model.proofs.Awaited.{with_awaiting, Footing, Awaits, Mark, KeepsBy}
 use Rattle.executor_model.proofs.AwaitedHeld.{asks_of}
 
 -- one more call of party p is inside of the poll that is open
@@ -55,61 +57,104 @@ begins-nothing w p (call.PollTick t x) g r y m b h = grind (arith, heard-push)
 begins-nothing w p (call.DropTick t) g r y m b h = grind (arith, heard-push)
 begins-nothing w p call.DropExecutor g r y m b h = grind (arith, heard-push)
 
-begins-with : (w : World) (p : ℕ) (c : Call) (x : Option ℕ) (d : ℕ → Done) → ((f : ℕ) → KeepsBegun w p (d f)) → KeepsBegun w p (with_future (log w (event.CallBegun p c)) x d)
+begins-with : (w : World) (p : ℕ) (c : Call) (x : Option ℕ) (d : ℕ → Done) → ((f : ℕ) → KeepsBegun w p (d f)) →
+    KeepsBegun w p (with_future (log w (event.CallBegun p c)) x d)
 begins-with w p c None d k = begins-nothing w p c
 begins-with w p c (Some f) d k = k f
 
-begins-spawn : (w : World) (p : ℕ) → KeepsBegun w p (done (log w (event.CallBegun p call.Spawn)) (op.Table table_op.Enter ∷ []))
+begins-spawn : (w : World) (p : ℕ) →
+    KeepsBegun w p (done (log w (event.CallBegun p call.Spawn)) (op.Table table_op.Enter ∷ []))
 begins-spawn w p g r y m b h = grind (arith, heard-push)
 
-begins-tick : (w : World) (p : ℕ) → KeepsBegun w p (done (log w (event.CallBegun p call.TryTick)) (op.Queue queue_op.Take ∷ []))
+begins-tick : (w : World) (p : ℕ) →
+    KeepsBegun w p (done (log w (event.CallBegun p call.TryTick)) (op.Queue queue_op.Take ∷ []))
 begins-tick w p g r y m b h = grind (arith, heard-push)
 
-begins-look : (w : World) (p : ℕ) → KeepsBegun w p (done (log w (event.CallBegun p call.IsEmpty)) (op.Table table_op.LookAtTable ∷ []))
+begins-look : (w : World) (p : ℕ) →
+    KeepsBegun w p (done (log w (event.CallBegun p call.IsEmpty)) (op.Table table_op.LookAtTable ∷ []))
 begins-look w p g r y m b h = grind (arith, heard-push)
 
-begins-wake : (w : World) (p k f : ℕ) → KeepsBegun w p (done (used_up (log w (event.CallBegun p (call.Wake k))) k) (op.Move move.Wake f ∷ op.End reply.Done hold.Nothing ∷ []))
+begins-wake : (w : World) (p k f : ℕ) →
+    KeepsBegun w p (done (used_up (log w (event.CallBegun p (call.Wake k))) k)
+    (op.Move move.Wake f ∷ op.End reply.Done hold.Nothing ∷ []))
 begins-wake w p k f g r y m b h = grind (arith, heard-push)
 
-begins-wake_by_ref : (w : World) (p k f : ℕ) → KeepsBegun w p (done (log w (event.CallBegun p (call.WakeByRef k))) (op.Move move.WakeByReference f ∷ op.End reply.Done (hold.Waker k) ∷ []))
+begins-wake_by_ref : (w : World) (p k f : ℕ) →
+    KeepsBegun w p (done (log w (event.CallBegun p (call.WakeByRef k)))
+    (op.Move move.WakeByReference f ∷ op.End reply.Done (hold.Waker k) ∷ []))
 begins-wake_by_ref w p k f g r y m b h = grind (arith, heard-push)
 
-begins-copy : (w : World) (p k f : ℕ) → KeepsBegun w p (done (log w (event.CallBegun p (call.Copy k))) (op.Waker (waker_op.CopyWaker f (hold.Waker k)) ∷ []))
+begins-copy : (w : World) (p k f : ℕ) →
+    KeepsBegun w p (done (log w (event.CallBegun p (call.Copy k)))
+    (op.Waker (waker_op.CopyWaker f (hold.Waker k)) ∷ []))
 begins-copy w p k f g r y m b h = grind (arith, heard-push)
 
-begins-drop_waker : (w : World) (p k f : ℕ) → KeepsBegun w p (done (used_up (log w (event.CallBegun p (call.DropWaker k))) k) (op.Move move.Release f ∷ op.End reply.Done hold.Nothing ∷ []))
+begins-drop_waker : (w : World) (p k f : ℕ) →
+    KeepsBegun w p (done (used_up (log w (event.CallBegun p (call.DropWaker k))) k)
+    (op.Move move.Release f ∷ op.End reply.Done hold.Nothing ∷ []))
 begins-drop_waker w p k f g r y m b h = grind (arith, heard-push)
 
-begins-keep : (w : World) (p f : ℕ) → KeepsBegun w p (done (log w (event.CallBegun p call.Keep)) (op.Waker (waker_op.CopyWaker f hold.Nothing) ∷ []))
+begins-keep : (w : World) (p f : ℕ) →
+    KeepsBegun w p (done (log w (event.CallBegun p call.Keep)) (op.Waker (waker_op.CopyWaker f hold.Nothing) ∷ []))
 begins-keep w p f g r y m b h = grind (arith, heard-push)
 
-begins-wake_self : (w : World) (p f : ℕ) → KeepsBegun w p (done (log w (event.CallBegun p call.WakeSelf)) (op.Move move.WakeByReference f ∷ op.End reply.Done hold.Nothing ∷ []))
+begins-wake_self : (w : World) (p f : ℕ) →
+    KeepsBegun w p (done (log w (event.CallBegun p call.WakeSelf))
+    (op.Move move.WakeByReference f ∷ op.End reply.Done hold.Nothing ∷ []))
 begins-wake_self w p f g r y m b h = grind (arith, heard-push)
 
-begins-drop : (w : World) (p : ℕ) → KeepsBegun w p (done (log (record (log w (event.CallBegun p call.DropExecutor)) { gone = true }) (event.DropBegun p)) (op.Closing closing_op.TakeOut ∷ op.End reply.Done hold.Nothing ∷ []))
+begins-drop : (w : World) (p : ℕ) →
+    KeepsBegun w p
+    (done (log (record (log w (event.CallBegun p call.DropExecutor)) { gone = true }) (event.DropBegun p))
+    (op.Closing closing_op.TakeOut ∷ op.End reply.Done hold.Nothing ∷ []))
 begins-drop w p g r y m b h = grind (arith, heard-push)
 
-begins-make_tick : (w : World) (p : ℕ) → KeepsBegun w p (done (log w (event.CallBegun p call.NewTick)) (op.Tick tick_op.MakeTick ∷ []))
+begins-make_tick : (w : World) (p : ℕ) →
+    KeepsBegun w p (done (log w (event.CallBegun p call.NewTick)) (op.Tick tick_op.MakeTick ∷ []))
 begins-make_tick w p g r y m b h = grind (arith, heard-push)
 
-begins-poll_tick : (w : World) (p t : ℕ) (x : By) (s : Sleeping) → KeepsBegun w p (done (log (log w (event.CallBegun p (call.PollTick t x))) (event.TickPolled p t)) (op.Tick (tick_op.Search s) ∷ []))
+begins-poll_tick : (w : World) (p t : ℕ) (x : By) (s : Sleeping) →
+    KeepsBegun w p (done (log (log w (event.CallBegun p (call.PollTick t x))) (event.TickPolled p t))
+    (op.Tick (tick_op.Search s) ∷ []))
 begins-poll_tick w p t x s g r y m b h = grind (arith, heard-push)
 
-begins-drop_tick : (w : World) (p t : ℕ) → KeepsBegun w p (done (log (log w (event.CallBegun p (call.DropTick t))) (event.TickDropped p t)) (op.Tick (tick_op.Leave t) ∷ []))
+begins-drop_tick : (w : World) (p t : ℕ) →
+    KeepsBegun w p (done (log (log w (event.CallBegun p (call.DropTick t))) (event.TickDropped p t))
+    (op.Tick (tick_op.Leave t) ∷ []))
 begins-drop_tick w p t g r y m b h = grind (arith, heard-push)
 
 -- calls on the handle, which no other call uses
 
-begins-poll : (w : World) (p f : ℕ) (x : By) (a : Waker) (g : ℕ) (r : Pend) (y : Awaiting) (m : Mark) → f < length w.tasks → same g f + y.handling ≤ 1 → Footing w g (with_ops g [] r) (with_awaiting g [] y) → Awaits w g (with_ops g [] r) (with_awaiting g [] y) m → Awaits (log w (event.CallBegun p (call.PollHandle f x))) g (with_ops g (op.Handle (handle_op.Look f a) ∷ []) r) (with_awaiting g (op.Handle (handle_op.Look f a) ∷ []) y) (begun_in p g m)
+begins-poll : (w : World) (p f : ℕ) (x : By) (a : Waker) (g : ℕ) (r : Pend) (y : Awaiting) (m : Mark) →
+    f < length w.tasks → same g f + y.handling ≤ 1 → Footing w g (with_ops g [] r) (with_awaiting g [] y) →
+    Awaits w g (with_ops g [] r) (with_awaiting g [] y) m →
+    Awaits (log w (event.CallBegun p (call.PollHandle f x))) g (with_ops g (op.Handle (handle_op.Look f a) ∷ []) r)
+    (with_awaiting g (op.Handle (handle_op.Look f a) ∷ []) y) (begun_in p g m)
 begins-poll w p f x a g r y m i u b h = grind (arith, same_is, heard-push)
 
-begins-cancel : (w : World) (p f : ℕ) (g : ℕ) (r : Pend) (y : Awaiting) (m : Mark) → f < length w.tasks → same g f + y.handling ≤ 1 → Footing w g (with_ops g [] r) (with_awaiting g [] y) → Awaits w g (with_ops g [] r) (with_awaiting g [] y) m → Awaits (log w (event.CallBegun p (call.Cancel f))) g (with_ops g (op.Move move.Cancel f ∷ op.End reply.Done (hold.Handle f) ∷ []) r) (with_awaiting g (op.Move move.Cancel f ∷ op.End reply.Done (hold.Handle f) ∷ []) y) (begun_in p g m)
+begins-cancel : (w : World) (p f : ℕ) (g : ℕ) (r : Pend) (y : Awaiting) (m : Mark) → f < length w.tasks →
+    same g f + y.handling ≤ 1 → Footing w g (with_ops g [] r) (with_awaiting g [] y) →
+    Awaits w g (with_ops g [] r) (with_awaiting g [] y) m →
+    Awaits (log w (event.CallBegun p (call.Cancel f))) g
+    (with_ops g (op.Move move.Cancel f ∷ op.End reply.Done (hold.Handle f) ∷ []) r)
+    (with_awaiting g (op.Move move.Cancel f ∷ op.End reply.Done (hold.Handle f) ∷ []) y) (begun_in p g m)
 begins-cancel w p f g r y m i u b h = grind (arith, same_is, heard-push)
 
-begins-detach : (w : World) (p f : ℕ) (g : ℕ) (r : Pend) (y : Awaiting) (m : Mark) → f < length w.tasks → same g f + y.handling ≤ 1 → Footing w g (with_ops g [] r) (with_awaiting g [] y) → Awaits w g (with_ops g [] r) (with_awaiting g [] y) m → Awaits (log w (event.CallBegun p (call.Detach f))) g (with_ops g (op.Move move.Detach f ∷ op.End reply.Done (hold.Handle f) ∷ []) r) (with_awaiting g (op.Move move.Detach f ∷ op.End reply.Done (hold.Handle f) ∷ []) y) (begun_in p g m)
+begins-detach : (w : World) (p f : ℕ) (g : ℕ) (r : Pend) (y : Awaiting) (m : Mark) → f < length w.tasks →
+    same g f + y.handling ≤ 1 → Footing w g (with_ops g [] r) (with_awaiting g [] y) →
+    Awaits w g (with_ops g [] r) (with_awaiting g [] y) m →
+    Awaits (log w (event.CallBegun p (call.Detach f))) g
+    (with_ops g (op.Move move.Detach f ∷ op.End reply.Done (hold.Handle f) ∷ []) r)
+    (with_awaiting g (op.Move move.Detach f ∷ op.End reply.Done (hold.Handle f) ∷ []) y) (begun_in p g m)
 begins-detach w p f g r y m i u b h = grind (arith, same_is, heard-push)
 
-begins-drop_handle : (w : World) (p f : ℕ) (g : ℕ) (r : Pend) (y : Awaiting) (m : Mark) → f < length w.tasks → same g f + y.handling ≤ 1 → Footing w g (with_ops g [] r) (with_awaiting g [] y) → Awaits w g (with_ops g [] r) (with_awaiting g [] y) m → Awaits (log w (event.CallBegun p (call.DropHandle f))) g (with_ops g (op.Move move.Cancel f ∷ op.Move move.Detach f ∷ op.End reply.Done (hold.Handle f) ∷ []) r) (with_awaiting g (op.Move move.Cancel f ∷ op.Move move.Detach f ∷ op.End reply.Done (hold.Handle f) ∷ []) y) (begun_in p g m)
+begins-drop_handle : (w : World) (p f : ℕ) (g : ℕ) (r : Pend) (y : Awaiting) (m : Mark) → f < length w.tasks →
+    same g f + y.handling ≤ 1 → Footing w g (with_ops g [] r) (with_awaiting g [] y) →
+    Awaits w g (with_ops g [] r) (with_awaiting g [] y) m →
+    Awaits (log w (event.CallBegun p (call.DropHandle f))) g
+    (with_ops g (op.Move move.Cancel f ∷ op.Move move.Detach f ∷ op.End reply.Done (hold.Handle f) ∷ []) r)
+    (with_awaiting g (op.Move move.Cancel f ∷ op.Move move.Detach f ∷ op.End reply.Done (hold.Handle f) ∷ []) y)
+    (begun_in p g m)
 begins-drop_handle w p f g r y m i u b h = grind (arith, same_is, heard-push)
 
 -- the call needs the handle of f
@@ -120,22 +165,38 @@ UsesHandle w g (call.Detach f) n = (f < length w.tasks) × (same g f + n ≤ 1)
 UsesHandle w g (call.DropHandle f) n = (f < length w.tasks) × (same g f + n ≤ 1)
 UsesHandle w g _ n = Unit {0}
 
-pub awaits-begun : (p : ℕ) (w : World) (here : Option ℕ) (c : Call) (g : ℕ) (r : Pend) (y : Awaiting) (m : Mark) → UsesHandle w g c y.handling → Footing w g (with_ops g [] r) (with_awaiting g [] y) → Awaits w g (with_ops g [] r) (with_awaiting g [] y) m → Awaits (begun p (log w (event.CallBegun p c)) here c).world g (with_ops g (begun p (log w (event.CallBegun p c)) here c).next r) (with_awaiting g (begun p (log w (event.CallBegun p c)) here c).next y) (begun_in p g m)
+pub awaits-begun : (p : ℕ) (w : World) (here : Option ℕ) (c : Call) (g : ℕ) (r : Pend) (y : Awaiting) (m : Mark) →
+    UsesHandle w g c y.handling → Footing w g (with_ops g [] r) (with_awaiting g [] y) →
+    Awaits w g (with_ops g [] r) (with_awaiting g [] y) m →
+    Awaits (begun p (log w (event.CallBegun p c)) here c).world g
+    (with_ops g (begun p (log w (event.CallBegun p c)) here c).next r)
+    (with_awaiting g (begun p (log w (event.CallBegun p c)) here c).next y) (begun_in p g m)
 awaits-begun p w here call.Spawn g r y m u = begins-spawn w p g r y m
 awaits-begun p w here call.TryTick g r y m u = begins-tick w p g r y m
 awaits-begun p w here call.IsEmpty g r y m u = begins-look w p g r y m
-awaits-begun p w here (call.Wake k) g r y m u = begins-with w p (call.Wake k) (kept w k) _ (λ f. begins-wake w p k f) g r y m
-awaits-begun p w here (call.WakeByRef k) g r y m u = begins-with w p (call.WakeByRef k) (kept w k) _ (λ f. begins-wake_by_ref w p k f) g r y m
-awaits-begun p w here (call.Copy k) g r y m u = begins-with w p (call.Copy k) (kept w k) _ (λ f. begins-copy w p k f) g r y m
-awaits-begun p w here (call.DropWaker k) g r y m u = begins-with w p (call.DropWaker k) (kept w k) _ (λ f. begins-drop_waker w p k f) g r y m
+awaits-begun p w here (call.Wake k) g r y m u = begins-with w p (call.Wake k) (kept w k) _ (λ f. begins-wake w p k f) g
+    r y m
+awaits-begun p w here (call.WakeByRef k) g r y m u =
+    begins-with w p (call.WakeByRef k) (kept w k) _ (λ f. begins-wake_by_ref w p k f) g r y m
+awaits-begun p w here (call.Copy k) g r y m u = begins-with w p (call.Copy k) (kept w k) _ (λ f. begins-copy w p k f) g
+    r y m
+awaits-begun p w here (call.DropWaker k) g r y m u =
+    begins-with w p (call.DropWaker k) (kept w k) _ (λ f. begins-drop_waker w p k f) g r y m
 awaits-begun p w here call.Keep g r y m u = begins-with w p call.Keep here _ (λ f. begins-keep w p f) g r y m
-awaits-begun p w here call.WakeSelf g r y m u = begins-with w p call.WakeSelf here _ (λ f. begins-wake_self w p f) g r y m
+awaits-begun p w here call.WakeSelf g r y m u = begins-with w p call.WakeSelf here _ (λ f. begins-wake_self w p f) g r y
+    m
 awaits-begun p w here (call.PollHandle f b) g r y m u = begins-poll w p f b (waker_of here b) g r y m u.0 u.1
 awaits-begun p w here (call.Cancel f) g r y m u = begins-cancel w p f g r y m u.0 u.1
 awaits-begun p w here (call.Detach f) g r y m u = begins-detach w p f g r y m u.0 u.1
 awaits-begun p w here (call.DropHandle f) g r y m u = begins-drop_handle w p f g r y m u.0 u.1
 awaits-begun p w here call.NewTick g r y m u = begins-make_tick w p g r y m
-awaits-begun p w here (call.PollTick t b) g r y m u = begins-poll_tick w p t b (record { waker = waker_of here b; tick = t; poll = length (log w (event.CallBegun p (call.PollTick t b))).trace }) g r y m
+awaits-begun p w here (call.PollTick t b) g r y m u =
+    begins-poll_tick w p t b
+    (record {
+      waker = waker_of here b;
+      tick = t;
+      poll = length (log w (event.CallBegun p (call.PollTick t b))).trace;
+    }) g r y m
 awaits-begun p w here (call.DropTick t) g r y m u = begins-drop_tick w p t g r y m
 awaits-begun p w here call.DropExecutor g r y m u = begins-drop w p g r y m
 
@@ -144,35 +205,52 @@ awaits-begun p w here call.DropExecutor g r y m u = begins-drop w p g r y m
 -- how the end of a call of party p is heard
 pub data EndHeard (p : ℕ) (a : Reply) (h h2 : Heard) : Type 0 where
   -- it is the poll that is open
-  own : h.asking ≡ true → h.party ≡ p → h.inner ≡ 0 → h2 ≡ record h { asking = false; pending = is_pending a } → EndHeard p a h h2
+  own : h.asking ≡ true → h.party ≡ p → h.inner ≡ 0 → h2 ≡ record h { asking = false; pending = is_pending a } →
+      EndHeard p a h h2
   -- it is inside of that
   within : (n : ℕ) → h.asking ≡ true → h.party ≡ p → h.inner ≡ suc n → h2 ≡ record h { inner = n } → EndHeard p a h h2
   -- it is neither
   apart : (h.asking ≡ true → h.party ≢ p) → h2 ≡ h → EndHeard p a h h2
 
-pub heard-end : (g p : ℕ) (a : Reply) (es : List Event) → EndHeard p a (heard g es) (heard g (es ++ event.CallEnded p a ∷ []))
+pub heard-end : (g p : ℕ) (a : Reply) (es : List Event) →
+    EndHeard p a (heard g es) (heard g (es ++ event.CallEnded p a ∷ []))
 heard-end g p a es = go (heard g es).asking (eqb (heard g es).party p) (heard g es).inner refl refl refl
   where
-    q : (b c : Bool) (n : ℕ) → (heard g es).asking ≡ b → eqb (heard g es).party p ≡ c → (heard g es).inner ≡ n → heard g (es ++ event.CallEnded p a ∷ []) ≡ cond (b && c) (ended_in n a (heard g es)) (heard g es)
-    q b c n x y z = heard-push g es (event.CallEnded p a) ∙ (ap (λ (d : Bool). cond (d && eqb (heard g es).party p) (ended_in (heard g es).inner a (heard g es)) (heard g es)) x ∙ (ap (λ (d : Bool). cond (b && d) (ended_in (heard g es).inner a (heard g es)) (heard g es)) y ∙ ap (λ (d : ℕ). cond (b && c) (ended_in d a (heard g es)) (heard g es)) z))
+    q : (b c : Bool) (n : ℕ) → (heard g es).asking ≡ b → eqb (heard g es).party p ≡ c → (heard g es).inner ≡ n →
+        heard g (es ++ event.CallEnded p a ∷ []) ≡ cond (b && c) (ended_in n a (heard g es)) (heard g es)
+    q b c n x y z = heard-push g es (event.CallEnded p a)
+        ∙ (ap (λ (d : Bool). cond (d && eqb (heard g es).party p) (ended_in (heard g es).inner a (heard g es))
+        (heard g es)) x ∙ (ap (λ (d : Bool). cond (b && d) (ended_in (heard g es).inner a (heard g es)) (heard g es))
+        y ∙ ap (λ (d : ℕ). cond (b && c) (ended_in d a (heard g es)) (heard g es)) z))
 
-    go : (b c : Bool) (n : ℕ) → (heard g es).asking ≡ b → eqb (heard g es).party p ≡ c → (heard g es).inner ≡ n → EndHeard p a (heard g es) (heard g (es ++ event.CallEnded p a ∷ []))
+    go : (b c : Bool) (n : ℕ) → (heard g es).asking ≡ b → eqb (heard g es).party p ≡ c → (heard g es).inner ≡ n →
+        EndHeard p a (heard g es) (heard g (es ++ event.CallEnded p a ∷ []))
     go true true zero x y z = own x (grind (arith, nat_tests)) z (q true true zero x y z)
     go true true (suc n) x y z = within n x (grind (arith, nat_tests)) z (q true true (suc n) x y z)
-    go true false n x y z = apart (λ k. let no : (heard g es).party ≢ p = grind (arith, nat_tests) in no) (q true false n x y z)
+    go true false n x y z = apart (λ k. let no : (heard g es).party ≢ p = grind (arith, nat_tests) in no)
+        (q true false n x y z)
     go false c n x y z = apart (λ k. let no : true ≡ false = sym k ∙ x in absurd (cc)) (q false c n x y z)
 
 -- the mark as the trace and what is to do have it
 abbrev pub marked : World → ℕ → Awaiting → Mark
-marked w g x = record { asking = (heard g w.trace).asking; party = (heard g w.trace).party; inner = (heard g w.trace).inner; asks = x.fresh + (x.storing + (x.again + (x.waits + x.over))) }
+marked w g x =
+    record {
+      asking = (heard g w.trace).asking;
+      party = (heard g w.trace).party;
+      inner = (heard g w.trace).inner;
+      asks = x.fresh + (x.storing + (x.again + (x.waits + x.over)));
+    }
 
 -- the stages of polls of the handle are among its uses
 abbrev pub Stages : Awaiting → Type 0
 Stages x = x.looks + (x.fresh + (x.storing + (x.again + (x.waits + x.over)))) ≤ x.handling
 
-module _ (w : World) (p : ℕ) (a : Reply) (held : Hold) (g : ℕ) (r : Pend) (y : Awaiting) (m : Mark) (b : Stages (with_awaiting g (op.End a held ∷ []) y)) (h : Awaits w g (with_ops g (op.End a held ∷ []) r) (with_awaiting g (op.End a held ∷ []) y) m) where
+module _ (w : World) (p : ℕ) (a : Reply) (held : Hold) (g : ℕ) (r : Pend) (y : Awaiting) (m : Mark)
+    (b : Stages (with_awaiting g (op.End a held ∷ []) y))
+    (h : Awaits w g (with_ops g (op.End a held ∷ []) r) (with_awaiting g (op.End a held ∷ []) y) m) where
   abbrev After : Type 0
-  After = Awaits (log w (event.CallEnded p a)) g (with_ops g [] r) (with_awaiting g [] y) (marked (log w (event.CallEnded p a)) g (with_awaiting g [] y))
+  After = Awaits (log w (event.CallEnded p a)) g (with_ops g [] r) (with_awaiting g [] y)
+      (marked (log w (event.CallEnded p a)) g (with_awaiting g [] y))
 
   ends-inside : (n : ℕ) → heard g (w.trace ++ event.CallEnded p a ∷ []) ≡ record (heard g w.trace) { inner = n } → After
   ends-inside n e = grind arith
@@ -180,13 +258,25 @@ module _ (w : World) (p : ℕ) (a : Reply) (held : Hold) (g : ℕ) (r : Pend) (y
   ends-apart : heard g (w.trace ++ event.CallEnded p a ∷ []) ≡ heard g w.trace → After
   ends-apart e = grind arith
 
-ends-own : (w : World) (p : ℕ) (a : Reply) (held : Hold) (g : ℕ) (r : Pend) (y : Awaiting) (m : Mark) → 1 ≤ asks_of g (op.End a held) → Stages (with_awaiting g (op.End a held ∷ []) y) → Awaits w g (with_ops g (op.End a held ∷ []) r) (with_awaiting g (op.End a held ∷ []) y) m → heard g (w.trace ++ event.CallEnded p a ∷ []) ≡ record (heard g w.trace) { asking = false; pending = is_pending a } → Awaits (log w (event.CallEnded p a)) g (with_ops g [] r) (with_awaiting g [] y) (marked (log w (event.CallEnded p a)) g (with_awaiting g [] y))
+ends-own : (w : World) (p : ℕ) (a : Reply) (held : Hold) (g : ℕ) (r : Pend) (y : Awaiting) (m : Mark) →
+    1 ≤ asks_of g (op.End a held) → Stages (with_awaiting g (op.End a held ∷ []) y) →
+    Awaits w g (with_ops g (op.End a held ∷ []) r) (with_awaiting g (op.End a held ∷ []) y) m →
+    heard g (w.trace ++ event.CallEnded p a ∷ []) ≡ record (heard g w.trace)
+    { asking = false; pending = is_pending a } →
+    Awaits (log w (event.CallEnded p a)) g (with_ops g [] r) (with_awaiting g [] y)
+    (marked (log w (event.CallEnded p a)) g (with_awaiting g [] y))
 ends-own w p reply.Pending (hold.Handle f) g r y m k b h e = grind (arith, same_is)
 ends-own w p reply.Ready (hold.Handle f) g r y m k b h e = grind (arith, same_is)
 ends-own w p reply.Cancelled (hold.Handle f) g r y m k b h e = grind (arith, same_is)
 ends-own w p _ _ g r y m k b h e = absurd (omega (arith, k))
 
-pub awaits-end : (w : World) (p : ℕ) (a : Reply) (held : Hold) (g : ℕ) (r : Pend) (y : Awaiting) (m : Mark) → EndHeard p a (heard g w.trace) (heard g (w.trace ++ event.CallEnded p a ∷ [])) → ((heard g w.trace).asking ≡ true → (heard g w.trace).party ≡ p → (heard g w.trace).inner ≡ 0 → 1 ≤ asks_of g (op.End a held)) → Stages (with_awaiting g (op.End a held ∷ []) y) → Awaits w g (with_ops g (op.End a held ∷ []) r) (with_awaiting g (op.End a held ∷ []) y) m → Awaits (log w (event.CallEnded p a)) g (with_ops g [] r) (with_awaiting g [] y) (marked (log w (event.CallEnded p a)) g (with_awaiting g [] y))
+pub awaits-end : (w : World) (p : ℕ) (a : Reply) (held : Hold) (g : ℕ) (r : Pend) (y : Awaiting) (m : Mark) →
+    EndHeard p a (heard g w.trace) (heard g (w.trace ++ event.CallEnded p a ∷ [])) →
+    ((heard g w.trace).asking ≡ true → (heard g w.trace).party ≡ p → (heard g w.trace).inner ≡ 0 →
+    1 ≤ asks_of g (op.End a held)) → Stages (with_awaiting g (op.End a held ∷ []) y) →
+    Awaits w g (with_ops g (op.End a held ∷ []) r) (with_awaiting g (op.End a held ∷ []) y) m →
+    Awaits (log w (event.CallEnded p a)) g (with_ops g [] r) (with_awaiting g [] y)
+    (marked (log w (event.CallEnded p a)) g (with_awaiting g [] y))
 awaits-end w p a held g r y m (own x q z e) k b h = ends-own w p a held g r y m (k x q z) b h e
 awaits-end w p a held g r y m (within n x q z e) k b h = ends-inside w p a held g r y m b h n e
 awaits-end w p a held g r y m (apart x e) k b h = ends-apart w p a held g r y m b h e

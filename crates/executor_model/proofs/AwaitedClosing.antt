@@ -1,5 +1,6 @@
 -- Where the drop of the executor has begun and none of its steps is left, nobody is to be woken and the queue is empty.
-use Rattle.std.proofs.Common.{◌≡◌, ◌⊎◌, ℕ, suc, ◌+◌, ◌<◌, ◌≤◌, List, [], ◌∷◌, ◌++◌, length, set, get_or, drop, Bool, true, false, ◌&&◌, ◌||◌, not, refl, sym, ap, ◌∙◌, subst, arith}
+use Rattle.std.proofs.Common.{◌≡◌, ◌⊎◌, ℕ, suc, ◌+◌, ◌<◌, ◌≤◌, List, [], ◌∷◌, ◌++◌, length, set, get_or, drop}
+use Rattle.std.proofs.Common.{Bool, true, false, ◌&&◌, ◌||◌, not, refl, sym, ap, ◌∙◌, subst, arith}
 use Rattle.std.proofs.lemmas.List.{length-append}
 use Rattle.std.specs.Prelude.{Option, Some, None, reverse}
 use Rattle.task_moves.specs.declared.moves.owed.Answer.{Answer}
@@ -35,11 +36,14 @@ use Rattle.executor_model.specs.declared.step.UserEnd.{UserEnd}
 use Rattle.executor_model.specs.declared.step.UserEnd.TheVariants as end
 use Rattle.executor_model.specs.World.{World, Tick, Up, Lies, Left, Done, done, log, log_if, task}
 use Rattle.executor_model.specs.Carried.{awaiter_ops}
-use Rattle.executor_model.specs.Acts.{append_by, take_by, search_by, enter_by, leave_by, copy_by, look_by, look_again_by, copy_awaiter_by, register_by, end_register_by, notify_by, call_awaiter, closing_ops, drop_next_by, wake, wake_next_by, close, drain_by, act}
+use Rattle.executor_model.specs.Acts.{append_by, take_by, search_by, enter_by, leave_by, copy_by, look_by}
+use Rattle.executor_model.specs.Acts.{look_again_by, copy_awaiter_by, register_by, end_register_by, notify_by}
+use Rattle.executor_model.specs.Acts.{call_awaiter, closing_ops, drop_next_by, wake, wake_next_by, close, drain_by, act}
 use Rattle.executor_model.specs.Weights.{weigh, weigh_all}
 use Rattle.executor_model.specs.Rows.{ousting_of}
 use Rattle.executor_model.specs.Good.{Good}
-use Rattle.executor_model.specs.Steps.{Machine, stack, top, run, start, polled_by, is_free, has_all, is_on_executor, is_drop, is_unborrowed, kept, with_future, accepts, begun, react}
+use Rattle.executor_model.specs.Steps.{Machine, stack, top, run, start, polled_by, is_free, has_all, is_on_executor}
+use Rattle.executor_model.specs.Steps.{is_drop, is_unborrowed, kept, with_future, accepts, begun, react}
 use Rattle.executor_model.proofs.Cases.{by_bool, by_list}
 use Rattle.executor_model.proofs.Lists.{weigh-append, weigh_all-push}
 use Rattle.executor_model.proofs.Lift.{split, unsettled, good-start, none_refused, open_executor, weigh_all-idle}
@@ -57,7 +61,13 @@ pub record Lists : Type 0 where
   pub items : ℕ
 
 abbrev pub lists : World → Lists
-lists w = record { gone = w.gone; leaving = length w.leaving; waking = length w.waking; closed = w.queue.closed; items = length w.queue.items }
+lists w = record {
+  gone = w.gone;
+  leaving = length w.leaving;
+  waking = length w.waking;
+  closed = w.queue.closed;
+  items = length w.queue.items;
+}
 
 abbrev pub dropping_of : Op → ℕ
 dropping_of (op.Closing closing_op.DropNext) = 1
@@ -132,13 +142,16 @@ rough-more (op.Sleeper sleeper_op.HandOut) = omega arith
 rough-more (op.Tick tick_op.MakeTick) = omega arith
 rough-more _ = omega arith
 
-rough-weighs : (os : List Op) → weigh ousting_of os + (weigh dropping_of os + (weigh rousing_of os + (weigh shutting_of os + weigh draining_of os))) ≤ weigh rough_of os
+rough-weighs : (os : List Op) →
+    weigh ousting_of os + (weigh dropping_of os + (weigh rousing_of os + (weigh shutting_of os + weigh draining_of os)))
+    ≤ weigh rough_of os
 rough-weighs [] = omega arith
 rough-weighs (o ∷ os) = omega (arith, rough-more o, rough-weighs os)
 
 -- none of its steps is there
 abbrev pub NoSteps : List Op → Type 0
-NoSteps os = weigh ousting_of os + (weigh dropping_of os + (weigh rousing_of os + (weigh shutting_of os + weigh draining_of os))) ≡ 0
+NoSteps os = weigh ousting_of os
+    + (weigh dropping_of os + (weigh rousing_of os + (weigh shutting_of os + weigh draining_of os))) ≡ 0
 
 no-steps : (os : List Op) → weigh rough_of os ≡ 0 → NoSteps os
 no-steps os z = omega (arith, rough-weighs os, z)
@@ -152,8 +165,11 @@ with-none os r z = λ i. record {
   drains = (let q : weigh draining_of os + r.drains ≡ r.drains = omega (arith, z) in q) i;
 }
 
-sweeps-still : (w : World) (old : List Op) (d : Done) → lists w ≡ lists d.world → NoSteps old → NoSteps d.next → KeepsSweeps w old d
-sweeps-still w old d e a b r h = subst (λ (v : Lists). Sweeps v (with_sweep d.next r)) e (subst (Sweeps (lists w)) (with-none old r a ∙ sym (with-none d.next r b)) h)
+sweeps-still : (w : World) (old : List Op) (d : Done) → lists w ≡ lists d.world → NoSteps old → NoSteps d.next →
+    KeepsSweeps w old d
+sweeps-still w old d e a b r h =
+    subst (λ (v : Lists). Sweeps v (with_sweep d.next r)) e
+    (subst (Sweeps (lists w)) (with-none old r a ∙ sym (with-none d.next r b)) h)
 
 -- most of what is done
 
@@ -174,15 +190,18 @@ same-copy : (b : Bool) (w : World) (f : ℕ) (held : Hold) → lists w ≡ lists
 same-copy true w f held = refl
 same-copy false w f held = refl
 
-same-look : (o : Option Answer) (p : ℕ) (w : World) (f : ℕ) (a : Waker) (m : Moved) → lists w ≡ lists (look_by o p w f a m).world
+same-look : (o : Option Answer) (p : ℕ) (w : World) (f : ℕ) (a : Waker) (m : Moved) →
+    lists w ≡ lists (look_by o p w f a m).world
 same-look None p w f a m = refl
 same-look (Some x) p w f a m = same-log_if _ _ (event.OutputGiven p f)
 
-same-again : (o : Option Answer) (p : ℕ) (w : World) (f : ℕ) (m : Moved) → lists w ≡ lists (look_again_by o p w f m).world
+same-again : (o : Option Answer) (p : ℕ) (w : World) (f : ℕ) (m : Moved) →
+    lists w ≡ lists (look_again_by o p w f m).world
 same-again None p w f m = refl
 same-again (Some x) p w f m = same-log_if _ _ (event.OutputGiven p f)
 
-same-copy_awaiter : (b : Bool) (p : ℕ) (w : World) (f : ℕ) (a : Waker) → lists w ≡ lists (copy_awaiter_by b p w f a).world
+same-copy_awaiter : (b : Bool) (p : ℕ) (w : World) (f : ℕ) (a : Waker) →
+    lists w ≡ lists (copy_awaiter_by b p w f a).world
 same-copy_awaiter true p w f a = refl
 same-copy_awaiter false p w f (Task k) = refl
 same-copy_awaiter false p w f (Outside x) = refl
@@ -191,7 +210,8 @@ same-register : (b : Bool) (w : World) (f : ℕ) (a : Waker) (k : ℕ) → lists
 same-register true w f a k = refl
 same-register false w f a k = refl
 
-same-end_register : (b : Bool) (w : World) (f : ℕ) (a : Waker) (k : ℕ) → lists w ≡ lists (end_register_by b w f a k).world
+same-end_register : (b : Bool) (w : World) (f : ℕ) (a : Waker) (k : ℕ) →
+    lists w ≡ lists (end_register_by b w f a k).world
 same-end_register true w f a k = refl
 same-end_register false w f a k = refl
 
@@ -204,7 +224,13 @@ same-call p w f (Task g) k = same-log_if _ (log w (event.WakerCalled p (of.Handl
 same-call p w f (Outside x) k = refl
 
 abbrev lists_in : Rest → Lists
-lists_in r = record { gone = r.gone; leaving = length r.leaving; waking = length r.waking; closed = r.queue.closed; items = length r.queue.items }
+lists_in r = record {
+  gone = r.gone;
+  leaving = length r.leaving;
+  waking = length r.waking;
+  closed = r.queue.closed;
+  items = length r.queue.items;
+}
 
 -- the queue, the two lists and their steps
 abbrev pub is_sweeping : Op → Bool
@@ -227,11 +253,13 @@ same-act p h (op.Move move.Cancel f) w n = same-log_if _ w (event.Cancelled p f)
 same-act p h (op.Move move.Detach f) w n = same-log_if _ w (event.Detached p f)
 same-act p h (op.Table (table_op.LeaveTable f)) w n = same-leave _ w f
 same-act p h (op.Waker (waker_op.CopyWaker f held)) w n = same-copy _ w f held
-same-act p h (op.Handle (handle_op.Look f a)) w n = same-look (moves.poll (task w f)).owed.answer p w f a (moves.poll (task w f))
+same-act p h (op.Handle (handle_op.Look f a)) w n =
+    same-look (moves.poll (task w f)).owed.answer p w f a (moves.poll (task w f))
 same-act p h (op.Handle (handle_op.CopyAwaiter f a)) w n = same-copy_awaiter _ p w f a
 same-act p h (op.Handle (handle_op.Register f a k)) w n = same-register _ w f a k
 same-act p h (op.Handle (handle_op.EndRegister f a k)) w n = same-end_register _ w f a k
-same-act p h (op.Handle (handle_op.LookAgain f)) w n = same-again (moves.look_again (task w f)).owed.answer p w f (moves.look_again (task w f))
+same-act p h (op.Handle (handle_op.LookAgain f)) w n =
+    same-again (moves.look_again (task w f)).owed.answer p w f (moves.look_again (task w f))
 same-act p h (op.Handle (handle_op.Notify f mine)) w n = same-notify _ w f mine
 same-act p h (op.Waker (waker_op.CallAwaiter f a k)) w n = same-call p w f a k
 same-act p h (op.Sleeper o) w n = ap lists_in (sleeper-rest p o w)
@@ -253,23 +281,28 @@ same-act p h _ w n = refl
 
 -- what a poll of the handle leads to
 
-no-look : (x k c : Bool) (p : ℕ) (w : World) (f : ℕ) (a : Waker) → NoSteps (look_by (moves.poll_by x k c (task w f)).owed.answer p w f a (moves.poll_by x k c (task w f))).next
+no-look : (x k c : Bool) (p : ℕ) (w : World) (f : ℕ) (a : Waker) →
+    NoSteps (look_by (moves.poll_by x k c (task w f)).owed.answer p w f a (moves.poll_by x k c (task w f))).next
 no-look true true c p w f a = refl
 no-look true false c p w f a = refl
 no-look false k false p w f a = refl
 no-look false k true p w f a = no-given (task w f).awaiter f
   where
-    no-given : (b : Bool) (f : ℕ) → NoSteps (awaiter_ops f (moves.notify_other_if b) ++ op.End reply.Ready (hold.Handle f) ∷ [])
+    no-given : (b : Bool) (f : ℕ) →
+        NoSteps (awaiter_ops f (moves.notify_other_if b) ++ op.End reply.Ready (hold.Handle f) ∷ [])
     no-given true f = refl
     no-given false f = refl
 
-no-again : (x k c : Bool) (p : ℕ) (w : World) (f : ℕ) → NoSteps (look_again_by (moves.look_again_by x k c (task w f)).owed.answer p w f (moves.look_again_by x k c (task w f))).next
+no-again : (x k c : Bool) (p : ℕ) (w : World) (f : ℕ) →
+    NoSteps (look_again_by (moves.look_again_by x k c (task w f)).owed.answer p w f
+    (moves.look_again_by x k c (task w f))).next
 no-again true true c p w f = refl
 no-again true false c p w f = refl
 no-again false k false p w f = refl
 no-again false k true p w f = no-given (task w f).awaiter f
   where
-    no-given : (b : Bool) (f : ℕ) → NoSteps (awaiter_ops f (moves.notify_other_if b) ++ op.End reply.Ready (hold.Handle f) ∷ [])
+    no-given : (b : Bool) (f : ℕ) →
+        NoSteps (awaiter_ops f (moves.notify_other_if b) ++ op.End reply.Ready (hold.Handle f) ∷ [])
     no-given true f = refl
     no-given false f = refl
 
@@ -293,7 +326,8 @@ no-self (op.Sleeper sleeper_op.HandOut) n = refl
 no-self (op.Tick tick_op.MakeTick) n = refl
 no-self _ n = refl
 
-no-act : (p : ℕ) (h : Hint) (o : Op) (w : World) (b : Bool) → is_special o ≡ b → is_sweeping o ≡ false → NoSteps (act p h o w).next
+no-act : (p : ℕ) (h : Hint) (o : Op) (w : World) (b : Bool) → is_special o ≡ b → is_sweeping o ≡ false →
+    NoSteps (act p h o w).next
 no-act p h o w false s n = no-steps _ (plain-act p h o w s)
 no-act p h (op.Handle (handle_op.Look f a)) w true s n = no-look _ _ _ p w f a
 no-act p h (op.Handle (handle_op.LookAgain f)) w true s n = no-again _ _ _ p w f
@@ -306,7 +340,8 @@ open-queue : (c l : Bool) → (not c && l) ≡ true → c ≡ false
 open-queue false l e = refl
 open-queue true l e = absurd (cc)
 
-sweeps-append : (b : Bool) (w : World) (f : ℕ) → (b ≡ true → w.queue.closed ≡ false) → KeepsSweeps w (op.Queue (queue_op.Append f) ∷ []) (append_by b w f)
+sweeps-append : (b : Bool) (w : World) (f : ℕ) → (b ≡ true → w.queue.closed ≡ false) →
+    KeepsSweeps w (op.Queue (queue_op.Append f) ∷ []) (append_by b w f)
 sweeps-append = by_bool _
     (λ w f c r h. let z : w.queue.closed ≡ false = c refl in grind (arith, length-append))
     (λ w f c r h. grind arith)
@@ -316,53 +351,84 @@ sweeps-take = by_list _
     (λ w e r h. grind arith)
     (λ f rest w e r h. let z : suc (length (drop 1 w.queue.items)) ≡ length w.queue.items = rw e refl in grind arith)
 
-sweeps-search : (x : Tick) (q : List ℕ) (w : World) (s : Sleeping) → w.queue.items ≡ q → KeepsSweeps w (op.Tick (tick_op.Search s) ∷ []) (search_by x w q s)
+sweeps-search : (x : Tick) (q : List ℕ) (w : World) (s : Sleeping) → w.queue.items ≡ q →
+    KeepsSweeps w (op.Tick (tick_op.Search s) ∷ []) (search_by x w q s)
 sweeps-search x [] w s e r h = grind arith
-sweeps-search Up (f ∷ rest) w s e r h = let z : suc (length (drop 1 w.queue.items)) ≡ length w.queue.items = rw e refl in grind arith
-sweeps-search (Lies n) (f ∷ rest) w s e r h = let z : suc (length (drop 1 w.queue.items)) ≡ length w.queue.items = rw e refl in grind arith
-sweeps-search Left (f ∷ rest) w s e r h = let z : suc (length (drop 1 w.queue.items)) ≡ length w.queue.items = rw e refl in grind arith
+sweeps-search Up (f ∷ rest) w s e r h =
+    let z : suc (length (drop 1 w.queue.items)) ≡ length w.queue.items = rw e refl in grind arith
+sweeps-search (Lies n) (f ∷ rest) w s e r h =
+    let z : suc (length (drop 1 w.queue.items)) ≡ length w.queue.items = rw e refl in grind arith
+sweeps-search Left (f ∷ rest) w s e r h =
+    let z : suc (length (drop 1 w.queue.items)) ≡ length w.queue.items = rw e refl in grind arith
 
 -- the steps of the executor's drop
 
-sweeps-take_out : (ls ws : List ℕ) (w : World) → w.table ≡ ls → w.waking ≡ ws → KeepsSweeps w (op.Closing closing_op.TakeOut ∷ []) (done (record w { table = w.leaving; leaving = w.table }) (closing_ops ls ws))
+sweeps-take_out : (ls ws : List ℕ) (w : World) → w.table ≡ ls → w.waking ≡ ws →
+    KeepsSweeps w (op.Closing closing_op.TakeOut ∷ [])
+    (done (record w { table = w.leaving; leaving = w.table }) (closing_ops ls ws))
 sweeps-take_out = by_list _
     (by_list _
     (λ w e q r h. let z : length w.waking ≡ 0 = ap length q in grind arith)
     (λ x ws w e q r h. let z : length w.waking ≡ suc (length ws) = ap length q in grind arith))
     (λ x ls ws w e q r h. let z : length w.table ≡ suc (length ls) = ap length e in grind arith)
 
-sweeps-closing : (rest ws : List ℕ) (p : ℕ) (w : World) (f : ℕ) → 1 ≤ length ws → ws ≡ w.waking ++ f ∷ [] → w.leaving ≡ f ∷ rest → KeepsSweeps w (op.Closing closing_op.DropNext ∷ []) (done (log (record w { leaving = rest; waking = ws; inside = set w.inside f false }) (event.Dropped p f)) (op.User (user_op.Drop f) ∷ closing_ops rest ws))
+sweeps-closing : (rest ws : List ℕ) (p : ℕ) (w : World) (f : ℕ) → 1 ≤ length ws → ws ≡ w.waking ++ f ∷ [] →
+    w.leaving ≡ f ∷ rest → KeepsSweeps w (op.Closing closing_op.DropNext ∷ [])
+    (done (log (record w { leaving = rest; waking = ws; inside = set w.inside f false }) (event.Dropped p f))
+    (op.User (user_op.Drop f) ∷ closing_ops rest ws))
 sweeps-closing = by_list _
     (by_list _
     (λ p w f n q e r h. absurd (omega (arith, n)))
     (λ y ws p w f n q e r h. grind arith))
     (λ y ls ws p w f n q e r h. grind arith)
 
-sweeps-drop_next : (p : ℕ) (w : World) (ls : List ℕ) → w.leaving ≡ ls → KeepsSweeps w (op.Closing closing_op.DropNext ∷ []) (drop_next_by p w ls)
+sweeps-drop_next : (p : ℕ) (w : World) (ls : List ℕ) → w.leaving ≡ ls →
+    KeepsSweeps w (op.Closing closing_op.DropNext ∷ []) (drop_next_by p w ls)
 sweeps-drop_next = λ p w. by_list _
     (λ e r h. let z : length w.leaving ≡ 0 = ap length e in absurd (grind arith))
-    (λ f rest e r h. sweeps-closing rest (w.waking ++ f ∷ []) p w f (omega (arith, length-append w.waking (f ∷ []))) refl e r h)
+    (λ f rest e r h. sweeps-closing rest (w.waking ++ f ∷ []) p w f (omega (arith, length-append w.waking (f ∷ [])))
+    refl e r h)
 
-sweeps-woken : (rest : List ℕ) (o : Bool) (p : ℕ) (w v : World) (f : ℕ) (next : List Op) → w.waking ≡ f ∷ rest → lists (record w { waking = rest }) ≡ lists v → NoSteps next → KeepsSweeps w (op.Closing closing_op.WakeNext ∷ []) (done v (next ++ closing_ops [] rest))
+sweeps-woken : (rest : List ℕ) (o : Bool) (p : ℕ) (w v : World) (f : ℕ) (next : List Op) → w.waking ≡ f ∷ rest →
+    lists (record w { waking = rest }) ≡ lists v → NoSteps next →
+    KeepsSweeps w (op.Closing closing_op.WakeNext ∷ []) (done v (next ++ closing_ops [] rest))
 sweeps-woken = by_list _
-    (λ o p w v f next e q n r h. subst (λ (l : Lists). Sweeps l (with_sweep (next ++ op.Closing closing_op.Close ∷ []) r)) q (let a : _ = weigh-append ousting_of next (op.Closing closing_op.Close ∷ []) in let b : _ = weigh-append dropping_of next (op.Closing closing_op.Close ∷ []) in let c : _ = weigh-append rousing_of next (op.Closing closing_op.Close ∷ []) in let d : _ = weigh-append shutting_of next (op.Closing closing_op.Close ∷ []) in let k : _ = weigh-append draining_of next (op.Closing closing_op.Close ∷ []) in grind arith))
-    (λ y ys o p w v f next e q n r h. subst (λ (l : Lists). Sweeps l (with_sweep (next ++ op.Closing closing_op.WakeNext ∷ []) r)) q (let a : _ = weigh-append ousting_of next (op.Closing closing_op.WakeNext ∷ []) in let b : _ = weigh-append dropping_of next (op.Closing closing_op.WakeNext ∷ []) in let c : _ = weigh-append rousing_of next (op.Closing closing_op.WakeNext ∷ []) in let d : _ = weigh-append shutting_of next (op.Closing closing_op.WakeNext ∷ []) in let k : _ = weigh-append draining_of next (op.Closing closing_op.WakeNext ∷ []) in grind arith))
+    (λ o p w v f next e q n r h.
+    subst (λ (l : Lists). Sweeps l (with_sweep (next ++ op.Closing closing_op.Close ∷ []) r)) q
+    (let a : _ = weigh-append ousting_of next (op.Closing closing_op.Close ∷ []) in
+    let b : _ = weigh-append dropping_of next (op.Closing closing_op.Close ∷ []) in
+    let c : _ = weigh-append rousing_of next (op.Closing closing_op.Close ∷ []) in
+    let d : _ = weigh-append shutting_of next (op.Closing closing_op.Close ∷ []) in
+    let k : _ = weigh-append draining_of next (op.Closing closing_op.Close ∷ []) in grind arith))
+    (λ y ys o p w v f next e q n r h.
+    subst (λ (l : Lists). Sweeps l (with_sweep (next ++ op.Closing closing_op.WakeNext ∷ []) r)) q
+    (let a : _ = weigh-append ousting_of next (op.Closing closing_op.WakeNext ∷ []) in
+    let b : _ = weigh-append dropping_of next (op.Closing closing_op.WakeNext ∷ []) in
+    let c : _ = weigh-append rousing_of next (op.Closing closing_op.WakeNext ∷ []) in
+    let d : _ = weigh-append shutting_of next (op.Closing closing_op.WakeNext ∷ []) in
+    let k : _ = weigh-append draining_of next (op.Closing closing_op.WakeNext ∷ []) in grind arith))
 
-sweeps-wake_next : (p : ℕ) (w : World) (ws : List ℕ) → w.waking ≡ ws → KeepsSweeps w (op.Closing closing_op.WakeNext ∷ []) (wake_next_by p w ws)
+sweeps-wake_next : (p : ℕ) (w : World) (ws : List ℕ) → w.waking ≡ ws →
+    KeepsSweeps w (op.Closing closing_op.WakeNext ∷ []) (wake_next_by p w ws)
 sweeps-wake_next = λ p w. by_list _
     (λ e r h. let z : length w.waking ≡ 0 = ap length e in absurd (grind arith))
-    (λ f rest e r h. sweeps-woken rest true p w (wake p (record w { waking = rest }) f).world f (wake p (record w { waking = rest }) f).next e (same-log_if _ (record w { waking = rest }) (event.Woken p f)) (no-steps _ (plain-wake p (record w { waking = rest }) f)) r h)
+    (λ f rest e r h. sweeps-woken rest true p w (wake p (record w { waking = rest }) f).world f
+    (wake p (record w { waking = rest }) f).next e (same-log_if _ (record w { waking = rest }) (event.Woken p f))
+    (no-steps _ (plain-wake p (record w { waking = rest }) f)) r h)
 
 sweeps-close : (w : World) → KeepsSweeps w (op.Closing closing_op.Close ∷ []) (close w)
 sweeps-close w r h = grind arith
 
-sweeps-drain : (q : List ℕ) (p : ℕ) (w : World) → w.queue.items ≡ q → KeepsSweeps w (op.Closing closing_op.Drain ∷ []) (drain_by p w q)
+sweeps-drain : (q : List ℕ) (p : ℕ) (w : World) → w.queue.items ≡ q →
+    KeepsSweeps w (op.Closing closing_op.Drain ∷ []) (drain_by p w q)
 sweeps-drain = by_list _
     (λ p w e r h. let z : length w.queue.items ≡ 0 = ap length e in grind arith)
     (λ f rest p w e r h. let z : suc (length (drop 1 w.queue.items)) ≡ length w.queue.items = rw e refl in grind arith)
 
-sweeps-act : (b : Bool) (p : ℕ) (h : Hint) (o : Op) (w : World) → is_sweeping o ≡ b → KeepsSweeps w (o ∷ []) (act p h o w)
-sweeps-act false p h o w n = sweeps-still w (o ∷ []) (act p h o w) (same-act p h o w n) (no-self o n) (no-act p h o w _ refl n)
+sweeps-act : (b : Bool) (p : ℕ) (h : Hint) (o : Op) (w : World) → is_sweeping o ≡ b →
+    KeepsSweeps w (o ∷ []) (act p h o w)
+sweeps-act false p h o w n = sweeps-still w (o ∷ []) (act p h o w) (same-act p h o w n) (no-self o n)
+    (no-act p h o w _ refl n)
 sweeps-act true p h (op.Queue queue_op.Take) w n = sweeps-take _ w refl
 sweeps-act true p h (op.Queue (queue_op.Append f)) w n = sweeps-append _ w f (open-queue w.queue.closed _)
 sweeps-act true p h (op.Tick (tick_op.Search s)) w n = sweeps-search _ _ w s refl
@@ -383,11 +449,13 @@ sweeps-react p _ _ w a r h = absurd (cc)
 
 -- calls
 
-same-with : (w : World) (p : ℕ) (c : Call) (x : Option ℕ) (d : ℕ → Done) → ((f : ℕ) → lists w ≡ lists (d f).world) → lists w ≡ lists (with_future (log w (event.CallBegun p c)) x d).world
+same-with : (w : World) (p : ℕ) (c : Call) (x : Option ℕ) (d : ℕ → Done) → ((f : ℕ) → lists w ≡ lists (d f).world) →
+    lists w ≡ lists (with_future (log w (event.CallBegun p c)) x d).world
 same-with w p c None d k = refl
 same-with w p c (Some f) d k = k f
 
-same-begun : (p : ℕ) (w : World) (here : Option ℕ) (c : Call) → is_drop c ≡ false → lists w ≡ lists (begun p (log w (event.CallBegun p c)) here c).world
+same-begun : (p : ℕ) (w : World) (here : Option ℕ) (c : Call) → is_drop c ≡ false →
+    lists w ≡ lists (begun p (log w (event.CallBegun p c)) here c).world
 same-begun p w here (call.Wake k) n = same-with w p (call.Wake k) (kept w k) _ (λ f. refl)
 same-begun p w here (call.WakeByRef k) n = same-with w p (call.WakeByRef k) (kept w k) _ (λ f. refl)
 same-begun p w here (call.Copy k) n = same-with w p (call.Copy k) (kept w k) _ (λ f. refl)
@@ -397,16 +465,21 @@ same-begun p w here call.WakeSelf n = same-with w p call.WakeSelf here _ (λ f. 
 same-begun p w here call.DropExecutor n = absurd (cc)
 same-begun p w here _ n = refl
 
-sweeps-begun : (b : Bool) (p : ℕ) (w : World) (here : Option ℕ) (c : Call) → is_drop c ≡ b → not (w.gone && is_on_executor c) ≡ true → KeepsSweeps w [] (begun p (log w (event.CallBegun p c)) here c)
-sweeps-begun false p w here c n on = sweeps-still w [] (begun p (log w (event.CallBegun p c)) here c) (same-begun p w here c n) refl (no-steps _ (plain-begun p (log w (event.CallBegun p c)) here c n))
-sweeps-begun true p w here call.DropExecutor n on = λ r h. let z : w.gone ≡ false = open_executor w call.DropExecutor refl on in grind arith
+sweeps-begun : (b : Bool) (p : ℕ) (w : World) (here : Option ℕ) (c : Call) → is_drop c ≡ b →
+    not (w.gone && is_on_executor c) ≡ true → KeepsSweeps w [] (begun p (log w (event.CallBegun p c)) here c)
+sweeps-begun false p w here c n on =
+    sweeps-still w [] (begun p (log w (event.CallBegun p c)) here c) (same-begun p w here c n) refl
+    (no-steps _ (plain-begun p (log w (event.CallBegun p c)) here c n))
+sweeps-begun true p w here call.DropExecutor n on =
+    λ r h. let z : w.gone ≡ false = open_executor w call.DropExecutor refl on in grind arith
 sweeps-begun true p w here _ n on = absurd (cc)
 
 sweeps-way : (s : Machine) (p : ℕ) (old rest : List Op) (d : Done) → Way s p old rest d → KeepsSweeps s.world old d
 sweeps-way s p old rest d (acted h o q z) = rw z (rw q (sweeps-act _ p h o s.world refl))
 sweeps-way s p old rest d (reacted o u a q z) = rw z (rw q (sweeps-react p o u s.world a))
 sweeps-way s p old rest d (called c q r n z) =
-    let f : _ = none_refused (is_free (top (stack s p))) (has_all s.world s.parties (top (stack s p)) c) (not (s.world.gone && is_on_executor c)) (not (is_drop c) || is_unborrowed s.world s.parties) n in
+    let f : _ = none_refused (is_free (top (stack s p))) (has_all s.world s.parties (top (stack s p)) c)
+    (not (s.world.gone && is_on_executor c)) (not (is_drop c) || is_unborrowed s.world s.parties) n in
     rw z (rw q (sweeps-begun _ p s.world (polled_by (top (stack s p))) c refl f.2))
 
 -- every step
@@ -414,7 +487,8 @@ sweeps-way s p old rest d (called c q r n z) =
 abbrev pub Swept : Machine → Type 0
 Swept s = Sweeps (lists s.world) (sweep s.parties)
 
-split-sweep : (ss : List (List Op)) (p : ℕ) (old rest : List Op) → p < length ss → get_or ss p [] ≡ rest ++ reverse old → sweep ss ≡ with_sweep old (sweep (set ss p rest))
+split-sweep : (ss : List (List Op)) (p : ℕ) (old rest : List Op) → p < length ss →
+    get_or ss p [] ≡ rest ++ reverse old → sweep ss ≡ with_sweep old (sweep (set ss p rest))
 split-sweep ss p old rest l e = λ i. record {
   outs = split ousting_of ss p old rest l e i;
   drops = split dropping_of ss p old rest l e i;
@@ -423,7 +497,8 @@ split-sweep ss p old rest l e = λ i. record {
   drains = split draining_of ss p old rest l e i;
 }
 
-push-sweep : (ss : List (List Op)) (p : ℕ) (rest next : List Op) → p < length ss → sweep (set ss p (rest ++ reverse next)) ≡ with_sweep next (sweep (set ss p rest))
+push-sweep : (ss : List (List Op)) (p : ℕ) (rest next : List Op) → p < length ss →
+    sweep (set ss p (rest ++ reverse next)) ≡ with_sweep next (sweep (set ss p rest))
 push-sweep ss p rest next l = λ i. record {
   outs = weigh_all-push ousting_of ss p rest next l i;
   drops = weigh_all-push dropping_of ss p rest next l i;
@@ -432,14 +507,20 @@ push-sweep ss p rest next l = λ i. record {
   drains = weigh_all-push draining_of ss p rest next l i;
 }
 
-swept-unsettled : (s : Machine) (p : ℕ) (old rest : List Op) (d : Done) → p < length s.parties → stack s p ≡ rest ++ reverse old → KeepsSweeps s.world old d → Swept s → Swept (unsettled s p rest d)
-swept-unsettled s p old rest d l e k h = subst (Sweeps (lists d.world)) (sym (push-sweep s.parties p rest d.next l)) (k _ (subst (Sweeps (lists s.world)) (split-sweep s.parties p old rest l e) h))
+swept-unsettled : (s : Machine) (p : ℕ) (old rest : List Op) (d : Done) → p < length s.parties →
+    stack s p ≡ rest ++ reverse old → KeepsSweeps s.world old d → Swept s → Swept (unsettled s p rest d)
+swept-unsettled s p old rest d l e k h = subst (Sweeps (lists d.world)) (sym (push-sweep s.parties p rest d.next l))
+    (k _ (subst (Sweeps (lists s.world)) (split-sweep s.parties p old rest l e) h))
 
-swept-moves : (s : Machine) (p : ℕ) (old rest : List Op) (d : Done) → Good s → p < length s.parties → stack s p ≡ rest ++ reverse old → Way s p old rest d → Swept s → Swept (unsettled s p rest d)
+swept-moves : (s : Machine) (p : ℕ) (old rest : List Op) (d : Done) → Good s → p < length s.parties →
+    stack s p ≡ rest ++ reverse old → Way s p old rest d → Swept s → Swept (unsettled s p rest d)
 swept-moves s p old rest d good l e w h = swept-unsettled s p old rest d l e (sweeps-way s p old rest d w) h
 
-swept-ends : (s : Machine) (p : ℕ) (a : Reply) (held : Hold) (below : List Op) → p < length s.parties → stack s p ≡ below ++ reverse (op.End a held ∷ []) → Swept s → Swept (unsettled s p below (done (log s.world (event.CallEnded p a)) []))
-swept-ends s p a held below l e h = swept-unsettled s p (op.End a held ∷ []) below (done (log s.world (event.CallEnded p a)) []) l e (λ r k. k) h
+swept-ends : (s : Machine) (p : ℕ) (a : Reply) (held : Hold) (below : List Op) → p < length s.parties →
+    stack s p ≡ below ++ reverse (op.End a held ∷ []) → Swept s →
+    Swept (unsettled s p below (done (log s.world (event.CallEnded p a)) []))
+swept-ends s p a held below l e h =
+    swept-unsettled s p (op.End a held ∷ []) below (done (log s.world (event.CallEnded p a)) []) l e (λ r k. k) h
 
 swept-start : (limit n : ℕ) → Swept (start limit n)
 swept-start limit n = subst (Sweeps (lists (start limit n).world)) (sym (λ i. record {
@@ -448,7 +529,8 @@ swept-start limit n = subst (Sweeps (lists (start limit n).world)) (sym (λ i. r
   wakes = weigh_all-idle rousing_of n i;
   shuts = weigh_all-idle shutting_of n i;
   drains = weigh_all-idle draining_of n i;
-})) (let q : Sweeps (lists (start limit 0).world) (record { outs = 0; drops = 0; wakes = 0; shuts = 0; drains = 0 }) = grind arith in q)
+})) (let q : Sweeps (lists (start limit 0).world) (record { outs = 0; drops = 0; wakes = 0; shuts = 0; drains = 0 }) =
+    grind arith in q)
 
 pub swept : (limit n : ℕ) (ts : List Step) → Swept (run ts (start limit n))
 swept limit n ts = along Swept swept-moves swept-ends ts (start limit n) (good-start limit n) (swept-start limit n)

@@ -15,7 +15,9 @@ use Rattle.executor_model.proofs.Holding.{Open}
 abbrev pub asks_of : ℕ → Op → ℕ
 asks_of g o = fresh_of g o + (storing_of g o + (again_of g o + (waits_of g o + over_of g o)))
 
-pub asks-weighs : (g : ℕ) (os : List Op) → weigh (asks_of g) os ≡ weigh (fresh_of g) os + (weigh (storing_of g) os + (weigh (again_of g) os + (weigh (waits_of g) os + weigh (over_of g) os)))
+pub asks-weighs : (g : ℕ) (os : List Op) →
+    weigh (asks_of g) os ≡ weigh (fresh_of g) os
+    + (weigh (storing_of g) os + (weigh (again_of g) os + (weigh (waits_of g) os + weigh (over_of g) os)))
 asks-weighs g [] = refl
 asks-weighs g (o ∷ os) = omega (arith, asks-weighs g os)
 

@@ -1,4 +1,5 @@
--- Who notifies for the handle itself, and the steps of the executor's drop: most of what is done leads to nothing of these.
+-- Who notifies for the handle itself, and the steps of the executor's drop:
+-- most of what is done leads to nothing of these.
 use Rattle.std.proofs.Common.{◌≡◌, ℕ, List, [], ◌∷◌, ◌++◌, Bool, true, false, refl, ap, arith}
 use Rattle.std.specs.Prelude.{Option, Some, None}
 use Rattle.task_moves.specs.declared.moves.state.State.{State}
@@ -27,7 +28,8 @@ use Rattle.executor_model.specs.declared.step.UserEnd.{UserEnd}
 use Rattle.executor_model.specs.declared.step.UserEnd.TheVariants as end
 use Rattle.executor_model.specs.World.{World, Done, task, among, awaiter_of}
 use Rattle.executor_model.specs.Carried.{owed_ops, awaiter_ops}
-use Rattle.executor_model.specs.Acts.{append_by, take_by, enter_by, leave_by, copy_by, copy_awaiter_by, register_by, waker_goes, let_go, end_register_by, told, call_awaiter, wake, act}
+use Rattle.executor_model.specs.Acts.{append_by, take_by, enter_by, leave_by, copy_by, copy_awaiter_by, register_by}
+use Rattle.executor_model.specs.Acts.{waker_goes, let_go, end_register_by, told, call_awaiter, wake, act}
 use Rattle.executor_model.specs.Weights.{weigh}
 use Rattle.executor_model.specs.Steps.{with_future, kept, accepts, is_drop, begun, react}
 use Rattle.executor_model.proofs.Lists.{weigh-append}
@@ -52,12 +54,24 @@ plain-notify_if : (f : ℕ) (b : Bool) → weigh rough_of (awaiter_ops f (moves.
 plain-notify_if f true = refl
 plain-notify_if f false = refl
 
-plain-owed : (f : ℕ) (there : Bool) (o : Owed) → weigh rough_of (awaiter_ops f o.awaiter) ≡ 0 → weigh rough_of (owed_ops there f o) ≡ 0
-plain-owed f there o z = owed-nothing rough_of f (record { append = refl; output = refl; release = refl; settle_closed = refl; give_up = refl; end_closed = refl; detach = refl }) there o (owed-future rough_of f (record { poll = refl; drop = refl }) there o.future) z
+plain-owed : (f : ℕ) (there : Bool) (o : Owed) → weigh rough_of (awaiter_ops f o.awaiter) ≡ 0 →
+    weigh rough_of (owed_ops there f o) ≡ 0
+plain-owed f there o z =
+    owed-nothing rough_of f (record {
+      append = refl;
+      output = refl;
+      release = refl;
+      settle_closed = refl;
+      give_up = refl;
+      end_closed = refl;
+      detach = refl;
+    }) there o (owed-future rough_of f (record { poll = refl; drop = refl }) there o.future) z
 
 -- a move at which no awaiter is owed
-plain-carried : (f : ℕ) (there : Bool) (m : Moved) → m.owed.awaiter ≡ None → weigh rough_of (owed_ops there f m.owed) ≡ 0
-plain-carried f there m e = plain-owed f there m.owed (ap (λ (x : Option AwaiterDebt). weigh rough_of (awaiter_ops f x)) e)
+plain-carried : (f : ℕ) (there : Bool) (m : Moved) → m.owed.awaiter ≡ None →
+    weigh rough_of (owed_ops there f m.owed) ≡ 0
+plain-carried f there m e =
+    plain-owed f there m.owed (ap (λ (x : Option AwaiterDebt). weigh rough_of (awaiter_ops f x)) e)
 
 no-wake : (b c : Bool) (s : State) → (moves.wake_by_reference_by b c s).owed.awaiter ≡ None
 no-wake true c s = refl
@@ -83,7 +97,8 @@ no-end_pending false true c s = refl
 no-end_pending false false true s = refl
 no-end_pending false false false s = refl
 
-plain-cancel : (a b : Bool) (f : ℕ) (s : State) → weigh rough_of (awaiter_ops f (moves.cancel_by a b s).owed.awaiter) ≡ 0
+plain-cancel : (a b : Bool) (f : ℕ) (s : State) → weigh rough_of (awaiter_ops f (moves.cancel_by a b s).owed.awaiter)
+    ≡ 0
 plain-cancel true b f s = refl
 plain-cancel false true f s = plain-notify_if f s.awaiter
 plain-cancel false false f s = plain-notify_if f s.awaiter
@@ -110,7 +125,8 @@ plain-copy : (b : Bool) (w : World) (f : ℕ) (held : Hold) → weigh rough_of (
 plain-copy true w f held = refl
 plain-copy false w f held = refl
 
-plain-copy_awaiter : (b : Bool) (p : ℕ) (w : World) (f : ℕ) (a : Waker) → weigh rough_of (copy_awaiter_by b p w f a).next ≡ 0
+plain-copy_awaiter : (b : Bool) (p : ℕ) (w : World) (f : ℕ) (a : Waker) →
+    weigh rough_of (copy_awaiter_by b p w f a).next ≡ 0
 plain-copy_awaiter true p w f a = refl
 plain-copy_awaiter false p w f a = refl
 
@@ -126,9 +142,16 @@ plain-let_go : (a : Option Awaiter) → weigh rough_of (let_go a) ≡ 0
 plain-let_go None = refl
 plain-let_go (Some a) = plain-goes a.waker
 
-plain-end_register : (b : Bool) (w : World) (f : ℕ) (a : Waker) (k : ℕ) → weigh rough_of (end_register_by b w f a k).next ≡ 0
-plain-end_register true w f a k = omega (arith, plain-both (let_go (awaiter_of w f)) (op.Handle (handle_op.LookAgain f) ∷ []) (plain-let_go (awaiter_of w f)) refl)
-plain-end_register false w f a k = plain-both (let_go (awaiter_of w f)) (op.Handle (handle_op.LookAgain f) ∷ []) (plain-let_go (awaiter_of w f)) refl
+plain-end_register : (b : Bool) (w : World) (f : ℕ) (a : Waker) (k : ℕ) →
+    weigh rough_of (end_register_by b w f a k).next ≡ 0
+plain-end_register true w f a k =
+    omega (
+      arith,
+      plain-both (let_go (awaiter_of w f)) (op.Handle (handle_op.LookAgain f) ∷ [])
+          (plain-let_go (awaiter_of w f)) refl,
+    )
+plain-end_register false w f a k = plain-both (let_go (awaiter_of w f)) (op.Handle (handle_op.LookAgain f) ∷ [])
+    (plain-let_go (awaiter_of w f)) refl
 
 plain-told : (b : Bool) (f : ℕ) (a : Option Awaiter) → weigh rough_of (told b f a) ≡ 0
 plain-told b f None = refl
@@ -162,17 +185,24 @@ pub plain-act : (p : ℕ) (h : Hint) (o : Op) (w : World) → is_special o ≡ f
 plain-act p h (op.Table table_op.Enter) w n = plain-enter _ _ p w
 plain-act p h (op.Queue queue_op.Take) w n = plain-take _ w
 plain-act p h (op.Queue (queue_op.Append f)) w n = plain-append _ w f
-plain-act p h (op.Move move.WakeByReference f) w n = plain-carried f _ (moves.wake_by_reference (task w f)) (no-wake _ _ (task w f))
+plain-act p h (op.Move move.WakeByReference f) w n =
+    plain-carried f _ (moves.wake_by_reference (task w f)) (no-wake _ _ (task w f))
 plain-act p h (op.Move move.Wake f) w n = plain-wake p w f
 plain-act p h (op.Move move.Release f) w n = plain-carried f _ (moves.release (task w f)) (no-release _ _ (task w f))
 plain-act p h (op.Move move.TakeUp f) w n = plain-carried f _ (moves.take_up (task w f)) (no-take_up _ (task w f))
-plain-act p h (op.Move move.SettleClosed f) w n = plain-owed f (among f w.table) (moves.settle_closed (task w f)).owed (plain-notify_if f (task w f).awaiter)
+plain-act p h (op.Move move.SettleClosed f) w n = plain-owed f (among f w.table) (moves.settle_closed (task w f)).owed
+    (plain-notify_if f (task w f).awaiter)
 plain-act p h (op.Move move.GiveUp f) w n = plain-carried f _ (moves.give_up (task w f)) (no-give_up _ (task w f))
-plain-act p h (op.Move move.EndReady f) w n = plain-owed f (among f w.table) (moves.end_ready (task w f)).owed (plain-notify_if f (task w f).awaiter)
-plain-act p h (op.Move move.EndPending f) w n = plain-carried f _ (moves.end_pending (task w f)) (no-end_pending _ _ _ (task w f))
-plain-act p h (op.Move move.EndClosed f) w n = plain-owed f (among f w.table) (moves.end_closed (task w f)).owed (plain-notify_if f (task w f).awaiter)
-plain-act p h (op.Move move.DropRunnable f) w n = plain-carried f (among f w.table) (moves.drop_runnable (task w f)) refl
-plain-act p h (op.Move move.Cancel f) w n = plain-owed f _ (moves.cancel (task w f)).owed (plain-cancel _ _ f (task w f))
+plain-act p h (op.Move move.EndReady f) w n = plain-owed f (among f w.table) (moves.end_ready (task w f)).owed
+    (plain-notify_if f (task w f).awaiter)
+plain-act p h (op.Move move.EndPending f) w n =
+    plain-carried f _ (moves.end_pending (task w f)) (no-end_pending _ _ _ (task w f))
+plain-act p h (op.Move move.EndClosed f) w n = plain-owed f (among f w.table) (moves.end_closed (task w f)).owed
+    (plain-notify_if f (task w f).awaiter)
+plain-act p h (op.Move move.DropRunnable f) w n = plain-carried f (among f w.table) (moves.drop_runnable (task w f))
+    refl
+plain-act p h (op.Move move.Cancel f) w n =
+    plain-owed f _ (moves.cancel (task w f)).owed (plain-cancel _ _ f (task w f))
 plain-act p h (op.Move move.Detach f) w n = plain-carried f _ (moves.detach (task w f)) (no-detach _ _ (task w f))
 plain-act p h (op.Table (table_op.LeaveTable f)) w n = plain-leave _ w f
 plain-act p h (op.Waker (waker_op.CopyWaker f held)) w n = plain-copy _ w f held
@@ -181,8 +211,13 @@ plain-act p h (op.Handle (handle_op.Register f a k)) w n = plain-register _ w f 
 plain-act p h (op.Handle (handle_op.EndRegister f a k)) w n = plain-end_register _ w f a k
 plain-act p h (op.Handle (handle_op.EndNotify f mine)) w n = plain-told _ f (awaiter_of w f)
 plain-act p h (op.Waker (waker_op.CallAwaiter f a k)) w n = plain-call p w f a k
-plain-act p h (op.Sleeper o) w n = sleeper-unseen rough_of (record { hand = refl; call = λ s. refl; outside = λ x. refl; wake = λ p w f. plain-wake p w f }) p o w
-plain-act p h (op.Tick o) w n = tick-blind rough_of (record { tick = λ o. refl; exchange = refl; call = λ s. refl; release = λ f. refl; end = λ r t. refl; made = λ r. refl }) (λ f. refl) h o w
+plain-act p h (op.Sleeper o) w n =
+    sleeper-unseen rough_of (record
+    { hand = refl; call = λ s. refl; outside = λ x. refl; wake = λ p w f. plain-wake p w f }) p o w
+plain-act p h (op.Tick o) w n =
+    tick-blind rough_of (record
+    { tick = λ o. refl; exchange = refl; call = λ s. refl; release = λ f. refl; end = λ r t. refl; made = λ r. refl })
+    (λ f. refl) h o w
 plain-act p h (op.Handle (handle_op.Look f a)) w n = absurd (cc)
 plain-act p h (op.Handle (handle_op.LookAgain f)) w n = absurd (cc)
 plain-act p h (op.Handle (handle_op.Notify f mine)) w n = absurd (cc)
@@ -194,7 +229,8 @@ plain-act p h (op.Closing closing_op.Drain) w n = absurd (cc)
 plain-act p h (op.User (user_op.BeginDrop f)) w n = refl
 plain-act p h _ w n = refl
 
-pub plain-react : (p : ℕ) (o : Op) (e : UserEnd) (w : World) → accepts o e ≡ true → weigh rough_of (react p o e w).next ≡ 0
+pub plain-react : (p : ℕ) (o : Op) (e : UserEnd) (w : World) → accepts o e ≡ true →
+    weigh rough_of (react p o e w).next ≡ 0
 plain-react p (op.User (user_op.Poll f)) (end.Polled answer.Pending) w k = refl
 plain-react p (op.User (user_op.Poll f)) (end.Polled answer.Ready) w k = refl
 plain-react p (op.User (user_op.Drop f)) end.Done w k = refl
@@ -202,12 +238,14 @@ plain-react p (op.User (user_op.DropOutput f)) end.Done w k = refl
 plain-react p (op.User (user_op.CallOutside x)) end.Done w k = refl
 plain-react p _ _ w k = absurd (cc)
 
-plain-with : (v : World) (r : Option ℕ) (d : ℕ → Done) → ((f : ℕ) → weigh rough_of (d f).next ≡ 0) → weigh rough_of (with_future v r d).next ≡ 0
+plain-with : (v : World) (r : Option ℕ) (d : ℕ → Done) → ((f : ℕ) → weigh rough_of (d f).next ≡ 0) →
+    weigh rough_of (with_future v r d).next ≡ 0
 plain-with v None d k = refl
 plain-with v (Some f) d k = k f
 
 -- a call leads to such only where it is the executor's drop
-pub plain-begun : (p : ℕ) (w : World) (here : Option ℕ) (c : Call) → is_drop c ≡ false → weigh rough_of (begun p w here c).next ≡ 0
+pub plain-begun : (p : ℕ) (w : World) (here : Option ℕ) (c : Call) → is_drop c ≡ false →
+    weigh rough_of (begun p w here c).next ≡ 0
 plain-begun p w here call.Spawn n = refl
 plain-begun p w here call.TryTick n = refl
 plain-begun p w here call.IsEmpty n = refl

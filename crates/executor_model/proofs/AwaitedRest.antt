@@ -1,5 +1,6 @@
 -- At a quiet trace the waker of the last poll of a handle was called, if that was answered that there is no output yet.
-use Rattle.std.proofs.Common.{◌≡◌, ◌⊎◌, ℕ, suc, ◌<◌, ◌≤◌, List, [], ◌∷◌, length, Bool, true, false, refl, sym, ap, ◌∙◌, subst, ⊎_elim, arith}
+use Rattle.std.proofs.Common.{◌≡◌, ◌⊎◌, ℕ, suc, ◌<◌, ◌≤◌, List, [], ◌∷◌, length}
+use Rattle.std.proofs.Common.{Bool, true, false, refl, sym, ap, ◌∙◌, subst, ⊎_elim, arith}
 use Rattle.std.proofs.lemmas.List.{get_or_past}
 use Rattle.executor_model.specs.declared.step.Step.{Step}
 use Rattle.executor_model.specs.Trace.{Trace, is_dropped}
@@ -10,7 +11,8 @@ use Rattle.executor_model.specs.Rows as rows
 use Rattle.executor_model.specs.Sound.Phase.{Over}
 use Rattle.executor_model.specs.Good.{Good}
 use Rattle.executor_model.specs.Weights.{past}
-use Rattle.executor_model.specs.Rows.{handling_of, borrowing_of, waiting_of, polls_of, ending_of, ready_of, settling_of, giving_of, drops_of, releases_of, copies_of, ousting_of, leaves_of}
+use Rattle.executor_model.specs.Rows.{handling_of, borrowing_of, waiting_of, polls_of, ending_of, ready_of, settling_of}
+use Rattle.executor_model.specs.Rows.{giving_of, drops_of, releases_of, copies_of, ousting_of, leaves_of}
 use Rattle.executor_model.specs.Steps.{Machine, stack, run, start}
 use Rattle.executor_model.proofs.Cases.{by_bool}
 use Rattle.executor_model.proofs.Lists.{past_is}
@@ -20,11 +22,15 @@ use Rattle.executor_model.proofs.Stories.{story}
 use Rattle.executor_model.proofs.Telling.{fallen-counts, counted-there}
 use Rattle.executor_model.proofs.Leaving.{closing_of, waking_of, Extra, extra, Leaves}
 use Rattle.executor_model.proofs.LeavingRuns.{Placed, placed}
-use Rattle.executor_model.proofs.Awaited.{Heard, heard, Awaiting, awaiting, Awaits, Mark, looks_of, fresh_of, storing_of, again_of, waits_of, over_of, notices_of, notifying_of, mine_of, detaches_of, lending_of, strays_of, calls_of}
-use Rattle.executor_model.proofs.AwaitedClosing.{lists, Sweep, sweep, Sweeps, Swept, swept, dropping_of, rousing_of, shutting_of, draining_of}
+use Rattle.executor_model.proofs.Awaited.{Heard, heard, Awaiting, awaiting, Awaits, Mark, looks_of, fresh_of}
+use Rattle.executor_model.proofs.Awaited.{storing_of, again_of, waits_of, over_of, notices_of, notifying_of}
+use Rattle.executor_model.proofs.Awaited.{mine_of, detaches_of, lending_of, strays_of, calls_of}
+use Rattle.executor_model.proofs.AwaitedClosing.{lists, Sweep, sweep, Sweeps, Swept, swept, dropping_of}
+use Rattle.executor_model.proofs.AwaitedClosing.{rousing_of, shutting_of, draining_of}
 use Rattle.executor_model.proofs.AwaitedCalls.{marked}
 use Rattle.executor_model.proofs.AwaitedRuns.{Waited, waited, nothing_pending, nothing_awaited}
-use Rattle.executor_model.proofs.AwaitedTelling.{parted-has, dropped-has, over-dropped, Begun, begun-at, called-from, pending-at}
+use Rattle.executor_model.proofs.AwaitedTelling.{parted-has, dropped-has, over-dropped, Begun}
+use Rattle.executor_model.proofs.AwaitedTelling.{begun-at, called-from, pending-at}
 
 abbrev nothing_more : Extra
 nothing_more = record { leaves = 0; closing = 0; waking = 0 }
@@ -37,21 +43,28 @@ no-times g [] e = refl
 no-times g (x ∷ xs) e = absurd (omega (arith, e))
 
 -- where nothing is left to do, a dropped future has no Runnable
-none-queued : (gone : Bool) (w : World) (g : ℕ) → w.gone ≡ gone → Leaves w g nothing_pending nothing_more → Sweeps (lists w) nothing_swept → 1 ≤ (story g w.trace).fallen → times g w.queue.items ≡ 0
+none-queued : (gone : Bool) (w : World) (g : ℕ) → w.gone ≡ gone → Leaves w g nothing_pending nothing_more →
+    Sweeps (lists w) nothing_swept → 1 ≤ (story g w.trace).fallen → times g w.queue.items ≡ 0
 none-queued = by_bool _
-    (λ w g e l v k. ⊎_elim (λ (x : 1 ≤ 0). absurd (omega (arith, x))) (λ (x : length w.queue.items ≡ 0). no-times g w.queue.items x) (v.drained e))
+    (λ w g e l v k. ⊎_elim (λ (x : 1 ≤ 0). absurd (omega (arith, x)))
+    (λ (x : length w.queue.items ≡ 0). no-times g w.queue.items x) (v.drained e))
     (λ w g e l v k. let z : _ = (past_is (length w.tasks) g).1 in grind arith)
 
 none-waking : (w : World) (g : ℕ) → Sweeps (lists w) nothing_swept → w.gone ≡ true → times g w.waking ≡ 0
-none-waking w g v e = ⊎_elim (λ (x : 1 ≤ 0). absurd (omega (arith, x))) (λ (x : length w.waking ≡ 0). no-times g w.waking x) (v.awake e)
+none-waking w g v e = ⊎_elim (λ (x : 1 ≤ 0). absurd (omega (arith, x)))
+    (λ (x : length w.waking ≡ 0). no-times g w.waking x) (v.awake e)
 
 -- it is settled
-settled : (gone : Bool) (w : World) (g : ℕ) (m : Mark) → w.gone ≡ gone → Sound w g nothing_pending → Awaits w g nothing_pending nothing_awaited m → Sweeps (lists w) nothing_swept → (heard g w.trace).dropped ≡ true → (task w g).scheduled ≡ false → (task w g).running ≡ false → ((task w g).closed ≡ true) ⊎ ((task w g).completed ≡ true)
+settled : (gone : Bool) (w : World) (g : ℕ) (m : Mark) → w.gone ≡ gone → Sound w g nothing_pending →
+    Awaits w g nothing_pending nothing_awaited m → Sweeps (lists w) nothing_swept → (heard g w.trace).dropped ≡ true →
+    (task w g).scheduled ≡ false → (task w g).running ≡ false →
+    ((task w g).closed ≡ true) ⊎ ((task w g).completed ≡ true)
 settled = by_bool _
     (λ w g m e h a v d s r. let z : times g w.waking ≡ 0 = none-waking w g v e in grind arith)
     (λ w g m e h a v d s r. let z : phase g w.trace ≡ Over = over-dropped g w.trace d h.lawful in grind arith)
 
-not-scheduled : (b : Bool) (w : World) (g : ℕ) → (task w g).scheduled ≡ b → Sound w g nothing_pending → times g w.queue.items ≡ 0 → b ≡ false
+not-scheduled : (b : Bool) (w : World) (g : ℕ) → (task w g).scheduled ≡ b → Sound w g nothing_pending →
+    times g w.queue.items ≡ 0 → b ≡ false
 not-scheduled false w g e h z = refl
 not-scheduled true w g e h z = absurd (omega (arith, h.owed e, z))
 
@@ -64,16 +77,24 @@ blank-open : (w : World) (g : ℕ) → ((task w g).closed ≡ true) ⊎ ((task w
 blank-open w g h l = let z : task w g ≡ blank = get_or_past w.tasks g blank l in grind arith
 
 known-task : (w : World) (g : ℕ) → ((task w g).closed ≡ true) ⊎ ((task w g).completed ≡ true) → g < length w.tasks
-known-task w g h = ⊎_elim (λ (x : (past (length w.tasks) g ≡ 0) × (g < length w.tasks)). x.1) (λ (x : (past (length w.tasks) g ≡ 1) × (length w.tasks ≤ g)). absurd (blank-open w g h x.1)) (past_is (length w.tasks) g).1
+known-task w g h = ⊎_elim (λ (x : (past (length w.tasks) g ≡ 0) × (g < length w.tasks)). x.1)
+    (λ (x : (past (length w.tasks) g ≡ 1) × (length w.tasks ≤ g)). absurd (blank-open w g h x.1))
+    (past_is (length w.tasks) g).1
 
-handle-there : (b : Bool) (w : World) (g : ℕ) (m : Mark) → (task w g).handle ≡ b → Awaits w g nothing_pending nothing_awaited m → ((task w g).closed ≡ true) ⊎ ((task w g).completed ≡ true) → (heard g w.trace).parted ≡ false → b ≡ true
+handle-there : (b : Bool) (w : World) (g : ℕ) (m : Mark) → (task w g).handle ≡ b →
+    Awaits w g nothing_pending nothing_awaited m → ((task w g).closed ≡ true) ⊎ ((task w g).completed ≡ true) →
+    (heard g w.trace).parted ≡ false → b ≡ true
 handle-there true w g m e a h n = refl
 handle-there false w g m e a h n = let no : true ≡ false = sym (a.parted (known-task w g h) e) ∙ n in absurd (cc)
 
-called-there : (w : World) (g : ℕ) (m : Mark) → Awaits w g nothing_pending nothing_awaited m → (task w g).handle ≡ true → ((task w g).closed ≡ true) ⊎ ((task w g).completed ≡ true) → (task w g).scheduled ≡ false → (task w g).running ≡ false → (heard g w.trace).pending ≡ true → (heard g w.trace).called ≡ true
+called-there : (w : World) (g : ℕ) (m : Mark) → Awaits w g nothing_pending nothing_awaited m →
+    (task w g).handle ≡ true → ((task w g).closed ≡ true) ⊎ ((task w g).completed ≡ true) →
+    (task w g).scheduled ≡ false → (task w g).running ≡ false → (heard g w.trace).pending ≡ true →
+    (heard g w.trace).called ≡ true
 called-there w g m a k h s r p = grind arith
 
-module _ (s : Machine) (fine : Good s) (h : Placed s) (d : Deep s) (v : Swept s) (x : Waited s) (g : ℕ) (over : IsOverWithHandle g s.world.trace) where
+module _ (s : Machine) (fine : Good s) (h : Placed s) (d : Deep s) (v : Swept s) (x : Waited s) (g : ℕ)
+    (over : IsOverWithHandle g s.world.trace) where
   idle : (q : ℕ) → stack s q ≡ []
   idle q = rests s d over.quiet q
 
@@ -94,7 +115,12 @@ module _ (s : Machine) (fine : Good s) (h : Placed s) (d : Deep s) (v : Swept s)
   }
 
   is-no-more : extra g s.parties ≡ nothing_more
-  is-no-more = λ i. record { leaves = all-rest (leaves_of g) s.parties idle i; closing = all-rest closing_of s.parties idle i; waking = all-rest waking_of s.parties idle i }
+  is-no-more =
+      λ i. record {
+        leaves = all-rest (leaves_of g) s.parties idle i;
+        closing = all-rest closing_of s.parties idle i;
+        waking = all-rest waking_of s.parties idle i;
+      }
 
   is-swept : sweep s.parties ≡ nothing_swept
   is-swept = λ i. record {
@@ -130,7 +156,8 @@ module _ (s : Machine) (fine : Good s) (h : Placed s) (d : Deep s) (v : Swept s)
   leaves-here = subst (λ (y : Pend × Extra). Leaves s.world g y.0 y.1) (λ i. (is-nothing i, is-no-more i)) (h.leaves g)
 
   awaits-here : Awaits s.world g nothing_pending nothing_awaited (marked s.world g nothing_awaited)
-  awaits-here = subst (λ (y : Pend × Awaiting). Awaits s.world g y.0 y.1 (marked s.world g y.1)) (λ i. (is-nothing i, is-none-awaited i)) (x.awaits g)
+  awaits-here = subst (λ (y : Pend × Awaiting). Awaits s.world g y.0 y.1 (marked s.world g y.1))
+      (λ i. (is-nothing i, is-none-awaited i)) (x.awaits g)
 
   swept-here : Sweeps (lists s.world) nothing_swept
   swept-here = subst (Sweeps (lists s.world)) is-swept v
@@ -142,7 +169,8 @@ module _ (s : Machine) (fine : Good s) (h : Placed s) (d : Deep s) (v : Swept s)
   kept = parted-has g s.world.trace ∙ over.handle
 
   none-left : times g s.world.queue.items ≡ 0
-  none-left = none-queued s.world.gone s.world g refl leaves-here swept-here (omega (arith, fallen-counts g s.world.trace, counted-there (is_dropped g) s.world.trace over.dropped))
+  none-left = none-queued s.world.gone s.world g refl leaves-here swept-here
+      (omega (arith, fallen-counts g s.world.trace, counted-there (is_dropped g) s.world.trace over.dropped))
 
   unscheduled : (task s.world g).scheduled ≡ false
   unscheduled = not-scheduled (task s.world g).scheduled s.world g refl sound-here none-left
@@ -154,14 +182,23 @@ module _ (s : Machine) (fine : Good s) (h : Placed s) (d : Deep s) (v : Swept s)
   is-settled = settled s.world.gone s.world g _ refl sound-here awaits-here swept-here dropped unscheduled stopped
 
   pub called-at-rest : (heard g s.world.trace).pending ≡ true → (heard g s.world.trace).called ≡ true
-  called-at-rest = called-there s.world g _ awaits-here (handle-there (task s.world g).handle s.world g _ refl awaits-here is-settled kept) is-settled unscheduled stopped
+  called-at-rest = called-there s.world g _ awaits-here
+      (handle-there (task s.world g).handle s.world g _ refl awaits-here is-settled kept) is-settled unscheduled stopped
 
 -- as the definition has it
-kept-at-rest : (f : ℕ) (trace : Trace) → (IsOverWithHandle f trace → (heard f trace).pending ≡ true → (heard f trace).called ≡ true) → AwaiterIsKept f trace
+kept-at-rest : (f : ℕ) (trace : Trace) →
+    (IsOverWithHandle f trace → (heard f trace).pending ≡ true → (heard f trace).called ≡ true) → AwaiterIsKept f trace
 kept-at-rest f trace k party poll over last =
     let b : Begun f poll party trace = begun-at f poll party trace last.polled in
-    let p : (heard f trace).pending ≡ true = ap (λ (t : Heard). t.pending) b.all ∙ pending-at f (suc poll) party poll b.before (since poll trace) last.last last.pending in
-    sym (called-from f (suc poll) poll (record b.before { poll = poll; party = party; asking = true; inner = 0; pending = false; called = false }) (since poll trace) refl last.last) ∙ (sym (ap (λ (t : Heard). t.called) b.all) ∙ k over p)
+    let p : (heard f trace).pending ≡ true = ap (λ (t : Heard). t.pending) b.all ∙ pending-at f (suc poll) party poll
+    b.before (since poll trace) last.last last.pending in
+    sym (called-from f (suc poll) poll
+    (record b.before { poll = poll; party = party; asking = true; inner = 0; pending = false; called = false })
+    (since poll trace) refl last.last) ∙ (sym (ap (λ (t : Heard). t.called) b.all) ∙ k over p)
 
-pub awaiter-is-kept : (limit parties : ℕ) (steps : List Step) (f : ℕ) → AwaiterIsKept f (run steps (start limit parties)).world.trace
-awaiter-is-kept limit parties steps f = kept-at-rest f _ (λ over. called-at-rest (run steps (start limit parties)) (good limit parties steps) (placed limit parties steps) (deep limit parties steps) (swept limit parties steps) (waited limit parties steps) f over)
+pub awaiter-is-kept : (limit parties : ℕ) (steps : List Step) (f : ℕ) →
+    AwaiterIsKept f (run steps (start limit parties)).world.trace
+awaiter-is-kept limit parties steps f =
+    kept-at-rest f _ (λ over. called-at-rest (run steps (start limit parties)) (good limit parties steps)
+    (placed limit parties steps) (deep limit parties steps) (swept limit parties steps) (waited limit parties steps) f
+    over)

@@ -1,5 +1,6 @@
 -- A future is only polled, dropped or taken out of the table for good inside of a call that uses the executor.
-use Rattle.std.proofs.Common.{◌≡◌, ℕ, zero, suc, ◌+◌, ◌<◌, ◌≤◌, List, [], ◌∷◌, ◌++◌, length, set, get_or, Bool, true, false, ◌||◌, cond, ltb, refl, ap, ◌∙◌, arith}
+use Rattle.std.proofs.Common.{◌≡◌, ℕ, zero, suc, ◌+◌, ◌<◌, ◌≤◌, List, [], ◌∷◌, ◌++◌, length, set, get_or}
+use Rattle.std.proofs.Common.{Bool, true, false, ◌||◌, cond, ltb, refl, ap, ◌∙◌, arith}
 use Rattle.std.specs.Prelude.{reverse}
 use Rattle.executor_model.specs.declared.op.Op.{Op}
 use Rattle.executor_model.specs.declared.op.Op.TheVariants as op
@@ -62,29 +63,37 @@ pub record Tidy (old next : List Op) : Type 0 where
   pub keeps : bare false (reverse old) ≡ 0 → bare false (reverse next) ≡ 0
 
 pub tidy-light : (old next : List Op) → weigh uses_of next ≡ 0 → Tidy old next
-tidy-light old next z = record { keeps = λ h. omega (arith, bare-light false (reverse next), weigh-reverse uses_of next, z) }
+tidy-light old next z =
+    record { keeps = λ h. omega (arith, bare-light false (reverse next), weigh-reverse uses_of next, z) }
 
 tidy-at : (b : Bool) (old next : List Op) → Tidy old next → bare b (reverse old) ≡ 0 → bare b (reverse next) ≡ 0
 tidy-at true old next t h = bare-held (reverse next)
 tidy-at false old next t h = t.keeps h
 
-bare_all-set : (ss : List (List Op)) (p : ℕ) (y : List Op) → p < length ss → bare_all (set ss p y) + bare false (get_or ss p []) ≡ bare_all ss + bare false y
+bare_all-set : (ss : List (List Op)) (p : ℕ) (y : List Op) → p < length ss →
+    bare_all (set ss p y) + bare false (get_or ss p []) ≡ bare_all ss + bare false y
 bare_all-set [] p y h = absurd (omega arith)
 bare_all-set (s ∷ ss) zero y h = omega arith
 bare_all-set (s ∷ ss) (suc p) y h = omega (arith, bare_all-set ss p y (omega arith))
 
-pub bare-moved : (ss : List (List Op)) (p : ℕ) (old rest next : List Op) → p < length ss → get_or ss p [] ≡ rest ++ reverse old → Tidy old next → bare_all ss ≡ 0 → bare_all (set ss p (rest ++ reverse next)) ≡ 0
+pub bare-moved : (ss : List (List Op)) (p : ℕ) (old rest next : List Op) → p < length ss →
+    get_or ss p [] ≡ rest ++ reverse old → Tidy old next → bare_all ss ≡ 0 →
+    bare_all (set ss p (rest ++ reverse next)) ≡ 0
 bare-moved ss p old rest next l e t z =
-    let s : bare_all (set ss p (rest ++ reverse next)) + bare false (get_or ss p []) ≡ bare_all ss + bare false (rest ++ reverse next) = bare_all-set ss p (rest ++ reverse next) l in
+    let s : bare_all (set ss p (rest ++ reverse next)) + bare false (get_or ss p []) ≡ bare_all ss
+    + bare false (rest ++ reverse next) = bare_all-set ss p (rest ++ reverse next) l in
     let q : bare_all (set ss p []) + bare false (get_or ss p []) ≡ bare_all ss + 0 = bare_all-set ss p [] l in
-    let o : bare false (get_or ss p []) ≡ bare false rest + bare (held_by false rest) (reverse old) = ap (bare false) e ∙ bare-append false rest (reverse old) in
-    let n : bare (held_by false rest) (reverse next) ≡ 0 = tidy-at (held_by false rest) old next t (omega (arith, o, q, z)) in
+    let o : bare false (get_or ss p []) ≡ bare false rest + bare (held_by false rest) (reverse old) =
+    ap (bare false) e ∙ bare-append false rest (reverse old) in
+    let n : bare (held_by false rest) (reverse next) ≡ 0 =
+    tidy-at (held_by false rest) old next t (omega (arith, o, q, z)) in
     omega (arith, s, q, o, n, z, bare-append false rest (reverse next))
 
 unheld : (o : Op) → borrowing_of o ≡ 0 → holds o ≡ false
 unheld o e = ap (ltb 0) e
 
-unheld-go : (b : Bool) (o : Op) (os : List Op) → b ≡ false → bare false os ≡ weigh uses_of os → uses_of o + bare b os ≡ uses_of o + weigh uses_of os
+unheld-go : (b : Bool) (o : Op) (os : List Op) → b ≡ false → bare false os ≡ weigh uses_of os →
+    uses_of o + bare b os ≡ uses_of o + weigh uses_of os
 unheld-go true o os e ih = absurd (cc)
 unheld-go false o os e ih = omega (arith, ih)
 
@@ -95,7 +104,8 @@ unheld-stack (o ∷ os) e = unheld-go (holds o) o os (unheld o (omega (arith, e)
 -- where nothing holds the executor, nothing uses it
 pub none-uses : (ss : List (List Op)) → weigh_all borrowing_of ss ≡ 0 → bare_all ss ≡ 0 → weigh_all uses_of ss ≡ 0
 none-uses [] e z = refl
-none-uses (s ∷ ss) e z = omega (arith, unheld-stack s (omega (arith, e)), none-uses ss (omega (arith, e)) (omega (arith, z)), z)
+none-uses (s ∷ ss) e z =
+    omega (arith, unheld-stack s (omega (arith, e)), none-uses ss (omega (arith, e)) (omega (arith, z)), z)
 
 drop-uses : (g : ℕ) (o : Op) → drops_of g o + leaves_of g o ≤ uses_of o
 drop-uses g (op.Table (table_op.TakeToDrop f)) = grind (arith, same_is)
@@ -114,7 +124,8 @@ drop-uses-stack : (g : ℕ) (os : List Op) → weigh (drops_of g) os + weigh (le
 drop-uses-stack g [] = omega arith
 drop-uses-stack g (o ∷ os) = omega (arith, drop-uses g o, drop-uses-stack g os)
 
-pub drop-uses-all : (g : ℕ) (ss : List (List Op)) → weigh_all (drops_of g) ss + weigh_all (leaves_of g) ss ≤ weigh_all uses_of ss
+pub drop-uses-all : (g : ℕ) (ss : List (List Op)) →
+    weigh_all (drops_of g) ss + weigh_all (leaves_of g) ss ≤ weigh_all uses_of ss
 drop-uses-all g [] = omega arith
 drop-uses-all g (s ∷ ss) = omega (arith, drop-uses-stack g s, drop-uses-all g ss)
 

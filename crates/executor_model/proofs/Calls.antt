@@ -1,5 +1,7 @@
--- How many calls of a party are in progress: as many as it has begun and not ended, and as many as its stack has still to answer.
-use Rattle.std.proofs.Common.{◌≡◌, ℕ, ◌+◌, List, [], ◌∷◌, ◌++◌, length, Bool, true, false, cond, refl, sym, ap, ◌∙◌, arith}
+-- How many calls of a party are in progress: as many as it has begun and not ended,
+-- and as many as its stack has still to answer.
+use Rattle.std.proofs.Common.{◌≡◌, ℕ, ◌+◌, List, [], ◌∷◌, ◌++◌, length}
+use Rattle.std.proofs.Common.{Bool, true, false, cond, refl, sym, ap, ◌∙◌, arith}
 use Rattle.std.proofs.lemmas.List.Sums.{sum_by_push}
 use Rattle.std.specs.Prelude.{Option, Some, None, count_by}
 use Rattle.task_moves.specs.declared.moves.owed.Move.TheVariants as move
@@ -28,7 +30,9 @@ use Rattle.executor_model.specs.Trace.{Trace}
 use Rattle.executor_model.specs.Quiet.{begins_call, ends_call}
 use Rattle.executor_model.specs.World.{World, Done, log, log_if, task, put, awaiter_of}
 use Rattle.executor_model.specs.Carried.{owed_ops, awaiter_ops}
-use Rattle.executor_model.specs.Acts.{append_by, take_by, enter_by, leave_by, copy_by, look_by, look_again_by, copy_awaiter_by, register_by, waker_goes, let_go, end_register_by, notify_by, told, call_awaiter, closing_ops, drop_next_by, wake, wake_next_by, drain_by}
+use Rattle.executor_model.specs.Acts.{append_by, take_by, enter_by, leave_by, copy_by, look_by, look_again_by}
+use Rattle.executor_model.specs.Acts.{copy_awaiter_by, register_by, waker_goes, let_go, end_register_by, notify_by}
+use Rattle.executor_model.specs.Acts.{told, call_awaiter, closing_ops, drop_next_by, wake, wake_next_by, drain_by}
 use Rattle.executor_model.specs.Weights.{same, weigh}
 use Rattle.executor_model.proofs.Lists.{weigh-append}
 use Rattle.executor_model.proofs.Owed.{owed-future, owed-awaiter, owed-nothing}
@@ -92,10 +96,16 @@ pub record Steady (w v : World) : Type 0 where
 pub steady-same : (w v : World) → v.trace ≡ w.trace → Steady w v
 steady-same w v e = record { begun = λ q. ap (begun_by q) e; ended = λ q. ap (ended_by q) e }
 
-pub steady-log : (w v : World) (e : Event) → v.trace ≡ w.trace ++ e ∷ [] → ((q : ℕ) → begin_of q e ≡ 0) → ((q : ℕ) → end_of q e ≡ 0) → Steady w v
-steady-log w v e t a b = record { begun = λ q. ap (begun_by q) t ∙ omega (arith, begun-push q w.trace e, a q); ended = λ q. ap (ended_by q) t ∙ omega (arith, ended-push q w.trace e, b q) }
+pub steady-log : (w v : World) (e : Event) → v.trace ≡ w.trace ++ e ∷ [] → ((q : ℕ) → begin_of q e ≡ 0) →
+    ((q : ℕ) → end_of q e ≡ 0) → Steady w v
+steady-log w v e t a b =
+    record {
+      begun = λ q. ap (begun_by q) t ∙ omega (arith, begun-push q w.trace e, a q);
+      ended = λ q. ap (ended_by q) t ∙ omega (arith, ended-push q w.trace e, b q);
+    }
 
-pub steady-log_if : (c : Bool) (w v : World) (e : Event) → v.trace ≡ (log_if c w e).trace → ((q : ℕ) → begin_of q e ≡ 0) → ((q : ℕ) → end_of q e ≡ 0) → Steady w v
+pub steady-log_if : (c : Bool) (w v : World) (e : Event) → v.trace ≡ (log_if c w e).trace →
+    ((q : ℕ) → begin_of q e ≡ 0) → ((q : ℕ) → end_of q e ≡ 0) → Steady w v
 steady-log_if true w v e t a b = steady-log w v e t a b
 steady-log_if false w v e t a b = steady-same w v t
 
@@ -122,11 +132,14 @@ pub record Calls (w : World) (o : Op) (d : Done) : Type 0 where
 zero-one : (n : ℕ) → n ≡ 0 → n ≡ 1 → ⊥
 zero-one n a b = omega (arith, a, b)
 
-pub inside : (w : World) (o : Op) (d : Done) → calling_of o ≡ 0 → Steady w d.world → weigh calling_of d.next ≡ 0 → Calls w o d
-inside w o d z s n = record { steady = s; passes = record { none = λ e. n; one = λ e. absurd (zero-one (calling_of o) z e) } }
+pub inside : (w : World) (o : Op) (d : Done) → calling_of o ≡ 0 → Steady w d.world → weigh calling_of d.next ≡ 0 →
+    Calls w o d
+inside w o d z s n =
+    record { steady = s; passes = record { none = λ e. n; one = λ e. absurd (zero-one (calling_of o) z e) } }
 
 pub answers : (w : World) (o : Op) (d : Done) → calling_of o ≡ 1 → Steady w d.world → Answering d.next → Calls w o d
-answers w o d z s n = record { steady = s; passes = record { none = λ e. absurd (zero-one (calling_of o) e z); one = λ e. n } }
+answers w o d z s n =
+    record { steady = s; passes = record { none = λ e. absurd (zero-one (calling_of o) e z); one = λ e. n } }
 
 pub single : (x : Op) → calling_of x ≡ 1 → Answering (x ∷ [])
 single x c = record { front = []; last = x; is = refl; none = refl; call = c }
@@ -142,7 +155,17 @@ none-awaiter : (f : ℕ) (o : Option AwaiterDebt) → weigh calling_of (awaiter_
 none-awaiter f o = owed-awaiter calling_of f (record { notify = λ m. refl }) o
 
 pub none-owed : (f : ℕ) (there : Bool) (o : Owed) → weigh calling_of (owed_ops there f o) ≡ 0
-none-owed f there o = owed-nothing calling_of f (record { append = refl; output = refl; release = refl; settle_closed = refl; give_up = refl; end_closed = refl; detach = refl }) there o (owed-future calling_of f (record { poll = refl; drop = refl }) there o.future) (none-awaiter f o.awaiter)
+none-owed f there o = owed-nothing calling_of f
+    (record {
+      append = refl;
+      output = refl;
+      release = refl;
+      settle_closed = refl;
+      give_up = refl;
+      end_closed = refl;
+      detach = refl;
+    }) there o (owed-future calling_of f (record { poll = refl; drop = refl }) there o.future)
+    (none-awaiter f o.awaiter)
 
 none-goes : (a : Waker) → weigh calling_of (waker_goes a) ≡ 0
 none-goes (Task k) = refl
@@ -170,46 +193,72 @@ calls-append false w f = inside w _ _ refl (steady-same _ _ refl) refl
 
 pub calls-take : (q : List ℕ) (w : World) → Calls w (op.Queue queue_op.Take) (take_by w q)
 calls-take [] w = answers w _ _ refl (steady-same _ _ refl) (single _ refl)
-calls-take (f ∷ rest) w = answers w _ _ refl (steady-same _ _ refl) (then (op.Sleeper sleeper_op.ExchangeFlag ∷ op.Move move.TakeUp f ∷ []) _ refl refl)
+calls-take (f ∷ rest) w =
+    answers w _ _ refl (steady-same _ _ refl)
+    (then (op.Sleeper sleeper_op.ExchangeFlag ∷ op.Move move.TakeUp f ∷ []) _ refl refl)
 
 pub calls-enter : (b c : Bool) (p : ℕ) (w : World) → Calls w (op.Table table_op.Enter) (enter_by b c p w)
 calls-enter true c p w = answers w _ _ refl (steady-same _ _ refl) (single _ refl)
 calls-enter false true p w = answers w _ _ refl (steady-same _ _ refl) (single _ refl)
-calls-enter false false p w = answers w _ _ refl (steady-log _ _ (event.Accepted p (length w.tasks)) refl (λ q. refl) (λ q. refl)) (then (op.Queue (queue_op.Append (length w.tasks)) ∷ []) _ refl refl)
+calls-enter false false p w =
+    answers w _ _ refl (steady-log _ _ (event.Accepted p (length w.tasks)) refl (λ q. refl) (λ q. refl))
+    (then (op.Queue (queue_op.Append (length w.tasks)) ∷ []) _ refl refl)
 
 pub calls-leave : (b : Bool) (w : World) (f : ℕ) → Calls w (op.Table (table_op.LeaveTable f)) (leave_by b w f)
 calls-leave true w f = inside w _ _ refl (steady-same _ _ refl) refl
 calls-leave false w f = inside w _ _ refl (steady-same _ _ refl) refl
 
-pub calls-copy : (b : Bool) (w : World) (f : ℕ) (held : Hold) → Calls w (op.Waker (waker_op.CopyWaker f held)) (copy_by b w f held)
+pub calls-copy : (b : Bool) (w : World) (f : ℕ) (held : Hold) →
+    Calls w (op.Waker (waker_op.CopyWaker f held)) (copy_by b w f held)
 calls-copy true w f held = answers w _ _ refl (steady-same _ _ refl) (single _ refl)
 calls-copy false w f held = answers w _ _ refl (steady-same _ _ refl) (single _ refl)
 
 -- the poll of a handle that is answered
-pub calls-answered : (o : Option Answer) (p : ℕ) (w v : World) (f : ℕ) (a : Waker) (m : Moved) → Calls w (op.Handle (handle_op.Look f a)) (look_by o p w f a m)
+pub calls-answered : (o : Option Answer) (p : ℕ) (w v : World) (f : ℕ) (a : Waker) (m : Moved) →
+    Calls w (op.Handle (handle_op.Look f a)) (look_by o p w f a m)
 calls-answered None p w v f a m = answers w _ _ refl (steady-same _ _ refl) (single _ refl)
-calls-answered (Some x) p w v f a m = answers w _ _ refl (steady-and w (put (log w (event.HandlePolled p f)) f m.state) _ (steady-log w _ (event.HandlePolled p f) refl (λ q. refl) (λ q. refl)) (steady-log_if _ (put (log w (event.HandlePolled p f)) f m.state) _ (event.OutputGiven p f) refl (λ q. refl) (λ q. refl))) (then (awaiter_ops f m.owed.awaiter) _ (none-awaiter f m.owed.awaiter) refl)
+calls-answered (Some x) p w v f a m =
+    answers w _ _ refl (steady-and w (put (log w (event.HandlePolled p f)) f m.state) _
+    (steady-log w _ (event.HandlePolled p f) refl (λ q. refl) (λ q. refl))
+    (steady-log_if _ (put (log w (event.HandlePolled p f)) f m.state) _ (event.OutputGiven p f) refl (λ q. refl)
+    (λ q. refl))) (then (awaiter_ops f m.owed.awaiter) _ (none-awaiter f m.owed.awaiter) refl)
 
-pub calls-again : (x k c : Bool) (p : ℕ) (w : World) (f : ℕ) → Calls w (op.Handle (handle_op.LookAgain f)) (look_again_by (moves.look_again_by x k c (task w f)).owed.answer p w f (moves.look_again_by x k c (task w f)))
+pub calls-again : (x k c : Bool) (p : ℕ) (w : World) (f : ℕ) →
+    Calls w (op.Handle (handle_op.LookAgain f))
+    (look_again_by (moves.look_again_by x k c (task w f)).owed.answer p w f (moves.look_again_by x k c (task w f)))
 calls-again true true c p w f = answers w _ _ refl (steady-same _ _ refl) (single _ refl)
-calls-again true false c p w f = answers w _ _ refl (steady-same _ _ refl) (then (op.Handle (handle_op.Notify f true) ∷ []) _ refl refl)
+calls-again true false c p w f =
+    answers w _ _ refl (steady-same _ _ refl) (then (op.Handle (handle_op.Notify f true) ∷ []) _ refl refl)
 calls-again false k false p w f = answers w _ _ refl (steady-same _ _ refl) (single _ refl)
-calls-again false k true p w f = answers w _ _ refl (steady-log _ _ (event.OutputGiven p f) refl (λ q. refl) (λ q. refl)) (then (awaiter_ops f (moves.look_again_by false k true (task w f)).owed.awaiter) _ (none-awaiter f _) refl)
+calls-again false k true p w f =
+    answers w _ _ refl (steady-log _ _ (event.OutputGiven p f) refl (λ q. refl) (λ q. refl))
+    (then (awaiter_ops f (moves.look_again_by false k true (task w f)).owed.awaiter) _ (none-awaiter f _) refl)
 
-pub calls-copy_awaiter : (b : Bool) (p : ℕ) (w : World) (f : ℕ) (a : Waker) → Calls w (op.Handle (handle_op.CopyAwaiter f a)) (copy_awaiter_by b p w f a)
+pub calls-copy_awaiter : (b : Bool) (p : ℕ) (w : World) (f : ℕ) (a : Waker) →
+    Calls w (op.Handle (handle_op.CopyAwaiter f a)) (copy_awaiter_by b p w f a)
 calls-copy_awaiter true p w f a = answers w _ _ refl (steady-same _ _ refl) (single _ refl)
-calls-copy_awaiter false p w f (Task k) = answers w _ _ refl (steady-log _ _ (event.HandlePolled p f) refl (λ q. refl) (λ q. refl)) (single _ refl)
-calls-copy_awaiter false p w f (Outside x) = answers w _ _ refl (steady-log _ _ (event.HandlePolled p f) refl (λ q. refl) (λ q. refl)) (single _ refl)
+calls-copy_awaiter false p w f (Task k) =
+    answers w _ _ refl (steady-log _ _ (event.HandlePolled p f) refl (λ q. refl) (λ q. refl)) (single _ refl)
+calls-copy_awaiter false p w f (Outside x) =
+    answers w _ _ refl (steady-log _ _ (event.HandlePolled p f) refl (λ q. refl) (λ q. refl)) (single _ refl)
 
-pub calls-register : (b : Bool) (w : World) (f : ℕ) (a : Waker) (k : ℕ) → Calls w (op.Handle (handle_op.Register f a k)) (register_by b w f a k)
-calls-register true w f a k = answers w _ _ refl (steady-same _ _ refl) (then (op.Waker (waker_op.CallAwaiter f a k) ∷ []) _ refl refl)
+pub calls-register : (b : Bool) (w : World) (f : ℕ) (a : Waker) (k : ℕ) →
+    Calls w (op.Handle (handle_op.Register f a k)) (register_by b w f a k)
+calls-register true w f a k =
+    answers w _ _ refl (steady-same _ _ refl) (then (op.Waker (waker_op.CallAwaiter f a k) ∷ []) _ refl refl)
 calls-register false w f a k = answers w _ _ refl (steady-same _ _ refl) (single _ refl)
 
-pub calls-end_register : (b : Bool) (w : World) (f : ℕ) (a : Waker) (k : ℕ) → Calls w (op.Handle (handle_op.EndRegister f a k)) (end_register_by b w f a k)
-calls-end_register true w f a k = answers w _ _ refl (steady-same _ _ refl) (then (op.Waker (waker_op.CallAwaiter f a k) ∷ let_go (awaiter_of w f)) _ (omega (arith, none-let_go (awaiter_of w f))) refl)
-calls-end_register false w f a k = answers w _ _ refl (steady-same _ _ refl) (then (let_go (awaiter_of w f)) _ (none-let_go (awaiter_of w f)) refl)
+pub calls-end_register : (b : Bool) (w : World) (f : ℕ) (a : Waker) (k : ℕ) →
+    Calls w (op.Handle (handle_op.EndRegister f a k)) (end_register_by b w f a k)
+calls-end_register true w f a k =
+    answers w _ _ refl (steady-same _ _ refl)
+    (then (op.Waker (waker_op.CallAwaiter f a k) ∷ let_go (awaiter_of w f)) _
+    (omega (arith, none-let_go (awaiter_of w f))) refl)
+calls-end_register false w f a k =
+    answers w _ _ refl (steady-same _ _ refl) (then (let_go (awaiter_of w f)) _ (none-let_go (awaiter_of w f)) refl)
 
-pub calls-notify : (b : Bool) (w : World) (f : ℕ) (mine : Bool) → Calls w (op.Handle (handle_op.Notify f mine)) (notify_by b w f mine)
+pub calls-notify : (b : Bool) (w : World) (f : ℕ) (mine : Bool) →
+    Calls w (op.Handle (handle_op.Notify f mine)) (notify_by b w f mine)
 calls-notify true w f mine = inside w _ _ refl (steady-same _ _ refl) refl
 calls-notify false w f mine = inside w _ _ refl (steady-same _ _ refl) refl
 
@@ -219,17 +268,29 @@ steady-wake p w f = steady-log_if _ w _ (event.Woken p f) refl (λ q. refl) (λ 
 pub none-wake : (p : ℕ) (w : World) (f : ℕ) → weigh calling_of (wake p w f).next ≡ 0
 none-wake p w f = none-owed f _ (moves.wake (task w f)).owed
 
-pub calls-call : (p : ℕ) (w : World) (f : ℕ) (a : Waker) (k : ℕ) → Calls w (op.Waker (waker_op.CallAwaiter f a k)) (call_awaiter p w f a k)
-calls-call p w f (Task m) k = inside w _ _ refl (steady-and w (log w (event.WakerCalled p (of.Handle f) k (Task m))) _ (steady-log w _ (event.WakerCalled p (of.Handle f) k (Task m)) refl (λ q. refl) (λ q. refl)) (steady-wake p (log w (event.WakerCalled p (of.Handle f) k (Task m))) m)) (none-wake p (log w (event.WakerCalled p (of.Handle f) k (Task m))) m)
-calls-call p w f (Outside x) k = inside w _ _ refl (steady-log _ _ (event.WakerCalled p (of.Handle f) k (Outside x)) refl (λ q. refl) (λ q. refl)) refl
+pub calls-call : (p : ℕ) (w : World) (f : ℕ) (a : Waker) (k : ℕ) →
+    Calls w (op.Waker (waker_op.CallAwaiter f a k)) (call_awaiter p w f a k)
+calls-call p w f (Task m) k =
+    inside w _ _ refl (steady-and w (log w (event.WakerCalled p (of.Handle f) k (Task m))) _
+    (steady-log w _ (event.WakerCalled p (of.Handle f) k (Task m)) refl (λ q. refl) (λ q. refl))
+    (steady-wake p (log w (event.WakerCalled p (of.Handle f) k (Task m))) m))
+    (none-wake p (log w (event.WakerCalled p (of.Handle f) k (Task m))) m)
+calls-call p w f (Outside x) k =
+    inside w _ _ refl (steady-log _ _ (event.WakerCalled p (of.Handle f) k (Outside x)) refl (λ q. refl) (λ q. refl))
+    refl
 
 pub calls-drop_next : (p : ℕ) (w : World) (ls : List ℕ) → Calls w (op.Closing closing_op.DropNext) (drop_next_by p w ls)
 calls-drop_next p w [] = inside w _ _ refl (steady-same _ _ refl) refl
-calls-drop_next p w (f ∷ rest) = inside w _ _ refl (steady-log _ _ (event.Dropped p f) refl (λ q. refl) (λ q. refl)) (omega (arith, none-closing rest (w.waking ++ f ∷ [])))
+calls-drop_next p w (f ∷ rest) = inside w _ _ refl (steady-log _ _ (event.Dropped p f) refl (λ q. refl) (λ q. refl))
+    (omega (arith, none-closing rest (w.waking ++ f ∷ [])))
 
 pub calls-wake_next : (p : ℕ) (w : World) (ws : List ℕ) → Calls w (op.Closing closing_op.WakeNext) (wake_next_by p w ws)
 calls-wake_next p w [] = inside w _ _ refl (steady-same _ _ refl) refl
-calls-wake_next p w (f ∷ rest) = inside w _ _ refl (steady-and w (record w { waking = rest }) _ (steady-same w (record w { waking = rest }) refl) (steady-wake p (record w { waking = rest }) f)) (none-both (wake p (record w { waking = rest }) f).next (closing_ops [] rest) (none-wake p (record w { waking = rest }) f) (none-closing [] rest))
+calls-wake_next p w (f ∷ rest) =
+    inside w _ _ refl (steady-and w (record w { waking = rest }) _ (steady-same w (record w { waking = rest }) refl)
+    (steady-wake p (record w { waking = rest }) f))
+    (none-both (wake p (record w { waking = rest }) f).next (closing_ops [] rest)
+    (none-wake p (record w { waking = rest }) f) (none-closing [] rest))
 
 pub calls-drain : (p : ℕ) (w : World) (q : List ℕ) → Calls w (op.Closing closing_op.Drain) (drain_by p w q)
 calls-drain p w [] = inside w _ _ refl (steady-log _ _ (event.DropEnded p) refl (λ q. refl) (λ q. refl)) refl

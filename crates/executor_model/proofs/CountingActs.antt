@@ -21,51 +21,87 @@ use Rattle.executor_model.specs.Acts.{act}
 use Rattle.executor_model.specs.Weights.{weigh, past, waker_past}
 use Rattle.executor_model.specs.Good.{pasts}
 use Rattle.executor_model.specs.Rows.{past_of}
-use Rattle.executor_model.proofs.Counting.{Keeps, below, can_copy, first_known, own, small, sound-again, sound-append, sound-begin_drop, sound-begin_drop_output, sound-call, sound-cancel, sound-copy, sound-copy_awaiter, sound-detach, sound-drain, sound-drop_first, sound-drop_runnable, sound-end, sound-end_closed, sound-end_notify, sound-end_pending, sound-end_ready, sound-end_register_by, sound-enter, sound-give_up, sound-leave, sound-look, sound-notify, sound-put_back, sound-register, sound-release, sound-settle_closed, sound-take, sound-take_out, sound-take_to_drop, sound-take_to_poll, sound-take_up, sound-wake, sound-wake_by_reference, sound-wake_first}
-use Rattle.executor_model.proofs.SleepersCounting.{sound-exchange, sound-hand_out, sound-call_sleeper, sound-make_tick, sound-search, sound-copy_sleeper, sound-lie_down, sound-get_up, sound-leave_sleepers}
+use Rattle.executor_model.proofs.Counting.{Keeps, below, can_copy, first_known, own, small, sound-again, sound-append}
+use Rattle.executor_model.proofs.Counting.{sound-begin_drop, sound-begin_drop_output, sound-call, sound-cancel}
+use Rattle.executor_model.proofs.Counting.{sound-copy, sound-copy_awaiter, sound-detach, sound-drain, sound-drop_first}
+use Rattle.executor_model.proofs.Counting.{sound-drop_runnable, sound-end, sound-end_closed, sound-end_notify}
+use Rattle.executor_model.proofs.Counting.{sound-end_pending, sound-end_ready, sound-end_register_by, sound-enter}
+use Rattle.executor_model.proofs.Counting.{sound-give_up, sound-leave, sound-look, sound-notify, sound-put_back}
+use Rattle.executor_model.proofs.Counting.{sound-register, sound-release, sound-settle_closed, sound-take}
+use Rattle.executor_model.proofs.Counting.{sound-take_out, sound-take_to_drop, sound-take_to_poll, sound-take_up}
+use Rattle.executor_model.proofs.Counting.{sound-wake, sound-wake_by_reference, sound-wake_first}
+use Rattle.executor_model.proofs.SleepersCounting.{sound-exchange, sound-hand_out, sound-call_sleeper}
+use Rattle.executor_model.proofs.SleepersCounting.{sound-make_tick, sound-search, sound-copy_sleeper}
+use Rattle.executor_model.proofs.SleepersCounting.{sound-lie_down, sound-get_up, sound-leave_sleepers}
 
 known_waker : (w : World) (a : Waker) → waker_past (length w.tasks) a ≡ 0 → (f : ℕ) → a ≡ Task f → f < length w.tasks
 known_waker w (Task m) z f e = let q : m ≡ f = cc in rw (sym q) (below _ m z)
 known_waker w (Outside x) z f e = absurd (cc)
 
 -- each thing to do that speaks of futures that are there
-pub sound-act : (p : ℕ) (h : Hint) (o : Op) (w : World) → length w.awaiters ≡ length w.tasks → pasts (length w.tasks) w.waking ≡ 0 → weigh (past_of (length w.tasks)) (o ∷ []) ≡ 0 → Keeps w (o ∷ []) (act p h o w)
+pub sound-act : (p : ℕ) (h : Hint) (o : Op) (w : World) → length w.awaiters ≡ length w.tasks →
+    pasts (length w.tasks) w.waking ≡ 0 → weigh (past_of (length w.tasks)) (o ∷ []) ≡ 0 → Keeps w (o ∷ []) (act p h o w)
 sound-act p h (op.Table table_op.Enter) w n u z = sound-enter _ _ p w
 sound-act p h (op.Queue queue_op.Take) w n u z = sound-take _ w refl
 sound-act p h (op.Queue (queue_op.Append f)) w n u z = sound-append _ w f
-sound-act p h (op.Move move.WakeByReference f) w n u z = sound-wake_by_reference (moves.is_over (task w f)) _ _ p w f refl refl (own _ f (op.Move move.WakeByReference f) (omega arith) z)
-sound-act p h (op.Move move.Wake f) w n u z = sound-wake (moves.is_over (task w f)) _ _ p w f refl refl (own _ f (op.Move move.Wake f) (omega arith) z)
-sound-act p h (op.Move move.Release f) w n u z = sound-release _ _ w f refl refl (own _ f (op.Move move.Release f) (omega arith) z)
-sound-act p h (op.Move move.TakeUp f) w n u z = sound-take_up _ _ p w f refl (own _ f (op.Move move.TakeUp f) (omega arith) z)
-sound-act p h (op.Move move.SettleClosed f) w n u z = sound-settle_closed _ w f (own _ f (op.Move move.SettleClosed f) (omega arith) z)
-sound-act p h (op.Move move.GiveUp f) w n u z = sound-give_up _ w f refl (own _ f (op.Move move.GiveUp f) (omega arith) z)
-sound-act p h (op.Move move.EndReady f) w n u z = sound-end_ready _ _ w f refl (own _ f (op.Move move.EndReady f) (omega arith) z)
-sound-act p h (op.Move move.EndPending f) w n u z = sound-end_pending _ _ _ _ w f refl refl refl (own _ f (op.Move move.EndPending f) (omega arith) z)
-sound-act p h (op.Move move.EndClosed f) w n u z = sound-end_closed _ w f (own _ f (op.Move move.EndClosed f) (omega arith) z)
-sound-act p h (op.Move move.DropRunnable f) w n u z = sound-drop_runnable _ _ w f refl (own _ f (op.Move move.DropRunnable f) (omega arith) z)
-sound-act p h (op.Move move.Cancel f) w n u z = sound-cancel _ _ p w f refl refl (own _ f (op.Move move.Cancel f) (omega arith) z)
-sound-act p h (op.Move move.Detach f) w n u z = sound-detach _ _ _ p w f refl refl (own _ f (op.Move move.Detach f) (omega arith) z)
+sound-act p h (op.Move move.WakeByReference f) w n u z =
+    sound-wake_by_reference (moves.is_over (task w f)) _ _ p w f refl refl
+    (own _ f (op.Move move.WakeByReference f) (omega arith) z)
+sound-act p h (op.Move move.Wake f) w n u z =
+    sound-wake (moves.is_over (task w f)) _ _ p w f refl refl (own _ f (op.Move move.Wake f) (omega arith) z)
+sound-act p h (op.Move move.Release f) w n u z =
+    sound-release _ _ w f refl refl (own _ f (op.Move move.Release f) (omega arith) z)
+sound-act p h (op.Move move.TakeUp f) w n u z =
+    sound-take_up _ _ p w f refl (own _ f (op.Move move.TakeUp f) (omega arith) z)
+sound-act p h (op.Move move.SettleClosed f) w n u z =
+    sound-settle_closed _ w f (own _ f (op.Move move.SettleClosed f) (omega arith) z)
+sound-act p h (op.Move move.GiveUp f) w n u z =
+    sound-give_up _ w f refl (own _ f (op.Move move.GiveUp f) (omega arith) z)
+sound-act p h (op.Move move.EndReady f) w n u z =
+    sound-end_ready _ _ w f refl (own _ f (op.Move move.EndReady f) (omega arith) z)
+sound-act p h (op.Move move.EndPending f) w n u z =
+    sound-end_pending _ _ _ _ w f refl refl refl (own _ f (op.Move move.EndPending f) (omega arith) z)
+sound-act p h (op.Move move.EndClosed f) w n u z =
+    sound-end_closed _ w f (own _ f (op.Move move.EndClosed f) (omega arith) z)
+sound-act p h (op.Move move.DropRunnable f) w n u z =
+    sound-drop_runnable _ _ w f refl (own _ f (op.Move move.DropRunnable f) (omega arith) z)
+sound-act p h (op.Move move.Cancel f) w n u z =
+    sound-cancel _ _ p w f refl refl (own _ f (op.Move move.Cancel f) (omega arith) z)
+sound-act p h (op.Move move.Detach f) w n u z =
+    sound-detach _ _ _ p w f refl refl (own _ f (op.Move move.Detach f) (omega arith) z)
 sound-act p h (op.Table (table_op.TakeToPoll f)) w n u z = sound-take_to_poll w f
 sound-act p h (op.Table (table_op.PutBack f)) w n u z = sound-put_back w f
 sound-act p h (op.Table (table_op.TakeToDrop f)) w n u z = sound-take_to_drop w f
 sound-act p h (op.User (user_op.BeginDrop f)) w n u z = sound-begin_drop p w f
 sound-act p h (op.Table (table_op.LeaveTable f)) w n u z = sound-leave _ w f refl
 sound-act p h (op.User (user_op.BeginDropOutput f)) w n u z = sound-begin_drop_output p w f
-sound-act p h (op.Waker (waker_op.CopyWaker f held)) w n u z = sound-copy _ w f held (small h (task w f)) (own _ f (op.Waker (waker_op.CopyWaker f held)) (omega arith) z)
-sound-act p h (op.Handle (handle_op.Look f a)) w n u z = sound-look _ _ _ p w f a refl (own _ f (op.Handle (handle_op.Look f a)) (omega arith) z)
-sound-act p h (op.Handle (handle_op.CopyAwaiter f a)) w n u z = sound-copy_awaiter _ p w f a (can_copy h w a (past (length w.tasks) f) (omega (arith, z)))
-sound-act p h (op.Handle (handle_op.Register f a k)) w n u z = sound-register _ w f a k (own _ f (op.Handle (handle_op.Register f a k)) (omega arith) z)
-sound-act p h (op.Handle (handle_op.EndRegister f a k)) w n u z = (let i : f < length w.tasks = own _ f (op.Handle (handle_op.EndRegister f a k)) (omega arith) z in sound-end_register_by _ w f a k i (omega (arith, i, n)))
-sound-act p h (op.Handle (handle_op.LookAgain f)) w n u z = sound-again _ _ _ p w f refl (own _ f (op.Handle (handle_op.LookAgain f)) (omega arith) z)
-sound-act p h (op.Handle (handle_op.Notify f mine)) w n u z = sound-notify _ mine w f (own _ f (op.Handle (handle_op.Notify f mine)) (omega arith) z)
-sound-act p h (op.Handle (handle_op.EndNotify f mine)) w n u z = (let i : f < length w.tasks = own _ f (op.Handle (handle_op.EndNotify f mine)) (omega arith) z in sound-end_notify _ _ mine w f refl i (omega (arith, i, n)))
+sound-act p h (op.Waker (waker_op.CopyWaker f held)) w n u z =
+    sound-copy _ w f held (small h (task w f)) (own _ f (op.Waker (waker_op.CopyWaker f held)) (omega arith) z)
+sound-act p h (op.Handle (handle_op.Look f a)) w n u z =
+    sound-look _ _ _ p w f a refl (own _ f (op.Handle (handle_op.Look f a)) (omega arith) z)
+sound-act p h (op.Handle (handle_op.CopyAwaiter f a)) w n u z =
+    sound-copy_awaiter _ p w f a (can_copy h w a (past (length w.tasks) f) (omega (arith, z)))
+sound-act p h (op.Handle (handle_op.Register f a k)) w n u z =
+    sound-register _ w f a k (own _ f (op.Handle (handle_op.Register f a k)) (omega arith) z)
+sound-act p h (op.Handle (handle_op.EndRegister f a k)) w n u z =
+    (let i : f < length w.tasks = own _ f (op.Handle (handle_op.EndRegister f a k)) (omega arith) z in
+    sound-end_register_by _ w f a k i (omega (arith, i, n)))
+sound-act p h (op.Handle (handle_op.LookAgain f)) w n u z =
+    sound-again _ _ _ p w f refl (own _ f (op.Handle (handle_op.LookAgain f)) (omega arith) z)
+sound-act p h (op.Handle (handle_op.Notify f mine)) w n u z =
+    sound-notify _ mine w f (own _ f (op.Handle (handle_op.Notify f mine)) (omega arith) z)
+sound-act p h (op.Handle (handle_op.EndNotify f mine)) w n u z =
+    (let i : f < length w.tasks = own _ f (op.Handle (handle_op.EndNotify f mine)) (omega arith) z in
+    sound-end_notify _ _ mine w f refl i (omega (arith, i, n)))
 sound-act p h (op.Waker (waker_op.CallAwaiter f a k)) w n u z = sound-call p w f a k (omega (arith, z))
 sound-act p h (op.Sleeper sleeper_op.ExchangeFlag) w n u z = sound-exchange _ w
 sound-act p h (op.Sleeper sleeper_op.HandOut) w n u z = sound-hand_out _ _ w refl
-sound-act p h (op.Sleeper (sleeper_op.CallSleeper s)) w n u z = sound-call_sleeper p s.tick s.poll s.waker w (known_waker w s.waker (omega (arith, z)))
+sound-act p h (op.Sleeper (sleeper_op.CallSleeper s)) w n u z =
+    sound-call_sleeper p s.tick s.poll s.waker w (known_waker w s.waker (omega (arith, z)))
 sound-act p h (op.Tick tick_op.MakeTick) w n u z = sound-make_tick _ w
 sound-act p h (op.Tick (tick_op.Search s)) w n u z = sound-search _ _ w s refl
-sound-act p h (op.Tick (tick_op.CopyWaker s)) w n u z = sound-copy_sleeper _ s.waker s.tick s.poll w (can_copy h w s.waker 0 (omega (arith, z)))
+sound-act p h (op.Tick (tick_op.CopyWaker s)) w n u z =
+    sound-copy_sleeper _ s.waker s.tick s.poll w (can_copy h w s.waker 0 (omega (arith, z)))
 sound-act p h (op.Tick (tick_op.LieDown s)) w n u z = sound-lie_down _ w s
 sound-act p h (op.Tick (tick_op.GetUp t f)) w n u z = sound-get_up _ w t f
 sound-act p h (op.Tick (tick_op.Leave t)) w n u z = sound-leave_sleepers _ w t

@@ -17,31 +17,53 @@ use Rattle.executor_model.specs.declared.op.WakerOp.TheVariants as waker_op
 use Rattle.executor_model.specs.declared.step.Hint.{Hint}
 use Rattle.executor_model.specs.World.{World, task}
 use Rattle.executor_model.specs.Acts.{act}
-use Rattle.executor_model.proofs.Fitting.{Grows, grows-again, grows-append, grows-call, grows-carried, grows-copy, grows-copy_awaiter, grows-drain, grows-drop_next, grows-end_notify, grows-end_register, grows-enter, grows-inside, grows-leave, grows-logged, grows-look, grows-moved, grows-notify, grows-register, grows-take, grows-wake_next, past_closing}
-use Rattle.executor_model.proofs.SleepersFitting.{grows-exchange, grows-hand_out, grows-call_waker, grows-make_tick, grows-search, grows-copy_sleeper, grows-lie_down, grows-get_up, grows-leave_sleepers}
+use Rattle.executor_model.proofs.Fitting.{Grows, grows-again, grows-append, grows-call, grows-carried}
+use Rattle.executor_model.proofs.Fitting.{grows-copy, grows-copy_awaiter, grows-drain, grows-drop_next}
+use Rattle.executor_model.proofs.Fitting.{grows-end_notify, grows-end_register, grows-enter, grows-inside}
+use Rattle.executor_model.proofs.Fitting.{grows-leave, grows-logged, grows-look, grows-moved, grows-notify}
+use Rattle.executor_model.proofs.Fitting.{grows-register, grows-take, grows-wake_next, past_closing}
+use Rattle.executor_model.proofs.SleepersFitting.{grows-exchange, grows-hand_out, grows-call_waker}
+use Rattle.executor_model.proofs.SleepersFitting.{grows-make_tick, grows-search, grows-copy_sleeper}
+use Rattle.executor_model.proofs.SleepersFitting.{grows-lie_down, grows-get_up, grows-leave_sleepers}
 
 pub grows-act : (p : ℕ) (c : Hint) (o : Op) (w : World) → Grows w (o ∷ []) (act p c o w)
 grows-act p c (op.Table table_op.Enter) w h k = grows-enter _ _ p w h k
 grows-act p c (op.Queue queue_op.Take) w h k = grows-take _ w refl h k
 grows-act p c (op.Queue (queue_op.Append f)) w h k = grows-append _ w f h k
-grows-act p c (op.Move move.WakeByReference f) w h k = grows-moved w (not (moves.is_over (task w f))) (event.Woken p f) f (moves.wake_by_reference (task w f)) h (omega (arith, k))
-grows-act p c (op.Move move.Wake f) w h k = grows-moved w (not (moves.is_over (task w f))) (event.Woken p f) f (moves.wake (task w f)) h (omega (arith, k))
-grows-act p c (op.Move move.TakeUp f) w h k = grows-moved w (not (task w f).closed) (event.PollBegun p f) f (moves.take_up (task w f)) h (omega (arith, k))
-grows-act p c (op.Move move.Cancel f) w h k = grows-moved w (not (moves.is_over (task w f))) (event.Cancelled p f) f (moves.cancel (task w f)) h (omega (arith, k))
-grows-act p c (op.Move move.Detach f) w h k = grows-moved w (not ((task w f).completed && not (task w f).closed)) (event.Detached p f) f (moves.detach (task w f)) h (omega (arith, k))
+grows-act p c (op.Move move.WakeByReference f) w h k = grows-moved w (not (moves.is_over (task w f))) (event.Woken p f)
+    f (moves.wake_by_reference (task w f)) h (omega (arith, k))
+grows-act p c (op.Move move.Wake f) w h k = grows-moved w (not (moves.is_over (task w f))) (event.Woken p f) f
+    (moves.wake (task w f)) h (omega (arith, k))
+grows-act p c (op.Move move.TakeUp f) w h k =
+    grows-moved w (not (task w f).closed) (event.PollBegun p f) f (moves.take_up (task w f)) h (omega (arith, k))
+grows-act p c (op.Move move.Cancel f) w h k = grows-moved w (not (moves.is_over (task w f))) (event.Cancelled p f) f
+    (moves.cancel (task w f)) h (omega (arith, k))
+grows-act p c (op.Move move.Detach f) w h k = grows-moved w (not ((task w f).completed && not (task w f).closed))
+    (event.Detached p f) f (moves.detach (task w f)) h (omega (arith, k))
 grows-act p c (op.Move move.Release f) w h k = grows-carried w w f (moves.release (task w f)) refl h (omega (arith, k))
-grows-act p c (op.Move move.SettleClosed f) w h k = grows-carried w w f (moves.settle_closed (task w f)) refl h (omega (arith, k))
+grows-act p c (op.Move move.SettleClosed f) w h k =
+    grows-carried w w f (moves.settle_closed (task w f)) refl h (omega (arith, k))
 grows-act p c (op.Move move.GiveUp f) w h k = grows-carried w w f (moves.give_up (task w f)) refl h (omega (arith, k))
-grows-act p c (op.Move move.EndReady f) w h k = grows-carried w w f (moves.end_ready (task w f)) refl h (omega (arith, k))
-grows-act p c (op.Move move.EndPending f) w h k = grows-carried w w f (moves.end_pending (task w f)) refl h (omega (arith, k))
-grows-act p c (op.Move move.EndClosed f) w h k = grows-carried w w f (moves.end_closed (task w f)) refl h (omega (arith, k))
-grows-act p c (op.Move move.DropRunnable f) w h k = grows-carried w w f (moves.drop_runnable (task w f)) refl h (omega (arith, k))
-grows-act p c (op.Table (table_op.TakeToPoll f)) w h k = grows-inside w f false [] (op.User (user_op.Poll f) ∷ []) (omega (arith, k)) h
-grows-act p c (op.Table (table_op.PutBack f)) w h k = grows-inside w f true [] (op.Move move.EndPending f ∷ []) (omega (arith, k)) h
-grows-act p c (op.Table (table_op.TakeToDrop f)) w h k = grows-inside w f false [] (op.User (user_op.BeginDrop f) ∷ []) (omega (arith, k)) h
-grows-act p c (op.User (user_op.BeginDrop f)) w h k = grows-logged w (event.Dropped p f) (op.User (user_op.Drop f) ∷ op.Table (table_op.LeaveTable f) ∷ []) (omega (arith, k)) h
+grows-act p c (op.Move move.EndReady f) w h k =
+    grows-carried w w f (moves.end_ready (task w f)) refl h (omega (arith, k))
+grows-act p c (op.Move move.EndPending f) w h k =
+    grows-carried w w f (moves.end_pending (task w f)) refl h (omega (arith, k))
+grows-act p c (op.Move move.EndClosed f) w h k =
+    grows-carried w w f (moves.end_closed (task w f)) refl h (omega (arith, k))
+grows-act p c (op.Move move.DropRunnable f) w h k =
+    grows-carried w w f (moves.drop_runnable (task w f)) refl h (omega (arith, k))
+grows-act p c (op.Table (table_op.TakeToPoll f)) w h k =
+    grows-inside w f false [] (op.User (user_op.Poll f) ∷ []) (omega (arith, k)) h
+grows-act p c (op.Table (table_op.PutBack f)) w h k =
+    grows-inside w f true [] (op.Move move.EndPending f ∷ []) (omega (arith, k)) h
+grows-act p c (op.Table (table_op.TakeToDrop f)) w h k = grows-inside w f false [] (op.User (user_op.BeginDrop f) ∷ [])
+    (omega (arith, k)) h
+grows-act p c (op.User (user_op.BeginDrop f)) w h k =
+    grows-logged w (event.Dropped p f) (op.User (user_op.Drop f) ∷ op.Table (table_op.LeaveTable f) ∷ [])
+    (omega (arith, k)) h
 grows-act p c (op.Table (table_op.LeaveTable f)) w h k = grows-leave _ w f h k
-grows-act p c (op.User (user_op.BeginDropOutput f)) w h k = grows-logged w (event.OutputDropped p f) (op.User (user_op.DropOutput f) ∷ []) refl h
+grows-act p c (op.User (user_op.BeginDropOutput f)) w h k =
+    grows-logged w (event.OutputDropped p f) (op.User (user_op.DropOutput f) ∷ []) refl h
 grows-act p c (op.Waker (waker_op.CopyWaker f held)) w h k = grows-copy _ w f held h k
 grows-act p c (op.Handle (handle_op.Look f a)) w h k = grows-look _ p w f a _ h k
 grows-act p c (op.Handle (handle_op.CopyAwaiter f a)) w h k = grows-copy_awaiter _ p w f a h k
@@ -53,14 +75,30 @@ grows-act p c (op.Handle (handle_op.EndNotify f mine)) w h k = grows-end_notify 
 grows-act p c (op.Waker (waker_op.CallAwaiter f a n)) w h k = grows-call p w f a n h k
 grows-act p c (op.Sleeper sleeper_op.ExchangeFlag) w h k = grows-exchange _ w h k
 grows-act p c (op.Sleeper sleeper_op.HandOut) w h k = grows-hand_out _ _ w refl h k
-grows-act p c (op.Sleeper (sleeper_op.CallSleeper s)) w h k = grows-call_waker p w (of.Tick s.tick) s.waker s.poll (omega (arith, k)) h
+grows-act p c (op.Sleeper (sleeper_op.CallSleeper s)) w h k =
+    grows-call_waker p w (of.Tick s.tick) s.waker s.poll (omega (arith, k)) h
 grows-act p c (op.Tick tick_op.MakeTick) w h k = grows-make_tick _ w h k
 grows-act p c (op.Tick (tick_op.Search s)) w h k = grows-search _ _ w s refl h k
 grows-act p c (op.Tick (tick_op.CopyWaker s)) w h k = grows-copy_sleeper _ s.waker s.tick s.poll w h k
 grows-act p c (op.Tick (tick_op.LieDown s)) w h k = grows-lie_down _ w s h k
 grows-act p c (op.Tick (tick_op.GetUp t f)) w h k = grows-get_up _ w t f h k
 grows-act p c (op.Tick (tick_op.Leave t)) w h k = grows-leave_sleepers _ w t h k
-grows-act p c (op.Closing closing_op.TakeOut) w h k = (record { fits = record { queue = h.queue; table = h.leaving; leaving = h.table; waking = h.waking; wakers = h.wakers; awaiters = h.awaiters; sleepers = h.sleepers; awaiting = h.awaiting; inside = h.inside }; next = past_closing (length w.tasks) w.table w.waking; more = omega arith })
+grows-act p c (op.Closing closing_op.TakeOut) w h k =
+    (record {
+      fits = record {
+        queue = h.queue;
+        table = h.leaving;
+        leaving = h.table;
+        waking = h.waking;
+        wakers = h.wakers;
+        awaiters = h.awaiters;
+        sleepers = h.sleepers;
+        awaiting = h.awaiting;
+        inside = h.inside;
+      };
+      next = past_closing (length w.tasks) w.table w.waking;
+      more = omega arith;
+    })
 grows-act p c (op.Closing closing_op.DropNext) w h k = grows-drop_next p w _ refl h k
 grows-act p c (op.Closing closing_op.WakeNext) w h k = grows-wake_next p w _ refl h k
 grows-act p c (op.Closing closing_op.Drain) w h k = grows-drain _ p w refl h k

@@ -27,25 +27,31 @@ one : (f : ℕ) → same f f ≡ 1
 one f = grind (arith, same_is)
 
 -- over or scheduled, or not, and running
-marks : (x y b : Bool) (f : ℕ) (s : State) → x ≡ false → weigh (appends_of f) (owed_ops b f (moves.wake_by_reference_by x y s).owed) ≡ cond y 0 1
+marks : (x y b : Bool) (f : ℕ) (s : State) → x ≡ false →
+    weigh (appends_of f) (owed_ops b f (moves.wake_by_reference_by x y s).owed) ≡ cond y 0 1
 marks true y b f s e = absurd (cc)
 marks false true b f s e = refl
 marks false false b f s e = omega (arith, one f)
 
-none : (x y b : Bool) (f : ℕ) (s : State) → x ≡ true → weigh (appends_of f) (owed_ops b f (moves.wake_by_reference_by x y s).owed) ≡ 0
+none : (x y b : Bool) (f : ℕ) (s : State) → x ≡ true →
+    weigh (appends_of f) (owed_ops b f (moves.wake_by_reference_by x y s).owed) ≡ 0
 none true y b f s e = refl
 none false y b f s e = absurd (cc)
 
-marks-value : (x y b : Bool) (f : ℕ) (s : State) → x ≡ false → weigh (appends_of f) (owed_ops b f (record (moves.wake_by_reference_by x y s).owed { next = Some Release })) ≡ cond y 0 1
+marks-value : (x y b : Bool) (f : ℕ) (s : State) → x ≡ false →
+    weigh (appends_of f) (owed_ops b f (record (moves.wake_by_reference_by x y s).owed { next = Some Release }))
+    ≡ cond y 0 1
 marks-value true y b f s e = absurd (cc)
 marks-value false true b f s e = refl
 marks-value false false b f s e = omega (arith, one f)
 
-none-value : (x y b : Bool) (f : ℕ) (s : State) → x ≡ true → weigh (appends_of f) (owed_ops b f (record (moves.wake_by_reference_by x y s).owed { next = Some Release })) ≡ 0
+none-value : (x y b : Bool) (f : ℕ) (s : State) → x ≡ true →
+    weigh (appends_of f) (owed_ops b f (record (moves.wake_by_reference_by x y s).owed { next = Some Release })) ≡ 0
 none-value true y b f s e = refl
 none-value false y b f s e = absurd (cc)
 
-ends : (x y z b : Bool) (f : ℕ) (s : State) → x ≡ false → y ≡ true → weigh (appends_of f) (owed_ops b f (moves.end_pending_by x y z s).owed) ≡ 1
+ends : (x y z b : Bool) (f : ℕ) (s : State) → x ≡ false → y ≡ true →
+    weigh (appends_of f) (owed_ops b f (moves.end_pending_by x y z s).owed) ≡ 1
 ends true y z b f s e k = absurd (cc)
 ends false true z b f s e k = omega (arith, one f)
 ends false false z b f s e k = absurd (cc)
@@ -63,20 +69,26 @@ or-right true b e = refl
 or-right false b e = e
 
 -- each wake hands on as many Runnables of f as the move of a waker that stays and that of one that goes do
-module _ (f p : ℕ) (h : Hint) (w : World) (n : ℕ) (stays : (b : Bool) → weigh (appends_of f) (owed_ops b f (moves.wake_by_reference (task w f)).owed) ≡ n) (goes : (b : Bool) → weigh (appends_of f) (owed_ops b f (moves.wake (task w f)).owed) ≡ n) where
+module _ (f p : ℕ) (h : Hint) (w : World) (n : ℕ) (stays : (b : Bool) →
+    weigh (appends_of f) (owed_ops b f (moves.wake_by_reference (task w f)).owed) ≡ n)
+    (goes : (b : Bool) → weigh (appends_of f) (owed_ops b f (moves.wake (task w f)).owed) ≡ n) where
   closing-wake : (ws : List ℕ) → IsFirst f ws → weigh (appends_of f) (wake_next_by p w ws).next ≡ n
   closing-wake [] e = let no : true ≡ false = e in absurd (cc)
-  closing-wake (g ∷ rest) e = subst (λ (x : ℕ). weigh (appends_of f) (wake_next_by p w (x ∷ rest)).next ≡ n) e (weigh-closing (appends_of f) _ rest refl refl ∙ goes _)
+  closing-wake (g ∷ rest) e = subst (λ (x : ℕ). weigh (appends_of f) (wake_next_by p w (x ∷ rest)).next ≡ n) e
+      (weigh-closing (appends_of f) _ rest refl refl ∙ goes _)
 
   each-wake : (o : Op) → IsWakeOf f w o → handed_on f o p h w ≡ n
-  each-wake (op.Move move.WakeByReference g) e = subst (λ (x : ℕ). handed_on f (op.Move move.WakeByReference x) p h w ≡ n) e (stays _)
+  each-wake (op.Move move.WakeByReference g) e =
+      subst (λ (x : ℕ). handed_on f (op.Move move.WakeByReference x) p h w ≡ n) e (stays _)
   each-wake (op.Move move.Wake g) e = subst (λ (x : ℕ). handed_on f (op.Move move.Wake x) p h w ≡ n) e (goes _)
-  each-wake (op.Waker (waker_op.CallAwaiter awaited (Task g) k)) e = subst (λ (x : ℕ). handed_on f (op.Waker (waker_op.CallAwaiter awaited (Task x) k)) p h w ≡ n) e (goes _)
+  each-wake (op.Waker (waker_op.CallAwaiter awaited (Task g) k)) e =
+      subst (λ (x : ℕ). handed_on f (op.Waker (waker_op.CallAwaiter awaited (Task x) k)) p h w ≡ n) e (goes _)
   each-wake (op.Waker (waker_op.CallAwaiter awaited (Outside x) k)) e = let no : true ≡ false = e in absurd (cc)
   each-wake (op.Closing closing_op.WakeNext) e = closing-wake w.waking e
   each-wake _ e = let no : true ≡ false = e in absurd (cc)
 
-none-handed : (w : World) (f p : ℕ) (h : Hint) → (is_over (task w f) || (task w f).scheduled) ≡ true → (o : Op) → IsWakeOf f w o → handed_on f o p h w ≡ 0
+none-handed : (w : World) (f p : ℕ) (h : Hint) → (is_over (task w f) || (task w f).scheduled) ≡ true → (o : Op) →
+    IsWakeOf f w o → handed_on f o p h w ≡ 0
 none-handed w f p h s = each-wake f p h w 0
     (λ b. none (is_over (task w f) || (task w f).scheduled) (task w f).running b f (task w f) s)
     (λ b. none-value (is_over (task w f) || (task w f).scheduled) (task w f).running b f (task w f) s)
@@ -85,7 +97,8 @@ pub hands-on : (w : World) (f p : ℕ) (h : Hint) → HandsOn w f p h
 hands-on w f p h = record {
   marks = λ o e live idle. each-wake f p h w _
       (λ b. marks (is_over (task w f) || (task w f).scheduled) (task w f).running b f (task w f) (either _ _ live idle))
-      (λ b. marks-value (is_over (task w f) || (task w f).scheduled) (task w f).running b f (task w f) (either _ _ live idle)) o e;
+      (λ b. marks-value (is_over (task w f) || (task w f).scheduled) (task w f).running b f (task w f)
+      (either _ _ live idle)) o e;
   at_the_end = λ c s. ends (task w f).closed (task w f).scheduled (is_last (task w f)) _ f (task w f) c s;
   none_marked = λ o e s. none-handed w f p h (or-right _ _ s) o e;
   none_over = λ o e s. none-handed w f p h (or-left _ _ s) o e;
@@ -95,7 +108,12 @@ one-there : (w : World) (f : ℕ) (p : Pend) → Sound w f p → (task w f).sche
 one-there w f p h s = omega (arith, h.owed s, h.one)
 
 none-there : (w : World) (f : ℕ) (p : Pend) → Sound w f p → IsIdle w f → tokens w f p ≡ 0
-none-there w f p h i = let b = h.busy in let x = i.unscheduled in let y = i.stopped in let z = i.incomplete in let u = i.unclosed in grind arith
+none-there w f p h i = let b = h.busy in let x = i.unscheduled in let y = i.stopped in let z = i.incomplete in
+    let u = i.unclosed in grind arith
 
 pub on-its-way : (s : Machine) (f : ℕ) → Good s → IsOnItsWay s f
-on-its-way s f good = record { marked = one-there s.world f (pend f s.parties) (good.sound f); idle = none-there s.world f (pend f s.parties) (good.sound f) }
+on-its-way s f good =
+    record {
+      marked = one-there s.world f (pend f s.parties) (good.sound f);
+      idle = none-there s.world f (pend f s.parties) (good.sound f);
+    }

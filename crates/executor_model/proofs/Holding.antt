@@ -1,6 +1,7 @@
--- A call that a trace has still open is what its party has to end, below the calls that began inside of it. What has to end such
--- calls is counted by a count that sees only what answers a call.
-use Rattle.std.proofs.Common.{◌≡◌, ◌≢◌, ◌⊎◌, ℕ, zero, suc, ◌+◌, ◌<◌, ◌≤◌, List, [], ◌∷◌, ◌++◌, length, set, get_or, Bool, true, false, refl, sym, ap, ◌∙◌, subst, inl, inr, ⊎_elim, arith, get_or-set_same}
+-- A call that a trace has still open is what its party has to end, below the calls that began inside of it.
+-- What has to end such calls is counted by a count that sees only what answers a call.
+use Rattle.std.proofs.Common.{◌≡◌, ◌≢◌, ◌⊎◌, ℕ, zero, suc, ◌+◌, ◌<◌, ◌≤◌, List, [], ◌∷◌, ◌++◌, length, set, get_or}
+use Rattle.std.proofs.Common.{Bool, true, false, refl, sym, ap, ◌∙◌, subst, inl, inr, ⊎_elim, arith, get_or-set_same}
 use Rattle.std.specs.Prelude.{reverse}
 use Rattle.executor_model.specs.declared.op.Op.{Op}
 use Rattle.executor_model.specs.Weights.{same, weigh}
@@ -48,17 +49,20 @@ module _ (a : Op → ℕ) where
       ap (λ (t : Spot). seen a t os) (spot-none (a o) (calling_of o) s (omega (arith, z)))
       ∙ (seen-light (record s { inner = calling_of o + s.inner }) os (omega (arith, z))
       ∙ ap (λ (n : ℕ). let t : Spot = record { found = s.found; inner = n } in t)
-      (let q : weigh calling_of os + (calling_of o + s.inner) ≡ calling_of o + weigh calling_of os + s.inner = omega arith in q))
+      (let q : weigh calling_of os + (calling_of o + s.inner) ≡ calling_of o + weigh calling_of os + s.inner =
+      omega arith in q))
 
   -- where one is found, one is to do
   pub found-weighs : (s : Spot) (os : List Op) → (seen a s os).found ≡ true → (s.found ≡ true) ⊎ (1 ≤ weigh a os)
   found-weighs s [] e = inl e
   found-weighs s (o ∷ os) e = by (a o) refl (found-weighs (spot (a o) (calling_of o) s) os e)
     where
-      by : (n : ℕ) → a o ≡ n → ((spot (a o) (calling_of o) s).found ≡ true) ⊎ (1 ≤ weigh a os) → (s.found ≡ true) ⊎ (1 ≤ a o + weigh a os)
+      by : (n : ℕ) → a o ≡ n → ((spot (a o) (calling_of o) s).found ≡ true) ⊎ (1 ≤ weigh a os) →
+          (s.found ≡ true) ⊎ (1 ≤ a o + weigh a os)
       by (suc n) z y = inr (omega (arith, z))
       by zero z y = ⊎_elim
-          (λ (x : (spot (a o) (calling_of o) s).found ≡ true). inl (sym (ap (λ (t : Spot). t.found) (spot-none (a o) (calling_of o) s z))
+          (λ (x : (spot (a o) (calling_of o) s).found ≡ true).
+          inl (sym (ap (λ (t : Spot). t.found) (spot-none (a o) (calling_of o) s z))
           ∙ x))
           (λ (x : 1 ≤ weigh a os). inr (omega (arith, x)))
           y
@@ -113,8 +117,10 @@ module _ (a : Op → ℕ) (few : (o : Op) → a o ≤ calling_of o) where
           ) in q) ∙ sym (seen-light a s (reverse next) (omega (arith, weigh-reverse a next, e, z))))
       go (suc n) z =
           let one : calling_of o ≡ 1 =
-          ⊎_elim (λ (k : calling_of o ≡ 0). absurd (omega (arith, k, z, few o))) (λ (k : calling_of o ≡ 1). k) (calling-is o) in
-          spot-more (a o) (calling_of o) s (omega (arith, z)) ∙ sym (seen-answering s next (c.one one) (omega (arith, e, z)))
+          ⊎_elim (λ (k : calling_of o ≡ 0). absurd (omega (arith, k, z, few o))) (λ (k : calling_of o ≡ 1). k)
+          (calling-is o) in
+          spot-more (a o) (calling_of o) s (omega (arith, z))
+          ∙ sym (seen-answering s next (c.one one) (omega (arith, e, z)))
 
 -- the call that a trace has open, if there is one
 pub record Open : Type 0 where
@@ -126,30 +132,39 @@ pub record Open : Type 0 where
 abbrev pub Holds : (Op → ℕ) → Open → List (List Op) → Type 0
 Holds a h ss = h.asking ≡ true → Spotted h.inner (seen a nowhere (get_or ss h.party []))
 
-module _ (a : Op → ℕ) (few : (o : Op) → a o ≤ calling_of o) (h h2 : Open) (ss : List (List Op)) (p : ℕ) (old rest next : List Op)
+module _ (a : Op → ℕ) (few : (o : Op) → a o ≤ calling_of o) (h h2 : Open) (ss : List (List Op)) (p : ℕ)
+    (old rest next : List Op)
     (l : p < length ss) (e : get_or ss p [] ≡ rest ++ reverse old) where
   -- the step of party p, where it doesn't begin such a call
-  pub held-step : (h2.asking ≡ true → h.asking ≡ true) → h2.party ≡ h.party → (h2.asking ≡ true → h.party ≢ p → h2.inner ≡ h.inner) →
+  pub held-step : (h2.asking ≡ true → h.asking ≡ true) → h2.party ≡ h.party →
+      (h2.asking ≡ true → h.party ≢ p → h2.inner ≡ h.inner) →
       (h2.asking ≡ true → h.party ≡ p → Spotted h.inner (seen a (seen a nowhere rest) (reverse old)) →
-      Spotted h2.inner (seen a (seen a nowhere rest) (reverse next))) → Holds a h ss → Holds a h2 (set ss p (rest ++ reverse next))
+      Spotted h2.inner (seen a (seen a nowhere rest) (reverse next))) → Holds a h ss →
+      Holds a h2 (set ss p (rest ++ reverse next))
   held-step x q there here k b =
-      subst (λ (n : ℕ). Spotted h2.inner (seen a nowhere (get_or (set ss p (rest ++ reverse next)) n []))) (sym q) (⊎_elim
-      (λ (y : (same h.party p ≡ 1) × (h.party ≡ p) × (get_or (set ss p (rest ++ reverse next)) h.party [] ≡ rest ++ reverse next)).
+      subst (λ (n : ℕ). Spotted h2.inner (seen a nowhere (get_or (set ss p (rest ++ reverse next)) n []))) (sym q)
+      (⊎_elim
+      (λ (y : (same h.party p ≡ 1) × (h.party ≡ p)
+      × (get_or (set ss p (rest ++ reverse next)) h.party [] ≡ rest ++ reverse next)).
       let before : Spotted h.inner (seen a nowhere (rest ++ reverse old)) =
-      subst (λ (os : List Op). Spotted h.inner (seen a nowhere os)) (ap (λ (n : ℕ). get_or ss n []) y.1 ∙ e) (k (x b)) in
+      subst (λ (os : List Op). Spotted h.inner (seen a nowhere os)) (ap (λ (n : ℕ). get_or ss n []) y.1 ∙ e)
+      (k (x b)) in
       let then_in : Spotted h2.inner (seen a (seen a nowhere rest) (reverse next)) =
       here b y.1 (subst (Spotted h.inner) (seen-append a nowhere rest (reverse old)) before) in
       subst (λ (os : List Op). Spotted h2.inner (seen a nowhere os)) (sym y.2)
       (subst (Spotted h2.inner) (sym (seen-append a nowhere rest (reverse next))) then_in))
-      (λ (y : (same h.party p ≡ 0) × (h.party ≢ p) × (get_or (set ss p (rest ++ reverse next)) h.party [] ≡ get_or ss h.party [])).
+      (λ (y : (same h.party p ≡ 0) × (h.party ≢ p)
+      × (get_or (set ss p (rest ++ reverse next)) h.party [] ≡ get_or ss h.party [])).
       subst (λ (os : List Op). Spotted h2.inner (seen a nowhere os)) (sym y.2)
       (subst (λ (n : ℕ). Spotted n (seen a nowhere (get_or ss h.party []))) (sym (there b y.1)) (k (x b))))
       (stack-then ss p h.party (rest ++ reverse next) l))
 
   -- the step by which it begins
-  pub held-asks : h2.party ≡ p → h2.inner ≡ 0 → Answering next → 1 ≤ weigh a next → Holds a h2 (set ss p (rest ++ reverse next))
+  pub held-asks : h2.party ≡ p → h2.inner ≡ 0 → Answering next → 1 ≤ weigh a next →
+      Holds a h2 (set ss p (rest ++ reverse next))
   held-asks q z y n b =
       subst (λ (m : ℕ). Spotted h2.inner (seen a nowhere (get_or (set ss p (rest ++ reverse next)) m []))) (sym q)
-      (subst (λ (os : List Op). Spotted h2.inner (seen a nowhere os)) (sym (get_or-set_same ss p (rest ++ reverse next) [] l))
+      (subst (λ (os : List Op). Spotted h2.inner (seen a nowhere os))
+      (sym (get_or-set_same ss p (rest ++ reverse next) [] l))
       (subst (Spotted h2.inner) (sym (seen-append a nowhere rest (reverse next)
       ∙ seen-answering a few (seen a nowhere rest) next y n)) (refl, sym z)))

@@ -52,7 +52,8 @@ spent_in g _ = 0
 unfoldable pub spent : ℕ → Trace → ℕ
 spent g es = count_by (is_cancelled g) es + (count_by (is_output_given g) es + count_by (takes_handle g) es)
 
-one-spent : (g : ℕ) (e : Event) → cond (is_cancelled g e) 1 0 + (cond (is_output_given g e) 1 0 + cond (takes_handle g e) 1 0) ≡ spent_in g e
+one-spent : (g : ℕ) (e : Event) →
+    cond (is_cancelled g e) 1 0 + (cond (is_output_given g e) 1 0 + cond (takes_handle g e) 1 0) ≡ spent_in g e
 unfolding same
 one-spent g (Cancelled p f) = omega arith
 one-spent g (OutputGiven p f) = omega arith
@@ -63,7 +64,13 @@ one-spent g _ = refl
 
 pub spent-push : (g : ℕ) (es : Trace) (e : Event) → spent g (es ++ e ∷ []) ≡ spent g es + spent_in g e
 unfolding spent
-spent-push g es e = omega (arith, sum_by_push (λ (x : Event). cond (is_cancelled g x) 1 0) es e, sum_by_push (λ (x : Event). cond (is_output_given g x) 1 0) es e, sum_by_push (λ (x : Event). cond (takes_handle g x) 1 0) es e, one-spent g e)
+spent-push g es e = omega (
+  arith,
+  sum_by_push (λ (x : Event). cond (is_cancelled g x) 1 0) es e,
+  sum_by_push (λ (x : Event). cond (is_output_given g x) 1 0) es e,
+  sum_by_push (λ (x : Event). cond (takes_handle g x) 1 0) es e,
+  one-spent g e,
+)
 
 pub spent-none : (g : ℕ) → spent g [] ≡ 0
 unfolding spent
@@ -145,4 +152,5 @@ pub record Stored (w : World) (g : ℕ) (x : Owing) : Type 0 where
 
 -- it keeps what holds of g
 abbrev pub KeepsStored : World → List Op → Done → Type 0
-KeepsStored w old d = (g : ℕ) (r : Owing) → Footing w g (with_owing g old r) → Stored w g (with_owing g old r) → Stored d.world g (with_owing g d.next r)
+KeepsStored w old d = (g : ℕ) (r : Owing) → Footing w g (with_owing g old r) → Stored w g (with_owing g old r) →
+    Stored d.world g (with_owing g d.next r)

@@ -51,14 +51,24 @@ extra g ss = record {
 pub record Base (w : World) (g : ℕ) (p : Pend) : Type 0 where
   pub counted : (task w g).references ≡ tokens w g p + living w g p
   pub one : tokens w g p ≤ 1
-  pub busy : 1 ≤ tokens w g p → ((task w g).scheduled ≡ true) ⊎ (((task w g).running ≡ true) ⊎ (((task w g).closed ≡ true) ⊎ ((task w g).completed ≡ true)))
+  pub busy : 1 ≤ tokens w g p →
+      ((task w g).scheduled ≡ true)
+      ⊎ (((task w g).running ≡ true) ⊎ (((task w g).closed ≡ true) ⊎ ((task w g).completed ≡ true)))
   pub live : 1 ≤ times g w.queue.items + (p.waiting + (p.polls + (p.ending + p.ready))) → (task w g).completed ≡ false
   pub drop : 1 ≤ p.drops → ((task w g).closed ≡ true) ⊎ (((task w g).completed ≡ true) ⊎ (1 ≤ p.ready))
   pub lent : w.gone ≡ true → p.borrowing ≡ 0
   pub ousted : 1 ≤ p.ousting + times g w.leaving → w.gone ≡ true
 
 pub based : (w : World) (g : ℕ) (p : Pend) → Sound w g p → Base w g p
-based w g p h = record { counted = h.counted; one = h.one; busy = h.busy; live = h.live; drop = h.drop; lent = h.lent; ousted = h.ousted }
+based w g p h = record {
+  counted = h.counted;
+  one = h.one;
+  busy = h.busy;
+  live = h.live;
+  drop = h.drop;
+  lent = h.lent;
+  ousted = h.ousted;
+}
 
 -- a Runnable of g that isn't in a closing call, and a poll that may go on
 abbrev pub going : World → ℕ → Pend → ℕ
@@ -74,14 +84,17 @@ pub record Leaves (w : World) (g : ℕ) (p : Pend) (x : Extra) : Type 0 where
   pub stay : w.gone ≡ false → times g (story g w.trace).standing + (story g w.trace).fallen ≡ (story g w.trace).accepted
   pub lasting : times g (story g w.trace).standing + (story g w.trace).early ≡ (story g w.trace).accepted
   pub bound : times g (story g w.trace).standing ≤ (story g w.trace).accepted
-  pub unclosed : g < length w.tasks → (task w g).closed ≡ false → (task w g).completed ≡ false → (1 ≤ times g (story g w.trace).standing) ⊎ (1 ≤ p.ready)
+  pub unclosed : g < length w.tasks → (task w g).closed ≡ false → (task w g).completed ≡ false →
+      (1 ≤ times g (story g w.trace).standing) ⊎ (1 ≤ p.ready)
   pub runs : 1 ≤ going w g p → 1 ≤ times g (story g w.trace).standing
   pub apart : 1 ≤ p.drops → going w g p ≡ 0
   -- it has an entry until that is taken out
-  pub table : (w.gone ≡ false) ⊎ (1 ≤ p.ousting) → times g w.table + (story g w.trace).fallen ≡ (story g w.trace).accepted + x.leaves
+  pub table : (w.gone ≡ false) ⊎ (1 ≤ p.ousting) →
+      times g w.table + (story g w.trace).fallen ≡ (story g w.trace).accepted + x.leaves
   pub still : w.gone ≡ true → p.drops + x.leaves ≡ 0
   pub before : 1 ≤ p.ousting → times g w.leaving ≡ 0
-  pub swept : w.gone ≡ true → p.ousting ≡ 0 → (times g w.table ≡ 0) × (times g w.leaving + (story g w.trace).fallen ≡ (story g w.trace).accepted)
+  pub swept : w.gone ≡ true → p.ousting ≡ 0 →
+      (times g w.table ≡ 0) × (times g w.leaving + (story g w.trace).fallen ≡ (story g w.trace).accepted)
   pub single : p.ousting ≤ 1
   pub late : 1 ≤ x.closing → (w.gone ≡ true) × (p.ousting ≡ 0)
   pub shut : w.queue.closed ≡ true → (w.gone ≡ true) × ((p.ousting ≡ 0) × (times g w.leaving ≡ 0))
@@ -90,10 +103,12 @@ pub record Leaves (w : World) (g : ℕ) (p : Pend) (x : Extra) : Type 0 where
   pub few : length (story g w.trace).standing ≤ w.limit
   pub capacity : w.queue.capacity ≡ Some w.limit
   -- a drop has a cause
-  pub over : ((task w g).closed ≡ true) ⊎ (((task w g).completed ≡ true) ⊎ (1 ≤ p.ready)) → (story g w.trace).caused ≡ true
+  pub over : ((task w g).closed ≡ true) ⊎ (((task w g).completed ≡ true) ⊎ (1 ≤ p.ready)) →
+      (story g w.trace).caused ≡ true
   pub ends : w.gone ≡ true → (story g w.trace).caused ≡ true
   pub fair : (story g w.trace).strays ≡ 0
 
 -- it keeps what holds of g
 abbrev pub KeepsLeaves : World → List Op → Done → Type 0
-KeepsLeaves w old d = (g : ℕ) (r : Pend) (y : Extra) → Base w g (with_ops g old r) → Leaves w g (with_ops g old r) (with_extra g old y) → Leaves d.world g (with_ops g d.next r) (with_extra g d.next y)
+KeepsLeaves w old d = (g : ℕ) (r : Pend) (y : Extra) → Base w g (with_ops g old r) →
+    Leaves w g (with_ops g old r) (with_extra g old y) → Leaves d.world g (with_ops g d.next r) (with_extra g d.next y)

@@ -16,7 +16,8 @@ use Rattle.task_moves.specs.declared.moves.owed.Move.TheVariants as move
 use Rattle.executor_model.specs.declared.op.TableOp.TheVariants as table_op
 use Rattle.executor_model.specs.declared.op.WakerOp.TheVariants as waker_op
 use Rattle.executor_model.specs.Weights.{same, past, waker_past}
-use Rattle.executor_model.specs.Good.{Good, Needs, CanGrow, IsHeld, HasPlace, KeepsAwaiter, IsKnownWaker, CanWake, pasts}
+use Rattle.executor_model.specs.Good.{Good, Needs, CanGrow, IsHeld, HasPlace}
+use Rattle.executor_model.specs.Good.{KeepsAwaiter, IsKnownWaker, CanWake, pasts}
 use Rattle.executor_model.specs.Rows.{ending_of, giving_of, releases_of, past_of}
 use Rattle.executor_model.specs.Steps.{Machine, stack, top, below_top}
 use Rattle.executor_model.proofs.Lists.{past_is, same_is}
@@ -29,17 +30,33 @@ same_self : (g : ℕ) → same g g ≡ 1
 same_self g = grind (arith, same_is)
 
 -- the thing on top speaks of futures that are there
-speaks : (s : Machine) (p : ℕ) (o : Op) → p < length s.parties → top (stack s p) ≡ Some o → Good s → past_of (length s.world.tasks) o ≡ 0
-speaks s p o h e good = omega (arith, good.ops, split (past_of (length s.world.tasks)) s.parties p (o ∷ []) (below_top (stack s p)) h (topped _ o e))
+speaks : (s : Machine) (p : ℕ) (o : Op) → p < length s.parties → top (stack s p) ≡ Some o → Good s →
+    past_of (length s.world.tasks) o ≡ 0
+speaks s p o h e good = omega (
+  arith,
+  good.ops,
+  split (past_of (length s.world.tasks)) s.parties p (o ∷ []) (below_top (stack s p)) h
+      (topped _ o e),
+)
 
 can_grow : (s : Machine) (f : ℕ) → Good s → past (length s.world.tasks) f ≡ 0 → CanGrow s.world f
 can_grow s f good z = let h = good.sound f in (below _ f z, omega (arith, h.counted, h.one, h.few))
 
-held : (s : Machine) (p f : ℕ) (o : Op) → p < length s.parties → top (stack s p) ≡ Some o → Good s → past (length s.world.tasks) f ≡ 0 → 1 ≤ ending_of f o + (giving_of f o + releases_of f o) → IsHeld s.world f
+held : (s : Machine) (p f : ℕ) (o : Op) → p < length s.parties → top (stack s p) ≡ Some o → Good s →
+    past (length s.world.tasks) f ≡ 0 → 1 ≤ ending_of f o + (giving_of f o + releases_of f o) → IsHeld s.world f
 held s p f o h e good z q =
     let k = good.sound f in
-    let t : stack s p ≡ below_top (stack s p) ++ o ∷ [] = topped (stack s p) o e in
-    (below _ f z, omega (arith, k.counted, split (ending_of f) s.parties p (o ∷ []) (below_top (stack s p)) h t, split (giving_of f) s.parties p (o ∷ []) (below_top (stack s p)) h t, split (releases_of f) s.parties p (o ∷ []) (below_top (stack s p)) h t, q))
+    let t : stack s p ≡ below_top (stack s p) ++ o ∷ [] = topped (stack s p) o e in (
+      below _ f z,
+      omega (
+        arith,
+        k.counted,
+        split (ending_of f) s.parties p (o ∷ []) (below_top (stack s p)) h t,
+        split (giving_of f) s.parties p (o ∷ []) (below_top (stack s p)) h t,
+        split (releases_of f) s.parties p (o ∷ []) (below_top (stack s p)) h t,
+        q,
+      ),
+    )
 
 has_place : (s : Machine) (f : ℕ) → Good s → past (length s.world.tasks) f ≡ 0 → HasPlace s.world f
 has_place s f good z = omega (arith, below (length s.world.tasks) f z, good.fits.inside)
@@ -56,28 +73,51 @@ can_wake s (Task g) good z = can_grow s g good z
 can_wake s (Outside x) good z = tt
 
 -- and a move has the reference that it gives up
-can_move : (s : Machine) (p : ℕ) (m : Move) (f : ℕ) → p < length s.parties → top (stack s p) ≡ Some (op.Move m f) → Good s → HoldsReference m (task s.world f)
-can_move s p move.Release f h e good = (held s p f (op.Move move.Release f) h e good (speaks s p (op.Move move.Release f) h e good) (omega (arith, same_self f))).1
-can_move s p move.GiveUp f h e good = (held s p f (op.Move move.GiveUp f) h e good (speaks s p (op.Move move.GiveUp f) h e good) (omega (arith, same_self f))).1
-can_move s p move.EndPending f h e good = (held s p f (op.Move move.EndPending f) h e good (speaks s p (op.Move move.EndPending f) h e good) (omega (arith, same_self f))).1
+can_move : (s : Machine) (p : ℕ) (m : Move) (f : ℕ) → p < length s.parties → top (stack s p) ≡ Some (op.Move m f) →
+    Good s → HoldsReference m (task s.world f)
+can_move s p move.Release f h e good =
+    (held s p f (op.Move move.Release f) h e good (speaks s p (op.Move move.Release f) h e good)
+    (omega (arith, same_self f))).1
+can_move s p move.GiveUp f h e good =
+    (held s p f (op.Move move.GiveUp f) h e good (speaks s p (op.Move move.GiveUp f) h e good)
+    (omega (arith, same_self f))).1
+can_move s p move.EndPending f h e good =
+    (held s p f (op.Move move.EndPending f) h e good (speaks s p (op.Move move.EndPending f) h e good)
+    (omega (arith, same_self f))).1
 can_move s p _ f h e good = tt
 
 pub needs : (s : Machine) (p : ℕ) (o : Op) → p < length s.parties → top (stack s p) ≡ Some o → Good s → Needs s.world o
-needs s p (op.Handle (handle_op.LookAgain f)) h e good = below _ f (speaks s p (op.Handle (handle_op.LookAgain f)) h e good)
+needs s p (op.Handle (handle_op.LookAgain f)) h e good =
+    below _ f (speaks s p (op.Handle (handle_op.LookAgain f)) h e good)
 needs s p (op.Move m f) h e good = (can_grow s f good (speaks s p (op.Move m f) h e good), can_move s p m f h e good)
-needs s p (op.Table (table_op.TakeToPoll f)) h e good = has_place s f good (speaks s p (op.Table (table_op.TakeToPoll f)) h e good)
-needs s p (op.Table (table_op.PutBack f)) h e good = has_place s f good (speaks s p (op.Table (table_op.PutBack f)) h e good)
-needs s p (op.Table (table_op.TakeToDrop f)) h e good = has_place s f good (speaks s p (op.Table (table_op.TakeToDrop f)) h e good)
-needs s p (op.Waker (waker_op.CopyWaker f x)) h e good = below _ f (speaks s p (op.Waker (waker_op.CopyWaker f x)) h e good)
-needs s p (op.Handle (handle_op.Look f a)) h e good = below _ f (omega (arith, speaks s p (op.Handle (handle_op.Look f a)) h e good))
-needs s p (op.Handle (handle_op.CopyAwaiter f a)) h e good = known_waker s a (omega (arith, speaks s p (op.Handle (handle_op.CopyAwaiter f a)) h e good))
-needs s p (op.Handle (handle_op.Register f a k)) h e good = below _ f (omega (arith, speaks s p (op.Handle (handle_op.Register f a k)) h e good))
-needs s p (op.Handle (handle_op.EndRegister f a k)) h e good = keeps_awaiter s f good (omega (arith, speaks s p (op.Handle (handle_op.EndRegister f a k)) h e good))
-needs s p (op.Handle (handle_op.Notify f m)) h e good = below _ f (speaks s p (op.Handle (handle_op.Notify f m)) h e good)
-needs s p (op.Handle (handle_op.EndNotify f m)) h e good = keeps_awaiter s f good (speaks s p (op.Handle (handle_op.EndNotify f m)) h e good)
-needs s p (op.Waker (waker_op.CallAwaiter f a k)) h e good = can_wake s a good (omega (arith, speaks s p (op.Waker (waker_op.CallAwaiter f a k)) h e good))
-needs s p (op.Closing closing_op.DropNext) h e good = λ f rest q. has_place s f good (omega (arith, ap (pasts (length s.world.tasks)) q, good.fits.leaving))
-needs s p (op.Closing closing_op.WakeNext) h e good = λ f rest q. can_grow s f good (omega (arith, ap (pasts (length s.world.tasks)) q, good.fits.waking))
-needs s p (op.Sleeper (sleeper_op.CallSleeper a)) h e good = can_wake s a.waker good (omega (arith, speaks s p (op.Sleeper (sleeper_op.CallSleeper a)) h e good))
-needs s p (op.Tick (tick_op.CopyWaker a)) h e good = known_waker s a.waker (omega (arith, speaks s p (op.Tick (tick_op.CopyWaker a)) h e good))
+needs s p (op.Table (table_op.TakeToPoll f)) h e good =
+    has_place s f good (speaks s p (op.Table (table_op.TakeToPoll f)) h e good)
+needs s p (op.Table (table_op.PutBack f)) h e good =
+    has_place s f good (speaks s p (op.Table (table_op.PutBack f)) h e good)
+needs s p (op.Table (table_op.TakeToDrop f)) h e good =
+    has_place s f good (speaks s p (op.Table (table_op.TakeToDrop f)) h e good)
+needs s p (op.Waker (waker_op.CopyWaker f x)) h e good =
+    below _ f (speaks s p (op.Waker (waker_op.CopyWaker f x)) h e good)
+needs s p (op.Handle (handle_op.Look f a)) h e good =
+    below _ f (omega (arith, speaks s p (op.Handle (handle_op.Look f a)) h e good))
+needs s p (op.Handle (handle_op.CopyAwaiter f a)) h e good =
+    known_waker s a (omega (arith, speaks s p (op.Handle (handle_op.CopyAwaiter f a)) h e good))
+needs s p (op.Handle (handle_op.Register f a k)) h e good =
+    below _ f (omega (arith, speaks s p (op.Handle (handle_op.Register f a k)) h e good))
+needs s p (op.Handle (handle_op.EndRegister f a k)) h e good =
+    keeps_awaiter s f good (omega (arith, speaks s p (op.Handle (handle_op.EndRegister f a k)) h e good))
+needs s p (op.Handle (handle_op.Notify f m)) h e good =
+    below _ f (speaks s p (op.Handle (handle_op.Notify f m)) h e good)
+needs s p (op.Handle (handle_op.EndNotify f m)) h e good =
+    keeps_awaiter s f good (speaks s p (op.Handle (handle_op.EndNotify f m)) h e good)
+needs s p (op.Waker (waker_op.CallAwaiter f a k)) h e good =
+    can_wake s a good (omega (arith, speaks s p (op.Waker (waker_op.CallAwaiter f a k)) h e good))
+needs s p (op.Closing closing_op.DropNext) h e good =
+    λ f rest q. has_place s f good (omega (arith, ap (pasts (length s.world.tasks)) q, good.fits.leaving))
+needs s p (op.Closing closing_op.WakeNext) h e good =
+    λ f rest q. can_grow s f good (omega (arith, ap (pasts (length s.world.tasks)) q, good.fits.waking))
+needs s p (op.Sleeper (sleeper_op.CallSleeper a)) h e good =
+    can_wake s a.waker good (omega (arith, speaks s p (op.Sleeper (sleeper_op.CallSleeper a)) h e good))
+needs s p (op.Tick (tick_op.CopyWaker a)) h e good =
+    known_waker s a.waker (omega (arith, speaks s p (op.Tick (tick_op.CopyWaker a)) h e good))
 needs s p _ h e good = tt

@@ -25,8 +25,14 @@ use Rattle.executor_model.specs.Weights.{weigh, past}
 use Rattle.executor_model.specs.Rows.{past_of}
 use Rattle.executor_model.specs.Steps.{used_up, with_future, kept, accepts, begun, react}
 use Rattle.executor_model.proofs.Lists.{past_is}
-use Rattle.executor_model.proofs.Outputs.{output_of, outs_of, KeepsOutput, keeps-calm, calm-same, calm-log, keeps-carried, tame-wake, tame-release, tame-take_up, tame-give_up, tame-end_pending, tame-cancel}
-use Rattle.executor_model.proofs.OutputActs.{keeps-after, keeps-log, keeps-logged, keeps-same, none-closing, out-again, out-append, out-begin_drop_output, out-call, out-copy, out-copy_awaiter, out-detach, out-drain, out-drop_next, out-end_notify, out-end_ready, out-end_register, out-enter, out-leave, out-look, out-notify, out-register, out-take, out-wake, out-wake_next}
+use Rattle.executor_model.proofs.Outputs.{output_of, outs_of, KeepsOutput, keeps-calm, calm-same, calm-log}
+use Rattle.executor_model.proofs.Outputs.{keeps-carried, tame-wake, tame-release, tame-take_up}
+use Rattle.executor_model.proofs.Outputs.{tame-give_up, tame-end_pending, tame-cancel}
+use Rattle.executor_model.proofs.OutputActs.{keeps-after, keeps-log, keeps-logged, keeps-same, none-closing, out-again}
+use Rattle.executor_model.proofs.OutputActs.{out-append, out-begin_drop_output, out-call, out-copy, out-copy_awaiter}
+use Rattle.executor_model.proofs.OutputActs.{out-detach, out-drain, out-drop_next, out-end_notify, out-end_ready}
+use Rattle.executor_model.proofs.OutputActs.{out-end_register, out-enter, out-leave, out-look, out-notify}
+use Rattle.executor_model.proofs.OutputActs.{out-register, out-take, out-wake, out-wake_next}
 use Rattle.executor_model.proofs.SleepersOutputs.{out-sleeper, out-tick}
 
 -- what it needs beside
@@ -37,25 +43,41 @@ NeedsUnready w _ = Unit {0}
 known : (n f : ℕ) → past n f ≡ 0 → f < n
 known n f e = grind (arith, past_is)
 
-pub out-act : (p : ℕ) (h : Hint) (o : Op) (w : World) → weigh (past_of (length w.tasks)) (o ∷ []) ≡ 0 → NeedsUnready w o → KeepsOutput w (o ∷ []) (act p h o w)
+pub out-act : (p : ℕ) (h : Hint) (o : Op) (w : World) → weigh (past_of (length w.tasks)) (o ∷ []) ≡ 0 →
+    NeedsUnready w o → KeepsOutput w (o ∷ []) (act p h o w)
 out-act p h (op.Table table_op.Enter) w z n = out-enter _ _ p w
 out-act p h (op.Queue queue_op.Take) w z n = out-take _ w
 out-act p h (op.Queue (queue_op.Append f)) w z n = out-append _ w f
-out-act p h (op.Move move.WakeByReference f) w z n = keeps-logged _ w (event.Woken p f) f _ _ (λ g. refl) (tame-wake _ _ (task w f))
+out-act p h (op.Move move.WakeByReference f) w z n =
+    keeps-logged _ w (event.Woken p f) f _ _ (λ g. refl) (tame-wake _ _ (task w f))
 out-act p h (op.Move move.Wake f) w z n = out-wake p w f _
-out-act p h (op.Move move.Release f) w z n = keeps-carried w w f _ _ (calm-same w w refl refl) (tame-release _ _ (task w f))
-out-act p h (op.Move move.TakeUp f) w z n = keeps-logged _ w (event.PollBegun p f) f _ _ (λ g. refl) (tame-take_up _ (task w f))
-out-act p h (op.Move move.SettleClosed f) w z n = keeps-carried w w f (moves.settle_closed (task w f)) _ (calm-same w w refl refl) record { completed = λ e. e; closed = λ e. e; quiet = refl }
-out-act p h (op.Move move.GiveUp f) w z n = keeps-carried w w f _ _ (calm-same w w refl refl) (tame-give_up _ (task w f))
+out-act p h (op.Move move.Release f) w z n =
+    keeps-carried w w f _ _ (calm-same w w refl refl) (tame-release _ _ (task w f))
+out-act p h (op.Move move.TakeUp f) w z n =
+    keeps-logged _ w (event.PollBegun p f) f _ _ (λ g. refl) (tame-take_up _ (task w f))
+out-act p h (op.Move move.SettleClosed f) w z n =
+    keeps-carried w w f (moves.settle_closed (task w f)) _ (calm-same w w refl refl)
+    record { completed = λ e. e; closed = λ e. e; quiet = refl }
+out-act p h (op.Move move.GiveUp f) w z n =
+    keeps-carried w w f _ _ (calm-same w w refl refl) (tame-give_up _ (task w f))
 out-act p h (op.Move move.EndReady f) w z n = out-end_ready _ _ w f refl n (known _ f (omega (arith, z)))
-out-act p h (op.Move move.EndPending f) w z n = keeps-carried w w f _ _ (calm-same w w refl refl) (tame-end_pending _ _ _ (task w f))
-out-act p h (op.Move move.EndClosed f) w z n = keeps-carried w w f (moves.end_closed (task w f)) _ (calm-same w w refl refl) record { completed = λ e. e; closed = λ e. e; quiet = refl }
-out-act p h (op.Move move.DropRunnable f) w z n = keeps-carried w w f (moves.drop_runnable (task w f)) _ (calm-same w w refl refl) record { completed = λ e. e; closed = λ e. ap (λ (b : Bool). b || not (task w f).completed) e; quiet = refl }
-out-act p h (op.Move move.Cancel f) w z n = keeps-logged _ w (event.Cancelled p f) f _ _ (λ g. refl) (tame-cancel _ _ (task w f))
+out-act p h (op.Move move.EndPending f) w z n =
+    keeps-carried w w f _ _ (calm-same w w refl refl) (tame-end_pending _ _ _ (task w f))
+out-act p h (op.Move move.EndClosed f) w z n =
+    keeps-carried w w f (moves.end_closed (task w f)) _ (calm-same w w refl refl)
+    record { completed = λ e. e; closed = λ e. e; quiet = refl }
+out-act p h (op.Move move.DropRunnable f) w z n =
+    keeps-carried w w f (moves.drop_runnable (task w f)) _ (calm-same w w refl refl)
+    record { completed = λ e. e; closed = λ e. ap (λ (b : Bool). b || not (task w f).completed) e; quiet = refl }
+out-act p h (op.Move move.Cancel f) w z n =
+    keeps-logged _ w (event.Cancelled p f) f _ _ (λ g. refl) (tame-cancel _ _ (task w f))
 out-act p h (op.Move move.Detach f) w z n = out-detach _ _ _ p w f refl (known _ f (omega (arith, z)))
-out-act p h (op.Table (table_op.TakeToPoll f)) w z n = keeps-calm w _ (act p h (op.Table (table_op.TakeToPoll f)) w) (calm-same w _ refl refl) (λ g. refl)
-out-act p h (op.Table (table_op.PutBack f)) w z n = keeps-calm w _ (act p h (op.Table (table_op.PutBack f)) w) (calm-same w _ refl refl) (λ g. refl)
-out-act p h (op.Table (table_op.TakeToDrop f)) w z n = keeps-calm w _ (act p h (op.Table (table_op.TakeToDrop f)) w) (calm-same w _ refl refl) (λ g. refl)
+out-act p h (op.Table (table_op.TakeToPoll f)) w z n = keeps-calm w _ (act p h (op.Table (table_op.TakeToPoll f)) w)
+    (calm-same w _ refl refl) (λ g. refl)
+out-act p h (op.Table (table_op.PutBack f)) w z n =
+    keeps-calm w _ (act p h (op.Table (table_op.PutBack f)) w) (calm-same w _ refl refl) (λ g. refl)
+out-act p h (op.Table (table_op.TakeToDrop f)) w z n = keeps-calm w _ (act p h (op.Table (table_op.TakeToDrop f)) w)
+    (calm-same w _ refl refl) (λ g. refl)
 out-act p h (op.User (user_op.BeginDrop f)) w z n = keeps-log w _ _ _ (λ g. refl) (λ g. refl)
 out-act p h (op.Table (table_op.LeaveTable f)) w z n = out-leave _ w f
 out-act p h (op.User (user_op.BeginDropOutput f)) w z n = out-begin_drop_output p w f
@@ -70,10 +92,12 @@ out-act p h (op.Handle (handle_op.EndNotify f mine)) w z n = out-end_notify h w 
 out-act p h (op.Waker (waker_op.CallAwaiter f a k)) w z n = out-call p w f a k
 out-act p h (op.Sleeper o) w z n = out-sleeper p o w
 out-act p h (op.Tick o) w z n = out-tick h o w
-out-act p h (op.Closing closing_op.TakeOut) w z n = keeps-calm w _ (take_out w) (calm-same w _ refl refl) (λ g. none-closing g w.table w.waking)
+out-act p h (op.Closing closing_op.TakeOut) w z n =
+    keeps-calm w _ (take_out w) (calm-same w _ refl refl) (λ g. none-closing g w.table w.waking)
 out-act p h (op.Closing closing_op.DropNext) w z n = out-drop_next p w _
 out-act p h (op.Closing closing_op.WakeNext) w z n = out-wake_next p w _
-out-act p h (op.Closing closing_op.Close) w z n = keeps-calm w _ (act p h (op.Closing closing_op.Close) w) (calm-same w _ refl refl) (λ g. refl)
+out-act p h (op.Closing closing_op.Close) w z n =
+    keeps-calm w _ (act p h (op.Closing closing_op.Close) w) (calm-same w _ refl refl) (λ g. refl)
 out-act p h (op.Closing closing_op.Drain) w z n = out-drain p w _
 out-act p h (op.End a held) w z n = keeps-log w _ _ _ (λ g. refl) (λ g. refl)
 out-act p h _ w z n = keeps-same w _ _ (λ g. refl)
@@ -89,34 +113,53 @@ out-react p _ _ w a = absurd (cc)
 
 -- the beginning of a call
 
-out-begin : (w : World) (p : ℕ) (c : Call) (next : List Op) → ((g : ℕ) → weigh (outs_of g) next ≡ 0) → KeepsOutput w [] (done (log w (event.CallBegun p c)) next)
+out-begin : (w : World) (p : ℕ) (c : Call) (next : List Op) → ((g : ℕ) → weigh (outs_of g) next ≡ 0) →
+    KeepsOutput w [] (done (log w (event.CallBegun p c)) next)
 out-begin w p c next z = keeps-log w _ _ next (λ g. refl) z
 
-out-told : (w : World) (p : ℕ) (c : Call) (e : Event) (next : List Op) → ((g : ℕ) → output_of g e ≡ 0) → ((g : ℕ) → weigh (outs_of g) next ≡ 0) → KeepsOutput w [] (done (log (log w (event.CallBegun p c)) e) next)
-out-told w p c e next o z = keeps-after w (log w (event.CallBegun p c)) [] _ (calm-log w (event.CallBegun p c) (λ g. refl)) (keeps-log (log w (event.CallBegun p c)) e [] next o z)
+out-told : (w : World) (p : ℕ) (c : Call) (e : Event) (next : List Op) → ((g : ℕ) → output_of g e ≡ 0) →
+    ((g : ℕ) → weigh (outs_of g) next ≡ 0) → KeepsOutput w [] (done (log (log w (event.CallBegun p c)) e) next)
+out-told w p c e next o z =
+    keeps-after w (log w (event.CallBegun p c)) [] _ (calm-log w (event.CallBegun p c) (λ g. refl))
+    (keeps-log (log w (event.CallBegun p c)) e [] next o z)
 
-out-used : (w : World) (p k : ℕ) (c : Call) (next : List Op) → ((g : ℕ) → weigh (outs_of g) next ≡ 0) → KeepsOutput w [] (done (used_up (log w (event.CallBegun p c)) k) next)
-out-used w p k c next z = keeps-after w (log w (event.CallBegun p c)) _ _ (calm-log w _ (λ g. refl)) (keeps-calm (log w (event.CallBegun p c)) [] (done (used_up (log w (event.CallBegun p c)) k) next) (calm-same _ _ refl refl) z)
+out-used : (w : World) (p k : ℕ) (c : Call) (next : List Op) → ((g : ℕ) → weigh (outs_of g) next ≡ 0) →
+    KeepsOutput w [] (done (used_up (log w (event.CallBegun p c)) k) next)
+out-used w p k c next z = keeps-after w (log w (event.CallBegun p c)) _ _ (calm-log w _ (λ g. refl))
+    (keeps-calm (log w (event.CallBegun p c)) [] (done (used_up (log w (event.CallBegun p c)) k) next)
+    (calm-same _ _ refl refl) z)
 
-out-with : (w : World) (p : ℕ) (c : Call) (r : Option ℕ) (d : ℕ → Done) → ((f : ℕ) → KeepsOutput w [] (d f)) → KeepsOutput w [] (with_future (log w (event.CallBegun p c)) r d)
+out-with : (w : World) (p : ℕ) (c : Call) (r : Option ℕ) (d : ℕ → Done) → ((f : ℕ) → KeepsOutput w [] (d f)) →
+    KeepsOutput w [] (with_future (log w (event.CallBegun p c)) r d)
 out-with w p c None d k = out-begin w p c [] (λ g. refl)
 out-with w p c (Some f) d k = k f
 
-pub out-begun : (p : ℕ) (w : World) (here : Option ℕ) (c : Call) → KeepsOutput w [] (begun p (log w (event.CallBegun p c)) here c)
+pub out-begun : (p : ℕ) (w : World) (here : Option ℕ) (c : Call) →
+    KeepsOutput w [] (begun p (log w (event.CallBegun p c)) here c)
 out-begun p w here call.Spawn = out-begin w p call.Spawn _ (λ g. refl)
 out-begun p w here call.TryTick = out-begin w p call.TryTick _ (λ g. refl)
 out-begun p w here call.IsEmpty = out-begin w p call.IsEmpty _ (λ g. refl)
-out-begun p w here (call.Wake k) = out-with w p (call.Wake k) (kept w k) _ (λ f. out-used w p k (call.Wake k) _ (λ g. refl))
-out-begun p w here (call.WakeByRef k) = out-with w p (call.WakeByRef k) (kept w k) _ (λ f. out-begin w p (call.WakeByRef k) _ (λ g. refl))
-out-begun p w here (call.Copy k) = out-with w p (call.Copy k) (kept w k) _ (λ f. out-begin w p (call.Copy k) _ (λ g. refl))
-out-begun p w here (call.DropWaker k) = out-with w p (call.DropWaker k) (kept w k) _ (λ f. out-used w p k (call.DropWaker k) _ (λ g. refl))
+out-begun p w here (call.Wake k) =
+    out-with w p (call.Wake k) (kept w k) _ (λ f. out-used w p k (call.Wake k) _ (λ g. refl))
+out-begun p w here (call.WakeByRef k) =
+    out-with w p (call.WakeByRef k) (kept w k) _ (λ f. out-begin w p (call.WakeByRef k) _ (λ g. refl))
+out-begun p w here (call.Copy k) =
+    out-with w p (call.Copy k) (kept w k) _ (λ f. out-begin w p (call.Copy k) _ (λ g. refl))
+out-begun p w here (call.DropWaker k) =
+    out-with w p (call.DropWaker k) (kept w k) _ (λ f. out-used w p k (call.DropWaker k) _ (λ g. refl))
 out-begun p w here call.Keep = out-with w p call.Keep here _ (λ f. out-begin w p call.Keep _ (λ g. refl))
 out-begun p w here call.WakeSelf = out-with w p call.WakeSelf here _ (λ f. out-begin w p call.WakeSelf _ (λ g. refl))
 out-begun p w here (call.PollHandle f b) = out-begin w p (call.PollHandle f b) _ (λ g. refl)
 out-begun p w here call.NewTick = out-begin w p call.NewTick _ (λ g. refl)
-out-begun p w here (call.PollTick t b) = out-told w p (call.PollTick t b) (event.TickPolled p t) _ (λ g. refl) (λ g. refl)
+out-begun p w here (call.PollTick t b) = out-told w p (call.PollTick t b) (event.TickPolled p t) _ (λ g. refl)
+    (λ g. refl)
 out-begun p w here (call.DropTick t) = out-told w p (call.DropTick t) (event.TickDropped p t) _ (λ g. refl) (λ g. refl)
 out-begun p w here (call.Cancel f) = out-begin w p (call.Cancel f) _ (λ g. refl)
 out-begun p w here (call.Detach f) = out-begin w p (call.Detach f) _ (λ g. refl)
 out-begun p w here (call.DropHandle f) = out-begin w p (call.DropHandle f) _ (λ g. refl)
-out-begun p w here call.DropExecutor = keeps-after w (log w (event.CallBegun p call.DropExecutor)) _ _ (calm-log w _ (λ g. refl)) (keeps-after (log w (event.CallBegun p call.DropExecutor)) (record (log w (event.CallBegun p call.DropExecutor)) { gone = true }) _ _ (calm-same _ _ refl refl) (keeps-log (record (log w (event.CallBegun p call.DropExecutor)) { gone = true }) (event.DropBegun p) _ _ (λ g. refl) (λ g. refl)))
+out-begun p w here call.DropExecutor =
+    keeps-after w (log w (event.CallBegun p call.DropExecutor)) _ _ (calm-log w _ (λ g. refl))
+    (keeps-after (log w (event.CallBegun p call.DropExecutor))
+    (record (log w (event.CallBegun p call.DropExecutor)) { gone = true }) _ _ (calm-same _ _ refl refl)
+    (keeps-log (record (log w (event.CallBegun p call.DropExecutor)) { gone = true }) (event.DropBegun p) _ _
+    (λ g. refl) (λ g. refl)))

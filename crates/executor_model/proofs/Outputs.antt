@@ -1,5 +1,6 @@
 -- An output is given or dropped at most once: each thing that is done keeps it.
-use Rattle.std.proofs.Common.{◌≡◌, ℕ, zero, suc, ◌+◌, ◌≤◌, List, [], ◌∷◌, ◌++◌, set, get_or, Bool, true, false, cond, refl, sym, ap, ◌∙◌, subst, arith}
+use Rattle.std.proofs.Common.{◌≡◌, ℕ, zero, suc, ◌+◌, ◌≤◌, List, [], ◌∷◌, ◌++◌, set, get_or}
+use Rattle.std.proofs.Common.{Bool, true, false, cond, refl, sym, ap, ◌∙◌, subst, arith}
 use Rattle.std.proofs.lemmas.List.Sums.{sum_by_push}
 use Rattle.std.specs.Prelude.{Option, Some, None, count_by}
 use Rattle.task_moves.specs.declared.schedule_info.ScheduleInfo.{ScheduleInfo}
@@ -9,7 +10,8 @@ use Rattle.task_moves.specs.declared.moves.owed.Move.TheVariants as move
 use Rattle.task_moves.specs.declared.moves.owed.FutureDebt.{FutureDebt}
 use Rattle.task_moves.specs.declared.moves.owed.FutureDebt.TheVariants.{PollFuture, DropFuture}
 use Rattle.task_moves.specs.declared.moves.owed.AwaiterDebt.{AwaiterDebt}
-use Rattle.task_moves.specs.declared.moves.owed.AwaiterDebt.TheVariants.{NotifyAwaiter, NotifyOther, CallGiven, StoreCopy, CallStored, TakeAwaiter, CallTaken}
+use Rattle.task_moves.specs.declared.moves.owed.AwaiterDebt.TheVariants.{NotifyAwaiter, NotifyOther, CallGiven}
+use Rattle.task_moves.specs.declared.moves.owed.AwaiterDebt.TheVariants.{StoreCopy, CallStored, TakeAwaiter, CallTaken}
 use Rattle.task_moves.specs.declared.moves.owed.Owed.{Owed}
 use Rattle.task_moves.specs.declared.moves.owed.Moved.{Moved}
 use Rattle.task_moves.specs.Moves as moves
@@ -43,7 +45,12 @@ one-output g _ = refl
 
 pub outputs-push : (g : ℕ) (es : Trace) (e : Event) → outputs g (es ++ e ∷ []) ≡ outputs g es + output_of g e
 unfolding outputs
-outputs-push g es e = omega (arith, sum_by_push (λ (x : Event). cond (is_output_given g x) 1 0) es e, sum_by_push (λ (x : Event). cond (is_output_dropped g x) 1 0) es e, one-output g e)
+outputs-push g es e = omega (
+  arith,
+  sum_by_push (λ (x : Event). cond (is_output_given g x) 1 0) es e,
+  sum_by_push (λ (x : Event). cond (is_output_dropped g x) 1 0) es e,
+  one-output g e,
+)
 
 pub outputs-none : (g : ℕ) → outputs g [] ≡ 0
 unfolding outputs
@@ -69,7 +76,8 @@ pub record Calm (w v : World) : Type 0 where
   pub completed : (g : ℕ) → (task w g).completed ≡ true → (task v g).completed ≡ true
   pub closed : (g : ℕ) → (task w g).closed ≡ true → (task v g).closed ≡ true
 
-pub keeps-calm : (w : World) (old : List Op) (d : Done) → Calm w d.world → ((g : ℕ) → weigh (outs_of g) d.next ≡ 0) → KeepsOutput w old d
+pub keeps-calm : (w : World) (old : List Op) (d : Done) → Calm w d.world → ((g : ℕ) → weigh (outs_of g) d.next ≡ 0) →
+    KeepsOutput w old d
 keeps-calm w old d c z = record {
   keeps = λ g r h. record {
     once = omega (arith, h.once, c.trace g, z g);
@@ -104,14 +112,17 @@ calm-log_if true w e z = calm-log w e z
 calm-log_if false w e z = calm-same w w refl refl
 
 -- a mark that stays where a task changes
-put-stays : (mark : State → Bool) (ts : List State) (f : ℕ) (s : State) → (mark (get_or ts f blank) ≡ true → mark s ≡ true) → (g : ℕ) → mark (get_or ts g blank) ≡ true → mark (get_or (set ts f s) g blank) ≡ true
+put-stays : (mark : State → Bool) (ts : List State) (f : ℕ) (s : State) →
+    (mark (get_or ts f blank) ≡ true → mark s ≡ true) → (g : ℕ) → mark (get_or ts g blank) ≡ true →
+    mark (get_or (set ts f s) g blank) ≡ true
 put-stays mark [] f s k g e = e
 put-stays mark (t ∷ ts) zero s k zero e = k e
 put-stays mark (t ∷ ts) zero s k (suc g) e = e
 put-stays mark (t ∷ ts) (suc f) s k zero e = e
 put-stays mark (t ∷ ts) (suc f) s k (suc g) e = put-stays mark ts f s k g e
 
-pub push-stays : (mark : State → Bool) → mark blank ≡ false → (ts : List State) (s : State) (g : ℕ) → mark (get_or ts g blank) ≡ true → mark (get_or (ts ++ s ∷ []) g blank) ≡ true
+pub push-stays : (mark : State → Bool) → mark blank ≡ false → (ts : List State) (s : State) (g : ℕ) →
+    mark (get_or ts g blank) ≡ true → mark (get_or (ts ++ s ∷ []) g blank) ≡ true
 push-stays mark n [] s g e = let no : false ≡ true = sym n ∙ e in absurd (cc)
 push-stays mark n (t ∷ ts) s zero e = e
 push-stays mark n (t ∷ ts) s (suc g) e = push-stays mark n ts s g e
@@ -157,13 +168,17 @@ none-next g f (Some move.EndClosed) = refl
 none-next g f (Some move.Detach) = refl
 none-next g f _ = refl
 
-pub none-both : (g : ℕ) (xs ys : List Op) → weigh (outs_of g) xs ≡ 0 → weigh (outs_of g) ys ≡ 0 → weigh (outs_of g) (xs ++ ys) ≡ 0
+pub none-both : (g : ℕ) (xs ys : List Op) → weigh (outs_of g) xs ≡ 0 → weigh (outs_of g) ys ≡ 0 →
+    weigh (outs_of g) (xs ++ ys) ≡ 0
 none-both g xs ys a b = omega (arith, weigh-append (outs_of g) xs ys, a, b)
 
 none-owed : (g f : ℕ) (there : Bool) (o : Owed) → o.drop_output ≡ false → weigh (outs_of g) (owed_ops there f o) ≡ 0
 none-owed g f there o e =
-    let z : weigh (outs_of g) (output_ops o.drop_output f) ≡ 0 = ap (λ (b : Bool). weigh (outs_of g) (output_ops b f)) e in
-    none-both g _ _ (none-both g _ _ (none-both g _ _ (none-both g _ _ (none-scheduled g f o.schedule) (none-future g f there o.future)) z) (none-awaiter g f o.awaiter)) (none-next g f o.next)
+    let z : weigh (outs_of g) (output_ops o.drop_output f) ≡ 0 =
+    ap (λ (b : Bool). weigh (outs_of g) (output_ops b f)) e in
+    none-both g _ _ (none-both g _ _
+    (none-both g _ _ (none-both g _ _ (none-scheduled g f o.schedule) (none-future g f there o.future)) z)
+    (none-awaiter g f o.awaiter)) (none-next g f o.next)
 
 -- a move of a task at which no output goes
 pub record Tame (s : State) (m : Moved) : Type 0 where
@@ -171,8 +186,12 @@ pub record Tame (s : State) (m : Moved) : Type 0 where
   pub closed : s.closed ≡ true → m.state.closed ≡ true
   pub quiet : m.owed.drop_output ≡ false
 
-pub keeps-carried : (w v : World) (f : ℕ) (m : Moved) (old : List Op) → Calm w v → Tame (task v f) m → KeepsOutput w old (carried v f m)
-keeps-carried w v f m old c t = keeps-calm w old (carried v f m) (calm-and w v (put v f m.state) c (calm-put v f m.state record { completed = t.completed; closed = t.closed })) (λ g. none-owed g f _ m.owed t.quiet)
+pub keeps-carried : (w v : World) (f : ℕ) (m : Moved) (old : List Op) → Calm w v → Tame (task v f) m →
+    KeepsOutput w old (carried v f m)
+keeps-carried w v f m old c t =
+    keeps-calm w old (carried v f m)
+    (calm-and w v (put v f m.state) c (calm-put v f m.state record { completed = t.completed; closed = t.closed }))
+    (λ g. none-owed g f _ m.owed t.quiet)
 
 pub tame-wake : (b c : Bool) (s : State) → Tame s (moves.wake_by_reference_by b c s)
 tame-wake true c s = record { completed = λ e. e; closed = λ e. e; quiet = refl }

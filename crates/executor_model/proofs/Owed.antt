@@ -1,4 +1,5 @@
--- What a move of a task owes weighs nothing in a count in which no operation that may be owed does, whatever that count is.
+-- What a move of a task owes weighs nothing in a count in which no operation that may be owed does,
+-- whatever that count is.
 use Rattle.std.proofs.Common.{◌≡◌, ℕ, List, [], ◌∷◌, ◌++◌, Bool, true, false, refl, arith}
 use Rattle.std.specs.Prelude.{Option, Some, None}
 use Rattle.task_moves.specs.declared.schedule_info.ScheduleInfo.{ScheduleInfo}
@@ -7,7 +8,8 @@ use Rattle.task_moves.specs.declared.moves.owed.Move.TheVariants as move
 use Rattle.task_moves.specs.declared.moves.owed.FutureDebt.{FutureDebt}
 use Rattle.task_moves.specs.declared.moves.owed.FutureDebt.TheVariants.{PollFuture, DropFuture}
 use Rattle.task_moves.specs.declared.moves.owed.AwaiterDebt.{AwaiterDebt}
-use Rattle.task_moves.specs.declared.moves.owed.AwaiterDebt.TheVariants.{NotifyAwaiter, NotifyOther, CallGiven, StoreCopy, CallStored, TakeAwaiter, CallTaken}
+use Rattle.task_moves.specs.declared.moves.owed.AwaiterDebt.TheVariants.{NotifyAwaiter, NotifyOther, CallGiven}
+use Rattle.task_moves.specs.declared.moves.owed.AwaiterDebt.TheVariants.{StoreCopy, CallStored, TakeAwaiter, CallTaken}
 use Rattle.task_moves.specs.declared.moves.owed.Owed.{Owed}
 use Rattle.executor_model.specs.declared.op.Op.{Op}
 use Rattle.executor_model.specs.declared.op.Op.TheVariants as op
@@ -76,5 +78,7 @@ module _ (v : Op → ℕ) (f : ℕ) where
   pub both : (xs ys : List Op) → weigh v xs ≡ 0 → weigh v ys ≡ 0 → weigh v (xs ++ ys) ≡ 0
   both xs ys a b = omega (arith, weigh-append v xs ys, a, b)
 
-  pub owed-nothing : FewOwed v f → (there : Bool) (o : Owed) → weigh v (future_ops there f o.future) ≡ 0 → weigh v (awaiter_ops f o.awaiter) ≡ 0 → weigh v (owed_ops there f o) ≡ 0
-  owed-nothing h there o a b = both _ _ (both _ _ (both _ _ (both _ _ (scheduled h o.schedule) a) (output h o.drop_output)) b) (follows h o.next)
+  pub owed-nothing : FewOwed v f → (there : Bool) (o : Owed) → weigh v (future_ops there f o.future) ≡ 0 →
+      weigh v (awaiter_ops f o.awaiter) ≡ 0 → weigh v (owed_ops there f o) ≡ 0
+  owed-nothing h there o a b =
+      both _ _ (both _ _ (both _ _ (both _ _ (scheduled h o.schedule) a) (output h o.drop_output)) b) (follows h o.next)

@@ -1,5 +1,6 @@
 -- At a quiet trace the executor is answered to be empty exactly where each accepted future is dropped.
-use Rattle.std.proofs.Common.{◌≡◌, ◌⊎◌, ℕ, ◌<◌, ◌≤◌, List, [], ◌∷◌, ◌++◌, length, set, Bool, true, false, ◌&&◌, ◌||◌, not, refl, sym, ap, ◌∙◌, subst, inl, inr, ⊎_elim, arith, get_or-set_same}
+use Rattle.std.proofs.Common.{◌≡◌, ◌⊎◌, ℕ, ◌<◌, ◌≤◌, List, [], ◌∷◌, ◌++◌, length, set, Bool, true, false, ◌&&◌, ◌||◌}
+use Rattle.std.proofs.Common.{not, refl, sym, ap, ◌∙◌, subst, inl, inr, ⊎_elim, arith, get_or-set_same}
 use Rattle.std.proofs.lemmas.Bool.Decides.{nat_tests}
 use Rattle.std.proofs.lemmas.List.{append_assoc}
 use Rattle.std.specs.Prelude.{Option, Some, None, nat_lt}
@@ -20,7 +21,8 @@ use Rattle.executor_model.specs.Trace.{Trace, has, is_accepted, is_dropped}
 use Rattle.executor_model.specs.World.{log}
 use Rattle.executor_model.specs.Weights.{weigh_all}
 use Rattle.executor_model.specs.Good.{Good}
-use Rattle.executor_model.specs.Steps.{Machine, stack, top, step, step_by, stepped, refusal, unless, begin_refusal, part_after, with_part, run, start}
+use Rattle.executor_model.specs.Steps.{Machine, stack, top, step, step_by, stepped, refusal, unless}
+use Rattle.executor_model.specs.Steps.{begin_refusal, part_after, with_part, run, start}
 use Rattle.executor_model.specs.Entries.{Remains}
 use Rattle.executor_model.specs.Rows.{leaves_of}
 use Rattle.executor_model.specs.Emptiness.{Answers, AnswersAlone, AllDropped, IsAtRest, IsQuietEmptinessExact}
@@ -38,20 +40,27 @@ has-push test (x ∷ es) e z = ap (λ (b : Bool). test x || b) (has-push test es
 
 -- the machine in which p has asked, and has still to look
 abbrev pub asking : Machine → ℕ → Machine
-asking s p = record { world = log s.world (event.CallBegun p call.IsEmpty); parties = set s.parties p (op.Table table_op.LookAtTable ∷ []) }
+asking s p =
+    record {
+      world = log s.world (event.CallBegun p call.IsEmpty);
+      parties = set s.parties p (op.Table table_op.LookAtTable ∷ []);
+    }
 
 module _ (s : Machine) (p : ℕ) (l : p < length s.parties) (n : s.world.gone ≡ false) (e : stack s p ≡ []) where
   none-refused : refusal s (Begin p call.IsEmpty) ≡ None
   none-refused =
-      ap (λ (b : Bool). unless b NoSuch (begin_refusal s.world s.parties (top (stack s p)) call.IsEmpty)) (let z : nat_lt p (length s.parties) ≡ true = grind (arith, nat_tests) in z)
+      ap (λ (b : Bool). unless b NoSuch (begin_refusal s.world s.parties (top (stack s p)) call.IsEmpty))
+      (let z : nat_lt p (length s.parties) ≡ true = grind (arith, nat_tests) in z)
       ∙ (ap (λ (os : List Op). begin_refusal s.world s.parties (top os) call.IsEmpty) e
       ∙ ap (λ (b : Bool). unless (not (b && true)) Gone None) n)
 
   begins-alone : stepped s (step s (Begin p call.IsEmpty)) ≡ asking s p
   unfolding step
-  begins-alone = ap (λ (x : Option StepError). stepped s (step_by x s (Begin p call.IsEmpty))) none-refused ∙ ap (λ (os : List Op). with_part s p (part_after s.world os (Begin p call.IsEmpty))) e
+  begins-alone = ap (λ (x : Option StepError). stepped s (step_by x s (Begin p call.IsEmpty))) none-refused
+      ∙ ap (λ (os : List Op). with_part s p (part_after s.world os (Begin p call.IsEmpty))) e
 
-module _ (s : Machine) (fine : Good s) (h : Placed s) (d : Deep s) (rest : IsAtRest s) (p : ℕ) (l : p < length s.parties) where
+module _ (s : Machine) (fine : Good s) (h : Placed s) (d : Deep s) (rest : IsAtRest s) (p : ℕ)
+    (l : p < length s.parties) where
   here : s.world.gone ≡ false
   here = sym (h.leaves 0).begun ∙ (begun-has 0 s.world.trace ∙ rest.there)
 
@@ -71,35 +80,55 @@ module _ (s : Machine) (fine : Good s) (h : Placed s) (d : Deep s) (rest : IsAtR
   looks = ap top (get_or-set_same s.parties p (op.Table table_op.LookAtTable ∷ []) [] l)
 
   none-leave : (f : ℕ) → weigh_all (leaves_of f) (asking s p).parties ≡ 0
-  none-leave f = omega (arith, weigh_all-set (leaves_of f) s.parties p (op.Table table_op.LookAtTable ∷ []) l, all-rest (leaves_of f) s.parties idle)
+  none-leave f =
+      omega (
+        arith,
+        weigh_all-set (leaves_of f) s.parties p (op.Table table_op.LookAtTable ∷ []) l,
+        all-rest (leaves_of f) s.parties idle,
+      )
 
   alone : (t : Hint) (a : Reply) → Answers (asking s p) p t a → AnswersAlone s p t a
-  alone t a q = ap (λ (m : Machine). (stepped m (step m (Go p t))).world.trace) began ∙ (q ∙ append_assoc s.world.trace (event.CallBegun p call.IsEmpty ∷ []) (event.CallEnded p a ∷ []))
+  alone t a q = ap (λ (m : Machine). (stepped m (step m (Go p t))).world.trace) began
+      ∙ (q ∙ append_assoc s.world.trace (event.CallBegun p call.IsEmpty ∷ []) (event.CallEnded p a ∷ []))
 
   asked : (t : Hint) (a : Reply) → AnswersAlone s p t a → Answers (asking s p) p t a
-  asked t a q = sym (ap (λ (m : Machine). (stepped m (step m (Go p t))).world.trace) began) ∙ (q ∙ sym (append_assoc s.world.trace (event.CallBegun p call.IsEmpty ∷ []) (event.CallEnded p a ∷ [])))
+  asked t a q = sym (ap (λ (m : Machine). (stepped m (step m (Go p t))).world.trace) began)
+      ∙ (q ∙ sym (append_assoc s.world.trace (event.CallBegun p call.IsEmpty ∷ []) (event.CallEnded p a ∷ [])))
 
   answers-one : (t : Hint) → AnswersAlone s p t reply.Yes ⊎ AnswersAlone s p t reply.No
-  answers-one t = ⊎_elim (λ q. inl (alone t reply.Yes q)) (λ q. inr (alone t reply.No q)) ((emptiness-exact (asking s p) fine-then placed-then).answered p t looks)
+  answers-one t = ⊎_elim (λ q. inl (alone t reply.Yes q)) (λ q. inr (alone t reply.No q))
+      ((emptiness-exact (asking s p) fine-then placed-then).answered p t looks)
 
   none-remains : AllDropped s.world.trace → (f : ℕ) → ¬ Remains f (asking s p)
   none-remains k f m =
-      let a : has (is_accepted f) s.world.trace ≡ true = sym (has-push (is_accepted f) s.world.trace (event.CallBegun p call.IsEmpty) refl) ∙ m.accepted in
+      let a : has (is_accepted f) s.world.trace ≡ true =
+      sym (has-push (is_accepted f) s.world.trace (event.CallBegun p call.IsEmpty) refl) ∙ m.accepted in
       let x : has (is_dropped f) s.world.trace ≡ true = k f a in
       ⊎_elim
-      (λ (u : has (is_dropped f) (asking s p).world.trace ≡ false). let no : true ≡ false = sym x ∙ (sym (has-push (is_dropped f) s.world.trace (event.CallBegun p call.IsEmpty) refl) ∙ u) in absurd (cc))
+      (λ (u : has (is_dropped f) (asking s p).world.trace ≡ false).
+      let no : true ≡ false = sym x
+      ∙ (sym (has-push (is_dropped f) s.world.trace (event.CallBegun p call.IsEmpty) refl) ∙ u) in absurd (cc))
       (λ (u : 1 ≤ weigh_all (leaves_of f) (asking s p).parties). absurd (omega (arith, u, none-leave f)))
       m.remains
 
   answers-yes : (t : Hint) → AllDropped s.world.trace → AnswersAlone s p t reply.Yes
-  answers-yes t k = alone t reply.Yes ((emptiness-exact (asking s p) fine-then placed-then).always p t looks (none-remains k))
+  answers-yes t k = alone t reply.Yes
+      ((emptiness-exact (asking s p) fine-then placed-then).always p t looks (none-remains k))
 
-  dropped-by : (f : ℕ) → ¬ Remains f (asking s p) → has (is_accepted f) s.world.trace ≡ true → (b : Bool) → has (is_dropped f) s.world.trace ≡ b → has (is_dropped f) s.world.trace ≡ true
+  dropped-by : (f : ℕ) → ¬ Remains f (asking s p) → has (is_accepted f) s.world.trace ≡ true → (b : Bool) →
+      has (is_dropped f) s.world.trace ≡ b → has (is_dropped f) s.world.trace ≡ true
   dropped-by f k a true q = q
-  dropped-by f k a false q = absurd (k (record { accepted = has-push (is_accepted f) s.world.trace (event.CallBegun p call.IsEmpty) refl ∙ a; remains = inl (has-push (is_dropped f) s.world.trace (event.CallBegun p call.IsEmpty) refl ∙ q) }))
+  dropped-by f k a false q =
+      absurd
+      (k
+      (record {
+        accepted = has-push (is_accepted f) s.world.trace (event.CallBegun p call.IsEmpty) refl ∙ a;
+        remains = inl (has-push (is_dropped f) s.world.trace (event.CallBegun p call.IsEmpty) refl ∙ q);
+      }))
 
   all-dropped : (t : Hint) → AnswersAlone s p t reply.Yes → AllDropped s.world.trace
-  all-dropped t q f a = dropped-by f ((emptiness-exact (asking s p) fine-then placed-then).only p t looks (asked t reply.Yes q) f) a _ refl
+  all-dropped t q f a = dropped-by f
+      ((emptiness-exact (asking s p) fine-then placed-then).only p t looks (asked t reply.Yes q) f) a _ refl
 
 pub quiet-emptiness : (s : Machine) → Good s → Placed s → Deep s → IsQuietEmptinessExact s
 quiet-emptiness s fine h d = record {
@@ -109,4 +138,5 @@ quiet-emptiness s fine h d = record {
 }
 
 pub quiet-empties : (limit parties : ℕ) (steps : List Step) → IsQuietEmptinessExact (run steps (start limit parties))
-quiet-empties limit parties steps = quiet-emptiness (run steps (start limit parties)) (good limit parties steps) (placed limit parties steps) (deep limit parties steps)
+quiet-empties limit parties steps = quiet-emptiness (run steps (start limit parties)) (good limit parties steps)
+    (placed limit parties steps) (deep limit parties steps)

@@ -1,5 +1,6 @@
 -- A refused call changes nothing, and is refused for a reason.
-use Rattle.std.proofs.Common.{◌≡◌, ◌⊎◌, ℕ, ◌≤◌, List, [], ◌∷◌, ◌++◌, Bool, true, false, ◌||◌, not, refl, sym, ap, ◌∙◌, inl, inr, ⊎_elim, arith}
+use Rattle.std.proofs.Common.{◌≡◌, ◌⊎◌, ℕ, ◌≤◌, List, [], ◌∷◌, ◌++◌, Bool, true, false, ◌||◌, not}
+use Rattle.std.proofs.Common.{refl, sym, ap, ◌∙◌, inl, inr, ⊎_elim, arith}
 use Rattle.std.proofs.lemmas.Bool.Decides.{nat_tests}
 use Rattle.std.specs.List.{list_any}
 use Rattle.std.specs.Prelude.{Option, Some, None, nat_lt}
@@ -26,7 +27,8 @@ use Rattle.executor_model.specs.Acts as acts
 use Rattle.executor_model.specs.Acts.{act}
 use Rattle.executor_model.specs.Carried.{awaiter_ops}
 use Rattle.executor_model.specs.Memory.{may_refuse, refuses, takes_no_memory, AsksForNone}
-use Rattle.executor_model.specs.Refusals.{is_no_memory, ends_for_want, is_tick_poll, lies_down, IsFull, CopiesOneTooMany, RefusedChangesNothing, IsWantToldOf}
+use Rattle.executor_model.specs.Refusals.{is_no_memory, ends_for_want, is_tick_poll, lies_down, IsFull}
+use Rattle.executor_model.specs.Refusals.{CopiesOneTooMany, RefusedChangesNothing, IsWantToldOf}
 use Rattle.executor_model.specs.Steps.{begun, kept, with_future}
 use Rattle.executor_model.specs.World.{World, Tick, Up, Lies, Left, Done, done, task, tick_of}
 use Rattle.executor_model.proofs.Unasking.{both, none-awaiter}
@@ -40,44 +42,55 @@ or-right true b e = refl
 or-right false b e = e
 
 -- a poll of a handle whose answer is there asks for none
-none-output : (w : World) (f : ℕ) → AsksForNone (awaiter_ops f (moves.notify_other_if (task w f).awaiter) ++ op.End reply.Ready (hold.Handle f) ∷ [])
-none-output w f = both (awaiter_ops f (moves.notify_other_if (task w f).awaiter)) (op.End reply.Ready (hold.Handle f) ∷ []) (none-awaiter f (moves.notify_other_if (task w f).awaiter)) refl
+none-output : (w : World) (f : ℕ) →
+    AsksForNone (awaiter_ops f (moves.notify_other_if (task w f).awaiter) ++ op.End reply.Ready (hold.Handle f) ∷ [])
+none-output w f = both (awaiter_ops f (moves.notify_other_if (task w f).awaiter))
+    (op.End reply.Ready (hold.Handle f) ∷ []) (none-awaiter f (moves.notify_other_if (task w f).awaiter)) refl
 
 -- nothing has changed
 
 module _ (p : ℕ) (w : World) where
-  enter-unchanged : (full refused : Bool) → list_any may_refuse (acts.enter_by full refused p w).next ≡ true → (acts.enter_by full refused p w).world ≡ w
+  enter-unchanged : (full refused : Bool) → list_any may_refuse (acts.enter_by full refused p w).next ≡ true →
+      (acts.enter_by full refused p w).world ≡ w
   enter-unchanged true refused e = refl
   enter-unchanged false true e = refl
   enter-unchanged false false e = absurd (cc)
 
-  copy-unchanged : (b : Bool) (f : ℕ) (held : Hold) → list_any may_refuse (acts.copy_by b w f held).next ≡ true → (acts.copy_by b w f held).world ≡ w
+  copy-unchanged : (b : Bool) (f : ℕ) (held : Hold) → list_any may_refuse (acts.copy_by b w f held).next ≡ true →
+      (acts.copy_by b w f held).world ≡ w
   copy-unchanged true f held e = refl
   copy-unchanged false f held e = absurd (cc)
 
   look-unchanged : (closed going completed : Bool) (f : ℕ) (a : Waker)
-      → list_any may_refuse (acts.look_by (moves.poll_by closed going completed (task w f)).owed.answer p w f a (moves.poll_by closed going completed (task w f))).next ≡ true
-      → (acts.look_by (moves.poll_by closed going completed (task w f)).owed.answer p w f a (moves.poll_by closed going completed (task w f))).world ≡ w
+      → list_any may_refuse (acts.look_by (moves.poll_by closed going completed (task w f)).owed.answer p w f a
+      (moves.poll_by closed going completed (task w f))).next ≡ true
+      →
+      (acts.look_by (moves.poll_by closed going completed (task w f)).owed.answer p w f a
+      (moves.poll_by closed going completed (task w f))).world ≡ w
   look-unchanged true true completed f a e = refl
   look-unchanged true false completed f a e = absurd (cc)
   look-unchanged false going false f a e = refl
   look-unchanged false going true f a e = absurd (not-both _ e (none-output w f))
 
-  awaiter-unchanged : (b : Bool) (f : ℕ) (a : Waker) → list_any may_refuse (acts.copy_awaiter_by b p w f a).next ≡ true → (acts.copy_awaiter_by b p w f a).world ≡ w
+  awaiter-unchanged : (b : Bool) (f : ℕ) (a : Waker) →
+      list_any may_refuse (acts.copy_awaiter_by b p w f a).next ≡ true → (acts.copy_awaiter_by b p w f a).world ≡ w
   awaiter-unchanged true f a e = refl
   awaiter-unchanged false f a e = absurd (cc)
 
-  make-unchanged : (b : Bool) → list_any may_refuse (acts.make_tick_by b w).next ≡ true → (acts.make_tick_by b w).world ≡ w
+  make-unchanged : (b : Bool) → list_any may_refuse (acts.make_tick_by b w).next ≡ true →
+      (acts.make_tick_by b w).world ≡ w
   make-unchanged true e = refl
   make-unchanged false e = absurd (cc)
 
-  search-unchanged : (x : Tick) (q : List ℕ) (s : Sleeping) → list_any may_refuse (acts.search_by x w q s).next ≡ true → (acts.search_by x w q s).world ≡ w
+  search-unchanged : (x : Tick) (q : List ℕ) (s : Sleeping) → list_any may_refuse (acts.search_by x w q s).next ≡ true →
+      (acts.search_by x w q s).world ≡ w
   search-unchanged x [] s e = refl
   search-unchanged Up (f ∷ rest) s e = absurd (cc)
   search-unchanged (Lies n) (f ∷ rest) s e = absurd (cc)
   search-unchanged Left (f ∷ rest) s e = absurd (cc)
 
-  copies-unchanged : (b : Bool) (s : Sleeping) → list_any ends_for_want (acts.copy_sleeper_by b w s).next ≡ true → (acts.copy_sleeper_by b w s).world ≡ w
+  copies-unchanged : (b : Bool) (s : Sleeping) → list_any ends_for_want (acts.copy_sleeper_by b w s).next ≡ true →
+      (acts.copy_sleeper_by b w s).world ≡ w
   copies-unchanged true s e = refl
   copies-unchanged false s e = absurd (cc)
 
@@ -102,10 +115,12 @@ module _ (p : ℕ) (w : World) where
   tick-lies (Lies n) s = again-lies _ n s
   tick-lies Left s = refl
 
-  unchanged : (h : Hint) (o : Op) → list_any may_refuse (act p h o w).next ≡ true → lies_down o ≡ false → (act p h o w).world ≡ w
+  unchanged : (h : Hint) (o : Op) → list_any may_refuse (act p h o w).next ≡ true → lies_down o ≡ false →
+      (act p h o w).world ≡ w
   unchanged h (op.Table table_op.Enter) e n = enter-unchanged _ h.refused e
   unchanged h (op.Waker (waker_op.CopyWaker f held)) e n = copy-unchanged _ f held e
-  unchanged h (op.Handle (handle_op.Look f a)) e n = look-unchanged (task w f).closed (is_going (task w f)) (task w f).completed f a e
+  unchanged h (op.Handle (handle_op.Look f a)) e n =
+      look-unchanged (task w f).closed (is_going (task w f)) (task w f).completed f a e
   unchanged h (op.Handle (handle_op.CopyAwaiter f a)) e n = awaiter-unchanged _ f a e
   unchanged h (op.Tick tick_op.MakeTick) e n = make-unchanged h.refused e
   unchanged h (op.Tick (tick_op.Search s)) e n = search-unchanged _ _ s e
@@ -118,10 +133,13 @@ module _ (p : ℕ) (w : World) where
   with-unchanged (Some f) d k = k f
   with-unchanged None d k = refl
 
-  begins-unchanged : (here : Option ℕ) (c : Call) → takes_no_memory c ≡ false → is_tick_poll c ≡ false → (begun p w here c).world ≡ w
+  begins-unchanged : (here : Option ℕ) (c : Call) → takes_no_memory c ≡ false → is_tick_poll c ≡ false →
+      (begun p w here c).world ≡ w
   begins-unchanged here call.Spawn e n = refl
-  begins-unchanged here (call.Copy k) e n = with-unchanged (kept w k) (λ f. done w (op.Waker (waker_op.CopyWaker f (hold.Waker k)) ∷ [])) (λ f. refl)
-  begins-unchanged here call.Keep e n = with-unchanged here (λ f. done w (op.Waker (waker_op.CopyWaker f hold.Nothing) ∷ [])) (λ f. refl)
+  begins-unchanged here (call.Copy k) e n =
+      with-unchanged (kept w k) (λ f. done w (op.Waker (waker_op.CopyWaker f (hold.Waker k)) ∷ [])) (λ f. refl)
+  begins-unchanged here call.Keep e n =
+      with-unchanged here (λ f. done w (op.Waker (waker_op.CopyWaker f hold.Nothing) ∷ [])) (λ f. refl)
   begins-unchanged here (call.PollHandle f b) e n = refl
   begins-unchanged here call.NewTick e n = refl
   begins-unchanged here (call.PollTick t b) e n = absurd (cc)
@@ -152,30 +170,41 @@ wants-refuse (o ∷ os) e = ⊎_elim
     (or-cases (ends_for_want o) (list_any ends_for_want os) e)
 
 module _ (p : ℕ) (w : World) where
-  enter-told : (full refused : Bool) → list_any ends_for_want (acts.enter_by full refused p w).next ≡ true → refused ≡ true
+  enter-told : (full refused : Bool) → list_any ends_for_want (acts.enter_by full refused p w).next ≡ true →
+      refused ≡ true
   enter-told true refused e = absurd (cc)
   enter-told false true e = refl
   enter-told false false e = absurd (cc)
 
   -- refused by the hint, or for the number of references
-  copy-told : (refused small : Bool) (f : ℕ) (held : Hold) → list_any ends_for_want (acts.copy_by (refused || not small) w f held).next ≡ true → (refused ≡ true) ⊎ (small ≡ false)
+  copy-told : (refused small : Bool) (f : ℕ) (held : Hold) →
+      list_any ends_for_want (acts.copy_by (refused || not small) w f held).next ≡ true →
+      (refused ≡ true) ⊎ (small ≡ false)
   copy-told true small f held e = inl refl
   copy-told false true f held e = absurd (cc)
   copy-told false false f held e = inr refl
 
   look-told : (closed going completed : Bool) (f : ℕ) (a : Waker)
-      → list_any ends_for_want (acts.look_by (moves.poll_by closed going completed (task w f)).owed.answer p w f a (moves.poll_by closed going completed (task w f))).next ≡ true → ⊥
+      → list_any ends_for_want
+      (acts.look_by (moves.poll_by closed going completed (task w f)).owed.answer p w f a
+      (moves.poll_by closed going completed (task w f))).next ≡ true → ⊥
   look-told true true completed f a e = absurd (cc)
   look-told true false completed f a e = absurd (cc)
   look-told false going false f a e = absurd (cc)
-  look-told false going true f a e = not-both _ (wants-refuse (awaiter_ops f (moves.notify_other_if (task w f).awaiter) ++ op.End reply.Ready (hold.Handle f) ∷ []) e) (none-output w f)
+  look-told false going true f a e =
+      not-both _ (wants-refuse
+      (awaiter_ops f (moves.notify_other_if (task w f).awaiter) ++ op.End reply.Ready (hold.Handle f) ∷ []) e)
+      (none-output w f)
 
-  awaiter-told : (refused small : Bool) (f : ℕ) (a : Waker) → list_any ends_for_want (acts.copy_awaiter_by (refused || not small) p w f a).next ≡ true → (refused ≡ true) ⊎ (small ≡ false)
+  awaiter-told : (refused small : Bool) (f : ℕ) (a : Waker) →
+      list_any ends_for_want (acts.copy_awaiter_by (refused || not small) p w f a).next ≡ true →
+      (refused ≡ true) ⊎ (small ≡ false)
   awaiter-told true small f a e = inl refl
   awaiter-told false true f a e = absurd (cc)
   awaiter-told false false f a e = inr refl
 
-  outside-told : (refused : Bool) (f : ℕ) (a : Waker) → list_any ends_for_want (acts.copy_awaiter_by refused p w f a).next ≡ true → refused ≡ true
+  outside-told : (refused : Bool) (f : ℕ) (a : Waker) →
+      list_any ends_for_want (acts.copy_awaiter_by refused p w f a).next ≡ true → refused ≡ true
   outside-told true f a e = refl
   outside-told false f a e = absurd (cc)
 
@@ -197,7 +226,8 @@ module _ (p : ℕ) (w : World) where
   listed-told true n s e = absurd (cc)
   listed-told false n s e = absurd (cc)
 
-  goes-told : (o : Option Sleeping) (t : ℕ) → list_any ends_for_want (acts.sleeper_goes o ++ acts.pend_tick t) ≡ true → ⊥
+  goes-told : (o : Option Sleeping) (t : ℕ) → list_any ends_for_want (acts.sleeper_goes o ++ acts.pend_tick t) ≡ true →
+      ⊥
   goes-told None t e = absurd (cc)
   goes-told (Some s) t e = by s.waker e
     where
@@ -205,7 +235,8 @@ module _ (p : ℕ) (w : World) where
       by (Task g) k = absurd (cc)
       by (Outside x) k = absurd (cc)
 
-  again-told : (o : Option ℕ) (n : ℕ) (s : Sleeping) → list_any ends_for_want (acts.lie_again_by o w n s).next ≡ true → ⊥
+  again-told : (o : Option ℕ) (n : ℕ) (s : Sleeping) → list_any ends_for_want (acts.lie_again_by o w n s).next ≡ true →
+      ⊥
   again-told None n s e = listed-told _ n s e
   again-told (Some at) n s e = goes-told (waker_at (Some at) w.sleepers.wakers) s.tick e
 
@@ -214,27 +245,45 @@ module _ (p : ℕ) (w : World) where
   lie-told (Lies n) s e = again-told _ n s e
   lie-told Left s e = absurd (cc)
 
-  copied-told : (refused small : Bool) (s : Sleeping) → list_any ends_for_want (acts.copy_sleeper_by (refused || not small) w s).next ≡ true → (refused ≡ true) ⊎ (small ≡ false)
+  copied-told : (refused small : Bool) (s : Sleeping) →
+      list_any ends_for_want (acts.copy_sleeper_by (refused || not small) w s).next ≡ true →
+      (refused ≡ true) ⊎ (small ≡ false)
   copied-told true small s e = inl refl
   copied-told false true s e = absurd (cc)
   copied-told false false s e = inr refl
 
-  outside-copied-told : (refused : Bool) (s : Sleeping) → list_any ends_for_want (acts.copy_sleeper_by refused w s).next ≡ true → refused ≡ true
+  outside-copied-told : (refused : Bool) (s : Sleeping) → list_any ends_for_want (acts.copy_sleeper_by refused w s).next
+      ≡ true → refused ≡ true
   outside-copied-told true s e = refl
   outside-copied-told false s e = absurd (cc)
 
   many : (n : ℕ) → nat_lt n most_references ≡ false → most_references ≤ n
   many n e = grind (arith, nat_tests)
 
-  sleeper-told : (h : Hint) (a : Waker) (t k : ℕ) → list_any ends_for_want (acts.copy_sleeper h w (record { waker = a; tick = t; poll = k })).next ≡ true → (h.refused ≡ true) ⊎ IsFull a w
-  sleeper-told h (Task g) t k e = ⊎_elim (λ (x : h.refused ≡ true). inl x) (λ (x : nat_lt (task w g).references most_references ≡ false). inr (many (task w g).references x)) (copied-told h.refused (nat_lt (task w g).references most_references) (record { waker = Task g; tick = t; poll = k }) e)
-  sleeper-told h (Outside x) t k e = inl (outside-copied-told h.refused (record { waker = Outside x; tick = t; poll = k }) e)
+  sleeper-told : (h : Hint) (a : Waker) (t k : ℕ) →
+      list_any ends_for_want (acts.copy_sleeper h w (record { waker = a; tick = t; poll = k })).next ≡ true →
+      (h.refused ≡ true) ⊎ IsFull a w
+  sleeper-told h (Task g) t k e =
+      ⊎_elim (λ (x : h.refused ≡ true). inl x)
+      (λ (x : nat_lt (task w g).references most_references ≡ false). inr (many (task w g).references x))
+      (copied-told h.refused (nat_lt (task w g).references most_references)
+      (record { waker = Task g; tick = t; poll = k }) e)
+  sleeper-told h (Outside x) t k e =
+      inl (outside-copied-told h.refused (record { waker = Outside x; tick = t; poll = k }) e)
 
-  told : (h : Hint) (o : Op) → list_any ends_for_want (act p h o w).next ≡ true → (h.refused ≡ true) ⊎ CopiesOneTooMany o w
+  told : (h : Hint) (o : Op) → list_any ends_for_want (act p h o w).next ≡ true →
+      (h.refused ≡ true) ⊎ CopiesOneTooMany o w
   told h (op.Table table_op.Enter) e = inl (enter-told _ h.refused e)
-  told h (op.Waker (waker_op.CopyWaker f held)) e = ⊎_elim (λ (x : h.refused ≡ true). inl x) (λ (x : nat_lt (task w f).references most_references ≡ false). inr (many (task w f).references x)) (copy-told h.refused (nat_lt (task w f).references most_references) f held e)
-  told h (op.Handle (handle_op.Look f a)) e = absurd (look-told (task w f).closed (is_going (task w f)) (task w f).completed f a e)
-  told h (op.Handle (handle_op.CopyAwaiter f (Task g))) e = ⊎_elim (λ (x : h.refused ≡ true). inl x) (λ (x : nat_lt (task w g).references most_references ≡ false). inr (many (task w g).references x)) (awaiter-told h.refused (nat_lt (task w g).references most_references) f (Task g) e)
+  told h (op.Waker (waker_op.CopyWaker f held)) e =
+      ⊎_elim (λ (x : h.refused ≡ true). inl x)
+      (λ (x : nat_lt (task w f).references most_references ≡ false). inr (many (task w f).references x))
+      (copy-told h.refused (nat_lt (task w f).references most_references) f held e)
+  told h (op.Handle (handle_op.Look f a)) e =
+      absurd (look-told (task w f).closed (is_going (task w f)) (task w f).completed f a e)
+  told h (op.Handle (handle_op.CopyAwaiter f (Task g))) e =
+      ⊎_elim (λ (x : h.refused ≡ true). inl x)
+      (λ (x : nat_lt (task w g).references most_references ≡ false). inr (many (task w g).references x))
+      (awaiter-told h.refused (nat_lt (task w g).references most_references) f (Task g) e)
   told h (op.Handle (handle_op.CopyAwaiter f (Outside x))) e = inl (outside-told h.refused f (Outside x) e)
   told h (op.Tick tick_op.MakeTick) e = inl (make-told h.refused e)
   told h (op.Tick (tick_op.Search s)) e = absurd (search-told (tick_of w s.tick) w.queue.items s e)
@@ -243,7 +292,8 @@ module _ (p : ℕ) (w : World) where
   told h (op.End r held) e = absurd (cc)
   told h o e = absurd (not-both _ (wants-refuse (act p h o w).next e) ((needs-no-memory w p).goes_on h o refl))
 
-  none-with : (o : Option ℕ) (d : ℕ → Done) → ((f : ℕ) → list_any ends_for_want (d f).next ≡ false) → list_any ends_for_want (with_future w o d).next ≡ false
+  none-with : (o : Option ℕ) (d : ℕ → Done) → ((f : ℕ) → list_any ends_for_want (d f).next ≡ false) →
+      list_any ends_for_want (with_future w o d).next ≡ false
   none-with (Some f) d k = k f
   none-with None d k = refl
 
@@ -257,7 +307,14 @@ module _ (p : ℕ) (w : World) where
   begins-told here _ = refl
 
 pub refused-changes-nothing : (w : World) (p : ℕ) → RefusedChangesNothing w p
-refused-changes-nothing w p = record { begins = begins-unchanged p w; polls = λ here t b. refl; goes_on = unchanged p w; copies = λ h s. copies-unchanged p w _ s; lies = λ s. tick-lies p w (tick_of w s.tick) s }
+refused-changes-nothing w p =
+    record {
+      begins = begins-unchanged p w;
+      polls = λ here t b. refl;
+      goes_on = unchanged p w;
+      copies = λ h s. copies-unchanged p w _ s;
+      lies = λ s. tick-lies p w (tick_of w s.tick) s;
+    }
 
 pub want-is-told-of : (w : World) (p : ℕ) → IsWantToldOf w p
 want-is-told-of w p = record { begins = begins-told p w; goes_on = told p w }

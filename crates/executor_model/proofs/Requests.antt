@@ -22,7 +22,13 @@ abbrev pub notes : ℕ → Event → Request → Request
 notes g (Accepted p f) s = record s { asked = cond (g == f) true s.asked }
 notes g (Woken p f) s = record s { asked = cond (g == f) true s.asked; woken = cond (g == f) true s.woken }
 notes g (Cancelled p f) s = record s { asked = cond (g == f) true s.asked }
-notes g (PollBegun p f) s = record s { asked = cond (g == f) false s.asked; woken = cond (g == f) false s.woken; polled = cond (g == f) true s.polled; unasked = s.unasked + cond s.polled (cond s.woken 0 (same g f)) 0 }
+notes g (PollBegun p f) s =
+    record s {
+      asked = cond (g == f) false s.asked;
+      woken = cond (g == f) false s.woken;
+      polled = cond (g == f) true s.polled;
+      unasked = s.unasked + cond s.polled (cond s.woken 0 (same g f)) 0;
+    }
 notes g (Answered p f Ready) s = record s { ready = cond (g == f) true s.ready }
 notes g _ s = s
 
@@ -33,7 +39,8 @@ request_from g s (e ∷ es) = request_from g (notes g e s) es
 unfoldable pub request : ℕ → Trace → Request
 request g es = request_from g unheard es
 
-request_from-push : (g : ℕ) (s : Request) (es : Trace) (e : Event) → request_from g s (es ++ e ∷ []) ≡ notes g e (request_from g s es)
+request_from-push : (g : ℕ) (s : Request) (es : Trace) (e : Event) →
+    request_from g s (es ++ e ∷ []) ≡ notes g e (request_from g s es)
 request_from-push g s [] e = refl
 request_from-push g s (x ∷ es) e = request_from-push g (notes g x s) es e
 

@@ -14,7 +14,9 @@ use Rattle.executor_model.specs.declared.op.TickOp.TheVariants as tick_op
 use Rattle.executor_model.specs.declared.op.Waker.{Waker}
 use Rattle.executor_model.specs.declared.op.Waker.TheVariants.{Task, Outside}
 use Rattle.executor_model.specs.World.{World, Tick, Up, Lies, Left, log, task}
-use Rattle.executor_model.specs.Acts.{exchange_by, hand_out_by, call_sleeper, make_tick_by, search_by, copy_sleeper_by, lie_anew_by, lie_listed_by, lie_again_by, lie_down_by, get_up_by, leave_sleepers_by}
+use Rattle.executor_model.specs.Acts.{exchange_by, hand_out_by, call_sleeper, make_tick_by, search_by}
+use Rattle.executor_model.specs.Acts.{copy_sleeper_by, lie_anew_by, lie_listed_by, lie_again_by}
+use Rattle.executor_model.specs.Acts.{lie_down_by, get_up_by, leave_sleepers_by}
 use Rattle.executor_model.specs.Weights.{same}
 use Rattle.executor_model.specs.Good.{IsKnownWaker}
 use Rattle.executor_model.specs.Sound.{with_ops, times}
@@ -32,20 +34,39 @@ awaits-exchange = by_bool _
     (λ w g r yy mm bb h. grind arith)
     (λ w g r yy mm bb h. grind arith)
 
-pub awaits-hand_out : (b : Bool) (o : Option Sleeping) (w : World) → KeepsAwaits w (op.Sleeper sleeper_op.HandOut ∷ []) (hand_out_by b o w)
+pub awaits-hand_out : (b : Bool) (o : Option Sleeping) (w : World) →
+    KeepsAwaits w (op.Sleeper sleeper_op.HandOut ∷ []) (hand_out_by b o w)
 awaits-hand_out false o w g r yy mm bb h = grind arith
 awaits-hand_out true None w g r yy mm bb h = grind arith
 awaits-hand_out true (Some s) w g r yy mm bb h = grind arith
 
-awaits-call_task : (o b c : Bool) (p t k : ℕ) (w : World) (f : ℕ) → (moves.is_over (task w f) || (task w f).scheduled) ≡ b → (task w f).running ≡ c → f < length w.tasks → KeepsAwaits w (op.Sleeper (sleeper_op.CallSleeper (asleep (Task f) t k)) ∷ []) (woken_by o b c p (log w (event.WakerCalled p (of.Tick t) k (Task f))) f)
+awaits-call_task : (o b c : Bool) (p t k : ℕ) (w : World) (f : ℕ) →
+    (moves.is_over (task w f) || (task w f).scheduled) ≡ b → (task w f).running ≡ c → f < length w.tasks →
+    KeepsAwaits w (op.Sleeper (sleeper_op.CallSleeper (asleep (Task f) t k)) ∷ [])
+    (woken_by o b c p (log w (event.WakerCalled p (of.Tick t) k (Task f))) f)
 awaits-call_task o b c p t k w f d q i g r yy mm bb h =
     let called : World = log w (event.WakerCalled p (of.Tick t) k (Task f)) in
-    let stand : Footing called g (with_ops g (op.Move move.Wake f ∷ []) r) (with_awaiting g (op.Move move.Wake f ∷ []) yy) =
-    record { one = bb.one; live = bb.live; ends = bb.ends; drop = bb.drop; carries = bb.carries; rests = bb.rests; lent = bb.lent; done = grind (arith, heard-push); stages = bb.stages; few = bb.few; tied = bb.tied } in
-    let waits : Awaits called g (with_ops g (op.Move move.Wake f ∷ []) r) (with_awaiting g (op.Move move.Wake f ∷ []) yy) mm = grind (arith, same_is, heard-push) in
+    let stand : Footing called g (with_ops g (op.Move move.Wake f ∷ []) r)
+    (with_awaiting g (op.Move move.Wake f ∷ []) yy) =
+    record {
+      one = bb.one;
+      live = bb.live;
+      ends = bb.ends;
+      drop = bb.drop;
+      carries = bb.carries;
+      rests = bb.rests;
+      lent = bb.lent;
+      done = grind (arith, heard-push);
+      stages = bb.stages;
+      few = bb.few;
+      tied = bb.tied;
+    } in
+    let waits : Awaits called g (with_ops g (op.Move move.Wake f ∷ []) r)
+    (with_awaiting g (op.Move move.Wake f ∷ []) yy) mm = grind (arith, same_is, heard-push) in
     awaits-wake o b c p called f d q i g r yy mm stand waits
 
-pub awaits-call_sleeper : (p t k : ℕ) (a : Waker) (w : World) → IsKnownWaker w a → KeepsAwaits w (op.Sleeper (sleeper_op.CallSleeper (asleep a t k)) ∷ []) (call_sleeper p w (asleep a t k))
+pub awaits-call_sleeper : (p t k : ℕ) (a : Waker) (w : World) → IsKnownWaker w a →
+    KeepsAwaits w (op.Sleeper (sleeper_op.CallSleeper (asleep a t k)) ∷ []) (call_sleeper p w (asleep a t k))
 awaits-call_sleeper p t k (Task f) w i = awaits-call_task (moves.is_over (task w f)) _ _ p t k w f refl refl i
 awaits-call_sleeper p t k (Outside x) w i = λ g r yy mm bb h. grind (arith, same_is, heard-push)
 
@@ -56,66 +77,87 @@ awaits-make_tick = by_bool _
     (λ w g r yy mm bb h. grind arith)
     (λ w g r yy mm bb h. grind arith)
 
-pub awaits-search : (t : Tick) (q : List ℕ) (w : World) (s : Sleeping) → w.queue.items ≡ q → KeepsAwaits w (op.Tick (tick_op.Search s) ∷ []) (search_by t w q s)
+pub awaits-search : (t : Tick) (q : List ℕ) (w : World) (s : Sleeping) → w.queue.items ≡ q →
+    KeepsAwaits w (op.Tick (tick_op.Search s) ∷ []) (search_by t w q s)
 awaits-search t [] w s e g r yy mm bb h = grind arith
-awaits-search Up (f ∷ rest) w s e g r yy mm bb h = let z : same g f + times g (drop 1 w.queue.items) ≡ times g w.queue.items = times-drop g f rest w.queue.items e in grind (arith, same_is)
-awaits-search (Lies n) (f ∷ rest) w s e g r yy mm bb h = let z : same g f + times g (drop 1 w.queue.items) ≡ times g w.queue.items = times-drop g f rest w.queue.items e in grind (arith, same_is)
-awaits-search Left (f ∷ rest) w s e g r yy mm bb h = let z : same g f + times g (drop 1 w.queue.items) ≡ times g w.queue.items = times-drop g f rest w.queue.items e in grind (arith, same_is)
+awaits-search Up (f ∷ rest) w s e g r yy mm bb h =
+    let z : same g f + times g (drop 1 w.queue.items) ≡ times g w.queue.items = times-drop g f rest w.queue.items e in
+    grind (arith, same_is)
+awaits-search (Lies n) (f ∷ rest) w s e g r yy mm bb h =
+    let z : same g f + times g (drop 1 w.queue.items) ≡ times g w.queue.items = times-drop g f rest w.queue.items e in
+    grind (arith, same_is)
+awaits-search Left (f ∷ rest) w s e g r yy mm bb h =
+    let z : same g f + times g (drop 1 w.queue.items) ≡ times g w.queue.items = times-drop g f rest w.queue.items e in
+    grind (arith, same_is)
 
-pub awaits-copy_sleeper : (b : Bool) (a : Waker) (t k : ℕ) (w : World) → IsKnownWaker w a → KeepsAwaits w (op.Tick (tick_op.CopyWaker (asleep a t k)) ∷ []) (copy_sleeper_by b w (asleep a t k))
+pub awaits-copy_sleeper : (b : Bool) (a : Waker) (t k : ℕ) (w : World) → IsKnownWaker w a →
+    KeepsAwaits w (op.Tick (tick_op.CopyWaker (asleep a t k)) ∷ []) (copy_sleeper_by b w (asleep a t k))
 awaits-copy_sleeper true a t k w e g r yy mm bb h = grind arith
-awaits-copy_sleeper false (Task m) t k w e g r yy mm bb h = let z : m < length w.tasks = e in grind (arith, same_is, read_put, length-set)
+awaits-copy_sleeper false (Task m) t k w e g r yy mm bb h = let z : m < length w.tasks = e in
+    grind (arith, same_is, read_put, length-set)
 awaits-copy_sleeper false (Outside x) t k w e g r yy mm bb h = grind arith
 
-awaits-lie_anew : (b : Bool) (w : World) (s : Sleeping) → KeepsAwaits w (op.Tick (tick_op.LieDown s) ∷ []) (lie_anew_by b w s)
+awaits-lie_anew : (b : Bool) (w : World) (s : Sleeping) →
+    KeepsAwaits w (op.Tick (tick_op.LieDown s) ∷ []) (lie_anew_by b w s)
 awaits-lie_anew = by_bool _
     (λ w s g r yy mm bb h. grind arith)
     (λ w s g r yy mm bb h. grind arith)
 
-awaits-lie_listed : (b : Bool) (w : World) (n : ℕ) (s : Sleeping) → KeepsAwaits w (op.Tick (tick_op.LieDown s) ∷ []) (lie_listed_by b w n s)
+awaits-lie_listed : (b : Bool) (w : World) (n : ℕ) (s : Sleeping) →
+    KeepsAwaits w (op.Tick (tick_op.LieDown s) ∷ []) (lie_listed_by b w n s)
 awaits-lie_listed = by_bool _
     (λ w n s g r yy mm bb h. grind arith)
     (λ w n s g r yy mm bb h. grind arith)
 
-awaits-replaced_with : (a : Waker) (u k : ℕ) (w : World) (n at : ℕ) (s : Sleeping) → KeepsAwaits w (op.Tick (tick_op.LieDown s) ∷ []) (replaced (Some (asleep a u k)) w n at s)
+awaits-replaced_with : (a : Waker) (u k : ℕ) (w : World) (n at : ℕ) (s : Sleeping) →
+    KeepsAwaits w (op.Tick (tick_op.LieDown s) ∷ []) (replaced (Some (asleep a u k)) w n at s)
 awaits-replaced_with (Task m) u k w n at s g r yy mm bb h = grind arith
 awaits-replaced_with (Outside x) u k w n at s g r yy mm bb h = grind arith
 
-awaits-replaced : (old : Option Sleeping) (w : World) (n at : ℕ) (s : Sleeping) → KeepsAwaits w (op.Tick (tick_op.LieDown s) ∷ []) (replaced old w n at s)
+awaits-replaced : (old : Option Sleeping) (w : World) (n at : ℕ) (s : Sleeping) →
+    KeepsAwaits w (op.Tick (tick_op.LieDown s) ∷ []) (replaced old w n at s)
 awaits-replaced None w n at s g r yy mm bb h = grind arith
 awaits-replaced (Some o) w n at s g r yy mm bb h = awaits-replaced_with o.waker o.tick o.poll w n at s g r yy mm bb h
 
-awaits-lie_again : (o : Option ℕ) (w : World) (n : ℕ) (s : Sleeping) → KeepsAwaits w (op.Tick (tick_op.LieDown s) ∷ []) (lie_again_by o w n s)
+awaits-lie_again : (o : Option ℕ) (w : World) (n : ℕ) (s : Sleeping) →
+    KeepsAwaits w (op.Tick (tick_op.LieDown s) ∷ []) (lie_again_by o w n s)
 awaits-lie_again None w n s = awaits-lie_listed _ w n s
 awaits-lie_again (Some at) w n s = awaits-replaced (waker_at (Some at) w.sleepers.wakers) w n at s
 
-pub awaits-lie_down : (t : Tick) (w : World) (s : Sleeping) → KeepsAwaits w (op.Tick (tick_op.LieDown s) ∷ []) (lie_down_by t w s)
+pub awaits-lie_down : (t : Tick) (w : World) (s : Sleeping) →
+    KeepsAwaits w (op.Tick (tick_op.LieDown s) ∷ []) (lie_down_by t w s)
 awaits-lie_down Up w s = awaits-lie_anew _ w s
 awaits-lie_down (Lies n) w s = awaits-lie_again _ w n s
 awaits-lie_down Left w s = λ g r yy mm bb h. grind arith
 
-awaits-gone_up_with : (a : Waker) (u k : ℕ) (w : World) (n t f : ℕ) → KeepsAwaits w (op.Tick (tick_op.GetUp t f) ∷ []) (gone_up (Some (asleep a u k)) w n t f)
+awaits-gone_up_with : (a : Waker) (u k : ℕ) (w : World) (n t f : ℕ) →
+    KeepsAwaits w (op.Tick (tick_op.GetUp t f) ∷ []) (gone_up (Some (asleep a u k)) w n t f)
 awaits-gone_up_with (Task m) u k w n t f g r yy mm bb h = grind arith
 awaits-gone_up_with (Outside x) u k w n t f g r yy mm bb h = grind arith
 
-awaits-gone_up : (old : Option Sleeping) (w : World) (n t f : ℕ) → KeepsAwaits w (op.Tick (tick_op.GetUp t f) ∷ []) (gone_up old w n t f)
+awaits-gone_up : (old : Option Sleeping) (w : World) (n t f : ℕ) →
+    KeepsAwaits w (op.Tick (tick_op.GetUp t f) ∷ []) (gone_up old w n t f)
 awaits-gone_up None w n t f g r yy mm bb h = grind arith
 awaits-gone_up (Some o) w n t f g r yy mm bb h = awaits-gone_up_with o.waker o.tick o.poll w n t f g r yy mm bb h
 
-pub awaits-get_up : (x : Tick) (w : World) (t f : ℕ) → KeepsAwaits w (op.Tick (tick_op.GetUp t f) ∷ []) (get_up_by x w t f)
+pub awaits-get_up : (x : Tick) (w : World) (t f : ℕ) →
+    KeepsAwaits w (op.Tick (tick_op.GetUp t f) ∷ []) (get_up_by x w t f)
 awaits-get_up Up w t f = λ g r yy mm bb h. grind arith
 awaits-get_up (Lies n) w t f = awaits-gone_up (waker_of n w.sleepers.wakers) w n t f
 awaits-get_up Left w t f = λ g r yy mm bb h. grind arith
 
-awaits-gone_off_with : (a : Waker) (u k : ℕ) (w : World) (n t : ℕ) → KeepsAwaits w (op.Tick (tick_op.Leave t) ∷ []) (gone_off (Some (asleep a u k)) w n t)
+awaits-gone_off_with : (a : Waker) (u k : ℕ) (w : World) (n t : ℕ) →
+    KeepsAwaits w (op.Tick (tick_op.Leave t) ∷ []) (gone_off (Some (asleep a u k)) w n t)
 awaits-gone_off_with (Task m) u k w n t g r yy mm bb h = grind arith
 awaits-gone_off_with (Outside x) u k w n t g r yy mm bb h = grind arith
 
-awaits-gone_off : (old : Option Sleeping) (w : World) (n t : ℕ) → KeepsAwaits w (op.Tick (tick_op.Leave t) ∷ []) (gone_off old w n t)
+awaits-gone_off : (old : Option Sleeping) (w : World) (n t : ℕ) →
+    KeepsAwaits w (op.Tick (tick_op.Leave t) ∷ []) (gone_off old w n t)
 awaits-gone_off None w n t g r yy mm bb h = grind arith
 awaits-gone_off (Some o) w n t g r yy mm bb h = awaits-gone_off_with o.waker o.tick o.poll w n t g r yy mm bb h
 
-pub awaits-leave_sleepers : (x : Tick) (w : World) (t : ℕ) → KeepsAwaits w (op.Tick (tick_op.Leave t) ∷ []) (leave_sleepers_by x w t)
+pub awaits-leave_sleepers : (x : Tick) (w : World) (t : ℕ) →
+    KeepsAwaits w (op.Tick (tick_op.Leave t) ∷ []) (leave_sleepers_by x w t)
 awaits-leave_sleepers Up w t = λ g r yy mm bb h. grind arith
 awaits-leave_sleepers (Lies n) w t = awaits-gone_off (waker_of n w.sleepers.wakers) w n t
 awaits-leave_sleepers Left w t = λ g r yy mm bb h. grind arith

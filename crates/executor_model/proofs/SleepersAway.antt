@@ -54,7 +54,8 @@ pub record Away (w : World) (d : Done) : Type 0 where
 same-queue : (w v : World) → v.queue ≡ w.queue → length v.queue.items ≤ length w.queue.items
 same-queue w v e = omega (arith, ap (λ q. length q.items) e)
 
-pub away : (w : World) (d : Done) → beds w ≡ beds d.world → d.world.queue ≡ w.queue → weigh hands_of d.next ≡ 0 → Away w d
+pub away : (w : World) (d : Done) → beds w ≡ beds d.world → d.world.queue ≡ w.queue → weigh hands_of d.next ≡ 0 →
+    Away w d
 away w d b q h = record { beds = b; hands = h; queue = same-queue w d.world q }
 
 no-hands-both : (xs ys : List Op) → weigh hands_of xs ≡ 0 → weigh hands_of ys ≡ 0 → weigh hands_of (xs ++ ys) ≡ 0
@@ -64,7 +65,17 @@ no-hands-awaiter : (f : ℕ) (o : Option AwaiterDebt) → weigh hands_of (awaite
 no-hands-awaiter f o = owed-awaiter hands_of f (record { notify = λ m. refl }) o
 
 no-hands-owed : (f : ℕ) (there : Bool) (o : Owed) → weigh hands_of (owed_ops there f o) ≡ 0
-no-hands-owed f there o = owed-nothing hands_of f (record { append = refl; output = refl; release = refl; settle_closed = refl; give_up = refl; end_closed = refl; detach = refl }) there o (owed-future hands_of f (record { poll = refl; drop = refl }) there o.future) (no-hands-awaiter f o.awaiter)
+no-hands-owed f there o =
+    owed-nothing hands_of f (record {
+      append = refl;
+      output = refl;
+      release = refl;
+      settle_closed = refl;
+      give_up = refl;
+      end_closed = refl;
+      detach = refl;
+    }) there o (owed-future hands_of f (record { poll = refl; drop = refl }) there o.future)
+    (no-hands-awaiter f o.awaiter)
 
 beds-log_if : (b : Bool) (w : World) (e : Event) → beds w ≡ beds (log_if b w e)
 beds-log_if true w e = refl
@@ -75,10 +86,13 @@ queue-log_if true w e = refl
 queue-log_if false w e = refl
 
 -- a move of a task
-away-moved : (b : Bool) (w v : World) (e : Event) (f : ℕ) (m : Moved) → beds w ≡ beds v → v.queue ≡ w.queue → Away w (carried (log_if b v e) f m)
-away-moved b w v e f m x y = away w (carried (log_if b v e) f m) (x ∙ beds-log_if b v e) (queue-log_if b v e ∙ y) (no-hands-owed f (among f (log_if b v e).table) m.owed)
+away-moved : (b : Bool) (w v : World) (e : Event) (f : ℕ) (m : Moved) → beds w ≡ beds v → v.queue ≡ w.queue →
+    Away w (carried (log_if b v e) f m)
+away-moved b w v e f m x y = away w (carried (log_if b v e) f m) (x ∙ beds-log_if b v e) (queue-log_if b v e ∙ y)
+    (no-hands-owed f (among f (log_if b v e).table) m.owed)
 
-away-move : (b : Bool) (m : Move) (p : ℕ) (w v : World) (f : ℕ) → beds w ≡ beds v → v.queue ≡ w.queue → Away w (acts.move_by b m p v f)
+away-move : (b : Bool) (m : Move) (p : ℕ) (w v : World) (f : ℕ) → beds w ≡ beds v → v.queue ≡ w.queue →
+    Away w (acts.move_by b m p v f)
 away-move true m p w v f x y = away-moved _ w v (acts.told_as m p f) f (moves.after m (task v f)) x y
 away-move false m p w v f x y = away w _ x y refl
 
@@ -112,8 +126,12 @@ away-copy : (b : Bool) (w : World) (f : ℕ) (held : Hold) → Away w (acts.copy
 away-copy true w f held = away w _ refl refl refl
 away-copy false w f held = away w _ refl refl refl
 
-away-answered : (p : ℕ) (w v : World) (f : ℕ) (m : Moved) (a : Answer) → beds w ≡ beds v → v.queue ≡ w.queue → Away w (acts.answered p v f m a)
-away-answered p w v f m a x y = away w (acts.answered p v f m a) (x ∙ beds-log_if _ (put v f m.state) (event.OutputGiven p f)) (queue-log_if _ (put v f m.state) (event.OutputGiven p f) ∙ y) (no-hands-both (awaiter_ops f m.owed.awaiter) _ (no-hands-awaiter f m.owed.awaiter) refl)
+away-answered : (p : ℕ) (w v : World) (f : ℕ) (m : Moved) (a : Answer) → beds w ≡ beds v → v.queue ≡ w.queue →
+    Away w (acts.answered p v f m a)
+away-answered p w v f m a x y =
+    away w (acts.answered p v f m a) (x ∙ beds-log_if _ (put v f m.state) (event.OutputGiven p f))
+    (queue-log_if _ (put v f m.state) (event.OutputGiven p f) ∙ y)
+    (no-hands-both (awaiter_ops f m.owed.awaiter) _ (no-hands-awaiter f m.owed.awaiter) refl)
 
 away-look : (o : Option Answer) (p : ℕ) (w : World) (f : ℕ) (a : Waker) (m : Moved) → Away w (acts.look_by o p w f a m)
 away-look None p w f a m = away w _ refl refl refl
@@ -141,8 +159,12 @@ no-hands-let_go None = refl
 no-hands-let_go (Some a) = no-hands-goes a.waker
 
 away-end_register : (b : Bool) (w : World) (f : ℕ) (a : Waker) (k : ℕ) → Away w (acts.end_register_by b w f a k)
-away-end_register true w f a k = away w _ refl refl (no-hands-both (op.Waker (waker_op.CallAwaiter f a k) ∷ acts.let_go (awaiter_of w f)) (op.Handle (handle_op.LookAgain f) ∷ []) (omega (arith, no-hands-let_go (awaiter_of w f))) refl)
-away-end_register false w f a k = away w _ refl refl (no-hands-both (acts.let_go (awaiter_of w f)) (op.Handle (handle_op.LookAgain f) ∷ []) (no-hands-let_go (awaiter_of w f)) refl)
+away-end_register true w f a k =
+    away w _ refl refl (no-hands-both (op.Waker (waker_op.CallAwaiter f a k) ∷ acts.let_go (awaiter_of w f))
+    (op.Handle (handle_op.LookAgain f) ∷ []) (omega (arith, no-hands-let_go (awaiter_of w f))) refl)
+away-end_register false w f a k =
+    away w _ refl refl (no-hands-both (acts.let_go (awaiter_of w f)) (op.Handle (handle_op.LookAgain f) ∷ [])
+    (no-hands-let_go (awaiter_of w f)) refl)
 
 away-notify : (b : Bool) (w : World) (f : ℕ) (mine : Bool) → Away w (acts.notify_by b w f mine)
 away-notify true w f mine = away w _ refl refl refl
@@ -169,7 +191,12 @@ away-wake_next p w [] = away w _ refl refl refl
 away-wake_next p w (f ∷ rest) =
     let v : World = record w { waking = rest } in
     let m : Away w (acts.wake p v f) = away-move true move.Wake p w v f refl refl in
-    record { beds = m.beds; hands = no-hands-both (acts.wake p v f).next (acts.closing_ops [] rest) m.hands (no-hands-closing [] rest); queue = m.queue }
+    record {
+      beds = m.beds;
+      hands = no-hands-both (acts.wake p v f).next (acts.closing_ops [] rest) m.hands
+          (no-hands-closing [] rest);
+      queue = m.queue;
+    }
 
 away-drain : (p : ℕ) (w : World) (q : List ℕ) → w.queue.items ≡ q → Away w (acts.drain_by p w q)
 away-drain p w [] e = away w _ refl refl refl

@@ -18,16 +18,21 @@ use Rattle.executor_model.specs.declared.op.Waker.{Waker}
 use Rattle.executor_model.specs.declared.op.Waker.TheVariants.{Task, Outside}
 use Rattle.executor_model.specs.declared.step.Hint.{Hint}
 use Rattle.executor_model.specs.World.{World, Tick, Up, Lies, Left, log}
-use Rattle.executor_model.specs.Acts.{exchange_by, hand_out_by, call_waker, make_tick_by, run_found, search_by, copied, copy_sleeper_by, lie_anew_by, sleeper_goes, lie_listed_by, lie_again_by, lie_down_by, get_up_by, tell_if, leave_sleepers_by, sleeper_act, tick_act}
+use Rattle.executor_model.specs.Acts.{exchange_by, hand_out_by, call_waker, make_tick_by, run_found, search_by, copied}
+use Rattle.executor_model.specs.Acts.{copy_sleeper_by, lie_anew_by, sleeper_goes, lie_listed_by, lie_again_by}
+use Rattle.executor_model.specs.Acts.{lie_down_by, get_up_by, tell_if, leave_sleepers_by, sleeper_act, tick_act}
 use Rattle.executor_model.specs.Weights.{weigh}
-use Rattle.executor_model.proofs.Calls.{calling_of, Steady, steady-same, steady-log, steady-and, steady-wake, Answering, Calls, inside, answers, single, then, none-wake, none-both}
+use Rattle.executor_model.proofs.Calls.{calling_of, Steady, steady-same, steady-log, steady-and, steady-wake, Answering}
+use Rattle.executor_model.proofs.Calls.{Calls, inside, answers, single, then, none-wake, none-both}
 use Rattle.executor_model.proofs.SleepersNext.{Unseen, goes-unseen, tell-unseen, sleeper-unseen}
 
 unseen : Unseen calling_of
 unseen = record { hand = refl; call = λ s. refl; outside = λ x. refl; wake = λ p w f. none-wake p w f }
 
 steady-call : (p : ℕ) (w : World) (o : Polled) (a : Waker) (k : ℕ) → Steady w (call_waker p w o a k).world
-steady-call p w o (Task m) k = let v = log w (event.WakerCalled p o k (Task m)) in steady-and w v _ (steady-log w v (event.WakerCalled p o k (Task m)) refl (λ q. refl) (λ q. refl)) (steady-wake p v m)
+steady-call p w o (Task m) k = let v = log w (event.WakerCalled p o k (Task m)) in
+    steady-and w v _ (steady-log w v (event.WakerCalled p o k (Task m)) refl (λ q. refl) (λ q. refl))
+    (steady-wake p v m)
 steady-call p w o (Outside x) k = steady-log w _ (event.WakerCalled p o k (Outside x)) refl (λ q. refl) (λ q. refl)
 
 steady-exchange : (b : Bool) (w : World) → Steady w (exchange_by b w).world
@@ -49,7 +54,8 @@ idle sleeper_op.HandOut = refl
 idle (sleeper_op.CallSleeper s) = refl
 
 pub calls-sleeper : (p : ℕ) (o : SleeperOp) (w : World) → Calls w (op.Sleeper o) (sleeper_act p o w)
-calls-sleeper p o w = inside w (op.Sleeper o) (sleeper_act p o w) (idle o) (steady-sleeper p o w) (sleeper-unseen calling_of unseen p o w)
+calls-sleeper p o w = inside w (op.Sleeper o) (sleeper_act p o w) (idle o) (steady-sleeper p o w)
+    (sleeper-unseen calling_of unseen p o w)
 
 -- more in front of what answers
 before : (xs ys : List Op) → weigh calling_of xs ≡ 0 → Answering ys → Answering (xs ++ ys)
@@ -68,7 +74,8 @@ calls-make : (b : Bool) (w : World) → Calls w (op.Tick tick_op.MakeTick) (make
 calls-make true w = answers w _ _ refl (steady-same _ _ refl) (single _ refl)
 calls-make false w = answers w _ _ refl (steady-same _ _ refl) (single _ refl)
 
-calls-search : (x : Tick) (w : World) (q : List ℕ) (s : Sleeping) → Calls w (op.Tick (tick_op.Search s)) (search_by x w q s)
+calls-search : (x : Tick) (w : World) (q : List ℕ) (s : Sleeping) →
+    Calls w (op.Tick (tick_op.Search s)) (search_by x w q s)
 calls-search x w [] s = answers w _ _ refl (steady-same _ _ refl) (single _ refl)
 calls-search Up w (f ∷ rest) s = answers w _ _ refl (steady-same _ _ refl) (found s.tick f)
 calls-search (Lies n) w (f ∷ rest) s = answers w _ _ refl (steady-same _ _ refl) (single _ refl)
@@ -84,31 +91,42 @@ calls-copy false w s = answers w _ _ refl (steady-copied w s.waker) (single _ re
 
 calls-anew : (b : Bool) (w : World) (s : Sleeping) → Calls w (op.Tick (tick_op.LieDown s)) (lie_anew_by b w s)
 calls-anew true w s = answers w _ _ refl (steady-same _ _ refl) (single _ refl)
-calls-anew false w s = answers w _ _ refl (steady-same _ _ refl) (then (op.Sleeper (sleeper_op.CallSleeper s) ∷ []) _ refl refl)
+calls-anew false w s = answers w _ _ refl (steady-same _ _ refl)
+    (then (op.Sleeper (sleeper_op.CallSleeper s) ∷ []) _ refl refl)
 
-calls-listed : (b : Bool) (w : World) (n : ℕ) (s : Sleeping) → Calls w (op.Tick (tick_op.LieDown s)) (lie_listed_by b w n s)
+calls-listed : (b : Bool) (w : World) (n : ℕ) (s : Sleeping) →
+    Calls w (op.Tick (tick_op.LieDown s)) (lie_listed_by b w n s)
 calls-listed true w n s = answers w _ _ refl (steady-same _ _ refl) (single _ refl)
-calls-listed false w n s = answers w _ _ refl (steady-same _ _ refl) (then (op.Sleeper (sleeper_op.CallSleeper s) ∷ []) _ refl refl)
+calls-listed false w n s =
+    answers w _ _ refl (steady-same _ _ refl) (then (op.Sleeper (sleeper_op.CallSleeper s) ∷ []) _ refl refl)
 
-calls-again : (o : Option ℕ) (w : World) (n : ℕ) (s : Sleeping) → Calls w (op.Tick (tick_op.LieDown s)) (lie_again_by o w n s)
+calls-again : (o : Option ℕ) (w : World) (n : ℕ) (s : Sleeping) →
+    Calls w (op.Tick (tick_op.LieDown s)) (lie_again_by o w n s)
 calls-again None w n s = calls-listed _ w n s
-calls-again (Some at) w n s = let old = waker_at (Some at) w.sleepers.wakers in answers w _ _ refl (steady-same _ _ refl) (then (sleeper_goes old) _ (goes-unseen calling_of (λ f. refl) old) refl)
+calls-again (Some at) w n s = let old = waker_at (Some at) w.sleepers.wakers in
+    answers w _ _ refl (steady-same _ _ refl) (then (sleeper_goes old) _ (goes-unseen calling_of (λ f. refl) old) refl)
 
 calls-lie : (x : Tick) (w : World) (s : Sleeping) → Calls w (op.Tick (tick_op.LieDown s)) (lie_down_by x w s)
 calls-lie Up w s = calls-anew _ w s
 calls-lie (Lies n) w s = calls-again _ w n s
-calls-lie Left w s = answers w _ _ refl (steady-same _ _ refl) (then (op.Sleeper (sleeper_op.CallSleeper s) ∷ []) _ refl refl)
+calls-lie Left w s = answers w _ _ refl (steady-same _ _ refl)
+    (then (op.Sleeper (sleeper_op.CallSleeper s) ∷ []) _ refl refl)
 
 calls-up : (x : Tick) (w : World) (t f : ℕ) → Calls w (op.Tick (tick_op.GetUp t f)) (get_up_by x w t f)
 calls-up Up w t f = answers w _ _ refl (steady-same _ _ refl) (found t f)
-calls-up (Lies n) w t f = let old = waker_of n w.sleepers.wakers in answers w _ _ refl (steady-same _ _ refl) (before (sleeper_goes old) (run_found t f) (goes-unseen calling_of (λ g. refl) old) (found t f))
+calls-up (Lies n) w t f = let old = waker_of n w.sleepers.wakers in
+    answers w _ _ refl (steady-same _ _ refl)
+    (before (sleeper_goes old) (run_found t f) (goes-unseen calling_of (λ g. refl) old) (found t f))
 calls-up Left w t f = answers w _ _ refl (steady-same _ _ refl) (found t f)
 
 calls-leave_sleepers : (x : Tick) (w : World) (t : ℕ) → Calls w (op.Tick (tick_op.Leave t)) (leave_sleepers_by x w t)
 calls-leave_sleepers Up w t = answers w _ _ refl (steady-same _ _ refl) (single _ refl)
 calls-leave_sleepers (Lies n) w t =
     let old = waker_of n w.sleepers.wakers in
-    answers w _ _ refl (steady-same _ _ refl) (then (sleeper_goes old ++ tell_if (is_none old)) _ (none-both (sleeper_goes old) (tell_if (is_none old)) (goes-unseen calling_of (λ g. refl) old) (tell-unseen calling_of refl (is_none old))) refl)
+    answers w _ _ refl (steady-same _ _ refl)
+    (then (sleeper_goes old ++ tell_if (is_none old)) _
+    (none-both (sleeper_goes old) (tell_if (is_none old)) (goes-unseen calling_of (λ g. refl) old)
+    (tell-unseen calling_of refl (is_none old))) refl)
 calls-leave_sleepers Left w t = answers w _ _ refl (steady-same _ _ refl) (single _ refl)
 
 pub calls-tick : (h : Hint) (o : TickOp) (w : World) → Calls w (op.Tick o) (tick_act h o w)

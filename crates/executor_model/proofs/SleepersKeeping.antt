@@ -13,7 +13,9 @@ use Rattle.executor_model.specs.declared.op.TickOp.TheVariants as tick_op
 use Rattle.executor_model.specs.declared.op.Waker.{Waker}
 use Rattle.executor_model.specs.declared.op.Waker.TheVariants.{Task, Outside}
 use Rattle.executor_model.specs.World.{World, Tick, Up, Lies, Left, log, task}
-use Rattle.executor_model.specs.Acts.{exchange_by, hand_out_by, call_sleeper, make_tick_by, search_by, copy_sleeper_by, lie_anew_by, lie_listed_by, lie_again_by, lie_down_by, get_up_by, leave_sleepers_by}
+use Rattle.executor_model.specs.Acts.{exchange_by, hand_out_by, call_sleeper, make_tick_by, search_by}
+use Rattle.executor_model.specs.Acts.{copy_sleeper_by, lie_anew_by, lie_listed_by, lie_again_by}
+use Rattle.executor_model.specs.Acts.{lie_down_by, get_up_by, leave_sleepers_by}
 use Rattle.executor_model.specs.Good.{IsKnownWaker}
 use Rattle.executor_model.proofs.Cases.{by_bool}
 use Rattle.executor_model.proofs.Counting.{woken_by}
@@ -28,20 +30,30 @@ stored-exchange = by_bool _
     (λ w g r bb h. grind arith)
     (λ w g r bb h. grind arith)
 
-pub stored-hand_out : (b : Bool) (o : Option Sleeping) (w : World) → KeepsStored w (op.Sleeper sleeper_op.HandOut ∷ []) (hand_out_by b o w)
+pub stored-hand_out : (b : Bool) (o : Option Sleeping) (w : World) →
+    KeepsStored w (op.Sleeper sleeper_op.HandOut ∷ []) (hand_out_by b o w)
 stored-hand_out false o w g r bb h = grind arith
 stored-hand_out true None w g r bb h = grind arith
 stored-hand_out true (Some s) w g r bb h = grind arith
 
-stored-call_task : (o b c : Bool) (p t k : ℕ) (w : World) (f : ℕ) → f < length w.tasks → KeepsStored w (op.Sleeper (sleeper_op.CallSleeper (asleep (Task f) t k)) ∷ []) (woken_by o b c p (log w (event.WakerCalled p (of.Tick t) k (Task f))) f)
-stored-call_task true true c p t k w f i g r bb h = grind (arith, same_is, read_put, length-set, readies-push, spent-push)
-stored-call_task true false true p t k w f i g r bb h = grind (arith, same_is, read_put, length-set, readies-push, spent-push)
-stored-call_task true false false p t k w f i g r bb h = grind (arith, same_is, read_put, length-set, readies-push, spent-push)
-stored-call_task false true c p t k w f i g r bb h = grind (arith, same_is, read_put, length-set, readies-push, spent-push)
-stored-call_task false false true p t k w f i g r bb h = grind (arith, same_is, read_put, length-set, readies-push, spent-push)
-stored-call_task false false false p t k w f i g r bb h = grind (arith, same_is, read_put, length-set, readies-push, spent-push)
+stored-call_task : (o b c : Bool) (p t k : ℕ) (w : World) (f : ℕ) → f < length w.tasks →
+    KeepsStored w (op.Sleeper (sleeper_op.CallSleeper (asleep (Task f) t k)) ∷ [])
+    (woken_by o b c p (log w (event.WakerCalled p (of.Tick t) k (Task f))) f)
+stored-call_task true true c p t k w f i g r bb h =
+    grind (arith, same_is, read_put, length-set, readies-push, spent-push)
+stored-call_task true false true p t k w f i g r bb h =
+    grind (arith, same_is, read_put, length-set, readies-push, spent-push)
+stored-call_task true false false p t k w f i g r bb h =
+    grind (arith, same_is, read_put, length-set, readies-push, spent-push)
+stored-call_task false true c p t k w f i g r bb h =
+    grind (arith, same_is, read_put, length-set, readies-push, spent-push)
+stored-call_task false false true p t k w f i g r bb h =
+    grind (arith, same_is, read_put, length-set, readies-push, spent-push)
+stored-call_task false false false p t k w f i g r bb h =
+    grind (arith, same_is, read_put, length-set, readies-push, spent-push)
 
-pub stored-call_sleeper : (p t k : ℕ) (a : Waker) (w : World) → IsKnownWaker w a → KeepsStored w (op.Sleeper (sleeper_op.CallSleeper (asleep a t k)) ∷ []) (call_sleeper p w (asleep a t k))
+pub stored-call_sleeper : (p t k : ℕ) (a : Waker) (w : World) → IsKnownWaker w a →
+    KeepsStored w (op.Sleeper (sleeper_op.CallSleeper (asleep a t k)) ∷ []) (call_sleeper p w (asleep a t k))
 stored-call_sleeper p t k (Task f) w i = stored-call_task (moves.is_over (task w f)) _ _ p t k w f i
 stored-call_sleeper p t k (Outside x) w i = λ g r bb h. grind (arith, readies-push, spent-push)
 
@@ -52,66 +64,81 @@ stored-make_tick = by_bool _
     (λ w g r bb h. grind arith)
     (λ w g r bb h. grind arith)
 
-pub stored-search : (t : Tick) (q : List ℕ) (w : World) (s : Sleeping) → w.queue.items ≡ q → KeepsStored w (op.Tick (tick_op.Search s) ∷ []) (search_by t w q s)
+pub stored-search : (t : Tick) (q : List ℕ) (w : World) (s : Sleeping) → w.queue.items ≡ q →
+    KeepsStored w (op.Tick (tick_op.Search s) ∷ []) (search_by t w q s)
 stored-search t [] w s e g r bb h = grind arith
 stored-search Up (f ∷ rest) w s e g r bb h = grind (arith, same_is)
 stored-search (Lies n) (f ∷ rest) w s e g r bb h = grind (arith, same_is)
 stored-search Left (f ∷ rest) w s e g r bb h = grind (arith, same_is)
 
-pub stored-copy_sleeper : (b : Bool) (a : Waker) (t k : ℕ) (w : World) → IsKnownWaker w a → KeepsStored w (op.Tick (tick_op.CopyWaker (asleep a t k)) ∷ []) (copy_sleeper_by b w (asleep a t k))
+pub stored-copy_sleeper : (b : Bool) (a : Waker) (t k : ℕ) (w : World) → IsKnownWaker w a →
+    KeepsStored w (op.Tick (tick_op.CopyWaker (asleep a t k)) ∷ []) (copy_sleeper_by b w (asleep a t k))
 stored-copy_sleeper true a t k w e g r bb h = grind arith
-stored-copy_sleeper false (Task m) t k w e g r bb h = let z : m < length w.tasks = e in grind (arith, same_is, read_put, length-set)
+stored-copy_sleeper false (Task m) t k w e g r bb h = let z : m < length w.tasks = e in
+    grind (arith, same_is, read_put, length-set)
 stored-copy_sleeper false (Outside x) t k w e g r bb h = grind arith
 
-stored-lie_anew : (b : Bool) (w : World) (s : Sleeping) → KeepsStored w (op.Tick (tick_op.LieDown s) ∷ []) (lie_anew_by b w s)
+stored-lie_anew : (b : Bool) (w : World) (s : Sleeping) →
+    KeepsStored w (op.Tick (tick_op.LieDown s) ∷ []) (lie_anew_by b w s)
 stored-lie_anew = by_bool _
     (λ w s g r bb h. grind arith)
     (λ w s g r bb h. grind arith)
 
-stored-lie_listed : (b : Bool) (w : World) (n : ℕ) (s : Sleeping) → KeepsStored w (op.Tick (tick_op.LieDown s) ∷ []) (lie_listed_by b w n s)
+stored-lie_listed : (b : Bool) (w : World) (n : ℕ) (s : Sleeping) →
+    KeepsStored w (op.Tick (tick_op.LieDown s) ∷ []) (lie_listed_by b w n s)
 stored-lie_listed = by_bool _
     (λ w n s g r bb h. grind arith)
     (λ w n s g r bb h. grind arith)
 
-stored-replaced_with : (a : Waker) (u k : ℕ) (w : World) (n at : ℕ) (s : Sleeping) → KeepsStored w (op.Tick (tick_op.LieDown s) ∷ []) (replaced (Some (asleep a u k)) w n at s)
+stored-replaced_with : (a : Waker) (u k : ℕ) (w : World) (n at : ℕ) (s : Sleeping) →
+    KeepsStored w (op.Tick (tick_op.LieDown s) ∷ []) (replaced (Some (asleep a u k)) w n at s)
 stored-replaced_with (Task m) u k w n at s g r bb h = grind arith
 stored-replaced_with (Outside x) u k w n at s g r bb h = grind arith
 
-stored-replaced : (old : Option Sleeping) (w : World) (n at : ℕ) (s : Sleeping) → KeepsStored w (op.Tick (tick_op.LieDown s) ∷ []) (replaced old w n at s)
+stored-replaced : (old : Option Sleeping) (w : World) (n at : ℕ) (s : Sleeping) →
+    KeepsStored w (op.Tick (tick_op.LieDown s) ∷ []) (replaced old w n at s)
 stored-replaced None w n at s g r bb h = grind arith
 stored-replaced (Some o) w n at s g r bb h = stored-replaced_with o.waker o.tick o.poll w n at s g r bb h
 
-stored-lie_again : (o : Option ℕ) (w : World) (n : ℕ) (s : Sleeping) → KeepsStored w (op.Tick (tick_op.LieDown s) ∷ []) (lie_again_by o w n s)
+stored-lie_again : (o : Option ℕ) (w : World) (n : ℕ) (s : Sleeping) →
+    KeepsStored w (op.Tick (tick_op.LieDown s) ∷ []) (lie_again_by o w n s)
 stored-lie_again None w n s = stored-lie_listed _ w n s
 stored-lie_again (Some at) w n s = stored-replaced (waker_at (Some at) w.sleepers.wakers) w n at s
 
-pub stored-lie_down : (t : Tick) (w : World) (s : Sleeping) → KeepsStored w (op.Tick (tick_op.LieDown s) ∷ []) (lie_down_by t w s)
+pub stored-lie_down : (t : Tick) (w : World) (s : Sleeping) →
+    KeepsStored w (op.Tick (tick_op.LieDown s) ∷ []) (lie_down_by t w s)
 stored-lie_down Up w s = stored-lie_anew _ w s
 stored-lie_down (Lies n) w s = stored-lie_again _ w n s
 stored-lie_down Left w s = λ g r bb h. grind arith
 
-stored-gone_up_with : (a : Waker) (u k : ℕ) (w : World) (n t f : ℕ) → KeepsStored w (op.Tick (tick_op.GetUp t f) ∷ []) (gone_up (Some (asleep a u k)) w n t f)
+stored-gone_up_with : (a : Waker) (u k : ℕ) (w : World) (n t f : ℕ) →
+    KeepsStored w (op.Tick (tick_op.GetUp t f) ∷ []) (gone_up (Some (asleep a u k)) w n t f)
 stored-gone_up_with (Task m) u k w n t f g r bb h = grind arith
 stored-gone_up_with (Outside x) u k w n t f g r bb h = grind arith
 
-stored-gone_up : (old : Option Sleeping) (w : World) (n t f : ℕ) → KeepsStored w (op.Tick (tick_op.GetUp t f) ∷ []) (gone_up old w n t f)
+stored-gone_up : (old : Option Sleeping) (w : World) (n t f : ℕ) →
+    KeepsStored w (op.Tick (tick_op.GetUp t f) ∷ []) (gone_up old w n t f)
 stored-gone_up None w n t f g r bb h = grind arith
 stored-gone_up (Some o) w n t f g r bb h = stored-gone_up_with o.waker o.tick o.poll w n t f g r bb h
 
-pub stored-get_up : (x : Tick) (w : World) (t f : ℕ) → KeepsStored w (op.Tick (tick_op.GetUp t f) ∷ []) (get_up_by x w t f)
+pub stored-get_up : (x : Tick) (w : World) (t f : ℕ) →
+    KeepsStored w (op.Tick (tick_op.GetUp t f) ∷ []) (get_up_by x w t f)
 stored-get_up Up w t f = λ g r bb h. grind arith
 stored-get_up (Lies n) w t f = stored-gone_up (waker_of n w.sleepers.wakers) w n t f
 stored-get_up Left w t f = λ g r bb h. grind arith
 
-stored-gone_off_with : (a : Waker) (u k : ℕ) (w : World) (n t : ℕ) → KeepsStored w (op.Tick (tick_op.Leave t) ∷ []) (gone_off (Some (asleep a u k)) w n t)
+stored-gone_off_with : (a : Waker) (u k : ℕ) (w : World) (n t : ℕ) →
+    KeepsStored w (op.Tick (tick_op.Leave t) ∷ []) (gone_off (Some (asleep a u k)) w n t)
 stored-gone_off_with (Task m) u k w n t g r bb h = grind arith
 stored-gone_off_with (Outside x) u k w n t g r bb h = grind arith
 
-stored-gone_off : (old : Option Sleeping) (w : World) (n t : ℕ) → KeepsStored w (op.Tick (tick_op.Leave t) ∷ []) (gone_off old w n t)
+stored-gone_off : (old : Option Sleeping) (w : World) (n t : ℕ) →
+    KeepsStored w (op.Tick (tick_op.Leave t) ∷ []) (gone_off old w n t)
 stored-gone_off None w n t g r bb h = grind arith
 stored-gone_off (Some o) w n t g r bb h = stored-gone_off_with o.waker o.tick o.poll w n t g r bb h
 
-pub stored-leave_sleepers : (x : Tick) (w : World) (t : ℕ) → KeepsStored w (op.Tick (tick_op.Leave t) ∷ []) (leave_sleepers_by x w t)
+pub stored-leave_sleepers : (x : Tick) (w : World) (t : ℕ) →
+    KeepsStored w (op.Tick (tick_op.Leave t) ∷ []) (leave_sleepers_by x w t)
 stored-leave_sleepers Up w t = λ g r bb h. grind arith
 stored-leave_sleepers (Lies n) w t = stored-gone_off (waker_of n w.sleepers.wakers) w n t
 stored-leave_sleepers Left w t = λ g r bb h. grind arith

@@ -10,7 +10,8 @@ use Rattle.executor_model.specs.declared.op.SleeperOp.TheVariants as sleeper_op
 use Rattle.executor_model.specs.declared.op.Waker.{Waker}
 use Rattle.executor_model.specs.declared.op.Waker.TheVariants.{Task, Outside}
 use Rattle.executor_model.specs.World.{World, Tick, Up, Lies, Left, tick_of, log}
-use Rattle.executor_model.specs.Acts.{exchange_by, hand_out_by, call_waker, run_found, found_by, search_by, sleeper_goes, get_up_by, tell_if, end_drop, leave_sleepers_by, sleeper_act}
+use Rattle.executor_model.specs.Acts.{exchange_by, hand_out_by, call_waker, run_found, found_by, search_by}
+use Rattle.executor_model.specs.Acts.{sleeper_goes, get_up_by, tell_if, end_drop, leave_sleepers_by, sleeper_act}
 use Rattle.executor_model.specs.Memory.{AsksForNone, FindsWithoutMemory}
 use Rattle.executor_model.proofs.Unasking.{both, none-waker, none-wake}
 
@@ -22,7 +23,8 @@ none-tell : (b : Bool) → AsksForNone (tell_if b)
 none-tell true = refl
 none-tell false = refl
 
-none-call_waker : (p : ℕ) (w : World) (s : Sleeping) (a : Waker) → AsksForNone (call_waker p w (of.Tick s.tick) a s.poll).next
+none-call_waker : (p : ℕ) (w : World) (s : Sleeping) (a : Waker) →
+    AsksForNone (call_waker p w (of.Tick s.tick) a s.poll).next
 none-call_waker p w s (Task g) = none-wake p (log w (event.WakerCalled p (of.Tick s.tick) s.poll (Task g))) g
 none-call_waker p w s (Outside x) = refl
 
@@ -42,14 +44,16 @@ none-sleeper p (sleeper_op.CallSleeper s) w = none-call_waker p w s s.waker
 
 pub none-up : (x : Tick) (w : World) (t f : ℕ) → AsksForNone (get_up_by x w t f).next
 none-up Up w t f = refl
-none-up (Lies n) w t f = both (sleeper_goes (waker_of n w.sleepers.wakers)) (run_found t f) (none-goes (waker_of n w.sleepers.wakers)) refl
+none-up (Lies n) w t f =
+    both (sleeper_goes (waker_of n w.sleepers.wakers)) (run_found t f) (none-goes (waker_of n w.sleepers.wakers)) refl
 none-up Left w t f = refl
 
 pub none-leave_sleepers : (x : Tick) (w : World) (t : ℕ) → AsksForNone (leave_sleepers_by x w t).next
 none-leave_sleepers Up w t = refl
 none-leave_sleepers (Lies n) w t =
     let old = waker_of n w.sleepers.wakers in
-    both (sleeper_goes old ++ tell_if (is_none old)) (end_drop t) (both (sleeper_goes old) (tell_if (is_none old)) (none-goes old) (none-tell (is_none old))) refl
+    both (sleeper_goes old ++ tell_if (is_none old)) (end_drop t)
+    (both (sleeper_goes old) (tell_if (is_none old)) (none-goes old) (none-tell (is_none old))) refl
 none-leave_sleepers Left w t = refl
 
 none-found : (x : Tick) (t f : ℕ) → AsksForNone (found_by x t f)

@@ -19,7 +19,10 @@ use Rattle.executor_model.specs.declared.op.Waker.{Waker}
 use Rattle.executor_model.specs.declared.op.Waker.TheVariants.{Task, Outside}
 use Rattle.executor_model.specs.declared.step.Hint.{Hint}
 use Rattle.executor_model.specs.World.{World, Tick, Up, Lies, Left}
-use Rattle.executor_model.specs.Acts.{exchange_by, hand_out_by, waker_goes, call_waker, make_tick_by, run_found, search_by, copy_sleeper_by, pend_tick, lie_anew_by, sleeper_goes, lie_listed_by, lie_again_by, lie_down_by, get_up_by, tell_if, end_drop, leave_sleepers_by, wake, sleeper_act, tick_act}
+use Rattle.executor_model.specs.Acts.{exchange_by, hand_out_by, waker_goes, call_waker, make_tick_by, run_found}
+use Rattle.executor_model.specs.Acts.{search_by, copy_sleeper_by, pend_tick, lie_anew_by, sleeper_goes}
+use Rattle.executor_model.specs.Acts.{lie_listed_by, lie_again_by, lie_down_by, get_up_by, tell_if, end_drop}
+use Rattle.executor_model.specs.Acts.{leave_sleepers_by, wake, sleeper_act, tick_act}
 use Rattle.executor_model.specs.Weights.{weigh}
 use Rattle.executor_model.proofs.Lists.{weigh-append}
 
@@ -43,7 +46,8 @@ module _ (v : Op → ℕ) where
   tell-unseen z true = omega (arith, z)
   tell-unseen z false = refl
 
-  pub call-unseen : Unseen v → (p : ℕ) (w : World) (o : Polled) (a : Waker) (k : ℕ) → weigh v (call_waker p w o a k).next ≡ 0
+  pub call-unseen : Unseen v → (p : ℕ) (w : World) (o : Polled) (a : Waker) (k : ℕ) →
+      weigh v (call_waker p w o a k).next ≡ 0
   call-unseen u p w o (Task f) k = u.wake p _ f
   call-unseen u p w o (Outside x) k = omega (arith, u.outside x)
 
@@ -71,7 +75,8 @@ pub record Blind (v : Op → ℕ) : Type 0 where
   pub made : (r : Reply) → v (op.End r hold.Executor) ≡ 0
 
 module _ (v : Op → ℕ) (u : Blind v) where
-  search-blind : ((f : ℕ) → v (op.Move move.TakeUp f) ≡ 0) → (x : Tick) (w : World) (q : List ℕ) (s : Sleeping) → weigh v (search_by x w q s).next ≡ 0
+  search-blind : ((f : ℕ) → v (op.Move move.TakeUp f) ≡ 0) → (x : Tick) (w : World) (q : List ℕ) (s : Sleeping) →
+      weigh v (search_by x w q s).next ≡ 0
   search-blind z x w [] s = omega (arith, u.tick (tick_op.CopyWaker s))
   search-blind z Up w (f ∷ rest) s = omega (arith, u.exchange, z f, u.end reply.Ready s.tick)
   search-blind z (Lies n) w (f ∷ rest) s = omega (arith, u.tick (tick_op.GetUp s.tick f))
@@ -95,26 +100,49 @@ module _ (v : Op → ℕ) (u : Blind v) where
 
   again-blind : (o : Option ℕ) (w : World) (n : ℕ) (s : Sleeping) → weigh v (lie_again_by o w n s).next ≡ 0
   again-blind None w n s = listed-blind _ w n s
-  again-blind (Some at) w n s = let old = waker_at (Some at) w.sleepers.wakers in omega (arith, weigh-append v (sleeper_goes old) (pend_tick s.tick), goes-unseen v u.release old, u.end reply.Pending s.tick)
+  again-blind (Some at) w n s = let old = waker_at (Some at) w.sleepers.wakers in
+      omega (
+        arith,
+        weigh-append v (sleeper_goes old) (pend_tick s.tick),
+        goes-unseen v u.release old,
+        u.end reply.Pending s.tick,
+      )
 
   pub lie-blind : (x : Tick) (w : World) (s : Sleeping) → weigh v (lie_down_by x w s).next ≡ 0
   lie-blind Up w s = anew-blind _ w s
   lie-blind (Lies n) w s = again-blind _ w n s
   lie-blind Left w s = omega (arith, u.call s, u.end reply.Pending s.tick)
 
-  up-blind : ((f : ℕ) → v (op.Move move.TakeUp f) ≡ 0) → (x : Tick) (w : World) (t f : ℕ) → weigh v (get_up_by x w t f).next ≡ 0
+  up-blind : ((f : ℕ) → v (op.Move move.TakeUp f) ≡ 0) → (x : Tick) (w : World) (t f : ℕ) →
+      weigh v (get_up_by x w t f).next ≡ 0
   up-blind z Up w t f = omega (arith, u.exchange, z f, u.end reply.Ready t)
-  up-blind z (Lies n) w t f = let old = waker_of n w.sleepers.wakers in omega (arith, weigh-append v (sleeper_goes old) (run_found t f), goes-unseen v u.release old, u.exchange, z f, u.end reply.Ready t)
+  up-blind z (Lies n) w t f = let old = waker_of n w.sleepers.wakers in
+      omega (
+        arith,
+        weigh-append v (sleeper_goes old) (run_found t f),
+        goes-unseen v u.release old,
+        u.exchange,
+        z f,
+        u.end reply.Ready t,
+      )
   up-blind z Left w t f = omega (arith, u.exchange, z f, u.end reply.Ready t)
 
   pub leave-blind : (x : Tick) (w : World) (t : ℕ) → weigh v (leave_sleepers_by x w t).next ≡ 0
   leave-blind Up w t = omega (arith, u.end reply.Done t)
   leave-blind (Lies n) w t =
       let old = waker_of n w.sleepers.wakers in
-      omega (arith, weigh-append v (sleeper_goes old ++ tell_if (is_none old)) (end_drop t), weigh-append v (sleeper_goes old) (tell_if (is_none old)), goes-unseen v u.release old, tell-unseen v u.exchange (is_none old), u.end reply.Done t)
+      omega (
+        arith,
+        weigh-append v (sleeper_goes old ++ tell_if (is_none old)) (end_drop t),
+        weigh-append v (sleeper_goes old) (tell_if (is_none old)),
+        goes-unseen v u.release old,
+        tell-unseen v u.exchange (is_none old),
+        u.end reply.Done t,
+      )
   leave-blind Left w t = omega (arith, u.end reply.Done t)
 
-  pub tick-blind : ((f : ℕ) → v (op.Move move.TakeUp f) ≡ 0) → (h : Hint) (o : TickOp) (w : World) → weigh v (tick_act h o w).next ≡ 0
+  pub tick-blind : ((f : ℕ) → v (op.Move move.TakeUp f) ≡ 0) → (h : Hint) (o : TickOp) (w : World) →
+      weigh v (tick_act h o w).next ≡ 0
   tick-blind z h tick_op.MakeTick w = make-blind _ w
   tick-blind z h (tick_op.Search s) w = search-blind z _ w _ s
   tick-blind z h (tick_op.CopyWaker s) w = copy-blind _ w s

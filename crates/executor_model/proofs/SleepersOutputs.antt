@@ -15,20 +15,27 @@ use Rattle.executor_model.specs.declared.op.Waker.{Waker}
 use Rattle.executor_model.specs.declared.op.Waker.TheVariants.{Task, Outside}
 use Rattle.executor_model.specs.declared.step.Hint.{Hint}
 use Rattle.executor_model.specs.World.{World, Tick, Up, Lies, Left, log}
-use Rattle.executor_model.specs.Acts.{exchange_by, hand_out_by, call_waker, make_tick_by, search_by, copied, copy_sleeper_by, lie_anew_by, lie_listed_by, lie_again_by, lie_down_by, get_up_by, leave_sleepers_by, sleeper_act, tick_act}
+use Rattle.executor_model.specs.Acts.{exchange_by, hand_out_by, call_waker, make_tick_by, search_by, copied}
+use Rattle.executor_model.specs.Acts.{copy_sleeper_by, lie_anew_by, lie_listed_by, lie_again_by, lie_down_by}
+use Rattle.executor_model.specs.Acts.{get_up_by, leave_sleepers_by, sleeper_act, tick_act}
 use Rattle.executor_model.proofs.Outputs.{outs_of, KeepsOutput, Calm, calm-same, calm-put, calm-log, keeps-calm}
 use Rattle.executor_model.proofs.OutputActs.{keeps-after, keeps-log, out-wake}
 use Rattle.executor_model.proofs.SleepersNext.{tick-blind}
 
-out-call_waker : (p : ℕ) (w : World) (o : Polled) (a : Waker) (k : ℕ) (old : List Op) → KeepsOutput w old (call_waker p w o a k)
-out-call_waker p w o (Task m) k old = keeps-after w (log w (event.WakerCalled p o k (Task m))) old _ (calm-log w (event.WakerCalled p o k (Task m)) (λ g. refl)) (out-wake p (log w (event.WakerCalled p o k (Task m))) m old)
+out-call_waker : (p : ℕ) (w : World) (o : Polled) (a : Waker) (k : ℕ) (old : List Op) →
+    KeepsOutput w old (call_waker p w o a k)
+out-call_waker p w o (Task m) k old =
+    keeps-after w (log w (event.WakerCalled p o k (Task m))) old _
+    (calm-log w (event.WakerCalled p o k (Task m)) (λ g. refl))
+    (out-wake p (log w (event.WakerCalled p o k (Task m))) m old)
 out-call_waker p w o (Outside x) k old = keeps-log w (event.WakerCalled p o k (Outside x)) old _ (λ g. refl) (λ g. refl)
 
 out-exchange : (b : Bool) (w : World) → KeepsOutput w (op.Sleeper sleeper_op.ExchangeFlag ∷ []) (exchange_by b w)
 out-exchange true w = keeps-calm w _ (exchange_by true w) (calm-same w _ refl refl) (λ g. refl)
 out-exchange false w = keeps-calm w _ (exchange_by false w) (calm-same w _ refl refl) (λ g. refl)
 
-out-hand_out : (b : Bool) (o : Option Sleeping) (w : World) → KeepsOutput w (op.Sleeper sleeper_op.HandOut ∷ []) (hand_out_by b o w)
+out-hand_out : (b : Bool) (o : Option Sleeping) (w : World) →
+    KeepsOutput w (op.Sleeper sleeper_op.HandOut ∷ []) (hand_out_by b o w)
 out-hand_out false o w = keeps-calm w _ (hand_out_by false o w) (calm-same w _ refl refl) (λ g. refl)
 out-hand_out true None w = keeps-calm w _ (hand_out_by true None w) (calm-same w _ refl refl) (λ g. refl)
 out-hand_out true (Some s) w = keeps-calm w _ (hand_out_by true (Some s) w) (calm-same w _ refl refl) (λ g. refl)
@@ -92,4 +99,13 @@ calm-tick h (tick_op.GetUp t f) w = calm-up _ w t f
 calm-tick h (tick_op.Leave t) w = calm-leave _ w t
 
 pub out-tick : (h : Hint) (o : TickOp) (w : World) → KeepsOutput w (op.Tick o ∷ []) (tick_act h o w)
-out-tick h o w = keeps-calm w _ (tick_act h o w) (calm-tick h o w) (λ g. tick-blind (outs_of g) (record { tick = λ o. refl; exchange = refl; call = λ s. refl; release = λ f. refl; end = λ r t. refl; made = λ r. refl }) (λ f. refl) h o w)
+out-tick h o w = keeps-calm w _ (tick_act h o w) (calm-tick h o w)
+    (λ g. tick-blind (outs_of g)
+    (record {
+      tick = λ o. refl;
+      exchange = refl;
+      call = λ s. refl;
+      release = λ f. refl;
+      end = λ r t. refl;
+      made = λ r. refl;
+    }) (λ f. refl) h o w)

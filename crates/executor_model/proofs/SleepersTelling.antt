@@ -1,11 +1,13 @@
 -- Where a Runnable stands in the queue and a tick lies, a sleeper is notified or will be told.
-use Rattle.std.proofs.Common.{◌≡◌, ℕ, suc, ◌+◌, ◌<◌, ◌≤◌, List, [], ◌∷◌, ◌++◌, length, take, Bool, true, false, ltb, eqb, refl, sym, ap, subst, inl, inr, ◌⊎◌, arith}
+use Rattle.std.proofs.Common.{◌≡◌, ℕ, suc, ◌+◌, ◌<◌, ◌≤◌, List, [], ◌∷◌, ◌++◌, length, take, Bool, true, false}
+use Rattle.std.proofs.Common.{ltb, eqb, refl, sym, ap, subst, inl, inr, ◌⊎◌, arith}
 use Rattle.std.proofs.lemmas.Bool.Decides.{nat_tests}
 use Rattle.std.proofs.lemmas.List.{length-set, length-take-le}
 use Rattle.std.proofs.lemmas.List.Edits.{length-remove}
 use Rattle.std.specs.Prelude.{◌-◌, Option, Some, None, is_none, remove, slice_get}
 use Rattle.queue_steps.specs.ClosableQueue.{ClosableQueue}
-use Rattle.executor_parts.specs.Sleepers.{Sleepers, last_waker, waker_in, waker_at, waker_of, position_of, without_entry, freed, risen}
+use Rattle.executor_parts.specs.Sleepers.{Sleepers, last_waker, waker_in, waker_at, waker_of}
+use Rattle.executor_parts.specs.Sleepers.{position_of, without_entry, freed, risen}
 use Rattle.executor_model.specs.declared.call.Call.{Call}
 use Rattle.executor_model.specs.declared.call.Call.TheVariants as call
 use Rattle.executor_model.specs.declared.event.Answer.TheVariants as answer
@@ -25,7 +27,10 @@ use Rattle.executor_model.specs.declared.op.Waker.TheVariants.{Task, Outside}
 use Rattle.executor_model.specs.declared.step.Hint.{Hint}
 use Rattle.executor_model.specs.declared.step.UserEnd.{UserEnd}
 use Rattle.executor_model.specs.declared.step.UserEnd.TheVariants as end
-use Rattle.executor_model.specs.Acts.{act, append_by, exchange_by, hand_out_by, call_sleeper, make_tick_by, search_by, copied, copy_sleeper_by, lie_anew_by, sleeper_goes, run_found, lie_listed_by, lie_again_by, lie_down_by, get_up_by, given_back, tell_if, end_drop, leave_sleepers_by, sleeper_act, tick_act}
+use Rattle.executor_model.specs.Acts.{act, append_by, exchange_by, hand_out_by, call_sleeper, make_tick_by}
+use Rattle.executor_model.specs.Acts.{search_by, copied, copy_sleeper_by, lie_anew_by, sleeper_goes, run_found}
+use Rattle.executor_model.specs.Acts.{lie_listed_by, lie_again_by, lie_down_by, get_up_by, given_back, tell_if}
+use Rattle.executor_model.specs.Acts.{end_drop, leave_sleepers_by, sleeper_act, tick_act}
 use Rattle.executor_model.specs.Steps.{accepts, begun, react, with_future, kept}
 use Rattle.executor_model.specs.Weights.{weigh}
 use Rattle.executor_model.specs.World.{World, Tick, Up, Lies, Left, Done, done, log}
@@ -46,46 +51,57 @@ pub record Ground (w : World) (a : ℕ) : Type 0 where
 
 -- it stays so where old is done, beside others who have still to tell k times, and to hand out m times
 pub record Tells (w : World) (old : List Op) (d : Done) : Type 0 where
-  pub on : (i j k a m : ℕ) → i ≡ weigh tells_of old + k → j ≡ weigh tells_of d.next + k → a ≡ weigh hands_of old + m → m ≤ k → Ground w a → Told w i → Told d.world j
+  pub on : (i j k a m : ℕ) → i ≡ weigh tells_of old + k → j ≡ weigh tells_of d.next + k → a ≡ weigh hands_of old + m →
+      m ≤ k → Ground w a → Told w i → Told d.world j
 
 -- the sleepers stay, and the queue gets no longer
-same-told : (w v : World) (i j : ℕ) → beds w ≡ beds v → length v.queue.items ≤ length w.queue.items → i ≤ j → Told w i → Told v j
+same-told : (w v : World) (i j : ℕ) → beds w ≡ beds v → length v.queue.items ≤ length w.queue.items → i ≤ j → Told w i →
+    Told v j
 same-told w v i j e q l t =
     let c : w.sleepers.count ≡ v.sleepers.count = ap (λ b. b.sleepers.count) e in
     let n : length w.sleepers.wakers ≡ length v.sleepers.wakers = ap (λ b. length b.sleepers.wakers) e in
     grind arith
 
-pub quiet : (w v : World) (old next : List Op) → beds w ≡ beds v → length v.queue.items ≤ length w.queue.items → weigh tells_of old ≡ 0 → Tells w old (done v next)
+pub quiet : (w v : World) (old next : List Op) → beds w ≡ beds v → length v.queue.items ≤ length w.queue.items →
+    weigh tells_of old ≡ 0 → Tells w old (done v next)
 quiet w v old next e q z = record { on = λ i j k a m x y u l g t. same-told w v i j e q (omega (arith, x, y, z)) t }
 
 -- somebody tells next
 loud : (w v : World) (old next : List Op) → 1 ≤ weigh tells_of next → Tells w old (done v next)
-loud w v old next z = record { on = λ i j k a m x y u l g t. record { told = λ p q. let b : 1 ≤ j = omega (arith, y, z) in inr b } }
+loud w v old next z =
+    record { on = λ i j k a m x y u l g t. record { told = λ p q. let b : 1 ≤ j = omega (arith, y, z) in inr b } }
 
 tells-append : (b : Bool) (w : World) (f : ℕ) → Tells w (op.Queue (queue_op.Append f) ∷ []) (append_by b w f)
 tells-append true w f = loud w _ _ _ (omega arith)
 tells-append false w f = quiet w _ _ _ refl (omega arith) refl
 
-tells-exchange : (b : Bool) (w : World) → w.notified ≡ b → Tells w (op.Sleeper sleeper_op.ExchangeFlag ∷ []) (exchange_by b w)
+tells-exchange : (b : Bool) (w : World) → w.notified ≡ b →
+    Tells w (op.Sleeper sleeper_op.ExchangeFlag ∷ []) (exchange_by b w)
 tells-exchange true w e = record { on = λ i j k a m x y u l g t. grind arith }
 tells-exchange false w e = loud w _ _ _ (omega arith)
 
 no-last : (ws : List (ℕ × Sleeping)) → last_waker ws ≡ None → length ws ≡ 0
 no-last [] e = refl
-no-last (x ∷ xs) e = absurd (by x xs (subst (λ (n : ℕ). waker_in (slice_get (x ∷ xs) n) ≡ None) (let less : suc (length xs) - 1 ≡ length xs = omega arith in less) e))
+no-last (x ∷ xs) e = absurd
+    (by x xs (subst (λ (n : ℕ). waker_in (slice_get (x ∷ xs) n) ≡ None)
+    (let less : suc (length xs) - 1 ≡ length xs = omega arith in less) e))
   where
     by : (x : ℕ × Sleeping) (xs : List (ℕ × Sleeping)) → waker_in (slice_get (x ∷ xs) (length xs)) ≡ None → ⊥
     by x [] q = cc
     by x (y ∷ ys) q = by y ys q
 
-tells-hand_out : (b : Bool) (o : Option Sleeping) (w : World) → eqb (length w.sleepers.wakers) w.sleepers.count ≡ b → last_waker w.sleepers.wakers ≡ o → Tells w (op.Sleeper sleeper_op.HandOut ∷ []) (hand_out_by b o w)
+tells-hand_out : (b : Bool) (o : Option Sleeping) (w : World) → eqb (length w.sleepers.wakers) w.sleepers.count ≡ b →
+    last_waker w.sleepers.wakers ≡ o → Tells w (op.Sleeper sleeper_op.HandOut ∷ []) (hand_out_by b o w)
 tells-hand_out false o w e q = record { on = λ i j k a m x y u l g t. grind (arith, nat_tests) }
-tells-hand_out true None w e q = let z = no-last w.sleepers.wakers q in record { on = λ i j k a m x y u l g t. grind (arith, nat_tests) }
+tells-hand_out true None w e q = let z = no-last w.sleepers.wakers q in
+    record { on = λ i j k a m x y u l g t. grind (arith, nat_tests) }
 tells-hand_out true (Some s) w e q = record { on = λ i j k a m x y u l g t. taken w i j e q }
   where
     -- one less than all that sleep
-    taken : (w : World) (i j : ℕ) → eqb (length w.sleepers.wakers) w.sleepers.count ≡ true → last_waker w.sleepers.wakers ≡ Some s → Told (hand_out_by true (Some s) w).world j
-    taken w i j e q = record { told = λ p c. inl (shorter w.sleepers.wakers w.sleepers.count (grind (arith, nat_tests)) c) }
+    taken : (w : World) (i j : ℕ) → eqb (length w.sleepers.wakers) w.sleepers.count ≡ true →
+        last_waker w.sleepers.wakers ≡ Some s → Told (hand_out_by true (Some s) w).world j
+    taken w i j e q =
+        record { told = λ p c. inl (shorter w.sleepers.wakers w.sleepers.count (grind (arith, nat_tests)) c) }
       where
         shorter : (ws : List (ℕ × Sleeping)) (n : ℕ) → length ws ≡ n → 1 ≤ n → length (take (length ws - 1) ws) < n
         shorter ws n e c = omega (arith, e, c, length-take-le (length ws - 1) ws)
@@ -93,7 +109,8 @@ tells-hand_out true (Some s) w e q = record { on = λ i j k a m x y u l g t. tak
 tells-sleeper : (p : ℕ) (o : SleeperOp) (w : World) → Tells w (op.Sleeper o ∷ []) (sleeper_act p o w)
 tells-sleeper p sleeper_op.ExchangeFlag w = tells-exchange _ w refl
 tells-sleeper p sleeper_op.HandOut w = tells-hand_out _ _ w refl refl
-tells-sleeper p (sleeper_op.CallSleeper s) w = let a = away-call p w (of.Tick s.tick) s.waker s.poll in quiet w (call_sleeper p w s).world _ (call_sleeper p w s).next a.beds a.queue refl
+tells-sleeper p (sleeper_op.CallSleeper s) w = let a = away-call p w (of.Tick s.tick) s.waker s.poll in
+    quiet w (call_sleeper p w s).world _ (call_sleeper p w s).next a.beds a.queue refl
 
 -- ticks
 
@@ -101,17 +118,24 @@ tells-make : (b : Bool) (w : World) → Tells w (op.Tick tick_op.MakeTick ∷ []
 tells-make true w = quiet w _ _ _ refl (omega arith) refl
 tells-make false w = record { on = λ i j k a m x y u l g t. record { told = λ p q. grind arith } }
 
-tells-search : (x : Tick) (q : List ℕ) (w : World) (s : Sleeping) → w.queue.items ≡ q → Tells w (op.Tick (tick_op.Search s) ∷ []) (search_by x w q s)
-tells-search x [] w s e = record { on = λ i j k a m x y u l g t. record { told = λ p q. absurd (let z : length w.queue.items ≡ 0 = ap length e in omega (arith, p, z)) } }
+tells-search : (x : Tick) (q : List ℕ) (w : World) (s : Sleeping) → w.queue.items ≡ q →
+    Tells w (op.Tick (tick_op.Search s) ∷ []) (search_by x w q s)
+tells-search x [] w s e =
+    record {
+      on = λ i j k a m x y u l g t.
+          record { told = λ p q. absurd (let z : length w.queue.items ≡ 0 = ap length e in omega (arith, p, z)) };
+    }
 tells-search Up (f ∷ rest) w s e = loud w _ _ _ (omega arith)
 tells-search (Lies n) (f ∷ rest) w s e = loud w _ _ _ (omega arith)
 tells-search Left (f ∷ rest) w s e = loud w _ _ _ (omega arith)
 
-tells-copied : (a : Waker) (w : World) → (beds w ≡ beds (copied w a)) × (length (copied w a).queue.items ≤ length w.queue.items)
+tells-copied : (a : Waker) (w : World) →
+    (beds w ≡ beds (copied w a)) × (length (copied w a).queue.items ≤ length w.queue.items)
 tells-copied (Task g) w = (refl, omega arith)
 tells-copied (Outside x) w = (refl, omega arith)
 
-tells-copy : (b : Bool) (w : World) (s : Sleeping) → Tells w (op.Tick (tick_op.CopyWaker s) ∷ []) (copy_sleeper_by b w s)
+tells-copy : (b : Bool) (w : World) (s : Sleeping) →
+    Tells w (op.Tick (tick_op.CopyWaker s) ∷ []) (copy_sleeper_by b w s)
 tells-copy true w s = quiet w _ _ _ refl (omega arith) refl
 tells-copy false w s = let c = tells-copied s.waker w in quiet w _ _ _ c.0 c.1 refl
 
@@ -119,13 +143,19 @@ tells-anew : (b : Bool) (w : World) (s : Sleeping) → Tells w (op.Tick (tick_op
 tells-anew true w s = loud w _ _ _ (omega arith)
 tells-anew false w s = quiet w _ _ _ refl (omega arith) refl
 
-tells-listed : (b : Bool) (w : World) (n : ℕ) (s : Sleeping) → Tells w (op.Tick (tick_op.LieDown s) ∷ []) (lie_listed_by b w n s)
+tells-listed : (b : Bool) (w : World) (n : ℕ) (s : Sleeping) →
+    Tells w (op.Tick (tick_op.LieDown s) ∷ []) (lie_listed_by b w n s)
 tells-listed true w n s = loud w _ _ _ (omega arith)
 tells-listed false w n s = quiet w _ _ _ refl (omega arith) refl
 
-tells-again : (o : Option ℕ) (w : World) (n : ℕ) (s : Sleeping) → Tells w (op.Tick (tick_op.LieDown s) ∷ []) (lie_again_by o w n s)
+tells-again : (o : Option ℕ) (w : World) (n : ℕ) (s : Sleeping) →
+    Tells w (op.Tick (tick_op.LieDown s) ∷ []) (lie_again_by o w n s)
 tells-again None w n s = tells-listed _ w n s
-tells-again (Some at) w n s = record { on = λ i j k a m x y u l g t. let z = length-set w.sleepers.wakers at (n, s) in record { told = λ p q. grind arith } }
+tells-again (Some at) w n s =
+    record {
+      on = λ i j k a m x y u l g t. let z = length-set w.sleepers.wakers at (n, s) in
+          record { told = λ p q. grind arith };
+    }
 
 tells-lie : (x : Tick) (w : World) (s : Sleeping) → Tells w (op.Tick (tick_op.LieDown s) ∷ []) (lie_down_by x w s)
 tells-lie Up w s = tells-anew _ w s
@@ -134,47 +164,70 @@ tells-lie Left w s = quiet w _ _ _ refl (omega arith) refl
 
 tells-up : (x : Tick) (w : World) (t f : ℕ) → Tells w (op.Tick (tick_op.GetUp t f) ∷ []) (get_up_by x w t f)
 tells-up Up w t f = loud w _ _ _ (omega arith)
-tells-up (Lies n) w t f = let old = waker_of n w.sleepers.wakers in loud w _ _ _ (omega (arith, weigh-append tells_of (sleeper_goes old) (run_found t f)))
+tells-up (Lies n) w t f = let old = waker_of n w.sleepers.wakers in
+    loud w _ _ _ (omega (arith, weigh-append tells_of (sleeper_goes old) (run_found t f)))
 tells-up Left w t f = loud w _ _ _ (omega arith)
 
 -- one with a waker leaves: it, and its waker
-left : (n at : ℕ) (s : Sleepers Sleeping) → position_of n s.wakers ≡ Some at → length s.wakers ≤ s.count → ((risen n s).count + 1 ≡ s.count) × (length (risen n s).wakers + 1 ≡ length s.wakers)
-left n at s e l = subst (λ (o : Option ℕ). ((freed n (without_entry o s)).count + 1 ≡ s.count) × (length (freed n (without_entry o s)).wakers + 1 ≡ length s.wakers)) (sym e) (by (ltb (length (remove s.wakers at)) s.count) refl)
+left : (n at : ℕ) (s : Sleepers Sleeping) → position_of n s.wakers ≡ Some at → length s.wakers ≤ s.count →
+    ((risen n s).count + 1 ≡ s.count) × (length (risen n s).wakers + 1 ≡ length s.wakers)
+left n at s e l = subst (λ (o : Option ℕ). ((freed n (without_entry o s)).count + 1 ≡ s.count)
+    × (length (freed n (without_entry o s)).wakers + 1 ≡ length s.wakers)) (sym e)
+    (by (ltb (length (remove s.wakers at)) s.count) refl)
   where
     less : length (remove s.wakers at) + 1 ≡ length s.wakers
     less = length-remove s.wakers at (position-within n at s.wakers e)
 
-    by : (b : Bool) → ltb (length (remove s.wakers at)) s.count ≡ b → let r : Sleepers Sleeping = elim b [ true ↦ record s { wakers = remove s.wakers at; count = s.count - 1; free = s.free ++ n ∷ [] } | false ↦ record s { wakers = remove s.wakers at } ] in (r.count + 1 ≡ s.count) × (length r.wakers + 1 ≡ length s.wakers)
+    by : (b : Bool) → ltb (length (remove s.wakers at)) s.count ≡ b →
+        let r : Sleepers Sleeping =
+        elim b [
+          | true ↦ record s { wakers = remove s.wakers at; count = s.count - 1; free = s.free ++ n ∷ [] }
+          | false ↦ record s { wakers = remove s.wakers at }
+        ] in
+        (r.count + 1 ≡ s.count) × (length r.wakers + 1 ≡ length s.wakers)
     by true q = (omega (arith, less, l), less)
-    by false q = let no : s.count ≤ length (remove s.wakers at) = grind (arith, nat_tests) in absurd (omega (arith, no, less, l))
+    by false q = let no : s.count ≤ length (remove s.wakers at) = grind (arith, nat_tests) in
+        absurd (omega (arith, no, less, l))
 
 given : (s : Sleepers Sleeping) → ((given_back s).count ≡ s.count) × ((given_back s).wakers ≡ s.wakers)
 given s = by (ltb s.count s.rooms)
   where
-    by : (b : Bool) → let r : Sleepers Sleeping = elim b [ true ↦ record s { rooms = s.rooms - 1 } | false ↦ s ] in (r.count ≡ s.count) × (r.wakers ≡ s.wakers)
+    by : (b : Bool) → let r : Sleepers Sleeping = elim b [ true ↦ record s { rooms = s.rooms - 1 } | false ↦ s ] in
+        (r.count ≡ s.count) × (r.wakers ≡ s.wakers)
     by true = (refl, refl)
     by false = (refl, refl)
 
-has-place : (n : ℕ) (ws : List (ℕ × Sleeping)) (a : Sleeping) → waker_of n ws ≡ Some a → (at : ℕ) × (position_of n ws ≡ Some at)
+has-place : (n : ℕ) (ws : List (ℕ × Sleeping)) (a : Sleeping) → waker_of n ws ≡ Some a →
+    (at : ℕ) × (position_of n ws ≡ Some at)
 has-place n ws a e = by (position_of n ws) refl e
   where
     by : (o : Option ℕ) → position_of n ws ≡ o → waker_at o ws ≡ Some a → (at : ℕ) × (position_of n ws ≡ Some at)
     by None q k = absurd (cc)
     by (Some at) q k = (at, q)
 
-tells-left : (old : Option Sleeping) (w : World) (t n : ℕ) → waker_of n w.sleepers.wakers ≡ old → Tells w (op.Tick (tick_op.Leave t) ∷ []) (leave_sleepers_by (Lies n) w t)
+tells-left : (old : Option Sleeping) (w : World) (t n : ℕ) → waker_of n w.sleepers.wakers ≡ old →
+    Tells w (op.Tick (tick_op.Leave t) ∷ []) (leave_sleepers_by (Lies n) w t)
 tells-left None w t n e =
     let o = waker_of n w.sleepers.wakers in
-    let told : weigh tells_of (tell_if (is_none o)) ≡ 1 = ap (λ (x : Option Sleeping). weigh tells_of (tell_if (is_none x))) e in
-    loud w _ _ _ (omega (arith, told, weigh-append tells_of (sleeper_goes o ++ tell_if (is_none o)) (end_drop t), weigh-append tells_of (sleeper_goes o) (tell_if (is_none o))))
+    let told : weigh tells_of (tell_if (is_none o)) ≡ 1 =
+    ap (λ (x : Option Sleeping). weigh tells_of (tell_if (is_none x))) e in
+    loud w _ _ _
+    (omega (
+      arith,
+      told,
+      weigh-append tells_of (sleeper_goes o ++ tell_if (is_none o)) (end_drop t),
+      weigh-append tells_of (sleeper_goes o) (tell_if (is_none o)),
+    ))
 tells-left (Some x) w t n e = record {
   on = λ i j k a m p q u l g h. record {
     told = λ b c.
         let here = has-place n w.sleepers.wakers x e in
         let less = left n here.0 w.sleepers here.1 g.listed in
         let same = given (risen n w.sleepers) in
-        let z : length (given_back (risen n w.sleepers)).wakers ≡ length (risen n w.sleepers).wakers = ap length same.1 in
-        moved w.sleepers.count (length w.sleepers.wakers) _ _ i j (omega (arith, less.0, same.0)) (omega (arith, less.1, z)) (omega (arith, p, q)) (h.told b (omega (arith, c, less.0, same.0)));
+        let z : length (given_back (risen n w.sleepers)).wakers ≡ length (risen n w.sleepers).wakers =
+        ap length same.1 in
+        moved w.sleepers.count (length w.sleepers.wakers) _ _ i j (omega (arith, less.0, same.0))
+        (omega (arith, less.1, z)) (omega (arith, p, q)) (h.told b (omega (arith, c, less.0, same.0)));
   };
 }
   where
@@ -183,7 +236,13 @@ tells-left (Some x) w t n e = record {
     moved c n c2 n2 i j a b l (inr x) = inr (omega (arith, l, x))
 
 tells-leave : (x : Tick) (w : World) (t : ℕ) → Tells w (op.Tick (tick_op.Leave t) ∷ []) (leave_sleepers_by x w t)
-tells-leave Up w t = record { on = λ i j k a m x y u l g h. let same = given w.sleepers in let z : length (given_back w.sleepers).wakers ≡ length w.sleepers.wakers = ap length same.1 in let y2 = same.0 in record { told = λ p q. grind arith } }
+tells-leave Up w t =
+    record {
+      on = λ i j k a m x y u l g h. let same = given w.sleepers in
+          let z : length (given_back w.sleepers).wakers ≡ length w.sleepers.wakers = ap length same.1 in
+          let y2 = same.0 in
+          record { told = λ p q. grind arith };
+    }
 tells-leave (Lies n) w t = tells-left _ w t n refl
 tells-leave Left w t = quiet w _ _ _ refl (omega arith) refl
 
@@ -224,17 +283,25 @@ tells-react p (op.User (user_op.DropOutput f)) end.Done w a = quiet w _ _ _ refl
 tells-react p (op.User (user_op.CallOutside x)) end.Done w a = quiet w _ _ _ refl (omega arith) refl
 tells-react p _ _ w a = absurd (cc)
 
-tells-with : (w v : World) (x : Option ℕ) (d : ℕ → Done) → beds w ≡ beds v → v.queue ≡ w.queue → ((f : ℕ) → Tells w [] (d f)) → Tells w [] (with_future v x d)
+tells-with : (w v : World) (x : Option ℕ) (d : ℕ → Done) → beds w ≡ beds v → v.queue ≡ w.queue →
+    ((f : ℕ) → Tells w [] (d f)) → Tells w [] (with_future v x d)
 tells-with w v None d e q n = quiet w v _ _ e (omega (arith, ap (λ (c : ClosableQueue ℕ). length c.items) q)) refl
 tells-with w v (Some f) d e q n = n f
 
-pub tells-begun : (p : ℕ) (w : World) (here : Option ℕ) (c : Call) → Tells w [] (begun p (log w (event.CallBegun p c)) here c)
-tells-begun p w here (call.Wake n) = tells-with w (log w (event.CallBegun p (call.Wake n))) (kept w n) _ refl refl (λ f. quiet w _ _ _ refl (omega arith) refl)
-tells-begun p w here (call.WakeByRef n) = tells-with w (log w (event.CallBegun p (call.WakeByRef n))) (kept w n) _ refl refl (λ f. quiet w _ _ _ refl (omega arith) refl)
-tells-begun p w here (call.Copy n) = tells-with w (log w (event.CallBegun p (call.Copy n))) (kept w n) _ refl refl (λ f. quiet w _ _ _ refl (omega arith) refl)
-tells-begun p w here (call.DropWaker n) = tells-with w (log w (event.CallBegun p (call.DropWaker n))) (kept w n) _ refl refl (λ f. quiet w _ _ _ refl (omega arith) refl)
-tells-begun p w here call.Keep = tells-with w (log w (event.CallBegun p call.Keep)) here _ refl refl (λ f. quiet w _ _ _ refl (omega arith) refl)
-tells-begun p w here call.WakeSelf = tells-with w (log w (event.CallBegun p call.WakeSelf)) here _ refl refl (λ f. quiet w _ _ _ refl (omega arith) refl)
+pub tells-begun : (p : ℕ) (w : World) (here : Option ℕ) (c : Call) →
+    Tells w [] (begun p (log w (event.CallBegun p c)) here c)
+tells-begun p w here (call.Wake n) = tells-with w (log w (event.CallBegun p (call.Wake n))) (kept w n) _ refl refl
+    (λ f. quiet w _ _ _ refl (omega arith) refl)
+tells-begun p w here (call.WakeByRef n) = tells-with w (log w (event.CallBegun p (call.WakeByRef n))) (kept w n) _ refl
+    refl (λ f. quiet w _ _ _ refl (omega arith) refl)
+tells-begun p w here (call.Copy n) = tells-with w (log w (event.CallBegun p (call.Copy n))) (kept w n) _ refl refl
+    (λ f. quiet w _ _ _ refl (omega arith) refl)
+tells-begun p w here (call.DropWaker n) = tells-with w (log w (event.CallBegun p (call.DropWaker n))) (kept w n) _ refl
+    refl (λ f. quiet w _ _ _ refl (omega arith) refl)
+tells-begun p w here call.Keep =
+    tells-with w (log w (event.CallBegun p call.Keep)) here _ refl refl (λ f. quiet w _ _ _ refl (omega arith) refl)
+tells-begun p w here call.WakeSelf = tells-with w (log w (event.CallBegun p call.WakeSelf)) here _ refl refl
+    (λ f. quiet w _ _ _ refl (omega arith) refl)
 tells-begun p w here call.Spawn = quiet w _ _ _ refl (omega arith) refl
 tells-begun p w here call.TryTick = quiet w _ _ _ refl (omega arith) refl
 tells-begun p w here call.IsEmpty = quiet w _ _ _ refl (omega arith) refl

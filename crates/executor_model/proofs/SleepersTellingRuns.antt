@@ -1,4 +1,5 @@
--- After every list of steps, where a Runnable stands in the queue and a tick lies, a sleeper is notified or will be told.
+-- After every list of steps, where a Runnable stands in the queue and a tick lies,
+-- a sleeper is notified or will be told.
 use Rattle.std.proofs.Common.{◌≡◌, ℕ, ◌<◌, ◌≤◌, List, [], ◌∷◌, ◌++◌, length, set, refl, arith}
 use Rattle.std.specs.Prelude.{reverse}
 use Rattle.executor_model.specs.declared.call.Reply.{Reply}
@@ -50,20 +51,31 @@ tell-way s p old rest d (acted h o q z) = rw (z, q) (tells-act _ p h o s.world r
 tell-way s p old rest d (reacted o u a q z) = rw (z, q) (tells-react p o u s.world a)
 tell-way s p old rest d (called c q r n z) = rw (z, q) (tells-begun p s.world (polled_by (top (stack s p))) c)
 
-tell-moves : (s : Machine) (p : ℕ) (old rest : List Op) (d : Done) → Good s → p < length s.parties → stack s p ≡ rest ++ reverse old → Way s p old rest d → Tell s → Tell (unsettled s p rest d)
+tell-moves : (s : Machine) (p : ℕ) (old rest : List Op) (d : Done) → Good s → p < length s.parties →
+    stack s p ≡ rest ++ reverse old → Way s p old rest d → Tell s → Tell (unsettled s p rest d)
 tell-moves s p old rest d good l e w h = record {
   followed = followed-moves s p old rest d good l e w h.followed;
-  told = (tell-way s p old rest d w).on _ _ (weigh_all tells_of (set s.parties p rest)) _ (weigh_all hands_of (set s.parties p rest)) (split tells_of s.parties p old rest l e) (weigh_all-push tells_of s.parties p rest d.next l) (split hands_of s.parties p old rest l e) (hands-all (set s.parties p rest)) (ground s h.followed) h.told;
+  told = (tell-way s p old rest d w).on _ _ (weigh_all tells_of (set s.parties p rest)) _
+      (weigh_all hands_of (set s.parties p rest)) (split tells_of s.parties p old rest l e)
+      (weigh_all-push tells_of s.parties p rest d.next l) (split hands_of s.parties p old rest l e)
+      (hands-all (set s.parties p rest)) (ground s h.followed) h.told;
 }
 
-tell-ends : (s : Machine) (p : ℕ) (a : Reply) (held : Hold) (below : List Op) → p < length s.parties → stack s p ≡ below ++ reverse (op.End a held ∷ []) → Tell s → Tell (unsettled s p below (done (log s.world (event.CallEnded p a)) []))
+tell-ends : (s : Machine) (p : ℕ) (a : Reply) (held : Hold) (below : List Op) → p < length s.parties →
+    stack s p ≡ below ++ reverse (op.End a held ∷ []) → Tell s →
+    Tell (unsettled s p below (done (log s.world (event.CallEnded p a)) []))
 tell-ends s p a held below l e h = record {
   followed = followed-ends s p a held below l e h.followed;
-  told = (quiet s.world (log s.world (event.CallEnded p a)) (op.End a held ∷ []) [] refl (omega arith) refl).on _ _ (weigh_all tells_of (set s.parties p below)) _ (weigh_all hands_of (set s.parties p below)) (split tells_of s.parties p (op.End a held ∷ []) below l e) (weigh_all-push tells_of s.parties p below [] l) (split hands_of s.parties p (op.End a held ∷ []) below l e) (hands-all (set s.parties p below)) (ground s h.followed) h.told;
+  told = (quiet s.world (log s.world (event.CallEnded p a)) (op.End a held ∷ []) [] refl (omega arith) refl).on _ _
+      (weigh_all tells_of (set s.parties p below)) _ (weigh_all hands_of (set s.parties p below))
+      (split tells_of s.parties p (op.End a held ∷ []) below l e) (weigh_all-push tells_of s.parties p below [] l)
+      (split hands_of s.parties p (op.End a held ∷ []) below l e) (hands-all (set s.parties p below))
+      (ground s h.followed) h.told;
 }
 
 pub tell : (limit n : ℕ) (ts : List Step) → Tell (run ts (start limit n))
-tell limit n ts = along Tell tell-moves tell-ends ts (start limit n) (good-start limit n) (record { followed = followed-start limit n; told = record { told = λ p q. absurd (omega (arith, p)) } })
+tell limit n ts = along Tell tell-moves tell-ends ts (start limit n) (good-start limit n)
+    (record { followed = followed-start limit n; told = record { told = λ p q. absurd (omega (arith, p)) } })
 
 pub are_told : (limit n : ℕ) (ts : List Step) → SleepersAreTold (run ts (start limit n))
 are_told limit n ts = (tell limit n ts).told.told

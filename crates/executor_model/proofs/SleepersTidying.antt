@@ -13,7 +13,8 @@ use Rattle.executor_model.specs.declared.step.Hint.{Hint}
 use Rattle.executor_model.specs.World.{World, Tick, Up, Lies, Left}
 use Rattle.executor_model.specs.Acts.{waker_goes, run_found, search_by, sleeper_goes, get_up_by, sleeper_act, tick_act}
 use Rattle.executor_model.proofs.Borrowing.{uses_of, bare, Tidy, tidy-light}
-use Rattle.executor_model.proofs.SleepersNext.{Unseen, sleeper-unseen, Blind, make-blind, copy-blind, lie-blind, leave-blind}
+use Rattle.executor_model.proofs.SleepersNext.{Unseen, sleeper-unseen, Blind, make-blind}
+use Rattle.executor_model.proofs.SleepersNext.{copy-blind, lie-blind, leave-blind}
 use Rattle.executor_model.proofs.Tidying.{light-wake}
 
 unseen : Unseen uses_of
@@ -23,7 +24,14 @@ pub tidy-sleeper : (p : ℕ) (o : SleeperOp) (w : World) → Tidy (op.Sleeper o 
 tidy-sleeper p o w = tidy-light _ _ (sleeper-unseen uses_of unseen p o w)
 
 blind : Blind uses_of
-blind = record { tick = no-use; exchange = refl; call = λ s. refl; release = λ f. refl; end = λ r t. refl; made = λ r. refl }
+blind = record {
+  tick = no-use;
+  exchange = refl;
+  call = λ s. refl;
+  release = λ f. refl;
+  end = λ r t. refl;
+  made = λ r. refl;
+}
   where
     no-use : (o : TickOp) → uses_of (op.Tick o) ≡ 0
     no-use tick_op.MakeTick = refl
@@ -33,7 +41,8 @@ blind = record { tick = no-use; exchange = refl; call = λ s. refl; release = λ
     no-use (tick_op.GetUp t f) = refl
     no-use (tick_op.Leave t) = refl
 
-tidy-search : (x : Tick) (w : World) (q : List ℕ) (s : Sleeping) → Tidy (op.Tick (tick_op.Search s) ∷ []) (search_by x w q s).next
+tidy-search : (x : Tick) (w : World) (q : List ℕ) (s : Sleeping) →
+    Tidy (op.Tick (tick_op.Search s) ∷ []) (search_by x w q s).next
 tidy-search x w [] s = record { keeps = λ h. refl }
 tidy-search Up w (f ∷ rest) s = record { keeps = λ h. refl }
 tidy-search (Lies n) w (f ∷ rest) s = record { keeps = λ h. refl }

@@ -15,7 +15,9 @@ use Rattle.executor_model.specs.declared.op.Waker.{Waker}
 use Rattle.executor_model.specs.declared.op.Waker.TheVariants.{Task, Outside}
 use Rattle.executor_model.specs.declared.step.Hint.{Hint}
 use Rattle.executor_model.specs.World.{World, Tick, Up, Lies, Left, log, log_if}
-use Rattle.executor_model.specs.Acts.{exchange_by, hand_out_by, call_waker, make_tick_by, copied, copy_sleeper_by, lie_anew_by, lie_listed_by, lie_again_by, lie_down_by, get_up_by, leave_sleepers_by, sleeper_act, tick_act}
+use Rattle.executor_model.specs.Acts.{exchange_by, hand_out_by, call_waker, make_tick_by, copied}
+use Rattle.executor_model.specs.Acts.{copy_sleeper_by, lie_anew_by, lie_listed_by, lie_again_by, lie_down_by}
+use Rattle.executor_model.specs.Acts.{get_up_by, leave_sleepers_by, sleeper_act, tick_act}
 
 -- the parts that tasks, sleepers, ticks and the trace are no part of
 pub record Rest : Type 0 where
@@ -29,7 +31,16 @@ pub record Rest : Type 0 where
   pub gone : Bool
 
 abbrev pub rest_of : World → Rest
-rest_of w = record { limit = w.limit; inside = w.inside; queue = w.queue; table = w.table; leaving = w.leaving; waking = w.waking; wakers = w.wakers; gone = w.gone }
+rest_of w = record {
+  limit = w.limit;
+  inside = w.inside;
+  queue = w.queue;
+  table = w.table;
+  leaving = w.leaving;
+  waking = w.waking;
+  wakers = w.wakers;
+  gone = w.gone;
+}
 
 log_if-rest : (b : Bool) (w : World) (e : Event) → rest_of w ≡ rest_of (log_if b w e)
 log_if-rest true w e = refl

@@ -1,5 +1,6 @@
 -- How many ticks lie, and under which numbers, where one of them changes.
-use Rattle.std.proofs.Common.{◌≡◌, ◌≢◌, ℕ, zero, suc, ◌+◌, ◌<◌, ◌≤◌, List, [], ◌∷◌, ◌++◌, length, get_or, set, Bool, true, false, eqb, refl, sym, ap, ◌∙◌, inl, inr, ⊎_elim, subst, arith}
+use Rattle.std.proofs.Common.{◌≡◌, ◌≢◌, ℕ, zero, suc, ◌+◌, ◌<◌, ◌≤◌, List, [], ◌∷◌, ◌++◌, length, get_or, set}
+use Rattle.std.proofs.Common.{Bool, true, false, eqb, refl, sym, ap, ◌∙◌, inl, inr, ⊎_elim, subst, arith}
 use Rattle.std.proofs.lemmas.Bool.Decides.{nat_tests}
 use Rattle.executor_parts.specs.Order.{IsIn, IsApart, without}
 use Rattle.executor_model.specs.Sound.{times}
@@ -18,12 +19,14 @@ abbrev pub used : ℕ → List Tick → ℕ
 used n [] = 0
 used n (x ∷ xs) = lies_at n x + used n xs
 
-pub used-set : (n : ℕ) (ts : List Tick) (t : ℕ) (x : Tick) → t < length ts → used n (set ts t x) + lies_at n (get_or ts t Left) ≡ used n ts + lies_at n x
+pub used-set : (n : ℕ) (ts : List Tick) (t : ℕ) (x : Tick) → t < length ts →
+    used n (set ts t x) + lies_at n (get_or ts t Left) ≡ used n ts + lies_at n x
 used-set n [] t x h = absurd (omega arith)
 used-set n (y ∷ ts) zero x h = omega arith
 used-set n (y ∷ ts) (suc t) x h = omega (arith, used-set n ts t x (omega arith))
 
-pub lying-set : (ts : List Tick) (t : ℕ) (x : Tick) → t < length ts → lying (set ts t x) + lies (get_or ts t Left) ≡ lying ts + lies x
+pub lying-set : (ts : List Tick) (t : ℕ) (x : Tick) → t < length ts →
+    lying (set ts t x) + lies (get_or ts t Left) ≡ lying ts + lies x
 lying-set [] t x h = absurd (omega arith)
 lying-set (y ∷ ts) zero x h = omega arith
 lying-set (y ∷ ts) (suc t) x h = omega (arith, lying-set ts t x (omega arith))
@@ -63,7 +66,8 @@ used-by n (y ∷ ts) zero e = omega (arith, used-one n y e)
 used-by n (y ∷ ts) (suc t) e = omega (arith, used-by n ts t e)
 
 -- where two do, they are counted twice
-pub used-apart : (n : ℕ) (ts : List Tick) (t u : ℕ) → used n ts ≤ 1 → get_or ts t Left ≡ Lies n → get_or ts u Left ≡ Lies n → t ≡ u
+pub used-apart : (n : ℕ) (ts : List Tick) (t u : ℕ) → used n ts ≤ 1 → get_or ts t Left ≡ Lies n →
+    get_or ts u Left ≡ Lies n → t ≡ u
 used-apart n [] t u h a b = absurd (cc)
 used-apart n (y ∷ ts) zero zero h a b = refl
 used-apart n (y ∷ ts) zero (suc u) h a b = absurd (omega (arith, h, used-one n y a, used-by n ts u b))
@@ -87,7 +91,8 @@ in-times n (x ∷ xs) (inr e) = omega (arith, in-times n xs e)
 pub times-apart : (n : ℕ) (xs : List ℕ) → IsApart xs → times n xs ≤ 1
 times-apart n [] a = omega arith
 times-apart n (x ∷ xs) a = ⊎_elim
-    (λ (z : (same n x ≡ 1) × (eqb n x ≡ true) × (n ≡ x)). omega (arith, z.0, none (times n xs) refl (λ i. a.0 (subst (λ k. IsIn k xs) z.2 (times-in n xs i)))))
+    (λ (z : (same n x ≡ 1) × (eqb n x ≡ true) × (n ≡ x)).
+    omega (arith, z.0, none (times n xs) refl (λ i. a.0 (subst (λ k. IsIn k xs) z.2 (times-in n xs i)))))
     (λ (z : (same n x ≡ 0) × (eqb n x ≡ false) × (n ≢ x)). omega (arith, z.0, times-apart n xs a.1))
     (same_cases n x)
   where
@@ -99,7 +104,9 @@ pub times-without : (n m : ℕ) (xs : List ℕ) → IsIn m xs → times n (witho
 times-without n m [] i = absurd i
 times-without n m (x ∷ xs) i = by (eqb m x) refl i (λ j. times-without n m xs j)
   where
-    by : (b : Bool) → eqb m x ≡ b → IsIn m (x ∷ xs) → (IsIn m xs → times n (without m xs) + same n m ≡ times n xs) → times n (let ys : List ℕ = elim b [ true ↦ xs | false ↦ x ∷ without m xs ] in ys) + same n m ≡ times n (x ∷ xs)
-    by true e j r = let q : m ≡ x = grind (arith, nat_tests) in let z : same n m ≡ same n x = ap (same n) q in omega (arith, z)
+    by : (b : Bool) → eqb m x ≡ b → IsIn m (x ∷ xs) → (IsIn m xs → times n (without m xs) + same n m ≡ times n xs) →
+        times n (let ys : List ℕ = elim b [ true ↦ xs | false ↦ x ∷ without m xs ] in ys) + same n m ≡ times n (x ∷ xs)
+    by true e j r = let q : m ≡ x = grind (arith, nat_tests) in let z : same n m ≡ same n x = ap (same n) q in
+        omega (arith, z)
     by false e (inl j) r = let no : m ≢ x = grind (arith, nat_tests) in absurd (no (sym j))
     by false e (inr j) r = omega (arith, r j)

@@ -18,7 +18,9 @@ use Rattle.executor_model.specs.declared.op.HandleOp.TheVariants as handle_op
 use Rattle.executor_model.specs.declared.op.QueueOp.TheVariants as queue_op
 use Rattle.executor_model.specs.World.{World, task, awaiter_of}
 use Rattle.executor_model.specs.Carried.{owed_ops, future_ops, awaiter_ops}
-use Rattle.executor_model.specs.Acts.{append_by, take_by, enter_by, copy_by, look_by, look_again_by, copy_awaiter_by, register_by, waker_goes, let_go, end_register_by, notify_by, told, call_awaiter, closing_ops, drop_next_by, wake, wake_next_by, drain_by}
+use Rattle.executor_model.specs.Acts.{append_by, take_by, enter_by, copy_by, look_by, look_again_by, copy_awaiter_by}
+use Rattle.executor_model.specs.Acts.{register_by, waker_goes, let_go, end_register_by, notify_by, told, call_awaiter}
+use Rattle.executor_model.specs.Acts.{closing_ops, drop_next_by, wake, wake_next_by, drain_by}
 use Rattle.executor_model.specs.Weights.{weigh}
 use Rattle.executor_model.proofs.Lists.{weigh-append}
 use Rattle.executor_model.proofs.Owed.{owed-awaiter, owed-nothing}
@@ -30,12 +32,24 @@ light-both xs ys a b = omega (arith, weigh-append uses_of xs ys, a, b)
 light-awaiter : (f : ℕ) (o : Option AwaiterDebt) → weigh uses_of (awaiter_ops f o) ≡ 0
 light-awaiter f o = owed-awaiter uses_of f (record { notify = λ m. refl }) o
 
-pub light-owed : (f : ℕ) (there : Bool) (o : Owed) → weigh uses_of (future_ops there f o.future) ≡ 0 → weigh uses_of (owed_ops there f o) ≡ 0
-light-owed f there o z = owed-nothing uses_of f (record { append = refl; output = refl; release = refl; settle_closed = refl; give_up = refl; end_closed = refl; detach = refl }) there o z (light-awaiter f o.awaiter)
+pub light-owed : (f : ℕ) (there : Bool) (o : Owed) → weigh uses_of (future_ops there f o.future) ≡ 0 →
+    weigh uses_of (owed_ops there f o) ≡ 0
+light-owed f there o z =
+    owed-nothing uses_of f (record {
+      append = refl;
+      output = refl;
+      release = refl;
+      settle_closed = refl;
+      give_up = refl;
+      end_closed = refl;
+      detach = refl;
+    }) there o z (light-awaiter f o.awaiter)
 
 -- a move at which no future is owed
-pub light-carried : (f : ℕ) (there : Bool) (m : Moved) → m.owed.future ≡ None → weigh uses_of (owed_ops there f m.owed) ≡ 0
-light-carried f there m e = light-owed f there m.owed (ap (λ (x : Option FutureDebt). weigh uses_of (future_ops there f x)) e)
+pub light-carried : (f : ℕ) (there : Bool) (m : Moved) → m.owed.future ≡ None →
+    weigh uses_of (owed_ops there f m.owed) ≡ 0
+light-carried f there m e =
+    light-owed f there m.owed (ap (λ (x : Option FutureDebt). weigh uses_of (future_ops there f x)) e)
 
 pub no-wake : (b c : Bool) (s : State) → (moves.wake_by_reference_by b c s).owed.future ≡ None
 no-wake true c s = refl
@@ -78,15 +92,18 @@ pub light-copy : (b : Bool) (w : World) (f : ℕ) (held : Hold) → weigh uses_o
 light-copy true w f held = refl
 light-copy false w f held = refl
 
-pub light-look : (o : Option Answer) (p : ℕ) (w : World) (f : ℕ) (a : Waker) (m : Moved) → weigh uses_of (look_by o p w f a m).next ≡ 0
+pub light-look : (o : Option Answer) (p : ℕ) (w : World) (f : ℕ) (a : Waker) (m : Moved) →
+    weigh uses_of (look_by o p w f a m).next ≡ 0
 light-look None p w f a m = refl
 light-look (Some x) p w f a m = light-both (awaiter_ops f m.owed.awaiter) _ (light-awaiter f m.owed.awaiter) refl
 
-pub light-again : (o : Option Answer) (p : ℕ) (w : World) (f : ℕ) (m : Moved) → weigh uses_of (look_again_by o p w f m).next ≡ 0
+pub light-again : (o : Option Answer) (p : ℕ) (w : World) (f : ℕ) (m : Moved) →
+    weigh uses_of (look_again_by o p w f m).next ≡ 0
 light-again None p w f m = refl
 light-again (Some x) p w f m = light-both (awaiter_ops f m.owed.awaiter) _ (light-awaiter f m.owed.awaiter) refl
 
-pub light-copy_awaiter : (b : Bool) (p : ℕ) (w : World) (f : ℕ) (a : Waker) → weigh uses_of (copy_awaiter_by b p w f a).next ≡ 0
+pub light-copy_awaiter : (b : Bool) (p : ℕ) (w : World) (f : ℕ) (a : Waker) →
+    weigh uses_of (copy_awaiter_by b p w f a).next ≡ 0
 light-copy_awaiter true p w f a = refl
 light-copy_awaiter false p w f a = refl
 
@@ -102,9 +119,16 @@ light-let_go : (a : Option Awaiter) → weigh uses_of (let_go a) ≡ 0
 light-let_go None = refl
 light-let_go (Some a) = light-goes a.waker
 
-pub light-end_register : (b : Bool) (w : World) (f : ℕ) (a : Waker) (k : ℕ) → weigh uses_of (end_register_by b w f a k).next ≡ 0
-light-end_register true w f a k = omega (arith, light-both (let_go (awaiter_of w f)) (op.Handle (handle_op.LookAgain f) ∷ []) (light-let_go (awaiter_of w f)) refl)
-light-end_register false w f a k = light-both (let_go (awaiter_of w f)) (op.Handle (handle_op.LookAgain f) ∷ []) (light-let_go (awaiter_of w f)) refl
+pub light-end_register : (b : Bool) (w : World) (f : ℕ) (a : Waker) (k : ℕ) →
+    weigh uses_of (end_register_by b w f a k).next ≡ 0
+light-end_register true w f a k =
+    omega (
+      arith,
+      light-both (let_go (awaiter_of w f)) (op.Handle (handle_op.LookAgain f) ∷ [])
+          (light-let_go (awaiter_of w f)) refl,
+    )
+light-end_register false w f a k = light-both (let_go (awaiter_of w f)) (op.Handle (handle_op.LookAgain f) ∷ [])
+    (light-let_go (awaiter_of w f)) refl
 
 pub light-notify : (b : Bool) (w : World) (f : ℕ) (mine : Bool) → weigh uses_of (notify_by b w f mine).next ≡ 0
 light-notify true w f mine = refl
@@ -133,7 +157,8 @@ light-drop_next p w (f ∷ rest) = omega (arith, light-closing rest (w.waking ++
 
 pub light-wake_next : (p : ℕ) (w : World) (ws : List ℕ) → weigh uses_of (wake_next_by p w ws).next ≡ 0
 light-wake_next p w [] = refl
-light-wake_next p w (f ∷ rest) = light-both (wake p (record w { waking = rest }) f).next (closing_ops [] rest) (light-wake p (record w { waking = rest }) f) (light-closing [] rest)
+light-wake_next p w (f ∷ rest) = light-both (wake p (record w { waking = rest }) f).next (closing_ops [] rest)
+    (light-wake p (record w { waking = rest }) f) (light-closing [] rest)
 
 pub light-drain : (p : ℕ) (w : World) (q : List ℕ) → weigh uses_of (drain_by p w q).next ≡ 0
 light-drain p w [] = refl

@@ -22,7 +22,11 @@ use Rattle.executor_model.specs.Acts.{act}
 use Rattle.executor_model.specs.Weights.{weigh}
 use Rattle.executor_model.specs.Steps.{with_future, kept, accepts, begun, react}
 use Rattle.executor_model.proofs.Borrowing.{uses_of, Tidy, tidy-light}
-use Rattle.executor_model.proofs.Tidying.{light-again, light-append, light-call, light-carried, light-closing, light-copy, light-copy_awaiter, light-drain, light-drop_next, light-end_register, light-enter, light-look, light-notify, light-owed, light-register, light-told, light-wake, light-wake_next, no-cancel, no-detach, no-give_up, no-release, no-wake, tidy-take, tidy-using}
+use Rattle.executor_model.proofs.Tidying.{light-again, light-append, light-call, light-carried, light-closing}
+use Rattle.executor_model.proofs.Tidying.{light-copy, light-copy_awaiter, light-drain, light-drop_next}
+use Rattle.executor_model.proofs.Tidying.{light-end_register, light-enter, light-look, light-notify, light-owed}
+use Rattle.executor_model.proofs.Tidying.{light-register, light-told, light-wake, light-wake_next, no-cancel, no-detach}
+use Rattle.executor_model.proofs.Tidying.{no-give_up, no-release, no-wake, tidy-take, tidy-using}
 use Rattle.executor_model.proofs.SleepersTidying.{tidy-sleeper, tidy-tick}
 
 -- what it needs beside: a Runnable that is dropped is one of a future that has no entry any more
@@ -34,18 +38,28 @@ pub tidy-act : (p : ℕ) (h : Hint) (o : Op) (w : World) → NeedsNoEntry w o �
 tidy-act p h (op.Table table_op.Enter) w n = tidy-light _ _ (light-enter _ _ p w)
 tidy-act p h (op.Queue queue_op.Take) w n = tidy-take _ w
 tidy-act p h (op.Queue (queue_op.Append f)) w n = tidy-light _ _ (light-append _ w f)
-tidy-act p h (op.Move move.WakeByReference f) w n = tidy-light _ _ (light-carried f _ (moves.wake_by_reference (task w f)) (no-wake _ _ (task w f)))
+tidy-act p h (op.Move move.WakeByReference f) w n =
+    tidy-light _ _ (light-carried f _ (moves.wake_by_reference (task w f)) (no-wake _ _ (task w f)))
 tidy-act p h (op.Move move.Wake f) w n = tidy-light _ _ (light-wake p w f)
-tidy-act p h (op.Move move.Release f) w n = tidy-light _ _ (light-carried f _ (moves.release (task w f)) (no-release _ _ (task w f)))
+tidy-act p h (op.Move move.Release f) w n =
+    tidy-light _ _ (light-carried f _ (moves.release (task w f)) (no-release _ _ (task w f)))
 tidy-act p h (op.Move move.TakeUp f) w n = tidy-using (op.Move move.TakeUp f) _ refl
-tidy-act p h (op.Move move.SettleClosed f) w n = tidy-light _ _ (light-carried f (among f w.table) (moves.settle_closed (task w f)) refl)
-tidy-act p h (op.Move move.GiveUp f) w n = tidy-light _ _ (light-carried f _ (moves.give_up (task w f)) (no-give_up _ (task w f)))
-tidy-act p h (op.Move move.EndReady f) w n = tidy-light _ _ (light-carried f (among f w.table) (moves.end_ready (task w f)) refl)
+tidy-act p h (op.Move move.SettleClosed f) w n =
+    tidy-light _ _ (light-carried f (among f w.table) (moves.settle_closed (task w f)) refl)
+tidy-act p h (op.Move move.GiveUp f) w n =
+    tidy-light _ _ (light-carried f _ (moves.give_up (task w f)) (no-give_up _ (task w f)))
+tidy-act p h (op.Move move.EndReady f) w n =
+    tidy-light _ _ (light-carried f (among f w.table) (moves.end_ready (task w f)) refl)
 tidy-act p h (op.Move move.EndPending f) w n = tidy-using (op.Move move.EndPending f) _ refl
-tidy-act p h (op.Move move.EndClosed f) w n = tidy-light _ _ (light-carried f (among f w.table) (moves.end_closed (task w f)) refl)
-tidy-act p h (op.Move move.DropRunnable f) w n = tidy-light _ _ (light-owed f _ (moves.drop_runnable (task w f)).owed (ap (λ (b : Bool). weigh uses_of (drop_ops b f)) n))
-tidy-act p h (op.Move move.Cancel f) w n = tidy-light _ _ (light-carried f _ (moves.cancel (task w f)) (no-cancel _ _ (task w f)))
-tidy-act p h (op.Move move.Detach f) w n = tidy-light _ _ (light-carried f _ (moves.detach (task w f)) (no-detach _ _ (task w f)))
+tidy-act p h (op.Move move.EndClosed f) w n =
+    tidy-light _ _ (light-carried f (among f w.table) (moves.end_closed (task w f)) refl)
+tidy-act p h (op.Move move.DropRunnable f) w n =
+    tidy-light _ _ (light-owed f _ (moves.drop_runnable (task w f)).owed
+    (ap (λ (b : Bool). weigh uses_of (drop_ops b f)) n))
+tidy-act p h (op.Move move.Cancel f) w n =
+    tidy-light _ _ (light-carried f _ (moves.cancel (task w f)) (no-cancel _ _ (task w f)))
+tidy-act p h (op.Move move.Detach f) w n =
+    tidy-light _ _ (light-carried f _ (moves.detach (task w f)) (no-detach _ _ (task w f)))
 tidy-act p h (op.Table (table_op.TakeToPoll f)) w n = tidy-using (op.Table (table_op.TakeToPoll f)) _ refl
 tidy-act p h (op.User (user_op.Poll f)) w n = tidy-using (op.User (user_op.Poll f)) _ refl
 tidy-act p h (op.Table (table_op.PutBack f)) w n = tidy-using (op.Table (table_op.PutBack f)) _ refl
@@ -53,11 +67,13 @@ tidy-act p h (op.Table (table_op.TakeToDrop f)) w n = tidy-using (op.Table (tabl
 tidy-act p h (op.User (user_op.BeginDrop f)) w n = tidy-using (op.User (user_op.BeginDrop f)) _ refl
 tidy-act p h (op.Table (table_op.LeaveTable f)) w n = tidy-using (op.Table (table_op.LeaveTable f)) _ refl
 tidy-act p h (op.Waker (waker_op.CopyWaker f held)) w n = tidy-light _ _ (light-copy _ w f held)
-tidy-act p h (op.Handle (handle_op.Look f a)) w n = tidy-light _ _ (light-look (moves.poll (task w f)).owed.answer p w f a (moves.poll (task w f)))
+tidy-act p h (op.Handle (handle_op.Look f a)) w n =
+    tidy-light _ _ (light-look (moves.poll (task w f)).owed.answer p w f a (moves.poll (task w f)))
 tidy-act p h (op.Handle (handle_op.CopyAwaiter f a)) w n = tidy-light _ _ (light-copy_awaiter _ p w f a)
 tidy-act p h (op.Handle (handle_op.Register f a k)) w n = tidy-light _ _ (light-register _ w f a k)
 tidy-act p h (op.Handle (handle_op.EndRegister f a k)) w n = tidy-light _ _ (light-end_register _ w f a k)
-tidy-act p h (op.Handle (handle_op.LookAgain f)) w n = tidy-light _ _ (light-again (moves.look_again (task w f)).owed.answer p w f (moves.look_again (task w f)))
+tidy-act p h (op.Handle (handle_op.LookAgain f)) w n =
+    tidy-light _ _ (light-again (moves.look_again (task w f)).owed.answer p w f (moves.look_again (task w f)))
 tidy-act p h (op.Handle (handle_op.Notify f mine)) w n = tidy-light _ _ (light-notify _ w f mine)
 tidy-act p h (op.Handle (handle_op.EndNotify f mine)) w n = tidy-light _ _ (light-told _ f (awaiter_of w f))
 tidy-act p h (op.Waker (waker_op.CallAwaiter f a k)) w n = tidy-light _ _ (light-call p w f a k)
@@ -76,7 +92,8 @@ tidy-react p (op.User (user_op.DropOutput f)) end.Done w k = tidy-light _ _ refl
 tidy-react p (op.User (user_op.CallOutside x)) end.Done w k = tidy-light _ _ refl
 tidy-react p _ _ w k = absurd (cc)
 
-tidy-with : (v : World) (r : Option ℕ) (d : ℕ → Done) → ((f : ℕ) → Tidy [] (d f).next) → Tidy [] (with_future v r d).next
+tidy-with : (v : World) (r : Option ℕ) (d : ℕ → Done) → ((f : ℕ) → Tidy [] (d f).next) →
+    Tidy [] (with_future v r d).next
 tidy-with v None d k = tidy-light _ _ refl
 tidy-with v (Some f) d k = k f
 

@@ -82,10 +82,13 @@ none-next f (Some move.EndNotify) = refl
 
 none-owed : (there : Bool) (f : ℕ) (o : Owed) → AsksForNone (owed_ops there f o)
 none-owed there f o =
-    both (schedule_ops f o.schedule ++ future_ops there f o.future ++ output_ops o.drop_output f ++ awaiter_ops f o.awaiter) (next_ops f o.next)
-    (both (schedule_ops f o.schedule ++ future_ops there f o.future ++ output_ops o.drop_output f) (awaiter_ops f o.awaiter)
+    both (schedule_ops f o.schedule ++ future_ops there f o.future ++ output_ops o.drop_output f
+    ++ awaiter_ops f o.awaiter) (next_ops f o.next)
+    (both (schedule_ops f o.schedule ++ future_ops there f o.future ++ output_ops o.drop_output f)
+    (awaiter_ops f o.awaiter)
     (both (schedule_ops f o.schedule ++ future_ops there f o.future) (output_ops o.drop_output f)
-    (both (schedule_ops f o.schedule) (future_ops there f o.future) (none-scheduled f o.schedule) (none-future there f o.future))
+    (both (schedule_ops f o.schedule) (future_ops there f o.future) (none-scheduled f o.schedule)
+    (none-future there f o.future))
     (none-output o.drop_output f)) (none-awaiter f o.awaiter)) (none-next f o.next)
 
 pub none-carried : (w : World) (f : ℕ) (m : Moved) → AsksForNone (carried w f m).next
@@ -126,9 +129,12 @@ none-let_go : (a : Option Awaiter) → AsksForNone (acts.let_go a)
 none-let_go None = refl
 none-let_go (Some a) = none-waker a.waker
 
-pub none-end_register : (b : Bool) (w : World) (f : ℕ) (a : Waker) (k : ℕ) → AsksForNone (acts.end_register_by b w f a k).next
-none-end_register true w f a k = both (acts.let_go (awaiter_of w f)) (op.Handle (handle_op.LookAgain f) ∷ []) (none-let_go (awaiter_of w f)) refl
-none-end_register false w f a k = both (acts.let_go (awaiter_of w f)) (op.Handle (handle_op.LookAgain f) ∷ []) (none-let_go (awaiter_of w f)) refl
+pub none-end_register : (b : Bool) (w : World) (f : ℕ) (a : Waker) (k : ℕ) →
+    AsksForNone (acts.end_register_by b w f a k).next
+none-end_register true w f a k = both (acts.let_go (awaiter_of w f)) (op.Handle (handle_op.LookAgain f) ∷ [])
+    (none-let_go (awaiter_of w f)) refl
+none-end_register false w f a k = both (acts.let_go (awaiter_of w f)) (op.Handle (handle_op.LookAgain f) ∷ [])
+    (none-let_go (awaiter_of w f)) refl
 
 pub none-notify : (b : Bool) (w : World) (f : ℕ) (mine : Bool) → AsksForNone (acts.notify_by b w f mine).next
 none-notify true w f mine = refl
@@ -145,11 +151,15 @@ none-call p w f (Task g) k = none-wake p (log w (event.WakerCalled p (of.Handle 
 none-call p w f (Outside x) k = refl
 
 -- the second look of a poll is never told of a refusal
-pub none-again : (closed going completed : Bool) (p : ℕ) (w : World) (f : ℕ) → AsksForNone (acts.look_again_by (moves.look_again_by closed going completed (task w f)).owed.answer p w f (moves.look_again_by closed going completed (task w f))).next
+pub none-again : (closed going completed : Bool) (p : ℕ) (w : World) (f : ℕ) →
+    AsksForNone (acts.look_again_by (moves.look_again_by closed going completed (task w f)).owed.answer p w f
+    (moves.look_again_by closed going completed (task w f))).next
 none-again true true completed p w f = refl
 none-again true false completed p w f = refl
 none-again false going false p w f = refl
-none-again false going true p w f = both (awaiter_ops f (moves.notify_other_if (task w f).awaiter)) (op.End reply.Ready (hold.Handle f) ∷ []) (none-awaiter f (moves.notify_other_if (task w f).awaiter)) refl
+none-again false going true p w f =
+    both (awaiter_ops f (moves.notify_other_if (task w f).awaiter)) (op.End reply.Ready (hold.Handle f) ∷ [])
+    (none-awaiter f (moves.notify_other_if (task w f).awaiter)) refl
 
 -- the executor's drop
 
@@ -164,7 +174,8 @@ none-drop_next p w (f ∷ rest) = none-closing rest _
 
 pub none-wake_next : (p : ℕ) (w : World) (fs : List ℕ) → AsksForNone (acts.wake_next_by p w fs).next
 none-wake_next p w [] = refl
-none-wake_next p w (f ∷ rest) = both (acts.wake p (record w { waking = rest }) f).next (acts.closing_ops [] rest) (none-wake p (record w { waking = rest }) f) (none-closing [] rest)
+none-wake_next p w (f ∷ rest) = both (acts.wake p (record w { waking = rest }) f).next (acts.closing_ops [] rest)
+    (none-wake p (record w { waking = rest }) f) (none-closing [] rest)
 
 pub none-drain : (p : ℕ) (w : World) (fs : List ℕ) → AsksForNone (acts.drain_by p w fs).next
 none-drain p w [] = refl

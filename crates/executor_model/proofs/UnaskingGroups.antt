@@ -24,7 +24,10 @@ use Rattle.executor_model.specs.World.{World, Done, task, log_if, awaiter_of}
 use Rattle.executor_model.specs.Acts.{act}
 use Rattle.executor_model.specs.Memory.{may_refuse, takes_no_memory, AsksForNone, NeedsNoMemory}
 use Rattle.executor_model.specs.Steps.{begun, react, kept, with_future}
-use Rattle.executor_model.proofs.Unasking.{none-again, none-append, none-call, none-carried, none-closing, none-drain, none-drop_next, none-end_register, none-leave, none-look_at_table, none-notify, none-register, none-take, none-told, none-wake, none-wake_next, none-wake}
+use Rattle.executor_model.proofs.Unasking.{none-again, none-append, none-call, none-carried, none-closing}
+use Rattle.executor_model.proofs.Unasking.{none-drain, none-drop_next, none-end_register, none-leave}
+use Rattle.executor_model.proofs.Unasking.{none-look_at_table, none-notify, none-register, none-take}
+use Rattle.executor_model.proofs.Unasking.{none-told, none-wake, none-wake_next, none-wake}
 use Rattle.executor_model.proofs.SleepersMemory.{none-sleeper, none-up, none-leave_sleepers, finds-without}
 
 -- one thing done
@@ -34,18 +37,23 @@ none-act p w h (op.Table table_op.Enter) e = absurd (cc)
 none-act p w h (op.Queue queue_op.Take) e = none-take w w.queue.items
 none-act p w h (op.Table table_op.LookAtTable) e = none-look_at_table w w.table
 none-act p w h (op.Queue (queue_op.Append f)) e = none-append _ w f
-none-act p w h (op.Move move.WakeByReference f) e = none-carried (log_if (not (is_over (task w f))) w (event.Woken p f)) f (moves.wake_by_reference (task w f))
+none-act p w h (op.Move move.WakeByReference f) e = none-carried (log_if (not (is_over (task w f))) w (event.Woken p f))
+    f (moves.wake_by_reference (task w f))
 none-act p w h (op.Move move.Wake f) e = none-wake p w f
 none-act p w h (op.Move move.Release f) e = none-carried w f (moves.release (task w f))
-none-act p w h (op.Move move.TakeUp f) e = none-carried (log_if (not (task w f).closed) w (event.PollBegun p f)) f (moves.take_up (task w f))
+none-act p w h (op.Move move.TakeUp f) e = none-carried (log_if (not (task w f).closed) w (event.PollBegun p f)) f
+    (moves.take_up (task w f))
 none-act p w h (op.Move move.SettleClosed f) e = none-carried w f (moves.settle_closed (task w f))
 none-act p w h (op.Move move.GiveUp f) e = none-carried w f (moves.give_up (task w f))
 none-act p w h (op.Move move.EndReady f) e = none-carried w f (moves.end_ready (task w f))
 none-act p w h (op.Move move.EndPending f) e = none-carried w f (moves.end_pending (task w f))
 none-act p w h (op.Move move.EndClosed f) e = none-carried w f (moves.end_closed (task w f))
 none-act p w h (op.Move move.DropRunnable f) e = none-carried w f (moves.drop_runnable (task w f))
-none-act p w h (op.Move move.Cancel f) e = none-carried (log_if (not (is_over (task w f))) w (event.Cancelled p f)) f (moves.cancel (task w f))
-none-act p w h (op.Move move.Detach f) e = none-carried (log_if (not ((task w f).completed && not (task w f).closed)) w (event.Detached p f)) f (moves.detach (task w f))
+none-act p w h (op.Move move.Cancel f) e = none-carried (log_if (not (is_over (task w f))) w (event.Cancelled p f)) f
+    (moves.cancel (task w f))
+none-act p w h (op.Move move.Detach f) e =
+    none-carried (log_if (not ((task w f).completed && not (task w f).closed)) w (event.Detached p f)) f
+    (moves.detach (task w f))
 none-act p w h (op.Table (table_op.LeaveTable f)) e = none-leave _ w f
 none-act p w h (op.Waker (waker_op.CopyWaker f held)) e = absurd (cc)
 none-act p w h (op.Handle (handle_op.Look f a)) e = absurd (cc)
@@ -70,7 +78,8 @@ none-act p w h (op.Closing closing_op.Drain) e = none-drain p w w.queue.items
 none-act p w h (op.User (user_op.BeginDrop f)) e = refl
 none-act p w h _ e = refl
 
-same-act : (p : ℕ) (w : World) (h : Hint) (refused : Bool) (o : Op) → may_refuse o ≡ false → act p (record h { refused = refused }) o w ≡ act p h o w
+same-act : (p : ℕ) (w : World) (h : Hint) (refused : Bool) (o : Op) → may_refuse o ≡ false →
+    act p (record h { refused = refused }) o w ≡ act p h o w
 same-act p w h refused (op.Table table_op.Enter) e = absurd (cc)
 same-act p w h refused (op.Waker (waker_op.CopyWaker f held)) e = absurd (cc)
 same-act p w h refused (op.Handle (handle_op.Look f a)) e = absurd (cc)
@@ -81,11 +90,13 @@ same-act p w h refused _ e = refl
 
 -- the beginning of a call, and what follows user code
 
-none-with : (w : World) (f : Option ℕ) (d : ℕ → Done) → ((g : ℕ) → AsksForNone (d g).next) → AsksForNone (with_future w f d).next
+none-with : (w : World) (f : Option ℕ) (d : ℕ → Done) → ((g : ℕ) → AsksForNone (d g).next) →
+    AsksForNone (with_future w f d).next
 none-with w None d n = refl
 none-with w (Some f) d n = n f
 
-none-begun : (p : ℕ) (w : World) (here : Option ℕ) (c : Call) → takes_no_memory c ≡ true → AsksForNone (begun p w here c).next
+none-begun : (p : ℕ) (w : World) (here : Option ℕ) (c : Call) → takes_no_memory c ≡ true →
+    AsksForNone (begun p w here c).next
 none-begun p w here call.Spawn e = absurd (cc)
 none-begun p w here call.TryTick e = refl
 none-begun p w here call.IsEmpty e = refl

@@ -1,8 +1,10 @@
--- What each thing that a party has to do changes, and what it leads to. The queue is the closable queue, and a task's change
--- is its table of moves; neither is said again here.
-use Rattle.std.specs.Prelude.{ℕ, ◌+◌, Bool, true, false, ◌&&◌, ◌||◌, not, Option, Some, None, List, [], ◌∷◌, ◌++◌, length, ◌-◌, ◌==◌, slice_set, nat_lt, is_none}
+-- What each thing that a party has to do changes, and what it leads to. The queue is the closable queue,
+-- and a task's change is its table of moves; neither is said again here.
+use Rattle.std.specs.Prelude.{ℕ, ◌+◌, Bool, true, false, ◌&&◌, ◌||◌, not, Option, Some, None, List, [], ◌∷◌}
+use Rattle.std.specs.Prelude.{◌++◌, length, ◌-◌, ◌==◌, slice_set, nat_lt, is_none}
 use Rattle.queue_steps.specs.ClosableQueue.{appended, taken, shut}
-use Rattle.executor_parts.specs.Sleepers.{Sleepers, last_waker, without_last, next_number, laid_down, listed, risen, position_of, waker_at, waker_of}
+use Rattle.executor_parts.specs.Sleepers.{Sleepers, last_waker, without_last, next_number, laid_down}
+use Rattle.executor_parts.specs.Sleepers.{listed, risen, position_of, waker_at, waker_of}
 use Rattle.task_moves.specs.declared.moves.state.State.{State}
 use Rattle.task_moves.specs.declared.moves.owed.Answer.{Answer}
 use Rattle.task_moves.specs.declared.moves.owed.Answer.TheVariants.{Refused, Pending, Closed, Output}
@@ -42,7 +44,8 @@ use Rattle.executor_model.specs.declared.op.UserOp.TheVariants as user_op
 use Rattle.executor_model.specs.declared.op.WakerOp.{WakerOp}
 use Rattle.executor_model.specs.declared.op.WakerOp.TheVariants as waker_op
 use Rattle.executor_model.specs.declared.step.Hint.{Hint}
-use Rattle.executor_model.specs.World.{World, Tick, Up, Lies, Left, Done, done, log, log_if, task, put, awaiter_of, put_awaiter, tick_of, put_tick, put_sleepers, without, among}
+use Rattle.executor_model.specs.World.{World, Tick, Up, Lies, Left, Done, done, log, log_if, task, put, awaiter_of}
+use Rattle.executor_model.specs.World.{put_awaiter, tick_of, put_tick, put_sleepers, without, among}
 use Rattle.executor_model.specs.Carried.{carried, awaiter_ops}
 
 -- telling a sleeper that there is something to do
@@ -82,7 +85,8 @@ append w f = append_by (not w.queue.closed && nat_lt (length w.queue.items) w.li
 
 abbrev pub take_by : World → List ℕ → Done
 take_by w [] = done w (op.End reply.No hold.Executor ∷ [])
-take_by w (f ∷ rest) = done (record w { queue = taken w.queue }) (op.Sleeper sleeper_op.ExchangeFlag ∷ op.Move move.TakeUp f ∷ op.End reply.Yes hold.Executor ∷ [])
+take_by w (f ∷ rest) = done (record w { queue = taken w.queue })
+    (op.Sleeper sleeper_op.ExchangeFlag ∷ op.Move move.TakeUp f ∷ op.End reply.Yes hold.Executor ∷ [])
 
 -- the first Runnable is taken, if there is one
 abbrev pub take_first : World → Done
@@ -99,7 +103,12 @@ abbrev pub enter_by : Bool → Bool → ℕ → World → Done
 enter_by true refused p w = done w (op.End reply.Full hold.Executor ∷ [])
 enter_by false true p w = done w (op.End reply.NoMemory hold.Executor ∷ [])
 enter_by false false p w = done
-    (log (record w { tasks = w.tasks ++ entered ∷ []; awaiters = w.awaiters ++ None ∷ []; inside = w.inside ++ true ∷ []; table = w.table ++ length w.tasks ∷ [] }) (event.Accepted p (length w.tasks)))
+    (log (record w {
+      tasks = w.tasks ++ entered ∷ [];
+      awaiters = w.awaiters ++ None ∷ [];
+      inside = w.inside ++ true ∷ [];
+      table = w.table ++ length w.tasks ∷ [];
+    }) (event.Accepted p (length w.tasks)))
     (op.Queue (queue_op.Append (length w.tasks)) ∷ op.End reply.Made (hold.Spawned (length w.tasks)) ∷ [])
 
 abbrev pub enter : ℕ → Hint → World → Done
@@ -139,8 +148,8 @@ stands_alone move.Notify = false
 stands_alone move.EndNotify = false
 stands_alone _ = true
 
--- whether such a move of a task in this state is told of: a poll that begins, a wake or a cancel of a task that isn't over,
--- and a handle that goes; an output that is there goes first, and then the handle
+-- whether such a move of a task in this state is told of: a poll that begins, a wake or a cancel of a task that isn't
+-- over, and a handle that goes; an output that is there goes first, and then the handle
 abbrev pub is_told : Move → State → Bool
 is_told move.TakeUp s = not s.closed
 is_told move.WakeByReference s = not (is_over s)
@@ -180,7 +189,11 @@ begin_drop_output p w f = done (log w (event.OutputDropped p f)) (op.User (user_
 -- refused, or there are too many references; or one more is made
 abbrev pub copy_by : Bool → World → ℕ → Hold → Done
 copy_by true w f held = done w (op.End reply.NoMemory held ∷ [])
-copy_by false w f held = done (record (put w f (record (task w f) { references = (task w f).references + 1 })) { wakers = w.wakers ++ Some f ∷ [] }) (op.End reply.Made held ∷ [])
+copy_by false w f held = done
+    (record (put w f (record (task w f) { references = (task w f).references + 1 })) {
+      wakers = w.wakers ++ Some f ∷ [];
+    })
+    (op.End reply.Made held ∷ [])
 
 abbrev pub is_refused : Hint → State → Bool
 is_refused h s = h.refused || not (nat_lt s.references most_references)
@@ -208,7 +221,8 @@ is_output Closed = false
 
 -- the poll ends with this answer, and pays what it owes first
 abbrev pub answered : ℕ → World → ℕ → Moved → Answer → Done
-answered p w f m a = done (log_if (is_output a) (put w f m.state) (event.OutputGiven p f)) (awaiter_ops f m.owed.awaiter ++ op.End (reply_of a) (hold.Handle f) ∷ [])
+answered p w f m a = done (log_if (is_output a) (put w f m.state) (event.OutputGiven p f))
+    (awaiter_ops f m.owed.awaiter ++ op.End (reply_of a) (hold.Handle f) ∷ [])
 
 -- nothing to answer yet, or this
 abbrev pub look_by : Option Answer → ℕ → World → ℕ → Waker → Moved → Done
@@ -229,15 +243,18 @@ is_copy_refused h w (Outside x) = h.refused
 
 abbrev pub copy_awaiter_by : Bool → ℕ → World → ℕ → Waker → Done
 copy_awaiter_by true p w f a = done w (op.End reply.NoMemory (hold.Handle f) ∷ [])
-copy_awaiter_by false p w f a = done (polled p (copied w a) f) (op.Handle (handle_op.Register f a (length w.trace)) ∷ [])
+copy_awaiter_by false p w f a = done (polled p (copied w a) f)
+    (op.Handle (handle_op.Register f a (length w.trace)) ∷ [])
 
 abbrev pub copy_awaiter : ℕ → Hint → World → ℕ → Waker → Done
 copy_awaiter p h w f a = copy_awaiter_by (is_copy_refused h w a) p w f a
 
 -- somebody is notifying, and the waker is called at once; or the copy is about to be stored
 abbrev pub register_by : Bool → World → ℕ → Waker → ℕ → Done
-register_by true w f a k = done (put w f (moves.register_by true (task w f)).state) (op.Waker (waker_op.CallAwaiter f a k) ∷ op.Handle (handle_op.LookAgain f) ∷ [])
-register_by false w f a k = done (put w f (moves.register_by false (task w f)).state) (op.Handle (handle_op.EndRegister f a k) ∷ [])
+register_by true w f a k = done (put w f (moves.register_by true (task w f)).state)
+    (op.Waker (waker_op.CallAwaiter f a k) ∷ op.Handle (handle_op.LookAgain f) ∷ [])
+register_by false w f a k = done (put w f (moves.register_by false (task w f)).state)
+    (op.Handle (handle_op.EndRegister f a k) ∷ [])
 
 abbrev pub register : World → ℕ → Waker → ℕ → Done
 register w f a k = register_by (task w f).notifying w f a k
@@ -253,8 +270,11 @@ let_go (Some a) = waker_goes a.waker
 
 -- somebody wanted to notify meanwhile, and the copy is called; or it is stored. The old awaiter goes
 abbrev pub end_register_by : Bool → World → ℕ → Waker → ℕ → Done
-end_register_by true w f a k = done (put_awaiter (put w f (moves.end_register_by true (task w f)).state) f None) (op.Waker (waker_op.CallAwaiter f a k) ∷ let_go (awaiter_of w f) ++ op.Handle (handle_op.LookAgain f) ∷ [])
-end_register_by false w f a k = done (put_awaiter (put w f (moves.end_register_by false (task w f)).state) f (Some (record { waker = a; poll = k }))) (let_go (awaiter_of w f) ++ op.Handle (handle_op.LookAgain f) ∷ [])
+end_register_by true w f a k = done (put_awaiter (put w f (moves.end_register_by true (task w f)).state) f None)
+    (op.Waker (waker_op.CallAwaiter f a k) ∷ let_go (awaiter_of w f) ++ op.Handle (handle_op.LookAgain f) ∷ [])
+end_register_by false w f a k = done
+    (put_awaiter (put w f (moves.end_register_by false (task w f)).state) f (Some (record { waker = a; poll = k })))
+    (let_go (awaiter_of w f) ++ op.Handle (handle_op.LookAgain f) ∷ [])
 
 abbrev pub end_register : World → ℕ → Waker → ℕ → Done
 end_register w f a k = end_register_by (task w f).notifying w f a k
@@ -270,7 +290,8 @@ look_again p w f = look_again_by (moves.look_again (task w f)).owed.answer p w f
 -- somebody else is at the awaiter, or not
 abbrev pub notify_by : Bool → World → ℕ → Bool → Done
 notify_by true w f mine = done (put w f (moves.notify_by true (task w f)).state) []
-notify_by false w f mine = done (put w f (moves.notify_by false (task w f)).state) (op.Handle (handle_op.EndNotify f mine) ∷ [])
+notify_by false w f mine = done (put w f (moves.notify_by false (task w f)).state)
+    (op.Handle (handle_op.EndNotify f mine) ∷ [])
 
 abbrev pub notify : World → ℕ → Bool → Done
 notify w f mine = notify_by ((task w f).notifying || (task w f).registering) w f mine
@@ -282,12 +303,14 @@ told true f (Some a) = let_go (Some a)
 told false f (Some a) = op.Waker (waker_op.CallAwaiter f a.waker a.poll) ∷ []
 
 abbrev pub end_notify : Hint → World → ℕ → Bool → Done
-end_notify h w f mine = done (put_awaiter (put w f (moves.end_notify (task w f)).state) f None) (told (mine && h.same) f (awaiter_of w f))
+end_notify h w f mine = done (put_awaiter (put w f (moves.end_notify (task w f)).state) f None)
+    (told (mine && h.same) f (awaiter_of w f))
 
 -- a waker of a task is called and goes; an outside one is user code
 abbrev pub call_waker : ℕ → World → Polled → Waker → ℕ → Done
 call_waker p w o (Task g) k = wake p (log w (event.WakerCalled p o k (Task g))) g
-call_waker p w o (Outside x) k = done (log w (event.WakerCalled p o k (Outside x))) (op.User (user_op.CallOutside x) ∷ [])
+call_waker p w o (Outside x) k = done (log w (event.WakerCalled p o k (Outside x)))
+    (op.User (user_op.CallOutside x) ∷ [])
 
 abbrev pub call_awaiter : ℕ → World → ℕ → Waker → ℕ → Done
 call_awaiter p w f a k = call_waker p w (of.Handle f) a k
@@ -299,7 +322,9 @@ call_sleeper p w s = call_waker p w (of.Tick s.tick) s.waker s.poll
 
 abbrev pub make_tick_by : Bool → World → Done
 make_tick_by true w = done w (op.End reply.NoMemory hold.Executor ∷ [])
-make_tick_by false w = done (record w { ticks = w.ticks ++ Up ∷ []; sleepers = record w.sleepers { rooms = w.sleepers.rooms + 1 } }) (op.End reply.Made hold.Executor ∷ [])
+make_tick_by false w = done
+    (record w { ticks = w.ticks ++ Up ∷ []; sleepers = record w.sleepers { rooms = w.sleepers.rooms + 1 } })
+    (op.End reply.Made hold.Executor ∷ [])
 
 -- a future that was found is run, after another sleeper was told, and then the tick is ready
 abbrev pub run_found : ℕ → ℕ → List Op
@@ -334,7 +359,9 @@ lie_nowhere w s = done w (op.Sleeper (sleeper_op.CallSleeper s) ∷ pend_tick s.
 
 -- what was queued before it lay down may have told nobody, so it searches again
 abbrev pub lie_anew_by : Bool → World → Sleeping → Done
-lie_anew_by true w s = done (put_tick (put_sleepers w (laid_down s w.sleepers)) s.tick (Lies (next_number w.sleepers))) (op.Tick (tick_op.Search s) ∷ [])
+lie_anew_by true w s = done
+    (put_tick (put_sleepers w (laid_down s w.sleepers)) s.tick (Lies (next_number w.sleepers)))
+    (op.Tick (tick_op.Search s) ∷ [])
 lie_anew_by false w s = lie_nowhere w s
 
 -- what is left to do where a waker goes that isn't called
@@ -349,7 +376,9 @@ lie_listed_by false w n s = lie_nowhere w s
 
 -- its waker is replaced, or it was notified
 abbrev pub lie_again_by : Option ℕ → World → ℕ → Sleeping → Done
-lie_again_by (Some at) w n s = done (record w { sleepers = record w.sleepers { wakers = slice_set w.sleepers.wakers at (n, s) } }) (sleeper_goes (waker_at (Some at) w.sleepers.wakers) ++ pend_tick s.tick)
+lie_again_by (Some at) w n s = done
+    (record w { sleepers = record w.sleepers { wakers = slice_set w.sleepers.wakers at (n, s) } })
+    (sleeper_goes (waker_at (Some at) w.sleepers.wakers) ++ pend_tick s.tick)
 lie_again_by None w n s = lie_listed_by (nat_lt (length w.sleepers.wakers) w.sleepers.count) w n s
 
 abbrev pub lie_down_by : Tick → World → Sleeping → Done
@@ -361,7 +390,8 @@ abbrev pub lie_down : World → Sleeping → Done
 lie_down w s = lie_down_by (tick_of w s.tick) w s
 
 abbrev pub get_up_by : Tick → World → ℕ → ℕ → Done
-get_up_by (Lies n) w t f = done (put_tick (put_sleepers w (risen n w.sleepers)) t Up) (sleeper_goes (waker_of n w.sleepers.wakers) ++ run_found t f)
+get_up_by (Lies n) w t f = done (put_tick (put_sleepers w (risen n w.sleepers)) t Up)
+    (sleeper_goes (waker_of n w.sleepers.wakers) ++ run_found t f)
 get_up_by Up w t f = done w (run_found t f)
 get_up_by Left w t f = done w (run_found t f)
 
@@ -381,8 +411,8 @@ end_drop t = op.End reply.Done (hold.Tick t) ∷ []
 
 -- one that was notified tells another in its place
 abbrev pub leave_sleepers_by : Tick → World → ℕ → Done
-leave_sleepers_by (Lies n) w t =
-    done (put_tick (put_sleepers w (given_back (risen n w.sleepers))) t Left) (sleeper_goes (waker_of n w.sleepers.wakers) ++ tell_if (is_none (waker_of n w.sleepers.wakers)) ++ end_drop t)
+leave_sleepers_by (Lies n) w t = done (put_tick (put_sleepers w (given_back (risen n w.sleepers))) t Left)
+    (sleeper_goes (waker_of n w.sleepers.wakers) ++ tell_if (is_none (waker_of n w.sleepers.wakers)) ++ end_drop t)
 leave_sleepers_by Up w t = done (put_tick (record w { sleepers = given_back w.sleepers }) t Left) (end_drop t)
 leave_sleepers_by Left w t = done w (end_drop t)
 
@@ -403,7 +433,10 @@ take_out w = done (record w { table = w.leaving; leaving = w.table }) (closing_o
 
 abbrev pub drop_next_by : ℕ → World → List ℕ → Done
 drop_next_by p w [] = done w []
-drop_next_by p w (f ∷ rest) = done (log (record w { leaving = rest; waking = w.waking ++ f ∷ []; inside = slice_set w.inside f false }) (event.Dropped p f)) (op.User (user_op.Drop f) ∷ closing_ops rest (w.waking ++ f ∷ []))
+drop_next_by p w (f ∷ rest) = done
+    (log (record w { leaving = rest; waking = w.waking ++ f ∷ []; inside = slice_set w.inside f false })
+    (event.Dropped p f))
+    (op.User (user_op.Drop f) ∷ closing_ops rest (w.waking ++ f ∷ []))
 
 abbrev pub drop_next : ℕ → World → Done
 drop_next p w = drop_next_by p w w.leaving
@@ -424,7 +457,8 @@ close w = done (record w { queue = shut w.queue }) (op.Closing closing_op.Drain 
 
 abbrev pub drain_by : ℕ → World → List ℕ → Done
 drain_by p w [] = done (log w (event.DropEnded p)) []
-drain_by p w (f ∷ rest) = done (record w { queue = taken w.queue }) (op.Move move.DropRunnable f ∷ op.Closing closing_op.Drain ∷ [])
+drain_by p w (f ∷ rest) = done (record w { queue = taken w.queue })
+    (op.Move move.DropRunnable f ∷ op.Closing closing_op.Drain ∷ [])
 
 abbrev pub drain : ℕ → World → Done
 drain p w = drain_by p w w.queue.items

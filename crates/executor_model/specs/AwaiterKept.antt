@@ -21,14 +21,17 @@ calls_waker f poll _ = false
 abbrev pub since : ℕ → Trace → Trace
 since place trace = drop (place + 1) trace
 
--- in what happened since, the call ends so in which the party stood: the first call of it to end that hasn't begun since
+-- in what happened since, the call ends so in which the party stood:
+-- the first call of it to end that hasn't begun since
 pub record EndsWith (party : ℕ) (reply : Reply) (later : Trace) : Type 0 where
   pub place : ℕ
   pub here : slice_get later place ≡ Some (CallEnded party reply)
   pub inner : count_by (ends_call party) (take place later) ≡ count_by (begins_call party) (take place later)
-  pub first : (n : ℕ) → n ≤ place → count_by (ends_call party) (take n later) ≤ count_by (begins_call party) (take n later)
+  pub first : (n : ℕ) → n ≤ place →
+      count_by (ends_call party) (take n later) ≤ count_by (begins_call party) (take n later)
 
--- the last poll of future f's handle that wasn't refused stands at this place of the trace, and was answered that there is no output yet
+-- the last poll of future f's handle that wasn't refused stands at this place of the trace,
+-- and was answered that there is no output yet
 pub record IsLastAnsweredPending (f party poll : ℕ) (trace : Trace) : Type 0 where
   pub polled : slice_get trace poll ≡ Some (HandlePolled party f)
   pub last : has (is_handle_poll f) (since poll trace) ≡ false
@@ -43,4 +46,5 @@ pub record IsOverWithHandle (f : ℕ) (trace : Trace) : Type 0 where
 -- the waker of that last poll was called since the poll began
 abbrev pub AwaiterIsKept : ℕ → Trace → Type 0
 AwaiterIsKept f trace =
-    (party poll : ℕ) → IsOverWithHandle f trace → IsLastAnsweredPending f party poll trace → has (calls_waker f poll) (since poll trace) ≡ true
+    (party poll : ℕ) → IsOverWithHandle f trace → IsLastAnsweredPending f party poll trace →
+    has (calls_waker f poll) (since poll trace) ≡ true

@@ -2,7 +2,8 @@
 use Rattle.std.specs.Prelude.{◌≡◌, ◌≢◌, ℕ, ◌≤◌, Bool, true, false, ◌||◌, take, length}
 use Rattle.std.specs.List.{after_last}
 use Rattle.executor_model.specs.declared.event.Event.{Event}
-use Rattle.executor_model.specs.Trace.{Trace, has, is_accepted, is_poll, is_answer, is_ready, is_woken, is_cancelled, is_dropped}
+use Rattle.executor_model.specs.Trace.{Trace, has, is_accepted, is_poll, is_answer, is_ready}
+use Rattle.executor_model.specs.Trace.{is_woken, is_cancelled, is_dropped}
 
 -- somebody asks for future f
 abbrev pub is_request : ℕ → Event → Bool

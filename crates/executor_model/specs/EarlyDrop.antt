@@ -1,4 +1,5 @@
--- A future that is dropped before it was ready is dropped for a cause: it was cancelled, or the drop of the executor has begun.
+-- A future that is dropped before it was ready is dropped for a cause: it was cancelled,
+-- or the drop of the executor has begun.
 use Rattle.std.specs.Prelude.{◌≡◌, ◌⊎◌, ℕ, true, false}
 use Rattle.std.specs.List.{before_first}
 use Rattle.executor_model.specs.Trace.{Trace, has, is_ready, is_cancelled, is_dropped, is_drop_begun}
@@ -13,4 +14,5 @@ pub record IsDroppedEarly (f : ℕ) (trace : Trace) : Type 0 where
 
 abbrev pub EarlyDropHasCause : ℕ → Trace → Type 0
 EarlyDropHasCause f trace =
-    IsDroppedEarly f trace → (has (is_cancelled f) (before_drop f trace) ≡ true) ⊎ (has is_drop_begun (before_drop f trace) ≡ true)
+    IsDroppedEarly f trace →
+    (has (is_cancelled f) (before_drop f trace) ≡ true) ⊎ (has is_drop_begun (before_drop f trace) ≡ true)

@@ -22,7 +22,8 @@ Looks s p = top (stack s p) ≡ Some (op.Table table_op.LookAtTable)
 abbrev pub Answers : Machine → ℕ → Hint → Reply → Type 0
 Answers s p h reply = (stepped s (step s (Go p h))).world.trace ≡ s.world.trace ++ CallEnded p reply ∷ []
 
--- yes or no, and yes exactly where no accepted future is undropped or was dropped in a call that has still to take its entry out
+-- yes or no, and yes exactly where no accepted future is undropped or was dropped in a call that has still to take its
+-- entry out
 pub record IsEmptinessExact (s : Machine) : Type 0 where
   pub answered : (p : ℕ) (h : Hint) → Looks s p → Answers s p h Yes ⊎ Answers s p h No
   pub always : (p : ℕ) (h : Hint) → Looks s p → ((f : ℕ) → ¬ Remains f s) → Answers s p h Yes
@@ -33,7 +34,8 @@ abbrev pub asks_alone : ℕ → Hint → List Step
 asks_alone p h = Begin p IsEmpty ∷ Go p h ∷ []
 
 abbrev pub AnswersAlone : Machine → ℕ → Hint → Reply → Type 0
-AnswersAlone s p h reply = (run (asks_alone p h) s).world.trace ≡ s.world.trace ++ CallBegun p IsEmpty ∷ CallEnded p reply ∷ []
+AnswersAlone s p h reply =
+    (run (asks_alone p h) s).world.trace ≡ s.world.trace ++ CallBegun p IsEmpty ∷ CallEnded p reply ∷ []
 
 abbrev pub AllDropped : Trace → Type 0
 AllDropped trace = (f : ℕ) → has (is_accepted f) trace ≡ true → has (is_dropped f) trace ≡ true
@@ -46,5 +48,6 @@ pub record IsAtRest (s : Machine) : Type 0 where
 -- where no call is in progress, the answer is yes exactly where each accepted future is dropped
 pub record IsQuietEmptinessExact (s : Machine) : Type 0 where
   pub answered : IsAtRest s → (p : ℕ) (h : Hint) → p < length s.parties → AnswersAlone s p h Yes ⊎ AnswersAlone s p h No
-  pub always : IsAtRest s → (p : ℕ) (h : Hint) → p < length s.parties → AllDropped s.world.trace → AnswersAlone s p h Yes
+  pub always : IsAtRest s → (p : ℕ) (h : Hint) → p < length s.parties → AllDropped s.world.trace →
+      AnswersAlone s p h Yes
   pub only : IsAtRest s → (p : ℕ) (h : Hint) → p < length s.parties → AnswersAlone s p h Yes → AllDropped s.world.trace

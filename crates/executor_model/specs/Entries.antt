@@ -25,12 +25,15 @@ pub record TableAgrees (s : Machine) (f : ℕ) : Type 0 where
   pub entered : HasTable s → Remains f s → times f s.world.table ≡ 1
   pub only : HasTable s → 1 ≤ times f s.world.table → Remains f s
 
--- a Runnable in the queue is one of a future that was accepted and isn't dropped but by the executor's drop, and its only one there
+-- a Runnable in the queue is one of a future that was accepted and isn't dropped but by the executor's drop,
+-- and its only one there
 pub record QueueAgrees (s : Machine) (f : ℕ) : Type 0 where
   pub once : times f s.world.queue.items ≤ 1
   pub accepted : 1 ≤ times f s.world.queue.items → has (is_accepted f) s.world.trace ≡ true
-  pub undropped : 1 ≤ times f s.world.queue.items → has (is_dropped f) s.world.trace ≡ true → has is_drop_begun s.world.trace ≡ true
-  pub by_closing : 1 ≤ times f s.world.queue.items → has (is_dropped f) s.world.trace ≡ true → has is_drop_begun (before_drop f s.world.trace) ≡ true
+  pub undropped : 1 ≤ times f s.world.queue.items → has (is_dropped f) s.world.trace ≡ true →
+      has is_drop_begun s.world.trace ≡ true
+  pub by_closing : 1 ≤ times f s.world.queue.items → has (is_dropped f) s.world.trace ≡ true →
+      has is_drop_begun (before_drop f s.world.trace) ≡ true
   -- once that has begun, no other call drops a future
   pub alone : has is_drop_begun s.world.trace ≡ true → weigh_all (drops_of f) s.parties ≡ 0
 

@@ -22,7 +22,8 @@ abbrev pub IsFirst : ℕ → List ℕ → Type 0
 IsFirst f [] = true ≡ false
 IsFirst f (g ∷ gs) = f ≡ g
 
--- each wake of f's task: by a waker that stays or goes, by the call of an awaiter that is a waker of it, and by the executor's drop
+-- each wake of f's task: by a waker that stays or goes, by the call of an awaiter that is a waker of it,
+-- and by the executor's drop
 abbrev pub IsWakeOf : ℕ → World → Op → Type 0
 IsWakeOf f w (op.Move move.WakeByReference g) = f ≡ g
 IsWakeOf f w (op.Move move.Wake g) = f ≡ g
@@ -30,11 +31,13 @@ IsWakeOf f w (op.Waker (waker_op.CallAwaiter awaited (Task g) poll)) = f ≡ g
 IsWakeOf f w (op.Closing closing_op.WakeNext) = IsFirst f w.waking
 IsWakeOf f w _ = true ≡ false
 
--- a wake that marks f's task hands on one Runnable, but none where the task is running, and then the end of the poll does,
--- unless the task is closed by then; a wake of a task that is marked or over hands on none
+-- a wake that marks f's task hands on one Runnable, but none where the task is running, and then the end of the poll
+-- does, unless the task is closed by then; a wake of a task that is marked or over hands on none
 pub record HandsOn (w : World) (f p : ℕ) (h : Hint) : Type 0 where
-  pub marks : (o : Op) → IsWakeOf f w o → is_over (task w f) ≡ false → (task w f).scheduled ≡ false → handed_on f o p h w ≡ cond (task w f).running 0 1
-  pub at_the_end : (task w f).closed ≡ false → (task w f).scheduled ≡ true → handed_on f (op.Move move.EndPending f) p h w ≡ 1
+  pub marks : (o : Op) → IsWakeOf f w o → is_over (task w f) ≡ false → (task w f).scheduled ≡ false →
+      handed_on f o p h w ≡ cond (task w f).running 0 1
+  pub at_the_end : (task w f).closed ≡ false → (task w f).scheduled ≡ true →
+      handed_on f (op.Move move.EndPending f) p h w ≡ 1
   pub none_marked : (o : Op) → IsWakeOf f w o → (task w f).scheduled ≡ true → handed_on f o p h w ≡ 0
   pub none_over : (o : Op) → IsWakeOf f w o → is_over (task w f) ≡ true → handed_on f o p h w ≡ 0
 

@@ -18,7 +18,8 @@ use Rattle.executor_model.specs.Acts.{act, search}
 use Rattle.executor_model.specs.Steps.{begun, react}
 use Rattle.executor_model.specs.World.{World}
 
--- all calls but a spawn, the making of a tick, a copy of a waker, and a poll of a handle or of a tick, which copies the waker that it is given
+-- all calls but a spawn, the making of a tick, a copy of a waker, and a poll of a handle or of a tick,
+-- which copies the waker that it is given
 abbrev pub takes_no_memory : Call → Bool
 takes_no_memory call.Spawn = false
 takes_no_memory (call.Copy k) = false
@@ -54,11 +55,12 @@ AsksForNone next = list_any may_refuse next ≡ false
 abbrev pub FindsWithoutMemory : World → Type 0
 FindsWithoutMemory w = (f : ℕ) (rest : List ℕ) (s : Sleeping) → w.queue.items ≡ f ∷ rest → AsksForNone (search w s).next
 
--- such a call begins with nothing that may refuse, nothing that it does or that follows its user code leads to any, and what
--- it does is the same whether memory is refused or not
+-- such a call begins with nothing that may refuse, nothing that it does or that follows its user code leads to any,
+-- and what it does is the same whether memory is refused or not
 pub record NeedsNoMemory (w : World) (p : ℕ) : Type 0 where
   pub begins : (here : Option ℕ) (c : Call) → takes_no_memory c ≡ true → AsksForNone (begun p w here c).next
   pub goes_on : (h : Hint) (o : Op) → may_refuse o ≡ false → AsksForNone (act p h o w).next
   pub follows : (o : Op) (end : UserEnd) → AsksForNone (react p o end w).next
   pub finds : FindsWithoutMemory w
-  pub same : (h : Hint) (refused : Bool) (o : Op) → may_refuse o ≡ false → act p (record h { refused = refused }) o w ≡ act p h o w
+  pub same : (h : Hint) (refused : Bool) (o : Op) → may_refuse o ≡ false →
+      act p (record h { refused = refused }) o w ≡ act p h o w

@@ -12,7 +12,8 @@ use Rattle.executor_model.specs.Quiet.{IsQuiet}
 use Rattle.executor_model.specs.OutputOnce.{is_output_given}
 use Rattle.executor_model.specs.Steps.{Machine, run}
 
--- future f was ready, nobody has cancelled it, no poll of its handle was given the output, and no call has taken the handle
+-- future f was ready, nobody has cancelled it, no poll of its handle was given the output,
+-- and no call has taken the handle
 pub record OutputIsThere (f : ℕ) (trace : Trace) : Type 0 where
   pub ready : has (is_ready f) trace ≡ true
   pub uncancelled : has (is_cancelled f) trace ≡ false
@@ -25,8 +26,12 @@ polls_alone p f x h = Begin p (PollHandle f (Outside x)) ∷ Go p h ∷ []
 
 -- that poll gives the output, and has ended
 abbrev pub GivesOutput : Machine → ℕ → ℕ → ℕ → Hint → Type 0
-GivesOutput s p f x h = (run (polls_alone p f x h) s).world.trace ≡ s.world.trace ++ CallBegun p (PollHandle f (Outside x)) ∷ HandlePolled p f ∷ OutputGiven p f ∷ CallEnded p Ready ∷ []
+GivesOutput s p f x h =
+    (run (polls_alone p f x h) s).world.trace ≡ s.world.trace ++
+    CallBegun p (PollHandle f (Outside x)) ∷ HandlePolled p f ∷ OutputGiven p f ∷ CallEnded p Ready ∷ []
 
 -- whoever polls the handle next, with whatever waker and hint, is given the output
 abbrev pub OutputIsKept : Machine → ℕ → Type 0
-OutputIsKept s f = IsQuiet s.world.trace → OutputIsThere f s.world.trace → (p x : ℕ) (h : Hint) → p < length s.parties → GivesOutput s p f x h
+OutputIsKept s f =
+    IsQuiet s.world.trace → OutputIsThere f s.world.trace → (p x : ℕ) (h : Hint) → p < length s.parties →
+    GivesOutput s p f x h

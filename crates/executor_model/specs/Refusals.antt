@@ -41,15 +41,24 @@ lies_down (op.Tick (tick_op.CopyWaker s)) = true
 lies_down (op.Tick (tick_op.LieDown s)) = true
 lies_down _ = false
 
--- a call that may be refused changes nothing as it begins, and nothing as long as it may still be refused or where it is: what
--- follows asks for memory, or ends the call with a refusal. A poll of a tick is told of as it begins; a copy of its waker that is
--- refused changes nothing; and where the tick lay down, that is kept, which changes the sleepers, their flag and the tick alone
+-- a call that may be refused changes nothing as it begins, and nothing as long as it may still be refused or where it
+-- is: what follows asks for memory, or ends the call with a refusal. A poll of a tick is told of as it begins;
+-- a copy of its waker that is refused changes nothing; and where the tick lay down, that is kept,
+-- which changes the sleepers, their flag and the tick alone
 pub record RefusedChangesNothing (w : World) (p : ℕ) : Type 0 where
-  pub begins : (here : Option ℕ) (c : Call) → takes_no_memory c ≡ false → is_tick_poll c ≡ false → (begun p w here c).world ≡ w
-  pub polls : (here : Option ℕ) (t : ℕ) (b : By) → (begun p w here (call.PollTick t b)).world ≡ log w (event.TickPolled p t)
-  pub goes_on : (h : Hint) (o : Op) → list_any may_refuse (act p h o w).next ≡ true → lies_down o ≡ false → (act p h o w).world ≡ w
-  pub copies : (h : Hint) (s : Sleeping) → list_any ends_for_want (copy_sleeper h w s).next ≡ true → (copy_sleeper h w s).world ≡ w
-  pub lies : (s : Sleeping) → (lie_down w s).world ≡ record w { ticks = (lie_down w s).world.ticks; sleepers = (lie_down w s).world.sleepers; notified = (lie_down w s).world.notified }
+  pub begins : (here : Option ℕ) (c : Call) → takes_no_memory c ≡ false → is_tick_poll c ≡ false →
+      (begun p w here c).world ≡ w
+  pub polls : (here : Option ℕ) (t : ℕ) (b : By) →
+      (begun p w here (call.PollTick t b)).world ≡ log w (event.TickPolled p t)
+  pub goes_on : (h : Hint) (o : Op) → list_any may_refuse (act p h o w).next ≡ true → lies_down o ≡ false →
+      (act p h o w).world ≡ w
+  pub copies : (h : Hint) (s : Sleeping) → list_any ends_for_want (copy_sleeper h w s).next ≡ true →
+      (copy_sleeper h w s).world ≡ w
+  pub lies : (s : Sleeping) → (lie_down w s).world ≡ record w {
+    ticks = (lie_down w s).world.ticks;
+    sleepers = (lie_down w s).world.sleepers;
+    notified = (lie_down w s).world.notified;
+  }
 
 -- the waker is one of a task that already has 2^40 references
 abbrev pub IsFull : Waker → World → Type 0
@@ -63,7 +72,9 @@ CopiesOneTooMany (op.Handle (handle_op.CopyAwaiter f (Task g))) w = most_referen
 CopiesOneTooMany (op.Tick (tick_op.CopyWaker s)) w = IsFull s.waker w
 CopiesOneTooMany _ w = true ≡ false
 
--- a call ends for want of memory only where the step's hint says so, or where one reference too many would be made; none begins with such an end
+-- a call ends for want of memory only where the step's hint says so, or where one reference too many would be made;
+-- none begins with such an end
 pub record IsWantToldOf (w : World) (p : ℕ) : Type 0 where
   pub begins : (here : Option ℕ) (c : Call) → list_any ends_for_want (begun p w here c).next ≡ false
-  pub goes_on : (h : Hint) (o : Op) → list_any ends_for_want (act p h o w).next ≡ true → (h.refused ≡ true) ⊎ CopiesOneTooMany o w
+  pub goes_on : (h : Hint) (o : Op) → list_any ends_for_want (act p h o w).next ≡ true →
+      (h.refused ≡ true) ⊎ CopiesOneTooMany o w

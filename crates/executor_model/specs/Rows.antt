@@ -1,5 +1,5 @@
--- A row for each thing to do: what it stands for in each count, what it uses, what it speaks of, and how many steps it may
--- still take. The counts of a stack are the sums of its rows.
+-- A row for each thing to do: what it stands for in each count, what it uses, what it speaks of, and how many steps it
+-- may still take. The counts of a stack are the sums of its rows.
 use Rattle.std.specs.Prelude.{ℕ, ◌+◌}
 use Rattle.task_moves.specs.declared.moves.owed.Move.{Move}
 use Rattle.task_moves.specs.declared.moves.owed.Move.TheVariants as move
@@ -23,7 +23,8 @@ use Rattle.executor_model.specs.declared.op.UserOp.{UserOp}
 use Rattle.executor_model.specs.declared.op.UserOp.TheVariants as user_op
 use Rattle.executor_model.specs.declared.op.WakerOp.{WakerOp}
 use Rattle.executor_model.specs.declared.op.WakerOp.TheVariants as waker_op
-use Rattle.executor_model.specs.Weights.{same, past, waker_past, wakes, holds_executor, holds_handle, holds_waker, holds_tick}
+use Rattle.executor_model.specs.Weights.{same, past, waker_past, wakes, holds_executor}
+use Rattle.executor_model.specs.Weights.{holds_handle, holds_waker, holds_tick}
 
 pub record Row : Type 0 where
   -- by the number of a future: Runnables that are not in the queue, and the stages of a run
@@ -129,14 +130,17 @@ user_row (user_op.DropOutput f) = nothing
 user_row (user_op.CallOutside x) = nothing
 
 abbrev pub waker_row : WakerOp → Row
-waker_row (waker_op.CopyWaker f held) = record (about f) { borrowing = holds_executor held; lending = λ j. holds_waker j held; steps = 2 }
+waker_row (waker_op.CopyWaker f held) =
+    record (about f) { borrowing = holds_executor held; lending = λ j. holds_waker j held; steps = 2 }
 waker_row (waker_op.CallAwaiter f a k) = record (about_waker f a) { copies = λ g. wakes g a; steps = 26 }
 
 abbrev pub handle_row : HandleOp → Row
 handle_row (handle_op.Look f a) = record (about_waker f a) { handling = one f; steps = 34 }
 handle_row (handle_op.CopyAwaiter f a) = record (about_waker f a) { handling = one f; steps = 33 }
-handle_row (handle_op.Register f a k) = record (about_waker f a) { handling = one f; copies = λ g. wakes g a; steps = 32 }
-handle_row (handle_op.EndRegister f a k) = record (about_waker f a) { handling = one f; copies = λ g. wakes g a; steps = 31 }
+handle_row (handle_op.Register f a k) =
+    record (about_waker f a) { handling = one f; copies = λ g. wakes g a; steps = 32 }
+handle_row (handle_op.EndRegister f a k) =
+    record (about_waker f a) { handling = one f; copies = λ g. wakes g a; steps = 31 }
 handle_row (handle_op.LookAgain f) = record (about f) { handling = one f; steps = 4 }
 handle_row (handle_op.Notify f mine) = record (about f) { steps = 2 }
 handle_row (handle_op.EndNotify f mine) = about f
@@ -145,7 +149,8 @@ handle_row (handle_op.EndNotify f mine) = about f
 abbrev pub sleeper_row : SleeperOp → Row
 sleeper_row sleeper_op.ExchangeFlag = record nothing { steps = 31 }
 sleeper_row sleeper_op.HandOut = record nothing { steps = 30 }
-sleeper_row (sleeper_op.CallSleeper s) = record nothing { copies = λ g. wakes g s.waker; past = λ n. waker_past n s.waker; steps = 26 }
+sleeper_row (sleeper_op.CallSleeper s) =
+    record nothing { copies = λ g. wakes g s.waker; past = λ n. waker_past n s.waker; steps = 26 }
 
 abbrev pub about_sleeping : Sleeping → Row
 about_sleeping s = record nothing { borrowing = 1; ticking = one s.tick; past = λ n. waker_past n s.waker }
@@ -175,7 +180,12 @@ row (op.Handle o) = handle_row o
 row (op.Sleeper o) = sleeper_row o
 row (op.Tick o) = tick_row o
 row (op.Closing o) = closing_row o
-row (op.End r held) = record nothing { borrowing = holds_executor held; handling = λ g. holds_handle g held; lending = λ j. holds_waker j held; ticking = λ u. holds_tick u held }
+row (op.End r held) = record nothing {
+  borrowing = holds_executor held;
+  handling = λ g. holds_handle g held;
+  lending = λ j. holds_waker j held;
+  ticking = λ u. holds_tick u held;
+}
 
 -- the counts of one thing to do
 

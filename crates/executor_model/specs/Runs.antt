@@ -12,7 +12,8 @@ EveryRun P = (limit parties : ℕ) (steps : List Step) (f : ℕ) → P (run step
 abbrev pub EveryMachine : (Machine → Type 0) → Type 0
 EveryMachine P = (limit parties : ℕ) (steps : List Step) → P (run steps (start limit parties))
 
--- f's count is its living wakers, those that are stored or on their way too, and one for a Runnable, a run or a closing call
+-- f's count is its living wakers, those that are stored or on their way too, and one for a Runnable,
+-- a run or a closing call
 abbrev pub IsCounted : Machine → ℕ → Type 0
 IsCounted s f = (task s.world f).references ≡ tokens s.world f (pend f s.parties) + living s.world f (pend f s.parties)
 

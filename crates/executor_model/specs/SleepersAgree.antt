@@ -31,4 +31,5 @@ pub record SleepersAgree (s : Machine) : Type 0 where
   pub apart : (t u n : ℕ) → tick_of s.world t ≡ Lies n → tick_of s.world u ≡ Lies n → t ≡ u
   pub counted : s.world.sleepers.count ≡ lying s.world.ticks
   pub listed : length s.world.sleepers.wakers ≤ s.world.sleepers.count
-  pub flag : s.world.notified ≡ true → (s.world.sleepers.count ≡ 0) ⊎ (SomeoneNotified s ⊎ (1 ≤ weigh_all hands_of s.parties))
+  pub flag : s.world.notified ≡ true →
+      (s.world.sleepers.count ≡ 0) ⊎ (SomeoneNotified s ⊎ (1 ≤ weigh_all hands_of s.parties))

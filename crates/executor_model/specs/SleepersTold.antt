@@ -17,4 +17,6 @@ tells_of (op.Tick (tick_op.GetUp t f)) = 1
 tells_of _ = 0
 
 abbrev pub SleepersAreTold : Machine → Type 0
-SleepersAreTold s = 1 ≤ length s.world.queue.items → 1 ≤ s.world.sleepers.count → SomeoneNotified s ⊎ (1 ≤ weigh_all tells_of s.parties)
+SleepersAreTold s =
+    1 ≤ length s.world.queue.items → 1 ≤ s.world.sleepers.count →
+    SomeoneNotified s ⊎ (1 ≤ weigh_all tells_of s.parties)

@@ -1,5 +1,6 @@
 -- What holds of each future at every moment, and the numbers that it is said by.
-use Rattle.std.specs.Prelude.{◌≡◌, ◌≢◌, ◌⊎◌, ℕ, ◌+◌, ◌^◌, ◌≤◌, ◌==◌, true, false, Option, Some, None, List, [], ◌∷◌, cond}
+use Rattle.std.specs.Prelude.{◌≡◌, ◌≢◌, ◌⊎◌, ℕ, ◌+◌, ◌^◌, ◌≤◌, ◌==◌, true, false}
+use Rattle.std.specs.Prelude.{Option, Some, None, List, [], ◌∷◌, cond}
 use Rattle.executor_model.specs.declared.event.Answer.{Answer}
 use Rattle.executor_model.specs.declared.event.Answer.TheVariants.{Pending, Ready}
 use Rattle.executor_model.specs.declared.event.Event.{Event}
@@ -10,7 +11,8 @@ use Rattle.executor_model.specs.declared.op.Sleeping.{Sleeping}
 use Rattle.executor_model.specs.Trace.{Trace}
 use Rattle.executor_model.specs.World.{World, task}
 use Rattle.executor_model.specs.Weights.{same, weigh, weigh_all, weigh_sleepers, wakes}
-use Rattle.executor_model.specs.Rows.{waiting_of, polls_of, ending_of, ready_of, closing_of, settling_of, giving_of, drops_of, releases_of, copies_of, borrowing_of, ousting_of}
+use Rattle.executor_model.specs.Rows.{waiting_of, polls_of, ending_of, ready_of, closing_of, settling_of, giving_of}
+use Rattle.executor_model.specs.Rows.{drops_of, releases_of, copies_of, borrowing_of, ousting_of}
 
 -- how often g stands in the list
 abbrev pub times : ℕ → List ℕ → ℕ
@@ -122,18 +124,25 @@ phase g es = phase_from g Fresh es
 
 -- Runnables, runs and closing calls of g
 abbrev pub tokens : World → ℕ → Pend → ℕ
-tokens w g p = times g w.queue.items + (p.waiting + (p.polls + (p.ending + (p.ready + (p.closing + (p.settling + p.giving))))))
+tokens w g p =
+    times g w.queue.items +
+    (p.waiting + (p.polls + (p.ending + (p.ready + (p.closing + (p.settling + p.giving))))))
 
 -- living wakers of g's task
 abbrev pub living : World → ℕ → Pend → ℕ
-living w g p = times g w.table + (times g w.leaving + (times g w.waking + (wakers_of g w.wakers + (awaiters_of g w.awaiters + (sleepers_of g w.sleepers.wakers + (p.releases + p.copies))))))
+living w g p =
+    times g w.table + (times g w.leaving + (times g w.waking +
+    (wakers_of g w.wakers + (awaiters_of g w.awaiters + (sleepers_of g w.sleepers.wakers +
+    (p.releases + p.copies))))))
 
 -- what holds of future g
 pub record Sound (w : World) (g : ℕ) (p : Pend) : Type 0 where
   pub counted : (task w g).references ≡ tokens w g p + living w g p
   pub one : tokens w g p ≤ 1
   pub few : living w g p ≤ 2 ^ 40
-  pub busy : 1 ≤ tokens w g p → ((task w g).scheduled ≡ true) ⊎ (((task w g).running ≡ true) ⊎ (((task w g).closed ≡ true) ⊎ ((task w g).completed ≡ true)))
+  pub busy : 1 ≤ tokens w g p →
+      ((task w g).scheduled ≡ true)
+      ⊎ (((task w g).running ≡ true) ⊎ (((task w g).closed ≡ true) ⊎ ((task w g).completed ≡ true)))
   pub live : 1 ≤ times g w.queue.items + (p.waiting + (p.polls + (p.ending + p.ready))) → (task w g).completed ≡ false
   pub ends : 1 ≤ p.closing + (p.settling + p.giving) → ((task w g).closed ≡ true) ⊎ ((task w g).completed ≡ true)
   pub drop : 1 ≤ p.drops → ((task w g).closed ≡ true) ⊎ (((task w g).completed ≡ true) ⊎ (1 ≤ p.ready))
@@ -141,7 +150,8 @@ pub record Sound (w : World) (g : ℕ) (p : Pend) : Type 0 where
   pub lawful : phase g w.trace ≢ Broken
   pub polling : 1 ≤ p.polls → phase g w.trace ≡ Polling
   pub resting : p.polls ≡ 0 → phase g w.trace ≢ Polling
-  pub over : phase g w.trace ≡ Over → ((task w g).closed ≡ true) ⊎ (((task w g).completed ≡ true) ⊎ ((1 ≤ p.ready) ⊎ (w.gone ≡ true)))
+  pub over : phase g w.trace ≡ Over →
+      ((task w g).closed ≡ true) ⊎ (((task w g).completed ≡ true) ⊎ ((1 ≤ p.ready) ⊎ (w.gone ≡ true)))
   pub given : 1 ≤ p.giving → ((task w g).scheduled ≡ false) × ((task w g).running ≡ false)
   pub owed : (task w g).scheduled ≡ true → 1 ≤ tokens w g p
   pub going : (task w g).running ≡ true → 1 ≤ p.polls + (p.ending + (p.ready + p.closing))

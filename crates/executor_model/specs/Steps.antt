@@ -1,5 +1,7 @@
 -- The machine: its state, which steps are possible, what they lead to, and its runs.
-use Rattle.std.specs.Prelude.{ℕ, zero, suc, ◌-◌, ◌==◌, Bool, true, false, ◌&&◌, ◌||◌, not, Option, Some, None, Result, Ok, Err, List, [], ◌∷◌, ◌++◌, length, slice_get, slice_index_or, slice_set, take, reverse, nat_lt}
+use Rattle.std.specs.Prelude.{ℕ, zero, suc, ◌-◌, ◌==◌, Bool, true, false, ◌&&◌, ◌||◌, not}
+use Rattle.std.specs.Prelude.{Option, Some, None, Result, Ok, Err, List, [], ◌∷◌, ◌++◌, length, slice_get}
+use Rattle.std.specs.Prelude.{slice_index_or, slice_set, take, reverse, nat_lt}
 use Rattle.queue_steps.specs.ClosableQueue.{new_queue}
 use Rattle.std.specs.List.{list_any}
 use Rattle.executor_model.specs.declared.call.By.{By}
@@ -175,7 +177,9 @@ part_refusal w ss os (Answer p e) = answer_refusal (top os) e
 
 -- why the step isn't possible, by the first test that fails
 abbrev pub refusal : Machine → Step → Option StepError
-refusal s t = unless (nat_lt (party_of t) (length s.parties)) NoSuch (part_refusal s.world s.parties (stack s (party_of t)) t)
+refusal s t =
+    unless (nat_lt (party_of t) (length s.parties)) NoSuch
+    (part_refusal s.world s.parties (stack s (party_of t)) t)
 
 -- what a step leads to
 
@@ -197,25 +201,36 @@ abbrev pub begun : ℕ → World → Option ℕ → Call → Done
 begun p w here call.Spawn = done w (op.Table table_op.Enter ∷ [])
 begun p w here call.TryTick = done w (op.Queue queue_op.Take ∷ [])
 begun p w here call.IsEmpty = done w (op.Table table_op.LookAtTable ∷ [])
-begun p w here (call.Wake k) = with_future w (kept w k) (λ f. done (used_up w k) (op.Move move.Wake f ∷ op.End reply.Done hold.Nothing ∷ []))
-begun p w here (call.WakeByRef k) = with_future w (kept w k) (λ f. done w (op.Move move.WakeByReference f ∷ op.End reply.Done (hold.Waker k) ∷ []))
-begun p w here (call.Copy k) = with_future w (kept w k) (λ f. done w (op.Waker (waker_op.CopyWaker f (hold.Waker k)) ∷ []))
-begun p w here (call.DropWaker k) = with_future w (kept w k) (λ f. done (used_up w k) (op.Move move.Release f ∷ op.End reply.Done hold.Nothing ∷ []))
+begun p w here (call.Wake k) =
+    with_future w (kept w k) (λ f. done (used_up w k) (op.Move move.Wake f ∷ op.End reply.Done hold.Nothing ∷ []))
+begun p w here (call.WakeByRef k) =
+    with_future w (kept w k) (λ f. done w (op.Move move.WakeByReference f ∷ op.End reply.Done (hold.Waker k) ∷ []))
+begun p w here (call.Copy k) =
+    with_future w (kept w k) (λ f. done w (op.Waker (waker_op.CopyWaker f (hold.Waker k)) ∷ []))
+begun p w here (call.DropWaker k) =
+    with_future w (kept w k) (λ f. done (used_up w k) (op.Move move.Release f ∷ op.End reply.Done hold.Nothing ∷ []))
 begun p w here call.Keep = with_future w here (λ f. done w (op.Waker (waker_op.CopyWaker f hold.Nothing) ∷ []))
-begun p w here call.WakeSelf = with_future w here (λ f. done w (op.Move move.WakeByReference f ∷ op.End reply.Done hold.Nothing ∷ []))
+begun p w here call.WakeSelf =
+    with_future w here (λ f. done w (op.Move move.WakeByReference f ∷ op.End reply.Done hold.Nothing ∷ []))
 begun p w here (call.PollHandle f b) = done w (op.Handle (handle_op.Look f (waker_of here b)) ∷ [])
 begun p w here (call.Cancel f) = done w (op.Move move.Cancel f ∷ op.End reply.Done (hold.Handle f) ∷ [])
 begun p w here (call.Detach f) = done w (op.Move move.Detach f ∷ op.End reply.Done (hold.Handle f) ∷ [])
-begun p w here (call.DropHandle f) = done w (op.Move move.Cancel f ∷ op.Move move.Detach f ∷ op.End reply.Done (hold.Handle f) ∷ [])
+begun p w here (call.DropHandle f) =
+    done w (op.Move move.Cancel f ∷ op.Move move.Detach f ∷ op.End reply.Done (hold.Handle f) ∷ [])
 begun p w here call.NewTick = done w (op.Tick tick_op.MakeTick ∷ [])
-begun p w here (call.PollTick t b) = done (log w (event.TickPolled p t)) (op.Tick (tick_op.Search (record { waker = waker_of here b; tick = t; poll = length w.trace })) ∷ [])
+begun p w here (call.PollTick t b) = done (log w (event.TickPolled p t))
+    (op.Tick (tick_op.Search (record { waker = waker_of here b; tick = t; poll = length w.trace })) ∷ [])
 begun p w here (call.DropTick t) = done (log w (event.TickDropped p t)) (op.Tick (tick_op.Leave t) ∷ [])
-begun p w here call.DropExecutor = done (log (record w { gone = true }) (event.DropBegun p)) (op.Closing closing_op.TakeOut ∷ op.End reply.Done hold.Nothing ∷ [])
+begun p w here call.DropExecutor = done
+    (log (record w { gone = true }) (event.DropBegun p))
+    (op.Closing closing_op.TakeOut ∷ op.End reply.Done hold.Nothing ∷ [])
 
 -- what follows the end of user code
 abbrev pub react : ℕ → Op → UserEnd → World → Done
-react p (op.User (user_op.Poll f)) (end.Polled answer.Pending) w = done (log w (event.Answered p f answer.Pending)) (op.Table (table_op.PutBack f) ∷ [])
-react p (op.User (user_op.Poll f)) (end.Polled answer.Ready) w = done (log w (event.Answered p f answer.Ready)) (op.User (user_op.BeginDrop f) ∷ op.Move move.EndReady f ∷ [])
+react p (op.User (user_op.Poll f)) (end.Polled answer.Pending) w = done (log w (event.Answered p f answer.Pending))
+    (op.Table (table_op.PutBack f) ∷ [])
+react p (op.User (user_op.Poll f)) (end.Polled answer.Ready) w = done (log w (event.Answered p f answer.Ready))
+    (op.User (user_op.BeginDrop f) ∷ op.Move move.EndReady f ∷ [])
 react p _ _ w = done w []
 
 -- a party's part of the machine
@@ -281,6 +296,21 @@ idle n = elim n [ zero ↦ [] | suc (m → rest) ↦ [] ∷ rest ]
 -- a new machine for so many undropped futures and with so many parties
 abbrev pub start : ℕ → ℕ → Machine
 start limit n = record {
-  world = record { limit = limit; tasks = []; awaiters = []; inside = []; queue = new_queue (Some limit) None; table = []; leaving = []; waking = []; wakers = []; ticks = []; sleepers = record { count = 0; rooms = 0; wakers = []; free = [] }; notified = true; gone = false; trace = [] };
+  world = record {
+    limit = limit;
+    tasks = [];
+    awaiters = [];
+    inside = [];
+    queue = new_queue (Some limit) None;
+    table = [];
+    leaving = [];
+    waking = [];
+    wakers = [];
+    ticks = [];
+    sleepers = record { count = 0; rooms = 0; wakers = []; free = [] };
+    notified = true;
+    gone = false;
+    trace = [];
+  };
   parties = idle n;
 }

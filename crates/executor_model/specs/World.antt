@@ -18,7 +18,8 @@ pub data Tick : Type 0 where
 pub record World : Type 0 where
   -- as many accepted futures may be undropped
   pub limit : ℕ
-  -- by the numbers of the futures: the task's marks and count, its stored awaiter, and whether the future is in its place in the table
+  -- by the numbers of the futures: the task's marks and count, its stored awaiter,
+  -- and whether the future is in its place in the table
   pub tasks : List State
   pub awaiters : List (Option Awaiter)
   pub inside : List Bool
@@ -26,7 +27,8 @@ pub record World : Type 0 where
   pub queue : ClosableQueue ℕ
   -- the futures that have an entry in the table, and a waker there, in the order of acceptance
   pub table : List ℕ
-  -- the futures that the executor's drop has taken out and not yet dropped, each with its waker, and the wakers of those that it has dropped and not yet woken
+  -- the futures that the executor's drop has taken out and not yet dropped, each with its waker,
+  -- and the wakers of those that it has dropped and not yet woken
   pub leaving : List ℕ
   pub waking : List ℕ
   -- the kept wakers by number, each by its future; none where it was used up
@@ -47,7 +49,17 @@ pub record Done : Type 0 where
 
 -- no task
 abbrev pub blank : State
-blank = record { scheduled = false; running = false; completed = false; closed = false; handle = false; awaiter = false; registering = false; notifying = false; references = 0 }
+blank = record {
+  scheduled = false;
+  running = false;
+  completed = false;
+  closed = false;
+  handle = false;
+  awaiter = false;
+  registering = false;
+  notifying = false;
+  references = 0;
+}
 
 -- the task of future f
 abbrev pub task : World → ℕ → State

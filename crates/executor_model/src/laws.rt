@@ -96,15 +96,16 @@ pub fn wakes_are_handed_on()
     ensures marked { EveryRun IsOnItsWay }
 {}
 
-/// Whatever the parties do, no two ticks lie under one number, as many sleep as ticks lie, and there are never more wakers
-/// than sleepers. The flag is true only where nobody sleeps, a sleeper is notified, or a party stands between its won exchange
-/// of the flag and its hand-out.
+/// Whatever the parties do, no two ticks lie under one number, as many sleep as ticks lie, and there are never
+/// more wakers than sleepers. The flag is true only where nobody sleeps, a sleeper is notified, or a party stands
+/// between its won exchange of the flag and its hand-out.
 pub fn sleepers_agree()
     ensures { EveryMachine SleepersAgree }
 {}
 
-/// Whatever the parties do, where a Runnable stands in the queue and a tick lies among the sleepers, a sleeper is notified, or a
-/// party has still to exchange the flag, to hand out or to search. Who has still to call a waker that was handed out isn't needed.
+/// Whatever the parties do, where a Runnable stands in the queue and a tick lies among the sleepers, a sleeper
+/// is notified, or a party has still to exchange the flag, to hand out or to search. Who has still to call a waker
+/// that was handed out isn't needed.
 pub fn sleepers_are_told()
     ensures { EveryMachine SleepersAreTold }
 {}

@@ -22,5 +22,6 @@ without_none f [] absent = refl
 without_none f (x ∷ xs) absent =
     elim (cases_eq x f) [
       | inl same ↦ absurd (false≢true (sym absent ∙ among_yes f x xs same))
-      | inr differs ↦ without_no f x xs differs ∙ ap (λ (ys : List ℕ). x ∷ ys) (without_none f xs (sym (among_no f x xs differs) ∙ absent))
+      | inr differs ↦ without_no f x xs differs ∙ ap (λ (ys : List ℕ). x ∷ ys)
+          (without_none f xs (sym (among_no f x xs differs) ∙ absent))
     ]

@@ -1,5 +1,6 @@
 -- How the entries of the machine's futures follow their numbers.
-use Rattle.std.proofs.Common.{◌≡◌, ◌≢◌, ℕ, zero, suc, ◌<◌, ◌≤◌, Bool, true, false, eqb, List, [], ◌∷◌, ◌++◌, length, map, get_or, set}
+use Rattle.std.proofs.Common.{◌≡◌, ◌≢◌, ℕ, zero, suc, ◌<◌, ◌≤◌, Bool, true, false, eqb}
+use Rattle.std.proofs.Common.{List, [], ◌∷◌, ◌++◌, length, map, get_or, set}
 use Rattle.std.proofs.Common.{Option, Some, None, IfSome, IfNone, is_some, refl, sym, ap, ◌∙◌, subst, inl, inr, arith}
 use Rattle.std.proofs.lemmas.Bool.{cases_eq, false≢true}
 use Rattle.std.proofs.lemmas.Bool.Decides.{nat_tests}
@@ -28,7 +29,8 @@ module _ {F : Type 0} where
   went_here : (k : ℕ) (e : Entry F ℕ) (es : List (Entry F ℕ)) → e.key ≡ k → without_entry k (e ∷ es) ≡ es
   went_here k e es same = let t : eqb k e.key ≡ true = grind (arith, nat_tests) in rw (t, without_entry)
 
-  went_past : (k : ℕ) (e : Entry F ℕ) (es : List (Entry F ℕ)) → e.key ≢ k → without_entry k (e ∷ es) ≡ e ∷ without_entry k es
+  went_past : (k : ℕ) (e : Entry F ℕ) (es : List (Entry F ℕ)) → e.key ≢ k →
+      without_entry k (e ∷ es) ≡ e ∷ without_entry k es
   went_past k e es differs = let t : eqb k e.key ≡ false = grind (arith, nat_tests) in rw (t, without_entry)
 
   with_here :
@@ -42,7 +44,8 @@ module _ {F : Type 0} where
   with_past k future e es differs = let t : eqb k e.key ≡ false = grind (arith, nat_tests) in rw (t, with_future)
 
   -- the waker of a first entry that is under this key
-  waker_here : (k f : ℕ) (e : Entry F ℕ) (es : List (Entry F ℕ)) → e.key ≡ k → waker_of (entry_at k (e ∷ es)) ≡ Some f → e.waker ≡ f
+  waker_here : (k f : ℕ) (e : Entry F ℕ) (es : List (Entry F ℕ)) → e.key ≡ k → waker_of (entry_at k (e ∷ es)) ≡ Some f →
+      e.waker ≡ f
   waker_here k f e es same found =
       let w : Some e.waker ≡ Some f = sym (ap waker_of (at_here k e es same)) ∙ found in
       cc
@@ -74,7 +77,8 @@ module _ {F : Type 0} where
       ]
 
   -- it is the one under its key
-  pub key_found : (p : Place) (f : ℕ) (es : List (Entry F ℕ)) → waker_of (entry_in p es) ≡ Some f → waker_of (entry_at p.key es) ≡ Some f
+  pub key_found : (p : Place) (f : ℕ) (es : List (Entry F ℕ)) → waker_of (entry_in p es) ≡ Some f →
+      waker_of (entry_at p.key es) ≡ Some f
   key_found p f es found = stamped_found p.stamp f (entry_at p.key es) found
 
   -- a change at its place is one under its key
@@ -83,7 +87,8 @@ module _ {F : Type 0} where
       → waker_of (entry_in p es) ≡ Some f → set_future p future es ≡ with_future p.key future es
   set_found p f future es found = of (entry_in p es) found
     where
-      of : (o : Option (Entry F ℕ)) → waker_of o ≡ Some f → where_there o (with_future p.key future es) es ≡ with_future p.key future es
+      of : (o : Option (Entry F ℕ)) → waker_of o ≡ Some f →
+          where_there o (with_future p.key future es) es ≡ with_future p.key future es
       of None found = absurd (none-some f found)
       of (Some e) found = refl
 
@@ -92,7 +97,8 @@ module _ {F : Type 0} where
       → waker_of (entry_in p es) ≡ Some f → left_by p es ≡ without_entry p.key es
   left_found p f es found = of (entry_in p es) found
     where
-      of : (o : Option (Entry F ℕ)) → waker_of o ≡ Some f → where_there o (without_entry p.key es) es ≡ without_entry p.key es
+      of : (o : Option (Entry F ℕ)) → waker_of o ≡ Some f →
+          where_there o (without_entry p.key es) es ≡ without_entry p.key es
       of None found = absurd (none-some f found)
       of (Some e) found = refl
 
@@ -112,12 +118,14 @@ module _ {F : Type 0} where
   seated_push seats [] e here seated = (here, tt)
   seated_push seats (x ∷ es) e here seated = (seated.0, seated_push seats es e here seated.1)
 
-  pub seated_without : (seats : List Seat) (k : ℕ) (es : List (Entry F ℕ)) → AreSeated seats es → AreSeated seats (without_entry k es)
+  pub seated_without : (seats : List Seat) (k : ℕ) (es : List (Entry F ℕ)) → AreSeated seats es →
+      AreSeated seats (without_entry k es)
   seated_without seats k [] seated = tt
   seated_without seats k (e ∷ es) seated =
       elim (cases_eq e.key k) [
         | inl same ↦ subst (AreSeated seats) (sym (went_here k e es same)) seated.1
-        | inr differs ↦ subst (AreSeated seats) (sym (went_past k e es differs)) (seated.0, seated_without seats k es seated.1)
+        | inr differs ↦ subst (AreSeated seats) (sym (went_past k e es differs))
+            (seated.0, seated_without seats k es seated.1)
       ]
 
   pub seated_with :
@@ -127,7 +135,8 @@ module _ {F : Type 0} where
   seated_with seats k future (e ∷ es) seated =
       elim (cases_eq e.key k) [
         | inl same ↦ subst (AreSeated seats) (sym (with_here k future e es same)) (seated.0, seated.1)
-        | inr differs ↦ subst (AreSeated seats) (sym (with_past k future e es differs)) (seated.0, seated_with seats k future es seated.1)
+        | inr differs ↦ subst (AreSeated seats) (sym (with_past k future e es differs))
+            (seated.0, seated_with seats k future es seated.1)
       ]
 
   -- the entry of this future is where its seat says
@@ -142,16 +151,19 @@ module _ {F : Type 0} where
   other_future :
       (seats : List Seat) (e : Entry F ℕ) (f : ℕ) (p : Place)
       → place_in seats e.waker ≡ Some (place_of e) → place_in seats f ≡ Some p → e.key ≢ p.key → e.waker ≢ f
-  other_future seats e f p seated here differs same = differs (ap (λ (q : Place). q.key) (is_seated seats e f p seated here same))
+  other_future seats e f p seated here differs same =
+      differs (ap (λ (q : Place). q.key) (is_seated seats e f p seated here same))
 
   -- ---- the futures
 
-  pub futures_with : (k : ℕ) (future : Option F) (es : List (Entry F ℕ)) → futures_of (with_future k future es) ≡ futures_of es
+  pub futures_with : (k : ℕ) (future : Option F) (es : List (Entry F ℕ)) →
+      futures_of (with_future k future es) ≡ futures_of es
   futures_with k future [] = refl
   futures_with k future (e ∷ es) =
       elim (cases_eq e.key k) [
         | inl same ↦ ap futures_of (with_here k future e es same)
-        | inr differs ↦ ap futures_of (with_past k future e es differs) ∙ ap (λ (fs : List ℕ). e.waker ∷ fs) (futures_with k future es)
+        | inr differs ↦ ap futures_of (with_past k future e es differs) ∙ ap (λ (fs : List ℕ). e.waker ∷ fs)
+            (futures_with k future es)
       ]
 
   pub is_among : (f k : ℕ) (es : List (Entry F ℕ)) → waker_of (entry_at k es) ≡ Some f → among f (futures_of es) ≡ true
@@ -165,7 +177,8 @@ module _ {F : Type 0} where
       ]
 
   -- no other entry is at this place
-  none_in : (p : Place) (e : Entry F ℕ) (es : List (Entry F ℕ)) → IsApart (keys_of (e ∷ es)) → e.key ≡ p.key → entry_in p es ≡ None
+  none_in : (p : Place) (e : Entry F ℕ) (es : List (Entry F ℕ)) → IsApart (keys_of (e ∷ es)) → e.key ≡ p.key →
+      entry_in p es ≡ None
   none_in p e es apart here =
       let absent : ¬ IsIn p.key (keys_of es) = λ there. apart.0 (subst (λ k. IsIn k (keys_of es)) (sym here) there) in
       ap (stamped p.stamp) (none_at p.key es absent)
@@ -188,7 +201,8 @@ module _ {F : Type 0} where
             ∙ not_among seats f p es seated.1 apart.1 here (λ found.
             elim (cases_eq e.key p.key) [
               | inl at ↦ none-some f (sym (ap waker_of (none_in p e es apart at)) ∙ found)
-              | inr past ↦ other (ap (λ (o : Option (Entry F ℕ)). waker_of (stamped p.stamp o)) (at_past p.key e es past) ∙ found)
+              | inr past ↦ other (ap (λ (o : Option (Entry F ℕ)). waker_of (stamped p.stamp o))
+                  (at_past p.key e es past) ∙ found)
             ])
       ]
 
@@ -241,7 +255,8 @@ module _ {F : Type 0} where
   without_past f w None rest differs = refl
   without_past f w (Some x) rest differs = without_no f w rest differs
 
-  without_here : (f w : ℕ) (future : Option F) (rest : List ℕ) → w ≡ f → among f rest ≡ false → without f (present_by future w rest) ≡ rest
+  without_here : (f w : ℕ) (future : Option F) (rest : List ℕ) → w ≡ f → among f rest ≡ false →
+      without f (present_by future w rest) ≡ rest
   without_here f w None rest same absent = without_none f rest absent
   without_here f w (Some x) rest same absent = without_yes f w rest same
 
@@ -257,7 +272,8 @@ module _ {F : Type 0} where
             among_past f e.waker e.future (present_of es) differs ∙ none_present f es later
       ]
 
-  pub without_absent : (f : ℕ) (es : List (Entry F ℕ)) → among f (futures_of es) ≡ false → present_of es ≡ without f (present_of es)
+  pub without_absent : (f : ℕ) (es : List (Entry F ℕ)) → among f (futures_of es) ≡ false →
+      present_of es ≡ without f (present_of es)
   without_absent f es absent = sym (without_none f (present_of es) (none_present f es absent))
 
   pub present_push :
@@ -278,7 +294,8 @@ module _ {F : Type 0} where
       → AreSeated seats es → IsApart (keys_of (e ∷ es)) → place_in seats f ≡ Some p → e.key ≡ p.key
       → among f (present_of es) ≡ false
   rest_absent seats f p e es seated apart here at =
-      let other : waker_of (entry_in p es) ≢ Some f = λ found. none-some f (sym (ap waker_of (none_in p e es apart at)) ∙ found) in
+      let other : waker_of (entry_in p es) ≢ Some f =
+      λ found. none-some f (sym (ap waker_of (none_in p e es apart at)) ∙ found) in
       none_present f es (not_among seats f p es seated apart.1 here other)
 
   pub present_without :
@@ -310,7 +327,8 @@ module _ {F : Type 0} where
         | inl same ↦
             let waker = waker_here p.key f e es same found in
             let rest = rest_absent seats f p e es seated.1 apart here same in
-            ap present_of (with_here p.key None e es same) ∙ sym (without_here f e.waker e.future (present_of es) waker rest)
+            ap present_of (with_here p.key None e es same)
+            ∙ sym (without_here f e.waker e.future (present_of es) waker rest)
         | inr differs ↦
             let other = other_future seats e f p seated.0 here differs in
             let rest = present_out seats f p es seated.1 apart.1 here (waker_past p.key f e es differs found) in
@@ -338,7 +356,8 @@ module _ {F : Type 0} where
 
   pub others_present :
       (f g k : ℕ) (future : Option F) (es : List (Entry F ℕ))
-      → waker_of (entry_at k es) ≡ Some f → g ≢ f → among g (present_of (with_future k future es)) ≡ among g (present_of es)
+      → waker_of (entry_at k es) ≡ Some f → g ≢ f →
+      among g (present_of (with_future k future es)) ≡ among g (present_of es)
   others_present f g k future [] found other = refl
   others_present f g k future (e ∷ es) found other =
       elim (cases_eq e.key k) [
@@ -349,7 +368,8 @@ module _ {F : Type 0} where
             ∙ sym (among_past g e.waker e.future (present_of es) apart)
         | inr differs ↦
             ap (λ (xs : List (Entry F ℕ)). among g (present_of xs)) (with_past k future e es differs)
-            ∙ among_after g e.waker e.future _ _ (others_present f g k future es (waker_past k f e es differs found) other)
+            ∙ among_after g e.waker e.future _ _
+            (others_present f g k future es (waker_past k f e es differs found) other)
       ]
 
   pub length-futures : (es : List (Entry F ℕ)) → length (futures_of es) ≡ length es
@@ -364,13 +384,15 @@ place_new [] s (suc n) here = absurd (omega arith)
 place_new (x ∷ seats) s zero here = absurd (omega arith)
 place_new (x ∷ seats) s (suc n) here = place_new seats s n (omega arith)
 
-place_kept : (seats : List Seat) (s : Seat) (n : ℕ) (p : Place) → place_in seats n ≡ Some p → place_in (seats ++ s ∷ []) n ≡ Some p
+place_kept : (seats : List Seat) (s : Seat) (n : ℕ) (p : Place) → place_in seats n ≡ Some p →
+    place_in (seats ++ s ∷ []) n ≡ Some p
 place_kept [] s n p here = absurd (none-some p here)
 place_kept (x ∷ seats) s zero p here = here
 place_kept (x ∷ seats) s (suc n) p here = place_kept seats s n p here
 
 -- a seat is written that keeps its place
-place_written : (seats : List Seat) (f n : ℕ) (s : Seat) → place_in seats f ≡ Some s.place → place_in (set seats f s) n ≡ place_in seats n
+place_written : (seats : List Seat) (f n : ℕ) (s : Seat) → place_in seats f ≡ Some s.place →
+    place_in (set seats f s) n ≡ place_in seats n
 place_written [] f n s same = refl
 place_written (x ∷ seats) zero zero s same = sym same
 place_written (x ∷ seats) zero (suc n) s same = refl
@@ -378,7 +400,8 @@ place_written (x ∷ seats) (suc f) zero s same = refl
 place_written (x ∷ seats) (suc f) (suc n) s same = place_written seats f n s same
 
 -- what was found in the seat of a future
-pub seat_read : (seats : List Seat) (f : ℕ) (s : Seat) → f < length seats → s ≡ get_or seats f s → place_in seats f ≡ Some s.place
+pub seat_read : (seats : List Seat) (f : ℕ) (s : Seat) → f < length seats → s ≡ get_or seats f s →
+    place_in seats f ≡ Some s.place
 seat_read seats f s known read = ap place_by (slice_get_read seats (length seats) f s refl known read)
 
 pub place_past : (seats : List Seat) (f : ℕ) → length seats ≤ f → place_in seats f ≡ None
@@ -401,7 +424,8 @@ pub length-insides : (seats : List Seat) → length (map (λ (x : Seat). x.insid
 length-insides [] = refl
 length-insides (x ∷ seats) = ap suc (length-insides seats)
 
-pub seated_more : {F : Type 0} (seats : List Seat) (s : Seat) (es : List (Entry F ℕ)) → AreSeated seats es → AreSeated (seats ++ s ∷ []) es
+pub seated_more : {F : Type 0} (seats : List Seat) (s : Seat) (es : List (Entry F ℕ)) → AreSeated seats es →
+    AreSeated (seats ++ s ∷ []) es
 seated_more seats s es seated = seated_kept seats (seats ++ s ∷ []) es (λ n p here. place_kept seats s n p here) seated
 
 pub seated_written :

@@ -1,5 +1,6 @@
 -- What a contract sees of the entries of the machine's futures, and how they lie.
-use Rattle.std.specs.Prelude.{◌≡◌, ℕ, ◌<◌, ◌≤◌, Bool, true, false, List, [], ◌∷◌, length, map, slice_get, Option, Some, None}
+use Rattle.std.specs.Prelude.{◌≡◌, ℕ, ◌<◌, ◌≤◌, Bool, true, false, List, [], ◌∷◌}
+use Rattle.std.specs.Prelude.{length, map, slice_get, Option, Some, None}
 use Rattle.executor_parts.specs.Places.{Entry, place_of}
 use Rattle.executor_parts.specs.declared.places.Place.{Place}
 use Rattle.executor_parts.specs.declared.places.Vacancy.{Vacancy}

@@ -254,7 +254,8 @@ impl Entries {
 
     /// The first of those that were taken out goes, to be dropped, and is answered.
     pub fn leave_first(&mut self) -> Option<u64>
-        ensures none { IfNone result ((self.old.leaving ≡ []) × (self.new.leaving ≡ []) × (self.new.inside ≡ self.old.inside)) }
+        ensures none { IfNone result
+            ((self.old.leaving ≡ []) × (self.new.leaving ≡ []) × (self.new.inside ≡ self.old.inside)) }
         ensures some { IfSome result (λ f. self.old.leaving ≡ f ∷ self.new.leaving) }
         ensures inside { IfSome result (λ f. self.new.inside ≡ slice_set self.old.inside f false) }
         ensures table { self.new.table ≡ self.old.table }

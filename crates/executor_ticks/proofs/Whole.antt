@@ -10,7 +10,8 @@ use Rattle.executor_model.specs.Steps.{lives}
 use Rattle.executor_model.specs.World.{Tick, Up, Lies, Left}
 use Rattle.executor_ticks.specs.declared.ticker.Ticker.{Ticker}
 use Rattle.executor_ticks.specs.Ticks.{Ticked, as_tick, tick_in, put_in}
-use Rattle.executor_ticks.specs.Lying.{Lain, anew, told_by, again, lain_by, lie_down, got_up_by, got_up, alone, lies_by, lies_now, up_now}
+use Rattle.executor_ticks.specs.Lying.{Lain, anew, told_by, again, lain_by, lie_down, got_up_by}
+use Rattle.executor_ticks.specs.Lying.{got_up, alone, lies_by, lies_now, up_now}
 
 pub any_mapped : (ts : List Ticker) → list_any lives (map as_tick ts) ≡ list_any (λ x. lives (as_tick x)) ts
 any_mapped [] = refl
@@ -30,7 +31,8 @@ same_again : (s : Ticked) (t : ℕ) (k : Tick) → tick_in s t ≡ k → set s.t
 same_again s t k e = ap (set s.ticks t) (sym e) ∙ set-get_or s.ticks t Left
 
 abbrev Whole : Ticked → ℕ → Tick → Ticked → Ticked → Type 0
-Whole s t now alone whole = with_parts (set s.ticks t now) alone.sleepers alone.notified ≡ record whole { has_room = false }
+Whole s t now alone whole = with_parts (set s.ticks t now) alone.sleepers alone.notified
+    ≡ record whole { has_room = false }
 
 module _ (s : Ticked) (x : Sleeping) where
   whole_same :
@@ -96,7 +98,8 @@ lain_whole ts mid new x k j l m b c s u v w e f g h p q =
 
 pub up_whole :
     (ts mid new : List Tick) (t : ℕ) (k j : Tick) (l m : Sleepers Sleeping) (b c : Bool) (s : Ticked)
-    → ts ≡ s.ticks → l ≡ s.sleepers → b ≡ s.notified → k ≡ get_or ts t Left → mid ≡ set ts t Left → new ≡ set mid t j → j ≡ up_now k
+    → ts ≡ s.ticks → l ≡ s.sleepers → b ≡ s.notified → k ≡ get_or ts t Left → mid ≡ set ts t Left → new ≡ set mid t j →
+    j ≡ up_now k
     → m ≡ (got_up_by k 0 (alone l b)).sleepers → c ≡ (got_up_by k 0 (alone l b)).notified
     → with_parts new m c ≡ record (got_up t s) { has_room = false }
 up_whole ts mid new t k j l m b c s u v w e f g h p q =

@@ -1,6 +1,8 @@
 -- How ticks lie down among the sleepers, get up, and leave them, as the model has it.
-use Rattle.std.specs.Prelude.{ℕ, ◌-◌, nat_lt, Bool, true, false, List, [], length, slice_set, Option, Some, None, is_none}
-use Rattle.executor_parts.specs.Sleepers.{Sleepers, flag_of, laid_down, next_number, listed, risen, position_of, waker_at, waker_of}
+use Rattle.std.specs.Prelude.{ℕ, ◌-◌, nat_lt, Bool, true, false, List, [], length}
+use Rattle.std.specs.Prelude.{slice_set, Option, Some, None, is_none}
+use Rattle.executor_parts.specs.Sleepers.{Sleepers, flag_of, laid_down, next_number, listed}
+use Rattle.executor_parts.specs.Sleepers.{risen, position_of, waker_at, waker_of}
 use Rattle.executor_model.specs.declared.op.Sleeping.{Sleeping}
 use Rattle.executor_model.specs.Acts.{given_back}
 use Rattle.executor_model.specs.World.{Tick, Up, Lies, Left}

@@ -13,8 +13,8 @@ use executor_model::Sleeping;
 use executor_parts::{Again, Risen, Room, Sleeper, Sleepers, Slept, Unreserved};
 use std::mem;
 
-/// A tick is up, with the room in which it can lie down, or lies among the sleepers, or left them. It has no drop: it leaves
-/// them.
+/// A tick is up, with the room in which it can lie down, or lies among the sleepers, or left them. It has no drop:
+/// it leaves them.
 pub enum Ticker {
     Up(Room),
     Lies(Sleeper),
@@ -53,8 +53,10 @@ impl Ticker {
     ) -> (Ticker, Laid)
         ensures tick { as_tick result.0 ≡ lying.lies_now (as_tick self) sleepers.old }
         ensures laid { result.1 ≡ (lying.lain_by (as_tick self) sleeping (alone sleepers.old notified.old)).laid }
-        ensures sleepers { sleepers.new ≡ (lying.lain_by (as_tick self) sleeping (alone sleepers.old notified.old)).ticks.sleepers }
-        ensures flag { notified.new ≡ (lying.lain_by (as_tick self) sleeping (alone sleepers.old notified.old)).ticks.notified }
+        ensures sleepers { sleepers.new
+            ≡ (lying.lain_by (as_tick self) sleeping (alone sleepers.old notified.old)).ticks.sleepers }
+        ensures flag { notified.new
+            ≡ (lying.lain_by (as_tick self) sleeping (alone sleepers.old notified.old)).ticks.notified }
     {
         match self {
             Ticker::Up(room) => match sleepers.lie_down(room, sleeping) {
@@ -92,7 +94,8 @@ impl Ticker {
     ) -> (Ticker, Option<Sleeping>)
         ensures tick { as_tick result.0 ≡ lying.up_now (as_tick self) }
         ensures old { result.1 ≡ lying.lies_with (as_tick self) (alone sleepers.old notified.old) }
-        ensures sleepers { sleepers.new ≡ (lying.got_up_by (as_tick self) 0 (alone sleepers.old notified.old)).sleepers }
+        ensures sleepers { sleepers.new
+            ≡ (lying.got_up_by (as_tick self) 0 (alone sleepers.old notified.old)).sleepers }
         ensures flag { notified.new ≡ (lying.got_up_by (as_tick self) 0 (alone sleepers.old notified.old)).notified }
     {
         match self {
@@ -110,8 +113,8 @@ impl Ticker {
         }
     }
 
-    /// It leaves, and gives its room back. Answers what it lay with, which goes, and whether it had been told, so that another is
-    /// to be told in its place.
+    /// It leaves, and gives its room back. Answers what it lay with, which goes, and whether it had been told, so that
+    /// another is to be told in its place.
     pub fn leave(
         self,
         sleepers: &mut Sleepers<Sleeping>,

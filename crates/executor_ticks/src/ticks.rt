@@ -14,8 +14,8 @@ use std::alloc::{AllocError, Global};
 use std::marker::Model;
 use std::mem;
 
-/// The ticks of the machine, the sleepers among whom they lie down, and the flag beside these. A tick is named by its number;
-/// one that isn't there is as one that left.
+/// The ticks of the machine, the sleepers among whom they lie down, and the flag beside these. A tick is named by its
+/// number; one that isn't there is as one that left.
 pub struct Ticks {
     // By number.
     tickers: Vec<Ticker>,
@@ -137,8 +137,10 @@ impl Ticks {
 
     /// What was added last is handed out, where no sleeper is notified.
     pub fn hand_out(&mut self) -> Option<Sleeping>
-        ensures told { length self.old.sleepers.wakers ≢ self.old.sleepers.count → (result ≡ None) × (self.new ≡ self.old) }
-        ensures last { length self.old.sleepers.wakers ≡ self.old.sleepers.count → result ≡ last_waker self.old.sleepers.wakers }
+        ensures told { length self.old.sleepers.wakers ≢ self.old.sleepers.count →
+            (result ≡ None) × (self.new ≡ self.old) }
+        ensures last { length self.old.sleepers.wakers ≡ self.old.sleepers.count →
+            result ≡ last_waker self.old.sleepers.wakers }
         ensures left { length self.old.sleepers.wakers ≡ self.old.sleepers.count →
             self.new ≡ record self.old { sleepers = without_last self.old.sleepers } }
     {
@@ -177,8 +179,8 @@ impl Ticks {
         old
     }
 
-    /// The tick leaves the sleepers, and gives its room back. Answers what it lay with, which goes, and whether it had been told,
-    /// so that another is to be told in its place.
+    /// The tick leaves the sleepers, and gives its room back. Answers what it lay with, which goes, and whether it had
+    /// been told, so that another is to be told in its place.
     pub fn leave(&mut self, t: u64) -> (Option<Sleeping>, bool)
         ensures old { result.0 ≡ lying.lies_with (tick_in self.old t) self.old }
         ensures told { result.1 ≡ lying.was_told (tick_in self.old t) self.old }

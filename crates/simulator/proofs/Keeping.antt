@@ -1,5 +1,7 @@
--- However far a script is played, its machine is what the steps that were tried make of a new one, and all is shown that happened.
-use Rattle.std.proofs.Common.{◌≡◌, ℕ, zero, suc, Bool, true, false, List, [], ◌∷◌, ◌++◌, length, map, drop, Result, Ok, Err, refl, sym, ap, ◌∙◌, subst, append-nil}
+-- However far a script is played, its machine is what the steps that were tried make of a new one,
+-- and all is shown that happened.
+use Rattle.std.proofs.Common.{◌≡◌, ℕ, zero, suc, Bool, true, false, List, [], ◌∷◌, ◌++◌, length, map, drop}
+use Rattle.std.proofs.Common.{Result, Ok, Err, refl, sym, ap, ◌∙◌, subst, append-nil}
 use Rattle.std.proofs.Math.Seq.{drop-append_seam}
 use Rattle.std.specs.Prelude.{Option, Some, None}
 use Rattle.executor_laws.specs.Continued.{IsContinued}
@@ -36,7 +38,9 @@ use Rattle.simulator.specs.declared.play.future.Stage.{Stage}
 use Rattle.simulator.specs.declared.play.future.Stage.TheVariants as stage
 use Rattle.simulator.specs.declared.play.party.Doing.{Doing}
 use Rattle.simulator.specs.Play as play
-use Rattle.simulator.specs.Play.{Player, plain_at, party, set_party, future, set_future, top, tried, taken, shown, noted, accepted, accepted_by, accepted_as, replied, kept_at, refused_at, unkept_by, item_of, last, later, ended}
+use Rattle.simulator.specs.Play.{Player, plain_at, party, set_party, future, set_future, top, tried, taken}
+use Rattle.simulator.specs.Play.{shown, noted, accepted, accepted_by, accepted_as, replied, kept_at}
+use Rattle.simulator.specs.Play.{refused_at, unkept_by, item_of, last, later, ended}
 use Rattle.simulator.specs.Turn as turns
 use Rattle.simulator.specs.Commands as commands
 use Rattle.simulator.specs.ScriptText.{happened}
@@ -50,7 +54,8 @@ happened-all : (es : List Event) → happened (map Happened es) ≡ es
 happened-all [] = refl
 happened-all (e ∷ es) = ap (λ (xs : List Event). e ∷ xs) (happened-all es)
 
-run-push : (ts : List Step) (t : Step) (m : Machine) → steps.run (ts ++ t ∷ []) m ≡ steps.stepped (steps.run ts m) (steps.step (steps.run ts m) t)
+run-push : (ts : List Step) (t : Step) (m : Machine) →
+    steps.run (ts ++ t ∷ []) m ≡ steps.stepped (steps.run ts m) (steps.step (steps.run ts m) t)
 run-push [] t m = refl
 run-push (x ∷ ts) t m = run-push ts t (steps.stepped m (steps.step m x))
 
@@ -123,25 +128,41 @@ learns (Some (event.CallEnded p r)) s =
 learns None s = own s
 learns (Some _) s = own s
 
-module _ (continues : (m : Machine) (t : Step) → IsContinued m.world.trace (steps.stepped m (steps.step m t)).world.trace) (limit : ℕ) where
+module _ (continues : (m : Machine) (t : Step) →
+    IsContinued m.world.trace (steps.stepped m (steps.step m t)).world.trace) (limit : ℕ) where
   -- a step that is tried
 
-  fair-taken : (t : Step) (s : Player) (r : Result Machine StepError) → steps.step s.machine t ≡ r → IsFair limit s → IsFair limit (taken r (record s { tried = s.tried ++ t ∷ [] }))
+  fair-taken : (t : Step) (s : Player) (r : Result Machine StepError) → steps.step s.machine t ≡ r → IsFair limit s →
+      IsFair limit (taken r (record s { tried = s.tried ++ t ∷ [] }))
   unfolding shown
-  fair-taken t s (Err e) q k =
-      (run-push s.tried t (steps.start limit 10) ∙ (ap (λ (m : Machine). steps.stepped m (steps.step m t)) k.0 ∙ ap (steps.stepped s.machine) q), k.1)
+  fair-taken t s (Err e) q k = (
+    run-push s.tried t (steps.start limit 10)
+        ∙ (ap (λ (m : Machine). steps.stepped m (steps.step m t)) k.0 ∙ ap (steps.stepped s.machine) q),
+    k.1,
+  )
   fair-taken t s (Ok m) q k =
-      let here : Player = record s { machine = m; tried = s.tried ++ t ∷ []; moments = s.moments ++ map Happened (later (length s.machine.world.trace) m.world.trace) } in
-      let on : IsContinued s.machine.world.trace m.world.trace = subst (λ (x : Result Machine StepError). IsContinued s.machine.world.trace (steps.stepped s.machine x).world.trace) q (continues s.machine t) in
-      let behind : later (length s.machine.world.trace) m.world.trace ≡ on.0 = ap (drop (length s.machine.world.trace)) on.1 ∙ drop-append_seam s.machine.world.trace on.0 in
+      let here : Player = record s {
+        machine = m;
+        tried = s.tried ++ t ∷ [];
+        moments = s.moments ++ map Happened (later (length s.machine.world.trace) m.world.trace);
+      } in
+      let on : IsContinued s.machine.world.trace m.world.trace =
+      subst (λ (x : Result Machine StepError). IsContinued s.machine.world.trace
+      (steps.stepped s.machine x).world.trace) q (continues s.machine t) in
+      let behind : later (length s.machine.world.trace) m.world.trace ≡ on.0 =
+      ap (drop (length s.machine.world.trace)) on.1 ∙ drop-append_seam s.machine.world.trace on.0 in
       let all : happened here.moments ≡ m.world.trace =
       happened-append s.moments (map Happened (later (length s.machine.world.trace) m.world.trace))
-      ∙ (ap (λ (es : List Event). es ++ happened (map Happened (later (length s.machine.world.trace) m.world.trace))) k.1
-      ∙ (ap (λ (es : List Event). s.machine.world.trace ++ es) (happened-all (later (length s.machine.world.trace) m.world.trace) ∙ behind)
+      ∙ (ap (λ (es : List Event). es ++ happened (map Happened (later (length s.machine.world.trace) m.world.trace)))
+      k.1
+      ∙ (ap (λ (es : List Event). s.machine.world.trace ++ es)
+      (happened-all (later (length s.machine.world.trace) m.world.trace) ∙ behind)
       ∙ sym on.1)) in
       let steps_here : steps.run here.tried (steps.start limit 10) ≡ m =
-      run-push s.tried t (steps.start limit 10) ∙ (ap (λ (x : Machine). steps.stepped x (steps.step x t)) k.0 ∙ ap (steps.stepped s.machine) q) in
-      same-fair limit here (noted (last (later (length s.machine.world.trace) m.world.trace)) here) (learns (last (later (length s.machine.world.trace) m.world.trace)) here) (steps_here, all)
+      run-push s.tried t (steps.start limit 10)
+      ∙ (ap (λ (x : Machine). steps.stepped x (steps.step x t)) k.0 ∙ ap (steps.stepped s.machine) q) in
+      same-fair limit here (noted (last (later (length s.machine.world.trace) m.world.trace)) here)
+      (learns (last (later (length s.machine.world.trace) m.world.trace)) here) (steps_here, all)
 
   fair-tried : (t : Step) (s : Player) → IsFair limit s → IsFair limit (tried t s)
   unfolding tried
@@ -195,7 +216,8 @@ module _ (continues : (m : Machine) (t : Step) → IsContinued m.world.trace (st
   fair-named (Some g) p f s k = fair-other (future s f).stage p f g s k
   fair-named None p f s k = fair-pending p f s k
 
-  fair-poll_by : (i : Item) (st : Stage) (p f : ℕ) (s : Player) → IsFair limit s → IsFair limit (turns.poll_by i st p f s)
+  fair-poll_by : (i : Item) (st : Stage) (p f : ℕ) (s : Player) → IsFair limit s →
+      IsFair limit (turns.poll_by i st p f s)
   fair-poll_by (item.Ready v) st p f s k = fair-ready p f v s k
   fair-poll_by (item.Twice name) st p f s k = fair-named (number_of s.names name) p f s k
   fair-poll_by item.Pend st p f s k = fair-pending p f s k
@@ -255,7 +277,9 @@ module _ (continues : (m : Machine) (t : Step) → IsContinued m.world.trace (st
 
   fair-closed : (p : ℕ) (doing : Doing) (s : Player) → IsFair limit s → IsFair limit (turns.closed p doing s)
   unfolding turns.closed
-  fair-closed p doing s k = fair-ended (turns.word_at (plain_at s doing.command)) (turns.outcome_of s (party s p).reply (turns.subject s doing)) (turns.does p None s) k
+  fair-closed p doing s k =
+      fair-ended (turns.word_at (plain_at s doing.command))
+      (turns.outcome_of s (party s p).reply (turns.subject s doing)) (turns.does p None s) k
 
   fair-given_back : (b : Bool) (is : List Item) (s : Player) → IsFair limit s → IsFair limit (turns.given_back b is s)
   fair-given_back true is s k = k
@@ -269,15 +293,21 @@ module _ (continues : (m : Machine) (t : Step) → IsContinued m.world.trace (st
   fair-ticked true name s k = fair-ticked_as (number_of s.ticks name) name s k
   fair-ticked false name s k = k
 
-  fair-polls_next : (b : Bool) (p : ℕ) (doing : Doing) (s : Player) → IsFair limit s → IsFair limit (turns.polls_next b p doing s)
+  fair-polls_next : (b : Bool) (p : ℕ) (doing : Doing) (s : Player) → IsFair limit s →
+      IsFair limit (turns.polls_next b p doing s)
   fair-polls_next true p doing s k = fair-closed p doing s k
   fair-polls_next false p doing s k = k
 
-  fair-settled_as : (o : Option Plain) (p : ℕ) (doing : Doing) (s : Player) → IsFair limit s → IsFair limit (turns.settled_as o p doing s)
+  fair-settled_as : (o : Option Plain) (p : ℕ) (doing : Doing) (s : Player) → IsFair limit s →
+      IsFair limit (turns.settled_as o p doing s)
   unfolding turns.settled_as
   fair-settled_as (Some (plain.Cancel name)) p doing s k = fair-polls_next doing.polls p doing s k
-  fair-settled_as (Some (plain.Spawn name items)) p doing s k = fair-closed p doing (turns.given_back (turns.is_made (party s p).reply) items s) (fair-given_back (turns.is_made (party s p).reply) items s k)
-  fair-settled_as (Some (plain.Tick name)) p doing s k = fair-closed p doing (turns.ticked (turns.is_made (party s p).reply) name s) (fair-ticked (turns.is_made (party s p).reply) name s k)
+  fair-settled_as (Some (plain.Spawn name items)) p doing s k =
+      fair-closed p doing (turns.given_back (turns.is_made (party s p).reply) items s)
+      (fair-given_back (turns.is_made (party s p).reply) items s k)
+  fair-settled_as (Some (plain.Tick name)) p doing s k =
+      fair-closed p doing (turns.ticked (turns.is_made (party s p).reply) name s)
+      (fair-ticked (turns.is_made (party s p).reply) name s k)
   fair-settled_as None p doing s k = fair-closed p doing s k
   fair-settled_as (Some _) p doing s k = fair-closed p doing s k
 
@@ -314,23 +344,29 @@ module _ (continues : (m : Machine) (t : Step) → IsContinued m.world.trace (st
   fair-started (plain.Poll name) s k = fair-polled (number_of s.names name) s k
   fair-started _ s k = k
 
-  fair-began : (b : Bool) (p at : ℕ) (c : Plain) (w : Word) (s : Player) → IsFair limit s → IsFair limit (commands.began b p at c w s)
+  fair-began : (b : Bool) (p at : ℕ) (c : Plain) (w : Word) (s : Player) → IsFair limit s →
+      IsFair limit (commands.began b p at c w s)
   fair-began true p at c w s k = fair-started c _ k
   fair-began false p at c w s k = fair-ended w NotPossible s k
 
-  fair-begin_call : (p at : ℕ) (c : Plain) (w : Word) (x : Call) (s : Player) → IsFair limit s → IsFair limit (commands.begin_call p at c w x s)
+  fair-begin_call : (p at : ℕ) (c : Plain) (w : Word) (x : Call) (s : Player) → IsFair limit s →
+      IsFair limit (commands.begin_call p at c w x s)
   unfolding commands.begin_call
-  fair-begin_call p at c w x s k = fair-began (commands.is_possible (Begin p x) s) p at c w (tried (Begin p x) s) (fair-tried (Begin p x) s k)
+  fair-begin_call p at c w x s k = fair-began (commands.is_possible (Begin p x) s) p at c w (tried (Begin p x) s)
+      (fair-tried (Begin p x) s k)
 
-  fair-begin_by : (o : Option Call) (p at : ℕ) (c : Plain) (w : Word) (s : Player) → IsFair limit s → IsFair limit (commands.begin_by o p at c w s)
+  fair-begin_by : (o : Option Call) (p at : ℕ) (c : Plain) (w : Word) (s : Player) → IsFair limit s →
+      IsFair limit (commands.begin_by o p at c w s)
   fair-begin_by (Some x) p at c w s k = fair-begin_call p at c w x s k
   fair-begin_by None p at c w s k = fair-ended w NotPossible s k
 
-  fair-begin_unless : (b : Bool) (p at : ℕ) (c : Plain) (w : Word) (s : Player) → IsFair limit s → IsFair limit (commands.begin_unless b p at c w s)
+  fair-begin_unless : (b : Bool) (p at : ℕ) (c : Plain) (w : Word) (s : Player) → IsFair limit s →
+      IsFair limit (commands.begin_unless b p at c w s)
   fair-begin_unless true p at c w s k = fair-ended w NotPossible s k
   fair-begin_unless false p at c w s k = fair-begin_by (commands.call_of s c) p at c w s k
 
-  fair-begin : (p at : ℕ) (c : Plain) (w : Word) (s : Player) → IsFair limit s → IsFair limit (commands.begin p at c w s)
+  fair-begin : (p at : ℕ) (c : Plain) (w : Word) (s : Player) → IsFair limit s →
+      IsFair limit (commands.begin p at c w s)
   unfolding commands.begin
   fair-begin p at c w s k = fair-begin_unless (commands.is_busy p s) p at c w s k
 
@@ -345,17 +381,20 @@ module _ (continues : (m : Machine) (t : Step) → IsContinued m.world.trace (st
   fair-plays_go true p s new e k = subst (IsFair limit) (sym e) (fair-turn p s k)
   fair-plays_go false p s new e k = subst (IsFair limit) (sym e) (fair-ended word.Go NotPossible s k)
 
-  fair-plays_finish : (b : Bool) (p : ℕ) (s new : Player) → commands.PlaysFinish b p s new → IsFair limit s → IsFair limit new
+  fair-plays_finish : (b : Bool) (p : ℕ) (s new : Player) → commands.PlaysFinish b p s new → IsFair limit s →
+      IsFair limit new
   fair-plays_finish true p s new e k = fair-finishes p s new e k
   fair-plays_finish false p s new e k = subst (IsFair limit) (sym e) (fair-ended word.Finish NotPossible s k)
 
   fair-plays : (at : ℕ) (c : Command) (s new : Player) → commands.Plays at c s new → IsFair limit s → IsFair limit new
-  fair-plays at (command.Whole r) s new e k = fair-finishes 0 (commands.begin 0 at r.plain (word_of r.plain) s) new e (fair-begin 0 at r.plain (word_of r.plain) s k)
+  fair-plays at (command.Whole r) s new e k = fair-finishes 0 (commands.begin 0 at r.plain (word_of r.plain) s) new e
+      (fair-begin 0 at r.plain (word_of r.plain) s k)
   fair-plays at (command.Begin p r) s new e k = subst (IsFair limit) (sym e) (fair-begin p at r.plain word.Begin s k)
   fair-plays at (command.Go p) s new e k = fair-plays_go (commands.is_busy p s) p s new e k
   fair-plays at (command.Finish p) s new e k = fair-plays_finish (commands.is_busy p s) p s new e k
 
-  fair-plays_all : (at : ℕ) (cs : List Command) (s new : Player) → commands.PlaysAll at cs s new → IsFair limit s → IsFair limit new
+  fair-plays_all : (at : ℕ) (cs : List Command) (s new : Player) → commands.PlaysAll at cs s new → IsFair limit s →
+      IsFair limit new
   fair-plays_all at [] s new e k = subst (IsFair limit) (sym e) k
   fair-plays_all at (c ∷ cs) s new e k = fair-plays_all (suc at) cs e.0 new e.2 (fair-plays at c s e.0 e.1 k)
 

@@ -14,7 +14,8 @@ pub Reached-none : (p : ℕ) (s : Player) → Reached p s s
 Reached-none p s = record { count = 0; taken = refl; before = λ n below. absurd (omega arith) }
 
 -- one more turn
-pub Reached-more : (p : ℕ) (s new next : Player) → Reached p s new → is_busy p new ≡ true → next ≡ turn p new → Reached p s next
+pub Reached-more : (p : ℕ) (s new next : Player) → Reached p s new → is_busy p new ≡ true → next ≡ turn p new →
+    Reached p s next
 Reached-more p s new next r busy e = record {
   count = suc r.count;
   taken = e ∙ ap (turn p) r.taken;

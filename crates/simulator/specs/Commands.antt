@@ -1,5 +1,6 @@
 -- What a command of a script is: which call it begins, for which party, and how far that is taken.
-use Rattle.std.specs.Prelude.{◌≡◌, ℕ, zero, suc, ◌<◌, Bool, true, false, ◌&&◌, not, if◌then◌else◌, Option, Some, None, is_some, Result, Ok, Err, List, [], ◌∷◌}
+use Rattle.std.specs.Prelude.{◌≡◌, ℕ, zero, suc, ◌<◌, Bool, true, false, ◌&&◌, not, if◌then◌else◌}
+use Rattle.std.specs.Prelude.{Option, Some, None, is_some, Result, Ok, Err, List, [], ◌∷◌}
 use Rattle.std.specs.List.{list_any, list_all}
 use Rattle.std.specs.Str.{bytes_eq}
 use Rattle.executor_model.specs.declared.call.By.TheVariants as by
@@ -77,7 +78,9 @@ is_making s name x = is_making_by s name x.doing
 
 -- the name is given to no future and no tick, and no command in progress may give it
 abbrev pub is_free : Player → List ℕ → Bool
-is_free s name = not (is_some (number_of s.names name)) && (not (is_some (number_of s.ticks name)) && not (list_any (λ x. is_making s name x) s.parties))
+is_free s name =
+    not (is_some (number_of s.names name)) &&
+    (not (is_some (number_of s.ticks name)) && not (list_any (λ x. is_making s name x) s.parties))
 
 abbrev pub is_there : Player → Option ℕ → Bool
 is_there s (Some g) = steps.has_handle s.machine.world s.machine.parties g

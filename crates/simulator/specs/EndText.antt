@@ -1,12 +1,14 @@
 -- What is printed at the end of a command: its first word, and how it ended.
 use Rattle.std.specs.Prelude.{ℕ, List, ◌++◌, codes}
 use Rattle.std.specs.Fmt.{decimal}
-use Rattle.executor_model.specs.declared.call.Reply.TheVariants.{Made, Full, Yes, No, Done, NoMemory, Pending, Ready, Cancelled}
+use Rattle.executor_model.specs.declared.call.Reply.TheVariants.{Made, Full, Yes, No, Done, NoMemory}
+use Rattle.executor_model.specs.declared.call.Reply.TheVariants.{Pending, Ready, Cancelled}
 use Rattle.simulator.specs.declared.moment.Outcome.{Outcome}
 use Rattle.executor_model.specs.declared.call.Reply.{Reply}
 use Rattle.simulator.specs.declared.moment.Outcome.TheVariants.{Answered, Output, NotPossible}
 use Rattle.script.specs.declared.word.Word.{Word}
-use Rattle.script.specs.declared.word.Word.TheVariants.{Spawn, Try, Empty, Wake, Unkeep, Poll, Cancel, Detach, Drop, Tick, PollTick, DropTick, End, Begin, Go, Finish}
+use Rattle.script.specs.declared.word.Word.TheVariants.{Spawn, Try, Empty, Wake, Unkeep, Poll, Cancel, Detach, Drop}
+use Rattle.script.specs.declared.word.Word.TheVariants.{Tick, PollTick, DropTick, End, Begin, Go, Finish}
 
 abbrev pub word_text : Word → List ℕ
 word_text Spawn = codes "spawn"

@@ -1,15 +1,18 @@
--- What is printed of an event: polls, their answers and drops have a line each, and calls of outside wakers, and the rest none.
+-- What is printed of an event: polls, their answers and drops have a line each, and calls of outside wakers,
+-- and the rest none.
 use Rattle.std.specs.Prelude.{ℕ, ◌-◌, ◌^◌, List, [], ◌++◌, codes, slice_get, unwrap_or}
 use Rattle.executor_model.specs.declared.event.Answer.TheVariants.{Ready, Pending}
 use Rattle.executor_model.specs.declared.event.Event.{Event}
 use Rattle.executor_model.specs.declared.op.Waker.TheVariants.{Outside}
-use Rattle.executor_model.specs.declared.event.Event.TheVariants.{PollBegun, Answered, Dropped, OutputDropped, WakerCalled}
+use Rattle.executor_model.specs.declared.event.Event.TheVariants.{PollBegun, Answered, Dropped}
+use Rattle.executor_model.specs.declared.event.Event.TheVariants.{OutputDropped, WakerCalled}
 
 -- futures are numbered in the order of their names, and so are ticks
 abbrev pub name_of : List (List ℕ) → ℕ → List ℕ
 name_of names number = unwrap_or (slice_get names number) []
 
--- outside wakers are numbered as the futures by whose names they go, and for ticks downwards from the greatest number of 64 bits
+-- outside wakers are numbered as the futures by whose names they go,
+-- and for ticks downwards from the greatest number of 64 bits
 abbrev pub outside_of_tick : ℕ → ℕ
 outside_of_tick t = 2 ^ 64 - 1 - t
 

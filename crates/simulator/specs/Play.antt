@@ -1,6 +1,7 @@
--- What a script knows while it is played: the machine, the names and items of its futures, the names of its ticks, and what each
--- party is doing.
-use Rattle.std.specs.Prelude.{ℕ, ◌-◌, false, Option, Some, None, Result, Ok, Err, List, [], ◌∷◌, ◌++◌, length, map, drop, slice_get, slice_index_or, slice_set, replicate}
+-- What a script knows while it is played: the machine, the names and items of its futures, the names of its ticks,
+-- and what each party is doing.
+use Rattle.std.specs.Prelude.{ℕ, ◌-◌, false, Option, Some, None, Result, Ok, Err, List, [], ◌∷◌, ◌++◌, length, map}
+use Rattle.std.specs.Prelude.{drop, slice_get, slice_index_or, slice_set, replicate}
 use Rattle.executor_model.specs.declared.call.Reply.{Reply}
 use Rattle.executor_model.specs.declared.call.Reply.TheVariants as reply
 use Rattle.executor_model.specs.declared.event.Event.{Event}
@@ -70,13 +71,31 @@ items_at s at = spawned (plain_at s at)
 
 -- a future that was just accepted, by the command at this place
 abbrev pub new_future : ℕ → Future
-new_future at = record { command = at; next = 0; let_go = 0; stage = stage.Begun; kept = None; held = false; given = Outside 0; output = 0 }
+new_future at = record {
+  command = at;
+  next = 0;
+  let_go = 0;
+  stage = stage.Begun;
+  kept = None;
+  held = false;
+  given = Outside 0;
+  output = 0;
+}
 
 abbrev pub idle : Party
 idle = record { doing = None; reply = reply.Done }
 
 abbrev pub start : List Command → ℕ → Player
-start commands limit = record { commands = commands; machine = steps.start limit 10; names = []; futures = []; ticks = []; parties = replicate 10 idle; tried = []; moments = [] }
+start commands limit = record {
+  commands = commands;
+  machine = steps.start limit 10;
+  names = [];
+  futures = [];
+  ticks = [];
+  parties = replicate 10 idle;
+  tried = [];
+  moments = [];
+}
 
 abbrev pub future : Player → ℕ → Future
 future s f = slice_index_or s.futures f (new_future 0)
@@ -128,7 +147,8 @@ keeping waker x = record x { stage = replacing x.kept x.stage; kept = waker }
 
 -- a waker was made in a poll
 unfoldable pub kept_at : Option Op → Player → Player
-kept_at (Some (op.User (user_op.Poll f))) s = set_future f (keeping (Some (length s.machine.world.wakers - 1)) (future s f)) s
+kept_at (Some (op.User (user_op.Poll f))) s =
+    set_future f (keeping (Some (length s.machine.world.wakers - 1)) (future s f)) s
 kept_at _ s = s
 
 -- what future f does at its next poll, or in the poll that has begun

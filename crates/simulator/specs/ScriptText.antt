@@ -1,4 +1,5 @@
--- What a script prints: its commands are played in order on a new machine, and what happens and how each ends is printed.
+-- What a script prints: its commands are played in order on a new machine,
+-- and what happens and how each ends is printed.
 use Rattle.std.specs.Prelude.{◌≡◌, ℕ, List, [], ◌∷◌}
 use Rattle.executor_model.specs.declared.event.Event.{Event}
 use Rattle.executor_model.specs.Steps as steps
@@ -16,8 +17,8 @@ happened [] = []
 happened (Happened event ∷ moments) = event ∷ happened moments
 happened (Ended word outcome ∷ moments) = happened moments
 
--- the commands were played to this end: its machine is what the steps that were tried make of a new one, of ten parties, what it
--- shows is all that happened to the machine, in order, and the machine keeps to the laws
+-- the commands were played to this end: its machine is what the steps that were tried make of a new one,
+-- of ten parties, what it shows is all that happened to the machine, in order, and the machine keeps to the laws
 pub record IsPlayed (limit : ℕ) (commands : List Command) (last : Player) : Type 0 where
   pub plays : PlaysAll 0 commands (start commands limit) last
   pub made : steps.run last.tried (steps.start limit 10) ≡ last.machine
@@ -26,4 +27,5 @@ pub record IsPlayed (limit : ℕ) (commands : List Command) (last : Player) : Ty
 
 -- the text of the moments of such a play
 abbrev pub IsTextOf : ℕ → List Command → List ℕ → Type 0
-IsTextOf limit commands text = (last : Player) × IsPlayed limit commands last × (text ≡ moments_text last.names last.ticks last.moments)
+IsTextOf limit commands text =
+    (last : Player) × IsPlayed limit commands last × (text ≡ moments_text last.names last.ticks last.moments)

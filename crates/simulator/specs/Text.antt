@@ -1,5 +1,5 @@
--- What is printed of the moments of a run. The names are those of the futures, in the order of acceptance, and those of the ticks, in
--- the order in which these were made.
+-- What is printed of the moments of a run. The names are those of the futures, in the order of acceptance,
+-- and those of the ticks, in the order in which these were made.
 use Rattle.std.specs.Prelude.{ℕ, List}
 use Rattle.std.specs.List.{flat_map}
 use Rattle.simulator.specs.declared.moment.Moment.{Moment}

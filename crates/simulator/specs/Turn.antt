@@ -1,5 +1,6 @@
 -- What a party does next: a step of the machine, and in user code what its item says.
-use Rattle.std.specs.Prelude.{ℕ, ◌+◌, ◌-◌, ◌*◌, ◌^◌, ◌==◌, min, nat_lt, position, drop, slice_index_or, Bool, true, false, if◌then◌else◌, Option, Some, None, List, [], ◌∷◌, length}
+use Rattle.std.specs.Prelude.{ℕ, ◌+◌, ◌-◌, ◌*◌, ◌^◌, ◌==◌, min, nat_lt, position, drop, slice_index_or}
+use Rattle.std.specs.Prelude.{Bool, true, false, if◌then◌else◌, Option, Some, None, List, [], ◌∷◌, length}
 use Rattle.executor_model.specs.declared.call.By.TheVariants as by
 use Rattle.executor_model.specs.declared.call.Call.{Call}
 use Rattle.executor_model.specs.declared.call.Call.TheVariants as call
@@ -32,13 +33,15 @@ use Rattle.simulator.specs.declared.play.future.Stage.{Stage}
 use Rattle.simulator.specs.declared.play.future.Stage.TheVariants as stage
 use Rattle.simulator.specs.declared.play.future.Future.{Future}
 use Rattle.simulator.specs.declared.play.party.Doing.{Doing}
-use Rattle.simulator.specs.Play.{Player, request_at, plain_at, items_at, item_of, future, set_future, party, set_party, top, ended, tried, ticked_as}
+use Rattle.simulator.specs.Play.{Player, request_at, plain_at, items_at, item_of, future, set_future}
+use Rattle.simulator.specs.Play.{party, set_party, top, ended, tried, ticked_as}
 
 -- the waker that the poll of f's handle was given
 unfoldable pub given : ℕ → Waker → Player → Player
 given f waker s = set_future f (record (future s f) { given = waker }) s
 
--- the machine goes on: with no memory where the command says so, and `will_wake` says yes between wakers of one kind and name
+-- the machine goes on: with no memory where the command says so,
+-- and `will_wake` says yes between wakers of one kind and name
 
 abbrev pub is_refused : Option Request → Bool
 is_refused (Some r) = r.refused
@@ -84,10 +87,13 @@ abbrev pub polled : ℕ → Future → Future
 polled count x = record x { next = (if nat_lt x.next (count - 1) then x.next + 1 else x.next); stage = stage.Begun }
 
 unfoldable pub end_pending : ℕ → ℕ → Player → Player
-end_pending p f s = answer p (end.Polled answered.Pending) (set_future f (polled (length (items_of s f)) (future s f)) s)
+end_pending p f s =
+    answer p (end.Polled answered.Pending) (set_future f (polled (length (items_of s f)) (future s f)) s)
 
 unfoldable pub end_ready : ℕ → ℕ → ℕ → Player → Player
-end_ready p f v s = answer p (end.Polled answered.Ready) (set_future f (record (polled (length (items_of s f)) (future s f)) { output = v }) s)
+end_ready p f v s =
+    answer p (end.Polled answered.Ready)
+    (set_future f (record (polled (length (items_of s f)) (future s f)) { output = v }) s)
 
 -- the poll makes a call
 unfoldable pub ask : ℕ → ℕ → Call → Player → Player
@@ -143,7 +149,8 @@ drop_named None p s = answer p end.Done s
 -- the handle that the item at this place names
 unfoldable pub drop_held : ℕ → ℕ → ℕ → Player → Player
 drop_held place p f s =
-    drop_named (number_named s (name_in (slice_index_or (items_of s f) place item.Pend))) p (set_future f (record (future s f) { let_go = place + 1 }) s)
+    drop_named (number_named s (name_in (slice_index_or (items_of s f) place item.Pend))) p
+    (set_future f (record (future s f) { let_go = place + 1 }) s)
 
 abbrev pub drop_next : Option ℕ → ℕ → ℕ → Player → Player
 drop_next (Some k) p f s = drop_held ((future s f).let_go + k) p f s
@@ -215,7 +222,8 @@ word_at None = word.Go
 
 -- the party is idle again, and the command is answered so
 unfoldable pub closed : ℕ → Doing → Player → Player
-closed p doing s = ended (word_at (plain_at s doing.command)) (outcome_of s (party s p).reply (subject s doing)) (does p None s)
+closed p doing s =
+    ended (word_at (plain_at s doing.command)) (outcome_of s (party s p).reply (subject s doing)) (does p None s)
 
 abbrev pub is_made : Reply → Bool
 is_made reply.Made = true

@@ -82,7 +82,16 @@ none-awaiter f o = owed-awaiter ticks_of f (record { notify = λ m. refl }) o
 none-owed : (f : ℕ) (there : Bool) (o : Owed) → weigh ticks_of (owed_ops there f o) ≡ 0
 none-owed f there o =
     owed-nothing ticks_of f
-    (record { append = refl; output = refl; release = refl; settle_closed = refl; give_up = refl; end_closed = refl; detach = refl }) there o (owed-future ticks_of f (record { poll = refl; drop = refl }) there o.future) (none-awaiter f o.awaiter)
+    (record {
+      append = refl;
+      output = refl;
+      release = refl;
+      settle_closed = refl;
+      give_up = refl;
+      end_closed = refl;
+      detach = refl;
+    }) there o (owed-future ticks_of f (record { poll = refl; drop = refl }) there o.future)
+    (none-awaiter f o.awaiter)
 
 -- a move of a task
 
@@ -97,15 +106,18 @@ beside-moved : (b : Bool) (w v : World) (e : Event) (f : ℕ) (m : Moved) → Is
 beside-moved b w v e f m z x = besides w (carried (log_if b v e) f m) (λ t. view-log_if b t v e z
     ∙ x t) (none-owed f (among f (log_if b v e).table) m.owed)
 
-pub beside-move : (b : Bool) (m : Move) (p : ℕ) (w v : World) (f : ℕ) → ((t : ℕ) → view t v ≡ view t w) → Beside w (acts.move_by b m p v f)
-beside-move true m p w v f x = beside-moved _ w v (acts.told_as m p f) f (moves.after m (task v f)) (told-silent m p f) x
+pub beside-move : (b : Bool) (m : Move) (p : ℕ) (w v : World) (f : ℕ) → ((t : ℕ) → view t v ≡ view t w) →
+    Beside w (acts.move_by b m p v f)
+beside-move true m p w v f x = beside-moved _ w v (acts.told_as m p f) f (moves.after m (task v f)) (told-silent m p f)
+    x
 beside-move false m p w v f x = besides w _ x refl
 
 beside-call : (p : ℕ) (w : World) (f : ℕ) (a : Waker) (k : ℕ) → Beside w (acts.call_awaiter p w f a k)
 beside-call p w f (Task g) k =
     beside-move true move.Wake p w (log w (event.WakerCalled p (of.Handle f) k (Task g))) g
     (λ t. view-log t w (event.WakerCalled p (of.Handle f) k (Task g)) (λ t n s. refl))
-beside-call p w f (Outside x) k = besides w _ (λ t. view-log t w (event.WakerCalled p (of.Handle f) k (Outside x)) (λ t n s. refl)) refl
+beside-call p w f (Outside x) k =
+    besides w _ (λ t. view-log t w (event.WakerCalled p (of.Handle f) k (Outside x)) (λ t n s. refl)) refl
 
 -- the table and the queue
 
@@ -135,12 +147,15 @@ beside-exchange false w = besides w _ (λ t. refl) refl
 beside-answered : (p : ℕ) (w v : World) (f : ℕ) (m : Moved) (a : Answer) → ((t : ℕ) → view t v ≡ view t w) →
     Beside w (acts.answered p v f m a)
 beside-answered p w v f m a x =
-    besides w (acts.answered p v f m a) (λ t. view-log_if _ t (put v f m.state) (event.OutputGiven p f) (λ t n s. refl) ∙ x t)
+    besides w (acts.answered p v f m a) (λ t. view-log_if _ t (put v f m.state) (event.OutputGiven p f) (λ t n s. refl)
+    ∙ x t)
     (none-both (awaiter_ops f m.owed.awaiter) _ (none-awaiter f m.owed.awaiter) refl)
 
-beside-look : (o : Option Answer) (p : ℕ) (w : World) (f : ℕ) (a : Waker) (m : Moved) → Beside w (acts.look_by o p w f a m)
+beside-look : (o : Option Answer) (p : ℕ) (w : World) (f : ℕ) (a : Waker) (m : Moved) →
+    Beside w (acts.look_by o p w f a m)
 beside-look None p w f a m = besides w _ (λ t. refl) refl
-beside-look (Some x) p w f a m = beside-answered p w (acts.polled p w f) f m x (λ t. view-log t w (event.HandlePolled p f) (λ t n s. refl))
+beside-look (Some x) p w f a m =
+    beside-answered p w (acts.polled p w f) f m x (λ t. view-log t w (event.HandlePolled p f) (λ t n s. refl))
 
 beside-again : (o : Option Answer) (p : ℕ) (w : World) (f : ℕ) (m : Moved) → Beside w (acts.look_again_by o p w f m)
 beside-again None p w f m = besides w _ (λ t. refl) refl
@@ -150,7 +165,8 @@ beside-copy_awaiter : (b : Bool) (p : ℕ) (w : World) (f : ℕ) (a : Waker) →
 beside-copy_awaiter true p w f a = besides w _ (λ t. refl) refl
 beside-copy_awaiter false p w f (Task g) =
     besides w _ (λ t. view-log t (acts.copied w (Task g)) (event.HandlePolled p f) (λ t n s. refl)) refl
-beside-copy_awaiter false p w f (Outside x) = besides w _ (λ t. view-log t w (event.HandlePolled p f) (λ t n s. refl)) refl
+beside-copy_awaiter false p w f (Outside x) = besides w _ (λ t. view-log t w (event.HandlePolled p f) (λ t n s. refl))
+    refl
 
 beside-register : (b : Bool) (w : World) (f : ℕ) (a : Waker) (k : ℕ) → Beside w (acts.register_by b w f a k)
 beside-register true w f a k = besides w _ (λ t. refl) refl
@@ -191,7 +207,8 @@ none-closing (x ∷ ls) ws = refl
 beside-drop_next : (p : ℕ) (w : World) (ls : List ℕ) → Beside w (acts.drop_next_by p w ls)
 beside-drop_next p w [] = besides w _ (λ t. refl) refl
 beside-drop_next p w (f ∷ rest) =
-    besides w _ (λ t. view-log t w (event.Dropped p f) (λ t n s. refl)) (omega (arith, none-closing rest (w.waking ++ f ∷ [])))
+    besides w _ (λ t. view-log t w (event.Dropped p f) (λ t n s. refl))
+    (omega (arith, none-closing rest (w.waking ++ f ∷ [])))
 
 beside-wake_next : (p : ℕ) (w : World) (ws : List ℕ) → Beside w (acts.wake_next_by p w ws)
 beside-wake_next p w [] = besides w _ (λ t. refl) refl
@@ -221,8 +238,10 @@ beside-act p h (op.Table (table_op.LeaveTable f)) w n = beside-leave _ w f
 beside-act p h (op.Table o) w n = besides w _ (λ t. refl) refl
 beside-act p h (op.Queue queue_op.Take) w n = beside-take _ w
 beside-act p h (op.Queue (queue_op.Append f)) w n = beside-append _ w f
-beside-act p h (op.User (user_op.BeginDrop f)) w n = besides w _ (λ t. view-log t w (event.Dropped p f) (λ t n s. refl)) refl
-beside-act p h (op.User (user_op.BeginDropOutput f)) w n = besides w _ (λ t. view-log t w (event.OutputDropped p f) (λ t n s. refl)) refl
+beside-act p h (op.User (user_op.BeginDrop f)) w n = besides w _ (λ t. view-log t w (event.Dropped p f) (λ t n s. refl))
+    refl
+beside-act p h (op.User (user_op.BeginDropOutput f)) w n =
+    besides w _ (λ t. view-log t w (event.OutputDropped p f) (λ t n s. refl)) refl
 beside-act p h (op.Waker (waker_op.CopyWaker f held)) w n = absurd (cc)
 beside-act p h (op.Waker (waker_op.CallAwaiter f a k)) w n = beside-call p w f a k
 beside-act p h (op.Handle (handle_op.Look f a)) w n = beside-look _ p w f a _

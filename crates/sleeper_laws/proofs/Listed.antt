@@ -1,5 +1,6 @@
 -- The entries of the sleepers' list that are a tick's, where one is added, replaced or taken out.
-use Rattle.std.proofs.Common.{◌≡◌, ℕ, zero, suc, ◌+◌, ◌==◌, ◌<◌, ◌≤◌, List, [], ◌∷◌, ◌++◌, length, set, take, Bool, true, false, cond, refl, sym, ap, subst, eqb, arith}
+use Rattle.std.proofs.Common.{◌≡◌, ℕ, zero, suc, ◌+◌, ◌==◌, ◌<◌, ◌≤◌, List, [], ◌∷◌, ◌++◌, length, set, take}
+use Rattle.std.proofs.Common.{Bool, true, false, cond, refl, sym, ap, subst, eqb, arith}
 use Rattle.std.specs.Prelude.{◌-◌, Option, Some, None, slice_get, slice_set, remove}
 use Rattle.std.proofs.lemmas.Bool.Decides.{nat_tests}
 use Rattle.executor_parts.specs.Sleepers.{Sleepers, position_of, later, without_entry, risen}
@@ -52,10 +53,12 @@ last-out v x [] = omega arith
 last-out v x (y ∷ ys) = omega (arith, last-out v y ys)
 
 -- the last is taken out
-pub sum-last : (v : Entry → ℕ) (es : List Entry) → sum v (take (length es - 1) es) + at_entry v (slice_get es (length es - 1)) ≡ sum v es
+pub sum-last : (v : Entry → ℕ) (es : List Entry) →
+    sum v (take (length es - 1) es) + at_entry v (slice_get es (length es - 1)) ≡ sum v es
 sum-last v [] = refl
 sum-last v (x ∷ xs) = let less : length (x ∷ xs) - 1 ≡ length xs = omega arith in
-    subst (λ n. sum v (take n (x ∷ xs)) + at_entry v (slice_get (x ∷ xs) n) ≡ sum v (x ∷ xs)) (sym less) (last-out v x xs)
+    subst (λ n. sum v (take n (x ∷ xs)) + at_entry v (slice_get (x ∷ xs) n) ≡ sum v (x ∷ xs)) (sym less)
+    (last-out v x xs)
 
 sum-remove : (v : Entry → ℕ) (at : ℕ) (es : List Entry) → sum v (remove es at) + at_entry v (slice_get es at) ≡ sum v es
 sum-remove v zero [] = refl

@@ -1,5 +1,6 @@
 -- What holds at every moment of each tick and of its last poll.
-use Rattle.std.proofs.Common.{◌≡◌, ◌⊎◌, ℕ, ◌+◌, ◌==◌, ◌≤◌, List, length, Bool, true, false, ◌||◌, cond, sym, ◌∙◌, subst, arith}
+use Rattle.std.proofs.Common.{◌≡◌, ◌⊎◌, ℕ, ◌+◌, ◌==◌, ◌≤◌, List, length}
+use Rattle.std.proofs.Common.{Bool, true, false, ◌||◌, cond, sym, ◌∙◌, subst, arith}
 use Rattle.std.specs.Prelude.{nat_lt}
 use Rattle.executor_model.specs.declared.call.Reply.{Reply}
 use Rattle.executor_model.specs.declared.call.Reply.TheVariants as reply
@@ -178,11 +179,13 @@ pub record Stands (v : View) (x : Doing) (m : Mark) : Type 0 where
   pub known : v.seen.left ≡ true → v.made ≡ true
   pub borrowed : v.gone ≡ true → v.living ≡ false
   -- who stands has its waker in the list, or it was called, or is about to be
-  pub covered : (v.seen.pending ≡ true) ⊎ (1 ≤ x.pends) → (1 ≤ v.kept v.seen.poll) ⊎ ((v.seen.called ≡ true) ⊎ (1 ≤ x.calls v.seen.poll))
+  pub covered : (v.seen.pending ≡ true) ⊎ (1 ≤ x.pends) →
+      (1 ≤ v.kept v.seen.poll) ⊎ ((v.seen.called ≡ true) ⊎ (1 ≤ x.calls v.seen.poll))
 
 -- it keeps what holds of tick t, but for the mark
 abbrev pub KeepsBy : ℕ → World → List Op → Done → (Mark → Mark) → Type 0
-KeepsBy t w old d mark = (r : Doing) (m : Mark) → Footing (with_doing t old r) → Stands (view t w) (with_doing t old r) m →
+KeepsBy t w old d mark = (r : Doing) (m : Mark) → Footing (with_doing t old r) →
+    Stands (view t w) (with_doing t old r) m →
     Stands (view t d.world) (with_doing t d.next r) (mark m)
 
 abbrev pub KeepsStands : ℕ → World → List Op → Done → Type 0
@@ -219,7 +222,9 @@ with-nothing t os r n = λ i. record {
 }
 
 -- what has nothing to do with tick t keeps all of it
-pub keeps-same : (t : ℕ) (w : World) (old : List Op) (d : Done) → view t d.world ≡ view t w → Nothing t old → Nothing t d.next →
+pub keeps-same : (t : ℕ) (w : World) (old : List Op) (d : Done) → view t d.world ≡ view t w → Nothing t old →
+    Nothing t d.next →
     KeepsStands t w old d
 keeps-same t w old d v a b r m f h =
-    subst (λ (x : View × Doing). Stands x.0 x.1 m) (λ i. (sym v i, (with-nothing t old r a ∙ sym (with-nothing t d.next r b)) i)) h
+    subst (λ (x : View × Doing). Stands x.0 x.1 m)
+    (λ i. (sym v i, (with-nothing t old r a ∙ sym (with-nothing t d.next r b)) i)) h

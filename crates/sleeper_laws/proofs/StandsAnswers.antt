@@ -1,5 +1,6 @@
 -- What is seen of the answer of a tick's last poll is the end of the call in which its party stood.
-use Rattle.std.proofs.Common.{◌≡◌, ◌⊎◌, ◌∙◌, ℕ, zero, suc, ◌+◌, ◌<◌, ◌≤◌, [], ◌∷◌, Bool, true, false, ◌&&◌, cond, eqb, take, refl, sym, ap, subst, inl, inr, ⊎_elim, arith}
+use Rattle.std.proofs.Common.{◌≡◌, ◌⊎◌, ◌∙◌, ℕ, zero, suc, ◌+◌, ◌<◌, ◌≤◌, [], ◌∷◌, Bool, true, false, ◌&&◌, cond}
+use Rattle.std.proofs.Common.{eqb, take, refl, sym, ap, subst, inl, inr, ⊎_elim, arith}
 use Rattle.std.proofs.lemmas.Bool.Decides.{nat_tests}
 use Rattle.std.proofs.lemmas.List.Sums.{sum_by-append}
 use Rattle.std.specs.Prelude.{Some, count_by, slice_get}
@@ -23,7 +24,8 @@ ends_one p e = cond (ends_call p e) 1 0
 abbrev begins_one : ℕ → Event → ℕ
 begins_one p e = cond (begins_call p e) 1 0
 
-count-cons : (test : Event → Bool) (e : Event) (es : Trace) → count_by test (e ∷ es) ≡ cond (test e) 1 0 + count_by test es
+count-cons : (test : Event → Bool) (e : Event) (es : Trace) →
+    count_by test (e ∷ es) ≡ cond (test e) 1 0 + count_by test es
 count-cons test e es = omega (arith, sum_by-append (λ (x : Event). cond (test x) 1 0) (e ∷ []) es)
 
 -- where so many calls of the party are in progress, the one below them ends so
@@ -57,14 +59,17 @@ pub data Outcome (p inner : ℕ) (es : Trace) (s : Watched) : Type 0 where
 eqb-is : (n m : ℕ) → eqb n m ≡ true → m ≡ n
 eqb-is n m e = grind (arith, nat_tests)
 
-stays : (t p n : ℕ) (s : Watched) (e : Event) → watches t n e s ≡ s → IsOpen p s → ends_one p e ≡ 0 → begins_one p e ≡ 0 → After t p n s e
-stays t p n s e q o x y = goes (subst (IsOpen p) (sym q) o) (omega (arith, x, y, ap (λ (w : Watched). w.inner) q)) (omega (arith, x))
+stays : (t p n : ℕ) (s : Watched) (e : Event) → watches t n e s ≡ s → IsOpen p s → ends_one p e ≡ 0 →
+    begins_one p e ≡ 0 → After t p n s e
+stays t p n s e q o x y = goes (subst (IsOpen p) (sym q) o) (omega (arith, x, y, ap (λ (w : Watched). w.inner) q))
+    (omega (arith, x))
 
 ended-by : (t p q n : ℕ) (r : Reply) (s : Watched) (b : Bool) (i : ℕ) → eqb p q ≡ b → s.inner ≡ i → IsOpen p s →
     After t p n s (event.CallEnded q r)
 ended-by t p q n r s b i e z o = by b i e z
   where
-    now : (b : Bool) (i : ℕ) → eqb p q ≡ b → s.inner ≡ i → watches t n (event.CallEnded q r) s ≡ cond b (ended_in i r s) s
+    now : (b : Bool) (i : ℕ) → eqb p q ≡ b → s.inner ≡ i →
+        watches t n (event.CallEnded q r) s ≡ cond b (ended_in i r s) s
     now b i e z = ap (λ (c : Bool). cond (c && eqb s.party q) (ended_in s.inner r s) s) o.asking
         ∙ (ap (λ (c : Bool). cond c (ended_in s.inner r s) s) (ap (λ (m : ℕ). eqb m q) o.party ∙ e)
         ∙ ap (λ (m : ℕ). cond b (ended_in m r s) s) z)
@@ -74,10 +79,19 @@ ended-by t p q n r s b i e z o = by b i e z
         (subst (IsOver r) (sym (now true zero e z)) (record { asking = refl; pending = refl; refused = refl }))
     by true (suc m) e z =
         goes (subst (IsOpen p) (sym (now true (suc m) e z)) (record { asking = o.asking; party = o.party }))
-        (omega (arith, ap (λ (w : Watched). w.inner) (now true (suc m) e z), z, ap (λ (c : Bool). let k : ℕ = cond c 1 0 in k) e))
+        (omega (
+          arith,
+          ap (λ (w : Watched). w.inner) (now true (suc m) e z),
+          z,
+          ap (λ (c : Bool). let k : ℕ = cond c 1 0 in k) e,
+        ))
         (omega (arith, z, ap (λ (c : Bool). let k : ℕ = cond c 1 0 in k) e))
     by false m e z = goes (subst (IsOpen p) (sym (now false m e z)) o)
-        (omega (arith, ap (λ (w : Watched). w.inner) (now false m e z), ap (λ (c : Bool). let k : ℕ = cond c 1 0 in k) e))
+        (omega (
+          arith,
+          ap (λ (w : Watched). w.inner) (now false m e z),
+          ap (λ (c : Bool). let k : ℕ = cond c 1 0 in k) e,
+        ))
         (omega (arith, ap (λ (c : Bool). let k : ℕ = cond c 1 0 in k) e))
 
 begun-by : (t p q n : ℕ) (c : Call) (s : Watched) → IsOpen p s → After t p n s (event.CallBegun q c)
@@ -89,27 +103,34 @@ begun-by t p q n c s o =
       same-cond p q,
     )) (omega arith)
 
-after-one : (t p n : ℕ) (s : Watched) (e : Event) → is_tick_poll t e ≡ false → is_tick_drop t e ≡ false → IsOpen p s → After t p n s e
-after-one t p n s (event.TickPolled q u) a b o = stays t p n s (event.TickPolled q u) (not-polled (eqb t u) n q s a) o refl refl
-after-one t p n s (event.TickDropped q u) a b o = stays t p n s (event.TickDropped q u) (not-dropped (eqb t u) s b) o refl refl
+after-one : (t p n : ℕ) (s : Watched) (e : Event) → is_tick_poll t e ≡ false → is_tick_drop t e ≡ false → IsOpen p s →
+    After t p n s e
+after-one t p n s (event.TickPolled q u) a b o = stays t p n s (event.TickPolled q u) (not-polled (eqb t u) n q s a) o
+    refl refl
+after-one t p n s (event.TickDropped q u) a b o = stays t p n s (event.TickDropped q u) (not-dropped (eqb t u) s b) o
+    refl refl
 after-one t p n s (event.CallBegun q c) a b o = begun-by t p q n c s o
 after-one t p n s (event.CallEnded q r) a b o = ended-by t p q n r s _ _ refl refl o
-after-one t p n s (event.WakerCalled q (of.Tick u) k w) a b o = goes (record { asking = o.asking; party = o.party }) refl (omega arith)
+after-one t p n s (event.WakerCalled q (of.Tick u) k w) a b o =
+    goes (record { asking = o.asking; party = o.party }) refl (omega arith)
 after-one t p n s _ a b o = goes o refl (omega arith)
 
 -- an answered poll stays so
 
-over-one : (t n : ℕ) (r : Reply) (e : Event) (s : Watched) → is_tick_poll t e ≡ false → is_tick_drop t e ≡ false → IsOver r s →
+over-one : (t n : ℕ) (r : Reply) (e : Event) (s : Watched) → is_tick_poll t e ≡ false → is_tick_drop t e ≡ false →
+    IsOver r s →
     IsOver r (watches t n e s)
 over-one t n r (event.TickPolled p u) s a b h = subst (IsOver r) (sym (not-polled (eqb t u) n p s a)) h
 over-one t n r (event.TickDropped p u) s a b h = subst (IsOver r) (sym (not-dropped (eqb t u) s b)) h
 over-one t n r (event.CallBegun p c) s a b h = record { asking = h.asking; pending = h.pending; refused = h.refused }
 over-one t n r (event.CallEnded p q) s a b h =
     subst (λ (c : Bool). IsOver r (cond (c && eqb s.party p) (ended_in s.inner q s) s)) (sym h.asking) h
-over-one t n r (event.WakerCalled p (of.Tick u) k w) s a b h = record { asking = h.asking; pending = h.pending; refused = h.refused }
+over-one t n r (event.WakerCalled p (of.Tick u) k w) s a b h =
+    record { asking = h.asking; pending = h.pending; refused = h.refused }
 over-one t n r _ s a b h = h
 
-over-from : (t n : ℕ) (r : Reply) (s : Watched) (es : Trace) → has (is_tick_poll t) es ≡ false → has (is_tick_drop t) es ≡ false →
+over-from : (t n : ℕ) (r : Reply) (s : Watched) (es : Trace) → has (is_tick_poll t) es ≡ false →
+    has (is_tick_drop t) es ≡ false →
     IsOver r s → IsOver r (watched_from t n s es)
 over-from t n r s [] a b h = h
 over-from t n r s (e ∷ es) a b h =
@@ -123,11 +144,19 @@ ends-later : (p : ℕ) (r : Reply) (i j : ℕ) (x : Event) (es : Trace) → j + 
 ends-later p r i j x es q k h = record {
   place = suc h.place;
   here = h.here;
-  level = omega (arith, h.level, q, count-cons (ends_call p) x (take h.place es), count-cons (begins_call p) x (take h.place es));
+  level =
+      omega (
+        arith,
+        h.level,
+        q,
+        count-cons (ends_call p) x (take h.place es),
+        count-cons (begins_call p) x (take h.place es),
+      );
   first = first;
 }
   where
-    first : (n : ℕ) → n ≤ suc h.place → count_by (ends_call p) (take n (x ∷ es)) ≤ i + count_by (begins_call p) (take n (x ∷ es))
+    first : (n : ℕ) → n ≤ suc h.place →
+        count_by (ends_call p) (take n (x ∷ es)) ≤ i + count_by (begins_call p) (take n (x ∷ es))
     first zero l = omega arith
     first (suc n) l = omega (
       arith,
@@ -139,7 +168,8 @@ ends-later p r i j x es q k h = record {
           (begins_call p) x (take n es),
     )
 
-more : (p i j : ℕ) (x : Event) (es : Trace) (s : Watched) → j + ends_one p x ≡ i + begins_one p x → ends_one p x ≤ i + begins_one p x →
+more : (p i j : ℕ) (x : Event) (es : Trace) (s : Watched) → j + ends_one p x ≡ i + begins_one p x →
+    ends_one p x ≤ i + begins_one p x →
     Outcome p j es s → Outcome p i (x ∷ es) s
 more p i j x es s q k (unended a) = unended a
 more p i j x es s q k (ended r h o) = ended r (ends-later p r i j x es q k h) o
@@ -151,7 +181,8 @@ ends-now p r x es e = record { place = 0; here = ap (λ (y : Event). Some y) e; 
     first zero l = omega arith
     first (suc n) l = absurd (omega (arith, l))
 
-pub outcome-from : (t p n : ℕ) (s : Watched) (es : Trace) → has (is_tick_poll t) es ≡ false → has (is_tick_drop t) es ≡ false →
+pub outcome-from : (t p n : ℕ) (s : Watched) (es : Trace) → has (is_tick_poll t) es ≡ false →
+    has (is_tick_drop t) es ≡ false →
     s.asking ≡ true → s.party ≡ p → Outcome p s.inner es (watched_from t n s es)
 outcome-from t p n s [] a b x y = unended x
 outcome-from t p n s (e ∷ es) a b x y =
@@ -172,7 +203,8 @@ outcome-from t p n s (e ∷ es) a b x y =
 -- as the definition has it
 
 pub ends-with : (p : ℕ) (r : Reply) (es : Trace) → EndsAt p r 0 es → EndsWith p r es
-ends-with p r es h = record { place = h.place; here = h.here; inner = omega (arith, h.level); first = λ n l. omega (arith, h.first n l) }
+ends-with p r es h =
+    record { place = h.place; here = h.here; inner = omega (arith, h.level); first = λ n l. omega (arith, h.first n l) }
 
 take-one : (test : Event → Bool) (x : Event) (k : ℕ) (es : Trace) → slice_get es k ≡ Some x →
     count_by test (take (suc k) es) ≡ count_by test (take k es) + cond (test x) 1 0
@@ -211,7 +243,8 @@ not-before p r k m es e q f = ⊎_elim
     decide : (m k : ℕ) → (m ≤ k) ⊎ (k < m)
     decide zero k = inl (omega arith)
     decide (suc m) zero = inr (omega arith)
-    decide (suc m) (suc k) = ⊎_elim (λ (x : m ≤ k). inl (omega (arith, x))) (λ (x : k < m). inr (omega (arith, x))) (decide m k)
+    decide (suc m) (suc k) = ⊎_elim (λ (x : m ≤ k). inl (omega (arith, x))) (λ (x : k < m). inr (omega (arith, x)))
+        (decide m k)
 
 pub one-end : (p : ℕ) (r q : Reply) (es : Trace) → EndsWith p r es → EndsWith p q es → r ≡ q
 one-end p r q es a b =

@@ -18,7 +18,8 @@ use Rattle.executor_model.specs.Steps.{accepts, react}
 use Rattle.executor_model.proofs.Calls.{is_end}
 use Rattle.sleeper_laws.proofs.Beside.{Beside, ticks_of, is_ticks, beside-act, view-log}
 use Rattle.sleeper_laws.proofs.Stands.{KeepsStands, keeps-same}
-use Rattle.sleeper_laws.proofs.StandsActs.{stands-get_up, stands-leave, stands-hand_out, stands-call, stands-make, stands-copy_waker}
+use Rattle.sleeper_laws.proofs.StandsActs.{stands-get_up, stands-leave, stands-hand_out}
+use Rattle.sleeper_laws.proofs.StandsActs.{stands-call, stands-make, stands-copy_waker}
 use Rattle.sleeper_laws.proofs.StandsLying.{stands-search, stands-copy, stands-lie_down}
 use Rattle.sleeper_laws.proofs.StandsOwn.{nothing-of}
 use Rattle.sleeper_laws.proofs.StandsWorlds.{Lay}
@@ -41,7 +42,8 @@ stands-beside t p h o w n =
     keeps-same t w (o ∷ []) (act p h o w) (b.view t) (nothing-of t (o ∷ []) (omega (arith, free o n)))
     (nothing-of t (act p h o w).next b.none)
 
-pub stands-act : (t p : ℕ) (h : Hint) (o : Op) (w : World) → Lay w → (1 ≤ borrowing_of o → w.gone ≡ false) → is_end o ≡ false →
+pub stands-act : (t p : ℕ) (h : Hint) (o : Op) (w : World) → Lay w → (1 ≤ borrowing_of o → w.gone ≡ false) →
+    is_end o ≡ false →
     KeepsStands t w (o ∷ []) (act p h o w)
 stands-act t p h (op.Tick tick_op.MakeTick) w lay g n = stands-make h.refused t w lay (g (omega arith))
 stands-act t p h (op.Tick (tick_op.Search s)) w lay g n = stands-search t s.tick s.poll s.waker w
@@ -51,9 +53,11 @@ stands-act t p h (op.Tick (tick_op.GetUp u f)) w lay g n = stands-get_up t u f w
 stands-act t p h (op.Tick (tick_op.Leave u)) w lay g n = stands-leave t u w lay
 stands-act t p h (op.Sleeper sleeper_op.HandOut) w lay g n = stands-hand_out _ t w
 stands-act t p h (op.Sleeper (sleeper_op.CallSleeper s)) w lay g n = stands-call t p s.tick s.poll s.waker w
-stands-act t p h (op.Sleeper sleeper_op.ExchangeFlag) w lay g n = stands-beside t p h (op.Sleeper sleeper_op.ExchangeFlag) w refl
+stands-act t p h (op.Sleeper sleeper_op.ExchangeFlag) w lay g n =
+    stands-beside t p h (op.Sleeper sleeper_op.ExchangeFlag) w refl
 stands-act t p h (op.Waker (waker_op.CopyWaker f held)) w lay g n = stands-copy_waker _ t w f held
-stands-act t p h (op.Waker (waker_op.CallAwaiter f a k)) w lay g n = stands-beside t p h (op.Waker (waker_op.CallAwaiter f a k)) w refl
+stands-act t p h (op.Waker (waker_op.CallAwaiter f a k)) w lay g n =
+    stands-beside t p h (op.Waker (waker_op.CallAwaiter f a k)) w refl
 stands-act t p h (op.End r held) w lay g n = absurd (cc)
 stands-act t p h (op.Move m f) w lay g n = stands-beside t p h (op.Move m f) w refl
 stands-act t p h (op.Table o) w lay g n = stands-beside t p h (op.Table o) w refl
@@ -63,7 +67,8 @@ stands-act t p h (op.Handle o) w lay g n = stands-beside t p h (op.Handle o) w r
 stands-act t p h (op.Closing o) w lay g n = stands-beside t p h (op.Closing o) w refl
 
 -- the end of user code
-pub stands-react : (t p : ℕ) (o : Op) (u : UserEnd) (w : World) → accepts o u ≡ true → KeepsStands t w (o ∷ []) (react p o u w)
+pub stands-react : (t p : ℕ) (o : Op) (u : UserEnd) (w : World) → accepts o u ≡ true →
+    KeepsStands t w (o ∷ []) (react p o u w)
 stands-react t p (op.User (user_op.Poll f)) (end.Polled answer.Pending) w a =
     keeps-same t w (op.User (user_op.Poll f) ∷ []) (react p (op.User (user_op.Poll f)) (end.Polled answer.Pending) w)
     (view-log t w (event.Answered p f answer.Pending) (λ t n s. refl)) (nothing-of t _ refl) (nothing-of t _ refl)

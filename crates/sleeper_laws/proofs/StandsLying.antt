@@ -1,5 +1,6 @@
 -- The search of a tick, the copy of its waker and its lying down keep what holds of each tick.
-use Rattle.std.proofs.Common.{◌≡◌, ◌≢◌, ◌∙◌, ℕ, ◌+◌, ◌<◌, ◌≤◌, List, [], ◌∷◌, ◌++◌, length, Bool, true, false, cond, eqb, refl, sym, ap, subst, ⊎_elim, arith, get_or-set_same, get_or-set_other}
+use Rattle.std.proofs.Common.{◌≡◌, ◌≢◌, ◌∙◌, ℕ, ◌+◌, ◌<◌, ◌≤◌, List, [], ◌∷◌, ◌++◌, length, Bool, true, false, cond}
+use Rattle.std.proofs.Common.{eqb, refl, sym, ap, subst, ⊎_elim, arith, get_or-set_same, get_or-set_other}
 use Rattle.std.proofs.Math.ListN.{length-set}
 use Rattle.std.specs.Prelude.{Option, Some, None, nat_lt, slice_get}
 use Rattle.task_moves.specs.declared.moves.owed.Move.TheVariants as move
@@ -14,17 +15,22 @@ use Rattle.executor_model.specs.declared.op.TickOp.TheVariants as tick_op
 use Rattle.executor_model.specs.declared.op.Waker.{Waker}
 use Rattle.executor_model.specs.declared.op.Waker.TheVariants.{Task, Outside}
 use Rattle.executor_model.specs.World.{World, Tick, Up, Lies, Left, Done, tick_of}
-use Rattle.executor_model.specs.Acts.{run_found, search_by, copied, copy_sleeper_by, pend_tick, lie_nowhere, lie_anew_by, sleeper_goes, waker_goes, lie_listed_by, lie_again_by, lie_down_by}
+use Rattle.executor_model.specs.Acts.{run_found, search_by, copied, copy_sleeper_by, pend_tick, lie_nowhere}
+use Rattle.executor_model.specs.Acts.{lie_anew_by, sleeper_goes, waker_goes, lie_listed_by, lie_again_by, lie_down_by}
 use Rattle.executor_model.specs.Weights.{same}
 use Rattle.executor_model.specs.Steps.{lives}
 use Rattle.executor_model.proofs.Lists.{same_cases}
 use Rattle.executor_model.proofs.SleepersCounting.{asleep}
 use Rattle.executor_model.specs.SleepersAgree.{lies}
 use Rattle.executor_model.proofs.TickLists.{up-is, same_self}
-use Rattle.sleeper_laws.proofs.Listed.{Entry, sum, entry_of, kept_of, astray, misplaced_of, at_entry, sum-push, sum-set, entry-in}
+use Rattle.sleeper_laws.proofs.Listed.{Entry, sum, entry_of, kept_of, astray, misplaced_of}
+use Rattle.sleeper_laws.proofs.Listed.{at_entry, sum-push, sum-set, entry-in}
 use Rattle.sleeper_laws.proofs.Stands.{View, view, with_doing, Stands, KeepsStands, Nothing, keeps-same}
-use Rattle.sleeper_laws.proofs.StandsOwn.{own-anew, own-again, own-found, own-front, own-nowhere, own-rising, nothing-search, nothing-copy, nothing-lie, nothing-up, nothing-call, nothing-end, nothing-both, nothing-of}
-use Rattle.sleeper_laws.proofs.StandsWorlds.{Lay, OwnEntry, own-entry, none-own, view-same, misplaced-few, entries-astray, eqb-self, same-other, cond-other, cond-self}
+use Rattle.sleeper_laws.proofs.StandsOwn.{own-anew, own-again, own-found, own-front, own-nowhere, own-rising}
+use Rattle.sleeper_laws.proofs.StandsOwn.{nothing-search, nothing-copy, nothing-lie, nothing-up}
+use Rattle.sleeper_laws.proofs.StandsOwn.{nothing-call, nothing-end, nothing-both, nothing-of}
+use Rattle.sleeper_laws.proofs.StandsWorlds.{Lay, OwnEntry, own-entry, none-own, view-same, misplaced-few}
+use Rattle.sleeper_laws.proofs.StandsWorlds.{entries-astray, eqb-self, same-other, cond-other, cond-self}
 
 -- a step that names tick u, by whether it is this one
 pub by_tick : (t u : ℕ) (w : World) (old : ℕ → List Op) (d : ℕ → Done) → (t ≢ u → KeepsStands t w (old u) (d u)) →
@@ -36,7 +42,8 @@ by_tick t u w old d other own = ⊎_elim
 
 pub nothing-found : (t u f : ℕ) → t ≢ u → Nothing t (run_found u f)
 nothing-found t u f x =
-    nothing-both t (op.Sleeper sleeper_op.ExchangeFlag ∷ op.Move move.TakeUp f ∷ []) (op.End reply.Ready (hold.Tick u) ∷ [])
+    nothing-both t (op.Sleeper sleeper_op.ExchangeFlag ∷ op.Move move.TakeUp f ∷ [])
+    (op.End reply.Ready (hold.Tick u) ∷ [])
     (nothing-of t _ refl) (nothing-end t reply.Ready (hold.Tick u) (same-other t u x))
 
 pub nothing-goes : (t : ℕ) (o : Option Sleeping) → Nothing t (sleeper_goes o)
@@ -51,13 +58,16 @@ nothing-goes t (Some s) = by s.waker
 
 search-same : (x : Tick) (t u k : ℕ) (a : Waker) (w : World) (q : List ℕ) → t ≢ u →
     KeepsStands t w (op.Tick (tick_op.Search (asleep a u k)) ∷ []) (search_by x w q (asleep a u k))
-search-same x t u k a w [] n = keeps-same t w _ (search_by x w [] (asleep a u k)) refl (nothing-search t u n a k) (nothing-copy t u n a k)
+search-same x t u k a w [] n = keeps-same t w _ (search_by x w [] (asleep a u k)) refl (nothing-search t u n a k)
+    (nothing-copy t u n a k)
 search-same Up t u k a w (f ∷ rest) n =
     keeps-same t w _ (search_by Up w (f ∷ rest) (asleep a u k)) refl (nothing-search t u n a k) (nothing-found t u f n)
 search-same Left t u k a w (f ∷ rest) n =
-    keeps-same t w _ (search_by Left w (f ∷ rest) (asleep a u k)) refl (nothing-search t u n a k) (nothing-found t u f n)
+    keeps-same t w _ (search_by Left w (f ∷ rest) (asleep a u k)) refl (nothing-search t u n a k)
+    (nothing-found t u f n)
 search-same (Lies m) t u k a w (f ∷ rest) n =
-    keeps-same t w _ (search_by (Lies m) w (f ∷ rest) (asleep a u k)) refl (nothing-search t u n a k) (nothing-up t u n f)
+    keeps-same t w _ (search_by (Lies m) w (f ∷ rest) (asleep a u k)) refl (nothing-search t u n a k)
+    (nothing-up t u n f)
 
 search-own : (x : Tick) (t k : ℕ) (a : Waker) (w : World) (q : List ℕ) → tick_of w t ≡ x →
     KeepsStands t w (op.Tick (tick_op.Search (asleep a t k)) ∷ []) (search_by x w q (asleep a t k))
@@ -67,9 +77,11 @@ search-own Left t k a w (f ∷ rest) e = own-found t k f a (view t w) (ap lies e
 search-own (Lies n) t k a w (f ∷ rest) e = own-rising t k f a (view t w)
 
 pub stands-search : (t u k : ℕ) (a : Waker) (w : World) →
-    KeepsStands t w (op.Tick (tick_op.Search (asleep a u k)) ∷ []) (search_by (tick_of w u) w w.queue.items (asleep a u k))
+    KeepsStands t w (op.Tick (tick_op.Search (asleep a u k)) ∷ [])
+    (search_by (tick_of w u) w w.queue.items (asleep a u k))
 stands-search t u k a w =
-    by_tick t u w (λ n. op.Tick (tick_op.Search (asleep a n k)) ∷ []) (λ n. search_by (tick_of w n) w w.queue.items (asleep a n k))
+    by_tick t u w (λ n. op.Tick (tick_op.Search (asleep a n k)) ∷ [])
+    (λ n. search_by (tick_of w n) w w.queue.items (asleep a n k))
     (search-same (tick_of w u) t u k a w w.queue.items) (search-own (tick_of w t) t k a w w.queue.items refl)
 
 -- the copy
@@ -84,13 +96,15 @@ copy-same true t u k a w n =
     keeps-same t w _ (copy_sleeper_by true w (asleep a u k)) refl (nothing-copy t u n a k)
     (nothing-end t _ (hold.Tick u) (same-other t u n))
 copy-same false t u k a w n =
-    keeps-same t w _ (copy_sleeper_by false w (asleep a u k)) (view-copied t w a) (nothing-copy t u n a k) (nothing-lie t u n a k)
+    keeps-same t w _ (copy_sleeper_by false w (asleep a u k)) (view-copied t w a) (nothing-copy t u n a k)
+    (nothing-lie t u n a k)
 
 copy-own : (b : Bool) (t k : ℕ) (a : Waker) (w : World) →
     KeepsStands t w (op.Tick (tick_op.CopyWaker (asleep a t k)) ∷ []) (copy_sleeper_by b w (asleep a t k))
 copy-own true t k a w = λ r m b h. let z : same t t ≡ 1 = same_self t in grind arith
 copy-own false t k a w =
-    λ r m b h. subst (λ (v : View). Stands v (with_doing t (op.Tick (tick_op.LieDown (asleep a t k)) ∷ []) r) m) (sym (view-copied t w a)) h
+    λ r m b h. subst (λ (v : View). Stands v (with_doing t (op.Tick (tick_op.LieDown (asleep a t k)) ∷ []) r) m)
+    (sym (view-copied t w a)) h
 
 pub stands-copy : (b : Bool) (t u k : ℕ) (a : Waker) (w : World) →
     KeepsStands t w (op.Tick (tick_op.CopyWaker (asleep a u k)) ∷ []) (copy_sleeper_by b w (asleep a u k))
@@ -107,7 +121,8 @@ nowhere-same : (t u k : ℕ) (a : Waker) (w : World) → t ≢ u →
     KeepsStands t w (op.Tick (tick_op.LieDown (asleep a u k)) ∷ []) (lie_nowhere w (asleep a u k))
 nowhere-same t u k a w n =
     keeps-same t w _ (lie_nowhere w (asleep a u k)) refl (nothing-lie t u n a k)
-    (nothing-both t (op.Sleeper (sleeper_op.CallSleeper (asleep a u k)) ∷ []) (pend_tick u) (nothing-call t u n a k) (nothing-pend t u n))
+    (nothing-both t (op.Sleeper (sleeper_op.CallSleeper (asleep a u k)) ∷ []) (pend_tick u) (nothing-call t u n a k)
+    (nothing-pend t u n))
 
 -- it lies down, where it was up
 
@@ -121,14 +136,19 @@ view-anew t u k a w n = view-same t w (lie_anew_by true w (asleep a u k)).world
       sum-push (misplaced_of t x) w.sleepers.wakers (next_number w.sleepers, asleep a u k),
       cond-other t u (astray x (next_number w.sleepers)) n,
     ))
-    (λ j. omega (arith, sum-push (kept_of t j) w.sleepers.wakers (next_number w.sleepers, asleep a u k), cond-other t u (same j k) n))
+    (λ j. omega (
+      arith,
+      sum-push (kept_of t j) w.sleepers.wakers (next_number w.sleepers, asleep a u k),
+      cond-other t u (same j k) n,
+    ))
     refl
     refl
 
 anew-same : (b : Bool) (t u k : ℕ) (a : Waker) (w : World) → t ≢ u →
     KeepsStands t w (op.Tick (tick_op.LieDown (asleep a u k)) ∷ []) (lie_anew_by b w (asleep a u k))
 anew-same true t u k a w n =
-    keeps-same t w _ (lie_anew_by true w (asleep a u k)) (view-anew t u k a w n) (nothing-lie t u n a k) (nothing-search t u n a k)
+    keeps-same t w _ (lie_anew_by true w (asleep a u k)) (view-anew t u k a w n) (nothing-lie t u n a k)
+    (nothing-search t u n a k)
 anew-same false t u k a w n = nowhere-same t u k a w n
 
 anew-own : (b : Bool) (t k : ℕ) (a : Waker) (w : World) → Lay w → tick_of w t ≡ Up →
@@ -138,7 +158,8 @@ anew-own true t k a w lay e =
     let n : ℕ = next_number w.sleepers in
     let x : Entry = (n, asleep a t k) in
     let i : t < length w.ticks = up-is w.ticks t e in
-    let now : tick_of (lie_anew_by true w (asleep a t k)).world t ≡ Lies n = get_or-set_same w.ticks t (Lies n) Left i in
+    let now : tick_of (lie_anew_by true w (asleep a t k)).world t ≡ Lies n =
+    get_or-set_same w.ticks t (Lies n) Left i in
     let none : sum (entry_of t) w.sleepers.wakers ≡ 0 = entries-astray t Up w.sleepers.wakers (λ m. refl)
     ∙ (ap (λ (y : Tick). sum (misplaced_of t y) w.sleepers.wakers) (sym e) ∙ lay.placed t) in
     own-anew t k a (view t w) (view t (lie_anew_by true w (asleep a t k)).world) refl refl
@@ -156,17 +177,23 @@ anew-own true t k a w lay e =
       ap (λ (c : Bool). let y : ℕ = cond c 0 1 in y) (eqb-self n),
     ) in z))
     (sum-push (kept_of t (view t w).seen.poll) w.sleepers.wakers x
-    ∙ ap (λ (y : ℕ). sum (kept_of t (view t w).seen.poll) w.sleepers.wakers + y) (cond-self t (same (view t w).seen.poll k)))
+    ∙ ap (λ (y : ℕ). sum (kept_of t (view t w).seen.poll) w.sleepers.wakers + y)
+    (cond-self t (same (view t w).seen.poll k)))
 
 -- it lies already: its waker is replaced, or it has one again
 
-view-again : (t u k n at : ℕ) (a : Waker) (w : World) → Lay w → tick_of w u ≡ Lies n → position_of n w.sleepers.wakers ≡ Some at →
+view-again : (t u k n at : ℕ) (a : Waker) (w : World) → Lay w → tick_of w u ≡ Lies n →
+    position_of n w.sleepers.wakers ≡ Some at →
     t ≢ u → view t (lie_again_by (Some at) w n (asleep a u k)).world ≡ view t w
 view-again t u k n at a w lay e q x =
     let y : OwnEntry u n (slice_get w.sleepers.wakers at) = own-entry w lay u n e at q in
     view-same t w (lie_again_by (Some at) w n (asleep a u k)).world refl refl
     (omega (arith, sum-set (entry_of t) n at (n, asleep a u k) w.sleepers.wakers q, ap (at_entry (entry_of t)) y.is))
-    (λ z. omega (arith, sum-set (misplaced_of t z) n at (n, asleep a u k) w.sleepers.wakers q, ap (at_entry (misplaced_of t z)) y.is))
+    (λ z. omega (
+      arith,
+      sum-set (misplaced_of t z) n at (n, asleep a u k) w.sleepers.wakers q,
+      ap (at_entry (misplaced_of t z)) y.is,
+    ))
     (λ j. omega (
       arith,
       sum-set (kept_of t j) n at (n, asleep a u k) w.sleepers.wakers q,
@@ -177,7 +204,8 @@ view-again t u k n at a w lay e q x =
     refl
     refl
 
-view-listed : (t u k n : ℕ) (a : Waker) (w : World) → t ≢ u → view t (lie_listed_by true w n (asleep a u k)).world ≡ view t w
+view-listed : (t u k n : ℕ) (a : Waker) (w : World) → t ≢ u →
+    view t (lie_listed_by true w n (asleep a u k)).world ≡ view t w
 view-listed t u k n a w x = view-same t w (lie_listed_by true w n (asleep a u k)).world refl refl
     (omega (arith, sum-push (entry_of t) w.sleepers.wakers (n, asleep a u k), same-other t u x))
     (λ z. omega (arith, sum-push (misplaced_of t z) w.sleepers.wakers (n, asleep a u k), cond-other t u (astray z n) x))
@@ -188,18 +216,22 @@ view-listed t u k n a w x = view-same t w (lie_listed_by true w n (asleep a u k)
 listed-same : (b : Bool) (t u k n : ℕ) (a : Waker) (w : World) → t ≢ u →
     KeepsStands t w (op.Tick (tick_op.LieDown (asleep a u k)) ∷ []) (lie_listed_by b w n (asleep a u k))
 listed-same true t u k n a w x =
-    keeps-same t w _ (lie_listed_by true w n (asleep a u k)) (view-listed t u k n a w x) (nothing-lie t u x a k) (nothing-search t u x a k)
+    keeps-same t w _ (lie_listed_by true w n (asleep a u k)) (view-listed t u k n a w x) (nothing-lie t u x a k)
+    (nothing-search t u x a k)
 listed-same false t u k n a w x = nowhere-same t u k a w x
 
-again-same : (o : Option ℕ) (t u k n : ℕ) (a : Waker) (w : World) → Lay w → tick_of w u ≡ Lies n → position_of n w.sleepers.wakers ≡ o →
+again-same : (o : Option ℕ) (t u k n : ℕ) (a : Waker) (w : World) → Lay w → tick_of w u ≡ Lies n →
+    position_of n w.sleepers.wakers ≡ o →
     t ≢ u → KeepsStands t w (op.Tick (tick_op.LieDown (asleep a u k)) ∷ []) (lie_again_by o w n (asleep a u k))
 again-same None t u k n a w lay e q x = listed-same _ t u k n a w x
 again-same (Some at) t u k n a w lay e q x =
-    keeps-same t w _ (lie_again_by (Some at) w n (asleep a u k)) (view-again t u k n at a w lay e q x) (nothing-lie t u x a k)
+    keeps-same t w _ (lie_again_by (Some at) w n (asleep a u k)) (view-again t u k n at a w lay e q x)
+    (nothing-lie t u x a k)
     (nothing-both t (sleeper_goes (waker_at (Some at) w.sleepers.wakers)) (pend_tick u)
     (nothing-goes t (waker_at (Some at) w.sleepers.wakers)) (nothing-pend t u x))
 
-listed-own : (b : Bool) (t k n : ℕ) (a : Waker) (w : World) → Lay w → tick_of w t ≡ Lies n → position_of n w.sleepers.wakers ≡ None →
+listed-own : (b : Bool) (t k n : ℕ) (a : Waker) (w : World) → Lay w → tick_of w t ≡ Lies n →
+    position_of n w.sleepers.wakers ≡ None →
     KeepsStands t w (op.Tick (tick_op.LieDown (asleep a t k)) ∷ []) (lie_listed_by b w n (asleep a t k))
 listed-own false t k n a w lay e q = own-nowhere t k a (view t w)
 listed-own true t k n a w lay e q =
@@ -219,9 +251,11 @@ listed-own true t k n a w lay e q =
       ap (λ (c : Bool). let y : ℕ = cond c 0 1 in y) (eqb-self n),
     ) in z))
     (sum-push (kept_of t (view t w).seen.poll) w.sleepers.wakers x
-    ∙ ap (λ (y : ℕ). sum (kept_of t (view t w).seen.poll) w.sleepers.wakers + y) (cond-self t (same (view t w).seen.poll k)))
+    ∙ ap (λ (y : ℕ). sum (kept_of t (view t w).seen.poll) w.sleepers.wakers + y)
+    (cond-self t (same (view t w).seen.poll k)))
 
-again-own : (o : Option ℕ) (t k n : ℕ) (a : Waker) (w : World) → Lay w → tick_of w t ≡ Lies n → position_of n w.sleepers.wakers ≡ o →
+again-own : (o : Option ℕ) (t k n : ℕ) (a : Waker) (w : World) → Lay w → tick_of w t ≡ Lies n →
+    position_of n w.sleepers.wakers ≡ o →
     sum (entry_of t) w.sleepers.wakers ≤ 1 →
     KeepsStands t w (op.Tick (tick_op.LieDown (asleep a t k)) ∷ []) (lie_again_by o w n (asleep a t k))
 again-own None t k n a w lay e q one = listed-own _ t k n a w lay e q
@@ -229,8 +263,10 @@ again-own (Some at) t k n a w lay e q one =
     let x : Entry = (n, asleep a t k) in
     let y : OwnEntry t n (slice_get w.sleepers.wakers at) = own-entry w lay t n e at q in
     let j : ℕ = (view t w).seen.poll in
-    own-front t (view t w) (view t (lie_again_by (Some at) w n (asleep a t k)).world) (op.Tick (tick_op.LieDown (asleep a t k)) ∷ [])
-    (sleeper_goes (waker_at (Some at) w.sleepers.wakers)) (pend_tick t) (nothing-goes t (waker_at (Some at) w.sleepers.wakers))
+    own-front t (view t w) (view t (lie_again_by (Some at) w n (asleep a t k)).world)
+    (op.Tick (tick_op.LieDown (asleep a t k)) ∷ [])
+    (sleeper_goes (waker_at (Some at) w.sleepers.wakers)) (pend_tick t)
+    (nothing-goes t (waker_at (Some at) w.sleepers.wakers))
     (own-again t k a (view t w) (view t (lie_again_by (Some at) w n (asleep a t k)).world) refl refl refl refl refl
     (omega (arith, sum-set (entry_of t) n at x w.sleepers.wakers q, ap (at_entry (entry_of t)) y.is, one))
     (omega (
@@ -239,7 +275,12 @@ again-own (Some at) t k n a w lay e q one =
       ap (at_entry (misplaced_of t (tick_of w t))) y.is,
       lay.placed t,
     ))
-    (omega (arith, sum-set (kept_of t j) n at x w.sleepers.wakers q, entry-in (kept_of t j) at w.sleepers.wakers, cond-self t (same j k))))
+    (omega (
+      arith,
+      sum-set (kept_of t j) n at x w.sleepers.wakers q,
+      entry-in (kept_of t j) at w.sleepers.wakers,
+      cond-self t (same j k),
+    )))
 
 lie-same : (x : Tick) (t u k : ℕ) (a : Waker) (w : World) → Lay w → tick_of w u ≡ x → t ≢ u →
     KeepsStands t w (op.Tick (tick_op.LieDown (asleep a u k)) ∷ []) (lie_down_by x w (asleep a u k))
@@ -247,7 +288,8 @@ lie-same Up t u k a w lay e n = anew-same _ t u k a w n
 lie-same (Lies m) t u k a w lay e n = again-same _ t u k m a w lay e refl n
 lie-same Left t u k a w lay e n = nowhere-same t u k a w n
 
-lie-own : (x : Tick) (t k : ℕ) (a : Waker) (w : World) → Lay w → tick_of w t ≡ x → sum (entry_of t) w.sleepers.wakers ≤ 1 →
+lie-own : (x : Tick) (t k : ℕ) (a : Waker) (w : World) → Lay w → tick_of w t ≡ x →
+    sum (entry_of t) w.sleepers.wakers ≤ 1 →
     KeepsStands t w (op.Tick (tick_op.LieDown (asleep a t k)) ∷ []) (lie_down_by x w (asleep a t k))
 lie-own Up t k a w lay e one = anew-own _ t k a w lay e
 lie-own (Lies m) t k a w lay e one = again-own _ t k m a w lay e refl one

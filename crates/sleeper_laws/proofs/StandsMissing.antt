@@ -1,5 +1,6 @@
 -- Where there are fewer entries than ticks that lie, a tick that lies has none.
-use Rattle.std.proofs.Common.{◌≡◌, ◌⊎◌, ◌∙◌, ℕ, zero, suc, ◌+◌, ◌<◌, ◌≤◌, List, [], ◌∷◌, length, get_or, refl, ap, inl, inr, arith}
+use Rattle.std.proofs.Common.{◌≡◌, ◌⊎◌, ◌∙◌, ℕ, zero, suc, ◌+◌, ◌<◌, ◌≤◌, List, [], ◌∷◌}
+use Rattle.std.proofs.Common.{length, get_or, refl, ap, inl, inr, arith}
 use Rattle.executor_model.specs.SleepersAgree.{lies, lying}
 use Rattle.executor_model.specs.World.{Tick, Up, Lies, Left}
 use Rattle.executor_model.specs.Weights.{same, past}
@@ -55,7 +56,11 @@ missing-from b (x ∷ ts) es h = by (zero-or (lies x)) (zero-or (sum (entry_of b
     by (inl z) y k = later (k (omega (arith, h, z, sum-from b es)))
     by (inr z) (inr y) k = later (k (omega (arith, h, few-lies x, y, sum-from b es)))
     by (inr z) (inl y) k =
-        record { place = 0; lies = z; none = ap (λ (n : ℕ). sum (entry_of n) es) (let q : b + 0 ≡ b = omega arith in q) ∙ y }
+        record {
+          place = 0;
+          lies = z;
+          none = ap (λ (n : ℕ). sum (entry_of n) es) (let q : b + 0 ≡ b = omega arith in q) ∙ y;
+        }
 
 pub missing : (ts : List Tick) (es : List Entry) → length es < lying ts → Missing 0 ts es
 missing ts es h = missing-from 0 ts es (omega (arith, h, few-from 0 es))

@@ -1,5 +1,6 @@
 -- At a quiet trace where a future is due and some tick stands, one that stands is called.
-use Rattle.std.proofs.Common.{◌≡◌, ◌⊎◌, ◌∙◌, ℕ, suc, ◌+◌, ◌<◌, ◌≤◌, List, [], ◌∷◌, length, drop, Bool, true, false, refl, sym, ap, subst, inl, inr, ⊎_elim, arith}
+use Rattle.std.proofs.Common.{◌≡◌, ◌⊎◌, ◌∙◌, ℕ, suc, ◌+◌, ◌<◌, ◌≤◌, List, [], ◌∷◌, length, drop}
+use Rattle.std.proofs.Common.{Bool, true, false, refl, sym, ap, subst, inl, inr, ⊎_elim, arith}
 use Rattle.executor_model.specs.declared.call.Reply.{Reply}
 use Rattle.executor_model.specs.declared.call.Reply.TheVariants as reply
 use Rattle.executor_model.specs.declared.step.Step.{Step}
@@ -24,16 +25,19 @@ use Rattle.executor_model.proofs.SleepersFollowingRuns.{agrees}
 use Rattle.executor_model.proofs.SleepersTellingRuns.{are_told}
 use Rattle.executor_model.proofs.Telling.{begun-has}
 use Rattle.executor_laws.proofs.Ticking.{due-queued}
-use Rattle.sleeper_laws.specs.Standing.{is_tick_poll, is_tick_drop, calls_tick, IsLastPoll, IsStanding, IsCalled, NoneRefused, OneCalled, SomeStandingIsCalled}
+use Rattle.sleeper_laws.specs.Standing.{is_tick_poll, is_tick_drop, calls_tick, IsLastPoll, IsStanding, IsCalled}
+use Rattle.sleeper_laws.specs.Standing.{NoneRefused, OneCalled, SomeStandingIsCalled}
 use Rattle.executor_model.proofs.Holding.{nowhere, Spotted, seen}
 use Rattle.sleeper_laws.proofs.Listed.{sum, entry_of, kept_of, misplaced_of}
-use Rattle.sleeper_laws.proofs.Stands.{view, Doing, doing, Stands, asks_of, early_of, pends_of, refused_of, found_of, drops_of, ends_of, lending_of, strays_of, calls_of}
+use Rattle.sleeper_laws.proofs.Stands.{view, Doing, doing, Stands, asks_of, early_of, pends_of, refused_of, found_of}
+use Rattle.sleeper_laws.proofs.Stands.{drops_of, ends_of, lending_of, strays_of, calls_of}
 use Rattle.sleeper_laws.proofs.StandsAnswers.{IsOver, Outcome, outcome-from, ends-with, one-end}
 use Rattle.sleeper_laws.proofs.StandsAnswers.Outcome.{unended, ended}
 use Rattle.sleeper_laws.proofs.StandsCalls.{marked}
 use Rattle.sleeper_laws.proofs.StandsMissing.{Missing, missing, lying-at}
 use Rattle.sleeper_laws.proofs.StandsRuns.{Standing, standing}
-use Rattle.sleeper_laws.proofs.StandsTelling.{LastPoll, last-poll, Begun, begun-at, left-has, unasked, poll-from, called-from, has-later}
+use Rattle.sleeper_laws.proofs.StandsTelling.{LastPoll, last-poll, Begun, begun-at, left-has, unasked}
+use Rattle.sleeper_laws.proofs.StandsTelling.{poll-from, called-from, has-later}
 use Rattle.sleeper_laws.proofs.StandsWeights.{nothing_done}
 use Rattle.sleeper_laws.proofs.StandsWorlds.{kept-few, entries-astray}
 use Rattle.sleeper_laws.proofs.Watched.{Watched, watched, watched_from, is_pending, is_refusal, poll_begun}
@@ -66,7 +70,8 @@ times-length f (x ∷ xs) = omega (arith, one f x, times-length f xs)
     one f x = grind (arith, same_is)
 
 -- who has an entry under its number lies
-entry-lies : (w : World) (t : ℕ) → sum (misplaced_of t (tick_of w t)) w.sleepers.wakers ≡ 0 → 1 ≤ sum (entry_of t) w.sleepers.wakers →
+entry-lies : (w : World) (t : ℕ) → sum (misplaced_of t (tick_of w t)) w.sleepers.wakers ≡ 0 →
+    1 ≤ sum (entry_of t) w.sleepers.wakers →
     1 ≤ lies (tick_of w t)
 entry-lies w t z h = by (tick_of w t) z
   where
@@ -99,7 +104,8 @@ module _ (s : Machine) (fine : Good s) (hs : Heard s) (ds : Deep s) (told : Slee
 
   unasking : (t : ℕ) → (watched t s.world.trace).asking ≡ true → ⊥
   unasking t e = let x : Spotted (watched t s.world.trace).inner (seen (asks_of t) nowhere []) =
-      subst (λ os. Spotted (watched t s.world.trace).inner (seen (asks_of t) nowhere os)) (idle (watched t s.world.trace).party)
+      subst (λ os. Spotted (watched t s.world.trace).inner (seen (asks_of t) nowhere os))
+      (idle (watched t s.world.trace).party)
       (st.held t e) in both-ways true refl (sym x.0)
 
   -- a poll of a tick that lives, which is its last
@@ -113,7 +119,8 @@ module _ (s : Machine) (fine : Good s) (hs : Heard s) (ds : Deep s) (told : Slee
     begun : Begun t poll party s.world.trace
     begun = begun-at t poll party s.world.trace last.polled
 
-    all : watched t s.world.trace ≡ watched_from t (suc poll) (poll_begun poll party begun.before) (since poll s.world.trace)
+    all : watched t s.world.trace ≡ watched_from t (suc poll) (poll_begun poll party begun.before)
+        (since poll s.world.trace)
     all = begun.all ∙ ap (watched_from t (suc poll) (poll_begun poll party begun.before))
         (from _ (let z : suc poll ≡ poll + 1 = omega arith in z))
 
@@ -127,7 +134,8 @@ module _ (s : Machine) (fine : Good s) (hs : Heard s) (ds : Deep s) (told : Slee
         ∙ poll-from t (suc poll) (poll_begun poll party begun.before) (since poll s.world.trace) last.last
 
     is-called : (watched t s.world.trace).called ≡ true → has (calls_tick t poll) (since poll s.world.trace) ≡ true
-    is-called e = sym (called-from t (suc poll) poll (poll_begun poll party begun.before) (since poll s.world.trace) refl last.last)
+    is-called e = sym (called-from t (suc poll) poll (poll_begun poll party begun.before) (since poll s.world.trace)
+        refl last.last)
         ∙ (sym (ap (λ (w : Watched). w.called) all) ∙ e)
 
     -- it was answered as it is seen
@@ -139,10 +147,12 @@ module _ (s : Machine) (fine : Good s) (hs : Heard s) (ds : Deep s) (told : Slee
         by (ended q e o) = subst (λ (x : Reply). IsOver x (watched t s.world.trace))
             (one-end party q r (since poll s.world.trace) (ends-with party q (since poll s.world.trace) e) h) o
 
-    ends-so : (r : Reply) → ((q : Reply) → IsOver q (watched t s.world.trace) → q ≡ r) → EndsWith party r (since poll s.world.trace)
+    ends-so : (r : Reply) → ((q : Reply) → IsOver q (watched t s.world.trace) → q ≡ r) →
+        EndsWith party r (since poll s.world.trace)
     ends-so r k = by outcome
       where
-        by : Outcome party 0 (since poll s.world.trace) (watched t s.world.trace) → EndsWith party r (since poll s.world.trace)
+        by : Outcome party 0 (since poll s.world.trace) (watched t s.world.trace) →
+            EndsWith party r (since poll s.world.trace)
         by (unended a) = absurd (unasking t a)
         by (ended q e o) = subst (λ (x : Reply). EndsWith party x (since poll s.world.trace)) (k q o)
             (ends-with party q (since poll s.world.trace) e)
@@ -152,13 +162,15 @@ module _ (s : Machine) (fine : Good s) (hs : Heard s) (ds : Deep s) (told : Slee
     unleft : has (is_tick_drop u) s.world.trace ≡ false
     unleft = sym (left-has u s.world.trace) ∙ not-true (watched u s.world.trace).left (λ e. ⊎_elim
         (λ (x : 1 ≤ 0). omega (arith, x))
-        (λ (x : lives (tick_of s.world u) ≡ false). both-ways (lives (tick_of s.world u)) (lies-lives (tick_of s.world u) low) x)
+        (λ (x : lives (tick_of s.world u) ≡ false). both-ways (lives (tick_of s.world u))
+        (lies-lives (tick_of s.world u) low) x)
         ((stands-here u).dropped e))
 
     replied : ((watched u s.world.trace).pending ≡ true) ⊎ ((watched u s.world.trace).refused ≡ true)
     replied = ⊎_elim
         (λ (x : (watched u s.world.trace).pending ≡ true). inl x)
-        (λ (x : ((watched u s.world.trace).refused ≡ true) ⊎ (1 ≤ 0)). ⊎_elim (λ (y : (watched u s.world.trace).refused ≡ true). inr y)
+        (λ (x : ((watched u s.world.trace).refused ≡ true) ⊎ (1 ≤ 0)).
+        ⊎_elim (λ (y : (watched u s.world.trace).refused ≡ true). inr y)
         (λ (y : 1 ≤ 0). absurd (omega (arith, y))) x)
         ((stands-here u).asleep low)
 
@@ -184,12 +196,19 @@ module _ (s : Machine) (fine : Good s) (hs : Heard s) (ds : Deep s) (told : Slee
         (λ (x : (watched u s.world.trace).pending ≡ true). x)
         (λ (x : (watched u s.world.trace).refused ≡ true). absurd
         (none u poll-there.party poll-there.poll its-poll
-        (ends-so u poll-there.party poll-there.poll its-poll reply.NoMemory (λ q o. refuses-only q (sym o.refused ∙ x)))))
+        (ends-so u poll-there.party poll-there.poll its-poll reply.NoMemory
+        (λ q o. refuses-only q (sym o.refused ∙ x)))))
         replied
 
     standing-there : NoneRefused s.world.trace → IsStanding u s.world.trace
     standing-there none =
-        record { party = poll-there.party; poll = poll-there.poll; last = its-poll; pending = ends-so u poll-there.party poll-there.poll its-poll reply.Pending (λ q o. pends-only q (sym o.pending ∙ pending-there none)) }
+        record {
+          party = poll-there.party;
+          poll = poll-there.poll;
+          last = its-poll;
+          pending = ends-so u poll-there.party poll-there.poll its-poll reply.Pending
+              (λ q o. pends-only q (sym o.pending ∙ pending-there none));
+        }
 
     -- and it is called, where it has no entry
     called-there : NoneRefused s.world.trace → sum (entry_of u) s.world.sleepers.wakers ≡ 0 → IsCalled u s.world.trace
@@ -204,12 +223,14 @@ module _ (s : Machine) (fine : Good s) (hs : Heard s) (ds : Deep s) (told : Slee
             z,
             kept-few u (watched u s.world.trace).poll s.world.sleepers.wakers,
           )))
-          (λ (x : ((watched u s.world.trace).called ≡ true) ⊎ (1 ≤ 0)). ⊎_elim (λ (y : (watched u s.world.trace).called ≡ true). y)
+          (λ (x : ((watched u s.world.trace).called ≡ true) ⊎ (1 ≤ 0)).
+          ⊎_elim (λ (y : (watched u s.world.trace).called ≡ true). y)
           (λ (y : 1 ≤ 0). absurd (omega (arith, y))) x)
           ((stands-here u).covered (inl (pending-there none))));
     }
 
-  module _ (f t : ℕ) (due : IsDue f s.world.trace) (stand : IsStanding t s.world.trace) (none : NoneRefused s.world.trace) where
+  module _ (f t : ℕ) (due : IsDue f s.world.trace) (stand : IsStanding t s.world.trace)
+      (none : NoneRefused s.world.trace) where
     pending : (watched t s.world.trace).pending ≡ true
     pending = (answered t stand.party stand.poll stand.last reply.Pending stand.pending).pending
 
@@ -236,7 +257,8 @@ module _ (s : Machine) (fine : Good s) (hs : Heard s) (ds : Deep s) (told : Slee
           tick = m.place;
           standing = standing-there m.place m.lies none;
           called = called-there m.place m.lies none
-              (ap (λ (n : ℕ). sum (entry_of n) s.world.sleepers.wakers) (let z : m.place ≡ 0 + m.place = omega arith in z) ∙ m.none);
+              (ap (λ (n : ℕ). sum (entry_of n) s.world.sleepers.wakers) (let z : m.place ≡ 0 + m.place = omega arith in
+              z) ∙ m.none);
         }
 
     one : OneCalled s.world.trace
@@ -258,12 +280,15 @@ module _ (s : Machine) (fine : Good s) (hs : Heard s) (ds : Deep s) (told : Slee
                 poll = stand.poll;
                 last = stand.last;
                 called = is-called t stand.party stand.poll stand.last
-                    (⊎_elim (λ (y : (watched t s.world.trace).called ≡ true). y) (λ (y : 1 ≤ 0). absurd (omega (arith, y))) x);
+                    (⊎_elim (λ (y : (watched t s.world.trace).called ≡ true). y)
+                    (λ (y : 1 ≤ 0). absurd (omega (arith, y))) x);
               };
         })
         ((stands-here t).covered (inl pending))
 
-pub some-called : (limit parties : ℕ) (steps : List Step) (f : ℕ) → SomeStandingIsCalled f (run steps (start limit parties)).world.trace
+pub some-called : (limit parties : ℕ) (steps : List Step) (f : ℕ) →
+    SomeStandingIsCalled f (run steps (start limit parties)).world.trace
 some-called limit parties steps f t quiet due stand none =
-    one (run steps (start limit parties)) (good limit parties steps) (heard limit parties steps) (deep limit parties steps)
+    one (run steps (start limit parties)) (good limit parties steps) (heard limit parties steps)
+    (deep limit parties steps)
     (are_told limit parties steps) (standing limit parties steps) quiet f t due stand none

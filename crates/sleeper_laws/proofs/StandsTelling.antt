@@ -1,5 +1,6 @@
 -- What is seen of a tick and of its last poll is what the definitions over the trace say.
-use Rattle.std.proofs.Common.{◌≡◌, ◌⊎◌, ◌∙◌, ℕ, zero, suc, ◌+◌, [], ◌∷◌, drop, Bool, true, false, ◌&&◌, ◌||◌, cond, eqb, refl, sym, ap, subst, inl, inr, ⊎_elim, arith}
+use Rattle.std.proofs.Common.{◌≡◌, ◌⊎◌, ◌∙◌, ℕ, zero, suc, ◌+◌, [], ◌∷◌, drop, Bool, true, false, ◌&&◌, ◌||◌}
+use Rattle.std.proofs.Common.{cond, eqb, refl, sym, ap, subst, inl, inr, ⊎_elim, arith}
 use Rattle.std.proofs.lemmas.Bool.Decides.{nat_tests}
 use Rattle.std.proofs.Math.Bool.{or_assoc}
 use Rattle.std.specs.Prelude.{Some, slice_get}
@@ -10,7 +11,8 @@ use Rattle.executor_model.specs.declared.op.Polled.TheVariants as of
 use Rattle.executor_model.specs.Trace.{Trace, has}
 use Rattle.sleeper_laws.specs.Standing.{is_tick_poll, is_tick_drop, calls_tick}
 use Rattle.sleeper_laws.proofs.StandsWorlds.{eqb-self}
-use Rattle.sleeper_laws.proofs.Watched.{Watched, unwatched, is_pending, is_refusal, poll_begun, ended_in, watches, watched_from, watched}
+use Rattle.sleeper_laws.proofs.Watched.{Watched, unwatched, is_pending, is_refusal, poll_begun}
+use Rattle.sleeper_laws.proofs.Watched.{ended_in, watches, watched_from, watched}
 
 or-false : (b : Bool) → b ≡ (b || false)
 or-false true = refl
@@ -53,14 +55,16 @@ left-one : (t n : ℕ) (e : Event) (s : Watched) → (watches t n e s).left ≡ 
 left-one t n (event.TickPolled p u) s = left-polled (eqb t u) n p s ∙ or-false s.left
 left-one t n (event.TickDropped p u) s = left-dropped (eqb t u) s
 left-one t n (event.CallBegun p c) s = or-false s.left
-left-one t n (event.CallEnded p r) s = ended-same (λ (x : Watched). x.left) (λ r s. refl) (λ n s. refl) _ s.inner r s ∙ or-false s.left
+left-one t n (event.CallEnded p r) s = ended-same (λ (x : Watched). x.left) (λ r s. refl) (λ n s. refl) _ s.inner r s
+    ∙ or-false s.left
 left-one t n (event.WakerCalled p (of.Tick u) k a) s = or-false s.left
 left-one t n _ s = or-false s.left
 
 left-from : (t n : ℕ) (s : Watched) (es : Trace) → (watched_from t n s es).left ≡ (s.left || has (is_tick_drop t) es)
 left-from t n s [] = or-false s.left
 left-from t n s (e ∷ es) = left-from t (suc n) (watches t n e s) es
-    ∙ (ap (λ (b : Bool). b || has (is_tick_drop t) es) (left-one t n e s) ∙ or_assoc s.left (is_tick_drop t e) (has (is_tick_drop t) es))
+    ∙ (ap (λ (b : Bool). b || has (is_tick_drop t) es) (left-one t n e s) ∙ or_assoc s.left (is_tick_drop t e)
+    (has (is_tick_drop t) es))
 
 pub left-has : (t : ℕ) (es : Trace) → (watched t es).left ≡ has (is_tick_drop t) es
 unfolding watched
@@ -88,8 +92,10 @@ last-poll t (e ∷ es) = ⊎_elim
     (λ (x : LastPoll t es). inr (record { party = x.party; poll = suc x.poll; polled = x.polled; last = x.last }))
     (last-poll t es)
   where
-    by : (b : Bool) → is_tick_poll t e ≡ b → has (is_tick_poll t) es ≡ false → (has (is_tick_poll t) (e ∷ es) ≡ false) ⊎ LastPoll t (e ∷ es)
-    by true q z = let x : _ = poll-is t e q in inr (record { party = x.0; poll = 0; polled = ap (λ (y : Event). Some y) x.1; last = z })
+    by : (b : Bool) → is_tick_poll t e ≡ b → has (is_tick_poll t) es ≡ false →
+        (has (is_tick_poll t) (e ∷ es) ≡ false) ⊎ LastPoll t (e ∷ es)
+    by true q z = let x : _ = poll-is t e q in
+        inr (record { party = x.0; poll = 0; polled = ap (λ (y : Event). Some y) x.1; last = z })
     by false q z = inl (ap (λ (b : Bool). b || has (is_tick_poll t) es) q ∙ z)
 
 pub not-polled : (b : Bool) (n p : ℕ) (s : Watched) → b ≡ false → cond b (poll_begun n p s) s ≡ s
@@ -110,7 +116,8 @@ pub record Begun (t poll party : ℕ) (es : Trace) : Type 0 where
   pub all : watched t es ≡ watched_from t (suc poll) (poll_begun poll party before) (drop (suc poll) es)
 
 begun-from : (t n k p : ℕ) (s : Watched) (es : Trace) → slice_get es k ≡ Some (event.TickPolled p t) →
-    (before : Watched) × (watched_from t n s es ≡ watched_from t (suc (n + k)) (poll_begun (n + k) p before) (drop (suc k) es))
+    (before : Watched) × (watched_from t n s es ≡ watched_from t (suc (n + k)) (poll_begun (n + k) p before)
+    (drop (suc k) es))
 begun-from t n k p s [] e = absurd (cc)
 begun-from t n zero p s (x ∷ es) e =
     let q : x ≡ event.TickPolled p t = cc in (
@@ -133,7 +140,8 @@ begun-at t k p es e =
     record {
       before = x.0;
       all = x.1
-          ∙ ap (λ (m : ℕ). watched_from t (suc m) (poll_begun m p x.0) (drop (suc k) es)) (let z : 0 + k ≡ k = omega arith in z);
+          ∙ ap (λ (m : ℕ). watched_from t (suc m) (poll_begun m p x.0) (drop (suc k) es))
+          (let z : 0 + k ≡ k = omega arith in z);
     }
 
 -- a tick that was never polled has no answer
@@ -141,7 +149,8 @@ begun-at t k p es e =
 abbrev IsUnasked : Watched → Type 0
 IsUnasked s = (s.asking ≡ false) × (s.pending ≡ false) × (s.refused ≡ false)
 
-unasked-dropped : (b : Bool) (s : Watched) → IsUnasked s → IsUnasked (cond b (record s { pending = false; left = true }) s)
+unasked-dropped : (b : Bool) (s : Watched) → IsUnasked s →
+    IsUnasked (cond b (record s { pending = false; left = true }) s)
 unasked-dropped true s h = (h.0, refl, h.2)
 unasked-dropped false s h = h
 
@@ -154,12 +163,14 @@ unasked-one t n (event.CallEnded p r) s k h =
 unasked-one t n (event.WakerCalled p (of.Tick u) x a) s k h = h
 unasked-one t n _ s k h = h
 
-unasked-from : (t n : ℕ) (s : Watched) (es : Trace) → has (is_tick_poll t) es ≡ false → IsUnasked s → IsUnasked (watched_from t n s es)
+unasked-from : (t n : ℕ) (s : Watched) (es : Trace) → has (is_tick_poll t) es ≡ false → IsUnasked s →
+    IsUnasked (watched_from t n s es)
 unasked-from t n s [] k h = h
 unasked-from t n s (e ∷ es) k h = let x : _ = or-none (is_tick_poll t e) (has (is_tick_poll t) es) k in
     unasked-from t (suc n) (watches t n e s) es x.1 (unasked-one t n e s x.0 h)
 
-pub unasked : (t : ℕ) (es : Trace) → has (is_tick_poll t) es ≡ false → ((watched t es).pending ≡ false) × ((watched t es).refused ≡ false)
+pub unasked : (t : ℕ) (es : Trace) → has (is_tick_poll t) es ≡ false →
+    ((watched t es).pending ≡ false) × ((watched t es).refused ≡ false)
 unfolding watched
 unasked t es k = let x : _ = unasked-from t 0 unwatched es k (refl, refl, refl) in (x.1, x.2)
 
@@ -189,16 +200,20 @@ poll-one t n (event.CallBegun p c) s h = refl
 poll-one t n (event.WakerCalled p (of.Tick u) k a) s h = refl
 poll-one t n _ s h = refl
 
-called-one : (t n : ℕ) (e : Event) (s : Watched) → is_tick_poll t e ≡ false → (watches t n e s).called ≡ (s.called || calls_tick t s.poll e)
-called-one t n (event.TickPolled p u) s h = ap (λ (x : Watched). x.called) (not-polled (eqb t u) n p s h) ∙ or-false s.called
+called-one : (t n : ℕ) (e : Event) (s : Watched) → is_tick_poll t e ≡ false →
+    (watches t n e s).called ≡ (s.called || calls_tick t s.poll e)
+called-one t n (event.TickPolled p u) s h = ap (λ (x : Watched). x.called) (not-polled (eqb t u) n p s h)
+    ∙ or-false s.called
 called-one t n (event.TickDropped p u) s h = called-dropped (eqb t u) s ∙ or-false s.called
-called-one t n (event.CallEnded p r) s h = ended-same (λ (x : Watched). x.called) (λ r s. refl) (λ n s. refl) _ s.inner r s
+called-one t n (event.CallEnded p r) s h = ended-same (λ (x : Watched). x.called) (λ r s. refl) (λ n s. refl) _ s.inner
+    r s
     ∙ or-false s.called
 called-one t n (event.CallBegun p c) s h = or-false s.called
 called-one t n (event.WakerCalled p (of.Tick u) k a) s h = or-conds (eqb t u) (eqb s.poll k) s.called
 called-one t n _ s h = or-false s.called
 
-pub poll-from : (t n : ℕ) (s : Watched) (es : Trace) → has (is_tick_poll t) es ≡ false → (watched_from t n s es).poll ≡ s.poll
+pub poll-from : (t n : ℕ) (s : Watched) (es : Trace) → has (is_tick_poll t) es ≡ false →
+    (watched_from t n s es).poll ≡ s.poll
 poll-from t n s [] h = refl
 poll-from t n s (e ∷ es) h = let x : _ = or-none (is_tick_poll t e) (has (is_tick_poll t) es) h in
     poll-from t (suc n) (watches t n e s) es x.1 ∙ poll-one t n e s x.0
@@ -209,5 +224,6 @@ called-from t n k s [] q h = or-false s.called
 called-from t n k s (e ∷ es) q h =
     let x : _ = or-none (is_tick_poll t e) (has (is_tick_poll t) es) h in
     called-from t (suc n) k (watches t n e s) es (poll-one t n e s x.0 ∙ q) x.1
-    ∙ (ap (λ (b : Bool). b || has (calls_tick t k) es) (called-one t n e s x.0 ∙ ap (λ (m : ℕ). s.called || calls_tick t m e) q)
+    ∙ (ap (λ (b : Bool). b || has (calls_tick t k) es)
+    (called-one t n e s x.0 ∙ ap (λ (m : ℕ). s.called || calls_tick t m e) q)
     ∙ or_assoc s.called (calls_tick t k e) (has (calls_tick t k) es))

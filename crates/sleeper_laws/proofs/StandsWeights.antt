@@ -1,5 +1,6 @@
 -- What the stacks weigh in the counts of a tick.
-use Rattle.std.proofs.Common.{◌≡◌, ℕ, zero, suc, ◌+◌, ◌<◌, ◌≤◌, List, [], ◌∷◌, ◌++◌, length, get_or, set, Bool, true, false, cond, eqb, refl, arith}
+use Rattle.std.proofs.Common.{◌≡◌, ℕ, zero, suc, ◌+◌, ◌<◌, ◌≤◌, List, [], ◌∷◌, ◌++◌, length, get_or}
+use Rattle.std.proofs.Common.{set, Bool, true, false, cond, eqb, refl, arith}
 use Rattle.std.specs.Prelude.{reverse}
 use Rattle.executor_model.specs.declared.op.Hold.{Hold}
 use Rattle.executor_model.specs.declared.op.Hold.TheVariants as hold
@@ -13,7 +14,8 @@ use Rattle.executor_model.proofs.Calls.{calling_of}
 use Rattle.executor_model.proofs.Lift.{split, weigh_all-idle}
 use Rattle.executor_model.proofs.Lists.{same_is, weigh_all-push}
 use Rattle.executor_model.proofs.Telling.{same-cond}
-use Rattle.sleeper_laws.proofs.Stands.{early_of, pends_of, refused_of, found_of, drops_of, ends_of, lending_of, strays_of, calls_of, asks_of, Doing, with_doing, doing, Footing}
+use Rattle.sleeper_laws.proofs.Stands.{early_of, pends_of, refused_of, found_of, drops_of, ends_of, lending_of}
+use Rattle.sleeper_laws.proofs.Stands.{strays_of, calls_of, asks_of, Doing, with_doing, doing, Footing}
 use Rattle.sleeper_laws.proofs.StandsOwn.{end-parts}
 
 -- each stage uses the tick
@@ -30,13 +32,15 @@ stages-one t _ = omega arith
 
 stages-stack : (t : ℕ) (os : List Op) →
     weigh (early_of t) os + (weigh (pends_of t) os +
-    (weigh (refused_of t) os + (weigh (found_of t) os + (weigh (drops_of t) os + weigh (ends_of t) os)))) ≤ weigh (ticking_of t) os
+    (weigh (refused_of t) os + (weigh (found_of t) os + (weigh (drops_of t) os + weigh (ends_of t) os))))
+    ≤ weigh (ticking_of t) os
 stages-stack t [] = omega arith
 stages-stack t (o ∷ os) = omega (arith, stages-one t o, stages-stack t os)
 
 stages-all : (t : ℕ) (ss : List (List Op)) →
     weigh_all (early_of t) ss + (weigh_all (pends_of t) ss +
-    (weigh_all (refused_of t) ss + (weigh_all (found_of t) ss + (weigh_all (drops_of t) ss + weigh_all (ends_of t) ss)))) ≤ weigh_all
+    (weigh_all (refused_of t) ss
+    + (weigh_all (found_of t) ss + (weigh_all (drops_of t) ss + weigh_all (ends_of t) ss)))) ≤ weigh_all
     (ticking_of t) ss
 stages-all t [] = omega arith
 stages-all t (s ∷ ss) = omega (arith, stages-stack t s, stages-all t ss)
@@ -48,7 +52,8 @@ one-stray false c n e = omega arith
 
 few-one : (t k : ℕ) (o : Op) → strays_of t k o ≤ early_of t o
 few-one t k (op.Tick (tick_op.Search s)) = one-stray (eqb t s.tick) (eqb k s.poll) (same t s.tick) (same-cond t s.tick)
-few-one t k (op.Tick (tick_op.CopyWaker s)) = one-stray (eqb t s.tick) (eqb k s.poll) (same t s.tick) (same-cond t s.tick)
+few-one t k (op.Tick (tick_op.CopyWaker s)) =
+    one-stray (eqb t s.tick) (eqb k s.poll) (same t s.tick) (same-cond t s.tick)
 few-one t k (op.Tick (tick_op.LieDown s)) = one-stray (eqb t s.tick) (eqb k s.poll) (same t s.tick) (same-cond t s.tick)
 few-one t k _ = omega arith
 
@@ -66,7 +71,8 @@ footing t ss = record { stages = stages-all t ss; few = λ k. few-all t k ss }
 -- what has to end a poll
 
 pub asks-weighs : (t : ℕ) (os : List Op) →
-    weigh (asks_of t) os ≡ weigh (early_of t) os + (weigh (pends_of t) os + (weigh (refused_of t) os + weigh (found_of t) os))
+    weigh (asks_of t) os ≡ weigh (early_of t) os
+    + (weigh (pends_of t) os + (weigh (refused_of t) os + weigh (found_of t) os))
 asks-weighs t [] = refl
 asks-weighs t (o ∷ os) = omega (arith, asks-weighs t os)
 
@@ -99,7 +105,8 @@ asks-calling t _ = omega arith
 
 -- of one party and of the others
 
-pub split-doing : (t : ℕ) (ss : List (List Op)) (p : ℕ) (old rest : List Op) → p < length ss → get_or ss p [] ≡ rest ++ reverse old →
+pub split-doing : (t : ℕ) (ss : List (List Op)) (p : ℕ) (old rest : List Op) → p < length ss →
+    get_or ss p [] ≡ rest ++ reverse old →
     doing t ss ≡ with_doing t old (doing t (set ss p rest))
 split-doing t ss p old rest l e = λ i. record {
   ticking = split (ticking_of t) ss p old rest l e i;
@@ -130,7 +137,18 @@ push-doing t ss p rest next l = λ i. record {
 }
 
 abbrev pub nothing_done : Doing
-nothing_done = record { ticking = 0; early = 0; pends = 0; refused = 0; found = 0; drops = 0; ends = 0; lending = 0; strays = λ k. 0; calls = λ k. 0 }
+nothing_done = record {
+  ticking = 0;
+  early = 0;
+  pends = 0;
+  refused = 0;
+  found = 0;
+  drops = 0;
+  ends = 0;
+  lending = 0;
+  strays = λ k. 0;
+  calls = λ k. 0;
+}
 
 pub idle-doing : (t n : ℕ) → doing t (idle n) ≡ nothing_done
 idle-doing t n = λ i. record {

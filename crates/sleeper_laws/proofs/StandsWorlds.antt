@@ -1,5 +1,6 @@
 -- How the world has each tick once one lies down, gets up or leaves.
-use Rattle.std.proofs.Common.{◌≡◌, ◌≢◌, ◌∙◌, ℕ, ◌+◌, ◌≤◌, List, [], ◌∷◌, length, Bool, true, false, cond, eqb, refl, sym, ap, arith}
+use Rattle.std.proofs.Common.{◌≡◌, ◌≢◌, ◌∙◌, ℕ, ◌+◌, ◌≤◌, List, [], ◌∷◌, length}
+use Rattle.std.proofs.Common.{Bool, true, false, cond, eqb, refl, sym, ap, arith}
 use Rattle.std.proofs.lemmas.Bool.Decides.{nat_tests}
 use Rattle.std.specs.Prelude.{Option, Some, None, nat_lt, slice_get}
 use Rattle.executor_parts.specs.Sleepers.{position_of, risen}
@@ -12,7 +13,8 @@ use Rattle.executor_model.proofs.SleepersCounting.{asleep}
 use Rattle.executor_model.proofs.Telling.{same-cond}
 use Rattle.executor_model.specs.SleepersAgree.{lies}
 use Rattle.executor_model.proofs.TickLists.{same_self}
-use Rattle.sleeper_laws.proofs.Listed.{Entry, sum, entry_of, kept_of, astray, misplaced_of, at_entry, entry_at, sum-risen, entry-in, numbered}
+use Rattle.sleeper_laws.proofs.Listed.{Entry, sum, entry_of, kept_of, astray, misplaced_of, at_entry}
+use Rattle.sleeper_laws.proofs.Listed.{entry_at, sum-risen, entry-in, numbered}
 use Rattle.sleeper_laws.proofs.Stands.{view}
 use Rattle.sleeper_laws.proofs.Watched.{watched}
 
@@ -54,7 +56,8 @@ misplaced-few t x [] = omega arith
 misplaced-few t x (e ∷ es) = omega (arith, misplaced-one t x e, misplaced-few t x es)
 
 -- a tick that doesn't lie has none
-pub entries-astray : (t : ℕ) (x : Tick) (es : List Entry) → ((n : ℕ) → astray x n ≡ 1) → sum (entry_of t) es ≡ sum (misplaced_of t x) es
+pub entries-astray : (t : ℕ) (x : Tick) (es : List Entry) → ((n : ℕ) → astray x n ≡ 1) →
+    sum (entry_of t) es ≡ sum (misplaced_of t x) es
 entries-astray t x [] z = refl
 entries-astray t x (e ∷ es) z = omega (
   arith,
@@ -72,7 +75,8 @@ placed-one t n e = omega (arith, by (eqb t e.1.tick) (eqb n e.0), same-cond t e.
     by false c = omega arith
 
 -- one that lies has those of its number alone
-pub placed-few : (t n : ℕ) (es : List Entry) → sum (entry_of t) es ≤ sum (λ e. same n e.0) es + sum (misplaced_of t (Lies n)) es
+pub placed-few : (t n : ℕ) (es : List Entry) →
+    sum (entry_of t) es ≤ sum (λ e. same n e.0) es + sum (misplaced_of t (Lies n)) es
 placed-few t n [] = omega arith
 placed-few t n (e ∷ es) = omega (arith, placed-one t n e, placed-few t n es)
 
@@ -98,7 +102,8 @@ kept-few t k (e ∷ es) = omega (arith, kept-one t k e, kept-few t k es)
 pub view-same : (t : ℕ) (w v : World) → tick_of v t ≡ tick_of w t → length v.ticks ≡ length w.ticks →
     sum (entry_of t) v.sleepers.wakers ≡ sum (entry_of t) w.sleepers.wakers →
     ((x : Tick) → sum (misplaced_of t x) v.sleepers.wakers ≡ sum (misplaced_of t x) w.sleepers.wakers) →
-    ((k : ℕ) → sum (kept_of t k) v.sleepers.wakers ≡ sum (kept_of t k) w.sleepers.wakers) → v.gone ≡ w.gone → v.trace ≡ w.trace →
+    ((k : ℕ) → sum (kept_of t k) v.sleepers.wakers ≡ sum (kept_of t k) w.sleepers.wakers) → v.gone ≡ w.gone →
+    v.trace ≡ w.trace →
     view t v ≡ view t w
 view-same t w v a b c d e g s = λ i. record {
   lying = lies (a i);
@@ -144,7 +149,8 @@ module _ (w : World) (lay : Lay w) (u n : ℕ) (e : tick_of w u ≡ Lies n) wher
         ap (at_entry (misplaced_of y.1.tick (tick_of w y.1.tick))) x.1,
       ) in
       let there : tick_of w y.1.tick ≡ Lies n =
-      astray-none (tick_of w y.1.tick) y.0 (sym (cond-self y.1.tick (astray (tick_of w y.1.tick) y.0)) ∙ z) ∙ ap Lies x.2 in
+      astray-none (tick_of w y.1.tick) y.0 (sym (cond-self y.1.tick (astray (tick_of w y.1.tick) y.0)) ∙ z)
+      ∙ ap Lies x.2 in
       let own : y.1.tick ≡ u = lay.apart y.1.tick u n there e in
       record {
         waker = y.1.waker;
@@ -155,7 +161,8 @@ module _ (w : World) (lay : Lay w) (u n : ℕ) (e : tick_of w u ≡ Lies n) wher
 
   -- what is at the place of that number is nothing to another tick
   module _ (t : ℕ) (apart : t ≢ u) where
-    other-at : (v : Entry → ℕ) → ((a : Waker) (k : ℕ) → v (n, asleep a u k) ≡ 0) → (o : Option ℕ) → position_of n w.sleepers.wakers ≡ o →
+    other-at : (v : Entry → ℕ) → ((a : Waker) (k : ℕ) → v (n, asleep a u k) ≡ 0) → (o : Option ℕ) →
+        position_of n w.sleepers.wakers ≡ o →
         at_entry v (entry_at o w.sleepers.wakers) ≡ 0
     other-at v z None q = refl
     other-at v z (Some at) q = let x : _ = own-entry at q in ap (at_entry v) x.is ∙ z x.waker x.poll
@@ -166,7 +173,8 @@ module _ (w : World) (lay : Lay w) (u n : ℕ) (e : tick_of w u ≡ Lies n) wher
     pub other-kept : (j : ℕ) → at_entry (kept_of t j) (entry_at (position_of n w.sleepers.wakers) w.sleepers.wakers) ≡ 0
     other-kept j = other-at (kept_of t j) (λ a k. cond-other t u (same j k) apart) _ refl
 
-    pub other-misplaced : (x : Tick) → at_entry (misplaced_of t x) (entry_at (position_of n w.sleepers.wakers) w.sleepers.wakers) ≡ 0
+    pub other-misplaced : (x : Tick) →
+        at_entry (misplaced_of t x) (entry_at (position_of n w.sleepers.wakers) w.sleepers.wakers) ≡ 0
     other-misplaced x = other-at (misplaced_of t x) (λ a k. cond-other t u (astray x n) apart) _ refl
 
   -- who has no entry of its number has none

@@ -1,5 +1,6 @@
 -- What a trace tells of a tick and of its last poll, read from left to right.
-use Rattle.std.proofs.Common.{◌≡◌, ℕ, zero, suc, ◌+◌, ◌==◌, [], ◌∷◌, ◌++◌, length, Bool, true, false, ◌&&◌, cond, refl, ap, ◌∙◌, arith}
+use Rattle.std.proofs.Common.{◌≡◌, ℕ, zero, suc, ◌+◌, ◌==◌, [], ◌∷◌, ◌++◌, length}
+use Rattle.std.proofs.Common.{Bool, true, false, ◌&&◌, cond, refl, ap, ◌∙◌, arith}
 use Rattle.executor_model.specs.declared.call.Reply.{Reply}
 use Rattle.executor_model.specs.declared.call.Reply.TheVariants as reply
 use Rattle.executor_model.specs.declared.event.Event.{Event}
@@ -24,7 +25,16 @@ pub record Watched : Type 0 where
   pub left : Bool
 
 abbrev pub unwatched : Watched
-unwatched = record { poll = 0; party = 0; asking = false; inner = 0; pending = false; refused = false; called = false; left = false }
+unwatched = record {
+  poll = 0;
+  party = 0;
+  asking = false;
+  inner = 0;
+  pending = false;
+  refused = false;
+  called = false;
+  left = false;
+}
 
 abbrev pub is_pending : Reply → Bool
 is_pending reply.Pending = true
@@ -35,7 +45,8 @@ is_refusal reply.NoMemory = true
 is_refusal _ = false
 
 abbrev pub poll_begun : ℕ → ℕ → Watched → Watched
-poll_begun n p s = record s { poll = n; party = p; asking = true; inner = 0; pending = false; refused = false; called = false }
+poll_begun n p s = record s
+    { poll = n; party = p; asking = true; inner = 0; pending = false; refused = false; called = false }
 
 -- a call of the party has ended
 abbrev pub ended_in : ℕ → Reply → Watched → Watched
@@ -48,7 +59,8 @@ watches t n (event.TickPolled p u) s = cond (t == u) (poll_begun n p s) s
 watches t n (event.TickDropped p u) s = cond (t == u) (record s { pending = false; left = true }) s
 watches t n (event.CallBegun p c) s = record s { inner = s.inner + cond s.asking (same s.party p) 0 }
 watches t n (event.CallEnded p r) s = cond (s.asking && (s.party == p)) (ended_in s.inner r s) s
-watches t n (event.WakerCalled p (of.Tick u) k a) s = record s { called = cond (t == u) (cond (s.poll == k) true s.called) s.called }
+watches t n (event.WakerCalled p (of.Tick u) k a) s =
+    record s { called = cond (t == u) (cond (s.poll == k) true s.called) s.called }
 watches t n _ s = s
 
 abbrev pub watched_from : ℕ → ℕ → Watched → Trace → Watched
@@ -68,7 +80,8 @@ watched_from-push t n s (x ∷ es) e = watched_from-push t (suc n) (watches t n 
 pub watched-push : (t : ℕ) (es : Trace) (e : Event) → watched t (es ++ e ∷ []) ≡ watches t (length es) e (watched t es)
 unfolding watched
 watched-push t es e = watched_from-push t 0 unwatched es e
-    ∙ ap (λ (m : ℕ). watches t m e (watched_from t 0 unwatched es)) (let z : 0 + length es ≡ length es = omega arith in z)
+    ∙ ap (λ (m : ℕ). watches t m e (watched_from t 0 unwatched es)) (let z : 0 + length es ≡ length es = omega arith in
+    z)
 
 pub watched-none : (t : ℕ) → watched t [] ≡ unwatched
 unfolding watched

@@ -1,5 +1,5 @@
--- A tick stands where it lives and its last poll found nothing; it is called where the waker of that poll was called since.
--- Where a future is due and some tick stands, one that stands is called.
+-- A tick stands where it lives and its last poll found nothing; it is called where the waker of that poll was called
+-- since. Where a future is due and some tick stands, one that stands is called.
 use Rattle.std.specs.Prelude.{◌≡◌, ℕ, ◌==◌, Bool, true, false, ◌&&◌, Some, slice_get}
 use Rattle.executor_model.specs.declared.call.Reply.TheVariants.{Pending, NoMemory}
 use Rattle.executor_model.specs.declared.event.Event.{Event}
@@ -55,4 +55,5 @@ pub record OneCalled (trace : Trace) : Type 0 where
 
 -- where no call is in progress, future f is due, some tick stands and none was refused, one that stands is called
 abbrev pub SomeStandingIsCalled : ℕ → Trace → Type 0
-SomeStandingIsCalled f trace = (t : ℕ) → IsQuiet trace → IsDue f trace → IsStanding t trace → NoneRefused trace → OneCalled trace
+SomeStandingIsCalled f trace =
+    (t : ℕ) → IsQuiet trace → IsDue f trace → IsStanding t trace → NoneRefused trace → OneCalled trace

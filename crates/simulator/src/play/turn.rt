@@ -203,7 +203,8 @@ impl<'a> Player<'a> {
 
     /// The handle of a future that was cancelled is polled.
     fn poll_cancelled(&mut self, p: u32) -> Result<(), AllocError>
-        ensures new { OnOk result (self.new ≡ turns.poll_cancelled (turns.subject_of self.old (play.party self.old p).doing) p self.old) }
+        ensures new { OnOk result
+            (self.new ≡ turns.poll_cancelled (turns.subject_of self.old (play.party self.old p).doing) p self.old) }
         ensures grows { OnOk result (length self.old.tried < length self.new.tried) }
     {
         match self.subject_of(self.party(p).doing) {
@@ -390,7 +391,8 @@ impl<'a> Player<'a> {
 
     #[tactic(auto, unfolding(crate::specs::Turn::settled_as))]
     fn settle_command(&mut self, p: u32, doing: Doing) -> Result<(), AllocError>
-        ensures new { OnOk result (self.new ≡ turns.settled_as (play.plain_at self.old doing.command) p doing self.old) }
+        ensures new { OnOk result
+            (self.new ≡ turns.settled_as (play.plain_at self.old doing.command) p doing self.old) }
         ensures steps { OnOk result (self.new.tried ≡ self.old.tried) }
     {
         match self.plain_at(doing.command) {

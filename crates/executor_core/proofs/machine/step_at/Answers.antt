@@ -19,32 +19,37 @@ returns-then-p-len-clause-err c = (
 
 pub returns-in-Some-clause-err : goal.returns-in-Some-clause-err
 returns-in-Some-clause-err c =
-    let same : part_refusal (world_of c.args.store.now) (items c.args.parties.now.items) c.index.result.now.items c.args.step
+    let same : part_refusal (world_of c.args.store.now) (items c.args.parties.now.items) c.index.result.now.items
+    c.args.step
     ≡ c.part_refusal.result = ap (λ (x : List (Vec Op Global)
     × List Op). part_refusal (world_of c.args.store.now) (items x.0) x.1 c.args.step) (λ i. (
       sym c.as_slice.ensures.value i,
       sym c.as_slice-2.ensures.value i,
     )) ∙ sym c.part_refusal.ensures in (
       refl,
-      inl (refused (world_of c.args.store.now) c.args.parties.now.items c.party_of-p.result c.args.step c.index.result.now
+      inl (refused (world_of c.args.store.now) c.args.parties.now.items c.party_of-p.result c.args.step
+          c.index.result.now
           c.in-Some.error c.party_of-p.ensures (omega arith) c.index.ensures (same ∙ c.in-Some.is)),
     )
 
 pub returns-then-is_err-clause-reached : goal.returns-then-is_err-clause-reached
-returns-then-is_err-clause-reached c = subst IsReached (sym (stays (world_of c.args.store.now) (world_of c.make_room.new.store)
+returns-then-is_err-clause-reached c =
+    subst IsReached (sym (stays (world_of c.args.store.now) (world_of c.make_room.new.store)
     c.args.parties.now.items c.party_of-p.result c.index_mut-todo.result.now c.reserve.new.self (omega arith)
     c.index_mut-todo.ensures.value c.reserve.ensures.items c.make_room.ensures.same)) c.requires
 
 pub returns-then-is_err-clause-err : goal.returns-then-is_err-clause-err
 returns-then-is_err-clause-err c =
-    let same : part_refusal (world_of c.args.store.now) (items c.args.parties.now.items) c.index.result.now.items c.args.step
+    let same : part_refusal (world_of c.args.store.now) (items c.args.parties.now.items) c.index.result.now.items
+    c.args.step
     ≡ c.part_refusal.result = ap (λ (x : List (Vec Op Global)
     × List Op). part_refusal (world_of c.args.store.now) (items x.0) x.1 c.args.step) (λ i. (
       sym c.as_slice.ensures.value i,
       sym c.as_slice-2.ensures.value i,
     )) ∙ sym c.part_refusal.ensures in (
       stays (world_of c.args.store.now) (world_of c.make_room.new.store) c.args.parties.now.items c.party_of-p.result
-          c.index_mut-todo.result.now c.reserve.new.self (omega arith) c.index_mut-todo.ensures.value c.reserve.ensures.items
+          c.index_mut-todo.result.now c.reserve.new.self (omega arith) c.index_mut-todo.ensures.value
+          c.reserve.ensures.items
           c.make_room.ensures.same,
       inr (
         refl,
@@ -54,13 +59,15 @@ returns-then-is_err-clause-err c =
     )
 
 pub take_part-requires-clause-needs : goal.take_part-requires-clause-needs
-take_part-requires-clause-needs c = λ o t. needed (world_of c.args.store.now) (world_of c.make_room.new.store) c.args.parties.now.items
+take_part-requires-clause-needs c = λ o t. needed (world_of c.args.store.now) (world_of c.make_room.new.store)
+    c.args.parties.now.items
     c.party_of-p.result c.index_mut-todo.result.now c.reserve.new.self o (omega arith) c.index_mut-todo.ensures.value
     c.reserve.ensures.items c.make_room.ensures.same (is_good _ c.requires) t
 
 pub returns-clause-reached : goal.returns-clause-reached
 returns-clause-reached c =
-    let same : part_refusal (world_of c.args.store.now) (items c.args.parties.now.items) c.index.result.now.items c.args.step
+    let same : part_refusal (world_of c.args.store.now) (items c.args.parties.now.items) c.index.result.now.items
+    c.args.step
     ≡ c.part_refusal.result = ap (λ (x : List (Vec Op Global)
     × List Op). part_refusal (world_of c.args.store.now) (items x.0) x.1 c.args.step) (λ i. (
       sym c.as_slice.ensures.value i,
@@ -70,13 +77,15 @@ returns-clause-reached c =
     (refusal_is (world_of c.args.store.now) c.args.parties.now.items c.party_of-p.result c.args.step c.index.result.now
     c.party_of-p.ensures (omega arith) c.index.ensures ∙ same
     ∙ c.in-None.is) (went (world_of c.args.store.now) (world_of c.make_room.new.store) (world_of c.take_part.new.store)
-    c.args.parties.now.items c.party_of-p.result c.args.step c.index_mut-todo.result.now c.reserve.new.self c.take_part.new.todo
+    c.args.parties.now.items c.party_of-p.result c.args.step c.index_mut-todo.result.now c.reserve.new.self
+    c.take_part.new.todo
     c.party_of-p.ensures (omega arith) c.index_mut-todo.ensures.value c.reserve.ensures.items c.make_room.ensures.same
     c.take_part.ensures) c.requires
 
 pub returns-clause-ok : goal.returns-clause-ok
 returns-clause-ok c =
-    let same : part_refusal (world_of c.args.store.now) (items c.args.parties.now.items) c.index.result.now.items c.args.step
+    let same : part_refusal (world_of c.args.store.now) (items c.args.parties.now.items) c.index.result.now.items
+    c.args.step
     ≡ c.part_refusal.result = ap (λ (x : List (Vec Op Global)
     × List Op). part_refusal (world_of c.args.store.now) (items x.0) x.1 c.args.step) (λ i. (
       sym c.as_slice.ensures.value i,
@@ -86,7 +95,8 @@ returns-clause-ok c =
     (refusal_is (world_of c.args.store.now) c.args.parties.now.items c.party_of-p.result c.args.step c.index.result.now
     c.party_of-p.ensures (omega arith) c.index.ensures ∙ same
     ∙ c.in-None.is) (went (world_of c.args.store.now) (world_of c.make_room.new.store) (world_of c.take_part.new.store)
-    c.args.parties.now.items c.party_of-p.result c.args.step c.index_mut-todo.result.now c.reserve.new.self c.take_part.new.todo
+    c.args.parties.now.items c.party_of-p.result c.args.step c.index_mut-todo.result.now c.reserve.new.self
+    c.take_part.new.todo
     c.party_of-p.ensures (omega arith) c.index_mut-todo.ensures.value c.reserve.ensures.items c.make_room.ensures.same
     c.take_part.ensures)
 

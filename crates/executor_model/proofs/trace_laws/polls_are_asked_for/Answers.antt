@@ -4,4 +4,5 @@ use Rattle.executor_model.proofs.Waking.{woken-between}
 use Rattle.executor_model.proofs.trace_laws.polls_are_asked_for.Goals as goal
 
 pub returns : goal.returns
-returns c = λ limit parties steps f. woken-between f (run steps (start limit parties)).world.trace ((heard limit parties steps).asked f).fair
+returns c = λ limit parties steps f. woken-between f (run steps (start limit parties)).world.trace
+    ((heard limit parties steps).asked f).fair

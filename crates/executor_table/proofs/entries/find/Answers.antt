@@ -6,7 +6,8 @@ use Rattle.executor_table.proofs.entries.find.Goals as goal
 
 pub returns-then-f-len-clause-absent : goal.returns-then-f-len-clause-absent
 returns-then-f-len-clause-absent c =
-    none_among _ c.args.f _ c.requires (place_past c.args.seats.now.items c.args.f (omega (arith, c.if-f-len.true, c.len.ensures)))
+    none_among _ c.args.f _ c.requires
+    (place_past c.args.seats.now.items c.args.f (omega (arith, c.if-f-len.true, c.len.ensures)))
 
 pub returns-in-None-clause-absent : goal.returns-in-None-clause-absent
 returns-in-None-clause-absent c =

@@ -11,13 +11,15 @@ returns-in-Some-clause-seated c =
     rw (c.put_back.ensures.back, set_found _ _ _ _ c.in-Some.ensures.found) (seated_with _ _ _ _ c.requires)
 
 pub returns-in-Some-clause-futures : goal.returns-in-Some-clause-futures
-returns-in-Some-clause-futures c = rw (c.put_back.ensures.back, set_found _ _ _ _ c.in-Some.ensures.found) (futures_with _ _ _)
+returns-in-Some-clause-futures c = rw (c.put_back.ensures.back, set_found _ _ _ _ c.in-Some.ensures.found)
+    (futures_with _ _ _)
 
 pub returns-in-Some-clause-back : goal.returns-in-Some-clause-back
 returns-in-Some-clause-back c =
     let found = key_found c.in-Some.place c.args.f _ c.in-Some.ensures.found in
     rw (c.put_back.ensures.back, set_found _ _ _ _ c.in-Some.ensures.found)
-    (present_back _ c.args.f c.in-Some.place _ _ c.requires c.in-Some.ensures.here found ∙ sym (is_among c.args.f _ _ found))
+    (present_back _ c.args.f c.in-Some.place _ _ c.requires c.in-Some.ensures.here found
+    ∙ sym (is_among c.args.f _ _ found))
 
 pub returns-in-Some-clause-others : goal.returns-in-Some-clause-others
 returns-in-Some-clause-others c = λ g other.

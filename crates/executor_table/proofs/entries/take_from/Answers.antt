@@ -9,7 +9,8 @@ returns-in-Some-clause-seated c =
     rw (c.take.ensures.out, set_found _ _ _ _ c.in-Some.ensures.found) (seated_with _ _ _ _ c.requires)
 
 pub returns-in-Some-clause-futures : goal.returns-in-Some-clause-futures
-returns-in-Some-clause-futures c = rw (c.take.ensures.out, set_found _ _ _ _ c.in-Some.ensures.found) (futures_with _ _ _)
+returns-in-Some-clause-futures c =
+    rw (c.take.ensures.out, set_found _ _ _ _ c.in-Some.ensures.found) (futures_with _ _ _)
 
 pub returns-in-Some-clause-out : goal.returns-in-Some-clause-out
 returns-in-Some-clause-out c =

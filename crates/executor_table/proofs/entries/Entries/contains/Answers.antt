@@ -3,4 +3,5 @@ use Rattle.executor_table.proofs.Seating.{is_found}
 use Rattle.executor_table.proofs.entries.Entries.contains.Goals as goal
 
 pub returns : goal.returns
-returns c = rw (← c.self.view_is) (c.is_some.ensures ∙ is_found c.args.f _ c.find.result c.find.ensures.found c.find.ensures.absent)
+returns c = rw (← c.self.view_is)
+    (c.is_some.ensures ∙ is_found c.args.f _ c.find.result c.find.ensures.found c.find.ensures.absent)

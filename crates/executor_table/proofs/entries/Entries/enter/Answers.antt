@@ -10,7 +10,8 @@ invariant_of-self c =
     let seat : Seat = record { place = c.place-place.result; inside = true } in
     let here = place_new c.self.inside.seats.items seat c.args.f next in
     rw (c.push_reserved.ensures.items, c.enter.ensures.entered) (
-      seated_push _ _ _ (rw (← c.place-place.ensures) here) (seated_more c.self.inside.seats.items seat _ c.self.invariant.0),
+      seated_push _ _ _ (rw (← c.place-place.ensures) here)
+          (seated_more c.self.inside.seats.items seat _ c.self.invariant.0),
       seated_more c.self.inside.seats.items seat _ c.self.invariant.1,
       c.self.invariant.2 ∙ sym c.enter.ensures.limit,
     )

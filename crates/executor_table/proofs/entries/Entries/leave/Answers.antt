@@ -11,7 +11,8 @@ invariant_of-self c = (
 )
 
 pub returns-clause-was : goal.returns-clause-was
-returns-clause-was c = rw (← c.self.view_is) (sym (is_among c.args.f _ _ (key_found c.in-Some.place c.args.f _ c.in-Some.ensures.found)))
+returns-clause-was c = rw (← c.self.view_is)
+    (sym (is_among c.args.f _ _ (key_found c.in-Some.place c.args.f _ c.in-Some.ensures.found)))
 
 pub returns-clause-left : goal.returns-clause-left
 returns-clause-left c = λ _.
@@ -26,4 +27,5 @@ pub returns-clause-present : goal.returns-clause-present
 returns-clause-present c =
     let found = key_found c.in-Some.place c.args.f _ c.in-Some.ensures.found in
     rw (c.leave.ensures.left, left_found _ _ _ c.in-Some.ensures.found, ← c.self.view_is)
-    (present_without _ c.args.f c.in-Some.place _ c.self.invariant.0 c.in-Some.ensures.apart c.in-Some.ensures.here found)
+    (present_without _ c.args.f c.in-Some.place _ c.self.invariant.0 c.in-Some.ensures.apart c.in-Some.ensures.here
+    found)

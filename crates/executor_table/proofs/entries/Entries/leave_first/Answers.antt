@@ -19,4 +19,5 @@ invariant_of-self-2 c =
 pub returns-clause-inside : goal.returns-clause-inside
 returns-clause-inside c =
     rw (← c.self.view_is)
-    (insides_set c.self.inside.seats.items c.in-Some.parts.1 (record { place = c.index_mut.result.now.place; inside = false }))
+    (insides_set c.self.inside.seats.items c.in-Some.parts.1
+    (record { place = c.index_mut.result.now.place; inside = false }))

@@ -11,7 +11,9 @@ returns-clause-ticks c =
     c.args.sleeping (as_tick c.take-ticker.result) (as_tick c.lie_down-ticker.result.0)
     c.give_spare_back.new.sleepers c.lie_down-ticker.new.sleepers
     c.self.inside.notified c.lie_down-ticker.new.notified c.args.self.now
-    (ap (λ (v : Ticked). v.ticks) c.self.view_is) (c.give_spare_back.ensures.room ∙ ap (λ (v : Ticked). v.sleepers) c.self.view_is)
-    (ap (λ (v : Ticked). v.notified) c.self.view_is) c.take-ticker.ensures.taken c.take-ticker.ensures.left c.put.ensures.put
+    (ap (λ (v : Ticked). v.ticks) c.self.view_is)
+    (c.give_spare_back.ensures.room ∙ ap (λ (v : Ticked). v.sleepers) c.self.view_is)
+    (ap (λ (v : Ticked). v.notified) c.self.view_is) c.take-ticker.ensures.taken c.take-ticker.ensures.left
+    c.put.ensures.put
     c.lie_down-ticker.ensures.tick c.lie_down-ticker.ensures.sleepers c.lie_down-ticker.ensures.flag in
     rw (c.give_spare_back.ensures.none) whole

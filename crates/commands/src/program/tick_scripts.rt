@@ -2,9 +2,11 @@
 
 use super::tests::shows;
 
-#[test]
-fn a_lying_tick_is_called_once(rt: HostRuntime) {
-    let script = "\
+/// Each script, and what its run shows.
+const SCRIPTS: [(&str, &str); 4] = [
+    // A lying tick is called once.
+    (
+        "\
 limit 2
 tick t
 polltick t
@@ -12,8 +14,8 @@ spawn x ready=1
 spawn y ready=1
 polltick t
 try
-";
-    let text = "\
+",
+        "\
 tick: ok
 polltick: pending
 call t
@@ -27,13 +29,11 @@ poll y
 ready y
 drop y
 try: true
-";
-    shows(&rt, script, text);
-}
-
-#[test]
-fn a_dropped_tick_passes_the_call_on(rt: HostRuntime) {
-    let script = "\
+",
+    ),
+    // A dropped tick passes the call on.
+    (
+        "\
 limit 1
 tick t
 tick u
@@ -42,8 +42,8 @@ polltick u
 spawn x ready=1
 droptick u
 polltick t
-";
-    let text = "\
+",
+        "\
 tick: ok
 tick: ok
 polltick: pending
@@ -56,21 +56,19 @@ poll x
 ready x
 drop x
 polltick: ready
-";
-    shows(&rt, script, text);
-}
-
-#[test]
-fn a_refused_poll_of_a_tick_changes_nothing(rt: HostRuntime) {
-    let script = "\
+",
+    ),
+    // A refused poll of a tick changes nothing.
+    (
+        "\
 limit 1
 refuse spawn a ready=1
 tick t
 refuse polltick t
 spawn a ready=1
 polltick t
-";
-    let text = "\
+",
+        "\
 spawn: no memory
 tick: ok
 polltick: no memory
@@ -79,13 +77,11 @@ poll a
 ready a
 drop a
 polltick: ready
-";
-    shows(&rt, script, text);
-}
-
-#[test]
-fn a_name_is_given_once_and_a_living_tick_keeps_the_executor(rt: HostRuntime) {
-    let script = "\
+",
+    ),
+    // A name is given once, and a living tick keeps the executor.
+    (
+        "\
 limit 1
 refuse tick t
 tick t
@@ -96,8 +92,8 @@ droptick t
 polltick t
 end
 tick u
-";
-    let text = "\
+",
+        "\
 tick: no memory
 tick: ok
 spawn: not possible
@@ -107,6 +103,13 @@ droptick: done
 polltick: not possible
 end: done
 tick: not possible
-";
-    shows(&rt, script, text);
+",
+    ),
+];
+
+#[test]
+fn each_script_of_ticks_shows_its_text(rt: HostRuntime) {
+    for (script, text) in SCRIPTS {
+        shows(&rt, script, text);
+    }
 }

@@ -42,10 +42,10 @@ use Rattle.executor_model.proofs.SleepersNext.{goes-unseen, tell-unseen}
 use Rattle.executor_model.proofs.Ways.{Way, acted, reacted, called, along}
 use Rattle.executor_model.specs.SleepersAgree.{SleepersAgree, hands_of}
 use Rattle.executor_model.proofs.SleepersAway.{beds, Away, away-act, away-call, is_bed}
-use Rattle.executor_model.proofs.TickLists.{used-apart, times-apart}
+use Rattle.executor_model.proofs.TickLists.{used-apart, times-apart, up-rooms}
 use Rattle.executor_model.proofs.SleepersFollowing.{Follows, shift, follows-won, follows-hand_out}
 use Rattle.executor_model.proofs.SleepersFollowing.{follows-make, follows-anew, follows-listed, follows-again}
-use Rattle.executor_model.proofs.SleepersFollowing.{follows-up, follows-left, follows-left_up}
+use Rattle.executor_model.proofs.SleepersFollowing.{follows-up, follows-left, follows-left_up, follows-unlisted}
 
 -- they follow on where old is done, while others have still to hand out k times
 pub record Follow (w : World) (old : List Op) (d : Done) : Type 0 where
@@ -268,7 +268,7 @@ followed-ends s p a held below l e f =
 
 pub followed-start : (limit n : ℕ) → Followed (start limit n)
 followed-start limit n = subst (λ (j : ℕ). Follows (beds (start limit n).world) j) (sym (weigh_all-idle hands_of n))
-    (record { numbers = []; kept = first; same = λ m. refl; lain = refl })
+    (record { numbers = []; kept = first; same = λ m. refl; lain = refl; roomed = refl })
 
 pub followed : (limit n : ℕ) (ts : List Step) → Followed (run ts (start limit n))
 followed limit n ts = along Followed followed-moves followed-ends ts (start limit n) (good-start limit n)
@@ -289,6 +289,9 @@ agrees s f = record {
       (omega (arith, f.same n, times-apart n f.numbers f.kept.agree.apart)) a b;
   counted = f.lain;
   listed = f.kept.agree.listed;
+  roomed = omega (arith, f.roomed);
+  finds_room = λ t e. omega (arith, f.lain, f.roomed, up-rooms s.world.ticks t e);
+  finds_place = λ t n e q. follows-unlisted s.world t n (weigh_all hands_of s.parties) e q f;
   flag = λ e. ⊎_elim
       (λ (x : flag_of s.world.sleepers ≡ true). ⊎_elim (λ (z : s.world.sleepers.count ≡ 0). inl z)
       (λ (z : length s.world.sleepers.wakers < s.world.sleepers.count). inr (inl z))

@@ -7,7 +7,7 @@ use Rattle.executor_model.specs.Sound.{times}
 use Rattle.executor_model.specs.Weights.{same}
 use Rattle.executor_model.specs.World.{Tick, Up, Lies, Left}
 use Rattle.executor_model.proofs.Lists.{same_is, same_cases}
-use Rattle.executor_model.specs.SleepersAgree.{lies, lying}
+use Rattle.executor_model.specs.SleepersAgree.{lies, lying, room, rooms_of}
 
 abbrev pub lies_at : ℕ → Tick → ℕ
 lies_at n (Lies m) = same n m
@@ -31,6 +31,12 @@ lying-set [] t x h = absurd (omega arith)
 lying-set (y ∷ ts) zero x h = omega arith
 lying-set (y ∷ ts) (suc t) x h = omega (arith, lying-set ts t x (omega arith))
 
+pub rooms-set : (ts : List Tick) (t : ℕ) (x : Tick) → t < length ts →
+    rooms_of (set ts t x) + room (get_or ts t Left) ≡ rooms_of ts + room x
+rooms-set [] t x h = absurd (omega arith)
+rooms-set (y ∷ ts) zero x h = omega arith
+rooms-set (y ∷ ts) (suc t) x h = omega (arith, rooms-set ts t x (omega arith))
+
 pub used-push : (n : ℕ) (ts : List Tick) → used n (ts ++ Up ∷ []) ≡ used n ts
 used-push n [] = refl
 used-push n (y ∷ ts) = omega (arith, used-push n ts)
@@ -38,6 +44,30 @@ used-push n (y ∷ ts) = omega (arith, used-push n ts)
 pub lying-push : (ts : List Tick) → lying (ts ++ Up ∷ []) ≡ lying ts
 lying-push [] = refl
 lying-push (y ∷ ts) = omega (arith, lying-push ts)
+
+pub rooms-push : (ts : List Tick) → rooms_of (ts ++ Up ∷ []) ≡ rooms_of ts + 1
+rooms-push [] = omega arith
+rooms-push (y ∷ ts) = omega (arith, rooms-push ts)
+
+-- who lies has room, and who is up has room beside
+lies-room : (x : Tick) → lies x ≤ room x
+lies-room Up = omega arith
+lies-room (Lies n) = omega arith
+lies-room Left = omega arith
+
+pub lying-rooms : (ts : List Tick) → lying ts ≤ rooms_of ts
+lying-rooms [] = omega arith
+lying-rooms (y ∷ ts) = omega (arith, lies-room y, lying-rooms ts)
+
+up-room : (x : Tick) → x ≡ Up → lies x + 1 ≡ room x
+up-room Up e = omega arith
+up-room (Lies n) e = absurd (cc)
+up-room Left e = absurd (cc)
+
+pub up-rooms : (ts : List Tick) (t : ℕ) → get_or ts t Left ≡ Up → lying ts < rooms_of ts
+up-rooms [] t e = absurd (cc)
+up-rooms (y ∷ ts) zero e = omega (arith, up-room y e, lying-rooms ts)
+up-rooms (y ∷ ts) (suc t) e = omega (arith, lies-room y, up-rooms ts t e)
 
 -- a tick that didn't leave is one of the list
 pub is_tick : (ts : List Tick) (t : ℕ) → get_or ts t Left ≢ Left → t < length ts

@@ -1,5 +1,6 @@
 -- Ticks and sleepers agree, and the flag is true only for a reason.
-use Rattle.std.specs.Prelude.{◌≡◌, ◌⊎◌, ℕ, ◌+◌, ◌<◌, ◌≤◌, true, List, [], ◌∷◌, length}
+use Rattle.std.specs.Prelude.{◌≡◌, ◌⊎◌, ℕ, ◌+◌, ◌<◌, ◌≤◌, true, None, List, [], ◌∷◌, length}
+use Rattle.executor_parts.specs.Sleepers.{position_of}
 use Rattle.executor_model.specs.declared.op.Op.{Op}
 use Rattle.executor_model.specs.declared.op.Op.TheVariants as op
 use Rattle.executor_model.specs.declared.op.SleeperOp.TheVariants as sleeper_op
@@ -22,6 +23,17 @@ abbrev pub lying : List Tick → ℕ
 lying [] = 0
 lying (x ∷ xs) = lies x + lying xs
 
+-- a tick that lives has room to lie down
+abbrev pub room : Tick → ℕ
+room Up = 1
+room (Lies n) = 1
+room Left = 0
+
+-- how many of these ticks have
+abbrev pub rooms_of : List Tick → ℕ
+rooms_of [] = 0
+rooms_of (x ∷ xs) = room x + rooms_of xs
+
 -- a sleeper is notified where its waker is missing from the list
 abbrev pub SomeoneNotified : Machine → Type 0
 SomeoneNotified s = length s.world.sleepers.wakers < s.world.sleepers.count
@@ -31,5 +43,10 @@ pub record SleepersAgree (s : Machine) : Type 0 where
   pub apart : (t u n : ℕ) → tick_of s.world t ≡ Lies n → tick_of s.world u ≡ Lies n → t ≡ u
   pub counted : s.world.sleepers.count ≡ lying s.world.ticks
   pub listed : length s.world.sleepers.wakers ≤ s.world.sleepers.count
+  pub roomed : s.world.sleepers.rooms ≡ rooms_of s.world.ticks
+  -- so a tick that lives finds a place: one that is up finds room, and one that was notified may be listed again
+  pub finds_room : (t : ℕ) → tick_of s.world t ≡ Up → s.world.sleepers.count < s.world.sleepers.rooms
+  pub finds_place : (t n : ℕ) → tick_of s.world t ≡ Lies n → position_of n s.world.sleepers.wakers ≡ None →
+      SomeoneNotified s
   pub flag : s.world.notified ≡ true →
       (s.world.sleepers.count ≡ 0) ⊎ (SomeoneNotified s ⊎ (1 ≤ weigh_all hands_of s.parties))

@@ -98,7 +98,8 @@ pub fn wakes_are_handed_on()
 
 /// Whatever the parties do, no two ticks lie under one number, as many sleep as ticks lie, and there are never
 /// more wakers than sleepers. The flag is true only where nobody sleeps, a sleeper is notified, or a party stands
-/// between its won exchange of the flag and its hand-out.
+/// between its won exchange of the flag and its hand-out. There is as much room as ticks live, so a tick that lives
+/// finds a place: one that is up finds room to lie down in, and one that was notified may be listed again.
 pub fn sleepers_agree()
     ensures { EveryMachine SleepersAgree }
 {}

@@ -6,6 +6,7 @@ pub mod Marks
 pub mod Counting
 pub mod SleepersNext
 pub mod SleepersCounting
+pub mod SleepersCases
 pub mod CountingActs
 pub mod Fitting
 pub mod SleepersFitting

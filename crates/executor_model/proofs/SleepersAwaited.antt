@@ -4,7 +4,6 @@ use Rattle.std.proofs.lemmas.List.{length-set}
 use Rattle.std.specs.Prelude.{Option, Some, None}
 use Rattle.task_moves.specs.Moves as moves
 use Rattle.task_moves.specs.declared.moves.owed.Move.TheVariants as move
-use Rattle.executor_parts.specs.Sleepers.{waker_at, waker_of}
 use Rattle.executor_model.specs.declared.event.Event.TheVariants as event
 use Rattle.executor_model.specs.declared.op.Op.TheVariants as op
 use Rattle.executor_model.specs.declared.op.Polled.TheVariants as of
@@ -15,8 +14,7 @@ use Rattle.executor_model.specs.declared.op.Waker.{Waker}
 use Rattle.executor_model.specs.declared.op.Waker.TheVariants.{Task, Outside}
 use Rattle.executor_model.specs.World.{World, Tick, Up, Lies, Left, log, task}
 use Rattle.executor_model.specs.Acts.{exchange_by, hand_out_by, call_sleeper, make_tick_by, search_by}
-use Rattle.executor_model.specs.Acts.{copy_sleeper_by, lie_anew_by, lie_listed_by, lie_again_by}
-use Rattle.executor_model.specs.Acts.{lie_down_by, get_up_by, leave_sleepers_by}
+use Rattle.executor_model.specs.Acts.{copy_sleeper_by, lie_down_by, get_up_by, leave_sleepers_by}
 use Rattle.executor_model.specs.Weights.{same}
 use Rattle.executor_model.specs.Good.{IsKnownWaker}
 use Rattle.executor_model.specs.Sound.{with_ops, times}
@@ -24,7 +22,8 @@ use Rattle.executor_model.proofs.AwaitedActs.{awaits-wake}
 use Rattle.executor_model.proofs.Cases.{by_bool}
 use Rattle.executor_model.proofs.Counting.{woken_by}
 use Rattle.executor_model.proofs.Lists.{read_put, same_is, times-drop}
-use Rattle.executor_model.proofs.SleepersCounting.{asleep, replaced, gone_up, gone_off}
+use Rattle.executor_model.proofs.SleepersCases.{by_going, LiesDown, lies-down, GetsUp, gets-up, Leaves, leaves}
+use Rattle.executor_model.proofs.SleepersCounting.{asleep}
 use Rattle.executor_model.proofs.Awaited.{KeepsAwaits, Footing, Awaits, with_awaiting, heard-push}
 
 -- telling
@@ -97,67 +96,44 @@ awaits-copy_sleeper false (Task m) t k w e g r yy mm bb h = let z : m < length w
     grind (arith, same_is, read_put, length-set)
 awaits-copy_sleeper false (Outside x) t k w e g r yy mm bb h = grind arith
 
-awaits-lie_anew : (b : Bool) (w : World) (s : Sleeping) →
-    KeepsAwaits w (op.Tick (tick_op.LieDown s) ∷ []) (lie_anew_by b w s)
-awaits-lie_anew = by_bool _
-    (λ w s g r yy mm bb h. grind arith)
-    (λ w s g r yy mm bb h. grind arith)
+awaits-lying : LiesDown KeepsAwaits
+awaits-lying = record {
+  nowhere = λ w s g r yy mm bb h. grind arith;
+  anew = λ w s g r yy mm bb h. grind arith;
+  listed = λ w n s g r yy mm bb h. grind arith;
+  again = λ w n at s. by_going _
+      (λ g r yy mm bb h. grind arith)
+      (λ m u k g r yy mm bb h. grind arith)
+      (λ x u k g r yy mm bb h. grind arith);
+}
 
-awaits-lie_listed : (b : Bool) (w : World) (n : ℕ) (s : Sleeping) →
-    KeepsAwaits w (op.Tick (tick_op.LieDown s) ∷ []) (lie_listed_by b w n s)
-awaits-lie_listed = by_bool _
-    (λ w n s g r yy mm bb h. grind arith)
-    (λ w n s g r yy mm bb h. grind arith)
+pub awaits-lie_down : (x : Tick) (w : World) (s : Sleeping) →
+    KeepsAwaits w (op.Tick (tick_op.LieDown s) ∷ []) (lie_down_by x w s)
+awaits-lie_down = lies-down KeepsAwaits awaits-lying
 
-awaits-replaced_with : (a : Waker) (u k : ℕ) (w : World) (n at : ℕ) (s : Sleeping) →
-    KeepsAwaits w (op.Tick (tick_op.LieDown s) ∷ []) (replaced (Some (asleep a u k)) w n at s)
-awaits-replaced_with (Task m) u k w n at s g r yy mm bb h = grind arith
-awaits-replaced_with (Outside x) u k w n at s g r yy mm bb h = grind arith
-
-awaits-replaced : (old : Option Sleeping) (w : World) (n at : ℕ) (s : Sleeping) →
-    KeepsAwaits w (op.Tick (tick_op.LieDown s) ∷ []) (replaced old w n at s)
-awaits-replaced None w n at s g r yy mm bb h = grind arith
-awaits-replaced (Some o) w n at s g r yy mm bb h = awaits-replaced_with o.waker o.tick o.poll w n at s g r yy mm bb h
-
-awaits-lie_again : (o : Option ℕ) (w : World) (n : ℕ) (s : Sleeping) →
-    KeepsAwaits w (op.Tick (tick_op.LieDown s) ∷ []) (lie_again_by o w n s)
-awaits-lie_again None w n s = awaits-lie_listed _ w n s
-awaits-lie_again (Some at) w n s = awaits-replaced (waker_at (Some at) w.sleepers.wakers) w n at s
-
-pub awaits-lie_down : (t : Tick) (w : World) (s : Sleeping) →
-    KeepsAwaits w (op.Tick (tick_op.LieDown s) ∷ []) (lie_down_by t w s)
-awaits-lie_down Up w s = awaits-lie_anew _ w s
-awaits-lie_down (Lies n) w s = awaits-lie_again _ w n s
-awaits-lie_down Left w s = λ g r yy mm bb h. grind arith
-
-awaits-gone_up_with : (a : Waker) (u k : ℕ) (w : World) (n t f : ℕ) →
-    KeepsAwaits w (op.Tick (tick_op.GetUp t f) ∷ []) (gone_up (Some (asleep a u k)) w n t f)
-awaits-gone_up_with (Task m) u k w n t f g r yy mm bb h = grind arith
-awaits-gone_up_with (Outside x) u k w n t f g r yy mm bb h = grind arith
-
-awaits-gone_up : (old : Option Sleeping) (w : World) (n t f : ℕ) →
-    KeepsAwaits w (op.Tick (tick_op.GetUp t f) ∷ []) (gone_up old w n t f)
-awaits-gone_up None w n t f g r yy mm bb h = grind arith
-awaits-gone_up (Some o) w n t f g r yy mm bb h = awaits-gone_up_with o.waker o.tick o.poll w n t f g r yy mm bb h
+awaits-rising : GetsUp KeepsAwaits
+awaits-rising = record {
+  up = λ w t f g r yy mm bb h. grind arith;
+  lay = λ w n t f. by_going _
+      (λ g r yy mm bb h. grind arith)
+      (λ m u k g r yy mm bb h. grind arith)
+      (λ x u k g r yy mm bb h. grind arith);
+}
 
 pub awaits-get_up : (x : Tick) (w : World) (t f : ℕ) →
     KeepsAwaits w (op.Tick (tick_op.GetUp t f) ∷ []) (get_up_by x w t f)
-awaits-get_up Up w t f = λ g r yy mm bb h. grind arith
-awaits-get_up (Lies n) w t f = awaits-gone_up (waker_of n w.sleepers.wakers) w n t f
-awaits-get_up Left w t f = λ g r yy mm bb h. grind arith
+awaits-get_up = gets-up KeepsAwaits awaits-rising
 
-awaits-gone_off_with : (a : Waker) (u k : ℕ) (w : World) (n t : ℕ) →
-    KeepsAwaits w (op.Tick (tick_op.Leave t) ∷ []) (gone_off (Some (asleep a u k)) w n t)
-awaits-gone_off_with (Task m) u k w n t g r yy mm bb h = grind arith
-awaits-gone_off_with (Outside x) u k w n t g r yy mm bb h = grind arith
-
-awaits-gone_off : (old : Option Sleeping) (w : World) (n t : ℕ) →
-    KeepsAwaits w (op.Tick (tick_op.Leave t) ∷ []) (gone_off old w n t)
-awaits-gone_off None w n t g r yy mm bb h = grind arith
-awaits-gone_off (Some o) w n t g r yy mm bb h = awaits-gone_off_with o.waker o.tick o.poll w n t g r yy mm bb h
+awaits-leaving : Leaves KeepsAwaits
+awaits-leaving = record {
+  up = λ w t g r yy mm bb h. grind arith;
+  left = λ w t g r yy mm bb h. grind arith;
+  lay = λ w n t. by_going _
+      (λ g r yy mm bb h. grind arith)
+      (λ m u k g r yy mm bb h. grind arith)
+      (λ x u k g r yy mm bb h. grind arith);
+}
 
 pub awaits-leave_sleepers : (x : Tick) (w : World) (t : ℕ) →
     KeepsAwaits w (op.Tick (tick_op.Leave t) ∷ []) (leave_sleepers_by x w t)
-awaits-leave_sleepers Up w t = λ g r yy mm bb h. grind arith
-awaits-leave_sleepers (Lies n) w t = awaits-gone_off (waker_of n w.sleepers.wakers) w n t
-awaits-leave_sleepers Left w t = λ g r yy mm bb h. grind arith
+awaits-leave_sleepers = leaves KeepsAwaits awaits-leaving

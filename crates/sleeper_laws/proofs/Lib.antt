@@ -3,6 +3,7 @@ pub mod Listed
 pub mod Stands
 pub mod Beside
 pub mod StandsWorlds
+pub mod StandsNothing
 pub mod StandsOwn
 pub mod StandsLying
 pub mod StandsActs

@@ -36,8 +36,9 @@ use Rattle.sleeper_laws.proofs.Beside.{Beside, beside-move}
 use Rattle.sleeper_laws.proofs.Listed.{Entry, sum, entry_of, kept_of, astray}
 use Rattle.sleeper_laws.proofs.Listed.{misplaced_of, at_entry, sum-last, sum-risen}
 use Rattle.sleeper_laws.proofs.Stands.{View, view, Doing, Stands, KeepsStands, Nothing, keeps-same, with-nothing}
-use Rattle.sleeper_laws.proofs.StandsOwn.{own-call, own-front, own-hand_out, own-leave, own-made, own-up, nothing-up}
-use Rattle.sleeper_laws.proofs.StandsOwn.{nothing-leave, nothing-call, nothing-end, nothing-both, nothing-of}
+use Rattle.sleeper_laws.proofs.StandsNothing.{nothing-up, nothing-leave, nothing-call, nothing-end, nothing-both}
+use Rattle.sleeper_laws.proofs.StandsNothing.{nothing-of}
+use Rattle.sleeper_laws.proofs.StandsOwn.{own-call, own-front, own-hand_out, own-leave, own-made, own-up}
 use Rattle.sleeper_laws.proofs.StandsWorlds.{Lay, other-entry, other-kept, other-misplaced, risen-own, view-same}
 use Rattle.sleeper_laws.proofs.StandsWorlds.{misplaced-few, entries-astray, eqb-self, same-other, eqb-other, cond-other}
 use Rattle.sleeper_laws.proofs.Watched.{Watched, watched, watched-push}

@@ -24,8 +24,8 @@ use Rattle.executor_model.proofs.SleepersCounting.{asleep}
 use Rattle.sleeper_laws.proofs.Beside.{Beside, besides, ticks_of}
 use Rattle.sleeper_laws.proofs.Stands.{View, view, Doing, with_doing, Footing, Stands}
 use Rattle.sleeper_laws.proofs.Stands.{Mark, KeepsBy, with-nothing, asks_of}
-use Rattle.sleeper_laws.proofs.StandsOwn.{nothing-of, nothing-search, nothing-leave, own-polled}
-use Rattle.sleeper_laws.proofs.StandsOwn.{own-dropped, Ended, own-within, own-apart, own-ended}
+use Rattle.sleeper_laws.proofs.StandsNothing.{nothing-of, nothing-search, nothing-leave}
+use Rattle.sleeper_laws.proofs.StandsOwn.{own-polled, own-dropped, Ended, own-within, own-apart, own-ended}
 use Rattle.sleeper_laws.proofs.StandsWorlds.{eqb-self, eqb-other}
 use Rattle.sleeper_laws.proofs.Watched.{Watched, is_pending, is_refusal, poll_begun, ended_in, watched, watched-push}
 

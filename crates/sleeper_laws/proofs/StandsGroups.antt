@@ -21,7 +21,7 @@ use Rattle.sleeper_laws.proofs.Stands.{KeepsStands, keeps-same}
 use Rattle.sleeper_laws.proofs.StandsActs.{stands-get_up, stands-leave, stands-hand_out}
 use Rattle.sleeper_laws.proofs.StandsActs.{stands-call, stands-make, stands-copy_waker}
 use Rattle.sleeper_laws.proofs.StandsLying.{stands-search, stands-copy, stands-lie_down}
-use Rattle.sleeper_laws.proofs.StandsOwn.{nothing-of}
+use Rattle.sleeper_laws.proofs.StandsNothing.{nothing-of}
 use Rattle.sleeper_laws.proofs.StandsWorlds.{Lay}
 
 -- what is done

@@ -26,9 +26,9 @@ use Rattle.executor_model.proofs.TickLists.{up-is, same_self}
 use Rattle.sleeper_laws.proofs.Listed.{Entry, sum, entry_of, kept_of, astray, misplaced_of}
 use Rattle.sleeper_laws.proofs.Listed.{at_entry, sum-push, sum-set, entry-in}
 use Rattle.sleeper_laws.proofs.Stands.{View, view, with_doing, Stands, KeepsStands, Nothing, keeps-same}
+use Rattle.sleeper_laws.proofs.StandsNothing.{nothing-search, nothing-copy, nothing-lie, nothing-up, nothing-call}
+use Rattle.sleeper_laws.proofs.StandsNothing.{nothing-end, nothing-both, nothing-of}
 use Rattle.sleeper_laws.proofs.StandsOwn.{own-anew, own-again, own-found, own-front, own-nowhere, own-rising}
-use Rattle.sleeper_laws.proofs.StandsOwn.{nothing-search, nothing-copy, nothing-lie, nothing-up}
-use Rattle.sleeper_laws.proofs.StandsOwn.{nothing-call, nothing-end, nothing-both, nothing-of}
 use Rattle.sleeper_laws.proofs.StandsWorlds.{Lay, OwnEntry, own-entry, none-own, view-same, misplaced-few}
 use Rattle.sleeper_laws.proofs.StandsWorlds.{entries-astray, eqb-self, same-other, cond-other, cond-self}
 

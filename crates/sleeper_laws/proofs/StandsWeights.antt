@@ -1,6 +1,6 @@
 -- What the stacks weigh in the counts of a tick.
 use Rattle.std.proofs.Common.{◌≡◌, ℕ, zero, suc, ◌+◌, ◌<◌, ◌≤◌, List, [], ◌∷◌, ◌++◌, length, get_or}
-use Rattle.std.proofs.Common.{set, Bool, true, false, cond, eqb, refl, arith}
+use Rattle.std.proofs.Common.{set, refl, arith}
 use Rattle.std.specs.Prelude.{reverse}
 use Rattle.executor_model.specs.declared.op.Hold.{Hold}
 use Rattle.executor_model.specs.declared.op.Hold.TheVariants as hold
@@ -13,22 +13,11 @@ use Rattle.executor_model.specs.Weights.{same, weigh, weigh_all, holds_tick}
 use Rattle.executor_model.proofs.Calls.{calling_of}
 use Rattle.executor_model.proofs.Lift.{split, weigh_all-idle}
 use Rattle.executor_model.proofs.Lists.{same_is, weigh_all-push}
-use Rattle.executor_model.proofs.Telling.{same-cond}
 use Rattle.sleeper_laws.proofs.Stands.{early_of, pends_of, refused_of, found_of, drops_of, ends_of, lending_of}
 use Rattle.sleeper_laws.proofs.Stands.{strays_of, calls_of, asks_of, Doing, with_doing, doing, Footing}
-use Rattle.sleeper_laws.proofs.StandsOwn.{end-parts}
+use Rattle.sleeper_laws.proofs.StandsNothing.{end-parts, stages-one, few-one}
 
 -- each stage uses the tick
-
-stages-one : (t : ℕ) (o : Op) →
-    early_of t o + (pends_of t o + (refused_of t o + (found_of t o + (drops_of t o + ends_of t o)))) ≤ ticking_of t o
-stages-one t (op.Tick (tick_op.Search s)) = omega arith
-stages-one t (op.Tick (tick_op.CopyWaker s)) = omega arith
-stages-one t (op.Tick (tick_op.LieDown s)) = omega arith
-stages-one t (op.Tick (tick_op.GetUp u f)) = omega arith
-stages-one t (op.Tick (tick_op.Leave u)) = omega arith
-stages-one t (op.End r held) = omega (arith, end-parts t r (holds_tick t held))
-stages-one t _ = omega arith
 
 stages-stack : (t : ℕ) (os : List Op) →
     weigh (early_of t) os + (weigh (pends_of t) os +
@@ -44,18 +33,6 @@ stages-all : (t : ℕ) (ss : List (List Op)) →
     (ticking_of t) ss
 stages-all t [] = omega arith
 stages-all t (s ∷ ss) = omega (arith, stages-stack t s, stages-all t ss)
-
-one-stray : (b c : Bool) (n : ℕ) → n ≡ cond b 1 0 → cond b (cond c 0 1) 0 ≤ n
-one-stray true true n e = omega arith
-one-stray true false n e = omega (arith, e)
-one-stray false c n e = omega arith
-
-few-one : (t k : ℕ) (o : Op) → strays_of t k o ≤ early_of t o
-few-one t k (op.Tick (tick_op.Search s)) = one-stray (eqb t s.tick) (eqb k s.poll) (same t s.tick) (same-cond t s.tick)
-few-one t k (op.Tick (tick_op.CopyWaker s)) =
-    one-stray (eqb t s.tick) (eqb k s.poll) (same t s.tick) (same-cond t s.tick)
-few-one t k (op.Tick (tick_op.LieDown s)) = one-stray (eqb t s.tick) (eqb k s.poll) (same t s.tick) (same-cond t s.tick)
-few-one t k _ = omega arith
 
 few-stack : (t k : ℕ) (os : List Op) → weigh (strays_of t k) os ≤ weigh (early_of t) os
 few-stack t k [] = omega arith

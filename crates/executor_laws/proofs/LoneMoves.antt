@@ -4,13 +4,11 @@ use Rattle.std.proofs.Common.{◌≡◌, ℕ, List, [], ◌∷◌, ◌++◌, Boo
 use Rattle.std.proofs.Common.{sym, ap, ◌∙◌, append-nil, append_assoc}
 use Rattle.std.specs.Prelude.{Option, Some, None}
 use Rattle.task_moves.specs.declared.moves.owed.Move.TheVariants as move
-use Rattle.task_moves.specs.declared.moves.owed.Owed.{Owed}
 use Rattle.task_moves.specs.declared.moves.owed.Moved.{Moved}
 use Rattle.task_moves.specs.Moves as moves
 use Rattle.executor_model.specs.declared.event.Answer.TheVariants as answer
 use Rattle.executor_model.specs.declared.event.Event.{Event}
 use Rattle.executor_model.specs.declared.event.Event.TheVariants as event
-use Rattle.executor_model.specs.declared.op.Awaiter.{Awaiter}
 use Rattle.executor_model.specs.declared.op.Waker.{Waker}
 use Rattle.executor_model.specs.declared.op.Waker.TheVariants.{Task, Outside}
 use Rattle.executor_model.specs.declared.op.Op.{Op}
@@ -31,12 +29,12 @@ use Rattle.executor_model.specs.declared.step.UserEnd.{UserEnd}
 use Rattle.executor_model.specs.declared.step.UserEnd.TheVariants as end
 use Rattle.executor_model.specs.Trace.{Trace}
 use Rattle.executor_model.specs.World.{World, Done, done, log, log_if, task, put, among, awaiter_of}
-use Rattle.executor_model.specs.Carried.{owed_ops, carried}
-use Rattle.executor_model.specs.Acts.{append_by, leave_by, waker_goes, notify_by, told, exchange_by}
+use Rattle.executor_model.specs.Carried.{carried}
+use Rattle.executor_model.specs.Acts.{append_by, leave_by, notify_by, exchange_by}
 use Rattle.executor_model.specs.Acts.{hand_out_by, call_waker, sleeper_act, act}
 use Rattle.executor_model.specs.Steps.{waits, accepts, react}
 use Rattle.executor_model.specs.Weights.{weigh}
-use Rattle.executor_model.proofs.Owed.{owed-future, owed-awaiter, owed-nothing}
+use Rattle.executor_model.proofs.Asides.{Aside, aside-owed, aside-told}
 
 -- what belongs to no such call whose future is taken
 abbrev pub stray_of : Op → ℕ
@@ -67,27 +65,16 @@ pub record Inner (w : World) (d : Done) : Type 0 where
   pub trace : d.world.trace ≡ w.trace ++ events
   pub there : d.world.gone ≡ w.gone
 
-of-owed : (f : ℕ) (there : Bool) (o : Owed) → weigh stray_of (owed_ops there f o) ≡ 0
-of-owed f there o = owed-nothing stray_of f
-    (record {
-      append = refl;
-      output = refl;
-      release = refl;
-      settle_closed = refl;
-      give_up = refl;
-      end_closed = refl;
-      detach = refl;
-    }) there o (owed-future stray_of f (record { poll = refl; drop = refl }) there o.future)
-    (owed-awaiter stray_of f (record { notify = λ m. refl }) o.awaiter)
-
-of-goes : (a : Waker) → weigh stray_of (waker_goes a) ≡ 0
-of-goes (Task k) = refl
-of-goes (Outside x) = refl
-
-of-told : (b : Bool) (f : ℕ) (a : Option Awaiter) → weigh stray_of (told b f a) ≡ 0
-of-told b f None = refl
-of-told true f (Some a) = of-goes a.waker
-of-told false f (Some a) = refl
+no-stray : Aside stray_of
+no-stray = record {
+  move = λ m f. refl;
+  append = λ f. refl;
+  poll = λ f. refl;
+  drop = λ f. refl;
+  output = λ f. refl;
+  notify = λ f mine. refl;
+  call = λ f a k. refl;
+}
 
 -- queue, trace and the executor stay
 still : (w v : World) (next : List Op) → v.queue ≡ w.queue → v.trace ≡ w.trace → v.gone ≡ w.gone →
@@ -118,10 +105,12 @@ logged w v e next q t g z = record {
 }
 
 pub inner-carried : (w : World) (f : ℕ) (m : Moved) → Inner w (carried w f m)
-inner-carried w f m = still w (put w f m.state) _ refl refl refl (of-owed f (among f w.table) m.owed)
+inner-carried w f m = still w (put w f m.state) _ refl refl refl
+    (aside-owed stray_of no-stray f (among f w.table) m.owed)
 
 inner-logged : (b : Bool) (w : World) (e : Event) (f : ℕ) (m : Moved) → Inner w (carried (log_if b w e) f m)
-inner-logged true w e f m = logged w (put (log w e) f m.state) e _ refl refl refl (of-owed f (among f w.table) m.owed)
+inner-logged true w e f m =
+    logged w (put (log w e) f m.state) e _ refl refl refl (aside-owed stray_of no-stray f (among f w.table) m.owed)
 inner-logged false w e f m = inner-carried w f m
 
 -- after an event
@@ -189,7 +178,8 @@ inner-act p h (op.User (user_op.BeginDrop f)) w n z = logged w _ (event.Dropped 
 inner-act p h (op.Table (table_op.LeaveTable f)) w n z = inner-leave _ w f
 inner-act p h (op.User (user_op.BeginDropOutput f)) w n z = logged w _ (event.OutputDropped p f) _ refl refl refl refl
 inner-act p h (op.Handle (handle_op.Notify f mine)) w n z = inner-notify _ w f mine
-inner-act p h (op.Handle (handle_op.EndNotify f mine)) w n z = still w _ _ refl refl refl (of-told _ f (awaiter_of w f))
+inner-act p h (op.Handle (handle_op.EndNotify f mine)) w n z =
+    still w _ _ refl refl refl (aside-told stray_of no-stray _ f (awaiter_of w f))
 inner-act p h (op.Waker (waker_op.CallAwaiter f a k)) w n z = inner-call p w (of.Handle f) a k
 inner-act p h (op.Sleeper o) w n z = inner-sleeper p o w
 inner-act p h (op.Tick o) w n z = absurd (cc)

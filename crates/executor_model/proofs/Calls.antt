@@ -4,15 +4,13 @@ use Rattle.std.proofs.Common.{◌≡◌, ℕ, ◌+◌, List, [], ◌∷◌, ◌+
 use Rattle.std.proofs.Common.{Bool, true, false, cond, refl, sym, ap, ◌∙◌, arith}
 use Rattle.std.proofs.lemmas.List.Sums.{sum_by_push}
 use Rattle.std.specs.Prelude.{Option, Some, None, count_by}
-use Rattle.task_moves.specs.declared.moves.owed.Move.TheVariants as move
-use Rattle.task_moves.specs.declared.moves.owed.AwaiterDebt.{AwaiterDebt}
-use Rattle.task_moves.specs.declared.moves.owed.Answer.{Answer}
 use Rattle.task_moves.specs.declared.moves.owed.Owed.{Owed}
+use Rattle.task_moves.specs.declared.moves.owed.Move.TheVariants as move
+use Rattle.task_moves.specs.declared.moves.owed.Answer.{Answer}
 use Rattle.task_moves.specs.declared.moves.owed.Moved.{Moved}
 use Rattle.task_moves.specs.Moves as moves
 use Rattle.executor_model.specs.declared.event.Event.{Event}
 use Rattle.executor_model.specs.declared.event.Event.TheVariants as event
-use Rattle.executor_model.specs.declared.op.Awaiter.{Awaiter}
 use Rattle.executor_model.specs.declared.op.Waker.{Waker}
 use Rattle.executor_model.specs.declared.op.Waker.TheVariants.{Task, Outside}
 use Rattle.executor_model.specs.declared.op.Hold.{Hold}
@@ -31,11 +29,11 @@ use Rattle.executor_model.specs.Quiet.{begins_call, ends_call}
 use Rattle.executor_model.specs.World.{World, Done, log, log_if, task, put, awaiter_of}
 use Rattle.executor_model.specs.Carried.{owed_ops, awaiter_ops}
 use Rattle.executor_model.specs.Acts.{append_by, take_by, enter_by, leave_by, copy_by, look_by, look_again_by}
-use Rattle.executor_model.specs.Acts.{copy_awaiter_by, register_by, waker_goes, let_go, end_register_by, notify_by}
-use Rattle.executor_model.specs.Acts.{told, call_awaiter, closing_ops, drop_next_by, wake, wake_next_by, drain_by}
+use Rattle.executor_model.specs.Acts.{copy_awaiter_by, register_by, let_go, end_register_by, notify_by}
+use Rattle.executor_model.specs.Acts.{call_awaiter, closing_ops, drop_next_by, wake, wake_next_by, drain_by}
 use Rattle.executor_model.specs.Weights.{same, weigh}
 use Rattle.executor_model.proofs.Lists.{weigh-append}
-use Rattle.executor_model.proofs.Owed.{owed-future, owed-awaiter, owed-nothing}
+use Rattle.executor_model.proofs.Asides.{Aside, aside-awaiter, aside-owed, aside-let_go, aside-closing}
 use Rattle.executor_model.proofs.Telling.{same-cond}
 
 -- what has still to answer its call
@@ -151,39 +149,19 @@ then xs x z c = record { front = xs; last = x; is = refl; none = z; call = c }
 pub none-both : (xs ys : List Op) → weigh calling_of xs ≡ 0 → weigh calling_of ys ≡ 0 → weigh calling_of (xs ++ ys) ≡ 0
 none-both xs ys a b = omega (arith, weigh-append calling_of xs ys, a, b)
 
-none-awaiter : (f : ℕ) (o : Option AwaiterDebt) → weigh calling_of (awaiter_ops f o) ≡ 0
-none-awaiter f o = owed-awaiter calling_of f (record { notify = λ m. refl }) o
+pub no-call : Aside calling_of
+no-call = record {
+  move = λ m f. refl;
+  append = λ f. refl;
+  poll = λ f. refl;
+  drop = λ f. refl;
+  output = λ f. refl;
+  notify = λ f mine. refl;
+  call = λ f a k. refl;
+}
 
 pub none-owed : (f : ℕ) (there : Bool) (o : Owed) → weigh calling_of (owed_ops there f o) ≡ 0
-none-owed f there o = owed-nothing calling_of f
-    (record {
-      append = refl;
-      output = refl;
-      release = refl;
-      settle_closed = refl;
-      give_up = refl;
-      end_closed = refl;
-      detach = refl;
-    }) there o (owed-future calling_of f (record { poll = refl; drop = refl }) there o.future)
-    (none-awaiter f o.awaiter)
-
-none-goes : (a : Waker) → weigh calling_of (waker_goes a) ≡ 0
-none-goes (Task k) = refl
-none-goes (Outside x) = refl
-
-none-let_go : (a : Option Awaiter) → weigh calling_of (let_go a) ≡ 0
-none-let_go None = refl
-none-let_go (Some a) = none-goes a.waker
-
-pub none-told : (b : Bool) (f : ℕ) (a : Option Awaiter) → weigh calling_of (told b f a) ≡ 0
-none-told b f None = refl
-none-told true f (Some a) = none-goes a.waker
-none-told false f (Some a) = refl
-
-pub none-closing : (ls ws : List ℕ) → weigh calling_of (closing_ops ls ws) ≡ 0
-none-closing [] [] = refl
-none-closing [] (x ∷ ws) = refl
-none-closing (x ∷ ls) ws = refl
+none-owed f there o = aside-owed calling_of no-call f there o
 
 -- each thing to do, but for the end of a call
 
@@ -221,7 +199,7 @@ calls-answered (Some x) p w v f a m =
     answers w _ _ refl (steady-and w (put (log w (event.HandlePolled p f)) f m.state) _
     (steady-log w _ (event.HandlePolled p f) refl (λ q. refl) (λ q. refl))
     (steady-log_if _ (put (log w (event.HandlePolled p f)) f m.state) _ (event.OutputGiven p f) refl (λ q. refl)
-    (λ q. refl))) (then (awaiter_ops f m.owed.awaiter) _ (none-awaiter f m.owed.awaiter) refl)
+    (λ q. refl))) (then (awaiter_ops f m.owed.awaiter) _ (aside-awaiter calling_of no-call f m.owed.awaiter) refl)
 
 pub calls-again : (x k c : Bool) (p : ℕ) (w : World) (f : ℕ) →
     Calls w (op.Handle (handle_op.LookAgain f))
@@ -232,7 +210,8 @@ calls-again true false c p w f =
 calls-again false k false p w f = answers w _ _ refl (steady-same _ _ refl) (single _ refl)
 calls-again false k true p w f =
     answers w _ _ refl (steady-log _ _ (event.OutputGiven p f) refl (λ q. refl) (λ q. refl))
-    (then (awaiter_ops f (moves.look_again_by false k true (task w f)).owed.awaiter) _ (none-awaiter f _) refl)
+    (then (awaiter_ops f (moves.look_again_by false k true (task w f)).owed.awaiter) _
+    (aside-awaiter calling_of no-call f _) refl)
 
 pub calls-copy_awaiter : (b : Bool) (p : ℕ) (w : World) (f : ℕ) (a : Waker) →
     Calls w (op.Handle (handle_op.CopyAwaiter f a)) (copy_awaiter_by b p w f a)
@@ -253,9 +232,10 @@ pub calls-end_register : (b : Bool) (w : World) (f : ℕ) (a : Waker) (k : ℕ) 
 calls-end_register true w f a k =
     answers w _ _ refl (steady-same _ _ refl)
     (then (op.Waker (waker_op.CallAwaiter f a k) ∷ let_go (awaiter_of w f)) _
-    (omega (arith, none-let_go (awaiter_of w f))) refl)
+    (omega (arith, aside-let_go calling_of no-call (awaiter_of w f))) refl)
 calls-end_register false w f a k =
-    answers w _ _ refl (steady-same _ _ refl) (then (let_go (awaiter_of w f)) _ (none-let_go (awaiter_of w f)) refl)
+    answers w _ _ refl (steady-same _ _ refl)
+    (then (let_go (awaiter_of w f)) _ (aside-let_go calling_of no-call (awaiter_of w f)) refl)
 
 pub calls-notify : (b : Bool) (w : World) (f : ℕ) (mine : Bool) →
     Calls w (op.Handle (handle_op.Notify f mine)) (notify_by b w f mine)
@@ -282,7 +262,7 @@ calls-call p w f (Outside x) k =
 pub calls-drop_next : (p : ℕ) (w : World) (ls : List ℕ) → Calls w (op.Closing closing_op.DropNext) (drop_next_by p w ls)
 calls-drop_next p w [] = inside w _ _ refl (steady-same _ _ refl) refl
 calls-drop_next p w (f ∷ rest) = inside w _ _ refl (steady-log _ _ (event.Dropped p f) refl (λ q. refl) (λ q. refl))
-    (omega (arith, none-closing rest (w.waking ++ f ∷ [])))
+    (omega (arith, aside-closing calling_of (λ o. refl) rest (w.waking ++ f ∷ [])))
 
 pub calls-wake_next : (p : ℕ) (w : World) (ws : List ℕ) → Calls w (op.Closing closing_op.WakeNext) (wake_next_by p w ws)
 calls-wake_next p w [] = inside w _ _ refl (steady-same _ _ refl) refl
@@ -290,7 +270,7 @@ calls-wake_next p w (f ∷ rest) =
     inside w _ _ refl (steady-and w (record w { waking = rest }) _ (steady-same w (record w { waking = rest }) refl)
     (steady-wake p (record w { waking = rest }) f))
     (none-both (wake p (record w { waking = rest }) f).next (closing_ops [] rest)
-    (none-wake p (record w { waking = rest }) f) (none-closing [] rest))
+    (none-wake p (record w { waking = rest }) f) (aside-closing calling_of (λ o. refl) [] rest))
 
 pub calls-drain : (p : ℕ) (w : World) (q : List ℕ) → Calls w (op.Closing closing_op.Drain) (drain_by p w q)
 calls-drain p w [] = inside w _ _ refl (steady-log _ _ (event.DropEnded p) refl (λ q. refl) (λ q. refl)) refl

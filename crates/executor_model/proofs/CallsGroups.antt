@@ -17,7 +17,8 @@ use Rattle.executor_model.specs.Acts.{act}
 use Rattle.executor_model.proofs.Calls.{is_end, Calls, answers, calls-again, calls-answered, calls-append, calls-call}
 use Rattle.executor_model.proofs.Calls.{calls-copy, calls-copy_awaiter, calls-drain, calls-drop_next}
 use Rattle.executor_model.proofs.Calls.{calls-end_register, calls-enter, calls-leave, calls-notify, calls-register}
-use Rattle.executor_model.proofs.Calls.{calls-take, calls-wake_next, inside, none-closing, none-owed, none-told}
+use Rattle.executor_model.proofs.Asides.{aside-told, aside-closing}
+use Rattle.executor_model.proofs.Calls.{calls-take, calls-wake_next, inside, no-call, none-owed, calling_of}
 use Rattle.executor_model.proofs.Calls.{none-wake, single, steady-log, steady-log_if, steady-same, steady-wake}
 use Rattle.executor_model.proofs.SleepersCalls.{calls-sleeper, calls-tick}
 
@@ -67,12 +68,12 @@ calls-act p h (op.Handle (handle_op.EndRegister f a k)) w n = calls-end_register
 calls-act p h (op.Handle (handle_op.LookAgain f)) w n = calls-again _ _ _ p w f
 calls-act p h (op.Handle (handle_op.Notify f mine)) w n = calls-notify _ w f mine
 calls-act p h (op.Handle (handle_op.EndNotify f mine)) w n =
-    inside w _ _ refl (steady-same _ _ refl) (none-told _ f (awaiter_of w f))
+    inside w _ _ refl (steady-same _ _ refl) (aside-told calling_of no-call _ f (awaiter_of w f))
 calls-act p h (op.Waker (waker_op.CallAwaiter f a k)) w n = calls-call p w f a k
 calls-act p h (op.Sleeper o) w n = calls-sleeper p o w
 calls-act p h (op.Tick o) w n = calls-tick h o w
 calls-act p h (op.Closing closing_op.TakeOut) w n =
-    inside w _ _ refl (steady-same _ _ refl) (none-closing w.table w.waking)
+    inside w _ _ refl (steady-same _ _ refl) (aside-closing calling_of (λ o. refl) w.table w.waking)
 calls-act p h (op.Closing closing_op.DropNext) w n = calls-drop_next p w w.leaving
 calls-act p h (op.Closing closing_op.WakeNext) w n = calls-wake_next p w w.waking
 calls-act p h (op.Closing closing_op.Drain) w n = calls-drain p w w.queue.items

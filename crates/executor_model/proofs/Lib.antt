@@ -1,6 +1,7 @@
 pub mod Cases
 pub mod Lists
 pub mod Owed
+pub mod Asides
 pub mod SleepersLists
 pub mod Marks
 pub mod Counting

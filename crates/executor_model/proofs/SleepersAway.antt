@@ -4,14 +4,11 @@ use Rattle.std.specs.Prelude.{Option, Some, None}
 use Rattle.executor_parts.specs.Sleepers.{Sleepers}
 use Rattle.task_moves.specs.Moves as moves
 use Rattle.task_moves.specs.declared.moves.owed.Answer.{Answer}
-use Rattle.task_moves.specs.declared.moves.owed.AwaiterDebt.{AwaiterDebt}
 use Rattle.task_moves.specs.declared.moves.owed.Move.{Move}
 use Rattle.task_moves.specs.declared.moves.owed.Move.TheVariants as move
 use Rattle.task_moves.specs.declared.moves.owed.Moved.{Moved}
-use Rattle.task_moves.specs.declared.moves.owed.Owed.{Owed}
 use Rattle.executor_model.specs.declared.event.Event.{Event}
 use Rattle.executor_model.specs.declared.event.Event.TheVariants as event
-use Rattle.executor_model.specs.declared.op.Awaiter.{Awaiter}
 use Rattle.executor_model.specs.declared.op.Hold.{Hold}
 use Rattle.executor_model.specs.declared.op.Op.{Op}
 use Rattle.executor_model.specs.declared.op.Op.TheVariants as op
@@ -29,11 +26,11 @@ use Rattle.executor_model.specs.declared.op.WakerOp.TheVariants as waker_op
 use Rattle.executor_model.specs.declared.step.Hint.{Hint}
 use Rattle.executor_model.specs.Acts as acts
 use Rattle.executor_model.specs.Acts.{act}
-use Rattle.executor_model.specs.Carried.{carried, owed_ops, awaiter_ops}
+use Rattle.executor_model.specs.Carried.{carried, awaiter_ops}
 use Rattle.executor_model.specs.Weights.{weigh}
 use Rattle.executor_model.specs.World.{World, Tick, Done, log, log_if, task, put, among, awaiter_of}
 use Rattle.executor_model.proofs.Lists.{weigh-append}
-use Rattle.executor_model.proofs.Owed.{owed-future, owed-awaiter, owed-nothing}
+use Rattle.executor_model.proofs.Asides.{Aside, aside-awaiter, aside-owed, aside-let_go, aside-told, aside-closing}
 use Rattle.executor_model.specs.SleepersAgree.{hands_of}
 
 -- ticks, sleepers and the flag
@@ -61,21 +58,16 @@ away w d b q h = record { beds = b; hands = h; queue = same-queue w d.world q }
 no-hands-both : (xs ys : List Op) → weigh hands_of xs ≡ 0 → weigh hands_of ys ≡ 0 → weigh hands_of (xs ++ ys) ≡ 0
 no-hands-both xs ys a b = omega (arith, weigh-append hands_of xs ys, a, b)
 
-no-hands-awaiter : (f : ℕ) (o : Option AwaiterDebt) → weigh hands_of (awaiter_ops f o) ≡ 0
-no-hands-awaiter f o = owed-awaiter hands_of f (record { notify = λ m. refl }) o
-
-no-hands-owed : (f : ℕ) (there : Bool) (o : Owed) → weigh hands_of (owed_ops there f o) ≡ 0
-no-hands-owed f there o =
-    owed-nothing hands_of f (record {
-      append = refl;
-      output = refl;
-      release = refl;
-      settle_closed = refl;
-      give_up = refl;
-      end_closed = refl;
-      detach = refl;
-    }) there o (owed-future hands_of f (record { poll = refl; drop = refl }) there o.future)
-    (no-hands-awaiter f o.awaiter)
+no-hands : Aside hands_of
+no-hands = record {
+  move = λ m f. refl;
+  append = λ f. refl;
+  poll = λ f. refl;
+  drop = λ f. refl;
+  output = λ f. refl;
+  notify = λ f mine. refl;
+  call = λ f a k. refl;
+}
 
 beds-log_if : (b : Bool) (w : World) (e : Event) → beds w ≡ beds (log_if b w e)
 beds-log_if true w e = refl
@@ -89,7 +81,7 @@ queue-log_if false w e = refl
 away-moved : (b : Bool) (w v : World) (e : Event) (f : ℕ) (m : Moved) → beds w ≡ beds v → v.queue ≡ w.queue →
     Away w (carried (log_if b v e) f m)
 away-moved b w v e f m x y = away w (carried (log_if b v e) f m) (x ∙ beds-log_if b v e) (queue-log_if b v e ∙ y)
-    (no-hands-owed f (among f (log_if b v e).table) m.owed)
+    (aside-owed hands_of no-hands f (among f (log_if b v e).table) m.owed)
 
 away-move : (b : Bool) (m : Move) (p : ℕ) (w v : World) (f : ℕ) → beds w ≡ beds v → v.queue ≡ w.queue →
     Away w (acts.move_by b m p v f)
@@ -131,7 +123,7 @@ away-answered : (p : ℕ) (w v : World) (f : ℕ) (m : Moved) (a : Answer) → b
 away-answered p w v f m a x y =
     away w (acts.answered p v f m a) (x ∙ beds-log_if _ (put v f m.state) (event.OutputGiven p f))
     (queue-log_if _ (put v f m.state) (event.OutputGiven p f) ∙ y)
-    (no-hands-both (awaiter_ops f m.owed.awaiter) _ (no-hands-awaiter f m.owed.awaiter) refl)
+    (no-hands-both (awaiter_ops f m.owed.awaiter) _ (aside-awaiter hands_of no-hands f m.owed.awaiter) refl)
 
 away-look : (o : Option Answer) (p : ℕ) (w : World) (f : ℕ) (a : Waker) (m : Moved) → Away w (acts.look_by o p w f a m)
 away-look None p w f a m = away w _ refl refl refl
@@ -150,41 +142,24 @@ away-register : (b : Bool) (w : World) (f : ℕ) (a : Waker) (k : ℕ) → Away 
 away-register true w f a k = away w _ refl refl refl
 away-register false w f a k = away w _ refl refl refl
 
-no-hands-goes : (a : Waker) → weigh hands_of (acts.waker_goes a) ≡ 0
-no-hands-goes (Task g) = refl
-no-hands-goes (Outside x) = refl
-
-no-hands-let_go : (a : Option Awaiter) → weigh hands_of (acts.let_go a) ≡ 0
-no-hands-let_go None = refl
-no-hands-let_go (Some a) = no-hands-goes a.waker
-
 away-end_register : (b : Bool) (w : World) (f : ℕ) (a : Waker) (k : ℕ) → Away w (acts.end_register_by b w f a k)
 away-end_register true w f a k =
     away w _ refl refl (no-hands-both (op.Waker (waker_op.CallAwaiter f a k) ∷ acts.let_go (awaiter_of w f))
-    (op.Handle (handle_op.LookAgain f) ∷ []) (omega (arith, no-hands-let_go (awaiter_of w f))) refl)
+    (op.Handle (handle_op.LookAgain f) ∷ []) (omega (arith, aside-let_go hands_of no-hands (awaiter_of w f))) refl)
 away-end_register false w f a k =
     away w _ refl refl (no-hands-both (acts.let_go (awaiter_of w f)) (op.Handle (handle_op.LookAgain f) ∷ [])
-    (no-hands-let_go (awaiter_of w f)) refl)
+    (aside-let_go hands_of no-hands (awaiter_of w f)) refl)
 
 away-notify : (b : Bool) (w : World) (f : ℕ) (mine : Bool) → Away w (acts.notify_by b w f mine)
 away-notify true w f mine = away w _ refl refl refl
 away-notify false w f mine = away w _ refl refl refl
 
-no-hands-told : (b : Bool) (f : ℕ) (a : Option Awaiter) → weigh hands_of (acts.told b f a) ≡ 0
-no-hands-told b f None = refl
-no-hands-told true f (Some a) = no-hands-goes a.waker
-no-hands-told false f (Some a) = refl
-
 -- the drop of the executor
-
-no-hands-closing : (ls ws : List ℕ) → weigh hands_of (acts.closing_ops ls ws) ≡ 0
-no-hands-closing [] [] = refl
-no-hands-closing [] (x ∷ ws) = refl
-no-hands-closing (x ∷ ls) ws = refl
 
 away-drop_next : (p : ℕ) (w : World) (ls : List ℕ) → Away w (acts.drop_next_by p w ls)
 away-drop_next p w [] = away w _ refl refl refl
-away-drop_next p w (f ∷ rest) = away w _ refl refl (omega (arith, no-hands-closing rest (w.waking ++ f ∷ [])))
+away-drop_next p w (f ∷ rest) =
+    away w _ refl refl (omega (arith, aside-closing hands_of (λ o. refl) rest (w.waking ++ f ∷ [])))
 
 away-wake_next : (p : ℕ) (w : World) (ws : List ℕ) → Away w (acts.wake_next_by p w ws)
 away-wake_next p w [] = away w _ refl refl refl
@@ -194,7 +169,7 @@ away-wake_next p w (f ∷ rest) =
     record {
       beds = m.beds;
       hands = no-hands-both (acts.wake p v f).next (acts.closing_ops [] rest) m.hands
-          (no-hands-closing [] rest);
+          (aside-closing hands_of (λ o. refl) [] rest);
       queue = m.queue;
     }
 
@@ -228,8 +203,10 @@ away-act p h (op.Handle (handle_op.Register f a k)) w n = away-register _ w f a 
 away-act p h (op.Handle (handle_op.EndRegister f a k)) w n = away-end_register _ w f a k
 away-act p h (op.Handle (handle_op.LookAgain f)) w n = away-again _ p w f _
 away-act p h (op.Handle (handle_op.Notify f mine)) w n = away-notify _ w f mine
-away-act p h (op.Handle (handle_op.EndNotify f mine)) w n = away w _ refl refl (no-hands-told _ f (awaiter_of w f))
-away-act p h (op.Closing closing_op.TakeOut) w n = away w _ refl refl (no-hands-closing w.table w.waking)
+away-act p h (op.Handle (handle_op.EndNotify f mine)) w n =
+    away w _ refl refl (aside-told hands_of no-hands _ f (awaiter_of w f))
+away-act p h (op.Closing closing_op.TakeOut) w n =
+    away w _ refl refl (aside-closing hands_of (λ o. refl) w.table w.waking)
 away-act p h (op.Closing closing_op.DropNext) w n = away-drop_next p w _
 away-act p h (op.Closing closing_op.WakeNext) w n = away-wake_next p w _
 away-act p h (op.Closing closing_op.Close) w n = record { beds = refl; hands = refl; queue = omega arith }

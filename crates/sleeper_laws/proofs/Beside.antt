@@ -3,14 +3,11 @@ use Rattle.std.proofs.Common.{◌≡◌, ◌∙◌, ℕ, List, [], ◌∷◌, �
 use Rattle.std.specs.Prelude.{Option, Some, None}
 use Rattle.task_moves.specs.Moves as moves
 use Rattle.task_moves.specs.declared.moves.owed.Answer.{Answer}
-use Rattle.task_moves.specs.declared.moves.owed.AwaiterDebt.{AwaiterDebt}
 use Rattle.task_moves.specs.declared.moves.owed.Move.{Move}
 use Rattle.task_moves.specs.declared.moves.owed.Move.TheVariants as move
 use Rattle.task_moves.specs.declared.moves.owed.Moved.{Moved}
-use Rattle.task_moves.specs.declared.moves.owed.Owed.{Owed}
 use Rattle.executor_model.specs.declared.event.Event.{Event}
 use Rattle.executor_model.specs.declared.event.Event.TheVariants as event
-use Rattle.executor_model.specs.declared.op.Awaiter.{Awaiter}
 use Rattle.executor_model.specs.declared.op.Hold.{Hold}
 use Rattle.executor_model.specs.declared.op.Hold.TheVariants as hold
 use Rattle.executor_model.specs.declared.op.Op.{Op}
@@ -29,11 +26,11 @@ use Rattle.executor_model.specs.declared.op.WakerOp.TheVariants as waker_op
 use Rattle.executor_model.specs.declared.step.Hint.{Hint}
 use Rattle.executor_model.specs.Acts as acts
 use Rattle.executor_model.specs.Acts.{act}
-use Rattle.executor_model.specs.Carried.{carried, owed_ops, awaiter_ops}
+use Rattle.executor_model.specs.Carried.{carried, awaiter_ops}
 use Rattle.executor_model.specs.Weights.{weigh}
 use Rattle.executor_model.specs.World.{World, Done, log, log_if, task, put, among, awaiter_of}
 use Rattle.executor_model.proofs.Lists.{weigh-append}
-use Rattle.executor_model.proofs.Owed.{owed-future, owed-awaiter, owed-nothing}
+use Rattle.executor_model.proofs.Asides.{Aside, aside-awaiter, aside-owed, aside-let_go, aside-told, aside-closing}
 use Rattle.sleeper_laws.proofs.Watched.{Watched, watches, watched, watched-push}
 use Rattle.sleeper_laws.proofs.Stands.{View, view}
 
@@ -76,22 +73,16 @@ besides w d v z = record { view = v; none = z }
 none-both : (xs ys : List Op) → weigh ticks_of xs ≡ 0 → weigh ticks_of ys ≡ 0 → weigh ticks_of (xs ++ ys) ≡ 0
 none-both xs ys a b = omega (arith, weigh-append ticks_of xs ys, a, b)
 
-none-awaiter : (f : ℕ) (o : Option AwaiterDebt) → weigh ticks_of (awaiter_ops f o) ≡ 0
-none-awaiter f o = owed-awaiter ticks_of f (record { notify = λ m. refl }) o
-
-none-owed : (f : ℕ) (there : Bool) (o : Owed) → weigh ticks_of (owed_ops there f o) ≡ 0
-none-owed f there o =
-    owed-nothing ticks_of f
-    (record {
-      append = refl;
-      output = refl;
-      release = refl;
-      settle_closed = refl;
-      give_up = refl;
-      end_closed = refl;
-      detach = refl;
-    }) there o (owed-future ticks_of f (record { poll = refl; drop = refl }) there o.future)
-    (none-awaiter f o.awaiter)
+no-ticks : Aside ticks_of
+no-ticks = record {
+  move = λ m f. refl;
+  append = λ f. refl;
+  poll = λ f. refl;
+  drop = λ f. refl;
+  output = λ f. refl;
+  notify = λ f mine. refl;
+  call = λ f a k. refl;
+}
 
 -- a move of a task
 
@@ -104,7 +95,7 @@ told-silent _ p f t n s = refl
 beside-moved : (b : Bool) (w v : World) (e : Event) (f : ℕ) (m : Moved) → IsSilent e → ((t : ℕ) → view t v ≡ view t w) →
     Beside w (carried (log_if b v e) f m)
 beside-moved b w v e f m z x = besides w (carried (log_if b v e) f m) (λ t. view-log_if b t v e z
-    ∙ x t) (none-owed f (among f (log_if b v e).table) m.owed)
+    ∙ x t) (aside-owed ticks_of no-ticks f (among f (log_if b v e).table) m.owed)
 
 pub beside-move : (b : Bool) (m : Move) (p : ℕ) (w v : World) (f : ℕ) → ((t : ℕ) → view t v ≡ view t w) →
     Beside w (acts.move_by b m p v f)
@@ -149,7 +140,7 @@ beside-answered : (p : ℕ) (w v : World) (f : ℕ) (m : Moved) (a : Answer) →
 beside-answered p w v f m a x =
     besides w (acts.answered p v f m a) (λ t. view-log_if _ t (put v f m.state) (event.OutputGiven p f) (λ t n s. refl)
     ∙ x t)
-    (none-both (awaiter_ops f m.owed.awaiter) _ (none-awaiter f m.owed.awaiter) refl)
+    (none-both (awaiter_ops f m.owed.awaiter) _ (aside-awaiter ticks_of no-ticks f m.owed.awaiter) refl)
 
 beside-look : (o : Option Answer) (p : ℕ) (w : World) (f : ℕ) (a : Waker) (m : Moved) →
     Beside w (acts.look_by o p w f a m)
@@ -172,50 +163,33 @@ beside-register : (b : Bool) (w : World) (f : ℕ) (a : Waker) (k : ℕ) → Bes
 beside-register true w f a k = besides w _ (λ t. refl) refl
 beside-register false w f a k = besides w _ (λ t. refl) refl
 
-none-goes : (a : Waker) → weigh ticks_of (acts.waker_goes a) ≡ 0
-none-goes (Task g) = refl
-none-goes (Outside x) = refl
-
-none-let_go : (a : Option Awaiter) → weigh ticks_of (acts.let_go a) ≡ 0
-none-let_go None = refl
-none-let_go (Some a) = none-goes a.waker
-
 beside-end_register : (b : Bool) (w : World) (f : ℕ) (a : Waker) (k : ℕ) → Beside w (acts.end_register_by b w f a k)
 beside-end_register true w f a k =
     besides w _ (λ t. refl) (none-both (op.Waker (waker_op.CallAwaiter f a k) ∷ acts.let_go (awaiter_of w f))
-    (op.Handle (handle_op.LookAgain f) ∷ []) (omega (arith, none-let_go (awaiter_of w f))) refl)
+    (op.Handle (handle_op.LookAgain f) ∷ []) (omega (arith, aside-let_go ticks_of no-ticks (awaiter_of w f))) refl)
 beside-end_register false w f a k =
     besides w _ (λ t. refl) (none-both (acts.let_go (awaiter_of w f)) (op.Handle (handle_op.LookAgain f) ∷ [])
-    (none-let_go (awaiter_of w f)) refl)
+    (aside-let_go ticks_of no-ticks (awaiter_of w f)) refl)
 
 beside-notify : (b : Bool) (w : World) (f : ℕ) (mine : Bool) → Beside w (acts.notify_by b w f mine)
 beside-notify true w f mine = besides w _ (λ t. refl) refl
 beside-notify false w f mine = besides w _ (λ t. refl) refl
 
-none-told : (b : Bool) (f : ℕ) (a : Option Awaiter) → weigh ticks_of (acts.told b f a) ≡ 0
-none-told b f None = refl
-none-told true f (Some a) = none-goes a.waker
-none-told false f (Some a) = refl
-
 -- the drop of the executor
-
-none-closing : (ls ws : List ℕ) → weigh ticks_of (acts.closing_ops ls ws) ≡ 0
-none-closing [] [] = refl
-none-closing [] (x ∷ ws) = refl
-none-closing (x ∷ ls) ws = refl
 
 beside-drop_next : (p : ℕ) (w : World) (ls : List ℕ) → Beside w (acts.drop_next_by p w ls)
 beside-drop_next p w [] = besides w _ (λ t. refl) refl
 beside-drop_next p w (f ∷ rest) =
     besides w _ (λ t. view-log t w (event.Dropped p f) (λ t n s. refl))
-    (omega (arith, none-closing rest (w.waking ++ f ∷ [])))
+    (omega (arith, aside-closing ticks_of (λ o. refl) rest (w.waking ++ f ∷ [])))
 
 beside-wake_next : (p : ℕ) (w : World) (ws : List ℕ) → Beside w (acts.wake_next_by p w ws)
 beside-wake_next p w [] = besides w _ (λ t. refl) refl
 beside-wake_next p w (f ∷ rest) =
     let v : World = record w { waking = rest } in
     let m : Beside w (acts.wake p v f) = beside-move true move.Wake p w v f (λ t. refl) in
-    besides w _ m.view (none-both (acts.wake p v f).next (acts.closing_ops [] rest) m.none (none-closing [] rest))
+    besides w _ m.view (none-both (acts.wake p v f).next (acts.closing_ops [] rest) m.none
+    (aside-closing ticks_of (λ o. refl) [] rest))
 
 beside-drain : (p : ℕ) (w : World) (q : List ℕ) → Beside w (acts.drain_by p w q)
 beside-drain p w [] = besides w _ (λ t. view-log t w (event.DropEnded p) (λ t n s. refl)) refl
@@ -250,12 +224,14 @@ beside-act p h (op.Handle (handle_op.Register f a k)) w n = beside-register _ w 
 beside-act p h (op.Handle (handle_op.EndRegister f a k)) w n = beside-end_register _ w f a k
 beside-act p h (op.Handle (handle_op.LookAgain f)) w n = beside-again _ p w f _
 beside-act p h (op.Handle (handle_op.Notify f mine)) w n = beside-notify _ w f mine
-beside-act p h (op.Handle (handle_op.EndNotify f mine)) w n = besides w _ (λ t. refl) (none-told _ f (awaiter_of w f))
+beside-act p h (op.Handle (handle_op.EndNotify f mine)) w n =
+    besides w _ (λ t. refl) (aside-told ticks_of no-ticks _ f (awaiter_of w f))
 beside-act p h (op.Sleeper sleeper_op.ExchangeFlag) w n = beside-exchange _ w
 beside-act p h (op.Sleeper sleeper_op.HandOut) w n = absurd (cc)
 beside-act p h (op.Sleeper (sleeper_op.CallSleeper s)) w n = absurd (cc)
 beside-act p h (op.Tick o) w n = absurd (cc)
-beside-act p h (op.Closing closing_op.TakeOut) w n = besides w _ (λ t. refl) (none-closing w.table w.waking)
+beside-act p h (op.Closing closing_op.TakeOut) w n =
+    besides w _ (λ t. refl) (aside-closing ticks_of (λ o. refl) w.table w.waking)
 beside-act p h (op.Closing closing_op.DropNext) w n = beside-drop_next p w _
 beside-act p h (op.Closing closing_op.WakeNext) w n = beside-wake_next p w _
 beside-act p h (op.Closing closing_op.Close) w n = besides w _ (λ t. refl) refl

@@ -35,7 +35,7 @@ use Rattle.executor_model.proofs.Lift.{split, split-pend, push-pend, unsettled, 
 use Rattle.executor_model.proofs.Lift.{handle-known, first-true, unborrowed, weigh_all-idle, set-own}
 use Rattle.executor_model.proofs.Ways.{Way, along}
 use Rattle.executor_model.proofs.Ways.Way.{acted, reacted, called}
-use Rattle.executor_model.proofs.Telling.{same-cond}
+use Rattle.executor_model.proofs.Telling.{same-cond, one-stray}
 use Rattle.executor_model.proofs.Calls.{calling_of, is_end, Passes, Answering}
 use Rattle.executor_model.proofs.CallsGroups.{calls-act}
 use Rattle.executor_model.proofs.Resting.{counts-answering, idle-stack, opens}
@@ -123,11 +123,6 @@ stages-all : (g : ℕ) (ss : List (List Op)) →
     ≤ weigh_all (handling_of g) ss
 stages-all g [] = omega arith
 stages-all g (s ∷ ss) = omega (arith, stages-stack g s, stages-all g ss)
-
-one-stray : (b c : Bool) (n : ℕ) → n ≡ cond b 1 0 → cond b (cond c 0 1) 0 ≤ n
-one-stray true true n e = omega arith
-one-stray true false n e = omega (arith, e)
-one-stray false c n e = omega arith
 
 few-one : (g k : ℕ) (o : Op) → strays_of g k o ≤ fresh_of g o + storing_of g o
 few-one g k (op.Handle (handle_op.Register f a l)) =

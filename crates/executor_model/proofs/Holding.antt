@@ -5,7 +5,7 @@ use Rattle.std.proofs.Common.{Bool, true, false, refl, sym, ap, ◌∙◌, subst
 use Rattle.std.specs.Prelude.{reverse}
 use Rattle.executor_model.specs.declared.op.Op.{Op}
 use Rattle.executor_model.specs.Weights.{same, weigh}
-use Rattle.executor_model.proofs.Lists.{weigh-append, weigh-reverse}
+use Rattle.executor_model.proofs.Lists.{weigh-append, weigh-below, weigh-reverse}
 use Rattle.executor_model.proofs.Calls.{calling_of, Answering, Passes}
 use Rattle.executor_model.proofs.Resting.{calling-is, counts-answering, reverse-last}
 use Rattle.executor_model.proofs.AwaitedTies.{stack-then}
@@ -68,10 +68,6 @@ module _ (a : Op → ℕ) where
           y
 
 module _ (a : Op → ℕ) (few : (o : Op) → a o ≤ calling_of o) where
-  few-all : (os : List Op) → weigh a os ≤ weigh calling_of os
-  few-all [] = omega arith
-  few-all (o ∷ os) = omega (arith, few o, few-all os)
-
   -- what answers the call stands below the rest
   pub seen-answering : (s : Spot) (next : List Op) → Answering next → 1 ≤ weigh a next →
       seen a s (reverse next) ≡ record { found = true; inner = 0 }
@@ -82,7 +78,7 @@ module _ (a : Op → ℕ) (few : (o : Op) → a o ≤ calling_of o) where
       ∙ ap (λ (n : ℕ). let t : Spot = record { found = true; inner = n } in t) front-calls)))
     where
       front-none : weigh a x.front ≡ 0
-      front-none = omega (arith, few-all x.front, x.none)
+      front-none = omega (arith, weigh-below a calling_of few x.front, x.none)
 
       all-asks : weigh a next ≡ weigh a x.front + (a x.last + 0)
       all-asks = ap (weigh a) x.is ∙ weigh-append a x.front (x.last ∷ [])

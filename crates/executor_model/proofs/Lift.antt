@@ -49,7 +49,8 @@ use Rattle.executor_model.specs.Steps.{answer_refusal, accepts, party_of, part_r
 use Rattle.executor_model.specs.Steps.{waker_of, begun, react, end_of, settled_by, onto, gone_on, part_after}
 use Rattle.executor_model.specs.Steps.{with_part, after, step_by, step, stepped, run, idle, start}
 use Rattle.executor_model.proofs.Lists.{past-more, waker_past-more, same_is, past_is, phase-push, wakers_of-used}
-use Rattle.executor_model.proofs.Lists.{wakers_past-used, weigh-append, weigh-reverse, weigh_all-set, weigh_all-push}
+use Rattle.executor_model.proofs.Lists.{wakers_past-used, weigh-append, weigh-reverse, weigh_all-below, weigh_all-set}
+use Rattle.executor_model.proofs.Lists.{weigh_all-push}
 use Rattle.executor_model.proofs.Counting.{Keeps, sound-pending, sound-ready}
 use Rattle.executor_model.proofs.CountingActs.{sound-act}
 use Rattle.executor_model.proofs.Fitting.{Grown, Grows}
@@ -280,13 +281,8 @@ polls-borrow g (op.Tick tick_op.MakeTick) = omega arith
 polls-borrow g (op.Closing closing_op.Drain) = omega arith
 polls-borrow g _ = omega arith
 
-polls-borrow-stack : (g : ℕ) (os : List Op) → weigh (polls_of g) os ≤ weigh borrowing_of os
-polls-borrow-stack g [] = omega arith
-polls-borrow-stack g (o ∷ os) = omega (arith, polls-borrow g o, polls-borrow-stack g os)
-
 polls-borrow-all : (g : ℕ) (ss : List (List Op)) → weigh_all (polls_of g) ss ≤ weigh_all borrowing_of ss
-polls-borrow-all g [] = omega arith
-polls-borrow-all g (s ∷ ss) = omega (arith, polls-borrow-stack g s, polls-borrow-all g ss)
+polls-borrow-all g = weigh_all-below (polls_of g) borrowing_of (polls-borrow g)
 
 -- a call that leaves the executor as it was
 abbrev pub Begins : World → Done → List (List Op) → Type 0

@@ -53,6 +53,15 @@ pub weigh-append : (v : Op → ℕ) (xs ys : List Op) → weigh v (xs ++ ys) ≡
 weigh-append v [] ys = omega arith
 weigh-append v (x ∷ xs) ys = omega (arith, weigh-append v xs ys)
 
+-- a count is below another over stacks, where it is for each operation
+pub weigh-below : (u v : Op → ℕ) → ((o : Op) → u o ≤ v o) → (os : List Op) → weigh u os ≤ weigh v os
+weigh-below u v few [] = omega arith
+weigh-below u v few (o ∷ os) = omega (arith, few o, weigh-below u v few os)
+
+pub weigh_all-below : (u v : Op → ℕ) → ((o : Op) → u o ≤ v o) → (ss : List (List Op)) → weigh_all u ss ≤ weigh_all v ss
+weigh_all-below u v few [] = omega arith
+weigh_all-below u v few (s ∷ ss) = omega (arith, weigh-below u v few s, weigh_all-below u v few ss)
+
 -- what the executor's drop does after a wake weighs nothing where neither of the two weighs
 pub weigh-closing : (v : Op → ℕ) (xs : List Op) (rest : List ℕ) → v (op.Closing closing_op.WakeNext) ≡ 0 →
     v (op.Closing closing_op.Close) ≡ 0 → weigh v (xs ++ closing_ops [] rest) ≡ weigh v xs

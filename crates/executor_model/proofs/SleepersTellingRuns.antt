@@ -15,7 +15,7 @@ use Rattle.executor_model.specs.Steps.{Machine, stack, run, start, polled_by, to
 use Rattle.executor_model.specs.Weights.{weigh, weigh_all}
 use Rattle.executor_model.specs.World.{Done, done, log}
 use Rattle.executor_model.proofs.Lift.{split, unsettled, good-start}
-use Rattle.executor_model.proofs.Lists.{weigh_all-push}
+use Rattle.executor_model.proofs.Lists.{weigh_all-below, weigh_all-push}
 use Rattle.executor_model.proofs.Ways.{Way, acted, reacted, called, along}
 use Rattle.executor_model.specs.SleepersAgree.{SleepersAgree, hands_of}
 use Rattle.executor_model.specs.SleepersTold.{SleepersAreTold, tells_of}
@@ -31,13 +31,8 @@ hands-tell (op.Tick o) = omega arith
 hands-tell (op.Queue queue_op.Take) = omega arith
 hands-tell _ = omega arith
 
-hands-stack : (os : List Op) → weigh hands_of os ≤ weigh tells_of os
-hands-stack [] = omega arith
-hands-stack (o ∷ os) = omega (arith, hands-tell o, hands-stack os)
-
 hands-all : (ss : List (List Op)) → weigh_all hands_of ss ≤ weigh_all tells_of ss
-hands-all [] = omega arith
-hands-all (s ∷ ss) = omega (arith, hands-stack s, hands-all ss)
+hands-all = weigh_all-below hands_of tells_of hands-tell
 
 pub record Tell (s : Machine) : Type 0 where
   pub followed : Followed s

@@ -17,6 +17,11 @@ pub same-cond : (g f : ℕ) → same g f ≡ cond (eqb g f) 1 0
 unfolding same
 same-cond g f = refl
 
+pub one-stray : (b c : Bool) (n : ℕ) → n ≡ cond b 1 0 → cond b (cond c 0 1) 0 ≤ n
+one-stray true true n e = omega arith
+one-stray true false n e = omega (arith, e)
+one-stray false c n e = omega arith
+
 -- how often it was dropped and accepted
 
 fallen-one : (g : ℕ) (e : Event) (s : Story) → (hears g e s).fallen ≡ s.fallen + cond (is_dropped g e) 1 0

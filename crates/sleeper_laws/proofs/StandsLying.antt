@@ -28,7 +28,8 @@ use Rattle.sleeper_laws.proofs.Listed.{at_entry, sum-push, sum-set, entry-in}
 use Rattle.sleeper_laws.proofs.Stands.{View, view, with_doing, Stands, KeepsStands, Nothing, keeps-same}
 use Rattle.sleeper_laws.proofs.StandsNothing.{nothing-search, nothing-copy, nothing-lie, nothing-up, nothing-call}
 use Rattle.sleeper_laws.proofs.StandsNothing.{nothing-end, nothing-both, nothing-of}
-use Rattle.sleeper_laws.proofs.StandsOwn.{own-anew, own-again, own-found, own-front, own-nowhere, own-rising}
+use Rattle.sleeper_laws.proofs.StandsOwn.{Own, own-anew, own-again, own-found, own-front, own-nowhere, own-rising}
+use Rattle.sleeper_laws.proofs.Watched.{watched}
 use Rattle.sleeper_laws.proofs.StandsWorlds.{Lay, OwnEntry, own-entry, none-own, view-same, misplaced-few}
 use Rattle.sleeper_laws.proofs.StandsWorlds.{entries-astray, eqb-self, same-other, cond-other, cond-self}
 
@@ -151,23 +152,17 @@ anew-same true t u k a w n =
     (nothing-search t u n a k)
 anew-same false t u k a w n = nowhere-same t u k a w n
 
-anew-own : (b : Bool) (t k : ℕ) (a : Waker) (w : World) → Lay w → tick_of w t ≡ Up →
-    KeepsStands t w (op.Tick (tick_op.LieDown (asleep a t k)) ∷ []) (lie_anew_by b w (asleep a t k))
-anew-own false t k a w lay e = own-nowhere t k a (view t w)
-anew-own true t k a w lay e =
-    let n : ℕ = next_number w.sleepers in
+-- the tick lies now, with the one entry that it got
+own-entered : (t k n : ℕ) (a : Waker) (w v : World) → v.trace ≡ w.trace → v.gone ≡ w.gone →
+    length v.ticks ≡ length w.ticks → lives (tick_of w t) ≡ true → tick_of v t ≡ Lies n →
+    v.sleepers.wakers ≡ w.sleepers.wakers ++ (n, asleep a t k) ∷ [] → sum (entry_of t) w.sleepers.wakers ≡ 0 →
+    Own t (view t w) (view t v) (op.Tick (tick_op.LieDown (asleep a t k)) ∷ [])
+    (op.Tick (tick_op.Search (asleep a t k)) ∷ [])
+own-entered t k n a w v e g l alive now q none =
     let x : Entry = (n, asleep a t k) in
-    let i : t < length w.ticks = up-is w.ticks t e in
-    let now : tick_of (lie_anew_by true w (asleep a t k)).world t ≡ Lies n =
-    get_or-set_same w.ticks t (Lies n) Left i in
-    let none : sum (entry_of t) w.sleepers.wakers ≡ 0 = entries-astray t Up w.sleepers.wakers (λ m. refl)
-    ∙ (ap (λ (y : Tick). sum (misplaced_of t y) w.sleepers.wakers) (sym e) ∙ lay.placed t) in
-    own-anew t k a (view t w) (view t (lie_anew_by true w (asleep a t k)).world) refl refl
-    (ap (nat_lt t) (length-set w.ticks t (Lies n)))
-    (ap lives now)
-    (ap lives e)
-    (omega (arith, sum-push (entry_of t) w.sleepers.wakers x, none, same_self t))
-    (ap (λ (y : Tick). sum (misplaced_of t y) (w.sleepers.wakers ++ x ∷ [])) now
+    own-anew t k a (view t w) (view t v) (ap (watched t) e) g (ap (nat_lt t) l) (ap lives now) alive
+    (omega (arith, ap (sum (entry_of t)) q, sum-push (entry_of t) w.sleepers.wakers x, none, same_self t))
+    (ap (λ (y : Tick). sum (misplaced_of t y) v.sleepers.wakers) now ∙ (ap (sum (misplaced_of t (Lies n))) q
     ∙ (let z : sum (misplaced_of t (Lies n)) (w.sleepers.wakers ++ x ∷ []) ≡ 0 = omega (
       arith,
       sum-push (misplaced_of t (Lies n)) w.sleepers.wakers x,
@@ -175,10 +170,20 @@ anew-own true t k a w lay e =
       none,
       cond-self t (astray (Lies n) n),
       ap (λ (c : Bool). let y : ℕ = cond c 0 1 in y) (eqb-self n),
-    ) in z))
-    (sum-push (kept_of t (view t w).seen.poll) w.sleepers.wakers x
+    ) in z)))
+    (ap (sum (kept_of t (view t w).seen.poll)) q ∙ (sum-push (kept_of t (view t w).seen.poll) w.sleepers.wakers x
     ∙ ap (λ (y : ℕ). sum (kept_of t (view t w).seen.poll) w.sleepers.wakers + y)
-    (cond-self t (same (view t w).seen.poll k)))
+    (cond-self t (same (view t w).seen.poll k))))
+
+anew-own : (b : Bool) (t k : ℕ) (a : Waker) (w : World) → Lay w → tick_of w t ≡ Up →
+    KeepsStands t w (op.Tick (tick_op.LieDown (asleep a t k)) ∷ []) (lie_anew_by b w (asleep a t k))
+anew-own false t k a w lay e = own-nowhere t k a (view t w)
+anew-own true t k a w lay e =
+    let n : ℕ = next_number w.sleepers in
+    own-entered t k n a w (lie_anew_by true w (asleep a t k)).world refl refl (length-set w.ticks t (Lies n)) (ap lives e)
+    (get_or-set_same w.ticks t (Lies n) Left (up-is w.ticks t e)) refl
+    (entries-astray t Up w.sleepers.wakers (λ m. refl)
+    ∙ (ap (λ (y : Tick). sum (misplaced_of t y) w.sleepers.wakers) (sym e) ∙ lay.placed t))
 
 -- it lies already: its waker is replaced, or it has one again
 
@@ -235,24 +240,8 @@ listed-own : (b : Bool) (t k n : ℕ) (a : Waker) (w : World) → Lay w → tick
     KeepsStands t w (op.Tick (tick_op.LieDown (asleep a t k)) ∷ []) (lie_listed_by b w n (asleep a t k))
 listed-own false t k n a w lay e q = own-nowhere t k a (view t w)
 listed-own true t k n a w lay e q =
-    let x : Entry = (n, asleep a t k) in
-    let none : sum (entry_of t) w.sleepers.wakers ≡ 0 = none-own w lay t n e q in
-    own-anew t k a (view t w) (view t (lie_listed_by true w n (asleep a t k)).world) refl refl refl
-    (ap lives e)
-    (ap lives e)
-    (omega (arith, sum-push (entry_of t) w.sleepers.wakers x, none, same_self t))
-    (ap (λ (y : Tick). sum (misplaced_of t y) (w.sleepers.wakers ++ x ∷ [])) e
-    ∙ (let z : sum (misplaced_of t (Lies n)) (w.sleepers.wakers ++ x ∷ []) ≡ 0 = omega (
-      arith,
-      sum-push (misplaced_of t (Lies n)) w.sleepers.wakers x,
-      misplaced-few t (Lies n) w.sleepers.wakers,
-      none,
-      cond-self t (astray (Lies n) n),
-      ap (λ (c : Bool). let y : ℕ = cond c 0 1 in y) (eqb-self n),
-    ) in z))
-    (sum-push (kept_of t (view t w).seen.poll) w.sleepers.wakers x
-    ∙ ap (λ (y : ℕ). sum (kept_of t (view t w).seen.poll) w.sleepers.wakers + y)
-    (cond-self t (same (view t w).seen.poll k)))
+    own-entered t k n a w (lie_listed_by true w n (asleep a t k)).world refl refl refl (ap lives e) e refl
+    (none-own w lay t n e q)
 
 again-own : (o : Option ℕ) (t k n : ℕ) (a : Waker) (w : World) → Lay w → tick_of w t ≡ Lies n →
     position_of n w.sleepers.wakers ≡ o →

@@ -27,7 +27,7 @@ use Rattle.sleeper_laws.proofs.Stands.{drops_of, ends_of, lending_of, strays_of,
 use Rattle.sleeper_laws.proofs.Stands.{with_doing, Nothing}
 use Rattle.sleeper_laws.proofs.StandsWorlds.{same-other, cond-other}
 use Rattle.sleeper_laws.proofs.Watched.{is_pending, is_refusal}
-use Rattle.executor_model.proofs.Telling.{same-cond}
+use Rattle.executor_model.proofs.Telling.{same-cond, one-stray}
 
 -- each stage uses the tick
 
@@ -47,11 +47,6 @@ stages-one t (op.Tick (tick_op.GetUp u f)) = omega arith
 stages-one t (op.Tick (tick_op.Leave u)) = omega arith
 stages-one t (op.End r held) = omega (arith, end-parts t r (holds_tick t held))
 stages-one t _ = omega arith
-
-one-stray : (b c : Bool) (n : ℕ) → n ≡ cond b 1 0 → cond b (cond c 0 1) 0 ≤ n
-one-stray true true n e = omega arith
-one-stray true false n e = omega (arith, e)
-one-stray false c n e = omega arith
 
 pub few-one : (t k : ℕ) (o : Op) → strays_of t k o ≤ early_of t o
 few-one t k (op.Tick (tick_op.Search s)) = one-stray (eqb t s.tick) (eqb k s.poll) (same t s.tick) (same-cond t s.tick)

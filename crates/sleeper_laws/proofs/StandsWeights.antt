@@ -12,7 +12,7 @@ use Rattle.executor_model.specs.Steps.{idle}
 use Rattle.executor_model.specs.Weights.{same, weigh, weigh_all, holds_tick}
 use Rattle.executor_model.proofs.Calls.{calling_of}
 use Rattle.executor_model.proofs.Lift.{split, weigh_all-idle}
-use Rattle.executor_model.proofs.Lists.{same_is, weigh_all-push}
+use Rattle.executor_model.proofs.Lists.{same_is, weigh_all-below, weigh_all-push}
 use Rattle.sleeper_laws.proofs.Stands.{early_of, pends_of, refused_of, found_of, drops_of, ends_of, lending_of}
 use Rattle.sleeper_laws.proofs.Stands.{strays_of, calls_of, asks_of, Doing, with_doing, doing, Footing}
 use Rattle.sleeper_laws.proofs.StandsNothing.{end-parts, stages-one, few-one}
@@ -34,16 +34,8 @@ stages-all : (t : ℕ) (ss : List (List Op)) →
 stages-all t [] = omega arith
 stages-all t (s ∷ ss) = omega (arith, stages-stack t s, stages-all t ss)
 
-few-stack : (t k : ℕ) (os : List Op) → weigh (strays_of t k) os ≤ weigh (early_of t) os
-few-stack t k [] = omega arith
-few-stack t k (o ∷ os) = omega (arith, few-one t k o, few-stack t k os)
-
-few-all : (t k : ℕ) (ss : List (List Op)) → weigh_all (strays_of t k) ss ≤ weigh_all (early_of t) ss
-few-all t k [] = omega arith
-few-all t k (s ∷ ss) = omega (arith, few-stack t k s, few-all t k ss)
-
 pub footing : (t : ℕ) (ss : List (List Op)) → Footing (doing t ss)
-footing t ss = record { stages = stages-all t ss; few = λ k. few-all t k ss }
+footing t ss = record { stages = stages-all t ss; few = λ k. weigh_all-below (strays_of t k) (early_of t) (few-one t k) ss }
 
 -- what has to end a poll
 

@@ -155,7 +155,8 @@ rooms-risen n s = of_freed (without_entry (position_of n s.wakers) s) ∙ of_ent
     of_freed r = by (ltb (length r.wakers) r.count)
       where
         by : (b : Bool) → (let t : Sleepers Sleeping =
-            elim b [ true ↦ record r { count = r.count - 1; free = r.free ++ n ∷ [] } | false ↦ r ] in t).rooms ≡ r.rooms
+            elim b [ true ↦ record r { count = r.count - 1; free = r.free ++ n ∷ [] } | false ↦ r ] in
+            t).rooms ≡ r.rooms
         by true = refl
         by false = refl
 

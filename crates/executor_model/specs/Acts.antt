@@ -353,8 +353,8 @@ copy_sleeper h w s = copy_sleeper_by (is_copy_refused h w s.waker) w s
 abbrev pub pend_tick : ℕ → List Op
 pend_tick t = op.End reply.Pending (hold.Tick t) ∷ []
 
--- there is no place for it, though a tick that lives finds one at every moment (`SleepersAgree`): its waker is called at
--- once, so that it is polled again
+-- there is no place for it, though a tick that lives finds one at every moment (`SleepersAgree`): its waker is called
+-- at once, so that it is polled again
 abbrev pub lie_nowhere : World → Sleeping → Done
 lie_nowhere w s = done w (op.Sleeper (sleeper_op.CallSleeper s) ∷ pend_tick s.tick)
 

@@ -180,7 +180,8 @@ anew-own : (b : Bool) (t k : ℕ) (a : Waker) (w : World) → Lay w → tick_of 
 anew-own false t k a w lay e = own-nowhere t k a (view t w)
 anew-own true t k a w lay e =
     let n : ℕ = next_number w.sleepers in
-    own-entered t k n a w (lie_anew_by true w (asleep a t k)).world refl refl (length-set w.ticks t (Lies n)) (ap lives e)
+    own-entered t k n a w (lie_anew_by true w (asleep a t k)).world refl refl
+    (length-set w.ticks t (Lies n)) (ap lives e)
     (get_or-set_same w.ticks t (Lies n) Left (up-is w.ticks t e)) refl
     (entries-astray t Up w.sleepers.wakers (λ m. refl)
     ∙ (ap (λ (y : Tick). sum (misplaced_of t y) w.sleepers.wakers) (sym e) ∙ lay.placed t))

@@ -65,8 +65,7 @@ renew v x m h = grind arith
 -- a step of party p, by what it keeps of tick t and of its mark
 
 module _ (s : Machine) (p : ℕ) (old rest : List Op) (d : Done) (l : p < length s.parties)
-    (e : stack s p ≡ rest ++ reverse old)
-    (h : Standing s) (t : ℕ) where
+    (e : stack s p ≡ rest ++ reverse old) (h : Standing s) (t : ℕ) where
   abbrev beside : Doing
   beside = doing t (set s.parties p rest)
 
@@ -84,8 +83,7 @@ module _ (s : Machine) (p : ℕ) (old rest : List Op) (d : Done) (l : p < length
 
   stands-here : Stands (view t s.world) (with_doing t old beside) before
   stands-here = subst (λ (x : Doing). Stands (view t s.world) x (marked (view t s.world) x))
-      (split-doing t s.parties p old rest l e)
-      (h.stands t)
+      (split-doing t s.parties p old rest l e) (h.stands t)
 
   stands-pushed : (m : Mark) → Stands (view t d.world) (with_doing t d.next beside) m →
       Stands (view t d.world) (doing t after) (marked (view t d.world) (doing t after))
@@ -105,8 +103,8 @@ module _ (s : Machine) (p : ℕ) (old rest : List Op) (d : Done) (l : p < length
       (λ b n. k.inner)
       (λ b n y. subst (λ (x : ℕ). Spotted x (seen (asks_of t) (seen (asks_of t) nowhere rest) (reverse d.next)))
       (sym k.inner)
-      (subst (Spotted (watched t s.world.trace).inner) (ap
-      (λ (os : List Op). seen (asks_of t) (seen (asks_of t) nowhere rest) (reverse os)) q
+      (subst (Spotted (watched t s.world.trace).inner)
+      (ap (λ (os : List Op). seen (asks_of t) (seen (asks_of t) nowhere rest) (reverse os)) q
       ∙ seen-passes (asks_of t) (asks-calling t) (seen (asks_of t) nowhere rest) o d.next c own_asks) y))
       (h.held t)
 

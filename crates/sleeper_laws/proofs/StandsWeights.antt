@@ -28,14 +28,17 @@ stages-stack t (o ∷ os) = omega (arith, stages-one t o, stages-stack t os)
 
 stages-all : (t : ℕ) (ss : List (List Op)) →
     weigh_all (early_of t) ss + (weigh_all (pends_of t) ss +
-    (weigh_all (refused_of t) ss
-    + (weigh_all (found_of t) ss + (weigh_all (drops_of t) ss + weigh_all (ends_of t) ss)))) ≤ weigh_all
-    (ticking_of t) ss
+    (weigh_all (refused_of t) ss + (weigh_all (found_of t) ss +
+    (weigh_all (drops_of t) ss + weigh_all (ends_of t) ss))))
+    ≤ weigh_all (ticking_of t) ss
 stages-all t [] = omega arith
 stages-all t (s ∷ ss) = omega (arith, stages-stack t s, stages-all t ss)
 
 pub footing : (t : ℕ) (ss : List (List Op)) → Footing (doing t ss)
-footing t ss = record { stages = stages-all t ss; few = λ k. weigh_all-below (strays_of t k) (early_of t) (few-one t k) ss }
+footing t ss = record {
+  stages = stages-all t ss;
+  few = λ k. weigh_all-below (strays_of t k) (early_of t) (few-one t k) ss;
+}
 
 -- what has to end a poll
 

@@ -1,5 +1,5 @@
--- Where one party alone appends, a push of it is refused full only once it has filled the places that were free. n is the
--- number of places.
+-- Where one party alone appends, a push of it is refused full only once it has filled the places that were free. n is
+-- the number of places.
 use Rattle.std.proofs.Common.{◌≡◌, ℕ, ◌+◌, ◌≤◌, List, [], ◌∷◌, ◌++◌, Bool, Option, Some, None, Result, Ok, Err, MatchOption}
 use Rattle.std.proofs.Common.{inl, inr, if◌then◌else◌, sym, refl, ap, ◌∙◌, subst, eq-eqb, arith}
 use Rattle.queue_steps.specs.declared.errors.PushError.TheVariants.{Full, Closed, NoMemory}

@@ -87,7 +87,8 @@ module _ {T : Type 0} where
     mine : (calls : ℕ → Option (Progress T)) (c : Option (Progress T)) → (p == r) ≡ true → with_call calls r c p ≡ c
     mine calls c e = ap (λ (b : Bool). if b then c else calls p) e
 
-    others : (calls : ℕ → Option (Progress T)) (c : Option (Progress T)) → (p == r) ≡ false → with_call calls r c p ≡ calls p
+    others : (calls : ℕ → Option (Progress T)) (c : Option (Progress T)) → (p == r) ≡ false
+        → with_call calls r c p ≡ calls p
     others calls c e = ap (λ (b : Bool). if b then c else calls p) e
 
     begins : (a b : ℕ) (s s' : Scene T) (call : Call T) → Happens s (Begins r call) s' → Counts p a b s
@@ -99,12 +100,15 @@ module _ {T : Type 0} where
         c = record { call = call; seen = s.sight ∷ []; answer = None }
 
         by : Parties p r
-            → a + 0 + (owes_in (with_call s.calls r (Some c) p) + coming_of p s.sight.incoming) ≤ b + one_of p (who_pushes (Begins r call))
+            → a + 0 + (owes_in (with_call s.calls r (Some c) p) + coming_of p s.sight.incoming)
+            ≤ b + one_of p (who_pushes (Begins r call))
         by (One is there here) =
-            let now = ap owes_in (mine s.calls (Some c) there) in let push = begun_push p r call here in omega (arith, now, push, h)
+            let now = ap owes_in (mine s.calls (Some c) there) in let push = begun_push p r call here in
+            omega (arith, now, push, h)
         by (Two there here) = let now = ap owes_in (others s.calls (Some c) there) in omega (arith, now, h)
 
-    does : (a b : ℕ) (s s' : Scene T) (told : Answer T) → AppendsOwn p (Does r told) → Happens s (Does r told) s' → Counts p a b s
+    does : (a b : ℕ) (s s' : Scene T) (told : Answer T) → AppendsOwn p (Does r told) → Happens s (Does r told) s'
+        → Counts p a b s
         → Counts p (a + one_of p (who_appends (Does r told))) (b + 0) s'
     does a b s s' told own (c, is, none, (q, did, beside, e)) h =
         subst (Counts p (a + one_of p (who_appends (Does r told))) (b + 0)) (sym e) (by (parties p r))
@@ -116,17 +120,20 @@ module _ {T : Type 0} where
         c' = record c { answer = Some told }
 
         by : Parties p r
-            → a + one_of p (who_appends (Does r told)) + (owes_in (sees x (with_call s.calls r (Some c') p)) + coming_of p s.sight.incoming)
+            → a + one_of p (who_appends (Does r told))
+            + (owes_in (sees x (with_call s.calls r (Some c') p)) + coming_of p s.sight.incoming)
             ≤ b + 0
         by (One same there here) =
             let now = sees_owes x (with_call s.calls r (Some c') p) ∙ ap owes_in (mine s.calls (Some c') there) in
             let was = ap owes_in (ap s.calls same ∙ is) ∙ ap (owes c.call) none in
-            let more = adds_own p r told own in let le = acts_owes s.sight.queue q c.call told did in omega (arith, now, was, more, le, h)
+            let more = adds_own p r told own in let le = acts_owes s.sight.queue q c.call told did in
+            omega (arith, now, was, more, le, h)
         by (Two there here) =
             let now = sees_owes x (with_call s.calls r (Some c') p) ∙ ap owes_in (others s.calls (Some c') there) in
             let none = no_more p r told here in omega (arith, now, none, h)
 
-    displaces : (a b : ℕ) (s s' : Scene T) (y : T) → Happens s (Displaces r y) s' → Counts p a b s → Counts p (a + 0) (b + 0) s'
+    displaces : (a b : ℕ) (s s' : Scene T) (y : T) → Happens s (Displaces r y) s' → Counts p a b s
+        → Counts p (a + 0) (b + 0) s'
     displaces a b s s' y (c, x, is, none, of, inc, full, unspent, at, first, e) h =
         subst (Counts p (a + 0) (b + 0)) (sym e) (by (parties p r))
       where
@@ -145,13 +152,15 @@ module _ {T : Type 0} where
             let now = sees_owes z (with_call s.calls r (Some c') p) ∙ ap owes_in (others s.calls (Some c') there) in
             let none = is_none p r here in omega (arith, now, none, h)
 
-    arrives : (a b : ℕ) (s s' : Scene T) → Happens s (Arrives r) s' → Counts p a b s → Counts p (a + one_of p (Some r)) (b + 0) s'
+    arrives : (a b : ℕ) (s s' : Scene T) → Happens s (Arrives r) s' → Counts p a b s
+        → Counts p (a + one_of p (Some r)) (b + 0) s'
     arrives a b s s' (x, inc, e) h =
         let z : Sight T = record { queue = appended s.sight.queue x; incoming = None } in
         let now = sees_owes z (s.calls p) in let was = ap (coming_of p) inc in
         subst (Counts p (a + one_of p (Some r)) (b + 0)) (sym e) (omega (arith, now, was, h))
 
-    ends : (a b : ℕ) (s s' : Scene T) (told : Answer T) → Happens s (Ends r told) s' → Counts p a b s → Counts p (a + 0) (b + 0) s'
+    ends : (a b : ℕ) (s s' : Scene T) (told : Answer T) → Happens s (Ends r told) s' → Counts p a b s
+        → Counts p (a + 0) (b + 0) s'
     ends a b s s' told (c, is, may, from, e) h = subst (Counts p (a + 0) (b + 0)) (sym e) (by (parties p r))
       where
         by : Parties p r → a + 0 + (owes_in (with_call s.calls r None p) + coming_of p s.sight.incoming) ≤ b + 0
@@ -170,10 +179,11 @@ module _ {T : Type 0} where
       → Counts p (a + appended_by p ms) (b + pushes_of p ms) s'
   runs_on p a b s s' [] own e h = subst (Counts p (a + 0) (b + 0)) (sym e) (omega (arith, h))
   runs_on p a b s s' (m ∷ ms) own (mid, first, rest) h =
-      let z = runs_on p (a + one_of p (who_appends m)) (b + one_of p (who_pushes m)) mid s' ms own.1 rest (happens p a b s mid m own.0 first h) in
-      omega (arith, z)
+      let next = happens p a b s mid m own.0 first h in
+      let z = runs_on p (a + one_of p (who_appends m)) (b + one_of p (who_pushes m)) mid s' ms own.1 rest next in omega (arith, z)
 
-  seen_push : (call : Call T) (x : T) (xs : List (Sight T)) → AtSome (MayAnswer call (Pushed (Err (Full x)))) xs → pushing call ≡ 1
+  seen_push : (call : Call T) (x : T) (xs : List (Sight T)) → AtSome (MayAnswer call (Pushed (Err (Full x)))) xs
+      → pushing call ≡ 1
   seen_push call x [] z = elim z [ ]
   seen_push call x (s ∷ ss) (inl at) = by call at.0
     where
@@ -208,7 +218,8 @@ module _ {T : Type 0} where
       (λ i is. with_calls (λ d. IsSome d) s.calls r i.0 (Some c) refl is) h)
   stays_in_call s s' (Does r a) (c, is, none, (q, did, beside, e)) h =
       let x : Sight T = record s.sight { queue = q } in let c' : Progress T = record c { answer = Some a } in
-      subst InCall (sym e) (for_all s.sight.incoming (λ i. IsSome (s.calls i.0)) (λ i. IsSome (sees x (with_call s.calls r (Some c') i.0)))
+      subst InCall (sym e) (for_all s.sight.incoming (λ i. IsSome (s.calls i.0))
+      (λ i. IsSome (sees x (with_call s.calls r (Some c') i.0)))
       (λ i so. sees_some x (with_call s.calls r (Some c') i.0) (with_calls (λ d. IsSome d) s.calls r i.0 (Some c') refl so)) h)
   stays_in_call s s' (Displaces r y) (c, x, is, none, of, inc, full, unspent, at, first, e) h =
       let z : Sight T = record { queue = taken s.sight.queue; incoming = Some (r, x) } in
@@ -227,7 +238,8 @@ module _ {T : Type 0} where
   run_stays_in_call s s' [] e h = subst InCall (sym e) h
   run_stays_in_call s s' (m ∷ ms) (mid, first, rest) h = run_stays_in_call mid s' ms rest (stays_in_call s mid m first h)
 
-  none_coming : (p : ℕ) (s : Scene T) → s.calls p ≡ None → (o : Option (ℕ × T)) → IfSome o (λ i. IsSome (s.calls i.0)) → coming_of p o ≡ 0
+  none_coming : (p : ℕ) (s : Scene T) → s.calls p ≡ None → (o : Option (ℕ × T)) → IfSome o (λ i. IsSome (s.calls i.0))
+      → coming_of p o ≡ 0
   none_coming p s none None h = refl
   none_coming p s none (Some i) h = dite (ℕ_discrete i.0 p)
       (λ same. absurd (let z = subst (λ (d : Option (Progress T)). IsSome d) (ap s.calls same ∙ none) h in cc))
@@ -247,7 +259,8 @@ module _ {T : Type 0} where
       let looking = cut asked s' during (Ends p (LenIs k) ∷ (since ++ (Ends p (Pushed (Err (Full x))) ∷ after))) rest in
       let looked : Scene T = looking.0 in let told : Scene T = looking.2.0 in
       let ending = cut told s' since (Ends p (Pushed (Err (Full x))) ∷ after) looking.2.2 in
-      let first : Counts p 0 0 s = (let none = ap owes_in begun.0 in let no = none_coming p s begun.0 s.sight.incoming in_call in omega (arith, none, no)) in
+      let none = ap owes_in begun.0 in let no = none_coming p s begun.0 s.sight.incoming in_call in
+      let first : Counts p 0 0 s = omega (arith, none, no) in
       let at_asked = happens p 0 0 s asked (Begins p Len) tt begun first in
       let at_looked = runs_on p (0 + 0) (0 + 0) asked looked during both.0 looking.1 at_asked in
       let at_told = happens p _ _ looked told (Ends p (LenIs k)) tt looking.2.1 at_looked in

@@ -43,8 +43,8 @@ pub fn a_lone_call_on_a_ring_ends<T>()
 {}
 
 /// Where one party alone appends to a ring, the free places that it saw stay free until its next append, whatever others
-/// pop and whoever closes the ring. Of those that were free at some moment, and of those that a length told it of, all are
-/// free later but as many as it has appended itself since. A ring never has more items than places.
+/// pop and whoever closes the ring. Of those that were free at some moment, and of those that a length told it of, all
+/// are free later but as many as it has appended itself since. A ring never has more items than places.
 pub fn free_places_stay_free<T>()
     ensures within { (n m : ℕ) → IsShape n m → (steps : List (WordStep T)) → IsWithinPlaces n m steps }
     ensures state { (n m : ℕ) → IsShape n m → (steps more : List (WordStep T)) → FreePlacesStay n m steps more }
@@ -52,7 +52,7 @@ pub fn free_places_stay_free<T>()
 {}
 
 /// So who alone appends to a ring finds a place for each of as many items as it saw free places: a push of it is refused
-/// `Full` only once it has appended as many since, and never among the first so many pushes that it begins after its look.
+/// `Full` only once it has appended as many since, and none of the first so many pushes that it begins after its look is.
 pub fn free_places_are_not_refused<T>()
     ensures state { (n m : ℕ) → IsShape n m → (steps more : List (WordStep T)) → FreePlacesAreFilled n m steps more }
     ensures look { (n m : ℕ) → IsShape n m → (steps : List (WordStep T)) → SeenPlacesAreFilled n m steps }

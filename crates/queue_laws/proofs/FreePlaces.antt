@@ -1,30 +1,36 @@
 -- Where one party alone appends, what it was told of the length bounds the queue until it appends itself.
 use Rattle.std.proofs.Common.{◌≡◌, ℕ, ◌+◌, ◌-◌, ◌≤◌, List, [], ◌∷◌, ◌++◌, length, Bool, true, false}
 use Rattle.std.proofs.Common.{Option, Some, None, Result, Ok, Err, IfSome}
-use Rattle.std.proofs.Common.{◌⊎◌, inl, inr, ◌==◌, if◌then◌else◌, sym, refl, ap, ◌∙◌, subst, eq-eqb, length-append, length-drop, arith}
+use Rattle.std.proofs.Common.{inl, inr, ◌==◌, if◌then◌else◌, sym, refl, ap, ◌∙◌, subst, eq-eqb, length-append, length-drop, arith}
 use Rattle.queue_steps.specs.declared.errors.PushError.TheVariants.{Full, Closed, NoMemory}
 use Rattle.queue_steps.specs.declared.errors.ForcePushError.TheVariants.{Closed as ClosedToForce, NoMemory as NoMemoryToForce}
 use Rattle.queue_steps.specs.declared.errors.PopError.TheVariants.{Empty, Closed as ClosedToPop}
-use Rattle.queue_steps.specs.ClosableQueue.{ClosableQueue, appended, taken, shut}
-use Rattle.queue_steps.specs.Replies.{TurnsAway, RunsOut, Pushes, ForcePushes}
+use Rattle.queue_steps.specs.ClosableQueue.{ClosableQueue, appended, taken}
+use Rattle.queue_steps.specs.Replies.{TurnsAway, Pushes, ForcePushes}
 use Rattle.queue_steps.specs.Calls.{Call, Push, ForcePush, Pop, Close, Len, IsEmptyCall, IsFullCall, IsClosedCall, Answer, Pushed}
 use Rattle.queue_steps.specs.Calls.{ForcePushed, Popped, WasClosed, LenIs, EmptyIs, FullIs, ClosedIs, Acts}
 use Rattle.queue_steps.specs.Bounded.{IsShape, count_at}
 use Rattle.queue_laws.specs.Moments.{Moment, Begins, Does, Displaces, Arrives, Ends, Sight, Scene, Progress, AtSome, MayAnswer, MayEnd}
-use Rattle.queue_laws.specs.Moments.{with_call, sees, becomes, answers, Happens, Run}
+use Rattle.queue_laws.specs.Moments.{with_call, sees, Happens, Run}
 use Rattle.queue_laws.specs.SingleSteps.{Step}
-use Rattle.queue_laws.specs.BoundedSteps.{run, trace, new_ring, new_scene}
-use Rattle.queue_laws.specs.FreePlaces.{who_appends, AppendsAlone, one_of, appended_by, FreePlacesStay}
-use Rattle.queue_laws.proofs.BoundedRuns.{a_ring_is_a_queue}
+use Rattle.queue_laws.specs.BoundedSteps.{BoundedWorld, run, trace, new_ring, new_scene}
+use Rattle.queue_laws.specs.FreePlaces.{who_appends, AppendsAlone, one_of, appended_by, ring_after, free_in, IsWithinPlaces}
+use Rattle.queue_laws.specs.FreePlaces.{FreePlacesStay, SeenPlacesStay}
+use Rattle.queue_steps.proofs.BoundedWords.{count_of_word}
+use Rattle.queue_laws.proofs.BoundedStamps.{tail_count}
+use Rattle.queue_laws.proofs.BoundedState.{Ghost, Tied, scene_of}
+use Rattle.queue_laws.proofs.BoundedKnows.{length_is}
+use Rattle.queue_laws.proofs.BoundedPuts.{Goes}
+use Rattle.queue_laws.proofs.BoundedRuns.{runs, new_ghost, new_tied}
 
 module _ {T : Type 0} where
-  abbrev len : ClosableQueue T → ℕ
+  abbrev pub len : ClosableQueue T → ℕ
   len q = length q.items
 
-  more : (q : ClosableQueue T) (x : T) → len (appended q x) ≡ len q + 1
+  pub more : (q : ClosableQueue T) (x : T) → len (appended q x) ≡ len q + 1
   more q x = length-append q.items (x ∷ [])
 
-  fewer : (q : ClosableQueue T) → len (taken q) ≤ len q
+  pub fewer : (q : ClosableQueue T) → len (taken q) ≤ len q
   fewer q = let z : len (taken q) ≡ length q.items - 1 = length-drop 1 q.items in omega arith
 
   same : (q q' : ClosableQueue T) → q' ≡ q → len q' ≤ len q
@@ -35,7 +41,7 @@ module _ {T : Type 0} where
   turned q q' (inr (c, s, e)) = let z = ap len e in omega arith
 
   -- what an answer adds to the length at most
-  abbrev adds : Answer T → ℕ
+  abbrev pub adds : Answer T → ℕ
   adds (Pushed (Ok u)) = 1
   adds (ForcePushed (Ok o)) = 1
   adds _ = 0
@@ -52,7 +58,7 @@ module _ {T : Type 0} where
   forces q q' x (Err (ClosedToForce y)) (t, s) = let z = turned q q' t in omega arith
   forces q q' x (Err (NoMemoryToForce y)) ((c, n, u, e), s) = let z = same q q' e in omega arith
 
-  acts : (q q' : ClosableQueue T) (call : Call T) (a : Answer T) → Acts q call a q' → len q' ≤ len q + adds a
+  pub acts : (q q' : ClosableQueue T) (call : Call T) (a : Answer T) → Acts q call a q' → len q' ≤ len q + adds a
   acts q q' (Push x) (Pushed r) h = pushes q q' x r h
   acts q q' (ForcePush x) (ForcePushed r) h = forces q q' x r h
   acts q q' Pop (Popped (Ok x)) (i, e) = let z = ap len e in let l = fewer q in omega arith
@@ -71,15 +77,15 @@ module _ {T : Type 0} where
   told_len q q' _ k h = elim h [ ]
 
   -- of a moment of which nobody else is the appender
-  abbrev AppendsOwn : ℕ → Moment T → Type 0
+  abbrev pub AppendsOwn : ℕ → Moment T → Type 0
   AppendsOwn p m = IfSome (who_appends m) (λ q. q ≡ p)
 
-  adds_own : (p r : ℕ) (a : Answer T) → AppendsOwn p (Does r a) → adds a ≡ one_of p (who_appends (Does r a))
+  pub adds_own : (p r : ℕ) (a : Answer T) → AppendsOwn p (Does r a) → adds a ≡ one_of p (who_appends (Does r a))
   adds_own p r (Pushed (Ok u)) e = sym (ap (λ (b : Bool). if b then 1 else 0) (eq-eqb r p e))
   adds_own p r (ForcePushed (Ok o)) e = sym (ap (λ (b : Bool). if b then 1 else 0) (eq-eqb r p e))
   adds_own p r _ e = refl
 
-  abbrev here : Scene T → ℕ
+  abbrev pub here : Scene T → ℕ
   here s = len s.sight.queue
 
   -- each of these sights was of a queue that was shorter than this by no more than j
@@ -112,7 +118,7 @@ module _ {T : Type 0} where
   sees_on x n j j' more le (Some c) h = sees_more x n j j' le c c.answer h
 
   -- what holds of the call of p, if it is the same call as before and if it is another
-  with_calls : (P : Option (Progress T) → Type 0) (calls : ℕ → Option (Progress T)) (r p : ℕ) (c : Option (Progress T))
+  pub with_calls : (P : Option (Progress T) → Type 0) (calls : ℕ → Option (Progress T)) (r p : ℕ) (c : Option (Progress T))
       → P c → P (calls p) → P (with_call calls r c p)
   with_calls P calls r p c new old = by_cases (p == r)
     where
@@ -195,7 +201,7 @@ module _ {T : Type 0} where
       looser (here s') _ (j + (one_of p (who_appends m) + appended_by p ms)) (omega arith) (s'.calls p) z
 
   -- a moment makes the queue longer by no more than its party appends
-  grows : (p : ℕ) (s s' : Scene T) (m : Moment T) → AppendsOwn p m → Happens s m s' → here s' ≤ here s + one_of p (who_appends m)
+  pub grows : (p : ℕ) (s s' : Scene T) (m : Moment T) → AppendsOwn p m → Happens s m s' → here s' ≤ here s + one_of p (who_appends m)
   grows p s s' (Begins r call) own (none, e) = let z = ap here e in omega (arith, z)
   grows p s s' (Does r a) own (c, is, none, (q, did, beside, e)) =
       let z = ap here e in let le = acts s.sight.queue q c.call a did in let o = adds_own p r a own in omega (arith, z, le, o)
@@ -206,20 +212,20 @@ module _ {T : Type 0} where
       let o : one_of p (Some r) ≡ 1 = ap (λ (b : Bool). if b then 1 else 0) (eq-eqb r p own) in omega (arith, z, m, o)
   grows p s s' (Ends r a) own (c, is, may, from, e) = let z = ap here e in omega (arith, z)
 
-  run_grows : (p : ℕ) (s s' : Scene T) (ms : List (Moment T)) → AppendsAlone p ms → Run s ms s' → here s' ≤ here s + appended_by p ms
+  pub run_grows : (p : ℕ) (s s' : Scene T) (ms : List (Moment T)) → AppendsAlone p ms → Run s ms s' → here s' ≤ here s + appended_by p ms
   run_grows p s s' [] own e = let z = ap here e in omega (arith, z)
   run_grows p s s' (m ∷ ms) own (mid, first, rest) =
       let z = run_grows p mid s' ms own.1 rest in let y = grows p s mid m own.0 first in omega (arith, z, y)
 
-  cut : (s s' : Scene T) (xs ys : List (Moment T)) → Run s (xs ++ ys) s' → (mid : Scene T) × Run s xs mid × Run mid ys s'
+  pub cut : (s s' : Scene T) (xs ys : List (Moment T)) → Run s (xs ++ ys) s' → (mid : Scene T) × Run s xs mid × Run mid ys s'
   cut s s' [] ys r = (s, refl, r)
   cut s s' (x ∷ xs) ys (mid, first, rest) = let z = cut mid s' xs ys rest in (z.0, (mid, first, z.1), z.2)
 
-  alone_cut : (p : ℕ) (xs ys : List (Moment T)) → AppendsAlone p (xs ++ ys) → AppendsAlone p xs × AppendsAlone p ys
+  pub alone_cut : (p : ℕ) (xs ys : List (Moment T)) → AppendsAlone p (xs ++ ys) → AppendsAlone p xs × AppendsAlone p ys
   alone_cut p [] ys h = (tt, h)
   alone_cut p (x ∷ xs) ys h = let z = alone_cut p xs ys h.1 in ((h.0, z.0), z.1)
 
-  by_both : (p : ℕ) (xs ys : List (Moment T)) → appended_by p (xs ++ ys) ≡ appended_by p xs + appended_by p ys
+  pub by_both : (p : ℕ) (xs ys : List (Moment T)) → appended_by p (xs ++ ys) ≡ appended_by p xs + appended_by p ys
   by_both p [] ys = omega arith
   by_both p (x ∷ xs) ys = let z = by_both p xs ys in omega (arith, z)
 
@@ -237,27 +243,64 @@ module _ {T : Type 0} where
   told_here p j k s s' (c, is, may, from, e) h =
       let z = told_so (here s) j k c c.answer (subst (BoundedBy (here s) j) is h) may in let y = ap here e in omega (arith, z, y)
 
+  -- a party asked for the length, was told k, and is in no call then
+  pub looks : (p k : ℕ) (s s' : Scene T) (during since : List (Moment T)) → AppendsAlone p during
+      → Run s (Begins p Len ∷ during ++ Ends p (LenIs k) ∷ since) s'
+      → (next : Scene T) × (here next ≤ k + appended_by p during) × (next.calls p ≡ None) × Run next since s'
+  looks p k s s' during since own (asked, begun, rest) =
+      let parts = cut asked s' during (Ends p (LenIs k) ∷ since) rest in
+      let told : Scene T = parts.0 in let end = parts.2.1 in
+      let at_first : Tells p 0 asked = subst (Tells p 0) (sym begun.1)
+      (with_calls (BoundedBy (here s) 0) s.calls p p _ ((omega arith), tt) (subst (BoundedBy (here s) 0) (sym begun.0) tt)) in
+      let tells = runs_on p 0 asked told during own parts.1 at_first in
+      let le = told_here p (0 + appended_by p during) k told parts.2.0 end tells in (
+        parts.2.0,
+        (omega (arith, le)),
+        ap (λ (c : Scene T). c.calls p) end.4 ∙ ap (λ (b : Bool). if b then None else told.calls p) (eq-eqb p p refl),
+        parts.2.2,
+      )
+
   -- from a call that asks for the length on
   bounds : (p k : ℕ) (s s' : Scene T) (during since : List (Moment T)) → AppendsAlone p (during ++ since)
       → Run s (Begins p Len ∷ during ++ Ends p (LenIs k) ∷ since) s' → here s' ≤ k + appended_by p (during ++ since)
-  bounds p k s s' during since own (asked, begun, rest) =
+  bounds p k s s' during since own run =
       let both = alone_cut p during since own in
-      let parts = cut asked s' during (Ends p (LenIs k) ∷ since) rest in
-      let at_first : Tells p 0 asked = subst (Tells p 0) (sym begun.1)
-      (with_calls (BoundedBy (here s) 0) s.calls p p _ ((omega arith), tt) (subst (BoundedBy (here s) 0) (sym begun.0) tt)) in
-      let tells = runs_on p 0 asked parts.0 during both.0 parts.1 at_first in
-      let told = told_here p (0 + appended_by p during) k parts.0 parts.2.0 parts.2.1 tells in
-      let more = run_grows p parts.2.0 s' since both.1 parts.2.2 in
+      let look = looks p k s s' during since both.0 run in
+      let told = look.1 in let more = run_grows p look.0 s' since both.1 look.3 in
       let sums = by_both p during since in omega (arith, told, more, sums)
 
 module _ {T : Type 0} (n m : ℕ) (shape : IsShape n m) where
-  pub free_places_stay : (steps : List (Step T)) → FreePlacesStay n m steps
-  free_places_stay steps p k before during since is own =
-      let q = a_ring_is_a_queue n m shape steps in
-      let parts = cut new_scene_here q.last before (Begins p Len ∷ (during ++ (Ends p (LenIs k) ∷ since)))
-      (subst (λ ms. Run new_scene_here ms q.last) is q.is_run) in
-      let le = bounds p k parts.0 q.last during since own parts.2 in
-      let items = q.items in omega (arith, le, items)
-    where
-      new_scene_here : Scene T
-      new_scene_here = new_scene n m
+  -- a ring has as many free places as it has no items for
+  pub free_is : (w : BoundedWorld T) (g : Ghost T) (calls : ℕ → Option (Progress T)) → Tied n m w g calls
+      → free_in n m w + here (scene_of n m g calls) ≡ n
+  free_is w g calls tied =
+      let tail_is : count_at n m w.tail ≡ g.pushed = ap (count_at n m) tied.tail ∙ tail_count n m shape g.pushed g.shut in
+      let head_is : count_at n m w.head ≡ g.popped = ap (count_at n m) tied.head ∙ count_of_word n m shape g.popped in
+      let within = tied.base.within in let behind = tied.base.behind in let long = length_is n m g tied.base in omega arith
+
+  -- where a new ring comes to by these steps, and a ring by more
+  pub reached : (steps : List (Step T)) → Goes n m shape (new_ring n m) (new_ghost n m shape) (λ p. None) (trace n m steps (new_ring n m))
+      (ring_after n m steps)
+  reached steps = runs n m shape steps (new_ring n m) (new_ghost n m shape) (λ p. None) (new_tied n m shape)
+
+  pub is_within : (steps : List (Step T)) → IsWithinPlaces {T = T} n m steps
+  is_within steps =
+      let r = reached steps in let w : BoundedWorld T = ring_after n m steps in
+      let tail_is : count_at n m w.tail ≡ r.0.pushed = ap (count_at n m) r.3.tail ∙ tail_count n m shape r.0.pushed r.0.shut in
+      let head_is : count_at n m w.head ≡ r.0.popped = ap (count_at n m) r.3.head ∙ count_of_word n m shape r.0.popped in
+      let within = r.3.base.within in omega arith
+
+  pub free_places_stay : (steps more : List (Step T)) → FreePlacesStay n m steps more
+  free_places_stay steps more p own =
+      let a = reached steps in let w : BoundedWorld T = ring_after n m steps in
+      let b = runs n m shape more w a.0 a.1 a.3 in
+      let grown = run_grows p (scene_of n m a.0 a.1) (scene_of n m b.0 b.1) (trace n m more w) own b.2 in
+      let first = free_is w a.0 a.1 a.3 in let later = free_is (run n m more w) b.0 b.1 b.3 in omega (arith, grown, first, later)
+
+  pub seen_places_stay : (steps : List (Step T)) → SeenPlacesStay n m steps
+  seen_places_stay steps p k before during since is own =
+      let r = reached steps in let last : Scene T = scene_of n m r.0 r.1 in
+      let parts = cut (new_scene n m) last before (Begins p Len ∷ (during ++ (Ends p (LenIs k) ∷ since)))
+      (subst (λ ms. Run (new_scene n m) ms last) is r.2) in
+      let le = bounds p k parts.0 last during since own parts.2 in
+      let free = free_is (ring_after n m steps) r.0 r.1 r.3 in omega (arith, le, free)

@@ -11,7 +11,9 @@ pub mod BoundedPlaces
 pub mod BoundedPuts
 pub mod BoundedRuns
 pub mod BoundedStamps
+pub mod FilledPlaces
 pub mod FreePlaces
+pub mod PushesInARow
 pub mod BoundedState
 pub mod SingleLone
 pub mod SingleLooks

@@ -1,5 +1,5 @@
 use Rattle.queue_laws.proofs.SingleRuns.{a_slot_is_a_queue}
-use Rattle.queue_laws.proofs.a_slot_is_a_closable_queue.Goals as goal
+use Rattle.queue_laws.proofs.laws.a_slot_is_a_closable_queue.Goals as goal
 
 pub returns : goal.returns
 returns g c steps = a_slot_is_a_queue steps

@@ -1,0 +1,59 @@
+//! Laws of every list of steps of any number of parties on one queue.
+ghost use Rattle.queue_laws.specs.UnboundedSteps.{Step, IsClosableQueue};
+ghost use Rattle.queue_laws.specs.LoneCalls.{EndsOnSlot, EndsOnChain, EndsOnRing};
+ghost use Rattle.queue_steps.specs.Bounded.{IsShape};
+ghost use Rattle.queue_laws.specs.BoundedSteps.{IsClosableQueue as IsClosableRing};
+ghost use Rattle.queue_laws.specs.FreePlaces.{IsWithinPlaces, FreePlacesStay, SeenPlacesStay, FreePlacesAreFilled};
+ghost use Rattle.queue_laws.specs.FreePlaces.{SeenPlacesAreFilled};
+ghost use Rattle.queue_laws.specs.SingleSteps.{Step as WordStep, IsClosableQueue as IsClosableSlot};
+ghost use Rattle.std.specs.Prelude.{ℕ, List};
+
+/// Whatever parties call on a chain, and however their steps come between one another, what they see is a run of the
+/// closable queue: each call acts at a moment of its own, and answers what the queue answers there.
+pub fn a_chain_is_a_closable_queue<T>()
+    ensures { (steps : List (Step T)) → IsClosableQueue steps }
+{}
+
+/// The same of a single slot, step by step: a step loads or exchanges its word, or is done in the slot by the party
+/// that has locked it. What a call answers without a change is what the queue answers at some moment of that call.
+pub fn a_slot_is_a_closable_queue<T>()
+    ensures { (steps : List (WordStep T)) → IsClosableSlot steps }
+{}
+
+/// The same of a ring of any shape: a step loads or exchanges the tail, the head or a stamp, or is done in a place by the
+/// party whose own it is. A forced push on a full ring takes the first item at one step and appends its own at a later
+/// one, and a close in between is kept. No word wraps, and no place is read empty.
+pub fn a_ring_is_a_closable_queue<T>()
+    ensures { (n m : ℕ) → IsShape n m → (steps : List (WordStep T)) → IsClosableRing n m steps }
+{}
+
+/// A call on a chain that begins while no other is in progress, and goes on alone, ends within 64 steps.
+pub fn a_lone_call_on_a_chain_ends<T>()
+    ensures { (steps : List (Step T)) → EndsOnChain steps }
+{}
+
+/// The same of a single slot.
+pub fn a_lone_call_on_a_slot_ends<T>()
+    ensures { (steps : List (WordStep T)) → EndsOnSlot steps }
+{}
+
+/// The same of a ring of any shape.
+pub fn a_lone_call_on_a_ring_ends<T>()
+    ensures { (n m : ℕ) → IsShape n m → (steps : List (WordStep T)) → EndsOnRing n m steps }
+{}
+
+/// Where one party alone appends to a ring, the free places that it saw stay free until its next append, whatever others
+/// pop and whoever closes the ring. Of those that were free at some moment, and of those that a length told it of, all
+/// are free later but as many as it has appended itself since. A ring never has more items than places.
+pub fn free_places_stay_free<T>()
+    ensures within { (n m : ℕ) → IsShape n m → (steps : List (WordStep T)) → IsWithinPlaces n m steps }
+    ensures state { (n m : ℕ) → IsShape n m → (steps more : List (WordStep T)) → FreePlacesStay n m steps more }
+    ensures look { (n m : ℕ) → IsShape n m → (steps : List (WordStep T)) → SeenPlacesStay n m steps }
+{}
+
+/// So who alone appends to a ring finds a place for each of as many items as it saw free places: a push of it is refused
+/// `Full` only once it has appended as many since, and none of the first so many pushes that it begins after its look is.
+pub fn free_places_are_not_refused<T>()
+    ensures state { (n m : ℕ) → IsShape n m → (steps more : List (WordStep T)) → FreePlacesAreFilled n m steps more }
+    ensures look { (n m : ℕ) → IsShape n m → (steps : List (WordStep T)) → SeenPlacesAreFilled n m steps }
+{}

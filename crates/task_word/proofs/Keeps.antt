@@ -210,13 +210,14 @@ module _ {F T W : Type 0} where
       rests = rests';
       holds = record {
         stored = r.stored;
+        parked = r.parked;
         body = body';
         post = post';
         fits = next.fits;
         bounded = next.bounded;
         fits_post = next.fits_post;
         emptied = next.emptied;
-        word = ap (λ (ws : List ℕ). set ws 0 new) r.word ∙ ap (λ (z : ℕ). z ∷ r.stored ∷ []) is;
+        word = ap (λ (ws : List ℕ). set ws 0 new) r.word ∙ ap (λ (z : ℕ). z ∷ r.stored ∷ r.parked ∷ []) is;
         references = let t : total (set s.views id w) + reference_of me.0.hold ≡ total s.views + reference_of hold' =
             total_set s.views id me.0 w at in
             let c : st.references ≡ total s.views + r.stored + going r.body + calling r.post = r.references in
@@ -224,7 +225,7 @@ module _ {F T W : Type 0} where
             + reference_of hold' = next.references in omega arith;
         handle = let t : handles (set s.views id w) + handle_of me.0.hold ≡ handles s.views + handle_of hold' =
             handles_set s.views id me.0 w at in
-            let c : bit st.handle ≡ handles s.views + spending r.body + handling r.post = r.handle in
+            let c : bit st.handle ≡ handles s.views + r.parked + spending r.body + handling r.post = r.handle in
             let m : bit st'.handle + spending r.body + handling r.post + handle_of me.0.hold ≡ bit st.handle + spending body' + handling
             post' + handle_of hold' = next.handle in omega arith;
         place = next.place;
@@ -280,7 +281,7 @@ module _ {F T W : Type 0} where
 
   pub handle_counted : {s : St F T W} {st : State} {rests : Bool} (r : Holds st rests s) (id : ℕ) (me : Known F T W)
       → get_elem? s.views id ≡ some me.0 → handle_of me.0.hold + spending r.body + handling r.post ≤ bit st.handle
-  handle_counted {s} {st} r id me at = let c : bit st.handle ≡ handles s.views + spending r.body + handling r.post = r.handle in
+  handle_counted {s} {st} r id me at = let c : bit st.handle ≡ handles s.views + r.parked + spending r.body + handling r.post = r.handle in
       let m : handle_of me.0.hold ≤ handles s.views = handles_has s.views id me.0 at in omega arith
 
   sees : {s : St F T W} {st : State} {rests : Bool} (r : Holds st rests s) (id : ℕ) (me : Known F T W) → get_elem? s.views id ≡ some me.0
@@ -388,6 +389,7 @@ module _ {F T W : Type 0} where
       rests = c.rests;
       holds = record {
         stored = r.stored;
+        parked = r.parked;
         body = r.body;
         post = r.post;
         fits = r.fits;
@@ -398,7 +400,7 @@ module _ {F T W : Type 0} where
         references = let t : total (s.views ++ w ∷ []) ≡ total s.views + 0 = total_last s.views w in
             let m : c.state.references ≡ total s.views + r.stored + going r.body + calling r.post = r.references in omega arith;
         handle = let t : handles (s.views ++ w ∷ []) ≡ handles s.views + 0 = handles_last s.views w in
-            let m : bit c.state.handle ≡ handles s.views + spending r.body + handling r.post = r.handle in omega arith;
+            let m : bit c.state.handle ≡ handles s.views + r.parked + spending r.body + handling r.post = r.handle in omega arith;
         place = r.place;
         each_seat = λ j d e. ⊎_elim (λ t. r.each_seat j d t)
             (λ t. subst (λ (z : View). Knows r.body j z.hold × KnowsPost r.post j z.hold × KnowsState c.state z.hold) t (tt, tt, tt))
@@ -409,7 +411,7 @@ module _ {F T W : Type 0} where
   )
 
   -- a cell with no task
-  pub starts : Cell {F = F} {T = T} {W = W} (opening (8 ∷ 0 ∷ []) (None ∷ None ∷ []) (view Nothing 0 0))
+  pub starts : Cell {F = F} {T = T} {W = W} (opening (8 ∷ 0 ∷ 0 ∷ []) (None ∷ None ∷ []) (view Nothing 0 0))
   starts = record {
     state = record {
       scheduled = false;
@@ -426,6 +428,7 @@ module _ {F T W : Type 0} where
     rests = false;
     holds = record {
       stored = 0;
+      parked = 0;
       body = gone;
       post = lies None;
       fits = (refl, refl, refl, refl);

@@ -175,6 +175,7 @@ module _ {F T W : Type 0} (id : ℕ) (v : View) where
     rests = c.rests;
     holds = record {
       stored = r.stored;
+      parked = r.parked;
       body = r.body;
       post = r.post;
       fits = r.fits;
@@ -193,7 +194,7 @@ module _ {F T W : Type 0} (id : ℕ) (v : View) where
           handles_set s.views id v (runnable_of v) at in
           let l : handles (set s.views id (runnable_of v) ++ handle_of_new v ∷ []) ≡ handles (set s.views id (runnable_of v)) + 1 =
           handles_last (set s.views id (runnable_of v)) (handle_of_new v) in
-          let m : bit c.state.handle ≡ handles s.views + spending r.body + handling r.post = r.handle in omega arith;
+          let m : bit c.state.handle ≡ handles s.views + r.parked + spending r.body + handling r.post = r.handle in omega arith;
       place = r.place;
       each_seat = λ j d e. ⊎_elim
           (λ t. ⊎_elim

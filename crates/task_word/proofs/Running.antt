@@ -370,6 +370,16 @@ open_back st mv b m seat its e eb slots h = subst (λ (z : Moved). Paused z.owed
     (open_back_by st.closed st.scheduled (is_last st) st b m seat e (eb ∙ ap leaves_awaiter its) slots
     (subst (λ (z : Moved). paused z m seat.me) its h))
 
+unfinished_by : (c t l : Bool) (st : State) → c ≡ false → (end_pending_by c t l st).owed.next ≡ None
+unfinished_by true t l st e = true_not refl e
+unfinished_by false true l st e = refl
+unfinished_by false false true st e = refl
+unfinished_by false false false st e = refl
+
+-- a run of an open task has no move more to make
+pub unfinished : (st : State) (mv : Moved) → mv ≡ moves.end_pending st → st.closed ≡ false → mv.owed.next ≡ None
+unfinished st mv its e = ap (λ (z : Moved). z.owed.next) its ∙ unfinished_by _ _ _ st e
+
 shut_by : (c t l : Bool) (st : State) → c ≡ true → (end_pending_by c t l st).owed.empty_cell ≡ false
 shut_by true t l st e = refl
 shut_by false t l st e = true_not refl (sym e)

@@ -196,18 +196,19 @@ abbrev pub handles : List View → ℕ
 handles [] = 0
 handles (v ∷ vs) = handle_of v.hold + handles vs
 
--- word 0 is this state, and word 1 the references of stored wakers
+-- word 0 is this state, word 1 the references of stored wakers, and word 2 whether the handle is stored
 pub record Holds {F T W : Type 0} (st : State) (rests : Bool) (s : table.State (Slot F T W) View) : Type 0 where
   pub stored : ℕ
+  pub parked : ℕ
   pub body : Body F T
   pub post : Post W
   pub fits : Fits body st rests
   pub bounded : st.references ≤ most + room body
   pub fits_post : FitsPost post st.awaiter st.registering st.notifying
   pub emptied : Emptied post st
-  pub word : s.words ≡ pack st rests ∷ stored ∷ []
+  pub word : s.words ≡ pack st rests ∷ stored ∷ parked ∷ []
   pub references : st.references ≡ total s.views + stored + going body + calling post
-  pub handle : bit st.handle ≡ handles s.views + spending body + handling post
+  pub handle : bit st.handle ≡ handles s.views + parked + spending body + handling post
   pub place : s.homes ≡ home body ∷ home_awaiter post ∷ []
   pub each_seat : (j : ℕ) (d : View) → get_elem? s.views j ≡ some d → Knows body j d.hold × KnowsPost post j d.hold × KnowsState st d.hold
 

@@ -20,11 +20,15 @@ use Rattle.task_word.specs.Given.{is_given}
 use Rattle.task_word.specs.Cell.{most, weight, filling, Slot}
 
 abbrev pub view : Hold → ℕ → ℕ → View
-view hold found left = record { hold = hold; found = found; left = left; stored = None }
+view hold found left = record { hold = hold; found = found; left = left; stored = None; parked = None }
 
 -- and after a step on the word of stored wakers
 abbrev pub stored_view : Hold → ℕ → View → View
-stored_view hold found v = record v { hold = hold; stored = Some found }
+stored_view hold found v = record v { hold = hold; stored = Some found; parked = None }
+
+-- and after one on the word of a stored handle
+abbrev pub parked_view : Hold → ℕ → View → View
+parked_view hold found v = record v { hold = hold; stored = None; parked = Some found }
 
 abbrev pub Known : Type 0 → Type 0 → Type 0 → Type 0
 Known F T W = Me (Slot F T W) View
@@ -191,6 +195,16 @@ module _ {F T W : Type 0} where
   abbrev pub redeemed : ℕ → Known F T W → ℕ → Known F T W → Type 0
   redeemed old m n m' = (n ≡ old → Is Reference m.1 m') × (n ≢ old → keeps_all m m')
 
+  -- steps on the word of a stored handle
+  abbrev pub looked_parked : Known F T W → ℕ → Known F T W → Type 0
+  looked_parked m n m' = keeps_all m m' × (m'.0.parked ≡ Some n)
+
+  abbrev pub parked : Known F T W → Known F T W → Type 0
+  parked m m' = Is Nothing m.1 m'
+
+  abbrev pub unparked : ℕ → Known F T W → ℕ → Known F T W → Type 0
+  unparked old m n m' = (n ≡ old → Is Handle m.1 m') × (n ≢ old → keeps_all m m')
+
 -- what the two seats have of a new task
 abbrev pub runnable_of : View → View
 runnable_of v = record v { hold = Queued }
@@ -200,7 +214,7 @@ handle_of_new v = record v { hold = Handle }
 
 module _ {F T W K P : Type 0} where
   abbrev pub IsSeatOf : Shared (Slot F T W) View K P → Seat (Slot F T W) View → Type 0
-  IsSeatOf board seat = (seat.table_id ≡ board.table_id) × (board.table_id.words ≡ 2) × (board.table_id.slots ≡ 2)
+  IsSeatOf board seat = (seat.table_id ≡ board.table_id) × (board.table_id.words ≡ 3) × (board.table_id.slots ≡ 2)
 
 module _ {F T W : Type 0} where
   abbrev pub IsSameSeat : Seat (Slot F T W) View → Seat (Slot F T W) View → Type 0
@@ -245,9 +259,21 @@ module _ {F T W : Type 0} where
   HasCopy (Some answer) seat = Has Nothing seat
   HasCopy None seat = Has Reference seat
 
+  -- nothing, as no Runnable rested in the word
+  abbrev pub FoundNoRunnable : Seat (Slot F T W) View → Type 0
+  FoundNoRunnable seat = Has Nothing seat × (st : State) × (seat.me.0.found ≡ pack st false)
+
+  -- nothing, as the cell was not empty
+  abbrev pub FoundTask : Seat (Slot F T W) View → Type 0
+  FoundTask seat = Has Nothing seat × (st : State) × (rests : Bool) × (seat.me.0.found ≡ pack st rests) × (IsOver st → ⊥)
+
   -- nothing, as no reference rested in the cell
   abbrev pub FoundNone : Seat (Slot F T W) View → Type 0
   FoundNone seat = Has Nothing seat × (seat.me.0.stored ≡ Some 0)
+
+  -- nothing, as no handle rested in the cell
+  abbrev pub FoundNotParked : Seat (Slot F T W) View → Type 0
+  FoundNotParked seat = Has Nothing seat × (seat.me.0.parked ≡ Some 0)
 
   -- a poll, or a future that is to be dropped
   abbrev pub TakenUp : Option Move → Seat (Slot F T W) View → Type 0

@@ -10,7 +10,7 @@ use Rattle.task_word.specs.declared.rule.View.{View}
 use Rattle.task_word.specs.Cell.{Slot}
 use Rattle.task_moves.specs.Moves as moves
 use Rattle.task_word.specs.Awaiter.{needs_slot, comes_back}
-use Rattle.task_word.specs.Steps.{Makes}
+use Rattle.task_word.specs.Steps.{Makes, IsOver}
 use Rattle.task_word.specs.Word.{pack}
 
 -- the badge of this seat
@@ -51,6 +51,20 @@ registers_by false board owed badge calls = Shows board moves.register owed badg
 abbrev pub Registers : {F T W K P : Type 0} → Shared (Slot F T W) View K P → Owed → Badge View → Bool → Type 0
 Registers board owed badge calls = registers_by (needs_slot owed.awaiter) board owed badge calls
 
+-- no Runnable rested in the word
+abbrev pub FindsNoRunnable : {F T W K P : Type 0} → Shared (Slot F T W) View K P → Badge View → Type 0
+FindsNoRunnable board badge = (badge.table_id ≡ board.table_id) × (v : View) × (badge.views ≡ v ∷ []) × (st : State)
+    × (v.found ≡ pack st false)
+
+-- the cell was not empty
+abbrev pub FindsTask : {F T W K P : Type 0} → Shared (Slot F T W) View K P → Badge View → Type 0
+FindsTask board badge = (badge.table_id ≡ board.table_id) × (v : View) × (badge.views ≡ v ∷ []) × (st : State) × (rests : Bool)
+    × (v.found ≡ pack st rests) × (IsOver st → ⊥)
+
 -- no reference rested in the cell
 abbrev pub FindsNoneStored : {F T W K P : Type 0} → Shared (Slot F T W) View K P → Badge View → Type 0
 FindsNoneStored board badge = (badge.table_id ≡ board.table_id) × (v : View) × (badge.views ≡ v ∷ []) × (v.stored ≡ Some 0)
+
+-- no handle rested in the cell
+abbrev pub FindsNotParked : {F T W K P : Type 0} → Shared (Slot F T W) View K P → Badge View → Type 0
+FindsNotParked board badge = (badge.table_id ≡ board.table_id) × (v : View) × (badge.views ≡ v ∷ []) × (v.parked ≡ Some 0)

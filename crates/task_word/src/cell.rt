@@ -3,26 +3,41 @@ ghost use Rattle.std.specs.Prelude.{◌≡◌};
 ghost use Rattle.task_word.specs.Steps.{Has, IsSeatOf};
 ghost use Rattle.task_word.specs.declared.rule.Hold.TheVariants.{Nothing};
 
-use crate::layout::EMPTY;
+use crate::layout::{EMPTY, decode};
 use crate::rule::{Arrive, CellRule, Slot, View};
-use crate::steps::{Board, Pass};
+use crate::steps::{Board, Pass, look};
 use atomic_table::Table;
 use std::alloc::{AllocError, Global};
+use std::boxed::Box;
+use task_moves::moves::State;
 
 /// The place of a task: its words, a slot of its future or output, and one of its awaiter.
 #[derive(Drop)]
 pub struct Cell<F, T, W> {
     pub board: Table<Slot<F, T, W>, View, (), CellRule, Global>,
-    ghost sized: { (board.shared.table_id.words ≡ 2) × (board.shared.table_id.slots ≡ 2) },
+    ghost sized: { (board.shared.table_id.words ≡ 3) × (board.shared.table_id.slots ≡ 2) },
 }
 
 impl<F, T, W> Cell<F, T, W> {
     /// A cell with no task.
     pub fn new(alloc: Global) -> Result<Self, AllocError> {
-        match Table::vacant(alloc, &[EMPTY, 0], 2, &()) {
+        match Table::vacant(alloc, &[EMPTY, 0, 0], 2, &()) {
             Ok((board, _)) => Ok(Cell { board }),
             Err(_) => Err(AllocError),
         }
+    }
+
+    /// The same, for as long as the program runs: what has something of its task has a reference to it.
+    pub fn leak<'r>(alloc: Global) -> Result<&'r Self, AllocError>
+    where
+        F: Drop + 'r,
+        T: Drop + 'r,
+        W: Drop + 'r,
+    {
+        let Ok(cell) = Box::new(alloc, Cell::new(alloc)?) else {
+            return Err(AllocError);
+        };
+        Ok(Box::leak(cell))
     }
 
     /// What the steps are lent.
@@ -40,5 +55,12 @@ impl<F, T, W> Cell<F, T, W> {
         ensures nothing { Has Nothing result }
     {
         self.board.shared.load_new_seat::<Arrive>(0).1
+    }
+
+    /// What the state is at this moment.
+    #[inline(always)]
+    pub fn state(&self) -> State {
+        let mut pass = self.pass();
+        decode(look(self.board(), &mut pass)).state
     }
 }

@@ -6,7 +6,8 @@ ghost use Rattle.task_word.specs.Awaiter.{notified, end_notified, registered, en
 ghost use Rattle.task_word.specs.Steps as steps;
 ghost use Rattle.task_word.specs.Steps.{view, arrived, looked, looked_by, turned_up, turned_back, tries, swapped};
 ghost use Rattle.task_word.specs.Steps.{woken, released, let_go, polled, spent, copied, began, ended, paused, dropped};
-ghost use Rattle.task_word.specs.Steps.{reserved, filled, filled_detached, rested, resumed, looked_stored, stored, redeemed, runnable_of, handle_of_new};
+ghost use Rattle.task_word.specs.Steps.{reserved, filled, filled_detached, rested, resumed, looked_stored, stored, redeemed};
+ghost use Rattle.task_word.specs.Steps.{looked_parked, parked, unparked, runnable_of, handle_of_new};
 ghost use Rattle.task_word.specs.declared.rule.Hold.TheVariants.{Nothing};
 
 use atomic_table::{Play, Split, TableRule};
@@ -61,6 +62,8 @@ pub struct View {
     pub left: u64,
     /// The word of stored wakers, as the last step found it, where it was on that word.
     pub stored: Option<u64>,
+    /// The word of a stored handle, likewise.
+    pub parked: Option<u64>,
 }
 
 /// A slot, which is empty or has something.
@@ -297,6 +300,27 @@ pub struct Redeem;
 
 impl<F, T, W> Play<Slot<F, T, W>, View> for Redeem {
     ghost then = { λ s m n m'. redeemed s.first m n m' };
+}
+
+/// A load of the word of a stored handle.
+pub struct LookParked;
+
+impl<F, T, W> Play<Slot<F, T, W>, View> for LookParked {
+    ghost then = { λ s m n m'. looked_parked m n m' };
+}
+
+/// The handle rests in that word.
+pub struct Park;
+
+impl<F, T, W> Play<Slot<F, T, W>, View> for Park {
+    ghost then = { λ s m n m'. parked m m' };
+}
+
+/// It is taken out of it.
+pub struct Unpark;
+
+impl<F, T, W> Play<Slot<F, T, W>, View> for Unpark {
+    ghost then = { λ s m n m'. unparked s.first m n m' };
 }
 
 /// A new task's handle goes to a seat of its own.

@@ -8,6 +8,7 @@ pub mod awaiter;
 pub mod closing;
 pub mod handle;
 pub mod making;
+pub mod parked;
 pub mod runs;
 pub mod stored;
 pub mod wakers;

@@ -1,6 +1,6 @@
 //! What a thread has of a task, as values that can't be dropped: a Runnable is made of the right to the future alone, a waker of
 //! one reference, a task of its handle. Each names its cell, and shows by its view the step that it came of.
-ghost use Rattle.std.specs.Prelude.{◌≡◌, [], ◌∷◌, is_some, is_ok, MatchOption, MatchResult, ⊤};
+ghost use Rattle.std.specs.Prelude.{◌≡◌, [], ◌∷◌, false, is_some, is_ok, IfSome, MatchOption, MatchResult, ⊤};
 ghost use Rattle.task_word.specs.Badges.{holds};
 ghost use Rattle.task_word.specs.Steps.{Has, HasLeft, IsSeatOf};
 ghost use Rattle.task_word.specs.Tokens.{IsBadgeOf};
@@ -20,23 +20,23 @@ use crate::slot::take_awaiter;
 use crate::steps::{Pass, awaiter};
 use atomic_table::Badge;
 pub use debt::Debt;
-pub use handles::{Found, OwingTask};
+pub use handles::{DetachingTask, Found, OwingTask};
 pub use past::{OwingRun, PastRun};
 pub use polls::{Polled, Registered, RegisteredTask, WaitingTask};
 pub use runs::{ClosedRun, ClosedRunnable, ReadyRun, Run};
 use task_moves::ScheduleInfo;
 
 /// A Runnable, to be put to rest, run, or let go.
-pub struct Runnable<'a, F, T, W> {
-    cell: &'a Cell<F, T, W>,
+pub struct Runnable<F: 'static, T: 'static, W: 'static> {
+    cell: &'static Cell<F, T, W>,
     badge: Badge<View>,
     ghost of: { badge.table_id ≡ cell.now.board.shared.table_id },
     ghost right: { holds badge.views ≡ Queued ∷ [] },
 }
 
-impl<'a, F, T, W> Runnable<'a, F, T, W> {
+impl<F: 'static, T: 'static, W: 'static> Runnable<F, T, W> {
     #[inline(always)]
-    pub(crate) fn of(cell: &'a Cell<F, T, W>, pass: Pass<F, T, W>) -> Self
+    pub(crate) fn of(cell: &'static Cell<F, T, W>, pass: Pass<F, T, W>) -> Self
         requires seat { IsSeatOf cell.now.board.shared pass }
         requires has { Has Queued pass }
         ensures { IsBadgeOf pass result.badge }
@@ -48,7 +48,7 @@ impl<'a, F, T, W> Runnable<'a, F, T, W> {
     }
 
     #[inline(always)]
-    pub(crate) fn open(self) -> (&'a Cell<F, T, W>, Pass<F, T, W>)
+    pub(crate) fn open(self) -> (&'static Cell<F, T, W>, Pass<F, T, W>)
         ensures same { (result.1.table_id ≡ self.entry.badge.table_id) × (result.1.id ≡ self.entry.badge.id) }
         ensures cell { result.0.now ≡ self.entry.cell.now }
         ensures seat { IsSeatOf result.0.now.board.shared result.1 }
@@ -60,16 +60,16 @@ impl<'a, F, T, W> Runnable<'a, F, T, W> {
 }
 
 /// A waker: one reference, to be released.
-pub struct Waker<'a, F, T, W> {
-    cell: &'a Cell<F, T, W>,
+pub struct Waker<F: 'static, T: 'static, W: 'static> {
+    cell: &'static Cell<F, T, W>,
     badge: Badge<View>,
     ghost of: { badge.table_id ≡ cell.now.board.shared.table_id },
     ghost one: { holds badge.views ≡ Reference ∷ [] },
 }
 
-impl<'a, F, T, W> Waker<'a, F, T, W> {
+impl<F: 'static, T: 'static, W: 'static> Waker<F, T, W> {
     #[inline(always)]
-    pub(crate) fn of(cell: &'a Cell<F, T, W>, pass: Pass<F, T, W>) -> Self
+    pub(crate) fn of(cell: &'static Cell<F, T, W>, pass: Pass<F, T, W>) -> Self
         requires seat { IsSeatOf cell.now.board.shared pass }
         requires has { Has Reference pass }
         ensures { IsBadgeOf pass result.badge }
@@ -81,7 +81,7 @@ impl<'a, F, T, W> Waker<'a, F, T, W> {
     }
 
     #[inline(always)]
-    pub(crate) fn open(self) -> (&'a Cell<F, T, W>, Pass<F, T, W>)
+    pub(crate) fn open(self) -> (&'static Cell<F, T, W>, Pass<F, T, W>)
         ensures same { (result.1.table_id ≡ self.entry.badge.table_id) × (result.1.id ≡ self.entry.badge.id) }
         ensures cell { result.0.now ≡ self.entry.cell.now }
         ensures seat { IsSeatOf result.0.now.board.shared result.1 }
@@ -93,16 +93,16 @@ impl<'a, F, T, W> Waker<'a, F, T, W> {
 }
 
 /// The handle of a task, to be detached.
-pub struct Task<'a, F, T, W> {
-    cell: &'a Cell<F, T, W>,
+pub struct Task<F: 'static, T: 'static, W: 'static> {
+    cell: &'static Cell<F, T, W>,
     badge: Badge<View>,
     ghost of: { badge.table_id ≡ cell.now.board.shared.table_id },
     ghost handle: { holds badge.views ≡ Handle ∷ [] },
 }
 
-impl<'a, F, T, W> Task<'a, F, T, W> {
+impl<F: 'static, T: 'static, W: 'static> Task<F, T, W> {
     #[inline(always)]
-    pub(crate) fn of(cell: &'a Cell<F, T, W>, pass: Pass<F, T, W>) -> Self
+    pub(crate) fn of(cell: &'static Cell<F, T, W>, pass: Pass<F, T, W>) -> Self
         requires seat { IsSeatOf cell.now.board.shared pass }
         requires has { Has Handle pass }
         ensures { IsBadgeOf pass result.badge }
@@ -114,7 +114,8 @@ impl<'a, F, T, W> Task<'a, F, T, W> {
     }
 
     #[inline(always)]
-    pub(crate) fn open(self) -> (&'a Cell<F, T, W>, Pass<F, T, W>)
+    pub(crate) fn open(self) -> (&'static Cell<F, T, W>, Pass<F, T, W>)
+        ensures same { (result.1.table_id ≡ self.entry.badge.table_id) × (result.1.id ≡ self.entry.badge.id) }
         ensures cell { result.0.now ≡ self.entry.cell.now }
         ensures seat { IsSeatOf result.0.now.board.shared result.1 }
         ensures has { Has Handle result.1 }
@@ -145,21 +146,22 @@ impl Trace {
 
 /// What is left where a reference or the handle went: a Runnable, where one is owed, or the awaiter that nobody can reach any
 /// more. The cell may be taken for another task then.
-pub struct Left<'a, F, T, W> {
-    pub runnable: Result<Runnable<'a, F, T, W>, Trace>,
+pub struct Left<F: 'static, T: 'static, W: 'static> {
+    pub runnable: Result<Runnable<F, T, W>, Trace>,
     pub awaiter: Option<Debt<W>>,
 }
 
 #[inline(always)]
-pub(crate) fn take_left<'a, F, T, W>(
-    cell: &'a Cell<F, T, W>,
+pub(crate) fn take_left<F: 'static, T: 'static, W: 'static>(
+    cell: &'static Cell<F, T, W>,
     mut pass: Pass<F, T, W>,
     schedule: Option<ScheduleInfo>,
     is_left: bool,
-) -> Left<'a, F, T, W>
+) -> Left<F, T, W>
     requires seat { IsSeatOf cell.now.board.shared pass }
     requires has { HasLeft schedule is_left pass }
     ensures paid { is_ok result.runnable ≡ is_some schedule }
+    ensures alone { IfSome result.awaiter (λ _. is_ok result.runnable ≡ false) }
     ensures shows { MatchOption result.awaiter
         (MatchResult result.runnable (λ r. IsBadgeOf pass r.badge) (λ t. IsBadgeOf pass t.badge))
         (λ _. ⊤) }

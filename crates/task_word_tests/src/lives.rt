@@ -7,7 +7,7 @@ use task_word::tokens::{
     Run, Runnable, Task, Trace,
 };
 
-pub type Handle<'a> = Task<'a, u64, u64, u64>;
+pub type Handle = Task<u64, u64, u64>;
 
 /// The value that is owed a call or a drop.
 fn paid(debt: Option<Debt<u64>>) -> Option<u64> {
@@ -18,7 +18,7 @@ fn paid(debt: Option<Debt<u64>>) -> Option<u64> {
 }
 
 /// A Runnable comes to rest, where one is there.
-pub fn rest(owed: Result<Runnable<'_, u64, u64, u64>, Trace>) -> bool {
+pub fn rest(owed: Result<Runnable<u64, u64, u64>, Trace>) -> bool {
     match owed {
         Ok(runnable) => {
             runnable.rest();
@@ -29,7 +29,7 @@ pub fn rest(owed: Result<Runnable<'_, u64, u64, u64>, Trace>) -> bool {
 }
 
 /// A new task's handle, once its Runnable rests.
-pub fn make<'a, R: Wait>(rt: &R, place: &'a Place) -> Option<Handle<'a>> {
+pub fn make<R: Wait>(rt: &R, place: &'static Place) -> Option<Handle> {
     match place.make(rt, 7) {
         Ok((runnable, task)) => {
             runnable.rest();
@@ -40,9 +40,9 @@ pub fn make<'a, R: Wait>(rt: &R, place: &'a Place) -> Option<Handle<'a>> {
 }
 
 /// The end of a run: the awaiter is called, where that is owed, and the reference given up.
-fn leave<'a, R: Wait>(
+fn leave<R: Wait>(
     rt: &R,
-    left: Result<PastRun<'a, u64, u64, u64>, OwingRun<'a, u64, u64, u64>>,
+    left: Result<PastRun<u64, u64, u64>, OwingRun<u64, u64, u64>>,
 ) -> (bool, Option<u64>, Option<u64>) {
     let (past, called) = match left {
         Ok(past) => (past, None),
@@ -57,7 +57,7 @@ fn leave<'a, R: Wait>(
 }
 
 /// A poll that gives this output.
-fn finish<R: Wait>(rt: &R, run: ReadyRun<'_, u64, u64, u64>, output: u64) -> Outcome {
+fn finish<R: Wait>(rt: &R, run: ReadyRun<u64, u64, u64>, output: u64) -> Outcome {
     let (_, left, back) = run.store(rt, output);
     let ran = match paid(back) {
         Some(_) => Ran::ReadyForNobody,
@@ -68,7 +68,7 @@ fn finish<R: Wait>(rt: &R, run: ReadyRun<'_, u64, u64, u64>, output: u64) -> Out
 }
 
 /// A poll that gives none.
-fn pause<R: Wait>(rt: &R, run: Run<'_, u64, u64, u64>) -> Outcome {
+fn pause<R: Wait>(rt: &R, run: Run<u64, u64, u64>) -> Outcome {
     let (_, left, future) = run.pend(rt);
     let is_dropped = paid(future).is_some();
     match left {
@@ -92,9 +92,9 @@ fn pause<R: Wait>(rt: &R, run: Run<'_, u64, u64, u64>) -> Outcome {
 }
 
 /// Runs the Runnable that rests in the word, where one does. Its poll gives this output, where it is some.
-pub fn run<R: Wait>(rt: &R, place: &Place, output: Option<u64>) -> Outcome {
+pub fn run<R: Wait>(rt: &R, place: &'static Place, output: Option<u64>) -> Outcome {
     match place.resume(rt) {
-        Some(runnable) => match runnable.take_up(rt).1 {
+        Ok(runnable) => match runnable.take_up(rt).1 {
             Ok(run) => match output {
                 Some(output) => {
                     let (run, future) = run.ready();
@@ -113,7 +113,7 @@ pub fn run<R: Wait>(rt: &R, place: &Place, output: Option<u64>) -> Outcome {
                 }
             }
         },
-        None => Outcome {
+        Err(_) => Outcome {
             ran: Ran::Nothing,
             called: None,
             left: None,
@@ -122,23 +122,20 @@ pub fn run<R: Wait>(rt: &R, place: &Place, output: Option<u64>) -> Outcome {
 }
 
 /// Lets the Runnable go that rests in the word, where one does. The answer has the awaiter that is called.
-pub fn let_go<R: Wait>(rt: &R, place: &Place) -> Option<(bool, Option<u64>)> {
+pub fn let_go<R: Wait>(rt: &R, place: &'static Place) -> Option<(bool, Option<u64>)> {
     match place.resume(rt) {
-        Some(runnable) => {
+        Ok(runnable) => {
             let (_, closed, future) = runnable.let_go(rt);
             future.pay();
             let (is_empty, called, _) = leave(rt, closed.settle(rt).1);
             Some((is_empty, called))
         }
-        None => None,
+        Err(_) => None,
     }
 }
 
 /// The handle calls the awaiter, where that is owed.
-fn call<'a, R: Wait>(
-    rt: &R,
-    task: Result<Handle<'a>, OwingTask<'a, u64, u64, u64>>,
-) -> (Handle<'a>, Option<u64>) {
+fn call<R: Wait>(rt: &R, task: Result<Handle, OwingTask<u64, u64, u64>>) -> (Handle, Option<u64>) {
     match task {
         Ok(task) => (task, None),
         Err(owing) => {
@@ -149,11 +146,11 @@ fn call<'a, R: Wait>(
 }
 
 /// What a look came to, with the handle and the awaiter that was called.
-fn looked<'a, R: Wait>(
+fn looked<R: Wait>(
     rt: &R,
-    polled: Polled<'a, u64, u64, u64>,
+    polled: Polled<u64, u64, u64>,
     otherwise: Looked,
-) -> (Handle<'a>, Looked, Option<u64>) {
+) -> (Handle, Looked, Option<u64>) {
     let Polled { task, output } = polled;
     let looked = match paid(output) {
         Some(output) => Looked::Output(output),
@@ -175,7 +172,7 @@ pub enum Kept {
 }
 
 /// A poll of the handle with this waker, up to its answer; and the awaiters that were called and dropped.
-pub fn poll<'a, R: Wait>(rt: &R, task: Handle<'a>, waker: u64) -> (Handle<'a>, Looked, Kept) {
+pub fn poll<R: Wait>(rt: &R, task: Handle, waker: u64) -> (Handle, Looked, Kept) {
     match task.poll(rt).1 {
         Ok(polled) => {
             let (task, answer, _) = looked(rt, polled, Looked::Closed);
@@ -199,7 +196,7 @@ pub fn poll<'a, R: Wait>(rt: &R, task: Handle<'a>, waker: u64) -> (Handle<'a>, L
 }
 
 /// The look after a waker was registered.
-fn again<'a, R: Wait>(rt: &R, task: RegisteredTask<'a, u64, u64, u64>) -> (Handle<'a>, Looked) {
+fn again<R: Wait>(rt: &R, task: RegisteredTask<u64, u64, u64>) -> (Handle, Looked) {
     let (owed, polled) = task.look_again(rt);
     let otherwise = match owed.awaiter {
         Some(_) => Looked::Closed,
@@ -210,27 +207,32 @@ fn again<'a, R: Wait>(rt: &R, task: RegisteredTask<'a, u64, u64, u64>) -> (Handl
 }
 
 /// The handle cancels the task: whether a Runnable rests by that, and the awaiter that is called.
-pub fn cancel<'a, R: Wait>(rt: &R, task: Handle<'a>) -> (Handle<'a>, bool, Option<u64>) {
+pub fn cancel<R: Wait>(rt: &R, task: Handle) -> (Handle, bool, Option<u64>) {
     let (_, runnable, task) = task.cancel(rt);
     let is_queued = rest(runnable);
     let (task, called) = call(rt, task);
     (task, is_queued, called)
 }
 
+/// What is left where the handle went: whether a Runnable was owed.
+fn leaves(left: Left<u64, u64, u64>) -> bool {
+    let Left { runnable, awaiter } = left;
+    paid(awaiter);
+    rest(runnable)
+}
+
 /// The handle goes: the output that lay in the cell, and whether a Runnable was owed.
-pub fn detach<R: Wait>(rt: &R, mine: Handle<'_>) -> (Option<u64>, bool) {
-    let mut mine = mine;
-    let mut found = None;
+pub fn detach<R: Wait>(rt: &R, mine: Handle) -> (Option<u64>, bool) {
+    let mut going = match mine.detach(rt).1 {
+        Ok(left) => return (None, leaves(left)),
+        Err(found) => found,
+    };
     for _ in rt.forever() {
-        match mine.detach(rt).1 {
-            Ok(Left { runnable, awaiter }) => {
-                paid(awaiter);
-                return (found, rest(runnable));
-            }
-            Err(Found { task, output }) => {
-                mine = task;
-                found = Some(output.pay());
-            }
+        let Found { task, output } = going;
+        let output = output.pay();
+        match task.detach(rt).1 {
+            Ok(left) => return (Some(output), leaves(left)),
+            Err(found) => going = found,
         }
     }
     unreachable!()

@@ -2,9 +2,10 @@
 use crate::acts::{Looked, Outcome, Place, Ran};
 use crate::lives::{Handle, Kept, cancel, detach, make, poll, run};
 use std::alloc::{AllocError, Global};
+use std::boxed::Box;
+use std::sync::Wait;
 use std::sync::atomic::AtomicU64;
 use std::sync::atomic::Ordering::SeqCst;
-use std::sync::{Arc, Wait};
 use std::thread;
 use std::vec::Vec;
 
@@ -30,12 +31,13 @@ struct Stage {
 }
 
 impl Stage {
-    fn new(alloc: Global) -> Result<Arc<Stage, Global>, AllocError> {
+    /// Cells with no task, for as long as the tests run.
+    fn leak(alloc: Global) -> Result<&'static Stage, AllocError> {
         let mut places = Vec::with_capacity(alloc, CELLS as usize)?;
         for _ in 0..CELLS {
             places.push(Place::new(alloc)?)?;
         }
-        Ok(Arc::new(
+        let stage = Box::new(
             alloc,
             Stage {
                 places,
@@ -45,7 +47,8 @@ impl Stage {
                 dropped: AtomicU64::new(0),
                 over: AtomicU64::new(0),
             },
-        )?)
+        )?;
+        Ok(Box::leak(stage))
     }
 
     /// Counts what a run did. The answer is whether there was one.
@@ -69,7 +72,7 @@ impl Stage {
 }
 
 /// Runs what rests in each cell. The answer is whether anything did.
-fn run_each<R: Wait>(rt: &R, stage: &Stage, output: Option<u64>) -> bool {
+fn run_each<R: Wait>(rt: &R, stage: &'static Stage, output: Option<u64>) -> bool {
     let mut is_run = false;
     for place in &stage.places {
         if stage.count(run(rt, place, output)) {
@@ -81,7 +84,7 @@ fn run_each<R: Wait>(rt: &R, stage: &Stage, output: Option<u64>) -> bool {
 
 /// Runs what rests, until no more task is made: each poll gives an output, or only every second one does. The answer is false
 /// where it waits too long.
-fn run_all<R: Wait>(rt: &R, stage: &Stage, gives_each: bool) -> bool {
+fn run_all<R: Wait>(rt: &R, stage: &'static Stage, gives_each: bool) -> bool {
     let mut idle: u64 = 0;
     let mut pends = false;
     for _ in rt.forever() {
@@ -101,7 +104,7 @@ fn run_all<R: Wait>(rt: &R, stage: &Stage, gives_each: bool) -> bool {
 }
 
 /// A new task, once this round's cell is empty.
-fn make_soon<'a, R: Wait>(rt: &R, stage: &'a Stage, round: u64) -> Option<Handle<'a>> {
+fn make_soon<R: Wait>(rt: &R, stage: &'static Stage, round: u64) -> Option<Handle> {
     let place = stage.places.get((round % CELLS) as usize)?;
     for _ in 0..TURNS {
         match make(rt, place) {
@@ -113,13 +116,13 @@ fn make_soon<'a, R: Wait>(rt: &R, stage: &'a Stage, round: u64) -> Option<Handle
 }
 
 /// Whether the handle's last look left a waker that wasn't called yet, and the next look is to wait for that.
-fn waits(stage: &Stage, polls: u64, most: u64, waker: u64) -> bool {
+fn waits(stage: &'static Stage, polls: u64, most: u64, waker: u64) -> bool {
     polls >= most && stage.called.load(SeqCst) < waker
 }
 
 /// Polls a new task until it has an output, which is the answer. After so many polls it waits until the waker of its last one
 /// was called. Wakers have numbers from this one on.
-fn await_output<R: Wait>(rt: &R, stage: &Stage, most: u64, first: u64) -> Option<u64> {
+fn await_output<R: Wait>(rt: &R, stage: &'static Stage, most: u64, first: u64) -> Option<u64> {
     let mut task = make_soon(rt, stage, first)?;
     let mut polls: u64 = 0;
     for _ in 0..TURNS {
@@ -155,12 +158,11 @@ fn await_output<R: Wait>(rt: &R, stage: &Stage, most: u64, first: u64) -> Option
 /// last poll without an answer was called.
 #[test]
 fn an_end_meets_the_polls_of_a_handle(rt: HostRuntime) {
-    let stage = Stage::new(rt.alloc()).expect(&rt, "memory");
-    let runs = Arc::try_clone(&stage).expect(&rt, "a share");
-    let runner = thread::spawn(&rt, move || run_all(&rt, &runs, true)).expect(&rt, "a thread");
+    let stage = Stage::leak(rt.alloc()).expect(&rt, "memory");
+    let runner = thread::spawn(&rt, move || run_all(&rt, stage, true)).expect(&rt, "a thread");
     let mut outputs: u64 = 0;
     for round in 0..1_000_u64 {
-        if await_output(&rt, &stage, 1 + round % 4, round.saturating_mul(10)) == Some(9) {
+        if await_output(&rt, stage, 1 + round % 4, round.saturating_mul(10)) == Some(9) {
             outputs = outputs.saturating_add(1);
         } else {
             break;
@@ -175,7 +177,7 @@ fn an_end_meets_the_polls_of_a_handle(rt: HostRuntime) {
 }
 
 /// A task is made, cancelled and let go. The answer is false where the cell doesn't become empty.
-fn make_and_cancel<R: Wait>(rt: &R, stage: &Stage, round: u64) -> bool {
+fn make_and_cancel<R: Wait>(rt: &R, stage: &'static Stage, round: u64) -> bool {
     match make_soon(rt, stage, round) {
         Some(task) => {
             let (task, _, _) = cancel(rt, task);
@@ -190,12 +192,11 @@ fn make_and_cancel<R: Wait>(rt: &R, stage: &Stage, round: u64) -> bool {
 /// A task is cancelled on this thread while another runs it, 100,000 times: each future is dropped once, and so is each output.
 #[test]
 fn a_cancel_meets_runs(rt: HostRuntime) {
-    let stage = Stage::new(rt.alloc()).expect(&rt, "memory");
-    let runs = Arc::try_clone(&stage).expect(&rt, "a share");
-    let runner = thread::spawn(&rt, move || run_all(&rt, &runs, false)).expect(&rt, "a thread");
+    let stage = Stage::leak(rt.alloc()).expect(&rt, "memory");
+    let runner = thread::spawn(&rt, move || run_all(&rt, stage, false)).expect(&rt, "a thread");
     let mut rounds: u64 = 0;
     for round in 0..100_000_u64 {
-        if make_and_cancel(&rt, &stage, round) {
+        if make_and_cancel(&rt, stage, round) {
             rounds = rounds.saturating_add(1);
         } else {
             break;

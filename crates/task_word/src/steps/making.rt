@@ -1,8 +1,8 @@
 //! How a task comes into a cell, and how its Runnable rests in the word while no thread has it in hand.
-ghost use Rattle.std.specs.Prelude.{◌≡◌, false, MatchBool, IsTrue};
+ghost use Rattle.std.specs.Prelude.{◌≡◌, ◌↔◌, false, MatchBool, IsTrue};
 ghost use Rattle.task_moves.specs.Moves as moves;
 ghost use Rattle.task_word.specs.Cell.{filling};
-ghost use Rattle.task_word.specs.Steps.{detached, IsOver, Has, HasFuture, HasPlace, IsSeatOf, IsSameSeat};
+ghost use Rattle.task_word.specs.Steps.{detached, IsOver, Has, HasFuture, HasPlace, FoundTask, FoundNoRunnable, IsSeatOf, IsSameSeat};
 ghost use Rattle.task_word.specs.Word.{pack};
 ghost use Rattle.task_word.specs.declared.rule.Hold.TheVariants.{Nothing, Handle, Queued, Filling};
 
@@ -16,7 +16,7 @@ use task_moves::moves::State;
 /// Nobody can reach the task any more, and nothing of it is left.
 #[inline(always)]
 fn is_over(state: State) -> bool
-    ensures { IsTrue result → IsOver state }
+    ensures { IsTrue result ↔ IsOver state }
 {
     state.references == 0
         && !state.handle
@@ -45,7 +45,7 @@ pub fn reserve<F, T, W, R: Wait>(rt: &R, board: &Board<F, T, W>, pass: &mut Pass
     requires seat { IsSeatOf board.now pass.old }
     requires has { Has Nothing pass.old }
     ensures same { IsSameSeat pass.old pass.new }
-    ensures right { MatchBool result (HasPlace Filling pass.new) (Has Nothing pass.new) }
+    ensures right { MatchBool result (HasPlace Filling pass.new) (FoundTask pass.new) }
 {
     for _ in rt.forever() {
         let old = look(board, pass);
@@ -118,7 +118,7 @@ pub fn resume<F, T, W, R: Wait>(rt: &R, board: &Board<F, T, W>, pass: &mut Pass<
     requires seat { IsSeatOf board.now pass.old }
     requires has { Has Nothing pass.old }
     ensures same { IsSameSeat pass.old pass.new }
-    ensures right { MatchBool result (Has Queued pass.new) (Has Nothing pass.new) }
+    ensures right { MatchBool result (Has Queued pass.new) (FoundNoRunnable pass.new) }
 {
     for _ in rt.forever() {
         let old = look(board, pass);

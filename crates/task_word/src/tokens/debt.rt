@@ -1,20 +1,31 @@
 //! What is handed out to be called or dropped.
-ghost use Rattle.std.specs.Prelude.{◌≡◌, is_some};
+use std::marker::Model;
 
 /// A value that its holder still owes something: an awaiter to call, a future or an output to drop. It can't be let go unopened.
 pub struct Debt<X> {
     value: X,
 }
 
+/// A contract sees the value.
+impl<X> Model for Debt<X> {
+    ghost Value = { X };
+
+    ghost view = { λ debt. debt.value };
+}
+
 impl<X> Debt<X> {
+    ghost use Rattle.std.specs.Prelude.{◌≡◌};
+
     #[inline(always)]
-    pub(crate) fn of(value: X) -> Self {
+    pub(crate) fn of(value: X) -> Self
+        ensures { result ≡ value }
+    {
         Debt { value }
     }
 
     #[inline(always)]
     pub(crate) fn of_some(value: Option<X>) -> Option<Self>
-        ensures { is_some result ≡ is_some value }
+        ensures { result ≡ value }
     {
         match value {
             Some(value) => Some(Debt { value }),
@@ -24,7 +35,9 @@ impl<X> Debt<X> {
 
     /// The value, which is now to be called or dropped.
     #[inline(always)]
-    pub fn pay(self) -> X {
+    pub fn pay(self) -> X
+        ensures { result ≡ self }
+    {
         let Debt { value } = self;
         value
     }

@@ -1,52 +1,72 @@
 //! What is done with a task's handle beside its polls.
-ghost use Rattle.std.specs.Prelude.{◌≡◌, is_some, is_ok, not, IfOk, IsFalse, IsNone, MatchOption, MatchResult};
+ghost use Rattle.std.specs.Prelude.{◌≡◌, false, is_some, is_ok, not, IfOk, IfErr, IfSome, IsFalse, IsNone, MatchOption, MatchResult};
 ghost use Rattle.task_moves.specs.Moves as moves;
 ghost use Rattle.task_moves.specs.Moves.{is_over};
 ghost use Rattle.task_word.specs.Awaiter.{needs_slot};
-ghost use Rattle.task_word.specs.Tokens.{Shows, Owes, Finds, Notifies};
+ghost use Rattle.task_word.specs.Tokens.{Shows, Owes, Finds, FindsTask, FindsNotParked, Notifies};
 
 use crate::cell::Cell;
 use crate::layout::decode;
 use crate::slot::{put_future, take_awaiter, take_output};
-use crate::steps::{awaiter, closing, handle, look, making, needs_slot};
+use crate::steps::{awaiter, closing, handle, look, making, needs_slot, parked};
 use crate::tokens::{Debt, Left, Runnable, Task, Trace, take_left};
 use std::sync::Wait;
 use task_moves::moves::Owed;
 
 /// A handle that has to call the awaiter before anything else.
-pub struct OwingTask<'a, F, T, W> {
-    task: Task<'a, F, T, W>,
+pub struct OwingTask<F: 'static, T: 'static, W: 'static> {
+    task: Task<F, T, W>,
+}
+
+/// A handle that goes, once the output that lay in the cell is dropped.
+pub struct DetachingTask<F: 'static, T: 'static, W: 'static> {
+    task: Task<F, T, W>,
 }
 
 /// The output that lay in the cell. It is to be dropped, and then the handle goes.
-pub struct Found<'a, F, T, W> {
-    pub task: Task<'a, F, T, W>,
+pub struct Found<F: 'static, T: 'static, W: 'static> {
+    pub task: DetachingTask<F, T, W>,
     pub output: Debt<T>,
 }
 
-impl<F, T, W> Cell<F, T, W> {
-    /// A new task, with its Runnable. The future comes back where the cell isn't empty.
+impl<F: 'static, T: 'static, W: 'static> Cell<F, T, W> {
+    /// A new task, with its Runnable. The future comes back exactly where the cell isn't empty.
     #[inline(always)]
     pub fn make<R: Wait>(
-        &self,
+        &'static self,
         rt: &R,
         future: F,
-    ) -> Result<(Runnable<'_, F, T, W>, Task<'_, F, T, W>), F> {
+    ) -> Result<(Runnable<F, T, W>, Task<F, T, W>), (F, Trace)>
+        ensures { IfErr result (λ back. (back.0 ≡ future) × FindsTask self.now.board.shared back.1.badge) }
+    {
         let mut pass = self.pass();
         if making::reserve(rt, self.board(), &mut pass) {
             put_future(self.board(), &mut pass, future);
             let handle = making::make(self.board(), &mut pass);
             Ok((Runnable::of(self, pass), Task::of(self, handle)))
         } else {
-            Err(future)
+            Err((future, Trace::of(pass)))
+        }
+    }
+
+    /// Takes the handle that was stored, where it rests in the cell.
+    #[inline(always)]
+    pub fn unpark<R: Wait>(&'static self, rt: &R) -> Result<Task<F, T, W>, Trace>
+        ensures { IfErr result (λ t. FindsNotParked self.now.board.shared t.badge) }
+    {
+        let mut pass = self.pass();
+        if parked::unpark(rt, self.board(), &mut pass) {
+            Ok(Task::of(self, pass))
+        } else {
+            Err(Trace::of(pass))
         }
     }
 }
 
-impl<'a, F, T, W> Task<'a, F, T, W> {
+impl<F: 'static, T: 'static, W: 'static> Task<F, T, W> {
     /// It has to call the awaiter before anything else, where this is owed.
     #[inline(always)]
-    pub(crate) fn owing(self, owed: Owed) -> Result<Self, OwingTask<'a, F, T, W>>
+    pub(crate) fn owing(self, owed: Owed) -> Result<Self, OwingTask<F, T, W>>
         ensures calls { is_ok result ≡ not (is_some owed.awaiter) }
         ensures same { MatchResult result (λ t. t ≡ self.entry) (λ t. t.task ≡ self.entry) }
     {
@@ -54,6 +74,16 @@ impl<'a, F, T, W> Task<'a, F, T, W> {
             Some(_) => Err(OwingTask { task: self }),
             None => Ok(self),
         }
+    }
+
+    /// The handle rests in the cell, as the cell's number stands in a list. It takes one add, and the same seat has nothing then.
+    #[inline(always)]
+    pub fn park(self) -> Trace
+        ensures { (result.badge.table_id ≡ self.entry.badge.table_id) × (result.badge.id ≡ self.entry.badge.id) }
+    {
+        let (cell, mut pass) = self.open();
+        parked::park(cell.board(), &mut pass);
+        Trace::of(pass)
     }
 
     /// Whether the task is over. It takes one load.
@@ -73,13 +103,14 @@ impl<'a, F, T, W> Task<'a, F, T, W> {
         rt: &R,
     ) -> (
         Owed,
-        Result<Runnable<'a, F, T, W>, Trace>,
-        Result<Self, OwingTask<'a, F, T, W>>,
+        Result<Runnable<F, T, W>, Trace>,
+        Result<Self, OwingTask<F, T, W>>,
     )
         ensures made { MatchResult result.1
             (λ r. Shows self.entry.cell.now.board.shared moves.cancel result.0 r.badge)
             (λ t. Shows self.entry.cell.now.board.shared moves.cancel result.0 t.badge) }
         ensures paid { is_ok result.1 ≡ is_some result.0.schedule }
+        ensures owes { Owes moves.cancel result.0 }
         ensures calls { is_ok result.2 ≡ not (is_some result.0.awaiter) }
     {
         let mut pass = self.cell.pass();
@@ -93,7 +124,7 @@ impl<'a, F, T, W> Task<'a, F, T, W> {
 
     /// It goes, once the output is dropped that lies in the cell.
     #[inline(always)]
-    pub fn detach<R: Wait>(self, rt: &R) -> (Owed, Result<Left<'a, F, T, W>, Found<'a, F, T, W>>)
+    pub fn detach<R: Wait>(self, rt: &R) -> (Owed, Result<Left<F, T, W>, Found<F, T, W>>)
         ensures made { MatchResult result.1
             (λ left. MatchOption left.awaiter
             (MatchResult left.runnable
@@ -103,13 +134,17 @@ impl<'a, F, T, W> Task<'a, F, T, W> {
             (λ _. Owes moves.detach result.0) }
         ensures gone { is_ok result.1 ≡ not result.0.drop_output }
         ensures paid { IfOk result.1 (λ left. is_ok left.runnable ≡ is_some result.0.schedule) }
+        ensures alone { IfOk result.1 (λ left. IfSome left.awaiter (λ _. is_ok left.runnable ≡ false)) }
+        ensures owes { Owes moves.detach result.0 }
     {
         let (cell, mut pass) = self.open();
         let (owed, is_left) = handle::detach(rt, cell.board(), &mut pass);
         if owed.drop_output {
             let output = Debt::of(take_output(cell.board(), &mut pass));
             handle::spend(cell.board(), &mut pass);
-            let task = Task::of(cell, pass);
+            let task = DetachingTask {
+                task: Task::of(cell, pass),
+            };
             (owed, Err(Found { task, output }))
         } else {
             (owed, Ok(take_left(cell, pass, owed.schedule, is_left)))
@@ -117,10 +152,31 @@ impl<'a, F, T, W> Task<'a, F, T, W> {
     }
 }
 
-impl<'a, F, T, W> OwingTask<'a, F, T, W> {
+impl<F: 'static, T: 'static, W: 'static> DetachingTask<F, T, W> {
+    /// The output was dropped.
+    #[inline(always)]
+    pub fn detach<R: Wait>(self, rt: &R) -> (Owed, Result<Left<F, T, W>, Found<F, T, W>>)
+        ensures made { MatchResult result.1
+            (λ left. MatchOption left.awaiter
+            (MatchResult left.runnable
+            (λ r. Shows self.entry.task.cell.now.board.shared moves.detach result.0 r.badge)
+            (λ t. Shows self.entry.task.cell.now.board.shared moves.detach result.0 t.badge))
+            (λ _. Owes moves.detach result.0))
+            (λ _. Owes moves.detach result.0) }
+        ensures gone { is_ok result.1 ≡ not result.0.drop_output }
+        ensures paid { IfOk result.1 (λ left. is_ok left.runnable ≡ is_some result.0.schedule) }
+        ensures alone { IfOk result.1 (λ left. IfSome left.awaiter (λ _. is_ok left.runnable ≡ false)) }
+        ensures owes { Owes moves.detach result.0 }
+    {
+        let DetachingTask { task } = self;
+        task.detach(rt)
+    }
+}
+
+impl<F: 'static, T: 'static, W: 'static> OwingTask<F, T, W> {
     /// The awaiter comes out, to be called, unless somebody else is at it, who will call it.
     #[inline(always)]
-    pub fn notify<R: Wait>(self, rt: &R) -> (Owed, Task<'a, F, T, W>, Option<Debt<W>>)
+    pub fn notify<R: Wait>(self, rt: &R) -> (Owed, Task<F, T, W>, Option<Debt<W>>)
         ensures made { Notifies self.entry.task.cell.now.board.shared result.0 result.1.badge }
         ensures other { IsFalse (needs_slot result.0.awaiter) → IsNone result.2 }
     {

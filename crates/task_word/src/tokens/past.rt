@@ -1,5 +1,5 @@
 //! What is left of a run or of a closing call: its reference, and before that, maybe, a call of the awaiter.
-ghost use Rattle.std.specs.Prelude.{◌≡◌, [], ◌∷◌, is_some, is_ok, not, IsFalse, IsNone, MatchOption, MatchResult};
+ghost use Rattle.std.specs.Prelude.{◌≡◌, [], ◌∷◌, false, is_some, is_ok, not, IfSome, IsFalse, IsNone, MatchOption, MatchResult};
 ghost use Rattle.task_moves.specs.Moves as moves;
 ghost use Rattle.task_word.specs.Awaiter.{needs_slot};
 ghost use Rattle.task_word.specs.Badges.{holds};
@@ -17,21 +17,21 @@ use std::sync::Wait;
 use task_moves::moves::Owed;
 
 /// A run that is over, or a call that dropped a closed task's future: its reference, to be given up.
-pub struct PastRun<'a, F, T, W> {
-    cell: &'a Cell<F, T, W>,
+pub struct PastRun<F: 'static, T: 'static, W: 'static> {
+    cell: &'static Cell<F, T, W>,
     badge: Badge<View>,
     ghost of: { badge.table_id ≡ cell.now.board.shared.table_id },
     ghost past: { holds badge.views ≡ Leaving ∷ [] },
 }
 
 /// The same, which has to call the awaiter before.
-pub struct OwingRun<'a, F, T, W> {
-    run: PastRun<'a, F, T, W>,
+pub struct OwingRun<F: 'static, T: 'static, W: 'static> {
+    run: PastRun<F, T, W>,
 }
 
-impl<'a, F, T, W> PastRun<'a, F, T, W> {
+impl<F: 'static, T: 'static, W: 'static> PastRun<F, T, W> {
     #[inline(always)]
-    pub(crate) fn of(cell: &'a Cell<F, T, W>, pass: Pass<F, T, W>) -> Self
+    pub(crate) fn of(cell: &'static Cell<F, T, W>, pass: Pass<F, T, W>) -> Self
         requires seat { IsSeatOf cell.now.board.shared pass }
         requires has { Has Leaving pass }
         ensures { IsBadgeOf pass result.badge }
@@ -43,7 +43,7 @@ impl<'a, F, T, W> PastRun<'a, F, T, W> {
     }
 
     #[inline(always)]
-    pub(crate) fn open(self) -> (&'a Cell<F, T, W>, Pass<F, T, W>)
+    pub(crate) fn open(self) -> (&'static Cell<F, T, W>, Pass<F, T, W>)
         ensures cell { result.0.now ≡ self.entry.cell.now }
         ensures seat { IsSeatOf result.0.now.board.shared result.1 }
         ensures has { Has Leaving result.1 }
@@ -54,7 +54,7 @@ impl<'a, F, T, W> PastRun<'a, F, T, W> {
 
     /// It has to call the awaiter before, where this is owed.
     #[inline(always)]
-    pub(crate) fn owing(self, owed: Owed) -> Result<Self, OwingRun<'a, F, T, W>>
+    pub(crate) fn owing(self, owed: Owed) -> Result<Self, OwingRun<F, T, W>>
         ensures calls { is_ok result ≡ not (is_some owed.awaiter) }
         ensures same { MatchResult result (λ r. r ≡ self.entry) (λ r. r.run ≡ self.entry) }
     {
@@ -66,13 +66,15 @@ impl<'a, F, T, W> PastRun<'a, F, T, W> {
 
     /// It gives its reference up.
     #[inline(always)]
-    pub fn give_up<R: Wait>(self, rt: &R) -> (Owed, Left<'a, F, T, W>)
+    pub fn give_up<R: Wait>(self, rt: &R) -> (Owed, Left<F, T, W>)
         ensures made { MatchOption result.1.awaiter
             (MatchResult result.1.runnable
             (λ r. Shows self.entry.cell.now.board.shared moves.give_up result.0 r.badge)
             (λ t. Shows self.entry.cell.now.board.shared moves.give_up result.0 t.badge))
             (λ _. Owes moves.give_up result.0) }
         ensures paid { is_ok result.1.runnable ≡ is_some result.0.schedule }
+        ensures alone { IfSome result.1.awaiter (λ _. is_ok result.1.runnable ≡ false) }
+        ensures owes { Owes moves.give_up result.0 }
     {
         let (cell, mut pass) = self.open();
         let (owed, is_left) = wakers::give_up(rt, cell.board(), &mut pass);
@@ -80,10 +82,10 @@ impl<'a, F, T, W> PastRun<'a, F, T, W> {
     }
 }
 
-impl<'a, F, T, W> OwingRun<'a, F, T, W> {
+impl<F: 'static, T: 'static, W: 'static> OwingRun<F, T, W> {
     /// The awaiter comes out, to be called, unless somebody else is at it, who will call it.
     #[inline(always)]
-    pub fn notify<R: Wait>(self, rt: &R) -> (Owed, PastRun<'a, F, T, W>, Option<Debt<W>>)
+    pub fn notify<R: Wait>(self, rt: &R) -> (Owed, PastRun<F, T, W>, Option<Debt<W>>)
         ensures made { Notifies self.entry.run.cell.now.board.shared result.0 result.1.badge }
         ensures other { IsFalse (needs_slot result.0.awaiter) → IsNone result.2 }
     {

@@ -14,24 +14,24 @@ use std::sync::Wait;
 use task_moves::moves::{Answer, Owed};
 
 /// A handle whose poll has no answer yet: its waker is to be registered.
-pub struct WaitingTask<'a, F, T, W> {
-    task: Task<'a, F, T, W>,
+pub struct WaitingTask<F: 'static, T: 'static, W: 'static> {
+    task: Task<F, T, W>,
 }
 
 /// A handle whose poll has registered its waker: it looks again.
-pub struct RegisteredTask<'a, F, T, W> {
-    task: Task<'a, F, T, W>,
+pub struct RegisteredTask<F: 'static, T: 'static, W: 'static> {
+    task: Task<F, T, W>,
 }
 
 /// What a look came to: the handle, and the output where it is given.
-pub struct Polled<'a, F, T, W> {
-    pub task: Result<Task<'a, F, T, W>, OwingTask<'a, F, T, W>>,
+pub struct Polled<F: 'static, T: 'static, W: 'static> {
+    pub task: Result<Task<F, T, W>, OwingTask<F, T, W>>,
     pub output: Option<Debt<T>>,
 }
 
 /// What a poll's waker came to.
-pub struct Registered<'a, F, T, W> {
-    pub task: RegisteredTask<'a, F, T, W>,
+pub struct Registered<F: 'static, T: 'static, W: 'static> {
+    pub task: RegisteredTask<F, T, W>,
     /// The waker, which isn't stored: it is to be called.
     pub to_call: Option<Debt<W>>,
     /// The awaiter that was stored before, which is to be dropped.
@@ -47,11 +47,11 @@ fn gives_output(owed: Owed) -> bool
 
 /// The output is taken out, where it is given.
 #[inline(always)]
-fn take_answer<'a, F, T, W>(
-    cell: &'a Cell<F, T, W>,
+fn take_answer<F: 'static, T: 'static, W: 'static>(
+    cell: &'static Cell<F, T, W>,
     mut pass: Pass<F, T, W>,
     owed: Owed,
-) -> Polled<'a, F, T, W>
+) -> Polled<F, T, W>
     requires seat { IsSeatOf cell.now.board.shared pass }
     requires has { HasOutput owed.answer pass }
     ensures gives { is_some result.output ≡ is_given owed.answer }
@@ -75,13 +75,10 @@ fn take_answer<'a, F, T, W>(
     }
 }
 
-impl<'a, F, T, W> Task<'a, F, T, W> {
+impl<F: 'static, T: 'static, W: 'static> Task<F, T, W> {
     /// It looks at the task. Where there is no answer yet, a waker is to be registered.
     #[inline(always)]
-    pub fn poll<R: Wait>(
-        self,
-        rt: &R,
-    ) -> (Owed, Result<Polled<'a, F, T, W>, WaitingTask<'a, F, T, W>>)
+    pub fn poll<R: Wait>(self, rt: &R) -> (Owed, Result<Polled<F, T, W>, WaitingTask<F, T, W>>)
         ensures made { MatchResult result.1
             (λ polled. MatchOption polled.output
             (MatchResult polled.task
@@ -105,10 +102,19 @@ impl<'a, F, T, W> Task<'a, F, T, W> {
     }
 }
 
-impl<'a, F, T, W> WaitingTask<'a, F, T, W> {
+impl<F: 'static, T: 'static, W: 'static> WaitingTask<F, T, W> {
+    /// The handle as it was, where no waker can be had.
+    #[inline(always)]
+    pub fn refuse(self) -> Task<F, T, W>
+        ensures { result ≡ self.entry.task }
+    {
+        let WaitingTask { task } = self;
+        task
+    }
+
     /// The waker is stored; or it comes back to be called, where somebody notifies.
     #[inline(always)]
-    pub fn register<R: Wait>(self, rt: &R, waker: W) -> (Owed, Registered<'a, F, T, W>)
+    pub fn register<R: Wait>(self, rt: &R, waker: W) -> (Owed, Registered<F, T, W>)
         ensures made { Registers self.entry.task.cell.now.board.shared result.0 result.1.task.task.badge (is_some result.1.to_call) }
     {
         let WaitingTask { task } = self;
@@ -138,10 +144,10 @@ impl<'a, F, T, W> WaitingTask<'a, F, T, W> {
     }
 }
 
-impl<'a, F, T, W> RegisteredTask<'a, F, T, W> {
+impl<F: 'static, T: 'static, W: 'static> RegisteredTask<F, T, W> {
     /// It looks again.
     #[inline(always)]
-    pub fn look_again<R: Wait>(self, rt: &R) -> (Owed, Polled<'a, F, T, W>)
+    pub fn look_again<R: Wait>(self, rt: &R) -> (Owed, Polled<F, T, W>)
         ensures made { MatchOption result.1.output
             (MatchResult result.1.task
             (λ t. Shows self.entry.task.cell.now.board.shared moves.look_again result.0 t.badge)

@@ -1,7 +1,7 @@
 //! What is done with a Runnable, and with a cell whose word one rests in.
-ghost use Rattle.std.specs.Prelude.{◌≡◌, is_some, is_ok, MatchResult};
+ghost use Rattle.std.specs.Prelude.{◌≡◌, is_some, is_ok, IfErr, MatchResult};
 ghost use Rattle.task_moves.specs.Moves as moves;
-ghost use Rattle.task_word.specs.Tokens.{Shows};
+ghost use Rattle.task_word.specs.Tokens.{Shows, Owes, FindsNoRunnable};
 
 use crate::cell::Cell;
 use crate::steps::{making, wakers};
@@ -9,14 +9,15 @@ use crate::tokens::{Runnable, Trace};
 use std::sync::Wait;
 use task_moves::moves::Owed;
 
-impl<F, T, W> Cell<F, T, W> {
+impl<F: 'static, T: 'static, W: 'static> Cell<F, T, W> {
     /// A wake by reference, of whoever is lent a waker of this cell's task. A Runnable is there where one is owed.
     #[inline(always)]
-    pub fn wake<R: Wait>(&self, rt: &R) -> (Owed, Result<Runnable<'_, F, T, W>, Trace>)
+    pub fn wake<R: Wait>(&'static self, rt: &R) -> (Owed, Result<Runnable<F, T, W>, Trace>)
         ensures made { MatchResult result.1
             (λ r. Shows self.now.board.shared moves.wake_by_reference result.0 r.badge)
             (λ t. Shows self.now.board.shared moves.wake_by_reference result.0 t.badge) }
         ensures paid { is_ok result.1 ≡ is_some result.0.schedule }
+        ensures owes { Owes moves.wake_by_reference result.0 }
     {
         let mut pass = self.pass();
         let owed = wakers::wake(rt, self.board(), &mut pass);
@@ -28,17 +29,19 @@ impl<F, T, W> Cell<F, T, W> {
 
     /// Takes the Runnable that rests in the word, where one does.
     #[inline(always)]
-    pub fn resume<R: Wait>(&self, rt: &R) -> Option<Runnable<'_, F, T, W>> {
+    pub fn resume<R: Wait>(&'static self, rt: &R) -> Result<Runnable<F, T, W>, Trace>
+        ensures { IfErr result (λ t. FindsNoRunnable self.now.board.shared t.badge) }
+    {
         let mut pass = self.pass();
         if making::resume(rt, self.board(), &mut pass) {
-            Some(Runnable::of(self, pass))
+            Ok(Runnable::of(self, pass))
         } else {
-            None
+            Err(Trace::of(pass))
         }
     }
 }
 
-impl<'a, F, T, W> Runnable<'a, F, T, W> {
+impl<F: 'static, T: 'static, W: 'static> Runnable<F, T, W> {
     /// It rests in the word, as the cell's number stands in a queue. The same seat has nothing then.
     #[inline(always)]
     pub fn rest(self) -> Trace

@@ -1,5 +1,5 @@
 //! What is done with a waker that is a reference.
-ghost use Rattle.std.specs.Prelude.{◌≡◌, is_some, is_ok, not, IfErr, MatchOption, MatchResult};
+ghost use Rattle.std.specs.Prelude.{◌≡◌, false, is_some, is_ok, not, IfSome, IfErr, MatchOption, MatchResult};
 ghost use Rattle.task_moves.specs.Moves as moves;
 ghost use Rattle.task_word.specs.Steps as steps;
 ghost use Rattle.task_word.specs.Tokens.{Shows, Owes, FindsNoneStored};
@@ -10,10 +10,10 @@ use crate::tokens::{Left, Trace, Waker, take_left};
 use std::sync::Wait;
 use task_moves::moves::Owed;
 
-impl<F, T, W> Cell<F, T, W> {
+impl<F: 'static, T: 'static, W: 'static> Cell<F, T, W> {
     /// One reference more, unless it is refused: where there are too many, or nobody has the task.
     #[inline(always)]
-    pub fn copy<R: Wait>(&self, rt: &R) -> (Owed, Result<Waker<'_, F, T, W>, Trace>)
+    pub fn copy<R: Wait>(&'static self, rt: &R) -> (Owed, Result<Waker<F, T, W>, Trace>)
         ensures made { MatchResult result.1
             (λ w. Shows self.now.board.shared steps.copy result.0 w.badge)
             (λ t. Shows self.now.board.shared steps.copy result.0 t.badge) }
@@ -29,7 +29,7 @@ impl<F, T, W> Cell<F, T, W> {
 
     /// Takes the reference of a waker that was stored, where one rests in the cell.
     #[inline(always)]
-    pub fn redeem<R: Wait>(&self, rt: &R) -> Result<Waker<'_, F, T, W>, Trace>
+    pub fn redeem<R: Wait>(&'static self, rt: &R) -> Result<Waker<F, T, W>, Trace>
         ensures { IfErr result (λ t. FindsNoneStored self.now.board.shared t.badge) }
     {
         let mut pass = self.pass();
@@ -41,7 +41,7 @@ impl<F, T, W> Cell<F, T, W> {
     }
 }
 
-impl<'a, F, T, W> Waker<'a, F, T, W> {
+impl<F: 'static, T: 'static, W: 'static> Waker<F, T, W> {
     /// Its reference rests in the cell, as the cell's number stands in a list. It takes one add, and the same seat has nothing then.
     #[inline(always)]
     pub fn store(self) -> Trace
@@ -54,13 +54,15 @@ impl<'a, F, T, W> Waker<'a, F, T, W> {
 
     /// It goes. Where it was the last of an open task, a Runnable is owed, and is there.
     #[inline(always)]
-    pub fn release<R: Wait>(self, rt: &R) -> (Owed, Left<'a, F, T, W>)
+    pub fn release<R: Wait>(self, rt: &R) -> (Owed, Left<F, T, W>)
         ensures made { MatchOption result.1.awaiter
             (MatchResult result.1.runnable
             (λ r. Shows self.entry.cell.now.board.shared moves.release result.0 r.badge)
             (λ t. Shows self.entry.cell.now.board.shared moves.release result.0 t.badge))
             (λ _. Owes moves.release result.0) }
         ensures paid { is_ok result.1.runnable ≡ is_some result.0.schedule }
+        ensures alone { IfSome result.1.awaiter (λ _. is_ok result.1.runnable ≡ false) }
+        ensures owes { Owes moves.release result.0 }
     {
         let (cell, mut pass) = self.open();
         let (owed, is_left) = wakers::release(rt, cell.board(), &mut pass);

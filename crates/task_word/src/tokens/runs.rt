@@ -1,5 +1,5 @@
 //! What is done with a Runnable that is taken up or let go, up to the end of its poll.
-ghost use Rattle.std.specs.Prelude.{◌≡◌, is_some, is_ok, not, IfOk, MatchOption, MatchResult};
+ghost use Rattle.std.specs.Prelude.{◌≡◌, false, Some, is_some, is_ok, not, IfOk, IfErr, IfSome, MatchOption, MatchResult};
 ghost use Rattle.task_moves.specs.Moves as moves;
 ghost use Rattle.task_word.specs.Steps.{IsSeatOf, HasPlace};
 ghost use Rattle.task_word.specs.Tokens.{Shows, ShowsSeat, Owes};
@@ -14,8 +14,8 @@ use std::sync::Wait;
 use task_moves::moves::Owed;
 
 /// A run, whose future is to be polled.
-pub struct Run<'a, F, T, W> {
-    cell: &'a Cell<F, T, W>,
+pub struct Run<F: 'static, T: 'static, W: 'static> {
+    cell: &'static Cell<F, T, W>,
     pass: Pass<F, T, W>,
     pub future: F,
     ghost seat: { IsSeatOf cell.now.board.shared pass },
@@ -23,30 +23,30 @@ pub struct Run<'a, F, T, W> {
 }
 
 /// A run whose poll gave an output. Its future was handed out, and is dropped before the output is stored.
-pub struct ReadyRun<'a, F, T, W> {
-    cell: &'a Cell<F, T, W>,
+pub struct ReadyRun<F: 'static, T: 'static, W: 'static> {
+    cell: &'static Cell<F, T, W>,
     pass: Pass<F, T, W>,
     ghost seat: { IsSeatOf cell.now.board.shared pass },
     ghost right: { HasPlace Running pass },
 }
 
 /// A Runnable of a closed task. Its future was handed out, and is dropped before it is settled.
-pub struct ClosedRunnable<'a, F, T, W> {
-    cell: &'a Cell<F, T, W>,
+pub struct ClosedRunnable<F: 'static, T: 'static, W: 'static> {
+    cell: &'static Cell<F, T, W>,
     pass: Pass<F, T, W>,
     ghost seat: { IsSeatOf cell.now.board.shared pass },
     ghost right: { HasPlace Closing pass },
 }
 
 /// The same of a run that ended its poll with no output.
-pub struct ClosedRun<'a, F, T, W> {
-    cell: &'a Cell<F, T, W>,
+pub struct ClosedRun<F: 'static, T: 'static, W: 'static> {
+    cell: &'static Cell<F, T, W>,
     pass: Pass<F, T, W>,
     ghost seat: { IsSeatOf cell.now.board.shared pass },
     ghost right: { HasPlace Ending pass },
 }
 
-impl<'a, F, T, W> Runnable<'a, F, T, W> {
+impl<F: 'static, T: 'static, W: 'static> Runnable<F, T, W> {
     /// It becomes a run; or, where the task is closed, its future is to be dropped.
     #[inline(always)]
     pub fn take_up<R: Wait>(
@@ -54,7 +54,7 @@ impl<'a, F, T, W> Runnable<'a, F, T, W> {
         rt: &R,
     ) -> (
         Owed,
-        Result<Run<'a, F, T, W>, (ClosedRunnable<'a, F, T, W>, Debt<F>)>,
+        Result<Run<F, T, W>, (ClosedRunnable<F, T, W>, Debt<F>)>,
     )
         ensures made { MatchResult result.1
             (λ run. ShowsSeat self.entry.cell.now.board.shared moves.take_up result.0 run.pass)
@@ -77,7 +77,7 @@ impl<'a, F, T, W> Runnable<'a, F, T, W> {
 
     /// It is let go: the task is closed, and its future is to be dropped.
     #[inline(always)]
-    pub fn let_go<R: Wait>(self, rt: &R) -> (Owed, ClosedRunnable<'a, F, T, W>, Debt<F>)
+    pub fn let_go<R: Wait>(self, rt: &R) -> (Owed, ClosedRunnable<F, T, W>, Debt<F>)
         ensures made { ShowsSeat self.entry.cell.now.board.shared moves.drop_runnable result.0 result.1.pass }
     {
         let (cell, mut pass) = self.open();
@@ -87,16 +87,13 @@ impl<'a, F, T, W> Runnable<'a, F, T, W> {
     }
 }
 
-impl<'a, F, T, W> ClosedRunnable<'a, F, T, W> {
+impl<F: 'static, T: 'static, W: 'static> ClosedRunnable<F, T, W> {
     /// The future was dropped.
     #[inline(always)]
-    pub fn settle<R: Wait>(
-        self,
-        rt: &R,
-    ) -> (Owed, Result<PastRun<'a, F, T, W>, OwingRun<'a, F, T, W>>)
+    pub fn settle<R: Wait>(self, rt: &R) -> (Owed, Result<PastRun<F, T, W>, OwingRun<F, T, W>>)
         ensures made { MatchResult result.1
-            (λ run. Shows self.entry.cell.now.board.shared moves.settle_closed result.0 run.badge)
-            (λ owing. Shows self.entry.cell.now.board.shared moves.settle_closed result.0 owing.run.badge) }
+            (λ run. Shows self.cell.now.board.shared moves.settle_closed result.0 run.badge)
+            (λ owing. Shows self.cell.now.board.shared moves.settle_closed result.0 owing.run.badge) }
         ensures calls { is_ok result.1 ≡ not (is_some result.0.awaiter) }
     {
         let ClosedRunnable { cell, mut pass } = self;
@@ -105,16 +102,13 @@ impl<'a, F, T, W> ClosedRunnable<'a, F, T, W> {
     }
 }
 
-impl<'a, F, T, W> ClosedRun<'a, F, T, W> {
+impl<F: 'static, T: 'static, W: 'static> ClosedRun<F, T, W> {
     /// The future was dropped.
     #[inline(always)]
-    pub fn settle<R: Wait>(
-        self,
-        rt: &R,
-    ) -> (Owed, Result<PastRun<'a, F, T, W>, OwingRun<'a, F, T, W>>)
+    pub fn settle<R: Wait>(self, rt: &R) -> (Owed, Result<PastRun<F, T, W>, OwingRun<F, T, W>>)
         ensures made { MatchResult result.1
-            (λ run. Shows self.entry.cell.now.board.shared moves.end_closed result.0 run.badge)
-            (λ owing. Shows self.entry.cell.now.board.shared moves.end_closed result.0 owing.run.badge) }
+            (λ run. Shows self.cell.now.board.shared moves.end_closed result.0 run.badge)
+            (λ owing. Shows self.cell.now.board.shared moves.end_closed result.0 owing.run.badge) }
         ensures calls { is_ok result.1 ≡ not (is_some result.0.awaiter) }
     {
         let ClosedRun { cell, mut pass } = self;
@@ -123,7 +117,7 @@ impl<'a, F, T, W> ClosedRun<'a, F, T, W> {
     }
 }
 
-impl<'a, F, T, W> Run<'a, F, T, W> {
+impl<F: 'static, T: 'static, W: 'static> Run<F, T, W> {
     /// The poll gave no output. The future goes back into the cell; or it is to be dropped, where the task was closed meanwhile,
     /// and where nobody can reach it any more.
     #[inline(always)]
@@ -132,18 +126,21 @@ impl<'a, F, T, W> Run<'a, F, T, W> {
         rt: &R,
     ) -> (
         Owed,
-        Result<Left<'a, F, T, W>, ClosedRun<'a, F, T, W>>,
+        Result<Left<F, T, W>, ClosedRun<F, T, W>>,
         Option<Debt<F>>,
     )
         ensures made { MatchResult result.1
             (λ left. MatchOption left.awaiter
             (MatchResult left.runnable
-            (λ r. Shows self.entry.cell.now.board.shared moves.end_pending result.0 r.badge)
-            (λ t. Shows self.entry.cell.now.board.shared moves.end_pending result.0 t.badge))
+            (λ r. Shows self.cell.now.board.shared moves.end_pending result.0 r.badge)
+            (λ t. Shows self.cell.now.board.shared moves.end_pending result.0 t.badge))
             (λ _. Owes moves.end_pending result.0))
-            (λ closed. ShowsSeat self.entry.cell.now.board.shared moves.end_pending result.0 closed.pass) }
+            (λ closed. ShowsSeat self.cell.now.board.shared moves.end_pending result.0 closed.pass) }
         ensures ends { is_ok result.1 ≡ not (is_some result.0.next) }
         ensures paid { IfOk result.1 (λ left. is_ok left.runnable ≡ is_some result.0.schedule) }
+        ensures alone { IfOk result.1 (λ left. IfSome left.awaiter (λ _. is_ok left.runnable ≡ false)) }
+        ensures owes { Owes moves.end_pending result.0 }
+        ensures same { IfErr result.1 (λ _. result.2 ≡ Some self.future) }
         ensures future { is_some result.2 ≡ is_some result.0.future }
     {
         let Run {
@@ -177,15 +174,24 @@ impl<'a, F, T, W> Run<'a, F, T, W> {
 
     /// The poll gave an output. The future comes out, to be dropped; `store` follows.
     #[inline(always)]
-    pub fn ready(self) -> (ReadyRun<'a, F, T, W>, Debt<F>)
-        ensures { (result.0.cell.now ≡ self.entry.cell.now) × (result.0.pass ≡ self.entry.pass) }
+    pub fn ready(self) -> (ReadyRun<F, T, W>, Debt<F>)
+        ensures { (result.0.cell.now ≡ self.cell.now) × (result.0.pass ≡ self.pass) }
     {
         let Run { cell, pass, future } = self;
         (ReadyRun { cell, pass }, Debt::of(future))
     }
 }
 
-impl<'a, F, T, W> ReadyRun<'a, F, T, W> {
+impl<F: 'static, T: 'static, W: 'static> ReadyRun<F, T, W> {
+    /// The run with the future that its poll had, which gave no output.
+    #[inline(always)]
+    pub fn give_back(self, future: F) -> Run<F, T, W>
+        ensures { (result.cell.now ≡ self.cell.now) × (result.pass ≡ self.pass) × (result.future ≡ future) }
+    {
+        let ReadyRun { cell, pass } = self;
+        Run { cell, pass, future }
+    }
+
     /// The future was dropped. The output is stored, or comes back to be dropped, where nobody wants it.
     #[inline(always)]
     pub fn store<R: Wait>(
@@ -194,12 +200,12 @@ impl<'a, F, T, W> ReadyRun<'a, F, T, W> {
         output: T,
     ) -> (
         Owed,
-        Result<PastRun<'a, F, T, W>, OwingRun<'a, F, T, W>>,
+        Result<PastRun<F, T, W>, OwingRun<F, T, W>>,
         Option<Debt<T>>,
     )
         ensures made { MatchResult result.1
-            (λ run. Shows self.entry.cell.now.board.shared moves.end_ready result.0 run.badge)
-            (λ owing. Shows self.entry.cell.now.board.shared moves.end_ready result.0 owing.run.badge) }
+            (λ run. Shows self.cell.now.board.shared moves.end_ready result.0 run.badge)
+            (λ owing. Shows self.cell.now.board.shared moves.end_ready result.0 owing.run.badge) }
         ensures calls { is_ok result.1 ≡ not (is_some result.0.awaiter) }
         ensures output { is_some result.2 ≡ result.0.drop_output }
     {

@@ -13,5 +13,5 @@ compare_exchange-requires g c = (
       c.decode-word.result.state c.decode-word.result.rests c.decode-word.ensures
       (still c.loop.pass.me c.look-old.new.pass.me
       (still c.args.pass.now.me c.loop.pass.me c.requires.has c.loop.invariant.1) c.look-old.ensures.saw.0).0
-      (c.encode-new.ensures ∙ ap (λ (z : State). pack z false) c.taken.ensures) (c.is_over.ensures c.if-is_over.true),
+      (c.encode-new.ensures ∙ ap (λ (z : State). pack z false) c.taken.ensures) (c.is_over.ensures.0 c.if-is_over.true),
 )

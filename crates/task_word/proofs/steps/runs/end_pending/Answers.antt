@@ -2,13 +2,14 @@ use Rattle.std.proofs.Common.{Bool, rules, ap, sym, subst, ◌∙◌, arith}
 use Rattle.task_moves.specs.Moves as moves
 use Rattle.task_moves.specs.declared.moves.owed.Moved.{Moved}
 use Rattle.task_word.specs.Word.{pack}
-use Rattle.std.specs.Prelude.{[], ◌∷◌, ◌&&◌, None}
+use Rattle.std.specs.Prelude.{[], ◌∷◌, ◌&&◌, None, is_some}
 use Rattle.atomic_table.specs.Table.{rest}
 use Rattle.task_word.specs.declared.rule.Hold.TheVariants.{Running}
 use Rattle.task_word.specs.Cell.{weight}
 use Rattle.task_word.specs.Steps.{Known, Is, keeps_all, turns, turned_back, paused}
 use Rattle.task_word.proofs.Moving.{done, still}
-use Rattle.task_word.proofs.Running.{FutureSlot, looks_back, pauses, closed_back, open_back, few_paused}
+use Rattle.task_word.proofs.Views.{true_not}
+use Rattle.task_word.proofs.Running.{FutureSlot, looks_back, pauses, closed_back, open_back, unfinished, few_paused}
 use Rattle.task_word.proofs.steps.runs.end_pending.Goals as goal
 
 pub load-old-requires : goal.load-old-requires
@@ -132,3 +133,17 @@ loop-preserved g c = let k : keeps_all c.loop.pass.me c.load-old.new.seat.me =
       ),
       (b.0 ∙ k.0 ∙ i.0, b.1 ∙ k.1 ∙ i.1),
     )
+
+pub returns-then-word-clause-kept : goal.returns-then-word-clause-kept
+returns-then-word-clause-kept g c = λ _. let w : turned_back c.loop.pass.me c.load-old.new.seat.me =
+    subst (λ (b : Bool). turns b turned_back c.loop.pass.me c.load-old.new.seat.me) c.if-word.true
+    (c.load-old.ensures.2.0 c.decode-word.result.state c.decode-word.result.rests (sym c.decode-word.ensures)) in
+    w.1 ∙ c.loop.invariant.1.1
+
+pub returns-then-compare_exchange-old-clause-kept : goal.returns-then-compare_exchange-old-clause-kept
+returns-then-compare_exchange-old-clause-kept g c = λ s. true_not s
+    (ap is_some (unfinished c.decode-word.result.state c.end_pending-moved.result c.end_pending-moved.ensures c.if-word.false))
+
+pub returns-then-compare_exchange-old-2-clause-kept : goal.returns-then-compare_exchange-old-2-clause-kept
+returns-then-compare_exchange-old-2-clause-kept g c = λ s. true_not s
+    (ap is_some (unfinished c.decode-word.result.state c.end_pending-moved.result c.end_pending-moved.ensures c.if-word.false))

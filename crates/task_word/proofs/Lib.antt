@@ -11,4 +11,5 @@ pub mod Letting
 pub mod Polling
 pub mod Awaiting
 pub mod Badged
+pub mod Claims
 pub mod Storing

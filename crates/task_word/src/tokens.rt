@@ -3,9 +3,10 @@
 ghost use Rattle.std.specs.Prelude.{◌≡◌, [], ◌∷◌, false, is_some, is_ok, IfSome, MatchOption, MatchResult, ⊤};
 ghost use Rattle.task_word.specs.Badges.{holds};
 ghost use Rattle.task_word.specs.Steps.{Has, HasLeft, IsSeatOf};
-ghost use Rattle.task_word.specs.Tokens.{IsBadgeOf};
+ghost use Rattle.task_word.specs.Tokens.{IsClaimOf};
 ghost use Rattle.task_word.specs.declared.rule.Hold.TheVariants.{Nothing, Reference, Handle, Queued};
 
+mod claim;
 mod debt;
 mod handles;
 mod past;
@@ -15,10 +16,9 @@ mod references;
 mod runs;
 
 use crate::cell::Cell;
-use crate::rule::View;
 use crate::slot::take_awaiter;
 use crate::steps::{Pass, awaiter};
-use atomic_table::Badge;
+use crate::tokens::claim::Claim;
 pub use debt::Debt;
 pub use handles::{DetachingTask, Found, OwingTask};
 pub use past::{OwingRun, PastRun};
@@ -29,9 +29,9 @@ use task_moves::ScheduleInfo;
 /// A Runnable, to be put to rest, run, or let go.
 pub struct Runnable<F: 'static, T: 'static, W: 'static> {
     cell: &'static Cell<F, T, W>,
-    badge: Badge<View>,
-    ghost of: { badge.table_id ≡ cell.now.board.shared.table_id },
-    ghost right: { holds badge.views ≡ Queued ∷ [] },
+    claim: Claim,
+    ghost of: { claim.badge.table_id ≡ cell.now.board.shared.table_id },
+    ghost right: { holds claim.badge.views ≡ Queued ∷ [] },
 }
 
 impl<F: 'static, T: 'static, W: 'static> Runnable<F, T, W> {
@@ -39,32 +39,32 @@ impl<F: 'static, T: 'static, W: 'static> Runnable<F, T, W> {
     pub(crate) fn of(cell: &'static Cell<F, T, W>, pass: Pass<F, T, W>) -> Self
         requires seat { IsSeatOf cell.now.board.shared pass }
         requires has { Has Queued pass }
-        ensures { IsBadgeOf pass result.badge }
+        ensures { IsClaimOf pass result.claim }
     {
         Runnable {
             cell,
-            badge: pass.into_badge(),
+            claim: Claim::of(pass.into_badge()),
         }
     }
 
     #[inline(always)]
     pub(crate) fn open(self) -> (&'static Cell<F, T, W>, Pass<F, T, W>)
-        ensures same { (result.1.table_id ≡ self.entry.badge.table_id) × (result.1.id ≡ self.entry.badge.id) }
+        ensures same { (result.1.table_id ≡ self.entry.claim.badge.table_id) × (result.1.id ≡ self.entry.claim.badge.id) }
         ensures cell { result.0.now ≡ self.entry.cell.now }
         ensures seat { IsSeatOf result.0.now.board.shared result.1 }
         ensures has { Has Queued result.1 }
     {
-        let Runnable { cell, badge } = self;
-        (cell, badge.into_seat())
+        let Runnable { cell, claim } = self;
+        (cell, claim.into_seat())
     }
 }
 
 /// A waker: one reference, to be released.
 pub struct Waker<F: 'static, T: 'static, W: 'static> {
     cell: &'static Cell<F, T, W>,
-    badge: Badge<View>,
-    ghost of: { badge.table_id ≡ cell.now.board.shared.table_id },
-    ghost one: { holds badge.views ≡ Reference ∷ [] },
+    claim: Claim,
+    ghost of: { claim.badge.table_id ≡ cell.now.board.shared.table_id },
+    ghost one: { holds claim.badge.views ≡ Reference ∷ [] },
 }
 
 impl<F: 'static, T: 'static, W: 'static> Waker<F, T, W> {
@@ -72,32 +72,32 @@ impl<F: 'static, T: 'static, W: 'static> Waker<F, T, W> {
     pub(crate) fn of(cell: &'static Cell<F, T, W>, pass: Pass<F, T, W>) -> Self
         requires seat { IsSeatOf cell.now.board.shared pass }
         requires has { Has Reference pass }
-        ensures { IsBadgeOf pass result.badge }
+        ensures { IsClaimOf pass result.claim }
     {
         Waker {
             cell,
-            badge: pass.into_badge(),
+            claim: Claim::of(pass.into_badge()),
         }
     }
 
     #[inline(always)]
     pub(crate) fn open(self) -> (&'static Cell<F, T, W>, Pass<F, T, W>)
-        ensures same { (result.1.table_id ≡ self.entry.badge.table_id) × (result.1.id ≡ self.entry.badge.id) }
+        ensures same { (result.1.table_id ≡ self.entry.claim.badge.table_id) × (result.1.id ≡ self.entry.claim.badge.id) }
         ensures cell { result.0.now ≡ self.entry.cell.now }
         ensures seat { IsSeatOf result.0.now.board.shared result.1 }
         ensures has { Has Reference result.1 }
     {
-        let Waker { cell, badge } = self;
-        (cell, badge.into_seat())
+        let Waker { cell, claim } = self;
+        (cell, claim.into_seat())
     }
 }
 
 /// The handle of a task, to be detached.
 pub struct Task<F: 'static, T: 'static, W: 'static> {
     cell: &'static Cell<F, T, W>,
-    badge: Badge<View>,
-    ghost of: { badge.table_id ≡ cell.now.board.shared.table_id },
-    ghost handle: { holds badge.views ≡ Handle ∷ [] },
+    claim: Claim,
+    ghost of: { claim.badge.table_id ≡ cell.now.board.shared.table_id },
+    ghost handle: { holds claim.badge.views ≡ Handle ∷ [] },
 }
 
 impl<F: 'static, T: 'static, W: 'static> Task<F, T, W> {
@@ -105,41 +105,41 @@ impl<F: 'static, T: 'static, W: 'static> Task<F, T, W> {
     pub(crate) fn of(cell: &'static Cell<F, T, W>, pass: Pass<F, T, W>) -> Self
         requires seat { IsSeatOf cell.now.board.shared pass }
         requires has { Has Handle pass }
-        ensures { IsBadgeOf pass result.badge }
+        ensures { IsClaimOf pass result.claim }
     {
         Task {
             cell,
-            badge: pass.into_badge(),
+            claim: Claim::of(pass.into_badge()),
         }
     }
 
     #[inline(always)]
     pub(crate) fn open(self) -> (&'static Cell<F, T, W>, Pass<F, T, W>)
-        ensures same { (result.1.table_id ≡ self.entry.badge.table_id) × (result.1.id ≡ self.entry.badge.id) }
+        ensures same { (result.1.table_id ≡ self.entry.claim.badge.table_id) × (result.1.id ≡ self.entry.claim.badge.id) }
         ensures cell { result.0.now ≡ self.entry.cell.now }
         ensures seat { IsSeatOf result.0.now.board.shared result.1 }
         ensures has { Has Handle result.1 }
     {
-        let Task { cell, badge } = self;
-        (cell, badge.into_seat())
+        let Task { cell, claim } = self;
+        (cell, claim.into_seat())
     }
 }
 
 /// A step whose seat has nothing of the task: what it found and what it left.
 #[derive(Drop)]
 pub struct Trace {
-    badge: Badge<View>,
-    ghost nothing: { holds badge.views ≡ Nothing ∷ [] },
+    claim: Claim,
+    ghost nothing: { holds claim.badge.views ≡ Nothing ∷ [] },
 }
 
 impl Trace {
     #[inline(always)]
     pub(crate) fn of<F, T, W>(pass: Pass<F, T, W>) -> Self
         requires has { Has Nothing pass }
-        ensures { IsBadgeOf pass result.badge }
+        ensures { IsClaimOf pass result.claim }
     {
         Trace {
-            badge: pass.into_badge(),
+            claim: Claim::of(pass.into_badge()),
         }
     }
 }
@@ -163,7 +163,7 @@ pub(crate) fn take_left<F: 'static, T: 'static, W: 'static>(
     ensures paid { is_ok result.runnable ≡ is_some schedule }
     ensures alone { IfSome result.awaiter (λ _. is_ok result.runnable ≡ false) }
     ensures shows { MatchOption result.awaiter
-        (MatchResult result.runnable (λ r. IsBadgeOf pass r.badge) (λ t. IsBadgeOf pass t.badge))
+        (MatchResult result.runnable (λ r. IsClaimOf pass r.claim) (λ t. IsClaimOf pass t.claim))
         (λ _. ⊤) }
 {
     match schedule {

@@ -1,8 +1,9 @@
 //! The moves of a run, and of a call that drops a closed task's future.
-ghost use Rattle.std.specs.Prelude.{◌≡◌, true, is_some};
+ghost use Rattle.std.specs.Prelude.{◌≡◌, [], ◌∷◌, true, is_some, Some, IfSome};
 ghost use Rattle.task_moves.specs.Moves as moves;
 ghost use Rattle.task_word.specs.Steps.{Makes, Has, HasFuture, HasPlace, TakenUp, Paused, IsHandedBack, IsSeatOf, IsSameSeat};
 ghost use Rattle.task_word.specs.declared.rule.Hold.TheVariants.{Leaving, Queued, Running, Closing, Ending};
+ghost use Rattle.task_word.specs.declared.rule.Content.TheVariants.{Future};
 
 use crate::layout::{decode, encode};
 use crate::rule;
@@ -144,6 +145,7 @@ pub fn end_pending<F, T, W, R: Wait>(
     ensures future { is_some result.future ≡ result.owed.empty_cell }
     ensures right { Paused result.owed.next result.owed.schedule result.leaves_awaiter pass.new }
     ensures kept { is_some result.owed.next ≡ true → pass.new.me.1 ≡ pass.old.me.1 }
+    ensures back { IfSome result.future (λ f. pass.old.me.1 ≡ (0, Some (Future f)) ∷ []) }
 {
     for _ in rt.forever() {
         let old = board.load::<rule::LookBack>(pass, 0);

@@ -37,7 +37,7 @@ impl<F: 'static, T: 'static, W: 'static> Cell<F, T, W> {
         rt: &R,
         future: F,
     ) -> Result<(Runnable<F, T, W>, Task<F, T, W>), (F, Trace)>
-        ensures { IfErr result (λ back. (back.0 ≡ future) × FindsTask self.now.board.shared back.1.badge) }
+        ensures { IfErr result (λ back. (back.0 ≡ future) × FindsTask self.now.board.shared back.1.claim) }
     {
         let mut pass = self.pass();
         if making::reserve(rt, self.board(), &mut pass) {
@@ -52,7 +52,7 @@ impl<F: 'static, T: 'static, W: 'static> Cell<F, T, W> {
     /// Takes the handle that was stored, where it rests in the cell.
     #[inline(always)]
     pub fn unpark<R: Wait>(&'static self, rt: &R) -> Result<Task<F, T, W>, Trace>
-        ensures { IfErr result (λ t. FindsNotParked self.now.board.shared t.badge) }
+        ensures { IfErr result (λ t. FindsNotParked self.now.board.shared t.claim) }
     {
         let mut pass = self.pass();
         if parked::unpark(rt, self.board(), &mut pass) {
@@ -79,7 +79,7 @@ impl<F: 'static, T: 'static, W: 'static> Task<F, T, W> {
     /// The handle rests in the cell, as the cell's number stands in a list. It takes one add, and the same seat has nothing then.
     #[inline(always)]
     pub fn park(self) -> Trace
-        ensures { (result.badge.table_id ≡ self.entry.badge.table_id) × (result.badge.id ≡ self.entry.badge.id) }
+        ensures { (result.claim.badge.table_id ≡ self.entry.claim.badge.table_id) × (result.claim.badge.id ≡ self.entry.claim.badge.id) }
     {
         let (cell, mut pass) = self.open();
         parked::park(cell.board(), &mut pass);
@@ -89,7 +89,7 @@ impl<F: 'static, T: 'static, W: 'static> Task<F, T, W> {
     /// Whether the task is over. It takes one load.
     #[inline(always)]
     pub fn is_finished(&self) -> (bool, Trace)
-        ensures { Finds self.now.cell.now.board.shared is_over result.0 result.1.badge }
+        ensures { Finds self.now.cell.now.board.shared is_over result.0 result.1.claim }
     {
         let mut pass = self.cell.pass();
         let state = decode(look(self.cell.board(), &mut pass)).state;
@@ -107,8 +107,8 @@ impl<F: 'static, T: 'static, W: 'static> Task<F, T, W> {
         Result<Self, OwingTask<F, T, W>>,
     )
         ensures made { MatchResult result.1
-            (λ r. Shows self.entry.cell.now.board.shared moves.cancel result.0 r.badge)
-            (λ t. Shows self.entry.cell.now.board.shared moves.cancel result.0 t.badge) }
+            (λ r. Shows self.entry.cell.now.board.shared moves.cancel result.0 r.claim)
+            (λ t. Shows self.entry.cell.now.board.shared moves.cancel result.0 t.claim) }
         ensures paid { is_ok result.1 ≡ is_some result.0.schedule }
         ensures owes { Owes moves.cancel result.0 }
         ensures calls { is_ok result.2 ≡ not (is_some result.0.awaiter) }
@@ -128,8 +128,8 @@ impl<F: 'static, T: 'static, W: 'static> Task<F, T, W> {
         ensures made { MatchResult result.1
             (λ left. MatchOption left.awaiter
             (MatchResult left.runnable
-            (λ r. Shows self.entry.cell.now.board.shared moves.detach result.0 r.badge)
-            (λ t. Shows self.entry.cell.now.board.shared moves.detach result.0 t.badge))
+            (λ r. Shows self.entry.cell.now.board.shared moves.detach result.0 r.claim)
+            (λ t. Shows self.entry.cell.now.board.shared moves.detach result.0 t.claim))
             (λ _. Owes moves.detach result.0))
             (λ _. Owes moves.detach result.0) }
         ensures gone { is_ok result.1 ≡ not result.0.drop_output }
@@ -159,8 +159,8 @@ impl<F: 'static, T: 'static, W: 'static> DetachingTask<F, T, W> {
         ensures made { MatchResult result.1
             (λ left. MatchOption left.awaiter
             (MatchResult left.runnable
-            (λ r. Shows self.entry.task.cell.now.board.shared moves.detach result.0 r.badge)
-            (λ t. Shows self.entry.task.cell.now.board.shared moves.detach result.0 t.badge))
+            (λ r. Shows self.entry.task.cell.now.board.shared moves.detach result.0 r.claim)
+            (λ t. Shows self.entry.task.cell.now.board.shared moves.detach result.0 t.claim))
             (λ _. Owes moves.detach result.0))
             (λ _. Owes moves.detach result.0) }
         ensures gone { is_ok result.1 ≡ not result.0.drop_output }
@@ -177,7 +177,7 @@ impl<F: 'static, T: 'static, W: 'static> OwingTask<F, T, W> {
     /// The awaiter comes out, to be called, unless somebody else is at it, who will call it.
     #[inline(always)]
     pub fn notify<R: Wait>(self, rt: &R) -> (Owed, Task<F, T, W>, Option<Debt<W>>)
-        ensures made { Notifies self.entry.task.cell.now.board.shared result.0 result.1.badge }
+        ensures made { Notifies self.entry.task.cell.now.board.shared result.0 result.1.claim }
         ensures other { IsFalse (needs_slot result.0.awaiter) → IsNone result.2 }
     {
         let OwingTask { task } = self;

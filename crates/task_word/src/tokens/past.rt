@@ -4,24 +4,23 @@ ghost use Rattle.task_moves.specs.Moves as moves;
 ghost use Rattle.task_word.specs.Awaiter.{needs_slot};
 ghost use Rattle.task_word.specs.Badges.{holds};
 ghost use Rattle.task_word.specs.Steps.{Has, IsSeatOf};
-ghost use Rattle.task_word.specs.Tokens.{IsBadgeOf, Shows, Owes, Notifies};
+ghost use Rattle.task_word.specs.Tokens.{IsClaimOf, Shows, Owes, Notifies};
 ghost use Rattle.task_word.specs.declared.rule.Hold.TheVariants.{Leaving};
 
 use crate::cell::Cell;
-use crate::rule::View;
 use crate::slot::take_awaiter;
 use crate::steps::{Pass, awaiter, needs_slot, wakers};
+use crate::tokens::claim::Claim;
 use crate::tokens::{Debt, Left, take_left};
-use atomic_table::Badge;
 use std::sync::Wait;
 use task_moves::moves::Owed;
 
 /// A run that is over, or a call that dropped a closed task's future: its reference, to be given up.
 pub struct PastRun<F: 'static, T: 'static, W: 'static> {
     cell: &'static Cell<F, T, W>,
-    badge: Badge<View>,
-    ghost of: { badge.table_id ≡ cell.now.board.shared.table_id },
-    ghost past: { holds badge.views ≡ Leaving ∷ [] },
+    claim: Claim,
+    ghost of: { claim.badge.table_id ≡ cell.now.board.shared.table_id },
+    ghost past: { holds claim.badge.views ≡ Leaving ∷ [] },
 }
 
 /// The same, which has to call the awaiter before.
@@ -34,11 +33,11 @@ impl<F: 'static, T: 'static, W: 'static> PastRun<F, T, W> {
     pub(crate) fn of(cell: &'static Cell<F, T, W>, pass: Pass<F, T, W>) -> Self
         requires seat { IsSeatOf cell.now.board.shared pass }
         requires has { Has Leaving pass }
-        ensures { IsBadgeOf pass result.badge }
+        ensures { IsClaimOf pass result.claim }
     {
         PastRun {
             cell,
-            badge: pass.into_badge(),
+            claim: Claim::of(pass.into_badge()),
         }
     }
 
@@ -48,8 +47,8 @@ impl<F: 'static, T: 'static, W: 'static> PastRun<F, T, W> {
         ensures seat { IsSeatOf result.0.now.board.shared result.1 }
         ensures has { Has Leaving result.1 }
     {
-        let PastRun { cell, badge } = self;
-        (cell, badge.into_seat())
+        let PastRun { cell, claim } = self;
+        (cell, claim.into_seat())
     }
 
     /// It has to call the awaiter before, where this is owed.
@@ -69,8 +68,8 @@ impl<F: 'static, T: 'static, W: 'static> PastRun<F, T, W> {
     pub fn give_up<R: Wait>(self, rt: &R) -> (Owed, Left<F, T, W>)
         ensures made { MatchOption result.1.awaiter
             (MatchResult result.1.runnable
-            (λ r. Shows self.entry.cell.now.board.shared moves.give_up result.0 r.badge)
-            (λ t. Shows self.entry.cell.now.board.shared moves.give_up result.0 t.badge))
+            (λ r. Shows self.entry.cell.now.board.shared moves.give_up result.0 r.claim)
+            (λ t. Shows self.entry.cell.now.board.shared moves.give_up result.0 t.claim))
             (λ _. Owes moves.give_up result.0) }
         ensures paid { is_ok result.1.runnable ≡ is_some result.0.schedule }
         ensures alone { IfSome result.1.awaiter (λ _. is_ok result.1.runnable ≡ false) }
@@ -86,7 +85,7 @@ impl<F: 'static, T: 'static, W: 'static> OwingRun<F, T, W> {
     /// The awaiter comes out, to be called, unless somebody else is at it, who will call it.
     #[inline(always)]
     pub fn notify<R: Wait>(self, rt: &R) -> (Owed, PastRun<F, T, W>, Option<Debt<W>>)
-        ensures made { Notifies self.entry.run.cell.now.board.shared result.0 result.1.badge }
+        ensures made { Notifies self.entry.run.cell.now.board.shared result.0 result.1.claim }
         ensures other { IsFalse (needs_slot result.0.awaiter) → IsNone result.2 }
     {
         let OwingRun { run } = self;

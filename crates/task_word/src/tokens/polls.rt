@@ -4,7 +4,7 @@ ghost use Rattle.task_moves.specs.Moves as moves;
 ghost use Rattle.task_word.specs.Awaiter.{needs_slot};
 ghost use Rattle.task_word.specs.Given.{is_given};
 ghost use Rattle.task_word.specs.Steps.{HasOutput, IsSeatOf};
-ghost use Rattle.task_word.specs.Tokens.{IsBadgeOf, Shows, Owes, Registers};
+ghost use Rattle.task_word.specs.Tokens.{IsClaimOf, Shows, Owes, Registers};
 
 use crate::cell::Cell;
 use crate::slot::{take_awaiter, take_output};
@@ -57,7 +57,7 @@ fn take_answer<F: 'static, T: 'static, W: 'static>(
     ensures gives { is_some result.output ≡ is_given owed.answer }
     ensures calls { is_ok result.task ≡ not (is_some owed.awaiter) }
     ensures shows { MatchOption result.output
-        (MatchResult result.task (λ t. IsBadgeOf pass t.badge) (λ t. IsBadgeOf pass t.task.badge))
+        (MatchResult result.task (λ t. IsClaimOf pass t.claim) (λ t. IsClaimOf pass t.task.claim))
         (λ _. ⊤) }
 {
     if gives_output(owed) {
@@ -82,10 +82,10 @@ impl<F: 'static, T: 'static, W: 'static> Task<F, T, W> {
         ensures made { MatchResult result.1
             (λ polled. MatchOption polled.output
             (MatchResult polled.task
-            (λ t. Shows self.entry.cell.now.board.shared moves.poll result.0 t.badge)
-            (λ t. Shows self.entry.cell.now.board.shared moves.poll result.0 t.task.badge))
+            (λ t. Shows self.entry.cell.now.board.shared moves.poll result.0 t.claim)
+            (λ t. Shows self.entry.cell.now.board.shared moves.poll result.0 t.task.claim))
             (λ _. Owes moves.poll result.0))
-            (λ t. Shows self.entry.cell.now.board.shared moves.poll result.0 t.task.badge) }
+            (λ t. Shows self.entry.cell.now.board.shared moves.poll result.0 t.task.claim) }
         ensures answers { is_ok result.1 ≡ is_some result.0.answer }
         ensures gives { IfOk result.1 (λ polled. is_some polled.output ≡ is_given result.0.answer) }
         ensures calls { IfOk result.1 (λ polled. is_ok polled.task ≡ not (is_some result.0.awaiter)) }
@@ -115,7 +115,7 @@ impl<F: 'static, T: 'static, W: 'static> WaitingTask<F, T, W> {
     /// The waker is stored; or it comes back to be called, where somebody notifies.
     #[inline(always)]
     pub fn register<R: Wait>(self, rt: &R, waker: W) -> (Owed, Registered<F, T, W>)
-        ensures made { Registers self.entry.task.cell.now.board.shared result.0 result.1.task.task.badge (is_some result.1.to_call) }
+        ensures made { Registers self.entry.task.cell.now.board.shared result.0 result.1.task.task.claim (is_some result.1.to_call) }
     {
         let WaitingTask { task } = self;
         let (cell, mut pass) = task.open();
@@ -150,8 +150,8 @@ impl<F: 'static, T: 'static, W: 'static> RegisteredTask<F, T, W> {
     pub fn look_again<R: Wait>(self, rt: &R) -> (Owed, Polled<F, T, W>)
         ensures made { MatchOption result.1.output
             (MatchResult result.1.task
-            (λ t. Shows self.entry.task.cell.now.board.shared moves.look_again result.0 t.badge)
-            (λ t. Shows self.entry.task.cell.now.board.shared moves.look_again result.0 t.task.badge))
+            (λ t. Shows self.entry.task.cell.now.board.shared moves.look_again result.0 t.claim)
+            (λ t. Shows self.entry.task.cell.now.board.shared moves.look_again result.0 t.task.claim))
             (λ _. Owes moves.look_again result.0) }
         ensures gives { is_some result.1.output ≡ is_given result.0.answer }
         ensures calls { is_ok result.1.task ≡ not (is_some result.0.awaiter) }

@@ -14,8 +14,8 @@ impl<F: 'static, T: 'static, W: 'static> Cell<F, T, W> {
     #[inline(always)]
     pub fn wake<R: Wait>(&'static self, rt: &R) -> (Owed, Result<Runnable<F, T, W>, Trace>)
         ensures made { MatchResult result.1
-            (λ r. Shows self.now.board.shared moves.wake_by_reference result.0 r.badge)
-            (λ t. Shows self.now.board.shared moves.wake_by_reference result.0 t.badge) }
+            (λ r. Shows self.now.board.shared moves.wake_by_reference result.0 r.claim)
+            (λ t. Shows self.now.board.shared moves.wake_by_reference result.0 t.claim) }
         ensures paid { is_ok result.1 ≡ is_some result.0.schedule }
         ensures owes { Owes moves.wake_by_reference result.0 }
     {
@@ -30,7 +30,7 @@ impl<F: 'static, T: 'static, W: 'static> Cell<F, T, W> {
     /// Takes the Runnable that rests in the word, where one does.
     #[inline(always)]
     pub fn resume<R: Wait>(&'static self, rt: &R) -> Result<Runnable<F, T, W>, Trace>
-        ensures { IfErr result (λ t. FindsNoRunnable self.now.board.shared t.badge) }
+        ensures { IfErr result (λ t. FindsNoRunnable self.now.board.shared t.claim) }
     {
         let mut pass = self.pass();
         if making::resume(rt, self.board(), &mut pass) {
@@ -45,7 +45,7 @@ impl<F: 'static, T: 'static, W: 'static> Runnable<F, T, W> {
     /// It rests in the word, as the cell's number stands in a queue. The same seat has nothing then.
     #[inline(always)]
     pub fn rest(self) -> Trace
-        ensures { (result.badge.table_id ≡ self.entry.badge.table_id) × (result.badge.id ≡ self.entry.badge.id) }
+        ensures { (result.claim.badge.table_id ≡ self.entry.claim.badge.table_id) × (result.claim.badge.id ≡ self.entry.claim.badge.id) }
     {
         let (cell, mut pass) = self.open();
         making::rest(cell.board(), &mut pass);

@@ -15,8 +15,8 @@ impl<F: 'static, T: 'static, W: 'static> Cell<F, T, W> {
     #[inline(always)]
     pub fn copy<R: Wait>(&'static self, rt: &R) -> (Owed, Result<Waker<F, T, W>, Trace>)
         ensures made { MatchResult result.1
-            (λ w. Shows self.now.board.shared steps.copy result.0 w.badge)
-            (λ t. Shows self.now.board.shared steps.copy result.0 t.badge) }
+            (λ w. Shows self.now.board.shared steps.copy result.0 w.claim)
+            (λ t. Shows self.now.board.shared steps.copy result.0 t.claim) }
         ensures paid { is_ok result.1 ≡ not (is_some result.0.answer) }
     {
         let mut pass = self.pass();
@@ -30,7 +30,7 @@ impl<F: 'static, T: 'static, W: 'static> Cell<F, T, W> {
     /// Takes the reference of a waker that was stored, where one rests in the cell.
     #[inline(always)]
     pub fn redeem<R: Wait>(&'static self, rt: &R) -> Result<Waker<F, T, W>, Trace>
-        ensures { IfErr result (λ t. FindsNoneStored self.now.board.shared t.badge) }
+        ensures { IfErr result (λ t. FindsNoneStored self.now.board.shared t.claim) }
     {
         let mut pass = self.pass();
         if stored::redeem(rt, self.board(), &mut pass) {
@@ -45,7 +45,7 @@ impl<F: 'static, T: 'static, W: 'static> Waker<F, T, W> {
     /// Its reference rests in the cell, as the cell's number stands in a list. It takes one add, and the same seat has nothing then.
     #[inline(always)]
     pub fn store(self) -> Trace
-        ensures { (result.badge.table_id ≡ self.entry.badge.table_id) × (result.badge.id ≡ self.entry.badge.id) }
+        ensures { (result.claim.badge.table_id ≡ self.entry.claim.badge.table_id) × (result.claim.badge.id ≡ self.entry.claim.badge.id) }
     {
         let (cell, mut pass) = self.open();
         stored::store(cell.board(), &mut pass);
@@ -57,8 +57,8 @@ impl<F: 'static, T: 'static, W: 'static> Waker<F, T, W> {
     pub fn release<R: Wait>(self, rt: &R) -> (Owed, Left<F, T, W>)
         ensures made { MatchOption result.1.awaiter
             (MatchResult result.1.runnable
-            (λ r. Shows self.entry.cell.now.board.shared moves.release result.0 r.badge)
-            (λ t. Shows self.entry.cell.now.board.shared moves.release result.0 t.badge))
+            (λ r. Shows self.entry.cell.now.board.shared moves.release result.0 r.claim)
+            (λ t. Shows self.entry.cell.now.board.shared moves.release result.0 t.claim))
             (λ _. Owes moves.release result.0) }
         ensures paid { is_ok result.1.runnable ≡ is_some result.0.schedule }
         ensures alone { IfSome result.1.awaiter (λ _. is_ok result.1.runnable ≡ false) }

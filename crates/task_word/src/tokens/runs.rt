@@ -92,8 +92,8 @@ impl<F: 'static, T: 'static, W: 'static> ClosedRunnable<F, T, W> {
     #[inline(always)]
     pub fn settle<R: Wait>(self, rt: &R) -> (Owed, Result<PastRun<F, T, W>, OwingRun<F, T, W>>)
         ensures made { MatchResult result.1
-            (λ run. Shows self.cell.now.board.shared moves.settle_closed result.0 run.badge)
-            (λ owing. Shows self.cell.now.board.shared moves.settle_closed result.0 owing.run.badge) }
+            (λ run. Shows self.cell.now.board.shared moves.settle_closed result.0 run.claim)
+            (λ owing. Shows self.cell.now.board.shared moves.settle_closed result.0 owing.run.claim) }
         ensures calls { is_ok result.1 ≡ not (is_some result.0.awaiter) }
     {
         let ClosedRunnable { cell, mut pass } = self;
@@ -107,8 +107,8 @@ impl<F: 'static, T: 'static, W: 'static> ClosedRun<F, T, W> {
     #[inline(always)]
     pub fn settle<R: Wait>(self, rt: &R) -> (Owed, Result<PastRun<F, T, W>, OwingRun<F, T, W>>)
         ensures made { MatchResult result.1
-            (λ run. Shows self.cell.now.board.shared moves.end_closed result.0 run.badge)
-            (λ owing. Shows self.cell.now.board.shared moves.end_closed result.0 owing.run.badge) }
+            (λ run. Shows self.cell.now.board.shared moves.end_closed result.0 run.claim)
+            (λ owing. Shows self.cell.now.board.shared moves.end_closed result.0 owing.run.claim) }
         ensures calls { is_ok result.1 ≡ not (is_some result.0.awaiter) }
     {
         let ClosedRun { cell, mut pass } = self;
@@ -132,15 +132,15 @@ impl<F: 'static, T: 'static, W: 'static> Run<F, T, W> {
         ensures made { MatchResult result.1
             (λ left. MatchOption left.awaiter
             (MatchResult left.runnable
-            (λ r. Shows self.cell.now.board.shared moves.end_pending result.0 r.badge)
-            (λ t. Shows self.cell.now.board.shared moves.end_pending result.0 t.badge))
+            (λ r. Shows self.cell.now.board.shared moves.end_pending result.0 r.claim)
+            (λ t. Shows self.cell.now.board.shared moves.end_pending result.0 t.claim))
             (λ _. Owes moves.end_pending result.0))
             (λ closed. ShowsSeat self.cell.now.board.shared moves.end_pending result.0 closed.pass) }
         ensures ends { is_ok result.1 ≡ not (is_some result.0.next) }
         ensures paid { IfOk result.1 (λ left. is_ok left.runnable ≡ is_some result.0.schedule) }
         ensures alone { IfOk result.1 (λ left. IfSome left.awaiter (λ _. is_ok left.runnable ≡ false)) }
         ensures owes { Owes moves.end_pending result.0 }
-        ensures same { IfErr result.1 (λ _. result.2 ≡ Some self.future) }
+        ensures same { IfSome result.2 (λ f. f ≡ self.future) }
         ensures future { is_some result.2 ≡ is_some result.0.future }
     {
         let Run {
@@ -204,8 +204,8 @@ impl<F: 'static, T: 'static, W: 'static> ReadyRun<F, T, W> {
         Option<Debt<T>>,
     )
         ensures made { MatchResult result.1
-            (λ run. Shows self.cell.now.board.shared moves.end_ready result.0 run.badge)
-            (λ owing. Shows self.cell.now.board.shared moves.end_ready result.0 owing.run.badge) }
+            (λ run. Shows self.cell.now.board.shared moves.end_ready result.0 run.claim)
+            (λ owing. Shows self.cell.now.board.shared moves.end_ready result.0 owing.run.claim) }
         ensures calls { is_ok result.1 ≡ not (is_some result.0.awaiter) }
         ensures output { is_some result.2 ≡ result.0.drop_output }
     {

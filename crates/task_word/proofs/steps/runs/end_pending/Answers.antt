@@ -147,3 +147,9 @@ returns-then-compare_exchange-old-clause-kept g c = λ s. true_not s
 pub returns-then-compare_exchange-old-2-clause-kept : goal.returns-then-compare_exchange-old-2-clause-kept
 returns-then-compare_exchange-old-2-clause-kept g c = λ s. true_not s
     (ap is_some (unfinished c.decode-word.result.state c.end_pending-moved.result c.end_pending-moved.ensures c.if-word.false))
+
+pub returns-then-compare_exchange-old-clause-back : goal.returns-then-compare_exchange-old-clause-back
+returns-then-compare_exchange-old-clause-back g c = let k : keeps_all c.loop.pass.me c.load-old.new.seat.me =
+    subst (λ (b : Bool). turns b turned_back c.loop.pass.me c.load-old.new.seat.me) c.if-word.false
+    (c.load-old.ensures.2.0 c.decode-word.result.state c.decode-word.result.rests (sym c.decode-word.ensures)) in
+    sym (k.1 ∙ c.loop.invariant.1.1) ∙ c.take_future-future.ensures.future

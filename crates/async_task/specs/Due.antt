@@ -2,7 +2,12 @@
 use Rattle.std.specs.Prelude.{◌≡◌}
 use Rattle.async_task.specs.Handles.{Handle}
 use Rattle.async_task.specs.declared.cell.scheduled.Due.{Due}
-use Rattle.task_sections.specs.Sections.{WasIdle}
+use Rattle.std.specs.Prelude.{false}
+use Rattle.task_moves.specs.declared.schedule_info.ScheduleInfo.{ScheduleInfo}
+
+-- the task wasn't woken while it was polled
+abbrev pub WasIdle : ScheduleInfo → Type 0
+WasIdle info = info.woken_while_running ≡ false
 
 -- it is the Runnable of this task
 pub record IsDueBy {F T S M W R : Type 0} (task : Handle M) (due : Due F T S M W R) : Type 0 where

@@ -2,3 +2,4 @@ pub mod Handles
 pub mod Awaiters
 pub mod Runs
 pub mod Due
+pub mod Rests

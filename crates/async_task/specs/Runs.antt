@@ -1,7 +1,6 @@
--- How a run ends. What is under the lock of a cell no clause of a handle's call can name, but such a call answers what the
--- section of the lock did, on whatever task it found there.
-use Rattle.std.specs.Prelude.{◌≡◌, Bool, false, Option, Some, None}
-use Rattle.async_task.specs.declared.cell.Kept.{Kept}
+-- How a run begins and ends. What a task's word has no clause of a handle's call can name, but such a call answers what its step
+-- did, on whatever task it found there.
+use Rattle.std.specs.Prelude.{◌≡◌, Bool, false, Option, Some, None, is_some}
 use Rattle.async_task.specs.declared.runnable.RunEnd.{RunEnd}
 use Rattle.async_task.specs.declared.runnable.Started.{Started}
 use Rattle.async_task.specs.declared.runnable.Started.TheVariants.{Poll as PollIt, Drop as DropIt}
@@ -9,29 +8,13 @@ use Rattle.async_task.specs.declared.waker.Awaiter.{Awaiter}
 use Rattle.async_task.specs.declared.wake.Wake.{Ghosts}
 use Rattle.async_task.specs.Handles.{Handle}
 use Rattle.async_task.specs.Awaiters.{IsOf}
+use Rattle.async_task.specs.Rests.{answer_by, dropped_by}
 use Rattle.async_task.specs.declared.runnable.RunEnd.TheVariants.{Over, Drop}
-use Rattle.task_sections.specs.declared.sections.debts.Ended.{Ended}
-use Rattle.task_sections.specs.Sections.{ended_of}
 use Rattle.task_moves.specs.declared.local_task.answers.Back.{Back}
-use Rattle.task_moves.specs.declared.local_task.answers.Settled.{Settled}
-use Rattle.task_moves.specs.declared.local_task.answers.Settled.TheVariants.{Queue, Drop as DropFuture}
-use Rattle.task_moves.specs.LocalTask.{LocalValue, settle_answer}
-
--- the section of the end of a poll, on some task
-abbrev pub EndsPoll : {F T W : Type 0} → Back F T → Ended F T (Kept W) → Type 0
-EndsPoll {F} {T} {W} back end = (found : LocalValue F T (Kept W)) × (end ≡ ended_of back found)
-
-module _ {F T A : Type 0} where
-  -- what `run` answers where the run is over
-  abbrev pub answer_by : Settled F T A → Option Bool
-  answer_by (Queue info) = Some info.woken_while_running
-  answer_by (DropFuture future) = None
-  answer_by _ = Some false
-
-  -- the future that is dropped first
-  abbrev pub dropped_by : Settled F T A → Option F
-  dropped_by (DropFuture future) = Some future
-  dropped_by _ = None
+use Rattle.task_moves.specs.declared.local_task.answers.Back.TheVariants.{Ready, Pending}
+use Rattle.task_moves.specs.declared.moves.owed.Owed.{Owed}
+use Rattle.task_moves.specs.declared.moves.state.State.{State}
+use Rattle.task_moves.specs.Moves as moves
 
 module _ {F T S M W R : Type 0} where
   abbrev pub answer_of : RunEnd F T S M W R → Option Bool
@@ -42,12 +25,18 @@ module _ {F T S M W R : Type 0} where
   dropped_of (Over woken) = None
   dropped_of (Drop future closing) = Some future
 
--- the run has ended as the poll of some task with one owner does: it answers true exactly where that says that the task was
--- woken meanwhile and is to be queued
+module _ {F T S M W R : Type 0} where
+  -- the run has ended so, where this is owed
+  abbrev pub EndsBy : Owed → F → RunEnd F T S M W R → Type 0
+  EndsBy owed future end =
+      (answer_of end ≡ answer_by (is_some owed.future) owed.schedule) × (dropped_of end ≡ dropped_by (is_some owed.future) future)
+
+-- the run has ended by the move that the end of its poll makes on some task: with an output it is over; without one it answers
+-- true exactly where that task was woken meanwhile and is to be queued, and the future is dropped where it was closed and where
+-- nobody can reach it any more
 abbrev pub EndsRun : {F T S M W R : Type 0} → Back F T → RunEnd F T S M W R → Type 0
-EndsRun {F} {T} {S} {M} {W} {R} back end =
-    (found : LocalValue F T (Kept W)) ×
-    ((answer_of end ≡ answer_by (settle_answer back found.task)) × (dropped_of end ≡ dropped_by (settle_answer back found.task)))
+EndsRun (Ready output) end = (answer_of end ≡ Some false) × (dropped_of end ≡ None)
+EndsRun (Pending future) end = (st : State) × EndsBy (moves.end_pending st).owed future end
 
 module _ {F T S M W R : Type 0} where
   -- what a Runnable begins is a run or a closing call of its own task

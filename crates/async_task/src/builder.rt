@@ -1,6 +1,6 @@
 ghost use Rattle.std.specs.Prelude.{◌≡◌, IfOk, IfErr};
 
-use crate::cell::{Held, Parts, Realm, Scheduled};
+use crate::cell::{Held, Made, Parts, Realm, Scheduled};
 use crate::runnable::Runnable;
 use crate::schedule::Schedule;
 use crate::task::Task;
@@ -67,9 +67,13 @@ impl<M> Builder<M> {
             metadata: self.metadata,
         };
         match Held::new(rt, alloc, realm, parts) {
-            Ok(held) => {
-                let runnable = Runnable { held: held.share() };
-                Ok((runnable, Task { held }))
+            Ok(made) => {
+                let Made { held, token } = made;
+                let runnable = Runnable {
+                    held: held.share(),
+                    token,
+                };
+                Ok((runnable, Task::of(held)))
             }
             Err(parts) => Err(parts),
         }

@@ -1,3 +1,5 @@
+ghost use Rattle.std.specs.Prelude.{◌≡◌};
+
 use crate::cell::{Held, Scheduled};
 use crate::errors::NoMemory;
 use crate::fallible::found;
@@ -55,7 +57,7 @@ where
     fn poll(&mut self, waker: &Awaiter<F, T, S, M, W, R>) -> Poll<Result<Option<T>, NoMemory>> {
         if !self.is_cancelled {
             self.is_cancelled = true;
-            self.held.pay(self.held.cancel());
+            self.held.cancel();
         }
         found(poll(&self.held, waker))
     }
@@ -75,7 +77,7 @@ where
             held,
             is_cancelled: _,
         } = self;
-        held.pay(held.cancel());
-        held.pay(held.detach());
+        held.cancel();
+        held.detach();
     }
 }

@@ -65,7 +65,7 @@ where
     /// Gives the handle up. The task goes on, and its output is dropped.
     pub fn detach(self) {
         let Self { held } = self;
-        held.pay(held.detach());
+        held.detach();
     }
 
     /// What closes the task when it is first polled, and then has the output where there was one.
@@ -117,7 +117,7 @@ where
 {
     fn drop(self) {
         let Self { held } = self;
-        held.pay(held.cancel());
-        held.pay(held.detach());
+        held.cancel();
+        held.detach();
     }
 }

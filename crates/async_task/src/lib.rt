@@ -31,6 +31,5 @@ pub use schedule::{Schedule, ScheduleInfo, WithInfo};
 pub use stored_task::StoredTask;
 pub use task::{Task, TaskError};
 pub use task_moves::{Back, LocalTask, laws, local_task, moves};
-pub use task_sections::sections;
 pub use wake::{Nobody, Wake};
 pub use waker::{Awaiter, TaskWaker};

@@ -1,10 +1,11 @@
 //! How a handle of any kind is polled.
-use crate::cell::{Held, Kept, Scheduled, pay_due};
+use crate::cell::{Held, Kept, Scheduled, TaskToken, paid, pay_due};
 use crate::schedule::Schedule;
 use crate::wake::Wake;
 use crate::waker::Awaiter;
 use std::sync::Wait;
-use task_moves::local_task::Polled;
+use task_moves::moves::{Answer, Owed};
+use task_word::tokens::{Polled, Registered, WaitingTask};
 
 /// What a poll of a handle finds.
 pub enum Found<T> {
@@ -21,7 +22,7 @@ pub enum Found<T> {
 /// Polls the handle. Where there is an answer already no waker is copied, so that such a poll
 /// takes no memory; else one copy is made. A waker of a task of another realm can't be kept: it is
 /// called at once.
-pub fn poll<F, T, S, M, W, R>(
+pub(crate) fn poll<F, T, S, M, W, R>(
     held: &Held<F, T, S, M, W, R>,
     waker: &Awaiter<F, T, S, M, W, R>,
 ) -> Found<T>
@@ -33,23 +34,22 @@ where
     W: Wake + Drop + 'static,
     R: Wait + Copy + Drop,
 {
-    if let Ok(polled) = held.poll_at_once() {
-        return answered(held, polled);
-    }
-    let Some(kept) = to_keep(held, waker) else {
-        return Found::NoMemory;
-    };
-    let found = answered(held, held.poll(kept));
-    if let Found::Pending = &found {
-        if is_foreign(held, waker) {
-            waker.wake_by_ref();
+    match held.unpark() {
+        Some(token) => {
+            let (token, found) = looked(held, token, waker);
+            token.park();
+            found
         }
+        None => Found::Closed,
     }
-    found
 }
 
-/// What the poll has found. The waker that the cell doesn't keep, or not any more, is dropped.
-fn answered<F, T, S, M, W, R>(held: &Held<F, T, S, M, W, R>, polled: Polled<T, Kept<W>>) -> Found<T>
+/// The handle looks, and waits where there is no answer.
+fn looked<F, T, S, M, W, R>(
+    held: &Held<F, T, S, M, W, R>,
+    token: TaskToken<F, T, W>,
+    waker: &Awaiter<F, T, S, M, W, R>,
+) -> (TaskToken<F, T, W>, Found<T>)
 where
     F: Drop + 'static,
     T: Drop + 'static,
@@ -58,22 +58,74 @@ where
     W: Wake + Drop + 'static,
     R: Wait + Copy + Drop,
 {
+    let (owed, polled) = token.poll(&held.rt());
     match polled {
-        Polled::Output { output, spare } => {
-            pay_due(held.let_go(spare));
-            Found::Output(output)
-        }
-        Polled::Closed { spare } => {
-            pay_due(held.let_go(spare));
-            Found::Closed
-        }
-        Polled::Pending { replaced } => {
-            if let Some(replaced) = replaced {
-                pay_due(held.let_go(replaced));
-            }
-            Found::Pending
+        Ok(polled) => answered(held, owed, polled),
+        Err(waiting) => match to_keep(held, waker) {
+            Some(kept) => registered(held, waiting, kept, waker),
+            None => (waiting.refuse(), Found::NoMemory),
+        },
+    }
+}
+
+/// The waker is registered, and the handle looks again.
+fn registered<F, T, S, M, W, R>(
+    held: &Held<F, T, S, M, W, R>,
+    waiting: WaitingTask<F, T, Kept<W>>,
+    kept: Kept<W>,
+    waker: &Awaiter<F, T, S, M, W, R>,
+) -> (TaskToken<F, T, W>, Found<T>)
+where
+    F: Drop + 'static,
+    T: Drop + 'static,
+    S: Schedule<Scheduled<F, T, S, M, W, R>> + Drop + 'static,
+    M: Drop + 'static,
+    W: Wake + Drop + 'static,
+    R: Wait + Copy + Drop,
+{
+    let Registered {
+        task,
+        to_call,
+        to_drop,
+    } = waiting.register(&held.rt(), kept).1;
+    pay_due(held.call_some(paid(to_call)));
+    if let Some(before) = paid(to_drop) {
+        pay_due(held.let_go(before));
+    }
+    let (owed, polled) = task.look_again(&held.rt());
+    let (token, found) = answered(held, owed, polled);
+    if let Found::Pending = &found {
+        if is_foreign(held, waker) {
+            waker.wake_by_ref();
         }
     }
+    (token, found)
+}
+
+/// What the poll has found. An awaiter that is owed a call is called.
+fn answered<F, T, S, M, W, R>(
+    held: &Held<F, T, S, M, W, R>,
+    owed: Owed,
+    polled: Polled<F, T, Kept<W>>,
+) -> (TaskToken<F, T, W>, Found<T>)
+where
+    F: Drop + 'static,
+    T: Drop + 'static,
+    S: Schedule<Scheduled<F, T, S, M, W, R>> + Drop + 'static,
+    M: Drop + 'static,
+    W: Wake + Drop + 'static,
+    R: Wait + Copy + Drop,
+{
+    let Polled { task, output } = polled;
+    let token = held.call_awaiter(task);
+    let found = match paid(output) {
+        Some(output) => Found::Output(output),
+        None => match owed.answer {
+            Some(Answer::Pending) => Found::Pending,
+            _ => Found::Closed,
+        },
+    };
+    (token, found)
 }
 
 /// A copy of the waker, as the cell is to keep it. Of a waker of a task that is its place, and one
@@ -95,10 +147,12 @@ where
     }
     match waker {
         Awaiter::Task(waker) => {
-            if waker.held.hold() {
-                Some(Kept::Task(waker.held.identity().place))
-            } else {
-                None
+            match waker.held.hold() {
+                Some(token) => {
+                    token.store();
+                    Some(Kept::Task(waker.held.identity().place))
+                }
+                None => None,
             }
         }
         Awaiter::Outside(waker) => waker.clone().map(Kept::Outside),

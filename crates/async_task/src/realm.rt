@@ -8,15 +8,20 @@ mod pages;
 
 use crate::errors::NoMemory;
 use crate::realm::pages::Pages;
-use std::alloc::Global;
+use std::alloc::{AllocError, Global};
 use std::boxed::Box;
 use std::sync::{Arc, Wait};
 
+/// What lies at a place, before it is ever in use.
+pub trait Vacant: Sized {
+    fn vacant(alloc: Global) -> Result<Self, AllocError>;
+}
+
 /// All cells of one type, each at its place. They lie there as long as the program runs, so that
-/// handles may go anywhere. The place of a task that is over is used again; the memory of places is
-/// never given back. A look-up takes the lock of its place alone.
+/// handles may go anywhere, by reference. The place of a task that is over is used again; the memory of places is
+/// never given back.
 ///
-/// It stands where the Rust crate has a raw pointer from each handle to its task.
+/// It stands where the Rust crate has memory of each task's own.
 #[derive(Drop)]
 pub struct Cells<C> {
     number: u64,
@@ -42,38 +47,31 @@ impl<C: Drop> Cells<C> {
         self.number
     }
 
-    /// A place that nobody else has. None for want of memory, or where there are 2^24 - 32 places.
-    pub(crate) fn vacancy(&self) -> Option<usize> {
-        self.pages.vacancy()
-    }
-
-    /// Gives a place back where nothing was put.
+    /// Gives a place back.
     pub(crate) fn release(&self, place: usize) {
         self.pages.release(place);
     }
 
-    /// Keeps the cell at a place.
-    pub(crate) fn put<R: Wait>(&self, rt: &R, place: usize, cell: &Arc<C, Global>) {
-        if let Some(slot) = self.pages.slot(place) {
-            *slot.cell.lock(rt) = Some(share(rt, cell));
+    /// The cell at this place.
+    pub(crate) fn cell(&self, place: usize) -> Option<&C> {
+        match self.pages.slot(place) {
+            Some(slot) => slot.cell.get(),
+            None => None,
         }
     }
+}
 
-    /// The cell that has this place.
-    pub(crate) fn find<R: Wait>(&self, rt: &R, place: usize) -> Option<Arc<C, Global>> {
-        let slot = self.pages.slot(place)?;
-        let kept = slot.cell.lock(rt);
-        let cell = kept.as_ref()?;
-        Some(share(rt, cell))
+impl<C: Drop + 'static> Cells<C> {
+    /// The same, of cells that lie there for as long as the program runs.
+    pub(crate) fn lasting(&'static self, place: usize) -> Option<&'static C> {
+        self.cell(place)
     }
+}
 
-    /// Takes the cell out, which others may still have. Then the place is free.
-    pub(crate) fn empty<R: Wait>(&self, rt: &R, place: usize) {
-        if let Some(slot) = self.pages.slot(place) {
-            let cell = slot.cell.lock(rt).take();
-            self.pages.release(place);
-            drop(cell);
-        }
+impl<C: Vacant + Drop> Cells<C> {
+    /// A place that nobody else has. None for want of memory, or where there are 2^24 - 32 places.
+    pub(crate) fn vacancy(&self) -> Option<usize> {
+        self.pages.vacancy()
     }
 }
 
@@ -91,12 +89,12 @@ impl<C: Drop> Cells<C> {
     }
 }
 
-/// One owner more of a cell. A count of 2^63 owners is out of reach: this waits there.
-pub(crate) fn share<C: Drop, R: Wait>(rt: &R, cell: &Arc<C, Global>) -> Arc<C, Global>
-    ensures { arc_value result ≡ arc_value cell.now }
+/// One owner more of what never changes of a task. A count of 2^63 owners is out of reach: this waits there.
+pub(crate) fn share<X: Drop, R: Wait>(rt: &R, shared: &Arc<X, Global>) -> Arc<X, Global>
+    ensures { arc_value result ≡ arc_value shared.now }
 {
     for _ in rt.forever() {
-        if let Ok(one_more) = Arc::try_clone(cell) {
+        if let Ok(one_more) = Arc::try_clone(shared) {
             return one_more;
         }
     }

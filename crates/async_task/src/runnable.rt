@@ -1,7 +1,7 @@
 ghost use Rattle.std.specs.Prelude.{◌≡◌, IfSome};
 ghost use Rattle.async_task.specs.Runs.{BeginsAt};
 
-use crate::cell::{Held, Scheduled, pay_due};
+use crate::cell::{Held, Kept, Remains, RunnableToken, Scheduled, pay_due};
 use crate::poll::Future;
 use crate::running::Running;
 use crate::schedule::{Schedule, ScheduleInfo};
@@ -9,7 +9,7 @@ use crate::wake::Wake;
 use crate::waker::{Awaiter, TaskWaker};
 use std::marker::Model;
 use std::sync::Wait;
-use task_moves::local_task::Start;
+use task_word::tokens::{ClosedRun, ClosedRunnable};
 
 /// A task that is to be run: at most one is there of a task. Its drop closes the task, and drops the
 /// future.
@@ -23,6 +23,7 @@ where
     R: Wait + Copy + Drop,
 {
     pub(crate) held: Held<F, T, S, M, W, R>,
+    pub(crate) token: RunnableToken<F, T, W>,
 }
 
 impl<F, T, S, M, W, R> Model for Runnable<F, T, S, M, W, R>
@@ -58,6 +59,14 @@ where
     Drop(F, Closing<F, T, S, M, W, R>),
 }
 
+/// The right of a closed task whose future is being dropped: before a poll, or after one; or what is left where nobody can
+/// reach the task any more.
+pub(crate) enum Closed<F: 'static, T: 'static, W: 'static> {
+    Runnable(ClosedRunnable<F, T, Kept<W>>),
+    Run(ClosedRun<F, T, Kept<W>>),
+    Left(Remains<F, T, W>),
+}
+
 /// A call that closes a task whose future is being dropped. It has no drop: it is finished.
 #[must_use]
 pub struct Closing<F, T, S, M, W, R>
@@ -70,6 +79,7 @@ where
     R: Wait + Copy + Drop,
 {
     pub(crate) held: Held<F, T, S, M, W, R>,
+    pub(crate) closed: Closed<F, T, W>,
 }
 
 impl<F, T, S, M, W, R> Model for Closing<F, T, S, M, W, R>
@@ -102,7 +112,8 @@ where
     /// It is over. Whether the task was woken during the poll, and was handed to its schedule value
     /// again.
     Over(bool),
-    /// The task was closed during the poll: the future is dropped, and the call is then finished.
+    /// The task was closed during the poll, or nobody can reach it any more: the future is dropped,
+    /// and the call is then finished.
     Drop(F, Closing<F, T, S, M, W, R>),
 }
 
@@ -124,24 +135,21 @@ where
 
     /// Hands the Runnable to the schedule value of its task.
     pub fn schedule(self) {
-        let Self { held } = self;
+        let Self { held, token } = self;
         let info = ScheduleInfo {
             woken_while_running: false,
         };
         let task = held.share();
-        task.schedule().schedule(Scheduled { held }, info);
+        task.schedule().schedule(Scheduled { held, token }, info);
     }
 
     /// A waker of the task, or None where it has 2^40 references already.
     pub fn waker(&self) -> Option<TaskWaker<F, T, S, M, W, R>>
         ensures { IfSome result (λ waker. waker ≡ self.now) }
     {
-        if self.held.hold() {
-            Some(TaskWaker {
-                held: self.held.share(),
-            })
-        } else {
-            None
+        match self.held.hold() {
+            Some(token) => Some(TaskWaker::of(self.held.share(), token)),
+            None => None,
         }
     }
 
@@ -149,21 +157,25 @@ where
     pub fn into_scheduled(self) -> Scheduled<F, T, S, M, W, R>
         ensures { result ≡ self }
     {
-        let Self { held } = self;
-        Scheduled { held }
+        let Self { held, token } = self;
+        Scheduled { held, token }
     }
 
     /// Takes the future out: to be polled, or to be dropped where the task is closed.
     pub fn start(self) -> Started<F, T, S, M, W, R>
         ensures { BeginsAt self result }
     {
-        let Self { held } = self;
-        match held.start() {
-            Start::Poll(future) => {
-                let waker = Awaiter::Task(TaskWaker { held });
-                Started::Poll(future, Running { waker })
+        let Self { held, token } = self;
+        match token.take_up(&held.rt()).1 {
+            Ok(run) => {
+                let (run, future) = run.ready();
+                let waker = Awaiter::Task(TaskWaker::lent(held));
+                Started::Poll(future.pay(), Running { waker, run })
             }
-            Start::Drop(future) => Started::Drop(future, Closing { held }),
+            Err((closed, future)) => {
+                let closed = Closed::Runnable(closed);
+                Started::Drop(future.pay(), Closing { held, closed })
+            }
         }
     }
 }
@@ -203,8 +215,12 @@ where
 {
     /// Ends the call, once the future is dropped: who awaits the task is woken.
     pub fn finish(self) {
-        let Self { held } = self;
-        held.pay(held.finish());
+        let Self { held, closed } = self;
+        match closed {
+            Closed::Runnable(closed) => held.leave(closed.settle(&held.rt()).1),
+            Closed::Run(closed) => held.leave(closed.settle(&held.rt()).1),
+            Closed::Left(Remains { owed, left }) => held.pay(held.left(owed, left)),
+        }
     }
 }
 
@@ -218,7 +234,7 @@ where
     R: Wait + Copy + Drop,
 {
     fn drop(self) {
-        let Self { held } = self;
-        pay_due(Scheduled { held }.close());
+        let Self { held, token } = self;
+        pay_due(Scheduled { held, token }.close());
     }
 }

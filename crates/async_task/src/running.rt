@@ -1,15 +1,15 @@
 ghost use Rattle.std.specs.Prelude.{◌≡◌, true};
 ghost use Rattle.async_task.specs.Awaiters.{is_a_task_s};
 
-use crate::cell::Scheduled;
+use crate::cell::{Kept, Remains, Scheduled, paid, was_woken};
 use crate::poll::{Future, Poll};
-use crate::runnable::{Closing, RunEnd};
+use crate::runnable::{Closed, Closing, RunEnd};
 use crate::schedule::Schedule;
-use crate::sections::Ended;
 use crate::wake::Wake;
 use crate::waker::Awaiter;
 use std::sync::Wait;
 use task_moves::local_task::Back;
+use task_word::tokens::ReadyRun;
 
 /// A run whose future is being polled. It has no drop: it is settled.
 #[must_use]
@@ -23,6 +23,7 @@ where
     R: Wait + Copy + Drop,
 {
     pub(crate) waker: Awaiter<F, T, S, M, W, R>,
+    pub(crate) run: ReadyRun<F, T, Kept<W>>,
     ghost is_of_a_task: { is_a_task_s waker ≡ true },
 }
 
@@ -78,18 +79,42 @@ where
         ensures answer { EndsRun back result }
         ensures task { EndsAt self.waker result }
     {
-        let Self { waker } = self;
+        let Self { waker, run } = self;
         let held = match waker {
             Awaiter::Task(waker) => waker.into_held(),
             Awaiter::Outside(_) => unreachable!(),
         };
-        match held.settle(back) {
-            Ended::Over(debts) => {
-                let woken = debts.woken_while_running();
-                held.pay(debts);
-                RunEnd::Over(woken)
+        match back {
+            Back::Ready(output) => {
+                let (_, run, output) = run.store(&held.rt(), output);
+                drop(paid(output));
+                held.leave(run);
+                RunEnd::Over(false)
             }
-            Ended::Drop(future) => RunEnd::Drop(future, Closing { held }),
+            Back::Pending(future) => {
+                let (owed, left, future) = run.give_back(future).pend(&held.rt());
+                match left {
+                    Ok(left) => match future {
+                        Some(future) => {
+                            let closed = Closed::Left(Remains { owed, left });
+                            RunEnd::Drop(future.pay(), Closing { held, closed })
+                        }
+                        None => {
+                            let rest = held.left(owed, left);
+                            let woken = was_woken(&rest);
+                            held.pay(rest);
+                            RunEnd::Over(woken)
+                        }
+                    },
+                    Err(closed) => match future {
+                        Some(future) => {
+                            let closed = Closed::Run(closed);
+                            RunEnd::Drop(future.pay(), Closing { held, closed })
+                        }
+                        None => unreachable!(),
+                    },
+                }
+            }
         }
     }
 }

@@ -6,7 +6,8 @@ use crate::task::Task;
 use crate::wake::Wake;
 use std::sync::Wait;
 
-/// A handle as a list keeps it. It stands for one handle: where it is lost, its task goes on, and its cell stays.
+/// A handle as a list keeps it. It stands for one handle, which rests in its task's cell: where it is
+/// lost, its task goes on, and its cell stays.
 #[derive(Debug, PartialEq, Eq, Drop)]
 pub struct StoredTask {
     identity: Identity,

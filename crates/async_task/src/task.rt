@@ -89,7 +89,7 @@ where
     /// Gives the handle up. The task goes on, and its output is dropped.
     pub fn detach(self) {
         let Self { held } = self;
-        held.pay(held.detach());
+        held.detach();
     }
 
     /// What closes the task when it is first polled, and then has the output where there was one.
@@ -144,7 +144,7 @@ where
 {
     fn drop(self) {
         let Self { held } = self;
-        held.pay(held.cancel());
-        held.pay(held.detach());
+        held.cancel();
+        held.detach();
     }
 }

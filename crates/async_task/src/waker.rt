@@ -1,10 +1,18 @@
 ghost use Rattle.std.specs.Prelude.{◌≡◌, ◌↔◌, IsTrue};
 
-use crate::cell::{Held, Realm, Scheduled, StoredWaker};
+use crate::cell::{Held, Realm, Scheduled, StoredWaker, WakerToken};
 use crate::schedule::Schedule;
 use crate::wake::Wake;
 use std::marker::Model;
 use std::sync::Wait;
+
+/// What a waker of a task has of it.
+pub(crate) enum Hold<F: 'static, T: 'static, W: 'static> {
+    /// A reference.
+    Reference(WakerToken<F, T, W>),
+    /// Nothing: it is lent to a poll, whose run has the task.
+    Lent,
+}
 
 /// A waker of a task. A contract sees which task it is of.
 pub struct TaskWaker<F, T, S, M, W, R>
@@ -17,6 +25,7 @@ where
     R: Wait + Copy + Drop,
 {
     pub(crate) held: Held<F, T, S, M, W, R>,
+    hold: Hold<F, T, W>,
 }
 
 impl<F, T, S, M, W, R> Model for TaskWaker<F, T, S, M, W, R>
@@ -61,11 +70,31 @@ where
     W: Wake + Drop + 'static,
     R: Wait + Copy + Drop,
 {
-    /// The way to the task, which takes the waker's reference along.
+    /// A waker that has this reference.
+    pub(crate) fn of(held: Held<F, T, S, M, W, R>, token: WakerToken<F, T, W>) -> Self
+        ensures { result ≡ held }
+    {
+        let hold = Hold::Reference(token);
+        TaskWaker { held, hold }
+    }
+
+    /// The waker that a poll is lent.
+    pub(crate) fn lent(held: Held<F, T, S, M, W, R>) -> Self
+        ensures { result ≡ held }
+    {
+        let hold = Hold::Lent;
+        TaskWaker { held, hold }
+    }
+
+    /// The way to the task. The waker goes.
     pub(crate) fn into_held(self) -> Held<F, T, S, M, W, R>
         ensures { result ≡ self }
     {
-        let Self { held } = self;
+        let Self { held, hold } = self;
+        match hold {
+            Hold::Reference(token) => held.pay(held.release(token)),
+            Hold::Lent => {}
+        }
         held
     }
 
@@ -80,7 +109,17 @@ where
     pub fn store(self) -> StoredWaker
         ensures { result.identity ≡ self.identity }
     {
-        let Self { held } = self;
+        let Self { held, hold } = self;
+        match hold {
+            Hold::Reference(token) => {
+                token.store();
+            }
+            Hold::Lent => {
+                if let Some(token) = held.hold() {
+                    token.store();
+                }
+            }
+        }
         StoredWaker::of(held.identity())
     }
 }
@@ -101,8 +140,12 @@ where
 
     /// Queues the task, where it is open and idle. It takes no memory.
     fn wake(self) {
-        let Self { held } = self;
-        held.pay_released(held.wake_and_release());
+        let Self { held, hold } = self;
+        held.queue(held.wake());
+        match hold {
+            Hold::Reference(token) => held.pay(held.release(token)),
+            Hold::Lent => {}
+        }
     }
 
     fn wake_by_ref(&self) {
@@ -114,12 +157,9 @@ where
         ensures same { IfSome result (λ copy. IsOfOneTask copy self.now) }
         ensures handle { IfSome result (λ copy. copy ≡ self.now) }
     {
-        if self.held.hold() {
-            Some(TaskWaker {
-                held: self.held.share(),
-            })
-        } else {
-            None
+        match self.held.hold() {
+            Some(token) => Some(TaskWaker::of(self.held.share(), token)),
+            None => None,
         }
     }
 
@@ -141,8 +181,11 @@ where
     R: Wait + Copy + Drop,
 {
     fn drop(self) {
-        let Self { held } = self;
-        held.pay_released(held.release());
+        let Self { held, hold } = self;
+        match hold {
+            Hold::Reference(token) => held.pay(held.release(token)),
+            Hold::Lent => {}
+        }
     }
 }
 

@@ -1,7 +1,7 @@
 //! How runs end, and how a cell is emptied.
 use crate::calls::{Stage, same, there};
 use crate::parts::{Countdown, TestTask, drop_task, ended, no_tasks};
-use async_task::{Back, Wake};
+use async_task::{Back, RunEnd, Wake};
 use std::process::Abort;
 use std::sync::Wait;
 
@@ -87,4 +87,32 @@ fn the_last_reference_empties_the_cell_once(rt: HostRuntime) {
         stage.schedule_drops(1);
         stage.schedules(0);
     }
+}
+
+/// A detached task that nobody waits to wake is forgotten by a poll that gives no output: the run
+/// hands its future back, which is dropped before the call is finished, and only then its schedule
+/// value.
+#[test]
+fn a_run_that_nobody_can_reach_hands_its_future_back(rt: HostRuntime) {
+    let stage = Stage::new(rt, rt.alloc(), no_tasks(rt.alloc(), 0));
+    let (future, running) = stage.begun(stage.detached(9, false));
+    match running.settle(Back::Pending(future)) {
+        RunEnd::Over(_) => panic!(rt; "it is over"),
+        RunEnd::Drop(future, closing) => {
+            stage.seen((0, 0, 0, 0));
+            same(&rt, future.left, 9);
+            drop(future);
+            stage.seen((0, 0, 1, 0));
+            closing.finish();
+        }
+    }
+    stage.seen((0, 0, 1, 1));
+}
+
+/// A whole run of such a task drops its future once.
+#[test]
+fn a_run_that_nobody_can_reach_drops_its_future_once(rt: HostRuntime) {
+    let stage = Stage::new(rt, rt.alloc(), no_tasks(rt.alloc(), 0));
+    stage.run(stage.detached(9, false), false);
+    stage.seen((1, 0, 1, 1));
 }

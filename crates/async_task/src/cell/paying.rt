@@ -1,16 +1,16 @@
-//! What is done once the lock of a cell is given back, in the order of `Debts`. All code of a user
-//! that a move leads to is called here.
-ghost use Rattle.std.specs.Prelude.{IfSome};
-ghost use Rattle.async_task.specs.Due.{IsDueBy};
-ghost use Rattle.task_sections.specs.Sections.{WasIdle};
+//! What a step of a task's word leaves to be done. All code of a user that a move leads to is called here, and none of it inside
+//! of a step.
+ghost use Rattle.std.specs.Prelude.{◌≡◌, IfSome};
+ghost use Rattle.async_task.specs.Due.{IsDueBy, WasIdle};
+ghost use Rattle.async_task.specs.Rests.{info_of};
 
 use crate::cell::scheduled::{Due, Scheduled};
-use crate::cell::{Held, Kept};
-use crate::schedule::{Schedule, ScheduleInfo};
-use crate::sections::{Debts, Released};
+use crate::cell::turns::notified;
+use crate::cell::{Held, Kept, Realm, Rest, WakerToken, Woken};
+use crate::schedule::Schedule;
 use crate::wake::Wake;
 use std::sync::Wait;
-use task_moves::local_task::{Finish, LocalTask};
+use task_word::tokens::{OwingRun, PastRun};
 
 impl<F, T, S, M, W, R> Held<F, T, S, M, W, R>
 where
@@ -22,71 +22,83 @@ where
     R: Wait + Copy + Drop,
 {
     /// A waker goes.
-    pub fn release_later(self) -> Option<Due<F, T, S, M, W, R>>
+    pub(crate) fn release_later(self, token: WakerToken<F, T, W>) -> Option<Due<F, T, S, M, W, R>>
         ensures { IfSome result (IsDueBy self) }
     {
-        let released = self.release();
-        self.due_of(released)
-    }
-
-    /// A waker is called, and goes.
-    pub fn wake_and_release_later(self) -> Option<Due<F, T, S, M, W, R>>
-        ensures { IfSome result (IsDueBy self) }
-    {
-        let released = self.wake_and_release();
-        self.due_of(released)
-    }
-
-    /// What is then owed to the task's schedule value.
-    fn due_of(self, released: Released<F, T, Kept<W>>) -> Option<Due<F, T, S, M, W, R>>
-        requires idle { IfSome released.queue WasIdle }
-        ensures { IfSome result (IsDueBy self) }
-    {
-        let Released { queue, emptied } = released;
-        self.empty(emptied);
-        match queue {
-            Some(info) => Some(Due {
-                runnable: Scheduled { held: self },
-                info,
-            }),
-            None => None,
+        match self.release(token) {
+            Rest::Queue(woken) => Some(self.due(woken)),
+            Rest::Drop(kept) => {
+                self.let_go_quietly(kept);
+                None
+            }
+            Rest::Nothing => None,
         }
     }
 
-    /// Does all that is owed but to queue this task. What is then owed to another's schedule value
-    /// is the answer.
-    pub fn pay_rest(
-        &self,
-        output: Option<T>,
-        awaiter: Finish<Kept<W>>,
-        emptied: Option<LocalTask<F, T, Kept<W>>>,
+    /// A waker is called, and goes.
+    pub(crate) fn wake_and_release_later(
+        self,
+        token: WakerToken<F, T, W>,
     ) -> Option<Due<F, T, S, M, W, R>>
-        ensures { IfSome result (λ due. WasIdle due.info) }
+        ensures { IfSome result (IsDueBy self) }
     {
-        drop(output);
-        let due = match awaiter {
-            Finish::Nothing => None,
-            Finish::Wake(kept) => self.call(kept),
-            Finish::Drop(kept) => self.let_go(kept),
-        };
-        self.empty(emptied);
-        due
+        match self.wake() {
+            Some(woken) => {
+                match self.release(token) {
+                    // A task has one Runnable, so this is none: that two tokens are of one cell is not seen here.
+                    Rest::Queue(Woken { token, info: _ }) => {
+                        token.rest();
+                    }
+                    Rest::Drop(kept) => self.let_go_quietly(kept),
+                    Rest::Nothing => {}
+                }
+                Some(self.due(woken))
+            }
+            None => self.release_later(token),
+        }
     }
 
-    /// Drops a waker that a cell kept, or was to keep.
-    pub fn let_go(&self, kept: Kept<W>) -> Option<Due<F, T, S, M, W, R>>
+    /// The Runnable, and whom it is owed to.
+    fn due(self, woken: Woken<F, T, W>) -> Due<F, T, S, M, W, R>
+        requires { WasIdle woken.info }
+        ensures { IsDueBy self result }
+    {
+        let Woken { token, info } = woken;
+        Due {
+            runnable: Scheduled { held: self, token },
+            info,
+        }
+    }
+
+    /// Drops a waker that a cell kept, or was to keep. What is then owed to a schedule value is the answer.
+    pub(crate) fn let_go(&self, kept: Kept<W>) -> Option<Due<F, T, S, M, W, R>>
         ensures { IfSome result (λ due. WasIdle due.info) }
     {
-        match kept {
-            Kept::Task(place) => match self.at(place) {
-                Some(task) => task.release_later(),
-                None => None,
-            },
-            Kept::Outside(waker) => {
-                drop(waker);
-                None
+        let mut kept = kept;
+        for _ in self.rt.forever() {
+            match kept {
+                Kept::Task(place) => match waker_at(self.rt, self.realm, place) {
+                    Some((task, token)) => match task.release(token) {
+                        Rest::Queue(woken) => return Some(task.due(woken)),
+                        Rest::Drop(next) => kept = next,
+                        Rest::Nothing => return None,
+                    },
+                    None => return None,
+                },
+                Kept::Outside(waker) => {
+                    drop(waker);
+                    return None;
+                }
+                Kept::Nothing => return None,
             }
-            Kept::Nothing => None,
+        }
+        unreachable!()
+    }
+
+    /// The same where nobody is there to hand a task to: its Runnable rests in its cell.
+    fn let_go_quietly(&self, kept: Kept<W>) {
+        if let Some(Due { runnable, info: _ }) = self.let_go(kept) {
+            runnable.store();
         }
     }
 
@@ -95,12 +107,10 @@ where
         ensures { IfSome result (λ due. WasIdle due.info) }
     {
         match kept {
-            Kept::Task(place) => {
-                match self.at(place) {
-                    Some(task) => task.wake_and_release_later(),
-                    None => None,
-                }
-            }
+            Kept::Task(place) => match waker_at(self.rt, self.realm, place) {
+                Some((task, token)) => task.wake_and_release_later(token),
+                None => None,
+            },
             Kept::Outside(waker) => {
                 waker.wake();
                 None
@@ -109,17 +119,35 @@ where
         }
     }
 
-    /// The way to another task of the realm.
-    fn at(&self, place: usize) -> Option<Held<F, T, S, M, W, R>> {
-        Held::find(self.rt, self.realm, place)
+    /// The same, where one was there.
+    pub(crate) fn call_some(&self, kept: Option<Kept<W>>) -> Option<Due<F, T, S, M, W, R>>
+        ensures { IfSome result (λ due. WasIdle due.info) }
+    {
+        match kept {
+            Some(kept) => self.call(kept),
+            None => None,
+        }
     }
 
-    /// Drops what is left of a task, and frees its place.
-    fn empty(&self, task: Option<LocalTask<F, T, Kept<W>>>) {
-        if let Some(task) = task {
-            self.realm.empty(&self.rt, self.place);
-            drop(task);
+    /// The end of a closing call: the awaiter is called, and then the reference given up. Of two tasks that are then owed to their
+    /// schedule values the second rests: who awaits a task after its last call is dropped with it.
+    pub(crate) fn leave_later(
+        &self,
+        run: Result<PastRun<F, T, Kept<W>>, OwingRun<F, T, Kept<W>>>,
+    ) -> Option<Due<F, T, S, M, W, R>>
+        ensures { IfSome result (λ due. WasIdle due.info) }
+    {
+        let (past, awaiter) = notified(&self.rt, run);
+        let due = self.call_some(awaiter);
+        match self.give_up(past) {
+            // The move that gives a reference up owes no Runnable.
+            Rest::Queue(Woken { token, info: _ }) => {
+                token.rest();
+            }
+            Rest::Drop(kept) => self.let_go_quietly(kept),
+            Rest::Nothing => {}
         }
+        due
     }
 }
 
@@ -132,30 +160,27 @@ where
     W: Wake + Drop + 'static,
     R: Wait + Copy + Drop,
 {
-    /// Does what is owed.
-    pub fn pay(&self, debts: Debts<F, T, Kept<W>>) {
-        let Debts {
-            queue,
-            output,
-            awaiter,
-            emptied,
-        } = debts;
-        self.queue(queue);
-        pay_due(self.pay_rest(output, awaiter, emptied));
+    /// Does what is left to be done.
+    pub(crate) fn pay(&self, rest: Rest<F, T, W>) {
+        match rest {
+            Rest::Queue(woken) => self.queue(Some(woken)),
+            Rest::Drop(kept) => pay_due(self.let_go(kept)),
+            Rest::Nothing => {}
+        }
     }
 
-    /// Does what the section of a waker that goes leaves to be done.
-    pub fn pay_released(&self, released: Released<F, T, Kept<W>>) {
-        let Released { queue, emptied } = released;
-        self.queue(queue);
-        self.empty(emptied);
+    /// The end of a run or of a closing call: the awaiter is called, and then the reference given up.
+    pub(crate) fn leave(&self, run: Result<PastRun<F, T, Kept<W>>, OwingRun<F, T, Kept<W>>>) {
+        let (past, awaiter) = notified(&self.rt, run);
+        pay_due(self.call_some(awaiter));
+        self.pay(self.give_up(past));
     }
 
     /// Hands the task to its schedule value, where that is owed.
-    pub fn queue(&self, owed: Option<ScheduleInfo>) {
-        if let Some(info) = owed {
-            self.schedule()
-                .schedule(Scheduled { held: self.share() }, info);
+    pub(crate) fn queue(&self, woken: Option<Woken<F, T, W>>) {
+        if let Some(Woken { token, info }) = woken {
+            let held = self.share();
+            self.schedule().schedule(Scheduled { held, token }, info);
         }
     }
 }
@@ -173,5 +198,30 @@ where
     if let Some(Due { runnable, info }) = due {
         let task = runnable.held.share();
         task.schedule().schedule(runnable, info);
+    }
+}
+
+/// The waker of the task at this place, where a reference of one rests in its cell.
+pub(crate) fn waker_at<F, T, S, M, W, R>(
+    rt: R,
+    realm: &'static Realm<F, T, S, M, W>,
+    place: usize,
+) -> Option<(Held<F, T, S, M, W, R>, WakerToken<F, T, W>)>
+where
+    F: Drop + 'static,
+    T: Drop + 'static,
+    S: Drop + 'static,
+    M: Drop + 'static,
+    W: Drop + 'static,
+    R: Wait + Copy + Drop,
+    ensures { IfSome result
+        (λ found. found.0.identity ≡ record { realm = realm.now.number; place = place }) }
+{
+    match Held::find(rt, realm, place) {
+        Some(held) => match held.redeem() {
+            Some(token) => Some((held, token)),
+            None => None,
+        },
+        None => None,
     }
 }

@@ -1,10 +1,10 @@
 ghost use Rattle.std.specs.Prelude.{◌≡◌, IfSome};
-ghost use Rattle.task_sections.specs.Sections.{WasIdle};
+ghost use Rattle.async_task.specs.Due.{WasIdle};
 
-use crate::cell::{Held, Identity, Realm};
+use crate::cell::paying::waker_at;
+use crate::cell::{Held, Identity, Realm, RunnableToken, WakerToken};
 use crate::runnable::Runnable;
 use crate::schedule::{Schedule, ScheduleInfo};
-use crate::sections::Debts;
 use crate::wake::Wake;
 use crate::waker::TaskWaker;
 use std::marker::Model;
@@ -14,6 +14,7 @@ use std::sync::Wait;
 /// again, or closed.
 pub struct Scheduled<F: 'static, T: 'static, S: 'static, M: 'static, W: 'static, R> {
     pub(crate) held: Held<F, T, S, M, W, R>,
+    pub(crate) token: RunnableToken<F, T, W>,
 }
 
 impl<F: 'static, T: 'static, S: 'static, M: 'static, W: 'static, R> Model
@@ -26,14 +27,14 @@ impl<F: 'static, T: 'static, S: 'static, M: 'static, W: 'static, R> Model
 }
 
 /// A Runnable as a queue keeps it, which may belong to the schedule value of that very task. It
-/// stands for one Runnable: where it is lost, its task is never run and its cell stays.
+/// stands for one Runnable, which rests in its cell: where it is lost, its task is never run and its cell stays.
 #[derive(Debug, PartialEq, Eq, Drop)]
 pub struct StoredRunnable {
     identity: Identity,
 }
 
 /// A waker as a list keeps it, which may belong to the schedule value of that very task. It stands
-/// for one waker: where it is lost, its task's cell stays.
+/// for one waker, whose reference rests in its task's cell: where it is lost, that cell stays.
 #[derive(Debug, PartialEq, Eq, Drop)]
 pub struct StoredWaker {
     identity: Identity,
@@ -58,7 +59,8 @@ where
     pub fn store(self) -> StoredRunnable
         ensures { result.identity ≡ self.identity }
     {
-        let Scheduled { held } = self;
+        let Scheduled { held, token } = self;
+        token.rest();
         StoredRunnable {
             identity: held.identity(),
         }
@@ -88,16 +90,10 @@ where
     pub fn close(self) -> Option<Due<F, T, S, M, W, R>>
         ensures { IfSome result (λ due. WasIdle due.info) }
     {
-        let Scheduled { held } = self;
-        let future = held.retract();
-        drop(future);
-        let Debts {
-            queue: _,
-            output,
-            awaiter,
-            emptied,
-        } = held.finish();
-        held.pay_rest(output, awaiter, emptied)
+        let Scheduled { held, token } = self;
+        let (_, closed, future) = token.let_go(&held.rt());
+        drop(future.pay());
+        held.leave_later(closed.settle(&held.rt()).1)
     }
 }
 
@@ -114,8 +110,8 @@ where
     pub fn into_runnable(self) -> Runnable<F, T, S, M, W, R>
         ensures { result ≡ self }
     {
-        let Scheduled { held } = self;
-        Runnable { held }
+        let Scheduled { held, token } = self;
+        Runnable { held, token }
     }
 }
 
@@ -140,7 +136,10 @@ impl StoredRunnable {
             return None;
         }
         match Held::find(rt, realm, self.identity.place) {
-            Some(held) => Some(Scheduled { held }),
+            Some(held) => match held.resume() {
+                Some(token) => Some(Scheduled { held, token }),
+                None => None,
+            },
             None => None,
         }
     }
@@ -170,7 +169,7 @@ impl StoredWaker {
         ensures here { IfSome result (λ found. found.identity.realm ≡ realm.now.number) }
     {
         match self.find(rt, realm) {
-            Some(held) => Some(TaskWaker { held }),
+            Some((held, token)) => Some(TaskWaker::of(held, token)),
             None => None,
         }
     }
@@ -194,7 +193,7 @@ impl StoredWaker {
         ensures idle { IfSome result (λ due. WasIdle due.info) }
     {
         match self.find(rt, realm) {
-            Some(task) => task.wake_and_release_later(),
+            Some((task, token)) => task.wake_and_release_later(token),
             None => None,
         }
     }
@@ -216,7 +215,7 @@ impl StoredWaker {
         ensures idle { IfSome result (λ due. WasIdle due.info) }
     {
         match self.find(rt, realm) {
-            Some(task) => task.release_later(),
+            Some((task, token)) => task.release_later(token),
             None => None,
         }
     }
@@ -225,7 +224,7 @@ impl StoredWaker {
         self,
         rt: R,
         realm: &'static Realm<F, T, S, M, W>,
-    ) -> Option<Held<F, T, S, M, W, R>>
+    ) -> Option<(Held<F, T, S, M, W, R>, WakerToken<F, T, W>)>
     where
         F: Drop + 'static,
         T: Drop + 'static,
@@ -233,11 +232,11 @@ impl StoredWaker {
         M: Drop + 'static,
         W: Wake + Drop + 'static,
         R: Wait + Copy + Drop,
-        ensures found { IfSome result (λ found. found.identity ≡ self.identity) }
-        ensures here { IfSome result (λ found. found.identity.realm ≡ realm.now.number) }
+        ensures found { IfSome result (λ found. found.0.identity ≡ self.identity) }
+        ensures here { IfSome result (λ found. found.0.identity.realm ≡ realm.now.number) }
     {
         if self.identity.realm == realm.number() {
-            Held::find(rt, realm, self.identity.place)
+            waker_at(rt, realm, self.identity.place)
         } else {
             None
         }

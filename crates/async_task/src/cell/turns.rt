@@ -1,112 +1,217 @@
-//! Each call of a handle takes its cell's lock, makes the section of its name, and gives the lock
-//! back. What the section leaves to be done is the answer.
-ghost use Rattle.std.specs.Prelude.{IfSome};
-ghost use Rattle.task_sections.specs.Sections.{WasIdle};
+//! The steps of a task's word that a handle, a waker or a Runnable takes. What a step leaves to be done is the answer.
+ghost use Rattle.std.proofs.Props.{props};
+ghost use Rattle.std.specs.Prelude.{◌≡◌, false, is_some, is_ok, Some, None, IfSome, MatchOption};
+ghost use Rattle.async_task.specs.Due.{WasIdle};
+ghost use Rattle.async_task.specs.Rests.{info_of, answer_by};
 
-use crate::cell::{Held, Kept};
+use crate::cell::{Held, Kept, RunnableToken, TaskToken, WakerToken};
 use crate::schedule::ScheduleInfo;
-use crate::sections;
-use crate::sections::{Debts, Ended, Released};
 use std::sync::Wait;
-use task_moves::local_task::{Back, Polled, Start};
-use task_moves::moves::State;
+use task_moves::moves::{Owed, State};
+use task_word::tokens::{Debt, Left, OwingRun, OwingTask, PastRun, Trace};
 
-impl<F: 'static, T: 'static, S: 'static, M: 'static, W: 'static, R: Wait> Held<F, T, S, M, W, R> {
-    ghost use Rattle.async_task.specs.Runs.{EndsPoll};
+/// A Runnable that is owed to its task's schedule value, with what that is to be told.
+pub(crate) struct Woken<F: 'static, T: 'static, W: 'static> {
+    pub token: RunnableToken<F, T, W>,
+    pub info: ScheduleInfo,
+}
 
-    /// A wake: the task is to be queued where the answer is there.
-    pub(crate) fn wake(&self) -> Option<ScheduleInfo>
-        ensures { IfSome result WasIdle }
+/// What is left to be done where a reference or the handle went.
+pub(crate) enum Rest<F: 'static, T: 'static, W: 'static> {
+    Queue(Woken<F, T, W>),
+    /// The awaiter that is left, which is dropped.
+    Drop(Kept<W>),
+    Nothing,
+}
+
+/// What is left of a task that nobody can reach any more, while its future is being dropped.
+pub(crate) struct Remains<F: 'static, T: 'static, W: 'static> {
+    pub owed: Owed,
+    pub left: Left<F, T, Kept<W>>,
+    ghost paid: { is_ok left.runnable ≡ is_some owed.schedule },
+    ghost alone: { IfSome left.awaiter (λ _. is_ok left.runnable ≡ false) } by { Prim.hlevel props },
+}
+
+/// The Runnable that is owed.
+pub(crate) fn owed_runnable<F, T, W>(
+    owed: Owed,
+    runnable: Result<RunnableToken<F, T, W>, Trace>,
+) -> Option<Woken<F, T, W>>
+where
+    F: 'static,
+    T: 'static,
+    W: 'static,
+    requires { is_ok runnable ≡ is_some owed.schedule }
+    ensures { MatchOption result (is_some owed.schedule ≡ false)
+        (λ woken. owed.schedule ≡ Some woken.info) }
+{
+    match runnable {
+        Ok(token) => match owed.schedule {
+            Some(info) => Some(Woken { token, info }),
+            None => unreachable!(),
+        },
+        Err(_) => None,
+    }
+}
+
+impl<F, T, S, M, W, R> Held<F, T, S, M, W, R>
+where
+    F: Drop + 'static,
+    T: Drop + 'static,
+    S: Drop + 'static,
+    M: Drop + 'static,
+    W: Drop + 'static,
+    R: Wait + Copy + Drop,
+{
+    /// A wake: a Runnable is the answer where one is owed.
+    pub(crate) fn wake(&self) -> Option<Woken<F, T, W>>
+        ensures { IfSome result (λ woken. WasIdle woken.info) }
     {
-        let mut kept = self.cell.task.lock(&self.rt);
-        sections::wake(&self.rt, &mut *kept)
+        let (owed, runnable) = self.cell.word.wake(&self.rt);
+        owed_runnable(owed, runnable)
     }
 
-    /// One waker more, where that is allowed.
-    pub(crate) fn hold(&self) -> bool {
-        let mut kept = self.cell.task.lock(&self.rt);
-        sections::hold(&self.rt, &mut *kept)
+    /// One reference more, where that is allowed.
+    pub(crate) fn hold(&self) -> Option<WakerToken<F, T, W>> {
+        match self.cell.word.copy(&self.rt).1 {
+            Ok(token) => Some(token),
+            Err(_) => None,
+        }
     }
 
-    /// One waker less.
-    pub(crate) fn release(&self) -> Released<F, T, Kept<W>>
-        ensures { IfSome result.queue WasIdle }
+    /// The Runnable that rests in the cell.
+    pub(crate) fn resume(&self) -> Option<RunnableToken<F, T, W>> {
+        match self.cell.word.resume(&self.rt) {
+            Ok(token) => Some(token),
+            Err(_) => None,
+        }
+    }
+
+    /// A reference that rests in the cell.
+    pub(crate) fn redeem(&self) -> Option<WakerToken<F, T, W>> {
+        match self.cell.word.redeem(&self.rt) {
+            Ok(token) => Some(token),
+            Err(_) => None,
+        }
+    }
+
+    /// The handle that rests in the cell.
+    pub(crate) fn unpark(&self) -> Option<TaskToken<F, T, W>> {
+        match self.cell.word.unpark(&self.rt) {
+            Ok(token) => Some(token),
+            Err(_) => None,
+        }
+    }
+
+    /// A reference goes.
+    pub(crate) fn release(&self, token: WakerToken<F, T, W>) -> Rest<F, T, W>
+        ensures { IfSome (info_of result) WasIdle }
     {
-        let mut kept = self.cell.task.lock(&self.rt);
-        sections::release(&self.rt, &mut *kept)
+        let (owed, left) = token.release(&self.rt);
+        self.left(owed, left)
     }
 
-    /// A wake, and then one waker less.
-    pub(crate) fn wake_and_release(&self) -> Released<F, T, Kept<W>>
-        ensures { IfSome result.queue WasIdle }
+    /// A run gives its reference up.
+    pub(crate) fn give_up(&self, past: PastRun<F, T, Kept<W>>) -> Rest<F, T, W>
+        ensures { IfSome (info_of result) WasIdle }
     {
-        let mut kept = self.cell.task.lock(&self.rt);
-        sections::wake_and_release(&self.rt, &mut *kept)
+        let (owed, left) = past.give_up(&self.rt);
+        self.left(owed, left)
     }
 
-    /// A Runnable becomes a run, or the rest of a closing call.
-    pub(crate) fn start(&self) -> Start<F> {
-        let mut kept = self.cell.task.lock(&self.rt);
-        sections::start(&self.rt, &mut *kept)
-    }
-
-    /// A Runnable is let go: its future is dropped.
-    pub(crate) fn retract(&self) -> F {
-        let mut kept = self.cell.task.lock(&self.rt);
-        sections::retract(&self.rt, &mut *kept)
-    }
-
-    /// A poll has ended.
-    pub(crate) fn settle(&self, back: Back<F, T>) -> Ended<F, T, Kept<W>>
-        ensures { EndsPoll back result }
+    /// What is left where a reference or the handle went. Where it was the last of all, the place is free.
+    pub(crate) fn left(&self, owed: Owed, left: Left<F, T, Kept<W>>) -> Rest<F, T, W>
+        requires paid { is_ok left.runnable ≡ is_some owed.schedule }
+        requires alone { IfSome left.awaiter (λ _. is_ok left.runnable ≡ false) }
+        ensures told { IfSome (info_of result) (λ info. owed.schedule ≡ Some info) }
+        ensures queued { is_some (info_of result) ≡ is_some owed.schedule }
     {
-        let mut kept = self.cell.task.lock(&self.rt);
-        sections::settle(&self.rt, &mut *kept, back)
-    }
-
-    /// The future of a closed task is dropped.
-    pub(crate) fn finish(&self) -> Debts<F, T, Kept<W>> {
-        let mut kept = self.cell.task.lock(&self.rt);
-        sections::finish(&self.rt, &mut *kept)
-    }
-
-    /// The handle cancels the task.
-    pub(crate) fn cancel(&self) -> Debts<F, T, Kept<W>>
-        ensures { IfSome result.queue WasIdle }
-    {
-        let mut kept = self.cell.task.lock(&self.rt);
-        sections::cancel(&self.rt, &mut *kept)
-    }
-
-    /// The handle goes.
-    pub(crate) fn detach(&self) -> Debts<F, T, Kept<W>>
-        ensures { IfSome result.queue WasIdle }
-    {
-        let mut kept = self.cell.task.lock(&self.rt);
-        sections::detach(&self.rt, &mut *kept)
-    }
-
-    /// A poll of the handle, where there is an answer already.
-    pub(crate) fn poll_at_once(&self) -> Result<Polled<T, Kept<W>>, Kept<W>> {
-        let mut kept = self.cell.task.lock(&self.rt);
-        sections::poll_at_once(&self.rt, &mut *kept, Kept::Nothing)
-    }
-
-    /// A poll of the handle, with a waker to keep.
-    pub(crate) fn poll(&self, waker: Kept<W>) -> Polled<T, Kept<W>> {
-        let mut kept = self.cell.task.lock(&self.rt);
-        sections::poll(&self.rt, &mut *kept, waker)
-    }
-
-    /// How the task stands at this moment.
-    pub(crate) fn look(&self) -> State {
-        let kept = self.cell.task.lock(&self.rt);
-        sections::look(&self.rt, &*kept)
+        if owed.empty_cell {
+            self.empty();
+        }
+        let Left { runnable, awaiter } = left;
+        match awaiter {
+            Some(awaiter) => match runnable {
+                Ok(_) => unreachable!(),
+                Err(_) => Rest::Drop(awaiter.pay()),
+            },
+            None => match owed_runnable(owed, runnable) {
+                Some(woken) => Rest::Queue(woken),
+                None => Rest::Nothing,
+            },
+        }
     }
 
     /// Whether the future is dropped or is going to be.
     pub(crate) fn is_finished(&self) -> bool {
-        let kept = self.cell.task.lock(&self.rt);
-        sections::is_finished(&self.rt, &*kept)
+        let state = self.cell.word.state();
+        state.completed || state.closed
+    }
+
+    /// How the task stands at this moment.
+    pub(crate) fn look(&self) -> State {
+        self.cell.word.state()
+    }
+}
+
+/// The value that is owed a call or a drop.
+pub(crate) fn paid<X>(debt: Option<Debt<X>>) -> Option<X> {
+    match debt {
+        Some(debt) => Some(debt.pay()),
+        None => None,
+    }
+}
+
+/// The awaiter comes out, to be called, where that is owed.
+pub(crate) fn notified<F, T, W, R>(
+    rt: &R,
+    run: Result<PastRun<F, T, Kept<W>>, OwingRun<F, T, Kept<W>>>,
+) -> (PastRun<F, T, Kept<W>>, Option<Kept<W>>)
+where
+    F: Drop + 'static,
+    T: Drop + 'static,
+    W: Drop + 'static,
+    R: Wait,
+{
+    match run {
+        Ok(past) => (past, None),
+        Err(owing) => {
+            let (_, past, awaiter) = owing.notify(rt);
+            (past, paid(awaiter))
+        }
+    }
+}
+
+/// The same of a handle.
+pub(crate) fn told<F, T, W, R>(
+    rt: &R,
+    task: Result<TaskToken<F, T, W>, OwingTask<F, T, Kept<W>>>,
+) -> (TaskToken<F, T, W>, Option<Kept<W>>)
+where
+    F: Drop + 'static,
+    T: Drop + 'static,
+    W: Drop + 'static,
+    R: Wait,
+{
+    match task {
+        Ok(task) => (task, None),
+        Err(owing) => {
+            let (_, task, awaiter) = owing.notify(rt);
+            (task, paid(awaiter))
+        }
+    }
+}
+
+/// Whether the task was woken while it was polled.
+pub(crate) fn was_woken<F, T, W>(rest: &Rest<F, T, W>) -> bool
+where
+    F: 'static,
+    T: 'static,
+    W: 'static,
+    ensures { Some result ≡ answer_by false (info_of rest.now) }
+{
+    match rest {
+        Rest::Queue(woken) => woken.info.woken_while_running,
+        _ => false,
     }
 }

@@ -2,10 +2,11 @@
 //! is taken to reach a slot, to find a free one or to give it back.
 ghost use Rattle.std.specs.Prelude.{◌<◌};
 
+use crate::realm::Vacant;
 use std::alloc::{AllocError, Global};
+use std::sync::OnceLock;
 use std::sync::atomic::AtomicU64;
 use std::sync::atomic::Ordering::SeqCst;
-use std::sync::{Arc, Mutex, OnceLock};
 
 /// The slots of the first page. Each page has twice as many as the one before.
 const FIRST_PAGE: u32 = 32;
@@ -24,7 +25,8 @@ const LINK: u64 = 0xffff_ffff;
 /// A place for a cell.
 #[derive(Drop)]
 pub struct Slot<C> {
-    pub cell: Mutex<Option<Arc<C, Global>>>,
+    /// It is made when the place is first taken, and stays.
+    pub cell: OnceLock<C>,
     /// Where the slot is free: 1 more than the place of the next free one, or 0.
     next: AtomicU64,
 }
@@ -56,7 +58,7 @@ fn new_page<C: Drop>(alloc: Global, page: usize) -> Result<Vec<Slot<C>, Global>,
     let mut slots = Vec::with_capacity(alloc, len)?;
     for _ in 0..len {
         slots.push(Slot {
-            cell: Mutex::new(None),
+            cell: OnceLock::new(),
             next: AtomicU64::new(0),
         })?;
     }
@@ -87,15 +89,6 @@ impl<C: Drop> Pages<C> {
     pub fn slot(&self, place: usize) -> Option<&Slot<C>> {
         let (page, at) = position((place % PLACES) as u32);
         self.pages.get(page)?.get()?.get(at)
-    }
-
-    /// A place that nobody else has, until it is released. None where there are too many, or for
-    /// want of memory.
-    pub fn vacancy(&self) -> Option<usize> {
-        match self.reuse() {
-            Some(place) => Some(place),
-            None => self.grow(),
-        }
     }
 
     /// Gives the place back.
@@ -145,6 +138,31 @@ impl<C: Drop> Pages<C> {
     {
         let slots = new_page(self.alloc, page).ok()?;
         let _ = self.pages.get(page)?.try_set(slots);
+        Some(())
+    }
+}
+
+impl<C: Vacant + Drop> Pages<C> {
+    /// A place that nobody else has, until it is released, with its cell. None where there are too many, or for
+    /// want of memory.
+    pub fn vacancy(&self) -> Option<usize> {
+        let place = match self.reuse() {
+            Some(place) => place,
+            None => self.grow()?,
+        };
+        if self.make_cell(place).is_none() {
+            self.release(place);
+            return None;
+        }
+        Some(place)
+    }
+
+    /// Makes the cell at a place that was just taken, unless it is there.
+    fn make_cell(&self, place: usize) -> Option<()> {
+        let slot = self.slot(place)?;
+        if slot.cell.get().is_none() {
+            let _ = slot.cell.try_set(C::vacant(self.alloc).ok()?);
+        }
         Some(())
     }
 }

@@ -1,0 +1,71 @@
+-- What a move owes, what is left to do where a waker goes, and the steps of the executor's drop weigh nothing
+-- in a count that sees none of it.
+use Rattle.std.proofs.Common.{◌≡◌, ℕ, List, [], ◌∷◌, Bool, true, false, refl, arith}
+use Rattle.std.specs.Prelude.{Option, Some, None}
+use Rattle.task_moves.specs.declared.moves.owed.AwaiterDebt.{AwaiterDebt}
+use Rattle.task_moves.specs.declared.moves.owed.Move.{Move}
+use Rattle.task_moves.specs.declared.moves.owed.Move.TheVariants as move
+use Rattle.task_moves.specs.declared.moves.owed.Owed.{Owed}
+use Rattle.runs_model.specs.declared.op.Awaiter.{Awaiter}
+use Rattle.runs_model.specs.declared.op.Op.{Op}
+use Rattle.runs_model.specs.declared.op.Op.TheVariants as op
+use Rattle.runs_model.specs.declared.op.ClosingOp.{ClosingOp}
+use Rattle.runs_model.specs.declared.op.ClosingOp.TheVariants as closing_op
+use Rattle.runs_model.specs.declared.op.HandleOp.TheVariants as handle_op
+use Rattle.runs_model.specs.declared.op.QueueOp.TheVariants as queue_op
+use Rattle.runs_model.specs.declared.op.TableOp.TheVariants as table_op
+use Rattle.runs_model.specs.declared.op.UserOp.TheVariants as user_op
+use Rattle.runs_model.specs.declared.op.Waker.{Waker}
+use Rattle.runs_model.specs.declared.op.Waker.TheVariants.{Task, Outside}
+use Rattle.runs_model.specs.declared.op.WakerOp.TheVariants as waker_op
+use Rattle.runs_model.specs.Acts.{waker_goes, let_go, told, closing_ops}
+use Rattle.runs_model.specs.Carried.{awaiter_ops, owed_ops}
+use Rattle.runs_model.specs.Weights.{weigh}
+use Rattle.runs_model.proofs.Owed.{owed-future, owed-awaiter, owed-nothing}
+
+-- v sees no move, nothing that a move owes, and no call of an awaiter
+pub record Aside (v : Op → ℕ) : Type 0 where
+  pub move : (m : Move) (f : ℕ) → v (op.Move m f) ≡ 0
+  pub append : (f : ℕ) → v (op.Queue (queue_op.Append f)) ≡ 0
+  pub poll : (f : ℕ) → v (op.Table (table_op.TakeToPoll f)) ≡ 0
+  pub drop : (f : ℕ) → v (op.Table (table_op.TakeToDrop f)) ≡ 0
+  pub output : (f : ℕ) → v (op.User (user_op.BeginDropOutput f)) ≡ 0
+  pub notify : (f : ℕ) (mine : Bool) → v (op.Handle (handle_op.Notify f mine)) ≡ 0
+  pub call : (f : ℕ) (a : Waker) (k : ℕ) → v (op.Waker (waker_op.CallAwaiter f a k)) ≡ 0
+
+module _ (v : Op → ℕ) (h : Aside v) where
+  pub aside-awaiter : (f : ℕ) (o : Option AwaiterDebt) → weigh v (awaiter_ops f o) ≡ 0
+  aside-awaiter f o = owed-awaiter v f (record { notify = h.notify f }) o
+
+  pub aside-owed : (f : ℕ) (there : Bool) (o : Owed) → weigh v (owed_ops there f o) ≡ 0
+  aside-owed f there o =
+      owed-nothing v f
+      (record {
+        append = h.append f;
+        output = h.output f;
+        release = h.move move.Release f;
+        settle_closed = h.move move.SettleClosed f;
+        give_up = h.move move.GiveUp f;
+        end_closed = h.move move.EndClosed f;
+        detach = h.move move.Detach f;
+      }) there o (owed-future v f (record { poll = h.poll f; drop = h.drop f }) there o.future)
+      (aside-awaiter f o.awaiter)
+
+  aside-goes : (a : Waker) → weigh v (waker_goes a) ≡ 0
+  aside-goes (Task g) = omega (arith, h.move move.Release g)
+  aside-goes (Outside x) = refl
+
+  pub aside-let_go : (a : Option Awaiter) → weigh v (let_go a) ≡ 0
+  aside-let_go None = refl
+  aside-let_go (Some a) = aside-goes a.waker
+
+  pub aside-told : (b : Bool) (f : ℕ) (a : Option Awaiter) → weigh v (told b f a) ≡ 0
+  aside-told b f None = refl
+  aside-told true f (Some a) = aside-goes a.waker
+  aside-told false f (Some a) = omega (arith, h.call f a.waker a.poll)
+
+pub aside-closing : (v : Op → ℕ) → ((o : ClosingOp) → v (op.Closing o) ≡ 0) → (ls ws : List ℕ) →
+    weigh v (closing_ops ls ws) ≡ 0
+aside-closing v h [] [] = omega (arith, h closing_op.Close)
+aside-closing v h [] (x ∷ ws) = omega (arith, h closing_op.WakeNext)
+aside-closing v h (x ∷ ls) ws = omega (arith, h closing_op.DropNext)

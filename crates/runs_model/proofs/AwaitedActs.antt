@@ -1,0 +1,568 @@
+-- Each thing that is done keeps what holds of each future and of who waits on its handle.
+use Rattle.std.proofs.Common.{◌≡◌, ◌⊎◌, ℕ, ◌+◌, ◌<◌, List, [], ◌∷◌, ◌++◌, length, Bool, true, false, ◌||◌, ◌&&◌, not}
+use Rattle.std.proofs.Common.{eqb, drop, refl, sym, ap, ◌∙◌, subst, ◌≤◌, inl, inr, arith}
+use Rattle.std.proofs.lemmas.Bool.Decides.{nat_tests}
+use Rattle.std.proofs.lemmas.List.{length-set, length-append}
+use Rattle.std.specs.Prelude.{Option, Some, None, slice_set}
+use Rattle.task_moves.specs.declared.moves.owed.Answer.{Answer}
+use Rattle.task_moves.specs.Moves as moves
+use Rattle.task_moves.specs.Moves.{moved, nothing, settled, notify_if, notify_other_if, most_references}
+use Rattle.runs_model.specs.declared.event.Answer.TheVariants as answer
+use Rattle.runs_model.specs.declared.event.Event.TheVariants as event
+use Rattle.runs_model.specs.declared.op.Awaiter.{Awaiter}
+use Rattle.runs_model.specs.declared.op.Waker.{Waker}
+use Rattle.runs_model.specs.declared.op.Waker.TheVariants.{Task, Outside}
+use Rattle.runs_model.specs.declared.op.Hold.{Hold}
+use Rattle.runs_model.specs.declared.op.Polled.TheVariants as of
+use Rattle.runs_model.specs.declared.op.Op.{Op}
+use Rattle.runs_model.specs.declared.op.Op.TheVariants as op
+use Rattle.runs_model.specs.declared.op.ClosingOp.TheVariants as closing_op
+use Rattle.runs_model.specs.declared.op.HandleOp.TheVariants as handle_op
+use Rattle.task_moves.specs.declared.moves.owed.Move.TheVariants as move
+use Rattle.runs_model.specs.declared.op.QueueOp.TheVariants as queue_op
+use Rattle.runs_model.specs.declared.op.TableOp.TheVariants as table_op
+use Rattle.runs_model.specs.declared.op.UserOp.TheVariants as user_op
+use Rattle.runs_model.specs.declared.op.WakerOp.TheVariants as waker_op
+use Rattle.runs_model.specs.World.{World, Done, done, log, log_if, task, awaiter_of, among}
+use Rattle.runs_model.specs.Carried.{carried}
+use Rattle.runs_model.specs.Acts.{append_by, take_by, enter_by, take_to_poll, put_back, take_to_drop}
+use Rattle.runs_model.specs.Acts.{leave_by}
+use Rattle.runs_model.specs.Acts.{begin_drop, begin_drop_output, copy_by, polled, look_by, look_again_by}
+use Rattle.runs_model.specs.Acts.{copy_awaiter_by, register_by, end_register_by, notify_by, call_awaiter}
+use Rattle.runs_model.specs.Acts.{closing_ops, drop_next_by, wake_next_by, close, drain_by}
+use Rattle.runs_model.specs.Weights.{same, weigh, past, waker_past}
+use Rattle.runs_model.specs.Good.{pasts, IsKnownWaker}
+use Rattle.runs_model.specs.Rows.{past_of}
+use Rattle.runs_model.specs.Sound.{Pend, with_ops, times}
+use Rattle.runs_model.proofs.Cases.{by_bool, by_list, by_waker}
+use Rattle.runs_model.proofs.Marks.{IsUnmarked, unmarked, IsMarked, marked, IsGoing, going}
+use Rattle.runs_model.proofs.Marks.{IsIdle, idle, last-one, IsUnheld, unheld}
+use Rattle.runs_model.proofs.Lists.{with_ops-closing, read_put, fresh_is, read_push}
+use Rattle.runs_model.proofs.Lists.{past_is, same_is, times-append, times-drop}
+use Rattle.runs_model.proofs.Counting.{settling, readied, pended, ending, dropping, taken_up, woken, woken_by}
+use Rattle.runs_model.proofs.Counting.{cancel_going, cancel_idle, cancel_over, detached, stays_so, gives}
+use Rattle.runs_model.proofs.Counting.{waits_on, end_registered, end_notified, next_woken}
+use Rattle.runs_model.proofs.Awaited.{heard, heard-push, Awaiting, with_awaiting, with_awaiting-closing, Footing}
+use Rattle.runs_model.proofs.Awaited.{Awaits, KeepsBy, KeepsAwaits, asks_if, kept_at, kept_put, kept_push}
+
+pub awaits-append : (b : Bool) (w : World) (f : ℕ) → KeepsAwaits w (op.Queue (queue_op.Append f) ∷ []) (append_by b w f)
+awaits-append = by_bool _
+    (λ w f g r yy mm bb h. grind (arith, same_is, times-append))
+    (λ w f g r yy mm bb h. grind (arith, same_is))
+
+pub awaits-take : (q : List ℕ) (w : World) → w.queue.items ≡ q →
+    KeepsAwaits w (op.Queue queue_op.Take ∷ []) (take_by w q)
+awaits-take = by_list _
+    (λ w e g r yy mm bb h. grind arith)
+    (λ f rest w e g r yy mm bb h. let z : same g f + times g (drop 1 w.queue.items) ≡ times g w.queue.items =
+    times-drop g f rest w.queue.items e in grind (arith, same_is))
+
+pub awaits-enter : (b c : Bool) (p : ℕ) (w : World) → length w.awaiters ≡ length w.tasks →
+    KeepsAwaits w (op.Table table_op.Enter ∷ []) (enter_by b c p w)
+awaits-enter = by_bool _
+    (λ c p w l g r yy mm bb h. grind arith)
+    (by_bool _
+    (λ p w l g r yy mm bb h. grind arith)
+    (λ p w l g r yy mm bb h.
+    grind (arith, same_is, fresh_is, read_push, kept_push, times-append, length-append, heard-push)))
+
+pub awaits-take_to_poll : (w : World) (f : ℕ) → KeepsAwaits w (op.Table (table_op.TakeToPoll f) ∷ []) (take_to_poll w f)
+awaits-take_to_poll w f g r yy mm bb h = grind (arith, same_is)
+
+pub awaits-put_back : (w : World) (f : ℕ) → KeepsAwaits w (op.Table (table_op.PutBack f) ∷ []) (put_back w f)
+awaits-put_back w f g r yy mm bb h = grind (arith, same_is)
+
+pub awaits-take_to_drop : (w : World) (f : ℕ) → KeepsAwaits w (op.Table (table_op.TakeToDrop f) ∷ []) (take_to_drop w f)
+awaits-take_to_drop w f g r yy mm bb h = grind (arith, same_is)
+
+pub awaits-leave : (b : Bool) (w : World) (f : ℕ) → among f w.table ≡ b →
+    KeepsAwaits w (op.Table (table_op.LeaveTable f) ∷ []) (leave_by b w f)
+awaits-leave = by_bool _
+    (λ w f e g r yy mm bb h. grind (arith, same_is))
+    (λ w f e g r yy mm bb h. h)
+
+pub awaits-begin_drop : (p : ℕ) (w : World) (f : ℕ) →
+    KeepsAwaits w (op.User (user_op.BeginDrop f) ∷ []) (begin_drop p w f)
+awaits-begin_drop p w f g r yy mm bb h = grind (arith, same_is, heard-push)
+
+pub awaits-begin_drop_output : (p : ℕ) (w : World) (f : ℕ) →
+    KeepsAwaits w (op.User (user_op.BeginDropOutput f) ∷ []) (begin_drop_output p w f)
+awaits-begin_drop_output p w f g r yy mm bb h = grind (arith, heard-push)
+
+-- the moves of a task, by what they find
+
+pub awaits-release : (b c : Bool) (w : World) (f : ℕ) → moves.is_last (task w f) ≡ b → moves.is_over (task w f) ≡ c →
+    f < length w.tasks → KeepsAwaits w (op.Move move.Release f ∷ []) (carried w f (moves.release_by b c (task w f)))
+awaits-release = by_bool _
+    (by_bool _
+    (λ w f e q i g r yy mm bb h. let z : (task w f).references ≡ 1 = last-one (task w f) e in
+    grind (arith, same_is, read_put, length-set))
+    (λ w f e q i g r yy mm bb h. let z : (task w f).references ≡ 1 = last-one (task w f) e in
+    let c : (task w f).completed ≡ false = grind (arith, nat_tests) in grind (arith, same_is, read_put, length-set)))
+    (λ c w f e q i g r yy mm bb h. grind (arith, same_is, read_put, length-set))
+
+pub awaits-settle_closed : (a : Bool) (w : World) (f : ℕ) → (task w f).awaiter ≡ a → f < length w.tasks →
+    KeepsAwaits w (op.Move move.SettleClosed f ∷ []) (settling a w f)
+awaits-settle_closed = by_bool _
+    (λ w f n i g r yy mm bb h. grind (arith, same_is, read_put, length-set))
+    (λ w f n i g r yy mm bb h. grind (arith, same_is, read_put, length-set))
+
+pub awaits-give_up : (b : Bool) (w : World) (f : ℕ) → moves.is_last (task w f) ≡ b → f < length w.tasks →
+    KeepsAwaits w (op.Move move.GiveUp f ∷ []) (carried w f (moves.give_up_by b (task w f)))
+awaits-give_up = by_bool _
+    (λ w f e i g r yy mm bb h. let z : (task w f).references ≡ 1 = last-one (task w f) e in
+    grind (arith, same_is, read_put, length-set))
+    (λ w f e i g r yy mm bb h. grind (arith, same_is, read_put, length-set))
+
+-- by whether the output is unwanted, and whether there is an awaiter
+
+pub awaits-end_ready : (u a : Bool) (w : World) (f : ℕ) → ((task w f).closed || not (task w f).handle) ≡ u →
+    (task w f).awaiter ≡ a → f < length w.tasks → KeepsAwaits w (op.Move move.EndReady f ∷ []) (readied u a w f)
+awaits-end_ready = by_bool _
+    (by_bool _
+    (λ w f e n i g r yy mm bb h. grind (arith, same_is, read_put, length-set))
+    (λ w f e n i g r yy mm bb h. grind (arith, same_is, read_put, length-set)))
+    (by_bool _
+    (λ w f e n i g r yy mm bb h. grind (arith, same_is, read_put, length-set))
+    (λ w f e n i g r yy mm bb h. grind (arith, same_is, read_put, length-set)))
+
+-- by whether it is closed, scheduled, its reference the last, and its entry in the table
+
+pub awaits-end_pending : (x s l there : Bool) (w : World) (f : ℕ) → (task w f).closed ≡ x → (task w f).scheduled ≡ s →
+    moves.is_last (task w f) ≡ l → among f w.table ≡ there → f < length w.tasks →
+    KeepsAwaits w (op.Move move.EndPending f ∷ []) (pended x s l there w f)
+awaits-end_pending = by_bool _
+    (λ s l. by_bool _
+    (λ w f e q k m i g r yy mm bb h. grind (arith, same_is, read_put, length-set))
+    (λ w f e q k m i g r yy mm bb h. grind (arith, same_is, read_put, length-set)))
+    (by_bool _
+    (λ l there w f e q k m i g r yy mm bb h. grind (arith, same_is, read_put, length-set))
+    (by_bool _
+    (by_bool _
+    (λ w f e q k m i g r yy mm bb h. let z : (task w f).references ≡ 1 = last-one (task w f) k in
+    grind (arith, same_is, read_put, length-set))
+    (λ w f e q k m i g r yy mm bb h. let z : (task w f).references ≡ 1 = last-one (task w f) k in
+    grind (arith, same_is, read_put, length-set)))
+    (λ there w f e q k m i g r yy mm bb h. grind (arith, same_is, read_put, length-set))))
+
+pub awaits-end_closed : (a : Bool) (w : World) (f : ℕ) → (task w f).awaiter ≡ a → f < length w.tasks →
+    KeepsAwaits w (op.Move move.EndClosed f ∷ []) (ending a w f)
+awaits-end_closed = by_bool _
+    (λ w f n i g r yy mm bb h. grind (arith, same_is, read_put, length-set))
+    (λ w f n i g r yy mm bb h. grind (arith, same_is, read_put, length-set))
+
+-- by whether its entry is in the table
+
+pub awaits-drop_runnable : (c there : Bool) (w : World) (f : ℕ) → ((task w f).closed || not (task w f).completed) ≡ c →
+    among f w.table ≡ there → f < length w.tasks →
+    KeepsAwaits w (op.Move move.DropRunnable f ∷ []) (dropping c there w f)
+awaits-drop_runnable = by_bool _
+    (by_bool _
+    (λ w f e m i g r yy mm bb h. grind (arith, nat_tests, same_is, read_put, length-set))
+    (λ w f e m i g r yy mm bb h. grind (arith, nat_tests, same_is, read_put, length-set)))
+    (by_bool _
+    (λ w f e m i g r yy mm bb h. grind (arith, nat_tests, same_is, read_put, length-set))
+    (λ w f e m i g r yy mm bb h. grind (arith, nat_tests, same_is, read_put, length-set)))
+
+-- by whether it is closed, and its entry in the table
+
+pub awaits-take_up : (b there : Bool) (p : ℕ) (w : World) (f : ℕ) → (task w f).closed ≡ b →
+    among f (log_if (not b) w (event.PollBegun p f)).table ≡ there → f < length w.tasks →
+    KeepsAwaits w (op.Move move.TakeUp f ∷ []) (taken_up b there p w f)
+awaits-take_up = by_bool _
+    (by_bool _
+    (λ p w f e m i g r yy mm bb h. grind (arith, same_is, read_put, length-set))
+    (λ p w f e m i g r yy mm bb h. grind (arith, same_is, read_put, length-set)))
+    (λ there p w f e m i g r yy mm bb h. grind (arith, same_is, read_put, length-set, heard-push))
+
+-- by whether it is over, over or scheduled, and running
+
+pub awaits-wake_by_reference : (o b c : Bool) (p : ℕ) (w : World) (f : ℕ) →
+    (moves.is_over (task w f) || (task w f).scheduled) ≡ b → (task w f).running ≡ c → f < length w.tasks →
+    KeepsAwaits w (op.Move move.WakeByReference f ∷ []) (woken o b c p w f)
+awaits-wake_by_reference = by_bool _
+    (by_bool _
+    (λ c p w f e q i g r yy mm bb h. grind (arith, same_is, read_put, length-set, heard-push))
+    (by_bool _
+    (λ p w f e q i g r yy mm bb h. grind (arith, same_is, read_put, length-set, heard-push))
+    (λ p w f e q i g r yy mm bb h. let k : IsUnmarked (task w f) = unmarked (task w f) e in
+    grind (arith, same_is, read_put, length-set, heard-push))))
+    (by_bool _
+    (λ c p w f e q i g r yy mm bb h. grind (arith, same_is, read_put, length-set, heard-push))
+    (by_bool _
+    (λ p w f e q i g r yy mm bb h. grind (arith, same_is, read_put, length-set, heard-push))
+    (λ p w f e q i g r yy mm bb h. let k : IsUnmarked (task w f) = unmarked (task w f) e in
+    grind (arith, same_is, read_put, length-set, heard-push))))
+
+pub awaits-wake : (o b c : Bool) (p : ℕ) (w : World) (f : ℕ) → (moves.is_over (task w f) || (task w f).scheduled) ≡ b →
+    (task w f).running ≡ c → f < length w.tasks → KeepsAwaits w (op.Move move.Wake f ∷ []) (woken_by o b c p w f)
+awaits-wake = by_bool _
+    (by_bool _
+    (λ c p w f e q i g r yy mm bb h. grind (arith, same_is, read_put, length-set, heard-push))
+    (by_bool _
+    (λ p w f e q i g r yy mm bb h. grind (arith, same_is, read_put, length-set, heard-push))
+    (λ p w f e q i g r yy mm bb h. let k : IsUnmarked (task w f) = unmarked (task w f) e in
+    grind (arith, same_is, read_put, length-set, heard-push))))
+    (by_bool _
+    (λ c p w f e q i g r yy mm bb h. grind (arith, same_is, read_put, length-set, heard-push))
+    (by_bool _
+    (λ p w f e q i g r yy mm bb h. grind (arith, same_is, read_put, length-set, heard-push))
+    (λ p w f e q i g r yy mm bb h. let k : IsUnmarked (task w f) = unmarked (task w f) e in
+    grind (arith, same_is, read_put, length-set, heard-push))))
+
+awaits-call_task : (o b c : Bool) (p e : ℕ) (k : ℕ) (w : World) (f : ℕ) →
+    (moves.is_over (task w f) || (task w f).scheduled) ≡ b → (task w f).running ≡ c → f < length w.tasks →
+    KeepsAwaits w (op.Waker (waker_op.CallAwaiter e (Task f) k) ∷ [])
+    (woken_by o b c p (log w (event.WakerCalled p (of.Handle e) k (Task f))) f)
+awaits-call_task o b c p e k w f d q i g r yy mm bb h =
+    let called : World = log w (event.WakerCalled p (of.Handle e) k (Task f)) in
+    let stand : Footing called g (with_ops g (op.Move move.Wake f ∷ []) r)
+    (with_awaiting g (op.Move move.Wake f ∷ []) yy) =
+    record {
+      one = bb.one;
+      live = bb.live;
+      ends = bb.ends;
+      drop = bb.drop;
+      carries = bb.carries;
+      rests = bb.rests;
+      lent = bb.lent;
+      done = grind (arith, heard-push);
+      stages = bb.stages;
+      few = bb.few;
+      tied = bb.tied;
+    } in
+    let waits : Awaits called g (with_ops g (op.Move move.Wake f ∷ []) r)
+    (with_awaiting g (op.Move move.Wake f ∷ []) yy) mm = grind (arith, same_is, heard-push) in
+    awaits-wake o b c p called f d q i g r yy mm stand waits
+
+-- by whether an event is logged
+
+awaits-cancel_over : (o : Bool) (p : ℕ) (w : World) (f : ℕ) → f < length w.tasks →
+    KeepsAwaits w (op.Move move.Cancel f ∷ []) (cancel_over o p w f)
+awaits-cancel_over = by_bool _
+    (λ p w f i g r yy mm bb h. grind (arith, same_is, read_put, length-set, heard-push))
+    (λ p w f i g r yy mm bb h. grind (arith, same_is, read_put, length-set, heard-push))
+
+awaits-cancel_going : (a : Bool) (p : ℕ) (w : World) (f : ℕ) → (task w f).awaiter ≡ a →
+    moves.is_going (task w f) ≡ true → f < length w.tasks →
+    KeepsAwaits w (op.Move move.Cancel f ∷ []) (cancel_going true a p w f)
+awaits-cancel_going = by_bool _
+    (λ p w f n e i g r yy mm bb h. let z : IsGoing (task w f) = going (task w f) e in
+    grind (arith, same_is, read_put, length-set, heard-push))
+    (λ p w f n e i g r yy mm bb h. let z : IsGoing (task w f) = going (task w f) e in
+    grind (arith, same_is, read_put, length-set, heard-push))
+
+awaits-cancel_idle : (a : Bool) (p : ℕ) (w : World) (f : ℕ) → (task w f).awaiter ≡ a →
+    moves.is_over (task w f) ≡ false → moves.is_going (task w f) ≡ false → f < length w.tasks →
+    KeepsAwaits w (op.Move move.Cancel f ∷ []) (cancel_idle true a p w f)
+awaits-cancel_idle = by_bool _
+    (λ p w f n e q i g r yy mm bb h. let k : IsIdle (task w f) = idle (task w f) e q in
+    grind (arith, same_is, read_put, length-set, heard-push))
+    (λ p w f n e q i g r yy mm bb h. let k : IsIdle (task w f) = idle (task w f) e q in
+    grind (arith, same_is, read_put, length-set, heard-push))
+
+pub awaits-detach : (o x y : Bool) (p : ℕ) (w : World) (f : ℕ) → ((task w f).completed && not (task w f).closed) ≡ x →
+    (eqb (task w f).references 0 && not (task w f).closed) ≡ y → f < length w.tasks →
+    KeepsAwaits w (op.Move move.Detach f ∷ []) (detached o x y p w f)
+awaits-detach = by_bool _
+    (by_bool _
+    (λ y p w f e q i g r yy mm bb h. grind (arith, nat_tests, same_is, read_put, length-set, heard-push))
+    (by_bool _
+    (λ p w f e q i g r yy mm bb h. let k : IsUnheld (task w f) = unheld (task w f) e q in
+    grind (arith, same_is, read_put, length-set, heard-push))
+    (λ p w f e q i g r yy mm bb h. grind (arith, same_is, read_put, length-set, heard-push))))
+    (by_bool _
+    (λ y p w f e q i g r yy mm bb h. grind (arith, nat_tests, same_is, read_put, length-set, heard-push))
+    (by_bool _
+    (λ p w f e q i g r yy mm bb h. let k : IsUnheld (task w f) = unheld (task w f) e q in
+    grind (arith, same_is, read_put, length-set, heard-push))
+    (λ p w f e q i g r yy mm bb h. grind (arith, same_is, read_put, length-set, heard-push))))
+
+-- wakers and polls of a handle
+
+pub awaits-copy : (b : Bool) (w : World) (f : ℕ) (held : Hold) → f < length w.tasks →
+    KeepsAwaits w (op.Waker (waker_op.CopyWaker f held) ∷ []) (copy_by b w f held)
+awaits-copy = by_bool _
+    (λ w f held i g r yy mm bb h. grind arith)
+    (λ w f held i g r yy mm bb h. grind (arith, same_is, read_put, length-set))
+
+-- a poll of the handle that ends: as it was, or with its output
+
+awaits-look_closed : (p : ℕ) (w : World) (f : ℕ) (a : Waker) → f < length w.tasks →
+    KeepsBy w (op.Handle (handle_op.Look f a) ∷ []) (stays_so p w (polled p w f) f) (asks_if true p f)
+awaits-look_closed p w f a i g r yy mm bb h = grind (arith, same_is, read_put, length-set, heard-push)
+
+awaits-look_given : (b : Bool) (p : ℕ) (w : World) (f : ℕ) (a : Waker) → (task w f).completed ≡ true →
+    f < length w.tasks → KeepsBy w (op.Handle (handle_op.Look f a) ∷ []) (gives b p w (polled p w f) f)
+    (asks_if true p f)
+awaits-look_given = by_bool _
+    (λ p w f a e i g r yy mm bb h. grind (arith, same_is, read_put, length-set, heard-push))
+    (λ p w f a e i g r yy mm bb h. grind (arith, same_is, read_put, length-set, heard-push))
+
+awaits-again_closed : (p : ℕ) (w : World) (f : ℕ) → f < length w.tasks →
+    KeepsAwaits w (op.Handle (handle_op.LookAgain f) ∷ []) (stays_so p w w f)
+awaits-again_closed p w f i g r yy mm bb h = grind (arith, same_is, read_put, length-set, heard-push)
+
+awaits-again_given : (b : Bool) (p : ℕ) (w : World) (f : ℕ) → (task w f).completed ≡ true → f < length w.tasks →
+    KeepsAwaits w (op.Handle (handle_op.LookAgain f) ∷ []) (gives b p w w f)
+awaits-again_given = by_bool _
+    (λ p w f e i g r yy mm bb h. grind (arith, same_is, read_put, length-set, heard-push))
+    (λ p w f e i g r yy mm bb h. grind (arith, same_is, read_put, length-set, heard-push))
+
+awaits-look_on : (w : World) (f : ℕ) (a : Waker) →
+    KeepsAwaits w (op.Handle (handle_op.Look f a) ∷ []) (done w (op.Handle (handle_op.CopyAwaiter f a) ∷ []))
+awaits-look_on w f a g r yy mm bb h = grind arith
+
+awaits-again_waits : (p : ℕ) (w : World) (f : ℕ) → (((task w f).scheduled ≡ true) ⊎ ((task w f).running ≡ true))
+    ⊎ (((task w f).closed ≡ false) × ((task w f).completed ≡ false)) → f < length w.tasks →
+    KeepsAwaits w (op.Handle (handle_op.LookAgain f) ∷ []) (waits_on p w w f)
+awaits-again_waits p w f n i g r yy mm bb h = grind (arith, same_is, read_put, length-set, heard-push)
+
+pub awaits-copy_awaiter : (b : Bool) (p : ℕ) (w : World) (f : ℕ) (a : Waker) → IsKnownWaker w a →
+    KeepsBy w (op.Handle (handle_op.CopyAwaiter f a) ∷ []) (copy_awaiter_by b p w f a) (asks_if (not b) p f)
+awaits-copy_awaiter = by_bool _
+    (λ p w f a e g r yy mm bb h. grind arith)
+    (λ p w f. by_waker _
+    (λ k e g r yy mm bb h. let few : (with_awaiting g (op.Handle (handle_op.CopyAwaiter f (Task k)) ∷ []) yy).strays
+    (length w.trace) ≤ _ = bb.few (length w.trace) in let z : k < length w.tasks = e in
+    let l : eqb (length w.trace) (length w.trace) ≡ true = grind (arith, nat_tests) in
+    grind (arith, same_is, read_put, length-set, heard-push))
+    (λ x e g r yy mm bb h. let few : (with_awaiting g (op.Handle (handle_op.CopyAwaiter f (Outside x)) ∷ []) yy).strays
+    (length w.trace) ≤ _ = bb.few (length w.trace) in
+    let l : eqb (length w.trace) (length w.trace) ≡ true = grind (arith, nat_tests) in
+    grind (arith, same_is, heard-push)))
+
+pub awaits-register : (b : Bool) (w : World) (f : ℕ) (a : Waker) (k : ℕ) → (task w f).notifying ≡ b →
+    f < length w.tasks → KeepsAwaits w (op.Handle (handle_op.Register f a k) ∷ []) (register_by b w f a k)
+awaits-register = by_bool _
+    (λ w f a k n i g r yy mm bb h. grind (arith, same_is, read_put, length-set))
+    (λ w f a k n i g r yy mm bb h. grind (arith, same_is, read_put, length-set))
+
+-- by whether somebody wanted to notify meanwhile, and the old awaiter
+
+awaits-end_register-none : (b : Bool) (w : World) (f : ℕ) (a : Waker) (k : ℕ) → (task w f).notifying ≡ b →
+    awaiter_of w f ≡ None → f < length w.tasks → f < length w.awaiters →
+    KeepsAwaits w (op.Handle (handle_op.EndRegister f a k) ∷ []) (end_registered b None w f a k)
+awaits-end_register-none = by_bool _
+    (λ w f a k n e i j g r yy mm bb h. grind (arith, same_is, read_put, length-set, kept_put))
+    (λ w f a k n e i j g r yy mm bb h. grind (arith, same_is, read_put, length-set, kept_put))
+
+awaits-end_register-some : (b : Bool) (x : Waker) (m : ℕ) (w : World) (f : ℕ) (a : Waker) (k : ℕ) →
+    (task w f).notifying ≡ b → awaiter_of w f ≡ Some (record { waker = x; poll = m }) → f < length w.tasks →
+    f < length w.awaiters → KeepsAwaits w (op.Handle (handle_op.EndRegister f a k) ∷ [])
+    (end_registered b (Some (record { waker = x; poll = m })) w f a k)
+awaits-end_register-some = by_bool _
+    (by_waker _
+    (λ q m w f a k n e i j g r yy mm bb h. grind (arith, same_is, read_put, length-set, kept_put))
+    (λ q m w f a k n e i j g r yy mm bb h. grind (arith, same_is, read_put, length-set, kept_put)))
+    (by_waker _
+    (λ q m w f a k n e i j g r yy mm bb h. grind (arith, same_is, read_put, length-set, kept_put))
+    (λ q m w f a k n e i j g r yy mm bb h. grind (arith, same_is, read_put, length-set, kept_put)))
+
+awaits-end_register : (b : Bool) (old : Option Awaiter) (w : World) (f : ℕ) (a : Waker) (k : ℕ) →
+    (task w f).notifying ≡ b → awaiter_of w f ≡ old → f < length w.tasks → f < length w.awaiters →
+    KeepsAwaits w (op.Handle (handle_op.EndRegister f a k) ∷ []) (end_registered b old w f a k)
+awaits-end_register b None w f a k n e i j = awaits-end_register-none b w f a k n e i j
+awaits-end_register b (Some x) w f a k n e i j = awaits-end_register-some b x.waker x.poll w f a k n e i j
+
+pub awaits-notify : (b m : Bool) (w : World) (f : ℕ) → ((task w f).notifying || (task w f).registering) ≡ b →
+    f < length w.tasks → KeepsAwaits w (op.Handle (handle_op.Notify f m) ∷ []) (notify_by b w f m)
+awaits-notify = by_bool _
+    (λ m w f n i g r yy mm bb h. let z : ((task w f).notifying ≡ true) ⊎ ((task w f).registering ≡ true) =
+    grind (arith, nat_tests) in grind (arith, same_is, read_put, length-set))
+    (λ m w f n i g r yy mm bb h. let z : (task w f).notifying ≡ false = grind (arith, nat_tests) in
+    let q : (task w f).registering ≡ false = grind (arith, nat_tests) in grind (arith, same_is, read_put, length-set))
+
+awaits-end_notify-none : (b mine : Bool) (w : World) (f : ℕ) → awaiter_of w f ≡ None → f < length w.tasks →
+    f < length w.awaiters → KeepsAwaits w (op.Handle (handle_op.EndNotify f mine) ∷ []) (end_notified b None w f)
+awaits-end_notify-none = by_bool _
+    (λ mine w f e i j g r yy mm bb h. let z : kept_at (heard g w.trace).poll (awaiter_of w f) ≡ 0 =
+    ap (kept_at (heard g w.trace).poll) e in grind (arith, same_is, read_put, length-set, kept_put))
+    (λ mine w f e i j g r yy mm bb h. let z : kept_at (heard g w.trace).poll (awaiter_of w f) ≡ 0 =
+    ap (kept_at (heard g w.trace).poll) e in grind (arith, same_is, read_put, length-set, kept_put))
+
+awaits-end_notify-some : (b : Bool) (x : Waker) (m : ℕ) (mine : Bool) (w : World) (f : ℕ) → (b ≡ true → mine ≡ true) →
+    awaiter_of w f ≡ Some (record { waker = x; poll = m }) → f < length w.tasks → f < length w.awaiters →
+    KeepsAwaits w (op.Handle (handle_op.EndNotify f mine) ∷ [])
+    (end_notified b (Some (record { waker = x; poll = m })) w f)
+awaits-end_notify-some = by_bool _
+    (by_waker _
+    (λ q m mine w f n e i j g r yy mm bb h. let s : mine ≡ true = n refl in
+    let z : kept_at (heard g w.trace).poll (awaiter_of w f) ≡ same (heard g w.trace).poll m =
+    ap (kept_at (heard g w.trace).poll) e in grind (arith, same_is, read_put, length-set, kept_put))
+    (λ q m mine w f n e i j g r yy mm bb h. let s : mine ≡ true = n refl in
+    let z : kept_at (heard g w.trace).poll (awaiter_of w f) ≡ same (heard g w.trace).poll m =
+    ap (kept_at (heard g w.trace).poll) e in grind (arith, same_is, read_put, length-set, kept_put)))
+    (by_waker _
+    (λ q m mine w f n e i j g r yy mm bb h.
+    let z : kept_at (heard g w.trace).poll (awaiter_of w f) ≡ same (heard g w.trace).poll m =
+    ap (kept_at (heard g w.trace).poll) e in grind (arith, same_is, read_put, length-set, kept_put))
+    (λ q m mine w f n e i j g r yy mm bb h.
+    let z : kept_at (heard g w.trace).poll (awaiter_of w f) ≡ same (heard g w.trace).poll m =
+    ap (kept_at (heard g w.trace).poll) e in grind (arith, same_is, read_put, length-set, kept_put)))
+
+pub awaits-end_notify : (b : Bool) (old : Option Awaiter) (mine : Bool) (w : World) (f : ℕ) → (b ≡ true → mine ≡ true) →
+    awaiter_of w f ≡ old → f < length w.tasks → f < length w.awaiters →
+    KeepsAwaits w (op.Handle (handle_op.EndNotify f mine) ∷ []) (end_notified b old w f)
+awaits-end_notify b None mine w f n e i j = awaits-end_notify-none b mine w f e i j
+awaits-end_notify b (Some x) mine w f n e i j = awaits-end_notify-some b x.waker x.poll mine w f n e i j
+
+awaits-call_outside : (p : ℕ) (w : World) (f x k : ℕ) →
+    KeepsAwaits w (op.Waker (waker_op.CallAwaiter f (Outside x) k) ∷ []) (call_awaiter p w f (Outside x) k)
+awaits-call_outside p w f x k g r yy mm bb h = grind (arith, same_is, heard-push)
+
+-- the drop of the executor
+
+pub awaits-take_out : (ls ws : List ℕ) (w : World) → w.table ≡ ls →
+    KeepsAwaits w (op.Closing closing_op.TakeOut ∷ [])
+    (done (record w { table = w.leaving; leaving = w.table }) (closing_ops ls ws))
+awaits-take_out = by_list _
+    (by_list _
+    (λ w e g r yy mm bb h. grind arith)
+    (λ x ws w e g r yy mm bb h. grind arith))
+    (λ x ls ws w e g r yy mm bb h. grind arith)
+
+awaits-drop_next : (rest ws : List ℕ) (p : ℕ) (w : World) (f : ℕ) → w.leaving ≡ f ∷ rest →
+    KeepsAwaits w (op.Closing closing_op.DropNext ∷ [])
+    (done (log (record w { leaving = rest; waking = w.waking ++ f ∷ []; inside = slice_set w.inside f false })
+    (event.Dropped p f)) (op.User (user_op.Drop f) ∷ closing_ops rest ws))
+awaits-drop_next = by_list _
+    (by_list _
+    (λ p w f e g r yy mm bb h. grind (arith, same_is, times-append, heard-push))
+    (λ y ws p w f e g r yy mm bb h. grind (arith, same_is, times-append, heard-push)))
+    (λ y ls ws p w f e g r yy mm bb h. grind (arith, same_is, times-append, heard-push))
+
+-- the wake itself, without what the executor's drop does then
+awaits-wake_left : (o b c : Bool) (rest : List ℕ) (p : ℕ) (w : World) (f : ℕ) → w.waking ≡ f ∷ rest →
+    (moves.is_over (task w f) || (task w f).scheduled) ≡ b → (task w f).running ≡ c → f < length w.tasks →
+    KeepsAwaits w (op.Closing closing_op.WakeNext ∷ []) (woken_by o b c p (record w { waking = rest }) f)
+awaits-wake_left = by_bool _
+    (by_bool _
+    (λ c rest p w f y e q i g r yy mm bb h. let z : times g w.waking ≡ same g f + times g rest = ap (times g) y in
+    let k : IsMarked (task w f) = marked (task w f) e in grind (arith, same_is, read_put, length-set, heard-push))
+    (by_bool _
+    (λ rest p w f y e q i g r yy mm bb h. let z : times g w.waking ≡ same g f + times g rest = ap (times g) y in
+    grind (arith, same_is, read_put, length-set, heard-push))
+    (λ rest p w f y e q i g r yy mm bb h. let z : times g w.waking ≡ same g f + times g rest = ap (times g) y in
+    let k : IsUnmarked (task w f) = unmarked (task w f) e in
+    grind (arith, same_is, read_put, length-set, heard-push))))
+    (by_bool _
+    (λ c rest p w f y e q i g r yy mm bb h. let z : times g w.waking ≡ same g f + times g rest = ap (times g) y in
+    let k : IsMarked (task w f) = marked (task w f) e in grind (arith, same_is, read_put, length-set, heard-push))
+    (by_bool _
+    (λ rest p w f y e q i g r yy mm bb h. let z : times g w.waking ≡ same g f + times g rest = ap (times g) y in
+    grind (arith, same_is, read_put, length-set, heard-push))
+    (λ rest p w f y e q i g r yy mm bb h. let z : times g w.waking ≡ same g f + times g rest = ap (times g) y in
+    let k : IsUnmarked (task w f) = unmarked (task w f) e in
+    grind (arith, same_is, read_put, length-set, heard-push))))
+
+awaits-wake_next : (o b c : Bool) (rest : List ℕ) (p : ℕ) (w : World) (f : ℕ) → w.waking ≡ f ∷ rest →
+    (moves.is_over (task w f) || (task w f).scheduled) ≡ b → (task w f).running ≡ c → f < length w.tasks →
+    KeepsAwaits w (op.Closing closing_op.WakeNext ∷ []) (next_woken o b c rest p w f)
+awaits-wake_next o b c rest p w f y e q i g r yy mm bb h =
+    let d : Done = woken_by o b c p (record w { waking = rest }) f in
+    subst (λ (x : Pend × Awaiting). Awaits d.world g x.0 x.1 mm)
+    (λ j. (sym (with_ops-closing g d.next rest r) j, sym (with_awaiting-closing g d.next rest yy) j))
+    (awaits-wake_left o b c rest p w f y e q i g r yy mm bb h)
+
+pub awaits-close : (w : World) → KeepsAwaits w (op.Closing closing_op.Close ∷ []) (close w)
+awaits-close w g r yy mm bb h = grind arith
+
+pub awaits-drain : (q : List ℕ) (p : ℕ) (w : World) → w.queue.items ≡ q →
+    KeepsAwaits w (op.Closing closing_op.Drain ∷ []) (drain_by p w q)
+awaits-drain = by_list _
+    (λ p w e g r yy mm bb h. grind (arith, heard-push))
+    (λ f rest p w e g r yy mm bb h. let z : same g f + times g (drop 1 w.queue.items) ≡ times g w.queue.items =
+    times-drop g f rest w.queue.items e in grind (arith, same_is))
+
+-- the answers of user code
+pub awaits-pending : (p : ℕ) (w : World) (f : ℕ) →
+    KeepsAwaits w (op.User (user_op.Poll f) ∷ [])
+    (done (log w (event.Answered p f answer.Pending)) (op.Table (table_op.PutBack f) ∷ []))
+awaits-pending p w f g r yy mm bb h = grind (arith, same_is, heard-push)
+
+pub awaits-ready : (p : ℕ) (w : World) (f : ℕ) →
+    KeepsAwaits w (op.User (user_op.Poll f) ∷ [])
+    (done (log w (event.Answered p f answer.Ready)) (op.User (user_op.BeginDrop f) ∷ op.Move move.EndReady f ∷ []))
+awaits-ready p w f g r yy mm bb h = grind (arith, same_is, heard-push)
+
+pub awaits-end_register_by : (b : Bool) (w : World) (f : ℕ) (a : Waker) (k : ℕ) → (task w f).notifying ≡ b →
+    f < length w.tasks → f < length w.awaiters →
+    KeepsAwaits w (op.Handle (handle_op.EndRegister f a k) ∷ []) (end_register_by b w f a k)
+awaits-end_register_by true w f a k n i j = awaits-end_register true _ w f a k n refl i j
+awaits-end_register_by false w f a k n i j = awaits-end_register false _ w f a k n refl i j
+
+below : (n f : ℕ) → past n f ≡ 0 → f < n
+below n f e = grind (arith, past_is)
+
+pub both-true : (a b : Bool) → (a && b) ≡ true → a ≡ true
+both-true true b e = refl
+both-true false b e = absurd (cc)
+
+-- the op's own future is one
+pub own : (n f : ℕ) (o : Op) → past n f ≤ past_of n o → weigh (past_of n) (o ∷ []) ≡ 0 → f < n
+own n f o le e = below n f (omega (arith, le, e))
+
+pub awaits-wake_first : (p : ℕ) (w : World) (q : List ℕ) → w.waking ≡ q →
+    ((f : ℕ) (rest : List ℕ) → q ≡ f ∷ rest → f < length w.tasks) →
+    KeepsAwaits w (op.Closing closing_op.WakeNext ∷ []) (wake_next_by p w q)
+awaits-wake_first = λ p w. by_list _
+    (λ e i. λ g r yy mm bb h. grind arith)
+    (λ f rest e i. awaits-wake_next (moves.is_over (task w f)) _ _ rest p w f e refl refl (i f rest refl))
+
+pub awaits-drop_first : (p : ℕ) (w : World) (q : List ℕ) → w.leaving ≡ q →
+    KeepsAwaits w (op.Closing closing_op.DropNext ∷ []) (drop_next_by p w q)
+awaits-drop_first = λ p w. by_list _
+    (λ e. λ g r yy mm bb h. grind arith)
+    (λ f rest e. awaits-drop_next rest (w.waking ++ f ∷ []) p w f e)
+
+pub awaits-cancel : (b c : Bool) (p : ℕ) (w : World) (f : ℕ) → moves.is_over (task w f) ≡ b →
+    moves.is_going (task w f) ≡ c → f < length w.tasks →
+    KeepsAwaits w (op.Move move.Cancel f ∷ [])
+    (carried (log_if (not b) w (event.Cancelled p f)) f (moves.cancel_by b c (task w f)))
+awaits-cancel true c p w f e q i = awaits-cancel_over false p w f i
+awaits-cancel false true p w f e q i = awaits-cancel_going _ p w f refl q i
+awaits-cancel false false p w f e q i = awaits-cancel_idle _ p w f refl e q i
+
+abbrev pub is_answer : Option Answer → Bool
+is_answer (Some a) = true
+is_answer None = false
+
+pub awaits-look : (x k c : Bool) (p : ℕ) (w : World) (f : ℕ) (a : Waker) → (task w f).completed ≡ c →
+    f < length w.tasks → KeepsBy w (op.Handle (handle_op.Look f a) ∷ [])
+    (look_by (moves.poll_by x k c (task w f)).owed.answer p w f a (moves.poll_by x k c (task w f)))
+    (asks_if (is_answer (moves.poll_by x k c (task w f)).owed.answer) p f)
+awaits-look true true c p w f a e i = awaits-look_on w f a
+awaits-look true false c p w f a e i = awaits-look_closed p w f a i
+awaits-look false k false p w f a e i = awaits-look_on w f a
+awaits-look false k true p w f a e i = awaits-look_given _ p w f a e i
+
+pub awaits-again : (x k c : Bool) (p : ℕ) (w : World) (f : ℕ) → (task w f).closed ≡ x → moves.is_going (task w f) ≡ k →
+    (task w f).completed ≡ c → f < length w.tasks →
+    KeepsAwaits w (op.Handle (handle_op.LookAgain f) ∷ [])
+    (look_again_by (moves.look_again_by x k c (task w f)).owed.answer p w f (moves.look_again_by x k c (task w f)))
+awaits-again = by_bool _
+    (by_bool _
+    (λ c p w f x k e i. awaits-again_waits p w f
+    (let z : ((task w f).scheduled ≡ true) ⊎ ((task w f).running ≡ true) = grind (arith, nat_tests) in inl z) i)
+    (λ c p w f x k e i. awaits-again_closed p w f i))
+    (λ k. by_bool _
+    (λ p w f x q e i. awaits-again_given _ p w f e i)
+    (λ p w f x q e i. awaits-again_waits p w f (inr (x, e)) i))
+
+pub known_waker : (w : World) (a : Waker) (n : ℕ) → n + waker_past (length w.tasks) a ≡ 0 → IsKnownWaker w a
+known_waker w (Task k) n z = below _ k (omega (arith, z))
+known_waker w (Outside x) n z = tt
+
+pub awaits-call : (p : ℕ) (w : World) (f : ℕ) (a : Waker) (k : ℕ) →
+    past (length w.tasks) f + waker_past (length w.tasks) a ≡ 0 →
+    KeepsAwaits w (op.Waker (waker_op.CallAwaiter f a k) ∷ []) (call_awaiter p w f a k)
+awaits-call p w f (Task m) k z =
+    awaits-call_task (moves.is_over (task w m)) _ _ p f k w m refl refl (below _ m (omega (arith, z)))
+awaits-call p w f (Outside x) k z = awaits-call_outside p w f x k
+
+pub first_known : (w : World) → pasts (length w.tasks) w.waking ≡ 0 → (f : ℕ) (rest : List ℕ) → w.waking ≡ f ∷ rest →
+    f < length w.tasks
+first_known w u f rest e =
+    let z : past (length w.tasks) f + pasts (length w.tasks) rest ≡ 0 = sym (ap (pasts (length w.tasks)) e) ∙ u in
+    below _ f (omega (arith, z))

@@ -1,0 +1,296 @@
+-- Where the drop of the executor has begun and none of its steps is left, nobody is to be woken and the queue is empty.
+use Rattle.std.proofs.Common.{◌≡◌, ◌⊎◌, ℕ, suc, ◌+◌, ◌<◌, ◌≤◌, List, [], ◌∷◌, ◌++◌, length, set, get_or, drop}
+use Rattle.std.proofs.Common.{Bool, true, false, ◌&&◌, ◌||◌, not, refl, sym, ap, ◌∙◌, subst, inl, inr, ⊎_elim, arith}
+use Rattle.std.proofs.lemmas.List.{length-append}
+use Rattle.std.specs.Prelude.{Option, Some, None, reverse}
+use Rattle.runs_model.specs.declared.call.Call.{Call}
+use Rattle.runs_model.specs.declared.call.Call.TheVariants as call
+use Rattle.runs_model.specs.declared.call.Reply.{Reply}
+use Rattle.runs_model.specs.declared.event.Answer.TheVariants as answer
+use Rattle.runs_model.specs.declared.event.Event.TheVariants as event
+use Rattle.runs_model.specs.declared.op.Waker.{Waker}
+use Rattle.runs_model.specs.declared.op.Hold.{Hold}
+use Rattle.runs_model.specs.declared.op.Op.{Op}
+use Rattle.runs_model.specs.declared.op.RunOp.{RunOp}
+use Rattle.runs_model.specs.declared.op.RunPoll.{RunPoll}
+use Rattle.runs_model.specs.declared.op.Sleeper.{Sleeper}
+use Rattle.runs_model.specs.declared.op.Sleeper.TheVariants as sleeper
+use Rattle.runs_model.specs.declared.op.Sleeping.{Sleeping}
+use Rattle.runs_model.specs.declared.op.StealOp.{StealOp}
+use Rattle.runs_model.specs.declared.op.TickOp.TheVariants as tick_op
+use Rattle.runs_model.specs.declared.op.Op.TheVariants as op
+use Rattle.runs_model.specs.declared.op.ClosingOp.TheVariants as closing_op
+use Rattle.runs_model.specs.declared.op.QueueOp.TheVariants as queue_op
+use Rattle.runs_model.specs.declared.op.UserOp.TheVariants as user_op
+use Rattle.runs_model.specs.declared.step.Hint.{Hint}
+use Rattle.runs_model.specs.declared.step.Step.{Step}
+use Rattle.runs_model.specs.declared.step.UserEnd.{UserEnd}
+use Rattle.runs_model.specs.declared.step.UserEnd.TheVariants as end
+use Rattle.runs_model.specs.World.{World, Place, Up, Lies, Left, Done, done, log}
+use Rattle.runs_model.specs.Acts.{append_by, take_by}
+use Rattle.runs_model.specs.ActsOfSleepers.{search_by}
+use Rattle.runs_model.specs.Acts.{closing_ops, drop_next_by, wake, wake_next_by, close}
+use Rattle.runs_model.specs.Acts.{drain_by}
+use Rattle.runs_model.specs.ActsOfRuns.{search_own}
+use Rattle.runs_model.specs.Doing.{act, run_act, search_by_who, steal_act}
+use Rattle.runs_model.specs.Rows.{Row, ousting_of}
+use Rattle.runs_model.specs.Good.{Good}
+use Rattle.runs_model.specs.Steps.{Machine, stack, top, run, start, mine, is_free, has_all, is_on_executor}
+use Rattle.runs_model.specs.Steps.{is_drop, is_unborrowed, future_of, kept, with_future, accepts, begun, react}
+use Rattle.runs_model.proofs.Cases.{by_bool, by_list}
+use Rattle.runs_model.proofs.Lists.{weigh-append, weigh_all-push}
+use Rattle.runs_model.proofs.Lift.{split, unsettled, good-start, none_refused, open_executor, weigh_all-idle}
+use Rattle.runs_model.proofs.Ways.{Way, along}
+use Rattle.runs_model.proofs.Ways.Way.{acted, reacted, called}
+use Rattle.runs_model.proofs.RunsPlain.{plain-run, plain-steal}
+use Rattle.runs_model.proofs.RunsQueue.{Fewer, fewer-run, fewer-search, fewer-steal}
+use Rattle.runs_model.proofs.RunsWays.{by-run, by-search, by-steal}
+use Rattle.runs_model.proofs.AwaitedLists.{plain-act, plain-begun, plain-wake}
+use Rattle.runs_model.proofs.AwaitedSweeps.{KeepsSweeps, Kept, Lists, NoSteps, Sweeps, draining_of, dropping_of}
+use Rattle.runs_model.proofs.AwaitedSweeps.{is_sweeping, kept-moves, kept-own, kept-put, lists, no-act, no-self}
+use Rattle.runs_model.proofs.AwaitedSweeps.{no-steps, rousing_of, same-act, same-log_if, shutting_of, sweep}
+use Rattle.runs_model.proofs.AwaitedSweeps.{sweeps-still, with-none, with_sweep}
+
+-- the queue
+
+open-queue : (c l : Bool) → (not c && l) ≡ true → c ≡ false
+open-queue false l e = refl
+open-queue true l e = absurd (cc)
+
+sweeps-append : (b : Bool) (w : World) (f : ℕ) → (b ≡ true → w.queue.closed ≡ false) →
+    KeepsSweeps w (op.Queue (queue_op.Append f) ∷ []) (append_by b w f)
+sweeps-append = by_bool _
+    (λ w f c r h. let z : w.queue.closed ≡ false = c refl in grind (arith, length-append))
+    (λ w f c r h. grind arith)
+
+sweeps-take : (q : List ℕ) (w : World) → w.queue.items ≡ q → KeepsSweeps w (op.Queue queue_op.Take ∷ []) (take_by w q)
+sweeps-take = by_list _
+    (λ w e r h. grind arith)
+    (λ f rest w e r h. let z : suc (length (drop 1 w.queue.items)) ≡ length w.queue.items = rw e refl in grind arith)
+
+sweeps-search : (x : Place) (q : List ℕ) (w : World) (s : Sleeping) → w.queue.items ≡ q →
+    KeepsSweeps w (op.Tick (tick_op.Search s) ∷ []) (search_by x w q s)
+sweeps-search x [] w s e r h = grind arith
+sweeps-search Up (f ∷ rest) w s e r h =
+    let z : suc (length (drop 1 w.queue.items)) ≡ length w.queue.items = rw e refl in grind arith
+sweeps-search (Lies n) (f ∷ rest) w s e r h =
+    let z : suc (length (drop 1 w.queue.items)) ≡ length w.queue.items = rw e refl in grind arith
+sweeps-search Left (f ∷ rest) w s e r h =
+    let z : suc (length (drop 1 w.queue.items)) ≡ length w.queue.items = rw e refl in grind arith
+
+-- a run takes from the queue at most
+sweeps-less : (w : World) (o : Op) (d : Done) → Kept w (o ∷ []) d → Fewer w d.world → NoSteps (o ∷ []) →
+    NoSteps d.next → KeepsSweeps w (o ∷ []) d
+sweeps-less w o d k f a b r h =
+    let x : Sweeps (lists w) r = subst (Sweeps (lists w)) (with-none (o ∷ []) r a) h in
+    subst (Sweeps (lists d.world)) (sym (with-none d.next r b)) record {
+      one = x.one;
+      there = λ e. x.there (sym k.gone ∙ e);
+      leaves = λ e. omega (arith, x.leaves e, ap length k.leaving);
+      wakes = λ e. omega (arith, x.wakes e, ap length k.waking);
+      awake = λ e. ⊎_elim (λ (y : 1 ≤ r.outs + (r.drops + r.wakes)). inl y)
+          (λ (y : length w.waking ≡ 0). inr (ap length k.waking ∙ y)) (x.awake (sym k.gone ∙ e));
+      shut = λ e. ⊎_elim (λ (y : 1 ≤ r.outs + (r.drops + (r.wakes + r.shuts))). inl y)
+          (λ (y : w.queue.closed ≡ true). inr (f.closed ∙ y)) (x.shut (sym k.gone ∙ e));
+      drained = λ e. ⊎_elim (λ (y : 1 ≤ r.outs + (r.drops + (r.wakes + (r.shuts + r.drains)))). inl y)
+          (λ (y : length w.queue.items ≡ 0). inr (omega (arith, y, f.items))) (x.drained (sym k.gone ∙ e));
+    }
+
+sweeps-steal : (p : ℕ) (h : Hint) (o : StealOp) (w : World) → KeepsSweeps w (op.Steal o ∷ []) (steal_act p o w)
+sweeps-steal p h o w = sweeps-less w (op.Steal o) (steal_act p o w) (by-steal Kept kept-moves kept-put p o w)
+    (fewer-steal p o w) (omega (arith, ap (λ (x : Row). x.ousting) (plain-steal o)))
+    (no-steps _ (plain-act p h (op.Steal o) w refl))
+
+sweeps-run : (p : ℕ) (h : Hint) (o : RunOp) (w : World) → KeepsSweeps w (op.Run o ∷ []) (run_act p h o w)
+sweeps-run p h o w =
+    sweeps-less w (op.Run o) (run_act p h o w) (by-run Kept kept-moves kept-put p h o w (λ x e. kept-own p w x _))
+    (fewer-run p h o w) (omega (arith, ap (λ (x : Row). x.ousting) (plain-run o)))
+    (no-steps _ (plain-act p h (op.Run o) w refl))
+
+sweeps-search_who : (h : Hint) (who : Sleeper) (w : World) (s : Sleeping) → s.who ≡ who →
+    KeepsSweeps w (op.Tick (tick_op.Search s) ∷ []) (search_by_who who w s)
+sweeps-search_who h (sleeper.Tick t) w s e = sweeps-search _ _ w s refl
+sweeps-search_who h (sleeper.Run q) w s e =
+    let x : RunPoll = record { run = q; waker = s.waker; poll = s.poll } in
+    sweeps-less w (op.Tick (tick_op.Search s)) (search_own w x) (by-search Kept kept-moves kept-put w q s e)
+    (fewer-search w x) refl (no-steps _ (plain-act 0 h
+    (op.Tick (tick_op.Search (record s { who = sleeper.Run q }))) w refl))
+
+-- the steps of the executor's drop
+
+sweeps-take_out : (ls ws : List ℕ) (w : World) → w.table ≡ ls → w.waking ≡ ws →
+    KeepsSweeps w (op.Closing closing_op.TakeOut ∷ [])
+    (done (record w { table = w.leaving; leaving = w.table }) (closing_ops ls ws))
+sweeps-take_out = by_list _
+    (by_list _
+    (λ w e q r h. let z : length w.waking ≡ 0 = ap length q in grind arith)
+    (λ x ws w e q r h. let z : length w.waking ≡ suc (length ws) = ap length q in grind arith))
+    (λ x ls ws w e q r h. let z : length w.table ≡ suc (length ls) = ap length e in grind arith)
+
+sweeps-closing : (rest ws : List ℕ) (p : ℕ) (w : World) (f : ℕ) → 1 ≤ length ws → ws ≡ w.waking ++ f ∷ [] →
+    w.leaving ≡ f ∷ rest → KeepsSweeps w (op.Closing closing_op.DropNext ∷ [])
+    (done (log (record w { leaving = rest; waking = ws; inside = set w.inside f false }) (event.Dropped p f))
+    (op.User (user_op.Drop f) ∷ closing_ops rest ws))
+sweeps-closing = by_list _
+    (by_list _
+    (λ p w f n q e r h. absurd (omega (arith, n)))
+    (λ y ws p w f n q e r h. grind arith))
+    (λ y ls ws p w f n q e r h. grind arith)
+
+sweeps-drop_next : (p : ℕ) (w : World) (ls : List ℕ) → w.leaving ≡ ls →
+    KeepsSweeps w (op.Closing closing_op.DropNext ∷ []) (drop_next_by p w ls)
+sweeps-drop_next = λ p w. by_list _
+    (λ e r h. let z : length w.leaving ≡ 0 = ap length e in absurd (grind arith))
+    (λ f rest e r h. sweeps-closing rest (w.waking ++ f ∷ []) p w f (omega (arith, length-append w.waking (f ∷ [])))
+    refl e r h)
+
+sweeps-woken : (rest : List ℕ) (o : Bool) (p : ℕ) (w v : World) (f : ℕ) (next : List Op) → w.waking ≡ f ∷ rest →
+    lists (record w { waking = rest }) ≡ lists v → NoSteps next →
+    KeepsSweeps w (op.Closing closing_op.WakeNext ∷ []) (done v (next ++ closing_ops [] rest))
+sweeps-woken = by_list _
+    (λ o p w v f next e q n r h.
+    subst (λ (l : Lists). Sweeps l (with_sweep (next ++ op.Closing closing_op.Close ∷ []) r)) q
+    (let a : _ = weigh-append ousting_of next (op.Closing closing_op.Close ∷ []) in
+    let b : _ = weigh-append dropping_of next (op.Closing closing_op.Close ∷ []) in
+    let c : _ = weigh-append rousing_of next (op.Closing closing_op.Close ∷ []) in
+    let d : _ = weigh-append shutting_of next (op.Closing closing_op.Close ∷ []) in
+    let k : _ = weigh-append draining_of next (op.Closing closing_op.Close ∷ []) in grind arith))
+    (λ y ys o p w v f next e q n r h.
+    subst (λ (l : Lists). Sweeps l (with_sweep (next ++ op.Closing closing_op.WakeNext ∷ []) r)) q
+    (let a : _ = weigh-append ousting_of next (op.Closing closing_op.WakeNext ∷ []) in
+    let b : _ = weigh-append dropping_of next (op.Closing closing_op.WakeNext ∷ []) in
+    let c : _ = weigh-append rousing_of next (op.Closing closing_op.WakeNext ∷ []) in
+    let d : _ = weigh-append shutting_of next (op.Closing closing_op.WakeNext ∷ []) in
+    let k : _ = weigh-append draining_of next (op.Closing closing_op.WakeNext ∷ []) in grind arith))
+
+sweeps-wake_next : (p : ℕ) (w : World) (ws : List ℕ) → w.waking ≡ ws →
+    KeepsSweeps w (op.Closing closing_op.WakeNext ∷ []) (wake_next_by p w ws)
+sweeps-wake_next = λ p w. by_list _
+    (λ e r h. let z : length w.waking ≡ 0 = ap length e in absurd (grind arith))
+    (λ f rest e r h. sweeps-woken rest true p w (wake p (record w { waking = rest }) f).world f
+    (wake p (record w { waking = rest }) f).next e (same-log_if _ (record w { waking = rest }) (event.Woken p f))
+    (no-steps _ (plain-wake p (record w { waking = rest }) f)) r h)
+
+sweeps-close : (w : World) → KeepsSweeps w (op.Closing closing_op.Close ∷ []) (close w)
+sweeps-close w r h = grind arith
+
+sweeps-drain : (q : List ℕ) (p : ℕ) (w : World) → w.queue.items ≡ q →
+    KeepsSweeps w (op.Closing closing_op.Drain ∷ []) (drain_by p w q)
+sweeps-drain = by_list _
+    (λ p w e r h. let z : length w.queue.items ≡ 0 = ap length e in grind arith)
+    (λ f rest p w e r h. let z : suc (length (drop 1 w.queue.items)) ≡ length w.queue.items = rw e refl in grind arith)
+
+sweeps-act : (b : Bool) (p : ℕ) (h : Hint) (o : Op) (w : World) → is_sweeping o ≡ b →
+    KeepsSweeps w (o ∷ []) (act p h o w)
+sweeps-act false p h o w n = sweeps-still w (o ∷ []) (act p h o w) (same-act p h o w n) (no-self o n)
+    (no-act p h o w _ refl n)
+sweeps-act true p h (op.Queue queue_op.Take) w n = sweeps-take _ w refl
+sweeps-act true p h (op.Queue (queue_op.Append f)) w n = sweeps-append _ w f (open-queue w.queue.closed _)
+sweeps-act true p h (op.Tick (tick_op.Search s)) w n = sweeps-search_who h s.who w s refl
+sweeps-act true p h (op.Steal o) w n = sweeps-steal p h o w
+sweeps-act true p h (op.Run o) w n = sweeps-run p h o w
+sweeps-act true p h (op.Closing closing_op.TakeOut) w n = sweeps-take_out _ _ w refl refl
+sweeps-act true p h (op.Closing closing_op.DropNext) w n = sweeps-drop_next p w _ refl
+sweeps-act true p h (op.Closing closing_op.WakeNext) w n = sweeps-wake_next p w _ refl
+sweeps-act true p h (op.Closing closing_op.Close) w n = sweeps-close w
+sweeps-act true p h (op.Closing closing_op.Drain) w n = sweeps-drain _ p w refl
+sweeps-act true p h _ w n = absurd (cc)
+
+sweeps-react : (p : ℕ) (o : Op) (u : UserEnd) (w : World) → accepts o u ≡ true → KeepsSweeps w (o ∷ []) (react p o u w)
+sweeps-react p (op.User (user_op.Poll f)) (end.Polled answer.Pending) w a r h = h
+sweeps-react p (op.User (user_op.Poll f)) (end.Polled answer.Ready) w a r h = h
+sweeps-react p (op.User (user_op.Drop f)) end.Done w a r h = h
+sweeps-react p (op.User (user_op.DropOutput f)) end.Done w a r h = h
+sweeps-react p (op.User (user_op.CallOutside x)) end.Done w a r h = h
+sweeps-react p (op.User (user_op.PollOwn x)) (end.Polled answer.Pending) w a r h = h
+sweeps-react p (op.User (user_op.PollOwn x)) (end.Polled answer.Ready) w a r h = h
+sweeps-react p (op.User (user_op.DropOwn q)) end.Done w a r h = h
+sweeps-react p _ _ w a r h = absurd (cc)
+
+-- calls
+
+same-with : (w : World) (p : ℕ) (c : Call) (x : Option ℕ) (d : ℕ → Done) → ((f : ℕ) → lists w ≡ lists (d f).world) →
+    lists w ≡ lists (with_future (log w (event.CallBegun p c)) x d).world
+same-with w p c None d k = refl
+same-with w p c (Some f) d k = k f
+
+same-begun : (p : ℕ) (w : World) (here : Option Waker) (c : Call) → is_drop c ≡ false →
+    lists w ≡ lists (begun p (log w (event.CallBegun p c)) here c).world
+same-begun p w here (call.Wake k) n = same-with w p (call.Wake k) (kept w k) _ (λ f. refl)
+same-begun p w here (call.WakeByRef k) n = same-with w p (call.WakeByRef k) (kept w k) _ (λ f. refl)
+same-begun p w here (call.Copy k) n = same-with w p (call.Copy k) (kept w k) _ (λ f. refl)
+same-begun p w here (call.DropWaker k) n = same-with w p (call.DropWaker k) (kept w k) _ (λ f. refl)
+same-begun p w here call.Keep n = same-with w p call.Keep (future_of here) _ (λ f. refl)
+same-begun p w here call.WakeSelf n = same-with w p call.WakeSelf (future_of here) _ (λ f. refl)
+same-begun p w here call.DropExecutor n = absurd (cc)
+same-begun p w here _ n = refl
+
+sweeps-begun : (b : Bool) (p : ℕ) (w : World) (here : Option Waker) (c : Call) → is_drop c ≡ b →
+    not (w.gone && is_on_executor c) ≡ true → KeepsSweeps w [] (begun p (log w (event.CallBegun p c)) here c)
+sweeps-begun false p w here c n on =
+    sweeps-still w [] (begun p (log w (event.CallBegun p c)) here c) (same-begun p w here c n) refl
+    (no-steps _ (plain-begun p (log w (event.CallBegun p c)) here c n))
+sweeps-begun true p w here call.DropExecutor n on =
+    λ r h. let z : w.gone ≡ false = open_executor w call.DropExecutor refl on in grind arith
+sweeps-begun true p w here _ n on = absurd (cc)
+
+sweeps-way : (s : Machine) (p : ℕ) (old rest : List Op) (d : Done) → Way s p old rest d → KeepsSweeps s.world old d
+sweeps-way s p old rest d (acted h o q z) = rw z (rw q (sweeps-act _ p h o s.world refl))
+sweeps-way s p old rest d (reacted o u a q z) = rw z (rw q (sweeps-react p o u s.world a))
+sweeps-way s p old rest d (called c q r n z) =
+    let f : _ = none_refused (is_free (top (stack s p))) (has_all s.world s.parties (top (stack s p)) c)
+    (not (s.world.gone && is_on_executor c)) (not (is_drop c) || is_unborrowed s.world s.parties) n in
+    rw z (rw q (sweeps-begun _ p s.world (mine (top (stack s p))) c refl f.2))
+
+-- every step
+
+abbrev pub Swept : Machine → Type 0
+Swept s = Sweeps (lists s.world) (sweep s.parties)
+
+split-sweep : (ss : List (List Op)) (p : ℕ) (old rest : List Op) → p < length ss →
+    get_or ss p [] ≡ rest ++ reverse old → sweep ss ≡ with_sweep old (sweep (set ss p rest))
+split-sweep ss p old rest l e = λ i. record {
+  outs = split ousting_of ss p old rest l e i;
+  drops = split dropping_of ss p old rest l e i;
+  wakes = split rousing_of ss p old rest l e i;
+  shuts = split shutting_of ss p old rest l e i;
+  drains = split draining_of ss p old rest l e i;
+}
+
+push-sweep : (ss : List (List Op)) (p : ℕ) (rest next : List Op) → p < length ss →
+    sweep (set ss p (rest ++ reverse next)) ≡ with_sweep next (sweep (set ss p rest))
+push-sweep ss p rest next l = λ i. record {
+  outs = weigh_all-push ousting_of ss p rest next l i;
+  drops = weigh_all-push dropping_of ss p rest next l i;
+  wakes = weigh_all-push rousing_of ss p rest next l i;
+  shuts = weigh_all-push shutting_of ss p rest next l i;
+  drains = weigh_all-push draining_of ss p rest next l i;
+}
+
+swept-unsettled : (s : Machine) (p : ℕ) (old rest : List Op) (d : Done) → p < length s.parties →
+    stack s p ≡ rest ++ reverse old → KeepsSweeps s.world old d → Swept s → Swept (unsettled s p rest d)
+swept-unsettled s p old rest d l e k h = subst (Sweeps (lists d.world)) (sym (push-sweep s.parties p rest d.next l))
+    (k _ (subst (Sweeps (lists s.world)) (split-sweep s.parties p old rest l e) h))
+
+swept-moves : (s : Machine) (p : ℕ) (old rest : List Op) (d : Done) → Good s → p < length s.parties →
+    stack s p ≡ rest ++ reverse old → Way s p old rest d → Swept s → Swept (unsettled s p rest d)
+swept-moves s p old rest d good l e w h = swept-unsettled s p old rest d l e (sweeps-way s p old rest d w) h
+
+swept-ends : (s : Machine) (p : ℕ) (a : Reply) (held : Hold) (below : List Op) → p < length s.parties →
+    stack s p ≡ below ++ reverse (op.End a held ∷ []) → Swept s →
+    Swept (unsettled s p below (done (log s.world (event.CallEnded p a)) []))
+swept-ends s p a held below l e h =
+    swept-unsettled s p (op.End a held ∷ []) below (done (log s.world (event.CallEnded p a)) []) l e (λ r k. k) h
+
+swept-start : (limit n : ℕ) → Swept (start limit n)
+swept-start limit n = subst (Sweeps (lists (start limit n).world)) (sym (λ i. record {
+  outs = weigh_all-idle ousting_of n i;
+  drops = weigh_all-idle dropping_of n i;
+  wakes = weigh_all-idle rousing_of n i;
+  shuts = weigh_all-idle shutting_of n i;
+  drains = weigh_all-idle draining_of n i;
+})) (let q : Sweeps (lists (start limit 0).world) (record { outs = 0; drops = 0; wakes = 0; shuts = 0; drains = 0 }) =
+    grind arith in q)
+
+pub swept : (limit n : ℕ) (ts : List Step) → Swept (run ts (start limit n))
+swept limit n ts = along Swept swept-moves swept-ends ts (start limit n) (good-start limit n) (swept-start limit n)

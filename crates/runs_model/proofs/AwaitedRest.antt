@@ -1,0 +1,208 @@
+-- At a quiet trace the waker of the last poll of a handle was called, if that was answered that there is no output yet.
+use Rattle.std.proofs.Common.{◌≡◌, ◌⊎◌, ℕ, suc, ◌<◌, ◌≤◌, List, [], ◌∷◌, length}
+use Rattle.std.proofs.Common.{Bool, true, false, refl, sym, ap, ◌∙◌, subst, ⊎_elim, arith}
+use Rattle.std.proofs.lemmas.List.{get_or_past}
+use Rattle.runs_model.specs.declared.step.Step.{Step}
+use Rattle.runs_model.specs.Trace.{Trace, is_dropped}
+use Rattle.runs_model.specs.AwaiterKept.{since, IsOverWithHandle, AwaiterIsKept}
+use Rattle.runs_model.specs.World.{World, task, blank}
+use Rattle.runs_model.specs.Sound.{Sound, Pend, pend, queued, times, times_in, phase}
+use Rattle.runs_model.specs.Rows as rows
+use Rattle.runs_model.specs.Sound.Phase.{Over}
+use Rattle.runs_model.specs.Good.{Good}
+use Rattle.runs_model.specs.Weights.{past}
+use Rattle.runs_model.specs.Rows.{handling_of, borrowing_of, waiting_of, polls_of, ending_of, ready_of, settling_of}
+use Rattle.runs_model.specs.Rows.{giving_of, drops_of, releases_of, copies_of, ousting_of, leaves_of}
+use Rattle.runs_model.specs.Steps.{Machine, stack, run, start}
+use Rattle.runs_model.proofs.Cases.{by_bool}
+use Rattle.runs_model.proofs.Lists.{past_is}
+use Rattle.runs_model.proofs.Lift.{good}
+use Rattle.runs_model.proofs.Resting.{Deep, deep, rests, all-rest}
+use Rattle.runs_model.proofs.Stories.{story}
+use Rattle.runs_model.proofs.Telling.{fallen-counts, counted-there}
+use Rattle.runs_model.proofs.Leaving.{closing_of, waking_of, Extra, extra, Leaves}
+use Rattle.runs_model.proofs.LeavingRuns.{Placed, placed}
+use Rattle.runs_model.proofs.Awaited.{Heard, heard, Awaiting, awaiting, Awaits, Mark, looks_of, fresh_of}
+use Rattle.runs_model.proofs.Awaited.{storing_of, again_of, waits_of, over_of, notices_of, notifying_of}
+use Rattle.runs_model.proofs.Awaited.{mine_of, detaches_of, lending_of, strays_of, calls_of}
+use Rattle.runs_model.proofs.UsingSteps.{OwnEmptied, own-emptied}
+use Rattle.runs_model.proofs.AwaitedSweeps.{lists, Sweep, sweep, Sweeps, dropping_of}
+use Rattle.runs_model.proofs.AwaitedClosing.{Swept, swept}
+use Rattle.runs_model.proofs.AwaitedSweeps.{rousing_of, shutting_of, draining_of}
+use Rattle.runs_model.proofs.AwaitedCalls.{marked}
+use Rattle.runs_model.proofs.AwaitedRuns.{Waited, waited, nothing_pending, nothing_awaited}
+use Rattle.runs_model.proofs.AwaitedTelling.{parted-has, dropped-has, over-dropped, Begun}
+use Rattle.runs_model.proofs.AwaitedTelling.{begun-at, called-from, pending-at}
+
+abbrev nothing_more : Extra
+nothing_more = record { leaves = 0; closing = 0; waking = 0 }
+
+abbrev nothing_swept : Sweep
+nothing_swept = record { outs = 0; drops = 0; wakes = 0; shuts = 0; drains = 0 }
+
+no-times : (g : ℕ) (xs : List ℕ) → length xs ≡ 0 → times g xs ≡ 0
+no-times g [] e = refl
+no-times g (x ∷ xs) e = absurd (omega (arith, e))
+
+-- where nothing is left to do, a dropped future has no Runnable
+none-queued : (gone : Bool) (w : World) (g : ℕ) → w.gone ≡ gone → Leaves w g nothing_pending nothing_more →
+    Sweeps (lists w) nothing_swept → (w.gone ≡ true → times_in g w.own ≡ 0) → 1 ≤ (story g w.trace).fallen →
+    queued w g ≡ 0
+none-queued = by_bool _
+    (λ w g e l v o k. ⊎_elim (λ (x : 1 ≤ 0). absurd (omega (arith, x)))
+    (λ (x : length w.queue.items ≡ 0). omega (arith, no-times g w.queue.items x, o e)) (v.drained e))
+    (λ w g e l v o k. let z : _ = (past_is (length w.tasks) g).1 in grind arith)
+
+none-waking : (w : World) (g : ℕ) → Sweeps (lists w) nothing_swept → w.gone ≡ true → times g w.waking ≡ 0
+none-waking w g v e = ⊎_elim (λ (x : 1 ≤ 0). absurd (omega (arith, x)))
+    (λ (x : length w.waking ≡ 0). no-times g w.waking x) (v.awake e)
+
+-- it is settled
+settled : (gone : Bool) (w : World) (g : ℕ) (m : Mark) → w.gone ≡ gone → Sound w g nothing_pending →
+    Awaits w g nothing_pending nothing_awaited m → Sweeps (lists w) nothing_swept → (heard g w.trace).dropped ≡ true →
+    (task w g).scheduled ≡ false → (task w g).running ≡ false →
+    ((task w g).closed ≡ true) ⊎ ((task w g).completed ≡ true)
+settled = by_bool _
+    (λ w g m e h a v d s r. let z : times g w.waking ≡ 0 = none-waking w g v e in grind arith)
+    (λ w g m e h a v d s r. let z : phase g w.trace ≡ Over = over-dropped g w.trace d h.lawful in grind arith)
+
+not-scheduled : (b : Bool) (w : World) (g : ℕ) → (task w g).scheduled ≡ b → Sound w g nothing_pending →
+    queued w g ≡ 0 → b ≡ false
+not-scheduled false w g e h z = refl
+not-scheduled true w g e h z = absurd (omega (arith, h.owed e, z))
+
+not-running : (b : Bool) (w : World) (g : ℕ) → (task w g).running ≡ b → Sound w g nothing_pending → b ≡ false
+not-running false w g e h = refl
+not-running true w g e h = absurd (omega (arith, h.going e))
+
+-- a task that is settled is one
+blank-open : (w : World) (g : ℕ) → ((task w g).closed ≡ true) ⊎ ((task w g).completed ≡ true) → (length w.tasks ≤ g) → ⊥
+blank-open w g h l = let z : task w g ≡ blank = get_or_past w.tasks g blank l in grind arith
+
+known-task : (w : World) (g : ℕ) → ((task w g).closed ≡ true) ⊎ ((task w g).completed ≡ true) → g < length w.tasks
+known-task w g h = ⊎_elim (λ (x : (past (length w.tasks) g ≡ 0) × (g < length w.tasks)). x.1)
+    (λ (x : (past (length w.tasks) g ≡ 1) × (length w.tasks ≤ g)). absurd (blank-open w g h x.1))
+    (past_is (length w.tasks) g).1
+
+handle-there : (b : Bool) (w : World) (g : ℕ) (m : Mark) → (task w g).handle ≡ b →
+    Awaits w g nothing_pending nothing_awaited m → ((task w g).closed ≡ true) ⊎ ((task w g).completed ≡ true) →
+    (heard g w.trace).parted ≡ false → b ≡ true
+handle-there true w g m e a h n = refl
+handle-there false w g m e a h n = let no : true ≡ false = sym (a.parted (known-task w g h) e) ∙ n in absurd (cc)
+
+called-there : (w : World) (g : ℕ) (m : Mark) → Awaits w g nothing_pending nothing_awaited m →
+    (task w g).handle ≡ true → ((task w g).closed ≡ true) ⊎ ((task w g).completed ≡ true) →
+    (task w g).scheduled ≡ false → (task w g).running ≡ false → (heard g w.trace).pending ≡ true →
+    (heard g w.trace).called ≡ true
+called-there w g m a k h s r p = grind arith
+
+module _ (s : Machine) (fine : Good s) (h : Placed s) (d : Deep s) (v : Swept s) (x : Waited s) (e : OwnEmptied s)
+    (g : ℕ)
+    (over : IsOverWithHandle g s.world.trace) where
+  idle : (q : ℕ) → stack s q ≡ []
+  idle q = rests s d over.quiet q
+
+  is-nothing : pend g s.parties ≡ nothing_pending
+  is-nothing = λ i. record {
+    waiting = all-rest (waiting_of g) s.parties idle i;
+    polls = all-rest (polls_of g) s.parties idle i;
+    ending = all-rest (ending_of g) s.parties idle i;
+    ready = all-rest (ready_of g) s.parties idle i;
+    closing = all-rest (rows.closing_of g) s.parties idle i;
+    settling = all-rest (settling_of g) s.parties idle i;
+    giving = all-rest (giving_of g) s.parties idle i;
+    drops = all-rest (drops_of g) s.parties idle i;
+    releases = all-rest (releases_of g) s.parties idle i;
+    copies = all-rest (copies_of g) s.parties idle i;
+    borrowing = all-rest borrowing_of s.parties idle i;
+    ousting = all-rest ousting_of s.parties idle i;
+  }
+
+  is-no-more : extra g s.parties ≡ nothing_more
+  is-no-more =
+      λ i. record {
+        leaves = all-rest (leaves_of g) s.parties idle i;
+        closing = all-rest closing_of s.parties idle i;
+        waking = all-rest waking_of s.parties idle i;
+      }
+
+  is-swept : sweep s.parties ≡ nothing_swept
+  is-swept = λ i. record {
+    outs = all-rest ousting_of s.parties idle i;
+    drops = all-rest dropping_of s.parties idle i;
+    wakes = all-rest rousing_of s.parties idle i;
+    shuts = all-rest shutting_of s.parties idle i;
+    drains = all-rest draining_of s.parties idle i;
+  }
+
+  is-none-awaited : awaiting g s.parties ≡ nothing_awaited
+  is-none-awaited = λ i. record {
+    handling = all-rest (handling_of g) s.parties idle i;
+    looks = all-rest (looks_of g) s.parties idle i;
+    fresh = all-rest (fresh_of g) s.parties idle i;
+    storing = all-rest (storing_of g) s.parties idle i;
+    again = all-rest (again_of g) s.parties idle i;
+    waits = all-rest (waits_of g) s.parties idle i;
+    over = all-rest (over_of g) s.parties idle i;
+    notices = all-rest (notices_of g) s.parties idle i;
+    notifying = all-rest (notifying_of g) s.parties idle i;
+    mine = all-rest (mine_of g) s.parties idle i;
+    detaches = all-rest (detaches_of g) s.parties idle i;
+    lending = all-rest (lending_of g) s.parties idle i;
+    strays = λ k. all-rest (strays_of g k) s.parties idle i;
+    calls = λ k. all-rest (calls_of g k) s.parties idle i;
+  }
+
+  sound-here : Sound s.world g nothing_pending
+  sound-here = subst (Sound s.world g) is-nothing (fine.sound g)
+
+  leaves-here : Leaves s.world g nothing_pending nothing_more
+  leaves-here = subst (λ (y : Pend × Extra). Leaves s.world g y.0 y.1) (λ i. (is-nothing i, is-no-more i)) (h.leaves g)
+
+  awaits-here : Awaits s.world g nothing_pending nothing_awaited (marked s.world g nothing_awaited)
+  awaits-here = subst (λ (y : Pend × Awaiting). Awaits s.world g y.0 y.1 (marked s.world g y.1))
+      (λ i. (is-nothing i, is-none-awaited i)) (x.awaits g)
+
+  swept-here : Sweeps (lists s.world) nothing_swept
+  swept-here = subst (Sweeps (lists s.world)) is-swept v
+
+  dropped : (heard g s.world.trace).dropped ≡ true
+  dropped = dropped-has g s.world.trace ∙ over.dropped
+
+  kept : (heard g s.world.trace).parted ≡ false
+  kept = parted-has g s.world.trace ∙ over.handle
+
+  none-left : queued s.world g ≡ 0
+  none-left = none-queued s.world.gone s.world g refl leaves-here swept-here (λ k. e k g)
+      (omega (arith, fallen-counts g s.world.trace, counted-there (is_dropped g) s.world.trace over.dropped))
+
+  unscheduled : (task s.world g).scheduled ≡ false
+  unscheduled = not-scheduled (task s.world g).scheduled s.world g refl sound-here none-left
+
+  stopped : (task s.world g).running ≡ false
+  stopped = not-running (task s.world g).running s.world g refl sound-here
+
+  is-settled : ((task s.world g).closed ≡ true) ⊎ ((task s.world g).completed ≡ true)
+  is-settled = settled s.world.gone s.world g _ refl sound-here awaits-here swept-here dropped unscheduled stopped
+
+  pub called-at-rest : (heard g s.world.trace).pending ≡ true → (heard g s.world.trace).called ≡ true
+  called-at-rest = called-there s.world g _ awaits-here
+      (handle-there (task s.world g).handle s.world g _ refl awaits-here is-settled kept) is-settled unscheduled stopped
+
+-- as the definition has it
+kept-at-rest : (f : ℕ) (trace : Trace) →
+    (IsOverWithHandle f trace → (heard f trace).pending ≡ true → (heard f trace).called ≡ true) → AwaiterIsKept f trace
+kept-at-rest f trace k party poll over last =
+    let b : Begun f poll party trace = begun-at f poll party trace last.polled in
+    let p : (heard f trace).pending ≡ true = ap (λ (t : Heard). t.pending) b.all ∙ pending-at f (suc poll) party poll
+    b.before (since poll trace) last.last last.pending in
+    sym (called-from f (suc poll) poll
+    (record b.before { poll = poll; party = party; asking = true; inner = 0; pending = false; called = false })
+    (since poll trace) refl last.last) ∙ (sym (ap (λ (t : Heard). t.called) b.all) ∙ k over p)
+
+pub awaiter-is-kept : (limit parties : ℕ) (steps : List Step) (f : ℕ) →
+    AwaiterIsKept f (run steps (start limit parties)).world.trace
+awaiter-is-kept limit parties steps f =
+    kept-at-rest f _ (λ over. called-at-rest (run steps (start limit parties)) (good limit parties steps)
+    (placed limit parties steps) (deep limit parties steps) (swept limit parties steps) (waited limit parties steps)
+    (own-emptied limit parties steps) f over)

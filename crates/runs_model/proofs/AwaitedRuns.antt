@@ -1,0 +1,655 @@
+-- In each run the waker of who waits is stored, called or about to be called.
+use Rattle.std.proofs.Common.{◌≡◌, ◌≢◌, ◌⊎◌, ℕ, zero, suc, ◌+◌, ◌<◌, ◌≤◌, List, [], ◌∷◌, ◌++◌}
+use Rattle.std.proofs.Common.{length, set, get_or, Bool, true, false, ◌&&◌, ◌||◌, not, cond, eqb}
+use Rattle.std.proofs.Common.{refl, sym, ap, ◌∙◌, subst, inl, inr, ⊎_elim, arith}
+use Rattle.std.specs.Prelude.{reverse}
+use Rattle.runs_model.specs.declared.call.Call.{Call}
+use Rattle.runs_model.specs.declared.call.Call.TheVariants as call
+use Rattle.runs_model.specs.declared.call.Reply.{Reply}
+use Rattle.runs_model.specs.declared.call.Reply.TheVariants as reply
+use Rattle.runs_model.specs.declared.event.Answer.TheVariants as answer
+use Rattle.runs_model.specs.declared.event.Event.TheVariants as event
+use Rattle.runs_model.specs.declared.op.Hold.{Hold}
+use Rattle.runs_model.specs.declared.op.Hold.TheVariants as hold
+use Rattle.runs_model.specs.declared.op.Op.{Op}
+use Rattle.runs_model.specs.declared.op.Op.TheVariants as op
+use Rattle.runs_model.specs.declared.op.HandleOp.TheVariants as handle_op
+use Rattle.runs_model.specs.declared.op.UserOp.TheVariants as user_op
+use Rattle.runs_model.specs.declared.step.Hint.{Hint}
+use Rattle.runs_model.specs.declared.step.Step.{Step}
+use Rattle.runs_model.specs.declared.step.UserEnd.{UserEnd}
+use Rattle.runs_model.specs.declared.step.UserEnd.TheVariants as end
+use Rattle.runs_model.specs.World.{World, Done, done, log, task}
+use Rattle.runs_model.specs.Acts.{is_copy_refused}
+use Rattle.runs_model.specs.Doing.{act}
+use Rattle.runs_model.specs.Weights.{same, weigh, weigh_all, past}
+use Rattle.runs_model.specs.Sound.{Pend, pend, with_ops}
+use Rattle.runs_model.specs.Rows as rows
+use Rattle.runs_model.specs.Good.{Good}
+use Rattle.runs_model.specs.Rows.{handling_of, borrowing_of, waiting_of, polls_of, ending_of, ready_of, settling_of}
+use Rattle.runs_model.specs.Rows.{giving_of, drops_of, releases_of, copies_of, ousting_of, past_of}
+use Rattle.runs_model.specs.Steps.{Machine, stack, idle, run, start, mine, top, is_free, has_all, has_handle}
+use Rattle.runs_model.specs.Steps.{is_on_executor, is_drop, is_unborrowed, accepts, begun, react}
+use Rattle.task_moves.specs.Moves as moves
+use Rattle.runs_model.proofs.Lists.{same_is, same_cases, past_is, weigh-reverse, weigh_all-push}
+use Rattle.runs_model.proofs.Lift.{split, split-pend, push-pend, unsettled, good-start, none_refused}
+use Rattle.runs_model.proofs.Lift.{handle-known, first-true, unborrowed, weigh_all-idle, set-own}
+use Rattle.runs_model.proofs.Ways.{Way, along}
+use Rattle.runs_model.proofs.Ways.Way.{acted, reacted, called}
+use Rattle.runs_model.proofs.Telling.{same-cond, one-stray}
+use Rattle.runs_model.proofs.Calls.{calling_of, is_end, Passes, Answering, single, then}
+use Rattle.runs_model.proofs.CallsGroups.{calls-act}
+use Rattle.runs_model.proofs.Resting.{counts-answering, idle-stack, opens}
+use Rattle.runs_model.proofs.Awaited.{Heard, heard, heard-none, Awaiting, with_awaiting, awaiting}
+use Rattle.runs_model.proofs.Awaited.{Footing, Awaits, Mark, asks_if, looks_of, fresh_of, storing_of}
+use Rattle.runs_model.proofs.Awaited.{again_of, waits_of, over_of, notices_of, notifying_of, mine_of}
+use Rattle.runs_model.proofs.Awaited.{detaches_of, lending_of, strays_of, calls_of}
+use Rattle.runs_model.proofs.AwaitedActs.{is_answer}
+use Rattle.runs_model.proofs.AwaitedGroups.{awaits-act, awaits-react, asked}
+use Rattle.runs_model.proofs.AwaitedTies.{Tied, AllTied, tied-moves, tied-ends, tied-all}
+use Rattle.runs_model.proofs.AwaitedHeld.{asks_of, asks-weighs, asks-calling, open_of}
+use Rattle.runs_model.proofs.Holding.{nowhere, spot, spot-none, spot-more, seen, seen-append, seen-light}
+use Rattle.runs_model.proofs.Holding.{seen-passes, Spotted, Holds, held-step, held-asks}
+use Rattle.runs_model.proofs.AwaitedCalls.{begun_in, UsesHandle, awaits-begun, EndHeard}
+use Rattle.runs_model.proofs.AwaitedCalls.{heard-end, marked, Stages, awaits-end}
+use Rattle.runs_model.proofs.AwaitedCalls.EndHeard.{own, within, apart}
+use Rattle.runs_model.proofs.AwaitedTelling.{over-dropped}
+
+pub record Waited (s : Machine) : Type 0 where
+  pub awaits : (g : ℕ) → Awaits s.world g (pend g s.parties) (awaiting g s.parties)
+      (marked s.world g (awaiting g s.parties))
+  pub held : (g : ℕ) → Holds (asks_of g) (open_of (heard g s.world.trace)) s.parties
+  pub tied : AllTied s
+
+abbrev pub nothing_pending : Pend
+nothing_pending = record {
+  waiting = 0;
+  polls = 0;
+  ending = 0;
+  ready = 0;
+  closing = 0;
+  settling = 0;
+  giving = 0;
+  drops = 0;
+  releases = 0;
+  copies = 0;
+  borrowing = 0;
+  ousting = 0;
+}
+
+abbrev pub nothing_awaited : Awaiting
+nothing_awaited = record {
+  handling = 0;
+  looks = 0;
+  fresh = 0;
+  storing = 0;
+  again = 0;
+  waits = 0;
+  over = 0;
+  notices = 0;
+  notifying = 0;
+  mine = 0;
+  detaches = 0;
+  lending = 0;
+  strays = λ k. 0;
+  calls = λ k. 0;
+}
+
+-- what each stack weighs
+
+stages-one : (g : ℕ) (o : Op) →
+    looks_of g o + (fresh_of g o + (storing_of g o + (again_of g o + (waits_of g o + over_of g o)))) ≤ handling_of g o
+stages-one g (op.Handle (handle_op.Look f a)) = omega arith
+stages-one g (op.Handle (handle_op.CopyAwaiter f a)) = omega arith
+stages-one g (op.Handle (handle_op.Register f a k)) = omega arith
+stages-one g (op.Handle (handle_op.EndRegister f a k)) = omega arith
+stages-one g (op.Handle (handle_op.LookAgain f)) = omega arith
+stages-one g (op.End reply.Pending (hold.Handle f)) = omega arith
+stages-one g (op.End reply.Ready (hold.Handle f)) = omega arith
+stages-one g (op.End reply.Cancelled (hold.Handle f)) = omega arith
+stages-one g _ = omega arith
+
+stages-stack : (g : ℕ) (os : List Op) →
+    weigh (looks_of g) os + (weigh (fresh_of g) os
+    + (weigh (storing_of g) os + (weigh (again_of g) os + (weigh (waits_of g) os + weigh (over_of g) os))))
+    ≤ weigh (handling_of g) os
+stages-stack g [] = omega arith
+stages-stack g (o ∷ os) = omega (arith, stages-one g o, stages-stack g os)
+
+stages-all : (g : ℕ) (ss : List (List Op)) →
+    weigh_all (looks_of g) ss
+    + (weigh_all (fresh_of g) ss
+    + (weigh_all (storing_of g) ss
+    + (weigh_all (again_of g) ss + (weigh_all (waits_of g) ss + weigh_all (over_of g) ss))))
+    ≤ weigh_all (handling_of g) ss
+stages-all g [] = omega arith
+stages-all g (s ∷ ss) = omega (arith, stages-stack g s, stages-all g ss)
+
+few-one : (g k : ℕ) (o : Op) → strays_of g k o ≤ fresh_of g o + storing_of g o
+few-one g k (op.Handle (handle_op.Register f a l)) =
+    omega (arith, one-stray (eqb g f) (eqb k l) (same g f) (same-cond g f))
+few-one g k (op.Handle (handle_op.EndRegister f a l)) =
+    omega (arith, one-stray (eqb g f) (eqb k l) (same g f) (same-cond g f))
+few-one g k _ = omega arith
+
+few-stack : (g k : ℕ) (os : List Op) → weigh (strays_of g k) os ≤ weigh (fresh_of g) os + weigh (storing_of g) os
+few-stack g k [] = omega arith
+few-stack g k (o ∷ os) = omega (arith, few-one g k o, few-stack g k os)
+
+few-all : (g k : ℕ) (ss : List (List Op)) →
+    weigh_all (strays_of g k) ss ≤ weigh_all (fresh_of g) ss + weigh_all (storing_of g) ss
+few-all g k [] = omega arith
+few-all g k (s ∷ ss) = omega (arith, few-stack g k s, few-all g k ss)
+
+footing : (s : Machine) → Good s → AllTied s → (g : ℕ) → Footing s.world g (pend g s.parties) (awaiting g s.parties)
+footing s good tied g = record {
+  one = (good.sound g).one;
+  live = (good.sound g).live;
+  ends = (good.sound g).ends;
+  drop = (good.sound g).drop;
+  carries = (good.sound g).carries;
+  rests = (good.sound g).rests;
+  lent = (good.sound g).lent;
+  done = λ d. (good.sound g).over (over-dropped g s.world.trace d (good.sound g).lawful);
+  stages = stages-all g s.parties;
+  few = λ k. few-all g k s.parties;
+  tied = tied-all g s.parties (tied g);
+}
+
+split-awaiting : (g : ℕ) (ss : List (List Op)) (p : ℕ) (old rest : List Op) → p < length ss →
+    get_or ss p [] ≡ rest ++ reverse old → awaiting g ss ≡ with_awaiting g old (awaiting g (set ss p rest))
+split-awaiting g ss p old rest l e = λ i. record {
+  handling = split (handling_of g) ss p old rest l e i;
+  looks = split (looks_of g) ss p old rest l e i;
+  fresh = split (fresh_of g) ss p old rest l e i;
+  storing = split (storing_of g) ss p old rest l e i;
+  again = split (again_of g) ss p old rest l e i;
+  waits = split (waits_of g) ss p old rest l e i;
+  over = split (over_of g) ss p old rest l e i;
+  notices = split (notices_of g) ss p old rest l e i;
+  notifying = split (notifying_of g) ss p old rest l e i;
+  mine = split (mine_of g) ss p old rest l e i;
+  detaches = split (detaches_of g) ss p old rest l e i;
+  lending = split (lending_of g) ss p old rest l e i;
+  strays = λ k. split (strays_of g k) ss p old rest l e i;
+  calls = λ k. split (calls_of g k) ss p old rest l e i;
+}
+
+push-awaiting : (g : ℕ) (ss : List (List Op)) (p : ℕ) (rest next : List Op) → p < length ss →
+    awaiting g (set ss p (rest ++ reverse next)) ≡ with_awaiting g next (awaiting g (set ss p rest))
+push-awaiting g ss p rest next l = λ i. record {
+  handling = weigh_all-push (handling_of g) ss p rest next l i;
+  looks = weigh_all-push (looks_of g) ss p rest next l i;
+  fresh = weigh_all-push (fresh_of g) ss p rest next l i;
+  storing = weigh_all-push (storing_of g) ss p rest next l i;
+  again = weigh_all-push (again_of g) ss p rest next l i;
+  waits = weigh_all-push (waits_of g) ss p rest next l i;
+  over = weigh_all-push (over_of g) ss p rest next l i;
+  notices = weigh_all-push (notices_of g) ss p rest next l i;
+  notifying = weigh_all-push (notifying_of g) ss p rest next l i;
+  mine = weigh_all-push (mine_of g) ss p rest next l i;
+  detaches = weigh_all-push (detaches_of g) ss p rest next l i;
+  lending = weigh_all-push (lending_of g) ss p rest next l i;
+  strays = λ k. weigh_all-push (strays_of g k) ss p rest next l i;
+  calls = λ k. weigh_all-push (calls_of g k) ss p rest next l i;
+}
+
+-- the mark is what it is
+renew : (w : World) (g : ℕ) (p : Pend) (x : Awaiting) (m : Mark) → Awaits w g p x m → Awaits w g p x (marked w g x)
+renew w g p x m h =
+    record {
+      asking = refl;
+      party = refl;
+      inner = refl;
+      asks = refl;
+      single = h.single;
+      unlent = h.unlent;
+      unborn = h.unborn;
+      answered = h.answered;
+      comes = h.comes;
+      registers = h.registers;
+      registered = h.registered;
+      notifies = h.notifies;
+      notified = h.notified;
+      either = h.either;
+      covered = h.covered;
+      unsettled = h.unsettled;
+      over = h.over;
+      parts = h.parts;
+      parted = h.parted;
+    }
+
+-- a step of party p, by what it keeps of g and of its mark
+
+module _ (s : Machine) (p : ℕ) (old rest : List Op) (d : Done) (l : p < length s.parties)
+    (e : stack s p ≡ rest ++ reverse old) (h : Waited s) (g : ℕ) where
+  abbrev others : Pend
+  others = pend g (set s.parties p rest)
+
+  abbrev beside : Awaiting
+  beside = awaiting g (set s.parties p rest)
+
+  abbrev before : Mark
+  before = marked s.world g (with_awaiting g old beside)
+
+  footing-here : Good s → Footing s.world g (with_ops g old others) (with_awaiting g old beside)
+  footing-here good = subst (λ (x : Pend × Awaiting). Footing s.world g x.0 x.1)
+      (λ i. (split-pend g s.parties p old rest l e i, split-awaiting g s.parties p old rest l e i))
+      (footing s good h.tied g)
+
+  awaits-here : Awaits s.world g (with_ops g old others) (with_awaiting g old beside) before
+  awaits-here = subst (λ (x : Pend × Awaiting). Awaits s.world g x.0 x.1 (marked s.world g x.1))
+      (λ i. (split-pend g s.parties p old rest l e i, split-awaiting g s.parties p old rest l e i)) (h.awaits g)
+
+  stages-here : Stages (with_awaiting g old beside)
+  stages-here = subst Stages (split-awaiting g s.parties p old rest l e) (stages-all g s.parties)
+
+  awaits-pushed : (m : Mark) → Awaits d.world g (with_ops g d.next others) (with_awaiting g d.next beside) m →
+      Awaits d.world g (pend g (set s.parties p (rest ++ reverse d.next)))
+      (awaiting g (set s.parties p (rest ++ reverse d.next)))
+      (marked d.world g (awaiting g (set s.parties p (rest ++ reverse d.next))))
+  awaits-pushed m k = subst (λ (x : Pend × Awaiting). Awaits d.world g x.0 x.1 (marked d.world g x.1))
+      (sym
+      (let q : (
+        pend g (set s.parties p (rest ++ reverse d.next)),
+        awaiting g (set s.parties p (rest ++ reverse d.next)),
+      )
+      ≡ (with_ops g d.next others, with_awaiting g d.next beside) =
+      λ i. (push-pend g s.parties p rest d.next l i, push-awaiting g s.parties p rest d.next l i) in q))
+      (renew d.world g (with_ops g d.next others) (with_awaiting g d.next beside) m k)
+
+  -- the mark stays
+  held-same : (o : Op) → old ≡ o ∷ [] → Passes o d.next → (m : Mark) → m ≡ before →
+      Awaits d.world g (with_ops g d.next others) (with_awaiting g d.next beside) m →
+      Holds (asks_of g) (open_of (heard g d.world.trace)) (set s.parties p (rest ++ reverse d.next))
+  held-same o q c m u k =
+      let sums : weigh (asks_of g) d.next ≡ weigh (asks_of g) old =
+      omega (arith, k.asks, ap (λ (x : Mark). x.asks) u, asks-weighs g d.next, asks-weighs g old) in
+      let own : weigh (asks_of g) d.next ≡ asks_of g o =
+      sums ∙ (ap (weigh (asks_of g)) q ∙ (let z : asks_of g o + 0 ≡ asks_of g o = omega arith in z)) in
+      let inner : (heard g d.world.trace).inner ≡ (heard g s.world.trace).inner =
+      k.inner ∙ ap (λ (x : Mark). x.inner) u in
+      held-step (asks_of g) (asks-calling g) (open_of (heard g s.world.trace)) (open_of (heard g d.world.trace))
+      s.parties p old rest d.next l e
+      (λ b. sym (k.asking ∙ ap (λ (x : Mark). x.asking) u) ∙ b)
+      (k.party ∙ ap (λ (x : Mark). x.party) u)
+      (λ b n. inner)
+      (λ b n t. subst (λ (x : ℕ). Spotted x (seen (asks_of g) (seen (asks_of g) nowhere rest) (reverse d.next)))
+      (sym inner) (subst (Spotted (heard g s.world.trace).inner)
+      (ap (λ (os : List Op). seen (asks_of g) (seen (asks_of g) nowhere rest) (reverse os)) q
+      ∙ seen-passes (asks_of g) (asks-calling g) (seen (asks_of g) nowhere rest) o d.next c own) t))
+      (h.held g)
+
+  -- a poll begins
+  held-polled : (o : Op) → old ≡ o ∷ [] → calling_of o ≡ 1 → Passes o d.next → (m : Mark) → m.party ≡ p → m.inner ≡ 0 →
+      m.asks ≡ suc before.asks → Awaits d.world g (with_ops g d.next others) (with_awaiting g d.next beside) m →
+      Holds (asks_of g) (open_of (heard g d.world.trace)) (set s.parties p (rest ++ reverse d.next))
+  held-polled o q one c m a i n k =
+      held-asks (asks_of g) (asks-calling g) (open_of (heard g s.world.trace)) (open_of (heard g d.world.trace))
+      s.parties p old rest d.next l e (k.party ∙ a) (k.inner ∙ i) (c.one one)
+      (omega (arith, k.asks, n, asks-weighs g d.next))
+
+  -- a call of p begins
+  held-begun : old ≡ [] → Answering d.next →
+      Awaits d.world g (with_ops g d.next others) (with_awaiting g d.next beside) (begun_in p g before) →
+      Holds (asks_of g) (open_of (heard g d.world.trace)) (set s.parties p (rest ++ reverse d.next))
+  held-begun q a k =
+      let sums : weigh (asks_of g) (reverse d.next) ≡ 0 =
+      omega (
+        arith,
+        k.asks,
+        ap (weigh (asks_of g)) q,
+        asks-weighs g d.next,
+        asks-weighs g old,
+        weigh-reverse (asks_of g) d.next,
+      ) in
+      let one : weigh calling_of (reverse d.next) ≡ 1 =
+      omega (arith, counts-answering d.next a, weigh-reverse calling_of d.next) in
+      held-step (asks_of g) (asks-calling g) (open_of (heard g s.world.trace)) (open_of (heard g d.world.trace))
+      s.parties p old rest d.next l e
+      (λ b. sym k.asking ∙ b)
+      k.party
+      (λ b n. k.inner ∙ apart-inner (heard g s.world.trace).asking n)
+      (λ b n t.
+      let here : (heard g d.world.trace).inner ≡ (heard g s.world.trace).inner + 1 =
+      k.inner ∙ own-inner (heard g s.world.trace).asking (sym k.asking ∙ b) n in
+      let before_it : seen (asks_of g) (seen (asks_of g) nowhere rest) (reverse old) ≡ seen (asks_of g) nowhere rest =
+      ap (λ (os : List Op). seen (asks_of g) (seen (asks_of g) nowhere rest) (reverse os)) q in
+      let was : Spotted (heard g s.world.trace).inner (seen (asks_of g) nowhere rest) =
+      subst (Spotted (heard g s.world.trace).inner) before_it t in
+      subst (Spotted (heard g d.world.trace).inner)
+      (sym (seen-light (asks_of g) (seen (asks_of g) nowhere rest) (reverse d.next) sums))
+      (was.0, omega (arith, was.1, here, one)))
+      (h.held g)
+    where
+      apart-inner : (b : Bool) → (heard g s.world.trace).party ≢ p →
+          (heard g s.world.trace).inner + cond b (same (heard g s.world.trace).party p) 0
+          ≡ (heard g s.world.trace).inner
+      apart-inner false n = omega arith
+      apart-inner true n = ⊎_elim
+          (λ (x : (same (heard g s.world.trace).party p ≡ 1) × (eqb (heard g s.world.trace).party p ≡ true)
+          × ((heard g s.world.trace).party ≡ p)). absurd (n x.2))
+          (λ (x : (same (heard g s.world.trace).party p ≡ 0) × (eqb (heard g s.world.trace).party p ≡ false)
+          × ((heard g s.world.trace).party ≢ p)). omega (arith, x.0)) (same_cases (heard g s.world.trace).party p)
+
+      own-inner : (b : Bool) → b ≡ true → (heard g s.world.trace).party ≡ p →
+          (heard g s.world.trace).inner + cond b (same (heard g s.world.trace).party p) 0
+          ≡ (heard g s.world.trace).inner + 1
+      own-inner false x n = absurd (cc)
+      own-inner true x n = ⊎_elim
+          (λ (x : (same (heard g s.world.trace).party p ≡ 1) × (eqb (heard g s.world.trace).party p ≡ true)
+          × ((heard g s.world.trace).party ≡ p)). omega (arith, x.0))
+          (λ (x : (same (heard g s.world.trace).party p ≡ 0) × (eqb (heard g s.world.trace).party p ≡ false)
+          × ((heard g s.world.trace).party ≢ p)). absurd (x.2 n)) (same_cases (heard g s.world.trace).party p)
+
+-- what is done
+
+abbrev MarkStays : ℕ → Hint → Op → World → ℕ → Mark → Type 0
+MarkStays p t o w g m = (asked p t o w g m ≡ m)
+    ⊎ ((calling_of o ≡ 1) × ((asked p t o w g m).party ≡ p) × ((asked p t o w g m).inner ≡ 0)
+    × ((asked p t o w g m).asks ≡ suc m.asks))
+
+asks-is : (b : Bool) (p f g : ℕ) (m : Mark) →
+    (asks_if b p f g m ≡ m) ⊎ (((asks_if b p f g m).party ≡ p) × ((asks_if b p f g m).inner ≡ 0)
+    × ((asks_if b p f g m).asks ≡ suc m.asks))
+asks-is false p f g m = inl refl
+asks-is true p f g m = go (eqb g f)
+  where
+    go : (c : Bool) → let x : Mark = cond c (record { asking = true; party = p; inner = 0; asks = suc m.asks }) m in
+        (x ≡ m) ⊎ ((x.party ≡ p) × (x.inner ≡ 0) × (x.asks ≡ suc m.asks))
+    go true = inr (refl, refl, refl)
+    go false = inl refl
+
+asks-stays : (b : Bool) (p f g : ℕ) (o : Op) (m : Mark) → calling_of o ≡ 1 →
+    (asks_if b p f g m ≡ m) ⊎ ((calling_of o ≡ 1) × ((asks_if b p f g m).party ≡ p) × ((asks_if b p f g m).inner ≡ 0)
+    × ((asks_if b p f g m).asks ≡ suc m.asks))
+asks-stays b p f g o m c = ⊎_elim (λ x. inl x) (λ x. inr (c, x.0, x.1, x.2)) (asks-is b p f g m)
+
+mark-stays : (p : ℕ) (t : Hint) (o : Op) (w : World) (g : ℕ) (m : Mark) → MarkStays p t o w g m
+mark-stays p t (op.Handle (handle_op.Look f a)) w g m = asks-stays (is_answer (moves.poll (task w f)).owed.answer) p f g
+    (op.Handle (handle_op.Look f a)) m refl
+mark-stays p t (op.Handle (handle_op.CopyAwaiter f a)) w g m =
+    asks-stays (not (is_copy_refused t w a)) p f g (op.Handle (handle_op.CopyAwaiter f a)) m refl
+mark-stays p t _ w g m = inl refl
+
+waited-acted : (s : Machine) (p : ℕ) (rest : List Op) (t : Hint) (o : Op) → is_end o ≡ false → p < length s.parties →
+    stack s p ≡ rest ++ reverse (o ∷ []) → Good s → AllTied (unsettled s p rest (act p t o s.world)) → Waited s →
+    Waited (unsettled s p rest (act p t o s.world))
+waited-acted s p rest t o n l e good tied h = record {
+  awaits = λ g. awaits-pushed s p (o ∷ []) rest (act p t o s.world) l e h g
+      (asked p t o s.world g (before s p (o ∷ []) rest (act p t o s.world) l e h g)) (step g);
+  held = λ g. ⊎_elim
+      (λ (x : asked p t o s.world g (before s p (o ∷ []) rest (act p t o s.world) l e h g) ≡ before s p (o ∷ []) rest
+      (act p t o s.world) l e h g). held-same s p (o ∷ []) rest (act p t o s.world) l e h g o refl
+      (calls-act p t o s.world n).passes _ x (step g))
+      (λ (x : (calling_of o ≡ 1)
+      × ((asked p t o s.world g (before s p (o ∷ []) rest (act p t o s.world) l e h g)).party ≡ p)
+      × ((asked p t o s.world g (before s p (o ∷ []) rest (act p t o s.world) l e h g)).inner ≡ 0)
+      × ((asked p t o s.world g (before s p (o ∷ []) rest (act p t o s.world) l e h g)).asks
+      ≡ suc (before s p (o ∷ []) rest (act p t o s.world) l e h g).asks)). held-polled s p (o ∷ []) rest
+      (act p t o s.world) l e h g o refl x.0 (calls-act p t o s.world n).passes _ x.1 x.2 x.3 (step g))
+      (mark-stays p t o s.world g (before s p (o ∷ []) rest (act p t o s.world) l e h g));
+  tied = tied;
+}
+  where
+    known : weigh (past_of (length s.world.tasks)) (o ∷ []) ≡ 0
+    known = omega (arith, good.ops, split (past_of (length s.world.tasks)) s.parties p (o ∷ []) rest l e)
+
+    step : (g : ℕ) → Awaits (act p t o s.world).world g
+        (with_ops g (act p t o s.world).next (pend g (set s.parties p rest)))
+        (with_awaiting g (act p t o s.world).next (awaiting g (set s.parties p rest)))
+        (asked p t o s.world g (before s p (o ∷ []) rest (act p t o s.world) l e h g))
+    step g = awaits-act p t o s.world good.fits.awaiting good.fits.waking known n g _ _ _
+        (footing-here s p (o ∷ []) rest (act p t o s.world) l e h g good)
+        (awaits-here s p (o ∷ []) rest (act p t o s.world) l e h g)
+
+-- the end of user code
+
+passes-react : (p : ℕ) (o : Op) (u : UserEnd) (w : World) → accepts o u ≡ true → Passes o (react p o u w).next
+passes-react p (op.User (user_op.Poll f)) (end.Polled answer.Pending) w a =
+    record { none = λ z. refl; one = λ z. absurd (omega (arith, z)) }
+passes-react p (op.User (user_op.Poll f)) (end.Polled answer.Ready) w a =
+    record { none = λ z. refl; one = λ z. absurd (omega (arith, z)) }
+passes-react p (op.User (user_op.Drop f)) end.Done w a =
+    record { none = λ z. refl; one = λ z. absurd (omega (arith, z)) }
+passes-react p (op.User (user_op.DropOutput f)) end.Done w a =
+    record { none = λ z. refl; one = λ z. absurd (omega (arith, z)) }
+passes-react p (op.User (user_op.CallOutside x)) end.Done w a =
+    record { none = λ z. refl; one = λ z. absurd (omega (arith, z)) }
+passes-react p (op.User (user_op.PollOwn x)) (end.Polled answer.Pending) w a =
+    record { none = λ z. absurd (omega (arith, z)); one = λ z. single _ refl }
+passes-react p (op.User (user_op.PollOwn x)) (end.Polled answer.Ready) w a =
+    record { none = λ z. absurd (omega (arith, z)); one = λ z. then (op.User (user_op.DropOwn x.run) ∷ []) _ refl refl }
+passes-react p (op.User (user_op.DropOwn q)) end.Done w a =
+    record { none = λ z. refl; one = λ z. absurd (omega (arith, z)) }
+passes-react p _ _ w a = absurd (cc)
+
+waited-reacted : (s : Machine) (p : ℕ) (rest : List Op) (o : Op) (u : UserEnd) → accepts o u ≡ true →
+    p < length s.parties → stack s p ≡ rest ++ reverse (o ∷ []) → Good s →
+    AllTied (unsettled s p rest (react p o u s.world)) → Waited s → Waited (unsettled s p rest (react p o u s.world))
+waited-reacted s p rest o u a l e good tied h = record {
+  awaits = λ g. awaits-pushed s p (o ∷ []) rest (react p o u s.world) l e h g
+      (before s p (o ∷ []) rest (react p o u s.world) l e h g) (step g);
+  held = λ g. held-same s p (o ∷ []) rest (react p o u s.world) l e h g o refl (passes-react p o u s.world a) _ refl
+      (step g);
+  tied = tied;
+}
+  where
+    step : (g : ℕ) → Awaits (react p o u s.world).world g
+        (with_ops g (react p o u s.world).next (pend g (set s.parties p rest)))
+        (with_awaiting g (react p o u s.world).next (awaiting g (set s.parties p rest)))
+        (before s p (o ∷ []) rest (react p o u s.world) l e h g)
+    step g = awaits-react p o u s.world a g _ _ _ (footing-here s p (o ∷ []) rest (react p o u s.world) l e h g good)
+        (awaits-here s p (o ∷ []) rest (react p o u s.world) l e h g)
+
+-- the beginning of a call
+
+below : (n f : ℕ) → past n f ≡ 0 → f < n
+below n f e = grind (arith, past_is)
+
+at-once : (g f n m : ℕ) → n ≤ 1 → (g ≡ f → n ≡ 0) → same g f + n ≤ 1
+at-once g f n m le z = grind (arith, same_is)
+
+and-right : (a b : Bool) → (a && b) ≡ true → b ≡ true
+and-right true b e = e
+and-right false b e = absurd (cc)
+
+-- a handle that a call may use is there, and nothing uses it
+handle-free : (s : Machine) (p f : ℕ) (rest : List Op) (g : ℕ) → stack s p ≡ rest →
+    weigh_all (handling_of g) s.parties ≤ 1 →
+    weigh_all (handling_of g) (set s.parties p rest) ≡ weigh_all (handling_of g) s.parties →
+    has_handle s.world s.parties f ≡ true →
+    (f < length s.world.tasks) × (same g f + weigh_all (handling_of g) (set s.parties p rest) ≤ 1)
+handle-free s p f rest g e one q k = (
+  below _ f (handle-known s.world f (first-true _ _ k)),
+  at-once g f _ 0 (omega (arith, one, q))
+      (λ (z : g ≡ f). q ∙ (ap (λ (n : ℕ). weigh_all (handling_of n) s.parties) z ∙ unborrowed _ (and-right _ _ k))),
+)
+
+uses-handle : (s : Machine) (p : ℕ) (rest : List Op) (c : Call) (g : ℕ) → stack s p ≡ rest →
+    weigh_all (handling_of g) s.parties ≤ 1 →
+    weigh_all (handling_of g) (set s.parties p rest) ≡ weigh_all (handling_of g) s.parties →
+    has_all s.world s.parties (top (stack s p)) c ≡ true →
+    UsesHandle s.world g c (weigh_all (handling_of g) (set s.parties p rest))
+uses-handle s p rest (call.PollHandle f b) g e one q k = handle-free s p f rest g e one q (first-true _ _ k)
+uses-handle s p rest (call.Cancel f) g e one q k = handle-free s p f rest g e one q k
+uses-handle s p rest (call.Detach f) g e one q k = handle-free s p f rest g e one q k
+uses-handle s p rest (call.DropHandle f) g e one q k = handle-free s p f rest g e one q k
+uses-handle s p rest _ g e one q k = tt
+
+abbrev begun_done : Machine → ℕ → Call → Done
+begun_done s p c = begun p (log s.world (event.CallBegun p c)) (mine (top (stack s p))) c
+
+waited-begun : (s : Machine) (p : ℕ) (rest : List Op) (c : Call) →
+    has_all s.world s.parties (top (stack s p)) c ≡ true → p < length s.parties → rest ≡ stack s p →
+    stack s p ≡ rest ++ reverse [] → Good s → AllTied (unsettled s p rest (begun_done s p c)) → Waited s →
+    Waited (unsettled s p rest (begun_done s p c))
+waited-begun s p rest c k l r e good tied h = record {
+  awaits = λ g. awaits-pushed s p [] rest (begun_done s p c) l e h g
+      (begun_in p g (before s p [] rest (begun_done s p c) l e h g)) (step g);
+  held = λ g. held-begun s p [] rest (begun_done s p c) l e h g refl (opens p s.world s.parties (top (stack s p)) c k).1
+      (step g);
+  tied = tied;
+}
+  where
+    own_parties : set s.parties p rest ≡ s.parties
+    own_parties = ap (set s.parties p) r ∙ set-own s.parties p l
+
+    step : (g : ℕ) → Awaits (begun_done s p c).world g
+        (with_ops g (begun_done s p c).next (pend g (set s.parties p rest)))
+        (with_awaiting g (begun_done s p c).next (awaiting g (set s.parties p rest)))
+        (begun_in p g (before s p [] rest (begun_done s p c) l e h g))
+    step g = awaits-begun p s.world (mine (top (stack s p))) c g (pend g (set s.parties p rest))
+        (awaiting g (set s.parties p rest)) (before s p [] rest (begun_done s p c) l e h g)
+        (uses-handle s p rest c g (sym r) (h.awaits g).single (ap (weigh_all (handling_of g)) own_parties) k)
+        (footing-here s p [] rest (begun_done s p c) l e h g good) (awaits-here s p [] rest (begun_done s p c) l e h g)
+
+-- the end of a call
+
+module _ (s : Machine) (p : ℕ) (a : Reply) (held : Hold) (below_it : List Op) (l : p < length s.parties)
+    (e : stack s p ≡ below_it ++ reverse (op.End a held ∷ [])) (h : Waited s) (g : ℕ) where
+  abbrev ended : Done
+  ended = done (log s.world (event.CallEnded p a)) []
+
+  -- what is seen of the stack with the end on top
+  spotted : (heard g s.world.trace).asking ≡ true → (heard g s.world.trace).party ≡ p →
+      Spotted (heard g s.world.trace).inner (spot (asks_of g (op.End a held)) 1 (seen (asks_of g) nowhere below_it))
+  spotted x q = subst (Spotted (heard g s.world.trace).inner)
+      (ap (λ (n : ℕ). seen (asks_of g) nowhere (stack s n)) q
+      ∙ (ap (seen (asks_of g) nowhere) e ∙ seen-append (asks_of g) nowhere below_it (op.End a held ∷ [])))
+      (h.held g x)
+
+  ends-open : (heard g s.world.trace).asking ≡ true → (heard g s.world.trace).party ≡ p →
+      (heard g s.world.trace).inner ≡ 0 → 1 ≤ asks_of g (op.End a held)
+  ends-open x q z = go (asks_of g (op.End a held)) refl
+    where
+      go : (n : ℕ) → asks_of g (op.End a held) ≡ n → 1 ≤ asks_of g (op.End a held)
+      go (suc n) y = omega (arith, y)
+      go zero y = let t : Spotted (heard g s.world.trace).inner
+          (record (seen (asks_of g) nowhere below_it) { inner = 1 + (seen (asks_of g) nowhere below_it).inner }) =
+          subst (Spotted (heard g s.world.trace).inner)
+          (spot-none (asks_of g (op.End a held)) 1 (seen (asks_of g) nowhere below_it) y) (spotted x q) in
+          absurd (omega (arith, t.1, z))
+
+  ends-within : (n : ℕ) → (heard g s.world.trace).asking ≡ true → (heard g s.world.trace).party ≡ p →
+      (heard g s.world.trace).inner ≡ suc n → Spotted n (seen (asks_of g) nowhere below_it)
+  ends-within n x q z = go (asks_of g (op.End a held)) refl
+    where
+      go : (k : ℕ) → asks_of g (op.End a held) ≡ k → Spotted n (seen (asks_of g) nowhere below_it)
+      go zero y = let t : Spotted (heard g s.world.trace).inner
+          (record (seen (asks_of g) nowhere below_it) { inner = 1 + (seen (asks_of g) nowhere below_it).inner }) =
+          subst (Spotted (heard g s.world.trace).inner)
+          (spot-none (asks_of g (op.End a held)) 1 (seen (asks_of g) nowhere below_it) y) (spotted x q) in
+          (t.0, omega (arith, t.1, z))
+      go (suc k) y = let t : Spotted (heard g s.world.trace).inner (record { found = true; inner = 0 }) =
+          subst (Spotted (heard g s.world.trace).inner)
+          (spot-more (asks_of g (op.End a held)) 1 (seen (asks_of g) nowhere below_it) (omega (arith, y)))
+          (spotted x q) in absurd (omega (arith, t.1, z))
+
+  held-ended : EndHeard p a (heard g s.world.trace) (heard g (s.world.trace ++ event.CallEnded p a ∷ [])) →
+      Holds (asks_of g) (open_of (heard g (s.world.trace ++ event.CallEnded p a ∷ [])))
+      (set s.parties p (below_it ++ reverse []))
+  held-ended (own x q z y) = λ b. let no : false ≡ true = sym (ap (λ (t : Heard). t.asking) y) ∙ b in absurd (cc)
+  held-ended (within n x q z y) = held-step (asks_of g) (asks-calling g) (open_of (heard g s.world.trace))
+      (open_of (heard g (s.world.trace ++ event.CallEnded p a ∷ []))) s.parties p (op.End a held ∷ []) below_it [] l e
+      (λ b. x) (ap (λ (t : Heard). t.party) y) (λ b n. absurd (n q))
+      (λ b k t. subst (λ (m : ℕ). Spotted m (seen (asks_of g) nowhere below_it)) (sym (ap (λ (t : Heard). t.inner) y))
+      (ends-within n x q z)) (h.held g)
+  held-ended (apart x y) = held-step (asks_of g) (asks-calling g) (open_of (heard g s.world.trace))
+      (open_of (heard g (s.world.trace ++ event.CallEnded p a ∷ []))) s.parties p (op.End a held ∷ []) below_it [] l e
+      (λ b. sym (ap (λ (t : Heard). t.asking) y) ∙ b) (ap (λ (t : Heard). t.party) y)
+      (λ b n. ap (λ (t : Heard). t.inner) y) (λ b k t. absurd (x (sym (ap (λ (t : Heard). t.asking) y) ∙ b) k))
+      (h.held g)
+
+  awaits-ended : Awaits ended.world g (pend g (set s.parties p (below_it ++ reverse [])))
+      (awaiting g (set s.parties p (below_it ++ reverse [])))
+      (marked ended.world g (awaiting g (set s.parties p (below_it ++ reverse []))))
+  awaits-ended = awaits-pushed s p (op.End a held ∷ []) below_it ended l e h g _
+      (awaits-end s.world p a held g _ _ _ (heard-end g p a s.world.trace) ends-open
+      (stages-here s p (op.End a held ∷ []) below_it ended l e h g)
+      (awaits-here s p (op.End a held ∷ []) below_it ended l e h g))
+
+waited-ends : (s : Machine) (p : ℕ) (a : Reply) (held : Hold) (below_it : List Op) → p < length s.parties →
+    stack s p ≡ below_it ++ reverse (op.End a held ∷ []) → Waited s →
+    Waited (unsettled s p below_it (done (log s.world (event.CallEnded p a)) []))
+waited-ends s p a held below_it l e h = record {
+  awaits = λ g. awaits-ended s p a held below_it l e h g;
+  held = λ g. held-ended s p a held below_it l e h g (heard-end g p a s.world.trace);
+  tied = tied-ends s p a held below_it l e h.tied;
+}
+
+-- every step
+
+acted-by : (s : Machine) (p : ℕ) (rest : List Op) (t : Hint) (o : Op) (b : Bool) → is_end o ≡ b → p < length s.parties →
+    stack s p ≡ rest ++ reverse (o ∷ []) → Good s → AllTied (unsettled s p rest (act p t o s.world)) → Waited s →
+    Waited (unsettled s p rest (act p t o s.world))
+acted-by s p rest t o false n l e good tied h = waited-acted s p rest t o n l e good tied h
+acted-by s p rest t (op.End a held) true n l e good tied h = waited-ends s p a held rest l e h
+acted-by s p rest t _ true n l e good tied h = absurd (cc)
+
+waited-way : (s : Machine) (p : ℕ) (old rest : List Op) (d : Done) → Good s → p < length s.parties →
+    stack s p ≡ rest ++ reverse old → Way s p old rest d → AllTied (unsettled s p rest d) → Waited s →
+    Waited (unsettled s p rest d)
+waited-way s p old rest d good l e (acted t o q z) tied h =
+    rw z (acted-by s p rest t o (is_end o) refl l (subst (λ (os : List Op). stack s p ≡ rest ++ reverse os) q e) good
+    (subst (λ (x : Done). AllTied (unsettled s p rest x)) z tied) h)
+waited-way s p old rest d good l e (reacted o u a q z) tied h =
+    rw z (waited-reacted s p rest o u a l (subst (λ (os : List Op). stack s p ≡ rest ++ reverse os) q e) good
+    (subst (λ (x : Done). AllTied (unsettled s p rest x)) z tied) h)
+waited-way s p old rest d good l e (called c q r n z) tied h =
+    let f : _ = none_refused (is_free (top (stack s p))) (has_all s.world s.parties (top (stack s p)) c)
+    (not (s.world.gone && is_on_executor c)) (not (is_drop c) || is_unborrowed s.world s.parties) n in
+    rw z (waited-begun s p rest c f.1 l r (subst (λ (os : List Op). stack s p ≡ rest ++ reverse os) q e) good
+    (subst (λ (x : Done). AllTied (unsettled s p rest x)) z tied) h)
+
+waited-moves : (s : Machine) (p : ℕ) (old rest : List Op) (d : Done) → Good s → p < length s.parties →
+    stack s p ≡ rest ++ reverse old → Way s p old rest d → Waited s → Waited (unsettled s p rest d)
+waited-moves s p old rest d good l e w h = waited-way s p old rest d good l e w (tied-moves s p old rest d l e w h.tied)
+    h
+
+waited-start : (limit n : ℕ) → Waited (start limit n)
+waited-start limit n = record {
+  awaits = λ g. subst (λ (x : Pend × Awaiting). Awaits (start limit n).world g x.0 x.1
+      (marked (start limit n).world g x.1))
+      (sym (let q : (pend g (idle n), awaiting g (idle n)) ≡ (nothing_pending, nothing_awaited) = λ i. (
+        record {
+          waiting = weigh_all-idle (waiting_of g) n i;
+          polls = weigh_all-idle (polls_of g) n i;
+          ending = weigh_all-idle (ending_of g) n i;
+          ready = weigh_all-idle (ready_of g) n i;
+          closing = weigh_all-idle (rows.closing_of g) n i;
+          settling = weigh_all-idle (settling_of g) n i;
+          giving = weigh_all-idle (giving_of g) n i;
+          drops = weigh_all-idle (drops_of g) n i;
+          releases = weigh_all-idle (releases_of g) n i;
+          copies = weigh_all-idle (copies_of g) n i;
+          borrowing = weigh_all-idle borrowing_of n i;
+          ousting = weigh_all-idle ousting_of n i;
+        },
+        record {
+          handling = weigh_all-idle (handling_of g) n i;
+          looks = weigh_all-idle (looks_of g) n i;
+          fresh = weigh_all-idle (fresh_of g) n i;
+          storing = weigh_all-idle (storing_of g) n i;
+          again = weigh_all-idle (again_of g) n i;
+          waits = weigh_all-idle (waits_of g) n i;
+          over = weigh_all-idle (over_of g) n i;
+          notices = weigh_all-idle (notices_of g) n i;
+          notifying = weigh_all-idle (notifying_of g) n i;
+          mine = weigh_all-idle (mine_of g) n i;
+          detaches = weigh_all-idle (detaches_of g) n i;
+          lending = weigh_all-idle (lending_of g) n i;
+          strays = λ k. weigh_all-idle (strays_of g k) n i;
+          calls = λ k. weigh_all-idle (calls_of g k) n i;
+        },
+      ) in q)) (none_awaited limit g);
+  held = λ g b. let no : false ≡ true = sym (ap (λ (t : Heard). t.asking) (heard-none g)) ∙ b in absurd (cc);
+  tied = λ g q. subst (Tied g 0) (sym (idle-stack n q)) tt;
+}
+  where
+    none_awaited : (limit g : ℕ) →
+        Awaits (start limit 0).world g nothing_pending nothing_awaited (marked (start limit 0).world g nothing_awaited)
+    none_awaited limit g = grind (arith, heard-none)
+
+pub waited : (limit n : ℕ) (ts : List Step) → Waited (run ts (start limit n))
+waited limit n ts = along Waited waited-moves waited-ends ts (start limit n) (good-start limit n) (waited-start limit n)

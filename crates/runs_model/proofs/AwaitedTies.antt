@@ -1,0 +1,195 @@
+-- What a poll of the handle has itself to notify stands right before the end of that poll, which has an answer by then.
+use Rattle.std.proofs.Common.{◌≡◌, ◌≢◌, ◌⊎◌, ℕ, suc, ◌+◌, ◌<◌, ◌≤◌, List, [], ◌∷◌, ◌++◌, length}
+use Rattle.std.proofs.Common.{set, get_or, Bool, true, false, eqb, refl, sym, subst, inl, inr}
+use Rattle.std.proofs.Common.{⊎_elim, arith, get_or-set_same, get_or-set_other}
+use Rattle.std.specs.Prelude.{Option, reverse}
+use Rattle.task_moves.specs.Moves as moves
+use Rattle.runs_model.specs.declared.call.Reply.{Reply}
+use Rattle.runs_model.specs.declared.call.Reply.TheVariants as reply
+use Rattle.runs_model.specs.declared.event.Event.TheVariants as event
+use Rattle.runs_model.specs.declared.call.Call.{Call}
+use Rattle.runs_model.specs.declared.call.Call.TheVariants as call
+use Rattle.runs_model.specs.declared.op.Hold.{Hold}
+use Rattle.runs_model.specs.declared.op.Hold.TheVariants as hold
+use Rattle.runs_model.specs.declared.op.Waker.{Waker}
+use Rattle.runs_model.specs.declared.op.Op.{Op}
+use Rattle.runs_model.specs.declared.op.Op.TheVariants as op
+use Rattle.runs_model.specs.declared.op.ClosingOp.TheVariants as closing_op
+use Rattle.runs_model.specs.declared.op.HandleOp.TheVariants as handle_op
+use Rattle.runs_model.specs.declared.step.Hint.{Hint}
+use Rattle.runs_model.specs.World.{World, Done, done, task, log}
+use Rattle.runs_model.specs.Carried.{awaiter_ops}
+use Rattle.runs_model.specs.Acts.{look_by, look_again_by, notify_by, closing_ops}
+use Rattle.runs_model.specs.Acts.{drop_next_by, wake, wake_next_by, drain_by}
+use Rattle.runs_model.specs.Doing.{act}
+use Rattle.runs_model.specs.Weights.{same, weigh, weigh_all}
+use Rattle.runs_model.specs.Steps.{Machine, stack, begun, is_drop}
+use Rattle.runs_model.proofs.Lists.{same_cases, weigh-append, weigh-reverse}
+use Rattle.runs_model.proofs.Lift.{unsettled}
+use Rattle.runs_model.proofs.Awaited.{mine_of, over_of}
+use Rattle.runs_model.proofs.AwaitedLists.{rough_of, is_special, plain-act, plain-wake, plain-react, plain-begun}
+use Rattle.runs_model.proofs.Ways.{Way}
+use Rattle.runs_model.proofs.Ways.Way.{acted, reacted, called}
+
+abbrev pub Tied : ℕ → ℕ → List Op → Type 0
+Tied g below [] = Unit {0}
+Tied g below (o ∷ os) = (mine_of g o ≤ below) × Tied g (over_of g o) os
+
+pub record Ties (g : ℕ) (old next : List Op) : Type 0 where
+  pub keeps : (below : ℕ) → Tied g below (reverse old) → Tied g below (reverse next)
+
+tied-light : (g below : ℕ) (os : List Op) → weigh (mine_of g) os ≡ 0 → Tied g below os
+tied-light g below [] z = tt
+tied-light g below (o ∷ os) z = (omega (arith, z), tied-light g (over_of g o) os (omega (arith, z)))
+
+ties-light : (g : ℕ) (old next : List Op) → weigh (mine_of g) next ≡ 0 → Ties g old next
+ties-light g old next z =
+    record { keeps = λ below h. tied-light g below (reverse next) (omega (arith, weigh-reverse (mine_of g) next, z)) }
+
+none-mine : (g : ℕ) (o : Op) → rough_of o ≡ 0 → mine_of g o ≡ 0
+none-mine g (op.Handle (handle_op.Notify f true)) z = absurd (omega (arith, z))
+none-mine g (op.Handle (handle_op.Notify f false)) z = refl
+none-mine g (op.Handle (handle_op.EndNotify f true)) z = absurd (omega (arith, z))
+none-mine g (op.Handle (handle_op.EndNotify f false)) z = refl
+none-mine g _ z = refl
+
+pub none-mine-all : (g : ℕ) (os : List Op) → weigh rough_of os ≡ 0 → weigh (mine_of g) os ≡ 0
+none-mine-all g [] z = refl
+none-mine-all g (o ∷ os) z = omega (arith, none-mine g o (omega (arith, z)), none-mine-all g os (omega (arith, z)))
+
+-- the poll that is answered and notifies
+ties-ready : (g f : ℕ) (old : List Op) →
+    Ties g old (op.Handle (handle_op.Notify f true) ∷ op.End reply.Ready (hold.Handle f) ∷ [])
+ties-ready g f old = record { keeps = λ below h. (omega arith, (omega arith, tt)) }
+
+ties-cancelled : (g f : ℕ) (old : List Op) →
+    Ties g old (op.Handle (handle_op.Notify f true) ∷ op.End reply.Cancelled (hold.Handle f) ∷ [])
+ties-cancelled g f old = record { keeps = λ below h. (omega arith, (omega arith, tt)) }
+
+ties-given : (a : Bool) (g f : ℕ) (old : List Op) →
+    Ties g old (awaiter_ops f (moves.notify_other_if a) ++ op.End reply.Ready (hold.Handle f) ∷ [])
+ties-given true g f old = ties-ready g f old
+ties-given false g f old = ties-light g old _ refl
+
+ties-look : (x k c : Bool) (g p : ℕ) (w : World) (f : ℕ) (a : Waker) →
+    Ties g (op.Handle (handle_op.Look f a) ∷ [])
+    (look_by (moves.poll_by x k c (task w f)).owed.answer p w f a (moves.poll_by x k c (task w f))).next
+ties-look true true c g p w f a = ties-light g _ _ refl
+ties-look true false c g p w f a = ties-cancelled g f _
+ties-look false k false g p w f a = ties-light g _ _ refl
+ties-look false k true g p w f a = ties-given (task w f).awaiter g f _
+
+ties-again : (x k c : Bool) (g p : ℕ) (w : World) (f : ℕ) →
+    Ties g (op.Handle (handle_op.LookAgain f) ∷ [])
+    (look_again_by (moves.look_again_by x k c (task w f)).owed.answer p w f (moves.look_again_by x k c (task w f))).next
+ties-again true true c g p w f = ties-light g _ _ refl
+ties-again true false c g p w f = ties-cancelled g f _
+ties-again false k false g p w f = ties-light g _ _ refl
+ties-again false k true g p w f = ties-given (task w f).awaiter g f _
+
+ties-notify : (b mine : Bool) (g : ℕ) (w : World) (f : ℕ) →
+    Ties g (op.Handle (handle_op.Notify f mine) ∷ []) (notify_by b w f mine).next
+ties-notify true mine g w f = ties-light g _ _ refl
+ties-notify false true g w f = record { keeps = λ below h. h }
+ties-notify false false g w f = record { keeps = λ below h. h }
+
+none-closing : (g : ℕ) (ls ws : List ℕ) → weigh (mine_of g) (closing_ops ls ws) ≡ 0
+none-closing g [] [] = refl
+none-closing g [] (x ∷ ws) = refl
+none-closing g (x ∷ ls) ws = refl
+
+ties-drop_next : (g p : ℕ) (w : World) (ls : List ℕ) →
+    Ties g (op.Closing closing_op.DropNext ∷ []) (drop_next_by p w ls).next
+ties-drop_next g p w [] = ties-light g _ _ refl
+ties-drop_next g p w (f ∷ rest) = ties-light g _ _ (omega (arith, none-closing g rest (w.waking ++ f ∷ [])))
+
+ties-wake_next : (g p : ℕ) (w : World) (ws : List ℕ) →
+    Ties g (op.Closing closing_op.WakeNext ∷ []) (wake_next_by p w ws).next
+ties-wake_next g p w [] = ties-light g _ _ refl
+ties-wake_next g p w (f ∷ rest) =
+    ties-light g _ _
+    (omega (
+      arith,
+      weigh-append (mine_of g) (wake p (record w { waking = rest }) f).next (closing_ops [] rest),
+      none-mine-all g _ (plain-wake p (record w { waking = rest }) f),
+      none-closing g [] rest,
+    ))
+
+ties-drain : (g p : ℕ) (w : World) (q : List ℕ) → Ties g (op.Closing closing_op.Drain ∷ []) (drain_by p w q).next
+ties-drain g p w [] = ties-light g _ _ refl
+ties-drain g p w (f ∷ rest) = ties-light g _ _ refl
+
+ties-act : (b : Bool) (g p : ℕ) (h : Hint) (o : Op) (w : World) → is_special o ≡ b → Ties g (o ∷ []) (act p h o w).next
+ties-act false g p h o w n = ties-light g _ _ (none-mine-all g _ (plain-act p h o w n))
+ties-act true g p h (op.Handle (handle_op.Look f a)) w n = ties-look _ _ _ g p w f a
+ties-act true g p h (op.Handle (handle_op.LookAgain f)) w n = ties-again _ _ _ g p w f
+ties-act true g p h (op.Handle (handle_op.Notify f mine)) w n = ties-notify _ mine g w f
+ties-act true g p h (op.Closing closing_op.TakeOut) w n = ties-light g _ _ (none-closing g w.table w.waking)
+ties-act true g p h (op.Closing closing_op.DropNext) w n = ties-drop_next g p w w.leaving
+ties-act true g p h (op.Closing closing_op.WakeNext) w n = ties-wake_next g p w w.waking
+ties-act true g p h (op.Closing closing_op.Close) w n = ties-light g _ _ refl
+ties-act true g p h (op.Closing closing_op.Drain) w n = ties-drain g p w w.queue.items
+ties-act true g p h _ w n = absurd (cc)
+
+ties-begun : (b : Bool) (g p : ℕ) (w : World) (here : Option Waker) (c : Call) → is_drop c ≡ b →
+    Ties g [] (begun p w here c).next
+ties-begun false g p w here c n = ties-light g _ _ (none-mine-all g _ (plain-begun p w here c n))
+ties-begun true g p w here call.DropExecutor n = ties-light g _ _ refl
+ties-begun true g p w here _ n = absurd (cc)
+
+ties-way : (g : ℕ) (s : Machine) (p : ℕ) (old rest : List Op) (d : Done) → Way s p old rest d → Ties g old d.next
+ties-way g s p old rest d (acted h o q z) = rw z (rw q (ties-act _ g p h o s.world refl))
+ties-way g s p old rest d (reacted o u a q z) =
+    rw z (rw q (ties-light g _ _ (none-mine-all g _ (plain-react p o u s.world a))))
+ties-way g s p old rest d (called c q r n z) = rw z (rw q (ties-begun _ g p _ _ c refl))
+
+-- the stacks of a machine
+
+abbrev pub AllTied : Machine → Type 0
+AllTied s = (g q : ℕ) → Tied g 0 (stack s q)
+
+tied-onto : (g below : ℕ) (rest xs ys : List Op) → ((b : ℕ) → Tied g b xs → Tied g b ys) → Tied g below (rest ++ xs) →
+    Tied g below (rest ++ ys)
+tied-onto g below [] xs ys k h = k below h
+tied-onto g below (o ∷ os) xs ys k h = (h.0, tied-onto g (over_of g o) os xs ys k h.1)
+
+-- the stack of party q after a step of party p
+pub stack-then : (ss : List (List Op)) (p q : ℕ) (xs : List Op) → p < length ss →
+    ((same q p ≡ 1) × (q ≡ p) × (get_or (set ss p xs) q [] ≡ xs))
+    ⊎ ((same q p ≡ 0) × (q ≢ p) × (get_or (set ss p xs) q [] ≡ get_or ss q []))
+stack-then ss p q xs l = ⊎_elim
+    (λ (x : (same q p ≡ 1) × (eqb q p ≡ true) × (q ≡ p)). inl (x.0, x.2, rw x.2 (get_or-set_same ss p xs [] l)))
+    (λ (x : (same q p ≡ 0) × (eqb q p ≡ false) × (q ≢ p)). inr (x.0, x.2, get_or-set_other ss p q xs [] x.2))
+    (same_cases q p)
+
+tied-unsettled : (s : Machine) (p : ℕ) (old rest : List Op) (d : Done) → p < length s.parties →
+    stack s p ≡ rest ++ reverse old → ((g : ℕ) → Ties g old d.next) → AllTied s → AllTied (unsettled s p rest d)
+tied-unsettled s p old rest d l e t h g q = ⊎_elim
+    (λ (x : (same q p ≡ 1) × (q ≡ p)
+    × (get_or (set s.parties p (rest ++ reverse d.next)) q [] ≡ rest ++ reverse d.next)). subst (Tied g 0) (sym x.2)
+    (tied-onto g 0 rest (reverse old) (reverse d.next) (t g).keeps (subst (Tied g 0) e (h g p))))
+    (λ (x : (same q p ≡ 0) × (q ≢ p) × (get_or (set s.parties p (rest ++ reverse d.next)) q [] ≡ stack s q)).
+    subst (Tied g 0) (sym x.2) (h g q))
+    (stack-then s.parties p q (rest ++ reverse d.next) l)
+
+pub tied-moves : (s : Machine) (p : ℕ) (old rest : List Op) (d : Done) → p < length s.parties →
+    stack s p ≡ rest ++ reverse old → Way s p old rest d → AllTied s → AllTied (unsettled s p rest d)
+tied-moves s p old rest d l e w h = tied-unsettled s p old rest d l e (λ g. ties-way g s p old rest d w) h
+
+pub tied-ends : (s : Machine) (p : ℕ) (a : Reply) (held : Hold) (below : List Op) → p < length s.parties →
+    stack s p ≡ below ++ reverse (op.End a held ∷ []) → AllTied s →
+    AllTied (unsettled s p below (done (log s.world (event.CallEnded p a)) []))
+tied-ends s p a held below l e h =
+    tied-unsettled s p (op.End a held ∷ []) below (done (log s.world (event.CallEnded p a)) []) l e
+    (λ g. ties-light g _ _ refl) h
+
+-- so who notifies for the handle does it in a poll that has its answer
+
+tied-weights : (g below : ℕ) (os : List Op) → Tied g below os → weigh (mine_of g) os ≤ below + weigh (over_of g) os
+tied-weights g below [] h = omega arith
+tied-weights g below (o ∷ os) h = omega (arith, h.0, tied-weights g (over_of g o) os h.1)
+
+pub tied-all : (g : ℕ) (ss : List (List Op)) → ((q : ℕ) → Tied g 0 (get_or ss q [])) →
+    weigh_all (mine_of g) ss ≤ weigh_all (over_of g) ss
+tied-all g [] h = omega arith
+tied-all g (s ∷ ss) h = omega (arith, tied-weights g 0 s (h 0), tied-all g ss (λ q. h (suc q)))

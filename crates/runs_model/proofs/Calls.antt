@@ -1,0 +1,303 @@
+-- How many calls of a party are in progress: as many as it has begun and not ended,
+-- and as many as its stack has still to answer.
+use Rattle.std.proofs.Common.{◌≡◌, ℕ, ◌+◌, List, [], ◌∷◌, ◌++◌, length}
+use Rattle.std.proofs.Common.{Bool, true, false, cond, refl, sym, ap, ◌∙◌, arith}
+use Rattle.std.proofs.lemmas.List.{append_assoc}
+use Rattle.std.proofs.lemmas.List.Sums.{sum_by_push}
+use Rattle.std.specs.Prelude.{Option, Some, None, count_by}
+use Rattle.task_moves.specs.declared.moves.owed.Owed.{Owed}
+use Rattle.task_moves.specs.declared.moves.owed.Move.TheVariants as move
+use Rattle.task_moves.specs.declared.moves.owed.Answer.{Answer}
+use Rattle.task_moves.specs.declared.moves.owed.Moved.{Moved}
+use Rattle.task_moves.specs.Moves as moves
+use Rattle.runs_model.specs.declared.event.Event.{Event}
+use Rattle.runs_model.specs.declared.event.Event.TheVariants as event
+use Rattle.runs_model.specs.declared.op.Waker.{Waker}
+use Rattle.runs_model.specs.declared.op.Waker.TheVariants.{Task, Outside}
+use Rattle.runs_model.specs.declared.op.Hold.{Hold}
+use Rattle.runs_model.specs.declared.op.Polled.TheVariants as of
+use Rattle.runs_model.specs.declared.op.Op.{Op}
+use Rattle.runs_model.specs.declared.op.Op.TheVariants as op
+use Rattle.runs_model.specs.declared.op.ClosingOp.TheVariants as closing_op
+use Rattle.runs_model.specs.declared.op.HandleOp.TheVariants as handle_op
+use Rattle.runs_model.specs.declared.op.ListOp.TheVariants as list_op
+use Rattle.runs_model.specs.declared.op.QueueOp.TheVariants as queue_op
+use Rattle.runs_model.specs.declared.op.RunOp.TheVariants as run_op
+use Rattle.runs_model.specs.declared.op.SleeperOp.TheVariants as sleeper_op
+use Rattle.runs_model.specs.declared.op.TableOp.TheVariants as table_op
+use Rattle.runs_model.specs.declared.op.TickOp.TheVariants as tick_op
+use Rattle.runs_model.specs.declared.op.UserOp.TheVariants as user_op
+use Rattle.runs_model.specs.declared.op.WakerOp.TheVariants as waker_op
+use Rattle.runs_model.specs.Trace.{Trace}
+use Rattle.runs_model.specs.Quiet.{begins_call, ends_call}
+use Rattle.runs_model.specs.World.{World, Done, log, log_if, task, put, awaiter_of}
+use Rattle.runs_model.specs.Carried.{owed_ops, awaiter_ops}
+use Rattle.runs_model.specs.Acts.{append_by, take_by, enter_by, leave_by, copy_by, look_by, look_again_by}
+use Rattle.runs_model.specs.Acts.{copy_awaiter_by, register_by, let_go, end_register_by, notify_by}
+use Rattle.runs_model.specs.Acts.{call_awaiter, closing_ops, drop_next_by, wake, wake_next_by, drain_by}
+use Rattle.runs_model.specs.Weights.{same, weigh}
+use Rattle.runs_model.proofs.Lists.{weigh-append}
+use Rattle.runs_model.proofs.Asides.{Aside, aside-awaiter, aside-owed, aside-let_go, aside-closing}
+use Rattle.runs_model.proofs.Telling.{same-cond}
+
+-- what has still to answer its call
+abbrev pub calling_of : Op → ℕ
+calling_of (op.Table table_op.Enter) = 1
+calling_of (op.Queue queue_op.Take) = 1
+calling_of (op.Table table_op.LookAtTable) = 1
+calling_of (op.Waker (waker_op.CopyWaker f held)) = 1
+calling_of (op.Handle (handle_op.Look f a)) = 1
+calling_of (op.Handle (handle_op.CopyAwaiter f a)) = 1
+calling_of (op.Handle (handle_op.Register f a k)) = 1
+calling_of (op.Handle (handle_op.EndRegister f a k)) = 1
+calling_of (op.Handle (handle_op.LookAgain f)) = 1
+calling_of (op.Tick tick_op.MakeTick) = 1
+calling_of (op.Tick (tick_op.Search s)) = 1
+calling_of (op.Tick (tick_op.CopyWaker s)) = 1
+calling_of (op.Tick (tick_op.LieDown s)) = 1
+calling_of (op.User (user_op.PollOwn x)) = 1
+calling_of (op.List (list_op.LockWrite s)) = 1
+calling_of (op.List (list_op.Write s)) = 1
+calling_of (op.List (list_op.LockRead x)) = 1
+calling_of (op.Steal o) = 1
+calling_of (op.Run run_op.MakeRoom) = 1
+calling_of (op.Run (run_op.SearchCommon x)) = 1
+calling_of (op.Run (run_op.LookOwn x at left)) = 1
+calling_of (op.Run (run_op.WakeOwn x)) = 1
+calling_of (op.Run (run_op.Reschedule r a)) = 1
+calling_of (op.End r held) = 1
+calling_of _ = 0
+
+unfoldable pub begun_by : ℕ → Trace → ℕ
+begun_by q es = count_by (begins_call q) es
+
+unfoldable pub ended_by : ℕ → Trace → ℕ
+ended_by q es = count_by (ends_call q) es
+
+abbrev pub begin_of : ℕ → Event → ℕ
+begin_of q (event.CallBegun p c) = same q p
+begin_of q _ = 0
+
+abbrev pub end_of : ℕ → Event → ℕ
+end_of q (event.CallEnded p r) = same q p
+end_of q _ = 0
+
+one-begins : (q : ℕ) (e : Event) → cond (begins_call q e) 1 0 ≡ begin_of q e
+one-begins q (event.CallBegun p c) = sym (same-cond q p)
+one-begins q _ = refl
+
+one-ends : (q : ℕ) (e : Event) → cond (ends_call q e) 1 0 ≡ end_of q e
+one-ends q (event.CallEnded p r) = sym (same-cond q p)
+one-ends q _ = refl
+
+pub begun-push : (q : ℕ) (es : Trace) (e : Event) → begun_by q (es ++ e ∷ []) ≡ begun_by q es + begin_of q e
+unfolding begun_by
+begun-push q es e = omega (arith, sum_by_push (λ (x : Event). cond (begins_call q x) 1 0) es e, one-begins q e)
+
+pub ended-push : (q : ℕ) (es : Trace) (e : Event) → ended_by q (es ++ e ∷ []) ≡ ended_by q es + end_of q e
+unfolding ended_by
+ended-push q es e = omega (arith, sum_by_push (λ (x : Event). cond (ends_call q x) 1 0) es e, one-ends q e)
+
+-- no call begins or ends
+pub record Steady (w v : World) : Type 0 where
+  pub begun : (q : ℕ) → begun_by q v.trace ≡ begun_by q w.trace
+  pub ended : (q : ℕ) → ended_by q v.trace ≡ ended_by q w.trace
+
+pub steady-same : (w v : World) → v.trace ≡ w.trace → Steady w v
+steady-same w v e = record { begun = λ q. ap (begun_by q) e; ended = λ q. ap (ended_by q) e }
+
+pub steady-log : (w v : World) (e : Event) → v.trace ≡ w.trace ++ e ∷ [] → ((q : ℕ) → begin_of q e ≡ 0) →
+    ((q : ℕ) → end_of q e ≡ 0) → Steady w v
+steady-log w v e t a b =
+    record {
+      begun = λ q. ap (begun_by q) t ∙ omega (arith, begun-push q w.trace e, a q);
+      ended = λ q. ap (ended_by q) t ∙ omega (arith, ended-push q w.trace e, b q);
+    }
+
+pub steady-log_if : (c : Bool) (w v : World) (e : Event) → v.trace ≡ (log_if c w e).trace →
+    ((q : ℕ) → begin_of q e ≡ 0) → ((q : ℕ) → end_of q e ≡ 0) → Steady w v
+steady-log_if true w v e t a b = steady-log w v e t a b
+steady-log_if false w v e t a b = steady-same w v t
+
+pub steady-and : (w v u : World) → Steady w v → Steady v u → Steady w u
+steady-and w v u a b = record { begun = λ q. b.begun q ∙ a.begun q; ended = λ q. b.ended q ∙ a.ended q }
+
+-- a list whose last thing answers its call
+pub record Answering (xs : List Op) : Type 0 where
+  pub front : List Op
+  pub last : Op
+  pub is : xs ≡ front ++ last ∷ []
+  pub none : weigh calling_of front ≡ 0
+  pub call : calling_of last ≡ 1
+
+-- what a thing to do leads to: nothing that answers a call, or as it answers one itself, one thing that does
+pub record Passes (o : Op) (next : List Op) : Type 0 where
+  pub none : calling_of o ≡ 0 → weigh calling_of next ≡ 0
+  pub one : calling_of o ≡ 1 → Answering next
+
+pub record Calls (w : World) (o : Op) (d : Done) : Type 0 where
+  pub steady : Steady w d.world
+  pub passes : Passes o d.next
+
+zero-one : (n : ℕ) → n ≡ 0 → n ≡ 1 → ⊥
+zero-one n a b = omega (arith, a, b)
+
+pub inside : (w : World) (o : Op) (d : Done) → calling_of o ≡ 0 → Steady w d.world → weigh calling_of d.next ≡ 0 →
+    Calls w o d
+inside w o d z s n =
+    record { steady = s; passes = record { none = λ e. n; one = λ e. absurd (zero-one (calling_of o) z e) } }
+
+pub answers : (w : World) (o : Op) (d : Done) → calling_of o ≡ 1 → Steady w d.world → Answering d.next → Calls w o d
+answers w o d z s n =
+    record { steady = s; passes = record { none = λ e. absurd (zero-one (calling_of o) e z); one = λ e. n } }
+
+pub single : (x : Op) → calling_of x ≡ 1 → Answering (x ∷ [])
+single x c = record { front = []; last = x; is = refl; none = refl; call = c }
+
+pub then : (xs : List Op) (x : Op) → weigh calling_of xs ≡ 0 → calling_of x ≡ 1 → Answering (xs ++ x ∷ [])
+then xs x z c = record { front = xs; last = x; is = refl; none = z; call = c }
+
+-- what a move owes answers no call
+pub none-both : (xs ys : List Op) → weigh calling_of xs ≡ 0 → weigh calling_of ys ≡ 0 → weigh calling_of (xs ++ ys) ≡ 0
+none-both xs ys a b = omega (arith, weigh-append calling_of xs ys, a, b)
+
+-- more in front of what answers
+pub before : (xs ys : List Op) → weigh calling_of xs ≡ 0 → Answering ys → Answering (xs ++ ys)
+before xs ys z a = record {
+  front = xs ++ a.front;
+  last = a.last;
+  is = ap (λ (os : List Op). xs ++ os) a.is ∙ sym (append_assoc xs a.front (a.last ∷ []));
+  none = none-both xs a.front z a.none;
+  call = a.call;
+}
+
+pub no-call : Aside calling_of
+no-call = record {
+  move = λ m f. refl;
+  append = λ f. refl;
+  poll = λ f. refl;
+  drop = λ f. refl;
+  output = λ f. refl;
+  notify = λ f mine. refl;
+  call = λ f a k. refl;
+}
+
+pub none-owed : (f : ℕ) (there : Bool) (o : Owed) → weigh calling_of (owed_ops there f o) ≡ 0
+none-owed f there o = aside-owed calling_of no-call f there o
+
+-- each thing to do, but for the end of a call
+
+pub calls-append : (b : Bool) (w : World) (f : ℕ) → Calls w (op.Queue (queue_op.Append f)) (append_by b w f)
+calls-append true w f = inside w _ _ refl (steady-same _ _ refl) refl
+calls-append false w f = inside w _ _ refl (steady-same _ _ refl) refl
+
+pub calls-take : (q : List ℕ) (w : World) → Calls w (op.Queue queue_op.Take) (take_by w q)
+calls-take [] w = answers w _ _ refl (steady-same _ _ refl) (single _ refl)
+calls-take (f ∷ rest) w =
+    answers w _ _ refl (steady-same _ _ refl)
+    (then (op.Sleeper sleeper_op.ExchangeFlag ∷ op.Move move.TakeUp f ∷ []) _ refl refl)
+
+pub calls-enter : (b c : Bool) (p : ℕ) (w : World) → Calls w (op.Table table_op.Enter) (enter_by b c p w)
+calls-enter true c p w = answers w _ _ refl (steady-same _ _ refl) (single _ refl)
+calls-enter false true p w = answers w _ _ refl (steady-same _ _ refl) (single _ refl)
+calls-enter false false p w =
+    answers w _ _ refl (steady-log _ _ (event.Accepted p (length w.tasks)) refl (λ q. refl) (λ q. refl))
+    (then (op.Queue (queue_op.Append (length w.tasks)) ∷ []) _ refl refl)
+
+pub calls-leave : (b : Bool) (w : World) (f : ℕ) → Calls w (op.Table (table_op.LeaveTable f)) (leave_by b w f)
+calls-leave true w f = inside w _ _ refl (steady-same _ _ refl) refl
+calls-leave false w f = inside w _ _ refl (steady-same _ _ refl) refl
+
+pub calls-copy : (b : Bool) (w : World) (f : ℕ) (held : Hold) →
+    Calls w (op.Waker (waker_op.CopyWaker f held)) (copy_by b w f held)
+calls-copy true w f held = answers w _ _ refl (steady-same _ _ refl) (single _ refl)
+calls-copy false w f held = answers w _ _ refl (steady-same _ _ refl) (single _ refl)
+
+-- the poll of a handle that is answered
+pub calls-answered : (o : Option Answer) (p : ℕ) (w v : World) (f : ℕ) (a : Waker) (m : Moved) →
+    Calls w (op.Handle (handle_op.Look f a)) (look_by o p w f a m)
+calls-answered None p w v f a m = answers w _ _ refl (steady-same _ _ refl) (single _ refl)
+calls-answered (Some x) p w v f a m =
+    answers w _ _ refl (steady-and w (put (log w (event.HandlePolled p f)) f m.state) _
+    (steady-log w _ (event.HandlePolled p f) refl (λ q. refl) (λ q. refl))
+    (steady-log_if _ (put (log w (event.HandlePolled p f)) f m.state) _ (event.OutputGiven p f) refl (λ q. refl)
+    (λ q. refl))) (then (awaiter_ops f m.owed.awaiter) _ (aside-awaiter calling_of no-call f m.owed.awaiter) refl)
+
+pub calls-again : (x k c : Bool) (p : ℕ) (w : World) (f : ℕ) →
+    Calls w (op.Handle (handle_op.LookAgain f))
+    (look_again_by (moves.look_again_by x k c (task w f)).owed.answer p w f (moves.look_again_by x k c (task w f)))
+calls-again true true c p w f = answers w _ _ refl (steady-same _ _ refl) (single _ refl)
+calls-again true false c p w f =
+    answers w _ _ refl (steady-same _ _ refl) (then (op.Handle (handle_op.Notify f true) ∷ []) _ refl refl)
+calls-again false k false p w f = answers w _ _ refl (steady-same _ _ refl) (single _ refl)
+calls-again false k true p w f =
+    answers w _ _ refl (steady-log _ _ (event.OutputGiven p f) refl (λ q. refl) (λ q. refl))
+    (then (awaiter_ops f (moves.look_again_by false k true (task w f)).owed.awaiter) _
+    (aside-awaiter calling_of no-call f _) refl)
+
+pub calls-copy_awaiter : (b : Bool) (p : ℕ) (w : World) (f : ℕ) (a : Waker) →
+    Calls w (op.Handle (handle_op.CopyAwaiter f a)) (copy_awaiter_by b p w f a)
+calls-copy_awaiter true p w f a = answers w _ _ refl (steady-same _ _ refl) (single _ refl)
+calls-copy_awaiter false p w f (Task k) =
+    answers w _ _ refl (steady-log _ _ (event.HandlePolled p f) refl (λ q. refl) (λ q. refl)) (single _ refl)
+calls-copy_awaiter false p w f (Outside x) =
+    answers w _ _ refl (steady-log _ _ (event.HandlePolled p f) refl (λ q. refl) (λ q. refl)) (single _ refl)
+
+pub calls-register : (b : Bool) (w : World) (f : ℕ) (a : Waker) (k : ℕ) →
+    Calls w (op.Handle (handle_op.Register f a k)) (register_by b w f a k)
+calls-register true w f a k =
+    answers w _ _ refl (steady-same _ _ refl) (then (op.Waker (waker_op.CallAwaiter f a k) ∷ []) _ refl refl)
+calls-register false w f a k = answers w _ _ refl (steady-same _ _ refl) (single _ refl)
+
+pub calls-end_register : (b : Bool) (w : World) (f : ℕ) (a : Waker) (k : ℕ) →
+    Calls w (op.Handle (handle_op.EndRegister f a k)) (end_register_by b w f a k)
+calls-end_register true w f a k =
+    answers w _ _ refl (steady-same _ _ refl)
+    (then (op.Waker (waker_op.CallAwaiter f a k) ∷ let_go (awaiter_of w f)) _
+    (omega (arith, aside-let_go calling_of no-call (awaiter_of w f))) refl)
+calls-end_register false w f a k =
+    answers w _ _ refl (steady-same _ _ refl)
+    (then (let_go (awaiter_of w f)) _ (aside-let_go calling_of no-call (awaiter_of w f)) refl)
+
+pub calls-notify : (b : Bool) (w : World) (f : ℕ) (mine : Bool) →
+    Calls w (op.Handle (handle_op.Notify f mine)) (notify_by b w f mine)
+calls-notify true w f mine = inside w _ _ refl (steady-same _ _ refl) refl
+calls-notify false w f mine = inside w _ _ refl (steady-same _ _ refl) refl
+
+pub steady-wake : (p : ℕ) (w : World) (f : ℕ) → Steady w (wake p w f).world
+steady-wake p w f = steady-log_if _ w _ (event.Woken p f) refl (λ q. refl) (λ q. refl)
+
+pub none-wake : (p : ℕ) (w : World) (f : ℕ) → weigh calling_of (wake p w f).next ≡ 0
+none-wake p w f = none-owed f _ (moves.wake (task w f)).owed
+
+pub calls-call : (p : ℕ) (w : World) (f : ℕ) (a : Waker) (k : ℕ) →
+    Calls w (op.Waker (waker_op.CallAwaiter f a k)) (call_awaiter p w f a k)
+calls-call p w f (Task m) k =
+    inside w _ _ refl (steady-and w (log w (event.WakerCalled p (of.Handle f) k (Task m))) _
+    (steady-log w _ (event.WakerCalled p (of.Handle f) k (Task m)) refl (λ q. refl) (λ q. refl))
+    (steady-wake p (log w (event.WakerCalled p (of.Handle f) k (Task m))) m))
+    (none-wake p (log w (event.WakerCalled p (of.Handle f) k (Task m))) m)
+calls-call p w f (Outside x) k =
+    inside w _ _ refl (steady-log _ _ (event.WakerCalled p (of.Handle f) k (Outside x)) refl (λ q. refl) (λ q. refl))
+    refl
+
+pub calls-drop_next : (p : ℕ) (w : World) (ls : List ℕ) → Calls w (op.Closing closing_op.DropNext) (drop_next_by p w ls)
+calls-drop_next p w [] = inside w _ _ refl (steady-same _ _ refl) refl
+calls-drop_next p w (f ∷ rest) = inside w _ _ refl (steady-log _ _ (event.Dropped p f) refl (λ q. refl) (λ q. refl))
+    (omega (arith, aside-closing calling_of (λ o. refl) rest (w.waking ++ f ∷ [])))
+
+pub calls-wake_next : (p : ℕ) (w : World) (ws : List ℕ) → Calls w (op.Closing closing_op.WakeNext) (wake_next_by p w ws)
+calls-wake_next p w [] = inside w _ _ refl (steady-same _ _ refl) refl
+calls-wake_next p w (f ∷ rest) =
+    inside w _ _ refl (steady-and w (record w { waking = rest }) _ (steady-same w (record w { waking = rest }) refl)
+    (steady-wake p (record w { waking = rest }) f))
+    (none-both (wake p (record w { waking = rest }) f).next (closing_ops [] rest)
+    (none-wake p (record w { waking = rest }) f) (aside-closing calling_of (λ o. refl) [] rest))
+
+pub calls-drain : (p : ℕ) (w : World) (q : List ℕ) → Calls w (op.Closing closing_op.Drain) (drain_by p w q)
+calls-drain p w [] = inside w _ _ refl (steady-log _ _ (event.DropEnded p) refl (λ q. refl) (λ q. refl)) refl
+calls-drain p w (f ∷ rest) = inside w _ _ refl (steady-same _ _ refl) refl
+
+abbrev pub is_end : Op → Bool
+is_end (op.End r held) = true
+is_end _ = false

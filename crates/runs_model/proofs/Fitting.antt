@@ -1,0 +1,388 @@
+-- Each thing that is done leaves numbers that are futures'.
+use Rattle.std.proofs.Common.{◌≡◌, ℕ, ◌+◌, ◌≤◌, ◌<◌, List, [], ◌∷◌, ◌++◌, length, Bool, true, false, not, ◌&&◌, set}
+use Rattle.std.proofs.Common.{drop, refl, sym, ap, ◌∙◌, subst, arith, length-append}
+use Rattle.std.proofs.Math.ListN.{length-set}
+use Rattle.std.specs.Prelude.{Option, Some, None, slice_set}
+use Rattle.task_moves.specs.declared.moves.state.State.{State}
+use Rattle.task_moves.specs.declared.moves.owed.Moved.{Moved}
+use Rattle.task_moves.specs.declared.moves.owed.Owed.{Owed}
+use Rattle.task_moves.specs.declared.moves.owed.Answer.{Answer}
+use Rattle.task_moves.specs.declared.moves.owed.AwaiterDebt.{AwaiterDebt}
+use Rattle.task_moves.specs.Moves as moves
+use Rattle.runs_model.specs.declared.event.Event.{Event}
+use Rattle.runs_model.specs.declared.event.Event.TheVariants as event
+use Rattle.runs_model.specs.declared.op.Awaiter.{Awaiter}
+use Rattle.runs_model.specs.declared.op.Waker.{Waker}
+use Rattle.runs_model.specs.declared.op.Waker.TheVariants.{Task, Outside}
+use Rattle.runs_model.specs.declared.op.Hold.{Hold}
+use Rattle.runs_model.specs.declared.op.Hold.TheVariants as hold
+use Rattle.runs_model.specs.declared.op.Polled.TheVariants as of
+use Rattle.runs_model.specs.declared.op.Op.{Op}
+use Rattle.runs_model.specs.declared.op.Op.TheVariants as op
+use Rattle.runs_model.specs.declared.op.ClosingOp.TheVariants as closing_op
+use Rattle.runs_model.specs.declared.op.HandleOp.TheVariants as handle_op
+use Rattle.runs_model.specs.declared.op.QueueOp.TheVariants as queue_op
+use Rattle.runs_model.specs.declared.op.TableOp.TheVariants as table_op
+use Rattle.runs_model.specs.declared.op.WakerOp.TheVariants as waker_op
+use Rattle.runs_model.specs.declared.step.Hint.{Hint}
+use Rattle.runs_model.specs.World.{World, Done, done, log, log_if, task, put, awaiter_of, put_awaiter, among}
+use Rattle.runs_model.specs.Carried.{awaiter_ops, owed_ops, carried}
+use Rattle.runs_model.specs.Acts.{append_by, take_by, enter_by, entered, leave_by, copy_by}
+use Rattle.runs_model.specs.Acts.{answered, polled}
+use Rattle.runs_model.specs.Acts.{look_by, look_again_by, copy_awaiter_by, register_by, end_register_by, notify_by}
+use Rattle.runs_model.specs.Acts.{end_notify, told, let_go, waker_goes, call_awaiter, closing_ops}
+use Rattle.runs_model.specs.Acts.{drop_next_by}
+use Rattle.runs_model.specs.Acts.{wake_next_by, drain_by, followed, wake, reply_of, is_output}
+use Rattle.runs_model.specs.Weights.{weigh, weigh_sleepers, past, waker_past}
+use Rattle.runs_model.specs.Good.{pasts, awaiters_past, Fits}
+use Rattle.runs_model.specs.Rows.{past_of}
+use Rattle.runs_model.proofs.Cases.{by_bool, by_list, by_waker}
+use Rattle.runs_model.proofs.Owed.{owed-future, owed-awaiter, owed-nothing}
+use Rattle.runs_model.proofs.Lists.{past_is, pasts-append, pasts-without, pasts-more, pasts_in-more, pasts-drop}
+use Rattle.runs_model.proofs.Lists.{wakers_past-more, wakers_past-push, awaiters_past-set, awaiters_past-push}
+use Rattle.runs_model.proofs.Lists.{awaiters_past-more, sleepers_past-more, past_if, weigh-append}
+
+-- the world fits after it, so do the new things to do, and no future went
+pub record Grown (w : World) (d : Done) : Type 0 where
+  pub fits : Fits d.world
+  pub next : weigh (past_of (length d.world.tasks)) d.next ≡ 0
+  pub more : length w.tasks ≤ length d.world.tasks
+
+abbrev pub Grows : World → List Op → Done → Type 0
+Grows w old d = Fits w → weigh (past_of (length w.tasks)) old ≡ 0 → Grown w d
+
+-- what a move owes is its own future's
+module _ (n f : ℕ) (z : past n f ≡ 0) where
+  pub past_awaiter : (d : Option AwaiterDebt) → weigh (past_of n) (awaiter_ops f d) ≡ 0
+  past_awaiter d = owed-awaiter (past_of n) f (record { notify = λ m. z }) d
+
+  pub past_owed : (b : Bool) (o : Owed) → weigh (past_of n) (owed_ops b f o) ≡ 0
+  past_owed b o = owed-nothing (past_of n) f
+      (record { append = z; output = refl; release = z; settle_closed = z; give_up = z; end_closed = z; detach = z }) b
+      o (owed-future (past_of n) f (record { poll = z; drop = z }) b o.future) (past_awaiter o.awaiter)
+
+pub fits-log : (b : Bool) (w : World) (e : Event) → Fits w → Fits (log_if b w e)
+fits-log true w e h =
+    record {
+      queue = h.queue;
+      own = h.own;
+      table = h.table;
+      leaving = h.leaving;
+      waking = h.waking;
+      wakers = h.wakers;
+      awaiters = h.awaiters;
+      sleepers = h.sleepers;
+      awaiting = h.awaiting;
+      inside = h.inside;
+    }
+fits-log false w e h = h
+
+pub same-log : (b : Bool) (w : World) (e : Event) → length (log_if b w e).tasks ≡ length w.tasks
+same-log true w e = refl
+same-log false w e = refl
+
+fits-put : (w : World) (f : ℕ) (s : State) → Fits w → Fits (put w f s)
+fits-put w f s h = grind (arith, length-set {A = State})
+
+pub grows-carried : (w v : World) (f : ℕ) (m : Moved) → length v.tasks ≡ length w.tasks → Fits v →
+    past (length w.tasks) f ≡ 0 → Grown w (carried v f m)
+grows-carried w v f m l h z =
+    let q : length (set v.tasks f m.state) ≡ length w.tasks = length-set v.tasks f m.state ∙ l in
+    record {
+      fits = fits-put v f m.state h;
+      next = subst (λ n. weigh (past_of n) (owed_ops (among f v.table) f m.owed) ≡ 0) (sym q)
+          (past_owed (length w.tasks) f z (among f v.table) m.owed);
+      more = omega (arith, q);
+    }
+
+below : (n f : ℕ) → past n f ≡ 0 → f < n
+below n f e = grind (arith, past_is)
+
+pub grows-append : (b : Bool) (w : World) (f : ℕ) → Grows w (op.Queue (queue_op.Append f) ∷ []) (append_by b w f)
+grows-append = by_bool _
+    (λ w f h k. grind (arith, pasts-append))
+    (λ w f h k. grind arith)
+
+pub grows-take : (q : List ℕ) (w : World) → w.queue.items ≡ q → Grows w (op.Queue queue_op.Take ∷ []) (take_by w q)
+grows-take = by_list _
+    (λ w e h k. grind arith)
+    (λ f rest w e h k. let z : past (length w.tasks) f + pasts (length w.tasks) (drop 1 w.queue.items)
+    ≡ pasts (length w.tasks) w.queue.items = pasts-drop (length w.tasks) f rest w.queue.items e in grind arith)
+
+pub grows-enter : (b c : Bool) (p : ℕ) (w : World) → Grows w (op.Table table_op.Enter ∷ []) (enter_by b c p w)
+grows-enter = by_bool _
+    (λ c p w h k. grind arith)
+    (by_bool _
+    (λ p w h k. grind arith)
+    (λ p w h k. let le : length w.tasks ≤ length (enter_by false false p w).world.tasks =
+    omega (arith, length-append w.tasks (entered ∷ [])) in
+    let y : weigh_sleepers (waker_past (length (enter_by false false p w).world.tasks)) w.sleepers.wakers ≡ 0 =
+    sleepers_past-more _ _ w.sleepers.wakers le h.sleepers in
+    grind (
+      arith,
+      pasts-append,
+      pasts-more,
+      pasts_in-more,
+      wakers_past-more,
+      awaiters_past-more,
+      awaiters_past-push,
+      past_is,
+      length-append {A = State},
+      length-append {A = Bool},
+      length-append {A = Option Awaiter},
+    )))
+
+pub grows-inside : (w : World) (f : ℕ) (b : Bool) (old next : List Op) → weigh (past_of (length w.tasks)) next ≡ 0 →
+    Fits w → Grown w (done (record w { inside = slice_set w.inside f b }) next)
+grows-inside w f b old next z h = record {
+  fits = record {
+    queue = h.queue;
+    own = h.own;
+    table = h.table;
+    leaving = h.leaving;
+    waking = h.waking;
+    wakers = h.wakers;
+    awaiters = h.awaiters;
+    sleepers = h.sleepers;
+    awaiting = h.awaiting;
+    inside = length-set w.inside f b ∙ h.inside;
+  };
+  next = z;
+  more = omega arith;
+}
+
+pub grows-leave : (b : Bool) (w : World) (f : ℕ) → Grows w (op.Table (table_op.LeaveTable f) ∷ []) (leave_by b w f)
+grows-leave = by_bool _
+    (λ w f h k. grind (arith, pasts-without))
+    (λ w f h k. grind arith)
+
+pub grows-copy : (b : Bool) (w : World) (f : ℕ) (held : Hold) →
+    Grows w (op.Waker (waker_op.CopyWaker f held) ∷ []) (copy_by b w f held)
+grows-copy = by_bool _
+    (λ w f held h k. grind arith)
+    (λ w f held h k. grind (arith, length-set {A = State}, wakers_past-push))
+
+grows-answered : (w v : World) (p f : ℕ) (m : Moved) (a : Answer) → length v.tasks ≡ length w.tasks → Fits v →
+    past (length w.tasks) f ≡ 0 → Grown w (answered p v f m a)
+grows-answered w v p f m a l h z =
+    let q : length (set v.tasks f m.state) ≡ length w.tasks = length-set v.tasks f m.state ∙ l in
+    let q2 : length (answered p v f m a).world.tasks ≡ length w.tasks =
+    same-log (is_output a) (put v f m.state) (event.OutputGiven p f) ∙ q in
+    record {
+      fits = fits-log (is_output a) (put v f m.state) (event.OutputGiven p f) (fits-put v f m.state h);
+      next = subst (λ n. weigh (past_of n) (answered p v f m a).next ≡ 0) (sym q2)
+          (omega (
+            arith,
+            weigh-append (past_of (length w.tasks)) (awaiter_ops f m.owed.awaiter)
+                (op.End (reply_of a) (hold.Handle f) ∷ []),
+            past_awaiter (length w.tasks) f z m.owed.awaiter,
+          ));
+      more = omega (arith, q2);
+    }
+
+pub grows-look : (a : Option Answer) (p : ℕ) (w : World) (f : ℕ) (x : Waker) (m : Moved) →
+    Grows w (op.Handle (handle_op.Look f x) ∷ []) (look_by a p w f x m)
+grows-look None p w f x m h k = grind arith
+grows-look (Some a) p w f x m h k =
+    grows-answered w (polled p w f) p f m a refl (fits-log true w (event.HandlePolled p f) h) (omega (arith, k))
+
+pub grows-again : (a : Option Answer) (p : ℕ) (w : World) (f : ℕ) (m : Moved) →
+    Grows w (op.Handle (handle_op.LookAgain f) ∷ []) (look_again_by a p w f m)
+grows-again None p w f m h k = grind arith
+grows-again (Some a) p w f m h k = grows-answered w w p f m a refl h (omega (arith, k))
+
+pub grows-copy_awaiter : (b : Bool) (p : ℕ) (w : World) (f : ℕ) (x : Waker) →
+    Grows w (op.Handle (handle_op.CopyAwaiter f x) ∷ []) (copy_awaiter_by b p w f x)
+grows-copy_awaiter = by_bool _
+    (λ p w f x h k. grind arith)
+    (λ p w f. by_waker _
+    (λ g h k. grind (arith, length-set {A = State}))
+    (λ x h k. grind arith))
+
+pub grows-register : (b : Bool) (w : World) (f : ℕ) (x : Waker) (k : ℕ) →
+    Grows w (op.Handle (handle_op.Register f x k) ∷ []) (register_by b w f x k)
+grows-register = by_bool _
+    (λ w f x k h z. grind (arith, length-set {A = State}))
+    (λ w f x k h z. grind (arith, length-set {A = State}))
+
+pub past_goes : (n : ℕ) (a : Waker) → weigh (past_of n) (waker_goes a) ≡ waker_past n a
+past_goes n (Task g) = omega arith
+past_goes n (Outside x) = refl
+
+past_let_go : (n : ℕ) (a : Option Awaiter) → weigh (past_of n) (let_go a) ≡ past_if n a
+past_let_go n None = refl
+past_let_go n (Some a) = past_goes n a.waker
+
+-- an awaiter is stored in the place of another
+grows-awaiter : (w : World) (f : ℕ) (s : State) (a : Option Awaiter) (next : List Op) → f < length w.awaiters → Fits w →
+    past_if (length w.tasks) a ≡ 0 →
+    (past_if (length w.tasks) (awaiter_of w f) ≡ 0 → weigh (past_of (length w.tasks)) next ≡ 0) →
+    Grown w (done (put_awaiter (put w f s) f a) next)
+grows-awaiter w f s a next i h z n =
+    let q : length (set w.tasks f s) ≡ length w.tasks = length-set w.tasks f s in
+    let l : length (set w.awaiters f a) ≡ length w.awaiters = length-set w.awaiters f a in
+    let e : awaiters_past (length w.tasks) (set w.awaiters f a) + past_if (length w.tasks) (awaiter_of w f)
+    ≡ awaiters_past (length w.tasks) w.awaiters + past_if (length w.tasks) a =
+    awaiters_past-set (length w.tasks) f a w.awaiters i in
+    let fp = fits-put w f s h in
+    record {
+      fits = record {
+        queue = fp.queue;
+        own = fp.own;
+        table = fp.table;
+        leaving = fp.leaving;
+        waking = fp.waking;
+        wakers = fp.wakers;
+        awaiters = subst (λ m. awaiters_past m (set w.awaiters f a) ≡ 0) (sym q) (omega (arith, e, h.awaiters, z));
+        sleepers = fp.sleepers;
+        awaiting = l ∙ fp.awaiting;
+        inside = fp.inside;
+      };
+      next = subst (λ m. weigh (past_of m) next ≡ 0) (sym q) (n (omega (arith, e, h.awaiters, z)));
+      more = omega (arith, q);
+    }
+
+pub grows-end_register : (b : Bool) (w : World) (f : ℕ) (x : Waker) (k : ℕ) →
+    Grows w (op.Handle (handle_op.EndRegister f x k) ∷ []) (end_register_by b w f x k)
+grows-end_register true w f x k h z =
+    let n = length w.tasks in
+    let i : f < n = below n f (omega (arith, z)) in
+    let none : Option Awaiter = None in
+    grows-awaiter w f _ none _ (omega (arith, i, h.awaiting)) h refl
+    (λ y. omega (
+      arith,
+      y,
+      z,
+      weigh-append (past_of n) (let_go (awaiter_of w f)) (op.Handle (handle_op.LookAgain f) ∷ []),
+      past_let_go n (awaiter_of w f),
+    ))
+grows-end_register false w f x k h z =
+    let n = length w.tasks in
+    let i : f < n = below n f (omega (arith, z)) in
+    let some : Option Awaiter = Some (record { waker = x; poll = k }) in
+    grows-awaiter w f _ some _ (omega (arith, i, h.awaiting)) h (omega (arith, z))
+    (λ y. omega (
+      arith,
+      y,
+      z,
+      weigh-append (past_of n) (let_go (awaiter_of w f)) (op.Handle (handle_op.LookAgain f) ∷ []),
+      past_let_go n (awaiter_of w f),
+    ))
+
+pub grows-notify : (b m : Bool) (w : World) (f : ℕ) →
+    Grows w (op.Handle (handle_op.Notify f m) ∷ []) (notify_by b w f m)
+grows-notify = by_bool _
+    (λ m w f h k. grind (arith, length-set {A = State}))
+    (λ m w f h k. grind (arith, length-set {A = State}))
+
+past_told : (n f : ℕ) (b : Bool) (a : Option Awaiter) → past n f ≡ 0 → past_if n a ≡ 0 →
+    weigh (past_of n) (told b f a) ≡ 0
+past_told n f b None z e = refl
+past_told n f true (Some a) z e = past_goes n a.waker ∙ e
+past_told n f false (Some a) z e = omega (arith, z, e)
+
+pub grows-end_notify : (c : Hint) (m : Bool) (w : World) (f : ℕ) →
+    Grows w (op.Handle (handle_op.EndNotify f m) ∷ []) (end_notify c w f m)
+grows-end_notify c m w f h z =
+    let n = length w.tasks in
+    let i : f < n = below n f (omega (arith, z)) in
+    let none : Option Awaiter = None in
+    grows-awaiter w f _ none _ (omega (arith, i, h.awaiting)) h refl
+    (λ y. past_told n f (m && c.same) (awaiter_of w f) (omega (arith, z)) y)
+
+pub grows-call : (p : ℕ) (w : World) (f : ℕ) (x : Waker) (k : ℕ) →
+    Grows w (op.Waker (waker_op.CallAwaiter f x k) ∷ []) (call_awaiter p w f x k)
+grows-call = λ p w f. by_waker _
+    (λ g k h z. let v = log w (event.WakerCalled p (of.Handle f) k (Task g)) in
+    let b = not (moves.is_over (task w g)) in
+    grows-carried w (log_if b v (event.Woken p g)) g (moves.wake (task w g)) (same-log b v (event.Woken p g))
+    (fits-log b v (event.Woken p g) (fits-log true w (event.WakerCalled p (of.Handle f) k (Task g)) h))
+    (omega (arith, z)))
+    (λ x k h z. grind arith)
+
+pub past_closing : (n : ℕ) (ls ws : List ℕ) → weigh (past_of n) (closing_ops ls ws) ≡ 0
+past_closing n (f ∷ fs) ws = refl
+past_closing n [] (f ∷ ws) = refl
+past_closing n [] [] = refl
+
+pub grows-drop_next : (p : ℕ) (w : World) (q : List ℕ) → w.leaving ≡ q →
+    Grows w (op.Closing closing_op.DropNext ∷ []) (drop_next_by p w q)
+grows-drop_next p w [] e h k = grind arith
+grows-drop_next p w (f ∷ rest) e h k =
+    let n = length w.tasks in
+    let z : past n f + pasts n rest ≡ 0 = sym (ap (pasts n) e) ∙ h.leaving in
+    record {
+      fits =
+          record {
+            queue = h.queue;
+            own = h.own;
+            table = h.table;
+            leaving = omega (arith, z);
+            waking = omega (arith, pasts-append n w.waking (f ∷ []), h.waking, z);
+            wakers = h.wakers;
+            awaiters = h.awaiters;
+            sleepers = h.sleepers;
+            awaiting = h.awaiting;
+            inside = length-set w.inside f false ∙ h.inside;
+          };
+      next = omega (arith, past_closing n rest (w.waking ++ f ∷ []), z);
+      more = omega arith;
+    }
+
+grows-followed : (w : World) (d : Done) (ls ws : List ℕ) → Grown w d → Grown w (followed d (closing_ops ls ws))
+grows-followed w d ls ws g =
+    record {
+      fits = g.fits;
+      next =
+          omega (
+            arith,
+            weigh-append (past_of (length d.world.tasks)) d.next (closing_ops ls ws),
+            past_closing (length d.world.tasks) ls ws,
+            g.next,
+          );
+      more = g.more;
+    }
+
+pub grows-wake_next : (p : ℕ) (w : World) (q : List ℕ) → w.waking ≡ q →
+    Grows w (op.Closing closing_op.WakeNext ∷ []) (wake_next_by p w q)
+grows-wake_next p w [] e h k = grind arith
+grows-wake_next p w (f ∷ rest) e h k =
+    let n = length w.tasks in
+    let z : past n f + pasts n rest ≡ 0 = sym (ap (pasts n) e) ∙ h.waking in
+    let v : World = record w { waking = rest } in
+    let b = not (moves.is_over (task w f)) in
+    let fv : Fits v =
+    record {
+      queue = h.queue;
+      own = h.own;
+      table = h.table;
+      leaving = h.leaving;
+      waking = omega (arith, z);
+      wakers = h.wakers;
+      awaiters = h.awaiters;
+      sleepers = h.sleepers;
+      awaiting = h.awaiting;
+      inside = h.inside;
+    } in
+    grows-followed w (wake p v f) [] rest
+    (grows-carried w (log_if b v (event.Woken p f)) f (moves.wake (task w f)) (same-log b v (event.Woken p f))
+    (fits-log b v (event.Woken p f) fv) (omega (arith, z)))
+
+pub grows-drain : (q : List ℕ) (p : ℕ) (w : World) → w.queue.items ≡ q →
+    Grows w (op.Closing closing_op.Drain ∷ []) (drain_by p w q)
+grows-drain = by_list _
+    (λ p w e h k. grind arith)
+    (λ f rest p w e h k. let z : past (length w.tasks) f + pasts (length w.tasks) (drop 1 w.queue.items)
+    ≡ pasts (length w.tasks) w.queue.items = pasts-drop (length w.tasks) f rest w.queue.items e in grind arith)
+
+pub grows-same : (w : World) (os : List Op) → Grows w os (done w os)
+grows-same w os h k = grind arith
+
+pub grows-logged : (w : World) (e : Event) (next : List Op) → weigh (past_of (length w.tasks)) next ≡ 0 → Fits w →
+    Grown w (done (log w e) next)
+grows-logged w e next z h = record { fits = fits-log true w e h; next = z; more = omega arith }
+
+-- a move, and the event that it has
+pub grows-moved : (w : World) (b : Bool) (e : Event) (f : ℕ) (m : Moved) → Fits w → past (length w.tasks) f ≡ 0 →
+    Grown w (carried (log_if b w e) f m)
+grows-moved w b e f m h z = grows-carried w (log_if b w e) f m (same-log b w e) (fits-log b w e h) z

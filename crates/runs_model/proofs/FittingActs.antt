@@ -1,0 +1,111 @@
+-- Each thing that is done leaves numbers that are futures', by groups.
+use Rattle.std.proofs.Common.{ℕ, [], ◌∷◌, length, true, false, not, ◌&&◌, refl, arith}
+use Rattle.task_moves.specs.declared.moves.owed.Move.TheVariants as move
+use Rattle.task_moves.specs.Moves as moves
+use Rattle.runs_model.specs.declared.event.Event.TheVariants as event
+use Rattle.runs_model.specs.declared.op.Op.{Op}
+use Rattle.runs_model.specs.declared.op.Op.TheVariants as op
+use Rattle.runs_model.specs.declared.op.ClosingOp.TheVariants as closing_op
+use Rattle.runs_model.specs.declared.op.HandleOp.TheVariants as handle_op
+use Rattle.runs_model.specs.declared.op.QueueOp.TheVariants as queue_op
+use Rattle.runs_model.specs.declared.op.SleeperOp.TheVariants as sleeper_op
+use Rattle.runs_model.specs.declared.op.TableOp.TheVariants as table_op
+use Rattle.runs_model.specs.declared.op.TickOp.TheVariants as tick_op
+use Rattle.runs_model.specs.declared.op.UserOp.TheVariants as user_op
+use Rattle.runs_model.specs.declared.op.WakerOp.TheVariants as waker_op
+use Rattle.runs_model.specs.declared.step.Hint.{Hint}
+use Rattle.runs_model.specs.World.{World, task}
+use Rattle.runs_model.specs.Doing.{act}
+use Rattle.runs_model.proofs.Fitting.{Grows, grows-again, grows-append, grows-call, grows-carried}
+use Rattle.runs_model.proofs.Fitting.{grows-copy, grows-copy_awaiter, grows-drain, grows-drop_next}
+use Rattle.runs_model.proofs.Fitting.{grows-end_notify, grows-end_register, grows-enter, grows-inside}
+use Rattle.runs_model.proofs.Fitting.{grows-leave, grows-logged, grows-look, grows-moved, grows-notify}
+use Rattle.runs_model.proofs.Fitting.{grows-register, grows-take, grows-wake_next, past_closing}
+use Rattle.runs_model.specs.ActsOfSleepers.{polled_as}
+use Rattle.runs_model.proofs.RunsFitting.{grows-list, grows-run, grows-search_who, grows-steal}
+use Rattle.runs_model.proofs.SleepersFitting.{grows-exchange, grows-hand_out, grows-call_waker}
+use Rattle.runs_model.proofs.SleepersFitting.{grows-make_tick, grows-copy_sleeper}
+use Rattle.runs_model.proofs.SleepersFitting.{grows-lie_down, grows-get_up, grows-leave_sleepers}
+
+pub grows-act : (p : ℕ) (c : Hint) (o : Op) (w : World) → Grows w (o ∷ []) (act p c o w)
+grows-act p c (op.Table table_op.Enter) w h k = grows-enter _ _ p w h k
+grows-act p c (op.Queue queue_op.Take) w h k = grows-take _ w refl h k
+grows-act p c (op.Queue (queue_op.Append f)) w h k = grows-append _ w f h k
+grows-act p c (op.Move move.WakeByReference f) w h k = grows-moved w (not (moves.is_over (task w f))) (event.Woken p f)
+    f (moves.wake_by_reference (task w f)) h (omega (arith, k))
+grows-act p c (op.Move move.Wake f) w h k = grows-moved w (not (moves.is_over (task w f))) (event.Woken p f) f
+    (moves.wake (task w f)) h (omega (arith, k))
+grows-act p c (op.Move move.TakeUp f) w h k =
+    grows-moved w (not (task w f).closed) (event.PollBegun p f) f (moves.take_up (task w f)) h (omega (arith, k))
+grows-act p c (op.Move move.Cancel f) w h k = grows-moved w (not (moves.is_over (task w f))) (event.Cancelled p f) f
+    (moves.cancel (task w f)) h (omega (arith, k))
+grows-act p c (op.Move move.Detach f) w h k = grows-moved w (not ((task w f).completed && not (task w f).closed))
+    (event.Detached p f) f (moves.detach (task w f)) h (omega (arith, k))
+grows-act p c (op.Move move.Release f) w h k = grows-carried w w f (moves.release (task w f)) refl h (omega (arith, k))
+grows-act p c (op.Move move.SettleClosed f) w h k =
+    grows-carried w w f (moves.settle_closed (task w f)) refl h (omega (arith, k))
+grows-act p c (op.Move move.GiveUp f) w h k = grows-carried w w f (moves.give_up (task w f)) refl h (omega (arith, k))
+grows-act p c (op.Move move.EndReady f) w h k =
+    grows-carried w w f (moves.end_ready (task w f)) refl h (omega (arith, k))
+grows-act p c (op.Move move.EndPending f) w h k =
+    grows-carried w w f (moves.end_pending (task w f)) refl h (omega (arith, k))
+grows-act p c (op.Move move.EndClosed f) w h k =
+    grows-carried w w f (moves.end_closed (task w f)) refl h (omega (arith, k))
+grows-act p c (op.Move move.DropRunnable f) w h k =
+    grows-carried w w f (moves.drop_runnable (task w f)) refl h (omega (arith, k))
+grows-act p c (op.Table (table_op.TakeToPoll f)) w h k =
+    grows-inside w f false [] (op.User (user_op.Poll f) ∷ []) (omega (arith, k)) h
+grows-act p c (op.Table (table_op.PutBack f)) w h k =
+    grows-inside w f true [] (op.Move move.EndPending f ∷ []) (omega (arith, k)) h
+grows-act p c (op.Table (table_op.TakeToDrop f)) w h k = grows-inside w f false [] (op.User (user_op.BeginDrop f) ∷ [])
+    (omega (arith, k)) h
+grows-act p c (op.User (user_op.BeginDrop f)) w h k =
+    grows-logged w (event.Dropped p f) (op.User (user_op.Drop f) ∷ op.Table (table_op.LeaveTable f) ∷ [])
+    (omega (arith, k)) h
+grows-act p c (op.Table (table_op.LeaveTable f)) w h k = grows-leave _ w f h k
+grows-act p c (op.User (user_op.BeginDropOutput f)) w h k =
+    grows-logged w (event.OutputDropped p f) (op.User (user_op.DropOutput f) ∷ []) refl h
+grows-act p c (op.Waker (waker_op.CopyWaker f held)) w h k = grows-copy _ w f held h k
+grows-act p c (op.Handle (handle_op.Look f a)) w h k = grows-look _ p w f a _ h k
+grows-act p c (op.Handle (handle_op.CopyAwaiter f a)) w h k = grows-copy_awaiter _ p w f a h k
+grows-act p c (op.Handle (handle_op.Register f a n)) w h k = grows-register _ w f a n h k
+grows-act p c (op.Handle (handle_op.EndRegister f a n)) w h k = grows-end_register _ w f a n h k
+grows-act p c (op.Handle (handle_op.LookAgain f)) w h k = grows-again _ p w f _ h k
+grows-act p c (op.Handle (handle_op.Notify f mine)) w h k = grows-notify _ mine w f h k
+grows-act p c (op.Handle (handle_op.EndNotify f mine)) w h k = grows-end_notify c mine w f h k
+grows-act p c (op.Waker (waker_op.CallAwaiter f a n)) w h k = grows-call p w f a n h k
+grows-act p c (op.Sleeper sleeper_op.ExchangeFlag) w h k = grows-exchange _ w h k
+grows-act p c (op.Sleeper sleeper_op.HandOut) w h k = grows-hand_out _ _ w refl h k
+grows-act p c (op.Sleeper (sleeper_op.CallSleeper s)) w h k =
+    grows-call_waker p w (polled_as s.who) s.waker s.poll (omega (arith, k)) h
+grows-act p c (op.Tick tick_op.MakeTick) w h k = grows-make_tick _ w h k
+grows-act p c (op.Tick (tick_op.Search s)) w h k = grows-search_who s.who w s h k
+grows-act p c (op.Tick (tick_op.CopyWaker s)) w h k = grows-copy_sleeper _ s.waker s.who s.poll w h k
+grows-act p c (op.Tick (tick_op.LieDown s)) w h k = grows-lie_down _ w s h k
+grows-act p c (op.Tick (tick_op.GetUp t)) w h k = grows-get_up _ w t h k
+grows-act p c (op.Tick (tick_op.Leave t)) w h k = grows-leave_sleepers _ w t h k
+grows-act p c (op.List o) w h k = grows-list c o w h k
+grows-act p c (op.Steal o) w h k = grows-steal p o w h k
+grows-act p c (op.Run o) w h k = grows-run p c o w h k
+grows-act p c (op.Closing closing_op.TakeOut) w h k =
+    (record {
+      fits = record {
+        queue = h.queue;
+        own = h.own;
+        table = h.leaving;
+        leaving = h.table;
+        waking = h.waking;
+        wakers = h.wakers;
+        awaiters = h.awaiters;
+        sleepers = h.sleepers;
+        awaiting = h.awaiting;
+        inside = h.inside;
+      };
+      next = past_closing (length w.tasks) w.table w.waking;
+      more = omega arith;
+    })
+grows-act p c (op.Closing closing_op.DropNext) w h k = grows-drop_next p w _ refl h k
+grows-act p c (op.Closing closing_op.WakeNext) w h k = grows-wake_next p w _ refl h k
+grows-act p c (op.Closing closing_op.Drain) w h k = grows-drain _ p w refl h k
+grows-act p c (op.End a held) w h k = grows-logged w (event.CallEnded p a) [] refl h
+grows-act p c _ w h k = grind arith

@@ -1,0 +1,141 @@
+-- What tells sleepers, and what a tick does, keeps what is known of each awaiter.
+use Rattle.std.proofs.Common.{◌≡◌, ℕ, ◌+◌, ◌<◌, List, [], ◌∷◌, length, Bool, true, false, ◌||◌, drop, refl, arith}
+use Rattle.std.proofs.lemmas.List.{length-set}
+use Rattle.std.specs.Prelude.{Option, Some, None}
+use Rattle.task_moves.specs.Moves as moves
+use Rattle.task_moves.specs.declared.moves.owed.Move.TheVariants as move
+use Rattle.runs_model.specs.ActsOfSleepers.{polled_as}
+use Rattle.runs_model.specs.declared.event.Event.TheVariants as event
+use Rattle.runs_model.specs.declared.op.Op.TheVariants as op
+use Rattle.runs_model.specs.declared.op.Sleeping.{Sleeping}
+use Rattle.runs_model.specs.declared.op.SleeperOp.TheVariants as sleeper_op
+use Rattle.runs_model.specs.declared.op.TickOp.TheVariants as tick_op
+use Rattle.runs_model.specs.declared.op.Waker.{Waker}
+use Rattle.runs_model.specs.declared.op.Waker.TheVariants.{Task, Outside}
+use Rattle.runs_model.specs.declared.op.Sleeper.{Sleeper}
+use Rattle.runs_model.specs.World.{World, Place, Up, Lies, Left, log, task}
+use Rattle.runs_model.specs.ActsOfSleepers.{exchange_by, hand_out_by, call_sleeper, make_tick_by, search_by}
+use Rattle.runs_model.specs.ActsOfSleepers.{copy_sleeper_by}
+use Rattle.runs_model.specs.ActsOfSleepers.{lie_down_by, get_up_by, leave_sleepers_by}
+use Rattle.runs_model.specs.Weights.{same}
+use Rattle.runs_model.specs.Good.{IsKnownWaker}
+use Rattle.runs_model.specs.Sound.{with_ops, times}
+use Rattle.runs_model.proofs.AwaitedActs.{awaits-wake}
+use Rattle.runs_model.proofs.Cases.{by_bool}
+use Rattle.runs_model.proofs.Counting.{woken_by}
+use Rattle.runs_model.proofs.Lists.{read_put, same_is, times-drop}
+use Rattle.runs_model.proofs.SleepersCases.{by_going, LiesDown, lies-down, GetsUp, gets-up, Leaves, leaves}
+use Rattle.runs_model.proofs.SleepersCounting.{asleep}
+use Rattle.runs_model.proofs.Awaited.{KeepsAwaits, Footing, Awaits, with_awaiting, heard-push}
+
+-- telling
+
+pub awaits-exchange : (b : Bool) (w : World) → KeepsAwaits w (op.Sleeper sleeper_op.ExchangeFlag ∷ []) (exchange_by b w)
+awaits-exchange = by_bool _
+    (λ w g r yy mm bb h. grind arith)
+    (λ w g r yy mm bb h. grind arith)
+
+pub awaits-hand_out : (b : Bool) (o : Option Sleeping) (w : World) →
+    KeepsAwaits w (op.Sleeper sleeper_op.HandOut ∷ []) (hand_out_by b o w)
+awaits-hand_out false o w g r yy mm bb h = grind arith
+awaits-hand_out true None w g r yy mm bb h = grind arith
+awaits-hand_out true (Some s) w g r yy mm bb h = grind arith
+
+awaits-call_task : (o b c : Bool) (p : ℕ) (t : Sleeper) (k : ℕ) (w : World) (f : ℕ) →
+    (moves.is_over (task w f) || (task w f).scheduled) ≡ b → (task w f).running ≡ c → f < length w.tasks →
+    KeepsAwaits w (op.Sleeper (sleeper_op.CallSleeper (asleep (Task f) t k)) ∷ [])
+    (woken_by o b c p (log w (event.WakerCalled p (polled_as t) k (Task f))) f)
+awaits-call_task o b c p t k w f d q i g r yy mm bb h =
+    let called : World = log w (event.WakerCalled p (polled_as t) k (Task f)) in
+    let stand : Footing called g (with_ops g (op.Move move.Wake f ∷ []) r)
+    (with_awaiting g (op.Move move.Wake f ∷ []) yy) =
+    record {
+      one = bb.one;
+      live = bb.live;
+      ends = bb.ends;
+      drop = bb.drop;
+      carries = bb.carries;
+      rests = bb.rests;
+      lent = bb.lent;
+      done = grind (arith, heard-push);
+      stages = bb.stages;
+      few = bb.few;
+      tied = bb.tied;
+    } in
+    let waits : Awaits called g (with_ops g (op.Move move.Wake f ∷ []) r)
+    (with_awaiting g (op.Move move.Wake f ∷ []) yy) mm = grind (arith, same_is, heard-push) in
+    awaits-wake o b c p called f d q i g r yy mm stand waits
+
+pub awaits-call_sleeper : (p : ℕ) (t : Sleeper) (k : ℕ) (a : Waker) (w : World) → IsKnownWaker w a →
+    KeepsAwaits w (op.Sleeper (sleeper_op.CallSleeper (asleep a t k)) ∷ []) (call_sleeper p w (asleep a t k))
+awaits-call_sleeper p t k (Task f) w i = awaits-call_task (moves.is_over (task w f)) _ _ p t k w f refl refl i
+awaits-call_sleeper p t k (Outside x) w i = λ g r yy mm bb h. grind (arith, same_is, heard-push)
+
+-- a tick
+
+pub awaits-make_tick : (b : Bool) (w : World) → KeepsAwaits w (op.Tick tick_op.MakeTick ∷ []) (make_tick_by b w)
+awaits-make_tick = by_bool _
+    (λ w g r yy mm bb h. grind arith)
+    (λ w g r yy mm bb h. grind arith)
+
+pub awaits-search : (t : Place) (q : List ℕ) (w : World) (s : Sleeping) → w.queue.items ≡ q →
+    KeepsAwaits w (op.Tick (tick_op.Search s) ∷ []) (search_by t w q s)
+awaits-search t [] w s e g r yy mm bb h = grind arith
+awaits-search Up (f ∷ rest) w s e g r yy mm bb h =
+    let z : same g f + times g (drop 1 w.queue.items) ≡ times g w.queue.items = times-drop g f rest w.queue.items e in
+    grind (arith, same_is)
+awaits-search (Lies n) (f ∷ rest) w s e g r yy mm bb h =
+    let z : same g f + times g (drop 1 w.queue.items) ≡ times g w.queue.items = times-drop g f rest w.queue.items e in
+    grind (arith, same_is)
+awaits-search Left (f ∷ rest) w s e g r yy mm bb h =
+    let z : same g f + times g (drop 1 w.queue.items) ≡ times g w.queue.items = times-drop g f rest w.queue.items e in
+    grind (arith, same_is)
+
+pub awaits-copy_sleeper : (b : Bool) (a : Waker) (t : Sleeper) (k : ℕ) (w : World) → IsKnownWaker w a →
+    KeepsAwaits w (op.Tick (tick_op.CopyWaker (asleep a t k)) ∷ []) (copy_sleeper_by b w (asleep a t k))
+awaits-copy_sleeper true a t k w e g r yy mm bb h = grind arith
+awaits-copy_sleeper false (Task m) t k w e g r yy mm bb h = let z : m < length w.tasks = e in
+    grind (arith, same_is, read_put, length-set)
+awaits-copy_sleeper false (Outside x) t k w e g r yy mm bb h = grind arith
+
+awaits-lying : LiesDown KeepsAwaits
+awaits-lying = record {
+  nowhere = λ w s g r yy mm bb h. grind arith;
+  anew = λ w s g r yy mm bb h. grind arith;
+  listed = λ w n s g r yy mm bb h. grind arith;
+  again = λ w n at s. by_going _
+      (λ g r yy mm bb h. grind arith)
+      (λ m u k g r yy mm bb h. grind arith)
+      (λ x u k g r yy mm bb h. grind arith);
+}
+
+pub awaits-lie_down : (x : Place) (w : World) (s : Sleeping) →
+    KeepsAwaits w (op.Tick (tick_op.LieDown s) ∷ []) (lie_down_by x w s)
+awaits-lie_down = lies-down KeepsAwaits awaits-lying
+
+awaits-rising : GetsUp KeepsAwaits
+awaits-rising = record {
+  up = λ w t g r yy mm bb h. grind arith;
+  lay = λ w n t. by_going _
+      (λ g r yy mm bb h. grind arith)
+      (λ m u k g r yy mm bb h. grind arith)
+      (λ x u k g r yy mm bb h. grind arith);
+}
+
+pub awaits-get_up : (x : Place) (w : World) (t : Sleeper) →
+    KeepsAwaits w (op.Tick (tick_op.GetUp t) ∷ []) (get_up_by x w t)
+awaits-get_up = gets-up KeepsAwaits awaits-rising
+
+awaits-leaving : Leaves KeepsAwaits
+awaits-leaving = record {
+  up = λ w t g r yy mm bb h. grind arith;
+  left = λ w t g r yy mm bb h. grind arith;
+  lay = λ w n t. by_going _
+      (λ g r yy mm bb h. grind arith)
+      (λ m u k g r yy mm bb h. grind arith)
+      (λ x u k g r yy mm bb h. grind arith);
+}
+
+pub awaits-leave_sleepers : (x : Place) (w : World) (t : Sleeper) →
+    KeepsAwaits w (op.Tick (tick_op.Leave t) ∷ []) (leave_sleepers_by x w t)
+awaits-leave_sleepers = leaves KeepsAwaits awaits-leaving

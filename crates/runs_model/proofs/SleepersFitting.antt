@@ -1,0 +1,199 @@
+-- What tells sleepers, and what a tick does, leaves numbers that are futures'.
+use Rattle.std.proofs.Common.{◌≡◌, ℕ, List, [], ◌∷◌, length, Bool, true, false, not, refl, ap, arith}
+use Rattle.std.proofs.Math.ListN.{length-set}
+use Rattle.std.specs.Prelude.{Option, Some, None, is_none}
+use Rattle.task_moves.specs.Moves as moves
+use Rattle.task_moves.specs.declared.moves.state.State.{State}
+use Rattle.executor_parts.specs.Sleepers.{last_waker, next_number, position_of, waker_at, waker_of}
+use Rattle.runs_model.specs.declared.event.Event.TheVariants as event
+use Rattle.runs_model.specs.declared.op.Op.{Op}
+use Rattle.runs_model.specs.declared.op.Op.TheVariants as op
+use Rattle.runs_model.specs.declared.op.Polled.{Polled}
+use Rattle.runs_model.specs.declared.op.Sleeping.{Sleeping}
+use Rattle.runs_model.specs.declared.op.SleeperOp.TheVariants as sleeper_op
+use Rattle.runs_model.specs.declared.op.TickOp.TheVariants as tick_op
+use Rattle.runs_model.specs.declared.op.Waker.{Waker}
+use Rattle.runs_model.specs.declared.op.Waker.TheVariants.{Task, Outside}
+use Rattle.runs_model.specs.declared.op.Sleeper.{Sleeper}
+use Rattle.runs_model.specs.World.{World, Place, Up, Lies, Left, done, log, log_if, task}
+use Rattle.runs_model.specs.Acts.{call_waker}
+use Rattle.runs_model.specs.ActsOfSleepers.{exchange_by, hand_out_by, make_tick_by, search_by}
+use Rattle.runs_model.specs.ActsOfSleepers.{copy_sleeper_by, lie_anew_by, sleeper_goes, lie_listed_by}
+use Rattle.runs_model.specs.ActsOfSleepers.{pend_as}
+use Rattle.runs_model.specs.ActsOfSleepers.{lie_again_by, lie_down_by, get_up_by, tell_if, leave_sleepers_by}
+use Rattle.runs_model.specs.Weights.{weigh, waker_past, weigh_sleepers}
+use Rattle.runs_model.specs.Good.{Fits}
+use Rattle.runs_model.specs.Rows.{past_of}
+use Rattle.runs_model.proofs.Fitting.{Grown, Grows, fits-log, same-log, grows-carried, past_goes}
+use Rattle.runs_model.proofs.Lists.{pasts-drop, weigh-append}
+use Rattle.runs_model.proofs.SleepersLists.{held, given_back-same, sleepers-append, sleepers-last}
+use Rattle.runs_model.proofs.SleepersLists.{sleepers-risen, sleepers-left, sleepers-set}
+
+-- the list of sleepers is another one, which fits too
+fits-sleepers : (w v : World) → v.tasks ≡ w.tasks → v.queue ≡ w.queue → v.own ≡ w.own → v.table ≡ w.table →
+    v.leaving ≡ w.leaving →
+    v.waking ≡ w.waking → v.wakers ≡ w.wakers → v.awaiters ≡ w.awaiters → v.inside ≡ w.inside
+    → weigh_sleepers (waker_past (length w.tasks)) v.sleepers.wakers ≡ 0 → Fits w → Fits v
+fits-sleepers w v e1 e2 e3 e4 e5 e6 e7 e8 e9 z h = grind arith
+
+-- a waker that goes speaks of a future that is there, where its entry did
+past_goes_if : (n : ℕ) (o : Option Sleeping) → weigh (past_of n) (sleeper_goes o) ≡ held (waker_past n) o
+past_goes_if n None = refl
+past_goes_if n (Some s) = past_goes n s.waker
+
+pub grows-exchange : (b : Bool) (w : World) → Grows w (op.Sleeper sleeper_op.ExchangeFlag ∷ []) (exchange_by b w)
+grows-exchange true w h k = grind arith
+grows-exchange false w h k =
+    record {
+      fits = fits-sleepers w _ refl refl refl refl refl refl refl refl refl h.sleepers h;
+      next = refl;
+      more = omega arith;
+    }
+
+pub grows-hand_out : (b : Bool) (o : Option Sleeping) (w : World) → last_waker w.sleepers.wakers ≡ o →
+    Grows w (op.Sleeper sleeper_op.HandOut ∷ []) (hand_out_by b o w)
+grows-hand_out false o w e h k = grind arith
+grows-hand_out true None w e h k =
+    let v = waker_past (length w.tasks) in
+    record {
+      fits = fits-sleepers w _ refl refl refl refl refl refl refl refl refl
+          (omega (arith, sleepers-last v w.sleepers, h.sleepers)) h;
+      next = refl;
+      more = omega arith;
+    }
+grows-hand_out true (Some s) w e h k =
+    let v = waker_past (length w.tasks) in
+    record {
+      fits = fits-sleepers w _ refl refl refl refl refl refl refl refl refl
+          (omega (arith, sleepers-last v w.sleepers, h.sleepers)) h;
+      next = omega (arith, sleepers-last v w.sleepers, h.sleepers, ap (held v) e);
+      more = omega arith;
+    }
+
+pub grows-call_waker : (p : ℕ) (w : World) (o : Polled) (a : Waker) (k : ℕ) → waker_past (length w.tasks) a ≡ 0 →
+    Fits w → Grown w (call_waker p w o a k)
+grows-call_waker p w o (Task g) k z h =
+    let v = log w (event.WakerCalled p o k (Task g)) in
+    let b = not (moves.is_over (task w g)) in
+    grows-carried w (log_if b v (event.Woken p g)) g (moves.wake (task w g)) (same-log b v (event.Woken p g))
+    (fits-log b v (event.Woken p g) (fits-log true w (event.WakerCalled p o k (Task g)) h)) z
+grows-call_waker p w o (Outside x) k z h =
+    record { fits = fits-log true w (event.WakerCalled p o k (Outside x)) h; next = refl; more = omega arith }
+
+pub grows-make_tick : (b : Bool) (w : World) → Grows w (op.Tick tick_op.MakeTick ∷ []) (make_tick_by b w)
+grows-make_tick true w h k = grind arith
+grows-make_tick false w h k =
+    record {
+      fits = fits-sleepers w _ refl refl refl refl refl refl refl refl refl h.sleepers h;
+      next = refl;
+      more = omega arith;
+    }
+
+pub grows-search : (x : Place) (q : List ℕ) (w : World) (s : Sleeping) → w.queue.items ≡ q →
+    Grows w (op.Tick (tick_op.Search s) ∷ []) (search_by x w q s)
+grows-search x [] w s e h k = grind arith
+grows-search Up (f ∷ rest) w s e h k = let z = pasts-drop (length w.tasks) f rest w.queue.items e in grind arith
+grows-search (Lies n) (f ∷ rest) w s e h k = let z = pasts-drop (length w.tasks) f rest w.queue.items e in grind arith
+grows-search Left (f ∷ rest) w s e h k = let z = pasts-drop (length w.tasks) f rest w.queue.items e in grind arith
+
+pub grows-copy_sleeper : (b : Bool) (a : Waker) (t : Sleeper) (m : ℕ) (w : World) →
+    Grows w (op.Tick (tick_op.CopyWaker (record { waker = a; who = t; poll = m })) ∷ [])
+    (copy_sleeper_by b w (record { waker = a; who = t; poll = m }))
+grows-copy_sleeper true a t m w h k = grind arith
+grows-copy_sleeper false (Task g) t m w h k = grind (arith, length-set {A = State})
+grows-copy_sleeper false (Outside x) t m w h k = grind arith
+
+-- a list of sleepers that fits is stored, and a tick with it
+grows-put : (w v : World) (next : List Op) → v.tasks ≡ w.tasks → v.queue ≡ w.queue → v.own ≡ w.own → v.table ≡ w.table →
+    v.leaving ≡ w.leaving → v.waking ≡ w.waking → v.wakers ≡ w.wakers → v.awaiters ≡ w.awaiters → v.inside ≡ w.inside
+    → weigh_sleepers (waker_past (length w.tasks)) v.sleepers.wakers ≡ 0 → weigh (past_of (length w.tasks)) next ≡ 0 →
+    Fits w → Grown w (done v next)
+grows-put w v next e1 e2 e3 e4 e5 e6 e7 e8 e9 z n h =
+    record {
+      fits = fits-sleepers w v e1 e2 e3 e4 e5 e6 e7 e8 e9 z h;
+      next = rw e1 n;
+      more = omega (arith, ap length e1);
+    }
+
+grows-lie_anew : (b : Bool) (w : World) (s : Sleeping) → Grows w (op.Tick (tick_op.LieDown s) ∷ []) (lie_anew_by b w s)
+grows-lie_anew true w s h k =
+    grows-put w _ _ refl refl refl refl refl refl refl refl refl
+    (omega (
+      arith,
+      sleepers-append (waker_past (length w.tasks)) w.sleepers.wakers ((next_number w.sleepers, s) ∷ []),
+      h.sleepers,
+      k,
+    )) (omega (arith, k)) h
+grows-lie_anew false w s h k = grind arith
+
+grows-lie_listed : (b : Bool) (w : World) (n : ℕ) (s : Sleeping) →
+    Grows w (op.Tick (tick_op.LieDown s) ∷ []) (lie_listed_by b w n s)
+grows-lie_listed true w n s h k =
+    grows-put w _ _ refl refl refl refl refl refl refl refl refl
+    (omega (arith, sleepers-append (waker_past (length w.tasks)) w.sleepers.wakers ((n, s) ∷ []), h.sleepers, k))
+    (omega (arith, k)) h
+grows-lie_listed false w n s h k = grind arith
+
+grows-lie_again : (o : Option ℕ) (w : World) (n : ℕ) (s : Sleeping) → position_of n w.sleepers.wakers ≡ o →
+    Grows w (op.Tick (tick_op.LieDown s) ∷ []) (lie_again_by o w n s)
+grows-lie_again None w n s e h k = grows-lie_listed _ w n s h k
+grows-lie_again (Some at) w n s e h k =
+    let v = waker_past (length w.tasks) in
+    let z = sleepers-set v n at s w.sleepers.wakers e in
+    let old = waker_at (Some at) w.sleepers.wakers in
+    grows-put w _ _ refl refl refl refl refl refl refl refl refl (omega (arith, z, h.sleepers, k))
+    (omega (
+      arith,
+      z,
+      h.sleepers,
+      k,
+      weigh-append (past_of (length w.tasks)) (sleeper_goes old) (pend_as s.who),
+      past_goes_if (length w.tasks) old,
+    )) h
+
+pub grows-lie_down : (x : Place) (w : World) (s : Sleeping) →
+    Grows w (op.Tick (tick_op.LieDown s) ∷ []) (lie_down_by x w s)
+grows-lie_down Up w s h k = grows-lie_anew _ w s h k
+grows-lie_down (Lies n) w s h k = grows-lie_again _ w n s refl h k
+grows-lie_down Left w s h k = grind arith
+
+pub grows-get_up : (x : Place) (w : World) (t : Sleeper) → Grows w (op.Tick (tick_op.GetUp t) ∷ []) (get_up_by x w t)
+grows-get_up Up w t h k = grind arith
+grows-get_up (Lies n) w t h k =
+    let v = waker_past (length w.tasks) in
+    let z = sleepers-risen v n w.sleepers in
+    let old = waker_of n w.sleepers.wakers in
+    grows-put w _ _ refl refl refl refl refl refl refl refl refl (omega (arith, z, h.sleepers))
+    (omega (
+      arith,
+      z,
+      h.sleepers,
+      k,
+      past_goes_if (length w.tasks) old,
+    )) h
+grows-get_up Left w t h k = grind arith
+
+past_tell : (n : ℕ) (b : Bool) → weigh (past_of n) (tell_if b) ≡ 0
+past_tell n true = refl
+past_tell n false = refl
+
+pub grows-leave_sleepers : (x : Place) (w : World) (t : Sleeper) →
+    Grows w (op.Tick (tick_op.Leave t) ∷ []) (leave_sleepers_by x w t)
+grows-leave_sleepers Up w t h k =
+    grows-put w _ _ refl refl refl refl refl refl refl refl refl
+    (omega (arith, ap (weigh_sleepers (waker_past (length w.tasks))) (given_back-same w.sleepers), h.sleepers)) refl h
+grows-leave_sleepers (Lies n) w t h k =
+    let v = waker_past (length w.tasks) in
+    let z = sleepers-left v n w.sleepers in
+    let old = waker_of n w.sleepers.wakers in
+    let told = tell_if (is_none old) in
+    grows-put w _ _ refl refl refl refl refl refl refl refl refl (omega (arith, z, h.sleepers))
+    (omega (
+      arith,
+      z,
+      h.sleepers,
+      weigh-append (past_of (length w.tasks)) (sleeper_goes old) told,
+      past_tell (length w.tasks) (is_none old),
+      past_goes_if (length w.tasks) old,
+    )) h
+grows-leave_sleepers Left w t h k = grind arith

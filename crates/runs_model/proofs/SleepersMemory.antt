@@ -1,0 +1,71 @@
+-- What tells sleepers, and a tick or run that leaves or has found a future, asks for no memory.
+use Rattle.std.proofs.Common.{◌≡◌, ℕ, List, [], ◌∷◌, Bool, true, false, refl}
+use Rattle.std.specs.Prelude.{Option, Some, None, is_none}
+use Rattle.executor_parts.specs.Sleepers.{waker_of}
+use Rattle.runs_model.specs.declared.event.Event.TheVariants as event
+use Rattle.runs_model.specs.declared.op.Sleeping.{Sleeping}
+use Rattle.runs_model.specs.declared.op.SleeperOp.{SleeperOp}
+use Rattle.runs_model.specs.declared.op.SleeperOp.TheVariants as sleeper_op
+use Rattle.runs_model.specs.declared.op.Waker.{Waker}
+use Rattle.runs_model.specs.declared.op.Waker.TheVariants.{Task, Outside}
+use Rattle.runs_model.specs.declared.op.Sleeper.{Sleeper}
+use Rattle.runs_model.specs.World.{World, Place, Up, Lies, Left, place_of, log}
+use Rattle.runs_model.specs.Acts.{call_waker}
+use Rattle.runs_model.specs.ActsOfSleepers.{exchange_by, hand_out_by, polled_as, search_by}
+use Rattle.runs_model.specs.ActsOfSleepers.{sleeper_goes, get_up_by, tell_if, leave_sleepers_by}
+use Rattle.runs_model.specs.Doing.{sleeper_act}
+use Rattle.runs_model.specs.Memory.{AsksForNone, FindsWithoutMemory}
+use Rattle.runs_model.proofs.Unasking.{both, none-waker, none-wake}
+
+none-goes : (o : Option Sleeping) → AsksForNone (sleeper_goes o)
+none-goes None = refl
+none-goes (Some s) = none-waker s.waker
+
+none-tell : (b : Bool) → AsksForNone (tell_if b)
+none-tell true = refl
+none-tell false = refl
+
+none-call_waker : (p : ℕ) (w : World) (s : Sleeping) (a : Waker) →
+    AsksForNone (call_waker p w (polled_as s.who) a s.poll).next
+none-call_waker p w s (Task g) = none-wake p (log w (event.WakerCalled p (polled_as s.who) s.poll (Task g))) g
+none-call_waker p w s (Outside x) = refl
+
+none-exchange : (b : Bool) (w : World) → AsksForNone (exchange_by b w).next
+none-exchange true w = refl
+none-exchange false w = refl
+
+none-hand_out : (b : Bool) (o : Option Sleeping) (w : World) → AsksForNone (hand_out_by b o w).next
+none-hand_out false o w = refl
+none-hand_out true None w = refl
+none-hand_out true (Some s) w = refl
+
+pub none-sleeper : (p : ℕ) (o : SleeperOp) (w : World) → AsksForNone (sleeper_act p o w).next
+none-sleeper p sleeper_op.ExchangeFlag w = none-exchange _ w
+none-sleeper p sleeper_op.HandOut w = none-hand_out _ _ w
+none-sleeper p (sleeper_op.CallSleeper s) w = none-call_waker p w s s.waker
+
+pub none-up : (x : Place) (w : World) (t : Sleeper) → AsksForNone (get_up_by x w t).next
+none-up Up w t = refl
+none-up (Lies n) w t = none-goes (waker_of n w.sleepers.wakers)
+none-up Left w t = refl
+
+pub none-leave_sleepers : (x : Place) (w : World) (t : Sleeper) → AsksForNone (leave_sleepers_by x w t).next
+none-leave_sleepers Up w t = refl
+none-leave_sleepers (Lies n) w t =
+    let old = waker_of n w.sleepers.wakers in
+    both (sleeper_goes old) (tell_if (is_none old)) (none-goes old) (none-tell (is_none old))
+none-leave_sleepers Left w t = refl
+
+none-found : (x : Place) (w : World) (f : ℕ) (rest : List ℕ) (s : Sleeping) →
+    AsksForNone (search_by x w (f ∷ rest) s).next
+none-found Up w f rest s = refl
+none-found (Lies n) w f rest s = refl
+none-found Left w f rest s = refl
+
+-- a search that finds a future leads to nothing that asks for memory
+pub finds-without : (w : World) → FindsWithoutMemory w
+finds-without w f rest s e = by w.queue.items e
+  where
+    by : (q : List ℕ) → q ≡ f ∷ rest → AsksForNone (search_by (place_of w s.who) w q s).next
+    by [] k = absurd (cc)
+    by (g ∷ more) k = none-found (place_of w s.who) w g more s

@@ -1,0 +1,94 @@
+-- After every list of steps, where a Runnable stands in the queue and a tick or run lies,
+-- a sleeper is notified or will be told.
+use Rattle.std.proofs.Common.{◌≡◌, ℕ, zero, suc, ◌+◌, ◌<◌, ◌≤◌, List, [], ◌∷◌, ◌++◌, length, set, refl, subst, arith}
+use Rattle.std.specs.Prelude.{reverse}
+use Rattle.runs_model.specs.declared.call.Reply.{Reply}
+use Rattle.runs_model.specs.declared.event.Event.TheVariants as event
+use Rattle.runs_model.specs.declared.op.Hold.{Hold}
+use Rattle.runs_model.specs.declared.op.Op.{Op}
+use Rattle.runs_model.specs.declared.op.Op.TheVariants as op
+use Rattle.runs_model.specs.declared.op.QueueOp.TheVariants as queue_op
+use Rattle.runs_model.specs.declared.op.SleeperOp.TheVariants as sleeper_op
+use Rattle.runs_model.specs.declared.step.Step.{Step}
+use Rattle.runs_model.specs.Good.{Good}
+use Rattle.runs_model.specs.Steps.{Machine, stack, run, start, mine, top}
+use Rattle.runs_model.specs.Weights.{weigh, weigh_all}
+use Rattle.runs_model.specs.World.{Done, done, log}
+use Rattle.runs_model.proofs.Lift.{split, unsettled, good-start}
+use Rattle.runs_model.proofs.Lists.{weigh_all-below, weigh_all-push}
+use Rattle.runs_model.proofs.Ways.{Way, acted, reacted, called, along}
+use Rattle.runs_model.specs.SleepersAgree.{SleepersAgree, hands_of}
+use Rattle.runs_model.specs.SleepersTold.{SleepersAreTold, tells_of}
+use Rattle.runs_model.proofs.SleepersRising.{RisesWell, rises-old, rises_of}
+use Rattle.runs_model.proofs.SleepersFollowingRuns.{Followed, followed-moves, followed-ends, followed-start, agrees}
+use Rattle.runs_model.proofs.SleepersTelling.{Told, Ground, Tells, tells-act, tells-react, tells-begun, quiet}
+
+-- who hands out tells
+hands-tell : (o : Op) → hands_of o ≤ tells_of o
+hands-tell (op.Sleeper sleeper_op.ExchangeFlag) = omega arith
+hands-tell (op.Sleeper sleeper_op.HandOut) = omega arith
+hands-tell (op.Sleeper (sleeper_op.CallSleeper s)) = omega arith
+hands-tell (op.Tick o) = omega arith
+hands-tell (op.Queue queue_op.Take) = omega arith
+hands-tell _ = omega arith
+
+hands-all : (ss : List (List Op)) → weigh_all hands_of ss ≤ weigh_all tells_of ss
+hands-all = weigh_all-below hands_of tells_of hands-tell
+
+pub record Tell (s : Machine) : Type 0 where
+  pub followed : Followed s
+  pub told : Told s.world (weigh_all tells_of s.parties)
+
+ground : (s : Machine) → Followed s → Ground s.world (weigh_all hands_of s.parties)
+ground s f = let a : SleepersAgree s = agrees s f in record { flag = a.flag; listed = a.listed }
+
+tell-way : (s : Machine) (p : ℕ) (old rest : List Op) (d : Done) → Way s p old rest d → Tells s.world old d
+tell-way s p old rest d (acted h o q z) = rw (z, q) (tells-act _ p h o s.world refl)
+tell-way s p old rest d (reacted o u a q z) = rw (z, q) (tells-react p o u s.world a)
+tell-way s p old rest d (called c q r n z) = rw (z, q) (tells-begun p s.world (mine (top (stack s p))) c)
+
+-- below who gets up the same party tells
+way-rises : (s : Machine) (p : ℕ) (old rest : List Op) (d : Done) → Way s p old rest d →
+    RisesWell (rest ++ reverse old) →
+    weigh rises_of old ≤ weigh tells_of rest
+way-rises s p old rest d (acted h o q z) = rw q (λ e. omega (arith, rises-old rest o e))
+way-rises s p old rest d (reacted o u a q z) = rw q (λ e. omega (arith, rises-old rest o e))
+way-rises s p old rest d (called c q r n z) = rw q (λ e. omega arith)
+
+-- one stack's part of the sum over all
+here : (ss : List (List Op)) (p : ℕ) (os : List Op) → p < length ss →
+    weigh tells_of os ≤ weigh_all tells_of (set ss p os)
+here [] p os l = absurd (omega (arith, l))
+here (s ∷ ss) zero os l = omega arith
+here (s ∷ ss) (suc p) os l = omega (arith, here ss p os (omega (arith, l)))
+
+tell-moves : (s : Machine) (p : ℕ) (old rest : List Op) (d : Done) → Good s → p < length s.parties →
+    stack s p ≡ rest ++ reverse old → Way s p old rest d → Tell s → Tell (unsettled s p rest d)
+tell-moves s p old rest d good l e w h = record {
+  followed = followed-moves s p old rest d good l e w h.followed;
+  told = (tell-way s p old rest d w).on _ _ (weigh_all tells_of (set s.parties p rest)) _
+      (weigh_all hands_of (set s.parties p rest)) (split tells_of s.parties p old rest l e)
+      (weigh_all-push tells_of s.parties p rest d.next l) (split hands_of s.parties p old rest l e)
+      (hands-all (set s.parties p rest))
+      (omega (arith, way-rises s p old rest d w (subst RisesWell e (h.followed.rises p)), here s.parties p rest l))
+      (ground s h.followed) h.told;
+}
+
+tell-ends : (s : Machine) (p : ℕ) (a : Reply) (held : Hold) (below : List Op) → p < length s.parties →
+    stack s p ≡ below ++ reverse (op.End a held ∷ []) → Tell s →
+    Tell (unsettled s p below (done (log s.world (event.CallEnded p a)) []))
+tell-ends s p a held below l e h = record {
+  followed = followed-ends s p a held below l e h.followed;
+  told = (quiet s.world (log s.world (event.CallEnded p a)) (op.End a held ∷ []) [] refl (omega arith) refl).on _ _
+      (weigh_all tells_of (set s.parties p below)) _ (weigh_all hands_of (set s.parties p below))
+      (split tells_of s.parties p (op.End a held ∷ []) below l e) (weigh_all-push tells_of s.parties p below [] l)
+      (split hands_of s.parties p (op.End a held ∷ []) below l e) (hands-all (set s.parties p below)) (omega arith)
+      (ground s h.followed) h.told;
+}
+
+pub tell : (limit n : ℕ) (ts : List Step) → Tell (run ts (start limit n))
+tell limit n ts = along Tell tell-moves tell-ends ts (start limit n) (good-start limit n)
+    (record { followed = followed-start limit n; told = record { told = λ p q. absurd (omega (arith, p)) } })
+
+pub are_told : (limit n : ℕ) (ts : List Step) → SleepersAreTold (run ts (start limit n))
+are_told limit n ts = (tell limit n ts).told.told

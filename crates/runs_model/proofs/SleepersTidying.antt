@@ -1,0 +1,78 @@
+-- What tells sleepers, and what a tick does, uses the executor only where it is held.
+use Rattle.std.proofs.Common.{◌≡◌, ℕ, List, [], ◌∷◌, refl}
+use Rattle.task_moves.specs.declared.moves.owed.Move.TheVariants as move
+use Rattle.runs_model.specs.declared.call.Reply.TheVariants as reply
+use Rattle.runs_model.specs.declared.op.Op.{Op}
+use Rattle.runs_model.specs.declared.op.Op.TheVariants as op
+use Rattle.runs_model.specs.declared.op.Sleeping.{Sleeping}
+use Rattle.runs_model.specs.declared.op.SleeperOp.{SleeperOp}
+use Rattle.runs_model.specs.declared.op.SleeperOp.TheVariants as sleeper_op
+use Rattle.runs_model.specs.declared.op.TickOp.{TickOp}
+use Rattle.runs_model.specs.declared.op.TickOp.TheVariants as tick_op
+use Rattle.runs_model.specs.declared.step.Hint.{Hint}
+use Rattle.runs_model.specs.declared.op.Sleeper.{Sleeper}
+use Rattle.runs_model.specs.declared.op.Sleeper.TheVariants as sleeper
+use Rattle.runs_model.specs.World.{World, Place, Up, Lies, Left}
+use Rattle.runs_model.specs.ActsOfSleepers.{held_as, search_by}
+use Rattle.runs_model.specs.Doing.{search_by_who, sleeper_act, tick_act}
+use Rattle.runs_model.proofs.Borrowing.{uses_of, Tidy, tidy-light}
+use Rattle.runs_model.proofs.RunsTidying.{IsHeld, held-after, tidy-held, tidy-search_own}
+use Rattle.runs_model.proofs.SleepersNext.{Unseen, sleeper-unseen, Blind, make-blind}
+use Rattle.runs_model.proofs.SleepersNext.{copy-blind, lie-blind, leave-blind, up-blind}
+use Rattle.runs_model.proofs.Tidying.{light-wake}
+
+unseen : Unseen uses_of
+unseen = record { hand = refl; call = λ s. refl; outside = λ x. refl; wake = λ p w f. light-wake p w f }
+
+pub tidy-sleeper : (p : ℕ) (o : SleeperOp) (w : World) → Tidy (op.Sleeper o ∷ []) (sleeper_act p o w).next
+tidy-sleeper p o w = tidy-light _ _ (sleeper-unseen uses_of unseen p o w)
+
+blind : Blind uses_of
+blind = record {
+  tick = no-use;
+  exchange = refl;
+  call = λ s. refl;
+  release = λ f. refl;
+  end = λ r t. refl;
+  made = λ r. refl;
+}
+  where
+    no-use : (o : TickOp) → uses_of (op.Tick o) ≡ 0
+    no-use tick_op.MakeTick = refl
+    no-use (tick_op.Search s) = refl
+    no-use (tick_op.CopyWaker s) = refl
+    no-use (tick_op.LieDown s) = refl
+    no-use (tick_op.GetUp t) = refl
+    no-use (tick_op.Leave t) = refl
+
+abbrev ready : Sleeper → ℕ → List Op
+ready who f = op.Move move.TakeUp f ∷ op.End reply.Ready (held_as who) ∷ []
+
+held-ready : (who : Sleeper) (f : ℕ) → IsHeld (ready who f)
+held-ready (sleeper.Tick t) f = refl
+held-ready (sleeper.Run r) f = refl
+
+tidy-search : (x : Place) (w : World) (q : List ℕ) (s : Sleeping) →
+    Tidy (op.Tick (tick_op.Search s) ∷ []) (search_by x w q s).next
+tidy-search x w [] s = tidy-light _ _ refl
+tidy-search Up w (f ∷ rest) s =
+    tidy-held _ _ (held-after (op.Sleeper sleeper_op.ExchangeFlag ∷ []) (ready s.who f) refl (held-ready s.who f))
+tidy-search (Lies n) w (f ∷ rest) s =
+    tidy-held _ _ (held-after (op.Tick (tick_op.GetUp s.who) ∷ op.Sleeper sleeper_op.ExchangeFlag ∷ [])
+    (ready s.who f) refl
+    (held-ready s.who f))
+tidy-search Left w (f ∷ rest) s =
+    tidy-held _ _ (held-after (op.Sleeper sleeper_op.ExchangeFlag ∷ []) (ready s.who f) refl (held-ready s.who f))
+
+tidy-search_who : (who : Sleeper) (w : World) (s : Sleeping) →
+    Tidy (op.Tick (tick_op.Search s) ∷ []) (search_by_who who w s).next
+tidy-search_who (sleeper.Tick t) w s = tidy-search _ w _ s
+tidy-search_who (sleeper.Run r) w s = tidy-search_own _ w (record { run = r; waker = s.waker; poll = s.poll })
+
+pub tidy-tick : (h : Hint) (o : TickOp) (w : World) → Tidy (op.Tick o ∷ []) (tick_act h o w).next
+tidy-tick h tick_op.MakeTick w = tidy-light _ _ (make-blind uses_of blind _ w)
+tidy-tick h (tick_op.Search s) w = tidy-search_who s.who w s
+tidy-tick h (tick_op.CopyWaker s) w = tidy-light _ _ (copy-blind uses_of blind _ w s)
+tidy-tick h (tick_op.LieDown s) w = tidy-light _ _ (lie-blind uses_of blind _ w s)
+tidy-tick h (tick_op.GetUp t) w = tidy-light _ _ (up-blind uses_of blind _ w t)
+tidy-tick h (tick_op.Leave t) w = tidy-light _ _ (leave-blind uses_of blind _ w t)

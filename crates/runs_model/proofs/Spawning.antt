@@ -1,0 +1,162 @@
+-- A spawn is answered that the executor is full exactly where it is.
+use Rattle.std.proofs.Common.{◌≡◌, ◌⊎◌, ℕ, zero, suc, ◌-◌, ◌<◌, ◌≤◌, List, [], ◌∷◌, ◌++◌, length}
+use Rattle.std.proofs.Common.{Bool, true, false, not, refl, sym, ap, ◌∙◌, subst, inl, ⊎_elim, arith}
+use Rattle.std.proofs.lemmas.Bool.Decides.{nat_tests}
+use Rattle.std.proofs.lemmas.List.{get_or_past, append_cancel_left, append_assoc, length-append}
+use Rattle.std.specs.Prelude.{Option, Some, None, slice_get, nat_lt}
+use Rattle.runs_model.specs.declared.call.Reply.{Reply}
+use Rattle.runs_model.specs.declared.call.Reply.TheVariants as reply
+use Rattle.runs_model.specs.declared.event.Event.{Event}
+use Rattle.runs_model.specs.declared.event.Event.TheVariants as event
+use Rattle.runs_model.specs.declared.op.Hold.{Hold}
+use Rattle.runs_model.specs.declared.op.Hold.TheVariants as hold
+use Rattle.runs_model.specs.declared.op.Op.{Op}
+use Rattle.runs_model.specs.declared.op.Op.TheVariants as op
+use Rattle.runs_model.specs.declared.op.QueueOp.TheVariants as queue_op
+use Rattle.runs_model.specs.declared.op.TableOp.TheVariants as table_op
+use Rattle.runs_model.specs.declared.step.Hint.{Hint}
+use Rattle.runs_model.specs.declared.step.Step.{Step}
+use Rattle.runs_model.specs.declared.step.Step.TheVariants.{Go}
+use Rattle.runs_model.specs.declared.step.StepError.{StepError}
+use Rattle.runs_model.specs.declared.step.StepError.TheVariants.{NoSuch}
+use Rattle.runs_model.specs.Trace.{Trace}
+use Rattle.runs_model.specs.World.{World}
+use Rattle.runs_model.specs.Acts.{enter_by}
+use Rattle.runs_model.specs.Doing.{act}
+use Rattle.runs_model.specs.Weights.{weigh_all}
+use Rattle.runs_model.specs.Rows.{borrowing_of}
+use Rattle.runs_model.specs.Sound.{times}
+use Rattle.runs_model.specs.Good.{Good}
+use Rattle.runs_model.specs.Steps.{Machine, stack, top, below_top, step, step_by, stepped, refusal, go_refusal}
+use Rattle.runs_model.specs.Steps.{unless, settled, settled_by, end_of, onto, gone_on, run, start}
+use Rattle.runs_model.specs.Entries.{HasTable}
+use Rattle.runs_model.specs.Limit.{Asks, ReachLimit, IsUndropped, IsLimitExact}
+use Rattle.runs_model.proofs.Lift.{split, topped, good}
+use Rattle.runs_model.proofs.Stories.{no-longer}
+use Rattle.runs_model.proofs.Telling.{begun-has}
+use Rattle.runs_model.proofs.LeavingRuns.{Placed, placed}
+use Rattle.runs_model.proofs.Entering.{table-agrees}
+
+-- the last thing of a list
+pub last-get : (os : List Op) (x : Op) → slice_get (os ++ x ∷ []) (length os) ≡ Some x
+last-get [] x = refl
+last-get (o ∷ os) x = last-get os x
+
+pub top-last : (os : List Op) (x : Op) → top (os ++ x ∷ []) ≡ Some x
+top-last os x = ap (slice_get (os ++ x ∷ []))
+    (let z : length (os ++ x ∷ []) - 1 ≡ length os = omega (arith, length-append os (x ∷ [])) in z) ∙ last-get os x
+
+-- the trace after the table was asked for a place
+abbrev pub asked : Bool → Bool → ℕ → World → Event
+asked true c p w = event.CallEnded p reply.Full
+asked false true p w = event.CallEnded p reply.NoMemory
+asked false false p w = event.Accepted p (length w.tasks)
+
+pub ended-trace : (p : ℕ) (w : World) (os : List Op) (a : Reply) (held : Hold) → top os ≡ Some (op.End a held) →
+    (settled p w os).world.trace ≡ w.trace ++ event.CallEnded p a ∷ []
+ended-trace p w os a held e = ap (λ (x : Option Op). (settled_by (end_of x) p w os).world.trace) e
+
+asked-trace : (b c : Bool) (p : ℕ) (w : World) (rest : List Op) →
+    (onto p (enter_by b c p w) rest).world.trace ≡ w.trace ++ asked b c p w ∷ []
+asked-trace true c p w rest = ended-trace p w (rest ++ op.End reply.Full hold.Executor ∷ []) reply.Full hold.Executor
+    (top-last rest (op.End reply.Full hold.Executor))
+asked-trace false true p w rest = ended-trace p w (rest ++ op.End reply.NoMemory hold.Executor ∷ []) reply.NoMemory
+    hold.Executor (top-last rest (op.End reply.NoMemory hold.Executor))
+asked-trace false false p w rest =
+    let os : List Op = rest ++ op.End reply.Made (hold.Spawned (length w.tasks))
+    ∷ op.Queue (queue_op.Append (length w.tasks)) ∷ [] in
+    let e : top os ≡ Some (op.Queue (queue_op.Append (length w.tasks))) =
+    subst (λ (xs : List Op). top xs ≡ Some (op.Queue (queue_op.Append (length w.tasks))))
+    (append_assoc rest (op.End reply.Made (hold.Spawned (length w.tasks)) ∷ [])
+    (op.Queue (queue_op.Append (length w.tasks)) ∷ []))
+    (top-last (rest ++ op.End reply.Made (hold.Spawned (length w.tasks)) ∷ [])
+    (op.Queue (queue_op.Append (length w.tasks)))) in
+    ap (λ (x : Option Op). (settled_by (end_of x) p (enter_by false false p w).world os).world.trace) e
+
+step-trace : (s : Machine) (p : ℕ) (h : Hint) → p < length s.parties → Asks s p →
+    (stepped s (step s (Go p h))).world.trace ≡ s.world.trace
+    ++ asked (not (nat_lt (length s.world.table) s.world.limit)) h.refused p s.world ∷ []
+unfolding step
+step-trace s p h l e =
+    let r : refusal s (Go p h) ≡ None =
+    ap (λ (b : Bool). unless b NoSuch (go_refusal s.world (top (stack s p))))
+    (let z : nat_lt p (length s.parties) ≡ true = grind (arith, nat_tests) in z) ∙ ap (go_refusal s.world) e in
+    ap (λ (x : Option StepError). (stepped s (step_by x s (Go p h))).world.trace) r
+    ∙ (ap (λ (o : Option Op). (gone_on p s.world (stack s p) o (λ x. act p h x s.world)).world.trace) e
+    ∙ asked-trace (not (nat_lt (length s.world.table) s.world.limit)) h.refused p s.world (below_top (stack s p)))
+
+-- which is full exactly where the table is
+says-full : (b c : Bool) (p : ℕ) (w : World) (es : Trace) →
+    es ++ asked b c p w ∷ [] ≡ es ++ event.CallEnded p reply.Full ∷ [] → b ≡ true
+says-full true c p w es e = refl
+says-full false true p w es e =
+    let z : asked false true p w ∷ [] ≡ event.CallEnded p reply.Full ∷ [] = append_cancel_left es _ _ e in absurd (cc)
+says-full false false p w es e =
+    let z : asked false false p w ∷ [] ≡ event.CallEnded p reply.Full ∷ [] = append_cancel_left es _ _ e in absurd (cc)
+
+or-past : (a b : ℕ) → (a < b) ⊎ (b ≤ a)
+or-past a b = grind arith
+
+pub in-range : (s : Machine) (p : ℕ) (o : Op) → top (stack s p) ≡ Some o → p < length s.parties
+in-range s p o e = ⊎_elim
+    (λ (l : p < length s.parties). l)
+    (λ (l : length s.parties ≤ p). let z : stack s p ≡ [] = get_or_past s.parties p [] l in
+    let no : slice_get (let os : List Op = [] in os) 0 ≡ Some o = sym (ap top z) ∙ e in absurd (cc))
+    (or-past p (length s.parties))
+
+-- the drop of the executor hasn't begun where a call uses the executor
+pub has-table-by : (s : Machine) → Good s → Placed s → 1 ≤ weigh_all borrowing_of s.parties → HasTable s
+has-table-by s fine h u = inl (sym (begun-has 0 s.world.trace) ∙ ((h.leaves 0).begun ∙ go s.world.gone refl))
+  where
+    go : (b : Bool) → s.world.gone ≡ b → s.world.gone ≡ false
+    go true e = absurd (omega (arith, (fine.sound 0).lent e, u))
+    go false e = e
+
+module _ (s : Machine) (fine : Good s) (h : Placed s) where
+  uses-executor : (p : ℕ) → Asks s p → 1 ≤ weigh_all borrowing_of s.parties
+  uses-executor p e = omega (
+    arith,
+    split borrowing_of s.parties p (op.Table table_op.Enter ∷ []) (below_top (stack s p))
+        (in-range s p (op.Table table_op.Enter) e) (topped (stack s p) (op.Table table_op.Enter) e),
+  )
+
+  has-table : (p : ℕ) → Asks s p → HasTable s
+  has-table p e = has-table-by s fine h (uses-executor p e)
+
+  at-most : (p : ℕ) → Asks s p → (r : ReachLimit s (λ f. IsUndropped f s)) → (g : ℕ) →
+      times g r.futures ≤ times g s.world.table
+  at-most p e r g = by (times g r.futures) refl
+    where
+      by : (n : ℕ) → times g r.futures ≡ n → times g r.futures ≤ times g s.world.table
+      by zero q = omega (arith, q)
+      by (suc n) q =
+          let k : IsUndropped g s = r.kind g (omega (arith, q)) in
+          omega (
+            arith,
+            r.different g,
+            (table-agrees s g fine h).entered (has-table p e)
+                (record { accepted = k.accepted; remains = inl k.undropped }),
+          )
+
+  pub limit-exact : IsLimitExact s
+  limit-exact = record {
+    always = λ p t e r.
+        let n : length r.futures ≤ length s.world.table = no-longer r.futures s.world.table (at-most p e r) in
+        let b : not (nat_lt (length s.world.table) s.world.limit) ≡ true = grind (arith, nat_tests, n, r.many) in
+        step-trace s p t (in-range s p (op.Table table_op.Enter) e) e
+        ∙ ap (λ (x : Bool). s.world.trace ++ asked x t.refused p s.world ∷ []) b;
+    only = λ p t e q.
+        let b : not (nat_lt (length s.world.table) s.world.limit) ≡ true =
+        says-full _ t.refused p s.world s.world.trace
+        (sym (step-trace s p t (in-range s p (op.Table table_op.Enter) e) e) ∙ q) in
+        record {
+          futures = s.world.table;
+          different = λ f. (table-agrees s f fine h).once;
+          kind = λ f n. (table-agrees s f fine h).only (has-table p e) n;
+          many = grind (arith, nat_tests, b);
+        };
+  }
+
+pub limits : (limit parties : ℕ) (steps : List Step) → IsLimitExact (run steps (start limit parties))
+limits limit parties steps = limit-exact (run steps (start limit parties)) (good limit parties steps)
+    (placed limit parties steps)

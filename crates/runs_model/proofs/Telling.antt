@@ -1,0 +1,336 @@
+-- What a story says of a future is what the definitions over its trace say.
+use Rattle.std.proofs.Common.{◌≡◌, ◌⊎◌, ℕ, suc, ◌+◌, ◌≤◌, List, [], ◌∷◌, ◌++◌, Bool, true, false, ◌||◌, not, cond, eqb}
+use Rattle.std.proofs.Common.{take, refl, sym, ap, ◌∙◌, subst, inl, inr, ⊎_elim, arith}
+use Rattle.std.specs.Prelude.{fold, count_by}
+use Rattle.std.specs.List.{before_first, position_or_len}
+use Rattle.runs_model.specs.declared.event.Answer.TheVariants.{Pending, Ready}
+use Rattle.runs_model.specs.declared.event.Event.{Event}
+use Rattle.runs_model.specs.declared.event.Event.TheVariants.{Accepted, Answered, Cancelled}
+use Rattle.runs_model.specs.declared.event.Event.TheVariants.{Dropped, DropBegun, DropEnded}
+use Rattle.runs_model.specs.Trace.{Trace, has, is_accepted, is_dropped, is_ready}
+use Rattle.runs_model.specs.Trace.{is_cancelled, is_drop_begun, is_drop_ended}
+use Rattle.runs_model.specs.EarlyDrop.{before_drop, EarlyDropHasCause}
+use Rattle.runs_model.specs.Weights.{same}
+use Rattle.runs_model.proofs.Stories.{Story, untold, except, hears, story_from, story}
+
+pub same-cond : (g f : ℕ) → same g f ≡ cond (eqb g f) 1 0
+unfolding same
+same-cond g f = refl
+
+pub one-stray : (b c : Bool) (n : ℕ) → n ≡ cond b 1 0 → cond b (cond c 0 1) 0 ≤ n
+one-stray true true n e = omega arith
+one-stray true false n e = omega (arith, e)
+one-stray false c n e = omega arith
+
+-- how often it was dropped and accepted
+
+fallen-one : (g : ℕ) (e : Event) (s : Story) → (hears g e s).fallen ≡ s.fallen + cond (is_dropped g e) 1 0
+fallen-one g (Dropped p f) s = omega (arith, same-cond g f)
+fallen-one g (Answered p f Ready) s = omega arith
+fallen-one g (Answered p f Pending) s = omega arith
+fallen-one g _ s = omega arith
+
+fallen-from : (g : ℕ) (s : Story) (es : Trace) →
+    (story_from g s es).fallen ≡ fold (λ a x. a + cond (is_dropped g x) 1 0) s.fallen es
+fallen-from g s [] = refl
+fallen-from g s (e ∷ es) =
+    fallen-from g (hears g e s) es ∙ ap (λ (n : ℕ). fold (λ a x. a + cond (is_dropped g x) 1 0) n es) (fallen-one g e s)
+
+pub fallen-counts : (g : ℕ) (es : Trace) → (story g es).fallen ≡ count_by (is_dropped g) es
+unfolding story
+fallen-counts g es = fallen-from g untold es
+
+accepted-one : (g : ℕ) (e : Event) (s : Story) → (hears g e s).accepted ≡ s.accepted + cond (is_accepted g e) 1 0
+accepted-one g (Accepted p f) s = omega (arith, same-cond g f)
+accepted-one g (Answered p f Ready) s = omega arith
+accepted-one g (Answered p f Pending) s = omega arith
+accepted-one g _ s = omega arith
+
+accepted-from : (g : ℕ) (s : Story) (es : Trace) →
+    (story_from g s es).accepted ≡ fold (λ a x. a + cond (is_accepted g x) 1 0) s.accepted es
+accepted-from g s [] = refl
+accepted-from g s (e ∷ es) =
+    accepted-from g (hears g e s) es ∙ ap (λ (n : ℕ). fold (λ a x. a + cond (is_accepted g x) 1 0) n es)
+    (accepted-one g e s)
+
+pub accepted-counts : (g : ℕ) (es : Trace) → (story g es).accepted ≡ count_by (is_accepted g) es
+unfolding story
+accepted-counts g es = accepted-from g untold es
+
+-- whether such an event is there, where it is counted
+
+fold-more : (f : Event → ℕ) (n : ℕ) (es : Trace) → n ≤ fold (λ a x. a + f x) n es
+fold-more f n [] = omega arith
+fold-more f n (e ∷ es) = omega (arith, fold-more f (n + f e) es)
+
+has-counts-go : (test : Event → Bool) (n : ℕ) (b : Bool) (es : Trace) →
+    (has test es ≡ true → suc n ≤ fold (λ a x. a + cond (test x) 1 0) n es) → (b || has test es) ≡ true →
+    suc n ≤ fold (λ a x. a + cond (test x) 1 0) (n + cond b 1 0) es
+has-counts-go test n true es ih h = omega (arith, fold-more (λ x. cond (test x) 1 0) (n + 1) es)
+has-counts-go test n false es ih h = subst (λ (m : ℕ). suc n ≤ fold (λ a x. a + cond (test x) 1 0) m es)
+    (let z : n ≡ n + 0 = omega arith in z) (ih h)
+
+has-counts : (test : Event → Bool) (n : ℕ) (es : Trace) → has test es ≡ true →
+    suc n ≤ fold (λ a x. a + cond (test x) 1 0) n es
+has-counts test n [] h = absurd (cc)
+has-counts test n (e ∷ es) h = has-counts-go test n (test e) es (has-counts test n es) h
+
+pub counted-there : (test : Event → Bool) (es : Trace) → has test es ≡ true → 1 ≤ count_by test es
+counted-there test es h = has-counts test 0 es h
+
+-- whether the drop of the executor has ended
+
+or-true : (b : Bool) → true ≡ (b || true)
+or-true true = refl
+or-true false = refl
+
+or-false : (b : Bool) → b ≡ (b || false)
+or-false true = refl
+or-false false = refl
+
+ended-from : (g : ℕ) (s : Story) (es : Trace) → (story_from g s es).ended ≡ (s.ended || has is_drop_ended es)
+ended-from g s [] = or-false s.ended
+ended-from g s (DropEnded p ∷ es) = ended-from g (hears g (DropEnded p) s) es ∙ or-true s.ended
+ended-from g s (Answered p f Ready ∷ es) = ended-from g (hears g (Answered p f Ready) s) es
+ended-from g s (Answered p f Pending ∷ es) = ended-from g s es
+ended-from g s (e ∷ es) = ended-from g (hears g e s) es
+
+pub ended-has : (g : ℕ) (es : Trace) → (story g es).ended ≡ has is_drop_ended es
+unfolding story
+ended-has g es = ended-from g untold es
+
+-- whether the drop of the executor has begun
+
+begun-from : (g : ℕ) (s : Story) (es : Trace) → (story_from g s es).begun ≡ (s.begun || has is_drop_begun es)
+begun-from g s [] = or-false s.begun
+begun-from g s (DropBegun p ∷ es) = begun-from g (hears g (DropBegun p) s) es ∙ or-true s.begun
+begun-from g s (Answered p f Ready ∷ es) = begun-from g (hears g (Answered p f Ready) s) es
+begun-from g s (Answered p f Pending ∷ es) = begun-from g s es
+begun-from g s (e ∷ es) = begun-from g (hears g e s) es
+
+pub begun-has : (g : ℕ) (es : Trace) → (story g es).begun ≡ has is_drop_begun es
+unfolding story
+begun-has g es = begun-from g untold es
+
+has-none-go : (test : Event → Bool) (n : ℕ) (b : Bool) (es : Trace) →
+    (has test es ≡ false → fold (λ a x. a + cond (test x) 1 0) n es ≡ n) → (b || has test es) ≡ false →
+    fold (λ a x. a + cond (test x) 1 0) (n + cond b 1 0) es ≡ n
+has-none-go test n true es ih h = absurd (cc)
+has-none-go test n false es ih h =
+    ap (λ (m : ℕ). fold (λ a x. a + cond (test x) 1 0) m es) (let z : n + 0 ≡ n = omega arith in z) ∙ ih h
+
+has-none : (test : Event → Bool) (n : ℕ) (es : Trace) → has test es ≡ false →
+    fold (λ a x. a + cond (test x) 1 0) n es ≡ n
+has-none test n [] h = refl
+has-none test n (e ∷ es) h = has-none-go test n (test e) es (has-none test n es) h
+
+-- an event is there where it is counted
+pub there-or-none : (test : Event → Bool) (es : Trace) →
+    ((has test es ≡ true) × (1 ≤ count_by test es)) ⊎ ((has test es ≡ false) × (count_by test es ≡ 0))
+there-or-none test es = go (has test es) refl
+  where
+    go : (b : Bool) → has test es ≡ b →
+        ((has test es ≡ true) × (1 ≤ count_by test es)) ⊎ ((has test es ≡ false) × (count_by test es ≡ 0))
+    go true e = inl (e, counted-there test es e)
+    go false e = inr (e, has-none test 0 es e)
+
+pub counted-drop : (f : ℕ) (es : Trace) → 1 ≤ (story f es).fallen → has (is_dropped f) es ≡ true
+counted-drop f es n = ⊎_elim (λ (x : (has (is_dropped f) es ≡ true) × (1 ≤ count_by (is_dropped f) es)). x.0)
+    (λ (x : (has (is_dropped f) es ≡ false) × (count_by (is_dropped f) es ≡ 0)).
+    absurd (omega (arith, x.1, n, fallen-counts f es))) (there-or-none (is_dropped f) es)
+
+-- the standing futures are the same in all stories
+
+abbrev pub standing_one : Event → Bool → List ℕ → List ℕ
+standing_one (Accepted p f) b xs = xs ++ f ∷ []
+standing_one (Dropped p f) b xs = cond b xs (except f xs)
+standing_one _ b xs = xs
+
+abbrev pub begun_one : Event → Bool → Bool
+begun_one (DropBegun p) b = true
+begun_one _ b = b
+
+abbrev pub standing_from : Bool → List ℕ → Trace → List ℕ
+standing_from b xs [] = xs
+standing_from b xs (e ∷ es) = standing_from (begun_one e b) (standing_one e b xs) es
+
+one-standing : (g : ℕ) (e : Event) (s : Story) → (hears g e s).standing ≡ standing_one e s.begun s.standing
+one-standing g (Answered p f Ready) s = refl
+one-standing g (Answered p f Pending) s = refl
+one-standing g _ s = refl
+
+one-begun : (g : ℕ) (e : Event) (s : Story) → (hears g e s).begun ≡ begun_one e s.begun
+one-begun g (Answered p f Ready) s = refl
+one-begun g (Answered p f Pending) s = refl
+one-begun g _ s = refl
+
+stands-from : (g : ℕ) (s : Story) (es : Trace) → (story_from g s es).standing ≡ standing_from s.begun s.standing es
+stands-from g s [] = refl
+stands-from g s (e ∷ es) =
+    stands-from g (hears g e s) es
+    ∙ subst (λ (x : Bool × List ℕ). standing_from (hears g e s).begun (hears g e s).standing es
+    ≡ standing_from x.0 x.1 es) (λ i. (one-begun g e s i, one-standing g e s i)) refl
+
+pub same-standing : (g k : ℕ) (es : Trace) → (story g es).standing ≡ (story k es).standing
+unfolding story
+same-standing g k es = stands-from g untold es ∙ sym (stands-from k untold es)
+
+-- a drop before that of the executor began
+
+early-one : (g : ℕ) (e : Event) (s : Story) → s.early ≤ (hears g e s).early
+early-one g (Answered p f Ready) s = omega arith
+early-one g (Answered p f Pending) s = omega arith
+early-one g (Dropped p f) s = omega arith
+early-one g _ s = omega arith
+
+early-more : (g : ℕ) (s : Story) (es : Trace) → s.early ≤ (story_from g s es).early
+early-more g s [] = omega arith
+early-more g s (e ∷ es) = omega (arith, early-one g e s, early-more g (hears g e s) es)
+
+-- a drop before which there is no cause
+
+strays-one : (g : ℕ) (e : Event) (s : Story) → s.strays ≤ (hears g e s).strays
+strays-one g (Answered p f Ready) s = omega arith
+strays-one g (Answered p f Pending) s = omega arith
+strays-one g (Dropped p f) s = omega arith
+strays-one g _ s = omega arith
+
+strays-more : (g : ℕ) (s : Story) (es : Trace) → s.strays ≤ (story_from g s es).strays
+strays-more g s [] = omega arith
+strays-more g s (e ∷ es) = omega (arith, strays-one g e s, strays-more g (hears g e s) es)
+
+abbrev pub HasCause : ℕ → Trace → Type 0
+HasCause f es = (has (is_ready f) es ≡ true) ⊎ ((has (is_cancelled f) es ≡ true) ⊎ (has is_drop_begun es ≡ true))
+
+abbrev pub IsCause : ℕ → Event → Type 0
+IsCause f e = (is_ready f e ≡ true) ⊎ ((is_cancelled f e ≡ true) ⊎ (is_drop_begun e ≡ true))
+
+or-left : (a b : Bool) → a ≡ true → (a || b) ≡ true
+or-left true b e = refl
+or-left false b e = absurd (cc)
+
+or-right : (a b : Bool) → b ≡ true → (a || b) ≡ true
+or-right true b e = refl
+or-right false b e = e
+
+now-cause : (f : ℕ) (e : Event) (es : Trace) → IsCause f e → HasCause f (e ∷ es)
+now-cause f e es (inl x) = inl (or-left _ _ x)
+now-cause f e es (inr (inl x)) = inr (inl (or-left _ _ x))
+now-cause f e es (inr (inr x)) = inr (inr (or-left _ _ x))
+
+later-cause : (f : ℕ) (e : Event) (es : Trace) → HasCause f es → HasCause f (e ∷ es)
+later-cause f e es (inl x) = inl (or-right _ _ x)
+later-cause f e es (inr (inl x)) = inr (inl (or-right _ _ x))
+later-cause f e es (inr (inr x)) = inr (inr (or-right _ _ x))
+
+cond-cause : (b c : Bool) → cond b true c ≡ true → (c ≡ true) ⊎ (b ≡ true)
+cond-cause true c e = inr refl
+cond-cause false c e = inl e
+
+cause-one : (f : ℕ) (e : Event) (s : Story) → (hears f e s).caused ≡ true → (s.caused ≡ true) ⊎ IsCause f e
+cause-one f (Answered p g Ready) s h =
+    ⊎_elim (λ x. inl x) (λ (x : eqb f g ≡ true). inr (inl x)) (cond-cause (eqb f g) s.caused h)
+cause-one f (Answered p g Pending) s h = inl h
+cause-one f (Cancelled p g) s h =
+    ⊎_elim (λ x. inl x) (λ (x : eqb f g ≡ true). inr (inr (inl x))) (cond-cause (eqb f g) s.caused h)
+cause-one f (DropBegun p) s h = inr (inr (inr refl))
+cause-one f _ s h = inl h
+
+-- what comes before the first
+before-cons : (q : Event → Bool) (e : Event) (es : Trace) → q e ≡ false →
+    before_first q (e ∷ es) ≡ e ∷ before_first q es
+before-cons q e es h = ap (λ (c : Bool). take (cond (not c) (1 + position_or_len q es) 0) (e ∷ es)) h
+    ∙ ap (λ (n : ℕ). take n (e ∷ es)) (let z : 1 + position_or_len q es ≡ suc (position_or_len q es) = omega arith in z)
+
+abbrev pub Excused : ℕ → Story → Trace → Type 0
+Excused f s es = (s.caused ≡ true) ⊎ HasCause f (before_drop f es)
+
+excused-first : (f : ℕ) (e : Event) (s : Story) (c : Bool) → s.caused ≡ c → is_dropped f e ≡ true →
+    (hears f e s).strays ≡ 0 → s.caused ≡ true
+excused-first f (Dropped p g) s true k d h = k
+excused-first f (Dropped p g) s false k d h =
+    let x : s.strays + cond s.caused 0 (same f g) ≡ 0 = h in
+    let y : cond s.caused 0 (same f g) ≡ same f g = ap (λ (b : Bool). cond b 0 (same f g)) k in
+    let z : same f g ≡ 1 = same-cond f g ∙ ap (λ (b : Bool). cond b 1 0) d in
+    absurd (omega (arith, x, y, z))
+excused-first f _ s c k d h = absurd (cc)
+
+excused-later : (f : ℕ) (e : Event) (s : Story) (es : Trace) → is_dropped f e ≡ false → Excused f (hears f e s) es →
+    Excused f s (e ∷ es)
+excused-later f e s es d x =
+    rw (before-cons (is_dropped f) e es d)
+    (⊎_elim (λ (c : (hears f e s).caused ≡ true). ⊎_elim (λ k. inl k)
+    (λ (k : IsCause f e). inr (now-cause f e (before_drop f es) k)) (cause-one f e s c))
+    (λ (c : HasCause f (before_drop f es)). inr (later-cause f e (before_drop f es) c)) x)
+
+excused-go : (f : ℕ) (e : Event) (s : Story) (es : Trace) (b : Bool) → is_dropped f e ≡ b →
+    (story_from f (hears f e s) es).strays ≡ 0 → (has (is_dropped f) es ≡ true → Excused f (hears f e s) es) →
+    (b || has (is_dropped f) es) ≡ true → Excused f s (e ∷ es)
+excused-go f e s es true d z ih h =
+    inl (excused-first f e s s.caused refl d (omega (arith, z, strays-more f (hears f e s) es)))
+excused-go f e s es false d z ih h = excused-later f e s es d (ih h)
+
+excused : (f : ℕ) (s : Story) (es : Trace) → (story_from f s es).strays ≡ 0 → has (is_dropped f) es ≡ true →
+    Excused f s es
+excused f s [] z h = absurd (cc)
+excused f s (e ∷ es) z h = excused-go f e s es (is_dropped f e) refl z (excused f (hears f e s) es z) h
+
+pub drop-has-cause : (f : ℕ) (es : Trace) → (story f es).strays ≡ 0 → EarlyDropHasCause f es
+unfolding story
+drop-has-cause f es z early = go (excused f untold es z early.dropped)
+  where
+    go : Excused f untold es →
+        (has (is_cancelled f) (before_drop f es) ≡ true) ⊎ (has is_drop_begun (before_drop f es) ≡ true)
+    go (inl x) = absurd (cc)
+    go (inr (inl x)) = let no : true ≡ false = sym x ∙ early.early in absurd (cc)
+    go (inr (inr x)) = x
+
+-- the drop of the executor had begun before that of the future
+
+abbrev pub Follows : ℕ → Story → Trace → Type 0
+Follows f s es = (s.begun ≡ true) ⊎ (has is_drop_begun (before_drop f es) ≡ true)
+
+begun-or : (f : ℕ) (e : Event) (s : Story) → (hears f e s).begun ≡ true → (s.begun ≡ true) ⊎ (is_drop_begun e ≡ true)
+begun-or f (DropBegun p) s h = inr refl
+begun-or f (Answered p g Ready) s h = inl h
+begun-or f (Answered p g Pending) s h = inl h
+begun-or f _ s h = inl h
+
+follows-first : (f : ℕ) (e : Event) (s : Story) (b : Bool) → s.begun ≡ b → is_dropped f e ≡ true →
+    (hears f e s).early ≡ 0 → s.begun ≡ true
+follows-first f (Dropped p g) s true k d h = k
+follows-first f (Dropped p g) s false k d h =
+    let x : s.early + cond s.begun 0 (same f g) ≡ 0 = h in
+    let y : cond s.begun 0 (same f g) ≡ same f g = ap (λ (b : Bool). cond b 0 (same f g)) k in
+    let z : same f g ≡ 1 = same-cond f g ∙ ap (λ (b : Bool). cond b 1 0) d in
+    absurd (omega (arith, x, y, z))
+follows-first f _ s b k d h = absurd (cc)
+
+follows-later : (f : ℕ) (e : Event) (s : Story) (es : Trace) → is_dropped f e ≡ false → Follows f (hears f e s) es →
+    Follows f s (e ∷ es)
+follows-later f e s es d x = rw (before-cons (is_dropped f) e es d) (⊎_elim
+    (λ (b : (hears f e s).begun ≡ true). ⊎_elim (λ k. inl k) (λ (k : is_drop_begun e ≡ true). inr (or-left _ _ k))
+    (begun-or f e s b))
+    (λ (c : has is_drop_begun (before_drop f es) ≡ true). inr (or-right _ _ c))
+    x)
+
+follows-go : (f : ℕ) (e : Event) (s : Story) (es : Trace) (b : Bool) → is_dropped f e ≡ b →
+    (story_from f (hears f e s) es).early ≡ 0 → (has (is_dropped f) es ≡ true → Follows f (hears f e s) es) →
+    (b || has (is_dropped f) es) ≡ true → Follows f s (e ∷ es)
+follows-go f e s es true d z ih h =
+    inl (follows-first f e s s.begun refl d (omega (arith, z, early-more f (hears f e s) es)))
+follows-go f e s es false d z ih h = follows-later f e s es d (ih h)
+
+follows : (f : ℕ) (s : Story) (es : Trace) → (story_from f s es).early ≡ 0 → has (is_dropped f) es ≡ true →
+    Follows f s es
+follows f s [] z h = absurd (cc)
+follows f s (e ∷ es) z h = follows-go f e s es (is_dropped f e) refl z (follows f (hears f e s) es z) h
+
+pub drop-follows : (f : ℕ) (es : Trace) → (story f es).early ≡ 0 → has (is_dropped f) es ≡ true →
+    has is_drop_begun (before_drop f es) ≡ true
+unfolding story
+drop-follows f es z d = go (follows f untold es z d)
+  where
+    go : Follows f untold es → has is_drop_begun (before_drop f es) ≡ true
+    go (inl x) = absurd (cc)
+    go (inr x) = x

@@ -1,0 +1,182 @@
+-- Calls that take no memory ask for none.
+use Rattle.std.proofs.Common.{ℕ, List, [], ◌∷◌, ◌++◌, Bool, true, false, ◌||◌, not, refl, ap, ◌∙◌}
+use Rattle.std.proofs.lemmas.List.Folds.{list_any-append}
+use Rattle.std.specs.List.{list_any}
+use Rattle.std.specs.Prelude.{Option, Some, None}
+use Rattle.task_moves.specs.declared.moves.owed.Move.{Move}
+use Rattle.task_moves.specs.declared.moves.owed.Move.TheVariants as move
+use Rattle.task_moves.specs.declared.moves.owed.FutureDebt.{FutureDebt}
+use Rattle.task_moves.specs.declared.moves.owed.FutureDebt.TheVariants.{PollFuture, DropFuture}
+use Rattle.task_moves.specs.declared.moves.owed.AwaiterDebt.{AwaiterDebt}
+use Rattle.task_moves.specs.declared.moves.owed.AwaiterDebt.TheVariants as debt
+use Rattle.task_moves.specs.declared.moves.owed.Moved.{Moved}
+use Rattle.task_moves.specs.declared.moves.owed.Owed.{Owed}
+use Rattle.task_moves.specs.declared.schedule_info.ScheduleInfo.{ScheduleInfo}
+use Rattle.task_moves.specs.Moves as moves
+use Rattle.task_moves.specs.Moves.{is_over}
+use Rattle.runs_model.specs.declared.call.Reply.TheVariants as reply
+use Rattle.runs_model.specs.declared.event.Event.TheVariants as event
+use Rattle.runs_model.specs.declared.op.Hold.TheVariants as hold
+use Rattle.runs_model.specs.declared.op.Awaiter.{Awaiter}
+use Rattle.runs_model.specs.declared.op.Waker.{Waker}
+use Rattle.runs_model.specs.declared.op.Waker.TheVariants.{Task, Outside}
+use Rattle.runs_model.specs.declared.op.Polled.TheVariants as of
+use Rattle.runs_model.specs.declared.op.Op.{Op}
+use Rattle.runs_model.specs.declared.op.Op.TheVariants as op
+use Rattle.runs_model.specs.declared.op.HandleOp.TheVariants as handle_op
+use Rattle.runs_model.specs.World.{World, task, log, log_if, awaiter_of, among}
+use Rattle.runs_model.specs.Carried.{schedule_ops, future_ops, output_ops, awaiter_ops, next_ops, owed_ops, carried}
+use Rattle.runs_model.specs.Doing.{act}
+use Rattle.runs_model.specs.Acts as acts
+use Rattle.runs_model.specs.Memory.{may_refuse, AsksForNone}
+
+-- two parts that ask for none
+pub both : (xs ys : List Op) → AsksForNone xs → AsksForNone ys → AsksForNone (xs ++ ys)
+both xs ys a b = list_any-append may_refuse xs ys ∙ (ap (λ (x : Bool). x || list_any may_refuse ys) a ∙ b)
+
+none-scheduled : (f : ℕ) (i : Option ScheduleInfo) → AsksForNone (schedule_ops f i)
+none-scheduled f None = refl
+none-scheduled f (Some i) = refl
+
+none-future : (there : Bool) (f : ℕ) (d : Option FutureDebt) → AsksForNone (future_ops there f d)
+none-future there f None = refl
+none-future there f (Some PollFuture) = refl
+none-future true f (Some DropFuture) = refl
+none-future false f (Some DropFuture) = refl
+
+none-output : (b : Bool) (f : ℕ) → AsksForNone (output_ops b f)
+none-output true f = refl
+none-output false f = refl
+
+pub none-awaiter : (f : ℕ) (d : Option AwaiterDebt) → AsksForNone (awaiter_ops f d)
+none-awaiter f None = refl
+none-awaiter f (Some debt.NotifyAwaiter) = refl
+none-awaiter f (Some debt.NotifyOther) = refl
+none-awaiter f (Some debt.CallGiven) = refl
+none-awaiter f (Some debt.StoreCopy) = refl
+none-awaiter f (Some debt.CallStored) = refl
+none-awaiter f (Some debt.TakeAwaiter) = refl
+none-awaiter f (Some debt.CallTaken) = refl
+
+none-next : (f : ℕ) (m : Option Move) → AsksForNone (next_ops f m)
+none-next f None = refl
+none-next f (Some move.WakeByReference) = refl
+none-next f (Some move.Wake) = refl
+none-next f (Some move.Copy) = refl
+none-next f (Some move.Release) = refl
+none-next f (Some move.TakeUp) = refl
+none-next f (Some move.SettleClosed) = refl
+none-next f (Some move.GiveUp) = refl
+none-next f (Some move.EndReady) = refl
+none-next f (Some move.EndPending) = refl
+none-next f (Some move.EndClosed) = refl
+none-next f (Some move.DropRunnable) = refl
+none-next f (Some move.Cancel) = refl
+none-next f (Some move.Detach) = refl
+none-next f (Some move.Poll) = refl
+none-next f (Some move.LookAgain) = refl
+none-next f (Some move.Register) = refl
+none-next f (Some move.EndRegister) = refl
+none-next f (Some move.Notify) = refl
+none-next f (Some move.EndNotify) = refl
+
+none-owed : (there : Bool) (f : ℕ) (o : Owed) → AsksForNone (owed_ops there f o)
+none-owed there f o =
+    both (schedule_ops f o.schedule ++ future_ops there f o.future ++ output_ops o.drop_output f
+    ++ awaiter_ops f o.awaiter) (next_ops f o.next)
+    (both (schedule_ops f o.schedule ++ future_ops there f o.future ++ output_ops o.drop_output f)
+    (awaiter_ops f o.awaiter)
+    (both (schedule_ops f o.schedule ++ future_ops there f o.future) (output_ops o.drop_output f)
+    (both (schedule_ops f o.schedule) (future_ops there f o.future) (none-scheduled f o.schedule)
+    (none-future there f o.future))
+    (none-output o.drop_output f)) (none-awaiter f o.awaiter)) (none-next f o.next)
+
+pub none-carried : (w : World) (f : ℕ) (m : Moved) → AsksForNone (carried w f m).next
+none-carried w f m = none-owed (among f w.table) f m.owed
+
+pub none-wake : (p : ℕ) (w : World) (f : ℕ) → AsksForNone (acts.wake p w f).next
+none-wake p w f = none-carried (log_if (not (is_over (task w f))) w (event.Woken p f)) f (moves.wake (task w f))
+
+-- queue and table
+
+pub none-take : (w : World) (items : List ℕ) → AsksForNone (acts.take_by w items).next
+none-take w [] = refl
+none-take w (f ∷ rest) = refl
+
+pub none-append : (b : Bool) (w : World) (f : ℕ) → AsksForNone (acts.append_by b w f).next
+none-append true w f = refl
+none-append false w f = refl
+
+pub none-look_at_table : (w : World) (table : List ℕ) → AsksForNone (op.End (acts.emptiness table) hold.Executor ∷ [])
+none-look_at_table w [] = refl
+none-look_at_table w (f ∷ fs) = refl
+
+pub none-leave : (b : Bool) (w : World) (f : ℕ) → AsksForNone (acts.leave_by b w f).next
+none-leave true w f = refl
+none-leave false w f = refl
+
+-- awaiters
+
+pub none-register : (b : Bool) (w : World) (f : ℕ) (a : Waker) (k : ℕ) → AsksForNone (acts.register_by b w f a k).next
+none-register true w f a k = refl
+none-register false w f a k = refl
+
+pub none-waker : (a : Waker) → AsksForNone (acts.waker_goes a)
+none-waker (Task g) = refl
+none-waker (Outside x) = refl
+
+none-let_go : (a : Option Awaiter) → AsksForNone (acts.let_go a)
+none-let_go None = refl
+none-let_go (Some a) = none-waker a.waker
+
+pub none-end_register : (b : Bool) (w : World) (f : ℕ) (a : Waker) (k : ℕ) →
+    AsksForNone (acts.end_register_by b w f a k).next
+none-end_register true w f a k = both (acts.let_go (awaiter_of w f)) (op.Handle (handle_op.LookAgain f) ∷ [])
+    (none-let_go (awaiter_of w f)) refl
+none-end_register false w f a k = both (acts.let_go (awaiter_of w f)) (op.Handle (handle_op.LookAgain f) ∷ [])
+    (none-let_go (awaiter_of w f)) refl
+
+pub none-notify : (b : Bool) (w : World) (f : ℕ) (mine : Bool) → AsksForNone (acts.notify_by b w f mine).next
+none-notify true w f mine = refl
+none-notify false w f mine = refl
+
+pub none-told : (same : Bool) (f : ℕ) (a : Option Awaiter) → AsksForNone (acts.told same f a)
+none-told true f None = refl
+none-told false f None = refl
+none-told true f (Some a) = none-waker a.waker
+none-told false f (Some a) = refl
+
+pub none-call : (p : ℕ) (w : World) (f : ℕ) (a : Waker) (k : ℕ) → AsksForNone (acts.call_awaiter p w f a k).next
+none-call p w f (Task g) k = none-wake p (log w (event.WakerCalled p (of.Handle f) k (Task g))) g
+none-call p w f (Outside x) k = refl
+
+-- the second look of a poll is never told of a refusal
+pub none-again : (closed going completed : Bool) (p : ℕ) (w : World) (f : ℕ) →
+    AsksForNone (acts.look_again_by (moves.look_again_by closed going completed (task w f)).owed.answer p w f
+    (moves.look_again_by closed going completed (task w f))).next
+none-again true true completed p w f = refl
+none-again true false completed p w f = refl
+none-again false going false p w f = refl
+none-again false going true p w f =
+    both (awaiter_ops f (moves.notify_other_if (task w f).awaiter)) (op.End reply.Ready (hold.Handle f) ∷ [])
+    (none-awaiter f (moves.notify_other_if (task w f).awaiter)) refl
+
+-- the executor's drop
+
+pub none-closing : (fs ws : List ℕ) → AsksForNone (acts.closing_ops fs ws)
+none-closing (f ∷ fs) ws = refl
+none-closing [] (f ∷ ws) = refl
+none-closing [] [] = refl
+
+pub none-drop_next : (p : ℕ) (w : World) (fs : List ℕ) → AsksForNone (acts.drop_next_by p w fs).next
+none-drop_next p w [] = refl
+none-drop_next p w (f ∷ rest) = none-closing rest _
+
+pub none-wake_next : (p : ℕ) (w : World) (fs : List ℕ) → AsksForNone (acts.wake_next_by p w fs).next
+none-wake_next p w [] = refl
+none-wake_next p w (f ∷ rest) = both (acts.wake p (record w { waking = rest }) f).next (acts.closing_ops [] rest)
+    (none-wake p (record w { waking = rest }) f) (none-closing [] rest)
+
+pub none-drain : (p : ℕ) (w : World) (fs : List ℕ) → AsksForNone (acts.drain_by p w fs).next
+none-drain p w [] = refl
+none-drain p w (f ∷ rest) = refl

@@ -1,0 +1,36 @@
+-- A spawn is answered that the executor is full exactly where it is.
+use Rattle.std.specs.Prelude.{◌≡◌, ℕ, ◌≤◌, false, true, Some, List, [], ◌∷◌, ◌++◌, length}
+use Rattle.runs_model.specs.declared.call.Reply.TheVariants.{Full}
+use Rattle.runs_model.specs.declared.event.Event.TheVariants.{CallEnded}
+use Rattle.runs_model.specs.declared.op.Op.TheVariants as op
+use Rattle.runs_model.specs.declared.op.TableOp.TheVariants as table_op
+use Rattle.runs_model.specs.declared.step.Hint.{Hint}
+use Rattle.runs_model.specs.declared.step.Step.TheVariants.{Go}
+use Rattle.runs_model.specs.Trace.{has, is_accepted, is_dropped}
+use Rattle.runs_model.specs.Sound.{times}
+use Rattle.runs_model.specs.Steps.{Machine, stack, top, step, stepped}
+use Rattle.runs_model.specs.Entries.{Remains}
+
+-- party p is a spawn that has still to ask for a place
+abbrev pub Asks : Machine → ℕ → Type 0
+Asks s p = top (stack s p) ≡ Some (op.Table table_op.Enter)
+
+-- its next step, told h, answers that the executor is full
+abbrev pub AnswersFull : Machine → ℕ → Hint → Type 0
+AnswersFull s p h = (stepped s (step s (Go p h))).world.trace ≡ s.world.trace ++ CallEnded p Full ∷ []
+
+-- as many different futures as the limit, or more, are of this kind
+pub record ReachLimit (s : Machine) (Kind : ℕ → Type 0) : Type 0 where
+  pub futures : List ℕ
+  pub different : (f : ℕ) → times f futures ≤ 1
+  pub kind : (f : ℕ) → 1 ≤ times f futures → Kind f
+  pub many : s.world.limit ≤ length futures
+
+pub record IsUndropped (f : ℕ) (s : Machine) : Type 0 where
+  pub accepted : has (is_accepted f) s.world.trace ≡ true
+  pub undropped : has (is_dropped f) s.world.trace ≡ false
+
+-- always where so many are undropped, and only where so many are undropped or were dropped in a call that hasn't ended
+pub record IsLimitExact (s : Machine) : Type 0 where
+  pub always : (p : ℕ) (h : Hint) → Asks s p → ReachLimit s (λ f. IsUndropped f s) → AnswersFull s p h
+  pub only : (p : ℕ) (h : Hint) → Asks s p → AnswersFull s p h → ReachLimit s (λ f. Remains f s)

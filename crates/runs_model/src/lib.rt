@@ -1,0 +1,21 @@
+//! What happens in an executor, as data: the calls of its parties, what they are answered, and the events
+//! of which a trace is a list. What is said of a trace stands in `specs/`, in files of the same names.
+#![tactic(auto)]
+
+mod call;
+mod event;
+mod kind;
+pub mod laws;
+mod op;
+mod step;
+pub mod trace_laws;
+
+pub use call::{By, Call, Reply};
+pub use event::{Answer, Event};
+pub use kind::Kind;
+pub use op::{
+    Awaiter, ClosingOp, HandleOp, Hold, ListOp, Op, Polled, QueueOp, RunOp, RunPoll, Section,
+    Sleeper, SleeperOp, Sleeping, Source, Steal, StealOp, TableOp, Then, TickOp, UserOp, Waker,
+    WakerOp,
+};
+pub use step::{Hint, Step, StepError, UserEnd};

@@ -240,7 +240,7 @@ asks w p here call.DropExecutor = asks-drop w p call.DropExecutor
 
 -- every step
 
-heard-moves : (s : Machine) (p : ℕ) (old rest : List Op) (d : Done) → Good s → p < length s.parties →
+pub heard-moves : (s : Machine) (p : ℕ) (old rest : List Op) (d : Done) → Good s → p < length s.parties →
     stack s p ≡ rest ++ reverse old → Way s p old rest d → Heard s → Heard (unsettled s p rest d)
 heard-moves s p old rest d good l e way h =
     record { placed = placed-moves s p old rest d good l e way h.placed; asked = go way }
@@ -266,7 +266,7 @@ asked-end : (w : World) (p : ℕ) (a : Reply) (held : Hold) (g : ℕ) (r : Pend)
     Asked w g (with_ops g (op.End a held ∷ []) r) → Asked (log w (event.CallEnded p a)) g (with_ops g [] r)
 asked-end w p a held g r h = grind (arith, request-push, phase-push)
 
-heard-ends : (s : Machine) (p : ℕ) (a : Reply) (held : Hold) (below : List Op) → p < length s.parties →
+pub heard-ends : (s : Machine) (p : ℕ) (a : Reply) (held : Hold) (below : List Op) → p < length s.parties →
     stack s p ≡ below ++ reverse (op.End a held ∷ []) → Heard s →
     Heard (unsettled s p below (done (log s.world (event.CallEnded p a)) []))
 heard-ends s p a held below l e h = record {
@@ -276,7 +276,7 @@ heard-ends s p a held below l e h = record {
       (subst (Asked s.world g) (split-pend g s.parties p (op.End a held ∷ []) below l e) (h.asked g)));
 }
 
-heard-start : (limit n : ℕ) → Heard (start limit n)
+pub heard-start : (limit n : ℕ) → Heard (start limit n)
 heard-start limit n =
     record { placed = placed-start limit n; asked = λ g. none-asked g (pend g (idle n)) ((good-start limit n).sound g) }
   where

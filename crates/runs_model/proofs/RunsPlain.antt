@@ -37,7 +37,6 @@ plain r = record nothing {
   ticking = r.ticking;
   running = r.running;
   past = r.past;
-  steps = r.steps;
 }
 
 abbrev pub IsPlain : Op → Type 0

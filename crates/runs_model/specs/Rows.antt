@@ -1,5 +1,5 @@
--- A row for each thing to do: what it stands for in each count, what it uses, what it speaks of, and how many steps it
--- may still take. The counts of a stack are the sums of its rows.
+-- A row for each thing to do: what it stands for in each count, what it uses and what it speaks of. The counts of a
+-- stack are the sums of its rows.
 use Rattle.std.specs.Prelude.{ℕ, ◌+◌}
 use Rattle.task_moves.specs.declared.moves.owed.Move.{Move}
 use Rattle.task_moves.specs.declared.moves.owed.Move.TheVariants as move
@@ -67,8 +67,6 @@ pub record Row : Type 0 where
   pub ousting : ℕ
   -- futures that it speaks of that are no number below this one
   pub past : ℕ → ℕ
-  -- at most so many steps are left to do by it and by what it leads to
-  pub steps : ℕ
 
 abbrev pub none : ℕ → ℕ
 none g = 0
@@ -98,7 +96,6 @@ nothing = record {
   running = none;
   ousting = 0;
   past = none;
-  steps = 1;
 }
 
 -- of what speaks of future f, and of this waker
@@ -109,37 +106,34 @@ abbrev pub about_waker : ℕ → Waker → Row
 about_waker f a = record nothing { past = λ n. past n f + waker_past n a }
 
 abbrev pub move_row : Move → ℕ → Row
-move_row move.WakeByReference f = record nothing { steps = 13 }
-move_row move.Wake f = record nothing { releases = one f; steps = 26 }
-move_row move.Release f = record nothing { releases = one f; steps = 13 }
-move_row move.TakeUp f = record nothing { waiting = one f; borrowing = 1; steps = 91 }
-move_row move.SettleClosed f = record nothing { settling = one f; steps = 4 }
+move_row move.Wake f = record nothing { releases = one f }
+move_row move.Release f = record nothing { releases = one f }
+move_row move.TakeUp f = record nothing { waiting = one f; borrowing = 1 }
+move_row move.SettleClosed f = record nothing { settling = one f }
 move_row move.GiveUp f = record nothing { giving = one f }
-move_row move.EndReady f = record nothing { ready = one f; borrowing = 1; steps = 9 }
-move_row move.EndPending f = record nothing { ending = one f; borrowing = 1; steps = 44 }
-move_row move.EndClosed f = record nothing { closing = one f; steps = 4 }
-move_row move.DropRunnable f = record nothing { waiting = one f; steps = 10 }
-move_row move.Cancel f = record nothing { steps = 15 }
-move_row move.Detach f = record nothing { steps = 13 }
+move_row move.EndReady f = record nothing { ready = one f; borrowing = 1 }
+move_row move.EndPending f = record nothing { ending = one f; borrowing = 1 }
+move_row move.EndClosed f = record nothing { closing = one f }
+move_row move.DropRunnable f = record nothing { waiting = one f }
 move_row _ f = nothing
 
 abbrev pub table_row : TableOp → Row
-table_row table_op.Enter = record nothing { borrowing = 1; steps = 116 }
-table_row table_op.LookAtTable = record nothing { borrowing = 1; steps = 2 }
-table_row (table_op.TakeToPoll f) = record (about f) { polls = one f; borrowing = 1; steps = 47 }
-table_row (table_op.PutBack f) = record (about f) { ending = one f; borrowing = 1; steps = 45 }
-table_row (table_op.TakeToDrop f) = record (about f) { drops = one f; steps = 5 }
+table_row table_op.Enter = record nothing { borrowing = 1 }
+table_row table_op.LookAtTable = record nothing { borrowing = 1 }
+table_row (table_op.TakeToPoll f) = record (about f) { polls = one f; borrowing = 1 }
+table_row (table_op.PutBack f) = record (about f) { ending = one f; borrowing = 1 }
+table_row (table_op.TakeToDrop f) = record (about f) { drops = one f }
 table_row (table_op.LeaveTable f) = record (about f) { leaves = one f }
 
 abbrev pub queue_row : QueueOp → Row
-queue_row queue_op.Take = record nothing { borrowing = 1; steps = 113 }
-queue_row (queue_op.Append f) = record (about f) { waiting = one f; appends = one f; steps = 43 }
+queue_row queue_op.Take = record nothing { borrowing = 1 }
+queue_row (queue_op.Append f) = record (about f) { waiting = one f; appends = one f }
 
 abbrev pub user_row : UserOp → Row
-user_row (user_op.Poll f) = record (about f) { polls = one f; borrowing = 1; steps = 46 }
-user_row (user_op.BeginDrop f) = record (about f) { drops = one f; steps = 3 }
+user_row (user_op.Poll f) = record (about f) { polls = one f; borrowing = 1 }
+user_row (user_op.BeginDrop f) = record (about f) { drops = one f }
 user_row (user_op.Drop f) = nothing
-user_row (user_op.BeginDropOutput f) = record nothing { steps = 2 }
+user_row (user_op.BeginDropOutput f) = nothing
 user_row (user_op.DropOutput f) = nothing
 user_row (user_op.CallOutside x) = nothing
 user_row (user_op.PollOwn x) = record nothing { borrowing = 1; running = one x.run; past = λ n. waker_past n x.waker }
@@ -147,26 +141,26 @@ user_row (user_op.DropOwn r) = nothing
 
 abbrev pub waker_row : WakerOp → Row
 waker_row (waker_op.CopyWaker f held) =
-    record (about f) { borrowing = holds_executor held; lending = λ j. holds_waker j held; steps = 2 }
-waker_row (waker_op.CallAwaiter f a k) = record (about_waker f a) { copies = λ g. wakes g a; steps = 26 }
+    record (about f) { borrowing = holds_executor held; lending = λ j. holds_waker j held }
+waker_row (waker_op.CallAwaiter f a k) = record (about_waker f a) { copies = λ g. wakes g a }
 
 abbrev pub handle_row : HandleOp → Row
-handle_row (handle_op.Look f a) = record (about_waker f a) { handling = one f; steps = 34 }
-handle_row (handle_op.CopyAwaiter f a) = record (about_waker f a) { handling = one f; steps = 33 }
+handle_row (handle_op.Look f a) = record (about_waker f a) { handling = one f }
+handle_row (handle_op.CopyAwaiter f a) = record (about_waker f a) { handling = one f }
 handle_row (handle_op.Register f a k) =
-    record (about_waker f a) { handling = one f; copies = λ g. wakes g a; steps = 32 }
+    record (about_waker f a) { handling = one f; copies = λ g. wakes g a }
 handle_row (handle_op.EndRegister f a k) =
-    record (about_waker f a) { handling = one f; copies = λ g. wakes g a; steps = 31 }
-handle_row (handle_op.LookAgain f) = record (about f) { handling = one f; steps = 4 }
-handle_row (handle_op.Notify f mine) = record (about f) { steps = 2 }
+    record (about_waker f a) { handling = one f; copies = λ g. wakes g a }
+handle_row (handle_op.LookAgain f) = record (about f) { handling = one f }
+handle_row (handle_op.Notify f mine) = about f
 handle_row (handle_op.EndNotify f mine) = about f
 
 -- of the call of a sleeper's waker, and of a part of a tick's poll that was given this waker
 abbrev pub sleeper_row : SleeperOp → Row
-sleeper_row sleeper_op.ExchangeFlag = record nothing { steps = 31 }
-sleeper_row sleeper_op.HandOut = record nothing { steps = 30 }
+sleeper_row sleeper_op.ExchangeFlag = nothing
+sleeper_row sleeper_op.HandOut = nothing
 sleeper_row (sleeper_op.CallSleeper s) =
-    record nothing { copies = λ g. wakes g s.waker; past = λ n. waker_past n s.waker; steps = 26 }
+    record nothing { copies = λ g. wakes g s.waker; past = λ n. waker_past n s.waker }
 
 abbrev pub about_sleeping : Sleeping → Row
 about_sleeping s = record nothing {
@@ -177,12 +171,12 @@ about_sleeping s = record nothing {
 }
 
 abbrev pub tick_row : TickOp → Row
-tick_row tick_op.MakeTick = record nothing { borrowing = 1; steps = 5 }
-tick_row (tick_op.Search s) = record (about_sleeping s) { steps = 141 }
-tick_row (tick_op.CopyWaker s) = record (about_sleeping s) { steps = 140 }
-tick_row (tick_op.LieDown s) = record (about_sleeping s) { copies = λ g. wakes g s.waker; steps = 139 }
-tick_row (tick_op.GetUp who) = record nothing { steps = 14 }
-tick_row (tick_op.Leave who) = record nothing { steps = 45 }
+tick_row tick_op.MakeTick = record nothing { borrowing = 1 }
+tick_row (tick_op.Search s) = about_sleeping s
+tick_row (tick_op.CopyWaker s) = about_sleeping s
+tick_row (tick_op.LieDown s) = record (about_sleeping s) { copies = λ g. wakes g s.waker }
+tick_row (tick_op.GetUp who) = nothing
+tick_row (tick_op.Leave who) = nothing
 
 -- of a part of a run's poll, and of a part of it that has these in hand
 abbrev pub about_run : RunPoll → Row
@@ -234,11 +228,8 @@ run_row (run_op.WakeOwn x) = about_run x
 run_row (run_op.Reschedule r a) = record nothing { borrowing = 1; running = one r }
 
 abbrev pub closing_row : ClosingOp → Row
-closing_row closing_op.TakeOut = record nothing { ousting = 1; steps = 5 }
-closing_row closing_op.DropNext = record nothing { steps = 4 }
-closing_row closing_op.WakeNext = record nothing { steps = 3 }
-closing_row closing_op.Close = record nothing { steps = 2 }
-closing_row closing_op.Drain = nothing
+closing_row closing_op.TakeOut = record nothing { ousting = 1 }
+closing_row _ = nothing
 
 abbrev pub row : Op → Row
 row (op.Move m f) = record (move_row m f) { past = λ n. past n f; ousting = 0 }
@@ -319,6 +310,3 @@ ousting_of o = (row o).ousting
 
 abbrev pub past_of : ℕ → Op → ℕ
 past_of n o = (row o).past n
-
-abbrev pub steps_of : Op → ℕ
-steps_of o = (row o).steps

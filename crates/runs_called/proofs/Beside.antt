@@ -1,0 +1,281 @@
+-- What is no part of a poll or drop of a tick or run, and takes no waker out of the sleepers' list, is nothing to
+-- any of these.
+use Rattle.std.proofs.Common.{◌≡◌, ◌∙◌, ℕ, List, [], ◌∷◌, ◌++◌, length, Bool, true, false, refl, ap, arith}
+use Rattle.std.specs.Prelude.{Option, Some, None}
+use Rattle.task_moves.specs.Moves as moves
+use Rattle.task_moves.specs.declared.moves.owed.Answer.{Answer}
+use Rattle.task_moves.specs.declared.moves.owed.Move.{Move}
+use Rattle.task_moves.specs.declared.moves.owed.Move.TheVariants as move
+use Rattle.task_moves.specs.declared.moves.owed.Moved.{Moved}
+use Rattle.runs_model.specs.declared.event.Event.{Event}
+use Rattle.runs_model.specs.declared.event.Event.TheVariants as event
+use Rattle.runs_model.specs.declared.op.Hold.{Hold}
+use Rattle.runs_model.specs.declared.op.Hold.TheVariants as hold
+use Rattle.runs_model.specs.declared.op.Op.{Op}
+use Rattle.runs_model.specs.declared.op.Op.TheVariants as op
+use Rattle.runs_model.specs.declared.op.ClosingOp.TheVariants as closing_op
+use Rattle.runs_model.specs.declared.op.HandleOp.TheVariants as handle_op
+use Rattle.runs_model.specs.declared.op.ListOp.{ListOp}
+use Rattle.runs_model.specs.declared.op.ListOp.TheVariants as list_op
+use Rattle.runs_model.specs.declared.op.Polled.TheVariants as of
+use Rattle.runs_model.specs.declared.op.QueueOp.TheVariants as queue_op
+use Rattle.runs_model.specs.declared.op.RunOp.{RunOp}
+use Rattle.runs_model.specs.declared.op.RunOp.TheVariants as run_op
+use Rattle.runs_model.specs.declared.op.Section.{Section}
+use Rattle.runs_model.specs.declared.op.Section.TheVariants as section
+use Rattle.runs_model.specs.declared.op.Sleeper.{Sleeper}
+use Rattle.runs_model.specs.declared.op.SleeperOp.TheVariants as sleeper_op
+use Rattle.runs_model.specs.declared.op.TableOp.TheVariants as table_op
+use Rattle.runs_model.specs.declared.op.TickOp.TheVariants as tick_op
+use Rattle.runs_model.specs.declared.op.UserOp.TheVariants as user_op
+use Rattle.runs_model.specs.declared.op.Waker.{Waker}
+use Rattle.runs_model.specs.declared.op.Waker.TheVariants.{Task, Outside}
+use Rattle.runs_model.specs.declared.op.WakerOp.TheVariants as waker_op
+use Rattle.runs_model.specs.declared.step.Hint.{Hint}
+use Rattle.runs_model.specs.Acts as acts
+use Rattle.runs_model.specs.ActsOfSleepers.{exchange_by}
+use Rattle.runs_model.specs.Doing.{act}
+use Rattle.runs_model.specs.Carried.{carried, awaiter_ops}
+use Rattle.runs_model.specs.Weights.{weigh}
+use Rattle.runs_model.specs.World.{World, Done, log, log_if, task, put, among, awaiter_of}
+use Rattle.runs_model.proofs.Lists.{weigh-append}
+use Rattle.runs_model.proofs.Asides.{Aside, aside-awaiter, aside-owed, aside-let_go, aside-told, aside-closing}
+use Rattle.runs_called.proofs.Watched.{Watched, watches, watched, watched-push}
+use Rattle.runs_called.proofs.Stands.{View, view}
+
+abbrev pub holds_some : Hold → ℕ
+holds_some (hold.Tick t) = 1
+holds_some (hold.Run r) = 1
+holds_some _ = 0
+
+-- it has to do with some tick or run
+abbrev pub sits_section : Section → ℕ
+sits_section section.MakeRun = 0
+sits_section (section.Register x) = 1
+sits_section (section.Unregister q a) = 1
+
+abbrev pub sits_list : ListOp → ℕ
+sits_list (list_op.LockWrite s) = sits_section s
+sits_list (list_op.Write s) = sits_section s
+sits_list list_op.UnlockWrite = 0
+sits_list (list_op.LockRead x) = 1
+sits_list list_op.UnlockRead = 0
+
+abbrev pub sits_run : RunOp → ℕ
+sits_run run_op.MakeRoom = 0
+sits_run run_op.ReturnRoom = 0
+sits_run _ = 1
+
+abbrev pub sits_of : Op → ℕ
+sits_of (op.User (user_op.PollOwn x)) = 1
+sits_of (op.Tick tick_op.MakeTick) = 0
+sits_of (op.Tick (tick_op.Search s)) = 1
+sits_of (op.Tick (tick_op.CopyWaker s)) = 1
+sits_of (op.Tick (tick_op.LieDown s)) = 1
+sits_of (op.Tick (tick_op.GetUp t)) = 1
+sits_of (op.Tick (tick_op.Leave t)) = 1
+sits_of (op.Sleeper (sleeper_op.CallSleeper s)) = 1
+sits_of (op.Waker (waker_op.CopyWaker f held)) = holds_some held
+sits_of (op.List o) = sits_list o
+sits_of (op.Steal o) = 1
+sits_of (op.Run o) = sits_run o
+sits_of (op.End r held) = holds_some held
+sits_of _ = 0
+
+-- the event is nothing to a tick or run
+abbrev pub IsSilent : Event → Type 0
+IsSilent e = (t : Sleeper) (n : ℕ) (s : Watched) → watches t n e s ≡ s
+
+pub view-log : (t : Sleeper) (w : World) (e : Event) → IsSilent e → view t (log w e) ≡ view t w
+view-log t w e z = ap (λ (s : Watched). let v : View = record (view t w) { seen = s } in v)
+    (watched-push t w.trace e ∙ z t (length w.trace) (watched t w.trace))
+
+pub view-log_if : (b : Bool) (t : Sleeper) (w : World) (e : Event) → IsSilent e → view t (log_if b w e) ≡ view t w
+view-log_if true t w e z = view-log t w e z
+view-log_if false t w e z = refl
+
+pub record Beside (w : World) (d : Done) : Type 0 where
+  pub view : (t : Sleeper) → view t d.world ≡ view t w
+  pub none : weigh sits_of d.next ≡ 0
+
+pub besides : (w : World) (d : Done) → ((t : Sleeper) → view t d.world ≡ view t w) → weigh sits_of d.next ≡ 0 →
+    Beside w d
+besides w d v z = record { view = v; none = z }
+
+none-both : (xs ys : List Op) → weigh sits_of xs ≡ 0 → weigh sits_of ys ≡ 0 → weigh sits_of (xs ++ ys) ≡ 0
+none-both xs ys a b = omega (arith, weigh-append sits_of xs ys, a, b)
+
+no-sits : Aside sits_of
+no-sits = record {
+  move = λ m f. refl;
+  append = λ f. refl;
+  poll = λ f. refl;
+  drop = λ f. refl;
+  output = λ f. refl;
+  notify = λ f mine. refl;
+  call = λ f a k. refl;
+}
+
+-- a move of a task
+
+told-silent : (m : Move) (p f : ℕ) → IsSilent (acts.told_as m p f)
+told-silent move.TakeUp p f t n s = refl
+told-silent move.Cancel p f t n s = refl
+told-silent move.Detach p f t n s = refl
+told-silent _ p f t n s = refl
+
+beside-moved : (b : Bool) (w v : World) (e : Event) (f : ℕ) (m : Moved) → IsSilent e → ((t : Sleeper) →
+    view t v ≡ view t w) →
+    Beside w (carried (log_if b v e) f m)
+beside-moved b w v e f m z x = besides w (carried (log_if b v e) f m) (λ t. view-log_if b t v e z
+    ∙ x t) (aside-owed sits_of no-sits f (among f (log_if b v e).table) m.owed)
+
+pub beside-move : (b : Bool) (m : Move) (p : ℕ) (w v : World) (f : ℕ) → ((t : Sleeper) → view t v ≡ view t w) →
+    Beside w (acts.move_by b m p v f)
+beside-move true m p w v f x = beside-moved _ w v (acts.told_as m p f) f (moves.after m (task v f)) (told-silent m p f)
+    x
+beside-move false m p w v f x = besides w _ x refl
+
+beside-call : (p : ℕ) (w : World) (f : ℕ) (a : Waker) (k : ℕ) → Beside w (acts.call_awaiter p w f a k)
+beside-call p w f (Task g) k =
+    beside-move true move.Wake p w (log w (event.WakerCalled p (of.Handle f) k (Task g))) g
+    (λ t. view-log t w (event.WakerCalled p (of.Handle f) k (Task g)) (λ t n s. refl))
+beside-call p w f (Outside x) k =
+    besides w _ (λ t. view-log t w (event.WakerCalled p (of.Handle f) k (Outside x)) (λ t n s. refl)) refl
+
+-- the table and the queue
+
+beside-enter : (b c : Bool) (p : ℕ) (w : World) → Beside w (acts.enter_by b c p w)
+beside-enter true c p w = besides w _ (λ t. refl) refl
+beside-enter false true p w = besides w _ (λ t. refl) refl
+beside-enter false false p w = besides w _ (λ t. view-log t w (event.Accepted p (length w.tasks)) (λ t n s. refl)) refl
+
+beside-leave : (b : Bool) (w : World) (f : ℕ) → Beside w (acts.leave_by b w f)
+beside-leave true w f = besides w _ (λ t. refl) refl
+beside-leave false w f = besides w _ (λ t. refl) refl
+
+beside-take : (q : List ℕ) (w : World) → Beside w (acts.take_by w q)
+beside-take [] w = besides w _ (λ t. refl) refl
+beside-take (f ∷ rest) w = besides w _ (λ t. refl) refl
+
+beside-append : (b : Bool) (w : World) (f : ℕ) → Beside w (acts.append_by b w f)
+beside-append true w f = besides w _ (λ t. refl) refl
+beside-append false w f = besides w _ (λ t. refl) refl
+
+beside-exchange : (b : Bool) (w : World) → Beside w (exchange_by b w)
+beside-exchange true w = besides w _ (λ t. refl) refl
+beside-exchange false w = besides w _ (λ t. refl) refl
+
+-- handles
+
+beside-answered : (p : ℕ) (w v : World) (f : ℕ) (m : Moved) (a : Answer) → ((t : Sleeper) → view t v ≡ view t w) →
+    Beside w (acts.answered p v f m a)
+beside-answered p w v f m a x =
+    besides w (acts.answered p v f m a) (λ t. view-log_if _ t (put v f m.state) (event.OutputGiven p f) (λ t n s. refl)
+    ∙ x t)
+    (none-both (awaiter_ops f m.owed.awaiter) _ (aside-awaiter sits_of no-sits f m.owed.awaiter) refl)
+
+beside-look : (o : Option Answer) (p : ℕ) (w : World) (f : ℕ) (a : Waker) (m : Moved) →
+    Beside w (acts.look_by o p w f a m)
+beside-look None p w f a m = besides w _ (λ t. refl) refl
+beside-look (Some x) p w f a m =
+    beside-answered p w (acts.polled p w f) f m x (λ t. view-log t w (event.HandlePolled p f) (λ t n s. refl))
+
+beside-again : (o : Option Answer) (p : ℕ) (w : World) (f : ℕ) (m : Moved) → Beside w (acts.look_again_by o p w f m)
+beside-again None p w f m = besides w _ (λ t. refl) refl
+beside-again (Some x) p w f m = beside-answered p w w f m x (λ t. refl)
+
+beside-copy_awaiter : (b : Bool) (p : ℕ) (w : World) (f : ℕ) (a : Waker) → Beside w (acts.copy_awaiter_by b p w f a)
+beside-copy_awaiter true p w f a = besides w _ (λ t. refl) refl
+beside-copy_awaiter false p w f (Task g) =
+    besides w _ (λ t. view-log t (acts.copied w (Task g)) (event.HandlePolled p f) (λ t n s. refl)) refl
+beside-copy_awaiter false p w f (Outside x) = besides w _ (λ t. view-log t w (event.HandlePolled p f) (λ t n s. refl))
+    refl
+
+beside-register : (b : Bool) (w : World) (f : ℕ) (a : Waker) (k : ℕ) → Beside w (acts.register_by b w f a k)
+beside-register true w f a k = besides w _ (λ t. refl) refl
+beside-register false w f a k = besides w _ (λ t. refl) refl
+
+beside-end_register : (b : Bool) (w : World) (f : ℕ) (a : Waker) (k : ℕ) → Beside w (acts.end_register_by b w f a k)
+beside-end_register true w f a k =
+    besides w _ (λ t. refl) (none-both (op.Waker (waker_op.CallAwaiter f a k) ∷ acts.let_go (awaiter_of w f))
+    (op.Handle (handle_op.LookAgain f) ∷ []) (omega (arith, aside-let_go sits_of no-sits (awaiter_of w f))) refl)
+beside-end_register false w f a k =
+    besides w _ (λ t. refl) (none-both (acts.let_go (awaiter_of w f)) (op.Handle (handle_op.LookAgain f) ∷ [])
+    (aside-let_go sits_of no-sits (awaiter_of w f)) refl)
+
+beside-notify : (b : Bool) (w : World) (f : ℕ) (mine : Bool) → Beside w (acts.notify_by b w f mine)
+beside-notify true w f mine = besides w _ (λ t. refl) refl
+beside-notify false w f mine = besides w _ (λ t. refl) refl
+
+-- the drop of the executor
+
+beside-drop_next : (p : ℕ) (w : World) (ls : List ℕ) → Beside w (acts.drop_next_by p w ls)
+beside-drop_next p w [] = besides w _ (λ t. refl) refl
+beside-drop_next p w (f ∷ rest) =
+    besides w _ (λ t. view-log t w (event.Dropped p f) (λ t n s. refl))
+    (omega (arith, aside-closing sits_of (λ o. refl) rest (w.waking ++ f ∷ [])))
+
+beside-wake_next : (p : ℕ) (w : World) (ws : List ℕ) → Beside w (acts.wake_next_by p w ws)
+beside-wake_next p w [] = besides w _ (λ t. refl) refl
+beside-wake_next p w (f ∷ rest) =
+    let v : World = record w { waking = rest } in
+    let m : Beside w (acts.wake p v f) = beside-move true move.Wake p w v f (λ t. refl) in
+    besides w _ m.view (none-both (acts.wake p v f).next (acts.closing_ops [] rest) m.none
+    (aside-closing sits_of (λ o. refl) [] rest))
+
+beside-drain : (p : ℕ) (w : World) (q : List ℕ) → Beside w (acts.drain_by p w q)
+beside-drain p w [] = besides w _ (λ t. view-log t w (event.DropEnded p) (λ t n s. refl)) refl
+beside-drain p w (f ∷ rest) = besides w _ (λ t. refl) refl
+
+-- what has a place of its own
+abbrev pub is_sits : Op → Bool
+is_sits (op.User (user_op.PollOwn x)) = true
+is_sits (op.Tick o) = true
+is_sits (op.Sleeper sleeper_op.ExchangeFlag) = false
+is_sits (op.Sleeper sleeper_op.HandOut) = true
+is_sits (op.Sleeper (sleeper_op.CallSleeper s)) = true
+is_sits (op.Waker (waker_op.CopyWaker f held)) = true
+is_sits (op.List o) = true
+is_sits (op.Steal o) = true
+is_sits (op.Run o) = true
+is_sits (op.End r held) = true
+is_sits _ = false
+
+pub beside-act : (p : ℕ) (h : Hint) (o : Op) (w : World) → is_sits o ≡ false → Beside w (act p h o w)
+beside-act p h (op.Move m f) w n = beside-move _ m p w w f (λ t. refl)
+beside-act p h (op.Table table_op.Enter) w n = beside-enter _ _ p w
+beside-act p h (op.Table (table_op.LeaveTable f)) w n = beside-leave _ w f
+beside-act p h (op.Table o) w n = besides w _ (λ t. refl) refl
+beside-act p h (op.Queue queue_op.Take) w n = beside-take _ w
+beside-act p h (op.Queue (queue_op.Append f)) w n = beside-append _ w f
+beside-act p h (op.User (user_op.BeginDrop f)) w n = besides w _ (λ t. view-log t w (event.Dropped p f) (λ t n s. refl))
+    refl
+beside-act p h (op.User (user_op.BeginDropOutput f)) w n =
+    besides w _ (λ t. view-log t w (event.OutputDropped p f) (λ t n s. refl)) refl
+beside-act p h (op.Waker (waker_op.CopyWaker f held)) w n = absurd (cc)
+beside-act p h (op.Waker (waker_op.CallAwaiter f a k)) w n = beside-call p w f a k
+beside-act p h (op.Handle (handle_op.Look f a)) w n = beside-look _ p w f a _
+beside-act p h (op.Handle (handle_op.CopyAwaiter f a)) w n = beside-copy_awaiter _ p w f a
+beside-act p h (op.Handle (handle_op.Register f a k)) w n = beside-register _ w f a k
+beside-act p h (op.Handle (handle_op.EndRegister f a k)) w n = beside-end_register _ w f a k
+beside-act p h (op.Handle (handle_op.LookAgain f)) w n = beside-again _ p w f _
+beside-act p h (op.Handle (handle_op.Notify f mine)) w n = beside-notify _ w f mine
+beside-act p h (op.Handle (handle_op.EndNotify f mine)) w n =
+    besides w _ (λ t. refl) (aside-told sits_of no-sits _ f (awaiter_of w f))
+beside-act p h (op.Sleeper sleeper_op.ExchangeFlag) w n = beside-exchange _ w
+beside-act p h (op.Sleeper sleeper_op.HandOut) w n = absurd (cc)
+beside-act p h (op.Sleeper (sleeper_op.CallSleeper s)) w n = absurd (cc)
+beside-act p h (op.Tick o) w n = absurd (cc)
+beside-act p h (op.User (user_op.PollOwn x)) w n = absurd (cc)
+beside-act p h (op.List o) w n = absurd (cc)
+beside-act p h (op.Steal o) w n = absurd (cc)
+beside-act p h (op.Run o) w n = absurd (cc)
+beside-act p h (op.Closing closing_op.TakeOut) w n =
+    besides w _ (λ t. refl) (aside-closing sits_of (λ o. refl) w.table w.waking)
+beside-act p h (op.Closing closing_op.DropNext) w n = beside-drop_next p w _
+beside-act p h (op.Closing closing_op.WakeNext) w n = beside-wake_next p w _
+beside-act p h (op.Closing closing_op.Close) w n = besides w _ (λ t. refl) refl
+beside-act p h (op.Closing closing_op.Drain) w n = beside-drain p w _
+beside-act p h (op.End r held) w n = absurd (cc)
+beside-act p h _ w n = besides w _ (λ t. refl) refl

@@ -1,0 +1,229 @@
+-- What each thing to do and the end of user code leave of the own queues, and of who has a kept future in hand.
+use Rattle.std.proofs.Common.{◌≡◌, ℕ, ◌+◌, ◌%◌, ◌<◌, ◌≤◌, List, [], ◌∷◌, length, Bool, true, false, refl, inl, arith}
+use Rattle.std.specs.Prelude.{not, Option, Some, None}
+use Rattle.executor_parts.specs.Sleepers.{waker_at}
+use Rattle.task_moves.specs.declared.moves.owed.Move.{Move}
+use Rattle.task_moves.specs.declared.moves.owed.Move.TheVariants as move
+use Rattle.runs_model.specs.declared.event.Answer.TheVariants as answer
+use Rattle.runs_model.specs.declared.op.Hold.{Hold}
+use Rattle.runs_model.specs.declared.op.ListOp.{ListOp}
+use Rattle.runs_model.specs.declared.op.ListOp.TheVariants as list_op
+use Rattle.runs_model.specs.declared.op.Op.{Op}
+use Rattle.runs_model.specs.declared.op.Op.TheVariants as op
+use Rattle.runs_model.specs.declared.op.RunOp.{RunOp}
+use Rattle.runs_model.specs.declared.op.RunOp.TheVariants as run_op
+use Rattle.runs_model.specs.declared.op.RunPoll.{RunPoll}
+use Rattle.runs_model.specs.declared.op.Section.TheVariants as section
+use Rattle.runs_model.specs.declared.op.Sleeper.{Sleeper}
+use Rattle.runs_model.specs.declared.op.Sleeper.TheVariants as sleeper
+use Rattle.runs_model.specs.declared.op.Sleeping.{Sleeping}
+use Rattle.runs_model.specs.declared.op.StealOp.TheVariants as steal_op
+use Rattle.runs_model.specs.declared.op.TableOp.TheVariants as table_op
+use Rattle.runs_model.specs.declared.op.TickOp.{TickOp}
+use Rattle.runs_model.specs.declared.op.TickOp.TheVariants as tick_op
+use Rattle.runs_model.specs.declared.op.UserOp.TheVariants as user_op
+use Rattle.runs_model.specs.declared.op.Waker.{Waker}
+use Rattle.runs_model.specs.declared.op.Waker.TheVariants.{Task, Outside}
+use Rattle.runs_model.specs.declared.op.WakerOp.TheVariants as waker_op
+use Rattle.runs_model.specs.declared.step.Hint.{Hint}
+use Rattle.runs_model.specs.declared.step.UserEnd.{UserEnd}
+use Rattle.runs_model.specs.declared.step.UserEnd.TheVariants as end
+use Rattle.runs_model.specs.Acts.{copy_by, is_copy_refused}
+use Rattle.runs_model.specs.ActsOfRuns as runs
+use Rattle.runs_model.specs.ActsOfSleepers.{copy_sleeper_by, lie_again_by, lie_anew_by, lie_down_by, lie_listed_by}
+use Rattle.runs_model.specs.ActsOfSleepers.{pend_as, search_by, sleeper_goes}
+use Rattle.runs_model.specs.Doing.{act, list_act, run_act, search, tick_act}
+use Rattle.runs_model.specs.Rows.{running_of}
+use Rattle.runs_model.specs.Steps.{accepts, react}
+use Rattle.runs_model.specs.Weights.{same, weigh}
+use Rattle.runs_model.specs.World.{World, Place, Up, Lies, Left, own_of}
+use Rattle.runs_model.proofs.Lists.{same_is, weigh-append}
+use Rattle.runs_model.proofs.SleepersCounting.{asleep}
+use Rattle.runs_model.proofs.UsingWorlds.{idle, idle-copy_sleeper, idle-lie, idle-search}
+use Rattle.runs_called.proofs.KeptGrown.{stirs_op}
+use Rattle.runs_called.proofs.KeptWeights.{load_of, quits-walk, quits_of}
+use Rattle.runs_called.proofs.StandsRuns.{walks-lock, walks-look_own, walks-search, walks-search_common}
+use Rattle.runs_called.proofs.KeptLeads.{IsPast, Leads, keeps-drop, keeps-plain, of-idle}
+use Rattle.runs_called.proofs.KeptSearch.{keeps-common, keeps-steal, load-look, load-own, of-walks, quits-look}
+use Rattle.runs_called.proofs.KeptSearch.{quits-own}
+use Rattle.runs_called.proofs.KeptRuns.{keeps-make, keeps-register, keeps-reschedule, keeps-unregister, keeps-wake}
+
+-- sleepers
+
+goes-quits : (r : ℕ) (o : Option Sleeping) → weigh (quits_of r) (sleeper_goes o) ≡ 0
+goes-quits r None = refl
+goes-quits r (Some s) = by s.waker
+  where
+    by : (a : Waker) → weigh (quits_of r) (sleeper_goes (Some (record s { waker = a }))) ≡ 0
+    by (Task g) = refl
+    by (Outside x) = refl
+
+quits-copy : (b : Bool) (r : ℕ) (w : World) (s : Sleeping) → weigh (quits_of r) (copy_sleeper_by b w s).next ≡ 0
+quits-copy true r w s = refl
+quits-copy false r w s = refl
+
+quits-listed : (b : Bool) (r : ℕ) (w : World) (n : ℕ) (s : Sleeping) →
+    weigh (quits_of r) (lie_listed_by b w n s).next ≡ 0
+quits-listed true r w n s = refl
+quits-listed false r w n s = refl
+
+quits-again : (o : Option ℕ) (r : ℕ) (w : World) (n : ℕ) (s : Sleeping) →
+    weigh (quits_of r) (lie_again_by o w n s).next ≡ 0
+quits-again None r w n s = quits-listed _ r w n s
+quits-again (Some at) r w n s = let o : Option Sleeping = waker_at (Some at) w.sleepers.wakers in
+    omega (arith, weigh-append (quits_of r) (sleeper_goes o) (pend_as s.who), goes-quits r o)
+
+quits-anew : (b : Bool) (r : ℕ) (w : World) (s : Sleeping) → weigh (quits_of r) (lie_anew_by b w s).next ≡ 0
+quits-anew true r w s = refl
+quits-anew false r w s = refl
+
+quits-lie : (x : Place) (r : ℕ) (w : World) (s : Sleeping) → weigh (quits_of r) (lie_down_by x w s).next ≡ 0
+quits-lie Up r w s = quits-anew _ r w s
+quits-lie (Lies n) r w s = quits-again _ r w n s
+quits-lie Left r w s = refl
+
+quits-search : (x : Place) (r : ℕ) (w : World) (q : List ℕ) (s : Sleeping) →
+    weigh (quits_of r) (search_by x w q s).next ≡ 0
+quits-search x r w [] s = refl
+quits-search Up r w (f ∷ rest) s = refl
+quits-search (Lies n) r w (f ∷ rest) s = refl
+quits-search Left r w (f ∷ rest) s = refl
+
+keeps-search : (who : Sleeper) (k : ℕ) (a : Waker) (w : World) →
+    Leads w (op.Tick (tick_op.Search (asleep a who k)) ∷ []) (search w (asleep a who k))
+keeps-search (sleeper.Tick u) k a w = of-idle w _ (search w (asleep a (sleeper.Tick u) k))
+    (idle-search _ w w.queue.items (asleep a (sleeper.Tick u) k)) (λ r. refl)
+    (λ r. quits-search _ r w w.queue.items (asleep a (sleeper.Tick u) k)) (λ f. omega arith)
+keeps-search (sleeper.Run q) k a w = let x : RunPoll = record { run = q; waker = a; poll = k } in
+    of-walks w x _ (runs.search_own w x) (walks-search w x) (λ r. refl) (λ r. quits-own _ w x r)
+    (λ f r. omega (arith, load-own (own_of w q) w x f r refl))
+
+keeps-tick : (p : ℕ) (h : Hint) (o : TickOp) (w : World) → Leads w (op.Tick o ∷ []) (tick_act h o w)
+keeps-tick p h (tick_op.Search s) w = keeps-search s.who s.poll s.waker w
+keeps-tick p h (tick_op.CopyWaker s) w = of-idle w _ (tick_act h (tick_op.CopyWaker s) w)
+    (idle-copy_sleeper (is_copy_refused h w s.waker) w s) (λ r. refl) (λ r. quits-copy _ r w s) (λ f. omega arith)
+keeps-tick p h (tick_op.LieDown s) w = of-idle w _ (tick_act h (tick_op.LieDown s) w)
+    (idle-lie _ w s) (λ r. refl) (λ r. quits-lie _ r w s) (λ f. omega arith)
+keeps-tick p h tick_op.MakeTick w = keeps-plain p h (op.Tick tick_op.MakeTick) w refl (λ f. refl)
+keeps-tick p h (tick_op.GetUp u) w = keeps-plain p h (op.Tick (tick_op.GetUp u)) w refl (λ f. refl)
+keeps-tick p h (tick_op.Leave u) w = keeps-plain p h (op.Tick (tick_op.Leave u)) w refl (λ f. refl)
+
+one-same : (r : ℕ) → 1 ≤ same r r
+one-same r = grind (arith, same_is)
+
+keeps-list : (h : Hint) (o : ListOp) (w : World) → ((r : ℕ) → 1 ≤ running_of r (op.List o) → r < length w.runs) →
+    ((r : ℕ) → 1 ≤ weigh (quits_of r) (op.List o ∷ []) → IsPast w r) → Leads w (op.List o ∷ []) (list_act h o w)
+keeps-list h (list_op.LockWrite s) w j k = record {
+  count = omega arith;
+  past = λ r e. e;
+  fresh = λ r e. inl e;
+  readies = λ r. omega arith;
+  quits = λ r. inl (omega arith);
+  load = λ f r. inl (omega arith);
+}
+keeps-list h (list_op.Write section.MakeRun) w j k = keeps-make h.refused w
+keeps-list h (list_op.Write (section.Register x)) w j k = keeps-register _ w x refl
+keeps-list h (list_op.Write (section.Unregister q a)) w j k =
+    keeps-unregister w q a h (j q (one-same q)) (k q)
+keeps-list h list_op.UnlockWrite w j k =
+    of-idle w _ _ (idle w _ refl refl refl) (λ r. refl) (λ r. refl) (λ f. omega arith)
+keeps-list h (list_op.LockRead x) w j k = of-walks w x _ (runs.lock_read h w x) (walks-lock h w x) (λ r. refl)
+    (λ r. quits-walk r x w.listed (h.start % length w.listed) (length w.listed)) (λ f r. omega arith)
+keeps-list h list_op.UnlockRead w j k =
+    of-idle w _ _ (idle w _ refl refl refl) (λ r. refl) (λ r. refl) (λ f. omega arith)
+
+keeps-room : (b : Bool) (w : World) → Leads w (op.Run run_op.MakeRoom ∷ []) (runs.make_room_by b w)
+keeps-room true w = of-idle w _ _ (idle w _ refl refl refl) (λ r. refl) (λ r. refl) (λ f. omega arith)
+keeps-room false w = of-idle w _ _ (idle w _ refl refl refl) (λ r. refl) (λ r. refl) (λ f. omega arith)
+
+one-self : (r : ℕ) → 1 ≤ same r r + 0
+one-self r = grind (arith, same_is)
+
+keeps-run : (p : ℕ) (h : Hint) (o : RunOp) (w : World) →
+    ((r : ℕ) → 1 ≤ weigh (quits_of r) (op.Run o ∷ []) → IsPast w r) → Leads w (op.Run o ∷ []) (run_act p h o w)
+keeps-run p h run_op.MakeRoom w k = keeps-room h.refused w
+keeps-run p h run_op.ReturnRoom w k =
+    of-idle w _ _ (idle w _ refl refl refl) (λ r. refl) (λ r. refl) (λ f. omega arith)
+keeps-run p h (run_op.SearchCommon x) w k = keeps-common _ w x (walks-search_common w x)
+keeps-run p h (run_op.LookOwn x at left) w k =
+    of-walks w x _ (runs.look_own w x at left) (walks-look_own w x at left) (λ r. refl)
+    (λ r. quits-look _ w x at left r) (λ f r. omega (arith, load-look (own_of w x.run) w x at left f r refl))
+keeps-run p h (run_op.WakeOwn x) w k = keeps-wake p w x
+keeps-run p h (run_op.Reschedule q a) w k = keeps-reschedule _ w q a refl (k q (one-self q))
+
+keeps-copied : (b : Bool) (w : World) (f : ℕ) (held : Hold) →
+    Leads w (op.Waker (waker_op.CopyWaker f held) ∷ []) (copy_by b w f held)
+keeps-copied true w f held = of-idle w _ _ (idle w _ refl refl refl) (λ r. refl) (λ r. refl) (λ f. omega arith)
+keeps-copied false w f held = of-idle w _ _ (idle w _ refl refl refl) (λ r. refl) (λ r. refl) (λ f. omega arith)
+
+-- what is no taking up of a task, no step of a steal that puts one into an own queue and no end of a call
+abbrev pub is_apart : Op → Bool
+is_apart (op.End a held) = false
+is_apart o = not (stirs_op o)
+
+load-move : (m : Move) (g f : ℕ) → is_apart (op.Move m g) ≡ true → load_of f (op.Move m g) ≡ 0
+load-move move.TakeUp g f n = absurd (cc)
+load-move _ g f n = refl
+
+pub keeps-act : (p : ℕ) (h : Hint) (o : Op) (w : World) → is_apart o ≡ true →
+    ((r : ℕ) → 1 ≤ running_of r o → r < length w.runs) →
+    ((r : ℕ) → 1 ≤ weigh (quits_of r) (o ∷ []) → IsPast w r) → Leads w (o ∷ []) (act p h o w)
+keeps-act p h (op.Move m g) w n j k = keeps-plain p h (op.Move m g) w refl (λ f. load-move m g f n)
+keeps-act p h (op.Table (table_op.TakeToDrop g)) w n j k =
+    of-idle w _ _ (idle w _ refl refl refl) (λ r. refl) (λ r. refl) (λ f. omega arith)
+keeps-act p h (op.Table table_op.Enter) w n j k = keeps-plain p h (op.Table table_op.Enter) w refl (λ f. refl)
+keeps-act p h (op.Table table_op.LookAtTable) w n j k =
+    keeps-plain p h (op.Table table_op.LookAtTable) w refl (λ f. refl)
+keeps-act p h (op.Table (table_op.TakeToPoll g)) w n j k =
+    keeps-plain p h (op.Table (table_op.TakeToPoll g)) w refl (λ f. refl)
+keeps-act p h (op.Table (table_op.PutBack g)) w n j k =
+    keeps-plain p h (op.Table (table_op.PutBack g)) w refl (λ f. refl)
+keeps-act p h (op.Table (table_op.LeaveTable g)) w n j k =
+    keeps-plain p h (op.Table (table_op.LeaveTable g)) w refl (λ f. refl)
+keeps-act p h (op.Queue o) w n j k = keeps-plain p h (op.Queue o) w refl (λ f. refl)
+keeps-act p h (op.User (user_op.BeginDrop g)) w n j k = keeps-drop p h g w
+keeps-act p h (op.User (user_op.PollOwn x)) w n j k =
+    of-idle w _ _ (idle w w refl refl refl) (λ r. refl) (λ r. refl) (λ f. omega arith)
+keeps-act p h (op.User (user_op.Poll g)) w n j k = keeps-plain p h (op.User (user_op.Poll g)) w refl (λ f. refl)
+keeps-act p h (op.User (user_op.Drop g)) w n j k = keeps-plain p h (op.User (user_op.Drop g)) w refl (λ f. refl)
+keeps-act p h (op.User (user_op.BeginDropOutput g)) w n j k =
+    keeps-plain p h (op.User (user_op.BeginDropOutput g)) w refl (λ f. refl)
+keeps-act p h (op.User (user_op.DropOutput g)) w n j k =
+    keeps-plain p h (op.User (user_op.DropOutput g)) w refl (λ f. refl)
+keeps-act p h (op.User (user_op.CallOutside y)) w n j k =
+    keeps-plain p h (op.User (user_op.CallOutside y)) w refl (λ f. refl)
+keeps-act p h (op.User (user_op.DropOwn q)) w n j k = keeps-plain p h (op.User (user_op.DropOwn q)) w refl (λ f. refl)
+keeps-act p h (op.Waker (waker_op.CopyWaker g held)) w n j k = keeps-copied _ w g held
+keeps-act p h (op.Waker (waker_op.CallAwaiter g a m)) w n j k =
+    keeps-plain p h (op.Waker (waker_op.CallAwaiter g a m)) w refl (λ f. refl)
+keeps-act p h (op.Handle o) w n j k = keeps-plain p h (op.Handle o) w refl (λ f. refl)
+keeps-act p h (op.Sleeper o) w n j k = keeps-plain p h (op.Sleeper o) w refl (λ f. refl)
+keeps-act p h (op.Tick o) w n j k = keeps-tick p h o w
+keeps-act p h (op.List o) w n j k = keeps-list h o w j k
+keeps-act p h (op.Steal (steal_op.Put s more g)) w n j k = absurd (cc)
+keeps-act p h (op.Steal (steal_op.Length s)) w n j k = keeps-steal p (steal_op.Length s) w refl
+keeps-act p h (op.Steal (steal_op.OwnLength s m)) w n j k = keeps-steal p (steal_op.OwnLength s m) w refl
+keeps-act p h (op.Steal (steal_op.Take s more)) w n j k = keeps-steal p (steal_op.Take s more) w refl
+keeps-act p h (op.Run o) w n j k = keeps-run p h o w k
+keeps-act p h (op.Closing o) w n j k = keeps-plain p h (op.Closing o) w refl (λ f. refl)
+keeps-act p h (op.End a held) w n j k = absurd (cc)
+
+-- the end of user code
+pub keeps-react : (p : ℕ) (o : Op) (u : UserEnd) (w : World) → accepts o u ≡ true → Leads w (o ∷ []) (react p o u w)
+keeps-react p (op.User (user_op.PollOwn x)) (end.Polled answer.Pending) w a =
+    of-idle w _ _ (idle w _ refl refl refl) (λ r. refl) (λ r. refl) (λ f. omega arith)
+keeps-react p (op.User (user_op.PollOwn x)) (end.Polled answer.Ready) w a =
+    of-idle w _ _ (idle w _ refl refl refl) (λ r. refl) (λ r. refl) (λ f. omega arith)
+keeps-react p (op.User (user_op.Poll g)) (end.Polled answer.Pending) w a =
+    of-idle w _ _ (idle w _ refl refl refl) (λ r. refl) (λ r. refl) (λ f. omega arith)
+keeps-react p (op.User (user_op.Poll g)) (end.Polled answer.Ready) w a =
+    of-idle w _ _ (idle w _ refl refl refl) (λ r. refl) (λ r. refl) (λ f. omega arith)
+keeps-react p (op.User (user_op.Drop g)) end.Done w a =
+    of-idle w _ _ (idle w _ refl refl refl) (λ r. refl) (λ r. refl) (λ f. omega arith)
+keeps-react p (op.User (user_op.DropOutput g)) end.Done w a =
+    of-idle w _ _ (idle w _ refl refl refl) (λ r. refl) (λ r. refl) (λ f. omega arith)
+keeps-react p (op.User (user_op.CallOutside y)) end.Done w a =
+    of-idle w _ _ (idle w _ refl refl refl) (λ r. refl) (λ r. refl) (λ f. omega arith)
+keeps-react p (op.User (user_op.DropOwn q)) end.Done w a =
+    of-idle w _ _ (idle w _ refl refl refl) (λ r. refl) (λ r. refl) (λ f. omega arith)
+keeps-react p _ _ w a = absurd (cc)

@@ -1,0 +1,177 @@
+-- What the beginning of a call leaves of the own queues and of the runs that are over, and adds to the trace.
+use Rattle.std.proofs.Common.{◌≡◌, ◌≢◌, ◌∙◌, ℕ, zero, suc, ◌<◌, ◌≤◌, List, [], ◌∷◌, ◌++◌, length, get_or, set}
+use Rattle.std.proofs.Common.{true, false, eqb, refl, sym, ap, subst, inl, inr, ⊎_elim, arith, get_or-set_other}
+use Rattle.std.specs.Prelude.{Option, Some, None}
+use Rattle.runs_model.specs.declared.call.Call.{Call}
+use Rattle.runs_model.specs.declared.call.Call.TheVariants as call
+use Rattle.runs_model.specs.declared.event.Event.{Event}
+use Rattle.runs_model.specs.declared.event.Event.TheVariants as event
+use Rattle.runs_model.specs.declared.op.Op.{Op}
+use Rattle.runs_model.specs.declared.op.RunPoll.{RunPoll}
+use Rattle.runs_model.specs.declared.op.Waker.{Waker}
+use Rattle.runs_model.specs.Sound.{times}
+use Rattle.runs_model.specs.Steps.{begun, drop_run, future_of, kept, poll_run, with_future}
+use Rattle.runs_model.specs.Weights.{same, weigh}
+use Rattle.runs_model.specs.World.{World, Stage, New, Listed, Ended, Run, Done, done, log, no_run, put_run, run_of}
+use Rattle.runs_model.proofs.Lists.{same_cases}
+use Rattle.runs_model.proofs.UsingWorlds.{count-set, is_past}
+use Rattle.runs_called.proofs.KeptGrown.{Grown, seen-and, seen-log, stirs}
+use Rattle.runs_called.proofs.KeptTrace.{Parted, parted-dropped}
+use Rattle.runs_called.proofs.KeptWeights.{quits_of}
+use Rattle.runs_called.proofs.KeptLeads.{IsPast, Leads, steady}
+
+-- the beginning of a call
+
+begins : (w v : World) (next : List Op) → v.runs ≡ w.runs → v.own ≡ w.own → ((r : ℕ) → weigh (quits_of r) next ≡ 0) →
+    Leads w [] (done v next)
+begins w v next a b q = steady w [] (done v next) (λ r. ap (λ (rs : List Run). is_past (get_or rs r no_run)) a)
+    (ap (λ (rs : List Run). length rs) a) (λ r. refl) q
+    (λ f r. omega (arith, ap (λ (qs : List (List ℕ)). times f (get_or qs r [])) b))
+
+begins-with : (w v : World) (x : Option ℕ) (d : ℕ → Done) → v.runs ≡ w.runs → v.own ≡ w.own →
+    ((f : ℕ) → Leads w [] (d f)) → Leads w [] (with_future v x d)
+begins-with w v None d a b k = begins w v [] a b (λ r. refl)
+begins-with w v (Some f) d a b k = k f
+
+begins-poll : (s : Stage) (w v : World) (x : RunPoll) → v.runs ≡ w.runs → v.own ≡ w.own →
+    Leads w [] (done v (poll_run s x))
+begins-poll New w v x a b = begins w v _ a b (λ r. refl)
+begins-poll Listed w v x a b = begins w v _ a b (λ r. refl)
+begins-poll Ended w v x a b = begins w v _ a b (λ r. refl)
+
+off-now : (rs : List Run) (q : ℕ) →
+    is_past (get_or (set rs q (record (get_or rs q no_run) { dropped = true })) q no_run) ≡ true
+off-now [] q = refl
+off-now (x ∷ rs) zero = refl
+off-now (x ∷ rs) (suc q) = off-now rs q
+
+quits-drop : (s : Stage) (q r : ℕ) → weigh (quits_of r) (drop_run s q) ≤ same r q
+quits-drop New q r = omega arith
+quits-drop Listed q r = omega arith
+quits-drop Ended q r = omega arith
+
+-- a run is dropped
+begins-drop : (s : Stage) (p : ℕ) (w : World) (q : ℕ) → q < length w.runs →
+    Leads w [] (done (log (put_run (log w (event.CallBegun p (call.DropRun q))) q
+    (record (run_of w q) { dropped = true })) (event.RunDropped p q)) (drop_run s q))
+begins-drop s p w q l = record {
+  count = omega (arith, same_count);
+  past = λ r e. ⊎_elim
+      (λ (x : (same r q ≡ 1) × (eqb r q ≡ true) × (r ≡ q)). subst (IsPast v) (sym x.2) now)
+      (λ (x : (same r q ≡ 0) × (eqb r q ≡ false) × (r ≢ q)).
+      (omega (arith, e.0, same_count), ap is_past (apart r x.2) ∙ e.1))
+      (same_cases r q);
+  fresh = λ r e. ⊎_elim
+      (λ (x : (same r q ≡ 1) × (eqb r q ≡ true) × (r ≡ q)).
+      inr (inr (subst (λ (n : ℕ). Parted n v.trace) (sym x.2)
+      (parted-dropped q p (log w (event.CallBegun p (call.DropRun q))).trace))))
+      (λ (x : (same r q ≡ 0) × (eqb r q ≡ false) × (r ≢ q)).
+      inl (omega (arith, e.0, same_count), sym (ap is_past (apart r x.2)) ∙ e.1))
+      (same_cases r q);
+  readies = λ r. omega arith;
+  quits = λ r. ⊎_elim
+      (λ (x : (same r q ≡ 1) × (eqb r q ≡ true) × (r ≡ q)). inr (subst (IsPast v) (sym x.2) now))
+      (λ (x : (same r q ≡ 0) × (eqb r q ≡ false) × (r ≢ q)). inl (omega (arith, x.0, quits-drop s q r)))
+      (same_cases r q);
+  load = λ f r. inl (omega arith);
+}
+  where
+    v : World
+    v = log (put_run (log w (event.CallBegun p (call.DropRun q))) q (record (run_of w q) { dropped = true }))
+        (event.RunDropped p q)
+
+    same_count : length v.runs ≡ length w.runs
+    same_count = count-set w.runs q (record (run_of w q) { dropped = true })
+
+    now : IsPast v q
+    now = (omega (arith, l, same_count), off-now w.runs q)
+
+    apart : (r : ℕ) → r ≢ q → run_of v r ≡ run_of w r
+    apart r n = get_or-set_other w.runs q r (record (run_of w q) { dropped = true }) no_run n
+
+-- what the call needs: the run is there
+abbrev pub Drops : Call → World → Type 0
+Drops (call.DropRun q) w = q < length w.runs
+Drops _ w = Unit {0}
+
+pub keeps-begun : (p : ℕ) (w : World) (here : Option Waker) (c : Call) → Drops c w →
+    Leads w [] (begun p (log w (event.CallBegun p c)) here c)
+keeps-begun p w here (call.Wake n) k =
+    begins-with w (log w (event.CallBegun p (call.Wake n))) (kept w n) _ refl refl
+    (λ f. begins w _ _ refl refl (λ r. refl))
+keeps-begun p w here (call.WakeByRef n) k =
+    begins-with w (log w (event.CallBegun p (call.WakeByRef n))) (kept w n) _ refl refl
+    (λ f. begins w _ _ refl refl (λ r. refl))
+keeps-begun p w here (call.Copy n) k =
+    begins-with w (log w (event.CallBegun p (call.Copy n))) (kept w n) _ refl refl
+    (λ f. begins w _ _ refl refl (λ r. refl))
+keeps-begun p w here (call.DropWaker n) k =
+    begins-with w (log w (event.CallBegun p (call.DropWaker n))) (kept w n) _ refl refl
+    (λ f. begins w _ _ refl refl (λ r. refl))
+keeps-begun p w here call.Keep k =
+    begins-with w (log w (event.CallBegun p call.Keep)) (future_of here) _ refl refl
+    (λ f. begins w _ _ refl refl (λ r. refl))
+keeps-begun p w here call.WakeSelf k =
+    begins-with w (log w (event.CallBegun p call.WakeSelf)) (future_of here) _ refl refl
+    (λ f. begins w _ _ refl refl (λ r. refl))
+keeps-begun p w here call.Spawn k = begins w _ _ refl refl (λ r. refl)
+keeps-begun p w here call.TryTick k = begins w _ _ refl refl (λ r. refl)
+keeps-begun p w here call.IsEmpty k = begins w _ _ refl refl (λ r. refl)
+keeps-begun p w here (call.PollHandle f b) k = begins w _ _ refl refl (λ r. refl)
+keeps-begun p w here (call.Cancel f) k = begins w _ _ refl refl (λ r. refl)
+keeps-begun p w here (call.Detach f) k = begins w _ _ refl refl (λ r. refl)
+keeps-begun p w here (call.DropHandle f) k = begins w _ _ refl refl (λ r. refl)
+keeps-begun p w here call.NewTick k = begins w _ _ refl refl (λ r. refl)
+keeps-begun p w here (call.PollTick u b) k = begins w _ _ refl refl (λ r. refl)
+keeps-begun p w here (call.DropTick u) k = begins w _ _ refl refl (λ r. refl)
+keeps-begun p w here call.NewRun k = begins w _ _ refl refl (λ r. refl)
+keeps-begun p w here (call.PollRun q b) k = begins-poll _ w _ _ refl refl
+keeps-begun p w here (call.DropRun q) k = begins-drop _ p w q k
+keeps-begun p w here call.DropExecutor k = begins w _ _ refl refl (λ r. refl)
+
+-- the trace at the beginning of a call
+
+grown-with : (w v : World) (x : Option ℕ) (d : ℕ → Done) → Grown w v → ((f : ℕ) → Grown w (d f).world) →
+    Grown w (with_future v x d).world
+grown-with w v None d g k = g
+grown-with w v (Some f) d g k = k f
+
+pub grown-begun : (p : ℕ) (w : World) (here : Option Waker) (c : Call) →
+    Grown w (begun p (log w (event.CallBegun p c)) here c).world
+grown-begun p w here c = by c
+  where
+    one : (c : Call) → Grown w (log w (event.CallBegun p c))
+    one c = seen-log w (log w (event.CallBegun p c)) (event.CallBegun p c) refl refl
+
+    two : (c : Call) (v : World) (e : Event) → stirs e ≡ false →
+        v.trace ≡ (log w (event.CallBegun p c)).trace ++ e ∷ [] →
+        Grown w v
+    two c v e z q = seen-and w (log w (event.CallBegun p c)) v (one c) (seen-log (log w (event.CallBegun p c)) v e z q)
+
+    by : (c : Call) → Grown w (begun p (log w (event.CallBegun p c)) here c).world
+    by (call.Wake n) = grown-with w (log w (event.CallBegun p (call.Wake n))) (kept w n) _ (one (call.Wake n))
+        (λ f. seen-log w _ (event.CallBegun p (call.Wake n)) refl refl)
+    by (call.WakeByRef n) = grown-with w (log w (event.CallBegun p (call.WakeByRef n))) (kept w n) _
+        (one (call.WakeByRef n)) (λ f. seen-log w _ (event.CallBegun p (call.WakeByRef n)) refl refl)
+    by (call.Copy n) = grown-with w (log w (event.CallBegun p (call.Copy n))) (kept w n) _ (one (call.Copy n))
+        (λ f. seen-log w _ (event.CallBegun p (call.Copy n)) refl refl)
+    by (call.DropWaker n) = grown-with w (log w (event.CallBegun p (call.DropWaker n))) (kept w n) _
+        (one (call.DropWaker n)) (λ f. seen-log w _ (event.CallBegun p (call.DropWaker n)) refl refl)
+    by call.Keep = grown-with w (log w (event.CallBegun p call.Keep)) (future_of here) _ (one call.Keep)
+        (λ f. seen-log w _ (event.CallBegun p call.Keep) refl refl)
+    by call.WakeSelf = grown-with w (log w (event.CallBegun p call.WakeSelf)) (future_of here) _ (one call.WakeSelf)
+        (λ f. seen-log w _ (event.CallBegun p call.WakeSelf) refl refl)
+    by (call.PollTick u b) = two (call.PollTick u b) _ (event.TickPolled p u) refl refl
+    by (call.DropTick u) = two (call.DropTick u) _ (event.TickDropped p u) refl refl
+    by (call.PollRun q b) = two (call.PollRun q b) _ (event.RunPolled p q) refl refl
+    by (call.DropRun q) = two (call.DropRun q) _ (event.RunDropped p q) refl refl
+    by call.DropExecutor = two call.DropExecutor _ (event.DropBegun p) refl refl
+    by call.Spawn = one call.Spawn
+    by call.TryTick = one call.TryTick
+    by call.IsEmpty = one call.IsEmpty
+    by (call.PollHandle f b) = one (call.PollHandle f b)
+    by (call.Cancel f) = one (call.Cancel f)
+    by (call.Detach f) = one (call.Detach f)
+    by (call.DropHandle f) = one (call.DropHandle f)
+    by call.NewTick = one call.NewTick
+    by call.NewRun = one call.NewRun

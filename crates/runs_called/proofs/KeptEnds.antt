@@ -1,0 +1,230 @@
+-- Where a poll of a run is answered that its own future is ready, that comes after all that it kept.
+use Rattle.std.proofs.Common.{◌≡◌, ◌⊎◌, ◌∙◌, ℕ, zero, suc, ◌+◌, ◌<◌, ◌≤◌, List, [], ◌∷◌, ◌++◌, length, set, drop, take}
+use Rattle.std.proofs.Common.{Bool, true, false, cond, refl, sym, ap, subst, inl, inr, ⊎_elim, arith}
+use Rattle.std.specs.Prelude.{Option, Some, count_by, reverse, slice_get}
+use Rattle.runs_model.specs.declared.call.Reply.{Reply}
+use Rattle.runs_model.specs.declared.call.Reply.TheVariants as reply
+use Rattle.runs_model.specs.declared.event.Event.{Event}
+use Rattle.runs_model.specs.declared.event.Event.TheVariants as event
+use Rattle.runs_model.specs.declared.op.Hold.{Hold}
+use Rattle.runs_model.specs.declared.op.Hold.TheVariants as hold
+use Rattle.runs_model.specs.declared.op.Op.{Op}
+use Rattle.runs_model.specs.declared.op.Op.TheVariants as op
+use Rattle.runs_model.specs.declared.op.Sleeper.TheVariants as sleeper
+use Rattle.runs_model.specs.AwaiterKept.{EndsWith, since}
+use Rattle.runs_model.specs.Keeper.{AnswersReady}
+use Rattle.runs_model.specs.Quiet.{begins_call, ends_call}
+use Rattle.runs_model.specs.Steps.{Machine, stack}
+use Rattle.runs_model.specs.Trace.{Trace, has}
+use Rattle.runs_model.specs.Weights.{weigh_all}
+use Rattle.runs_model.specs.World.{Done, done, log}
+use Rattle.runs_model.proofs.AskingRuns.{Heard}
+use Rattle.runs_model.proofs.Lift.{split, unsettled}
+use Rattle.runs_model.proofs.Lists.{weigh_all-push}
+use Rattle.runs_model.proofs.OwnRooms.{Roomy}
+use Rattle.runs_called.proofs.KeptLeads.{IsPast}
+use Rattle.runs_called.proofs.KeptGrown.{Grown, seen-log}
+use Rattle.runs_called.proofs.KeptTrace.{Parted, get-new, keeps-before, none-kept, get-either, parted-more}
+use Rattle.runs_called.proofs.KeptTrace.{since-length, since-old, get-within, take-old, get-old}
+use Rattle.runs_called.proofs.KeptWeights.{is_end_ready, load_of, quits_of, readies_held, readies_of}
+use Rattle.runs_called.proofs.Stands.{asks_of}
+use Rattle.runs_called.proofs.StandsAnswers.{IsLevel, level-from}
+use Rattle.runs_called.proofs.StandsLast.{meets}
+use Rattle.runs_called.proofs.StandsSteps.{Standing}
+use Rattle.runs_called.proofs.StandsTelling.{Begun, LastPoll, begun-at, drops_it, has-later, last-poll, left-has}
+use Rattle.runs_called.proofs.StandsTelling.{polls_it, unasked-all}
+use Rattle.runs_called.proofs.StandsWeights.{asks-all}
+use Rattle.runs_called.proofs.Watched.{Watched, poll_begun, watched, watched_from}
+use Rattle.runs_called.proofs.KeptHere.{Here, Keeping, gone-more, take-whole}
+
+-- a call ends, which may be a poll of a run whose own future was ready
+
+module _ (s : Machine) (p : ℕ) (a : Reply) (held : Hold) (below : List Op) (l : p < length s.parties)
+    (e : stack s p ≡ below ++ reverse (op.End a held ∷ [])) (k : Keeping s) where
+  abbrev ended : Done
+  ended = done (log s.world (event.CallEnded p a)) []
+
+  -- run r's poll ends so
+  module _ (r : ℕ) (ready : a ≡ reply.Ready) (of_it : 1 ≤ readies_held r held) where
+    asks : 1 ≤ asks_of (sleeper.Run r) (op.End a held)
+    asks = subst (λ (b : Reply). 1 ≤ asks_of (sleeper.Run r) (op.End b held)) (sym ready) (by held of_it)
+      where
+        by : (o : Hold) → 1 ≤ readies_held r o → 1 ≤ asks_of (sleeper.Run r) (op.End reply.Ready o)
+        by (hold.Run q) z = omega (arith, z)
+        by (hold.Tick q) z = absurd (omega (arith, z))
+        by _ z = absurd (omega (arith, z))
+
+    open_poll : ((watched (sleeper.Run r) s.world.trace).asking ≡ true)
+        × ((watched (sleeper.Run r) s.world.trace).party ≡ p) × ((watched (sleeper.Run r) s.world.trace).inner ≡ 0)
+    open_poll = (meets s p a held below l e k.standing (sleeper.Run r)).ended asks
+
+    living : has (drops_it (sleeper.Run r)) s.world.trace ≡ false
+    living = sym (left-has (sleeper.Run r) s.world.trace) ∙ by (watched (sleeper.Run r) s.world.trace).left refl
+      where
+        by : (b : Bool) → (watched (sleeper.Run r) s.world.trace).left ≡ b → b ≡ false
+        by false q = refl
+        by true q = absurd (omega (
+          arith,
+          ((k.standing.stands (sleeper.Run r)).parted q).2,
+          asks-all (sleeper.Run r) s.parties,
+          split (asks_of (sleeper.Run r)) s.parties p (op.End a held ∷ []) below l e,
+          asks,
+        ))
+
+    last : LastPoll (sleeper.Run r) s.world.trace
+    last = ⊎_elim
+        (λ (z : has (polls_it (sleeper.Run r)) s.world.trace ≡ false). absurd
+        (let no : true ≡ false = sym open_poll.0 ∙ unasked-all (sleeper.Run r) s.world.trace z in cc))
+        (λ (z : LastPoll (sleeper.Run r) s.world.trace). z)
+        (last-poll (sleeper.Run r) s.world.trace)
+
+    since_it : (es : Trace) → drop (suc last.poll) es ≡ since last.poll es
+    since_it es = ap (λ (n : ℕ). drop n es) (let z : suc last.poll ≡ last.poll + 1 = omega arith in z)
+
+    unpolled : has (polls_it (sleeper.Run r)) (since last.poll s.world.trace) ≡ false
+    unpolled = ap (has (polls_it (sleeper.Run r))) (sym (since_it s.world.trace)) ∙ last.last
+
+    begun_there : Begun (sleeper.Run r) last.poll last.party s.world.trace
+    begun_there = begun-at (sleeper.Run r) last.poll last.party s.world.trace last.polled
+
+    all : watched (sleeper.Run r) s.world.trace
+        ≡ watched_from (sleeper.Run r) (suc last.poll) (poll_begun last.poll last.party begun_there.before)
+        (since last.poll s.world.trace)
+    all = begun_there.all ∙ ap (watched_from (sleeper.Run r) (suc last.poll)
+        (poll_begun last.poll last.party begun_there.before)) (since_it s.world.trace)
+
+    level : IsLevel last.party 0 (since last.poll s.world.trace) (watched (sleeper.Run r) s.world.trace)
+    level = subst (IsLevel last.party 0 (since last.poll s.world.trace)) (sym all)
+        (level-from (sleeper.Run r) last.party (suc last.poll) (poll_begun last.poll last.party begun_there.before)
+        (since last.poll s.world.trace) unpolled
+        (has-later (drops_it (sleeper.Run r)) (last.poll + 1) s.world.trace living) refl refl
+        (sym (ap (λ (w : Watched). w.asking) all) ∙ open_poll.0))
+
+    same_party : last.party ≡ p
+    same_party = sym level.party ∙ open_poll.1
+
+    within : last.poll < length s.world.trace
+    within = get-within s.world.trace last.poll (event.RunPolled last.party r) last.polled
+
+    after_it : since last.poll (s.world.trace ++ event.CallEnded p a ∷ [])
+        ≡ since last.poll s.world.trace ++ event.CallEnded p a ∷ []
+    after_it = since-old s.world.trace (event.CallEnded p a ∷ []) last.poll within
+
+    ends : EndsWith last.party reply.Ready (since last.poll s.world.trace ++ event.CallEnded p a ∷ [])
+    ends = record {
+      place = length (since last.poll s.world.trace);
+      here = get-new (since last.poll s.world.trace) (event.CallEnded p a)
+          ∙ (λ i. let o : Option Event = Some (event.CallEnded (sym same_party i) (ready i)) in o);
+      inner = ap (count_by (ends_call last.party)) (whole (since last.poll s.world.trace))
+          ∙ (omega (arith, level.level, open_poll.2)
+          ∙ sym (ap (count_by (begins_call last.party)) (whole (since last.poll s.world.trace))));
+      first = λ n z. omega (
+        arith,
+        level.first n z,
+        ap (count_by (ends_call last.party))
+            (take-old (since last.poll s.world.trace) (event.CallEnded p a ∷ []) n z),
+        ap (count_by (begins_call last.party))
+            (take-old (since last.poll s.world.trace) (event.CallEnded p a ∷ []) n z),
+      );
+    }
+      where
+        whole : (es : Trace) → take (length es) (es ++ event.CallEnded p a ∷ []) ≡ es
+        whole es = take-old es (event.CallEnded p a ∷ []) (length es) (omega arith) ∙ take-whole es
+
+    ends-then : EndsWith last.party reply.Ready (since last.poll ended.world.trace)
+    unfolding ends
+    ends-then = record {
+      place = length (since last.poll s.world.trace);
+      here = ap (λ (xs : Trace). slice_get xs (length (since last.poll s.world.trace))) after_it ∙ ends.here;
+      inner = ap (λ (xs : Trace). count_by (ends_call last.party) (take (length (since last.poll s.world.trace)) xs))
+          after_it
+          ∙ (ends.inner
+          ∙ sym (ap (λ (xs : Trace). count_by (begins_call last.party)
+          (take (length (since last.poll s.world.trace)) xs)) after_it));
+      first = λ n z. omega (
+        arith,
+        ends.first n z,
+        ap (λ (xs : Trace). count_by (ends_call last.party) (take n xs)) after_it,
+        ap (λ (xs : Trace). count_by (begins_call last.party) (take n xs)) after_it,
+      );
+    }
+
+    answers : (place : ℕ) → place < length s.world.trace → AnswersReady r place ended.world.trace
+    unfolding ends-then
+    answers place z = record {
+      party = last.party;
+      poll = last.poll;
+      polled = get-old s.world.trace (event.CallEnded p a ∷ []) last.poll within ∙ last.polled;
+      ready = ends-then;
+      later = omega (arith, z, since-length s.world.trace last.poll within);
+    }
+
+    pub parted-ready : Parted r ended.world.trace
+    parted-ready = record {
+      since_then = λ place q f z. ⊎_elim
+          (λ (y : place < length s.world.trace). inr (answers place y))
+          (λ (y : (n : ℕ) × (slice_get (event.CallEnded p a ∷ []) n ≡ Some (event.Kept q f r))). absurd
+          (none-kept r (event.CallEnded p a ∷ []) refl y.0 q f y.1))
+          (get-either s.world.trace (event.CallEnded p a ∷ []) place (event.Kept q f r) z);
+    }
+
+  grown : Grown s.world ended.world
+  grown = seen-log s.world ended.world (event.CallEnded p a) refl refl
+
+  still : (v : Op → ℕ) → weigh_all v s.parties
+      ≡ v (op.End a held) + weigh_all v (set s.parties p (below ++ reverse []))
+  still v = omega (
+    arith,
+    split v s.parties p (op.End a held ∷ []) below l e,
+    weigh_all-push v s.parties p below [] l,
+  )
+
+  parted-ends : (r : ℕ) → IsPast s.world r → Parted r ended.world.trace
+      ⊎ (1 ≤ weigh_all (readies_of r) (set s.parties p (below ++ reverse [])))
+  parted-ends r z = ⊎_elim
+      (λ (y : Parted r s.world.trace). inl (parted-more r s.world.trace (event.CallEnded p a ∷ [])
+      (none-kept r (event.CallEnded p a ∷ []) refl) y))
+      (λ (y : 1 ≤ weigh_all (readies_of r) s.parties). by (is_end_ready a) refl (omega (
+        arith,
+        y,
+        still
+            (readies_of r),
+      )))
+      (k.parted r z)
+    where
+      ready-is : (b : Reply) → is_end_ready b ≡ true → b ≡ reply.Ready
+      ready-is reply.Ready q = refl
+      ready-is _ q = absurd (cc)
+
+      split-up : (n m : ℕ) → 1 ≤ n + m → (1 ≤ n) ⊎ (1 ≤ m)
+      split-up zero m q = inr (omega (arith, q))
+      split-up (suc n) m q = inl (omega arith)
+
+      by : (b : Bool) → is_end_ready a ≡ b →
+          1 ≤ cond (is_end_ready a) (readies_held r held) 0
+          + weigh_all (readies_of r) (set s.parties p (below ++ reverse [])) →
+          Parted r ended.world.trace
+          ⊎ (1 ≤ weigh_all (readies_of r) (set s.parties p (below ++ reverse [])))
+      by true q w = ⊎_elim
+          (λ (y : 1 ≤ readies_held r held). inl (parted-ready r (ready-is a q) y))
+          (λ (y : 1 ≤ weigh_all (readies_of r) (set s.parties p (below ++ reverse []))). inr y)
+          (split-up _ _ (omega (arith, w, ap (λ (c : Bool). cond c (readies_held r held) 0) q)))
+      by false q w = inr (omega (arith, w, ap (λ (c : Bool). cond c (readies_held r held) 0) q))
+
+  pub keeping-end : Standing (unsettled s p below ended) → Heard (unsettled s p below ended) →
+      Roomy (unsettled s p below ended) → Keeping (unsettled s p below ended)
+  keeping-end x y z = record {
+    standing = x;
+    heard = y;
+    roomy = z;
+    leaves = λ r i. k.leaves r (omega (arith, i, still (quits_of r)));
+    parted = parted-ends;
+    keeps = λ f r place i. (let j : _ = k.keeps f r place (keeps-before f r place s.world.trace
+        (event.CallEnded p a ∷ []) refl i) in (j.0, on f r j.1));
+  }
+    where
+      on : (f r : ℕ) → Here f r s.world (weigh_all (load_of f) s.parties) →
+          Here f r ended.world (weigh_all (load_of f) (set s.parties p (below ++ reverse [])))
+      on f r (inl q) = inl (omega (arith, q, still (load_of f)))
+      on f r (inr (inl q)) = inr (inl (gone-more f s.world ended.world (event.CallEnded p a ∷ []) refl q))
+      on f r (inr (inr q)) = inr (inr q)

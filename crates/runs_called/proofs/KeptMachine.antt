@@ -1,0 +1,156 @@
+-- After each list of steps a future that a run kept last stands in that run's own queue, or somebody has it in hand, or
+-- it was ready or dropped, or the run is over.
+use Rattle.std.proofs.Common.{◌≡◌, ◌⊎◌, ℕ, zero, suc, ◌<◌, ◌≤◌, List, [], ◌∷◌, ◌++◌, length, Bool, true, false}
+use Rattle.std.proofs.Common.{◌&&◌, ◌||◌, not, refl, subst, inl, inr, ⊎_elim, arith}
+use Rattle.std.specs.Prelude.{Option, Some, None, reverse}
+use Rattle.task_moves.specs.declared.moves.owed.Move.TheVariants as move
+use Rattle.runs_model.specs.declared.call.Call.{Call}
+use Rattle.runs_model.specs.declared.call.Call.TheVariants as call
+use Rattle.runs_model.specs.declared.call.Reply.{Reply}
+use Rattle.runs_model.specs.declared.event.Event.{Event}
+use Rattle.runs_model.specs.declared.event.Event.TheVariants as event
+use Rattle.runs_model.specs.declared.op.Hold.{Hold}
+use Rattle.runs_model.specs.declared.op.Op.{Op}
+use Rattle.runs_model.specs.declared.op.Op.TheVariants as op
+use Rattle.runs_model.specs.declared.op.StealOp.TheVariants as steal_op
+use Rattle.runs_model.specs.declared.step.Hint.{Hint}
+use Rattle.runs_model.specs.declared.step.Step.{Step}
+use Rattle.runs_model.specs.Doing.{act}
+use Rattle.runs_model.specs.Good.{Good}
+use Rattle.runs_model.specs.OwnQueues.{filling_of}
+use Rattle.runs_model.specs.Rows.{running_of}
+use Rattle.runs_model.specs.Steps.{Machine, stack, run, start, begun, has_all, is_drop, is_free, is_on_executor}
+use Rattle.runs_model.specs.Steps.{is_unborrowed, mine, react, top}
+use Rattle.runs_model.specs.World.{Done, done, log}
+use Rattle.runs_model.proofs.AskingRuns.{Heard, heard-ends, heard-moves, heard-start}
+use Rattle.runs_model.proofs.Lift.{first-true, good-start, none_refused, split, unsettled, weigh_all-idle}
+use Rattle.runs_model.proofs.OwnRooms.{Roomy, roomy-ends, roomy-moves}
+use Rattle.runs_model.proofs.Ways.{Way, along}
+use Rattle.runs_model.proofs.Ways.Way.{acted, reacted, called}
+use Rattle.runs_called.proofs.KeptActs.{is_apart, keeps-act, keeps-react}
+use Rattle.runs_called.proofs.KeptCalls.{Drops, grown-begun, keeps-begun}
+use Rattle.runs_called.proofs.KeptGrown.{seen-act, seen-react, stirs_op}
+use Rattle.runs_called.proofs.KeptWeights.{quits_of}
+use Rattle.runs_called.proofs.StandsLast.{standing-ends}
+use Rattle.runs_called.proofs.StandsMachine.{standing-moves, standing-start}
+use Rattle.runs_called.proofs.StandsSteps.{Standing}
+use Rattle.runs_called.proofs.StandsUses.{run-there}
+use Rattle.runs_called.proofs.KeptHere.{Keeping, keeping-on}
+use Rattle.runs_called.proofs.KeptTaken.{keeping-taken}
+use Rattle.runs_called.proofs.KeptPut.{has-free, keeping-put, put-free}
+use Rattle.runs_called.proofs.KeptEnds.{keeping-end}
+
+-- who leaves was made
+
+pub below-made : (s : Machine) (p : ℕ) (o : Op) (rest : List Op) → p < length s.parties →
+    stack s p ≡ rest ++ reverse (o ∷ []) → Keeping s → (r : ℕ) → 1 ≤ running_of r o → r < length s.world.runs
+below-made s p o rest l e k r z = by (decide r (length s.world.runs))
+  where
+    decide : (n m : ℕ) → (n < m) ⊎ (m ≤ n)
+    decide n zero = inr (omega arith)
+    decide zero (suc m) = inl (omega arith)
+    decide (suc n) (suc m) = ⊎_elim (λ (x : n < m). inl (omega (arith, x))) (λ (x : m ≤ n). inr (omega (arith, x)))
+        (decide n m)
+
+    by : (r < length s.world.runs) ⊎ (length s.world.runs ≤ r) → r < length s.world.runs
+    by (inl x) = x
+    by (inr x) = absurd (omega (
+      arith,
+      z,
+      (k.standing.used r).unborn x,
+      split (running_of r) s.parties p (o ∷ []) rest l e,
+    ))
+
+-- every step
+
+pub keeping-ends : (s : Machine) (p : ℕ) (a : Reply) (held : Hold) (below : List Op) → p < length s.parties →
+    stack s p ≡ below ++ reverse (op.End a held ∷ []) → Keeping s →
+    Keeping (unsettled s p below (done (log s.world (event.CallEnded p a)) []))
+keeping-ends s p a held below l e k = keeping-end s p a held below l e k
+    (standing-ends s p a held below l e k.standing) (heard-ends s p a held below l e k.heard)
+    (roomy-ends s p a held below l e k.roomy)
+
+keeping-acted : (s : Machine) (p : ℕ) (rest : List Op) (h : Hint) (o : Op) (b : Bool) → is_apart o ≡ b →
+    p < length s.parties → stack s p ≡ rest ++ reverse (o ∷ []) → Keeping s →
+    Standing (unsettled s p rest (act p h o s.world)) → Heard (unsettled s p rest (act p h o s.world)) →
+    Roomy (unsettled s p rest (act p h o s.world)) → Keeping (unsettled s p rest (act p h o s.world))
+keeping-acted s p rest h o true n l e k a b c =
+    keeping-on s p (o ∷ []) rest (act p h o s.world) l e k
+    (keeps-act p h o s.world n (below-made s p o rest l e k)
+    (λ r z. k.leaves r (omega (arith, z, split (quits_of r) s.parties p (o ∷ []) rest l e))))
+    (seen-act p h o s.world (mild o n)) a b c
+  where
+    not-false : (x : Bool) → not x ≡ true → x ≡ false
+    not-false false q = refl
+    not-false true q = absurd (cc)
+
+    mild : (o : Op) → is_apart o ≡ true → stirs_op o ≡ false
+    mild (op.End x held) q = absurd (cc)
+    mild (op.Move m f) q = not-false (stirs_op (op.Move m f)) q
+    mild (op.Steal x) q = not-false (stirs_op (op.Steal x)) q
+    mild _ q = refl
+keeping-acted s p rest h (op.Move move.TakeUp g) false n l e k a b c = keeping-taken s p g rest h l e k a b c
+keeping-acted s p rest h (op.Steal (steal_op.Put x more g)) false n l e k a b c =
+    subst (λ (d : Done). Standing (unsettled s p rest d) → Heard (unsettled s p rest d) →
+    Roomy (unsettled s p rest d) → Keeping (unsettled s p rest d))
+    (put-free s p x more g h (has-free s p rest x more g l e k.roomy))
+    (keeping-put s p x more g rest h l e k) a b c
+keeping-acted s p rest h (op.End r held) false n l e k a b c = keeping-end s p r held rest l e k a b c
+keeping-acted s p rest h _ false n l e k a b c = absurd (cc)
+
+second : (a b : Bool) → (a && b) ≡ true → b ≡ true
+second true b e = e
+second false b e = absurd (cc)
+
+drops-there : (s : Machine) (p : ℕ) (c : Call) → has_all s.world s.parties (top (stack s p)) c ≡ true → Drops c s.world
+drops-there s p (call.DropRun q) z = run-there s.world.runs q (first-true _ _ z)
+drops-there s p _ z = tt
+
+keeping-way : (s : Machine) (p : ℕ) (old rest : List Op) (d : Done) → Good s → p < length s.parties →
+    stack s p ≡ rest ++ reverse old → Way s p old rest d → Standing (unsettled s p rest d) →
+    Heard (unsettled s p rest d) → Roomy (unsettled s p rest d) → Keeping s → Keeping (unsettled s p rest d)
+keeping-way s p old rest d good l e (acted h o q z) a b c k =
+    rw z (keeping-acted s p rest h o (is_apart o) refl l
+    (subst (λ (os : List Op). stack s p ≡ rest ++ reverse os) q e) k
+    (subst (λ (x : Done). Standing (unsettled s p rest x)) z a)
+    (subst (λ (x : Done). Heard (unsettled s p rest x)) z b)
+    (subst (λ (x : Done). Roomy (unsettled s p rest x)) z c))
+keeping-way s p old rest d good l e (reacted o u n q z) a b c k =
+    rw z (keeping-on s p (o ∷ []) rest (react p o u s.world) l
+    (subst (λ (os : List Op). stack s p ≡ rest ++ reverse os) q e) k (keeps-react p o u s.world n)
+    (seen-react p o u s.world n)
+    (subst (λ (x : Done). Standing (unsettled s p rest x)) z a)
+    (subst (λ (x : Done). Heard (unsettled s p rest x)) z b)
+    (subst (λ (x : Done). Roomy (unsettled s p rest x)) z c))
+keeping-way s p old rest d good l e (called m q t n z) a b c k =
+    let f : _ = none_refused (is_free (top (stack s p))) (has_all s.world s.parties (top (stack s p)) m)
+    (not (s.world.gone && is_on_executor m)) (not (is_drop m) || is_unborrowed s.world s.parties) n in
+    rw z (keeping-on s p [] rest (begun p (log s.world (event.CallBegun p m)) (mine (top (stack s p))) m) l
+    (subst (λ (os : List Op). stack s p ≡ rest ++ reverse os) q e) k
+    (keeps-begun p s.world (mine (top (stack s p))) m (drops-there s p m f.1))
+    (grown-begun p s.world (mine (top (stack s p))) m)
+    (subst (λ (x : Done). Standing (unsettled s p rest x)) z a)
+    (subst (λ (x : Done). Heard (unsettled s p rest x)) z b)
+    (subst (λ (x : Done). Roomy (unsettled s p rest x)) z c))
+
+keeping-moves : (s : Machine) (p : ℕ) (old rest : List Op) (d : Done) → Good s → p < length s.parties →
+    stack s p ≡ rest ++ reverse old → Way s p old rest d → Keeping s → Keeping (unsettled s p rest d)
+keeping-moves s p old rest d good l e w k =
+    keeping-way s p old rest d good l e w (standing-moves s p old rest d good l e w k.standing)
+    (heard-moves s p old rest d good l e w k.heard)
+    (roomy-moves s p old rest d l e w (λ r. (k.standing.used r).once) k.roomy) k
+
+keeping-start : (limit n : ℕ) → Keeping (start limit n)
+keeping-start limit n = record {
+  standing = standing-start limit n;
+  heard = heard-start limit n;
+  roomy = λ r. omega (arith, weigh_all-idle (filling_of r) n);
+  leaves = λ r z. absurd (omega (arith, z, weigh_all-idle (quits_of r) n));
+  parted = λ r z. absurd (omega (arith, z.0));
+  keeps = λ f r place z. absurd
+      (let no : (let o : Option Event = None in o) ≡ Some (event.Kept z.party f r) = z.kept in cc);
+}
+
+pub keeping : (limit n : ℕ) (ts : List Step) → Keeping (run ts (start limit n))
+keeping limit n ts = along Keeping keeping-moves keeping-ends ts (start limit n) (good-start limit n)
+    (keeping-start limit n)

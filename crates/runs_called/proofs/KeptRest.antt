@@ -1,0 +1,65 @@
+-- At a quiet trace a run that keeps a due future has it in its own queue, stands, and is called.
+use Rattle.std.proofs.Common.{◌≡◌, ◌∙◌, ℕ, ◌≤◌, List, [], length, true, false, sym, inl, inr, ⊎_elim, arith}
+use Rattle.runs_model.specs.declared.step.Step.{Step}
+use Rattle.runs_model.specs.Due.{IsDue}
+use Rattle.runs_model.specs.Keeper.{AnswersReady, IsKeeper, is_run_drop}
+use Rattle.runs_model.specs.AwaiterKept.{since}
+use Rattle.runs_model.specs.Sound.{times}
+use Rattle.runs_model.specs.Steps.{Machine, run, stack, start}
+use Rattle.runs_model.specs.Trace.{has}
+use Rattle.runs_model.specs.Weights.{weigh_all}
+use Rattle.runs_model.specs.World.{own_of}
+use Rattle.runs_model.proofs.AskingRuns.{heard}
+use Rattle.runs_model.proofs.Lift.{good}
+use Rattle.runs_model.proofs.OwnRunners.{own-queue-has-runner}
+use Rattle.runs_model.proofs.Resting.{deep, rests, all-rest}
+use Rattle.runs_model.proofs.SleepersTellingRuns.{are_told}
+use Rattle.runs_called.specs.Called.{KeeperIsCalled}
+use Rattle.runs_called.proofs.Dueness.{none-last}
+use Rattle.runs_called.proofs.KeptHere.{Here, Keeping}
+use Rattle.runs_called.proofs.KeptMachine.{keeping}
+use Rattle.runs_called.proofs.KeptTrace.{Parted}
+use Rattle.runs_called.proofs.KeptWeights.{load_of, readies_of}
+use Rattle.runs_called.proofs.Queued.{times-length}
+use Rattle.runs_called.proofs.StandsMachine.{standing}
+use Rattle.runs_called.proofs.StandsRest.{keeper-called, keeper-stands}
+
+-- it stands in its own queue
+kept-there : (s : Machine) → ((q : ℕ) → stack s q ≡ []) → Keeping s → (f r : ℕ) → IsDue f s.world.trace →
+    IsKeeper r f s.world.trace → 1 ≤ times f (own_of s.world r)
+kept-there s idle k f r due x =
+    let here : _ = k.keeps f r x.place
+    (record { party = x.party; kept = x.kept; last = x.last; unpolled = x.unpolled }) in by here.1
+  where
+    by : Here f r s.world (weigh_all (load_of f) s.parties) → 1 ≤ times f (own_of s.world r)
+    by (inl z) = omega (arith, z, all-rest (load_of f) s.parties idle)
+    by (inr (inl z)) = absurd
+        (let no : true ≡ false = sym z ∙ none-last f s.world.trace due.unready due.undropped in cc)
+    by (inr (inr z)) = absurd (⊎_elim
+        (λ (y : Parted r s.world.trace). ⊎_elim
+        (λ (w : has (is_run_drop r) (since x.place s.world.trace) ≡ true).
+        let no : true ≡ false = sym w ∙ x.undropped in cc)
+        (λ (w : AnswersReady r x.place s.world.trace). x.unready w)
+        (y.since_then x.place x.party f x.kept))
+        (λ (y : 1 ≤ weigh_all (readies_of r) s.parties). absurd
+        (omega (arith, y, all-rest (readies_of r) s.parties idle)))
+        (k.parted r z))
+
+pub keeper-is-called : (limit parties : ℕ) (steps : List Step) (f : ℕ) →
+    KeeperIsCalled f (run steps (start limit parties)).world.trace
+keeper-is-called limit parties steps f r quiet due x none =
+    let s : Machine = run steps (start limit parties) in
+    let some : 1 ≤ length (own_of s.world r) = omega (
+      arith,
+      kept-there s (λ q. rests s (deep limit parties steps) quiet q) (keeping limit parties steps) f r due x,
+      times-length f (own_of s.world r),
+    ) in (
+      keeper-stands s (good limit parties steps) (heard limit parties steps) (deep limit parties steps)
+          (are_told limit parties steps) (own-queue-has-runner limit parties steps)
+          (standing limit parties steps) quiet r
+          some none,
+      keeper-called s (good limit parties steps) (heard limit parties steps) (deep limit parties steps)
+          (are_told limit parties steps) (own-queue-has-runner limit parties steps)
+          (standing limit parties steps) quiet r
+          some,
+    )

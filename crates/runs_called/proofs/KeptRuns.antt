@@ -1,0 +1,183 @@
+-- What is done with the list of queues, by a run that leaves and by one that pauses leaves of the own queues and of
+-- who has a kept future in hand.
+use Rattle.std.proofs.Common.{◌≡◌, ◌≢◌, ◌⊎◌, ◌∙◌, ℕ, zero, suc, ◌<◌, ◌≤◌, List, [], ◌∷◌, ◌++◌, length, get_or, set}
+use Rattle.std.proofs.Common.{Bool, true, false, ◌||◌, cond, eqb, refl, sym, ap, subst, inl, inr, ⊎_elim, arith}
+use Rattle.std.proofs.Common.{get_or-set_other, length-append}
+use Rattle.task_moves.specs.declared.moves.owed.Move.TheVariants as move
+use Rattle.runs_model.specs.declared.call.Reply.{Reply}
+use Rattle.runs_model.specs.declared.call.Reply.TheVariants as reply
+use Rattle.runs_model.specs.declared.event.Event.TheVariants as event
+use Rattle.runs_model.specs.declared.op.Hold.TheVariants as hold
+use Rattle.runs_model.specs.declared.op.ListOp.TheVariants as list_op
+use Rattle.runs_model.specs.declared.op.Op.TheVariants as op
+use Rattle.runs_model.specs.declared.op.Polled.TheVariants as of
+use Rattle.runs_model.specs.declared.op.RunOp.TheVariants as run_op
+use Rattle.runs_model.specs.declared.op.RunPoll.{RunPoll}
+use Rattle.runs_model.specs.declared.op.Section.TheVariants as section
+use Rattle.runs_model.specs.declared.op.Sleeper.TheVariants as sleeper
+use Rattle.runs_model.specs.declared.op.UserOp.TheVariants as user_op
+use Rattle.runs_model.specs.declared.op.Waker.{Waker}
+use Rattle.runs_model.specs.declared.op.Waker.TheVariants.{Task, Outside}
+use Rattle.runs_model.specs.declared.step.Hint.{Hint}
+use Rattle.runs_model.specs.ActsOfRuns as runs
+use Rattle.runs_model.specs.Sound.{times}
+use Rattle.runs_model.specs.Weights.{same, weigh}
+use Rattle.runs_model.specs.World.{World, Stage, New, Listed, Ended, Run, done, log, new_run, no_run, own_of, run_of}
+use Rattle.runs_model.proofs.Lift.{no_hint}
+use Rattle.runs_model.proofs.Lists.{same_cases, weigh-append}
+use Rattle.runs_model.proofs.Using.{mild-next}
+use Rattle.runs_model.proofs.UsingWorlds.{Idle, idle, idle-act, count-set, is_past}
+use Rattle.runs_called.proofs.KeptTrace.{Parted, or-true}
+use Rattle.runs_called.proofs.KeptWeights.{is_end_ready, mild-quits, quits_of, readies_of}
+use Rattle.runs_called.proofs.Stands.{View, view}
+use Rattle.runs_called.proofs.StandsGoing.{walks-registered}
+use Rattle.runs_called.proofs.KeptLeads.{IsPast, Leads, not-same, of-idle}
+use Rattle.runs_called.proofs.KeptSearch.{of-walks}
+
+-- the list of queues
+
+run-kept : (rs : List Run) (x : Run) (r : ℕ) → r < length rs → get_or (rs ++ x ∷ []) r no_run ≡ get_or rs r no_run
+run-kept [] x r h = absurd (omega (arith, h))
+run-kept (y ∷ rs) x zero h = refl
+run-kept (y ∷ rs) x (suc r) h = run-kept rs x r (omega (arith, h))
+
+past-made : (rs : List Run) (r : ℕ) →
+    (r < length (rs ++ new_run ∷ [])) × (is_past (get_or (rs ++ new_run ∷ []) r no_run) ≡ true) →
+    (r < length rs) × (is_past (get_or rs r no_run) ≡ true)
+past-made [] zero e = absurd (let no : false ≡ true = e.1 in cc)
+past-made [] (suc r) e = absurd (omega (arith, e.0))
+past-made (y ∷ rs) zero e = (omega arith, e.1)
+past-made (y ∷ rs) (suc r) e = let k : _ = past-made rs r (omega (arith, e.0), e.1) in (omega (arith, k.0), k.1)
+
+own-made : (f r : ℕ) (qs : List (List ℕ)) → times f (get_or (qs ++ [] ∷ []) r []) ≡ times f (get_or qs r [])
+own-made f zero [] = refl
+own-made f (suc r) [] = refl
+own-made f zero (x ∷ qs) = refl
+own-made f (suc r) (x ∷ qs) = own-made f r qs
+
+pub keeps-make : (b : Bool) (w : World) → Leads w (op.List (list_op.Write section.MakeRun) ∷ []) (runs.make_run_by b w)
+keeps-make true w = of-idle w _ _ (idle w w refl refl refl) (λ r. refl) (λ r. refl) (λ f. omega arith)
+keeps-make false w = record {
+  count = omega (arith, length-append w.runs (new_run ∷ []));
+  past = λ r e. (
+    omega (arith, e.0, length-append w.runs (new_run ∷ [])),
+    ap is_past (run-kept w.runs new_run r e.0) ∙ e.1,
+  );
+  fresh = λ r e. inl (past-made w.runs r e);
+  readies = λ r. omega arith;
+  quits = λ r. inl (omega arith);
+  load = λ f r. inl (omega (arith, own-made f r w.own));
+}
+
+pub keeps-register : (s : Stage) (w : World) (x : RunPoll) → (run_of w x.run).stage ≡ s →
+    Leads w (op.List (list_op.Write (section.Register x)) ∷ [])
+    (done (runs.registered s w x.run) (op.List list_op.UnlockWrite ∷ op.User (user_op.PollOwn x) ∷ []))
+keeps-register New w x e = of-walks w x _ _ (walks-registered New w x e) (λ r. refl) (λ r. refl) (λ f r. omega arith)
+keeps-register Listed w x e =
+    of-walks w x _ _ (walks-registered Listed w x e) (λ r. refl) (λ r. refl) (λ f r. omega arith)
+keeps-register Ended w x e =
+    of-walks w x _ _ (walks-registered Ended w x e) (λ r. refl) (λ r. refl) (λ f r. omega arith)
+
+-- a run that leaves the list is over
+over-now : (w : World) (q : ℕ) → q < length w.runs → IsPast (runs.unregistered w q) q
+over-now w q l = (omega (arith, l, count-set w.runs q (record (run_of w q) { stage = Ended })), by w.runs q)
+  where
+    by : (rs : List Run) (q : ℕ) →
+        is_past (get_or (set rs q (record (get_or rs q no_run) { stage = Ended })) q no_run) ≡ true
+    by [] q = refl
+    by (x ∷ rs) zero = or-true x.dropped
+    by (x ∷ rs) (suc q) = by rs q
+
+over-other : (w : World) (q r : ℕ) → r ≢ q → run_of (runs.unregistered w q) r ≡ run_of w r
+over-other w q r n = get_or-set_other w.runs q r (record (run_of w q) { stage = Ended }) no_run n
+
+pub keeps-unregister : (w : World) (q : ℕ) (a : Reply) (h : Hint) → q < length w.runs →
+    (1 ≤ weigh (quits_of q) (op.List (list_op.Write (section.Unregister q a)) ∷ []) → IsPast w q) →
+    Leads w (op.List (list_op.Write (section.Unregister q a)) ∷ []) (runs.write h (section.Unregister q a) w)
+keeps-unregister w q a h l k = record {
+  count = omega (arith, same_count);
+  past = λ r e. ⊎_elim
+      (λ (x : (same r q ≡ 1) × (eqb r q ≡ true) × (r ≡ q)). subst (IsPast (runs.unregistered w q)) (sym x.2)
+      (over-now w q l))
+      (λ (x : (same r q ≡ 0) × (eqb r q ≡ false) × (r ≢ q)).
+      (omega (arith, e.0, same_count), ap is_past (over-other w q r x.2) ∙ e.1))
+      (same_cases r q);
+  fresh = λ r e. ⊎_elim
+      (λ (x : (same r q ≡ 1) × (eqb r q ≡ true) × (r ≡ q)). by r (is_end_ready a) refl x.0 x.2)
+      (λ (x : (same r q ≡ 0) × (eqb r q ≡ false) × (r ≢ q)).
+      inl (omega (arith, e.0, same_count), sym (ap is_past (over-other w q r x.2)) ∙ e.1))
+      (same_cases r q);
+  readies = λ r. omega arith;
+  quits = λ r. ⊎_elim
+      (λ (x : (same r q ≡ 1) × (eqb r q ≡ true) × (r ≡ q)). inr (subst (IsPast (runs.unregistered w q)) (sym x.2)
+      (over-now w q l)))
+      (λ (x : (same r q ≡ 0) × (eqb r q ≡ false) × (r ≢ q)). inl (omega (arith, x.0)))
+      (same_cases r q);
+  load = λ f r. inl (omega arith);
+}
+  where
+    same_count : length (runs.unregistered w q).runs ≡ length w.runs
+    same_count = count-set w.runs q (record (run_of w q) { stage = Ended })
+
+    by : (r : ℕ) (b : Bool) → is_end_ready a ≡ b → same r q ≡ 1 → r ≡ q →
+        IsPast w r ⊎ ((1 ≤ weigh (readies_of r) (op.List list_op.UnlockWrite ∷ op.Run (run_op.Reschedule q a) ∷ []))
+        ⊎ Parted r w.trace)
+    by r true e z i = inr (inl (omega (arith, z, ap (λ (c : Bool). cond c (same r q) 0) e)))
+    by r false e z i = inl (subst (IsPast w) (sym i) (k (omega (
+      arith,
+      ap (λ (n : ℕ). same n q) i,
+      z,
+      ap (λ (c : Bool). cond c 0 (same q q)) e,
+    ))))
+
+-- what is left is scheduled
+
+pub keeps-reschedule : (ys : List ℕ) (w : World) (q : ℕ) (a : Reply) → own_of w q ≡ ys → IsPast w q →
+    Leads w (op.Run (run_op.Reschedule q a) ∷ []) (runs.reschedule_by ys w q a)
+keeps-reschedule [] w q a e k = record {
+  count = omega arith;
+  past = λ r i. i;
+  fresh = λ r i. inl i;
+  readies = λ r. omega arith;
+  quits = λ r. inl (omega arith);
+  load = λ f r. inl (omega arith);
+}
+keeps-reschedule (g ∷ rest) w q a e k = record {
+  count = omega arith;
+  past = λ r i. i;
+  fresh = λ r i. inl i;
+  readies = λ r. omega arith;
+  quits = λ r. inl (omega arith);
+  load = λ f r. ⊎_elim
+      (λ (x : (same r q ≡ 1) × (eqb r q ≡ true) × (r ≡ q)). inr (inr (subst (IsPast w) (sym x.2) k)))
+      (λ (x : (same r q ≡ 0) × (eqb r q ≡ false) × (r ≢ q)).
+      inl (omega (arith, ap (times f) (get_or-set_other w.own q r rest [] x.2))))
+      (same_cases r q);
+}
+
+past-view : (w v : World) (r : ℕ) → view (sleeper.Run r) v ≡ view (sleeper.Run r) w →
+    is_past (run_of v r) ≡ is_past (run_of w r)
+past-view w v r e =
+    let d : (run_of v r).dropped ≡ (run_of w r).dropped = not-same _ _ (ap (λ (y : View). y.living) e) in
+    λ i. d i || (ap (λ (y : View). y.over) e) i
+
+idle-reference : (p : ℕ) (w : World) (a : Waker) → Idle w (runs.call_by_reference p w a).world
+idle-reference p w (Task g) = idle-act p no_hint (op.Move move.WakeByReference g) w refl
+idle-reference p w (Outside y) = idle w w refl refl refl
+
+pub keeps-wake : (p : ℕ) (w : World) (x : RunPoll) →
+    Leads w (op.Run (run_op.WakeOwn x) ∷ []) (runs.wake_own p w x)
+keeps-wake p w x = let v = log w (event.WakerCalled p (of.Run x.run) x.poll x.waker) in
+    let i : Idle v (runs.call_by_reference p v x.waker).world = idle-reference p v x.waker in
+    of-idle w _ (runs.wake_own p w x)
+    (record { own = i.own; past = i.past; count = i.count; gone = i.gone }) (λ r. refl)
+    (λ r. none r p v x.waker x.run) (λ f. omega arith)
+  where
+    none : (r p : ℕ) (v : World) (a : Waker) (q : ℕ) →
+        weigh (quits_of r) ((runs.call_by_reference p v a).next ++ op.End reply.Pending (hold.Run q) ∷ []) ≡ 0
+    none r p v (Task g) q = omega (
+      arith,
+      weigh-append (quits_of r) (runs.call_by_reference p v (Task g)).next (op.End reply.Pending (hold.Run q) ∷ []),
+      mild-next (quits_of r) (mild-quits r) p no_hint (op.Move move.WakeByReference g) v refl,
+    )
+    none r p v (Outside y) q = refl

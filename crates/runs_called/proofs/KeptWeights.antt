@@ -1,0 +1,195 @@
+-- Who has a kept future in hand, or its drop; a run that leaves; and what each thing to do leaves of that.
+use Rattle.std.proofs.Common.{◌≡◌, ◌∙◌, ℕ, ◌+◌, ◌≤◌, List, [], ◌∷◌, Bool, true, false, cond, eqb, refl, arith}
+use Rattle.task_moves.specs.declared.moves.owed.Move.TheVariants as move
+use Rattle.runs_model.specs.declared.call.Reply.{Reply}
+use Rattle.runs_model.specs.declared.call.Reply.TheVariants as reply
+use Rattle.runs_model.specs.declared.op.ClosingOp.TheVariants as closing_op
+use Rattle.runs_model.specs.declared.op.HandleOp.TheVariants as handle_op
+use Rattle.runs_model.specs.declared.op.Hold.{Hold}
+use Rattle.runs_model.specs.declared.op.Hold.TheVariants as hold
+use Rattle.runs_model.specs.declared.op.ListOp.TheVariants as list_op
+use Rattle.runs_model.specs.declared.op.Op.{Op}
+use Rattle.runs_model.specs.declared.op.Op.TheVariants as op
+use Rattle.runs_model.specs.declared.op.QueueOp.TheVariants as queue_op
+use Rattle.runs_model.specs.declared.op.RunOp.TheVariants as run_op
+use Rattle.runs_model.specs.declared.op.RunPoll.{RunPoll}
+use Rattle.runs_model.specs.declared.op.Section.{Section}
+use Rattle.runs_model.specs.declared.op.Section.TheVariants as section
+use Rattle.runs_model.specs.declared.op.Sleeper.{Sleeper}
+use Rattle.runs_model.specs.declared.op.Sleeper.TheVariants as sleeper
+use Rattle.runs_model.specs.declared.op.SleeperOp.TheVariants as sleeper_op
+use Rattle.runs_model.specs.declared.op.StealOp.{StealOp}
+use Rattle.runs_model.specs.declared.op.StealOp.TheVariants as steal_op
+use Rattle.runs_model.specs.declared.op.TableOp.TheVariants as table_op
+use Rattle.runs_model.specs.declared.op.Then.{Then}
+use Rattle.runs_model.specs.declared.op.Then.TheVariants as then
+use Rattle.runs_model.specs.declared.op.TickOp.TheVariants as tick_op
+use Rattle.runs_model.specs.declared.op.UserOp.TheVariants as user_op
+use Rattle.runs_model.specs.declared.op.WakerOp.TheVariants as waker_op
+use Rattle.runs_model.specs.ActsOfRuns as runs
+use Rattle.runs_model.specs.ActsOfSleepers.{found_by}
+use Rattle.runs_model.specs.Rows.{drops_of, then_waiting}
+use Rattle.runs_model.specs.Weights.{same, weigh}
+use Rattle.runs_model.specs.World.{World, Place, Up, Lies, Left, run_of}
+use Rattle.runs_model.proofs.Calls.{calling_of}
+use Rattle.runs_model.proofs.Lists.{same_is, weigh-append}
+use Rattle.runs_model.proofs.RunsMoving.{Weighs, by_then, walk-by, weighs-found, weighs-stolen}
+use Rattle.runs_model.proofs.Using.{Mild}
+
+-- who has future f in hand, to run it or to put it into its own queue, or has still to drop it
+abbrev pub load_steal : ℕ → StealOp → ℕ
+load_steal f (steal_op.Length s) = then_waiting f s.then
+load_steal f (steal_op.OwnLength s n) = then_waiting f s.then
+load_steal f (steal_op.Take s more) = then_waiting f s.then
+load_steal f (steal_op.Put s more g) = same f g + then_waiting f s.then
+
+abbrev pub load_of : ℕ → Op → ℕ
+load_of f (op.Move move.TakeUp g) = same f g
+load_of f (op.Table (table_op.TakeToDrop g)) = same f g
+load_of f (op.User (user_op.BeginDrop g)) = same f g
+load_of f (op.Steal o) = load_steal f o
+load_of f _ = 0
+
+pub drops-load : (f : ℕ) (o : Op) → drops_of f o ≤ load_of f o
+drops-load f (op.Move move.TakeUp g) = omega arith
+drops-load f (op.Move move.Wake g) = omega arith
+drops-load f (op.Table (table_op.TakeToDrop g)) = omega arith
+drops-load f (op.Table table_op.Enter) = omega arith
+drops-load f (op.Queue queue_op.Take) = omega arith
+drops-load f (op.User (user_op.BeginDrop g)) = omega arith
+drops-load f (op.Steal (steal_op.Length s)) = omega arith
+drops-load f (op.Steal (steal_op.OwnLength s n)) = omega arith
+drops-load f (op.Steal (steal_op.Take s more)) = omega arith
+drops-load f (op.Steal (steal_op.Put s more g)) = omega arith
+drops-load f (op.Waker (waker_op.CopyWaker g held)) = omega arith
+drops-load f (op.Handle (handle_op.LookAgain g)) = omega arith
+drops-load f (op.Sleeper sleeper_op.HandOut) = omega arith
+drops-load f (op.Tick tick_op.MakeTick) = omega arith
+drops-load f (op.Run run_op.MakeRoom) = omega arith
+drops-load f (op.Closing closing_op.Drain) = omega arith
+drops-load f (op.List (list_op.LockWrite section.MakeRun)) = omega arith
+drops-load f (op.List (list_op.LockWrite (section.Register x))) = omega arith
+drops-load f (op.List (list_op.LockWrite (section.Unregister q a))) = omega arith
+drops-load f (op.List (list_op.Write section.MakeRun)) = omega arith
+drops-load f (op.List (list_op.Write (section.Register x))) = omega arith
+drops-load f (op.List (list_op.Write (section.Unregister q a))) = omega arith
+drops-load f _ = omega arith
+
+-- what is found is in hand
+
+load-run_by : (f : ℕ) (b : Bool) (w : World) (x : RunPoll) (g : ℕ) →
+    weigh (load_of f) (runs.run_by b w x g).next ≡ same f g
+load-run_by f true w x g = omega arith
+load-run_by f false w x g = omega arith
+
+load-counted : (f : ℕ) (b : Bool) (w : World) (x : RunPoll) (g : ℕ) →
+    weigh (load_of f) (runs.counted_by b w x g).next ≡ same f g
+load-counted f true w x g = omega arith
+load-counted f false w x g = load-run_by f _ _ x g
+
+load-rises : (f : ℕ) (p : Place) (who : Sleeper) →
+    weigh (load_of f) (found_by p who (op.Sleeper sleeper_op.ExchangeFlag ∷ [])) ≡ 0
+load-rises f Up who = refl
+load-rises f (Lies n) who = refl
+load-rises f Left who = refl
+
+pub load-found : (f : ℕ) (w : World) (x : RunPoll) (g : ℕ) → weigh (load_of f) (runs.found w x g).next ≡ same f g
+load-found f w x g =
+    let first = found_by (run_of w x.run).place (sleeper.Run x.run) (op.Sleeper sleeper_op.ExchangeFlag ∷ []) in
+    let b = eqb ((run_of w x.run).counted + 1) 64 in
+    omega (
+      arith,
+      weigh-append (load_of f) first (runs.counted_by b w x g).next,
+      load-rises f (run_of w x.run).place (sleeper.Run x.run),
+      load-counted f b w x g,
+    )
+
+pub load-stolen : (f : ℕ) (t : Then) (w : World) (x : RunPoll) →
+    weigh (load_of f) (runs.stolen t w x).next ≡ then_waiting f t
+load-stolen f (then.Found g) w x = load-found f w x g
+load-stolen f (then.Run g) w x = load-run_by f _ w x g
+load-stolen f (then.Walk at left) w x = refl
+
+pub load-walk : (f : ℕ) (x : RunPoll) (qs : List ℕ) (at left : ℕ) → weigh (load_of f) (runs.walk x qs at left) ≡ 0
+load-walk f x qs at left = walk-by (λ (os : List Op). weigh (load_of f) os ≡ 0) x refl (λ r m n. refl) qs at left
+
+-- run r leaves, so that it is over, or is dropped
+
+abbrev pub is_end_ready : Reply → Bool
+is_end_ready reply.Ready = true
+is_end_ready _ = false
+
+abbrev pub quits_section : ℕ → Section → ℕ
+quits_section r section.MakeRun = 0
+quits_section r (section.Register x) = 0
+quits_section r (section.Unregister q a) = cond (is_end_ready a) 0 (same r q)
+
+abbrev pub quits_of : ℕ → Op → ℕ
+quits_of r (op.List (list_op.LockWrite s)) = quits_section r s
+quits_of r (op.List (list_op.Write s)) = quits_section r s
+quits_of r (op.Run (run_op.Reschedule q a)) = same r q
+quits_of r _ = 0
+
+-- and its poll will be answered that its own future is ready
+abbrev pub readies_held : ℕ → Hold → ℕ
+readies_held r (hold.Run q) = same r q
+readies_held r _ = 0
+
+abbrev pub readies_of : ℕ → Op → ℕ
+readies_of r (op.Run (run_op.Reschedule q a)) = cond (is_end_ready a) (same r q) 0
+readies_of r (op.End a held) = cond (is_end_ready a) (readies_held r held) 0
+readies_of r _ = 0
+
+same-few : (r q : ℕ) → same r q ≤ 1
+same-few r q = grind (arith, same_is)
+
+cond-none : (b : Bool) (n : ℕ) → cond b 0 n ≤ n
+cond-none true n = omega arith
+cond-none false n = omega arith
+
+section-few : (r : ℕ) (s : Section) → quits_section r s ≤ 1
+section-few r section.MakeRun = omega arith
+section-few r (section.Register x) = omega arith
+section-few r (section.Unregister q a) = omega (arith, cond-none (is_end_ready a) (same r q), same-few r q)
+
+quits-few : (r : ℕ) (o : Op) → quits_of r o ≤ calling_of o
+quits-few r (op.List (list_op.LockWrite s)) = section-few r s
+quits-few r (op.List (list_op.Write s)) = section-few r s
+quits-few r (op.Run (run_op.Reschedule q a)) = same-few r q
+quits-few r _ = omega arith
+
+pub mild-quits : (r : ℕ) → Mild (quits_of r)
+mild-quits r = record {
+  few = quits-few r;
+  executor = λ a. refl;
+  spawned = λ a f. refl;
+  handle = λ a f. refl;
+  handles = λ o. refl;
+}
+
+-- searches lead to nothing of it
+
+weighs-quits : (r : ℕ) (x : RunPoll) → Weighs (quits_of r) x 0 0
+weighs-quits r x = record {
+  exchange = refl;
+  up = λ who. refl;
+  take_up = λ f. refl;
+  search = refl;
+  wake = refl;
+  steal = λ f. refl;
+  look = λ at left. refl;
+}
+
+pub quits-found : (r : ℕ) (w : World) (x : RunPoll) (g : ℕ) → weigh (quits_of r) (runs.found w x g).next ≡ 0
+quits-found r w x g = weighs-found (quits_of r) x 0 0 (weighs-quits r x) w g
+
+by-none : (t : Then) → by_then 0 0 t ≡ 0
+by-none (then.Found f) = refl
+by-none (then.Run f) = refl
+by-none (then.Walk at left) = refl
+
+pub quits-stolen : (r : ℕ) (t : Then) (w : World) (x : RunPoll) → weigh (quits_of r) (runs.stolen t w x).next ≡ 0
+quits-stolen r t w x = weighs-stolen (quits_of r) x 0 0 (weighs-quits r x) t w ∙ by-none t
+
+pub quits-walk : (r : ℕ) (x : RunPoll) (qs : List ℕ) (at left : ℕ) → weigh (quits_of r) (runs.walk x qs at left) ≡ 0
+quits-walk r x qs at left = walk-by (λ (os : List Op). weigh (quits_of r) os ≡ 0) x refl (λ q m n. refl) qs at left

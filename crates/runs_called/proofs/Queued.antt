@@ -1,0 +1,60 @@
+-- Where no call is in progress, a future that is due has a Runnable in the executor's queue or in a run's own.
+use Rattle.std.proofs.Common.{◌≡◌, ◌∙◌, ℕ, zero, suc, ◌+◌, ◌≤◌, List, [], ◌∷◌, length, get_or, true, refl, sym}
+use Rattle.std.proofs.Common.{⊎_elim, arith}
+use Rattle.runs_model.specs.Due.{IsDue}
+use Rattle.runs_model.specs.Good.{Good}
+use Rattle.runs_model.specs.Rows.{waiting_of, polls_of, ending_of, ready_of, closing_of, settling_of, giving_of}
+use Rattle.runs_model.specs.Rows.{drops_of}
+use Rattle.runs_model.specs.Sound.{queued, times, times_in}
+use Rattle.runs_model.specs.Steps.{Machine, stack}
+use Rattle.runs_model.specs.Weights.{same, weigh_all}
+use Rattle.runs_model.specs.World.{task}
+use Rattle.runs_model.proofs.AskingRuns.{Heard}
+use Rattle.runs_model.proofs.Lists.{same_is}
+use Rattle.runs_model.proofs.Resting.{all-rest}
+use Rattle.runs_called.proofs.Dueness.{asked-is, not-over}
+
+pub due-queued : (s : Machine) → Good s → Heard s → ((q : ℕ) → stack s q ≡ []) → (f : ℕ) → IsDue f s.world.trace →
+    1 ≤ queued s.world f
+due-queued s fine h idle f due = ⊎_elim
+    (λ (x : (task s.world f).scheduled ≡ true). let t = (fine.sound f).owed x in omega (
+      arith,
+      t,
+      all-rest (waiting_of f) s.parties idle,
+      all-rest (polls_of f) s.parties idle,
+      all-rest (ending_of f) s.parties idle,
+      all-rest (ready_of f) s.parties idle,
+      all-rest (closing_of f) s.parties idle,
+      all-rest (settling_of f) s.parties idle,
+      all-rest (giving_of f) s.parties idle,
+    ))
+    (λ (x : ((task s.world f).closed ≡ true) × (1 ≤ weigh_all (polls_of f) s.parties +
+    (weigh_all (ending_of f) s.parties + weigh_all (drops_of f) s.parties))). absurd (omega (
+      arith,
+      x.1,
+      all-rest (polls_of f) s.parties idle,
+      all-rest (ending_of f) s.parties idle,
+      all-rest (drops_of f) s.parties idle,
+    )))
+    ((h.asked f).due (sym (asked-is f s.world.trace) ∙ due.asked_for)
+    (not-over f s.world.trace due.unready due.undropped))
+
+pub times-length : (f : ℕ) (xs : List ℕ) → times f xs ≤ length xs
+times-length f [] = omega arith
+times-length f (x ∷ xs) = omega (arith, one f x, times-length f xs)
+  where
+    one : (f x : ℕ) → same f x ≤ 1
+    one f x = grind (arith, same_is)
+
+-- a run in whose own queue it stands
+pub record Holder (f : ℕ) (qs : List (List ℕ)) : Type 0 where
+  pub run : ℕ
+  pub holds : 1 ≤ times f (get_or qs run [])
+
+pub holder : (f : ℕ) (qs : List (List ℕ)) → 1 ≤ times_in f qs → Holder f qs
+holder f [] k = absurd (omega (arith, k))
+holder f (q ∷ qs) k = by (times f q) refl (λ z. holder f qs z)
+  where
+    by : (n : ℕ) → times f q ≡ n → (1 ≤ times_in f qs → Holder f qs) → Holder f (q ∷ qs)
+    by zero e g = let h : Holder f qs = g (omega (arith, k, e)) in record { run = suc h.run; holds = h.holds }
+    by (suc n) e g = record { run = 0; holds = omega (arith, e) }

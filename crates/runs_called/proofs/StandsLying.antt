@@ -1,0 +1,325 @@
+-- The search of a tick, and the copy of a waker and the lying down of a tick or run, keep what holds of each.
+use Rattle.std.proofs.Common.{◌≡◌, ◌≢◌, ◌∙◌, ℕ, ◌+◌, ◌≤◌, List, [], ◌∷◌, ◌++◌, Bool, true, false, cond, refl, sym, ap}
+use Rattle.std.proofs.Common.{subst, ⊎_elim, arith}
+use Rattle.std.specs.Prelude.{Option, Some, None, slice_get}
+use Rattle.task_moves.specs.declared.moves.owed.Move.TheVariants as move
+use Rattle.executor_parts.specs.Sleepers.{laid_down, position_of, waker_at, next_number}
+use Rattle.runs_model.specs.declared.call.Reply.TheVariants as reply
+use Rattle.runs_model.specs.declared.op.Op.{Op}
+use Rattle.runs_model.specs.declared.op.Op.TheVariants as op
+use Rattle.runs_model.specs.declared.op.Sleeping.{Sleeping}
+use Rattle.runs_model.specs.declared.op.SleeperOp.TheVariants as sleeper_op
+use Rattle.runs_model.specs.declared.op.TickOp.TheVariants as tick_op
+use Rattle.runs_model.specs.declared.op.Waker.{Waker}
+use Rattle.runs_model.specs.declared.op.Waker.TheVariants.{Task, Outside}
+use Rattle.runs_model.specs.declared.op.Sleeper.{Sleeper}
+use Rattle.runs_model.specs.declared.op.Sleeper.TheVariants as sleeper
+use Rattle.runs_model.specs.World.{World, Place, Up, Lies, Left, Done, place_of, put_sleepers}
+use Rattle.runs_model.specs.Acts.{copied, waker_goes}
+use Rattle.runs_model.specs.ActsOfSleepers.{search_by, copy_sleeper_by, held_as, lie_nowhere, pend_as, lie_anew_by}
+use Rattle.runs_model.specs.ActsOfSleepers.{sleeper_goes, lie_listed_by, lie_again_by, lie_down_by}
+use Rattle.runs_model.specs.Weights.{same}
+use Rattle.runs_model.proofs.SleepersCounting.{asleep}
+use Rattle.runs_model.specs.SleepersAgree.{lies}
+use Rattle.runs_called.proofs.Listed.{Entry, sum, entry_of, kept_of, astray, misplaced_of, at_entry, sum-push, sum-set}
+use Rattle.runs_called.proofs.Listed.{entry-in}
+use Rattle.runs_called.proofs.Stands.{View, view, with_doing, Stands, KeepsStands, Nothing, keeps-same}
+use Rattle.runs_called.proofs.StandsNothing.{nothing-search, nothing-copy, nothing-lie, nothing-up, nothing-call}
+use Rattle.runs_called.proofs.StandsNothing.{nothing-end, nothing-both, nothing-of}
+use Rattle.runs_called.proofs.StandsOwn.{Own, held-other, own-anew, own-again, own-found, own-front, own-nowhere}
+use Rattle.runs_called.proofs.StandsOwn.{own-refused, own-rising}
+use Rattle.runs_called.proofs.StandsSeats.{lies-apart, put-lives, put-made, put-over, put-place, seated-and}
+use Rattle.runs_called.proofs.StandsSeats.{seated-other, seated-same, up-apart}
+use Rattle.runs_called.proofs.Sitting.{IsOther, IsSame, cond-other, cond-self, other, over_in, owned_in, placed-in}
+use Rattle.runs_called.proofs.Sitting.{self, who_cases, lives_in, made_in}
+use Rattle.runs_called.proofs.Watched.{watched}
+use Rattle.runs_called.proofs.StandsWorlds.{Lay, OwnEntry, own-entry, none-own, view-same, misplaced-few, place_here}
+use Rattle.runs_called.proofs.StandsWorlds.{entries-astray, eqb-self}
+
+-- a step that names u, by whether it is this one
+pub by_who : (t u : Sleeper) (w : World) (old : Sleeper → List Op) (d : Sleeper → Done) →
+    (t ≢ u → KeepsStands t w (old u) (d u)) → KeepsStands t w (old t) (d t) → KeepsStands t w (old u) (d u)
+by_who t u w old d apart own = ⊎_elim
+    (λ (x : IsSame t u). subst (λ (n : Sleeper). KeepsStands t w (old n) (d n)) x.2 own)
+    (λ (x : IsOther t u). apart x.2)
+    (who_cases t u)
+
+abbrev pub tells_next : ℕ → List Op
+tells_next f = op.Sleeper sleeper_op.ExchangeFlag ∷ op.Move move.TakeUp f ∷ []
+
+nothing-found : (t u : Sleeper) (f : ℕ) → t ≢ u → Nothing t (tells_next f ++ op.End reply.Ready (held_as u) ∷ [])
+nothing-found t u f x =
+    nothing-both t (tells_next f) (op.End reply.Ready (held_as u) ∷ [])
+    (nothing-of t _ refl) (nothing-end t reply.Ready (held_as u) (held-other t u ∙ other t u x))
+
+nothing-rising : (t u : Sleeper) (f : ℕ) → t ≢ u →
+    Nothing t (op.Tick (tick_op.GetUp u) ∷ tells_next f ++ op.End reply.Ready (held_as u) ∷ [])
+nothing-rising t u f x =
+    nothing-both t (op.Tick (tick_op.GetUp u) ∷ []) (tells_next f ++ op.End reply.Ready (held_as u) ∷ [])
+    (nothing-up t u x) (nothing-found t u f x)
+
+pub nothing-goes : (t : Sleeper) (o : Option Sleeping) → Nothing t (sleeper_goes o)
+nothing-goes t None = nothing-of t _ refl
+nothing-goes t (Some s) = by s.waker
+  where
+    by : (a : Waker) → Nothing t (waker_goes a)
+    by (Task g) = nothing-of t _ refl
+    by (Outside x) = nothing-of t _ refl
+
+-- the search of a tick
+
+search-same : (x : Place) (t u : Sleeper) (k : ℕ) (a : Waker) (w : World) (q : List ℕ) → t ≢ u →
+    KeepsStands t w (op.Tick (tick_op.Search (asleep a u k)) ∷ []) (search_by x w q (asleep a u k))
+search-same x t u k a w [] n = keeps-same t w _ (search_by x w [] (asleep a u k)) refl (nothing-search t u n a k)
+    (nothing-copy t u n a k)
+search-same Up t u k a w (f ∷ rest) n =
+    keeps-same t w _ (search_by Up w (f ∷ rest) (asleep a u k)) refl (nothing-search t u n a k) (nothing-found t u f n)
+search-same Left t u k a w (f ∷ rest) n =
+    keeps-same t w _ (search_by Left w (f ∷ rest) (asleep a u k)) refl (nothing-search t u n a k)
+    (nothing-found t u f n)
+search-same (Lies m) t u k a w (f ∷ rest) n =
+    keeps-same t w _ (search_by (Lies m) w (f ∷ rest) (asleep a u k)) refl (nothing-search t u n a k)
+    (nothing-rising t u f n)
+
+search-own : (x : Place) (t : Sleeper) (k : ℕ) (a : Waker) (w : World) (q : List ℕ) → place_here w t ≡ x →
+    (view t w).owned ≡ 0 →
+    KeepsStands t w (op.Tick (tick_op.Search (asleep a t k)) ∷ []) (search_by x w q (asleep a t k))
+search-own x t k a w [] e o = λ r m b h. h
+search-own Up t k a w (f ∷ rest) e o =
+    own-found t k f a (view t w) (tells_next f) (ap lies e) o (nothing-of t _ refl)
+search-own Left t k a w (f ∷ rest) e o =
+    own-found t k f a (view t w) (tells_next f) (ap lies e) o (nothing-of t _ refl)
+search-own (Lies n) t k a w (f ∷ rest) e o =
+    own-rising t k f a (view t w) (tells_next f) o (nothing-of t _ refl)
+
+pub stands-search : (t : Sleeper) (u k : ℕ) (a : Waker) (w : World) →
+    KeepsStands t w (op.Tick (tick_op.Search (asleep a (sleeper.Tick u) k)) ∷ [])
+    (search_by (place_of w (sleeper.Tick u)) w w.queue.items (asleep a (sleeper.Tick u) k))
+stands-search t u k a w = ⊎_elim
+    (λ (x : IsSame t (sleeper.Tick u)). subst (λ (n : Sleeper). KeepsStands n w
+    (op.Tick (tick_op.Search (asleep a (sleeper.Tick u) k)) ∷ [])
+    (search_by (place_of w (sleeper.Tick u)) w w.queue.items (asleep a (sleeper.Tick u) k))) (sym x.2)
+    (search-own (place_of w (sleeper.Tick u)) (sleeper.Tick u) k a w w.queue.items refl refl))
+    (λ (x : IsOther t (sleeper.Tick u)).
+    search-same (place_of w (sleeper.Tick u)) t (sleeper.Tick u) k a w w.queue.items x.2)
+    (who_cases t (sleeper.Tick u))
+
+-- the copy
+
+view-copied : (t : Sleeper) (w : World) (a : Waker) → view t (copied w a) ≡ view t w
+view-copied t w (Task g) = refl
+view-copied t w (Outside x) = refl
+
+copy-same : (b : Bool) (t u : Sleeper) (k : ℕ) (a : Waker) (w : World) → t ≢ u →
+    KeepsStands t w (op.Tick (tick_op.CopyWaker (asleep a u k)) ∷ []) (copy_sleeper_by b w (asleep a u k))
+copy-same true t u k a w n =
+    keeps-same t w _ (copy_sleeper_by true w (asleep a u k)) refl (nothing-copy t u n a k)
+    (nothing-end t _ (held_as u) (held-other t u ∙ other t u n))
+copy-same false t u k a w n =
+    keeps-same t w _ (copy_sleeper_by false w (asleep a u k)) (view-copied t w a) (nothing-copy t u n a k)
+    (nothing-lie t u n a k)
+
+copy-own : (b : Bool) (t : Sleeper) (k : ℕ) (a : Waker) (w : World) → over_in t w.runs ≡ false →
+    KeepsStands t w (op.Tick (tick_op.CopyWaker (asleep a t k)) ∷ []) (copy_sleeper_by b w (asleep a t k))
+copy-own true t k a w e = own-refused t k a (view t w) e
+copy-own false t k a w e =
+    λ r m b h. subst (λ (v : View). Stands v (with_doing t (op.Tick (tick_op.LieDown (asleep a t k)) ∷ []) r) m)
+    (sym (view-copied t w a)) h
+
+pub stands-copy : (b : Bool) (t u : Sleeper) (k : ℕ) (a : Waker) (w : World) → over_in u w.runs ≡ false →
+    KeepsStands t w (op.Tick (tick_op.CopyWaker (asleep a u k)) ∷ []) (copy_sleeper_by b w (asleep a u k))
+stands-copy b t u k a w e = ⊎_elim
+    (λ (x : IsSame t u). subst (λ (n : Sleeper). KeepsStands n w (op.Tick (tick_op.CopyWaker (asleep a u k)) ∷ [])
+    (copy_sleeper_by b w (asleep a u k))) (sym x.2) (copy-own b u k a w e))
+    (λ (x : IsOther t u). copy-same b t u k a w x.2)
+    (who_cases t u)
+
+-- it finds no place
+
+nothing-pend : (t u : Sleeper) → t ≢ u → Nothing t (pend_as u)
+nothing-pend t u n = nothing-end t reply.Pending (held_as u) (held-other t u ∙ other t u n)
+
+nowhere-same : (t u : Sleeper) (k : ℕ) (a : Waker) (w : World) → t ≢ u →
+    KeepsStands t w (op.Tick (tick_op.LieDown (asleep a u k)) ∷ []) (lie_nowhere w (asleep a u k))
+nowhere-same t u k a w n =
+    keeps-same t w _ (lie_nowhere w (asleep a u k)) refl (nothing-lie t u n a k)
+    (nothing-both t (op.Sleeper (sleeper_op.CallSleeper (asleep a u k)) ∷ []) (pend_as u) (nothing-call t u n a k)
+    (nothing-pend t u n))
+
+-- it lies down, where it was up
+
+view-anew : (t u : Sleeper) (k : ℕ) (a : Waker) (w : World) → t ≢ u →
+    view t (lie_anew_by true w (asleep a u k)).world ≡ view t w
+view-anew t u k a w n = view-same t w (lie_anew_by true w (asleep a u k)).world
+    (let v : World = put_sleepers w (laid_down (asleep a u k) w.sleepers) in
+    seated-and t w v (lie_anew_by true w (asleep a u k)).world (seated-same t w v refl refl)
+    (seated-other t u v (Lies (next_number w.sleepers)) n))
+    (omega (arith, sum-push (entry_of t) w.sleepers.wakers (next_number w.sleepers, asleep a u k), other t u n))
+    (λ x. omega (
+      arith,
+      sum-push (misplaced_of t x) w.sleepers.wakers (next_number w.sleepers, asleep a u k),
+      cond-other t u (astray x (next_number w.sleepers)) n,
+    ))
+    (λ j. omega (
+      arith,
+      sum-push (kept_of t j) w.sleepers.wakers (next_number w.sleepers, asleep a u k),
+      cond-other t u (same j k) n,
+    ))
+    refl
+    refl
+    refl
+
+anew-same : (b : Bool) (t u : Sleeper) (k : ℕ) (a : Waker) (w : World) → t ≢ u →
+    KeepsStands t w (op.Tick (tick_op.LieDown (asleep a u k)) ∷ []) (lie_anew_by b w (asleep a u k))
+anew-same true t u k a w n =
+    keeps-same t w _ (lie_anew_by true w (asleep a u k)) (view-anew t u k a w n) (nothing-lie t u n a k)
+    (nothing-search t u n a k)
+anew-same false t u k a w n = nowhere-same t u k a w n
+
+-- it lies now, with the one entry that it got
+own-entered : (t : Sleeper) (k n : ℕ) (a : Waker) (w v : World) → v.trace ≡ w.trace → v.gone ≡ w.gone →
+    v.own ≡ w.own → made_in t v.ticks v.runs ≡ made_in t w.ticks w.runs → over_in t v.runs ≡ over_in t w.runs →
+    lives_in t v.ticks v.runs ≡ lives_in t w.ticks w.runs → place_here v t ≡ Lies n →
+    v.sleepers.wakers ≡ w.sleepers.wakers ++ (n, asleep a t k) ∷ [] → sum (entry_of t) w.sleepers.wakers ≡ 0 →
+    Own t (view t w) (view t v) (op.Tick (tick_op.LieDown (asleep a t k)) ∷ [])
+    (op.Tick (tick_op.Search (asleep a t k)) ∷ [])
+own-entered t k n a w v e g o made over alive now q none =
+    let x : Entry = (n, asleep a t k) in
+    own-anew t k a (view t w) (view t v) (ap (watched t) e) g made over (ap (owned_in t) o) alive
+    (omega (arith, ap (sum (entry_of t)) q, sum-push (entry_of t) w.sleepers.wakers x, none, self t))
+    (ap (λ (y : Place). sum (misplaced_of t y) v.sleepers.wakers) now ∙ (ap (sum (misplaced_of t (Lies n))) q
+    ∙ (let z : sum (misplaced_of t (Lies n)) (w.sleepers.wakers ++ x ∷ []) ≡ 0 = omega (
+      arith,
+      sum-push (misplaced_of t (Lies n)) w.sleepers.wakers x,
+      misplaced-few t (Lies n) w.sleepers.wakers,
+      none,
+      cond-self t (astray (Lies n) n),
+      ap (λ (c : Bool). let y : ℕ = cond c 0 1 in y) (eqb-self n),
+    ) in z)))
+    (ap (sum (kept_of t (view t w).seen.poll)) q ∙ (sum-push (kept_of t (view t w).seen.poll) w.sleepers.wakers x
+    ∙ ap (λ (y : ℕ). sum (kept_of t (view t w).seen.poll) w.sleepers.wakers + y)
+    (cond-self t (same (view t w).seen.poll k))))
+
+anew-own : (b : Bool) (t : Sleeper) (k : ℕ) (a : Waker) (w : World) → Lay w → place_here w t ≡ Up →
+    over_in t w.runs ≡ false →
+    KeepsStands t w (op.Tick (tick_op.LieDown (asleep a t k)) ∷ []) (lie_anew_by b w (asleep a t k))
+anew-own false t k a w lay e live = own-nowhere t k a (view t w) live
+anew-own true t k a w lay e live =
+    let n : ℕ = next_number w.sleepers in
+    let here : place_here w t ≢ Left = up-apart (place_here w t) e in
+    own-entered t k n a w (lie_anew_by true w (asleep a t k)).world refl refl refl
+    (put-made t w (Lies n)) (put-over t w (Lies n)) (put-lives t w (Lies n) (lies-apart (Lies n) n refl) here)
+    (put-place t w (Lies n) here) refl
+    (entries-astray t Up w.sleepers.wakers (λ m. refl)
+    ∙ (ap (λ (y : Place). sum (misplaced_of t y) w.sleepers.wakers) (sym e) ∙ lay.placed t))
+
+-- it lies already: its waker is replaced, or it has one again
+
+view-again : (t u : Sleeper) (k n at : ℕ) (a : Waker) (w : World) → Lay w → place_here w u ≡ Lies n →
+    position_of n w.sleepers.wakers ≡ Some at →
+    t ≢ u → view t (lie_again_by (Some at) w n (asleep a u k)).world ≡ view t w
+view-again t u k n at a w lay e q x =
+    let y : OwnEntry u n (slice_get w.sleepers.wakers at) = own-entry w lay u n e at q in
+    view-same t w (lie_again_by (Some at) w n (asleep a u k)).world (seated-same t w _ refl refl)
+    (omega (arith, sum-set (entry_of t) n at (n, asleep a u k) w.sleepers.wakers q, ap (at_entry (entry_of t)) y.is))
+    (λ z. omega (
+      arith,
+      sum-set (misplaced_of t z) n at (n, asleep a u k) w.sleepers.wakers q,
+      ap (at_entry (misplaced_of t z)) y.is,
+    ))
+    (λ j. omega (
+      arith,
+      sum-set (kept_of t j) n at (n, asleep a u k) w.sleepers.wakers q,
+      ap (at_entry (kept_of t j)) y.is,
+      cond-other t u (same j k) x,
+      cond-other t u (same j y.poll) x,
+    ))
+    refl
+    refl
+    refl
+
+view-listed : (t u : Sleeper) (k n : ℕ) (a : Waker) (w : World) → t ≢ u →
+    view t (lie_listed_by true w n (asleep a u k)).world ≡ view t w
+view-listed t u k n a w x = view-same t w (lie_listed_by true w n (asleep a u k)).world (seated-same t w _ refl refl)
+    (omega (arith, sum-push (entry_of t) w.sleepers.wakers (n, asleep a u k), other t u x))
+    (λ z. omega (arith, sum-push (misplaced_of t z) w.sleepers.wakers (n, asleep a u k), cond-other t u (astray z n) x))
+    (λ j. omega (arith, sum-push (kept_of t j) w.sleepers.wakers (n, asleep a u k), cond-other t u (same j k) x))
+    refl
+    refl
+    refl
+
+listed-same : (b : Bool) (t u : Sleeper) (k n : ℕ) (a : Waker) (w : World) → t ≢ u →
+    KeepsStands t w (op.Tick (tick_op.LieDown (asleep a u k)) ∷ []) (lie_listed_by b w n (asleep a u k))
+listed-same true t u k n a w x =
+    keeps-same t w _ (lie_listed_by true w n (asleep a u k)) (view-listed t u k n a w x) (nothing-lie t u x a k)
+    (nothing-search t u x a k)
+listed-same false t u k n a w x = nowhere-same t u k a w x
+
+again-same : (o : Option ℕ) (t u : Sleeper) (k n : ℕ) (a : Waker) (w : World) → Lay w → place_here w u ≡ Lies n →
+    position_of n w.sleepers.wakers ≡ o →
+    t ≢ u → KeepsStands t w (op.Tick (tick_op.LieDown (asleep a u k)) ∷ []) (lie_again_by o w n (asleep a u k))
+again-same None t u k n a w lay e q x = listed-same _ t u k n a w x
+again-same (Some at) t u k n a w lay e q x =
+    keeps-same t w _ (lie_again_by (Some at) w n (asleep a u k)) (view-again t u k n at a w lay e q x)
+    (nothing-lie t u x a k)
+    (nothing-both t (sleeper_goes (waker_at (Some at) w.sleepers.wakers)) (pend_as u)
+    (nothing-goes t (waker_at (Some at) w.sleepers.wakers)) (nothing-pend t u x))
+
+listed-own : (b : Bool) (t : Sleeper) (k n : ℕ) (a : Waker) (w : World) → Lay w → place_here w t ≡ Lies n →
+    position_of n w.sleepers.wakers ≡ None → over_in t w.runs ≡ false →
+    KeepsStands t w (op.Tick (tick_op.LieDown (asleep a t k)) ∷ []) (lie_listed_by b w n (asleep a t k))
+listed-own false t k n a w lay e q live = own-nowhere t k a (view t w) live
+listed-own true t k n a w lay e q live =
+    own-entered t k n a w (lie_listed_by true w n (asleep a t k)).world refl refl refl refl refl refl e refl
+    (none-own w lay t n e q)
+
+again-own : (o : Option ℕ) (t : Sleeper) (k n : ℕ) (a : Waker) (w : World) → Lay w → place_here w t ≡ Lies n →
+    position_of n w.sleepers.wakers ≡ o →
+    sum (entry_of t) w.sleepers.wakers ≤ 1 → over_in t w.runs ≡ false →
+    KeepsStands t w (op.Tick (tick_op.LieDown (asleep a t k)) ∷ []) (lie_again_by o w n (asleep a t k))
+again-own None t k n a w lay e q one live = listed-own _ t k n a w lay e q live
+again-own (Some at) t k n a w lay e q one live =
+    let x : Entry = (n, asleep a t k) in
+    let y : OwnEntry t n (slice_get w.sleepers.wakers at) = own-entry w lay t n e at q in
+    let j : ℕ = (view t w).seen.poll in
+    own-front t (view t w) (view t (lie_again_by (Some at) w n (asleep a t k)).world)
+    (op.Tick (tick_op.LieDown (asleep a t k)) ∷ [])
+    (sleeper_goes (waker_at (Some at) w.sleepers.wakers)) (pend_as t)
+    (nothing-goes t (waker_at (Some at) w.sleepers.wakers))
+    (own-again t k a (view t w) (view t (lie_again_by (Some at) w n (asleep a t k)).world) live refl refl refl refl refl
+    refl refl
+    (omega (arith, sum-set (entry_of t) n at x w.sleepers.wakers q, ap (at_entry (entry_of t)) y.is, one))
+    (omega (
+      arith,
+      sum-set (misplaced_of t (place_here w t)) n at x w.sleepers.wakers q,
+      ap (at_entry (misplaced_of t (place_here w t))) y.is,
+      lay.placed t,
+    ))
+    (omega (
+      arith,
+      sum-set (kept_of t j) n at x w.sleepers.wakers q,
+      entry-in (kept_of t j) at w.sleepers.wakers,
+      cond-self t (same j k),
+    )))
+
+lie-same : (x : Place) (t u : Sleeper) (k : ℕ) (a : Waker) (w : World) → Lay w → place_here w u ≡ x → t ≢ u →
+    KeepsStands t w (op.Tick (tick_op.LieDown (asleep a u k)) ∷ []) (lie_down_by x w (asleep a u k))
+lie-same Up t u k a w lay e n = anew-same _ t u k a w n
+lie-same (Lies m) t u k a w lay e n = again-same _ t u k m a w lay e refl n
+lie-same Left t u k a w lay e n = nowhere-same t u k a w n
+
+lie-own : (x : Place) (t : Sleeper) (k : ℕ) (a : Waker) (w : World) → Lay w → place_here w t ≡ x →
+    sum (entry_of t) w.sleepers.wakers ≤ 1 → over_in t w.runs ≡ false →
+    KeepsStands t w (op.Tick (tick_op.LieDown (asleep a t k)) ∷ []) (lie_down_by x w (asleep a t k))
+lie-own Up t k a w lay e one live = anew-own _ t k a w lay e live
+lie-own (Lies m) t k a w lay e one live = again-own _ t k m a w lay e refl one live
+lie-own Left t k a w lay e one live = own-nowhere t k a (view t w) live
+
+pub stands-lie_down : (t u : Sleeper) (k : ℕ) (a : Waker) (w : World) → Lay w → over_in u w.runs ≡ false →
+    KeepsStands t w (op.Tick (tick_op.LieDown (asleep a u k)) ∷ []) (lie_down_by (place_of w u) w (asleep a u k))
+stands-lie_down t u k a w lay live = ⊎_elim
+    (λ (x : IsSame t u). subst (λ (n : Sleeper). KeepsStands n w (op.Tick (tick_op.LieDown (asleep a u k)) ∷ [])
+    (lie_down_by (place_of w u) w (asleep a u k))) (sym x.2)
+    (λ r m b h. lie-own (place_of w u) u k a w lay (sym (placed-in w u)) h.one live r m b h))
+    (λ (x : IsOther t u). lie-same (place_of w u) t u k a w lay (sym (placed-in w u)) x.2)
+    (who_cases t u)

@@ -1,0 +1,88 @@
+-- After each list of steps what holds of each tick and run holds still.
+use Rattle.std.proofs.Common.{◌≡◌, ◌∙◌, ℕ, zero, suc, ◌<◌, List, [], ◌∷◌, ◌++◌, length, get_or, Bool, true, false}
+use Rattle.std.proofs.Common.{◌&&◌, ◌||◌, not, refl, sym, ap, subst, arith}
+use Rattle.std.specs.Prelude.{reverse}
+use Rattle.runs_model.specs.declared.op.Op.{Op}
+use Rattle.runs_model.specs.declared.op.Op.TheVariants as op
+use Rattle.runs_model.specs.declared.step.Hint.{Hint}
+use Rattle.runs_model.specs.declared.step.Step.{Step}
+use Rattle.runs_model.specs.declared.op.Sleeper.{Sleeper}
+use Rattle.runs_model.specs.declared.op.Sleeper.TheVariants as sleeper
+use Rattle.runs_model.specs.World.{Done}
+use Rattle.runs_model.specs.Doing.{act}
+use Rattle.runs_model.specs.Good.{Good}
+use Rattle.runs_model.specs.Steps.{Machine, stack, run, start, top, is_free, has_all, is_on_executor, is_drop}
+use Rattle.runs_model.specs.Steps.{is_unborrowed, idle}
+use Rattle.runs_model.proofs.Calls.{is_end}
+use Rattle.runs_model.proofs.Lift.{unsettled, good-start, none_refused}
+use Rattle.runs_model.proofs.SleepersFollowingRuns.{Followed, followed-moves, followed-start}
+use Rattle.runs_model.proofs.UsingSteps.{AllUsed, used-moves, used-start}
+use Rattle.runs_model.proofs.Ways.{Way, along}
+use Rattle.runs_model.proofs.Ways.Way.{acted, reacted, called}
+use Rattle.runs_called.proofs.Stands.{view, Doing, Stands}
+use Rattle.runs_called.proofs.StandsEnds.{marked}
+use Rattle.runs_called.proofs.StandsTied.{IsTied, tied-nil}
+use Rattle.runs_called.proofs.StandsWeights.{nothing_done, idle-doing}
+use Rattle.runs_called.proofs.Watched.{Watched, watched-none}
+use Rattle.runs_called.proofs.StandsSteps.{Standing}
+use Rattle.runs_called.proofs.StandsMoves.{standing-acted, standing-begun, standing-reacted}
+use Rattle.runs_called.proofs.StandsLast.{standing-ends}
+
+-- every step
+
+acted-by : (s : Machine) (p : ℕ) (rest : List Op) (h : Hint) (o : Op) (b : Bool) → is_end o ≡ b → p < length s.parties →
+    stack s p ≡ rest ++ reverse (o ∷ []) → Good s → Followed (unsettled s p rest (act p h o s.world)) →
+    AllUsed (unsettled s p rest (act p h o s.world)) → Standing s →
+    Standing (unsettled s p rest (act p h o s.world))
+acted-by s p rest h o false n l e good follows uses k = standing-acted s p rest h o n l e good follows uses k
+acted-by s p rest h (op.End a held) true n l e good follows uses k = standing-ends s p a held rest l e k
+acted-by s p rest h _ true n l e good follows uses k = absurd (cc)
+
+standing-way : (s : Machine) (p : ℕ) (old rest : List Op) (d : Done) → Good s → p < length s.parties →
+    stack s p ≡ rest ++ reverse old →
+    Way s p old rest d → Followed (unsettled s p rest d) → AllUsed (unsettled s p rest d) → Standing s →
+    Standing (unsettled s p rest d)
+standing-way s p old rest d good l e (acted h o q z) follows uses k =
+    rw z (acted-by s p rest h o (is_end o) refl l (subst (λ (os : List Op). stack s p ≡ rest ++ reverse os) q e) good
+    (subst (λ (x : Done). Followed (unsettled s p rest x)) z follows)
+    (subst (λ (x : Done). AllUsed (unsettled s p rest x)) z uses) k)
+standing-way s p old rest d good l e (reacted o u a q z) follows uses k =
+    rw z (standing-reacted s p rest o u a l (subst (λ (os : List Op). stack s p ≡ rest ++ reverse os) q e)
+    (subst (λ (x : Done). Followed (unsettled s p rest x)) z follows)
+    (subst (λ (x : Done). AllUsed (unsettled s p rest x)) z uses) k)
+standing-way s p old rest d good l e (called c q r n z) follows uses k =
+    let f : _ = none_refused (is_free (top (stack s p))) (has_all s.world s.parties (top (stack s p)) c)
+    (not (s.world.gone && is_on_executor c)) (not (is_drop c) || is_unborrowed s.world s.parties) n in
+    rw z (standing-begun s p rest c f.1 f.3 l r (subst (λ (os : List Op). stack s p ≡ rest ++ reverse os) q e)
+    (subst (λ (x : Done). Followed (unsettled s p rest x)) z follows)
+    (subst (λ (x : Done). AllUsed (unsettled s p rest x)) z uses) k)
+
+pub standing-moves : (s : Machine) (p : ℕ) (old rest : List Op) (d : Done) → Good s → p < length s.parties →
+    stack s p ≡ rest ++ reverse old → Way s p old rest d → Standing s → Standing (unsettled s p rest d)
+standing-moves s p old rest d good l e w k =
+    standing-way s p old rest d good l e w (followed-moves s p old rest d good l e w k.followed)
+    (used-moves s p old rest d good l e w k.used) k
+
+idle-stack : (n q : ℕ) → get_or (idle n) q [] ≡ []
+idle-stack zero q = refl
+idle-stack (suc n) zero = refl
+idle-stack (suc n) (suc q) = idle-stack n q
+
+none-stands : (t : Sleeper) →
+    Stands (view t (start 0 0).world) nothing_done (marked (view t (start 0 0).world) nothing_done)
+none-stands (sleeper.Tick t) = grind (arith, watched-none)
+none-stands (sleeper.Run r) = grind (arith, watched-none)
+
+pub standing-start : (limit n : ℕ) → Standing (start limit n)
+standing-start limit n = record {
+  followed = followed-start limit n;
+  used = used-start limit n;
+  tied = λ t q. subst (IsTied t) (sym (idle-stack n q)) (tied-nil t);
+  stands = λ t. subst (λ (x : Doing). Stands (view t (start limit n).world) x (marked (view t (start limit n).world) x))
+      (sym (idle-doing t n)) (none-stands t);
+  held = λ t b. let no : false ≡ true = sym (ap (λ (w : Watched). w.asking) (watched-none t)) ∙ b in absurd (cc);
+}
+
+pub standing : (limit n : ℕ) (ts : List Step) → Standing (run ts (start limit n))
+standing limit n ts = along Standing standing-moves standing-ends ts (start limit n) (good-start limit n)
+    (standing-start limit n)

@@ -1,0 +1,340 @@
+-- The beginning of a poll of a tick or run, and of its drop, keeps what holds of each.
+use Rattle.std.proofs.Common.{◌≡◌, ◌≢◌, ◌⊎◌, ◌∙◌, ℕ, zero, suc, ◌+◌, List, [], ◌∷◌, length, get_or, set}
+use Rattle.std.proofs.Common.{get_or-set_other, inl, inr, Bool, true, false, cond, refl, sym, ap, subst, arith}
+use Rattle.std.specs.Prelude.{Option, Some, None, not, nat_lt}
+use Rattle.runs_model.specs.declared.call.Call.{Call}
+use Rattle.runs_model.specs.declared.call.Call.TheVariants as call
+use Rattle.runs_model.specs.declared.call.Reply.TheVariants as reply
+use Rattle.runs_model.specs.declared.event.Event.{Event}
+use Rattle.runs_model.specs.declared.event.Event.TheVariants as event
+use Rattle.runs_model.specs.declared.op.Hold.TheVariants as hold
+use Rattle.runs_model.specs.declared.op.Op.TheVariants as op
+use Rattle.runs_model.specs.declared.op.TickOp.TheVariants as tick_op
+use Rattle.runs_model.specs.declared.op.ListOp.TheVariants as list_op
+use Rattle.runs_model.specs.declared.op.Op.{Op}
+use Rattle.runs_model.specs.declared.op.RunOp.TheVariants as run_op
+use Rattle.runs_model.specs.declared.op.Section.TheVariants as section
+use Rattle.runs_model.specs.declared.op.Sleeper.{Sleeper}
+use Rattle.runs_model.specs.declared.op.Sleeper.TheVariants as sleeper
+use Rattle.runs_model.specs.declared.op.UserOp.TheVariants as user_op
+use Rattle.runs_model.specs.SleepersAgree.{lies}
+use Rattle.runs_model.specs.World.{World, Stage, New, Listed, Ended, Run, Done, done, log, no_run, put_run, run_of}
+use Rattle.runs_model.specs.Weights.{same, weigh}
+use Rattle.runs_model.specs.Steps.{drop_run, with_future}
+use Rattle.runs_model.proofs.TickLists.{same_self}
+use Rattle.runs_model.proofs.UsingWorlds.{count-set, is_over_stage}
+use Rattle.runs_called.proofs.Beside.{Beside, besides}
+use Rattle.runs_called.proofs.Listed.{sum, entry_of, kept_of, misplaced_of}
+use Rattle.runs_called.proofs.Sitting.{eq-other, eq-self, eq_who, lives_in, made_in, other, over_in, owned_in, place_in}
+use Rattle.runs_called.proofs.Stands.{View, view, Doing, with_doing, Footing, Stands, Nothing, Mark, KeepsBy}
+use Rattle.runs_called.proofs.Stands.{with-nothing, drops_of, ends_of, rising_of}
+use Rattle.runs_called.proofs.StandsNothing.{nothing-both, nothing-end, nothing-leave, nothing-locked, nothing-of}
+use Rattle.runs_called.proofs.StandsNothing.{nothing-left}
+use Rattle.runs_called.proofs.StandsOwn.{Parts, own-dropped, own-run_dropped}
+use Rattle.runs_called.proofs.StandsSeats.{field-set}
+use Rattle.runs_called.proofs.Watched.{Watched, parted, poll_begun, watched, watched-push, watches}
+
+-- the beginning of a call
+
+-- one more call of party p is inside of the poll that is open
+abbrev pub begun_in : ℕ → Mark → Mark
+begun_in p m = record m { inner = m.inner + cond m.asking (same m.party p) 0 }
+
+abbrev pub inside : ℕ → Watched → Watched
+inside p s = record s { inner = s.inner + cond s.asking (same s.party p) 0 }
+
+-- a poll of it begins, or another call
+abbrev pub polls_at : Sleeper → Sleeper → ℕ → Mark → Mark
+polls_at t u p m = cond (eq_who t u) (record { asking = true; party = p; inner = 0; asks = suc m.asks }) (begun_in p m)
+
+abbrev pub asked : ℕ → Call → Sleeper → Mark → Mark
+asked p (call.PollTick u b) t m = polls_at t (sleeper.Tick u) p m
+asked p (call.PollRun q b) t m = polls_at t (sleeper.Run q) p m
+asked p _ t m = begun_in p m
+
+view-begun : (t : Sleeper) (p : ℕ) (w : World) (c : Call) →
+    view t (log w (event.CallBegun p c)) ≡ record (view t w) { seen = inside p (watched t w.trace) }
+view-begun t p w c = ap (λ (s : Watched). let v : View = record (view t w) { seen = s } in v)
+    (watched-push t w.trace (event.CallBegun p c))
+
+pub stands-inside : (p : ℕ) (v : View) (x : Doing) (m : Mark) → Stands v x m →
+    Stands (record v { seen = inside p v.seen }) x (begun_in p m)
+stands-inside p v x m h = grind arith
+
+-- it has nothing to do with any
+pub begins-beside : (t : Sleeper) (p : ℕ) (w : World) (c : Call) (d : Done) → Beside (log w (event.CallBegun p c)) d →
+    KeepsBy t w [] d (begun_in p)
+begins-beside t p w c d b r m f h =
+    subst (λ (y : View × Doing). Stands y.0 y.1 (begun_in p m))
+    (λ i. (
+      sym (b.view t ∙ view-begun t p w c) i,
+      (with-nothing t [] r (nothing-of t [] refl)
+          ∙ sym (with-nothing t d.next r (nothing-of t d.next b.none))) i,
+    )) (stands-inside p (view t w) (with_doing t [] r) m h)
+
+pub begins-with : (t : Sleeper) (p : ℕ) (w : World) (c : Call) (x : Option ℕ) (d : ℕ → Done) →
+    ((f : ℕ) → Beside (log w (event.CallBegun p c)) (d f)) →
+    KeepsBy t w [] (with_future (log w (event.CallBegun p c)) x d) (begun_in p)
+begins-with t p w c None d k =
+    begins-beside t p w c (done (log w (event.CallBegun p c)) []) (besides _ _ (λ n. refl) refl)
+begins-with t p w c (Some f) d k = begins-beside t p w c (d f) (k f)
+
+-- a poll of u
+
+module _ (t u : Sleeper) (p : ℕ) (w : World) (c : Call) (e : Event)
+    (polls : (n : ℕ) (s : Watched) → watches t n e s ≡ cond (eq_who t u) (poll_begun n p s) s) where
+  abbrev pub begin : World
+  begin = log w (event.CallBegun p c)
+
+  abbrev pub place : ℕ
+  place = length begin.trace
+
+  -- what is seen of t
+  seen-polled : (b : Bool) → eq_who t u ≡ b → view t (log begin e) ≡ record (view t w) {
+    seen = cond b (poll_begun place p (watched t w.trace)) (inside p (watched t w.trace));
+  }
+  seen-polled b q = ap (λ (s : Watched). let v : View = record (view t w) { seen = s } in v)
+      (watched-push t begin.trace e
+      ∙ (polls place (watched t begin.trace)
+      ∙ (ap (λ (d : Bool). cond d (poll_begun place p (watched t begin.trace)) (watched t begin.trace)) q
+      ∙ (ap (λ (s : Watched). cond b (poll_begun place p s) s) (watched-push t w.trace (event.CallBegun p c))
+      ∙ same b))))
+    where
+      same : (b : Bool) → cond b (poll_begun place p (inside p (watched t w.trace))) (inside p (watched t w.trace))
+          ≡ cond b (poll_begun place p (watched t w.trace)) (inside p (watched t w.trace))
+      same true = refl
+      same false = refl
+
+  pub other-polled : (next : List Op) → t ≢ u → Nothing t next →
+      KeepsBy t w [] (done (log begin e) next) (polls_at t u p)
+  other-polled next x n r m f h =
+      subst (λ (y : View × Doing × Mark). Stands y.0 y.1 y.2)
+      (λ i. (
+        sym (seen-polled false (eq-other t u x)) i,
+        (with-nothing t [] r (nothing-of t [] refl) ∙ sym (with-nothing t next r n)) i,
+        sym (ap (λ (b : Bool). cond b (record { asking = true; party = p; inner = 0; asks = suc m.asks })
+            (begun_in p m))
+            (eq-other t u x)) i,
+      )) (stands-inside p (view t w) (with_doing t [] r) m h)
+
+  pub own-poll : (next : List Op) (r : Doing) (m : Mark) → t ≡ u →
+      Stands (record (view t w) { seen = poll_begun place p (watched t w.trace) }) (with_doing t next r)
+      (record { asking = true; party = p; inner = 0; asks = suc m.asks }) →
+      Stands (view t (log begin e)) (with_doing t next r) (polls_at t u p m)
+  own-poll next r m i h =
+      let q : eq_who t u ≡ true = ap (eq_who t) (sym i) ∙ eq-self t in
+      subst (λ (y : View × Mark). Stands y.0 (with_doing t next r) y.1)
+      (λ i. (
+        sym (seen-polled true q) i,
+        sym (ap (λ (b : Bool). cond b (record { asking = true; party = p; inner = 0; asks = suc m.asks })
+            (begun_in p m)) q) i,
+      ))
+      h
+
+-- its drop
+
+module _ (t u : Sleeper) (p : ℕ) (w v : World) (c : Call) (e : Event)
+    (parts : (n : ℕ) (s : Watched) → watches t n e s ≡ cond (eq_who t u) (parted s) s)
+    (trace : v.trace ≡ (log (log w (event.CallBegun p c)) e).trace) where
+  seen-parted : (b : Bool) → eq_who t u ≡ b →
+      watched t v.trace ≡ cond b (parted (inside p (watched t w.trace))) (inside p (watched t w.trace))
+  seen-parted b q =
+      ap (watched t) trace ∙ (watched-push t (log w (event.CallBegun p c)).trace e
+      ∙ (parts (length (log w (event.CallBegun p c)).trace) (watched t (log w (event.CallBegun p c)).trace)
+      ∙ (ap (λ (d : Bool). cond d (parted (watched t (log w (event.CallBegun p c)).trace))
+      (watched t (log w (event.CallBegun p c)).trace)) q
+      ∙ ap (λ (s : Watched). cond b (parted s) s) (watched-push t w.trace (event.CallBegun p c)))))
+
+module _ (t : Sleeper) (p : ℕ) (w : World) (u : ℕ) where
+  abbrev pub dropped : Done
+  dropped = done (log (log w (event.CallBegun p (call.DropTick u))) (event.TickDropped p u))
+      (op.Tick (tick_op.Leave (sleeper.Tick u)) ∷ op.End reply.Done (hold.Tick u) ∷ [])
+
+  view-dropped : (b : Bool) → eq_who t (sleeper.Tick u) ≡ b → view t dropped.world ≡ record (view t w) {
+    seen = cond b (parted (inside p (watched t w.trace))) (inside p (watched t w.trace));
+  }
+  view-dropped b q = ap (λ (s : Watched). let v : View = record (view t w) { seen = s } in v)
+      (seen-parted t (sleeper.Tick u) p w dropped.world (call.DropTick u) (event.TickDropped p u)
+      (λ n s. refl) refl b q)
+
+  pub other-dropped : t ≢ sleeper.Tick u → KeepsBy t w [] dropped (begun_in p)
+  other-dropped x r m f h =
+      subst (λ (y : View × Doing). Stands y.0 y.1 (begun_in p m))
+      (λ i. (
+        sym (view-dropped false (eq-other t (sleeper.Tick u) x)) i,
+        (with-nothing t [] r (nothing-of t [] refl) ∙ sym (with-nothing t dropped.next r
+            (nothing-both t (op.Tick (tick_op.Leave (sleeper.Tick u)) ∷ []) (op.End reply.Done (hold.Tick u) ∷ [])
+            (nothing-leave t (sleeper.Tick u) x)
+            (nothing-end t reply.Done (hold.Tick u) (other t (sleeper.Tick u) x))))) i,
+      )) (stands-inside p (view t w) (with_doing t [] r) m h)
+
+pub own-drop : (p : ℕ) (w : World) (u : ℕ) (r : Doing) (m : Mark) → (view (sleeper.Tick u) w).living ≡ true →
+    (view (sleeper.Tick u) w).made ≡ true → r.used ≡ 0 → Footing (with_doing (sleeper.Tick u) [] r) r →
+    Stands (view (sleeper.Tick u) w) (with_doing (sleeper.Tick u) [] r) m →
+    Stands (view (sleeper.Tick u) (dropped (sleeper.Tick u) p w u).world)
+    (with_doing (sleeper.Tick u) (dropped (sleeper.Tick u) p w u).next r) (begun_in p m)
+own-drop p w u r m l d z f h =
+    let t : Sleeper = sleeper.Tick u in
+    let one : same u u ≡ 1 = same_self u in
+    subst (λ (y : View). Stands y (with_doing t (dropped t p w u).next r) (begun_in p m))
+    (sym (view-dropped t p w u true (eq-self t)))
+    (own-dropped t (record (view t w) { seen = inside p (watched t w.trace) }) (dropped t p w u).next r (begun_in p m) l
+    d refl z (record {
+      used = omega (arith, one);
+      early = refl;
+      pends = refl;
+      refused = refl;
+      found = refl;
+      odd = refl;
+      strays = λ k. refl;
+      calls = λ k. refl;
+    }) (omega (arith, one)) (omega (arith, one)) f
+    (stands-inside p (view t w) (with_doing t [] r) m h))
+
+-- the drop of a run
+
+module _ (t : Sleeper) (p : ℕ) (w : World) (q : ℕ) where
+  abbrev base : World
+  base = log w (event.CallBegun p (call.DropRun q))
+
+  abbrev off : Run
+  off = record (run_of w q) { dropped = true }
+
+  abbrev pub parting : World
+  parting = log (put_run base q off) (event.RunDropped p q)
+
+  seen-off : (b : Bool) → eq_who t (sleeper.Run q) ≡ b →
+      watched t parting.trace ≡ cond b (parted (inside p (watched t w.trace))) (inside p (watched t w.trace))
+  seen-off b k =
+      seen-parted t (sleeper.Run q) p w parting (call.DropRun q) (event.RunDropped p q) (λ n s. refl) refl b k
+
+  placed-off : (u : Sleeper) → place_in u w.ticks parting.runs ≡ place_in u w.ticks w.runs
+  placed-off (sleeper.Tick n) = refl
+  placed-off (sleeper.Run r) = field-set (λ (x : Run). x.place) w.runs q off refl r
+
+  made-off : (u : Sleeper) → made_in u w.ticks parting.runs ≡ made_in u w.ticks w.runs
+  made-off (sleeper.Tick n) = refl
+  made-off (sleeper.Run r) = ap (nat_lt r) (count-set w.runs q off)
+
+  over-off : (u : Sleeper) → over_in u parting.runs ≡ over_in u w.runs
+  over-off (sleeper.Tick n) = refl
+  over-off (sleeper.Run r) = field-set (λ (x : Run). is_over_stage x.stage) w.runs q off refl r
+
+  view-off : (b : Bool) → eq_who t (sleeper.Run q) ≡ b → view t parting ≡ record (view t w) {
+    living = lives_in t w.ticks parting.runs;
+    seen = cond b (parted (inside p (watched t w.trace))) (inside p (watched t w.trace));
+  }
+  view-off b k = λ i. record {
+    lying = lies (placed-off t i);
+    living = lives_in t w.ticks parting.runs;
+    made = made-off t i;
+    over = over-off t i;
+    entries = sum (entry_of t) w.sleepers.wakers;
+    misplaced = sum (misplaced_of t (placed-off t i)) w.sleepers.wakers;
+    kept = λ j. sum (kept_of t j) w.sleepers.wakers;
+    owned = owned_in t w.own;
+    gone = w.gone;
+    seen = seen-off b k i;
+  }
+
+lives-off : (t : Sleeper) (p : ℕ) (w : World) (q : ℕ) → t ≢ sleeper.Run q →
+    lives_in t w.ticks (parting t p w q).runs ≡ lives_in t w.ticks w.runs
+lives-off (sleeper.Tick n) p w q x = refl
+lives-off (sleeper.Run r) p w q x = ap (λ (y : Run). not y.dropped)
+    (get_or-set_other w.runs q r (record (run_of w q) { dropped = true }) no_run
+    (λ e. x (ap (λ (n : ℕ). sleeper.Run n) e)))
+
+dropped-off : (p : ℕ) (w : World) (q : ℕ) →
+    lives_in (sleeper.Run q) w.ticks (parting (sleeper.Run q) p w q).runs ≡ false
+dropped-off p w q = by w.runs q
+  where
+    by : (rs : List Run) (q : ℕ) →
+        not (get_or (set rs q (record (get_or rs q no_run) { dropped = true })) q no_run).dropped ≡ false
+    by [] q = refl
+    by (x ∷ rs) zero = refl
+    by (x ∷ rs) (suc q) = by rs q
+
+nothing-drop : (s : Stage) (t : Sleeper) (q : ℕ) → t ≢ sleeper.Run q → Nothing t (drop_run s q)
+nothing-drop New t q x = nothing-both t (op.User (user_op.DropOwn q) ∷ [])
+    (op.Run (run_op.Reschedule q reply.Done) ∷ []) (nothing-of t _ refl) (nothing-left t q reply.Done x)
+nothing-drop Listed t q x = nothing-both t (op.User (user_op.DropOwn q) ∷ [])
+    (op.List (list_op.LockWrite (section.Unregister q reply.Done)) ∷ []) (nothing-of t _ refl)
+    (nothing-locked t q reply.Done x)
+nothing-drop Ended t q x = nothing-both t (op.Tick (tick_op.Leave (sleeper.Run q)) ∷ [])
+    (op.End reply.Done (hold.Run q) ∷ [])
+    (nothing-leave t (sleeper.Run q) x) (nothing-end t reply.Done (hold.Run q) (other t (sleeper.Run q) x))
+
+pub other-drop : (s : Stage) (t : Sleeper) (p : ℕ) (w : World) (q : ℕ) → t ≢ sleeper.Run q →
+    KeepsBy t w [] (done (parting t p w q) (drop_run s q)) (begun_in p)
+other-drop s t p w q x r m f h =
+    subst (λ (y : View × Doing). Stands y.0 y.1 (begun_in p m))
+    (λ i. (
+      sym (view-off t p w q false (eq-other t (sleeper.Run q) x)
+          ∙ ap (λ (l : Bool). let v : View = record (view t w) { living = l; seen = inside p (watched t w.trace) } in v)
+          (lives-off t p w q x)) i,
+      (with-nothing t [] r (nothing-of t [] refl)
+          ∙ sym (with-nothing t (drop_run s q) r (nothing-drop s t q x))) i,
+    )) (stands-inside p (view t w) (with_doing t [] r) m h)
+
+parts-run : (s : Stage) (q : ℕ) → Parts (sleeper.Run q) (drop_run s q)
+parts-run New q = let one : same q q ≡ 1 = same_self q in record {
+  used = omega (arith, one);
+  early = refl;
+  pends = refl;
+  refused = refl;
+  found = refl;
+  odd = refl;
+  strays = λ k. refl;
+  calls = λ k. refl;
+}
+parts-run Listed q = let one : same q q ≡ 1 = same_self q in record {
+  used = omega (arith, one);
+  early = refl;
+  pends = refl;
+  refused = refl;
+  found = refl;
+  odd = refl;
+  strays = λ k. refl;
+  calls = λ k. refl;
+}
+parts-run Ended q = let one : same q q ≡ 1 = same_self q in record {
+  used = omega (arith, one);
+  early = refl;
+  pends = refl;
+  refused = refl;
+  found = refl;
+  odd = refl;
+  strays = λ k. refl;
+  calls = λ k. refl;
+}
+
+pub own-off : (s : Stage) (p : ℕ) (w : World) (q : ℕ) (r : Doing) (m : Mark) → (run_of w q).stage ≡ s →
+    (view (sleeper.Run q) w).living ≡ true →
+    (view (sleeper.Run q) w).made ≡ true → r.used ≡ 0 → Footing (with_doing (sleeper.Run q) [] r) r →
+    Stands (view (sleeper.Run q) w) (with_doing (sleeper.Run q) [] r) m →
+    Stands (view (sleeper.Run q) (parting (sleeper.Run q) p w q)) (with_doing (sleeper.Run q) (drop_run s q) r)
+    (begun_in p m)
+own-off s p w q r m e l d z f h =
+    let t : Sleeper = sleeper.Run q in
+    subst (λ (y : View). Stands y (with_doing t (drop_run s q) r) (begun_in p m))
+    (sym (view-off t p w q true (eq-self t)
+    ∙ ap (λ (b : Bool). let v : View = record (view t w) {
+      living = b;
+      seen = parted (inside p
+          (watched t w.trace));
+    } in v)
+    (dropped-off p w q)))
+    (own-run_dropped t (record (view t w) { seen = inside p (watched t w.trace) }) (drop_run s q) r (begun_in p m) l d z
+    (parts-run s q) (none s) (leaves s e) f (stands-inside p (view t w) (with_doing t [] r) m h))
+  where
+    none : (s : Stage) → weigh (drops_of (sleeper.Run q)) (drop_run s q) ≡ 0
+    none New = refl
+    none Listed = refl
+    none Ended = refl
+
+    leaves : (s : Stage) → (run_of w q).stage ≡ s →
+        ((weigh (rising_of (sleeper.Run q)) (drop_run s q) ≡ 0) × (weigh (ends_of (sleeper.Run q)) (drop_run s q) ≡ 0))
+        ⊎ ((weigh (rising_of (sleeper.Run q)) (drop_run s q) ≡ 1) × (over_in (sleeper.Run q) w.runs ≡ true))
+    leaves New k = inl (refl, refl)
+    leaves Listed k = inl (refl, refl)
+    leaves Ended k = inr (let one : same q q ≡ 1 = same_self q in omega (arith, one), ap is_over_stage k)

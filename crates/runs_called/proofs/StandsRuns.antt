@@ -1,0 +1,448 @@
+-- Where a run searches, steals and walks, its poll goes on.
+use Rattle.std.proofs.Common.{◌≡◌, ◌⊎◌, ◌∙◌, ℕ, zero, suc, ◌+◌, ◌%◌, ◌≤◌, List, [], ◌∷◌, ◌++◌, length, Bool, true}
+use Rattle.std.proofs.Common.{false, eqb, refl, sym, ap, subst, inl, inr, ⊎_elim, arith}
+use Rattle.task_moves.specs.declared.moves.owed.Move.TheVariants as move
+use Rattle.runs_model.specs.declared.call.Reply.TheVariants as reply
+use Rattle.runs_model.specs.declared.event.Event.TheVariants as event
+use Rattle.runs_model.specs.declared.op.ListOp.TheVariants as list_op
+use Rattle.runs_model.specs.declared.op.Op.{Op}
+use Rattle.runs_model.specs.declared.op.Op.TheVariants as op
+use Rattle.runs_model.specs.declared.op.QueueOp.TheVariants as queue_op
+use Rattle.runs_model.specs.declared.op.RunOp.TheVariants as run_op
+use Rattle.runs_model.specs.declared.op.RunPoll.{RunPoll}
+use Rattle.runs_model.specs.declared.op.Section.TheVariants as section
+use Rattle.runs_model.specs.declared.op.Sleeper.{Sleeper}
+use Rattle.runs_model.specs.declared.op.Sleeper.TheVariants as sleeper
+use Rattle.runs_model.specs.declared.op.SleeperOp.TheVariants as sleeper_op
+use Rattle.runs_model.specs.declared.op.Source.{Source}
+use Rattle.runs_model.specs.declared.op.Source.TheVariants.{Common, Own}
+use Rattle.runs_model.specs.declared.op.Steal.{Steal}
+use Rattle.runs_model.specs.declared.op.StealOp.{StealOp}
+use Rattle.runs_model.specs.declared.op.StealOp.TheVariants as steal_op
+use Rattle.runs_model.specs.declared.op.Then.{Then}
+use Rattle.runs_model.specs.declared.op.Then.TheVariants as then
+use Rattle.runs_model.specs.declared.op.TickOp.TheVariants as tick_op
+use Rattle.runs_model.specs.declared.op.UserOp.TheVariants as user_op
+use Rattle.runs_model.specs.declared.step.Hint.{Hint}
+use Rattle.runs_model.specs.ActsOfRuns as runs
+use Rattle.runs_model.specs.ActsOfSleepers.{found_by}
+use Rattle.runs_model.specs.Doing.{steal_act}
+use Rattle.runs_model.specs.Weights.{weigh}
+use Rattle.runs_model.specs.SleepersAgree.{lies}
+use Rattle.runs_model.specs.World.{World, Place, Up, Lies, Left, Run, Done, own_of, put_own, put_run, run_of}
+use Rattle.runs_model.proofs.Lists.{weigh-append}
+use Rattle.runs_model.proofs.OwnRooms.{Shorter, grown, of_hull, same-own, shorter-and, shorter-first}
+use Rattle.runs_model.proofs.RunsCalm.{poll_in}
+use Rattle.runs_model.proofs.RunsMoving.{hull-found, hull-stolen, walk-by}
+use Rattle.runs_model.proofs.UsingWorlds.{is_over_stage}
+use Rattle.runs_called.proofs.Beside.{view-log}
+use Rattle.runs_called.proofs.Listed.{sum, entry_of, kept_of, misplaced_of}
+use Rattle.runs_called.proofs.Sitting.{IsOther, IsSame, is_it, owned_in, who_cases}
+use Rattle.runs_called.proofs.Stands.{KeepsStands, Nothing, Stands, View, calls_of, drops_of, early_of, ends_of}
+use Rattle.runs_called.proofs.Stands.{found_of, odd_of, pends_of, refused_of, rising_of, strays, strays_of, used_of}
+use Rattle.runs_called.proofs.Stands.{view, with_doing}
+use Rattle.runs_called.proofs.StandsNothing.{nothing-of}
+use Rattle.runs_called.proofs.StandsOwn.{Goes, own-goes}
+use Rattle.runs_called.proofs.StandsSeats.{Seated, seated-and, seated-run, seated-same}
+use Rattle.runs_called.proofs.StandsTied.{Tied, tied-append, tied-cons, tied-none}
+use Rattle.runs_called.proofs.Watched.{watched}
+
+-- this is what a poll x of a run has still to do
+pub record Stage (t : Sleeper) (x : RunPoll) (os : List Op) : Type 0 where
+  pub used : weigh (used_of t) os ≡ is_it t (sleeper.Run x.run)
+  pub early : weigh (early_of t) os ≡ is_it t (sleeper.Run x.run)
+  pub pends : weigh (pends_of t) os ≡ 0
+  pub refused : weigh (refused_of t) os ≡ 0
+  pub found : weigh (found_of t) os ≡ 0
+  pub ends : weigh (ends_of t) os ≡ 0
+  pub drops : weigh (drops_of t) os ≡ 0
+  pub odd : weigh (odd_of t) os ≡ 0
+  pub strays : (k : ℕ) → weigh (strays_of t k) os ≤ strays t k x
+  pub calls : (k : ℕ) → weigh (calls_of t k) os ≡ 0
+  pub rising : weigh (rising_of t) os ≤ is_it t (sleeper.Run x.run)
+  pub tied : Tied t os
+
+module _ (t : Sleeper) (x : RunPoll) where
+  -- of one thing to do
+  stage-of : (o : Op) → used_of t o ≡ is_it t (sleeper.Run x.run) → early_of t o ≡ is_it t (sleeper.Run x.run) →
+      pends_of t o ≡ 0 → refused_of t o ≡ 0 → found_of t o ≡ 0 → ends_of t o ≡ 0 → drops_of t o ≡ 0 → odd_of t o ≡ 0 →
+      ((k : ℕ) → strays_of t k o ≡ strays t k x) → ((k : ℕ) → calls_of t k o ≡ 0) → rising_of t o ≡ 0 →
+      Stage t x (o ∷ [])
+  stage-of o a b c d e f g h i j l = record {
+    used = omega (arith, a);
+    early = omega (arith, b);
+    pends = omega (arith, c);
+    refused = omega (arith, d);
+    found = omega (arith, e);
+    ends = omega (arith, f);
+    drops = omega (arith, g);
+    odd = omega (arith, h);
+    strays = λ k. omega (arith, i k);
+    calls = λ k. omega (arith, j k);
+    rising = omega (arith, l);
+    tied = tied-none t (o ∷ []) (omega (arith, l));
+  }
+
+  -- its own future is ready
+  pub stage-ready : Stage t x
+      (op.User (user_op.DropOwn x.run) ∷ op.List (list_op.LockWrite (section.Unregister x.run reply.Ready)) ∷ [])
+  stage-ready = record {
+    used = omega arith;
+    early = omega arith;
+    pends = refl;
+    refused = refl;
+    found = refl;
+    ends = refl;
+    drops = refl;
+    odd = refl;
+    strays = λ k. omega arith;
+    calls = λ k. refl;
+    rising = omega arith;
+    tied = tied-none t _ refl;
+  }
+
+  pub stage-own : Stage t x (op.User (user_op.PollOwn x) ∷ [])
+  stage-own =
+      stage-of (op.User (user_op.PollOwn x)) refl refl refl refl refl refl refl refl (λ k. refl) (λ k. refl) refl
+
+  pub stage-search : Stage t x (op.Tick (tick_op.Search (runs.asleep x)) ∷ [])
+  stage-search = stage-of (op.Tick (tick_op.Search (runs.asleep x))) refl refl refl refl refl refl refl refl
+      (λ k. refl) (λ k. refl) refl
+
+  pub stage-copy : Stage t x (op.Tick (tick_op.CopyWaker (runs.asleep x)) ∷ [])
+  stage-copy = stage-of (op.Tick (tick_op.CopyWaker (runs.asleep x))) refl refl refl refl refl refl refl refl
+      (λ k. refl) (λ k. refl) refl
+
+  pub stage-lock : Stage t x (op.List (list_op.LockWrite (section.Register x)) ∷ [])
+  stage-lock = stage-of (op.List (list_op.LockWrite (section.Register x))) refl refl refl refl refl refl refl refl
+      (λ k. refl) (λ k. refl) refl
+
+  pub stage-register : Stage t x (op.List (list_op.Write (section.Register x)) ∷ [])
+  stage-register = stage-of (op.List (list_op.Write (section.Register x))) refl refl refl refl refl refl refl refl
+      (λ k. refl) (λ k. refl) refl
+
+  pub stage-read : Stage t x (op.List (list_op.LockRead x) ∷ [])
+  stage-read = stage-of (op.List (list_op.LockRead x)) refl refl refl refl refl refl refl refl (λ k. refl) (λ k. refl)
+      refl
+
+  pub stage-common : Stage t x (op.Run (run_op.SearchCommon x) ∷ [])
+  stage-common = stage-of (op.Run (run_op.SearchCommon x)) refl refl refl refl refl refl refl refl (λ k. refl)
+      (λ k. refl) refl
+
+  pub stage-look : (at left : ℕ) → Stage t x (op.Run (run_op.LookOwn x at left) ∷ [])
+  stage-look at left = stage-of (op.Run (run_op.LookOwn x at left)) refl refl refl refl refl refl refl refl (λ k. refl)
+      (λ k. refl) refl
+
+  pub stage-wake : Stage t x (op.Run (run_op.WakeOwn x) ∷ [])
+  stage-wake = stage-of (op.Run (run_op.WakeOwn x)) refl refl refl refl refl refl refl refl (λ k. refl) (λ k. refl) refl
+
+  -- what is nothing to it stands before
+  pub stage-front : (xs os : List Op) → Nothing t xs → Stage t x os → Stage t x (xs ++ os)
+  stage-front xs os n s = record {
+    used = omega (arith, weigh-append (used_of t) xs os, n.used, s.used);
+    early = omega (arith, weigh-append (early_of t) xs os, n.early, s.early);
+    pends = omega (arith, weigh-append (pends_of t) xs os, n.pends, s.pends);
+    refused = omega (arith, weigh-append (refused_of t) xs os, n.refused, s.refused);
+    found = omega (arith, weigh-append (found_of t) xs os, n.found, s.found);
+    ends = omega (arith, weigh-append (ends_of t) xs os, n.ends, s.ends);
+    drops = omega (arith, weigh-append (drops_of t) xs os, n.drops, s.drops);
+    odd = omega (arith, weigh-append (odd_of t) xs os, n.odd, s.odd);
+    strays = λ k. omega (arith, weigh-append (strays_of t k) xs os, n.strays k, s.strays k);
+    calls = λ k. omega (arith, weigh-append (calls_of t k) xs os, n.calls k, s.calls k);
+    rising = omega (arith, weigh-append (rising_of t) xs os, n.rising, s.rising);
+    tied = tied-append t xs os (tied-none t xs n.rising) s.tied;
+  }
+
+  -- it gets up first
+  stage-rise : (os : List Op) → Stage t x os → weigh (rising_of t) os ≡ 0 →
+      Stage t x (op.Tick (tick_op.GetUp (sleeper.Run x.run)) ∷ os)
+  stage-rise os s z = record {
+    used = omega (arith, s.used);
+    early = omega (arith, s.early);
+    pends = omega (arith, s.pends);
+    refused = omega (arith, s.refused);
+    found = omega (arith, s.found);
+    ends = omega (arith, s.ends);
+    drops = omega (arith, s.drops);
+    odd = omega (arith, s.odd);
+    strays = λ k. omega (arith, s.strays k);
+    calls = λ k. omega (arith, s.calls k);
+    rising = omega (arith, z);
+    tied = tied-cons t (op.Tick (tick_op.GetUp (sleeper.Run x.run))) os (λ k. omega (arith, k, s.used)) s.tied;
+  }
+
+-- what it does next in a steal
+pub stage-steal : (t : Sleeper) (o : StealOp) → Stage t (poll_in o) (op.Steal o ∷ [])
+stage-steal t o =
+    stage-of t (poll_in o) (op.Steal o) refl refl refl refl refl refl refl refl (λ k. refl) (λ k. refl) refl
+
+module _ (t : Sleeper) (x : RunPoll) where
+  -- what is found is run
+
+  stage-run_by : (b : Bool) (w : World) (f : ℕ) → Stage t x (runs.run_by b w x f).next
+  stage-run_by true w f = stage-front t x (op.Move move.TakeUp f ∷ []) (op.Run (run_op.WakeOwn x) ∷ [])
+      (nothing-of t _ refl) (stage-wake t x)
+  stage-run_by false w f = stage-front t x (op.Move move.TakeUp f ∷ []) (op.Tick (tick_op.Search (runs.asleep x)) ∷ [])
+      (nothing-of t _ refl) (stage-search t x)
+
+  unrisen-run_by : (b : Bool) (w : World) (f : ℕ) → weigh (rising_of t) (runs.run_by b w x f).next ≡ 0
+  unrisen-run_by true w f = refl
+  unrisen-run_by false w f = refl
+
+  stage-counted : (b : Bool) (w : World) (f : ℕ) → Stage t x (runs.counted_by b w x f).next
+  stage-counted true w f = stage-steal t (steal_op.Length (record { poll = x; from = Common; then = then.Run f }))
+  stage-counted false w f = stage-run_by _ _ f
+
+  unrisen-counted : (b : Bool) (w : World) (f : ℕ) → weigh (rising_of t) (runs.counted_by b w x f).next ≡ 0
+  unrisen-counted true w f = refl
+  unrisen-counted false w f = unrisen-run_by _ _ f
+
+  stage-rises : (p : Place) (os : List Op) → Stage t x os → weigh (rising_of t) os ≡ 0 →
+      Stage t x (found_by p (sleeper.Run x.run) (op.Sleeper sleeper_op.ExchangeFlag ∷ []) ++ os)
+  stage-rises Up os s z = stage-front t x (op.Sleeper sleeper_op.ExchangeFlag ∷ []) os (nothing-of t _ refl) s
+  stage-rises (Lies n) os s z =
+      stage-rise t x (op.Sleeper sleeper_op.ExchangeFlag ∷ os)
+      (stage-front t x (op.Sleeper sleeper_op.ExchangeFlag ∷ []) os (nothing-of t _ refl) s) (omega (arith, z))
+  stage-rises Left os s z = stage-front t x (op.Sleeper sleeper_op.ExchangeFlag ∷ []) os (nothing-of t _ refl) s
+
+  pub stage-found : (w : World) (f : ℕ) → Stage t x (runs.found w x f).next
+  stage-found w f = let b = eqb ((run_of w x.run).counted + 1) 64 in
+      stage-rises (run_of w x.run).place (runs.counted_by b w x f).next (stage-counted b w f) (unrisen-counted b w f)
+
+  pub stage-stolen : (n : Then) (w : World) → Stage t x (runs.stolen n w x).next
+  stage-stolen (then.Found f) w = stage-found w f
+  stage-stolen (then.Run f) w = stage-run_by _ w f
+  stage-stolen (then.Walk at left) w = stage-look t x at left
+
+  pub stage-walk : (qs : List ℕ) (at left : ℕ) → Stage t x (runs.walk x qs at left)
+  stage-walk qs at left = walk-by (Stage t x) x
+      (stage-front t x (op.List list_op.UnlockRead ∷ []) (op.Tick (tick_op.CopyWaker (runs.asleep x)) ∷ [])
+      (nothing-of t _ refl) (stage-copy t x))
+      (λ r m n. stage-steal t (steal_op.Length (record { poll = x; from = Own r; then = then.Walk m n })))
+      qs at left
+
+-- the world in which it does so
+
+pub record Calm (w v : World) : Type 0 where
+  pub seated : (t : Sleeper) → Seated t w v
+  pub wakers : v.sleepers.wakers ≡ w.sleepers.wakers
+  pub gone : v.gone ≡ w.gone
+  pub seen : (t : Sleeper) → watched t v.trace ≡ watched t w.trace
+
+pub calm-same : (w v : World) → v.ticks ≡ w.ticks → v.runs ≡ w.runs → v.sleepers.wakers ≡ w.sleepers.wakers →
+    v.gone ≡ w.gone → v.trace ≡ w.trace → Calm w v
+calm-same w v a b c d e = record {
+  seated = λ t. seated-same t w v a b;
+  wakers = c;
+  gone = d;
+  seen = λ t. ap (watched t) e;
+}
+
+pub calm-and : (w v u : World) → Calm w v → Calm v u → Calm w u
+calm-and w v u a b = record {
+  seated = λ t. seated-and t w v u (a.seated t) (b.seated t);
+  wakers = b.wakers ∙ a.wakers;
+  gone = b.gone ∙ a.gone;
+  seen = λ t. b.seen t ∙ a.seen t;
+}
+
+pub calm-run : (w : World) (q : ℕ) (y : Run) → y.place ≡ (run_of w q).place → y.dropped ≡ (run_of w q).dropped →
+    y.stage ≡ (run_of w q).stage → Calm w (put_run w q y)
+calm-run w q y a b c = record {
+  seated = λ t. seated-run t w q y a b (ap is_over_stage c);
+  wakers = refl;
+  gone = refl;
+  seen = λ t. refl;
+}
+
+calm-run_by : (b : Bool) (w : World) (x : RunPoll) (f : ℕ) → Calm w (runs.run_by b w x f).world
+calm-run_by true w x f = calm-run w x.run _ refl refl refl
+calm-run_by false w x f = calm-run w x.run _ refl refl refl
+
+calm-counted : (b : Bool) (w : World) (x : RunPoll) (f : ℕ) → Calm w (runs.counted_by b w x f).world
+calm-counted true w x f = calm-run w x.run _ refl refl refl
+calm-counted false w x f = let v = runs.counted_to w x.run ((run_of w x.run).counted + 1) in
+    calm-and w v (runs.run_found v x f).world (calm-run w x.run _ refl refl refl) (calm-run_by _ v x f)
+
+calm-found : (w : World) (x : RunPoll) (f : ℕ) → Calm w (runs.found w x f).world
+calm-found w x f = calm-counted _ w x f
+
+calm-stolen : (n : Then) (w : World) (x : RunPoll) → Calm w (runs.stolen n w x).world
+calm-stolen (then.Found f) w x = calm-found w x f
+calm-stolen (then.Run f) w x = calm-run_by _ w x f
+calm-stolen (then.Walk at left) w x = calm-same w w refl refl refl refl refl
+
+-- a poll goes on: what the world has of each stays, but that less may stand in own queues, and more in that of the run
+pub record Walks (w : World) (x : RunPoll) (d : Done) : Type 0 where
+  pub stage : (t : Sleeper) → Stage t x d.next
+  pub calm : Calm w d.world
+  pub own : (t : Sleeper) → 1 ≤ owned_in t d.world.own → (1 ≤ owned_in t w.own) ⊎ (1 ≤ is_it t (sleeper.Run x.run))
+
+pub owned-less : (w v : World) → Shorter w v → (t : Sleeper) (n : ℕ) → 1 ≤ owned_in t v.own →
+    (1 ≤ owned_in t w.own) ⊎ (1 ≤ n)
+owned-less w v s (sleeper.Tick u) n k = absurd (omega (arith, k))
+owned-less w v s (sleeper.Run r) n k = inl (omega (arith, k, s.own r))
+
+pub walks : (w : World) (x : RunPoll) (d : Done) → ((t : Sleeper) → Stage t x d.next) → Calm w d.world →
+    Shorter w d.world → Walks w x d
+walks w x d s c o = record { stage = s; calm = c; own = λ t. owned-less w d.world o t (is_it t (sleeper.Run x.run)) }
+
+goes-on : (t : Sleeper) (x : RunPoll) (old next : List Op) → Stage t x old → weigh (rising_of t) old ≡ 0 →
+    ((k : ℕ) → strays t k x ≤ weigh (strays_of t k) old) → Stage t x next → Goes t old next
+goes-on t x old next a z y b = record {
+  used = b.used ∙ sym a.used;
+  early = b.early ∙ sym a.early;
+  pends = b.pends ∙ sym a.pends;
+  refused = b.refused ∙ sym a.refused;
+  found = b.found ∙ sym a.found;
+  ends = b.ends ∙ sym a.ends;
+  drops = b.drops ∙ sym a.drops;
+  odd = b.odd ∙ sym a.odd;
+  strays = λ k. omega (arith, y k, b.strays k);
+  calls = λ k. b.calls k ∙ sym (a.calls k);
+  rising = omega (arith, z);
+  rises = λ k. omega (arith, k, b.rising, b.early);
+}
+
+pub view-calm : (t : Sleeper) (w v : World) → Calm w v →
+    view t v ≡ record (view t w) { owned = owned_in t v.own }
+view-calm t w v c = λ i. record {
+  lying = lies ((c.seated t).place i);
+  living = (c.seated t).lives i;
+  made = (c.seated t).made i;
+  over = (c.seated t).over i;
+  entries = sum (entry_of t) (c.wakers i);
+  misplaced = sum (misplaced_of t ((c.seated t).place i)) (c.wakers i);
+  kept = λ k. sum (kept_of t k) (c.wakers i);
+  owned = owned_in t v.own;
+  gone = c.gone i;
+  seen = c.seen t i;
+}
+
+pub stands-walks : (t : Sleeper) (w : World) (x : RunPoll) (old : List Op) (d : Done) → Stage t x old →
+    weigh (rising_of t) old ≡ 0 → ((k : ℕ) → strays t k x ≤ weigh (strays_of t k) old) → Walks w x d →
+    KeepsStands t w old d
+stands-walks t w x old d a z y k r m b h =
+    subst (λ (v : View). Stands v (with_doing t d.next r) m) (sym (view-calm t w d.world k.calm))
+    (own-goes t (owned_in t d.world.own) (view t w) old d.next (goes-on t x old d.next a z y (k.stage t))
+    (λ o. ⊎_elim (λ (j : 1 ≤ owned_in t w.own). inl j)
+    (λ (j : 1 ≤ is_it t (sleeper.Run x.run)). inr (omega (arith, j, (k.stage t).early))) (k.own t o)) r m b h)
+
+-- each step of a search
+
+walks-own : (q : List ℕ) (w : World) (x : RunPoll) → own_of w x.run ≡ q → Walks w x (runs.search_own_by q w x)
+walks-own [] w x e = walks w x (runs.search_own_by [] w x) (λ t. stage-common t x)
+    (calm-same w w refl refl refl refl refl) (same-own w w refl)
+walks-own (f ∷ rest) w x e = let v = put_own w x.run rest in
+    walks w x (runs.found v x f) (λ t. stage-found t x v f)
+    (calm-and w v (runs.found v x f).world (calm-same w v refl refl refl refl refl) (calm-found v x f))
+    (shorter-and w v (runs.found v x f).world (shorter-first w x.run f rest e)
+    (of_hull v (runs.found v x f).world (hull-found v x f)))
+
+pub walks-search : (w : World) (x : RunPoll) → Walks w x (runs.search_own w x)
+walks-search w x = walks-own _ w x refl
+
+walks-common : (q : List ℕ) (w : World) (x : RunPoll) → Walks w x (runs.search_common_by q w x)
+walks-common [] w x = walks w x (runs.search_common_by [] w x) (λ t. stage-read t x)
+    (calm-same w w refl refl refl refl refl) (same-own w w refl)
+walks-common (f ∷ rest) w x = walks w x (runs.search_common_by (f ∷ rest) w x)
+    (λ t. stage-steal t (steal_op.Length (record { poll = x; from = Common; then = then.Found f })))
+    (calm-same w (runs.search_common_by (f ∷ rest) w x).world refl refl refl refl refl)
+    (same-own w (runs.search_common_by (f ∷ rest) w x).world refl)
+
+pub walks-search_common : (w : World) (x : RunPoll) → Walks w x (runs.search_common w x)
+walks-search_common w x = walks-common _ w x
+
+walks-look : (q : List ℕ) (w : World) (x : RunPoll) (at left : ℕ) → own_of w x.run ≡ q →
+    Walks w x (runs.look_own_by q w x at left)
+walks-look [] w x at left e = walks w x (runs.look_own_by [] w x at left) (λ t. stage-walk t x w.listed at left)
+    (calm-same w w refl refl refl refl refl) (same-own w w refl)
+walks-look (f ∷ rest) w x at left e = let v = put_own w x.run rest in
+    walks w x (runs.look_own_by (f ∷ rest) w x at left)
+    (λ t. stage-front t x (op.List list_op.UnlockRead ∷ []) (runs.found v x f).next (nothing-of t _ refl)
+    (stage-found t x v f))
+    (calm-and w v (runs.found v x f).world (calm-same w v refl refl refl refl refl) (calm-found v x f))
+    (shorter-and w v (runs.found v x f).world (shorter-first w x.run f rest e)
+    (of_hull v (runs.found v x f).world (hull-found v x f)))
+
+pub walks-look_own : (w : World) (x : RunPoll) (at left : ℕ) → Walks w x (runs.look_own w x at left)
+walks-look_own w x at left = walks-look _ w x at left refl
+
+pub walks-lock : (h : Hint) (w : World) (x : RunPoll) → Walks w x (runs.lock_read h w x)
+walks-lock h w x = walks w x (runs.lock_read h w x)
+    (λ t. stage-walk t x w.listed (h.start % length w.listed) (length w.listed))
+    (calm-same w (runs.lock_read h w x).world refl refl refl refl refl) (same-own w (runs.lock_read h w x).world refl)
+
+-- and of a steal
+
+walks-stolen : (n : Then) (w : World) (x : RunPoll) → Walks w x (runs.stolen n w x)
+walks-stolen n w x = walks w x (runs.stolen n w x) (λ t. stage-stolen t x n w) (calm-stolen n w x)
+    (of_hull w (runs.stolen n w x).world (hull-stolen n w x))
+
+walks-length : (n : ℕ) (w : World) (s : Steal) → Walks w s.poll (runs.steal_length_by n w s)
+walks-length zero w s = walks-stolen s.then w s.poll
+walks-length (suc n) w s = walks w s.poll (runs.steal_length_by (suc n) w s)
+    (λ t. stage-steal t (steal_op.OwnLength s (suc n))) (calm-same w w refl refl refl refl refl) (same-own w w refl)
+
+pub walks-more : (n : ℕ) (w : World) (s : Steal) → Walks w s.poll (runs.steal_by n w s)
+walks-more zero w s = walks-stolen s.then w s.poll
+walks-more (suc n) w s = walks w s.poll (runs.steal_by (suc n) w s)
+    (λ t. stage-steal t (steal_op.Take s n)) (calm-same w w refl refl refl refl refl) (same-own w w refl)
+
+calm-first : (from : Source) (w : World) (rest : List ℕ) → Calm w (runs.without_first w from rest)
+calm-first Common w rest = calm-same w (runs.without_first w Common rest) refl refl refl refl refl
+calm-first (Own q) w rest = calm-same w (runs.without_first w (Own q) rest) refl refl refl refl refl
+
+shorter-source : (from : Source) (f : ℕ) (rest : List ℕ) (w : World) → runs.source_of w from ≡ f ∷ rest →
+    Shorter w (runs.without_first w from rest)
+shorter-source Common f rest w e = same-own w (runs.without_first w Common rest) refl
+shorter-source (Own q) f rest w e = shorter-first w q f rest e
+
+walks-take : (q : List ℕ) (w : World) (s : Steal) (more : ℕ) → runs.source_of w s.from ≡ q →
+    Walks w s.poll (runs.steal_take_by q w s more)
+walks-take [] w s more e = walks-stolen s.then w s.poll
+walks-take (f ∷ rest) w s more e = walks w s.poll (runs.steal_take_by (f ∷ rest) w s more)
+    (λ t. stage-steal t (steal_op.Put s more f)) (calm-first s.from w rest) (shorter-source s.from f rest w e)
+
+-- one comes into the own queue
+
+calm-kept : (p : ℕ) (w : World) (r f : ℕ) → Calm w (runs.kept_by p w r f)
+calm-kept p w r f = let v = put_own w r (own_of w r ++ f ∷ []) in record {
+  seated = λ t. seated-same t w (runs.kept_by p w r f) refl refl;
+  wakers = refl;
+  gone = refl;
+  seen = λ t. ap (λ (y : View). y.seen) (view-log t v (event.Kept p f r) (λ u n s. refl));
+}
+
+owned-kept : (p : ℕ) (w : World) (r f : ℕ) (t : Sleeper) → 1 ≤ owned_in t (runs.kept_by p w r f).own →
+    (1 ≤ owned_in t w.own) ⊎ (1 ≤ is_it t (sleeper.Run r))
+owned-kept p w r f (sleeper.Tick u) k = absurd (omega (arith, k))
+owned-kept p w r f (sleeper.Run q) k = ⊎_elim
+    (λ (x : IsSame (sleeper.Run q) (sleeper.Run r)). inr (omega (arith, x.0)))
+    (λ (x : IsOther (sleeper.Run q) (sleeper.Run r)).
+    inl (omega (arith, k, grown w.own r f q (λ e. x.2 (ap (λ (n : ℕ). sleeper.Run n) e)))))
+    (who_cases (sleeper.Run q) (sleeper.Run r))
+
+walks-put : (b : Bool) (p : ℕ) (w : World) (s : Steal) (more f : ℕ) →
+    Walks w s.poll (runs.steal_put_by b p w s more f)
+walks-put true p w s more f =
+    let v = runs.kept_by p w s.poll.run f in
+    let k : Walks v s.poll (runs.steal_by more v s) = walks-more more v s in record {
+      stage = k.stage;
+      calm = calm-and w v (runs.steal_by more v s).world (calm-kept p w s.poll.run f) k.calm;
+      own = λ t o. ⊎_elim (λ (y : 1 ≤ owned_in t v.own). owned-kept p w s.poll.run f t y)
+          (λ (y : 1 ≤ is_it t (sleeper.Run s.poll.run)). inr y) (k.own t o);
+    }
+walks-put false p w s more f =
+    let k : Walks w s.poll (runs.stolen s.then w s.poll) = walks-stolen s.then w s.poll in record {
+      stage = λ t. stage-front t s.poll (op.Queue (queue_op.Append f) ∷ []) (runs.stolen s.then w s.poll).next
+          (nothing-of t _ refl) (k.stage t);
+      calm = k.calm;
+      own = k.own;
+    }
+
+pub walks-steal : (p : ℕ) (o : StealOp) (w : World) → Walks w (poll_in o) (steal_act p o w)
+walks-steal p (steal_op.Length s) w = walks-length _ w s
+walks-steal p (steal_op.OwnLength s n) w = walks-more _ w s
+walks-steal p (steal_op.Take s more) w = walks-take _ w s more refl
+walks-steal p (steal_op.Put s more f) w = walks-put _ p w s more f

@@ -1,0 +1,302 @@
+-- Calls end: each step that begins none lowers the steps that remain, and a party that has something to do can go on.
+use Rattle.std.proofs.Common.{◌≡◌, ℕ, ◌+◌, ◌*◌, ◌<◌, ◌≤◌, List, [], ◌∷◌, ◌++◌, length, set, Bool, true, false}
+use Rattle.std.proofs.Common.{◌&&◌, ◌||◌}
+use Rattle.std.proofs.Common.{get_or, not, ltb, refl, ap, ⊎_elim, arith, Ok, Err, Result}
+use Rattle.std.proofs.Math.Nat.{add-mul}
+use Rattle.std.proofs.lemmas.Bool.Decides.{nat_tests}
+use Rattle.std.proofs.lemmas.Nat.{mul-le}
+use Rattle.std.specs.Prelude.{Option, Some, None, reverse}
+use Rattle.runs_model.specs.declared.event.Answer.TheVariants as answer
+use Rattle.runs_model.specs.declared.event.Event.TheVariants as event
+use Rattle.runs_model.specs.declared.op.Op.{Op}
+use Rattle.runs_model.specs.declared.op.Op.TheVariants as op
+use Rattle.runs_model.specs.declared.op.UserOp.TheVariants as user_op
+use Rattle.task_moves.specs.declared.moves.owed.Move.TheVariants as move
+use Rattle.task_moves.specs.Moves.{is_over}
+use Rattle.runs_model.specs.declared.step.Hint.{Hint}
+use Rattle.runs_model.specs.declared.step.Step.{Step}
+use Rattle.runs_model.specs.declared.step.Step.TheVariants.{Begin, Go, Answer}
+use Rattle.runs_model.specs.declared.step.StepError.{StepError}
+use Rattle.runs_model.specs.declared.step.StepError.TheVariants.{NoSuch, WrongAnswer}
+use Rattle.runs_model.specs.declared.step.UserEnd.{UserEnd}
+use Rattle.runs_model.specs.declared.step.UserEnd.TheVariants as end
+use Rattle.runs_model.specs.World.{World, Done, task}
+use Rattle.runs_model.specs.Doing.{act}
+use Rattle.runs_model.specs.Weights.{weigh, weigh_all}
+use Rattle.runs_model.specs.Rows.{closing_of, running_of, settling_of}
+use Rattle.runs_model.specs.Good.{Good, Needs}
+use Rattle.runs_model.specs.OwnQueues.{IsUsedOnce}
+use Rattle.runs_model.specs.Runs.{run_all}
+use Rattle.runs_model.specs.Steps.{Machine, stack, top, below_top, waits, go_refusal, answer_refusal}
+use Rattle.runs_model.specs.Steps.{accepts, unless, refusal, react, end_of, settled_by, gone_on}
+use Rattle.runs_model.specs.Steps.{with_part, after, step_by, step, run, start}
+use Rattle.runs_model.proofs.Lists.{same_is, weigh_all-push, weigh_all-set, weigh-append}
+use Rattle.runs_model.proofs.Needing.{needs}
+use Rattle.runs_model.proofs.Lift.{split, topped}
+use Rattle.runs_model.proofs.RunsAside.{apart-act, is_run, unseen}
+use Rattle.runs_laws.specs.Costs.{left_by, registers_of, steps_of, walk_of}
+use Rattle.runs_laws.specs.Remaining.{steps_kept, remaining, is_onward, are_onward, LowersRemaining, EachStepLowers}
+use Rattle.runs_laws.specs.Remaining.{EndsWithin, EachListEnds, queues_of, steps_left}
+use Rattle.runs_laws.proofs.Beside.{Beside, beside-act, beside-react, left-all, left-others}
+use Rattle.runs_laws.proofs.Spending.{kept-log}
+use Rattle.runs_laws.proofs.SpendingGroups.{Settles, spends-act, spends-react}
+use Rattle.runs_laws.proofs.SpendingRuns.{CanPay, Pays, pays-list, pays-run, pays-steal, unleft, unwalked}
+use Rattle.runs_laws.proofs.SpendingRuns.Pays.{spends, walks}
+use Rattle.runs_laws.proofs.PayingTicks.{pays-tick}
+use Rattle.runs_laws.proofs.Reached.{Reached, can-pay, good-here, reached-step, used-here}
+
+-- the end of a call takes no more
+
+fewer-settled : (v : Op → ℕ) (s : Machine) (p : ℕ) (w : World) (os : List Op) (o : Option Op) → p < length s.parties →
+    top os ≡ o → weigh_all v (with_part s p (settled_by (end_of o) p w os)).parties ≤ weigh_all v (set s.parties p os)
+fewer-settled v s p w os None l e = omega arith
+fewer-settled v s p w os (Some (op.End a held)) l e = omega (
+  arith,
+  weigh_all-set v s.parties p os l,
+  weigh_all-set v s.parties p (below_top os) l,
+  ap (weigh v) (topped os (op.End a held) e),
+  weigh-append v (below_top os) (op.End a held ∷ []),
+)
+fewer-settled v s p w os (Some _) l e = omega arith
+
+kept-settled : (p : ℕ) (w : World) (os : List Op) (o : Option Op) →
+    steps_kept (settled_by (end_of o) p w os).world ≡ steps_kept w
+kept-settled p w os None = refl
+kept-settled p w os (Some (op.End a held)) = kept-log w (event.CallEnded p a)
+kept-settled p w os (Some _) = refl
+
+own-settled : (p : ℕ) (w : World) (os : List Op) (o : Option Op) →
+    (settled_by (end_of o) p w os).world.own ≡ w.own
+own-settled p w os None = refl
+own-settled p w os (Some (op.End a held)) = refl
+own-settled p w os (Some _) = refl
+
+listed-settled : (p : ℕ) (w : World) (os : List Op) (o : Option Op) →
+    (settled_by (end_of o) p w os).world.listed ≡ w.listed
+listed-settled p w os None = refl
+listed-settled p w os (Some (op.End a held)) = refl
+listed-settled p w os (Some _) = refl
+
+-- a number that is a product and a rest gets lower
+
+lower-by : (a b c d q r : ℕ) → b + 1 ≤ a → d ≤ c → r < q + c → b * d + r < a * c + q
+lower-by a b c d q r h i j = omega (
+  arith,
+  j,
+  mul-le b d b c (omega arith) i,
+  mul-le (b + 1) c a c h (omega arith),
+  add-mul b 1 c,
+  (let one : 1 * c ≡ c = omega arith in one),
+)
+
+same-by : (a b c d q r : ℕ) → b ≤ a → d ≤ c → r < q → b * d + r < a * c + q
+same-by a b c d q r h i j = omega (arith, j, mul-le b d a c h i)
+
+module _ (s : Machine) (p : ℕ) (o : Op) (d : Done) (l : p < length s.parties) (e : top (stack s p) ≡ Some o)
+    (b : Beside s.world o d) (once : (r : ℕ) → IsUsedOnce s r) where
+  abbrev os : List Op
+  os = below_top (stack s p) ++ reverse d.next
+
+  abbrev others : List (List Op)
+  others = set s.parties p (below_top (stack s p))
+
+  abbrev now : Machine
+  now = with_part s p (settled_by (end_of (top os)) p d.world os)
+
+  before : (v : Op → ℕ) → weigh_all v s.parties ≡ v o + weigh_all v others
+  before v = omega (arith, split v s.parties p (o ∷ []) (below_top (stack s p)) l (topped _ o e))
+
+  behind : (v : Op → ℕ) → weigh_all v now.parties ≤ weigh v d.next + weigh_all v others
+  behind v = omega (
+    arith,
+    fewer-settled v s p d.world os _ l refl,
+    weigh_all-push v s.parties p (below_top (stack s p)) d.next l,
+  )
+
+  fewer-queues : queues_of now ≤ queues_of s
+  fewer-queues = omega (
+    arith,
+    b.queues,
+    before registers_of,
+    behind registers_of,
+    ap (λ (xs : List ℕ). length xs) (listed-settled p d.world os (top os)),
+  )
+
+  fewer-left : weigh_all (left_by now.world) now.parties
+      ≤ weigh (left_by d.world) d.next + weigh_all (left_by s.world) others
+  fewer-left = omega (
+    arith,
+    left-all d.world now.world now.parties
+        (λ r n. omega (
+          arith,
+          ap (λ (qs : List (List ℕ)). length (get_or qs r [])) (own-settled p d.world os (top os)),
+        )),
+    behind (left_by d.world),
+    left-others s.world o d others b (λ r. omega (arith, once r, before (running_of r))),
+  )
+
+  less-onto : Pays s.world o d → remaining now < remaining s
+  less-onto (spends h k) = lower-by (steps_left s) (steps_left now) (1100 * (queues_of s + 1))
+      (1100 * (queues_of now + 1)) (weigh_all walk_of s.parties) (weigh_all walk_of now.parties)
+      (omega (
+        arith,
+        h,
+        kept-settled p d.world os (top os),
+        before steps_of,
+        behind steps_of,
+        before (left_by s.world),
+        fewer-left,
+      ))
+      (omega (arith, fewer-queues))
+      (omega (arith, k, before walk_of, behind walk_of))
+  less-onto (walks h k) = same-by (steps_left s) (steps_left now) (1100 * (queues_of s + 1))
+      (1100 * (queues_of now + 1)) (weigh_all walk_of s.parties) (weigh_all walk_of now.parties)
+      (omega (
+        arith,
+        h,
+        kept-settled p d.world os (top os),
+        before steps_of,
+        behind steps_of,
+        before (left_by s.world),
+        fewer-left,
+      ))
+      (omega (arith, fewer-queues))
+      (omega (arith, k, before walk_of, behind walk_of))
+
+pub goes : (w : World) (o : Op) → go_refusal w (Some o) ≡ None → waits o ≡ false
+goes w o k = by (waits o) _ k
+  where
+    by : (b : Bool) (r : Option StepError) → unless (not b) WrongAnswer r ≡ None → b ≡ false
+    by true r q = absurd (cc)
+    by false r q = refl
+
+pub answers : (o : Op) (e : UserEnd) → answer_refusal (Some o) e ≡ None → accepts o e ≡ true
+answers o e k = by (accepts o e) k
+  where
+    by : (b : Bool) → unless b WrongAnswer None ≡ None → b ≡ true
+    by true q = refl
+    by false q = absurd (cc)
+
+-- a task that a run or a closing call settles last of all is over
+settled-over : (s : Machine) (p f : ℕ) (o : Op) → p < length s.parties → top (stack s p) ≡ Some o → Good s →
+    1 ≤ closing_of f o + settling_of f o → is_over (task s.world f) ≡ true
+settled-over s p f o l e good k =
+    let t : stack s p ≡ below_top (stack s p) ++ o ∷ [] = topped (stack s p) o e in
+    ⊎_elim
+    (λ (x : (task s.world f).closed ≡ true). over-closed (task s.world f).completed (task s.world f).closed x)
+    (λ (x : (task s.world f).completed ≡ true). ap (λ (b : Bool). b || (task s.world f).closed) x)
+    ((good.sound f).ends (omega (
+      arith,
+      k,
+      split (closing_of f) s.parties p (o ∷ []) (below_top (stack s p)) l t,
+      split (settling_of f) s.parties p (o ∷ []) (below_top (stack s p)) l t,
+    )))
+  where
+    over-closed : (c x : Bool) → x ≡ true → (c || x) ≡ true
+    over-closed true x e = refl
+    over-closed false x e = e
+
+settles : (s : Machine) (p : ℕ) (o : Op) → p < length s.parties → top (stack s p) ≡ Some o → Good s → Settles s.world o
+settles s p (op.Move move.SettleClosed f) l e good =
+    settled-over s p f (op.Move move.SettleClosed f) l e good (grind (arith, same_is))
+settles s p (op.Move move.EndClosed f) l e good =
+    settled-over s p f (op.Move move.EndClosed f) l e good (grind (arith, same_is))
+settles s p _ l e good = tt
+
+-- what speaks of no run pays a step, and begins no walk
+pays-apart : (p : ℕ) (h : Hint) (o : Op) (w : World) → is_run o ≡ false → waits o ≡ false → Needs w o → Settles w o →
+    Pays w o (act p h o w)
+pays-apart p h o w r n l k =
+    let d : Done = act p h o w in
+    let x = apart-act p h o w r in
+    spends (omega (arith, spends-act p h o w n r l k, unseen (left_by d.world) (unleft d.world) d.next x.runs))
+    (omega (arith, unseen walk_of unwalked d.next x.runs))
+
+pays-by : (p : ℕ) (h : Hint) (o : Op) (w : World) (b : Bool) → is_run o ≡ b → waits o ≡ false → Needs w o →
+    Settles w o → CanPay w o → Pays w o (act p h o w)
+pays-by p h o w false r n l k c = pays-apart p h o w r n l k
+pays-by p h (op.Tick o) w true r n l k c = pays-tick h o w l c
+pays-by p h (op.List o) w true r n l k c = pays-list h o w c
+pays-by p h (op.Steal o) w true r n l k c = pays-steal p o w c
+pays-by p h (op.Run o) w true r n l k c = pays-run p h o w l c
+pays-by p h (op.User (user_op.PollOwn x)) w true r n l k c = absurd (cc)
+pays-by p h _ w true r n l k c = absurd (cc)
+
+pays-react : (p : ℕ) (o : Op) (u : UserEnd) (w : World) → accepts o u ≡ true → Pays w o (react p o u w)
+pays-react p (op.User (user_op.Poll f)) (end.Polled answer.Pending) w a =
+    spends (omega (arith, spends-react p (op.User (user_op.Poll f)) (end.Polled answer.Pending) w a)) (omega arith)
+pays-react p (op.User (user_op.Poll f)) (end.Polled answer.Ready) w a =
+    spends (omega (arith, spends-react p (op.User (user_op.Poll f)) (end.Polled answer.Ready) w a)) (omega arith)
+pays-react p (op.User (user_op.Drop f)) end.Done w a = spends (omega arith) (omega arith)
+pays-react p (op.User (user_op.DropOutput f)) end.Done w a = spends (omega arith) (omega arith)
+pays-react p (op.User (user_op.CallOutside x)) end.Done w a = spends (omega arith) (omega arith)
+pays-react p (op.User (user_op.PollOwn x)) (end.Polled answer.Pending) w a = spends (omega arith) (omega arith)
+pays-react p (op.User (user_op.PollOwn x)) (end.Polled answer.Ready) w a = spends (omega arith) (omega arith)
+pays-react p (op.User (user_op.DropOwn r)) end.Done w a = spends (omega arith) (omega arith)
+pays-react p _ _ w a = absurd (cc)
+
+less-go : (s : Machine) (p : ℕ) (h : Hint) (o : Option Op) → Reached s → p < length s.parties → top (stack s p) ≡ o →
+    go_refusal s.world o ≡ None →
+    remaining (with_part s p (gone_on p s.world (stack s p) o (λ x. act p h x s.world))) < remaining s
+less-go s p h None i l e k = absurd (cc)
+less-go s p h (Some o) i l e k =
+    let good : Good s = good-here s i in
+    less-onto s p o (act p h o s.world) l e (beside-act p h o s.world) (used-here s i)
+    (pays-by p h o s.world (is_run o) refl (goes s.world o k) (needs s p o l e good) (settles s p o l e good)
+    (can-pay s p o l e i))
+
+less-answer : (s : Machine) (p : ℕ) (u : UserEnd) (o : Option Op) → Reached s → p < length s.parties →
+    top (stack s p) ≡ o →
+    answer_refusal o u ≡ None → remaining (with_part s p (gone_on p s.world (stack s p) o (λ x. react p x u s.world)))
+    < remaining s
+less-answer s p u None i l e k = absurd (cc)
+less-answer s p u (Some o) i l e k =
+    less-onto s p o (react p o u s.world) l e (beside-react p o u s.world (answers o u k)) (used-here s i)
+    (pays-react p o u s.world (answers o u k))
+
+there : (b : Bool) (r : Option StepError) → unless b NoSuch r ≡ None → (b ≡ true) × (r ≡ None)
+there true r e = (refl, e)
+there false r e = absurd (cc)
+
+pub lowers : (s : Machine) → Reached s → (t : Step) → LowersRemaining s t
+lowers s i (Begin p c) o k = absurd (cc)
+lowers s i (Go p h) o k =
+    let x : _ = there (ltb p (length s.parties)) (go_refusal s.world (top (stack s p))) k in
+    less-go s p h _ i (grind (arith, nat_tests)) refl x.1
+lowers s i (Answer p u) o k =
+    let x : _ = there (ltb p (length s.parties)) (answer_refusal (top (stack s p)) u) k in
+    less-answer s p u _ i (grind (arith, nat_tests)) refl x.1
+
+both : (a b : Bool) → (a && b) ≡ true → (a ≡ true) × (b ≡ true)
+both true b e = (refl, e)
+both false b e = absurd (cc)
+
+ends-by : (r : Option StepError) (s : Machine) (t : Step) (ts : List Step) (new : Machine) → Reached s →
+    refusal s t ≡ r →
+    are_onward (t ∷ ts) ≡ true →
+    ◌≡◌ {A = Result Machine StepError} (elim (step_by r s t) [ Ok next ↦ run_all ts next | Err error ↦ Err error ])
+    (Ok new) →
+    ((next : Machine) → Reached next → EndsWithin next ts) → length (t ∷ ts) ≤ remaining s
+ends-by (Some error) s t ts new r k o q more = absurd (cc)
+ends-by None s t ts new r k o q more = omega (
+  arith,
+  lowers s r t (both (is_onward t) (are_onward ts) o).0 k,
+  more (after s t) (reached-step s t k r) new (both (is_onward t) (are_onward ts) o).1 q,
+)
+
+pub ends : (ts : List Step) (s : Machine) → Reached s → EndsWithin s ts
+unfolding step
+ends [] s r new o e = omega arith
+ends (t ∷ ts) s r new o e = ends-by (refusal s t) s t ts new r refl o e (λ next i. ends ts next i)
+
+-- of each machine that steps of a new one lead to
+
+here : (limit parties : ℕ) (steps : List Step) → Reached (run steps (start limit parties))
+here limit parties steps = record { limit = limit; parties = parties; steps = steps; is = refl }
+
+pub every-step-lowers : (limit parties : ℕ) (steps : List Step) → EachStepLowers (run steps (start limit parties))
+every-step-lowers limit parties steps t =
+    lowers (run steps (start limit parties)) (here limit parties steps) t
+
+pub every-list-ends : (limit parties : ℕ) (steps : List Step) → EachListEnds (run steps (start limit parties))
+every-list-ends limit parties steps ts = ends ts (run steps (start limit parties)) (here limit parties steps)

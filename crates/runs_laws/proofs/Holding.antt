@@ -1,0 +1,391 @@
+-- Whoever has the lock of the list of queues has what it does under it, or its giving back, next to do.
+use Rattle.std.proofs.Common.{◌≡◌, ◌∙◌, ℕ, zero, suc, ◌+◌, ◌-◌, ◌<◌, ◌≤◌, ◌%◌, List, [], ◌∷◌, ◌++◌, length, set, drop}
+use Rattle.std.proofs.Common.{get_or, take, Bool, true, false, ltb, refl, sym, ap, subst, arith}
+use Rattle.std.proofs.lemmas.List.{append_assoc, reverse-append}
+use Rattle.std.specs.Prelude.{Option, Some, None, reverse, slice_get}
+use Rattle.runs_model.specs.declared.call.Call.{Call}
+use Rattle.runs_model.specs.declared.call.Reply.{Reply}
+use Rattle.runs_model.specs.declared.call.Reply.TheVariants as reply
+use Rattle.runs_model.specs.declared.event.Event.TheVariants as event
+use Rattle.runs_model.specs.declared.op.Hold.{Hold}
+use Rattle.runs_model.specs.declared.op.Hold.TheVariants as hold
+use Rattle.runs_model.specs.declared.op.ListOp.{ListOp}
+use Rattle.runs_model.specs.declared.op.ListOp.TheVariants as list_op
+use Rattle.runs_model.specs.declared.op.Op.{Op}
+use Rattle.runs_model.specs.declared.op.Op.TheVariants as op
+use Rattle.runs_model.specs.declared.op.Polled.TheVariants as of
+use Rattle.runs_model.specs.declared.op.RunOp.{RunOp}
+use Rattle.runs_model.specs.declared.op.RunOp.TheVariants as run_op
+use Rattle.runs_model.specs.declared.op.RunPoll.{RunPoll}
+use Rattle.runs_model.specs.declared.op.Section.TheVariants as section
+use Rattle.runs_model.specs.declared.op.Sleeper.{Sleeper}
+use Rattle.runs_model.specs.declared.op.Sleeper.TheVariants as sleeper
+use Rattle.runs_model.specs.declared.op.Sleeping.{Sleeping}
+use Rattle.runs_model.specs.declared.op.Steal.{Steal}
+use Rattle.runs_model.specs.declared.op.StealOp.{StealOp}
+use Rattle.runs_model.specs.declared.op.StealOp.TheVariants as steal_op
+use Rattle.runs_model.specs.declared.op.Then.{Then}
+use Rattle.runs_model.specs.declared.op.Then.TheVariants as then
+use Rattle.runs_model.specs.declared.op.TickOp.{TickOp}
+use Rattle.runs_model.specs.declared.op.TickOp.TheVariants as tick_op
+use Rattle.runs_model.specs.declared.op.UserOp.TheVariants as user_op
+use Rattle.runs_model.specs.declared.op.Waker.{Waker}
+use Rattle.runs_model.specs.declared.step.Hint.{Hint}
+use Rattle.runs_model.specs.declared.step.Step.{Step}
+use Rattle.runs_model.specs.declared.step.StepError.{StepError}
+use Rattle.runs_model.specs.declared.step.StepError.TheVariants.{Busy}
+use Rattle.runs_model.specs.declared.step.UserEnd.{UserEnd}
+use Rattle.runs_model.specs.ActsOfRuns as runs
+use Rattle.runs_model.specs.Doing.{act, list_act, run_act, search_by_who, steal_act, tick_act}
+use Rattle.runs_model.specs.Good.{Good}
+use Rattle.runs_model.specs.OwnQueues.{filling_of, reads_of, writes_of}
+use Rattle.runs_model.specs.Steps.{Machine, accepts, begun, below_top, is_free, mine, react, run, stack, start, top}
+use Rattle.runs_model.specs.Steps.{unless, waits}
+use Rattle.runs_model.specs.Weights.{weigh, weigh_all}
+use Rattle.runs_model.specs.World.{World, Done, done, log, place_of, put_own}
+use Rattle.runs_model.proofs.Lift.{good-start, split, topped, unsettled, weigh_all-idle}
+use Rattle.runs_model.proofs.Lists.{weigh-append, weigh-reverse}
+use Rattle.runs_model.proofs.OwnCounts.{counts-begun, counts-react, counts-reads, counts-writes}
+use Rattle.runs_model.proofs.OwnRooms.{Roomy, roomy-ends, roomy-moves}
+use Rattle.runs_model.proofs.RunsAside.{apart-act, is_run, runs_of, unseen}
+use Rattle.runs_model.proofs.RunsMoving.{Weighs, is_search, lying-blind, walk-by, weighs-found}
+use Rattle.runs_model.proofs.RunsMoving.{weighs-stolen}
+use Rattle.runs_model.proofs.SleepersNext.{Blind, search-blind}
+use Rattle.runs_model.proofs.Spawning.{top-last}
+use Rattle.runs_model.proofs.UsingSteps.{AllUsed, used-ends, used-moves, used-start}
+use Rattle.runs_model.proofs.Ways.{Way, acted, reacted, called, along}
+use Rattle.runs_laws.specs.GoingOn.{held_of}
+use Rattle.runs_laws.proofs.Beside.{by_reference}
+use Rattle.runs_laws.proofs.Reached.{Reached, has-free}
+
+-- nothing that is done under the lock, or gives it back, follows later than next
+abbrev FirstHolds : List Op → Type 0
+FirstHolds next = weigh held_of (drop 1 next) ≡ 0
+
+none-held : (next : List Op) → weigh held_of next ≡ 0 → FirstHolds next
+none-held [] z = refl
+none-held (o ∷ os) z = omega (arith, z)
+
+unheld : (o : Op) → runs_of o ≡ 0 → held_of o ≡ 0
+unheld (op.List o) z = absurd (omega (arith, z))
+unheld (op.Steal o) z = absurd (omega (arith, z))
+unheld (op.Run o) z = absurd (omega (arith, z))
+unheld _ z = refl
+
+blind-held : Blind held_of
+blind-held = record {
+  tick = λ o. refl;
+  exchange = refl;
+  call = λ s. refl;
+  release = λ f. refl;
+  end = λ a who. refl;
+  made = λ a. refl;
+}
+
+found-held : (x : RunPoll) → Weighs held_of x 0 1
+found-held x = record {
+  exchange = refl;
+  up = λ who. refl;
+  take_up = λ f. refl;
+  search = refl;
+  wake = refl;
+  steal = λ f. refl;
+  look = λ at left. refl;
+}
+
+found-none : (w : World) (x : RunPoll) (f : ℕ) → weigh held_of (runs.found w x f).next ≡ 0
+found-none w x f = weighs-found held_of x 0 1 (found-held x) w f
+
+first-stolen : (t : Then) (w : World) (x : RunPoll) → FirstHolds (runs.stolen t w x).next
+first-stolen (then.Found f) w x = none-held (runs.found w x f).next (found-none w x f)
+first-stolen (then.Run f) w x =
+    none-held (runs.stolen (then.Run f) w x).next (weighs-stolen held_of x 0 1 (found-held x) (then.Run f) w)
+first-stolen (then.Walk at left) w x = refl
+
+first-length : (n : ℕ) (w : World) (s : Steal) → FirstHolds (runs.steal_length_by n w s).next
+first-length zero w s = first-stolen s.then w s.poll
+first-length (suc n) w s = refl
+
+first-more : (n : ℕ) (w : World) (s : Steal) → FirstHolds (runs.steal_by n w s).next
+first-more zero w s = first-stolen s.then w s.poll
+first-more (suc n) w s = refl
+
+first-take : (q : List ℕ) (w : World) (s : Steal) (more : ℕ) → FirstHolds (runs.steal_take_by q w s more).next
+first-take [] w s more = first-stolen s.then w s.poll
+first-take (f ∷ rest) w s more = refl
+
+first-put : (b : Bool) (p : ℕ) (w : World) (s : Steal) (more f : ℕ) → b ≡ true →
+    FirstHolds (runs.steal_put_by b p w s more f).next
+first-put true p w s more f e = first-more more (runs.kept_by p w s.poll.run f) s
+first-put false p w s more f e = absurd (cc)
+
+-- a steal that is on its way finds a place
+abbrev HasFree : World → Op → Type 0
+HasFree w o = (x : Steal) (more f : ℕ) → o ≡ op.Steal (steal_op.Put x more f) →
+    ltb 0 (runs.free_places w x.poll.run) ≡ true
+
+first-steal : (p : ℕ) (o : StealOp) (w : World) → HasFree w (op.Steal o) → FirstHolds (steal_act p o w).next
+first-steal p (steal_op.Length s) w k = first-length _ w s
+first-steal p (steal_op.OwnLength s n) w k = first-more _ w s
+first-steal p (steal_op.Take s more) w k = first-take _ w s more
+first-steal p (steal_op.Put s more f) w k = first-put _ p w s more f (k s more f refl)
+
+first-own : (q : List ℕ) (w : World) (x : RunPoll) → FirstHolds (runs.search_own_by q w x).next
+first-own [] w x = refl
+first-own (f ∷ rest) w x = let v : World = put_own w x.run rest in
+    none-held (runs.found v x f).next (found-none v x f)
+
+first-search : (who : Sleeper) (w : World) (s : Sleeping) → FirstHolds (search_by_who who w s).next
+first-search (sleeper.Tick t) w s =
+    none-held (search_by_who (sleeper.Tick t) w s).next
+    (search-blind held_of blind-held (λ f. refl) (place_of w s.who) w w.queue.items s)
+first-search (sleeper.Run r) w s = first-own _ w _
+
+first-tick : (h : Hint) (o : TickOp) (w : World) (b : Bool) → is_search o ≡ b → FirstHolds (tick_act h o w).next
+first-tick h o w false e = none-held (tick_act h o w).next (lying-blind held_of blind-held h o w e)
+first-tick h (tick_op.Search s) w true e = first-search s.who w s
+first-tick h _ w true e = absurd (cc)
+
+first-walk : (x : RunPoll) (qs : List ℕ) (at left : ℕ) → FirstHolds (runs.walk x qs at left)
+first-walk x = walk-by FirstHolds x refl (λ r at left. refl)
+
+first-look : (q : List ℕ) (w : World) (x : RunPoll) (at left : ℕ) → FirstHolds (runs.look_own_by q w x at left).next
+first-look [] w x at left = first-walk x w.listed at left
+first-look (f ∷ rest) w x at left = found-none (put_own w x.run rest) x f
+
+first-common : (q : List ℕ) (w : World) (x : RunPoll) → FirstHolds (runs.search_common_by q w x).next
+first-common [] w x = refl
+first-common (f ∷ rest) w x = refl
+
+first-made : (b : Bool) (w : World) → FirstHolds (runs.make_run_by b w).next
+first-made true w = refl
+first-made false w = refl
+
+first-list : (h : Hint) (o : ListOp) (w : World) → FirstHolds (list_act h o w).next
+first-list h (list_op.LockWrite s) w = refl
+first-list h (list_op.Write section.MakeRun) w = first-made _ w
+first-list h (list_op.Write (section.Register x)) w = refl
+first-list h (list_op.Write (section.Unregister r a)) w = refl
+first-list h list_op.UnlockWrite w = refl
+first-list h (list_op.LockRead x) w = first-walk x w.listed (h.start % length w.listed) (length w.listed)
+first-list h list_op.UnlockRead w = refl
+
+first-wake : (p : ℕ) (w : World) (x : RunPoll) → FirstHolds (runs.wake_own p w x).next
+first-wake p w x =
+    let v : World = log w (event.WakerCalled p (of.Run x.run) x.poll x.waker) in
+    let next : List Op = (runs.call_by_reference p v x.waker).next in
+    none-held (runs.wake_own p w x).next (omega (
+      arith,
+      weigh-append held_of next (op.End reply.Pending (hold.Run x.run) ∷ []),
+      unseen held_of unheld next (by_reference p v x.waker).1,
+    ))
+
+first-reschedule : (q : List ℕ) (w : World) (r : ℕ) (a : Reply) → FirstHolds (runs.reschedule_by q w r a).next
+first-reschedule [] w r a = refl
+first-reschedule (f ∷ rest) w r a = refl
+
+first-room : (b : Bool) (w : World) → FirstHolds (runs.make_room_by b w).next
+first-room true w = refl
+first-room false w = refl
+
+first-run : (p : ℕ) (h : Hint) (o : RunOp) (w : World) → FirstHolds (run_act p h o w).next
+first-run p h run_op.MakeRoom w = first-room _ w
+first-run p h run_op.ReturnRoom w = refl
+first-run p h (run_op.SearchCommon x) w = first-common _ w x
+first-run p h (run_op.LookOwn x at left) w = first-look _ w x at left
+first-run p h (run_op.WakeOwn x) w = first-wake p w x
+first-run p h (run_op.Reschedule r a) w = first-reschedule _ w r a
+
+first-act : (p : ℕ) (h : Hint) (o : Op) (w : World) (b : Bool) → is_run o ≡ b → HasFree w o →
+    FirstHolds (act p h o w).next
+first-act p h o w false e k =
+    none-held (act p h o w).next (unseen held_of unheld (act p h o w).next (apart-act p h o w e).runs)
+first-act p h (op.Tick o) w true e k = first-tick h o w _ refl
+first-act p h (op.List o) w true e k = first-list h o w
+first-act p h (op.Steal o) w true e k = first-steal p o w k
+first-act p h (op.Run o) w true e k = first-run p h o w
+first-act p h (op.User (user_op.PollOwn x)) w true e k = refl
+first-act p h _ w true e k = absurd (cc)
+
+counted-none : (os : List Op) → weigh writes_of os ≡ 0 → weigh reads_of os ≡ 0 → weigh held_of os ≡ 0
+counted-none [] a b = refl
+counted-none (o ∷ os) a b = omega (arith, a, b, counted-none os (omega (arith, a)) (omega (arith, b)))
+
+first-react : (p : ℕ) (o : Op) (u : UserEnd) (w : World) → accepts o u ≡ true → FirstHolds (react p o u w).next
+first-react p o u w a =
+    let z = (counts-react 0 p o u w a).counts in
+    let next : List Op = (react p o u w).next in
+    none-held next (counted-none next (counts-writes 0 next z) (counts-reads 0 next z))
+
+first-begun : (p : ℕ) (w : World) (here : Option Waker) (c : Call) →
+    FirstHolds (begun p (log w (event.CallBegun p c)) here c).next
+first-begun p w here c =
+    let z = (counts-begun 0 p w here c).counts in
+    let next : List Op = (begun p (log w (event.CallBegun p c)) here c).next in
+    none-held next (counted-none next (counts-writes 0 next z) (counts-reads 0 next z))
+
+-- what stands below the tops of all stacks
+
+abbrev pub weigh_below : (Op → ℕ) → List (List Op) → ℕ
+weigh_below v [] = 0
+weigh_below v (s ∷ ss) = weigh v (below_top s) + weigh_below v ss
+
+below-set : (v : Op → ℕ) (ss : List (List Op)) (p : ℕ) (y : List Op) → p < length ss →
+    weigh_below v (set ss p y) + weigh v (below_top (get_or ss p [])) ≡ weigh_below v ss + weigh v (below_top y)
+below-set v [] p y h = absurd (omega (arith, h))
+below-set v (s ∷ ss) zero y h = omega arith
+below-set v (s ∷ ss) (suc p) y h = omega (arith, below-set v ss p y (omega (arith, h)))
+
+take-less : (v : Op → ℕ) (n : ℕ) (os : List Op) → weigh v (take n os) ≤ weigh v os
+take-less v zero os = omega arith
+take-less v (suc n) [] = omega arith
+take-less v (suc n) (o ∷ os) = omega (arith, take-less v n os)
+
+below-last : (v : Op → ℕ) (os : List Op) (o : Op) → weigh v (below_top (os ++ o ∷ [])) ≡ weigh v os
+below-last v os o = omega (
+  arith,
+  ap (weigh v) (topped (os ++ o ∷ []) o (top-last os o)),
+  weigh-append v (below_top (os ++ o ∷ [])) (o ∷ []),
+  weigh-append v os (o ∷ []),
+)
+
+below-push : (rest next : List Op) → weigh held_of rest ≡ 0 → FirstHolds next →
+    weigh held_of (below_top (rest ++ reverse next)) ≡ 0
+below-push rest [] z k = omega (
+  arith,
+  z,
+  take-less held_of (length (rest ++ []) - 1) (rest ++ []),
+  weigh-append held_of rest [],
+)
+below-push rest (o ∷ os) z k =
+    let parts : rest ++ reverse (o ∷ os) ≡ (rest ++ reverse os) ++ o ∷ [] =
+    ap (λ (xs : List Op). rest ++ xs) (reverse-append (o ∷ []) os) ∙ sym (append_assoc rest (reverse os) (o ∷ [])) in
+    omega (
+      arith,
+      z,
+      k,
+      ap (λ (xs : List Op). weigh held_of (below_top xs)) parts,
+      below-last held_of (rest ++ reverse os) o,
+      weigh-append held_of rest (reverse os),
+      weigh-reverse held_of os,
+    )
+
+-- in each run
+
+record OnTop (s : Machine) : Type 0 where
+  used : AllUsed s
+  roomy : Roomy s
+  below : weigh_below held_of s.parties ≡ 0
+
+-- where a party goes on
+on-moved : (s : Machine) (p : ℕ) (rest : List Op) (d : Done) → p < length s.parties →
+    weigh held_of rest ≡ 0 → FirstHolds d.next → weigh_below held_of s.parties ≡ 0 →
+    weigh_below held_of (unsettled s p rest d).parties ≡ 0
+on-moved s p rest d l z k b = omega (
+  arith,
+  b,
+  below-set held_of s.parties p (rest ++ reverse d.next) l,
+  below-push rest d.next z k,
+)
+
+below-here : (s : Machine) (p : ℕ) → p < length s.parties → weigh_below held_of s.parties ≡ 0 →
+    weigh held_of (below_top (stack s p)) ≡ 0
+below-here s p l b = omega (arith, b, below-set held_of s.parties p [] l)
+
+-- one thing is done on top of the rest, which has none
+rest-none : (s : Machine) (p : ℕ) (o : Op) (rest : List Op) → p < length s.parties →
+    stack s p ≡ rest ++ reverse (o ∷ []) → weigh_below held_of s.parties ≡ 0 → weigh held_of rest ≡ 0
+rest-none s p o rest l e b = omega (
+  arith,
+  below-here s p l b,
+  ap (λ (xs : List Op). weigh held_of (below_top xs)) e,
+  below-last held_of rest o,
+)
+
+first-true : (a : Bool) (r : Option StepError) → unless a Busy r ≡ None → a ≡ true
+first-true true r k = refl
+first-true false r k = absurd (cc)
+
+waiting-none : (o : Op) → waits o ≡ true → held_of o ≡ 0
+waiting-none (op.User o) e = refl
+waiting-none _ e = absurd (cc)
+
+within : (os : List Op) (n : ℕ) → n < length os → slice_get os n ≡ None → ⊥
+within [] n l e = absurd (omega (arith, l))
+within (x ∷ xs) zero l e = absurd (cc)
+within (x ∷ xs) (suc n) l e = within xs n (omega (arith, l)) e
+
+pub has-top : (x : Op) (xs : List Op) → top (x ∷ xs) ≡ None → ⊥
+has-top x xs e = within (x ∷ xs) (length (x ∷ xs) - 1) (omega arith) e
+
+-- whoever may begin a call has not the lock
+free-none : (os : List Op) (o : Option Op) → top os ≡ o → is_free o ≡ true → weigh held_of (below_top os) ≡ 0 →
+    weigh held_of os ≡ 0
+free-none [] o e f z = refl
+free-none (x ∷ xs) None e f z = absurd (has-top x xs e)
+free-none (x ∷ xs) (Some o) e f z = omega (
+  arith,
+  z,
+  ap (weigh held_of) (topped (x ∷ xs) o e),
+  weigh-append held_of (below_top (x ∷ xs)) (o ∷ []),
+  waiting-none o f,
+)
+
+free-here : (s : Machine) (o : Op) → ((r : ℕ) → filling_of r o ≤ weigh_all (filling_of r) s.parties) → Roomy s →
+    HasFree s.world o
+free-here s o k h x more f i =
+    has-free s x more f (h x.poll.run) (omega (arith, k x.poll.run, ap (filling_of x.poll.run) i))
+
+top-moves : (s : Machine) (p : ℕ) (old rest : List Op) (d : Done) → p < length s.parties →
+    stack s p ≡ rest ++ reverse old → Way s p old rest d → OnTop s →
+    weigh_below held_of (unsettled s p rest d).parties ≡ 0
+top-moves s p old rest d l e (acted h o q z) k =
+    let e2 : stack s p ≡ rest ++ reverse (o ∷ []) = subst (λ (os : List Op). stack s p ≡ rest ++ reverse os) q e in
+    let free : HasFree s.world o =
+    free-here s o (λ r. omega (arith, split (filling_of r) s.parties p (o ∷ []) rest l e2)) k.roomy in
+    rw z (on-moved s p rest (act p h o s.world) l (rest-none s p o rest l e2 k.below)
+    (first-act p h o s.world (is_run o) refl free) k.below)
+top-moves s p old rest d l e (reacted o u a q z) k =
+    let e2 : stack s p ≡ rest ++ reverse (o ∷ []) = subst (λ (os : List Op). stack s p ≡ rest ++ reverse os) q e in
+    rw z (on-moved s p rest (react p o u s.world) l (rest-none s p o rest l e2 k.below)
+    (first-react p o u s.world a) k.below)
+top-moves s p old rest d l e (called c q t n z) k =
+    let here = mine (top (stack s p)) in
+    let free : is_free (top (stack s p)) ≡ true = first-true (is_free (top (stack s p))) _ n in
+    rw z (on-moved s p rest (begun p (log s.world (event.CallBegun p c)) here c) l
+    (ap (weigh held_of) t ∙ free-none (stack s p) _ refl free (below-here s p l k.below))
+    (first-begun p s.world here c) k.below)
+
+on-moves : (s : Machine) (p : ℕ) (old rest : List Op) (d : Done) → Good s → p < length s.parties →
+    stack s p ≡ rest ++ reverse old → Way s p old rest d → OnTop s → OnTop (unsettled s p rest d)
+on-moves s p old rest d good l e way k = record {
+  used = used-moves s p old rest d good l e way k.used;
+  roomy = roomy-moves s p old rest d l e way (λ r. (k.used r).once) k.roomy;
+  below = top-moves s p old rest d l e way k;
+}
+
+on-ends : (s : Machine) (p : ℕ) (a : Reply) (held : Hold) (below : List Op) → p < length s.parties →
+    stack s p ≡ below ++ reverse (op.End a held ∷ []) → OnTop s →
+    OnTop (unsettled s p below (done (log s.world (event.CallEnded p a)) []))
+on-ends s p a held below l e k = record {
+  used = used-ends s p a held below l e k.used;
+  roomy = roomy-ends s p a held below l e k.roomy;
+  below = on-moved s p below (done (log s.world (event.CallEnded p a)) []) l
+      (rest-none s p (op.End a held) below l e k.below) refl k.below;
+}
+
+below-idle : (v : Op → ℕ) (n : ℕ) → weigh_below v (start 0 n).parties ≡ 0
+below-idle v zero = refl
+below-idle v (suc n) = omega (arith, below-idle v n)
+
+on-top : (limit n : ℕ) (ts : List Step) → OnTop (run ts (start limit n))
+on-top limit n ts = along OnTop on-moves on-ends ts (start limit n) (good-start limit n) (record {
+  used = used-start limit n;
+  roomy = λ r. omega (arith, weigh_all-idle (filling_of r) n);
+  below = below-idle held_of n;
+})
+
+-- nothing of it stands below a top
+pub held-on-top : (s : Machine) → Reached s → weigh_below held_of s.parties ≡ 0
+held-on-top s r = subst (λ (m : Machine). weigh_below held_of m.parties ≡ 0) (sym r.is)
+    (on-top r.limit r.parties r.steps).below

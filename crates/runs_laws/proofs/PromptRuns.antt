@@ -1,0 +1,381 @@
+-- Whoever is answered no has done nothing since his call began, in each run.
+use Rattle.std.proofs.Common.{◌≡◌, ◌≢◌, ◌⊎◌, ℕ, ◌+◌, ◌<◌, List, [], ◌∷◌, ◌++◌, length}
+use Rattle.std.proofs.Common.{Bool, true, false, ◌||◌, ◌&&◌, not, eqb, refl, sym, ap, ◌∙◌, subst, inl}
+use Rattle.std.proofs.Common.{inr, ⊎_elim, arith, get_or-set_same, get_or-set_other}
+use Rattle.std.proofs.lemmas.Bool.Decides.{nat_tests}
+use Rattle.std.proofs.lemmas.List.{append_cancel_right}
+use Rattle.std.specs.Prelude.{Option, Some, None, reverse}
+use Rattle.runs_model.specs.declared.call.Call.{Call}
+use Rattle.runs_model.specs.declared.call.Call.TheVariants as call
+use Rattle.runs_model.specs.declared.call.Reply.{Reply}
+use Rattle.runs_model.specs.declared.call.Reply.TheVariants as reply
+use Rattle.runs_model.specs.declared.event.Answer.TheVariants as answer
+use Rattle.runs_model.specs.declared.event.Event.{Event}
+use Rattle.runs_model.specs.declared.event.Event.TheVariants as event
+use Rattle.runs_model.specs.declared.op.Hold.{Hold}
+use Rattle.runs_model.specs.declared.op.Hold.TheVariants as hold
+use Rattle.runs_model.specs.declared.op.Op.{Op}
+use Rattle.runs_model.specs.declared.op.Op.TheVariants as op
+use Rattle.task_moves.specs.declared.moves.owed.Move.TheVariants as move
+use Rattle.runs_model.specs.declared.op.QueueOp.TheVariants as queue_op
+use Rattle.runs_model.specs.declared.op.RunPoll.{RunPoll}
+use Rattle.runs_model.specs.declared.op.SleeperOp.TheVariants as sleeper_op
+use Rattle.runs_model.specs.declared.op.TableOp.TheVariants as table_op
+use Rattle.runs_model.specs.declared.op.UserOp.TheVariants as user_op
+use Rattle.runs_model.specs.declared.op.Waker.{Waker}
+use Rattle.runs_model.specs.declared.step.Hint.{Hint}
+use Rattle.runs_model.specs.declared.step.Step.{Step}
+use Rattle.runs_model.specs.declared.step.StepError.{StepError}
+use Rattle.runs_model.specs.declared.step.StepError.TheVariants.{Busy}
+use Rattle.runs_model.specs.declared.step.UserEnd.{UserEnd}
+use Rattle.runs_model.specs.declared.step.UserEnd.TheVariants as end
+use Rattle.runs_model.specs.Quiet.{begins_call}
+use Rattle.runs_model.specs.Trace.{Trace}
+use Rattle.runs_model.specs.World.{World, Stage, New, Listed, Ended, Done, done, log, run_of}
+use Rattle.runs_model.specs.Acts.{take_by, emptiness}
+use Rattle.runs_model.specs.Doing.{act}
+use Rattle.runs_model.specs.Weights.{same, weigh}
+use Rattle.runs_model.specs.Good.{Good}
+use Rattle.runs_model.specs.Steps.{Machine, stack, top, is_free, waits, future_of, mine, unless}
+use Rattle.runs_model.specs.Steps.{begun, drop_run, poll_run, react, kept, with_future, run, start}
+use Rattle.runs_model.proofs.Lift.{unsettled, good-start}
+use Rattle.runs_model.proofs.Lists.{same_cases, weigh-append, weigh-reverse}
+use Rattle.runs_model.proofs.Resting.{idle-stack}
+use Rattle.runs_model.proofs.Spawning.{top-last}
+use Rattle.runs_model.proofs.Ways.{Way, along}
+use Rattle.runs_model.proofs.Ways.Way.{acted, reacted, called}
+use Rattle.runs_laws.specs.AtOnce.{deeds, NoComesAtOnce}
+use Rattle.runs_laws.proofs.Growing.{is_end, Grows, grows-act, grows-react, grows-begun}
+use Rattle.runs_laws.proofs.Prompting.{hasty, quick_of, is_no, told, fresh, told-append, told-grows, told-log}
+use Rattle.runs_laws.proofs.Prompting.{fresh-log, deeds-other, deeds-other_log, slow-act}
+
+-- what p has to do, where it did this: nothing of it is answered no next; or what is on top may be,
+-- and p's call has begun last
+data Stands (p : ℕ) (os : List Op) (ds : Trace) : Type 0 where
+  slow : weigh hasty os ≡ 0 → Stands p os ds
+  quick : (rest : List Op) (o : Op) → os ≡ rest ++ o ∷ [] → quick_of o ≡ 1 → weigh hasty rest ≡ 0 →
+      fresh p false ds ≡ true → Stands p os ds
+
+record Prompt (p : ℕ) (os : List Op) (ds : Trace) : Type 0 where
+  pub told : told p false ds ≡ true
+  pub stands : Stands p os ds
+
+abbrev Prompts : Machine → Type 0
+Prompts s = (q : ℕ) → Prompt q (stack s q) (deeds q s.world.trace)
+
+-- what is below the top isn't answered no next, and what is on top only where p's call has begun last
+abbrev Parted : ℕ → List Op → Op → Trace → Type 0
+Parted p rest o ds = (weigh hasty rest ≡ 0) × ((hasty o ≡ 0) ⊎ ((quick_of o ≡ 1) × (fresh p false ds ≡ true)))
+
+parted : (p : ℕ) (os rest : List Op) (o : Op) (ds : Trace) → os ≡ rest ++ o ∷ [] → Stands p os ds → Parted p rest o ds
+parted p os rest o ds e (slow z) =
+    let k : weigh hasty rest + weigh hasty (o ∷ []) ≡ 0 = sym (weigh-append hasty rest (o ∷ []))
+    ∙ (sym (ap (weigh hasty) e) ∙ z) in
+    (omega (arith, k), inl (omega (arith, k)))
+parted p os rest o ds e (quick under x q i z f) =
+    let s : Some x ≡ Some o = sym (top-last under x) ∙ (ap top (sym q ∙ e) ∙ top-last rest o) in
+    let v : x ≡ o = cc in
+    let r : under ≡ rest = append_cancel_right under rest (o ∷ [])
+    (ap (λ (y : Op). under ++ y ∷ []) (sym v) ∙ (sym q ∙ e)) in
+    (sym (ap (weigh hasty) r) ∙ z, inr (ap quick_of (sym v) ∙ i, f))
+
+-- a party turns to other things
+
+turned : (s : Machine) (p : ℕ) (rest : List Op) (d : Done) → p < length s.parties →
+    ((q : ℕ) → q ≢ p → deeds q d.world.trace ≡ deeds q s.world.trace) →
+    Prompt p (rest ++ reverse d.next) (deeds p d.world.trace) →
+    Prompts s → Prompts (unsettled s p rest d)
+turned s p rest d l others own h q = ⊎_elim
+    (λ (x : (same q p ≡ 1) × (eqb q p ≡ true) × (q ≡ p)). subst
+    (λ (n : ℕ). Prompt n (stack (unsettled s p rest d) n) (deeds n d.world.trace)) (sym x.2)
+    (subst (λ (os : List Op). Prompt p os (deeds p d.world.trace))
+    (sym (get_or-set_same s.parties p (rest ++ reverse d.next) [] l)) own))
+    (λ (x : (same q p ≡ 0) × (eqb q p ≡ false) × (q ≢ p)). subst (λ (os : List Op). Prompt q os (deeds q d.world.trace))
+    (sym (get_or-set_other s.parties p q (rest ++ reverse d.next) [] x.2))
+    (subst (λ (ds : Trace). Prompt q (stack s q) ds) (sym (others q x.2)) (h q)))
+    (same_cases q p)
+
+slow-onto : (rest next : List Op) → weigh hasty rest ≡ 0 → weigh hasty next ≡ 0 → weigh hasty (rest ++ reverse next) ≡ 0
+slow-onto rest next z n = omega (arith, z, n, weigh-append hasty rest (reverse next), weigh-reverse hasty next)
+
+-- what p does goes on with nothing that is answered no next
+slowly : (p : ℕ) (w : World) (rest : List Op) (d : Done) → Grows p w d.world → weigh hasty rest ≡ 0 →
+    weigh hasty d.next ≡ 0 →
+    told p false (deeds p w.trace) ≡ true → Prompt p (rest ++ reverse d.next) (deeds p d.world.trace)
+slowly p w rest d g z n t = record { told = told-grows p w d.world g t; stands = slow (slow-onto rest d.next z n) }
+
+-- the end of a call: no, where it has begun last
+
+may-end : (b : Bool) (r : Reply) (held : Hold) → (hasty (op.End r held) ≡ 0) ⊎ (b ≡ true) → (p : ℕ) →
+    (b || not (is_no (event.CallEnded p r))) ≡ true
+may-end true r held k p = refl
+may-end false reply.No held (inl z) p = absurd (omega (arith, z))
+may-end false reply.No held (inr z) p = absurd (cc)
+may-end false _ held k p = refl
+
+fresh-if : (b : Bool) (o : Op) → (hasty o ≡ 0) ⊎ ((quick_of o ≡ 1) × (b ≡ true)) → (hasty o ≡ 0) ⊎ (b ≡ true)
+fresh-if b o (inl z) = inl z
+fresh-if b o (inr k) = inr k.1
+
+own-end : (p : ℕ) (w : World) (rest : List Op) (r : Reply) (held : Hold) →
+    Parted p rest (op.End r held) (deeds p w.trace) →
+    told p false (deeds p w.trace) ≡ true → Prompt p (rest ++ reverse []) (deeds p (log w (event.CallEnded p r)).trace)
+own-end p w rest r held x t = record {
+  told = told-log p w.trace (event.CallEnded p r) refl
+      (may-end (fresh p false (deeds p w.trace)) r held
+      (fresh-if (fresh p false (deeds p w.trace)) (op.End r held) x.1) p) t;
+  stands = slow (slow-onto rest [] x.0 refl);
+}
+
+-- one thing is done
+
+own-take : (p : ℕ) (w : World) (q : List ℕ) (os : List Op) → weigh hasty os ≡ 0 →
+    fresh p false (deeds p w.trace) ≡ true →
+    told p false (deeds p w.trace) ≡ true →
+    Prompt p (os ++ reverse (take_by w q).next) (deeds p (take_by w q).world.trace)
+own-take p w [] os z f t = record { told = t; stands = quick os (op.End reply.No hold.Executor) refl refl z f }
+own-take p w (g ∷ gs) os z f t =
+    record {
+      told = t;
+      stands = slow (slow-onto os
+          (op.Sleeper sleeper_op.ExchangeFlag ∷ op.Move move.TakeUp g ∷ op.End reply.Yes hold.Executor ∷ []) z refl);
+    }
+
+own-look : (p : ℕ) (w : World) (q : List ℕ) (os : List Op) → weigh hasty os ≡ 0 →
+    fresh p false (deeds p w.trace) ≡ true →
+    told p false (deeds p w.trace) ≡ true →
+    Prompt p (os ++ reverse (op.End (emptiness q) hold.Executor ∷ [])) (deeds p w.trace)
+own-look p w [] os z f t =
+    record { told = t; stands = slow (slow-onto os (op.End reply.Yes hold.Executor ∷ []) z refl) }
+own-look p w (g ∷ gs) os z f t = record { told = t; stands = quick os (op.End reply.No hold.Executor) refl refl z f }
+
+own-quick : (p : ℕ) (h : Hint) (o : Op) (w : World) (os : List Op) → quick_of o ≡ 1 → weigh hasty os ≡ 0 →
+    fresh p false (deeds p w.trace) ≡ true → told p false (deeds p w.trace) ≡ true →
+    Prompt p (os ++ reverse (act p h o w).next) (deeds p (act p h o w).world.trace)
+own-quick p h (op.Queue queue_op.Take) w os c z f t = own-take p w w.queue.items os z f t
+own-quick p h (op.Table table_op.LookAtTable) w os c z f t = own-look p w w.table os z f t
+own-quick p h (op.End r held) w os c z f t = own-end p w os r held (z, inr (c, f)) t
+own-quick p h _ w os c z f t = absurd (cc)
+
+own-slow : (p : ℕ) (h : Hint) (o : Op) (w : World) (os : List Op) (b : Bool) → is_end o ≡ b → hasty o ≡ 0 →
+    weigh hasty os ≡ 0 →
+    told p false (deeds p w.trace) ≡ true →
+    Prompt p (os ++ reverse (act p h o w).next) (deeds p (act p h o w).world.trace)
+own-slow p h o w os false n c z t = slowly p w os (act p h o w) (grows-act p h o w n) z (slow-act p h o w c n) t
+own-slow p h (op.End r held) w os true n c z t = own-end p w os r held (z, inl c) t
+own-slow p h _ w os true n c z t = absurd (cc)
+
+own-act : (p : ℕ) (h : Hint) (o : Op) (w : World) (os : List Op) → Parted p os o (deeds p w.trace) →
+    told p false (deeds p w.trace) ≡ true →
+    Prompt p (os ++ reverse (act p h o w).next) (deeds p (act p h o w).world.trace)
+own-act p h o w os x t = ⊎_elim
+    (λ (c : hasty o ≡ 0). own-slow p h o w os (is_end o) refl c x.0 t)
+    (λ (k : (quick_of o ≡ 1) × (fresh p false (deeds p w.trace) ≡ true)). own-quick p h o w os k.0 x.0 k.1 t)
+    x.1
+
+others-act : (p : ℕ) (h : Hint) (o : Op) (w : World) (b : Bool) → is_end o ≡ b → (q : ℕ) → q ≢ p →
+    deeds q (act p h o w).world.trace ≡ deeds q w.trace
+others-act p h o w false n q k = deeds-other p q w (act p h o w).world (grows-act p h o w n) k
+others-act p h (op.End r held) w true n q k = deeds-other_log p q w.trace (event.CallEnded p r) refl k
+others-act p h _ w true n q k = absurd (cc)
+
+slow-react : (p : ℕ) (o : Op) (u : UserEnd) (w : World) → weigh hasty (react p o u w).next ≡ 0
+slow-react p (op.User (user_op.Poll f)) (end.Polled answer.Pending) w = refl
+slow-react p (op.User (user_op.Poll f)) (end.Polled answer.Ready) w = refl
+slow-react p (op.User (user_op.Poll f)) end.Done w = refl
+slow-react p (op.User (user_op.PollOwn x)) (end.Polled answer.Pending) w = refl
+slow-react p (op.User (user_op.PollOwn x)) (end.Polled answer.Ready) w = refl
+slow-react p (op.User (user_op.PollOwn x)) end.Done w = refl
+slow-react p _ _ w = refl
+
+-- a call begins
+
+slow-with : (w : World) (o : Option ℕ) (d : ℕ → Done) → ((f : ℕ) → weigh hasty (d f).next ≡ 0) →
+    weigh hasty (with_future w o d).next ≡ 0
+slow-with w (Some f) d k = k f
+slow-with w None d k = refl
+
+slow-poll : (t : Stage) (x : RunPoll) → weigh hasty (poll_run t x) ≡ 0
+slow-poll New x = refl
+slow-poll Listed x = refl
+slow-poll Ended x = refl
+
+slow-drop : (t : Stage) (r : ℕ) → weigh hasty (drop_run t r) ≡ 0
+slow-drop New r = refl
+slow-drop Listed r = refl
+slow-drop Ended r = refl
+
+told-begun : (p : ℕ) (w : World) (here : Option Waker) (c : Call) → told p false (deeds p w.trace) ≡ true →
+    told p false (deeds p (begun p (log w (event.CallBegun p c)) here c).world.trace) ≡ true
+told-begun p w here c t =
+    told-grows p (log w (event.CallBegun p c)) (begun p (log w (event.CallBegun p c)) here c).world
+    (grows-begun p (log w (event.CallBegun p c)) here c)
+    (told-log p w.trace (event.CallBegun p c) refl (or-true (fresh p false (deeds p w.trace))) t)
+  where
+    or-true : (b : Bool) → (b || true) ≡ true
+    or-true true = refl
+    or-true false = refl
+
+self-begun : (p : ℕ) (c : Call) → begins_call p (event.CallBegun p c) ≡ true
+self-begun p c = grind (arith, nat_tests)
+
+own-begun : (p : ℕ) (w : World) (here : Option Waker) (c : Call) (os : List Op) → weigh hasty os ≡ 0 →
+    told p false (deeds p w.trace) ≡ true →
+    Prompt p (os ++ reverse (begun p (log w (event.CallBegun p c)) here c).next)
+    (deeds p (begun p (log w (event.CallBegun p c)) here c).world.trace)
+own-begun p w here c os z t = record { told = told-begun p w here c t; stands = go c }
+  where
+    v : Call → World
+    v x = log w (event.CallBegun p x)
+
+    as-slow : (x : Call) → weigh hasty (begun p (v x) here x).next ≡ 0 →
+        Stands p (os ++ reverse (begun p (v x) here x).next) (deeds p (begun p (v x) here x).world.trace)
+    as-slow x n = slow (slow-onto os (begun p (v x) here x).next z n)
+
+    go : (x : Call) → Stands p (os ++ reverse (begun p (v x) here x).next) (deeds p (begun p (v x) here x).world.trace)
+    go call.Spawn = as-slow call.Spawn refl
+    go call.TryTick = quick os (op.Queue queue_op.Take) refl refl z
+        (fresh-log p w.trace (event.CallBegun p call.TryTick) refl
+        ∙ self-begun p call.TryTick)
+    go call.IsEmpty = quick os (op.Table table_op.LookAtTable) refl refl z
+        (fresh-log p w.trace (event.CallBegun p call.IsEmpty) refl
+        ∙ self-begun p call.IsEmpty)
+    go (call.Wake k) = as-slow (call.Wake k) (slow-with (v (call.Wake k)) (kept w k) _ (λ f. refl))
+    go (call.WakeByRef k) = as-slow (call.WakeByRef k) (slow-with (v (call.WakeByRef k)) (kept w k) _ (λ f. refl))
+    go (call.Copy k) = as-slow (call.Copy k) (slow-with (v (call.Copy k)) (kept w k) _ (λ f. refl))
+    go (call.DropWaker k) = as-slow (call.DropWaker k) (slow-with (v (call.DropWaker k)) (kept w k) _ (λ f. refl))
+    go call.Keep = as-slow call.Keep (slow-with (v call.Keep) (future_of here) _ (λ f. refl))
+    go call.WakeSelf = as-slow call.WakeSelf (slow-with (v call.WakeSelf) (future_of here) _ (λ f. refl))
+    go (call.PollHandle f b) = as-slow (call.PollHandle f b) refl
+    go (call.Cancel f) = as-slow (call.Cancel f) refl
+    go (call.Detach f) = as-slow (call.Detach f) refl
+    go (call.DropHandle f) = as-slow (call.DropHandle f) refl
+    go call.NewTick = as-slow call.NewTick refl
+    go (call.PollTick t b) = as-slow (call.PollTick t b) refl
+    go (call.DropTick t) = as-slow (call.DropTick t) refl
+    go call.NewRun = as-slow call.NewRun refl
+    go (call.PollRun r b) = as-slow (call.PollRun r b) (slow-poll (run_of w r).stage _)
+    go (call.DropRun r) = as-slow (call.DropRun r) (slow-drop (run_of w r).stage r)
+    go call.DropExecutor = as-slow call.DropExecutor refl
+
+others-begun : (p : ℕ) (w : World) (here : Option Waker) (c : Call) (q : ℕ) → q ≢ p →
+    deeds q (begun p (log w (event.CallBegun p c)) here c).world.trace ≡ deeds q w.trace
+others-begun p w here c q k =
+    deeds-other p q (log w (event.CallBegun p c)) (begun p (log w (event.CallBegun p c)) here c).world
+    (grows-begun p (log w (event.CallBegun p c)) here c) k ∙ deeds-other_log p q w.trace (event.CallBegun p c) refl k
+
+-- a party that may begin a call isn't answered no next
+free-slow : (p : ℕ) (os : List Op) (ds : Trace) → is_free (top os) ≡ true → Stands p os ds → weigh hasty os ≡ 0
+free-slow p os ds e (slow z) = z
+free-slow p os ds e (quick rest o q i z f) =
+    let w : waits o ≡ true = ap is_free (sym (ap top q ∙ top-last rest o)) ∙ e in
+    ap (weigh hasty) q ∙ (weigh-append hasty rest (o ∷ []) ∙ omega (arith, z, waits-slow o w))
+  where
+    waits-slow : (o : Op) → waits o ≡ true → hasty o ≡ 0
+    waits-slow (op.User (user_op.Poll f)) w = refl
+    waits-slow (op.User (user_op.Drop f)) w = refl
+    waits-slow (op.User (user_op.DropOutput f)) w = refl
+    waits-slow (op.User (user_op.CallOutside x)) w = refl
+    waits-slow (op.User (user_op.PollOwn x)) w = refl
+    waits-slow (op.User (user_op.DropOwn r)) w = refl
+    waits-slow _ w = absurd (cc)
+
+-- every step
+
+first : (a : Bool) (e : StepError) (r : Option StepError) → unless a e r ≡ None → a ≡ true
+first true e r k = refl
+first false e r k = absurd (cc)
+
+prompt-moves : (s : Machine) (p : ℕ) (old rest : List Op) (d : Done) → Good s → p < length s.parties →
+    stack s p ≡ rest ++ reverse old →
+    Way s p old rest d → Prompts s → Prompts (unsettled s p rest d)
+prompt-moves s p old rest d good l e (acted t o q z) h =
+    let e2 : stack s p ≡ rest ++ o ∷ [] = subst (λ (os : List Op). stack s p ≡ rest ++ reverse os) q e in
+    rw z (turned s p rest (act p t o s.world) l (others-act p t o s.world (is_end o) refl)
+    (own-act p t o s.world rest (parted p (stack s p) rest o (deeds p s.world.trace) e2 (h p).stands) (h p).told) h)
+prompt-moves s p old rest d good l e (reacted o u a q z) h =
+    let e2 : stack s p ≡ rest ++ o ∷ [] = subst (λ (os : List Op). stack s p ≡ rest ++ reverse os) q e in
+    let x : Parted p rest o (deeds p s.world.trace) =
+    parted p (stack s p) rest o (deeds p s.world.trace) e2 (h p).stands in
+    rw z (turned s p rest (react p o u s.world) l (λ n k. deeds-other p n s.world (react p o u s.world).world
+    (grows-react p o u s.world) k) (slowly p s.world rest (react p o u s.world) (grows-react p o u s.world) x.0
+    (slow-react p o u s.world) (h p).told) h)
+prompt-moves s p old rest d good l e (called c q r n z) h =
+    let here : Option Waker = mine (top (stack s p)) in
+    let free : is_free (top (stack s p)) ≡ true = first (is_free (top (stack s p))) Busy _ n in
+    let w : weigh hasty rest ≡ 0 = ap (weigh hasty) r ∙ free-slow p (stack s p) (deeds p s.world.trace) free
+    (h p).stands in
+    rw z (turned s p rest (begun p (log s.world (event.CallBegun p c)) here c) l (others-begun p s.world here c)
+    (own-begun p s.world here c rest w (h p).told) h)
+
+prompt-ends : (s : Machine) (p : ℕ) (a : Reply) (held : Hold) (below : List Op) → p < length s.parties →
+    stack s p ≡ below ++ reverse (op.End a held ∷ []) → Prompts s →
+    Prompts (unsettled s p below (done (log s.world (event.CallEnded p a)) []))
+prompt-ends s p a held below l e h =
+    turned s p below (done (log s.world (event.CallEnded p a)) []) l
+    (λ q k. deeds-other_log p q s.world.trace (event.CallEnded p a) refl k)
+    (own-end p s.world below a held (parted p (stack s p) below (op.End a held) (deeds p s.world.trace) e (h p).stands)
+    (h p).told) h
+
+prompt-start : (limit n : ℕ) → Prompts (start limit n)
+prompt-start limit n q = record { told = refl; stands = slow (ap (weigh hasty) (idle-stack n q)) }
+
+prompt : (limit n : ℕ) (ts : List Step) → Prompts (run ts (start limit n))
+prompt limit n ts = along Prompts prompt-moves prompt-ends ts (start limit n) (good-start limit n)
+    (prompt-start limit n)
+
+-- in the words of the trace
+
+right-true : (a b : Bool) → (a && b) ≡ true → b ≡ true
+right-true true b e = e
+right-true false b e = absurd (cc)
+
+left-true : (a b : Bool) → (a && b) ≡ true → a ≡ true
+left-true true b e = refl
+left-true false b e = absurd (cc)
+
+or-off : (a : Bool) → (a || false) ≡ true → a ≡ true
+or-off true e = refl
+or-off false e = absurd (cc)
+
+-- a call of p has begun last
+last-begun : (p : ℕ) (b : Bool) (before : Trace) → fresh p b before ≡ true →
+    ((before ≡ []) × (b ≡ true)) ⊎ ((earlier : Trace) × (c : Call) × (before ≡ earlier ++ event.CallBegun p c ∷ []))
+last-begun p b [] e = inl (refl, e)
+last-begun p b (x ∷ es) e = ⊎_elim
+    (λ (k : (es ≡ []) × (begins_call p x ≡ true)). inr (alone x es k.0 k.1))
+    (λ (k : (earlier : Trace) × (c : Call) × (es ≡ earlier ++ event.CallBegun p c ∷ [])). inr (
+      x ∷ k.0,
+      k.1,
+      ap (λ (xs : Trace). x ∷ xs) k.2,
+    ))
+    (last-begun p (begins_call p x) es e)
+  where
+    mine : (q : ℕ) → eqb p q ≡ true → q ≡ p
+    mine q k = grind (arith, nat_tests)
+
+    alone : (y : Event) (ys : Trace) → ys ≡ [] → begins_call p y ≡ true →
+        (earlier : Trace) × (c : Call) × (y ∷ ys ≡ earlier ++ event.CallBegun p c ∷ [])
+    alone (event.CallBegun q c) ys z k = (
+      [],
+      c,
+      ap (λ (xs : Trace). event.CallBegun q c ∷ xs) z
+          ∙ ap (λ (n : ℕ). event.CallBegun n c ∷ []) (mine q k),
+    )
+    alone _ ys z k = absurd (cc)
+
+pub no-comes-at-once : (limit parties : ℕ) (steps : List Step) (p : ℕ) →
+    NoComesAtOnce p (run steps (start limit parties)).world.trace
+no-comes-at-once limit parties steps p before later e =
+    let ds : Trace = deeds p (run steps (start limit parties)).world.trace in
+    let t : told p false (before ++ event.CallEnded p reply.No ∷ later) ≡ true = sym (ap (told p false) e)
+    ∙ (prompt limit parties steps p).told in
+    let both : (told p false before && told p (fresh p false before) (event.CallEnded p reply.No ∷ later)) ≡ true =
+    sym (told-append p false before (event.CallEnded p reply.No ∷ later)) ∙ t in
+    let f : fresh p false before ≡ true =
+    or-off (fresh p false before)
+    (left-true (fresh p false before || false) _ (right-true (told p false before) _ both)) in
+    ⊎_elim
+    (λ (k : (before ≡ []) × (false ≡ true)). let z : false ≡ true = k.1 in absurd (cc))
+    (λ (k : (earlier : Trace) × (c : Call) × (before ≡ earlier ++ event.CallBegun p c ∷ [])). k)
+    (last-begun p false before f)

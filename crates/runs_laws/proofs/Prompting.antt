@@ -1,0 +1,448 @@
+-- A party that may be answered no next has done nothing since its call began.
+use Rattle.std.proofs.Common.{◌≡◌, ◌≢◌, ℕ, ◌≤◌, List, [], ◌∷◌, ◌++◌, Bool, true, false, ◌||◌, ◌&&◌, not}
+use Rattle.std.proofs.Common.{cond, refl, ap, ◌∙◌, ⊎_elim, arith, append-nil}
+use Rattle.std.proofs.lemmas.Bool.Decides.{nat_tests}
+use Rattle.std.proofs.lemmas.List.Elements.{filter-append}
+use Rattle.std.specs.List.{filter}
+use Rattle.std.specs.Prelude.{Option, Some, None, is_none}
+use Rattle.executor_parts.specs.Sleepers.{waker_at, waker_of}
+use Rattle.task_moves.specs.declared.moves.owed.Answer.{Answer}
+use Rattle.task_moves.specs.declared.moves.owed.Answer.TheVariants.{Refused, Pending, Closed, Output}
+use Rattle.task_moves.specs.declared.moves.owed.AwaiterDebt.{AwaiterDebt}
+use Rattle.task_moves.specs.declared.moves.owed.AwaiterDebt.TheVariants.{NotifyAwaiter, NotifyOther, CallGiven}
+use Rattle.task_moves.specs.declared.moves.owed.AwaiterDebt.TheVariants.{StoreCopy, CallStored, TakeAwaiter, CallTaken}
+use Rattle.task_moves.specs.declared.moves.owed.Move.TheVariants as move
+use Rattle.task_moves.specs.declared.moves.owed.Moved.{Moved}
+use Rattle.task_moves.specs.Moves as moves
+use Rattle.runs_model.specs.declared.call.Reply.{Reply}
+use Rattle.runs_model.specs.declared.call.Reply.TheVariants as reply
+use Rattle.runs_model.specs.declared.event.Event.{Event}
+use Rattle.runs_model.specs.declared.event.Event.TheVariants as event
+use Rattle.runs_model.specs.declared.op.Awaiter.{Awaiter}
+use Rattle.runs_model.specs.declared.op.Hold.{Hold}
+use Rattle.runs_model.specs.declared.op.Hold.TheVariants as hold
+use Rattle.runs_model.specs.declared.op.Op.{Op}
+use Rattle.runs_model.specs.declared.op.Op.TheVariants as op
+use Rattle.runs_model.specs.declared.op.HandleOp.TheVariants as handle_op
+use Rattle.runs_model.specs.declared.op.ListOp.{ListOp}
+use Rattle.runs_model.specs.declared.op.ListOp.TheVariants as list_op
+use Rattle.runs_model.specs.declared.op.Polled.TheVariants as of
+use Rattle.runs_model.specs.declared.op.QueueOp.TheVariants as queue_op
+use Rattle.runs_model.specs.declared.op.RunOp.{RunOp}
+use Rattle.runs_model.specs.declared.op.RunOp.TheVariants as run_op
+use Rattle.runs_model.specs.declared.op.Section.TheVariants as section
+use Rattle.runs_model.specs.declared.op.Sleeper.{Sleeper}
+use Rattle.runs_model.specs.declared.op.Sleeper.TheVariants as sleeper
+use Rattle.runs_model.specs.declared.op.Sleeping.{Sleeping}
+use Rattle.runs_model.specs.declared.op.TableOp.TheVariants as table_op
+use Rattle.runs_model.specs.declared.op.TickOp.{TickOp}
+use Rattle.runs_model.specs.declared.op.TickOp.TheVariants as tick_op
+use Rattle.runs_model.specs.declared.op.UserOp.TheVariants as user_op
+use Rattle.runs_model.specs.declared.op.WakerOp.TheVariants as waker_op
+use Rattle.runs_model.specs.declared.op.Waker.{Waker}
+use Rattle.runs_model.specs.declared.op.Waker.TheVariants.{Task, Outside}
+use Rattle.runs_model.specs.declared.step.Hint.{Hint}
+use Rattle.runs_model.specs.Quiet.{begins_call}
+use Rattle.runs_model.specs.Trace.{Trace, has}
+use Rattle.runs_model.specs.World.{World, Place, Up, Lies, Left, log, task, awaiter_of, place_of}
+use Rattle.runs_model.specs.Carried.{awaiter_ops}
+use Rattle.runs_model.specs.Acts.{enter_by, copy_by, answered, polled, look_by, let_go, look_again_by}
+use Rattle.runs_model.specs.Acts.{copy_awaiter_by, register_by, end_register_by}
+use Rattle.runs_model.specs.ActsOfSleepers.{make_tick_by, search_by, copy_sleeper_by, pend_as, lie_anew_by}
+use Rattle.runs_model.specs.ActsOfSleepers.{sleeper_goes, lie_listed_by, lie_again_by, lie_down_by, get_up_by}
+use Rattle.runs_model.specs.ActsOfSleepers.{tell_if, leave_sleepers_by}
+use Rattle.runs_model.specs.ActsOfRuns as runs
+use Rattle.runs_model.specs.Doing.{act, list_act, run_act, search_by_who, tick_act}
+use Rattle.runs_model.specs.Weights.{weigh}
+use Rattle.runs_model.proofs.Calls.{calling_of}
+use Rattle.runs_model.proofs.CallsGroups.{calls-act}
+use Rattle.runs_model.proofs.Lists.{weigh-append}
+use Rattle.runs_model.proofs.Resting.{calling-is}
+use Rattle.runs_model.proofs.RunsNext.{BlindToSearches, common-unseen, look-unseen, own-unseen, steal-unseen}
+use Rattle.runs_model.proofs.RunsNext.{walk-unseen}
+use Rattle.runs_model.proofs.SleepersNext.{goes-unseen, tell-unseen}
+use Rattle.runs_laws.specs.AtOnce.{doer, is_by, deeds}
+use Rattle.runs_laws.proofs.Growing.{ends_one, is_end, Grows, not-by}
+
+abbrev pub is_refusal : Reply → ℕ
+is_refusal reply.No = 1
+is_refusal _ = 0
+
+-- what is answered no next, if it is
+abbrev pub quick_of : Op → ℕ
+quick_of (op.Queue queue_op.Take) = 1
+quick_of (op.Table table_op.LookAtTable) = 1
+quick_of (op.End r held) = is_refusal r
+quick_of _ = 0
+
+-- and what is answered so later, which nothing is
+abbrev pub hasty : Op → ℕ
+hasty (op.List (list_op.LockWrite (section.Unregister r a))) = is_refusal a
+hasty (op.List (list_op.Write (section.Unregister r a))) = is_refusal a
+hasty (op.Run (run_op.Reschedule r a)) = is_refusal a
+hasty o = quick_of o
+
+-- of what p did: each answer no stands behind the beginning of a call, or stands first where b says so
+abbrev pub is_no : Event → Bool
+is_no (event.CallEnded p reply.No) = true
+is_no _ = false
+
+abbrev pub told : ℕ → Bool → Trace → Bool
+told p b [] = true
+told p b (e ∷ es) = (b || not (is_no e)) && told p (begins_call p e) es
+
+-- a call has begun last
+abbrev pub fresh : ℕ → Bool → Trace → Bool
+fresh p b [] = b
+fresh p b (e ∷ es) = fresh p (begins_call p e) es
+
+and-assoc : (a b c : Bool) → (a && (b && c)) ≡ ((a && b) && c)
+and-assoc true b c = refl
+and-assoc false b c = refl
+
+both : (a b : Bool) → a ≡ true → b ≡ true → (a && b) ≡ true
+both true b e k = k
+both false b e k = absurd (cc)
+
+either : (b c : Bool) → c ≡ false → (b || not c) ≡ true
+either true c e = refl
+either false true e = absurd (cc)
+either false false e = refl
+
+left-false : (a b : Bool) → (a || b) ≡ false → a ≡ false
+left-false true b e = absurd (cc)
+left-false false b e = refl
+
+right-false : (a b : Bool) → (a || b) ≡ false → b ≡ false
+right-false true b e = absurd (cc)
+right-false false b e = e
+
+pub told-append : (p : ℕ) (b : Bool) (xs ys : Trace) → told p b (xs ++ ys) ≡ (told p b xs && told p (fresh p b xs) ys)
+told-append p b [] ys = refl
+told-append p b (e ∷ xs) ys = ap (λ (x : Bool). (b || not (is_no e)) && x) (told-append p (begins_call p e) xs ys)
+    ∙ and-assoc (b || not (is_no e)) (told p (begins_call p e) xs) (told p (fresh p (begins_call p e) xs) ys)
+
+fresh-append : (p : ℕ) (b : Bool) (xs ys : Trace) → fresh p b (xs ++ ys) ≡ fresh p (fresh p b xs) ys
+fresh-append p b [] ys = refl
+fresh-append p b (e ∷ xs) ys = fresh-append p (begins_call p e) xs ys
+
+no-ends : (e : Event) → ends_one e ≡ false → is_no e ≡ false
+no-ends (event.CallEnded p r) k = absurd (cc)
+no-ends _ k = refl
+
+-- no call ends, so none is answered
+told-endless : (p : ℕ) (b : Bool) (es : Trace) → has ends_one es ≡ false → told p b es ≡ true
+told-endless p b [] k = refl
+told-endless p b (e ∷ es) k = both (b || not (is_no e)) (told p (begins_call p e) es)
+    (either b (is_no e) (no-ends e (left-false (ends_one e) (has ends_one es) k)))
+    (told-endless p (begins_call p e) es (right-false (ends_one e) (has ends_one es) k))
+
+-- what one party did of more
+
+skips : (b : Bool) (e : Event) (es : Trace) → b ≡ false → cond b (e ∷ es) es ≡ es
+skips true e es q = absurd (cc)
+skips false e es q = refl
+
+filter-none : (t : Event → Bool) (es : Trace) → has t es ≡ false → filter t es ≡ []
+filter-none t [] k = refl
+filter-none t (e ∷ es) k = skips (t e) e (filter t es) (left-false (t e) (has t es) k)
+    ∙ filter-none t es (right-false (t e) (has t es) k)
+
+kept-has : (b : Bool) (u : Event → Bool) (e : Event) (es : Trace) → u e ≡ false → has u es ≡ false →
+    has u (cond b (e ∷ es) es) ≡ false
+kept-has true u e es h r = ap (λ (x : Bool). x || has u es) h ∙ r
+kept-has false u e es h r = r
+
+filter-has : (t u : Event → Bool) (es : Trace) → has u es ≡ false → has u (filter t es) ≡ false
+filter-has t u [] k = refl
+filter-has t u (e ∷ es) k =
+    kept-has (t e) u e (filter t es) (left-false (u e) (has u es) k)
+    (filter-has t u es (right-false (u e) (has u es) k))
+
+filter-push : (t : Event → Bool) (xs : Trace) (e : Event) →
+    filter t (xs ++ e ∷ []) ≡ cond (t e) (filter t xs ++ e ∷ []) (filter t xs)
+filter-push t xs e = filter-append t xs (e ∷ []) ∙ go (t e)
+  where
+    go : (b : Bool) → filter t xs ++ cond b (e ∷ []) [] ≡ cond b (filter t xs ++ e ∷ []) (filter t xs)
+    go true = refl
+    go false = append-nil (filter t xs)
+
+pub deeds-other : (p q : ℕ) (w v : World) → Grows p w v → q ≢ p → deeds q v.trace ≡ deeds q w.trace
+deeds-other p q w v g n =
+    ap (deeds q) g.is ∙ (filter-append (is_by q) w.trace g.more
+    ∙ (ap (λ (xs : Trace). deeds q w.trace ++ xs) (filter-none (is_by q) g.more (g.own q n))
+    ∙ append-nil (deeds q w.trace)))
+
+pub deeds-other_log : (p q : ℕ) (es : Trace) (e : Event) → doer e ≡ p → q ≢ p → deeds q (es ++ e ∷ []) ≡ deeds q es
+deeds-other_log p q es e d n = filter-append (is_by q) es (e ∷ [])
+    ∙ (ap (λ (xs : Trace). deeds q es ++ xs)
+    (filter-none (is_by q) (e ∷ []) (ap (λ (x : Bool). x || false) (not-by p q e d n)))
+    ∙ append-nil (deeds q es))
+
+self : (p : ℕ) (e : Event) → doer e ≡ p → is_by p e ≡ true
+self p e d = grind (arith, nat_tests)
+
+pub deeds-own : (p : ℕ) (es : Trace) (e : Event) → doer e ≡ p → deeds p (es ++ e ∷ []) ≡ deeds p es ++ e ∷ []
+deeds-own p es e d = filter-push (is_by p) es e ∙ go (is_by p e) (self p e d)
+  where
+    go : (b : Bool) → b ≡ true → cond b (deeds p es ++ e ∷ []) (deeds p es) ≡ deeds p es ++ e ∷ []
+    go true q = refl
+    go false q = absurd (cc)
+
+pub told-grows : (p : ℕ) (w v : World) → Grows p w v → told p false (deeds p w.trace) ≡ true →
+    told p false (deeds p v.trace) ≡ true
+told-grows p w v g t =
+    ap (λ (xs : Trace). told p false (deeds p xs)) g.is
+    ∙ (ap (told p false) (filter-append (is_by p) w.trace g.more)
+    ∙ (told-append p false (deeds p w.trace) (filter (is_by p) g.more)
+    ∙ both (told p false (deeds p w.trace)) (told p (fresh p false (deeds p w.trace)) (filter (is_by p) g.more)) t
+    (told-endless p (fresh p false (deeds p w.trace)) (filter (is_by p) g.more)
+    (filter-has (is_by p) ends_one g.more g.none_ends))))
+
+pub told-log : (p : ℕ) (es : Trace) (e : Event) → doer e ≡ p → (fresh p false (deeds p es) || not (is_no e)) ≡ true →
+    told p false (deeds p es) ≡ true → told p false (deeds p (es ++ e ∷ [])) ≡ true
+told-log p es e d k t =
+    ap (told p false) (deeds-own p es e d)
+    ∙ (told-append p false (deeds p es) (e ∷ [])
+    ∙ both (told p false (deeds p es)) ((fresh p false (deeds p es) || not (is_no e)) && true) t
+    (both (fresh p false (deeds p es) || not (is_no e)) true k refl))
+
+pub fresh-log : (p : ℕ) (es : Trace) (e : Event) → doer e ≡ p → fresh p false (deeds p (es ++ e ∷ [])) ≡ begins_call p e
+fresh-log p es e d = ap (fresh p false) (deeds-own p es e d) ∙ fresh-append p false (deeds p es) (e ∷ [])
+
+-- what is to do
+
+few-refusals : (r : Reply) → is_refusal r ≤ 1
+few-refusals reply.No = omega arith
+few-refusals _ = omega arith
+
+hasty-calling : (o : Op) → hasty o ≤ calling_of o
+hasty-calling (op.Queue queue_op.Take) = omega arith
+hasty-calling (op.Table table_op.LookAtTable) = omega arith
+hasty-calling (op.End r held) = omega (arith, few-refusals r)
+hasty-calling (op.List (list_op.LockWrite (section.Unregister r a))) = omega (arith, few-refusals a)
+hasty-calling (op.List (list_op.Write (section.Unregister r a))) = omega (arith, few-refusals a)
+hasty-calling (op.Run (run_op.Reschedule r a)) = omega (arith, few-refusals a)
+hasty-calling _ = omega arith
+
+hasty-calling-all : (os : List Op) → weigh hasty os ≤ weigh calling_of os
+hasty-calling-all [] = omega arith
+hasty-calling-all (o ∷ os) = omega (arith, hasty-calling o, hasty-calling-all os)
+
+slow-awaiter : (f : ℕ) (o : Option AwaiterDebt) → weigh hasty (awaiter_ops f o) ≡ 0
+slow-awaiter f (Some NotifyAwaiter) = refl
+slow-awaiter f (Some NotifyOther) = refl
+slow-awaiter f (Some CallGiven) = refl
+slow-awaiter f (Some StoreCopy) = refl
+slow-awaiter f (Some CallStored) = refl
+slow-awaiter f (Some TakeAwaiter) = refl
+slow-awaiter f (Some CallTaken) = refl
+slow-awaiter f None = refl
+
+slow-answered : (p : ℕ) (w : World) (f : ℕ) (m : Moved) (a : Answer) → weigh hasty (answered p w f m a).next ≡ 0
+slow-answered p w f m Refused = weigh-append hasty (awaiter_ops f m.owed.awaiter) _
+    ∙ omega (arith, slow-awaiter f m.owed.awaiter)
+slow-answered p w f m Pending = weigh-append hasty (awaiter_ops f m.owed.awaiter) _
+    ∙ omega (arith, slow-awaiter f m.owed.awaiter)
+slow-answered p w f m Closed = weigh-append hasty (awaiter_ops f m.owed.awaiter) _
+    ∙ omega (arith, slow-awaiter f m.owed.awaiter)
+slow-answered p w f m Output = weigh-append hasty (awaiter_ops f m.owed.awaiter) _
+    ∙ omega (arith, slow-awaiter f m.owed.awaiter)
+
+slow-look : (o : Option Answer) (p : ℕ) (w : World) (f : ℕ) (a : Waker) (m : Moved) →
+    weigh hasty (look_by o p w f a m).next ≡ 0
+slow-look None p w f a m = refl
+slow-look (Some x) p w f a m = slow-answered p (polled p w f) f m x
+
+slow-again : (o : Option Answer) (p : ℕ) (w : World) (f : ℕ) (m : Moved) →
+    weigh hasty (look_again_by o p w f m).next ≡ 0
+slow-again None p w f m = refl
+slow-again (Some x) p w f m = slow-answered p w f m x
+
+slow-copy_awaiter : (b : Bool) (p : ℕ) (w : World) (f : ℕ) (a : Waker) →
+    weigh hasty (copy_awaiter_by b p w f a).next ≡ 0
+slow-copy_awaiter true p w f a = refl
+slow-copy_awaiter false p w f a = refl
+
+slow-register : (b : Bool) (w : World) (f : ℕ) (a : Waker) (k : ℕ) → weigh hasty (register_by b w f a k).next ≡ 0
+slow-register true w f a k = refl
+slow-register false w f a k = refl
+
+slow-let_go : (f : ℕ) (o : Option Awaiter) → weigh hasty (let_go o ++ op.Handle (handle_op.LookAgain f) ∷ []) ≡ 0
+slow-let_go f None = refl
+slow-let_go f (Some a) = go a.waker
+  where
+    go : (x : Waker) → weigh hasty (let_go (Some (record a { waker = x })) ++ op.Handle (handle_op.LookAgain f) ∷ [])
+        ≡ 0
+    go (Task g) = refl
+    go (Outside x) = refl
+
+slow-end_register : (b : Bool) (w : World) (f : ℕ) (a : Waker) (k : ℕ) →
+    weigh hasty (end_register_by b w f a k).next ≡ 0
+slow-end_register true w f a k = omega (arith, slow-let_go f (awaiter_of w f))
+slow-end_register false w f a k = slow-let_go f (awaiter_of w f)
+
+slow-enter : (b c : Bool) (p : ℕ) (w : World) → weigh hasty (enter_by b c p w).next ≡ 0
+slow-enter true c p w = refl
+slow-enter false true p w = refl
+slow-enter false false p w = refl
+
+slow-copy : (b : Bool) (w : World) (f : ℕ) (held : Hold) → weigh hasty (copy_by b w f held).next ≡ 0
+slow-copy true w f held = refl
+slow-copy false w f held = refl
+
+slow-goes : (o : Option Sleeping) → weigh hasty (sleeper_goes o) ≡ 0
+slow-goes o = goes-unseen hasty (λ f. refl) o
+
+slow-make : (b : Bool) (w : World) → weigh hasty (make_tick_by b w).next ≡ 0
+slow-make true w = refl
+slow-make false w = refl
+
+slow-search : (x : Place) (w : World) (q : List ℕ) (s : Sleeping) → weigh hasty (search_by x w q s).next ≡ 0
+slow-search x w [] s = refl
+slow-search Up w (f ∷ rest) s = refl
+slow-search (Lies n) w (f ∷ rest) s = refl
+slow-search Left w (f ∷ rest) s = refl
+
+slow-copy_sleeper : (b : Bool) (w : World) (s : Sleeping) → weigh hasty (copy_sleeper_by b w s).next ≡ 0
+slow-copy_sleeper true w s = refl
+slow-copy_sleeper false w s = refl
+
+slow-anew : (b : Bool) (w : World) (s : Sleeping) → weigh hasty (lie_anew_by b w s).next ≡ 0
+slow-anew true w s = refl
+slow-anew false w s = refl
+
+slow-listed : (b : Bool) (w : World) (n : ℕ) (s : Sleeping) → weigh hasty (lie_listed_by b w n s).next ≡ 0
+slow-listed true w n s = refl
+slow-listed false w n s = refl
+
+slow-lie_again : (o : Option ℕ) (w : World) (n : ℕ) (s : Sleeping) → weigh hasty (lie_again_by o w n s).next ≡ 0
+slow-lie_again None w n s = slow-listed _ w n s
+slow-lie_again (Some at) w n s = let old = waker_at (Some at) w.sleepers.wakers in
+    omega (arith, weigh-append hasty (sleeper_goes old) (pend_as s.who), slow-goes old)
+
+slow-lie : (x : Place) (w : World) (s : Sleeping) → weigh hasty (lie_down_by x w s).next ≡ 0
+slow-lie Up w s = slow-anew _ w s
+slow-lie (Lies n) w s = slow-lie_again _ w n s
+slow-lie Left w s = refl
+
+slow-up : (x : Place) (w : World) (who : Sleeper) → weigh hasty (get_up_by x w who).next ≡ 0
+slow-up Up w who = refl
+slow-up (Lies n) w who = slow-goes (waker_of n w.sleepers.wakers)
+slow-up Left w who = refl
+
+slow-leave : (x : Place) (w : World) (who : Sleeper) → weigh hasty (leave_sleepers_by x w who).next ≡ 0
+slow-leave Up w who = refl
+slow-leave (Lies n) w who =
+    let old = waker_of n w.sleepers.wakers in
+    omega (
+      arith,
+      weigh-append hasty (sleeper_goes old) (tell_if (is_none old)),
+      slow-goes old,
+      tell-unseen hasty refl (is_none old),
+    )
+slow-leave Left w who = refl
+
+-- what a run does
+
+searching : BlindToSearches hasty
+searching = record {
+  exchange = refl;
+  search = λ s. refl;
+  copy = λ s. refl;
+  up = λ who. refl;
+  take_up = λ f. refl;
+  steal = λ o. refl;
+  lock = λ x. refl;
+  unlock = refl;
+  common = λ x. refl;
+  look = λ x at left. refl;
+  wake = λ x. refl;
+}
+
+slow-searches : (who : Sleeper) (w : World) (s : Sleeping) → weigh hasty (search_by_who who w s).next ≡ 0
+slow-searches (sleeper.Tick t) w s = slow-search (place_of w s.who) w w.queue.items s
+slow-searches (sleeper.Run r) w s = own-unseen hasty searching _ w _
+
+slow-tick : (h : Hint) (o : TickOp) (w : World) → weigh hasty (tick_act h o w).next ≡ 0
+slow-tick h tick_op.MakeTick w = slow-make _ w
+slow-tick h (tick_op.Search s) w = slow-searches s.who w s
+slow-tick h (tick_op.CopyWaker s) w = slow-copy_sleeper _ w s
+slow-tick h (tick_op.LieDown s) w = slow-lie _ w s
+slow-tick h (tick_op.GetUp who) w = slow-up _ w who
+slow-tick h (tick_op.Leave who) w = slow-leave _ w who
+
+slow-made : (b : Bool) (w : World) → weigh hasty (runs.make_run_by b w).next ≡ 0
+slow-made true w = refl
+slow-made false w = refl
+
+slow-list : (h : Hint) (o : ListOp) (w : World) → hasty (op.List o) ≡ 0 → weigh hasty (list_act h o w).next ≡ 0
+slow-list h (list_op.LockWrite section.MakeRun) w z = refl
+slow-list h (list_op.LockWrite (section.Register x)) w z = refl
+slow-list h (list_op.LockWrite (section.Unregister r a)) w z = omega (arith, z)
+slow-list h (list_op.Write section.MakeRun) w z = slow-made _ w
+slow-list h (list_op.Write (section.Register x)) w z = refl
+slow-list h (list_op.Write (section.Unregister r a)) w z = omega (arith, z)
+slow-list h list_op.UnlockWrite w z = refl
+slow-list h (list_op.LockRead x) w z = walk-unseen hasty searching x w.listed _ _
+slow-list h list_op.UnlockRead w z = refl
+
+slow-wake : (p : ℕ) (h : Hint) (w : World) (a : Waker) → weigh hasty (runs.call_by_reference p w a).next ≡ 0
+slow-wake p h w (Task g) =
+    let next = (runs.call_by_reference p w (Task g)).next in
+    omega (
+      arith,
+      hasty-calling-all next,
+      (calls-act p h (op.Move move.WakeByReference g) w refl).passes.none refl,
+    )
+slow-wake p h w (Outside y) = refl
+
+slow-reschedule : (q : List ℕ) (w : World) (r : ℕ) (a : Reply) → is_refusal a ≡ 0 →
+    weigh hasty (runs.reschedule_by q w r a).next ≡ 0
+slow-reschedule [] w r a z = omega (arith, z)
+slow-reschedule (f ∷ rest) w r a z = omega (arith, z)
+
+slow-room : (b : Bool) (w : World) → weigh hasty (runs.make_room_by b w).next ≡ 0
+slow-room true w = refl
+slow-room false w = refl
+
+slow-run : (p : ℕ) (h : Hint) (o : RunOp) (w : World) → hasty (op.Run o) ≡ 0 → weigh hasty (run_act p h o w).next ≡ 0
+slow-run p h run_op.MakeRoom w z = slow-room _ w
+slow-run p h run_op.ReturnRoom w z = refl
+slow-run p h (run_op.SearchCommon x) w z = common-unseen hasty searching _ w x
+slow-run p h (run_op.LookOwn x at left) w z = look-unseen hasty searching _ w x at left
+slow-run p h (run_op.WakeOwn x) w z =
+    let v : World = log w (event.WakerCalled p (of.Run x.run) x.poll x.waker) in
+    let next = (runs.call_by_reference p v x.waker).next in
+    omega (
+      arith,
+      weigh-append hasty next (op.End reply.Pending (hold.Run x.run) ∷ []),
+      slow-wake p h v x.waker,
+    )
+slow-run p h (run_op.Reschedule r a) w z = slow-reschedule _ w r a z
+
+-- of what answers a call
+slow-calling : (p : ℕ) (h : Hint) (o : Op) (w : World) → calling_of o ≡ 1 → hasty o ≡ 0 → is_end o ≡ false →
+    weigh hasty (act p h o w).next ≡ 0
+slow-calling p h (op.Table table_op.Enter) w c z n = slow-enter _ _ p w
+slow-calling p h (op.Waker (waker_op.CopyWaker f held)) w c z n = slow-copy _ w f held
+slow-calling p h (op.Handle (handle_op.Look f a)) w c z n =
+    slow-look (moves.poll (task w f)).owed.answer p w f a (moves.poll (task w f))
+slow-calling p h (op.Handle (handle_op.CopyAwaiter f a)) w c z n = slow-copy_awaiter _ p w f a
+slow-calling p h (op.Handle (handle_op.Register f a k)) w c z n = slow-register _ w f a k
+slow-calling p h (op.Handle (handle_op.EndRegister f a k)) w c z n = slow-end_register _ w f a k
+slow-calling p h (op.Handle (handle_op.LookAgain f)) w c z n =
+    slow-again (moves.look_again (task w f)).owed.answer p w f (moves.look_again (task w f))
+slow-calling p h (op.Tick o) w c z n = slow-tick h o w
+slow-calling p h (op.List o) w c z n = slow-list h o w z
+slow-calling p h (op.Steal o) w c z n = steal-unseen hasty searching (λ f. refl) p o w
+slow-calling p h (op.Run o) w c z n = slow-run p h o w z
+slow-calling p h (op.User (user_op.PollOwn x)) w c z n = refl
+slow-calling p h _ w c z n = absurd (cc)
+
+pub slow-act : (p : ℕ) (h : Hint) (o : Op) (w : World) → hasty o ≡ 0 → is_end o ≡ false →
+    weigh hasty (act p h o w).next ≡ 0
+slow-act p h o w z n = ⊎_elim
+    (λ (c : calling_of o ≡ 0). omega (arith, hasty-calling-all (act p h o w).next, (calls-act p h o w n).passes.none c))
+    (λ (c : calling_of o ≡ 1). slow-calling p h o w c z n)
+    (calling-is o)

@@ -1,0 +1,465 @@
+-- Each step changes the queue as a closable queue changes.
+use Rattle.std.proofs.Common.{◌≡◌, ℕ, zero, suc, ◌+◌, ◌-◌, ◌<◌, ◌≤◌, List, [], ◌∷◌, ◌++◌, length, drop, Bool}
+use Rattle.std.proofs.Common.{true, false, ◌&&◌, not, ltb, refl, sym, ap, ◌∙◌, subst, arith, length-append, Result}
+use Rattle.std.proofs.lemmas.Bool.Decides.{nat_tests}
+use Rattle.std.specs.Prelude.{Option, Some, None, reverse}
+use Rattle.queue_steps.specs.ClosableQueue.{ClosableQueue, most_accepted, HasRoom, appended, taken, shut}
+use Rattle.task_moves.specs.declared.moves.owed.Answer.{Answer}
+use Rattle.task_moves.specs.declared.moves.owed.Moved.{Moved}
+use Rattle.task_moves.specs.Moves as moves
+use Rattle.runs_model.specs.declared.call.Call.{Call}
+use Rattle.runs_model.specs.declared.call.Call.TheVariants as call
+use Rattle.runs_model.specs.declared.call.Reply.{Reply}
+use Rattle.runs_model.specs.declared.event.Answer.TheVariants as answer
+use Rattle.runs_model.specs.declared.event.Event.{Event}
+use Rattle.runs_model.specs.declared.event.Event.TheVariants as event
+use Rattle.runs_model.specs.declared.op.Hold.{Hold}
+use Rattle.runs_model.specs.declared.op.Waker.{Waker}
+use Rattle.runs_model.specs.declared.op.Waker.TheVariants.{Task, Outside}
+use Rattle.runs_model.specs.declared.op.Op.{Op}
+use Rattle.runs_model.specs.declared.op.Op.TheVariants as op
+use Rattle.runs_model.specs.declared.op.ClosingOp.TheVariants as closing_op
+use Rattle.runs_model.specs.declared.op.HandleOp.TheVariants as handle_op
+use Rattle.runs_model.specs.declared.op.Polled.{Polled}
+use Rattle.runs_model.specs.declared.op.Polled.TheVariants as of
+use Rattle.runs_model.specs.declared.op.RunOp.{RunOp}
+use Rattle.runs_model.specs.declared.op.RunOp.TheVariants as run_op
+use Rattle.runs_model.specs.declared.op.RunPoll.{RunPoll}
+use Rattle.runs_model.specs.declared.op.Sleeper.{Sleeper}
+use Rattle.runs_model.specs.declared.op.Sleeper.TheVariants as sleeper
+use Rattle.runs_model.specs.declared.op.Sleeping.{Sleeping}
+use Rattle.runs_model.specs.declared.op.Source.{Source}
+use Rattle.runs_model.specs.declared.op.Source.TheVariants.{Common, Own}
+use Rattle.runs_model.specs.declared.op.Steal.{Steal}
+use Rattle.runs_model.specs.declared.op.StealOp.{StealOp}
+use Rattle.runs_model.specs.declared.op.StealOp.TheVariants as steal_op
+use Rattle.runs_model.specs.declared.op.Then.{Then}
+use Rattle.runs_model.specs.declared.op.Then.TheVariants as then
+use Rattle.runs_model.specs.declared.op.TickOp.{TickOp}
+use Rattle.runs_model.specs.declared.op.TickOp.TheVariants as tick_op
+use Rattle.task_moves.specs.declared.moves.owed.Move.TheVariants as move
+use Rattle.runs_model.specs.declared.op.QueueOp.TheVariants as queue_op
+use Rattle.runs_model.specs.declared.op.TableOp.TheVariants as table_op
+use Rattle.runs_model.specs.declared.op.UserOp.TheVariants as user_op
+use Rattle.runs_model.specs.declared.op.WakerOp.TheVariants as waker_op
+use Rattle.runs_model.specs.declared.step.Hint.{Hint}
+use Rattle.runs_model.specs.declared.step.Step.{Step}
+use Rattle.runs_model.specs.declared.step.Step.TheVariants.{Begin, Go}
+use Rattle.runs_model.specs.declared.step.Step.TheVariants as step_is
+use Rattle.runs_model.specs.declared.step.StepError.{StepError}
+use Rattle.runs_model.specs.declared.step.StepError.TheVariants.{NoSuch}
+use Rattle.runs_model.specs.declared.step.UserEnd.{UserEnd}
+use Rattle.runs_model.specs.declared.step.UserEnd.TheVariants as end
+use Rattle.runs_model.specs.World.{World, Place, Done, log, log_if, put_own, task, put}
+use Rattle.runs_model.specs.Acts.{append_by, take_by, enter_by, leave_by, copy_by, look_by, look_again_by}
+use Rattle.runs_model.specs.Acts.{copy_awaiter_by, register_by, end_register_by, notify_by, call_waker}
+use Rattle.runs_model.specs.Acts.{drop_next_by, wake_next_by, drain_by}
+use Rattle.runs_model.specs.ActsOfSleepers.{search_by}
+use Rattle.runs_model.specs.ActsOfRuns as runs
+use Rattle.runs_model.specs.Doing.{act, run_act, search_by_who, steal_act, tick_act}
+use Rattle.runs_model.specs.Steps.{Machine, stack, top, below_top, refusal, go_refusal, unless}
+use Rattle.runs_model.specs.Steps.{begun, react, future_of, mine, kept, with_future, settled_by}
+use Rattle.runs_model.specs.Steps.{gone_on, after, step, stepped, run, start}
+use Rattle.runs_model.proofs.Lift.{topped, good}
+use Rattle.runs_model.proofs.LeavingRuns.{placed, has-place}
+use Rattle.runs_model.proofs.Entering.{finds-place}
+use Rattle.runs_model.proofs.Spawning.{in-range}
+use Rattle.runs_model.proofs.Stepping.{step-refused, step-made}
+use Rattle.runs_model.proofs.RunsQueue.{queue-list}
+use Rattle.runs_model.proofs.SleepersWorlds.{Rest, call-rest, sleeper-rest, tick-rest, searches}
+use Rattle.runs_laws.specs.Queueings.{queued_by, queueings, counting, Changes, counted_after, CountsQueueings}
+use Rattle.runs_laws.specs.Queueings.Changes.{stays, appends, takes, closes}
+
+-- what doing o does to the queue
+data Turns (o : Op) (q new : ClosableQueue ℕ) : Type 0 where
+  same : new ≡ q → Turns o q new
+  more : (f : ℕ) → o ≡ op.Queue (queue_op.Append f) → q.closed ≡ false → new ≡ appended q f → Turns o q new
+  less : (f : ℕ) (rest : List ℕ) → q.items ≡ f ∷ rest → new ≡ taken q → Turns o q new
+  shuts : new ≡ shut q → Turns o q new
+
+turns-append : (c : Bool) (l : Bool) (w : World) (f : ℕ) → w.queue.closed ≡ c →
+    Turns (op.Queue (queue_op.Append f)) w.queue (append_by (not c && l) w f).world.queue
+turns-append true l w f e = same refl
+turns-append false true w f e = more f refl e refl
+turns-append false false w f e = same refl
+
+turns-take : (w : World) (items : List ℕ) → w.queue.items ≡ items →
+    Turns (op.Queue queue_op.Take) w.queue (take_by w items).world.queue
+turns-take w [] e = same refl
+turns-take w (f ∷ rest) e = less f rest e refl
+
+turns-drain : (p : ℕ) (w : World) (items : List ℕ) → w.queue.items ≡ items →
+    Turns (op.Closing closing_op.Drain) w.queue (drain_by p w items).world.queue
+turns-drain p w [] e = same refl
+turns-drain p w (f ∷ rest) e = less f rest e refl
+
+-- all else leaves it
+
+logged : (b : Bool) (w : World) (e : Event) → (log_if b w e).queue ≡ w.queue
+logged true w e = refl
+logged false w e = refl
+
+entered : (b c : Bool) (p : ℕ) (w : World) → (enter_by b c p w).world.queue ≡ w.queue
+entered true c p w = refl
+entered false true p w = refl
+entered false false p w = refl
+
+leaves : (b : Bool) (w : World) (f : ℕ) → (leave_by b w f).world.queue ≡ w.queue
+leaves true w f = refl
+leaves false w f = refl
+
+copies : (b : Bool) (w : World) (f : ℕ) (held : Hold) → (copy_by b w f held).world.queue ≡ w.queue
+copies true w f held = refl
+copies false w f held = refl
+
+looks : (a : Option Answer) (p : ℕ) (w : World) (f : ℕ) (x : Waker) (m : Moved) →
+    (look_by a p w f x m).world.queue ≡ w.queue
+looks None p w f x m = refl
+looks (Some a) p w f x m = logged _ (put (log w (event.HandlePolled p f)) f m.state) (event.OutputGiven p f)
+
+looks-again : (a : Option Answer) (p : ℕ) (w : World) (f : ℕ) (m : Moved) →
+    (look_again_by a p w f m).world.queue ≡ w.queue
+looks-again None p w f m = refl
+looks-again (Some a) p w f m = logged _ (put w f m.state) (event.OutputGiven p f)
+
+copies-awaiter : (b : Bool) (p : ℕ) (w : World) (f : ℕ) (a : Waker) → (copy_awaiter_by b p w f a).world.queue ≡ w.queue
+copies-awaiter true p w f a = refl
+copies-awaiter false p w f (Task g) = refl
+copies-awaiter false p w f (Outside x) = refl
+
+registers : (b : Bool) (w : World) (f : ℕ) (a : Waker) (k : ℕ) → (register_by b w f a k).world.queue ≡ w.queue
+registers true w f a k = refl
+registers false w f a k = refl
+
+ends-register : (b : Bool) (w : World) (f : ℕ) (a : Waker) (k : ℕ) → (end_register_by b w f a k).world.queue ≡ w.queue
+ends-register true w f a k = refl
+ends-register false w f a k = refl
+
+notifies : (b : Bool) (w : World) (f : ℕ) (mine : Bool) → (notify_by b w f mine).world.queue ≡ w.queue
+notifies true w f mine = refl
+notifies false w f mine = refl
+
+calls : (p : ℕ) (w : World) (o : Polled) (a : Waker) (k : ℕ) → (call_waker p w o a k).world.queue ≡ w.queue
+calls p w o a k = sym (ap (λ (r : Rest). r.queue) (call-rest p w o a k))
+
+-- of what a tick does, the search alone takes
+turns-search : (x : Place) (w : World) (items : List ℕ) (s : Sleeping) → w.queue.items ≡ items →
+    Turns (op.Tick (tick_op.Search s)) w.queue (search_by x w items s).world.queue
+turns-search x w [] s e = same refl
+turns-search x w (f ∷ rest) s e = less f rest e refl
+
+-- what a run does changes it by takes alone
+
+queue-run_by : (b : Bool) (w : World) (x : RunPoll) (f : ℕ) → (runs.run_by b w x f).world.queue ≡ w.queue
+queue-run_by true w x f = refl
+queue-run_by false w x f = refl
+
+queue-counted : (b : Bool) (w : World) (x : RunPoll) (f : ℕ) → (runs.counted_by b w x f).world.queue ≡ w.queue
+queue-counted true w x f = refl
+queue-counted false w x f = queue-run_by _ _ x f
+
+queue-found : (w : World) (x : RunPoll) (f : ℕ) → (runs.found w x f).world.queue ≡ w.queue
+queue-found w x f = queue-counted _ w x f
+
+queue-stolen : (t : Then) (w : World) (x : RunPoll) → (runs.stolen t w x).world.queue ≡ w.queue
+queue-stolen (then.Found f) w x = queue-found w x f
+queue-stolen (then.Run f) w x = queue-run_by _ w x f
+queue-stolen (then.Walk at left) w x = refl
+
+queue-more : (n : ℕ) (w : World) (s : Steal) → (runs.steal_by n w s).world.queue ≡ w.queue
+queue-more zero w s = queue-stolen s.then w s.poll
+queue-more (suc n) w s = refl
+
+queue-length : (n : ℕ) (w : World) (s : Steal) → (runs.steal_length_by n w s).world.queue ≡ w.queue
+queue-length zero w s = queue-stolen s.then w s.poll
+queue-length (suc n) w s = refl
+
+turns-stolen : (from : Source) (q : List ℕ) (w : World) (s : Steal) (left : ℕ) → s.from ≡ from →
+    runs.source_of w from ≡ q →
+    Turns (op.Steal (steal_op.Take s left)) w.queue (runs.steal_take_by q w s left).world.queue
+turns-stolen from [] w s left i e = same (queue-stolen s.then w s.poll)
+turns-stolen Common (f ∷ rest) w s left i e =
+    less f rest e (ap (λ (a : Source). (runs.without_first w a rest).queue) i)
+turns-stolen (Own r) (f ∷ rest) w s left i e = same (ap (λ (a : Source). (runs.without_first w a rest).queue) i)
+
+queue-put : (b : Bool) (p : ℕ) (w : World) (s : Steal) (left f : ℕ) →
+    (runs.steal_put_by b p w s left f).world.queue ≡ w.queue
+queue-put true p w s left f = queue-more left (runs.kept_by p w s.poll.run f) s
+queue-put false p w s left f = queue-stolen s.then w s.poll
+
+turns-steal : (p : ℕ) (o : StealOp) (w : World) → Turns (op.Steal o) w.queue (steal_act p o w).world.queue
+turns-steal p (steal_op.Length s) w = same (queue-length _ w s)
+turns-steal p (steal_op.OwnLength s n) w = same (queue-more _ w s)
+turns-steal p (steal_op.Take s left) w = turns-stolen s.from _ w s left refl refl
+turns-steal p (steal_op.Put s left f) w = same (queue-put _ p w s left f)
+
+queue-own : (q : List ℕ) (w : World) (x : RunPoll) → (runs.search_own_by q w x).world.queue ≡ w.queue
+queue-own [] w x = refl
+queue-own (f ∷ rest) w x = queue-found (put_own w x.run rest) x f
+
+queue-look : (q : List ℕ) (w : World) (x : RunPoll) (at left : ℕ) →
+    (runs.look_own_by q w x at left).world.queue ≡ w.queue
+queue-look [] w x at left = refl
+queue-look (f ∷ rest) w x at left = queue-found (put_own w x.run rest) x f
+
+turns-common : (q : List ℕ) (w : World) (x : RunPoll) → w.queue.items ≡ q →
+    Turns (op.Run (run_op.SearchCommon x)) w.queue (runs.search_common_by q w x).world.queue
+turns-common [] w x e = same refl
+turns-common (f ∷ rest) w x e = less f rest e refl
+
+queue-room : (b : Bool) (w : World) → (runs.make_room_by b w).world.queue ≡ w.queue
+queue-room true w = refl
+queue-room false w = refl
+
+queue-by_reference : (p : ℕ) (w : World) (a : Waker) → (runs.call_by_reference p w a).world.queue ≡ w.queue
+queue-by_reference p w (Task f) = logged _ w (event.Woken p f)
+queue-by_reference p w (Outside y) = refl
+
+queue-reschedule : (q : List ℕ) (w : World) (r : ℕ) (a : Reply) → (runs.reschedule_by q w r a).world.queue ≡ w.queue
+queue-reschedule [] w r a = refl
+queue-reschedule (f ∷ rest) w r a = refl
+
+turns-run : (p : ℕ) (h : Hint) (o : RunOp) (w : World) → Turns (op.Run o) w.queue (run_act p h o w).world.queue
+turns-run p h run_op.MakeRoom w = same (queue-room _ w)
+turns-run p h run_op.ReturnRoom w = same refl
+turns-run p h (run_op.SearchCommon x) w = turns-common _ w x refl
+turns-run p h (run_op.LookOwn x at left) w = same (queue-look _ w x at left)
+turns-run p h (run_op.WakeOwn x) w =
+    same (queue-by_reference p (log w (event.WakerCalled p (of.Run x.run) x.poll x.waker)) x.waker)
+turns-run p h (run_op.Reschedule r a) w = same (queue-reschedule _ w r a)
+
+turns-searches : (who : Sleeper) (w : World) (s : Sleeping) →
+    Turns (op.Tick (tick_op.Search s)) w.queue (search_by_who who w s).world.queue
+turns-searches (sleeper.Tick t) w s = turns-search _ w w.queue.items s refl
+turns-searches (sleeper.Run r) w s = same (queue-own _ w _)
+
+turns-tick : (h : Hint) (o : TickOp) (w : World) (b : Bool) → searches o ≡ b →
+    Turns (op.Tick o) w.queue (tick_act h o w).world.queue
+turns-tick h (tick_op.Search s) w b e = turns-searches s.who w s
+turns-tick h o w false e = same (sym (ap (λ (r : Rest). r.queue) (tick-rest h o w e)))
+turns-tick h _ w true e = absurd (cc)
+
+drops-next : (p : ℕ) (w : World) (fs : List ℕ) → (drop_next_by p w fs).world.queue ≡ w.queue
+drops-next p w [] = refl
+drops-next p w (f ∷ fs) = refl
+
+wakes-next : (p : ℕ) (w : World) (fs : List ℕ) → (wake_next_by p w fs).world.queue ≡ w.queue
+wakes-next p w [] = refl
+wakes-next p w (f ∷ fs) = logged _ (record w { waking = fs }) (event.Woken p f)
+
+turns-act : (p : ℕ) (h : Hint) (o : Op) (w : World) → Turns o w.queue (act p h o w).world.queue
+turns-act p h (op.Table table_op.Enter) w = same (entered _ _ p w)
+turns-act p h (op.Queue queue_op.Take) w = turns-take w w.queue.items refl
+turns-act p h (op.Queue (queue_op.Append f)) w = turns-append w.queue.closed _ w f refl
+turns-act p h (op.Move move.WakeByReference f) w = same (logged _ w (event.Woken p f))
+turns-act p h (op.Move move.Wake f) w = same (logged _ w (event.Woken p f))
+turns-act p h (op.Move move.TakeUp f) w = same (logged _ w (event.PollBegun p f))
+turns-act p h (op.Move move.Cancel f) w = same (logged _ w (event.Cancelled p f))
+turns-act p h (op.Move move.Detach f) w = same (logged _ w (event.Detached p f))
+turns-act p h (op.Table (table_op.LeaveTable f)) w = same (leaves _ w f)
+turns-act p h (op.Waker (waker_op.CopyWaker f held)) w = same (copies _ w f held)
+turns-act p h (op.Handle (handle_op.Look f a)) w =
+    same (looks (moves.poll (task w f)).owed.answer p w f a (moves.poll (task w f)))
+turns-act p h (op.Handle (handle_op.CopyAwaiter f a)) w = same (copies-awaiter _ p w f a)
+turns-act p h (op.Handle (handle_op.Register f a k)) w = same (registers _ w f a k)
+turns-act p h (op.Handle (handle_op.EndRegister f a k)) w = same (ends-register _ w f a k)
+turns-act p h (op.Handle (handle_op.LookAgain f)) w =
+    same (looks-again (moves.look_again (task w f)).owed.answer p w f (moves.look_again (task w f)))
+turns-act p h (op.Handle (handle_op.Notify f mine)) w = same (notifies _ w f mine)
+turns-act p h (op.Waker (waker_op.CallAwaiter f a k)) w = same (calls p w (of.Handle f) a k)
+turns-act p h (op.Sleeper o) w = same (sym (ap (λ (r : Rest). r.queue) (sleeper-rest p o w)))
+turns-act p h (op.Tick o) w = turns-tick h o w (searches o) refl
+turns-act p h (op.List o) w = same (queue-list h o w)
+turns-act p h (op.Steal o) w = turns-steal p o w
+turns-act p h (op.Run o) w = turns-run p h o w
+turns-act p h (op.Closing closing_op.DropNext) w = same (drops-next p w w.leaving)
+turns-act p h (op.Closing closing_op.WakeNext) w = same (wakes-next p w w.waking)
+turns-act p h (op.Closing closing_op.Close) w = shuts refl
+turns-act p h (op.Closing closing_op.Drain) w = turns-drain p w w.queue.items refl
+turns-act p h (op.User (user_op.BeginDrop f)) w = same refl
+turns-act p h _ w = same refl
+
+reacts : (p : ℕ) (o : Op) (u : UserEnd) (w : World) → (react p o u w).world.queue ≡ w.queue
+reacts p (op.User (user_op.Poll f)) (end.Polled answer.Pending) w = refl
+reacts p (op.User (user_op.Poll f)) (end.Polled answer.Ready) w = refl
+reacts p (op.User (user_op.PollOwn x)) (end.Polled answer.Pending) w = refl
+reacts p (op.User (user_op.PollOwn x)) (end.Polled answer.Ready) w = refl
+reacts p _ _ w = refl
+
+with-future : (w : World) (x : Option ℕ) (d : ℕ → Done) → ((f : ℕ) → (d f).world.queue ≡ w.queue) →
+    (with_future w x d).world.queue ≡ w.queue
+with-future w None d k = refl
+with-future w (Some f) d k = k f
+
+begins : (p : ℕ) (w : World) (here : Option Waker) (c : Call) → (begun p w here c).world.queue ≡ w.queue
+begins p w here (call.Wake k) = with-future w (kept w k) _ (λ f. refl)
+begins p w here (call.WakeByRef k) = with-future w (kept w k) _ (λ f. refl)
+begins p w here (call.Copy k) = with-future w (kept w k) _ (λ f. refl)
+begins p w here (call.DropWaker k) = with-future w (kept w k) _ (λ f. refl)
+begins p w here call.Keep = with-future w (future_of here) _ (λ f. refl)
+begins p w here call.WakeSelf = with-future w (future_of here) _ (λ f. refl)
+begins p w here _ = refl
+
+-- the end of a call leaves it
+settles : (p : ℕ) (w : World) (os : List Op) (r : Option Reply) → (settled_by r p w os).world.queue ≡ w.queue
+settles p w os None = refl
+settles p w os (Some r) = refl
+
+-- what a step does to the queue
+data Steps (s : Machine) (new : ClosableQueue ℕ) : Type 0 where
+  as-was : new ≡ s.world.queue → Steps s new
+  longer : (p f : ℕ) → top (stack s p) ≡ Some (op.Queue (queue_op.Append f)) → s.world.queue.closed ≡ false →
+      new ≡ appended s.world.queue f → Steps s new
+  shorter : (f : ℕ) (rest : List ℕ) → s.world.queue.items ≡ f ∷ rest → new ≡ taken s.world.queue → Steps s new
+  shut-by : new ≡ shut s.world.queue → Steps s new
+
+by-act : (s : Machine) (p : ℕ) (o : Op) (v new : ClosableQueue ℕ) → top (stack s p) ≡ Some o → new ≡ v →
+    Turns o s.world.queue v →
+    Steps s new
+by-act s p o v new e q (same x) = as-was (q ∙ x)
+by-act s p o v new e q (more f x c y) = longer p f (e ∙ ap (λ (z : Op). Some z) x) c (q ∙ y)
+by-act s p o v new e q (less f rest x y) = shorter f rest x (q ∙ y)
+by-act s p o v new e q (shuts y) = shut-by (q ∙ y)
+
+by-go : (s : Machine) (p : ℕ) (h : Hint) (x : Option Op) → top (stack s p) ≡ x →
+    Steps s (gone_on p s.world (stack s p) x (λ o. act p h o s.world)).world.queue
+by-go s p h None e = as-was refl
+by-go s p h (Some o) e =
+    by-act s p o (act p h o s.world).world.queue _ e (settles p (act p h o s.world).world
+    (below_top (stack s p) ++ reverse (act p h o s.world).next) _) (turns-act p h o s.world)
+
+by-answer : (s : Machine) (p : ℕ) (u : UserEnd) (x : Option Op) →
+    Steps s (gone_on p s.world (stack s p) x (λ o. react p o u s.world)).world.queue
+by-answer s p u None = as-was refl
+by-answer s p u (Some o) =
+    as-was (settles p (react p o u s.world).world (below_top (stack s p) ++ reverse (react p o u s.world).next) _
+    ∙ reacts p o u s.world)
+
+by-after : (s : Machine) (t : Step) → Steps s (after s t).world.queue
+by-after s (Begin p c) =
+    let w : World = log s.world (event.CallBegun p c) in
+    let d : Done = begun p w (mine (top (stack s p))) c in
+    as-was (settles p d.world (stack s p ++ reverse d.next) _ ∙ begins p w (mine (top (stack s p))) c)
+by-after s (Go p h) = by-go s p h (top (stack s p)) refl
+by-after s (step_is.Answer p u) = by-answer s p u (top (stack s p))
+
+by-step : (s : Machine) (t : Step) → Steps s (stepped s (step s t)).world.queue
+by-step s t = go (refusal s t) refl
+  where
+    go : (r : Option StepError) → refusal s t ≡ r → Steps s (stepped s (step s t)).world.queue
+    go None e = subst (λ (x : Result Machine StepError). Steps s (stepped s x).world.queue) (sym (step-made s t e))
+        (by-after s t)
+    go (Some error) e = subst (λ (x : Result Machine StepError). Steps s (stepped s x).world.queue)
+        (sym (step-refused s t error e))
+        (as-was refl)
+
+-- a step appends one Runnable at most
+
+count-less : (xs : List ℕ) → length (drop 1 xs) - length xs ≡ 0
+count-less [] = refl
+count-less (x ∷ xs) = omega arith
+
+queued-most : (s : Machine) (new : ClosableQueue ℕ) → Steps s new → length new.items - length s.world.queue.items ≤ 1
+queued-most s new (as-was x) = omega (arith, ap (λ (v : ClosableQueue ℕ). length v.items) x)
+queued-most s new (longer p f a c x) = omega (
+  arith,
+  ap (λ (v : ClosableQueue ℕ). length v.items) x,
+  length-append s.world.queue.items (f ∷ []),
+)
+queued-most s new (shorter f rest a x) = omega (
+  arith,
+  ap (λ (v : ClosableQueue ℕ). length v.items - length s.world.queue.items) x,
+  count-less s.world.queue.items,
+)
+queued-most s new (shut-by x) = omega (arith, ap (λ (v : ClosableQueue ℕ). length v.items) x)
+
+queueings-most : (ts : List Step) (s : Machine) → queueings ts s ≤ length ts
+queueings-most [] s = omega arith
+queueings-most (t ∷ ts) s = omega (
+  arith,
+  queued-most s (stepped s (step s t)).world.queue (by-step s t),
+  queueings-most ts (stepped s (step s t)),
+)
+
+-- as a queue that counts
+
+queueings-push : (ts : List Step) (t : Step) (s : Machine) →
+    queueings (ts ++ t ∷ []) s ≡ queueings ts s + queued_by t (run ts s)
+queueings-push [] t s = omega arith
+queueings-push (x ∷ ts) t s = omega (arith, queueings-push ts t (stepped s (step s x)))
+
+run-push : (ts : List Step) (t : Step) (s : Machine) → run (ts ++ t ∷ []) s ≡ stepped (run ts s) (step (run ts s) t)
+run-push [] t s = refl
+run-push (x ∷ ts) t s = run-push ts t (stepped s (step s x))
+
+count-more : (xs : List ℕ) (f : ℕ) → length (xs ++ f ∷ []) - length xs ≡ 1
+count-more xs f = omega (arith, length-append xs (f ∷ []))
+
+module _ (limit parties : ℕ) (steps : List Step) where
+  abbrev now : Machine
+  now = run steps (start limit parties)
+
+  abbrev count : ℕ
+  count = queueings steps (start limit parties)
+
+  -- one step later
+  later : (t : Step) (q : ClosableQueue ℕ) (n : ℕ) → (stepped now (step now t)).world.queue ≡ q →
+      length q.items - length now.world.queue.items ≡ n →
+      counted_after limit parties (steps ++ t ∷ []) ≡ counting (count + n) q
+  later t q n e k =
+      ap (λ (m : ℕ). counting m (run (steps ++ t ∷ []) (start limit parties)).world.queue)
+      (queueings-push steps t (start limit parties)
+      ∙ ap (λ (m : ℕ). count + m) (ap (λ (v : ClosableQueue ℕ). length v.items - length now.world.queue.items) e ∙ k))
+      ∙ ap (counting (count + n)) (ap (λ (m : Machine). m.world.queue) (run-push steps t (start limit parties)) ∙ e)
+
+  has-room : (p f : ℕ) → top (stack now p) ≡ Some (op.Queue (queue_op.Append f)) → HasRoom now.world.queue
+  has-room p f e = finds-place now f (good limit parties steps) (placed limit parties steps) p e
+
+  same-count : (q : ClosableQueue ℕ) → counting (count + 0) q ≡ counting count q
+  same-count q = ap (λ (m : ℕ). counting m q) (let z : count + 0 ≡ count = omega arith in z)
+
+  changes-by : count < most_accepted → (t : Step) (q : ClosableQueue ℕ) → (stepped now (step now t)).world.queue ≡ q →
+      Steps now q →
+      Changes (counted_after limit parties steps) (counted_after limit parties (steps ++ t ∷ []))
+  changes-by few t q e (as-was x) = stays (later t now.world.queue 0 (e ∙ x) (omega arith) ∙ same-count now.world.queue)
+  changes-by few t q e (longer p f a c x) =
+      appends f c (has-room p f a) few
+      (later t (appended now.world.queue f) 1 (e ∙ x) (count-more now.world.queue.items f))
+  changes-by few t q e (shorter f rest a x) =
+      takes f rest a (later t (taken now.world.queue) 0 (e ∙ x) (count-less now.world.queue.items)
+      ∙ same-count (taken now.world.queue))
+  changes-by few t q e (shut-by x) =
+      closes (later t (shut now.world.queue) 0 (e ∙ x) (omega arith) ∙ same-count (shut now.world.queue))
+
+  -- who is about to append does
+  appends-now : (p : ℕ) (h : Hint) (f : ℕ) → top (stack now p) ≡ Some (op.Queue (queue_op.Append f)) →
+      now.world.queue.closed ≡ false →
+      (stepped now (step now (Go p h))).world.queue ≡ appended now.world.queue f
+  appends-now p h f e c =
+      let l : p < length now.parties = in-range now p (op.Queue (queue_op.Append f)) e in
+      let b : ltb p (length now.parties) ≡ true = grind (arith, nat_tests) in
+      let r : refusal now (Go p h) ≡ None =
+      ap (λ (x : Bool). unless x NoSuch (go_refusal now.world (top (stack now p)))) b
+      ∙ ap (go_refusal now.world) e in
+      let room : length now.world.queue.items < now.world.limit =
+      has-place now p f (below_top (stack now p)) l (topped (stack now p) (op.Queue (queue_op.Append f)) e)
+      (good limit parties steps)
+      (placed limit parties steps) in
+      let free : (not now.world.queue.closed && ltb (length now.world.queue.items) now.world.limit) ≡ true =
+      ap (λ (x : Bool). not x && ltb (length now.world.queue.items) now.world.limit) c
+      ∙ (let z : ltb (length now.world.queue.items) now.world.limit ≡ true = grind (arith, nat_tests) in z) in
+      ap (λ (x : Result Machine StepError). (stepped now x).world.queue) (step-made now (Go p h) r)
+      ∙ (ap (λ (x : Option Op). (gone_on p now.world (stack now p) x (λ o. act p h o now.world)).world.queue) e
+      ∙ (settles p (act p h (op.Queue (queue_op.Append f)) now.world).world
+      (below_top (stack now p) ++ reverse (act p h (op.Queue (queue_op.Append f)) now.world).next) _
+      ∙ ap (λ (x : Bool). (append_by x now.world f).world.queue) free))
+
+pub counts-queueings : (limit parties : ℕ) (steps : List Step) → CountsQueueings limit parties steps
+counts-queueings limit parties steps = record {
+  most = queueings-most steps (start limit parties);
+  new = refl;
+  changes = λ few t. changes-by limit parties steps few t _ refl (by-step (run steps (start limit parties)) t);
+  appends = λ few p h f e c. later limit parties steps (Go p h)
+      (appended (run steps (start limit parties)).world.queue f) 1
+      (appends-now limit parties steps p h f e c) (count-more (run steps (start limit parties)).world.queue.items f);
+}

@@ -1,0 +1,291 @@
+-- Each thing that is done spends a step of those that remain.
+use Rattle.std.proofs.Common.{◌≡◌, ℕ, ◌+◌, ◌*◌, ◌<◌, ◌≤◌, List, [], ◌∷◌, ◌++◌, length, drop}
+use Rattle.std.proofs.Common.{Bool, true, false, ◌&&◌, refl, ap, arith}
+use Rattle.std.proofs.lemmas.List.{length_push}
+use Rattle.std.specs.Prelude.{Option, Some, None}
+use Rattle.queue_steps.specs.ClosableQueue.{appended, taken}
+use Rattle.task_moves.specs.declared.moves.state.State.{State}
+use Rattle.task_moves.specs.declared.moves.owed.Moved.{Moved}
+use Rattle.task_moves.specs.declared.moves.owed.Answer.{Answer}
+use Rattle.task_moves.specs.declared.moves.owed.Answer.TheVariants.{Pending, Closed, Output}
+use Rattle.task_moves.specs.Moves as moves
+use Rattle.task_moves.specs.Moves.{is_over}
+use Rattle.runs_model.specs.declared.event.Event.TheVariants as event
+use Rattle.runs_model.specs.declared.op.Awaiter.{Awaiter}
+use Rattle.runs_model.specs.declared.op.Polled.{Polled}
+use Rattle.runs_model.specs.declared.op.Hold.{Hold}
+use Rattle.runs_model.specs.declared.op.Hold.TheVariants as hold
+use Rattle.runs_model.specs.declared.op.Waker.{Waker}
+use Rattle.runs_model.specs.declared.op.Waker.TheVariants.{Task, Outside}
+use Rattle.runs_model.specs.declared.op.Op.{Op}
+use Rattle.runs_model.specs.declared.op.Op.TheVariants as op
+use Rattle.runs_model.specs.declared.op.HandleOp.TheVariants as handle_op
+use Rattle.runs_model.specs.declared.step.Hint.{Hint}
+use Rattle.runs_model.specs.World.{World, Done, done, log, task, put, awaiter_of, without, among}
+use Rattle.runs_model.specs.Carried.{awaiter_ops}
+use Rattle.runs_model.specs.Acts.{append_by, take_by, enter_by, entered, leave_by, copy_by, polled}
+use Rattle.runs_model.specs.Acts.{reply_of, is_output, answered, look_by, look_again_by, copied}
+use Rattle.runs_model.specs.Acts.{copy_awaiter_by, register_by, waker_goes, let_go, end_register_by}
+use Rattle.runs_model.specs.Acts.{notify_by, told, end_notify, call_waker, closing_ops, take_out}
+use Rattle.runs_model.specs.Acts.{drop_next_by, followed, wake, wake_next_by, drain_by}
+use Rattle.runs_model.specs.Weights.{weigh}
+use Rattle.runs_model.specs.Good.{CanGrow, CanWake, IsKnownWaker}
+use Rattle.runs_laws.specs.Costs.{steps_of}
+use Rattle.runs_laws.specs.Remaining.{stored, steps_of_task, steps_of_tasks, steps_of_runs, notified_of, ups}
+use Rattle.runs_laws.specs.Remaining.{steps_kept}
+use Rattle.runs_model.proofs.Lists.{weigh-append}
+use Rattle.runs_laws.proofs.Spending.{Spends, kept-parts, tasks-push, one_stored, stored-push, without-one}
+use Rattle.runs_laws.proofs.Spending.{kept-put, kept-put_awaiter, kept-log, kept-log_if}
+use Rattle.runs_laws.proofs.Spending.{notify_other-steps, spends-logged, costs-waking, closed-spent}
+
+-- queue and table
+
+pub spends-append : (b : Bool) (w : World) (f : ℕ) → Spends w 43 (append_by b w f)
+spends-append true w f =
+    omega (arith, kept-parts w, kept-parts (record w { queue = appended w.queue f }), length_push w.queue.items f)
+spends-append false w f = omega arith
+
+pub spends-take : (w : World) (q : List ℕ) → w.queue.items ≡ q → Spends w 113 (take_by w q)
+spends-take w [] e = omega arith
+spends-take w (f ∷ rest) e = omega (
+  arith,
+  kept-parts w,
+  kept-parts (record w { queue = taken w.queue }),
+  ap length e,
+  ap (λ (xs : List ℕ). length (drop 1 xs)) e,
+)
+
+pub spends-enter : (b c : Bool) (p : ℕ) (w : World) → Spends w 116 (enter_by b c p w)
+spends-enter true c p w = omega arith
+spends-enter false true p w = omega arith
+spends-enter false false p w = omega (
+  arith,
+  kept-parts w,
+  kept-parts (enter_by false false p w).world,
+  length_push w.table (length w.tasks),
+  tasks-push w.tasks entered,
+  stored-push w.awaiters,
+)
+
+pub spends-leave : (b : Bool) (w : World) (f : ℕ) → among f w.table ≡ b → Spends w 1 (leave_by b w f)
+spends-leave true w f e =
+    omega (arith, kept-parts w, kept-parts (record w { table = without f w.table }), without-one f w.table e)
+spends-leave false w f e = omega arith
+
+-- the world has changed in nothing that is kept
+pub spends-as : (w v : World) (c : ℕ) (next : List Op) → steps_kept v ≡ steps_kept w → weigh steps_of next + 1 ≤ c →
+    Spends w c (done v next)
+spends-as w v c next e k = omega (arith, e, k)
+
+pub kept-as : (w v : World) → v.queue.items ≡ w.queue.items → v.table ≡ w.table → v.leaving ≡ w.leaving →
+    v.waking ≡ w.waking →
+    v.awaiters ≡ w.awaiters → v.tasks ≡ w.tasks → v.sleepers ≡ w.sleepers → v.ticks ≡ w.ticks → v.runs ≡ w.runs →
+    steps_kept v ≡ steps_kept w
+kept-as w v a b c d e f g h i = omega (
+  arith,
+  kept-parts w,
+  kept-parts v,
+  ap length a,
+  ap length b,
+  ap length c,
+  ap length d,
+  ap stored e,
+  ap steps_of_tasks f,
+  ap notified_of g,
+  ap ups h,
+  ap steps_of_runs i,
+)
+
+-- polls of a handle
+
+pub spends-answered : (p : ℕ) (w v : World) (f c : ℕ) (m : Moved) (a : Answer) → f < length v.tasks →
+    steps_kept v ≡ steps_kept w →
+    task v f ≡ task w f → steps_of_task m.state ≤ steps_of_task (task w f) →
+    weigh steps_of (awaiter_ops f m.owed.awaiter) ≤ 2 → 4 ≤ c →
+    Spends w c (answered p v f m a)
+spends-answered p w v f c m a i e t k n l = omega (
+  arith,
+  e,
+  kept-log_if (is_output a) (put v f m.state) (event.OutputGiven p f),
+  kept-put v f m.state i,
+  ap steps_of_task t,
+  k,
+  n,
+  l,
+  weigh-append steps_of (awaiter_ops f m.owed.awaiter) (op.End (reply_of a) (hold.Handle f) ∷ []),
+)
+
+pub spends-look : (x k c : Bool) (p : ℕ) (w : World) (f : ℕ) (a : Waker) → f < length w.tasks →
+    Spends w 34 (look_by (moves.poll_by x k c (task w f)).owed.answer p w f a (moves.poll_by x k c (task w f)))
+spends-look true true c p w f a i = omega arith
+spends-look true false c p w f a i =
+    spends-answered p w (polled p w f) f 34 (moves.poll_by true false c (task w f)) Closed i (kept-log w _) refl
+    (omega arith)
+    (omega arith) (omega arith)
+spends-look false k false p w f a i = omega arith
+spends-look false k true p w f a i =
+    spends-answered p w (polled p w f) f 34 (moves.poll_by false k true (task w f)) Output i (kept-log w _) refl
+    (closed-spent (task w f).completed (task w f)) (notify_other-steps (task w f).awaiter f) (omega arith)
+
+pub spends-again : (x k c : Bool) (p : ℕ) (w : World) (f : ℕ) → f < length w.tasks →
+    Spends w 4 (look_again_by (moves.look_again_by x k c (task w f)).owed.answer p w f
+    (moves.look_again_by x k c (task w f)))
+spends-again true true c p w f i =
+    spends-answered p w w f 4 (moves.look_again_by true true c (task w f)) Pending i refl refl (omega arith)
+    (omega arith) (omega arith)
+spends-again true false c p w f i =
+    spends-answered p w w f 4 (moves.look_again_by true false c (task w f)) Closed i refl refl (omega arith)
+    (omega arith) (omega arith)
+spends-again false k false p w f i =
+    spends-answered p w w f 4 (moves.look_again_by false k false (task w f)) Pending i refl refl (omega arith)
+    (omega arith) (omega arith)
+spends-again false k true p w f i =
+    spends-answered p w w f 4 (moves.look_again_by false k true (task w f)) Output i refl refl
+    (closed-spent (task w f).completed (task w f)) (notify_other-steps (task w f).awaiter f) (omega arith)
+
+-- wakers and awaiters
+
+-- the task of future f has changed in nothing that is kept
+kept-marks : (w : World) (f : ℕ) (s : State) → f < length w.tasks → steps_of_task s ≡ steps_of_task (task w f) →
+    steps_kept (put w f s) ≡ steps_kept w
+kept-marks w f s l e = omega (arith, kept-put w f s l, e)
+
+pub spends-copy : (b : Bool) (w : World) (f : ℕ) (held : Hold) → f < length w.tasks → Spends w 2 (copy_by b w f held)
+spends-copy true w f held l = omega arith
+spends-copy false w f held l =
+    let v : World = put w f (record (task w f) { references = (task w f).references + 1 }) in
+    omega (
+      arith,
+      kept-marks w f (record (task w f) { references = (task w f).references + 1 }) l refl,
+      kept-as v (copy_by false w f held).world refl refl refl refl refl refl refl refl refl,
+    )
+
+pub kept-copied : (w : World) (a : Waker) → IsKnownWaker w a → steps_kept (copied w a) ≡ steps_kept w
+kept-copied w (Task g) l = kept-marks w g _ l refl
+kept-copied w (Outside x) l = refl
+
+pub spends-copy_awaiter : (b : Bool) (p : ℕ) (w : World) (f : ℕ) (a : Waker) → IsKnownWaker w a →
+    Spends w 33 (copy_awaiter_by b p w f a)
+spends-copy_awaiter true p w f a l = omega arith
+spends-copy_awaiter false p w f a l = omega (arith, kept-copied w a l, kept-log (copied w a) (event.HandlePolled p f))
+
+pub spends-register : (b : Bool) (w : World) (f : ℕ) (a : Waker) (k : ℕ) → f < length w.tasks →
+    Spends w 32 (register_by b w f a k)
+spends-register true w f a k l = omega (arith, kept-marks w f (moves.register_by true (task w f)).state l refl)
+spends-register false w f a k l = omega (arith, kept-marks w f (moves.register_by false (task w f)).state l refl)
+
+pub goes-steps : (a : Waker) → weigh steps_of (waker_goes a) ≤ 13
+goes-steps (Task k) = omega arith
+goes-steps (Outside x) = omega arith
+
+let_go-steps : (a : Option Awaiter) → weigh steps_of (let_go a) ≤ 26 * one_stored a
+let_go-steps None = omega arith
+let_go-steps (Some a) = omega (arith, goes-steps a.waker)
+
+pub spends-end_register : (b : Bool) (w : World) (f : ℕ) (a : Waker) (k : ℕ) → f < length w.tasks →
+    Spends w 31 (end_register_by b w f a k)
+spends-end_register true w f a k l =
+    let v : World = put w f (moves.end_register_by true (task w f)).state in
+    omega (
+      arith,
+      kept-marks w f (moves.end_register_by true (task w f)).state l refl,
+      kept-put_awaiter v f None,
+      let_go-steps (awaiter_of w f),
+      weigh-append steps_of (let_go (awaiter_of w f)) (op.Handle (handle_op.LookAgain f) ∷ []),
+    )
+spends-end_register false w f a k l =
+    let v : World = put w f (moves.end_register_by false (task w f)).state in
+    omega (
+      arith,
+      kept-marks w f (moves.end_register_by false (task w f)).state l refl,
+      kept-put_awaiter v f (Some (record { waker = a; poll = k })),
+      let_go-steps (awaiter_of w f),
+      weigh-append steps_of (let_go (awaiter_of w f)) (op.Handle (handle_op.LookAgain f) ∷ []),
+    )
+
+pub spends-notify : (b : Bool) (w : World) (f : ℕ) (mine : Bool) → f < length w.tasks →
+    Spends w 2 (notify_by b w f mine)
+spends-notify true w f mine l = omega (arith, kept-marks w f (moves.notify_by true (task w f)).state l refl)
+spends-notify false w f mine l = omega (arith, kept-marks w f (moves.notify_by false (task w f)).state l refl)
+
+told-steps : (b : Bool) (f : ℕ) (a : Option Awaiter) → weigh steps_of (told b f a) ≤ 26 * one_stored a
+told-steps b f None = omega arith
+told-steps true f (Some a) = omega (arith, goes-steps a.waker)
+told-steps false f (Some a) = omega arith
+
+pub spends-end_notify : (h : Hint) (w : World) (f : ℕ) (mine : Bool) → f < length w.tasks →
+    Spends w 1 (end_notify h w f mine)
+spends-end_notify h w f mine l =
+    let v : World = put w f (moves.end_notify (task w f)).state in
+    omega (
+      arith,
+      kept-marks w f (moves.end_notify (task w f)).state l refl,
+      kept-put_awaiter v f None,
+      told-steps (mine && h.same) f (awaiter_of w f),
+    )
+
+pub spends-wake : (p : ℕ) (w : World) (f : ℕ) → f < length w.tasks → Spends w 26 (wake p w f)
+spends-wake p w f l = spends-logged _ w (event.Woken p f) f 26 (moves.wake (task w f)) l
+    (costs-waking _ _ (task w f) refl)
+
+pub spends-call : (p : ℕ) (w : World) (o : Polled) (a : Waker) (k : ℕ) → CanWake w a →
+    Spends w 26 (call_waker p w o a k)
+spends-call p w o (Task m) k l = omega (
+  arith,
+  kept-log w (event.WakerCalled p o k (Task m)),
+  spends-wake p (log w (event.WakerCalled p o k (Task m))) m l.0,
+)
+spends-call p w o (Outside x) k l = omega (arith, kept-log w (event.WakerCalled p o k (Outside x)))
+
+-- the drop of the executor
+
+closing-steps : (ls ws : List ℕ) → weigh steps_of (closing_ops ls ws) ≤ 4
+closing-steps [] [] = omega arith
+closing-steps [] (x ∷ ws) = omega arith
+closing-steps (x ∷ ls) ws = omega arith
+
+waking-steps : (ws : List ℕ) → weigh steps_of (closing_ops [] ws) ≤ 3
+waking-steps [] = omega arith
+waking-steps (x ∷ ws) = omega arith
+
+pub spends-take_out : (w : World) → Spends w 5 (take_out w)
+spends-take_out w = omega (arith, kept-parts w, kept-parts (take_out w).world, closing-steps w.table w.waking)
+
+pub spends-drop_next : (p : ℕ) (w : World) (ls : List ℕ) → w.leaving ≡ ls → Spends w 4 (drop_next_by p w ls)
+spends-drop_next p w [] e = omega arith
+spends-drop_next p w (f ∷ rest) e = omega (
+  arith,
+  kept-parts w,
+  kept-parts (drop_next_by p w (f ∷ rest)).world,
+  ap length e,
+  length_push w.waking f,
+  closing-steps rest (w.waking ++ f ∷ []),
+)
+
+pub spends-followed : (w : World) (c n : ℕ) (d : Done) (more : List Op) → Spends w c d → weigh steps_of more ≤ n →
+    Spends w (c + n) (followed d more)
+spends-followed w c n d more k l = omega (arith, k, l, weigh-append steps_of d.next more)
+
+pub spends-wake_next : (p : ℕ) (w : World) (ws : List ℕ) →
+    ((f : ℕ) (rest : List ℕ) → w.waking ≡ f ∷ rest → CanGrow w f) →
+    w.waking ≡ ws → Spends w 3 (wake_next_by p w ws)
+spends-wake_next p w [] l e = omega arith
+spends-wake_next p w (f ∷ rest) l e =
+    let v : World = record w { waking = rest } in
+    omega (
+      arith,
+      kept-parts w,
+      kept-parts v,
+      ap length e,
+      spends-followed v 26 3 (wake p v f) (closing_ops [] rest) (spends-wake p v f (l f rest e).0) (waking-steps rest),
+    )
+
+pub spends-drain : (p : ℕ) (w : World) (q : List ℕ) → w.queue.items ≡ q → Spends w 1 (drain_by p w q)
+spends-drain p w [] e = omega (arith, kept-log w (event.DropEnded p))
+spends-drain p w (f ∷ rest) e = omega (
+  arith,
+  kept-parts w,
+  kept-parts (record w { queue = taken w.queue }),
+  ap length e,
+  ap (λ (xs : List ℕ). length (drop 1 xs)) e,
+)

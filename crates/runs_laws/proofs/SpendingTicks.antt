@@ -1,0 +1,295 @@
+-- What tells a sleeper, and what ticks and runs both do, spends a step of those that remain, but for a run's copy of
+-- its waker and its search.
+use Rattle.std.proofs.Common.{◌≡◌, ℕ, zero, suc, ◌+◌, ◌-◌, ◌*◌, ◌<◌, ◌≤◌, List, [], ◌∷◌, ◌++◌, length, set, get_or}
+use Rattle.std.proofs.Common.{take, drop, Bool, true, false, ltb, refl, ap, subst, arith}
+use Rattle.std.proofs.lemmas.Bool.Decides.{nat_tests}
+use Rattle.std.proofs.lemmas.List.{length_push}
+use Rattle.std.proofs.lemmas.List.Edits.{length-remove}
+use Rattle.std.specs.Prelude.{Option, Some, None, is_none, remove}
+use Rattle.executor_parts.specs.Sleepers.{Sleepers, position_of, without_last, waker_at, waker_of, next_number}
+use Rattle.executor_parts.specs.Sleepers.{laid_down, listed, without_entry, freed, risen}
+use Rattle.queue_steps.specs.ClosableQueue.{taken}
+use Rattle.task_moves.specs.declared.moves.owed.Move.TheVariants as move
+use Rattle.runs_model.specs.declared.call.Reply.TheVariants as reply
+use Rattle.runs_model.specs.declared.op.Op.{Op}
+use Rattle.runs_model.specs.declared.op.Op.TheVariants as op
+use Rattle.runs_model.specs.declared.op.Sleeper.{Sleeper}
+use Rattle.runs_model.specs.declared.op.Sleeper.TheVariants as sleeper
+use Rattle.runs_model.specs.declared.op.Sleeping.{Sleeping}
+use Rattle.runs_model.specs.declared.op.SleeperOp.{SleeperOp}
+use Rattle.runs_model.specs.declared.op.SleeperOp.TheVariants as sleeper_op
+use Rattle.runs_model.specs.World.{World, Place, Up, Lies, Left, Run, no_run, place_of, ticks_with, runs_with}
+use Rattle.runs_model.specs.ActsOfSleepers.{exchange_by, call_of, hand_out_by, make_tick_by, found_by, held_as}
+use Rattle.runs_model.specs.ActsOfSleepers.{polled_as, search_by, copy_sleeper_by, pend_as, lie_anew_by, sleeper_goes}
+use Rattle.runs_model.specs.ActsOfSleepers.{lie_listed_by, lie_again_by, lie_down_by, get_up_by, given_back, tell_if}
+use Rattle.runs_model.specs.ActsOfSleepers.{leave_sleepers_by}
+use Rattle.runs_model.specs.Doing.{sleeper_act}
+use Rattle.runs_model.specs.Good.{IsKnownWaker, SleeperNeeds}
+use Rattle.runs_model.specs.Weights.{weigh}
+use Rattle.runs_model.proofs.Lists.{weigh-append}
+use Rattle.runs_model.proofs.SleepersLists.{position-within}
+use Rattle.runs_laws.specs.Costs.{steps_of, steps_of_copy, steps_of_lying, steps_of_search}
+use Rattle.runs_laws.specs.Remaining.{notified_of, up_of, ups, steps_kept, steps_of_runs}
+use Rattle.runs_laws.proofs.Spending.{Spends, kept-parts}
+use Rattle.runs_laws.proofs.SpendingActs.{kept-as, spends-as, kept-copied, goes-steps, spends-call}
+
+-- sleepers that were notified
+
+last-out : (ws : List (ℕ × Sleeping)) → length ws ≤ length (take (length ws - 1) ws) + 1
+last-out [] = omega arith
+last-out (x ∷ xs) = subst (λ (n : ℕ). length (x ∷ xs) ≤ length (take n (x ∷ xs)) + 1)
+    (let e : length xs ≡ length (x ∷ xs) - 1 =
+    omega arith in e) (omega (arith, whole x xs))
+  where
+    whole : (y : ℕ × Sleeping) (ys : List (ℕ × Sleeping)) → length (take (length ys) (y ∷ ys)) ≡ length ys
+    whole y [] = refl
+    whole y (z ∷ zs) = omega (arith, whole z zs)
+
+notified-last : (s : Sleepers Sleeping) → notified_of (without_last s) ≤ notified_of s + 1
+notified-last s = omega (arith, last-out s.wakers)
+
+notified-laid : (x : Sleeping) (s : Sleepers Sleeping) → notified_of (laid_down x s) ≡ notified_of s
+notified-laid x s = omega (arith, length_push s.wakers (next_number s, x))
+
+notified-listed : (n : ℕ) (x : Sleeping) (s : Sleepers Sleeping) → ltb (length s.wakers) s.count ≡ true →
+    notified_of (listed n x s) + 1 ≡ notified_of s
+notified-listed n x s e = let l : length s.wakers < s.count = grind (arith, nat_tests) in
+    omega (arith, l, length_push s.wakers (n, x))
+
+notified-freed : (n : ℕ) (s : Sleepers Sleeping) → notified_of (freed n s) ≤ notified_of s
+notified-freed n s = by (ltb (length s.wakers) s.count)
+  where
+    by : (b : Bool) → notified_of
+        (elim b [ true ↦ record s { count = s.count - 1; free = s.free ++ n ∷ [] } | false ↦ s ]) ≤ notified_of s
+    by true = omega arith
+    by false = omega arith
+
+-- an entry goes, and its number is free
+notified-gone : (n at : ℕ) (s : Sleepers Sleeping) → at < length s.wakers →
+    notified_of (freed n (without_entry (Some at) s)) ≤ notified_of s
+notified-gone n at s l = by (ltb (length (remove s.wakers at)) s.count) refl
+  where
+    by : (b : Bool) → ltb (length (remove s.wakers at)) s.count ≡ b →
+        notified_of (elim b [
+          | true ↦ record (without_entry (Some at) s) {
+            count = s.count - 1;
+            free =
+                s.free ++ n ∷ [];
+          }
+          | false ↦ without_entry (Some at) s
+        ]) ≤ notified_of s
+    by true e = omega (arith, length-remove s.wakers at l)
+    by false e = let k : s.count ≤ length (remove s.wakers at) = grind (arith, nat_tests) in omega (arith, k)
+
+notified-risen : (n : ℕ) (s : Sleepers Sleeping) → notified_of (risen n s) ≤ notified_of s
+notified-risen n s = by (position_of n s.wakers) refl
+  where
+    by : (o : Option ℕ) → position_of n s.wakers ≡ o → notified_of (freed n (without_entry o s)) ≤ notified_of s
+    by None e = notified-freed n s
+    by (Some at) e = notified-gone n at s (position-within n at s.wakers e)
+
+pub notified-back : (s : Sleepers Sleeping) → notified_of (given_back s) ≡ notified_of s
+notified-back s = by (ltb s.count s.rooms)
+  where
+    by : (b : Bool) → notified_of (elim b [ true ↦ record s { rooms = s.rooms - 1 } | false ↦ s ]) ≡ notified_of s
+    by true = refl
+    by false = refl
+
+-- ticks and runs that are up
+
+ups-set : (ts : List Place) (t : ℕ) (x : Place) → ups (set ts t x) + up_of (get_or ts t Left) ≤ ups ts + up_of x
+ups-set [] t x = omega arith
+ups-set (y ∷ ts) zero x = omega arith
+ups-set (y ∷ ts) (suc t) x = omega (arith, ups-set ts t x)
+
+ups-push : (ts : List Place) (x : Place) → ups (ts ++ x ∷ []) ≡ ups ts + up_of x
+ups-push [] x = omega arith
+ups-push (y ∷ ts) x = omega (arith, ups-push ts x)
+
+places-set : (rs : List Run) (r : ℕ) (x : Place) →
+    steps_of_runs (set rs r (record (get_or rs r no_run) { place = x })) + 3 * up_of (get_or rs r no_run).place
+    ≤ steps_of_runs rs + 3 * up_of x
+places-set [] r x = omega arith
+places-set (y ∷ rs) zero x = omega arith
+places-set (y ∷ rs) (suc r) x = omega (arith, places-set rs r x)
+
+-- the steps of ticks and runs
+abbrev pub steps_of_places : World → ℕ
+steps_of_places w = 3 * ups w.ticks + steps_of_runs w.runs
+
+placed : (w : World) (who : Sleeper) (x : Place) →
+    3 * ups (ticks_with w.ticks who x) + steps_of_runs (runs_with w.runs who x) + 3 * up_of (place_of w who)
+    ≤ steps_of_places w + 3 * up_of x
+placed w (sleeper.Tick t) x = omega (arith, ups-set w.ticks t x)
+placed w (sleeper.Run r) x = omega (arith, places-set w.runs r x)
+
+-- the world has changed in nothing that is kept but sleepers, ticks and runs
+pub kept-of : (w v : World) (n m : ℕ) → v.queue.items ≡ w.queue.items → v.table ≡ w.table → v.leaving ≡ w.leaving →
+    v.waking ≡ w.waking →
+    v.awaiters ≡ w.awaiters → v.tasks ≡ w.tasks → notified_of v.sleepers ≤ n → steps_of_places v ≤ m →
+    steps_kept v + (3 * notified_of w.sleepers + steps_of_places w) ≤ steps_kept w + (3 * n + m)
+kept-of w v n m a b c d e f g h =
+    let u : World = record v { sleepers = w.sleepers; ticks = w.ticks; runs = w.runs } in
+    let same : steps_kept u ≡ steps_kept w = kept-as w u a b c d e f refl refl refl in
+    omega (arith, same, kept-parts v, kept-parts u, kept-parts w, g, h)
+
+-- telling a sleeper
+
+spends-exchange : (b : Bool) (w : World) → Spends w 31 (exchange_by b w)
+spends-exchange true w = omega arith
+spends-exchange false w =
+    spends-as w _ 31 (op.Sleeper sleeper_op.HandOut ∷ []) (kept-as w _ refl refl refl refl refl refl refl refl refl)
+    (omega arith)
+
+call-steps : (o : Option Sleeping) → weigh steps_of (call_of o) ≤ 26
+call-steps None = omega arith
+call-steps (Some s) = omega arith
+
+spends-hand_out : (b : Bool) (o : Option Sleeping) (w : World) → Spends w 30 (hand_out_by b o w)
+spends-hand_out true o w = omega (
+  arith,
+  call-steps o,
+  kept-of w (hand_out_by true o w).world (notified_of w.sleepers + 1) (steps_of_places w) refl refl refl refl refl refl
+      (notified-last w.sleepers) (omega arith),
+)
+spends-hand_out false o w = omega arith
+
+pub spends-sleeper : (p : ℕ) (o : SleeperOp) (w : World) → SleeperNeeds w o →
+    Spends w (steps_of (op.Sleeper o)) (sleeper_act p o w)
+spends-sleeper p sleeper_op.ExchangeFlag w l = spends-exchange _ w
+spends-sleeper p sleeper_op.HandOut w l = spends-hand_out _ _ w
+spends-sleeper p (sleeper_op.CallSleeper s) w l = spends-call p w (polled_as s.who) s.waker s.poll l
+
+-- ticks and runs
+
+goes-steps_of : (o : Option Sleeping) → weigh steps_of (sleeper_goes o) ≤ 13
+goes-steps_of None = omega arith
+goes-steps_of (Some s) = goes-steps s.waker
+
+pub spends-make : (b : Bool) (w : World) → Spends w 5 (make_tick_by b w)
+spends-make true w = omega arith
+spends-make false w = omega (
+  arith,
+  kept-of w (make_tick_by false w).world (notified_of w.sleepers) (steps_of_places w + 3) refl refl refl refl refl refl
+      (omega arith) (omega (arith, ups-push w.ticks Up)),
+)
+
+pub rises-steps : (x : Place) (who : Sleeper) (more : List Op) →
+    weigh steps_of (found_by x who more) ≤ 17 + weigh steps_of more
+rises-steps Up who more = omega arith
+rises-steps (Lies n) who more = omega arith
+rises-steps Left who more = omega arith
+
+pub spends-search : (x : Place) (w : World) (q : List ℕ) (s : Sleeping) (t : ℕ) → s.who ≡ sleeper.Tick t →
+    w.queue.items ≡ q → Spends w 141 (search_by x w q s)
+spends-search x w [] s t i e = omega (arith, ap steps_of_copy i)
+spends-search x w (f ∷ rest) s t i e = omega (
+  arith,
+  rises-steps x s.who
+      (op.Sleeper sleeper_op.ExchangeFlag ∷ op.Move move.TakeUp f ∷ op.End reply.Ready (held_as s.who) ∷ []),
+  kept-parts w,
+  kept-parts (record w { queue = taken w.queue }),
+  ap length e,
+  ap (λ (xs : List ℕ). length (drop 1 xs)) e,
+)
+
+-- the copy of a waker comes in hand, and the steps of lying down are left
+pub lying-steps : (who : Sleeper) → (139 ≤ steps_of_lying who) × (steps_of_search who + 1 ≤ steps_of_lying who + 3)
+lying-steps (sleeper.Tick t) = (omega arith, omega arith)
+lying-steps (sleeper.Run r) = (omega arith, omega arith)
+
+pub kept-copy_sleeper : (b : Bool) (w : World) (s : Sleeping) → IsKnownWaker w s.waker →
+    steps_kept (copy_sleeper_by b w s).world + weigh steps_of (copy_sleeper_by b w s).next
+    ≤ steps_kept w + steps_of_lying s.who
+kept-copy_sleeper true w s l = omega (arith, (lying-steps s.who).0)
+kept-copy_sleeper false w s l = omega (arith, kept-copied w s.waker l)
+
+spends-anew : (b : Bool) (w : World) (s : Sleeping) → place_of w s.who ≡ Up →
+    Spends w (steps_of_lying s.who) (lie_anew_by b w s)
+spends-anew true w s e =
+    let x : Place = Lies (next_number w.sleepers) in
+    omega (
+      arith,
+      kept-of w (lie_anew_by true w s).world (notified_of w.sleepers) (steps_of_places w - 3) refl refl refl refl refl
+          refl
+          (omega (arith, notified-laid s w.sleepers))
+          (omega (arith, placed w s.who x, ap up_of e)),
+      placed w s.who x,
+      ap up_of e,
+      (lying-steps s.who).1,
+    )
+spends-anew false w s e = omega (arith, (lying-steps s.who).0)
+
+spends-listed : (b : Bool) (w : World) (n : ℕ) (s : Sleeping) → ltb (length w.sleepers.wakers) w.sleepers.count ≡ b →
+    Spends w (steps_of_lying s.who) (lie_listed_by b w n s)
+spends-listed true w n s e =
+    omega (
+      arith,
+      kept-of w (lie_listed_by true w n s).world (notified_of w.sleepers - 1) (steps_of_places w) refl refl refl refl
+          refl refl
+          (omega (arith, notified-listed n s w.sleepers e)) (omega arith),
+      notified-listed n s w.sleepers e,
+      (lying-steps s.who).1,
+    )
+spends-listed false w n s e = omega (arith, (lying-steps s.who).0)
+
+length-put : (ws : List (ℕ × Sleeping)) (at : ℕ) (e : ℕ × Sleeping) → length (set ws at e) ≡ length ws
+length-put [] at e = refl
+length-put (x ∷ ws) zero e = refl
+length-put (x ∷ ws) (suc at) e = omega (arith, length-put ws at e)
+
+spends-lie_again : (o : Option ℕ) (w : World) (n : ℕ) (s : Sleeping) →
+    Spends w (steps_of_lying s.who) (lie_again_by o w n s)
+spends-lie_again None w n s = spends-listed _ w n s refl
+spends-lie_again (Some at) w n s =
+    let old = waker_at (Some at) w.sleepers.wakers in
+    omega (
+      arith,
+      weigh-append steps_of (sleeper_goes old) (pend_as s.who),
+      goes-steps_of old,
+      kept-of w (lie_again_by (Some at) w n s).world (notified_of w.sleepers) (steps_of_places w) refl refl refl refl
+          refl refl (omega (arith, length-put w.sleepers.wakers at (n, s))) (omega arith),
+      (lying-steps s.who).0,
+    )
+
+pub spends-lie : (x : Place) (w : World) (s : Sleeping) → place_of w s.who ≡ x →
+    Spends w (steps_of_lying s.who) (lie_down_by x w s)
+spends-lie Up w s e = spends-anew _ w s e
+spends-lie (Lies n) w s e = spends-lie_again _ w n s
+spends-lie Left w s e = omega (arith, (lying-steps s.who).0)
+
+pub spends-up : (x : Place) (w : World) (who : Sleeper) → Spends w 17 (get_up_by x w who)
+spends-up Up w who = omega arith
+spends-up (Lies n) w who =
+    let old = waker_of n w.sleepers.wakers in
+    omega (
+      arith,
+      goes-steps_of old,
+      kept-of w (get_up_by (Lies n) w who).world (notified_of w.sleepers) (steps_of_places w + 3) refl refl refl refl
+          refl refl
+          (notified-risen n w.sleepers) (omega (arith, placed w who Up)),
+    )
+spends-up Left w who = omega arith
+
+left-steps : (o : Option Sleeping) → weigh steps_of (sleeper_goes o ++ tell_if (is_none o)) ≤ 31
+left-steps None = omega arith
+left-steps (Some s) = omega (arith, weigh-append steps_of (sleeper_goes (Some s)) (tell_if false), goes-steps s.waker)
+
+pub spends-leave_sleepers : (x : Place) (w : World) (who : Sleeper) → Spends w 45 (leave_sleepers_by x w who)
+spends-leave_sleepers Up w who = omega (
+  arith,
+  kept-of w (leave_sleepers_by Up w who).world (notified_of w.sleepers) (steps_of_places w) refl refl refl refl refl
+      refl
+      (omega (arith, notified-back w.sleepers)) (omega (arith, placed w who Left)),
+)
+spends-leave_sleepers (Lies n) w who =
+    let old = waker_of n w.sleepers.wakers in
+    omega (
+      arith,
+      left-steps old,
+      kept-of w (leave_sleepers_by (Lies n) w who).world (notified_of w.sleepers) (steps_of_places w) refl refl refl
+          refl refl refl
+          (omega (arith, notified-back (risen n w.sleepers), notified-risen n w.sleepers))
+          (omega (arith, placed w who Left)),
+    )
+spends-leave_sleepers Left w who = omega arith

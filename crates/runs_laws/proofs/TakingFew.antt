@@ -1,0 +1,430 @@
+-- No run takes 200 futures without letting others go first.
+use Rattle.std.proofs.Common.{◌≡◌, ℕ, zero, suc, ◌+◌, ◌<◌, List, [], ◌∷◌, ◌++◌, length, set, get_or}
+use Rattle.std.proofs.Common.{Bool, true, false, eqb, refl, ap, arith}
+use Rattle.std.proofs.lemmas.Bool.Decides.{nat_tests}
+use Rattle.std.specs.Prelude.{Option, Some, None, reverse}
+use Rattle.executor_parts.specs.Sleepers.{next_number}
+use Rattle.task_moves.specs.declared.moves.owed.Answer.{Answer}
+use Rattle.task_moves.specs.declared.moves.owed.Move.{Move}
+use Rattle.task_moves.specs.declared.moves.owed.Move.TheVariants as move
+use Rattle.task_moves.specs.declared.moves.owed.Moved.{Moved}
+use Rattle.task_moves.specs.Moves as moves
+use Rattle.runs_model.specs.declared.call.Call.{Call}
+use Rattle.runs_model.specs.declared.call.Call.TheVariants as call
+use Rattle.runs_model.specs.declared.call.Reply.{Reply}
+use Rattle.runs_model.specs.declared.event.Answer.TheVariants as answer
+use Rattle.runs_model.specs.declared.event.Event.{Event}
+use Rattle.runs_model.specs.declared.event.Event.TheVariants as event
+use Rattle.runs_model.specs.declared.op.ClosingOp.TheVariants as closing_op
+use Rattle.runs_model.specs.declared.op.HandleOp.TheVariants as handle_op
+use Rattle.runs_model.specs.declared.op.Hold.{Hold}
+use Rattle.runs_model.specs.declared.op.ListOp.{ListOp}
+use Rattle.runs_model.specs.declared.op.ListOp.TheVariants as list_op
+use Rattle.runs_model.specs.declared.op.Op.{Op}
+use Rattle.runs_model.specs.declared.op.Op.TheVariants as op
+use Rattle.runs_model.specs.declared.op.Polled.{Polled}
+use Rattle.runs_model.specs.declared.op.Polled.TheVariants as of
+use Rattle.runs_model.specs.declared.op.QueueOp.TheVariants as queue_op
+use Rattle.runs_model.specs.declared.op.RunOp.{RunOp}
+use Rattle.runs_model.specs.declared.op.RunOp.TheVariants as run_op
+use Rattle.runs_model.specs.declared.op.RunPoll.{RunPoll}
+use Rattle.runs_model.specs.declared.op.Section.TheVariants as section
+use Rattle.runs_model.specs.declared.op.Sleeper.{Sleeper}
+use Rattle.runs_model.specs.declared.op.Sleeper.TheVariants as sleeper
+use Rattle.runs_model.specs.declared.op.SleeperOp.{SleeperOp}
+use Rattle.runs_model.specs.declared.op.SleeperOp.TheVariants as sleeper_op
+use Rattle.runs_model.specs.declared.op.Sleeping.{Sleeping}
+use Rattle.runs_model.specs.declared.op.Source.{Source}
+use Rattle.runs_model.specs.declared.op.Source.TheVariants.{Common, Own}
+use Rattle.runs_model.specs.declared.op.Steal.{Steal}
+use Rattle.runs_model.specs.declared.op.StealOp.{StealOp}
+use Rattle.runs_model.specs.declared.op.StealOp.TheVariants as steal_op
+use Rattle.runs_model.specs.declared.op.TableOp.TheVariants as table_op
+use Rattle.runs_model.specs.declared.op.Then.{Then}
+use Rattle.runs_model.specs.declared.op.Then.TheVariants as then
+use Rattle.runs_model.specs.declared.op.TickOp.{TickOp}
+use Rattle.runs_model.specs.declared.op.TickOp.TheVariants as tick_op
+use Rattle.runs_model.specs.declared.op.UserOp.TheVariants as user_op
+use Rattle.runs_model.specs.declared.op.Waker.{Waker}
+use Rattle.runs_model.specs.declared.op.Waker.TheVariants.{Task, Outside}
+use Rattle.runs_model.specs.declared.op.WakerOp.TheVariants as waker_op
+use Rattle.runs_model.specs.declared.step.Hint.{Hint}
+use Rattle.runs_model.specs.declared.step.Step.{Step}
+use Rattle.runs_model.specs.declared.step.UserEnd.{UserEnd}
+use Rattle.runs_model.specs.declared.step.UserEnd.TheVariants as end
+use Rattle.runs_model.specs.Acts as acts
+use Rattle.runs_model.specs.ActsOfSleepers as of_sleepers
+use Rattle.runs_model.specs.ActsOfRuns as runs
+use Rattle.runs_model.specs.Doing.{act, list_act, run_act, search_by_who, sleeper_act, steal_act, tick_act}
+use Rattle.runs_model.specs.Good.{Good}
+use Rattle.runs_model.specs.Steps.{Machine, begun, future_of, kept, mine, react, run, stack, start, top, with_future}
+use Rattle.runs_model.specs.World.{World, Place, Up, Lies, Left, Stage, New, Listed, Ended, Run, Done, log, log_if}
+use Rattle.runs_model.specs.World.{no_run, new_run, run_of, runs_with, put, put_own, put_run, task}
+use Rattle.runs_model.proofs.Lift.{good-start, unsettled}
+use Rattle.runs_model.proofs.RunsAside.{is_run}
+use Rattle.runs_model.proofs.Ways.{Way, acted, reacted, called, along}
+use Rattle.runs_laws.proofs.SpendingRuns.{TakesFew}
+
+abbrev RunsStay : World → World → Type 0
+RunsStay w v = v.runs ≡ w.runs
+
+-- what speaks of no run leaves the runs as they are
+
+runs-log_if : (b : Bool) (w : World) (e : Event) → RunsStay w (log_if b w e)
+runs-log_if true w e = refl
+runs-log_if false w e = refl
+
+runs-move : (b : Bool) (m : Move) (p : ℕ) (w : World) (f : ℕ) → RunsStay w (acts.move_by b m p w f).world
+runs-move true m p w f = runs-log_if (acts.is_told m (task w f)) w (acts.told_as m p f)
+runs-move false m p w f = refl
+
+runs-call : (p : ℕ) (w : World) (o : Polled) (a : Waker) (k : ℕ) → RunsStay w (acts.call_waker p w o a k).world
+runs-call p w o (Task g) k = runs-move true move.Wake p (log w (event.WakerCalled p o k (Task g))) g
+runs-call p w o (Outside x) k = refl
+
+runs-enter : (b c : Bool) (p : ℕ) (w : World) → RunsStay w (acts.enter_by b c p w).world
+runs-enter true c p w = refl
+runs-enter false true p w = refl
+runs-enter false false p w = refl
+
+runs-leave : (b : Bool) (w : World) (f : ℕ) → RunsStay w (acts.leave_by b w f).world
+runs-leave true w f = refl
+runs-leave false w f = refl
+
+runs-take : (q : List ℕ) (w : World) → RunsStay w (acts.take_by w q).world
+runs-take [] w = refl
+runs-take (f ∷ rest) w = refl
+
+runs-append : (b : Bool) (w : World) (f : ℕ) → RunsStay w (acts.append_by b w f).world
+runs-append true w f = refl
+runs-append false w f = refl
+
+runs-copy : (b : Bool) (w : World) (f : ℕ) (held : Hold) → RunsStay w (acts.copy_by b w f held).world
+runs-copy true w f held = refl
+runs-copy false w f held = refl
+
+runs-answered : (p : ℕ) (w : World) (f : ℕ) (m : Moved) (a : Answer) → RunsStay w (acts.answered p w f m a).world
+runs-answered p w f m a = runs-log_if (acts.is_output a) (put w f m.state) (event.OutputGiven p f)
+
+runs-look : (o : Option Answer) (p : ℕ) (w : World) (f : ℕ) (a : Waker) (m : Moved) →
+    RunsStay w (acts.look_by o p w f a m).world
+runs-look None p w f a m = refl
+runs-look (Some x) p w f a m = runs-answered p (acts.polled p w f) f m x
+
+runs-again : (o : Option Answer) (p : ℕ) (w : World) (f : ℕ) (m : Moved) →
+    RunsStay w (acts.look_again_by o p w f m).world
+runs-again None p w f m = refl
+runs-again (Some x) p w f m = runs-answered p w f m x
+
+runs-copy_awaiter : (b : Bool) (p : ℕ) (w : World) (f : ℕ) (a : Waker) →
+    RunsStay w (acts.copy_awaiter_by b p w f a).world
+runs-copy_awaiter true p w f a = refl
+runs-copy_awaiter false p w f (Task g) = refl
+runs-copy_awaiter false p w f (Outside x) = refl
+
+runs-register : (b : Bool) (w : World) (f : ℕ) (a : Waker) (k : ℕ) → RunsStay w (acts.register_by b w f a k).world
+runs-register true w f a k = refl
+runs-register false w f a k = refl
+
+runs-end_register : (b : Bool) (w : World) (f : ℕ) (a : Waker) (k : ℕ) →
+    RunsStay w (acts.end_register_by b w f a k).world
+runs-end_register true w f a k = refl
+runs-end_register false w f a k = refl
+
+runs-notify : (b : Bool) (w : World) (f : ℕ) (mine : Bool) → RunsStay w (acts.notify_by b w f mine).world
+runs-notify true w f mine = refl
+runs-notify false w f mine = refl
+
+runs-exchange : (b : Bool) (w : World) → RunsStay w (of_sleepers.exchange_by b w).world
+runs-exchange true w = refl
+runs-exchange false w = refl
+
+runs-hand_out : (b : Bool) (o : Option Sleeping) (w : World) → RunsStay w (of_sleepers.hand_out_by b o w).world
+runs-hand_out true o w = refl
+runs-hand_out false o w = refl
+
+runs-sleeper : (p : ℕ) (o : SleeperOp) (w : World) → RunsStay w (sleeper_act p o w).world
+runs-sleeper p sleeper_op.ExchangeFlag w = runs-exchange _ w
+runs-sleeper p sleeper_op.HandOut w = runs-hand_out _ _ w
+runs-sleeper p (sleeper_op.CallSleeper s) w = runs-call p w (of_sleepers.polled_as s.who) s.waker s.poll
+
+runs-drop_next : (p : ℕ) (w : World) (ls : List ℕ) → RunsStay w (acts.drop_next_by p w ls).world
+runs-drop_next p w [] = refl
+runs-drop_next p w (f ∷ rest) = refl
+
+runs-wake_next : (p : ℕ) (w : World) (ws : List ℕ) → RunsStay w (acts.wake_next_by p w ws).world
+runs-wake_next p w [] = refl
+runs-wake_next p w (f ∷ rest) = runs-move true move.Wake p (record w { waking = rest }) f
+
+runs-drain : (p : ℕ) (w : World) (q : List ℕ) → RunsStay w (acts.drain_by p w q).world
+runs-drain p w [] = refl
+runs-drain p w (f ∷ rest) = refl
+
+runs-act : (p : ℕ) (h : Hint) (o : Op) (w : World) → is_run o ≡ false → RunsStay w (act p h o w).world
+runs-act p h (op.Move m f) w n = runs-move _ m p w f
+runs-act p h (op.Table table_op.Enter) w n = runs-enter _ _ p w
+runs-act p h (op.Table (table_op.LeaveTable f)) w n = runs-leave _ w f
+runs-act p h (op.Queue queue_op.Take) w n = runs-take _ w
+runs-act p h (op.Queue (queue_op.Append f)) w n = runs-append _ w f
+runs-act p h (op.User (user_op.BeginDrop f)) w n = refl
+runs-act p h (op.User (user_op.BeginDropOutput f)) w n = refl
+runs-act p h (op.Waker (waker_op.CopyWaker f held)) w n = runs-copy _ w f held
+runs-act p h (op.Waker (waker_op.CallAwaiter f a k)) w n = runs-call p w _ a k
+runs-act p h (op.Handle (handle_op.Look f a)) w n =
+    runs-look (moves.poll (task w f)).owed.answer p w f a (moves.poll (task w f))
+runs-act p h (op.Handle (handle_op.CopyAwaiter f a)) w n = runs-copy_awaiter _ p w f a
+runs-act p h (op.Handle (handle_op.Register f a k)) w n = runs-register _ w f a k
+runs-act p h (op.Handle (handle_op.EndRegister f a k)) w n = runs-end_register _ w f a k
+runs-act p h (op.Handle (handle_op.LookAgain f)) w n =
+    runs-again (moves.look_again (task w f)).owed.answer p w f (moves.look_again (task w f))
+runs-act p h (op.Handle (handle_op.Notify f mine)) w n = runs-notify _ w f mine
+runs-act p h (op.Sleeper o) w n = runs-sleeper p o w
+runs-act p h (op.Tick o) w n = absurd (cc)
+runs-act p h (op.List o) w n = absurd (cc)
+runs-act p h (op.Steal o) w n = absurd (cc)
+runs-act p h (op.Run o) w n = absurd (cc)
+runs-act p h (op.Closing closing_op.DropNext) w n = runs-drop_next p w _
+runs-act p h (op.Closing closing_op.WakeNext) w n = runs-wake_next p w _
+runs-act p h (op.Closing closing_op.Drain) w n = runs-drain p w _
+runs-act p h _ w n = refl
+
+-- so few were taken still
+
+set-few : (rs : List Run) (q : ℕ) (y : Run) → y.taken < 200 → ((r : ℕ) → (get_or rs r no_run).taken < 200) →
+    (r : ℕ) → (get_or (set rs q y) r no_run).taken < 200
+set-few [] q y l k r = k r
+set-few (x ∷ rs) zero y l k zero = l
+set-few (x ∷ rs) zero y l k (suc r) = k (suc r)
+set-few (x ∷ rs) (suc q) y l k zero = k zero
+set-few (x ∷ rs) (suc q) y l k (suc r) = set-few rs q y l (λ n. k (suc n)) r
+
+push-few : (rs : List Run) → ((r : ℕ) → (get_or rs r no_run).taken < 200) →
+    (r : ℕ) → (get_or (rs ++ new_run ∷ []) r no_run).taken < 200
+push-few [] k zero = omega arith
+push-few [] k (suc r) = omega arith
+push-few (x ∷ rs) k zero = k zero
+push-few (x ∷ rs) k (suc r) = push-few rs (λ n. k (suc n)) r
+
+abbrev Pauses : World → World → Type 0
+Pauses w v = TakesFew w → TakesFew v
+
+pauses-same : (w v : World) → v.runs ≡ w.runs → Pauses w v
+pauses-same w v e k = λ r. omega (arith, k r, ap (λ (rs : List Run). (get_or rs r no_run).taken) e)
+
+pauses-placed : (w v : World) (who : Sleeper) (x : Place) → v.runs ≡ runs_with w.runs who x → Pauses w v
+pauses-placed w v (sleeper.Tick t) x e k = pauses-same w v e k
+pauses-placed w v (sleeper.Run q) x e k = λ r. omega (
+  arith,
+  ap (λ (rs : List Run). (get_or rs r no_run).taken) e,
+  set-few w.runs q (record (run_of w q) { place = x }) (k q) k r,
+)
+
+pauses-run : (w : World) (q : ℕ) (y : Run) → (TakesFew w → y.taken < 200) → Pauses w (put_run w q y)
+pauses-run w q y l k = set-few w.runs q y (l k) k
+
+-- ticks and runs
+
+pauses-make : (b : Bool) (w : World) → Pauses w (of_sleepers.make_tick_by b w).world
+pauses-make true w k = k
+pauses-make false w k = k
+
+pauses-search : (x : Place) (w : World) (q : List ℕ) (s : Sleeping) → Pauses w (of_sleepers.search_by x w q s).world
+pauses-search x w [] s k = k
+pauses-search x w (f ∷ rest) s k = k
+
+pauses-copied : (w : World) (a : Waker) → Pauses w (acts.copied w a)
+pauses-copied w (Task g) k = k
+pauses-copied w (Outside x) k = k
+
+pauses-copy : (b : Bool) (w : World) (s : Sleeping) → Pauses w (of_sleepers.copy_sleeper_by b w s).world
+pauses-copy true w s k = k
+pauses-copy false w s k = pauses-copied w s.waker k
+
+pauses-anew : (b : Bool) (w : World) (s : Sleeping) → Pauses w (of_sleepers.lie_anew_by b w s).world
+pauses-anew true w s k =
+    pauses-placed w (of_sleepers.lie_anew_by true w s).world s.who (Lies (next_number w.sleepers)) refl k
+pauses-anew false w s k = k
+
+pauses-listed : (b : Bool) (w : World) (n : ℕ) (s : Sleeping) → Pauses w (of_sleepers.lie_listed_by b w n s).world
+pauses-listed true w n s k = k
+pauses-listed false w n s k = k
+
+pauses-again : (o : Option ℕ) (w : World) (n : ℕ) (s : Sleeping) → Pauses w (of_sleepers.lie_again_by o w n s).world
+pauses-again None w n s k = pauses-listed _ w n s k
+pauses-again (Some at) w n s k = k
+
+pauses-lie : (x : Place) (w : World) (s : Sleeping) → Pauses w (of_sleepers.lie_down_by x w s).world
+pauses-lie Up w s k = pauses-anew _ w s k
+pauses-lie (Lies n) w s k = pauses-again _ w n s k
+pauses-lie Left w s k = k
+
+pauses-up : (x : Place) (w : World) (who : Sleeper) → Pauses w (of_sleepers.get_up_by x w who).world
+pauses-up Up w who k = k
+pauses-up (Lies n) w who k = pauses-placed w (of_sleepers.get_up_by (Lies n) w who).world who Up refl k
+pauses-up Left w who k = k
+
+pauses-leave : (x : Place) (w : World) (who : Sleeper) → Pauses w (of_sleepers.leave_sleepers_by x w who).world
+pauses-leave Up w who k = pauses-placed w (of_sleepers.leave_sleepers_by Up w who).world who Left refl k
+pauses-leave (Lies n) w who k =
+    pauses-placed w (of_sleepers.leave_sleepers_by (Lies n) w who).world who Left refl k
+pauses-leave Left w who k = k
+
+pauses-run_by : (b : Bool) (w : World) (x : RunPoll) (f : ℕ) → eqb ((run_of w x.run).taken + 1) 200 ≡ b →
+    Pauses w (runs.run_by b w x f).world
+pauses-run_by true w x f e k = pauses-run w x.run _ (λ z. omega arith) k
+pauses-run_by false w x f e k =
+    let l : (run_of w x.run).taken < 200 = k x.run in
+    pauses-run w x.run _ (λ z. grind (arith, nat_tests)) k
+
+pauses-counted : (b : Bool) (w : World) (x : RunPoll) (f : ℕ) → Pauses w (runs.counted_by b w x f).world
+pauses-counted true w x f k = pauses-run w x.run _ (λ z. z x.run) k
+pauses-counted false w x f k =
+    let v : World = runs.counted_to w x.run ((run_of w x.run).counted + 1) in
+    pauses-run_by (eqb ((run_of v x.run).taken + 1) 200) v x f refl (pauses-run w x.run _ (λ z. z x.run) k)
+
+pauses-found : (w : World) (x : RunPoll) (f : ℕ) → Pauses w (runs.found w x f).world
+pauses-found w x f k = pauses-counted _ w x f k
+
+pauses-stolen : (t : Then) (w : World) (x : RunPoll) → Pauses w (runs.stolen t w x).world
+pauses-stolen (then.Found f) w x k = pauses-found w x f k
+pauses-stolen (then.Run f) w x k = pauses-run_by _ w x f refl k
+pauses-stolen (then.Walk at left) w x k = k
+
+pauses-length : (n : ℕ) (w : World) (s : Steal) → Pauses w (runs.steal_length_by n w s).world
+pauses-length zero w s k = pauses-stolen s.then w s.poll k
+pauses-length (suc n) w s k = k
+
+pauses-more : (n : ℕ) (w : World) (s : Steal) → Pauses w (runs.steal_by n w s).world
+pauses-more zero w s k = pauses-stolen s.then w s.poll k
+pauses-more (suc n) w s k = k
+
+pauses-take : (q : List ℕ) (w : World) (s : Steal) (more : ℕ) → Pauses w (runs.steal_take_by q w s more).world
+pauses-take [] w s more k = pauses-stolen s.then w s.poll k
+pauses-take (f ∷ rest) w s more k = by s.from
+  where
+    by : (a : Source) → TakesFew (runs.without_first w a rest)
+    by Common = k
+    by (Own r) = k
+
+pauses-put : (b : Bool) (p : ℕ) (w : World) (s : Steal) (more f : ℕ) →
+    Pauses w (runs.steal_put_by b p w s more f).world
+pauses-put true p w s more f k = pauses-more more (runs.kept_by p w s.poll.run f) s k
+pauses-put false p w s more f k = pauses-stolen s.then w s.poll k
+
+pauses-steal : (p : ℕ) (o : StealOp) (w : World) → Pauses w (steal_act p o w).world
+pauses-steal p (steal_op.Length s) w k = pauses-length _ w s k
+pauses-steal p (steal_op.OwnLength s n) w k = pauses-more _ w s k
+pauses-steal p (steal_op.Take s more) w k = pauses-take _ w s more k
+pauses-steal p (steal_op.Put s more f) w k = pauses-put _ p w s more f k
+
+pauses-own : (q : List ℕ) (w : World) (x : RunPoll) → Pauses w (runs.search_own_by q w x).world
+pauses-own [] w x k = k
+pauses-own (f ∷ rest) w x k = pauses-found (put_own w x.run rest) x f k
+
+pauses-searches : (who : Sleeper) (w : World) (s : Sleeping) → Pauses w (search_by_who who w s).world
+pauses-searches (sleeper.Tick t) w s k = pauses-search _ w _ s k
+pauses-searches (sleeper.Run r) w s k = pauses-own _ w _ k
+
+pauses-tick : (h : Hint) (o : TickOp) (w : World) → Pauses w (tick_act h o w).world
+pauses-tick h tick_op.MakeTick w k = pauses-make _ w k
+pauses-tick h (tick_op.Search s) w k = pauses-searches s.who w s k
+pauses-tick h (tick_op.CopyWaker s) w k = pauses-copy _ w s k
+pauses-tick h (tick_op.LieDown s) w k = pauses-lie _ w s k
+pauses-tick h (tick_op.GetUp who) w k = pauses-up _ w who k
+pauses-tick h (tick_op.Leave who) w k = pauses-leave _ w who k
+
+pauses-common : (q : List ℕ) (w : World) (x : RunPoll) → Pauses w (runs.search_common_by q w x).world
+pauses-common [] w x k = k
+pauses-common (f ∷ rest) w x k = k
+
+pauses-look : (q : List ℕ) (w : World) (x : RunPoll) (at left : ℕ) → Pauses w (runs.look_own_by q w x at left).world
+pauses-look [] w x at left k = k
+pauses-look (f ∷ rest) w x at left k = pauses-found (put_own w x.run rest) x f k
+
+pauses-room : (b : Bool) (w : World) → Pauses w (runs.make_room_by b w).world
+pauses-room true w k = k
+pauses-room false w k = k
+
+pauses-wake : (p : ℕ) (w : World) (a : Waker) → Pauses w (runs.call_by_reference p w a).world
+pauses-wake p w (Task g) k =
+    pauses-same w (runs.call_by_reference p w (Task g)).world (runs-move true move.WakeByReference p w g) k
+pauses-wake p w (Outside y) k = k
+
+pauses-reschedule : (q : List ℕ) (w : World) (r : ℕ) (a : Reply) → Pauses w (runs.reschedule_by q w r a).world
+pauses-reschedule [] w r a k = k
+pauses-reschedule (f ∷ rest) w r a k = k
+
+pauses-of-run : (p : ℕ) (h : Hint) (o : RunOp) (w : World) → Pauses w (run_act p h o w).world
+pauses-of-run p h run_op.MakeRoom w k = pauses-room _ w k
+pauses-of-run p h run_op.ReturnRoom w k = k
+pauses-of-run p h (run_op.SearchCommon x) w k = pauses-common _ w x k
+pauses-of-run p h (run_op.LookOwn x at left) w k = pauses-look _ w x at left k
+pauses-of-run p h (run_op.WakeOwn x) w k =
+    pauses-wake p (log w (event.WakerCalled p (of.Run x.run) x.poll x.waker)) x.waker k
+pauses-of-run p h (run_op.Reschedule r a) w k = pauses-reschedule _ w r a k
+
+pauses-made : (b : Bool) (w : World) → Pauses w (runs.make_run_by b w).world
+pauses-made true w k = k
+pauses-made false w k = push-few w.runs k
+
+pauses-registered : (t : Stage) (w : World) (r : ℕ) → Pauses w (runs.registered t w r)
+pauses-registered New w r k = pauses-run w r (record (run_of w r) { stage = Listed }) (λ z. z r) k
+pauses-registered Listed w r k = k
+pauses-registered Ended w r k = k
+
+pauses-list : (h : Hint) (o : ListOp) (w : World) → Pauses w (list_act h o w).world
+pauses-list h (list_op.LockWrite s) w k = k
+pauses-list h (list_op.Write section.MakeRun) w k = pauses-made _ w k
+pauses-list h (list_op.Write (section.Register x)) w k = pauses-registered _ w x.run k
+pauses-list h (list_op.Write (section.Unregister r a)) w k =
+    pauses-run w r (record (run_of w r) { stage = Ended }) (λ z. z r) k
+pauses-list h list_op.UnlockWrite w k = k
+pauses-list h (list_op.LockRead x) w k = k
+pauses-list h list_op.UnlockRead w k = k
+
+pauses-act-by : (p : ℕ) (h : Hint) (o : Op) (w : World) (b : Bool) → is_run o ≡ b → Pauses w (act p h o w).world
+pauses-act-by p h o w false e k = pauses-same w (act p h o w).world (runs-act p h o w e) k
+pauses-act-by p h (op.Tick o) w true e k = pauses-tick h o w k
+pauses-act-by p h (op.List o) w true e k = pauses-list h o w k
+pauses-act-by p h (op.Steal o) w true e k = pauses-steal p o w k
+pauses-act-by p h (op.Run o) w true e k = pauses-of-run p h o w k
+pauses-act-by p h (op.User (user_op.PollOwn x)) w true e k = k
+pauses-act-by p h _ w true e k = absurd (cc)
+
+pauses-react : (p : ℕ) (o : Op) (u : UserEnd) (w : World) → Pauses w (react p o u w).world
+pauses-react p (op.User (user_op.Poll f)) (end.Polled answer.Pending) w k = k
+pauses-react p (op.User (user_op.Poll f)) (end.Polled answer.Ready) w k = k
+pauses-react p (op.User (user_op.Poll f)) end.Done w k = k
+pauses-react p (op.User (user_op.PollOwn x)) (end.Polled answer.Pending) w k = k
+pauses-react p (op.User (user_op.PollOwn x)) (end.Polled answer.Ready) w k = k
+pauses-react p (op.User (user_op.PollOwn x)) end.Done w k = k
+pauses-react p _ _ w k = k
+
+pauses-with : (w : World) (o : Option ℕ) (d : ℕ → Done) → ((f : ℕ) → Pauses w (d f).world) →
+    Pauses w (with_future w o d).world
+pauses-with w (Some f) d n k = n f k
+pauses-with w None d n k = k
+
+pauses-begun : (p : ℕ) (w : World) (here : Option Waker) (c : Call) → Pauses w (begun p w here c).world
+pauses-begun p w here (call.Wake n) k = pauses-with w (kept w n) _ (λ f z. z) k
+pauses-begun p w here (call.WakeByRef n) k = pauses-with w (kept w n) _ (λ f z. z) k
+pauses-begun p w here (call.Copy n) k = pauses-with w (kept w n) _ (λ f z. z) k
+pauses-begun p w here (call.DropWaker n) k = pauses-with w (kept w n) _ (λ f z. z) k
+pauses-begun p w here call.Keep k = pauses-with w (future_of here) _ (λ f z. z) k
+pauses-begun p w here call.WakeSelf k = pauses-with w (future_of here) _ (λ f z. z) k
+pauses-begun p w here (call.DropRun r) k =
+    pauses-run w r (record (run_of w r) { dropped = true }) (λ z. z r) k
+pauses-begun p w here _ k = k
+
+-- in each run of the machine
+
+few-moves : (s : Machine) (p : ℕ) (old rest : List Op) (d : Done) → Good s → p < length s.parties →
+    stack s p ≡ rest ++ reverse old → Way s p old rest d → TakesFew s.world → TakesFew (unsettled s p rest d).world
+few-moves s p old rest d good l e (acted h o q z) k = rw z (pauses-act-by p h o s.world (is_run o) refl k)
+few-moves s p old rest d good l e (reacted o u a q z) k = rw z (pauses-react p o u s.world k)
+few-moves s p old rest d good l e (called c q t n z) k =
+    rw z (pauses-begun p (log s.world (event.CallBegun p c)) (mine (top (stack s p))) c k)
+
+pub takes-few : (limit n : ℕ) (ts : List Step) → TakesFew (run ts (start limit n)).world
+takes-few limit n ts = along (λ (s : Machine). TakesFew s.world) few-moves (λ s p a held below l e k. k) ts
+    (start limit n) (good-start limit n) (λ r. omega arith)

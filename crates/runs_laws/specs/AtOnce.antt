@@ -1,0 +1,46 @@
+-- Whoever is answered no is answered at once: he has done nothing since his call began.
+use Rattle.std.specs.Prelude.{◌≡◌, ℕ, ◌==◌, Bool, [], ◌∷◌, ◌++◌, filter}
+use Rattle.runs_model.specs.declared.call.Call.{Call}
+use Rattle.runs_model.specs.declared.call.Reply.TheVariants.{No}
+use Rattle.runs_model.specs.declared.event.Event.{Event}
+use Rattle.runs_model.specs.declared.event.Event.TheVariants.{CallBegun, CallEnded, Accepted, PollBegun, Answered}
+use Rattle.runs_model.specs.declared.event.Event.TheVariants.{Woken, Cancelled, Detached, Dropped, OutputDropped}
+use Rattle.runs_model.specs.declared.event.Event.TheVariants.{OutputGiven, HandlePolled, WakerCalled, TickPolled}
+use Rattle.runs_model.specs.declared.event.Event.TheVariants.{TickDropped, RunPolled, RunDropped, Kept}
+use Rattle.runs_model.specs.declared.event.Event.TheVariants.{DropBegun, DropEnded}
+use Rattle.runs_model.specs.Trace.{Trace}
+
+-- who did it
+abbrev pub doer : Event → ℕ
+doer (CallBegun p c) = p
+doer (CallEnded p r) = p
+doer (Accepted p f) = p
+doer (PollBegun p f) = p
+doer (Answered p f a) = p
+doer (Woken p f) = p
+doer (Cancelled p f) = p
+doer (Detached p f) = p
+doer (Dropped p f) = p
+doer (OutputDropped p f) = p
+doer (OutputGiven p f) = p
+doer (HandlePolled p f) = p
+doer (WakerCalled p o k w) = p
+doer (TickPolled p t) = p
+doer (TickDropped p t) = p
+doer (RunPolled p r) = p
+doer (RunDropped p r) = p
+doer (Kept p f r) = p
+doer (DropBegun p) = p
+doer (DropEnded p) = p
+
+abbrev pub is_by : ℕ → Event → Bool
+is_by p e = doer e == p
+
+-- what party p did, in order
+abbrev pub deeds : ℕ → Trace → Trace
+deeds p trace = filter (is_by p) trace
+
+-- of what party p did, an answer no stands right behind the beginning of its call
+abbrev pub NoComesAtOnce : ℕ → Trace → Type 0
+NoComesAtOnce p trace = (before later : Trace) → deeds p trace ≡ before ++ CallEnded p No ∷ later →
+    (earlier : Trace) × (c : Call) × (before ≡ earlier ++ CallBegun p c ∷ [])

@@ -1,0 +1,54 @@
+-- How many Runnables were queued in the executor's queue; and that it is one that counts them, for as long as such a
+-- queue may.
+use Rattle.std.specs.Prelude.{◌≡◌, ℕ, ◌+◌, ◌-◌, ◌<◌, ◌≤◌, false, Some, List, [], ◌∷◌, ◌++◌, length}
+use Rattle.queue_steps.specs.ClosableQueue.{ClosableQueue, most_accepted, new_queue, HasRoom}
+use Rattle.queue_steps.specs.ClosableQueue.{IsUnspent, appended, taken, shut}
+use Rattle.runs_model.specs.declared.op.Op.TheVariants as op
+use Rattle.runs_model.specs.declared.op.QueueOp.TheVariants as queue_op
+use Rattle.runs_model.specs.declared.step.Hint.{Hint}
+use Rattle.runs_model.specs.declared.step.Step.{Step}
+use Rattle.runs_model.specs.declared.step.Step.TheVariants.{Go}
+use Rattle.runs_model.specs.Steps.{Machine, stack, top, step, stepped, run, start}
+
+-- a step appends as many Runnables as the queue gets longer by, one or none
+abbrev pub queued_by : Step → Machine → ℕ
+queued_by t s = length (stepped s (step s t)).world.queue.items - length s.world.queue.items
+
+-- the appends to the queue by these steps, of a new machine: those of acceptances, of wakes that scheduled, of
+-- closings, and of what runs that went had left
+abbrev pub queueings : List Step → Machine → ℕ
+queueings [] s = 0
+queueings (t ∷ ts) s = queued_by t s + queueings ts (stepped s (step s t))
+
+-- the queue, which has accepted so many
+abbrev pub counting : ℕ → ClosableQueue ℕ → ClosableQueue ℕ
+counting n q = record q { accepted = Some n }
+
+-- one change of a closable queue: none; an append where it is open, has room and may accept one more;
+-- a take of the first item, which is there; a close
+pub data Changes (q new : ClosableQueue ℕ) : Type 0 where
+  stays : new ≡ q → Changes q new
+  appends : (f : ℕ) → q.closed ≡ false → HasRoom q → IsUnspent q → new ≡ appended q f → Changes q new
+  takes : (f : ℕ) (rest : List ℕ) → q.items ≡ f ∷ rest → new ≡ taken q → Changes q new
+  closes : new ≡ shut q → Changes q new
+
+-- after these steps of a new machine
+abbrev pub counted_after : ℕ → ℕ → List Step → ClosableQueue ℕ
+counted_after limit parties steps =
+    counting (queueings steps (start limit parties)) (run steps (start limit parties)).world.queue
+
+-- these steps queue fewer than a queue may accept
+abbrev pub AreFewQueueings : ℕ → ℕ → List Step → Type 0
+AreFewQueueings limit parties steps = queueings steps (start limit parties) < most_accepted
+
+-- there are no more than steps; the queue of a new machine is a new queue that counts; each step changes it as a
+-- closable queue changes; and a Runnable that is to be appended is, unless the queue is closed
+pub record CountsQueueings (limit parties : ℕ) (steps : List Step) : Type 0 where
+  pub most : queueings steps (start limit parties) ≤ length steps
+  pub new : counted_after limit parties [] ≡ new_queue (Some limit) (Some 0)
+  pub changes : AreFewQueueings limit parties steps → (t : Step) →
+      Changes (counted_after limit parties steps) (counted_after limit parties (steps ++ t ∷ []))
+  pub appends : AreFewQueueings limit parties steps → (p : ℕ) (h : Hint) (f : ℕ) →
+      top (stack (run steps (start limit parties)) p) ≡ Some (op.Queue (queue_op.Append f)) →
+      (counted_after limit parties steps).closed ≡ false →
+      counted_after limit parties (steps ++ Go p h ∷ []) ≡ appended (counted_after limit parties steps) f

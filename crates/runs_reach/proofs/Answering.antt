@@ -1,0 +1,340 @@
+-- Which thing to do answers the poll of a run: a part of the poll, or what a run does that is ready, leads to another such
+-- thing, or to the end of the call with another answer.
+use Rattle.std.proofs.Common.{◌≡◌, ◌∙◌, ℕ, ◌+◌, ◌≤◌, ◌%◌, List, [], ◌∷◌, ◌++◌}
+use Rattle.std.proofs.Common.{length, Bool, true, false, refl, sym, ap, arith}
+use Rattle.std.specs.Prelude.{Option, Some, None}
+use Rattle.executor_parts.specs.Sleepers.{waker_at}
+use Rattle.task_moves.specs.Moves as moves
+use Rattle.runs_model.specs.declared.call.Reply.{Reply}
+use Rattle.runs_model.specs.declared.call.Reply.TheVariants as reply
+use Rattle.runs_model.specs.declared.event.Answer.TheVariants as answer
+use Rattle.runs_model.specs.declared.event.Event.TheVariants as event
+use Rattle.runs_model.specs.declared.op.Hold.{Hold}
+use Rattle.runs_model.specs.declared.op.Hold.TheVariants as hold
+use Rattle.runs_model.specs.declared.op.ListOp.{ListOp}
+use Rattle.runs_model.specs.declared.op.ListOp.TheVariants as list_op
+use Rattle.runs_model.specs.declared.op.Op.{Op}
+use Rattle.runs_model.specs.declared.op.Op.TheVariants as op
+use Rattle.runs_model.specs.declared.op.Polled.TheVariants as of
+use Rattle.runs_model.specs.declared.op.RunOp.{RunOp}
+use Rattle.runs_model.specs.declared.op.RunOp.TheVariants as run_op
+use Rattle.runs_model.specs.declared.op.RunPoll.{RunPoll}
+use Rattle.runs_model.specs.declared.op.Section.{Section}
+use Rattle.runs_model.specs.declared.op.Section.TheVariants as section
+use Rattle.runs_model.specs.declared.op.Sleeper.{Sleeper}
+use Rattle.runs_model.specs.declared.op.Sleeper.TheVariants as sleeper
+use Rattle.runs_model.specs.declared.op.SleeperOp.TheVariants as sleeper_op
+use Rattle.runs_model.specs.declared.op.Sleeping.{Sleeping}
+use Rattle.runs_model.specs.declared.op.StealOp.{StealOp}
+use Rattle.runs_model.specs.declared.op.StealOp.TheVariants as steal_op
+use Rattle.runs_model.specs.declared.op.TickOp.TheVariants as tick_op
+use Rattle.runs_model.specs.declared.op.UserOp.TheVariants as user_op
+use Rattle.runs_model.specs.declared.op.Waker.{Waker}
+use Rattle.runs_model.specs.declared.op.Waker.TheVariants.{Task, Outside}
+use Rattle.runs_model.specs.declared.op.WakerOp.TheVariants as waker_op
+use Rattle.runs_model.specs.declared.step.Hint.{Hint}
+use Rattle.runs_model.specs.declared.step.UserEnd.{UserEnd}
+use Rattle.runs_model.specs.declared.step.UserEnd.TheVariants as end
+use Rattle.runs_model.specs.Acts.{copy_by}
+use Rattle.runs_model.specs.ActsOfRuns.{call_by_reference, make_room_by, make_run_by, reschedule_by, wake_own}
+use Rattle.runs_model.specs.ActsOfSleepers.{copy_sleeper_by, held_as, lie_again_by, lie_anew_by, lie_down_by}
+use Rattle.runs_model.specs.ActsOfSleepers.{lie_listed_by, pend_as, search_by, sleeper_goes}
+use Rattle.runs_model.specs.Doing.{act, list_act, run_act, search_by_who, steal_act}
+use Rattle.runs_model.specs.Steps.{accepts, react}
+use Rattle.runs_model.specs.Weights.{same, weigh, is_run}
+use Rattle.runs_model.specs.World.{World, Place, Up, Lies, Left, log, own_of, place_of, task}
+use Rattle.runs_model.proofs.Asides.{aside-owed}
+use Rattle.runs_model.proofs.Calls.{calling_of}
+use Rattle.runs_model.proofs.Lists.{same_is, weigh-append}
+use Rattle.runs_model.proofs.SleepersNext.{goes-unseen}
+use Rattle.runs_model.proofs.Using.{Mild, is_for_runs, mild-aside, mild-next, mild-polling, polling_of}
+use Rattle.runs_model.proofs.UsingRuns.{Part, part-common, part-look, part-own, part-steal, part-walk, poll_in}
+
+-- what a run does that is ready
+abbrev pub readying_section : ℕ → Section → ℕ
+readying_section r (section.Unregister q reply.Ready) = same r q
+readying_section r _ = 0
+
+abbrev pub readying_of : ℕ → Op → ℕ
+readying_of r (op.List (list_op.LockWrite s)) = readying_section r s
+readying_of r (op.List (list_op.Write s)) = readying_section r s
+readying_of r (op.Run (run_op.Reschedule q reply.Ready)) = same r q
+readying_of r (op.End reply.Ready (hold.Run q)) = same r q
+readying_of r _ = 0
+
+-- the end of a call that has another answer
+abbrev pub other_of : Op → ℕ
+other_of (op.End reply.Ready held) = 0
+other_of (op.End a held) = 1
+other_of _ = 0
+
+abbrev pub answers_of : ℕ → Op → ℕ
+answers_of r o = polling_of r o + readying_of r o
+
+same-few : (r q : ℕ) → same r q ≤ 1
+same-few r q = grind (arith, same_is)
+
+section-few : (r : ℕ) (s : Section) → readying_section r s ≤ 1
+section-few r (section.Unregister q reply.Ready) = same-few r q
+section-few r _ = omega arith
+
+polling-few : (r : ℕ) (o : Op) → polling_of r o ≤ calling_of o
+polling-few r o = (mild-polling r).few o
+
+pub few : (r : ℕ) (o : Op) → answers_of r o ≤ calling_of o
+few r (op.List (list_op.LockWrite section.MakeRun)) = omega arith
+few r (op.List (list_op.LockWrite (section.Register x))) = omega (arith, same-few r x.run)
+few r (op.List (list_op.LockWrite (section.Unregister q a))) = omega (arith, section-few r (section.Unregister q a))
+few r (op.List (list_op.Write section.MakeRun)) = omega arith
+few r (op.List (list_op.Write (section.Register x))) = omega (arith, same-few r x.run)
+few r (op.List (list_op.Write (section.Unregister q a))) = omega (arith, section-few r (section.Unregister q a))
+few r (op.Run (run_op.Reschedule q reply.Ready)) = omega (arith, same-few r q)
+few r (op.End reply.Ready (hold.Run q)) = omega (arith, same-few r q)
+few r o = omega (arith, polling-few r o)
+
+mild : (r : ℕ) → Mild (answers_of r)
+mild r = record {
+  few = few r;
+  executor = by_executor;
+  spawned = by_spawned;
+  handle = by_handle;
+  handles = λ o. refl;
+}
+  where
+    by_executor : (a : Reply) → answers_of r (op.End a hold.Executor) ≡ 0
+    by_executor reply.Ready = refl
+    by_executor _ = refl
+
+    by_spawned : (a : Reply) (f : ℕ) → answers_of r (op.End a (hold.Spawned f)) ≡ 0
+    by_spawned reply.Ready f = refl
+    by_spawned _ f = refl
+
+    by_handle : (a : Reply) (f : ℕ) → answers_of r (op.End a (hold.Handle f)) ≡ 0
+    by_handle reply.Ready f = refl
+    by_handle _ f = refl
+
+part : (r : ℕ) (x : RunPoll) → Part (answers_of r) x (same r x.run)
+part r x = record {
+  search = omega arith;
+  copy = omega arith;
+  begin = λ from t. omega arith;
+  own_length = λ from t m. omega arith;
+  take = λ from t m. omega arith;
+  put = λ from t m f. omega arith;
+  common = omega arith;
+  look = λ at left. omega arith;
+  own = omega arith;
+  lock = omega arith;
+}
+
+-- what follows answers no more polls of run r, and one that was to be answered is still, or ends with another answer
+pub record Hands (r : ℕ) (o : Op) (next : List Op) : Type 0 where
+  pub most : weigh (answers_of r) next ≤ answers_of r o
+  pub least : answers_of r o ≤ weigh (answers_of r) next + weigh other_of next
+
+-- as much follows
+as_much : (r : ℕ) (o : Op) (next : List Op) → weigh (answers_of r) next ≡ answers_of r o → Hands r o next
+as_much r o next e = record { most = omega (arith, e); least = omega (arith, e) }
+
+-- nothing was to be answered
+none-before : (r : ℕ) (o : Op) → is_for_runs o ≡ false → answers_of r o ≡ 0
+none-before r (op.Tick (tick_op.Search s)) n = absurd (cc)
+none-before r (op.Tick (tick_op.CopyWaker s)) n = absurd (cc)
+none-before r (op.Tick (tick_op.LieDown s)) n = absurd (cc)
+none-before r (op.User (user_op.PollOwn x)) n = absurd (cc)
+none-before r (op.Waker (waker_op.CopyWaker f held)) n = absurd (cc)
+none-before r (op.List o) n = absurd (cc)
+none-before r (op.Steal o) n = absurd (cc)
+none-before r (op.Run o) n = absurd (cc)
+none-before r (op.End a held) n = absurd (cc)
+none-before r _ n = refl
+
+hands-plain : (r p : ℕ) (h : Hint) (o : Op) (w : World) → is_for_runs o ≡ false → Hands r o (act p h o w).next
+hands-plain r p h o w n =
+    as_much r o (act p h o w).next (mild-next (answers_of r) (mild r) p h o w n ∙ sym (none-before r o n))
+
+steal-is : (r : ℕ) (o : StealOp) → answers_of r (op.Steal o) ≡ same r (poll_in o).run
+steal-is r (steal_op.Length s) = omega arith
+steal-is r (steal_op.OwnLength s n) = omega arith
+steal-is r (steal_op.Take s more) = omega arith
+steal-is r (steal_op.Put s more f) = omega arith
+
+-- a tick's search
+held : (r : ℕ) (who : Sleeper) (t : ℕ) → who ≡ sleeper.Tick t → readying_of r (op.End reply.Ready (held_as who)) ≡ 0
+held r (sleeper.Tick u) t e = refl
+held r (sleeper.Run u) t e = absurd (cc)
+
+search-none : (r : ℕ) (x : Place) (w : World) (q : List ℕ) (s : Sleeping) (t : ℕ) → s.who ≡ sleeper.Tick t →
+    weigh (answers_of r) (search_by x w q s).next ≡ 0
+search-none r x w [] s t e = omega (arith, ap (is_run r) e)
+search-none r Up w (f ∷ rest) s t e = omega (arith, held r s.who t e)
+search-none r (Lies n) w (f ∷ rest) s t e = omega (arith, held r s.who t e)
+search-none r Left w (f ∷ rest) s t e = omega (arith, held r s.who t e)
+
+hands-search : (r : ℕ) (who : Sleeper) (w : World) (s : Sleeping) → s.who ≡ who →
+    Hands r (op.Tick (tick_op.Search s)) (search_by_who who w s).next
+hands-search r (sleeper.Tick t) w s e = as_much r (op.Tick (tick_op.Search s)) (search_by_who (sleeper.Tick t) w s).next
+    (omega (arith, search-none r (place_of w s.who) w w.queue.items s t e, ap (is_run r) e))
+hands-search r (sleeper.Run q) w s e =
+    let x : RunPoll = record { run = q; waker = s.waker; poll = s.poll } in
+    as_much r (op.Tick (tick_op.Search s)) (search_by_who (sleeper.Run q) w s).next
+    (omega (arith, part-own (answers_of r) (mild r) x (same r q) (part r x) (own_of w q) w, ap (is_run r) e))
+
+-- it ends with another answer
+hands-copy : (r : ℕ) (b : Bool) (w : World) (s : Sleeping) →
+    Hands r (op.Tick (tick_op.CopyWaker s)) (copy_sleeper_by b w s).next
+hands-copy r true w s = record { most = omega arith; least = omega (arith, is-few r s.who) }
+  where
+    is-few : (r : ℕ) (who : Sleeper) → is_run r who ≤ 1
+    is-few r (sleeper.Tick t) = omega arith
+    is-few r (sleeper.Run q) = same-few r q
+hands-copy r false w s = as_much r (op.Tick (tick_op.CopyWaker s)) _ (omega arith)
+
+module _ (r : ℕ) (s : Sleeping) where
+  who-few : (who : Sleeper) → is_run r who ≤ 1
+  who-few (sleeper.Tick t) = omega arith
+  who-few (sleeper.Run q) = same-few r q
+
+  pends : (before : List Op) → weigh (answers_of r) before ≡ 0 →
+      Hands r (op.Tick (tick_op.LieDown s)) (before ++ pend_as s.who)
+  pends before z = record {
+    most = omega (arith, weigh-append (answers_of r) before (pend_as s.who), z);
+    least = omega (
+      arith,
+      weigh-append (answers_of r) before (pend_as s.who),
+      weigh-append other_of before (pend_as s.who),
+      who-few s.who,
+    );
+  }
+
+  searches : Hands r (op.Tick (tick_op.LieDown s)) (op.Tick (tick_op.Search s) ∷ [])
+  searches = as_much r (op.Tick (tick_op.LieDown s)) _ (omega arith)
+
+  hands-anew : (b : Bool) (w : World) → Hands r (op.Tick (tick_op.LieDown s)) (lie_anew_by b w s).next
+  hands-anew true w = searches
+  hands-anew false w = pends (op.Sleeper (sleeper_op.CallSleeper s) ∷ []) refl
+
+  hands-listed : (b : Bool) (w : World) (k : ℕ) → Hands r (op.Tick (tick_op.LieDown s)) (lie_listed_by b w k s).next
+  hands-listed true w k = searches
+  hands-listed false w k = pends (op.Sleeper (sleeper_op.CallSleeper s) ∷ []) refl
+
+  hands-again : (o : Option ℕ) (w : World) (k : ℕ) → Hands r (op.Tick (tick_op.LieDown s)) (lie_again_by o w k s).next
+  hands-again None w k = hands-listed _ w k
+  hands-again (Some at) w k = let old = waker_at (Some at) w.sleepers.wakers in
+      pends (sleeper_goes old) (goes-unseen (answers_of r) (λ f. refl) old)
+
+  hands-lie : (x : Place) (w : World) → Hands r (op.Tick (tick_op.LieDown s)) (lie_down_by x w s).next
+  hands-lie Up w = hands-anew _ w
+  hands-lie (Lies k) w = hands-again _ w k
+  hands-lie Left w = pends (op.Sleeper (sleeper_op.CallSleeper s) ∷ []) refl
+
+hands-waker : (r : ℕ) (b : Bool) (w : World) (f : ℕ) (held : Hold) →
+    Hands r (op.Waker (waker_op.CopyWaker f held)) (copy_by b w f held).next
+hands-waker r true w f held = as_much r (op.Waker (waker_op.CopyWaker f held)) _ refl
+hands-waker r false w f held = as_much r (op.Waker (waker_op.CopyWaker f held)) _ refl
+
+makes : (r : ℕ) (b : Bool) (w : World) → Hands r (op.List (list_op.Write section.MakeRun)) (make_run_by b w).next
+makes r true w = as_much r (op.List (list_op.Write section.MakeRun)) _ refl
+makes r false w = as_much r (op.List (list_op.Write section.MakeRun)) _ refl
+
+unregisters : (r q : ℕ) (a : Reply) → answers_of r (op.Run (run_op.Reschedule q a)) ≡ readying_section r
+    (section.Unregister q a)
+unregisters r q reply.Ready = omega arith
+unregisters r q _ = omega arith
+
+hands-list : (r : ℕ) (h : Hint) (o : ListOp) (w : World) → Hands r (op.List o) (list_act h o w).next
+hands-list r h (list_op.LockWrite s) w = as_much r (op.List (list_op.LockWrite s)) _ (omega arith)
+hands-list r h (list_op.Write section.MakeRun) w = makes r h.refused w
+hands-list r h (list_op.Write (section.Register x)) w =
+    as_much r (op.List (list_op.Write (section.Register x))) _ (omega arith)
+hands-list r h (list_op.Write (section.Unregister q a)) w =
+    as_much r (op.List (list_op.Write (section.Unregister q a))) _ (omega (arith, unregisters r q a))
+hands-list r h list_op.UnlockWrite w = as_much r (op.List list_op.UnlockWrite) _ refl
+hands-list r h (list_op.LockRead x) w = as_much r (op.List (list_op.LockRead x)) (list_act h (list_op.LockRead x) w).next
+    (omega (
+      arith,
+      part-walk (answers_of r) (mild r) x (same r x.run) (part r x) w.listed (h.start % length w.listed)
+          (length w.listed),
+    ))
+hands-list r h list_op.UnlockRead w = as_much r (op.List list_op.UnlockRead) _ refl
+
+rooms : (r : ℕ) (b : Bool) (w : World) → Hands r (op.Run run_op.MakeRoom) (make_room_by b w).next
+rooms r true w = as_much r (op.Run run_op.MakeRoom) _ refl
+rooms r false w = as_much r (op.Run run_op.MakeRoom) _ refl
+
+-- its own waker is called first
+none-called : (r p : ℕ) (w : World) (a : Waker) → weigh (answers_of r) (call_by_reference p w a).next ≡ 0
+none-called r p w (Task f) =
+    aside-owed (answers_of r) (mild-aside (answers_of r) (mild r)) f _ (moves.wake_by_reference (task w f)).owed
+none-called r p w (Outside y) = refl
+
+hands-own : (r p : ℕ) (w : World) (x : RunPoll) → Hands r (op.Run (run_op.WakeOwn x)) (wake_own p w x).next
+hands-own r p w x =
+    let v = log w (event.WakerCalled p (of.Run x.run) x.poll x.waker) in
+    let first = (call_by_reference p v x.waker).next in record {
+      most = omega (
+        arith,
+        weigh-append (answers_of r) first (op.End reply.Pending (hold.Run x.run) ∷ []),
+        none-called r p v x.waker,
+      );
+      least = omega (
+        arith,
+        weigh-append other_of first (op.End reply.Pending (hold.Run x.run) ∷ []),
+        same-few r x.run,
+      );
+    }
+
+-- what is left is scheduled, and then the call ends
+reschedules : (r : ℕ) (own : List ℕ) (w : World) (q : ℕ) (a : Reply) →
+    Hands r (op.Run (run_op.Reschedule q a)) (reschedule_by own w q a).next
+reschedules r [] w q reply.Ready = as_much r (op.Run (run_op.Reschedule q reply.Ready)) _ (omega arith)
+reschedules r [] w q _ = record { most = omega arith; least = omega arith }
+reschedules r (f ∷ rest) w q reply.Ready = as_much r (op.Run (run_op.Reschedule q reply.Ready)) _ (omega arith)
+reschedules r (f ∷ rest) w q _ = record { most = omega arith; least = omega arith }
+
+hands-run : (r p : ℕ) (h : Hint) (o : RunOp) (w : World) → Hands r (op.Run o) (run_act p h o w).next
+hands-run r p h run_op.MakeRoom w = rooms r h.refused w
+hands-run r p h run_op.ReturnRoom w = as_much r (op.Run run_op.ReturnRoom) _ refl
+hands-run r p h (run_op.SearchCommon x) w =
+    as_much r (op.Run (run_op.SearchCommon x)) (run_act p h (run_op.SearchCommon x) w).next
+    (omega (arith, part-common (answers_of r) (mild r) x (same r x.run) (part r x) w.queue.items w))
+hands-run r p h (run_op.LookOwn x at left) w =
+    as_much r (op.Run (run_op.LookOwn x at left)) (run_act p h (run_op.LookOwn x at left) w).next
+    (omega (arith, part-look (answers_of r) (mild r) x (same r x.run) (part r x) (own_of w x.run) w at left))
+hands-run r p h (run_op.WakeOwn x) w = hands-own r p w x
+hands-run r p h (run_op.Reschedule q a) w = reschedules r (own_of w q) w q a
+
+abbrev pub is_end : Op → Bool
+is_end (op.End a held) = true
+is_end _ = false
+
+hands-by : (b : Bool) (r p : ℕ) (h : Hint) (o : Op) (w : World) → is_for_runs o ≡ b → is_end o ≡ false →
+    Hands r o (act p h o w).next
+hands-by false r p h o w n e = hands-plain r p h o w n
+hands-by true r p h (op.Tick (tick_op.Search s)) w n e = hands-search r s.who w s refl
+hands-by true r p h (op.Tick (tick_op.CopyWaker s)) w n e = hands-copy r _ w s
+hands-by true r p h (op.Tick (tick_op.LieDown s)) w n e = hands-lie r s _ w
+hands-by true r p h (op.User (user_op.PollOwn x)) w n e = as_much r (op.User (user_op.PollOwn x)) _ (omega arith)
+hands-by true r p h (op.Waker (waker_op.CopyWaker f held)) w n e = hands-waker r _ w f held
+hands-by true r p h (op.List o) w n e = hands-list r h o w
+hands-by true r p h (op.Steal o) w n e = as_much r (op.Steal o) (steal_act p o w).next
+    (part-steal (answers_of r) (mild r) (same r (poll_in o).run) p o w (part r (poll_in o)) ∙ sym (steal-is r o))
+hands-by true r p h (op.Run o) w n e = hands-run r p h o w
+hands-by true r p h (op.End a held) w n e = absurd (cc)
+hands-by true r p h _ w n e = absurd (cc)
+
+pub hands-act : (r p : ℕ) (h : Hint) (o : Op) (w : World) → is_end o ≡ false → Hands r o (act p h o w).next
+hands-act r p h o w e = hands-by _ r p h o w refl e
+
+pub hands-react : (r p : ℕ) (o : Op) (u : UserEnd) (w : World) → accepts o u ≡ true → Hands r o (react p o u w).next
+hands-react r p (op.User (user_op.Poll f)) (end.Polled answer.Pending) w a = as_much r (op.User (user_op.Poll f)) _ refl
+hands-react r p (op.User (user_op.Poll f)) (end.Polled answer.Ready) w a = as_much r (op.User (user_op.Poll f)) _ refl
+hands-react r p (op.User (user_op.Drop f)) end.Done w a = as_much r (op.User (user_op.Drop f)) _ refl
+hands-react r p (op.User (user_op.DropOutput f)) end.Done w a = as_much r (op.User (user_op.DropOutput f)) _ refl
+hands-react r p (op.User (user_op.CallOutside x)) end.Done w a = as_much r (op.User (user_op.CallOutside x)) _ refl
+hands-react r p (op.User (user_op.PollOwn x)) (end.Polled answer.Pending) w a =
+    as_much r (op.User (user_op.PollOwn x)) _ (omega arith)
+hands-react r p (op.User (user_op.PollOwn x)) (end.Polled answer.Ready) w a =
+    as_much r (op.User (user_op.PollOwn x)) _ (omega arith)
+hands-react r p (op.User (user_op.DropOwn q)) end.Done w a = as_much r (op.User (user_op.DropOwn q)) _ refl
+hands-react r p _ _ w a = absurd (cc)

@@ -1,0 +1,408 @@
+-- Who leaves the list of queues, as the run's own future was ready or the run is dropped, goes on to leave it until its
+-- call ends; and nobody else begins to.
+use Rattle.std.proofs.Common.{◌≡◌, ◌∙◌, ℕ, zero, suc, ◌≤◌, ◌%◌, List, [], ◌∷◌}
+use Rattle.std.proofs.Common.{length, Bool, true, false, refl, arith}
+use Rattle.std.specs.Prelude.{Option, Some, None}
+use Rattle.executor_parts.specs.Sleepers.{waker_at}
+use Rattle.task_moves.specs.Moves as moves
+use Rattle.runs_model.specs.declared.call.Call.{Call}
+use Rattle.runs_model.specs.declared.call.Call.TheVariants as call
+use Rattle.runs_model.specs.declared.call.Reply.{Reply}
+use Rattle.runs_model.specs.declared.call.Reply.TheVariants as reply
+use Rattle.runs_model.specs.declared.event.Answer.TheVariants as answer
+use Rattle.runs_model.specs.declared.event.Event.TheVariants as event
+use Rattle.runs_model.specs.declared.op.Hold.{Hold}
+use Rattle.runs_model.specs.declared.op.Hold.TheVariants as hold
+use Rattle.runs_model.specs.declared.op.ListOp.{ListOp}
+use Rattle.runs_model.specs.declared.op.ListOp.TheVariants as list_op
+use Rattle.runs_model.specs.declared.op.Op.{Op}
+use Rattle.runs_model.specs.declared.op.Op.TheVariants as op
+use Rattle.runs_model.specs.declared.op.Polled.TheVariants as of
+use Rattle.runs_model.specs.declared.op.RunOp.{RunOp}
+use Rattle.runs_model.specs.declared.op.RunOp.TheVariants as run_op
+use Rattle.runs_model.specs.declared.op.RunPoll.{RunPoll}
+use Rattle.runs_model.specs.declared.op.Section.{Section}
+use Rattle.runs_model.specs.declared.op.Section.TheVariants as section
+use Rattle.runs_model.specs.declared.op.Sleeper.{Sleeper}
+use Rattle.runs_model.specs.declared.op.Sleeper.TheVariants as sleeper
+use Rattle.runs_model.specs.declared.op.Sleeping.{Sleeping}
+use Rattle.runs_model.specs.declared.op.Steal.{Steal}
+use Rattle.runs_model.specs.declared.op.Then.{Then}
+use Rattle.runs_model.specs.declared.op.Then.TheVariants as then
+use Rattle.runs_model.specs.declared.op.TickOp.TheVariants as tick_op
+use Rattle.runs_model.specs.declared.op.UserOp.TheVariants as user_op
+use Rattle.runs_model.specs.declared.op.Waker.{Waker}
+use Rattle.runs_model.specs.declared.op.Waker.TheVariants.{Task, Outside}
+use Rattle.runs_model.specs.declared.op.WakerOp.TheVariants as waker_op
+use Rattle.runs_model.specs.declared.step.Hint.{Hint}
+use Rattle.runs_model.specs.declared.step.UserEnd.{UserEnd}
+use Rattle.runs_model.specs.declared.step.UserEnd.TheVariants as end
+use Rattle.runs_model.specs.Acts.{copy_by}
+use Rattle.runs_model.specs.ActsOfRuns.{call_by_reference, make_room_by, make_run_by, reschedule_by, steal_by, wake_own}
+use Rattle.runs_model.specs.ActsOfSleepers.{copy_sleeper_by, lie_again_by, lie_anew_by, lie_down_by}
+use Rattle.runs_model.specs.ActsOfSleepers.{lie_listed_by, pend_as, search_by, sleeper_goes}
+use Rattle.runs_model.specs.Doing.{act, list_act, run_act, search_by_who}
+use Rattle.runs_model.specs.Rows.{running_of}
+use Rattle.runs_model.specs.Steps.{accepts, begun, drop_run, future_of, kept, poll_run, react, with_future}
+use Rattle.runs_model.specs.Weights.{same, weigh}
+use Rattle.runs_model.specs.World.{World, Place, Up, Lies, Left, Stage, New, Listed, Ended, Done, log, own_of, task}
+use Rattle.runs_model.proofs.Asides.{aside-owed}
+use Rattle.runs_model.proofs.Calls.{calling_of}
+use Rattle.runs_model.proofs.Lists.{same_is, weigh-append, weigh-below}
+use Rattle.runs_model.proofs.RunsMoving.{Weighs, by_then, weighs-stolen}
+use Rattle.runs_model.proofs.SleepersNext.{goes-unseen}
+use Rattle.runs_model.proofs.Using.{Mild, is_for_runs, mild-aside, mild-next}
+use Rattle.runs_model.proofs.UsingRuns.{Part, part-common, part-look, part-own, part-steal, part-walk, poll_in}
+use Rattle.runs_reach.proofs.Answering.{is_end, readying_of}
+
+-- it has left the list as it was ready
+abbrev pub off_of : ℕ → Op → ℕ
+off_of r (op.Run (run_op.Reschedule q reply.Ready)) = same r q
+off_of r (op.End reply.Ready (hold.Run q)) = same r q
+off_of r _ = 0
+
+-- it leaves as it is dropped
+abbrev pub dropping_section : ℕ → Section → ℕ
+dropping_section r (section.Unregister q reply.Ready) = 0
+dropping_section r (section.Unregister q a) = same r q
+dropping_section r _ = 0
+
+abbrev pub dropping_of : ℕ → Op → ℕ
+dropping_of r (op.List (list_op.LockWrite s)) = dropping_section r s
+dropping_of r (op.List (list_op.Write s)) = dropping_section r s
+dropping_of r (op.Run (run_op.Reschedule q reply.Ready)) = 0
+dropping_of r (op.Run (run_op.Reschedule q a)) = same r q
+dropping_of r _ = 0
+
+-- all these
+abbrev pub leaving_section : ℕ → Section → ℕ
+leaving_section r (section.Unregister q a) = same r q
+leaving_section r _ = 0
+
+abbrev pub leaving_of : ℕ → Op → ℕ
+leaving_of r (op.List (list_op.LockWrite s)) = leaving_section r s
+leaving_of r (op.List (list_op.Write s)) = leaving_section r s
+leaving_of r (op.Run (run_op.Reschedule q a)) = same r q
+leaving_of r (op.End reply.Ready (hold.Run q)) = same r q
+leaving_of r _ = 0
+
+same-few : (r q : ℕ) → same r q ≤ 1
+same-few r q = grind (arith, same_is)
+
+pub off-leaves : (r : ℕ) (o : Op) → off_of r o ≤ leaving_of r o
+off-leaves r (op.Run (run_op.Reschedule q reply.Ready)) = omega arith
+off-leaves r (op.End reply.Ready (hold.Run q)) = omega arith
+off-leaves r _ = omega arith
+
+pub dropping-leaves : (r : ℕ) (o : Op) → dropping_of r o ≤ leaving_of r o
+dropping-leaves r (op.List (list_op.LockWrite (section.Unregister q reply.Ready))) = omega arith
+dropping-leaves r (op.List (list_op.LockWrite (section.Unregister q a))) = omega arith
+dropping-leaves r (op.List (list_op.Write (section.Unregister q reply.Ready))) = omega arith
+dropping-leaves r (op.List (list_op.Write (section.Unregister q a))) = omega arith
+dropping-leaves r (op.Run (run_op.Reschedule q reply.Ready)) = omega arith
+dropping-leaves r (op.Run (run_op.Reschedule q a)) = omega arith
+dropping-leaves r _ = omega arith
+
+pub readying-leaves : (r : ℕ) (o : Op) → readying_of r o ≤ leaving_of r o
+readying-leaves r (op.List (list_op.LockWrite (section.Unregister q reply.Ready))) = omega arith
+readying-leaves r (op.List (list_op.LockWrite (section.Unregister q a))) = omega arith
+readying-leaves r (op.List (list_op.Write (section.Unregister q reply.Ready))) = omega arith
+readying-leaves r (op.List (list_op.Write (section.Unregister q a))) = omega arith
+readying-leaves r (op.Run (run_op.Reschedule q reply.Ready)) = omega arith
+readying-leaves r (op.Run (run_op.Reschedule q a)) = omega arith
+readying-leaves r (op.End reply.Ready (hold.Run q)) = omega arith
+readying-leaves r _ = omega arith
+
+pub leaving-uses : (r : ℕ) (o : Op) → leaving_of r o ≤ running_of r o
+leaving-uses r (op.List (list_op.LockWrite section.MakeRun)) = omega arith
+leaving-uses r (op.List (list_op.LockWrite (section.Register x))) = omega arith
+leaving-uses r (op.List (list_op.LockWrite (section.Unregister q a))) = omega arith
+leaving-uses r (op.List (list_op.Write section.MakeRun)) = omega arith
+leaving-uses r (op.List (list_op.Write (section.Register x))) = omega arith
+leaving-uses r (op.List (list_op.Write (section.Unregister q a))) = omega arith
+leaving-uses r (op.Run (run_op.Reschedule q a)) = omega arith
+leaving-uses r (op.End reply.Ready (hold.Run q)) = omega arith
+leaving-uses r _ = omega arith
+
+section-few : (r : ℕ) (s : Section) → leaving_section r s ≤ 1
+section-few r (section.Unregister q a) = same-few r q
+section-few r _ = omega arith
+
+few : (r : ℕ) (o : Op) → leaving_of r o ≤ calling_of o
+few r (op.List (list_op.LockWrite s)) = section-few r s
+few r (op.List (list_op.Write s)) = section-few r s
+few r (op.Run (run_op.Reschedule q a)) = same-few r q
+few r (op.End reply.Ready (hold.Run q)) = same-few r q
+few r _ = omega arith
+
+mild : (r : ℕ) → Mild (leaving_of r)
+mild r = record {
+  few = few r;
+  executor = by_executor;
+  spawned = by_spawned;
+  handle = by_handle;
+  handles = λ o. refl;
+}
+  where
+    by_executor : (a : Reply) → leaving_of r (op.End a hold.Executor) ≡ 0
+    by_executor reply.Ready = refl
+    by_executor _ = refl
+
+    by_spawned : (a : Reply) (f : ℕ) → leaving_of r (op.End a (hold.Spawned f)) ≡ 0
+    by_spawned reply.Ready f = refl
+    by_spawned _ f = refl
+
+    by_handle : (a : Reply) (f : ℕ) → leaving_of r (op.End a (hold.Handle f)) ≡ 0
+    by_handle reply.Ready f = refl
+    by_handle _ f = refl
+
+part : (r : ℕ) (x : RunPoll) → Part (leaving_of r) x 0
+part r x = record {
+  search = refl;
+  copy = refl;
+  begin = λ from t. refl;
+  own_length = λ from t m. refl;
+  take = λ from t m. refl;
+  put = λ from t m f. refl;
+  common = refl;
+  look = λ at left. refl;
+  own = refl;
+  lock = refl;
+}
+
+-- what has to do with leaving
+abbrev pub leaves : Op → Bool
+leaves (op.List (list_op.LockWrite (section.Unregister q a))) = true
+leaves (op.List (list_op.Write (section.Unregister q a))) = true
+leaves (op.Run (run_op.Reschedule q a)) = true
+leaves (op.End a held) = true
+leaves _ = false
+
+search-none : (r : ℕ) (x : Place) (w : World) (q : List ℕ) (s : Sleeping) (t : ℕ) → s.who ≡ sleeper.Tick t →
+    weigh (leaving_of r) (search_by x w q s).next ≡ 0
+search-none r x w [] s t e = refl
+search-none r x w (f ∷ rest) s t e = by x s.who t e
+  where
+    by : (x : Place) (who : Sleeper) (t : ℕ) → who ≡ sleeper.Tick t →
+        weigh (leaving_of r) (search_by x w (f ∷ rest) (record s { who = who })).next ≡ 0
+    by Up (sleeper.Tick u) t e = refl
+    by (Lies n) (sleeper.Tick u) t e = refl
+    by Left (sleeper.Tick u) t e = refl
+    by x (sleeper.Run u) t e = absurd (cc)
+
+module _ (r : ℕ) (s : Sleeping) where
+  pends : weigh (leaving_of r) (pend_as s.who) ≡ 0
+  pends = refl
+
+  none-anew : (b : Bool) (w : World) → weigh (leaving_of r) (lie_anew_by b w s).next ≡ 0
+  none-anew true w = refl
+  none-anew false w = refl
+
+  none-listed : (b : Bool) (w : World) (k : ℕ) → weigh (leaving_of r) (lie_listed_by b w k s).next ≡ 0
+  none-listed true w k = refl
+  none-listed false w k = refl
+
+  none-again : (o : Option ℕ) (w : World) (k : ℕ) → weigh (leaving_of r) (lie_again_by o w k s).next ≡ 0
+  none-again None w k = none-listed _ w k
+  none-again (Some at) w k = let old = waker_at (Some at) w.sleepers.wakers in
+      omega (
+        arith,
+        weigh-append (leaving_of r) (sleeper_goes old) (pend_as s.who),
+        goes-unseen (leaving_of r) (λ f. refl) old,
+      )
+
+  none-lie : (x : Place) (w : World) → weigh (leaving_of r) (lie_down_by x w s).next ≡ 0
+  none-lie Up w = none-anew _ w
+  none-lie (Lies k) w = none-again _ w k
+  none-lie Left w = refl
+
+none-copy : (r : ℕ) (b : Bool) (w : World) (s : Sleeping) → weigh (leaving_of r) (copy_sleeper_by b w s).next ≡ 0
+none-copy r true w s = refl
+none-copy r false w s = refl
+
+none-waker : (r : ℕ) (b : Bool) (w : World) (f : ℕ) (held : Hold) → weigh (leaving_of r) (copy_by b w f held).next ≡ 0
+none-waker r true w f held = refl
+none-waker r false w f held = refl
+
+none-make : (r : ℕ) (b : Bool) (w : World) → weigh (leaving_of r) (make_run_by b w).next ≡ 0
+none-make r true w = refl
+none-make r false w = refl
+
+none-list : (r : ℕ) (h : Hint) (o : ListOp) (w : World) → leaves (op.List o) ≡ false →
+    weigh (leaving_of r) (list_act h o w).next ≡ 0
+none-list r h (list_op.LockWrite section.MakeRun) w e = refl
+none-list r h (list_op.LockWrite (section.Register x)) w e = refl
+none-list r h (list_op.LockWrite (section.Unregister q a)) w e = absurd (cc)
+none-list r h (list_op.Write section.MakeRun) w e = none-make r h.refused w
+none-list r h (list_op.Write (section.Register x)) w e = refl
+none-list r h (list_op.Write (section.Unregister q a)) w e = absurd (cc)
+none-list r h list_op.UnlockWrite w e = refl
+none-list r h (list_op.LockRead x) w e =
+    part-walk (leaving_of r) (mild r) x 0 (part r x) w.listed (h.start % length w.listed) (length w.listed)
+none-list r h list_op.UnlockRead w e = refl
+
+none-room : (r : ℕ) (b : Bool) (w : World) → weigh (leaving_of r) (make_room_by b w).next ≡ 0
+none-room r true w = refl
+none-room r false w = refl
+
+none-called : (r p : ℕ) (w : World) (a : Waker) → weigh (leaving_of r) (call_by_reference p w a).next ≡ 0
+none-called r p w (Task f) =
+    aside-owed (leaving_of r) (mild-aside (leaving_of r) (mild r)) f _ (moves.wake_by_reference (task w f)).owed
+none-called r p w (Outside y) = refl
+
+none-own : (r p : ℕ) (w : World) (x : RunPoll) → weigh (leaving_of r) (wake_own p w x).next ≡ 0
+none-own r p w x =
+    let v = log w (event.WakerCalled p (of.Run x.run) x.poll x.waker) in omega (
+      arith,
+      weigh-append (leaving_of r) (call_by_reference p v x.waker).next (op.End reply.Pending (hold.Run x.run) ∷ []),
+      none-called r p v x.waker,
+    )
+
+none-run : (r p : ℕ) (h : Hint) (o : RunOp) (w : World) → leaves (op.Run o) ≡ false →
+    weigh (leaving_of r) (run_act p h o w).next ≡ 0
+none-run r p h run_op.MakeRoom w e = none-room r h.refused w
+none-run r p h run_op.ReturnRoom w e = refl
+none-run r p h (run_op.SearchCommon x) w e = part-common (leaving_of r) (mild r) x 0 (part r x) w.queue.items w
+none-run r p h (run_op.LookOwn x at left) w e =
+    part-look (leaving_of r) (mild r) x 0 (part r x) (own_of w x.run) w at left
+none-run r p h (run_op.WakeOwn x) w e = none-own r p w x
+none-run r p h (run_op.Reschedule q a) w e = absurd (cc)
+
+none-search : (r : ℕ) (who : Sleeper) (w : World) (s : Sleeping) → s.who ≡ who →
+    weigh (leaving_of r) (search_by_who who w s).next ≡ 0
+none-search r (sleeper.Tick t) w s e = search-none r _ w w.queue.items s t e
+none-search r (sleeper.Run q) w s e =
+    let x : RunPoll = record { run = q; waker = s.waker; poll = s.poll } in
+    part-own (leaving_of r) (mild r) x 0 (part r x) (own_of w q) w
+
+none-by : (b : Bool) (r p : ℕ) (h : Hint) (o : Op) (w : World) → is_for_runs o ≡ b → leaves o ≡ false →
+    weigh (leaving_of r) (act p h o w).next ≡ 0
+none-by false r p h o w n e = mild-next (leaving_of r) (mild r) p h o w n
+none-by true r p h (op.Tick (tick_op.Search s)) w n e = none-search r s.who w s refl
+none-by true r p h (op.Tick (tick_op.CopyWaker s)) w n e = none-copy r _ w s
+none-by true r p h (op.Tick (tick_op.LieDown s)) w n e = none-lie r s _ w
+none-by true r p h (op.User (user_op.PollOwn x)) w n e = refl
+none-by true r p h (op.Waker (waker_op.CopyWaker f held)) w n e = none-waker r _ w f held
+none-by true r p h (op.List o) w n e = none-list r h o w e
+none-by true r p h (op.Steal o) w n e = part-steal (leaving_of r) (mild r) 0 p o w (part r (poll_in o))
+none-by true r p h (op.Run o) w n e = none-run r p h o w e
+none-by true r p h (op.End a held) w n e = absurd (cc)
+none-by true r p h _ w n e = absurd (cc)
+
+-- a steal goes on
+pub leaving-more : (r n : ℕ) (w : World) (x : Steal) → weigh (leaving_of r) (steal_by n w x).next ≡ 0
+leaving-more r zero w x = weighs-stolen (leaving_of r) x.poll 0 0 found x.then w ∙ none x.then
+  where
+    found : Weighs (leaving_of r) x.poll 0 0
+    found = record {
+      exchange = refl;
+      up = λ who. refl;
+      take_up = λ f. refl;
+      search = refl;
+      wake = refl;
+      steal = λ f. refl;
+      look = λ at left. refl;
+    }
+
+    none : (t : Then) → by_then 0 0 t ≡ 0
+    none (then.Found f) = refl
+    none (then.Run f) = refl
+    none (then.Walk at left) = refl
+leaving-more r (suc n) w x = refl
+
+not-leaving : (r : ℕ) (o : Op) → leaves o ≡ false → leaving_of r o ≡ 0
+not-leaving r (op.List (list_op.LockWrite (section.Unregister q a))) e = absurd (cc)
+not-leaving r (op.List (list_op.Write (section.Unregister q a))) e = absurd (cc)
+not-leaving r (op.Run (run_op.Reschedule q a)) e = absurd (cc)
+not-leaving r (op.End a held) e = absurd (cc)
+not-leaving r _ e = refl
+
+-- how what has to do with leaving goes on
+pub record Leaves (r : ℕ) (old next : List Op) : Type 0 where
+  pub off : weigh (off_of r) next ≤ weigh (off_of r) old
+  pub dropping : weigh (dropping_of r) next ≤ weigh (dropping_of r) old
+  pub readying : weigh (readying_of r) old ≤ weigh (readying_of r) next
+
+pub leaves-none : (r : ℕ) (old next : List Op) → weigh (leaving_of r) old ≡ 0 → weigh (leaving_of r) next ≡ 0 →
+    Leaves r old next
+leaves-none r old next a b = record {
+  off = omega (arith, b, weigh-below (off_of r) (leaving_of r) (off-leaves r) next);
+  dropping = omega (arith, b, weigh-below (dropping_of r) (leaving_of r) (dropping-leaves r) next);
+  readying = omega (arith, a, weigh-below (readying_of r) (leaving_of r) (readying-leaves r) old);
+}
+
+leaves-reschedule : (r : ℕ) (own : List ℕ) (w : World) (q : ℕ) (a : Reply) →
+    Leaves r (op.Run (run_op.Reschedule q a) ∷ []) (reschedule_by own w q a).next
+leaves-reschedule r [] w q reply.Ready = record { off = omega arith; dropping = omega arith; readying = omega arith }
+leaves-reschedule r [] w q _ = record { off = omega arith; dropping = omega arith; readying = omega arith }
+leaves-reschedule r (f ∷ rest) w q reply.Ready =
+    record { off = omega arith; dropping = omega arith; readying = omega arith }
+leaves-reschedule r (f ∷ rest) w q _ = record { off = omega arith; dropping = omega arith; readying = omega arith }
+
+-- but for the section by which the run leaves the list
+abbrev pub is_unregister : Op → Bool
+is_unregister (op.List (list_op.Write (section.Unregister q a))) = true
+is_unregister _ = false
+
+leaves-by : (b : Bool) (r p : ℕ) (h : Hint) (o : Op) (w : World) → leaves o ≡ b → is_end o ≡ false →
+    is_unregister o ≡ false → Leaves r (o ∷ []) (act p h o w).next
+leaves-by false r p h o w e n m =
+    leaves-none r (o ∷ []) (act p h o w).next (omega (arith, not-leaving r o e)) (none-by _ r p h o w refl e)
+leaves-by true r p h (op.List (list_op.LockWrite (section.Unregister q a))) w e n m =
+    record { off = omega arith; dropping = omega arith; readying = omega arith }
+leaves-by true r p h (op.List (list_op.Write (section.Unregister q a))) w e n m = absurd (cc)
+leaves-by true r p h (op.Run (run_op.Reschedule q a)) w e n m = leaves-reschedule r (own_of w q) w q a
+leaves-by true r p h (op.End a held) w e n m = absurd (cc)
+leaves-by true r p h _ w e n m = absurd (cc)
+
+pub leaves-act : (r p : ℕ) (h : Hint) (o : Op) (w : World) → is_end o ≡ false → is_unregister o ≡ false →
+    Leaves r (o ∷ []) (act p h o w).next
+leaves-act r p h o w n m = leaves-by _ r p h o w refl n m
+
+pub leaves-react : (r p : ℕ) (o : Op) (u : UserEnd) (w : World) → accepts o u ≡ true →
+    Leaves r (o ∷ []) (react p o u w).next
+leaves-react r p (op.User (user_op.Poll f)) (end.Polled answer.Pending) w a = leaves-none r _ _ refl refl
+leaves-react r p (op.User (user_op.Poll f)) (end.Polled answer.Ready) w a = leaves-none r _ _ refl refl
+leaves-react r p (op.User (user_op.Drop f)) end.Done w a = leaves-none r _ _ refl refl
+leaves-react r p (op.User (user_op.DropOutput f)) end.Done w a = leaves-none r _ _ refl refl
+leaves-react r p (op.User (user_op.CallOutside x)) end.Done w a = leaves-none r _ _ refl refl
+leaves-react r p (op.User (user_op.PollOwn x)) (end.Polled answer.Pending) w a = leaves-none r _ _ refl refl
+leaves-react r p (op.User (user_op.PollOwn x)) (end.Polled answer.Ready) w a =
+    record { off = omega arith; dropping = omega arith; readying = omega arith }
+leaves-react r p (op.User (user_op.DropOwn q)) end.Done w a = leaves-none r _ _ refl refl
+leaves-react r p _ _ w a = absurd (cc)
+
+-- a call begins
+
+abbrev pub drops_run : Call → Bool
+drops_run (call.DropRun q) = true
+drops_run _ = false
+
+none-with : (r : ℕ) (w : World) (x : Option ℕ) (d : ℕ → Done) → ((f : ℕ) → weigh (leaving_of r) (d f).next ≡ 0) →
+    weigh (leaving_of r) (with_future w x d).next ≡ 0
+none-with r w None d k = refl
+none-with r w (Some f) d k = k f
+
+none-poll : (r : ℕ) (t : Stage) (x : RunPoll) → weigh (leaving_of r) (poll_run t x) ≡ 0
+none-poll r New x = refl
+none-poll r Listed x = refl
+none-poll r Ended x = refl
+
+pub none-begun : (r p : ℕ) (w : World) (o : Option Waker) (c : Call) → drops_run c ≡ false →
+    weigh (leaving_of r) (begun p w o c).next ≡ 0
+none-begun r p w o (call.Wake k) z = none-with r w (kept w k) _ (λ f. refl)
+none-begun r p w o (call.WakeByRef k) z = none-with r w (kept w k) _ (λ f. refl)
+none-begun r p w o (call.Copy k) z = none-with r w (kept w k) _ (λ f. refl)
+none-begun r p w o (call.DropWaker k) z = none-with r w (kept w k) _ (λ f. refl)
+none-begun r p w o call.Keep z = none-with r w (future_of o) _ (λ f. refl)
+none-begun r p w o call.WakeSelf z = none-with r w (future_of o) _ (λ f. refl)
+none-begun r p w o (call.PollRun q b) z = none-poll r _ _
+none-begun r p w o (call.DropRun q) z = absurd (cc)
+none-begun r p w o _ z = refl
+
+-- who drops a run doesn't leave as one that is ready
+pub drop-leaves : (r : ℕ) (t : Stage) (q : ℕ) →
+    (weigh (off_of r) (drop_run t q) ≡ 0) × (weigh (dropping_of r) (drop_run t q) ≤ same r q)
+drop-leaves r New q = (refl, omega arith)
+drop-leaves r Listed q = (refl, omega arith)
+drop-leaves r Ended q = (refl, omega arith)

@@ -1,0 +1,227 @@
+-- Whole calls that a party makes alone are answered as it is.
+use Rattle.std.proofs.Common.{◌≡◌, ◌⊎◌, ℕ, ◌<◌, List, [], ◌∷◌, ◌++◌, length, set, true, ltb, refl, sym, ap, ◌∙◌}
+use Rattle.std.proofs.Common.{subst, inl, inr, ⊎_elim, arith, Ok, get_or-set_same}
+use Rattle.std.proofs.Math.ListN.{length-set}
+use Rattle.std.proofs.lemmas.Bool.Decides.{nat_tests}
+use Rattle.std.proofs.lemmas.List.{append_assoc}
+use Rattle.std.specs.Prelude.{Some, None}
+use Rattle.runs_model.specs.declared.call.Call.{Call}
+use Rattle.runs_model.specs.declared.call.Call.TheVariants as call
+use Rattle.runs_model.specs.declared.call.Reply.{Reply}
+use Rattle.runs_model.specs.declared.call.Reply.TheVariants as reply
+use Rattle.runs_model.specs.declared.event.Event.{Event}
+use Rattle.runs_model.specs.declared.event.Event.TheVariants as event
+use Rattle.runs_model.specs.declared.op.Op.{Op}
+use Rattle.runs_model.specs.declared.op.Op.TheVariants as op
+use Rattle.runs_model.specs.declared.op.TableOp.TheVariants as table_op
+use Rattle.runs_model.specs.declared.step.Hint.{Hint}
+use Rattle.runs_model.specs.declared.step.Step.{Step}
+use Rattle.runs_model.specs.declared.step.Step.TheVariants.{Begin, Go, Answer}
+use Rattle.runs_model.specs.Emptiness.{AllDropped, AnswersAlone, IsAtRest, IsQuietEmptinessExact, asks_alone}
+use Rattle.runs_model.specs.Keeper.{IsCommon}
+use Rattle.runs_model.specs.Acts.{look_at_table}
+use Rattle.runs_model.specs.Runs.{run_all}
+use Rattle.runs_model.specs.Sound.{times}
+use Rattle.runs_model.specs.World.{log}
+use Rattle.runs_model.specs.Steps.{Machine, stack, top, answer_refusal, onto, part_after}
+use Rattle.runs_model.specs.Steps.{with_part, after, refusal, run, start}
+use Rattle.runs_model.proofs.Quieting.{quiet-emptiness}
+use Rattle.runs_model.proofs.Resting.{rests}
+use Rattle.runs_reach.specs.LoneAnswers.{IsAnswered, IsLoneEmptinessExact, IsLoneTickExact}
+use Rattle.runs_reach.specs.Reach.{are_onward_of, IsLoneCall, TakesCommon}
+use Rattle.runs_reach.proofs.Placing.{idle, queue-common}
+use Rattle.runs_reach.proofs.Ticking.{first-times}
+use Rattle.runs_reach.proofs.Reached.{Reached, run-first, run-then, run-of, reached-more}
+use Rattle.runs_reach.proofs.Reached.{bonded-here, good-here, heard-here, deep-here}
+use Rattle.runs_reach.proofs.LoneTicks.{left-true, in-range, of-party, after-is, no-more}
+use Rattle.runs_reach.proofs.Searching.{First, first-taken, none-found}
+use Rattle.runs_reach.proofs.Reaching.{takes-common}
+
+-- a call has one answer
+
+abbrev ends-in : Event → List Event → Event
+ends-in d [] = d
+ends-in d (e ∷ es) = ends-in e es
+
+ends-push : (d e : Event) (es : List Event) → ends-in d (es ++ e ∷ []) ≡ e
+ends-push d e [] = refl
+ends-push d e (x ∷ xs) = ends-push x e xs
+
+ends-after : (d e : Event) (xs ys : List Event) → ends-in d (xs ++ (ys ++ e ∷ [])) ≡ e
+ends-after d e [] ys = ends-push d e ys
+ends-after d e (x ∷ xs) ys = ends-after x e xs ys
+
+one-answer : (p : ℕ) (c : Call) (a b : Reply) (s new : Machine) → IsAnswered p c a s new → IsAnswered p c b s new →
+    ◌≡◌ {A = Event} (event.CallEnded p a) (event.CallEnded p b)
+one-answer p c a b s new x y =
+    sym (ends-after (event.DropBegun 0) (event.CallEnded p a) s.world.trace (event.CallBegun p c ∷ x.0))
+    ∙ (ap (ends-in (event.DropBegun 0)) (sym x.1 ∙ y.1)
+    ∙ ends-after (event.DropBegun 0) (event.CallEnded p b) s.world.trace (event.CallBegun p c ∷ y.0))
+
+-- ticks
+
+module _ (s : Machine) (r : Reached s) (rest : IsAtRest s) (p : ℕ) (steps : List Step) (new : Machine)
+    (k : IsLoneCall p call.TryTick steps s new) where
+  nothing : s.world.queue.items ≡ [] → IsAnswered p call.TryTick reply.No s new
+  nothing q = (
+    [],
+    sym (ap (λ (m : Machine). m.world.trace) (none-found s r rest p steps new k q))
+        ∙ append_assoc s.world.trace (event.CallBegun p call.TryTick ∷ []) (event.CallEnded p reply.No ∷ []),
+  )
+
+  something : (f : ℕ) (xs : List ℕ) → s.world.queue.items ≡ f ∷ xs → IsAnswered p call.TryTick reply.Yes s new
+  something f xs q = let t : First f xs p call.TryTick reply.Yes s new =
+      first-taken s r rest p call.TryTick reply.Yes refl steps new k f xs q in (t.meanwhile, t.events)
+
+  tick-answered : (items : List ℕ) → s.world.queue.items ≡ items →
+      IsAnswered p call.TryTick reply.Yes s new ⊎ IsAnswered p call.TryTick reply.No s new
+  tick-answered [] q = inr (nothing q)
+  tick-answered (f ∷ xs) q = inl (something f xs q)
+
+  tick-none : (items : List ℕ) → s.world.queue.items ≡ items → ((f : ℕ) → ¬ IsCommon f s.world.trace) →
+      IsAnswered p call.TryTick reply.No s new
+  tick-none [] q z = nothing q
+  tick-none (f ∷ xs) q z =
+      absurd (z f (queue-common s (good-here s r) (heard-here s r) (deep-here s r) (bonded-here s r) rest f (omega (
+        arith,
+        ap (times f) q,
+        first-times f xs,
+      ))))
+
+  tick-only : IsAnswered p call.TryTick reply.No s new → (f : ℕ) → ¬ IsCommon f s.world.trace
+  tick-only a f c =
+      let t : TakesCommon p call.TryTick reply.Yes s new = takes-common s r rest f c p call.TryTick reply.Yes refl steps
+      new k in
+      let no : ◌≡◌ {A = Event} (event.CallEnded p reply.Yes) (event.CallEnded p reply.No) =
+      one-answer p call.TryTick reply.Yes reply.No s new (t.meanwhile, t.events) a in
+      absurd (cc)
+
+-- emptiness
+
+abbrev looking : Machine → ℕ → Machine
+looking s p = record {
+  world = log s.world (event.CallBegun p call.IsEmpty);
+  parties = set s.parties p
+      (op.Table table_op.LookAtTable ∷ []);
+}
+
+-- the machine after the look
+abbrev looked : Machine → ℕ → Machine
+looked s p = with_part (looking s p) p (onto p (look_at_table (looking s p).world) [])
+
+module _ (s : Machine) (r : Reached s) (rest : IsAtRest s) (p : ℕ) (steps : List Step) (new : Machine)
+    (k : IsLoneCall p call.IsEmpty steps s new) where
+  idles : (q : ℕ) → stack s q ≡ []
+  idles q = idle s (good-here s r) (heard-here s r) (deep-here s r) (bonded-here s r) rest q
+
+  new-idle : stack new p ≡ []
+  new-idle = rests new (deep-here new (reached-more (Begin p call.IsEmpty ∷ steps) s new r k.made)) k.ended p
+
+  possible : refusal s (Begin p call.IsEmpty) ≡ None
+  possible = (run-first (Begin p call.IsEmpty) steps s new k.made).0
+
+  in-parties : p < length s.parties
+  in-parties = let b : ltb p (length s.parties) ≡ true = (in-range _ _ possible).0 in grind (arith, nat_tests)
+
+  begins : after s (Begin p call.IsEmpty) ≡ looking s p
+  begins = ap (λ (os : List Op). with_part s p (part_after s.world os (Begin p call.IsEmpty))) (idles p)
+
+  on-looking : run_all steps (looking s p) ≡ Ok new
+  on-looking = sym (ap (λ (m : Machine). run_all steps m) begins)
+      ∙ (run-first (Begin p call.IsEmpty) steps s new k.made).1
+
+  looks-first : stack (looking s p) p ≡ op.Table table_op.LookAtTable ∷ []
+  looks-first = get_or-set_same s.parties p (op.Table table_op.LookAtTable ∷ []) [] in-parties
+
+  looked-idle : stack (looked s p) p ≡ []
+  looked-idle = get_or-set_same (looking s p).parties p [] [] (omega (
+    arith,
+    in-parties,
+    length-set s.parties p (op.Table table_op.LookAtTable ∷ []),
+  ))
+
+  -- it looks, and that is all that it does
+  abbrev Looks : Type 0
+  Looks = (h : Hint) × (run_all (asks_alone p h) s ≡ Ok new)
+
+  looks : (ts : List Step) → are_onward_of p ts ≡ true → run_all ts (looking s p) ≡ Ok new → Looks
+  looks [] on e =
+      let same : looking s p ≡ new = cc in
+      let no : ◌≡◌ {A = List Op} (op.Table table_op.LookAtTable ∷ []) [] = sym looks-first
+      ∙ (ap (λ (m : Machine). stack m p) same ∙ new-idle) in absurd (cc)
+  looks (Begin q c ∷ ts) on e = absurd (cc)
+  looks (Go q h ∷ ts) on e =
+      let b : _ = left-true _ (are_onward_of p ts) on in
+      let j : _ = run-first (Go q h) ts (looking s p) new e in
+      let m : _ = of-party p (looking s p) (Go q h) b.0 j.0 in
+      let gone : after (looking s p) (Go q h) ≡ looked s p =
+      after-is p (looking s p) (Go q h) m.0
+      ∙ (ap (λ (os : List Op). with_part (looking s p) p (part_after (looking s p).world os (Go q h))) looks-first
+      ∙ ap (λ (i : ℕ). with_part (looking s p) p
+      (part_after (looking s p).world (op.Table table_op.LookAtTable ∷ []) (Go i h))) m.0) in
+      let last : looked s p ≡ new =
+      no-more p ts (looked s p) new looked-idle b.1 (sym (ap (λ (x : Machine). run_all ts x) gone) ∙ j.1) in
+      let mine : refusal (looking s p) (Go p h) ≡ None =
+      subst (λ (i : ℕ). refusal (looking s p) (Go i h) ≡ None) m.0 j.0 in
+      let there : after (looking s p) (Go p h) ≡ new = ap (λ (i : ℕ). after (looking s p) (Go i h)) (sym m.0)
+      ∙ (gone ∙ last) in
+      let goes : run_all (Go p h ∷ []) (looking s p) ≡ Ok new =
+      run-then (Go p h) [] (looking s p) new mine (ap Ok there) in (
+        h,
+        run-then (Begin p call.IsEmpty) (Go p h ∷ []) s new possible
+            (ap (λ (x : Machine). run_all (Go p h ∷ []) x) begins ∙ goes),
+      )
+  looks (Answer q u ∷ ts) on e =
+      let b : _ = left-true _ (are_onward_of p ts) on in
+      let j : _ = run-first (Answer q u) ts (looking s p) new e in
+      let m : _ = of-party p (looking s p) (Answer q u) b.0 j.0 in
+      let no : answer_refusal (Some (op.Table table_op.LookAtTable)) u ≡ None =
+      sym (ap (λ (os : List Op). answer_refusal (top os) u) looks-first) ∙ m.2 in absurd (cc)
+
+  found : Looks
+  found = looks steps k.alone on-looking
+
+  exact : IsQuietEmptinessExact s
+  exact = quiet-emptiness s (good-here s r) (heard-here s r).placed (deep-here s r)
+
+  answers-so : (a : Reply) → AnswersAlone s p found.0 a → IsAnswered p call.IsEmpty a s new
+  answers-so a e = ([], sym (ap (λ (m : Machine). m.world.trace) (run-of (asks_alone p found.0) s new found.1)) ∙ e)
+
+  emptiness-answered : IsAnswered p call.IsEmpty reply.Yes s new ⊎ IsAnswered p call.IsEmpty reply.No s new
+  emptiness-answered =
+      ⊎_elim (λ e. inl (answers-so reply.Yes e)) (λ e. inr (answers-so reply.No e))
+      (exact.answered rest p found.0 in-parties)
+
+  emptiness-always : AllDropped s.world.trace → IsAnswered p call.IsEmpty reply.Yes s new
+  emptiness-always d = answers-so reply.Yes (exact.always rest p found.0 in-parties d)
+
+  emptiness-only : IsAnswered p call.IsEmpty reply.Yes s new → AllDropped s.world.trace
+  emptiness-only a = ⊎_elim
+      (λ e. exact.only rest p found.0 in-parties e)
+      (λ e. let no : ◌≡◌ {A = Event} (event.CallEnded p reply.Yes)
+      (event.CallEnded p reply.No) = one-answer p call.IsEmpty reply.Yes reply.No s new a (answers-so reply.No e) in
+      absurd (cc))
+      (exact.answered rest p found.0 in-parties)
+
+lone-tick : (s : Machine) → Reached s → IsLoneTickExact s
+lone-tick s r = record {
+  answered = λ rest p steps new k. tick-answered s r rest p steps new k s.world.queue.items refl;
+  no = λ rest p steps new k.
+      (λ a. tick-only s r rest p steps new k a, λ z. tick-none s r rest p steps new k s.world.queue.items refl z);
+}
+
+lone-emptiness : (s : Machine) → Reached s → IsLoneEmptinessExact s
+lone-emptiness s r = record {
+  answered = λ rest p steps new k. emptiness-answered s r rest p steps new k;
+  yes = λ rest p steps new k.
+      (λ a. emptiness-only s r rest p steps new k a, λ d. emptiness-always s r rest p steps new k d);
+}
+
+pub lone-ticks : (limit parties : ℕ) (steps : List Step) → IsLoneTickExact (run steps (start limit parties))
+lone-ticks limit parties steps =
+    lone-tick (run steps (start limit parties)) (record { limit = limit; parties = parties; steps = steps; is = refl })
+
+pub lone-emptinesses : (limit parties : ℕ) (steps : List Step) → IsLoneEmptinessExact (run steps (start limit parties))
+lone-emptinesses limit parties steps =
+    lone-emptiness (run steps (start limit parties))
+    (record { limit = limit; parties = parties; steps = steps; is = refl })

@@ -1,0 +1,217 @@
+-- What a run has found it takes up next, behind what is still to be stolen and who is to be told.
+use Rattle.std.proofs.Common.{◌≡◌, ◌⊎◌, ◌∙◌, ℕ, zero, suc, List, [], ◌∷◌, ◌++◌, Bool, true, false, inl, inr, refl, sym, ap, subst}
+use Rattle.std.proofs.Common.{append-nil, append_assoc, arith}
+use Rattle.std.proofs.lemmas.List.{reverse-append}
+use Rattle.std.specs.Prelude.{Some, None, reverse}
+use Rattle.task_moves.specs.declared.moves.owed.Move.TheVariants as move
+use Rattle.runs_model.specs.declared.event.Event.TheVariants as event
+use Rattle.runs_model.specs.declared.op.Op.{Op}
+use Rattle.runs_model.specs.declared.op.Op.TheVariants as op
+use Rattle.runs_model.specs.declared.op.QueueOp.TheVariants as queue_op
+use Rattle.runs_model.specs.declared.op.RunOp.TheVariants as run_op
+use Rattle.runs_model.specs.declared.op.RunPoll.{RunPoll}
+use Rattle.runs_model.specs.declared.op.Sleeper.{Sleeper}
+use Rattle.runs_model.specs.declared.op.Sleeper.TheVariants as sleeper
+use Rattle.runs_model.specs.declared.op.SleeperOp.TheVariants as sleeper_op
+use Rattle.runs_model.specs.declared.op.Source.{Source}
+use Rattle.runs_model.specs.declared.op.Source.TheVariants.{Common, Own}
+use Rattle.runs_model.specs.declared.op.Steal.{Steal}
+use Rattle.runs_model.specs.declared.op.StealOp.{StealOp}
+use Rattle.runs_model.specs.declared.op.StealOp.TheVariants as steal_op
+use Rattle.runs_model.specs.declared.op.Then.{Then}
+use Rattle.runs_model.specs.declared.op.Then.TheVariants as then
+use Rattle.runs_model.specs.declared.op.TickOp.TheVariants as tick_op
+use Rattle.runs_model.specs.ActsOfRuns.{asleep, behind, counted_by, counted_to, found, kept_by, run_by, run_found}
+use Rattle.runs_model.specs.ActsOfRuns.{steal_by, steal_length_by, steal_put_by, steal_take_by, stolen, without_first}
+use Rattle.runs_model.specs.ActsOfSleepers.{found_by}
+use Rattle.runs_model.specs.Doing.{steal_act}
+use Rattle.runs_model.specs.Steps.{end_of, top}
+use Rattle.runs_model.specs.Trace.{Trace}
+use Rattle.runs_model.specs.Weights.{weigh}
+use Rattle.runs_model.specs.World.{Done, Left, Lies, Place, Up, World, done}
+use Rattle.runs_model.proofs.Lists.{weigh-append, weigh-reverse}
+use Rattle.runs_model.proofs.Spawning.{top-last}
+use Rattle.runs_reach.proofs.LoneMoves.{stray_of}
+use Rattle.runs_reach.proofs.LoneSteps.{Last, from-end}
+
+-- the steal ends with f in hand
+abbrev pub Finds : ℕ → Then → Type 0
+Finds f (then.Found g) = f ≡ g
+Finds f (then.Run g) = f ≡ g
+Finds f (then.Walk at left) = ⊥
+
+abbrev pub Steals : ℕ → StealOp → Type 0
+Steals f (steal_op.Length s) = Finds f s.then
+Steals f (steal_op.OwnLength s n) = Finds f s.then
+Steals f (steal_op.Take s more) = Finds f s.then
+Steals f (steal_op.Put s more g) = Finds f s.then
+
+-- nothing that is there answers a call
+abbrev pub is_no_end : Op → Bool
+is_no_end (op.End r held) = false
+is_no_end _ = true
+
+-- what is left to do, its last thing on top: f is in the hand of a steal, or to be taken up
+pub data Heading (f : ℕ) (os : List Op) : Type 0 where
+  stealing : (o : StealOp) (side : List Op) → os ≡ op.Steal o ∷ side → Steals f o → weigh stray_of side ≡ 0 →
+      Heading f os
+  taking : (c : Op) (side : List Op) → os ≡ c ∷ op.Move move.TakeUp f ∷ side → weigh stray_of side ≡ 0 → Heading f os
+
+-- and the trace is longer by this
+pub record Heads (f : ℕ) (t : Trace) (g : Bool) (d : Done) : Type 0 where
+  pub heading : Heading f (reverse d.next)
+  pub events : Trace
+  pub trace : d.world.trace ≡ t ++ events
+  pub there : d.world.gone ≡ g
+
+-- what comes first is done first
+heading-behind : (f : ℕ) (ops next : List Op) → weigh stray_of ops ≡ 0 → Heading f (reverse next) →
+    Heading f (reverse (ops ++ next))
+heading-behind f ops next z (stealing o side e k y) =
+    stealing o (side ++ reverse ops)
+    (reverse-append ops next ∙ ap (λ (os : List Op). os ++ reverse ops) e) k
+    (omega (arith, y, z, weigh-append stray_of side (reverse ops), weigh-reverse stray_of ops))
+heading-behind f ops next z (taking c side e y) =
+    taking c (side ++ reverse ops)
+    (reverse-append ops next ∙ ap (λ (os : List Op). os ++ reverse ops) e)
+    (omega (arith, y, z, weigh-append stray_of side (reverse ops), weigh-reverse stray_of ops))
+
+heads-behind : (f : ℕ) (t : Trace) (g : Bool) (ops : List Op) (d : Done) → weigh stray_of ops ≡ 0 → Heads f t g d →
+    Heads f t g (behind ops d)
+heads-behind f t g ops d z h = record {
+  heading = heading-behind f ops d.next z h.heading;
+  events = h.events;
+  trace = h.trace;
+  there = h.there;
+}
+
+-- more happened before
+heads-after : (f : ℕ) (t es : Trace) (g : Bool) (d : Done) → Heads f (t ++ es) g d → Heads f t g d
+heads-after f t es g d h = record {
+  heading = h.heading;
+  events = es ++ h.events;
+  trace = h.trace ∙ append_assoc t es h.events;
+  there = h.there;
+}
+
+-- it is run
+
+heads-run_by : (f : ℕ) (b : Bool) (w : World) (x : RunPoll) → Heads f w.trace w.gone (run_by b w x f)
+heads-run_by f true w x = record {
+  heading = taking (op.Run (run_op.WakeOwn x)) [] refl refl;
+  events = [];
+  trace = sym (append-nil w.trace);
+  there = refl;
+}
+heads-run_by f false w x = record {
+  heading = taking (op.Tick (tick_op.Search (asleep x))) [] refl refl;
+  events = [];
+  trace = sym (append-nil w.trace);
+  there = refl;
+}
+
+heads-run_found : (f : ℕ) (w : World) (x : RunPoll) → Heads f w.trace w.gone (run_found w x f)
+heads-run_found f w x = heads-run_by f _ w x
+
+heads-counted_by : (f : ℕ) (b : Bool) (w : World) (x : RunPoll) → Heads f w.trace w.gone (counted_by b w x f)
+heads-counted_by f true w x = record {
+  heading = stealing (steal_op.Length (record { poll = x; from = Common; then = then.Run f })) [] refl refl refl;
+  events = [];
+  trace = sym (append-nil w.trace);
+  there = refl;
+}
+heads-counted_by f false w x = heads-run_found f (counted_to w x.run _) x
+
+found-light : (x : Place) (who : Sleeper) → weigh stray_of (found_by x who (op.Sleeper sleeper_op.ExchangeFlag ∷ [])) ≡ 0
+found-light Up who = refl
+found-light (Lies n) who = refl
+found-light Left who = refl
+
+pub heads-found : (f : ℕ) (w : World) (x : RunPoll) → Heads f w.trace w.gone (found w x f)
+heads-found f w x =
+    heads-behind f w.trace w.gone (found_by _ (sleeper.Run x.run) (op.Sleeper sleeper_op.ExchangeFlag ∷ []))
+    (counted_by _ w x f) (found-light _ (sleeper.Run x.run)) (heads-counted_by f _ w x)
+
+-- a steal goes on
+
+heads-stolen : (f : ℕ) (h : Then) (w : World) (x : RunPoll) → Finds f h → Heads f w.trace w.gone (stolen h w x)
+heads-stolen f (then.Found g) w x k = subst (λ (n : ℕ). Heads f w.trace w.gone (found w x n)) k (heads-found f w x)
+heads-stolen f (then.Run g) w x k =
+    subst (λ (n : ℕ). Heads f w.trace w.gone (run_found w x n)) k (heads-run_found f w x)
+heads-stolen f (then.Walk at left) w x k = absurd k
+
+heads-steals : (f : ℕ) (t : Trace) (g : Bool) (v : World) (o : StealOp) → v.trace ≡ t → v.gone ≡ g → Steals f o →
+    Heads f t g (done v (op.Steal o ∷ []))
+heads-steals f t g v o e y k = record {
+  heading = stealing o [] refl k refl;
+  events = [];
+  trace = e ∙ sym (append-nil t);
+  there = y;
+}
+
+heads-length : (f n : ℕ) (w : World) (s : Steal) → Finds f s.then → Heads f w.trace w.gone (steal_length_by n w s)
+heads-length f zero w s k = heads-stolen f s.then w s.poll k
+heads-length f (suc n) w s k = heads-steals f w.trace w.gone w (steal_op.OwnLength s (suc n)) refl refl k
+
+heads-steal_by : (f n : ℕ) (w : World) (s : Steal) → Finds f s.then → Heads f w.trace w.gone (steal_by n w s)
+heads-steal_by f zero w s k = heads-stolen f s.then w s.poll k
+heads-steal_by f (suc n) w s k = heads-steals f w.trace w.gone w (steal_op.Take s n) refl refl k
+
+without-trace : (x : Source) (w : World) (rest : List ℕ) → (without_first w x rest).trace ≡ w.trace
+without-trace Common w rest = refl
+without-trace (Own r) w rest = refl
+
+pub without-gone : (x : Source) (w : World) (rest : List ℕ) → (without_first w x rest).gone ≡ w.gone
+without-gone Common w rest = refl
+without-gone (Own r) w rest = refl
+
+heads-take : (f : ℕ) (xs : List ℕ) (w : World) (s : Steal) (more : ℕ) → Finds f s.then →
+    Heads f w.trace w.gone (steal_take_by xs w s more)
+heads-take f [] w s more k = heads-stolen f s.then w s.poll k
+heads-take f (g ∷ rest) w s more k =
+    heads-steals f w.trace w.gone (without_first w s.from rest) (steal_op.Put s more g) (without-trace s.from w rest)
+    (without-gone s.from w rest) k
+
+heads-put : (f : ℕ) (b : Bool) (p : ℕ) (w : World) (s : Steal) (more g : ℕ) → Finds f s.then →
+    Heads f w.trace w.gone (steal_put_by b p w s more g)
+heads-put f true p w s more g k =
+    heads-after f w.trace (event.Kept p g s.poll.run ∷ []) w.gone (steal_by more (kept_by p w s.poll.run g) s)
+    (heads-steal_by f more (kept_by p w s.poll.run g) s k)
+heads-put f false p w s more g k =
+    heads-behind f w.trace w.gone (op.Queue (queue_op.Append g) ∷ []) (stolen s.then w s.poll) refl
+    (heads-stolen f s.then w s.poll k)
+
+pub heads-steal : (f p : ℕ) (o : StealOp) (w : World) → Steals f o → Heads f w.trace w.gone (steal_act p o w)
+heads-steal f p (steal_op.Length s) w k = heads-length f _ w s k
+heads-steal f p (steal_op.OwnLength s n) w k = heads-steal_by f _ w s k
+heads-steal f p (steal_op.Take s more) w k = heads-take f _ w s more k
+heads-steal f p (steal_op.Put s more g) w k = heads-put f _ p w s more g k
+
+-- what is on top answers no call
+
+pub light-no-end : (o : Op) → stray_of o ≡ 0 → end_of (Some o) ≡ None
+light-no-end (op.End a held) e = absurd (omega (arith, e))
+light-no-end _ e = refl
+
+pub top-of : (below side : List Op) → end_of (top below) ≡ None → weigh stray_of side ≡ 0 →
+    end_of (top (below ++ side)) ≡ None
+top-of below side e z = go (from-end side)
+  where
+    go : (side ≡ []) ⊎ Last side → end_of (top (below ++ side)) ≡ None
+    go (inl x) = ap (λ (os : List Op). end_of (top (below ++ os))) x
+        ∙ (ap (λ (os : List Op). end_of (top os)) (append-nil below) ∙ e)
+    go (inr l) = ap (λ (os : List Op). end_of (top (below ++ os))) l.is
+        ∙ (ap (λ (os : List Op). end_of (top os)) (sym (append_assoc below l.below (l.last ∷ [])))
+        ∙ (ap end_of (top-last (below ++ l.below) l.last)
+        ∙ light-no-end l.last (omega (
+          arith,
+          z,
+          ap (weigh stray_of) l.is,
+          weigh-append stray_of l.below (l.last ∷ []),
+        ))))
+
+pub no-end : (f : ℕ) (os : List Op) → Heading f os → end_of (top os) ≡ None
+no-end f os (stealing o side e k z) =
+    ap (λ (xs : List Op). end_of (top xs)) e ∙ top-of (op.Steal o ∷ []) side refl z
+no-end f os (taking c side e z) =
+    ap (λ (xs : List Op). end_of (top xs)) e ∙ top-of (c ∷ op.Move move.TakeUp f ∷ []) side refl z

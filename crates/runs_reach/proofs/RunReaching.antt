@@ -1,0 +1,460 @@
+-- A poll of a run that is made alone takes a future that the run keeps, or else one that is common.
+use Rattle.std.proofs.Common.{◌≡◌, ◌∙◌, inl, inr, ⊎_elim, ℕ, ◌<◌, ◌≤◌, List, [], ◌∷◌, ◌++◌, length, drop, get_or}
+use Rattle.std.proofs.Common.{Bool, true, false, ◌||◌, ltb, refl, sym, ap, subst, arith, append-nil, append_assoc, Ok}
+use Rattle.std.proofs.lemmas.Bool.Decides.{nat_tests}
+use Rattle.std.proofs.lemmas.List.Folds.{list_any-append}
+use Rattle.std.proofs.Math.Seq.{drop-append_seam}
+use Rattle.std.specs.Prelude.{Option, Some, None, reverse}
+use Rattle.runs_model.specs.declared.call.By.{By}
+use Rattle.runs_model.specs.declared.call.Call.TheVariants as call
+use Rattle.runs_model.specs.declared.event.Answer.TheVariants as answer
+use Rattle.runs_model.specs.declared.event.Event.TheVariants as event
+use Rattle.runs_model.specs.declared.op.ListOp.TheVariants as list_op
+use Rattle.runs_model.specs.declared.op.Op.{Op}
+use Rattle.runs_model.specs.declared.op.Op.TheVariants as op
+use Rattle.runs_model.specs.declared.op.RunOp.TheVariants as run_op
+use Rattle.runs_model.specs.declared.op.RunPoll.{RunPoll}
+use Rattle.runs_model.specs.declared.op.Section.TheVariants as section
+use Rattle.runs_model.specs.declared.op.Source.TheVariants.{Common}
+use Rattle.runs_model.specs.declared.op.StealOp.TheVariants as steal_op
+use Rattle.runs_model.specs.declared.op.Then.TheVariants as then
+use Rattle.runs_model.specs.declared.op.TickOp.TheVariants as tick_op
+use Rattle.runs_model.specs.declared.op.UserOp.TheVariants as user_op
+use Rattle.runs_model.specs.declared.step.Step.{Step}
+use Rattle.runs_model.specs.declared.step.Step.TheVariants.{Begin}
+use Rattle.runs_model.specs.declared.step.UserEnd.{UserEnd}
+use Rattle.runs_model.specs.declared.step.UserEnd.TheVariants as end
+use Rattle.runs_model.specs.ActsOfRuns.{asleep, registered, search_common_by, search_own_by}
+use Rattle.runs_model.specs.Doing.{act}
+use Rattle.runs_model.specs.Due.{IsDue}
+use Rattle.runs_model.specs.Emptiness.{IsAtRest}
+use Rattle.runs_model.specs.Keeper.{IsCommon}
+use Rattle.runs_model.specs.Runs.{run_all}
+use Rattle.runs_model.specs.Sound.{queued, times}
+use Rattle.runs_model.specs.Steps.{Machine, Part, onto, part, part_after, poll_run, react, run, stack, start}
+use Rattle.runs_model.specs.Steps.{waker_of, with_part}
+use Rattle.runs_model.specs.Trace.{Trace, has, is_accepted, is_drop_begun, is_dropped}
+use Rattle.runs_model.specs.World.{Done, Ended, Listed, New, Stage, World, among, done, log, own_of, put_own, run_of}
+use Rattle.runs_model.proofs.Entering.{table-agrees}
+use Rattle.runs_model.proofs.Resting.{rests}
+use Rattle.runs_model.proofs.Stories.{among_is}
+use Rattle.runs_model.proofs.Telling.{begun-has}
+use Rattle.runs_reach.specs.Reach.{are_onward_of, is_onward_of, since, takes}
+use Rattle.runs_reach.specs.RunReach.{IsLonePoll, IsReachedByRuns, Keeps, TakesKept, TakesOneCommon, first_answer}
+use Rattle.runs_reach.proofs.LoneSteps.{HasEntry}
+use Rattle.runs_reach.proofs.LoneTicks.{idle-none, in-range, left-true, of-party, stack-set}
+use Rattle.runs_reach.proofs.Placing.{common-queue, here, idle, in-own, keeper-own, own-keeper, queue-common, queued-due}
+use Rattle.runs_reach.proofs.Reached.{Reached, bonded-here, deep-here, good-here, heard-here, reached-more, reached-step}
+use Rattle.runs_reach.proofs.Reached.{run-first}
+use Rattle.runs_reach.proofs.RunFinds.{Heading, Heads, heads-found}
+use Rattle.runs_reach.proofs.RunFinds.Heading.{stealing}
+use Rattle.runs_reach.proofs.RunWalks.{Onward, Taken, from-heading, onward, with-heading}
+use Rattle.runs_reach.proofs.RunWalks.Onward.{acted, answered}
+use Rattle.runs_reach.proofs.Searching.{takes-none}
+use Rattle.runs_reach.proofs.Ticking.{first-times}
+
+-- where f is due, it has its entry until it is taken
+
+or-left : (a b : Bool) → a ≡ true → (a || b) ≡ true
+or-left true b e = refl
+or-left false b e = absurd (cc)
+
+neither : (a b : Bool) → a ≡ false → b ≡ false → (a || b) ≡ false
+neither true b e k = absurd (cc)
+neither false b e k = k
+
+module _ (before : Trace) (f : ℕ) (due : IsDue f before) where
+  entry-by : (m : Machine) → Reached m → m.world.gone ≡ false → (meanwhile : Trace) →
+      m.world.trace ≡ before ++ meanwhile → (b : Bool) → has (takes f) meanwhile ≡ b → HasEntry f m.world meanwhile
+  entry-by m y g meanwhile t true e = inl e
+  entry-by m y g meanwhile t false e =
+      let kept : has (is_dropped f) m.world.trace ≡ false = ap (has (is_dropped f)) t
+      ∙ (list_any-append (is_dropped f) before meanwhile ∙ neither _ _ due.undropped (takes-none f meanwhile e)) in
+      let accepted : has (is_accepted f) m.world.trace ≡ true = ap (has (is_accepted f)) t
+      ∙ (list_any-append (is_accepted f) before meanwhile ∙ or-left _ _ due.accepted) in
+      let there : has is_drop_begun m.world.trace ≡ false = sym (begun-has 0 m.world.trace)
+      ∙ (((heard-here m y).placed.leaves 0).begun ∙ g) in
+      let one : times f m.world.table ≡ 1 =
+      (table-agrees m f (good-here m y) (heard-here m y).placed).entered (inl there)
+      (record { accepted = accepted; remains = inl kept }) in
+      inr (⊎_elim (λ (x : (among f m.world.table ≡ true) × (1 ≤ times f m.world.table)). x.0)
+      (λ (x : (among f m.world.table ≡ false) × (times f m.world.table ≡ 0)). absurd (omega (arith, x.1, one)))
+      (among_is f m.world.table))
+
+  pub entry : (m : Machine) → Reached m → m.world.gone ≡ false → (meanwhile : Trace) →
+      m.world.trace ≡ before ++ meanwhile → HasEntry f m.world meanwhile
+  entry m y g meanwhile t = entry-by m y g meanwhile t (has (takes f) meanwhile) refl
+
+registered-own : (x : Stage) (w : World) (r : ℕ) → (registered x w r).own ≡ w.own
+registered-own New w r = refl
+registered-own Listed w r = refl
+registered-own Ended w r = refl
+
+registered-queue : (x : Stage) (w : World) (r : ℕ) → (registered x w r).queue ≡ w.queue
+registered-queue New w r = refl
+registered-queue Listed w r = refl
+registered-queue Ended w r = refl
+
+registered-trace : (x : Stage) (w : World) (r : ℕ) → (registered x w r).trace ≡ w.trace
+registered-trace New w r = refl
+registered-trace Listed w r = refl
+registered-trace Ended w r = refl
+
+registered-gone : (x : Stage) (w : World) (r : ℕ) → (registered x w r).gone ≡ w.gone
+registered-gone New w r = refl
+registered-gone Listed w r = refl
+registered-gone Ended w r = refl
+
+-- up to the search in its own queue
+module _ (p : ℕ) (before : Trace) (x : RunPoll) (own common : List ℕ) (new : Machine) (idles : stack new p ≡ []) where
+  -- nothing is found yet
+  pub record Before (w : World) : Type 0 where
+    pub own_is : own_of w x.run ≡ own
+    pub common_is : w.queue.items ≡ common
+    pub meanwhile : Trace
+    pub trace : w.trace ≡ before ++ meanwhile
+    pub there : w.gone ≡ false
+
+  -- and the party has this to do
+  pub record At (os : List Op) (s : Machine) : Type 0 where
+    pub reached : Reached s
+    pub so_far : Before s.world
+    pub todo : stack s p ≡ os
+
+  -- it is about to search
+  pub record Arrived : Type 0 where
+    pub machine : Machine
+    pub others : List Step
+    pub here : At (op.Tick (tick_op.Search (asleep x)) ∷ []) machine
+    pub onward : are_onward_of p others ≡ true
+    pub made : run_all others machine ≡ Ok new
+
+  -- the run's own future isn't ready
+  at-own : (s : Machine) → At (op.User (user_op.PollOwn x) ∷ []) s → (ts : List Step) →
+      first_answer ts ≡ Some (end.Polled answer.Pending) → are_onward_of p ts ≡ true → run_all ts s ≡ Ok new →
+      Arrived
+  at-own s a ts c on n =
+      go (onward p s new [] (op.User (user_op.PollOwn x)) ts a.todo a.reached idles on n)
+    where
+      go : Onward p s new [] (op.User (user_op.PollOwn x)) ts → Arrived
+      go (acted h others te z y n2 on2 l) = absurd (cc)
+      go (answered u others te z y n2 on2 l) =
+          let q : ◌≡◌ {A = Option UserEnd} (Some u) (Some (end.Polled answer.Pending)) = sym (ap first_answer te) ∙ c in
+          let v : u ≡ end.Polled answer.Pending = cc in
+          record {
+            machine = with_part s p (part s.world (op.Tick (tick_op.Search (asleep x)) ∷ []));
+            others = others;
+            here = record {
+              reached = subst (λ (w : UserEnd).
+                  Reached (with_part s p (onto p (react p (op.User (user_op.PollOwn x)) w s.world) []))) v y;
+              so_far = a.so_far;
+              todo = stack-set p s (part s.world (op.Tick (tick_op.Search (asleep x)) ∷ [])) l;
+            };
+            onward = on2;
+            made = sym (ap (λ (w : UserEnd).
+                run_all others (with_part s p (onto p (react p (op.User (user_op.PollOwn x)) w s.world) []))) v) ∙ n2;
+          }
+
+  at-unlock : (s : Machine) → At (op.User (user_op.PollOwn x) ∷ op.List list_op.UnlockWrite ∷ []) s → (ts : List Step) →
+      first_answer ts ≡ Some (end.Polled answer.Pending) → are_onward_of p ts ≡ true → run_all ts s ≡ Ok new →
+      Arrived
+  at-unlock s a ts c on n =
+      go (onward p s new (op.User (user_op.PollOwn x) ∷ []) (op.List list_op.UnlockWrite) ts a.todo a.reached idles on n)
+    where
+      go : Onward p s new (op.User (user_op.PollOwn x) ∷ []) (op.List list_op.UnlockWrite) ts →
+          Arrived
+      go (answered u others te z y n2 on2 l) = absurd (cc)
+      go (acted h others te z y n2 on2 l) =
+          let d : Part = onto p (act p h (op.List list_op.UnlockWrite) s.world) (op.User (user_op.PollOwn x) ∷ []) in
+          at-own (with_part s p d) (record {
+            reached = y;
+            so_far = record {
+              own_is = a.so_far.own_is;
+              common_is = a.so_far.common_is;
+              meanwhile = a.so_far.meanwhile;
+              trace = a.so_far.trace;
+              there = a.so_far.there;
+            };
+            todo = stack-set p s d l;
+          }) others (sym (ap first_answer te) ∙ c) on2 n2
+
+  at-write : (s : Machine) → At (op.List (list_op.Write (section.Register x)) ∷ []) s → (ts : List Step) →
+      first_answer ts ≡ Some (end.Polled answer.Pending) → are_onward_of p ts ≡ true → run_all ts s ≡ Ok new →
+      Arrived
+  at-write s a ts c on n =
+      go (onward p s new [] (op.List (list_op.Write (section.Register x))) ts a.todo a.reached idles on n)
+    where
+      go : Onward p s new [] (op.List (list_op.Write (section.Register x))) ts → Arrived
+      go (answered u others te z y n2 on2 l) = absurd (cc)
+      go (acted h others te z y n2 on2 l) =
+          let d : Part = onto p (act p h (op.List (list_op.Write (section.Register x))) s.world) [] in
+          let st : Stage = (run_of s.world x.run).stage in
+          at-unlock (with_part s p d) (record {
+            reached = y;
+            so_far = record {
+              own_is = ap (λ (qs : List (List ℕ)). get_or qs x.run []) (registered-own st s.world x.run)
+                  ∙ a.so_far.own_is;
+              common_is = ap (λ q. q.items) (registered-queue st s.world x.run) ∙ a.so_far.common_is;
+              meanwhile = a.so_far.meanwhile;
+              trace = registered-trace st s.world x.run ∙ a.so_far.trace;
+              there = registered-gone st s.world x.run ∙ a.so_far.there;
+            };
+            todo = stack-set p s d l;
+          }) others (sym (ap first_answer te) ∙ c) on2 n2
+
+  at-lock : (s : Machine) → At (op.List (list_op.LockWrite (section.Register x)) ∷ []) s → (ts : List Step) →
+      first_answer ts ≡ Some (end.Polled answer.Pending) → are_onward_of p ts ≡ true → run_all ts s ≡ Ok new →
+      Arrived
+  at-lock s a ts c on n =
+      go (onward p s new [] (op.List (list_op.LockWrite (section.Register x))) ts a.todo a.reached idles on n)
+    where
+      go : Onward p s new [] (op.List (list_op.LockWrite (section.Register x))) ts → Arrived
+      go (answered u others te z y n2 on2 l) = absurd (cc)
+      go (acted h others te z y n2 on2 l) =
+          let d : Part = onto p (act p h (op.List (list_op.LockWrite (section.Register x))) s.world) [] in
+          at-write (with_part s p d) (record {
+            reached = y;
+            so_far = record {
+              own_is = a.so_far.own_is;
+              common_is = a.so_far.common_is;
+              meanwhile = a.so_far.meanwhile;
+              trace = a.so_far.trace;
+              there = a.so_far.there;
+            };
+            todo = stack-set p s d l;
+          }) others (sym (ap first_answer te) ∙ c) on2 n2
+
+-- what the run finds first
+pub data First (f : ℕ) (own common : List ℕ) : Type 0 where
+  in_own : (rest : List ℕ) → own ≡ f ∷ rest → First f own common
+  in_common : (rest : List ℕ) → own ≡ [] → common ≡ f ∷ rest → First f own common
+
+module _ (p f : ℕ) (before : Trace) (due : IsDue f before) (x : RunPoll) (own common : List ℕ)
+    (first : First f own common) (new : Machine) (idles : stack new p ≡ []) where
+  -- the run has it in hand
+  from-found : (s : Machine) (d : Done) (others : List Step) → Before p before x own common new idles s.world → Heads f s.world.trace s.world.gone d →
+      Reached (with_part s p (onto p d [])) → run_all others (with_part s p (onto p d [])) ≡ Ok new →
+      are_onward_of p others ≡ true → p < length s.parties → Taken f before new.world.trace
+  from-found s d others b h y n on l =
+      let q : onto p d [] ≡ part d.world (reverse d.next) = with-heading p f d [] h.heading in
+      from-heading p f before new idles (entry before f due) others (with_part s p (part d.world (reverse d.next)))
+      (subst (λ (z : Part). Reached (with_part s p z)) q y) (b.meanwhile ++ h.events)
+      (h.trace ∙ (ap (λ (es : Trace). es ++ h.events) b.trace ∙ append_assoc before b.meanwhile h.events))
+      (h.there ∙ b.there)
+      (subst (Heading f) (sym (stack-set p s (part d.world (reverse d.next)) l)) h.heading) on
+      (sym (ap (λ (z : Part). run_all others (with_part s p z)) q) ∙ n)
+
+  at-common : (s : Machine) (rest : List ℕ) → common ≡ f ∷ rest → At p before x own common new idles (op.Run (run_op.SearchCommon x) ∷ []) s →
+      (ts : List Step) → are_onward_of p ts ≡ true → run_all ts s ≡ Ok new → Taken f before new.world.trace
+  at-common s rest e a ts on n =
+      go (onward p s new [] (op.Run (run_op.SearchCommon x)) ts a.todo a.reached idles on n)
+    where
+      by : (items : List ℕ) → items ≡ f ∷ rest → Heads f s.world.trace s.world.gone (search_common_by items s.world x)
+      by items z = subst (λ (ys : List ℕ). Heads f s.world.trace s.world.gone (search_common_by ys s.world x)) (sym z)
+          (record {
+            heading = stealing (steal_op.Length (record { poll = x; from = Common; then = then.Found f })) [] refl refl
+                refl;
+            events = [];
+            trace = sym (append-nil s.world.trace);
+            there = refl;
+          })
+
+      go : Onward p s new [] (op.Run (run_op.SearchCommon x)) ts → Taken f before new.world.trace
+      go (answered u others te z y n2 on2 l) = absurd (cc)
+      go (acted h others te z y n2 on2 l) =
+          from-found s (search_common_by s.world.queue.items s.world x) others a.so_far
+          (by s.world.queue.items (a.so_far.common_is ∙ e)) y n2 on2 l
+
+  at-search : (s : Machine) → At p before x own common new idles (op.Tick (tick_op.Search (asleep x)) ∷ []) s → (ts : List Step) →
+      are_onward_of p ts ≡ true → run_all ts s ≡ Ok new → Taken f before new.world.trace
+  at-search s a ts on n =
+      go (onward p s new [] (op.Tick (tick_op.Search (asleep x))) ts a.todo a.reached idles on n)
+    where
+      by-first : (others : List Step) → Reached (with_part s p (onto p (search_own_by own s.world x) [])) →
+          run_all others (with_part s p (onto p (search_own_by own s.world x) [])) ≡ Ok new →
+          are_onward_of p others ≡ true → p < length s.parties → First f own common → Taken f before new.world.trace
+      by-first others y n2 on2 l (in_own rest e) =
+          from-found s (search_own_by own s.world x) others a.so_far
+          (subst (λ (ys : List ℕ). Heads f s.world.trace s.world.gone (search_own_by ys s.world x)) (sym e)
+          (heads-found f (put_own s.world x.run rest) x)) y n2 on2 l
+      by-first others y n2 on2 l (in_common rest e k) =
+          let q : search_own_by own s.world x ≡ done s.world (op.Run (run_op.SearchCommon x) ∷ []) =
+          ap (λ (ys : List ℕ). search_own_by ys s.world x) e in
+          at-common (with_part s p (part s.world (op.Run (run_op.SearchCommon x) ∷ []))) rest k (record {
+            reached = subst (λ (d : Done). Reached (with_part s p (onto p d []))) q y;
+            so_far = a.so_far;
+            todo = stack-set p s (part s.world (op.Run (run_op.SearchCommon x) ∷ [])) l;
+          }) others on2 (sym (ap (λ (d : Done). run_all others (with_part s p (onto p d []))) q) ∙ n2)
+
+      go : Onward p s new [] (op.Tick (tick_op.Search (asleep x))) ts → Taken f before new.world.trace
+      go (answered u others te z y n2 on2 l) = absurd (cc)
+      go (acted h others te z y n2 on2 l) =
+          by-first others
+          (subst (λ (ys : List ℕ). Reached (with_part s p (onto p (search_own_by ys s.world x) []))) a.so_far.own_is y)
+          (sym (ap (λ (ys : List ℕ). run_all others (with_part s p (onto p (search_own_by ys s.world x) [])))
+          a.so_far.own_is) ∙ n2) on2 l first
+
+module _ (s : Machine) (r : Reached s) (rest : IsAtRest s) (n p : ℕ) (b : By) (steps : List Step) (new : Machine)
+    (k : IsLonePoll p n b steps s new) where
+  idles : (q : ℕ) → stack s q ≡ []
+  idles q = idle s (good-here s r) (heard-here s r) (deep-here s r) (bonded-here s r) rest q
+
+  pub reached-new : Reached new
+  reached-new = reached-more (Begin p (call.PollRun n b) ∷ steps) s new r k.call.made
+
+  pub new-idle : stack new p ≡ []
+  new-idle = rests new (deep-here new reached-new) k.call.ended p
+
+  in-parties : p < length s.parties
+  in-parties = let z : ltb p (length s.parties) ≡ true =
+      (in-range _ _ (run-first (Begin p (call.PollRun n b)) steps s new k.call.made).0).0 in
+      grind (arith, nat_tests)
+
+  abbrev told : Trace
+  told = event.CallBegun p (call.PollRun n b) ∷ event.RunPolled p n ∷ []
+
+  abbrev beginning : World
+  beginning = log (log s.world (event.CallBegun p (call.PollRun n b))) (event.RunPolled p n)
+
+  abbrev pub poll : RunPoll
+  poll = record {
+    run = n;
+    waker = waker_of None b;
+    poll = length (s.world.trace ++ event.CallBegun p (call.PollRun n b) ∷ []);
+  }
+
+  abbrev begun-as : Stage → Part
+  begun-as st = onto p (done beginning (poll_run st poll)) []
+
+  abbrev from-stage : Stage → Machine
+  from-stage st = with_part s p (begun-as st)
+
+  on-begun : run_all steps (from-stage (run_of s.world n).stage) ≡ Ok new
+  on-begun = sym (ap (λ (os : List Op). run_all steps
+      (with_part s p (part_after s.world os (Begin p (call.PollRun n b))))) (idles p))
+      ∙ (run-first (Begin p (call.PollRun n b)) steps s new k.call.made).1
+
+  reached-begun : Reached (from-stage (run_of s.world n).stage)
+  reached-begun = subst (λ (os : List Op). Reached (with_part s p (part_after s.world os (Begin p (call.PollRun n b)))))
+      (idles p)
+      (reached-step s (Begin p (call.PollRun n b))
+      (run-first (Begin p (call.PollRun n b)) steps s new k.call.made).0 r)
+
+  trace-is : beginning.trace ≡ s.world.trace ++ told
+  trace-is = append_assoc s.world.trace (event.CallBegun p (call.PollRun n b) ∷ []) (event.RunPolled p n ∷ [])
+
+  pub arrived : Arrived p s.world.trace poll (own_of s.world n) s.world.queue.items new new-idle
+  arrived = by (run_of s.world n).stage refl
+    where
+      still : Before p s.world.trace poll (own_of s.world n) s.world.queue.items new new-idle beginning
+      still = record {
+        own_is = refl;
+        common_is = refl;
+        meanwhile = told;
+        trace = trace-is;
+        there = here s (good-here s r) (heard-here s r) (deep-here s r) (bonded-here s r) rest;
+      }
+
+      by : (st : Stage) → (run_of s.world n).stage ≡ st → Arrived p s.world.trace poll (own_of s.world n) s.world.queue.items new new-idle
+      by New e = at-lock p s.world.trace poll (own_of s.world n) s.world.queue.items new new-idle
+          (from-stage New) (record {
+            reached = subst (λ (z : Stage). Reached (from-stage z)) e reached-begun;
+            so_far = still;
+            todo = stack-set p s (begun-as New) in-parties;
+          }) steps k.pending k.call.alone
+          (sym (ap (λ (z : Stage). run_all steps (from-stage z)) e) ∙ on-begun)
+      by Listed e = at-own p s.world.trace poll (own_of s.world n) s.world.queue.items new new-idle
+          (from-stage Listed) (record {
+            reached = subst (λ (z : Stage). Reached (from-stage z)) e reached-begun;
+            so_far = still;
+            todo = stack-set p s (begun-as Listed) in-parties;
+          }) steps k.pending k.call.alone
+          (sym (ap (λ (z : Stage). run_all steps (from-stage z)) e) ∙ on-begun)
+      by Ended e = absurd (over p steps (from-stage Ended) new (stack-set p s (begun-as Ended) in-parties) k.call.alone
+          (sym (ap (λ (z : Stage). run_all steps (from-stage z)) e) ∙ on-begun) k.pending)
+        where
+          over : (q : ℕ) (ts : List Step) (m last : Machine) → stack m q ≡ [] → are_onward_of q ts ≡ true →
+              run_all ts m ≡ Ok last → first_answer ts ≡ Some (end.Polled answer.Pending) → ⊥
+          over q [] m last z on e2 c = absurd (cc)
+          over q (t ∷ ts) m last z on e2 c =
+              let first : is_onward_of q t ≡ true = (left-true (is_onward_of q t) (are_onward_of q ts) on).0 in
+              idle-none q t m.world m.parties (stack m q) z first
+              (of-party q m t first (run-first t ts m last e2).0).2
+
+  pub takes-first : (f : ℕ) → IsDue f s.world.trace → First f (own_of s.world n) s.world.queue.items →
+      Taken f s.world.trace new.world.trace
+  takes-first f due first =
+      at-search p f s.world.trace due poll (own_of s.world n) s.world.queue.items first new new-idle arrived.machine
+      arrived.here arrived.others arrived.onward arrived.made
+
+  -- in the words of what happened between
+  pub taken-since : (f : ℕ) → Taken f s.world.trace new.world.trace → has (takes f) (since s new) ≡ true
+  taken-since f t = ap (λ (es : Trace). has (takes f) (drop (length s.world.trace) es)) t.is
+      ∙ (ap (has (takes f)) (drop-append_seam s.world.trace t.events) ∙ t.taken)
+
+  pub is-due : (f : ℕ) → 1 ≤ queued s.world f → IsDue f s.world.trace
+  is-due f z = queued-due s (good-here s r) (heard-here s r) (deep-here s r) (bonded-here s r) rest f z
+
+  takes-kept : (f : ℕ) → Keeps n f s.world.trace → TakesKept n s new
+  takes-kept f y = by (own_of s.world n) refl
+    where
+      by : (own : List ℕ) → own_of s.world n ≡ own → TakesKept n s new
+      by [] e = absurd (omega (
+        arith,
+        keeper-own s (good-here s r) (heard-here s r) (deep-here s r) (bonded-here s r) rest f n y.due y.keeper,
+        ap (times f) e,
+      ))
+      by (g ∷ xs) e =
+          let one : 1 ≤ times g (own_of s.world n) =
+          subst (λ (ys : List ℕ). 1 ≤ times g ys) (sym e) (first-times g xs) in
+          let due : IsDue g s.world.trace = is-due g (omega (
+            arith,
+            one,
+            in-own s (good-here s r) (heard-here s r) (deep-here s r) (bonded-here s r) rest g n,
+          )) in
+          record {
+            future = g;
+            kept = record {
+              due = due;
+              keeper = own-keeper s (good-here s r) (heard-here s r) (deep-here s r) (bonded-here s r) rest g n one;
+            };
+            taken = taken-since g (takes-first g due (in_own xs e));
+          }
+
+  takes-common : (f : ℕ) → IsCommon f s.world.trace → ((g : ℕ) → ¬ Keeps n g s.world.trace) → TakesOneCommon s new
+  takes-common f c none = by (own_of s.world n) refl s.world.queue.items refl
+    where
+      by : (own : List ℕ) → own_of s.world n ≡ own → (items : List ℕ) → s.world.queue.items ≡ items →
+          TakesOneCommon s new
+      by (g ∷ xs) e items q =
+          let one : 1 ≤ times g (own_of s.world n) =
+          subst (λ (ys : List ℕ). 1 ≤ times g ys) (sym e) (first-times g xs) in
+          let due : IsDue g s.world.trace = is-due g (omega (
+            arith,
+            one,
+            in-own s (good-here s r) (heard-here s r) (deep-here s r) (bonded-here s r) rest g n,
+          )) in
+          absurd (none g (record {
+            due = due;
+            keeper = own-keeper s (good-here s r) (heard-here s r) (deep-here s r) (bonded-here s r) rest g n one;
+          }))
+      by [] e [] q = absurd (omega (
+        arith,
+        common-queue s (good-here s r) (heard-here s r) (deep-here s r) (bonded-here s r) rest f c,
+        ap (times f) q,
+      ))
+      by [] e (g ∷ xs) q =
+          let there : IsCommon g s.world.trace =
+          queue-common s (good-here s r) (heard-here s r) (deep-here s r) (bonded-here s r) rest g
+          (subst (λ (ys : List ℕ). 1 ≤ times g ys) (sym q) (first-times g xs)) in
+          record { future = g; common = there; taken = taken-since g (takes-first g there.due (in_common xs e q)) }
+
+by-runs : (s : Machine) → Reached s → IsReachedByRuns s
+by-runs s y = record {
+  kept = λ rest r f z p b steps new k. takes-kept s y rest r p b steps new k f z;
+  common = λ rest r f c none p b steps new k. takes-common s y rest r p b steps new k f c none;
+}
+
+pub reached-by-runs : (limit parties : ℕ) (steps : List Step) → IsReachedByRuns (run steps (start limit parties))
+reached-by-runs limit parties steps =
+    by-runs (run steps (start limit parties)) (record { limit = limit; parties = parties; steps = steps; is = refl })

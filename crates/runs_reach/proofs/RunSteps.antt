@@ -1,0 +1,462 @@
+-- What a run that is polled does with its own queue: it takes what is first there, and puts behind.
+use Rattle.std.proofs.Common.{◌≡◌, ◌≢◌, ◌⊎◌, ◌∙◌, inl, inr, ⊎_elim, ℕ, zero, suc, ◌<◌, ◌≤◌, List, [], ◌∷◌, ◌++◌, length}
+use Rattle.std.proofs.Common.{get_or, get_or-set_same, get_or-set_other, Bool, true, false, eqb, refl, sym, ap, subst, arith}
+use Rattle.std.proofs.Common.{append_assoc}
+use Rattle.std.proofs.lemmas.List.{reverse-append}
+use Rattle.std.specs.Prelude.{Option, Some, None, reverse}
+use Rattle.task_moves.specs.declared.moves.owed.Move.TheVariants as move
+use Rattle.runs_model.specs.declared.call.Reply.TheVariants as reply
+use Rattle.runs_model.specs.declared.event.Event.TheVariants as event
+use Rattle.runs_model.specs.declared.op.Hold.TheVariants as hold
+use Rattle.runs_model.specs.declared.op.ListOp.TheVariants as list_op
+use Rattle.runs_model.specs.declared.op.Op.{Op}
+use Rattle.runs_model.specs.declared.op.Op.TheVariants as op
+use Rattle.runs_model.specs.declared.op.Polled.TheVariants as of
+use Rattle.runs_model.specs.declared.op.QueueOp.TheVariants as queue_op
+use Rattle.runs_model.specs.declared.op.RunOp.TheVariants as run_op
+use Rattle.runs_model.specs.declared.op.RunPoll.{RunPoll}
+use Rattle.runs_model.specs.declared.op.Sleeper.{Sleeper}
+use Rattle.runs_model.specs.declared.op.Sleeper.TheVariants as sleeper
+use Rattle.runs_model.specs.declared.op.SleeperOp.TheVariants as sleeper_op
+use Rattle.runs_model.specs.declared.op.Sleeping.{Sleeping}
+use Rattle.runs_model.specs.declared.op.Source.{Source}
+use Rattle.runs_model.specs.declared.op.Source.TheVariants.{Common, Own}
+use Rattle.runs_model.specs.declared.op.Steal.{Steal}
+use Rattle.runs_model.specs.declared.op.StealOp.{StealOp}
+use Rattle.runs_model.specs.declared.op.StealOp.TheVariants as steal_op
+use Rattle.runs_model.specs.declared.op.Then.{Then}
+use Rattle.runs_model.specs.declared.op.Then.TheVariants as then
+use Rattle.runs_model.specs.declared.op.TickOp.TheVariants as tick_op
+use Rattle.runs_model.specs.declared.op.Waker.{Waker}
+use Rattle.runs_model.specs.declared.op.Waker.TheVariants.{Task, Outside}
+use Rattle.runs_model.specs.declared.step.Hint.{Hint}
+use Rattle.runs_model.specs.declared.step.UserEnd.{UserEnd}
+use Rattle.runs_model.specs.Acts.{followed}
+use Rattle.runs_model.specs.ActsOfRuns.{asleep, behind, call_by_reference, counted_by, counted_to, found, kept_by}
+use Rattle.runs_model.specs.ActsOfRuns.{look_own_by, next_place, queue_at, run_by, search_common_by, search_own_by}
+use Rattle.runs_model.specs.ActsOfRuns.{steal_by, steal_length_by, steal_put_by, steal_take_by, stolen, walk, without_first}
+use Rattle.runs_model.specs.ActsOfSleepers.{copy_sleeper_by, found_by, lie_again_by, lie_anew_by, lie_down_by, lie_listed_by}
+use Rattle.runs_model.specs.ActsOfSleepers.{sleeper_goes}
+use Rattle.runs_model.specs.Doing.{act, search_by_who, steal_act}
+use Rattle.executor_parts.specs.Sleepers.{waker_at}
+use Rattle.runs_model.specs.Steps.{accepts, react, waits}
+use Rattle.runs_model.specs.Trace.{Trace}
+use Rattle.runs_model.specs.Weights.{same, weigh}
+use Rattle.runs_model.specs.World.{Done, Left, Lies, Place, Up, World, log, own_of, place_of, put_own}
+use Rattle.runs_model.proofs.Lists.{same_cases, weigh-append, weigh-reverse}
+use Rattle.runs_model.proofs.SleepersNext.{goes-unseen}
+use Rattle.runs_model.proofs.UsingRuns.{idle-common, idle-stolen}
+use Rattle.runs_model.proofs.UsingWorlds.{idle-act, idle-copy_sleeper, idle-lie}
+use Rattle.runs_reach.proofs.LoneMoves.{Inner, inner-act, inner-react, stray_of}
+use Rattle.runs_reach.proofs.RunDrops.{not-for-runs, own-react, within}
+use Rattle.runs_reach.proofs.RunFinds.{Heads, heads-found, without-gone}
+
+-- things to do beside what the run itself does
+
+abbrev pub side_of : Op → ℕ
+side_of (op.List list_op.UnlockRead) = 0
+side_of o = stray_of o
+
+pub side-kind : (o : Op) → side_of o ≡ 0 → (o ≡ op.List list_op.UnlockRead) ⊎ (stray_of o ≡ 0)
+side-kind (op.List list_op.UnlockRead) z = inl refl
+side-kind _ z = inr z
+
+side-few : (o : Op) → side_of o ≤ stray_of o
+side-few (op.List list_op.UnlockRead) = omega arith
+side-few _ = omega arith
+
+light-side : (os : List Op) → weigh stray_of os ≡ 0 → weigh side_of os ≡ 0
+light-side [] z = refl
+light-side (o ∷ os) z = omega (arith, z, side-few o, light-side os (omega (arith, z)))
+
+-- they leave the own queues alone
+pub record Aside (w : World) (d : Done) : Type 0 where
+  pub light : weigh side_of d.next ≡ 0
+  pub own : d.world.own ≡ w.own
+  pub gone : d.world.gone ≡ w.gone
+
+pub aside-act : (p : ℕ) (h : Hint) (o : Op) (w : World) → waits o ≡ false → side_of o ≡ 0 →
+    Aside w (act p h o w)
+aside-act p h o w n z = by (side-kind o z)
+  where
+    by : (o ≡ op.List list_op.UnlockRead) ⊎ (stray_of o ≡ 0) → Aside w (act p h o w)
+    by (inl e) = subst (λ (x : Op). Aside w (act p h x w)) (sym e) (record { light = refl; own = refl; gone = refl })
+    by (inr x) =
+        let i : Inner w (act p h o w) = inner-act p h o w n x in
+        record {
+          light = light-side (act p h o w).next i.plain;
+          own = (idle-act p h o w (not-for-runs o x)).own;
+          gone = i.there;
+        }
+
+pub aside-react : (p : ℕ) (o : Op) (u : UserEnd) (w : World) → accepts o u ≡ true → side_of o ≡ 0 →
+    Aside w (react p o u w)
+aside-react p o u w a z = by (side-kind o z)
+  where
+    by : (o ≡ op.List list_op.UnlockRead) ⊎ (stray_of o ≡ 0) → Aside w (react p o u w)
+    by (inl e) = let no : accepts (op.List list_op.UnlockRead) u ≡ true = sym (ap (λ (x : Op). accepts x u) e) ∙ a in
+        absurd (cc)
+    by (inr x) =
+        let i : Inner w (react p o u w) = inner-react p o u w a x in
+        record { light = light-side (react p o u w).next i.plain; own = own-react p o u w; gone = i.there }
+
+-- what run q itself does
+
+abbrev pub NotOwn : ℕ → Source → Type 0
+NotOwn q Common = true ≡ true
+NotOwn q (Own n) = n ≢ q
+
+abbrev pub steal_of : StealOp → Steal
+steal_of (steal_op.Length s) = s
+steal_of (steal_op.OwnLength s n) = s
+steal_of (steal_op.Take s more) = s
+steal_of (steal_op.Put s more f) = s
+
+abbrev pub Control : ℕ → Op → Type 0
+Control q (op.Tick (tick_op.Search s)) = s.who ≡ sleeper.Run q
+Control q (op.Tick (tick_op.CopyWaker s)) = s.who ≡ sleeper.Run q
+Control q (op.Tick (tick_op.LieDown s)) = s.who ≡ sleeper.Run q
+Control q (op.Run (run_op.SearchCommon x)) = x.run ≡ q
+Control q (op.Run (run_op.LookOwn x at left)) = x.run ≡ q
+Control q (op.Run (run_op.WakeOwn x)) = x.run ≡ q
+Control q (op.List (list_op.LockRead x)) = x.run ≡ q
+Control q (op.Steal o) = ((steal_of o).poll.run ≡ q) × NotOwn q (steal_of o).from
+Control q (op.End a held) = true ≡ true
+Control q _ = ⊥
+
+pub no-user : (q : ℕ) (o : Op) (u : UserEnd) → Control q o → accepts o u ≡ true → ⊥
+no-user q (op.User o) u k a = k
+no-user q _ u k a = absurd (cc)
+
+-- it goes on with one thing of its own, below the others
+pub record Holds (q : ℕ) (next : List Op) : Type 0 where
+  pub control : Op
+  pub side : List Op
+  pub is : reverse next ≡ control ∷ side
+  pub kind : Control q control
+  pub light : weigh side_of side ≡ 0
+
+holds-one : (q : ℕ) (c : Op) → Control q c → Holds q (c ∷ [])
+holds-one q c k = record { control = c; side = []; is = refl; kind = k; light = refl }
+
+holds-behind : (q : ℕ) (ops next : List Op) → weigh side_of ops ≡ 0 → Holds q next → Holds q (ops ++ next)
+holds-behind q ops next z h = record {
+  control = h.control;
+  side = h.side ++ reverse ops;
+  is = reverse-append ops next ∙ ap (λ (os : List Op). os ++ reverse ops) h.is;
+  kind = h.kind;
+  light = omega (arith, z, h.light, weigh-append side_of h.side (reverse ops), weigh-reverse side_of ops);
+}
+
+holds-run_by : (q : ℕ) (b : Bool) (w : World) (x : RunPoll) (f : ℕ) → x.run ≡ q → Holds q (run_by b w x f).next
+holds-run_by q true w x f e =
+    holds-behind q (op.Move move.TakeUp f ∷ []) (op.Run (run_op.WakeOwn x) ∷ []) refl
+    (holds-one q (op.Run (run_op.WakeOwn x)) e)
+holds-run_by q false w x f e =
+    holds-behind q (op.Move move.TakeUp f ∷ []) (op.Tick (tick_op.Search (asleep x)) ∷ []) refl
+    (holds-one q (op.Tick (tick_op.Search (asleep x))) (ap sleeper.Run e))
+
+holds-counted_by : (q : ℕ) (b : Bool) (w : World) (x : RunPoll) (f : ℕ) → x.run ≡ q → Holds q (counted_by b w x f).next
+holds-counted_by q true w x f e =
+    holds-one q (op.Steal (steal_op.Length (record { poll = x; from = Common; then = then.Run f }))) (e, refl)
+holds-counted_by q false w x f e = holds-run_by q _ (counted_to w x.run _) x f e
+
+found-side : (x : Place) (who : Sleeper) → weigh side_of (found_by x who (op.Sleeper sleeper_op.ExchangeFlag ∷ [])) ≡ 0
+found-side Up who = refl
+found-side (Lies n) who = refl
+found-side Left who = refl
+
+holds-found : (q : ℕ) (w : World) (x : RunPoll) (f : ℕ) → x.run ≡ q → Holds q (found w x f).next
+holds-found q w x f e =
+    holds-behind q (found_by _ (sleeper.Run x.run) (op.Sleeper sleeper_op.ExchangeFlag ∷ [])) (counted_by _ w x f).next
+    (found-side _ (sleeper.Run x.run)) (holds-counted_by q _ w x f e)
+
+holds-stolen : (q : ℕ) (t : Then) (w : World) (x : RunPoll) → x.run ≡ q → Holds q (stolen t w x).next
+holds-stolen q (then.Found f) w x e = holds-found q w x f e
+holds-stolen q (then.Run f) w x e = holds-run_by q _ w x f e
+holds-stolen q (then.Walk at left) w x e = holds-one q (op.Run (run_op.LookOwn x at left)) e
+
+other-queue : (n m q : ℕ) → m ≡ q → eqb n m ≡ false → n ≢ q
+other-queue n m q e b k = ⊎_elim
+    (λ (x : (same n m ≡ 1) × (eqb n m ≡ true) × (n ≡ m)). let no : true ≡ false = sym x.1 ∙ b in absurd (cc))
+    (λ (x : (same n m ≡ 0) × (eqb n m ≡ false) × (n ≢ m)). x.2 (k ∙ sym e))
+    (same_cases n m)
+
+holds-walk : (q : ℕ) (x : RunPoll) (qs : List ℕ) (at left : ℕ) → x.run ≡ q → Holds q (walk x qs at left)
+holds-walk q x qs at zero e =
+    holds-behind q (op.List list_op.UnlockRead ∷ []) (op.Tick (tick_op.CopyWaker (asleep x)) ∷ []) refl
+    (holds-one q (op.Tick (tick_op.CopyWaker (asleep x))) (ap sleeper.Run e))
+holds-walk q x qs at (suc left) e =
+    by (eqb (queue_at qs at) x.run) (other-queue (queue_at qs at) x.run q e)
+    (holds-walk q x qs (next_place qs at) left e)
+  where
+    by : (b : Bool) → (b ≡ false → queue_at qs at ≢ q) → Holds q (walk x qs (next_place qs at) left) →
+        Holds q (let h : List Op = elim b [
+          | true ↦ walk x qs (next_place qs at) left
+          | false ↦ op.Steal (steal_op.Length (record {
+            poll = x;
+            from = Own (queue_at qs at);
+            then = then.Walk (next_place qs at) left;
+          })) ∷ []
+        ] in h)
+    by true k a = a
+    by false k a = holds-one q (op.Steal (steal_op.Length (record {
+      poll = x;
+      from = Own (queue_at qs at);
+      then = then.Walk (next_place qs at) left;
+    }))) (e, k refl)
+
+-- f stands in the own queue of q, behind at most n others
+
+pub record Tracked (q f n : ℕ) (w : World) : Type 0 where
+  pub front : List ℕ
+  pub later : List ℕ
+  pub is : own_of w q ≡ front ++ f ∷ later
+  pub few : length front ≤ n
+
+pub same-own : (q f n : ℕ) (w v : World) → v.own ≡ w.own → Tracked q f n w → Tracked q f n v
+same-own q f n w v e k = record {
+  front = k.front;
+  later = k.later;
+  is = ap (λ (qs : List (List ℕ)). get_or qs q []) e ∙ k.is;
+  few = k.few;
+}
+
+not-empty : (front later : List ℕ) (f : ℕ) → front ++ f ∷ later ≡ [] → ⊥
+not-empty [] later f e = absurd (cc)
+not-empty (g ∷ front) later f e = absurd (cc)
+
+first-there : (front later : List ℕ) (f h : ℕ) (rest : List ℕ) → h ∷ rest ≡ front ++ f ∷ later → (n m : ℕ) →
+    length front ≤ n → ((l : ℕ) → suc l ≤ n → l ≤ m) →
+    (h ≡ f) ⊎ ((xs : List ℕ) × (rest ≡ xs ++ f ∷ later) × (length xs ≤ m))
+first-there [] later f h rest e n m l k = inl (cc)
+first-there (g ∷ front) later f h rest e n m l k =
+    let q : rest ≡ front ++ f ∷ later = cc in inr (front, q, k (length front) (omega (arith, l)))
+
+-- what is first in the queue is taken: that is f, or f comes nearer
+headed : (q f n m h : ℕ) (rest : List ℕ) (w : World) → own_of w q ≡ h ∷ rest → ((l : ℕ) → suc l ≤ n → l ≤ m) →
+    Tracked q f n w → (h ≡ f) ⊎ Tracked q f m (put_own w q rest)
+headed q f n m h rest w e j k = ⊎_elim
+    (λ (x : h ≡ f). inl x)
+    (λ (x : (xs : List ℕ) × (rest ≡ xs ++ f ∷ k.later) × (length xs ≤ m)). inr (record {
+      front = x.0;
+      later = k.later;
+      is = get_or-set_same w.own q rest [] (within w.own q h rest e) ∙ x.1;
+      few = x.2;
+    }))
+    (first-there k.front k.later f h rest (sym e ∙ k.is) n m k.few j)
+
+-- what the run does is one of these: it goes on, and f stands there; it has ended; or it has f in hand
+pub data Goes (q f n : ℕ) (t : Trace) (g : Bool) (d : Done) : Type 0 where
+  on : Holds q d.next → Tracked q f n d.world → Goes q f n t g d
+  ends : d.next ≡ [] → Tracked q f n d.world → Goes q f n t g d
+  finds : Heads f t g d → Goes q f n t g d
+  finds_behind : (x : Done) → d ≡ behind (op.List list_op.UnlockRead ∷ []) x → Heads f t g x → Goes q f n t g d
+
+pub record After (q f n : ℕ) (w : World) (d : Done) : Type 0 where
+  pub goes : Goes q f n w.trace w.gone d
+  pub gone : d.world.gone ≡ w.gone
+
+pub after-own : (q f n m : ℕ) (xs : List ℕ) (w : World) (x : RunPoll) → x.run ≡ q → own_of w x.run ≡ xs →
+    ((l : ℕ) → suc l ≤ n → l ≤ m) → Tracked q f n w → After q f m w (search_own_by xs w x)
+after-own q f n m [] w x e o j k =
+    absurd (not-empty k.front k.later f (sym k.is ∙ (ap (λ (r : ℕ). own_of w r) (sym e) ∙ o)))
+after-own q f n m (h ∷ rest) w x e o j k =
+    record {
+      goes = ⊎_elim
+          (λ (y : h ≡ f). finds (subst (λ (g : ℕ). Heads f w.trace w.gone (found (put_own w x.run rest) x g)) (sym y)
+          (heads-found f (put_own w x.run rest) x)))
+          (λ (y : Tracked x.run f m (put_own w x.run rest)). on (holds-found q (put_own w x.run rest) x h e)
+          (same-own q f m (put_own w x.run rest) (found (put_own w x.run rest) x h).world
+          (idle-stolen (then.Found h) (put_own w x.run rest) x).own
+          (subst (λ (r : ℕ). Tracked r f m (put_own w x.run rest)) e y)))
+          (headed x.run f n m h rest w o j (subst (λ (r : ℕ). Tracked r f n w) (sym e) k));
+      gone = (idle-stolen (then.Found h) (put_own w x.run rest) x).gone;
+    }
+
+after-look : (q f n : ℕ) (xs : List ℕ) (w : World) (x : RunPoll) (at left : ℕ) → x.run ≡ q → own_of w x.run ≡ xs →
+    Tracked q f n w → After q f n w (look_own_by xs w x at left)
+after-look q f n [] w x at left e o k =
+    absurd (not-empty k.front k.later f (sym k.is ∙ (ap (λ (r : ℕ). own_of w r) (sym e) ∙ o)))
+after-look q f n (h ∷ rest) w x at left e o k = record {
+  goes = ⊎_elim
+      (λ (y : h ≡ f). finds_behind (found (put_own w x.run rest) x h) refl
+      (subst (λ (g : ℕ). Heads f w.trace w.gone (found (put_own w x.run rest) x g)) (sym y)
+      (heads-found f (put_own w x.run rest) x)))
+      (λ (y : Tracked x.run f n (put_own w x.run rest)).
+      on (holds-behind q (op.List list_op.UnlockRead ∷ []) (found (put_own w x.run rest) x h).next refl
+      (holds-found q (put_own w x.run rest) x h e))
+      (same-own q f n (put_own w x.run rest) (found (put_own w x.run rest) x h).world
+      (idle-stolen (then.Found h) (put_own w x.run rest) x).own
+      (subst (λ (r : ℕ). Tracked r f n (put_own w x.run rest)) e y)))
+      (headed x.run f n n h rest w o (λ l i. omega (arith, i)) (subst (λ (r : ℕ). Tracked r f n w) (sym e) k));
+  gone = (idle-stolen (then.Found h) (put_own w x.run rest) x).gone;
+}
+
+after-stolen : (q f n : ℕ) (t : Then) (w : World) (x : RunPoll) → x.run ≡ q → Tracked q f n w →
+    After q f n w (stolen t w x)
+after-stolen q f n t w x e k = record {
+  goes = on (holds-stolen q t w x e) (same-own q f n w (stolen t w x).world (idle-stolen t w x).own k);
+  gone = (idle-stolen t w x).gone;
+}
+
+after-length : (q f n l : ℕ) (w : World) (s : Steal) → (s.poll.run ≡ q) × NotOwn q s.from → Tracked q f n w →
+    After q f n w (steal_length_by l w s)
+after-length q f n zero w s e k = after-stolen q f n s.then w s.poll e.0 k
+after-length q f n (suc l) w s e k =
+    record { goes = on (holds-one q (op.Steal (steal_op.OwnLength s (suc l))) e) k; gone = refl }
+
+after-steal_by : (q f n l : ℕ) (w : World) (s : Steal) → (s.poll.run ≡ q) × NotOwn q s.from → Tracked q f n w →
+    After q f n w (steal_by l w s)
+after-steal_by q f n zero w s e k = after-stolen q f n s.then w s.poll e.0 k
+after-steal_by q f n (suc l) w s e k =
+    record { goes = on (holds-one q (op.Steal (steal_op.Take s l)) e) k; gone = refl }
+
+tracked-without : (q f n : ℕ) (x : Source) (w : World) (rest : List ℕ) → NotOwn q x → Tracked q f n w →
+    Tracked q f n (without_first w x rest)
+tracked-without q f n Common w rest e k = same-own q f n w (without_first w Common rest) refl k
+tracked-without q f n (Own m) w rest e k = record {
+  front = k.front;
+  later = k.later;
+  is = get_or-set_other w.own m q rest [] (λ z. e (sym z)) ∙ k.is;
+  few = k.few;
+}
+
+after-take : (q f n : ℕ) (xs : List ℕ) (w : World) (s : Steal) (more : ℕ) → (s.poll.run ≡ q) × NotOwn q s.from →
+    Tracked q f n w → After q f n w (steal_take_by xs w s more)
+after-take q f n [] w s more e k = after-stolen q f n s.then w s.poll e.0 k
+after-take q f n (h ∷ rest) w s more e k = record {
+  goes = on (holds-one q (op.Steal (steal_op.Put s more h)) e) (tracked-without q f n s.from w rest e.1 k);
+  gone = without-gone s.from w rest;
+}
+
+there-within : (qs : List (List ℕ)) (q f : ℕ) (front later : List ℕ) → get_or qs q [] ≡ front ++ f ∷ later →
+    q < length qs
+there-within qs q f [] later e = within qs q f later e
+there-within qs q f (g ∷ front) later e = within qs q g (front ++ f ∷ later) e
+
+tracked-put : (q f n r p h : ℕ) (w : World) → r ≡ q → Tracked q f n w → Tracked q f n (kept_by p w r h)
+tracked-put q f n r p h w e k = subst (λ (x : ℕ). Tracked q f n (kept_by p w x h)) (sym e) (record {
+  front = k.front;
+  later = k.later ++ h ∷ [];
+  is = get_or-set_same w.own q (own_of w q ++ h ∷ []) [] (there-within w.own q f k.front k.later k.is)
+      ∙ (ap (λ (xs : List ℕ). xs ++ h ∷ []) k.is ∙ append_assoc k.front (f ∷ k.later) (h ∷ []));
+  few = k.few;
+})
+
+after-put : (q f n : ℕ) (b : Bool) (p : ℕ) (w : World) (s : Steal) (more h : ℕ) →
+    (s.poll.run ≡ q) × NotOwn q s.from → Tracked q f n w → After q f n w (steal_put_by b p w s more h)
+after-put q f n true p w s more h e k = by more
+  where
+    v : Tracked q f n (kept_by p w s.poll.run h)
+    v = tracked-put q f n s.poll.run p h w e.0 k
+
+    by : (l : ℕ) → After q f n w (steal_by l (kept_by p w s.poll.run h) s)
+    by zero = record {
+      goes = on (holds-stolen q s.then (kept_by p w s.poll.run h) s.poll e.0)
+          (same-own q f n (kept_by p w s.poll.run h) (stolen s.then (kept_by p w s.poll.run h) s.poll).world
+          (idle-stolen s.then (kept_by p w s.poll.run h) s.poll).own v);
+      gone = (idle-stolen s.then (kept_by p w s.poll.run h) s.poll).gone;
+    }
+    by (suc l) = record { goes = on (holds-one q (op.Steal (steal_op.Take s l)) e) v; gone = refl }
+after-put q f n false p w s more h e k = record {
+  goes = on (holds-behind q (op.Queue (queue_op.Append h) ∷ []) (stolen s.then w s.poll).next refl
+      (holds-stolen q s.then w s.poll e.0))
+      (same-own q f n w (stolen s.then w s.poll).world (idle-stolen s.then w s.poll).own k);
+  gone = (idle-stolen s.then w s.poll).gone;
+}
+
+after-steal : (q f n p : ℕ) (o : StealOp) (w : World) → Control q (op.Steal o) → Tracked q f n w →
+    After q f n w (steal_act p o w)
+after-steal q f n p (steal_op.Length s) w e k = after-length q f n _ w s e k
+after-steal q f n p (steal_op.OwnLength s l) w e k = after-steal_by q f n _ w s e k
+after-steal q f n p (steal_op.Take s more) w e k = after-take q f n _ w s more e k
+after-steal q f n p (steal_op.Put s more h) w e k = after-put q f n _ p w s more h e k
+
+after-copy : (q f n : ℕ) (b : Bool) (w : World) (s : Sleeping) → s.who ≡ sleeper.Run q → Tracked q f n w →
+    After q f n w (copy_sleeper_by b w s)
+after-copy q f n true w s e k = record { goes = on (holds-one q _ refl) k; gone = refl }
+after-copy q f n false w s e k = record {
+  goes = on (holds-one q (op.Tick (tick_op.LieDown s)) e)
+      (same-own q f n w (copy_sleeper_by false w s).world (idle-copy_sleeper false w s).own k);
+  gone = (idle-copy_sleeper false w s).gone;
+}
+
+holds-anew : (q : ℕ) (b : Bool) (w : World) (s : Sleeping) → s.who ≡ sleeper.Run q → Holds q (lie_anew_by b w s).next
+holds-anew q true w s e = holds-one q (op.Tick (tick_op.Search s)) e
+holds-anew q false w s e =
+    holds-behind q (op.Sleeper (sleeper_op.CallSleeper s) ∷ []) _ refl (holds-one q _ refl)
+
+holds-listed : (q : ℕ) (b : Bool) (w : World) (m : ℕ) (s : Sleeping) → s.who ≡ sleeper.Run q →
+    Holds q (lie_listed_by b w m s).next
+holds-listed q true w m s e = holds-one q (op.Tick (tick_op.Search s)) e
+holds-listed q false w m s e =
+    holds-behind q (op.Sleeper (sleeper_op.CallSleeper s) ∷ []) _ refl (holds-one q _ refl)
+
+holds-again : (q : ℕ) (o : Option ℕ) (w : World) (m : ℕ) (s : Sleeping) → s.who ≡ sleeper.Run q →
+    Holds q (lie_again_by o w m s).next
+holds-again q (Some at) w m s e =
+    holds-behind q (sleeper_goes (waker_at (Some at) w.sleepers.wakers)) _
+    (light-side (sleeper_goes (waker_at (Some at) w.sleepers.wakers))
+    (goes-unseen stray_of (λ g. refl) (waker_at (Some at) w.sleepers.wakers))) (holds-one q _ refl)
+holds-again q None w m s e = holds-listed q _ w m s e
+
+holds-lie : (q : ℕ) (x : Place) (w : World) (s : Sleeping) → s.who ≡ sleeper.Run q → Holds q (lie_down_by x w s).next
+holds-lie q Up w s e = holds-anew q _ w s e
+holds-lie q (Lies m) w s e = holds-again q _ w m s e
+holds-lie q Left w s e =
+    holds-behind q (op.Sleeper (sleeper_op.CallSleeper s) ∷ []) _ refl (holds-one q _ refl)
+
+holds-common : (q : ℕ) (xs : List ℕ) (w : World) (x : RunPoll) → x.run ≡ q → Holds q (search_common_by xs w x).next
+holds-common q [] w x e = holds-one q (op.List (list_op.LockRead x)) e
+holds-common q (f ∷ xs) w x e =
+    holds-one q (op.Steal (steal_op.Length (record { poll = x; from = Common; then = then.Found f }))) (e, refl)
+
+after-called : (q f n p : ℕ) (h : Hint) (a : Waker) (w v : World) (r : ℕ) → v.own ≡ w.own → v.gone ≡ w.gone →
+    Tracked q f n w →
+    After q f n w (followed (call_by_reference p v a) (op.End reply.Pending (hold.Run r) ∷ []))
+after-called q f n p h (Task g) w v r o z k = record {
+  goes = on
+      (holds-behind q (act p h (op.Move move.WakeByReference g) v).next _
+      (light-side (act p h (op.Move move.WakeByReference g) v).next
+      (inner-act p h (op.Move move.WakeByReference g) v refl refl).plain)
+      (holds-one q (op.End reply.Pending (hold.Run r)) refl))
+      (same-own q f n w (act p h (op.Move move.WakeByReference g) v).world
+      ((idle-act p h (op.Move move.WakeByReference g) v refl).own ∙ o) k);
+  gone = (idle-act p h (op.Move move.WakeByReference g) v refl).gone ∙ z;
+}
+after-called q f n p h (Outside y) w v r o z k = record {
+  goes = on
+      (holds-behind q ((call_by_reference p v (Outside y)).next) (op.End reply.Pending (hold.Run r) ∷ []) refl
+      (holds-one q (op.End reply.Pending (hold.Run r)) refl))
+      (same-own q f n w v o k);
+  gone = z;
+}
+
+pub after-control : (q f n p : ℕ) (h : Hint) (c : Op) (w : World) → Control q c → Tracked q f n w →
+    After q f n w (act p h c w)
+after-control q f n p h (op.Tick (tick_op.Search s)) w e k =
+    subst (λ (who : Sleeper). After q f n w (search_by_who who w s)) (sym e)
+    (after-own q f n n (own_of w q) w (record { run = q; waker = s.waker; poll = s.poll }) refl refl
+    (λ l i. omega (arith, i)) k)
+after-control q f n p h (op.Tick (tick_op.CopyWaker s)) w e k = after-copy q f n _ w s e k
+after-control q f n p h (op.Tick (tick_op.LieDown s)) w e k = record {
+  goes = on (holds-lie q (place_of w s.who) w s e)
+      (same-own q f n w (lie_down_by (place_of w s.who) w s).world (idle-lie (place_of w s.who) w s).own k);
+  gone = (idle-lie (place_of w s.who) w s).gone;
+}
+after-control q f n p h (op.Run (run_op.SearchCommon x)) w e k = record {
+  goes = on (holds-common q w.queue.items w x e)
+      (same-own q f n w (search_common_by w.queue.items w x).world (idle-common w.queue.items w x).own k);
+  gone = (idle-common w.queue.items w x).gone;
+}
+after-control q f n p h (op.Run (run_op.LookOwn x at left)) w e k =
+    after-look q f n (own_of w x.run) w x at left e refl k
+after-control q f n p h (op.Run (run_op.WakeOwn x)) w e k =
+    after-called q f n p h x.waker w (log w (event.WakerCalled p (of.Run x.run) x.poll x.waker)) x.run refl refl k
+after-control q f n p h (op.List (list_op.LockRead x)) w e k =
+    record { goes = on (holds-walk q x w.listed _ (length w.listed) e) (same-own q f n w _ refl k); gone = refl }
+after-control q f n p h (op.Steal o) w e k = after-steal q f n p o w e k
+after-control q f n p h (op.End a held) w e k =
+    record { goes = ends refl (same-own q f n w (log w (event.CallEnded p a)) refl k); gone = refl }
+after-control q f n p h _ w e k = absurd e

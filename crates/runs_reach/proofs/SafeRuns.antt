@@ -1,0 +1,218 @@
+-- What a run does keeps a future away from the executor's queue, but for what it schedules.
+use Rattle.std.proofs.Common.{◌≡◌, ℕ, zero, suc, ◌<◌, List, [], ◌∷◌, length, Bool, true, false, ◌||◌}
+use Rattle.std.proofs.Common.{refl, sym, ap, subst, get_or, arith}
+use Rattle.std.proofs.lemmas.List.{length-set}
+use Rattle.task_moves.specs.Moves as moves
+use Rattle.task_moves.specs.declared.moves.state.State.{State}
+use Rattle.runs_model.specs.declared.call.Reply.TheVariants as reply
+use Rattle.runs_model.specs.declared.event.Event.TheVariants as event
+use Rattle.runs_model.specs.declared.op.Hold.TheVariants as hold
+use Rattle.runs_model.specs.declared.op.ListOp.{ListOp}
+use Rattle.runs_model.specs.declared.op.ListOp.TheVariants as list_op
+use Rattle.runs_model.specs.declared.op.Op.{Op}
+use Rattle.runs_model.specs.declared.op.Op.TheVariants as op
+use Rattle.runs_model.specs.declared.op.Polled.TheVariants as of
+use Rattle.runs_model.specs.declared.op.RunOp.{RunOp}
+use Rattle.runs_model.specs.declared.op.RunOp.TheVariants as run_op
+use Rattle.runs_model.specs.declared.op.RunPoll.{RunPoll}
+use Rattle.runs_model.specs.declared.op.Section.{Section}
+use Rattle.runs_model.specs.declared.op.Section.TheVariants as section
+use Rattle.runs_model.specs.declared.op.Sleeper.{Sleeper}
+use Rattle.runs_model.specs.declared.op.Sleeper.TheVariants as sleeper
+use Rattle.runs_model.specs.declared.op.Sleeping.{Sleeping}
+use Rattle.runs_model.specs.declared.op.Steal.{Steal}
+use Rattle.runs_model.specs.declared.op.StealOp.{StealOp}
+use Rattle.runs_model.specs.declared.op.StealOp.TheVariants as steal_op
+use Rattle.runs_model.specs.declared.op.TickOp.TheVariants as tick_op
+use Rattle.runs_model.specs.declared.op.Waker.{Waker}
+use Rattle.runs_model.specs.declared.op.Waker.TheVariants.{Task, Outside}
+use Rattle.runs_model.specs.declared.step.Hint.{Hint}
+use Rattle.runs_model.specs.World.{World, Done, blank, log, task, own_of}
+use Rattle.runs_model.specs.Acts.{followed}
+use Rattle.runs_model.specs.ActsOfRuns as runs
+use Rattle.runs_model.specs.ActsOfRuns.{wake_own}
+use Rattle.runs_model.specs.Doing.{list_act, run_act, search_by_who, steal_act}
+use Rattle.runs_model.specs.Good.{IsKnownWaker}
+use Rattle.runs_model.specs.Rows.{appends_of}
+use Rattle.runs_model.specs.Weights.{weigh}
+use Rattle.runs_model.proofs.Counting.{woken}
+use Rattle.runs_model.proofs.Lists.{read_put, same_is}
+use Rattle.runs_model.proofs.Marks.{IsUnmarked, unmarked}
+use Rattle.runs_model.proofs.RunsNext.{BlindToRuns, common-blind, list-blind, look-blind, more-blind, room-blind}
+use Rattle.runs_model.proofs.RunsNext.{search_run-blind, stolen-blind}
+use Rattle.runs_model.proofs.RunsCounting.{Bare, bare}
+use Rattle.runs_model.proofs.RunsPlain.{AllPlain, plain-after-common, plain-after-list, plain-after-look}
+use Rattle.runs_model.proofs.RunsPlain.{plain-after-call, plain-after-room, plain-after-search, plain-after-steal}
+use Rattle.runs_model.proofs.RunsMoves.{moves-common, moves-length, moves-list, moves-look}
+use Rattle.runs_model.proofs.RunsMoves.{moves-make_room, moves-own, moves-own_length}
+use Rattle.runs_model.proofs.RunsMoves.{moves-take}
+use Rattle.runs_reach.proofs.RunsFewer.{Fewer, untouched, fewer-common, fewer-search, fewer-steal, queue-list, queue-look}
+use Rattle.runs_reach.proofs.RunsFewer.{queue-put, queue-room}
+use Rattle.runs_reach.proofs.Safe.{KeepsSafe}
+use Rattle.runs_reach.proofs.SafeSleepers.{safe-search}
+
+abbrev pub is_put : StealOp → Bool
+is_put (steal_op.Put s more f) = true
+is_put _ = false
+
+abbrev pub is_reschedule : RunOp → Bool
+is_reschedule (run_op.Reschedule r a) = true
+is_reschedule _ = false
+
+blind-appends : (g : ℕ) → BlindToRuns (appends_of g)
+blind-appends g = record {
+  exchange = refl;
+  search = λ s. refl;
+  copy = λ s. refl;
+  up = λ who. refl;
+  made = λ r. refl;
+  take_up = λ f. refl;
+  steal = by_steal;
+  list = by_list;
+  run = by_run;
+  poll = λ x. refl;
+  end = λ a r. refl;
+}
+  where
+    by_steal : (o : StealOp) → appends_of g (op.Steal o) ≡ 0
+    by_steal (steal_op.Length s) = refl
+    by_steal (steal_op.OwnLength s n) = refl
+    by_steal (steal_op.Take s more) = refl
+    by_steal (steal_op.Put s more f) = refl
+
+    by_section : (s : Section) → appends_of g (op.List (list_op.Write s)) ≡ 0
+    by_section section.MakeRun = refl
+    by_section (section.Register x) = refl
+    by_section (section.Unregister r a) = refl
+
+    by_list : (o : ListOp) → appends_of g (op.List o) ≡ 0
+    by_list (list_op.LockWrite s) = by_section s
+    by_list (list_op.Write s) = by_section s
+    by_list list_op.UnlockWrite = refl
+    by_list (list_op.LockRead x) = refl
+    by_list list_op.UnlockRead = refl
+
+    by_run : (o : RunOp) → appends_of g (op.Run o) ≡ 0
+    by_run run_op.MakeRoom = refl
+    by_run run_op.ReturnRoom = refl
+    by_run (run_op.SearchCommon x) = refl
+    by_run (run_op.LookOwn x at left) = refl
+    by_run (run_op.WakeOwn x) = refl
+    by_run (run_op.Reschedule r a) = refl
+
+-- where the tasks stay and nothing comes into the queue
+safe-fewer : (w : World) (old : List Op) (d : Done) → Fewer w d.world → d.world.tasks ≡ w.tasks →
+    ((g : ℕ) → weigh (appends_of g) d.next ≡ 0) → AllPlain d.next → KeepsSafe w old d
+safe-fewer w old d k e z y g r n bb h = let b : Bare g d.next = bare g d.next y in record {
+  none = omega (arith, z g, h.none);
+  queued = omega (arith, k.items g, h.queued);
+  resting = omega (arith, h.resting, b.polls, b.ending);
+  marked = subst
+      (λ (x : State). x.closed ≡ false → x.completed ≡ false → (x.scheduled ≡ true) × (x.running ≡ false))
+      (ap (λ (ts : List State). get_or ts g blank) (sym e)) h.marked;
+}
+
+appends-length : (g n : ℕ) (w : World) (s : Steal) → weigh (appends_of g) (runs.steal_length_by n w s).next ≡ 0
+appends-length g zero w s = stolen-blind (appends_of g) (blind-appends g) s.then w s.poll
+appends-length g (suc n) w s = refl
+
+appends-take : (g : ℕ) (q : List ℕ) (w : World) (s : Steal) (more : ℕ) →
+    weigh (appends_of g) (runs.steal_take_by q w s more).next ≡ 0
+appends-take g [] w s more = stolen-blind (appends_of g) (blind-appends g) s.then w s.poll
+appends-take g (f ∷ rest) w s more = refl
+
+pub safe-steal : (p : ℕ) (o : StealOp) (w : World) → is_put o ≡ false → KeepsSafe w (op.Steal o ∷ []) (steal_act p o w)
+safe-steal p (steal_op.Length s) w e =
+    let o = steal_op.Length s in
+    safe-fewer w (op.Steal o ∷ []) (steal_act p o w) (fewer-steal p o w)
+    (moves-length (length (runs.source_of w s.from)) w s).same.tasks (λ g. appends-length g _ w s)
+    (plain-after-steal p o w)
+safe-steal p (steal_op.OwnLength s n) w e =
+    let o = steal_op.OwnLength s n in
+    safe-fewer w (op.Steal o ∷ []) (steal_act p o w) (fewer-steal p o w)
+    (moves-own_length (runs.share n (runs.free_places w s.poll.run)) n w s).same.tasks
+    (λ g. more-blind (appends_of g) (blind-appends g) (runs.share n (runs.free_places w s.poll.run)) w s)
+    (plain-after-steal p o w)
+safe-steal p (steal_op.Take s more) w e =
+    let o = steal_op.Take s more in
+    safe-fewer w (op.Steal o ∷ []) (steal_act p o w) (fewer-steal p o w)
+    (moves-take s.from (runs.source_of w s.from) w s.poll s.then more refl).same.tasks
+    (λ g. appends-take g (runs.source_of w s.from) w s more) (plain-after-steal p o w)
+safe-steal p (steal_op.Put s more f) w e = absurd (cc)
+
+-- what comes into a run's own queue was in hand
+pub safe-put : (p : ℕ) (s : Steal) (more f : ℕ) (w : World) →
+    KeepsSafe w (op.Steal (steal_op.Put s more f) ∷ []) (runs.steal_by more (runs.kept_by p w s.poll.run f) s)
+safe-put p s more f w =
+    let v = runs.kept_by p w s.poll.run f in
+    let d = runs.steal_by more v s in
+    safe-fewer w (op.Steal (steal_op.Put s more f) ∷ []) d (untouched w d.world (queue-put true p w s more f))
+    (moves-own_length more 0 v s).same.tasks (λ g. more-blind (appends_of g) (blind-appends g) more v s)
+    (plain-after-call p w s more f)
+
+pub safe-list : (h : Hint) (o : ListOp) (w : World) → KeepsSafe w (op.List o ∷ []) (list_act h o w)
+safe-list h o w =
+    safe-fewer w (op.List o ∷ []) (list_act h o w) (untouched w (list_act h o w).world (queue-list h o w))
+    (moves-list h o w).same.tasks (λ g. list-blind (appends_of g) (blind-appends g) h o w) (plain-after-list h o w)
+
+-- a tick looks at the executor's queue, a run at its own
+pub safe-search_who : (who : Sleeper) (w : World) (s : Sleeping) → s.who ≡ who →
+    KeepsSafe w (op.Tick (tick_op.Search s) ∷ []) (search_by_who who w s)
+safe-search_who (sleeper.Tick t) w s e = safe-search _ _ w s refl
+safe-search_who (sleeper.Run r) w s e =
+    let x : RunPoll = record { run = r; waker = s.waker; poll = s.poll } in
+    safe-fewer w (op.Tick (tick_op.Search s) ∷ []) (runs.search_own w x) (fewer-search w x)
+    (moves-own (own_of w r) w s r e refl).same.tasks (λ g. search_run-blind (appends_of g) (blind-appends g) w x)
+    (plain-after-search w x)
+
+-- its own waker is called
+
+abbrev polled_with : ℕ → ℕ → Waker → RunPoll
+polled_with t k a = record { run = t; waker = a; poll = k }
+
+abbrev own_woken : Bool → Bool → Bool → ℕ → ℕ → ℕ → World → ℕ → Done
+own_woken o b c p t k w f = followed
+    (woken o b c p (log w (event.WakerCalled p (of.Run t) k (Task f))) f)
+    (op.End reply.Pending (hold.Run t) ∷ [])
+
+wrong : (o x : Bool) → o ≡ true → (o || x) ≡ false → ⊥
+wrong true x m e = absurd (cc)
+wrong false x m e = absurd (cc)
+
+safe-own_task : (o b c : Bool) (p t k : ℕ) (w : World) (f : ℕ) → moves.is_over (task w f) ≡ o →
+    (moves.is_over (task w f) || (task w f).scheduled) ≡ b → (task w f).running ≡ c → f < length w.tasks →
+    KeepsSafe w (op.Run (run_op.WakeOwn (polled_with t k (Task f))) ∷ []) (own_woken o b c p t k w f)
+safe-own_task true true c p t k w f m d q i g r nn bb h = grind (arith, same_is, read_put, length-set)
+safe-own_task true false c p t k w f m d q i g r nn bb h = absurd (wrong _ _ m d)
+safe-own_task false true c p t k w f m d q i g r nn bb h = grind (arith, same_is, read_put, length-set)
+safe-own_task false false true p t k w f m d q i g r nn bb h = grind (arith, same_is, read_put, length-set)
+safe-own_task false false false p t k w f m d q i g r nn bb h = let z : IsUnmarked (task w f) = unmarked (task w f) d in
+    grind (arith, same_is, read_put, length-set)
+
+safe-wake_own : (p t k : ℕ) (a : Waker) (w : World) → IsKnownWaker w a →
+    KeepsSafe w (op.Run (run_op.WakeOwn (polled_with t k a)) ∷ []) (wake_own p w (polled_with t k a))
+safe-wake_own p t k (Task f) w i = safe-own_task (moves.is_over (task w f)) _ _ p t k w f refl refl refl i
+safe-wake_own p t k (Outside y) w i = λ g r nn bb h. grind arith
+
+pub safe-run : (p : ℕ) (h : Hint) (o : RunOp) (w : World) → is_reschedule o ≡ false →
+    ((x : RunPoll) → o ≡ run_op.WakeOwn x → IsKnownWaker w x.waker) → KeepsSafe w (op.Run o ∷ []) (run_act p h o w)
+safe-run p h run_op.MakeRoom w e i =
+    let d = run_act p h run_op.MakeRoom w in
+    safe-fewer w (op.Run run_op.MakeRoom ∷ []) d (untouched w d.world (queue-room h.refused w))
+    (moves-make_room h.refused w).same.tasks (λ g. room-blind (appends_of g) (blind-appends g) h.refused w)
+    (plain-after-room h.refused w)
+safe-run p h run_op.ReturnRoom w e i =
+    let d = run_act p h run_op.ReturnRoom w in
+    safe-fewer w (op.Run run_op.ReturnRoom ∷ []) d (untouched w d.world refl) refl (λ g. refl) (λ v z. refl)
+safe-run p h (run_op.SearchCommon x) w e i =
+    let d = run_act p h (run_op.SearchCommon x) w in
+    safe-fewer w (op.Run (run_op.SearchCommon x) ∷ []) d (fewer-common w.queue.items w x)
+    (moves-common w.queue.items w x refl).same.tasks
+    (λ g. common-blind (appends_of g) (blind-appends g) w.queue.items w x) (plain-after-common w x)
+safe-run p h (run_op.LookOwn x at left) w e i =
+    let d = run_act p h (run_op.LookOwn x at left) w in
+    safe-fewer w (op.Run (run_op.LookOwn x at left) ∷ []) d (untouched w d.world (queue-look (own_of w x.run) w x at left))
+    (moves-look (own_of w x.run) w x at left refl).same.tasks
+    (λ g. look-blind (appends_of g) (blind-appends g) (own_of w x.run) w x at left) (plain-after-look w x at left)
+safe-run p h (run_op.WakeOwn x) w e i = safe-wake_own p x.run x.poll x.waker w (i x refl)
+safe-run p h (run_op.Reschedule t a) w e i = absurd (cc)

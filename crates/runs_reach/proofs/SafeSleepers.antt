@@ -1,0 +1,133 @@
+-- What tells sleepers, and what a tick does, keeps a future away from the executor's queue.
+use Rattle.std.proofs.Common.{◌≡◌, ℕ, ◌+◌, ◌<◌, List, [], ◌∷◌, length, Bool, true, false, ◌||◌, drop, refl, arith}
+use Rattle.std.proofs.lemmas.List.{length-set}
+use Rattle.std.specs.Prelude.{Option, Some, None}
+use Rattle.task_moves.specs.Moves as moves
+use Rattle.runs_model.specs.ActsOfSleepers.{polled_as}
+use Rattle.runs_model.specs.declared.event.Event.TheVariants as event
+use Rattle.runs_model.specs.declared.op.Op.TheVariants as op
+use Rattle.runs_model.specs.declared.op.Sleeping.{Sleeping}
+use Rattle.runs_model.specs.declared.op.SleeperOp.TheVariants as sleeper_op
+use Rattle.runs_model.specs.declared.op.TickOp.TheVariants as tick_op
+use Rattle.runs_model.specs.declared.op.Waker.{Waker}
+use Rattle.runs_model.specs.declared.op.Waker.TheVariants.{Task, Outside}
+use Rattle.runs_model.specs.declared.op.Sleeper.{Sleeper}
+use Rattle.runs_model.specs.World.{World, Place, Up, Lies, Left, log, task}
+use Rattle.runs_model.specs.ActsOfSleepers.{exchange_by, hand_out_by, call_sleeper, make_tick_by, search_by}
+use Rattle.runs_model.specs.ActsOfSleepers.{copy_sleeper_by}
+use Rattle.runs_model.specs.ActsOfSleepers.{lie_down_by, get_up_by, leave_sleepers_by}
+use Rattle.runs_model.specs.Weights.{same}
+use Rattle.runs_model.specs.Good.{IsKnownWaker}
+use Rattle.runs_model.specs.Sound.{times}
+use Rattle.runs_model.proofs.Cases.{by_bool}
+use Rattle.runs_model.proofs.Counting.{woken_by}
+use Rattle.runs_model.proofs.Lists.{read_put, same_is, times-drop}
+use Rattle.runs_model.proofs.Marks.{IsUnmarked, unmarked}
+use Rattle.runs_model.proofs.SleepersCases.{by_going, LiesDown, lies-down, GetsUp, gets-up, Leaves, leaves}
+use Rattle.runs_model.proofs.SleepersCounting.{asleep}
+use Rattle.runs_reach.proofs.Safe.{KeepsSafe}
+
+-- telling
+
+pub safe-exchange : (b : Bool) (w : World) → KeepsSafe w (op.Sleeper sleeper_op.ExchangeFlag ∷ []) (exchange_by b w)
+safe-exchange = by_bool _
+    (λ w g r nn bb h. grind arith)
+    (λ w g r nn bb h. grind arith)
+
+pub safe-hand_out : (b : Bool) (o : Option Sleeping) (w : World) →
+    KeepsSafe w (op.Sleeper sleeper_op.HandOut ∷ []) (hand_out_by b o w)
+safe-hand_out false o w g r nn bb h = grind arith
+safe-hand_out true None w g r nn bb h = grind arith
+safe-hand_out true (Some s) w g r nn bb h = grind arith
+
+wrong : (o x : Bool) → o ≡ true → (o || x) ≡ false → ⊥
+wrong true x m e = absurd (cc)
+wrong false x m e = absurd (cc)
+
+safe-call_task : (o b c : Bool) (p : ℕ) (t : Sleeper) (k : ℕ) (w : World) (f : ℕ) → moves.is_over (task w f) ≡ o →
+    (moves.is_over (task w f) || (task w f).scheduled) ≡ b → (task w f).running ≡ c → f < length w.tasks →
+    KeepsSafe w (op.Sleeper (sleeper_op.CallSleeper (asleep (Task f) t k)) ∷ [])
+    (woken_by o b c p (log w (event.WakerCalled p (polled_as t) k (Task f))) f)
+safe-call_task true true c p t k w f m d q i g r nn bb h =
+    grind (arith, same_is, read_put, length-set)
+safe-call_task true false c p t k w f m d q i g r nn bb h = absurd (wrong _ _ m d)
+safe-call_task false true c p t k w f m d q i g r nn bb h =
+    grind (arith, same_is, read_put, length-set)
+safe-call_task false false true p t k w f m d q i g r nn bb h =
+    grind (arith, same_is, read_put, length-set)
+safe-call_task false false false p t k w f m d q i g r nn bb h = let z : IsUnmarked (task w f) = unmarked (task w f) d in
+    grind (arith, same_is, read_put, length-set)
+
+pub safe-call_sleeper : (p : ℕ) (t : Sleeper) (k : ℕ) (a : Waker) (w : World) → IsKnownWaker w a →
+    KeepsSafe w (op.Sleeper (sleeper_op.CallSleeper (asleep a t k)) ∷ []) (call_sleeper p w (asleep a t k))
+safe-call_sleeper p t k (Task f) w i = safe-call_task (moves.is_over (task w f)) _ _ p t k w f refl refl refl i
+safe-call_sleeper p t k (Outside x) w i = λ g r nn bb h. grind arith
+
+-- a tick
+
+pub safe-make_tick : (b : Bool) (w : World) → KeepsSafe w (op.Tick tick_op.MakeTick ∷ []) (make_tick_by b w)
+safe-make_tick = by_bool _
+    (λ w g r nn bb h. grind arith)
+    (λ w g r nn bb h. grind arith)
+
+pub safe-search : (t : Place) (q : List ℕ) (w : World) (s : Sleeping) → w.queue.items ≡ q →
+    KeepsSafe w (op.Tick (tick_op.Search s) ∷ []) (search_by t w q s)
+safe-search t [] w s e g r nn bb h = grind arith
+safe-search Up (f ∷ rest) w s e g r nn bb h =
+    let z : same g f + times g (drop 1 w.queue.items) ≡ times g w.queue.items = times-drop g f rest w.queue.items e in
+    grind (arith, same_is)
+safe-search (Lies n) (f ∷ rest) w s e g r nn bb h =
+    let z : same g f + times g (drop 1 w.queue.items) ≡ times g w.queue.items = times-drop g f rest w.queue.items e in
+    grind (arith, same_is)
+safe-search Left (f ∷ rest) w s e g r nn bb h =
+    let z : same g f + times g (drop 1 w.queue.items) ≡ times g w.queue.items = times-drop g f rest w.queue.items e in
+    grind (arith, same_is)
+
+pub safe-copy_sleeper : (b : Bool) (a : Waker) (t : Sleeper) (k : ℕ) (w : World) → IsKnownWaker w a →
+    KeepsSafe w (op.Tick (tick_op.CopyWaker (asleep a t k)) ∷ []) (copy_sleeper_by b w (asleep a t k))
+safe-copy_sleeper true a t k w e g r nn bb h = grind arith
+safe-copy_sleeper false (Task m) t k w e g r nn bb h = let z : m < length w.tasks = e in
+    grind (arith, same_is, read_put, length-set)
+safe-copy_sleeper false (Outside x) t k w e g r nn bb h = grind arith
+
+safe-lying : LiesDown KeepsSafe
+safe-lying = record {
+  nowhere = λ w s g r nn bb h. grind arith;
+  anew = λ w s g r nn bb h. grind arith;
+  listed = λ w n s g r nn bb h. grind arith;
+  again = λ w n at s. by_going _
+      (λ g r nn bb h. grind arith)
+      (λ m u k g r nn bb h. grind arith)
+      (λ x u k g r nn bb h. grind arith);
+}
+
+pub safe-lie_down : (x : Place) (w : World) (s : Sleeping) →
+    KeepsSafe w (op.Tick (tick_op.LieDown s) ∷ []) (lie_down_by x w s)
+safe-lie_down = lies-down KeepsSafe safe-lying
+
+safe-rising : GetsUp KeepsSafe
+safe-rising = record {
+  up = λ w t g r nn bb h. grind arith;
+  lay = λ w n t. by_going _
+      (λ g r nn bb h. grind arith)
+      (λ m u k g r nn bb h. grind arith)
+      (λ x u k g r nn bb h. grind arith);
+}
+
+pub safe-get_up : (x : Place) (w : World) (t : Sleeper) →
+    KeepsSafe w (op.Tick (tick_op.GetUp t) ∷ []) (get_up_by x w t)
+safe-get_up = gets-up KeepsSafe safe-rising
+
+safe-leaving : Leaves KeepsSafe
+safe-leaving = record {
+  up = λ w t g r nn bb h. grind arith;
+  left = λ w t g r nn bb h. grind arith;
+  lay = λ w n t. by_going _
+      (λ g r nn bb h. grind arith)
+      (λ m u k g r nn bb h. grind arith)
+      (λ x u k g r nn bb h. grind arith);
+}
+
+pub safe-leave_sleepers : (x : Place) (w : World) (t : Sleeper) →
+    KeepsSafe w (op.Tick (tick_op.Leave t) ∷ []) (leave_sleepers_by x w t)
+safe-leave_sleepers = leaves KeepsSafe safe-leaving

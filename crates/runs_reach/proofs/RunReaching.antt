@@ -232,7 +232,8 @@ pub data First (f : ℕ) (own common : List ℕ) : Type 0 where
 module _ (p f : ℕ) (before : Trace) (due : IsDue f before) (x : RunPoll) (own common : List ℕ)
     (first : First f own common) (new : Machine) (idles : stack new p ≡ []) where
   -- the run has it in hand
-  from-found : (s : Machine) (d : Done) (others : List Step) → Before p before x own common new idles s.world → Heads f s.world.trace s.world.gone d →
+  from-found : (s : Machine) (d : Done) (others : List Step) → Before p before x own common new idles s.world →
+      Heads f s.world.trace s.world.gone d →
       Reached (with_part s p (onto p d [])) → run_all others (with_part s p (onto p d [])) ≡ Ok new →
       are_onward_of p others ≡ true → p < length s.parties → Taken f before new.world.trace
   from-found s d others b h y n on l =
@@ -244,7 +245,8 @@ module _ (p f : ℕ) (before : Trace) (due : IsDue f before) (x : RunPoll) (own 
       (subst (Heading f) (sym (stack-set p s (part d.world (reverse d.next)) l)) h.heading) on
       (sym (ap (λ (z : Part). run_all others (with_part s p z)) q) ∙ n)
 
-  at-common : (s : Machine) (rest : List ℕ) → common ≡ f ∷ rest → At p before x own common new idles (op.Run (run_op.SearchCommon x) ∷ []) s →
+  at-common : (s : Machine) (rest : List ℕ) → common ≡ f ∷ rest →
+      At p before x own common new idles (op.Run (run_op.SearchCommon x) ∷ []) s →
       (ts : List Step) → are_onward_of p ts ≡ true → run_all ts s ≡ Ok new → Taken f before new.world.trace
   at-common s rest e a ts on n =
       go (onward p s new [] (op.Run (run_op.SearchCommon x)) ts a.todo a.reached idles on n)

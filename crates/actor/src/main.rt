@@ -64,7 +64,7 @@ impl<R: Wait + Copy + Drop + 'static> Future<ExWaker<u64, ThreadWaker, R>> for A
 fn main(rt: HostRuntime) -> io::Result<()> {
     let alloc = rt.alloc();
     let (client, account) = (leak_mailbox(alloc)?, leak_mailbox(alloc)?);
-    let bank = Executor::new(rt, alloc, Realm::leak(alloc, 0)?, 1)?;
+    let bank = Executor::new(rt, alloc, Realm::leak(rt, alloc)?, 1)?;
     let serving = Account(Receive(account, rt), client, (100, 0));
     let task = bank.spawn(serving).map_err(|_| AllocError)?;
     let run = bank.run(task).map_err(|_| AllocError)?;

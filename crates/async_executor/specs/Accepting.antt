@@ -2,16 +2,15 @@
 use Rattle.std.specs.Prelude.{◌≡◌, ◌<◌, ◌≤◌, ◌++◌, [], ◌∷◌, length, Some}
 use Rattle.async_executor.specs.declared.errors.SpawnError.{SpawnError}
 use Rattle.async_executor.specs.declared.errors.SpawnError.TheVariants.{Full, NoMemory}
-use Rattle.async_task.specs.Handles.{Handle}
+use Rattle.async_task.specs.Handles.{Handle, Resting}
 use Rattle.executor_parts.specs.declared.places.SpawnRefused.{SpawnRefused}
 use Rattle.executor_parts.specs.declared.places.SpawnRefused.TheVariants.{Full as AtLimit, NoMemory as WithoutMemory}
-use Rattle.async_task.specs.declared.cell.scheduled.StoredWaker.{StoredWaker}
 use Rattle.executor_parts.specs.Places.{Entry, Places}
 
 module _ {F M : Type 0} where
   -- one entry more, which comes last: the future is in it, and a waker of its task
-  pub record Accepts (old new : Places F StoredWaker) (future : F) (task : Handle M) : Type 0 where
-    pub entry : Entry F StoredWaker
+  pub record Accepts (old new : Places F Resting) (future : F) (task : Handle M) : Type 0 where
+    pub entry : Entry F Resting
     pub entered : new.entries ≡ old.entries ++ entry ∷ []
     pub inside : entry.future ≡ Some future
     pub waker : entry.waker.identity ≡ task.identity
@@ -22,6 +21,6 @@ refused_as AtLimit future = Full future
 refused_as WithoutMemory future = NoMemory future
 
 -- full only where there are as many entries as the limit, and out of memory only where there are fewer
-abbrev pub IsRefusedAt : {F : Type 0} → Places F StoredWaker → SpawnError F → Type 0
+abbrev pub IsRefusedAt : {F : Type 0} → Places F Resting → SpawnError F → Type 0
 IsRefusedAt table (Full f) = table.limit ≤ length table.entries
 IsRefusedAt table (NoMemory f) = length table.entries < table.limit

@@ -14,7 +14,7 @@ use crate::queue::ExQueue;
 use crate::sections;
 use crate::spawning::accept;
 use crate::state::{State, close};
-use async_task::{Future, NoMemory, StoredRunnable, StoredWaker, Wake};
+use async_task::{Future, NoMemory, Returning, StoredWaker, Wake, close_returned};
 use executor_parts::Places;
 use std::alloc::Global;
 use std::sync::{Arc, Mutex, Wait};
@@ -29,9 +29,9 @@ where
 {
     pub(crate) realm: &'static ExRealm<T, W, R>,
     pub(crate) state: Arc<State<W>, Global>,
-    pub(crate) table: Mutex<Places<F, StoredWaker>>,
+    pub(crate) table: Mutex<Places<F, Returning<StoredWaker>>>,
     /// Empty: room for the wakers that the executor's drop takes out of the table.
-    pub(crate) leaving: Vec<StoredWaker>,
+    pub(crate) leaving: Vec<Returning<StoredWaker>>,
     pub(crate) rt: R,
     pub(crate) alloc: Global,
 }
@@ -73,8 +73,8 @@ where
         alloc: Global,
         realm: &'static ExRealm<T, W, R>,
         state: State<W>,
-        table: Places<F, StoredWaker>,
-        leaving: Vec<StoredWaker>,
+        table: Places<F, Returning<StoredWaker>>,
+        leaving: Vec<Returning<StoredWaker>>,
     ) -> Result<Self, NoMemory>
         requires table { (table.entries ≡ []) × (table.has_all_room ≡ true) }
         requires queue { state.queue.capacity ≡ Some table.limit }
@@ -103,19 +103,20 @@ where
     /// Hands the executor a future. Its task is queued, and the handle is answered: a future with the output, whose drop
     /// cancels the task.
     ///
-    /// 1. Under the table's lock: accepts the future, or refuses it. `Full` where as many accepted futures as the limit are
-    ///    not dropped yet, and only then want of memory for the task. The future comes back.
-    /// 2. Once the lock is given back: hands the Runnable to the queue, and tells a sleeper.
+    /// 1. Closes what was let go of tasks in its realm.
+    /// 2. Under the table's lock: accepts the future, or refuses it. `Full` where as many accepted futures as the
+    ///    limit are not dropped yet, and only then want of memory for the task. The future comes back.
+    /// 3. Once the lock is given back: hands the Runnable to the queue, and tells a sleeper.
     pub fn spawn(&self, future: F) -> Result<ExTask<T, W, R>, SpawnError<F>>
         ensures future { IfErr result (λ error. refused error ≡ future) }
         ensures here { IfOk result (λ task. task.identity.realm ≡ self.now.realm.now.number) }
     {
+        close_returned(self.rt, self.realm);
         let schedule = ExQueue::new(self.rt, share(self.rt, &self.state));
         let mut call = Call::begin();
         let accepted = accept(
             &mut *self.table.lock(&self.rt),
             self.rt,
-            self.alloc,
             self.realm,
             &mut call,
             schedule,
@@ -175,6 +176,7 @@ where
     /// 3. Closes the queue.
     /// 4. Takes from the queue until nothing is left, and drops each Runnable: each task is closed, and who awaits it is
     ///    called. A Runnable that a wake in progress still has comes back from the closed queue, and is dropped there.
+    /// 5. Closes what was let go of tasks in its realm.
     ///
     /// It takes no memory.
     fn drop(self) {
@@ -193,6 +195,7 @@ where
         let mut call = Call::begin();
         state.close(&rt, &mut call);
         drain(rt, realm, &state, call);
+        close_returned(rt, realm);
     }
 }
 
@@ -220,8 +223,8 @@ where
 fn drop_futures<F, T, W, R>(
     rt: R,
     realm: &'static ExRealm<T, W, R>,
-    table: Places<F, StoredWaker>,
-    leaving: &mut Vec<StoredWaker>,
+    table: Places<F, Returning<StoredWaker>>,
+    leaving: &mut Vec<Returning<StoredWaker>>,
 )
 where
     F: Drop,

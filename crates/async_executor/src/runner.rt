@@ -11,7 +11,7 @@ use crate::names::ExRealm;
 use crate::own_queues::{OwnQueues, RunRoom};
 use crate::state::{OWN_PLACES, Queue, State, take};
 use crate::steal::steal;
-use async_task::{NoMemory, StoredRunnable, Wake};
+use async_task::{GoesBack, NoMemory, StoredRunnable, Wake};
 use concurrent_queue::ConcurrentQueue;
 use rand_core::{Rng, SeedableRng};
 use rand_xoshiro::Xoshiro256PlusPlus;
@@ -214,9 +214,8 @@ impl Runner {
             if listed.number == self.room.number() {
                 continue;
             }
-            let refused = steal(rt, &listed.queue, &self.own);
-            if refused.is_some() {
-                return (None, refused);
+            if let Some(refused) = steal(rt, &listed.queue, &self.own) {
+                return (None, Some(refused));
             }
             if let Some(runnable) = take(&self.own, rt, call) {
                 return (Some(runnable), None);
@@ -243,7 +242,7 @@ fn list_in<Q: Drop>(
     inserted
 }
 
-/// Drops a Runnable that came back from a full queue, where one did.
+/// Closes a Runnable that came back from a full queue, where one did.
 fn drop_refused<T, W, R>(rt: R, realm: &'static ExRealm<T, W, R>, refused: Option<StoredRunnable>)
 where
     T: Drop + 'static,
@@ -251,8 +250,9 @@ where
     R: Wait + Copy + Drop + 'static,
 {
     if let Some(stored) = refused {
-        if let Some(runnable) = stored.redeem(rt, realm) {
-            pay(rt, runnable.close());
+        match stored.close(rt, realm) {
+            Ok(due) => pay(rt, due),
+            Err(stored) => stored.go_back(),
         }
     }
 }

@@ -3,14 +3,14 @@ ghost use Rattle.async_executor.specs.Copies.{IsCopyOf};
 
 use crate::call::Call;
 use crate::names::{ExDue, ExRealm, ExWaker};
-use async_task::{Awaiter, StoredWaker, Wake};
+use async_task::{Awaiter, Returning, StoredWaker, Wake};
 use std::sync::Wait;
 
 /// The waker of a tick or run that sleeps.
 #[derive(Drop)]
 pub enum SleeperWaker<W> {
     /// Of a task of the executor's realm.
-    Task(StoredWaker),
+    Task(Returning<StoredWaker>),
     /// From outside.
     Outside(W),
 }
@@ -37,7 +37,7 @@ impl<W: Wake + Drop + 'static> SleeperWaker<W> {
     {
         match waker {
             Awaiter::Task(waker) => match waker.clone() {
-                Some(copy) => Some(SleeperWaker::Task(copy.store())),
+                Some(copy) => Some(SleeperWaker::Task(Returning::new(copy.store()))),
                 None => None,
             },
             Awaiter::Outside(waker) => match waker.clone() {

@@ -7,9 +7,8 @@ use crate::call::Call;
 use crate::errors::SpawnError;
 use crate::names::{ExRealm, ExRunnable, ExTask};
 use crate::queue::ExQueue;
-use async_task::{StoredWaker, Wake, spawn};
+use async_task::{Returning, StoredWaker, Wake, spawn};
 use executor_parts::{Place, Places, SpawnRefused};
-use std::alloc::Global;
 use std::sync::Wait;
 
 /// Accepts a future: what a spawn does under the table's lock.
@@ -18,9 +17,8 @@ use std::sync::Wait;
 /// 2. Makes the task's cell, which has the number of the future's place. Without memory for it, the place is given back.
 /// 3. Enters the future, with a waker of the task.
 pub fn accept<F, T, W, R>(
-    table: &mut Places<F, StoredWaker>,
+    table: &mut Places<F, Returning<StoredWaker>>,
     rt: R,
-    alloc: Global,
     realm: &'static ExRealm<T, W, R>,
     call: &mut Call,
     schedule: ExQueue<T, W, R>,
@@ -47,9 +45,9 @@ where
             return Err(because(refused, future));
         }
     };
-    match made(rt, alloc, realm, schedule, vacancy.place()) {
+    match made(rt, realm, schedule, vacancy.place()) {
         Some((runnable, task, waker)) => {
-            table.enter(vacancy, future, waker);
+            table.enter(vacancy, future, Returning::new(waker));
             call.accept(true);
             Ok((runnable, task))
         }
@@ -74,7 +72,6 @@ fn because<F>(refused: SpawnRefused, future: F) -> SpawnError<F>
 /// A task whose future is at this place, with its handle and a waker for the table.
 fn made<T, W, R>(
     rt: R,
-    alloc: Global,
     realm: &'static ExRealm<T, W, R>,
     schedule: ExQueue<T, W, R>,
     place: Place,
@@ -87,7 +84,7 @@ where
     ensures here { IfSome result (λ made. made.0.identity.realm ≡ realm.now.number) }
     ensures waker { IfSome result (λ made. made.2.identity ≡ made.1.identity) }
 {
-    match spawn(rt, alloc, realm, place, schedule) {
+    match spawn(rt, realm, place, schedule) {
         Ok((runnable, task)) => match runnable.waker() {
             Some(waker) => Some((runnable, task, waker.store())),
             None => None,

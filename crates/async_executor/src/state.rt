@@ -9,7 +9,7 @@ use crate::names::{ExDue, ExRealm, ExScheduled};
 use crate::own_queues::OwnQueues;
 use crate::sleeping::SleeperWaker;
 use crate::ticker::Risen;
-use async_task::{NoMemory, StoredRunnable, Wake};
+use async_task::{GoesBack, NoMemory, Returning, StoredRunnable, Wake};
 use concurrent_queue::ConcurrentQueue;
 use executor_parts::Sleepers;
 use std::alloc::Global;
@@ -20,7 +20,7 @@ use std::sync::{Arc, Mutex, RwLock, Wait};
 pub const OWN_PLACES: usize = 512;
 
 /// A queue of Runnables.
-pub type Queue = ConcurrentQueue<StoredRunnable>;
+pub type Queue = ConcurrentQueue<Returning<StoredRunnable>>;
 
 /// The queues, and who sleeps.
 #[derive(Drop)]
@@ -69,7 +69,7 @@ impl<W: Drop> State<W> {
         match self.queue.pop(rt) {
             Ok(runnable) => {
                 call.look(true);
-                Some(runnable)
+                Some(runnable.into_inner())
             }
             Err(_) => {
                 call.look(false);
@@ -90,14 +90,14 @@ impl<W: Drop> State<W> {
         ensures back { IfErr result (λ back. back ≡ runnable) }
         ensures closed { IfErr result (λ _. call.new ≡ record call.old { is_new = false; closed = true }) }
     {
-        match self.queue.push(rt, runnable) {
+        match self.queue.push(rt, Returning::new(runnable)) {
             Ok(()) => {
                 call.append();
                 Ok(())
             }
             Err(refused) => {
                 call.find_closed();
-                Err(refused.into_inner())
+                Err(refused.into_inner().into_inner())
             }
         }
     }
@@ -165,7 +165,7 @@ pub fn take<R: Wait>(queue: &Queue, rt: &R, call: &mut Call) -> Option<StoredRun
     match queue.pop(rt) {
         Ok(runnable) => {
             call.take(true);
-            Some(runnable)
+            Some(runnable.into_inner())
         }
         Err(_) => {
             call.take(false);
@@ -206,13 +206,17 @@ where
     ensures { call.new ≡ record call.old { holds = false; found = false; owes = false } }
 {
     call.close();
-    match runnable.redeem(rt, realm) {
-        Some(runnable) => runnable.close(),
-        None => None,
+    match runnable.close(rt, realm) {
+        Ok(due) => due,
+        Err(runnable) => {
+            runnable.go_back();
+            None
+        }
     }
 }
 
-/// The Runnable in hand, of its number. Where that is of another realm, nothing is in hand any more.
+/// The Runnable in hand, of its place. Where that is of another realm it goes back there, and nothing is in hand any
+/// more.
 pub fn redeem<T, W, R>(
     rt: R,
     realm: &'static ExRealm<T, W, R>,
@@ -229,8 +233,9 @@ where
     ensures task { IfSome result (λ found. found.identity ≡ runnable.identity) }
 {
     match runnable.redeem(rt, realm) {
-        Some(found) => Some(found),
-        None => {
+        Ok(found) => Some(found),
+        Err(runnable) => {
+            runnable.go_back();
             call.miss();
             None
         }

@@ -3,3 +3,5 @@ pub mod Awaiters
 pub mod Runs
 pub mod Due
 pub mod Rests
+pub mod Errors
+pub mod Slots

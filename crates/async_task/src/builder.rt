@@ -5,7 +5,6 @@ use crate::runnable::Runnable;
 use crate::schedule::Schedule;
 use crate::task::Task;
 use crate::wake::Wake;
-use std::alloc::Global;
 use std::sync::Wait;
 
 /// Makes tasks with metadata.
@@ -42,7 +41,6 @@ impl<M> Builder<M> {
     pub fn spawn<F, T, S, W, R>(
         self,
         rt: R,
-        alloc: Global,
         realm: &'static Realm<F, T, S, M, W>,
         future: F,
         schedule: S,
@@ -51,7 +49,7 @@ impl<M> Builder<M> {
         F: Drop + 'static,
         T: Drop + 'static,
         S: Schedule<Scheduled<F, T, S, M, W, R>> + Drop + 'static,
-        M: Drop + 'static,
+        M: Copy + Drop + 'static,
         W: Wake + Drop + 'static,
         R: Wait + Copy + Drop,
         ensures one_task { IfOk result (λ both. both.0 ≡ both.1) }
@@ -66,14 +64,18 @@ impl<M> Builder<M> {
             schedule,
             metadata: self.metadata,
         };
-        match Held::new(rt, alloc, realm, parts) {
+        match Held::new(rt, realm, parts) {
             Ok(made) => {
-                let Made { held, token } = made;
+                let Made {
+                    held,
+                    token,
+                    parked,
+                } = made;
                 let runnable = Runnable {
                     held: held.share(),
                     token,
                 };
-                Ok((runnable, Task::of(held)))
+                Ok((runnable, Task::of(held, parked)))
             }
             Err(parts) => Err(parts),
         }
@@ -84,7 +86,6 @@ impl<M> Builder<M> {
 /// memory the future and the schedule value come back.
 pub fn spawn<F, T, S, W, R>(
     rt: R,
-    alloc: Global,
     realm: &'static Realm<F, T, S, (), W>,
     future: F,
     schedule: S,
@@ -100,5 +101,5 @@ where
     ensures future { IfErr result (λ back. back.future ≡ future) }
     ensures schedule { IfErr result (λ back. back.schedule ≡ schedule) }
 {
-    Builder::new().spawn(rt, alloc, realm, future, schedule)
+    Builder::new().spawn(rt, realm, future, schedule)
 }

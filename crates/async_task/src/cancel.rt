@@ -1,6 +1,6 @@
-ghost use Rattle.std.specs.Prelude.{◌≡◌};
+ghost use Rattle.std.specs.Prelude.{◌≡◌, false, true};
 
-use crate::cell::{Held, Scheduled};
+use crate::cell::{Cancelled, Held, Parked, Scheduled};
 use crate::errors::NoMemory;
 use crate::fallible::found;
 use crate::poll::{Future, Poll};
@@ -19,12 +19,14 @@ where
     F: Drop + 'static,
     T: Drop + 'static,
     S: Schedule<Scheduled<F, T, S, M, W, R>> + Drop + 'static,
-    M: Drop + 'static,
+    M: Copy + Drop + 'static,
     W: Wake + Drop + 'static,
     R: Wait + Copy + Drop,
 {
-    pub(crate) held: Held<F, T, S, M, W, R>,
-    pub(crate) is_cancelled: bool,
+    held: Held<F, T, S, M, W, R>,
+    parked: Parked,
+    /// That it was cancelled, once it is.
+    cancelled: Option<Cancelled>,
 }
 
 impl<F, T, S, M, W, R> Model for Cancel<F, T, S, M, W, R>
@@ -32,15 +34,38 @@ where
     F: Drop + 'static,
     T: Drop + 'static,
     S: Schedule<Scheduled<F, T, S, M, W, R>> + Drop + 'static,
-    M: Drop + 'static,
+    M: Copy + Drop + 'static,
     W: Wake + Drop + 'static,
     R: Wait + Copy + Drop,
 {
-    ghost use Rattle.async_task.specs.Handles.{Handle};
+    ghost use Rattle.std.specs.Prelude.{is_some};
+    ghost use Rattle.async_task.specs.Handles.{Cancelling};
 
-    ghost Value = { Handle M };
+    ghost Value = { Cancelling M };
 
-    ghost view = { λ h. h.held };
+    ghost view = { λ c. record { task = c.held; is_cancelled = is_some c.cancelled } };
+}
+
+impl<F, T, S, M, W, R> Cancel<F, T, S, M, W, R>
+where
+    F: Drop + 'static,
+    T: Drop + 'static,
+    S: Schedule<Scheduled<F, T, S, M, W, R>> + Drop + 'static,
+    M: Copy + Drop + 'static,
+    W: Wake + Drop + 'static,
+    R: Wait + Copy + Drop,
+{
+    /// What closes the task of this handle.
+    pub(crate) fn of(held: Held<F, T, S, M, W, R>, parked: Parked) -> Self
+        ensures task { result.task ≡ held }
+        ensures open { result.is_cancelled ≡ false }
+    {
+        Cancel {
+            held,
+            parked,
+            cancelled: None,
+        }
+    }
 }
 
 impl<F, T, S, M, W, R> Future<Awaiter<F, T, S, M, W, R>> for Cancel<F, T, S, M, W, R>
@@ -48,18 +73,20 @@ where
     F: Drop + 'static,
     T: Drop + 'static,
     S: Schedule<Scheduled<F, T, S, M, W, R>> + Drop + 'static,
-    M: Drop + 'static,
+    M: Copy + Drop + 'static,
     W: Wake + Drop + 'static,
     R: Wait + Copy + Drop,
 {
     type Output = Result<Option<T>, NoMemory>;
 
-    fn poll(&mut self, waker: &Awaiter<F, T, S, M, W, R>) -> Poll<Result<Option<T>, NoMemory>> {
-        if !self.is_cancelled {
-            self.is_cancelled = true;
-            self.held.cancel();
+    fn poll(&mut self, waker: &Awaiter<F, T, S, M, W, R>) -> Poll<Result<Option<T>, NoMemory>>
+        ensures task { self.new.task ≡ self.old.task }
+        ensures cancelled { self.new.is_cancelled ≡ true }
+    {
+        if self.cancelled.is_none() {
+            self.cancelled = Some(self.held.cancel(&mut self.parked));
         }
-        found(poll(&self.held, waker))
+        found(poll(&self.held, &mut self.parked, waker))
     }
 }
 
@@ -68,16 +95,17 @@ where
     F: Drop + 'static,
     T: Drop + 'static,
     S: Schedule<Scheduled<F, T, S, M, W, R>> + Drop + 'static,
-    M: Drop + 'static,
+    M: Copy + Drop + 'static,
     W: Wake + Drop + 'static,
     R: Wait + Copy + Drop,
 {
     fn drop(self) {
         let Self {
             held,
-            is_cancelled: _,
+            mut parked,
+            cancelled: _,
         } = self;
-        held.cancel();
-        held.detach();
+        held.cancel(&mut parked);
+        held.detach(parked);
     }
 }

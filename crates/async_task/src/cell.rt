@@ -1,19 +1,31 @@
 //! The cell that all handles of one task share, and the way of a handle to it.
 ghost use Rattle.std.specs.Prelude.{◌≡◌, IfErr};
-ghost use Rattle.std.specs.Arc.{arc_value};
+ghost use Rattle.async_task.specs.Slots.{CanRead};
 
 mod calls;
+mod fixed;
 mod paying;
+mod resting;
+mod returning;
 mod scheduled;
 mod turns;
 
+use crate::cell::fixed::{Claimed, Fixed, Slot, claim, end, leave, no_task_s, read};
 pub(crate) use crate::cell::paying::pay_due;
+use crate::cell::resting::park;
+pub(crate) use crate::cell::resting::{
+    Cancelled, KeptWaker, Lost, Lot, Parked, Thing, kept, put_back,
+};
+pub use crate::cell::returning::{GoesBack, Returning, close_returned};
+pub(crate) use crate::cell::scheduled::find_with;
 pub use crate::cell::scheduled::{Due, Scheduled, StoredRunnable, StoredWaker};
 pub(crate) use crate::cell::turns::{Remains, Rest, Woken, paid, was_woken};
-use crate::realm::{Cells, Vacant, share};
-use std::alloc::{AllocError, AllocFailed, Global};
+use crate::realm::{Cells, Vacant};
+use crate::stored_task::StoredTask;
+use counted_slot::{FREE, PRESENT, TAKEN};
+use std::alloc::{AllocError, Global};
 use std::marker::Model;
-use std::sync::{Arc, Mutex, Wait};
+use std::sync::Wait;
 use task_word::tokens;
 
 /// A task's state as a word, with its future, output and awaiter in slots beside it.
@@ -33,24 +45,16 @@ pub(crate) type TaskToken<F, T, W> = tokens::Task<F, T, Kept<W>>;
 #[derive(Drop)]
 pub struct Cell<F, T, S, M, W> {
     word: Word<F, T, W>,
-    /// It isn't there while there is no task.
-    fixed: Mutex<Option<Arc<Fixed<S, M>, Global>>>,
+    fixed: Slot<S, M>,
 }
 
-impl<F: Drop, T: Drop, S, M, W: Drop> Vacant for Cell<F, T, S, M, W> {
+impl<F: Drop, T: Drop, S: Drop, M: Drop, W: Drop> Vacant for Cell<F, T, S, M, W> {
     fn vacant(alloc: Global) -> Result<Self, AllocError> {
         Ok(Cell {
             word: task_word::Cell::new(alloc)?,
-            fixed: Mutex::new(None),
+            fixed: no_task_s(),
         })
     }
-}
-
-/// What never changes of a task.
-#[derive(Drop)]
-pub(crate) struct Fixed<S, M> {
-    schedule: S,
-    metadata: M,
 }
 
 /// Where the cells of tasks of these types lie: futures `F` with outputs `T`, schedule values `S`,
@@ -67,8 +71,8 @@ pub struct Identity {
 /// A waker as a cell keeps it.
 #[derive(Drop)]
 pub enum Kept<W> {
-    /// Of a task of the same realm, at this place, in whose cell one of its references rests.
-    Task(usize),
+    /// Of a task of the same realm, in whose cell one of its references rests.
+    Task(KeptWaker),
     /// From outside.
     Outside(W),
     /// None: a waker of a task of another realm couldn't be found from here, and is called at
@@ -76,26 +80,26 @@ pub enum Kept<W> {
     Nothing,
 }
 
-/// A way to one task's cell. What it stands for (the handle, a waker, a Runnable, a run) is a token beside it.
+/// A way to one task's cell, with its metadata. What it stands for (the handle, a waker, a Runnable, a run) is a token
+/// beside it.
 #[derive(Drop)]
 pub struct Held<F: 'static, T: 'static, S: 'static, M: 'static, W: 'static, R> {
     realm: &'static Realm<F, T, S, M, W>,
     cell: &'static Cell<F, T, S, M, W>,
-    fixed: Arc<Fixed<S, M>, Global>,
     place: usize,
+    metadata: M,
     rt: R,
 }
 
 impl<F: 'static, T: 'static, S: 'static, M: 'static, W: 'static, R> Model
     for Held<F, T, S, M, W, R> {
-    ghost use Rattle.std.specs.Arc.{arc_value};
     ghost use Rattle.async_task.specs.Handles.{Handle};
 
     ghost Value = { Handle M };
 
     ghost view = { λ h. record {
       identity = record { realm = h.realm.now.number; place = h.place };
-      metadata = (arc_value h.fixed).metadata;
+      metadata = h.metadata;
     } };
 }
 
@@ -107,17 +111,19 @@ pub struct Parts<F, S, M> {
     pub metadata: M,
 }
 
-/// A new task: the way to it, and its Runnable. Its handle rests in the cell.
+/// A new task: the way to it, its Runnable, and its handle, which rests in the cell.
 pub(crate) struct Made<F: 'static, T: 'static, S: 'static, M: 'static, W: 'static, R> {
     pub held: Held<F, T, S, M, W, R>,
     pub token: RunnableToken<F, T, W>,
+    pub parked: Parked,
 }
 
-/// Where a new task lies, and its Runnable. Its handle rests in the cell.
+/// Where a new task lies, its Runnable, and its handle, which rests in the cell.
 struct Spot<F: 'static, T: 'static, S: 'static, M: 'static, W: 'static> {
     place: usize,
     cell: &'static Cell<F, T, S, M, W>,
     token: RunnableToken<F, T, W>,
+    parked: Parked,
 }
 
 impl<F, T, S, M, W, R> Held<F, T, S, M, W, R>
@@ -125,7 +131,7 @@ where
     F: Drop + 'static,
     T: Drop + 'static,
     S: Drop + 'static,
-    M: Drop + 'static,
+    M: Copy + Drop + 'static,
     W: Drop + 'static,
     R: Wait + Copy + Drop,
 {
@@ -134,7 +140,6 @@ where
     /// A new task, to be run. For want of memory everything comes back.
     pub(crate) fn new(
         rt: R,
-        alloc: Global,
         realm: &'static Realm<F, T, S, M, W>,
         parts: Parts<F, S, M>,
     ) -> Result<Made<F, T, S, M, W, R>, Parts<F, S, M>>
@@ -142,36 +147,23 @@ where
         ensures here { IfOk result (λ made. made.held.identity.realm ≡ realm.now.number) }
         ensures refused { IfErr result (λ back. back ≡ parts) }
     {
-        let Parts {
-            future,
-            schedule,
-            metadata,
-        } = parts;
-        match Arc::new(alloc, Fixed { schedule, metadata }) {
-            Ok(fixed) => match make(&rt, realm, future) {
-                Ok(spot) => {
-                    let Spot { place, cell, token } = spot;
-                    keep(&rt, cell, &fixed);
-                    let held = Held::of(rt, realm, place, cell, fixed);
-                    Ok(Made { held, token })
-                }
-                Err(future) => {
-                    let Fixed { schedule, metadata } = unshared(&rt, fixed);
-                    Err(Parts {
-                        future,
-                        schedule,
-                        metadata,
-                    })
-                }
-            },
-            Err(AllocFailed { value: fixed }) => {
-                let Fixed { schedule, metadata } = fixed;
-                Err(Parts {
-                    future,
-                    schedule,
-                    metadata,
+        let metadata = parts.metadata;
+        match make(&rt, realm, parts) {
+            Ok(spot) => {
+                let Spot {
+                    place,
+                    cell,
+                    token,
+                    parked,
+                } = spot;
+                let held = Held::of(rt, realm, place, cell, metadata);
+                Ok(Made {
+                    held,
+                    token,
+                    parked,
                 })
             }
+            Err(parts) => Err(parts),
         }
     }
 
@@ -181,16 +173,16 @@ where
         realm: &'static Realm<F, T, S, M, W>,
         place: usize,
         cell: &'static Cell<F, T, S, M, W>,
-        fixed: Arc<Fixed<S, M>, Global>,
+        metadata: M,
     ) -> Self
         ensures place { result.identity ≡ record { realm = realm.now.number; place = place } }
-        ensures metadata { result.metadata ≡ (arc_value fixed).metadata }
+        ensures metadata { result.metadata ≡ metadata }
     {
         Held {
             realm,
             cell,
-            fixed,
             place,
+            metadata,
             rt,
         }
     }
@@ -202,24 +194,60 @@ where
         Held {
             realm: self.realm,
             cell: self.cell,
-            fixed: share(&self.rt, &self.fixed),
             place: self.place,
+            metadata: self.metadata,
             rt: self.rt,
         }
     }
 
-    /// The way to the task at this place.
+    /// The way to the task at this place, which has this metadata.
+    pub fn at(
+        rt: R,
+        realm: &'static Realm<F, T, S, M, W>,
+        place: usize,
+        metadata: M,
+    ) -> Option<Self>
+        ensures place { IfSome result
+            (λ held. held.identity ≡ record { realm = realm.now.number; place = place }) }
+        ensures metadata { IfSome result (λ held. held.metadata ≡ metadata) }
+    {
+        match realm.lasting(place) {
+            Some(cell) => Some(Held::of(rt, realm, place, cell, metadata)),
+            None => None,
+        }
+    }
+
+    /// The way to the task at this place, with the metadata that lie there.
     pub fn find(rt: R, realm: &'static Realm<F, T, S, M, W>, place: usize) -> Option<Self>
         ensures { IfSome result
             (λ held. held.identity ≡ record { realm = realm.now.number; place = place }) }
     {
         match realm.lasting(place) {
-            Some(cell) => match fixed_of(&rt, cell) {
-                Some(fixed) => Some(Held::of(rt, realm, place, cell, fixed)),
+            Some(cell) => match claim(&rt, &cell.fixed) {
+                Some(claim) => {
+                    let held = Held::of(rt, realm, place, cell, read(&claim).metadata);
+                    held.leave_slot(claim);
+                    Some(held)
+                }
                 None => None,
             },
             None => None,
         }
+    }
+
+    /// The handle for a list.
+    pub(crate) fn stored_task(&self, parked: Parked) -> StoredTask<M>
+        ensures { result ≡ self.now }
+    {
+        let realm = self.realm;
+        StoredTask::at(&realm.returns, self.place, self.metadata, parked)
+    }
+
+    /// Where the task lies.
+    pub fn realm(&self) -> &'static Realm<F, T, S, M, W>
+        ensures { result.now.number ≡ self.now.identity.realm }
+    {
+        self.realm
     }
 
     /// Which task it is.
@@ -235,117 +263,107 @@ where
         self.rt
     }
 
-    /// The schedule value that the task was made with.
-    pub fn schedule(&self) -> &S {
-        &self.fixed.schedule
-    }
-
     /// The metadata that the task was made with.
     pub fn metadata(&self) -> &M
         ensures { result.now ≡ self.now.metadata }
     {
-        &self.fixed.metadata
+        &self.metadata
     }
 
-    /// The task is gone: its place is free.
+    /// The task is gone: its place is free, once nobody reads there any more.
     pub(crate) fn empty(&self) {
-        forget(&self.rt, self.cell);
-        self.realm.release(self.place);
+        if end(&self.rt, &self.cell.fixed) {
+            self.realm.release(self.place);
+        }
+    }
+
+    /// Ends a read of what never changes of the task.
+    fn leave_slot(&self, claim: Claimed<'_, S, M>)
+        requires { CanRead claim }
+    {
+        if leave(&self.cell.fixed, claim) {
+            self.realm.release(self.place);
+        }
     }
 }
 
-/// A new task in a cell that nobody has. One that isn't empty, as its place was taken for a free one, is passed over. The future
+/// A new task in a cell that nobody has. One that isn't empty, as its place was taken for a free one, is passed over. All
 /// comes back where there is no place.
 fn make<F, T, S, M, W, R>(
     rt: &R,
     realm: &'static Realm<F, T, S, M, W>,
-    future: F,
-) -> Result<Spot<F, T, S, M, W>, F>
+    parts: Parts<F, S, M>,
+) -> Result<Spot<F, T, S, M, W>, Parts<F, S, M>>
 where
     F: Drop + 'static,
     T: Drop + 'static,
     S: Drop + 'static,
-    M: Drop + 'static,
+    M: Copy + Drop + 'static,
     W: Drop + 'static,
     R: Wait,
-    ensures { IfErr result (λ back. back ≡ future) }
+    ensures { IfErr result (λ back. back ≡ parts) }
 {
-    let mut future = future;
+    let mut parts = parts;
     for _ in rt.forever() {
         let Some(place) = realm.vacancy() else {
-            return Err(future);
+            return Err(parts);
         };
         let Some(cell) = realm.lasting(place) else {
-            return Err(future);
+            return Err(parts);
         };
-        match cell.word.make(rt, future) {
-            Ok((token, task)) => {
-                task.park();
-                return Ok(Spot { place, cell, token });
+        match fill(rt, cell, parts) {
+            Ok((token, parked)) => {
+                return Ok(Spot {
+                    place,
+                    cell,
+                    token,
+                    parked,
+                });
             }
-            Err((back, _)) => future = back,
+            Err(back) => parts = back,
         }
     }
     unreachable!()
 }
 
-/// What never changes of the task in this cell.
-fn fixed_of<F, T, S, M, W, R>(
+/// A new task in this cell, where it is empty; else all comes back.
+fn fill<F, T, S, M, W, R>(
     rt: &R,
-    cell: &Cell<F, T, S, M, W>,
-) -> Option<Arc<Fixed<S, M>, Global>>
+    cell: &'static Cell<F, T, S, M, W>,
+    parts: Parts<F, S, M>,
+) -> Result<(RunnableToken<F, T, W>, Parked), Parts<F, S, M>>
 where
-    F: Drop,
-    T: Drop,
-    S: Drop,
-    M: Drop,
-    W: Drop,
+    F: Drop + 'static,
+    T: Drop + 'static,
+    S: Drop + 'static,
+    M: Copy + Drop + 'static,
+    W: Drop + 'static,
     R: Wait,
+    ensures { IfErr result (λ back. back ≡ parts) }
 {
-    let kept = cell.fixed.lock(rt);
-    match kept.as_ref() {
-        Some(fixed) => Some(share(rt, fixed)),
-        None => None,
+    let (found, claim) = cell.fixed.turn(FREE, TAKEN);
+    if found != FREE {
+        claim.done();
+        return Err(parts);
     }
-}
-
-/// Keeps in a cell what never changes of its task.
-fn keep<F, T, S, M, W, R>(rt: &R, cell: &Cell<F, T, S, M, W>, fixed: &Arc<Fixed<S, M>, Global>)
-where
-    F: Drop,
-    T: Drop,
-    S: Drop,
-    M: Drop,
-    W: Drop,
-    R: Wait,
-{
-    *cell.fixed.lock(rt) = Some(share(rt, fixed));
-}
-
-/// Lets that go, once the task is gone.
-fn forget<F, T, S, M, W, R>(rt: &R, cell: &Cell<F, T, S, M, W>)
-where
-    F: Drop,
-    T: Drop,
-    S: Drop,
-    M: Drop,
-    W: Drop,
-    R: Wait,
-{
-    let fixed = cell.fixed.lock(rt).take();
-    drop(fixed);
-}
-
-/// What has this owner alone.
-fn unshared<X: Drop, R: Wait>(rt: &R, shared: Arc<X, Global>) -> X
-    ensures { result ≡ arc_value shared }
-{
-    let mut shared = shared;
-    for _ in rt.forever() {
-        match Arc::try_unwrap(shared) {
-            Ok(value) => return value,
-            Err(back) => shared = back,
+    let Parts {
+        future,
+        schedule,
+        metadata,
+    } = parts;
+    match cell.word.make(rt, future) {
+        Ok((token, task)) => {
+            let parked = park(task);
+            drop(claim.put(Some(Fixed { schedule, metadata }), PRESENT));
+            Ok((token, parked))
+        }
+        Err((future, _)) => {
+            drop(claim.put(None, FREE));
+            Err(Parts {
+                future,
+                schedule,
+                metadata,
+            })
         }
     }
-    unreachable!()
 }

@@ -1,9 +1,10 @@
 //! What `Debug` shows of the handles: the marks of the task at one moment, how many references it
-//! has, and its metadata.
-use crate::cell::{Held, Scheduled};
+//! has, and its metadata; and of what rests in a cell: of which task it is.
+use crate::cell::{GoesBack, Held, Returning, Scheduled, StoredRunnable, StoredWaker};
 use crate::fallible::FallibleTask;
 use crate::runnable::Runnable;
 use crate::schedule::Schedule;
+use crate::stored_task::StoredTask;
 use crate::task::Task;
 use crate::wake::Wake;
 use std::fmt;
@@ -18,7 +19,7 @@ where
     F: Drop + 'static,
     T: Drop + 'static,
     S: Drop + 'static,
-    M: fmt::Debug + Drop + 'static,
+    M: Copy + fmt::Debug + Drop + 'static,
     W: Drop + 'static,
     R: Wait + Copy + Drop,
     D: fmt::Write,
@@ -41,7 +42,7 @@ where
     F: Drop + 'static,
     T: Drop + 'static,
     S: Schedule<Scheduled<F, T, S, M, W, R>> + Drop + 'static,
-    M: fmt::Debug + Drop + 'static,
+    M: Copy + fmt::Debug + Drop + 'static,
     W: Wake + Drop + 'static,
     R: Wait + Copy + Drop,
 {
@@ -55,7 +56,7 @@ where
     F: Drop + 'static,
     T: Drop + 'static,
     S: Schedule<Scheduled<F, T, S, M, W, R>> + Drop + 'static,
-    M: fmt::Debug + Drop + 'static,
+    M: Copy + fmt::Debug + Drop + 'static,
     W: Wake + Drop + 'static,
     R: Wait + Copy + Drop,
 {
@@ -69,11 +70,41 @@ where
     F: Drop + 'static,
     T: Drop + 'static,
     S: Schedule<Scheduled<F, T, S, M, W, R>> + Drop + 'static,
-    M: fmt::Debug + Drop + 'static,
+    M: Copy + fmt::Debug + Drop + 'static,
     W: Wake + Drop + 'static,
     R: Wait + Copy + Drop,
 {
     fn fmt<D: fmt::Write>(&self, f: &mut fmt::Formatter<D>) -> fmt::Result {
         show("FallibleTask", &self.held, f)
+    }
+}
+
+impl<M> fmt::Debug for StoredRunnable<M> {
+    fn fmt<D: fmt::Write>(&self, f: &mut fmt::Formatter<D>) -> fmt::Result {
+        f.debug_struct("StoredRunnable")
+            .field("identity", &self.identity())
+            .finish()
+    }
+}
+
+impl fmt::Debug for StoredWaker {
+    fn fmt<D: fmt::Write>(&self, f: &mut fmt::Formatter<D>) -> fmt::Result {
+        f.debug_struct("StoredWaker")
+            .field("identity", &self.identity())
+            .finish()
+    }
+}
+
+impl<M> fmt::Debug for StoredTask<M> {
+    fn fmt<D: fmt::Write>(&self, f: &mut fmt::Formatter<D>) -> fmt::Result {
+        f.debug_struct("StoredTask")
+            .field("identity", &self.identity())
+            .finish()
+    }
+}
+
+impl<X: GoesBack + fmt::Debug> fmt::Debug for Returning<X> {
+    fn fmt<D: fmt::Write>(&self, f: &mut fmt::Formatter<D>) -> fmt::Result {
+        f.debug_tuple("Returning").field(self.inner()).finish()
     }
 }

@@ -1,8 +1,10 @@
 ghost use Rattle.std.specs.IoError.{error_kind};
 ghost use Rattle.std.specs.declared.io.ErrorKind.TheVariants.{OutOfMemory};
 ghost use Rattle.std.specs.Prelude.{◌≡◌};
+ghost use Rattle.async_task.specs.declared.errors.RealmError.TheVariants as realm;
 
 use std::io::{self, ErrorKind};
+use thiserror::Error;
 
 /// Memory was wanted, and there was none.
 #[derive(Clone, Copy, Debug, PartialEq, Eq, Drop)]
@@ -14,5 +16,37 @@ impl From<NoMemory> for io::Error {
 
     fn from(_error: NoMemory) -> io::Error {
         ErrorKind::OutOfMemory.into()
+    }
+}
+
+/// Why there is no new realm.
+#[derive(Clone, Copy, Debug, PartialEq, Eq, Drop, Error)]
+pub enum RealmError {
+    #[error("out of memory")]
+    NoMemory,
+    /// The system gave no random bytes, of which a realm has its number.
+    #[error("no random number")]
+    NoRandom,
+}
+
+impl From<NoMemory> for RealmError {
+    ghost from_gives = { λ _ error. error ≡ realm.NoMemory };
+
+    fn from(_error: NoMemory) -> RealmError {
+        RealmError::NoMemory
+    }
+}
+
+/// So that `?` takes it to an `io::Result`.
+impl From<RealmError> for io::Error {
+    ghost use Rattle.async_task.specs.Errors.{kind_of};
+
+    ghost from_gives = { λ why error. error_kind error ≡ kind_of why };
+
+    fn from(error: RealmError) -> io::Error {
+        match error {
+            RealmError::NoMemory => ErrorKind::OutOfMemory.into(),
+            RealmError::NoRandom => ErrorKind::Other.into(),
+        }
     }
 }

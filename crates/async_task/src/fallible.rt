@@ -1,7 +1,7 @@
-ghost use Rattle.std.specs.Prelude.{◌≡◌};
+ghost use Rattle.std.specs.Prelude.{◌≡◌, false};
 
 use crate::cancel::Cancel;
-use crate::cell::{Held, Scheduled};
+use crate::cell::{Held, Parked, Scheduled};
 use crate::errors::NoMemory;
 use crate::poll::{Future, Poll};
 use crate::polling::{Found, poll};
@@ -18,11 +18,12 @@ where
     F: Drop + 'static,
     T: Drop + 'static,
     S: Schedule<Scheduled<F, T, S, M, W, R>> + Drop + 'static,
-    M: Drop + 'static,
+    M: Copy + Drop + 'static,
     W: Wake + Drop + 'static,
     R: Wait + Copy + Drop,
 {
     pub(crate) held: Held<F, T, S, M, W, R>,
+    pub(crate) parked: Parked,
 }
 
 impl<F, T, S, M, W, R> Model for FallibleTask<F, T, S, M, W, R>
@@ -30,7 +31,7 @@ where
     F: Drop + 'static,
     T: Drop + 'static,
     S: Schedule<Scheduled<F, T, S, M, W, R>> + Drop + 'static,
-    M: Drop + 'static,
+    M: Copy + Drop + 'static,
     W: Wake + Drop + 'static,
     R: Wait + Copy + Drop,
 {
@@ -46,7 +47,7 @@ where
     F: Drop + 'static,
     T: Drop + 'static,
     S: Schedule<Scheduled<F, T, S, M, W, R>> + Drop + 'static,
-    M: Drop + 'static,
+    M: Copy + Drop + 'static,
     W: Wake + Drop + 'static,
     R: Wait + Copy + Drop,
 {
@@ -64,19 +65,17 @@ where
 
     /// Gives the handle up. The task goes on, and its output is dropped.
     pub fn detach(self) {
-        let Self { held } = self;
-        held.detach();
+        let Self { held, parked } = self;
+        held.detach(parked);
     }
 
     /// What closes the task when it is first polled, and then has the output where there was one.
     pub fn cancel(self) -> Cancel<F, T, S, M, W, R>
-        ensures { result ≡ self }
+        ensures task { result.task ≡ self }
+        ensures open { result.is_cancelled ≡ false }
     {
-        let Self { held } = self;
-        Cancel {
-            held,
-            is_cancelled: false,
-        }
+        let Self { held, parked } = self;
+        Cancel::of(held, parked)
     }
 }
 
@@ -85,14 +84,14 @@ where
     F: Drop + 'static,
     T: Drop + 'static,
     S: Schedule<Scheduled<F, T, S, M, W, R>> + Drop + 'static,
-    M: Drop + 'static,
+    M: Copy + Drop + 'static,
     W: Wake + Drop + 'static,
     R: Wait + Copy + Drop,
 {
     type Output = Result<Option<T>, NoMemory>;
 
     fn poll(&mut self, waker: &Awaiter<F, T, S, M, W, R>) -> Poll<Result<Option<T>, NoMemory>> {
-        found(poll(&self.held, waker))
+        found(poll(&self.held, &mut self.parked, waker))
     }
 }
 
@@ -111,13 +110,13 @@ where
     F: Drop + 'static,
     T: Drop + 'static,
     S: Schedule<Scheduled<F, T, S, M, W, R>> + Drop + 'static,
-    M: Drop + 'static,
+    M: Copy + Drop + 'static,
     W: Wake + Drop + 'static,
     R: Wait + Copy + Drop,
 {
     fn drop(self) {
-        let Self { held } = self;
-        held.cancel();
-        held.detach();
+        let Self { held, mut parked } = self;
+        held.cancel(&mut parked);
+        held.detach(parked);
     }
 }

@@ -20,14 +20,17 @@ mod waker;
 
 pub use builder::{Builder, spawn};
 pub use cancel::Cancel;
-pub use cell::{Cell, Due, Identity, Parts, Realm, Scheduled, StoredRunnable, StoredWaker};
-pub use errors::NoMemory;
+pub use cell::{
+    Cell, Due, GoesBack, Identity, Parts, Realm, Returning, Scheduled, StoredRunnable, StoredWaker,
+    close_returned,
+};
+pub use errors::{NoMemory, RealmError};
 pub use fallible::FallibleTask;
 pub use poll::{Future, Poll};
-pub use realm::Cells;
+pub use realm::{Cells, Returns};
 pub use runnable::{Closing, RunEnd, Runnable, Started};
 pub use running::Running;
-pub use schedule::{Schedule, ScheduleInfo, WithInfo};
+pub use schedule::{Schedule, ScheduleInfo, Shared, WithInfo};
 pub use stored_task::StoredTask;
 pub use task::{Task, TaskError};
 pub use task_moves::{Back, LocalTask, laws, local_task, moves};

@@ -1,5 +1,5 @@
 //! How a handle of any kind is polled.
-use crate::cell::{Held, Kept, Scheduled, TaskToken, paid, pay_due};
+use crate::cell::{Held, Kept, Parked, Scheduled, TaskToken, kept, paid, pay_due, put_back};
 use crate::schedule::Schedule;
 use crate::wake::Wake;
 use crate::waker::Awaiter;
@@ -24,20 +24,21 @@ pub enum Found<T> {
 /// called at once.
 pub(crate) fn poll<F, T, S, M, W, R>(
     held: &Held<F, T, S, M, W, R>,
+    parked: &mut Parked,
     waker: &Awaiter<F, T, S, M, W, R>,
 ) -> Found<T>
 where
     F: Drop + 'static,
     T: Drop + 'static,
     S: Schedule<Scheduled<F, T, S, M, W, R>> + Drop + 'static,
-    M: Drop + 'static,
+    M: Copy + Drop + 'static,
     W: Wake + Drop + 'static,
     R: Wait + Copy + Drop,
 {
-    match held.unpark() {
+    match held.lend(parked) {
         Some(token) => {
             let (token, found) = looked(held, token, waker);
-            token.park();
+            put_back(token, parked);
             found
         }
         None => Found::Closed,
@@ -54,7 +55,7 @@ where
     F: Drop + 'static,
     T: Drop + 'static,
     S: Schedule<Scheduled<F, T, S, M, W, R>> + Drop + 'static,
-    M: Drop + 'static,
+    M: Copy + Drop + 'static,
     W: Wake + Drop + 'static,
     R: Wait + Copy + Drop,
 {
@@ -79,7 +80,7 @@ where
     F: Drop + 'static,
     T: Drop + 'static,
     S: Schedule<Scheduled<F, T, S, M, W, R>> + Drop + 'static,
-    M: Drop + 'static,
+    M: Copy + Drop + 'static,
     W: Wake + Drop + 'static,
     R: Wait + Copy + Drop,
 {
@@ -112,7 +113,7 @@ where
     F: Drop + 'static,
     T: Drop + 'static,
     S: Schedule<Scheduled<F, T, S, M, W, R>> + Drop + 'static,
-    M: Drop + 'static,
+    M: Copy + Drop + 'static,
     W: Wake + Drop + 'static,
     R: Wait + Copy + Drop,
 {
@@ -138,7 +139,7 @@ where
     F: Drop + 'static,
     T: Drop + 'static,
     S: Schedule<Scheduled<F, T, S, M, W, R>> + Drop + 'static,
-    M: Drop + 'static,
+    M: Copy + Drop + 'static,
     W: Wake + Drop + 'static,
     R: Wait + Copy + Drop,
 {
@@ -148,10 +149,7 @@ where
     match waker {
         Awaiter::Task(waker) => {
             match waker.held.hold() {
-                Some(token) => {
-                    token.store();
-                    Some(Kept::Task(waker.held.identity().place))
-                }
+                Some(token) => Some(Kept::Task(kept(waker.held.identity().place, token))),
                 None => None,
             }
         }
@@ -168,7 +166,7 @@ where
     F: Drop + 'static,
     T: Drop + 'static,
     S: Schedule<Scheduled<F, T, S, M, W, R>> + Drop + 'static,
-    M: Drop + 'static,
+    M: Copy + Drop + 'static,
     W: Wake + Drop + 'static,
     R: Wait + Copy + Drop,
 {

@@ -2,15 +2,16 @@
 //! type can say of itself. So what is stored of a task is the number of its place here, and what is
 //! live is a handle that has the realm at hand and finds the cell by that number.
 ghost use Rattle.std.specs.Prelude.{◌≡◌, IfOk};
-ghost use Rattle.std.specs.Arc.{arc_value};
 
 mod pages;
+mod returns;
 
-use crate::errors::NoMemory;
+use crate::errors::RealmError;
 use crate::realm::pages::Pages;
+pub use crate::realm::returns::Returns;
 use std::alloc::{AllocError, Global};
 use std::boxed::Box;
-use std::sync::{Arc, Wait};
+use std::random::RandomSource;
 
 /// What lies at a place, before it is ever in use.
 pub trait Vacant: Sized {
@@ -26,21 +27,27 @@ pub trait Vacant: Sized {
 pub struct Cells<C> {
     number: u64,
     pages: Pages<C>,
+    pub(crate) returns: Returns,
+    ghost same: { returns.number ≡ number },
 }
 
 impl<C: Drop> Cells<C> {
-    /// No cells yet. One program gives different numbers to any two of these: by its number a task
-    /// knows whether a waker is of a task that lies here too.
-    pub fn new(alloc: Global, number: u64) -> Result<Self, NoMemory>
+    /// No cells yet, under this number.
+    fn new(alloc: Global, number: u64) -> Result<Self, RealmError>
         ensures { IfOk result (λ cells. cells.number ≡ number) }
     {
+        let returns = Returns::new(alloc, number)?;
         match Pages::new(alloc) {
-            Ok(pages) => Ok(Cells { number, pages }),
-            Err(_) => Err(NoMemory),
+            Ok(pages) => Ok(Cells {
+                number,
+                pages,
+                returns,
+            }),
+            Err(_) => Err(RealmError::NoMemory),
         }
     }
 
-    /// The number that they were made with.
+    /// The number that was drawn for them. By it a task knows whether a waker is of a task that lies here too.
     pub fn number(&self) -> u64
         ensures { result ≡ self.now.number }
     {
@@ -54,10 +61,7 @@ impl<C: Drop> Cells<C> {
 
     /// The cell at this place.
     pub(crate) fn cell(&self, place: usize) -> Option<&C> {
-        match self.pages.slot(place) {
-            Some(slot) => slot.cell.get(),
-            None => None,
-        }
+        self.pages.cell(place)
     }
 }
 
@@ -71,32 +75,35 @@ impl<C: Drop + 'static> Cells<C> {
 impl<C: Vacant + Drop> Cells<C> {
     /// A place that nobody else has. None for want of memory, or where there are 2^24 - 32 places.
     pub(crate) fn vacancy(&self) -> Option<usize> {
-        self.pages.vacancy()
+        let place = self.pages.vacancy()?;
+        if self.returns.make_room(place).is_none() {
+            self.release(place);
+            return None;
+        }
+        Some(place)
     }
 }
 
 impl<C: Drop> Cells<C> {
-    /// No cells yet, for as long as the program runs.
-    pub fn leak<'r>(alloc: Global, number: u64) -> Result<&'r Self, NoMemory>
+    /// No cells yet, for as long as the program runs. Their number is 64 bits that `rt` draws: two of one program
+    /// have the same one with a chance of 1 in 2^64.
+    pub fn leak<'r, R>(rt: R, alloc: Global) -> Result<&'r Self, RealmError>
     where
         C: 'r,
-        ensures { IfOk result (λ cells. cells.now.number ≡ number) }
+        R: RandomSource + Drop,
     {
-        let Ok(cells) = Box::new(alloc, Cells::new(alloc, number)?) else {
-            return Err(NoMemory);
+        let Ok(cells) = Box::new(alloc, Cells::new(alloc, drawn(&rt)?)?) else {
+            return Err(RealmError::NoMemory);
         };
         Ok(Box::leak(cells))
     }
 }
 
-/// One owner more of what never changes of a task. A count of 2^63 owners is out of reach: this waits there.
-pub(crate) fn share<X: Drop, R: Wait>(rt: &R, shared: &Arc<X, Global>) -> Arc<X, Global>
-    ensures { arc_value result ≡ arc_value shared.now }
-{
-    for _ in rt.forever() {
-        if let Ok(one_more) = Arc::try_clone(shared) {
-            return one_more;
-        }
+/// A number that the system draws.
+fn drawn<R: RandomSource>(rt: &R) -> Result<u64, RealmError> {
+    let mut bytes = [0; 8];
+    match rt.fill_bytes(&mut bytes) {
+        Ok(()) => Ok(u64::from_ne_bytes(bytes)),
+        Err(_) => Err(RealmError::NoRandom),
     }
-    unreachable!()
 }

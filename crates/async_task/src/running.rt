@@ -18,7 +18,7 @@ where
     F: Drop + 'static,
     T: Drop + 'static,
     S: Schedule<Scheduled<F, T, S, M, W, R>> + Drop + 'static,
-    M: Drop + 'static,
+    M: Copy + Drop + 'static,
     W: Wake + Drop + 'static,
     R: Wait + Copy + Drop,
 {
@@ -32,7 +32,7 @@ where
     F: Future<Awaiter<F, T, S, M, W, R>, Output = T> + Drop + 'static,
     T: Drop + 'static,
     S: Schedule<Scheduled<F, T, S, M, W, R>> + Drop + 'static,
-    M: Drop + 'static,
+    M: Copy + Drop + 'static,
     W: Wake + Drop + 'static,
     R: Wait + Copy + Drop,
 {
@@ -61,7 +61,7 @@ where
     F: Drop + 'static,
     T: Drop + 'static,
     S: Schedule<Scheduled<F, T, S, M, W, R>> + Drop + 'static,
-    M: Drop + 'static,
+    M: Copy + Drop + 'static,
     W: Wake + Drop + 'static,
     R: Wait + Copy + Drop,
 {

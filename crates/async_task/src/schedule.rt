@@ -6,6 +6,12 @@ pub trait Schedule<R> {
     fn schedule(&self, runnable: R, info: ScheduleInfo);
 }
 
+/// A schedule value of which there may be several, as a counted pointer.
+pub trait Shared: Sized {
+    /// One more, which does the same.
+    fn share(&self) -> Self;
+}
+
 /// A schedule value that is told the information too.
 #[derive(Clone, Copy, Debug, PartialEq, Eq, Drop)]
 pub struct WithInfo<Q>(pub Q);

@@ -1,47 +1,98 @@
-ghost use Rattle.std.specs.Prelude.{◌≡◌, IfSome};
+ghost use Rattle.std.specs.Prelude.{◌≡◌, IfErr, IfOk};
 
-use crate::cell::{Held, Identity, Realm, Scheduled};
+use crate::cell::{GoesBack, Identity, Parked, Realm, Scheduled, Thing, find_with};
+use crate::realm::Returns;
 use crate::schedule::Schedule;
 use crate::task::Task;
 use crate::wake::Wake;
+use std::marker::Model;
 use std::sync::Wait;
 
-/// A handle as a list keeps it. It stands for one handle, which rests in its task's cell: where it is
-/// lost, its task goes on, and its cell stays.
-#[derive(Debug, PartialEq, Eq, Drop)]
-pub struct StoredTask {
-    identity: Identity,
+/// A handle as a list keeps it. It stands for one handle, which rests in its task's cell. It has no drop: it is
+/// redeemed, or given back to its realm.
+pub struct StoredTask<M = ()> {
+    returns: &'static Returns,
+    place: usize,
+    metadata: M,
+    parked: Parked,
 }
 
-impl StoredTask {
-    pub(crate) fn of(identity: Identity) -> Self
-        ensures { result.identity ≡ identity }
+impl<M> Model for StoredTask<M> {
+    ghost use Rattle.async_task.specs.Handles.{Handle};
+
+    ghost Value = { Handle M };
+
+    ghost view = { λ s. record {
+      identity = record { realm = s.returns.now.number; place = s.place };
+      metadata = s.metadata;
+    } };
+}
+
+impl<M> StoredTask<M> {
+    /// What rests at this place.
+    pub(crate) fn at(returns: &'static Returns, place: usize, metadata: M, parked: Parked) -> Self
+        ensures place { result.identity ≡ record { realm = returns.now.number; place = place } }
+        ensures metadata { result.metadata ≡ metadata }
     {
-        StoredTask { identity }
+        StoredTask {
+            returns,
+            place,
+            metadata,
+            parked,
+        }
     }
 
-    /// The handle that was stored, where it is of this realm. It takes no memory.
-    pub fn redeem<F, T, S, M, W, R>(
+    /// Which task it is of.
+    pub fn identity(&self) -> Identity
+        ensures { result ≡ self.now.identity }
+    {
+        let (realm, place) = (self.returns.number(), self.place);
+        Identity { realm, place }
+    }
+
+    /// The handle that was stored. It takes no memory. Where it is of another realm it comes back.
+    pub fn redeem<F, T, S, W, R>(
         self,
         rt: R,
         realm: &'static Realm<F, T, S, M, W>,
-    ) -> Option<Task<F, T, S, M, W, R>>
+    ) -> Result<Task<F, T, S, M, W, R>, Self>
     where
         F: Drop + 'static,
         T: Drop + 'static,
         S: Schedule<Scheduled<F, T, S, M, W, R>> + Drop + 'static,
-        M: Drop + 'static,
+        M: Copy + Drop + 'static,
         W: Wake + Drop + 'static,
         R: Wait + Copy + Drop,
-        ensures found { IfSome result (λ found. found.identity ≡ self.identity) }
-        ensures here { IfSome result (λ found. found.identity.realm ≡ realm.now.number) }
+        ensures found { IfOk result (λ found. found ≡ self) }
+        ensures here { IfOk result (λ found. found.identity.realm ≡ realm.now.number) }
+        ensures back { IfErr result (λ back. back ≡ self) }
     {
-        if self.identity.realm != realm.number() {
-            return None;
+        let StoredTask {
+            returns,
+            place,
+            metadata,
+            parked,
+        } = self;
+        match find_with(rt, realm, returns, place, metadata) {
+            Some(held) => Ok(Task::of(held, parked)),
+            None => Err(StoredTask {
+                returns,
+                place,
+                metadata,
+                parked,
+            }),
         }
-        match Held::find(rt, realm, self.identity.place) {
-            Some(held) => Some(Task::of(held)),
-            None => None,
-        }
+    }
+}
+
+impl<M: Drop> GoesBack for StoredTask<M> {
+    fn go_back(self) {
+        let StoredTask {
+            returns,
+            place,
+            metadata: _,
+            parked,
+        } = self;
+        returns.keep(place, Thing::Handle(parked));
     }
 }

@@ -1,7 +1,7 @@
-ghost use Rattle.std.specs.Prelude.{◌≡◌};
+ghost use Rattle.std.specs.Prelude.{◌≡◌, false};
 
 use crate::cancel::Cancel;
-use crate::cell::{Held, Scheduled};
+use crate::cell::{Held, Parked, Scheduled};
 use crate::fallible::FallibleTask;
 use crate::poll::{Future, Poll};
 use crate::polling::{Found, poll};
@@ -28,11 +28,12 @@ where
     F: Drop + 'static,
     T: Drop + 'static,
     S: Schedule<Scheduled<F, T, S, M, W, R>> + Drop + 'static,
-    M: Drop + 'static,
+    M: Copy + Drop + 'static,
     W: Wake + Drop + 'static,
     R: Wait + Copy + Drop,
 {
     pub(crate) held: Held<F, T, S, M, W, R>,
+    pub(crate) parked: Parked,
 }
 
 impl<F, T, S, M, W, R> Model for Task<F, T, S, M, W, R>
@@ -40,7 +41,7 @@ where
     F: Drop + 'static,
     T: Drop + 'static,
     S: Schedule<Scheduled<F, T, S, M, W, R>> + Drop + 'static,
-    M: Drop + 'static,
+    M: Copy + Drop + 'static,
     W: Wake + Drop + 'static,
     R: Wait + Copy + Drop,
 {
@@ -56,22 +57,23 @@ where
     F: Drop + 'static,
     T: Drop + 'static,
     S: Schedule<Scheduled<F, T, S, M, W, R>> + Drop + 'static,
-    M: Drop + 'static,
+    M: Copy + Drop + 'static,
     W: Wake + Drop + 'static,
     R: Wait + Copy + Drop,
 {
-    pub(crate) fn of(held: Held<F, T, S, M, W, R>) -> Self
+    pub(crate) fn of(held: Held<F, T, S, M, W, R>, parked: Parked) -> Self
         ensures { result ≡ held }
     {
-        Task { held }
+        Task { held, parked }
     }
 
     /// The handle for a list, which takes no memory.
-    pub fn store(self) -> StoredTask
-        ensures { result.identity ≡ self.identity }
+    pub fn store(self) -> StoredTask<M>
+        ensures task { result.identity ≡ self.identity }
+        ensures metadata { result.metadata ≡ self.metadata }
     {
-        let Self { held } = self;
-        StoredTask::of(held.identity())
+        let Self { held, parked } = self;
+        held.stored_task(parked)
     }
 
     /// The metadata that the task was made with.
@@ -88,27 +90,25 @@ where
 
     /// Gives the handle up. The task goes on, and its output is dropped.
     pub fn detach(self) {
-        let Self { held } = self;
-        held.detach();
+        let Self { held, parked } = self;
+        held.detach(parked);
     }
 
     /// What closes the task when it is first polled, and then has the output where there was one.
     pub fn cancel(self) -> Cancel<F, T, S, M, W, R>
-        ensures { result ≡ self }
+        ensures task { result.task ≡ self }
+        ensures open { result.is_cancelled ≡ false }
     {
-        let Self { held } = self;
-        Cancel {
-            held,
-            is_cancelled: false,
-        }
+        let Self { held, parked } = self;
+        Cancel::of(held, parked)
     }
 
     /// The same handle, which has None for an output where the task is closed.
     pub fn fallible(self) -> FallibleTask<F, T, S, M, W, R>
         ensures { result ≡ self }
     {
-        let Self { held } = self;
-        FallibleTask { held }
+        let Self { held, parked } = self;
+        FallibleTask { held, parked }
     }
 }
 
@@ -117,14 +117,14 @@ where
     F: Drop + 'static,
     T: Drop + 'static,
     S: Schedule<Scheduled<F, T, S, M, W, R>> + Drop + 'static,
-    M: Drop + 'static,
+    M: Copy + Drop + 'static,
     W: Wake + Drop + 'static,
     R: Wait + Copy + Drop,
 {
     type Output = Result<T, TaskError>;
 
     fn poll(&mut self, waker: &Awaiter<F, T, S, M, W, R>) -> Poll<Result<T, TaskError>> {
-        match poll(&self.held, waker) {
+        match poll(&self.held, &mut self.parked, waker) {
             Found::Output(output) => Poll::Ready(Ok(output)),
             Found::Closed => Poll::Ready(Err(TaskError::TaskClosed)),
             Found::Pending => Poll::Pending,
@@ -138,13 +138,13 @@ where
     F: Drop + 'static,
     T: Drop + 'static,
     S: Schedule<Scheduled<F, T, S, M, W, R>> + Drop + 'static,
-    M: Drop + 'static,
+    M: Copy + Drop + 'static,
     W: Wake + Drop + 'static,
     R: Wait + Copy + Drop,
 {
     fn drop(self) {
-        let Self { held } = self;
-        held.cancel();
-        held.detach();
+        let Self { held, mut parked } = self;
+        held.cancel(&mut parked);
+        held.detach(parked);
     }
 }

@@ -20,7 +20,7 @@ where
     F: Drop + 'static,
     T: Drop + 'static,
     S: Schedule<Scheduled<F, T, S, M, W, R>> + Drop + 'static,
-    M: Drop + 'static,
+    M: Copy + Drop + 'static,
     W: Wake + Drop + 'static,
     R: Wait + Copy + Drop,
 {
@@ -33,7 +33,7 @@ where
     F: Drop + 'static,
     T: Drop + 'static,
     S: Schedule<Scheduled<F, T, S, M, W, R>> + Drop + 'static,
-    M: Drop + 'static,
+    M: Copy + Drop + 'static,
     W: Wake + Drop + 'static,
     R: Wait + Copy + Drop,
 {
@@ -51,7 +51,7 @@ where
     F: Drop + 'static,
     T: Drop + 'static,
     S: Schedule<Scheduled<F, T, S, M, W, R>> + Drop + 'static,
-    M: Drop + 'static,
+    M: Copy + Drop + 'static,
     W: Wake + Drop + 'static,
     R: Wait + Copy + Drop,
 {
@@ -66,7 +66,7 @@ where
     F: Drop + 'static,
     T: Drop + 'static,
     S: Schedule<Scheduled<F, T, S, M, W, R>> + Drop + 'static,
-    M: Drop + 'static,
+    M: Copy + Drop + 'static,
     W: Wake + Drop + 'static,
     R: Wait + Copy + Drop,
 {
@@ -105,22 +105,22 @@ where
         self.held.identity().realm == realm.number()
     }
 
+    /// Where the task lies. What was stored of tasks of this realm is redeemed there, also by who has nothing but this waker.
+    pub fn realm(&self) -> &'static Realm<F, T, S, M, W>
+        ensures { result.now.number ≡ self.now.identity.realm }
+    {
+        self.held.realm()
+    }
+
     /// The waker for a list.
     pub fn store(self) -> StoredWaker
         ensures { result.identity ≡ self.identity }
     {
         let Self { held, hold } = self;
         match hold {
-            Hold::Reference(token) => {
-                token.store();
-            }
-            Hold::Lent => {
-                if let Some(token) = held.hold() {
-                    token.store();
-                }
-            }
+            Hold::Reference(token) => held.stored(token),
+            Hold::Lent => held.stored(held.insist()),
         }
-        StoredWaker::of(held.identity())
     }
 }
 
@@ -129,7 +129,7 @@ where
     F: Drop + 'static,
     T: Drop + 'static,
     S: Schedule<Scheduled<F, T, S, M, W, R>> + Drop + 'static,
-    M: Drop + 'static,
+    M: Copy + Drop + 'static,
     W: Wake + Drop + 'static,
     R: Wait + Copy + Drop,
 {
@@ -176,7 +176,7 @@ where
     F: Drop + 'static,
     T: Drop + 'static,
     S: Schedule<Scheduled<F, T, S, M, W, R>> + Drop + 'static,
-    M: Drop + 'static,
+    M: Copy + Drop + 'static,
     W: Wake + Drop + 'static,
     R: Wait + Copy + Drop,
 {
@@ -194,7 +194,7 @@ where
     F: Drop + 'static,
     T: Drop + 'static,
     S: Schedule<Scheduled<F, T, S, M, W, R>> + Drop + 'static,
-    M: Drop + 'static,
+    M: Copy + Drop + 'static,
     W: Wake + Drop + 'static,
     R: Wait + Copy + Drop,
 {

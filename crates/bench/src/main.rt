@@ -31,9 +31,9 @@ fn main(rt: HostRuntime) -> ExitCode {
     // Generic code that makes a realm and works on it gets no proof, nor does code over any runtime type with futures that
     // hold handles, so both are named here.
     let ended = match (
-        Tasks::leak(rt.alloc(), 0),
-        Futures::leak(rt.alloc(), 0),
-        JobRealm::<HostRuntime>::leak(rt.alloc(), 0),
+        Tasks::leak(rt, rt.alloc()),
+        Futures::leak(rt, rt.alloc()),
+        JobRealm::<HostRuntime>::leak(rt, rt.alloc()),
     ) {
         (Ok(tasks), Ok(futures), Ok(jobs)) => run::<
             Link<HostRuntime>,
@@ -48,7 +48,7 @@ fn main(rt: HostRuntime) -> ExitCode {
                 jobs,
             },
         ),
-        _ => Err(Fault::NoMemory),
+        (Err(error), _, _) | (_, Err(error), _) | (_, _, Err(error)) => Err(Fault::from(error)),
     };
     match ended {
         Ok(()) => ExitCode::SUCCESS,

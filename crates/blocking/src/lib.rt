@@ -50,7 +50,7 @@ where
     F: Drop + 'static,
     T: Drop + 'static,
     S: Schedule<Scheduled<F, T, S, M, ThreadWaker, R>> + Drop + 'static,
-    M: Drop + 'static,
+    M: Copy + Drop + 'static,
     R: Wait + Copy + Drop,
 {
     fn from(waker: ThreadWaker) -> Self {

@@ -7,7 +7,7 @@ use Rattle.job_answers.specs.declared.job.Solved.{Solved}
 use Rattle.job_lines.specs.Lines.{Says, IsFirstBadLine, answers_text}
 use Rattle.jobs.specs.Coming.{CameBackUpTo}
 use Rattle.commands.specs.declared.fault.Fault.{Fault}
-use Rattle.commands.specs.declared.fault.Fault.TheVariants.{Missing, BadLine, Usage, NoMemory, NoThread, ReadFailed, WriteFailed}
+use Rattle.commands.specs.declared.fault.Fault.TheVariants.{Missing, BadLine, Usage, NoMemory, NoThread, NoRandom, ReadFailed, WriteFailed}
 
 -- the input is a list of jobs
 abbrev pub SaysJobs : List ℕ → Type 0
@@ -29,5 +29,6 @@ module _ {P : Type 0} (brings : P → Vec Solved Global → Type 0) (workers : �
   IsFaultOf input Usage = ⊥
   IsFaultOf input NoMemory = Unit {0}
   IsFaultOf input NoThread = Unit {0}
+  IsFaultOf input NoRandom = ⊥
   IsFaultOf input ReadFailed = ⊥
   IsFaultOf input WriteFailed = ⊥

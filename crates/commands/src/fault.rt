@@ -1,5 +1,6 @@
 ghost use Rattle.std.specs.Prelude.{◌≡◌, Some};
 
+use async_task::RealmError;
 use jobs::JobsError;
 use std::alloc::AllocError;
 use std::error::Error;
@@ -20,6 +21,8 @@ pub enum Fault {
     NoMemory,
     /// A worker's thread couldn't be started.
     NoThread,
+    /// The system gave no random number.
+    NoRandom,
     /// The input couldn't be read, or wasn't over after as many reads as are tried.
     ReadFailed,
     /// The output couldn't be written.
@@ -30,14 +33,14 @@ impl Fault {
     ghost use Rattle.commands.specs.Fault.{status_of};
 
     /// The status that the program exits with: 1 for a job that is missing, 2 for wrong arguments or a wrong input, 3 for a
-    /// want of memory or threads, 4 for a failed read or write. Takes no memory.
+    /// want of memory, threads or a random number, 4 for a failed read or write. Takes no memory.
     pub fn status(&self) -> u8
         ensures { result ≡ status_of self.now }
     {
         match self {
             Fault::Missing(_) => 1,
             Fault::BadLine(_) | Fault::Usage => 2,
-            Fault::NoMemory | Fault::NoThread => 3,
+            Fault::NoMemory | Fault::NoThread | Fault::NoRandom => 3,
             Fault::ReadFailed | Fault::WriteFailed => 4,
         }
     }
@@ -55,6 +58,7 @@ impl fmt::Display for Fault {
             Fault::Usage => write!(f, "usage: taskrun jobs <workers> or taskrun sim"),
             Fault::NoMemory => write!(f, "out of memory"),
             Fault::NoThread => write!(f, "no thread"),
+            Fault::NoRandom => write!(f, "no random number"),
             Fault::ReadFailed => write!(f, "read failed"),
             Fault::WriteFailed => write!(f, "write failed"),
         }
@@ -82,6 +86,19 @@ impl From<ParseError> for Fault {
         match error {
             ParseError::BadLine(number) => Fault::BadLine(number),
             ParseError::NoMemory => Fault::NoMemory,
+        }
+    }
+}
+
+impl From<RealmError> for Fault {
+    ghost use Rattle.commands.specs.Fault.{fault_of_realm};
+
+    ghost from_gives = { λ error fault. fault ≡ fault_of_realm error };
+
+    fn from(error: RealmError) -> Fault {
+        match error {
+            RealmError::NoMemory => Fault::NoMemory,
+            RealmError::NoRandom => Fault::NoRandom,
         }
     }
 }

@@ -128,5 +128,5 @@ const ROWS: &[Row] = &[
 
 #[test]
 fn calls_of_one_thread_answer_as_their_rows_say(rt: HostRuntime) {
-    play::<Job<_>, _>(rt, rt.alloc(), TestRealm::leak(rt.alloc(), 0), ROWS);
+    play::<Job<_>, _>(rt, rt.alloc(), TestRealm::leak(rt, rt.alloc()), ROWS);
 }

@@ -21,7 +21,7 @@ impl<K: Wake> Future<K> for Says {
 
 #[test]
 fn a_borrowed_text_outlives_its_executor(rt: HostRuntime) -> Result<(), Fail> {
-    let (alloc, realm) = (rt.alloc(), Realm::leak(rt.alloc(), 0)?);
+    let (alloc, realm) = (rt.alloc(), Realm::leak(rt, rt.alloc())?);
     let executor = Executor::<Says, Text, Nobody, HostRuntime>::new(rt, alloc, realm, 1)?;
     let Ok(task) = executor.spawn(Says(Text("hello"))) else {
         panic!(rt; "refused");

@@ -107,5 +107,5 @@ const ROWS: &[Row] = &[
 
 #[test]
 fn drops_and_spawns_of_many_answer_as_their_rows_say(rt: HostRuntime) {
-    play::<Job<_>, _>(rt, rt.alloc(), TestRealm::leak(rt.alloc(), 0), ROWS);
+    play::<Job<_>, _>(rt, rt.alloc(), TestRealm::leak(rt, rt.alloc()), ROWS);
 }

@@ -24,7 +24,7 @@ impl<K: Wake> Future<K> for Double {
 
 #[test]
 fn two_threads_run_an_executor(rt: HostRuntime) -> Result<(), Fail> {
-    let (alloc, realm) = (rt.alloc(), Realm::leak(rt.alloc(), 0)?);
+    let (alloc, realm) = (rt.alloc(), Realm::leak(rt, rt.alloc())?);
     let executor = Executor::<Double, u64, ThreadWaker, HostRuntime>::new(rt, alloc, realm, 100)?;
     let (Ok(one), Ok(two)) = (
         executor.spawn(Double(1, false)),

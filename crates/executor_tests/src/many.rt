@@ -2,7 +2,7 @@
 use crate::parts::{Bell, Gift, Job, TestExecutor, TestRealm, TestWaker, Work};
 use crate::stage::{Planned, Stage};
 use async_executor::Handles;
-use async_task::{Future, Poll, StoredTask};
+use async_task::{Future, Poll, Returning, StoredTask};
 use std::mem;
 use std::process::Abort;
 use std::sync::Wait;
@@ -15,7 +15,7 @@ struct InOrder<R: Wait + Copy + Drop + 'static> {
     realm: &'static TestRealm<R>,
     handles: Handles<Gift, Bell, R>,
     /// The handle that it waits for.
-    awaited: Option<StoredTask>,
+    awaited: Option<Returning<StoredTask>>,
     next: u64,
 }
 
@@ -32,12 +32,12 @@ impl<R: Wait + Copy + Drop + 'static> Future<TestWaker<R>> for InOrder<R> {
                 return Poll::Ready(self.next);
             };
             match task.poll(waker) {
-                Poll::Ready(Ok(gift)) if gift.number == self.next => {
+                Poll::Ready(Ok(gift)) if gift.number() == self.next => {
                     self.next = self.next.saturating_add(1);
                 }
                 Poll::Ready(_) => return Poll::Ready(self.next),
                 Poll::Pending => {
-                    self.awaited = Some(task.store());
+                    self.awaited = Some(Returning::new(task.store()));
                     return Poll::Pending;
                 }
             }
@@ -96,7 +96,7 @@ where
 /// A run takes 200 tasks at each poll, so that it is ready after 250 polls that are pending. Each future is polled once.
 #[test]
 fn a_run_awaits_fifty_thousand_handles_in_order(rt: HostRuntime) {
-    let stage = Stage::new(rt, rt.alloc(), TestRealm::leak(rt.alloc(), 0), 50_000);
+    let stage = Stage::new(rt, rt.alloc(), TestRealm::leak(rt, rt.alloc()), 50_000);
     let executor: TestExecutor<Job<_>, _> = stage.executor(50_000);
     let future = in_order(&stage, &executor, 50_000);
     let came = run_to_its_end(&stage, &executor, future, 50_000);
@@ -116,7 +116,7 @@ where
 {
     let future = stage.job(Some(0), Work::Pend);
     let stored = match executor.spawn(future) {
-        Ok(task) => task.store(),
+        Ok(task) => Returning::new(task.store()),
         Err(_) => return None,
     };
     let text = format!(in stage.alloc; "{stored:?}").ok();
@@ -128,7 +128,7 @@ where
 /// executors, one after the other, has its task in the place of the first one's.
 #[test]
 fn a_thousand_executors_use_the_place_of_the_first(rt: HostRuntime) {
-    let stage = Stage::new(rt, rt.alloc(), TestRealm::leak(rt.alloc(), 0), 1);
+    let stage = Stage::new(rt, rt.alloc(), TestRealm::leak(rt, rt.alloc()), 1);
     let first = place_of_a_short_life::<Job<_>, _>(&stage, stage.executor(1));
     let mut is_the_same = first.is_some();
     for _ in 0..1_000 {

@@ -1,6 +1,6 @@
 //! What the tests' futures are, and what is noted of them.
 use async_executor::{ExRealm, ExTask, ExWaker, Executor};
-use async_task::{Awaiter, Future, Poll, StoredTask, StoredWaker, TaskError, Wake};
+use async_task::{Awaiter, Future, Poll, Returning, StoredTask, StoredWaker, TaskError, Wake};
 use std::alloc::{AllocError, Global};
 use std::mem;
 use std::sync::atomic::AtomicU64;
@@ -15,7 +15,7 @@ pub struct Notes {
     /// The futures that were dropped, in order.
     pub dropped: Mutex<Vec<u64>>,
     /// The waker that a future kept last.
-    pub kept: Mutex<Option<StoredWaker>>,
+    pub kept: Mutex<Option<Returning<StoredWaker>>>,
     /// How many futures were dropped.
     pub drops: AtomicU64,
     /// How many outputs were dropped.
@@ -111,7 +111,7 @@ impl Notes {
 
 /// What a future gives: a number. Its drop is noted.
 pub struct Gift {
-    pub number: u64,
+    number: u64,
     /// Where it is noted; none past 2^63 outputs.
     notes: Option<Arc<Notes, Global>>,
 }
@@ -125,6 +125,10 @@ impl Gift {
             number,
             notes: Arc::try_clone(notes).ok(),
         }
+    }
+
+    pub fn number(&self) -> u64 {
+        self.number
     }
 }
 
@@ -205,7 +209,7 @@ pub enum Work<R: Wait + Copy + Drop + 'static> {
 #[derive(Drop)]
 pub struct Meddler {
     pub deed: Deed,
-    pub other: Option<StoredTask>,
+    pub other: Option<Returning<StoredTask>>,
 }
 
 /// What a future does with another's handle, after it gave way this often.
@@ -237,18 +241,25 @@ impl<R: Wait + Copy + Drop + 'static> Drop for Job<R> {
             work,
             notes,
         } = self;
-        if let Work::Meddle(
-            Meddler {
-                deed: _,
-                other: Some(other),
-            },
-        ) = work
-        {
-            drop_stored(rt, realm, other);
-        }
+        let_go(rt, realm, work);
         if let Some(name) = name {
             notes.is_dropped(&rt, name);
         }
+    }
+}
+
+/// Drops another's handle, where this work has one.
+fn let_go<R: Wait + Copy + Drop + 'static>(rt: R, realm: &'static TestRealm<R>, work: Work<R>) {
+    match work {
+        Work::Meddle(meddler) => {
+            let Meddler { deed: _, other } = meddler;
+            match other {
+                Some(other) => drop_stored(rt, realm, other),
+                None => {}
+            }
+        }
+        Work::Twice(task) => drop(task),
+        Work::Ready(_) | Work::Pend | Work::Yield(_, _) | Work::Keep => {}
     }
 }
 
@@ -294,7 +305,7 @@ impl<R: Wait + Copy + Drop + 'static> Job<R> {
 /// Twice the output of a task, or 0 where it was closed.
 fn twice(polled: Poll<Result<Gift, TaskError>>, notes: &Arc<Notes, Global>) -> Poll<Gift> {
     let number = match polled {
-        Poll::Ready(Ok(gift)) => gift.number.saturating_mul(2),
+        Poll::Ready(Ok(gift)) => gift.number().saturating_mul(2),
         Poll::Ready(Err(_)) => 0,
         Poll::Pending => return Poll::Pending,
     };
@@ -339,10 +350,10 @@ impl Meddler {
     ) -> bool {
         let mut task = task;
         let polled = task.poll(waker);
-        self.other = Some(task.store());
+        self.other = Some(Returning::new(task.store()));
         match polled {
             Poll::Ready(Ok(gift)) => {
-                if let Some(counts) = notes.each.get(gift.number as usize) {
+                if let Some(counts) = notes.each.get(gift.number() as usize) {
                     counts.given.fetch_add(1, SeqCst);
                 }
                 true
@@ -371,7 +382,7 @@ fn deed_after(deed: Deed) -> Deed {
 pub fn drop_stored<R: Wait + Copy + Drop + 'static>(
     rt: R,
     realm: &'static TestRealm<R>,
-    stored: StoredTask,
+    stored: Returning<StoredTask>,
 ) {
     if let Some(task) = stored.redeem(rt, realm) {
         drop(task);
@@ -382,12 +393,12 @@ pub fn drop_stored<R: Wait + Copy + Drop + 'static>(
 fn keep<R: Wait + Copy + Drop + 'static>(
     rt: R,
     realm: &'static TestRealm<R>,
-    place: &Mutex<Option<StoredWaker>>,
+    place: &Mutex<Option<Returning<StoredWaker>>>,
     waker: &TestWaker<R>,
 ) -> Poll<Gift> {
     if let Awaiter::Task(waker) = waker {
         if let Some(copy) = waker.clone() {
-            let old = mem::replace(&mut *place.lock(&rt), Some(copy.store()));
+            let old = mem::replace(&mut *place.lock(&rt), Some(Returning::new(copy.store())));
             if let Some(old) = old {
                 drop_waker(rt, realm, old);
             }
@@ -400,7 +411,7 @@ fn keep<R: Wait + Copy + Drop + 'static>(
 pub fn drop_waker<R: Wait + Copy + Drop + 'static>(
     rt: R,
     realm: &'static TestRealm<R>,
-    stored: StoredWaker,
+    stored: Returning<StoredWaker>,
 ) {
     if let Some(waker) = stored.redeem(rt, realm) {
         drop(waker);

@@ -3,7 +3,7 @@
 use crate::parts::{Bell, Gift, TestExecutor, TestRealm, TestTask, Work};
 use crate::stage::{End, Planned, Seat, Stage};
 use async_executor::{Handles, SpawnError};
-use async_task::{NoMemory, StoredTask};
+use async_task::{RealmError, Returning, StoredTask};
 use std::alloc::{AllocError, Global};
 use std::mem;
 use std::process::Abort;
@@ -104,7 +104,7 @@ pub struct Row {
 pub fn play<F, R>(
     rt: R,
     alloc: Global,
-    realm: Result<&'static TestRealm<R>, NoMemory>,
+    realm: Result<&'static TestRealm<R>, RealmError>,
     rows: &[Row],
 )
 where
@@ -126,7 +126,7 @@ where
 #[derive(Drop)]
 struct Player<R: Wait + Copy + Drop + 'static> {
     stage: Stage<R>,
-    handles: Vec<Option<StoredTask>>,
+    handles: Vec<Option<Returning<StoredTask>>>,
     is_on_other: bool,
 }
 
@@ -273,7 +273,7 @@ impl<R: Abort + Wait + Copy + Drop + 'static> Player<R> {
     }
 
     /// Keeps a handle, and says whether there is one, and a place for it.
-    fn keep_handle(&mut self, number: usize, stored: Option<StoredTask>) -> bool {
+    fn keep_handle(&mut self, number: usize, stored: Option<Returning<StoredTask>>) -> bool {
         match (self.handles.get_mut(number), stored) {
             (Some(place), Some(stored)) => {
                 *place = Some(stored);
@@ -299,7 +299,7 @@ impl<R: Abort + Wait + Copy + Drop + 'static> Player<R> {
             return End::Nothing;
         };
         let end = self.stage.poll_task(&mut task);
-        self.keep_handle(number, Some(task.store()));
+        self.keep_handle(number, Some(Returning::new(task.store())));
         end
     }
 
@@ -350,7 +350,7 @@ impl<R: Abort + Wait + Copy + Drop + 'static> Player<R> {
         let mut handles = handles;
         for number in 0..handles.len() {
             if let Some(task) = handles.pop_front() {
-                self.keep_handle(number, Some(task.store()));
+                self.keep_handle(number, Some(Returning::new(task.store())));
             }
         }
     }
@@ -387,11 +387,10 @@ where
     /// A new one comes in the place of the old one, which goes. Says whether there is a new one.
     fn sit(&mut self, who: Who, new: Seat<'a, F, R>) -> bool {
         let is_there = !matches!(&new, Seat::Free);
-        let seat = match who {
-            Who::First => &mut self.first,
-            Who::Second => &mut self.second,
-        };
-        *seat = new;
+        match who {
+            Who::First => self.first = new,
+            Who::Second => self.second = new,
+        }
         is_there
     }
 }
@@ -409,7 +408,7 @@ where
     true
 }
 
-fn no_handles(alloc: Global) -> Result<Vec<Option<StoredTask>>, AllocError> {
+fn no_handles(alloc: Global) -> Result<Vec<Option<Returning<StoredTask>>>, AllocError> {
     let mut handles = Vec::with_capacity(alloc, HANDLES)?;
     for _ in 0..HANDLES {
         handles.push(None)?;

@@ -104,5 +104,5 @@ const ROWS: &[Row] = &[
 
 #[test]
 fn refused_copies_of_wakers_lose_nothing(rt: HostRuntime) {
-    play::<Job<_>, _>(rt, rt.alloc(), TestRealm::leak(rt.alloc(), 0), ROWS);
+    play::<Job<_>, _>(rt, rt.alloc(), TestRealm::leak(rt, rt.alloc()), ROWS);
 }

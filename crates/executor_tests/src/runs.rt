@@ -156,5 +156,5 @@ const ROWS: &[Row] = &[
 
 #[test]
 fn runs_take_keep_and_give_back(rt: HostRuntime) {
-    play::<Job<_>, _>(rt, rt.alloc(), TestRealm::leak(rt.alloc(), 0), ROWS);
+    play::<Job<_>, _>(rt, rt.alloc(), TestRealm::leak(rt, rt.alloc()), ROWS);
 }

@@ -7,7 +7,10 @@ use crate::parts::{
     drop_waker,
 };
 use async_executor::{Run, RunError, SpawnError, Tick};
-use async_task::{Awaiter, Future, NoMemory, Poll, StoredTask, StoredWaker, TaskError, Wake};
+use async_task::{
+    Awaiter, Future, NoMemory, Poll, RealmError, Returning, StoredTask, StoredWaker, TaskError,
+    Wake,
+};
 use std::alloc::Global;
 use std::mem;
 use std::process::Abort;
@@ -76,7 +79,7 @@ impl<R: Abort + Wait + Copy + Drop + 'static> Stage<R> {
     pub fn new(
         rt: R,
         alloc: Global,
-        realm: Result<&'static TestRealm<R>, NoMemory>,
+        realm: Result<&'static TestRealm<R>, RealmError>,
         count: usize,
     ) -> Stage<R> {
         match realm {
@@ -86,7 +89,7 @@ impl<R: Abort + Wait + Copy + Drop + 'static> Stage<R> {
                 realm,
                 notes: Notes::new(alloc, count).expect(&rt, "memory"),
             },
-            Err(_) => panic!(rt; "memory"),
+            Err(error) => panic!(rt; "{error}"),
         }
     }
 
@@ -143,9 +146,9 @@ impl<R: Abort + Wait + Copy + Drop + 'static> Stage<R> {
         &self,
         executor: &TestExecutor<F, R>,
         future: F,
-    ) -> Option<StoredTask> {
+    ) -> Option<Returning<StoredTask>> {
         match executor.spawn(future) {
-            Ok(task) => Some(task.store()),
+            Ok(task) => Some(Returning::new(task.store())),
             Err(_) => None,
         }
     }
@@ -170,7 +173,7 @@ impl<R: Abort + Wait + Copy + Drop + 'static> Stage<R> {
     }
 
     /// Drops a handle, which cancels its task.
-    pub fn drop_handle(&self, stored: StoredTask) {
+    pub fn drop_handle(&self, stored: Returning<StoredTask>) {
         drop_stored(self.rt, self.realm, stored);
     }
 
@@ -217,7 +220,7 @@ impl<R: Abort + Wait + Copy + Drop + 'static> Stage<R> {
             Some(stored) => match stored.redeem(self.rt, self.realm) {
                 Some(waker) => {
                     waker.wake_by_ref();
-                    *self.notes.kept.lock(&self.rt) = Some(waker.store());
+                    *self.notes.kept.lock(&self.rt) = Some(Returning::new(waker.store()));
                     true
                 }
                 None => false,
@@ -237,7 +240,7 @@ impl<R: Abort + Wait + Copy + Drop + 'static> Stage<R> {
         }
     }
 
-    fn take_waker(&self) -> Option<StoredWaker> {
+    fn take_waker(&self) -> Option<Returning<StoredWaker>> {
         mem::replace(&mut *self.notes.kept.lock(&self.rt), None)
     }
 
@@ -284,7 +287,7 @@ fn end_of_tick(polled: Poll<Result<(), NoMemory>>) -> End {
 fn end_of_run(polled: Poll<Result<Gift, RunError>>) -> End {
     match polled {
         Poll::Pending => End::Pending,
-        Poll::Ready(Ok(gift)) => End::Gives(gift.number),
+        Poll::Ready(Ok(gift)) => End::Gives(gift.number()),
         Poll::Ready(Err(RunError::NoMemory)) => End::NoMemory,
         Poll::Ready(Err(RunError::Finished)) => End::Finished,
     }
@@ -293,7 +296,7 @@ fn end_of_run(polled: Poll<Result<Gift, RunError>>) -> End {
 fn end_of_task(polled: Poll<Result<Gift, TaskError>>) -> End {
     match polled {
         Poll::Pending => End::Pending,
-        Poll::Ready(Ok(gift)) => End::Gives(gift.number),
+        Poll::Ready(Ok(gift)) => End::Gives(gift.number()),
         Poll::Ready(Err(TaskError::TaskClosed)) => End::Closed,
         Poll::Ready(Err(TaskError::NoMemory)) => End::NoMemory,
     }

@@ -23,7 +23,7 @@ fn is_shown<X: Debug>(alloc: Global, value: &X, want: &str) -> bool {
 /// global queue to itself, and at each 64th as many as its own queue of 512 places then has room for.
 #[test]
 fn the_text_of_an_executor(rt: HostRuntime) {
-    let stage = Stage::new(rt, rt.alloc(), TestRealm::leak(rt.alloc(), 0), 0);
+    let stage = Stage::new(rt, rt.alloc(), TestRealm::leak(rt, rt.alloc()), 0);
     let executor: TestExecutor<Job<_>, _> = stage.executor(1000);
     stage.spawn_detached(&executor, stage.ready(0));
     let fresh = "Executor { active: 1, global_tasks: 1, local_runners: [], sleepers: 0 }";
@@ -91,7 +91,7 @@ fn sees_each_lock<X: Debug>(alloc: Global, value: &X, is_over: &AtomicBool) -> b
 /// The text waits for no lock: `<locked>` stands for what is under one that isn't free.
 #[test]
 fn the_text_of_an_executor_has_locked_for_what_is_in_use(rt: HostRuntime) {
-    let stage = Stage::new(rt, rt.alloc(), TestRealm::leak(rt.alloc(), 0), 1);
+    let stage = Stage::new(rt, rt.alloc(), TestRealm::leak(rt, rt.alloc()), 1);
     let executor: TestExecutor<Job<_>, _> = stage.executor(2);
     let is_over = AtomicBool::new(false);
     let (used, seen) = thread::join(
@@ -125,7 +125,7 @@ fn moves_and_is_shared<X: Send + Sync>(_value: &X) {}
 /// An executor and its handles move to other threads and are shared with them, ticks and runs move.
 #[test]
 fn executors_and_handles_are_shared_and_ticks_and_runs_move(rt: HostRuntime) {
-    let stage = Stage::new(rt, rt.alloc(), TestRealm::leak(rt.alloc(), 0), 1);
+    let stage = Stage::new(rt, rt.alloc(), TestRealm::leak(rt, rt.alloc()), 1);
     let executor: TestExecutor<Job<_>, _> = stage.executor(2);
     moves_and_is_shared(&executor);
     moves(&stage.tick(&executor));
@@ -135,7 +135,7 @@ fn executors_and_handles_are_shared_and_ticks_and_runs_move(rt: HostRuntime) {
 /// There is no memory for an executor with more places than memory can have.
 #[test]
 fn an_executor_of_too_many_places_is_refused(rt: HostRuntime) {
-    let stage = Stage::new(rt, rt.alloc(), TestRealm::leak(rt.alloc(), 0), 0);
+    let stage = Stage::new(rt, rt.alloc(), TestRealm::leak(rt, rt.alloc()), 0);
     let is_refused = match TestExecutor::<Job<_>, _>::new(rt, rt.alloc(), stage.realm, usize::MAX) {
         Ok(executor) => {
             drop(executor);

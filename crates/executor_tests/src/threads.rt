@@ -1,7 +1,7 @@
 //! Threads that really overlap. A thread whose loop passes its bound fails the test.
 use crate::parts::{Counts, Deed, Job, Meddler, TestExecutor, TestRealm, Work};
 use crate::stage::{End, Planned, Seat, Stage};
-use async_task::StoredTask;
+use async_task::{Returning, StoredTask};
 use std::process::Abort;
 use std::sync::Wait;
 use std::sync::atomic::AtomicU64;
@@ -97,7 +97,7 @@ where
 /// Each future is polled twice, dropped once, and its one output too.
 #[test]
 fn two_threads_tick_a_thousand_futures(rt: HostRuntime) {
-    let stage = Stage::new(rt, rt.alloc(), TestRealm::leak(rt.alloc(), 0), 1_000);
+    let stage = Stage::new(rt, rt.alloc(), TestRealm::leak(rt, rt.alloc()), 1_000);
     let executor: TestExecutor<Job<_>, _> = stage.executor(1_000);
     let are_spawned = spawn_all(&stage, &executor, 1_000);
     let (one, other) = thread::join(
@@ -125,7 +125,7 @@ fn spawn_chain<F, R>(
     stage: &Stage<R>,
     executor: &TestExecutor<F, R>,
     names: u64,
-) -> Option<StoredTask>
+) -> Option<Returning<StoredTask>>
 where
     F: Planned<R>,
     R: Abort + Wait + Copy + Drop + 'static,
@@ -142,7 +142,7 @@ where
 /// Each future is dropped once, each output too, and given to one at most; some are given, and some futures are cancelled.
 #[test]
 fn four_threads_run_futures_that_await_cancel_and_detach_each_other(rt: HostRuntime) {
-    let stage = Stage::new(rt, rt.alloc(), TestRealm::leak(rt.alloc(), 0), 10_000);
+    let stage = Stage::new(rt, rt.alloc(), TestRealm::leak(rt, rt.alloc()), 10_000);
     let executor: TestExecutor<Job<_>, _> = stage.executor(10_000);
     let last = spawn_chain(&stage, &executor, 10_000);
     let ended = thread::map_indices(
@@ -228,7 +228,7 @@ fn passes(number: &AtomicU64, last: u64) -> bool {
 /// Each round the tick waits, a spawn on the other thread calls it, and its next poll finds that future.
 #[test]
 fn a_lying_tick_is_called_by_a_spawn_on_another_thread(rt: HostRuntime) {
-    let stage = Stage::new(rt, rt.alloc(), TestRealm::leak(rt.alloc(), 0), 1);
+    let stage = Stage::new(rt, rt.alloc(), TestRealm::leak(rt, rt.alloc()), 1);
     let executor: TestExecutor<Job<_>, _> = stage.executor(2);
     let lying = AtomicU64::new(0);
     let (ticked, spawned) = thread::join(

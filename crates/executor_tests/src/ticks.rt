@@ -123,5 +123,5 @@ const ROWS: &[Row] = &[
 
 #[test]
 fn ticks_wait_and_are_told(rt: HostRuntime) {
-    play::<Job<_>, _>(rt, rt.alloc(), TestRealm::leak(rt.alloc(), 0), ROWS);
+    play::<Job<_>, _>(rt, rt.alloc(), TestRealm::leak(rt, rt.alloc()), ROWS);
 }

@@ -1,5 +1,5 @@
 use crate::names::{Futures, Handle, Waker};
-use async_task::{Future, Poll, StoredTask};
+use async_task::{Future, Poll, Returning, StoredTask};
 use std::alloc::Global;
 use std::collections::VecDeque;
 use std::sync::Wait;
@@ -10,7 +10,7 @@ use std::sync::Wait;
 pub struct Awaited<R: Wait + Copy + Drop + 'static> {
     rt: R,
     realm: &'static Futures<R>,
-    tasks: VecDeque<StoredTask>,
+    tasks: VecDeque<Returning<StoredTask>>,
     sum: u64,
 }
 
@@ -27,7 +27,7 @@ impl<R: Wait + Copy + Drop + 'static> Awaited<R> {
 
     /// One more task. Where there is no memory for it its handle goes.
     pub fn push(&mut self, task: Handle<R>) {
-        if let Err(refused) = self.tasks.push_back(task.store()) {
+        if let Err(refused) = self.tasks.push_back(Returning::new(task.store())) {
             if let Some(task) = refused.value.redeem(self.rt, self.realm) {
                 drop(task);
             }
@@ -51,7 +51,7 @@ impl<R: Wait + Copy + Drop + 'static> Future<Waker<R>> for Awaited<R> {
                 Poll::Ready(Err(_)) => {}
                 Poll::Pending => {
                     // The room that it had is still there.
-                    let _ = self.tasks.push_front(task.store());
+                    let _ = self.tasks.push_front(Returning::new(task.store()));
                     return Poll::Pending;
                 }
             }

@@ -16,10 +16,10 @@ use std::thread::Threads;
 
 fn main(rt: HostRuntime) -> ExitCode {
     spend(rt.alloc(), &mut rt.reader());
-    let mut realm = JobRealm::<HostRuntime>::leak(rt.alloc(), 0);
+    let mut realm = JobRealm::<HostRuntime>::leak(rt, rt.alloc());
     let has_realm = realm.is_ok();
     if !has_realm {
-        realm = JobRealm::<HostRuntime>::leak(rt.alloc(), 0);
+        realm = JobRealm::<HostRuntime>::leak(rt, rt.alloc());
     }
     let Ok(realm) = realm else {
         return ExitCode::FAILURE;

@@ -5,7 +5,7 @@ ghost use Rattle.job_answers.specs.Answers.{IsInRange};
 use crate::gate::Gate;
 use crate::work::Work;
 use async_executor::{ExRealm, ExWaker, Executor, SpawnError};
-use async_task::{Future, NoMemory, Poll, StoredTask, TaskError};
+use async_task::{Future, NoMemory, Poll, Returning, StoredTask, TaskError};
 use blocking::ThreadWaker;
 use concurrent_queue::ConcurrentQueue;
 use job_answers::{Job, Solved};
@@ -43,7 +43,7 @@ where
 /// A job that was spawned and is awaited: its handle, and its number.
 #[derive(Drop)]
 pub(crate) struct Awaited {
-    handle: StoredTask,
+    handle: Returning<StoredTask>,
     number: u64,
 }
 
@@ -104,7 +104,7 @@ where
         let work = Work::new(self.gate, numbered.number, numbered.job);
         match self.executor.spawn(work) {
             Ok(task) => Ok(Next::Begun(Awaited {
-                handle: task.store(),
+                handle: Returning::new(task.store()),
                 number: numbered.number,
             })),
             Err(SpawnError::Full(_)) => Ok(Next::Lost),
@@ -130,7 +130,7 @@ where
         match task.poll(waker) {
             Poll::Pending => {
                 *awaited = Some(Awaited {
-                    handle: task.store(),
+                    handle: Returning::new(task.store()),
                     number,
                 });
                 Poll::Pending

@@ -39,7 +39,7 @@ impl<K, D: Awaits<K> + Drop, R: Wait> Future<K> for PolledOnce<D, R> {
 fn a_worker_that_is_dropped_gives_its_job_up(rt: HostRuntime) -> Result<(), Fail> {
     let alloc = rt.alloc();
     let counted = Counted(AtomicU64::new(0));
-    let realm = JobRealm::<HostRuntime>::leak(alloc, 0)?;
+    let realm = JobRealm::<HostRuntime>::leak(rt, alloc)?;
     let list = [Job::Sum(1)];
     let site = Site::new(rt, alloc, realm, &list, &counted)?;
     let has_waited = block_on(

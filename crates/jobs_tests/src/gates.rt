@@ -43,7 +43,7 @@ impl Gate for Both {
 /// One worker alone would wait in the first of both for the other.
 #[test]
 fn two_workers_have_two_jobs_at_a_time(rt: HostRuntime) -> Result<(), Fail> {
-    let realm = JobRealm::<HostRuntime>::leak(rt.alloc(), 0)?;
+    let realm = JobRealm::<HostRuntime>::leak(rt, rt.alloc())?;
     let both = Both {
         first: AtomicBool::new(false),
         second: AtomicBool::new(false),
@@ -84,7 +84,7 @@ impl Gate for Counted {
 /// A sum of many polls and a product each meet it once.
 #[test]
 fn each_job_meets_the_gate_once(rt: HostRuntime) -> Result<(), Fail> {
-    let realm = JobRealm::<HostRuntime>::leak(rt.alloc(), 0)?;
+    let realm = JobRealm::<HostRuntime>::leak(rt, rt.alloc())?;
     let counted = Counted {
         first: AtomicU64::new(0),
         second: AtomicU64::new(0),

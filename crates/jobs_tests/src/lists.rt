@@ -12,7 +12,7 @@ type HostPlace = JobPlace<Open, HostRuntime>;
 
 #[test]
 fn a_sum_and_a_product_that_is_too_large(rt: HostRuntime) -> Result<(), Fail> {
-    let realm = JobRealm::<HostRuntime>::leak(rt.alloc(), 0)?;
+    let realm = JobRealm::<HostRuntime>::leak(rt, rt.alloc())?;
     let list = [Job::Sum(10), Job::Mul(u64::MAX, 2)];
     let want = [Answer::Value(55), Answer::TooLarge];
     match run_jobs::<HostPlace, HostRuntime>(rt, rt.alloc(), realm, &list, 2, Open) {
@@ -24,7 +24,7 @@ fn a_sum_and_a_product_that_is_too_large(rt: HostRuntime) -> Result<(), Fail> {
 
 #[test]
 fn no_job_has_no_answer(rt: HostRuntime) -> Result<(), Fail> {
-    let realm = JobRealm::<HostRuntime>::leak(rt.alloc(), 0)?;
+    let realm = JobRealm::<HostRuntime>::leak(rt, rt.alloc())?;
     match run_jobs::<HostPlace, HostRuntime>(rt, rt.alloc(), realm, &[], 1, Open) {
         Ok(answers) => assert!(rt; answers.is_empty()),
         Err(_) => panic!(rt; "refused"),
@@ -34,7 +34,7 @@ fn no_job_has_no_answer(rt: HostRuntime) -> Result<(), Fail> {
 
 #[test]
 fn the_largest_sum_and_the_largest_product(rt: HostRuntime) -> Result<(), Fail> {
-    let realm = JobRealm::<HostRuntime>::leak(rt.alloc(), 0)?;
+    let realm = JobRealm::<HostRuntime>::leak(rt, rt.alloc())?;
     let list = [
         Job::Sum(0),
         Job::Sum(999),
@@ -104,7 +104,7 @@ fn are_thirds(answers: &[Answer]) -> bool {
 
 #[test]
 fn as_many_jobs_as_there_may_be_on_one_worker(rt: HostRuntime) -> Result<(), Fail> {
-    let realm = JobRealm::<HostRuntime>::leak(rt.alloc(), 0)?;
+    let realm = JobRealm::<HostRuntime>::leak(rt, rt.alloc())?;
     let is_so = answers_thirds::<HostPlace, HostRuntime>(rt, rt.alloc(), realm, 1)?;
     assert!(rt; is_so);
     Ok(())
@@ -112,7 +112,7 @@ fn as_many_jobs_as_there_may_be_on_one_worker(rt: HostRuntime) -> Result<(), Fai
 
 #[test]
 fn as_many_jobs_as_there_may_be_on_four_workers(rt: HostRuntime) -> Result<(), Fail> {
-    let realm = JobRealm::<HostRuntime>::leak(rt.alloc(), 0)?;
+    let realm = JobRealm::<HostRuntime>::leak(rt, rt.alloc())?;
     let is_so = answers_thirds::<HostPlace, HostRuntime>(rt, rt.alloc(), realm, 4)?;
     assert!(rt; is_so);
     Ok(())
@@ -120,7 +120,7 @@ fn as_many_jobs_as_there_may_be_on_four_workers(rt: HostRuntime) -> Result<(), F
 
 #[test]
 fn as_many_jobs_as_there_may_be_on_64_workers(rt: HostRuntime) -> Result<(), Fail> {
-    let realm = JobRealm::<HostRuntime>::leak(rt.alloc(), 0)?;
+    let realm = JobRealm::<HostRuntime>::leak(rt, rt.alloc())?;
     let is_so = answers_thirds::<HostPlace, HostRuntime>(rt, rt.alloc(), realm, 64)?;
     assert!(rt; is_so);
     Ok(())

@@ -53,7 +53,7 @@ fn belt(alloc: Global, places: usize) -> io::Result<Belt>
 }
 
 fn main(rt: HostRuntime) -> io::Result<()> {
-    let (alloc, realm) = (rt.alloc(), Realm::leak(rt.alloc(), 0)?);
+    let (alloc, realm) = (rt.alloc(), Realm::leak(rt, rt.alloc())?);
     let (source, end) = (belt(alloc, 1_000)?, belt(alloc, 1_000)?);
     let (first, second) = (belt(alloc, 4)?, belt(alloc, 4)?);
     for number in 1..=1_000u64 {

@@ -20,10 +20,10 @@ use std::process::ExitCode;
 fn main(rt: HostRuntime) -> ExitCode {
     spend(rt.alloc(), spare_requests(&rt));
     let mut report = Report::new();
-    let mut realm = TestRealm::leak(rt.alloc(), 0);
+    let mut realm = TestRealm::leak(rt, rt.alloc());
     if realm.is_err() {
         report.is_refused(Call::Realm);
-        realm = TestRealm::leak(rt.alloc(), 0);
+        realm = TestRealm::leak(rt, rt.alloc());
     }
     let is_so = match realm {
         Ok(realm) => live(rt, rt.alloc(), realm, &mut report),

@@ -4,7 +4,7 @@ use crate::parts::{
     Countdown, Counts, Tasks, TestAwaiter, TestCancel, TestFallible, TestRunnable, TestRunning,
     TestTask, TestWaker, begun, made, next, outside_waker, ran,
 };
-use async_task::{Awaiter, Future, NoMemory, Poll, TaskError};
+use async_task::{Awaiter, Future, NoMemory, Poll, RealmError, TaskError};
 use std::alloc::{AllocGlobal, Global};
 use std::fmt::Debug;
 use std::process::Abort;
@@ -56,7 +56,7 @@ pub struct Stage<R: Wait + Copy + Drop + 'static> {
 
 impl<R: Abort + Wait + Copy + Drop + 'static> Stage<R> {
     /// New tasks in this realm.
-    pub fn new(rt: R, alloc: Global, realm: Result<&'static Tasks<R>, NoMemory>) -> Stage<R> {
+    pub fn new(rt: R, alloc: Global, realm: Result<&'static Tasks<R>, RealmError>) -> Stage<R> {
         match realm {
             Ok(realm) => Stage {
                 rt,
@@ -64,7 +64,7 @@ impl<R: Abort + Wait + Copy + Drop + 'static> Stage<R> {
                 realm,
                 counts: Counts::new(alloc).expect(&rt, "memory"),
             },
-            Err(_) => panic!(rt; "memory"),
+            Err(error) => panic!(rt; "{error}"),
         }
     }
 
@@ -73,16 +73,21 @@ impl<R: Abort + Wait + Copy + Drop + 'static> Stage<R> {
         Stage::new(self.rt, self.alloc, Ok(self.realm))
     }
 
+    /// What has happened to the tasks here, for another thread.
+    pub fn counts_too(&self) -> Arc<Counts, Global> {
+        Arc::try_clone(&self.counts).expect(&self.rt, "memory")
+    }
+
     /// Another realm, whose tasks are counted with those of this one.
-    pub fn beside(&self, realm: Result<&'static Tasks<R>, NoMemory>) -> Stage<R> {
+    pub fn beside(&self, realm: Result<&'static Tasks<R>, RealmError>) -> Stage<R> {
         match realm {
             Ok(realm) => Stage {
                 rt: self.rt,
                 alloc: self.alloc,
                 realm,
-                counts: Arc::try_clone(&self.counts).expect(&self.rt, "memory"),
+                counts: self.counts_too(),
             },
-            Err(_) => panic!(self.rt; "memory"),
+            Err(error) => panic!(self.rt; "{error}"),
         }
     }
 

@@ -52,7 +52,7 @@ fn is_answered_what_is_told<R: Abort + Wait + Copy + Drop + 'static>(stage: &Sta
 /// was polled: that is where it was, gave no output and wasn't closed.
 #[test]
 fn a_run_answers_what_the_schedule_value_is_told(rt: HostRuntime) {
-    let realm = Stage::new(rt, rt.alloc(), no_tasks(rt.alloc(), 0));
+    let realm = Stage::new(rt, rt.alloc(), no_tasks(rt, rt.alloc()));
     for case in 0..8 {
         is_answered_what_is_told(&realm.counted_apart(), case);
     }
@@ -62,7 +62,7 @@ fn a_run_answers_what_the_schedule_value_is_told(rt: HostRuntime) {
 /// none before.
 #[test]
 fn the_last_reference_empties_the_cell_once(rt: HostRuntime) {
-    let realm = Stage::new(rt, rt.alloc(), no_tasks(rt.alloc(), 0));
+    let realm = Stage::new(rt, rt.alloc(), no_tasks(rt, rt.alloc()));
     for order in [
         [0, 1, 2],
         [0, 2, 1],
@@ -94,13 +94,13 @@ fn the_last_reference_empties_the_cell_once(rt: HostRuntime) {
 /// value.
 #[test]
 fn a_run_that_nobody_can_reach_hands_its_future_back(rt: HostRuntime) {
-    let stage = Stage::new(rt, rt.alloc(), no_tasks(rt.alloc(), 0));
+    let stage = Stage::new(rt, rt.alloc(), no_tasks(rt, rt.alloc()));
     let (future, running) = stage.begun(stage.detached(9, false));
     match running.settle(Back::Pending(future)) {
         RunEnd::Over(_) => panic!(rt; "it is over"),
         RunEnd::Drop(future, closing) => {
             stage.seen((0, 0, 0, 0));
-            same(&rt, future.left, 9);
+            same(&rt, future.left(), 9);
             drop(future);
             stage.seen((0, 0, 1, 0));
             closing.finish();
@@ -112,7 +112,7 @@ fn a_run_that_nobody_can_reach_hands_its_future_back(rt: HostRuntime) {
 /// A whole run of such a task drops its future once.
 #[test]
 fn a_run_that_nobody_can_reach_drops_its_future_once(rt: HostRuntime) {
-    let stage = Stage::new(rt, rt.alloc(), no_tasks(rt.alloc(), 0));
+    let stage = Stage::new(rt, rt.alloc(), no_tasks(rt, rt.alloc()));
     stage.run(stage.detached(9, false), false);
     stage.seen((1, 0, 1, 1));
 }

@@ -2,18 +2,18 @@
 //! It runs the future as long as that wakes itself, and polls its handle then.
 use crate::parts::Sum;
 use async_task::{
-    Awaiter, Future, Nobody, Poll, Realm, Schedule, ScheduleInfo, Scheduled, StoredRunnable,
-    TaskError, spawn,
+    Awaiter, Future, Nobody, Poll, Realm, Returning, Schedule, ScheduleInfo, Scheduled,
+    StoredRunnable, TaskError, spawn,
 };
 use std::alloc::{AllocError, Global};
 use std::sync::{Arc, Mutex, Wait};
 
 #[derive(Drop)]
-pub struct Turn<R>(Arc<Mutex<Option<StoredRunnable>>, Global>, R);
+pub struct Turn<R>(Arc<Mutex<Option<Returning<StoredRunnable>>>, Global>, R);
 
 impl<R: Wait + Copy + Drop> Schedule<Scheduled<Sum, u64, Turn<R>, (), Nobody, R>> for Turn<R> {
     fn schedule(&self, job: Scheduled<Sum, u64, Turn<R>, (), Nobody, R>, _info: ScheduleInfo) {
-        *self.0.lock(&self.1) = Some(job.store());
+        *self.0.lock(&self.1) = Some(Returning::new(job.store()));
     }
 }
 
@@ -25,7 +25,7 @@ pub fn run<R: Wait + Copy + Drop + 'static>(
 ) -> Result<Poll<Result<u64, TaskError>>, AllocError> {
     let queue = Arc::new(alloc, Mutex::new(None))?;
     let next = Arc::try_clone(&queue)?;
-    let Ok((runnable, mut task)) = spawn(rt, alloc, realm, future, Turn(next, rt)) else {
+    let Ok((runnable, mut task)) = spawn(rt, realm, future, Turn(next, rt)) else {
         return Err(AllocError);
     };
     runnable.schedule();

@@ -15,6 +15,10 @@ mod moves;
 #[cfg(test)]
 mod parts;
 #[cfg(test)]
+mod ready;
+#[cfg(test)]
+mod realms;
+#[cfg(test)]
 mod refusals;
 #[cfg(test)]
 mod rows;

@@ -1,9 +1,11 @@
 //! What the tests' tasks are made of.
 use async_task::{
-    Awaiter, Back, Builder, Cancel, FallibleTask, Future, NoMemory, Poll, Realm, RunEnd, Runnable,
-    Running, Schedule, ScheduleInfo, Scheduled, Started, StoredRunnable, Task, TaskWaker, Wake,
+    Awaiter, Back, Builder, Cancel, Due, FallibleTask, Future, Poll, Realm, RealmError, Returning,
+    RunEnd, Runnable, Running, Schedule, ScheduleInfo, Scheduled, Shared, Started, StoredRunnable,
+    Task, TaskWaker, Wake,
 };
 use std::alloc::{AllocError, Global};
+use std::random::RandomSource;
 use std::sync::atomic::Ordering::SeqCst;
 use std::sync::atomic::{AtomicBool, AtomicU64};
 use std::sync::{Arc, Mutex, Wait};
@@ -12,6 +14,14 @@ use std::sync::{Arc, Mutex, Wait};
 #[derive(Drop)]
 pub struct Counts {
     pub polls: AtomicU64,
+    /// Polls that go on at the moment.
+    pub inside: AtomicU64,
+    /// Polls that began while another one went on.
+    pub overlaps: AtomicU64,
+    /// Wakes that threads have begun.
+    pub wakes: AtomicU64,
+    /// Those of them that had begun before the last poll did.
+    pub noticed: AtomicU64,
     pub schedules: AtomicU64,
     /// Schedule calls that were told that the task was woken while it was polled.
     pub schedules_after_poll: AtomicU64,
@@ -25,8 +35,10 @@ pub struct Counts {
     pub is_short: AtomicBool,
     /// The most Runnables that were in the queue at a time.
     pub longest: AtomicU64,
+    /// How many Runnables are in the queue, for who looks without its lock.
+    pub queued: AtomicU64,
     /// The Runnables that were scheduled and not taken yet.
-    pub queue: Mutex<Vec<StoredRunnable>>,
+    pub queue: Mutex<Vec<Returning<StoredRunnable<u64>>>>,
 }
 
 impl Counts {
@@ -35,6 +47,10 @@ impl Counts {
             alloc,
             Counts {
                 polls: AtomicU64::new(0),
+                inside: AtomicU64::new(0),
+                overlaps: AtomicU64::new(0),
+                wakes: AtomicU64::new(0),
+                noticed: AtomicU64::new(0),
                 schedules: AtomicU64::new(0),
                 schedules_after_poll: AtomicU64::new(0),
                 future_drops: AtomicU64::new(0),
@@ -43,9 +59,21 @@ impl Counts {
                 copies: AtomicU64::new(0),
                 is_short: AtomicBool::new(false),
                 longest: AtomicU64::new(0),
+                queued: AtomicU64::new(0),
                 queue: Mutex::new(Vec::with_capacity(alloc, 8)?),
             },
         )?)
+    }
+
+    fn begin_poll(&self) {
+        let others = self.inside.fetch_add(1, SeqCst);
+        self.overlaps.fetch_add(others, SeqCst);
+        self.polls.fetch_add(1, SeqCst);
+        self.noticed.store(self.wakes.load(SeqCst), SeqCst);
+    }
+
+    fn end_poll(&self) {
+        self.inside.fetch_sub(1, SeqCst);
     }
 
     /// Polls, schedule calls, drops of the future, drops of the schedule value.
@@ -67,19 +95,29 @@ pub struct Countdown {
     pub counts: Arc<Counts, Global>,
 }
 
+impl Countdown {
+    /// How many polls come before the one that gives its output.
+    pub fn left(&self) -> u64 {
+        self.left
+    }
+}
+
 impl<K: Wake> Future<K> for Countdown {
     type Output = u64;
 
     fn poll(&mut self, waker: &K) -> Poll<u64> {
-        self.counts.polls.fetch_add(1, SeqCst);
-        if self.left == 0 {
-            return Poll::Ready(3);
-        }
-        self.left -= 1;
-        if self.wakes_itself {
+        self.counts.begin_poll();
+        let is_ready = self.left == 0;
+        self.left = self.left.saturating_sub(1);
+        if !is_ready & self.wakes_itself {
             waker.wake_by_ref();
         }
-        Poll::Pending
+        self.counts.end_poll();
+        if is_ready {
+            Poll::Ready(3)
+        } else {
+            Poll::Pending
+        }
     }
 }
 
@@ -121,21 +159,70 @@ pub struct Line<R: Wait + Copy + Drop> {
     pub counts: Arc<Counts, Global>,
 }
 
-impl<R: Wait + Copy + Drop, M: Drop + 'static> Schedule<
-    Scheduled<Countdown, u64, Line<R>, M, Bell, R>,
-> for Line<R> {
-    fn schedule(
-        &self,
-        runnable: Scheduled<Countdown, u64, Line<R>, M, Bell, R>,
-        info: ScheduleInfo,
-    ) {
+impl<R: Wait + Copy + Drop> Line<R> {
+    /// Counts a call.
+    fn count(&self, info: ScheduleInfo) {
         self.counts.schedules.fetch_add(1, SeqCst);
         if info.woken_while_running {
             self.counts.schedules_after_poll.fetch_add(1, SeqCst);
         }
+    }
+}
+
+impl<R: Wait + Copy + Drop> Schedule<Scheduled<Countdown, u64, Line<R>, u64, Bell, R>> for Line<R> {
+    fn schedule(
+        &self,
+        runnable: Scheduled<Countdown, u64, Line<R>, u64, Bell, R>,
+        info: ScheduleInfo,
+    ) {
+        self.count(info);
         let mut queue = self.counts.queue.lock(&self.rt);
-        let _ = queue.push(runnable.store());
+        let _ = queue.push(Returning::new(runnable.store()));
         self.counts.longest.fetch_max(queue.len() as u64, SeqCst);
+        self.counts.queued.fetch_add(1, SeqCst);
+    }
+}
+
+/// A task with no metadata is closed. Then `longest` shows how many schedule values are gone.
+impl<R: Wait + Copy + Drop> Schedule<Scheduled<Countdown, u64, Line<R>, (), Bell, R>> for Line<R> {
+    fn schedule(
+        &self,
+        runnable: Scheduled<Countdown, u64, Line<R>, (), Bell, R>,
+        info: ScheduleInfo,
+    ) {
+        self.count(info);
+        closes(self.rt, runnable);
+        let gone = self.counts.schedule_drops.load(SeqCst);
+        self.counts.longest.store(gone, SeqCst);
+    }
+}
+
+/// Closes the task, and the one that awaited it, and so on.
+fn closes<R: Wait + Copy + Drop>(rt: R, runnable: Scheduled<Countdown, u64, Line<R>, (), Bell, R>) {
+    let mut next = Some(runnable);
+    for _ in rt.forever() {
+        let Some(runnable) = next else {
+            return;
+        };
+        next = match runnable.close() {
+            Some(Due { runnable, info: _ }) => Some(runnable),
+            None => None,
+        };
+    }
+    unreachable!()
+}
+
+impl<R: Wait + Copy + Drop> Shared for Line<R> {
+    /// One more, whose drop isn't counted.
+    fn share(&self) -> Self {
+        let rt = self.rt;
+        for _ in rt.forever() {
+            if let Ok(counts) = Arc::try_clone(&self.counts) {
+                counts.schedule_drops.fetch_sub(1, SeqCst);
+                return Line { rt, counts };
+            }
+        }
+        unreachable!()
     }
 }
 
@@ -196,12 +283,12 @@ pub type TestWaker<R> = TaskWaker<Countdown, u64, Line<R>, u64, Bell, R>;
 
 pub type TestAwaiter<R> = Awaiter<Countdown, u64, Line<R>, u64, Bell, R>;
 
-/// A realm of this number, where no tasks lie yet.
-pub fn no_tasks<'r, R: Wait + Copy + Drop + 'r>(
+/// A realm, where no tasks lie yet.
+pub fn no_tasks<'r, R: RandomSource + Wait + Copy + Drop + 'r>(
+    rt: R,
     alloc: Global,
-    number: u64,
-) -> Result<&'r Tasks<R>, NoMemory> {
-    Tasks::leak(alloc, number)
+) -> Result<&'r Tasks<R>, RealmError> {
+    Tasks::leak(rt, alloc)
 }
 
 /// What a task is made of.
@@ -243,10 +330,7 @@ pub fn made<R: Wait + Copy + Drop + 'static>(
                 rt,
                 counts: line_counts,
             };
-            match Builder::new()
-                .metadata(7)
-                .spawn(rt, alloc, realm, future, line)
-            {
+            match Builder::new().metadata(7).spawn(rt, realm, future, line) {
                 Ok(both) => Ok(both),
                 Err(_) => Err(AllocError),
             }
@@ -263,10 +347,13 @@ pub fn next<R: Wait + Copy + Drop + 'static>(
 ) -> Option<TestRunnable<R>> {
     let stored = counts.queue.lock(&rt).pop();
     match stored {
-        Some(stored) => match stored.redeem(rt, realm) {
-            Some(scheduled) => Some(scheduled.into_runnable()),
-            None => None,
-        },
+        Some(stored) => {
+            counts.queued.fetch_sub(1, SeqCst);
+            match stored.redeem(rt, realm) {
+                Some(scheduled) => Some(scheduled.into_runnable()),
+                None => None,
+            }
+        }
         None => None,
     }
 }

@@ -32,14 +32,16 @@ fn parts_of<R: Abort + Wait + Copy + Drop + 'static>(
 /// What is given back is what was handed in, untouched, and can be spawned in the same realm.
 #[test]
 fn a_refused_spawn_hands_everything_back(rt: HostRuntime) -> Result<(), Fail> {
-    let realm = Realm::leak(rt.alloc(), 0)?;
+    let realm = Realm::leak(rt, rt.alloc())?;
     let counts = counted(&rt);
     let (future, line) = parts_of(rt, &counts, 5);
-    match spawn(rt, rt.alloc(), realm, future, line) {
+    match spawn(rt, realm, future, line) {
         Ok((runnable, task)) => {
             holds(&rt, !runnable.run());
             task.detach();
-            seen(&rt, &counts, (1, 1, 0, 0));
+            seen(&rt, &counts, (1, 1, 1, 1));
+            // It was there until its call, in which its task ended, was over.
+            same(&rt, counts.longest.load(SeqCst), 0);
         }
         Err(back) => {
             let Parts {
@@ -47,9 +49,9 @@ fn a_refused_spawn_hands_everything_back(rt: HostRuntime) -> Result<(), Fail> {
                 schedule,
                 metadata: (),
             } = back;
-            same(&rt, future.left, 5);
+            same(&rt, future.left(), 5);
             seen(&rt, &counts, (0, 0, 0, 0));
-            holds(&rt, spawn(rt, rt.alloc(), realm, future, schedule).is_ok());
+            holds(&rt, spawn(rt, realm, future, schedule).is_ok());
         }
     }
     Ok(())
@@ -57,13 +59,10 @@ fn a_refused_spawn_hands_everything_back(rt: HostRuntime) -> Result<(), Fail> {
 
 #[test]
 fn a_refused_spawn_of_a_builder_hands_everything_back(rt: HostRuntime) -> Result<(), Fail> {
-    let realm = Realm::leak(rt.alloc(), 0)?;
+    let realm = Realm::leak(rt, rt.alloc())?;
     let counts = counted(&rt);
     let (future, line) = parts_of(rt, &counts, 0);
-    match Builder::new()
-        .metadata(7u64)
-        .spawn(rt, rt.alloc(), realm, future, line)
-    {
+    match Builder::new().metadata(7u64).spawn(rt, realm, future, line) {
         Ok((runnable, task)) => {
             same(&rt, *task.metadata(), 7);
             holds(&rt, !ran(runnable));
@@ -76,13 +75,10 @@ fn a_refused_spawn_of_a_builder_hands_everything_back(rt: HostRuntime) -> Result
                 schedule,
                 metadata,
             } = back;
-            same(&rt, (future.left, metadata), (0, 7));
+            same(&rt, (future.left(), metadata), (0, 7));
             seen(&rt, &counts, (0, 0, 0, 0));
             let again = Builder::new().metadata(metadata);
-            holds(
-                &rt,
-                again.spawn(rt, rt.alloc(), realm, future, schedule).is_ok(),
-            );
+            holds(&rt, again.spawn(rt, realm, future, schedule).is_ok());
         }
     }
     Ok(())
@@ -92,7 +88,7 @@ fn a_refused_spawn_of_a_builder_hands_everything_back(rt: HostRuntime) -> Result
 /// stays, and the handle may be polled again.
 #[test]
 fn a_refused_poll_leaves_the_task_as_it_was(rt: HostRuntime) {
-    let stage = Stage::new(rt, rt.alloc(), no_tasks(rt.alloc(), 0));
+    let stage = Stage::new(rt, rt.alloc(), no_tasks(rt, rt.alloc()));
     let others = stage.counted_apart();
     let (runnable, mut task) = stage.task(0, false);
     others.counts.is_short.store(true, SeqCst);
@@ -115,7 +111,7 @@ fn a_refused_poll_leaves_the_task_as_it_was(rt: HostRuntime) {
 /// poll needs no copy.
 #[test]
 fn a_refused_poll_of_a_cancel_has_cancelled(rt: HostRuntime) {
-    let stage = Stage::new(rt, rt.alloc(), no_tasks(rt.alloc(), 0));
+    let stage = Stage::new(rt, rt.alloc(), no_tasks(rt, rt.alloc()));
     let (runnable, task) = stage.task(9, false);
     stage.counts.is_short.store(true, SeqCst);
     let mut task = task.fallible();

@@ -10,7 +10,7 @@ use std::sync::Wait;
 /// A detached task is kept by its wakers alone: the last one empties the cell.
 #[test]
 fn a_detached_task_ends_with_its_last_waker(rt: HostRuntime) {
-    let stage = Stage::new(rt, rt.alloc(), no_tasks(rt.alloc(), 0));
+    let stage = Stage::new(rt, rt.alloc(), no_tasks(rt, rt.alloc()));
     let (mut future, running) = stage.begun(stage.detached(1, false));
     same(&rt, future.poll(running.waker()), Poll::Pending);
     let kept = there(&rt, running.waker().clone());
@@ -51,7 +51,7 @@ fn gives_its_output_once<R: Abort + Wait + Copy + Drop + 'static>(
 
 #[test]
 fn a_builder_s_metadata_is_seen_from_the_runnable_and_the_task(rt: HostRuntime) {
-    let stage = Stage::new(rt, rt.alloc(), no_tasks(rt.alloc(), 0));
+    let stage = Stage::new(rt, rt.alloc(), no_tasks(rt, rt.alloc()));
     let (runnable, task) = stage.task(0, false);
     same(&rt, (*runnable.metadata(), *task.metadata()), (7, 7));
     has_a_waker_like_its_copy(&stage, &runnable);
@@ -68,7 +68,7 @@ fn a_builder_s_metadata_is_seen_from_the_runnable_and_the_task(rt: HostRuntime) 
 
 #[test]
 fn a_cancelled_task_is_over_when_its_future_is_dropped(rt: HostRuntime) {
-    let stage = Stage::new(rt, rt.alloc(), no_tasks(rt.alloc(), 0));
+    let stage = Stage::new(rt, rt.alloc(), no_tasks(rt, rt.alloc()));
     let (runnable, task) = stage.task(9, false);
     stage.run(runnable, false);
     let mut cancel = task.cancel();
@@ -85,7 +85,7 @@ fn a_cancelled_task_is_over_when_its_future_is_dropped(rt: HostRuntime) {
 /// A dropped Runnable closes its task, and wakes who awaits it.
 #[test]
 fn a_dropped_runnable_closes_its_task(rt: HostRuntime) {
-    let stage = Stage::new(rt, rt.alloc(), no_tasks(rt.alloc(), 0));
+    let stage = Stage::new(rt, rt.alloc(), no_tasks(rt, rt.alloc()));
     let (runnable, task) = stage.task(0, false);
     let mut task = task.fallible();
     stage.poll_fallible(&mut task, Poll::Pending);
@@ -100,7 +100,7 @@ fn a_dropped_runnable_closes_its_task(rt: HostRuntime) {
 /// Two tasks of one realm: the end of one queues the other, which awaits it.
 #[test]
 fn a_task_that_ends_wakes_the_task_that_awaits_it(rt: HostRuntime) {
-    let stage = Stage::new(rt, rt.alloc(), no_tasks(rt.alloc(), 0));
+    let stage = Stage::new(rt, rt.alloc(), no_tasks(rt, rt.alloc()));
     let (awaiting, awaiting_task) = stage.task(9, false);
     let (awaited, mut awaited_task) = stage.task(0, false);
     let waker = stage.awaiter(&awaiting);
@@ -119,8 +119,8 @@ fn a_task_that_ends_wakes_the_task_that_awaits_it(rt: HostRuntime) {
 /// A waker of a task of another realm can't be kept: it is called at once.
 #[test]
 fn a_task_of_another_realm_is_woken_at_once(rt: HostRuntime) {
-    let here = Stage::new(rt, rt.alloc(), no_tasks(rt.alloc(), 0));
-    let other = here.beside(no_tasks(rt.alloc(), 1));
+    let here = Stage::new(rt, rt.alloc(), no_tasks(rt, rt.alloc()));
+    let other = here.beside(no_tasks(rt, rt.alloc()));
     let (awaiting, awaiting_task) = other.task(9, false);
     let (awaited, mut awaited_task) = here.task(0, false);
     let waker = other.awaiter(&awaiting);
@@ -139,7 +139,7 @@ fn a_task_of_another_realm_is_woken_at_once(rt: HostRuntime) {
 /// The place of a task that is over is used again, and its handles are of the new task.
 #[test]
 fn a_place_is_used_again(rt: HostRuntime) {
-    let realm = Stage::new(rt, rt.alloc(), no_tasks(rt.alloc(), 0));
+    let realm = Stage::new(rt, rt.alloc(), no_tasks(rt, rt.alloc()));
     for round in 0..100 {
         let stage = realm.counted_apart();
         stage.run(stage.detached(round, true), round != 0);

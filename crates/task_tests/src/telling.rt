@@ -3,8 +3,8 @@
 use crate::calls::{holds, same, seen, there};
 use crate::parts::{Countdown, Counts};
 use async_task::{
-    Due, NoMemory, Nobody, Realm, Runnable, Schedule, ScheduleInfo, Scheduled, StoredRunnable,
-    StoredWaker, Task, spawn,
+    Due, Nobody, Realm, RealmError, Returning, Runnable, Schedule, ScheduleInfo, Scheduled,
+    StoredRunnable, StoredWaker, Task, spawn,
 };
 use std::alloc::{AllocError, Global};
 use std::process::Abort;
@@ -13,8 +13,8 @@ use std::sync::{Arc, Mutex, Wait};
 /// What all of a queue's schedule values lead to.
 #[derive(Drop)]
 pub struct Rooms {
-    pub queue: Mutex<Vec<StoredRunnable>>,
-    pub sleepers: Mutex<Vec<StoredWaker>>,
+    pub queue: Mutex<Vec<Returning<StoredRunnable>>>,
+    pub sleepers: Mutex<Vec<Returning<StoredWaker>>>,
 }
 
 impl Rooms {
@@ -43,7 +43,8 @@ impl<R: Wait + Copy + Drop + 'static> Telling<R> {
         runnable: Scheduled<Countdown, u64, Telling<R>, (), Nobody, R>,
     ) -> Option<Due<Countdown, u64, Telling<R>, (), Nobody, R>> {
         let realm = runnable.realm();
-        let _ = self.rooms.queue.lock(&self.rt).push(runnable.store());
+        let stored = Returning::new(runnable.store());
+        let _ = self.rooms.queue.lock(&self.rt).push(stored);
         let sleeper = self.rooms.sleepers.lock(&self.rt).pop();
         match sleeper {
             Some(sleeper) => sleeper.wake(self.rt, realm),
@@ -74,9 +75,9 @@ impl<R: Wait + Copy + Drop + 'static> Schedule<Scheduled<Countdown, u64, Telling
     }
 }
 
-type TellingRunnable<R> = Runnable<Countdown, u64, Telling<R>, (), Nobody, R>;
+pub type TellingRunnable<R> = Runnable<Countdown, u64, Telling<R>, (), Nobody, R>;
 
-type TellingTask<R> = Task<Countdown, u64, Telling<R>, (), Nobody, R>;
+pub type TellingTask<R> = Task<Countdown, u64, Telling<R>, (), Nobody, R>;
 
 fn made<R: Wait + Copy + Drop + 'static>(
     rt: R,
@@ -92,7 +93,7 @@ fn made<R: Wait + Copy + Drop + 'static>(
                 wakes_itself: false,
                 counts,
             };
-            match spawn(rt, alloc, realm, future, Telling { rooms, rt }) {
+            match spawn(rt, realm, future, Telling { rooms, rt }) {
                 Ok(both) => Ok(both),
                 Err(_) => Err(AllocError),
             }
@@ -103,19 +104,19 @@ fn made<R: Wait + Copy + Drop + 'static>(
 
 /// Where the test's tasks lie, and what has happened to them. Of a run in which no memory is refused.
 #[derive(Drop)]
-struct Hall<R: Wait + Copy + Drop + 'static> {
+pub struct Hall<R: Wait + Copy + Drop + 'static> {
     rt: R,
     alloc: Global,
-    realm: &'static Realm<Countdown, u64, Telling<R>, (), Nobody>,
+    pub realm: &'static Realm<Countdown, u64, Telling<R>, (), Nobody>,
     rooms: Arc<Rooms, Global>,
     counts: Arc<Counts, Global>,
 }
 
 impl<R: Abort + Wait + Copy + Drop + 'static> Hall<R> {
-    fn new(
+    pub fn new(
         rt: R,
         alloc: Global,
-        realm: Result<&'static Realm<Countdown, u64, Telling<R>, (), Nobody>, NoMemory>,
+        realm: Result<&'static Realm<Countdown, u64, Telling<R>, (), Nobody>, RealmError>,
     ) -> Hall<R> {
         match realm {
             Ok(realm) => Hall {
@@ -129,7 +130,7 @@ impl<R: Abort + Wait + Copy + Drop + 'static> Hall<R> {
         }
     }
 
-    fn task(&self) -> (TellingRunnable<R>, TellingTask<R>) {
+    pub fn task(&self) -> (TellingRunnable<R>, TellingTask<R>) {
         match made(self.rt, self.alloc, self.realm, &self.rooms, &self.counts) {
             Ok(both) => both,
             Err(_) => panic!(self.rt; "memory"),
@@ -138,6 +139,7 @@ impl<R: Abort + Wait + Copy + Drop + 'static> Hall<R> {
 
     /// A waker that the next push wakes.
     fn sleeps(&self, waker: StoredWaker) {
+        let waker = Returning::new(waker);
         let pushed = self.rooms.sleepers.lock(&self.rt).push(waker);
         holds(&self.rt, pushed.is_ok());
     }
@@ -148,7 +150,7 @@ impl<R: Abort + Wait + Copy + Drop + 'static> Hall<R> {
         same(&self.rt, self.rooms.sleepers.lock(&self.rt).len(), sleepers);
     }
 
-    fn run(&self, runnable: TellingRunnable<R>) {
+    pub fn run(&self, runnable: TellingRunnable<R>) {
         same(&self.rt, runnable.run(), false);
     }
 
@@ -162,20 +164,20 @@ impl<R: Abort + Wait + Copy + Drop + 'static> Hall<R> {
     }
 }
 
-fn drop_task<R: Wait + Copy + Drop + 'static>(_task: TellingTask<R>) {}
+pub fn drop_telling<R: Wait + Copy + Drop + 'static>(_task: TellingTask<R>) {}
 
 /// A task that lies among the sleepers of its own queue is queued behind the one that is pushed.
 #[test]
 fn a_push_wakes_a_task_of_the_same_queue(rt: HostRuntime) {
-    let hall = Hall::new(rt, rt.alloc(), Realm::leak(rt.alloc(), 0));
+    let hall = Hall::new(rt, rt.alloc(), Realm::leak(rt, rt.alloc()));
     let (sleeper, sleeping) = hall.task();
     let (runnable, task) = hall.task();
     hall.sleeps(there(&rt, sleeper.waker()).store());
     hall.run(sleeper);
     runnable.schedule();
     hall.lengths(2, 0);
-    drop_task(sleeping);
-    drop_task(task);
+    drop_telling(sleeping);
+    drop_telling(task);
     hall.run_next();
     hall.run_next();
     seen(&rt, &hall.counts, (1, 0, 2, 0));

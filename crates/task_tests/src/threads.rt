@@ -1,52 +1,209 @@
+//! Tasks that threads wake, run, await and cancel at the same time. A loop past its bound fails the test.
 use crate::calls::{Stage, same};
-use crate::parts::{TestWaker, drop_task, drop_waker, no_tasks, ran};
-use async_task::Wake;
+use crate::parts::{
+    Counts, Tasks, TestRunnable, TestTask, TestWaker, drop_cancel, drop_task, drop_waker, next,
+    no_tasks, ran,
+};
+use async_task::{Future, Poll, TaskError, Wake};
+use std::alloc::Global;
 use std::process::Abort;
-use std::sync::Wait;
+use std::sync::atomic::AtomicU64;
 use std::sync::atomic::Ordering::SeqCst;
+use std::sync::{Arc, Wait};
 use std::thread;
 
-const ROUNDS: u64 = 2_000;
+/// How many turns a loop may take.
+const MOST_TURNS: u64 = 10_000_000;
 
-/// Wakes the task, and copies, drops and spends wakers of it.
-fn rouse<R: Wait + Copy + Drop + 'static>(waker: TestWaker<R>) {
-    for round in 0..ROUNDS {
-        waker.wake_by_ref();
-        if let Some(copy) = waker.clone() {
-            if round % 2 == 0 {
-                copy.wake();
-            } else {
-                drop_waker(copy);
-            }
+/// How often each of two threads wakes the task, and how many handles are awaited.
+const ROUNDS: u64 = 1_000;
+
+/// How many tasks are cancelled.
+const CANCELS: u64 = 100_000;
+
+/// How many Runnables wait for the thread that runs them.
+const MOST_QUEUED: u64 = 16;
+
+/// Waits until the counter has come so far.
+fn waits_until<R: Abort>(rt: &R, counter: &AtomicU64, least: u64) {
+    for _ in 0..MOST_TURNS {
+        if counter.load(SeqCst) >= least {
+            return;
         }
+        thread::yield_now();
+    }
+    panic!(rt; "a thread has waited in vain");
+}
+
+/// The next Runnable that is queued, or None where there is none once the counter has come so far.
+fn awaited<R: Abort + Wait + Copy + Drop + 'static>(
+    rt: R,
+    realm: &'static Tasks<R>,
+    counts: &Counts,
+    counter: &AtomicU64,
+    least: u64,
+) -> Option<TestRunnable<R>> {
+    for _ in 0..MOST_TURNS {
+        let is_last = counter.load(SeqCst) >= least;
+        if counts.queued.load(SeqCst) > 0 {
+            if let Some(runnable) = next(rt, realm, counts) {
+                return Some(runnable);
+            }
+        } else if is_last {
+            return None;
+        }
+        thread::yield_now();
+    }
+    panic!(rt; "a thread has looked in vain for what it is to run");
+}
+
+/// Runs each Runnable that is queued, until none is there and the counter has come so far.
+fn runs_until<R: Abort + Wait + Copy + Drop + 'static>(
+    rt: R,
+    realm: &'static Tasks<R>,
+    counts: &Counts,
+    counter: &AtomicU64,
+    least: u64,
+) {
+    for _ in 0..MOST_TURNS {
+        match awaited(rt, realm, counts, counter, least) {
+            Some(runnable) => ran(runnable),
+            None => return,
+        };
+    }
+    panic!(rt; "more is queued than is woken");
+}
+
+/// Wakes the task once a round, in one of two ways, beside a copy of the waker, and goes on once a poll has begun after the
+/// wakes of this round.
+fn wakes_each_round<R: Abort + Wait + Copy + Drop + 'static>(
+    rt: R,
+    waker: TestWaker<R>,
+    counts: Arc<Counts, Global>,
+) {
+    for round in 0..ROUNDS {
+        let Some(copy) = waker.clone() else {
+            panic!(rt; "no copy");
+        };
+        counts.wakes.fetch_add(1, SeqCst);
+        if round % 2 == 0 {
+            copy.wake();
+        } else {
+            waker.wake_by_ref();
+            drop_waker(copy);
+        }
+        waits_until(
+            &rt,
+            &counts.noticed,
+            round.saturating_mul(2).saturating_add(2),
+        );
     }
 }
 
-/// Never were there two Runnables, each poll but the first had a schedule call, and all is dropped once.
-fn was_run_by_one_at_a_time<R: Abort + Wait + Copy + Drop + 'static>(stage: &Stage<R>) {
+/// No two polls overlapped, never were there two Runnables, there was a poll for each round and one at most for each wake and
+/// for the beginning, and all is dropped once.
+fn was_polled_for_its_wakes<R: Abort + Wait + Copy + Drop + 'static>(stage: &Stage<R>) {
+    same(&stage.rt, stage.counts.overlaps.load(SeqCst), 0);
     same(&stage.rt, stage.counts.longest.load(SeqCst), 1);
+    let polls = stage.counts.polls.load(SeqCst);
+    stage.holds((ROUNDS <= polls) & (polls <= 2 * ROUNDS + 1));
     stage.future_drops(1);
     stage.schedule_drops(1);
-    let schedules = stage.counts.schedules.load(SeqCst);
-    stage.holds(stage.counts.polls.load(SeqCst) <= schedules.saturating_add(1));
 }
 
-/// Two threads wake, copy and drop wakers of a task while this one runs it: never are there two
-/// Runnables of it, no wake is lost, and in the end all is dropped once.
+/// Two threads wake a task that nobody awaits, each once a round, while this one runs it: each round ends with a poll that
+/// began after its wakes.
 #[test]
 fn wakes_of_two_threads_meet_a_run(rt: HostRuntime) {
-    let stage = Stage::new(rt, rt.alloc(), no_tasks(rt.alloc(), 0));
-    let (runnable, task) = stage.task(1_000_000, false);
-    let one = stage.waker(&runnable);
-    let two = stage.waker(&runnable);
+    let stage = Stage::new(rt, rt.alloc(), no_tasks(rt, rt.alloc()));
+    let runnable = stage.detached(1_000_000, false);
+    let (one, other) = (stage.waker(&runnable), stage.waker(&runnable));
+    let (one_s, other_s) = (stage.counts_too(), stage.counts_too());
     ran(runnable);
-    let first = thread::spawn(&rt, move || rouse(one)).expect(&rt, "a thread");
-    let second = thread::spawn(&rt, move || rouse(two)).expect(&rt, "a thread");
-    stage.run_what_is_there(ROUNDS);
-    first.join(&rt);
-    second.join(&rt);
-    // All wakers are gone: the task was closed, or is when its handle goes.
-    drop_task(task);
-    stage.run_what_is_there(3);
-    was_run_by_one_at_a_time(&stage);
+    let first = thread::spawn(&rt, move || wakes_each_round(rt, one, one_s));
+    let second = thread::spawn(&rt, move || wakes_each_round(rt, other, other_s));
+    runs_until(
+        rt,
+        stage.realm,
+        &stage.counts,
+        &stage.counts.noticed,
+        2 * ROUNDS,
+    );
+    first.expect(&rt, "a thread").join(&rt);
+    second.expect(&rt, "a thread").join(&rt);
+    // The last waker is gone, so the task is queued once more, to be closed.
+    stage.run_what_is_there(2);
+    was_polled_for_its_wakes(&stage);
+}
+
+/// Whether a poll by a waker that rings here gives the output.
+fn gives<R: Abort + Wait + Copy + Drop + 'static>(bell: &Stage<R>, task: &mut TestTask<R>) -> bool {
+    match task.poll(&bell.bell()) {
+        Poll::Ready(output) => {
+            same(&bell.rt, output, Ok(3));
+            true
+        }
+        Poll::Pending => false,
+    }
+}
+
+/// Polls the handle twice while its task may end. Where both are too early the second one's waker is called, and then the
+/// output is there. It comes once.
+fn awaits<R: Abort + Wait + Copy + Drop + 'static>(stage: &Stage<R>, task: &mut TestTask<R>) {
+    let (first, last) = (stage.counted_apart(), stage.counted_apart());
+    if !gives(&first, task) && !gives(&last, task) {
+        waits_until(&stage.rt, &last.counts.rings, 1);
+        stage.holds(gives(&last, task));
+    }
+    stage.poll(task, Poll::Ready(Err(TaskError::TaskClosed)));
+}
+
+/// Handles are polled while another thread ends their tasks.
+#[test]
+fn a_handle_is_awaited_while_its_task_ends(rt: HostRuntime) {
+    let stage = Stage::new(rt, rt.alloc(), no_tasks(rt, rt.alloc()));
+    let (realm, counts) = (stage.realm, stage.counts_too());
+    let runs = move || runs_until(rt, realm, &counts, &counts.polls, ROUNDS);
+    let runner = thread::spawn(&rt, runs);
+    for _ in 0..ROUNDS {
+        let (runnable, mut task) = stage.task(0, false);
+        runnable.schedule();
+        awaits(&stage, &mut task);
+        drop_task(task);
+    }
+    runner.expect(&rt, "a thread").join(&rt);
+    stage.seen((ROUNDS, ROUNDS, ROUNDS, ROUNDS));
+}
+
+/// A task is queued, and its handle is given up at once, in one of three ways. Where many are queued one is run here.
+fn is_given_up<R: Abort + Wait + Copy + Drop + 'static>(stage: &Stage<R>, number: u64) {
+    let (runnable, task) = stage.task(number % 2, true);
+    runnable.schedule();
+    match number % 3 {
+        0 => drop_task(task),
+        1 => drop_cancel(task.cancel()),
+        _ => {
+            let mut cancel = task.cancel();
+            let _ = cancel.poll(&stage.bell());
+            drop_cancel(cancel);
+        }
+    }
+    if stage.counts.queued.load(SeqCst) > MOST_QUEUED {
+        stage.run_what_is_there(1);
+    }
+}
+
+/// Tasks are cancelled while another thread runs them: each future is dropped once.
+#[test]
+fn a_cancel_meets_a_run(rt: HostRuntime) {
+    let stage = Stage::new(rt, rt.alloc(), no_tasks(rt, rt.alloc()));
+    let (realm, counts) = (stage.realm, stage.counts_too());
+    let runs = move || runs_until(rt, realm, &counts, &counts.future_drops, CANCELS);
+    let runner = thread::spawn(&rt, runs);
+    for number in 0..CANCELS {
+        is_given_up(&stage, number);
+    }
+    runner.expect(&rt, "a thread").join(&rt);
+    stage.future_drops(CANCELS);
+    stage.schedule_drops(CANCELS);
 }

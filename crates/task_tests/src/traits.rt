@@ -1,7 +1,7 @@
 //! Traits, markers and texts of the public types.
 use crate::calls::{Stage, same, shown};
 use crate::parts::{drop_cancel, drop_fallible, drop_waker, no_tasks};
-use async_task::{Builder, NoMemory, Poll, ScheduleInfo, TaskError, WithInfo};
+use async_task::{Builder, NoMemory, Poll, RealmError, ScheduleInfo, TaskError, WithInfo};
 use std::fmt::Debug;
 
 fn is_plain<X: Clone + Copy + PartialEq + Eq + Debug>(value: X) -> X {
@@ -20,6 +20,7 @@ fn plain_types_are_copied_compared_and_shown(rt: HostRuntime) {
     shown(&rt, &info, "ScheduleInfo { woken_while_running: true }");
     shown(&rt, &WithInfo::from(5), "WithInfo(5)");
     shown(&rt, &is_plain(NoMemory), "NoMemory");
+    shown(&rt, &is_plain(RealmError::NoRandom), "NoRandom");
     shown(&rt, &is_plain(TaskError::TaskClosed), "TaskClosed");
     shown(&rt, &is_plain(TaskError::NoMemory), "NoMemory");
     shown(&rt, &Builder::new().metadata(7), "Builder { metadata: 7 }");
@@ -30,7 +31,7 @@ fn plain_types_are_copied_compared_and_shown(rt: HostRuntime) {
 /// are.
 #[test]
 fn handles_move_and_are_shared(rt: HostRuntime) {
-    let stage = Stage::new(rt, rt.alloc(), no_tasks(rt.alloc(), 0));
+    let stage = Stage::new(rt, rt.alloc(), no_tasks(rt, rt.alloc()));
     let (runnable, task) = stage.task(0, false);
     let runnable = moves_and_is_shared(runnable);
     let waker = moves_and_is_shared(stage.waker(&runnable));
@@ -44,7 +45,7 @@ fn handles_move_and_are_shared(rt: HostRuntime) {
 /// A handle's text has the marks of its task at that moment, and how many references there are.
 #[test]
 fn a_handle_is_shown_with_the_marks_of_its_task(rt: HostRuntime) {
-    let stage = Stage::new(rt, rt.alloc(), no_tasks(rt.alloc(), 0));
+    let stage = Stage::new(rt, rt.alloc(), no_tasks(rt, rt.alloc()));
     let (runnable, mut task) = stage.task(0, false);
     shown(
         &rt,

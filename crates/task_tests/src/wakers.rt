@@ -1,8 +1,10 @@
 //! The calls of wakers of each kind, and of the values around a task.
 use crate::calls::{Stage, holds, same};
 use crate::parts::{TestAwaiter, no_tasks};
-use async_task::{Cells, Nobody, Schedule, ScheduleInfo, Wake, WithInfo};
+use async_task::{Cells, Nobody, RealmError, Schedule, ScheduleInfo, Wake, WithInfo};
+use std::io::{self, ErrorKind};
 use std::process::Abort;
+use std::random::RandomSource;
 use std::sync::Wait;
 use std::sync::atomic::AtomicU64;
 use std::sync::atomic::Ordering::SeqCst;
@@ -51,7 +53,7 @@ fn calls_are_heard<R: Abort + Wait + Copy + Drop + 'static>(
 /// One type of waker for tasks and for who is outside: each calls the one that it has.
 #[test]
 fn an_awaiter_is_the_waker_that_it_has(rt: HostRuntime) {
-    let stage = Stage::new(rt, rt.alloc(), no_tasks(rt.alloc(), 0));
+    let stage = Stage::new(rt, rt.alloc(), no_tasks(rt, rt.alloc()));
     let (runnable, _task) = stage.task(9, false);
     let inside = stage.awaiter(&runnable);
     is_no_other_s(&stage, &inside);
@@ -71,10 +73,35 @@ fn nobody_is_copied_and_wakes_nobody(rt: HostRuntime) {
     Nobody.wake();
 }
 
+/// Gives the same byte again and again, or nothing.
+#[derive(Clone, Copy, Drop)]
+struct Bytes(Option<u8>);
+
+impl RandomSource for Bytes {
+    fn fill_bytes(&self, buf: &mut [u8]) -> io::Result<()> {
+        match self.0 {
+            Some(byte) => {
+                buf.fill(byte);
+                Ok(())
+            }
+            None => Err(ErrorKind::Other.into()),
+        }
+    }
+}
+
 #[test]
-fn a_realm_has_the_number_that_it_was_made_with(rt: HostRuntime) -> Result<(), Fail> {
-    let cells: Cells<u64> = Cells::new(rt.alloc(), 3)?;
-    same(&rt, cells.number(), 3);
+fn a_realm_has_the_number_that_was_drawn(rt: HostRuntime) -> Result<(), Fail> {
+    let cells = Cells::<u64>::leak(Bytes(Some(3)), rt.alloc())?;
+    same(&rt, cells.number(), 0x0303_0303_0303_0303);
+    match Cells::<u64>::leak(Bytes(None), rt.alloc()) {
+        Ok(_) => panic!(rt; "a number of no bytes"),
+        Err(error) => same(&rt, error, RealmError::NoRandom),
+    }
+    let (one, other) = (
+        Cells::<u64>::leak(rt, rt.alloc())?,
+        Cells::<u64>::leak(rt, rt.alloc())?,
+    );
+    holds(&rt, one.number() != other.number());
     Ok(())
 }
 

@@ -8,7 +8,7 @@ use std::test::Fail;
 /// The whole of a task: it is spawned, run, wakes itself, is run again and gives its output.
 #[test]
 fn a_task_gives_its_output(rt: HostRuntime) {
-    let stage = Stage::new(rt, rt.alloc(), no_tasks(rt.alloc(), 0));
+    let stage = Stage::new(rt, rt.alloc(), no_tasks(rt, rt.alloc()));
     let (runnable, mut task) = stage.task(1, true);
     stage.poll(&mut task, Poll::Pending);
     stage.run(runnable, true);
@@ -26,7 +26,7 @@ fn a_task_gives_its_output(rt: HostRuntime) {
 /// A task whose handle is dropped isn't polled: its run drops the future and empties the cell.
 #[test]
 fn a_dropped_task_isnt_polled(rt: HostRuntime) {
-    let stage = Stage::new(rt, rt.alloc(), no_tasks(rt.alloc(), 0));
+    let stage = Stage::new(rt, rt.alloc(), no_tasks(rt, rt.alloc()));
     let (runnable, task) = stage.task(1, false);
     drop_task(task);
     stage.seen((0, 0, 0, 0));
@@ -37,7 +37,7 @@ fn a_dropped_task_isnt_polled(rt: HostRuntime) {
 #[test]
 fn an_executor_of_one_future_runs_it_to_its_end(rt: HostRuntime) -> Result<(), Fail> {
     let sum = Sum { left: 4, sum: 0 };
-    let realm = Realm::leak(rt.alloc(), 0)?;
+    let realm = Realm::leak(rt, rt.alloc())?;
     same(
         &rt,
         executor::run(rt, rt.alloc(), realm, sum)?,

@@ -16,9 +16,9 @@ use std::{env, io};
 fn main(rt: HostRuntime) -> ExitCode {
     // Generic code that makes a realm and works on it gets no proof, so it is made here, before it is known whether there are
     // jobs.
-    let ended = match JobRealm::<HostRuntime>::leak(rt.alloc(), 0) {
+    let ended = match JobRealm::<HostRuntime>::leak(rt, rt.alloc()) {
         Ok(realm) => run::<JobPlace<Open, HostRuntime>, HostRuntime>(rt, realm),
-        Err(_) => Err(Fault::NoMemory),
+        Err(error) => Err(Fault::from(error)),
     };
     match ended {
         Ok(()) => ExitCode::SUCCESS,

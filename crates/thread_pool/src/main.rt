@@ -49,7 +49,7 @@ fn work<R: Wait + Copy + Drop + 'static>(
 
 fn main(rt: HostRuntime) -> io::Result<()> {
     let alloc = rt.alloc();
-    let pool = Executor::new(rt, alloc, Realm::leak(alloc, 0)?, 100)?;
+    let pool = Executor::new(rt, alloc, Realm::leak(rt, alloc)?, 100)?;
     let (mut tasks, _) = pool.spawn_many(&mut (1..=100).map(|last| Sum(last, 0)));
     let is_shut_down = AtomicBool::new(false);
     let client = || {

@@ -48,7 +48,7 @@ fn main(rt: HostRuntime) -> io::Result<()> {
         deadlines.push(Reverse((millis, number)))?;
     }
     let doors: &'static [_] = doors.leak();
-    let executor = Executor::new(rt, alloc, Realm::leak(alloc, 0)?, 3)?;
+    let executor = Executor::new(rt, alloc, Realm::leak(rt, alloc)?, 3)?;
     let mut runs = Vec::new(alloc);
     for door in doors {
         let task = executor.spawn(Sleep(AtDoor(door, rt)));

@@ -1,3 +1,4 @@
+use async_task::RealmError;
 use queue_steps::{NoMemory, PopError, PushError};
 use std::alloc::{AllocError, AllocFailed};
 use std::{fmt, io};
@@ -11,7 +12,7 @@ pub enum Fault {
     NoMemory,
     /// What is timed answered otherwise than the workload needs.
     Refused,
-    /// The system gave no arguments or no time, or what is printed couldn't be written.
+    /// The system gave no arguments, no time or no random number, or what is printed couldn't be written.
     System,
 }
 
@@ -32,7 +33,7 @@ impl fmt::Display for Fault {
             Fault::Usage => "usage: bench, bench NAME [OPS] or bench all",
             Fault::NoMemory => "out of memory",
             Fault::Refused => "a queue refused what the workload needs",
-            Fault::System => "no arguments, no time or no output",
+            Fault::System => "no arguments, no time, no random number or no output",
         })
     }
 }
@@ -52,6 +53,15 @@ impl From<AllocError> for Fault {
 impl<T: Drop> From<AllocFailed<T>> for Fault {
     fn from(_error: AllocFailed<T>) -> Fault {
         Fault::NoMemory
+    }
+}
+
+impl From<RealmError> for Fault {
+    fn from(error: RealmError) -> Fault {
+        match error {
+            RealmError::NoMemory => Fault::NoMemory,
+            RealmError::NoRandom => Fault::System,
+        }
     }
 }
 

@@ -7,7 +7,9 @@ use crate::task::parts::{
 };
 use crate::{Fault, Timing};
 use async_task::local_task::{Settled, Start};
-use async_task::{Awaiter, Back, Future, LocalTask, Nobody, Poll, StoredRunnable, TaskError, Wake};
+use async_task::{
+    Awaiter, Back, Future, LocalTask, Nobody, Poll, Returning, StoredRunnable, TaskError, Wake,
+};
 use concurrent_queue::ConcurrentQueue;
 use std::alloc::Global;
 use std::rt::Clock;
@@ -21,12 +23,11 @@ pub fn spawn_run<R: Clock + Wait + Copy + Drop + 'static>(
     realm: &'static Tasks<R>,
     ops: u64,
 ) -> Result<Timing, Fault> {
-    time_spawn_run(rt, alloc, realm, &empty_queue(alloc)?, ops)
+    time_spawn_run(rt, realm, &empty_queue(alloc)?, ops)
 }
 
 fn time_spawn_run<R: Clock + Wait + Copy + Drop + 'static>(
     rt: R,
-    alloc: Global,
     realm: &'static Tasks<R>,
     queue: &Queue,
     ops: u64,
@@ -34,7 +35,7 @@ fn time_spawn_run<R: Clock + Wait + Copy + Drop + 'static>(
     let mut moved = 0u64;
     let start = Instant::now(&rt)?;
     for number in 0..ops {
-        moved = moved.wrapping_add(output_of(rt, alloc, realm, queue, number)?);
+        moved = moved.wrapping_add(output_of(rt, realm, queue, number)?);
     }
     Timing::since(&rt, start, moved)
 }
@@ -42,12 +43,11 @@ fn time_spawn_run<R: Clock + Wait + Copy + Drop + 'static>(
 /// Spawns, queues, runs and polls a future that gives this number, and answers what the poll gave.
 fn output_of<R: Wait + Copy + Drop + 'static>(
     rt: R,
-    alloc: Global,
     realm: &'static Tasks<R>,
     queue: &Queue,
     number: u64,
 ) -> Result<u64, Fault> {
-    match spawn_to(rt, alloc, realm, queue, Work::Ready(number)) {
+    match spawn_to(rt, realm, queue, Work::Ready(number)) {
         Ok((runnable, mut task)) => {
             runnable.schedule();
             match run_next(rt, realm, queue) {
@@ -74,12 +74,11 @@ pub fn drop_handle<R: Clock + Wait + Copy + Drop + 'static>(
     realm: &'static Tasks<R>,
     ops: u64,
 ) -> Result<Timing, Fault> {
-    time_drop_handle(rt, alloc, realm, &empty_queue(alloc)?, ops)
+    time_drop_handle(rt, realm, &empty_queue(alloc)?, ops)
 }
 
 fn time_drop_handle<R: Clock + Wait + Copy + Drop + 'static>(
     rt: R,
-    alloc: Global,
     realm: &'static Tasks<R>,
     queue: &Queue,
     ops: u64,
@@ -87,7 +86,7 @@ fn time_drop_handle<R: Clock + Wait + Copy + Drop + 'static>(
     let mut moved = 0u64;
     let start = Instant::now(&rt)?;
     for _ in 0..ops {
-        moved = moved.wrapping_add(dropped_unpolled(rt, alloc, realm, queue)?);
+        moved = moved.wrapping_add(dropped_unpolled(rt, realm, queue)?);
     }
     Timing::since(&rt, start, moved)
 }
@@ -95,11 +94,10 @@ fn time_drop_handle<R: Clock + Wait + Copy + Drop + 'static>(
 /// Spawns a future, drops its handle and runs it. Answers 1, where the run was told of no wake.
 fn dropped_unpolled<R: Wait + Copy + Drop + 'static>(
     rt: R,
-    alloc: Global,
     realm: &'static Tasks<R>,
     queue: &Queue,
 ) -> Result<u64, Fault> {
-    match spawn_to(rt, alloc, realm, queue, Work::Waits) {
+    match spawn_to(rt, realm, queue, Work::Waits) {
         Ok((runnable, task)) => {
             drop(task);
             Ok(u64::from(!run(runnable)))
@@ -127,7 +125,7 @@ pub fn wake_run<R: Clock + Wait + Copy + Drop + 'static>(
 fn time_wake_run<R: Clock + Wait + Copy + Drop + 'static>(
     rt: R,
     realm: &'static Tasks<R>,
-    queue: &ConcurrentQueue<StoredRunnable>,
+    queue: &ConcurrentQueue<Returning<StoredRunnable>>,
     waker: &WorkWaker<R>,
     ops: u64,
 ) -> Result<Timing, Fault> {
@@ -161,7 +159,7 @@ pub fn self_wake<R: Clock + Wait + Copy + Drop + 'static>(
 fn time_self_wake<R: Clock + Wait + Copy + Drop + 'static>(
     rt: R,
     realm: &'static Tasks<R>,
-    queue: &ConcurrentQueue<StoredRunnable>,
+    queue: &ConcurrentQueue<Returning<StoredRunnable>>,
     ops: u64,
 ) -> Result<Timing, Fault> {
     let mut moved = 0u64;
@@ -189,7 +187,7 @@ pub fn wake_twice<R: Clock + Wait + Copy + Drop + 'static>(
 
 fn time_wake_twice<R: Clock + Wait + Copy + Drop + 'static>(
     rt: R,
-    queue: &ConcurrentQueue<StoredRunnable>,
+    queue: &ConcurrentQueue<Returning<StoredRunnable>>,
     waker: &WorkWaker<R>,
     ops: u64,
 ) -> Result<Timing, Fault> {

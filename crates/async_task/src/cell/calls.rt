@@ -1,5 +1,6 @@
 //! The moves of a task's handle, each with all that it owes.
-use crate::cell::turns::{owed_runnable, told};
+use crate::cell::resting::{CancelStep, Cancelled, Parked, Thing, put_back};
+use crate::cell::turns::told;
 use crate::cell::{Held, Kept, Scheduled, TaskToken, pay_due};
 use crate::schedule::Schedule;
 use crate::wake::Wake;
@@ -11,17 +12,18 @@ where
     F: Drop + 'static,
     T: Drop + 'static,
     S: Schedule<Scheduled<F, T, S, M, W, R>> + Drop + 'static,
-    M: Drop + 'static,
+    M: Copy + Drop + 'static,
     W: Wake + Drop + 'static,
     R: Wait + Copy + Drop,
 {
     /// The task is cancelled.
-    pub(crate) fn cancel(&self) {
-        if let Some(task) = self.unpark() {
-            let (owed, runnable, task) = task.cancel(&self.rt);
-            self.queue(owed_runnable(owed, runnable));
-            self.call_awaiter(task).park();
+    pub(crate) fn cancel(&self, parked: &mut Parked) -> Cancelled {
+        let (step, cancelled) = self.begin_cancel(parked);
+        if let Some(CancelStep { woken, task }) = step {
+            self.queue(woken);
+            put_back(self.call_awaiter(task), parked);
         }
+        cancelled
     }
 
     /// The awaiter is called, where that is owed.
@@ -35,13 +37,16 @@ where
     }
 
     /// The handle goes. An output that lies in the cell is dropped first.
-    pub(crate) fn detach(&self) {
-        if let Some(task) = self.unpark() {
-            let (owed, gone) = task.detach(&self.rt);
-            match gone {
-                Ok(left) => self.pay(self.left(owed, left)),
-                Err(found) => self.detach_emptied(found),
+    pub(crate) fn detach(&self, parked: Parked) {
+        match self.unpark(parked) {
+            Ok(task) => {
+                let (owed, gone) = task.detach(&self.rt);
+                match gone {
+                    Ok(left) => self.pay(self.left(owed, left)),
+                    Err(found) => self.detach_emptied(found),
+                }
             }
+            Err(parked) => self.realm.returns.set_aside(Thing::Handle(parked)),
         }
     }
 

@@ -4,10 +4,13 @@ ghost use Rattle.std.specs.Prelude.{◌≡◌, IfSome};
 ghost use Rattle.async_task.specs.Due.{IsDueBy, WasIdle};
 ghost use Rattle.async_task.specs.Rests.{info_of};
 
-use crate::cell::scheduled::{Due, Scheduled};
+use crate::cell::fixed::{claim_present, read};
+use crate::cell::resting::{KeptWaker, Thing, rest};
+use crate::cell::returning::GoesBack;
+use crate::cell::scheduled::{Due, Scheduled, StoredWaker};
 use crate::cell::turns::notified;
-use crate::cell::{Held, Kept, Realm, Rest, WakerToken, Woken};
-use crate::schedule::Schedule;
+use crate::cell::{Held, Kept, Rest, WakerToken, Woken};
+use crate::schedule::{Schedule, ScheduleInfo};
 use crate::wake::Wake;
 use std::sync::Wait;
 use task_word::tokens::{OwingRun, PastRun};
@@ -17,7 +20,7 @@ where
     F: Drop + 'static,
     T: Drop + 'static,
     S: Drop + 'static,
-    M: Drop + 'static,
+    M: Copy + Drop + 'static,
     W: Wake + Drop + 'static,
     R: Wait + Copy + Drop,
 {
@@ -46,9 +49,7 @@ where
             Some(woken) => {
                 match self.release(token) {
                     // A task has one Runnable, so this is none: that two tokens are of one cell is not seen here.
-                    Rest::Queue(Woken { token, info: _ }) => {
-                        token.rest();
-                    }
+                    Rest::Queue(woken) => self.give_back(woken),
                     Rest::Drop(kept) => self.let_go_quietly(kept),
                     Rest::Nothing => {}
                 }
@@ -70,6 +71,20 @@ where
         }
     }
 
+    /// A Runnable for which nobody is there goes back to its realm.
+    fn give_back(&self, woken: Woken<F, T, W>) {
+        let Woken { token, info: _ } = woken;
+        let rested = Thing::Runnable(rest(token));
+        self.realm.returns.keep(self.place, rested);
+    }
+
+    /// A waker that a cell kept, as a list keeps it.
+    fn kept_waker(&self, waker: KeptWaker) -> StoredWaker {
+        let realm = self.realm;
+        let (place, stored) = waker.open();
+        StoredWaker::at(&realm.returns, place, stored)
+    }
+
     /// Drops a waker that a cell kept, or was to keep. What is then owed to a schedule value is the answer.
     pub(crate) fn let_go(&self, kept: Kept<W>) -> Option<Due<F, T, S, M, W, R>>
         ensures { IfSome result (λ due. WasIdle due.info) }
@@ -77,13 +92,16 @@ where
         let mut kept = kept;
         for _ in self.rt.forever() {
             match kept {
-                Kept::Task(place) => match waker_at(self.rt, self.realm, place) {
-                    Some((task, token)) => match task.release(token) {
+                Kept::Task(waker) => match self.kept_waker(waker).find(self.rt, self.realm) {
+                    Ok((task, token)) => match task.release(token) {
                         Rest::Queue(woken) => return Some(task.due(woken)),
                         Rest::Drop(next) => kept = next,
                         Rest::Nothing => return None,
                     },
-                    None => return None,
+                    Err(waker) => {
+                        waker.go_back();
+                        return None;
+                    }
                 },
                 Kept::Outside(waker) => {
                     drop(waker);
@@ -95,10 +113,10 @@ where
         unreachable!()
     }
 
-    /// The same where nobody is there to hand a task to: its Runnable rests in its cell.
+    /// The same where nobody is there to hand a task to: its Runnable goes back to its realm.
     fn let_go_quietly(&self, kept: Kept<W>) {
         if let Some(Due { runnable, info: _ }) = self.let_go(kept) {
-            runnable.store();
+            runnable.store().go_back();
         }
     }
 
@@ -107,9 +125,12 @@ where
         ensures { IfSome result (λ due. WasIdle due.info) }
     {
         match kept {
-            Kept::Task(place) => match waker_at(self.rt, self.realm, place) {
-                Some((task, token)) => task.wake_and_release_later(token),
-                None => None,
+            Kept::Task(waker) => match self.kept_waker(waker).find(self.rt, self.realm) {
+                Ok((task, token)) => task.wake_and_release_later(token),
+                Err(waker) => {
+                    waker.go_back();
+                    None
+                }
             },
             Kept::Outside(waker) => {
                 waker.wake();
@@ -130,7 +151,7 @@ where
     }
 
     /// The end of a closing call: the awaiter is called, and then the reference given up. Of two tasks that are then owed to their
-    /// schedule values the second rests: who awaits a task after its last call is dropped with it.
+    /// schedule values the second goes back to its realm: who awaits a task after its last call is dropped with it.
     pub(crate) fn leave_later(
         &self,
         run: Result<PastRun<F, T, Kept<W>>, OwingRun<F, T, Kept<W>>>,
@@ -141,9 +162,7 @@ where
         let due = self.call_some(awaiter);
         match self.give_up(past) {
             // The move that gives a reference up owes no Runnable.
-            Rest::Queue(Woken { token, info: _ }) => {
-                token.rest();
-            }
+            Rest::Queue(woken) => self.give_back(woken),
             Rest::Drop(kept) => self.let_go_quietly(kept),
             Rest::Nothing => {}
         }
@@ -156,7 +175,7 @@ where
     F: Drop + 'static,
     T: Drop + 'static,
     S: Schedule<Scheduled<F, T, S, M, W, R>> + Drop + 'static,
-    M: Drop + 'static,
+    M: Copy + Drop + 'static,
     W: Wake + Drop + 'static,
     R: Wait + Copy + Drop,
 {
@@ -180,8 +199,15 @@ where
     pub(crate) fn queue(&self, woken: Option<Woken<F, T, W>>) {
         if let Some(Woken { token, info }) = woken {
             let held = self.share();
-            self.schedule().schedule(Scheduled { held, token }, info);
+            self.hand_over(Scheduled { held, token }, info);
         }
+    }
+
+    /// Hands the task to its schedule value, which a claim keeps where it is meanwhile.
+    pub(crate) fn hand_over(&self, runnable: Scheduled<F, T, S, M, W, R>, info: ScheduleInfo) {
+        let claim = claim_present(&self.rt, &self.cell.fixed);
+        read(&claim).schedule.schedule(runnable, info);
+        self.leave_slot(claim);
     }
 }
 
@@ -191,37 +217,12 @@ where
     F: Drop + 'static,
     T: Drop + 'static,
     S: Schedule<Scheduled<F, T, S, M, W, R>> + Drop + 'static,
-    M: Drop + 'static,
+    M: Copy + Drop + 'static,
     W: Wake + Drop + 'static,
     R: Wait + Copy + Drop,
 {
     if let Some(Due { runnable, info }) = due {
         let task = runnable.held.share();
-        task.schedule().schedule(runnable, info);
-    }
-}
-
-/// The waker of the task at this place, where a reference of one rests in its cell.
-pub(crate) fn waker_at<F, T, S, M, W, R>(
-    rt: R,
-    realm: &'static Realm<F, T, S, M, W>,
-    place: usize,
-) -> Option<(Held<F, T, S, M, W, R>, WakerToken<F, T, W>)>
-where
-    F: Drop + 'static,
-    T: Drop + 'static,
-    S: Drop + 'static,
-    M: Drop + 'static,
-    W: Drop + 'static,
-    R: Wait + Copy + Drop,
-    ensures { IfSome result
-        (λ found. found.0.identity ≡ record { realm = realm.now.number; place = place }) }
-{
-    match Held::find(rt, realm, place) {
-        Some(held) => match held.redeem() {
-            Some(token) => Some((held, token)),
-            None => None,
-        },
-        None => None,
+        task.hand_over(runnable, info);
     }
 }

@@ -1,10 +1,13 @@
-ghost use Rattle.std.specs.Prelude.{◌≡◌, IfSome};
+ghost use Rattle.std.specs.Prelude.{◌≡◌, ◌↔◌, IfErr, IfOk, IfSome, IsTrue};
 ghost use Rattle.async_task.specs.Due.{WasIdle};
 
-use crate::cell::paying::waker_at;
+use crate::cell::fixed::{claim_present, read};
+use crate::cell::resting::{Rested, Stored, Thing, rest, store};
+use crate::cell::returning::GoesBack;
 use crate::cell::{Held, Identity, Realm, RunnableToken, WakerToken};
+use crate::realm::Returns;
 use crate::runnable::Runnable;
-use crate::schedule::{Schedule, ScheduleInfo};
+use crate::schedule::{Schedule, ScheduleInfo, Shared};
 use crate::wake::Wake;
 use crate::waker::TaskWaker;
 use std::marker::Model;
@@ -27,17 +30,41 @@ impl<F: 'static, T: 'static, S: 'static, M: 'static, W: 'static, R> Model
 }
 
 /// A Runnable as a queue keeps it, which may belong to the schedule value of that very task. It
-/// stands for one Runnable, which rests in its cell: where it is lost, its task is never run and its cell stays.
-#[derive(Debug, PartialEq, Eq, Drop)]
-pub struct StoredRunnable {
-    identity: Identity,
+/// stands for one Runnable, which rests in its cell. It has no drop: it is redeemed, closed, or given back to its
+/// realm.
+pub struct StoredRunnable<M = ()> {
+    returns: &'static Returns,
+    place: usize,
+    metadata: M,
+    rested: Rested,
+}
+
+impl<M> Model for StoredRunnable<M> {
+    ghost use Rattle.async_task.specs.Handles.{Handle};
+
+    ghost Value = { Handle M };
+
+    ghost view = { λ s. record {
+      identity = record { realm = s.returns.now.number; place = s.place };
+      metadata = s.metadata;
+    } };
 }
 
 /// A waker as a list keeps it, which may belong to the schedule value of that very task. It stands
-/// for one waker, whose reference rests in its task's cell: where it is lost, that cell stays.
-#[derive(Debug, PartialEq, Eq, Drop)]
+/// for one waker, whose reference rests in its task's cell. It has no drop: it is redeemed, called, released, or
+/// given back to its realm.
 pub struct StoredWaker {
-    identity: Identity,
+    returns: &'static Returns,
+    place: usize,
+    stored: Stored,
+}
+
+impl Model for StoredWaker {
+    ghost use Rattle.async_task.specs.Handles.{Resting};
+
+    ghost Value = { Resting };
+
+    ghost view = { λ s. record { identity = record { realm = s.returns.now.number; place = s.place } } };
 }
 
 /// A task that is to be handed to its schedule value, with what that is to be told.
@@ -51,19 +78,18 @@ where
     F: Drop + 'static,
     T: Drop + 'static,
     S: Drop + 'static,
-    M: Drop + 'static,
+    M: Copy + Drop + 'static,
     W: Wake + Drop + 'static,
     R: Wait + Copy + Drop,
 {
     /// The Runnable for a queue.
-    pub fn store(self) -> StoredRunnable
-        ensures { result.identity ≡ self.identity }
+    pub fn store(self) -> StoredRunnable<M>
+        ensures task { result.identity ≡ self.identity }
+        ensures metadata { result.metadata ≡ self.metadata }
     {
         let Scheduled { held, token } = self;
-        token.rest();
-        StoredRunnable {
-            identity: held.identity(),
-        }
+        let realm = held.realm;
+        StoredRunnable::at(&realm.returns, held.place, held.metadata, rest(token))
     }
 
     /// The metadata that the task was made with.
@@ -73,16 +99,22 @@ where
         self.held.metadata()
     }
 
-    /// The schedule value of the task.
-    pub fn schedule_value(&self) -> &S {
-        self.held.schedule()
+    /// One more of the schedule value of the task, which stays where it is meanwhile.
+    pub fn schedule_value(&self) -> S
+    where
+        S: Shared,
+    {
+        let claim = claim_present(&self.held.rt, &self.held.cell.fixed);
+        let one_more = read(&claim).schedule.share();
+        self.held.leave_slot(claim);
+        one_more
     }
 
     /// Where the task lies, and so all tasks that its wakers may be kept with.
     pub fn realm(&self) -> &'static Realm<F, T, S, M, W>
         ensures { result.now.number ≡ self.now.identity.realm }
     {
-        self.held.realm
+        self.held.realm()
     }
 
     /// Closes the task, as the drop of a Runnable does. Who awaits it is woken: where that is a
@@ -102,7 +134,7 @@ where
     F: Drop + 'static,
     T: Drop + 'static,
     S: Schedule<Scheduled<F, T, S, M, W, R>> + Drop + 'static,
-    M: Drop + 'static,
+    M: Copy + Drop + 'static,
     W: Wake + Drop + 'static,
     R: Wait + Copy + Drop,
 {
@@ -115,130 +147,327 @@ where
     }
 }
 
-impl StoredRunnable {
-    /// The Runnable that was stored, where it is of this realm.
-    pub fn redeem<F, T, S, M, W, R>(
+impl<M> StoredRunnable<M> {
+    /// What rests at this place.
+    pub(crate) fn at(returns: &'static Returns, place: usize, metadata: M, rested: Rested) -> Self
+        ensures place { result.identity ≡ record { realm = returns.now.number; place = place } }
+        ensures metadata { result.metadata ≡ metadata }
+    {
+        StoredRunnable {
+            returns,
+            place,
+            metadata,
+            rested,
+        }
+    }
+
+    /// Which task it is of.
+    pub fn identity(&self) -> Identity
+        ensures { result ≡ self.now.identity }
+    {
+        let (realm, place) = (self.returns.number(), self.place);
+        Identity { realm, place }
+    }
+
+    /// The Runnable that was stored. Where it is of another realm it comes back.
+    pub fn redeem<F, T, S, W, R>(
         self,
         rt: R,
         realm: &'static Realm<F, T, S, M, W>,
-    ) -> Option<Scheduled<F, T, S, M, W, R>>
+    ) -> Result<Scheduled<F, T, S, M, W, R>, Self>
     where
         F: Drop + 'static,
         T: Drop + 'static,
         S: Drop + 'static,
-        M: Drop + 'static,
+        M: Copy + Drop + 'static,
         W: Wake + Drop + 'static,
         R: Wait + Copy + Drop,
-        ensures found { IfSome result (λ found. found.identity ≡ self.identity) }
-        ensures here { IfSome result (λ found. found.identity.realm ≡ realm.now.number) }
+        ensures found { IfOk result (λ found. found ≡ self) }
+        ensures here { IfOk result (λ found. found.identity.realm ≡ realm.now.number) }
+        ensures back { IfErr result (λ back. back ≡ self) }
     {
-        if self.identity.realm != realm.number() {
-            return None;
-        }
-        match Held::find(rt, realm, self.identity.place) {
-            Some(held) => match held.resume() {
-                Some(token) => Some(Scheduled { held, token }),
-                None => None,
+        let StoredRunnable {
+            returns,
+            place,
+            metadata,
+            rested,
+        } = self;
+        let rested = match find_with(rt, realm, returns, place, metadata) {
+            Some(held) => match held.resume(rested) {
+                Ok(token) => return Ok(Scheduled { held, token }),
+                Err(rested) => rested,
             },
-            None => None,
+            None => rested,
+        };
+        Err(StoredRunnable {
+            returns,
+            place,
+            metadata,
+            rested,
+        })
+    }
+
+    /// Closes the task, as `Scheduled::close` does, with the same answer. Where it is of another realm it comes back.
+    pub fn close<F, T, S, W, R>(
+        self,
+        rt: R,
+        realm: &'static Realm<F, T, S, M, W>,
+    ) -> Result<Option<Due<F, T, S, M, W, R>>, Self>
+    where
+        F: Drop + 'static,
+        T: Drop + 'static,
+        S: Drop + 'static,
+        M: Copy + Drop + 'static,
+        W: Wake + Drop + 'static,
+        R: Wait + Copy + Drop,
+        ensures idle { IfOk result (λ due. IfSome due (λ due. WasIdle due.info)) }
+        ensures back { IfErr result (λ back. back ≡ self) }
+    {
+        match self.redeem(rt, realm) {
+            Ok(scheduled) => Ok(scheduled.close()),
+            Err(back) => Err(back),
         }
     }
 }
 
+impl<M: Drop> GoesBack for StoredRunnable<M> {
+    fn go_back(self) {
+        let StoredRunnable {
+            returns,
+            place,
+            metadata: _,
+            rested,
+        } = self;
+        returns.keep(place, Thing::Runnable(rested));
+    }
+}
+
 impl StoredWaker {
-    pub(crate) fn of(identity: Identity) -> Self
-        ensures { result.identity ≡ identity }
+    /// What rests at this place.
+    pub(crate) fn at(returns: &'static Returns, place: usize, stored: Stored) -> Self
+        ensures { result.identity ≡ record { realm = returns.now.number; place = place } }
     {
-        StoredWaker { identity }
+        StoredWaker {
+            returns,
+            place,
+            stored,
+        }
     }
 
-    /// The waker that was stored, where it is of this realm.
+    /// It isn't at its place.
+    pub(crate) fn set_aside(self) {
+        let StoredWaker {
+            returns,
+            place: _,
+            stored,
+        } = self;
+        returns.set_aside(Thing::Waker(stored));
+    }
+
+    /// Which task it is of.
+    pub fn identity(&self) -> Identity
+        ensures { result ≡ self.now.identity }
+    {
+        let (realm, place) = (self.returns.number(), self.place);
+        Identity { realm, place }
+    }
+
+    /// The waker that was stored. Where it is of another realm it comes back.
     pub fn redeem<F, T, S, M, W, R>(
         self,
         rt: R,
         realm: &'static Realm<F, T, S, M, W>,
-    ) -> Option<TaskWaker<F, T, S, M, W, R>>
+    ) -> Result<TaskWaker<F, T, S, M, W, R>, Self>
     where
         F: Drop + 'static,
         T: Drop + 'static,
         S: Schedule<Scheduled<F, T, S, M, W, R>> + Drop + 'static,
-        M: Drop + 'static,
+        M: Copy + Drop + 'static,
         W: Wake + Drop + 'static,
         R: Wait + Copy + Drop,
-        ensures found { IfSome result (λ found. found.identity ≡ self.identity) }
-        ensures here { IfSome result (λ found. found.identity.realm ≡ realm.now.number) }
+        ensures found { IfOk result (λ found. found.identity ≡ self.identity) }
+        ensures here { IfOk result (λ found. found.identity.realm ≡ realm.now.number) }
+        ensures back { IfErr result (λ back. back ≡ self) }
     {
         match self.find(rt, realm) {
-            Some((held, token)) => Some(TaskWaker::of(held, token)),
-            None => None,
+            Ok((held, token)) => Ok(TaskWaker::of(held, token)),
+            Err(back) => Err(back),
         }
     }
 
     /// Wakes the task, and is gone. Where the task has to be queued, it is the answer. A schedule
     /// value that wakes tasks calls this, and goes on with the answer in a loop, since its own
-    /// `schedule` can't be called from within.
+    /// `schedule` can't be called from within. A waker of another realm comes back.
     pub fn wake<F, T, S, M, W, R>(
         self,
         rt: R,
         realm: &'static Realm<F, T, S, M, W>,
-    ) -> Option<Due<F, T, S, M, W, R>>
+    ) -> Result<Option<Due<F, T, S, M, W, R>>, Self>
     where
         F: Drop + 'static,
         T: Drop + 'static,
         S: Drop + 'static,
-        M: Drop + 'static,
+        M: Copy + Drop + 'static,
         W: Wake + Drop + 'static,
         R: Wait + Copy + Drop,
-        ensures task { IfSome result (λ due. due.runnable.identity ≡ self.identity) }
-        ensures idle { IfSome result (λ due. WasIdle due.info) }
+        ensures task { IfOk result (λ due. IfSome due (λ due. due.runnable.identity ≡ self.identity)) }
+        ensures idle { IfOk result (λ due. IfSome due (λ due. WasIdle due.info)) }
+        ensures back { IfErr result (λ back. back ≡ self) }
     {
         match self.find(rt, realm) {
-            Some((task, token)) => task.wake_and_release_later(token),
-            None => None,
+            Ok((task, token)) => Ok(task.wake_and_release_later(token)),
+            Err(back) => Err(back),
         }
     }
 
-    /// Drops the waker. Where the task has to be queued then, it is the answer.
+    /// Drops the waker. Where the task has to be queued then, it is the answer. A waker of another realm comes back.
     pub fn release<F, T, S, M, W, R>(
         self,
         rt: R,
         realm: &'static Realm<F, T, S, M, W>,
-    ) -> Option<Due<F, T, S, M, W, R>>
+    ) -> Result<Option<Due<F, T, S, M, W, R>>, Self>
     where
         F: Drop + 'static,
         T: Drop + 'static,
         S: Drop + 'static,
-        M: Drop + 'static,
+        M: Copy + Drop + 'static,
         W: Wake + Drop + 'static,
         R: Wait + Copy + Drop,
-        ensures task { IfSome result (λ due. due.runnable.identity ≡ self.identity) }
-        ensures idle { IfSome result (λ due. WasIdle due.info) }
+        ensures task { IfOk result (λ due. IfSome due (λ due. due.runnable.identity ≡ self.identity)) }
+        ensures idle { IfOk result (λ due. IfSome due (λ due. WasIdle due.info)) }
+        ensures back { IfErr result (λ back. back ≡ self) }
     {
         match self.find(rt, realm) {
-            Some((task, token)) => task.release_later(token),
-            None => None,
+            Ok((task, token)) => Ok(task.release_later(token)),
+            Err(back) => Err(back),
         }
     }
 
-    fn find<F, T, S, M, W, R>(
+    /// The way to the task, and the reference.
+    pub(crate) fn find<F, T, S, M, W, R>(
         self,
         rt: R,
         realm: &'static Realm<F, T, S, M, W>,
-    ) -> Option<(Held<F, T, S, M, W, R>, WakerToken<F, T, W>)>
+    ) -> Result<(Held<F, T, S, M, W, R>, WakerToken<F, T, W>), Self>
     where
         F: Drop + 'static,
         T: Drop + 'static,
         S: Drop + 'static,
-        M: Drop + 'static,
+        M: Copy + Drop + 'static,
         W: Wake + Drop + 'static,
         R: Wait + Copy + Drop,
-        ensures found { IfSome result (λ found. found.0.identity ≡ self.identity) }
-        ensures here { IfSome result (λ found. found.0.identity.realm ≡ realm.now.number) }
+        ensures found { IfOk result (λ found. found.0.identity ≡ self.identity) }
+        ensures here { IfOk result (λ found. found.0.identity.realm ≡ realm.now.number) }
+        ensures back { IfErr result (λ back. back ≡ self) }
     {
-        if self.identity.realm == realm.number() {
-            waker_at(rt, realm, self.identity.place)
-        } else {
-            None
-        }
+        let StoredWaker {
+            returns,
+            place,
+            stored,
+        } = self;
+        let stored = match find(rt, realm, returns, place) {
+            Some(held) => match held.redeem(stored) {
+                Ok(token) => return Ok((held, token)),
+                Err(stored) => stored,
+            },
+            None => stored,
+        };
+        Err(StoredWaker {
+            returns,
+            place,
+            stored,
+        })
+    }
+}
+
+impl GoesBack for StoredWaker {
+    fn go_back(self) {
+        let StoredWaker {
+            returns,
+            place,
+            stored,
+        } = self;
+        returns.keep(place, Thing::Waker(stored));
+    }
+}
+
+impl<F, T, S, M, W, R> Held<F, T, S, M, W, R>
+where
+    F: Drop + 'static,
+    T: Drop + 'static,
+    S: Drop + 'static,
+    M: Copy + Drop + 'static,
+    W: Drop + 'static,
+    R: Wait + Copy + Drop,
+{
+    /// A waker of this task for a list.
+    pub(crate) fn stored(&self, token: WakerToken<F, T, W>) -> StoredWaker
+        ensures { result.identity ≡ self.now.identity }
+    {
+        let realm = self.realm;
+        StoredWaker::at(&realm.returns, self.place, store(token))
+    }
+}
+
+/// Whether what rests is of this realm.
+fn is_of<F, T, S, M, W>(returns: &Returns, realm: &Realm<F, T, S, M, W>) -> bool
+where
+    F: Drop,
+    T: Drop,
+    S: Drop,
+    M: Drop,
+    W: Drop,
+    ensures { IsTrue result ↔ returns.now.number ≡ realm.now.number }
+{
+    returns.number() == realm.number()
+}
+
+/// The way to the task of what rests at this place, where that is of this realm.
+pub(crate) fn find<F, T, S, M, W, R>(
+    rt: R,
+    realm: &'static Realm<F, T, S, M, W>,
+    returns: &'static Returns,
+    place: usize,
+) -> Option<Held<F, T, S, M, W, R>>
+where
+    F: Drop + 'static,
+    T: Drop + 'static,
+    S: Drop + 'static,
+    M: Copy + Drop + 'static,
+    W: Drop + 'static,
+    R: Wait + Copy + Drop,
+    ensures found { IfSome result (λ held. held.identity ≡ record { realm = returns.now.number; place = place }) }
+    ensures here { IfSome result (λ held. held.identity.realm ≡ realm.now.number) }
+{
+    if is_of(returns, realm) {
+        Held::find(rt, realm, place)
+    } else {
+        None
+    }
+}
+
+/// The same, where the task's metadata are at hand.
+pub(crate) fn find_with<F, T, S, M, W, R>(
+    rt: R,
+    realm: &'static Realm<F, T, S, M, W>,
+    returns: &'static Returns,
+    place: usize,
+    metadata: M,
+) -> Option<Held<F, T, S, M, W, R>>
+where
+    F: Drop + 'static,
+    T: Drop + 'static,
+    S: Drop + 'static,
+    M: Copy + Drop + 'static,
+    W: Drop + 'static,
+    R: Wait + Copy + Drop,
+    ensures found { IfSome result (λ held. held.identity ≡ record { realm = returns.now.number; place = place }) }
+    ensures metadata { IfSome result (λ held. held.metadata ≡ metadata) }
+    ensures here { IfSome result (λ held. held.identity.realm ≡ realm.now.number) }
+{
+    if is_of(returns, realm) {
+        Held::at(rt, realm, place, metadata)
+    } else {
+        None
     }
 }

@@ -59,7 +59,7 @@ where
     F: Drop + 'static,
     T: Drop + 'static,
     S: Drop + 'static,
-    M: Drop + 'static,
+    M: Copy + Drop + 'static,
     W: Drop + 'static,
     R: Wait + Copy + Drop,
 {
@@ -79,28 +79,15 @@ where
         }
     }
 
-    /// The Runnable that rests in the cell.
-    pub(crate) fn resume(&self) -> Option<RunnableToken<F, T, W>> {
-        match self.cell.word.resume(&self.rt) {
-            Ok(token) => Some(token),
-            Err(_) => None,
+    /// One reference more, for a waker that is lent. That nobody has such a waker by value the types don't say: this
+    /// waits where there are too many references.
+    pub(crate) fn insist(&self) -> WakerToken<F, T, W> {
+        for _ in self.rt.forever() {
+            if let Some(token) = self.hold() {
+                return token;
+            }
         }
-    }
-
-    /// A reference that rests in the cell.
-    pub(crate) fn redeem(&self) -> Option<WakerToken<F, T, W>> {
-        match self.cell.word.redeem(&self.rt) {
-            Ok(token) => Some(token),
-            Err(_) => None,
-        }
-    }
-
-    /// The handle that rests in the cell.
-    pub(crate) fn unpark(&self) -> Option<TaskToken<F, T, W>> {
-        match self.cell.word.unpark(&self.rt) {
-            Ok(token) => Some(token),
-            Err(_) => None,
-        }
+        unreachable!()
     }
 
     /// A reference goes.

@@ -19,8 +19,8 @@ const CAPACITY: u32 = 16_777_184;
 /// More than the greatest number of a place: numbers are taken modulo this.
 const PLACES: usize = 0x100_0000;
 
-/// The low half of `Pages::free`.
-const LINK: u64 = 0xffff_ffff;
+/// The part of `Pages::free` that has a place: no more than a place needs, so that the count of changes has 40 bits.
+const LINK: u64 = 0xff_ffff;
 
 /// A place for a cell.
 #[derive(Drop)]
@@ -34,8 +34,10 @@ pub struct Slot<C> {
 /// The slots, of which each has its number for good.
 #[derive(Drop)]
 pub struct Pages<C> {
-    /// The low half is 1 more than the place of the first free slot that was in use before, or 0.
-    /// The high half counts the changes, so that a slot that went and came back isn't mistaken.
+    /// The low 24 bits are 1 more than the place of the first free slot that was in use before, or 0. The rest counts the
+    /// changes, so that a slot that went and came back isn't mistaken but where 2^40 changes fall between a load and its
+    /// exchange. Even then no task comes to harm: a place that is in use may be answered as a free one, and a spawn passes
+    /// over a cell that isn't empty. But free places may be lost, and a spawn may look for one without end.
     free: AtomicU64,
     /// The places from this one on were never in use.
     used: AtomicU64,
@@ -103,7 +105,16 @@ impl<C: Drop> Pages<C> {
         });
     }
 
-    fn reuse(&self) -> Option<usize> {
+    /// The cell at this place.
+    pub fn cell(&self, place: usize) -> Option<&C> {
+        match self.slot(place) {
+            Some(slot) => slot.cell.get(),
+            None => None,
+        }
+    }
+
+    /// A place that was given back.
+    pub fn reuse(&self) -> Option<usize> {
         let free = self.free.fetch_update(SeqCst, SeqCst, |free| {
             let place = (free & LINK).checked_sub(1)?;
             let next = self.slot(place as usize)?.next.load(SeqCst);
@@ -157,7 +168,15 @@ impl<C: Vacant + Drop> Pages<C> {
         Some(place)
     }
 
-    /// Makes the cell at a place that was just taken, unless it is there.
+    /// Makes the slot of this place, and its cell, unless they are there. None for want of memory.
+    pub fn make_at(&self, place: usize) -> Option<()> {
+        if self.slot(place).is_none() {
+            self.add_page(position((place % PLACES) as u32).0 % PAGES)?;
+        }
+        self.make_cell(place)
+    }
+
+    /// Makes the cell at a place, unless it is there.
     fn make_cell(&self, place: usize) -> Option<()> {
         let slot = self.slot(place)?;
         if slot.cell.get().is_none() {

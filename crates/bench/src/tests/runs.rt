@@ -51,9 +51,9 @@ fn moved_by_3000(workload: Workload) -> u64 {
 #[test]
 fn each_workload_moves_what_it_was_asked_to(rt: HostRuntime) -> Result<(), Fail> {
     let realms = Realms {
-        tasks: Tasks::leak(rt.alloc(), 0)?,
-        futures: Futures::leak(rt.alloc(), 0)?,
-        jobs: JobRealm::<HostRuntime>::leak(rt.alloc(), 0)?,
+        tasks: Tasks::leak(rt, rt.alloc())?,
+        futures: Futures::leak(rt, rt.alloc())?,
+        jobs: JobRealm::<HostRuntime>::leak(rt, rt.alloc())?,
     };
     for workload in ALL {
         let moved = match run::<

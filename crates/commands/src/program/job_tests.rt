@@ -71,7 +71,7 @@ where
 
 #[test]
 fn answers_come_in_order_or_the_first_bad_line_is_named(rt: HostRuntime) -> Result<(), Fail> {
-    let realm = JobRealm::<HostRuntime>::leak(rt.alloc(), 0)?;
+    let realm = JobRealm::<HostRuntime>::leak(rt, rt.alloc())?;
     for (workers, input, want) in [
         ("2", TWO_JOBS, Ok(TWO_ANSWERS)),
         ("1", "", Ok("")),
@@ -114,7 +114,7 @@ fn answers_come_in_order_or_the_first_bad_line_is_named(rt: HostRuntime) -> Resu
 
 #[test]
 fn bytes_that_are_no_text_are_a_bad_line(rt: HostRuntime) -> Result<(), Fail> {
-    let realm = JobRealm::<HostRuntime>::leak(rt.alloc(), 0)?;
+    let realm = JobRealm::<HostRuntime>::leak(rt, rt.alloc())?;
     let input = [115, 117, 109, 32, 49, 10, 255, 254, 0, 10];
     let is_so = shows::<HostPlace, HostRuntime>(
         rt,
@@ -130,7 +130,7 @@ fn bytes_that_are_no_text_are_a_bad_line(rt: HostRuntime) -> Result<(), Fail> {
 
 #[test]
 fn other_pairs_of_words_are_a_usage_fault(rt: HostRuntime) -> Result<(), Fail> {
-    let realm = JobRealm::<HostRuntime>::leak(rt.alloc(), 0)?;
+    let realm = JobRealm::<HostRuntime>::leak(rt, rt.alloc())?;
     for (first, second) in [
         ("jobs", "0"),
         ("jobs", "65"),
@@ -155,7 +155,7 @@ fn other_pairs_of_words_are_a_usage_fault(rt: HostRuntime) -> Result<(), Fail> {
 
 #[test]
 fn other_single_words_are_a_usage_fault(rt: HostRuntime) -> Result<(), Fail> {
-    let realm = JobRealm::<HostRuntime>::leak(rt.alloc(), 0)?;
+    let realm = JobRealm::<HostRuntime>::leak(rt, rt.alloc())?;
     for word in ["jobs", "Sim", ""] {
         let is_so = shows::<HostPlace, HostRuntime>(
             rt,
@@ -172,7 +172,7 @@ fn other_single_words_are_a_usage_fault(rt: HostRuntime) -> Result<(), Fail> {
 
 #[test]
 fn a_script_is_run_where_that_is_asked(rt: HostRuntime) -> Result<(), Fail> {
-    let realm = JobRealm::<HostRuntime>::leak(rt.alloc(), 0)?;
+    let realm = JobRealm::<HostRuntime>::leak(rt, rt.alloc())?;
     let is_so = shows::<HostPlace, HostRuntime>(
         rt,
         rt.alloc(),
@@ -187,7 +187,7 @@ fn a_script_is_run_where_that_is_asked(rt: HostRuntime) -> Result<(), Fail> {
 
 #[test]
 fn each_read_of_jobs_that_fails_ends_the_program(rt: HostRuntime) -> Result<(), Fail> {
-    let realm = JobRealm::<HostRuntime>::leak(rt.alloc(), 0)?;
+    let realm = JobRealm::<HostRuntime>::leak(rt, rt.alloc())?;
     for reads_before in 0..TWO_JOBS.len() + 1 {
         let text = TWO_JOBS.as_bytes();
         let mut reader = FailingReader { text, reads_before };
@@ -207,7 +207,7 @@ fn each_read_of_jobs_that_fails_ends_the_program(rt: HostRuntime) -> Result<(), 
 
 #[test]
 fn each_write_of_answers_that_fails_ends_the_program(rt: HostRuntime) -> Result<(), Fail> {
-    let realm = JobRealm::<HostRuntime>::leak(rt.alloc(), 0)?;
+    let realm = JobRealm::<HostRuntime>::leak(rt, rt.alloc())?;
     // A write for each byte, and the flush.
     let writes = TWO_ANSWERS.len() + 1;
     for writes_before in 0..writes + 1 {
@@ -245,7 +245,7 @@ fn ones(alloc: Global, lines: u64) -> Result<Vec<u8>, AllocError> {
 
 #[test]
 fn a_hundred_thousand_lines_are_done(rt: HostRuntime) -> Result<(), Fail> {
-    let realm = JobRealm::<HostRuntime>::leak(rt.alloc(), 0)?;
+    let realm = JobRealm::<HostRuntime>::leak(rt, rt.alloc())?;
     let most = ones(rt.alloc(), 100_000)?;
     for workers in ["1", "4", "64"] {
         let mut reader = most.as_slice();
@@ -266,7 +266,7 @@ fn a_hundred_thousand_lines_are_done(rt: HostRuntime) -> Result<(), Fail> {
 
 #[test]
 fn the_line_after_a_hundred_thousand_is_bad(rt: HostRuntime) -> Result<(), Fail> {
-    let realm = JobRealm::<HostRuntime>::leak(rt.alloc(), 0)?;
+    let realm = JobRealm::<HostRuntime>::leak(rt, rt.alloc())?;
     let more = ones(rt.alloc(), 100_001)?;
     let is_so = shows::<HostPlace, HostRuntime>(
         rt,

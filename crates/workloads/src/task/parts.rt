@@ -2,8 +2,8 @@
 //! holds a task is matched on and not asked with `?`, which has no proof where a `'static` reference is inside.
 use crate::Fault;
 use async_task::{
-    Future, Nobody, Poll, Realm, Runnable, Schedule, ScheduleInfo, Scheduled, StoredRunnable, Task,
-    TaskWaker, Wake, spawn,
+    Future, Nobody, Poll, Realm, Returning, Runnable, Schedule, ScheduleInfo, Scheduled,
+    StoredRunnable, Task, TaskWaker, Wake, spawn,
 };
 use concurrent_queue::ConcurrentQueue;
 use std::alloc::Global;
@@ -36,7 +36,7 @@ impl<K: Wake> Future<K> for Work {
 }
 
 /// Where tasks lie that are to be run.
-pub type Queue = Arc<ConcurrentQueue<StoredRunnable>, Global>;
+pub type Queue = Arc<ConcurrentQueue<Returning<StoredRunnable>>, Global>;
 
 /// The way of a task to its queue.
 #[derive(Drop)]
@@ -46,7 +46,8 @@ type Job<R> = Scheduled<Work, u64, Line<R>, (), Nobody, R>;
 
 impl<R: Wait + Copy + Drop> Schedule<Job<R>> for Line<R> {
     fn schedule(&self, job: Job<R>, _info: ScheduleInfo) {
-        let _ = self.0.push(&self.1, job.store());
+        // One that is refused goes back to its realm.
+        let _ = self.0.push(&self.1, Returning::new(job.store()));
     }
 }
 
@@ -70,7 +71,6 @@ pub fn empty_queue(alloc: Global) -> Result<Queue, Fault> {
 /// Spawns a task that is put in this queue.
 pub fn spawn_to<R: Wait + Copy + Drop + 'static>(
     rt: R,
-    alloc: Global,
     realm: &'static Tasks<R>,
     queue: &Queue,
     work: Work,
@@ -78,7 +78,7 @@ pub fn spawn_to<R: Wait + Copy + Drop + 'static>(
     let Ok(queue) = Arc::try_clone(queue) else {
         return Err(Fault::NoMemory);
     };
-    match spawn(rt, alloc, realm, work, Line(queue, rt)) {
+    match spawn(rt, realm, work, Line(queue, rt)) {
         Ok(both) => Ok(both),
         Err(_) => Err(Fault::NoMemory),
     }
@@ -94,7 +94,7 @@ pub fn run<R: Wait + Copy + Drop + 'static>(runnable: WorkRunnable<R>) -> bool {
 pub fn run_next<R: Wait + Copy + Drop + 'static>(
     rt: R,
     realm: &'static Tasks<R>,
-    queue: &ConcurrentQueue<StoredRunnable>,
+    queue: &ConcurrentQueue<Returning<StoredRunnable>>,
 ) -> Option<bool> {
     match queue.pop(&rt) {
         Ok(stored) => match stored.redeem(rt, realm) {
@@ -123,7 +123,7 @@ impl<R: Wait + Copy + Drop + 'static> Spawned<R> {
         let Ok(queue) = empty_queue(alloc) else {
             return Err(Fault::NoMemory);
         };
-        match spawn_to(rt, alloc, realm, &queue, work) {
+        match spawn_to(rt, realm, &queue, work) {
             Ok((runnable, task)) => Ok(Spawned {
                 queue,
                 runnable,

@@ -1,0 +1,156 @@
+//! What stands for something of a task that rests in its cell, while the cell's place stands in a queue or a list.
+//! None of it has a size or a drop: it is made by the step that lays a thing to rest, and goes by the step that takes
+//! that out.
+mod lost;
+
+pub use crate::cell::resting::lost::{Lost, Lot, Thing};
+use crate::cell::turns::owed_runnable;
+use crate::cell::{Held, Kept, RunnableToken, TaskToken, WakerToken, Woken};
+use std::sync::Wait;
+use task_word::tokens::OwingTask;
+
+/// A Runnable rests.
+pub struct Rested(());
+
+/// A waker rests.
+pub struct Stored(());
+
+/// The handle rests.
+pub struct Parked(());
+
+/// A waker that rests in its cell, as the cell of another task of its realm keeps it. A cell lies there for good, and
+/// so does what it keeps: the drop of this is for the types alone.
+pub struct KeptWaker {
+    place: usize,
+    stored: Stored,
+}
+
+impl KeptWaker {
+    /// The place, and the waker that rests there.
+    pub(crate) fn open(self) -> (usize, Stored) {
+        let KeptWaker { place, stored } = self;
+        (place, stored)
+    }
+}
+
+impl Drop for KeptWaker {
+    fn drop(self) {
+        let KeptWaker {
+            place: _,
+            stored: Stored(()),
+        } = self;
+    }
+}
+
+/// That a handle has cancelled its task.
+#[derive(Clone, Copy, Drop)]
+pub struct Cancelled(());
+
+/// What the handle's cancel has left to be done.
+pub(crate) struct CancelStep<F: 'static, T: 'static, W: 'static> {
+    pub woken: Option<Woken<F, T, W>>,
+    pub task: Result<TaskToken<F, T, W>, OwingTask<F, T, Kept<W>>>,
+}
+
+/// The Runnable rests in its cell.
+pub(crate) fn rest<F: 'static, T: 'static, W: 'static>(token: RunnableToken<F, T, W>) -> Rested {
+    token.rest();
+    Rested(())
+}
+
+/// The waker's reference rests in its cell.
+pub(crate) fn store<F: 'static, T: 'static, W: 'static>(token: WakerToken<F, T, W>) -> Stored {
+    token.store();
+    Stored(())
+}
+
+/// The same of a waker of a task at this place, for a cell that keeps it.
+pub(crate) fn kept<F: 'static, T: 'static, W: 'static>(
+    place: usize,
+    token: WakerToken<F, T, W>,
+) -> KeptWaker {
+    KeptWaker {
+        place,
+        stored: store(token),
+    }
+}
+
+/// The handle rests in its cell.
+pub(crate) fn park<F: 'static, T: 'static, W: 'static>(task: TaskToken<F, T, W>) -> Parked {
+    task.park();
+    Parked(())
+}
+
+/// The handle that was lent rests in its cell again.
+pub(crate) fn put_back<F: 'static, T: 'static, W: 'static>(
+    task: TaskToken<F, T, W>,
+    _parked: &mut Parked,
+) {
+    task.park();
+}
+
+impl<F, T, S, M, W, R> Held<F, T, S, M, W, R>
+where
+    F: Drop + 'static,
+    T: Drop + 'static,
+    S: Drop + 'static,
+    M: Copy + Drop + 'static,
+    W: Drop + 'static,
+    R: Wait + Copy + Drop,
+{
+    /// The Runnable that rests in the cell.
+    pub(crate) fn resume(&self, rested: Rested) -> Result<RunnableToken<F, T, W>, Rested> {
+        match self.cell.word.resume(&self.rt) {
+            Ok(token) => {
+                let Rested(()) = rested;
+                Ok(token)
+            }
+            Err(_) => Err(rested),
+        }
+    }
+
+    /// A reference that rests in the cell.
+    pub(crate) fn redeem(&self, stored: Stored) -> Result<WakerToken<F, T, W>, Stored> {
+        match self.cell.word.redeem(&self.rt) {
+            Ok(token) => {
+                let Stored(()) = stored;
+                Ok(token)
+            }
+            Err(_) => Err(stored),
+        }
+    }
+
+    /// The handle that rests in the cell.
+    pub(crate) fn unpark(&self, parked: Parked) -> Result<TaskToken<F, T, W>, Parked> {
+        match self.cell.word.unpark(&self.rt) {
+            Ok(task) => {
+                let Parked(()) = parked;
+                Ok(task)
+            }
+            Err(_) => Err(parked),
+        }
+    }
+
+    /// The handle that rests in the cell, until it is put back.
+    pub(crate) fn lend(&self, _parked: &mut Parked) -> Option<TaskToken<F, T, W>> {
+        match self.cell.word.unpark(&self.rt) {
+            Ok(task) => Some(task),
+            Err(_) => None,
+        }
+    }
+
+    /// The step by which the handle cancels its task. It is put back, once what is left is done.
+    pub(crate) fn begin_cancel(
+        &self,
+        parked: &mut Parked,
+    ) -> (Option<CancelStep<F, T, W>>, Cancelled) {
+        match self.lend(parked) {
+            Some(task) => {
+                let (owed, runnable, task) = task.cancel(&self.rt);
+                let woken = owed_runnable(owed, runnable);
+                (Some(CancelStep { woken, task }), Cancelled(()))
+            }
+            None => (None, Cancelled(())),
+        }
+    }
+}

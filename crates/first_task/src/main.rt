@@ -1,0 +1,34 @@
+//! A program to start from: a future on a queue, which adds the numbers from `left` down to 1, one a poll.
+#![tactic(auto)]
+
+use async_task::{Awaiter, Future, Nobody, Poll, Realm, Wake};
+use ready_queue::{Places, ReadyQueue};
+use std::io;
+
+#[derive(Drop)]
+struct Sum {
+    left: u64,
+    sum: u64,
+}
+
+impl<K: Wake> Future<K> for Sum {
+    type Output = u64;
+
+    fn poll(&mut self, waker: &K) -> Poll<u64> {
+        if self.left == 0 {
+            return Poll::Ready(self.sum);
+        }
+        self.sum = self.sum.saturating_add(self.left);
+        self.left -= 1;
+        waker.wake_by_ref();
+        Poll::Pending
+    }
+}
+
+fn main(rt: HostRuntime) -> io::Result<()> {
+    let (realm, places) = (Realm::leak(rt, rt.alloc())?, Places::leak(rt.alloc(), 8)?);
+    let queue = ReadyQueue::new(rt, realm, places);
+    let mut task = queue.spawn(Sum { left: 4, sum: 0 })?;
+    queue.run();
+    println!(rt; "{:?}", task.poll(&Awaiter::Outside(Nobody)))
+}

@@ -1,0 +1,115 @@
+ghost use Rattle.std.specs.Prelude.{◌≡◌, IfOk, IfErr, IfSome};
+ghost use Rattle.ready_queue.specs.Errors.{refused};
+
+use crate::errors::SpawnError;
+use crate::names::{QueueRealm, QueueRunnable, QueueTask, QueueWaker};
+use crate::places::Places;
+use crate::ready::Ready;
+use async_task::{Future, Parts, Wake, close_returned, spawn};
+use std::sync::Wait;
+
+/// A queue of tasks that are to be run, and the realm where they lie. Threads that spawn or run share it by reference.
+#[derive(Drop)]
+pub struct ReadyQueue<F: 'static, T: 'static, W: 'static, R: 'static> {
+    realm: &'static QueueRealm<F, T, W, R>,
+    ready: Ready<R>,
+}
+
+impl<F, T, W, R> ReadyQueue<F, T, W, R>
+where
+    F: Drop + 'static,
+    T: Drop + 'static,
+    W: Wake + Drop + 'static,
+    R: Wait + Copy + Drop + 'static,
+{
+    /// A queue with these places. Realm and places are its own: its tasks lie there, and no others.
+    pub fn new(rt: R, realm: &'static QueueRealm<F, T, W, R>, places: &'static Places) -> Self
+        ensures { result.realm.now.number ≡ realm.now.number }
+    {
+        ReadyQueue {
+            realm,
+            ready: Ready { places, rt },
+        }
+    }
+
+    /// Where the tasks lie.
+    pub fn realm(&self) -> &'static QueueRealm<F, T, W, R>
+        ensures { result.now.number ≡ self.now.realm.now.number }
+    {
+        self.realm
+    }
+
+    /// A new task, which is queued to be run. A refused future comes back. What was let go of the queue's tasks is closed first.
+    pub fn spawn(&self, future: F) -> Result<QueueTask<F, T, W, R>, SpawnError<F>>
+        ensures here { IfOk result (λ task. task.identity.realm ≡ self.now.realm.now.number) }
+        ensures future { IfErr result (λ error. refused error ≡ future) }
+    {
+        close_returned(self.ready.rt, self.realm);
+        if self.ready.places.queue.is_closed(&self.ready.rt) {
+            return Err(SpawnError::Closed(future));
+        }
+        if self.ready.places.queue.is_full(&self.ready.rt) {
+            return Err(SpawnError::Full(future));
+        }
+        let (places, rt) = (self.ready.places, self.ready.rt);
+        match spawn(rt, self.realm, future, Ready { places, rt }) {
+            Ok((runnable, task)) => {
+                runnable.schedule();
+                Ok(task)
+            }
+            Err(
+                Parts {
+                    future,
+                    schedule: _,
+                    metadata: _,
+                },
+            ) => Err(SpawnError::NoMemory(future)),
+        }
+    }
+
+    /// The next task that is to be run, where one is queued.
+    pub fn next(&self) -> Option<QueueRunnable<F, T, W, R>>
+        ensures { IfSome result (λ runnable. runnable.identity.realm ≡ self.now.realm.now.number) }
+    {
+        match self.ready.places.queue.pop(&self.ready.rt) {
+            Ok(stored) => match stored.redeem(self.ready.rt, self.realm) {
+                Some(runnable) => Some(runnable.into_runnable()),
+                None => None,
+            },
+            Err(_) => None,
+        }
+    }
+
+    /// Closes the queue and each task that it has. From now on a task that is woken is closed in its place.
+    pub fn close(&self) {
+        self.ready.places.queue.close(&self.ready.rt);
+        for _ in self.ready.rt.forever() {
+            match self.next() {
+                Some(runnable) => drop(runnable),
+                None => return,
+            }
+        }
+        unreachable!()
+    }
+}
+
+impl<F, T, W, R> ReadyQueue<F, T, W, R>
+where
+    F: Future<QueueWaker<F, T, W, R>, Output = T> + Drop + 'static,
+    T: Drop + 'static,
+    W: Wake + Drop + 'static,
+    R: Wait + Copy + Drop + 'static,
+{
+    /// Polls the futures of the tasks that are queued, one after the other, until none is.
+    pub fn run(&self) {
+        for _ in self.ready.rt.forever() {
+            match self.next() {
+                Some(runnable) => {
+                    runnable.run();
+                }
+                None => return,
+            }
+        }
+        unreachable!()
+    }
+}

@@ -1,0 +1,56 @@
+use crate::names::{QueueDue, QueueScheduled};
+use crate::places::Places;
+use async_task::{Due, Returning, Schedule, ScheduleInfo, Wake};
+use std::sync::Wait;
+
+/// The schedule value of a queue's tasks: a Runnable that it is given goes into the queue.
+#[derive(Clone, Copy)]
+pub struct Ready<R> {
+    pub(crate) places: &'static Places,
+    pub(crate) rt: R,
+}
+
+impl<R: Wait + Copy + Drop + 'static> Ready<R> {
+    /// Appends the Runnable. Where the queue is full or closed its task is closed, and the answer is the one that awaited it,
+    /// where that is a task which has to be queued.
+    fn push<F: Drop + 'static, T: Drop + 'static, W: Wake + Drop + 'static>(
+        &self,
+        runnable: QueueScheduled<F, T, W, R>,
+    ) -> Option<QueueDue<F, T, W, R>> {
+        let realm = runnable.realm();
+        match self
+            .places
+            .queue
+            .push(&self.rt, Returning::new(runnable.store()))
+        {
+            Ok(()) => None,
+            Err(refused) => match refused.into_inner().redeem(self.rt, realm) {
+                Some(runnable) => runnable.close(),
+                None => None,
+            },
+        }
+    }
+}
+
+impl<F, T, W, R> Schedule<QueueScheduled<F, T, W, R>> for Ready<R>
+where
+    F: Drop + 'static,
+    T: Drop + 'static,
+    W: Wake + Drop + 'static,
+    R: Wait + Copy + Drop + 'static,
+{
+    /// Appends the Runnable to the queue. Where that is full or closed, the task is closed, and who awaited it is woken.
+    fn schedule(&self, runnable: QueueScheduled<F, T, W, R>, _info: ScheduleInfo) {
+        let mut next = Some(runnable);
+        for _ in self.rt.forever() {
+            next = match next {
+                Some(runnable) => match self.push(runnable) {
+                    Some(Due { runnable, info: _ }) => Some(runnable),
+                    None => None,
+                },
+                None => return,
+            };
+        }
+        unreachable!()
+    }
+}

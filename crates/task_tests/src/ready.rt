@@ -1,0 +1,97 @@
+//! A queue of tasks that are to be run: what it refuses, and what it closes.
+use crate::calls::{holds, same, there};
+use crate::parts::Sum;
+use async_task::{Awaiter, Future, Nobody, Poll, Realm, TaskError};
+use ready_queue::{Places, QueueRunnable, QueueTask, ReadyQueue, SpawnError};
+use std::process::Abort;
+use std::sync::Wait;
+use std::test::Fail;
+
+type TestQueue<R> = ReadyQueue<Sum, u64, Nobody, R>;
+
+type TestTask<R> = QueueTask<Sum, u64, Nobody, R>;
+
+/// A future that is Pending so many times.
+fn sum(left: u64) -> Sum {
+    Sum { left, sum: 0 }
+}
+
+fn spawned<R: Abort + Wait + Copy + Drop + 'static>(
+    rt: &R,
+    queue: &TestQueue<R>,
+    left: u64,
+) -> TestTask<R> {
+    match queue.spawn(sum(left)) {
+        Ok(task) => task,
+        Err(_) => panic!(rt; "refused"),
+    }
+}
+
+/// How a future that is Pending so often is refused: it comes back.
+fn is_refused<R: Abort + Wait + Copy + Drop + 'static>(
+    rt: &R,
+    queue: &TestQueue<R>,
+    left: u64,
+    is_full: bool,
+) {
+    match queue.spawn(sum(left)) {
+        Ok(_) => panic!(rt; "accepted"),
+        Err(SpawnError::Full(back)) => same(rt, (is_full, back.left), (true, left)),
+        Err(SpawnError::Closed(back)) => same(rt, (is_full, back.left), (false, left)),
+        Err(SpawnError::NoMemory(_)) => panic!(rt; "memory"),
+    }
+}
+
+fn gives<R: Abort + Wait + Copy + Drop + 'static>(
+    rt: &R,
+    task: &mut TestTask<R>,
+    want: Poll<Result<u64, TaskError>>,
+) {
+    same(rt, task.poll(&Awaiter::Outside(Nobody)), want);
+}
+
+fn run<R: Wait + Copy + Drop + 'static>(runnable: QueueRunnable<Sum, u64, Nobody, R>) {
+    runnable.run();
+}
+
+const CLOSED: Poll<Result<u64, TaskError>> = Poll::Ready(Err(TaskError::TaskClosed));
+
+/// A full queue refuses a future. Where it is full when a task is woken, that task is closed.
+#[test]
+fn a_full_queue_refuses_and_closes(rt: HostRuntime) -> Result<(), Fail> {
+    let queue = ReadyQueue::new(
+        rt,
+        Realm::leak(rt, rt.alloc())?,
+        Places::leak(rt.alloc(), 1)?,
+    );
+    let mut first = spawned(&rt, &queue, 1);
+    is_refused(&rt, &queue, 5, true);
+    let runnable = there(&rt, queue.next());
+    let mut second = spawned(&rt, &queue, 0);
+    run(runnable);
+    gives(&rt, &mut first, CLOSED);
+    queue.run();
+    gives(&rt, &mut second, Poll::Ready(Ok(0)));
+    holds(&rt, queue.next().is_none());
+    Ok(())
+}
+
+/// A closed queue has closed what it had, closes a task that is woken, and refuses a future.
+#[test]
+fn a_closed_queue_closes_its_tasks(rt: HostRuntime) -> Result<(), Fail> {
+    let queue = ReadyQueue::new(
+        rt,
+        Realm::leak(rt, rt.alloc())?,
+        Places::leak(rt.alloc(), 2)?,
+    );
+    let mut first = spawned(&rt, &queue, 1);
+    let runnable = there(&rt, queue.next());
+    let mut second = spawned(&rt, &queue, 0);
+    gives(&rt, &mut second, Poll::Pending);
+    queue.close();
+    gives(&rt, &mut second, CLOSED);
+    run(runnable);
+    gives(&rt, &mut first, CLOSED);
+    is_refused(&rt, &queue, 5, false);
+    Ok(())
+}

@@ -48,7 +48,10 @@ where
             None => Back::Pending(place),
         };
         match running.settle(back) {
-            RunEnd::Over(_) => {}
+            RunEnd::Over => {}
+            RunEnd::Pause(pause) => {
+                pause.finish();
+            }
             RunEnd::Drop(place, closing) => self.drop_future(place, closing),
         }
     }

@@ -86,8 +86,8 @@ where
 {
     match spawn(rt, realm, place, schedule) {
         Ok((runnable, task)) => match runnable.waker() {
-            Some(waker) => Some((runnable, task, waker.store())),
-            None => None,
+            Ok(waker) => Some((runnable, task, waker.store())),
+            Err(_) => None,
         },
         Err(_) => None,
     }

@@ -1,29 +1,50 @@
--- How a run ends, by what the end of its poll owes.
+-- How a run ends, and what a paused one answers, by what the end of its poll owes.
 use Rattle.std.proofs.Common.{◌≡◌, Bool, true, false, refl, sym, subst, ap, ◌∙◌}
-use Rattle.std.specs.Prelude.{Option, Some, None, IfSome, is_some}
+use Rattle.std.specs.Prelude.{Option, Some, None, Result, Err, IfSome, MatchResult, is_some, not}
 use Rattle.std.proofs.lemmas.Bool.{false≢true}
+use Rattle.atomic_table.specs.declared.shared.Shared.{Shared}
 use Rattle.task_moves.specs.declared.schedule_info.ScheduleInfo.{ScheduleInfo}
 use Rattle.task_moves.specs.declared.moves.owed.Owed.{Owed}
 use Rattle.task_moves.specs.declared.local_task.answers.Back.{Back}
 use Rattle.task_moves.specs.declared.local_task.answers.Back.TheVariants.{Pending}
 use Rattle.task_moves.specs.Moves as moves
-use Rattle.task_word.specs.Tokens.{Owes}
-use Rattle.async_task.specs.Rests.{answer_by, dropped_by}
-use Rattle.async_task.specs.Runs.{EndsRun, EndsBy}
-use Rattle.async_task.specs.declared.runnable.RunEnd.{RunEnd}
+use Rattle.task_word.specs.declared.rule.View.{View}
+use Rattle.task_word.specs.declared.tokens.runs.ClosedRun.{ClosedRun}
+use Rattle.task_word.specs.Cell.{Slot}
+use Rattle.task_word.specs.Tokens.{ShowsSeat}
+use Rattle.async_task.specs.Awaiters.{IsOf}
+use Rattle.async_task.specs.Rests.{was_woken_by}
+use Rattle.async_task.specs.Runs.{EndsRun, ClosesBy}
+use Rattle.async_task.specs.declared.cell.Kept.{Kept}
+use Rattle.async_task.specs.declared.runnable.Closed.{Closed}
+use Rattle.async_task.specs.declared.runnable.Closed.TheVariants.{Run}
+use Rattle.async_task.specs.declared.runnable.Closing.{Closing}
+use Rattle.async_task.specs.declared.runnable.RunEnd.TheVariants.{Drop}
+use Rattle.async_task.specs.declared.waker.Awaiter.{Awaiter}
 
--- no drop is owed: it is over
-pub ends_over : {F : Type 0} (drops : Bool) (owed told : Option ScheduleInfo) (w : Bool) (future : F) → drops ≡ false
-    → IfSome told (λ info. owed ≡ Some info) → is_some told ≡ is_some owed → Some w ≡ answer_by false told
-    → (Some w ≡ answer_by drops owed) × (None ≡ dropped_by drops future)
-ends_over true owed told w future e t q a = absurd (false≢true (sym e))
-ends_over false owed (Some info) w future e t q a = (a ∙ ap (λ (z : Option ScheduleInfo). answer_by false z) (sym t), refl)
-ends_over false (Some info) None w future e t q a = absurd (false≢true q)
-ends_over false None None w future e t q a = (a, refl)
+-- what the schedule value is told is what is owed to it
+pub woken_as_owed : (owed told : Option ScheduleInfo) (woken : Bool) → IfSome told (λ info. owed ≡ Some info) → is_some told ≡ is_some owed
+    → woken ≡ was_woken_by told → woken ≡ was_woken_by owed
+woken_as_owed owed (Some info) woken t q w = w ∙ ap was_woken_by (sym t)
+woken_as_owed (Some info) None woken t q w = absurd (false≢true q)
+woken_as_owed None None woken t q w = w
 
-module _ {F T S M W R : Type 0} where
-  -- the run has ended by this move, on the state of which it owes so much
-  pub ends_run : (back : Back F T) (future : F) (owed : Owed) (end : RunEnd F T S M W R) → back ≡ Pending future
-      → Owes moves.end_pending owed → EndsBy owed future end → EndsRun back end
-  ends_run back future owed end b o e =
-      subst (λ (x : Back F T). EndsRun x end) (sym b) (o.0, subst (λ (z : Owed). EndsBy z future end) o.1 e)
+module _ {F T S M W R K P : Type 0} where
+  -- a run whose task was closed meanwhile ends as its closing call, by the move that found that
+  pub ends_closed : (board : Shared (Slot F T (Kept W)) View K P) (waker : Awaiter F T S M W R) (back : Back F T) (future dropped : F)
+      (closing : Closing F T S M W R) (closed : ClosedRun F T (Kept W)) (owed : Owed) → back ≡ Pending future → dropped ≡ future
+      → IsOf waker closing.held → closing.closed ≡ Run closed → ShowsSeat board moves.end_pending owed closed.pass → is_some owed.next ≡ true
+      → EndsRun board waker back (Drop dropped closing)
+  ends_closed board waker back future dropped closing closed owed b d w c shows next =
+      subst (λ (x : Back F T). EndsRun board waker x (Drop dropped closing)) (sym b)
+      (d, w, subst (λ (x : Closed F T W). ClosesBy board x) (sym c) (owed, shows, next))
+
+-- where there is no `Ok`, something comes next
+pub comes_next : (x : Bool) → false ≡ not x → x ≡ true
+comes_next true e = refl
+comes_next false e = absurd (false≢true e)
+
+-- what holds in the case of an `Err`
+pub at_err : {A E : Type 0} (ok : A → Type 0) (err : E → Type 0) (result : Result A E) (error : E) → result ≡ Err error
+    → MatchResult result ok err → err error
+at_err ok err result error e m = subst (λ r. MatchResult r ok err) e m

@@ -5,3 +5,5 @@ pub mod Due
 pub mod Rests
 pub mod Errors
 pub mod Slots
+pub mod Looks
+pub mod Polls

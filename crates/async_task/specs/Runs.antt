@@ -1,50 +1,56 @@
--- How a run begins and ends. What a task's word has no clause of a handle's call can name, but such a call answers what its step
--- did, on whatever task it found there.
-use Rattle.std.specs.Prelude.{◌≡◌, Bool, false, Option, Some, None, is_some}
+-- How a run begins and ends.
+use Rattle.std.specs.Prelude.{◌≡◌, true, false, is_some, MatchOption, MatchResult, ⊤}
+use Rattle.atomic_table.specs.declared.shared.Shared.{Shared}
+use Rattle.async_task.specs.declared.cell.Kept.{Kept}
+use Rattle.async_task.specs.declared.cell.turns.Remains.{Remains}
+use Rattle.async_task.specs.declared.runnable.Closed.{Closed}
+use Rattle.async_task.specs.declared.runnable.Closed.TheVariants.{Runnable, Run, Left}
 use Rattle.async_task.specs.declared.runnable.RunEnd.{RunEnd}
+use Rattle.async_task.specs.declared.runnable.RunEnd.TheVariants.{Over, Pause, Drop}
 use Rattle.async_task.specs.declared.runnable.Started.{Started}
 use Rattle.async_task.specs.declared.runnable.Started.TheVariants.{Poll as PollIt, Drop as DropIt}
 use Rattle.async_task.specs.declared.waker.Awaiter.{Awaiter}
 use Rattle.async_task.specs.declared.wake.Wake.{Ghosts}
 use Rattle.async_task.specs.Handles.{Handle}
 use Rattle.async_task.specs.Awaiters.{IsOf}
-use Rattle.async_task.specs.Rests.{answer_by, dropped_by}
-use Rattle.async_task.specs.declared.runnable.RunEnd.TheVariants.{Over, Drop}
 use Rattle.task_moves.specs.declared.local_task.answers.Back.{Back}
 use Rattle.task_moves.specs.declared.local_task.answers.Back.TheVariants.{Ready, Pending}
 use Rattle.task_moves.specs.declared.moves.owed.Owed.{Owed}
-use Rattle.task_moves.specs.declared.moves.state.State.{State}
 use Rattle.task_moves.specs.Moves as moves
+use Rattle.task_word.specs.declared.rule.View.{View}
+use Rattle.task_word.specs.Cell.{Slot}
+use Rattle.task_word.specs.Tokens.{Shows, ShowsSeat, Owes}
 
-module _ {F T S M W R : Type 0} where
-  abbrev pub answer_of : RunEnd F T S M W R → Option Bool
-  answer_of (Over woken) = Some woken
-  answer_of (Drop future closing) = None
+module _ {F T W K P : Type 0} where
+  -- this is left to be done by the move that the end of a poll with no output makes, on the word of this board
+  abbrev pub IsLeftBy : Shared (Slot F T (Kept W)) View K P → Remains F T W → Type 0
+  IsLeftBy board remains = MatchOption remains.left.awaiter
+      (MatchResult remains.left.runnable
+      (λ r. Shows board moves.end_pending remains.owed r.claim)
+      (λ t. Shows board moves.end_pending remains.owed t.claim))
+      (λ awaiter. Owes moves.end_pending remains.owed)
 
-  abbrev pub dropped_of : RunEnd F T S M W R → Option F
-  dropped_of (Over woken) = None
-  dropped_of (Drop future closing) = Some future
+  -- the same, where the future is to be dropped first
+  abbrev pub ClosesBy : Shared (Slot F T (Kept W)) View K P → Closed F T W → Type 0
+  ClosesBy board (Left remains) = IsLeftBy board remains × (is_some remains.owed.future ≡ true)
+  ClosesBy board (Run closed) = (owed : Owed) × ShowsSeat board moves.end_pending owed closed.pass × (is_some owed.next ≡ true)
+  ClosesBy board (Runnable closed) = ⊥
 
-module _ {F T S M W R : Type 0} where
-  -- the run has ended so, where this is owed
-  abbrev pub EndsBy : Owed → F → RunEnd F T S M W R → Type 0
-  EndsBy owed future end =
-      (answer_of end ≡ answer_by (is_some owed.future) owed.schedule) × (dropped_of end ≡ dropped_by (is_some owed.future) future)
-
--- the run has ended by the move that the end of its poll makes on some task: with an output it is over; without one it answers
--- true exactly where that task was woken meanwhile and is to be queued, and the future is dropped where it was closed and where
--- nobody can reach it any more
-abbrev pub EndsRun : {F T S M W R : Type 0} → Back F T → RunEnd F T S M W R → Type 0
-EndsRun (Ready output) end = (answer_of end ≡ Some false) × (dropped_of end ≡ None)
-EndsRun (Pending future) end = (st : State) × EndsBy (moves.end_pending st).owed future end
+module _ {F T S M W R K P : Type 0} where
+  -- With an output the run is over. Without one it has made the move that ends such a poll, on its own task's word: the future is
+  -- dropped exactly where that move says so, and what the move left is left to the call that finishes.
+  abbrev pub EndsRun : Shared (Slot F T (Kept W)) View K P → Awaiter F T S M W R → Back F T → RunEnd F T S M W R → Type 0
+  EndsRun board waker (Ready output) Over = ⊤
+  EndsRun board waker (Ready output) (Pause pause) = ⊥
+  EndsRun board waker (Ready output) (Drop future closing) = ⊥
+  EndsRun board waker (Pending future) Over = ⊥
+  EndsRun board waker (Pending future) (Pause pause) =
+      IsOf waker pause.held × IsLeftBy board pause.remains × (is_some pause.remains.owed.future ≡ false)
+  EndsRun board waker (Pending future) (Drop dropped closing) =
+      (dropped ≡ future) × IsOf waker closing.held × ClosesBy board closing.closed
 
 module _ {F T S M W R : Type 0} where
   -- what a Runnable begins is a run or a closing call of its own task
   abbrev pub BeginsAt : {wakes : Ghosts W} → Handle M → Started F T S M W R wakes → Type 0
   BeginsAt task (PollIt future running) = IsOf running.waker task
-  BeginsAt task (DropIt future closing) = closing ≡ task
-
-  -- a run whose task was closed goes on as a closing call of that task
-  abbrev pub EndsAt : Awaiter F T S M W R → RunEnd F T S M W R → Type 0
-  EndsAt waker (Over woken) = Unit {0}
-  EndsAt waker (Drop future closing) = IsOf waker closing
+  BeginsAt task (DropIt future closing) = closing.held ≡ task

@@ -102,10 +102,9 @@ where
     fn drop(self) {
         let Self {
             held,
-            mut parked,
+            parked,
             cancelled: _,
         } = self;
-        held.cancel(&mut parked);
-        held.detach(parked);
+        held.cancel_and_detach(parked);
     }
 }

@@ -24,7 +24,7 @@ where
     R: Wait + Copy + Drop,
     D: fmt::Write,
 {
-    let state = held.look();
+    let state = held.look().state();
     f.debug_struct(name)
         .field("scheduled", &state.scheduled)
         .field("running", &state.running)

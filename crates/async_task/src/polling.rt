@@ -1,4 +1,7 @@
 //! How a handle of any kind is polled.
+ghost use Rattle.std.specs.Prelude.{◌≡◌};
+ghost use Rattle.async_task.specs.Polls.{found_by};
+
 use crate::cell::{Held, Kept, Parked, Scheduled, TaskToken, kept, paid, pay_due, put_back};
 use crate::schedule::Schedule;
 use crate::wake::Wake;
@@ -116,6 +119,7 @@ where
     M: Copy + Drop + 'static,
     W: Wake + Drop + 'static,
     R: Wait + Copy + Drop,
+    ensures { result.1 ≡ found_by polled.output owed.answer }
 {
     let Polled { task, output } = polled;
     let token = held.call_awaiter(task);
@@ -149,8 +153,8 @@ where
     match waker {
         Awaiter::Task(waker) => {
             match waker.held.hold() {
-                Some(token) => Some(Kept::Task(kept(waker.held.identity().place, token))),
-                None => None,
+                Ok(token) => Some(Kept::Task(kept(waker.held.identity().place, token))),
+                Err(_) => None,
             }
         }
         Awaiter::Outside(waker) => waker.clone().map(Kept::Outside),

@@ -1,7 +1,9 @@
-ghost use Rattle.std.specs.Prelude.{◌≡◌, IfSome};
+ghost use Rattle.std.specs.Prelude.{◌≡◌, IfOk};
+ghost use Rattle.async_task.specs.Rests.{was_woken_by};
 ghost use Rattle.async_task.specs.Runs.{BeginsAt};
 
-use crate::cell::{Held, Kept, Remains, RunnableToken, Scheduled, pay_due};
+use crate::cell::{Held, Kept, Remains, RunnableToken, Scheduled, pay_due, was_woken};
+use crate::look::TooManyReferences;
 use crate::poll::Future;
 use crate::running::Running;
 use crate::schedule::{Schedule, ScheduleInfo};
@@ -82,7 +84,9 @@ where
     pub(crate) closed: Closed<F, T, W>,
 }
 
-impl<F, T, S, M, W, R> Model for Closing<F, T, S, M, W, R>
+/// A poll that gave no output, while its task is neither closed nor out of reach. It has no drop: it is finished.
+#[must_use]
+pub struct Pause<F, T, S, M, W, R>
 where
     F: Drop + 'static,
     T: Drop + 'static,
@@ -91,11 +95,8 @@ where
     W: Wake + Drop + 'static,
     R: Wait + Copy + Drop,
 {
-    ghost use Rattle.async_task.specs.Handles.{Handle};
-
-    ghost Value = { Handle M };
-
-    ghost view = { λ h. h.held };
+    pub(crate) held: Held<F, T, S, M, W, R>,
+    pub(crate) remains: Remains<F, T, W>,
 }
 
 /// How a run ends.
@@ -109,9 +110,11 @@ where
     W: Wake + Drop + 'static,
     R: Wait + Copy + Drop,
 {
-    /// It is over. Whether the task was woken during the poll, and was handed to its schedule value
-    /// again.
-    Over(bool),
+    /// It is over: the future gave its output.
+    Over,
+    /// The future gave no output: the call is finished, by which a task that was woken during the poll is
+    /// handed to its schedule value.
+    Pause(Pause<F, T, S, M, W, R>),
     /// The task was closed during the poll, or nobody can reach it any more: the future is dropped,
     /// and the call is then finished.
     Drop(F, Closing<F, T, S, M, W, R>),
@@ -143,13 +146,13 @@ where
         task.hand_over(Scheduled { held, token }, info);
     }
 
-    /// A waker of the task, or None where it has 2^40 references already.
-    pub fn waker(&self) -> Option<TaskWaker<F, T, S, M, W, R>>
-        ensures { IfSome result (λ waker. waker ≡ self.now) }
+    /// A waker of the task, unless it has 2^40 references already.
+    pub fn waker(&self) -> Result<TaskWaker<F, T, S, M, W, R>, TooManyReferences>
+        ensures { IfOk result (λ waker. waker ≡ self.now) }
     {
         match self.held.hold() {
-            Some(token) => Some(TaskWaker::of(self.held.share(), token)),
-            None => None,
+            Ok(token) => Ok(TaskWaker::of(self.held.share(), token)),
+            Err(refused) => Err(refused),
         }
     }
 
@@ -221,6 +224,29 @@ where
             Closed::Run(closed) => held.leave(closed.settle(&held.rt()).1),
             Closed::Left(Remains { owed, left }) => held.pay(held.left(owed, left)),
         }
+    }
+}
+
+impl<F, T, S, M, W, R> Pause<F, T, S, M, W, R>
+where
+    F: Drop + 'static,
+    T: Drop + 'static,
+    S: Schedule<Scheduled<F, T, S, M, W, R>> + Drop + 'static,
+    M: Copy + Drop + 'static,
+    W: Wake + Drop + 'static,
+    R: Wait + Copy + Drop,
+{
+    /// Ends the call. The answer is whether the task was woken during the poll, and was handed to its
+    /// schedule value.
+    pub fn finish(self) -> bool
+        ensures { result ≡ was_woken_by self.remains.owed.schedule }
+    {
+        let Self { held, remains } = self;
+        let Remains { owed, left } = remains;
+        let rest = held.left(owed, left);
+        let woken = was_woken(&rest);
+        held.pay(rest);
+        woken
     }
 }
 

@@ -1,9 +1,9 @@
 ghost use Rattle.std.specs.Prelude.{◌≡◌, true};
 ghost use Rattle.async_task.specs.Awaiters.{is_a_task_s};
 
-use crate::cell::{Kept, Remains, Scheduled, paid, was_woken};
+use crate::cell::{Kept, Remains, Scheduled, paid};
 use crate::poll::{Future, Poll};
-use crate::runnable::{Closed, Closing, RunEnd};
+use crate::runnable::{Closed, Closing, Pause, RunEnd};
 use crate::schedule::Schedule;
 use crate::wake::Wake;
 use crate::waker::Awaiter;
@@ -46,7 +46,8 @@ where
             Poll::Pending => Back::Pending(future),
         };
         match self.settle(back) {
-            RunEnd::Over(woken) => woken,
+            RunEnd::Over => false,
+            RunEnd::Pause(pause) => pause.finish(),
             RunEnd::Drop(future, closing) => {
                 drop(future);
                 closing.finish();
@@ -65,7 +66,7 @@ where
     W: Wake + Drop + 'static,
     R: Wait + Copy + Drop,
 {
-    ghost use Rattle.async_task.specs.Runs.{EndsRun, EndsAt};
+    ghost use Rattle.async_task.specs.Runs.{EndsRun};
 
     /// The waker that the future is polled with.
     pub fn waker(&self) -> &Awaiter<F, T, S, M, W, R>
@@ -76,8 +77,7 @@ where
 
     /// Ends the run. Where the future has given its output, it is dropped before this call.
     pub fn settle(self, back: Back<F, T>) -> RunEnd<F, T, S, M, W, R>
-        ensures answer { EndsRun back result }
-        ensures task { EndsAt self.waker result }
+        ensures { EndsRun self.run.cell.now.board.shared self.waker back result }
     {
         let Self { waker, run } = self;
         let held = match waker {
@@ -89,7 +89,7 @@ where
                 let (_, run, output) = run.store(&held.rt(), output);
                 drop(paid(output));
                 held.leave(run);
-                RunEnd::Over(false)
+                RunEnd::Over
             }
             Back::Pending(future) => {
                 let (owed, left, future) = run.give_back(future).pend(&held.rt());
@@ -100,10 +100,8 @@ where
                             RunEnd::Drop(future.pay(), Closing { held, closed })
                         }
                         None => {
-                            let rest = held.left(owed, left);
-                            let woken = was_woken(&rest);
-                            held.pay(rest);
-                            RunEnd::Over(woken)
+                            let remains = Remains { owed, left };
+                            RunEnd::Pause(Pause { held, remains })
                         }
                     },
                     Err(closed) => match future {

@@ -3,6 +3,7 @@ ghost use Rattle.std.specs.Prelude.{◌≡◌, false};
 use crate::cancel::Cancel;
 use crate::cell::{Held, Parked, Scheduled};
 use crate::fallible::FallibleTask;
+use crate::look::Look;
 use crate::poll::{Future, Poll};
 use crate::polling::{Found, poll};
 use crate::schedule::Schedule;
@@ -83,9 +84,14 @@ where
         self.held.metadata()
     }
 
-    /// Whether the future has given its output and is dropped, or is going to be dropped.
+    /// How the task stands at this moment. It takes one load.
+    pub fn look(&self) -> Look {
+        self.held.look()
+    }
+
+    /// Whether the future has given its output and is dropped, or is going to be dropped: what a look says.
     pub fn is_finished(&self) -> bool {
-        self.held.is_finished()
+        self.look().is_finished()
     }
 
     /// Gives the handle up. The task goes on, and its output is dropped.
@@ -143,8 +149,7 @@ where
     R: Wait + Copy + Drop,
 {
     fn drop(self) {
-        let Self { held, mut parked } = self;
-        held.cancel(&mut parked);
-        held.detach(parked);
+        let Self { held, parked } = self;
+        held.cancel_and_detach(parked);
     }
 }

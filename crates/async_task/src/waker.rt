@@ -158,8 +158,8 @@ where
         ensures handle { IfSome result (λ copy. copy ≡ self.now) }
     {
         match self.held.hold() {
-            Some(token) => Some(TaskWaker::of(self.held.share(), token)),
-            None => None,
+            Ok(token) => Some(TaskWaker::of(self.held.share(), token)),
+            Err(_) => None,
         }
     }
 

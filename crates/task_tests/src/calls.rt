@@ -116,8 +116,8 @@ impl<R: Abort + Wait + Copy + Drop + 'static> Stage<R> {
     /// A waker of this task.
     pub fn waker(&self, runnable: &TestRunnable<R>) -> TestWaker<R> {
         match runnable.waker() {
-            Some(waker) => waker,
-            None => panic!(self.rt; "no waker"),
+            Ok(waker) => waker,
+            Err(_) => panic!(self.rt; "no waker"),
         }
     }
 

@@ -97,7 +97,11 @@ fn a_run_that_nobody_can_reach_hands_its_future_back(rt: HostRuntime) {
     let stage = Stage::new(rt, rt.alloc(), no_tasks(rt, rt.alloc()));
     let (future, running) = stage.begun(stage.detached(9, false));
     match running.settle(Back::Pending(future)) {
-        RunEnd::Over(_) => panic!(rt; "it is over"),
+        RunEnd::Over => panic!(rt; "it is over"),
+        RunEnd::Pause(pause) => {
+            pause.finish();
+            panic!(rt; "it waits")
+        }
         RunEnd::Drop(future, closing) => {
             stage.seen((0, 0, 0, 0));
             same(&rt, future.left(), 9);

@@ -393,7 +393,8 @@ pub fn ended<R: Wait + Copy + Drop + 'static>(
     back: Back<Countdown, u64>,
 ) -> (bool, bool) {
     match running.settle(back) {
-        RunEnd::Over(woken) => (woken, false),
+        RunEnd::Over => (false, false),
+        RunEnd::Pause(pause) => (pause.finish(), false),
         RunEnd::Drop(future, closing) => {
             drop(future);
             closing.finish();

@@ -39,8 +39,8 @@ fn stored_waker<R: Abort + Wait + Copy + Drop + 'static>(
     runnable: &HereRunnable<R>,
 ) -> StoredWaker {
     match runnable.waker() {
-        Some(waker) => waker.store(),
-        None => panic!(rt; "no waker"),
+        Ok(waker) => waker.store(),
+        Err(_) => panic!(rt; "no waker"),
     }
 }
 

@@ -172,7 +172,7 @@ fn a_push_wakes_a_task_of_the_same_queue(rt: HostRuntime) {
     let hall = Hall::new(rt, rt.alloc(), Realm::leak(rt, rt.alloc()));
     let (sleeper, sleeping) = hall.task();
     let (runnable, task) = hall.task();
-    hall.sleeps(there(&rt, sleeper.waker()).store());
+    hall.sleeps(there(&rt, sleeper.waker().ok()).store());
     hall.run(sleeper);
     runnable.schedule();
     hall.lengths(2, 0);

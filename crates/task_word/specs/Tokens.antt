@@ -34,6 +34,11 @@ abbrev pub Finds : {F T W K P : Type 0} → Shared (Slot F T W) View K P → (St
 Finds board asks answer claim = (claim.badge.table_id ≡ board.table_id) × (v : View) × (claim.badge.views ≡ v ∷ []) × (st : State) × (rests : Bool)
     × (v.found ≡ pack st rests) × (answer ≡ asks st)
 
+-- the claim's seat found this state
+abbrev pub FindsState : {F T W K P : Type 0} → Shared (Slot F T W) View K P → State → Claim → Type 0
+FindsState board st claim = (claim.badge.table_id ≡ board.table_id) × (v : View) × (claim.badge.views ≡ v ∷ []) × (rests : Bool)
+    × (v.found ≡ pack st rests)
+
 -- a notify, by which the claim's seat has taken the awaiter out, where nobody else was at it
 abbrev pub notifies_by : {F T W K P : Type 0} → Bool → Shared (Slot F T W) View K P → Owed → Claim → Type 0
 notifies_by true board owed claim = Owes moves.notify owed × (ended : Owed) × Shows board moves.end_notify ended claim

@@ -1,11 +1,13 @@
 //! A cell, whose table is made once and serves one task after another.
 ghost use Rattle.std.specs.Prelude.{◌≡◌};
 ghost use Rattle.task_word.specs.Steps.{Has, IsSeatOf};
+ghost use Rattle.task_word.specs.Tokens.{FindsState};
 ghost use Rattle.task_word.specs.declared.rule.Hold.TheVariants.{Nothing};
 
 use crate::layout::{EMPTY, decode};
 use crate::rule::{Arrive, CellRule, Slot, View};
 use crate::steps::{Board, Pass, look};
+use crate::tokens::Trace;
 use atomic_table::Table;
 use std::alloc::{AllocError, Global};
 use std::boxed::Box;
@@ -57,10 +59,13 @@ impl<F, T, W> Cell<F, T, W> {
         self.board.shared.load_new_seat::<Arrive>(0).1
     }
 
-    /// What the state is at this moment.
+    /// What the state is at this moment. It takes one load.
     #[inline(always)]
-    pub fn state(&self) -> State {
+    pub fn look(&self) -> (State, Trace)
+        ensures { FindsState self.now.board.shared result.0 result.1.claim }
+    {
         let mut pass = self.pass();
-        decode(look(self.board(), &mut pass)).state
+        let state = decode(look(self.board(), &mut pass)).state;
+        (state, Trace::of(pass))
     }
 }

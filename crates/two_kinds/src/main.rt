@@ -40,11 +40,7 @@ impl<R: Wait + Copy + Drop + 'static> Future<JobWaker<R>> for Job<R> {
 }
 
 /// Leaves a copy of the waker at the door, or comes in where it is open.
-fn visit<R: Wait + Copy + Drop + 'static>(
-    door: &Door,
-    rt: &R,
-    waker: &JobWaker<R>,
-) -> Poll<Said> {
+fn visit<R: Wait + Copy + Drop + 'static>(door: &Door, rt: &R, waker: &JobWaker<R>) -> Poll<Said> {
     let Some(Awaiter::Task(copy)) = waker.clone() else {
         return Poll::Ready(Said::GaveUp);
     };
@@ -55,11 +51,7 @@ fn visit<R: Wait + Copy + Drop + 'static>(
 }
 
 /// Opens the door, and wakes whoever waits there.
-fn open<R: Wait + Copy + Drop + 'static>(
-    door: &Door,
-    rt: &R,
-    waker: &JobWaker<R>,
-) -> Poll<Said> {
+fn open<R: Wait + Copy + Drop + 'static>(door: &Door, rt: &R, waker: &JobWaker<R>) -> Poll<Said> {
     door.close(rt);
     if let Awaiter::Task(own) = waker {
         for stored in door.try_iter(rt) {

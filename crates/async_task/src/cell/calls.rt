@@ -36,6 +36,13 @@ where
         task
     }
 
+    /// The drop of a handle: it cancels its task, and goes.
+    pub(crate) fn cancel_and_detach(&self, parked: Parked) {
+        let mut parked = parked;
+        self.cancel(&mut parked);
+        self.detach(parked);
+    }
+
     /// The handle goes. An output that lies in the cell is dropped first.
     pub(crate) fn detach(&self, parked: Parked) {
         match self.unpark(parked) {

@@ -2,12 +2,13 @@
 ghost use Rattle.std.proofs.Props.{props};
 ghost use Rattle.std.specs.Prelude.{◌≡◌, false, is_some, is_ok, Some, None, IfSome, MatchOption};
 ghost use Rattle.async_task.specs.Due.{WasIdle};
-ghost use Rattle.async_task.specs.Rests.{info_of, answer_by};
+ghost use Rattle.async_task.specs.Rests.{info_of, was_woken_by};
 
 use crate::cell::{Held, Kept, RunnableToken, TaskToken, WakerToken};
+use crate::look::{Look, TooManyReferences};
 use crate::schedule::ScheduleInfo;
 use std::sync::Wait;
-use task_moves::moves::{Owed, State};
+use task_moves::moves::Owed;
 use task_word::tokens::{Debt, Left, OwingRun, OwingTask, PastRun, Trace};
 
 /// A Runnable that is owed to its task's schedule value, with what that is to be told.
@@ -72,10 +73,10 @@ where
     }
 
     /// One reference more, where that is allowed.
-    pub(crate) fn hold(&self) -> Option<WakerToken<F, T, W>> {
+    pub(crate) fn hold(&self) -> Result<WakerToken<F, T, W>, TooManyReferences> {
         match self.cell.word.copy(&self.rt).1 {
-            Ok(token) => Some(token),
-            Err(_) => None,
+            Ok(token) => Ok(token),
+            Err(trace) => Err(TooManyReferences { trace }),
         }
     }
 
@@ -83,7 +84,7 @@ where
     /// waits where there are too many references.
     pub(crate) fn insist(&self) -> WakerToken<F, T, W> {
         for _ in self.rt.forever() {
-            if let Some(token) = self.hold() {
+            if let Ok(token) = self.hold() {
                 return token;
             }
         }
@@ -129,20 +130,17 @@ where
         }
     }
 
-    /// Whether the future is dropped or is going to be.
-    pub(crate) fn is_finished(&self) -> bool {
-        let state = self.cell.word.state();
-        state.completed || state.closed
-    }
-
     /// How the task stands at this moment.
-    pub(crate) fn look(&self) -> State {
-        self.cell.word.state()
+    pub(crate) fn look(&self) -> Look {
+        let (state, trace) = self.cell.word.look();
+        Look { state, trace }
     }
 }
 
 /// The value that is owed a call or a drop.
-pub(crate) fn paid<X>(debt: Option<Debt<X>>) -> Option<X> {
+pub(crate) fn paid<X>(debt: Option<Debt<X>>) -> Option<X>
+    ensures { result ≡ debt }
+{
     match debt {
         Some(debt) => Some(debt.pay()),
         None => None,
@@ -195,7 +193,7 @@ where
     F: 'static,
     T: 'static,
     W: 'static,
-    ensures { Some result ≡ answer_by false (info_of rest.now) }
+    ensures { result ≡ was_woken_by (info_of rest.now) }
 {
     match rest {
         Rest::Queue(woken) => woken.info.woken_while_running,

@@ -145,8 +145,8 @@ impl<R: Wait + Copy + Drop + 'static> Waiting<R> {
     pub fn new(rt: R, alloc: Global, realm: &'static Tasks<R>) -> Result<Waiting<R>, Fault> {
         match Spawned::new(rt, alloc, realm, Work::Waits) {
             Ok(spawned) => match spawned.runnable.waker() {
-                Some(waker) => Ok(Waiting { spawned, waker }),
-                None => Err(Fault::Refused),
+                Ok(waker) => Ok(Waiting { spawned, waker }),
+                Err(_) => Err(Fault::Refused),
             },
             Err(fault) => Err(fault),
         }

@@ -1,10 +1,20 @@
-use Rattle.std.proofs.Common.{sym, ap, ◌∙◌}
-use Rattle.std.specs.Prelude.{is_some}
-use Rattle.async_task.proofs.Ending.{ends_run, ends_over}
+use Rattle.std.proofs.Common.{refl, sym, subst, ◌≡◌, ◌∙◌}
+use Rattle.std.specs.Prelude.{IfSome, is_ok, not, is_some}
+use Rattle.task_moves.specs.Moves as moves
+use Rattle.task_word.specs.Tokens.{ShowsSeat}
+use Rattle.async_task.specs.Awaiters.{IsOf}
+use Rattle.async_task.proofs.Ending.{ends_closed, comes_next, at_err}
 use Rattle.async_task.proofs.running.Running.settle.Goals as goal
 
-pub returns-in-None-clause-answer : goal.returns-in-None-clause-answer
-returns-in-None-clause-answer g c =
-    ends_run _ _ _ _ c.in-Pending.is c.pend-left.ensures.owes
-    (ends_over _ _ _ _ _ (sym c.pend-left.ensures.future ∙ ap is_some c.in-None.is)
-    c.left-rest.ensures.told c.left-rest.ensures.queued c.was_woken-woken.ensures)
+-- the task was closed while its future was polled
+pub returns-in-Some-future : goal.returns-in-Some-future
+returns-in-Some-future g c =
+    ends_closed c.args.self.run.cell.now.board.shared _ _ _ _ _ _ _ c.in-Pending.is
+    (c.pay-in-Some-future.ensures ∙ subst (λ found. IfSome found (λ future. future ≡ c.give_back.result.future)) c.in-Some-future.is
+    c.pend-left.ensures.same ∙ c.give_back.ensures.2)
+    (subst (λ waker. IsOf waker c.into_held-held.result) (sym c.in-Task.is) (sym c.into_held-held.ensures))
+    refl
+    (subst (λ cell. ShowsSeat cell.board.shared moves.end_pending c.pend-left.result.0 c.in-Err.closed.pass) c.give_back.ensures.0
+    (at_err _ (λ closed. ShowsSeat c.give_back.result.cell.now.board.shared moves.end_pending c.pend-left.result.0 closed.pass) _ _
+    c.in-Err.is c.pend-left.ensures.made))
+    (comes_next _ (subst (λ left. is_ok left ≡ not (is_some c.pend-left.result.0.next)) c.in-Err.is c.pend-left.ensures.ends))

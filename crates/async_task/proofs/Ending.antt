@@ -34,10 +34,10 @@ module _ {F T S M W R K P : Type 0} where
   pub ends_closed : (board : Shared (Slot F T (Kept W)) View K P) (waker : Awaiter F T S M W R) (back : Back F T) (future dropped : F)
       (closing : Closing F T S M W R) (closed : ClosedRun F T (Kept W)) (owed : Owed) → back ≡ Pending future → dropped ≡ future
       → IsOf waker closing.held → closing.closed ≡ Run closed → ShowsSeat board moves.end_pending owed closed.pass
-      → is_some owed.next ≡ true → EndsRun board waker back (Drop dropped closing)
-  ends_closed board waker back future dropped closing closed owed b d w c shows next =
+      → is_some owed.next ≡ true → is_some owed.future ≡ true → EndsRun board waker back (Drop dropped closing)
+  ends_closed board waker back future dropped closing closed owed b d w c shows next out =
       subst (λ (x : Back F T). EndsRun board waker x (Drop dropped closing)) (sym b)
-      (d, w, subst (λ (x : Closed F T W). ClosesBy board x) (sym c) (owed, shows, next))
+      (d, w, subst (λ (x : Closed F T W). ClosesBy board x) (sym c) (owed, shows, next, out))
 
 -- where there is no `Ok`, something comes next
 pub comes_next : (x : Bool) → false ≡ not x → x ≡ true

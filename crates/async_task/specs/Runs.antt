@@ -34,6 +34,7 @@ module _ {F T W K P : Type 0} where
   abbrev pub ClosesBy : Shared (Slot F T (Kept W)) View K P → Closed F T W → Type 0
   ClosesBy board (Left remains) = IsLeftBy board remains × (is_some remains.owed.future ≡ true)
   ClosesBy board (Run closed) = (owed : Owed) × ShowsSeat board moves.end_pending owed closed.pass × (is_some owed.next ≡ true)
+      × (is_some owed.future ≡ true)
   ClosesBy board (Runnable closed) = ⊥
 
 module _ {F T S M W R K P : Type 0} where

@@ -66,16 +66,12 @@ impl<M> Builder<M> {
         };
         match Held::new(rt, realm, parts) {
             Ok(made) => {
-                let Made {
-                    held,
-                    token,
-                    parked,
-                } = made;
+                let Made { held, token, task } = made;
                 let runnable = Runnable {
                     held: held.share(),
                     token,
                 };
-                Ok((runnable, Task::of(held, parked)))
+                Ok((runnable, Task::of(held, task)))
             }
             Err(parts) => Err(parts),
         }

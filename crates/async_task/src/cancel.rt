@@ -1,6 +1,7 @@
 ghost use Rattle.std.specs.Prelude.{◌≡◌, false, true};
+ghost use Rattle.task_word.specs.Tokens.{IsThere};
 
-use crate::cell::{Cancelled, Held, Parked, Scheduled};
+use crate::cell::{Cancelled, Held, Place, Scheduled, TaskToken};
 use crate::errors::NoMemory;
 use crate::fallible::found;
 use crate::poll::{Future, Poll};
@@ -24,9 +25,10 @@ where
     R: Wait + Copy + Drop,
 {
     held: Held<F, T, S, M, W, R>,
-    parked: Parked,
+    place: Place<F, T, W>,
     /// That it was cancelled, once it is.
     cancelled: Option<Cancelled>,
+    ghost there: { IsThere place.cell.now.board.shared place.claim },
 }
 
 impl<F, T, S, M, W, R> Model for Cancel<F, T, S, M, W, R>
@@ -56,13 +58,13 @@ where
     R: Wait + Copy + Drop,
 {
     /// What closes the task of this handle.
-    pub(crate) fn of(held: Held<F, T, S, M, W, R>, parked: Parked) -> Self
+    pub(crate) fn of(held: Held<F, T, S, M, W, R>, token: TaskToken<F, T, W>) -> Self
         ensures task { result.task ≡ held }
         ensures open { result.is_cancelled ≡ false }
     {
         Cancel {
             held,
-            parked,
+            place: Place::of(token),
             cancelled: None,
         }
     }
@@ -84,9 +86,11 @@ where
         ensures cancelled { self.new.is_cancelled ≡ true }
     {
         if self.cancelled.is_none() {
-            self.cancelled = Some(self.held.cancel(&mut self.parked));
+            let (token, cancelled) = self.held.cancel(self.place.take());
+            self.place.put(token);
+            self.cancelled = Some(cancelled);
         }
-        found(poll(&self.held, &mut self.parked, waker))
+        found(poll(&self.held, &mut self.place, waker))
     }
 }
 
@@ -102,9 +106,9 @@ where
     fn drop(self) {
         let Self {
             held,
-            parked,
+            place,
             cancelled: _,
         } = self;
-        held.cancel_and_detach(parked);
+        held.cancel_and_detach(place.open());
     }
 }

@@ -12,10 +12,7 @@ mod turns;
 
 use crate::cell::fixed::{Claimed, Fixed, Slot, claim, end, leave, no_task_s, read};
 pub(crate) use crate::cell::paying::pay_due;
-use crate::cell::resting::park;
-pub(crate) use crate::cell::resting::{
-    Cancelled, KeptWaker, Lost, Lot, Parked, Thing, kept, put_back,
-};
+pub(crate) use crate::cell::resting::{Cancelled, KeptWaker, Lost, Lot, Parked, Thing, kept, park};
 pub use crate::cell::returning::{GoesBack, Returning, close_returned};
 pub(crate) use crate::cell::scheduled::find_with;
 pub use crate::cell::scheduled::{Due, Scheduled, StoredRunnable, StoredWaker};
@@ -37,8 +34,11 @@ pub(crate) type RunnableToken<F, T, W> = tokens::Runnable<F, T, Kept<W>>;
 /// One reference.
 pub(crate) type WakerToken<F, T, W> = tokens::Waker<F, T, Kept<W>>;
 
-/// The handle, which rests in the cell but while it takes a step.
+/// The handle.
 pub(crate) type TaskToken<F, T, W> = tokens::Task<F, T, Kept<W>>;
+
+/// Where the handle lies between its calls.
+pub(crate) type Place<F, T, W> = tokens::TaskPlace<F, T, Kept<W>>;
 
 /// The place of a task: its word and slots, and what never changes while the task is there. It lies there for good, and serves
 /// one task after another.
@@ -111,19 +111,19 @@ pub struct Parts<F, S, M> {
     pub metadata: M,
 }
 
-/// A new task: the way to it, its Runnable, and its handle, which rests in the cell.
+/// A new task: the way to it, its Runnable, and its handle.
 pub(crate) struct Made<F: 'static, T: 'static, S: 'static, M: 'static, W: 'static, R> {
     pub held: Held<F, T, S, M, W, R>,
     pub token: RunnableToken<F, T, W>,
-    pub parked: Parked,
+    pub task: TaskToken<F, T, W>,
 }
 
-/// Where a new task lies, its Runnable, and its handle, which rests in the cell.
+/// Where a new task lies, its Runnable, and its handle.
 struct Spot<F: 'static, T: 'static, S: 'static, M: 'static, W: 'static> {
     place: usize,
     cell: &'static Cell<F, T, S, M, W>,
     token: RunnableToken<F, T, W>,
-    parked: Parked,
+    task: TaskToken<F, T, W>,
 }
 
 impl<F, T, S, M, W, R> Held<F, T, S, M, W, R>
@@ -154,14 +154,10 @@ where
                     place,
                     cell,
                     token,
-                    parked,
+                    task,
                 } = spot;
                 let held = Held::of(rt, realm, place, cell, metadata);
-                Ok(Made {
-                    held,
-                    token,
-                    parked,
-                })
+                Ok(Made { held, token, task })
             }
             Err(parts) => Err(parts),
         }
@@ -278,11 +274,36 @@ where
     }
 
     /// Ends a read of what never changes of the task.
+    #[inline(always)]
     fn leave_slot(&self, claim: Claimed<'_, S, M>)
         requires { CanRead claim }
     {
         if leave(&self.cell.fixed, claim) {
             self.realm.release(self.place);
+        }
+    }
+}
+
+/// The cell at a place that nobody else has. It is made where no task lay there before; for want of memory the place goes back.
+fn furnished<F, T, S, M, W>(
+    realm: &'static Realm<F, T, S, M, W>,
+    place: usize,
+) -> Option<&'static Cell<F, T, S, M, W>>
+where
+    F: Drop + 'static,
+    T: Drop + 'static,
+    S: Drop + 'static,
+    M: Copy + Drop + 'static,
+    W: Drop + 'static,
+{
+    match realm.lasting(place) {
+        Some(cell) => Some(cell),
+        None => {
+            if realm.furnish(place).is_none() {
+                realm.release(place);
+                return None;
+            }
+            realm.lasting(place)
         }
     }
 }
@@ -308,16 +329,16 @@ where
         let Some(place) = realm.vacancy() else {
             return Err(parts);
         };
-        let Some(cell) = realm.lasting(place) else {
+        let Some(cell) = furnished(realm, place) else {
             return Err(parts);
         };
         match fill(rt, cell, parts) {
-            Ok((token, parked)) => {
+            Ok((token, task)) => {
                 return Ok(Spot {
                     place,
                     cell,
                     token,
-                    parked,
+                    task,
                 });
             }
             Err(back) => parts = back,
@@ -331,7 +352,7 @@ fn fill<F, T, S, M, W, R>(
     rt: &R,
     cell: &'static Cell<F, T, S, M, W>,
     parts: Parts<F, S, M>,
-) -> Result<(RunnableToken<F, T, W>, Parked), Parts<F, S, M>>
+) -> Result<(RunnableToken<F, T, W>, TaskToken<F, T, W>), Parts<F, S, M>>
 where
     F: Drop + 'static,
     T: Drop + 'static,
@@ -353,9 +374,8 @@ where
     } = parts;
     match cell.word.make(rt, future) {
         Ok((token, task)) => {
-            let parked = park(task);
             drop(claim.put(Some(Fixed { schedule, metadata }), PRESENT));
-            Ok((token, parked))
+            Ok((token, task))
         }
         Err((future, _)) => {
             drop(claim.put(None, FREE));

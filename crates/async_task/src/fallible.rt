@@ -1,7 +1,8 @@
 ghost use Rattle.std.specs.Prelude.{◌≡◌, false};
+ghost use Rattle.task_word.specs.Tokens.{IsThere};
 
 use crate::cancel::Cancel;
-use crate::cell::{Held, Parked, Scheduled};
+use crate::cell::{Held, Place, Scheduled};
 use crate::errors::NoMemory;
 use crate::look::Look;
 use crate::poll::{Future, Poll};
@@ -24,7 +25,8 @@ where
     R: Wait + Copy + Drop,
 {
     pub(crate) held: Held<F, T, S, M, W, R>,
-    pub(crate) parked: Parked,
+    pub(crate) place: Place<F, T, W>,
+    ghost there: { IsThere place.cell.now.board.shared place.claim },
 }
 
 impl<F, T, S, M, W, R> Model for FallibleTask<F, T, S, M, W, R>
@@ -71,8 +73,8 @@ where
 
     /// Gives the handle up. The task goes on, and its output is dropped.
     pub fn detach(self) {
-        let Self { held, parked } = self;
-        held.detach(parked);
+        let Self { held, place } = self;
+        held.detach(place.open());
     }
 
     /// What closes the task when it is first polled, and then has the output where there was one.
@@ -80,8 +82,8 @@ where
         ensures task { result.task ≡ self }
         ensures open { result.is_cancelled ≡ false }
     {
-        let Self { held, parked } = self;
-        Cancel::of(held, parked)
+        let Self { held, place } = self;
+        Cancel::of(held, place.open())
     }
 }
 
@@ -97,7 +99,7 @@ where
     type Output = Result<Option<T>, NoMemory>;
 
     fn poll(&mut self, waker: &Awaiter<F, T, S, M, W, R>) -> Poll<Result<Option<T>, NoMemory>> {
-        found(poll(&self.held, &mut self.parked, waker))
+        found(poll(&self.held, &mut self.place, waker))
     }
 }
 
@@ -121,7 +123,7 @@ where
     R: Wait + Copy + Drop,
 {
     fn drop(self) {
-        let Self { held, parked } = self;
-        held.cancel_and_detach(parked);
+        let Self { held, place } = self;
+        held.cancel_and_detach(place.open());
     }
 }

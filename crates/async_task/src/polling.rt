@@ -1,8 +1,9 @@
 //! How a handle of any kind is polled.
 ghost use Rattle.std.specs.Prelude.{◌≡◌};
 ghost use Rattle.async_task.specs.Polls.{found_by};
+ghost use Rattle.task_word.specs.Tokens.{IsThere};
 
-use crate::cell::{Held, Kept, Parked, Scheduled, TaskToken, kept, paid, pay_due, put_back};
+use crate::cell::{Held, Kept, Place, Scheduled, TaskToken, kept, paid, pay_due};
 use crate::schedule::Schedule;
 use crate::wake::Wake;
 use crate::waker::Awaiter;
@@ -27,7 +28,7 @@ pub enum Found<T> {
 /// called at once.
 pub(crate) fn poll<F, T, S, M, W, R>(
     held: &Held<F, T, S, M, W, R>,
-    parked: &mut Parked,
+    place: &mut Place<F, T, W>,
     waker: &Awaiter<F, T, S, M, W, R>,
 ) -> Found<T>
 where
@@ -37,18 +38,16 @@ where
     M: Copy + Drop + 'static,
     W: Wake + Drop + 'static,
     R: Wait + Copy + Drop,
+    requires { IsThere place.old.cell.now.board.shared place.old.claim }
+    ensures { IsThere place.new.cell.now.board.shared place.new.claim }
 {
-    match held.lend(parked) {
-        Some(token) => {
-            let (token, found) = looked(held, token, waker);
-            put_back(token, parked);
-            found
-        }
-        None => Found::Closed,
-    }
+    let (token, found) = looked(held, place.take(), waker);
+    place.put(token);
+    found
 }
 
 /// The handle looks, and waits where there is no answer.
+#[inline(always)]
 fn looked<F, T, S, M, W, R>(
     held: &Held<F, T, S, M, W, R>,
     token: TaskToken<F, T, W>,
@@ -73,6 +72,7 @@ where
 }
 
 /// The waker is registered, and the handle looks again.
+#[inline(always)]
 fn registered<F, T, S, M, W, R>(
     held: &Held<F, T, S, M, W, R>,
     waiting: WaitingTask<F, T, Kept<W>>,
@@ -107,6 +107,7 @@ where
 }
 
 /// What the poll has found. An awaiter that is owed a call is called.
+#[inline(always)]
 fn answered<F, T, S, M, W, R>(
     held: &Held<F, T, S, M, W, R>,
     owed: Owed,
@@ -135,6 +136,7 @@ where
 
 /// A copy of the waker, as the cell is to keep it. Of a waker of a task that is its place, and one
 /// reference more of that task.
+#[inline(always)]
 fn to_keep<F, T, S, M, W, R>(
     held: &Held<F, T, S, M, W, R>,
     waker: &Awaiter<F, T, S, M, W, R>,
@@ -162,6 +164,7 @@ where
 }
 
 /// Whether it is a waker of a task of another realm.
+#[inline(always)]
 fn is_foreign<F, T, S, M, W, R>(
     held: &Held<F, T, S, M, W, R>,
     waker: &Awaiter<F, T, S, M, W, R>,

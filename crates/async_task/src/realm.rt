@@ -75,12 +75,13 @@ impl<C: Drop + 'static> Cells<C> {
 impl<C: Vacant + Drop> Cells<C> {
     /// A place that nobody else has. None for want of memory, or where there are 2^24 - 32 places.
     pub(crate) fn vacancy(&self) -> Option<usize> {
-        let place = self.pages.vacancy()?;
-        if self.returns.make_room(place).is_none() {
-            self.release(place);
-            return None;
-        }
-        Some(place)
+        self.pages.vacancy()
+    }
+
+    /// Makes what lies at this place, and room for what is let go of it. None for want of memory.
+    pub(crate) fn furnish(&self, place: usize) -> Option<()> {
+        self.returns.make_room(place)?;
+        self.pages.make_at(place)
     }
 }
 

@@ -50,7 +50,8 @@ impl<M> StoredTask<M> {
         Identity { realm, place }
     }
 
-    /// The handle that was stored. It takes no memory. Where it is of another realm it comes back.
+    /// The handle that was stored. It takes no memory. Where it is of another realm it comes back; so it would where no handle
+    /// rested at its place, which tests exclude and no clause does.
     pub fn redeem<F, T, S, W, R>(
         self,
         rt: R,
@@ -74,7 +75,15 @@ impl<M> StoredTask<M> {
             parked,
         } = self;
         match find_with(rt, realm, returns, place, metadata) {
-            Some(held) => Ok(Task::of(held, parked)),
+            Some(held) => match held.unpark(parked) {
+                Ok(token) => Ok(Task::of(held, token)),
+                Err(parked) => Err(StoredTask {
+                    returns,
+                    place,
+                    metadata,
+                    parked,
+                }),
+            },
             None => Err(StoredTask {
                 returns,
                 place,

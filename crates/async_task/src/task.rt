@@ -1,7 +1,8 @@
 ghost use Rattle.std.specs.Prelude.{◌≡◌, false};
+ghost use Rattle.task_word.specs.Tokens.{IsThere};
 
 use crate::cancel::Cancel;
-use crate::cell::{Held, Parked, Scheduled};
+use crate::cell::{Held, Place, Scheduled, TaskToken, park};
 use crate::fallible::FallibleTask;
 use crate::look::Look;
 use crate::poll::{Future, Poll};
@@ -34,7 +35,8 @@ where
     R: Wait + Copy + Drop,
 {
     pub(crate) held: Held<F, T, S, M, W, R>,
-    pub(crate) parked: Parked,
+    pub(crate) place: Place<F, T, W>,
+    ghost there: { IsThere place.cell.now.board.shared place.claim },
 }
 
 impl<F, T, S, M, W, R> Model for Task<F, T, S, M, W, R>
@@ -62,10 +64,11 @@ where
     W: Wake + Drop + 'static,
     R: Wait + Copy + Drop,
 {
-    pub(crate) fn of(held: Held<F, T, S, M, W, R>, parked: Parked) -> Self
+    pub(crate) fn of(held: Held<F, T, S, M, W, R>, token: TaskToken<F, T, W>) -> Self
         ensures { result ≡ held }
     {
-        Task { held, parked }
+        let place = Place::of(token);
+        Task { held, place }
     }
 
     /// The handle for a list, which takes no memory.
@@ -73,8 +76,8 @@ where
         ensures task { result.identity ≡ self.identity }
         ensures metadata { result.metadata ≡ self.metadata }
     {
-        let Self { held, parked } = self;
-        held.stored_task(parked)
+        let Self { held, place } = self;
+        held.stored_task(park(place.open()))
     }
 
     /// The metadata that the task was made with.
@@ -96,8 +99,8 @@ where
 
     /// Gives the handle up. The task goes on, and its output is dropped.
     pub fn detach(self) {
-        let Self { held, parked } = self;
-        held.detach(parked);
+        let Self { held, place } = self;
+        held.detach(place.open());
     }
 
     /// What closes the task when it is first polled, and then has the output where there was one.
@@ -105,16 +108,16 @@ where
         ensures task { result.task ≡ self }
         ensures open { result.is_cancelled ≡ false }
     {
-        let Self { held, parked } = self;
-        Cancel::of(held, parked)
+        let Self { held, place } = self;
+        Cancel::of(held, place.open())
     }
 
     /// The same handle, which has None for an output where the task is closed.
     pub fn fallible(self) -> FallibleTask<F, T, S, M, W, R>
         ensures { result ≡ self }
     {
-        let Self { held, parked } = self;
-        FallibleTask { held, parked }
+        let Self { held, place } = self;
+        FallibleTask { held, place }
     }
 }
 
@@ -130,7 +133,7 @@ where
     type Output = Result<T, TaskError>;
 
     fn poll(&mut self, waker: &Awaiter<F, T, S, M, W, R>) -> Poll<Result<T, TaskError>> {
-        match poll(&self.held, &mut self.parked, waker) {
+        match poll(&self.held, &mut self.place, waker) {
             Found::Output(output) => Poll::Ready(Ok(output)),
             Found::Closed => Poll::Ready(Err(TaskError::TaskClosed)),
             Found::Pending => Poll::Pending,
@@ -149,7 +152,7 @@ where
     R: Wait + Copy + Drop,
 {
     fn drop(self) {
-        let Self { held, parked } = self;
-        held.cancel_and_detach(parked);
+        let Self { held, place } = self;
+        held.cancel_and_detach(place.open());
     }
 }

@@ -87,6 +87,7 @@ where
     }
 
     /// The way to the task. The waker goes.
+    #[inline(always)]
     pub(crate) fn into_held(self) -> Held<F, T, S, M, W, R>
         ensures { result ≡ self }
     {

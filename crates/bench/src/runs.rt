@@ -1,4 +1,5 @@
-use crate::{sim, steps};
+use crate::sim::{self, Pollers};
+use crate::steps;
 use async_task::Future;
 use executor_workloads::job::{self, JobRealm, Open, Place};
 use executor_workloads::{self as executor, Chain, Futures, Waker, Worker};
@@ -41,8 +42,9 @@ where
         | Workload::Ring1024Exclusive
         | Workload::UnboundedExclusive => on_queue_of_one(workload, rt, ops),
         Workload::MachineStep => steps::run(rt, ops),
-        Workload::SimLines => sim::lines(rt, 0, ops),
-        Workload::SimTicks => sim::lines(rt, 100, ops),
+        Workload::SimLines => sim::lines(rt, Pollers::Tries, ops),
+        Workload::SimTicks => sim::lines(rt, Pollers::Ticks(100), ops),
+        Workload::SimRuns => sim::lines(rt, Pollers::Runs(10), ops),
         Workload::SpawnRun => task::spawn_run(*rt, alloc, realm, ops),
         Workload::DropHandle => task::drop_handle(*rt, alloc, realm, ops),
         Workload::WakeRun => task::wake_run(*rt, alloc, realm, ops),

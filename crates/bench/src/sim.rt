@@ -12,12 +12,46 @@ const FUTURES: u64 = 1000;
 /// How many lines a script has at most.
 const LINES: u64 = 10_000;
 
-/// So many lines of scripts with so many ticks, parsed and run: as many scripts of 10,000 lines as that makes, and one of
+/// Who polls the futures of a script: each `try`, or so many ticks or runs in turn.
+#[derive(Clone, Copy)]
+pub enum Pollers {
+    Tries,
+    Ticks(u64),
+    Runs(u64),
+}
+
+impl Pollers {
+    fn count(self) -> u64 {
+        match self {
+            Pollers::Tries => 0,
+            Pollers::Ticks(count) => count,
+            Pollers::Runs(count) => count,
+        }
+    }
+
+    /// The word by which one is made.
+    fn making(self) -> &'static [u8] {
+        match self {
+            Pollers::Runs(_) => b"run ",
+            _ => b"tick ",
+        }
+    }
+
+    /// The word by which one is polled.
+    fn polling(self) -> &'static [u8] {
+        match self {
+            Pollers::Runs(_) => b"pollrun ",
+            _ => b"polltick ",
+        }
+    }
+}
+
+/// So many lines of scripts with such pollers, parsed and run: as many scripts of 10,000 lines as that makes, and one of
 /// the lines that are left. The texts are made before the clock starts.
-pub fn lines<R: AllocGlobal + Clock>(rt: &R, ticks: u64, ops: u64) -> Result<Timing, Fault> {
+pub fn lines<R: AllocGlobal + Clock>(rt: &R, pollers: Pollers, ops: u64) -> Result<Timing, Fault> {
     let alloc = rt.alloc();
-    let whole = script(alloc, ticks, LINES)?;
-    let rest = script(alloc, ticks, ops % LINES)?;
+    let whole = script(alloc, pollers, LINES)?;
+    let rest = script(alloc, pollers, ops % LINES)?;
     let mut moved = 0u64;
     let start = Instant::now(rt)?;
     for _ in 0..ops / LINES {
@@ -49,47 +83,49 @@ fn fault(error: ParseError) -> Fault {
 const HEAD: &[u8] = b"limit 1000\n";
 
 /// A script of so many lines. Each of a thousand futures keeps its waker at its first poll, is woken
-/// and polled three times more, and goes with its handle. Where there are ticks, they are made and lie down first, and
-/// poll the futures in turn.
-fn script(alloc: Global, ticks: u64, lines: u64) -> Result<Vec<u8>, AllocError> {
+/// and polled three times more, and goes with its handle. Where there are ticks or runs, they are made and lie down first,
+/// and poll the futures in turn.
+fn script(alloc: Global, pollers: Pollers, lines: u64) -> Result<Vec<u8>, AllocError> {
     let mut text = Vec::new(alloc);
     for line in 0..lines {
-        push_line(&mut text, ticks, line)?;
+        push_line(&mut text, pollers, line)?;
     }
     Ok(text)
 }
 
 /// The line behind so many others.
-fn push_line(text: &mut Vec<u8>, ticks: u64, before: u64) -> Result<(), AllocError> {
+fn push_line(text: &mut Vec<u8>, pollers: Pollers, before: u64) -> Result<(), AllocError> {
     let Some(command) = before.checked_sub(1) else {
         return text.extend_from_slice(HEAD);
     };
-    if command < ticks {
-        return push_command(text, b"tick ", &tick(command), b"\n");
+    let count = pollers.count();
+    if command < count {
+        return push_command(text, pollers.making(), &poller(command), b"\n");
     }
-    match command.saturating_sub(ticks).checked_sub(ticks) {
-        Some(later) => push_later(text, ticks, later),
-        None => push_poll(text, ticks, command),
+    match command.saturating_sub(count).checked_sub(count) {
+        Some(later) => push_later(text, pollers, later),
+        None => push_poll(text, pollers, command),
     }
 }
 
-/// A tick takes the next future, or there is none and `try` takes it.
-fn push_poll(text: &mut Vec<u8>, ticks: u64, command: u64) -> Result<(), AllocError> {
-    if ticks == 0 {
+/// A tick or run takes the next future, or there is none and `try` takes it.
+fn push_poll(text: &mut Vec<u8>, pollers: Pollers, command: u64) -> Result<(), AllocError> {
+    let count = pollers.count();
+    if count == 0 {
         text.extend_from_slice(b"try\n")
     } else {
-        push_command(text, b"polltick ", &tick(command % ticks), b"\n")
+        push_command(text, pollers.polling(), &poller(command % count), b"\n")
     }
 }
 
-/// The line behind so many others that follow those that make the ticks.
-fn push_later(text: &mut Vec<u8>, ticks: u64, command: u64) -> Result<(), AllocError> {
+/// The line behind so many others that follow those that make the pollers.
+fn push_later(text: &mut Vec<u8>, pollers: Pollers, command: u64) -> Result<(), AllocError> {
     let future = name(command % FUTURES);
     match command / FUTURES {
         0 => push_command(text, b"spawn ", &future, b" keep\n"),
         2 | 4 | 6 => push_command(text, b"wake ", &future, b"\n"),
         8 => push_command(text, b"drop ", &future, b"\n"),
-        _ => push_poll(text, ticks, command),
+        _ => push_poll(text, pollers, command),
     }
 }
 
@@ -109,8 +145,8 @@ fn name(number: u64) -> [u8; 3] {
     [letter(number / 676), letter(number / 26), letter(number)]
 }
 
-/// The name of the tick of this number.
-fn tick(number: u64) -> [u8; 2] {
+/// The name of the tick or run of this number.
+fn poller(number: u64) -> [u8; 2] {
     [letter(number / 26), letter(number)]
 }
 

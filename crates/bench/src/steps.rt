@@ -103,6 +103,7 @@ fn go(steps: &mut Vec<Step>, count: u32) -> Result<(), AllocError> {
             hint: Hint {
                 refused: false,
                 same: false,
+                start: 0,
             },
         })?;
     }

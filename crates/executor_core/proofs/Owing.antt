@@ -1,8 +1,12 @@
 -- The order in which what is owed is put on a stack.
-use Rattle.std.proofs.Common.{◌≡◌, List, ◌++◌, sym, ap, ◌∙◌, append_assoc}
+use Rattle.std.proofs.Common.{◌≡◌, List, [], ◌∷◌, ◌++◌, sym, ap, ◌∙◌, append_assoc}
 use Rattle.std.specs.Prelude.{reverse}
 use Rattle.std.proofs.lemmas.List.{reverse-append}
 use Rattle.executor_model.specs.declared.op.Op.{Op}
+
+-- one thing was put on, and then another
+pub two-put-on : (t u v : List Op) (a b : Op) → u ≡ t ++ a ∷ [] → v ≡ u ++ b ∷ [] → v ≡ t ++ a ∷ b ∷ []
+two-put-on t u v a b p q = q ∙ (ap (λ (l : List Op). l ++ b ∷ []) p ∙ append_assoc t (a ∷ []) (b ∷ []))
 
 -- what comes first is put on last
 pub reverse_before : (t s x : List Op) → t ++ reverse (s ++ x) ≡ (t ++ reverse x) ++ reverse s

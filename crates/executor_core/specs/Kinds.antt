@@ -19,9 +19,16 @@ is_on_kept (call.Copy k) = true
 is_on_kept (call.DropWaker k) = true
 is_on_kept c = is_on_handle c
 
+-- that, or a call on a run, or the making of one
+abbrev pub is_on_run : Call → Bool
+is_on_run call.NewRun = true
+is_on_run (call.PollRun r by) = true
+is_on_run (call.DropRun r) = true
+is_on_run c = is_on_kept c
+
 -- that, or a call on a tick, or the making of one
 abbrev pub is_on_part : Call → Bool
 is_on_part call.NewTick = true
 is_on_part (call.PollTick t by) = true
 is_on_part (call.DropTick t) = true
-is_on_part c = is_on_kept c
+is_on_part c = is_on_run c

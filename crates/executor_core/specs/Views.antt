@@ -1,11 +1,12 @@
 -- What a store stands for, and room for what one thing to do may add.
-use Rattle.std.specs.Prelude.{◌≡◌, ◌+◌, ◌≤◌, true, Some, None, List, ◌++◌, map, reverse, vec_len, Vec}
+use Rattle.std.specs.Prelude.{◌≡◌, ◌+◌, ◌^◌, ◌<◌, ◌≤◌, true, Some, None, List, ◌++◌, map, reverse, vec_len, Vec}
 use Rattle.std.specs.Global.{Global}
 use Rattle.std.specs.Vec.{vec_capacity}
 use Rattle.std.specs.VecDeque.{deque_len, deque_capacity}
 use Rattle.executor_model.specs.declared.op.Op.{Op}
 use Rattle.executor_model.specs.World.{World, Done}
 use Rattle.executor_model.specs.Steps.{Machine}
+use Rattle.executor_runs.specs.Lodgers as lodgers
 use Rattle.executor_core.specs.declared.store.Store.{Store}
 
 abbrev pub world_of : Store → World
@@ -19,14 +20,18 @@ world_of s = record {
   leaving = s.entries.leaving;
   waking = s.waking.items;
   wakers = s.wakers.items;
-  ticks = s.ticks.ticks;
-  sleepers = s.ticks.sleepers;
-  notified = s.ticks.notified;
+  ticks = s.lodgers.ticks.places;
+  runs = s.lodgers.runs.runs;
+  own = s.lodgers.runs.own;
+  listed = s.lodgers.runs.listed;
+  lock = s.lodgers.runs.lock;
+  sleepers = s.lodgers.bedroom.sleepers;
+  notified = s.lodgers.bedroom.notified;
   gone = s.gone;
   trace = s.trace.items;
 }
 
--- the lists may have one more each, and the trace five
+-- the lists may have one more each, and the trace five; one more reader of the list of queues can be counted
 pub record HasRoom (s : Store) : Type 0 where
   pub tasks : vec_len s.tasks + 1 ≤ vec_capacity s.tasks
   pub awaiters : vec_len s.awaiters + 1 ≤ vec_capacity s.awaiters
@@ -34,7 +39,8 @@ pub record HasRoom (s : Store) : Type 0 where
   pub entries : s.entries.has_room ≡ true
   pub waking : deque_len s.waking + 1 ≤ deque_capacity s.waking
   pub wakers : vec_len s.wakers + 1 ≤ vec_capacity s.wakers
-  pub ticks : s.ticks.has_room ≡ true
+  pub lodgers : lodgers.HasRoom s.lodgers
+  pub readers : s.lodgers.runs.lock.readers + 1 < 2 ^ 64
   pub trace : vec_len s.trace + 5 ≤ vec_capacity s.trace
 
 -- the trace may have one more

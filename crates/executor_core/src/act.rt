@@ -4,6 +4,7 @@ ghost use Rattle.std.specs.Prelude.{List, [], ◌∷◌, ◌++◌, length};
 ghost use Rattle.std.specs.Prelude.{reverse, vec_len, vec_capacity};
 ghost use Rattle.task_moves.specs.Moves as moves;
 ghost use Rattle.executor_model.specs.Acts as acts;
+ghost use Rattle.executor_model.specs.Doing as doing;
 ghost use Rattle.executor_model.specs.Carried as carried;
 ghost use Rattle.executor_model.specs.World.{task, without, among, awaiter_of};
 ghost use Rattle.executor_model.specs.Good.{IsKnown, CanGrow, IsHeld, HasPlace, KeepsAwaiter, IsKnownWaker, CanWake};
@@ -11,7 +12,7 @@ ghost use Rattle.executor_core.specs.Views.{world_of, HasRoom, HasRoomToEnd, Has
 ghost use Rattle.executor_model.specs.Good.{Needs, Fits};
 
 use crate::store::Store;
-use crate::{closing, handle, queue, sleeper, table, task, tick, user, waker};
+use crate::{closing, handle, list, queue, run, sleeper, steal, table, task, tick, user, waker};
 use executor_model::{Event, Hint, Op};
 
 /// The party does this, and is told this from outside.
@@ -20,7 +21,7 @@ pub fn act(store: &mut Store, todo: &mut Vec<Op>, party: u32, hint: Hint, op: Op
     requires room { HasRoom store.old }
     requires space { HasSpace todo.old }
     requires needs { Needs (world_of store.old) op }
-    ensures { Does (acts.act party hint op (world_of store.old)) store.new todo.old.items todo.new.items }
+    ensures { Does (doing.act party hint op (world_of store.old)) store.new todo.old.items todo.new.items }
 {
     match op {
         Op::Move(kind, f) => task::move_task(store, todo, party, kind, f),
@@ -31,6 +32,9 @@ pub fn act(store: &mut Store, todo: &mut Vec<Op>, party: u32, hint: Hint, op: Op
         Op::Handle(op) => handle::act(store, todo, party, hint, op),
         Op::Sleeper(op) => sleeper::act(store, todo, party, op),
         Op::Tick(op) => tick::act(store, todo, hint, op),
+        Op::List(op) => list::act(store, todo, hint, op),
+        Op::Steal(op) => steal::act(store, todo, party, op),
+        Op::Run(op) => run::act(store, todo, party, hint, op),
         Op::Closing(op) => closing::act(store, todo, party, op),
         Op::End(reply, _) => store.trace.push_reserved(Event::CallEnded { party, reply }),
     }

@@ -4,6 +4,7 @@ ghost use Rattle.std.specs.Prelude.{List, [], ◌∷◌, ◌++◌, length};
 ghost use Rattle.std.specs.Prelude.{reverse, vec_len, vec_capacity};
 ghost use Rattle.task_moves.specs.Moves as moves;
 ghost use Rattle.executor_model.specs.Acts as acts;
+ghost use Rattle.executor_model.specs.Doing as doing;
 ghost use Rattle.executor_model.specs.Carried as carried;
 ghost use Rattle.executor_model.specs.World.{task, without, among, awaiter_of};
 ghost use Rattle.executor_model.specs.Good.{IsKnown, CanGrow, IsHeld, HasPlace, KeepsAwaiter};
@@ -21,7 +22,7 @@ pub fn act(store: &mut Store, todo: &mut Vec<Op>, party: u32, hint: Hint, op: Ha
     requires room { HasRoom store.old }
     requires space { HasSpace todo.old }
     requires needs { HandleNeeds (world_of store.old) op }
-    ensures { Does (acts.handle_act party hint op (world_of store.old)) store.new todo.old.items todo.new.items }
+    ensures { Does (doing.handle_act party hint op (world_of store.old)) store.new todo.old.items todo.new.items }
 {
     match op {
         HandleOp::Look(f, waker) => look(store, todo, party, f, waker),

@@ -3,14 +3,20 @@
 #![tactic(auto)]
 
 mod act;
+mod begin;
 mod carry;
 mod closing;
+mod found;
 mod handle;
+mod list;
 mod machine;
 mod part;
 mod possible;
 mod queue;
+mod run;
+mod search;
 mod sleeper;
+mod steal;
 mod store;
 mod table;
 mod task;

@@ -14,28 +14,31 @@ ghost use Rattle.executor_model.specs.Runs.{run_all};
 ghost use Rattle.executor_model.specs.SleepersAgree.{SleepersAgree};
 ghost use Rattle.executor_model.specs.SleepersTold.{SleepersAreTold};
 ghost use Rattle.executor_model.specs.World.{awaiter_of};
-ghost use Rattle.executor_laws.specs.LoneEnds.{LoneCallsEnd};
-ghost use Rattle.executor_laws.specs.Reach.{IsInReach, IsReachedInOrder};
-ghost use Rattle.sleeper_laws.specs.Standing.{SomeStandingIsCalled};
+ghost use Rattle.runs_called.specs.Called.{KeeperIsCalled, SomeStandingIsCalled};
+ghost use Rattle.runs_laws.specs.LoneEnds.{LoneCallsEnd};
+ghost use Rattle.runs_reach.specs.Reach.{IsInReach, IsReachedInOrder};
+ghost use Rattle.runs_reach.specs.RunReach.{IsKeptReached, IsReachedByRuns, LeavesCommon};
 ghost use Rattle.executor_core.specs.Views.{world_of, state_of, HasRoom, HasSpace};
 ghost use Rattle.executor_core.specs.Reached.{IsReached};
-ghost use Rattle.executor_core.specs.Refused.{IsRefused};
+ghost use Rattle.executor_core.specs.Refused.{IsRefused, waits_for_lock};
 
 use crate::part::take_part;
-use crate::possible::{has_handle, part_refusal};
+use crate::possible::{go_waits, has_handle, part_refusal};
 use crate::store::Store;
-use executor_laws::laws::{
-    arrival_order_needs_fewer_ticks, common_futures_are_in_reach, lone_calls_end,
-};
 use executor_model::laws::{outputs_are_kept, sleepers_agree, sleepers_are_told};
 use executor_model::trace_laws::{
     awaiters_are_kept, closing_drops_each_future_once, drops_come_once, early_drops_have_causes,
     outputs_go_once, polls_are_asked_for, polls_are_lawful,
 };
 use executor_model::{Awaiter, Event, Kind, Op, Step, StepError};
+use executor_runs::Lodgers;
 use executor_table::Entries;
-use executor_ticks::Ticks;
-use sleeper_laws::laws::some_standing_tick_is_called;
+use runs_called::laws::{keepers_are_called, some_standing_is_called};
+use runs_laws::laws::lone_calls_end;
+use runs_reach::laws::{
+    arrival_order_needs_fewer_ticks, common_futures_are_in_reach,
+    dropped_runs_leave_common_futures, kept_futures_are_in_reach, runs_reach_futures,
+};
 use std::alloc::{AllocError, Global};
 use std::collections::VecDeque;
 use std::marker::Model;
@@ -74,7 +77,8 @@ fn make_room(store: &mut Store) -> Result<(), StepError>
         && store.entries.reserve().is_ok()
         && store.waking.reserve(1).is_ok()
         && store.wakers.reserve(1).is_ok()
-        && store.ticks.reserve().is_ok()
+        && store.lodgers.reserve().is_ok()
+        && store.lodgers.runs.counts_on()
         && store.trace.reserve(5).is_ok();
     if room {
         Ok(())
@@ -130,7 +134,7 @@ fn empty(alloc: Global, limit: u64) -> Store
         entries: Entries::new(alloc, limit),
         waking: VecDeque::new(alloc),
         wakers: Vec::new(alloc),
-        ticks: Ticks::new(alloc),
+        lodgers: Lodgers::new(alloc),
         gone: false,
         trace: Vec::new(alloc),
     }
@@ -185,10 +189,14 @@ impl Machine {
         ensures awaiters_are_kept { (f : ℕ) → AwaiterIsKept f self.new.world.trace }
         ensures sleepers_agree { SleepersAgree self.new }
         ensures sleepers_are_told { SleepersAreTold self.new }
-        ensures some_standing_tick_is_called { (f : ℕ) → SomeStandingIsCalled f self.new.world.trace }
+        ensures some_standing_is_called { (f : ℕ) → SomeStandingIsCalled f self.new.world.trace }
+        ensures keepers_are_called { (f : ℕ) → KeeperIsCalled f self.new.world.trace }
         ensures lone_calls_end { LoneCallsEnd self.new }
         ensures in_reach { IsInReach self.new }
         ensures in_order { IsReachedInOrder self.new }
+        ensures reached_by_runs { IsReachedByRuns self.new }
+        ensures kept_in_reach { IsKeptReached self.new }
+        ensures drops_leave_common { LeavesCommon self.new }
     {
         let refused = self.run_on(list);
         polls_are_lawful();
@@ -201,10 +209,14 @@ impl Machine {
         awaiters_are_kept();
         sleepers_agree();
         sleepers_are_told();
-        some_standing_tick_is_called();
+        some_standing_is_called();
+        keepers_are_called();
         lone_calls_end();
         common_futures_are_in_reach();
         arrival_order_needs_fewer_ticks();
+        runs_reach_futures();
+        kept_futures_are_in_reach();
+        dropped_runs_leave_common_futures();
         refused
     }
 
@@ -243,6 +255,14 @@ impl Machine {
             Some(todo) => todo.last().copied(),
             None => None,
         }
+    }
+
+    /// The next thing that a party has to do is to take the lock of the list of queues, which others have: a step is
+    /// refused, as it would wait.
+    pub fn waits(&self, party: u32) -> bool
+        ensures { result ≡ waits_for_lock self.now.world (steps.top (steps.stack self.now party)) }
+    {
+        go_waits(&self.store, self.top(party))
     }
 
     /// How many wakers were handed out.

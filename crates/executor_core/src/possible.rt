@@ -1,16 +1,18 @@
 //! Which steps are possible, and why one isn't.
-ghost use Rattle.std.specs.Prelude.{◌≡◌, ◌≢◌, ℕ, ◌+◌, ◌-◌, ◌^◌, ◌<◌, ◌≤◌, ◌==◌, true, false, not, Some, None};
+ghost use Rattle.std.specs.Prelude.{◌≡◌, ◌≢◌, ℕ, ◌+◌, ◌-◌, ◌^◌, ◌<◌, ◌≤◌};
+ghost use Rattle.std.specs.Prelude.{◌==◌, true, false, not, Some, None};
 ghost use Rattle.std.specs.Prelude.{List, [], ◌∷◌, ◌++◌};
 ghost use Rattle.std.specs.Prelude.{length, map, reverse, vec_len, vec_capacity};
 ghost use Rattle.executor_model.specs.Steps as steps;
 ghost use Rattle.executor_model.specs.Weights as weights;
 ghost use Rattle.executor_model.specs.Weights.{weigh, weigh_all};
 ghost use Rattle.executor_model.specs.World.{task};
+ghost use Rattle.executor_core.specs.Refused.{waits_for_lock};
 ghost use Rattle.executor_core.specs.Views.{world_of, HasRoom, HasRoomToEnd, HasSpace, Does};
 
 use crate::store::Store;
 use crate::uses::{Use, is_unused};
-use executor_model::{By, Call, Op, Step, StepError, UserEnd, UserOp};
+use executor_model::{By, Call, ListOp, Op, Step, StepError, UserEnd, UserOp, Waker};
 
 /// User code, which must answer first.
 pub fn waits(op: Op) -> bool
@@ -21,6 +23,8 @@ pub fn waits(op: Op) -> bool
         Op::User(UserOp::Drop(_)) => true,
         Op::User(UserOp::DropOutput(_)) => true,
         Op::User(UserOp::CallOutside(_)) => true,
+        Op::User(UserOp::PollOwn(_)) => true,
+        Op::User(UserOp::DropOwn(_)) => true,
         _ => false,
     }
 }
@@ -34,13 +38,25 @@ fn is_free(top: Option<Op>) -> bool
     }
 }
 
-/// The future in whose poll a party is.
-pub fn polled_by(top: Option<Op>) -> Option<u64>
-    ensures { result ≡ steps.polled_by top }
+/// The waker that the poll was given in which a party is, of a future or of a run's own.
+pub fn given(top: Option<Op>) -> Option<Waker>
+    ensures { result ≡ steps.mine top }
 {
     match top {
-        Some(Op::User(UserOp::Poll(f))) => Some(f),
+        Some(Op::User(UserOp::Poll(f))) => Some(Waker::Task(f)),
+        Some(Op::User(UserOp::PollOwn(x))) => Some(x.waker),
         _ => None,
+    }
+}
+
+/// That waker is one of a task.
+fn is_given_task(top: Option<Op>) -> bool
+    ensures { result ≡ steps.is_some (steps.future_of (steps.mine top)) }
+{
+    match given(top) {
+        Some(Waker::Task(_)) => true,
+        Some(Waker::Outside(_)) => false,
+        None => false,
     }
 }
 
@@ -68,14 +84,21 @@ pub fn has_handle(store: &Store, parties: &[Vec<Op>], f: u64) -> bool
 fn has_tick(store: &Store, parties: &[Vec<Op>], t: u64) -> bool
     ensures { result ≡ steps.has_tick (world_of store.now) (map (λ v. v.items) parties.now) t }
 {
-    store.ticks.has(t) && is_unused(parties, Use::Tick(t))
+    store.lodgers.ticks.has(t) && is_unused(parties, Use::Tick(t))
+}
+
+/// The run was not dropped, and no call uses it.
+fn has_run(store: &Store, parties: &[Vec<Op>], r: u64) -> bool
+    ensures { result ≡ steps.has_run (world_of store.now) (map (λ v. v.items) parties.now) r }
+{
+    store.lodgers.runs.has(r) && is_unused(parties, Use::Run(r))
 }
 
 fn is_known(top: Option<Op>, by: By) -> bool
     ensures { result ≡ steps.is_known top by }
 {
     match by {
-        By::Mine => polled_by(top).is_some(),
+        By::Mine => given(top).is_some(),
         By::Outside(_) => true,
     }
 }
@@ -92,8 +115,8 @@ fn has_all(store: &Store, parties: &[Vec<Op>], top: Option<Op>, call: Call) -> b
         Call::WakeByRef(k) => kept(store, k).is_some(),
         Call::Copy(k) => kept(store, k).is_some(),
         Call::DropWaker(k) => kept(store, k).is_some() && is_unused(parties, Use::Waker(k)),
-        Call::Keep => polled_by(top).is_some(),
-        Call::WakeSelf => polled_by(top).is_some(),
+        Call::Keep => is_given_task(top),
+        Call::WakeSelf => is_given_task(top),
         Call::PollHandle(f, by) => has_handle(store, parties, f) && is_known(top, by),
         Call::Cancel(f) => has_handle(store, parties, f),
         Call::Detach(f) => has_handle(store, parties, f),
@@ -101,6 +124,9 @@ fn has_all(store: &Store, parties: &[Vec<Op>], top: Option<Op>, call: Call) -> b
         Call::NewTick => true,
         Call::PollTick(t, by) => has_tick(store, parties, t) && is_known(top, by),
         Call::DropTick(t) => has_tick(store, parties, t),
+        Call::NewRun => true,
+        Call::PollRun(r, by) => has_run(store, parties, r) && is_known(top, by),
+        Call::DropRun(r) => has_run(store, parties, r),
         Call::DropExecutor => true,
     }
 }
@@ -115,6 +141,9 @@ fn is_on_executor(call: Call) -> bool
         Call::NewTick => true,
         Call::PollTick(_, _) => true,
         Call::DropTick(_) => true,
+        Call::NewRun => true,
+        Call::PollRun(_, _) => true,
+        Call::DropRun(_) => true,
         Call::DropExecutor => true,
         _ => false,
     }
@@ -129,11 +158,13 @@ fn is_drop(call: Call) -> bool
     }
 }
 
-/// No call in progress uses the executor, and no tick lives.
+/// No call in progress uses the executor, and no tick or run lives.
 fn is_unborrowed(store: &Store, parties: &[Vec<Op>]) -> bool
     ensures { result ≡ steps.is_unborrowed (world_of store.now) (map (λ v. v.items) parties.now) }
 {
-    is_unused(parties, Use::Executor) && !store.ticks.has_any()
+    is_unused(parties, Use::Executor)
+        && !store.lodgers.ticks.has_any()
+        && !store.lodgers.runs.has_any()
 }
 
 fn begin_refusal(
@@ -159,14 +190,27 @@ fn begin_refusal(
     None
 }
 
-fn go_refusal(top: Option<Op>) -> Option<StepError>
-    ensures { result ≡ steps.go_refusal top }
+/// The next thing to do takes the lock of the list of queues, which others have.
+pub fn go_waits(store: &Store, top: Option<Op>) -> bool
+    ensures { result ≡ waits_for_lock (world_of store.now) top }
+{
+    match top {
+        Some(Op::List(ListOp::LockWrite(_))) => store.lodgers.runs.is_locked(),
+        Some(Op::List(ListOp::LockRead(_))) => store.lodgers.runs.is_locked_to_write(),
+        _ => false,
+    }
+}
+
+fn go_refusal(store: &Store, top: Option<Op>) -> Option<StepError>
+    ensures { result ≡ steps.go_refusal (world_of store.now) top }
 {
     match top {
         None => Some(StepError::Idle),
         Some(op) => {
             if waits(op) {
                 Some(StepError::WrongAnswer)
+            } else if go_waits(store, top) {
+                Some(StepError::Waits)
             } else {
                 None
             }
@@ -180,12 +224,14 @@ fn accepts(op: Op, end: UserEnd) -> bool
     match end {
         UserEnd::Polled(_) => match op {
             Op::User(UserOp::Poll(_)) => true,
+            Op::User(UserOp::PollOwn(_)) => true,
             _ => false,
         },
         UserEnd::Done => match op {
             Op::User(UserOp::Drop(_)) => true,
             Op::User(UserOp::DropOutput(_)) => true,
             Op::User(UserOp::CallOutside(_)) => true,
+            Op::User(UserOp::DropOwn(_)) => true,
             _ => false,
         },
     }
@@ -218,7 +264,7 @@ pub fn part_refusal(
     let top = todo.last().copied();
     match step {
         Step::Begin { call, .. } => begin_refusal(store, parties, top, call),
-        Step::Go { .. } => go_refusal(top),
+        Step::Go { .. } => go_refusal(store, top),
         Step::Answer { end, .. } => answer_refusal(top, end),
     }
 }

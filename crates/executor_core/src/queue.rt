@@ -4,6 +4,7 @@ ghost use Rattle.std.specs.Prelude.{List, [], ◌∷◌, ◌++◌, length};
 ghost use Rattle.std.specs.Prelude.{reverse, vec_len, vec_capacity};
 ghost use Rattle.task_moves.specs.Moves as moves;
 ghost use Rattle.executor_model.specs.Acts as acts;
+ghost use Rattle.executor_model.specs.Doing as doing;
 ghost use Rattle.executor_model.specs.Carried as carried;
 ghost use Rattle.executor_model.specs.World.{task, without, among, awaiter_of};
 ghost use Rattle.executor_model.specs.Good.{IsKnown, CanGrow, IsHeld, HasPlace, KeepsAwaiter, IsKnownWaker, CanWake};
@@ -17,7 +18,7 @@ use task_moves::moves::Move;
 pub fn act(store: &mut Store, todo: &mut Vec<Op>, op: QueueOp)
     requires room { HasRoom store.old }
     requires space { HasSpace todo.old }
-    ensures { Does (acts.queue_act op (world_of store.old)) store.new todo.old.items todo.new.items }
+    ensures { Does (doing.queue_act op (world_of store.old)) store.new todo.old.items todo.new.items }
 {
     match op {
         QueueOp::Take => take_first(store, todo),

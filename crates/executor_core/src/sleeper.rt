@@ -1,25 +1,37 @@
 //! How a sleeper is told.
-ghost use Rattle.executor_model.specs.Acts as acts;
+ghost use Rattle.std.specs.Prelude.{◌≡◌};
+ghost use Rattle.executor_model.specs.ActsOfSleepers as sleepers;
+ghost use Rattle.executor_model.specs.Doing as doing;
 ghost use Rattle.executor_model.specs.Good.{SleeperNeeds};
 ghost use Rattle.executor_core.specs.Views.{world_of, HasRoom, HasSpace, Does};
 
 use crate::store::Store;
 use crate::waker::call_waker;
-use executor_model::{Op, Polled, SleeperOp};
+use executor_model::{Op, Polled, Sleeper, SleeperOp};
 
 /// The party does this to tell a sleeper that there is something to do.
 pub fn act(store: &mut Store, todo: &mut Vec<Op>, party: u32, op: SleeperOp)
     requires room { HasRoom store.old }
     requires space { HasSpace todo.old }
     requires needs { SleeperNeeds (world_of store.old) op }
-    ensures { Does (acts.sleeper_act party op (world_of store.old)) store.new todo.old.items todo.new.items }
+    ensures { Does (doing.sleeper_act party op (world_of store.old)) store.new todo.old.items todo.new.items }
 {
     match op {
         SleeperOp::ExchangeFlag => exchange_flag(store, todo),
         SleeperOp::HandOut => hand_out(store, todo),
         SleeperOp::CallSleeper(s) => {
-            call_waker(store, todo, party, Polled::Tick(s.tick), s.waker, s.poll)
+            call_waker(store, todo, party, polled_as(s.who), s.waker, s.poll)
         }
+    }
+}
+
+/// What a poll was of in which someone lay down.
+fn polled_as(who: Sleeper) -> Polled
+    ensures { result ≡ sleepers.polled_as who }
+{
+    match who {
+        Sleeper::Tick(t) => Polled::Tick(t),
+        Sleeper::Run(r) => Polled::Run(r),
     }
 }
 
@@ -27,9 +39,9 @@ pub fn act(store: &mut Store, todo: &mut Vec<Op>, party: u32, op: SleeperOp)
 fn exchange_flag(store: &mut Store, todo: &mut Vec<Op>)
     requires room { HasRoom store.old }
     requires space { HasSpace todo.old }
-    ensures { Does (acts.exchange_flag (world_of store.old)) store.new todo.old.items todo.new.items }
+    ensures { Does (sleepers.exchange_flag (world_of store.old)) store.new todo.old.items todo.new.items }
 {
-    if store.ticks.exchange_flag() {
+    if store.lodgers.bedroom.exchange_flag() {
         todo.push_reserved(Op::Sleeper(SleeperOp::HandOut));
     }
 }
@@ -38,9 +50,9 @@ fn exchange_flag(store: &mut Store, todo: &mut Vec<Op>)
 fn hand_out(store: &mut Store, todo: &mut Vec<Op>)
     requires room { HasRoom store.old }
     requires space { HasSpace todo.old }
-    ensures { Does (acts.hand_out (world_of store.old)) store.new todo.old.items todo.new.items }
+    ensures { Does (sleepers.hand_out (world_of store.old)) store.new todo.old.items todo.new.items }
 {
-    match store.ticks.hand_out() {
+    match store.lodgers.bedroom.hand_out() {
         Some(sleeping) => todo.push_reserved(Op::Sleeper(SleeperOp::CallSleeper(sleeping))),
         None => {}
     }

@@ -4,6 +4,7 @@ ghost use Rattle.std.specs.Prelude.{List, [], ◌∷◌, ◌++◌, length};
 ghost use Rattle.std.specs.Prelude.{reverse, vec_len, vec_capacity};
 ghost use Rattle.task_moves.specs.Moves as moves;
 ghost use Rattle.executor_model.specs.Acts as acts;
+ghost use Rattle.executor_model.specs.Doing as doing;
 ghost use Rattle.executor_model.specs.Carried as carried;
 ghost use Rattle.executor_model.specs.World.{task, without, among, awaiter_of};
 ghost use Rattle.executor_model.specs.Good.{IsKnown, CanGrow, IsHeld, HasPlace, KeepsAwaiter, IsKnownWaker, CanWake};
@@ -16,7 +17,7 @@ use executor_model::{Event, Op, TableOp, UserOp};
 pub fn act(store: &mut Store, todo: &mut Vec<Op>, party: u32, op: UserOp)
     requires room { HasRoom store.old }
     requires space { HasSpace todo.old }
-    ensures { Does (acts.user_act party op (world_of store.old)) store.new todo.old.items todo.new.items }
+    ensures { Does (doing.user_act party op (world_of store.old)) store.new todo.old.items todo.new.items }
 {
     match op {
         UserOp::BeginDrop(f) => begin_drop(store, todo, party, f),

@@ -1,15 +1,20 @@
 //! What the calls in progress use.
-ghost use Rattle.std.specs.Prelude.{◌≡◌, ◌≢◌, ℕ, ◌+◌, ◌-◌, ◌^◌, ◌<◌, ◌≤◌, ◌==◌, true, false, not, Some, None};
+ghost use Rattle.std.specs.Prelude.{◌≡◌, ◌≢◌, ℕ, ◌+◌, ◌-◌, ◌^◌, ◌<◌, ◌≤◌};
+ghost use Rattle.std.specs.Prelude.{◌==◌, true, false, not, Some, None};
 ghost use Rattle.std.specs.Prelude.{List, [], ◌∷◌, ◌++◌};
 ghost use Rattle.std.specs.Prelude.{length, map, reverse, vec_len, vec_capacity};
 ghost use Rattle.executor_model.specs.Steps as steps;
 ghost use Rattle.executor_model.specs.Rows as rows;
+ghost use Rattle.executor_model.specs.Weights as weights;
 ghost use Rattle.executor_model.specs.Weights.{weigh, weigh_all};
 ghost use Rattle.executor_model.specs.World.{task};
 ghost use Rattle.executor_core.specs.Uses as uses;
 ghost use Rattle.executor_core.specs.Views.{world_of, HasRoom, HasRoomToEnd, HasSpace, Does};
 
-use executor_model::{HandleOp, Hold, Op, QueueOp, TableOp, TickOp, UserOp, WakerOp};
+use executor_model::{
+    HandleOp, Hold, ListOp, Op, QueueOp, RunOp, Section, Sleeper, StealOp, TableOp, TickOp, UserOp,
+    WakerOp,
+};
 use task_moves::moves::Move;
 
 /// Something that a call may use, and another may not use meanwhile.
@@ -19,6 +24,7 @@ pub enum Use {
     Handle(u64),
     Waker(u64),
     Tick(u64),
+    Run(u64),
 }
 
 #[tactic(auto, using(crate::proofs::Scans::same_test))]
@@ -30,6 +36,7 @@ fn holds(held: Hold, what: Use) -> bool
             Hold::Executor => true,
             Hold::Spawned(_) => true,
             Hold::Tick(_) => true,
+            Hold::Run(_) => true,
             Hold::Nothing => false,
             Hold::Handle(_) => false,
             Hold::Waker(_) => false,
@@ -41,6 +48,7 @@ fn holds(held: Hold, what: Use) -> bool
             Hold::Executor => false,
             Hold::Waker(_) => false,
             Hold::Tick(_) => false,
+            Hold::Run(_) => false,
         },
         Use::Waker(k) => match held {
             Hold::Waker(j) => k == j,
@@ -49,6 +57,7 @@ fn holds(held: Hold, what: Use) -> bool
             Hold::Spawned(_) => false,
             Hold::Handle(_) => false,
             Hold::Tick(_) => false,
+            Hold::Run(_) => false,
         },
         Use::Tick(t) => match held {
             Hold::Tick(u) => t == u,
@@ -57,7 +66,52 @@ fn holds(held: Hold, what: Use) -> bool
             Hold::Spawned(_) => false,
             Hold::Handle(_) => false,
             Hold::Waker(_) => false,
+            Hold::Run(_) => false,
         },
+        Use::Run(r) => match held {
+            Hold::Run(q) => r == q,
+            Hold::Nothing => false,
+            Hold::Executor => false,
+            Hold::Spawned(_) => false,
+            Hold::Handle(_) => false,
+            Hold::Waker(_) => false,
+            Hold::Tick(_) => false,
+        },
+    }
+}
+
+fn borrows_in_tick(op: TickOp) -> bool
+    ensures { result ≡ not ((rows.tick_row op).borrowing == 0) }
+{
+    match op {
+        TickOp::MakeTick => true,
+        TickOp::Search(_) => true,
+        TickOp::CopyWaker(_) => true,
+        TickOp::LieDown(_) => true,
+        TickOp::GetUp(_) => false,
+        TickOp::Leave(_) => false,
+    }
+}
+
+fn borrows_in_section(section: Section) -> bool
+    ensures { result ≡ not ((rows.section_row section).borrowing == 0) }
+{
+    match section {
+        Section::MakeRun => true,
+        Section::Register(_) => true,
+        Section::Unregister(_, _) => true,
+    }
+}
+
+fn borrows_in_list(op: ListOp) -> bool
+    ensures { result ≡ not ((rows.list_row op).borrowing == 0) }
+{
+    match op {
+        ListOp::LockWrite(section) => borrows_in_section(section),
+        ListOp::Write(section) => borrows_in_section(section),
+        ListOp::UnlockWrite => false,
+        ListOp::LockRead(_) => true,
+        ListOp::UnlockRead => false,
     }
 }
 
@@ -75,7 +129,12 @@ fn borrows(op: Op) -> bool
         Op::Move(Move::EndPending, _) => true,
         Op::Move(Move::EndReady, _) => true,
         Op::Waker(WakerOp::CopyWaker(_, held)) => holds(held, Use::Executor),
-        Op::Tick(_) => true,
+        Op::User(UserOp::PollOwn(_)) => true,
+        Op::Tick(op) => borrows_in_tick(op),
+        Op::List(op) => borrows_in_list(op),
+        Op::Steal(_) => true,
+        Op::Run(RunOp::ReturnRoom) => false,
+        Op::Run(_) => true,
         Op::End(_, held) => holds(held, Use::Executor),
         _ => false,
     }
@@ -106,17 +165,107 @@ fn lends(op: Op, k: u64) -> bool
     }
 }
 
+/// Who is polled in this is the tick.
 #[tactic(auto, using(crate::proofs::Scans::same_test))]
+fn is_tick(who: Sleeper, t: u64) -> bool
+    ensures { result ≡ not (weights.is_tick t who == 0) }
+{
+    match who {
+        Sleeper::Tick(u) => t == u,
+        Sleeper::Run(_) => false,
+    }
+}
+
 fn ticks(op: Op, t: u64) -> bool
     ensures { result ≡ not (rows.ticking_of t op == 0) }
 {
     match op {
-        Op::Tick(TickOp::Search(s)) => t == s.tick,
-        Op::Tick(TickOp::CopyWaker(s)) => t == s.tick,
-        Op::Tick(TickOp::LieDown(s)) => t == s.tick,
-        Op::Tick(TickOp::GetUp(u, _)) => t == u,
-        Op::Tick(TickOp::Leave(u)) => t == u,
+        Op::Tick(TickOp::Search(s)) => is_tick(s.who, t),
+        Op::Tick(TickOp::CopyWaker(s)) => is_tick(s.who, t),
+        Op::Tick(TickOp::LieDown(s)) => is_tick(s.who, t),
         Op::End(_, held) => holds(held, Use::Tick(t)),
+        _ => false,
+    }
+}
+
+/// Who is polled in this is the run.
+#[tactic(auto, using(crate::proofs::Scans::same_test))]
+fn is_run(who: Sleeper, r: u64) -> bool
+    ensures { result ≡ not (weights.is_run r who == 0) }
+{
+    match who {
+        Sleeper::Run(q) => r == q,
+        Sleeper::Tick(_) => false,
+    }
+}
+
+/// The run's queue comes into the list or goes from it.
+#[tactic(auto, using(crate::proofs::Scans::same_test))]
+fn is_section_of(section: Section, r: u64) -> bool
+    ensures { result ≡ not ((rows.section_row section).running r == 0) }
+{
+    match section {
+        Section::MakeRun => false,
+        Section::Register(x) => r == x.run,
+        Section::Unregister(q, _) => r == q,
+    }
+}
+
+/// The run does this with the list of queues.
+#[tactic(auto, using(crate::proofs::Scans::same_test))]
+fn lists(op: ListOp, r: u64) -> bool
+    ensures { result ≡ not ((rows.list_row op).running r == 0) }
+{
+    match op {
+        ListOp::LockWrite(section) => is_section_of(section, r),
+        ListOp::Write(section) => is_section_of(section, r),
+        ListOp::UnlockWrite => false,
+        ListOp::LockRead(x) => r == x.run,
+        ListOp::UnlockRead => false,
+    }
+}
+
+/// It is the run that steals.
+#[tactic(auto, using(crate::proofs::Scans::same_test))]
+fn steals(op: StealOp, r: u64) -> bool
+    ensures { result ≡ not ((rows.steal_row op).running r == 0) }
+{
+    match op {
+        StealOp::Length(s) => r == s.poll.run,
+        StealOp::OwnLength(s, _) => r == s.poll.run,
+        StealOp::Take(s, _) => r == s.poll.run,
+        StealOp::Put(s, _, _) => r == s.poll.run,
+    }
+}
+
+/// This is what the run alone does.
+#[tactic(auto, using(crate::proofs::Scans::same_test))]
+fn is_of(op: RunOp, r: u64) -> bool
+    ensures { result ≡ not ((rows.run_row op).running r == 0) }
+{
+    match op {
+        RunOp::MakeRoom => false,
+        RunOp::ReturnRoom => false,
+        RunOp::SearchCommon(x) => r == x.run,
+        RunOp::LookOwn(x, _, _) => r == x.run,
+        RunOp::WakeOwn(x) => r == x.run,
+        RunOp::Reschedule(q, _) => r == q,
+    }
+}
+
+#[tactic(auto, using(crate::proofs::Scans::same_test))]
+fn runs(op: Op, r: u64) -> bool
+    ensures { result ≡ not (rows.running_of r op == 0) }
+{
+    match op {
+        Op::User(UserOp::PollOwn(x)) => r == x.run,
+        Op::Tick(TickOp::Search(s)) => is_run(s.who, r),
+        Op::Tick(TickOp::CopyWaker(s)) => is_run(s.who, r),
+        Op::Tick(TickOp::LieDown(s)) => is_run(s.who, r),
+        Op::List(op) => lists(op, r),
+        Op::Steal(op) => steals(op, r),
+        Op::Run(op) => is_of(op, r),
+        Op::End(_, held) => holds(held, Use::Run(r)),
         _ => false,
     }
 }
@@ -129,6 +278,7 @@ fn uses(op: Op, what: Use) -> bool
         Use::Handle(f) => handles(op, f),
         Use::Waker(k) => lends(op, k),
         Use::Tick(t) => ticks(op, t),
+        Use::Run(r) => runs(op, r),
     }
 }
 

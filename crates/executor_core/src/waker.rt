@@ -4,6 +4,8 @@ ghost use Rattle.std.specs.Prelude.{List, [], ◌∷◌, ◌++◌, length};
 ghost use Rattle.std.specs.Prelude.{reverse, vec_len, vec_capacity};
 ghost use Rattle.task_moves.specs.Moves as moves;
 ghost use Rattle.executor_model.specs.Acts as acts;
+ghost use Rattle.executor_model.specs.ActsOfRuns as runs;
+ghost use Rattle.executor_model.specs.Doing as doing;
 ghost use Rattle.executor_model.specs.Carried as carried;
 ghost use Rattle.executor_model.specs.World.{task, without, among, awaiter_of};
 ghost use Rattle.executor_model.specs.Good.{IsKnown, CanGrow, IsHeld, HasPlace, KeepsAwaiter};
@@ -20,7 +22,7 @@ pub fn act(store: &mut Store, todo: &mut Vec<Op>, party: u32, hint: Hint, op: Wa
     requires room { HasRoom store.old }
     requires space { HasSpace todo.old }
     requires needs { WakerNeeds (world_of store.old) op }
-    ensures { Does (acts.waker_act party hint op (world_of store.old)) store.new todo.old.items todo.new.items }
+    ensures { Does (doing.waker_act party hint op (world_of store.old)) store.new todo.old.items todo.new.items }
 {
     match op {
         WakerOp::CopyWaker(f, held) => copy_waker(store, todo, hint, f, held),
@@ -98,6 +100,19 @@ pub fn call_waker(
     });
     match waker {
         Waker::Task(g) => move_task(store, todo, party, Move::Wake, g),
+        Waker::Outside(x) => todo.push_reserved(Op::User(UserOp::CallOutside(x))),
+    }
+}
+
+/// A waker is called, and stays.
+pub fn call_by_reference(store: &mut Store, todo: &mut Vec<Op>, party: u32, waker: Waker)
+    requires room { vec_len store.old.trace + 2 ≤ vec_capacity store.old.trace }
+    requires space { vec_len todo.old + 5 ≤ vec_capacity todo.old }
+    requires needs { CanWake (world_of store.old) waker }
+    ensures { Does (runs.call_by_reference party (world_of store.old) waker) store.new todo.old.items todo.new.items }
+{
+    match waker {
+        Waker::Task(g) => move_task(store, todo, party, Move::WakeByReference, g),
         Waker::Outside(x) => todo.push_reserved(Op::User(UserOp::CallOutside(x))),
     }
 }

@@ -20,6 +20,7 @@ use Rattle.executor_model.specs.declared.op.ClosingOp.TheVariants as closing_op
 use Rattle.executor_model.specs.declared.op.HandleOp.TheVariants as handle_op
 use Rattle.task_moves.specs.declared.moves.owed.Move.TheVariants as move
 use Rattle.executor_model.specs.declared.op.QueueOp.TheVariants as queue_op
+use Rattle.executor_model.specs.declared.op.RunOp.{RunOp}
 use Rattle.executor_model.specs.declared.op.SleeperOp.TheVariants as sleeper_op
 use Rattle.executor_model.specs.declared.op.TableOp.TheVariants as table_op
 use Rattle.executor_model.specs.declared.op.TickOp.TheVariants as tick_op
@@ -28,10 +29,12 @@ use Rattle.executor_model.specs.declared.op.WakerOp.TheVariants as waker_op
 use Rattle.executor_model.specs.declared.step.Hint.{Hint}
 use Rattle.executor_model.specs.World.{World, done, log, log_if, task, awaiter_of, among}
 use Rattle.executor_model.specs.Carried.{carried}
-use Rattle.executor_model.specs.Acts.{append_by, take_by, enter_by, take_to_poll, put_back, take_to_drop, leave_by}
+use Rattle.executor_model.specs.Acts.{append_by, take_by, enter_by, take_to_poll, put_back, take_to_drop}
+use Rattle.executor_model.specs.Acts.{leave_by}
 use Rattle.executor_model.specs.Acts.{begin_drop, begin_drop_output, copy_by, polled, look_by, look_again_by}
 use Rattle.executor_model.specs.Acts.{copy_awaiter_by, register_by, end_register_by, notify_by, call_awaiter}
-use Rattle.executor_model.specs.Acts.{closing_ops, drop_next_by, wake_next_by, drain_by, act}
+use Rattle.executor_model.specs.Acts.{closing_ops, drop_next_by, wake_next_by, drain_by}
+use Rattle.executor_model.specs.Doing.{act}
 use Rattle.executor_model.specs.Weights.{same, weigh, past, waker_past}
 use Rattle.executor_model.specs.Good.{pasts, IsKnownWaker}
 use Rattle.executor_model.specs.Rows.{past_of}
@@ -47,8 +50,9 @@ use Rattle.executor_model.proofs.Counting.{waits_on, end_registered, end_notifie
 use Rattle.executor_model.proofs.Stories.{among_is}
 use Rattle.executor_model.proofs.Asking.{KeepsAsked}
 use Rattle.executor_model.proofs.Requests.{request-push}
+use Rattle.executor_model.proofs.RunsAsking.{asked-list, asked-run, asked-search_who, asked-steal}
 use Rattle.executor_model.proofs.SleepersAsking.{asked-exchange, asked-hand_out, asked-call_sleeper}
-use Rattle.executor_model.proofs.SleepersAsking.{asked-make_tick, asked-search, asked-copy_sleeper}
+use Rattle.executor_model.proofs.SleepersAsking.{asked-make_tick, asked-copy_sleeper}
 use Rattle.executor_model.proofs.SleepersAsking.{asked-lie_down, asked-get_up, asked-leave_sleepers}
 
 wrong : (a b : Bool) → a ≡ true → (a || b) ≡ false → ⊥
@@ -632,14 +636,19 @@ asked-act p h (op.Waker (waker_op.CallAwaiter f a k)) w n u z m = asked-call p w
 asked-act p h (op.Sleeper sleeper_op.ExchangeFlag) w n u z m = asked-exchange _ w
 asked-act p h (op.Sleeper sleeper_op.HandOut) w n u z m = asked-hand_out _ _ w
 asked-act p h (op.Sleeper (sleeper_op.CallSleeper s)) w n u z m =
-    asked-call_sleeper p s.tick s.poll s.waker w (known_waker w s.waker 0 (omega (arith, z)))
+    asked-call_sleeper p s.who s.poll s.waker w (known_waker w s.waker 0 (omega (arith, z)))
 asked-act p h (op.Tick tick_op.MakeTick) w n u z m = asked-make_tick _ w
-asked-act p h (op.Tick (tick_op.Search s)) w n u z m = asked-search _ _ w s refl
+asked-act p h (op.Tick (tick_op.Search s)) w n u z m = asked-search_who s.who w s refl
 asked-act p h (op.Tick (tick_op.CopyWaker s)) w n u z m =
-    asked-copy_sleeper _ s.waker s.tick s.poll w (known_waker w s.waker 0 (omega (arith, z)))
+    asked-copy_sleeper _ s.waker s.who s.poll w (known_waker w s.waker 0 (omega (arith, z)))
 asked-act p h (op.Tick (tick_op.LieDown s)) w n u z m = asked-lie_down _ w s
-asked-act p h (op.Tick (tick_op.GetUp t f)) w n u z m = asked-get_up _ w t f
+asked-act p h (op.Tick (tick_op.GetUp t)) w n u z m = asked-get_up _ w t
 asked-act p h (op.Tick (tick_op.Leave t)) w n u z m = asked-leave_sleepers _ w t
+asked-act p h (op.List o) w n u z m = asked-list h o w
+asked-act p h (op.Steal o) w n u z m = asked-steal p o w
+asked-act p h (op.Run o) w n u z m = asked-run p h o w (λ x e.
+    (let y = ap (λ (a : RunOp). past_of (length w.tasks) (op.Run a)) e in
+    known_waker w x.waker 0 (omega (arith, y, z))))
 asked-act p h (op.Closing closing_op.TakeOut) w n u z m = asked-take_out _ _ w refl
 asked-act p h (op.Closing closing_op.DropNext) w n u z m = asked-drop_first p w _ refl
 asked-act p h (op.Closing closing_op.WakeNext) w n u z m = asked-wake_first p w _ refl (first_known w u)

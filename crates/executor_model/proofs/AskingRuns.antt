@@ -2,6 +2,7 @@
 use Rattle.std.proofs.Common.{◌≡◌, ◌≢◌, ◌⊎◌, ℕ, ◌<◌, ◌≤◌, List, [], ◌∷◌, ◌++◌, length, set}
 use Rattle.std.proofs.Common.{true, refl, sym, subst, inl, inr, arith}
 use Rattle.std.specs.Prelude.{Option, Some, None, reverse}
+use Rattle.executor_model.specs.declared.op.Waker.{Waker}
 use Rattle.executor_model.specs.declared.call.Call.{Call}
 use Rattle.executor_model.specs.declared.call.Call.TheVariants as call
 use Rattle.executor_model.specs.declared.call.Reply.{Reply}
@@ -17,6 +18,9 @@ use Rattle.executor_model.specs.declared.op.ClosingOp.TheVariants as closing_op
 use Rattle.executor_model.specs.declared.op.HandleOp.TheVariants as handle_op
 use Rattle.task_moves.specs.declared.moves.owed.Move.TheVariants as move
 use Rattle.executor_model.specs.declared.op.QueueOp.TheVariants as queue_op
+use Rattle.executor_model.specs.declared.op.RunOp.TheVariants as run_op
+use Rattle.executor_model.specs.declared.op.RunPoll.{RunPoll}
+use Rattle.executor_model.specs.declared.op.Sleeper.TheVariants as sleeper
 use Rattle.executor_model.specs.declared.op.TableOp.TheVariants as table_op
 use Rattle.executor_model.specs.declared.op.TickOp.TheVariants as tick_op
 use Rattle.executor_model.specs.declared.op.UserOp.TheVariants as user_op
@@ -25,15 +29,15 @@ use Rattle.executor_model.specs.declared.step.Step.{Step}
 use Rattle.executor_model.specs.declared.step.UserEnd.{UserEnd}
 use Rattle.executor_model.specs.declared.step.UserEnd.TheVariants as end
 use Rattle.executor_model.specs.Trace.{Trace}
-use Rattle.executor_model.specs.World.{World, Done, done, log}
-use Rattle.executor_model.specs.Acts.{act}
+use Rattle.executor_model.specs.World.{World, Stage, New, Listed, Ended, Run, Done, done, log, run_of}
+use Rattle.executor_model.specs.Doing.{act}
 use Rattle.executor_model.specs.Weights.{weigh, past}
 use Rattle.executor_model.specs.Sound.{Sound, Pend, pend, with_ops, phase}
 use Rattle.executor_model.specs.Sound.Phase.{Over, Broken}
 use Rattle.executor_model.specs.Good.{Good}
 use Rattle.executor_model.specs.Rows.{past_of}
-use Rattle.executor_model.specs.Steps.{Machine, stack, run, start, idle, polled_by, top, accepts, begun}
-use Rattle.executor_model.specs.Steps.{react, used_up, with_future, kept, waker_of}
+use Rattle.executor_model.specs.Steps.{Machine, stack, run, start, idle, mine, top, accepts, begun}
+use Rattle.executor_model.specs.Steps.{react, used_up, with_future, future_of, kept, waker_of, poll_run, drop_run}
 use Rattle.executor_model.proofs.Lists.{past_is, phase-push}
 use Rattle.executor_model.proofs.Lift.{split, split-pend, push-pend, unsettled, good-start}
 use Rattle.executor_model.proofs.Ways.{Way, along}
@@ -105,6 +109,9 @@ keeps-react p (op.User (user_op.Poll f)) (end.Polled answer.Ready) w a = asked-r
 keeps-react p (op.User (user_op.Drop f)) end.Done w a = λ g r bb h. h
 keeps-react p (op.User (user_op.DropOutput f)) end.Done w a = λ g r bb h. h
 keeps-react p (op.User (user_op.CallOutside x)) end.Done w a = λ g r bb h. h
+keeps-react p (op.User (user_op.PollOwn x)) (end.Polled answer.Pending) w a = λ g r bb h. h
+keeps-react p (op.User (user_op.PollOwn x)) (end.Polled answer.Ready) w a = λ g r bb h. h
+keeps-react p (op.User (user_op.DropOwn t)) end.Done w a = λ g r bb h. h
 keeps-react p _ _ w a = absurd (cc)
 
 -- the beginning of a call
@@ -138,8 +145,27 @@ asks-search : (w : World) (p : ℕ) (c : Call) (t : ℕ) (x : Sleeping) →
 asks-search w p c t x g r bb h = grind (arith, request-push, phase-push)
 
 asks-leave : (w : World) (p : ℕ) (c : Call) (t : ℕ) →
-    KeepsAsked w [] (done (log (log w (event.CallBegun p c)) (event.TickDropped p t)) (op.Tick (tick_op.Leave t) ∷ []))
+    KeepsAsked w [] (done (log (log w (event.CallBegun p c)) (event.TickDropped p t))
+    (op.Tick (tick_op.Leave (sleeper.Tick t)) ∷
+    op.End reply.Done (hold.Tick t) ∷ []))
 asks-leave w p c t g r bb h = grind (arith, request-push, phase-push)
+
+asks-room : (w : World) (p : ℕ) →
+    KeepsAsked w [] (done (log w (event.CallBegun p call.NewRun)) (op.Run run_op.MakeRoom ∷ []))
+asks-room w p g r bb h = grind (arith, request-push, phase-push)
+
+asks-poll_run : (t : Stage) (w : World) (p : ℕ) (c : Call) (q : ℕ) (x : RunPoll) →
+    KeepsAsked w [] (done (log (log w (event.CallBegun p c)) (event.RunPolled p q)) (poll_run t x))
+asks-poll_run New w p c q x g r bb h = grind (arith, request-push, phase-push)
+asks-poll_run Listed w p c q x g r bb h = grind (arith, request-push, phase-push)
+asks-poll_run Ended w p c q x g r bb h = grind (arith, request-push, phase-push)
+
+asks-drop_run : (t : Stage) (w : World) (p : ℕ) (c : Call) (rs : List Run) (q : ℕ) →
+    KeepsAsked w [] (done (log (record (log w (event.CallBegun p c)) { runs = rs }) (event.RunDropped p q))
+    (drop_run t q))
+asks-drop_run New w p c rs q g r bb h = grind (arith, request-push, phase-push)
+asks-drop_run Listed w p c rs q g r bb h = grind (arith, request-push, phase-push)
+asks-drop_run Ended w p c rs q g r bb h = grind (arith, request-push, phase-push)
 
 asks-wake : (w : World) (p k f : ℕ) (c : Call) →
     KeepsAsked w [] (done (used_up (log w (event.CallBegun p c)) k)
@@ -161,7 +187,8 @@ asks-drop : (w : World) (p : ℕ) (c : Call) →
     (op.Closing closing_op.TakeOut ∷ op.End reply.Done hold.Nothing ∷ []))
 asks-drop w p c g r bb h = grind (arith, request-push, phase-push)
 
-asks : (w : World) (p : ℕ) (here : Option ℕ) (c : Call) → KeepsAsked w [] (begun p (log w (event.CallBegun p c)) here c)
+asks : (w : World) (p : ℕ) (here : Option Waker) (c : Call) →
+    KeepsAsked w [] (begun p (log w (event.CallBegun p c)) here c)
 asks w p here call.Spawn = asks-enter w p call.Spawn
 asks w p here call.TryTick = asks-take w p call.TryTick
 asks w p here call.IsEmpty = asks-look w p call.IsEmpty
@@ -176,10 +203,10 @@ asks w p here (call.Copy k) =
 asks w p here (call.DropWaker k) =
     asks-with w p (call.DropWaker k) (kept w k) _ (λ f. asks-release w p k f (call.DropWaker k))
 asks w p here call.Keep =
-    asks-with w p call.Keep here _
+    asks-with w p call.Keep (future_of here) _
     (λ f. asks-list w p call.Keep (op.Waker (waker_op.CopyWaker f hold.Nothing) ∷ []) (λ g r. refl))
 asks w p here call.WakeSelf =
-    asks-with w p call.WakeSelf here _
+    asks-with w p call.WakeSelf (future_of here) _
     (λ f. asks-list w p call.WakeSelf (op.Move move.WakeByReference f ∷ op.End reply.Done hold.Nothing ∷ [])
     (λ g r. refl))
 asks w p here (call.PollHandle f b) =
@@ -196,15 +223,24 @@ asks w p here (call.PollTick t b) =
     asks-search w p (call.PollTick t b) t
     (record {
       waker = waker_of here b;
-      tick = t;
+      who = sleeper.Tick t;
       poll = length (log w (event.CallBegun p (call.PollTick t b))).trace;
     })
 asks w p here (call.DropTick t) = asks-leave w p (call.DropTick t) t
+asks w p here call.NewRun = asks-room w p
+asks w p here (call.PollRun t b) =
+    asks-poll_run (run_of w t).stage w p (call.PollRun t b) t
+    (record {
+      run = t;
+      waker = waker_of here b;
+      poll = length (log w (event.CallBegun p (call.PollRun t b))).trace;
+    })
+asks w p here (call.DropRun t) = asks-drop_run (run_of w t).stage w p (call.DropRun t) _ t
 asks w p here call.DropExecutor = asks-drop w p call.DropExecutor
 
 -- every step
 
-heard-moves : (s : Machine) (p : ℕ) (old rest : List Op) (d : Done) → Good s → p < length s.parties →
+pub heard-moves : (s : Machine) (p : ℕ) (old rest : List Op) (d : Done) → Good s → p < length s.parties →
     stack s p ≡ rest ++ reverse old → Way s p old rest d → Heard s → Heard (unsettled s p rest d)
 heard-moves s p old rest d good l e way h =
     record { placed = placed-moves s p old rest d good l e way h.placed; asked = go way }
@@ -223,14 +259,14 @@ heard-moves s p old rest d good l e way h =
         h)
     go (called c q r n z) =
         let e2 : stack s p ≡ rest ++ reverse [] = subst (λ (os : List Op). stack s p ≡ rest ++ reverse os) q e in
-        rw z (asked-unsettled s p [] rest (begun p (log s.world (event.CallBegun p c)) (polled_by (top (stack s p))) c)
-        l e2 good (λ g. asks s.world p (polled_by (top (stack s p))) c g _) h)
+        rw z (asked-unsettled s p [] rest (begun p (log s.world (event.CallBegun p c)) (mine (top (stack s p))) c)
+        l e2 good (λ g. asks s.world p (mine (top (stack s p))) c g _) h)
 
 asked-end : (w : World) (p : ℕ) (a : Reply) (held : Hold) (g : ℕ) (r : Pend) →
     Asked w g (with_ops g (op.End a held ∷ []) r) → Asked (log w (event.CallEnded p a)) g (with_ops g [] r)
 asked-end w p a held g r h = grind (arith, request-push, phase-push)
 
-heard-ends : (s : Machine) (p : ℕ) (a : Reply) (held : Hold) (below : List Op) → p < length s.parties →
+pub heard-ends : (s : Machine) (p : ℕ) (a : Reply) (held : Hold) (below : List Op) → p < length s.parties →
     stack s p ≡ below ++ reverse (op.End a held ∷ []) → Heard s →
     Heard (unsettled s p below (done (log s.world (event.CallEnded p a)) []))
 heard-ends s p a held below l e h = record {
@@ -240,7 +276,7 @@ heard-ends s p a held below l e h = record {
       (subst (Asked s.world g) (split-pend g s.parties p (op.End a held ∷ []) below l e) (h.asked g)));
 }
 
-heard-start : (limit n : ℕ) → Heard (start limit n)
+pub heard-start : (limit n : ℕ) → Heard (start limit n)
 heard-start limit n =
     record { placed = placed-start limit n; asked = λ g. none-asked g (pend g (idle n)) ((good-start limit n).sound g) }
   where

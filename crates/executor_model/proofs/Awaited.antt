@@ -20,7 +20,7 @@ use Rattle.executor_model.specs.Trace.{Trace, takes_handle}
 use Rattle.executor_model.specs.World.{World, Done, task, awaiter_of}
 use Rattle.executor_model.specs.Weights.{same, weigh, weigh_all, holds_handle}
 use Rattle.executor_model.specs.Rows.{handling_of}
-use Rattle.executor_model.specs.Sound.{Pend, with_ops, tokens, times}
+use Rattle.executor_model.specs.Sound.{Pend, queued, with_ops, tokens, times}
 use Rattle.executor_model.specs.Acts.{closing_ops}
 use Rattle.executor_model.proofs.Lists.{same_cases, weigh-closing}
 
@@ -247,10 +247,10 @@ with_awaiting-closing g xs rest r =
 -- what is used of that which holds of g
 pub record Footing (w : World) (g : ℕ) (p : Pend) (x : Awaiting) : Type 0 where
   pub one : tokens w g p ≤ 1
-  pub live : 1 ≤ times g w.queue.items + (p.waiting + (p.polls + (p.ending + p.ready))) → (task w g).completed ≡ false
+  pub live : 1 ≤ queued w g + (p.waiting + (p.polls + (p.ending + p.ready))) → (task w g).completed ≡ false
   pub ends : 1 ≤ p.closing + (p.settling + p.giving) → ((task w g).closed ≡ true) ⊎ ((task w g).completed ≡ true)
   pub drop : 1 ≤ p.drops → ((task w g).closed ≡ true) ⊎ (((task w g).completed ≡ true) ⊎ (1 ≤ p.ready))
-  pub carries : 1 ≤ times g w.queue.items + p.waiting → (task w g).scheduled ≡ true
+  pub carries : 1 ≤ queued w g + p.waiting → (task w g).scheduled ≡ true
   pub rests : (task w g).completed ≡ true → ((task w g).scheduled ≡ false) × ((task w g).running ≡ false)
   pub lent : w.gone ≡ true → p.borrowing ≡ 0
   pub done : (heard g w.trace).dropped ≡ true →

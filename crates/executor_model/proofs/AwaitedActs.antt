@@ -25,7 +25,8 @@ use Rattle.executor_model.specs.declared.op.UserOp.TheVariants as user_op
 use Rattle.executor_model.specs.declared.op.WakerOp.TheVariants as waker_op
 use Rattle.executor_model.specs.World.{World, Done, done, log, log_if, task, awaiter_of, among}
 use Rattle.executor_model.specs.Carried.{carried}
-use Rattle.executor_model.specs.Acts.{append_by, take_by, enter_by, take_to_poll, put_back, take_to_drop, leave_by}
+use Rattle.executor_model.specs.Acts.{append_by, take_by, enter_by, take_to_poll, put_back, take_to_drop}
+use Rattle.executor_model.specs.Acts.{leave_by}
 use Rattle.executor_model.specs.Acts.{begin_drop, begin_drop_output, copy_by, polled, look_by, look_again_by}
 use Rattle.executor_model.specs.Acts.{copy_awaiter_by, register_by, end_register_by, notify_by, call_awaiter}
 use Rattle.executor_model.specs.Acts.{closing_ops, drop_next_by, wake_next_by, close, drain_by}

@@ -14,6 +14,9 @@ use Rattle.executor_model.specs.declared.op.Hold.{Hold}
 use Rattle.executor_model.specs.declared.op.Hold.TheVariants as hold
 use Rattle.executor_model.specs.declared.op.Waker.{Waker}
 use Rattle.executor_model.specs.declared.op.Op.TheVariants as op
+use Rattle.executor_model.specs.declared.op.RunOp.TheVariants as run_op
+use Rattle.executor_model.specs.declared.op.RunPoll.{RunPoll}
+use Rattle.executor_model.specs.declared.op.Sleeper.TheVariants as sleeper
 use Rattle.executor_model.specs.declared.op.Sleeping.{Sleeping}
 use Rattle.executor_model.specs.declared.op.TickOp.TheVariants as tick_op
 use Rattle.executor_model.specs.declared.op.ClosingOp.TheVariants as closing_op
@@ -22,10 +25,10 @@ use Rattle.task_moves.specs.declared.moves.owed.Move.TheVariants as move
 use Rattle.executor_model.specs.declared.op.QueueOp.TheVariants as queue_op
 use Rattle.executor_model.specs.declared.op.TableOp.TheVariants as table_op
 use Rattle.executor_model.specs.declared.op.WakerOp.TheVariants as waker_op
-use Rattle.executor_model.specs.World.{World, Done, done, log}
+use Rattle.executor_model.specs.World.{World, Stage, New, Listed, Ended, Done, done, log, put_run, run_of}
 use Rattle.executor_model.specs.Weights.{same}
 use Rattle.executor_model.specs.Sound.{Pend, with_ops}
-use Rattle.executor_model.specs.Steps.{used_up, with_future, begun, waker_of, kept}
+use Rattle.executor_model.specs.Steps.{used_up, with_future, begun, drop_run, future_of, poll_run, waker_of, kept}
 use Rattle.executor_model.proofs.Lists.{same_is}
 use Rattle.executor_model.proofs.Awaited.{Heard, heard, heard-push, is_pending, ended_in, Awaiting}
 use Rattle.executor_model.proofs.Awaited.{with_awaiting, Footing, Awaits, Mark, KeepsBy}
@@ -55,6 +58,9 @@ begins-nothing w p (call.DropHandle f) g r y m b h = grind (arith, same_is, hear
 begins-nothing w p call.NewTick g r y m b h = grind (arith, heard-push)
 begins-nothing w p (call.PollTick t x) g r y m b h = grind (arith, heard-push)
 begins-nothing w p (call.DropTick t) g r y m b h = grind (arith, heard-push)
+begins-nothing w p call.NewRun g r y m b h = grind (arith, heard-push)
+begins-nothing w p (call.PollRun t x) g r y m b h = grind (arith, heard-push)
+begins-nothing w p (call.DropRun t) g r y m b h = grind (arith, heard-push)
 begins-nothing w p call.DropExecutor g r y m b h = grind (arith, heard-push)
 
 begins-with : (w : World) (p : ℕ) (c : Call) (x : Option ℕ) (d : ℕ → Done) → ((f : ℕ) → KeepsBegun w p (d f)) →
@@ -120,8 +126,28 @@ begins-poll_tick w p t x s g r y m b h = grind (arith, heard-push)
 
 begins-drop_tick : (w : World) (p t : ℕ) →
     KeepsBegun w p (done (log (log w (event.CallBegun p (call.DropTick t))) (event.TickDropped p t))
-    (op.Tick (tick_op.Leave t) ∷ []))
+    (op.Tick (tick_op.Leave (sleeper.Tick t)) ∷ op.End reply.Done (hold.Tick t) ∷ []))
 begins-drop_tick w p t g r y m b h = grind (arith, heard-push)
+
+begins-make_run : (w : World) (p : ℕ) →
+    KeepsBegun w p (done (log w (event.CallBegun p call.NewRun)) (op.Run run_op.MakeRoom ∷ []))
+begins-make_run w p g r y m b h = grind (arith, heard-push)
+
+begins-poll_run : (t : Stage) (w : World) (p q : ℕ) (a : By) (x : RunPoll) →
+    KeepsBegun w p (done (log (log w (event.CallBegun p (call.PollRun q a))) (event.RunPolled p q)) (poll_run t x))
+begins-poll_run New w p q a x g r y m b h = grind (arith, heard-push)
+begins-poll_run Listed w p q a x g r y m b h = grind (arith, heard-push)
+begins-poll_run Ended w p q a x g r y m b h = grind (arith, heard-push)
+
+abbrev dropping_run : World → ℕ → ℕ → World
+dropping_run w p q =
+    log (put_run (log w (event.CallBegun p (call.DropRun q))) q (record (run_of w q) { dropped = true }))
+    (event.RunDropped p q)
+
+begins-drop_run : (t : Stage) (w : World) (p q : ℕ) → KeepsBegun w p (done (dropping_run w p q) (drop_run t q))
+begins-drop_run New w p q g r y m b h = grind (arith, heard-push)
+begins-drop_run Listed w p q g r y m b h = grind (arith, heard-push)
+begins-drop_run Ended w p q g r y m b h = grind (arith, heard-push)
 
 -- calls on the handle, which no other call uses
 
@@ -165,7 +191,7 @@ UsesHandle w g (call.Detach f) n = (f < length w.tasks) × (same g f + n ≤ 1)
 UsesHandle w g (call.DropHandle f) n = (f < length w.tasks) × (same g f + n ≤ 1)
 UsesHandle w g _ n = Unit {0}
 
-pub awaits-begun : (p : ℕ) (w : World) (here : Option ℕ) (c : Call) (g : ℕ) (r : Pend) (y : Awaiting) (m : Mark) →
+pub awaits-begun : (p : ℕ) (w : World) (here : Option Waker) (c : Call) (g : ℕ) (r : Pend) (y : Awaiting) (m : Mark) →
     UsesHandle w g c y.handling → Footing w g (with_ops g [] r) (with_awaiting g [] y) →
     Awaits w g (with_ops g [] r) (with_awaiting g [] y) m →
     Awaits (begun p (log w (event.CallBegun p c)) here c).world g
@@ -182,9 +208,10 @@ awaits-begun p w here (call.Copy k) g r y m u = begins-with w p (call.Copy k) (k
     r y m
 awaits-begun p w here (call.DropWaker k) g r y m u =
     begins-with w p (call.DropWaker k) (kept w k) _ (λ f. begins-drop_waker w p k f) g r y m
-awaits-begun p w here call.Keep g r y m u = begins-with w p call.Keep here _ (λ f. begins-keep w p f) g r y m
-awaits-begun p w here call.WakeSelf g r y m u = begins-with w p call.WakeSelf here _ (λ f. begins-wake_self w p f) g r y
-    m
+awaits-begun p w here call.Keep g r y m u = begins-with w p call.Keep (future_of here) _
+    (λ f. begins-keep w p f) g r y m
+awaits-begun p w here call.WakeSelf g r y m u =
+    begins-with w p call.WakeSelf (future_of here) _ (λ f. begins-wake_self w p f) g r y m
 awaits-begun p w here (call.PollHandle f b) g r y m u = begins-poll w p f b (waker_of here b) g r y m u.0 u.1
 awaits-begun p w here (call.Cancel f) g r y m u = begins-cancel w p f g r y m u.0 u.1
 awaits-begun p w here (call.Detach f) g r y m u = begins-detach w p f g r y m u.0 u.1
@@ -194,10 +221,13 @@ awaits-begun p w here (call.PollTick t b) g r y m u =
     begins-poll_tick w p t b
     (record {
       waker = waker_of here b;
-      tick = t;
+      who = sleeper.Tick t;
       poll = length (log w (event.CallBegun p (call.PollTick t b))).trace;
     }) g r y m
 awaits-begun p w here (call.DropTick t) g r y m u = begins-drop_tick w p t g r y m
+awaits-begun p w here call.NewRun g r y m u = begins-make_run w p g r y m
+awaits-begun p w here (call.PollRun q b) g r y m u = begins-poll_run (run_of w q).stage w p q b _ g r y m
+awaits-begun p w here (call.DropRun q) g r y m u = begins-drop_run (run_of w q).stage w p q g r y m
 awaits-begun p w here call.DropExecutor g r y m u = begins-drop w p g r y m
 
 -- the end of a call

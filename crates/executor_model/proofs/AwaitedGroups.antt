@@ -1,7 +1,6 @@
 -- Each thing that is done keeps what is known of each awaiter, by groups.
-use Rattle.std.proofs.Common.{◌≡◌, ℕ, ◌<◌, [], ◌∷◌, length, true, false, not, refl, arith}
+use Rattle.std.proofs.Common.{◌≡◌, ℕ, ◌<◌, [], ◌∷◌, length, true, false, not, refl, subst, arith}
 use Rattle.task_moves.specs.Moves as moves
-use Rattle.task_moves.specs.Moves.{moved, nothing, settled, notify_if, notify_other_if, most_references}
 use Rattle.executor_model.specs.declared.event.Answer.TheVariants as answer
 use Rattle.executor_model.specs.declared.op.Op.{Op}
 use Rattle.executor_model.specs.declared.op.Op.TheVariants as op
@@ -9,6 +8,9 @@ use Rattle.executor_model.specs.declared.op.ClosingOp.TheVariants as closing_op
 use Rattle.executor_model.specs.declared.op.HandleOp.TheVariants as handle_op
 use Rattle.task_moves.specs.declared.moves.owed.Move.TheVariants as move
 use Rattle.executor_model.specs.declared.op.QueueOp.TheVariants as queue_op
+use Rattle.executor_model.specs.declared.op.RunOp.{RunOp}
+use Rattle.executor_model.specs.declared.op.RunOp.TheVariants as run_op
+use Rattle.executor_model.specs.declared.op.RunPoll.{RunPoll}
 use Rattle.executor_model.specs.declared.op.SleeperOp.TheVariants as sleeper_op
 use Rattle.executor_model.specs.declared.op.TableOp.TheVariants as table_op
 use Rattle.executor_model.specs.declared.op.TickOp.TheVariants as tick_op
@@ -19,9 +21,10 @@ use Rattle.executor_model.specs.declared.step.UserEnd.{UserEnd}
 use Rattle.executor_model.specs.declared.step.UserEnd.TheVariants as end
 use Rattle.executor_model.specs.Steps.{accepts, react}
 use Rattle.executor_model.specs.World.{World, task}
-use Rattle.executor_model.specs.Acts.{is_copy_refused, act}
+use Rattle.executor_model.specs.Acts.{is_copy_refused}
+use Rattle.executor_model.specs.Doing.{act}
 use Rattle.executor_model.specs.Weights.{weigh, past}
-use Rattle.executor_model.specs.Good.{pasts}
+use Rattle.executor_model.specs.Good.{pasts, IsKnownWaker}
 use Rattle.executor_model.specs.Rows.{past_of}
 use Rattle.executor_model.proofs.Calls.{is_end}
 use Rattle.executor_model.proofs.Awaited.{Mark, KeepsBy, KeepsAwaits, asks_if}
@@ -37,7 +40,8 @@ use Rattle.executor_model.proofs.AwaitedActs.{awaits-take, awaits-take_out, awai
 use Rattle.executor_model.proofs.AwaitedActs.{awaits-take_up, awaits-wake, awaits-wake_by_reference}
 use Rattle.executor_model.proofs.AwaitedActs.{awaits-wake_first, first_known, is_answer, known_waker, own}
 use Rattle.executor_model.proofs.SleepersAwaited.{awaits-exchange, awaits-hand_out, awaits-call_sleeper}
-use Rattle.executor_model.proofs.SleepersAwaited.{awaits-make_tick, awaits-search, awaits-copy_sleeper}
+use Rattle.executor_model.proofs.RunsAwaited.{awaits-list, awaits-run, awaits-search_who, awaits-steal}
+use Rattle.executor_model.proofs.SleepersAwaited.{awaits-make_tick, awaits-copy_sleeper}
 use Rattle.executor_model.proofs.SleepersAwaited.{awaits-lie_down, awaits-get_up, awaits-leave_sleepers}
 
 -- whether such a thing to do begins a poll of a handle
@@ -45,6 +49,13 @@ abbrev pub asked : ℕ → Hint → Op → World → ℕ → Mark → Mark
 asked p h (op.Handle (handle_op.Look f a)) w = asks_if (is_answer (moves.poll (task w f)).owed.answer) p f
 asked p h (op.Handle (handle_op.CopyAwaiter f a)) w = asks_if (not (is_copy_refused h w a)) p f
 asked p h _ w = λ g m. m
+
+own_waker : (w : World) (o : RunOp) → weigh (past_of (length w.tasks)) (op.Run o ∷ []) ≡ 0 → (x : RunPoll) →
+    o ≡ run_op.WakeOwn x → IsKnownWaker w x.waker
+own_waker w o z x e =
+    let q : weigh (past_of (length w.tasks)) (op.Run (run_op.WakeOwn x) ∷ []) ≡ 0 =
+    subst (λ (y : RunOp). weigh (past_of (length w.tasks)) (op.Run y ∷ []) ≡ 0) e z in
+    known_waker w x.waker 0 (omega (arith, q))
 
 -- each thing to do that speaks of futures that are there
 pub awaits-act : (p : ℕ) (h : Hint) (o : Op) (w : World) → length w.awaiters ≡ length w.tasks →
@@ -106,14 +117,17 @@ awaits-act p h (op.Waker (waker_op.CallAwaiter f a k)) w n u z m = awaits-call p
 awaits-act p h (op.Sleeper sleeper_op.ExchangeFlag) w n u z m = awaits-exchange _ w
 awaits-act p h (op.Sleeper sleeper_op.HandOut) w n u z m = awaits-hand_out _ _ w
 awaits-act p h (op.Sleeper (sleeper_op.CallSleeper s)) w n u z m =
-    awaits-call_sleeper p s.tick s.poll s.waker w (known_waker w s.waker 0 (omega (arith, z)))
+    awaits-call_sleeper p s.who s.poll s.waker w (known_waker w s.waker 0 (omega (arith, z)))
 awaits-act p h (op.Tick tick_op.MakeTick) w n u z m = awaits-make_tick _ w
-awaits-act p h (op.Tick (tick_op.Search s)) w n u z m = awaits-search _ _ w s refl
+awaits-act p h (op.Tick (tick_op.Search s)) w n u z m = awaits-search_who s.who w s refl
 awaits-act p h (op.Tick (tick_op.CopyWaker s)) w n u z m =
-    awaits-copy_sleeper _ s.waker s.tick s.poll w (known_waker w s.waker 0 (omega (arith, z)))
+    awaits-copy_sleeper _ s.waker s.who s.poll w (known_waker w s.waker 0 (omega (arith, z)))
 awaits-act p h (op.Tick (tick_op.LieDown s)) w n u z m = awaits-lie_down _ w s
-awaits-act p h (op.Tick (tick_op.GetUp t f)) w n u z m = awaits-get_up _ w t f
+awaits-act p h (op.Tick (tick_op.GetUp t)) w n u z m = awaits-get_up _ w t
 awaits-act p h (op.Tick (tick_op.Leave t)) w n u z m = awaits-leave_sleepers _ w t
+awaits-act p h (op.List o) w n u z m = awaits-list h o w
+awaits-act p h (op.Steal o) w n u z m = awaits-steal p o w
+awaits-act p h (op.Run o) w n u z m = awaits-run p h o w (own_waker w o z)
 awaits-act p h (op.Closing closing_op.TakeOut) w n u z m = awaits-take_out _ _ w refl
 awaits-act p h (op.Closing closing_op.DropNext) w n u z m = awaits-drop_first p w _ refl
 awaits-act p h (op.Closing closing_op.WakeNext) w n u z m = awaits-wake_first p w _ refl (first_known w u)
@@ -130,4 +144,7 @@ awaits-react p (op.User (user_op.Poll f)) (end.Polled answer.Ready) w a = awaits
 awaits-react p (op.User (user_op.Drop f)) end.Done w a = λ g r yy mm bb h. h
 awaits-react p (op.User (user_op.DropOutput f)) end.Done w a = λ g r yy mm bb h. h
 awaits-react p (op.User (user_op.CallOutside x)) end.Done w a = λ g r yy mm bb h. h
+awaits-react p (op.User (user_op.PollOwn x)) (end.Polled answer.Pending) w a = λ g r yy mm bb h. h
+awaits-react p (op.User (user_op.PollOwn x)) (end.Polled answer.Ready) w a = λ g r yy mm bb h. h
+awaits-react p (op.User (user_op.DropOwn r)) end.Done w a = λ g r yy mm bb h. h
 awaits-react p _ _ w a = absurd (cc)

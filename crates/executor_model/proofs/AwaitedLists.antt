@@ -10,6 +10,8 @@ use Rattle.task_moves.specs.declared.moves.owed.Moved.{Moved}
 use Rattle.task_moves.specs.Moves as moves
 use Rattle.executor_model.specs.declared.call.Call.{Call}
 use Rattle.executor_model.specs.declared.call.Call.TheVariants as call
+use Rattle.executor_model.specs.declared.call.Reply.{Reply}
+use Rattle.executor_model.specs.declared.call.Reply.TheVariants as reply
 use Rattle.executor_model.specs.declared.op.Awaiter.{Awaiter}
 use Rattle.executor_model.specs.declared.op.Waker.{Waker}
 use Rattle.executor_model.specs.declared.op.Waker.TheVariants.{Task, Outside}
@@ -18,23 +20,31 @@ use Rattle.executor_model.specs.declared.op.Op.{Op}
 use Rattle.executor_model.specs.declared.op.Op.TheVariants as op
 use Rattle.executor_model.specs.declared.op.ClosingOp.TheVariants as closing_op
 use Rattle.executor_model.specs.declared.op.HandleOp.TheVariants as handle_op
+use Rattle.executor_model.specs.declared.op.Hold.TheVariants as hold
 use Rattle.executor_model.specs.declared.op.QueueOp.TheVariants as queue_op
+use Rattle.executor_model.specs.declared.op.Polled.TheVariants as of
+use Rattle.executor_model.specs.declared.op.RunPoll.{RunPoll}
 use Rattle.executor_model.specs.declared.op.TableOp.TheVariants as table_op
 use Rattle.executor_model.specs.declared.op.UserOp.TheVariants as user_op
 use Rattle.executor_model.specs.declared.op.WakerOp.TheVariants as waker_op
 use Rattle.executor_model.specs.declared.event.Answer.TheVariants as answer
+use Rattle.executor_model.specs.declared.event.Event.TheVariants as event
 use Rattle.executor_model.specs.declared.step.Hint.{Hint}
 use Rattle.executor_model.specs.declared.step.UserEnd.{UserEnd}
 use Rattle.executor_model.specs.declared.step.UserEnd.TheVariants as end
-use Rattle.executor_model.specs.World.{World, Done, task, among, awaiter_of}
+use Rattle.executor_model.specs.World.{World, Done, Stage, New, Listed, Ended, log, task, among, awaiter_of, run_of}
 use Rattle.executor_model.specs.Carried.{owed_ops, awaiter_ops}
-use Rattle.executor_model.specs.Acts.{append_by, take_by, enter_by, leave_by, copy_by, copy_awaiter_by, register_by}
-use Rattle.executor_model.specs.Acts.{waker_goes, let_go, end_register_by, told, call_awaiter, wake, act}
+use Rattle.executor_model.specs.Acts.{append_by, take_by, enter_by, leave_by, copy_by, copy_awaiter_by}
+use Rattle.executor_model.specs.Acts.{register_by}
+use Rattle.executor_model.specs.Acts.{waker_goes, let_go, end_register_by, told, call_awaiter, wake}
+use Rattle.executor_model.specs.ActsOfRuns.{call_by_reference, reschedule_by, wake_own}
+use Rattle.executor_model.specs.Doing.{act}
 use Rattle.executor_model.specs.Weights.{weigh}
-use Rattle.executor_model.specs.Steps.{with_future, kept, accepts, is_drop, begun, react}
+use Rattle.executor_model.specs.Steps.{with_future, kept, accepts, is_drop, begun, drop_run, future_of, poll_run, react}
 use Rattle.executor_model.proofs.Lists.{weigh-append}
 use Rattle.executor_model.proofs.Owed.{owed-future, owed-nothing}
-use Rattle.executor_model.proofs.SleepersNext.{sleeper-unseen, tick-blind}
+use Rattle.executor_model.proofs.RunsNext.{BlindToRuns, list-blind, run-blind, steal-blind, tick-blind}
+use Rattle.executor_model.proofs.SleepersNext.{sleeper-unseen}
 
 -- a notice by a poll of the handle itself, the rest of a notice, and the steps of the executor's drop
 abbrev pub rough_of : Op → ℕ
@@ -169,6 +179,37 @@ plain-leave : (b : Bool) (w : World) (f : ℕ) → weigh rough_of (leave_by b w 
 plain-leave true w f = refl
 plain-leave false w f = refl
 
+-- what a run does
+
+blind-rough : BlindToRuns rough_of
+blind-rough = record {
+  exchange = refl;
+  search = λ s. refl;
+  copy = λ s. refl;
+  up = λ who. refl;
+  made = λ r. refl;
+  take_up = λ f. refl;
+  steal = λ o. refl;
+  list = λ o. refl;
+  run = λ o. refl;
+  poll = λ x. refl;
+  end = λ a r. refl;
+}
+
+plain-by_reference : (p : ℕ) (w : World) (a : Waker) → weigh rough_of (call_by_reference p w a).next ≡ 0
+plain-by_reference p w (Task f) = plain-carried f _ (moves.wake_by_reference (task w f)) (no-wake _ _ (task w f))
+plain-by_reference p w (Outside y) = refl
+
+plain-own : (p : ℕ) (w : World) (x : RunPoll) → weigh rough_of (wake_own p w x).next ≡ 0
+plain-own p w x =
+    let v : World = log w (event.WakerCalled p (of.Run x.run) x.poll x.waker) in
+    plain-both (call_by_reference p v x.waker).next (op.End reply.Pending (hold.Run x.run) ∷ [])
+    (plain-by_reference p v x.waker) refl
+
+plain-reschedule : (q : List ℕ) (w : World) (r : ℕ) (a : Reply) → weigh rough_of (reschedule_by q w r a).next ≡ 0
+plain-reschedule [] w r a = refl
+plain-reschedule (f ∷ rest) w r a = refl
+
 -- but for these
 abbrev pub is_special : Op → Bool
 is_special (op.Handle (handle_op.Look f a)) = true
@@ -214,10 +255,14 @@ plain-act p h (op.Waker (waker_op.CallAwaiter f a k)) w n = plain-call p w f a k
 plain-act p h (op.Sleeper o) w n =
     sleeper-unseen rough_of (record
     { hand = refl; call = λ s. refl; outside = λ x. refl; wake = λ p w f. plain-wake p w f }) p o w
+plain-act p h (op.List o) w n = list-blind rough_of blind-rough h o w
+plain-act p h (op.Steal o) w n = steal-blind rough_of blind-rough (λ f. refl) p o w
+plain-act p h (op.Run o) w n = run-blind rough_of blind-rough p h o w (plain-own p w)
+    (λ q r a. plain-reschedule q w r a)
 plain-act p h (op.Tick o) w n =
     tick-blind rough_of (record
     { tick = λ o. refl; exchange = refl; call = λ s. refl; release = λ f. refl; end = λ r t. refl; made = λ r. refl })
-    (λ f. refl) h o w
+    blind-rough h o w
 plain-act p h (op.Handle (handle_op.Look f a)) w n = absurd (cc)
 plain-act p h (op.Handle (handle_op.LookAgain f)) w n = absurd (cc)
 plain-act p h (op.Handle (handle_op.Notify f mine)) w n = absurd (cc)
@@ -236,6 +281,9 @@ plain-react p (op.User (user_op.Poll f)) (end.Polled answer.Ready) w k = refl
 plain-react p (op.User (user_op.Drop f)) end.Done w k = refl
 plain-react p (op.User (user_op.DropOutput f)) end.Done w k = refl
 plain-react p (op.User (user_op.CallOutside x)) end.Done w k = refl
+plain-react p (op.User (user_op.PollOwn x)) (end.Polled answer.Pending) w k = refl
+plain-react p (op.User (user_op.PollOwn x)) (end.Polled answer.Ready) w k = refl
+plain-react p (op.User (user_op.DropOwn r)) end.Done w k = refl
 plain-react p _ _ w k = absurd (cc)
 
 plain-with : (v : World) (r : Option ℕ) (d : ℕ → Done) → ((f : ℕ) → weigh rough_of (d f).next ≡ 0) →
@@ -243,8 +291,18 @@ plain-with : (v : World) (r : Option ℕ) (d : ℕ → Done) → ((f : ℕ) → 
 plain-with v None d k = refl
 plain-with v (Some f) d k = k f
 
+plain-poll_run : (t : Stage) (x : RunPoll) → weigh rough_of (poll_run t x) ≡ 0
+plain-poll_run New x = refl
+plain-poll_run Listed x = refl
+plain-poll_run Ended x = refl
+
+plain-drop_run : (t : Stage) (r : ℕ) → weigh rough_of (drop_run t r) ≡ 0
+plain-drop_run New r = refl
+plain-drop_run Listed r = refl
+plain-drop_run Ended r = refl
+
 -- a call leads to such only where it is the executor's drop
-pub plain-begun : (p : ℕ) (w : World) (here : Option ℕ) (c : Call) → is_drop c ≡ false →
+pub plain-begun : (p : ℕ) (w : World) (here : Option Waker) (c : Call) → is_drop c ≡ false →
     weigh rough_of (begun p w here c).next ≡ 0
 plain-begun p w here call.Spawn n = refl
 plain-begun p w here call.TryTick n = refl
@@ -253,8 +311,8 @@ plain-begun p w here (call.Wake k) n = plain-with w (kept w k) _ (λ f. refl)
 plain-begun p w here (call.WakeByRef k) n = plain-with w (kept w k) _ (λ f. refl)
 plain-begun p w here (call.Copy k) n = plain-with w (kept w k) _ (λ f. refl)
 plain-begun p w here (call.DropWaker k) n = plain-with w (kept w k) _ (λ f. refl)
-plain-begun p w here call.Keep n = plain-with w here _ (λ f. refl)
-plain-begun p w here call.WakeSelf n = plain-with w here _ (λ f. refl)
+plain-begun p w here call.Keep n = plain-with w (future_of here) _ (λ f. refl)
+plain-begun p w here call.WakeSelf n = plain-with w (future_of here) _ (λ f. refl)
 plain-begun p w here (call.PollHandle f b) n = refl
 plain-begun p w here (call.Cancel f) n = refl
 plain-begun p w here (call.Detach f) n = refl
@@ -262,4 +320,7 @@ plain-begun p w here (call.DropHandle f) n = refl
 plain-begun p w here call.NewTick n = refl
 plain-begun p w here (call.PollTick t b) n = refl
 plain-begun p w here (call.DropTick t) n = refl
+plain-begun p w here call.NewRun n = refl
+plain-begun p w here (call.PollRun r b) n = plain-poll_run (run_of w r).stage _
+plain-begun p w here (call.DropRun r) n = plain-drop_run (run_of w r).stage r
 plain-begun p w here call.DropExecutor n = absurd (cc)

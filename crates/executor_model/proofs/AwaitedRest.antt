@@ -6,7 +6,7 @@ use Rattle.executor_model.specs.declared.step.Step.{Step}
 use Rattle.executor_model.specs.Trace.{Trace, is_dropped}
 use Rattle.executor_model.specs.AwaiterKept.{since, IsOverWithHandle, AwaiterIsKept}
 use Rattle.executor_model.specs.World.{World, task, blank}
-use Rattle.executor_model.specs.Sound.{Sound, Pend, pend, times, phase}
+use Rattle.executor_model.specs.Sound.{Sound, Pend, pend, queued, times, times_in, phase}
 use Rattle.executor_model.specs.Rows as rows
 use Rattle.executor_model.specs.Sound.Phase.{Over}
 use Rattle.executor_model.specs.Good.{Good}
@@ -25,8 +25,10 @@ use Rattle.executor_model.proofs.LeavingRuns.{Placed, placed}
 use Rattle.executor_model.proofs.Awaited.{Heard, heard, Awaiting, awaiting, Awaits, Mark, looks_of, fresh_of}
 use Rattle.executor_model.proofs.Awaited.{storing_of, again_of, waits_of, over_of, notices_of, notifying_of}
 use Rattle.executor_model.proofs.Awaited.{mine_of, detaches_of, lending_of, strays_of, calls_of}
-use Rattle.executor_model.proofs.AwaitedClosing.{lists, Sweep, sweep, Sweeps, Swept, swept, dropping_of}
-use Rattle.executor_model.proofs.AwaitedClosing.{rousing_of, shutting_of, draining_of}
+use Rattle.executor_model.proofs.UsingSteps.{OwnEmptied, own-emptied}
+use Rattle.executor_model.proofs.AwaitedSweeps.{lists, Sweep, sweep, Sweeps, dropping_of}
+use Rattle.executor_model.proofs.AwaitedClosing.{Swept, swept}
+use Rattle.executor_model.proofs.AwaitedSweeps.{rousing_of, shutting_of, draining_of}
 use Rattle.executor_model.proofs.AwaitedCalls.{marked}
 use Rattle.executor_model.proofs.AwaitedRuns.{Waited, waited, nothing_pending, nothing_awaited}
 use Rattle.executor_model.proofs.AwaitedTelling.{parted-has, dropped-has, over-dropped, Begun}
@@ -44,11 +46,12 @@ no-times g (x ∷ xs) e = absurd (omega (arith, e))
 
 -- where nothing is left to do, a dropped future has no Runnable
 none-queued : (gone : Bool) (w : World) (g : ℕ) → w.gone ≡ gone → Leaves w g nothing_pending nothing_more →
-    Sweeps (lists w) nothing_swept → 1 ≤ (story g w.trace).fallen → times g w.queue.items ≡ 0
+    Sweeps (lists w) nothing_swept → (w.gone ≡ true → times_in g w.own ≡ 0) → 1 ≤ (story g w.trace).fallen →
+    queued w g ≡ 0
 none-queued = by_bool _
-    (λ w g e l v k. ⊎_elim (λ (x : 1 ≤ 0). absurd (omega (arith, x)))
-    (λ (x : length w.queue.items ≡ 0). no-times g w.queue.items x) (v.drained e))
-    (λ w g e l v k. let z : _ = (past_is (length w.tasks) g).1 in grind arith)
+    (λ w g e l v o k. ⊎_elim (λ (x : 1 ≤ 0). absurd (omega (arith, x)))
+    (λ (x : length w.queue.items ≡ 0). omega (arith, no-times g w.queue.items x, o e)) (v.drained e))
+    (λ w g e l v o k. let z : _ = (past_is (length w.tasks) g).1 in grind arith)
 
 none-waking : (w : World) (g : ℕ) → Sweeps (lists w) nothing_swept → w.gone ≡ true → times g w.waking ≡ 0
 none-waking w g v e = ⊎_elim (λ (x : 1 ≤ 0). absurd (omega (arith, x)))
@@ -64,7 +67,7 @@ settled = by_bool _
     (λ w g m e h a v d s r. let z : phase g w.trace ≡ Over = over-dropped g w.trace d h.lawful in grind arith)
 
 not-scheduled : (b : Bool) (w : World) (g : ℕ) → (task w g).scheduled ≡ b → Sound w g nothing_pending →
-    times g w.queue.items ≡ 0 → b ≡ false
+    queued w g ≡ 0 → b ≡ false
 not-scheduled false w g e h z = refl
 not-scheduled true w g e h z = absurd (omega (arith, h.owed e, z))
 
@@ -93,7 +96,8 @@ called-there : (w : World) (g : ℕ) (m : Mark) → Awaits w g nothing_pending n
     (heard g w.trace).called ≡ true
 called-there w g m a k h s r p = grind arith
 
-module _ (s : Machine) (fine : Good s) (h : Placed s) (d : Deep s) (v : Swept s) (x : Waited s) (g : ℕ)
+module _ (s : Machine) (fine : Good s) (h : Placed s) (d : Deep s) (v : Swept s) (x : Waited s) (e : OwnEmptied s)
+    (g : ℕ)
     (over : IsOverWithHandle g s.world.trace) where
   idle : (q : ℕ) → stack s q ≡ []
   idle q = rests s d over.quiet q
@@ -168,8 +172,8 @@ module _ (s : Machine) (fine : Good s) (h : Placed s) (d : Deep s) (v : Swept s)
   kept : (heard g s.world.trace).parted ≡ false
   kept = parted-has g s.world.trace ∙ over.handle
 
-  none-left : times g s.world.queue.items ≡ 0
-  none-left = none-queued s.world.gone s.world g refl leaves-here swept-here
+  none-left : queued s.world g ≡ 0
+  none-left = none-queued s.world.gone s.world g refl leaves-here swept-here (λ k. e k g)
       (omega (arith, fallen-counts g s.world.trace, counted-there (is_dropped g) s.world.trace over.dropped))
 
   unscheduled : (task s.world g).scheduled ≡ false
@@ -200,5 +204,5 @@ pub awaiter-is-kept : (limit parties : ℕ) (steps : List Step) (f : ℕ) →
     AwaiterIsKept f (run steps (start limit parties)).world.trace
 awaiter-is-kept limit parties steps f =
     kept-at-rest f _ (λ over. called-at-rest (run steps (start limit parties)) (good limit parties steps)
-    (placed limit parties steps) (deep limit parties steps) (swept limit parties steps) (waited limit parties steps) f
-    over)
+    (placed limit parties steps) (deep limit parties steps) (swept limit parties steps) (waited limit parties steps)
+    (own-emptied limit parties steps) f over)

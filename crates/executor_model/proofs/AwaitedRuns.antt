@@ -20,14 +20,15 @@ use Rattle.executor_model.specs.declared.step.Step.{Step}
 use Rattle.executor_model.specs.declared.step.UserEnd.{UserEnd}
 use Rattle.executor_model.specs.declared.step.UserEnd.TheVariants as end
 use Rattle.executor_model.specs.World.{World, Done, done, log, task}
-use Rattle.executor_model.specs.Acts.{act, is_copy_refused}
+use Rattle.executor_model.specs.Acts.{is_copy_refused}
+use Rattle.executor_model.specs.Doing.{act}
 use Rattle.executor_model.specs.Weights.{same, weigh, weigh_all, past}
 use Rattle.executor_model.specs.Sound.{Pend, pend, with_ops}
 use Rattle.executor_model.specs.Rows as rows
 use Rattle.executor_model.specs.Good.{Good}
 use Rattle.executor_model.specs.Rows.{handling_of, borrowing_of, waiting_of, polls_of, ending_of, ready_of, settling_of}
 use Rattle.executor_model.specs.Rows.{giving_of, drops_of, releases_of, copies_of, ousting_of, past_of}
-use Rattle.executor_model.specs.Steps.{Machine, stack, idle, run, start, polled_by, top, is_free, has_all, has_handle}
+use Rattle.executor_model.specs.Steps.{Machine, stack, idle, run, start, mine, top, is_free, has_all, has_handle}
 use Rattle.executor_model.specs.Steps.{is_on_executor, is_drop, is_unborrowed, accepts, begun, react}
 use Rattle.task_moves.specs.Moves as moves
 use Rattle.executor_model.proofs.Lists.{same_is, same_cases, past_is, weigh-reverse, weigh_all-push}
@@ -36,7 +37,7 @@ use Rattle.executor_model.proofs.Lift.{handle-known, first-true, unborrowed, wei
 use Rattle.executor_model.proofs.Ways.{Way, along}
 use Rattle.executor_model.proofs.Ways.Way.{acted, reacted, called}
 use Rattle.executor_model.proofs.Telling.{same-cond, one-stray}
-use Rattle.executor_model.proofs.Calls.{calling_of, is_end, Passes, Answering}
+use Rattle.executor_model.proofs.Calls.{calling_of, is_end, Passes, Answering, single, then}
 use Rattle.executor_model.proofs.CallsGroups.{calls-act}
 use Rattle.executor_model.proofs.Resting.{counts-answering, idle-stack, opens}
 use Rattle.executor_model.proofs.Awaited.{Heard, heard, heard-none, Awaiting, with_awaiting, awaiting}
@@ -415,6 +416,12 @@ passes-react p (op.User (user_op.DropOutput f)) end.Done w a =
     record { none = λ z. refl; one = λ z. absurd (omega (arith, z)) }
 passes-react p (op.User (user_op.CallOutside x)) end.Done w a =
     record { none = λ z. refl; one = λ z. absurd (omega (arith, z)) }
+passes-react p (op.User (user_op.PollOwn x)) (end.Polled answer.Pending) w a =
+    record { none = λ z. absurd (omega (arith, z)); one = λ z. single _ refl }
+passes-react p (op.User (user_op.PollOwn x)) (end.Polled answer.Ready) w a =
+    record { none = λ z. absurd (omega (arith, z)); one = λ z. then (op.User (user_op.DropOwn x.run) ∷ []) _ refl refl }
+passes-react p (op.User (user_op.DropOwn q)) end.Done w a =
+    record { none = λ z. refl; one = λ z. absurd (omega (arith, z)) }
 passes-react p _ _ w a = absurd (cc)
 
 waited-reacted : (s : Machine) (p : ℕ) (rest : List Op) (o : Op) (u : UserEnd) → accepts o u ≡ true →
@@ -471,7 +478,7 @@ uses-handle s p rest (call.DropHandle f) g e one q k = handle-free s p f rest g 
 uses-handle s p rest _ g e one q k = tt
 
 abbrev begun_done : Machine → ℕ → Call → Done
-begun_done s p c = begun p (log s.world (event.CallBegun p c)) (polled_by (top (stack s p))) c
+begun_done s p c = begun p (log s.world (event.CallBegun p c)) (mine (top (stack s p))) c
 
 waited-begun : (s : Machine) (p : ℕ) (rest : List Op) (c : Call) →
     has_all s.world s.parties (top (stack s p)) c ≡ true → p < length s.parties → rest ≡ stack s p →
@@ -492,7 +499,7 @@ waited-begun s p rest c k l r e good tied h = record {
         (with_ops g (begun_done s p c).next (pend g (set s.parties p rest)))
         (with_awaiting g (begun_done s p c).next (awaiting g (set s.parties p rest)))
         (begun_in p g (before s p [] rest (begun_done s p c) l e h g))
-    step g = awaits-begun p s.world (polled_by (top (stack s p))) c g (pend g (set s.parties p rest))
+    step g = awaits-begun p s.world (mine (top (stack s p))) c g (pend g (set s.parties p rest))
         (awaiting g (set s.parties p rest)) (before s p [] rest (begun_done s p c) l e h g)
         (uses-handle s p rest c g (sym r) (h.awaits g).single (ap (weigh_all (handling_of g)) own_parties) k)
         (footing-here s p [] rest (begun_done s p c) l e h g good) (awaits-here s p [] rest (begun_done s p c) l e h g)

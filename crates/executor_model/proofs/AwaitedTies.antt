@@ -20,7 +20,8 @@ use Rattle.executor_model.specs.declared.step.Hint.{Hint}
 use Rattle.executor_model.specs.World.{World, Done, done, task, log}
 use Rattle.executor_model.specs.Carried.{awaiter_ops}
 use Rattle.executor_model.specs.Acts.{look_by, look_again_by, notify_by, closing_ops}
-use Rattle.executor_model.specs.Acts.{drop_next_by, wake, wake_next_by, drain_by, act}
+use Rattle.executor_model.specs.Acts.{drop_next_by, wake, wake_next_by, drain_by}
+use Rattle.executor_model.specs.Doing.{act}
 use Rattle.executor_model.specs.Weights.{same, weigh, weigh_all}
 use Rattle.executor_model.specs.Steps.{Machine, stack, begun, is_drop}
 use Rattle.executor_model.proofs.Lists.{same_cases, weigh-append, weigh-reverse}
@@ -130,7 +131,7 @@ ties-act true g p h (op.Closing closing_op.Close) w n = ties-light g _ _ refl
 ties-act true g p h (op.Closing closing_op.Drain) w n = ties-drain g p w w.queue.items
 ties-act true g p h _ w n = absurd (cc)
 
-ties-begun : (b : Bool) (g p : ℕ) (w : World) (here : Option ℕ) (c : Call) → is_drop c ≡ b →
+ties-begun : (b : Bool) (g p : ℕ) (w : World) (here : Option Waker) (c : Call) → is_drop c ≡ b →
     Ties g [] (begun p w here c).next
 ties-begun false g p w here c n = ties-light g _ _ (none-mine-all g _ (plain-begun p w here c n))
 ties-begun true g p w here call.DropExecutor n = ties-light g _ _ refl

@@ -15,7 +15,8 @@ use Rattle.executor_model.specs.declared.op.TickOp.TheVariants as tick_op
 use Rattle.executor_model.specs.declared.op.UserOp.TheVariants as user_op
 use Rattle.executor_model.specs.Weights.{weigh, weigh_all}
 use Rattle.executor_model.proofs.Lists.{same_is, weigh-reverse}
-use Rattle.executor_model.specs.Rows.{borrowing_of, drops_of, leaves_of}
+use Rattle.executor_model.specs.Rows.{Row, borrowing_of, drops_of, leaves_of}
+use Rattle.executor_model.proofs.RunsPlain.{plain-list, plain-run, plain-steal}
 
 -- what is only done inside of such a call
 abbrev pub uses_of : Op → ℕ
@@ -45,7 +46,7 @@ abbrev pub bare_all : List (List Op) → ℕ
 bare_all [] = 0
 bare_all (s ∷ ss) = bare false s + bare_all ss
 
-bare-append : (b : Bool) (xs ys : List Op) → bare b (xs ++ ys) ≡ bare b xs + bare (held_by b xs) ys
+pub bare-append : (b : Bool) (xs ys : List Op) → bare b (xs ++ ys) ≡ bare b xs + bare (held_by b xs) ys
 bare-append b [] ys = omega arith
 bare-append b (x ∷ xs) ys = omega (arith, bare-append (b || holds x) xs ys)
 
@@ -53,7 +54,7 @@ bare-held : (os : List Op) → bare true os ≡ 0
 bare-held [] = refl
 bare-held (o ∷ os) = omega (arith, bare-held os)
 
-bare-light : (b : Bool) (os : List Op) → bare b os ≤ weigh uses_of os
+pub bare-light : (b : Bool) (os : List Op) → bare b os ≤ weigh uses_of os
 bare-light b [] = omega arith
 bare-light true (o ∷ os) = omega (arith, bare-light true os)
 bare-light false (o ∷ os) = omega (arith, bare-light (holds o) os)
@@ -117,6 +118,12 @@ drop-uses g (op.Waker (waker_op.CopyWaker f held)) = omega arith
 drop-uses g (op.Handle (handle_op.LookAgain f)) = omega arith
 drop-uses g (op.Sleeper sleeper_op.HandOut) = omega arith
 drop-uses g (op.Tick tick_op.MakeTick) = omega arith
+drop-uses g (op.List o) =
+    omega (arith, ap (λ (x : Row). x.drops g) (plain-list o), ap (λ (x : Row). x.leaves g) (plain-list o))
+drop-uses g (op.Steal o) =
+    omega (arith, ap (λ (x : Row). x.drops g) (plain-steal o), ap (λ (x : Row). x.leaves g) (plain-steal o))
+drop-uses g (op.Run o) =
+    omega (arith, ap (λ (x : Row). x.drops g) (plain-run o), ap (λ (x : Row). x.leaves g) (plain-run o))
 drop-uses g (op.Closing closing_op.Drain) = omega arith
 drop-uses g _ = omega arith
 

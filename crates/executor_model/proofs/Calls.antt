@@ -2,6 +2,7 @@
 -- and as many as its stack has still to answer.
 use Rattle.std.proofs.Common.{◌≡◌, ℕ, ◌+◌, List, [], ◌∷◌, ◌++◌, length}
 use Rattle.std.proofs.Common.{Bool, true, false, cond, refl, sym, ap, ◌∙◌, arith}
+use Rattle.std.proofs.lemmas.List.{append_assoc}
 use Rattle.std.proofs.lemmas.List.Sums.{sum_by_push}
 use Rattle.std.specs.Prelude.{Option, Some, None, count_by}
 use Rattle.task_moves.specs.declared.moves.owed.Owed.{Owed}
@@ -19,10 +20,13 @@ use Rattle.executor_model.specs.declared.op.Op.{Op}
 use Rattle.executor_model.specs.declared.op.Op.TheVariants as op
 use Rattle.executor_model.specs.declared.op.ClosingOp.TheVariants as closing_op
 use Rattle.executor_model.specs.declared.op.HandleOp.TheVariants as handle_op
+use Rattle.executor_model.specs.declared.op.ListOp.TheVariants as list_op
 use Rattle.executor_model.specs.declared.op.QueueOp.TheVariants as queue_op
+use Rattle.executor_model.specs.declared.op.RunOp.TheVariants as run_op
 use Rattle.executor_model.specs.declared.op.SleeperOp.TheVariants as sleeper_op
 use Rattle.executor_model.specs.declared.op.TableOp.TheVariants as table_op
 use Rattle.executor_model.specs.declared.op.TickOp.TheVariants as tick_op
+use Rattle.executor_model.specs.declared.op.UserOp.TheVariants as user_op
 use Rattle.executor_model.specs.declared.op.WakerOp.TheVariants as waker_op
 use Rattle.executor_model.specs.Trace.{Trace}
 use Rattle.executor_model.specs.Quiet.{begins_call, ends_call}
@@ -51,8 +55,16 @@ calling_of (op.Tick tick_op.MakeTick) = 1
 calling_of (op.Tick (tick_op.Search s)) = 1
 calling_of (op.Tick (tick_op.CopyWaker s)) = 1
 calling_of (op.Tick (tick_op.LieDown s)) = 1
-calling_of (op.Tick (tick_op.GetUp t f)) = 1
-calling_of (op.Tick (tick_op.Leave t)) = 1
+calling_of (op.User (user_op.PollOwn x)) = 1
+calling_of (op.List (list_op.LockWrite s)) = 1
+calling_of (op.List (list_op.Write s)) = 1
+calling_of (op.List (list_op.LockRead x)) = 1
+calling_of (op.Steal o) = 1
+calling_of (op.Run run_op.MakeRoom) = 1
+calling_of (op.Run (run_op.SearchCommon x)) = 1
+calling_of (op.Run (run_op.LookOwn x at left)) = 1
+calling_of (op.Run (run_op.WakeOwn x)) = 1
+calling_of (op.Run (run_op.Reschedule r a)) = 1
 calling_of (op.End r held) = 1
 calling_of _ = 0
 
@@ -148,6 +160,16 @@ then xs x z c = record { front = xs; last = x; is = refl; none = z; call = c }
 -- what a move owes answers no call
 pub none-both : (xs ys : List Op) → weigh calling_of xs ≡ 0 → weigh calling_of ys ≡ 0 → weigh calling_of (xs ++ ys) ≡ 0
 none-both xs ys a b = omega (arith, weigh-append calling_of xs ys, a, b)
+
+-- more in front of what answers
+pub before : (xs ys : List Op) → weigh calling_of xs ≡ 0 → Answering ys → Answering (xs ++ ys)
+before xs ys z a = record {
+  front = xs ++ a.front;
+  last = a.last;
+  is = ap (λ (os : List Op). xs ++ os) a.is ∙ sym (append_assoc xs a.front (a.last ∷ []));
+  none = none-both xs a.front z a.none;
+  call = a.call;
+}
 
 pub no-call : Aside calling_of
 no-call = record {

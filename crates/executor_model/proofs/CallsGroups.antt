@@ -13,13 +13,14 @@ use Rattle.executor_model.specs.declared.op.UserOp.TheVariants as user_op
 use Rattle.executor_model.specs.declared.op.WakerOp.TheVariants as waker_op
 use Rattle.executor_model.specs.declared.step.Hint.{Hint}
 use Rattle.executor_model.specs.World.{World, task, among, awaiter_of}
-use Rattle.executor_model.specs.Acts.{act}
+use Rattle.executor_model.specs.Doing.{act}
 use Rattle.executor_model.proofs.Calls.{is_end, Calls, answers, calls-again, calls-answered, calls-append, calls-call}
 use Rattle.executor_model.proofs.Calls.{calls-copy, calls-copy_awaiter, calls-drain, calls-drop_next}
 use Rattle.executor_model.proofs.Calls.{calls-end_register, calls-enter, calls-leave, calls-notify, calls-register}
 use Rattle.executor_model.proofs.Asides.{aside-told, aside-closing}
 use Rattle.executor_model.proofs.Calls.{calls-take, calls-wake_next, inside, no-call, none-owed, calling_of}
 use Rattle.executor_model.proofs.Calls.{none-wake, single, steady-log, steady-log_if, steady-same, steady-wake}
+use Rattle.executor_model.proofs.RunsCalls.{calls-list, calls-run, calls-steal}
 use Rattle.executor_model.proofs.SleepersCalls.{calls-sleeper, calls-tick}
 
 pub calls-act : (p : ℕ) (h : Hint) (o : Op) (w : World) → is_end o ≡ false → Calls w o (act p h o w)
@@ -72,6 +73,10 @@ calls-act p h (op.Handle (handle_op.EndNotify f mine)) w n =
 calls-act p h (op.Waker (waker_op.CallAwaiter f a k)) w n = calls-call p w f a k
 calls-act p h (op.Sleeper o) w n = calls-sleeper p o w
 calls-act p h (op.Tick o) w n = calls-tick h o w
+calls-act p h (op.List o) w n = calls-list h o w
+calls-act p h (op.Steal o) w n = calls-steal p o w
+calls-act p h (op.Run o) w n = calls-run p h o w
+calls-act p h (op.User (user_op.PollOwn x)) w n = answers w _ _ refl (steady-same _ _ refl) (single _ refl)
 calls-act p h (op.Closing closing_op.TakeOut) w n =
     inside w _ _ refl (steady-same _ _ refl) (aside-closing calling_of (λ o. refl) w.table w.waking)
 calls-act p h (op.Closing closing_op.DropNext) w n = calls-drop_next p w w.leaving

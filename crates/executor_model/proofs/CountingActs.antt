@@ -17,7 +17,7 @@ use Rattle.executor_model.specs.declared.op.UserOp.TheVariants as user_op
 use Rattle.executor_model.specs.declared.op.WakerOp.TheVariants as waker_op
 use Rattle.executor_model.specs.declared.step.Hint.{Hint}
 use Rattle.executor_model.specs.World.{World, task}
-use Rattle.executor_model.specs.Acts.{act}
+use Rattle.executor_model.specs.Doing.{act}
 use Rattle.executor_model.specs.Weights.{weigh, past, waker_past}
 use Rattle.executor_model.specs.Good.{pasts}
 use Rattle.executor_model.specs.Rows.{past_of}
@@ -30,8 +30,10 @@ use Rattle.executor_model.proofs.Counting.{sound-give_up, sound-leave, sound-loo
 use Rattle.executor_model.proofs.Counting.{sound-register, sound-release, sound-settle_closed, sound-take}
 use Rattle.executor_model.proofs.Counting.{sound-take_out, sound-take_to_drop, sound-take_to_poll, sound-take_up}
 use Rattle.executor_model.proofs.Counting.{sound-wake, sound-wake_by_reference, sound-wake_first}
+use Rattle.executor_model.specs.declared.op.RunOp.TheVariants as run_op
+use Rattle.executor_model.proofs.RunsCounting.{sound-list, sound-run, sound-search_who, sound-steal, sound-wake_own}
 use Rattle.executor_model.proofs.SleepersCounting.{sound-exchange, sound-hand_out, sound-call_sleeper}
-use Rattle.executor_model.proofs.SleepersCounting.{sound-make_tick, sound-search, sound-copy_sleeper}
+use Rattle.executor_model.proofs.SleepersCounting.{sound-make_tick, sound-copy_sleeper}
 use Rattle.executor_model.proofs.SleepersCounting.{sound-lie_down, sound-get_up, sound-leave_sleepers}
 
 known_waker : (w : World) (a : Waker) → waker_past (length w.tasks) a ≡ 0 → (f : ℕ) → a ≡ Task f → f < length w.tasks
@@ -97,14 +99,24 @@ sound-act p h (op.Waker (waker_op.CallAwaiter f a k)) w n u z = sound-call p w f
 sound-act p h (op.Sleeper sleeper_op.ExchangeFlag) w n u z = sound-exchange _ w
 sound-act p h (op.Sleeper sleeper_op.HandOut) w n u z = sound-hand_out _ _ w refl
 sound-act p h (op.Sleeper (sleeper_op.CallSleeper s)) w n u z =
-    sound-call_sleeper p s.tick s.poll s.waker w (known_waker w s.waker (omega (arith, z)))
+    sound-call_sleeper p s.who s.poll s.waker w (known_waker w s.waker (omega (arith, z)))
 sound-act p h (op.Tick tick_op.MakeTick) w n u z = sound-make_tick _ w
-sound-act p h (op.Tick (tick_op.Search s)) w n u z = sound-search _ _ w s refl
+sound-act p h (op.Tick (tick_op.Search s)) w n u z = sound-search_who s.who w s refl
 sound-act p h (op.Tick (tick_op.CopyWaker s)) w n u z =
-    sound-copy_sleeper _ s.waker s.tick s.poll w (can_copy h w s.waker 0 (omega (arith, z)))
+    sound-copy_sleeper _ s.waker s.who s.poll w (can_copy h w s.waker 0 (omega (arith, z)))
 sound-act p h (op.Tick (tick_op.LieDown s)) w n u z = sound-lie_down _ w s
-sound-act p h (op.Tick (tick_op.GetUp t f)) w n u z = sound-get_up _ w t f
+sound-act p h (op.Tick (tick_op.GetUp t)) w n u z = sound-get_up _ w t
 sound-act p h (op.Tick (tick_op.Leave t)) w n u z = sound-leave_sleepers _ w t
+sound-act p h (op.List o) w n u z = sound-list h o w
+sound-act p h (op.Steal o) w n u z = sound-steal p o w
+sound-act p h (op.Run run_op.MakeRoom) w n u z = sound-run p h run_op.MakeRoom w (λ x e. absurd (cc))
+sound-act p h (op.Run run_op.ReturnRoom) w n u z = sound-run p h run_op.ReturnRoom w (λ x e. absurd (cc))
+sound-act p h (op.Run (run_op.SearchCommon x)) w n u z = sound-run p h (run_op.SearchCommon x) w (λ y e. absurd (cc))
+sound-act p h (op.Run (run_op.LookOwn x at left)) w n u z =
+    sound-run p h (run_op.LookOwn x at left) w (λ y e. absurd (cc))
+sound-act p h (op.Run (run_op.WakeOwn x)) w n u z = sound-wake_own p w x (known_waker w x.waker (omega (arith, z)))
+sound-act p h (op.Run (run_op.Reschedule r a)) w n u z =
+    sound-run p h (run_op.Reschedule r a) w (λ x e. absurd (cc))
 sound-act p h (op.Closing closing_op.TakeOut) w n u z = sound-take_out _ _ w
 sound-act p h (op.Closing closing_op.DropNext) w n u z = sound-drop_first p w _ refl
 sound-act p h (op.Closing closing_op.WakeNext) w n u z = sound-wake_first p w _ refl (first_known w u)

@@ -27,16 +27,18 @@ use Rattle.executor_model.specs.declared.op.WakerOp.TheVariants as waker_op
 use Rattle.executor_model.specs.declared.step.Hint.{Hint}
 use Rattle.executor_model.specs.World.{World, Done, done, log, log_if, task, put, awaiter_of, put_awaiter, among}
 use Rattle.executor_model.specs.Carried.{awaiter_ops, owed_ops, carried}
-use Rattle.executor_model.specs.Acts.{append_by, take_by, enter_by, entered, leave_by, copy_by, answered, polled}
+use Rattle.executor_model.specs.Acts.{append_by, take_by, enter_by, entered, leave_by, copy_by}
+use Rattle.executor_model.specs.Acts.{answered, polled}
 use Rattle.executor_model.specs.Acts.{look_by, look_again_by, copy_awaiter_by, register_by, end_register_by, notify_by}
-use Rattle.executor_model.specs.Acts.{end_notify, told, let_go, waker_goes, call_awaiter, closing_ops, drop_next_by}
+use Rattle.executor_model.specs.Acts.{end_notify, told, let_go, waker_goes, call_awaiter, closing_ops}
+use Rattle.executor_model.specs.Acts.{drop_next_by}
 use Rattle.executor_model.specs.Acts.{wake_next_by, drain_by, followed, wake, reply_of, is_output}
 use Rattle.executor_model.specs.Weights.{weigh, weigh_sleepers, past, waker_past}
 use Rattle.executor_model.specs.Good.{pasts, awaiters_past, Fits}
 use Rattle.executor_model.specs.Rows.{past_of}
 use Rattle.executor_model.proofs.Cases.{by_bool, by_list, by_waker}
 use Rattle.executor_model.proofs.Owed.{owed-future, owed-awaiter, owed-nothing}
-use Rattle.executor_model.proofs.Lists.{past_is, pasts-append, pasts-without, pasts-more, pasts-drop}
+use Rattle.executor_model.proofs.Lists.{past_is, pasts-append, pasts-without, pasts-more, pasts_in-more, pasts-drop}
 use Rattle.executor_model.proofs.Lists.{wakers_past-more, wakers_past-push, awaiters_past-set, awaiters_past-push}
 use Rattle.executor_model.proofs.Lists.{awaiters_past-more, sleepers_past-more, past_if, weigh-append}
 
@@ -63,6 +65,7 @@ pub fits-log : (b : Bool) (w : World) (e : Event) → Fits w → Fits (log_if b 
 fits-log true w e h =
     record {
       queue = h.queue;
+      own = h.own;
       table = h.table;
       leaving = h.leaving;
       waking = h.waking;
@@ -119,6 +122,7 @@ grows-enter = by_bool _
       arith,
       pasts-append,
       pasts-more,
+      pasts_in-more,
       wakers_past-more,
       awaiters_past-more,
       awaiters_past-push,
@@ -133,6 +137,7 @@ pub grows-inside : (w : World) (f : ℕ) (b : Bool) (old next : List Op) → wei
 grows-inside w f b old next z h = record {
   fits = record {
     queue = h.queue;
+    own = h.own;
     table = h.table;
     leaving = h.leaving;
     waking = h.waking;
@@ -223,6 +228,7 @@ grows-awaiter w f s a next i h z n =
     record {
       fits = record {
         queue = fp.queue;
+        own = fp.own;
         table = fp.table;
         leaving = fp.leaving;
         waking = fp.waking;
@@ -309,6 +315,7 @@ grows-drop_next p w (f ∷ rest) e h k =
       fits =
           record {
             queue = h.queue;
+            own = h.own;
             table = h.table;
             leaving = omega (arith, z);
             waking = omega (arith, pasts-append n w.waking (f ∷ []), h.waking, z);
@@ -347,6 +354,7 @@ grows-wake_next p w (f ∷ rest) e h k =
     let fv : Fits v =
     record {
       queue = h.queue;
+      own = h.own;
       table = h.table;
       leaving = h.leaving;
       waking = omega (arith, z);

@@ -3,7 +3,6 @@ use Rattle.std.proofs.Common.{ℕ, [], ◌∷◌, length, true, false, not, ◌&
 use Rattle.task_moves.specs.declared.moves.owed.Move.TheVariants as move
 use Rattle.task_moves.specs.Moves as moves
 use Rattle.executor_model.specs.declared.event.Event.TheVariants as event
-use Rattle.executor_model.specs.declared.op.Polled.TheVariants as of
 use Rattle.executor_model.specs.declared.op.Op.{Op}
 use Rattle.executor_model.specs.declared.op.Op.TheVariants as op
 use Rattle.executor_model.specs.declared.op.ClosingOp.TheVariants as closing_op
@@ -16,14 +15,16 @@ use Rattle.executor_model.specs.declared.op.UserOp.TheVariants as user_op
 use Rattle.executor_model.specs.declared.op.WakerOp.TheVariants as waker_op
 use Rattle.executor_model.specs.declared.step.Hint.{Hint}
 use Rattle.executor_model.specs.World.{World, task}
-use Rattle.executor_model.specs.Acts.{act}
+use Rattle.executor_model.specs.Doing.{act}
 use Rattle.executor_model.proofs.Fitting.{Grows, grows-again, grows-append, grows-call, grows-carried}
 use Rattle.executor_model.proofs.Fitting.{grows-copy, grows-copy_awaiter, grows-drain, grows-drop_next}
 use Rattle.executor_model.proofs.Fitting.{grows-end_notify, grows-end_register, grows-enter, grows-inside}
 use Rattle.executor_model.proofs.Fitting.{grows-leave, grows-logged, grows-look, grows-moved, grows-notify}
 use Rattle.executor_model.proofs.Fitting.{grows-register, grows-take, grows-wake_next, past_closing}
+use Rattle.executor_model.specs.ActsOfSleepers.{polled_as}
+use Rattle.executor_model.proofs.RunsFitting.{grows-list, grows-run, grows-search_who, grows-steal}
 use Rattle.executor_model.proofs.SleepersFitting.{grows-exchange, grows-hand_out, grows-call_waker}
-use Rattle.executor_model.proofs.SleepersFitting.{grows-make_tick, grows-search, grows-copy_sleeper}
+use Rattle.executor_model.proofs.SleepersFitting.{grows-make_tick, grows-copy_sleeper}
 use Rattle.executor_model.proofs.SleepersFitting.{grows-lie_down, grows-get_up, grows-leave_sleepers}
 
 pub grows-act : (p : ℕ) (c : Hint) (o : Op) (w : World) → Grows w (o ∷ []) (act p c o w)
@@ -76,17 +77,21 @@ grows-act p c (op.Waker (waker_op.CallAwaiter f a n)) w h k = grows-call p w f a
 grows-act p c (op.Sleeper sleeper_op.ExchangeFlag) w h k = grows-exchange _ w h k
 grows-act p c (op.Sleeper sleeper_op.HandOut) w h k = grows-hand_out _ _ w refl h k
 grows-act p c (op.Sleeper (sleeper_op.CallSleeper s)) w h k =
-    grows-call_waker p w (of.Tick s.tick) s.waker s.poll (omega (arith, k)) h
+    grows-call_waker p w (polled_as s.who) s.waker s.poll (omega (arith, k)) h
 grows-act p c (op.Tick tick_op.MakeTick) w h k = grows-make_tick _ w h k
-grows-act p c (op.Tick (tick_op.Search s)) w h k = grows-search _ _ w s refl h k
-grows-act p c (op.Tick (tick_op.CopyWaker s)) w h k = grows-copy_sleeper _ s.waker s.tick s.poll w h k
+grows-act p c (op.Tick (tick_op.Search s)) w h k = grows-search_who s.who w s h k
+grows-act p c (op.Tick (tick_op.CopyWaker s)) w h k = grows-copy_sleeper _ s.waker s.who s.poll w h k
 grows-act p c (op.Tick (tick_op.LieDown s)) w h k = grows-lie_down _ w s h k
-grows-act p c (op.Tick (tick_op.GetUp t f)) w h k = grows-get_up _ w t f h k
+grows-act p c (op.Tick (tick_op.GetUp t)) w h k = grows-get_up _ w t h k
 grows-act p c (op.Tick (tick_op.Leave t)) w h k = grows-leave_sleepers _ w t h k
+grows-act p c (op.List o) w h k = grows-list c o w h k
+grows-act p c (op.Steal o) w h k = grows-steal p o w h k
+grows-act p c (op.Run o) w h k = grows-run p c o w h k
 grows-act p c (op.Closing closing_op.TakeOut) w h k =
     (record {
       fits = record {
         queue = h.queue;
+        own = h.own;
         table = h.leaving;
         leaving = h.table;
         waking = h.waking;

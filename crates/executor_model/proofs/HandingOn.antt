@@ -1,5 +1,5 @@
 -- A wake that marks a task hands on one Runnable, or the end of the poll does.
-use Rattle.std.proofs.Common.{◌≡◌, ℕ, List, [], ◌∷◌, Bool, true, false, ◌||◌, cond, refl, ◌∙◌, subst, arith}
+use Rattle.std.proofs.Common.{◌≡◌, ℕ, List, [], ◌∷◌, ◌++◌, Bool, true, false, ◌||◌, cond, refl, ◌∙◌, subst, arith}
 use Rattle.std.specs.Prelude.{Some}
 use Rattle.task_moves.specs.declared.moves.state.State.{State}
 use Rattle.task_moves.specs.declared.moves.owed.Move.TheVariants.{Release}
@@ -9,19 +9,30 @@ use Rattle.executor_model.specs.declared.op.Op.{Op}
 use Rattle.executor_model.specs.declared.op.Op.TheVariants as op
 use Rattle.executor_model.specs.declared.op.ClosingOp.TheVariants as closing_op
 use Rattle.task_moves.specs.declared.moves.owed.Move.TheVariants as move
+use Rattle.executor_model.specs.declared.call.Reply.TheVariants as reply
+use Rattle.executor_model.specs.declared.event.Event.TheVariants as event
+use Rattle.executor_model.specs.declared.op.Hold.TheVariants as hold
+use Rattle.executor_model.specs.declared.op.Polled.{Polled}
+use Rattle.executor_model.specs.declared.op.Polled.TheVariants as of
+use Rattle.executor_model.specs.declared.op.RunOp.TheVariants as run_op
+use Rattle.executor_model.specs.declared.op.RunPoll.{RunPoll}
+use Rattle.executor_model.specs.declared.op.SleeperOp.TheVariants as sleeper_op
+use Rattle.executor_model.specs.declared.op.Waker.{Waker}
 use Rattle.executor_model.specs.declared.op.WakerOp.TheVariants as waker_op
 use Rattle.executor_model.specs.declared.op.Waker.TheVariants.{Task, Outside}
 use Rattle.executor_model.specs.declared.step.Hint.{Hint}
-use Rattle.executor_model.specs.World.{World, task}
-use Rattle.executor_model.specs.Acts.{wake_next_by}
+use Rattle.executor_model.specs.World.{World, log, task}
+use Rattle.executor_model.specs.Acts.{call_waker, wake_next_by}
+use Rattle.executor_model.specs.ActsOfRuns.{call_by_reference, wake_own}
+use Rattle.executor_model.specs.ActsOfSleepers.{polled_as}
 use Rattle.executor_model.specs.Carried.{owed_ops}
 use Rattle.executor_model.specs.Weights.{same, weigh}
 use Rattle.executor_model.specs.Sound.{Sound, Pend, pend, tokens}
 use Rattle.executor_model.specs.Steps.{Machine}
 use Rattle.executor_model.specs.Good.{Good}
-use Rattle.executor_model.specs.HandingOn.{handed_on, HandsOn, IsFirst, IsIdle, IsOnItsWay, IsWakeOf}
+use Rattle.executor_model.specs.HandingOn.{handed_on, HandsOn, IsFirst, IsIdle, IsOnItsWay, IsWakeOf, IsWakerOf}
 use Rattle.executor_model.specs.Rows.{appends_of}
-use Rattle.executor_model.proofs.Lists.{same_is, weigh-closing}
+use Rattle.executor_model.proofs.Lists.{same_is, weigh-append, weigh-closing}
 
 one : (f : ℕ) → same f f ≡ 1
 one f = grind (arith, same_is)
@@ -77,13 +88,39 @@ module _ (f p : ℕ) (h : Hint) (w : World) (n : ℕ) (stays : (b : Bool) →
   closing-wake (g ∷ rest) e = subst (λ (x : ℕ). weigh (appends_of f) (wake_next_by p w (x ∷ rest)).next ≡ n) e
       (weigh-closing (appends_of f) _ rest refl refl ∙ goes _)
 
+  called-wake : (q : Polled) (k : ℕ) (a : Waker) → IsWakerOf f a →
+      weigh (appends_of f) (call_waker p w q a k).next ≡ n
+  called-wake q k (Task g) e =
+      subst (λ (x : ℕ). weigh (appends_of f) (call_waker p w q (Task x) k).next ≡ n) e (goes _)
+  called-wake q k (Outside x) e = let no : true ≡ false = e in absurd (cc)
+
+  -- a run's own waker stays
+  own-wake : (x : RunPoll) → IsWakerOf f x.waker → weigh (appends_of f) (wake_own p w x).next ≡ n
+  own-wake x = by x.waker
+    where
+      v : World
+      v = log w (event.WakerCalled p (of.Run x.run) x.poll x.waker)
+
+      by : (a : Waker) → IsWakerOf f a →
+          weigh (appends_of f) ((call_by_reference p v a).next ++ op.End reply.Pending (hold.Run x.run) ∷ []) ≡ n
+      by (Task g) e =
+          let z : weigh (appends_of f) (call_by_reference p v (Task g)).next ≡ n =
+          subst (λ (y : ℕ). weigh (appends_of f) (call_by_reference p v (Task y)).next ≡ n) e (stays _) in
+          omega (
+            arith,
+            z,
+            weigh-append (appends_of f) (call_by_reference p v (Task g)).next
+                (op.End reply.Pending (hold.Run x.run) ∷ []),
+          )
+      by (Outside y) e = let no : true ≡ false = e in absurd (cc)
+
   each-wake : (o : Op) → IsWakeOf f w o → handed_on f o p h w ≡ n
   each-wake (op.Move move.WakeByReference g) e =
       subst (λ (x : ℕ). handed_on f (op.Move move.WakeByReference x) p h w ≡ n) e (stays _)
   each-wake (op.Move move.Wake g) e = subst (λ (x : ℕ). handed_on f (op.Move move.Wake x) p h w ≡ n) e (goes _)
-  each-wake (op.Waker (waker_op.CallAwaiter awaited (Task g) k)) e =
-      subst (λ (x : ℕ). handed_on f (op.Waker (waker_op.CallAwaiter awaited (Task x) k)) p h w ≡ n) e (goes _)
-  each-wake (op.Waker (waker_op.CallAwaiter awaited (Outside x) k)) e = let no : true ≡ false = e in absurd (cc)
+  each-wake (op.Waker (waker_op.CallAwaiter awaited a k)) e = called-wake (of.Handle awaited) k a e
+  each-wake (op.Sleeper (sleeper_op.CallSleeper s)) e = called-wake (polled_as s.who) s.poll s.waker e
+  each-wake (op.Run (run_op.WakeOwn x)) e = own-wake x e
   each-wake (op.Closing closing_op.WakeNext) e = closing-wake w.waking e
   each-wake _ e = let no : true ≡ false = e in absurd (cc)
 

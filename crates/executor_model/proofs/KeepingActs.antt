@@ -1,7 +1,7 @@
 -- Each thing that is done keeps what holds of an output that is there,
 -- and of the awaiter of a future that is completed.
 use Rattle.std.proofs.Common.{◌≡◌, ◌⊎◌, ℕ, ◌+◌, ◌<◌, List, [], ◌∷◌, ◌++◌, length}
-use Rattle.std.proofs.Common.{Bool, true, false, ◌||◌, not, refl, sym, ap, ◌∙◌, ◌≤◌, arith}
+use Rattle.std.proofs.Common.{Bool, true, false, ◌||◌, not, refl, sym, ap, subst, ◌∙◌, ◌≤◌, arith}
 use Rattle.std.proofs.lemmas.Bool.Decides.{nat_tests}
 use Rattle.std.proofs.lemmas.List.{length-set, length-append}
 use Rattle.std.specs.Prelude.{Option, Some, None, slice_set}
@@ -20,6 +20,9 @@ use Rattle.executor_model.specs.declared.op.ClosingOp.TheVariants as closing_op
 use Rattle.executor_model.specs.declared.op.HandleOp.TheVariants as handle_op
 use Rattle.task_moves.specs.declared.moves.owed.Move.TheVariants as move
 use Rattle.executor_model.specs.declared.op.QueueOp.TheVariants as queue_op
+use Rattle.executor_model.specs.declared.op.RunOp.{RunOp}
+use Rattle.executor_model.specs.declared.op.RunOp.TheVariants as run_op
+use Rattle.executor_model.specs.declared.op.RunPoll.{RunPoll}
 use Rattle.executor_model.specs.declared.op.SleeperOp.TheVariants as sleeper_op
 use Rattle.executor_model.specs.declared.op.TableOp.TheVariants as table_op
 use Rattle.executor_model.specs.declared.op.TickOp.TheVariants as tick_op
@@ -31,7 +34,8 @@ use Rattle.executor_model.specs.Carried.{carried}
 use Rattle.executor_model.specs.Acts.{append_by, take_by, enter_by, take_to_poll, leave_by, begin_drop}
 use Rattle.executor_model.specs.Acts.{begin_drop_output, copy_by, polled, look_by, look_again_by}
 use Rattle.executor_model.specs.Acts.{copy_awaiter_by, register_by, end_register_by, notify_by, call_awaiter}
-use Rattle.executor_model.specs.Acts.{closing_ops, drop_next_by, wake_next_by, drain_by, act}
+use Rattle.executor_model.specs.Acts.{closing_ops, drop_next_by, wake_next_by, drain_by}
+use Rattle.executor_model.specs.Doing.{act}
 use Rattle.executor_model.specs.Weights.{weigh, past, waker_past}
 use Rattle.executor_model.specs.Good.{pasts, IsKnownWaker}
 use Rattle.executor_model.specs.Rows.{past_of}
@@ -42,7 +46,8 @@ use Rattle.executor_model.proofs.Counting.{cancel_going, cancel_idle, cancel_ove
 use Rattle.executor_model.proofs.Counting.{waits_on, end_registered, end_notified, next_woken}
 use Rattle.executor_model.proofs.Keeping.{readies-push, spent-push, Owing, with_owing, Stored, KeepsStored}
 use Rattle.executor_model.proofs.SleepersKeeping.{stored-exchange, stored-hand_out, stored-call_sleeper}
-use Rattle.executor_model.proofs.SleepersKeeping.{stored-make_tick, stored-search, stored-copy_sleeper}
+use Rattle.executor_model.proofs.SleepersKeeping.{stored-make_tick, stored-copy_sleeper}
+use Rattle.executor_model.proofs.RunsKeeping.{stored-list, stored-run, stored-search_who, stored-steal}
 use Rattle.executor_model.proofs.SleepersKeeping.{stored-lie_down, stored-get_up, stored-leave_sleepers}
 
 stored-append : (b : Bool) (w : World) (f : ℕ) → KeepsStored w (op.Queue (queue_op.Append f) ∷ []) (append_by b w f)
@@ -475,6 +480,13 @@ first_known w u f rest e =
     let z : past (length w.tasks) f + pasts (length w.tasks) rest ≡ 0 = sym (ap (pasts (length w.tasks)) e) ∙ u in
     below _ f (omega (arith, z))
 
+own_waker : (w : World) (o : RunOp) → weigh (past_of (length w.tasks)) (op.Run o ∷ []) ≡ 0 → (x : RunPoll) →
+    o ≡ run_op.WakeOwn x → IsKnownWaker w x.waker
+own_waker w o z x e =
+    let q : weigh (past_of (length w.tasks)) (op.Run (run_op.WakeOwn x) ∷ []) ≡ 0 =
+    subst (λ (y : RunOp). weigh (past_of (length w.tasks)) (op.Run y ∷ []) ≡ 0) e z in
+    known_waker w x.waker 0 (omega (arith, q))
+
 -- each thing to do that speaks of futures that are there
 pub stored-act : (p : ℕ) (h : Hint) (o : Op) (w : World) → pasts (length w.tasks) w.waking ≡ 0 →
     weigh (past_of (length w.tasks)) (o ∷ []) ≡ 0 → KeepsStored w (o ∷ []) (act p h o w)
@@ -527,14 +539,17 @@ stored-act p h (op.Waker (waker_op.CallAwaiter f a k)) w u z = stored-call p w f
 stored-act p h (op.Sleeper sleeper_op.ExchangeFlag) w u z = stored-exchange _ w
 stored-act p h (op.Sleeper sleeper_op.HandOut) w u z = stored-hand_out _ _ w
 stored-act p h (op.Sleeper (sleeper_op.CallSleeper s)) w u z =
-    stored-call_sleeper p s.tick s.poll s.waker w (known_waker w s.waker 0 (omega (arith, z)))
+    stored-call_sleeper p s.who s.poll s.waker w (known_waker w s.waker 0 (omega (arith, z)))
 stored-act p h (op.Tick tick_op.MakeTick) w u z = stored-make_tick _ w
-stored-act p h (op.Tick (tick_op.Search s)) w u z = stored-search _ _ w s refl
+stored-act p h (op.Tick (tick_op.Search s)) w u z = stored-search_who s.who w s refl
 stored-act p h (op.Tick (tick_op.CopyWaker s)) w u z =
-    stored-copy_sleeper _ s.waker s.tick s.poll w (known_waker w s.waker 0 (omega (arith, z)))
+    stored-copy_sleeper _ s.waker s.who s.poll w (known_waker w s.waker 0 (omega (arith, z)))
 stored-act p h (op.Tick (tick_op.LieDown s)) w u z = stored-lie_down _ w s
-stored-act p h (op.Tick (tick_op.GetUp t f)) w u z = stored-get_up _ w t f
+stored-act p h (op.Tick (tick_op.GetUp t)) w u z = stored-get_up _ w t
 stored-act p h (op.Tick (tick_op.Leave t)) w u z = stored-leave_sleepers _ w t
+stored-act p h (op.List o) w u z = stored-list h o w
+stored-act p h (op.Steal o) w u z = stored-steal p o w
+stored-act p h (op.Run o) w u z = stored-run p h o w (own_waker w o z)
 stored-act p h (op.Closing closing_op.TakeOut) w u z = stored-take_out _ _ w
 stored-act p h (op.Closing closing_op.DropNext) w u z = stored-drop_first p w _
 stored-act p h (op.Closing closing_op.WakeNext) w u z = stored-wake_first p w _ (first_known w u)

@@ -2,6 +2,7 @@
 -- moment.
 use Rattle.std.proofs.Common.{◌≡◌, ℕ, ◌<◌, List, [], ◌∷◌, ◌++◌, length, set, get_or, true, refl, sym, subst, arith}
 use Rattle.std.specs.Prelude.{Option, Some, None, reverse}
+use Rattle.executor_model.specs.declared.op.Waker.{Waker}
 use Rattle.executor_model.specs.declared.call.Call.{Call}
 use Rattle.executor_model.specs.declared.call.Call.TheVariants as call
 use Rattle.executor_model.specs.declared.call.Reply.{Reply}
@@ -13,6 +14,9 @@ use Rattle.executor_model.specs.declared.op.Hold.{Hold}
 use Rattle.executor_model.specs.declared.op.Hold.TheVariants as hold
 use Rattle.executor_model.specs.declared.op.Op.{Op}
 use Rattle.executor_model.specs.declared.op.Op.TheVariants as op
+use Rattle.executor_model.specs.declared.op.RunOp.TheVariants as run_op
+use Rattle.executor_model.specs.declared.op.RunPoll.{RunPoll}
+use Rattle.executor_model.specs.declared.op.Sleeper.TheVariants as sleeper
 use Rattle.executor_model.specs.declared.op.TickOp.TheVariants as tick_op
 use Rattle.executor_model.specs.declared.op.ClosingOp.TheVariants as closing_op
 use Rattle.executor_model.specs.declared.op.HandleOp.TheVariants as handle_op
@@ -24,13 +28,13 @@ use Rattle.executor_model.specs.declared.op.WakerOp.TheVariants as waker_op
 use Rattle.executor_model.specs.declared.step.Step.{Step}
 use Rattle.executor_model.specs.declared.step.UserEnd.{UserEnd}
 use Rattle.executor_model.specs.declared.step.UserEnd.TheVariants as end
-use Rattle.executor_model.specs.World.{World, Done, done, log}
-use Rattle.executor_model.specs.Acts.{act}
+use Rattle.executor_model.specs.World.{World, Stage, New, Listed, Ended, Done, done, log, put_run, run_of}
+use Rattle.executor_model.specs.Doing.{act}
 use Rattle.executor_model.specs.Weights.{weigh}
 use Rattle.executor_model.specs.Good.{Good}
 use Rattle.executor_model.specs.Rows.{waiting_of, polls_of, ready_of, past_of}
-use Rattle.executor_model.specs.Steps.{Machine, stack, run, start, idle, polled_by, top, accepts, begun}
-use Rattle.executor_model.specs.Steps.{react, used_up, with_future, kept, waker_of}
+use Rattle.executor_model.specs.Steps.{Machine, stack, run, start, idle, mine, top, accepts, begun}
+use Rattle.executor_model.specs.Steps.{drop_run, future_of, poll_run, react, used_up, with_future, kept, waker_of}
 use Rattle.executor_model.proofs.Lists.{same_is, weigh_all-push}
 use Rattle.executor_model.proofs.Lift.{split, unsettled, weigh_all-idle, good-start}
 use Rattle.executor_model.proofs.Ways.{Way, along}
@@ -83,6 +87,9 @@ stored-react p (op.User (user_op.Poll f)) (end.Polled answer.Ready) w a = stored
 stored-react p (op.User (user_op.Drop f)) end.Done w a = λ g r bb h. h
 stored-react p (op.User (user_op.DropOutput f)) end.Done w a = λ g r bb h. h
 stored-react p (op.User (user_op.CallOutside x)) end.Done w a = λ g r bb h. h
+stored-react p (op.User (user_op.PollOwn x)) (end.Polled answer.Pending) w a = λ g r bb h. h
+stored-react p (op.User (user_op.PollOwn x)) (end.Polled answer.Ready) w a = λ g r bb h. h
+stored-react p (op.User (user_op.DropOwn r)) end.Done w a = λ g r bb h. h
 stored-react p _ _ w a = absurd (cc)
 
 -- the beginning of a call
@@ -131,7 +138,25 @@ begins-drop : (w : World) (p : ℕ) →
     (op.Closing closing_op.TakeOut ∷ op.End reply.Done hold.Nothing ∷ []))
 begins-drop w p g r bb h = grind (arith, readies-push, spent-push)
 
-begins : (w : World) (p : ℕ) (here : Option ℕ) (c : Call) →
+owes-poll : (t : Stage) (x : RunPoll) (g : ℕ) (r : Owing) → with_owing g (poll_run t x) r ≡ with_owing g [] r
+owes-poll New x g r = refl
+owes-poll Listed x g r = refl
+owes-poll Ended x g r = refl
+
+owes-drop : (t : Stage) (q g : ℕ) (r : Owing) → with_owing g (drop_run t q) r ≡ with_owing g [] r
+owes-drop New q g r = refl
+owes-drop Listed q g r = refl
+owes-drop Ended q g r = refl
+
+begins-dropped : (w : World) (p q : ℕ) (next : List Op) →
+    ((g : ℕ) (r : Owing) → with_owing g next r ≡ with_owing g [] r) →
+    KeepsStored w [] (done (log (put_run (log w (event.CallBegun p (call.DropRun q))) q
+    (record (run_of w q) { dropped = true })) (event.RunDropped p q)) next)
+begins-dropped w p q next o g r bb h =
+    subst (Stored (log (put_run (log w (event.CallBegun p (call.DropRun q))) q (record (run_of w q) { dropped = true }))
+    (event.RunDropped p q)) g) (sym (o g r)) (grind (arith, readies-push, spent-push))
+
+begins : (w : World) (p : ℕ) (here : Option Waker) (c : Call) →
     KeepsStored w [] (begun p (log w (event.CallBegun p c)) here c)
 begins w p here call.Spawn = begins-nothing w p call.Spawn (op.Table table_op.Enter ∷ []) (λ g. refl) (λ g r. refl)
 begins w p here call.TryTick = begins-nothing w p call.TryTick (op.Queue queue_op.Take ∷ []) (λ g. refl) (λ g r. refl)
@@ -154,10 +179,10 @@ begins w p here (call.DropWaker k) =
     (λ f. begins-used w p k (call.DropWaker k) (op.Move move.Release f ∷ op.End reply.Done hold.Nothing ∷ [])
     (λ g. refl) (λ g r. refl))
 begins w p here call.Keep =
-    begins-with w p call.Keep here _ (λ g. refl)
+    begins-with w p call.Keep (future_of here) _ (λ g. refl)
     (λ f. begins-nothing w p call.Keep (op.Waker (waker_op.CopyWaker f hold.Nothing) ∷ []) (λ g. refl) (λ g r. refl))
 begins w p here call.WakeSelf =
-    begins-with w p call.WakeSelf here _ (λ g. refl)
+    begins-with w p call.WakeSelf (future_of here) _ (λ g. refl)
     (λ f. begins-nothing w p call.WakeSelf (op.Move move.WakeByReference f ∷ op.End reply.Done hold.Nothing ∷ [])
     (λ g. refl) (λ g r. refl))
 begins w p here (call.PollHandle f b) =
@@ -169,13 +194,20 @@ begins w p here (call.PollTick t b) =
     (op.Tick (tick_op.Search
     (record {
       waker = waker_of here b;
-      tick = t;
+      who = sleeper.Tick t;
       poll = length (log w (event.CallBegun p (call.PollTick t b))).trace;
     })) ∷ []) (λ g. refl) (λ g. refl)
     (λ g. refl) (λ g r. refl)
 begins w p here (call.DropTick t) =
-    begins-told w p (call.DropTick t) (event.TickDropped p t) (op.Tick (tick_op.Leave t) ∷ []) (λ g. refl) (λ g. refl)
+    begins-told w p (call.DropTick t) (event.TickDropped p t)
+    (op.Tick (tick_op.Leave (sleeper.Tick t)) ∷ op.End reply.Done (hold.Tick t) ∷ []) (λ g. refl) (λ g. refl)
     (λ g. refl) (λ g r. refl)
+begins w p here call.NewRun = begins-nothing w p call.NewRun (op.Run run_op.MakeRoom ∷ []) (λ g. refl) (λ g r. refl)
+begins w p here (call.PollRun r b) =
+    begins-told w p (call.PollRun r b) (event.RunPolled p r) (poll_run (run_of w r).stage _) (λ g. refl) (λ g. refl)
+    (λ g. refl) (owes-poll (run_of w r).stage _)
+begins w p here (call.DropRun r) =
+    begins-dropped w p r (drop_run (run_of w r).stage r) (owes-drop (run_of w r).stage r)
 begins w p here (call.Cancel f) =
     begins-nothing w p (call.Cancel f) (op.Move move.Cancel f ∷ op.End reply.Done (hold.Handle f) ∷ []) (λ g. refl)
     (λ g r. refl)
@@ -198,8 +230,8 @@ stores-moves s p old rest d good l e (reacted o u a q z) h =
     rw z (stores-unsettled s p (o ∷ []) rest (react p o u s.world) l e2 good (stored-react p o u s.world a) h)
 stores-moves s p old rest d good l e (called c q r n z) h =
     let e2 : stack s p ≡ rest ++ reverse [] = subst (λ (os : List Op). stack s p ≡ rest ++ reverse os) q e in
-    rw z (stores-unsettled s p [] rest (begun p (log s.world (event.CallBegun p c)) (polled_by (top (stack s p))) c) l
-    e2 good (begins s.world p (polled_by (top (stack s p))) c) h)
+    rw z (stores-unsettled s p [] rest (begun p (log s.world (event.CallBegun p c)) (mine (top (stack s p))) c) l
+    e2 good (begins s.world p (mine (top (stack s p))) c) h)
 
 stores-ends : (s : Machine) (p : ℕ) (a : Reply) (held : Hold) (below : List Op) → p < length s.parties →
     stack s p ≡ below ++ reverse (op.End a held ∷ []) → Stores s →

@@ -21,6 +21,7 @@ use Rattle.executor_model.specs.declared.op.ClosingOp.TheVariants as closing_op
 use Rattle.executor_model.specs.declared.op.HandleOp.TheVariants as handle_op
 use Rattle.task_moves.specs.declared.moves.owed.Move.TheVariants as move
 use Rattle.executor_model.specs.declared.op.QueueOp.TheVariants as queue_op
+use Rattle.executor_model.specs.declared.op.RunOp.{RunOp}
 use Rattle.executor_model.specs.declared.op.SleeperOp.TheVariants as sleeper_op
 use Rattle.executor_model.specs.declared.op.TableOp.TheVariants as table_op
 use Rattle.executor_model.specs.declared.op.TickOp.TheVariants as tick_op
@@ -29,10 +30,12 @@ use Rattle.executor_model.specs.declared.op.WakerOp.TheVariants as waker_op
 use Rattle.executor_model.specs.declared.step.Hint.{Hint}
 use Rattle.executor_model.specs.World.{World, done, log, log_if, task, awaiter_of, among}
 use Rattle.executor_model.specs.Carried.{carried}
-use Rattle.executor_model.specs.Acts.{append_by, take_by, enter_by, take_to_poll, put_back, take_to_drop, leave_by}
+use Rattle.executor_model.specs.Acts.{append_by, take_by, enter_by, take_to_poll, put_back, take_to_drop}
+use Rattle.executor_model.specs.Acts.{leave_by}
 use Rattle.executor_model.specs.Acts.{begin_drop, begin_drop_output, copy_by, polled, look_by, look_again_by}
 use Rattle.executor_model.specs.Acts.{copy_awaiter_by, register_by, end_register_by, notify_by, call_awaiter}
-use Rattle.executor_model.specs.Acts.{closing_ops, drop_next_by, wake_next_by, close, drain_by, act}
+use Rattle.executor_model.specs.Acts.{closing_ops, drop_next_by, wake_next_by, close, drain_by}
+use Rattle.executor_model.specs.Doing.{act}
 use Rattle.executor_model.specs.Weights.{same, weigh, past, waker_past}
 use Rattle.executor_model.specs.Good.{pasts, IsKnownWaker}
 use Rattle.executor_model.specs.Rows.{past_of}
@@ -47,7 +50,8 @@ use Rattle.executor_model.proofs.Counting.{waits_on, end_registered, end_notifie
 use Rattle.executor_model.proofs.Stories.{story, story-push, times-except, length-except, among_is}
 use Rattle.executor_model.proofs.Leaving.{KeepsLeaves}
 use Rattle.executor_model.proofs.SleepersLeaving.{leaves-exchange, leaves-hand_out, leaves-call_sleeper}
-use Rattle.executor_model.proofs.SleepersLeaving.{leaves-make_tick, leaves-search, leaves-copy_sleeper}
+use Rattle.executor_model.proofs.RunsLeaving.{leaves-list, leaves-run, leaves-search_who, leaves-steal}
+use Rattle.executor_model.proofs.SleepersLeaving.{leaves-make_tick, leaves-copy_sleeper}
 use Rattle.executor_model.proofs.SleepersLeaving.{leaves-lie_down, leaves-get_up, leaves-leave_sleepers}
 
 leaves-append : (b : Bool) (w : World) (f : ℕ) → (b ≡ false → w.queue.closed ≡ true) →
@@ -629,14 +633,19 @@ leaves-act p h (op.Waker (waker_op.CallAwaiter f a k)) w n u z m = leaves-call p
 leaves-act p h (op.Sleeper sleeper_op.ExchangeFlag) w n u z m = leaves-exchange _ w
 leaves-act p h (op.Sleeper sleeper_op.HandOut) w n u z m = leaves-hand_out _ _ w
 leaves-act p h (op.Sleeper (sleeper_op.CallSleeper s)) w n u z m =
-    leaves-call_sleeper p s.tick s.poll s.waker w (known_waker w s.waker 0 (omega (arith, z)))
+    leaves-call_sleeper p s.who s.poll s.waker w (known_waker w s.waker 0 (omega (arith, z)))
 leaves-act p h (op.Tick tick_op.MakeTick) w n u z m = leaves-make_tick _ w
-leaves-act p h (op.Tick (tick_op.Search s)) w n u z m = leaves-search _ _ w s refl
+leaves-act p h (op.Tick (tick_op.Search s)) w n u z m = leaves-search_who s.who w s refl
 leaves-act p h (op.Tick (tick_op.CopyWaker s)) w n u z m =
-    leaves-copy_sleeper _ s.waker s.tick s.poll w (known_waker w s.waker 0 (omega (arith, z)))
+    leaves-copy_sleeper _ s.waker s.who s.poll w (known_waker w s.waker 0 (omega (arith, z)))
 leaves-act p h (op.Tick (tick_op.LieDown s)) w n u z m = leaves-lie_down _ w s
-leaves-act p h (op.Tick (tick_op.GetUp t f)) w n u z m = leaves-get_up _ w t f
+leaves-act p h (op.Tick (tick_op.GetUp t)) w n u z m = leaves-get_up _ w t
 leaves-act p h (op.Tick (tick_op.Leave t)) w n u z m = leaves-leave_sleepers _ w t
+leaves-act p h (op.List o) w n u z m = leaves-list h o w
+leaves-act p h (op.Steal o) w n u z m = leaves-steal p o w
+leaves-act p h (op.Run o) w n u z m = leaves-run p h o w (λ x e.
+    (let y = ap (λ (a : RunOp). past_of (length w.tasks) (op.Run a)) e in
+    known_waker w x.waker 0 (omega (arith, y, z))))
 leaves-act p h (op.Closing closing_op.TakeOut) w n u z m = leaves-take_out _ _ w refl
 leaves-act p h (op.Closing closing_op.DropNext) w n u z m = leaves-drop_first p w _ refl
 leaves-act p h (op.Closing closing_op.WakeNext) w n u z m = leaves-wake_first p w _ refl (first_known w u)

@@ -3,6 +3,7 @@ use Rattle.std.proofs.Common.{◌≡◌, ℕ, zero, suc, ◌+◌, ◌<◌, ◌�
 use Rattle.std.proofs.Common.{Bool, true, false, ◌&&◌, ◌||◌, not, refl, sym, ap, ◌∙◌, subst, inl, ⊎_elim, arith}
 use Rattle.std.proofs.lemmas.Bool.Decides.{nat_tests}
 use Rattle.std.specs.Prelude.{Option, Some, None, reverse, nat_lt}
+use Rattle.executor_model.specs.declared.op.Waker.{Waker}
 use Rattle.executor_model.specs.declared.call.Call.{Call}
 use Rattle.executor_model.specs.declared.call.Call.TheVariants as call
 use Rattle.executor_model.specs.declared.call.Reply.{Reply}
@@ -18,6 +19,9 @@ use Rattle.executor_model.specs.declared.op.ClosingOp.TheVariants as closing_op
 use Rattle.executor_model.specs.declared.op.HandleOp.TheVariants as handle_op
 use Rattle.task_moves.specs.declared.moves.owed.Move.TheVariants as move
 use Rattle.executor_model.specs.declared.op.QueueOp.TheVariants as queue_op
+use Rattle.executor_model.specs.declared.op.RunOp.TheVariants as run_op
+use Rattle.executor_model.specs.declared.op.RunPoll.{RunPoll}
+use Rattle.executor_model.specs.declared.op.Sleeper.TheVariants as sleeper
 use Rattle.executor_model.specs.declared.op.TableOp.TheVariants as table_op
 use Rattle.executor_model.specs.declared.op.TickOp.TheVariants as tick_op
 use Rattle.executor_model.specs.declared.op.UserOp.TheVariants as user_op
@@ -25,15 +29,15 @@ use Rattle.executor_model.specs.declared.op.WakerOp.TheVariants as waker_op
 use Rattle.executor_model.specs.declared.step.Step.{Step}
 use Rattle.executor_model.specs.declared.step.UserEnd.{UserEnd}
 use Rattle.executor_model.specs.declared.step.UserEnd.TheVariants as end
-use Rattle.executor_model.specs.World.{World, Done, done, log, among}
-use Rattle.executor_model.specs.Acts.{act}
+use Rattle.executor_model.specs.World.{World, Stage, New, Listed, Ended, Run, Done, done, log, among, run_of}
+use Rattle.executor_model.specs.Doing.{act}
 use Rattle.executor_model.specs.Weights.{weigh, weigh_all, same}
-use Rattle.executor_model.specs.Sound.{Pend, pend, with_ops, times}
+use Rattle.executor_model.specs.Sound.{Pend, pend, with_ops, queued, times}
 use Rattle.executor_model.specs.Rows as rows
 use Rattle.executor_model.specs.Good.{Good}
-use Rattle.executor_model.specs.Steps.{Machine, stack, idle, run, start, polled_by, top, is_free, has_all}
+use Rattle.executor_model.specs.Steps.{Machine, stack, idle, run, start, mine, top, is_free, has_all}
 use Rattle.executor_model.specs.Steps.{is_on_executor, is_drop, is_unused, is_unborrowed, accepts, begun}
-use Rattle.executor_model.specs.Steps.{react, used_up, with_future, kept, waker_of}
+use Rattle.executor_model.specs.Steps.{react, used_up, with_future, future_of, kept, waker_of, poll_run, drop_run}
 use Rattle.executor_model.specs.Rows.{borrowing_of, waiting_of, polls_of, ending_of, ready_of, settling_of, giving_of}
 use Rattle.executor_model.specs.Rows.{drops_of, releases_of, copies_of, ousting_of, past_of, leaves_of}
 use Rattle.executor_model.proofs.Cases.{by_bool}
@@ -115,8 +119,8 @@ waits-here s p f rest g l e =
     omega (arith, split (waiting_of g) s.parties p (op.Queue (queue_op.Append f) ∷ []) rest l e)
 
 stands-once : (w : World) (g f : ℕ) (p : Pend) (st : ℕ) → same g f ≤ p.waiting →
-    times g w.queue.items + (p.waiting + (p.polls + (p.ending + (p.ready + (p.closing + (p.settling + p.giving))))))
-    ≤ 1 → (1 ≤ times g w.queue.items + (p.waiting + (p.polls + p.ending)) → 1 ≤ st) →
+    queued w g + (p.waiting + (p.polls + (p.ending + (p.ready + (p.closing + (p.settling + p.giving))))))
+    ≤ 1 → (1 ≤ queued w g + (p.waiting + (p.polls + p.ending)) → 1 ≤ st) →
     same g f + times g w.queue.items ≤ st
 stands-once w g f p st a o r = grind arith
 
@@ -176,6 +180,9 @@ keeps-react p (op.User (user_op.Poll f)) (end.Polled answer.Ready) w a = leaves-
 keeps-react p (op.User (user_op.Drop f)) end.Done w a = λ g r yy bb h. h
 keeps-react p (op.User (user_op.DropOutput f)) end.Done w a = λ g r yy bb h. h
 keeps-react p (op.User (user_op.CallOutside x)) end.Done w a = λ g r yy bb h. h
+keeps-react p (op.User (user_op.PollOwn x)) (end.Polled answer.Pending) w a = λ g r yy bb h. h
+keeps-react p (op.User (user_op.PollOwn x)) (end.Polled answer.Ready) w a = λ g r yy bb h. h
+keeps-react p (op.User (user_op.DropOwn t)) end.Done w a = λ g r yy bb h. h
 keeps-react p _ _ w a = absurd (cc)
 
 -- the beginning of a call
@@ -209,8 +216,27 @@ begins-search : (w : World) (p : ℕ) (c : Call) (t : ℕ) (x : Sleeping) →
 begins-search w p c t x g r yy bb h = grind (arith, story-push)
 
 begins-leave : (w : World) (p : ℕ) (c : Call) (t : ℕ) →
-    KeepsLeaves w [] (done (log (log w (event.CallBegun p c)) (event.TickDropped p t)) (op.Tick (tick_op.Leave t) ∷ []))
+    KeepsLeaves w [] (done (log (log w (event.CallBegun p c)) (event.TickDropped p t))
+    (op.Tick (tick_op.Leave (sleeper.Tick t)) ∷
+    op.End reply.Done (hold.Tick t) ∷ []))
 begins-leave w p c t g r yy bb h = grind (arith, story-push)
+
+begins-room : (w : World) (p : ℕ) →
+    KeepsLeaves w [] (done (log w (event.CallBegun p call.NewRun)) (op.Run run_op.MakeRoom ∷ []))
+begins-room w p g r yy bb h = grind (arith, story-push)
+
+begins-poll_run : (t : Stage) (w : World) (p : ℕ) (c : Call) (q : ℕ) (x : RunPoll) →
+    KeepsLeaves w [] (done (log (log w (event.CallBegun p c)) (event.RunPolled p q)) (poll_run t x))
+begins-poll_run New w p c q x g r yy bb h = grind (arith, story-push)
+begins-poll_run Listed w p c q x g r yy bb h = grind (arith, story-push)
+begins-poll_run Ended w p c q x g r yy bb h = grind (arith, story-push)
+
+begins-drop_run : (t : Stage) (w : World) (p : ℕ) (c : Call) (rs : List Run) (q : ℕ) →
+    KeepsLeaves w [] (done (log (record (log w (event.CallBegun p c)) { runs = rs }) (event.RunDropped p q))
+    (drop_run t q))
+begins-drop_run New w p c rs q g r yy bb h = grind (arith, story-push)
+begins-drop_run Listed w p c rs q g r yy bb h = grind (arith, story-push)
+begins-drop_run Ended w p c rs q g r yy bb h = grind (arith, story-push)
 
 begins-wake : (w : World) (p k f : ℕ) (c : Call) →
     KeepsLeaves w [] (done (used_up (log w (event.CallBegun p c)) k)
@@ -236,7 +262,8 @@ begins-drop : (w : World) (p : ℕ) (c : Call) (g : ℕ) (r : Pend) (y : Extra) 
     (with_extra g (op.Closing closing_op.TakeOut ∷ op.End reply.Done hold.Nothing ∷ []) y)
 begins-drop w p c g r y n z bb h = grind (arith, story-push)
 
-begins : (s : Machine) (w : World) (p : ℕ) (ss others : List (List Op)) (o : Option Op) (here : Option ℕ) (c : Call) →
+begins : (s : Machine) (w : World) (p : ℕ) (ss others : List (List Op)) (o : Option Op) (here : Option Waker)
+    (c : Call) →
     others ≡ ss → bare_all ss ≡ 0 → not (w.gone && is_on_executor c) ≡ true →
     (not (is_drop c) || is_unused borrowing_of ss) ≡ true →
     KeepsHere w [] (begun p (log w (event.CallBegun p c)) here c) others
@@ -256,11 +283,11 @@ begins s w p ss others o here (call.Copy k) q z on un g =
 begins s w p ss others o here (call.DropWaker k) q z on un g =
     begins-with w p (call.DropWaker k) (kept w k) _ (λ f. begins-release w p k f (call.DropWaker k)) g _ _
 begins s w p ss others o here call.Keep q z on un g =
-    begins-with w p call.Keep here _
+    begins-with w p call.Keep (future_of here) _
     (λ f. begins-list w p call.Keep (op.Waker (waker_op.CopyWaker f hold.Nothing) ∷ []) (λ g r. refl) (λ g r. refl)) g
     _ _
 begins s w p ss others o here call.WakeSelf q z on un g =
-    begins-with w p call.WakeSelf here _
+    begins-with w p call.WakeSelf (future_of here) _
     (λ f. begins-list w p call.WakeSelf (op.Move move.WakeByReference f ∷ op.End reply.Done hold.Nothing ∷ [])
     (λ g r. refl) (λ g r. refl)) g _ _
 begins s w p ss others o here (call.PollHandle f b) q z on un g =
@@ -281,10 +308,20 @@ begins s w p ss others o here (call.PollTick t b) q z on un g =
     begins-search w p (call.PollTick t b) t
     (record {
       waker = waker_of here b;
-      tick = t;
+      who = sleeper.Tick t;
       poll = length (log w (event.CallBegun p (call.PollTick t b))).trace;
     }) g _ _
 begins s w p ss others o here (call.DropTick t) q z on un g = begins-leave w p (call.DropTick t) t g _ _
+begins s w p ss others o here call.NewRun q z on un g = begins-room w p g _ _
+begins s w p ss others o here (call.PollRun t b) q z on un g =
+    begins-poll_run (run_of w t).stage w p (call.PollRun t b) t
+    (record {
+      run = t;
+      waker = waker_of here b;
+      poll = length (log w (event.CallBegun p (call.PollRun t b))).trace;
+    }) g _ _
+begins s w p ss others o here (call.DropRun t) q z on un g =
+    begins-drop_run (run_of w t).stage w p (call.DropRun t) _ t g _ _
 begins s w p ss others o here call.DropExecutor q z on un g =
     let n : w.gone ≡ false = open_executor w call.DropExecutor refl on in
     let b : weigh_all borrowing_of ss ≡ 0 = unborrowed (weigh_all borrowing_of ss) un in
@@ -313,10 +350,10 @@ placed-moves s p old rest d good l e (called c q r n z) placed =
     (not (s.world.gone && is_on_executor c)) (not (is_drop c) || is_unborrowed s.world s.parties) n in
     let own : set s.parties p rest ≡ s.parties = ap (set s.parties p) r ∙ set-own s.parties p l in
     rw z (placed-unsettled s p [] rest l e2
-    (begun p (log s.world (event.CallBegun p c)) (polled_by (top (stack s p))) c) good
-    (begins s s.world p s.parties (set s.parties p rest) (top (stack s p)) (polled_by (top (stack s p))) c own
+    (begun p (log s.world (event.CallBegun p c)) (mine (top (stack s p))) c) good
+    (begins s s.world p s.parties (set s.parties p rest) (top (stack s p)) (mine (top (stack s p))) c own
     placed.bare f.2 (unused c s.world s.parties f.3))
-    (tidy-begun p (log s.world (event.CallBegun p c)) (polled_by (top (stack s p))) c) placed)
+    (tidy-begun p (log s.world (event.CallBegun p c)) (mine (top (stack s p))) c) placed)
 
 module _ (s : Machine) (p : ℕ) (a : Reply) (held : Hold) (below : List Op) (l : p < length s.parties)
     (e : stack s p ≡ below ++ reverse (op.End a held ∷ [])) where

@@ -16,7 +16,8 @@ use Rattle.executor_model.specs.declared.step.Step.TheVariants.{Go}
 use Rattle.executor_model.specs.declared.step.StepError.{StepError}
 use Rattle.executor_model.specs.declared.step.StepError.TheVariants.{NoSuch}
 use Rattle.executor_model.specs.Trace.{Trace}
-use Rattle.executor_model.specs.Acts.{act, emptiness}
+use Rattle.executor_model.specs.Acts.{emptiness}
+use Rattle.executor_model.specs.Doing.{act}
 use Rattle.executor_model.specs.Rows.{borrowing_of}
 use Rattle.executor_model.specs.Sound.{times}
 use Rattle.executor_model.specs.Good.{Good}
@@ -36,8 +37,8 @@ look-trace : (s : Machine) (p : ℕ) (h : Hint) → p < length s.parties → Loo
 unfolding step
 look-trace s p h l e =
     let r : refusal s (Go p h) ≡ None =
-    ap (λ (b : Bool). unless b NoSuch (go_refusal (top (stack s p))))
-    (let z : nat_lt p (length s.parties) ≡ true = grind (arith, nat_tests) in z) ∙ ap go_refusal e in
+    ap (λ (b : Bool). unless b NoSuch (go_refusal s.world (top (stack s p))))
+    (let z : nat_lt p (length s.parties) ≡ true = grind (arith, nat_tests) in z) ∙ ap (go_refusal s.world) e in
     ap (λ (x : Option StepError). (stepped s (step_by x s (Go p h))).world.trace) r
     ∙ (ap (λ (o : Option Op). (gone_on p s.world (stack s p) o (λ x. act p h x s.world)).world.trace) e
     ∙ ended-trace p s.world (below_top (stack s p) ++ op.End (emptiness s.world.table) hold.Executor ∷ [])

@@ -8,6 +8,7 @@ use Rattle.executor_model.specs.declared.op.Waker.{Waker}
 use Rattle.executor_model.specs.declared.op.Waker.TheVariants.{Task, Outside}
 use Rattle.executor_model.specs.declared.op.Op.{Op}
 use Rattle.executor_model.specs.declared.op.Op.TheVariants as op
+use Rattle.executor_model.specs.declared.op.RunOp.TheVariants as run_op
 use Rattle.executor_model.specs.declared.op.SleeperOp.TheVariants as sleeper_op
 use Rattle.executor_model.specs.declared.op.TickOp.TheVariants as tick_op
 use Rattle.executor_model.specs.declared.op.ClosingOp.TheVariants as closing_op
@@ -120,4 +121,6 @@ needs s p (op.Sleeper (sleeper_op.CallSleeper a)) h e good =
     can_wake s a.waker good (omega (arith, speaks s p (op.Sleeper (sleeper_op.CallSleeper a)) h e good))
 needs s p (op.Tick (tick_op.CopyWaker a)) h e good =
     known_waker s a.waker (omega (arith, speaks s p (op.Tick (tick_op.CopyWaker a)) h e good))
+needs s p (op.Run (run_op.WakeOwn x)) h e good =
+    can_wake s x.waker good (omega (arith, speaks s p (op.Run (run_op.WakeOwn x)) h e good))
 needs s p _ h e good = tt

@@ -25,7 +25,8 @@ use Rattle.executor_model.specs.declared.op.WakerOp.TheVariants as waker_op
 use Rattle.executor_model.specs.declared.step.Hint.{Hint}
 use Rattle.executor_model.specs.World.{World, Done, done, log, log_if, task, put, put_awaiter, awaiter_of}
 use Rattle.executor_model.specs.Carried.{carried}
-use Rattle.executor_model.specs.Acts.{append_by, take_by, enter_by, entered, leave_by, copy_by, polled, look_by}
+use Rattle.executor_model.specs.Acts.{append_by, take_by, enter_by, entered, leave_by, copy_by}
+use Rattle.executor_model.specs.Acts.{polled, look_by}
 use Rattle.executor_model.specs.Acts.{look_again_by, copied, copy_awaiter_by, register_by, waker_goes, let_go}
 use Rattle.executor_model.specs.Acts.{end_register_by, notify_by, told, end_notify, call_awaiter, closing_ops}
 use Rattle.executor_model.specs.Acts.{drop_next_by, followed, wake, wake_next_by, drain_by, begin_drop_output}
@@ -61,7 +62,7 @@ keeps-after w v old d c k =
           };
     }
 
-keeps-followed : (w : World) (old : List Op) (d : Done) (more : List Op) → KeepsOutput w old d →
+pub keeps-followed : (w : World) (old : List Op) (d : Done) (more : List Op) → KeepsOutput w old d →
     ((g : ℕ) → weigh (outs_of g) more ≡ 0) → KeepsOutput w old (followed d more)
 keeps-followed w old d more k z = record { keeps = λ g r h. subst (Given d.world g) (longer g r) (k.keeps g r h) }
   where

@@ -2,6 +2,7 @@
 use Rattle.std.proofs.Common.{◌≡◌, ℕ, ◌<◌, List, [], ◌∷◌, length, Bool, true, false, ◌||◌, not, refl, ap, arith}
 use Rattle.std.specs.Prelude.{Option, Some, None}
 use Rattle.task_moves.specs.Moves as moves
+use Rattle.executor_model.specs.declared.op.Waker.{Waker}
 use Rattle.executor_model.specs.declared.call.Call.{Call}
 use Rattle.executor_model.specs.declared.call.Call.TheVariants as call
 use Rattle.executor_model.specs.declared.event.Answer.TheVariants as answer
@@ -19,11 +20,12 @@ use Rattle.executor_model.specs.declared.op.WakerOp.TheVariants as waker_op
 use Rattle.executor_model.specs.declared.step.Hint.{Hint}
 use Rattle.executor_model.specs.declared.step.UserEnd.{UserEnd}
 use Rattle.executor_model.specs.declared.step.UserEnd.TheVariants as end
-use Rattle.executor_model.specs.World.{World, Done, done, log, task}
-use Rattle.executor_model.specs.Acts.{take_out, act}
+use Rattle.executor_model.specs.World.{World, Done, done, log, put_run, run_of, task}
+use Rattle.executor_model.specs.Acts.{take_out}
+use Rattle.executor_model.specs.Doing.{act}
 use Rattle.executor_model.specs.Weights.{weigh, past}
 use Rattle.executor_model.specs.Rows.{past_of}
-use Rattle.executor_model.specs.Steps.{used_up, with_future, kept, accepts, begun, react}
+use Rattle.executor_model.specs.Steps.{used_up, with_future, future_of, kept, accepts, begun, react}
 use Rattle.executor_model.proofs.Lists.{past_is}
 use Rattle.executor_model.proofs.Outputs.{output_of, outs_of, KeepsOutput, keeps-calm, calm-same, calm-log}
 use Rattle.executor_model.proofs.Outputs.{keeps-carried, tame-wake, tame-release, tame-take_up}
@@ -33,6 +35,8 @@ use Rattle.executor_model.proofs.OutputActs.{out-append, out-begin_drop_output, 
 use Rattle.executor_model.proofs.OutputActs.{out-detach, out-drain, out-drop_next, out-end_notify, out-end_ready}
 use Rattle.executor_model.proofs.OutputActs.{out-end_register, out-enter, out-leave, out-look, out-notify}
 use Rattle.executor_model.proofs.OutputActs.{out-register, out-take, out-wake, out-wake_next}
+use Rattle.executor_model.proofs.RunsOutputs.{out-list, out-run, out-steal, unseen-outs}
+use Rattle.executor_model.proofs.RunsWays.{of-drop, of-poll}
 use Rattle.executor_model.proofs.SleepersOutputs.{out-sleeper, out-tick}
 
 -- what it needs beside
@@ -92,6 +96,9 @@ out-act p h (op.Handle (handle_op.EndNotify f mine)) w z n = out-end_notify h w 
 out-act p h (op.Waker (waker_op.CallAwaiter f a k)) w z n = out-call p w f a k
 out-act p h (op.Sleeper o) w z n = out-sleeper p o w
 out-act p h (op.Tick o) w z n = out-tick h o w
+out-act p h (op.List o) w z n = out-list h o w
+out-act p h (op.Steal o) w z n = out-steal p o w
+out-act p h (op.Run o) w z n = out-run p h o w
 out-act p h (op.Closing closing_op.TakeOut) w z n =
     keeps-calm w _ (take_out w) (calm-same w _ refl refl) (λ g. none-closing g w.table w.waking)
 out-act p h (op.Closing closing_op.DropNext) w z n = out-drop_next p w _
@@ -109,6 +116,9 @@ out-react p (op.User (user_op.Poll f)) (end.Polled answer.Ready) w a = keeps-log
 out-react p (op.User (user_op.Drop f)) end.Done w a = keeps-same w _ _ (λ g. refl)
 out-react p (op.User (user_op.DropOutput f)) end.Done w a = keeps-same w _ _ (λ g. refl)
 out-react p (op.User (user_op.CallOutside x)) end.Done w a = keeps-same w _ _ (λ g. refl)
+out-react p (op.User (user_op.PollOwn x)) (end.Polled answer.Pending) w a = keeps-same w _ _ (λ g. refl)
+out-react p (op.User (user_op.PollOwn x)) (end.Polled answer.Ready) w a = keeps-same w _ _ (λ g. refl)
+out-react p (op.User (user_op.DropOwn r)) end.Done w a = keeps-same w _ _ (λ g. refl)
 out-react p _ _ w a = absurd (cc)
 
 -- the beginning of a call
@@ -134,7 +144,7 @@ out-with : (w : World) (p : ℕ) (c : Call) (r : Option ℕ) (d : ℕ → Done) 
 out-with w p c None d k = out-begin w p c [] (λ g. refl)
 out-with w p c (Some f) d k = k f
 
-pub out-begun : (p : ℕ) (w : World) (here : Option ℕ) (c : Call) →
+pub out-begun : (p : ℕ) (w : World) (here : Option Waker) (c : Call) →
     KeepsOutput w [] (begun p (log w (event.CallBegun p c)) here c)
 out-begun p w here call.Spawn = out-begin w p call.Spawn _ (λ g. refl)
 out-begun p w here call.TryTick = out-begin w p call.TryTick _ (λ g. refl)
@@ -147,13 +157,23 @@ out-begun p w here (call.Copy k) =
     out-with w p (call.Copy k) (kept w k) _ (λ f. out-begin w p (call.Copy k) _ (λ g. refl))
 out-begun p w here (call.DropWaker k) =
     out-with w p (call.DropWaker k) (kept w k) _ (λ f. out-used w p k (call.DropWaker k) _ (λ g. refl))
-out-begun p w here call.Keep = out-with w p call.Keep here _ (λ f. out-begin w p call.Keep _ (λ g. refl))
-out-begun p w here call.WakeSelf = out-with w p call.WakeSelf here _ (λ f. out-begin w p call.WakeSelf _ (λ g. refl))
+out-begun p w here call.Keep = out-with w p call.Keep (future_of here) _ (λ f. out-begin w p call.Keep _ (λ g. refl))
+out-begun p w here call.WakeSelf =
+    out-with w p call.WakeSelf (future_of here) _ (λ f. out-begin w p call.WakeSelf _ (λ g. refl))
 out-begun p w here (call.PollHandle f b) = out-begin w p (call.PollHandle f b) _ (λ g. refl)
 out-begun p w here call.NewTick = out-begin w p call.NewTick _ (λ g. refl)
 out-begun p w here (call.PollTick t b) = out-told w p (call.PollTick t b) (event.TickPolled p t) _ (λ g. refl)
     (λ g. refl)
 out-begun p w here (call.DropTick t) = out-told w p (call.DropTick t) (event.TickDropped p t) _ (λ g. refl) (λ g. refl)
+out-begun p w here call.NewRun = out-begin w p call.NewRun _ (λ g. refl)
+out-begun p w here (call.PollRun r b) = out-told w p (call.PollRun r b) (event.RunPolled p r) _ (λ g. refl)
+    (λ g. of-poll (run_of w r).stage _ (outs_of g) (unseen-outs g))
+out-begun p w here (call.DropRun r) =
+    let v = log w (event.CallBegun p (call.DropRun r)) in
+    keeps-after w v [] _ (calm-log w _ (λ g. refl))
+    (keeps-after v (put_run v r (record (run_of w r) { dropped = true })) [] _ (calm-same _ _ refl refl)
+    (keeps-log (put_run v r (record (run_of w r) { dropped = true })) (event.RunDropped p r) [] _ (λ g. refl)
+    (λ g. of-drop (run_of w r).stage r (outs_of g) (unseen-outs g))))
 out-begun p w here (call.Cancel f) = out-begin w p (call.Cancel f) _ (λ g. refl)
 out-begun p w here (call.Detach f) = out-begin w p (call.Detach f) _ (λ g. refl)
 out-begun p w here (call.DropHandle f) = out-begin w p (call.DropHandle f) _ (λ g. refl)

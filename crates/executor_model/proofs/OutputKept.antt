@@ -138,8 +138,8 @@ module _ (s : Machine) (p f x : ℕ) (l : p < length s.parties) (e : stack s p �
       grind (arith, nat_tests)
 
   goes-on : (t : Hint) → refusal (polling s p f x) (Go p t) ≡ None
-  goes-on t = ap (λ (b : Bool). unless b NoSuch (go_refusal (top (stack (polling s p f x) p)))) there
-      ∙ ap (λ (os : List Op). go_refusal (top os)) looking
+  goes-on t = ap (λ (b : Bool). unless b NoSuch (go_refusal s.world (top (stack (polling s p f x) p)))) there
+      ∙ ap (λ (os : List Op). go_refusal s.world (top os)) looking
 
   -- what the look finds
   finds : moves.poll (task s.world f) ≡ moves.moved (record (task s.world f) { closed = true })

@@ -15,7 +15,7 @@ use Rattle.executor_model.specs.Weights.{weigh, weigh_all}
 use Rattle.executor_model.specs.Sound.{Sound, pend}
 use Rattle.executor_model.specs.Good.{Good}
 use Rattle.executor_model.specs.Rows.{ready_of, past_of}
-use Rattle.executor_model.specs.Steps.{Machine, stack, idle, run, start, polled_by, top}
+use Rattle.executor_model.specs.Steps.{Machine, stack, idle, run, start, mine, top}
 use Rattle.executor_model.proofs.Lists.{weigh_all-push, same_is}
 use Rattle.executor_model.proofs.Lift.{split, unsettled, good-start}
 use Rattle.executor_model.proofs.Ways.{Way, along}
@@ -61,7 +61,7 @@ keeps-way s p old rest d good l e (acted h o q z) =
     (old-known s p (o ∷ []) rest l (subst (λ (os : List Op). stack s p ≡ rest ++ reverse os) q e) good)
     (needs-unready s p o rest l (subst (λ (os : List Op). stack s p ≡ rest ++ reverse os) q e) good)))
 keeps-way s p old rest d good l e (reacted o u a q z) = rw z (rw q (out-react p o u s.world a))
-keeps-way s p old rest d good l e (called c q r n z) = rw z (rw q (out-begun p s.world (polled_by (top (stack s p))) c))
+keeps-way s p old rest d good l e (called c q r n z) = rw z (rw q (out-begun p s.world (mine (top (stack s p))) c))
 
 gives-moves : (s : Machine) (p : ℕ) (old rest : List Op) (d : Done) → Good s → p < length s.parties →
     stack s p ≡ rest ++ reverse old → Way s p old rest d → Gives s → Gives (unsettled s p rest d)
@@ -72,7 +72,7 @@ gives-ends : (s : Machine) (p : ℕ) (a : Reply) (held : Hold) (below : List Op)
     Gives (unsettled s p below (done (log s.world (event.CallEnded p a)) []))
 gives-ends s p a held below l e h =
     gives-unsettled s p (op.End a held ∷ []) below _ l e
-    (out-act p (record { refused = false; same = false }) (op.End a held) s.world refl tt) h
+    (out-act p (record { refused = false; same = false; start = 0 }) (op.End a held) s.world refl tt) h
 
 none-owed : (g n : ℕ) → weigh_all (outs_of g) (idle n) ≡ 0
 none-owed g zero = refl

@@ -1,12 +1,12 @@
 -- A refused call changes nothing, and is refused for a reason.
-use Rattle.std.proofs.Common.{◌≡◌, ◌⊎◌, ℕ, ◌≤◌, List, [], ◌∷◌, ◌++◌, Bool, true, false, ◌||◌, not}
+use Rattle.std.proofs.Common.{◌≡◌, ◌⊎◌, ℕ, ◌+◌, ◌-◌, ◌≤◌, List, [], ◌∷◌, ◌++◌, Bool, true, false, ◌||◌, not}
 use Rattle.std.proofs.Common.{refl, sym, ap, ◌∙◌, inl, inr, ⊎_elim, arith}
 use Rattle.std.proofs.lemmas.Bool.Decides.{nat_tests}
 use Rattle.std.specs.List.{list_any}
 use Rattle.std.specs.Prelude.{Option, Some, None, nat_lt}
 use Rattle.task_moves.specs.Moves as moves
 use Rattle.task_moves.specs.Moves.{most_references, is_going}
-use Rattle.executor_parts.specs.Sleepers.{waker_at}
+use Rattle.executor_parts.specs.Sleepers.{Sleepers, waker_at}
 use Rattle.executor_model.specs.declared.call.Call.{Call}
 use Rattle.executor_model.specs.declared.call.Call.TheVariants as call
 use Rattle.executor_model.specs.declared.call.Reply.{Reply}
@@ -19,20 +19,38 @@ use Rattle.executor_model.specs.declared.op.Op.{Op}
 use Rattle.executor_model.specs.declared.op.Op.TheVariants as op
 use Rattle.executor_model.specs.declared.op.HandleOp.TheVariants as handle_op
 use Rattle.executor_model.specs.declared.op.Sleeping.{Sleeping}
+use Rattle.executor_model.specs.declared.op.ListOp.{ListOp}
+use Rattle.executor_model.specs.declared.op.ListOp.TheVariants as list_op
+use Rattle.executor_model.specs.declared.op.RunOp.{RunOp}
+use Rattle.executor_model.specs.declared.op.RunOp.TheVariants as run_op
+use Rattle.executor_model.specs.declared.op.RunPoll.{RunPoll}
+use Rattle.executor_model.specs.declared.op.Section.TheVariants as section
+use Rattle.executor_model.specs.declared.op.Sleeper.TheVariants as sleeper
+use Rattle.executor_model.specs.declared.op.UserOp.TheVariants as user_op
+use Rattle.executor_model.specs.declared.step.UserEnd.{UserEnd}
+use Rattle.executor_model.specs.declared.step.UserEnd.TheVariants as end
+use Rattle.executor_model.specs.declared.event.Answer.TheVariants as answer
 use Rattle.executor_model.specs.declared.op.TableOp.TheVariants as table_op
 use Rattle.executor_model.specs.declared.op.TickOp.TheVariants as tick_op
 use Rattle.executor_model.specs.declared.op.WakerOp.TheVariants as waker_op
 use Rattle.executor_model.specs.declared.step.Hint.{Hint}
 use Rattle.executor_model.specs.Acts as acts
-use Rattle.executor_model.specs.Acts.{act}
+use Rattle.executor_model.specs.ActsOfRuns as of_runs
+use Rattle.executor_model.specs.ActsOfSleepers as of_sleepers
+use Rattle.executor_model.specs.Doing.{act, list_act, run_act, search_by_who}
 use Rattle.executor_model.specs.Carried.{awaiter_ops}
 use Rattle.executor_model.specs.Memory.{may_refuse, refuses, takes_no_memory, AsksForNone}
-use Rattle.executor_model.specs.Refusals.{is_no_memory, ends_for_want, is_tick_poll, lies_down, IsFull}
+use Rattle.executor_model.specs.Refusals.{is_no_memory, ends_for_want, is_of_run, is_run_poll, is_search, lies_down}
+use Rattle.executor_model.specs.Refusals.{IsFull}
 use Rattle.executor_model.specs.Refusals.{CopiesOneTooMany, RefusedChangesNothing, IsWantToldOf}
-use Rattle.executor_model.specs.Steps.{begun, kept, with_future}
-use Rattle.executor_model.specs.World.{World, Tick, Up, Lies, Left, Done, done, task, tick_of}
+use Rattle.executor_model.specs.Steps.{begun, drop_run, future_of, kept, poll_run, react, with_future}
+use Rattle.executor_model.specs.declared.op.Sleeper.{Sleeper}
+use Rattle.executor_model.specs.World.{World, Place, Up, Lies, Left, Stage, New, Listed, Ended, Done, done, place_of}
+use Rattle.executor_model.specs.World.{run_of, task}
 use Rattle.executor_model.proofs.Unasking.{both, none-awaiter}
 use Rattle.executor_model.proofs.UnaskingGroups.{needs-no-memory}
+use Rattle.executor_model.proofs.RunsUntold.{Untold, untold-common, untold-look, untold-search, untold-steal}
+use Rattle.executor_model.proofs.RunsUntold.{untold-walk}
 
 not-both : (b : Bool) → b ≡ true → b ≡ false → ⊥
 not-both b e k = let no : true ≡ false = sym e ∙ k in absurd (cc)
@@ -77,72 +95,111 @@ module _ (p : ℕ) (w : World) where
   awaiter-unchanged true f a e = refl
   awaiter-unchanged false f a e = absurd (cc)
 
-  make-unchanged : (b : Bool) → list_any may_refuse (acts.make_tick_by b w).next ≡ true →
-      (acts.make_tick_by b w).world ≡ w
+  make-unchanged : (b : Bool) → list_any may_refuse (of_sleepers.make_tick_by b w).next ≡ true →
+      (of_sleepers.make_tick_by b w).world ≡ w
   make-unchanged true e = refl
   make-unchanged false e = absurd (cc)
 
-  search-unchanged : (x : Tick) (q : List ℕ) (s : Sleeping) → list_any may_refuse (acts.search_by x w q s).next ≡ true →
-      (acts.search_by x w q s).world ≡ w
+  search-unchanged : (x : Place) (q : List ℕ) (s : Sleeping) →
+      list_any may_refuse (of_sleepers.search_by x w q s).next ≡ true →
+      (of_sleepers.search_by x w q s).world ≡ w
   search-unchanged x [] s e = refl
   search-unchanged Up (f ∷ rest) s e = absurd (cc)
   search-unchanged (Lies n) (f ∷ rest) s e = absurd (cc)
   search-unchanged Left (f ∷ rest) s e = absurd (cc)
 
-  copies-unchanged : (b : Bool) (s : Sleeping) → list_any ends_for_want (acts.copy_sleeper_by b w s).next ≡ true →
-      (acts.copy_sleeper_by b w s).world ≡ w
+  copies-unchanged : (b : Bool) (s : Sleeping) →
+      list_any ends_for_want (of_sleepers.copy_sleeper_by b w s).next ≡ true →
+      (of_sleepers.copy_sleeper_by b w s).world ≡ w
   copies-unchanged true s e = refl
   copies-unchanged false s e = absurd (cc)
 
+  room-unchanged : (b : Bool) → list_any ends_for_want (of_runs.make_room_by b w).next ≡ true →
+      (of_runs.make_room_by b w).world ≡ w
+  room-unchanged true e = refl
+  room-unchanged false e = absurd (cc)
+
+  made-unchanged : (b : Bool) → list_any ends_for_want (of_runs.make_run_by b w).next ≡ true →
+      (of_runs.make_run_by b w).world ≡ w
+  made-unchanged true e = refl
+  made-unchanged false e = absurd (cc)
+
+  -- the room that was made is given back
+  returned : w.sleepers.count ≤ w.sleepers.rooms → (of_runs.return_room (of_runs.make_room_by false w).world).world ≡ w
+  returned e = by (nat_lt w.sleepers.count (w.sleepers.rooms + 1)) refl
+    where
+      same-room : w.sleepers.rooms + 1 - 1 ≡ w.sleepers.rooms
+      same-room = omega arith
+
+      by : (b : Bool) → nat_lt w.sleepers.count (w.sleepers.rooms + 1) ≡ b →
+          (let s : Sleepers Sleeping = elim b [
+            | true ↦ record w.sleepers { rooms = w.sleepers.rooms + 1 - 1 }
+            | false ↦ record w.sleepers { rooms = w.sleepers.rooms + 1 }
+          ] in record w { sleepers = s }) ≡ w
+      by true q = ap (λ (n : ℕ). record w { sleepers = record w.sleepers { rooms = n } }) same-room
+      by false q = absurd (grind (arith, nat_tests))
+
   -- all that lying down changes
   abbrev pub Lying : World → Type 0
-  Lying v = v ≡ record w { ticks = v.ticks; sleepers = v.sleepers; notified = v.notified }
+  Lying v = v ≡ record w { ticks = v.ticks; runs = v.runs; sleepers = v.sleepers; notified = v.notified }
 
-  anew-lies : (b : Bool) (s : Sleeping) → Lying (acts.lie_anew_by b w s).world
+  anew-lies : (b : Bool) (s : Sleeping) → Lying (of_sleepers.lie_anew_by b w s).world
   anew-lies true s = refl
   anew-lies false s = refl
 
-  listed-lies : (b : Bool) (n : ℕ) (s : Sleeping) → Lying (acts.lie_listed_by b w n s).world
+  listed-lies : (b : Bool) (n : ℕ) (s : Sleeping) → Lying (of_sleepers.lie_listed_by b w n s).world
   listed-lies true n s = refl
   listed-lies false n s = refl
 
-  again-lies : (o : Option ℕ) (n : ℕ) (s : Sleeping) → Lying (acts.lie_again_by o w n s).world
+  again-lies : (o : Option ℕ) (n : ℕ) (s : Sleeping) → Lying (of_sleepers.lie_again_by o w n s).world
   again-lies None n s = listed-lies _ n s
   again-lies (Some at) n s = refl
 
-  tick-lies : (x : Tick) (s : Sleeping) → Lying (acts.lie_down_by x w s).world
+  tick-lies : (x : Place) (s : Sleeping) → Lying (of_sleepers.lie_down_by x w s).world
   tick-lies Up s = anew-lies _ s
   tick-lies (Lies n) s = again-lies _ n s
   tick-lies Left s = refl
 
+  who-unchanged : (who : Sleeper) (s : Sleeping) → s.who ≡ who →
+      list_any may_refuse (search_by_who who w s).next ≡ true → is_run_poll who ≡ false →
+      (search_by_who who w s).world ≡ w
+  who-unchanged (sleeper.Tick t) s q e r = search-unchanged _ _ s e
+  who-unchanged (sleeper.Run x) s q e r = absurd (cc)
+
   unchanged : (h : Hint) (o : Op) → list_any may_refuse (act p h o w).next ≡ true → lies_down o ≡ false →
-      (act p h o w).world ≡ w
-  unchanged h (op.Table table_op.Enter) e n = enter-unchanged _ h.refused e
-  unchanged h (op.Waker (waker_op.CopyWaker f held)) e n = copy-unchanged _ f held e
-  unchanged h (op.Handle (handle_op.Look f a)) e n =
+      is_of_run o ≡ false → (act p h o w).world ≡ w
+  unchanged h (op.Table table_op.Enter) e n r = enter-unchanged _ h.refused e
+  unchanged h (op.Waker (waker_op.CopyWaker f held)) e n r = copy-unchanged _ f held e
+  unchanged h (op.Handle (handle_op.Look f a)) e n r =
       look-unchanged (task w f).closed (is_going (task w f)) (task w f).completed f a e
-  unchanged h (op.Handle (handle_op.CopyAwaiter f a)) e n = awaiter-unchanged _ f a e
-  unchanged h (op.Tick tick_op.MakeTick) e n = make-unchanged h.refused e
-  unchanged h (op.Tick (tick_op.Search s)) e n = search-unchanged _ _ s e
-  unchanged h (op.Tick (tick_op.CopyWaker s)) e n = absurd (cc)
-  unchanged h (op.Tick (tick_op.LieDown s)) e n = absurd (cc)
-  unchanged h (op.End r held) e n = absurd (cc)
-  unchanged h o e n = absurd (not-both _ e ((needs-no-memory w p).goes_on h o refl))
+  unchanged h (op.Handle (handle_op.CopyAwaiter f a)) e n r = awaiter-unchanged _ f a e
+  unchanged h (op.Tick tick_op.MakeTick) e n r = make-unchanged h.refused e
+  unchanged h (op.Tick (tick_op.Search s)) e n r = who-unchanged s.who s refl e r
+  unchanged h (op.Tick (tick_op.CopyWaker s)) e n r = absurd (cc)
+  unchanged h (op.Tick (tick_op.LieDown s)) e n r = absurd (cc)
+  unchanged h (op.User (user_op.PollOwn x)) e n r = absurd (cc)
+  unchanged h (op.List o) e n r = absurd (cc)
+  unchanged h (op.Steal o) e n r = absurd (cc)
+  unchanged h (op.Run o) e n r = absurd (cc)
+  unchanged h (op.End a held) e n r = absurd (cc)
+  unchanged h o e n r = absurd (not-both _ e ((needs-no-memory w p).goes_on h o refl))
 
   with-unchanged : (o : Option ℕ) (d : ℕ → Done) → ((f : ℕ) → (d f).world ≡ w) → (with_future w o d).world ≡ w
   with-unchanged (Some f) d k = k f
   with-unchanged None d k = refl
 
-  begins-unchanged : (here : Option ℕ) (c : Call) → takes_no_memory c ≡ false → is_tick_poll c ≡ false →
+  begins-unchanged : (here : Option Waker) (c : Call) → takes_no_memory c ≡ false → is_search c ≡ false →
       (begun p w here c).world ≡ w
   begins-unchanged here call.Spawn e n = refl
   begins-unchanged here (call.Copy k) e n =
       with-unchanged (kept w k) (λ f. done w (op.Waker (waker_op.CopyWaker f (hold.Waker k)) ∷ [])) (λ f. refl)
   begins-unchanged here call.Keep e n =
-      with-unchanged here (λ f. done w (op.Waker (waker_op.CopyWaker f hold.Nothing) ∷ [])) (λ f. refl)
+      with-unchanged (future_of here) (λ f. done w (op.Waker (waker_op.CopyWaker f hold.Nothing) ∷ [])) (λ f. refl)
   begins-unchanged here (call.PollHandle f b) e n = refl
   begins-unchanged here call.NewTick e n = refl
   begins-unchanged here (call.PollTick t b) e n = absurd (cc)
+  begins-unchanged here call.NewRun e n = refl
+  begins-unchanged here (call.PollRun r b) e n = absurd (cc)
   begins-unchanged here c e n = absurd (cc)
 
 -- refused for a reason
@@ -153,6 +210,9 @@ no-memory-refuses _ e = absurd (cc)
 
 want-refuses : (o : Op) → ends_for_want o ≡ true → may_refuse o ≡ true
 want-refuses (op.End r held) e = no-memory-refuses r e
+want-refuses (op.List (list_op.LockWrite (section.Unregister r a))) e = no-memory-refuses a e
+want-refuses (op.List (list_op.Write (section.Unregister r a))) e = no-memory-refuses a e
+want-refuses (op.Run (run_op.Reschedule r a)) e = no-memory-refuses a e
 want-refuses _ e = absurd (cc)
 
 refuses-first : (o : Op) (more : Bool) → ends_for_want o ≡ true → (may_refuse o || more) ≡ true
@@ -168,6 +228,21 @@ wants-refuse (o ∷ os) e = ⊎_elim
     (λ (k : ends_for_want o ≡ true). refuses-first o (list_any may_refuse os) k)
     (λ (k : list_any ends_for_want os ≡ true). or-right (may_refuse o) _ (wants-refuse os k))
     (or-cases (ends_for_want o) (list_any ends_for_want os) e)
+
+untold-want : Untold ends_for_want
+untold-want = record {
+  exchange = refl;
+  search = λ s. refl;
+  up = λ who. refl;
+  take_up = λ f. refl;
+  append = λ f. refl;
+  steal = λ o. refl;
+  common = λ x. refl;
+  look = λ x at left. refl;
+  own = λ x. refl;
+  lock = λ x. refl;
+  unlock = refl;
+}
 
 module _ (p : ℕ) (w : World) where
   enter-told : (full refused : Bool) → list_any ends_for_want (acts.enter_by full refused p w).next ≡ true →
@@ -208,51 +283,55 @@ module _ (p : ℕ) (w : World) where
   outside-told true f a e = refl
   outside-told false f a e = absurd (cc)
 
-  make-told : (b : Bool) → list_any ends_for_want (acts.make_tick_by b w).next ≡ true → b ≡ true
+  make-told : (b : Bool) → list_any ends_for_want (of_sleepers.make_tick_by b w).next ≡ true → b ≡ true
   make-told true e = refl
   make-told false e = absurd (cc)
 
-  search-told : (x : Tick) (q : List ℕ) (s : Sleeping) → list_any ends_for_want (acts.search_by x w q s).next ≡ true → ⊥
+  search-told : (x : Place) (q : List ℕ) (s : Sleeping) →
+      list_any ends_for_want (of_sleepers.search_by x w q s).next ≡ true → ⊥
   search-told x [] s e = absurd (cc)
   search-told Up (f ∷ rest) s e = absurd (cc)
   search-told (Lies n) (f ∷ rest) s e = absurd (cc)
   search-told Left (f ∷ rest) s e = absurd (cc)
 
-  anew-told : (b : Bool) (s : Sleeping) → list_any ends_for_want (acts.lie_anew_by b w s).next ≡ true → ⊥
+  anew-told : (b : Bool) (s : Sleeping) → list_any ends_for_want (of_sleepers.lie_anew_by b w s).next ≡ true → ⊥
   anew-told true s e = absurd (cc)
   anew-told false s e = absurd (cc)
 
-  listed-told : (b : Bool) (n : ℕ) (s : Sleeping) → list_any ends_for_want (acts.lie_listed_by b w n s).next ≡ true → ⊥
+  listed-told : (b : Bool) (n : ℕ) (s : Sleeping) →
+      list_any ends_for_want (of_sleepers.lie_listed_by b w n s).next ≡ true → ⊥
   listed-told true n s e = absurd (cc)
   listed-told false n s e = absurd (cc)
 
-  goes-told : (o : Option Sleeping) (t : ℕ) → list_any ends_for_want (acts.sleeper_goes o ++ acts.pend_tick t) ≡ true →
-      ⊥
+  goes-told : (o : Option Sleeping) (t : Sleeper) →
+      list_any ends_for_want (of_sleepers.sleeper_goes o ++ of_sleepers.pend_as t) ≡ true → ⊥
   goes-told None t e = absurd (cc)
   goes-told (Some s) t e = by s.waker e
     where
-      by : (a : Waker) → list_any ends_for_want (acts.waker_goes a ++ acts.pend_tick t) ≡ true → ⊥
+      by : (a : Waker) → list_any ends_for_want (acts.waker_goes a ++ of_sleepers.pend_as t) ≡ true → ⊥
       by (Task g) k = absurd (cc)
       by (Outside x) k = absurd (cc)
 
-  again-told : (o : Option ℕ) (n : ℕ) (s : Sleeping) → list_any ends_for_want (acts.lie_again_by o w n s).next ≡ true →
+  again-told : (o : Option ℕ) (n : ℕ) (s : Sleeping) →
+      list_any ends_for_want (of_sleepers.lie_again_by o w n s).next ≡ true →
       ⊥
   again-told None n s e = listed-told _ n s e
-  again-told (Some at) n s e = goes-told (waker_at (Some at) w.sleepers.wakers) s.tick e
+  again-told (Some at) n s e = goes-told (waker_at (Some at) w.sleepers.wakers) s.who e
 
-  lie-told : (x : Tick) (s : Sleeping) → list_any ends_for_want (acts.lie_down_by x w s).next ≡ true → ⊥
+  lie-told : (x : Place) (s : Sleeping) → list_any ends_for_want (of_sleepers.lie_down_by x w s).next ≡ true → ⊥
   lie-told Up s e = anew-told _ s e
   lie-told (Lies n) s e = again-told _ n s e
   lie-told Left s e = absurd (cc)
 
   copied-told : (refused small : Bool) (s : Sleeping) →
-      list_any ends_for_want (acts.copy_sleeper_by (refused || not small) w s).next ≡ true →
+      list_any ends_for_want (of_sleepers.copy_sleeper_by (refused || not small) w s).next ≡ true →
       (refused ≡ true) ⊎ (small ≡ false)
   copied-told true small s e = inl refl
   copied-told false true s e = absurd (cc)
   copied-told false false s e = inr refl
 
-  outside-copied-told : (refused : Bool) (s : Sleeping) → list_any ends_for_want (acts.copy_sleeper_by refused w s).next
+  outside-copied-told : (refused : Bool) (s : Sleeping) →
+      list_any ends_for_want (of_sleepers.copy_sleeper_by refused w s).next
       ≡ true → refused ≡ true
   outside-copied-told true s e = refl
   outside-copied-told false s e = absurd (cc)
@@ -260,61 +339,136 @@ module _ (p : ℕ) (w : World) where
   many : (n : ℕ) → nat_lt n most_references ≡ false → most_references ≤ n
   many n e = grind (arith, nat_tests)
 
-  sleeper-told : (h : Hint) (a : Waker) (t k : ℕ) →
-      list_any ends_for_want (acts.copy_sleeper h w (record { waker = a; tick = t; poll = k })).next ≡ true →
+  sleeper-told : (h : Hint) (a : Waker) (t : Sleeper) (k : ℕ) →
+      list_any ends_for_want (of_sleepers.copy_sleeper h w (record { waker = a; who = t; poll = k })).next ≡ true →
       (h.refused ≡ true) ⊎ IsFull a w
   sleeper-told h (Task g) t k e =
       ⊎_elim (λ (x : h.refused ≡ true). inl x)
       (λ (x : nat_lt (task w g).references most_references ≡ false). inr (many (task w g).references x))
       (copied-told h.refused (nat_lt (task w g).references most_references)
-      (record { waker = Task g; tick = t; poll = k }) e)
+      (record { waker = Task g; who = t; poll = k }) e)
   sleeper-told h (Outside x) t k e =
-      inl (outside-copied-told h.refused (record { waker = Outside x; tick = t; poll = k }) e)
+      inl (outside-copied-told h.refused (record { waker = Outside x; who = t; poll = k }) e)
 
-  told : (h : Hint) (o : Op) → list_any ends_for_want (act p h o w).next ≡ true →
+  who-told : (who : Sleeper) (s : Sleeping) → list_any ends_for_want (search_by_who who w s).next ≡ true → ⊥
+  who-told (sleeper.Tick t) s e = search-told _ w.queue.items s e
+  who-told (sleeper.Run r) s e =
+      not-both _ e (untold-search ends_for_want untold-want w (record { run = r; waker = s.waker; poll = s.poll }))
+
+  -- a call that isn't answered so goes on so
+  left-told : (a : Reply) → is_no_memory a ≡ false → (is_no_memory a || false) ≡ true → ⊥
+  left-told a n e = not-both _ e (ap (λ (x : Bool). x || false) n)
+
+  made-told : (b : Bool) → list_any ends_for_want (of_runs.make_run_by b w).next ≡ true → b ≡ true
+  made-told true e = refl
+  made-told false e = absurd (cc)
+
+  list-told : (h : Hint) (o : ListOp) → ends_for_want (op.List o) ≡ false →
+      list_any ends_for_want (list_act h o w).next ≡ true → h.refused ≡ true
+  list-told h (list_op.LockWrite section.MakeRun) n e = absurd (cc)
+  list-told h (list_op.LockWrite (section.Register x)) n e = absurd (cc)
+  list-told h (list_op.LockWrite (section.Unregister r a)) n e = absurd (left-told a n e)
+  list-told h (list_op.Write section.MakeRun) n e = made-told h.refused e
+  list-told h (list_op.Write (section.Register x)) n e = absurd (cc)
+  list-told h (list_op.Write (section.Unregister r a)) n e = absurd (left-told a n e)
+  list-told h list_op.UnlockWrite n e = absurd (cc)
+  list-told h (list_op.LockRead x) n e = absurd (not-both _ e
+      (untold-walk ends_for_want untold-want (λ s. refl) x _ _ _))
+  list-told h list_op.UnlockRead n e = absurd (cc)
+
+  room-told : (b : Bool) → list_any ends_for_want (of_runs.make_room_by b w).next ≡ true → b ≡ true
+  room-told true e = refl
+  room-told false e = absurd (cc)
+
+  reschedule-told : (q : List ℕ) (r : ℕ) (a : Reply) → is_no_memory a ≡ false →
+      list_any ends_for_want (of_runs.reschedule_by q w r a).next ≡ true → ⊥
+  reschedule-told [] r a n e = left-told a n e
+  reschedule-told (f ∷ rest) r a n e = left-told a n e
+
+  run-told : (h : Hint) (o : RunOp) → ends_for_want (op.Run o) ≡ false →
+      list_any ends_for_want (run_act p h o w).next ≡ true → h.refused ≡ true
+  run-told h run_op.MakeRoom n e = room-told h.refused e
+  run-told h run_op.ReturnRoom n e = absurd (cc)
+  run-told h (run_op.SearchCommon x) n e = absurd (not-both _ e (untold-common ends_for_want untold-want w x))
+  run-told h (run_op.LookOwn x at left) n e =
+      absurd (not-both _ e (untold-look ends_for_want untold-want (λ s. refl) w x at left))
+  run-told h (run_op.WakeOwn x) n e =
+      absurd
+      (not-both _ (wants-refuse (run_act p h (run_op.WakeOwn x) w).next e)
+      ((needs-no-memory w p).goes_on h (op.Run (run_op.WakeOwn x)) refl))
+  run-told h (run_op.Reschedule r a) n e = absurd (reschedule-told _ r a n e)
+
+  told : (h : Hint) (o : Op) → ends_for_want o ≡ false → list_any ends_for_want (act p h o w).next ≡ true →
       (h.refused ≡ true) ⊎ CopiesOneTooMany o w
-  told h (op.Table table_op.Enter) e = inl (enter-told _ h.refused e)
-  told h (op.Waker (waker_op.CopyWaker f held)) e =
+  told h (op.Table table_op.Enter) n e = inl (enter-told _ h.refused e)
+  told h (op.Waker (waker_op.CopyWaker f held)) n e =
       ⊎_elim (λ (x : h.refused ≡ true). inl x)
       (λ (x : nat_lt (task w f).references most_references ≡ false). inr (many (task w f).references x))
       (copy-told h.refused (nat_lt (task w f).references most_references) f held e)
-  told h (op.Handle (handle_op.Look f a)) e =
+  told h (op.Handle (handle_op.Look f a)) n e =
       absurd (look-told (task w f).closed (is_going (task w f)) (task w f).completed f a e)
-  told h (op.Handle (handle_op.CopyAwaiter f (Task g))) e =
+  told h (op.Handle (handle_op.CopyAwaiter f (Task g))) n e =
       ⊎_elim (λ (x : h.refused ≡ true). inl x)
       (λ (x : nat_lt (task w g).references most_references ≡ false). inr (many (task w g).references x))
       (awaiter-told h.refused (nat_lt (task w g).references most_references) f (Task g) e)
-  told h (op.Handle (handle_op.CopyAwaiter f (Outside x))) e = inl (outside-told h.refused f (Outside x) e)
-  told h (op.Tick tick_op.MakeTick) e = inl (make-told h.refused e)
-  told h (op.Tick (tick_op.Search s)) e = absurd (search-told (tick_of w s.tick) w.queue.items s e)
-  told h (op.Tick (tick_op.CopyWaker s)) e = sleeper-told h s.waker s.tick s.poll e
-  told h (op.Tick (tick_op.LieDown s)) e = absurd (lie-told (tick_of w s.tick) s e)
-  told h (op.End r held) e = absurd (cc)
-  told h o e = absurd (not-both _ (wants-refuse (act p h o w).next e) ((needs-no-memory w p).goes_on h o refl))
+  told h (op.Handle (handle_op.CopyAwaiter f (Outside x))) n e = inl (outside-told h.refused f (Outside x) e)
+  told h (op.Tick tick_op.MakeTick) n e = inl (make-told h.refused e)
+  told h (op.Tick (tick_op.Search s)) n e = absurd (who-told s.who s e)
+  told h (op.Tick (tick_op.CopyWaker s)) n e = sleeper-told h s.waker s.who s.poll e
+  told h (op.Tick (tick_op.LieDown s)) n e = absurd (lie-told (place_of w s.who) s e)
+  told h (op.User (user_op.PollOwn x)) n e = absurd (cc)
+  told h (op.List o) n e = inl (list-told h o n e)
+  told h (op.Steal o) n e = absurd (not-both _ e (untold-steal ends_for_want untold-want p o w))
+  told h (op.Run o) n e = inl (run-told h o n e)
+  told h (op.End r held) n e = absurd (cc)
+  told h o n e = absurd (not-both _ (wants-refuse (act p h o w).next e) ((needs-no-memory w p).goes_on h o refl))
 
   none-with : (o : Option ℕ) (d : ℕ → Done) → ((f : ℕ) → list_any ends_for_want (d f).next ≡ false) →
       list_any ends_for_want (with_future w o d).next ≡ false
   none-with (Some f) d k = k f
   none-with None d k = refl
 
-  begins-told : (here : Option ℕ) (c : Call) → list_any ends_for_want (begun p w here c).next ≡ false
+  poll-told : (t : Stage) (x : RunPoll) → list_any ends_for_want (poll_run t x) ≡ false
+  poll-told New x = refl
+  poll-told Listed x = refl
+  poll-told Ended x = refl
+
+  drop-told : (t : Stage) (r : ℕ) → list_any ends_for_want (drop_run t r) ≡ false
+  drop-told New r = refl
+  drop-told Listed r = refl
+  drop-told Ended r = refl
+
+  begins-told : (here : Option Waker) (c : Call) → list_any ends_for_want (begun p w here c).next ≡ false
   begins-told here (call.Wake k) = none-with (kept w k) _ (λ f. refl)
   begins-told here (call.WakeByRef k) = none-with (kept w k) _ (λ f. refl)
   begins-told here (call.Copy k) = none-with (kept w k) _ (λ f. refl)
   begins-told here (call.DropWaker k) = none-with (kept w k) _ (λ f. refl)
-  begins-told here call.Keep = none-with here _ (λ f. refl)
-  begins-told here call.WakeSelf = none-with here _ (λ f. refl)
+  begins-told here call.Keep = none-with (future_of here) _ (λ f. refl)
+  begins-told here call.WakeSelf = none-with (future_of here) _ (λ f. refl)
+  begins-told here (call.PollRun r b) = poll-told (run_of w r).stage _
+  begins-told here (call.DropRun r) = drop-told (run_of w r).stage r
   begins-told here _ = refl
+
+  follows-told : (o : Op) (e : UserEnd) → list_any ends_for_want (react p o e w).next ≡ false
+  follows-told (op.User (user_op.Poll f)) (end.Polled answer.Pending) = refl
+  follows-told (op.User (user_op.Poll f)) (end.Polled answer.Ready) = refl
+  follows-told (op.User (user_op.PollOwn x)) (end.Polled answer.Pending) = refl
+  follows-told (op.User (user_op.PollOwn x)) (end.Polled answer.Ready) = refl
+  follows-told _ _ = refl
 
 pub refused-changes-nothing : (w : World) (p : ℕ) → RefusedChangesNothing w p
 refused-changes-nothing w p =
     record {
       begins = begins-unchanged p w;
       polls = λ here t b. refl;
+      runs = λ here r b. refl;
       goes_on = unchanged p w;
       copies = λ h s. copies-unchanged p w _ s;
-      lies = λ s. tick-lies p w (tick_of w s.tick) s;
+      lies = λ s. tick-lies p w (place_of w s.who) s;
+      makes = λ h. room-unchanged p w h.refused;
+      made = λ h. made-unchanged p w h.refused;
+      returns = returned p w;
     }
 
 pub want-is-told-of : (w : World) (p : ℕ) → IsWantToldOf w p
-want-is-told-of w p = record { begins = begins-told p w; goes_on = told p w }
+want-is-told-of w p = record { begins = begins-told p w; goes_on = told p w; follows = follows-told p w }

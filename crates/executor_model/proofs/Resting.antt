@@ -15,7 +15,10 @@ use Rattle.executor_model.specs.declared.op.Op.TheVariants as op
 use Rattle.executor_model.specs.declared.op.ClosingOp.TheVariants as closing_op
 use Rattle.executor_model.specs.declared.op.HandleOp.TheVariants as handle_op
 use Rattle.task_moves.specs.declared.moves.owed.Move.TheVariants as move
+use Rattle.executor_model.specs.declared.op.ListOp.TheVariants as list_op
 use Rattle.executor_model.specs.declared.op.QueueOp.TheVariants as queue_op
+use Rattle.executor_model.specs.declared.op.RunOp.TheVariants as run_op
+use Rattle.executor_model.specs.declared.op.Sleeper.TheVariants as sleeper
 use Rattle.executor_model.specs.declared.op.SleeperOp.TheVariants as sleeper_op
 use Rattle.executor_model.specs.declared.op.TableOp.TheVariants as table_op
 use Rattle.executor_model.specs.declared.op.TickOp.TheVariants as tick_op
@@ -27,18 +30,20 @@ use Rattle.executor_model.specs.declared.step.UserEnd.{UserEnd}
 use Rattle.executor_model.specs.declared.step.UserEnd.TheVariants as end
 use Rattle.executor_model.specs.Trace.{Trace}
 use Rattle.executor_model.specs.Quiet.{IsQuiet}
-use Rattle.executor_model.specs.World.{World, Done, done, log}
-use Rattle.executor_model.specs.Acts.{act}
+use Rattle.executor_model.specs.World.{World, Done, done, log, run_of}
+use Rattle.executor_model.specs.Doing.{act}
 use Rattle.executor_model.specs.Weights.{same, weigh, weigh_all}
 use Rattle.executor_model.specs.Good.{Good}
-use Rattle.executor_model.specs.Steps.{Machine, stack, run, start, idle, polled_by, top, is_free, is_some, has_all}
+use Rattle.executor_model.specs.Steps.{Machine, stack, run, start, idle, mine, future_of, top, is_free, is_some}
+use Rattle.executor_model.specs.Steps.{has_all}
 use Rattle.executor_model.specs.Steps.{is_on_executor, is_drop, is_unborrowed, accepts, begun, react, with_future, kept}
 use Rattle.executor_model.proofs.Lists.{same_cases, weigh-append, weigh-reverse}
 use Rattle.executor_model.proofs.Lift.{unsettled, good-start, none_refused}
 use Rattle.executor_model.proofs.Ways.{Way, along}
 use Rattle.executor_model.proofs.Ways.Way.{acted, reacted, called}
 use Rattle.executor_model.proofs.Calls.{calling_of, begun_by, ended_by, begun-push, ended-push, Steady, steady-same}
-use Rattle.executor_model.proofs.Calls.{steady-log, Answering, Calls, inside, single, then, is_end}
+use Rattle.executor_model.proofs.Calls.{steady-log, Answering, Calls, answers, inside, single, then, is_end}
+use Rattle.executor_model.proofs.RunsCalls.{one-drop, one-poll}
 use Rattle.executor_model.proofs.CallsGroups.{calls-act}
 
 -- a stack that is not empty has at its bottom what answers its first call
@@ -90,8 +95,17 @@ calling-is (op.Tick tick_op.MakeTick) = inr refl
 calling-is (op.Tick (tick_op.Search s)) = inr refl
 calling-is (op.Tick (tick_op.CopyWaker s)) = inr refl
 calling-is (op.Tick (tick_op.LieDown s)) = inr refl
-calling-is (op.Tick (tick_op.GetUp t f)) = inr refl
-calling-is (op.Tick (tick_op.Leave t)) = inr refl
+calling-is (op.User (user_op.PollOwn x)) = inr refl
+calling-is (op.List (list_op.LockWrite s)) = inr refl
+calling-is (op.List (list_op.Write s)) = inr refl
+calling-is (op.List (list_op.LockRead x)) = inr refl
+calling-is (op.Steal o) = inr refl
+calling-is (op.Run run_op.MakeRoom) = inr refl
+calling-is (op.Run run_op.ReturnRoom) = inl refl
+calling-is (op.Run (run_op.SearchCommon x)) = inr refl
+calling-is (op.Run (run_op.LookOwn x at left)) = inr refl
+calling-is (op.Run (run_op.WakeOwn x)) = inr refl
+calling-is (op.Run (run_op.Reschedule r a)) = inr refl
 calling-is (op.End r held) = inr refl
 calling-is _ = inl refl
 
@@ -216,7 +230,7 @@ left-true true b e = refl
 left-true false b e = absurd (cc)
 
 pub opens : (p : ℕ) (w : World) (ss : List (List Op)) (o : Option Op) (c : Call) → has_all w ss o c ≡ true →
-    Opens w p c (begun p (log w (event.CallBegun p c)) (polled_by o) c)
+    Opens w p c (begun p (log w (event.CallBegun p c)) (mine o) c)
 opens p w ss o call.Spawn k = (steady-same _ _ refl, single _ refl)
 opens p w ss o call.TryTick k = (steady-same _ _ refl, single _ refl)
 opens p w ss o call.IsEmpty k = (steady-same _ _ refl, single _ refl)
@@ -230,9 +244,10 @@ opens p w ss o (call.Copy n) k = open-with w p (call.Copy n) (kept w n) _ k (λ 
 opens p w ss o (call.DropWaker n) k =
     open-with w p (call.DropWaker n) (kept w n) _ (left-true _ _ k)
     (λ f. (steady-same _ _ refl, then (op.Move move.Release f ∷ []) _ refl refl))
-opens p w ss o call.Keep k = open-with w p call.Keep (polled_by o) _ k (λ f. (steady-same _ _ refl, single _ refl))
+opens p w ss o call.Keep k = open-with w p call.Keep (future_of (mine o)) _ k
+    (λ f. (steady-same _ _ refl, single _ refl))
 opens p w ss o call.WakeSelf k =
-    open-with w p call.WakeSelf (polled_by o) _ k
+    open-with w p call.WakeSelf (future_of (mine o)) _ k
     (λ f. (steady-same _ _ refl, then (op.Move move.WakeByReference f ∷ []) _ refl refl))
 opens p w ss o (call.PollHandle f b) k = (steady-same _ _ refl, single _ refl)
 opens p w ss o (call.Cancel f) k = (steady-same _ _ refl, then (op.Move move.Cancel f ∷ []) _ refl refl)
@@ -242,8 +257,15 @@ opens p w ss o (call.DropHandle f) k =
 opens p w ss o call.NewTick k = (steady-same _ _ refl, single _ refl)
 opens p w ss o (call.PollTick t b) k =
     (steady-log _ _ (event.TickPolled p t) refl (λ q. refl) (λ q. refl), single _ refl)
-opens p w ss o (call.DropTick t) k =
-    (steady-log _ _ (event.TickDropped p t) refl (λ q. refl) (λ q. refl), single _ refl)
+opens p w ss o (call.DropTick t) k = (
+  steady-log _ _ (event.TickDropped p t) refl (λ q. refl) (λ q. refl),
+  then (op.Tick (tick_op.Leave (sleeper.Tick t)) ∷ []) _ refl refl,
+)
+opens p w ss o call.NewRun k = (steady-same _ _ refl, single _ refl)
+opens p w ss o (call.PollRun r b) k =
+    (steady-log _ _ (event.RunPolled p r) refl (λ q. refl) (λ q. refl), one-poll (run_of w r).stage _)
+opens p w ss o (call.DropRun r) k =
+    (steady-log _ _ (event.RunDropped p r) refl (λ q. refl) (λ q. refl), one-drop (run_of w r).stage r)
 opens p w ss o call.DropExecutor k = (
   steady-log _ _ (event.DropBegun p) refl (λ q. refl) (λ q. refl),
   then (op.Closing closing_op.TakeOut ∷ []) _ refl refl,
@@ -263,6 +285,13 @@ turns-react p (op.User (user_op.DropOutput f)) end.Done w a =
     turns-calls w (op.User (user_op.DropOutput f)) _ (inside w _ _ refl (steady-same _ _ refl) refl)
 turns-react p (op.User (user_op.CallOutside x)) end.Done w a =
     turns-calls w (op.User (user_op.CallOutside x)) _ (inside w _ _ refl (steady-same _ _ refl) refl)
+turns-react p (op.User (user_op.PollOwn x)) (end.Polled answer.Pending) w a =
+    turns-calls w (op.User (user_op.PollOwn x)) _ (answers w _ _ refl (steady-same _ _ refl) (single _ refl))
+turns-react p (op.User (user_op.PollOwn x)) (end.Polled answer.Ready) w a =
+    turns-calls w (op.User (user_op.PollOwn x)) _
+    (answers w _ _ refl (steady-same _ _ refl) (then (op.User (user_op.DropOwn x.run) ∷ []) _ refl refl))
+turns-react p (op.User (user_op.DropOwn r)) end.Done w a =
+    turns-calls w (op.User (user_op.DropOwn r)) _ (inside w _ _ refl (steady-same _ _ refl) refl)
 turns-react p _ _ w a = absurd (cc)
 
 acted-by : (s : Machine) (p : ℕ) (rest : List Op) (t : Hint) (o : Op) (b : Bool) → is_end o ≡ b → p < length s.parties →

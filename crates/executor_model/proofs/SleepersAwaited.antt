@@ -4,17 +4,19 @@ use Rattle.std.proofs.lemmas.List.{length-set}
 use Rattle.std.specs.Prelude.{Option, Some, None}
 use Rattle.task_moves.specs.Moves as moves
 use Rattle.task_moves.specs.declared.moves.owed.Move.TheVariants as move
+use Rattle.executor_model.specs.ActsOfSleepers.{polled_as}
 use Rattle.executor_model.specs.declared.event.Event.TheVariants as event
 use Rattle.executor_model.specs.declared.op.Op.TheVariants as op
-use Rattle.executor_model.specs.declared.op.Polled.TheVariants as of
 use Rattle.executor_model.specs.declared.op.Sleeping.{Sleeping}
 use Rattle.executor_model.specs.declared.op.SleeperOp.TheVariants as sleeper_op
 use Rattle.executor_model.specs.declared.op.TickOp.TheVariants as tick_op
 use Rattle.executor_model.specs.declared.op.Waker.{Waker}
 use Rattle.executor_model.specs.declared.op.Waker.TheVariants.{Task, Outside}
-use Rattle.executor_model.specs.World.{World, Tick, Up, Lies, Left, log, task}
-use Rattle.executor_model.specs.Acts.{exchange_by, hand_out_by, call_sleeper, make_tick_by, search_by}
-use Rattle.executor_model.specs.Acts.{copy_sleeper_by, lie_down_by, get_up_by, leave_sleepers_by}
+use Rattle.executor_model.specs.declared.op.Sleeper.{Sleeper}
+use Rattle.executor_model.specs.World.{World, Place, Up, Lies, Left, log, task}
+use Rattle.executor_model.specs.ActsOfSleepers.{exchange_by, hand_out_by, call_sleeper, make_tick_by, search_by}
+use Rattle.executor_model.specs.ActsOfSleepers.{copy_sleeper_by}
+use Rattle.executor_model.specs.ActsOfSleepers.{lie_down_by, get_up_by, leave_sleepers_by}
 use Rattle.executor_model.specs.Weights.{same}
 use Rattle.executor_model.specs.Good.{IsKnownWaker}
 use Rattle.executor_model.specs.Sound.{with_ops, times}
@@ -39,12 +41,12 @@ awaits-hand_out false o w g r yy mm bb h = grind arith
 awaits-hand_out true None w g r yy mm bb h = grind arith
 awaits-hand_out true (Some s) w g r yy mm bb h = grind arith
 
-awaits-call_task : (o b c : Bool) (p t k : ℕ) (w : World) (f : ℕ) →
+awaits-call_task : (o b c : Bool) (p : ℕ) (t : Sleeper) (k : ℕ) (w : World) (f : ℕ) →
     (moves.is_over (task w f) || (task w f).scheduled) ≡ b → (task w f).running ≡ c → f < length w.tasks →
     KeepsAwaits w (op.Sleeper (sleeper_op.CallSleeper (asleep (Task f) t k)) ∷ [])
-    (woken_by o b c p (log w (event.WakerCalled p (of.Tick t) k (Task f))) f)
+    (woken_by o b c p (log w (event.WakerCalled p (polled_as t) k (Task f))) f)
 awaits-call_task o b c p t k w f d q i g r yy mm bb h =
-    let called : World = log w (event.WakerCalled p (of.Tick t) k (Task f)) in
+    let called : World = log w (event.WakerCalled p (polled_as t) k (Task f)) in
     let stand : Footing called g (with_ops g (op.Move move.Wake f ∷ []) r)
     (with_awaiting g (op.Move move.Wake f ∷ []) yy) =
     record {
@@ -64,7 +66,7 @@ awaits-call_task o b c p t k w f d q i g r yy mm bb h =
     (with_awaiting g (op.Move move.Wake f ∷ []) yy) mm = grind (arith, same_is, heard-push) in
     awaits-wake o b c p called f d q i g r yy mm stand waits
 
-pub awaits-call_sleeper : (p t k : ℕ) (a : Waker) (w : World) → IsKnownWaker w a →
+pub awaits-call_sleeper : (p : ℕ) (t : Sleeper) (k : ℕ) (a : Waker) (w : World) → IsKnownWaker w a →
     KeepsAwaits w (op.Sleeper (sleeper_op.CallSleeper (asleep a t k)) ∷ []) (call_sleeper p w (asleep a t k))
 awaits-call_sleeper p t k (Task f) w i = awaits-call_task (moves.is_over (task w f)) _ _ p t k w f refl refl i
 awaits-call_sleeper p t k (Outside x) w i = λ g r yy mm bb h. grind (arith, same_is, heard-push)
@@ -76,7 +78,7 @@ awaits-make_tick = by_bool _
     (λ w g r yy mm bb h. grind arith)
     (λ w g r yy mm bb h. grind arith)
 
-pub awaits-search : (t : Tick) (q : List ℕ) (w : World) (s : Sleeping) → w.queue.items ≡ q →
+pub awaits-search : (t : Place) (q : List ℕ) (w : World) (s : Sleeping) → w.queue.items ≡ q →
     KeepsAwaits w (op.Tick (tick_op.Search s) ∷ []) (search_by t w q s)
 awaits-search t [] w s e g r yy mm bb h = grind arith
 awaits-search Up (f ∷ rest) w s e g r yy mm bb h =
@@ -89,7 +91,7 @@ awaits-search Left (f ∷ rest) w s e g r yy mm bb h =
     let z : same g f + times g (drop 1 w.queue.items) ≡ times g w.queue.items = times-drop g f rest w.queue.items e in
     grind (arith, same_is)
 
-pub awaits-copy_sleeper : (b : Bool) (a : Waker) (t k : ℕ) (w : World) → IsKnownWaker w a →
+pub awaits-copy_sleeper : (b : Bool) (a : Waker) (t : Sleeper) (k : ℕ) (w : World) → IsKnownWaker w a →
     KeepsAwaits w (op.Tick (tick_op.CopyWaker (asleep a t k)) ∷ []) (copy_sleeper_by b w (asleep a t k))
 awaits-copy_sleeper true a t k w e g r yy mm bb h = grind arith
 awaits-copy_sleeper false (Task m) t k w e g r yy mm bb h = let z : m < length w.tasks = e in
@@ -107,21 +109,21 @@ awaits-lying = record {
       (λ x u k g r yy mm bb h. grind arith);
 }
 
-pub awaits-lie_down : (x : Tick) (w : World) (s : Sleeping) →
+pub awaits-lie_down : (x : Place) (w : World) (s : Sleeping) →
     KeepsAwaits w (op.Tick (tick_op.LieDown s) ∷ []) (lie_down_by x w s)
 awaits-lie_down = lies-down KeepsAwaits awaits-lying
 
 awaits-rising : GetsUp KeepsAwaits
 awaits-rising = record {
-  up = λ w t f g r yy mm bb h. grind arith;
-  lay = λ w n t f. by_going _
+  up = λ w t g r yy mm bb h. grind arith;
+  lay = λ w n t. by_going _
       (λ g r yy mm bb h. grind arith)
       (λ m u k g r yy mm bb h. grind arith)
       (λ x u k g r yy mm bb h. grind arith);
 }
 
-pub awaits-get_up : (x : Tick) (w : World) (t f : ℕ) →
-    KeepsAwaits w (op.Tick (tick_op.GetUp t f) ∷ []) (get_up_by x w t f)
+pub awaits-get_up : (x : Place) (w : World) (t : Sleeper) →
+    KeepsAwaits w (op.Tick (tick_op.GetUp t) ∷ []) (get_up_by x w t)
 awaits-get_up = gets-up KeepsAwaits awaits-rising
 
 awaits-leaving : Leaves KeepsAwaits
@@ -134,6 +136,6 @@ awaits-leaving = record {
       (λ x u k g r yy mm bb h. grind arith);
 }
 
-pub awaits-leave_sleepers : (x : Tick) (w : World) (t : ℕ) →
+pub awaits-leave_sleepers : (x : Place) (w : World) (t : Sleeper) →
     KeepsAwaits w (op.Tick (tick_op.Leave t) ∷ []) (leave_sleepers_by x w t)
 awaits-leave_sleepers = leaves KeepsAwaits awaits-leaving

@@ -1,14 +1,13 @@
 -- What tells sleepers answers no call; what a tick does leads to one answer.
-use Rattle.std.proofs.Common.{◌≡◌, ◌∙◌, ℕ, List, [], ◌∷◌, ◌++◌, Bool, true, false, refl, ap, sym}
-use Rattle.std.proofs.lemmas.List.{append_assoc}
+use Rattle.std.proofs.Common.{◌≡◌, ℕ, List, [], ◌∷◌, Bool, true, false, refl}
 use Rattle.std.specs.Prelude.{Option, Some, None, is_none}
 use Rattle.task_moves.specs.declared.moves.owed.Move.TheVariants as move
 use Rattle.executor_parts.specs.Sleepers.{waker_at, waker_of}
+use Rattle.executor_model.specs.declared.call.Reply.TheVariants as reply
 use Rattle.executor_model.specs.declared.event.Event.TheVariants as event
-use Rattle.executor_model.specs.declared.op.Op.{Op}
 use Rattle.executor_model.specs.declared.op.Op.TheVariants as op
 use Rattle.executor_model.specs.declared.op.Polled.{Polled}
-use Rattle.executor_model.specs.declared.op.Polled.TheVariants as of
+use Rattle.executor_model.specs.declared.op.Sleeper.TheVariants as sleeper
 use Rattle.executor_model.specs.declared.op.Sleeping.{Sleeping}
 use Rattle.executor_model.specs.declared.op.SleeperOp.{SleeperOp}
 use Rattle.executor_model.specs.declared.op.SleeperOp.TheVariants as sleeper_op
@@ -17,13 +16,16 @@ use Rattle.executor_model.specs.declared.op.TickOp.TheVariants as tick_op
 use Rattle.executor_model.specs.declared.op.Waker.{Waker}
 use Rattle.executor_model.specs.declared.op.Waker.TheVariants.{Task, Outside}
 use Rattle.executor_model.specs.declared.step.Hint.{Hint}
-use Rattle.executor_model.specs.World.{World, Tick, Up, Lies, Left, log}
-use Rattle.executor_model.specs.Acts.{exchange_by, hand_out_by, call_waker, make_tick_by, run_found, search_by, copied}
-use Rattle.executor_model.specs.Acts.{copy_sleeper_by, lie_anew_by, sleeper_goes, lie_listed_by, lie_again_by}
-use Rattle.executor_model.specs.Acts.{lie_down_by, get_up_by, tell_if, leave_sleepers_by, sleeper_act, tick_act}
-use Rattle.executor_model.specs.Weights.{weigh}
+use Rattle.executor_model.specs.declared.op.Sleeper.{Sleeper}
+use Rattle.executor_model.specs.World.{World, Place, Up, Lies, Left, log}
+use Rattle.executor_model.specs.Acts.{call_waker, copied}
+use Rattle.executor_model.specs.ActsOfSleepers.{exchange_by, hand_out_by, held_as, make_tick_by, polled_as, search_by}
+use Rattle.executor_model.specs.ActsOfSleepers.{copy_sleeper_by, lie_anew_by, sleeper_goes, lie_listed_by, lie_again_by}
+use Rattle.executor_model.specs.ActsOfSleepers.{lie_down_by, get_up_by, tell_if, leave_sleepers_by}
+use Rattle.executor_model.specs.Doing.{search_by_who, sleeper_act, tick_act}
 use Rattle.executor_model.proofs.Calls.{calling_of, Steady, steady-same, steady-log, steady-and, steady-wake, Answering}
 use Rattle.executor_model.proofs.Calls.{Calls, inside, answers, single, then, none-wake, none-both}
+use Rattle.executor_model.proofs.RunsCalls.{calls-search_run}
 use Rattle.executor_model.proofs.SleepersNext.{Unseen, goes-unseen, tell-unseen, sleeper-unseen}
 
 unseen : Unseen calling_of
@@ -46,7 +48,7 @@ steady-hand_out false o w = steady-same _ _ refl
 steady-sleeper : (p : ℕ) (o : SleeperOp) (w : World) → Steady w (sleeper_act p o w).world
 steady-sleeper p sleeper_op.ExchangeFlag w = steady-exchange _ w
 steady-sleeper p sleeper_op.HandOut w = steady-hand_out _ _ w
-steady-sleeper p (sleeper_op.CallSleeper s) w = steady-call p w (of.Tick s.tick) s.waker s.poll
+steady-sleeper p (sleeper_op.CallSleeper s) w = steady-call p w (polled_as s.who) s.waker s.poll
 
 idle : (o : SleeperOp) → calling_of (op.Sleeper o) ≡ 0
 idle sleeper_op.ExchangeFlag = refl
@@ -57,29 +59,30 @@ pub calls-sleeper : (p : ℕ) (o : SleeperOp) (w : World) → Calls w (op.Sleepe
 calls-sleeper p o w = inside w (op.Sleeper o) (sleeper_act p o w) (idle o) (steady-sleeper p o w)
     (sleeper-unseen calling_of unseen p o w)
 
--- more in front of what answers
-before : (xs ys : List Op) → weigh calling_of xs ≡ 0 → Answering ys → Answering (xs ++ ys)
-before xs ys z a = record {
-  front = xs ++ a.front;
-  last = a.last;
-  is = ap (λ (os : List Op). xs ++ os) a.is ∙ sym (append_assoc xs a.front (a.last ∷ []));
-  none = none-both xs a.front z a.none;
-  call = a.call;
-}
-
-found : (t f : ℕ) → Answering (run_found t f)
-found t f = then (op.Sleeper sleeper_op.ExchangeFlag ∷ op.Move move.TakeUp f ∷ []) _ refl refl
+found : (x : Place) (w : World) (f : ℕ) (rest : List ℕ) (s : Sleeping) → Answering (search_by x w (f ∷ rest) s).next
+found Up w f rest s =
+    then (op.Sleeper sleeper_op.ExchangeFlag ∷ op.Move move.TakeUp f ∷ [])
+    (op.End reply.Ready (held_as s.who)) refl refl
+found (Lies n) w f rest s =
+    then (op.Tick (tick_op.GetUp s.who) ∷ op.Sleeper sleeper_op.ExchangeFlag ∷ op.Move move.TakeUp f ∷ [])
+    (op.End reply.Ready (held_as s.who)) refl refl
+found Left w f rest s =
+    then (op.Sleeper sleeper_op.ExchangeFlag ∷ op.Move move.TakeUp f ∷ [])
+    (op.End reply.Ready (held_as s.who)) refl refl
 
 calls-make : (b : Bool) (w : World) → Calls w (op.Tick tick_op.MakeTick) (make_tick_by b w)
 calls-make true w = answers w _ _ refl (steady-same _ _ refl) (single _ refl)
 calls-make false w = answers w _ _ refl (steady-same _ _ refl) (single _ refl)
 
-calls-search : (x : Tick) (w : World) (q : List ℕ) (s : Sleeping) →
+calls-search : (x : Place) (w : World) (q : List ℕ) (s : Sleeping) →
     Calls w (op.Tick (tick_op.Search s)) (search_by x w q s)
 calls-search x w [] s = answers w _ _ refl (steady-same _ _ refl) (single _ refl)
-calls-search Up w (f ∷ rest) s = answers w _ _ refl (steady-same _ _ refl) (found s.tick f)
-calls-search (Lies n) w (f ∷ rest) s = answers w _ _ refl (steady-same _ _ refl) (single _ refl)
-calls-search Left w (f ∷ rest) s = answers w _ _ refl (steady-same _ _ refl) (found s.tick f)
+calls-search x w (f ∷ rest) s = answers w _ _ refl (steady-same _ _ refl) (found x w f rest s)
+
+calls-search_who : (who : Sleeper) (w : World) (s : Sleeping) → s.who ≡ who →
+    Calls w (op.Tick (tick_op.Search s)) (search_by_who who w s)
+calls-search_who (sleeper.Tick t) w s e = calls-search _ w _ s
+calls-search_who (sleeper.Run r) w s e = calls-search_run w r s e
 
 steady-copied : (w : World) (a : Waker) → Steady w (copied w a)
 steady-copied w (Task m) = steady-same _ _ refl
@@ -106,33 +109,32 @@ calls-again None w n s = calls-listed _ w n s
 calls-again (Some at) w n s = let old = waker_at (Some at) w.sleepers.wakers in
     answers w _ _ refl (steady-same _ _ refl) (then (sleeper_goes old) _ (goes-unseen calling_of (λ f. refl) old) refl)
 
-calls-lie : (x : Tick) (w : World) (s : Sleeping) → Calls w (op.Tick (tick_op.LieDown s)) (lie_down_by x w s)
+calls-lie : (x : Place) (w : World) (s : Sleeping) → Calls w (op.Tick (tick_op.LieDown s)) (lie_down_by x w s)
 calls-lie Up w s = calls-anew _ w s
 calls-lie (Lies n) w s = calls-again _ w n s
 calls-lie Left w s = answers w _ _ refl (steady-same _ _ refl)
     (then (op.Sleeper (sleeper_op.CallSleeper s) ∷ []) _ refl refl)
 
-calls-up : (x : Tick) (w : World) (t f : ℕ) → Calls w (op.Tick (tick_op.GetUp t f)) (get_up_by x w t f)
-calls-up Up w t f = answers w _ _ refl (steady-same _ _ refl) (found t f)
-calls-up (Lies n) w t f = let old = waker_of n w.sleepers.wakers in
-    answers w _ _ refl (steady-same _ _ refl)
-    (before (sleeper_goes old) (run_found t f) (goes-unseen calling_of (λ g. refl) old) (found t f))
-calls-up Left w t f = answers w _ _ refl (steady-same _ _ refl) (found t f)
+calls-up : (x : Place) (w : World) (t : Sleeper) → Calls w (op.Tick (tick_op.GetUp t)) (get_up_by x w t)
+calls-up Up w t = inside w _ _ refl (steady-same _ _ refl) refl
+calls-up (Lies n) w t = inside w _ _ refl (steady-same _ _ refl)
+    (goes-unseen calling_of (λ g. refl) (waker_of n w.sleepers.wakers))
+calls-up Left w t = inside w _ _ refl (steady-same _ _ refl) refl
 
-calls-leave_sleepers : (x : Tick) (w : World) (t : ℕ) → Calls w (op.Tick (tick_op.Leave t)) (leave_sleepers_by x w t)
-calls-leave_sleepers Up w t = answers w _ _ refl (steady-same _ _ refl) (single _ refl)
+calls-leave_sleepers : (x : Place) (w : World) (t : Sleeper) → Calls w (op.Tick (tick_op.Leave t))
+    (leave_sleepers_by x w t)
+calls-leave_sleepers Up w t = inside w _ _ refl (steady-same _ _ refl) refl
 calls-leave_sleepers (Lies n) w t =
     let old = waker_of n w.sleepers.wakers in
-    answers w _ _ refl (steady-same _ _ refl)
-    (then (sleeper_goes old ++ tell_if (is_none old)) _
+    inside w _ _ refl (steady-same _ _ refl)
     (none-both (sleeper_goes old) (tell_if (is_none old)) (goes-unseen calling_of (λ g. refl) old)
-    (tell-unseen calling_of refl (is_none old))) refl)
-calls-leave_sleepers Left w t = answers w _ _ refl (steady-same _ _ refl) (single _ refl)
+    (tell-unseen calling_of refl (is_none old)))
+calls-leave_sleepers Left w t = inside w _ _ refl (steady-same _ _ refl) refl
 
 pub calls-tick : (h : Hint) (o : TickOp) (w : World) → Calls w (op.Tick o) (tick_act h o w)
 calls-tick h tick_op.MakeTick w = calls-make _ w
-calls-tick h (tick_op.Search s) w = calls-search _ w _ s
+calls-tick h (tick_op.Search s) w = calls-search_who s.who w s refl
 calls-tick h (tick_op.CopyWaker s) w = calls-copy _ w s
 calls-tick h (tick_op.LieDown s) w = calls-lie _ w s
-calls-tick h (tick_op.GetUp t f) w = calls-up _ w t f
+calls-tick h (tick_op.GetUp t) w = calls-up _ w t
 calls-tick h (tick_op.Leave t) w = calls-leave_sleepers _ w t

@@ -1,5 +1,5 @@
 -- What tells sleepers, and what a tick does, leaves numbers that are futures'.
-use Rattle.std.proofs.Common.{◌≡◌, ℕ, List, [], ◌∷◌, ◌++◌, length, Bool, true, false, not, refl, ap, arith}
+use Rattle.std.proofs.Common.{◌≡◌, ℕ, List, [], ◌∷◌, length, Bool, true, false, not, refl, ap, arith}
 use Rattle.std.proofs.Math.ListN.{length-set}
 use Rattle.std.specs.Prelude.{Option, Some, None, is_none}
 use Rattle.task_moves.specs.Moves as moves
@@ -14,10 +14,13 @@ use Rattle.executor_model.specs.declared.op.SleeperOp.TheVariants as sleeper_op
 use Rattle.executor_model.specs.declared.op.TickOp.TheVariants as tick_op
 use Rattle.executor_model.specs.declared.op.Waker.{Waker}
 use Rattle.executor_model.specs.declared.op.Waker.TheVariants.{Task, Outside}
-use Rattle.executor_model.specs.World.{World, Tick, Up, Lies, Left, done, log, log_if, task}
-use Rattle.executor_model.specs.Acts.{exchange_by, hand_out_by, call_waker, make_tick_by, run_found, search_by}
-use Rattle.executor_model.specs.Acts.{copy_sleeper_by, pend_tick, lie_anew_by, sleeper_goes, lie_listed_by}
-use Rattle.executor_model.specs.Acts.{lie_again_by, lie_down_by, get_up_by, tell_if, end_drop, leave_sleepers_by}
+use Rattle.executor_model.specs.declared.op.Sleeper.{Sleeper}
+use Rattle.executor_model.specs.World.{World, Place, Up, Lies, Left, done, log, log_if, task}
+use Rattle.executor_model.specs.Acts.{call_waker}
+use Rattle.executor_model.specs.ActsOfSleepers.{exchange_by, hand_out_by, make_tick_by, search_by}
+use Rattle.executor_model.specs.ActsOfSleepers.{copy_sleeper_by, lie_anew_by, sleeper_goes, lie_listed_by}
+use Rattle.executor_model.specs.ActsOfSleepers.{pend_as}
+use Rattle.executor_model.specs.ActsOfSleepers.{lie_again_by, lie_down_by, get_up_by, tell_if, leave_sleepers_by}
 use Rattle.executor_model.specs.Weights.{weigh, waker_past, weigh_sleepers}
 use Rattle.executor_model.specs.Good.{Fits}
 use Rattle.executor_model.specs.Rows.{past_of}
@@ -27,10 +30,11 @@ use Rattle.executor_model.proofs.SleepersLists.{held, given_back-same, sleepers-
 use Rattle.executor_model.proofs.SleepersLists.{sleepers-risen, sleepers-left, sleepers-set}
 
 -- the list of sleepers is another one, which fits too
-fits-sleepers : (w v : World) → v.tasks ≡ w.tasks → v.queue ≡ w.queue → v.table ≡ w.table → v.leaving ≡ w.leaving →
+fits-sleepers : (w v : World) → v.tasks ≡ w.tasks → v.queue ≡ w.queue → v.own ≡ w.own → v.table ≡ w.table →
+    v.leaving ≡ w.leaving →
     v.waking ≡ w.waking → v.wakers ≡ w.wakers → v.awaiters ≡ w.awaiters → v.inside ≡ w.inside
     → weigh_sleepers (waker_past (length w.tasks)) v.sleepers.wakers ≡ 0 → Fits w → Fits v
-fits-sleepers w v e1 e2 e3 e4 e5 e6 e7 e8 z h = grind arith
+fits-sleepers w v e1 e2 e3 e4 e5 e6 e7 e8 e9 z h = grind arith
 
 -- a waker that goes speaks of a future that is there, where its entry did
 past_goes_if : (n : ℕ) (o : Option Sleeping) → weigh (past_of n) (sleeper_goes o) ≡ held (waker_past n) o
@@ -41,7 +45,7 @@ pub grows-exchange : (b : Bool) (w : World) → Grows w (op.Sleeper sleeper_op.E
 grows-exchange true w h k = grind arith
 grows-exchange false w h k =
     record {
-      fits = fits-sleepers w _ refl refl refl refl refl refl refl refl h.sleepers h;
+      fits = fits-sleepers w _ refl refl refl refl refl refl refl refl refl h.sleepers h;
       next = refl;
       more = omega arith;
     }
@@ -52,7 +56,7 @@ grows-hand_out false o w e h k = grind arith
 grows-hand_out true None w e h k =
     let v = waker_past (length w.tasks) in
     record {
-      fits = fits-sleepers w _ refl refl refl refl refl refl refl refl
+      fits = fits-sleepers w _ refl refl refl refl refl refl refl refl refl
           (omega (arith, sleepers-last v w.sleepers, h.sleepers)) h;
       next = refl;
       more = omega arith;
@@ -60,7 +64,7 @@ grows-hand_out true None w e h k =
 grows-hand_out true (Some s) w e h k =
     let v = waker_past (length w.tasks) in
     record {
-      fits = fits-sleepers w _ refl refl refl refl refl refl refl refl
+      fits = fits-sleepers w _ refl refl refl refl refl refl refl refl refl
           (omega (arith, sleepers-last v w.sleepers, h.sleepers)) h;
       next = omega (arith, sleepers-last v w.sleepers, h.sleepers, ap (held v) e);
       more = omega arith;
@@ -80,36 +84,40 @@ pub grows-make_tick : (b : Bool) (w : World) → Grows w (op.Tick tick_op.MakeTi
 grows-make_tick true w h k = grind arith
 grows-make_tick false w h k =
     record {
-      fits = fits-sleepers w _ refl refl refl refl refl refl refl refl h.sleepers h;
+      fits = fits-sleepers w _ refl refl refl refl refl refl refl refl refl h.sleepers h;
       next = refl;
       more = omega arith;
     }
 
-pub grows-search : (x : Tick) (q : List ℕ) (w : World) (s : Sleeping) → w.queue.items ≡ q →
+pub grows-search : (x : Place) (q : List ℕ) (w : World) (s : Sleeping) → w.queue.items ≡ q →
     Grows w (op.Tick (tick_op.Search s) ∷ []) (search_by x w q s)
 grows-search x [] w s e h k = grind arith
 grows-search Up (f ∷ rest) w s e h k = let z = pasts-drop (length w.tasks) f rest w.queue.items e in grind arith
 grows-search (Lies n) (f ∷ rest) w s e h k = let z = pasts-drop (length w.tasks) f rest w.queue.items e in grind arith
 grows-search Left (f ∷ rest) w s e h k = let z = pasts-drop (length w.tasks) f rest w.queue.items e in grind arith
 
-pub grows-copy_sleeper : (b : Bool) (a : Waker) (t m : ℕ) (w : World) →
-    Grows w (op.Tick (tick_op.CopyWaker (record { waker = a; tick = t; poll = m })) ∷ [])
-    (copy_sleeper_by b w (record { waker = a; tick = t; poll = m }))
+pub grows-copy_sleeper : (b : Bool) (a : Waker) (t : Sleeper) (m : ℕ) (w : World) →
+    Grows w (op.Tick (tick_op.CopyWaker (record { waker = a; who = t; poll = m })) ∷ [])
+    (copy_sleeper_by b w (record { waker = a; who = t; poll = m }))
 grows-copy_sleeper true a t m w h k = grind arith
 grows-copy_sleeper false (Task g) t m w h k = grind (arith, length-set {A = State})
 grows-copy_sleeper false (Outside x) t m w h k = grind arith
 
 -- a list of sleepers that fits is stored, and a tick with it
-grows-put : (w v : World) (next : List Op) → v.tasks ≡ w.tasks → v.queue ≡ w.queue → v.table ≡ w.table →
+grows-put : (w v : World) (next : List Op) → v.tasks ≡ w.tasks → v.queue ≡ w.queue → v.own ≡ w.own → v.table ≡ w.table →
     v.leaving ≡ w.leaving → v.waking ≡ w.waking → v.wakers ≡ w.wakers → v.awaiters ≡ w.awaiters → v.inside ≡ w.inside
     → weigh_sleepers (waker_past (length w.tasks)) v.sleepers.wakers ≡ 0 → weigh (past_of (length w.tasks)) next ≡ 0 →
     Fits w → Grown w (done v next)
-grows-put w v next e1 e2 e3 e4 e5 e6 e7 e8 z n h =
-    record { fits = fits-sleepers w v e1 e2 e3 e4 e5 e6 e7 e8 z h; next = rw e1 n; more = omega (arith, ap length e1) }
+grows-put w v next e1 e2 e3 e4 e5 e6 e7 e8 e9 z n h =
+    record {
+      fits = fits-sleepers w v e1 e2 e3 e4 e5 e6 e7 e8 e9 z h;
+      next = rw e1 n;
+      more = omega (arith, ap length e1);
+    }
 
 grows-lie_anew : (b : Bool) (w : World) (s : Sleeping) → Grows w (op.Tick (tick_op.LieDown s) ∷ []) (lie_anew_by b w s)
 grows-lie_anew true w s h k =
-    grows-put w _ _ refl refl refl refl refl refl refl refl
+    grows-put w _ _ refl refl refl refl refl refl refl refl refl
     (omega (
       arith,
       sleepers-append (waker_past (length w.tasks)) w.sleepers.wakers ((next_number w.sleepers, s) ∷ []),
@@ -121,7 +129,7 @@ grows-lie_anew false w s h k = grind arith
 grows-lie_listed : (b : Bool) (w : World) (n : ℕ) (s : Sleeping) →
     Grows w (op.Tick (tick_op.LieDown s) ∷ []) (lie_listed_by b w n s)
 grows-lie_listed true w n s h k =
-    grows-put w _ _ refl refl refl refl refl refl refl refl
+    grows-put w _ _ refl refl refl refl refl refl refl refl refl
     (omega (arith, sleepers-append (waker_past (length w.tasks)) w.sleepers.wakers ((n, s) ∷ []), h.sleepers, k))
     (omega (arith, k)) h
 grows-lie_listed false w n s h k = grind arith
@@ -133,59 +141,57 @@ grows-lie_again (Some at) w n s e h k =
     let v = waker_past (length w.tasks) in
     let z = sleepers-set v n at s w.sleepers.wakers e in
     let old = waker_at (Some at) w.sleepers.wakers in
-    grows-put w _ _ refl refl refl refl refl refl refl refl (omega (arith, z, h.sleepers, k))
+    grows-put w _ _ refl refl refl refl refl refl refl refl refl (omega (arith, z, h.sleepers, k))
     (omega (
       arith,
       z,
       h.sleepers,
       k,
-      weigh-append (past_of (length w.tasks)) (sleeper_goes old) (pend_tick s.tick),
+      weigh-append (past_of (length w.tasks)) (sleeper_goes old) (pend_as s.who),
       past_goes_if (length w.tasks) old,
     )) h
 
-pub grows-lie_down : (x : Tick) (w : World) (s : Sleeping) →
+pub grows-lie_down : (x : Place) (w : World) (s : Sleeping) →
     Grows w (op.Tick (tick_op.LieDown s) ∷ []) (lie_down_by x w s)
 grows-lie_down Up w s h k = grows-lie_anew _ w s h k
 grows-lie_down (Lies n) w s h k = grows-lie_again _ w n s refl h k
 grows-lie_down Left w s h k = grind arith
 
-pub grows-get_up : (x : Tick) (w : World) (t f : ℕ) → Grows w (op.Tick (tick_op.GetUp t f) ∷ []) (get_up_by x w t f)
-grows-get_up Up w t f h k = grind arith
-grows-get_up (Lies n) w t f h k =
+pub grows-get_up : (x : Place) (w : World) (t : Sleeper) → Grows w (op.Tick (tick_op.GetUp t) ∷ []) (get_up_by x w t)
+grows-get_up Up w t h k = grind arith
+grows-get_up (Lies n) w t h k =
     let v = waker_past (length w.tasks) in
     let z = sleepers-risen v n w.sleepers in
     let old = waker_of n w.sleepers.wakers in
-    grows-put w _ _ refl refl refl refl refl refl refl refl (omega (arith, z, h.sleepers))
+    grows-put w _ _ refl refl refl refl refl refl refl refl refl (omega (arith, z, h.sleepers))
     (omega (
       arith,
       z,
       h.sleepers,
       k,
-      weigh-append (past_of (length w.tasks)) (sleeper_goes old) (run_found t f),
       past_goes_if (length w.tasks) old,
     )) h
-grows-get_up Left w t f h k = grind arith
+grows-get_up Left w t h k = grind arith
 
 past_tell : (n : ℕ) (b : Bool) → weigh (past_of n) (tell_if b) ≡ 0
 past_tell n true = refl
 past_tell n false = refl
 
-pub grows-leave_sleepers : (x : Tick) (w : World) (t : ℕ) →
+pub grows-leave_sleepers : (x : Place) (w : World) (t : Sleeper) →
     Grows w (op.Tick (tick_op.Leave t) ∷ []) (leave_sleepers_by x w t)
 grows-leave_sleepers Up w t h k =
-    grows-put w _ _ refl refl refl refl refl refl refl refl
+    grows-put w _ _ refl refl refl refl refl refl refl refl refl
     (omega (arith, ap (weigh_sleepers (waker_past (length w.tasks))) (given_back-same w.sleepers), h.sleepers)) refl h
 grows-leave_sleepers (Lies n) w t h k =
     let v = waker_past (length w.tasks) in
     let z = sleepers-left v n w.sleepers in
     let old = waker_of n w.sleepers.wakers in
     let told = tell_if (is_none old) in
-    grows-put w _ _ refl refl refl refl refl refl refl refl (omega (arith, z, h.sleepers))
+    grows-put w _ _ refl refl refl refl refl refl refl refl refl (omega (arith, z, h.sleepers))
     (omega (
       arith,
       z,
       h.sleepers,
-      weigh-append (past_of (length w.tasks)) (sleeper_goes old ++ told) (end_drop t),
       weigh-append (past_of (length w.tasks)) (sleeper_goes old) told,
       past_tell (length w.tasks) (is_none old),
       past_goes_if (length w.tasks) old,

@@ -1,6 +1,7 @@
 -- After every list of steps the sleepers of the machine are sleepers after sections of theirs.
-use Rattle.std.proofs.Common.{◌≡◌, ℕ, ◌+◌, ◌<◌, ◌≤◌, List, [], ◌∷◌, ◌++◌, length, set, Bool, true, false, ltb, eqb}
-use Rattle.std.proofs.Common.{refl, sym, subst, ⊎_elim, ◌⊎◌, inl, inr, ◌||◌, arith}
+use Rattle.std.proofs.Common.{◌≡◌, ℕ, zero, suc, ◌+◌, ◌%◌, ◌<◌, ◌≤◌, List, [], ◌∷◌, ◌++◌, length, get_or, set, Bool}
+use Rattle.std.proofs.Common.{true, false, ltb, eqb}
+use Rattle.std.proofs.Common.{refl, sym, ap, subst, ⊎_elim, ◌⊎◌, inl, inr, ◌||◌, arith}
 use Rattle.std.proofs.lemmas.Bool.Decides.{nat_tests}
 use Rattle.std.specs.Prelude.{Option, Some, None, is_none, reverse}
 use Rattle.executor_parts.specs.Sleepers.{flag_of, position_of, waker_at, waker_of}
@@ -13,8 +14,14 @@ use Rattle.executor_model.specs.declared.event.Answer.TheVariants as answer
 use Rattle.executor_model.specs.declared.op.Hold.{Hold}
 use Rattle.executor_model.specs.declared.op.Op.{Op}
 use Rattle.executor_model.specs.declared.op.Op.TheVariants as op
-use Rattle.executor_model.specs.declared.op.Polled.TheVariants as of
 use Rattle.executor_model.specs.declared.op.QueueOp.TheVariants as queue_op
+use Rattle.executor_model.specs.declared.op.ListOp.{ListOp}
+use Rattle.executor_model.specs.declared.op.ListOp.TheVariants as list_op
+use Rattle.executor_model.specs.declared.op.RunOp.TheVariants as run_op
+use Rattle.executor_model.specs.declared.op.RunPoll.{RunPoll}
+use Rattle.executor_model.specs.declared.op.Section.{Section}
+use Rattle.executor_model.specs.declared.op.Section.TheVariants as section
+use Rattle.executor_model.specs.declared.op.Sleeper.TheVariants as sleeper
 use Rattle.executor_model.specs.declared.op.Sleeping.{Sleeping}
 use Rattle.executor_model.specs.declared.op.SleeperOp.{SleeperOp}
 use Rattle.executor_model.specs.declared.op.SleeperOp.TheVariants as sleeper_op
@@ -27,94 +34,138 @@ use Rattle.executor_model.specs.declared.step.Hint.{Hint}
 use Rattle.executor_model.specs.declared.step.Step.{Step}
 use Rattle.executor_model.specs.declared.step.UserEnd.{UserEnd}
 use Rattle.executor_model.specs.declared.step.UserEnd.TheVariants as end
-use Rattle.executor_model.specs.Acts.{act, append_by, exchange_by, hand_out_by, call_sleeper, make_tick_by}
-use Rattle.executor_model.specs.Acts.{search_by, copied, copy_sleeper_by, lie_anew_by, sleeper_goes, run_found}
-use Rattle.executor_model.specs.Acts.{pend_tick, lie_listed_by, lie_again_by, lie_down_by, get_up_by, tell_if}
-use Rattle.executor_model.specs.Acts.{end_drop, leave_sleepers_by, sleeper_act, tick_act}
+use Rattle.executor_model.specs.Acts.{append_by}
+use Rattle.executor_model.specs.ActsOfRuns.{lock_read, lock_write, make_room_by, make_run_by, registered, return_room}
+use Rattle.executor_model.specs.ActsOfSleepers.{exchange_by, hand_out_by, call_sleeper, make_tick_by, polled_as}
+use Rattle.executor_model.specs.Doing.{act}
+use Rattle.executor_model.specs.Acts.{copied}
+use Rattle.executor_model.specs.ActsOfSleepers.{search_by, copy_sleeper_by, lie_anew_by, sleeper_goes}
+use Rattle.executor_model.specs.ActsOfSleepers.{lie_listed_by, lie_again_by, lie_down_by, get_up_by, tell_if}
+use Rattle.executor_model.specs.ActsOfSleepers.{pend_as}
+use Rattle.executor_model.specs.ActsOfSleepers.{leave_sleepers_by}
+use Rattle.executor_model.specs.Doing.{list_act, search_by_who, sleeper_act, tick_act}
 use Rattle.executor_model.specs.Good.{Good}
-use Rattle.executor_model.specs.Steps.{Machine, stack, run, start, polled_by, top, accepts}
-use Rattle.executor_model.specs.Steps.{begun, react, with_future, kept}
+use Rattle.executor_model.specs.Steps.{Machine, stack, run, start, mine, top, accepts}
+use Rattle.executor_model.specs.Steps.{begun, drop_run, future_of, idle, kept, poll_run, react, with_future}
 use Rattle.executor_model.specs.Weights.{weigh, weigh_all}
-use Rattle.executor_model.specs.World.{World, Tick, Up, Lies, Left, Done, done, log, tick_of}
+use Rattle.executor_model.specs.declared.op.Sleeper.{Sleeper}
+use Rattle.executor_model.specs.World.{World, Place, Up, Lies, Left, Stage, New, Listed, Ended, Done, done, log}
+use Rattle.executor_model.specs.World.{place_of}
 use Rattle.executor_model.proofs.Lift.{split, unsettled, weigh_all-idle, good-start}
 use Rattle.executor_model.proofs.Lists.{weigh-append, weigh_all-push}
 use Rattle.executor_model.proofs.SleepersNext.{goes-unseen, tell-unseen}
 use Rattle.executor_model.proofs.Ways.{Way, acted, reacted, called, along}
-use Rattle.executor_model.specs.SleepersAgree.{SleepersAgree, hands_of}
-use Rattle.executor_model.proofs.SleepersAway.{beds, Away, away-act, away-call, is_bed}
-use Rattle.executor_model.proofs.TickLists.{used-apart, times-apart, up-rooms}
-use Rattle.executor_model.proofs.SleepersFollowing.{Follows, shift, follows-won, follows-hand_out}
-use Rattle.executor_model.proofs.SleepersFollowing.{follows-make, follows-anew, follows-listed, follows-again}
-use Rattle.executor_model.proofs.SleepersFollowing.{follows-up, follows-left, follows-left_up, follows-unlisted}
+use Rattle.executor_model.specs.SleepersAgree.{SleepersAgree, hands_of, room_of}
+use Rattle.executor_model.proofs.RunsNext.{walk-unseen}
+use Rattle.executor_model.proofs.SleepersAway.{beds, beds-run, Away, away-act, away-call, away-own, is_bed}
+use Rattle.executor_model.proofs.SleepersAway.{no-owes-searching}
+use Rattle.executor_model.proofs.SleepersAway.{owes-hands, owes-rooms, owes_of, rises-walk}
+use Rattle.executor_model.proofs.SleepersRising.{RisesWell, rises-append, rises-none, rises-push, rises-rest, rises-set}
+use Rattle.executor_model.proofs.SleepersRising.{rises_of, rises_well}
+use Rattle.executor_model.proofs.TickLists.{lying-places, places, rooms-places, times-apart, up_rooms-all}
+use Rattle.executor_model.proofs.TickLists.{used_all-apart}
+use Rattle.executor_model.proofs.SleepersFollowing.{Follows, shift, follows-won, follows-hand_out, follows-make, in-bed}
+use Rattle.executor_model.proofs.SleepersFollowing.{follows-anew, follows-listed, follows-again, follows-returned}
+use Rattle.executor_model.proofs.SleepersFollowing.{follows-room, follows-run, follows-up, follows-left}
+use Rattle.executor_model.proofs.SleepersFollowing.{follows-left_up}
+use Rattle.executor_model.proofs.SleepersFollowing.{follows-unlisted}
 
--- they follow on where old is done, while others have still to hand out k times
+-- they follow on where old is done, while others have still to hand out k times and owe so much room; and who gets up
+-- tells
 pub record Follow (w : World) (old : List Op) (d : Done) : Type 0 where
-  pub on : (i j k : ℕ) → i ≡ weigh hands_of old + k → j ≡ weigh hands_of d.next + k → Follows (beds w) i →
-      Follows (beds d.world) j
+  pub on : (i j k a b c : ℕ) → i ≡ weigh hands_of old + k → j ≡ weigh hands_of d.next + k →
+      a ≡ weigh room_of old + c → b ≡ weigh room_of d.next + c → Follows (beds w) i a → Follows (beds d.world) j b
+  pub rises : rises_well d.next ≡ true
 
-goes : (o : Option Sleeping) → weigh hands_of (sleeper_goes o) ≡ 0
-goes o = goes-unseen hands_of (λ f. refl) o
+-- nothing of it changes, and as many hand out and owe room as before
+shifted : (w v : World) (old next : List Op) → beds w ≡ beds v → weigh hands_of old ≡ weigh hands_of next →
+    weigh room_of old ≡ weigh room_of next → rises_well next ≡ true → Follow w old (done v next)
+shifted w v old next e p q r = record {
+  on = λ i j k a b c x y z u f. shift (beds w) (beds v) i j a b e (omega (arith, p, x, y)) (omega (arith, q, z, u)) f;
+  rises = r;
+}
 
--- nothing of it changes, and nobody hands out
-still : (w v : World) (old next : List Op) → beds w ≡ beds v → weigh hands_of old ≡ 0 → weigh hands_of next ≡ 0 →
-    Follow w old (done v next)
-still w v old next e a b = record { on = λ i j k x y f. shift (beds w) (beds v) i j e (omega (arith, a, b, x, y)) f }
+-- nothing of it changes, and nobody hands out or owes room
+still : (w v : World) (old next : List Op) → beds w ≡ beds v → weigh owes_of old ≡ 0 → weigh owes_of next ≡ 0 →
+    rises_well next ≡ true → Follow w old (done v next)
+still w v old next e a b r = shifted w v old next e (omega (arith, owes-hands old a, owes-hands next b))
+    (omega (arith, owes-rooms old a, owes-rooms next b)) r
 
--- something changes, and nobody hands out
-turned : (w v : World) (old next : List Op) → weigh hands_of old ≡ 0 → weigh hands_of next ≡ 0 →
-    ((k : ℕ) → Follows (beds w) k → Follows (beds v) k) → Follow w old (done v next)
-turned w v old next a b t =
-    record { on = λ i j k x y f. shift (beds v) (beds v) i j refl (omega (arith, a, b, x, y)) (t i f) }
+-- something changes, and nobody hands out or owes room
+turned : (w v : World) (old next : List Op) → weigh owes_of old ≡ 0 → weigh owes_of next ≡ 0 → rises_well next ≡ true →
+    ((k m : ℕ) → Follows (beds w) k m → Follows (beds v) k m) → Follow w old (done v next)
+turned w v old next p q r t = record {
+  on = λ i j k a b c x y z u f. shift (beds v) (beds v) i j a b refl
+      (omega (arith, owes-hands old p, owes-hands next q, x, y))
+      (omega (arith, owes-rooms old p, owes-rooms next q, z, u))
+      (t i a f);
+  rises = r;
+}
+
+goes : (o : Option Sleeping) → weigh owes_of (sleeper_goes o) ≡ 0
+goes o = goes-unseen owes_of (λ f. refl) o
+
+goes-well : (o : Option Sleeping) → rises_well (sleeper_goes o) ≡ true
+goes-well o = rises-none (sleeper_goes o) (goes-unseen rises_of (λ f. refl) o)
 
 follow-append : (b : Bool) (w : World) (f : ℕ) → Follow w (op.Queue (queue_op.Append f) ∷ []) (append_by b w f)
-follow-append true w f = still w _ _ _ refl refl refl
-follow-append false w f = still w _ _ _ refl refl refl
+follow-append true w f = still w _ _ _ refl refl refl refl
+follow-append false w f = still w _ _ _ refl refl refl refl
 
 follow-exchange : (b : Bool) (w : World) → w.notified ≡ b →
     Follow w (op.Sleeper sleeper_op.ExchangeFlag ∷ []) (exchange_by b w)
-follow-exchange true w e = still w _ _ _ refl refl refl
+follow-exchange true w e = still w _ _ _ refl refl refl refl
 follow-exchange false w e =
     record {
-      on = λ i j k x y f. shift (beds (exchange_by false w).world) (beds (exchange_by false w).world) (i + 1) j
-          refl (omega (arith, x, y)) (follows-won w i e f);
+      on = λ i j k a b c x y z u f. let v = (exchange_by false w).world in
+          shift (beds v) (beds v) (i + 1) j a b refl (omega (arith, x, y)) (omega (arith, z, u))
+          (follows-won w i a e f);
+      rises = refl;
+    }
+
+hands-out : (b : Bool) (o : Option Sleeping) (w : World) → eqb (length w.sleepers.wakers) w.sleepers.count ≡ b →
+    weigh owes_of (hand_out_by b o w).next ≡ 0 → rises_well (hand_out_by b o w).next ≡ true →
+    Follow w (op.Sleeper sleeper_op.HandOut ∷ []) (hand_out_by b o w)
+hands-out t o w e n r =
+    record {
+      on = λ i j k a b c x y z u f. let v = (hand_out_by t o w).world in
+          let d = (hand_out_by t o w).next in
+          shift (beds v) (beds v) k j a b refl (omega (arith, y, owes-hands d n)) (omega (arith, z, u, owes-rooms d n))
+          (follows-hand_out t o w k a e (shift (beds w) (beds w) i (k + 1) a a refl (omega (arith, x)) refl f));
+      rises = r;
     }
 
 follow-hand_out : (b : Bool) (o : Option Sleeping) (w : World) → eqb (length w.sleepers.wakers) w.sleepers.count ≡ b →
     Follow w (op.Sleeper sleeper_op.HandOut ∷ []) (hand_out_by b o w)
-follow-hand_out false o w e =
-    record {
-      on = λ i j k x y f. shift (beds w) (beds w) k j refl (omega (arith, y))
-          (follows-hand_out false o w k e (shift (beds w) (beds w) i (k + 1) refl (omega (arith, x)) f));
-    }
-follow-hand_out true None w e =
-    record {
-      on = λ i j k x y f. shift (beds (hand_out_by true None w).world) (beds (hand_out_by true None w).world) k j
-          refl (omega (arith, y)) (follows-hand_out true None w k e
-          (shift (beds w) (beds w) i (k + 1) refl (omega (arith, x)) f));
-    }
-follow-hand_out true (Some s) w e =
-    record {
-      on = λ i j k x y f. shift (beds (hand_out_by true (Some s) w).world)
-          (beds (hand_out_by true (Some s) w).world) k j refl (omega (arith, y))
-          (follows-hand_out true (Some s) w k e (shift (beds w) (beds w) i (k + 1) refl (omega (arith, x)) f));
-    }
+follow-hand_out false o w e = hands-out false o w e refl refl
+follow-hand_out true None w e = hands-out true None w e refl refl
+follow-hand_out true (Some s) w e = hands-out true (Some s) w e refl refl
+
+follow-away : (w : World) (old : List Op) (d : Done) → weigh owes_of old ≡ 0 → Away w d → Follow w old d
+follow-away w old d z a = still w d.world old d.next a.beds z a.owes a.rises
 
 follow-sleeper : (p : ℕ) (o : SleeperOp) (w : World) → Follow w (op.Sleeper o ∷ []) (sleeper_act p o w)
 follow-sleeper p sleeper_op.ExchangeFlag w = follow-exchange _ w refl
 follow-sleeper p sleeper_op.HandOut w = follow-hand_out _ _ w refl
-follow-sleeper p (sleeper_op.CallSleeper s) w = let a = away-call p w (of.Tick s.tick) s.waker s.poll in
-    still w (call_sleeper p w s).world _ (call_sleeper p w s).next a.beds refl a.hands
+follow-sleeper p (sleeper_op.CallSleeper s) w =
+    follow-away w _ (call_sleeper p w s) refl (away-call p w (polled_as s.who) s.waker s.poll)
 
 follow-make : (b : Bool) (w : World) → Follow w (op.Tick tick_op.MakeTick ∷ []) (make_tick_by b w)
-follow-make true w = still w _ _ _ refl refl refl
-follow-make false w = turned w _ _ _ refl refl (λ k f. follows-make w k f)
+follow-make true w = still w _ _ _ refl refl refl refl
+follow-make false w = turned w _ _ _ refl refl refl (λ k m f. follows-make w k m f)
 
-follow-search : (x : Tick) (q : List ℕ) (w : World) (s : Sleeping) →
+follow-search : (x : Place) (q : List ℕ) (w : World) (s : Sleeping) →
     Follow w (op.Tick (tick_op.Search s) ∷ []) (search_by x w q s)
-follow-search x [] w s = still w _ _ _ refl refl refl
-follow-search Up (f ∷ rest) w s = still w _ _ _ refl refl refl
-follow-search (Lies n) (f ∷ rest) w s = still w _ _ _ refl refl refl
-follow-search Left (f ∷ rest) w s = still w _ _ _ refl refl refl
+follow-search x [] w s = still w _ _ _ refl refl refl refl
+follow-search Up (f ∷ rest) w s = still w _ _ _ refl refl refl refl
+follow-search (Lies n) (f ∷ rest) w s = still w _ _ _ refl refl refl refl
+follow-search Left (f ∷ rest) w s = still w _ _ _ refl refl refl refl
+
+follow-search_who : (who : Sleeper) (w : World) (s : Sleeping) →
+    Follow w (op.Tick (tick_op.Search s) ∷ []) (search_by_who who w s)
+follow-search_who (sleeper.Tick t) w s = follow-search _ _ w s
+follow-search_who (sleeper.Run r) w s = follow-away w _ _ refl
+    (away-own _ w (record { run = r; waker = s.waker; poll = s.poll }))
 
 beds-copied : (a : Waker) (w : World) → beds w ≡ beds (copied w a)
 beds-copied (Task g) w = refl
@@ -122,153 +173,237 @@ beds-copied (Outside x) w = refl
 
 follow-copy : (b : Bool) (w : World) (s : Sleeping) →
     Follow w (op.Tick (tick_op.CopyWaker s) ∷ []) (copy_sleeper_by b w s)
-follow-copy true w s = still w _ _ _ refl refl refl
-follow-copy false w s = still w _ _ _ (beds-copied s.waker w) refl refl
+follow-copy true w s = still w _ _ _ refl refl refl refl
+follow-copy false w s = still w _ _ _ (beds-copied s.waker w) refl refl refl
 
-follow-anew : (b : Bool) (w : World) (s : Sleeping) → tick_of w s.tick ≡ Up →
+follow-anew : (b : Bool) (w : World) (s : Sleeping) → place_of w s.who ≡ Up →
     ltb w.sleepers.count w.sleepers.rooms ≡ b → Follow w (op.Tick (tick_op.LieDown s) ∷ []) (lie_anew_by b w s)
-follow-anew true w s e r = turned w _ _ _ refl refl (λ k f. follows-anew w s k e r f)
-follow-anew false w s e r = still w _ _ _ refl refl refl
+follow-anew true w s e r = turned w _ _ _ refl refl refl (λ k m f. follows-anew w s k m e r f)
+follow-anew false w s e r = still w _ _ _ refl refl refl refl
 
-follow-listed : (b : Bool) (w : World) (n : ℕ) (s : Sleeping) → tick_of w s.tick ≡ Lies n →
+follow-listed : (b : Bool) (w : World) (n : ℕ) (s : Sleeping) → place_of w s.who ≡ Lies n →
     position_of n w.sleepers.wakers ≡ None → Follow w (op.Tick (tick_op.LieDown s) ∷ []) (lie_listed_by b w n s)
-follow-listed true w n s e q = turned w _ _ _ refl refl (λ k f. follows-listed w n s k e q f)
-follow-listed false w n s e q = still w _ _ _ refl refl refl
+follow-listed true w n s e q = turned w _ _ _ refl refl refl (λ k m f. follows-listed w n s k m e q f)
+follow-listed false w n s e q = still w _ _ _ refl refl refl refl
 
-follow-again : (o : Option ℕ) (w : World) (n : ℕ) (s : Sleeping) → tick_of w s.tick ≡ Lies n →
+follow-again : (o : Option ℕ) (w : World) (n : ℕ) (s : Sleeping) → place_of w s.who ≡ Lies n →
     position_of n w.sleepers.wakers ≡ o → Follow w (op.Tick (tick_op.LieDown s) ∷ []) (lie_again_by o w n s)
 follow-again None w n s e q = follow-listed _ w n s e q
 follow-again (Some at) w n s e q =
     let old = waker_at (Some at) w.sleepers.wakers in
-    turned w _ _ _ refl (omega (arith, weigh-append hands_of (sleeper_goes old) (pend_tick s.tick), goes old))
-    (λ k f. follows-again w n at s k e q f)
+    turned w _ _ _ refl (omega (arith, weigh-append owes_of (sleeper_goes old) (pend_as s.who), goes old))
+    (rises-append (sleeper_goes old) (pend_as s.who) (goes-well old) refl)
+    (λ k m f. follows-again w n at s k m e q f)
 
-follow-lie : (x : Tick) (w : World) (s : Sleeping) → tick_of w s.tick ≡ x →
+follow-lie : (x : Place) (w : World) (s : Sleeping) → place_of w s.who ≡ x →
     Follow w (op.Tick (tick_op.LieDown s) ∷ []) (lie_down_by x w s)
 follow-lie Up w s e = follow-anew _ w s e refl
 follow-lie (Lies n) w s e = follow-again _ w n s e refl
-follow-lie Left w s e = still w _ _ _ refl refl refl
+follow-lie Left w s e = still w _ _ _ refl refl refl refl
 
-follow-up : (x : Tick) (w : World) (t f : ℕ) → tick_of w t ≡ x →
-    Follow w (op.Tick (tick_op.GetUp t f) ∷ []) (get_up_by x w t f)
-follow-up Up w t f e = still w _ _ _ refl refl refl
-follow-up (Lies n) w t f e =
+follow-up : (x : Place) (w : World) (t : Sleeper) → place_of w t ≡ x →
+    Follow w (op.Tick (tick_op.GetUp t) ∷ []) (get_up_by x w t)
+follow-up Up w t e = still w _ _ _ refl refl refl refl
+follow-up (Lies n) w t e =
     let old = waker_of n w.sleepers.wakers in
-    turned w _ _ _ refl (omega (arith, weigh-append hands_of (sleeper_goes old) (run_found t f), goes old))
-    (λ k h. follows-up w t f n k e h)
-follow-up Left w t f e = still w _ _ _ refl refl refl
+    turned w _ _ _ refl (goes old) (goes-well old) (λ k m h. follows-up w t n k m e h)
+follow-up Left w t e = still w _ _ _ refl refl refl refl
 
-follow-leave : (x : Tick) (w : World) (t : ℕ) → tick_of w t ≡ x →
+tell_if-well : (b : Bool) → rises_well (tell_if b) ≡ true
+tell_if-well true = refl
+tell_if-well false = refl
+
+follow-leave : (x : Place) (w : World) (t : Sleeper) → place_of w t ≡ x →
     Follow w (op.Tick (tick_op.Leave t) ∷ []) (leave_sleepers_by x w t)
-follow-leave Up w t e = turned w _ _ _ refl refl (λ k h. follows-left_up w t k e h)
+follow-leave Up w t e = turned w _ _ _ refl refl refl (λ k m h. follows-left_up w t k m e h)
 follow-leave (Lies n) w t e =
     let old = waker_of n w.sleepers.wakers in
     let told = tell_if (is_none old) in
-    turned w _ _ _ refl (omega (
+    turned w _ _ _ refl
+    (omega (
       arith,
-      weigh-append hands_of (sleeper_goes old ++ told) (end_drop t),
-      weigh-append hands_of (sleeper_goes old) told,
+      weigh-append owes_of (sleeper_goes old) told,
       goes old,
-      tell-unseen hands_of refl (is_none old),
+      tell-unseen owes_of refl (is_none old),
     ))
-    (λ k h. follows-left w t n k e h)
-follow-leave Left w t e = still w _ _ _ refl refl refl
+    (rises-append (sleeper_goes old) told (goes-well old) (tell_if-well (is_none old)))
+    (λ k m h. follows-left w t n k m e h)
+follow-leave Left w t e = still w _ _ _ refl refl refl refl
 
 follow-tick : (h : Hint) (o : TickOp) (w : World) → Follow w (op.Tick o ∷ []) (tick_act h o w)
 follow-tick h tick_op.MakeTick w = follow-make _ w
-follow-tick h (tick_op.Search s) w = follow-search _ _ w s
+follow-tick h (tick_op.Search s) w = follow-search_who s.who w s
 follow-tick h (tick_op.CopyWaker s) w = follow-copy _ w s
 follow-tick h (tick_op.LieDown s) w = follow-lie _ w s refl
-follow-tick h (tick_op.GetUp t g) w = follow-up _ w t g refl
+follow-tick h (tick_op.GetUp t) w = follow-up _ w t refl
 follow-tick h (tick_op.Leave t) w = follow-leave _ w t refl
 
-no-hands : (o : Op) → is_bed o ≡ false → hands_of o ≡ 0
-no-hands (op.Sleeper o) e = absurd (cc)
-no-hands (op.Move m f) e = refl
-no-hands (op.Table o) e = refl
-no-hands (op.Queue o) e = refl
-no-hands (op.User o) e = refl
-no-hands (op.Waker o) e = refl
-no-hands (op.Handle o) e = refl
-no-hands (op.Tick o) e = refl
-no-hands (op.Closing o) e = refl
-no-hands (op.End r held) e = refl
+-- the list of queues, and room for a run
+
+follow-lock : (s : Section) (w : World) → Follow w (op.List (list_op.LockWrite s) ∷ []) (lock_write w s)
+follow-lock section.MakeRun w = shifted w _ _ _ refl refl refl refl
+follow-lock (section.Register x) w = shifted w _ _ _ refl refl refl refl
+follow-lock (section.Unregister r a) w = shifted w _ _ _ refl refl refl refl
+
+follow-make_run : (b : Bool) (w : World) → Follow w (op.List (list_op.Write section.MakeRun) ∷ []) (make_run_by b w)
+follow-make_run true w = shifted w _ _ _ refl refl refl refl
+follow-make_run false w =
+    record {
+      on = λ i j k a b c x y z u f. let v = (make_run_by false w).world in
+          shift (beds v) (beds v) i j c b refl (omega (arith, x, y)) (omega (arith, u))
+          (follows-run w i c (shift (beds w) (beds w) i i a (c + 1) refl refl (omega (arith, z)) f));
+      rises = refl;
+    }
+
+beds-registered : (t : Stage) (w : World) (r : ℕ) → beds w ≡ beds (registered t w r)
+beds-registered New w r = beds-run w r _ refl
+beds-registered Listed w r = refl
+beds-registered Ended w r = refl
+
+follow-list : (h : Hint) (o : ListOp) (w : World) → Follow w (op.List o ∷ []) (list_act h o w)
+follow-list h (list_op.LockWrite s) w = follow-lock s w
+follow-list h (list_op.Write section.MakeRun) w = follow-make_run h.refused w
+follow-list h (list_op.Write (section.Register x)) w = still w _ _ _ (beds-registered _ w x.run) refl refl refl
+follow-list h (list_op.Write (section.Unregister r a)) w = still w _ _ _ (beds-run w r _ refl) refl refl refl
+follow-list h list_op.UnlockWrite w = still w _ _ _ refl refl refl refl
+follow-list h (list_op.LockRead x) w = still w (lock_read h w x).world _ (lock_read h w x).next refl refl
+    (walk-unseen owes_of no-owes-searching x w.listed (h.start % length w.listed) (length w.listed))
+    (rises-walk x w.listed (h.start % length w.listed) (length w.listed))
+follow-list h list_op.UnlockRead w = still w _ _ _ refl refl refl refl
+
+follow-room : (b : Bool) (w : World) → Follow w (op.Run run_op.MakeRoom ∷ []) (make_room_by b w)
+follow-room true w = still w _ _ _ refl refl refl refl
+follow-room false w =
+    record {
+      on = λ i j k a b c x y z u f. let v = (make_room_by false w).world in
+          shift (beds v) (beds v) i j (a + 1) b refl (omega (arith, x, y)) (omega (arith, z, u)) (follows-room w i a f);
+      rises = refl;
+    }
+
+follow-returned : (w : World) → Follow w (op.Run run_op.ReturnRoom ∷ []) (return_room w)
+follow-returned w =
+    record {
+      on = λ i j k a b c x y z u f. let v = (return_room w).world in
+          shift (beds v) (beds v) i j c b refl (omega (arith, x, y)) (omega (arith, u))
+          (follows-returned w i c (shift (beds w) (beds w) i i a (1 + c) refl refl (omega (arith, z)) f));
+      rises = refl;
+    }
+
+no-owes : (o : Op) → is_bed o ≡ false → owes_of o ≡ 0
+no-owes (op.Sleeper o) e = absurd (cc)
+no-owes (op.List o) e = absurd (cc)
+no-owes (op.Run run_op.ReturnRoom) e = absurd (cc)
+no-owes _ e = refl
 
 pub follow-act : (b : Bool) (p : ℕ) (h : Hint) (o : Op) (w : World) → is_bed o ≡ b → Follow w (o ∷ []) (act p h o w)
-follow-act false p h o w n =
-    let a : Away w (act p h o w) = away-act p h o w n in
-    still w (act p h o w).world (o ∷ []) (act p h o w).next a.beds (omega (arith, no-hands o n)) a.hands
+follow-act false p h o w n = follow-away w (o ∷ []) (act p h o w) (omega (arith, no-owes o n)) (away-act p h o w n)
 follow-act true p h (op.Queue (queue_op.Append g)) w n = follow-append _ w g
 follow-act true p h (op.Sleeper o) w n = follow-sleeper p o w
 follow-act true p h (op.Tick o) w n = follow-tick h o w
+follow-act true p h (op.List o) w n = follow-list h o w
+follow-act true p h (op.Run run_op.MakeRoom) w n = follow-room _ w
+follow-act true p h (op.Run run_op.ReturnRoom) w n = follow-returned w
 follow-act true p h _ w n = absurd (cc)
 
 pub follow-react : (p : ℕ) (o : Op) (u : UserEnd) (w : World) → accepts o u ≡ true → Follow w (o ∷ []) (react p o u w)
-follow-react p (op.User (user_op.Poll f)) (end.Polled answer.Pending) w a = still w _ _ _ refl refl refl
-follow-react p (op.User (user_op.Poll f)) (end.Polled answer.Ready) w a = still w _ _ _ refl refl refl
-follow-react p (op.User (user_op.Drop f)) end.Done w a = still w _ _ _ refl refl refl
-follow-react p (op.User (user_op.DropOutput f)) end.Done w a = still w _ _ _ refl refl refl
-follow-react p (op.User (user_op.CallOutside x)) end.Done w a = still w _ _ _ refl refl refl
+follow-react p (op.User (user_op.Poll f)) (end.Polled answer.Pending) w a = still w _ _ _ refl refl refl refl
+follow-react p (op.User (user_op.Poll f)) (end.Polled answer.Ready) w a = still w _ _ _ refl refl refl refl
+follow-react p (op.User (user_op.Drop f)) end.Done w a = still w _ _ _ refl refl refl refl
+follow-react p (op.User (user_op.DropOutput f)) end.Done w a = still w _ _ _ refl refl refl refl
+follow-react p (op.User (user_op.CallOutside x)) end.Done w a = still w _ _ _ refl refl refl refl
+follow-react p (op.User (user_op.PollOwn x)) (end.Polled answer.Pending) w a = still w _ _ _ refl refl refl refl
+follow-react p (op.User (user_op.PollOwn x)) (end.Polled answer.Ready) w a = still w _ _ _ refl refl refl refl
+follow-react p (op.User (user_op.DropOwn r)) end.Done w a = still w _ _ _ refl refl refl refl
 follow-react p _ _ w a = absurd (cc)
 
 follow-with : (w v : World) (x : Option ℕ) (d : ℕ → Done) → beds w ≡ beds v → ((f : ℕ) → Follow w [] (d f)) →
     Follow w [] (with_future v x d)
-follow-with w v None d e n = still w v _ _ e refl refl
+follow-with w v None d e n = still w v _ _ e refl refl refl
 follow-with w v (Some f) d e n = n f
 
-pub follow-begun : (p : ℕ) (w : World) (here : Option ℕ) (c : Call) →
+follow-poll_run : (w v : World) (t : Stage) (x : RunPoll) → beds w ≡ beds v → Follow w [] (done v (poll_run t x))
+follow-poll_run w v New x e = still w v _ _ e refl refl refl
+follow-poll_run w v Listed x e = still w v _ _ e refl refl refl
+follow-poll_run w v Ended x e = still w v _ _ e refl refl refl
+
+follow-drop_run : (w v : World) (t : Stage) (r : ℕ) → beds w ≡ beds v → Follow w [] (done v (drop_run t r))
+follow-drop_run w v New r e = still w v _ _ e refl refl refl
+follow-drop_run w v Listed r e = still w v _ _ e refl refl refl
+follow-drop_run w v Ended r e = still w v _ _ e refl refl refl
+
+pub follow-begun : (p : ℕ) (w : World) (here : Option Waker) (c : Call) →
     Follow w [] (begun p (log w (event.CallBegun p c)) here c)
 follow-begun p w here (call.Wake n) = follow-with w (log w (event.CallBegun p (call.Wake n))) (kept w n) _ refl
-    (λ f. still w _ _ _ refl refl refl)
+    (λ f. still w _ _ _ refl refl refl refl)
 follow-begun p w here (call.WakeByRef n) = follow-with w (log w (event.CallBegun p (call.WakeByRef n))) (kept w n) _
-    refl (λ f. still w _ _ _ refl refl refl)
+    refl (λ f. still w _ _ _ refl refl refl refl)
 follow-begun p w here (call.Copy n) = follow-with w (log w (event.CallBegun p (call.Copy n))) (kept w n) _ refl
-    (λ f. still w _ _ _ refl refl refl)
+    (λ f. still w _ _ _ refl refl refl refl)
 follow-begun p w here (call.DropWaker n) = follow-with w (log w (event.CallBegun p (call.DropWaker n))) (kept w n) _
-    refl (λ f. still w _ _ _ refl refl refl)
+    refl (λ f. still w _ _ _ refl refl refl refl)
 follow-begun p w here call.Keep =
-    follow-with w (log w (event.CallBegun p call.Keep)) here _ refl (λ f. still w _ _ _ refl refl refl)
-follow-begun p w here call.WakeSelf = follow-with w (log w (event.CallBegun p call.WakeSelf)) here _ refl
-    (λ f. still w _ _ _ refl refl refl)
-follow-begun p w here call.Spawn = still w _ _ _ refl refl refl
-follow-begun p w here call.TryTick = still w _ _ _ refl refl refl
-follow-begun p w here call.IsEmpty = still w _ _ _ refl refl refl
-follow-begun p w here (call.PollHandle f b) = still w _ _ _ refl refl refl
-follow-begun p w here (call.Cancel f) = still w _ _ _ refl refl refl
-follow-begun p w here (call.Detach f) = still w _ _ _ refl refl refl
-follow-begun p w here (call.DropHandle f) = still w _ _ _ refl refl refl
-follow-begun p w here call.NewTick = still w _ _ _ refl refl refl
-follow-begun p w here (call.PollTick t b) = still w _ _ _ refl refl refl
-follow-begun p w here (call.DropTick t) = still w _ _ _ refl refl refl
-follow-begun p w here call.DropExecutor = still w _ _ _ refl refl refl
+    follow-with w (log w (event.CallBegun p call.Keep)) (future_of here) _ refl (λ f. still w _ _ _ refl refl refl refl)
+follow-begun p w here call.WakeSelf = follow-with w (log w (event.CallBegun p call.WakeSelf)) (future_of here) _ refl
+    (λ f. still w _ _ _ refl refl refl refl)
+follow-begun p w here call.Spawn = still w _ _ _ refl refl refl refl
+follow-begun p w here call.TryTick = still w _ _ _ refl refl refl refl
+follow-begun p w here call.IsEmpty = still w _ _ _ refl refl refl refl
+follow-begun p w here (call.PollHandle f b) = still w _ _ _ refl refl refl refl
+follow-begun p w here (call.Cancel f) = still w _ _ _ refl refl refl refl
+follow-begun p w here (call.Detach f) = still w _ _ _ refl refl refl refl
+follow-begun p w here (call.DropHandle f) = still w _ _ _ refl refl refl refl
+follow-begun p w here call.NewTick = still w _ _ _ refl refl refl refl
+follow-begun p w here (call.PollTick t b) = still w _ _ _ refl refl refl refl
+follow-begun p w here (call.DropTick t) = still w _ _ _ refl refl refl refl
+follow-begun p w here call.NewRun = still w _ _ _ refl refl refl refl
+follow-begun p w here (call.PollRun r b) = follow-poll_run w _ _ _ refl
+follow-begun p w here (call.DropRun r) = follow-drop_run w _ _ r (beds-run w r _ refl)
+follow-begun p w here call.DropExecutor = still w _ _ _ refl refl refl refl
 
 -- every step
 
-abbrev pub Followed : Machine → Type 0
-Followed s = Follows (beds s.world) (weigh_all hands_of s.parties)
+pub record Followed (s : Machine) : Type 0 where
+  pub follows : Follows (beds s.world) (weigh_all hands_of s.parties) (weigh_all room_of s.parties)
+  pub rises : (q : ℕ) → RisesWell (stack s q)
 
 follow-way : (s : Machine) (p : ℕ) (old rest : List Op) (d : Done) → Way s p old rest d → Follow s.world old d
 follow-way s p old rest d (acted h o q z) = rw (z, q) (follow-act _ p h o s.world refl)
 follow-way s p old rest d (reacted o u a q z) = rw z (rw q (follow-react p o u s.world a))
-follow-way s p old rest d (called c q r n z) = rw z (rw q (follow-begun p s.world (polled_by (top (stack s p))) c))
+follow-way s p old rest d (called c q r n z) = rw z (rw q (follow-begun p s.world (mine (top (stack s p))) c))
+
+moved : (s : Machine) (p : ℕ) (old rest : List Op) (d : Done) → p < length s.parties → stack s p ≡ rest ++ reverse old →
+    Follow s.world old d → Followed s → Followed (unsettled s p rest d)
+moved s p old rest d l e f h = record {
+  follows = f.on _ _ (weigh_all hands_of (set s.parties p rest)) _ _ (weigh_all room_of (set s.parties p rest))
+      (split hands_of s.parties p old rest l e) (weigh_all-push hands_of s.parties p rest d.next l)
+      (split room_of s.parties p old rest l e) (weigh_all-push room_of s.parties p rest d.next l) h.follows;
+  rises = rises-set s.parties p (rest ++ reverse d.next) l h.rises
+      (rises-push rest d.next (rises-rest rest old (subst RisesWell e (h.rises p))) f.rises);
+}
 
 pub followed-moves : (s : Machine) (p : ℕ) (old rest : List Op) (d : Done) → Good s → p < length s.parties →
     stack s p ≡ rest ++ reverse old → Way s p old rest d → Followed s → Followed (unsettled s p rest d)
-followed-moves s p old rest d good l e w f =
-    (follow-way s p old rest d w).on _ _ (weigh_all hands_of (set s.parties p rest))
-    (split hands_of s.parties p old rest l e) (weigh_all-push hands_of s.parties p rest d.next l) f
+followed-moves s p old rest d good l e w f = moved s p old rest d l e (follow-way s p old rest d w) f
 
 pub followed-ends : (s : Machine) (p : ℕ) (a : Reply) (held : Hold) (below : List Op) → p < length s.parties →
     stack s p ≡ below ++ reverse (op.End a held ∷ []) → Followed s →
     Followed (unsettled s p below (done (log s.world (event.CallEnded p a)) []))
-followed-ends s p a held below l e f =
-    (still s.world (log s.world (event.CallEnded p a)) (op.End a held ∷ []) [] refl refl refl).on _ _
-    (weigh_all hands_of (set s.parties p below)) (split hands_of s.parties p (op.End a held ∷ []) below l e)
-    (weigh_all-push hands_of s.parties p below [] l) f
+followed-ends s p a held below l e f = moved s p (op.End a held ∷ []) below _ l e
+    (still s.world (log s.world (event.CallEnded p a)) (op.End a held ∷ []) [] refl refl refl refl) f
+
+idle-stack : (n q : ℕ) → get_or (idle n) q [] ≡ []
+idle-stack zero q = refl
+idle-stack (suc n) zero = refl
+idle-stack (suc n) (suc q) = idle-stack n q
 
 pub followed-start : (limit n : ℕ) → Followed (start limit n)
-followed-start limit n = subst (λ (j : ℕ). Follows (beds (start limit n).world) j) (sym (weigh_all-idle hands_of n))
-    (record { numbers = []; kept = first; same = λ m. refl; lain = refl; roomed = refl })
+followed-start limit n = record {
+  follows = shift (beds (start limit n).world) (beds (start limit n).world) 0 _ 0 _ refl
+      (sym (weigh_all-idle hands_of n))
+      (sym (weigh_all-idle room_of n))
+      (record { numbers = []; kept = first; same = λ m. refl; lain = refl; roomed = refl });
+  rises = λ q. ap (λ (os : List Op). rises_well (reverse os)) (idle-stack n q);
+}
 
 pub followed : (limit n : ℕ) (ts : List Step) → Followed (run ts (start limit n))
 followed limit n ts = along Followed followed-moves followed-ends ts (start limit n) (good-start limit n)
@@ -284,21 +419,24 @@ flag-cases count len e = by (eqb count 0) refl e
     by false q k = let z : len < count = grind (arith, nat_tests) in inr z
 
 pub agrees : (s : Machine) → Followed s → SleepersAgree s
-agrees s f = record {
-  apart = λ t u n a b. used-apart n s.world.ticks t u
-      (omega (arith, f.same n, times-apart n f.numbers f.kept.agree.apart)) a b;
-  counted = f.lain;
-  listed = f.kept.agree.listed;
-  roomed = omega (arith, f.roomed);
-  finds_room = λ t e. omega (arith, f.lain, f.roomed, up-rooms s.world.ticks t e);
-  finds_place = λ t n e q. follows-unlisted s.world t n (weigh_all hands_of s.parties) e q f;
-  flag = λ e. ⊎_elim
-      (λ (x : flag_of s.world.sleepers ≡ true). ⊎_elim (λ (z : s.world.sleepers.count ≡ 0). inl z)
-      (λ (z : length s.world.sleepers.wakers < s.world.sleepers.count). inr (inl z))
-      (flag-cases s.world.sleepers.count (length s.world.sleepers.wakers) x))
-      (λ (x : 1 ≤ weigh_all hands_of s.parties). inr (inr x))
-      (f.kept.agree.told e);
-}
+agrees s h = let f = h.follows in
+    let w = s.world in
+    let ps : List Place = places w.runs in record {
+      apart = λ t u n a b. used_all-apart n w.ticks ps t u
+          (omega (arith, f.same n, times-apart n f.numbers f.kept.agree.apart)) (in-bed w t (Lies n) a)
+          (in-bed w u (Lies n) b);
+      counted = omega (arith, f.lain, lying-places w.runs);
+      listed = f.kept.agree.listed;
+      roomed = omega (arith, f.roomed, rooms-places w.runs);
+      finds_room = λ t e. omega (arith, f.lain, f.roomed, up_rooms-all w.ticks ps t (in-bed w t Up e));
+      finds_place = λ t n e q. follows-unlisted w t n _ _ e q f;
+      flag = λ e. ⊎_elim
+          (λ (x : flag_of w.sleepers ≡ true). ⊎_elim (λ (z : w.sleepers.count ≡ 0). inl z)
+          (λ (z : length w.sleepers.wakers < w.sleepers.count). inr (inl z))
+          (flag-cases w.sleepers.count (length w.sleepers.wakers) x))
+          (λ (x : 1 ≤ weigh_all hands_of s.parties). inr (inr x))
+          (f.kept.agree.told e);
+    }
 
 pub agree : (limit n : ℕ) (ts : List Step) → SleepersAgree (run ts (start limit n))
 agree limit n ts = agrees (run ts (start limit n)) (followed limit n ts)

@@ -3,20 +3,22 @@ use Rattle.std.proofs.Common.{◌≡◌, ℕ, ◌<◌, List, [], ◌∷◌, leng
 use Rattle.std.proofs.lemmas.List.{length-set}
 use Rattle.std.specs.Prelude.{Option, Some, None}
 use Rattle.task_moves.specs.Moves as moves
+use Rattle.executor_model.specs.ActsOfSleepers.{polled_as}
 use Rattle.executor_model.specs.declared.event.Event.TheVariants as event
 use Rattle.executor_model.specs.declared.op.Op.TheVariants as op
-use Rattle.executor_model.specs.declared.op.Polled.TheVariants as of
 use Rattle.executor_model.specs.declared.op.Sleeping.{Sleeping}
 use Rattle.executor_model.specs.declared.op.SleeperOp.TheVariants as sleeper_op
 use Rattle.executor_model.specs.declared.op.TickOp.TheVariants as tick_op
 use Rattle.executor_model.specs.declared.op.Waker.{Waker}
 use Rattle.executor_model.specs.declared.op.Waker.TheVariants.{Task, Outside}
-use Rattle.executor_model.specs.World.{World, Tick, Up, Lies, Left, log, task}
-use Rattle.executor_model.specs.Acts.{exchange_by, hand_out_by, call_sleeper, make_tick_by, search_by}
-use Rattle.executor_model.specs.Acts.{copy_sleeper_by, lie_down_by, get_up_by, leave_sleepers_by}
+use Rattle.executor_model.specs.declared.op.Sleeper.{Sleeper}
+use Rattle.executor_model.specs.World.{World, Place, Up, Lies, Left, log, task}
+use Rattle.executor_model.specs.ActsOfSleepers.{exchange_by, hand_out_by, call_sleeper, make_tick_by, search_by}
+use Rattle.executor_model.specs.ActsOfSleepers.{copy_sleeper_by}
+use Rattle.executor_model.specs.ActsOfSleepers.{lie_down_by, get_up_by, leave_sleepers_by}
 use Rattle.executor_model.specs.Good.{IsKnownWaker}
 use Rattle.executor_model.proofs.Cases.{by_bool}
-use Rattle.executor_model.proofs.Counting.{woken_by}
+use Rattle.executor_model.proofs.Counting.{woken, woken_by}
 use Rattle.executor_model.proofs.Lists.{read_put, same_is}
 use Rattle.executor_model.proofs.SleepersCases.{by_going, LiesDown, lies-down, GetsUp, gets-up, Leaves, leaves}
 use Rattle.executor_model.proofs.SleepersCounting.{asleep}
@@ -35,9 +37,9 @@ stored-hand_out false o w g r bb h = grind arith
 stored-hand_out true None w g r bb h = grind arith
 stored-hand_out true (Some s) w g r bb h = grind arith
 
-stored-call_task : (o b c : Bool) (p t k : ℕ) (w : World) (f : ℕ) → f < length w.tasks →
+stored-call_task : (o b c : Bool) (p : ℕ) (t : Sleeper) (k : ℕ) (w : World) (f : ℕ) → f < length w.tasks →
     KeepsStored w (op.Sleeper (sleeper_op.CallSleeper (asleep (Task f) t k)) ∷ [])
-    (woken_by o b c p (log w (event.WakerCalled p (of.Tick t) k (Task f))) f)
+    (woken_by o b c p (log w (event.WakerCalled p (polled_as t) k (Task f))) f)
 stored-call_task true true c p t k w f i g r bb h =
     grind (arith, same_is, read_put, length-set, readies-push, spent-push)
 stored-call_task true false true p t k w f i g r bb h =
@@ -51,10 +53,26 @@ stored-call_task false false true p t k w f i g r bb h =
 stored-call_task false false false p t k w f i g r bb h =
     grind (arith, same_is, read_put, length-set, readies-push, spent-push)
 
-pub stored-call_sleeper : (p t k : ℕ) (a : Waker) (w : World) → IsKnownWaker w a →
+pub stored-call_sleeper : (p : ℕ) (t : Sleeper) (k : ℕ) (a : Waker) (w : World) → IsKnownWaker w a →
     KeepsStored w (op.Sleeper (sleeper_op.CallSleeper (asleep a t k)) ∷ []) (call_sleeper p w (asleep a t k))
 stored-call_sleeper p t k (Task f) w i = stored-call_task (moves.is_over (task w f)) _ _ p t k w f i
 stored-call_sleeper p t k (Outside x) w i = λ g r bb h. grind (arith, readies-push, spent-push)
+
+-- a wake by reference that stands alone
+pub stored-by_reference : (o b c : Bool) (p : ℕ) (w : World) (f : ℕ) → f < length w.tasks →
+    KeepsStored w [] (woken o b c p w f)
+stored-by_reference true true c p w f i g r bb h = grind
+    (arith, same_is, read_put, length-set, readies-push, spent-push)
+stored-by_reference true false true p w f i g r bb h =
+    grind (arith, same_is, read_put, length-set, readies-push, spent-push)
+stored-by_reference true false false p w f i g r bb h =
+    grind (arith, same_is, read_put, length-set, readies-push, spent-push)
+stored-by_reference false true c p w f i g r bb h =
+    grind (arith, same_is, read_put, length-set, readies-push, spent-push)
+stored-by_reference false false true p w f i g r bb h =
+    grind (arith, same_is, read_put, length-set, readies-push, spent-push)
+stored-by_reference false false false p w f i g r bb h =
+    grind (arith, same_is, read_put, length-set, readies-push, spent-push)
 
 -- a tick
 
@@ -63,14 +81,14 @@ stored-make_tick = by_bool _
     (λ w g r bb h. grind arith)
     (λ w g r bb h. grind arith)
 
-pub stored-search : (t : Tick) (q : List ℕ) (w : World) (s : Sleeping) → w.queue.items ≡ q →
+pub stored-search : (t : Place) (q : List ℕ) (w : World) (s : Sleeping) → w.queue.items ≡ q →
     KeepsStored w (op.Tick (tick_op.Search s) ∷ []) (search_by t w q s)
 stored-search t [] w s e g r bb h = grind arith
 stored-search Up (f ∷ rest) w s e g r bb h = grind (arith, same_is)
 stored-search (Lies n) (f ∷ rest) w s e g r bb h = grind (arith, same_is)
 stored-search Left (f ∷ rest) w s e g r bb h = grind (arith, same_is)
 
-pub stored-copy_sleeper : (b : Bool) (a : Waker) (t k : ℕ) (w : World) → IsKnownWaker w a →
+pub stored-copy_sleeper : (b : Bool) (a : Waker) (t : Sleeper) (k : ℕ) (w : World) → IsKnownWaker w a →
     KeepsStored w (op.Tick (tick_op.CopyWaker (asleep a t k)) ∷ []) (copy_sleeper_by b w (asleep a t k))
 stored-copy_sleeper true a t k w e g r bb h = grind arith
 stored-copy_sleeper false (Task m) t k w e g r bb h = let z : m < length w.tasks = e in
@@ -88,21 +106,21 @@ stored-lying = record {
       (λ x u k g r bb h. grind arith);
 }
 
-pub stored-lie_down : (x : Tick) (w : World) (s : Sleeping) →
+pub stored-lie_down : (x : Place) (w : World) (s : Sleeping) →
     KeepsStored w (op.Tick (tick_op.LieDown s) ∷ []) (lie_down_by x w s)
 stored-lie_down = lies-down KeepsStored stored-lying
 
 stored-rising : GetsUp KeepsStored
 stored-rising = record {
-  up = λ w t f g r bb h. grind arith;
-  lay = λ w n t f. by_going _
+  up = λ w t g r bb h. grind arith;
+  lay = λ w n t. by_going _
       (λ g r bb h. grind arith)
       (λ m u k g r bb h. grind arith)
       (λ x u k g r bb h. grind arith);
 }
 
-pub stored-get_up : (x : Tick) (w : World) (t f : ℕ) →
-    KeepsStored w (op.Tick (tick_op.GetUp t f) ∷ []) (get_up_by x w t f)
+pub stored-get_up : (x : Place) (w : World) (t : Sleeper) →
+    KeepsStored w (op.Tick (tick_op.GetUp t) ∷ []) (get_up_by x w t)
 stored-get_up = gets-up KeepsStored stored-rising
 
 stored-leaving : Leaves KeepsStored
@@ -115,6 +133,6 @@ stored-leaving = record {
       (λ x u k g r bb h. grind arith);
 }
 
-pub stored-leave_sleepers : (x : Tick) (w : World) (t : ℕ) →
+pub stored-leave_sleepers : (x : Place) (w : World) (t : Sleeper) →
     KeepsStored w (op.Tick (tick_op.Leave t) ∷ []) (leave_sleepers_by x w t)
 stored-leave_sleepers = leaves KeepsStored stored-leaving

@@ -1,17 +1,19 @@
--- What tells sleepers, and a tick that leaves or has found a future, asks for no memory.
-use Rattle.std.proofs.Common.{◌≡◌, ℕ, List, [], ◌∷◌, ◌++◌, Bool, true, false, refl}
+-- What tells sleepers, and a tick or run that leaves or has found a future, asks for no memory.
+use Rattle.std.proofs.Common.{◌≡◌, ℕ, List, [], ◌∷◌, Bool, true, false, refl}
 use Rattle.std.specs.Prelude.{Option, Some, None, is_none}
 use Rattle.executor_parts.specs.Sleepers.{waker_of}
 use Rattle.executor_model.specs.declared.event.Event.TheVariants as event
-use Rattle.executor_model.specs.declared.op.Polled.TheVariants as of
 use Rattle.executor_model.specs.declared.op.Sleeping.{Sleeping}
 use Rattle.executor_model.specs.declared.op.SleeperOp.{SleeperOp}
 use Rattle.executor_model.specs.declared.op.SleeperOp.TheVariants as sleeper_op
 use Rattle.executor_model.specs.declared.op.Waker.{Waker}
 use Rattle.executor_model.specs.declared.op.Waker.TheVariants.{Task, Outside}
-use Rattle.executor_model.specs.World.{World, Tick, Up, Lies, Left, tick_of, log}
-use Rattle.executor_model.specs.Acts.{exchange_by, hand_out_by, call_waker, run_found, found_by, search_by}
-use Rattle.executor_model.specs.Acts.{sleeper_goes, get_up_by, tell_if, end_drop, leave_sleepers_by, sleeper_act}
+use Rattle.executor_model.specs.declared.op.Sleeper.{Sleeper}
+use Rattle.executor_model.specs.World.{World, Place, Up, Lies, Left, place_of, log}
+use Rattle.executor_model.specs.Acts.{call_waker}
+use Rattle.executor_model.specs.ActsOfSleepers.{exchange_by, hand_out_by, polled_as, search_by}
+use Rattle.executor_model.specs.ActsOfSleepers.{sleeper_goes, get_up_by, tell_if, leave_sleepers_by}
+use Rattle.executor_model.specs.Doing.{sleeper_act}
 use Rattle.executor_model.specs.Memory.{AsksForNone, FindsWithoutMemory}
 use Rattle.executor_model.proofs.Unasking.{both, none-waker, none-wake}
 
@@ -24,8 +26,8 @@ none-tell true = refl
 none-tell false = refl
 
 none-call_waker : (p : ℕ) (w : World) (s : Sleeping) (a : Waker) →
-    AsksForNone (call_waker p w (of.Tick s.tick) a s.poll).next
-none-call_waker p w s (Task g) = none-wake p (log w (event.WakerCalled p (of.Tick s.tick) s.poll (Task g))) g
+    AsksForNone (call_waker p w (polled_as s.who) a s.poll).next
+none-call_waker p w s (Task g) = none-wake p (log w (event.WakerCalled p (polled_as s.who) s.poll (Task g))) g
 none-call_waker p w s (Outside x) = refl
 
 none-exchange : (b : Bool) (w : World) → AsksForNone (exchange_by b w).next
@@ -42,29 +44,28 @@ none-sleeper p sleeper_op.ExchangeFlag w = none-exchange _ w
 none-sleeper p sleeper_op.HandOut w = none-hand_out _ _ w
 none-sleeper p (sleeper_op.CallSleeper s) w = none-call_waker p w s s.waker
 
-pub none-up : (x : Tick) (w : World) (t f : ℕ) → AsksForNone (get_up_by x w t f).next
-none-up Up w t f = refl
-none-up (Lies n) w t f =
-    both (sleeper_goes (waker_of n w.sleepers.wakers)) (run_found t f) (none-goes (waker_of n w.sleepers.wakers)) refl
-none-up Left w t f = refl
+pub none-up : (x : Place) (w : World) (t : Sleeper) → AsksForNone (get_up_by x w t).next
+none-up Up w t = refl
+none-up (Lies n) w t = none-goes (waker_of n w.sleepers.wakers)
+none-up Left w t = refl
 
-pub none-leave_sleepers : (x : Tick) (w : World) (t : ℕ) → AsksForNone (leave_sleepers_by x w t).next
+pub none-leave_sleepers : (x : Place) (w : World) (t : Sleeper) → AsksForNone (leave_sleepers_by x w t).next
 none-leave_sleepers Up w t = refl
 none-leave_sleepers (Lies n) w t =
     let old = waker_of n w.sleepers.wakers in
-    both (sleeper_goes old ++ tell_if (is_none old)) (end_drop t)
-    (both (sleeper_goes old) (tell_if (is_none old)) (none-goes old) (none-tell (is_none old))) refl
+    both (sleeper_goes old) (tell_if (is_none old)) (none-goes old) (none-tell (is_none old))
 none-leave_sleepers Left w t = refl
 
-none-found : (x : Tick) (t f : ℕ) → AsksForNone (found_by x t f)
-none-found Up t f = refl
-none-found (Lies n) t f = refl
-none-found Left t f = refl
+none-found : (x : Place) (w : World) (f : ℕ) (rest : List ℕ) (s : Sleeping) →
+    AsksForNone (search_by x w (f ∷ rest) s).next
+none-found Up w f rest s = refl
+none-found (Lies n) w f rest s = refl
+none-found Left w f rest s = refl
 
 -- a search that finds a future leads to nothing that asks for memory
 pub finds-without : (w : World) → FindsWithoutMemory w
 finds-without w f rest s e = by w.queue.items e
   where
-    by : (q : List ℕ) → q ≡ f ∷ rest → AsksForNone (search_by (tick_of w s.tick) w q s).next
+    by : (q : List ℕ) → q ≡ f ∷ rest → AsksForNone (search_by (place_of w s.who) w q s).next
     by [] k = absurd (cc)
-    by (g ∷ more) k = none-found (tick_of w s.tick) s.tick g
+    by (g ∷ more) k = none-found (place_of w s.who) w g more s

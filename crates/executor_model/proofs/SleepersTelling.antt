@@ -1,5 +1,5 @@
--- Where a Runnable stands in the queue and a tick lies, a sleeper is notified or will be told.
-use Rattle.std.proofs.Common.{◌≡◌, ℕ, suc, ◌+◌, ◌<◌, ◌≤◌, List, [], ◌∷◌, ◌++◌, length, take, Bool, true, false}
+-- Where a Runnable stands in the queue and a tick or run lies, a sleeper is notified or will be told.
+use Rattle.std.proofs.Common.{◌≡◌, ℕ, zero, suc, ◌+◌, ◌<◌, ◌≤◌, List, [], ◌∷◌, ◌++◌, length, take, Bool, true, false}
 use Rattle.std.proofs.Common.{ltb, eqb, refl, sym, ap, subst, inl, inr, ◌⊎◌, arith}
 use Rattle.std.proofs.lemmas.Bool.Decides.{nat_tests}
 use Rattle.std.proofs.lemmas.List.{length-set, length-take-le}
@@ -14,9 +14,19 @@ use Rattle.executor_model.specs.declared.event.Answer.TheVariants as answer
 use Rattle.executor_model.specs.declared.event.Event.TheVariants as event
 use Rattle.executor_model.specs.declared.op.Op.{Op}
 use Rattle.executor_model.specs.declared.op.Op.TheVariants as op
-use Rattle.executor_model.specs.declared.op.Polled.TheVariants as of
 use Rattle.executor_model.specs.declared.op.QueueOp.TheVariants as queue_op
+use Rattle.executor_model.specs.declared.op.ListOp.{ListOp}
+use Rattle.executor_model.specs.declared.op.ListOp.TheVariants as list_op
+use Rattle.executor_model.specs.declared.op.RunOp.TheVariants as run_op
+use Rattle.executor_model.specs.declared.op.RunPoll.{RunPoll}
+use Rattle.executor_model.specs.declared.op.Section.TheVariants as section
+use Rattle.executor_model.specs.declared.op.Sleeper.TheVariants as sleeper
 use Rattle.executor_model.specs.declared.op.Sleeping.{Sleeping}
+use Rattle.executor_model.specs.declared.op.Steal.{Steal}
+use Rattle.executor_model.specs.declared.op.StealOp.{StealOp}
+use Rattle.executor_model.specs.declared.op.StealOp.TheVariants as steal_op
+use Rattle.executor_model.specs.declared.op.Then.{Then}
+use Rattle.executor_model.specs.declared.op.Then.TheVariants as then
 use Rattle.executor_model.specs.declared.op.SleeperOp.{SleeperOp}
 use Rattle.executor_model.specs.declared.op.SleeperOp.TheVariants as sleeper_op
 use Rattle.executor_model.specs.declared.op.TickOp.{TickOp}
@@ -27,18 +37,31 @@ use Rattle.executor_model.specs.declared.op.Waker.TheVariants.{Task, Outside}
 use Rattle.executor_model.specs.declared.step.Hint.{Hint}
 use Rattle.executor_model.specs.declared.step.UserEnd.{UserEnd}
 use Rattle.executor_model.specs.declared.step.UserEnd.TheVariants as end
-use Rattle.executor_model.specs.Acts.{act, append_by, exchange_by, hand_out_by, call_sleeper, make_tick_by}
-use Rattle.executor_model.specs.Acts.{search_by, copied, copy_sleeper_by, lie_anew_by, sleeper_goes, run_found}
-use Rattle.executor_model.specs.Acts.{lie_listed_by, lie_again_by, lie_down_by, get_up_by, given_back, tell_if}
-use Rattle.executor_model.specs.Acts.{end_drop, leave_sleepers_by, sleeper_act, tick_act}
-use Rattle.executor_model.specs.Steps.{accepts, begun, react, with_future, kept}
+use Rattle.executor_model.specs.Acts.{append_by}
+use Rattle.executor_model.specs.ActsOfSleepers.{exchange_by, found_by, hand_out_by, call_sleeper, make_tick_by}
+use Rattle.executor_model.specs.ActsOfSleepers.{polled_as}
+use Rattle.executor_model.specs.ActsOfRuns.{counted_by, found, kept_by, make_room_by, make_run_by, registered}
+use Rattle.executor_model.specs.ActsOfRuns.{return_room}
+use Rattle.executor_model.specs.ActsOfRuns.{search_common_by, search_own_by, steal_by, steal_length_by, steal_put_by}
+use Rattle.executor_model.specs.ActsOfRuns.{steal_take_by, stolen}
+use Rattle.executor_model.specs.Doing.{act}
+use Rattle.executor_model.specs.Acts.{copied}
+use Rattle.executor_model.specs.ActsOfSleepers.{search_by, copy_sleeper_by, lie_anew_by, sleeper_goes}
+use Rattle.executor_model.specs.ActsOfSleepers.{lie_listed_by, lie_again_by, lie_down_by, get_up_by, given_back}
+use Rattle.executor_model.specs.ActsOfSleepers.{tell_if}
+use Rattle.executor_model.specs.ActsOfSleepers.{leave_sleepers_by}
+use Rattle.executor_model.specs.Doing.{list_act, search_by_who, sleeper_act, steal_act, tick_act}
+use Rattle.executor_model.specs.Steps.{accepts, begun, future_of, react, with_future, kept}
 use Rattle.executor_model.specs.Weights.{weigh}
-use Rattle.executor_model.specs.World.{World, Tick, Up, Lies, Left, Done, done, log}
+use Rattle.executor_model.specs.declared.op.Sleeper.{Sleeper}
+use Rattle.executor_model.specs.World.{World, Place, Up, Lies, Left, Stage, New, Listed, Ended, Done, done, log}
+use Rattle.executor_model.specs.World.{put_own, run_of}
 use Rattle.executor_model.proofs.Lists.{weigh-append}
 use Rattle.executor_model.proofs.SleepersLists.{position-within}
 use Rattle.executor_model.specs.SleepersAgree.{hands_of}
-use Rattle.executor_model.specs.SleepersTold.{tells_of}
-use Rattle.executor_model.proofs.SleepersAway.{beds, Away, away-act, away-call, is_bed}
+use Rattle.executor_model.specs.SleepersTold.{tells_of, tells_steal, tells_then}
+use Rattle.executor_model.proofs.SleepersAway.{beds, beds-run, Away, away-act, away-call, is_bed}
+use Rattle.executor_model.proofs.SleepersRising.{rises_of}
 
 -- so it is where so many have still to tell
 pub record Told (w : World) (i : ℕ) : Type 0 where
@@ -49,10 +72,11 @@ pub record Ground (w : World) (a : ℕ) : Type 0 where
   pub flag : w.notified ≡ true → (w.sleepers.count ≡ 0) ⊎ ((length w.sleepers.wakers < w.sleepers.count) ⊎ (1 ≤ a))
   pub listed : length w.sleepers.wakers ≤ w.sleepers.count
 
--- it stays so where old is done, beside others who have still to tell k times, and to hand out m times
+-- it stays so where old is done, beside others who have still to tell k times, and to hand out m times; beside who gets
+-- up there is one
 pub record Tells (w : World) (old : List Op) (d : Done) : Type 0 where
   pub on : (i j k a m : ℕ) → i ≡ weigh tells_of old + k → j ≡ weigh tells_of d.next + k → a ≡ weigh hands_of old + m →
-      m ≤ k → Ground w a → Told w i → Told d.world j
+      m ≤ k → weigh rises_of old ≤ k → Ground w a → Told w i → Told d.world j
 
 -- the sleepers stay, and the queue gets no longer
 same-told : (w v : World) (i j : ℕ) → beds w ≡ beds v → length v.queue.items ≤ length w.queue.items → i ≤ j → Told w i →
@@ -62,14 +86,20 @@ same-told w v i j e q l t =
     let n : length w.sleepers.wakers ≡ length v.sleepers.wakers = ap (λ b. length b.sleepers.wakers) e in
     grind arith
 
+-- they stay, the queue gets no longer, and as many tell as before
+pub steady : (w v : World) (old next : List Op) → beds w ≡ beds v → length v.queue.items ≤ length w.queue.items →
+    weigh tells_of old ≤ weigh tells_of next → Tells w old (done v next)
+steady w v old next e q z =
+    record { on = λ i j k a m x y u l r g t. same-told w v i j e q (omega (arith, x, y, z)) t }
+
 pub quiet : (w v : World) (old next : List Op) → beds w ≡ beds v → length v.queue.items ≤ length w.queue.items →
     weigh tells_of old ≡ 0 → Tells w old (done v next)
-quiet w v old next e q z = record { on = λ i j k a m x y u l g t. same-told w v i j e q (omega (arith, x, y, z)) t }
+quiet w v old next e q z = steady w v old next e q (omega (arith, z))
 
 -- somebody tells next
 loud : (w v : World) (old next : List Op) → 1 ≤ weigh tells_of next → Tells w old (done v next)
 loud w v old next z =
-    record { on = λ i j k a m x y u l g t. record { told = λ p q. let b : 1 ≤ j = omega (arith, y, z) in inr b } }
+    record { on = λ i j k a m x y u l r g t. record { told = λ p q. let b : 1 ≤ j = omega (arith, y, z) in inr b } }
 
 tells-append : (b : Bool) (w : World) (f : ℕ) → Tells w (op.Queue (queue_op.Append f) ∷ []) (append_by b w f)
 tells-append true w f = loud w _ _ _ (omega arith)
@@ -77,7 +107,7 @@ tells-append false w f = quiet w _ _ _ refl (omega arith) refl
 
 tells-exchange : (b : Bool) (w : World) → w.notified ≡ b →
     Tells w (op.Sleeper sleeper_op.ExchangeFlag ∷ []) (exchange_by b w)
-tells-exchange true w e = record { on = λ i j k a m x y u l g t. grind arith }
+tells-exchange true w e = record { on = λ i j k a m x y u l r g t. grind arith }
 tells-exchange false w e = loud w _ _ _ (omega arith)
 
 no-last : (ws : List (ℕ × Sleeping)) → last_waker ws ≡ None → length ws ≡ 0
@@ -92,10 +122,10 @@ no-last (x ∷ xs) e = absurd
 
 tells-hand_out : (b : Bool) (o : Option Sleeping) (w : World) → eqb (length w.sleepers.wakers) w.sleepers.count ≡ b →
     last_waker w.sleepers.wakers ≡ o → Tells w (op.Sleeper sleeper_op.HandOut ∷ []) (hand_out_by b o w)
-tells-hand_out false o w e q = record { on = λ i j k a m x y u l g t. grind (arith, nat_tests) }
+tells-hand_out false o w e q = record { on = λ i j k a m x y u l r g t. grind (arith, nat_tests) }
 tells-hand_out true None w e q = let z = no-last w.sleepers.wakers q in
-    record { on = λ i j k a m x y u l g t. grind (arith, nat_tests) }
-tells-hand_out true (Some s) w e q = record { on = λ i j k a m x y u l g t. taken w i j e q }
+    record { on = λ i j k a m x y u l r g t. grind (arith, nat_tests) }
+tells-hand_out true (Some s) w e q = record { on = λ i j k a m x y u l r g t. taken w i j e q }
   where
     -- one less than all that sleep
     taken : (w : World) (i j : ℕ) → eqb (length w.sleepers.wakers) w.sleepers.count ≡ true →
@@ -109,20 +139,20 @@ tells-hand_out true (Some s) w e q = record { on = λ i j k a m x y u l g t. tak
 tells-sleeper : (p : ℕ) (o : SleeperOp) (w : World) → Tells w (op.Sleeper o ∷ []) (sleeper_act p o w)
 tells-sleeper p sleeper_op.ExchangeFlag w = tells-exchange _ w refl
 tells-sleeper p sleeper_op.HandOut w = tells-hand_out _ _ w refl refl
-tells-sleeper p (sleeper_op.CallSleeper s) w = let a = away-call p w (of.Tick s.tick) s.waker s.poll in
+tells-sleeper p (sleeper_op.CallSleeper s) w = let a = away-call p w (polled_as s.who) s.waker s.poll in
     quiet w (call_sleeper p w s).world _ (call_sleeper p w s).next a.beds a.queue refl
 
--- ticks
+-- ticks and runs
 
 tells-make : (b : Bool) (w : World) → Tells w (op.Tick tick_op.MakeTick ∷ []) (make_tick_by b w)
 tells-make true w = quiet w _ _ _ refl (omega arith) refl
-tells-make false w = record { on = λ i j k a m x y u l g t. record { told = λ p q. grind arith } }
+tells-make false w = record { on = λ i j k a m x y u l r g t. record { told = λ p q. grind arith } }
 
-tells-search : (x : Tick) (q : List ℕ) (w : World) (s : Sleeping) → w.queue.items ≡ q →
+tells-search : (x : Place) (q : List ℕ) (w : World) (s : Sleeping) → w.queue.items ≡ q →
     Tells w (op.Tick (tick_op.Search s) ∷ []) (search_by x w q s)
 tells-search x [] w s e =
     record {
-      on = λ i j k a m x y u l g t.
+      on = λ i j k a m x y u l r g t.
           record { told = λ p q. absurd (let z : length w.queue.items ≡ 0 = ap length e in omega (arith, p, z)) };
     }
 tells-search Up (f ∷ rest) w s e = loud w _ _ _ (omega arith)
@@ -153,20 +183,19 @@ tells-again : (o : Option ℕ) (w : World) (n : ℕ) (s : Sleeping) →
 tells-again None w n s = tells-listed _ w n s
 tells-again (Some at) w n s =
     record {
-      on = λ i j k a m x y u l g t. let z = length-set w.sleepers.wakers at (n, s) in
+      on = λ i j k a m x y u l r g t. let z = length-set w.sleepers.wakers at (n, s) in
           record { told = λ p q. grind arith };
     }
 
-tells-lie : (x : Tick) (w : World) (s : Sleeping) → Tells w (op.Tick (tick_op.LieDown s) ∷ []) (lie_down_by x w s)
+tells-lie : (x : Place) (w : World) (s : Sleeping) → Tells w (op.Tick (tick_op.LieDown s) ∷ []) (lie_down_by x w s)
 tells-lie Up w s = tells-anew _ w s
 tells-lie (Lies n) w s = tells-again _ w n s
 tells-lie Left w s = quiet w _ _ _ refl (omega arith) refl
 
-tells-up : (x : Tick) (w : World) (t f : ℕ) → Tells w (op.Tick (tick_op.GetUp t f) ∷ []) (get_up_by x w t f)
-tells-up Up w t f = loud w _ _ _ (omega arith)
-tells-up (Lies n) w t f = let old = waker_of n w.sleepers.wakers in
-    loud w _ _ _ (omega (arith, weigh-append tells_of (sleeper_goes old) (run_found t f)))
-tells-up Left w t f = loud w _ _ _ (omega arith)
+tells-up : (x : Place) (w : World) (t : Sleeper) → Tells w (op.Tick (tick_op.GetUp t) ∷ []) (get_up_by x w t)
+tells-up x w t = record {
+  on = λ i j k a m y z u l r g h. record { told = λ p q. let b : 1 ≤ j = omega (arith, z, r) in inr b };
+}
 
 -- one with a waker leaves: it, and its waker
 left : (n at : ℕ) (s : Sleepers Sleeping) → position_of n s.wakers ≡ Some at → length s.wakers ≤ s.count →
@@ -205,21 +234,16 @@ has-place n ws a e = by (position_of n ws) refl e
     by None q k = absurd (cc)
     by (Some at) q k = (at, q)
 
-tells-left : (old : Option Sleeping) (w : World) (t n : ℕ) → waker_of n w.sleepers.wakers ≡ old →
+tells-left : (old : Option Sleeping) (w : World) (t : Sleeper) (n : ℕ) → waker_of n w.sleepers.wakers ≡ old →
     Tells w (op.Tick (tick_op.Leave t) ∷ []) (leave_sleepers_by (Lies n) w t)
 tells-left None w t n e =
     let o = waker_of n w.sleepers.wakers in
     let told : weigh tells_of (tell_if (is_none o)) ≡ 1 =
     ap (λ (x : Option Sleeping). weigh tells_of (tell_if (is_none x))) e in
     loud w _ _ _
-    (omega (
-      arith,
-      told,
-      weigh-append tells_of (sleeper_goes o ++ tell_if (is_none o)) (end_drop t),
-      weigh-append tells_of (sleeper_goes o) (tell_if (is_none o)),
-    ))
+    (omega (arith, told, weigh-append tells_of (sleeper_goes o) (tell_if (is_none o))))
 tells-left (Some x) w t n e = record {
-  on = λ i j k a m p q u l g h. record {
+  on = λ i j k a m p q u l r g h. record {
     told = λ b c.
         let here = has-place n w.sleepers.wakers x e in
         let less = left n here.0 w.sleepers here.1 g.listed in
@@ -235,10 +259,10 @@ tells-left (Some x) w t n e = record {
     moved c n c2 n2 i j a b l (inl x) = inl (omega (arith, a, b, x))
     moved c n c2 n2 i j a b l (inr x) = inr (omega (arith, l, x))
 
-tells-leave : (x : Tick) (w : World) (t : ℕ) → Tells w (op.Tick (tick_op.Leave t) ∷ []) (leave_sleepers_by x w t)
+tells-leave : (x : Place) (w : World) (t : Sleeper) → Tells w (op.Tick (tick_op.Leave t) ∷ []) (leave_sleepers_by x w t)
 tells-leave Up w t =
     record {
-      on = λ i j k a m x y u l g h. let same = given w.sleepers in
+      on = λ i j k a m x y u l r g h. let same = given w.sleepers in
           let z : length (given_back w.sleepers).wakers ≡ length w.sleepers.wakers = ap length same.1 in
           let y2 = same.0 in
           record { told = λ p q. grind arith };
@@ -246,33 +270,161 @@ tells-leave Up w t =
 tells-leave (Lies n) w t = tells-left _ w t n refl
 tells-leave Left w t = quiet w _ _ _ refl (omega arith) refl
 
+-- runs
+
+tells-rises : (x : Place) (who : Sleeper) (more : List Op) →
+    1 ≤ weigh tells_of (found_by x who (op.Sleeper sleeper_op.ExchangeFlag ∷ more))
+tells-rises Up who more = omega arith
+tells-rises (Lies n) who more = omega arith
+tells-rises Left who more = omega arith
+
+tells-found : (w : World) (x : RunPoll) (f : ℕ) → 1 ≤ weigh tells_of (found w x f).next
+tells-found w x f =
+    let first = found_by (run_of w x.run).place (sleeper.Run x.run) (op.Sleeper sleeper_op.ExchangeFlag ∷ []) in
+    omega (
+      arith,
+      weigh-append tells_of first (counted_by (eqb ((run_of w x.run).counted + 1) 64) w x f).next,
+      tells-rises (run_of w x.run).place (sleeper.Run x.run) [],
+    )
+
+tells-own : (q : List ℕ) (w : World) (s : Sleeping) (x : RunPoll) →
+    Tells w (op.Tick (tick_op.Search s) ∷ []) (search_own_by q w x)
+tells-own [] w s x = loud w _ _ _ (omega arith)
+tells-own (f ∷ rest) w s x = loud w (found (put_own w x.run rest) x f).world _ (found (put_own w x.run rest) x f).next
+    (tells-found (put_own w x.run rest) x f)
+
+tells-search_who : (who : Sleeper) (w : World) (s : Sleeping) →
+    Tells w (op.Tick (tick_op.Search s) ∷ []) (search_by_who who w s)
+tells-search_who (sleeper.Tick t) w s = tells-search _ _ w s refl
+tells-search_who (sleeper.Run r) w s = tells-own _ w s _
+
+tells-common : (q : List ℕ) (w : World) (x : RunPoll) → w.queue.items ≡ q →
+    Tells w (op.Run (run_op.SearchCommon x) ∷ []) (search_common_by q w x)
+tells-common [] w x e =
+    record {
+      on = λ i j k a m y z u l r g t.
+          record { told = λ p q. absurd (let z : length w.queue.items ≡ 0 = ap length e in omega (arith, p, z)) };
+    }
+tells-common (f ∷ rest) w x e = loud w _ _ _ (omega arith)
+
+tells-room : (b : Bool) (w : World) → Tells w (op.Run run_op.MakeRoom ∷ []) (make_room_by b w)
+tells-room true w = quiet w _ _ _ refl (omega arith) refl
+tells-room false w = record { on = λ i j k a m x y u l r g t. record { told = λ p q. grind arith } }
+
+tells-returned : (w : World) → Tells w (op.Run run_op.ReturnRoom ∷ []) (return_room w)
+tells-returned w =
+    record {
+      on = λ i j k a m x y u l r g h. let same = given w.sleepers in
+          let z : length (given_back w.sleepers).wakers ≡ length w.sleepers.wakers = ap length same.1 in
+          let y2 = same.0 in
+          record { told = λ p q. grind arith };
+    }
+
+make-still : (b : Bool) (w : World) → ((make_run_by b w).world.sleepers ≡ w.sleepers) ×
+    ((make_run_by b w).world.queue ≡ w.queue)
+make-still true w = (refl, refl)
+make-still false w = (refl, refl)
+
+register-still : (t : Stage) (w : World) (r : ℕ) → ((registered t w r).sleepers ≡ w.sleepers) ×
+    ((registered t w r).queue ≡ w.queue)
+register-still New w r = (refl, refl)
+register-still Listed w r = (refl, refl)
+register-still Ended w r = (refl, refl)
+
+list-still : (h : Hint) (o : ListOp) (w : World) →
+    ((list_act h o w).world.sleepers ≡ w.sleepers) × ((list_act h o w).world.queue ≡ w.queue)
+list-still h (list_op.LockWrite s) w = (refl, refl)
+list-still h (list_op.Write section.MakeRun) w = make-still h.refused w
+list-still h (list_op.Write (section.Register x)) w = register-still _ w x.run
+list-still h (list_op.Write (section.Unregister r a)) w = (refl, refl)
+list-still h list_op.UnlockWrite w = (refl, refl)
+list-still h (list_op.LockRead x) w = (refl, refl)
+list-still h list_op.UnlockRead w = (refl, refl)
+
+told-still : (w v : World) (i j : ℕ) → v.sleepers ≡ w.sleepers → v.queue ≡ w.queue → i ≤ j → Told w i → Told v j
+told-still w v i j e q l t =
+    let c : w.sleepers.count ≡ v.sleepers.count = ap (λ s. s.count) (sym e) in
+    let n : length w.sleepers.wakers ≡ length v.sleepers.wakers = ap (λ s. length s.wakers) (sym e) in
+    let m : length w.queue.items ≡ length v.queue.items = ap (λ (x : ClosableQueue ℕ). length x.items) (sym q) in
+    grind arith
+
+-- the list of queues has no part in it
+tells-list : (h : Hint) (o : ListOp) (w : World) → Tells w (op.List o ∷ []) (list_act h o w)
+tells-list h o w = let s = list-still h o w in
+    record { on = λ i j k a m x y u l r g t. told-still w (list_act h o w).world i j s.0 s.1 (omega (arith, x, y)) t }
+
+-- a steal that tells goes on with what tells
+
+tells-stolen : (t : Then) (w : World) (x : RunPoll) → tells_then t ≤ weigh tells_of (stolen t w x).next
+tells-stolen (then.Found f) w x = tells-found w x f
+tells-stolen (then.Run f) w x = omega arith
+tells-stolen (then.Walk at left) w x = omega arith
+
+tells-more : (n : ℕ) (w : World) (s : Steal) → tells_then s.then ≤ weigh tells_of (steal_by n w s).next
+tells-more zero w s = tells-stolen s.then w s.poll
+tells-more (suc n) w s = omega arith
+
+tells-length : (n : ℕ) (w : World) (s : Steal) → tells_then s.then ≤ weigh tells_of (steal_length_by n w s).next
+tells-length zero w s = tells-stolen s.then w s.poll
+tells-length (suc n) w s = omega arith
+
+tells-take : (q : List ℕ) (w : World) (s : Steal) (more : ℕ) →
+    tells_then s.then ≤ weigh tells_of (steal_take_by q w s more).next
+tells-take [] w s more = tells-stolen s.then w s.poll
+tells-take (f ∷ rest) w s more = omega arith
+
+tells-put : (b : Bool) (p : ℕ) (w : World) (s : Steal) (more f : ℕ) →
+    tells_then s.then ≤ weigh tells_of (steal_put_by b p w s more f).next
+tells-put true p w s more f = tells-more more (kept_by p w s.poll.run f) s
+tells-put false p w s more f = omega (arith, tells-stolen s.then w s.poll)
+
+tells-steal : (p : ℕ) (o : StealOp) (w : World) → tells_steal o ≤ weigh tells_of (steal_act p o w).next
+tells-steal p (steal_op.Length s) w = tells-length _ w s
+tells-steal p (steal_op.OwnLength s n) w = tells-more _ w s
+tells-steal p (steal_op.Take s more) w = tells-take _ w s more
+tells-steal p (steal_op.Put s more f) w = tells-put _ p w s more f
+
 tells-tick : (h : Hint) (o : TickOp) (w : World) → Tells w (op.Tick o ∷ []) (tick_act h o w)
 tells-tick h tick_op.MakeTick w = tells-make _ w
-tells-tick h (tick_op.Search s) w = tells-search _ _ w s refl
+tells-tick h (tick_op.Search s) w = tells-search_who s.who w s
 tells-tick h (tick_op.CopyWaker s) w = tells-copy _ w s
 tells-tick h (tick_op.LieDown s) w = tells-lie _ w s
-tells-tick h (tick_op.GetUp t f) w = tells-up _ w t f
+tells-tick h (tick_op.GetUp t) w = tells-up _ w t
 tells-tick h (tick_op.Leave t) w = tells-leave _ w t
 
-no-tells : (o : Op) → is_bed o ≡ false → tells_of o ≡ 0
-no-tells (op.Sleeper o) e = absurd (cc)
-no-tells (op.Move m f) e = refl
-no-tells (op.Table o) e = refl
-no-tells (op.Queue o) e = refl
-no-tells (op.User o) e = refl
-no-tells (op.Waker o) e = refl
-no-tells (op.Handle o) e = refl
-no-tells (op.Tick o) e = absurd (cc)
-no-tells (op.Closing o) e = refl
-no-tells (op.End r held) e = refl
+-- a steal, and a run that looks at the executor's queue
+abbrev hunts : Op → Bool
+hunts (op.Steal o) = true
+hunts (op.Run (run_op.SearchCommon x)) = true
+hunts _ = false
+
+no-tells : (o : Op) → is_bed o ≡ false → hunts o ≡ false → tells_of o ≡ 0
+no-tells (op.Sleeper o) e q = absurd (cc)
+no-tells (op.Tick o) e q = absurd (cc)
+no-tells (op.Steal o) e q = absurd (cc)
+no-tells (op.Run (run_op.SearchCommon x)) e q = absurd (cc)
+no-tells _ e q = refl
+
+tells-hunt : (b : Bool) (p : ℕ) (h : Hint) (o : Op) (w : World) → is_bed o ≡ false → hunts o ≡ b →
+    Tells w (o ∷ []) (act p h o w)
+tells-hunt false p h o w n e =
+    let a : Away w (act p h o w) = away-act p h o w n in
+    quiet w (act p h o w).world (o ∷ []) (act p h o w).next a.beds a.queue (omega (arith, no-tells o n e))
+tells-hunt true p h (op.Steal o) w n e =
+    let a : Away w (steal_act p o w) = away-act p h (op.Steal o) w n in
+    steady w (steal_act p o w).world (op.Steal o ∷ []) (steal_act p o w).next a.beds a.queue
+    (omega (arith, tells-steal p o w))
+tells-hunt true p h (op.Run (run_op.SearchCommon x)) w n e = tells-common _ w x refl
+tells-hunt true p h _ w n e = absurd (cc)
 
 pub tells-act : (b : Bool) (p : ℕ) (h : Hint) (o : Op) (w : World) → is_bed o ≡ b → Tells w (o ∷ []) (act p h o w)
-tells-act false p h o w n =
-    let a : Away w (act p h o w) = away-act p h o w n in
-    quiet w (act p h o w).world (o ∷ []) (act p h o w).next a.beds a.queue (omega (arith, no-tells o n))
+tells-act false p h o w n = tells-hunt _ p h o w n refl
 tells-act true p h (op.Queue (queue_op.Append g)) w n = tells-append _ w g
 tells-act true p h (op.Sleeper o) w n = tells-sleeper p o w
 tells-act true p h (op.Tick o) w n = tells-tick h o w
+tells-act true p h (op.List o) w n = tells-list h o w
+tells-act true p h (op.Run run_op.MakeRoom) w n = tells-room _ w
+tells-act true p h (op.Run run_op.ReturnRoom) w n = tells-returned w
 tells-act true p h _ w n = absurd (cc)
 
 pub tells-react : (p : ℕ) (o : Op) (u : UserEnd) (w : World) → accepts o u ≡ true → Tells w (o ∷ []) (react p o u w)
@@ -281,6 +433,9 @@ tells-react p (op.User (user_op.Poll f)) (end.Polled answer.Ready) w a = quiet w
 tells-react p (op.User (user_op.Drop f)) end.Done w a = quiet w _ _ _ refl (omega arith) refl
 tells-react p (op.User (user_op.DropOutput f)) end.Done w a = quiet w _ _ _ refl (omega arith) refl
 tells-react p (op.User (user_op.CallOutside x)) end.Done w a = quiet w _ _ _ refl (omega arith) refl
+tells-react p (op.User (user_op.PollOwn x)) (end.Polled answer.Pending) w a = quiet w _ _ _ refl (omega arith) refl
+tells-react p (op.User (user_op.PollOwn x)) (end.Polled answer.Ready) w a = quiet w _ _ _ refl (omega arith) refl
+tells-react p (op.User (user_op.DropOwn r)) end.Done w a = quiet w _ _ _ refl (omega arith) refl
 tells-react p _ _ w a = absurd (cc)
 
 tells-with : (w v : World) (x : Option ℕ) (d : ℕ → Done) → beds w ≡ beds v → v.queue ≡ w.queue →
@@ -288,7 +443,7 @@ tells-with : (w v : World) (x : Option ℕ) (d : ℕ → Done) → beds w ≡ be
 tells-with w v None d e q n = quiet w v _ _ e (omega (arith, ap (λ (c : ClosableQueue ℕ). length c.items) q)) refl
 tells-with w v (Some f) d e q n = n f
 
-pub tells-begun : (p : ℕ) (w : World) (here : Option ℕ) (c : Call) →
+pub tells-begun : (p : ℕ) (w : World) (here : Option Waker) (c : Call) →
     Tells w [] (begun p (log w (event.CallBegun p c)) here c)
 tells-begun p w here (call.Wake n) = tells-with w (log w (event.CallBegun p (call.Wake n))) (kept w n) _ refl refl
     (λ f. quiet w _ _ _ refl (omega arith) refl)
@@ -299,8 +454,9 @@ tells-begun p w here (call.Copy n) = tells-with w (log w (event.CallBegun p (cal
 tells-begun p w here (call.DropWaker n) = tells-with w (log w (event.CallBegun p (call.DropWaker n))) (kept w n) _ refl
     refl (λ f. quiet w _ _ _ refl (omega arith) refl)
 tells-begun p w here call.Keep =
-    tells-with w (log w (event.CallBegun p call.Keep)) here _ refl refl (λ f. quiet w _ _ _ refl (omega arith) refl)
-tells-begun p w here call.WakeSelf = tells-with w (log w (event.CallBegun p call.WakeSelf)) here _ refl refl
+    tells-with w (log w (event.CallBegun p call.Keep)) (future_of here) _ refl refl
+    (λ f. quiet w _ _ _ refl (omega arith) refl)
+tells-begun p w here call.WakeSelf = tells-with w (log w (event.CallBegun p call.WakeSelf)) (future_of here) _ refl refl
     (λ f. quiet w _ _ _ refl (omega arith) refl)
 tells-begun p w here call.Spawn = quiet w _ _ _ refl (omega arith) refl
 tells-begun p w here call.TryTick = quiet w _ _ _ refl (omega arith) refl
@@ -312,4 +468,7 @@ tells-begun p w here (call.DropHandle f) = quiet w _ _ _ refl (omega arith) refl
 tells-begun p w here call.NewTick = quiet w _ _ _ refl (omega arith) refl
 tells-begun p w here (call.PollTick t b) = quiet w _ _ _ refl (omega arith) refl
 tells-begun p w here (call.DropTick t) = quiet w _ _ _ refl (omega arith) refl
+tells-begun p w here call.NewRun = quiet w _ _ _ refl (omega arith) refl
+tells-begun p w here (call.PollRun r b) = quiet w _ _ _ refl (omega arith) refl
+tells-begun p w here (call.DropRun r) = quiet w _ _ _ (beds-run w r _ refl) (omega arith) refl
 tells-begun p w here call.DropExecutor = quiet w _ _ _ refl (omega arith) refl

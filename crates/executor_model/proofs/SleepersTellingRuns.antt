@@ -1,6 +1,6 @@
--- After every list of steps, where a Runnable stands in the queue and a tick lies,
+-- After every list of steps, where a Runnable stands in the queue and a tick or run lies,
 -- a sleeper is notified or will be told.
-use Rattle.std.proofs.Common.{◌≡◌, ℕ, ◌<◌, ◌≤◌, List, [], ◌∷◌, ◌++◌, length, set, refl, arith}
+use Rattle.std.proofs.Common.{◌≡◌, ℕ, zero, suc, ◌+◌, ◌<◌, ◌≤◌, List, [], ◌∷◌, ◌++◌, length, set, refl, subst, arith}
 use Rattle.std.specs.Prelude.{reverse}
 use Rattle.executor_model.specs.declared.call.Reply.{Reply}
 use Rattle.executor_model.specs.declared.event.Event.TheVariants as event
@@ -11,7 +11,7 @@ use Rattle.executor_model.specs.declared.op.QueueOp.TheVariants as queue_op
 use Rattle.executor_model.specs.declared.op.SleeperOp.TheVariants as sleeper_op
 use Rattle.executor_model.specs.declared.step.Step.{Step}
 use Rattle.executor_model.specs.Good.{Good}
-use Rattle.executor_model.specs.Steps.{Machine, stack, run, start, polled_by, top}
+use Rattle.executor_model.specs.Steps.{Machine, stack, run, start, mine, top}
 use Rattle.executor_model.specs.Weights.{weigh, weigh_all}
 use Rattle.executor_model.specs.World.{Done, done, log}
 use Rattle.executor_model.proofs.Lift.{split, unsettled, good-start}
@@ -19,6 +19,7 @@ use Rattle.executor_model.proofs.Lists.{weigh_all-below, weigh_all-push}
 use Rattle.executor_model.proofs.Ways.{Way, acted, reacted, called, along}
 use Rattle.executor_model.specs.SleepersAgree.{SleepersAgree, hands_of}
 use Rattle.executor_model.specs.SleepersTold.{SleepersAreTold, tells_of}
+use Rattle.executor_model.proofs.SleepersRising.{RisesWell, rises-old, rises_of}
 use Rattle.executor_model.proofs.SleepersFollowingRuns.{Followed, followed-moves, followed-ends, followed-start, agrees}
 use Rattle.executor_model.proofs.SleepersTelling.{Told, Ground, Tells, tells-act, tells-react, tells-begun, quiet}
 
@@ -44,7 +45,22 @@ ground s f = let a : SleepersAgree s = agrees s f in record { flag = a.flag; lis
 tell-way : (s : Machine) (p : ℕ) (old rest : List Op) (d : Done) → Way s p old rest d → Tells s.world old d
 tell-way s p old rest d (acted h o q z) = rw (z, q) (tells-act _ p h o s.world refl)
 tell-way s p old rest d (reacted o u a q z) = rw (z, q) (tells-react p o u s.world a)
-tell-way s p old rest d (called c q r n z) = rw (z, q) (tells-begun p s.world (polled_by (top (stack s p))) c)
+tell-way s p old rest d (called c q r n z) = rw (z, q) (tells-begun p s.world (mine (top (stack s p))) c)
+
+-- below who gets up the same party tells
+way-rises : (s : Machine) (p : ℕ) (old rest : List Op) (d : Done) → Way s p old rest d →
+    RisesWell (rest ++ reverse old) →
+    weigh rises_of old ≤ weigh tells_of rest
+way-rises s p old rest d (acted h o q z) = rw q (λ e. omega (arith, rises-old rest o e))
+way-rises s p old rest d (reacted o u a q z) = rw q (λ e. omega (arith, rises-old rest o e))
+way-rises s p old rest d (called c q r n z) = rw q (λ e. omega arith)
+
+-- one stack's part of the sum over all
+here : (ss : List (List Op)) (p : ℕ) (os : List Op) → p < length ss →
+    weigh tells_of os ≤ weigh_all tells_of (set ss p os)
+here [] p os l = absurd (omega (arith, l))
+here (s ∷ ss) zero os l = omega arith
+here (s ∷ ss) (suc p) os l = omega (arith, here ss p os (omega (arith, l)))
 
 tell-moves : (s : Machine) (p : ℕ) (old rest : List Op) (d : Done) → Good s → p < length s.parties →
     stack s p ≡ rest ++ reverse old → Way s p old rest d → Tell s → Tell (unsettled s p rest d)
@@ -53,7 +69,9 @@ tell-moves s p old rest d good l e w h = record {
   told = (tell-way s p old rest d w).on _ _ (weigh_all tells_of (set s.parties p rest)) _
       (weigh_all hands_of (set s.parties p rest)) (split tells_of s.parties p old rest l e)
       (weigh_all-push tells_of s.parties p rest d.next l) (split hands_of s.parties p old rest l e)
-      (hands-all (set s.parties p rest)) (ground s h.followed) h.told;
+      (hands-all (set s.parties p rest))
+      (omega (arith, way-rises s p old rest d w (subst RisesWell e (h.followed.rises p)), here s.parties p rest l))
+      (ground s h.followed) h.told;
 }
 
 tell-ends : (s : Machine) (p : ℕ) (a : Reply) (held : Hold) (below : List Op) → p < length s.parties →
@@ -64,7 +82,7 @@ tell-ends s p a held below l e h = record {
   told = (quiet s.world (log s.world (event.CallEnded p a)) (op.End a held ∷ []) [] refl (omega arith) refl).on _ _
       (weigh_all tells_of (set s.parties p below)) _ (weigh_all hands_of (set s.parties p below))
       (split tells_of s.parties p (op.End a held ∷ []) below l e) (weigh_all-push tells_of s.parties p below [] l)
-      (split hands_of s.parties p (op.End a held ∷ []) below l e) (hands-all (set s.parties p below))
+      (split hands_of s.parties p (op.End a held ∷ []) below l e) (hands-all (set s.parties p below)) (omega arith)
       (ground s h.followed) h.told;
 }
 

@@ -5,7 +5,6 @@ use Rattle.queue_steps.specs.ClosableQueue.{ClosableQueue}
 use Rattle.executor_model.specs.declared.event.Event.{Event}
 use Rattle.executor_model.specs.declared.event.Event.TheVariants as event
 use Rattle.executor_model.specs.declared.op.Polled.{Polled}
-use Rattle.executor_model.specs.declared.op.Polled.TheVariants as of
 use Rattle.executor_model.specs.declared.op.Sleeping.{Sleeping}
 use Rattle.executor_model.specs.declared.op.SleeperOp.{SleeperOp}
 use Rattle.executor_model.specs.declared.op.SleeperOp.TheVariants as sleeper_op
@@ -14,10 +13,13 @@ use Rattle.executor_model.specs.declared.op.TickOp.TheVariants as tick_op
 use Rattle.executor_model.specs.declared.op.Waker.{Waker}
 use Rattle.executor_model.specs.declared.op.Waker.TheVariants.{Task, Outside}
 use Rattle.executor_model.specs.declared.step.Hint.{Hint}
-use Rattle.executor_model.specs.World.{World, Tick, Up, Lies, Left, log, log_if}
-use Rattle.executor_model.specs.Acts.{exchange_by, hand_out_by, call_waker, make_tick_by, copied}
-use Rattle.executor_model.specs.Acts.{copy_sleeper_by, lie_anew_by, lie_listed_by, lie_again_by, lie_down_by}
-use Rattle.executor_model.specs.Acts.{get_up_by, leave_sleepers_by, sleeper_act, tick_act}
+use Rattle.executor_model.specs.declared.op.Sleeper.{Sleeper}
+use Rattle.executor_model.specs.World.{World, Place, Up, Lies, Left, log, log_if}
+use Rattle.executor_model.specs.Acts.{call_waker, copied}
+use Rattle.executor_model.specs.ActsOfSleepers.{exchange_by, hand_out_by, make_tick_by, polled_as}
+use Rattle.executor_model.specs.ActsOfSleepers.{copy_sleeper_by, lie_anew_by, lie_listed_by, lie_again_by, lie_down_by}
+use Rattle.executor_model.specs.ActsOfSleepers.{get_up_by, leave_sleepers_by}
+use Rattle.executor_model.specs.Doing.{sleeper_act, tick_act}
 
 -- the parts that tasks, sleepers, ticks and the trace are no part of
 pub record Rest : Type 0 where
@@ -61,7 +63,7 @@ hand_out-rest false o w = refl
 pub sleeper-rest : (p : ℕ) (o : SleeperOp) (w : World) → rest_of w ≡ rest_of (sleeper_act p o w).world
 sleeper-rest p sleeper_op.ExchangeFlag w = exchange-rest _ w
 sleeper-rest p sleeper_op.HandOut w = hand_out-rest _ _ w
-sleeper-rest p (sleeper_op.CallSleeper s) w = call-rest p w (of.Tick s.tick) s.waker s.poll
+sleeper-rest p (sleeper_op.CallSleeper s) w = call-rest p w (polled_as s.who) s.waker s.poll
 
 make-rest : (b : Bool) (w : World) → rest_of w ≡ rest_of (make_tick_by b w).world
 make-rest true w = refl
@@ -87,17 +89,17 @@ again-rest : (o : Option ℕ) (w : World) (n : ℕ) (s : Sleeping) → rest_of w
 again-rest None w n s = listed-rest _ w n s
 again-rest (Some at) w n s = refl
 
-lie-rest : (x : Tick) (w : World) (s : Sleeping) → rest_of w ≡ rest_of (lie_down_by x w s).world
+lie-rest : (x : Place) (w : World) (s : Sleeping) → rest_of w ≡ rest_of (lie_down_by x w s).world
 lie-rest Up w s = anew-rest _ w s
 lie-rest (Lies n) w s = again-rest _ w n s
 lie-rest Left w s = refl
 
-up-rest : (x : Tick) (w : World) (t f : ℕ) → rest_of w ≡ rest_of (get_up_by x w t f).world
-up-rest Up w t f = refl
-up-rest (Lies n) w t f = refl
-up-rest Left w t f = refl
+up-rest : (x : Place) (w : World) (t : Sleeper) → rest_of w ≡ rest_of (get_up_by x w t).world
+up-rest Up w t = refl
+up-rest (Lies n) w t = refl
+up-rest Left w t = refl
 
-leave-rest : (x : Tick) (w : World) (t : ℕ) → rest_of w ≡ rest_of (leave_sleepers_by x w t).world
+leave-rest : (x : Place) (w : World) (t : Sleeper) → rest_of w ≡ rest_of (leave_sleepers_by x w t).world
 leave-rest Up w t = refl
 leave-rest (Lies n) w t = refl
 leave-rest Left w t = refl
@@ -111,5 +113,5 @@ tick-rest h tick_op.MakeTick w n = make-rest _ w
 tick-rest h (tick_op.Search s) w n = absurd (cc)
 tick-rest h (tick_op.CopyWaker s) w n = copy-rest _ w s
 tick-rest h (tick_op.LieDown s) w n = lie-rest _ w s
-tick-rest h (tick_op.GetUp t f) w n = up-rest _ w t f
+tick-rest h (tick_op.GetUp t) w n = up-rest _ w t
 tick-rest h (tick_op.Leave t) w n = leave-rest _ w t

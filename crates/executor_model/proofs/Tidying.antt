@@ -18,8 +18,10 @@ use Rattle.executor_model.specs.declared.op.HandleOp.TheVariants as handle_op
 use Rattle.executor_model.specs.declared.op.QueueOp.TheVariants as queue_op
 use Rattle.executor_model.specs.World.{World, task, awaiter_of}
 use Rattle.executor_model.specs.Carried.{owed_ops, future_ops, awaiter_ops}
-use Rattle.executor_model.specs.Acts.{append_by, take_by, enter_by, copy_by, look_by, look_again_by, copy_awaiter_by}
-use Rattle.executor_model.specs.Acts.{register_by, waker_goes, let_go, end_register_by, notify_by, told, call_awaiter}
+use Rattle.executor_model.specs.Acts.{append_by, take_by, enter_by, copy_by, look_by, look_again_by}
+use Rattle.executor_model.specs.Acts.{copy_awaiter_by}
+use Rattle.executor_model.specs.Acts.{register_by, waker_goes, let_go, end_register_by, notify_by, told}
+use Rattle.executor_model.specs.Acts.{call_awaiter}
 use Rattle.executor_model.specs.Acts.{closing_ops, drop_next_by, wake, wake_next_by, drain_by}
 use Rattle.executor_model.specs.Weights.{weigh}
 use Rattle.executor_model.proofs.Lists.{weigh-append}

@@ -3,8 +3,10 @@ use Rattle.std.proofs.Common.{◌≡◌, ℕ, [], ◌∷◌, Bool, true, false, 
 use Rattle.std.specs.Prelude.{Option, Some, None}
 use Rattle.task_moves.specs.declared.moves.owed.Move.TheVariants as move
 use Rattle.task_moves.specs.Moves as moves
+use Rattle.executor_model.specs.declared.op.Waker.{Waker}
 use Rattle.executor_model.specs.declared.call.Call.{Call}
 use Rattle.executor_model.specs.declared.call.Call.TheVariants as call
+use Rattle.executor_model.specs.declared.event.Answer.TheVariants as answer
 use Rattle.executor_model.specs.declared.op.Op.{Op}
 use Rattle.executor_model.specs.declared.op.Op.TheVariants as op
 use Rattle.executor_model.specs.declared.op.ClosingOp.TheVariants as closing_op
@@ -16,17 +18,18 @@ use Rattle.executor_model.specs.declared.op.WakerOp.TheVariants as waker_op
 use Rattle.executor_model.specs.declared.step.Hint.{Hint}
 use Rattle.executor_model.specs.declared.step.UserEnd.{UserEnd}
 use Rattle.executor_model.specs.declared.step.UserEnd.TheVariants as end
-use Rattle.executor_model.specs.World.{World, Done, task, among, awaiter_of}
+use Rattle.executor_model.specs.World.{World, Done, task, among, awaiter_of, run_of}
 use Rattle.executor_model.specs.Carried.{drop_ops}
-use Rattle.executor_model.specs.Acts.{act}
+use Rattle.executor_model.specs.Doing.{act}
 use Rattle.executor_model.specs.Weights.{weigh}
-use Rattle.executor_model.specs.Steps.{with_future, kept, accepts, begun, react}
+use Rattle.executor_model.specs.Steps.{with_future, future_of, kept, accepts, begun, react}
 use Rattle.executor_model.proofs.Borrowing.{uses_of, Tidy, tidy-light}
 use Rattle.executor_model.proofs.Tidying.{light-again, light-append, light-call, light-carried, light-closing}
 use Rattle.executor_model.proofs.Tidying.{light-copy, light-copy_awaiter, light-drain, light-drop_next}
 use Rattle.executor_model.proofs.Tidying.{light-end_register, light-enter, light-look, light-notify, light-owed}
 use Rattle.executor_model.proofs.Tidying.{light-register, light-told, light-wake, light-wake_next, no-cancel, no-detach}
 use Rattle.executor_model.proofs.Tidying.{no-give_up, no-release, no-wake, tidy-take, tidy-using}
+use Rattle.executor_model.proofs.RunsTidying.{light-drop_run, light-poll_run, tidy-list, tidy-run, tidy-steal}
 use Rattle.executor_model.proofs.SleepersTidying.{tidy-sleeper, tidy-tick}
 
 -- what it needs beside: a Runnable that is dropped is one of a future that has no entry any more
@@ -79,6 +82,9 @@ tidy-act p h (op.Handle (handle_op.EndNotify f mine)) w n = tidy-light _ _ (ligh
 tidy-act p h (op.Waker (waker_op.CallAwaiter f a k)) w n = tidy-light _ _ (light-call p w f a k)
 tidy-act p h (op.Sleeper o) w n = tidy-sleeper p o w
 tidy-act p h (op.Tick o) w n = tidy-tick h o w
+tidy-act p h (op.List o) w n = tidy-list h o w
+tidy-act p h (op.Steal o) w n = tidy-steal p o w
+tidy-act p h (op.Run o) w n = tidy-run p h o w
 tidy-act p h (op.Closing closing_op.TakeOut) w n = tidy-light _ _ (light-closing w.table w.waking)
 tidy-act p h (op.Closing closing_op.DropNext) w n = tidy-light _ _ (light-drop_next p w w.leaving)
 tidy-act p h (op.Closing closing_op.WakeNext) w n = tidy-light _ _ (light-wake_next p w w.waking)
@@ -90,6 +96,9 @@ tidy-react p (op.User (user_op.Poll f)) (end.Polled a) w k = tidy-using (op.User
 tidy-react p (op.User (user_op.Drop f)) end.Done w k = tidy-light _ _ refl
 tidy-react p (op.User (user_op.DropOutput f)) end.Done w k = tidy-light _ _ refl
 tidy-react p (op.User (user_op.CallOutside x)) end.Done w k = tidy-light _ _ refl
+tidy-react p (op.User (user_op.PollOwn x)) (end.Polled answer.Pending) w k = tidy-light _ _ refl
+tidy-react p (op.User (user_op.PollOwn x)) (end.Polled answer.Ready) w k = tidy-light _ _ refl
+tidy-react p (op.User (user_op.DropOwn r)) end.Done w k = tidy-light _ _ refl
 tidy-react p _ _ w k = absurd (cc)
 
 tidy-with : (v : World) (r : Option ℕ) (d : ℕ → Done) → ((f : ℕ) → Tidy [] (d f).next) →
@@ -97,7 +106,7 @@ tidy-with : (v : World) (r : Option ℕ) (d : ℕ → Done) → ((f : ℕ) → T
 tidy-with v None d k = tidy-light _ _ refl
 tidy-with v (Some f) d k = k f
 
-pub tidy-begun : (p : ℕ) (w : World) (here : Option ℕ) (c : Call) → Tidy [] (begun p w here c).next
+pub tidy-begun : (p : ℕ) (w : World) (here : Option Waker) (c : Call) → Tidy [] (begun p w here c).next
 tidy-begun p w here call.Spawn = tidy-light _ _ refl
 tidy-begun p w here call.TryTick = tidy-light _ _ refl
 tidy-begun p w here call.IsEmpty = tidy-light _ _ refl
@@ -105,8 +114,8 @@ tidy-begun p w here (call.Wake k) = tidy-with w (kept w k) _ (λ f. tidy-light _
 tidy-begun p w here (call.WakeByRef k) = tidy-with w (kept w k) _ (λ f. tidy-light _ _ refl)
 tidy-begun p w here (call.Copy k) = tidy-with w (kept w k) _ (λ f. tidy-light _ _ refl)
 tidy-begun p w here (call.DropWaker k) = tidy-with w (kept w k) _ (λ f. tidy-light _ _ refl)
-tidy-begun p w here call.Keep = tidy-with w here _ (λ f. tidy-light _ _ refl)
-tidy-begun p w here call.WakeSelf = tidy-with w here _ (λ f. tidy-light _ _ refl)
+tidy-begun p w here call.Keep = tidy-with w (future_of here) _ (λ f. tidy-light _ _ refl)
+tidy-begun p w here call.WakeSelf = tidy-with w (future_of here) _ (λ f. tidy-light _ _ refl)
 tidy-begun p w here (call.PollHandle f b) = tidy-light _ _ refl
 tidy-begun p w here (call.Cancel f) = tidy-light _ _ refl
 tidy-begun p w here (call.Detach f) = tidy-light _ _ refl
@@ -114,4 +123,7 @@ tidy-begun p w here (call.DropHandle f) = tidy-light _ _ refl
 tidy-begun p w here call.NewTick = tidy-light _ _ refl
 tidy-begun p w here (call.PollTick t b) = tidy-light _ _ refl
 tidy-begun p w here (call.DropTick t) = tidy-light _ _ refl
+tidy-begun p w here call.NewRun = tidy-light _ _ refl
+tidy-begun p w here (call.PollRun r b) = tidy-light _ _ (light-poll_run (run_of w r).stage _)
+tidy-begun p w here (call.DropRun r) = tidy-light _ _ (light-drop_run (run_of w r).stage r)
 tidy-begun p w here call.DropExecutor = tidy-light _ _ refl

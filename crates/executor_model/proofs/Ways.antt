@@ -1,5 +1,5 @@
 -- How a step changes the machine: one move of one party, and the end of a call where that is all that is left of it.
-use Rattle.std.proofs.Common.{◌≡◌, ℕ, ◌<◌, List, [], ◌∷◌, ◌++◌, length, set, Bool, true, false, ltb, refl, sym}
+use Rattle.std.proofs.Common.{◌≡◌, ℕ, ◌<◌, List, [], ◌∷◌, ◌++◌, length, set, Bool, true, false, not, ltb, refl, sym}
 use Rattle.std.proofs.Common.{ap, arith, append-nil, ◌∙◌, subst, get_or-set_same}
 use Rattle.std.proofs.lemmas.Bool.Decides.{nat_tests}
 use Rattle.std.specs.Prelude.{Option, Some, None, reverse}
@@ -13,12 +13,13 @@ use Rattle.executor_model.specs.declared.step.Hint.{Hint}
 use Rattle.executor_model.specs.declared.step.Step.{Step}
 use Rattle.executor_model.specs.declared.step.Step.TheVariants.{Begin, Go, Answer}
 use Rattle.executor_model.specs.declared.step.StepError.{StepError}
-use Rattle.executor_model.specs.declared.step.StepError.TheVariants.{NoSuch, WrongAnswer}
+use Rattle.executor_model.specs.declared.step.StepError.TheVariants.{NoSuch, Waits, WrongAnswer}
 use Rattle.executor_model.specs.declared.step.UserEnd.{UserEnd}
-use Rattle.executor_model.specs.World.{World, Done, done, log}
-use Rattle.executor_model.specs.Acts.{act}
-use Rattle.executor_model.specs.Steps.{Machine, stack, top, below_top, polled_by, begin_refusal}
-use Rattle.executor_model.specs.Steps.{go_refusal, answer_refusal, accepts, unless, party_of, part_refusal}
+use Rattle.executor_model.specs.World.{World, Lock, Done, done, log}
+use Rattle.executor_model.specs.Doing.{act}
+use Rattle.executor_model.specs.Steps.{Machine, stack, top, below_top, mine, begin_refusal, waits}
+use Rattle.executor_model.specs.Steps.{go_refusal, answer_refusal, accepts, is_locked_out, unless, party_of}
+use Rattle.executor_model.specs.Steps.{part_refusal}
 use Rattle.executor_model.specs.Steps.{refusal, begun, react, Part, end_of, settled_by, onto, gone_on}
 use Rattle.executor_model.specs.Steps.{part_after, with_part, step_by, step, stepped, run}
 use Rattle.std.proofs.lemmas.List.{set-set}
@@ -31,7 +32,24 @@ pub data Way (s : Machine) (p : ℕ) (old rest : List Op) (d : Done) : Type 0 wh
   acted : (h : Hint) (o : Op) → old ≡ o ∷ [] → d ≡ act p h o s.world → Way s p old rest d
   reacted : (o : Op) (e : UserEnd) → accepts o e ≡ true → old ≡ o ∷ [] → d ≡ react p o e s.world → Way s p old rest d
   called : (c : Call) → old ≡ [] → rest ≡ stack s p → begin_refusal s.world s.parties (top (stack s p)) c ≡ None →
-      d ≡ begun p (log s.world (event.CallBegun p c)) (polled_by (top (stack s p))) c → Way s p old rest d
+      d ≡ begun p (log s.world (event.CallBegun p c)) (mine (top (stack s p))) c → Way s p old rest d
+
+-- no other party has the lock that it waits for
+abbrev pub HasWay : Lock → List Op → Type 0
+HasWay l old = (o : Op) → old ≡ o ∷ [] → is_locked_out l o ≡ false
+
+first-is : (l : Lock) (x : Op) → is_locked_out l x ≡ false → HasWay l (x ∷ [])
+first-is l x e o q = let same_one : x ≡ o = cc in rw (sym same_one) e
+
+goes-way : (a b : Bool) → unless (not a) WrongAnswer (unless (not b) Waits None) ≡ None → b ≡ false
+goes-way false false e = refl
+goes-way false true e = absurd (cc)
+goes-way true b e = absurd (cc)
+
+-- user code waits for no lock
+answers-way : (l : Lock) (o : Op) (u : UserEnd) → accepts o u ≡ true → is_locked_out l o ≡ false
+answers-way l (op.User o) u e = refl
+answers-way l _ u e = absurd (cc)
 
 pub record Made (s : Machine) (p : ℕ) (os : Part) : Type 0 where
   pub old : List Op
@@ -40,8 +58,9 @@ pub record Made (s : Machine) (p : ℕ) (os : Part) : Type 0 where
   pub was : stack s p ≡ rest ++ reverse old
   pub now : onto p d rest ≡ os
   pub way : Way s p old rest d
+  pub free : HasWay s.world.lock old
 
-made-go : (s : Machine) (p : ℕ) (h : Hint) (o : Option Op) → top (stack s p) ≡ o → go_refusal o ≡ None →
+made-go : (s : Machine) (p : ℕ) (h : Hint) (o : Option Op) → top (stack s p) ≡ o → go_refusal s.world o ≡ None →
     Made s p (gone_on p s.world (stack s p) o (λ x. act p h x s.world))
 made-go s p h None e k = absurd (cc)
 made-go s p h (Some o) e k =
@@ -52,6 +71,7 @@ made-go s p h (Some o) e k =
       was = topped _ o e;
       now = refl;
       way = acted h o refl refl;
+      free = first-is s.world.lock o (goes-way (waits o) (is_locked_out s.world.lock o) k);
     }
 
 made-answer : (s : Machine) (p : ℕ) (u : UserEnd) (o : Option Op) → top (stack s p) ≡ o → answer_refusal o u ≡ None →
@@ -65,6 +85,7 @@ made-answer s p u (Some o) e k =
       was = topped _ o e;
       now = refl;
       way = reacted o u (go (accepts o u) k) refl refl;
+      free = first-is s.world.lock o (answers-way s.world.lock o u (go (accepts o u) k));
     }
   where
     go : (b : Bool) → unless b WrongAnswer None ≡ None → b ≡ true
@@ -78,19 +99,20 @@ made s (Begin p c) k =
     record {
       old = [];
       rest = stack s p;
-      d = begun p (log s.world (event.CallBegun p c)) (polled_by (top (stack s p))) c;
+      d = begun p (log s.world (event.CallBegun p c)) (mine (top (stack s p))) c;
       was = sym (append-nil (stack s p));
       now = refl;
       way = called c refl refl k refl;
+      free = λ o q. absurd (cc);
     }
 made s (Go p h) k = made-go s p h _ refl k
 made s (Answer p u) k = made-answer s p u _ refl k
 
--- what each move and each end of a call keep, each run keeps
+-- what each move of a party that waits for no lock keeps, and each end of a call, each run keeps
 module _
     (P : Machine → Type 0)
     (moves : (s : Machine) (p : ℕ) (old rest : List Op) (d : Done) → Good s → p < length s.parties →
-    stack s p ≡ rest ++ reverse old → Way s p old rest d → P s → P (unsettled s p rest d))
+    stack s p ≡ rest ++ reverse old → HasWay s.world.lock old → Way s p old rest d → P s → P (unsettled s p rest d))
     (ends : (s : Machine) (p : ℕ) (a : Reply) (held : Hold) (below : List Op) → p < length s.parties →
     stack s p ≡ below ++ reverse (op.End a held ∷ []) → P s →
     P (unsettled s p below (done (log s.world (event.CallEnded p a)) [])))
@@ -113,7 +135,8 @@ module _
         P (with_part s p x)
     made-kept s p x l good m k =
         subst (λ (y : Part). P (with_part s p y)) m.now
-        (ended s p (m.rest ++ reverse m.d.next) m.d.world _ l refl (moves s p m.old m.rest m.d good l m.was m.way k))
+        (ended s p (m.rest ++ reverse m.d.next) m.d.world _ l refl
+        (moves s p m.old m.rest m.d good l m.was m.free m.way k))
 
     there : (b : Bool) (r : Option StepError) → unless b NoSuch r ≡ None → (b ≡ true) × (r ≡ None)
     there true r e = (refl, e)
@@ -132,6 +155,19 @@ module _
     unfolding step
     kept-stepped s t good k = kept-by s t (refusal s t) refl good k
 
+    pub along-free : (ts : List Step) (s : Machine) → Good s → P s → P (run ts s)
+    along-free [] s good k = k
+    along-free (t ∷ ts) s good k = along-free ts (stepped s (step s t)) (good-stepped s t good)
+        (kept-stepped s t good k)
+
+-- what each move and each end of a call keep, each run keeps
+module _
+    (P : Machine → Type 0)
+    (moves : (s : Machine) (p : ℕ) (old rest : List Op) (d : Done) → Good s → p < length s.parties →
+    stack s p ≡ rest ++ reverse old → Way s p old rest d → P s → P (unsettled s p rest d))
+    (ends : (s : Machine) (p : ℕ) (a : Reply) (held : Hold) (below : List Op) → p < length s.parties →
+    stack s p ≡ below ++ reverse (op.End a held ∷ []) → P s →
+    P (unsettled s p below (done (log s.world (event.CallEnded p a)) [])))
+  where
     pub along : (ts : List Step) (s : Machine) → Good s → P s → P (run ts s)
-    along [] s good k = k
-    along (t ∷ ts) s good k = along ts (stepped s (step s t)) (good-stepped s t good) (kept-stepped s t good k)
+    along = along-free P (λ s p old rest d good l e free way k. moves s p old rest d good l e way k) ends

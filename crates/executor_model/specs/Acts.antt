@@ -1,10 +1,8 @@
 -- What each thing that a party has to do changes, and what it leads to. The queue is the closable queue,
 -- and a task's change is its table of moves; neither is said again here.
 use Rattle.std.specs.Prelude.{ℕ, ◌+◌, Bool, true, false, ◌&&◌, ◌||◌, not, Option, Some, None, List, [], ◌∷◌}
-use Rattle.std.specs.Prelude.{◌++◌, length, ◌-◌, ◌==◌, slice_set, nat_lt, is_none}
+use Rattle.std.specs.Prelude.{◌++◌, length, slice_set, nat_lt}
 use Rattle.queue_steps.specs.ClosableQueue.{appended, taken, shut}
-use Rattle.executor_parts.specs.Sleepers.{Sleepers, last_waker, without_last, next_number, laid_down}
-use Rattle.executor_parts.specs.Sleepers.{listed, risen, position_of, waker_at, waker_of}
 use Rattle.task_moves.specs.declared.moves.state.State.{State}
 use Rattle.task_moves.specs.declared.moves.owed.Answer.{Answer}
 use Rattle.task_moves.specs.declared.moves.owed.Answer.TheVariants.{Refused, Pending, Closed, Output}
@@ -20,56 +18,25 @@ use Rattle.executor_model.specs.declared.op.Waker.{Waker}
 use Rattle.executor_model.specs.declared.op.Waker.TheVariants.{Task, Outside}
 use Rattle.executor_model.specs.declared.op.Polled.{Polled}
 use Rattle.executor_model.specs.declared.op.Polled.TheVariants as of
-use Rattle.executor_model.specs.declared.op.Sleeping.{Sleeping}
 use Rattle.executor_model.specs.declared.op.Hold.{Hold}
 use Rattle.executor_model.specs.declared.op.Hold.TheVariants as hold
 use Rattle.executor_model.specs.declared.op.Op.{Op}
 use Rattle.executor_model.specs.declared.op.Op.TheVariants as op
-use Rattle.executor_model.specs.declared.op.ClosingOp.{ClosingOp}
 use Rattle.executor_model.specs.declared.op.ClosingOp.TheVariants as closing_op
-use Rattle.executor_model.specs.declared.op.HandleOp.{HandleOp}
 use Rattle.executor_model.specs.declared.op.HandleOp.TheVariants as handle_op
 use Rattle.task_moves.specs.declared.moves.owed.Move.{Move}
 use Rattle.task_moves.specs.declared.moves.owed.Move.TheVariants as move
-use Rattle.executor_model.specs.declared.op.QueueOp.{QueueOp}
 use Rattle.executor_model.specs.declared.op.QueueOp.TheVariants as queue_op
-use Rattle.executor_model.specs.declared.op.SleeperOp.{SleeperOp}
 use Rattle.executor_model.specs.declared.op.SleeperOp.TheVariants as sleeper_op
-use Rattle.executor_model.specs.declared.op.TableOp.{TableOp}
 use Rattle.executor_model.specs.declared.op.TableOp.TheVariants as table_op
-use Rattle.executor_model.specs.declared.op.TickOp.{TickOp}
-use Rattle.executor_model.specs.declared.op.TickOp.TheVariants as tick_op
-use Rattle.executor_model.specs.declared.op.UserOp.{UserOp}
 use Rattle.executor_model.specs.declared.op.UserOp.TheVariants as user_op
-use Rattle.executor_model.specs.declared.op.WakerOp.{WakerOp}
 use Rattle.executor_model.specs.declared.op.WakerOp.TheVariants as waker_op
 use Rattle.executor_model.specs.declared.step.Hint.{Hint}
-use Rattle.executor_model.specs.World.{World, Tick, Up, Lies, Left, Done, done, log, log_if, task, put, awaiter_of}
-use Rattle.executor_model.specs.World.{put_awaiter, tick_of, put_tick, put_sleepers, without, among}
+use Rattle.executor_model.specs.World.{World, Done, done, log, log_if, task, put, awaiter_of}
+use Rattle.executor_model.specs.World.{put_awaiter, without, among}
 use Rattle.executor_model.specs.Carried.{carried, awaiter_ops}
 
--- telling a sleeper that there is something to do
-
--- who finds the flag false has won
-abbrev pub exchange_by : Bool → World → Done
-exchange_by true w = done w []
-exchange_by false w = done (record w { notified = true }) (op.Sleeper sleeper_op.HandOut ∷ [])
-
-abbrev pub exchange_flag : World → Done
-exchange_flag w = exchange_by w.notified w
-
-abbrev pub call_of : Option Sleeping → List Op
-call_of None = []
-call_of (Some s) = op.Sleeper (sleeper_op.CallSleeper s) ∷ []
-
-abbrev pub hand_out_by : Bool → Option Sleeping → World → Done
-hand_out_by true last w = done (record w { sleepers = without_last w.sleepers }) (call_of last)
-hand_out_by false last w = done w []
-
--- the waker that was added last is taken, where no sleeper is notified
-abbrev pub hand_out : World → Done
-hand_out w = hand_out_by (length w.sleepers.wakers == w.sleepers.count) (last_waker w.sleepers.wakers) w
-
+-- a sleeper is told that there is something to do
 abbrev pub tell : List Op
 tell = op.Sleeper sleeper_op.ExchangeFlag ∷ []
 
@@ -315,111 +282,6 @@ call_waker p w o (Outside x) k = done (log w (event.WakerCalled p o k (Outside x
 abbrev pub call_awaiter : ℕ → World → ℕ → Waker → ℕ → Done
 call_awaiter p w f a k = call_waker p w (of.Handle f) a k
 
-abbrev pub call_sleeper : ℕ → World → Sleeping → Done
-call_sleeper p w s = call_waker p w (of.Tick s.tick) s.waker s.poll
-
--- ticks
-
-abbrev pub make_tick_by : Bool → World → Done
-make_tick_by true w = done w (op.End reply.NoMemory hold.Executor ∷ [])
-make_tick_by false w = done
-    (record w { ticks = w.ticks ++ Up ∷ []; sleepers = record w.sleepers { rooms = w.sleepers.rooms + 1 } })
-    (op.End reply.Made hold.Executor ∷ [])
-
--- a future that was found is run, after another sleeper was told, and then the tick is ready
-abbrev pub run_found : ℕ → ℕ → List Op
-run_found t f = op.Sleeper sleeper_op.ExchangeFlag ∷ op.Move move.TakeUp f ∷ op.End reply.Ready (hold.Tick t) ∷ []
-
--- a tick that lies gets up first
-abbrev pub found_by : Tick → ℕ → ℕ → List Op
-found_by (Lies n) t f = op.Tick (tick_op.GetUp t f) ∷ []
-found_by Up t f = run_found t f
-found_by Left t f = run_found t f
-
-abbrev pub search_by : Tick → World → List ℕ → Sleeping → Done
-search_by x w [] s = done w (op.Tick (tick_op.CopyWaker s) ∷ [])
-search_by x w (f ∷ rest) s = done (record w { queue = taken w.queue }) (found_by x s.tick f)
-
-abbrev pub search : World → Sleeping → Done
-search w s = search_by (tick_of w s.tick) w w.queue.items s
-
-abbrev pub copy_sleeper_by : Bool → World → Sleeping → Done
-copy_sleeper_by true w s = done w (op.End reply.NoMemory (hold.Tick s.tick) ∷ [])
-copy_sleeper_by false w s = done (copied w s.waker) (op.Tick (tick_op.LieDown s) ∷ [])
-
-abbrev pub copy_sleeper : Hint → World → Sleeping → Done
-copy_sleeper h w s = copy_sleeper_by (is_copy_refused h w s.waker) w s
-
-abbrev pub pend_tick : ℕ → List Op
-pend_tick t = op.End reply.Pending (hold.Tick t) ∷ []
-
--- there is no place for it, though a tick that lives finds one at every moment (`SleepersAgree`): its waker is called
--- at once, so that it is polled again
-abbrev pub lie_nowhere : World → Sleeping → Done
-lie_nowhere w s = done w (op.Sleeper (sleeper_op.CallSleeper s) ∷ pend_tick s.tick)
-
--- what was queued before it lay down may have told nobody, so it searches again
-abbrev pub lie_anew_by : Bool → World → Sleeping → Done
-lie_anew_by true w s = done
-    (put_tick (put_sleepers w (laid_down s w.sleepers)) s.tick (Lies (next_number w.sleepers)))
-    (op.Tick (tick_op.Search s) ∷ [])
-lie_anew_by false w s = lie_nowhere w s
-
--- what is left to do where a waker goes that isn't called
-abbrev pub sleeper_goes : Option Sleeping → List Op
-sleeper_goes None = []
-sleeper_goes (Some s) = waker_goes s.waker
-
--- it was notified meanwhile, and so searches again
-abbrev pub lie_listed_by : Bool → World → ℕ → Sleeping → Done
-lie_listed_by true w n s = done (put_sleepers w (listed n s w.sleepers)) (op.Tick (tick_op.Search s) ∷ [])
-lie_listed_by false w n s = lie_nowhere w s
-
--- its waker is replaced, or it was notified
-abbrev pub lie_again_by : Option ℕ → World → ℕ → Sleeping → Done
-lie_again_by (Some at) w n s = done
-    (record w { sleepers = record w.sleepers { wakers = slice_set w.sleepers.wakers at (n, s) } })
-    (sleeper_goes (waker_at (Some at) w.sleepers.wakers) ++ pend_tick s.tick)
-lie_again_by None w n s = lie_listed_by (nat_lt (length w.sleepers.wakers) w.sleepers.count) w n s
-
-abbrev pub lie_down_by : Tick → World → Sleeping → Done
-lie_down_by Up w s = lie_anew_by (nat_lt w.sleepers.count w.sleepers.rooms) w s
-lie_down_by (Lies n) w s = lie_again_by (position_of n w.sleepers.wakers) w n s
-lie_down_by Left w s = lie_nowhere w s
-
-abbrev pub lie_down : World → Sleeping → Done
-lie_down w s = lie_down_by (tick_of w s.tick) w s
-
-abbrev pub get_up_by : Tick → World → ℕ → ℕ → Done
-get_up_by (Lies n) w t f = done (put_tick (put_sleepers w (risen n w.sleepers)) t Up)
-    (sleeper_goes (waker_of n w.sleepers.wakers) ++ run_found t f)
-get_up_by Up w t f = done w (run_found t f)
-get_up_by Left w t f = done w (run_found t f)
-
-abbrev pub get_up : World → ℕ → ℕ → Done
-get_up w t f = get_up_by (tick_of w t) w t f
-
--- room is given back, where nobody sleeps in it
-abbrev pub given_back : Sleepers Sleeping → Sleepers Sleeping
-given_back s = elim (nat_lt s.count s.rooms) [ true ↦ record s { rooms = s.rooms - 1 } | false ↦ s ]
-
-abbrev pub tell_if : Bool → List Op
-tell_if true = tell
-tell_if false = []
-
-abbrev pub end_drop : ℕ → List Op
-end_drop t = op.End reply.Done (hold.Tick t) ∷ []
-
--- one that was notified tells another in its place
-abbrev pub leave_sleepers_by : Tick → World → ℕ → Done
-leave_sleepers_by (Lies n) w t = done (put_tick (put_sleepers w (given_back (risen n w.sleepers))) t Left)
-    (sleeper_goes (waker_of n w.sleepers.wakers) ++ tell_if (is_none (waker_of n w.sleepers.wakers)) ++ end_drop t)
-leave_sleepers_by Up w t = done (put_tick (record w { sleepers = given_back w.sleepers }) t Left) (end_drop t)
-leave_sleepers_by Left w t = done w (end_drop t)
-
-abbrev pub leave_sleepers : World → ℕ → Done
-leave_sleepers w t = leave_sleepers_by (tick_of w t) w t
-
 -- the executor's drop
 
 -- first each future, then each waker, then the queue
@@ -463,69 +325,3 @@ drain_by p w (f ∷ rest) = done (record w { queue = taken w.queue })
 
 abbrev pub drain : ℕ → World → Done
 drain p w = drain_by p w w.queue.items
-
--- by groups of things to do
-
-abbrev pub table_act : ℕ → Hint → TableOp → World → Done
-table_act p h table_op.Enter w = enter p h w
-table_act p h table_op.LookAtTable w = look_at_table w
-table_act p h (table_op.TakeToPoll f) w = take_to_poll w f
-table_act p h (table_op.PutBack f) w = put_back w f
-table_act p h (table_op.TakeToDrop f) w = take_to_drop w f
-table_act p h (table_op.LeaveTable f) w = leave_table w f
-
-abbrev pub queue_act : QueueOp → World → Done
-queue_act queue_op.Take w = take_first w
-queue_act (queue_op.Append f) w = append w f
-
--- what waits for user code to answer stays
-abbrev pub user_act : ℕ → UserOp → World → Done
-user_act p (user_op.BeginDrop f) w = begin_drop p w f
-user_act p (user_op.BeginDropOutput f) w = begin_drop_output p w f
-user_act p o w = done w (op.User o ∷ [])
-
-abbrev pub waker_act : ℕ → Hint → WakerOp → World → Done
-waker_act p h (waker_op.CopyWaker f held) w = copy_waker h w f held
-waker_act p h (waker_op.CallAwaiter f a k) w = call_awaiter p w f a k
-
-abbrev pub handle_act : ℕ → Hint → HandleOp → World → Done
-handle_act p h (handle_op.Look f a) w = look p w f a
-handle_act p h (handle_op.CopyAwaiter f a) w = copy_awaiter p h w f a
-handle_act p h (handle_op.Register f a k) w = register w f a k
-handle_act p h (handle_op.EndRegister f a k) w = end_register w f a k
-handle_act p h (handle_op.LookAgain f) w = look_again p w f
-handle_act p h (handle_op.Notify f mine) w = notify w f mine
-handle_act p h (handle_op.EndNotify f mine) w = end_notify h w f mine
-
-abbrev pub sleeper_act : ℕ → SleeperOp → World → Done
-sleeper_act p sleeper_op.ExchangeFlag w = exchange_flag w
-sleeper_act p sleeper_op.HandOut w = hand_out w
-sleeper_act p (sleeper_op.CallSleeper s) w = call_sleeper p w s
-
-abbrev pub tick_act : Hint → TickOp → World → Done
-tick_act h tick_op.MakeTick w = make_tick_by h.refused w
-tick_act h (tick_op.Search s) w = search w s
-tick_act h (tick_op.CopyWaker s) w = copy_sleeper h w s
-tick_act h (tick_op.LieDown s) w = lie_down w s
-tick_act h (tick_op.GetUp t f) w = get_up w t f
-tick_act h (tick_op.Leave t) w = leave_sleepers w t
-
-abbrev pub closing_act : ℕ → ClosingOp → World → Done
-closing_act p closing_op.TakeOut w = take_out w
-closing_act p closing_op.DropNext w = drop_next p w
-closing_act p closing_op.WakeNext w = wake_next p w
-closing_act p closing_op.Close w = close w
-closing_act p closing_op.Drain w = drain p w
-
--- one thing done by party p, which is told h
-abbrev pub act : ℕ → Hint → Op → World → Done
-act p h (op.Move m f) w = move_task m p w f
-act p h (op.Table o) w = table_act p h o w
-act p h (op.Queue o) w = queue_act o w
-act p h (op.User o) w = user_act p o w
-act p h (op.Waker o) w = waker_act p h o w
-act p h (op.Handle o) w = handle_act p h o w
-act p h (op.Sleeper o) w = sleeper_act p o w
-act p h (op.Tick o) w = tick_act h o w
-act p h (op.Closing o) w = closing_act p o w
-act p h (op.End r held) w = done (log w (event.CallEnded p r)) []

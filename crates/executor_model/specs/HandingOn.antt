@@ -5,13 +5,16 @@ use Rattle.executor_model.specs.declared.op.Op.{Op}
 use Rattle.executor_model.specs.declared.op.Op.TheVariants as op
 use Rattle.executor_model.specs.declared.op.ClosingOp.TheVariants as closing_op
 use Rattle.task_moves.specs.declared.moves.owed.Move.TheVariants as move
+use Rattle.executor_model.specs.declared.op.RunOp.TheVariants as run_op
+use Rattle.executor_model.specs.declared.op.SleeperOp.TheVariants as sleeper_op
 use Rattle.executor_model.specs.declared.op.WakerOp.TheVariants as waker_op
-use Rattle.executor_model.specs.declared.op.Waker.TheVariants.{Task}
+use Rattle.executor_model.specs.declared.op.Waker.{Waker}
+use Rattle.executor_model.specs.declared.op.Waker.TheVariants.{Task, Outside}
 use Rattle.executor_model.specs.declared.step.Hint.{Hint}
 use Rattle.executor_model.specs.World.{World, task}
 use Rattle.executor_model.specs.Weights.{weigh}
 use Rattle.executor_model.specs.Rows.{appends_of}
-use Rattle.executor_model.specs.Acts.{act}
+use Rattle.executor_model.specs.Doing.{act}
 use Rattle.executor_model.specs.Steps.{Machine}
 use Rattle.executor_model.specs.Sound.{pend, tokens}
 
@@ -22,12 +25,18 @@ abbrev pub IsFirst : ℕ → List ℕ → Type 0
 IsFirst f [] = true ≡ false
 IsFirst f (g ∷ gs) = f ≡ g
 
--- each wake of f's task: by a waker that stays or goes, by the call of an awaiter that is a waker of it,
--- and by the executor's drop
+abbrev pub IsWakerOf : ℕ → Waker → Type 0
+IsWakerOf f (Task g) = f ≡ g
+IsWakerOf f (Outside x) = true ≡ false
+
+-- each wake of f's task: by a waker that stays or goes, by the call of an awaiter, of a sleeper's waker or of a run's
+-- own that is a waker of it, and by the executor's drop
 abbrev pub IsWakeOf : ℕ → World → Op → Type 0
 IsWakeOf f w (op.Move move.WakeByReference g) = f ≡ g
 IsWakeOf f w (op.Move move.Wake g) = f ≡ g
-IsWakeOf f w (op.Waker (waker_op.CallAwaiter awaited (Task g) poll)) = f ≡ g
+IsWakeOf f w (op.Waker (waker_op.CallAwaiter awaited a poll)) = IsWakerOf f a
+IsWakeOf f w (op.Sleeper (sleeper_op.CallSleeper s)) = IsWakerOf f s.waker
+IsWakeOf f w (op.Run (run_op.WakeOwn x)) = IsWakerOf f x.waker
 IsWakeOf f w (op.Closing closing_op.WakeNext) = IsFirst f w.waking
 IsWakeOf f w _ = true ≡ false
 

@@ -3,12 +3,14 @@ pub mod LawfulPolls
 pub mod EarlyDrop
 pub mod Due
 pub mod Quiet
-pub mod Keeper
 pub mod DroppedOnce
 pub mod OutputOnce
 pub mod World
 pub mod Carried
 pub mod Acts
+pub mod ActsOfSleepers
+pub mod ActsOfRuns
+pub mod Doing
 pub mod Weights
 pub mod Rows
 pub mod Steps
@@ -24,6 +26,9 @@ pub mod Memory
 pub mod Refusals
 pub mod OutputKept
 pub mod AwaiterKept
+pub mod Keeper
+pub mod Standing
+pub mod OwnQueues
 pub mod HandingOn
 pub mod SleepersAgree
 pub mod SleepersTold

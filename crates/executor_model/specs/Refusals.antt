@@ -14,51 +14,88 @@ use Rattle.executor_model.specs.declared.op.Op.TheVariants as op
 use Rattle.executor_model.specs.declared.op.HandleOp.TheVariants as handle_op
 use Rattle.executor_model.specs.declared.op.TickOp.TheVariants as tick_op
 use Rattle.executor_model.specs.declared.op.WakerOp.TheVariants as waker_op
+use Rattle.executor_model.specs.declared.op.ListOp.TheVariants as list_op
+use Rattle.executor_model.specs.declared.op.RunOp.TheVariants as run_op
+use Rattle.executor_model.specs.declared.op.Section.TheVariants as section
+use Rattle.executor_model.specs.declared.op.Sleeper.{Sleeper}
+use Rattle.executor_model.specs.declared.op.Sleeper.TheVariants as sleeper
+use Rattle.executor_model.specs.declared.op.UserOp.TheVariants as user_op
 use Rattle.executor_model.specs.declared.op.Waker.{Waker}
 use Rattle.executor_model.specs.declared.op.Waker.TheVariants.{Task, Outside}
 use Rattle.executor_model.specs.declared.step.Hint.{Hint}
-use Rattle.executor_model.specs.Acts.{act, copy_sleeper, lie_down}
+use Rattle.executor_model.specs.declared.step.UserEnd.{UserEnd}
+use Rattle.executor_model.specs.ActsOfRuns.{make_room_by, return_room, write}
+use Rattle.executor_model.specs.ActsOfSleepers.{copy_sleeper, lie_down}
+use Rattle.executor_model.specs.Doing.{act}
 use Rattle.executor_model.specs.Memory.{may_refuse, takes_no_memory}
-use Rattle.executor_model.specs.Steps.{begun}
+use Rattle.executor_model.specs.Steps.{begun, react}
 use Rattle.executor_model.specs.World.{World, log, task}
 
 abbrev pub is_no_memory : Reply → Bool
 is_no_memory reply.NoMemory = true
 is_no_memory _ = false
 
--- it ends a call for want of memory
+-- it ends a call for want of memory, or leads to such an end
 abbrev pub ends_for_want : Op → Bool
 ends_for_want (op.End r held) = is_no_memory r
+ends_for_want (op.List (list_op.LockWrite (section.Unregister r a))) = is_no_memory a
+ends_for_want (op.List (list_op.Write (section.Unregister r a))) = is_no_memory a
+ends_for_want (op.Run (run_op.Reschedule r a)) = is_no_memory a
 ends_for_want _ = false
 
-abbrev pub is_tick_poll : Call → Bool
-is_tick_poll (call.PollTick t by) = true
-is_tick_poll _ = false
+-- a tick or run is polled
+abbrev pub is_search : Call → Bool
+is_search (call.PollTick t by) = true
+is_search (call.PollRun r by) = true
+is_search _ = false
 
--- a tick copies its waker, or lies down with the copy
+abbrev pub is_run_poll : Sleeper → Bool
+is_run_poll (sleeper.Tick t) = false
+is_run_poll (sleeper.Run r) = true
+
+-- it is a part of a poll of a run, or of a run's making
+abbrev pub is_of_run : Op → Bool
+is_of_run (op.Tick (tick_op.Search s)) = is_run_poll s.who
+is_of_run (op.User (user_op.PollOwn x)) = true
+is_of_run (op.List o) = true
+is_of_run (op.Steal o) = true
+is_of_run (op.Run o) = true
+is_of_run _ = false
+
+-- a tick or run copies its waker, or lies down with the copy
 abbrev pub lies_down : Op → Bool
 lies_down (op.Tick (tick_op.CopyWaker s)) = true
 lies_down (op.Tick (tick_op.LieDown s)) = true
 lies_down _ = false
 
 -- a call that may be refused changes nothing as it begins, and nothing as long as it may still be refused or where it
--- is: what follows asks for memory, or ends the call with a refusal. A poll of a tick is told of as it begins;
--- a copy of its waker that is refused changes nothing; and where the tick lay down, that is kept,
--- which changes the sleepers, their flag and the tick alone
+-- is: what follows asks for memory, or ends the call with a refusal. A poll of a tick or run is told of as it begins;
+-- a copy of its waker that is refused changes nothing; and where it lay down, that is kept, which changes the sleepers,
+-- their flag and where it is alone. A poll of a run keeps what it did before. The making of a run that is refused makes
+-- nothing, and gives the room back that it had
 pub record RefusedChangesNothing (w : World) (p : ℕ) : Type 0 where
-  pub begins : (here : Option ℕ) (c : Call) → takes_no_memory c ≡ false → is_tick_poll c ≡ false →
+  pub begins : (here : Option Waker) (c : Call) → takes_no_memory c ≡ false → is_search c ≡ false →
       (begun p w here c).world ≡ w
-  pub polls : (here : Option ℕ) (t : ℕ) (b : By) →
+  pub polls : (here : Option Waker) (t : ℕ) (b : By) →
       (begun p w here (call.PollTick t b)).world ≡ log w (event.TickPolled p t)
+  pub runs : (here : Option Waker) (r : ℕ) (b : By) →
+      (begun p w here (call.PollRun r b)).world ≡ log w (event.RunPolled p r)
   pub goes_on : (h : Hint) (o : Op) → list_any may_refuse (act p h o w).next ≡ true → lies_down o ≡ false →
+      is_of_run o ≡ false →
       (act p h o w).world ≡ w
   pub copies : (h : Hint) (s : Sleeping) → list_any ends_for_want (copy_sleeper h w s).next ≡ true →
       (copy_sleeper h w s).world ≡ w
   pub lies : (s : Sleeping) → (lie_down w s).world ≡ record w {
     ticks = (lie_down w s).world.ticks;
+    runs = (lie_down w s).world.runs;
     sleepers = (lie_down w s).world.sleepers;
     notified = (lie_down w s).world.notified;
   }
+  pub makes : (h : Hint) → list_any ends_for_want (make_room_by h.refused w).next ≡ true →
+      (make_room_by h.refused w).world ≡ w
+  pub made : (h : Hint) → list_any ends_for_want (write h section.MakeRun w).next ≡ true →
+      (write h section.MakeRun w).world ≡ w
+  pub returns : w.sleepers.count ≤ w.sleepers.rooms → (return_room (make_room_by false w).world).world ≡ w
 
 -- the waker is one of a task that already has 2^40 references
 abbrev pub IsFull : Waker → World → Type 0
@@ -72,9 +109,11 @@ CopiesOneTooMany (op.Handle (handle_op.CopyAwaiter f (Task g))) w = most_referen
 CopiesOneTooMany (op.Tick (tick_op.CopyWaker s)) w = IsFull s.waker w
 CopiesOneTooMany _ w = true ≡ false
 
--- a call ends for want of memory only where the step's hint says so, or where one reference too many would be made;
--- none begins with such an end
+-- what is done leads to a call's end for want of memory only where the step's hint says so, or where one reference too
+-- many would be made, or where it is a part of such an end itself; no call begins with such an end, and none follows
+-- user code
 pub record IsWantToldOf (w : World) (p : ℕ) : Type 0 where
-  pub begins : (here : Option ℕ) (c : Call) → list_any ends_for_want (begun p w here c).next ≡ false
-  pub goes_on : (h : Hint) (o : Op) → list_any ends_for_want (act p h o w).next ≡ true →
+  pub begins : (here : Option Waker) (c : Call) → list_any ends_for_want (begun p w here c).next ≡ false
+  pub goes_on : (h : Hint) (o : Op) → ends_for_want o ≡ false → list_any ends_for_want (act p h o w).next ≡ true →
       (h.refused ≡ true) ⊎ CopiesOneTooMany o w
+  pub follows : (o : Op) (end : UserEnd) → list_any ends_for_want (react p o end w).next ≡ false

@@ -2,18 +2,36 @@
 use Rattle.std.specs.Prelude.{◌⊎◌, ℕ, ◌≤◌, length}
 use Rattle.executor_model.specs.declared.op.Op.{Op}
 use Rattle.executor_model.specs.declared.op.Op.TheVariants as op
+use Rattle.executor_model.specs.declared.op.RunOp.TheVariants as run_op
 use Rattle.executor_model.specs.declared.op.SleeperOp.TheVariants as sleeper_op
+use Rattle.executor_model.specs.declared.op.StealOp.{StealOp}
+use Rattle.executor_model.specs.declared.op.StealOp.TheVariants as steal_op
+use Rattle.executor_model.specs.declared.op.Then.{Then}
+use Rattle.executor_model.specs.declared.op.Then.TheVariants as then
 use Rattle.executor_model.specs.declared.op.TickOp.TheVariants as tick_op
 use Rattle.executor_model.specs.Steps.{Machine}
 use Rattle.executor_model.specs.Weights.{weigh_all}
 use Rattle.executor_model.specs.SleepersAgree.{SomeoneNotified}
 
--- a party has still to exchange the flag, to hand out or to search; a tick that gets up exchanges the flag next
+-- a run that has found something exchanges the flag once its steal has ended
+abbrev pub tells_then : Then → ℕ
+tells_then (then.Found f) = 1
+tells_then (then.Run f) = 0
+tells_then (then.Walk at left) = 0
+
+abbrev pub tells_steal : StealOp → ℕ
+tells_steal (steal_op.Length s) = tells_then s.then
+tells_steal (steal_op.OwnLength s n) = tells_then s.then
+tells_steal (steal_op.Take s more) = tells_then s.then
+tells_steal (steal_op.Put s more f) = tells_then s.then
+
+-- a party has still to exchange the flag, to hand out or to search
 abbrev pub tells_of : Op → ℕ
 tells_of (op.Sleeper sleeper_op.ExchangeFlag) = 1
 tells_of (op.Sleeper sleeper_op.HandOut) = 1
 tells_of (op.Tick (tick_op.Search s)) = 1
-tells_of (op.Tick (tick_op.GetUp t f)) = 1
+tells_of (op.Run (run_op.SearchCommon x)) = 1
+tells_of (op.Steal o) = tells_steal o
 tells_of _ = 0
 
 abbrev pub SleepersAreTold : Machine → Type 0

@@ -19,6 +19,14 @@ abbrev pub times : ℕ → List ℕ → ℕ
 times g [] = 0
 times g (f ∷ fs) = same g f + times g fs
 
+abbrev pub times_in : ℕ → List (List ℕ) → ℕ
+times_in g [] = 0
+times_in g (q ∷ qs) = times g q + times_in g qs
+
+-- how many Runnables of g stand in the executor's queue and the runs' own together
+abbrev pub queued : World → ℕ → ℕ
+queued w g = times g w.queue.items + times_in g w.own
+
 -- how many of these kept wakers wake g
 abbrev pub wakers_of : ℕ → List (Option ℕ) → ℕ
 wakers_of g [] = 0
@@ -125,7 +133,7 @@ phase g es = phase_from g Fresh es
 -- Runnables, runs and closing calls of g
 abbrev pub tokens : World → ℕ → Pend → ℕ
 tokens w g p =
-    times g w.queue.items +
+    queued w g +
     (p.waiting + (p.polls + (p.ending + (p.ready + (p.closing + (p.settling + p.giving))))))
 
 -- living wakers of g's task
@@ -143,7 +151,7 @@ pub record Sound (w : World) (g : ℕ) (p : Pend) : Type 0 where
   pub busy : 1 ≤ tokens w g p →
       ((task w g).scheduled ≡ true)
       ⊎ (((task w g).running ≡ true) ⊎ (((task w g).closed ≡ true) ⊎ ((task w g).completed ≡ true)))
-  pub live : 1 ≤ times g w.queue.items + (p.waiting + (p.polls + (p.ending + p.ready))) → (task w g).completed ≡ false
+  pub live : 1 ≤ queued w g + (p.waiting + (p.polls + (p.ending + p.ready))) → (task w g).completed ≡ false
   pub ends : 1 ≤ p.closing + (p.settling + p.giving) → ((task w g).closed ≡ true) ⊎ ((task w g).completed ≡ true)
   pub drop : 1 ≤ p.drops → ((task w g).closed ≡ true) ⊎ (((task w g).completed ≡ true) ⊎ (1 ≤ p.ready))
   pub calm : 1 ≤ p.drops → p.polls ≡ 0
@@ -155,7 +163,7 @@ pub record Sound (w : World) (g : ℕ) (p : Pend) : Type 0 where
   pub given : 1 ≤ p.giving → ((task w g).scheduled ≡ false) × ((task w g).running ≡ false)
   pub owed : (task w g).scheduled ≡ true → 1 ≤ tokens w g p
   pub going : (task w g).running ≡ true → 1 ≤ p.polls + (p.ending + (p.ready + p.closing))
-  pub carries : 1 ≤ times g w.queue.items + p.waiting → (task w g).scheduled ≡ true
+  pub carries : 1 ≤ queued w g + p.waiting → (task w g).scheduled ≡ true
   pub rests : (task w g).completed ≡ true → ((task w g).scheduled ≡ false) × ((task w g).running ≡ false)
   pub lent : w.gone ≡ true → p.borrowing ≡ 0
   pub unpolled : w.gone ≡ true → p.polls ≡ 0

@@ -21,6 +21,11 @@ use Rattle.executor_model.specs.declared.op.ClosingOp.TheVariants as closing_op
 use Rattle.executor_model.specs.declared.op.HandleOp.TheVariants as handle_op
 use Rattle.task_moves.specs.declared.moves.owed.Move.TheVariants as move
 use Rattle.executor_model.specs.declared.op.QueueOp.TheVariants as queue_op
+use Rattle.executor_model.specs.declared.op.ListOp.TheVariants as list_op
+use Rattle.executor_model.specs.declared.op.RunOp.TheVariants as run_op
+use Rattle.executor_model.specs.declared.op.RunPoll.{RunPoll}
+use Rattle.executor_model.specs.declared.op.Section.TheVariants as section
+use Rattle.executor_model.specs.declared.op.Sleeper.TheVariants as sleeper
 use Rattle.executor_model.specs.declared.op.TableOp.TheVariants as table_op
 use Rattle.executor_model.specs.declared.op.TickOp.TheVariants as tick_op
 use Rattle.executor_model.specs.declared.op.UserOp.TheVariants as user_op
@@ -28,13 +33,17 @@ use Rattle.executor_model.specs.declared.op.WakerOp.TheVariants as waker_op
 use Rattle.executor_model.specs.declared.step.Step.{Step}
 use Rattle.executor_model.specs.declared.step.Step.TheVariants.{Begin, Go, Answer}
 use Rattle.executor_model.specs.declared.step.StepError.{StepError}
-use Rattle.executor_model.specs.declared.step.StepError.TheVariants.{Busy, NoSuch, Gone, Borrowed, Idle, WrongAnswer}
+use Rattle.executor_model.specs.declared.step.StepError.TheVariants.{Busy, NoSuch, Gone, Borrowed, Idle}
+use Rattle.executor_model.specs.declared.step.StepError.TheVariants.{WrongAnswer, Waits}
 use Rattle.executor_model.specs.declared.step.UserEnd.{UserEnd}
 use Rattle.executor_model.specs.declared.step.UserEnd.TheVariants as end
-use Rattle.executor_model.specs.World.{World, Tick, Up, Lies, Left, Done, done, log, task, tick_of}
-use Rattle.executor_model.specs.Acts.{act}
+use Rattle.executor_model.specs.World.{World, Place, Up, Lies, Left, Stage, New, Listed, Ended, Run, Lock, Done}
+use Rattle.executor_model.specs.World.{done, log}
+use Rattle.executor_model.specs.World.{task, tick_of, run_of, put_run}
+use Rattle.executor_model.specs.ActsOfRuns.{asleep}
+use Rattle.executor_model.specs.Doing.{act}
 use Rattle.executor_model.specs.Weights.{weigh_all}
-use Rattle.executor_model.specs.Rows.{borrowing_of, handling_of, lending_of, ticking_of}
+use Rattle.executor_model.specs.Rows.{borrowing_of, handling_of, lending_of, running_of, ticking_of}
 
 pub record Machine : Type 0 where
   pub world : World
@@ -57,6 +66,8 @@ waits (op.User (user_op.Poll f)) = true
 waits (op.User (user_op.Drop f)) = true
 waits (op.User (user_op.DropOutput f)) = true
 waits (op.User (user_op.CallOutside x)) = true
+waits (op.User (user_op.PollOwn x)) = true
+waits (op.User (user_op.DropOwn r)) = true
 waits _ = false
 
 -- a party may begin a call where it does nothing or is in user code
@@ -64,10 +75,17 @@ abbrev pub is_free : Option Op → Bool
 is_free None = true
 is_free (Some o) = waits o
 
--- the future in whose poll a party is
-abbrev pub polled_by : Option Op → Option ℕ
-polled_by (Some (op.User (user_op.Poll f))) = Some f
-polled_by _ = None
+-- the waker of the poll in which a party is, of a future or of a run
+abbrev pub mine : Option Op → Option Waker
+mine (Some (op.User (user_op.Poll f))) = Some (Task f)
+mine (Some (op.User (user_op.PollOwn x))) = Some x.waker
+mine _ = None
+
+-- the future that such a waker wakes
+abbrev pub future_of : Option Waker → Option ℕ
+future_of (Some (Task f)) = Some f
+future_of (Some (Outside x)) = None
+future_of None = None
 
 -- which steps are possible
 
@@ -86,18 +104,29 @@ is_unused uses ss = weigh_all uses ss == 0
 abbrev pub has_handle : World → List (List Op) → ℕ → Bool
 has_handle w ss f = (task w f).handle && is_unused (handling_of f) ss
 
+abbrev pub has_mine : Option Waker → Bool
+has_mine (Some a) = true
+has_mine None = false
+
 abbrev pub is_known : Option Op → By → Bool
-is_known o by.Mine = is_some (polled_by o)
+is_known o by.Mine = has_mine (mine o)
 is_known o (by.Outside x) = true
 
-abbrev pub lives : Tick → Bool
+abbrev pub lives : Place → Bool
 lives Up = true
 lives (Lies n) = true
 lives Left = false
 
+abbrev pub is_there : Run → Bool
+is_there x = not x.dropped
+
 -- tick t lives, and no call uses it
 abbrev pub has_tick : World → List (List Op) → ℕ → Bool
 has_tick w ss t = lives (tick_of w t) && is_unused (ticking_of t) ss
+
+-- run r lives, and no call uses it
+abbrev pub has_run : World → List (List Op) → ℕ → Bool
+has_run w ss r = is_there (run_of w r) && is_unused (running_of r) ss
 
 -- what the call speaks of is there
 abbrev pub has_all : World → List (List Op) → Option Op → Call → Bool
@@ -108,8 +137,8 @@ has_all w ss o (call.Wake k) = is_some (kept w k) && is_unused (lending_of k) ss
 has_all w ss o (call.WakeByRef k) = is_some (kept w k)
 has_all w ss o (call.Copy k) = is_some (kept w k)
 has_all w ss o (call.DropWaker k) = is_some (kept w k) && is_unused (lending_of k) ss
-has_all w ss o call.Keep = is_some (polled_by o)
-has_all w ss o call.WakeSelf = is_some (polled_by o)
+has_all w ss o call.Keep = is_some (future_of (mine o))
+has_all w ss o call.WakeSelf = is_some (future_of (mine o))
 has_all w ss o (call.PollHandle f b) = has_handle w ss f && is_known o b
 has_all w ss o (call.Cancel f) = has_handle w ss f
 has_all w ss o (call.Detach f) = has_handle w ss f
@@ -117,6 +146,9 @@ has_all w ss o (call.DropHandle f) = has_handle w ss f
 has_all w ss o call.NewTick = true
 has_all w ss o (call.PollTick t b) = has_tick w ss t && is_known o b
 has_all w ss o (call.DropTick t) = has_tick w ss t
+has_all w ss o call.NewRun = true
+has_all w ss o (call.PollRun r b) = has_run w ss r && is_known o b
+has_all w ss o (call.DropRun r) = has_run w ss r
 has_all w ss o call.DropExecutor = true
 
 abbrev pub is_on_executor : Call → Bool
@@ -126,6 +158,9 @@ is_on_executor call.IsEmpty = true
 is_on_executor call.NewTick = true
 is_on_executor (call.PollTick t b) = true
 is_on_executor (call.DropTick t) = true
+is_on_executor call.NewRun = true
+is_on_executor (call.PollRun r b) = true
+is_on_executor (call.DropRun r) = true
 is_on_executor call.DropExecutor = true
 is_on_executor _ = false
 
@@ -138,9 +173,9 @@ abbrev pub unless : Bool → StepError → Option StepError → Option StepError
 unless true error later = later
 unless false error later = Some error
 
--- no call in progress uses the executor, and no tick lives
+-- no call in progress uses the executor, and no tick or run lives
 abbrev pub is_unborrowed : World → List (List Op) → Bool
-is_unborrowed w ss = is_unused borrowing_of ss && not (list_any lives w.ticks)
+is_unborrowed w ss = is_unused borrowing_of ss && not (list_any lives w.ticks || list_any is_there w.runs)
 
 abbrev pub begin_refusal : World → List (List Op) → Option Op → Call → Option StepError
 begin_refusal w ss o c =
@@ -149,9 +184,15 @@ begin_refusal w ss o c =
     (unless (not (w.gone && is_on_executor c)) Gone
     (unless (not (is_drop c) || is_unborrowed w ss) Borrowed None)))
 
-abbrev pub go_refusal : Option Op → Option StepError
-go_refusal None = Some Idle
-go_refusal (Some o) = unless (not (waits o)) WrongAnswer None
+-- another party has the lock of the list of queues, and not both walk under its read lock
+abbrev pub is_locked_out : Lock → Op → Bool
+is_locked_out l (op.List (list_op.LockWrite s)) = l.writing || not (l.readers == 0)
+is_locked_out l (op.List (list_op.LockRead x)) = l.writing
+is_locked_out l _ = false
+
+abbrev pub go_refusal : World → Option Op → Option StepError
+go_refusal w None = Some Idle
+go_refusal w (Some o) = unless (not (waits o)) WrongAnswer (unless (not (is_locked_out w.lock o)) Waits None)
 
 -- whether the user code may end so
 abbrev pub accepts : Op → UserEnd → Bool
@@ -159,6 +200,8 @@ accepts (op.User (user_op.Poll f)) (end.Polled a) = true
 accepts (op.User (user_op.Drop f)) end.Done = true
 accepts (op.User (user_op.DropOutput f)) end.Done = true
 accepts (op.User (user_op.CallOutside x)) end.Done = true
+accepts (op.User (user_op.PollOwn x)) (end.Polled a) = true
+accepts (op.User (user_op.DropOwn r)) end.Done = true
 accepts _ _ = false
 
 abbrev pub answer_refusal : Option Op → UserEnd → Option StepError
@@ -172,7 +215,7 @@ party_of (Answer p e) = p
 
 abbrev pub part_refusal : World → List (List Op) → List Op → Step → Option StepError
 part_refusal w ss os (Begin p c) = begin_refusal w ss (top os) c
-part_refusal w ss os (Go p h) = go_refusal (top os)
+part_refusal w ss os (Go p h) = go_refusal w (top os)
 part_refusal w ss os (Answer p e) = answer_refusal (top os) e
 
 -- why the step isn't possible, by the first test that fails
@@ -191,13 +234,26 @@ abbrev pub with_future : World → Option ℕ → (ℕ → Done) → Done
 with_future w (Some f) d = d f
 with_future w None d = done w []
 
-abbrev pub waker_of : Option ℕ → By → Waker
-waker_of (Some g) by.Mine = Task g
+abbrev pub waker_of : Option Waker → By → Waker
+waker_of (Some a) by.Mine = a
 waker_of None by.Mine = Outside 0
 waker_of here (by.Outside x) = Outside x
 
+-- a run registers its own queue at its first poll; once its own future was ready it is finished
+abbrev pub poll_run : Stage → RunPoll → List Op
+poll_run New x = op.List (list_op.LockWrite (section.Register x)) ∷ []
+poll_run Listed x = op.User (user_op.PollOwn x) ∷ []
+poll_run Ended x = op.End reply.Finished (hold.Run x.run) ∷ []
+
+-- its own future is dropped, unless that was ready; its own queue goes from the list, where it is there, and what is
+-- left in it is scheduled; and the run leaves the sleepers
+abbrev pub drop_run : Stage → ℕ → List Op
+drop_run New r = op.User (user_op.DropOwn r) ∷ op.Run (run_op.Reschedule r reply.Done) ∷ []
+drop_run Listed r = op.User (user_op.DropOwn r) ∷ op.List (list_op.LockWrite (section.Unregister r reply.Done)) ∷ []
+drop_run Ended r = op.Tick (tick_op.Leave (sleeper.Run r)) ∷ op.End reply.Done (hold.Run r) ∷ []
+
 -- what a call changes as it begins, and what it will do
-abbrev pub begun : ℕ → World → Option ℕ → Call → Done
+abbrev pub begun : ℕ → World → Option Waker → Call → Done
 begun p w here call.Spawn = done w (op.Table table_op.Enter ∷ [])
 begun p w here call.TryTick = done w (op.Queue queue_op.Take ∷ [])
 begun p w here call.IsEmpty = done w (op.Table table_op.LookAtTable ∷ [])
@@ -209,9 +265,10 @@ begun p w here (call.Copy k) =
     with_future w (kept w k) (λ f. done w (op.Waker (waker_op.CopyWaker f (hold.Waker k)) ∷ []))
 begun p w here (call.DropWaker k) =
     with_future w (kept w k) (λ f. done (used_up w k) (op.Move move.Release f ∷ op.End reply.Done hold.Nothing ∷ []))
-begun p w here call.Keep = with_future w here (λ f. done w (op.Waker (waker_op.CopyWaker f hold.Nothing) ∷ []))
+begun p w here call.Keep =
+    with_future w (future_of here) (λ f. done w (op.Waker (waker_op.CopyWaker f hold.Nothing) ∷ []))
 begun p w here call.WakeSelf =
-    with_future w here (λ f. done w (op.Move move.WakeByReference f ∷ op.End reply.Done hold.Nothing ∷ []))
+    with_future w (future_of here) (λ f. done w (op.Move move.WakeByReference f ∷ op.End reply.Done hold.Nothing ∷ []))
 begun p w here (call.PollHandle f b) = done w (op.Handle (handle_op.Look f (waker_of here b)) ∷ [])
 begun p w here (call.Cancel f) = done w (op.Move move.Cancel f ∷ op.End reply.Done (hold.Handle f) ∷ [])
 begun p w here (call.Detach f) = done w (op.Move move.Detach f ∷ op.End reply.Done (hold.Handle f) ∷ [])
@@ -219,8 +276,15 @@ begun p w here (call.DropHandle f) =
     done w (op.Move move.Cancel f ∷ op.Move move.Detach f ∷ op.End reply.Done (hold.Handle f) ∷ [])
 begun p w here call.NewTick = done w (op.Tick tick_op.MakeTick ∷ [])
 begun p w here (call.PollTick t b) = done (log w (event.TickPolled p t))
-    (op.Tick (tick_op.Search (record { waker = waker_of here b; tick = t; poll = length w.trace })) ∷ [])
-begun p w here (call.DropTick t) = done (log w (event.TickDropped p t)) (op.Tick (tick_op.Leave t) ∷ [])
+    (op.Tick (tick_op.Search (record { waker = waker_of here b; who = sleeper.Tick t; poll = length w.trace })) ∷ [])
+begun p w here (call.DropTick t) = done (log w (event.TickDropped p t))
+    (op.Tick (tick_op.Leave (sleeper.Tick t)) ∷ op.End reply.Done (hold.Tick t) ∷ [])
+begun p w here call.NewRun = done w (op.Run run_op.MakeRoom ∷ [])
+begun p w here (call.PollRun r b) = done (log w (event.RunPolled p r))
+    (poll_run (run_of w r).stage (record { run = r; waker = waker_of here b; poll = length w.trace }))
+begun p w here (call.DropRun r) = done
+    (log (put_run w r (record (run_of w r) { dropped = true })) (event.RunDropped p r))
+    (drop_run (run_of w r).stage r)
 begun p w here call.DropExecutor = done
     (log (record w { gone = true }) (event.DropBegun p))
     (op.Closing closing_op.TakeOut ∷ op.End reply.Done hold.Nothing ∷ [])
@@ -231,6 +295,9 @@ react p (op.User (user_op.Poll f)) (end.Polled answer.Pending) w = done (log w (
     (op.Table (table_op.PutBack f) ∷ [])
 react p (op.User (user_op.Poll f)) (end.Polled answer.Ready) w = done (log w (event.Answered p f answer.Ready))
     (op.User (user_op.BeginDrop f) ∷ op.Move move.EndReady f ∷ [])
+react p (op.User (user_op.PollOwn x)) (end.Polled answer.Pending) w = done w (op.Tick (tick_op.Search (asleep x)) ∷ [])
+react p (op.User (user_op.PollOwn x)) (end.Polled answer.Ready) w = done w
+    (op.User (user_op.DropOwn x.run) ∷ op.List (list_op.LockWrite (section.Unregister x.run reply.Ready)) ∷ [])
 react p _ _ w = done w []
 
 -- a party's part of the machine
@@ -263,7 +330,7 @@ gone_on p w os None d = part w os
 gone_on p w os (Some o) d = onto p (d o) (below_top os)
 
 abbrev pub part_after : World → List Op → Step → Part
-part_after w os (Begin p c) = onto p (begun p (log w (event.CallBegun p c)) (polled_by (top os)) c) os
+part_after w os (Begin p c) = onto p (begun p (log w (event.CallBegun p c)) (mine (top os)) c) os
 part_after w os (Go p h) = gone_on p w os (top os) (λ o. act p h o w)
 part_after w os (Answer p e) = gone_on p w os (top os) (λ o. react p o e w)
 
@@ -307,6 +374,10 @@ start limit n = record {
     waking = [];
     wakers = [];
     ticks = [];
+    runs = [];
+    own = [];
+    listed = [];
+    lock = record { writing = false; readers = 0 };
     sleepers = record { count = 0; rooms = 0; wakers = []; free = [] };
     notified = true;
     gone = false;

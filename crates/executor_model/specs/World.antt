@@ -6,14 +6,36 @@ use Rattle.executor_parts.specs.Sleepers.{Sleepers, flag_of}
 use Rattle.executor_model.specs.declared.event.Event.{Event}
 use Rattle.executor_model.specs.declared.op.Op.{Op}
 use Rattle.executor_model.specs.declared.op.Awaiter.{Awaiter}
+use Rattle.executor_model.specs.declared.op.Sleeper.{Sleeper}
+use Rattle.executor_model.specs.declared.op.Sleeper.TheVariants as sleeper
 use Rattle.executor_model.specs.declared.op.Sleeping.{Sleeping}
 use Rattle.executor_model.specs.Trace.{Trace}
 
--- a tick is up, or lies among the sleepers under this number, or was dropped
-pub data Tick : Type 0 where
-  Up : Tick
-  Lies : ℕ → Tick
-  Left : Tick
+-- a tick or run is up, or lies among the sleepers under this number, or has left them
+pub data Place : Type 0 where
+  Up : Place
+  Lies : ℕ → Place
+  Left : Place
+
+-- a run was never polled; or its own queue is in the list; or that has gone from there, as its own future was ready or
+-- the run is being dropped
+pub data Stage : Type 0 where
+  New : Stage
+  Listed : Stage
+  Ended : Stage
+
+pub record Run : Type 0 where
+  pub place : Place
+  pub stage : Stage
+  pub dropped : Bool
+  -- how many it has taken since it last let others go first, and of those in its life how many since the last 64th
+  pub taken : ℕ
+  pub counted : ℕ
+
+-- the lock of the list of queues: a writer has it, or so many readers
+pub record Lock : Type 0 where
+  pub writing : Bool
+  pub readers : ℕ
 
 pub record World : Type 0 where
   -- as many accepted futures may be undropped
@@ -34,7 +56,13 @@ pub record World : Type 0 where
   -- the kept wakers by number, each by its future; none where it was used up
   pub wakers : List (Option ℕ)
   -- the ticks by number
-  pub ticks : List Tick
+  pub ticks : List Place
+  -- the runs by number, and the own queue of each: the Runnables, by their futures
+  pub runs : List Run
+  pub own : List (List ℕ)
+  -- the runs whose own queues are in the list, in the order in which these came, and the lock of the list
+  pub listed : List ℕ
+  pub lock : Lock
   -- those that lie down, and the flag beside them
   pub sleepers : Sleepers Sleeping
   pub notified : Bool
@@ -75,11 +103,44 @@ awaiter_of w f = slice_index_or w.awaiters f None
 abbrev pub put_awaiter : World → ℕ → Option Awaiter → World
 put_awaiter w f a = record w { awaiters = slice_set w.awaiters f a }
 
-abbrev pub tick_of : World → ℕ → Tick
+abbrev pub tick_of : World → ℕ → Place
 tick_of w t = slice_index_or w.ticks t Left
 
-abbrev pub put_tick : World → ℕ → Tick → World
-put_tick w t x = record w { ticks = slice_set w.ticks t x }
+abbrev pub new_run : Run
+new_run = record { place = Up; stage = New; dropped = false; taken = 0; counted = 0 }
+
+-- no run
+abbrev pub no_run : Run
+no_run = record { place = Left; stage = Ended; dropped = true; taken = 0; counted = 0 }
+
+abbrev pub run_of : World → ℕ → Run
+run_of w r = slice_index_or w.runs r no_run
+
+abbrev pub put_run : World → ℕ → Run → World
+put_run w r x = record w { runs = slice_set w.runs r x }
+
+-- the own queue of run r
+abbrev pub own_of : World → ℕ → List ℕ
+own_of w r = slice_index_or w.own r []
+
+abbrev pub put_own : World → ℕ → List ℕ → World
+put_own w r q = record w { own = slice_set w.own r q }
+
+-- where a tick or run is
+abbrev pub place_of : World → Sleeper → Place
+place_of w (sleeper.Tick t) = tick_of w t
+place_of w (sleeper.Run r) = (run_of w r).place
+
+abbrev pub ticks_with : List Place → Sleeper → Place → List Place
+ticks_with ts (sleeper.Tick t) x = slice_set ts t x
+ticks_with ts (sleeper.Run r) x = ts
+
+abbrev pub runs_with : List Run → Sleeper → Place → List Run
+runs_with rs (sleeper.Tick t) x = rs
+runs_with rs (sleeper.Run r) x = slice_set rs r (record (slice_index_or rs r no_run) { place = x })
+
+abbrev pub put_place : World → Sleeper → Place → World
+put_place w who x = record w { ticks = ticks_with w.ticks who x; runs = runs_with w.runs who x }
 
 -- a section on the sleepers ends, and the flag is stored
 abbrev pub put_sleepers : World → Sleepers Sleeping → World

@@ -1,4 +1,4 @@
-/// A call that a party makes. Futures, ticks and wakers are numbered from 0, in the order in which they were made.
+/// A call that a party makes. Futures, ticks, runs and wakers are numbered from 0, in the order in which they were made.
 #[derive(Clone, Copy, Debug, PartialEq, Eq)]
 pub enum Call {
     /// A future is handed to the executor.
@@ -33,6 +33,12 @@ pub enum Call {
     PollTick(u64, By),
     /// The tick with this number is dropped.
     DropTick(u64),
+    /// A run is made. It has the next number.
+    NewRun,
+    /// The run with this number is polled, and given this waker.
+    PollRun(u64, By),
+    /// The run with this number is dropped.
+    DropRun(u64),
     /// The executor is dropped.
     DropExecutor,
 }
@@ -58,10 +64,13 @@ pub enum Reply {
     Done,
     /// Memory was refused, or there were too many references for one more.
     NoMemory,
-    /// A polled handle has no output yet; a polled tick has found no future, and will be told.
+    /// A polled handle has no output yet; a polled tick or run has found no future, and will be told; or a polled
+    /// run has taken 200, and has called its own waker.
     Pending,
-    /// A polled handle gives its output; a polled tick has run a future.
+    /// A polled handle gives its output; a polled tick has run a future; the own future of a polled run is ready.
     Ready,
     /// A polled handle has no output and will have none.
     Cancelled,
+    /// The polled run was ready before.
+    Finished,
 }

@@ -82,8 +82,24 @@ pub enum Event {
         party: u32,
         tick: u64,
     },
+    /// The run is polled. The place of this event in the trace names the poll.
+    RunPolled {
+        party: u32,
+        run: u64,
+    },
+    /// The drop of the run begins.
+    RunDropped {
+        party: u32,
+        run: u64,
+    },
+    /// The future's Runnable came into the own queue of this run.
+    Kept {
+        party: u32,
+        future: u64,
+        run: u64,
+    },
     /// The waker that a poll was given is called, or a copy of it. The poll is named by what was polled, and
-    /// by the place of its `HandlePolled` or `TickPolled`.
+    /// by the place of its `HandlePolled`, `TickPolled` or `RunPolled`.
     WakerCalled {
         party: u32,
         polled: Polled,

@@ -7,6 +7,8 @@ ghost use Rattle.executor_model.specs.HandingOn.{HandsOn, IsOnItsWay};
 ghost use Rattle.executor_model.specs.Limit.{IsLimitExact};
 ghost use Rattle.executor_model.specs.Memory.{NeedsNoMemory};
 ghost use Rattle.executor_model.specs.OutputKept.{OutputIsKept};
+ghost use Rattle.executor_model.specs.OwnQueues.{HasOwnRoom, IsEmptyMeanwhile, IsUsedOnce};
+ghost use Rattle.executor_model.specs.OwnQueues.{ListAgrees, LockAgrees, OwnQueueHasRunner};
 ghost use Rattle.executor_model.specs.Refusals.{IsWantToldOf, RefusedChangesNothing};
 ghost use Rattle.executor_model.specs.Runs.{EveryMachine, EveryRun, HasOneRunnable, IsCounted};
 ghost use Rattle.executor_model.specs.SleepersAgree.{SleepersAgree};
@@ -60,15 +62,18 @@ pub fn quiet_emptiness_is_exact()
     ensures { EveryMachine IsQuietEmptinessExact }
 {}
 
-/// A call takes no memory but a spawn, a copy of a waker and a poll of a handle: nothing that it has to do
-/// from its beginning to its end asks for memory or refuses it, and what it does is the same whether
-/// memory is refused or not. So no wake, cancel, detach or drop is ever refused, nor is a tick.
+/// A call takes no memory but a spawn, the making of a tick or run, a copy of a waker, and a poll of a handle, tick
+/// or run, which copies the waker that it is given: nothing that it has to do from its beginning to its end asks for
+/// memory or refuses it, and what it does is the same whether memory is refused or not. So no wake, cancel, detach or
+/// drop is ever refused. Nor does a poll of a tick take memory that finds a future at its first search, nor one of a
+/// run whose own future is ready, or that finds a future at every search.
 pub fn wakes_and_drops_take_no_memory()
     ensures { (w : World) (p : ℕ) → NeedsNoMemory w p }
 {}
 
 /// A refused call changes nothing but that the trace has its beginning and its end: none of what a party
-/// does from the call's beginning to the refusal does.
+/// does from the call's beginning to the refusal does. A poll of a run keeps what it did before it was refused, and
+/// the making of a run that is refused gives the room back that it had.
 pub fn refused_calls_change_nothing()
     ensures { (w : World) (p : ℕ) → RefusedChangesNothing w p }
 {}
@@ -87,26 +92,43 @@ pub fn outputs_are_kept()
 {}
 
 /// Each wake that marks a task as scheduled hands on exactly one Runnable where the task isn't running,
-/// be it a wake by a waker, the call of an awaiter that is one, or a wake by the executor's drop. Where the
-/// task is running, the end of the poll does, unless the task is closed by then. A wake of a task that is
-/// marked, completed or closed hands on none. Whatever the parties do, a marked task has one Runnable, run
-/// or closing call, and one that is open and neither marked nor running has none.
+/// be it a wake by a waker, the call of an awaiter, of a sleeper's waker or of a run's own that is one, or a
+/// wake by the executor's drop. Where the task is running, the end of the poll does, unless the task is closed
+/// by then. A wake of a task that is marked, completed or closed hands on none. Whatever the parties do, a
+/// marked task has one Runnable, run or closing call, and one that is open and neither marked nor running
+/// has none.
 pub fn wakes_are_handed_on()
     ensures handed { (w : World) (f p : ℕ) (h : Hint) → HandsOn w f p h }
     ensures marked { EveryRun IsOnItsWay }
 {}
 
-/// Whatever the parties do, no two ticks lie under one number, as many sleep as ticks lie, and there are never
-/// more wakers than sleepers. The flag is true only where nobody sleeps, a sleeper is notified, or a party stands
-/// between its won exchange of the flag and its hand-out. There is as much room as ticks live, so a tick that lives
-/// finds a place: one that is up finds room to lie down in, and one that was notified may be listed again.
+/// Whatever the parties do, no two ticks or runs lie under one number, as many sleep as ticks and runs lie, and there
+/// are never more wakers than sleepers. The flag is true only where nobody sleeps, a sleeper is notified, or a party
+/// stands between its won exchange of the flag and its hand-out. There is as much room as ticks live and runs haven't
+/// left, and as a party has made for a run that isn't there yet, or has still to give back; so who lives finds a place:
+/// one that is up finds room to lie down in, and one that was notified may be listed again.
 pub fn sleepers_agree()
     ensures { EveryMachine SleepersAgree }
 {}
 
-/// Whatever the parties do, where a Runnable stands in the queue and a tick lies among the sleepers, a sleeper
+/// Whatever the parties do, where a Runnable stands in the queue and a tick or run lies among the sleepers, a sleeper
 /// is notified, or a party has still to exchange the flag, to hand out or to search. Who has still to call a waker
 /// that was handed out isn't needed.
 pub fn sleepers_are_told()
     ensures { EveryMachine SleepersAreTold }
+{}
+
+/// Whatever the parties do, a run is in one call at most. The list of queues holds the own queue of each run that is
+/// registered, once, and no other. Who has the lock of the list has one thing still to do under it, or to give it back,
+/// and nobody walks while somebody writes. In a run's own queue there is a free place for each Runnable that a steal may
+/// still bring, so no append there is refused; a run that has found its own queue empty has it empty until it searches
+/// again or its poll ends; and what stands there belongs to a run in its poll or its drop, or to one whose last poll
+/// called its own waker.
+pub fn own_queues_agree()
+    ensures used { EveryRun IsUsedOnce }
+    ensures listed { EveryRun ListAgrees }
+    ensures locked { EveryMachine LockAgrees }
+    ensures roomy { EveryRun HasOwnRoom }
+    ensures empty { EveryRun IsEmptyMeanwhile }
+    ensures kept { EveryRun OwnQueueHasRunner }
 {}

@@ -14,7 +14,8 @@ pub use call::{By, Call, Reply};
 pub use event::{Answer, Event};
 pub use kind::Kind;
 pub use op::{
-    Awaiter, ClosingOp, HandleOp, Hold, Op, Polled, QueueOp, SleeperOp, Sleeping, TableOp, TickOp,
-    UserOp, Waker, WakerOp,
+    Awaiter, ClosingOp, HandleOp, Hold, ListOp, Op, Polled, QueueOp, RunOp, RunPoll, Section,
+    Sleeper, SleeperOp, Sleeping, Source, Steal, StealOp, TableOp, Then, TickOp, UserOp, Waker,
+    WakerOp,
 };
 pub use step::{Hint, Step, StepError, UserEnd};

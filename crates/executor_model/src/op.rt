@@ -25,14 +25,33 @@ pub enum Polled {
     Handle(u64),
     /// The tick with this number.
     Tick(u64),
+    /// The run with this number.
+    Run(u64),
 }
 
-/// What the list of sleepers keeps of a tick: the waker that it lay down with, the tick, and the poll by the
-/// place of its `TickPolled` in the trace.
+/// Who lies down among the sleepers.
+#[derive(Clone, Copy, Debug, PartialEq, Eq)]
+pub enum Sleeper {
+    /// The tick with this number.
+    Tick(u64),
+    /// The run with this number.
+    Run(u64),
+}
+
+/// What the list of sleepers keeps of a tick or run: the waker that it lay down with, who it is, and the poll by
+/// the place of its `TickPolled` or `RunPolled` in the trace.
 #[derive(Clone, Copy, Debug, PartialEq, Eq)]
 pub struct Sleeping {
     pub waker: Waker,
-    pub tick: u64,
+    pub who: Sleeper,
+    pub poll: u64,
+}
+
+/// A poll of a run: the run, the waker that it was given, and the place of its `RunPolled` in the trace.
+#[derive(Clone, Copy, Debug, PartialEq, Eq)]
+pub struct RunPoll {
+    pub run: u64,
+    pub waker: Waker,
     pub poll: u64,
 }
 
@@ -50,6 +69,8 @@ pub enum Hold {
     Waker(u64),
     /// The executor, and the tick with this number.
     Tick(u64),
+    /// The executor, and the run with this number.
+    Run(u64),
 }
 
 /// What a party does with the table.
@@ -93,6 +114,10 @@ pub enum UserOp {
     DropOutput(u64),
     /// The call of an outside waker.
     CallOutside(u64),
+    /// The poll of a run's own future.
+    PollOwn(RunPoll),
+    /// The drop of the own future of this run.
+    DropOwn(u64),
 }
 
 /// What a party does with a waker, a move of its task apart.
@@ -132,22 +157,107 @@ pub enum SleeperOp {
     CallSleeper(Sleeping),
 }
 
-/// Parts of the making, of a poll and of the drop of a tick. Those of a poll have the tick, the waker that the
-/// poll was given, and the poll.
+/// The making of a tick, and what ticks and runs both do: parts of their polls and drops. Those of a poll have who is
+/// polled, the waker that the poll was given, and the poll.
 #[derive(Clone, Copy, Debug)]
 pub enum TickOp {
     /// A tick is made, with room to lie down in.
     MakeTick,
-    /// The first Runnable is taken.
+    /// It searches from the beginning: the first Runnable is taken, by a run that of its own queue.
     Search(Sleeping),
     /// The waker is copied, to lie down with.
     CopyWaker(Sleeping),
-    /// The tick lies down with the copy, or lies down again.
+    /// It lies down with the copy, or lies down again.
     LieDown(Sleeping),
-    /// The tick gets up, with a Runnable of this future.
-    GetUp(u64, u64),
-    /// The tick leaves the sleepers, and gives its room back.
-    Leave(u64),
+    /// It gets up.
+    GetUp(Sleeper),
+    /// It leaves the sleepers, and gives its room back.
+    Leave(Sleeper),
+}
+
+/// What is done with the list of the runs' own queues under its write lock.
+#[derive(Clone, Copy, Debug)]
+pub enum Section {
+    /// A run is made: room in the list, and an own queue.
+    MakeRun,
+    /// The own queue of the run that is polled comes into the list.
+    Register(RunPoll),
+    /// The own queue of this run goes from the list, in a call that is answered so.
+    Unregister(u64, Reply),
+}
+
+/// What a party does with the list of the runs' own queues.
+#[derive(Clone, Copy, Debug)]
+pub enum ListOp {
+    /// Its write lock is taken.
+    LockWrite(Section),
+    /// This is done under the write lock.
+    Write(Section),
+    /// The write lock is given back.
+    UnlockWrite,
+    /// Its read lock is taken, and the run's walk begins.
+    LockRead(RunPoll),
+    /// The read lock is given back.
+    UnlockRead,
+}
+
+/// A queue that a run steals from.
+#[derive(Clone, Copy, Debug, PartialEq, Eq)]
+pub enum Source {
+    /// The executor's queue.
+    Common,
+    /// The own queue of this run.
+    Own(u64),
+}
+
+/// What a run goes on with once a steal has ended.
+#[derive(Clone, Copy, Debug)]
+pub enum Then {
+    /// With this future, which it has found.
+    Found(u64),
+    /// With this future, which it has counted too.
+    Run(u64),
+    /// With its walk, from this place of the list on, where so many queues are still to go to.
+    Walk(u64, u64),
+}
+
+/// A steal: the poll of the run that steals, where it steals from, and what it goes on with.
+#[derive(Clone, Copy, Debug)]
+pub struct Steal {
+    pub poll: RunPoll,
+    pub from: Source,
+    pub then: Then,
+}
+
+/// Parts of a steal.
+#[derive(Clone, Copy, Debug)]
+pub enum StealOp {
+    /// The length of the source is read.
+    Length(Steal),
+    /// The length of the own queue is read. The number is that of the source.
+    OwnLength(Steal, u64),
+    /// The first Runnable of the source is taken, and so many after it.
+    Take(Steal, u64),
+    /// A Runnable is appended to the own queue, with so many after it. The last number is its future's.
+    Put(Steal, u64, u64),
+}
+
+/// Parts of the making, of a poll and of the drop of a run: what a run alone does.
+#[derive(Clone, Copy, Debug)]
+pub enum RunOp {
+    /// Room is made to lie down in.
+    MakeRoom,
+    /// That room is given back, as the rest was refused.
+    ReturnRoom,
+    /// The first Runnable of the executor's queue is taken.
+    SearchCommon(RunPoll),
+    /// In a walk, the first Runnable of the own queue is taken. The walk goes on from this place of the list, where so
+    /// many queues are still to go to.
+    LookOwn(RunPoll, u64, u64),
+    /// The waker that the poll was given is called, and stays.
+    WakeOwn(RunPoll),
+    /// The first Runnable that is left in the own queue of this run is scheduled, in a call that is answered so.
+    Reschedule(u64, Reply),
 }
 
 /// Parts of the executor's drop.
@@ -178,6 +288,9 @@ pub enum Op {
     Handle(HandleOp),
     Sleeper(SleeperOp),
     Tick(TickOp),
+    List(ListOp),
+    Steal(StealOp),
+    Run(RunOp),
     Closing(ClosingOp),
     /// The call ends, in the step that did the last thing before.
     End(Reply, Hold),

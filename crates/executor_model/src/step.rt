@@ -8,6 +8,8 @@ pub struct Hint {
     pub refused: bool,
     /// `will_wake` says yes in this step.
     pub same: bool,
+    /// The word that a walk starts by which begins in this step.
+    pub start: u64,
 }
 
 /// What ends a piece of user code.
@@ -45,6 +47,8 @@ pub enum StepError {
     Idle,
     /// User code must answer first, or there is none that could answer so.
     WrongAnswer,
+    /// Another party holds the lock of the list of queues, and not both of them walk under its read lock.
+    Waits,
     /// The machine itself can't grow.
     NoMemory,
 }

@@ -9,6 +9,8 @@ mod refusals;
 #[cfg(test)]
 mod rows;
 #[cfg(test)]
+mod runs;
+#[cfg(test)]
 mod ticks;
 #[cfg(test)]
 mod words;

@@ -35,6 +35,8 @@ fn what_is_not_there_is_refused(rt: HostRuntime) {
         begin(0, Call::DropHandle(0)),
         begin(0, Call::PollTick(0, By::Outside(1))),
         begin(0, Call::DropTick(0)),
+        begin(0, Call::PollRun(0, By::Outside(1))),
+        begin(0, Call::DropRun(0)),
     ];
     for step in none {
         stepped(&rt, &mut machine, step, Err(StepError::NoSuch));
@@ -106,6 +108,7 @@ fn a_dropped_executor_is_gone(rt: HostRuntime) {
         Call::TryTick,
         Call::IsEmpty,
         Call::NewTick,
+        Call::NewRun,
         Call::DropExecutor,
     ] {
         stepped(&rt, &mut machine, begin(1, call), Err(StepError::Gone));
@@ -117,7 +120,13 @@ fn a_dropped_executor_is_gone(rt: HostRuntime) {
 
 #[test]
 fn an_executor_in_use_is_borrowed(rt: HostRuntime) {
-    for call in [Call::Spawn, Call::TryTick, Call::IsEmpty, Call::NewTick] {
+    for call in [
+        Call::Spawn,
+        Call::TryTick,
+        Call::IsEmpty,
+        Call::NewTick,
+        Call::NewRun,
+    ] {
         let mut machine = machine_for(&rt, 1);
         stepped(&rt, &mut machine, begin(1, call), Ok(()));
         stepped(
@@ -178,6 +187,7 @@ fn a_refused_request_for_memory_is_answered(rt: HostRuntime) {
         hint: Hint {
             refused: true,
             same: false,
+            start: 0,
         },
     };
     let mut machine = machine_for(&rt, 1);

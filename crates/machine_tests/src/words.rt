@@ -6,6 +6,7 @@ use std::process::Abort;
 pub const AMPLE: Hint = Hint {
     refused: false,
     same: false,
+    start: 0,
 };
 
 pub const PENDING: UserEnd = UserEnd::Polled(Answer::Pending);
@@ -41,7 +42,7 @@ pub fn last_reply(machine: &Machine) -> Option<Reply> {
 /// call was answered, or nothing where a step was refused otherwise.
 pub fn finish(machine: &mut Machine, party: u32, ends: &[UserEnd]) -> Option<Reply> {
     let mut later = ends.iter();
-    for _ in 0..64 {
+    for _ in 0..128 {
         let refused = match machine.step(go(party)) {
             Ok(()) => continue,
             Err(error) => error,
@@ -121,18 +122,20 @@ pub fn polls_and_drops(machine: &Machine, future: u64) -> (u64, u64) {
     (polls, drops)
 }
 
-/// How often a waker was called that a poll of this tick was given.
-pub fn calls_of_tick(machine: &Machine, tick: u64) -> u64 {
+/// How often a waker was called that a poll of this tick or run was given.
+pub fn calls_of(machine: &Machine, who: Polled) -> u64 {
     let mut calls = 0u64;
     for event in machine.trace() {
-        if let Event::WakerCalled {
-            polled: Polled::Tick(t),
-            ..
-        } = event
-        {
-            if *t == tick {
-                calls = calls.saturating_add(1);
-            }
+        let Event::WakerCalled { polled, .. } = event else {
+            continue;
+        };
+        let is_one = match (who, *polled) {
+            (Polled::Tick(t), Polled::Tick(u)) => t == u,
+            (Polled::Run(r), Polled::Run(q)) => r == q,
+            _ => false,
+        };
+        if is_one {
+            calls = calls.saturating_add(1);
         }
     }
     calls
@@ -192,5 +195,10 @@ pub fn polled_and_dropped<R: Abort>(rt: &R, machine: &Machine, future: u64, want
 
 /// A waker that a poll of the tick was given was called so many times.
 pub fn called<R: Abort>(rt: &R, machine: &Machine, tick: u64, want: u64) {
-    assert_eq!(rt; calls_of_tick(machine, tick), want, "tick {tick}");
+    assert_eq!(rt; calls_of(machine, Polled::Tick(tick)), want, "tick {tick}");
+}
+
+/// A waker that a poll of the run was given was called so many times.
+pub fn run_called<R: Abort>(rt: &R, machine: &Machine, run: u64, want: u64) {
+    assert_eq!(rt; calls_of(machine, Polled::Run(run)), want, "run {run}");
 }

@@ -1,15 +1,15 @@
 -- What the automata tell of a future is what the definition of due says.
 use Rattle.std.proofs.Common.{◌≡◌, ◌≢◌, ℕ, Bool, true, false, ◌||◌, cond, ◌==◌, [], ◌∷◌, ◌++◌, refl, sym, ap, ◌∙◌}
 use Rattle.std.proofs.Common.{subst, append_assoc, append-nil}
-use Rattle.runs_model.specs.declared.event.Answer.TheVariants.{Pending, Ready}
-use Rattle.runs_model.specs.declared.event.Event.{Event}
-use Rattle.runs_model.specs.declared.event.Event.TheVariants.{Accepted, PollBegun, Answered, Woken, Cancelled, Dropped}
-use Rattle.runs_model.specs.Trace.{Trace, has, is_poll, is_ready, is_dropped}
-use Rattle.runs_model.specs.Due.{is_request, since_poll}
-use Rattle.runs_model.specs.Sound.{Phase, after_begun, after_answered, after_dropped, passes, phase}
-use Rattle.runs_model.specs.Sound.Phase.{Fresh, Polling, Over, Broken}
-use Rattle.runs_model.proofs.Lists.{phase-push}
-use Rattle.runs_model.proofs.Requests.{Request, notes, request, request-push, request-none}
+use Rattle.executor_model.specs.declared.event.Answer.TheVariants.{Pending, Ready}
+use Rattle.executor_model.specs.declared.event.Event.{Event}
+use Rattle.executor_model.specs.declared.event.Event.TheVariants.{Accepted, PollBegun, Answered, Woken, Cancelled, Dropped}
+use Rattle.executor_model.specs.Trace.{Trace, has, is_poll, is_ready, is_dropped}
+use Rattle.executor_model.specs.Due.{is_request, since_poll}
+use Rattle.executor_model.specs.Sound.{Phase, after_begun, after_answered, after_dropped, passes, phase}
+use Rattle.executor_model.specs.Sound.Phase.{Fresh, Polling, Over, Broken}
+use Rattle.executor_model.proofs.Lists.{phase-push}
+use Rattle.executor_model.proofs.Requests.{Request, notes, request, request-push, request-none}
 use Rattle.runs_called.proofs.Pushes.{any-push, since-push}
 
 -- what is said of all traces by their last events

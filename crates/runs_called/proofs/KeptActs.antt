@@ -4,42 +4,42 @@ use Rattle.std.specs.Prelude.{not, Option, Some, None}
 use Rattle.executor_parts.specs.Sleepers.{waker_at}
 use Rattle.task_moves.specs.declared.moves.owed.Move.{Move}
 use Rattle.task_moves.specs.declared.moves.owed.Move.TheVariants as move
-use Rattle.runs_model.specs.declared.event.Answer.TheVariants as answer
-use Rattle.runs_model.specs.declared.op.Hold.{Hold}
-use Rattle.runs_model.specs.declared.op.ListOp.{ListOp}
-use Rattle.runs_model.specs.declared.op.ListOp.TheVariants as list_op
-use Rattle.runs_model.specs.declared.op.Op.{Op}
-use Rattle.runs_model.specs.declared.op.Op.TheVariants as op
-use Rattle.runs_model.specs.declared.op.RunOp.{RunOp}
-use Rattle.runs_model.specs.declared.op.RunOp.TheVariants as run_op
-use Rattle.runs_model.specs.declared.op.RunPoll.{RunPoll}
-use Rattle.runs_model.specs.declared.op.Section.TheVariants as section
-use Rattle.runs_model.specs.declared.op.Sleeper.{Sleeper}
-use Rattle.runs_model.specs.declared.op.Sleeper.TheVariants as sleeper
-use Rattle.runs_model.specs.declared.op.Sleeping.{Sleeping}
-use Rattle.runs_model.specs.declared.op.StealOp.TheVariants as steal_op
-use Rattle.runs_model.specs.declared.op.TableOp.TheVariants as table_op
-use Rattle.runs_model.specs.declared.op.TickOp.{TickOp}
-use Rattle.runs_model.specs.declared.op.TickOp.TheVariants as tick_op
-use Rattle.runs_model.specs.declared.op.UserOp.TheVariants as user_op
-use Rattle.runs_model.specs.declared.op.Waker.{Waker}
-use Rattle.runs_model.specs.declared.op.Waker.TheVariants.{Task, Outside}
-use Rattle.runs_model.specs.declared.op.WakerOp.TheVariants as waker_op
-use Rattle.runs_model.specs.declared.step.Hint.{Hint}
-use Rattle.runs_model.specs.declared.step.UserEnd.{UserEnd}
-use Rattle.runs_model.specs.declared.step.UserEnd.TheVariants as end
-use Rattle.runs_model.specs.Acts.{copy_by, is_copy_refused}
-use Rattle.runs_model.specs.ActsOfRuns as runs
-use Rattle.runs_model.specs.ActsOfSleepers.{copy_sleeper_by, lie_again_by, lie_anew_by, lie_down_by, lie_listed_by}
-use Rattle.runs_model.specs.ActsOfSleepers.{pend_as, search_by, sleeper_goes}
-use Rattle.runs_model.specs.Doing.{act, list_act, run_act, search, tick_act}
-use Rattle.runs_model.specs.Rows.{running_of}
-use Rattle.runs_model.specs.Steps.{accepts, react}
-use Rattle.runs_model.specs.Weights.{same, weigh}
-use Rattle.runs_model.specs.World.{World, Place, Up, Lies, Left, own_of}
-use Rattle.runs_model.proofs.Lists.{same_is, weigh-append}
-use Rattle.runs_model.proofs.SleepersCounting.{asleep}
-use Rattle.runs_model.proofs.UsingWorlds.{idle, idle-copy_sleeper, idle-lie, idle-search}
+use Rattle.executor_model.specs.declared.event.Answer.TheVariants as answer
+use Rattle.executor_model.specs.declared.op.Hold.{Hold}
+use Rattle.executor_model.specs.declared.op.ListOp.{ListOp}
+use Rattle.executor_model.specs.declared.op.ListOp.TheVariants as list_op
+use Rattle.executor_model.specs.declared.op.Op.{Op}
+use Rattle.executor_model.specs.declared.op.Op.TheVariants as op
+use Rattle.executor_model.specs.declared.op.RunOp.{RunOp}
+use Rattle.executor_model.specs.declared.op.RunOp.TheVariants as run_op
+use Rattle.executor_model.specs.declared.op.RunPoll.{RunPoll}
+use Rattle.executor_model.specs.declared.op.Section.TheVariants as section
+use Rattle.executor_model.specs.declared.op.Sleeper.{Sleeper}
+use Rattle.executor_model.specs.declared.op.Sleeper.TheVariants as sleeper
+use Rattle.executor_model.specs.declared.op.Sleeping.{Sleeping}
+use Rattle.executor_model.specs.declared.op.StealOp.TheVariants as steal_op
+use Rattle.executor_model.specs.declared.op.TableOp.TheVariants as table_op
+use Rattle.executor_model.specs.declared.op.TickOp.{TickOp}
+use Rattle.executor_model.specs.declared.op.TickOp.TheVariants as tick_op
+use Rattle.executor_model.specs.declared.op.UserOp.TheVariants as user_op
+use Rattle.executor_model.specs.declared.op.Waker.{Waker}
+use Rattle.executor_model.specs.declared.op.Waker.TheVariants.{Task, Outside}
+use Rattle.executor_model.specs.declared.op.WakerOp.TheVariants as waker_op
+use Rattle.executor_model.specs.declared.step.Hint.{Hint}
+use Rattle.executor_model.specs.declared.step.UserEnd.{UserEnd}
+use Rattle.executor_model.specs.declared.step.UserEnd.TheVariants as end
+use Rattle.executor_model.specs.Acts.{copy_by, is_copy_refused}
+use Rattle.executor_model.specs.ActsOfRuns as runs
+use Rattle.executor_model.specs.ActsOfSleepers.{copy_sleeper_by, lie_again_by, lie_anew_by, lie_down_by, lie_listed_by}
+use Rattle.executor_model.specs.ActsOfSleepers.{pend_as, search_by, sleeper_goes}
+use Rattle.executor_model.specs.Doing.{act, list_act, run_act, search, tick_act}
+use Rattle.executor_model.specs.Rows.{running_of}
+use Rattle.executor_model.specs.Steps.{accepts, react}
+use Rattle.executor_model.specs.Weights.{same, weigh}
+use Rattle.executor_model.specs.World.{World, Place, Up, Lies, Left, own_of}
+use Rattle.executor_model.proofs.Lists.{same_is, weigh-append}
+use Rattle.executor_model.proofs.SleepersCounting.{asleep}
+use Rattle.executor_model.proofs.UsingWorlds.{idle, idle-copy_sleeper, idle-lie, idle-search}
 use Rattle.runs_called.proofs.KeptGrown.{stirs_op}
 use Rattle.runs_called.proofs.KeptWeights.{load_of, quits-walk, quits_of}
 use Rattle.runs_called.proofs.StandsRuns.{walks-lock, walks-look_own, walks-search, walks-search_common}

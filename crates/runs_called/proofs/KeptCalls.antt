@@ -2,19 +2,19 @@
 use Rattle.std.proofs.Common.{◌≡◌, ◌≢◌, ◌∙◌, ℕ, zero, suc, ◌<◌, ◌≤◌, List, [], ◌∷◌, ◌++◌, length, get_or, set}
 use Rattle.std.proofs.Common.{true, false, eqb, refl, sym, ap, subst, inl, inr, ⊎_elim, arith, get_or-set_other}
 use Rattle.std.specs.Prelude.{Option, Some, None}
-use Rattle.runs_model.specs.declared.call.Call.{Call}
-use Rattle.runs_model.specs.declared.call.Call.TheVariants as call
-use Rattle.runs_model.specs.declared.event.Event.{Event}
-use Rattle.runs_model.specs.declared.event.Event.TheVariants as event
-use Rattle.runs_model.specs.declared.op.Op.{Op}
-use Rattle.runs_model.specs.declared.op.RunPoll.{RunPoll}
-use Rattle.runs_model.specs.declared.op.Waker.{Waker}
-use Rattle.runs_model.specs.Sound.{times}
-use Rattle.runs_model.specs.Steps.{begun, drop_run, future_of, kept, poll_run, with_future}
-use Rattle.runs_model.specs.Weights.{same, weigh}
-use Rattle.runs_model.specs.World.{World, Stage, New, Listed, Ended, Run, Done, done, log, no_run, put_run, run_of}
-use Rattle.runs_model.proofs.Lists.{same_cases}
-use Rattle.runs_model.proofs.UsingWorlds.{count-set, is_past}
+use Rattle.executor_model.specs.declared.call.Call.{Call}
+use Rattle.executor_model.specs.declared.call.Call.TheVariants as call
+use Rattle.executor_model.specs.declared.event.Event.{Event}
+use Rattle.executor_model.specs.declared.event.Event.TheVariants as event
+use Rattle.executor_model.specs.declared.op.Op.{Op}
+use Rattle.executor_model.specs.declared.op.RunPoll.{RunPoll}
+use Rattle.executor_model.specs.declared.op.Waker.{Waker}
+use Rattle.executor_model.specs.Sound.{times}
+use Rattle.executor_model.specs.Steps.{begun, drop_run, future_of, kept, poll_run, with_future}
+use Rattle.executor_model.specs.Weights.{same, weigh}
+use Rattle.executor_model.specs.World.{World, Stage, New, Listed, Ended, Run, Done, done, log, no_run, put_run, run_of}
+use Rattle.executor_model.proofs.Lists.{same_cases}
+use Rattle.executor_model.proofs.UsingWorlds.{count-set, is_past}
 use Rattle.runs_called.proofs.KeptGrown.{Grown, seen-and, seen-log, stirs}
 use Rattle.runs_called.proofs.KeptTrace.{Parted, parted-dropped}
 use Rattle.runs_called.proofs.KeptWeights.{quits_of}

@@ -2,26 +2,26 @@
 use Rattle.std.proofs.Common.{◌≡◌, ◌⊎◌, ◌∙◌, ℕ, zero, suc, ◌+◌, ◌<◌, ◌≤◌, List, [], ◌∷◌, ◌++◌, length, set, drop, take}
 use Rattle.std.proofs.Common.{Bool, true, false, cond, refl, sym, ap, subst, inl, inr, ⊎_elim, arith}
 use Rattle.std.specs.Prelude.{Option, Some, count_by, reverse, slice_get}
-use Rattle.runs_model.specs.declared.call.Reply.{Reply}
-use Rattle.runs_model.specs.declared.call.Reply.TheVariants as reply
-use Rattle.runs_model.specs.declared.event.Event.{Event}
-use Rattle.runs_model.specs.declared.event.Event.TheVariants as event
-use Rattle.runs_model.specs.declared.op.Hold.{Hold}
-use Rattle.runs_model.specs.declared.op.Hold.TheVariants as hold
-use Rattle.runs_model.specs.declared.op.Op.{Op}
-use Rattle.runs_model.specs.declared.op.Op.TheVariants as op
-use Rattle.runs_model.specs.declared.op.Sleeper.TheVariants as sleeper
-use Rattle.runs_model.specs.AwaiterKept.{EndsWith, since}
-use Rattle.runs_model.specs.Keeper.{AnswersReady}
-use Rattle.runs_model.specs.Quiet.{begins_call, ends_call}
-use Rattle.runs_model.specs.Steps.{Machine, stack}
-use Rattle.runs_model.specs.Trace.{Trace, has}
-use Rattle.runs_model.specs.Weights.{weigh_all}
-use Rattle.runs_model.specs.World.{Done, done, log}
-use Rattle.runs_model.proofs.AskingRuns.{Heard}
-use Rattle.runs_model.proofs.Lift.{split, unsettled}
-use Rattle.runs_model.proofs.Lists.{weigh_all-push}
-use Rattle.runs_model.proofs.OwnRooms.{Roomy}
+use Rattle.executor_model.specs.declared.call.Reply.{Reply}
+use Rattle.executor_model.specs.declared.call.Reply.TheVariants as reply
+use Rattle.executor_model.specs.declared.event.Event.{Event}
+use Rattle.executor_model.specs.declared.event.Event.TheVariants as event
+use Rattle.executor_model.specs.declared.op.Hold.{Hold}
+use Rattle.executor_model.specs.declared.op.Hold.TheVariants as hold
+use Rattle.executor_model.specs.declared.op.Op.{Op}
+use Rattle.executor_model.specs.declared.op.Op.TheVariants as op
+use Rattle.executor_model.specs.declared.op.Sleeper.TheVariants as sleeper
+use Rattle.executor_model.specs.AwaiterKept.{EndsWith, since}
+use Rattle.executor_model.specs.Keeper.{AnswersReady}
+use Rattle.executor_model.specs.Quiet.{begins_call, ends_call}
+use Rattle.executor_model.specs.Steps.{Machine, stack}
+use Rattle.executor_model.specs.Trace.{Trace, has}
+use Rattle.executor_model.specs.Weights.{weigh_all}
+use Rattle.executor_model.specs.World.{Done, done, log}
+use Rattle.executor_model.proofs.AskingRuns.{Heard}
+use Rattle.executor_model.proofs.Lift.{split, unsettled}
+use Rattle.executor_model.proofs.Lists.{weigh_all-push}
+use Rattle.executor_model.proofs.OwnRooms.{Roomy}
 use Rattle.runs_called.proofs.KeptLeads.{IsPast}
 use Rattle.runs_called.proofs.KeptGrown.{Grown, seen-log}
 use Rattle.runs_called.proofs.KeptTrace.{Parted, get-new, keeps-before, none-kept, get-either, parted-more}

@@ -9,49 +9,49 @@ use Rattle.task_moves.specs.declared.moves.owed.Answer.{Answer}
 use Rattle.task_moves.specs.declared.moves.owed.Move.{Move}
 use Rattle.task_moves.specs.declared.moves.owed.Move.TheVariants as move
 use Rattle.task_moves.specs.declared.moves.owed.Moved.{Moved}
-use Rattle.runs_model.specs.declared.call.Reply.{Reply}
-use Rattle.runs_model.specs.declared.event.Answer.TheVariants as answer
-use Rattle.runs_model.specs.declared.event.Event.{Event}
-use Rattle.runs_model.specs.declared.event.Event.TheVariants as event
-use Rattle.runs_model.specs.declared.op.Hold.{Hold}
-use Rattle.runs_model.specs.declared.op.Op.{Op}
-use Rattle.runs_model.specs.declared.op.Op.TheVariants as op
-use Rattle.runs_model.specs.declared.op.ClosingOp.TheVariants as closing_op
-use Rattle.runs_model.specs.declared.op.HandleOp.TheVariants as handle_op
-use Rattle.runs_model.specs.declared.op.ListOp.TheVariants as list_op
-use Rattle.runs_model.specs.declared.op.Polled.{Polled}
-use Rattle.runs_model.specs.declared.op.Polled.TheVariants as of
-use Rattle.runs_model.specs.declared.op.QueueOp.TheVariants as queue_op
-use Rattle.runs_model.specs.declared.op.RunOp.TheVariants as run_op
-use Rattle.runs_model.specs.declared.op.RunPoll.{RunPoll}
-use Rattle.runs_model.specs.declared.op.Section.TheVariants as section
-use Rattle.runs_model.specs.declared.op.Sleeper.{Sleeper}
-use Rattle.runs_model.specs.declared.op.Sleeper.TheVariants as sleeper
-use Rattle.runs_model.specs.declared.op.SleeperOp.TheVariants as sleeper_op
-use Rattle.runs_model.specs.declared.op.Sleeping.{Sleeping}
-use Rattle.runs_model.specs.declared.op.Source.{Source}
-use Rattle.runs_model.specs.declared.op.Source.TheVariants.{Common, Own}
-use Rattle.runs_model.specs.declared.op.Steal.{Steal}
-use Rattle.runs_model.specs.declared.op.StealOp.TheVariants as steal_op
-use Rattle.runs_model.specs.declared.op.TableOp.TheVariants as table_op
-use Rattle.runs_model.specs.declared.op.Then.{Then}
-use Rattle.runs_model.specs.declared.op.Then.TheVariants as then
-use Rattle.runs_model.specs.declared.op.TickOp.TheVariants as tick_op
-use Rattle.runs_model.specs.declared.op.UserOp.TheVariants as user_op
-use Rattle.runs_model.specs.declared.op.Waker.{Waker}
-use Rattle.runs_model.specs.declared.op.Waker.TheVariants.{Task, Outside}
-use Rattle.runs_model.specs.declared.op.WakerOp.TheVariants as waker_op
-use Rattle.runs_model.specs.declared.step.Hint.{Hint}
-use Rattle.runs_model.specs.declared.step.UserEnd.{UserEnd}
-use Rattle.runs_model.specs.declared.step.UserEnd.TheVariants as end
-use Rattle.runs_model.specs.Acts as acts
-use Rattle.runs_model.specs.ActsOfRuns as runs
-use Rattle.runs_model.specs.ActsOfSleepers as sleepers
-use Rattle.runs_model.specs.Doing.{act, search_by_who}
-use Rattle.runs_model.specs.Steps.{accepts, react}
-use Rattle.runs_model.specs.Trace.{Trace, has}
-use Rattle.runs_model.specs.World.{World, Place, Up, Lies, Left, Stage, New, Listed, Ended, log, log_if, task, put}
-use Rattle.runs_model.specs.World.{put_own, run_of}
+use Rattle.executor_model.specs.declared.call.Reply.{Reply}
+use Rattle.executor_model.specs.declared.event.Answer.TheVariants as answer
+use Rattle.executor_model.specs.declared.event.Event.{Event}
+use Rattle.executor_model.specs.declared.event.Event.TheVariants as event
+use Rattle.executor_model.specs.declared.op.Hold.{Hold}
+use Rattle.executor_model.specs.declared.op.Op.{Op}
+use Rattle.executor_model.specs.declared.op.Op.TheVariants as op
+use Rattle.executor_model.specs.declared.op.ClosingOp.TheVariants as closing_op
+use Rattle.executor_model.specs.declared.op.HandleOp.TheVariants as handle_op
+use Rattle.executor_model.specs.declared.op.ListOp.TheVariants as list_op
+use Rattle.executor_model.specs.declared.op.Polled.{Polled}
+use Rattle.executor_model.specs.declared.op.Polled.TheVariants as of
+use Rattle.executor_model.specs.declared.op.QueueOp.TheVariants as queue_op
+use Rattle.executor_model.specs.declared.op.RunOp.TheVariants as run_op
+use Rattle.executor_model.specs.declared.op.RunPoll.{RunPoll}
+use Rattle.executor_model.specs.declared.op.Section.TheVariants as section
+use Rattle.executor_model.specs.declared.op.Sleeper.{Sleeper}
+use Rattle.executor_model.specs.declared.op.Sleeper.TheVariants as sleeper
+use Rattle.executor_model.specs.declared.op.SleeperOp.TheVariants as sleeper_op
+use Rattle.executor_model.specs.declared.op.Sleeping.{Sleeping}
+use Rattle.executor_model.specs.declared.op.Source.{Source}
+use Rattle.executor_model.specs.declared.op.Source.TheVariants.{Common, Own}
+use Rattle.executor_model.specs.declared.op.Steal.{Steal}
+use Rattle.executor_model.specs.declared.op.StealOp.TheVariants as steal_op
+use Rattle.executor_model.specs.declared.op.TableOp.TheVariants as table_op
+use Rattle.executor_model.specs.declared.op.Then.{Then}
+use Rattle.executor_model.specs.declared.op.Then.TheVariants as then
+use Rattle.executor_model.specs.declared.op.TickOp.TheVariants as tick_op
+use Rattle.executor_model.specs.declared.op.UserOp.TheVariants as user_op
+use Rattle.executor_model.specs.declared.op.Waker.{Waker}
+use Rattle.executor_model.specs.declared.op.Waker.TheVariants.{Task, Outside}
+use Rattle.executor_model.specs.declared.op.WakerOp.TheVariants as waker_op
+use Rattle.executor_model.specs.declared.step.Hint.{Hint}
+use Rattle.executor_model.specs.declared.step.UserEnd.{UserEnd}
+use Rattle.executor_model.specs.declared.step.UserEnd.TheVariants as end
+use Rattle.executor_model.specs.Acts as acts
+use Rattle.executor_model.specs.ActsOfRuns as runs
+use Rattle.executor_model.specs.ActsOfSleepers as sleepers
+use Rattle.executor_model.specs.Doing.{act, search_by_who}
+use Rattle.executor_model.specs.Steps.{accepts, react}
+use Rattle.executor_model.specs.Trace.{Trace, has}
+use Rattle.executor_model.specs.World.{World, Place, Up, Lies, Left, Stage, New, Listed, Ended, log, log_if, task, put}
+use Rattle.executor_model.specs.World.{put_own, run_of}
 
 -- a future comes into an own queue, or is polled
 abbrev pub stirs : Event → Bool

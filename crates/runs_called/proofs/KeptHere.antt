@@ -3,17 +3,17 @@
 use Rattle.std.proofs.Common.{◌≡◌, ◌≢◌, ◌⊎◌, ◌∙◌, ℕ, ◌+◌, ◌<◌, ◌≤◌, List, [], ◌∷◌, ◌++◌, length, set, take, Bool, true}
 use Rattle.std.proofs.Common.{false, ◌||◌, refl, sym, ap, subst, inl, inr, ⊎_elim, arith}
 use Rattle.std.specs.Prelude.{Some, reverse, slice_get}
-use Rattle.runs_model.specs.declared.event.Event.TheVariants as event
-use Rattle.runs_model.specs.declared.op.Op.{Op}
-use Rattle.runs_model.specs.Sound.{times}
-use Rattle.runs_model.specs.Steps.{Machine, stack}
-use Rattle.runs_model.specs.Trace.{Trace, has}
-use Rattle.runs_model.specs.Weights.{weigh, weigh_all}
-use Rattle.runs_model.specs.World.{World, Done, own_of}
-use Rattle.runs_model.proofs.AskingRuns.{Heard}
-use Rattle.runs_model.proofs.Lift.{split, unsettled}
-use Rattle.runs_model.proofs.Lists.{weigh_all-push}
-use Rattle.runs_model.proofs.OwnRooms.{Roomy}
+use Rattle.executor_model.specs.declared.event.Event.TheVariants as event
+use Rattle.executor_model.specs.declared.op.Op.{Op}
+use Rattle.executor_model.specs.Sound.{times}
+use Rattle.executor_model.specs.Steps.{Machine, stack}
+use Rattle.executor_model.specs.Trace.{Trace, has}
+use Rattle.executor_model.specs.Weights.{weigh, weigh_all}
+use Rattle.executor_model.specs.World.{World, Done, own_of}
+use Rattle.executor_model.proofs.AskingRuns.{Heard}
+use Rattle.executor_model.proofs.Lift.{split, unsettled}
+use Rattle.executor_model.proofs.Lists.{weigh_all-push}
+use Rattle.executor_model.proofs.OwnRooms.{Roomy}
 use Rattle.runs_called.proofs.Dueness.{is_last}
 use Rattle.runs_called.proofs.KeptLeads.{Gone, IsPast, Leads}
 use Rattle.runs_called.proofs.KeptGrown.{Grown}

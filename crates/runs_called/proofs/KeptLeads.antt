@@ -3,21 +3,21 @@ use Rattle.std.proofs.Common.{◌≡◌, ◌≢◌, ◌⊎◌, ◌∙◌, ℕ, �
 use Rattle.std.proofs.Common.{false, ◌||◌, eqb, refl, sym, ap, subst, inl, inr, ⊎_elim, arith}
 use Rattle.std.proofs.lemmas.Bool.Decides.{nat_tests}
 use Rattle.std.specs.Prelude.{not, nat_lt}
-use Rattle.runs_model.specs.declared.event.Event.TheVariants as event
-use Rattle.runs_model.specs.declared.op.Op.{Op}
-use Rattle.runs_model.specs.declared.op.Op.TheVariants as op
-use Rattle.runs_model.specs.declared.op.Sleeper.{Sleeper}
-use Rattle.runs_model.specs.declared.op.Sleeper.TheVariants as sleeper
-use Rattle.runs_model.specs.declared.op.UserOp.TheVariants as user_op
-use Rattle.runs_model.specs.declared.step.Hint.{Hint}
-use Rattle.runs_model.specs.Doing.{act}
-use Rattle.runs_model.specs.Sound.{times}
-use Rattle.runs_model.specs.Trace.{Trace, has}
-use Rattle.runs_model.specs.Weights.{same, weigh}
-use Rattle.runs_model.specs.World.{World, Done, own_of, run_of}
-use Rattle.runs_model.proofs.Lists.{same_cases}
-use Rattle.runs_model.proofs.Using.{is_for_runs, mild-next}
-use Rattle.runs_model.proofs.UsingWorlds.{Idle, idle-act, is_past}
+use Rattle.executor_model.specs.declared.event.Event.TheVariants as event
+use Rattle.executor_model.specs.declared.op.Op.{Op}
+use Rattle.executor_model.specs.declared.op.Op.TheVariants as op
+use Rattle.executor_model.specs.declared.op.Sleeper.{Sleeper}
+use Rattle.executor_model.specs.declared.op.Sleeper.TheVariants as sleeper
+use Rattle.executor_model.specs.declared.op.UserOp.TheVariants as user_op
+use Rattle.executor_model.specs.declared.step.Hint.{Hint}
+use Rattle.executor_model.specs.Doing.{act}
+use Rattle.executor_model.specs.Sound.{times}
+use Rattle.executor_model.specs.Trace.{Trace, has}
+use Rattle.executor_model.specs.Weights.{same, weigh}
+use Rattle.executor_model.specs.World.{World, Done, own_of, run_of}
+use Rattle.executor_model.proofs.Lists.{same_cases}
+use Rattle.executor_model.proofs.Using.{is_for_runs, mild-next}
+use Rattle.executor_model.proofs.UsingWorlds.{Idle, idle-act, is_past}
 use Rattle.runs_called.proofs.Dueness.{is_last}
 use Rattle.runs_called.proofs.KeptTrace.{Parted, has-both, or-true}
 use Rattle.runs_called.proofs.KeptWeights.{load_of, mild-quits, quits_of, readies_of}

@@ -4,29 +4,29 @@ use Rattle.std.proofs.Common.{◌≡◌, ◌⊎◌, ℕ, zero, suc, ◌<◌, ◌
 use Rattle.std.proofs.Common.{◌&&◌, ◌||◌, not, refl, subst, inl, inr, ⊎_elim, arith}
 use Rattle.std.specs.Prelude.{Option, Some, None, reverse}
 use Rattle.task_moves.specs.declared.moves.owed.Move.TheVariants as move
-use Rattle.runs_model.specs.declared.call.Call.{Call}
-use Rattle.runs_model.specs.declared.call.Call.TheVariants as call
-use Rattle.runs_model.specs.declared.call.Reply.{Reply}
-use Rattle.runs_model.specs.declared.event.Event.{Event}
-use Rattle.runs_model.specs.declared.event.Event.TheVariants as event
-use Rattle.runs_model.specs.declared.op.Hold.{Hold}
-use Rattle.runs_model.specs.declared.op.Op.{Op}
-use Rattle.runs_model.specs.declared.op.Op.TheVariants as op
-use Rattle.runs_model.specs.declared.op.StealOp.TheVariants as steal_op
-use Rattle.runs_model.specs.declared.step.Hint.{Hint}
-use Rattle.runs_model.specs.declared.step.Step.{Step}
-use Rattle.runs_model.specs.Doing.{act}
-use Rattle.runs_model.specs.Good.{Good}
-use Rattle.runs_model.specs.OwnQueues.{filling_of}
-use Rattle.runs_model.specs.Rows.{running_of}
-use Rattle.runs_model.specs.Steps.{Machine, stack, run, start, begun, has_all, is_drop, is_free, is_on_executor}
-use Rattle.runs_model.specs.Steps.{is_unborrowed, mine, react, top}
-use Rattle.runs_model.specs.World.{Done, done, log}
-use Rattle.runs_model.proofs.AskingRuns.{Heard, heard-ends, heard-moves, heard-start}
-use Rattle.runs_model.proofs.Lift.{first-true, good-start, none_refused, split, unsettled, weigh_all-idle}
-use Rattle.runs_model.proofs.OwnRooms.{Roomy, roomy-ends, roomy-moves}
-use Rattle.runs_model.proofs.Ways.{Way, along}
-use Rattle.runs_model.proofs.Ways.Way.{acted, reacted, called}
+use Rattle.executor_model.specs.declared.call.Call.{Call}
+use Rattle.executor_model.specs.declared.call.Call.TheVariants as call
+use Rattle.executor_model.specs.declared.call.Reply.{Reply}
+use Rattle.executor_model.specs.declared.event.Event.{Event}
+use Rattle.executor_model.specs.declared.event.Event.TheVariants as event
+use Rattle.executor_model.specs.declared.op.Hold.{Hold}
+use Rattle.executor_model.specs.declared.op.Op.{Op}
+use Rattle.executor_model.specs.declared.op.Op.TheVariants as op
+use Rattle.executor_model.specs.declared.op.StealOp.TheVariants as steal_op
+use Rattle.executor_model.specs.declared.step.Hint.{Hint}
+use Rattle.executor_model.specs.declared.step.Step.{Step}
+use Rattle.executor_model.specs.Doing.{act}
+use Rattle.executor_model.specs.Good.{Good}
+use Rattle.executor_model.specs.OwnQueues.{filling_of}
+use Rattle.executor_model.specs.Rows.{running_of}
+use Rattle.executor_model.specs.Steps.{Machine, stack, run, start, begun, has_all, is_drop, is_free, is_on_executor}
+use Rattle.executor_model.specs.Steps.{is_unborrowed, mine, react, top}
+use Rattle.executor_model.specs.World.{Done, done, log}
+use Rattle.executor_model.proofs.AskingRuns.{Heard, heard-ends, heard-moves, heard-start}
+use Rattle.executor_model.proofs.Lift.{first-true, good-start, none_refused, split, unsettled, weigh_all-idle}
+use Rattle.executor_model.proofs.OwnRooms.{Roomy, roomy-ends, roomy-moves}
+use Rattle.executor_model.proofs.Ways.{Way, along}
+use Rattle.executor_model.proofs.Ways.Way.{acted, reacted, called}
 use Rattle.runs_called.proofs.KeptActs.{is_apart, keeps-act, keeps-react}
 use Rattle.runs_called.proofs.KeptCalls.{Drops, grown-begun, keeps-begun}
 use Rattle.runs_called.proofs.KeptGrown.{seen-act, seen-react, stirs_op}

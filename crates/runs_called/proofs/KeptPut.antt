@@ -3,27 +3,27 @@ use Rattle.std.proofs.Common.{◌≡◌, ◌≢◌, ◌∙◌, ℕ, zero, suc, �
 use Rattle.std.proofs.Common.{Bool, true, false, ◌||◌, not, cond, eqb, refl, sym, ap, subst, inl, inr, ⊎_elim, arith}
 use Rattle.std.proofs.lemmas.Bool.Decides.{nat_tests}
 use Rattle.std.specs.Prelude.{nat_lt, reverse}
-use Rattle.runs_model.specs.declared.event.Event.TheVariants as event
-use Rattle.runs_model.specs.declared.op.Op.{Op}
-use Rattle.runs_model.specs.declared.op.Op.TheVariants as op
-use Rattle.runs_model.specs.declared.op.Steal.{Steal}
-use Rattle.runs_model.specs.declared.op.StealOp.TheVariants as steal_op
-use Rattle.runs_model.specs.declared.step.Hint.{Hint}
-use Rattle.runs_model.specs.ActsOfRuns as runs
-use Rattle.runs_model.specs.Doing.{act}
-use Rattle.runs_model.specs.OwnQueues.{filling_of}
-use Rattle.runs_model.specs.Rows.{then_waiting}
-use Rattle.runs_model.specs.Sound.{times}
-use Rattle.runs_model.specs.Steps.{Machine, stack}
-use Rattle.runs_model.specs.Weights.{same, weigh, weigh_all}
-use Rattle.runs_model.specs.World.{World, Done, own_of, run_of}
-use Rattle.runs_model.proofs.AskingRuns.{Heard}
-use Rattle.runs_model.proofs.Lift.{split, unsettled}
-use Rattle.runs_model.proofs.Lists.{same_cases, same_is, weigh_all-push, times-append}
-use Rattle.runs_model.proofs.OwnRooms.{Roomy}
-use Rattle.runs_model.proofs.Using.{polling_of}
-use Rattle.runs_model.proofs.RunsMoves.{same-stolen}
-use Rattle.runs_model.proofs.UsingWorlds.{is_over_stage, is_past}
+use Rattle.executor_model.specs.declared.event.Event.TheVariants as event
+use Rattle.executor_model.specs.declared.op.Op.{Op}
+use Rattle.executor_model.specs.declared.op.Op.TheVariants as op
+use Rattle.executor_model.specs.declared.op.Steal.{Steal}
+use Rattle.executor_model.specs.declared.op.StealOp.TheVariants as steal_op
+use Rattle.executor_model.specs.declared.step.Hint.{Hint}
+use Rattle.executor_model.specs.ActsOfRuns as runs
+use Rattle.executor_model.specs.Doing.{act}
+use Rattle.executor_model.specs.OwnQueues.{filling_of}
+use Rattle.executor_model.specs.Rows.{then_waiting}
+use Rattle.executor_model.specs.Sound.{times}
+use Rattle.executor_model.specs.Steps.{Machine, stack}
+use Rattle.executor_model.specs.Weights.{same, weigh, weigh_all}
+use Rattle.executor_model.specs.World.{World, Done, own_of, run_of}
+use Rattle.executor_model.proofs.AskingRuns.{Heard}
+use Rattle.executor_model.proofs.Lift.{split, unsettled}
+use Rattle.executor_model.proofs.Lists.{same_cases, same_is, weigh_all-push, times-append}
+use Rattle.executor_model.proofs.OwnRooms.{Roomy}
+use Rattle.executor_model.proofs.Using.{polling_of}
+use Rattle.executor_model.proofs.RunsMoves.{same-stolen}
+use Rattle.executor_model.proofs.UsingWorlds.{is_over_stage, is_past}
 use Rattle.runs_called.proofs.KeptLeads.{IsPast, count-seated, past-seated}
 use Rattle.runs_called.proofs.KeptSearch.{load-more, quits-more}
 use Rattle.runs_called.proofs.KeptTrace.{Keeps, Kept, Parted, keeps-one, one-other, parted-more}

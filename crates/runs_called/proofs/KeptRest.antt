@@ -1,19 +1,19 @@
 -- At a quiet trace a run that keeps a due future has it in its own queue, stands, and is called.
 use Rattle.std.proofs.Common.{◌≡◌, ◌∙◌, ℕ, ◌≤◌, List, [], length, true, false, sym, inl, inr, ⊎_elim, arith}
-use Rattle.runs_model.specs.declared.step.Step.{Step}
-use Rattle.runs_model.specs.Due.{IsDue}
-use Rattle.runs_model.specs.Keeper.{AnswersReady, IsKeeper, is_run_drop}
-use Rattle.runs_model.specs.AwaiterKept.{since}
-use Rattle.runs_model.specs.Sound.{times}
-use Rattle.runs_model.specs.Steps.{Machine, run, stack, start}
-use Rattle.runs_model.specs.Trace.{has}
-use Rattle.runs_model.specs.Weights.{weigh_all}
-use Rattle.runs_model.specs.World.{own_of}
-use Rattle.runs_model.proofs.AskingRuns.{heard}
-use Rattle.runs_model.proofs.Lift.{good}
-use Rattle.runs_model.proofs.OwnRunners.{own-queue-has-runner}
-use Rattle.runs_model.proofs.Resting.{deep, rests, all-rest}
-use Rattle.runs_model.proofs.SleepersTellingRuns.{are_told}
+use Rattle.executor_model.specs.declared.step.Step.{Step}
+use Rattle.executor_model.specs.Due.{IsDue}
+use Rattle.executor_model.specs.Keeper.{AnswersReady, IsKeeper, is_run_drop}
+use Rattle.executor_model.specs.AwaiterKept.{since}
+use Rattle.executor_model.specs.Sound.{times}
+use Rattle.executor_model.specs.Steps.{Machine, run, stack, start}
+use Rattle.executor_model.specs.Trace.{has}
+use Rattle.executor_model.specs.Weights.{weigh_all}
+use Rattle.executor_model.specs.World.{own_of}
+use Rattle.executor_model.proofs.AskingRuns.{heard}
+use Rattle.executor_model.proofs.Lift.{good}
+use Rattle.executor_model.proofs.OwnRunners.{own-queue-has-runner}
+use Rattle.executor_model.proofs.Resting.{deep, rests, all-rest}
+use Rattle.executor_model.proofs.SleepersTellingRuns.{are_told}
 use Rattle.runs_called.specs.Called.{KeeperIsCalled}
 use Rattle.runs_called.proofs.Dueness.{none-last}
 use Rattle.runs_called.proofs.KeptHere.{Here, Keeping}

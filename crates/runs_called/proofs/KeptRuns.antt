@@ -4,29 +4,29 @@ use Rattle.std.proofs.Common.{◌≡◌, ◌≢◌, ◌⊎◌, ◌∙◌, ℕ, z
 use Rattle.std.proofs.Common.{Bool, true, false, ◌||◌, cond, eqb, refl, sym, ap, subst, inl, inr, ⊎_elim, arith}
 use Rattle.std.proofs.Common.{get_or-set_other, length-append}
 use Rattle.task_moves.specs.declared.moves.owed.Move.TheVariants as move
-use Rattle.runs_model.specs.declared.call.Reply.{Reply}
-use Rattle.runs_model.specs.declared.call.Reply.TheVariants as reply
-use Rattle.runs_model.specs.declared.event.Event.TheVariants as event
-use Rattle.runs_model.specs.declared.op.Hold.TheVariants as hold
-use Rattle.runs_model.specs.declared.op.ListOp.TheVariants as list_op
-use Rattle.runs_model.specs.declared.op.Op.TheVariants as op
-use Rattle.runs_model.specs.declared.op.Polled.TheVariants as of
-use Rattle.runs_model.specs.declared.op.RunOp.TheVariants as run_op
-use Rattle.runs_model.specs.declared.op.RunPoll.{RunPoll}
-use Rattle.runs_model.specs.declared.op.Section.TheVariants as section
-use Rattle.runs_model.specs.declared.op.Sleeper.TheVariants as sleeper
-use Rattle.runs_model.specs.declared.op.UserOp.TheVariants as user_op
-use Rattle.runs_model.specs.declared.op.Waker.{Waker}
-use Rattle.runs_model.specs.declared.op.Waker.TheVariants.{Task, Outside}
-use Rattle.runs_model.specs.declared.step.Hint.{Hint}
-use Rattle.runs_model.specs.ActsOfRuns as runs
-use Rattle.runs_model.specs.Sound.{times}
-use Rattle.runs_model.specs.Weights.{same, weigh}
-use Rattle.runs_model.specs.World.{World, Stage, New, Listed, Ended, Run, done, log, new_run, no_run, own_of, run_of}
-use Rattle.runs_model.proofs.Lift.{no_hint}
-use Rattle.runs_model.proofs.Lists.{same_cases, weigh-append}
-use Rattle.runs_model.proofs.Using.{mild-next}
-use Rattle.runs_model.proofs.UsingWorlds.{Idle, idle, idle-act, count-set, is_past}
+use Rattle.executor_model.specs.declared.call.Reply.{Reply}
+use Rattle.executor_model.specs.declared.call.Reply.TheVariants as reply
+use Rattle.executor_model.specs.declared.event.Event.TheVariants as event
+use Rattle.executor_model.specs.declared.op.Hold.TheVariants as hold
+use Rattle.executor_model.specs.declared.op.ListOp.TheVariants as list_op
+use Rattle.executor_model.specs.declared.op.Op.TheVariants as op
+use Rattle.executor_model.specs.declared.op.Polled.TheVariants as of
+use Rattle.executor_model.specs.declared.op.RunOp.TheVariants as run_op
+use Rattle.executor_model.specs.declared.op.RunPoll.{RunPoll}
+use Rattle.executor_model.specs.declared.op.Section.TheVariants as section
+use Rattle.executor_model.specs.declared.op.Sleeper.TheVariants as sleeper
+use Rattle.executor_model.specs.declared.op.UserOp.TheVariants as user_op
+use Rattle.executor_model.specs.declared.op.Waker.{Waker}
+use Rattle.executor_model.specs.declared.op.Waker.TheVariants.{Task, Outside}
+use Rattle.executor_model.specs.declared.step.Hint.{Hint}
+use Rattle.executor_model.specs.ActsOfRuns as runs
+use Rattle.executor_model.specs.Sound.{times}
+use Rattle.executor_model.specs.Weights.{same, weigh}
+use Rattle.executor_model.specs.World.{World, Stage, New, Listed, Ended, Run, done, log, new_run, no_run, own_of, run_of}
+use Rattle.executor_model.proofs.Lift.{no_hint}
+use Rattle.executor_model.proofs.Lists.{same_cases, weigh-append}
+use Rattle.executor_model.proofs.Using.{mild-next}
+use Rattle.executor_model.proofs.UsingWorlds.{Idle, idle, idle-act, count-set, is_past}
 use Rattle.runs_called.proofs.KeptTrace.{Parted, or-true}
 use Rattle.runs_called.proofs.KeptWeights.{is_end_ready, mild-quits, quits_of, readies_of}
 use Rattle.runs_called.proofs.Stands.{View, view}

@@ -1,22 +1,22 @@
 -- What a run's search and its steals leave of the own queues and of who has a kept future in hand.
 use Rattle.std.proofs.Common.{◌≡◌, ℕ, zero, suc, ◌+◌, ◌≤◌, List, [], ◌∷◌, length, get_or, set, false, refl, ap, arith}
-use Rattle.runs_model.specs.declared.op.Op.{Op}
-use Rattle.runs_model.specs.declared.op.Op.TheVariants as op
-use Rattle.runs_model.specs.declared.op.RunOp.TheVariants as run_op
-use Rattle.runs_model.specs.declared.op.RunPoll.{RunPoll}
-use Rattle.runs_model.specs.declared.op.Source.{Source}
-use Rattle.runs_model.specs.declared.op.Source.TheVariants.{Common, Own}
-use Rattle.runs_model.specs.declared.op.Steal.{Steal}
-use Rattle.runs_model.specs.declared.op.StealOp.{StealOp}
-use Rattle.runs_model.specs.declared.op.StealOp.TheVariants as steal_op
-use Rattle.runs_model.specs.ActsOfRuns as runs
-use Rattle.runs_model.specs.Doing.{steal_act}
-use Rattle.runs_model.specs.Rows.{then_waiting}
-use Rattle.runs_model.specs.Sound.{times}
-use Rattle.runs_model.specs.Weights.{same, weigh}
-use Rattle.runs_model.specs.World.{World, Done, own_of, put_own}
-use Rattle.runs_model.proofs.RunsAside.{Hull, hull}
-use Rattle.runs_model.proofs.RunsMoving.{hull-found, hull-stolen}
+use Rattle.executor_model.specs.declared.op.Op.{Op}
+use Rattle.executor_model.specs.declared.op.Op.TheVariants as op
+use Rattle.executor_model.specs.declared.op.RunOp.TheVariants as run_op
+use Rattle.executor_model.specs.declared.op.RunPoll.{RunPoll}
+use Rattle.executor_model.specs.declared.op.Source.{Source}
+use Rattle.executor_model.specs.declared.op.Source.TheVariants.{Common, Own}
+use Rattle.executor_model.specs.declared.op.Steal.{Steal}
+use Rattle.executor_model.specs.declared.op.StealOp.{StealOp}
+use Rattle.executor_model.specs.declared.op.StealOp.TheVariants as steal_op
+use Rattle.executor_model.specs.ActsOfRuns as runs
+use Rattle.executor_model.specs.Doing.{steal_act}
+use Rattle.executor_model.specs.Rows.{then_waiting}
+use Rattle.executor_model.specs.Sound.{times}
+use Rattle.executor_model.specs.Weights.{same, weigh}
+use Rattle.executor_model.specs.World.{World, Done, own_of, put_own}
+use Rattle.executor_model.proofs.RunsAside.{Hull, hull}
+use Rattle.executor_model.proofs.RunsMoving.{hull-found, hull-stolen}
 use Rattle.runs_called.proofs.KeptGrown.{stirs_op}
 use Rattle.runs_called.proofs.KeptWeights.{load-found, load-stolen, load_of, quits-found, quits-stolen, quits-walk}
 use Rattle.runs_called.proofs.KeptWeights.{quits_of, readies_of}

@@ -4,24 +4,24 @@ use Rattle.std.proofs.Common.{append-nil, Bool, true, false, not, eqb, refl, sym
 use Rattle.std.specs.Prelude.{Some, reverse, slice_get}
 use Rattle.task_moves.specs.declared.moves.owed.Move.TheVariants as move
 use Rattle.task_moves.specs.Moves as moves
-use Rattle.runs_model.specs.declared.event.Event.TheVariants as event
-use Rattle.runs_model.specs.declared.op.Op.{Op}
-use Rattle.runs_model.specs.declared.op.Op.TheVariants as op
-use Rattle.runs_model.specs.declared.step.Hint.{Hint}
-use Rattle.runs_model.specs.Carried.{drop_ops, owed_ops}
-use Rattle.runs_model.specs.Doing.{act}
-use Rattle.runs_model.specs.Rows.{drops_of, settling_of}
-use Rattle.runs_model.specs.Sound.{Over, phase, times}
-use Rattle.runs_model.specs.Steps.{Machine, stack}
-use Rattle.runs_model.specs.Trace.{Trace}
-use Rattle.runs_model.specs.Weights.{same, weigh, weigh_all}
-use Rattle.runs_model.specs.World.{Done, log_if, among, task}
-use Rattle.runs_model.proofs.AskingRuns.{Heard}
-use Rattle.runs_model.proofs.Lift.{split, unsettled}
-use Rattle.runs_model.proofs.Lists.{same_cases, same_is, weigh_all-below, weigh_all-push}
-use Rattle.runs_model.proofs.OwnRooms.{Roomy}
-use Rattle.runs_model.proofs.Using.{mild-next}
-use Rattle.runs_model.proofs.UsingWorlds.{Idle, idle-act}
+use Rattle.executor_model.specs.declared.event.Event.TheVariants as event
+use Rattle.executor_model.specs.declared.op.Op.{Op}
+use Rattle.executor_model.specs.declared.op.Op.TheVariants as op
+use Rattle.executor_model.specs.declared.step.Hint.{Hint}
+use Rattle.executor_model.specs.Carried.{drop_ops, owed_ops}
+use Rattle.executor_model.specs.Doing.{act}
+use Rattle.executor_model.specs.Rows.{drops_of, settling_of}
+use Rattle.executor_model.specs.Sound.{Over, phase, times}
+use Rattle.executor_model.specs.Steps.{Machine, stack}
+use Rattle.executor_model.specs.Trace.{Trace}
+use Rattle.executor_model.specs.Weights.{same, weigh, weigh_all}
+use Rattle.executor_model.specs.World.{Done, log_if, among, task}
+use Rattle.executor_model.proofs.AskingRuns.{Heard}
+use Rattle.executor_model.proofs.Lift.{split, unsettled}
+use Rattle.executor_model.proofs.Lists.{same_cases, same_is, weigh_all-below, weigh_all-push}
+use Rattle.executor_model.proofs.OwnRooms.{Roomy}
+use Rattle.executor_model.proofs.Using.{mild-next}
+use Rattle.executor_model.proofs.UsingWorlds.{Idle, idle-act}
 use Rattle.runs_called.proofs.Dueness.{over-last, is_over}
 use Rattle.runs_called.proofs.KeptLeads.{Gone, IsPast}
 use Rattle.runs_called.proofs.KeptTrace.{Keeps, Kept, Parted, keeps-one, one-other, parted-more}

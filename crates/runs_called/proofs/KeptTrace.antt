@@ -3,14 +3,14 @@ use Rattle.std.proofs.Common.{◌≡◌, ◌≢◌, ◌⊎◌, ◌∙◌, inl, i
 use Rattle.std.proofs.Common.{drop, take, Bool, true, false, ◌||◌, eqb, refl, sym, ap, subst, arith}
 use Rattle.std.proofs.lemmas.Bool.Decides.{nat_tests}
 use Rattle.std.specs.Prelude.{Some, count_by, slice_get}
-use Rattle.runs_model.specs.declared.call.Reply.{Reply}
-use Rattle.runs_model.specs.declared.call.Reply.TheVariants.{Ready}
-use Rattle.runs_model.specs.declared.event.Event.{Event}
-use Rattle.runs_model.specs.declared.event.Event.TheVariants as event
-use Rattle.runs_model.specs.AwaiterKept.{EndsWith, since}
-use Rattle.runs_model.specs.Keeper.{AnswersReady, is_kept, is_run_drop}
-use Rattle.runs_model.specs.Quiet.{begins_call, ends_call}
-use Rattle.runs_model.specs.Trace.{Trace, has, is_poll}
+use Rattle.executor_model.specs.declared.call.Reply.{Reply}
+use Rattle.executor_model.specs.declared.call.Reply.TheVariants.{Ready}
+use Rattle.executor_model.specs.declared.event.Event.{Event}
+use Rattle.executor_model.specs.declared.event.Event.TheVariants as event
+use Rattle.executor_model.specs.AwaiterKept.{EndsWith, since}
+use Rattle.executor_model.specs.Keeper.{AnswersReady, is_kept, is_run_drop}
+use Rattle.executor_model.specs.Quiet.{begins_call, ends_call}
+use Rattle.executor_model.specs.Trace.{Trace, has, is_poll}
 use Rattle.runs_called.proofs.KeptGrown.{stirs}
 
 -- places in what has grown

@@ -4,14 +4,14 @@ use Rattle.std.proofs.Common.{true, false, cond, refl, sym, ap, subst, eqb, arit
 use Rattle.std.specs.Prelude.{◌-◌, Option, Some, None, slice_get, slice_set, remove}
 use Rattle.std.proofs.lemmas.Bool.Decides.{nat_tests}
 use Rattle.executor_parts.specs.Sleepers.{Sleepers, position_of, later, without_entry, risen}
-use Rattle.runs_model.specs.declared.op.Sleeping.{Sleeping}
-use Rattle.runs_model.specs.declared.op.Sleeper.{Sleeper}
-use Rattle.runs_model.specs.World.{Place, Up, Lies, Left}
-use Rattle.runs_model.specs.ActsOfSleepers.{given_back}
+use Rattle.executor_model.specs.declared.op.Sleeping.{Sleeping}
+use Rattle.executor_model.specs.declared.op.Sleeper.{Sleeper}
+use Rattle.executor_model.specs.World.{Place, Up, Lies, Left}
+use Rattle.executor_model.specs.ActsOfSleepers.{given_back}
 use Rattle.runs_called.proofs.Sitting.{eq_who, is_it}
-use Rattle.runs_model.specs.Weights.{same}
-use Rattle.runs_model.proofs.Lists.{same_is}
-use Rattle.runs_model.proofs.SleepersLists.{freed-same, given_back-same, position-within}
+use Rattle.executor_model.specs.Weights.{same}
+use Rattle.executor_model.proofs.Lists.{same_is}
+use Rattle.executor_model.proofs.SleepersLists.{freed-same, given_back-same, position-within}
 
 abbrev pub Entry : Type 0
 Entry = ℕ × Sleeping

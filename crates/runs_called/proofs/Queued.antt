@@ -1,17 +1,17 @@
 -- Where no call is in progress, a future that is due has a Runnable in the executor's queue or in a run's own.
 use Rattle.std.proofs.Common.{◌≡◌, ◌∙◌, ℕ, zero, suc, ◌+◌, ◌≤◌, List, [], ◌∷◌, length, get_or, true, refl, sym}
 use Rattle.std.proofs.Common.{⊎_elim, arith}
-use Rattle.runs_model.specs.Due.{IsDue}
-use Rattle.runs_model.specs.Good.{Good}
-use Rattle.runs_model.specs.Rows.{waiting_of, polls_of, ending_of, ready_of, closing_of, settling_of, giving_of}
-use Rattle.runs_model.specs.Rows.{drops_of}
-use Rattle.runs_model.specs.Sound.{queued, times, times_in}
-use Rattle.runs_model.specs.Steps.{Machine, stack}
-use Rattle.runs_model.specs.Weights.{same, weigh_all}
-use Rattle.runs_model.specs.World.{task}
-use Rattle.runs_model.proofs.AskingRuns.{Heard}
-use Rattle.runs_model.proofs.Lists.{same_is}
-use Rattle.runs_model.proofs.Resting.{all-rest}
+use Rattle.executor_model.specs.Due.{IsDue}
+use Rattle.executor_model.specs.Good.{Good}
+use Rattle.executor_model.specs.Rows.{waiting_of, polls_of, ending_of, ready_of, closing_of, settling_of, giving_of}
+use Rattle.executor_model.specs.Rows.{drops_of}
+use Rattle.executor_model.specs.Sound.{queued, times, times_in}
+use Rattle.executor_model.specs.Steps.{Machine, stack}
+use Rattle.executor_model.specs.Weights.{same, weigh_all}
+use Rattle.executor_model.specs.World.{task}
+use Rattle.executor_model.proofs.AskingRuns.{Heard}
+use Rattle.executor_model.proofs.Lists.{same_is}
+use Rattle.executor_model.proofs.Resting.{all-rest}
 use Rattle.runs_called.proofs.Dueness.{asked-is, not-over}
 
 pub due-queued : (s : Machine) → Good s → Heard s → ((q : ℕ) → stack s q ≡ []) → (f : ℕ) → IsDue f s.world.trace →

@@ -2,15 +2,15 @@
 use Rattle.std.proofs.Common.{◌≡◌, ◌≢◌, ◌⊎◌, ℕ, ◌≤◌, ◌==◌, List, [], length, get_or, Bool, true, false, eqb, cond, refl}
 use Rattle.std.proofs.Common.{sym, ap, ◌∙◌, inl, inr, ⊎_elim, arith}
 use Rattle.std.specs.Prelude.{not, nat_lt}
-use Rattle.runs_model.specs.declared.op.Hold.{Hold}
-use Rattle.runs_model.specs.declared.op.Hold.TheVariants as hold
-use Rattle.runs_model.specs.declared.op.Sleeper.{Sleeper}
-use Rattle.runs_model.specs.declared.op.Sleeper.TheVariants as sleeper
-use Rattle.runs_model.specs.Weights.{same}
-use Rattle.runs_model.specs.World.{World, Place, Left, Run, no_run, place_of}
-use Rattle.runs_model.proofs.Lists.{same_cases}
-use Rattle.runs_model.proofs.UsingWorlds.{is_over_stage}
-use Rattle.runs_model.specs.Steps.{lives}
+use Rattle.executor_model.specs.declared.op.Hold.{Hold}
+use Rattle.executor_model.specs.declared.op.Hold.TheVariants as hold
+use Rattle.executor_model.specs.declared.op.Sleeper.{Sleeper}
+use Rattle.executor_model.specs.declared.op.Sleeper.TheVariants as sleeper
+use Rattle.executor_model.specs.Weights.{same}
+use Rattle.executor_model.specs.World.{World, Place, Left, Run, no_run, place_of}
+use Rattle.executor_model.proofs.Lists.{same_cases}
+use Rattle.executor_model.proofs.UsingWorlds.{is_over_stage}
+use Rattle.executor_model.specs.Steps.{lives}
 
 -- one where they are the same
 abbrev pub is_it : Sleeper → Sleeper → ℕ

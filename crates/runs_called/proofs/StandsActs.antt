@@ -6,31 +6,31 @@ use Rattle.std.proofs.lemmas.Bool.Decides.{nat_tests}
 use Rattle.std.specs.Prelude.{◌-◌, Option, Some, None, nat_lt, not, slice_get, is_none}
 use Rattle.task_moves.specs.declared.moves.owed.Move.TheVariants as move
 use Rattle.executor_parts.specs.Sleepers.{Sleepers, waker_in, waker_of, last_waker, without_last, risen}
-use Rattle.runs_model.specs.declared.call.Reply.TheVariants as reply
-use Rattle.runs_model.specs.declared.event.Event.TheVariants as event
-use Rattle.runs_model.specs.declared.op.Hold.{Hold}
-use Rattle.runs_model.specs.declared.op.Hold.TheVariants as hold
-use Rattle.runs_model.specs.declared.op.Op.{Op}
-use Rattle.runs_model.specs.declared.op.Op.TheVariants as op
-use Rattle.runs_model.specs.declared.op.Polled.TheVariants as of
-use Rattle.runs_model.specs.declared.op.Sleeping.{Sleeping}
-use Rattle.runs_model.specs.declared.op.SleeperOp.TheVariants as sleeper_op
-use Rattle.runs_model.specs.declared.op.TickOp.TheVariants as tick_op
-use Rattle.runs_model.specs.declared.op.UserOp.TheVariants as user_op
-use Rattle.runs_model.specs.declared.op.Waker.{Waker}
-use Rattle.runs_model.specs.declared.op.Waker.TheVariants.{Task, Outside}
-use Rattle.runs_model.specs.declared.op.WakerOp.TheVariants as waker_op
-use Rattle.runs_model.specs.declared.op.Sleeper.{Sleeper}
-use Rattle.runs_model.specs.declared.op.Sleeper.TheVariants as sleeper
-use Rattle.runs_model.specs.World.{World, Place, Up, Lies, Left, Done, done, log, place_of, put_place, Run}
-use Rattle.runs_model.specs.Acts.{copy_by, wake}
-use Rattle.runs_model.specs.ActsOfSleepers.{call_of, call_sleeper, get_up_by, given_back, hand_out_by}
-use Rattle.runs_model.specs.ActsOfSleepers.{leave_sleepers_by, make_tick_by, polled_as, sleeper_goes, tell_if}
-use Rattle.runs_model.specs.Weights.{same}
-use Rattle.runs_model.specs.Steps.{lives}
-use Rattle.runs_model.proofs.SleepersCounting.{asleep}
-use Rattle.runs_model.proofs.SleepersLists.{given_back-same}
-use Rattle.runs_model.specs.SleepersAgree.{lies}
+use Rattle.executor_model.specs.declared.call.Reply.TheVariants as reply
+use Rattle.executor_model.specs.declared.event.Event.TheVariants as event
+use Rattle.executor_model.specs.declared.op.Hold.{Hold}
+use Rattle.executor_model.specs.declared.op.Hold.TheVariants as hold
+use Rattle.executor_model.specs.declared.op.Op.{Op}
+use Rattle.executor_model.specs.declared.op.Op.TheVariants as op
+use Rattle.executor_model.specs.declared.op.Polled.TheVariants as of
+use Rattle.executor_model.specs.declared.op.Sleeping.{Sleeping}
+use Rattle.executor_model.specs.declared.op.SleeperOp.TheVariants as sleeper_op
+use Rattle.executor_model.specs.declared.op.TickOp.TheVariants as tick_op
+use Rattle.executor_model.specs.declared.op.UserOp.TheVariants as user_op
+use Rattle.executor_model.specs.declared.op.Waker.{Waker}
+use Rattle.executor_model.specs.declared.op.Waker.TheVariants.{Task, Outside}
+use Rattle.executor_model.specs.declared.op.WakerOp.TheVariants as waker_op
+use Rattle.executor_model.specs.declared.op.Sleeper.{Sleeper}
+use Rattle.executor_model.specs.declared.op.Sleeper.TheVariants as sleeper
+use Rattle.executor_model.specs.World.{World, Place, Up, Lies, Left, Done, done, log, place_of, put_place, Run}
+use Rattle.executor_model.specs.Acts.{copy_by, wake}
+use Rattle.executor_model.specs.ActsOfSleepers.{call_of, call_sleeper, get_up_by, given_back, hand_out_by}
+use Rattle.executor_model.specs.ActsOfSleepers.{leave_sleepers_by, make_tick_by, polled_as, sleeper_goes, tell_if}
+use Rattle.executor_model.specs.Weights.{same}
+use Rattle.executor_model.specs.Steps.{lives}
+use Rattle.executor_model.proofs.SleepersCounting.{asleep}
+use Rattle.executor_model.proofs.SleepersLists.{given_back-same}
+use Rattle.executor_model.specs.SleepersAgree.{lies}
 use Rattle.runs_called.proofs.Beside.{Beside, beside-move}
 use Rattle.runs_called.proofs.Listed.{Entry, sum, entry_of, kept_of, astray, misplaced_of, at_entry, sum-last}
 use Rattle.runs_called.proofs.Listed.{sum-risen}

@@ -4,18 +4,18 @@ use Rattle.std.proofs.Common.{length, take, refl, sym, ap, subst, inl, inr, ⊎_
 use Rattle.std.proofs.lemmas.Bool.Decides.{nat_tests}
 use Rattle.std.proofs.lemmas.List.Sums.{sum_by-append}
 use Rattle.std.specs.Prelude.{Some, count_by, slice_get}
-use Rattle.runs_model.specs.declared.call.Call.{Call}
-use Rattle.runs_model.specs.declared.call.Reply.{Reply}
-use Rattle.runs_model.specs.declared.event.Event.{Event}
-use Rattle.runs_model.specs.declared.event.Event.TheVariants as event
-use Rattle.runs_model.specs.declared.op.Polled.TheVariants as of
-use Rattle.runs_model.specs.AwaiterKept.{EndsWith}
-use Rattle.runs_model.specs.Quiet.{begins_call, ends_call}
-use Rattle.runs_model.specs.Trace.{Trace, has}
-use Rattle.runs_model.specs.Weights.{same}
-use Rattle.runs_model.proofs.Telling.{same-cond}
-use Rattle.runs_model.specs.declared.op.Sleeper.{Sleeper}
-use Rattle.runs_model.specs.declared.op.Sleeper.TheVariants as sleeper
+use Rattle.executor_model.specs.declared.call.Call.{Call}
+use Rattle.executor_model.specs.declared.call.Reply.{Reply}
+use Rattle.executor_model.specs.declared.event.Event.{Event}
+use Rattle.executor_model.specs.declared.event.Event.TheVariants as event
+use Rattle.executor_model.specs.declared.op.Polled.TheVariants as of
+use Rattle.executor_model.specs.AwaiterKept.{EndsWith}
+use Rattle.executor_model.specs.Quiet.{begins_call, ends_call}
+use Rattle.executor_model.specs.Trace.{Trace, has}
+use Rattle.executor_model.specs.Weights.{same}
+use Rattle.executor_model.proofs.Telling.{same-cond}
+use Rattle.executor_model.specs.declared.op.Sleeper.{Sleeper}
+use Rattle.executor_model.specs.declared.op.Sleeper.TheVariants as sleeper
 use Rattle.runs_called.proofs.Sitting.{eq_who}
 use Rattle.runs_called.proofs.StandsTelling.{drops_it, or-none, not-polled, not-dropped, polls_it}
 use Rattle.runs_called.proofs.Watched.{Watched, called_at, is_pending, is_refusal, ended_in, watches, watched_from}

@@ -2,26 +2,26 @@
 use Rattle.std.proofs.Common.{◌≡◌, ◌≢◌, ◌⊎◌, ◌∙◌, ℕ, suc, ◌+◌, ◌==◌, List, [], ◌∷◌, length, inl, inr, Bool, true, false}
 use Rattle.std.proofs.Common.{cond, refl, sym, ap, subst, ⊎_elim, arith}
 use Rattle.std.specs.Prelude.{Option}
-use Rattle.runs_model.specs.declared.call.By.{By}
-use Rattle.runs_model.specs.declared.call.Call.{Call}
-use Rattle.runs_model.specs.declared.call.Call.TheVariants as call
-use Rattle.runs_model.specs.declared.call.Reply.TheVariants as reply
-use Rattle.runs_model.specs.declared.event.Event.TheVariants as event
-use Rattle.runs_model.specs.declared.op.Hold.TheVariants as hold
-use Rattle.runs_model.specs.declared.op.Op.TheVariants as op
-use Rattle.runs_model.specs.declared.op.ClosingOp.TheVariants as closing_op
-use Rattle.runs_model.specs.declared.op.TickOp.TheVariants as tick_op
-use Rattle.runs_model.specs.declared.op.Waker.{Waker}
-use Rattle.runs_model.specs.declared.op.Op.{Op}
-use Rattle.runs_model.specs.declared.op.RunPoll.{RunPoll}
-use Rattle.runs_model.specs.declared.op.Sleeper.{Sleeper}
-use Rattle.runs_model.specs.declared.op.Sleeper.TheVariants as sleeper
-use Rattle.runs_model.specs.World.{World, Stage, New, Listed, Ended, Done, done, log, run_of}
-use Rattle.runs_model.specs.Weights.{same, weigh}
-use Rattle.runs_model.specs.Steps.{begun, drop_run, future_of, kept, poll_run, waker_of}
-use Rattle.runs_model.proofs.SleepersCounting.{asleep}
-use Rattle.runs_model.proofs.TickLists.{same_self}
-use Rattle.runs_model.proofs.UsingWorlds.{is_over_stage}
+use Rattle.executor_model.specs.declared.call.By.{By}
+use Rattle.executor_model.specs.declared.call.Call.{Call}
+use Rattle.executor_model.specs.declared.call.Call.TheVariants as call
+use Rattle.executor_model.specs.declared.call.Reply.TheVariants as reply
+use Rattle.executor_model.specs.declared.event.Event.TheVariants as event
+use Rattle.executor_model.specs.declared.op.Hold.TheVariants as hold
+use Rattle.executor_model.specs.declared.op.Op.TheVariants as op
+use Rattle.executor_model.specs.declared.op.ClosingOp.TheVariants as closing_op
+use Rattle.executor_model.specs.declared.op.TickOp.TheVariants as tick_op
+use Rattle.executor_model.specs.declared.op.Waker.{Waker}
+use Rattle.executor_model.specs.declared.op.Op.{Op}
+use Rattle.executor_model.specs.declared.op.RunPoll.{RunPoll}
+use Rattle.executor_model.specs.declared.op.Sleeper.{Sleeper}
+use Rattle.executor_model.specs.declared.op.Sleeper.TheVariants as sleeper
+use Rattle.executor_model.specs.World.{World, Stage, New, Listed, Ended, Done, done, log, run_of}
+use Rattle.executor_model.specs.Weights.{same, weigh}
+use Rattle.executor_model.specs.Steps.{begun, drop_run, future_of, kept, poll_run, waker_of}
+use Rattle.executor_model.proofs.SleepersCounting.{asleep}
+use Rattle.executor_model.proofs.TickLists.{same_self}
+use Rattle.executor_model.proofs.UsingWorlds.{is_over_stage}
 use Rattle.runs_called.proofs.Beside.{besides, sits_of}
 use Rattle.runs_called.proofs.Sitting.{IsOther, IsSame, cond-self, other, over_in, who_cases}
 use Rattle.runs_called.proofs.Stands.{View, view, Doing, with_doing, Footing, Stands, Nothing, Mark, KeepsBy}

@@ -6,33 +6,33 @@ use Rattle.std.proofs.lemmas.List.{get_or_past}
 use Rattle.std.proofs.lemmas.Bool.Decides.{nat_tests}
 use Rattle.std.specs.Prelude.{not, nat_lt}
 use Rattle.task_moves.specs.declared.moves.owed.Move.TheVariants as move
-use Rattle.runs_model.specs.declared.call.Reply.{Reply}
-use Rattle.runs_model.specs.declared.call.Reply.TheVariants as reply
-use Rattle.runs_model.specs.declared.event.Event.TheVariants as event
-use Rattle.runs_model.specs.declared.op.Hold.TheVariants as hold
-use Rattle.runs_model.specs.declared.op.ListOp.TheVariants as list_op
-use Rattle.runs_model.specs.declared.op.Op.{Op}
-use Rattle.runs_model.specs.declared.op.Op.TheVariants as op
-use Rattle.runs_model.specs.declared.op.Polled.TheVariants as of
-use Rattle.runs_model.specs.declared.op.QueueOp.TheVariants as queue_op
-use Rattle.runs_model.specs.declared.op.RunOp.TheVariants as run_op
-use Rattle.runs_model.specs.declared.op.RunPoll.{RunPoll}
-use Rattle.runs_model.specs.declared.op.Section.{Section}
-use Rattle.runs_model.specs.declared.op.Section.TheVariants as section
-use Rattle.runs_model.specs.declared.op.Sleeper.{Sleeper}
-use Rattle.runs_model.specs.declared.op.Sleeper.TheVariants as sleeper
-use Rattle.runs_model.specs.declared.op.TickOp.TheVariants as tick_op
-use Rattle.runs_model.specs.declared.op.UserOp.TheVariants as user_op
-use Rattle.runs_model.specs.declared.op.Waker.{Waker}
-use Rattle.runs_model.specs.declared.op.Waker.TheVariants.{Task, Outside}
-use Rattle.runs_model.specs.declared.step.Hint.{Hint}
-use Rattle.runs_model.specs.ActsOfRuns as runs
-use Rattle.runs_model.specs.SleepersAgree.{lies}
-use Rattle.runs_model.specs.World.{World, Place, Left, Stage, New, Listed, Ended, Run, Done, done, log, new_run, no_run}
-use Rattle.runs_model.specs.World.{own_of, put_own, put_run, run_of}
-use Rattle.runs_model.proofs.OwnRooms.{made-length, same-own, shorter-first}
-use Rattle.runs_model.proofs.SleepersLists.{given_back-same}
-use Rattle.runs_model.proofs.UsingWorlds.{count-set, is_over_stage}
+use Rattle.executor_model.specs.declared.call.Reply.{Reply}
+use Rattle.executor_model.specs.declared.call.Reply.TheVariants as reply
+use Rattle.executor_model.specs.declared.event.Event.TheVariants as event
+use Rattle.executor_model.specs.declared.op.Hold.TheVariants as hold
+use Rattle.executor_model.specs.declared.op.ListOp.TheVariants as list_op
+use Rattle.executor_model.specs.declared.op.Op.{Op}
+use Rattle.executor_model.specs.declared.op.Op.TheVariants as op
+use Rattle.executor_model.specs.declared.op.Polled.TheVariants as of
+use Rattle.executor_model.specs.declared.op.QueueOp.TheVariants as queue_op
+use Rattle.executor_model.specs.declared.op.RunOp.TheVariants as run_op
+use Rattle.executor_model.specs.declared.op.RunPoll.{RunPoll}
+use Rattle.executor_model.specs.declared.op.Section.{Section}
+use Rattle.executor_model.specs.declared.op.Section.TheVariants as section
+use Rattle.executor_model.specs.declared.op.Sleeper.{Sleeper}
+use Rattle.executor_model.specs.declared.op.Sleeper.TheVariants as sleeper
+use Rattle.executor_model.specs.declared.op.TickOp.TheVariants as tick_op
+use Rattle.executor_model.specs.declared.op.UserOp.TheVariants as user_op
+use Rattle.executor_model.specs.declared.op.Waker.{Waker}
+use Rattle.executor_model.specs.declared.op.Waker.TheVariants.{Task, Outside}
+use Rattle.executor_model.specs.declared.step.Hint.{Hint}
+use Rattle.executor_model.specs.ActsOfRuns as runs
+use Rattle.executor_model.specs.SleepersAgree.{lies}
+use Rattle.executor_model.specs.World.{World, Place, Left, Stage, New, Listed, Ended, Run, Done, done, log, new_run, no_run}
+use Rattle.executor_model.specs.World.{own_of, put_own, put_run, run_of}
+use Rattle.executor_model.proofs.OwnRooms.{made-length, same-own, shorter-first}
+use Rattle.executor_model.proofs.SleepersLists.{given_back-same}
+use Rattle.executor_model.proofs.UsingWorlds.{count-set, is_over_stage}
 use Rattle.runs_called.proofs.Beside.{Beside, beside-move, besides}
 use Rattle.runs_called.proofs.Listed.{sum, entry_of, kept_of, misplaced_of}
 use Rattle.runs_called.proofs.Sitting.{IsOther, IsSame, cond-self, eq-self, is_it, lives_in, made_in, over_in, owned_in}

@@ -1,40 +1,40 @@
 -- Each thing that is done keeps what holds of each tick and run, and who gets up or leaves for it is in use.
 use Rattle.std.proofs.Common.{◌≡◌, ℕ, ◌≤◌, [], ◌∷◌, true, false, refl, ap, ◌∙◌, arith}
-use Rattle.runs_model.specs.declared.event.Answer.TheVariants as answer
-use Rattle.runs_model.specs.declared.event.Event.TheVariants as event
-use Rattle.runs_model.specs.declared.op.ListOp.{ListOp}
-use Rattle.runs_model.specs.declared.op.ListOp.TheVariants as list_op
-use Rattle.runs_model.specs.declared.op.Op.{Op}
-use Rattle.runs_model.specs.declared.op.Op.TheVariants as op
-use Rattle.runs_model.specs.declared.op.RunOp.{RunOp}
-use Rattle.runs_model.specs.declared.op.RunOp.TheVariants as run_op
-use Rattle.runs_model.specs.declared.op.RunPoll.{RunPoll}
-use Rattle.runs_model.specs.declared.op.Section.{Section}
-use Rattle.runs_model.specs.declared.op.Section.TheVariants as section
-use Rattle.runs_model.specs.declared.op.Sleeper.{Sleeper}
-use Rattle.runs_model.specs.declared.op.Sleeper.TheVariants as sleeper
-use Rattle.runs_model.specs.declared.op.SleeperOp.TheVariants as sleeper_op
-use Rattle.runs_model.specs.declared.op.TickOp.{TickOp}
-use Rattle.runs_model.specs.declared.op.TickOp.TheVariants as tick_op
-use Rattle.runs_model.specs.declared.op.UserOp.TheVariants as user_op
-use Rattle.runs_model.specs.declared.op.Waker.{Waker}
-use Rattle.runs_model.specs.declared.op.WakerOp.TheVariants as waker_op
-use Rattle.runs_model.specs.declared.step.Hint.{Hint}
-use Rattle.runs_model.specs.declared.step.UserEnd.{UserEnd}
-use Rattle.runs_model.specs.declared.step.UserEnd.TheVariants as end
-use Rattle.runs_model.specs.ActsOfRuns as runs
-use Rattle.runs_model.specs.Acts.{is_copy_refused}
-use Rattle.runs_model.specs.Doing.{act, list_act, run_act, search, steal_act, tick_act}
-use Rattle.runs_model.specs.Rows.{borrowing_of}
-use Rattle.runs_model.specs.Steps.{accepts, react}
-use Rattle.runs_model.specs.Weights.{is_run, same}
-use Rattle.runs_model.specs.World.{World, done, run_of}
-use Rattle.runs_model.proofs.Calls.{is_end}
-use Rattle.runs_model.proofs.RunsCalm.{poll_in}
-use Rattle.runs_model.proofs.SleepersCounting.{asleep}
-use Rattle.runs_model.proofs.TickLists.{same_self}
-use Rattle.runs_model.proofs.Using.{polling_of}
-use Rattle.runs_model.proofs.UsingWorlds.{is_over_stage}
+use Rattle.executor_model.specs.declared.event.Answer.TheVariants as answer
+use Rattle.executor_model.specs.declared.event.Event.TheVariants as event
+use Rattle.executor_model.specs.declared.op.ListOp.{ListOp}
+use Rattle.executor_model.specs.declared.op.ListOp.TheVariants as list_op
+use Rattle.executor_model.specs.declared.op.Op.{Op}
+use Rattle.executor_model.specs.declared.op.Op.TheVariants as op
+use Rattle.executor_model.specs.declared.op.RunOp.{RunOp}
+use Rattle.executor_model.specs.declared.op.RunOp.TheVariants as run_op
+use Rattle.executor_model.specs.declared.op.RunPoll.{RunPoll}
+use Rattle.executor_model.specs.declared.op.Section.{Section}
+use Rattle.executor_model.specs.declared.op.Section.TheVariants as section
+use Rattle.executor_model.specs.declared.op.Sleeper.{Sleeper}
+use Rattle.executor_model.specs.declared.op.Sleeper.TheVariants as sleeper
+use Rattle.executor_model.specs.declared.op.SleeperOp.TheVariants as sleeper_op
+use Rattle.executor_model.specs.declared.op.TickOp.{TickOp}
+use Rattle.executor_model.specs.declared.op.TickOp.TheVariants as tick_op
+use Rattle.executor_model.specs.declared.op.UserOp.TheVariants as user_op
+use Rattle.executor_model.specs.declared.op.Waker.{Waker}
+use Rattle.executor_model.specs.declared.op.WakerOp.TheVariants as waker_op
+use Rattle.executor_model.specs.declared.step.Hint.{Hint}
+use Rattle.executor_model.specs.declared.step.UserEnd.{UserEnd}
+use Rattle.executor_model.specs.declared.step.UserEnd.TheVariants as end
+use Rattle.executor_model.specs.ActsOfRuns as runs
+use Rattle.executor_model.specs.Acts.{is_copy_refused}
+use Rattle.executor_model.specs.Doing.{act, list_act, run_act, search, steal_act, tick_act}
+use Rattle.executor_model.specs.Rows.{borrowing_of}
+use Rattle.executor_model.specs.Steps.{accepts, react}
+use Rattle.executor_model.specs.Weights.{is_run, same}
+use Rattle.executor_model.specs.World.{World, done, run_of}
+use Rattle.executor_model.proofs.Calls.{is_end}
+use Rattle.executor_model.proofs.RunsCalm.{poll_in}
+use Rattle.executor_model.proofs.SleepersCounting.{asleep}
+use Rattle.executor_model.proofs.TickLists.{same_self}
+use Rattle.executor_model.proofs.Using.{polling_of}
+use Rattle.executor_model.proofs.UsingWorlds.{is_over_stage}
 use Rattle.runs_called.proofs.Beside.{Beside, sits_of, is_sits, beside-act, view-log}
 use Rattle.runs_called.proofs.Sitting.{over_in}
 use Rattle.runs_called.proofs.Stands.{KeepsStands, keeps-same}

@@ -2,21 +2,21 @@
 use Rattle.std.proofs.Common.{◌≡◌, ◌≢◌, ◌∙◌, ℕ, zero, suc, ◌+◌, ◌<◌, ◌≤◌, List, [], ◌∷◌, ◌++◌, length, get_or, set}
 use Rattle.std.proofs.Common.{true, false, refl, sym, ap, subst, ⊎_elim, arith}
 use Rattle.std.specs.Prelude.{reverse}
-use Rattle.runs_model.specs.declared.call.Reply.{Reply}
-use Rattle.runs_model.specs.declared.event.Event.TheVariants as event
-use Rattle.runs_model.specs.declared.op.Hold.{Hold}
-use Rattle.runs_model.specs.declared.op.Op.{Op}
-use Rattle.runs_model.specs.declared.op.Op.TheVariants as op
-use Rattle.runs_model.specs.declared.op.Sleeper.{Sleeper}
-use Rattle.runs_model.specs.World.{Done, done, log}
-use Rattle.runs_model.specs.Steps.{Machine, stack}
-use Rattle.runs_model.specs.Weights.{same, weigh, weigh_all}
-use Rattle.runs_model.proofs.AwaitedTies.{stack-then}
-use Rattle.runs_model.proofs.Lift.{unsettled}
-use Rattle.runs_model.proofs.SleepersFollowingRuns.{followed-ends}
-use Rattle.runs_model.proofs.UsingSteps.{used-ends}
-use Rattle.runs_model.proofs.Holding.{nowhere, spot, spot-none, spot-more, seen, seen-append, found-weighs, Spotted}
-use Rattle.runs_model.proofs.Holding.{Holds, held-step}
+use Rattle.executor_model.specs.declared.call.Reply.{Reply}
+use Rattle.executor_model.specs.declared.event.Event.TheVariants as event
+use Rattle.executor_model.specs.declared.op.Hold.{Hold}
+use Rattle.executor_model.specs.declared.op.Op.{Op}
+use Rattle.executor_model.specs.declared.op.Op.TheVariants as op
+use Rattle.executor_model.specs.declared.op.Sleeper.{Sleeper}
+use Rattle.executor_model.specs.World.{Done, done, log}
+use Rattle.executor_model.specs.Steps.{Machine, stack}
+use Rattle.executor_model.specs.Weights.{same, weigh, weigh_all}
+use Rattle.executor_model.proofs.AwaitedTies.{stack-then}
+use Rattle.executor_model.proofs.Lift.{unsettled}
+use Rattle.executor_model.proofs.SleepersFollowingRuns.{followed-ends}
+use Rattle.executor_model.proofs.UsingSteps.{used-ends}
+use Rattle.executor_model.proofs.Holding.{nowhere, spot, spot-none, spot-more, seen, seen-append, found-weighs, Spotted}
+use Rattle.executor_model.proofs.Holding.{Holds, held-step}
 use Rattle.runs_called.proofs.Stands.{view, Doing, with_doing, doing, Footing, Stands, asks_of}
 use Rattle.runs_called.proofs.StandsEnds.{EndWatched, Meets, marked, stands-end, watched-end}
 use Rattle.runs_called.proofs.StandsEnds.EndWatched.{own, within, apart}

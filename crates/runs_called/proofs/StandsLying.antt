@@ -4,23 +4,23 @@ use Rattle.std.proofs.Common.{subst, ⊎_elim, arith}
 use Rattle.std.specs.Prelude.{Option, Some, None, slice_get}
 use Rattle.task_moves.specs.declared.moves.owed.Move.TheVariants as move
 use Rattle.executor_parts.specs.Sleepers.{laid_down, position_of, waker_at, next_number}
-use Rattle.runs_model.specs.declared.call.Reply.TheVariants as reply
-use Rattle.runs_model.specs.declared.op.Op.{Op}
-use Rattle.runs_model.specs.declared.op.Op.TheVariants as op
-use Rattle.runs_model.specs.declared.op.Sleeping.{Sleeping}
-use Rattle.runs_model.specs.declared.op.SleeperOp.TheVariants as sleeper_op
-use Rattle.runs_model.specs.declared.op.TickOp.TheVariants as tick_op
-use Rattle.runs_model.specs.declared.op.Waker.{Waker}
-use Rattle.runs_model.specs.declared.op.Waker.TheVariants.{Task, Outside}
-use Rattle.runs_model.specs.declared.op.Sleeper.{Sleeper}
-use Rattle.runs_model.specs.declared.op.Sleeper.TheVariants as sleeper
-use Rattle.runs_model.specs.World.{World, Place, Up, Lies, Left, Done, place_of, put_sleepers}
-use Rattle.runs_model.specs.Acts.{copied, waker_goes}
-use Rattle.runs_model.specs.ActsOfSleepers.{search_by, copy_sleeper_by, held_as, lie_nowhere, pend_as, lie_anew_by}
-use Rattle.runs_model.specs.ActsOfSleepers.{sleeper_goes, lie_listed_by, lie_again_by, lie_down_by}
-use Rattle.runs_model.specs.Weights.{same}
-use Rattle.runs_model.proofs.SleepersCounting.{asleep}
-use Rattle.runs_model.specs.SleepersAgree.{lies}
+use Rattle.executor_model.specs.declared.call.Reply.TheVariants as reply
+use Rattle.executor_model.specs.declared.op.Op.{Op}
+use Rattle.executor_model.specs.declared.op.Op.TheVariants as op
+use Rattle.executor_model.specs.declared.op.Sleeping.{Sleeping}
+use Rattle.executor_model.specs.declared.op.SleeperOp.TheVariants as sleeper_op
+use Rattle.executor_model.specs.declared.op.TickOp.TheVariants as tick_op
+use Rattle.executor_model.specs.declared.op.Waker.{Waker}
+use Rattle.executor_model.specs.declared.op.Waker.TheVariants.{Task, Outside}
+use Rattle.executor_model.specs.declared.op.Sleeper.{Sleeper}
+use Rattle.executor_model.specs.declared.op.Sleeper.TheVariants as sleeper
+use Rattle.executor_model.specs.World.{World, Place, Up, Lies, Left, Done, place_of, put_sleepers}
+use Rattle.executor_model.specs.Acts.{copied, waker_goes}
+use Rattle.executor_model.specs.ActsOfSleepers.{search_by, copy_sleeper_by, held_as, lie_nowhere, pend_as, lie_anew_by}
+use Rattle.executor_model.specs.ActsOfSleepers.{sleeper_goes, lie_listed_by, lie_again_by, lie_down_by}
+use Rattle.executor_model.specs.Weights.{same}
+use Rattle.executor_model.proofs.SleepersCounting.{asleep}
+use Rattle.executor_model.specs.SleepersAgree.{lies}
 use Rattle.runs_called.proofs.Listed.{Entry, sum, entry_of, kept_of, astray, misplaced_of, at_entry, sum-push, sum-set}
 use Rattle.runs_called.proofs.Listed.{entry-in}
 use Rattle.runs_called.proofs.Stands.{View, view, with_doing, Stands, KeepsStands, Nothing, keeps-same}

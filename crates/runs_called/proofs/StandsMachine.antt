@@ -2,23 +2,23 @@
 use Rattle.std.proofs.Common.{◌≡◌, ◌∙◌, ℕ, zero, suc, ◌<◌, List, [], ◌∷◌, ◌++◌, length, get_or, Bool, true, false}
 use Rattle.std.proofs.Common.{◌&&◌, ◌||◌, not, refl, sym, ap, subst, arith}
 use Rattle.std.specs.Prelude.{reverse}
-use Rattle.runs_model.specs.declared.op.Op.{Op}
-use Rattle.runs_model.specs.declared.op.Op.TheVariants as op
-use Rattle.runs_model.specs.declared.step.Hint.{Hint}
-use Rattle.runs_model.specs.declared.step.Step.{Step}
-use Rattle.runs_model.specs.declared.op.Sleeper.{Sleeper}
-use Rattle.runs_model.specs.declared.op.Sleeper.TheVariants as sleeper
-use Rattle.runs_model.specs.World.{Done}
-use Rattle.runs_model.specs.Doing.{act}
-use Rattle.runs_model.specs.Good.{Good}
-use Rattle.runs_model.specs.Steps.{Machine, stack, run, start, top, is_free, has_all, is_on_executor, is_drop}
-use Rattle.runs_model.specs.Steps.{is_unborrowed, idle}
-use Rattle.runs_model.proofs.Calls.{is_end}
-use Rattle.runs_model.proofs.Lift.{unsettled, good-start, none_refused}
-use Rattle.runs_model.proofs.SleepersFollowingRuns.{Followed, followed-moves, followed-start}
-use Rattle.runs_model.proofs.UsingSteps.{AllUsed, used-moves, used-start}
-use Rattle.runs_model.proofs.Ways.{Way, along}
-use Rattle.runs_model.proofs.Ways.Way.{acted, reacted, called}
+use Rattle.executor_model.specs.declared.op.Op.{Op}
+use Rattle.executor_model.specs.declared.op.Op.TheVariants as op
+use Rattle.executor_model.specs.declared.step.Hint.{Hint}
+use Rattle.executor_model.specs.declared.step.Step.{Step}
+use Rattle.executor_model.specs.declared.op.Sleeper.{Sleeper}
+use Rattle.executor_model.specs.declared.op.Sleeper.TheVariants as sleeper
+use Rattle.executor_model.specs.World.{Done}
+use Rattle.executor_model.specs.Doing.{act}
+use Rattle.executor_model.specs.Good.{Good}
+use Rattle.executor_model.specs.Steps.{Machine, stack, run, start, top, is_free, has_all, is_on_executor, is_drop}
+use Rattle.executor_model.specs.Steps.{is_unborrowed, idle}
+use Rattle.executor_model.proofs.Calls.{is_end}
+use Rattle.executor_model.proofs.Lift.{unsettled, good-start, none_refused}
+use Rattle.executor_model.proofs.SleepersFollowingRuns.{Followed, followed-moves, followed-start}
+use Rattle.executor_model.proofs.UsingSteps.{AllUsed, used-moves, used-start}
+use Rattle.executor_model.proofs.Ways.{Way, along}
+use Rattle.executor_model.proofs.Ways.Way.{acted, reacted, called}
 use Rattle.runs_called.proofs.Stands.{view, Doing, Stands}
 use Rattle.runs_called.proofs.StandsEnds.{marked}
 use Rattle.runs_called.proofs.StandsTied.{IsTied, tied-nil}

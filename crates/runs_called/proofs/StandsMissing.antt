@@ -1,13 +1,13 @@
 -- Where there are fewer entries than ticks and runs that lie, one that lies has none.
 use Rattle.std.proofs.Common.{◌≡◌, ◌⊎◌, ◌∙◌, ℕ, zero, suc, ◌+◌, ◌<◌, ◌≤◌, List, [], ◌∷◌, length, get_or, refl, ap}
 use Rattle.std.proofs.Common.{subst, inl, inr, ⊎_elim, arith}
-use Rattle.runs_model.specs.declared.op.Sleeper.{Sleeper}
-use Rattle.runs_model.specs.declared.op.Sleeper.TheVariants as sleeper
-use Rattle.runs_model.specs.SleepersAgree.{lies, lying, runs_lying}
-use Rattle.runs_model.specs.World.{World, Place, Up, Lies, Left}
-use Rattle.runs_model.specs.Weights.{same, past}
-use Rattle.runs_model.proofs.Lists.{same_is, past_is}
-use Rattle.runs_model.proofs.TickLists.{lying-places, places, places-at}
+use Rattle.executor_model.specs.declared.op.Sleeper.{Sleeper}
+use Rattle.executor_model.specs.declared.op.Sleeper.TheVariants as sleeper
+use Rattle.executor_model.specs.SleepersAgree.{lies, lying, runs_lying}
+use Rattle.executor_model.specs.World.{World, Place, Up, Lies, Left}
+use Rattle.executor_model.specs.Weights.{same, past}
+use Rattle.executor_model.proofs.Lists.{same_is, past_is}
+use Rattle.executor_model.proofs.TickLists.{lying-places, places, places-at}
 use Rattle.runs_called.proofs.Listed.{Entry, sum, entry_of}
 use Rattle.runs_called.proofs.Sitting.{is_it}
 use Rattle.runs_called.proofs.StandsWorlds.{place_here}

@@ -2,38 +2,38 @@
 use Rattle.std.proofs.Common.{◌≡◌, ◌⊎◌, ◌∙◌, ℕ, suc, ◌<◌, ◌≤◌, List, [], ◌∷◌, ◌++◌, length, set, Bool, true, false}
 use Rattle.std.proofs.Common.{◌&&◌, ◌||◌, not, cond, refl, sym, ap, subst, inl, inr, ⊎_elim, arith}
 use Rattle.std.specs.Prelude.{reverse}
-use Rattle.runs_model.specs.declared.call.Call.{Call}
-use Rattle.runs_model.specs.declared.call.Call.TheVariants as call
-use Rattle.runs_model.specs.declared.event.Answer.TheVariants as answer
-use Rattle.runs_model.specs.declared.event.Event.TheVariants as event
-use Rattle.runs_model.specs.declared.op.Op.{Op}
-use Rattle.runs_model.specs.declared.op.Op.TheVariants as op
-use Rattle.runs_model.specs.declared.op.UserOp.TheVariants as user_op
-use Rattle.runs_model.specs.declared.step.Hint.{Hint}
-use Rattle.runs_model.specs.declared.step.UserEnd.{UserEnd}
-use Rattle.runs_model.specs.declared.step.UserEnd.TheVariants as end
-use Rattle.runs_model.specs.declared.op.ListOp.TheVariants as list_op
-use Rattle.runs_model.specs.declared.op.Section.TheVariants as section
-use Rattle.runs_model.specs.declared.op.Sleeper.{Sleeper}
-use Rattle.runs_model.specs.declared.op.Sleeper.TheVariants as sleeper
-use Rattle.runs_model.specs.declared.op.TickOp.TheVariants as tick_op
-use Rattle.runs_model.specs.World.{World, Done, log, run_of}
-use Rattle.runs_model.specs.Doing.{act}
-use Rattle.runs_model.specs.Good.{Good}
-use Rattle.runs_model.specs.Rows.{borrowing_of}
-use Rattle.runs_model.specs.Steps.{Machine, stack, mine, top, has_all, is_drop, is_unborrowed, accepts, begun}
-use Rattle.runs_model.specs.Steps.{react}
-use Rattle.runs_model.specs.Weights.{weigh_all}
-use Rattle.runs_model.proofs.Calls.{is_end, Passes, single, then}
-use Rattle.runs_model.specs.ActsOfRuns as runs
-use Rattle.runs_model.specs.declared.call.Reply.TheVariants as reply
-use Rattle.runs_model.proofs.CallsGroups.{calls-act}
-use Rattle.runs_model.proofs.Lift.{split, unsettled, first-true, set-own}
-use Rattle.runs_model.proofs.Resting.{opens}
-use Rattle.runs_model.proofs.SleepersFollowingRuns.{Followed}
-use Rattle.runs_model.proofs.Using.{polling_of}
-use Rattle.runs_model.proofs.UsingSteps.{AllUsed}
-use Rattle.runs_model.proofs.UsingWorlds.{is_over_stage}
+use Rattle.executor_model.specs.declared.call.Call.{Call}
+use Rattle.executor_model.specs.declared.call.Call.TheVariants as call
+use Rattle.executor_model.specs.declared.event.Answer.TheVariants as answer
+use Rattle.executor_model.specs.declared.event.Event.TheVariants as event
+use Rattle.executor_model.specs.declared.op.Op.{Op}
+use Rattle.executor_model.specs.declared.op.Op.TheVariants as op
+use Rattle.executor_model.specs.declared.op.UserOp.TheVariants as user_op
+use Rattle.executor_model.specs.declared.step.Hint.{Hint}
+use Rattle.executor_model.specs.declared.step.UserEnd.{UserEnd}
+use Rattle.executor_model.specs.declared.step.UserEnd.TheVariants as end
+use Rattle.executor_model.specs.declared.op.ListOp.TheVariants as list_op
+use Rattle.executor_model.specs.declared.op.Section.TheVariants as section
+use Rattle.executor_model.specs.declared.op.Sleeper.{Sleeper}
+use Rattle.executor_model.specs.declared.op.Sleeper.TheVariants as sleeper
+use Rattle.executor_model.specs.declared.op.TickOp.TheVariants as tick_op
+use Rattle.executor_model.specs.World.{World, Done, log, run_of}
+use Rattle.executor_model.specs.Doing.{act}
+use Rattle.executor_model.specs.Good.{Good}
+use Rattle.executor_model.specs.Rows.{borrowing_of}
+use Rattle.executor_model.specs.Steps.{Machine, stack, mine, top, has_all, is_drop, is_unborrowed, accepts, begun}
+use Rattle.executor_model.specs.Steps.{react}
+use Rattle.executor_model.specs.Weights.{weigh_all}
+use Rattle.executor_model.proofs.Calls.{is_end, Passes, single, then}
+use Rattle.executor_model.specs.ActsOfRuns as runs
+use Rattle.executor_model.specs.declared.call.Reply.TheVariants as reply
+use Rattle.executor_model.proofs.CallsGroups.{calls-act}
+use Rattle.executor_model.proofs.Lift.{split, unsettled, first-true, set-own}
+use Rattle.executor_model.proofs.Resting.{opens}
+use Rattle.executor_model.proofs.SleepersFollowingRuns.{Followed}
+use Rattle.executor_model.proofs.Using.{polling_of}
+use Rattle.executor_model.proofs.UsingSteps.{AllUsed}
+use Rattle.executor_model.proofs.UsingWorlds.{is_over_stage}
 use Rattle.runs_called.proofs.Sitting.{eq_who}
 use Rattle.runs_called.proofs.Stands.{view, with_doing, doing, Stands, Mark, used_of}
 use Rattle.runs_called.proofs.StandsCalls.{Uses, stands-begun}

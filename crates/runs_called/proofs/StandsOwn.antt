@@ -1,22 +1,22 @@
 -- What the own steps of a tick or run keep, by what they change of it.
 use Rattle.std.proofs.Common.{◌≡◌, ◌⊎◌, ◌∙◌, ℕ, suc, ◌+◌, ◌==◌, ◌≤◌, List, [], ◌∷◌, ◌++◌, Bool, true, false, cond, refl}
 use Rattle.std.proofs.Common.{sym, subst, arith}
-use Rattle.runs_model.specs.declared.call.Reply.{Reply}
-use Rattle.runs_model.specs.declared.call.Reply.TheVariants as reply
-use Rattle.runs_model.specs.declared.op.Hold.{Hold}
-use Rattle.runs_model.specs.declared.op.Hold.TheVariants as hold
-use Rattle.runs_model.specs.declared.op.Op.{Op}
-use Rattle.runs_model.specs.declared.op.Op.TheVariants as op
-use Rattle.runs_model.specs.declared.op.RunOp.TheVariants as run_op
-use Rattle.runs_model.specs.declared.op.Sleeper.{Sleeper}
-use Rattle.runs_model.specs.declared.op.Sleeper.TheVariants as sleeper
-use Rattle.runs_model.specs.declared.op.SleeperOp.TheVariants as sleeper_op
-use Rattle.runs_model.specs.declared.op.TickOp.TheVariants as tick_op
-use Rattle.runs_model.specs.declared.op.Waker.{Waker}
-use Rattle.runs_model.specs.ActsOfSleepers.{held_as, pend_as}
-use Rattle.runs_model.specs.Weights.{same, weigh}
-use Rattle.runs_model.proofs.Lists.{same_is}
-use Rattle.runs_model.proofs.SleepersCounting.{asleep}
+use Rattle.executor_model.specs.declared.call.Reply.{Reply}
+use Rattle.executor_model.specs.declared.call.Reply.TheVariants as reply
+use Rattle.executor_model.specs.declared.op.Hold.{Hold}
+use Rattle.executor_model.specs.declared.op.Hold.TheVariants as hold
+use Rattle.executor_model.specs.declared.op.Op.{Op}
+use Rattle.executor_model.specs.declared.op.Op.TheVariants as op
+use Rattle.executor_model.specs.declared.op.RunOp.TheVariants as run_op
+use Rattle.executor_model.specs.declared.op.Sleeper.{Sleeper}
+use Rattle.executor_model.specs.declared.op.Sleeper.TheVariants as sleeper
+use Rattle.executor_model.specs.declared.op.SleeperOp.TheVariants as sleeper_op
+use Rattle.executor_model.specs.declared.op.TickOp.TheVariants as tick_op
+use Rattle.executor_model.specs.declared.op.Waker.{Waker}
+use Rattle.executor_model.specs.ActsOfSleepers.{held_as, pend_as}
+use Rattle.executor_model.specs.Weights.{same, weigh}
+use Rattle.executor_model.proofs.Lists.{same_is}
+use Rattle.executor_model.proofs.SleepersCounting.{asleep}
 use Rattle.runs_called.proofs.Sitting.{eq_who, eq-self, holds_it, is_it, self}
 use Rattle.runs_called.proofs.Stands.{asks_of, calls_of, drops_of, drops_who, early_of, ends_of, found_of, odd_of}
 use Rattle.runs_called.proofs.Stands.{pends_of, refused_of, rising_of, strays_of, used_of, View, Doing, with_doing}

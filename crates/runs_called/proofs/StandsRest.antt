@@ -1,32 +1,32 @@
 -- At a quiet trace where a future is due and some tick or run stands, one that stands is called.
 use Rattle.std.proofs.Common.{◌≡◌, ◌⊎◌, ◌∙◌, ℕ, suc, ◌+◌, ◌<◌, ◌≤◌, List, [], length, drop, get_or, zero, Bool, true}
 use Rattle.std.proofs.Common.{false, refl, sym, ap, subst, inl, inr, ⊎_elim, arith}
-use Rattle.runs_model.specs.declared.call.Reply.{Reply}
-use Rattle.runs_model.specs.declared.call.Reply.TheVariants as reply
-use Rattle.runs_model.specs.declared.op.Sleeper.{Sleeper}
-use Rattle.runs_model.specs.declared.op.Sleeper.TheVariants as sleeper
-use Rattle.runs_model.specs.declared.step.Step.{Step}
-use Rattle.runs_model.specs.AwaiterKept.{EndsWith, since}
-use Rattle.runs_model.specs.Due.{IsDue}
-use Rattle.runs_model.specs.Good.{Good}
-use Rattle.runs_model.specs.OwnQueues.{OwnQueueHasRunner}
-use Rattle.runs_model.specs.Quiet.{IsQuiet}
-use Rattle.runs_model.specs.Rows.{running_of}
-use Rattle.runs_model.specs.SleepersAgree.{SomeoneNotified, lies}
-use Rattle.runs_model.specs.SleepersTold.{SleepersAreTold, tells_of}
-use Rattle.runs_model.specs.Sound.{times, times_in}
-use Rattle.runs_model.specs.Standing.{LastPolled, Stands as StandsSo, WasCalled, calls_poll, drops_sleeper}
-use Rattle.runs_model.specs.Steps.{Machine, stack, run, start}
-use Rattle.runs_model.specs.Trace.{has}
-use Rattle.runs_model.specs.Weights.{weigh_all}
-use Rattle.runs_model.specs.World.{World, Place, Up, Lies, Left, own_of}
-use Rattle.runs_model.proofs.AskingRuns.{Heard, heard}
-use Rattle.runs_model.proofs.Holding.{nowhere, Spotted, seen}
-use Rattle.runs_model.proofs.Lift.{good}
-use Rattle.runs_model.proofs.OwnRunners.{own-queue-has-runner}
-use Rattle.runs_model.proofs.Resting.{Deep, deep, rests, all-rest}
-use Rattle.runs_model.proofs.SleepersFollowingRuns.{agrees}
-use Rattle.runs_model.proofs.SleepersTellingRuns.{are_told}
+use Rattle.executor_model.specs.declared.call.Reply.{Reply}
+use Rattle.executor_model.specs.declared.call.Reply.TheVariants as reply
+use Rattle.executor_model.specs.declared.op.Sleeper.{Sleeper}
+use Rattle.executor_model.specs.declared.op.Sleeper.TheVariants as sleeper
+use Rattle.executor_model.specs.declared.step.Step.{Step}
+use Rattle.executor_model.specs.AwaiterKept.{EndsWith, since}
+use Rattle.executor_model.specs.Due.{IsDue}
+use Rattle.executor_model.specs.Good.{Good}
+use Rattle.executor_model.specs.OwnQueues.{OwnQueueHasRunner}
+use Rattle.executor_model.specs.Quiet.{IsQuiet}
+use Rattle.executor_model.specs.Rows.{running_of}
+use Rattle.executor_model.specs.SleepersAgree.{SomeoneNotified, lies}
+use Rattle.executor_model.specs.SleepersTold.{SleepersAreTold, tells_of}
+use Rattle.executor_model.specs.Sound.{times, times_in}
+use Rattle.executor_model.specs.Standing.{LastPolled, Stands as StandsSo, WasCalled, calls_poll, drops_sleeper}
+use Rattle.executor_model.specs.Steps.{Machine, stack, run, start}
+use Rattle.executor_model.specs.Trace.{has}
+use Rattle.executor_model.specs.Weights.{weigh_all}
+use Rattle.executor_model.specs.World.{World, Place, Up, Lies, Left, own_of}
+use Rattle.executor_model.proofs.AskingRuns.{Heard, heard}
+use Rattle.executor_model.proofs.Holding.{nowhere, Spotted, seen}
+use Rattle.executor_model.proofs.Lift.{good}
+use Rattle.executor_model.proofs.OwnRunners.{own-queue-has-runner}
+use Rattle.executor_model.proofs.Resting.{Deep, deep, rests, all-rest}
+use Rattle.executor_model.proofs.SleepersFollowingRuns.{agrees}
+use Rattle.executor_model.proofs.SleepersTellingRuns.{are_told}
 use Rattle.runs_called.specs.Called.{NoneRefused, OneCalled, SomeStandingIsCalled, WasRefused}
 use Rattle.runs_called.proofs.Listed.{sum, entry_of, kept_of, misplaced_of}
 use Rattle.runs_called.proofs.Queued.{Holder, due-queued, holder, times-length}

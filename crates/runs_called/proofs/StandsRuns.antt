@@ -2,39 +2,39 @@
 use Rattle.std.proofs.Common.{◌≡◌, ◌⊎◌, ◌∙◌, ℕ, zero, suc, ◌+◌, ◌%◌, ◌≤◌, List, [], ◌∷◌, ◌++◌, length, Bool, true}
 use Rattle.std.proofs.Common.{false, eqb, refl, sym, ap, subst, inl, inr, ⊎_elim, arith}
 use Rattle.task_moves.specs.declared.moves.owed.Move.TheVariants as move
-use Rattle.runs_model.specs.declared.call.Reply.TheVariants as reply
-use Rattle.runs_model.specs.declared.event.Event.TheVariants as event
-use Rattle.runs_model.specs.declared.op.ListOp.TheVariants as list_op
-use Rattle.runs_model.specs.declared.op.Op.{Op}
-use Rattle.runs_model.specs.declared.op.Op.TheVariants as op
-use Rattle.runs_model.specs.declared.op.QueueOp.TheVariants as queue_op
-use Rattle.runs_model.specs.declared.op.RunOp.TheVariants as run_op
-use Rattle.runs_model.specs.declared.op.RunPoll.{RunPoll}
-use Rattle.runs_model.specs.declared.op.Section.TheVariants as section
-use Rattle.runs_model.specs.declared.op.Sleeper.{Sleeper}
-use Rattle.runs_model.specs.declared.op.Sleeper.TheVariants as sleeper
-use Rattle.runs_model.specs.declared.op.SleeperOp.TheVariants as sleeper_op
-use Rattle.runs_model.specs.declared.op.Source.{Source}
-use Rattle.runs_model.specs.declared.op.Source.TheVariants.{Common, Own}
-use Rattle.runs_model.specs.declared.op.Steal.{Steal}
-use Rattle.runs_model.specs.declared.op.StealOp.{StealOp}
-use Rattle.runs_model.specs.declared.op.StealOp.TheVariants as steal_op
-use Rattle.runs_model.specs.declared.op.Then.{Then}
-use Rattle.runs_model.specs.declared.op.Then.TheVariants as then
-use Rattle.runs_model.specs.declared.op.TickOp.TheVariants as tick_op
-use Rattle.runs_model.specs.declared.op.UserOp.TheVariants as user_op
-use Rattle.runs_model.specs.declared.step.Hint.{Hint}
-use Rattle.runs_model.specs.ActsOfRuns as runs
-use Rattle.runs_model.specs.ActsOfSleepers.{found_by}
-use Rattle.runs_model.specs.Doing.{steal_act}
-use Rattle.runs_model.specs.Weights.{weigh}
-use Rattle.runs_model.specs.SleepersAgree.{lies}
-use Rattle.runs_model.specs.World.{World, Place, Up, Lies, Left, Run, Done, own_of, put_own, put_run, run_of}
-use Rattle.runs_model.proofs.Lists.{weigh-append}
-use Rattle.runs_model.proofs.OwnRooms.{Shorter, grown, of_hull, same-own, shorter-and, shorter-first}
-use Rattle.runs_model.proofs.RunsCalm.{poll_in}
-use Rattle.runs_model.proofs.RunsMoving.{hull-found, hull-stolen, walk-by}
-use Rattle.runs_model.proofs.UsingWorlds.{is_over_stage}
+use Rattle.executor_model.specs.declared.call.Reply.TheVariants as reply
+use Rattle.executor_model.specs.declared.event.Event.TheVariants as event
+use Rattle.executor_model.specs.declared.op.ListOp.TheVariants as list_op
+use Rattle.executor_model.specs.declared.op.Op.{Op}
+use Rattle.executor_model.specs.declared.op.Op.TheVariants as op
+use Rattle.executor_model.specs.declared.op.QueueOp.TheVariants as queue_op
+use Rattle.executor_model.specs.declared.op.RunOp.TheVariants as run_op
+use Rattle.executor_model.specs.declared.op.RunPoll.{RunPoll}
+use Rattle.executor_model.specs.declared.op.Section.TheVariants as section
+use Rattle.executor_model.specs.declared.op.Sleeper.{Sleeper}
+use Rattle.executor_model.specs.declared.op.Sleeper.TheVariants as sleeper
+use Rattle.executor_model.specs.declared.op.SleeperOp.TheVariants as sleeper_op
+use Rattle.executor_model.specs.declared.op.Source.{Source}
+use Rattle.executor_model.specs.declared.op.Source.TheVariants.{Common, Own}
+use Rattle.executor_model.specs.declared.op.Steal.{Steal}
+use Rattle.executor_model.specs.declared.op.StealOp.{StealOp}
+use Rattle.executor_model.specs.declared.op.StealOp.TheVariants as steal_op
+use Rattle.executor_model.specs.declared.op.Then.{Then}
+use Rattle.executor_model.specs.declared.op.Then.TheVariants as then
+use Rattle.executor_model.specs.declared.op.TickOp.TheVariants as tick_op
+use Rattle.executor_model.specs.declared.op.UserOp.TheVariants as user_op
+use Rattle.executor_model.specs.declared.step.Hint.{Hint}
+use Rattle.executor_model.specs.ActsOfRuns as runs
+use Rattle.executor_model.specs.ActsOfSleepers.{found_by}
+use Rattle.executor_model.specs.Doing.{steal_act}
+use Rattle.executor_model.specs.Weights.{weigh}
+use Rattle.executor_model.specs.SleepersAgree.{lies}
+use Rattle.executor_model.specs.World.{World, Place, Up, Lies, Left, Run, Done, own_of, put_own, put_run, run_of}
+use Rattle.executor_model.proofs.Lists.{weigh-append}
+use Rattle.executor_model.proofs.OwnRooms.{Shorter, grown, of_hull, same-own, shorter-and, shorter-first}
+use Rattle.executor_model.proofs.RunsCalm.{poll_in}
+use Rattle.executor_model.proofs.RunsMoving.{hull-found, hull-stolen, walk-by}
+use Rattle.executor_model.proofs.UsingWorlds.{is_over_stage}
 use Rattle.runs_called.proofs.Beside.{view-log}
 use Rattle.runs_called.proofs.Listed.{sum, entry_of, kept_of, misplaced_of}
 use Rattle.runs_called.proofs.Sitting.{IsOther, IsSame, is_it, owned_in, who_cases}

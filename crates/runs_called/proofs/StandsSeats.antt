@@ -3,12 +3,12 @@ use Rattle.std.proofs.Common.{◌≡◌, ◌≢◌, ◌∙◌, ℕ, zero, suc, �
 use Rattle.std.proofs.Common.{sym, ap, arith, get_or-set_same, get_or-set_other}
 use Rattle.std.proofs.Math.ListN.{length-set}
 use Rattle.std.specs.Prelude.{not, nat_lt}
-use Rattle.runs_model.specs.declared.op.Sleeper.{Sleeper}
-use Rattle.runs_model.specs.declared.op.Sleeper.TheVariants as sleeper
-use Rattle.runs_model.specs.Steps.{lives}
-use Rattle.runs_model.specs.World.{World, Place, Up, Lies, Left, Run, no_run, put_place, put_run, run_of}
-use Rattle.runs_model.proofs.TickLists.{is_tick}
-use Rattle.runs_model.proofs.UsingWorlds.{count-set, is_over_stage}
+use Rattle.executor_model.specs.declared.op.Sleeper.{Sleeper}
+use Rattle.executor_model.specs.declared.op.Sleeper.TheVariants as sleeper
+use Rattle.executor_model.specs.Steps.{lives}
+use Rattle.executor_model.specs.World.{World, Place, Up, Lies, Left, Run, no_run, put_place, put_run, run_of}
+use Rattle.executor_model.proofs.TickLists.{is_tick}
+use Rattle.executor_model.proofs.UsingWorlds.{count-set, is_over_stage}
 use Rattle.runs_called.proofs.Sitting.{lives_in, made_in, over_in, owned_in, place_in}
 
 -- it is where it was, lives as it did, and was made and is over as before

@@ -2,18 +2,18 @@
 use Rattle.std.proofs.Common.{◌≡◌, ◌≢◌, ◌∙◌, ℕ, suc, ◌+◌, ◌<◌, List, [], ◌∷◌, ◌++◌, length, get_or, set, Bool, true}
 use Rattle.std.proofs.Common.{false, cond, sym, ap, subst, arith}
 use Rattle.std.specs.Prelude.{reverse}
-use Rattle.runs_model.specs.declared.op.Op.{Op}
-use Rattle.runs_model.specs.declared.op.Sleeper.{Sleeper}
-use Rattle.runs_model.specs.World.{Done}
-use Rattle.runs_model.specs.Steps.{Machine, stack}
-use Rattle.runs_model.specs.Weights.{same, weigh}
-use Rattle.runs_model.proofs.Calls.{calling_of, Passes, Answering}
-use Rattle.runs_model.proofs.Lists.{same_is, weigh-reverse}
-use Rattle.runs_model.proofs.Resting.{counts-answering}
-use Rattle.runs_model.proofs.SleepersFollowingRuns.{Followed, agrees}
-use Rattle.runs_model.proofs.UsingSteps.{AllUsed}
-use Rattle.runs_model.proofs.Holding.{nowhere, seen, seen-light, seen-passes, Spotted, Open, Holds, held-step}
-use Rattle.runs_model.proofs.Holding.{held-asks}
+use Rattle.executor_model.specs.declared.op.Op.{Op}
+use Rattle.executor_model.specs.declared.op.Sleeper.{Sleeper}
+use Rattle.executor_model.specs.World.{Done}
+use Rattle.executor_model.specs.Steps.{Machine, stack}
+use Rattle.executor_model.specs.Weights.{same, weigh}
+use Rattle.executor_model.proofs.Calls.{calling_of, Passes, Answering}
+use Rattle.executor_model.proofs.Lists.{same_is, weigh-reverse}
+use Rattle.executor_model.proofs.Resting.{counts-answering}
+use Rattle.executor_model.proofs.SleepersFollowingRuns.{Followed, agrees}
+use Rattle.executor_model.proofs.UsingSteps.{AllUsed}
+use Rattle.executor_model.proofs.Holding.{nowhere, seen, seen-light, seen-passes, Spotted, Open, Holds, held-step}
+use Rattle.executor_model.proofs.Holding.{held-asks}
 use Rattle.runs_called.proofs.Sitting.{placed-in}
 use Rattle.runs_called.proofs.Stands.{View, view, Doing, with_doing, doing, Footing, Stands, Mark, asks_of}
 use Rattle.runs_called.proofs.StandsEnds.{marked}

@@ -5,10 +5,10 @@ use Rattle.std.proofs.Common.{Bool, true, false, eqb, refl, sym, ap, subst, arit
 use Rattle.std.proofs.lemmas.Bool.Decides.{nat_tests}
 use Rattle.std.proofs.lemmas.List.{reverse-append, reverse-reverse}
 use Rattle.std.specs.Prelude.{reverse}
-use Rattle.runs_model.specs.declared.op.Op.{Op}
-use Rattle.runs_model.specs.declared.op.Sleeper.{Sleeper}
-use Rattle.runs_model.specs.Weights.{weigh, weigh_all}
-use Rattle.runs_model.proofs.Lists.{weigh-append, weigh-reverse}
+use Rattle.executor_model.specs.declared.op.Op.{Op}
+use Rattle.executor_model.specs.declared.op.Sleeper.{Sleeper}
+use Rattle.executor_model.specs.Weights.{weigh, weigh_all}
+use Rattle.executor_model.proofs.Lists.{weigh-append, weigh-reverse}
 use Rattle.runs_called.proofs.Stands.{rising_of, used_of}
 
 abbrev Ties : Sleeper → List Op → Type 0

@@ -1,24 +1,24 @@
 -- What the stacks weigh in the counts of a tick or run.
 use Rattle.std.proofs.Common.{◌≡◌, ℕ, zero, suc, ◌+◌, ◌<◌, ◌≤◌, List, [], ◌∷◌, ◌++◌, length, get_or, set, refl, arith}
 use Rattle.std.specs.Prelude.{reverse}
-use Rattle.runs_model.specs.declared.op.Hold.{Hold}
-use Rattle.runs_model.specs.declared.op.Hold.TheVariants as hold
-use Rattle.runs_model.specs.declared.op.ListOp.TheVariants as list_op
-use Rattle.runs_model.specs.declared.op.Op.{Op}
-use Rattle.runs_model.specs.declared.op.Op.TheVariants as op
-use Rattle.runs_model.specs.declared.op.RunOp.TheVariants as run_op
-use Rattle.runs_model.specs.declared.op.Section.{Section}
-use Rattle.runs_model.specs.declared.op.Section.TheVariants as section
-use Rattle.runs_model.specs.declared.op.Sleeper.{Sleeper}
-use Rattle.runs_model.specs.declared.op.Sleeper.TheVariants as sleeper
-use Rattle.runs_model.specs.declared.op.TickOp.TheVariants as tick_op
-use Rattle.runs_model.specs.declared.op.UserOp.TheVariants as user_op
-use Rattle.runs_model.specs.Steps.{idle}
-use Rattle.runs_model.specs.Weights.{weigh, weigh_all}
-use Rattle.runs_model.proofs.Calls.{calling_of}
-use Rattle.runs_model.proofs.Lift.{split, weigh_all-idle}
-use Rattle.runs_model.proofs.Lists.{weigh_all-below, weigh_all-push}
-use Rattle.runs_model.proofs.RunsCalm.{poll_in}
+use Rattle.executor_model.specs.declared.op.Hold.{Hold}
+use Rattle.executor_model.specs.declared.op.Hold.TheVariants as hold
+use Rattle.executor_model.specs.declared.op.ListOp.TheVariants as list_op
+use Rattle.executor_model.specs.declared.op.Op.{Op}
+use Rattle.executor_model.specs.declared.op.Op.TheVariants as op
+use Rattle.executor_model.specs.declared.op.RunOp.TheVariants as run_op
+use Rattle.executor_model.specs.declared.op.Section.{Section}
+use Rattle.executor_model.specs.declared.op.Section.TheVariants as section
+use Rattle.executor_model.specs.declared.op.Sleeper.{Sleeper}
+use Rattle.executor_model.specs.declared.op.Sleeper.TheVariants as sleeper
+use Rattle.executor_model.specs.declared.op.TickOp.TheVariants as tick_op
+use Rattle.executor_model.specs.declared.op.UserOp.TheVariants as user_op
+use Rattle.executor_model.specs.Steps.{idle}
+use Rattle.executor_model.specs.Weights.{weigh, weigh_all}
+use Rattle.executor_model.proofs.Calls.{calling_of}
+use Rattle.executor_model.proofs.Lift.{split, weigh_all-idle}
+use Rattle.executor_model.proofs.Lists.{weigh_all-below, weigh_all-push}
+use Rattle.executor_model.proofs.RunsCalm.{poll_in}
 use Rattle.runs_called.proofs.Sitting.{few, holds_it, is_it}
 use Rattle.runs_called.proofs.Stands.{used_of, early_of, early_section, pends_of, refused_of, found_of, ends_of}
 use Rattle.runs_called.proofs.Stands.{rising_of, drops_of, odd_of, is_ready, strays_of, calls_of, asks_of, Doing}

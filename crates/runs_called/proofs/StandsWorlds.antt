@@ -4,13 +4,13 @@ use Rattle.std.proofs.Common.{arith}
 use Rattle.std.proofs.lemmas.Bool.Decides.{nat_tests}
 use Rattle.std.specs.Prelude.{Option, Some, None, slice_get}
 use Rattle.executor_parts.specs.Sleepers.{position_of, risen}
-use Rattle.runs_model.specs.declared.op.Waker.{Waker}
-use Rattle.runs_model.specs.declared.op.Sleeper.{Sleeper}
-use Rattle.runs_model.specs.World.{World, Place, Up, Lies, Left}
-use Rattle.runs_model.specs.Weights.{same}
-use Rattle.runs_model.proofs.SleepersCounting.{asleep}
-use Rattle.runs_model.proofs.Telling.{same-cond}
-use Rattle.runs_model.specs.SleepersAgree.{lies}
+use Rattle.executor_model.specs.declared.op.Waker.{Waker}
+use Rattle.executor_model.specs.declared.op.Sleeper.{Sleeper}
+use Rattle.executor_model.specs.World.{World, Place, Up, Lies, Left}
+use Rattle.executor_model.specs.Weights.{same}
+use Rattle.executor_model.proofs.SleepersCounting.{asleep}
+use Rattle.executor_model.proofs.Telling.{same-cond}
+use Rattle.executor_model.specs.SleepersAgree.{lies}
 use Rattle.runs_called.proofs.Listed.{Entry, sum, entry_of, kept_of, astray, misplaced_of, at_entry, entry_at}
 use Rattle.runs_called.proofs.Listed.{sum-risen, entry-in, numbered}
 use Rattle.runs_called.proofs.Sitting.{cond-other, cond-self, eq_who, is-cond, other, owned_in, place_in, self}

@@ -1,14 +1,14 @@
 -- Where a future is due and some tick or run stands, one that stands is called; and a run that keeps a due future is.
 use Rattle.std.specs.Prelude.{◌≡◌, ℕ, false}
-use Rattle.runs_model.specs.declared.call.Reply.TheVariants.{NoMemory}
-use Rattle.runs_model.specs.declared.op.Sleeper.{Sleeper}
-use Rattle.runs_model.specs.declared.op.Sleeper.TheVariants.{Run}
-use Rattle.runs_model.specs.AwaiterKept.{EndsWith, since}
-use Rattle.runs_model.specs.Due.{IsDue}
-use Rattle.runs_model.specs.Keeper.{IsKeeper}
-use Rattle.runs_model.specs.Quiet.{IsQuiet}
-use Rattle.runs_model.specs.Standing.{LastPolled, Stands, WasCalled, drops_sleeper}
-use Rattle.runs_model.specs.Trace.{Trace, has}
+use Rattle.executor_model.specs.declared.call.Reply.TheVariants.{NoMemory}
+use Rattle.executor_model.specs.declared.op.Sleeper.{Sleeper}
+use Rattle.executor_model.specs.declared.op.Sleeper.TheVariants.{Run}
+use Rattle.executor_model.specs.AwaiterKept.{EndsWith, since}
+use Rattle.executor_model.specs.Due.{IsDue}
+use Rattle.executor_model.specs.Keeper.{IsKeeper}
+use Rattle.executor_model.specs.Quiet.{IsQuiet}
+use Rattle.executor_model.specs.Standing.{LastPolled, Stands, WasCalled, drops_sleeper}
+use Rattle.executor_model.specs.Trace.{Trace, has}
 
 -- its last poll was refused for want of memory
 pub record WasRefused (who : Sleeper) (trace : Trace) : Type 0 where

@@ -1,5 +1,5 @@
 //! Laws of the trace of every run, of any number of parties and any list of steps.
-ghost use Rattle.runs_model.specs.EveryTrace.{EveryTrace};
+ghost use Rattle.executor_model.specs.EveryTrace.{EveryTrace};
 ghost use Rattle.runs_called.specs.Called.{KeeperIsCalled, SomeStandingIsCalled};
 
 /// No wake of a tick or run is lost. A tick or run stands where it lives and its last poll was answered that nothing is

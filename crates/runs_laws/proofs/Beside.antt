@@ -3,52 +3,52 @@ use Rattle.std.proofs.Common.{◌≡◌, ◌≢◌, ℕ, zero, suc, ◌+◌, ◌
 use Rattle.std.proofs.Common.{eqb, refl, ap, sym, ◌∙◌, ⊎_elim, arith}
 use Rattle.std.proofs.lemmas.List.{length_push}
 use Rattle.task_moves.specs.declared.moves.owed.Move.TheVariants as move
-use Rattle.runs_model.specs.declared.call.Reply.{Reply}
-use Rattle.runs_model.specs.declared.call.Reply.TheVariants as reply
-use Rattle.runs_model.specs.declared.event.Answer.TheVariants as answer
-use Rattle.runs_model.specs.declared.event.Event.TheVariants as event
-use Rattle.runs_model.specs.declared.op.Hold.TheVariants as hold
-use Rattle.runs_model.specs.declared.op.ListOp.{ListOp}
-use Rattle.runs_model.specs.declared.op.ListOp.TheVariants as list_op
-use Rattle.runs_model.specs.declared.op.Op.{Op}
-use Rattle.runs_model.specs.declared.op.Op.TheVariants as op
-use Rattle.runs_model.specs.declared.op.Polled.TheVariants as of
-use Rattle.runs_model.specs.declared.op.RunOp.{RunOp}
-use Rattle.runs_model.specs.declared.op.RunOp.TheVariants as run_op
-use Rattle.runs_model.specs.declared.op.RunPoll.{RunPoll}
-use Rattle.runs_model.specs.declared.op.Section.TheVariants as section
-use Rattle.runs_model.specs.declared.op.Sleeper.{Sleeper}
-use Rattle.runs_model.specs.declared.op.Sleeper.TheVariants as sleeper
-use Rattle.runs_model.specs.declared.op.Sleeping.{Sleeping}
-use Rattle.runs_model.specs.declared.op.Source.{Source}
-use Rattle.runs_model.specs.declared.op.Source.TheVariants.{Common, Own}
-use Rattle.runs_model.specs.declared.op.Steal.{Steal}
-use Rattle.runs_model.specs.declared.op.StealOp.{StealOp}
-use Rattle.runs_model.specs.declared.op.StealOp.TheVariants as steal_op
-use Rattle.runs_model.specs.declared.op.Then.{Then}
-use Rattle.runs_model.specs.declared.op.Then.TheVariants as then
-use Rattle.runs_model.specs.declared.op.TickOp.{TickOp}
-use Rattle.runs_model.specs.declared.op.TickOp.TheVariants as tick_op
-use Rattle.runs_model.specs.declared.op.UserOp.TheVariants as user_op
-use Rattle.runs_model.specs.declared.op.Waker.{Waker}
-use Rattle.runs_model.specs.declared.op.Waker.TheVariants.{Task, Outside}
-use Rattle.runs_model.specs.declared.step.Hint.{Hint}
-use Rattle.runs_model.specs.declared.step.UserEnd.{UserEnd}
-use Rattle.runs_model.specs.declared.step.UserEnd.TheVariants as end
-use Rattle.runs_model.specs.ActsOfRuns as runs
-use Rattle.runs_model.specs.Doing.{act, list_act, run_act, search_by_who, steal_act, tick_act}
-use Rattle.runs_model.specs.Rows.{running_of}
-use Rattle.runs_model.specs.Steps.{accepts, react}
-use Rattle.runs_model.specs.Weights.{same, weigh, weigh_all}
-use Rattle.runs_model.specs.World.{World, Stage, New, Listed, Ended, Done, log, own_of, place_of, put_own, without}
-use Rattle.runs_model.proofs.Lift.{no_hint}
-use Rattle.runs_model.proofs.Lists.{same_is, same_cases, weigh-append}
-use Rattle.runs_model.proofs.OwnRooms.{Shorter, grown, made-length, of_hull, same-own, shorter-and, shorter-first}
-use Rattle.runs_model.proofs.RunsAside.{Hull, apart-act, hull, is_run, runs_of, unseen}
-use Rattle.runs_model.proofs.RunsMoving.{Weighs, by_then, hull-common, hull-found, hull-length, hull-more, hull-search}
-use Rattle.runs_model.proofs.RunsMoving.{hull-stolen, hull-tick, is_search, lying-blind, walk-by, weighs-found}
-use Rattle.runs_model.proofs.RunsMoving.{weighs-stolen}
-use Rattle.runs_model.proofs.SleepersNext.{Blind, search-blind}
+use Rattle.executor_model.specs.declared.call.Reply.{Reply}
+use Rattle.executor_model.specs.declared.call.Reply.TheVariants as reply
+use Rattle.executor_model.specs.declared.event.Answer.TheVariants as answer
+use Rattle.executor_model.specs.declared.event.Event.TheVariants as event
+use Rattle.executor_model.specs.declared.op.Hold.TheVariants as hold
+use Rattle.executor_model.specs.declared.op.ListOp.{ListOp}
+use Rattle.executor_model.specs.declared.op.ListOp.TheVariants as list_op
+use Rattle.executor_model.specs.declared.op.Op.{Op}
+use Rattle.executor_model.specs.declared.op.Op.TheVariants as op
+use Rattle.executor_model.specs.declared.op.Polled.TheVariants as of
+use Rattle.executor_model.specs.declared.op.RunOp.{RunOp}
+use Rattle.executor_model.specs.declared.op.RunOp.TheVariants as run_op
+use Rattle.executor_model.specs.declared.op.RunPoll.{RunPoll}
+use Rattle.executor_model.specs.declared.op.Section.TheVariants as section
+use Rattle.executor_model.specs.declared.op.Sleeper.{Sleeper}
+use Rattle.executor_model.specs.declared.op.Sleeper.TheVariants as sleeper
+use Rattle.executor_model.specs.declared.op.Sleeping.{Sleeping}
+use Rattle.executor_model.specs.declared.op.Source.{Source}
+use Rattle.executor_model.specs.declared.op.Source.TheVariants.{Common, Own}
+use Rattle.executor_model.specs.declared.op.Steal.{Steal}
+use Rattle.executor_model.specs.declared.op.StealOp.{StealOp}
+use Rattle.executor_model.specs.declared.op.StealOp.TheVariants as steal_op
+use Rattle.executor_model.specs.declared.op.Then.{Then}
+use Rattle.executor_model.specs.declared.op.Then.TheVariants as then
+use Rattle.executor_model.specs.declared.op.TickOp.{TickOp}
+use Rattle.executor_model.specs.declared.op.TickOp.TheVariants as tick_op
+use Rattle.executor_model.specs.declared.op.UserOp.TheVariants as user_op
+use Rattle.executor_model.specs.declared.op.Waker.{Waker}
+use Rattle.executor_model.specs.declared.op.Waker.TheVariants.{Task, Outside}
+use Rattle.executor_model.specs.declared.step.Hint.{Hint}
+use Rattle.executor_model.specs.declared.step.UserEnd.{UserEnd}
+use Rattle.executor_model.specs.declared.step.UserEnd.TheVariants as end
+use Rattle.executor_model.specs.ActsOfRuns as runs
+use Rattle.executor_model.specs.Doing.{act, list_act, run_act, search_by_who, steal_act, tick_act}
+use Rattle.executor_model.specs.Rows.{running_of}
+use Rattle.executor_model.specs.Steps.{accepts, react}
+use Rattle.executor_model.specs.Weights.{same, weigh, weigh_all}
+use Rattle.executor_model.specs.World.{World, Stage, New, Listed, Ended, Done, log, own_of, place_of, put_own, without}
+use Rattle.executor_model.proofs.Lift.{no_hint}
+use Rattle.executor_model.proofs.Lists.{same_is, same_cases, weigh-append}
+use Rattle.executor_model.proofs.OwnRooms.{Shorter, grown, made-length, of_hull, same-own, shorter-and, shorter-first}
+use Rattle.executor_model.proofs.RunsAside.{Hull, apart-act, hull, is_run, runs_of, unseen}
+use Rattle.executor_model.proofs.RunsMoving.{Weighs, by_then, hull-common, hull-found, hull-length, hull-more, hull-search}
+use Rattle.executor_model.proofs.RunsMoving.{hull-stolen, hull-tick, is_search, lying-blind, walk-by, weighs-found}
+use Rattle.executor_model.proofs.RunsMoving.{weighs-stolen}
+use Rattle.executor_model.proofs.SleepersNext.{Blind, search-blind}
 use Rattle.runs_laws.specs.Costs.{left_by, registers_of}
 
 pub record Beside (w : World) (o : Op) (d : Done) : Type 0 where

@@ -6,34 +6,34 @@ use Rattle.std.proofs.Math.Nat.{add-mul}
 use Rattle.std.proofs.lemmas.Bool.Decides.{nat_tests}
 use Rattle.std.proofs.lemmas.Nat.{mul-le}
 use Rattle.std.specs.Prelude.{Option, Some, None, reverse}
-use Rattle.runs_model.specs.declared.event.Answer.TheVariants as answer
-use Rattle.runs_model.specs.declared.event.Event.TheVariants as event
-use Rattle.runs_model.specs.declared.op.Op.{Op}
-use Rattle.runs_model.specs.declared.op.Op.TheVariants as op
-use Rattle.runs_model.specs.declared.op.UserOp.TheVariants as user_op
+use Rattle.executor_model.specs.declared.event.Answer.TheVariants as answer
+use Rattle.executor_model.specs.declared.event.Event.TheVariants as event
+use Rattle.executor_model.specs.declared.op.Op.{Op}
+use Rattle.executor_model.specs.declared.op.Op.TheVariants as op
+use Rattle.executor_model.specs.declared.op.UserOp.TheVariants as user_op
 use Rattle.task_moves.specs.declared.moves.owed.Move.TheVariants as move
 use Rattle.task_moves.specs.Moves.{is_over}
-use Rattle.runs_model.specs.declared.step.Hint.{Hint}
-use Rattle.runs_model.specs.declared.step.Step.{Step}
-use Rattle.runs_model.specs.declared.step.Step.TheVariants.{Begin, Go, Answer}
-use Rattle.runs_model.specs.declared.step.StepError.{StepError}
-use Rattle.runs_model.specs.declared.step.StepError.TheVariants.{NoSuch, WrongAnswer}
-use Rattle.runs_model.specs.declared.step.UserEnd.{UserEnd}
-use Rattle.runs_model.specs.declared.step.UserEnd.TheVariants as end
-use Rattle.runs_model.specs.World.{World, Done, task}
-use Rattle.runs_model.specs.Doing.{act}
-use Rattle.runs_model.specs.Weights.{weigh, weigh_all}
-use Rattle.runs_model.specs.Rows.{closing_of, running_of, settling_of}
-use Rattle.runs_model.specs.Good.{Good, Needs}
-use Rattle.runs_model.specs.OwnQueues.{IsUsedOnce}
-use Rattle.runs_model.specs.Runs.{run_all}
-use Rattle.runs_model.specs.Steps.{Machine, stack, top, below_top, waits, go_refusal, answer_refusal}
-use Rattle.runs_model.specs.Steps.{accepts, unless, refusal, react, end_of, settled_by, gone_on}
-use Rattle.runs_model.specs.Steps.{with_part, after, step_by, step, run, start}
-use Rattle.runs_model.proofs.Lists.{same_is, weigh_all-push, weigh_all-set, weigh-append}
-use Rattle.runs_model.proofs.Needing.{needs}
-use Rattle.runs_model.proofs.Lift.{split, topped}
-use Rattle.runs_model.proofs.RunsAside.{apart-act, is_run, unseen}
+use Rattle.executor_model.specs.declared.step.Hint.{Hint}
+use Rattle.executor_model.specs.declared.step.Step.{Step}
+use Rattle.executor_model.specs.declared.step.Step.TheVariants.{Begin, Go, Answer}
+use Rattle.executor_model.specs.declared.step.StepError.{StepError}
+use Rattle.executor_model.specs.declared.step.StepError.TheVariants.{NoSuch, WrongAnswer}
+use Rattle.executor_model.specs.declared.step.UserEnd.{UserEnd}
+use Rattle.executor_model.specs.declared.step.UserEnd.TheVariants as end
+use Rattle.executor_model.specs.World.{World, Done, task}
+use Rattle.executor_model.specs.Doing.{act}
+use Rattle.executor_model.specs.Weights.{weigh, weigh_all}
+use Rattle.executor_model.specs.Rows.{closing_of, running_of, settling_of}
+use Rattle.executor_model.specs.Good.{Good, Needs}
+use Rattle.executor_model.specs.OwnQueues.{IsUsedOnce}
+use Rattle.executor_model.specs.Runs.{run_all}
+use Rattle.executor_model.specs.Steps.{Machine, stack, top, below_top, waits, go_refusal, answer_refusal}
+use Rattle.executor_model.specs.Steps.{accepts, unless, refusal, react, end_of, settled_by, gone_on}
+use Rattle.executor_model.specs.Steps.{with_part, after, step_by, step, run, start}
+use Rattle.executor_model.proofs.Lists.{same_is, weigh_all-push, weigh_all-set, weigh-append}
+use Rattle.executor_model.proofs.Needing.{needs}
+use Rattle.executor_model.proofs.Lift.{split, topped}
+use Rattle.executor_model.proofs.RunsAside.{apart-act, is_run, unseen}
 use Rattle.runs_laws.specs.Costs.{left_by, registers_of, steps_of, walk_of}
 use Rattle.runs_laws.specs.Remaining.{steps_kept, remaining, is_onward, are_onward, LowersRemaining, EachStepLowers}
 use Rattle.runs_laws.specs.Remaining.{EndsWithin, EachListEnds, queues_of, steps_left}

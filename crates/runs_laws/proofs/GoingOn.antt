@@ -3,27 +3,27 @@ use Rattle.std.proofs.Common.{◌≡◌, ◌∙◌, ℕ, zero, suc, ◌<◌, ◌
 use Rattle.std.proofs.Common.{cond, not, ltb, refl, sym, ap, subst, ⊎_elim, arith}
 use Rattle.std.proofs.lemmas.Bool.Decides.{nat_tests}
 use Rattle.std.specs.Prelude.{Option, Some, None}
-use Rattle.runs_model.specs.declared.event.Answer.TheVariants as answer
-use Rattle.runs_model.specs.declared.op.ListOp.TheVariants as list_op
-use Rattle.runs_model.specs.declared.op.Op.{Op}
-use Rattle.runs_model.specs.declared.op.Op.TheVariants as op
-use Rattle.runs_model.specs.declared.op.UserOp.TheVariants as user_op
-use Rattle.runs_model.specs.declared.step.Hint.{Hint}
-use Rattle.runs_model.specs.declared.step.Step.{Step}
-use Rattle.runs_model.specs.declared.step.Step.TheVariants.{Go}
-use Rattle.runs_model.specs.declared.step.StepError.{StepError}
-use Rattle.runs_model.specs.declared.step.StepError.TheVariants.{NoSuch, Waits, WrongAnswer}
-use Rattle.runs_model.specs.declared.step.UserEnd.{UserEnd}
-use Rattle.runs_model.specs.declared.step.UserEnd.TheVariants as end
-use Rattle.runs_model.specs.OwnQueues.{LockAgrees, reads_of, writes_of}
-use Rattle.runs_model.specs.Steps.{Machine, accepts, answer_refusal, below_top, go_refusal, is_locked_out, refusal, run}
-use Rattle.runs_model.specs.Steps.{stack, start, top, unless, waits}
-use Rattle.runs_model.specs.Weights.{weigh, weigh_all}
-use Rattle.runs_model.specs.World.{Lock}
-use Rattle.runs_model.proofs.Lift.{topped}
-use Rattle.runs_model.proofs.Lists.{weigh-append, weigh_all-below}
-use Rattle.runs_model.proofs.OwnLocks.{lock-agrees}
-use Rattle.runs_model.proofs.Spawning.{in-range}
+use Rattle.executor_model.specs.declared.event.Answer.TheVariants as answer
+use Rattle.executor_model.specs.declared.op.ListOp.TheVariants as list_op
+use Rattle.executor_model.specs.declared.op.Op.{Op}
+use Rattle.executor_model.specs.declared.op.Op.TheVariants as op
+use Rattle.executor_model.specs.declared.op.UserOp.TheVariants as user_op
+use Rattle.executor_model.specs.declared.step.Hint.{Hint}
+use Rattle.executor_model.specs.declared.step.Step.{Step}
+use Rattle.executor_model.specs.declared.step.Step.TheVariants.{Go}
+use Rattle.executor_model.specs.declared.step.StepError.{StepError}
+use Rattle.executor_model.specs.declared.step.StepError.TheVariants.{NoSuch, Waits, WrongAnswer}
+use Rattle.executor_model.specs.declared.step.UserEnd.{UserEnd}
+use Rattle.executor_model.specs.declared.step.UserEnd.TheVariants as end
+use Rattle.executor_model.specs.OwnQueues.{LockAgrees, reads_of, writes_of}
+use Rattle.executor_model.specs.Steps.{Machine, accepts, answer_refusal, below_top, go_refusal, is_locked_out, refusal, run}
+use Rattle.executor_model.specs.Steps.{stack, start, top, unless, waits}
+use Rattle.executor_model.specs.Weights.{weigh, weigh_all}
+use Rattle.executor_model.specs.World.{Lock}
+use Rattle.executor_model.proofs.Lift.{topped}
+use Rattle.executor_model.proofs.Lists.{weigh-append, weigh_all-below}
+use Rattle.executor_model.proofs.OwnLocks.{lock-agrees}
+use Rattle.executor_model.proofs.Spawning.{in-range}
 use Rattle.runs_laws.specs.GoingOn.{GoesOn, HolderGoesOn, IsTaken, held_of}
 use Rattle.runs_laws.proofs.Holding.{has-top, held-on-top, weigh_below}
 use Rattle.runs_laws.proofs.Reached.{Reached}

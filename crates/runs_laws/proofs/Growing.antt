@@ -8,55 +8,55 @@ use Rattle.std.specs.Prelude.{Option, Some, None, reverse}
 use Rattle.task_moves.specs.declared.moves.owed.Answer.{Answer}
 use Rattle.task_moves.specs.declared.moves.owed.Moved.{Moved}
 use Rattle.task_moves.specs.Moves as moves
-use Rattle.runs_model.specs.declared.call.Call.{Call}
-use Rattle.runs_model.specs.declared.call.Call.TheVariants as call
-use Rattle.runs_model.specs.declared.event.Answer.TheVariants as answer
-use Rattle.runs_model.specs.declared.event.Event.{Event}
-use Rattle.runs_model.specs.declared.event.Event.TheVariants as event
-use Rattle.runs_model.specs.declared.op.Hold.{Hold}
-use Rattle.runs_model.specs.declared.op.Op.{Op}
-use Rattle.runs_model.specs.declared.op.Op.TheVariants as op
-use Rattle.runs_model.specs.declared.op.ClosingOp.TheVariants as closing_op
-use Rattle.runs_model.specs.declared.op.HandleOp.TheVariants as handle_op
-use Rattle.runs_model.specs.declared.op.Polled.{Polled}
-use Rattle.runs_model.specs.declared.op.Polled.TheVariants as of
-use Rattle.runs_model.specs.declared.op.RunOp.{RunOp}
-use Rattle.runs_model.specs.declared.op.RunOp.TheVariants as run_op
-use Rattle.runs_model.specs.declared.op.RunPoll.{RunPoll}
-use Rattle.runs_model.specs.declared.op.Sleeping.{Sleeping}
-use Rattle.runs_model.specs.declared.op.Steal.{Steal}
-use Rattle.runs_model.specs.declared.op.StealOp.{StealOp}
-use Rattle.runs_model.specs.declared.op.StealOp.TheVariants as steal_op
-use Rattle.runs_model.specs.declared.op.SleeperOp.{SleeperOp}
-use Rattle.runs_model.specs.declared.op.SleeperOp.TheVariants as sleeper_op
+use Rattle.executor_model.specs.declared.call.Call.{Call}
+use Rattle.executor_model.specs.declared.call.Call.TheVariants as call
+use Rattle.executor_model.specs.declared.event.Answer.TheVariants as answer
+use Rattle.executor_model.specs.declared.event.Event.{Event}
+use Rattle.executor_model.specs.declared.event.Event.TheVariants as event
+use Rattle.executor_model.specs.declared.op.Hold.{Hold}
+use Rattle.executor_model.specs.declared.op.Op.{Op}
+use Rattle.executor_model.specs.declared.op.Op.TheVariants as op
+use Rattle.executor_model.specs.declared.op.ClosingOp.TheVariants as closing_op
+use Rattle.executor_model.specs.declared.op.HandleOp.TheVariants as handle_op
+use Rattle.executor_model.specs.declared.op.Polled.{Polled}
+use Rattle.executor_model.specs.declared.op.Polled.TheVariants as of
+use Rattle.executor_model.specs.declared.op.RunOp.{RunOp}
+use Rattle.executor_model.specs.declared.op.RunOp.TheVariants as run_op
+use Rattle.executor_model.specs.declared.op.RunPoll.{RunPoll}
+use Rattle.executor_model.specs.declared.op.Sleeping.{Sleeping}
+use Rattle.executor_model.specs.declared.op.Steal.{Steal}
+use Rattle.executor_model.specs.declared.op.StealOp.{StealOp}
+use Rattle.executor_model.specs.declared.op.StealOp.TheVariants as steal_op
+use Rattle.executor_model.specs.declared.op.SleeperOp.{SleeperOp}
+use Rattle.executor_model.specs.declared.op.SleeperOp.TheVariants as sleeper_op
 use Rattle.task_moves.specs.declared.moves.owed.Move.TheVariants as move
-use Rattle.runs_model.specs.declared.op.QueueOp.TheVariants as queue_op
-use Rattle.runs_model.specs.declared.op.TableOp.TheVariants as table_op
-use Rattle.runs_model.specs.declared.op.UserOp.TheVariants as user_op
-use Rattle.runs_model.specs.declared.op.WakerOp.TheVariants as waker_op
-use Rattle.runs_model.specs.declared.op.Waker.{Waker}
-use Rattle.runs_model.specs.declared.op.Waker.TheVariants.{Task, Outside}
-use Rattle.runs_model.specs.declared.step.Hint.{Hint}
-use Rattle.runs_model.specs.declared.step.Step.{Step}
-use Rattle.runs_model.specs.declared.step.Step.TheVariants.{Begin, Go, Answer as Answers}
-use Rattle.runs_model.specs.declared.step.StepError.{StepError}
-use Rattle.runs_model.specs.declared.step.UserEnd.{UserEnd}
-use Rattle.runs_model.specs.declared.step.UserEnd.TheVariants as end
-use Rattle.runs_model.specs.Trace.{Trace, has}
-use Rattle.runs_model.specs.World.{World, Done, log, log_if, task, put}
-use Rattle.runs_model.specs.Acts.{append_by, take_by, enter_by, leave_by, copy_by, look_by}
-use Rattle.runs_model.specs.Acts.{look_again_by, copy_awaiter_by, register_by, end_register_by}
-use Rattle.runs_model.specs.Acts.{notify_by, call_waker, drop_next_by, wake, wake_next_by, drain_by}
-use Rattle.runs_model.specs.ActsOfSleepers.{exchange_by, hand_out_by, polled_as}
-use Rattle.runs_model.specs.ActsOfRuns.{call_by_reference, kept_by, steal_put_by, wake_own}
-use Rattle.runs_model.specs.Doing.{act, run_act, sleeper_act, steal_act}
-use Rattle.runs_model.specs.Steps.{Machine, stack, top, below_top, kept, future_of, mine, refusal, begun, with_future}
-use Rattle.runs_model.specs.Steps.{react, end_of, settled_by, onto, gone_on, after, step_by, step, stepped}
+use Rattle.executor_model.specs.declared.op.QueueOp.TheVariants as queue_op
+use Rattle.executor_model.specs.declared.op.TableOp.TheVariants as table_op
+use Rattle.executor_model.specs.declared.op.UserOp.TheVariants as user_op
+use Rattle.executor_model.specs.declared.op.WakerOp.TheVariants as waker_op
+use Rattle.executor_model.specs.declared.op.Waker.{Waker}
+use Rattle.executor_model.specs.declared.op.Waker.TheVariants.{Task, Outside}
+use Rattle.executor_model.specs.declared.step.Hint.{Hint}
+use Rattle.executor_model.specs.declared.step.Step.{Step}
+use Rattle.executor_model.specs.declared.step.Step.TheVariants.{Begin, Go, Answer as Answers}
+use Rattle.executor_model.specs.declared.step.StepError.{StepError}
+use Rattle.executor_model.specs.declared.step.UserEnd.{UserEnd}
+use Rattle.executor_model.specs.declared.step.UserEnd.TheVariants as end
+use Rattle.executor_model.specs.Trace.{Trace, has}
+use Rattle.executor_model.specs.World.{World, Done, log, log_if, task, put}
+use Rattle.executor_model.specs.Acts.{append_by, take_by, enter_by, leave_by, copy_by, look_by}
+use Rattle.executor_model.specs.Acts.{look_again_by, copy_awaiter_by, register_by, end_register_by}
+use Rattle.executor_model.specs.Acts.{notify_by, call_waker, drop_next_by, wake, wake_next_by, drain_by}
+use Rattle.executor_model.specs.ActsOfSleepers.{exchange_by, hand_out_by, polled_as}
+use Rattle.executor_model.specs.ActsOfRuns.{call_by_reference, kept_by, steal_put_by, wake_own}
+use Rattle.executor_model.specs.Doing.{act, run_act, sleeper_act, steal_act}
+use Rattle.executor_model.specs.Steps.{Machine, stack, top, below_top, kept, future_of, mine, refusal, begun, with_future}
+use Rattle.executor_model.specs.Steps.{react, end_of, settled_by, onto, gone_on, after, step_by, step, stepped}
 use Rattle.runs_laws.specs.Remaining.{is_onward}
 use Rattle.runs_laws.specs.Continued.{IsContinued}
 use Rattle.runs_laws.specs.AtOnce.{doer, is_by}
-use Rattle.runs_model.proofs.RunsMoves.{moves-length, moves-list, moves-look, moves-common, moves-make_room}
-use Rattle.runs_model.proofs.RunsMoves.{moves-own_length, moves-reschedule, moves-return_room, moves-take, same-stolen}
+use Rattle.executor_model.proofs.RunsMoves.{moves-length, moves-list, moves-look, moves-common, moves-make_room}
+use Rattle.executor_model.proofs.RunsMoves.{moves-own_length, moves-reschedule, moves-return_room, moves-take, same-stolen}
 use Rattle.runs_laws.proofs.TickWorlds.{tick-trace}
 
 abbrev pub begins_one : Event → Bool

@@ -3,57 +3,57 @@ use Rattle.std.proofs.Common.{◌≡◌, ◌∙◌, ℕ, zero, suc, ◌+◌, ◌
 use Rattle.std.proofs.Common.{get_or, take, Bool, true, false, ltb, refl, sym, ap, subst, arith}
 use Rattle.std.proofs.lemmas.List.{append_assoc, reverse-append}
 use Rattle.std.specs.Prelude.{Option, Some, None, reverse, slice_get}
-use Rattle.runs_model.specs.declared.call.Call.{Call}
-use Rattle.runs_model.specs.declared.call.Reply.{Reply}
-use Rattle.runs_model.specs.declared.call.Reply.TheVariants as reply
-use Rattle.runs_model.specs.declared.event.Event.TheVariants as event
-use Rattle.runs_model.specs.declared.op.Hold.{Hold}
-use Rattle.runs_model.specs.declared.op.Hold.TheVariants as hold
-use Rattle.runs_model.specs.declared.op.ListOp.{ListOp}
-use Rattle.runs_model.specs.declared.op.ListOp.TheVariants as list_op
-use Rattle.runs_model.specs.declared.op.Op.{Op}
-use Rattle.runs_model.specs.declared.op.Op.TheVariants as op
-use Rattle.runs_model.specs.declared.op.Polled.TheVariants as of
-use Rattle.runs_model.specs.declared.op.RunOp.{RunOp}
-use Rattle.runs_model.specs.declared.op.RunOp.TheVariants as run_op
-use Rattle.runs_model.specs.declared.op.RunPoll.{RunPoll}
-use Rattle.runs_model.specs.declared.op.Section.TheVariants as section
-use Rattle.runs_model.specs.declared.op.Sleeper.{Sleeper}
-use Rattle.runs_model.specs.declared.op.Sleeper.TheVariants as sleeper
-use Rattle.runs_model.specs.declared.op.Sleeping.{Sleeping}
-use Rattle.runs_model.specs.declared.op.Steal.{Steal}
-use Rattle.runs_model.specs.declared.op.StealOp.{StealOp}
-use Rattle.runs_model.specs.declared.op.StealOp.TheVariants as steal_op
-use Rattle.runs_model.specs.declared.op.Then.{Then}
-use Rattle.runs_model.specs.declared.op.Then.TheVariants as then
-use Rattle.runs_model.specs.declared.op.TickOp.{TickOp}
-use Rattle.runs_model.specs.declared.op.TickOp.TheVariants as tick_op
-use Rattle.runs_model.specs.declared.op.UserOp.TheVariants as user_op
-use Rattle.runs_model.specs.declared.op.Waker.{Waker}
-use Rattle.runs_model.specs.declared.step.Hint.{Hint}
-use Rattle.runs_model.specs.declared.step.Step.{Step}
-use Rattle.runs_model.specs.declared.step.StepError.{StepError}
-use Rattle.runs_model.specs.declared.step.StepError.TheVariants.{Busy}
-use Rattle.runs_model.specs.declared.step.UserEnd.{UserEnd}
-use Rattle.runs_model.specs.ActsOfRuns as runs
-use Rattle.runs_model.specs.Doing.{act, list_act, run_act, search_by_who, steal_act, tick_act}
-use Rattle.runs_model.specs.Good.{Good}
-use Rattle.runs_model.specs.OwnQueues.{filling_of, reads_of, writes_of}
-use Rattle.runs_model.specs.Steps.{Machine, accepts, begun, below_top, is_free, mine, react, run, stack, start, top}
-use Rattle.runs_model.specs.Steps.{unless, waits}
-use Rattle.runs_model.specs.Weights.{weigh, weigh_all}
-use Rattle.runs_model.specs.World.{World, Done, done, log, place_of, put_own}
-use Rattle.runs_model.proofs.Lift.{good-start, split, topped, unsettled, weigh_all-idle}
-use Rattle.runs_model.proofs.Lists.{weigh-append, weigh-reverse}
-use Rattle.runs_model.proofs.OwnCounts.{counts-begun, counts-react, counts-reads, counts-writes}
-use Rattle.runs_model.proofs.OwnRooms.{Roomy, roomy-ends, roomy-moves}
-use Rattle.runs_model.proofs.RunsAside.{apart-act, is_run, runs_of, unseen}
-use Rattle.runs_model.proofs.RunsMoving.{Weighs, is_search, lying-blind, walk-by, weighs-found}
-use Rattle.runs_model.proofs.RunsMoving.{weighs-stolen}
-use Rattle.runs_model.proofs.SleepersNext.{Blind, search-blind}
-use Rattle.runs_model.proofs.Spawning.{top-last}
-use Rattle.runs_model.proofs.UsingSteps.{AllUsed, used-ends, used-moves, used-start}
-use Rattle.runs_model.proofs.Ways.{Way, acted, reacted, called, along}
+use Rattle.executor_model.specs.declared.call.Call.{Call}
+use Rattle.executor_model.specs.declared.call.Reply.{Reply}
+use Rattle.executor_model.specs.declared.call.Reply.TheVariants as reply
+use Rattle.executor_model.specs.declared.event.Event.TheVariants as event
+use Rattle.executor_model.specs.declared.op.Hold.{Hold}
+use Rattle.executor_model.specs.declared.op.Hold.TheVariants as hold
+use Rattle.executor_model.specs.declared.op.ListOp.{ListOp}
+use Rattle.executor_model.specs.declared.op.ListOp.TheVariants as list_op
+use Rattle.executor_model.specs.declared.op.Op.{Op}
+use Rattle.executor_model.specs.declared.op.Op.TheVariants as op
+use Rattle.executor_model.specs.declared.op.Polled.TheVariants as of
+use Rattle.executor_model.specs.declared.op.RunOp.{RunOp}
+use Rattle.executor_model.specs.declared.op.RunOp.TheVariants as run_op
+use Rattle.executor_model.specs.declared.op.RunPoll.{RunPoll}
+use Rattle.executor_model.specs.declared.op.Section.TheVariants as section
+use Rattle.executor_model.specs.declared.op.Sleeper.{Sleeper}
+use Rattle.executor_model.specs.declared.op.Sleeper.TheVariants as sleeper
+use Rattle.executor_model.specs.declared.op.Sleeping.{Sleeping}
+use Rattle.executor_model.specs.declared.op.Steal.{Steal}
+use Rattle.executor_model.specs.declared.op.StealOp.{StealOp}
+use Rattle.executor_model.specs.declared.op.StealOp.TheVariants as steal_op
+use Rattle.executor_model.specs.declared.op.Then.{Then}
+use Rattle.executor_model.specs.declared.op.Then.TheVariants as then
+use Rattle.executor_model.specs.declared.op.TickOp.{TickOp}
+use Rattle.executor_model.specs.declared.op.TickOp.TheVariants as tick_op
+use Rattle.executor_model.specs.declared.op.UserOp.TheVariants as user_op
+use Rattle.executor_model.specs.declared.op.Waker.{Waker}
+use Rattle.executor_model.specs.declared.step.Hint.{Hint}
+use Rattle.executor_model.specs.declared.step.Step.{Step}
+use Rattle.executor_model.specs.declared.step.StepError.{StepError}
+use Rattle.executor_model.specs.declared.step.StepError.TheVariants.{Busy}
+use Rattle.executor_model.specs.declared.step.UserEnd.{UserEnd}
+use Rattle.executor_model.specs.ActsOfRuns as runs
+use Rattle.executor_model.specs.Doing.{act, list_act, run_act, search_by_who, steal_act, tick_act}
+use Rattle.executor_model.specs.Good.{Good}
+use Rattle.executor_model.specs.OwnQueues.{filling_of, reads_of, writes_of}
+use Rattle.executor_model.specs.Steps.{Machine, accepts, begun, below_top, is_free, mine, react, run, stack, start, top}
+use Rattle.executor_model.specs.Steps.{unless, waits}
+use Rattle.executor_model.specs.Weights.{weigh, weigh_all}
+use Rattle.executor_model.specs.World.{World, Done, done, log, place_of, put_own}
+use Rattle.executor_model.proofs.Lift.{good-start, split, topped, unsettled, weigh_all-idle}
+use Rattle.executor_model.proofs.Lists.{weigh-append, weigh-reverse}
+use Rattle.executor_model.proofs.OwnCounts.{counts-begun, counts-react, counts-reads, counts-writes}
+use Rattle.executor_model.proofs.OwnRooms.{Roomy, roomy-ends, roomy-moves}
+use Rattle.executor_model.proofs.RunsAside.{apart-act, is_run, runs_of, unseen}
+use Rattle.executor_model.proofs.RunsMoving.{Weighs, is_search, lying-blind, walk-by, weighs-found}
+use Rattle.executor_model.proofs.RunsMoving.{weighs-stolen}
+use Rattle.executor_model.proofs.SleepersNext.{Blind, search-blind}
+use Rattle.executor_model.proofs.Spawning.{top-last}
+use Rattle.executor_model.proofs.UsingSteps.{AllUsed, used-ends, used-moves, used-start}
+use Rattle.executor_model.proofs.Ways.{Way, acted, reacted, called, along}
 use Rattle.runs_laws.specs.GoingOn.{held_of}
 use Rattle.runs_laws.proofs.Beside.{by_reference}
 use Rattle.runs_laws.proofs.Reached.{Reached, has-free}

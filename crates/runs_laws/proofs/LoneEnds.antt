@@ -5,24 +5,24 @@ use Rattle.std.proofs.Common.{inl, inr, arith, get_or-set_other, Ok}
 use Rattle.std.proofs.lemmas.Bool.Decides.{nat_tests}
 use Rattle.std.proofs.Math.ListN.{length-set}
 use Rattle.std.specs.Prelude.{Option, Some, None}
-use Rattle.runs_model.specs.declared.call.Call.{Call}
-use Rattle.runs_model.specs.declared.op.ListOp.TheVariants as list_op
-use Rattle.runs_model.specs.declared.op.Op.{Op}
-use Rattle.runs_model.specs.declared.op.Op.TheVariants as op
-use Rattle.runs_model.specs.declared.step.Step.{Step}
-use Rattle.runs_model.specs.declared.step.Step.TheVariants.{Begin, Go, Answer}
-use Rattle.runs_model.specs.declared.step.StepError.{StepError}
-use Rattle.runs_model.specs.declared.step.StepError.TheVariants.{NoSuch}
-use Rattle.runs_model.specs.Trace.{Trace}
-use Rattle.runs_model.specs.Quiet.{IsQuiet}
-use Rattle.runs_model.specs.Runs.{run_all}
-use Rattle.runs_model.specs.Weights.{weigh}
-use Rattle.runs_model.specs.World.{Lock}
-use Rattle.runs_model.specs.Steps.{Machine, stack, top, waits, is_locked_out, unless}
-use Rattle.runs_model.specs.Steps.{refusal, part_after, after, party_of, run, start}
-use Rattle.runs_model.proofs.Calls.{calling_of, begun_by, ended_by}
-use Rattle.runs_model.proofs.Lift.{no_hint}
-use Rattle.runs_model.proofs.Resting.{Deep, rests}
+use Rattle.executor_model.specs.declared.call.Call.{Call}
+use Rattle.executor_model.specs.declared.op.ListOp.TheVariants as list_op
+use Rattle.executor_model.specs.declared.op.Op.{Op}
+use Rattle.executor_model.specs.declared.op.Op.TheVariants as op
+use Rattle.executor_model.specs.declared.step.Step.{Step}
+use Rattle.executor_model.specs.declared.step.Step.TheVariants.{Begin, Go, Answer}
+use Rattle.executor_model.specs.declared.step.StepError.{StepError}
+use Rattle.executor_model.specs.declared.step.StepError.TheVariants.{NoSuch}
+use Rattle.executor_model.specs.Trace.{Trace}
+use Rattle.executor_model.specs.Quiet.{IsQuiet}
+use Rattle.executor_model.specs.Runs.{run_all}
+use Rattle.executor_model.specs.Weights.{weigh}
+use Rattle.executor_model.specs.World.{Lock}
+use Rattle.executor_model.specs.Steps.{Machine, stack, top, waits, is_locked_out, unless}
+use Rattle.executor_model.specs.Steps.{refusal, part_after, after, party_of, run, start}
+use Rattle.executor_model.proofs.Calls.{calling_of, begun_by, ended_by}
+use Rattle.executor_model.proofs.Lift.{no_hint}
+use Rattle.executor_model.proofs.Resting.{Deep, rests}
 use Rattle.runs_laws.specs.LoneEnds.{is_onward_of, are_onward_of, IsLoneCall, LoneCallsEnd}
 use Rattle.runs_laws.specs.GoingOn.{CanGoOn, IsTaken, held_of}
 use Rattle.runs_laws.specs.Remaining.{remaining, is_onward, are_onward}

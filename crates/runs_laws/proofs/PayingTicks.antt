@@ -2,27 +2,27 @@
 use Rattle.std.proofs.Common.{◌≡◌, ℕ, ◌≤◌, List, [], ◌∷◌, Bool, true, false, refl, ap, arith}
 use Rattle.std.specs.Prelude.{Option, Some, None, is_none}
 use Rattle.executor_parts.specs.Sleepers.{waker_at, waker_of}
-use Rattle.runs_model.specs.declared.op.Op.TheVariants as op
-use Rattle.runs_model.specs.declared.op.Sleeper.{Sleeper}
-use Rattle.runs_model.specs.declared.op.Sleeper.TheVariants as sleeper
-use Rattle.runs_model.specs.declared.op.Sleeping.{Sleeping}
-use Rattle.runs_model.specs.declared.op.TickOp.{TickOp}
-use Rattle.runs_model.specs.declared.op.TickOp.TheVariants as tick_op
-use Rattle.runs_model.specs.declared.op.Waker.{Waker}
-use Rattle.runs_model.specs.declared.op.Waker.TheVariants.{Task, Outside}
-use Rattle.runs_model.specs.declared.step.Hint.{Hint}
-use Rattle.runs_model.specs.ActsOfSleepers.{make_tick_by, search_by, copy_sleeper_by, pend_as, lie_anew_by}
-use Rattle.runs_model.specs.ActsOfSleepers.{sleeper_goes}
-use Rattle.runs_model.specs.ActsOfSleepers.{lie_listed_by, lie_again_by, lie_down_by, get_up_by, tell_if}
-use Rattle.runs_model.specs.ActsOfSleepers.{leave_sleepers_by}
-use Rattle.runs_model.specs.Acts.{is_copy_refused, waker_goes}
-use Rattle.runs_model.specs.Doing.{search_by_who, tick_act}
-use Rattle.runs_model.specs.Good.{IsKnownWaker, TickNeeds}
-use Rattle.runs_model.specs.Weights.{weigh}
-use Rattle.runs_model.specs.World.{World, Place, Up, Lies, Left, Done, place_of}
-use Rattle.runs_model.proofs.Lists.{weigh-append}
-use Rattle.runs_model.proofs.RunsMoving.{is_search, lying-blind}
-use Rattle.runs_model.proofs.SleepersNext.{Blind, search-blind}
+use Rattle.executor_model.specs.declared.op.Op.TheVariants as op
+use Rattle.executor_model.specs.declared.op.Sleeper.{Sleeper}
+use Rattle.executor_model.specs.declared.op.Sleeper.TheVariants as sleeper
+use Rattle.executor_model.specs.declared.op.Sleeping.{Sleeping}
+use Rattle.executor_model.specs.declared.op.TickOp.{TickOp}
+use Rattle.executor_model.specs.declared.op.TickOp.TheVariants as tick_op
+use Rattle.executor_model.specs.declared.op.Waker.{Waker}
+use Rattle.executor_model.specs.declared.op.Waker.TheVariants.{Task, Outside}
+use Rattle.executor_model.specs.declared.step.Hint.{Hint}
+use Rattle.executor_model.specs.ActsOfSleepers.{make_tick_by, search_by, copy_sleeper_by, pend_as, lie_anew_by}
+use Rattle.executor_model.specs.ActsOfSleepers.{sleeper_goes}
+use Rattle.executor_model.specs.ActsOfSleepers.{lie_listed_by, lie_again_by, lie_down_by, get_up_by, tell_if}
+use Rattle.executor_model.specs.ActsOfSleepers.{leave_sleepers_by}
+use Rattle.executor_model.specs.Acts.{is_copy_refused, waker_goes}
+use Rattle.executor_model.specs.Doing.{search_by_who, tick_act}
+use Rattle.executor_model.specs.Good.{IsKnownWaker, TickNeeds}
+use Rattle.executor_model.specs.Weights.{weigh}
+use Rattle.executor_model.specs.World.{World, Place, Up, Lies, Left, Done, place_of}
+use Rattle.executor_model.proofs.Lists.{weigh-append}
+use Rattle.executor_model.proofs.RunsMoving.{is_search, lying-blind}
+use Rattle.executor_model.proofs.SleepersNext.{Blind, search-blind}
 use Rattle.runs_laws.specs.Costs.{left_by, steps_of_copy, steps_of_lying, steps_of_search, walk_of}
 use Rattle.runs_laws.proofs.SpendingRuns.{CanPay, Pays, pays-own}
 use Rattle.runs_laws.proofs.SpendingRuns.Pays.{spends, walks}

@@ -5,45 +5,45 @@ use Rattle.std.proofs.Common.{inr, ⊎_elim, arith, get_or-set_same, get_or-set_
 use Rattle.std.proofs.lemmas.Bool.Decides.{nat_tests}
 use Rattle.std.proofs.lemmas.List.{append_cancel_right}
 use Rattle.std.specs.Prelude.{Option, Some, None, reverse}
-use Rattle.runs_model.specs.declared.call.Call.{Call}
-use Rattle.runs_model.specs.declared.call.Call.TheVariants as call
-use Rattle.runs_model.specs.declared.call.Reply.{Reply}
-use Rattle.runs_model.specs.declared.call.Reply.TheVariants as reply
-use Rattle.runs_model.specs.declared.event.Answer.TheVariants as answer
-use Rattle.runs_model.specs.declared.event.Event.{Event}
-use Rattle.runs_model.specs.declared.event.Event.TheVariants as event
-use Rattle.runs_model.specs.declared.op.Hold.{Hold}
-use Rattle.runs_model.specs.declared.op.Hold.TheVariants as hold
-use Rattle.runs_model.specs.declared.op.Op.{Op}
-use Rattle.runs_model.specs.declared.op.Op.TheVariants as op
+use Rattle.executor_model.specs.declared.call.Call.{Call}
+use Rattle.executor_model.specs.declared.call.Call.TheVariants as call
+use Rattle.executor_model.specs.declared.call.Reply.{Reply}
+use Rattle.executor_model.specs.declared.call.Reply.TheVariants as reply
+use Rattle.executor_model.specs.declared.event.Answer.TheVariants as answer
+use Rattle.executor_model.specs.declared.event.Event.{Event}
+use Rattle.executor_model.specs.declared.event.Event.TheVariants as event
+use Rattle.executor_model.specs.declared.op.Hold.{Hold}
+use Rattle.executor_model.specs.declared.op.Hold.TheVariants as hold
+use Rattle.executor_model.specs.declared.op.Op.{Op}
+use Rattle.executor_model.specs.declared.op.Op.TheVariants as op
 use Rattle.task_moves.specs.declared.moves.owed.Move.TheVariants as move
-use Rattle.runs_model.specs.declared.op.QueueOp.TheVariants as queue_op
-use Rattle.runs_model.specs.declared.op.RunPoll.{RunPoll}
-use Rattle.runs_model.specs.declared.op.SleeperOp.TheVariants as sleeper_op
-use Rattle.runs_model.specs.declared.op.TableOp.TheVariants as table_op
-use Rattle.runs_model.specs.declared.op.UserOp.TheVariants as user_op
-use Rattle.runs_model.specs.declared.op.Waker.{Waker}
-use Rattle.runs_model.specs.declared.step.Hint.{Hint}
-use Rattle.runs_model.specs.declared.step.Step.{Step}
-use Rattle.runs_model.specs.declared.step.StepError.{StepError}
-use Rattle.runs_model.specs.declared.step.StepError.TheVariants.{Busy}
-use Rattle.runs_model.specs.declared.step.UserEnd.{UserEnd}
-use Rattle.runs_model.specs.declared.step.UserEnd.TheVariants as end
-use Rattle.runs_model.specs.Quiet.{begins_call}
-use Rattle.runs_model.specs.Trace.{Trace}
-use Rattle.runs_model.specs.World.{World, Stage, New, Listed, Ended, Done, done, log, run_of}
-use Rattle.runs_model.specs.Acts.{take_by, emptiness}
-use Rattle.runs_model.specs.Doing.{act}
-use Rattle.runs_model.specs.Weights.{same, weigh}
-use Rattle.runs_model.specs.Good.{Good}
-use Rattle.runs_model.specs.Steps.{Machine, stack, top, is_free, waits, future_of, mine, unless}
-use Rattle.runs_model.specs.Steps.{begun, drop_run, poll_run, react, kept, with_future, run, start}
-use Rattle.runs_model.proofs.Lift.{unsettled, good-start}
-use Rattle.runs_model.proofs.Lists.{same_cases, weigh-append, weigh-reverse}
-use Rattle.runs_model.proofs.Resting.{idle-stack}
-use Rattle.runs_model.proofs.Spawning.{top-last}
-use Rattle.runs_model.proofs.Ways.{Way, along}
-use Rattle.runs_model.proofs.Ways.Way.{acted, reacted, called}
+use Rattle.executor_model.specs.declared.op.QueueOp.TheVariants as queue_op
+use Rattle.executor_model.specs.declared.op.RunPoll.{RunPoll}
+use Rattle.executor_model.specs.declared.op.SleeperOp.TheVariants as sleeper_op
+use Rattle.executor_model.specs.declared.op.TableOp.TheVariants as table_op
+use Rattle.executor_model.specs.declared.op.UserOp.TheVariants as user_op
+use Rattle.executor_model.specs.declared.op.Waker.{Waker}
+use Rattle.executor_model.specs.declared.step.Hint.{Hint}
+use Rattle.executor_model.specs.declared.step.Step.{Step}
+use Rattle.executor_model.specs.declared.step.StepError.{StepError}
+use Rattle.executor_model.specs.declared.step.StepError.TheVariants.{Busy}
+use Rattle.executor_model.specs.declared.step.UserEnd.{UserEnd}
+use Rattle.executor_model.specs.declared.step.UserEnd.TheVariants as end
+use Rattle.executor_model.specs.Quiet.{begins_call}
+use Rattle.executor_model.specs.Trace.{Trace}
+use Rattle.executor_model.specs.World.{World, Stage, New, Listed, Ended, Done, done, log, run_of}
+use Rattle.executor_model.specs.Acts.{take_by, emptiness}
+use Rattle.executor_model.specs.Doing.{act}
+use Rattle.executor_model.specs.Weights.{same, weigh}
+use Rattle.executor_model.specs.Good.{Good}
+use Rattle.executor_model.specs.Steps.{Machine, stack, top, is_free, waits, future_of, mine, unless}
+use Rattle.executor_model.specs.Steps.{begun, drop_run, poll_run, react, kept, with_future, run, start}
+use Rattle.executor_model.proofs.Lift.{unsettled, good-start}
+use Rattle.executor_model.proofs.Lists.{same_cases, weigh-append, weigh-reverse}
+use Rattle.executor_model.proofs.Resting.{idle-stack}
+use Rattle.executor_model.proofs.Spawning.{top-last}
+use Rattle.executor_model.proofs.Ways.{Way, along}
+use Rattle.executor_model.proofs.Ways.Way.{acted, reacted, called}
 use Rattle.runs_laws.specs.AtOnce.{deeds, NoComesAtOnce}
 use Rattle.runs_laws.proofs.Growing.{is_end, Grows, grows-act, grows-react, grows-begun}
 use Rattle.runs_laws.proofs.Prompting.{hasty, quick_of, is_no, told, fresh, told-append, told-grows, told-log}

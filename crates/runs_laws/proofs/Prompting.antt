@@ -14,53 +14,53 @@ use Rattle.task_moves.specs.declared.moves.owed.AwaiterDebt.TheVariants.{StoreCo
 use Rattle.task_moves.specs.declared.moves.owed.Move.TheVariants as move
 use Rattle.task_moves.specs.declared.moves.owed.Moved.{Moved}
 use Rattle.task_moves.specs.Moves as moves
-use Rattle.runs_model.specs.declared.call.Reply.{Reply}
-use Rattle.runs_model.specs.declared.call.Reply.TheVariants as reply
-use Rattle.runs_model.specs.declared.event.Event.{Event}
-use Rattle.runs_model.specs.declared.event.Event.TheVariants as event
-use Rattle.runs_model.specs.declared.op.Awaiter.{Awaiter}
-use Rattle.runs_model.specs.declared.op.Hold.{Hold}
-use Rattle.runs_model.specs.declared.op.Hold.TheVariants as hold
-use Rattle.runs_model.specs.declared.op.Op.{Op}
-use Rattle.runs_model.specs.declared.op.Op.TheVariants as op
-use Rattle.runs_model.specs.declared.op.HandleOp.TheVariants as handle_op
-use Rattle.runs_model.specs.declared.op.ListOp.{ListOp}
-use Rattle.runs_model.specs.declared.op.ListOp.TheVariants as list_op
-use Rattle.runs_model.specs.declared.op.Polled.TheVariants as of
-use Rattle.runs_model.specs.declared.op.QueueOp.TheVariants as queue_op
-use Rattle.runs_model.specs.declared.op.RunOp.{RunOp}
-use Rattle.runs_model.specs.declared.op.RunOp.TheVariants as run_op
-use Rattle.runs_model.specs.declared.op.Section.TheVariants as section
-use Rattle.runs_model.specs.declared.op.Sleeper.{Sleeper}
-use Rattle.runs_model.specs.declared.op.Sleeper.TheVariants as sleeper
-use Rattle.runs_model.specs.declared.op.Sleeping.{Sleeping}
-use Rattle.runs_model.specs.declared.op.TableOp.TheVariants as table_op
-use Rattle.runs_model.specs.declared.op.TickOp.{TickOp}
-use Rattle.runs_model.specs.declared.op.TickOp.TheVariants as tick_op
-use Rattle.runs_model.specs.declared.op.UserOp.TheVariants as user_op
-use Rattle.runs_model.specs.declared.op.WakerOp.TheVariants as waker_op
-use Rattle.runs_model.specs.declared.op.Waker.{Waker}
-use Rattle.runs_model.specs.declared.op.Waker.TheVariants.{Task, Outside}
-use Rattle.runs_model.specs.declared.step.Hint.{Hint}
-use Rattle.runs_model.specs.Quiet.{begins_call}
-use Rattle.runs_model.specs.Trace.{Trace, has}
-use Rattle.runs_model.specs.World.{World, Place, Up, Lies, Left, log, task, awaiter_of, place_of}
-use Rattle.runs_model.specs.Carried.{awaiter_ops}
-use Rattle.runs_model.specs.Acts.{enter_by, copy_by, answered, polled, look_by, let_go, look_again_by}
-use Rattle.runs_model.specs.Acts.{copy_awaiter_by, register_by, end_register_by}
-use Rattle.runs_model.specs.ActsOfSleepers.{make_tick_by, search_by, copy_sleeper_by, pend_as, lie_anew_by}
-use Rattle.runs_model.specs.ActsOfSleepers.{sleeper_goes, lie_listed_by, lie_again_by, lie_down_by, get_up_by}
-use Rattle.runs_model.specs.ActsOfSleepers.{tell_if, leave_sleepers_by}
-use Rattle.runs_model.specs.ActsOfRuns as runs
-use Rattle.runs_model.specs.Doing.{act, list_act, run_act, search_by_who, tick_act}
-use Rattle.runs_model.specs.Weights.{weigh}
-use Rattle.runs_model.proofs.Calls.{calling_of}
-use Rattle.runs_model.proofs.CallsGroups.{calls-act}
-use Rattle.runs_model.proofs.Lists.{weigh-append}
-use Rattle.runs_model.proofs.Resting.{calling-is}
-use Rattle.runs_model.proofs.RunsNext.{BlindToSearches, common-unseen, look-unseen, own-unseen, steal-unseen}
-use Rattle.runs_model.proofs.RunsNext.{walk-unseen}
-use Rattle.runs_model.proofs.SleepersNext.{goes-unseen, tell-unseen}
+use Rattle.executor_model.specs.declared.call.Reply.{Reply}
+use Rattle.executor_model.specs.declared.call.Reply.TheVariants as reply
+use Rattle.executor_model.specs.declared.event.Event.{Event}
+use Rattle.executor_model.specs.declared.event.Event.TheVariants as event
+use Rattle.executor_model.specs.declared.op.Awaiter.{Awaiter}
+use Rattle.executor_model.specs.declared.op.Hold.{Hold}
+use Rattle.executor_model.specs.declared.op.Hold.TheVariants as hold
+use Rattle.executor_model.specs.declared.op.Op.{Op}
+use Rattle.executor_model.specs.declared.op.Op.TheVariants as op
+use Rattle.executor_model.specs.declared.op.HandleOp.TheVariants as handle_op
+use Rattle.executor_model.specs.declared.op.ListOp.{ListOp}
+use Rattle.executor_model.specs.declared.op.ListOp.TheVariants as list_op
+use Rattle.executor_model.specs.declared.op.Polled.TheVariants as of
+use Rattle.executor_model.specs.declared.op.QueueOp.TheVariants as queue_op
+use Rattle.executor_model.specs.declared.op.RunOp.{RunOp}
+use Rattle.executor_model.specs.declared.op.RunOp.TheVariants as run_op
+use Rattle.executor_model.specs.declared.op.Section.TheVariants as section
+use Rattle.executor_model.specs.declared.op.Sleeper.{Sleeper}
+use Rattle.executor_model.specs.declared.op.Sleeper.TheVariants as sleeper
+use Rattle.executor_model.specs.declared.op.Sleeping.{Sleeping}
+use Rattle.executor_model.specs.declared.op.TableOp.TheVariants as table_op
+use Rattle.executor_model.specs.declared.op.TickOp.{TickOp}
+use Rattle.executor_model.specs.declared.op.TickOp.TheVariants as tick_op
+use Rattle.executor_model.specs.declared.op.UserOp.TheVariants as user_op
+use Rattle.executor_model.specs.declared.op.WakerOp.TheVariants as waker_op
+use Rattle.executor_model.specs.declared.op.Waker.{Waker}
+use Rattle.executor_model.specs.declared.op.Waker.TheVariants.{Task, Outside}
+use Rattle.executor_model.specs.declared.step.Hint.{Hint}
+use Rattle.executor_model.specs.Quiet.{begins_call}
+use Rattle.executor_model.specs.Trace.{Trace, has}
+use Rattle.executor_model.specs.World.{World, Place, Up, Lies, Left, log, task, awaiter_of, place_of}
+use Rattle.executor_model.specs.Carried.{awaiter_ops}
+use Rattle.executor_model.specs.Acts.{enter_by, copy_by, answered, polled, look_by, let_go, look_again_by}
+use Rattle.executor_model.specs.Acts.{copy_awaiter_by, register_by, end_register_by}
+use Rattle.executor_model.specs.ActsOfSleepers.{make_tick_by, search_by, copy_sleeper_by, pend_as, lie_anew_by}
+use Rattle.executor_model.specs.ActsOfSleepers.{sleeper_goes, lie_listed_by, lie_again_by, lie_down_by, get_up_by}
+use Rattle.executor_model.specs.ActsOfSleepers.{tell_if, leave_sleepers_by}
+use Rattle.executor_model.specs.ActsOfRuns as runs
+use Rattle.executor_model.specs.Doing.{act, list_act, run_act, search_by_who, tick_act}
+use Rattle.executor_model.specs.Weights.{weigh}
+use Rattle.executor_model.proofs.Calls.{calling_of}
+use Rattle.executor_model.proofs.CallsGroups.{calls-act}
+use Rattle.executor_model.proofs.Lists.{weigh-append}
+use Rattle.executor_model.proofs.Resting.{calling-is}
+use Rattle.executor_model.proofs.RunsNext.{BlindToSearches, common-unseen, look-unseen, own-unseen, steal-unseen}
+use Rattle.executor_model.proofs.RunsNext.{walk-unseen}
+use Rattle.executor_model.proofs.SleepersNext.{goes-unseen, tell-unseen}
 use Rattle.runs_laws.specs.AtOnce.{doer, is_by, deeds}
 use Rattle.runs_laws.proofs.Growing.{ends_one, is_end, Grows, not-by}
 

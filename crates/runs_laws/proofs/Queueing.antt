@@ -7,66 +7,66 @@ use Rattle.queue_steps.specs.ClosableQueue.{ClosableQueue, most_accepted, HasRoo
 use Rattle.task_moves.specs.declared.moves.owed.Answer.{Answer}
 use Rattle.task_moves.specs.declared.moves.owed.Moved.{Moved}
 use Rattle.task_moves.specs.Moves as moves
-use Rattle.runs_model.specs.declared.call.Call.{Call}
-use Rattle.runs_model.specs.declared.call.Call.TheVariants as call
-use Rattle.runs_model.specs.declared.call.Reply.{Reply}
-use Rattle.runs_model.specs.declared.event.Answer.TheVariants as answer
-use Rattle.runs_model.specs.declared.event.Event.{Event}
-use Rattle.runs_model.specs.declared.event.Event.TheVariants as event
-use Rattle.runs_model.specs.declared.op.Hold.{Hold}
-use Rattle.runs_model.specs.declared.op.Waker.{Waker}
-use Rattle.runs_model.specs.declared.op.Waker.TheVariants.{Task, Outside}
-use Rattle.runs_model.specs.declared.op.Op.{Op}
-use Rattle.runs_model.specs.declared.op.Op.TheVariants as op
-use Rattle.runs_model.specs.declared.op.ClosingOp.TheVariants as closing_op
-use Rattle.runs_model.specs.declared.op.HandleOp.TheVariants as handle_op
-use Rattle.runs_model.specs.declared.op.Polled.{Polled}
-use Rattle.runs_model.specs.declared.op.Polled.TheVariants as of
-use Rattle.runs_model.specs.declared.op.RunOp.{RunOp}
-use Rattle.runs_model.specs.declared.op.RunOp.TheVariants as run_op
-use Rattle.runs_model.specs.declared.op.RunPoll.{RunPoll}
-use Rattle.runs_model.specs.declared.op.Sleeper.{Sleeper}
-use Rattle.runs_model.specs.declared.op.Sleeper.TheVariants as sleeper
-use Rattle.runs_model.specs.declared.op.Sleeping.{Sleeping}
-use Rattle.runs_model.specs.declared.op.Source.{Source}
-use Rattle.runs_model.specs.declared.op.Source.TheVariants.{Common, Own}
-use Rattle.runs_model.specs.declared.op.Steal.{Steal}
-use Rattle.runs_model.specs.declared.op.StealOp.{StealOp}
-use Rattle.runs_model.specs.declared.op.StealOp.TheVariants as steal_op
-use Rattle.runs_model.specs.declared.op.Then.{Then}
-use Rattle.runs_model.specs.declared.op.Then.TheVariants as then
-use Rattle.runs_model.specs.declared.op.TickOp.{TickOp}
-use Rattle.runs_model.specs.declared.op.TickOp.TheVariants as tick_op
+use Rattle.executor_model.specs.declared.call.Call.{Call}
+use Rattle.executor_model.specs.declared.call.Call.TheVariants as call
+use Rattle.executor_model.specs.declared.call.Reply.{Reply}
+use Rattle.executor_model.specs.declared.event.Answer.TheVariants as answer
+use Rattle.executor_model.specs.declared.event.Event.{Event}
+use Rattle.executor_model.specs.declared.event.Event.TheVariants as event
+use Rattle.executor_model.specs.declared.op.Hold.{Hold}
+use Rattle.executor_model.specs.declared.op.Waker.{Waker}
+use Rattle.executor_model.specs.declared.op.Waker.TheVariants.{Task, Outside}
+use Rattle.executor_model.specs.declared.op.Op.{Op}
+use Rattle.executor_model.specs.declared.op.Op.TheVariants as op
+use Rattle.executor_model.specs.declared.op.ClosingOp.TheVariants as closing_op
+use Rattle.executor_model.specs.declared.op.HandleOp.TheVariants as handle_op
+use Rattle.executor_model.specs.declared.op.Polled.{Polled}
+use Rattle.executor_model.specs.declared.op.Polled.TheVariants as of
+use Rattle.executor_model.specs.declared.op.RunOp.{RunOp}
+use Rattle.executor_model.specs.declared.op.RunOp.TheVariants as run_op
+use Rattle.executor_model.specs.declared.op.RunPoll.{RunPoll}
+use Rattle.executor_model.specs.declared.op.Sleeper.{Sleeper}
+use Rattle.executor_model.specs.declared.op.Sleeper.TheVariants as sleeper
+use Rattle.executor_model.specs.declared.op.Sleeping.{Sleeping}
+use Rattle.executor_model.specs.declared.op.Source.{Source}
+use Rattle.executor_model.specs.declared.op.Source.TheVariants.{Common, Own}
+use Rattle.executor_model.specs.declared.op.Steal.{Steal}
+use Rattle.executor_model.specs.declared.op.StealOp.{StealOp}
+use Rattle.executor_model.specs.declared.op.StealOp.TheVariants as steal_op
+use Rattle.executor_model.specs.declared.op.Then.{Then}
+use Rattle.executor_model.specs.declared.op.Then.TheVariants as then
+use Rattle.executor_model.specs.declared.op.TickOp.{TickOp}
+use Rattle.executor_model.specs.declared.op.TickOp.TheVariants as tick_op
 use Rattle.task_moves.specs.declared.moves.owed.Move.TheVariants as move
-use Rattle.runs_model.specs.declared.op.QueueOp.TheVariants as queue_op
-use Rattle.runs_model.specs.declared.op.TableOp.TheVariants as table_op
-use Rattle.runs_model.specs.declared.op.UserOp.TheVariants as user_op
-use Rattle.runs_model.specs.declared.op.WakerOp.TheVariants as waker_op
-use Rattle.runs_model.specs.declared.step.Hint.{Hint}
-use Rattle.runs_model.specs.declared.step.Step.{Step}
-use Rattle.runs_model.specs.declared.step.Step.TheVariants.{Begin, Go}
-use Rattle.runs_model.specs.declared.step.Step.TheVariants as step_is
-use Rattle.runs_model.specs.declared.step.StepError.{StepError}
-use Rattle.runs_model.specs.declared.step.StepError.TheVariants.{NoSuch}
-use Rattle.runs_model.specs.declared.step.UserEnd.{UserEnd}
-use Rattle.runs_model.specs.declared.step.UserEnd.TheVariants as end
-use Rattle.runs_model.specs.World.{World, Place, Done, log, log_if, put_own, task, put}
-use Rattle.runs_model.specs.Acts.{append_by, take_by, enter_by, leave_by, copy_by, look_by, look_again_by}
-use Rattle.runs_model.specs.Acts.{copy_awaiter_by, register_by, end_register_by, notify_by, call_waker}
-use Rattle.runs_model.specs.Acts.{drop_next_by, wake_next_by, drain_by}
-use Rattle.runs_model.specs.ActsOfSleepers.{search_by}
-use Rattle.runs_model.specs.ActsOfRuns as runs
-use Rattle.runs_model.specs.Doing.{act, run_act, search_by_who, steal_act, tick_act}
-use Rattle.runs_model.specs.Steps.{Machine, stack, top, below_top, refusal, go_refusal, unless}
-use Rattle.runs_model.specs.Steps.{begun, react, future_of, mine, kept, with_future, settled_by}
-use Rattle.runs_model.specs.Steps.{gone_on, after, step, stepped, run, start}
-use Rattle.runs_model.proofs.Lift.{topped, good}
-use Rattle.runs_model.proofs.LeavingRuns.{placed, has-place}
-use Rattle.runs_model.proofs.Entering.{finds-place}
-use Rattle.runs_model.proofs.Spawning.{in-range}
-use Rattle.runs_model.proofs.Stepping.{step-refused, step-made}
-use Rattle.runs_model.proofs.RunsQueue.{queue-list}
-use Rattle.runs_model.proofs.SleepersWorlds.{Rest, call-rest, sleeper-rest, tick-rest, searches}
+use Rattle.executor_model.specs.declared.op.QueueOp.TheVariants as queue_op
+use Rattle.executor_model.specs.declared.op.TableOp.TheVariants as table_op
+use Rattle.executor_model.specs.declared.op.UserOp.TheVariants as user_op
+use Rattle.executor_model.specs.declared.op.WakerOp.TheVariants as waker_op
+use Rattle.executor_model.specs.declared.step.Hint.{Hint}
+use Rattle.executor_model.specs.declared.step.Step.{Step}
+use Rattle.executor_model.specs.declared.step.Step.TheVariants.{Begin, Go}
+use Rattle.executor_model.specs.declared.step.Step.TheVariants as step_is
+use Rattle.executor_model.specs.declared.step.StepError.{StepError}
+use Rattle.executor_model.specs.declared.step.StepError.TheVariants.{NoSuch}
+use Rattle.executor_model.specs.declared.step.UserEnd.{UserEnd}
+use Rattle.executor_model.specs.declared.step.UserEnd.TheVariants as end
+use Rattle.executor_model.specs.World.{World, Place, Done, log, log_if, put_own, task, put}
+use Rattle.executor_model.specs.Acts.{append_by, take_by, enter_by, leave_by, copy_by, look_by, look_again_by}
+use Rattle.executor_model.specs.Acts.{copy_awaiter_by, register_by, end_register_by, notify_by, call_waker}
+use Rattle.executor_model.specs.Acts.{drop_next_by, wake_next_by, drain_by}
+use Rattle.executor_model.specs.ActsOfSleepers.{search_by}
+use Rattle.executor_model.specs.ActsOfRuns as runs
+use Rattle.executor_model.specs.Doing.{act, run_act, search_by_who, steal_act, tick_act}
+use Rattle.executor_model.specs.Steps.{Machine, stack, top, below_top, refusal, go_refusal, unless}
+use Rattle.executor_model.specs.Steps.{begun, react, future_of, mine, kept, with_future, settled_by}
+use Rattle.executor_model.specs.Steps.{gone_on, after, step, stepped, run, start}
+use Rattle.executor_model.proofs.Lift.{topped, good}
+use Rattle.executor_model.proofs.LeavingRuns.{placed, has-place}
+use Rattle.executor_model.proofs.Entering.{finds-place}
+use Rattle.executor_model.proofs.Spawning.{in-range}
+use Rattle.executor_model.proofs.Stepping.{step-refused, step-made}
+use Rattle.executor_model.proofs.RunsQueue.{queue-list}
+use Rattle.executor_model.proofs.SleepersWorlds.{Rest, call-rest, sleeper-rest, tick-rest, searches}
 use Rattle.runs_laws.specs.Queueings.{queued_by, queueings, counting, Changes, counted_after, CountsQueueings}
 use Rattle.runs_laws.specs.Queueings.Changes.{stays, appends, takes, closes}
 

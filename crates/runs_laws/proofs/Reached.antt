@@ -3,25 +3,25 @@ use Rattle.std.proofs.Common.{◌≡◌, ℕ, ◌+◌, ◌-◌, ◌<◌, ◌≤�
 use Rattle.std.proofs.Common.{ltb, cond, refl, sym, ap, ◌∙◌, subst, arith, Ok, Err, Result}
 use Rattle.std.proofs.lemmas.Bool.Decides.{nat_tests}
 use Rattle.std.specs.Prelude.{Option, Some, None}
-use Rattle.runs_model.specs.declared.op.Op.{Op}
-use Rattle.runs_model.specs.declared.op.Op.TheVariants as op
-use Rattle.runs_model.specs.declared.op.Steal.{Steal}
-use Rattle.runs_model.specs.declared.op.StealOp.TheVariants as steal_op
-use Rattle.runs_model.specs.declared.step.Step.{Step}
-use Rattle.runs_model.specs.declared.step.StepError.{StepError}
-use Rattle.runs_model.specs.Runs.{run_all}
-use Rattle.runs_model.specs.Good.{Good}
-use Rattle.runs_model.specs.ActsOfRuns.{free_places, own_places}
-use Rattle.runs_model.specs.OwnQueues.{HasOwnRoom, IsUsedOnce, filling_of}
-use Rattle.runs_model.specs.Rows.{running_of}
-use Rattle.runs_model.specs.Steps.{Machine, stack, top, refusal, after, step, stepped, run, start}
-use Rattle.runs_model.specs.Weights.{weigh_all}
-use Rattle.runs_model.specs.World.{World, own_of}
-use Rattle.runs_model.proofs.Lift.{good, split, topped}
-use Rattle.runs_model.proofs.OwnRuns.{has-own-room}
-use Rattle.runs_model.proofs.UsingSteps.{AllUsed, all-used}
-use Rattle.runs_model.proofs.Stepping.{step-refused, step-made}
-use Rattle.runs_model.proofs.Resting.{Deep, deep}
+use Rattle.executor_model.specs.declared.op.Op.{Op}
+use Rattle.executor_model.specs.declared.op.Op.TheVariants as op
+use Rattle.executor_model.specs.declared.op.Steal.{Steal}
+use Rattle.executor_model.specs.declared.op.StealOp.TheVariants as steal_op
+use Rattle.executor_model.specs.declared.step.Step.{Step}
+use Rattle.executor_model.specs.declared.step.StepError.{StepError}
+use Rattle.executor_model.specs.Runs.{run_all}
+use Rattle.executor_model.specs.Good.{Good}
+use Rattle.executor_model.specs.ActsOfRuns.{free_places, own_places}
+use Rattle.executor_model.specs.OwnQueues.{HasOwnRoom, IsUsedOnce, filling_of}
+use Rattle.executor_model.specs.Rows.{running_of}
+use Rattle.executor_model.specs.Steps.{Machine, stack, top, refusal, after, step, stepped, run, start}
+use Rattle.executor_model.specs.Weights.{weigh_all}
+use Rattle.executor_model.specs.World.{World, own_of}
+use Rattle.executor_model.proofs.Lift.{good, split, topped}
+use Rattle.executor_model.proofs.OwnRuns.{has-own-room}
+use Rattle.executor_model.proofs.UsingSteps.{AllUsed, all-used}
+use Rattle.executor_model.proofs.Stepping.{step-refused, step-made}
+use Rattle.executor_model.proofs.Resting.{Deep, deep}
 use Rattle.runs_laws.proofs.SpendingRuns.{CanPay, TakesFew}
 use Rattle.runs_laws.proofs.TakingFew.{takes-few}
 

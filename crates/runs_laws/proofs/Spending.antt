@@ -8,17 +8,17 @@ use Rattle.task_moves.specs.declared.moves.owed.Moved.{Moved}
 use Rattle.task_moves.specs.declared.moves.owed.Move.TheVariants.{Release}
 use Rattle.task_moves.specs.Moves as moves
 use Rattle.task_moves.specs.Moves.{is_over}
-use Rattle.runs_model.specs.declared.event.Event.{Event}
-use Rattle.runs_model.specs.declared.op.Awaiter.{Awaiter}
-use Rattle.runs_model.specs.World.{World, Done, log, log_if, task, put, put_awaiter}
-use Rattle.runs_model.specs.World.{awaiter_of, blank, without, among}
-use Rattle.runs_model.specs.Carried.{carried, owed_ops, schedule_ops, drop_ops, future_ops}
-use Rattle.runs_model.specs.Carried.{output_ops, awaiter_ops, next_ops}
-use Rattle.runs_model.specs.Weights.{weigh}
+use Rattle.executor_model.specs.declared.event.Event.{Event}
+use Rattle.executor_model.specs.declared.op.Awaiter.{Awaiter}
+use Rattle.executor_model.specs.World.{World, Done, log, log_if, task, put, put_awaiter}
+use Rattle.executor_model.specs.World.{awaiter_of, blank, without, among}
+use Rattle.executor_model.specs.Carried.{carried, owed_ops, schedule_ops, drop_ops, future_ops}
+use Rattle.executor_model.specs.Carried.{output_ops, awaiter_ops, next_ops}
+use Rattle.executor_model.specs.Weights.{weigh}
 use Rattle.runs_laws.specs.Costs.{steps_of}
 use Rattle.runs_laws.specs.Remaining.{stored, appends_by, steps_of_task, steps_of_tasks, steps_of_runs, notified_of}
 use Rattle.runs_laws.specs.Remaining.{ups, steps_kept}
-use Rattle.runs_model.proofs.Lists.{weigh-append}
+use Rattle.executor_model.proofs.Lists.{weigh-append}
 
 -- what is left after d, and one step, came out of what was left before and c
 abbrev pub Spends : World → ℕ → Done → Type 0

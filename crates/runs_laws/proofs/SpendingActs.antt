@@ -10,30 +10,30 @@ use Rattle.task_moves.specs.declared.moves.owed.Answer.{Answer}
 use Rattle.task_moves.specs.declared.moves.owed.Answer.TheVariants.{Pending, Closed, Output}
 use Rattle.task_moves.specs.Moves as moves
 use Rattle.task_moves.specs.Moves.{is_over}
-use Rattle.runs_model.specs.declared.event.Event.TheVariants as event
-use Rattle.runs_model.specs.declared.op.Awaiter.{Awaiter}
-use Rattle.runs_model.specs.declared.op.Polled.{Polled}
-use Rattle.runs_model.specs.declared.op.Hold.{Hold}
-use Rattle.runs_model.specs.declared.op.Hold.TheVariants as hold
-use Rattle.runs_model.specs.declared.op.Waker.{Waker}
-use Rattle.runs_model.specs.declared.op.Waker.TheVariants.{Task, Outside}
-use Rattle.runs_model.specs.declared.op.Op.{Op}
-use Rattle.runs_model.specs.declared.op.Op.TheVariants as op
-use Rattle.runs_model.specs.declared.op.HandleOp.TheVariants as handle_op
-use Rattle.runs_model.specs.declared.step.Hint.{Hint}
-use Rattle.runs_model.specs.World.{World, Done, done, log, task, put, awaiter_of, without, among}
-use Rattle.runs_model.specs.Carried.{awaiter_ops}
-use Rattle.runs_model.specs.Acts.{append_by, take_by, enter_by, entered, leave_by, copy_by, polled}
-use Rattle.runs_model.specs.Acts.{reply_of, is_output, answered, look_by, look_again_by, copied}
-use Rattle.runs_model.specs.Acts.{copy_awaiter_by, register_by, waker_goes, let_go, end_register_by}
-use Rattle.runs_model.specs.Acts.{notify_by, told, end_notify, call_waker, closing_ops, take_out}
-use Rattle.runs_model.specs.Acts.{drop_next_by, followed, wake, wake_next_by, drain_by}
-use Rattle.runs_model.specs.Weights.{weigh}
-use Rattle.runs_model.specs.Good.{CanGrow, CanWake, IsKnownWaker}
+use Rattle.executor_model.specs.declared.event.Event.TheVariants as event
+use Rattle.executor_model.specs.declared.op.Awaiter.{Awaiter}
+use Rattle.executor_model.specs.declared.op.Polled.{Polled}
+use Rattle.executor_model.specs.declared.op.Hold.{Hold}
+use Rattle.executor_model.specs.declared.op.Hold.TheVariants as hold
+use Rattle.executor_model.specs.declared.op.Waker.{Waker}
+use Rattle.executor_model.specs.declared.op.Waker.TheVariants.{Task, Outside}
+use Rattle.executor_model.specs.declared.op.Op.{Op}
+use Rattle.executor_model.specs.declared.op.Op.TheVariants as op
+use Rattle.executor_model.specs.declared.op.HandleOp.TheVariants as handle_op
+use Rattle.executor_model.specs.declared.step.Hint.{Hint}
+use Rattle.executor_model.specs.World.{World, Done, done, log, task, put, awaiter_of, without, among}
+use Rattle.executor_model.specs.Carried.{awaiter_ops}
+use Rattle.executor_model.specs.Acts.{append_by, take_by, enter_by, entered, leave_by, copy_by, polled}
+use Rattle.executor_model.specs.Acts.{reply_of, is_output, answered, look_by, look_again_by, copied}
+use Rattle.executor_model.specs.Acts.{copy_awaiter_by, register_by, waker_goes, let_go, end_register_by}
+use Rattle.executor_model.specs.Acts.{notify_by, told, end_notify, call_waker, closing_ops, take_out}
+use Rattle.executor_model.specs.Acts.{drop_next_by, followed, wake, wake_next_by, drain_by}
+use Rattle.executor_model.specs.Weights.{weigh}
+use Rattle.executor_model.specs.Good.{CanGrow, CanWake, IsKnownWaker}
 use Rattle.runs_laws.specs.Costs.{steps_of}
 use Rattle.runs_laws.specs.Remaining.{stored, steps_of_task, steps_of_tasks, steps_of_runs, notified_of, ups}
 use Rattle.runs_laws.specs.Remaining.{steps_kept}
-use Rattle.runs_model.proofs.Lists.{weigh-append}
+use Rattle.executor_model.proofs.Lists.{weigh-append}
 use Rattle.runs_laws.proofs.Spending.{Spends, kept-parts, tasks-push, one_stored, stored-push, without-one}
 use Rattle.runs_laws.proofs.Spending.{kept-put, kept-put_awaiter, kept-log, kept-log_if}
 use Rattle.runs_laws.proofs.Spending.{notify_other-steps, spends-logged, costs-waking, closed-spent}

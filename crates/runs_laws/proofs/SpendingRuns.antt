@@ -4,46 +4,46 @@ use Rattle.std.proofs.Common.{get_or, get_or-set_same, drop, Bool, true, false, 
 use Rattle.std.proofs.lemmas.Bool.Decides.{nat_tests}
 use Rattle.queue_steps.specs.ClosableQueue.{taken}
 use Rattle.task_moves.specs.Moves as moves
-use Rattle.runs_model.specs.declared.call.Reply.{Reply}
-use Rattle.runs_model.specs.declared.call.Reply.TheVariants as reply
-use Rattle.runs_model.specs.declared.event.Event.TheVariants as event
-use Rattle.runs_model.specs.declared.op.Hold.TheVariants as hold
-use Rattle.runs_model.specs.declared.op.ListOp.{ListOp}
-use Rattle.runs_model.specs.declared.op.ListOp.TheVariants as list_op
-use Rattle.runs_model.specs.declared.op.Op.{Op}
-use Rattle.runs_model.specs.declared.op.Op.TheVariants as op
-use Rattle.runs_model.specs.declared.op.Polled.TheVariants as of
-use Rattle.runs_model.specs.declared.op.RunOp.{RunOp}
-use Rattle.runs_model.specs.declared.op.RunOp.TheVariants as run_op
-use Rattle.runs_model.specs.declared.op.RunPoll.{RunPoll}
-use Rattle.runs_model.specs.declared.op.Section.TheVariants as section
-use Rattle.runs_model.specs.declared.op.Sleeper.{Sleeper}
-use Rattle.runs_model.specs.declared.op.Sleeper.TheVariants as sleeper
-use Rattle.runs_model.specs.declared.op.SleeperOp.TheVariants as sleeper_op
-use Rattle.runs_model.specs.declared.op.Sleeping.{Sleeping}
-use Rattle.runs_model.specs.declared.op.Source.{Source}
-use Rattle.runs_model.specs.declared.op.Source.TheVariants.{Common, Own}
-use Rattle.runs_model.specs.declared.op.Steal.{Steal}
-use Rattle.runs_model.specs.declared.op.StealOp.{StealOp}
-use Rattle.runs_model.specs.declared.op.StealOp.TheVariants as steal_op
-use Rattle.runs_model.specs.declared.op.Then.{Then}
-use Rattle.runs_model.specs.declared.op.Then.TheVariants as then
-use Rattle.runs_model.specs.declared.op.TickOp.TheVariants as tick_op
-use Rattle.runs_model.specs.declared.op.Waker.{Waker}
-use Rattle.runs_model.specs.declared.op.Waker.TheVariants.{Task, Outside}
-use Rattle.runs_model.specs.declared.step.Hint.{Hint}
-use Rattle.runs_model.specs.ActsOfRuns as runs
-use Rattle.runs_model.specs.ActsOfSleepers.{found_by}
-use Rattle.runs_model.specs.Doing.{list_act, run_act, steal_act}
-use Rattle.runs_model.specs.Good.{CanWake, RunNeeds}
-use Rattle.runs_model.specs.Rows.{running_of}
-use Rattle.runs_model.specs.Weights.{is_run, same, weigh}
-use Rattle.runs_model.specs.World.{Place, Up, Lies, Left, Lock}
-use Rattle.runs_model.specs.World.{World, Stage, New, Listed, Ended, Run, Done, log, no_run, new_run, run_of, put_run}
-use Rattle.runs_model.specs.World.{own_of, put_own, task}
-use Rattle.runs_model.proofs.Lists.{same_is, weigh-append}
-use Rattle.runs_model.proofs.RunsAside.{runs_of, unseen}
-use Rattle.runs_model.proofs.RunsMoving.{Weighs, walk-by, weighs-found, weighs-stolen}
+use Rattle.executor_model.specs.declared.call.Reply.{Reply}
+use Rattle.executor_model.specs.declared.call.Reply.TheVariants as reply
+use Rattle.executor_model.specs.declared.event.Event.TheVariants as event
+use Rattle.executor_model.specs.declared.op.Hold.TheVariants as hold
+use Rattle.executor_model.specs.declared.op.ListOp.{ListOp}
+use Rattle.executor_model.specs.declared.op.ListOp.TheVariants as list_op
+use Rattle.executor_model.specs.declared.op.Op.{Op}
+use Rattle.executor_model.specs.declared.op.Op.TheVariants as op
+use Rattle.executor_model.specs.declared.op.Polled.TheVariants as of
+use Rattle.executor_model.specs.declared.op.RunOp.{RunOp}
+use Rattle.executor_model.specs.declared.op.RunOp.TheVariants as run_op
+use Rattle.executor_model.specs.declared.op.RunPoll.{RunPoll}
+use Rattle.executor_model.specs.declared.op.Section.TheVariants as section
+use Rattle.executor_model.specs.declared.op.Sleeper.{Sleeper}
+use Rattle.executor_model.specs.declared.op.Sleeper.TheVariants as sleeper
+use Rattle.executor_model.specs.declared.op.SleeperOp.TheVariants as sleeper_op
+use Rattle.executor_model.specs.declared.op.Sleeping.{Sleeping}
+use Rattle.executor_model.specs.declared.op.Source.{Source}
+use Rattle.executor_model.specs.declared.op.Source.TheVariants.{Common, Own}
+use Rattle.executor_model.specs.declared.op.Steal.{Steal}
+use Rattle.executor_model.specs.declared.op.StealOp.{StealOp}
+use Rattle.executor_model.specs.declared.op.StealOp.TheVariants as steal_op
+use Rattle.executor_model.specs.declared.op.Then.{Then}
+use Rattle.executor_model.specs.declared.op.Then.TheVariants as then
+use Rattle.executor_model.specs.declared.op.TickOp.TheVariants as tick_op
+use Rattle.executor_model.specs.declared.op.Waker.{Waker}
+use Rattle.executor_model.specs.declared.op.Waker.TheVariants.{Task, Outside}
+use Rattle.executor_model.specs.declared.step.Hint.{Hint}
+use Rattle.executor_model.specs.ActsOfRuns as runs
+use Rattle.executor_model.specs.ActsOfSleepers.{found_by}
+use Rattle.executor_model.specs.Doing.{list_act, run_act, steal_act}
+use Rattle.executor_model.specs.Good.{CanWake, RunNeeds}
+use Rattle.executor_model.specs.Rows.{running_of}
+use Rattle.executor_model.specs.Weights.{is_run, same, weigh}
+use Rattle.executor_model.specs.World.{Place, Up, Lies, Left, Lock}
+use Rattle.executor_model.specs.World.{World, Stage, New, Listed, Ended, Run, Done, log, no_run, new_run, run_of, put_run}
+use Rattle.executor_model.specs.World.{own_of, put_own, task}
+use Rattle.executor_model.proofs.Lists.{same_is, weigh-append}
+use Rattle.executor_model.proofs.RunsAside.{runs_of, unseen}
+use Rattle.executor_model.proofs.RunsMoving.{Weighs, walk-by, weighs-found, weighs-stolen}
 use Rattle.runs_laws.proofs.Beside.{by_reference, nothing-by}
 use Rattle.runs_laws.specs.Costs.{left_by, steps_of, steps_of_search, steps_then, walk_of, walk_then}
 use Rattle.runs_laws.specs.Remaining.{steps_kept, steps_of_place, steps_of_runs}

@@ -10,24 +10,24 @@ use Rattle.executor_parts.specs.Sleepers.{Sleepers, position_of, without_last, w
 use Rattle.executor_parts.specs.Sleepers.{laid_down, listed, without_entry, freed, risen}
 use Rattle.queue_steps.specs.ClosableQueue.{taken}
 use Rattle.task_moves.specs.declared.moves.owed.Move.TheVariants as move
-use Rattle.runs_model.specs.declared.call.Reply.TheVariants as reply
-use Rattle.runs_model.specs.declared.op.Op.{Op}
-use Rattle.runs_model.specs.declared.op.Op.TheVariants as op
-use Rattle.runs_model.specs.declared.op.Sleeper.{Sleeper}
-use Rattle.runs_model.specs.declared.op.Sleeper.TheVariants as sleeper
-use Rattle.runs_model.specs.declared.op.Sleeping.{Sleeping}
-use Rattle.runs_model.specs.declared.op.SleeperOp.{SleeperOp}
-use Rattle.runs_model.specs.declared.op.SleeperOp.TheVariants as sleeper_op
-use Rattle.runs_model.specs.World.{World, Place, Up, Lies, Left, Run, no_run, place_of, ticks_with, runs_with}
-use Rattle.runs_model.specs.ActsOfSleepers.{exchange_by, call_of, hand_out_by, make_tick_by, found_by, held_as}
-use Rattle.runs_model.specs.ActsOfSleepers.{polled_as, search_by, copy_sleeper_by, pend_as, lie_anew_by, sleeper_goes}
-use Rattle.runs_model.specs.ActsOfSleepers.{lie_listed_by, lie_again_by, lie_down_by, get_up_by, given_back, tell_if}
-use Rattle.runs_model.specs.ActsOfSleepers.{leave_sleepers_by}
-use Rattle.runs_model.specs.Doing.{sleeper_act}
-use Rattle.runs_model.specs.Good.{IsKnownWaker, SleeperNeeds}
-use Rattle.runs_model.specs.Weights.{weigh}
-use Rattle.runs_model.proofs.Lists.{weigh-append}
-use Rattle.runs_model.proofs.SleepersLists.{position-within}
+use Rattle.executor_model.specs.declared.call.Reply.TheVariants as reply
+use Rattle.executor_model.specs.declared.op.Op.{Op}
+use Rattle.executor_model.specs.declared.op.Op.TheVariants as op
+use Rattle.executor_model.specs.declared.op.Sleeper.{Sleeper}
+use Rattle.executor_model.specs.declared.op.Sleeper.TheVariants as sleeper
+use Rattle.executor_model.specs.declared.op.Sleeping.{Sleeping}
+use Rattle.executor_model.specs.declared.op.SleeperOp.{SleeperOp}
+use Rattle.executor_model.specs.declared.op.SleeperOp.TheVariants as sleeper_op
+use Rattle.executor_model.specs.World.{World, Place, Up, Lies, Left, Run, no_run, place_of, ticks_with, runs_with}
+use Rattle.executor_model.specs.ActsOfSleepers.{exchange_by, call_of, hand_out_by, make_tick_by, found_by, held_as}
+use Rattle.executor_model.specs.ActsOfSleepers.{polled_as, search_by, copy_sleeper_by, pend_as, lie_anew_by, sleeper_goes}
+use Rattle.executor_model.specs.ActsOfSleepers.{lie_listed_by, lie_again_by, lie_down_by, get_up_by, given_back, tell_if}
+use Rattle.executor_model.specs.ActsOfSleepers.{leave_sleepers_by}
+use Rattle.executor_model.specs.Doing.{sleeper_act}
+use Rattle.executor_model.specs.Good.{IsKnownWaker, SleeperNeeds}
+use Rattle.executor_model.specs.Weights.{weigh}
+use Rattle.executor_model.proofs.Lists.{weigh-append}
+use Rattle.executor_model.proofs.SleepersLists.{position-within}
 use Rattle.runs_laws.specs.Costs.{steps_of, steps_of_copy, steps_of_lying, steps_of_search}
 use Rattle.runs_laws.specs.Remaining.{notified_of, up_of, ups, steps_kept, steps_of_runs}
 use Rattle.runs_laws.proofs.Spending.{Spends, kept-parts}

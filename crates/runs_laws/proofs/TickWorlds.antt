@@ -1,23 +1,23 @@
 -- What ticks and runs both do is no event: their polls and drops are told of as they begin.
 use Rattle.std.proofs.Common.{◌≡◌, ℕ, List, [], ◌∷◌, Bool, true, false, refl}
 use Rattle.std.specs.Prelude.{Option, Some, None}
-use Rattle.runs_model.specs.declared.op.Sleeping.{Sleeping}
-use Rattle.runs_model.specs.declared.op.TickOp.{TickOp}
-use Rattle.runs_model.specs.declared.op.TickOp.TheVariants as tick_op
-use Rattle.runs_model.specs.declared.op.Waker.{Waker}
-use Rattle.runs_model.specs.declared.op.Waker.TheVariants.{Task, Outside}
-use Rattle.runs_model.specs.declared.step.Hint.{Hint}
-use Rattle.runs_model.specs.World.{World, Place, Up, Lies, Left}
-use Rattle.runs_model.specs.declared.op.RunPoll.{RunPoll}
-use Rattle.runs_model.specs.declared.op.Sleeper.{Sleeper}
-use Rattle.runs_model.specs.declared.op.Sleeper.TheVariants as sleeper
-use Rattle.runs_model.specs.Acts.{copied}
-use Rattle.runs_model.specs.ActsOfSleepers.{make_tick_by, search_by, copy_sleeper_by, lie_anew_by, lie_listed_by}
-use Rattle.runs_model.specs.ActsOfSleepers.{lie_again_by, lie_down_by, get_up_by, leave_sleepers_by}
-use Rattle.runs_model.specs.ActsOfRuns.{search_own_by}
-use Rattle.runs_model.specs.Doing.{search_by_who, tick_act}
-use Rattle.runs_model.specs.World.{put_own}
-use Rattle.runs_model.proofs.RunsMoves.{same-found}
+use Rattle.executor_model.specs.declared.op.Sleeping.{Sleeping}
+use Rattle.executor_model.specs.declared.op.TickOp.{TickOp}
+use Rattle.executor_model.specs.declared.op.TickOp.TheVariants as tick_op
+use Rattle.executor_model.specs.declared.op.Waker.{Waker}
+use Rattle.executor_model.specs.declared.op.Waker.TheVariants.{Task, Outside}
+use Rattle.executor_model.specs.declared.step.Hint.{Hint}
+use Rattle.executor_model.specs.World.{World, Place, Up, Lies, Left}
+use Rattle.executor_model.specs.declared.op.RunPoll.{RunPoll}
+use Rattle.executor_model.specs.declared.op.Sleeper.{Sleeper}
+use Rattle.executor_model.specs.declared.op.Sleeper.TheVariants as sleeper
+use Rattle.executor_model.specs.Acts.{copied}
+use Rattle.executor_model.specs.ActsOfSleepers.{make_tick_by, search_by, copy_sleeper_by, lie_anew_by, lie_listed_by}
+use Rattle.executor_model.specs.ActsOfSleepers.{lie_again_by, lie_down_by, get_up_by, leave_sleepers_by}
+use Rattle.executor_model.specs.ActsOfRuns.{search_own_by}
+use Rattle.executor_model.specs.Doing.{search_by_who, tick_act}
+use Rattle.executor_model.specs.World.{put_own}
+use Rattle.executor_model.proofs.RunsMoves.{same-found}
 
 make-trace : (b : Bool) (w : World) → (make_tick_by b w).world.trace ≡ w.trace
 make-trace true w = refl

@@ -1,14 +1,14 @@
 -- Whoever is answered no is answered at once: he has done nothing since his call began.
 use Rattle.std.specs.Prelude.{◌≡◌, ℕ, ◌==◌, Bool, [], ◌∷◌, ◌++◌, filter}
-use Rattle.runs_model.specs.declared.call.Call.{Call}
-use Rattle.runs_model.specs.declared.call.Reply.TheVariants.{No}
-use Rattle.runs_model.specs.declared.event.Event.{Event}
-use Rattle.runs_model.specs.declared.event.Event.TheVariants.{CallBegun, CallEnded, Accepted, PollBegun, Answered}
-use Rattle.runs_model.specs.declared.event.Event.TheVariants.{Woken, Cancelled, Detached, Dropped, OutputDropped}
-use Rattle.runs_model.specs.declared.event.Event.TheVariants.{OutputGiven, HandlePolled, WakerCalled, TickPolled}
-use Rattle.runs_model.specs.declared.event.Event.TheVariants.{TickDropped, RunPolled, RunDropped, Kept}
-use Rattle.runs_model.specs.declared.event.Event.TheVariants.{DropBegun, DropEnded}
-use Rattle.runs_model.specs.Trace.{Trace}
+use Rattle.executor_model.specs.declared.call.Call.{Call}
+use Rattle.executor_model.specs.declared.call.Reply.TheVariants.{No}
+use Rattle.executor_model.specs.declared.event.Event.{Event}
+use Rattle.executor_model.specs.declared.event.Event.TheVariants.{CallBegun, CallEnded, Accepted, PollBegun, Answered}
+use Rattle.executor_model.specs.declared.event.Event.TheVariants.{Woken, Cancelled, Detached, Dropped, OutputDropped}
+use Rattle.executor_model.specs.declared.event.Event.TheVariants.{OutputGiven, HandlePolled, WakerCalled, TickPolled}
+use Rattle.executor_model.specs.declared.event.Event.TheVariants.{TickDropped, RunPolled, RunDropped, Kept}
+use Rattle.executor_model.specs.declared.event.Event.TheVariants.{DropBegun, DropEnded}
+use Rattle.executor_model.specs.Trace.{Trace}
 
 -- who did it
 abbrev pub doer : Event → ℕ

@@ -1,14 +1,14 @@
 -- A party that has something to do can go on, unless it waits for the lock of the list of queues; whoever has that can.
 use Rattle.std.specs.Prelude.{◌≡◌, ◌⊎◌, ℕ, ◌+◌, ◌<◌, ◌≤◌, true, false, Some, None, length}
-use Rattle.runs_model.specs.declared.op.Op.{Op}
-use Rattle.runs_model.specs.declared.step.Hint.{Hint}
-use Rattle.runs_model.specs.declared.step.Step.TheVariants.{Go, Answer}
-use Rattle.runs_model.specs.declared.step.StepError.TheVariants.{Waits}
-use Rattle.runs_model.specs.declared.step.UserEnd.{UserEnd}
-use Rattle.runs_model.specs.OwnQueues.{writes_of, reads_of}
-use Rattle.runs_model.specs.Steps.{Machine, stack, top, waits, is_locked_out, refusal}
-use Rattle.runs_model.specs.Weights.{weigh}
-use Rattle.runs_model.specs.World.{Lock}
+use Rattle.executor_model.specs.declared.op.Op.{Op}
+use Rattle.executor_model.specs.declared.step.Hint.{Hint}
+use Rattle.executor_model.specs.declared.step.Step.TheVariants.{Go, Answer}
+use Rattle.executor_model.specs.declared.step.StepError.TheVariants.{Waits}
+use Rattle.executor_model.specs.declared.step.UserEnd.{UserEnd}
+use Rattle.executor_model.specs.OwnQueues.{writes_of, reads_of}
+use Rattle.executor_model.specs.Steps.{Machine, stack, top, waits, is_locked_out, refusal}
+use Rattle.executor_model.specs.Weights.{weigh}
+use Rattle.executor_model.specs.World.{Lock}
 
 -- a party that has something to do can go on: by a Go, or, where it is in user code, by that code's answer. Where
 -- another has the lock that it wants, and only there, its Go is refused as one that waits

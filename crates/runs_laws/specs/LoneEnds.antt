@@ -1,11 +1,11 @@
 -- A call that a party makes alone ends, whatever user code answers in it.
 use Rattle.std.specs.Prelude.{◌≡◌, ◌⊎◌, ◌==◌, ℕ, ◌≤◌, Bool, true, false, ◌&&◌, None, Ok, List, [], ◌∷◌, length}
-use Rattle.runs_model.specs.declared.call.Call.{Call}
-use Rattle.runs_model.specs.declared.step.Step.{Step}
-use Rattle.runs_model.specs.declared.step.Step.TheVariants.{Begin, Go, Answer}
-use Rattle.runs_model.specs.Quiet.{IsQuiet}
-use Rattle.runs_model.specs.Runs.{run_all}
-use Rattle.runs_model.specs.Steps.{Machine, after, refusal}
+use Rattle.executor_model.specs.declared.call.Call.{Call}
+use Rattle.executor_model.specs.declared.step.Step.{Step}
+use Rattle.executor_model.specs.declared.step.Step.TheVariants.{Begin, Go, Answer}
+use Rattle.executor_model.specs.Quiet.{IsQuiet}
+use Rattle.executor_model.specs.Runs.{run_all}
+use Rattle.executor_model.specs.Steps.{Machine, after, refusal}
 use Rattle.runs_laws.specs.Remaining.{remaining}
 
 -- a step by which party p goes on with what it has begun

@@ -3,12 +3,12 @@
 use Rattle.std.specs.Prelude.{◌≡◌, ℕ, ◌+◌, ◌-◌, ◌<◌, ◌≤◌, false, Some, List, [], ◌∷◌, ◌++◌, length}
 use Rattle.queue_steps.specs.ClosableQueue.{ClosableQueue, most_accepted, new_queue, HasRoom}
 use Rattle.queue_steps.specs.ClosableQueue.{IsUnspent, appended, taken, shut}
-use Rattle.runs_model.specs.declared.op.Op.TheVariants as op
-use Rattle.runs_model.specs.declared.op.QueueOp.TheVariants as queue_op
-use Rattle.runs_model.specs.declared.step.Hint.{Hint}
-use Rattle.runs_model.specs.declared.step.Step.{Step}
-use Rattle.runs_model.specs.declared.step.Step.TheVariants.{Go}
-use Rattle.runs_model.specs.Steps.{Machine, stack, top, step, stepped, run, start}
+use Rattle.executor_model.specs.declared.op.Op.TheVariants as op
+use Rattle.executor_model.specs.declared.op.QueueOp.TheVariants as queue_op
+use Rattle.executor_model.specs.declared.step.Hint.{Hint}
+use Rattle.executor_model.specs.declared.step.Step.{Step}
+use Rattle.executor_model.specs.declared.step.Step.TheVariants.{Go}
+use Rattle.executor_model.specs.Steps.{Machine, stack, top, step, stepped, run, start}
 
 -- a step appends as many Runnables as the queue gets longer by, one or none
 abbrev pub queued_by : Step → Machine → ℕ

@@ -6,14 +6,14 @@ use Rattle.std.specs.Prelude.{◌≡◌, ℕ, ◌+◌, ◌-◌, ◌*◌, ◌<◌
 use Rattle.std.specs.Prelude.{Option, Some, None, Ok, List, [], ◌∷◌, length, cond}
 use Rattle.executor_parts.specs.Sleepers.{Sleepers}
 use Rattle.task_moves.specs.declared.moves.state.State.{State}
-use Rattle.runs_model.specs.declared.op.Awaiter.{Awaiter}
-use Rattle.runs_model.specs.declared.op.Sleeping.{Sleeping}
-use Rattle.runs_model.specs.declared.step.Step.{Step}
-use Rattle.runs_model.specs.declared.step.Step.TheVariants.{Begin, Go, Answer}
-use Rattle.runs_model.specs.Runs.{run_all}
-use Rattle.runs_model.specs.Steps.{Machine, refusal, after}
-use Rattle.runs_model.specs.Weights.{weigh_all}
-use Rattle.runs_model.specs.World.{World, Place, Up, Lies, Left, Run}
+use Rattle.executor_model.specs.declared.op.Awaiter.{Awaiter}
+use Rattle.executor_model.specs.declared.op.Sleeping.{Sleeping}
+use Rattle.executor_model.specs.declared.step.Step.{Step}
+use Rattle.executor_model.specs.declared.step.Step.TheVariants.{Begin, Go, Answer}
+use Rattle.executor_model.specs.Runs.{run_all}
+use Rattle.executor_model.specs.Steps.{Machine, refusal, after}
+use Rattle.executor_model.specs.Weights.{weigh_all}
+use Rattle.executor_model.specs.World.{World, Place, Up, Lies, Left, Run}
 use Rattle.runs_laws.specs.Costs.{left_by, registers_of, steps_of, walk_of}
 
 -- the steps that are left, but those of walks and steals

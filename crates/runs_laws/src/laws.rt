@@ -6,10 +6,10 @@ ghost use Rattle.runs_laws.specs.GoingOn.{GoesOn, HolderGoesOn};
 ghost use Rattle.runs_laws.specs.LoneEnds.{LoneCallsEnd};
 ghost use Rattle.runs_laws.specs.Queueings.{CountsQueueings};
 ghost use Rattle.runs_laws.specs.Remaining.{EachListEnds, EachStepLowers};
-ghost use Rattle.runs_model.specs.declared.step.Step.{Step};
-ghost use Rattle.runs_model.specs.EveryTrace.{EveryTrace};
-ghost use Rattle.runs_model.specs.Runs.{EveryMachine};
-ghost use Rattle.runs_model.specs.Steps.{Machine, step, stepped};
+ghost use Rattle.executor_model.specs.declared.step.Step.{Step};
+ghost use Rattle.executor_model.specs.EveryTrace.{EveryTrace};
+ghost use Rattle.executor_model.specs.Runs.{EveryMachine};
+ghost use Rattle.executor_model.specs.Steps.{Machine, step, stepped};
 
 /// Calls end. In each machine to which steps of a new one lead, each step that begins no further call
 /// lowers a whole number that the machine's state determines, whoever takes it; so only that many such

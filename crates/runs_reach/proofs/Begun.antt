@@ -6,38 +6,38 @@ use Rattle.std.proofs.Math.ListN.{length-set}
 use Rattle.std.proofs.lemmas.Bool.Decides.{nat_tests}
 use Rattle.std.proofs.lemmas.List.{append_assoc}
 use Rattle.std.specs.Prelude.{Option, Some, None}
-use Rattle.runs_model.specs.declared.call.Call.{Call}
-use Rattle.runs_model.specs.declared.call.Call.TheVariants as call
-use Rattle.runs_model.specs.declared.call.Reply.{Reply}
-use Rattle.runs_model.specs.declared.call.Reply.TheVariants as reply
-use Rattle.runs_model.specs.declared.event.Event.{Event}
-use Rattle.runs_model.specs.declared.event.Event.TheVariants as event
-use Rattle.runs_model.specs.declared.op.Hold.TheVariants as hold
-use Rattle.runs_model.specs.declared.op.Op.{Op}
-use Rattle.runs_model.specs.declared.op.Op.TheVariants as op
+use Rattle.executor_model.specs.declared.call.Call.{Call}
+use Rattle.executor_model.specs.declared.call.Call.TheVariants as call
+use Rattle.executor_model.specs.declared.call.Reply.{Reply}
+use Rattle.executor_model.specs.declared.call.Reply.TheVariants as reply
+use Rattle.executor_model.specs.declared.event.Event.{Event}
+use Rattle.executor_model.specs.declared.event.Event.TheVariants as event
+use Rattle.executor_model.specs.declared.op.Hold.TheVariants as hold
+use Rattle.executor_model.specs.declared.op.Op.{Op}
+use Rattle.executor_model.specs.declared.op.Op.TheVariants as op
 use Rattle.task_moves.specs.declared.moves.owed.Move.TheVariants as move
-use Rattle.runs_model.specs.declared.op.QueueOp.TheVariants as queue_op
-use Rattle.runs_model.specs.declared.op.SleeperOp.TheVariants as sleeper_op
-use Rattle.runs_model.specs.declared.op.TableOp.TheVariants as table_op
-use Rattle.runs_model.specs.declared.step.Hint.{Hint}
-use Rattle.runs_model.specs.declared.step.Step.{Step}
-use Rattle.runs_model.specs.declared.step.Step.TheVariants.{Begin, Go}
-use Rattle.runs_model.specs.declared.step.StepError.{StepError}
-use Rattle.runs_model.specs.declared.step.StepError.TheVariants.{NoSuch, Gone}
-use Rattle.runs_model.specs.Trace.{Trace, has, is_drop_begun}
-use Rattle.runs_model.specs.Keeper.{IsCommon}
-use Rattle.runs_model.specs.Emptiness.{IsAtRest, IsQuietEmptinessExact, AnswersAlone, AllDropped, asks_alone}
-use Rattle.runs_model.specs.Quiet.{IsQuiet}
-use Rattle.runs_model.specs.Sound.{times}
-use Rattle.runs_model.specs.Good.{Good}
-use Rattle.runs_model.specs.Steps.{Machine, stack, top, unless, begin_refusal, part_refusal, refusal}
-use Rattle.runs_model.specs.Steps.{part_after, with_part, step_by, step, stepped, run, start}
-use Rattle.runs_model.proofs.Lists.{same_is}
-use Rattle.runs_model.proofs.Lift.{good}
-use Rattle.runs_model.proofs.Stepping.{step-refused}
-use Rattle.runs_model.proofs.Quieting.{asking, quiet-empties}
-use Rattle.runs_model.proofs.AskingRuns.{Heard, heard}
-use Rattle.runs_model.proofs.Resting.{Deep, deep}
+use Rattle.executor_model.specs.declared.op.QueueOp.TheVariants as queue_op
+use Rattle.executor_model.specs.declared.op.SleeperOp.TheVariants as sleeper_op
+use Rattle.executor_model.specs.declared.op.TableOp.TheVariants as table_op
+use Rattle.executor_model.specs.declared.step.Hint.{Hint}
+use Rattle.executor_model.specs.declared.step.Step.{Step}
+use Rattle.executor_model.specs.declared.step.Step.TheVariants.{Begin, Go}
+use Rattle.executor_model.specs.declared.step.StepError.{StepError}
+use Rattle.executor_model.specs.declared.step.StepError.TheVariants.{NoSuch, Gone}
+use Rattle.executor_model.specs.Trace.{Trace, has, is_drop_begun}
+use Rattle.executor_model.specs.Keeper.{IsCommon}
+use Rattle.executor_model.specs.Emptiness.{IsAtRest, IsQuietEmptinessExact, AnswersAlone, AllDropped, asks_alone}
+use Rattle.executor_model.specs.Quiet.{IsQuiet}
+use Rattle.executor_model.specs.Sound.{times}
+use Rattle.executor_model.specs.Good.{Good}
+use Rattle.executor_model.specs.Steps.{Machine, stack, top, unless, begin_refusal, part_refusal, refusal}
+use Rattle.executor_model.specs.Steps.{part_after, with_part, step_by, step, stepped, run, start}
+use Rattle.executor_model.proofs.Lists.{same_is}
+use Rattle.executor_model.proofs.Lift.{good}
+use Rattle.executor_model.proofs.Stepping.{step-refused}
+use Rattle.executor_model.proofs.Quieting.{asking, quiet-empties}
+use Rattle.executor_model.proofs.AskingRuns.{Heard, heard}
+use Rattle.executor_model.proofs.Resting.{Deep, deep}
 use Rattle.runs_reach.specs.AtRest.{BeginsAtRest, TicksAreExact, EmptinessIsExact}
 use Rattle.runs_reach.specs.Ticks.{ticks}
 use Rattle.runs_reach.proofs.Adding.{IsContinued, run-continues}

@@ -4,11 +4,11 @@ use Rattle.std.proofs.Common.{length, drop, Bool, true, false, ◌||◌, eqb, co
 use Rattle.std.proofs.lemmas.Bool.Decides.{nat_tests}
 use Rattle.std.proofs.lemmas.List.{length-append}
 use Rattle.std.specs.Prelude.{Option, Some, slice_get}
-use Rattle.runs_model.specs.declared.event.Event.{Event}
-use Rattle.runs_model.specs.declared.event.Event.TheVariants as event
-use Rattle.runs_model.specs.AwaiterKept.{since}
-use Rattle.runs_model.specs.Keeper.{is_kept, is_run_drop}
-use Rattle.runs_model.specs.Trace.{Trace, has, is_poll}
+use Rattle.executor_model.specs.declared.event.Event.{Event}
+use Rattle.executor_model.specs.declared.event.Event.TheVariants as event
+use Rattle.executor_model.specs.AwaiterKept.{since}
+use Rattle.executor_model.specs.Keeper.{is_kept, is_run_drop}
+use Rattle.executor_model.specs.Trace.{Trace, has, is_poll}
 use Rattle.runs_reach.proofs.Dueness.{by_last}
 use Rattle.runs_reach.proofs.Opens.{get-old, get-new, since-old, since-new}
 use Rattle.runs_reach.proofs.Pushes.{any-push}

@@ -4,13 +4,13 @@ use Rattle.std.proofs.Common.{◌≡◌, ◌⊎◌, ◌∙◌, inl, inr, ⊎_eli
 use Rattle.std.proofs.Common.{◌++◌, length, Bool, true, false, eqb, cond, refl}
 use Rattle.std.proofs.Common.{sym, ap, subst, arith}
 use Rattle.std.proofs.lemmas.Bool.Decides.{nat_tests}
-use Rattle.runs_model.specs.declared.event.Event.{Event}
-use Rattle.runs_model.specs.declared.event.Event.TheVariants as event
-use Rattle.runs_model.specs.Keeper.{is_run_drop}
-use Rattle.runs_model.specs.Sound.{Pend, times}
-use Rattle.runs_model.specs.Trace.{Trace, has}
-use Rattle.runs_model.specs.World.{World, Ended, own_of, run_of}
-use Rattle.runs_model.proofs.UsingWorlds.{is_past}
+use Rattle.executor_model.specs.declared.event.Event.{Event}
+use Rattle.executor_model.specs.declared.event.Event.TheVariants as event
+use Rattle.executor_model.specs.Keeper.{is_run_drop}
+use Rattle.executor_model.specs.Sound.{Pend, times}
+use Rattle.executor_model.specs.Trace.{Trace, has}
+use Rattle.executor_model.specs.World.{World, Ended, own_of, run_of}
+use Rattle.executor_model.proofs.UsingWorlds.{is_past}
 use Rattle.runs_reach.proofs.Bonds.{Bond, binds, bond, bond-push}
 use Rattle.runs_reach.proofs.Growing.{Grows, is_ordinary}
 use Rattle.runs_reach.proofs.Ran.{has-same, over-more}

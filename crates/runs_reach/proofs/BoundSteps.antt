@@ -5,47 +5,47 @@ use Rattle.std.proofs.Common.{sym, ap, subst, arith, get_or-set_other}
 use Rattle.std.specs.Prelude.{reverse}
 use Rattle.task_moves.specs.Moves as moves
 use Rattle.task_moves.specs.declared.moves.owed.Move.TheVariants as move
-use Rattle.runs_model.specs.declared.call.Reply.{Reply}
-use Rattle.runs_model.specs.declared.call.Reply.TheVariants as reply
-use Rattle.runs_model.specs.declared.event.Event.TheVariants as event
-use Rattle.runs_model.specs.declared.op.ListOp.TheVariants as list_op
-use Rattle.runs_model.specs.declared.op.Op.{Op}
-use Rattle.runs_model.specs.declared.op.Op.TheVariants as op
-use Rattle.runs_model.specs.declared.op.QueueOp.TheVariants as queue_op
-use Rattle.runs_model.specs.declared.op.RunOp.TheVariants as run_op
-use Rattle.runs_model.specs.declared.op.Section.TheVariants as section
-use Rattle.runs_model.specs.declared.op.Steal.{Steal}
-use Rattle.runs_model.specs.declared.op.StealOp.TheVariants as steal_op
-use Rattle.runs_model.specs.declared.op.TableOp.TheVariants as table_op
-use Rattle.runs_model.specs.declared.op.WakerOp.TheVariants as waker_op
-use Rattle.runs_model.specs.declared.op.HandleOp.TheVariants as handle_op
-use Rattle.runs_model.specs.declared.op.SleeperOp.TheVariants as sleeper_op
-use Rattle.runs_model.specs.declared.op.TickOp.TheVariants as tick_op
-use Rattle.runs_model.specs.declared.op.ClosingOp.TheVariants as closing_op
-use Rattle.runs_model.specs.declared.op.UserOp.TheVariants as user_op
-use Rattle.runs_model.specs.declared.step.Hint.{Hint}
-use Rattle.runs_model.specs.ActsOfRuns as runs
-use Rattle.runs_model.specs.Carried.{carried}
-use Rattle.runs_model.specs.Doing.{act}
-use Rattle.runs_model.specs.Good.{Good}
-use Rattle.runs_model.specs.Keeper.{is_run_drop}
-use Rattle.runs_model.specs.Rows.{appends_of, past_of, running_of, waiting_of}
-use Rattle.runs_model.specs.Sound.{Pend, pend, times, times_in, with_ops}
-use Rattle.runs_model.specs.Steps.{Machine}
-use Rattle.runs_model.specs.Steps.{stack}
-use Rattle.runs_model.specs.Trace.{has}
-use Rattle.runs_model.specs.Weights.{past, same, weigh, weigh_all}
-use Rattle.runs_model.specs.World.{World, Ended, Run, Done, among, log, log_if, no_run}
-use Rattle.runs_model.specs.World.{own_of, run_of, task}
-use Rattle.runs_model.proofs.Lift.{push-pend, split, split-pend, unsettled}
-use Rattle.runs_model.proofs.Lists.{past_is, same_cases, same_is, times-append, weigh_all-below, weigh_all-push}
-use Rattle.runs_model.proofs.OwnRooms.{Roomy}
-use Rattle.runs_model.proofs.RunsMoves.{moves-own_length}
-use Rattle.runs_model.proofs.RunsMoving.{hull-more}
-use Rattle.runs_model.proofs.Using.{polling_of}
-use Rattle.runs_model.proofs.UsingRuns.{idle-more}
-use Rattle.runs_model.proofs.UsingSteps.{AllUsed}
-use Rattle.runs_model.proofs.UsingWorlds.{is_past}
+use Rattle.executor_model.specs.declared.call.Reply.{Reply}
+use Rattle.executor_model.specs.declared.call.Reply.TheVariants as reply
+use Rattle.executor_model.specs.declared.event.Event.TheVariants as event
+use Rattle.executor_model.specs.declared.op.ListOp.TheVariants as list_op
+use Rattle.executor_model.specs.declared.op.Op.{Op}
+use Rattle.executor_model.specs.declared.op.Op.TheVariants as op
+use Rattle.executor_model.specs.declared.op.QueueOp.TheVariants as queue_op
+use Rattle.executor_model.specs.declared.op.RunOp.TheVariants as run_op
+use Rattle.executor_model.specs.declared.op.Section.TheVariants as section
+use Rattle.executor_model.specs.declared.op.Steal.{Steal}
+use Rattle.executor_model.specs.declared.op.StealOp.TheVariants as steal_op
+use Rattle.executor_model.specs.declared.op.TableOp.TheVariants as table_op
+use Rattle.executor_model.specs.declared.op.WakerOp.TheVariants as waker_op
+use Rattle.executor_model.specs.declared.op.HandleOp.TheVariants as handle_op
+use Rattle.executor_model.specs.declared.op.SleeperOp.TheVariants as sleeper_op
+use Rattle.executor_model.specs.declared.op.TickOp.TheVariants as tick_op
+use Rattle.executor_model.specs.declared.op.ClosingOp.TheVariants as closing_op
+use Rattle.executor_model.specs.declared.op.UserOp.TheVariants as user_op
+use Rattle.executor_model.specs.declared.step.Hint.{Hint}
+use Rattle.executor_model.specs.ActsOfRuns as runs
+use Rattle.executor_model.specs.Carried.{carried}
+use Rattle.executor_model.specs.Doing.{act}
+use Rattle.executor_model.specs.Good.{Good}
+use Rattle.executor_model.specs.Keeper.{is_run_drop}
+use Rattle.executor_model.specs.Rows.{appends_of, past_of, running_of, waiting_of}
+use Rattle.executor_model.specs.Sound.{Pend, pend, times, times_in, with_ops}
+use Rattle.executor_model.specs.Steps.{Machine}
+use Rattle.executor_model.specs.Steps.{stack}
+use Rattle.executor_model.specs.Trace.{has}
+use Rattle.executor_model.specs.Weights.{past, same, weigh, weigh_all}
+use Rattle.executor_model.specs.World.{World, Ended, Run, Done, among, log, log_if, no_run}
+use Rattle.executor_model.specs.World.{own_of, run_of, task}
+use Rattle.executor_model.proofs.Lift.{push-pend, split, split-pend, unsettled}
+use Rattle.executor_model.proofs.Lists.{past_is, same_cases, same_is, times-append, weigh_all-below, weigh_all-push}
+use Rattle.executor_model.proofs.OwnRooms.{Roomy}
+use Rattle.executor_model.proofs.RunsMoves.{moves-own_length}
+use Rattle.executor_model.proofs.RunsMoving.{hull-more}
+use Rattle.executor_model.proofs.Using.{polling_of}
+use Rattle.executor_model.proofs.UsingRuns.{idle-more}
+use Rattle.executor_model.proofs.UsingSteps.{AllUsed}
+use Rattle.executor_model.proofs.UsingWorlds.{is_past}
 use Rattle.runs_reach.proofs.Bound.{Bound, Tied, bound-kept, bound-polled, bound-same, keeper, kept}
 use Rattle.runs_reach.proofs.Bound.{tied-kept, tied-other, tied-same}
 use Rattle.runs_reach.proofs.Evens.{Even, even-idle}
@@ -53,7 +53,8 @@ use Rattle.runs_reach.proofs.Leavings.{dropping_of, off_of}
 use Rattle.runs_reach.proofs.Opens.{le-or}
 use Rattle.runs_reach.proofs.Running.{RanIn}
 use Rattle.runs_reach.proofs.Safe.{Floor, KeepsSafe, Safe, floor}
-use Rattle.runs_reach.proofs.SafeActs.{IsTame, safe-act, safe-take_up_open}
+use Rattle.runs_reach.proofs.SafeMoves.{safe-take_up_open}
+use Rattle.runs_reach.proofs.SafeActs.{IsTame, safe-act}
 use Rattle.runs_reach.proofs.SafeRuns.{safe-put}
 
 abbrev pub BoundIn : Machine → ℕ → Type 0

@@ -7,50 +7,50 @@ use Rattle.std.specs.Prelude.{Option, Some, None, reverse}
 use Rattle.queue_steps.specs.ClosableQueue.{ClosableQueue}
 use Rattle.task_moves.specs.declared.moves.state.State.{State}
 use Rattle.task_moves.specs.declared.moves.owed.Move.TheVariants as move
-use Rattle.runs_model.specs.declared.call.Call.{Call}
-use Rattle.runs_model.specs.declared.call.Call.TheVariants as call
-use Rattle.runs_model.specs.declared.call.Reply.{Reply}
-use Rattle.runs_model.specs.declared.event.Answer.TheVariants as answer
-use Rattle.runs_model.specs.declared.event.Event.{Event}
-use Rattle.runs_model.specs.declared.event.Event.TheVariants as event
-use Rattle.runs_model.specs.declared.op.Hold.{Hold}
-use Rattle.runs_model.specs.declared.op.ListOp.TheVariants as list_op
-use Rattle.runs_model.specs.declared.op.Op.{Op}
-use Rattle.runs_model.specs.declared.op.Op.TheVariants as op
-use Rattle.runs_model.specs.declared.op.RunOp.TheVariants as run_op
-use Rattle.runs_model.specs.declared.op.RunPoll.{RunPoll}
-use Rattle.runs_model.specs.declared.op.Section.{Section}
-use Rattle.runs_model.specs.declared.op.Section.TheVariants as section
-use Rattle.runs_model.specs.declared.op.Steal.{Steal}
-use Rattle.runs_model.specs.declared.op.StealOp.TheVariants as steal_op
-use Rattle.runs_model.specs.declared.op.UserOp.TheVariants as user_op
-use Rattle.runs_model.specs.declared.op.Waker.{Waker}
-use Rattle.runs_model.specs.declared.step.Hint.{Hint}
-use Rattle.runs_model.specs.declared.step.Step.{Step}
-use Rattle.runs_model.specs.declared.step.UserEnd.{UserEnd}
-use Rattle.runs_model.specs.declared.step.UserEnd.TheVariants as end
-use Rattle.runs_model.specs.ActsOfRuns as runs
-use Rattle.runs_model.specs.Doing.{act}
-use Rattle.runs_model.specs.Good.{Good}
-use Rattle.runs_model.specs.OwnQueues.{filling_of}
-use Rattle.runs_model.specs.Rows.{appends_of, ending_of, polls_of, running_of}
-use Rattle.runs_model.specs.Sound.{pend, times}
-use Rattle.runs_model.specs.Steps.{Machine, accepts, begun, drop_run, future_of, has_all, is_drop, is_free}
-use Rattle.runs_model.specs.Steps.{is_on_executor, is_there, is_unborrowed, kept, mine, poll_run, react, run, stack, start}
-use Rattle.runs_model.specs.Steps.{top, with_future}
-use Rattle.runs_model.specs.Weights.{weigh, weigh_all}
-use Rattle.runs_model.specs.World.{World, Stage, New, Listed, Ended, Run, Done, blank, done, log, new_run, no_run}
-use Rattle.runs_model.specs.World.{own_of, run_of, task}
-use Rattle.runs_model.proofs.Lift.{first-true, good-start, none_refused, split, unsettled, weigh_all-idle}
-use Rattle.runs_model.proofs.Lists.{weigh_all-below, weigh_all-push}
-use Rattle.runs_model.proofs.OwnCounts.{counts-begun}
-use Rattle.runs_model.proofs.OwnRooms.{Roomy, roomy-ends, roomy-moves}
-use Rattle.runs_model.proofs.RunsAside.{Hull}
-use Rattle.runs_model.proofs.Using.{emptying-uses, emptying_of}
-use Rattle.runs_model.proofs.UsingSteps.{AllUsed, used-ends, used-moves, used-start}
-use Rattle.runs_model.proofs.UsingWorlds.{count-set, is_over_stage, is_past}
-use Rattle.runs_model.proofs.Ways.{Way, along}
-use Rattle.runs_model.proofs.Ways.Way.{acted, reacted, called}
+use Rattle.executor_model.specs.declared.call.Call.{Call}
+use Rattle.executor_model.specs.declared.call.Call.TheVariants as call
+use Rattle.executor_model.specs.declared.call.Reply.{Reply}
+use Rattle.executor_model.specs.declared.event.Answer.TheVariants as answer
+use Rattle.executor_model.specs.declared.event.Event.{Event}
+use Rattle.executor_model.specs.declared.event.Event.TheVariants as event
+use Rattle.executor_model.specs.declared.op.Hold.{Hold}
+use Rattle.executor_model.specs.declared.op.ListOp.TheVariants as list_op
+use Rattle.executor_model.specs.declared.op.Op.{Op}
+use Rattle.executor_model.specs.declared.op.Op.TheVariants as op
+use Rattle.executor_model.specs.declared.op.RunOp.TheVariants as run_op
+use Rattle.executor_model.specs.declared.op.RunPoll.{RunPoll}
+use Rattle.executor_model.specs.declared.op.Section.{Section}
+use Rattle.executor_model.specs.declared.op.Section.TheVariants as section
+use Rattle.executor_model.specs.declared.op.Steal.{Steal}
+use Rattle.executor_model.specs.declared.op.StealOp.TheVariants as steal_op
+use Rattle.executor_model.specs.declared.op.UserOp.TheVariants as user_op
+use Rattle.executor_model.specs.declared.op.Waker.{Waker}
+use Rattle.executor_model.specs.declared.step.Hint.{Hint}
+use Rattle.executor_model.specs.declared.step.Step.{Step}
+use Rattle.executor_model.specs.declared.step.UserEnd.{UserEnd}
+use Rattle.executor_model.specs.declared.step.UserEnd.TheVariants as end
+use Rattle.executor_model.specs.ActsOfRuns as runs
+use Rattle.executor_model.specs.Doing.{act}
+use Rattle.executor_model.specs.Good.{Good}
+use Rattle.executor_model.specs.OwnQueues.{filling_of}
+use Rattle.executor_model.specs.Rows.{appends_of, ending_of, polls_of, running_of}
+use Rattle.executor_model.specs.Sound.{pend, times}
+use Rattle.executor_model.specs.Steps.{Machine, accepts, begun, drop_run, future_of, has_all, is_drop, is_free}
+use Rattle.executor_model.specs.Steps.{is_on_executor, is_there, is_unborrowed, kept, mine, poll_run, react, run, stack, start}
+use Rattle.executor_model.specs.Steps.{top, with_future}
+use Rattle.executor_model.specs.Weights.{weigh, weigh_all}
+use Rattle.executor_model.specs.World.{World, Stage, New, Listed, Ended, Run, Done, blank, done, log, new_run, no_run}
+use Rattle.executor_model.specs.World.{own_of, run_of, task}
+use Rattle.executor_model.proofs.Lift.{first-true, good-start, none_refused, split, unsettled, weigh_all-idle}
+use Rattle.executor_model.proofs.Lists.{weigh_all-below, weigh_all-push}
+use Rattle.executor_model.proofs.OwnCounts.{counts-begun}
+use Rattle.executor_model.proofs.OwnRooms.{Roomy, roomy-ends, roomy-moves}
+use Rattle.executor_model.proofs.RunsAside.{Hull}
+use Rattle.executor_model.proofs.Using.{emptying-uses, emptying_of}
+use Rattle.executor_model.proofs.UsingSteps.{AllUsed, used-ends, used-moves, used-start}
+use Rattle.executor_model.proofs.UsingWorlds.{count-set, is_over_stage, is_past}
+use Rattle.executor_model.proofs.Ways.{Way, along}
+use Rattle.executor_model.proofs.Ways.Way.{acted, reacted, called}
 use Rattle.runs_reach.proofs.Bound.{Tied, bound-drop, bound-same, is_bond, ordinary-bond, tied-grows, tied-one}
 use Rattle.runs_reach.proofs.Bound.{tied-same}
 use Rattle.runs_reach.proofs.Bonds.{Bond, bond, bond-none}

@@ -2,13 +2,13 @@
 use Rattle.std.proofs.Common.{◌≡◌, ◌⊎◌, ◌∙◌, inl, inr, ⊎_elim, ℕ, suc, ◌<◌, ◌≤◌, [], ◌∷◌, ◌++◌}
 use Rattle.std.proofs.Common.{length, take, refl, sym, ap, subst, arith}
 use Rattle.std.specs.Prelude.{Some, count_by, slice_get}
-use Rattle.runs_model.specs.declared.call.Reply.{Reply}
-use Rattle.runs_model.specs.declared.event.Event.{Event}
-use Rattle.runs_model.specs.declared.event.Event.TheVariants as event
-use Rattle.runs_model.specs.AwaiterKept.{EndsWith, since}
-use Rattle.runs_model.specs.Quiet.{begins_call, ends_call}
-use Rattle.runs_model.specs.Trace.{Trace}
-use Rattle.runs_model.proofs.Calls.{begun_by, ended_by}
+use Rattle.executor_model.specs.declared.call.Reply.{Reply}
+use Rattle.executor_model.specs.declared.event.Event.{Event}
+use Rattle.executor_model.specs.declared.event.Event.TheVariants as event
+use Rattle.executor_model.specs.AwaiterKept.{EndsWith, since}
+use Rattle.executor_model.specs.Quiet.{begins_call, ends_call}
+use Rattle.executor_model.specs.Trace.{Trace}
+use Rattle.executor_model.proofs.Calls.{begun_by, ended_by}
 use Rattle.runs_reach.proofs.Opens.{get-old, get-new, get-within, get-push, since-old, take-old, take-all, le-or, IsOpen}
 
 begun-is : (p : ℕ) (es : Trace) → begun_by p es ≡ count_by (begins_call p) es

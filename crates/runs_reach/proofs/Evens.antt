@@ -3,48 +3,48 @@
 use Rattle.std.proofs.Common.{◌≡◌, ◌∙◌, ℕ, zero, suc, ◌≤◌, List, [], ◌∷◌, length, set, get_or, Bool, true, false}
 use Rattle.std.proofs.Common.{refl, sym, ap, arith}
 use Rattle.task_moves.specs.declared.moves.owed.Move.TheVariants as move
-use Rattle.runs_model.specs.declared.call.Reply.{Reply}
-use Rattle.runs_model.specs.declared.event.Event.TheVariants as event
-use Rattle.runs_model.specs.declared.event.Answer.TheVariants as answer
-use Rattle.runs_model.specs.declared.op.ListOp.{ListOp}
-use Rattle.runs_model.specs.declared.op.ListOp.TheVariants as list_op
-use Rattle.runs_model.specs.declared.op.Op.{Op}
-use Rattle.runs_model.specs.declared.op.Op.TheVariants as op
-use Rattle.runs_model.specs.declared.op.Polled.TheVariants as of
-use Rattle.runs_model.specs.declared.op.RunOp.{RunOp}
-use Rattle.runs_model.specs.declared.op.RunOp.TheVariants as run_op
-use Rattle.runs_model.specs.declared.op.RunPoll.{RunPoll}
-use Rattle.runs_model.specs.declared.op.Sleeper.{Sleeper}
-use Rattle.runs_model.specs.declared.op.Sleeper.TheVariants as sleeper
-use Rattle.runs_model.specs.declared.op.Sleeping.{Sleeping}
-use Rattle.runs_model.specs.declared.op.Source.{Source}
-use Rattle.runs_model.specs.declared.op.Source.TheVariants.{Common, Own}
-use Rattle.runs_model.specs.declared.op.StealOp.{StealOp}
-use Rattle.runs_model.specs.declared.op.StealOp.TheVariants as steal_op
-use Rattle.runs_model.specs.declared.op.Then.{Then}
-use Rattle.runs_model.specs.declared.op.TickOp.{TickOp}
-use Rattle.runs_model.specs.declared.op.TickOp.TheVariants as tick_op
-use Rattle.runs_model.specs.declared.op.UserOp.TheVariants as user_op
-use Rattle.runs_model.specs.declared.op.Waker.{Waker}
-use Rattle.runs_model.specs.declared.op.Waker.TheVariants.{Task, Outside}
-use Rattle.runs_model.specs.declared.op.WakerOp.TheVariants as waker_op
-use Rattle.runs_model.specs.declared.step.Hint.{Hint}
-use Rattle.runs_model.specs.declared.step.UserEnd.{UserEnd}
-use Rattle.runs_model.specs.declared.step.UserEnd.TheVariants as end
-use Rattle.runs_model.specs.ActsOfRuns as runs
-use Rattle.runs_model.specs.Doing.{act, list_act, run_act, search_by_who, steal_act, tick_act}
-use Rattle.runs_model.specs.Sound.{times}
-use Rattle.runs_model.specs.Steps.{accepts, react}
-use Rattle.runs_model.specs.World.{World, Ended, log, own_of, put_own, run_of}
-use Rattle.runs_model.proofs.Lift.{no_hint}
-use Rattle.runs_model.proofs.RunsAside.{Hull, apart-act, hull, is_run as is_runs, stages-at}
-use Rattle.runs_model.proofs.RunsMoving.{hull-common, hull-found, hull-length, hull-more, hull-search, hull-stolen}
-use Rattle.runs_model.proofs.RunsMoving.{hull-tick}
-use Rattle.runs_model.proofs.Using.{is_for_runs}
-use Rattle.runs_model.proofs.UsingRuns.{idle-common, idle-more, idle-stolen, lessens-look, lessens-own}
-use Rattle.runs_model.proofs.UsingRuns.{lessens-steal, is_put}
-use Rattle.runs_model.proofs.UsingWorlds.{Idle, idle, idle-act, idle-copy, idle-copy_sleeper, idle-lie, idle-move}
-use Rattle.runs_model.proofs.UsingWorlds.{idle-search, is_past}
+use Rattle.executor_model.specs.declared.call.Reply.{Reply}
+use Rattle.executor_model.specs.declared.event.Event.TheVariants as event
+use Rattle.executor_model.specs.declared.event.Answer.TheVariants as answer
+use Rattle.executor_model.specs.declared.op.ListOp.{ListOp}
+use Rattle.executor_model.specs.declared.op.ListOp.TheVariants as list_op
+use Rattle.executor_model.specs.declared.op.Op.{Op}
+use Rattle.executor_model.specs.declared.op.Op.TheVariants as op
+use Rattle.executor_model.specs.declared.op.Polled.TheVariants as of
+use Rattle.executor_model.specs.declared.op.RunOp.{RunOp}
+use Rattle.executor_model.specs.declared.op.RunOp.TheVariants as run_op
+use Rattle.executor_model.specs.declared.op.RunPoll.{RunPoll}
+use Rattle.executor_model.specs.declared.op.Sleeper.{Sleeper}
+use Rattle.executor_model.specs.declared.op.Sleeper.TheVariants as sleeper
+use Rattle.executor_model.specs.declared.op.Sleeping.{Sleeping}
+use Rattle.executor_model.specs.declared.op.Source.{Source}
+use Rattle.executor_model.specs.declared.op.Source.TheVariants.{Common, Own}
+use Rattle.executor_model.specs.declared.op.StealOp.{StealOp}
+use Rattle.executor_model.specs.declared.op.StealOp.TheVariants as steal_op
+use Rattle.executor_model.specs.declared.op.Then.{Then}
+use Rattle.executor_model.specs.declared.op.TickOp.{TickOp}
+use Rattle.executor_model.specs.declared.op.TickOp.TheVariants as tick_op
+use Rattle.executor_model.specs.declared.op.UserOp.TheVariants as user_op
+use Rattle.executor_model.specs.declared.op.Waker.{Waker}
+use Rattle.executor_model.specs.declared.op.Waker.TheVariants.{Task, Outside}
+use Rattle.executor_model.specs.declared.op.WakerOp.TheVariants as waker_op
+use Rattle.executor_model.specs.declared.step.Hint.{Hint}
+use Rattle.executor_model.specs.declared.step.UserEnd.{UserEnd}
+use Rattle.executor_model.specs.declared.step.UserEnd.TheVariants as end
+use Rattle.executor_model.specs.ActsOfRuns as runs
+use Rattle.executor_model.specs.Doing.{act, list_act, run_act, search_by_who, steal_act, tick_act}
+use Rattle.executor_model.specs.Sound.{times}
+use Rattle.executor_model.specs.Steps.{accepts, react}
+use Rattle.executor_model.specs.World.{World, Ended, log, own_of, put_own, run_of}
+use Rattle.executor_model.proofs.Lift.{no_hint}
+use Rattle.executor_model.proofs.RunsAside.{Hull, apart-act, hull, is_run as is_runs, stages-at}
+use Rattle.executor_model.proofs.RunsMoving.{hull-common, hull-found, hull-length, hull-more, hull-search, hull-stolen}
+use Rattle.executor_model.proofs.RunsMoving.{hull-tick}
+use Rattle.executor_model.proofs.Using.{is_for_runs}
+use Rattle.executor_model.proofs.UsingRuns.{idle-common, idle-more, idle-stolen, lessens-look, lessens-own}
+use Rattle.executor_model.proofs.UsingRuns.{lessens-steal, is_put}
+use Rattle.executor_model.proofs.UsingWorlds.{Idle, idle, idle-act, idle-copy, idle-copy_sleeper, idle-lie, idle-move}
+use Rattle.executor_model.proofs.UsingWorlds.{idle-search, is_past}
 
 pub record Even (w v : World) : Type 0 where
   pub own : (g r : ℕ) → times g (own_of v r) ≤ times g (own_of w r)

@@ -2,13 +2,13 @@
 use Rattle.std.proofs.Common.{◌≡◌, ℕ, List, [], ◌∷◌, ◌++◌, length, Bool, true, false, ◌||◌, refl}
 use Rattle.std.proofs.Common.{sym, ap, ◌∙◌, arith, append-nil, length-append}
 use Rattle.std.proofs.lemmas.List.{append_assoc, append_cancel_left}
-use Rattle.runs_model.specs.declared.call.Call.{Call}
-use Rattle.runs_model.specs.declared.event.Event.{Event}
-use Rattle.runs_model.specs.declared.event.Event.TheVariants as event
-use Rattle.runs_model.specs.declared.step.Step.{Step}
-use Rattle.runs_model.specs.declared.step.Step.TheVariants.{Begin}
-use Rattle.runs_model.specs.Trace.{Trace, has}
-use Rattle.runs_model.specs.Steps.{Machine, step, stepped, run}
+use Rattle.executor_model.specs.declared.call.Call.{Call}
+use Rattle.executor_model.specs.declared.event.Event.{Event}
+use Rattle.executor_model.specs.declared.event.Event.TheVariants as event
+use Rattle.executor_model.specs.declared.step.Step.{Step}
+use Rattle.executor_model.specs.declared.step.Step.TheVariants.{Begin}
+use Rattle.executor_model.specs.Trace.{Trace, has}
+use Rattle.executor_model.specs.Steps.{Machine, step, stepped, run}
 use Rattle.runs_reach.proofs.Adding.{IsContinued, begins_one, Adds, adds, run-continues}
 use Rattle.runs_reach.proofs.Adding.Adds.{refused, goes_on, begins}
 

@@ -3,22 +3,22 @@ use Rattle.std.proofs.Common.{◌≡◌, ◌≢◌, ℕ, List, [], ◌∷◌, �
 use Rattle.std.proofs.Common.{eqb, ltb, refl, sym, ap, ◌∙◌, subst, ⊎_elim}
 use Rattle.std.proofs.lemmas.List.{append_assoc, append_cancel_left}
 use Rattle.std.specs.Prelude.{Some, None}
-use Rattle.runs_model.specs.declared.call.Call.{Call}
-use Rattle.runs_model.specs.declared.event.Event.{Event}
-use Rattle.runs_model.specs.declared.event.Event.TheVariants as event
-use Rattle.runs_model.specs.declared.op.Op.{Op}
-use Rattle.runs_model.specs.declared.step.Hint.{Hint}
-use Rattle.runs_model.specs.declared.step.Step.{Step}
-use Rattle.runs_model.specs.declared.step.Step.TheVariants.{Begin, Go, Answer}
-use Rattle.runs_model.specs.declared.step.StepError.{StepError}
-use Rattle.runs_model.specs.declared.step.StepError.TheVariants.{NoSuch, Idle, WrongAnswer}
-use Rattle.runs_model.specs.declared.step.UserEnd.{UserEnd}
-use Rattle.runs_model.specs.Trace.{Trace}
-use Rattle.runs_model.specs.Weights.{same}
-use Rattle.runs_model.specs.Steps.{Machine, stack, top, accepts, unless, go_refusal, answer_refusal}
-use Rattle.runs_model.specs.Steps.{party_of, part_refusal, step, stepped, run}
-use Rattle.runs_model.proofs.Lists.{same_cases}
-use Rattle.runs_model.proofs.Stepping.{step-refused}
+use Rattle.executor_model.specs.declared.call.Call.{Call}
+use Rattle.executor_model.specs.declared.event.Event.{Event}
+use Rattle.executor_model.specs.declared.event.Event.TheVariants as event
+use Rattle.executor_model.specs.declared.op.Op.{Op}
+use Rattle.executor_model.specs.declared.step.Hint.{Hint}
+use Rattle.executor_model.specs.declared.step.Step.{Step}
+use Rattle.executor_model.specs.declared.step.Step.TheVariants.{Begin, Go, Answer}
+use Rattle.executor_model.specs.declared.step.StepError.{StepError}
+use Rattle.executor_model.specs.declared.step.StepError.TheVariants.{NoSuch, Idle, WrongAnswer}
+use Rattle.executor_model.specs.declared.step.UserEnd.{UserEnd}
+use Rattle.executor_model.specs.Trace.{Trace}
+use Rattle.executor_model.specs.Weights.{same}
+use Rattle.executor_model.specs.Steps.{Machine, stack, top, accepts, unless, go_refusal, answer_refusal}
+use Rattle.executor_model.specs.Steps.{party_of, part_refusal, step, stepped, run}
+use Rattle.executor_model.proofs.Lists.{same_cases}
+use Rattle.executor_model.proofs.Stepping.{step-refused}
 use Rattle.runs_reach.proofs.Adding.{IsContinued, Adds, adds, run-continues}
 use Rattle.runs_reach.proofs.Adding.Adds.{refused, goes_on, begins}
 use Rattle.runs_reach.proofs.Finding.{heads, no-more}

@@ -7,41 +7,41 @@ use Rattle.std.proofs.lemmas.Bool.Decides.{nat_tests}
 use Rattle.std.proofs.lemmas.List.{append_assoc, reverse-append, reverse-reverse}
 use Rattle.std.specs.Prelude.{Option, Some, None, reverse}
 use Rattle.task_moves.specs.declared.moves.owed.Move.TheVariants as move
-use Rattle.runs_model.specs.declared.call.By.{By}
-use Rattle.runs_model.specs.declared.call.Call.{Call}
-use Rattle.runs_model.specs.declared.call.Call.TheVariants as call
-use Rattle.runs_model.specs.declared.call.Reply.{Reply}
-use Rattle.runs_model.specs.declared.call.Reply.TheVariants as reply
-use Rattle.runs_model.specs.declared.event.Answer.TheVariants as answer
-use Rattle.runs_model.specs.declared.event.Event.{Event}
-use Rattle.runs_model.specs.declared.event.Event.TheVariants as event
-use Rattle.runs_model.specs.declared.op.Hold.{Hold}
-use Rattle.runs_model.specs.declared.op.Op.{Op}
-use Rattle.runs_model.specs.declared.op.Op.TheVariants as op
-use Rattle.runs_model.specs.declared.op.RunPoll.{RunPoll}
-use Rattle.runs_model.specs.declared.op.StealOp.TheVariants as steal_op
-use Rattle.runs_model.specs.declared.op.UserOp.TheVariants as user_op
-use Rattle.runs_model.specs.declared.op.Waker.{Waker}
-use Rattle.runs_model.specs.declared.step.Hint.{Hint}
-use Rattle.runs_model.specs.declared.step.Step.{Step}
-use Rattle.runs_model.specs.declared.step.UserEnd.{UserEnd}
-use Rattle.runs_model.specs.declared.step.UserEnd.TheVariants as end
-use Rattle.runs_model.specs.Doing.{act}
-use Rattle.runs_model.specs.Good.{Good}
-use Rattle.runs_model.specs.Steps.{Machine, accepts, begun, drop_run, future_of, has_all, is_drop, is_free, is_on_executor}
-use Rattle.runs_model.specs.Steps.{is_unborrowed, kept, mine, poll_run, react, run, stack, start, top, waker_of}
-use Rattle.runs_model.specs.Steps.{with_future}
-use Rattle.runs_model.specs.Trace.{Trace, has}
-use Rattle.runs_model.specs.Weights.{same, weigh}
-use Rattle.runs_model.specs.World.{World, Stage, New, Listed, Ended, Done, done, log, run_of}
-use Rattle.runs_model.proofs.Calls.{calling_of, Answering, single, then}
-use Rattle.runs_model.proofs.CallsGroups.{calls-act}
-use Rattle.runs_model.proofs.Lift.{none_refused, unsettled, good-start}
-use Rattle.runs_model.proofs.Lists.{same_is, weigh-append, weigh-below}
-use Rattle.runs_model.proofs.Resting.{Opens, idle-stack, opens as begins-answering}
-use Rattle.runs_model.proofs.AwaitedTies.{stack-then}
-use Rattle.runs_model.proofs.Ways.{Way, along}
-use Rattle.runs_model.proofs.Ways.Way.{acted, reacted, called}
+use Rattle.executor_model.specs.declared.call.By.{By}
+use Rattle.executor_model.specs.declared.call.Call.{Call}
+use Rattle.executor_model.specs.declared.call.Call.TheVariants as call
+use Rattle.executor_model.specs.declared.call.Reply.{Reply}
+use Rattle.executor_model.specs.declared.call.Reply.TheVariants as reply
+use Rattle.executor_model.specs.declared.event.Answer.TheVariants as answer
+use Rattle.executor_model.specs.declared.event.Event.{Event}
+use Rattle.executor_model.specs.declared.event.Event.TheVariants as event
+use Rattle.executor_model.specs.declared.op.Hold.{Hold}
+use Rattle.executor_model.specs.declared.op.Op.{Op}
+use Rattle.executor_model.specs.declared.op.Op.TheVariants as op
+use Rattle.executor_model.specs.declared.op.RunPoll.{RunPoll}
+use Rattle.executor_model.specs.declared.op.StealOp.TheVariants as steal_op
+use Rattle.executor_model.specs.declared.op.UserOp.TheVariants as user_op
+use Rattle.executor_model.specs.declared.op.Waker.{Waker}
+use Rattle.executor_model.specs.declared.step.Hint.{Hint}
+use Rattle.executor_model.specs.declared.step.Step.{Step}
+use Rattle.executor_model.specs.declared.step.UserEnd.{UserEnd}
+use Rattle.executor_model.specs.declared.step.UserEnd.TheVariants as end
+use Rattle.executor_model.specs.Doing.{act}
+use Rattle.executor_model.specs.Good.{Good}
+use Rattle.executor_model.specs.Steps.{Machine, accepts, begun, drop_run, future_of, has_all, is_drop, is_free, is_on_executor}
+use Rattle.executor_model.specs.Steps.{is_unborrowed, kept, mine, poll_run, react, run, stack, start, top, waker_of}
+use Rattle.executor_model.specs.Steps.{with_future}
+use Rattle.executor_model.specs.Trace.{Trace, has}
+use Rattle.executor_model.specs.Weights.{same, weigh}
+use Rattle.executor_model.specs.World.{World, Stage, New, Listed, Ended, Done, done, log, run_of}
+use Rattle.executor_model.proofs.Calls.{calling_of, Answering, single, then}
+use Rattle.executor_model.proofs.CallsGroups.{calls-act}
+use Rattle.executor_model.proofs.Lift.{none_refused, unsettled, good-start}
+use Rattle.executor_model.proofs.Lists.{same_is, weigh-append, weigh-below}
+use Rattle.executor_model.proofs.Resting.{Opens, idle-stack, opens as begins-answering}
+use Rattle.executor_model.proofs.AwaitedTies.{stack-then}
+use Rattle.executor_model.proofs.Ways.{Way, along}
+use Rattle.executor_model.proofs.Ways.Way.{acted, reacted, called}
 use Rattle.runs_reach.proofs.Answering.{answers_of, other_of, few, Hands, hands-act, hands-react, is_end}
 use Rattle.runs_reach.proofs.Growing.{Grows, Allows, is_ordinary, grows-act, grows-begun, grows-react}
 use Rattle.runs_reach.proofs.Opens.{Open, opens, opens_one, opens-push, opens-none}

@@ -6,36 +6,36 @@ use Rattle.std.proofs.Math.ListN.{length-set}
 use Rattle.std.proofs.lemmas.List.{append_assoc, append_cancel_left}
 use Rattle.std.specs.Prelude.{Option, Some, None, reverse, slice_get}
 use Rattle.task_moves.specs.declared.moves.owed.Move.TheVariants as move
-use Rattle.runs_model.specs.declared.call.Reply.{Reply}
-use Rattle.runs_model.specs.declared.call.Reply.TheVariants as reply
-use Rattle.runs_model.specs.declared.event.Answer.TheVariants as answer
-use Rattle.runs_model.specs.declared.event.Event.{Event}
-use Rattle.runs_model.specs.declared.event.Event.TheVariants as event
-use Rattle.runs_model.specs.declared.op.Hold.{Hold}
-use Rattle.runs_model.specs.declared.op.Op.{Op}
-use Rattle.runs_model.specs.declared.op.Op.TheVariants as op
-use Rattle.runs_model.specs.declared.op.UserOp.TheVariants as user_op
-use Rattle.runs_model.specs.declared.step.Hint.{Hint}
-use Rattle.runs_model.specs.declared.step.Step.{Step}
-use Rattle.runs_model.specs.declared.step.Step.TheVariants.{Begin, Go, Answer}
-use Rattle.runs_model.specs.declared.step.StepError.{StepError}
-use Rattle.runs_model.specs.declared.step.UserEnd.{UserEnd}
-use Rattle.runs_model.specs.declared.step.UserEnd.TheVariants as end
-use Rattle.runs_model.specs.Trace.{Trace, has}
-use Rattle.runs_model.specs.World.{World, Done}
-use Rattle.runs_model.specs.Weights.{same, weigh}
-use Rattle.runs_model.specs.Steps.{Machine, stack, top, below_top, react, refusal, Part, end_of, settled_by, onto}
-use Rattle.runs_model.specs.Steps.{gone_on, with_part, after, step_by, step, stepped, run}
-use Rattle.runs_model.proofs.Calls.{calling_of}
-use Rattle.runs_model.proofs.CallsGroups.{calls-act}
-use Rattle.runs_model.proofs.Lift.{topped}
-use Rattle.runs_model.proofs.Lists.{same_cases, weigh-append, weigh-reverse}
+use Rattle.executor_model.specs.declared.call.Reply.{Reply}
+use Rattle.executor_model.specs.declared.call.Reply.TheVariants as reply
+use Rattle.executor_model.specs.declared.event.Answer.TheVariants as answer
+use Rattle.executor_model.specs.declared.event.Event.{Event}
+use Rattle.executor_model.specs.declared.event.Event.TheVariants as event
+use Rattle.executor_model.specs.declared.op.Hold.{Hold}
+use Rattle.executor_model.specs.declared.op.Op.{Op}
+use Rattle.executor_model.specs.declared.op.Op.TheVariants as op
+use Rattle.executor_model.specs.declared.op.UserOp.TheVariants as user_op
+use Rattle.executor_model.specs.declared.step.Hint.{Hint}
+use Rattle.executor_model.specs.declared.step.Step.{Step}
+use Rattle.executor_model.specs.declared.step.Step.TheVariants.{Begin, Go, Answer}
+use Rattle.executor_model.specs.declared.step.StepError.{StepError}
+use Rattle.executor_model.specs.declared.step.UserEnd.{UserEnd}
+use Rattle.executor_model.specs.declared.step.UserEnd.TheVariants as end
+use Rattle.executor_model.specs.Trace.{Trace, has}
+use Rattle.executor_model.specs.World.{World, Done}
+use Rattle.executor_model.specs.Weights.{same, weigh}
+use Rattle.executor_model.specs.Steps.{Machine, stack, top, below_top, react, refusal, Part, end_of, settled_by, onto}
+use Rattle.executor_model.specs.Steps.{gone_on, with_part, after, step_by, step, stepped, run}
+use Rattle.executor_model.proofs.Calls.{calling_of}
+use Rattle.executor_model.proofs.CallsGroups.{calls-act}
+use Rattle.executor_model.proofs.Lift.{topped}
+use Rattle.executor_model.proofs.Lists.{same_cases, weigh-append, weigh-reverse}
 use Rattle.runs_reach.proofs.Adding.{ends_one, none-ends, run-continues}
 use Rattle.runs_reach.proofs.Answering.{is_end}
 use Rattle.runs_reach.proofs.Growing.{Allows, Grows, grows, grows-act, grows-react}
 use Rattle.runs_reach.proofs.Finding.{heads, no-more, left-false}
 use Rattle.runs_reach.proofs.Following.{IsAlone, still-go, still-answer, wrong-answer, not-begun}
-use Rattle.runs_model.specs.Doing.{act}
+use Rattle.executor_model.specs.Doing.{act}
 
 abbrev yes : Hold → Op
 yes held = op.End reply.Yes held

@@ -9,6 +9,7 @@ pub mod Safe
 pub mod SafeSleepers
 pub mod RunsFewer
 pub mod SafeRuns
+pub mod SafeMoves
 pub mod SafeActs
 pub mod Answering
 pub mod Frames
@@ -28,6 +29,7 @@ pub mod Ticking
 pub mod LoneMoves
 pub mod LoneSteps
 pub mod LoneTicks
+pub mod LoneBegins
 pub mod Searching
 pub mod Reaching
 pub mod LoneAnswers
@@ -38,6 +40,7 @@ pub mod Begun
 pub mod RunFinds
 pub mod RunWalks
 pub mod RunReaching
+pub mod RunLeaves
 pub mod RunDrops
 pub mod RunSteps
 pub mod RunKeeps

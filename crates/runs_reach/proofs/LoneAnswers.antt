@@ -5,30 +5,31 @@ use Rattle.std.proofs.Math.ListN.{length-set}
 use Rattle.std.proofs.lemmas.Bool.Decides.{nat_tests}
 use Rattle.std.proofs.lemmas.List.{append_assoc}
 use Rattle.std.specs.Prelude.{Some, None}
-use Rattle.runs_model.specs.declared.call.Call.{Call}
-use Rattle.runs_model.specs.declared.call.Call.TheVariants as call
-use Rattle.runs_model.specs.declared.call.Reply.{Reply}
-use Rattle.runs_model.specs.declared.call.Reply.TheVariants as reply
-use Rattle.runs_model.specs.declared.event.Event.{Event}
-use Rattle.runs_model.specs.declared.event.Event.TheVariants as event
-use Rattle.runs_model.specs.declared.op.Op.{Op}
-use Rattle.runs_model.specs.declared.op.Op.TheVariants as op
-use Rattle.runs_model.specs.declared.op.TableOp.TheVariants as table_op
-use Rattle.runs_model.specs.declared.step.Hint.{Hint}
-use Rattle.runs_model.specs.declared.step.Step.{Step}
-use Rattle.runs_model.specs.declared.step.Step.TheVariants.{Begin, Go, Answer}
-use Rattle.runs_model.specs.Emptiness.{AllDropped, AnswersAlone, IsAtRest, IsQuietEmptinessExact, asks_alone}
-use Rattle.runs_model.specs.Keeper.{IsCommon}
-use Rattle.runs_model.specs.Acts.{look_at_table}
-use Rattle.runs_model.specs.Runs.{run_all}
-use Rattle.runs_model.specs.Sound.{times}
-use Rattle.runs_model.specs.World.{log}
-use Rattle.runs_model.specs.Steps.{Machine, stack, top, answer_refusal, onto, part_after}
-use Rattle.runs_model.specs.Steps.{with_part, after, refusal, run, start}
-use Rattle.runs_model.proofs.Quieting.{quiet-emptiness}
-use Rattle.runs_model.proofs.Resting.{rests}
+use Rattle.executor_model.specs.declared.call.Call.{Call}
+use Rattle.executor_model.specs.declared.call.Call.TheVariants as call
+use Rattle.executor_model.specs.declared.call.Reply.{Reply}
+use Rattle.executor_model.specs.declared.call.Reply.TheVariants as reply
+use Rattle.executor_model.specs.declared.event.Event.{Event}
+use Rattle.executor_model.specs.declared.event.Event.TheVariants as event
+use Rattle.executor_model.specs.declared.op.Op.{Op}
+use Rattle.executor_model.specs.declared.op.Op.TheVariants as op
+use Rattle.executor_model.specs.declared.op.TableOp.TheVariants as table_op
+use Rattle.executor_model.specs.declared.step.Hint.{Hint}
+use Rattle.executor_model.specs.declared.step.Step.{Step}
+use Rattle.executor_model.specs.declared.step.Step.TheVariants.{Begin, Go, Answer}
+use Rattle.executor_model.specs.Emptiness.{AllDropped, AnswersAlone, IsAtRest, IsQuietEmptinessExact, asks_alone}
+use Rattle.executor_model.specs.Keeper.{IsCommon}
+use Rattle.executor_model.specs.Acts.{look_at_table}
+use Rattle.executor_model.specs.Runs.{run_all}
+use Rattle.executor_model.specs.Sound.{times}
+use Rattle.executor_model.specs.World.{log}
+use Rattle.executor_model.specs.Steps.{Machine, stack, top, answer_refusal, onto, part_after}
+use Rattle.executor_model.specs.Steps.{with_part, after, refusal, run, start}
+use Rattle.executor_model.proofs.Quieting.{quiet-emptiness}
+use Rattle.executor_model.proofs.Resting.{rests}
 use Rattle.runs_reach.specs.LoneAnswers.{IsAnswered, IsLoneEmptinessExact, IsLoneTickExact}
-use Rattle.runs_reach.specs.Reach.{are_onward_of, IsLoneCall, TakesCommon}
+use Rattle.runs_laws.specs.LoneEnds.{are_onward_of, IsLoneCall}
+use Rattle.runs_reach.specs.Reach.{TakesCommon}
 use Rattle.runs_reach.proofs.Placing.{idle, queue-common}
 use Rattle.runs_reach.proofs.Ticking.{first-times}
 use Rattle.runs_reach.proofs.Reached.{Reached, run-first, run-then, run-of, reached-more}

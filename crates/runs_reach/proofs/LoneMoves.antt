@@ -6,43 +6,43 @@ use Rattle.std.specs.Prelude.{Option, Some, None}
 use Rattle.task_moves.specs.declared.moves.owed.Move.TheVariants as move
 use Rattle.task_moves.specs.declared.moves.owed.Moved.{Moved}
 use Rattle.task_moves.specs.Moves as moves
-use Rattle.runs_model.specs.declared.event.Answer.TheVariants as answer
-use Rattle.runs_model.specs.declared.event.Event.{Event}
-use Rattle.runs_model.specs.declared.event.Event.TheVariants as event
-use Rattle.runs_model.specs.declared.op.Waker.{Waker}
-use Rattle.runs_model.specs.declared.op.Waker.TheVariants.{Task, Outside}
-use Rattle.runs_model.specs.declared.op.Op.{Op}
-use Rattle.runs_model.specs.declared.op.Op.TheVariants as op
-use Rattle.runs_model.specs.declared.op.ClosingOp.TheVariants as closing_op
-use Rattle.runs_model.specs.declared.op.HandleOp.TheVariants as handle_op
-use Rattle.runs_model.specs.declared.op.Polled.{Polled}
-use Rattle.runs_model.specs.declared.op.Polled.TheVariants as of
-use Rattle.runs_model.specs.declared.op.QueueOp.TheVariants as queue_op
-use Rattle.runs_model.specs.declared.op.Sleeping.{Sleeping}
-use Rattle.runs_model.specs.declared.op.SleeperOp.{SleeperOp}
-use Rattle.runs_model.specs.declared.op.SleeperOp.TheVariants as sleeper_op
-use Rattle.runs_model.specs.declared.op.Sleeper.{Sleeper}
-use Rattle.runs_model.specs.declared.op.TableOp.TheVariants as table_op
-use Rattle.runs_model.specs.declared.op.TickOp.TheVariants as tick_op
-use Rattle.runs_model.specs.declared.op.UserOp.TheVariants as user_op
-use Rattle.runs_model.specs.declared.op.WakerOp.TheVariants as waker_op
-use Rattle.runs_model.specs.declared.step.Hint.{Hint}
-use Rattle.runs_model.specs.declared.step.UserEnd.{UserEnd}
-use Rattle.runs_model.specs.declared.step.UserEnd.TheVariants as end
-use Rattle.runs_model.specs.Trace.{Trace}
+use Rattle.executor_model.specs.declared.event.Answer.TheVariants as answer
+use Rattle.executor_model.specs.declared.event.Event.{Event}
+use Rattle.executor_model.specs.declared.event.Event.TheVariants as event
+use Rattle.executor_model.specs.declared.op.Waker.{Waker}
+use Rattle.executor_model.specs.declared.op.Waker.TheVariants.{Task, Outside}
+use Rattle.executor_model.specs.declared.op.Op.{Op}
+use Rattle.executor_model.specs.declared.op.Op.TheVariants as op
+use Rattle.executor_model.specs.declared.op.ClosingOp.TheVariants as closing_op
+use Rattle.executor_model.specs.declared.op.HandleOp.TheVariants as handle_op
+use Rattle.executor_model.specs.declared.op.Polled.{Polled}
+use Rattle.executor_model.specs.declared.op.Polled.TheVariants as of
+use Rattle.executor_model.specs.declared.op.QueueOp.TheVariants as queue_op
+use Rattle.executor_model.specs.declared.op.Sleeping.{Sleeping}
+use Rattle.executor_model.specs.declared.op.SleeperOp.{SleeperOp}
+use Rattle.executor_model.specs.declared.op.SleeperOp.TheVariants as sleeper_op
+use Rattle.executor_model.specs.declared.op.Sleeper.{Sleeper}
+use Rattle.executor_model.specs.declared.op.TableOp.TheVariants as table_op
+use Rattle.executor_model.specs.declared.op.TickOp.TheVariants as tick_op
+use Rattle.executor_model.specs.declared.op.UserOp.TheVariants as user_op
+use Rattle.executor_model.specs.declared.op.WakerOp.TheVariants as waker_op
+use Rattle.executor_model.specs.declared.step.Hint.{Hint}
+use Rattle.executor_model.specs.declared.step.UserEnd.{UserEnd}
+use Rattle.executor_model.specs.declared.step.UserEnd.TheVariants as end
+use Rattle.executor_model.specs.Trace.{Trace}
 use Rattle.executor_parts.specs.Sleepers.{waker_of}
-use Rattle.runs_model.specs.ActsOfSleepers.{get_up_by, polled_as}
-use Rattle.runs_model.proofs.SleepersNext.{goes-unseen}
-use Rattle.runs_model.specs.World.{Place, Up, Lies, Left}
-use Rattle.runs_model.specs.World.{World, Done, done, log, log_if, task, put, among, awaiter_of}
-use Rattle.runs_model.specs.Carried.{carried}
-use Rattle.runs_model.specs.Acts.{append_by, leave_by, notify_by}
-use Rattle.runs_model.specs.Acts.{call_waker}
-use Rattle.runs_model.specs.Steps.{waits, accepts, react}
-use Rattle.runs_model.specs.Weights.{weigh}
-use Rattle.runs_model.proofs.Asides.{Aside, aside-owed, aside-told}
-use Rattle.runs_model.specs.Doing.{sleeper_act, act}
-use Rattle.runs_model.specs.ActsOfSleepers.{exchange_by, hand_out_by}
+use Rattle.executor_model.specs.ActsOfSleepers.{get_up_by, polled_as}
+use Rattle.executor_model.proofs.SleepersNext.{goes-unseen}
+use Rattle.executor_model.specs.World.{Place, Up, Lies, Left}
+use Rattle.executor_model.specs.World.{World, Done, done, log, log_if, task, put, among, awaiter_of}
+use Rattle.executor_model.specs.Carried.{carried}
+use Rattle.executor_model.specs.Acts.{append_by, leave_by, notify_by}
+use Rattle.executor_model.specs.Acts.{call_waker}
+use Rattle.executor_model.specs.Steps.{waits, accepts, react}
+use Rattle.executor_model.specs.Weights.{weigh}
+use Rattle.executor_model.proofs.Asides.{Aside, aside-owed, aside-told}
+use Rattle.executor_model.specs.Doing.{sleeper_act, act}
+use Rattle.executor_model.specs.ActsOfSleepers.{exchange_by, hand_out_by}
 
 -- what belongs to no such call whose future is taken
 abbrev pub stray_of : Op → ℕ

@@ -6,30 +6,30 @@ use Rattle.std.proofs.lemmas.List.{reverse-append, append_cancel_right}
 use Rattle.std.proofs.lemmas.List.Folds.{list_any-append}
 use Rattle.std.specs.Prelude.{Option, Some, None, reverse}
 use Rattle.task_moves.specs.Moves as moves
-use Rattle.runs_model.specs.declared.call.Reply.{Reply}
-use Rattle.runs_model.specs.declared.event.Event.TheVariants as event
-use Rattle.runs_model.specs.declared.op.Hold.{Hold}
-use Rattle.runs_model.specs.declared.op.Op.{Op}
-use Rattle.runs_model.specs.declared.op.Op.TheVariants as op
+use Rattle.executor_model.specs.declared.call.Reply.{Reply}
+use Rattle.executor_model.specs.declared.event.Event.TheVariants as event
+use Rattle.executor_model.specs.declared.op.Hold.{Hold}
+use Rattle.executor_model.specs.declared.op.Op.{Op}
+use Rattle.executor_model.specs.declared.op.Op.TheVariants as op
 use Rattle.task_moves.specs.declared.moves.owed.Move.TheVariants as move
-use Rattle.runs_model.specs.declared.op.TableOp.TheVariants as table_op
-use Rattle.runs_model.specs.declared.op.UserOp.TheVariants as user_op
-use Rattle.runs_model.specs.declared.step.Hint.{Hint}
-use Rattle.runs_model.specs.declared.step.Step.TheVariants.{Go, Answer}
-use Rattle.runs_model.specs.declared.step.StepError.TheVariants.{Waits as IsLockedOut, WrongAnswer}
-use Rattle.runs_model.specs.declared.step.UserEnd.{UserEnd}
-use Rattle.runs_model.specs.Trace.{Trace, has}
-use Rattle.runs_model.specs.World.{World, Done, log_if, task, among}
-use Rattle.runs_model.specs.Carried.{owed_ops, carried}
-use Rattle.runs_model.specs.Steps.{Part, top, below_top, waits, accepts, is_locked_out, unless, go_refusal, answer_refusal, react, part}
-use Rattle.runs_model.specs.Steps.{end_of, settled, settled_by, onto, gone_on, part_after}
-use Rattle.runs_model.specs.Weights.{weigh}
-use Rattle.runs_model.proofs.Lists.{weigh-append, weigh-reverse}
-use Rattle.runs_model.proofs.Lift.{topped}
-use Rattle.runs_model.proofs.Spawning.{top-last}
+use Rattle.executor_model.specs.declared.op.TableOp.TheVariants as table_op
+use Rattle.executor_model.specs.declared.op.UserOp.TheVariants as user_op
+use Rattle.executor_model.specs.declared.step.Hint.{Hint}
+use Rattle.executor_model.specs.declared.step.Step.TheVariants.{Go, Answer}
+use Rattle.executor_model.specs.declared.step.StepError.TheVariants.{Waits as IsLockedOut, WrongAnswer}
+use Rattle.executor_model.specs.declared.step.UserEnd.{UserEnd}
+use Rattle.executor_model.specs.Trace.{Trace, has}
+use Rattle.executor_model.specs.World.{World, Done, log_if, task, among}
+use Rattle.executor_model.specs.Carried.{owed_ops, carried}
+use Rattle.executor_model.specs.Steps.{Part, top, below_top, waits, accepts, is_locked_out, unless, go_refusal, answer_refusal, react, part}
+use Rattle.executor_model.specs.Steps.{end_of, settled, settled_by, onto, gone_on, part_after}
+use Rattle.executor_model.specs.Weights.{weigh}
+use Rattle.executor_model.proofs.Lists.{weigh-append, weigh-reverse}
+use Rattle.executor_model.proofs.Lift.{topped}
+use Rattle.executor_model.proofs.Spawning.{top-last}
 use Rattle.runs_reach.specs.Reach.{takes}
 use Rattle.runs_reach.proofs.LoneMoves.{stray_of, Inner, logged, inner-act, inner-carried, inner-react}
-use Rattle.runs_model.specs.Doing.{act}
+use Rattle.executor_model.specs.Doing.{act}
 
 -- what goes on isn't user code, and what answers is accepted
 

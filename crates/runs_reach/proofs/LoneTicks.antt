@@ -3,25 +3,25 @@ use Rattle.std.proofs.Common.{◌≡◌, ℕ, ◌<◌, List, [], ◌∷◌, ◌+
 use Rattle.std.proofs.Common.{refl, sym, ap, ◌∙◌, subst, arith, get_or-set_same, Ok}
 use Rattle.std.proofs.lemmas.Bool.Decides.{nat_tests}
 use Rattle.std.specs.Prelude.{Option, None}
-use Rattle.runs_model.specs.declared.call.Reply.{Reply}
-use Rattle.runs_model.specs.declared.op.Hold.{Hold}
-use Rattle.runs_model.specs.declared.op.Op.{Op}
-use Rattle.runs_model.specs.declared.step.Hint.{Hint}
-use Rattle.runs_model.specs.declared.step.UserEnd.{UserEnd}
-use Rattle.runs_model.specs.declared.step.Step.{Step}
-use Rattle.runs_model.specs.declared.step.Step.TheVariants.{Begin, Go, Answer}
-use Rattle.runs_model.specs.declared.step.StepError.{StepError}
-use Rattle.runs_model.specs.declared.step.StepError.TheVariants.{NoSuch, WrongAnswer}
-use Rattle.runs_model.specs.Trace.{Trace}
-use Rattle.runs_model.specs.World.{World}
-use Rattle.runs_model.specs.Runs.{run_all}
-use Rattle.runs_model.specs.Steps.{Machine, Part, stack, top, accepts, onto, go_refusal, answer_refusal}
-use Rattle.runs_model.specs.Steps.{part_refusal, party_of, refusal, unless, part_after, with_part, after}
-use Rattle.runs_reach.specs.Reach.{is_onward_of, are_onward_of}
+use Rattle.executor_model.specs.declared.call.Reply.{Reply}
+use Rattle.executor_model.specs.declared.op.Hold.{Hold}
+use Rattle.executor_model.specs.declared.op.Op.{Op}
+use Rattle.executor_model.specs.declared.step.Hint.{Hint}
+use Rattle.executor_model.specs.declared.step.UserEnd.{UserEnd}
+use Rattle.executor_model.specs.declared.step.Step.{Step}
+use Rattle.executor_model.specs.declared.step.Step.TheVariants.{Begin, Go, Answer}
+use Rattle.executor_model.specs.declared.step.StepError.{StepError}
+use Rattle.executor_model.specs.declared.step.StepError.TheVariants.{NoSuch, WrongAnswer}
+use Rattle.executor_model.specs.Trace.{Trace}
+use Rattle.executor_model.specs.World.{World}
+use Rattle.executor_model.specs.Runs.{run_all}
+use Rattle.executor_model.specs.Steps.{Machine, Part, stack, top, accepts, onto, go_refusal, answer_refusal}
+use Rattle.executor_model.specs.Steps.{part_refusal, party_of, refusal, unless, part_after, with_part, after}
+use Rattle.runs_laws.specs.LoneEnds.{is_onward_of, are_onward_of}
 use Rattle.runs_reach.proofs.Reached.{Reached, run-first, reached-step}
 use Rattle.runs_reach.proofs.LoneSteps.{Going, Ended, Arrives, HasEntry, answering, on-go, on-answer}
 use Rattle.runs_reach.proofs.LoneSteps.Arrives.{going, ended}
-use Rattle.runs_model.specs.Doing.{act}
+use Rattle.executor_model.specs.Doing.{act}
 
 pub left-true : (a b : Bool) → (a && b) ≡ true → (a ≡ true) × (b ≡ true)
 left-true true b e = (refl, e)

@@ -3,13 +3,13 @@ use Rattle.std.proofs.Common.{◌≡◌, ◌∙◌, ⊎_elim, ℕ, zero, suc, �
 use Rattle.std.proofs.Common.{length, drop, Bool, true, false, eqb, cond, refl, sym, ap, subst, arith}
 use Rattle.std.proofs.lemmas.Bool.Decides.{nat_tests}
 use Rattle.std.specs.Prelude.{Option, Some, None, slice_get}
-use Rattle.runs_model.specs.declared.call.Reply.{Reply}
-use Rattle.runs_model.specs.declared.event.Event.{Event}
-use Rattle.runs_model.specs.declared.event.Event.TheVariants as event
-use Rattle.runs_model.specs.Trace.{Trace}
-use Rattle.runs_model.specs.Weights.{same}
-use Rattle.runs_model.proofs.Calls.{begin_of, end_of}
-use Rattle.runs_model.proofs.Lists.{same_is}
+use Rattle.executor_model.specs.declared.call.Reply.{Reply}
+use Rattle.executor_model.specs.declared.event.Event.{Event}
+use Rattle.executor_model.specs.declared.event.Event.TheVariants as event
+use Rattle.executor_model.specs.Trace.{Trace}
+use Rattle.executor_model.specs.Weights.{same}
+use Rattle.executor_model.proofs.Calls.{begin_of, end_of}
+use Rattle.executor_model.proofs.Lists.{same_is}
 use Rattle.runs_reach.proofs.Dueness.{by_last}
 use Rattle.runs_reach.proofs.Opens.{Open, opens, opens_one, opens-push, opens-none, get-old, get-new}
 use Rattle.runs_reach.proofs.Opens.{get-push, IsOpen, open-push, open-now, Before, open-before}

@@ -3,11 +3,11 @@ use Rattle.std.proofs.Common.{◌≡◌, ◌⊎◌, ◌∙◌, inl, inr, ⊎_eli
 use Rattle.std.proofs.Common.{length, drop, take, eqb, cond, refl, sym, ap, subst, arith}
 use Rattle.std.proofs.lemmas.List.{length-append}
 use Rattle.std.specs.Prelude.{Option, Some, None, slice_get}
-use Rattle.runs_model.specs.declared.event.Event.{Event}
-use Rattle.runs_model.specs.declared.event.Event.TheVariants as event
-use Rattle.runs_model.specs.AwaiterKept.{since}
-use Rattle.runs_model.specs.Trace.{Trace}
-use Rattle.runs_model.proofs.Calls.{begun_by, ended_by, begin_of, end_of, begun-push, ended-push}
+use Rattle.executor_model.specs.declared.event.Event.{Event}
+use Rattle.executor_model.specs.declared.event.Event.TheVariants as event
+use Rattle.executor_model.specs.AwaiterKept.{since}
+use Rattle.executor_model.specs.Trace.{Trace}
+use Rattle.executor_model.proofs.Calls.{begun_by, ended_by, begin_of, end_of, begun-push, ended-push}
 
 -- a call that is in progress: of a poll of a run, that run and the place at which the poll is told of
 abbrev pub Open : Type 0

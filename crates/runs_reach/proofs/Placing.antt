@@ -2,28 +2,28 @@
 use Rattle.std.proofs.Common.{◌≡◌, ◌⊎◌, ◌∙◌, inl, inr, ⊎_elim, ℕ, zero, suc, ◌+◌, ◌<◌, ◌≤◌, List, [], ◌∷◌}
 use Rattle.std.proofs.Common.{get_or, Bool, true, false, ◌||◌, refl, sym, ap, subst, arith}
 use Rattle.std.specs.Prelude.{Some, count_by}
-use Rattle.runs_model.specs.declared.event.Event.{Event}
-use Rattle.runs_model.specs.declared.event.Event.TheVariants as event
-use Rattle.runs_model.specs.declared.op.Op.{Op}
-use Rattle.runs_model.specs.declared.step.Step.{Step}
-use Rattle.runs_model.specs.AwaiterKept.{since}
-use Rattle.runs_model.specs.Due.{IsDue}
-use Rattle.runs_model.specs.Emptiness.{IsAtRest}
-use Rattle.runs_model.specs.Good.{Good}
-use Rattle.runs_model.specs.Keeper.{IsCommon, IsKeeper, is_run_drop}
-use Rattle.runs_model.specs.Rows.{appends_of, closing_of, drops_of, ending_of, giving_of, polls_of, ready_of, settling_of, waiting_of}
-use Rattle.runs_model.specs.Sound.{pend, queued, times, times_in}
-use Rattle.runs_model.specs.Steps.{Machine, run, stack, start}
-use Rattle.runs_model.specs.Trace.{Trace, has, is_accepted, is_dropped, is_ready}
-use Rattle.runs_model.specs.Weights.{weigh_all}
-use Rattle.runs_model.specs.World.{Ended, own_of, run_of, task}
-use Rattle.runs_model.proofs.AskingRuns.{Heard, heard}
-use Rattle.runs_model.proofs.Lift.{good}
-use Rattle.runs_model.proofs.Resting.{Deep, all-rest, deep, rests}
-use Rattle.runs_model.proofs.Stories.{story}
-use Rattle.runs_model.proofs.Telling.{accepted-counts, begun-has, counted-there, fallen-counts, there-or-none}
-use Rattle.runs_model.proofs.Using.{emptying_of}
-use Rattle.runs_model.proofs.UsingWorlds.{is_over_stage, is_past}
+use Rattle.executor_model.specs.declared.event.Event.{Event}
+use Rattle.executor_model.specs.declared.event.Event.TheVariants as event
+use Rattle.executor_model.specs.declared.op.Op.{Op}
+use Rattle.executor_model.specs.declared.step.Step.{Step}
+use Rattle.executor_model.specs.AwaiterKept.{since}
+use Rattle.executor_model.specs.Due.{IsDue}
+use Rattle.executor_model.specs.Emptiness.{IsAtRest}
+use Rattle.executor_model.specs.Good.{Good}
+use Rattle.executor_model.specs.Keeper.{IsCommon, IsKeeper, is_run_drop}
+use Rattle.executor_model.specs.Rows.{appends_of, closing_of, drops_of, ending_of, giving_of, polls_of, ready_of, settling_of, waiting_of}
+use Rattle.executor_model.specs.Sound.{pend, queued, times, times_in}
+use Rattle.executor_model.specs.Steps.{Machine, run, stack, start}
+use Rattle.executor_model.specs.Trace.{Trace, has, is_accepted, is_dropped, is_ready}
+use Rattle.executor_model.specs.Weights.{weigh_all}
+use Rattle.executor_model.specs.World.{Ended, own_of, run_of, task}
+use Rattle.executor_model.proofs.AskingRuns.{Heard, heard}
+use Rattle.executor_model.proofs.Lift.{good}
+use Rattle.executor_model.proofs.Resting.{Deep, all-rest, deep, rests}
+use Rattle.executor_model.proofs.Stories.{story}
+use Rattle.executor_model.proofs.Telling.{accepted-counts, begun-has, counted-there, fallen-counts, there-or-none}
+use Rattle.executor_model.proofs.Using.{emptying_of}
+use Rattle.executor_model.proofs.UsingWorlds.{is_over_stage, is_past}
 use Rattle.runs_reach.specs.Places.{StandsWithKeeper}
 use Rattle.runs_reach.proofs.Answering.{readying_of}
 use Rattle.runs_reach.proofs.Bonds.{Bond, bond, bond-is, reads}

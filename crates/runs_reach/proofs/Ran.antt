@@ -5,16 +5,16 @@ use Rattle.std.proofs.Common.{append-nil}
 use Rattle.std.proofs.lemmas.Bool.Decides.{nat_tests}
 use Rattle.std.proofs.lemmas.List.{append_assoc}
 use Rattle.std.specs.Prelude.{Some, slice_get}
-use Rattle.runs_model.specs.declared.call.Reply.TheVariants as reply
-use Rattle.runs_model.specs.declared.event.Event.{Event}
-use Rattle.runs_model.specs.declared.event.Event.TheVariants as event
-use Rattle.runs_model.specs.declared.op.Sleeper.TheVariants as sleeper
-use Rattle.runs_model.specs.AwaiterKept.{EndsWith, since}
-use Rattle.runs_model.specs.Keeper.{AnswersReady, is_run_drop}
-use Rattle.runs_model.specs.Standing.{polls_sleeper}
-use Rattle.runs_model.specs.Trace.{Trace, has}
-use Rattle.runs_model.specs.World.{World, Ended, run_of}
-use Rattle.runs_model.proofs.UsingWorlds.{is_over_stage, is_past}
+use Rattle.executor_model.specs.declared.call.Reply.TheVariants as reply
+use Rattle.executor_model.specs.declared.event.Event.{Event}
+use Rattle.executor_model.specs.declared.event.Event.TheVariants as event
+use Rattle.executor_model.specs.declared.op.Sleeper.TheVariants as sleeper
+use Rattle.executor_model.specs.AwaiterKept.{EndsWith, since}
+use Rattle.executor_model.specs.Keeper.{AnswersReady, is_run_drop}
+use Rattle.executor_model.specs.Standing.{polls_sleeper}
+use Rattle.executor_model.specs.Trace.{Trace, has}
+use Rattle.executor_model.specs.World.{World, Ended, run_of}
+use Rattle.executor_model.proofs.UsingWorlds.{is_over_stage, is_past}
 use Rattle.runs_reach.proofs.Endings.{ends-before, ends-later}
 use Rattle.runs_reach.proofs.Growing.{is_ordinary}
 use Rattle.runs_reach.proofs.Opens.{IsOpen, get-old, get-push, get-within, since-new}

@@ -1,15 +1,15 @@
 -- What holds of each machine to which steps lead.
 use Rattle.std.proofs.Common.{◌≡◌, ℕ, List, [], ◌∷◌, ◌++◌, refl, sym, ap, ◌∙◌, subst, Ok, Err, Result}
 use Rattle.std.specs.Prelude.{Option, Some, None}
-use Rattle.runs_model.specs.declared.step.Step.{Step}
-use Rattle.runs_model.specs.declared.step.StepError.{StepError}
-use Rattle.runs_model.specs.Runs.{run_all}
-use Rattle.runs_model.specs.Good.{Good}
-use Rattle.runs_model.specs.Steps.{Machine, refusal, after, step, stepped, run, start}
-use Rattle.runs_model.proofs.Lift.{good}
-use Rattle.runs_model.proofs.Stepping.{step-refused, step-made}
-use Rattle.runs_model.proofs.AskingRuns.{Heard, heard}
-use Rattle.runs_model.proofs.Resting.{Deep, deep}
+use Rattle.executor_model.specs.declared.step.Step.{Step}
+use Rattle.executor_model.specs.declared.step.StepError.{StepError}
+use Rattle.executor_model.specs.Runs.{run_all}
+use Rattle.executor_model.specs.Good.{Good}
+use Rattle.executor_model.specs.Steps.{Machine, refusal, after, step, stepped, run, start}
+use Rattle.executor_model.proofs.Lift.{good}
+use Rattle.executor_model.proofs.Stepping.{step-refused, step-made}
+use Rattle.executor_model.proofs.AskingRuns.{Heard, heard}
+use Rattle.executor_model.proofs.Resting.{Deep, deep}
 use Rattle.runs_reach.proofs.BoundWays.{Bonded, bonded}
 
 -- a list of steps that is possible is so step by step

@@ -5,23 +5,27 @@ use Rattle.std.proofs.Common.{append-nil, append_assoc, length-append, Ok}
 use Rattle.std.proofs.Math.Seq.{drop-append_seam}
 use Rattle.std.proofs.lemmas.List.Folds.{list_any-append}
 use Rattle.std.specs.Prelude.{Some}
-use Rattle.runs_model.specs.declared.call.Call.{Call}
-use Rattle.runs_model.specs.declared.call.Reply.{Reply}
-use Rattle.runs_model.specs.declared.event.Event.TheVariants as event
-use Rattle.runs_model.specs.declared.step.Step.{Step}
-use Rattle.runs_model.specs.declared.step.Step.TheVariants.{Begin}
-use Rattle.runs_model.specs.Trace.{Trace, has}
-use Rattle.runs_model.specs.Keeper.{IsCommon}
-use Rattle.runs_model.specs.Emptiness.{IsAtRest}
-use Rattle.runs_model.specs.Runs.{run_all}
-use Rattle.runs_model.specs.Weights.{same}
-use Rattle.runs_model.specs.Sound.{times}
-use Rattle.runs_model.specs.Steps.{Machine, run, start}
-use Rattle.runs_model.proofs.Lists.{same_cases}
-use Rattle.runs_model.proofs.Stories.{no-longer}
-use Rattle.runs_model.proofs.Entering.{queue-agrees}
-use Rattle.runs_reach.specs.Reach.{found_answer, IsLoneCall, LoneSearch, AreLoneSearches, takes, TakesCommon}
+use Rattle.executor_model.specs.declared.call.By.TheVariants as by
+use Rattle.executor_model.specs.declared.call.Call.{Call}
+use Rattle.executor_model.specs.declared.call.Call.TheVariants as call
+use Rattle.executor_model.specs.declared.call.Reply.{Reply}
+use Rattle.executor_model.specs.declared.event.Event.TheVariants as event
+use Rattle.executor_model.specs.declared.step.Step.{Step}
+use Rattle.executor_model.specs.declared.step.Step.TheVariants.{Begin}
+use Rattle.executor_model.specs.Trace.{Trace, has}
+use Rattle.executor_model.specs.Keeper.{IsCommon}
+use Rattle.executor_model.specs.Emptiness.{IsAtRest}
+use Rattle.executor_model.specs.Runs.{run_all, EveryMachine}
+use Rattle.executor_model.specs.Weights.{same}
+use Rattle.executor_model.specs.Sound.{times}
+use Rattle.executor_model.specs.Steps.{Machine, run, start}
+use Rattle.executor_model.proofs.Lists.{same_cases}
+use Rattle.executor_model.proofs.Stories.{no-longer}
+use Rattle.executor_model.proofs.Entering.{queue-agrees}
+use Rattle.runs_laws.specs.LoneEnds.{IsLoneCall, LoneCallsEnd}
+use Rattle.runs_reach.specs.Reach.{found_answer, LoneSearch, AreLoneSearches, takes, TakesCommon}
 use Rattle.runs_reach.specs.Reach.{since, HasCommons, IsInReach, IsReachedInOrder}
+use Rattle.runs_reach.proofs.LoneBegins.{poll-begins, tick-begins}
 use Rattle.runs_reach.proofs.Placing.{common-queue, queue-common}
 use Rattle.runs_reach.proofs.Ticking.{first-times}
 use Rattle.runs_reach.proofs.Adding.{IsContinued, run-continues}
@@ -174,16 +178,21 @@ module _ (s : Machine) (r : Reached s) (rest : IsAtRest s) where
       ap (λ (es : Trace). has (takes f) (drop (length s.world.trace) es)) x.grows.trace
       ∙ (ap (has (takes f)) (drop-append_seam s.world.trace x.grows.grown) ∙ x.taken)
 
-in-reach : (s : Machine) → Reached s → IsInReach s
-in-reach s r = record {
+in-reach : (s : Machine) → Reached s → LoneCallsEnd s → IsInReach s
+in-reach s r ends = record {
   each = λ rest f common p c a e steps new k. takes-common s r rest f common p c a e steps new k;
   all = λ rest commons k searches new t comings m l f c. takes-all s r rest commons k searches new t (omega (arith, l))
       f c;
+  can = λ rest p l. ends.can rest.quiet p call.TryTick (tick-begins s r rest p l);
+  polls = λ rest p l t x alive. ends.can rest.quiet p (call.PollTick t (by.Outside x))
+      (poll-begins s r rest p t x l alive);
 }
 
-pub reaches : (limit parties : ℕ) (steps : List Step) → IsInReach (run steps (start limit parties))
-reaches limit parties steps =
+pub reaches : EveryMachine LoneCallsEnd → (limit parties : ℕ) (steps : List Step) →
+    IsInReach (run steps (start limit parties))
+reaches ends limit parties steps =
     in-reach (run steps (start limit parties)) (record { limit = limit; parties = parties; steps = steps; is = refl })
+    (ends limit parties steps)
 
 pub reaches-in-order : (limit parties : ℕ) (steps : List Step) → IsReachedInOrder (run steps (start limit parties))
 reaches-in-order limit parties steps = λ rest commons k searches new t l f c.

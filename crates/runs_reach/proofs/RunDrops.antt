@@ -1,53 +1,41 @@
 -- What a run that is dropped leaves in its own queue comes into the executor's queue.
-use Rattle.std.proofs.Common.{◌≡◌, ◌⊎◌, ◌∙◌, inl, inr, ⊎_elim, ℕ, zero, suc, ◌+◌, ◌<◌, ◌≤◌, List, [], ◌∷◌, ◌++◌, length}
-use Rattle.std.proofs.Common.{get_or, get_or-set_same, Bool, true, false, ◌&&◌, ◌||◌, not, ltb, refl, sym, ap, subst, arith, Ok}
+use Rattle.std.proofs.Common.{◌≡◌, ◌⊎◌, ◌∙◌, inl, inr, ⊎_elim, ℕ, ◌+◌, ◌<◌, ◌≤◌, List, [], ◌∷◌, ◌++◌, length}
+use Rattle.std.proofs.Common.{get_or, Bool, true, false, ◌||◌, ltb, refl, sym, ap, subst, arith, Ok}
 use Rattle.std.proofs.lemmas.Bool.Decides.{nat_tests}
-use Rattle.std.specs.Prelude.{Option, Some, None, reverse, nat_lt, is_none}
-use Rattle.executor_parts.specs.Sleepers.{waker_of}
-use Rattle.runs_model.specs.declared.call.Call.TheVariants as call
-use Rattle.runs_model.specs.declared.call.Reply.{Reply}
-use Rattle.runs_model.specs.declared.call.Reply.TheVariants as reply
-use Rattle.runs_model.specs.declared.event.Answer.TheVariants as answer
-use Rattle.runs_model.specs.declared.event.Event.TheVariants as event
-use Rattle.runs_model.specs.declared.op.Hold.{Hold}
-use Rattle.runs_model.specs.declared.op.Hold.TheVariants as hold
-use Rattle.runs_model.specs.declared.op.ListOp.TheVariants as list_op
-use Rattle.runs_model.specs.declared.op.Op.{Op}
-use Rattle.runs_model.specs.declared.op.Op.TheVariants as op
-use Rattle.runs_model.specs.declared.op.QueueOp.TheVariants as queue_op
-use Rattle.runs_model.specs.declared.op.RunOp.TheVariants as run_op
-use Rattle.runs_model.specs.declared.op.Section.TheVariants as section
-use Rattle.runs_model.specs.declared.op.Sleeper.{Sleeper}
-use Rattle.runs_model.specs.declared.op.Sleeper.TheVariants as sleeper
-use Rattle.runs_model.specs.declared.op.SleeperOp.TheVariants as sleeper_op
-use Rattle.runs_model.specs.declared.op.TickOp.TheVariants as tick_op
-use Rattle.runs_model.specs.declared.op.UserOp.TheVariants as user_op
-use Rattle.runs_model.specs.declared.op.WakerOp.TheVariants as waker_op
-use Rattle.runs_model.specs.declared.step.Step.{Step}
-use Rattle.runs_model.specs.declared.step.Step.TheVariants.{Begin}
-use Rattle.runs_model.specs.declared.step.UserEnd.{UserEnd}
-use Rattle.runs_model.specs.declared.step.UserEnd.TheVariants as end
-use Rattle.runs_model.specs.Acts.{append_by}
-use Rattle.runs_model.specs.ActsOfRuns.{reschedule_by}
-use Rattle.runs_model.specs.ActsOfSleepers.{leave_sleepers_by, sleeper_goes, tell_if}
-use Rattle.runs_model.specs.Doing.{act}
-use Rattle.runs_model.specs.Emptiness.{IsAtRest}
-use Rattle.runs_model.specs.Keeper.{IsCommon}
-use Rattle.runs_model.specs.Runs.{run_all}
-use Rattle.runs_model.specs.Sound.{times}
-use Rattle.runs_model.specs.Steps.{Machine, Part, drop_run, end_of, onto, part, part_after, react, run, settled, settled_by}
-use Rattle.runs_model.specs.Steps.{stack, start, top, with_part}
-use Rattle.runs_model.specs.Weights.{weigh, weigh_all}
-use Rattle.runs_model.specs.World.{Done, Ended, Left, Lies, Listed, New, Place, Stage, Up, World, done, log, own_of}
-use Rattle.runs_model.specs.World.{place_of, put_run, run_of}
-use Rattle.runs_model.proofs.LeavingRuns.{has-place}
-use Rattle.runs_model.proofs.Lists.{times-append, weigh-append, weigh-reverse}
-use Rattle.runs_model.proofs.Resting.{all-rest, rests}
-use Rattle.runs_model.proofs.SleepersNext.{goes-unseen}
-use Rattle.runs_model.proofs.Spawning.{top-last}
-use Rattle.runs_model.proofs.Using.{emptying_of, is_for_runs}
-use Rattle.runs_model.proofs.UsingWorlds.{idle-act, is_over_stage}
-use Rattle.runs_reach.specs.Reach.{IsLoneCall, are_onward_of, is_onward_of}
+use Rattle.std.specs.Prelude.{reverse}
+use Rattle.executor_model.specs.declared.call.Call.TheVariants as call
+use Rattle.executor_model.specs.declared.call.Reply.{Reply}
+use Rattle.executor_model.specs.declared.call.Reply.TheVariants as reply
+use Rattle.executor_model.specs.declared.event.Event.TheVariants as event
+use Rattle.executor_model.specs.declared.op.Hold.{Hold}
+use Rattle.executor_model.specs.declared.op.ListOp.TheVariants as list_op
+use Rattle.executor_model.specs.declared.op.Op.{Op}
+use Rattle.executor_model.specs.declared.op.Op.TheVariants as op
+use Rattle.executor_model.specs.declared.op.QueueOp.TheVariants as queue_op
+use Rattle.executor_model.specs.declared.op.RunOp.TheVariants as run_op
+use Rattle.executor_model.specs.declared.op.Section.TheVariants as section
+use Rattle.executor_model.specs.declared.op.Sleeper.{Sleeper}
+use Rattle.executor_model.specs.declared.op.TickOp.TheVariants as tick_op
+use Rattle.executor_model.specs.declared.op.UserOp.TheVariants as user_op
+use Rattle.executor_model.specs.declared.step.Step.{Step}
+use Rattle.executor_model.specs.declared.step.Step.TheVariants.{Begin}
+use Rattle.executor_model.specs.ActsOfRuns.{reschedule_by}
+use Rattle.executor_model.specs.Doing.{act}
+use Rattle.executor_model.specs.Emptiness.{IsAtRest}
+use Rattle.executor_model.specs.Keeper.{IsCommon}
+use Rattle.executor_model.specs.Runs.{run_all}
+use Rattle.executor_model.specs.Sound.{times}
+use Rattle.executor_model.specs.Steps.{Machine, Part, drop_run, onto, part_after, react, run}
+use Rattle.executor_model.specs.Steps.{stack, start, with_part}
+use Rattle.executor_model.specs.Weights.{weigh, weigh_all}
+use Rattle.executor_model.specs.World.{Done, Ended, Listed, New, Stage, World, done, log, own_of}
+use Rattle.executor_model.specs.World.{place_of, put_run, run_of}
+use Rattle.executor_model.proofs.LeavingRuns.{has-place}
+use Rattle.executor_model.proofs.Lists.{weigh-reverse}
+use Rattle.executor_model.proofs.Resting.{all-rest, rests}
+use Rattle.executor_model.proofs.Using.{emptying_of}
+use Rattle.executor_model.proofs.UsingWorlds.{idle-act, is_over_stage}
+use Rattle.runs_laws.specs.LoneEnds.{IsLoneCall, are_onward_of, is_onward_of}
 use Rattle.runs_reach.specs.RunReach.{Keeps, LeavesCommon}
 use Rattle.runs_reach.proofs.LoneMoves.{Inner, inner-act, inner-react, stray_of}
 use Rattle.runs_reach.proofs.LoneSteps.{Last, from-end}
@@ -55,144 +43,13 @@ use Rattle.runs_reach.proofs.LoneTicks.{idle-none, in-range, left-true, of-party
 use Rattle.runs_reach.proofs.Placing.{here, idle, keeper-own, queue-common}
 use Rattle.runs_reach.proofs.Reached.{Reached, bonded-here, deep-here, good-here, heard-here, reached-more, reached-step}
 use Rattle.runs_reach.proofs.Reached.{run-first}
-use Rattle.runs_reach.proofs.RunFinds.{light-no-end, top-of}
 use Rattle.runs_reach.proofs.RunWalks.{Onward, both-light, light, onward}
 use Rattle.runs_reach.proofs.RunWalks.Onward.{acted, answered}
 use Rattle.runs_reach.proofs.Searching.{at-rest}
-
--- own queues, and what leaves them alone
-
-pub not-for-runs : (o : Op) → stray_of o ≡ 0 → is_for_runs o ≡ false
-not-for-runs (op.Tick (tick_op.Search s)) z = absurd (omega (arith, z))
-not-for-runs (op.Tick (tick_op.CopyWaker s)) z = absurd (omega (arith, z))
-not-for-runs (op.Tick (tick_op.LieDown s)) z = absurd (omega (arith, z))
-not-for-runs (op.User (user_op.PollOwn x)) z = absurd (omega (arith, z))
-not-for-runs (op.Waker (waker_op.CopyWaker f held)) z = absurd (omega (arith, z))
-not-for-runs (op.List o) z = absurd (omega (arith, z))
-not-for-runs (op.Steal o) z = absurd (omega (arith, z))
-not-for-runs (op.Run o) z = absurd (omega (arith, z))
-not-for-runs (op.End a held) z = absurd (omega (arith, z))
-not-for-runs _ z = refl
-
-pub own-react : (p : ℕ) (o : Op) (u : UserEnd) (w : World) → (react p o u w).world.own ≡ w.own
-own-react p (op.User (user_op.Poll f)) (end.Polled answer.Pending) w = refl
-own-react p (op.User (user_op.Poll f)) (end.Polled answer.Ready) w = refl
-own-react p (op.User (user_op.Poll f)) end.Done w = refl
-own-react p (op.User (user_op.PollOwn x)) (end.Polled answer.Pending) w = refl
-own-react p (op.User (user_op.PollOwn x)) (end.Polled answer.Ready) w = refl
-own-react p (op.User (user_op.PollOwn x)) end.Done w = refl
-own-react p _ u w = refl
-
-pub within : (qs : List (List ℕ)) (r g : ℕ) (rest : List ℕ) → get_or qs r [] ≡ g ∷ rest → r < length qs
-within [] r g rest e = absurd (cc)
-within (q ∷ qs) zero g rest e = omega arith
-within (q ∷ qs) (suc r) g rest e = omega (arith, within qs r g rest e)
-
--- f stands in the executor's queue no less often
-more-stands : (f : ℕ) (w : World) (d : Done) → Inner w d → times f w.queue.items ≤ times f d.world.queue.items
-more-stands f w d i = omega (arith, ap (times f) i.queue, times-append f w.queue.items i.added)
-
--- what is left of the call, its last thing on top: the queue of run r is to be emptied, and f stands there or in the
--- executor's queue; or that is done, and f stands in the executor's queue
-data Remains (r f : ℕ) (w : World) (os : List Op) : Type 0 where
-  back : (a : Reply) (rest : List ℕ) (side : List Op) → os ≡ op.Run (run_op.Reschedule r a) ∷ side →
-      weigh stray_of side ≡ 0 → own_of w r ≡ rest → 1 ≤ times f w.queue.items + times f rest → Remains r f w os
-  puts : (a : Reply) (g : ℕ) (rest : List ℕ) → os ≡ op.Run (run_op.Reschedule r a) ∷ op.Queue (queue_op.Append g) ∷ [] →
-      own_of w r ≡ rest → 1 ≤ times f w.queue.items + times f (g ∷ rest) → Remains r f w os
-  leaves : (a : Reply) (held : Hold) (who : Sleeper) → os ≡ op.End a held ∷ op.Tick (tick_op.Leave who) ∷ [] →
-      1 ≤ times f w.queue.items → Remains r f w os
-  ends : (a : Reply) (held : Hold) (below : List Op) (o : Op) → os ≡ op.End a held ∷ (below ++ o ∷ []) →
-      weigh stray_of (below ++ o ∷ []) ≡ 0 → 1 ≤ times f w.queue.items → Remains r f w os
-  over : os ≡ [] → 1 ≤ times f w.queue.items → Remains r f w os
-
-abbrev Rests : ℕ → ℕ → Part → Type 0
-Rests r f x = Remains r f x.world x.todo
-
--- only side things and the end are left
-to-end : (p r f : ℕ) (a : Reply) (held : Hold) (w : World) (side : List Op) → weigh stray_of side ≡ 0 →
-    1 ≤ times f w.queue.items → Rests r f (settled p w (op.End a held ∷ side))
-to-end p r f a held w side z k = go (from-end side)
-  where
-    go : (side ≡ []) ⊎ Last side → Rests r f (settled p w (op.End a held ∷ side))
-    go (inl e) = subst (λ (os : List Op). Rests r f (settled p w (op.End a held ∷ os))) (sym e) (over refl k)
-    go (inr l) =
-        let b : _ = light side l.below l.last l.is z in
-        let q : settled p w (op.End a held ∷ (l.below ++ l.last ∷ [])) ≡
-        part w (op.End a held ∷ (l.below ++ l.last ∷ [])) =
-        ap (λ (v : Option Reply). settled_by v p w (op.End a held ∷ (l.below ++ l.last ∷ [])))
-        (ap end_of (top-last (op.End a held ∷ l.below) l.last) ∙ light-no-end l.last b.1) in
-        subst (λ (os : List Op). Rests r f (settled p w (op.End a held ∷ os))) (sym l.is)
-        (subst (Rests r f) (sym q) (ends a held l.below l.last refl
-        (subst (λ (os : List Op). weigh stray_of os ≡ 0) l.is z) k))
-
--- the queue is emptied further
-from-queue : (p r f : ℕ) (a : Reply) (w : World) (xs rest : List ℕ) → own_of w r ≡ rest → xs ≡ rest →
-    1 ≤ times f w.queue.items + times f rest → Rests r f (onto p (reschedule_by xs w r a) [])
-from-queue p r f a w [] rest o e k =
-    leaves a (hold.Run r) (sleeper.Run r) refl (omega (arith, k, ap (times f) (sym e)))
-from-queue p r f a w (g ∷ xs) rest o e k =
-    puts a g xs refl (get_or-set_same w.own r xs [] (within w.own r g xs (o ∙ sym e)))
-    (omega (arith, k, ap (times f) (sym e)))
-
--- the run leaves the sleepers
-from-leaving : (p r f : ℕ) (a : Reply) (held : Hold) (x : Place) (w : World) (who : Sleeper) →
-    1 ≤ times f w.queue.items → Rests r f (onto p (leave_sleepers_by x w who) (op.End a held ∷ []))
-from-leaving p r f a held Up w who k = over refl k
-from-leaving p r f a held Left w who k = over refl k
-from-leaving p r f a held (Lies n) w who k =
-    to-end p r f a held (leave_sleepers_by (Lies n) w who).world (reverse (leave_sleepers_by (Lies n) w who).next)
-    (weigh-reverse stray_of (leave_sleepers_by (Lies n) w who).next ∙ omega (
-      arith,
-      weigh-append stray_of (sleeper_goes (waker_of n w.sleepers.wakers))
-          (tell_if (is_none (waker_of n w.sleepers.wakers))),
-      goes-unseen stray_of (λ g. refl) (waker_of n w.sleepers.wakers),
-      tells (is_none (waker_of n w.sleepers.wakers)),
-    )) k
-  where
-    tells : (b : Bool) → weigh stray_of (tell_if b) ≡ 0
-    tells true = refl
-    tells false = refl
-
--- a Runnable is appended
-from-append : (p r f g : ℕ) (a : Reply) (b : Bool) (w : World) (rest : List ℕ) → b ≡ true → own_of w r ≡ rest →
-    1 ≤ times f w.queue.items + times f (g ∷ rest) →
-    Rests r f (onto p (append_by b w g) (op.Run (run_op.Reschedule r a) ∷ []))
-from-append p r f g a true w rest e o k =
-    back a rest (op.Sleeper sleeper_op.ExchangeFlag ∷ []) refl refl o
-    (omega (arith, k, times-append f w.queue.items (g ∷ [])))
-from-append p r f g a false w rest e o k = absurd (cc)
-
-has-room : (c : Bool) (n m : ℕ) → c ≡ false → n < m → (not c && nat_lt n m) ≡ true
-has-room true n m e l = absurd (cc)
-has-room false n m e l = grind (arith, nat_tests)
-
-not-true : (b : Bool) → (b ≡ true → ⊥) → b ≡ false
-not-true true k = absurd (k refl)
-not-true false k = refl
-
-settled-gone : (o : Option Reply) (p : ℕ) (w : World) (os : List Op) → (settled_by o p w os).world.gone ≡ w.gone
-settled-gone None p w os = refl
-settled-gone (Some a) p w os = refl
-
-pub gone-onto : (p : ℕ) (d : Done) (below : List Op) → (onto p d below).world.gone ≡ d.world.gone
-gone-onto p d below = settled-gone (end_of (top (below ++ reverse d.next))) p d.world (below ++ reverse d.next)
-
-gone-reschedule : (xs : List ℕ) (w : World) (r : ℕ) (a : Reply) → (reschedule_by xs w r a).world.gone ≡ w.gone
-gone-reschedule [] w r a = refl
-gone-reschedule (g ∷ xs) w r a = refl
-
--- what is left to do where side things were done
-back-again : (p r f : ℕ) (a : Reply) (d : Done) (below : List Op) (rest : List ℕ) → weigh stray_of below ≡ 0 →
-    weigh stray_of d.next ≡ 0 → own_of d.world r ≡ rest → 1 ≤ times f d.world.queue.items + times f rest →
-    Rests r f (onto p d (op.Run (run_op.Reschedule r a) ∷ below))
-back-again p r f a d below rest z x o k =
-    let light-all : weigh stray_of (below ++ reverse d.next) ≡ 0 =
-    both-light below (reverse d.next) z (weigh-reverse stray_of d.next ∙ x) in
-    let q : onto p d (op.Run (run_op.Reschedule r a) ∷ below) ≡
-    part d.world (op.Run (run_op.Reschedule r a) ∷ (below ++ reverse d.next)) =
-    ap (λ (v : Option Reply). settled_by v p d.world (op.Run (run_op.Reschedule r a) ∷ (below ++ reverse d.next)))
-    (top-of (op.Run (run_op.Reschedule r a) ∷ []) (below ++ reverse d.next) refl light-all) in
-    subst (Rests r f) (sym q) (back a rest (below ++ reverse d.next) refl light-all o k)
+use Rattle.runs_reach.proofs.RunLeaves.{not-for-runs, own-react, more-stands, Remains, Rests, to-end, from-queue}
+use Rattle.runs_reach.proofs.RunLeaves.{from-leaving, from-append, has-room, not-true, gone-onto, gone-reschedule}
+use Rattle.runs_reach.proofs.RunLeaves.{back-again}
+use Rattle.runs_reach.proofs.RunLeaves.Remains.{back, puts, leaves, ends, over}
 
 -- f stands in the executor's queue, which is there
 record Stands (f : ℕ) (m : Machine) : Type 0 where

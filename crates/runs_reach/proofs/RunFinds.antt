@@ -4,33 +4,33 @@ use Rattle.std.proofs.Common.{append-nil, append_assoc, arith}
 use Rattle.std.proofs.lemmas.List.{reverse-append}
 use Rattle.std.specs.Prelude.{Some, None, reverse}
 use Rattle.task_moves.specs.declared.moves.owed.Move.TheVariants as move
-use Rattle.runs_model.specs.declared.event.Event.TheVariants as event
-use Rattle.runs_model.specs.declared.op.Op.{Op}
-use Rattle.runs_model.specs.declared.op.Op.TheVariants as op
-use Rattle.runs_model.specs.declared.op.QueueOp.TheVariants as queue_op
-use Rattle.runs_model.specs.declared.op.RunOp.TheVariants as run_op
-use Rattle.runs_model.specs.declared.op.RunPoll.{RunPoll}
-use Rattle.runs_model.specs.declared.op.Sleeper.{Sleeper}
-use Rattle.runs_model.specs.declared.op.Sleeper.TheVariants as sleeper
-use Rattle.runs_model.specs.declared.op.SleeperOp.TheVariants as sleeper_op
-use Rattle.runs_model.specs.declared.op.Source.{Source}
-use Rattle.runs_model.specs.declared.op.Source.TheVariants.{Common, Own}
-use Rattle.runs_model.specs.declared.op.Steal.{Steal}
-use Rattle.runs_model.specs.declared.op.StealOp.{StealOp}
-use Rattle.runs_model.specs.declared.op.StealOp.TheVariants as steal_op
-use Rattle.runs_model.specs.declared.op.Then.{Then}
-use Rattle.runs_model.specs.declared.op.Then.TheVariants as then
-use Rattle.runs_model.specs.declared.op.TickOp.TheVariants as tick_op
-use Rattle.runs_model.specs.ActsOfRuns.{asleep, behind, counted_by, counted_to, found, kept_by, run_by, run_found}
-use Rattle.runs_model.specs.ActsOfRuns.{steal_by, steal_length_by, steal_put_by, steal_take_by, stolen, without_first}
-use Rattle.runs_model.specs.ActsOfSleepers.{found_by}
-use Rattle.runs_model.specs.Doing.{steal_act}
-use Rattle.runs_model.specs.Steps.{end_of, top}
-use Rattle.runs_model.specs.Trace.{Trace}
-use Rattle.runs_model.specs.Weights.{weigh}
-use Rattle.runs_model.specs.World.{Done, Left, Lies, Place, Up, World, done}
-use Rattle.runs_model.proofs.Lists.{weigh-append, weigh-reverse}
-use Rattle.runs_model.proofs.Spawning.{top-last}
+use Rattle.executor_model.specs.declared.event.Event.TheVariants as event
+use Rattle.executor_model.specs.declared.op.Op.{Op}
+use Rattle.executor_model.specs.declared.op.Op.TheVariants as op
+use Rattle.executor_model.specs.declared.op.QueueOp.TheVariants as queue_op
+use Rattle.executor_model.specs.declared.op.RunOp.TheVariants as run_op
+use Rattle.executor_model.specs.declared.op.RunPoll.{RunPoll}
+use Rattle.executor_model.specs.declared.op.Sleeper.{Sleeper}
+use Rattle.executor_model.specs.declared.op.Sleeper.TheVariants as sleeper
+use Rattle.executor_model.specs.declared.op.SleeperOp.TheVariants as sleeper_op
+use Rattle.executor_model.specs.declared.op.Source.{Source}
+use Rattle.executor_model.specs.declared.op.Source.TheVariants.{Common, Own}
+use Rattle.executor_model.specs.declared.op.Steal.{Steal}
+use Rattle.executor_model.specs.declared.op.StealOp.{StealOp}
+use Rattle.executor_model.specs.declared.op.StealOp.TheVariants as steal_op
+use Rattle.executor_model.specs.declared.op.Then.{Then}
+use Rattle.executor_model.specs.declared.op.Then.TheVariants as then
+use Rattle.executor_model.specs.declared.op.TickOp.TheVariants as tick_op
+use Rattle.executor_model.specs.ActsOfRuns.{asleep, behind, counted_by, counted_to, found, kept_by, run_by, run_found}
+use Rattle.executor_model.specs.ActsOfRuns.{steal_by, steal_length_by, steal_put_by, steal_take_by, stolen, without_first}
+use Rattle.executor_model.specs.ActsOfSleepers.{found_by}
+use Rattle.executor_model.specs.Doing.{steal_act}
+use Rattle.executor_model.specs.Steps.{end_of, top}
+use Rattle.executor_model.specs.Trace.{Trace}
+use Rattle.executor_model.specs.Weights.{weigh}
+use Rattle.executor_model.specs.World.{Done, Left, Lies, Place, Up, World, done}
+use Rattle.executor_model.proofs.Lists.{weigh-append, weigh-reverse}
+use Rattle.executor_model.proofs.Spawning.{top-last}
 use Rattle.runs_reach.proofs.LoneMoves.{stray_of}
 use Rattle.runs_reach.proofs.LoneSteps.{Last, from-end}
 

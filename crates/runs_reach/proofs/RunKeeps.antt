@@ -5,33 +5,34 @@ use Rattle.std.proofs.lemmas.List.{reverse-append}
 use Rattle.std.proofs.lemmas.List.Folds.{list_any-append}
 use Rattle.std.proofs.Math.Seq.{drop-append_seam}
 use Rattle.std.specs.Prelude.{Option, Some, None, reverse}
-use Rattle.runs_model.specs.declared.call.By.{By}
-use Rattle.runs_model.specs.declared.call.Call.TheVariants as call
-use Rattle.runs_model.specs.declared.call.Reply.{Reply}
-use Rattle.runs_model.specs.declared.event.Event.TheVariants as event
-use Rattle.runs_model.specs.declared.op.ListOp.TheVariants as list_op
-use Rattle.runs_model.specs.declared.op.Op.{Op}
-use Rattle.runs_model.specs.declared.op.Op.TheVariants as op
-use Rattle.runs_model.specs.declared.op.RunPoll.{RunPoll}
-use Rattle.runs_model.specs.declared.op.TickOp.TheVariants as tick_op
-use Rattle.runs_model.specs.declared.step.Hint.{Hint}
-use Rattle.runs_model.specs.declared.step.Step.{Step}
-use Rattle.runs_model.specs.declared.step.Step.TheVariants.{Begin}
-use Rattle.runs_model.specs.declared.step.UserEnd.{UserEnd}
-use Rattle.runs_model.specs.ActsOfRuns.{asleep, behind, search_own_by}
-use Rattle.runs_model.specs.Doing.{act}
-use Rattle.runs_model.specs.Due.{IsDue}
-use Rattle.runs_model.specs.Emptiness.{IsAtRest}
-use Rattle.runs_model.specs.Runs.{run_all}
-use Rattle.runs_model.specs.Sound.{times}
-use Rattle.runs_model.specs.Steps.{Machine, Part, end_of, onto, part, react, run, settled, settled_by, stack, start, top, with_part}
-use Rattle.runs_model.specs.Trace.{Trace, has}
-use Rattle.runs_model.specs.Weights.{weigh}
-use Rattle.runs_model.specs.World.{Done, World, log, own_of}
-use Rattle.runs_model.proofs.Lists.{times-append, weigh-append, weigh-reverse}
-use Rattle.runs_model.proofs.Spawning.{top-last}
-use Rattle.runs_model.proofs.Stories.{no-longer}
-use Rattle.runs_reach.specs.Reach.{are_onward_of, is_onward_of, since, takes}
+use Rattle.executor_model.specs.declared.call.By.{By}
+use Rattle.executor_model.specs.declared.call.Call.TheVariants as call
+use Rattle.executor_model.specs.declared.call.Reply.{Reply}
+use Rattle.executor_model.specs.declared.event.Event.TheVariants as event
+use Rattle.executor_model.specs.declared.op.ListOp.TheVariants as list_op
+use Rattle.executor_model.specs.declared.op.Op.{Op}
+use Rattle.executor_model.specs.declared.op.Op.TheVariants as op
+use Rattle.executor_model.specs.declared.op.RunPoll.{RunPoll}
+use Rattle.executor_model.specs.declared.op.TickOp.TheVariants as tick_op
+use Rattle.executor_model.specs.declared.step.Hint.{Hint}
+use Rattle.executor_model.specs.declared.step.Step.{Step}
+use Rattle.executor_model.specs.declared.step.Step.TheVariants.{Begin}
+use Rattle.executor_model.specs.declared.step.UserEnd.{UserEnd}
+use Rattle.executor_model.specs.ActsOfRuns.{asleep, behind, search_own_by}
+use Rattle.executor_model.specs.Doing.{act}
+use Rattle.executor_model.specs.Due.{IsDue}
+use Rattle.executor_model.specs.Emptiness.{IsAtRest}
+use Rattle.executor_model.specs.Runs.{run_all}
+use Rattle.executor_model.specs.Sound.{times}
+use Rattle.executor_model.specs.Steps.{Machine, Part, end_of, onto, part, react, run, settled, settled_by, stack, start, top, with_part}
+use Rattle.executor_model.specs.Trace.{Trace, has}
+use Rattle.executor_model.specs.Weights.{weigh}
+use Rattle.executor_model.specs.World.{Done, World, log, own_of}
+use Rattle.executor_model.proofs.Lists.{times-append, weigh-append, weigh-reverse}
+use Rattle.executor_model.proofs.Spawning.{top-last}
+use Rattle.executor_model.proofs.Stories.{no-longer}
+use Rattle.runs_laws.specs.LoneEnds.{are_onward_of, is_onward_of}
+use Rattle.runs_reach.specs.Reach.{since, takes}
 use Rattle.runs_reach.specs.RunReach.{AreLonePolls, HasKept, IsKeptReached, IsLonePoll, Keeps, LoneRunPoll}
 use Rattle.runs_reach.proofs.Adding.{More, more-act, more-onto, more-react}
 use Rattle.runs_reach.proofs.LoneMoves.{stray_of}
@@ -40,7 +41,7 @@ use Rattle.runs_reach.proofs.LoneTicks.{idle-none, left-true, of-party, stack-se
 use Rattle.runs_reach.proofs.Placing.{in-own, keeper-own, own-keeper, queued-due}
 use Rattle.runs_reach.proofs.Reached.{Reached, bonded-here, deep-here, good-here, heard-here, run-first}
 use Rattle.runs_reach.proofs.Reaching.{Grows, Place, Takes, grows-and, place, run-grows}
-use Rattle.runs_reach.proofs.RunDrops.{gone-onto}
+use Rattle.runs_reach.proofs.RunLeaves.{gone-onto}
 use Rattle.runs_reach.proofs.RunFinds.{Heading, light-no-end}
 use Rattle.runs_reach.proofs.RunReaching.{arrived, entry, is-due, new-idle, poll, reached-new, takes-first}
 use Rattle.runs_reach.proofs.RunReaching.First.{in_own}

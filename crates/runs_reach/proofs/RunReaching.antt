@@ -5,41 +5,42 @@ use Rattle.std.proofs.lemmas.Bool.Decides.{nat_tests}
 use Rattle.std.proofs.lemmas.List.Folds.{list_any-append}
 use Rattle.std.proofs.Math.Seq.{drop-append_seam}
 use Rattle.std.specs.Prelude.{Option, Some, None, reverse}
-use Rattle.runs_model.specs.declared.call.By.{By}
-use Rattle.runs_model.specs.declared.call.Call.TheVariants as call
-use Rattle.runs_model.specs.declared.event.Answer.TheVariants as answer
-use Rattle.runs_model.specs.declared.event.Event.TheVariants as event
-use Rattle.runs_model.specs.declared.op.ListOp.TheVariants as list_op
-use Rattle.runs_model.specs.declared.op.Op.{Op}
-use Rattle.runs_model.specs.declared.op.Op.TheVariants as op
-use Rattle.runs_model.specs.declared.op.RunOp.TheVariants as run_op
-use Rattle.runs_model.specs.declared.op.RunPoll.{RunPoll}
-use Rattle.runs_model.specs.declared.op.Section.TheVariants as section
-use Rattle.runs_model.specs.declared.op.Source.TheVariants.{Common}
-use Rattle.runs_model.specs.declared.op.StealOp.TheVariants as steal_op
-use Rattle.runs_model.specs.declared.op.Then.TheVariants as then
-use Rattle.runs_model.specs.declared.op.TickOp.TheVariants as tick_op
-use Rattle.runs_model.specs.declared.op.UserOp.TheVariants as user_op
-use Rattle.runs_model.specs.declared.step.Step.{Step}
-use Rattle.runs_model.specs.declared.step.Step.TheVariants.{Begin}
-use Rattle.runs_model.specs.declared.step.UserEnd.{UserEnd}
-use Rattle.runs_model.specs.declared.step.UserEnd.TheVariants as end
-use Rattle.runs_model.specs.ActsOfRuns.{asleep, registered, search_common_by, search_own_by}
-use Rattle.runs_model.specs.Doing.{act}
-use Rattle.runs_model.specs.Due.{IsDue}
-use Rattle.runs_model.specs.Emptiness.{IsAtRest}
-use Rattle.runs_model.specs.Keeper.{IsCommon}
-use Rattle.runs_model.specs.Runs.{run_all}
-use Rattle.runs_model.specs.Sound.{queued, times}
-use Rattle.runs_model.specs.Steps.{Machine, Part, onto, part, part_after, poll_run, react, run, stack, start}
-use Rattle.runs_model.specs.Steps.{waker_of, with_part}
-use Rattle.runs_model.specs.Trace.{Trace, has, is_accepted, is_drop_begun, is_dropped}
-use Rattle.runs_model.specs.World.{Done, Ended, Listed, New, Stage, World, among, done, log, own_of, put_own, run_of}
-use Rattle.runs_model.proofs.Entering.{table-agrees}
-use Rattle.runs_model.proofs.Resting.{rests}
-use Rattle.runs_model.proofs.Stories.{among_is}
-use Rattle.runs_model.proofs.Telling.{begun-has}
-use Rattle.runs_reach.specs.Reach.{are_onward_of, is_onward_of, since, takes}
+use Rattle.executor_model.specs.declared.call.By.{By}
+use Rattle.executor_model.specs.declared.call.Call.TheVariants as call
+use Rattle.executor_model.specs.declared.event.Answer.TheVariants as answer
+use Rattle.executor_model.specs.declared.event.Event.TheVariants as event
+use Rattle.executor_model.specs.declared.op.ListOp.TheVariants as list_op
+use Rattle.executor_model.specs.declared.op.Op.{Op}
+use Rattle.executor_model.specs.declared.op.Op.TheVariants as op
+use Rattle.executor_model.specs.declared.op.RunOp.TheVariants as run_op
+use Rattle.executor_model.specs.declared.op.RunPoll.{RunPoll}
+use Rattle.executor_model.specs.declared.op.Section.TheVariants as section
+use Rattle.executor_model.specs.declared.op.Source.TheVariants.{Common}
+use Rattle.executor_model.specs.declared.op.StealOp.TheVariants as steal_op
+use Rattle.executor_model.specs.declared.op.Then.TheVariants as then
+use Rattle.executor_model.specs.declared.op.TickOp.TheVariants as tick_op
+use Rattle.executor_model.specs.declared.op.UserOp.TheVariants as user_op
+use Rattle.executor_model.specs.declared.step.Step.{Step}
+use Rattle.executor_model.specs.declared.step.Step.TheVariants.{Begin}
+use Rattle.executor_model.specs.declared.step.UserEnd.{UserEnd}
+use Rattle.executor_model.specs.declared.step.UserEnd.TheVariants as end
+use Rattle.executor_model.specs.ActsOfRuns.{asleep, registered, search_common_by, search_own_by}
+use Rattle.executor_model.specs.Doing.{act}
+use Rattle.executor_model.specs.Due.{IsDue}
+use Rattle.executor_model.specs.Emptiness.{IsAtRest}
+use Rattle.executor_model.specs.Keeper.{IsCommon}
+use Rattle.executor_model.specs.Runs.{run_all}
+use Rattle.executor_model.specs.Sound.{queued, times}
+use Rattle.executor_model.specs.Steps.{Machine, Part, onto, part, part_after, poll_run, react, run, stack, start}
+use Rattle.executor_model.specs.Steps.{waker_of, with_part}
+use Rattle.executor_model.specs.Trace.{Trace, has, is_accepted, is_drop_begun, is_dropped}
+use Rattle.executor_model.specs.World.{Done, Ended, Listed, New, Stage, World, among, done, log, own_of, put_own, run_of}
+use Rattle.executor_model.proofs.Entering.{table-agrees}
+use Rattle.executor_model.proofs.Resting.{rests}
+use Rattle.executor_model.proofs.Stories.{among_is}
+use Rattle.executor_model.proofs.Telling.{begun-has}
+use Rattle.runs_laws.specs.LoneEnds.{are_onward_of, is_onward_of}
+use Rattle.runs_reach.specs.Reach.{since, takes}
 use Rattle.runs_reach.specs.RunReach.{IsLonePoll, IsReachedByRuns, Keeps, TakesKept, TakesOneCommon, first_answer}
 use Rattle.runs_reach.proofs.LoneSteps.{HasEntry}
 use Rattle.runs_reach.proofs.LoneTicks.{idle-none, in-range, left-true, of-party, stack-set}

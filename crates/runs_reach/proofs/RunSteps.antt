@@ -5,50 +5,50 @@ use Rattle.std.proofs.Common.{append_assoc}
 use Rattle.std.proofs.lemmas.List.{reverse-append}
 use Rattle.std.specs.Prelude.{Option, Some, None, reverse}
 use Rattle.task_moves.specs.declared.moves.owed.Move.TheVariants as move
-use Rattle.runs_model.specs.declared.call.Reply.TheVariants as reply
-use Rattle.runs_model.specs.declared.event.Event.TheVariants as event
-use Rattle.runs_model.specs.declared.op.Hold.TheVariants as hold
-use Rattle.runs_model.specs.declared.op.ListOp.TheVariants as list_op
-use Rattle.runs_model.specs.declared.op.Op.{Op}
-use Rattle.runs_model.specs.declared.op.Op.TheVariants as op
-use Rattle.runs_model.specs.declared.op.Polled.TheVariants as of
-use Rattle.runs_model.specs.declared.op.QueueOp.TheVariants as queue_op
-use Rattle.runs_model.specs.declared.op.RunOp.TheVariants as run_op
-use Rattle.runs_model.specs.declared.op.RunPoll.{RunPoll}
-use Rattle.runs_model.specs.declared.op.Sleeper.{Sleeper}
-use Rattle.runs_model.specs.declared.op.Sleeper.TheVariants as sleeper
-use Rattle.runs_model.specs.declared.op.SleeperOp.TheVariants as sleeper_op
-use Rattle.runs_model.specs.declared.op.Sleeping.{Sleeping}
-use Rattle.runs_model.specs.declared.op.Source.{Source}
-use Rattle.runs_model.specs.declared.op.Source.TheVariants.{Common, Own}
-use Rattle.runs_model.specs.declared.op.Steal.{Steal}
-use Rattle.runs_model.specs.declared.op.StealOp.{StealOp}
-use Rattle.runs_model.specs.declared.op.StealOp.TheVariants as steal_op
-use Rattle.runs_model.specs.declared.op.Then.{Then}
-use Rattle.runs_model.specs.declared.op.Then.TheVariants as then
-use Rattle.runs_model.specs.declared.op.TickOp.TheVariants as tick_op
-use Rattle.runs_model.specs.declared.op.Waker.{Waker}
-use Rattle.runs_model.specs.declared.op.Waker.TheVariants.{Task, Outside}
-use Rattle.runs_model.specs.declared.step.Hint.{Hint}
-use Rattle.runs_model.specs.declared.step.UserEnd.{UserEnd}
-use Rattle.runs_model.specs.Acts.{followed}
-use Rattle.runs_model.specs.ActsOfRuns.{asleep, behind, call_by_reference, counted_by, counted_to, found, kept_by}
-use Rattle.runs_model.specs.ActsOfRuns.{look_own_by, next_place, queue_at, run_by, search_common_by, search_own_by}
-use Rattle.runs_model.specs.ActsOfRuns.{steal_by, steal_length_by, steal_put_by, steal_take_by, stolen, walk, without_first}
-use Rattle.runs_model.specs.ActsOfSleepers.{copy_sleeper_by, found_by, lie_again_by, lie_anew_by, lie_down_by, lie_listed_by}
-use Rattle.runs_model.specs.ActsOfSleepers.{sleeper_goes}
-use Rattle.runs_model.specs.Doing.{act, search_by_who, steal_act}
+use Rattle.executor_model.specs.declared.call.Reply.TheVariants as reply
+use Rattle.executor_model.specs.declared.event.Event.TheVariants as event
+use Rattle.executor_model.specs.declared.op.Hold.TheVariants as hold
+use Rattle.executor_model.specs.declared.op.ListOp.TheVariants as list_op
+use Rattle.executor_model.specs.declared.op.Op.{Op}
+use Rattle.executor_model.specs.declared.op.Op.TheVariants as op
+use Rattle.executor_model.specs.declared.op.Polled.TheVariants as of
+use Rattle.executor_model.specs.declared.op.QueueOp.TheVariants as queue_op
+use Rattle.executor_model.specs.declared.op.RunOp.TheVariants as run_op
+use Rattle.executor_model.specs.declared.op.RunPoll.{RunPoll}
+use Rattle.executor_model.specs.declared.op.Sleeper.{Sleeper}
+use Rattle.executor_model.specs.declared.op.Sleeper.TheVariants as sleeper
+use Rattle.executor_model.specs.declared.op.SleeperOp.TheVariants as sleeper_op
+use Rattle.executor_model.specs.declared.op.Sleeping.{Sleeping}
+use Rattle.executor_model.specs.declared.op.Source.{Source}
+use Rattle.executor_model.specs.declared.op.Source.TheVariants.{Common, Own}
+use Rattle.executor_model.specs.declared.op.Steal.{Steal}
+use Rattle.executor_model.specs.declared.op.StealOp.{StealOp}
+use Rattle.executor_model.specs.declared.op.StealOp.TheVariants as steal_op
+use Rattle.executor_model.specs.declared.op.Then.{Then}
+use Rattle.executor_model.specs.declared.op.Then.TheVariants as then
+use Rattle.executor_model.specs.declared.op.TickOp.TheVariants as tick_op
+use Rattle.executor_model.specs.declared.op.Waker.{Waker}
+use Rattle.executor_model.specs.declared.op.Waker.TheVariants.{Task, Outside}
+use Rattle.executor_model.specs.declared.step.Hint.{Hint}
+use Rattle.executor_model.specs.declared.step.UserEnd.{UserEnd}
+use Rattle.executor_model.specs.Acts.{followed}
+use Rattle.executor_model.specs.ActsOfRuns.{asleep, behind, call_by_reference, counted_by, counted_to, found, kept_by}
+use Rattle.executor_model.specs.ActsOfRuns.{look_own_by, next_place, queue_at, run_by, search_common_by, search_own_by}
+use Rattle.executor_model.specs.ActsOfRuns.{steal_by, steal_length_by, steal_put_by, steal_take_by, stolen, walk, without_first}
+use Rattle.executor_model.specs.ActsOfSleepers.{copy_sleeper_by, found_by, lie_again_by, lie_anew_by, lie_down_by, lie_listed_by}
+use Rattle.executor_model.specs.ActsOfSleepers.{sleeper_goes}
+use Rattle.executor_model.specs.Doing.{act, search_by_who, steal_act}
 use Rattle.executor_parts.specs.Sleepers.{waker_at}
-use Rattle.runs_model.specs.Steps.{accepts, react, waits}
-use Rattle.runs_model.specs.Trace.{Trace}
-use Rattle.runs_model.specs.Weights.{same, weigh}
-use Rattle.runs_model.specs.World.{Done, Left, Lies, Place, Up, World, log, own_of, place_of, put_own}
-use Rattle.runs_model.proofs.Lists.{same_cases, weigh-append, weigh-reverse}
-use Rattle.runs_model.proofs.SleepersNext.{goes-unseen}
-use Rattle.runs_model.proofs.UsingRuns.{idle-common, idle-stolen}
-use Rattle.runs_model.proofs.UsingWorlds.{idle-act, idle-copy_sleeper, idle-lie}
+use Rattle.executor_model.specs.Steps.{accepts, react, waits}
+use Rattle.executor_model.specs.Trace.{Trace}
+use Rattle.executor_model.specs.Weights.{same, weigh}
+use Rattle.executor_model.specs.World.{Done, Left, Lies, Place, Up, World, log, own_of, place_of, put_own}
+use Rattle.executor_model.proofs.Lists.{same_cases, weigh-append, weigh-reverse}
+use Rattle.executor_model.proofs.SleepersNext.{goes-unseen}
+use Rattle.executor_model.proofs.UsingRuns.{idle-common, idle-stolen}
+use Rattle.executor_model.proofs.UsingWorlds.{idle-act, idle-copy_sleeper, idle-lie}
 use Rattle.runs_reach.proofs.LoneMoves.{Inner, inner-act, inner-react, stray_of}
-use Rattle.runs_reach.proofs.RunDrops.{not-for-runs, own-react, within}
+use Rattle.runs_reach.proofs.RunLeaves.{not-for-runs, own-react, within}
 use Rattle.runs_reach.proofs.RunFinds.{Heads, heads-found, without-gone}
 
 -- things to do beside what the run itself does

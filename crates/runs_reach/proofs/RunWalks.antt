@@ -5,26 +5,27 @@ use Rattle.std.proofs.lemmas.List.{append_cancel_right, reverse-append}
 use Rattle.std.proofs.lemmas.List.Folds.{list_any-append}
 use Rattle.std.specs.Prelude.{Option, Some, None, reverse}
 use Rattle.task_moves.specs.declared.moves.owed.Move.TheVariants as move
-use Rattle.runs_model.specs.declared.call.Reply.{Reply}
-use Rattle.runs_model.specs.declared.op.Op.{Op}
-use Rattle.runs_model.specs.declared.op.Op.TheVariants as op
-use Rattle.runs_model.specs.declared.op.StealOp.{StealOp}
-use Rattle.runs_model.specs.declared.op.UserOp.TheVariants as user_op
-use Rattle.runs_model.specs.declared.step.Hint.{Hint}
-use Rattle.runs_model.specs.declared.step.Step.{Step}
-use Rattle.runs_model.specs.declared.step.Step.TheVariants.{Begin, Go, Answer}
-use Rattle.runs_model.specs.declared.step.UserEnd.{UserEnd}
-use Rattle.runs_model.specs.Doing.{act}
-use Rattle.runs_model.specs.Runs.{run_all}
-use Rattle.runs_model.specs.Steps.{Machine, Part, accepts, answer_refusal, below_top, end_of, go_refusal, gone_on, onto}
-use Rattle.runs_model.specs.Steps.{after, part, part_after, react, run, settled_by, stack, top, waits, with_part}
-use Rattle.runs_model.specs.Trace.{Trace, has}
-use Rattle.runs_model.specs.Weights.{weigh}
-use Rattle.runs_model.specs.World.{Done, World, among}
-use Rattle.runs_model.proofs.Lift.{topped}
-use Rattle.runs_model.proofs.Lists.{weigh-append, weigh-reverse}
-use Rattle.runs_model.proofs.Spawning.{top-last}
-use Rattle.runs_reach.specs.Reach.{are_onward_of, is_onward_of, takes}
+use Rattle.executor_model.specs.declared.call.Reply.{Reply}
+use Rattle.executor_model.specs.declared.op.Op.{Op}
+use Rattle.executor_model.specs.declared.op.Op.TheVariants as op
+use Rattle.executor_model.specs.declared.op.StealOp.{StealOp}
+use Rattle.executor_model.specs.declared.op.UserOp.TheVariants as user_op
+use Rattle.executor_model.specs.declared.step.Hint.{Hint}
+use Rattle.executor_model.specs.declared.step.Step.{Step}
+use Rattle.executor_model.specs.declared.step.Step.TheVariants.{Begin, Go, Answer}
+use Rattle.executor_model.specs.declared.step.UserEnd.{UserEnd}
+use Rattle.executor_model.specs.Doing.{act}
+use Rattle.executor_model.specs.Runs.{run_all}
+use Rattle.executor_model.specs.Steps.{Machine, Part, accepts, answer_refusal, below_top, end_of, go_refusal, gone_on, onto}
+use Rattle.executor_model.specs.Steps.{after, part, part_after, react, run, settled_by, stack, top, waits, with_part}
+use Rattle.executor_model.specs.Trace.{Trace, has}
+use Rattle.executor_model.specs.Weights.{weigh}
+use Rattle.executor_model.specs.World.{Done, World, among}
+use Rattle.executor_model.proofs.Lift.{topped}
+use Rattle.executor_model.proofs.Lists.{weigh-append, weigh-reverse}
+use Rattle.executor_model.proofs.Spawning.{top-last}
+use Rattle.runs_laws.specs.LoneEnds.{are_onward_of, is_onward_of}
+use Rattle.runs_reach.specs.Reach.{takes}
 use Rattle.runs_reach.proofs.Adding.{IsContinued, More, more-onto, run-continues}
 use Rattle.runs_reach.proofs.LoneMoves.{Inner, inner-act, inner-react, stray_of}
 use Rattle.runs_reach.proofs.LoneSteps.{Advances, HasEntry, Last, Leads, Next, advances, answers, from-end, goes}

@@ -6,37 +6,37 @@ use Rattle.std.proofs.Common.{sym, ap, subst, arith, get_or-set_same, get_or-set
 use Rattle.std.proofs.lemmas.Bool.Decides.{nat_tests}
 use Rattle.std.proofs.lemmas.List.{length-append, get_or_past}
 use Rattle.std.specs.Prelude.{Some, reverse, slice_get}
-use Rattle.runs_model.specs.declared.call.Reply.{Reply}
-use Rattle.runs_model.specs.declared.call.Reply.TheVariants as reply
-use Rattle.runs_model.specs.declared.event.Event.{Event}
-use Rattle.runs_model.specs.declared.event.Event.TheVariants as event
-use Rattle.runs_model.specs.declared.op.ListOp.TheVariants as list_op
-use Rattle.runs_model.specs.declared.op.Op.{Op}
-use Rattle.runs_model.specs.declared.op.Op.TheVariants as op
-use Rattle.runs_model.specs.declared.op.RunOp.TheVariants as run_op
-use Rattle.runs_model.specs.declared.op.RunPoll.{RunPoll}
-use Rattle.runs_model.specs.declared.op.Section.TheVariants as section
-use Rattle.runs_model.specs.declared.op.Sleeper.TheVariants as sleeper
-use Rattle.runs_model.specs.declared.op.Steal.{Steal}
-use Rattle.runs_model.specs.declared.op.StealOp.TheVariants as steal_op
-use Rattle.runs_model.specs.declared.op.UserOp.TheVariants as user_op
-use Rattle.runs_model.specs.ActsOfRuns as runs
-use Rattle.runs_model.specs.Keeper.{is_run_drop}
-use Rattle.runs_model.specs.Rows.{running_of}
-use Rattle.runs_model.specs.Standing.{polls_sleeper}
-use Rattle.runs_model.specs.Steps.{Machine}
-use Rattle.runs_model.specs.Steps.{run, stack}
-use Rattle.runs_model.specs.Trace.{Trace, has}
-use Rattle.runs_model.specs.Weights.{same, weigh, weigh_all}
-use Rattle.runs_model.specs.World.{World, Stage, New, Listed, Ended, Run, Done, done, new_run, no_run, run_of}
-use Rattle.runs_model.proofs.Lift.{split, unsettled}
-use Rattle.runs_model.proofs.Lists.{same_cases, same_is, weigh_all-below, weigh_all-push}
-use Rattle.runs_model.proofs.RunsMoves.{moves-own_length}
-use Rattle.runs_model.proofs.RunsMoving.{hull-more}
-use Rattle.runs_model.proofs.Using.{polling_of}
-use Rattle.runs_model.proofs.UsingRuns.{idle-more}
-use Rattle.runs_model.proofs.UsingSteps.{AllUsed}
-use Rattle.runs_model.proofs.UsingWorlds.{Idle, count-set, is_over_stage, is_past}
+use Rattle.executor_model.specs.declared.call.Reply.{Reply}
+use Rattle.executor_model.specs.declared.call.Reply.TheVariants as reply
+use Rattle.executor_model.specs.declared.event.Event.{Event}
+use Rattle.executor_model.specs.declared.event.Event.TheVariants as event
+use Rattle.executor_model.specs.declared.op.ListOp.TheVariants as list_op
+use Rattle.executor_model.specs.declared.op.Op.{Op}
+use Rattle.executor_model.specs.declared.op.Op.TheVariants as op
+use Rattle.executor_model.specs.declared.op.RunOp.TheVariants as run_op
+use Rattle.executor_model.specs.declared.op.RunPoll.{RunPoll}
+use Rattle.executor_model.specs.declared.op.Section.TheVariants as section
+use Rattle.executor_model.specs.declared.op.Sleeper.TheVariants as sleeper
+use Rattle.executor_model.specs.declared.op.Steal.{Steal}
+use Rattle.executor_model.specs.declared.op.StealOp.TheVariants as steal_op
+use Rattle.executor_model.specs.declared.op.UserOp.TheVariants as user_op
+use Rattle.executor_model.specs.ActsOfRuns as runs
+use Rattle.executor_model.specs.Keeper.{is_run_drop}
+use Rattle.executor_model.specs.Rows.{running_of}
+use Rattle.executor_model.specs.Standing.{polls_sleeper}
+use Rattle.executor_model.specs.Steps.{Machine}
+use Rattle.executor_model.specs.Steps.{run, stack}
+use Rattle.executor_model.specs.Trace.{Trace, has}
+use Rattle.executor_model.specs.Weights.{same, weigh, weigh_all}
+use Rattle.executor_model.specs.World.{World, Stage, New, Listed, Ended, Run, Done, done, new_run, no_run, run_of}
+use Rattle.executor_model.proofs.Lift.{split, unsettled}
+use Rattle.executor_model.proofs.Lists.{same_cases, same_is, weigh_all-below, weigh_all-push}
+use Rattle.executor_model.proofs.RunsMoves.{moves-own_length}
+use Rattle.executor_model.proofs.RunsMoving.{hull-more}
+use Rattle.executor_model.proofs.Using.{polling_of}
+use Rattle.executor_model.proofs.UsingRuns.{idle-more}
+use Rattle.executor_model.proofs.UsingSteps.{AllUsed}
+use Rattle.executor_model.proofs.UsingWorlds.{Idle, count-set, is_over_stage, is_past}
 use Rattle.runs_reach.proofs.Answering.{readying_of}
 use Rattle.runs_reach.proofs.Evens.{Even, even-idle}
 use Rattle.runs_reach.proofs.Growing.{Grows}

@@ -5,29 +5,29 @@ use Rattle.std.proofs.Common.{sym, ap, subst, arith, get_or-set_same, get_or-set
 use Rattle.std.proofs.lemmas.Bool.Decides.{nat_tests}
 use Rattle.std.proofs.lemmas.List.{get_or_past, length-drop}
 use Rattle.std.specs.Prelude.{Option, Some, None, reverse, slice_get}
-use Rattle.runs_model.specs.declared.call.By.{By}
-use Rattle.runs_model.specs.declared.call.Call.{Call}
-use Rattle.runs_model.specs.declared.call.Call.TheVariants as call
-use Rattle.runs_model.specs.declared.call.Reply.{Reply}
-use Rattle.runs_model.specs.declared.call.Reply.TheVariants as reply
-use Rattle.runs_model.specs.declared.event.Event.{Event}
-use Rattle.runs_model.specs.declared.event.Event.TheVariants as event
-use Rattle.runs_model.specs.declared.op.Hold.{Hold}
-use Rattle.runs_model.specs.declared.op.Hold.TheVariants as hold
-use Rattle.runs_model.specs.declared.op.Op.{Op}
-use Rattle.runs_model.specs.declared.op.Op.TheVariants as op
-use Rattle.runs_model.specs.declared.op.Sleeper.TheVariants as sleeper
-use Rattle.runs_model.specs.declared.op.Waker.{Waker}
-use Rattle.runs_model.specs.AwaiterKept.{EndsWith, since}
-use Rattle.runs_model.specs.Keeper.{AnswersReady, is_run_drop}
-use Rattle.runs_model.specs.Standing.{polls_sleeper}
-use Rattle.runs_model.specs.Steps.{Machine, begun, is_there, stack}
-use Rattle.runs_model.specs.Trace.{Trace, has}
-use Rattle.runs_model.specs.Weights.{same, weigh_all}
-use Rattle.runs_model.specs.World.{World, Ended, Run, done, log, no_run, run_of}
-use Rattle.runs_model.proofs.Lift.{split, unsettled}
-use Rattle.runs_model.proofs.Lists.{same_cases, same_is, weigh_all-push}
-use Rattle.runs_model.proofs.UsingWorlds.{count-set, is_over_stage, is_past}
+use Rattle.executor_model.specs.declared.call.By.{By}
+use Rattle.executor_model.specs.declared.call.Call.{Call}
+use Rattle.executor_model.specs.declared.call.Call.TheVariants as call
+use Rattle.executor_model.specs.declared.call.Reply.{Reply}
+use Rattle.executor_model.specs.declared.call.Reply.TheVariants as reply
+use Rattle.executor_model.specs.declared.event.Event.{Event}
+use Rattle.executor_model.specs.declared.event.Event.TheVariants as event
+use Rattle.executor_model.specs.declared.op.Hold.{Hold}
+use Rattle.executor_model.specs.declared.op.Hold.TheVariants as hold
+use Rattle.executor_model.specs.declared.op.Op.{Op}
+use Rattle.executor_model.specs.declared.op.Op.TheVariants as op
+use Rattle.executor_model.specs.declared.op.Sleeper.TheVariants as sleeper
+use Rattle.executor_model.specs.declared.op.Waker.{Waker}
+use Rattle.executor_model.specs.AwaiterKept.{EndsWith, since}
+use Rattle.executor_model.specs.Keeper.{AnswersReady, is_run_drop}
+use Rattle.executor_model.specs.Standing.{polls_sleeper}
+use Rattle.executor_model.specs.Steps.{Machine, begun, is_there, stack}
+use Rattle.executor_model.specs.Trace.{Trace, has}
+use Rattle.executor_model.specs.Weights.{same, weigh_all}
+use Rattle.executor_model.specs.World.{World, Ended, Run, done, log, no_run, run_of}
+use Rattle.executor_model.proofs.Lift.{split, unsettled}
+use Rattle.executor_model.proofs.Lists.{same_cases, same_is, weigh_all-push}
+use Rattle.executor_model.proofs.UsingWorlds.{count-set, is_over_stage, is_past}
 use Rattle.runs_reach.proofs.Answering.{answers_of, other_of, readying_of}
 use Rattle.runs_reach.proofs.Endings.{ends-before, ends-here}
 use Rattle.runs_reach.proofs.Frames.{Frames, Framed, Fits, framed-end, here}

@@ -5,29 +5,29 @@ use Rattle.std.proofs.Common.{ap, subst, arith}
 use Rattle.std.proofs.lemmas.Bool.Decides.{nat_tests}
 use Rattle.std.specs.Prelude.{Option, Some, None, reverse}
 use Rattle.task_moves.specs.declared.moves.owed.Move.TheVariants as move
-use Rattle.runs_model.specs.declared.call.Call.{Call}
-use Rattle.runs_model.specs.declared.call.Call.TheVariants as call
-use Rattle.runs_model.specs.declared.event.Event.TheVariants as event
-use Rattle.runs_model.specs.declared.op.ListOp.TheVariants as list_op
-use Rattle.runs_model.specs.declared.op.Op.{Op}
-use Rattle.runs_model.specs.declared.op.Op.TheVariants as op
-use Rattle.runs_model.specs.declared.op.Section.TheVariants as section
-use Rattle.runs_model.specs.declared.op.Steal.{Steal}
-use Rattle.runs_model.specs.declared.op.StealOp.TheVariants as steal_op
-use Rattle.runs_model.specs.declared.op.Waker.{Waker}
-use Rattle.runs_model.specs.declared.step.Hint.{Hint}
-use Rattle.runs_model.specs.declared.step.UserEnd.{UserEnd}
-use Rattle.runs_model.specs.ActsOfRuns as runs
-use Rattle.runs_model.specs.Doing.{act}
-use Rattle.runs_model.specs.OwnQueues.{filling_of}
-use Rattle.runs_model.specs.Steps.{Machine, accepts, begun, has_all, is_drop, is_free, is_on_executor}
-use Rattle.runs_model.specs.Steps.{future_of, is_unborrowed, kept, mine, react, stack, top, with_future}
-use Rattle.runs_model.specs.World.{World, Run, Done, log, no_run, run_of}
-use Rattle.runs_model.proofs.Lift.{first-true, none_refused, split, unsettled}
-use Rattle.runs_model.proofs.OwnRooms.{Roomy}
-use Rattle.runs_model.proofs.UsingSteps.{AllUsed}
-use Rattle.runs_model.proofs.Ways.{Way}
-use Rattle.runs_model.proofs.Ways.Way.{acted, reacted, called}
+use Rattle.executor_model.specs.declared.call.Call.{Call}
+use Rattle.executor_model.specs.declared.call.Call.TheVariants as call
+use Rattle.executor_model.specs.declared.event.Event.TheVariants as event
+use Rattle.executor_model.specs.declared.op.ListOp.TheVariants as list_op
+use Rattle.executor_model.specs.declared.op.Op.{Op}
+use Rattle.executor_model.specs.declared.op.Op.TheVariants as op
+use Rattle.executor_model.specs.declared.op.Section.TheVariants as section
+use Rattle.executor_model.specs.declared.op.Steal.{Steal}
+use Rattle.executor_model.specs.declared.op.StealOp.TheVariants as steal_op
+use Rattle.executor_model.specs.declared.op.Waker.{Waker}
+use Rattle.executor_model.specs.declared.step.Hint.{Hint}
+use Rattle.executor_model.specs.declared.step.UserEnd.{UserEnd}
+use Rattle.executor_model.specs.ActsOfRuns as runs
+use Rattle.executor_model.specs.Doing.{act}
+use Rattle.executor_model.specs.OwnQueues.{filling_of}
+use Rattle.executor_model.specs.Steps.{Machine, accepts, begun, has_all, is_drop, is_free, is_on_executor}
+use Rattle.executor_model.specs.Steps.{future_of, is_unborrowed, kept, mine, react, stack, top, with_future}
+use Rattle.executor_model.specs.World.{World, Run, Done, log, no_run, run_of}
+use Rattle.executor_model.proofs.Lift.{first-true, none_refused, split, unsettled}
+use Rattle.executor_model.proofs.OwnRooms.{Roomy}
+use Rattle.executor_model.proofs.UsingSteps.{AllUsed}
+use Rattle.executor_model.proofs.Ways.{Way}
+use Rattle.executor_model.proofs.Ways.Way.{acted, reacted, called}
 use Rattle.runs_reach.proofs.Answering.{is_end}
 use Rattle.runs_reach.proofs.Evens.{Even, even-act, even-react, is_even}
 use Rattle.runs_reach.proofs.Frames.{Frames}

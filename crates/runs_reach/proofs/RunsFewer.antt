@@ -1,33 +1,33 @@
 -- What a run does takes from the executor's queue at most.
 use Rattle.std.proofs.Common.{◌≡◌, ◌≤◌, ℕ, zero, suc, List, [], ◌∷◌, drop, Bool, true, false, refl, ap, arith}
 use Rattle.queue_steps.specs.ClosableQueue.{ClosableQueue, taken}
-use Rattle.runs_model.specs.declared.call.Reply.{Reply}
-use Rattle.runs_model.specs.declared.event.Event.{Event}
-use Rattle.runs_model.specs.declared.event.Event.TheVariants as event
-use Rattle.runs_model.specs.declared.op.ListOp.{ListOp}
-use Rattle.runs_model.specs.declared.op.ListOp.TheVariants as list_op
-use Rattle.runs_model.specs.declared.op.Polled.TheVariants as of
-use Rattle.runs_model.specs.declared.op.RunOp.{RunOp}
-use Rattle.runs_model.specs.declared.op.RunOp.TheVariants as run_op
-use Rattle.runs_model.specs.declared.op.RunPoll.{RunPoll}
-use Rattle.runs_model.specs.declared.op.Section.TheVariants as section
-use Rattle.runs_model.specs.declared.op.Source.{Source}
-use Rattle.runs_model.specs.declared.op.Source.TheVariants.{Common, Own}
-use Rattle.runs_model.specs.declared.op.Steal.{Steal}
-use Rattle.runs_model.specs.declared.op.StealOp.{StealOp}
-use Rattle.runs_model.specs.declared.op.StealOp.TheVariants as steal_op
-use Rattle.runs_model.specs.declared.op.Then.{Then}
-use Rattle.runs_model.specs.declared.op.Then.TheVariants as then
-use Rattle.runs_model.specs.declared.op.Waker.{Waker}
-use Rattle.runs_model.specs.declared.op.Waker.TheVariants.{Task, Outside}
-use Rattle.runs_model.specs.declared.step.Hint.{Hint}
-use Rattle.runs_model.specs.World.{World, Stage, New, Listed, Ended, log, log_if, put_own}
-use Rattle.runs_model.specs.ActsOfRuns.{call_by_reference, counted_by, found, kept_by, look_own_by, make_room_by}
-use Rattle.runs_model.specs.ActsOfRuns.{make_run_by, registered}
-use Rattle.runs_model.specs.ActsOfRuns.{reschedule_by, run_by, search_common_by, search_own, search_own_by}
-use Rattle.runs_model.specs.ActsOfRuns.{steal_by, steal_length_by, steal_put_by, steal_take_by, stolen}
-use Rattle.runs_model.specs.Doing.{list_act, run_act, steal_act}
-use Rattle.runs_model.specs.Sound.{times}
+use Rattle.executor_model.specs.declared.call.Reply.{Reply}
+use Rattle.executor_model.specs.declared.event.Event.{Event}
+use Rattle.executor_model.specs.declared.event.Event.TheVariants as event
+use Rattle.executor_model.specs.declared.op.ListOp.{ListOp}
+use Rattle.executor_model.specs.declared.op.ListOp.TheVariants as list_op
+use Rattle.executor_model.specs.declared.op.Polled.TheVariants as of
+use Rattle.executor_model.specs.declared.op.RunOp.{RunOp}
+use Rattle.executor_model.specs.declared.op.RunOp.TheVariants as run_op
+use Rattle.executor_model.specs.declared.op.RunPoll.{RunPoll}
+use Rattle.executor_model.specs.declared.op.Section.TheVariants as section
+use Rattle.executor_model.specs.declared.op.Source.{Source}
+use Rattle.executor_model.specs.declared.op.Source.TheVariants.{Common, Own}
+use Rattle.executor_model.specs.declared.op.Steal.{Steal}
+use Rattle.executor_model.specs.declared.op.StealOp.{StealOp}
+use Rattle.executor_model.specs.declared.op.StealOp.TheVariants as steal_op
+use Rattle.executor_model.specs.declared.op.Then.{Then}
+use Rattle.executor_model.specs.declared.op.Then.TheVariants as then
+use Rattle.executor_model.specs.declared.op.Waker.{Waker}
+use Rattle.executor_model.specs.declared.op.Waker.TheVariants.{Task, Outside}
+use Rattle.executor_model.specs.declared.step.Hint.{Hint}
+use Rattle.executor_model.specs.World.{World, Stage, New, Listed, Ended, log, log_if, put_own}
+use Rattle.executor_model.specs.ActsOfRuns.{call_by_reference, counted_by, found, kept_by, look_own_by, make_room_by}
+use Rattle.executor_model.specs.ActsOfRuns.{make_run_by, registered}
+use Rattle.executor_model.specs.ActsOfRuns.{reschedule_by, run_by, search_common_by, search_own, search_own_by}
+use Rattle.executor_model.specs.ActsOfRuns.{steal_by, steal_length_by, steal_put_by, steal_take_by, stolen}
+use Rattle.executor_model.specs.Doing.{list_act, run_act, steal_act}
+use Rattle.executor_model.specs.Sound.{times}
 
 pub record Fewer (w v : World) : Type 0 where
   pub items : (g : ℕ) → times g v.queue.items ≤ times g w.queue.items

@@ -4,48 +4,48 @@ use Rattle.std.proofs.Common.{refl, sym, ap, subst, get_or, arith}
 use Rattle.std.proofs.lemmas.List.{length-set}
 use Rattle.task_moves.specs.Moves as moves
 use Rattle.task_moves.specs.declared.moves.state.State.{State}
-use Rattle.runs_model.specs.declared.call.Reply.TheVariants as reply
-use Rattle.runs_model.specs.declared.event.Event.TheVariants as event
-use Rattle.runs_model.specs.declared.op.Hold.TheVariants as hold
-use Rattle.runs_model.specs.declared.op.ListOp.{ListOp}
-use Rattle.runs_model.specs.declared.op.ListOp.TheVariants as list_op
-use Rattle.runs_model.specs.declared.op.Op.{Op}
-use Rattle.runs_model.specs.declared.op.Op.TheVariants as op
-use Rattle.runs_model.specs.declared.op.Polled.TheVariants as of
-use Rattle.runs_model.specs.declared.op.RunOp.{RunOp}
-use Rattle.runs_model.specs.declared.op.RunOp.TheVariants as run_op
-use Rattle.runs_model.specs.declared.op.RunPoll.{RunPoll}
-use Rattle.runs_model.specs.declared.op.Section.{Section}
-use Rattle.runs_model.specs.declared.op.Section.TheVariants as section
-use Rattle.runs_model.specs.declared.op.Sleeper.{Sleeper}
-use Rattle.runs_model.specs.declared.op.Sleeper.TheVariants as sleeper
-use Rattle.runs_model.specs.declared.op.Sleeping.{Sleeping}
-use Rattle.runs_model.specs.declared.op.Steal.{Steal}
-use Rattle.runs_model.specs.declared.op.StealOp.{StealOp}
-use Rattle.runs_model.specs.declared.op.StealOp.TheVariants as steal_op
-use Rattle.runs_model.specs.declared.op.TickOp.TheVariants as tick_op
-use Rattle.runs_model.specs.declared.op.Waker.{Waker}
-use Rattle.runs_model.specs.declared.op.Waker.TheVariants.{Task, Outside}
-use Rattle.runs_model.specs.declared.step.Hint.{Hint}
-use Rattle.runs_model.specs.World.{World, Done, blank, log, task, own_of}
-use Rattle.runs_model.specs.Acts.{followed}
-use Rattle.runs_model.specs.ActsOfRuns as runs
-use Rattle.runs_model.specs.ActsOfRuns.{wake_own}
-use Rattle.runs_model.specs.Doing.{list_act, run_act, search_by_who, steal_act}
-use Rattle.runs_model.specs.Good.{IsKnownWaker}
-use Rattle.runs_model.specs.Rows.{appends_of}
-use Rattle.runs_model.specs.Weights.{weigh}
-use Rattle.runs_model.proofs.Counting.{woken}
-use Rattle.runs_model.proofs.Lists.{read_put, same_is}
-use Rattle.runs_model.proofs.Marks.{IsUnmarked, unmarked}
-use Rattle.runs_model.proofs.RunsNext.{BlindToRuns, common-blind, list-blind, look-blind, more-blind, room-blind}
-use Rattle.runs_model.proofs.RunsNext.{search_run-blind, stolen-blind}
-use Rattle.runs_model.proofs.RunsCounting.{Bare, bare}
-use Rattle.runs_model.proofs.RunsPlain.{AllPlain, plain-after-common, plain-after-list, plain-after-look}
-use Rattle.runs_model.proofs.RunsPlain.{plain-after-call, plain-after-room, plain-after-search, plain-after-steal}
-use Rattle.runs_model.proofs.RunsMoves.{moves-common, moves-length, moves-list, moves-look}
-use Rattle.runs_model.proofs.RunsMoves.{moves-make_room, moves-own, moves-own_length}
-use Rattle.runs_model.proofs.RunsMoves.{moves-take}
+use Rattle.executor_model.specs.declared.call.Reply.TheVariants as reply
+use Rattle.executor_model.specs.declared.event.Event.TheVariants as event
+use Rattle.executor_model.specs.declared.op.Hold.TheVariants as hold
+use Rattle.executor_model.specs.declared.op.ListOp.{ListOp}
+use Rattle.executor_model.specs.declared.op.ListOp.TheVariants as list_op
+use Rattle.executor_model.specs.declared.op.Op.{Op}
+use Rattle.executor_model.specs.declared.op.Op.TheVariants as op
+use Rattle.executor_model.specs.declared.op.Polled.TheVariants as of
+use Rattle.executor_model.specs.declared.op.RunOp.{RunOp}
+use Rattle.executor_model.specs.declared.op.RunOp.TheVariants as run_op
+use Rattle.executor_model.specs.declared.op.RunPoll.{RunPoll}
+use Rattle.executor_model.specs.declared.op.Section.{Section}
+use Rattle.executor_model.specs.declared.op.Section.TheVariants as section
+use Rattle.executor_model.specs.declared.op.Sleeper.{Sleeper}
+use Rattle.executor_model.specs.declared.op.Sleeper.TheVariants as sleeper
+use Rattle.executor_model.specs.declared.op.Sleeping.{Sleeping}
+use Rattle.executor_model.specs.declared.op.Steal.{Steal}
+use Rattle.executor_model.specs.declared.op.StealOp.{StealOp}
+use Rattle.executor_model.specs.declared.op.StealOp.TheVariants as steal_op
+use Rattle.executor_model.specs.declared.op.TickOp.TheVariants as tick_op
+use Rattle.executor_model.specs.declared.op.Waker.{Waker}
+use Rattle.executor_model.specs.declared.op.Waker.TheVariants.{Task, Outside}
+use Rattle.executor_model.specs.declared.step.Hint.{Hint}
+use Rattle.executor_model.specs.World.{World, Done, blank, log, task, own_of}
+use Rattle.executor_model.specs.Acts.{followed}
+use Rattle.executor_model.specs.ActsOfRuns as runs
+use Rattle.executor_model.specs.ActsOfRuns.{wake_own}
+use Rattle.executor_model.specs.Doing.{list_act, run_act, search_by_who, steal_act}
+use Rattle.executor_model.specs.Good.{IsKnownWaker}
+use Rattle.executor_model.specs.Rows.{appends_of}
+use Rattle.executor_model.specs.Weights.{weigh}
+use Rattle.executor_model.proofs.Counting.{woken}
+use Rattle.executor_model.proofs.Lists.{read_put, same_is}
+use Rattle.executor_model.proofs.Marks.{IsUnmarked, unmarked}
+use Rattle.executor_model.proofs.RunsNext.{BlindToRuns, common-blind, list-blind, look-blind, more-blind, room-blind}
+use Rattle.executor_model.proofs.RunsNext.{search_run-blind, stolen-blind}
+use Rattle.executor_model.proofs.RunsCounting.{Bare, bare}
+use Rattle.executor_model.proofs.RunsPlain.{AllPlain, plain-after-common, plain-after-list, plain-after-look}
+use Rattle.executor_model.proofs.RunsPlain.{plain-after-call, plain-after-room, plain-after-search, plain-after-steal}
+use Rattle.executor_model.proofs.RunsMoves.{moves-common, moves-length, moves-list, moves-look}
+use Rattle.executor_model.proofs.RunsMoves.{moves-make_room, moves-own, moves-own_length}
+use Rattle.executor_model.proofs.RunsMoves.{moves-take}
 use Rattle.runs_reach.proofs.RunsFewer.{Fewer, untouched, fewer-common, fewer-search, fewer-steal, queue-list, queue-look}
 use Rattle.runs_reach.proofs.RunsFewer.{queue-put, queue-room}
 use Rattle.runs_reach.proofs.Safe.{KeepsSafe}

@@ -3,28 +3,28 @@ use Rattle.std.proofs.Common.{◌≡◌, ℕ, ◌+◌, ◌<◌, List, [], ◌∷
 use Rattle.std.proofs.lemmas.List.{length-set}
 use Rattle.std.specs.Prelude.{Option, Some, None}
 use Rattle.task_moves.specs.Moves as moves
-use Rattle.runs_model.specs.ActsOfSleepers.{polled_as}
-use Rattle.runs_model.specs.declared.event.Event.TheVariants as event
-use Rattle.runs_model.specs.declared.op.Op.TheVariants as op
-use Rattle.runs_model.specs.declared.op.Sleeping.{Sleeping}
-use Rattle.runs_model.specs.declared.op.SleeperOp.TheVariants as sleeper_op
-use Rattle.runs_model.specs.declared.op.TickOp.TheVariants as tick_op
-use Rattle.runs_model.specs.declared.op.Waker.{Waker}
-use Rattle.runs_model.specs.declared.op.Waker.TheVariants.{Task, Outside}
-use Rattle.runs_model.specs.declared.op.Sleeper.{Sleeper}
-use Rattle.runs_model.specs.World.{World, Place, Up, Lies, Left, log, task}
-use Rattle.runs_model.specs.ActsOfSleepers.{exchange_by, hand_out_by, call_sleeper, make_tick_by, search_by}
-use Rattle.runs_model.specs.ActsOfSleepers.{copy_sleeper_by}
-use Rattle.runs_model.specs.ActsOfSleepers.{lie_down_by, get_up_by, leave_sleepers_by}
-use Rattle.runs_model.specs.Weights.{same}
-use Rattle.runs_model.specs.Good.{IsKnownWaker}
-use Rattle.runs_model.specs.Sound.{times}
-use Rattle.runs_model.proofs.Cases.{by_bool}
-use Rattle.runs_model.proofs.Counting.{woken_by}
-use Rattle.runs_model.proofs.Lists.{read_put, same_is, times-drop}
-use Rattle.runs_model.proofs.Marks.{IsUnmarked, unmarked}
-use Rattle.runs_model.proofs.SleepersCases.{by_going, LiesDown, lies-down, GetsUp, gets-up, Leaves, leaves}
-use Rattle.runs_model.proofs.SleepersCounting.{asleep}
+use Rattle.executor_model.specs.ActsOfSleepers.{polled_as}
+use Rattle.executor_model.specs.declared.event.Event.TheVariants as event
+use Rattle.executor_model.specs.declared.op.Op.TheVariants as op
+use Rattle.executor_model.specs.declared.op.Sleeping.{Sleeping}
+use Rattle.executor_model.specs.declared.op.SleeperOp.TheVariants as sleeper_op
+use Rattle.executor_model.specs.declared.op.TickOp.TheVariants as tick_op
+use Rattle.executor_model.specs.declared.op.Waker.{Waker}
+use Rattle.executor_model.specs.declared.op.Waker.TheVariants.{Task, Outside}
+use Rattle.executor_model.specs.declared.op.Sleeper.{Sleeper}
+use Rattle.executor_model.specs.World.{World, Place, Up, Lies, Left, log, task}
+use Rattle.executor_model.specs.ActsOfSleepers.{exchange_by, hand_out_by, call_sleeper, make_tick_by, search_by}
+use Rattle.executor_model.specs.ActsOfSleepers.{copy_sleeper_by}
+use Rattle.executor_model.specs.ActsOfSleepers.{lie_down_by, get_up_by, leave_sleepers_by}
+use Rattle.executor_model.specs.Weights.{same}
+use Rattle.executor_model.specs.Good.{IsKnownWaker}
+use Rattle.executor_model.specs.Sound.{times}
+use Rattle.executor_model.proofs.Cases.{by_bool}
+use Rattle.executor_model.proofs.Counting.{woken_by}
+use Rattle.executor_model.proofs.Lists.{read_put, same_is, times-drop}
+use Rattle.executor_model.proofs.Marks.{IsUnmarked, unmarked}
+use Rattle.executor_model.proofs.SleepersCases.{by_going, LiesDown, lies-down, GetsUp, gets-up, Leaves, leaves}
+use Rattle.executor_model.proofs.SleepersCounting.{asleep}
 use Rattle.runs_reach.proofs.Safe.{KeepsSafe}
 
 -- telling

@@ -5,40 +5,41 @@ use Rattle.std.proofs.Common.{arith, get_or-set_same, append-nil, append_assoc, 
 use Rattle.std.proofs.lemmas.Bool.Decides.{nat_tests}
 use Rattle.std.proofs.lemmas.List.Folds.{list_any-append}
 use Rattle.std.specs.Prelude.{Option, Some, None}
-use Rattle.runs_model.specs.declared.call.By.{By}
-use Rattle.runs_model.specs.declared.call.Call.{Call}
-use Rattle.runs_model.specs.declared.call.Call.TheVariants as call
-use Rattle.runs_model.specs.declared.call.Reply.{Reply}
-use Rattle.runs_model.specs.declared.call.Reply.TheVariants as reply
-use Rattle.runs_model.specs.declared.event.Event.TheVariants as event
-use Rattle.runs_model.specs.declared.op.Hold.{Hold}
-use Rattle.runs_model.specs.declared.op.Hold.TheVariants as hold
-use Rattle.runs_model.specs.declared.op.Op.{Op}
-use Rattle.runs_model.specs.declared.op.Op.TheVariants as op
+use Rattle.executor_model.specs.declared.call.By.{By}
+use Rattle.executor_model.specs.declared.call.Call.{Call}
+use Rattle.executor_model.specs.declared.call.Call.TheVariants as call
+use Rattle.executor_model.specs.declared.call.Reply.{Reply}
+use Rattle.executor_model.specs.declared.call.Reply.TheVariants as reply
+use Rattle.executor_model.specs.declared.event.Event.TheVariants as event
+use Rattle.executor_model.specs.declared.op.Hold.{Hold}
+use Rattle.executor_model.specs.declared.op.Hold.TheVariants as hold
+use Rattle.executor_model.specs.declared.op.Op.{Op}
+use Rattle.executor_model.specs.declared.op.Op.TheVariants as op
 use Rattle.task_moves.specs.declared.moves.owed.Move.TheVariants as move
-use Rattle.runs_model.specs.declared.op.QueueOp.TheVariants as queue_op
-use Rattle.runs_model.specs.declared.op.Sleeper.TheVariants as sleeper
-use Rattle.runs_model.specs.declared.op.Sleeping.{Sleeping}
-use Rattle.runs_model.specs.declared.op.SleeperOp.TheVariants as sleeper_op
-use Rattle.runs_model.specs.declared.op.TickOp.TheVariants as tick_op
-use Rattle.runs_model.specs.declared.step.Step.{Step}
-use Rattle.runs_model.specs.declared.step.Step.TheVariants.{Begin}
-use Rattle.runs_model.specs.Trace.{Trace, has, is_accepted, is_poll, is_dropped, is_drop_begun}
-use Rattle.runs_model.specs.Due.{IsDue}
-use Rattle.runs_model.specs.Emptiness.{IsAtRest}
-use Rattle.runs_model.specs.World.{World, Place, Up, Lies, Left, among, log, tick_of}
-use Rattle.runs_model.specs.Acts.{take_by}
-use Rattle.runs_model.specs.Runs.{run_all}
-use Rattle.runs_model.specs.Sound.{times}
-use Rattle.runs_model.specs.Good.{Good}
-use Rattle.runs_model.specs.Steps.{Machine, stack, onto, part_after, with_part, waker_of as given}
-use Rattle.runs_model.specs.Weights.{weigh}
-use Rattle.runs_model.proofs.Stories.{among_is}
-use Rattle.runs_model.proofs.Telling.{begun-has}
-use Rattle.runs_model.proofs.Entering.{table-agrees}
-use Rattle.runs_model.proofs.AskingRuns.{Heard}
-use Rattle.runs_model.proofs.Resting.{rests}
-use Rattle.runs_reach.specs.Reach.{are_onward_of, found_answer, IsLoneCall, takes}
+use Rattle.executor_model.specs.declared.op.QueueOp.TheVariants as queue_op
+use Rattle.executor_model.specs.declared.op.Sleeper.TheVariants as sleeper
+use Rattle.executor_model.specs.declared.op.Sleeping.{Sleeping}
+use Rattle.executor_model.specs.declared.op.SleeperOp.TheVariants as sleeper_op
+use Rattle.executor_model.specs.declared.op.TickOp.TheVariants as tick_op
+use Rattle.executor_model.specs.declared.step.Step.{Step}
+use Rattle.executor_model.specs.declared.step.Step.TheVariants.{Begin}
+use Rattle.executor_model.specs.Trace.{Trace, has, is_accepted, is_poll, is_dropped, is_drop_begun}
+use Rattle.executor_model.specs.Due.{IsDue}
+use Rattle.executor_model.specs.Emptiness.{IsAtRest}
+use Rattle.executor_model.specs.World.{World, Place, Up, Lies, Left, among, log, tick_of}
+use Rattle.executor_model.specs.Acts.{take_by}
+use Rattle.executor_model.specs.Runs.{run_all}
+use Rattle.executor_model.specs.Sound.{times}
+use Rattle.executor_model.specs.Good.{Good}
+use Rattle.executor_model.specs.Steps.{Machine, stack, onto, part_after, with_part, waker_of as given}
+use Rattle.executor_model.specs.Weights.{weigh}
+use Rattle.executor_model.proofs.Stories.{among_is}
+use Rattle.executor_model.proofs.Telling.{begun-has}
+use Rattle.executor_model.proofs.Entering.{table-agrees}
+use Rattle.executor_model.proofs.AskingRuns.{Heard}
+use Rattle.executor_model.proofs.Resting.{rests}
+use Rattle.runs_laws.specs.LoneEnds.{are_onward_of, IsLoneCall}
+use Rattle.runs_reach.specs.Reach.{found_answer, takes}
 use Rattle.runs_reach.proofs.Placing.{here, idle, queue-common}
 use Rattle.runs_reach.proofs.Ticking.{ticking, first-times}
 use Rattle.runs_reach.proofs.Reached.{Reached, run-first, reached-more, reached-step}
@@ -46,7 +47,7 @@ use Rattle.runs_reach.proofs.Reached.{bonded-here, good-here, heard-here, deep-h
 use Rattle.runs_reach.proofs.LoneMoves.{stray_of}
 use Rattle.runs_reach.proofs.LoneSteps.{Ended, HasEntry, answering}
 use Rattle.runs_reach.proofs.LoneTicks.{in-range, no-more, stack-set, walks, GoneOn, goes-on}
-use Rattle.runs_model.specs.ActsOfSleepers.{search_by}
+use Rattle.executor_model.specs.ActsOfSleepers.{search_by}
 
 -- what a lone call that looks leads to, where there is a future to run
 pub record First (f : ℕ) (xs : List ℕ) (p : ℕ) (c : Call) (r : Reply) (s new : Machine) : Type 0 where

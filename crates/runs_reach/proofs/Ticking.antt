@@ -6,32 +6,32 @@ use Rattle.std.proofs.Math.ListN.{length-set}
 use Rattle.std.proofs.lemmas.Bool.Decides.{nat_tests}
 use Rattle.std.proofs.lemmas.List.{append_assoc}
 use Rattle.std.specs.Prelude.{Option, None, nat_lt}
-use Rattle.runs_model.specs.declared.call.Call.TheVariants as call
-use Rattle.runs_model.specs.declared.call.Reply.TheVariants as reply
-use Rattle.runs_model.specs.declared.event.Event.TheVariants as event
-use Rattle.runs_model.specs.declared.op.Hold.TheVariants as hold
-use Rattle.runs_model.specs.declared.op.Op.{Op}
-use Rattle.runs_model.specs.declared.op.Op.TheVariants as op
+use Rattle.executor_model.specs.declared.call.Call.TheVariants as call
+use Rattle.executor_model.specs.declared.call.Reply.TheVariants as reply
+use Rattle.executor_model.specs.declared.event.Event.TheVariants as event
+use Rattle.executor_model.specs.declared.op.Hold.TheVariants as hold
+use Rattle.executor_model.specs.declared.op.Op.{Op}
+use Rattle.executor_model.specs.declared.op.Op.TheVariants as op
 use Rattle.task_moves.specs.declared.moves.owed.Move.TheVariants as move
-use Rattle.runs_model.specs.declared.op.QueueOp.TheVariants as queue_op
-use Rattle.runs_model.specs.declared.op.SleeperOp.TheVariants as sleeper_op
-use Rattle.runs_model.specs.declared.step.Hint.{Hint}
-use Rattle.runs_model.specs.declared.step.Step.{Step}
-use Rattle.runs_model.specs.declared.step.Step.TheVariants.{Begin, Go}
-use Rattle.runs_model.specs.declared.step.StepError.{StepError}
-use Rattle.runs_model.specs.declared.step.StepError.TheVariants.{NoSuch, Gone}
-use Rattle.runs_model.specs.Keeper.{IsCommon}
-use Rattle.runs_model.specs.Emptiness.{IsAtRest}
-use Rattle.runs_model.specs.World.{log}
-use Rattle.runs_model.specs.Acts.{take_by}
-use Rattle.runs_model.specs.Sound.{times}
-use Rattle.runs_model.specs.Good.{Good}
-use Rattle.runs_model.specs.Steps.{Machine, stack, top, step, step_by, stepped, refusal, unless, begin_refusal}
-use Rattle.runs_model.specs.Steps.{go_refusal, onto, part_after, with_part, run, start}
-use Rattle.runs_model.proofs.Lists.{same_is}
-use Rattle.runs_model.proofs.Lift.{good}
-use Rattle.runs_model.proofs.AskingRuns.{Heard, heard}
-use Rattle.runs_model.proofs.Resting.{Deep, deep}
+use Rattle.executor_model.specs.declared.op.QueueOp.TheVariants as queue_op
+use Rattle.executor_model.specs.declared.op.SleeperOp.TheVariants as sleeper_op
+use Rattle.executor_model.specs.declared.step.Hint.{Hint}
+use Rattle.executor_model.specs.declared.step.Step.{Step}
+use Rattle.executor_model.specs.declared.step.Step.TheVariants.{Begin, Go}
+use Rattle.executor_model.specs.declared.step.StepError.{StepError}
+use Rattle.executor_model.specs.declared.step.StepError.TheVariants.{NoSuch, Gone}
+use Rattle.executor_model.specs.Keeper.{IsCommon}
+use Rattle.executor_model.specs.Emptiness.{IsAtRest}
+use Rattle.executor_model.specs.World.{log}
+use Rattle.executor_model.specs.Acts.{take_by}
+use Rattle.executor_model.specs.Sound.{times}
+use Rattle.executor_model.specs.Good.{Good}
+use Rattle.executor_model.specs.Steps.{Machine, stack, top, step, step_by, stepped, refusal, unless, begin_refusal}
+use Rattle.executor_model.specs.Steps.{go_refusal, onto, part_after, with_part, run, start}
+use Rattle.executor_model.proofs.Lists.{same_is}
+use Rattle.executor_model.proofs.Lift.{good}
+use Rattle.executor_model.proofs.AskingRuns.{Heard, heard}
+use Rattle.executor_model.proofs.Resting.{Deep, deep}
 use Rattle.runs_reach.specs.Ticks.{ticks, FindsNothing, FindsCommon, IsTickExact}
 use Rattle.runs_reach.proofs.BoundWays.{Bonded, bonded}
 use Rattle.runs_reach.proofs.Placing.{common-queue, here, idle, queue-common}

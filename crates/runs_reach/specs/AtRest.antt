@@ -1,14 +1,14 @@
 -- How a call is answered that begins where nothing else is in progress, in the words of the trace alone.
 use Rattle.std.specs.Prelude.{◌≡◌, ◌≢◌, ◌↔◌, ◌⊎◌, ℕ, false, ◌∷◌, ◌++◌}
-use Rattle.runs_model.specs.declared.call.Call.{Call}
-use Rattle.runs_model.specs.declared.call.Call.TheVariants.{TryTick, IsEmpty}
-use Rattle.runs_model.specs.declared.call.Reply.TheVariants.{Yes, No}
-use Rattle.runs_model.specs.declared.event.Event.{Event}
-use Rattle.runs_model.specs.declared.event.Event.TheVariants.{CallBegun, CallEnded}
-use Rattle.runs_model.specs.Keeper.{IsCommon}
-use Rattle.runs_model.specs.Emptiness.{AllDropped}
-use Rattle.runs_model.specs.Quiet.{IsQuiet}
-use Rattle.runs_model.specs.Trace.{Trace, has, is_drop_begun}
+use Rattle.executor_model.specs.declared.call.Call.{Call}
+use Rattle.executor_model.specs.declared.call.Call.TheVariants.{TryTick, IsEmpty}
+use Rattle.executor_model.specs.declared.call.Reply.TheVariants.{Yes, No}
+use Rattle.executor_model.specs.declared.event.Event.{Event}
+use Rattle.executor_model.specs.declared.event.Event.TheVariants.{CallBegun, CallEnded}
+use Rattle.executor_model.specs.Keeper.{IsCommon}
+use Rattle.executor_model.specs.Emptiness.{AllDropped}
+use Rattle.executor_model.specs.Quiet.{IsQuiet}
+use Rattle.executor_model.specs.Trace.{Trace, has, is_drop_begun}
 
 -- with this trace no call is in progress and the drop of the executor hasn't begun; then party p begins this call, and
 -- next there is this event, which begins no other call

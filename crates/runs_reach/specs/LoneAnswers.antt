@@ -1,16 +1,16 @@
 -- How a whole call is answered that a party makes alone.
 use Rattle.std.specs.Prelude.{◌≡◌, ◌⊎◌, ◌↔◌, ℕ, List, [], ◌∷◌, ◌++◌}
-use Rattle.runs_model.specs.declared.call.Call.{Call}
-use Rattle.runs_model.specs.declared.call.Call.TheVariants.{TryTick, IsEmpty}
-use Rattle.runs_model.specs.declared.call.Reply.{Reply}
-use Rattle.runs_model.specs.declared.call.Reply.TheVariants.{Yes, No}
-use Rattle.runs_model.specs.declared.event.Event.TheVariants.{CallBegun, CallEnded}
-use Rattle.runs_model.specs.declared.step.Step.{Step}
-use Rattle.runs_model.specs.Emptiness.{AllDropped, IsAtRest}
-use Rattle.runs_model.specs.Keeper.{IsCommon}
-use Rattle.runs_model.specs.Steps.{Machine}
-use Rattle.runs_model.specs.Trace.{Trace}
-use Rattle.runs_reach.specs.Reach.{IsLoneCall}
+use Rattle.executor_model.specs.declared.call.Call.{Call}
+use Rattle.executor_model.specs.declared.call.Call.TheVariants.{TryTick, IsEmpty}
+use Rattle.executor_model.specs.declared.call.Reply.{Reply}
+use Rattle.executor_model.specs.declared.call.Reply.TheVariants.{Yes, No}
+use Rattle.executor_model.specs.declared.event.Event.TheVariants.{CallBegun, CallEnded}
+use Rattle.executor_model.specs.declared.step.Step.{Step}
+use Rattle.executor_model.specs.Emptiness.{AllDropped, IsAtRest}
+use Rattle.executor_model.specs.Keeper.{IsCommon}
+use Rattle.executor_model.specs.Steps.{Machine}
+use Rattle.executor_model.specs.Trace.{Trace}
+use Rattle.runs_laws.specs.LoneEnds.{IsLoneCall}
 
 -- the call of party p is answered so, behind what it did
 abbrev pub IsAnswered : ℕ → Call → Reply → Machine → Machine → Type 0

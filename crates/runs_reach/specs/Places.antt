@@ -1,11 +1,11 @@
 -- Where the Runnable of a due future stands.
 use Rattle.std.specs.Prelude.{◌↔◌, ℕ, ◌≤◌}
-use Rattle.runs_model.specs.Due.{IsDue}
-use Rattle.runs_model.specs.Emptiness.{IsAtRest}
-use Rattle.runs_model.specs.Keeper.{IsCommon, IsKeeper}
-use Rattle.runs_model.specs.Sound.{times}
-use Rattle.runs_model.specs.Steps.{Machine}
-use Rattle.runs_model.specs.World.{own_of}
+use Rattle.executor_model.specs.Due.{IsDue}
+use Rattle.executor_model.specs.Emptiness.{IsAtRest}
+use Rattle.executor_model.specs.Keeper.{IsCommon, IsKeeper}
+use Rattle.executor_model.specs.Sound.{times}
+use Rattle.executor_model.specs.Steps.{Machine}
+use Rattle.executor_model.specs.World.{own_of}
 
 -- where no call is in progress and the drop of the executor hasn't begun, a due future stands in the executor's queue
 -- exactly where it is common, and in a run's own queue exactly where that run is its keeper

@@ -1,39 +1,22 @@
 -- Which futures are reached by calls that look for one and are made alone.
-use Rattle.std.specs.Prelude.{◌≡◌, ◌==◌, ℕ, suc, ◌+◌, ◌≤◌, ◌<◌, Bool, true, false, ◌&&◌, ◌||◌}
-use Rattle.std.specs.Prelude.{Option, Some, None, Ok, List, [], ◌∷◌, ◌++◌, length, drop, take}
+use Rattle.std.specs.Prelude.{◌≡◌, ◌==◌, ℕ, suc, ◌+◌, ◌≤◌, ◌<◌, Bool, true, ◌&&◌, ◌||◌}
+use Rattle.std.specs.Prelude.{Option, Some, None, List, [], ◌∷◌, ◌++◌, length, drop, take}
 use Rattle.std.specs.List.{list_any}
-use Rattle.runs_model.specs.declared.call.Call.{Call}
-use Rattle.runs_model.specs.declared.call.Call.TheVariants.{PollTick, TryTick}
-use Rattle.runs_model.specs.declared.call.Reply.{Reply}
-use Rattle.runs_model.specs.declared.call.Reply.TheVariants.{Ready, Yes}
-use Rattle.runs_model.specs.declared.event.Event.{Event}
-use Rattle.runs_model.specs.declared.event.Event.TheVariants.{CallBegun, CallEnded}
-use Rattle.runs_model.specs.declared.step.Step.{Step}
-use Rattle.runs_model.specs.declared.step.Step.TheVariants.{Begin, Go, Answer}
-use Rattle.runs_model.specs.Emptiness.{IsAtRest}
-use Rattle.runs_model.specs.Keeper.{IsCommon}
-use Rattle.runs_model.specs.Quiet.{IsQuiet}
-use Rattle.runs_model.specs.Runs.{run_all}
-use Rattle.runs_model.specs.Sound.{times}
-use Rattle.runs_model.specs.Steps.{Machine}
-use Rattle.runs_model.specs.Trace.{Trace, has, is_poll, is_dropped}
-
--- a step by which party p goes on with what it has begun
-abbrev pub is_onward_of : ℕ → Step → Bool
-is_onward_of p (Begin q c) = false
-is_onward_of p (Go q h) = p == q
-is_onward_of p (Answer q e) = p == q
-
-abbrev pub are_onward_of : ℕ → List Step → Bool
-are_onward_of p [] = true
-are_onward_of p (t ∷ ts) = is_onward_of p t && are_onward_of p ts
-
--- a whole call of party p: it begins, goes on by these steps and has ended. No other party takes a step,
--- and the user code in it answers as it likes, but begins no call
-pub record IsLoneCall (p : ℕ) (c : Call) (steps : List Step) (s new : Machine) : Type 0 where
-  pub made : run_all (Begin p c ∷ steps) s ≡ Ok new
-  pub alone : are_onward_of p steps ≡ true
-  pub ended : IsQuiet new.world.trace
+use Rattle.executor_model.specs.declared.call.By.TheVariants.{Outside}
+use Rattle.executor_model.specs.declared.call.Call.{Call}
+use Rattle.executor_model.specs.declared.call.Call.TheVariants.{PollTick, TryTick}
+use Rattle.executor_model.specs.declared.call.Reply.{Reply}
+use Rattle.executor_model.specs.declared.call.Reply.TheVariants.{Ready, Yes}
+use Rattle.executor_model.specs.declared.event.Event.{Event}
+use Rattle.executor_model.specs.declared.event.Event.TheVariants.{CallBegun, CallEnded}
+use Rattle.executor_model.specs.declared.step.Step.{Step}
+use Rattle.executor_model.specs.Emptiness.{IsAtRest}
+use Rattle.executor_model.specs.Keeper.{IsCommon}
+use Rattle.executor_model.specs.Sound.{times}
+use Rattle.executor_model.specs.Steps.{Machine, lives}
+use Rattle.executor_model.specs.Trace.{Trace, has, is_poll, is_dropped}
+use Rattle.executor_model.specs.World.{tick_of}
+use Rattle.runs_laws.specs.LoneEnds.{IsLoneCall}
 
 abbrev pub IsLoneTick : ℕ → List Step → Machine → Machine → Type 0
 IsLoneTick p steps s new = IsLoneCall p TryTick steps s new
@@ -100,7 +83,7 @@ HasComings from trace comings = (f place : ℕ) → from ≤ place → BecomesCo
 
 -- while some future is common, each lone call that looks for one takes one that is; so a list of them as long as the
 -- futures that are common at its start and those that become common in it, each time counted, takes each that is common
--- at its start
+-- at its start. Each party can make one: it can try a tick, and it can poll a tick that lives
 pub record IsInReach (s : Machine) : Type 0 where
   pub each : IsAtRest s → (f : ℕ) → IsCommon f s.world.trace → (p : ℕ) (c : Call) (reply : Reply) →
       found_answer c ≡ Some reply →
@@ -111,6 +94,10 @@ pub record IsInReach (s : Machine) : Type 0 where
       (comings : List Coming) → HasComings (length s.world.trace) new.world.trace comings →
       length commons + length comings ≤ length searches →
       (f : ℕ) → IsCommon f s.world.trace → has (takes f) (since s new) ≡ true
+  pub can : IsAtRest s → (p : ℕ) → p < length s.parties →
+      (steps : List Step) × (new : Machine) × IsLoneTick p steps s new
+  pub polls : IsAtRest s → (p : ℕ) → p < length s.parties → (t x : ℕ) → lives (tick_of s.world t) ≡ true →
+      (steps : List Step) × (new : Machine) × IsLoneCall p (PollTick t (Outside x)) steps s new
 
 -- the queue is first in, first out, so as many such calls as futures are common at their start take each of those,
 -- whatever becomes common meanwhile

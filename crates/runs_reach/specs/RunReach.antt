@@ -1,19 +1,20 @@
 -- Which future a poll of a run takes that is made alone.
 use Rattle.std.specs.Prelude.{◌≡◌, ℕ, ◌≤◌, true, Option, Some, None, List, [], ◌∷◌, length}
-use Rattle.runs_model.specs.declared.call.By.{By}
-use Rattle.runs_model.specs.declared.call.Call.TheVariants.{DropRun, PollRun}
-use Rattle.runs_model.specs.declared.event.Answer.TheVariants.{Pending}
-use Rattle.runs_model.specs.declared.step.Step.{Step}
-use Rattle.runs_model.specs.declared.step.Step.TheVariants.{Begin, Go, Answer}
-use Rattle.runs_model.specs.declared.step.UserEnd.{UserEnd}
-use Rattle.runs_model.specs.declared.step.UserEnd.TheVariants.{Polled}
-use Rattle.runs_model.specs.Due.{IsDue}
-use Rattle.runs_model.specs.Emptiness.{IsAtRest}
-use Rattle.runs_model.specs.Keeper.{IsCommon, IsKeeper}
-use Rattle.runs_model.specs.Sound.{times}
-use Rattle.runs_model.specs.Steps.{Machine}
-use Rattle.runs_model.specs.Trace.{Trace, has}
-use Rattle.runs_reach.specs.Reach.{IsLoneCall, since, takes}
+use Rattle.executor_model.specs.declared.call.By.{By}
+use Rattle.executor_model.specs.declared.call.Call.TheVariants.{DropRun, PollRun}
+use Rattle.executor_model.specs.declared.event.Answer.TheVariants.{Pending}
+use Rattle.executor_model.specs.declared.step.Step.{Step}
+use Rattle.executor_model.specs.declared.step.Step.TheVariants.{Begin, Go, Answer}
+use Rattle.executor_model.specs.declared.step.UserEnd.{UserEnd}
+use Rattle.executor_model.specs.declared.step.UserEnd.TheVariants.{Polled}
+use Rattle.executor_model.specs.Due.{IsDue}
+use Rattle.executor_model.specs.Emptiness.{IsAtRest}
+use Rattle.executor_model.specs.Keeper.{IsCommon, IsKeeper}
+use Rattle.executor_model.specs.Sound.{times}
+use Rattle.executor_model.specs.Steps.{Machine}
+use Rattle.executor_model.specs.Trace.{Trace, has}
+use Rattle.runs_laws.specs.LoneEnds.{IsLoneCall}
+use Rattle.runs_reach.specs.Reach.{since, takes}
 
 -- what user code answers first in these steps
 abbrev pub first_answer : List Step → Option UserEnd

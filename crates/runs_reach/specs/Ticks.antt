@@ -1,18 +1,18 @@
 -- Whether a tick finds a future is answered as it is.
 use Rattle.std.specs.Prelude.{◌≡◌, ◌⊎◌, ℕ, ◌<◌, List, [], ◌∷◌, ◌++◌, length}
-use Rattle.runs_model.specs.declared.call.Call.TheVariants.{TryTick}
-use Rattle.runs_model.specs.declared.call.Reply.TheVariants.{Yes, No}
-use Rattle.runs_model.specs.declared.event.Event.TheVariants.{CallBegun, CallEnded}
-use Rattle.runs_model.specs.declared.op.Hold.TheVariants as hold
-use Rattle.runs_model.specs.declared.op.Op.TheVariants as op
-use Rattle.runs_model.specs.declared.op.SleeperOp.TheVariants as sleeper_op
+use Rattle.executor_model.specs.declared.call.Call.TheVariants.{TryTick}
+use Rattle.executor_model.specs.declared.call.Reply.TheVariants.{Yes, No}
+use Rattle.executor_model.specs.declared.event.Event.TheVariants.{CallBegun, CallEnded}
+use Rattle.executor_model.specs.declared.op.Hold.TheVariants as hold
+use Rattle.executor_model.specs.declared.op.Op.TheVariants as op
+use Rattle.executor_model.specs.declared.op.SleeperOp.TheVariants as sleeper_op
 use Rattle.task_moves.specs.declared.moves.owed.Move.TheVariants as move
-use Rattle.runs_model.specs.declared.step.Hint.{Hint}
-use Rattle.runs_model.specs.declared.step.Step.{Step}
-use Rattle.runs_model.specs.declared.step.Step.TheVariants.{Begin, Go}
-use Rattle.runs_model.specs.Keeper.{IsCommon}
-use Rattle.runs_model.specs.Emptiness.{IsAtRest}
-use Rattle.runs_model.specs.Steps.{Machine, stack, run}
+use Rattle.executor_model.specs.declared.step.Hint.{Hint}
+use Rattle.executor_model.specs.declared.step.Step.{Step}
+use Rattle.executor_model.specs.declared.step.Step.TheVariants.{Begin, Go}
+use Rattle.executor_model.specs.Keeper.{IsCommon}
+use Rattle.executor_model.specs.Emptiness.{IsAtRest}
+use Rattle.executor_model.specs.Steps.{Machine, stack, run}
 
 -- party p calls a tick and takes the first step of it, with no step of another in between
 abbrev pub ticks : ℕ → Hint → List Step

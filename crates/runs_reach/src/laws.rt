@@ -1,12 +1,14 @@
 //! Laws of every run of the machine, of any number of parties and any list of steps.
-ghost use Rattle.runs_model.specs.EveryTrace.{EveryTrace};
-ghost use Rattle.runs_model.specs.Runs.{EveryMachine};
+ghost use Rattle.executor_model.specs.EveryTrace.{EveryTrace};
+ghost use Rattle.executor_model.specs.Runs.{EveryMachine};
 ghost use Rattle.runs_reach.specs.AtRest.{EmptinessIsExact, TicksAreExact};
 ghost use Rattle.runs_reach.specs.LoneAnswers.{IsLoneEmptinessExact, IsLoneTickExact};
 ghost use Rattle.runs_reach.specs.Places.{StandsWithKeeper};
 ghost use Rattle.runs_reach.specs.Reach.{IsInReach, IsReachedInOrder};
 ghost use Rattle.runs_reach.specs.RunReach.{IsKeptReached, IsReachedByRuns, LeavesCommon};
 ghost use Rattle.runs_reach.specs.Ticks.{IsTickExact};
+
+use runs_laws::laws::lone_calls_end;
 
 /// Where no call is in progress and the drop of the executor hasn't begun, the Runnable of a due future stands in the
 /// executor's queue exactly where the future is common, and in a run's own queue exactly where that run is its keeper.
@@ -44,10 +46,13 @@ pub fn lone_calls_are_exact()
 /// that is tried is answered that it found a future, and a poll of a tick that it is ready. It begins the
 /// poll or the drop of a future that was common. So a list of such calls, in any order, as long as the
 /// futures that are common at its start and those that become common in it, each time counted, begins the
-/// poll or the drop of each that is common at its start.
+/// poll or the drop of each that is common at its start. Each party can try a tick, and can poll one that
+/// lives.
 pub fn common_futures_are_in_reach()
     ensures { EveryMachine IsInReach }
-{}
+{
+    lone_calls_end();
+}
 
 /// The executor's queue is first in, first out: as many calls that look for a future and are made alone as
 /// futures are common at their start begin the poll or the drop of each of those, whatever becomes common meanwhile.

@@ -1,10 +1,10 @@
 -- No text is two scripts.
-use Rattle.std.proofs.Common.{◌≡◌, ℕ, Bool, true, false, codes, List, [], ◌∷◌, refl, ap, ◌∙◌, arith}
+use Rattle.std.proofs.Common.{◌≡◌, ℕ, Bool, true, false, codes, Option, Some, None, List, [], ◌∷◌, refl, ap, ◌∙◌, arith}
 use Rattle.std.specs.List.{AllZip}
 use Rattle.text_lines.specs.Number.{IsNumber}
 use Rattle.text_lines.proofs.One.{IsNumber-one, AllZip-one}
 use Rattle.script.specs.Item.{IsItem, AreItems}
-use Rattle.script.specs.Plain.{IsSpelled}
+use Rattle.script.specs.Plain.{IsTwice, IsSpelled}
 use Rattle.script.specs.Party.{IsParty}
 use Rattle.script.specs.Command.{SpellsAs, SpellsRequest, Spells}
 use Rattle.script.specs.declared.command.Request.{Request}
@@ -30,6 +30,15 @@ IsItem-one item other word p q = grind arith
 AreItems-one : (items others : List Item) (words more : List (List ℕ)) → words ≡ more → AreItems items words → AreItems others more → items ≡ others
 AreItems-one items others words more same p q = AllZip-one IsItem IsItem-one items others more (rw (← same) p.each) q.each
 
+IsTwice-one : (twice other : Option (List ℕ)) (words more : List (List ℕ)) → words ≡ more → IsTwice twice words → IsTwice other more → twice ≡ other
+IsTwice-one None None words more same p q = refl
+IsTwice-one (Some held) (Some held') words more same p q =
+    let word : p.0 ≡ q.0 = cc in
+    let items : Twice held ≡ Twice held' = IsItem-one (Twice held) (Twice held') p.0 p.2 (rw word q.2) in
+    cc
+IsTwice-one None (Some held) words more same p q = let e = q.1 in cc
+IsTwice-one (Some held) None words more same p q = let e = p.1 in cc
+
 IsSpelled-one : (plain other : Plain) (words : List (List ℕ)) → IsSpelled plain words → IsSpelled other words → plain ≡ other
 IsSpelled-one (plain.Spawn name items) (plain.Spawn name' items') words p q =
     let names : name ≡ name' = cc in
@@ -47,6 +56,13 @@ IsSpelled-one (plain.Drop name) (plain.Drop name') words p q = cc
 IsSpelled-one (plain.Tick name) (plain.Tick name') words p q = cc
 IsSpelled-one (plain.PollTick name) (plain.PollTick name') words p q = cc
 IsSpelled-one (plain.DropTick name) (plain.DropTick name') words p q = cc
+IsSpelled-one (plain.Run name twice) (plain.Run name' twice') words p q =
+    let names : name ≡ name' = cc in
+    let rest : p.0 ≡ q.0 = cc in
+    let same : twice ≡ twice' = IsTwice-one twice twice' p.0 q.0 rest p.3 q.3 in
+    cc
+IsSpelled-one (plain.PollRun name) (plain.PollRun name') words p q = cc
+IsSpelled-one (plain.DropRun name) (plain.DropRun name') words p q = cc
 IsSpelled-one plain.End plain.End words p q = refl
 IsSpelled-one plain other words p q = grind arith
 

@@ -14,17 +14,20 @@ no_item Keep word pend itself keep ready twice is = keep is
 no_item (Ready value) word pend itself keep ready twice is = ready value is
 no_item (Twice name) word pend itself keep ready twice is = twice name is
 
-pub no_plain : (command : Plain) (first : List ℕ) (words : List (List ℕ)) → first ≢ codes "spawn" → first ≢ codes "try" → first ≢ codes "empty" → first ≢ codes "wake" → first ≢ codes "unkeep" → first ≢ codes "poll" → first ≢ codes "cancel" → first ≢ codes "detach" → first ≢ codes "drop" → first ≢ codes "tick" → first ≢ codes "polltick" → first ≢ codes "droptick" → first ≢ codes "end" → ¬ (IsSpelled command (first ∷ words))
-no_plain (plain.Spawn name items) first words not_spawn not_try not_empty not_wake not_unkeep not_poll not_cancel not_detach not_drop not_tick not_polltick not_droptick not_end is = let e = is.1 in not_spawn cc
-no_plain plain.Try first words not_spawn not_try not_empty not_wake not_unkeep not_poll not_cancel not_detach not_drop not_tick not_polltick not_droptick not_end is = not_try cc
-no_plain plain.Empty first words not_spawn not_try not_empty not_wake not_unkeep not_poll not_cancel not_detach not_drop not_tick not_polltick not_droptick not_end is = not_empty cc
-no_plain (plain.Wake name) first words not_spawn not_try not_empty not_wake not_unkeep not_poll not_cancel not_detach not_drop not_tick not_polltick not_droptick not_end is = let e = is.0 in not_wake cc
-no_plain (plain.Unkeep name) first words not_spawn not_try not_empty not_wake not_unkeep not_poll not_cancel not_detach not_drop not_tick not_polltick not_droptick not_end is = let e = is.0 in not_unkeep cc
-no_plain (plain.Poll name) first words not_spawn not_try not_empty not_wake not_unkeep not_poll not_cancel not_detach not_drop not_tick not_polltick not_droptick not_end is = let e = is.0 in not_poll cc
-no_plain (plain.Cancel name) first words not_spawn not_try not_empty not_wake not_unkeep not_poll not_cancel not_detach not_drop not_tick not_polltick not_droptick not_end is = let e = is.0 in not_cancel cc
-no_plain (plain.Detach name) first words not_spawn not_try not_empty not_wake not_unkeep not_poll not_cancel not_detach not_drop not_tick not_polltick not_droptick not_end is = let e = is.0 in not_detach cc
-no_plain (plain.Drop name) first words not_spawn not_try not_empty not_wake not_unkeep not_poll not_cancel not_detach not_drop not_tick not_polltick not_droptick not_end is = let e = is.0 in not_drop cc
-no_plain (plain.Tick name) first words not_spawn not_try not_empty not_wake not_unkeep not_poll not_cancel not_detach not_drop not_tick not_polltick not_droptick not_end is = let e = is.0 in not_tick cc
-no_plain (plain.PollTick name) first words not_spawn not_try not_empty not_wake not_unkeep not_poll not_cancel not_detach not_drop not_tick not_polltick not_droptick not_end is = let e = is.0 in not_polltick cc
-no_plain (plain.DropTick name) first words not_spawn not_try not_empty not_wake not_unkeep not_poll not_cancel not_detach not_drop not_tick not_polltick not_droptick not_end is = let e = is.0 in not_droptick cc
-no_plain plain.End first words not_spawn not_try not_empty not_wake not_unkeep not_poll not_cancel not_detach not_drop not_tick not_polltick not_droptick not_end is = not_end cc
+pub no_plain : (command : Plain) (first : List ℕ) (words : List (List ℕ)) → first ≢ codes "spawn" → first ≢ codes "try" → first ≢ codes "empty" → first ≢ codes "wake" → first ≢ codes "unkeep" → first ≢ codes "poll" → first ≢ codes "cancel" → first ≢ codes "detach" → first ≢ codes "drop" → first ≢ codes "tick" → first ≢ codes "polltick" → first ≢ codes "droptick" → first ≢ codes "run" → first ≢ codes "pollrun" → first ≢ codes "droprun" → first ≢ codes "end" → ¬ (IsSpelled command (first ∷ words))
+no_plain (plain.Spawn name items) first words not_spawn not_try not_empty not_wake not_unkeep not_poll not_cancel not_detach not_drop not_tick not_polltick not_droptick not_run not_pollrun not_droprun not_end is = let e = is.1 in not_spawn cc
+no_plain plain.Try first words not_spawn not_try not_empty not_wake not_unkeep not_poll not_cancel not_detach not_drop not_tick not_polltick not_droptick not_run not_pollrun not_droprun not_end is = not_try cc
+no_plain plain.Empty first words not_spawn not_try not_empty not_wake not_unkeep not_poll not_cancel not_detach not_drop not_tick not_polltick not_droptick not_run not_pollrun not_droprun not_end is = not_empty cc
+no_plain (plain.Wake name) first words not_spawn not_try not_empty not_wake not_unkeep not_poll not_cancel not_detach not_drop not_tick not_polltick not_droptick not_run not_pollrun not_droprun not_end is = let e = is.0 in not_wake cc
+no_plain (plain.Unkeep name) first words not_spawn not_try not_empty not_wake not_unkeep not_poll not_cancel not_detach not_drop not_tick not_polltick not_droptick not_run not_pollrun not_droprun not_end is = let e = is.0 in not_unkeep cc
+no_plain (plain.Poll name) first words not_spawn not_try not_empty not_wake not_unkeep not_poll not_cancel not_detach not_drop not_tick not_polltick not_droptick not_run not_pollrun not_droprun not_end is = let e = is.0 in not_poll cc
+no_plain (plain.Cancel name) first words not_spawn not_try not_empty not_wake not_unkeep not_poll not_cancel not_detach not_drop not_tick not_polltick not_droptick not_run not_pollrun not_droprun not_end is = let e = is.0 in not_cancel cc
+no_plain (plain.Detach name) first words not_spawn not_try not_empty not_wake not_unkeep not_poll not_cancel not_detach not_drop not_tick not_polltick not_droptick not_run not_pollrun not_droprun not_end is = let e = is.0 in not_detach cc
+no_plain (plain.Drop name) first words not_spawn not_try not_empty not_wake not_unkeep not_poll not_cancel not_detach not_drop not_tick not_polltick not_droptick not_run not_pollrun not_droprun not_end is = let e = is.0 in not_drop cc
+no_plain (plain.Tick name) first words not_spawn not_try not_empty not_wake not_unkeep not_poll not_cancel not_detach not_drop not_tick not_polltick not_droptick not_run not_pollrun not_droprun not_end is = let e = is.0 in not_tick cc
+no_plain (plain.PollTick name) first words not_spawn not_try not_empty not_wake not_unkeep not_poll not_cancel not_detach not_drop not_tick not_polltick not_droptick not_run not_pollrun not_droprun not_end is = let e = is.0 in not_polltick cc
+no_plain (plain.DropTick name) first words not_spawn not_try not_empty not_wake not_unkeep not_poll not_cancel not_detach not_drop not_tick not_polltick not_droptick not_run not_pollrun not_droprun not_end is = let e = is.0 in not_droptick cc
+no_plain (plain.Run name twice) first words not_spawn not_try not_empty not_wake not_unkeep not_poll not_cancel not_detach not_drop not_tick not_polltick not_droptick not_run not_pollrun not_droprun not_end is = let e = is.1 in not_run cc
+no_plain (plain.PollRun name) first words not_spawn not_try not_empty not_wake not_unkeep not_poll not_cancel not_detach not_drop not_tick not_polltick not_droptick not_run not_pollrun not_droprun not_end is = let e = is.0 in not_pollrun cc
+no_plain (plain.DropRun name) first words not_spawn not_try not_empty not_wake not_unkeep not_poll not_cancel not_detach not_drop not_tick not_polltick not_droptick not_run not_pollrun not_droprun not_end is = let e = is.0 in not_droprun cc
+no_plain plain.End first words not_spawn not_try not_empty not_wake not_unkeep not_poll not_cancel not_detach not_drop not_tick not_polltick not_droptick not_run not_pollrun not_droprun not_end is = not_end cc

@@ -1,11 +1,19 @@
 -- How a script writes the commands that make calls.
-use Rattle.std.specs.Prelude.{◌≡◌, ℕ, List, [], ◌∷◌, codes}
+use Rattle.std.specs.Prelude.{◌≡◌, ℕ, Option, Some, None, List, [], ◌∷◌, codes}
 use Rattle.script.specs.Name.{IsName}
-use Rattle.script.specs.Item.{AreItems}
+use Rattle.script.specs.Item.{IsItem, AreItems}
+use Rattle.script.specs.declared.item.Item.TheVariants.{Twice}
 use Rattle.script.specs.declared.plain.Plain.{Plain}
-use Rattle.script.specs.declared.plain.Plain.TheVariants.{Spawn, Try, Empty, Wake, Unkeep, Poll, Cancel, Detach, Drop, Tick, PollTick, DropTick, End}
+use Rattle.script.specs.declared.plain.Plain.TheVariants.{Spawn, Try, Empty, Wake, Unkeep, Poll, Cancel}
+use Rattle.script.specs.declared.plain.Plain.TheVariants.{Detach, Drop, Tick, PollTick, DropTick}
+use Rattle.script.specs.declared.plain.Plain.TheVariants.{Run, PollRun, DropRun, End}
 use Rattle.script.specs.declared.word.Word.{Word}
 use Rattle.script.specs.declared.word.Word.TheVariants as word
+
+-- the words behind the name of a run: none, or the item that polls the handle of the future of this name
+abbrev pub IsTwice : Option (List ℕ) → List (List ℕ) → Type 0
+IsTwice None words = words ≡ []
+IsTwice (Some held) words = (word : List ℕ) × (words ≡ word ∷ []) × IsItem (Twice held) word
 
 -- the words of a command
 abbrev pub IsSpelled : Plain → List (List ℕ) → Type 0
@@ -25,6 +33,13 @@ IsSpelled (Drop name) words = (words ≡ codes "drop" ∷ name ∷ []) × IsName
 IsSpelled (Tick name) words = (words ≡ codes "tick" ∷ name ∷ []) × IsName name
 IsSpelled (PollTick name) words = (words ≡ codes "polltick" ∷ name ∷ []) × IsName name
 IsSpelled (DropTick name) words = (words ≡ codes "droptick" ∷ name ∷ []) × IsName name
+IsSpelled (Run name twice) words =
+    (spelled : List (List ℕ))
+    × (words ≡ codes "run" ∷ name ∷ spelled)
+    × IsName name
+    × IsTwice twice spelled
+IsSpelled (PollRun name) words = (words ≡ codes "pollrun" ∷ name ∷ []) × IsName name
+IsSpelled (DropRun name) words = (words ≡ codes "droprun" ∷ name ∷ []) × IsName name
 IsSpelled End words = words ≡ codes "end" ∷ []
 
 -- the word under which a command's answer is printed
@@ -41,4 +56,7 @@ word_of (Drop name) = word.Drop
 word_of (Tick name) = word.Tick
 word_of (PollTick name) = word.PollTick
 word_of (DropTick name) = word.DropTick
+word_of (Run name twice) = word.Run
+word_of (PollRun name) = word.PollRun
+word_of (DropRun name) = word.DropRun
 word_of End = word.End

@@ -41,22 +41,20 @@ impl Item {
         } else if word == b"keep".as_slice() {
             Some(Item::Keep)
         } else {
-            match twice(word) {
-                Some(item) => Some(item),
+            match read_twice(word) {
+                Some(name) => Some(Item::Twice(name)),
                 None => ready(word),
             }
         }
     }
 }
 
-/// The item of this word, where it is one that polls a handle.
-fn twice(word: &[u8]) -> Option<Item>
-    ensures found { IfSome result (λ item. IsItem item word.now) }
+/// The name in this word, where it is an item that polls a handle.
+pub fn read_twice(word: &[u8]) -> Option<Name>
+    ensures found { IfSome result (λ name. IsItem (Twice name) word.now) }
     ensures none { IfNone result ((name : List ℕ) → ¬ (IsItem (Twice name) word.now)) }
 {
-    word.strip_prefix(b"twice:")
-        .and_then(Name::new)
-        .map(Item::Twice)
+    word.strip_prefix(b"twice:").and_then(Name::new)
 }
 
 /// The item of this word, where it is one that is ready.

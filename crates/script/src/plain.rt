@@ -1,10 +1,11 @@
 //! The commands that make calls.
 
-ghost use Rattle.std.specs.Prelude.{◌≡◌, ◌≢◌, ℕ, [], ◌∷◌, List, IfNone, IfOk, IfSome, codes};
+ghost use Rattle.std.specs.Prelude.{◌≡◌, ◌≢◌, ℕ, Option, [], ◌∷◌, List, IfNone, IfOk, IfSome, codes};
 ghost use Rattle.script.specs.Name.{IsName};
-ghost use Rattle.script.specs.Plain.{IsSpelled};
+ghost use Rattle.script.specs.Plain.{IsTwice, IsSpelled};
 ghost use Rattle.script.specs.declared.plain.Plain.{Plain};
 
+use crate::item::read_twice;
 use crate::items::Items;
 use crate::name::Name;
 use crate::word::Word;
@@ -38,6 +39,13 @@ pub enum Plain {
     PollTick(Name),
     /// `droptick t`: the tick is dropped.
     DropTick(Name),
+    /// `run r`: a run is made, whose own future is never ready. `run r twice:f`: its own future polls the handle of the future
+    /// of this name, which it holds, and is ready with twice its output.
+    Run { name: Name, twice: Option<Name> },
+    /// `pollrun r`: the run is polled, by the outside waker of this name.
+    PollRun(Name),
+    /// `droprun r`: the run is dropped.
+    DropRun(Name),
     /// `end`: the executor is dropped.
     End,
 }
@@ -62,6 +70,9 @@ impl Plain {
             Plain::Tick(_) => Word::Tick,
             Plain::PollTick(_) => Word::PollTick,
             Plain::DropTick(_) => Word::DropTick,
+            Plain::Run { .. } => Word::Run,
+            Plain::PollRun(_) => Word::PollRun,
+            Plain::DropRun(_) => Word::DropRun,
             Plain::End => Word::End,
         }
     }
@@ -141,8 +152,60 @@ fn read_on_tick(first: &[u8], words: Words<'_>) -> Option<Plain>
     } else if first == b"droptick".as_slice() {
         named(words).map(Plain::DropTick)
     } else {
+        read_on_run(first, words)
+    }
+}
+
+/// The command of this word and the name of a run behind it, where they are one.
+#[tactic(auto, using(crate::proofs::Unread::no_plain))]
+fn read_on_run(first: &[u8], words: Words<'_>) -> Option<Plain>
+    requires spawn { first.now ≢ codes "spawn" }
+    requires try_tick { first.now ≢ codes "try" }
+    requires empty { first.now ≢ codes "empty" }
+    requires end { first.now ≢ codes "end" }
+    requires wake { first.now ≢ codes "wake" }
+    requires unkeep { first.now ≢ codes "unkeep" }
+    requires poll { first.now ≢ codes "poll" }
+    requires cancel { first.now ≢ codes "cancel" }
+    requires detach { first.now ≢ codes "detach" }
+    requires drop { first.now ≢ codes "drop" }
+    requires tick { first.now ≢ codes "tick" }
+    requires poll_tick { first.now ≢ codes "polltick" }
+    requires drop_tick { first.now ≢ codes "droptick" }
+    ensures found { IfSome result (λ plain. IsSpelled plain (first.now ∷ words.entry)) }
+    ensures none { IfNone result ((plain : Plain) → ¬ (IsSpelled plain (first.now ∷ words.entry))) }
+{
+    if first == b"run".as_slice() {
+        run(words)
+    } else if first == b"pollrun".as_slice() {
+        named(words).map(Plain::PollRun)
+    } else if first == b"droprun".as_slice() {
+        named(words).map(Plain::DropRun)
+    } else {
         None
     }
+}
+
+/// The command that these words say behind `run`: a name, and whose handle its own future polls.
+fn run(mut words: Words<'_>) -> Option<Plain>
+    ensures found { IfSome result (λ plain. IsSpelled plain (codes "run" ∷ words.entry)) }
+    ensures none { IfNone result ((plain : Plain) → ¬ (IsSpelled plain (codes "run" ∷ words.entry))) }
+{
+    let name = words.next().and_then(Name::new)?;
+    let twice = twice(words)?;
+    Some(Plain::Run { name, twice })
+}
+
+/// The future whose handle the own future of a run polls, by the words behind the run's name: none, or one of a name.
+fn twice(mut words: Words<'_>) -> Option<Option<Name>>
+    ensures found { IfSome result (λ twice. IsTwice twice words.entry) }
+    ensures none { IfNone result ((twice : Option (List ℕ)) → ¬ (IsTwice twice words.entry)) }
+{
+    let Some(word) = words.next() else {
+        return Some(None);
+    };
+    let name = read_twice(word)?;
+    words.is_empty().then_some(Some(name))
 }
 
 /// The command that these words say behind `spawn`: a name, and its items.

@@ -58,6 +58,30 @@ fn ticks_are_made_polled_and_dropped(rt: HostRuntime) {
 }
 
 #[test]
+fn runs_are_made_polled_and_dropped(rt: HostRuntime) {
+    let text = b"limit 1\nrun r\nrun s twice:a\npollrun s\nbegin 2 droprun r";
+    let commands = [
+        whole(Plain::Run {
+            name: name(&rt, "r"),
+            twice: None,
+        }),
+        whole(Plain::Run {
+            name: name(&rt, "s"),
+            twice: Some(name(&rt, "a")),
+        }),
+        whole(Plain::PollRun(name(&rt, "s"))),
+        Command::Begin {
+            party: 2,
+            request: Request {
+                refused: false,
+                plain: Plain::DropRun(name(&rt, "r")),
+            },
+        },
+    ];
+    reads(&rt, text, 1, &commands);
+}
+
+#[test]
 fn a_call_may_be_begun_and_its_memory_refused(rt: HostRuntime) {
     let text =
         b"limit 1\nrefuse poll a\nbegin 9 refuse cancel b\nbegin 1 unkeep a\ngo 01\nfinish 2";
@@ -127,6 +151,10 @@ const BAD_LINES: &[(&[u8], u64)] = &[
     ),
     (b"limit 1\nspawn a ready=+1", 2),
     (b"limit 1\nspawn a twice:", 2),
+    (b"limit 1\nrun", 2),
+    (b"limit 1\nrun r pend", 2),
+    (b"limit 1\nrun r twice:", 2),
+    (b"limit 1\nrun r twice:a twice:a", 2),
     (b"limit 1\nbegin 0 try", 2),
     (b"limit 1\nbegin 10 try", 2),
     (b"limit 1\nbegin 1", 2),

@@ -4,7 +4,7 @@ use Rattle.std.proofs.Common.{◌≡◌, ℕ, zero, suc, Bool, true, false, List
 use Rattle.std.proofs.Common.{Result, Ok, Err, refl, sym, ap, ◌∙◌, subst, append-nil}
 use Rattle.std.proofs.Math.Seq.{drop-append_seam}
 use Rattle.std.specs.Prelude.{Option, Some, None}
-use Rattle.executor_laws.specs.Continued.{IsContinued}
+use Rattle.runs_laws.specs.Continued.{IsContinued}
 use Rattle.executor_model.specs.declared.call.Call.{Call}
 use Rattle.executor_model.specs.declared.call.Reply.{Reply}
 use Rattle.executor_model.specs.declared.call.Reply.TheVariants as reply
@@ -12,6 +12,7 @@ use Rattle.executor_model.specs.declared.event.Event.{Event}
 use Rattle.executor_model.specs.declared.event.Event.TheVariants as event
 use Rattle.executor_model.specs.declared.op.Op.{Op}
 use Rattle.executor_model.specs.declared.op.Op.TheVariants as op
+use Rattle.executor_model.specs.declared.op.RunPoll.{RunPoll}
 use Rattle.executor_model.specs.declared.op.UserOp.TheVariants as user_op
 use Rattle.executor_model.specs.declared.op.Waker.{Waker}
 use Rattle.executor_model.specs.declared.step.Step.{Step}
@@ -31,14 +32,14 @@ use Rattle.script.specs.declared.word.Word.TheVariants as word
 use Rattle.script.specs.Plain.{word_of}
 use Rattle.script.specs.Names.{number_of}
 use Rattle.simulator.specs.declared.moment.Moment.{Moment}
-use Rattle.simulator.specs.declared.moment.Moment.TheVariants.{Happened, Ended}
+use Rattle.simulator.specs.declared.moment.Moment.TheVariants.{Happened, Ended, Stopped}
 use Rattle.simulator.specs.declared.moment.Outcome.{Outcome}
-use Rattle.simulator.specs.declared.moment.Outcome.TheVariants.{NotPossible}
+use Rattle.simulator.specs.declared.moment.Outcome.TheVariants.{NotPossible, Waits}
 use Rattle.simulator.specs.declared.play.future.Stage.{Stage}
 use Rattle.simulator.specs.declared.play.future.Stage.TheVariants as stage
 use Rattle.simulator.specs.declared.play.party.Doing.{Doing}
 use Rattle.simulator.specs.Play as play
-use Rattle.simulator.specs.Play.{Player, plain_at, party, set_party, future, set_future, top, tried, taken}
+use Rattle.simulator.specs.Play.{Player, plain_at, party, set_party, future, set_future, run, set_run, top, tried, taken}
 use Rattle.simulator.specs.Play.{shown, noted, accepted, accepted_by, accepted_as, replied, kept_at}
 use Rattle.simulator.specs.Play.{refused_at, unkept_by, item_of, last, later, ended}
 use Rattle.simulator.specs.Turn as turns
@@ -49,6 +50,7 @@ happened-append : (xs ys : List Moment) → happened (xs ++ ys) ≡ happened xs 
 happened-append [] ys = refl
 happened-append (Happened e ∷ xs) ys = ap (λ (es : List Event). e ∷ es) (happened-append xs ys)
 happened-append (Ended w o ∷ xs) ys = happened-append xs ys
+happened-append (Stopped ∷ xs) ys = happened-append xs ys
 
 happened-all : (es : List Event) → happened (map Happened es) ≡ es
 happened-all [] = refl
@@ -171,6 +173,9 @@ module _ (continues : (m : Machine) (t : Step) →
   fair-ended : (w : Word) (o : Outcome) (s : Player) → IsFair limit s → IsFair limit (ended w o s)
   fair-ended w o s k = (k.0, happened-append s.moments (Ended w o ∷ []) ∙ (append-nil (happened s.moments) ∙ k.1))
 
+  fair-stop : (s : Player) → IsFair limit s → IsFair limit (play.stop s)
+  fair-stop s k = (k.0, happened-append s.moments (Stopped ∷ []) ∙ (append-nil (happened s.moments) ∙ k.1))
+
   -- a turn
 
   fair-given : (f : ℕ) (w : Waker) (s : Player) → IsFair limit s → IsFair limit (turns.given f w s)
@@ -248,6 +253,38 @@ module _ (continues : (m : Machine) (t : Step) →
   unfolding turns.drop_future
   fair-drop p f s k = fair-drop_next _ p f s k
 
+  fair-end_own : (o : Option ℕ) (p r : ℕ) (s : Player) → IsFair limit s → IsFair limit (turns.end_own o p r s)
+  fair-end_own (Some v) p r s k = fair-answer p _ _ k
+  fair-end_own None p r s k = fair-answer p _ _ k
+
+  fair-poll_held : (b : Bool) (p : ℕ) (x : RunPoll) (f : ℕ) (s : Player) → IsFair limit s →
+      IsFair limit (turns.poll_held b p x f s)
+  unfolding turns.poll_held
+  fair-poll_held true p x f s k = fair-end_own _ p x.run s k
+  fair-poll_held false p x f s k = fair-tried _ _ (fair-given f _ _ k)
+
+  fair-poll_own_by : (o : Option ℕ) (p : ℕ) (x : RunPoll) (s : Player) → IsFair limit s →
+      IsFair limit (turns.poll_own_by o p x s)
+  fair-poll_own_by (Some f) p x s k = fair-poll_held (run s x.run).asked p x f s k
+  fair-poll_own_by None p x s k = fair-answer p _ s k
+
+  fair-poll_own : (p : ℕ) (x : RunPoll) (s : Player) → IsFair limit s → IsFair limit (turns.poll_own p x s)
+  unfolding turns.poll_own
+  fair-poll_own p x s k = fair-poll_own_by _ p x s k
+
+  fair-drop_twice : (b : Bool) (p r f : ℕ) (s : Player) → IsFair limit s → IsFair limit (turns.drop_twice b p r f s)
+  unfolding turns.drop_twice
+  fair-drop_twice true p r f s k = fair-answer p _ s k
+  fair-drop_twice false p r f s k = fair-tried _ _ k
+
+  fair-drop_own_by : (o : Option ℕ) (p r : ℕ) (s : Player) → IsFair limit s → IsFair limit (turns.drop_own_by o p r s)
+  fair-drop_own_by (Some f) p r s k = fair-drop_twice (run s r).let_go p r f s k
+  fair-drop_own_by None p r s k = fair-answer p _ s k
+
+  fair-drop_own : (p r : ℕ) (s : Player) → IsFair limit s → IsFair limit (turns.drop_own p r s)
+  unfolding turns.drop_own
+  fair-drop_own p r s k = fair-drop_own_by _ p r s k
+
   fair-outside : (p f : ℕ) (s : Player) → IsFair limit s → IsFair limit (turns.poll_outside p f s)
   unfolding turns.poll_outside
   fair-outside p f s k = fair-tried _ _ (fair-given f _ s k)
@@ -261,6 +298,8 @@ module _ (continues : (m : Machine) (t : Step) →
   fair-step None p s k = fair-cancelled _ p s k
   fair-step (Some (op.User (user_op.Poll f))) p s k = fair-poll p f s k
   fair-step (Some (op.User (user_op.Drop f))) p s k = fair-drop p f s k
+  fair-step (Some (op.User (user_op.PollOwn x))) p s k = fair-poll_own p x s k
+  fair-step (Some (op.User (user_op.DropOwn r))) p s k = fair-drop_own p r s k
   fair-step (Some o) p s k = fair-go_on p o s k
 
   -- the end of a command
@@ -279,7 +318,7 @@ module _ (continues : (m : Machine) (t : Step) →
   unfolding turns.closed
   fair-closed p doing s k =
       fair-ended (turns.word_at (plain_at s doing.command))
-      (turns.outcome_of s (party s p).reply (turns.subject s doing)) (turns.does p None s) k
+      (turns.outcome_of (party s p).reply (turns.output_of s (plain_at s doing.command))) (turns.does p None s) k
 
   fair-given_back : (b : Bool) (is : List Item) (s : Player) → IsFair limit s → IsFair limit (turns.given_back b is s)
   fair-given_back true is s k = k
@@ -292,6 +331,16 @@ module _ (continues : (m : Machine) (t : Step) →
   fair-ticked : (b : Bool) (name : List ℕ) (s : Player) → IsFair limit s → IsFair limit (turns.ticked b name s)
   fair-ticked true name s k = fair-ticked_as (number_of s.ticks name) name s k
   fair-ticked false name s k = k
+
+  fair-ran_as : (o : Option ℕ) (name : List ℕ) (twice : Option (List ℕ)) (s : Player) → IsFair limit s →
+      IsFair limit (play.ran_as o name twice s)
+  fair-ran_as None name twice s k = k
+  fair-ran_as (Some r) name twice s k = k
+
+  fair-ran : (b : Bool) (name : List ℕ) (twice : Option (List ℕ)) (s : Player) → IsFair limit s →
+      IsFair limit (turns.ran b name twice s)
+  fair-ran true name twice s k = fair-ran_as (number_of s.run_names name) name twice s k
+  fair-ran false name twice s k = fair-held_by (turns.number_named s twice) false s k
 
   fair-polls_next : (b : Bool) (p : ℕ) (doing : Doing) (s : Player) → IsFair limit s →
       IsFair limit (turns.polls_next b p doing s)
@@ -308,6 +357,9 @@ module _ (continues : (m : Machine) (t : Step) →
   fair-settled_as (Some (plain.Tick name)) p doing s k =
       fair-closed p doing (turns.ticked (turns.is_made (party s p).reply) name s)
       (fair-ticked (turns.is_made (party s p).reply) name s k)
+  fair-settled_as (Some (plain.Run name twice)) p doing s k =
+      fair-closed p doing (turns.ran (turns.is_made (party s p).reply) name twice s)
+      (fair-ran (turns.is_made (party s p).reply) name twice s k)
   fair-settled_as None p doing s k = fair-closed p doing s k
   fair-settled_as (Some _) p doing s k = fair-closed p doing s k
 
@@ -340,6 +392,7 @@ module _ (continues : (m : Machine) (t : Step) →
   fair-started : (c : Plain) (s : Player) → IsFair limit s → IsFair limit (commands.started c s)
   unfolding commands.started
   fair-started (plain.Spawn name items) s k = fair-held items true s k
+  fair-started (plain.Run name twice) s k = fair-held_by (turns.number_named s twice) true s k
   fair-started (plain.Unkeep name) s k = fair-unkept (number_of s.names name) s k
   fair-started (plain.Poll name) s k = fair-polled (number_of s.names name) s k
   fair-started _ s k = k
@@ -377,26 +430,48 @@ module _ (continues : (m : Machine) (t : Step) →
   fair-finishes : (p : ℕ) (s new : Player) → commands.Finishes p s new → IsFair limit s → IsFair limit new
   fair-finishes p s new f k = subst (IsFair limit) (sym f.taken) (fair-turns f.count p s k)
 
-  fair-plays_go : (b : Bool) (p : ℕ) (s new : Player) → commands.PlaysGo b p s new → IsFair limit s → IsFair limit new
-  fair-plays_go true p s new e k = subst (IsFair limit) (sym e) (fair-turn p s k)
-  fair-plays_go false p s new e k = subst (IsFair limit) (sym e) (fair-ended word.Go NotPossible s k)
+  fair-stop_if : (b : Bool) (s : Player) → IsFair limit s → IsFair limit (commands.stop_if b s)
+  fair-stop_if true s k = fair-stop s k
+  fair-stop_if false s k = k
+
+  fair-plays_whole : (s new : Player) → commands.PlaysWhole s new → IsFair limit s → IsFair limit new
+  fair-plays_whole s new e k =
+      subst (IsFair limit) (sym e.2) (fair-stop_if (commands.is_busy 0 e.0) e.0 (fair-finishes 0 s e.0 e.1 k))
+
+  fair-go_once : (busy waits : Bool) (p : ℕ) (s : Player) → IsFair limit s → IsFair limit (commands.go busy waits p s)
+  fair-go_once true true p s k = fair-ended word.Go Waits s k
+  fair-go_once true false p s k = fair-turn p s k
+  fair-go_once false true p s k = fair-ended word.Go NotPossible s k
+  fair-go_once false false p s k = fair-ended word.Go NotPossible s k
+
+  fair-wait_if : (b : Bool) (s : Player) → IsFair limit s → IsFair limit (commands.wait_if b s)
+  fair-wait_if true s k = fair-ended word.Finish Waits s k
+  fair-wait_if false s k = k
 
   fair-plays_finish : (b : Bool) (p : ℕ) (s new : Player) → commands.PlaysFinish b p s new → IsFair limit s →
       IsFair limit new
-  fair-plays_finish true p s new e k = fair-finishes p s new e k
+  fair-plays_finish true p s new e k =
+      subst (IsFair limit) (sym e.2) (fair-wait_if (commands.is_busy p e.0) e.0 (fair-finishes p s e.0 e.1 k))
   fair-plays_finish false p s new e k = subst (IsFair limit) (sym e) (fair-ended word.Finish NotPossible s k)
 
   fair-plays : (at : ℕ) (c : Command) (s new : Player) → commands.Plays at c s new → IsFair limit s → IsFair limit new
-  fair-plays at (command.Whole r) s new e k = fair-finishes 0 (commands.begin 0 at r.plain (word_of r.plain) s) new e
+  fair-plays at (command.Whole r) s new e k = fair-plays_whole (commands.begin 0 at r.plain (word_of r.plain) s) new e
       (fair-begin 0 at r.plain (word_of r.plain) s k)
   fair-plays at (command.Begin p r) s new e k = subst (IsFair limit) (sym e) (fair-begin p at r.plain word.Begin s k)
-  fair-plays at (command.Go p) s new e k = fair-plays_go (commands.is_busy p s) p s new e k
+  fair-plays at (command.Go p) s new e k = subst (IsFair limit) (sym e)
+      (fair-go_once (commands.is_busy p s) (commands.would_wait p s) p s k)
   fair-plays at (command.Finish p) s new e k = fair-plays_finish (commands.is_busy p s) p s new e k
+
+  fair-plays_unless : (b : Bool) (at : ℕ) (c : Command) (s new : Player) → commands.PlaysUnless b at c s new →
+      IsFair limit s → IsFair limit new
+  fair-plays_unless true at c s new e k = subst (IsFair limit) (sym e) k
+  fair-plays_unless false at c s new e k = fair-plays at c s new e k
 
   fair-plays_all : (at : ℕ) (cs : List Command) (s new : Player) → commands.PlaysAll at cs s new → IsFair limit s →
       IsFair limit new
   fair-plays_all at [] s new e k = subst (IsFair limit) (sym e) k
-  fair-plays_all at (c ∷ cs) s new e k = fair-plays_all (suc at) cs e.0 new e.2 (fair-plays at c s e.0 e.1 k)
+  fair-plays_all at (c ∷ cs) s new e k = fair-plays_all (suc at) cs e.0 new e.2
+      (fair-plays_unless s.stopped at c s e.0 e.1 k)
 
   -- a whole script
   pub fair : (cs : List Command) (new : Player) → commands.PlaysAll 0 cs (play.start cs limit) new → IsFair limit new

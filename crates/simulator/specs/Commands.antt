@@ -22,12 +22,13 @@ use Rattle.script.specs.declared.word.Word.{Word}
 use Rattle.script.specs.declared.word.Word.TheVariants as word
 use Rattle.script.specs.Names.{number_of}
 use Rattle.script.specs.Plain.{word_of}
-use Rattle.simulator.specs.declared.moment.Outcome.TheVariants.{NotPossible}
+use Rattle.simulator.specs.declared.moment.Outcome.TheVariants.{NotPossible, Waits}
 use Rattle.simulator.specs.declared.play.party.Doing.{Doing}
 use Rattle.simulator.specs.declared.play.party.Party.{Party}
-use Rattle.simulator.specs.EventText.{outside_of_tick}
-use Rattle.simulator.specs.Play.{Player, plain_at, future, set_future, party, ended, tried}
-use Rattle.simulator.specs.Turn.{held, given, does, turn}
+use Rattle.executor_core.specs.Refused.{waits_for_lock}
+use Rattle.simulator.specs.EventText.{outside_of_tick, outside_of_run}
+use Rattle.simulator.specs.Play.{Player, plain_at, future, set_future, party, top, ended, stop, tried}
+use Rattle.simulator.specs.Turn.{held, held_by, number_named, given, does, turn}
 
 -- the call with which a command begins, where the script has what the command speaks of
 
@@ -35,7 +36,7 @@ abbrev pub kept_of : Player → Option ℕ → Option ℕ
 kept_of s (Some f) = (future s f).kept
 kept_of s None = None
 
--- the handle of this future, unless another future holds it
+-- the handle of this future, unless another future or a run holds it
 abbrev pub unheld : Player → Option ℕ → Option ℕ
 unheld s (Some f) = if (future s f).held then None else Some f
 unheld s None = None
@@ -59,7 +60,7 @@ is_using s name x = is_using_by s name x.doing
 abbrev pub is_used : Player → List ℕ → Bool
 is_used s name = list_any (λ x. is_using s name x) s.parties
 
--- the handle of the future of this name, where neither another future nor a command holds it
+-- the handle of the future of this name, where neither another future nor a run nor a command holds it
 abbrev pub handle_of : Player → List ℕ → Option ℕ
 handle_of s name = if is_used s name then None else unheld s (number_of s.names name)
 
@@ -67,6 +68,7 @@ handle_of s name = if is_used s name then None else unheld s (number_of s.names 
 abbrev pub gives : List ℕ → Option Plain → Bool
 gives name (Some (plain.Spawn other items)) = bytes_eq other name
 gives name (Some (plain.Tick other)) = bytes_eq other name
+gives name (Some (plain.Run other twice)) = bytes_eq other name
 gives name _ = false
 
 abbrev pub is_making_by : Player → List ℕ → Option Doing → Bool
@@ -76,11 +78,12 @@ is_making_by s name None = false
 abbrev pub is_making : Player → List ℕ → Party → Bool
 is_making s name x = is_making_by s name x.doing
 
--- the name is given to no future and no tick, and no command in progress may give it
+-- the name is given to no future, tick or run, and no command in progress may give it
 abbrev pub is_free : Player → List ℕ → Bool
 is_free s name =
     not (is_some (number_of s.names name)) &&
-    (not (is_some (number_of s.ticks name)) && not (list_any (λ x. is_making s name x) s.parties))
+    (not (is_some (number_of s.ticks name)) &&
+    (not (is_some (number_of s.run_names name)) && not (list_any (λ x. is_making s name x) s.parties)))
 
 abbrev pub is_there : Player → Option ℕ → Bool
 is_there s (Some g) = steps.has_handle s.machine.world s.machine.parties g
@@ -106,6 +109,19 @@ call_of_tick false = None
 abbrev pub poll_of_tick : ℕ → Call
 poll_of_tick t = call.PollTick t (by.Outside (outside_of_tick t))
 
+-- the handle that a run is to hold is there, and neither held nor in use; so it is where it is to hold none
+abbrev pub is_holdable : Player → Option (List ℕ) → Bool
+is_holdable s (Some name) = is_available s (item.Twice name)
+is_holdable s None = true
+
+abbrev pub call_of_run : Bool → Option Call
+call_of_run true = Some call.NewRun
+call_of_run false = None
+
+-- and so is a run
+abbrev pub poll_of_run : ℕ → Call
+poll_of_run r = call.PollRun r (by.Outside (outside_of_run r))
+
 unfoldable pub call_of : Player → Plain → Option Call
 call_of s (plain.Spawn name items) = if can_spawn s name items then Some call.Spawn else None
 call_of s plain.Try = Some call.TryTick
@@ -119,6 +135,9 @@ call_of s (plain.Drop name) = on (handle_of s name) (λ f. call.DropHandle f)
 call_of s (plain.Tick name) = call_of_tick (is_free s name)
 call_of s (plain.PollTick name) = on (number_of s.ticks name) poll_of_tick
 call_of s (plain.DropTick name) = on (number_of s.ticks name) (λ t. call.DropTick t)
+call_of s (plain.Run name twice) = call_of_run (is_free s name && is_holdable s twice)
+call_of s (plain.PollRun name) = on (number_of s.run_names name) poll_of_run
+call_of s (plain.DropRun name) = on (number_of s.run_names name) (λ r. call.DropRun r)
 call_of s plain.End = Some call.DropExecutor
 
 -- what the script knows once a command has begun
@@ -133,6 +152,7 @@ polled_by None s = s
 
 unfoldable pub started : Plain → Player → Player
 started (plain.Spawn name items) s = held items true s
+started (plain.Run name twice) s = held_by (number_named s twice) true s
 started (plain.Unkeep name) s = unkept (number_of s.names name) s
 started (plain.Poll name) s = polled_by (number_of s.names name) s
 started _ s = s
@@ -172,29 +192,57 @@ abbrev pub turns : ℕ → ℕ → Player → Player
 turns zero p s = s
 turns (suc n) p s = turn p (turns n p s)
 
--- party p takes turns until its command has ended, and no more
+-- the next thing that party p has to do is to take a lock that another party has
+abbrev pub would_wait : ℕ → Player → Bool
+would_wait p s = waits_for_lock s.machine.world (top s p)
+
+-- party p can take a turn: its command has not ended, and it need not wait
+abbrev pub goes_on : ℕ → Player → Bool
+goes_on p s = is_busy p s && not (would_wait p s)
+
+-- party p takes turns as long as it can, and no more: until its command has ended, or it would wait
 pub record Finishes (p : ℕ) (s new : Player) : Type 0 where
   pub count : ℕ
   pub taken : new ≡ turns count p s
-  pub over : is_busy p new ≡ false
-  pub before : (n : ℕ) → n < count → is_busy p (turns n p s) ≡ true
+  pub over : goes_on p new ≡ false
+  pub before : (n : ℕ) → n < count → goes_on p (turns n p s) ≡ true
 
-abbrev pub PlaysGo : Bool → ℕ → Player → Player → Type 0
-PlaysGo true p s new = new ≡ turn p s
-PlaysGo false p s new = new ≡ ended word.Go NotPossible s
+-- where the command of party 0 hasn't ended then, it would wait, and the script ends
+abbrev pub stop_if : Bool → Player → Player
+stop_if true s = stop s
+stop_if false s = s
+
+abbrev pub PlaysWhole : Player → Player → Type 0
+PlaysWhole s new = (last : Player) × Finishes 0 s last × (new ≡ stop_if (is_busy 0 last) last)
+
+-- one turn, where the party has begun a command, and need not wait
+abbrev pub go : Bool → Bool → ℕ → Player → Player
+go true true p s = ended word.Go Waits s
+go true false p s = turn p s
+go false waits p s = ended word.Go NotPossible s
+
+-- where the command hasn't ended then, it would wait, and stays in progress
+abbrev pub wait_if : Bool → Player → Player
+wait_if true s = ended word.Finish Waits s
+wait_if false s = s
 
 abbrev pub PlaysFinish : Bool → ℕ → Player → Player → Type 0
-PlaysFinish true p s new = Finishes p s new
+PlaysFinish true p s new = (last : Player) × Finishes p s last × (new ≡ wait_if (is_busy p last) last)
 PlaysFinish false p s new = new ≡ ended word.Finish NotPossible s
 
 -- the command at this place
 abbrev pub Plays : ℕ → Command → Player → Player → Type 0
-Plays at (command.Whole r) s new = Finishes 0 (begin 0 at r.plain (word_of r.plain) s) new
+Plays at (command.Whole r) s new = PlaysWhole (begin 0 at r.plain (word_of r.plain) s) new
 Plays at (command.Begin p r) s new = new ≡ begin p at r.plain word.Begin s
-Plays at (command.Go p) s new = PlaysGo (is_busy p s) p s new
+Plays at (command.Go p) s new = new ≡ go (is_busy p s) (would_wait p s) p s
 Plays at (command.Finish p) s new = PlaysFinish (is_busy p s) p s new
+
+-- once the script has ended, a command is nothing
+abbrev pub PlaysUnless : Bool → ℕ → Command → Player → Player → Type 0
+PlaysUnless true at c s new = new ≡ s
+PlaysUnless false at c s new = Plays at c s new
 
 -- these commands in order, the first of which stands at this place
 abbrev pub PlaysAll : ℕ → List Command → Player → Player → Type 0
 PlaysAll at [] s new = new ≡ s
-PlaysAll at (c ∷ cs) s new = (next : Player) × Plays at c s next × PlaysAll (suc at) cs next new
+PlaysAll at (c ∷ cs) s new = (next : Player) × PlaysUnless s.stopped at c s next × PlaysAll (suc at) cs next new

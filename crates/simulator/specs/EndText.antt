@@ -2,13 +2,13 @@
 use Rattle.std.specs.Prelude.{ℕ, List, ◌++◌, codes}
 use Rattle.std.specs.Fmt.{decimal}
 use Rattle.executor_model.specs.declared.call.Reply.TheVariants.{Made, Full, Yes, No, Done, NoMemory}
-use Rattle.executor_model.specs.declared.call.Reply.TheVariants.{Pending, Ready, Cancelled}
+use Rattle.executor_model.specs.declared.call.Reply.TheVariants.{Pending, Ready, Cancelled, Finished}
 use Rattle.simulator.specs.declared.moment.Outcome.{Outcome}
 use Rattle.executor_model.specs.declared.call.Reply.{Reply}
-use Rattle.simulator.specs.declared.moment.Outcome.TheVariants.{Answered, Output, NotPossible}
+use Rattle.simulator.specs.declared.moment.Outcome.TheVariants.{Answered, Output, NotPossible, Waits}
 use Rattle.script.specs.declared.word.Word.{Word}
 use Rattle.script.specs.declared.word.Word.TheVariants.{Spawn, Try, Empty, Wake, Unkeep, Poll, Cancel, Detach, Drop}
-use Rattle.script.specs.declared.word.Word.TheVariants.{Tick, PollTick, DropTick, End, Begin, Go, Finish}
+use Rattle.script.specs.declared.word.Word.TheVariants.{Tick, PollTick, DropTick, Run, PollRun, DropRun, End, Begin, Go, Finish}
 
 abbrev pub word_text : Word → List ℕ
 word_text Spawn = codes "spawn"
@@ -23,6 +23,9 @@ word_text Drop = codes "drop"
 word_text Tick = codes "tick"
 word_text PollTick = codes "polltick"
 word_text DropTick = codes "droptick"
+word_text Run = codes "run"
+word_text PollRun = codes "pollrun"
+word_text DropRun = codes "droprun"
 word_text End = codes "end"
 word_text Begin = codes "begin"
 word_text Go = codes "go"
@@ -38,11 +41,13 @@ reply_text NoMemory = codes "no memory"
 reply_text Pending = codes "pending"
 reply_text Ready = codes "ready"
 reply_text Cancelled = codes "cancelled"
+reply_text Finished = codes "finished"
 
 abbrev pub outcome_text : Outcome → List ℕ
 outcome_text (Answered reply) = reply_text reply
 outcome_text (Output value) = codes "ready " ++ decimal value
 outcome_text NotPossible = codes "not possible"
+outcome_text Waits = codes "waits"
 
 abbrev pub end_text : Word → Outcome → List ℕ
 end_text word outcome = word_text word ++ codes ": " ++ outcome_text outcome ++ codes "\n"

@@ -1,8 +1,5 @@
 -- What holds of the machine of every script, and of its trace, in the words of the machine's laws.
 use Rattle.std.specs.Prelude.{ℕ}
-use Rattle.executor_laws.specs.AtOnce.{NoComesAtOnce}
-use Rattle.executor_laws.specs.AtRest.{EmptinessIsExact, TicksAreExact}
-use Rattle.executor_laws.specs.Reach.{IsInReach}
 use Rattle.executor_model.specs.AskedPolls.{IsWokenBetweenPolls}
 use Rattle.executor_model.specs.AwaiterKept.{AwaiterIsKept}
 use Rattle.executor_model.specs.DroppedOnce.{DropComesOnce, IsDroppedByTheEnd}
@@ -13,7 +10,11 @@ use Rattle.executor_model.specs.OutputOnce.{OutputGoesOnce}
 use Rattle.executor_model.specs.SleepersAgree.{SleepersAgree}
 use Rattle.executor_model.specs.SleepersTold.{SleepersAreTold}
 use Rattle.executor_model.specs.Steps.{Machine}
-use Rattle.sleeper_laws.specs.Standing.{SomeStandingIsCalled}
+use Rattle.runs_called.specs.Called.{KeeperIsCalled, SomeStandingIsCalled}
+use Rattle.runs_laws.specs.AtOnce.{NoComesAtOnce}
+use Rattle.runs_reach.specs.AtRest.{EmptinessIsExact, TicksAreExact}
+use Rattle.runs_reach.specs.Reach.{IsInReach}
+use Rattle.runs_reach.specs.RunReach.{IsKeptReached, IsReachedByRuns, LeavesCommon}
 
 pub record IsLawful (s : Machine) : Type 0 where
   pub polls : (f : ℕ) → HasLawfulPolls f s.world.trace
@@ -30,10 +31,15 @@ pub record IsLawful (s : Machine) : Type 0 where
   pub at_once : (p : ℕ) → NoComesAtOnce p s.world.trace
   -- an output that is there is given to the next poll of the handle that is made alone
   pub kept : (f : ℕ) → OutputIsKept s f
-  -- ticks and sleepers agree, and where there is something to do a sleeper is told of it
+  -- ticks, runs and sleepers agree, and where there is something to do a sleeper is told of it
   pub sleepers : SleepersAgree s
   pub told : SleepersAreTold s
-  -- where a future is due, a tick that stands is called
+  -- where a future is due, a tick or run that stands is called, and so is a run that keeps it
   pub called : (f : ℕ) → SomeStandingIsCalled f s.world.trace
-  -- each future that is common is in reach of ticks that are called alone
+  pub keepers : (f : ℕ) → KeeperIsCalled f s.world.trace
+  -- each future that is common is in reach of ticks that are called alone, and of polls of runs; what a run keeps is in
+  -- reach of its own polls, and common once it is dropped
   pub in_reach : IsInReach s
+  pub by_runs : IsReachedByRuns s
+  pub kept_reached : IsKeptReached s
+  pub left : LeavesCommon s

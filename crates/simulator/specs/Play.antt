@@ -1,6 +1,7 @@
--- What a script knows while it is played: the machine, the names and items of its futures, the names of its ticks,
--- and what each party is doing.
-use Rattle.std.specs.Prelude.{ℕ, ◌-◌, false, Option, Some, None, Result, Ok, Err, List, [], ◌∷◌, ◌++◌, length, map}
+-- What a script knows while it is played: the machine, the names and items of its futures, the names of its ticks and
+-- runs, and what each party is doing.
+use Rattle.std.specs.Prelude.{ℕ, ◌-◌, Bool, true, false, Option, Some, None}
+use Rattle.std.specs.Prelude.{Result, Ok, Err, List, [], ◌∷◌, ◌++◌, length, map}
 use Rattle.std.specs.Prelude.{drop, slice_get, slice_index_or, slice_set, replicate}
 use Rattle.executor_model.specs.declared.call.Reply.{Reply}
 use Rattle.executor_model.specs.declared.call.Reply.TheVariants as reply
@@ -24,13 +25,14 @@ use Rattle.script.specs.declared.plain.Plain.TheVariants as plain
 use Rattle.script.specs.declared.word.Word.{Word}
 use Rattle.script.specs.Names.{number_of}
 use Rattle.simulator.specs.declared.moment.Moment.{Moment}
-use Rattle.simulator.specs.declared.moment.Moment.TheVariants.{Happened, Ended}
+use Rattle.simulator.specs.declared.moment.Moment.TheVariants.{Happened, Ended, Stopped}
 use Rattle.simulator.specs.declared.moment.Outcome.{Outcome}
 use Rattle.simulator.specs.declared.play.future.Future.{Future}
 use Rattle.simulator.specs.declared.play.future.Stage.{Stage}
 use Rattle.simulator.specs.declared.play.future.Stage.TheVariants as stage
 use Rattle.simulator.specs.declared.play.party.Doing.{Doing}
 use Rattle.simulator.specs.declared.play.party.Party.{Party}
+use Rattle.simulator.specs.declared.play.runs.Run.{Run}
 
 pub record Player : Type 0 where
   pub commands : List Command
@@ -40,7 +42,12 @@ pub record Player : Type 0 where
   pub futures : List Future
   -- the names of the ticks, in the order in which these were made
   pub ticks : List (List ℕ)
+  -- the names of the runs and what is known of these, in the order in which these were made
+  pub run_names : List (List ℕ)
+  pub runs : List Run
   pub parties : List Party
+  -- the party that no command names would have waited for another, so no more commands are played
+  pub stopped : Bool
   -- the steps that were tried, the possible ones among them being those that the machine took
   pub tried : List Step
   pub moments : List Moment
@@ -82,6 +89,10 @@ new_future at = record {
   output = 0;
 }
 
+-- a run that was just made, whose own future holds the handle of the future of this name, or none
+abbrev pub new_run : Option (List ℕ) → Run
+new_run twice = record { twice = twice; asked = false; let_go = false; output = 0 }
+
 abbrev pub idle : Party
 idle = record { doing = None; reply = reply.Done }
 
@@ -92,7 +103,10 @@ start commands limit = record {
   names = [];
   futures = [];
   ticks = [];
+  run_names = [];
+  runs = [];
   parties = replicate 10 idle;
+  stopped = false;
   tried = [];
   moments = [];
 }
@@ -102,6 +116,12 @@ future s f = slice_index_or s.futures f (new_future 0)
 
 abbrev pub set_future : ℕ → Future → Player → Player
 set_future f x s = record s { futures = slice_set s.futures f x }
+
+abbrev pub run : Player → ℕ → Run
+run s r = slice_index_or s.runs r (new_run None)
+
+abbrev pub set_run : ℕ → Run → Player → Player
+set_run r x s = record s { runs = slice_set s.runs r x }
 
 abbrev pub party : Player → ℕ → Party
 party s p = slice_index_or s.parties p idle
@@ -115,6 +135,10 @@ top s p = steps.top (steps.stack s.machine p)
 
 abbrev pub ended : Word → Outcome → Player → Player
 ended word outcome s = record s { moments = s.moments ++ Ended word outcome ∷ [] }
+
+-- the party that no command names would wait for another, and the script ends
+abbrev pub stop : Player → Player
+stop s = record s { stopped = true; moments = s.moments ++ Stopped ∷ [] }
 
 -- what the script learns from what has happened
 
@@ -135,6 +159,11 @@ accepted (Some doing) s = accepted_by (plain_at s doing.command) doing.command s
 abbrev pub ticked_as : Option ℕ → List ℕ → Player → Player
 ticked_as None name s = record s { ticks = s.ticks ++ name ∷ [] }
 ticked_as (Some t) name s = s
+
+-- the next run has this name, and its own future holds this handle
+abbrev pub ran_as : Option ℕ → List ℕ → Option (List ℕ) → Player → Player
+ran_as None name twice s = record s { run_names = s.run_names ++ name ∷ []; runs = s.runs ++ new_run twice ∷ [] }
+ran_as (Some r) name twice s = s
 
 -- the waker that was kept before is to be let go
 abbrev pub replacing : Option ℕ → Stage → Stage

@@ -5,7 +5,7 @@ use Rattle.executor_model.specs.declared.event.Event.{Event}
 use Rattle.executor_model.specs.Steps as steps
 use Rattle.script.specs.declared.command.Command.{Command}
 use Rattle.simulator.specs.declared.moment.Moment.{Moment}
-use Rattle.simulator.specs.declared.moment.Moment.TheVariants.{Happened, Ended}
+use Rattle.simulator.specs.declared.moment.Moment.TheVariants.{Happened, Ended, Stopped}
 use Rattle.simulator.specs.Play.{Player, start}
 use Rattle.simulator.specs.Commands.{PlaysAll}
 use Rattle.simulator.specs.Lawful.{IsLawful}
@@ -16,6 +16,7 @@ abbrev pub happened : List Moment → List Event
 happened [] = []
 happened (Happened event ∷ moments) = event ∷ happened moments
 happened (Ended word outcome ∷ moments) = happened moments
+happened (Stopped ∷ moments) = happened moments
 
 -- the commands were played to this end: its machine is what the steps that were tried make of a new one,
 -- of ten parties, what it shows is all that happened to the machine, in order, and the machine keeps to the laws
@@ -28,4 +29,4 @@ pub record IsPlayed (limit : ℕ) (commands : List Command) (last : Player) : Ty
 -- the text of the moments of such a play
 abbrev pub IsTextOf : ℕ → List Command → List ℕ → Type 0
 IsTextOf limit commands text =
-    (last : Player) × IsPlayed limit commands last × (text ≡ moments_text last.names last.ticks last.moments)
+    (last : Player) × IsPlayed limit commands last × (text ≡ moments_text last.names last.ticks last.run_names last.moments)

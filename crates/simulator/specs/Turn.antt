@@ -11,6 +11,7 @@ use Rattle.executor_model.specs.declared.op.Awaiter.{Awaiter}
 use Rattle.executor_model.specs.declared.op.Op.{Op}
 use Rattle.executor_model.specs.declared.op.Op.TheVariants as op
 use Rattle.executor_model.specs.declared.op.HandleOp.TheVariants as handle_op
+use Rattle.executor_model.specs.declared.op.RunPoll.{RunPoll}
 use Rattle.executor_model.specs.declared.op.UserOp.TheVariants as user_op
 use Rattle.executor_model.specs.declared.op.Waker.{Waker}
 use Rattle.executor_model.specs.declared.op.Waker.TheVariants.{Task, Outside}
@@ -33,8 +34,9 @@ use Rattle.simulator.specs.declared.play.future.Stage.{Stage}
 use Rattle.simulator.specs.declared.play.future.Stage.TheVariants as stage
 use Rattle.simulator.specs.declared.play.future.Future.{Future}
 use Rattle.simulator.specs.declared.play.party.Doing.{Doing}
+use Rattle.simulator.specs.declared.play.runs.Run.{Run}
 use Rattle.simulator.specs.Play.{Player, request_at, plain_at, items_at, item_of, future, set_future}
-use Rattle.simulator.specs.Play.{party, set_party, top, ended, tried, ticked_as}
+use Rattle.simulator.specs.Play.{run, set_run, party, set_party, top, ended, tried, ticked_as, ran_as}
 
 -- the waker that the poll of f's handle was given
 unfoldable pub given : ℕ → Waker → Player → Player
@@ -65,7 +67,7 @@ is_same s (op.Handle (handle_op.EndNotify f true)) = is_same_awaiter (awaiter_of
 is_same s _ = false
 
 unfoldable pub go : ℕ → Op → Player → Player
-go p o s = tried (Go p (record { refused = is_refusing s (party s p).doing; same = is_same s o })) s
+go p o s = tried (Go p (record { refused = is_refusing s (party s p).doing; same = is_same s o; start = 0 })) s
 
 unfoldable pub answer : ℕ → UserEnd → Player → Player
 answer p e s = tried (Answer p e) s
@@ -159,6 +161,44 @@ drop_next None p f s = answer p end.Done s
 unfoldable pub drop_future : ℕ → ℕ → Player → Player
 drop_future p f s = drop_next (position is_twice (drop (future s f).let_go (items_of s f))) p f s
 
+-- the own future of a run polls the handle that it holds, and is ready with twice the output of that future; where it
+-- holds none it is never ready
+
+-- the poll of that handle is over, and the own future has this output
+abbrev pub own_ended : ℕ → Run → Run
+own_ended v x = record x { asked = false; output = v }
+
+abbrev pub end_own : Option ℕ → ℕ → ℕ → Player → Player
+end_own (Some v) p r s = answer p (end.Polled answered.Ready) (set_run r (own_ended v (run s r)) s)
+end_own None p r s = answer p (end.Polled answered.Pending) (set_run r (own_ended (run s r).output (run s r)) s)
+
+-- by the waker that the run's poll was given
+unfoldable pub poll_held : Bool → ℕ → RunPoll → ℕ → Player → Player
+poll_held true p x f s = end_own (doubled (party s p).reply (future s f).output) p x.run s
+poll_held false p x f s =
+    tried (Begin p (call.PollHandle f by.Mine))
+    (given f x.waker (set_run x.run (record (run s x.run) { asked = true }) s))
+
+abbrev pub poll_own_by : Option ℕ → ℕ → RunPoll → Player → Player
+poll_own_by (Some f) p x s = poll_held (run s x.run).asked p x f s
+poll_own_by None p x s = answer p (end.Polled answered.Pending) s
+
+unfoldable pub poll_own : ℕ → RunPoll → Player → Player
+poll_own p x s = poll_own_by (number_named s (run s x.run).twice) p x s
+
+-- its drop lets go of the handle
+unfoldable pub drop_twice : Bool → ℕ → ℕ → ℕ → Player → Player
+drop_twice true p r f s = answer p end.Done s
+drop_twice false p r f s =
+    tried (Begin p (call.DropHandle f)) (set_run r (record (run s r) { let_go = true }) s)
+
+abbrev pub drop_own_by : Option ℕ → ℕ → ℕ → Player → Player
+drop_own_by (Some f) p r s = drop_twice (run s r).let_go p r f s
+drop_own_by None p r s = answer p end.Done s
+
+unfoldable pub drop_own : ℕ → ℕ → Player → Player
+drop_own p r s = drop_own_by (number_named s (run s r).twice) p r s
+
 -- a cancel is followed by a poll of the handle
 
 -- the future that the command names
@@ -194,11 +234,13 @@ unfoldable pub step_by : Option Op → ℕ → Player → Player
 step_by None p s = poll_cancelled (subject_of s (party s p).doing) p s
 step_by (Some (op.User (user_op.Poll f))) p s = poll p f s
 step_by (Some (op.User (user_op.Drop f))) p s = drop_future p f s
+step_by (Some (op.User (user_op.PollOwn x))) p s = poll_own p x s
+step_by (Some (op.User (user_op.DropOwn r))) p s = drop_own p r s
 step_by (Some o) p s = go_on p o s
 
 -- the end of a command
 
--- the handles that these items name are held by another future from now on, or no more
+-- the handles that these items name are held by another future or a run from now on, or no more
 abbrev pub held_by : Option ℕ → Bool → Player → Player
 held_by (Some g) held s = set_future g (record (future s g) { held = held }) s
 held_by None held s = s
@@ -208,9 +250,22 @@ held [] b s = s
 held (item.Twice name ∷ is) b s = held is b (held_by (number_of s.names name) b s)
 held (_ ∷ is) b s = held is b s
 
-abbrev pub outcome_of : Player → Reply → Option ℕ → Outcome
-outcome_of s reply.Ready (Some f) = outcome.Output (future s f).output
-outcome_of s r _ = outcome.Answered r
+abbrev pub output_of_run : Player → Option ℕ → Option ℕ
+output_of_run s (Some r) = Some (run s r).output
+output_of_run s None = None
+
+abbrev pub output_of_future : Player → Option ℕ → Option ℕ
+output_of_future s (Some f) = Some (future s f).output
+output_of_future s None = None
+
+-- what the future or the run gives of which the command speaks, where it speaks of one
+abbrev pub output_of : Player → Option Plain → Option ℕ
+output_of s (Some (plain.PollRun name)) = output_of_run s (number_of s.run_names name)
+output_of s c = output_of_future s (number_named s (named_by c))
+
+abbrev pub outcome_of : Reply → Option ℕ → Outcome
+outcome_of reply.Ready (Some v) = outcome.Output v
+outcome_of r _ = outcome.Answered r
 
 -- what the party is doing from now on
 abbrev pub does : ℕ → Option Doing → Player → Player
@@ -223,7 +278,8 @@ word_at None = word.Go
 -- the party is idle again, and the command is answered so
 unfoldable pub closed : ℕ → Doing → Player → Player
 closed p doing s =
-    ended (word_at (plain_at s doing.command)) (outcome_of s (party s p).reply (subject s doing)) (does p None s)
+    ended (word_at (plain_at s doing.command))
+    (outcome_of (party s p).reply (output_of s (plain_at s doing.command))) (does p None s)
 
 abbrev pub is_made : Reply → Bool
 is_made reply.Made = true
@@ -239,6 +295,11 @@ abbrev pub ticked : Bool → List ℕ → Player → Player
 ticked true name s = ticked_as (number_of s.ticks name) name s
 ticked false name s = s
 
+-- a run that was made has its name, and a refused one gives the handle back
+abbrev pub ran : Bool → List ℕ → Option (List ℕ) → Player → Player
+ran true name twice s = ran_as (number_of s.run_names name) name twice s
+ran false name twice s = held_by (number_named s twice) false s
+
 abbrev pub polls_next : Bool → ℕ → Doing → Player → Player
 polls_next true p doing s = closed p doing s
 polls_next false p doing s = does p (Some (record doing { polls = true })) s
@@ -247,6 +308,7 @@ unfoldable pub settled_as : Option Plain → ℕ → Doing → Player → Player
 settled_as (Some (plain.Cancel name)) p doing s = polls_next doing.polls p doing s
 settled_as (Some (plain.Spawn name items)) p doing s = closed p doing (given_back (is_made (party s p).reply) items s)
 settled_as (Some (plain.Tick name)) p doing s = closed p doing (ticked (is_made (party s p).reply) name s)
+settled_as (Some (plain.Run name twice)) p doing s = closed p doing (ran (is_made (party s p).reply) name twice s)
 settled_as _ p doing s = closed p doing s
 
 abbrev pub settled_by : Option Doing → ℕ → Player → Player

@@ -32,5 +32,6 @@ fn show(alloc: Global, script: &Script) -> Result<Vec<u8>, AllocError>
         played.moments.as_slice(),
         &played.names,
         &played.ticks,
+        &played.runs,
     )
 }

@@ -9,6 +9,8 @@ pub enum Outcome {
     Output(u64),
     /// The command wasn't possible, and changed nothing.
     NotPossible,
+    /// The next step would wait for another party, and changed nothing.
+    Waits,
 }
 
 /// What a run of a script shows, moment by moment: what happened, and how each command ended.
@@ -16,4 +18,6 @@ pub enum Outcome {
 pub enum Moment {
     Happened(Event),
     Ended { word: Word, outcome: Outcome },
+    /// The party that no command names would wait for another, and the script ends.
+    Stopped,
 }

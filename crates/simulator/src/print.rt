@@ -2,7 +2,7 @@
 
 ghost use Rattle.std.specs.Prelude.{◌≡◌, ◌++◌, codes, IfOk, OnOk};
 ghost use Rattle.simulator.specs.EndText.{end_text, outcome_text, reply_text, word_text};
-ghost use Rattle.simulator.specs.EventText.{event_text, line_on, name_of, outside_name, outside_of_tick};
+ghost use Rattle.simulator.specs.EventText.{event_text, line_on, name_of, outside_name, outside_of_run, outside_of_tick};
 ghost use Rattle.simulator.specs.Text.{moment_text, moments_text};
 
 use crate::moment::{Moment, Outcome};
@@ -17,18 +17,26 @@ pub fn waker_of_tick(t: u64) -> u64
     u64::MAX - t
 }
 
-/// The text of these moments, where futures and ticks have these names in the order in which they were made.
+/// The number of the outside waker of a run, and the run of such a one: 2^63 further on.
+pub fn waker_of_run(r: u64) -> u64
+    ensures { result ≡ outside_of_run r }
+{
+    r.wrapping_add(9_223_372_036_854_775_808)
+}
+
+/// The text of these moments, where futures, ticks and runs have these names in the order in which they were made.
 pub fn text_of(
     alloc: Global,
     moments: &[Moment],
     names: &Names,
     ticks: &Names,
+    runs: &Names,
 ) -> Result<Vec<u8>, AllocError>
-    ensures { IfOk result (λ text. text.items ≡ moments_text names.now ticks.now moments.now) }
+    ensures { IfOk result (λ text. text.items ≡ moments_text names.now ticks.now runs.now moments.now) }
 {
     let mut text = Vec::new(alloc);
     for moment in moments {
-        push_moment(&mut text, moment, names, ticks)?;
+        push_moment(&mut text, moment, names, ticks, runs)?;
     }
     Ok(text)
 }
@@ -38,12 +46,14 @@ fn push_moment(
     moment: &Moment,
     names: &Names,
     ticks: &Names,
+    runs: &Names,
 ) -> Result<(), AllocError>
-    ensures { OnOk result (text.new.items ≡ text.old.items ++ moment_text names.now ticks.now moment.now) }
+    ensures { OnOk result (text.new.items ≡ text.old.items ++ moment_text names.now ticks.now runs.now moment.now) }
 {
     match moment {
-        Moment::Happened(event) => push_event(text, event, names, ticks),
+        Moment::Happened(event) => push_event(text, event, names, ticks, runs),
         Moment::Ended { word, outcome } => push_end(text, *word, *outcome),
+        Moment::Stopped => text.extend_from_slice(b"waits\n"),
     }
 }
 
@@ -52,8 +62,9 @@ fn push_event(
     event: &Event,
     names: &Names,
     ticks: &Names,
+    runs: &Names,
 ) -> Result<(), AllocError>
-    ensures { OnOk result (text.new.items ≡ text.old.items ++ event_text names.now ticks.now event.now) }
+    ensures { OnOk result (text.new.items ≡ text.old.items ++ event_text names.now ticks.now runs.now event.now) }
 {
     match *event {
         Event::PollBegun { future, .. } => push_line_on(text, b"poll", future, names),
@@ -66,7 +77,7 @@ fn push_event(
         Event::WakerCalled {
             waker: Waker::Outside(x),
             ..
-        } => push_call(text, x, names, ticks),
+        } => push_call(text, x, names, ticks, runs),
         Event::CallBegun { .. }
         | Event::CallEnded { .. }
         | Event::Accepted { .. }
@@ -77,6 +88,9 @@ fn push_event(
         | Event::HandlePolled { .. }
         | Event::TickPolled { .. }
         | Event::TickDropped { .. }
+        | Event::RunPolled { .. }
+        | Event::RunDropped { .. }
+        | Event::Kept { .. }
         | Event::WakerCalled { .. }
         | Event::DropBegun { .. }
         | Event::DropEnded { .. } => Ok(()),
@@ -99,17 +113,24 @@ fn push_line_on(
 }
 
 /// An outside waker is called.
-fn push_call(text: &mut Vec<u8>, x: u64, names: &Names, ticks: &Names) -> Result<(), AllocError>
+fn push_call(
+    text: &mut Vec<u8>,
+    x: u64,
+    names: &Names,
+    ticks: &Names,
+    runs: &Names,
+) -> Result<(), AllocError>
     ensures { OnOk result (text.new.items ≡
-        text.old.items ++ line_on (codes "call") (outside_name names.now ticks.now x)) }
+        text.old.items ++ line_on (codes "call") (outside_name names.now ticks.now runs.now x)) }
 {
     text.extend_from_slice(b"call ")?;
     push_name(text, x, names)?;
     push_name(text, waker_of_tick(x), ticks)?;
+    push_name(text, waker_of_run(x), runs)?;
     text.extend_from_slice(b"\n")
 }
 
-/// The name of a future or tick, and nothing for one that has none.
+/// The name of a future, tick or run, and nothing for one that has none.
 fn push_name(text: &mut Vec<u8>, future: u64, names: &Names) -> Result<(), AllocError>
     ensures { OnOk result (text.new.items ≡ text.old.items ++ name_of names.now future) }
 {
@@ -144,6 +165,9 @@ fn word_bytes(word: Word) -> &'static [u8]
         Word::Tick => b"tick",
         Word::PollTick => b"polltick",
         Word::DropTick => b"droptick",
+        Word::Run => b"run",
+        Word::PollRun => b"pollrun",
+        Word::DropRun => b"droprun",
         Word::End => b"end",
         Word::Begin => b"begin",
         Word::Go => b"go",
@@ -161,6 +185,7 @@ fn push_outcome(text: &mut Vec<u8>, outcome: Outcome) -> Result<(), AllocError>
             text.extend_from_slice(digits.as_bytes())
         }
         Outcome::NotPossible => text.extend_from_slice(b"not possible"),
+        Outcome::Waits => text.extend_from_slice(b"waits"),
     }
 }
 
@@ -177,5 +202,6 @@ fn reply_bytes(reply: Reply) -> &'static [u8]
         Reply::Pending => b"pending",
         Reply::Ready => b"ready",
         Reply::Cancelled => b"cancelled",
+        Reply::Finished => b"finished",
     }
 }

@@ -6,6 +6,8 @@ use Rattle.task_moves.specs.declared.moves.state.State.{State}
 use Rattle.task_moves.specs.declared.moves.owed.Moved.{Moved}
 use Rattle.task_moves.specs.declared.moves.owed.Owed.{Owed}
 use Rattle.task_word.specs.declared.rule.View.{View}
+use Rattle.task_word.specs.declared.rule.Hold.TheVariants.{Handle}
+use Rattle.task_word.specs.Badges.{holds}
 use Rattle.task_word.specs.declared.tokens.claim.Claim.{Claim}
 use Rattle.task_word.specs.Cell.{Slot}
 use Rattle.task_moves.specs.Moves as moves
@@ -16,6 +18,10 @@ use Rattle.task_word.specs.Word.{pack}
 -- the claim of this seat
 abbrev pub IsClaimOf : {F T W : Type 0} → Seat (Slot F T W) View → Claim → Type 0
 IsClaimOf seat claim = (claim.badge.table_id ≡ seat.table_id) × (claim.badge.id ≡ seat.id) × (claim.badge.views ≡ seat.me.0 ∷ [])
+
+-- the handle of this board's task lies in the place that has this claim
+abbrev pub IsThere : {F T W K P : Type 0} → Shared (Slot F T W) View K P → Claim → Type 0
+IsThere board claim = (claim.badge.table_id ≡ board.table_id) × (holds claim.badge.views ≡ Handle ∷ [])
 
 -- the step of this claim's seat, on this board, is this move
 abbrev pub Shows : {F T W K P : Type 0} → Shared (Slot F T W) View K P → (State → Moved) → Owed → Claim → Type 0

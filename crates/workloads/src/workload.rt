@@ -38,6 +38,8 @@ pub enum Workload {
     SimLines,
     /// The same where 100 ticks take the place of `try`.
     SimTicks,
+    /// The same where 10 runs do.
+    SimRuns,
     /// A ready future from its spawn to its output.
     SpawnRun,
     /// A task whose handle is dropped before it is run.
@@ -87,7 +89,7 @@ pub enum Workload {
 }
 
 /// Every workload, in the order in which they are listed and run.
-pub const ALL: [Workload; 43] = [
+pub const ALL: [Workload; 44] = [
     Workload::FetchAdd,
     Workload::MutexLock,
     Workload::Single,
@@ -108,6 +110,7 @@ pub const ALL: [Workload; 43] = [
     Workload::MachineStep,
     Workload::SimLines,
     Workload::SimTicks,
+    Workload::SimRuns,
     Workload::SpawnRun,
     Workload::DropHandle,
     Workload::WakeRun,
@@ -158,6 +161,7 @@ impl Workload {
             Workload::MachineStep => "machine/step",
             Workload::SimLines => "sim/lines",
             Workload::SimTicks => "sim/lines-100-ticks",
+            Workload::SimRuns => "sim/lines-10-runs",
             Workload::SpawnRun => "task/spawn-run",
             Workload::DropHandle => "task/drop-handle",
             Workload::WakeRun => "task/wake-run",
@@ -213,6 +217,7 @@ impl Workload {
             Workload::JobsParse => 2_000_000,
             Workload::SimLines
             | Workload::SimTicks
+            | Workload::SimRuns
             | Workload::JobsRun1
             | Workload::JobsRun2
             | Workload::JobsRun4 => 200_000,

@@ -1,5 +1,5 @@
 //! The moves of a task's handle, each with all that it owes.
-use crate::cell::resting::{CancelStep, Cancelled, Parked, Thing, put_back};
+use crate::cell::resting::{CancelStep, Cancelled};
 use crate::cell::turns::told;
 use crate::cell::{Held, Kept, Scheduled, TaskToken, pay_due};
 use crate::schedule::Schedule;
@@ -17,16 +17,14 @@ where
     R: Wait + Copy + Drop,
 {
     /// The task is cancelled.
-    pub(crate) fn cancel(&self, parked: &mut Parked) -> Cancelled {
-        let (step, cancelled) = self.begin_cancel(parked);
-        if let Some(CancelStep { woken, task }) = step {
-            self.queue(woken);
-            put_back(self.call_awaiter(task), parked);
-        }
-        cancelled
+    pub(crate) fn cancel(&self, task: TaskToken<F, T, W>) -> (TaskToken<F, T, W>, Cancelled) {
+        let (CancelStep { woken, task }, cancelled) = self.begin_cancel(task);
+        self.queue(woken);
+        (self.call_awaiter(task), cancelled)
     }
 
     /// The awaiter is called, where that is owed.
+    #[inline(always)]
     pub(crate) fn call_awaiter(
         &self,
         task: Result<TaskToken<F, T, W>, OwingTask<F, T, Kept<W>>>,
@@ -37,23 +35,17 @@ where
     }
 
     /// The drop of a handle: it cancels its task, and goes.
-    pub(crate) fn cancel_and_detach(&self, parked: Parked) {
-        let mut parked = parked;
-        self.cancel(&mut parked);
-        self.detach(parked);
+    pub(crate) fn cancel_and_detach(&self, task: TaskToken<F, T, W>) {
+        let (task, _) = self.cancel(task);
+        self.detach(task);
     }
 
     /// The handle goes. An output that lies in the cell is dropped first.
-    pub(crate) fn detach(&self, parked: Parked) {
-        match self.unpark(parked) {
-            Ok(task) => {
-                let (owed, gone) = task.detach(&self.rt);
-                match gone {
-                    Ok(left) => self.pay(self.left(owed, left)),
-                    Err(found) => self.detach_emptied(found),
-                }
-            }
-            Err(parked) => self.realm.returns.set_aside(Thing::Handle(parked)),
+    pub(crate) fn detach(&self, task: TaskToken<F, T, W>) {
+        let (owed, gone) = task.detach(&self.rt);
+        match gone {
+            Ok(left) => self.pay(self.left(owed, left)),
+            Err(found) => self.detach_emptied(found),
         }
     }
 

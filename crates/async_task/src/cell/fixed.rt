@@ -31,12 +31,14 @@ pub(crate) fn no_task_s<S: Drop, M: Drop>() -> Slot<S, M> {
     Counted::new(None, &())
 }
 
+#[inline(always)]
 fn state_of(word: u64) -> u64
     ensures { result ≡ word % 4 }
 {
     word % 4
 }
 
+#[inline(always)]
 fn reader_count(word: u64) -> u64
     ensures { result ≡ readers word }
 {
@@ -44,6 +46,7 @@ fn reader_count(word: u64) -> u64
 }
 
 /// A claim to read, where a task is there.
+#[inline(always)]
 pub(crate) fn claim<'c, S: Drop, M: Drop, R: Wait>(
     rt: &R,
     slot: &'c Slot<S, M>,
@@ -75,6 +78,7 @@ pub(crate) fn claim<'c, S: Drop, M: Drop, R: Wait>(
 }
 
 /// A claim to read, of a task that is there.
+#[inline(always)]
 pub(crate) fn claim_present<'c, S: Drop, M: Drop, R: Wait>(
     rt: &R,
     slot: &'c Slot<S, M>,
@@ -92,6 +96,7 @@ pub(crate) fn claim_present<'c, S: Drop, M: Drop, R: Wait>(
 }
 
 /// What is read.
+#[inline(always)]
 pub(crate) fn read<'a, S: Drop, M: Drop>(claim: &'a Claimed<'_, S, M>) -> &'a Fixed<S, M>
     requires { CanRead claim.now }
 {
@@ -102,6 +107,7 @@ pub(crate) fn read<'a, S: Drop, M: Drop>(claim: &'a Claimed<'_, S, M>) -> &'a Fi
 }
 
 /// Ends a read. True where it was the last of a task that is over: what was there is dropped then.
+#[inline(always)]
 pub(crate) fn leave<S: Drop, M: Drop>(slot: &Slot<S, M>, claim: Claimed<'_, S, M>) -> bool
     requires { claim.right ≡ 1 }
 {

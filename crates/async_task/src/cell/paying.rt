@@ -86,28 +86,41 @@ where
     }
 
     /// Drops a waker that a cell kept, or was to keep. What is then owed to a schedule value is the answer.
+    #[inline(always)]
     pub(crate) fn let_go(&self, kept: Kept<W>) -> Option<Due<F, T, S, M, W, R>>
         ensures { IfSome result (λ due. WasIdle due.info) }
     {
-        let mut kept = kept;
+        match kept {
+            Kept::Task(waker) => self.let_go_one(waker),
+            Kept::Outside(waker) => {
+                drop(waker);
+                None
+            }
+            Kept::Nothing => None,
+        }
+    }
+
+    /// The same of a waker of a task. Where it was the last of its task, whose cell kept a waker too, that goes next.
+    #[inline(never)]
+    fn let_go_one(&self, waker: KeptWaker) -> Option<Due<F, T, S, M, W, R>>
+        ensures { IfSome result (λ due. WasIdle due.info) }
+    {
+        let mut waker = waker;
         for _ in self.rt.forever() {
-            match kept {
-                Kept::Task(waker) => match self.kept_waker(waker).find(self.rt, self.realm) {
-                    Ok((task, token)) => match task.release(token) {
-                        Rest::Queue(woken) => return Some(task.due(woken)),
-                        Rest::Drop(next) => kept = next,
-                        Rest::Nothing => return None,
-                    },
-                    Err(waker) => {
-                        waker.go_back();
+            match self.kept_waker(waker).find(self.rt, self.realm) {
+                Ok((task, token)) => match task.release(token) {
+                    Rest::Queue(woken) => return Some(task.due(woken)),
+                    Rest::Drop(Kept::Task(next)) => waker = next,
+                    Rest::Drop(Kept::Outside(last)) => {
+                        drop(last);
                         return None;
                     }
+                    Rest::Drop(Kept::Nothing) | Rest::Nothing => return None,
                 },
-                Kept::Outside(waker) => {
-                    drop(waker);
+                Err(waker) => {
+                    waker.go_back();
                     return None;
                 }
-                Kept::Nothing => return None,
             }
         }
         unreachable!()
@@ -141,6 +154,7 @@ where
     }
 
     /// The same, where one was there.
+    #[inline(always)]
     pub(crate) fn call_some(&self, kept: Option<Kept<W>>) -> Option<Due<F, T, S, M, W, R>>
         ensures { IfSome result (λ due. WasIdle due.info) }
     {
@@ -180,6 +194,7 @@ where
     R: Wait + Copy + Drop,
 {
     /// Does what is left to be done.
+    #[inline(always)]
     pub(crate) fn pay(&self, rest: Rest<F, T, W>) {
         match rest {
             Rest::Queue(woken) => self.queue(Some(woken)),
@@ -196,6 +211,7 @@ where
     }
 
     /// Hands the task to its schedule value, where that is owed.
+    #[inline(always)]
     pub(crate) fn queue(&self, woken: Option<Woken<F, T, W>>) {
         if let Some(Woken { token, info }) = woken {
             let held = self.share();
@@ -212,6 +228,7 @@ where
 }
 
 /// Hands a task to its schedule value.
+#[inline(always)]
 pub fn pay_due<F, T, S, M, W, R>(due: Option<Due<F, T, S, M, W, R>>)
 where
     F: Drop + 'static,

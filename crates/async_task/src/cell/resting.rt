@@ -53,18 +53,21 @@ pub(crate) struct CancelStep<F: 'static, T: 'static, W: 'static> {
 }
 
 /// The Runnable rests in its cell.
+#[inline(always)]
 pub(crate) fn rest<F: 'static, T: 'static, W: 'static>(token: RunnableToken<F, T, W>) -> Rested {
     token.rest();
     Rested(())
 }
 
 /// The waker's reference rests in its cell.
+#[inline(always)]
 pub(crate) fn store<F: 'static, T: 'static, W: 'static>(token: WakerToken<F, T, W>) -> Stored {
     token.store();
     Stored(())
 }
 
 /// The same of a waker of a task at this place, for a cell that keeps it.
+#[inline(always)]
 pub(crate) fn kept<F: 'static, T: 'static, W: 'static>(
     place: usize,
     token: WakerToken<F, T, W>,
@@ -76,17 +79,10 @@ pub(crate) fn kept<F: 'static, T: 'static, W: 'static>(
 }
 
 /// The handle rests in its cell.
+#[inline(always)]
 pub(crate) fn park<F: 'static, T: 'static, W: 'static>(task: TaskToken<F, T, W>) -> Parked {
     task.park();
     Parked(())
-}
-
-/// The handle that was lent rests in its cell again.
-pub(crate) fn put_back<F: 'static, T: 'static, W: 'static>(
-    task: TaskToken<F, T, W>,
-    _parked: &mut Parked,
-) {
-    task.park();
 }
 
 impl<F, T, S, M, W, R> Held<F, T, S, M, W, R>
@@ -99,6 +95,7 @@ where
     R: Wait + Copy + Drop,
 {
     /// The Runnable that rests in the cell.
+    #[inline(always)]
     pub(crate) fn resume(&self, rested: Rested) -> Result<RunnableToken<F, T, W>, Rested> {
         match self.cell.word.resume(&self.rt) {
             Ok(token) => {
@@ -110,6 +107,7 @@ where
     }
 
     /// A reference that rests in the cell.
+    #[inline(always)]
     pub(crate) fn redeem(&self, stored: Stored) -> Result<WakerToken<F, T, W>, Stored> {
         match self.cell.word.redeem(&self.rt) {
             Ok(token) => {
@@ -121,6 +119,7 @@ where
     }
 
     /// The handle that rests in the cell.
+    #[inline(always)]
     pub(crate) fn unpark(&self, parked: Parked) -> Result<TaskToken<F, T, W>, Parked> {
         match self.cell.word.unpark(&self.rt) {
             Ok(task) => {
@@ -131,26 +130,14 @@ where
         }
     }
 
-    /// The handle that rests in the cell, until it is put back.
-    pub(crate) fn lend(&self, _parked: &mut Parked) -> Option<TaskToken<F, T, W>> {
-        match self.cell.word.unpark(&self.rt) {
-            Ok(task) => Some(task),
-            Err(_) => None,
-        }
-    }
-
-    /// The step by which the handle cancels its task. It is put back, once what is left is done.
+    /// The step by which the handle cancels its task.
+    #[inline(always)]
     pub(crate) fn begin_cancel(
         &self,
-        parked: &mut Parked,
-    ) -> (Option<CancelStep<F, T, W>>, Cancelled) {
-        match self.lend(parked) {
-            Some(task) => {
-                let (owed, runnable, task) = task.cancel(&self.rt);
-                let woken = owed_runnable(owed, runnable);
-                (Some(CancelStep { woken, task }), Cancelled(()))
-            }
-            None => (None, Cancelled(())),
-        }
+        task: TaskToken<F, T, W>,
+    ) -> (CancelStep<F, T, W>, Cancelled) {
+        let (owed, runnable, task) = task.cancel(&self.rt);
+        let woken = owed_runnable(owed, runnable);
+        (CancelStep { woken, task }, Cancelled(()))
     }
 }

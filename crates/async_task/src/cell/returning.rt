@@ -262,7 +262,10 @@ where
             Err(stored) => stored.set_aside(),
         },
         Thing::Handle(parked) => match Held::find(rt, realm, place) {
-            Some(held) => drop(Task::of(held, parked)),
+            Some(held) => match held.unpark(parked) {
+                Ok(token) => drop(Task::of(held, token)),
+                Err(parked) => returns.set_aside(Thing::Handle(parked)),
+            },
             None => returns.set_aside(Thing::Handle(parked)),
         },
     }

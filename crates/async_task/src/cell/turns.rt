@@ -34,6 +34,7 @@ pub(crate) struct Remains<F: 'static, T: 'static, W: 'static> {
 }
 
 /// The Runnable that is owed.
+#[inline(always)]
 pub(crate) fn owed_runnable<F, T, W>(
     owed: Owed,
     runnable: Result<RunnableToken<F, T, W>, Trace>,
@@ -65,6 +66,7 @@ where
     R: Wait + Copy + Drop,
 {
     /// A wake: a Runnable is the answer where one is owed.
+    #[inline(always)]
     pub(crate) fn wake(&self) -> Option<Woken<F, T, W>>
         ensures { IfSome result (λ woken. WasIdle woken.info) }
     {
@@ -73,6 +75,7 @@ where
     }
 
     /// One reference more, where that is allowed.
+    #[inline(always)]
     pub(crate) fn hold(&self) -> Result<WakerToken<F, T, W>, TooManyReferences> {
         match self.cell.word.copy(&self.rt).1 {
             Ok(token) => Ok(token),
@@ -92,6 +95,7 @@ where
     }
 
     /// A reference goes.
+    #[inline(always)]
     pub(crate) fn release(&self, token: WakerToken<F, T, W>) -> Rest<F, T, W>
         ensures { IfSome (info_of result) WasIdle }
     {
@@ -100,6 +104,7 @@ where
     }
 
     /// A run gives its reference up.
+    #[inline(always)]
     pub(crate) fn give_up(&self, past: PastRun<F, T, Kept<W>>) -> Rest<F, T, W>
         ensures { IfSome (info_of result) WasIdle }
     {
@@ -108,6 +113,7 @@ where
     }
 
     /// What is left where a reference or the handle went. Where it was the last of all, the place is free.
+    #[inline(always)]
     pub(crate) fn left(&self, owed: Owed, left: Left<F, T, Kept<W>>) -> Rest<F, T, W>
         requires paid { is_ok left.runnable ≡ is_some owed.schedule }
         requires alone { IfSome left.awaiter (λ _. is_ok left.runnable ≡ false) }
@@ -138,6 +144,7 @@ where
 }
 
 /// The value that is owed a call or a drop.
+#[inline(always)]
 pub(crate) fn paid<X>(debt: Option<Debt<X>>) -> Option<X>
     ensures { result ≡ debt }
 {
@@ -148,6 +155,7 @@ pub(crate) fn paid<X>(debt: Option<Debt<X>>) -> Option<X>
 }
 
 /// The awaiter comes out, to be called, where that is owed.
+#[inline(always)]
 pub(crate) fn notified<F, T, W, R>(
     rt: &R,
     run: Result<PastRun<F, T, Kept<W>>, OwingRun<F, T, Kept<W>>>,
@@ -168,6 +176,7 @@ where
 }
 
 /// The same of a handle.
+#[inline(always)]
 pub(crate) fn told<F, T, W, R>(
     rt: &R,
     task: Result<TaskToken<F, T, W>, OwingTask<F, T, Kept<W>>>,
@@ -188,6 +197,7 @@ where
 }
 
 /// Whether the task was woken while it was polled.
+#[inline(always)]
 pub(crate) fn was_woken<F, T, W>(rest: &Rest<F, T, W>) -> bool
 where
     F: 'static,

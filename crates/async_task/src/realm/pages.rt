@@ -100,7 +100,11 @@ impl<C: Drop> Pages<C> {
         };
         let link = (place % PLACES) as u64 + 1;
         let _ = self.free.fetch_update(SeqCst, SeqCst, |free| {
-            slot.next.store(free & LINK, SeqCst);
+            let next = free & LINK;
+            // It often is: a place that comes and goes is put before the same one.
+            if slot.next.load(SeqCst) != next {
+                slot.next.store(next, SeqCst);
+            }
             Some(changed(free, link))
         });
     }
@@ -154,18 +158,13 @@ impl<C: Drop> Pages<C> {
 }
 
 impl<C: Vacant + Drop> Pages<C> {
-    /// A place that nobody else has, until it is released, with its cell. None where there are too many, or for
-    /// want of memory.
+    /// A place that nobody else has, until it is released. Its cell may have to be made. None where there are too many places, or
+    /// for want of memory.
     pub fn vacancy(&self) -> Option<usize> {
-        let place = match self.reuse() {
-            Some(place) => place,
-            None => self.grow()?,
-        };
-        if self.make_cell(place).is_none() {
-            self.release(place);
-            return None;
+        match self.reuse() {
+            Some(place) => Some(place),
+            None => self.grow(),
         }
-        Some(place)
     }
 
     /// Makes the slot of this place, and its cell, unless they are there. None for want of memory.

@@ -20,6 +20,7 @@ fn moved_by_3000(workload: Workload) -> u64 {
         | Workload::MachineStep
         | Workload::SimLines
         | Workload::SimTicks
+        | Workload::SimRuns
         | Workload::DropHandle
         | Workload::WakeRun
         | Workload::SelfWake

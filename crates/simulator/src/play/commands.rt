@@ -1,6 +1,6 @@
 //! The commands of a script.
 
-ghost use Rattle.std.specs.Prelude.{◌≡◌, ℕ, ◌^◌, ◌<◌, OnOk, length};
+ghost use Rattle.std.specs.Prelude.{◌≡◌, ◌&&◌, OnOk};
 ghost use Rattle.std.specs.List.{list_all, list_any};
 ghost use Rattle.script.specs.Names.{number_of};
 ghost use Rattle.simulator.specs.Play as play;
@@ -11,7 +11,7 @@ use crate::moment::Outcome;
 use crate::play::future::Future;
 use crate::play::party::{Doing, Party};
 use crate::play::player::Player;
-use crate::print::waker_of_tick;
+use crate::print::{waker_of_run, waker_of_tick};
 use executor_model::{By, Call, Step, Waker};
 use script::{Command, Item, Name, Plain, Word};
 use std::alloc::AllocError;
@@ -23,34 +23,77 @@ fn poll_of_tick(t: u64) -> Call
     Call::PollTick(t, By::Outside(waker_of_tick(t)))
 }
 
+/// The poll of this run, by the outside waker of its name.
+fn poll_of_run(r: u64) -> Call
+    ensures { result ≡ commands.poll_of_run r }
+{
+    Call::PollRun(r, By::Outside(waker_of_run(r)))
+}
+
 impl<'a> Player<'a> {
+    /// Plays the command at this place, where the script hasn't ended.
+    pub fn play_unless_stopped(&mut self, at: usize, command: &'a Command) -> Result<(), AllocError>
+        ensures { OnOk result (commands.PlaysUnless self.old.stopped at command.now self.old self.new) }
+    {
+        if self.stopped {
+            return Ok(());
+        }
+        self.play(at, command)
+    }
+
     /// Plays the command at this place.
-    pub fn play(&mut self, at: usize, command: &'a Command) -> Result<(), AllocError>
+    fn play(&mut self, at: usize, command: &'a Command) -> Result<(), AllocError>
         ensures { OnOk result (commands.Plays at command.now self.old self.new) }
     {
         match command {
             Command::Whole(request) => {
                 self.begin(0, at, &request.plain, request.plain.word())?;
-                self.finish(0)
+                self.play_whole()
             }
             Command::Begin { party, request } => {
                 self.begin(*party, at, &request.plain, Word::Begin)
             }
-            Command::Go(party) => {
-                if self.is_busy(*party) {
-                    self.turn(*party)
-                } else {
-                    self.end(Word::Go, Outcome::NotPossible)
-                }
-            }
-            Command::Finish(party) => {
-                if self.is_busy(*party) {
-                    self.finish(*party)
-                } else {
-                    self.end(Word::Finish, Outcome::NotPossible)
-                }
-            }
+            Command::Go(party) => self.play_go(*party),
+            Command::Finish(party) => self.play_finish(*party),
         }
+    }
+
+    /// The party that no command names takes turns. Where it would wait before its command has ended, the script ends.
+    fn play_whole(&mut self) -> Result<(), AllocError>
+        ensures { OnOk result (commands.PlaysWhole self.old self.new) }
+    {
+        self.finish(0)?;
+        if self.is_busy(0) {
+            return self.stop();
+        }
+        Ok(())
+    }
+
+    /// The party takes one turn, where it has begun a command and need not wait.
+    fn play_go(&mut self, p: u32) -> Result<(), AllocError>
+        ensures { OnOk result (self.new ≡ commands.go (commands.is_busy p self.old) (commands.would_wait p self.old) p self.old) }
+    {
+        if !self.is_busy(p) {
+            return self.end(Word::Go, Outcome::NotPossible);
+        }
+        if self.machine.waits(p) {
+            return self.end(Word::Go, Outcome::Waits);
+        }
+        self.turn(p)
+    }
+
+    /// The party takes turns. Where it would wait before its command has ended, that stays in progress.
+    fn play_finish(&mut self, p: u32) -> Result<(), AllocError>
+        ensures { OnOk result (commands.PlaysFinish (commands.is_busy p self.old) p self.old self.new) }
+    {
+        if !self.is_busy(p) {
+            return self.end(Word::Finish, Outcome::NotPossible);
+        }
+        self.finish(p)?;
+        if self.is_busy(p) {
+            return self.end(Word::Finish, Outcome::Waits);
+        }
+        Ok(())
     }
 
     fn is_busy(&self, p: u32) -> bool
@@ -59,11 +102,18 @@ impl<'a> Player<'a> {
         self.party(p).doing.is_some()
     }
 
-    /// The party takes turns until its command has ended.
+    /// The party can take a turn: its command has not ended, and it need not wait for another party.
+    fn goes_on(&self, p: u32) -> bool
+        ensures { result ≡ commands.goes_on p self.now }
+    {
+        self.is_busy(p) && !self.machine.waits(p)
+    }
+
+    /// The party takes turns as long as it can: until its command has ended, or the next would wait.
     fn finish(&mut self, p: u32) -> Result<(), AllocError>
         ensures { OnOk result (commands.Finishes p self.old self.new) }
     {
-        while self.is_busy(p) {
+        while self.goes_on(p) {
             self.turn(p)?;
         }
         Ok(())
@@ -113,6 +163,7 @@ impl<'a> Player<'a> {
     {
         match plain {
             Plain::Spawn { items, .. } => self.hold(items.as_slice(), true),
+            Plain::Run { twice, .. } => self.hold_named(*twice, true),
             Plain::Unkeep(name) => {
                 if let Some(f) = self.number_of(*name) {
                     let future = self.future(f);
@@ -158,6 +209,9 @@ impl<'a> Player<'a> {
             Plain::Tick(name) => self.call_of_tick(*name),
             Plain::PollTick(name) => self.tick_named(*name).map(poll_of_tick),
             Plain::DropTick(name) => self.tick_named(*name).map(Call::DropTick),
+            Plain::Run { name, twice } => self.call_of_run(*name, *twice),
+            Plain::PollRun(name) => self.run_named(*name).map(poll_of_run),
+            Plain::DropRun(name) => self.run_named(*name).map(Call::DropRun),
             Plain::End => Some(Call::DropExecutor),
         }
     }
@@ -169,6 +223,26 @@ impl<'a> Player<'a> {
             Some(Call::NewTick)
         } else {
             None
+        }
+    }
+
+    fn call_of_run(&self, name: Name, twice: Option<Name>) -> Option<Call>
+        ensures { result ≡ commands.call_of_run (commands.is_free self.now name && commands.is_holdable self.now twice) }
+    {
+        if self.is_free(name) && self.is_holdable(twice) {
+            Some(Call::NewRun)
+        } else {
+            None
+        }
+    }
+
+    /// The handle that a run is to hold, if any, is there, and nobody holds or uses it.
+    fn is_holdable(&self, twice: Option<Name>) -> bool
+        ensures { result ≡ commands.is_holdable self.now twice }
+    {
+        match twice {
+            Some(name) => self.is_available(Item::Twice(name)),
+            None => true,
         }
     }
 
@@ -186,7 +260,7 @@ impl<'a> Player<'a> {
         self.future(self.number_of(name)?).kept
     }
 
-    /// The future of this name, whose handle neither another future nor a command holds.
+    /// The future of this name, whose handle neither another future nor a run nor a command holds.
     fn handle_of(&self, name: Name) -> Option<u64>
         ensures { result ≡ commands.handle_of self.now name }
     {
@@ -197,7 +271,7 @@ impl<'a> Player<'a> {
         }
     }
 
-    /// The future, whose handle no other future holds.
+    /// The future, whose handle no other future and no run holds.
     fn unheld(&self, f: Option<u64>) -> Option<u64>
         ensures { result ≡ commands.unheld self.now f }
     {
@@ -229,14 +303,17 @@ impl<'a> Player<'a> {
         }
     }
 
-    /// No future or tick has this name, and none is about to have it.
+    /// No future, tick or run has this name, and none is about to have it.
     fn is_free(&self, name: Name) -> bool
         ensures { result ≡ commands.is_free self.now name }
     {
-        self.number_of(name).is_none() && self.tick_named(name).is_none() && !self.is_coming(name)
+        self.number_of(name).is_none()
+            && self.tick_named(name).is_none()
+            && self.run_named(name).is_none()
+            && !self.is_coming(name)
     }
 
-    /// A party has begun to spawn a future of this name, or to make a tick of it.
+    /// A party has begun to spawn a future of this name, or to make a tick or run of it.
     fn is_coming(&self, name: Name) -> bool
         ensures { result ≡ list_any (λ x. commands.is_making self.now name x) self.now.parties }
     {
@@ -250,7 +327,11 @@ impl<'a> Player<'a> {
     {
         match party.doing {
             Some(doing) => match self.plain_at(doing.command) {
-                Some(Plain::Spawn { name: other, .. } | Plain::Tick(other)) => *other == name,
+                Some(
+                    Plain::Spawn { name: other, .. }
+                    | Plain::Tick(other)
+                    | Plain::Run { name: other, .. },
+                ) => *other == name,
                 _ => false,
             },
             None => false,

@@ -30,7 +30,7 @@ pub struct Future {
     pub stage: Stage,
     /// The number of the waker that is kept of it.
     pub kept: Option<u64>,
-    /// Whether another future holds its handle.
+    /// Whether another future, or a run, holds its handle.
     pub held: bool,
     /// The waker that the last poll of its handle was given.
     pub given: Waker,

@@ -15,6 +15,7 @@ use crate::moment::{Moment, Outcome};
 use crate::play::Played;
 use crate::play::future::Future;
 use crate::play::party::{Doing, Party};
+use crate::play::runs::Run;
 use executor_core::{Kind, Machine};
 use executor_model::{Event, Op, Reply, Step, StepError, UserOp};
 use script::{Command, Item, Name, Names, Plain, Request, Word};
@@ -32,7 +33,13 @@ pub struct Player<'a> {
     pub futures: Vec<Future>,
     /// The names of the ticks, in the order in which these were made.
     pub ticks: Names,
+    /// The names of the runs, in the order in which these were made.
+    pub run_names: Names,
+    /// In that order.
+    pub runs: Vec<Run>,
     pub parties: Vec<Party>,
+    /// The party that no command names would wait for another, and no more commands are played.
+    pub stopped: bool,
     /// The steps that were tried.
     pub tried: Vec<Step>,
     pub moments: Vec<Moment>,
@@ -47,7 +54,10 @@ impl<'a> Model for Player<'a> {
       names = x.names;
       futures = x.futures.items;
       ticks = x.ticks;
+      run_names = x.run_names;
+      runs = x.runs.items;
       parties = x.parties.items;
+      stopped = x.stopped;
       tried = x.tried.items;
       moments = x.moments.items;
     } };
@@ -95,7 +105,10 @@ impl<'a> Player<'a> {
             names: Names::new(alloc),
             futures: Vec::new(alloc),
             ticks: Names::new(alloc),
+            run_names: Names::new(alloc),
+            runs: Vec::new(alloc),
             parties: ten_parties(alloc)?,
+            stopped: false,
             tried: Vec::new(alloc),
             moments: Vec::new(alloc),
         })
@@ -105,11 +118,13 @@ impl<'a> Player<'a> {
         ensures moments { result.moments.items ≡ self.entry.moments }
         ensures names { result.names ≡ self.entry.names }
         ensures ticks { result.ticks ≡ self.entry.ticks }
+        ensures runs { result.runs ≡ self.entry.run_names }
     {
         Played {
             moments: self.moments,
             names: self.names,
             ticks: self.ticks,
+            runs: self.run_names,
         }
     }
 
@@ -129,6 +144,25 @@ impl<'a> Player<'a> {
     {
         if (f as usize) < self.futures.len() {
             self.futures[f as usize] = future;
+        }
+    }
+
+    /// The run of this number.
+    pub fn run(&self, r: u64) -> Run
+        ensures { result ≡ play.run self.now r }
+    {
+        match self.runs.get(r as usize) {
+            Some(run) => *run,
+            None => Run::new(None),
+        }
+    }
+
+    #[tactic(auto, using(std::proofs::lemmas::List::set_past))]
+    pub fn set_run(&mut self, r: u64, run: Run)
+        ensures { self.new ≡ play.set_run r run self.old }
+    {
+        if (r as usize) < self.runs.len() {
+            self.runs[r as usize] = run;
         }
     }
 
@@ -166,6 +200,16 @@ impl<'a> Player<'a> {
     {
         match self.ticks.number_of(name) {
             Some(t) => Some(t as u64),
+            None => None,
+        }
+    }
+
+    /// The number of the run of this name.
+    pub fn run_named(&self, name: Name) -> Option<u64>
+        ensures { result ≡ number_of self.now.run_names name }
+    {
+        match self.run_names.number_of(name) {
+            Some(r) => Some(r as u64),
             None => None,
         }
     }
@@ -342,6 +386,28 @@ impl<'a> Player<'a> {
         if self.ticks.number_of(name).is_none() {
             self.ticks.push(name)?;
         }
+        Ok(())
+    }
+
+    /// The next run has this name, and its own future holds this handle.
+    #[tactic(auto, unfolding(crate::specs::Play::ran_as))]
+    pub fn push_run(&mut self, name: Name, twice: Option<Name>) -> Result<(), AllocError>
+        ensures new { OnOk result (self.new ≡ play.ran_as (number_of self.old.run_names name) name twice self.old) }
+        ensures steps { OnOk result (self.new.tried ≡ self.old.tried) }
+    {
+        if self.run_names.number_of(name).is_none() {
+            self.run_names.push(name)?;
+            self.runs.push(Run::new(twice))?;
+        }
+        Ok(())
+    }
+
+    /// The party that no command names would wait, and the script ends.
+    pub fn stop(&mut self) -> Result<(), AllocError>
+        ensures { OnOk result (self.new ≡ play.stop self.old) }
+    {
+        self.stopped = true;
+        self.moments.push(Moment::Stopped)?;
         Ok(())
     }
 

@@ -5,12 +5,11 @@ ghost use Rattle.script.specs.Names.{number_of};
 ghost use Rattle.simulator.specs.Play as play;
 ghost use Rattle.simulator.specs.Turn as turns;
 
-use crate::moment::Outcome;
 use crate::play::future::{Future, Stage, doubled};
-use crate::play::party::{Doing, Party};
+use crate::play::party::Doing;
 use crate::play::player::{Player, item_at, later};
 use executor_model::{Answer, By, Call, HandleOp, Hint, Op, Reply, Step, UserEnd, UserOp, Waker};
-use script::{Item, Name, Plain, Word};
+use script::{Item, Name, Plain};
 use std::alloc::AllocError;
 
 fn is_same_waker(one: Waker, other: Waker) -> bool
@@ -68,6 +67,7 @@ fn named(plain: &Plain) -> Option<Name>
         | Plain::Drop(name) => Some(*name),
         Plain::Spawn { .. } | Plain::Try | Plain::Empty | Plain::End => None,
         Plain::Tick(_) | Plain::PollTick(_) | Plain::DropTick(_) => None,
+        Plain::Run { .. } | Plain::PollRun(_) | Plain::DropRun(_) => None,
     }
 }
 
@@ -94,6 +94,8 @@ impl<'a> Player<'a> {
             None => self.poll_cancelled(p),
             Some(Op::User(UserOp::Poll(f))) => self.poll(p, f),
             Some(Op::User(UserOp::Drop(f))) => self.drop_future(p, f),
+            Some(Op::User(UserOp::PollOwn(x))) => self.poll_own(p, x),
+            Some(Op::User(UserOp::DropOwn(r))) => self.drop_own(p, r),
             Some(op) => self.go_on(p, op),
         }
     }
@@ -120,6 +122,7 @@ impl<'a> Player<'a> {
         let hint = Hint {
             refused: self.is_refusing(self.party(p).doing),
             same: self.is_same(op),
+            start: 0,
         };
         self.try_step(Step::Go { party: p, hint })?;
         Ok(())
@@ -152,7 +155,7 @@ impl<'a> Player<'a> {
     }
 
     #[tactic(auto, unfolding(crate::specs::Turn::answer))]
-    fn answer(&mut self, p: u32, end: UserEnd) -> Result<(), AllocError>
+    pub fn answer(&mut self, p: u32, end: UserEnd) -> Result<(), AllocError>
         ensures new { OnOk result (self.new ≡ turns.answer p end self.old) }
         ensures grows { OnOk result (length self.old.tried < length self.new.tried) }
     {
@@ -176,14 +179,14 @@ impl<'a> Player<'a> {
         );
     }
 
-    fn number_named(&self, name: Option<Name>) -> Option<u64>
+    pub fn number_named(&self, name: Option<Name>) -> Option<u64>
         ensures { result ≡ turns.number_named self.now name }
     {
         self.number_of(name?)
     }
 
     /// The future of which the command speaks.
-    fn subject(&self, doing: Doing) -> Option<u64>
+    pub fn subject(&self, doing: Doing) -> Option<u64>
         ensures { result ≡ turns.subject self.now doing }
     {
         match self.plain_at(doing.command) {
@@ -203,8 +206,7 @@ impl<'a> Player<'a> {
 
     /// The handle of a future that was cancelled is polled.
     fn poll_cancelled(&mut self, p: u32) -> Result<(), AllocError>
-        ensures new { OnOk result
-            (self.new ≡ turns.poll_cancelled (turns.subject_of self.old (play.party self.old p).doing) p self.old) }
+        ensures new { OnOk result (self.new ≡ turns.poll_cancelled (turns.subject_of self.old (play.party self.old p).doing) p self.old) }
         ensures grows { OnOk result (length self.old.tried < length self.new.tried) }
     {
         match self.subject_of(self.party(p).doing) {
@@ -265,7 +267,7 @@ impl<'a> Player<'a> {
         self.call(p, call)
     }
 
-    fn call(&mut self, p: u32, call: Call) -> Result<(), AllocError>
+    pub fn call(&mut self, p: u32, call: Call) -> Result<(), AllocError>
         ensures new { OnOk result (self.new ≡ play.tried (Step.Begin p call) self.old) }
         ensures grows { OnOk result (length self.old.tried < length self.new.tried) }
     {
@@ -351,7 +353,7 @@ impl<'a> Player<'a> {
         }
     }
 
-    /// The handles that these items name are held by another future from now on, or no more.
+    /// The handles that these items name are held by another future or a run from now on, or no more.
     #[tactic(auto, unfolding(crate::specs::Turn::held))]
     pub fn hold(&mut self, items: &[Item], held: bool)
         ensures new { self.new ≡ turns.held items.now held self.old }
@@ -365,128 +367,21 @@ impl<'a> Player<'a> {
         }
     }
 
+    /// The handle of the future of this name is held by a run from now on, or no more.
+    pub fn hold_named(&mut self, name: Option<Name>, held: bool)
+        ensures new { self.new ≡ turns.held_by (turns.number_named self.old name) held self.old }
+        ensures steps { self.new.tried ≡ self.old.tried }
+    {
+        let number = self.number_named(name);
+        self.hold_one(number, held);
+    }
+
     fn hold_one(&mut self, number: Option<u64>, held: bool)
         ensures { self.new ≡ turns.held_by number held self.old }
     {
         if let Some(g) = number {
             let future = self.future(g);
             self.set_future(g, Future { held, ..future });
-        }
-    }
-
-    /// The party's command ends where its call has, unless it polls a handle then.
-    #[tactic(auto, unfolding(crate::specs::Turn::settle))]
-    fn settle(&mut self, p: u32) -> Result<(), AllocError>
-        ensures new { OnOk result (self.new ≡ turns.settle p self.old) }
-        ensures steps { OnOk result (self.new.tried ≡ self.old.tried) }
-    {
-        match self.top(p) {
-            Some(_) => Ok(()),
-            None => match self.party(p).doing {
-                Some(doing) => self.settle_command(p, doing),
-                None => Ok(()),
-            },
-        }
-    }
-
-    #[tactic(auto, unfolding(crate::specs::Turn::settled_as))]
-    fn settle_command(&mut self, p: u32, doing: Doing) -> Result<(), AllocError>
-        ensures new { OnOk result
-            (self.new ≡ turns.settled_as (play.plain_at self.old doing.command) p doing self.old) }
-        ensures steps { OnOk result (self.new.tried ≡ self.old.tried) }
-    {
-        match self.plain_at(doing.command) {
-            Some(Plain::Cancel(_)) => self.poll_next(p, doing),
-            Some(Plain::Spawn { items, .. }) => {
-                let reply = self.party(p).reply;
-                self.give_back(reply, items.as_slice());
-                self.close(p, doing)
-            }
-            Some(Plain::Tick(name)) => {
-                let reply = self.party(p).reply;
-                self.name_tick(reply, *name)?;
-                self.close(p, doing)
-            }
-            _ => self.close(p, doing),
-        }
-    }
-
-    fn poll_next(&mut self, p: u32, doing: Doing) -> Result<(), AllocError>
-        ensures new { OnOk result (self.new ≡ turns.polls_next doing.polls p doing self.old) }
-        ensures steps { OnOk result (self.new.tried ≡ self.old.tried) }
-    {
-        if doing.polls {
-            return self.close(p, doing);
-        }
-        self.set_doing(
-            p,
-            Some(Doing {
-                polls: true,
-                ..doing
-            }),
-        );
-        Ok(())
-    }
-
-    /// A refused spawn gives the handles back.
-    fn give_back(&mut self, reply: Reply, items: &[Item])
-        ensures new { self.new ≡ turns.given_back (turns.is_made reply) items.now self.old }
-        ensures steps { self.new.tried ≡ self.old.tried }
-    {
-        match reply {
-            Reply::Made => {}
-            _ => self.hold(items, false),
-        }
-    }
-
-    /// A tick that was made has its name.
-    fn name_tick(&mut self, reply: Reply, name: Name) -> Result<(), AllocError>
-        ensures new { OnOk result (self.new ≡ turns.ticked (turns.is_made reply) name self.old) }
-        ensures steps { OnOk result (self.new.tried ≡ self.old.tried) }
-    {
-        match reply {
-            Reply::Made => self.push_tick(name),
-            _ => Ok(()),
-        }
-    }
-
-    pub fn set_doing(&mut self, p: u32, doing: Option<Doing>)
-        ensures { self.new ≡ turns.does p doing self.old }
-    {
-        let party = self.party(p);
-        self.set_party(p, Party { doing, ..party });
-    }
-
-    /// The party is idle again, and its command is answered so.
-    #[tactic(auto, unfolding(crate::specs::Turn::closed))]
-    fn close(&mut self, p: u32, doing: Doing) -> Result<(), AllocError>
-        ensures new { OnOk result (self.new ≡ turns.closed p doing self.old) }
-        ensures steps { OnOk result (self.new.tried ≡ self.old.tried) }
-    {
-        let word = self.word_at(doing.command);
-        let outcome = self.outcome(self.party(p).reply, self.subject(doing));
-        self.set_doing(p, None);
-        self.end(word, outcome)
-    }
-
-    fn word_at(&self, at: usize) -> Word
-        ensures { result ≡ turns.word_at (play.plain_at self.now at) }
-    {
-        match self.plain_at(at) {
-            Some(plain) => plain.word(),
-            None => Word::Go,
-        }
-    }
-
-    fn outcome(&self, reply: Reply, future: Option<u64>) -> Outcome
-        ensures { result ≡ turns.outcome_of self.now reply future }
-    {
-        match reply {
-            Reply::Ready => match future {
-                Some(f) => Outcome::Output(self.future(f).output),
-                None => Outcome::Answered(reply),
-            },
-            _ => Outcome::Answered(reply),
         }
     }
 }

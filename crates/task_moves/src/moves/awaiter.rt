@@ -7,6 +7,7 @@ use crate::moves::owed::{AwaiterDebt, Move, Moved, Owed};
 use crate::moves::state::State;
 
 /// A poll of the handle begins to register its waker.
+#[inline(always)]
 pub fn register(state: State) -> Moved
     ensures { result ≡ moves.register state }
 {
@@ -36,6 +37,7 @@ pub fn register(state: State) -> Moved
 }
 
 /// The waker is stored.
+#[inline(always)]
 pub fn end_register(state: State) -> Moved
     ensures { result ≡ moves.end_register state }
 {
@@ -70,6 +72,7 @@ pub fn end_register(state: State) -> Moved
 }
 
 /// Somebody wants the awaiter called.
+#[inline(always)]
 pub fn notify(state: State) -> Moved
     ensures { result ≡ moves.notify state }
 {
@@ -98,6 +101,7 @@ pub fn notify(state: State) -> Moved
 }
 
 /// The awaiter is taken out.
+#[inline(always)]
 pub fn end_notify(state: State) -> Moved
     ensures { result ≡ moves.end_notify state }
 {

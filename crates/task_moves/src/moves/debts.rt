@@ -27,6 +27,7 @@ pub const QUEUED_AFTER_POLL: Option<ScheduleInfo> = Some(ScheduleInfo {
 });
 
 /// An awaiter that is there is notified.
+#[inline(always)]
 pub fn notify_if(awaiter: bool) -> Option<AwaiterDebt>
     ensures { result ≡ moves.notify_if awaiter }
 {
@@ -38,6 +39,7 @@ pub fn notify_if(awaiter: bool) -> Option<AwaiterDebt>
 }
 
 /// The same, by a poll, whose own waker needn't be called.
+#[inline(always)]
 pub fn notify_other_if(awaiter: bool) -> Option<AwaiterDebt>
     ensures { result ≡ moves.notify_other_if awaiter }
 {
@@ -50,6 +52,7 @@ pub fn notify_other_if(awaiter: bool) -> Option<AwaiterDebt>
 
 /// What the last move of a run or a closing call owes: an awaiter that is there is notified, and
 /// the reference is given up.
+#[inline(always)]
 pub fn settled(awaiter: bool) -> Owed
     ensures { result ≡ moves.settled awaiter }
 {

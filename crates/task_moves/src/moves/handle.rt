@@ -7,6 +7,7 @@ use crate::moves::owed::{Answer, AwaiterDebt, Move, Moved, Owed};
 use crate::moves::state::State;
 
 // The task is closed.
+#[inline(always)]
 fn close(state: State) -> State
     ensures { result ≡ record state { closed = true } }
 {
@@ -17,6 +18,7 @@ fn close(state: State) -> State
 }
 
 /// The handle cancels the task.
+#[inline(always)]
 pub fn cancel(state: State) -> Moved
     requires { state.references < 2 ^ 63 }
     ensures { result ≡ moves.cancel state }
@@ -53,6 +55,7 @@ pub fn cancel(state: State) -> Moved
 }
 
 /// The handle goes.
+#[inline(always)]
 pub fn detach(state: State) -> Moved
     ensures { result ≡ moves.detach state }
 {
@@ -95,6 +98,7 @@ pub fn detach(state: State) -> Moved
 }
 
 /// A poll of the handle looks at the task.
+#[inline(always)]
 pub fn poll(state: State) -> Moved
     ensures { result ≡ moves.poll state }
 {
@@ -137,6 +141,7 @@ pub fn poll(state: State) -> Moved
 }
 
 /// A poll of the handle looks again, after it has registered its waker.
+#[inline(always)]
 pub fn look_again(state: State) -> Moved
     ensures { result ≡ moves.look_again state }
 {

@@ -7,6 +7,7 @@ use crate::moves::owed::{FutureDebt, Move, Moved, Owed};
 use crate::moves::state::State;
 
 /// A Runnable becomes a run.
+#[inline(always)]
 pub fn take_up(state: State) -> Moved
     ensures { result ≡ moves.take_up state }
 {
@@ -36,6 +37,7 @@ pub fn take_up(state: State) -> Moved
 }
 
 /// The future of a closed task was dropped before a poll.
+#[inline(always)]
 pub fn settle_closed(state: State) -> Moved
     ensures { result ≡ moves.settle_closed state }
 {
@@ -49,6 +51,7 @@ pub fn settle_closed(state: State) -> Moved
 }
 
 /// A run or a closing call gives its reference up.
+#[inline(always)]
 pub fn give_up(state: State) -> Moved
     requires { 0 < state.references }
     ensures { result ≡ moves.give_up state }
@@ -77,6 +80,7 @@ pub fn give_up(state: State) -> Moved
 }
 
 /// The poll gave an output, which is stored, and the future was dropped.
+#[inline(always)]
 pub fn end_ready(state: State) -> Moved
     ensures { result ≡ moves.end_ready state }
 {
@@ -97,6 +101,7 @@ pub fn end_ready(state: State) -> Moved
 }
 
 /// The poll gave no output.
+#[inline(always)]
 pub fn end_pending(state: State) -> Moved
     requires { 0 < state.references }
     ensures { result ≡ moves.end_pending state }
@@ -167,6 +172,7 @@ fn forget(state: State) -> Moved
 }
 
 /// The poll gave no output, the task was closed meanwhile, and the future was dropped.
+#[inline(always)]
 pub fn end_closed(state: State) -> Moved
     ensures { result ≡ moves.end_closed state }
 {
@@ -177,6 +183,7 @@ pub fn end_closed(state: State) -> Moved
 }
 
 /// A Runnable is let go.
+#[inline(always)]
 pub fn drop_runnable(state: State) -> Moved
     ensures { result ≡ moves.drop_runnable state }
 {

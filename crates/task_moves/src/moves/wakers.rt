@@ -10,6 +10,7 @@ use crate::moves::state::State;
 pub const MOST_REFERENCES: u64 = 1 << 40;
 
 /// A new task: its Runnable and its handle are there.
+#[inline(always)]
 pub fn make() -> State
     ensures { result ≡ moves.made }
 {
@@ -27,6 +28,7 @@ pub fn make() -> State
 }
 
 /// A waker is called, and stays.
+#[inline(always)]
 pub fn wake_by_reference(state: State) -> Moved
     requires { state.references < 2 ^ 63 }
     ensures { result ≡ moves.wake_by_reference state }
@@ -61,6 +63,7 @@ pub fn wake_by_reference(state: State) -> Moved
 }
 
 /// A waker is called, and is then released.
+#[inline(always)]
 pub fn wake(state: State) -> Moved
     requires { state.references < 2 ^ 63 }
     ensures { result ≡ moves.wake state }
@@ -76,6 +79,7 @@ pub fn wake(state: State) -> Moved
 }
 
 /// One more waker is asked for.
+#[inline(always)]
 pub fn copy(state: State) -> Moved
     ensures { result ≡ moves.copy state }
 {
@@ -100,6 +104,7 @@ pub fn copy(state: State) -> Moved
 }
 
 /// A waker goes.
+#[inline(always)]
 pub fn release(state: State) -> Moved
     requires { 0 < state.references }
     ensures { result ≡ moves.release state }

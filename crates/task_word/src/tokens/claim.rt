@@ -24,6 +24,14 @@ impl Claim {
         Claim { badge }
     }
 
+    /// A claim to nothing.
+    #[inline(always)]
+    pub(crate) fn blank() -> Claim
+        ensures { result.badge.views ≡ [] }
+    {
+        Claim::of(Badge::blank())
+    }
+
     #[inline(always)]
     fn into_badge(self) -> Badge<View>
         ensures { result ≡ self.badge }

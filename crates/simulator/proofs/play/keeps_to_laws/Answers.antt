@@ -1,7 +1,4 @@
 use Rattle.executor_core.proofs.Reaching.{law_here, machine_law_here, run_here}
-use Rattle.executor_laws.specs.AtOnce.{NoComesAtOnce}
-use Rattle.executor_laws.specs.AtRest.{EmptinessIsExact, TicksAreExact}
-use Rattle.executor_laws.specs.Reach.{IsInReach}
 use Rattle.executor_model.specs.AskedPolls.{IsWokenBetweenPolls}
 use Rattle.executor_model.specs.AwaiterKept.{AwaiterIsKept}
 use Rattle.executor_model.specs.DroppedOnce.{DropComesOnce, IsDroppedByTheEnd}
@@ -11,7 +8,11 @@ use Rattle.executor_model.specs.OutputKept.{OutputIsKept}
 use Rattle.executor_model.specs.OutputOnce.{OutputGoesOnce}
 use Rattle.executor_model.specs.SleepersAgree.{SleepersAgree}
 use Rattle.executor_model.specs.SleepersTold.{SleepersAreTold}
-use Rattle.sleeper_laws.specs.Standing.{SomeStandingIsCalled}
+use Rattle.runs_called.specs.Called.{KeeperIsCalled, SomeStandingIsCalled}
+use Rattle.runs_laws.specs.AtOnce.{NoComesAtOnce}
+use Rattle.runs_reach.specs.AtRest.{EmptinessIsExact, TicksAreExact}
+use Rattle.runs_reach.specs.Reach.{IsInReach}
+use Rattle.runs_reach.specs.RunReach.{IsKeptReached, IsReachedByRuns, LeavesCommon}
 use Rattle.simulator.proofs.play.keeps_to_laws.Goals as goal
 
 pub returns : goal.returns
@@ -31,6 +32,10 @@ returns c =
       kept = run_here OutputIsKept c.outputs_are_kept.ensures _ reached;
       sleepers = machine_law_here SleepersAgree c.sleepers_agree.ensures _ reached;
       told = machine_law_here SleepersAreTold c.sleepers_are_told.ensures _ reached;
-      called = law_here SomeStandingIsCalled c.some_standing_tick_is_called.ensures _ reached;
+      called = law_here SomeStandingIsCalled c.some_standing_is_called.ensures _ reached;
+      keepers = law_here KeeperIsCalled c.keepers_are_called.ensures _ reached;
       in_reach = machine_law_here IsInReach c.common_futures_are_in_reach.ensures _ reached;
+      by_runs = machine_law_here IsReachedByRuns c.runs_reach_futures.ensures _ reached;
+      kept_reached = machine_law_here IsKeptReached c.kept_futures_are_in_reach.ensures _ reached;
+      left = machine_law_here LeavesCommon c.dropped_runs_leave_common_futures.ensures _ reached;
     }

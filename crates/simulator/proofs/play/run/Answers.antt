@@ -4,7 +4,7 @@ use Rattle.std.proofs.Math.Seq.{drop-cons}
 use Rattle.std.proofs.lemmas.List.{drop_all}
 use Rattle.script.specs.declared.command.Command.{Command}
 use Rattle.simulator.specs.Play.{Player, start}
-use Rattle.simulator.specs.Commands.{Plays, PlaysAll}
+use Rattle.simulator.specs.Commands.{PlaysUnless, PlaysAll}
 use Rattle.simulator.specs.Lawful.{IsLawful}
 use Rattle.simulator.proofs.Keeping.{IsFair, fair}
 use Rattle.simulator.proofs.play.run.Goals as goal
@@ -16,7 +16,7 @@ from_here cs i c within is = ap (λ x. x ∷ drop (i + 1) cs) is ∙ sym (rw add
 
 -- the command at i is played, and then those behind it
 plays_on : (cs : List Command) (i : ℕ) (c : Command) (s next last : Player) → c ∷ drop (i + 1) cs ≡ drop i cs →
-    Plays i c s next → PlaysAll (i + 1) (drop (i + 1) cs) next last → PlaysAll i (drop i cs) s last
+    PlaysUnless s.stopped i c s next → PlaysAll (i + 1) (drop (i + 1) cs) next last → PlaysAll i (drop i cs) s last
 plays_on cs i c s next last here plays later =
     let P : ℕ → Type 0 = λ n. PlaysAll n (drop (i + 1) cs) next last in
     let Q : List Command → Type 0 = λ ds. PlaysAll i ds s last in
@@ -28,7 +28,8 @@ loop-at-preserved c = λ last later.
     let i = c.loop-at.at in
     let here = from_here cs i c.index-commands-at.result c.loop-at-test.true c.index-commands-at.is in
     c.loop-at.invariant last
-    (plays_on cs i c.index-commands-at.result c.loop-at.player c.play.new.self last here c.in_ok-play.ensures later)
+    (plays_on cs i c.index-commands-at.result c.loop-at.player c.play_unless_stopped.new.self last here
+    c.in_ok-play_unless_stopped.ensures later)
 
 -- no command is left
 played_all : (cs : List Command) (i : ℕ) (s : Player) → length cs ≤ i → PlaysAll i (drop i cs) s s
@@ -49,6 +50,7 @@ returns c =
         shown = comes.1;
         lawful = subst (λ (x : Player). IsLawful x.machine) c.player-2.view_is c.keeps_to_laws.ensures;
       },
+      search rules,
       search rules,
       search rules,
       search rules,

@@ -4,4 +4,4 @@ use Rattle.simulator.specs.Text.{moments_text}
 use Rattle.simulator.proofs.print.text_of.Given as goal
 
 abbrev pub invariant-loop-moment : goal.invariant-loop-moment
-invariant-loop-moment l = l.text.items ≡ moments_text l.names l.ticks (take l.moment-index l.moments)
+invariant-loop-moment l = l.text.items ≡ moments_text l.names l.ticks l.runs (take l.moment-index l.moments)

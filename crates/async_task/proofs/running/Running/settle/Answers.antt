@@ -1,4 +1,4 @@
-use Rattle.std.proofs.Common.{refl, sym, subst, ◌≡◌, ◌∙◌}
+use Rattle.std.proofs.Common.{refl, sym, subst, ap, ◌≡◌, ◌∙◌}
 use Rattle.std.specs.Prelude.{IfSome, is_ok, not, is_some}
 use Rattle.task_moves.specs.Moves as moves
 use Rattle.task_word.specs.Tokens.{ShowsSeat}
@@ -18,3 +18,4 @@ returns-in-Some-future g c =
     (at_err _ (λ closed. ShowsSeat c.give_back.result.cell.now.board.shared moves.end_pending c.pend-left.result.0 closed.pass) _ _
     c.in-Err.is c.pend-left.ensures.made))
     (comes_next _ (subst (λ left. is_ok left ≡ not (is_some c.pend-left.result.0.next)) c.in-Err.is c.pend-left.ensures.ends))
+    (sym c.pend-left.ensures.future ∙ ap is_some c.in-Some-future.is)

@@ -1,0 +1,25 @@
+use Rattle.std.proofs.Common.{List, [], ◌∷◌, ◌++◌, ap, ◌∙◌}
+use Rattle.std.specs.Prelude.{reverse}
+use Rattle.executor_model.specs.declared.op.Op.{Op}
+use Rattle.executor_model.specs.declared.op.Op.TheVariants as op
+use Rattle.executor_model.specs.declared.op.Sleeper.TheVariants as sleeper
+use Rattle.executor_model.specs.declared.op.SleeperOp.TheVariants as sleeper_op
+use Rattle.executor_model.specs.World.{run_of}
+use Rattle.executor_core.specs.Rising.{counted, rises}
+use Rattle.executor_core.specs.Views.{world_of}
+use Rattle.executor_core.proofs.Finding.{found-next}
+use Rattle.executor_core.proofs.found.push_found.Goals as goal
+
+pub returns-clause-does : goal.returns-clause-does
+returns-clause-does c =
+    let w = world_of c.args.store.now in
+    let x = c.args.x in
+    let d = c.push_counted.ensures.does in
+    record {
+      world = d.world;
+      next = c.push_rises.ensures.items ∙ (ap (λ (l : List Op). l ++ reverse (rises c.lies-lies.result (sleeper.Run x.run)))
+          (c.push_reserved.ensures.items ∙ ap (λ (l : List Op). l ++ op.Sleeper sleeper_op.ExchangeFlag ∷ []) d.next)
+          ∙ found-next c.args.todo.now.items (counted w x c.args.f).next (op.Sleeper sleeper_op.ExchangeFlag ∷ [])
+          (run_of w x.run).place (sleeper.Run x.run) c.lies-lies.result c.lies-lies.ensures);
+      room = d.room;
+    }

@@ -1,8 +1,0 @@
-use Rattle.executor_laws.proofs.Begun.{ticks-are-exact, emptiness-is-exact}
-use Rattle.executor_laws.proofs.laws.calls_at_rest_are_exact.Goals as goal
-
-pub returns-clause-ticks : goal.returns-clause-ticks
-returns-clause-ticks c limit parties steps p = ticks-are-exact limit parties steps p
-
-pub returns-clause-emptiness : goal.returns-clause-emptiness
-returns-clause-emptiness c limit parties steps p = emptiness-is-exact limit parties steps p

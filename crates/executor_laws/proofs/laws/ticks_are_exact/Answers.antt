@@ -1,5 +1,0 @@
-use Rattle.executor_laws.proofs.Ticking.{ticks-exact}
-use Rattle.executor_laws.proofs.laws.ticks_are_exact.Goals as goal
-
-pub returns : goal.returns
-returns c = ticks-exact

@@ -1,5 +1,0 @@
-use Rattle.executor_laws.proofs.Growing.{continues}
-use Rattle.executor_laws.proofs.laws.traces_continue.Goals as goal
-
-pub returns : goal.returns
-returns c = continues

@@ -1,9 +1,0 @@
-pub mod Remaining
-pub mod Ticks
-pub mod Reach
-pub mod LoneAnswers
-pub mod LoneEnds
-pub mod Queueings
-pub mod Continued
-pub mod AtRest
-pub mod AtOnce

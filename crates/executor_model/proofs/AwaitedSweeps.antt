@@ -1,0 +1,384 @@
+-- What the steps of the executor's drop look at, and how most of what is done leaves it as it was.
+use Rattle.std.proofs.Common.{◌≡◌, ◌⊎◌, ℕ, ◌+◌, ◌<◌, ◌≤◌, List, [], ◌∷◌, ◌++◌, length, drop}
+use Rattle.std.proofs.Common.{Bool, true, false, not, refl, sym, ap, ◌∙◌, subst, arith}
+use Rattle.std.specs.Prelude.{Option, Some, None}
+use Rattle.queue_steps.specs.ClosableQueue.{ClosableQueue}
+use Rattle.task_moves.specs.declared.moves.owed.Answer.{Answer}
+use Rattle.task_moves.specs.declared.moves.owed.Moved.{Moved}
+use Rattle.task_moves.specs.Moves as moves
+use Rattle.executor_model.specs.declared.call.Reply.TheVariants as reply
+use Rattle.executor_model.specs.declared.event.Event.{Event}
+use Rattle.executor_model.specs.declared.event.Event.TheVariants as event
+use Rattle.executor_model.specs.declared.op.Waker.{Waker}
+use Rattle.executor_model.specs.declared.op.Waker.TheVariants.{Task, Outside}
+use Rattle.executor_model.specs.declared.op.Hold.{Hold}
+use Rattle.executor_model.specs.declared.op.Hold.TheVariants as hold
+use Rattle.executor_model.specs.declared.op.Polled.TheVariants as of
+use Rattle.executor_model.specs.declared.op.Op.{Op}
+use Rattle.executor_model.specs.declared.op.ListOp.{ListOp}
+use Rattle.executor_model.specs.declared.op.RunPoll.{RunPoll}
+use Rattle.executor_model.specs.declared.op.Steal.{Steal}
+use Rattle.executor_model.specs.declared.op.StealOp.TheVariants as steal_op
+use Rattle.executor_model.specs.declared.op.SleeperOp.TheVariants as sleeper_op
+use Rattle.executor_model.specs.declared.op.TickOp.TheVariants as tick_op
+use Rattle.executor_model.specs.declared.op.Op.TheVariants as op
+use Rattle.executor_model.specs.declared.op.ClosingOp.TheVariants as closing_op
+use Rattle.executor_model.specs.declared.op.HandleOp.TheVariants as handle_op
+use Rattle.task_moves.specs.declared.moves.owed.Move.TheVariants as move
+use Rattle.executor_model.specs.declared.op.QueueOp.TheVariants as queue_op
+use Rattle.executor_model.specs.declared.op.TableOp.TheVariants as table_op
+use Rattle.executor_model.specs.declared.op.UserOp.TheVariants as user_op
+use Rattle.executor_model.specs.declared.op.WakerOp.TheVariants as waker_op
+use Rattle.executor_model.specs.declared.step.Hint.{Hint}
+use Rattle.executor_model.specs.World.{World, Done, done, log, log_if, task}
+use Rattle.executor_model.specs.Carried.{awaiter_ops}
+use Rattle.executor_model.specs.Acts.{enter_by, leave_by, copy_by, look_by}
+use Rattle.executor_model.specs.Acts.{look_again_by, copy_awaiter_by, register_by, end_register_by, notify_by}
+use Rattle.executor_model.specs.Acts.{call_awaiter}
+use Rattle.executor_model.specs.ActsOfRuns.{call_by_reference, kept_by, wake_own}
+use Rattle.executor_model.specs.Doing.{act, list_act}
+use Rattle.executor_model.specs.Weights.{weigh, weigh_all}
+use Rattle.executor_model.specs.Rows.{Row, ousting_of}
+use Rattle.executor_model.specs.Steps.{run, mine}
+use Rattle.executor_model.proofs.RunsMoves.{Moves}
+use Rattle.executor_model.proofs.RunsPlain.{plain-list, plain-run, plain-steal}
+use Rattle.executor_model.proofs.RunsQueue.{queue-list}
+use Rattle.executor_model.proofs.RunsWays.{AllOfRuns, by-list}
+use Rattle.executor_model.proofs.SleepersWorlds.{Rest, sleeper-rest, tick-rest}
+use Rattle.executor_model.proofs.AwaitedLists.{rough_of, plain-act, is_special}
+
+-- what the drop of the executor looks at
+pub record Lists : Type 0 where
+  pub gone : Bool
+  pub leaving : ℕ
+  pub waking : ℕ
+  pub closed : Bool
+  pub items : ℕ
+
+abbrev pub lists : World → Lists
+lists w = record {
+  gone = w.gone;
+  leaving = length w.leaving;
+  waking = length w.waking;
+  closed = w.queue.closed;
+  items = length w.queue.items;
+}
+
+abbrev pub dropping_of : Op → ℕ
+dropping_of (op.Closing closing_op.DropNext) = 1
+dropping_of _ = 0
+
+abbrev pub rousing_of : Op → ℕ
+rousing_of (op.Closing closing_op.WakeNext) = 1
+rousing_of _ = 0
+
+abbrev pub shutting_of : Op → ℕ
+shutting_of (op.Closing closing_op.Close) = 1
+shutting_of _ = 0
+
+abbrev pub draining_of : Op → ℕ
+draining_of (op.Closing closing_op.Drain) = 1
+draining_of _ = 0
+
+-- the steps that are left of it
+pub record Sweep : Type 0 where
+  pub outs : ℕ
+  pub drops : ℕ
+  pub wakes : ℕ
+  pub shuts : ℕ
+  pub drains : ℕ
+
+abbrev pub with_sweep : List Op → Sweep → Sweep
+with_sweep os r = record {
+  outs = weigh ousting_of os + r.outs;
+  drops = weigh dropping_of os + r.drops;
+  wakes = weigh rousing_of os + r.wakes;
+  shuts = weigh shutting_of os + r.shuts;
+  drains = weigh draining_of os + r.drains;
+}
+
+abbrev pub sweep : List (List Op) → Sweep
+sweep ss = record {
+  outs = weigh_all ousting_of ss;
+  drops = weigh_all dropping_of ss;
+  wakes = weigh_all rousing_of ss;
+  shuts = weigh_all shutting_of ss;
+  drains = weigh_all draining_of ss;
+}
+
+-- there is one such step at a time, and it does what is left to do
+pub record Sweeps (v : Lists) (x : Sweep) : Type 0 where
+  pub one : x.outs + (x.drops + (x.wakes + (x.shuts + x.drains))) ≤ 1
+  pub there : v.gone ≡ false → x.outs + (x.drops + (x.wakes + (x.shuts + x.drains))) ≡ 0
+  pub leaves : 1 ≤ x.drops → 1 ≤ v.leaving
+  pub wakes : 1 ≤ x.wakes → 1 ≤ v.waking
+  pub awake : v.gone ≡ true → (1 ≤ x.outs + (x.drops + x.wakes)) ⊎ (v.waking ≡ 0)
+  pub shut : v.gone ≡ true → (1 ≤ x.outs + (x.drops + (x.wakes + x.shuts))) ⊎ (v.closed ≡ true)
+  pub drained : v.gone ≡ true → (1 ≤ x.outs + (x.drops + (x.wakes + (x.shuts + x.drains)))) ⊎ (v.items ≡ 0)
+
+abbrev pub KeepsSweeps : World → List Op → Done → Type 0
+KeepsSweeps w old d = (r : Sweep) → Sweeps (lists w) (with_sweep old r) → Sweeps (lists d.world) (with_sweep d.next r)
+
+rough-more : (o : Op) → ousting_of o + (dropping_of o + (rousing_of o + (shutting_of o + draining_of o))) ≤ rough_of o
+rough-more (op.Closing closing_op.TakeOut) = omega arith
+rough-more (op.Closing closing_op.DropNext) = omega arith
+rough-more (op.Closing closing_op.WakeNext) = omega arith
+rough-more (op.Closing closing_op.Close) = omega arith
+rough-more (op.Closing closing_op.Drain) = omega arith
+rough-more (op.Handle (handle_op.Notify f true)) = omega arith
+rough-more (op.Handle (handle_op.Notify f false)) = omega arith
+rough-more (op.Handle (handle_op.EndNotify f mine)) = omega arith
+rough-more (op.Move move.Wake f) = omega arith
+rough-more (op.Table table_op.Enter) = omega arith
+rough-more (op.Queue queue_op.Take) = omega arith
+rough-more (op.User (user_op.Drop f)) = omega arith
+rough-more (op.Waker (waker_op.CopyWaker f held)) = omega arith
+rough-more (op.Sleeper sleeper_op.HandOut) = omega arith
+rough-more (op.Tick tick_op.MakeTick) = omega arith
+rough-more (op.List o) = omega (arith, ap (λ (x : Row). x.ousting) (plain-list o))
+rough-more (op.Steal o) = omega (arith, ap (λ (x : Row). x.ousting) (plain-steal o))
+rough-more (op.Run o) = omega (arith, ap (λ (x : Row). x.ousting) (plain-run o))
+rough-more _ = omega arith
+
+rough-weighs : (os : List Op) →
+    weigh ousting_of os + (weigh dropping_of os + (weigh rousing_of os + (weigh shutting_of os + weigh draining_of os)))
+    ≤ weigh rough_of os
+rough-weighs [] = omega arith
+rough-weighs (o ∷ os) = omega (arith, rough-more o, rough-weighs os)
+
+-- none of its steps is there
+abbrev pub NoSteps : List Op → Type 0
+NoSteps os = weigh ousting_of os
+    + (weigh dropping_of os + (weigh rousing_of os + (weigh shutting_of os + weigh draining_of os))) ≡ 0
+
+pub no-steps : (os : List Op) → weigh rough_of os ≡ 0 → NoSteps os
+no-steps os z = omega (arith, rough-weighs os, z)
+
+pub with-none : (os : List Op) (r : Sweep) → NoSteps os → with_sweep os r ≡ r
+with-none os r z = λ i. record {
+  outs = (let q : weigh ousting_of os + r.outs ≡ r.outs = omega (arith, z) in q) i;
+  drops = (let q : weigh dropping_of os + r.drops ≡ r.drops = omega (arith, z) in q) i;
+  wakes = (let q : weigh rousing_of os + r.wakes ≡ r.wakes = omega (arith, z) in q) i;
+  shuts = (let q : weigh shutting_of os + r.shuts ≡ r.shuts = omega (arith, z) in q) i;
+  drains = (let q : weigh draining_of os + r.drains ≡ r.drains = omega (arith, z) in q) i;
+}
+
+pub sweeps-still : (w : World) (old : List Op) (d : Done) → lists w ≡ lists d.world → NoSteps old → NoSteps d.next →
+    KeepsSweeps w old d
+sweeps-still w old d e a b r h =
+    subst (λ (v : Lists). Sweeps v (with_sweep d.next r)) e
+    (subst (Sweeps (lists w)) (with-none old r a ∙ sym (with-none d.next r b)) h)
+
+-- most of what is done
+
+pub same-log_if : (b : Bool) (w : World) (e : Event) → lists w ≡ lists (log_if b w e)
+same-log_if true w e = refl
+same-log_if false w e = refl
+
+same-enter : (b c : Bool) (p : ℕ) (w : World) → lists w ≡ lists (enter_by b c p w).world
+same-enter true c p w = refl
+same-enter false true p w = refl
+same-enter false false p w = refl
+
+same-leave : (b : Bool) (w : World) (f : ℕ) → lists w ≡ lists (leave_by b w f).world
+same-leave true w f = refl
+same-leave false w f = refl
+
+same-copy : (b : Bool) (w : World) (f : ℕ) (held : Hold) → lists w ≡ lists (copy_by b w f held).world
+same-copy true w f held = refl
+same-copy false w f held = refl
+
+same-look : (o : Option Answer) (p : ℕ) (w : World) (f : ℕ) (a : Waker) (m : Moved) →
+    lists w ≡ lists (look_by o p w f a m).world
+same-look None p w f a m = refl
+same-look (Some x) p w f a m = same-log_if _ _ (event.OutputGiven p f)
+
+same-again : (o : Option Answer) (p : ℕ) (w : World) (f : ℕ) (m : Moved) →
+    lists w ≡ lists (look_again_by o p w f m).world
+same-again None p w f m = refl
+same-again (Some x) p w f m = same-log_if _ _ (event.OutputGiven p f)
+
+same-copy_awaiter : (b : Bool) (p : ℕ) (w : World) (f : ℕ) (a : Waker) →
+    lists w ≡ lists (copy_awaiter_by b p w f a).world
+same-copy_awaiter true p w f a = refl
+same-copy_awaiter false p w f (Task k) = refl
+same-copy_awaiter false p w f (Outside x) = refl
+
+same-register : (b : Bool) (w : World) (f : ℕ) (a : Waker) (k : ℕ) → lists w ≡ lists (register_by b w f a k).world
+same-register true w f a k = refl
+same-register false w f a k = refl
+
+same-end_register : (b : Bool) (w : World) (f : ℕ) (a : Waker) (k : ℕ) →
+    lists w ≡ lists (end_register_by b w f a k).world
+same-end_register true w f a k = refl
+same-end_register false w f a k = refl
+
+same-notify : (b : Bool) (w : World) (f : ℕ) (mine : Bool) → lists w ≡ lists (notify_by b w f mine).world
+same-notify true w f mine = refl
+same-notify false w f mine = refl
+
+same-call : (p : ℕ) (w : World) (f : ℕ) (a : Waker) (k : ℕ) → lists w ≡ lists (call_awaiter p w f a k).world
+same-call p w f (Task g) k = same-log_if _ (log w (event.WakerCalled p (of.Handle f) k (Task g))) (event.Woken p g)
+same-call p w f (Outside x) k = refl
+
+abbrev lists_in : Rest → Lists
+lists_in r = record {
+  gone = r.gone;
+  leaving = length r.leaving;
+  waking = length r.waking;
+  closed = r.queue.closed;
+  items = length r.queue.items;
+}
+
+-- what a run does keeps whether the executor is gone, and the two lists
+pub record Kept (w : World) (old : List Op) (d : Done) : Type 0 where
+  pub gone : d.world.gone ≡ w.gone
+  pub leaving : d.world.leaving ≡ w.leaving
+  pub waking : d.world.waking ≡ w.waking
+
+pub kept-moves : (w : World) (old : List Op) (d : Done) → AllOfRuns old → AllOfRuns d.next → Moves w old d → Kept w old d
+kept-moves w old d a n m = record { gone = m.same.gone; leaving = m.same.leaving; waking = m.same.waking }
+
+pub kept-put : (p : ℕ) (w : World) (s : Steal) (more f : ℕ) (d : Done) → s.poll.run < length w.own →
+    Kept (kept_by p w s.poll.run f) (op.Steal (steal_op.OwnLength s 0) ∷ []) d →
+    Kept w (op.Steal (steal_op.Put s more f) ∷ []) d
+kept-put p w s more f d i k = record { gone = k.gone; leaving = k.leaving; waking = k.waking }
+
+kept-log_if : (b : Bool) (w : World) (e : Event) (old next : List Op) → Kept w old (done (log_if b w e) next)
+kept-log_if true w e old next = record { gone = refl; leaving = refl; waking = refl }
+kept-log_if false w e old next = record { gone = refl; leaving = refl; waking = refl }
+
+kept-by_waker : (p : ℕ) (a : Waker) (w : World) (old : List Op) → Kept w old (call_by_reference p w a)
+kept-by_waker p (Task f) w old =
+    let k = kept-log_if (not (moves.is_over (task w f))) w (event.Woken p f) old [] in
+    record { gone = k.gone; leaving = k.leaving; waking = k.waking }
+kept-by_waker p (Outside y) w old = record { gone = refl; leaving = refl; waking = refl }
+
+pub kept-own : (p : ℕ) (w : World) (x : RunPoll) (old : List Op) → Kept w old (wake_own p w x)
+kept-own p w x old =
+    let k = kept-by_waker p x.waker (log w (event.WakerCalled p (of.Run x.run) x.poll x.waker)) old in
+    record { gone = k.gone; leaving = k.leaving; waking = k.waking }
+
+kept-list : (h : Hint) (o : ListOp) (w : World) → Kept w (op.List o ∷ []) (list_act h o w)
+kept-list h o w = by-list Kept kept-moves kept-put h o w
+
+same-lists : (w : World) (old : List Op) (d : Done) → Kept w old d → d.world.queue ≡ w.queue → lists w ≡ lists d.world
+same-lists w old d k q = λ i. record {
+  gone = sym k.gone i;
+  leaving = (let e : length w.leaving ≡ length d.world.leaving = ap length (sym k.leaving) in e) i;
+  waking = (let e : length w.waking ≡ length d.world.waking = ap length (sym k.waking) in e) i;
+  closed = (let e : w.queue.closed ≡ d.world.queue.closed = ap (λ (x : ClosableQueue ℕ). x.closed) (sym q) in e) i;
+  items =
+      (let e : length w.queue.items ≡ length d.world.queue.items =
+      ap (λ (x : ClosableQueue ℕ). length x.items) (sym q) in e) i;
+}
+
+-- the queue, the two lists and their steps
+abbrev pub is_sweeping : Op → Bool
+is_sweeping (op.Queue queue_op.Take) = true
+is_sweeping (op.Queue (queue_op.Append f)) = true
+is_sweeping (op.Tick (tick_op.Search s)) = true
+is_sweeping (op.Steal o) = true
+is_sweeping (op.Run o) = true
+is_sweeping (op.Closing closing_op.TakeOut) = true
+is_sweeping (op.Closing closing_op.DropNext) = true
+is_sweeping (op.Closing closing_op.WakeNext) = true
+is_sweeping (op.Closing closing_op.Close) = true
+is_sweeping (op.Closing closing_op.Drain) = true
+is_sweeping _ = false
+
+pub same-act : (p : ℕ) (h : Hint) (o : Op) (w : World) → is_sweeping o ≡ false → lists w ≡ lists (act p h o w).world
+same-act p h (op.Table table_op.Enter) w n = same-enter _ _ p w
+same-act p h (op.Move move.WakeByReference f) w n = same-log_if _ w (event.Woken p f)
+same-act p h (op.Move move.Wake f) w n = same-log_if _ w (event.Woken p f)
+same-act p h (op.Move move.TakeUp f) w n = same-log_if _ w (event.PollBegun p f)
+same-act p h (op.Move move.Cancel f) w n = same-log_if _ w (event.Cancelled p f)
+same-act p h (op.Move move.Detach f) w n = same-log_if _ w (event.Detached p f)
+same-act p h (op.Table (table_op.LeaveTable f)) w n = same-leave _ w f
+same-act p h (op.Waker (waker_op.CopyWaker f held)) w n = same-copy _ w f held
+same-act p h (op.Handle (handle_op.Look f a)) w n =
+    same-look (moves.poll (task w f)).owed.answer p w f a (moves.poll (task w f))
+same-act p h (op.Handle (handle_op.CopyAwaiter f a)) w n = same-copy_awaiter _ p w f a
+same-act p h (op.Handle (handle_op.Register f a k)) w n = same-register _ w f a k
+same-act p h (op.Handle (handle_op.EndRegister f a k)) w n = same-end_register _ w f a k
+same-act p h (op.Handle (handle_op.LookAgain f)) w n =
+    same-again (moves.look_again (task w f)).owed.answer p w f (moves.look_again (task w f))
+same-act p h (op.Handle (handle_op.Notify f mine)) w n = same-notify _ w f mine
+same-act p h (op.Waker (waker_op.CallAwaiter f a k)) w n = same-call p w f a k
+same-act p h (op.Sleeper o) w n = ap lists_in (sleeper-rest p o w)
+same-act p h (op.Tick tick_op.MakeTick) w n = ap lists_in (tick-rest h tick_op.MakeTick w refl)
+same-act p h (op.Tick (tick_op.Search s)) w n = absurd (cc)
+same-act p h (op.Tick (tick_op.CopyWaker s)) w n = ap lists_in (tick-rest h (tick_op.CopyWaker s) w refl)
+same-act p h (op.Tick (tick_op.LieDown s)) w n = ap lists_in (tick-rest h (tick_op.LieDown s) w refl)
+same-act p h (op.Tick (tick_op.GetUp t)) w n = ap lists_in (tick-rest h (tick_op.GetUp t) w refl)
+same-act p h (op.Tick (tick_op.Leave t)) w n = ap lists_in (tick-rest h (tick_op.Leave t) w refl)
+same-act p h (op.List o) w n = same-lists w (op.List o ∷ []) (list_act h o w) (kept-list h o w) (queue-list h o w)
+same-act p h (op.Steal o) w n = absurd (cc)
+same-act p h (op.Run o) w n = absurd (cc)
+same-act p h (op.Queue queue_op.Take) w n = absurd (cc)
+same-act p h (op.Queue (queue_op.Append f)) w n = absurd (cc)
+same-act p h (op.Closing closing_op.TakeOut) w n = absurd (cc)
+same-act p h (op.Closing closing_op.DropNext) w n = absurd (cc)
+same-act p h (op.Closing closing_op.WakeNext) w n = absurd (cc)
+same-act p h (op.Closing closing_op.Close) w n = absurd (cc)
+same-act p h (op.Closing closing_op.Drain) w n = absurd (cc)
+same-act p h (op.User (user_op.BeginDrop f)) w n = refl
+same-act p h _ w n = refl
+
+-- what a poll of the handle leads to
+
+no-look : (x k c : Bool) (p : ℕ) (w : World) (f : ℕ) (a : Waker) →
+    NoSteps (look_by (moves.poll_by x k c (task w f)).owed.answer p w f a (moves.poll_by x k c (task w f))).next
+no-look true true c p w f a = refl
+no-look true false c p w f a = refl
+no-look false k false p w f a = refl
+no-look false k true p w f a = no-given (task w f).awaiter f
+  where
+    no-given : (b : Bool) (f : ℕ) →
+        NoSteps (awaiter_ops f (moves.notify_other_if b) ++ op.End reply.Ready (hold.Handle f) ∷ [])
+    no-given true f = refl
+    no-given false f = refl
+
+no-again : (x k c : Bool) (p : ℕ) (w : World) (f : ℕ) →
+    NoSteps (look_again_by (moves.look_again_by x k c (task w f)).owed.answer p w f
+    (moves.look_again_by x k c (task w f))).next
+no-again true true c p w f = refl
+no-again true false c p w f = refl
+no-again false k false p w f = refl
+no-again false k true p w f = no-given (task w f).awaiter f
+  where
+    no-given : (b : Bool) (f : ℕ) →
+        NoSteps (awaiter_ops f (moves.notify_other_if b) ++ op.End reply.Ready (hold.Handle f) ∷ [])
+    no-given true f = refl
+    no-given false f = refl
+
+no-notify : (b : Bool) (w : World) (f : ℕ) (mine : Bool) → NoSteps (notify_by b w f mine).next
+no-notify true w f mine = refl
+no-notify false w f mine = refl
+
+pub no-self : (o : Op) → is_sweeping o ≡ false → NoSteps (o ∷ [])
+no-self (op.Closing closing_op.TakeOut) n = absurd (cc)
+no-self (op.Closing closing_op.DropNext) n = absurd (cc)
+no-self (op.Closing closing_op.WakeNext) n = absurd (cc)
+no-self (op.Closing closing_op.Close) n = absurd (cc)
+no-self (op.Closing closing_op.Drain) n = absurd (cc)
+no-self (op.List o) n = omega (arith, ap (λ (x : Row). x.ousting) (plain-list o))
+no-self (op.Steal o) n = absurd (cc)
+no-self (op.Run o) n = absurd (cc)
+no-self (op.Move move.Wake f) n = refl
+no-self (op.Table table_op.Enter) n = refl
+no-self (op.Queue queue_op.Take) n = refl
+no-self (op.User (user_op.Drop f)) n = refl
+no-self (op.Waker (waker_op.CopyWaker f held)) n = refl
+no-self (op.Handle (handle_op.LookAgain f)) n = refl
+no-self (op.Sleeper sleeper_op.HandOut) n = refl
+no-self (op.Tick tick_op.MakeTick) n = refl
+no-self _ n = refl
+
+pub no-act : (p : ℕ) (h : Hint) (o : Op) (w : World) (b : Bool) → is_special o ≡ b → is_sweeping o ≡ false →
+    NoSteps (act p h o w).next
+no-act p h o w false s n = no-steps _ (plain-act p h o w s)
+no-act p h (op.Handle (handle_op.Look f a)) w true s n = no-look _ _ _ p w f a
+no-act p h (op.Handle (handle_op.LookAgain f)) w true s n = no-again _ _ _ p w f
+no-act p h (op.Handle (handle_op.Notify f mine)) w true s n = no-notify _ w f mine
+no-act p h _ w true s n = absurd (cc)

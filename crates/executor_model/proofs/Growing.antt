@@ -1,0 +1,164 @@
+-- What is still to do, but for what one party does, and that numbers go on to fit where more futures are there.
+use Rattle.std.proofs.Common.{◌≡◌, ℕ, ◌+◌, ◌<◌, ◌≤◌, List, [], ◌∷◌, ◌++◌, length, set}
+use Rattle.std.proofs.Common.{get_or, refl, ap}
+use Rattle.std.proofs.Common.{arith}
+use Rattle.std.specs.Prelude.{reverse}
+use Rattle.executor_model.specs.declared.op.Waker.{Waker}
+use Rattle.executor_model.specs.declared.op.Op.{Op}
+use Rattle.executor_model.specs.declared.op.Op.TheVariants as op
+use Rattle.executor_model.specs.declared.op.ClosingOp.TheVariants as closing_op
+use Rattle.executor_model.specs.declared.op.HandleOp.TheVariants as handle_op
+use Rattle.executor_model.specs.declared.op.ListOp.{ListOp}
+use Rattle.executor_model.specs.declared.op.ListOp.TheVariants as list_op
+use Rattle.executor_model.specs.declared.op.QueueOp.TheVariants as queue_op
+use Rattle.executor_model.specs.declared.op.RunOp.{RunOp}
+use Rattle.executor_model.specs.declared.op.RunOp.TheVariants as run_op
+use Rattle.executor_model.specs.declared.op.Section.{Section}
+use Rattle.executor_model.specs.declared.op.Section.TheVariants as section
+use Rattle.executor_model.specs.declared.op.SleeperOp.TheVariants as sleeper_op
+use Rattle.executor_model.specs.declared.op.Steal.{Steal}
+use Rattle.executor_model.specs.declared.op.StealOp.{StealOp}
+use Rattle.executor_model.specs.declared.op.StealOp.TheVariants as steal_op
+use Rattle.executor_model.specs.declared.op.TableOp.TheVariants as table_op
+use Rattle.executor_model.specs.declared.op.Then.{Then}
+use Rattle.executor_model.specs.declared.op.Then.TheVariants as then
+use Rattle.executor_model.specs.declared.op.TickOp.TheVariants as tick_op
+use Rattle.executor_model.specs.declared.op.UserOp.TheVariants as user_op
+use Rattle.executor_model.specs.declared.op.WakerOp.TheVariants as waker_op
+use Rattle.executor_model.specs.World.{World, Done}
+use Rattle.executor_model.specs.Weights.{weigh, weigh_all, past, waker_past}
+use Rattle.executor_model.specs.Sound.{Sound, pend, with_ops}
+use Rattle.executor_model.specs.Rows.{borrowing_of, waiting_of, polls_of, ending_of, ready_of, closing_of, settling_of}
+use Rattle.executor_model.specs.Rows.{giving_of, drops_of, releases_of, copies_of, ousting_of, past_of}
+use Rattle.executor_model.specs.Rows.{then_past}
+use Rattle.executor_model.specs.Steps.{mine}
+use Rattle.executor_model.proofs.Lists.{past-more, waker_past-more}
+use Rattle.executor_model.proofs.Lists.{weigh-append, weigh-reverse, weigh_all-set}
+use Rattle.executor_model.proofs.Lists.{weigh_all-push}
+
+-- what is still to do, but for what p does now, and after it
+pub split : (v : Op → ℕ) (ss : List (List Op)) (p : ℕ) (old rest : List Op) → p < length ss →
+    get_or ss p [] ≡ rest ++ reverse old → weigh_all v ss ≡ weigh v old + weigh_all v (set ss p rest)
+split v ss p old rest h e =
+    omega (arith, weigh_all-set v ss p rest h, ap (weigh v) e, weigh-append v rest (reverse old), weigh-reverse v old)
+
+pub split-pend : (g : ℕ) (ss : List (List Op)) (p : ℕ) (old rest : List Op) → p < length ss →
+    get_or ss p [] ≡ rest ++ reverse old → pend g ss ≡ with_ops g old (pend g (set ss p rest))
+split-pend g ss p old rest h e = λ i. record {
+  waiting = split (waiting_of g) ss p old rest h e i;
+  polls = split (polls_of g) ss p old rest h e i;
+  ending = split (ending_of g) ss p old rest h e i;
+  ready = split (ready_of g) ss p old rest h e i;
+  closing = split (closing_of g) ss p old rest h e i;
+  settling = split (settling_of g) ss p old rest h e i;
+  giving = split (giving_of g) ss p old rest h e i;
+  drops = split (drops_of g) ss p old rest h e i;
+  releases = split (releases_of g) ss p old rest h e i;
+  copies = split (copies_of g) ss p old rest h e i;
+  borrowing = split borrowing_of ss p old rest h e i;
+  ousting = split ousting_of ss p old rest h e i;
+}
+
+pub push-pend : (g : ℕ) (ss : List (List Op)) (p : ℕ) (rest next : List Op) → p < length ss →
+    pend g (set ss p (rest ++ reverse next)) ≡ with_ops g next (pend g (set ss p rest))
+push-pend g ss p rest next h = λ i. record {
+  waiting = weigh_all-push (waiting_of g) ss p rest next h i;
+  polls = weigh_all-push (polls_of g) ss p rest next h i;
+  ending = weigh_all-push (ending_of g) ss p rest next h i;
+  ready = weigh_all-push (ready_of g) ss p rest next h i;
+  closing = weigh_all-push (closing_of g) ss p rest next h i;
+  settling = weigh_all-push (settling_of g) ss p rest next h i;
+  giving = weigh_all-push (giving_of g) ss p rest next h i;
+  drops = weigh_all-push (drops_of g) ss p rest next h i;
+  releases = weigh_all-push (releases_of g) ss p rest next h i;
+  copies = weigh_all-push (copies_of g) ss p rest next h i;
+  borrowing = weigh_all-push borrowing_of ss p rest next h i;
+  ousting = weigh_all-push ousting_of ss p rest next h i;
+}
+
+-- more futures are there, so what fits goes on to fit
+module _ (n m : ℕ) (h : n ≤ m) where
+  more-one : (f : ℕ) → past n f ≡ 0 → past m f ≡ 0
+  more-one f z = past-more n m f h z
+
+  more-two : (f : ℕ) (a : Waker) → past n f + waker_past n a ≡ 0 → past m f + waker_past m a ≡ 0
+  more-two f a z = omega (arith, past-more n m f h (omega (arith, z)), waker_past-more n m a h (omega (arith, z)))
+
+  more-section : (s : Section) → past_of n (op.List (list_op.Write s)) ≡ 0 → past_of m (op.List (list_op.Write s)) ≡ 0
+  more-section section.MakeRun z = refl
+  more-section (section.Register x) z = waker_past-more n m x.waker h z
+  more-section (section.Unregister r a) z = refl
+
+  more-list : (o : ListOp) → past_of n (op.List o) ≡ 0 → past_of m (op.List o) ≡ 0
+  more-list (list_op.LockWrite s) z = more-section s z
+  more-list (list_op.Write s) z = more-section s z
+  more-list list_op.UnlockWrite z = refl
+  more-list (list_op.LockRead x) z = waker_past-more n m x.waker h z
+  more-list list_op.UnlockRead z = refl
+
+  more-then : (t : Then) → then_past n t ≡ 0 → then_past m t ≡ 0
+  more-then (then.Found f) z = more-one f z
+  more-then (then.Run f) z = more-one f z
+  more-then (then.Walk at left) z = refl
+
+  more-stealing : (s : Steal) → waker_past n s.poll.waker + then_past n s.then ≡ 0 →
+      waker_past m s.poll.waker + then_past m s.then ≡ 0
+  more-stealing s z =
+      omega (arith, waker_past-more n m s.poll.waker h (omega (arith, z)), more-then s.then (omega (arith, z)))
+
+  more-steal : (o : StealOp) → past_of n (op.Steal o) ≡ 0 → past_of m (op.Steal o) ≡ 0
+  more-steal (steal_op.Length s) z = more-stealing s z
+  more-steal (steal_op.OwnLength s k) z = more-stealing s z
+  more-steal (steal_op.Take s left) z = more-stealing s z
+  more-steal (steal_op.Put s left f) z =
+      omega (arith, more-one f (omega (arith, z)), more-stealing s (omega (arith, z)))
+
+  more-run : (o : RunOp) → past_of n (op.Run o) ≡ 0 → past_of m (op.Run o) ≡ 0
+  more-run run_op.MakeRoom z = refl
+  more-run run_op.ReturnRoom z = refl
+  more-run (run_op.SearchCommon x) z = waker_past-more n m x.waker h z
+  more-run (run_op.LookOwn x at left) z = waker_past-more n m x.waker h z
+  more-run (run_op.WakeOwn x) z = waker_past-more n m x.waker h z
+  more-run (run_op.Reschedule r a) z = refl
+
+  more : (o : Op) → past_of n o ≡ 0 → past_of m o ≡ 0
+  more (op.Queue (queue_op.Append f)) z = more-one f z
+  more (op.Move m f) z = more-one f z
+  more (op.Table (table_op.TakeToPoll f)) z = more-one f z
+  more (op.User (user_op.Poll f)) z = more-one f z
+  more (op.Table (table_op.PutBack f)) z = more-one f z
+  more (op.Table (table_op.TakeToDrop f)) z = more-one f z
+  more (op.User (user_op.BeginDrop f)) z = more-one f z
+  more (op.Table (table_op.LeaveTable f)) z = more-one f z
+  more (op.Waker (waker_op.CopyWaker f held)) z = more-one f z
+  more (op.Handle (handle_op.Look f a)) z = more-two f a z
+  more (op.Handle (handle_op.CopyAwaiter f a)) z = more-two f a z
+  more (op.Handle (handle_op.Register f a k)) z = more-two f a z
+  more (op.Handle (handle_op.EndRegister f a k)) z = more-two f a z
+  more (op.Handle (handle_op.LookAgain f)) z = more-one f z
+  more (op.Handle (handle_op.Notify f mine)) z = more-one f z
+  more (op.Handle (handle_op.EndNotify f mine)) z = more-one f z
+  more (op.Waker (waker_op.CallAwaiter f a k)) z = more-two f a z
+  more (op.Sleeper (sleeper_op.CallSleeper s)) z = waker_past-more n m s.waker h z
+  more (op.Tick (tick_op.Search s)) z = waker_past-more n m s.waker h z
+  more (op.Tick (tick_op.CopyWaker s)) z = waker_past-more n m s.waker h z
+  more (op.Tick (tick_op.LieDown s)) z = waker_past-more n m s.waker h z
+  more (op.User (user_op.PollOwn x)) z = waker_past-more n m x.waker h z
+  more (op.List o) z = more-list o z
+  more (op.Steal o) z = more-steal o z
+  more (op.Run o) z = more-run o z
+  more (op.Closing closing_op.Drain) z = refl
+  more _ z = refl
+
+  more-weigh : (os : List Op) → weigh (past_of n) os ≡ 0 → weigh (past_of m) os ≡ 0
+  more-weigh [] z = refl
+  more-weigh (o ∷ os) z = omega (arith, more o (omega (arith, z)), more-weigh os (omega (arith, z)))
+
+  pub more-all : (ss : List (List Op)) → weigh_all (past_of n) ss ≡ 0 → weigh_all (past_of m) ss ≡ 0
+  more-all [] z = refl
+  more-all (s ∷ ss) z = omega (arith, more-weigh s (omega (arith, z)), more-all ss (omega (arith, z)))
+
+-- it keeps what holds of g, beside what the others have to do here
+abbrev pub KeepsHere : World → List Op → Done → List (List Op) → Type 0
+KeepsHere w old d others = (g : ℕ) → Sound w g (with_ops g old (pend g others)) →
+    Sound d.world g (with_ops g d.next (pend g others))

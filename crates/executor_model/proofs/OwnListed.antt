@@ -1,0 +1,257 @@
+-- The list of queues holds that of each run that is listed once, and no other.
+use Rattle.std.proofs.Common.{◌≡◌, ◌≢◌, ◌⊎◌, ◌∙◌, ℕ, zero, suc, ◌+◌, ◌<◌, ◌≤◌, List, [], ◌∷◌, ◌++◌, length, get_or}
+use Rattle.std.proofs.Common.{set, Bool, true, false, eqb, refl, sym, ap, subst, ⊎_elim, arith, get_or-set_same}
+use Rattle.std.proofs.Common.{get_or-set_other}
+use Rattle.std.proofs.lemmas.Bool.Decides.{nat_tests}
+use Rattle.executor_model.specs.declared.call.Reply.{Reply}
+use Rattle.executor_model.specs.declared.event.Event.TheVariants as event
+use Rattle.executor_model.specs.declared.op.ListOp.{ListOp}
+use Rattle.executor_model.specs.declared.op.ListOp.TheVariants as list_op
+use Rattle.executor_model.specs.declared.op.Op.{Op}
+use Rattle.executor_model.specs.declared.op.Op.TheVariants as op
+use Rattle.executor_model.specs.declared.op.RunOp.{RunOp}
+use Rattle.executor_model.specs.declared.op.RunOp.TheVariants as run_op
+use Rattle.executor_model.specs.declared.op.RunPoll.{RunPoll}
+use Rattle.executor_model.specs.declared.op.Section.TheVariants as section
+use Rattle.executor_model.specs.declared.op.Sleeper.{Sleeper}
+use Rattle.executor_model.specs.declared.op.Sleeper.TheVariants as sleeper
+use Rattle.executor_model.specs.declared.op.Sleeping.{Sleeping}
+use Rattle.executor_model.specs.declared.op.Source.{Source}
+use Rattle.executor_model.specs.declared.op.Source.TheVariants.{Common, Own}
+use Rattle.executor_model.specs.declared.op.Steal.{Steal}
+use Rattle.executor_model.specs.declared.op.StealOp.{StealOp}
+use Rattle.executor_model.specs.declared.op.StealOp.TheVariants as steal_op
+use Rattle.executor_model.specs.declared.op.TickOp.{TickOp}
+use Rattle.executor_model.specs.declared.op.TickOp.TheVariants as tick_op
+use Rattle.executor_model.specs.declared.op.UserOp.TheVariants as user_op
+use Rattle.executor_model.specs.declared.op.Waker.{Waker}
+use Rattle.executor_model.specs.declared.op.Waker.TheVariants.{Task, Outside}
+use Rattle.executor_model.specs.declared.step.Hint.{Hint}
+use Rattle.executor_model.specs.declared.step.Step.{Step}
+use Rattle.task_moves.specs.declared.moves.owed.Move.TheVariants as move
+use Rattle.executor_model.specs.declared.op.Polled.TheVariants as of
+use Rattle.executor_model.specs.ActsOfRuns as runs
+use Rattle.executor_model.specs.Doing.{act, list_act, run_act, search_by_who, steal_act, tick_act}
+use Rattle.executor_model.specs.OwnQueues.{ListAgrees, is_listed}
+use Rattle.executor_model.specs.Sound.{times}
+use Rattle.executor_model.specs.Steps.{Machine, begun, mine, react, run, stack, start, top}
+use Rattle.executor_model.specs.Weights.{same}
+use Rattle.executor_model.specs.World.{World, Stage, New, Listed, Ended, Done, done, log, put_own, run_of}
+use Rattle.executor_model.specs.World.{without}
+use Rattle.executor_model.proofs.Lift.{good-start, no_hint}
+use Rattle.executor_model.proofs.Lists.{same_cases, times-append}
+use Rattle.executor_model.proofs.OwnCounts.{counts-begun, counts-react}
+use Rattle.executor_model.proofs.RunsAside.{Hull, apart-act, hull, is_run, stages, stages-at, stages-push}
+use Rattle.executor_model.proofs.RunsAside.{stages-set}
+use Rattle.executor_model.proofs.RunsMoving.{hull-common, hull-found, hull-length, hull-more, hull-search}
+use Rattle.executor_model.proofs.RunsMoving.{hull-stolen, hull-tick, is_search}
+use Rattle.executor_model.proofs.Ways.{Way, acted, reacted, called, along}
+
+abbrev IsListedWell : List Stage → List ℕ → ℕ → Type 0
+IsListedWell ss ls r = times r ls ≡ is_listed (get_or ss r Ended)
+
+-- a run comes into the list, and goes from it
+
+is_run_there : (ss : List Stage) (q : ℕ) → get_or ss q Ended ≡ New → q < length ss
+is_run_there [] q e = absurd (cc)
+is_run_there (s ∷ ss) zero e = omega arith
+is_run_there (s ∷ ss) (suc q) e = omega (arith, is_run_there ss q e)
+
+comes : (ss : List Stage) (ls : List ℕ) (q r : ℕ) → get_or ss q Ended ≡ New → IsListedWell ss ls r →
+    IsListedWell (set ss q Listed) (ls ++ q ∷ []) r
+comes ss ls q r e h = ⊎_elim
+    (λ (x : (same r q ≡ 1) × (eqb r q ≡ true) × (r ≡ q)).
+    let was : is_listed (get_or ss r Ended) ≡ 0 = ap (λ (k : ℕ). is_listed (get_or ss k Ended)) x.2 ∙ ap is_listed e in
+    let now : is_listed (get_or (set ss q Listed) r Ended) ≡ 1 =
+    ap (λ (k : ℕ). is_listed (get_or (set ss q Listed) k Ended)) x.2
+    ∙ ap is_listed (get_or-set_same ss q Listed Ended (is_run_there ss q e)) in
+    omega (arith, times-append r ls (q ∷ []), x.0, h, was, now))
+    (λ (x : (same r q ≡ 0) × (eqb r q ≡ false) × (r ≢ q)).
+    omega (arith, times-append r ls (q ∷ []), x.0, h, ap is_listed (get_or-set_other ss q r Listed Ended x.2)))
+    (same_cases r q)
+
+none-left : (q : ℕ) (xs : List ℕ) → times q xs ≤ 1 → times q (without q xs) ≡ 0
+none-left q [] l = refl
+none-left q (x ∷ xs) l = by (eqb q x) refl (λ k. none-left q xs k)
+  where
+    by : (b : Bool) → eqb q x ≡ b → (times q xs ≤ 1 → times q (without q xs) ≡ 0) →
+        times q (let ys : List ℕ = elim b [ true ↦ xs | false ↦ x ∷ without q xs ] in ys) ≡ 0
+    by true e f = ⊎_elim
+        (λ (z : (same q x ≡ 1) × (eqb q x ≡ true) × (q ≡ x)). omega (arith, l, z.0))
+        (λ (z : (same q x ≡ 0) × (eqb q x ≡ false) × (q ≢ x)). absurd (let no : false ≡ true = sym z.1 ∙ e in cc))
+        (same_cases q x)
+    by false e f = ⊎_elim
+        (λ (z : (same q x ≡ 1) × (eqb q x ≡ true) × (q ≡ x)). absurd (let no : false ≡ true = sym e ∙ z.1 in cc))
+        (λ (z : (same q x ≡ 0) × (eqb q x ≡ false) × (q ≢ x)). omega (arith, z.0, f (omega (arith, l, z.0))))
+        (same_cases q x)
+
+others-stay : (r q : ℕ) (xs : List ℕ) → r ≢ q → times r (without q xs) ≡ times r xs
+others-stay r q [] n = refl
+others-stay r q (x ∷ xs) n = by (eqb q x) refl (others-stay r q xs n)
+  where
+    by : (b : Bool) → eqb q x ≡ b → times r (without q xs) ≡ times r xs →
+        times r (let ys : List ℕ = elim b [ true ↦ xs | false ↦ x ∷ without q xs ] in ys) ≡ same r x + times r xs
+    by true e f = let i : q ≡ x = grind (arith, nat_tests) in ⊎_elim
+        (λ (z : (same r x ≡ 1) × (eqb r x ≡ true) × (r ≡ x)). absurd (n (z.2 ∙ sym i)))
+        (λ (z : (same r x ≡ 0) × (eqb r x ≡ false) × (r ≢ x)). omega (arith, z.0))
+        (same_cases r x)
+    by false e f = omega (arith, f)
+
+set-ended : (ss : List Stage) (q : ℕ) → get_or (set ss q Ended) q Ended ≡ Ended
+set-ended [] q = refl
+set-ended (s ∷ ss) zero = refl
+set-ended (s ∷ ss) (suc q) = set-ended ss q
+
+listed-few : (s : Stage) → is_listed s ≤ 1
+listed-few New = omega arith
+listed-few Listed = omega arith
+listed-few Ended = omega arith
+
+goes : (ss : List Stage) (ls : List ℕ) (q r : ℕ) → IsListedWell ss ls r → IsListedWell (set ss q Ended) (without q ls) r
+goes ss ls q r h = ⊎_elim
+    (λ (x : (same r q ≡ 1) × (eqb r q ≡ true) × (r ≡ q)).
+    let now : is_listed (get_or (set ss q Ended) r Ended) ≡ 0 =
+    ap (λ (k : ℕ). is_listed (get_or (set ss q Ended) k Ended)) x.2 ∙ ap is_listed (set-ended ss q) in
+    let few : times q ls ≤ 1 = subst (λ (k : ℕ). times k ls ≤ 1) x.2
+    (omega (arith, h, listed-few (get_or ss r Ended))) in
+    omega (arith, ap (λ (k : ℕ). times k (without q ls)) x.2, none-left q ls few, now))
+    (λ (x : (same r q ≡ 0) × (eqb r q ≡ false) × (r ≢ q)).
+    omega (arith, others-stay r q ls x.2, h, ap is_listed (get_or-set_other ss q r Ended Ended x.2)))
+    (same_cases r q)
+
+made : (ss : List Stage) (r : ℕ) → is_listed (get_or (ss ++ New ∷ []) r Ended) ≡ is_listed (get_or ss r Ended)
+made [] zero = refl
+made [] (suc r) = refl
+made (s ∷ ss) zero = refl
+made (s ∷ ss) (suc r) = made ss r
+
+-- each thing that is done
+
+abbrev IsWell : World → ℕ → Type 0
+IsWell w r = IsListedWell (stages w.runs) w.listed r
+
+abbrev KeepsListed : World → World → Type 0
+KeepsListed w v = (r : ℕ) → IsWell w r → IsWell v r
+
+still : (w v : World) → hull w ≡ hull v → KeepsListed w v
+still w v e r h = subst (λ (x : Hull). IsListedWell x.stages x.listed r) e h
+
+listed-own : (q : List ℕ) (w : World) (x : RunPoll) → KeepsListed w (runs.search_own_by q w x).world
+listed-own [] w x = still w w refl
+listed-own (f ∷ rest) w x = λ r h.
+    still (put_own w x.run rest) (runs.found (put_own w x.run rest) x f).world
+    (hull-found (put_own w x.run rest) x f) r h
+
+listed-look : (q : List ℕ) (w : World) (x : RunPoll) (at left : ℕ) →
+    KeepsListed w (runs.look_own_by q w x at left).world
+listed-look [] w x at left = still w w refl
+listed-look (f ∷ rest) w x at left = λ r h.
+    still (put_own w x.run rest) (runs.found (put_own w x.run rest) x f).world
+    (hull-found (put_own w x.run rest) x f) r h
+
+listed-first : (from : Source) (w : World) (rest : List ℕ) → KeepsListed w (runs.without_first w from rest)
+listed-first Common w rest = λ r h. h
+listed-first (Own q) w rest = λ r h. h
+
+listed-take : (q : List ℕ) (w : World) (s : Steal) (more : ℕ) → KeepsListed w (runs.steal_take_by q w s more).world
+listed-take [] w s more = still w (runs.stolen s.then w s.poll).world (hull-stolen s.then w s.poll)
+listed-take (f ∷ rest) w s more = listed-first s.from w rest
+
+listed-put : (b : Bool) (p : ℕ) (w : World) (s : Steal) (more f : ℕ) →
+    KeepsListed w (runs.steal_put_by b p w s more f).world
+listed-put true p w s more f = λ r h.
+    let v = runs.kept_by p w s.poll.run f in still v (runs.steal_by more v s).world (hull-more more v s) r h
+listed-put false p w s more f = still w (runs.stolen s.then w s.poll).world (hull-stolen s.then w s.poll)
+
+listed-steal : (p : ℕ) (o : StealOp) (w : World) → KeepsListed w (steal_act p o w).world
+listed-steal p (steal_op.Length s) w = still w (steal_act p (steal_op.Length s) w).world (hull-length _ w s)
+listed-steal p (steal_op.OwnLength s n) w = still w (steal_act p (steal_op.OwnLength s n) w).world (hull-more _ w s)
+listed-steal p (steal_op.Take s more) w = listed-take _ w s more
+listed-steal p (steal_op.Put s more f) w = listed-put _ p w s more f
+
+listed-make : (b : Bool) (w : World) → KeepsListed w (runs.make_run_by b w).world
+listed-make true w = still w w refl
+listed-make false w = λ r h. subst (λ (ss : List Stage). IsListedWell ss w.listed r) (sym (stages-push w.runs))
+    (omega (arith, h, made (stages w.runs) r))
+
+listed-register : (t : Stage) (w : World) (q : ℕ) → (run_of w q).stage ≡ t → KeepsListed w (runs.registered t w q)
+listed-register New w q e = λ r h. subst (λ (ss : List Stage). IsListedWell ss (w.listed ++ q ∷ []) r)
+    (sym (stages-set w.runs q (record (run_of w q) { stage = Listed })))
+    (comes (stages w.runs) w.listed q r (stages-at w.runs q ∙ e) h)
+listed-register Listed w q e = still w w refl
+listed-register Ended w q e = still w w refl
+
+listed-list : (h : Hint) (o : ListOp) (w : World) → KeepsListed w (list_act h o w).world
+listed-list h (list_op.LockWrite s) w = λ r k. k
+listed-list h (list_op.Write section.MakeRun) w = listed-make h.refused w
+listed-list h (list_op.Write (section.Register x)) w = listed-register _ w x.run refl
+listed-list h (list_op.Write (section.Unregister q a)) w = λ r k.
+    subst (λ (ss : List Stage). IsListedWell ss (without q w.listed) r)
+    (sym (stages-set w.runs q (record (run_of w q) { stage = Ended }))) (goes (stages w.runs) w.listed q r k)
+listed-list h list_op.UnlockWrite w = λ r k. k
+listed-list h (list_op.LockRead x) w = λ r k. k
+listed-list h list_op.UnlockRead w = λ r k. k
+
+listed-room : (b : Bool) (w : World) → KeepsListed w (runs.make_room_by b w).world
+listed-room true w r k = k
+listed-room false w r k = k
+
+log_if-well : (w : World) (x : RunPoll) (p : ℕ) (a : Waker) → hull w ≡ hull (runs.call_by_reference p w a).world
+log_if-well w x p (Outside y) = refl
+log_if-well w x p (Task g) = (apart-act p no_hint (op.Move move.WakeByReference g) w refl).hull
+
+listed-wake : (p : ℕ) (w : World) (x : RunPoll) → KeepsListed w (runs.wake_own p w x).world
+listed-wake p w x r k =
+    let v = log w (event.WakerCalled p (of.Run x.run) x.poll x.waker) in
+    still v (runs.call_by_reference p v x.waker).world (log_if-well v x p x.waker) r k
+
+listed-reschedule : (q : List ℕ) (w : World) (n : ℕ) (a : Reply) → KeepsListed w (runs.reschedule_by q w n a).world
+listed-reschedule [] w n a r k = k
+listed-reschedule (f ∷ rest) w n a r k = k
+
+listed-run : (p : ℕ) (h : Hint) (o : RunOp) (w : World) → KeepsListed w (run_act p h o w).world
+listed-run p h run_op.MakeRoom w = listed-room _ w
+listed-run p h run_op.ReturnRoom w = λ r k. k
+listed-run p h (run_op.SearchCommon x) w = still w (run_act p h (run_op.SearchCommon x) w).world (hull-common _ w x)
+listed-run p h (run_op.LookOwn x at left) w = listed-look _ w x at left
+listed-run p h (run_op.WakeOwn x) w = listed-wake p w x
+listed-run p h (run_op.Reschedule n a) w = listed-reschedule _ w n a
+
+listed-who : (who : Sleeper) (w : World) (s : Sleeping) → KeepsListed w (search_by_who who w s).world
+listed-who (sleeper.Tick t) w s = still w (search_by_who (sleeper.Tick t) w s).world (hull-search _ _ w s)
+listed-who (sleeper.Run q) w s = listed-own _ w (record { run = q; waker = s.waker; poll = s.poll })
+
+listed-tick : (b : Bool) (h : Hint) (o : TickOp) (w : World) → is_search o ≡ b → KeepsListed w (tick_act h o w).world
+listed-tick false h o w e = still w (tick_act h o w).world (hull-tick h o w e)
+listed-tick true h (tick_op.Search s) w e = listed-who s.who w s
+listed-tick true h _ w e = absurd (cc)
+
+listed-act : (b : Bool) (p : ℕ) (h : Hint) (o : Op) (w : World) → is_run o ≡ b → KeepsListed w (act p h o w).world
+listed-act false p h o w e = still w (act p h o w).world (apart-act p h o w e).hull
+listed-act true p h (op.User (user_op.PollOwn x)) w e = still w w refl
+listed-act true p h (op.Tick o) w e = listed-tick _ h o w refl
+listed-act true p h (op.List o) w e = listed-list h o w
+listed-act true p h (op.Steal o) w e = listed-steal p o w
+listed-act true p h (op.Run o) w e = listed-run p h o w
+listed-act true p h _ w e = absurd (cc)
+
+-- every step
+
+abbrev pub ListsAgree : Machine → Type 0
+ListsAgree s = (r : ℕ) → IsWell s.world r
+
+listed-way : (s : Machine) (p : ℕ) (old rest : List Op) (d : Done) → Way s p old rest d → KeepsListed s.world d.world
+listed-way s p old rest d (acted h o q z) = rw z (listed-act _ p h o s.world refl)
+listed-way s p old rest d (reacted o u a q z) =
+    rw z (still s.world (react p o u s.world).world (counts-react 0 p o u s.world a).hull)
+listed-way s p old rest d (called c q r n z) =
+    rw z (still s.world (begun p (log s.world (event.CallBegun p c)) (mine (top (stack s p))) c).world
+    (counts-begun 0 p s.world (mine (top (stack s p))) c).hull)
+
+pub lists-agree : (limit n : ℕ) (ts : List Step) (r : ℕ) → ListAgrees (run ts (start limit n)) r
+lists-agree limit n ts r =
+    let s = run ts (start limit n) in
+    let k : IsWell s.world r = along ListsAgree
+    (λ s p old rest d good l e way k q. listed-way s p old rest d way q (k q))
+    (λ s p a held below l e k q. k q) ts (start limit n) (good-start limit n) (λ q. refl) r in
+    omega (arith, k, ap is_listed (stages-at s.world.runs r))

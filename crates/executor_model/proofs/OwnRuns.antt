@@ -1,0 +1,54 @@
+-- In each run of the machine: the own queues of its runs have room for what comes, and are empty where they were
+-- found so.
+use Rattle.std.proofs.Common.{◌≡◌, ℕ, ◌+◌, ◌<◌, List, [], ◌∷◌, ◌++◌, length, arith}
+use Rattle.std.specs.Prelude.{reverse}
+use Rattle.executor_model.specs.declared.call.Reply.{Reply}
+use Rattle.executor_model.specs.declared.event.Event.TheVariants as event
+use Rattle.executor_model.specs.declared.op.Hold.{Hold}
+use Rattle.executor_model.specs.declared.op.Op.{Op}
+use Rattle.executor_model.specs.declared.op.Op.TheVariants as op
+use Rattle.executor_model.specs.declared.step.Step.{Step}
+use Rattle.executor_model.specs.Good.{Good}
+use Rattle.executor_model.specs.OwnQueues.{HasOwnRoom, IsEmptyMeanwhile, empty_of, filling_of}
+use Rattle.executor_model.specs.Steps.{Machine, run, stack, start}
+use Rattle.executor_model.specs.World.{Done, done, log}
+use Rattle.executor_model.proofs.Lift.{good-start, unsettled, weigh_all-idle}
+use Rattle.executor_model.proofs.OwnEmpty.{EmptyMeanwhile, empty-ends, empty-moves}
+use Rattle.executor_model.proofs.OwnRooms.{Roomy, roomy-ends, roomy-moves}
+use Rattle.executor_model.proofs.UsingSteps.{AllUsed, used-ends, used-moves, used-start}
+use Rattle.executor_model.proofs.Ways.{Way, along}
+
+record Owning (s : Machine) : Type 0 where
+  pub used : AllUsed s
+  pub roomy : Roomy s
+  pub empty : EmptyMeanwhile s
+
+owning-moves : (s : Machine) (p : ℕ) (old rest : List Op) (d : Done) → Good s → p < length s.parties →
+    stack s p ≡ rest ++ reverse old → Way s p old rest d → Owning s → Owning (unsettled s p rest d)
+owning-moves s p old rest d good l e way k = record {
+  used = used-moves s p old rest d good l e way k.used;
+  roomy = roomy-moves s p old rest d l e way (λ r. (k.used r).once) k.roomy;
+  empty = empty-moves s p old rest d l e way (λ r. (k.used r).once) k.empty;
+}
+
+owning-ends : (s : Machine) (p : ℕ) (a : Reply) (held : Hold) (below : List Op) → p < length s.parties →
+    stack s p ≡ below ++ reverse (op.End a held ∷ []) → Owning s →
+    Owning (unsettled s p below (done (log s.world (event.CallEnded p a)) []))
+owning-ends s p a held below l e k = record {
+  used = used-ends s p a held below l e k.used;
+  roomy = roomy-ends s p a held below l e k.roomy;
+  empty = empty-ends s p a held below l e k.empty;
+}
+
+owning : (limit n : ℕ) (ts : List Step) → Owning (run ts (start limit n))
+owning limit n ts = along Owning owning-moves owning-ends ts (start limit n) (good-start limit n) (record {
+  used = used-start limit n;
+  roomy = λ r. omega (arith, weigh_all-idle (filling_of r) n);
+  empty = λ r z. absurd (omega (arith, z, weigh_all-idle (empty_of r) n));
+})
+
+pub has-own-room : (limit n : ℕ) (ts : List Step) (r : ℕ) → HasOwnRoom (run ts (start limit n)) r
+has-own-room limit n ts r = (owning limit n ts).roomy r
+
+pub is-empty-meanwhile : (limit n : ℕ) (ts : List Step) (r : ℕ) → IsEmptyMeanwhile (run ts (start limit n)) r
+is-empty-meanwhile limit n ts r = (owning limit n ts).empty r

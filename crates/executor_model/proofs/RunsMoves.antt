@@ -1,0 +1,410 @@
+-- What a run does moves Runnables from one queue to another or into a hand, and changes nothing else that is kept of
+-- futures.
+use Rattle.std.proofs.Common.{◌≡◌, ℕ, zero, suc, ◌+◌, ◌<◌, List, [], ◌∷◌, ◌++◌, length, get_or, set, drop, Bool}
+use Rattle.std.proofs.Common.{true, false, eqb, refl, ap, ◌∙◌, ◌%◌, arith}
+use Rattle.executor_model.specs.declared.call.Reply.{Reply}
+use Rattle.executor_model.specs.declared.op.ListOp.{ListOp}
+use Rattle.executor_model.specs.declared.op.ListOp.TheVariants as list_op
+use Rattle.executor_model.specs.declared.op.Op.{Op}
+use Rattle.executor_model.specs.declared.op.Op.TheVariants as op
+use Rattle.executor_model.specs.declared.op.QueueOp.TheVariants as queue_op
+use Rattle.executor_model.specs.declared.op.RunOp.TheVariants as run_op
+use Rattle.executor_model.specs.declared.op.RunPoll.{RunPoll}
+use Rattle.executor_model.specs.declared.op.Section.{Section}
+use Rattle.executor_model.specs.declared.op.Section.TheVariants as section
+use Rattle.executor_model.specs.declared.op.Sleeper.{Sleeper}
+use Rattle.executor_model.specs.declared.op.Sleeper.TheVariants as sleeper
+use Rattle.executor_model.specs.declared.op.SleeperOp.TheVariants as sleeper_op
+use Rattle.executor_model.specs.declared.op.Sleeping.{Sleeping}
+use Rattle.executor_model.specs.declared.op.Source.{Source}
+use Rattle.executor_model.specs.declared.op.Source.TheVariants.{Common, Own}
+use Rattle.executor_model.specs.declared.op.Steal.{Steal}
+use Rattle.executor_model.specs.declared.op.StealOp.TheVariants as steal_op
+use Rattle.executor_model.specs.declared.op.Then.{Then}
+use Rattle.executor_model.specs.declared.op.Then.TheVariants as then
+use Rattle.executor_model.specs.declared.op.TickOp.TheVariants as tick_op
+use Rattle.executor_model.specs.declared.op.UserOp.TheVariants as user_op
+use Rattle.executor_model.specs.declared.step.Hint.{Hint}
+use Rattle.queue_steps.specs.ClosableQueue.{taken}
+use Rattle.executor_model.specs.World.{World, Place, Up, Lies, Left, Stage, New, Listed, Ended, Run, Lock, Done}
+use Rattle.executor_model.specs.World.{own_of, put_own, run_of}
+use Rattle.executor_model.specs.ActsOfSleepers.{found_by}
+use Rattle.executor_parts.specs.Sleepers.{Sleepers}
+use Rattle.executor_model.specs.Doing.{list_act}
+use Rattle.executor_model.proofs.SleepersLists.{given_back-same}
+use Rattle.executor_model.specs.ActsOfRuns.{behind, lock_read, return_room}
+use Rattle.executor_model.specs.ActsOfRuns.{run_by, counted_by, found, make_run_by, registered, walk, next_place}
+use Rattle.executor_model.specs.ActsOfRuns.{queue_at}
+use Rattle.executor_model.specs.ActsOfRuns.{search_own_by, search_common_by, look_own_by, source_of, stolen}
+use Rattle.executor_model.specs.ActsOfRuns.{steal_length_by}
+use Rattle.executor_model.specs.ActsOfRuns.{steal_by, steal_take_by, make_room_by, reschedule_by, write}
+use Rattle.executor_model.specs.Rows.{waiting_of, borrowing_of, then_waiting}
+use Rattle.executor_model.specs.Sound.{times, times_in, queued}
+use Rattle.executor_model.specs.Weights.{same, weigh}
+use Rattle.executor_model.proofs.Lists.{times-drop, weigh-append}
+
+-- the lists that are kept of futures are the same
+pub record Same (w v : World) : Type 0 where
+  pub limit : v.limit ≡ w.limit
+  pub closed : v.queue.closed ≡ w.queue.closed
+  pub capacity : v.queue.capacity ≡ w.queue.capacity
+  pub tasks : v.tasks ≡ w.tasks
+  pub awaiters : v.awaiters ≡ w.awaiters
+  pub inside : v.inside ≡ w.inside
+  pub table : v.table ≡ w.table
+  pub leaving : v.leaving ≡ w.leaving
+  pub waking : v.waking ≡ w.waking
+  pub wakers : v.wakers ≡ w.wakers
+  pub sleepers : v.sleepers.wakers ≡ w.sleepers.wakers
+  pub gone : v.gone ≡ w.gone
+  pub trace : v.trace ≡ w.trace
+
+pub same-here : (w : World) (rs : List Run) (qs : List (List ℕ)) (ls : List ℕ) (l : Lock) →
+    Same w (record w { runs = rs; own = qs; listed = ls; lock = l })
+same-here w rs qs ls l = record {
+  limit = refl;
+  closed = refl;
+  capacity = refl;
+  tasks = refl;
+  awaiters = refl;
+  inside = refl;
+  table = refl;
+  leaving = refl;
+  waking = refl;
+  wakers = refl;
+  sleepers = refl;
+  gone = refl;
+  trace = refl;
+}
+
+-- and so they are where the first of the executor's queue was taken
+pub same-taken : (w : World) → Same w (record w { queue = taken w.queue })
+same-taken w = record {
+  limit = refl;
+  closed = refl;
+  capacity = refl;
+  tasks = refl;
+  awaiters = refl;
+  inside = refl;
+  table = refl;
+  leaving = refl;
+  waking = refl;
+  wakers = refl;
+  sleepers = refl;
+  gone = refl;
+  trace = refl;
+}
+
+-- the end of an own queue's change
+
+pub times_in-set : (g r : ℕ) (q : List ℕ) (qs : List (List ℕ)) → r < length qs →
+    times_in g (set qs r q) + times g (get_or qs r []) ≡ times_in g qs + times g q
+times_in-set g r q [] h = absurd (omega (arith, h))
+times_in-set g zero q (x ∷ qs) h = omega arith
+times_in-set g (suc r) q (x ∷ qs) h = omega (arith, times_in-set g r q qs (omega (arith, h)))
+
+-- its first is taken
+pub times_in-first : (g r f : ℕ) (rest : List ℕ) (qs : List (List ℕ)) → get_or qs r [] ≡ f ∷ rest →
+    same g f + times_in g (set qs r rest) ≡ times_in g qs
+times_in-first g r f rest [] e = absurd (cc)
+times_in-first g zero f rest (x ∷ qs) e = omega (arith, ap (times g) e)
+times_in-first g (suc r) f rest (x ∷ qs) e = omega (arith, times_in-first g r f rest qs e)
+
+pub times_in-append : (g : ℕ) (xs ys : List (List ℕ)) → times_in g (xs ++ ys) ≡ times_in g xs + times_in g ys
+times_in-append g [] ys = omega arith
+times_in-append g (x ∷ xs) ys = omega (arith, times_in-append g xs ys)
+
+-- what follows has in hand what was found
+
+pub waiting-run_by : (g : ℕ) (b : Bool) (w : World) (x : RunPoll) (f : ℕ) →
+    weigh (waiting_of g) (run_by b w x f).next ≡ same g f
+waiting-run_by g true w x f = omega arith
+waiting-run_by g false w x f = omega arith
+
+waiting-counted : (g : ℕ) (b : Bool) (w : World) (x : RunPoll) (f : ℕ) →
+    weigh (waiting_of g) (counted_by b w x f).next ≡ same g f
+waiting-counted g true w x f = omega arith
+waiting-counted g false w x f = waiting-run_by g _ _ x f
+
+waiting-rises : (g : ℕ) (p : Place) (who : Sleeper) →
+    weigh (waiting_of g) (found_by p who (op.Sleeper sleeper_op.ExchangeFlag ∷ [])) ≡ 0
+waiting-rises g Up who = refl
+waiting-rises g (Lies n) who = refl
+waiting-rises g Left who = refl
+
+pub waiting-found : (g : ℕ) (w : World) (x : RunPoll) (f : ℕ) → weigh (waiting_of g) (found w x f).next ≡ same g f
+waiting-found g w x f =
+    let first = found_by (run_of w x.run).place (sleeper.Run x.run) (op.Sleeper sleeper_op.ExchangeFlag ∷ []) in
+    let b = eqb ((run_of w x.run).counted + 1) 64 in
+    omega (
+      arith,
+      weigh-append (waiting_of g) first (counted_by b w x f).next,
+      waiting-rises g (run_of w x.run).place (sleeper.Run x.run),
+      waiting-counted g b w x f,
+    )
+
+pub waiting-stolen : (g : ℕ) (t : Then) (w : World) (x : RunPoll) →
+    weigh (waiting_of g) (stolen t w x).next ≡ then_waiting g t
+waiting-stolen g (then.Found f) w x = waiting-found g w x f
+waiting-stolen g (then.Run f) w x = waiting-run_by g _ w x f
+waiting-stolen g (then.Walk at left) w x = refl
+
+pub waiting-walk : (g : ℕ) (x : RunPoll) (qs : List ℕ) (at left : ℕ) → weigh (waiting_of g) (walk x qs at left) ≡ 0
+waiting-walk g x qs at zero = refl
+waiting-walk g x qs at (suc left) = by (eqb (queue_at qs at) x.run) (waiting-walk g x qs (next_place qs at) left)
+  where
+    by : (b : Bool) → weigh (waiting_of g) (walk x qs (next_place qs at) left) ≡ 0 →
+        weigh (waiting_of g) (let h : List Op = elim b [
+          | true ↦ walk x qs (next_place qs at) left
+          | false ↦ op.Steal (steal_op.Length (record {
+            poll = x;
+            from = Own (queue_at qs at);
+            then = then.Walk (next_place qs at) left;
+          })) ∷ []
+        ] in h) ≡ 0
+    by true z = z
+    by false z = refl
+
+-- the world that follows
+
+same-run_by : (b : Bool) (w : World) (x : RunPoll) (f : ℕ) → Same w (run_by b w x f).world
+same-run_by true w x f = same-here w _ _ _ _
+same-run_by false w x f = same-here w _ _ _ _
+
+queued-run_by : (g : ℕ) (b : Bool) (w : World) (x : RunPoll) (f : ℕ) → queued (run_by b w x f).world g ≡ queued w g
+queued-run_by g true w x f = refl
+queued-run_by g false w x f = refl
+
+pub same-trans : {u v w : World} → Same u v → Same v w → Same u w
+same-trans a b = record {
+  limit = b.limit ∙ a.limit;
+  closed = b.closed ∙ a.closed;
+  capacity = b.capacity ∙ a.capacity;
+  tasks = b.tasks ∙ a.tasks;
+  awaiters = b.awaiters ∙ a.awaiters;
+  inside = b.inside ∙ a.inside;
+  table = b.table ∙ a.table;
+  leaving = b.leaving ∙ a.leaving;
+  waking = b.waking ∙ a.waking;
+  wakers = b.wakers ∙ a.wakers;
+  sleepers = b.sleepers ∙ a.sleepers;
+  gone = b.gone ∙ a.gone;
+  trace = b.trace ∙ a.trace;
+}
+
+same-counted : (b : Bool) (w : World) (x : RunPoll) (f : ℕ) → Same w (counted_by b w x f).world
+same-counted true w x f = same-here w _ _ _ _
+same-counted false w x f = same-trans (same-here w _ _ _ _) (same-run_by _ _ x f)
+
+queued-counted : (g : ℕ) (b : Bool) (w : World) (x : RunPoll) (f : ℕ) → queued (counted_by b w x f).world g ≡ queued w g
+queued-counted g true w x f = refl
+queued-counted g false w x f = queued-run_by g _ _ x f
+
+pub same-found : (w : World) (x : RunPoll) (f : ℕ) → Same w (found w x f).world
+same-found w x f = same-counted _ w x f
+
+pub queued-found : (g : ℕ) (w : World) (x : RunPoll) (f : ℕ) → queued (found w x f).world g ≡ queued w g
+queued-found g w x f = queued-counted g _ w x f
+
+pub same-stolen : (t : Then) (w : World) (x : RunPoll) → Same w (stolen t w x).world
+same-stolen (then.Found f) w x = same-found w x f
+same-stolen (then.Run f) w x = same-run_by _ w x f
+same-stolen (then.Walk at left) w x = same-here w _ _ _ _
+
+pub queued-stolen : (g : ℕ) (t : Then) (w : World) (x : RunPoll) → queued (stolen t w x).world g ≡ queued w g
+queued-stolen g (then.Found f) w x = queued-found g w x f
+queued-stolen g (then.Run f) w x = queued-run_by g _ w x f
+queued-stolen g (then.Walk at left) w x = refl
+
+-- Runnables only move
+
+pub record Moves (w : World) (old : List Op) (d : Done) : Type 0 where
+  pub same : Same w d.world
+  pub moved : (g : ℕ) → queued d.world g + weigh (waiting_of g) d.next ≡ queued w g + weigh (waiting_of g) old
+  pub lent : weigh borrowing_of old ≡ 0 → weigh borrowing_of d.next ≡ 0
+
+pub moves-length : (n : ℕ) (w : World) (s : Steal) → Moves w (op.Steal (steal_op.Length s) ∷ []) (steal_length_by n w s)
+moves-length zero w s = record {
+  same = same-stolen s.then w s.poll;
+  moved = λ g. omega (arith, queued-stolen g s.then w s.poll, waiting-stolen g s.then w s.poll);
+  lent = λ z. absurd (omega (arith, z));
+}
+moves-length (suc n) w s = record {
+  same = same-here w _ _ _ _;
+  moved = λ g. refl;
+  lent = λ z. absurd (omega (arith, z));
+}
+
+pub moves-own_length : (n m : ℕ) (w : World) (s : Steal) →
+    Moves w (op.Steal (steal_op.OwnLength s m) ∷ []) (steal_by n w s)
+moves-own_length zero m w s = record {
+  same = same-stolen s.then w s.poll;
+  moved = λ g. omega (arith, queued-stolen g s.then w s.poll, waiting-stolen g s.then w s.poll);
+  lent = λ z. absurd (omega (arith, z));
+}
+moves-own_length (suc n) m w s = record {
+  same = same-here w _ _ _ _;
+  moved = λ g. refl;
+  lent = λ z. absurd (omega (arith, z));
+}
+
+pub moves-take : (from : Source) (q : List ℕ) (w : World) (x : RunPoll) (t : Then) (more : ℕ) → source_of w from ≡ q →
+    Moves w (op.Steal (steal_op.Take (record { poll = x; from = from; then = t }) more) ∷ [])
+    (steal_take_by q w (record { poll = x; from = from; then = t }) more)
+moves-take from [] w x t more e = record {
+  same = same-stolen t w x;
+  moved = λ g. omega (arith, queued-stolen g t w x, waiting-stolen g t w x);
+  lent = λ z. absurd (omega (arith, z));
+}
+moves-take Common (f ∷ rest) w x t more e = record {
+  same = same-taken w;
+  moved = λ g. (let z : same g f + times g (drop 1 w.queue.items) ≡ times g w.queue.items =
+      times-drop g f rest w.queue.items e in omega (arith, z));
+  lent = λ z. absurd (omega (arith, z));
+}
+moves-take (Own r) (f ∷ rest) w x t more e = record {
+  same = same-here w _ _ _ _;
+  moved = λ g. omega (arith, times_in-first g r f rest w.own e);
+  lent = λ z. absurd (omega (arith, z));
+}
+
+-- one that finds no place is scheduled
+pub moves-put_back : (w : World) (s : Steal) (more f : ℕ) → Moves w (op.Steal (steal_op.Put s more f) ∷ [])
+    (behind (op.Queue (queue_op.Append f) ∷ []) (stolen s.then w s.poll))
+moves-put_back w s more f = record {
+  same = same-stolen s.then w s.poll;
+  moved = λ g. omega (arith, queued-stolen g s.then w s.poll, waiting-stolen g s.then w s.poll);
+  lent = λ z. absurd (omega (arith, z));
+}
+
+pub moves-own : (q : List ℕ) (w : World) (s : Sleeping) (r : ℕ) → s.who ≡ sleeper.Run r → own_of w r ≡ q →
+    Moves w (op.Tick (tick_op.Search s) ∷ []) (search_own_by q w (record { run = r; waker = s.waker; poll = s.poll }))
+moves-own [] w s r i e = record { same = same-here w _ _ _ _; moved = λ g. refl; lent = λ z. absurd (omega (arith, z)) }
+moves-own (f ∷ rest) w s r i e = let x : RunPoll = record { run = r; waker = s.waker; poll = s.poll } in record {
+  same = same-trans (same-here w _ _ _ _) (same-found (put_own w r rest) x f);
+  moved = λ g. omega (
+    arith,
+    queued-found g (put_own w r rest) x f,
+    waiting-found g (put_own w r rest) x f,
+    times_in-first g r f rest w.own e,
+  );
+  lent = λ z. absurd (omega (arith, z));
+}
+
+pub moves-common : (q : List ℕ) (w : World) (x : RunPoll) → w.queue.items ≡ q →
+    Moves w (op.Run (run_op.SearchCommon x) ∷ []) (search_common_by q w x)
+moves-common [] w x e = record { same = same-here w _ _ _ _; moved = λ g. refl; lent = λ z. absurd (omega (arith, z)) }
+moves-common (f ∷ rest) w x e = record {
+  same = same-taken w;
+  moved = λ g. (let z : same g f + times g (drop 1 w.queue.items) ≡ times g w.queue.items =
+      times-drop g f rest w.queue.items e in omega (arith, z));
+  lent = λ z. absurd (omega (arith, z));
+}
+
+pub moves-look : (q : List ℕ) (w : World) (x : RunPoll) (at left : ℕ) → own_of w x.run ≡ q →
+    Moves w (op.Run (run_op.LookOwn x at left) ∷ []) (look_own_by q w x at left)
+moves-look [] w x at left e = record {
+  same = same-here w _ _ _ _;
+  moved = λ g. omega (arith, waiting-walk g x w.listed at left);
+  lent = λ z. absurd (omega (arith, z));
+}
+moves-look (f ∷ rest) w x at left e = record {
+  same = same-trans (same-here w _ _ _ _) (same-found (put_own w x.run rest) x f);
+  moved = λ g. omega (
+    arith,
+    queued-found g (put_own w x.run rest) x f,
+    waiting-found g (put_own w x.run rest) x f,
+    times_in-first g x.run f rest w.own e,
+  );
+  lent = λ z. absurd (omega (arith, z));
+}
+
+pub moves-reschedule : (q : List ℕ) (w : World) (r : ℕ) (a : Reply) → own_of w r ≡ q →
+    Moves w (op.Run (run_op.Reschedule r a) ∷ []) (reschedule_by q w r a)
+moves-reschedule [] w r a e = record {
+  same = same-here w _ _ _ _;
+  moved = λ g. refl;
+  lent = λ z. absurd (omega (arith, z));
+}
+moves-reschedule (f ∷ rest) w r a e = record {
+  same = same-here w _ _ _ _;
+  moved = λ g. omega (arith, times_in-first g r f rest w.own e);
+  lent = λ z. absurd (omega (arith, z));
+}
+
+moves-make : (b : Bool) (w : World) → Moves w (op.List (list_op.Write section.MakeRun) ∷ []) (make_run_by b w)
+moves-make true w = record { same = same-here w _ _ _ _; moved = λ g. refl; lent = λ z. absurd (omega (arith, z)) }
+moves-make false w = record {
+  same = same-here w _ _ _ _;
+  moved = λ g. omega (arith, times_in-append g w.own ([] ∷ []));
+  lent = λ z. absurd (omega (arith, z));
+}
+
+moves-register : (t : Stage) (w : World) (x : RunPoll) → Moves w (op.List (list_op.Write (section.Register x)) ∷ [])
+    (record { world = registered t w x.run; next = op.List list_op.UnlockWrite ∷ op.User (user_op.PollOwn x) ∷ [] })
+moves-register New w x = record { same = same-here w _ _ _ _; moved = λ g. refl; lent = λ z. absurd (omega (arith, z)) }
+moves-register Listed w x = record {
+  same = same-here w _ _ _ _;
+  moved = λ g. refl;
+  lent = λ z. absurd (omega (arith, z));
+}
+moves-register Ended w x = record {
+  same = same-here w _ _ _ _;
+  moved = λ g. refl;
+  lent = λ z. absurd (omega (arith, z));
+}
+
+pub moves-write : (h : Hint) (s : Section) (w : World) → Moves w (op.List (list_op.Write s) ∷ []) (write h s w)
+moves-write h section.MakeRun w = moves-make h.refused w
+moves-write h (section.Register x) w = moves-register _ w x
+moves-write h (section.Unregister r a) w =
+    record { same = same-here w _ _ _ _; moved = λ g. refl; lent = λ z. absurd (omega (arith, z)) }
+
+pub moves-lock_read : (h : Hint) (w : World) (x : RunPoll) →
+    Moves w (op.List (list_op.LockRead x) ∷ []) (lock_read h w x)
+moves-lock_read h w x = record {
+  same = same-here w _ _ _ _;
+  moved = λ g. omega (arith, waiting-walk g x w.listed (h.start % length w.listed) (length w.listed));
+  lent = λ z. absurd (omega (arith, z));
+}
+
+-- the other sections of the lock change it alone
+pub moves-list : (h : Hint) (o : ListOp) (w : World) → Moves w (op.List o ∷ []) (list_act h o w)
+moves-list h (list_op.LockWrite section.MakeRun) w =
+    record { same = same-here w _ _ _ _; moved = λ g. refl; lent = λ z. absurd (omega (arith, z)) }
+moves-list h (list_op.LockWrite (section.Register x)) w =
+    record { same = same-here w _ _ _ _; moved = λ g. refl; lent = λ z. absurd (omega (arith, z)) }
+moves-list h (list_op.LockWrite (section.Unregister r a)) w =
+    record { same = same-here w _ _ _ _; moved = λ g. refl; lent = λ z. absurd (omega (arith, z)) }
+moves-list h (list_op.Write s) w = moves-write h s w
+moves-list h list_op.UnlockWrite w = record { same = same-here w _ _ _ _; moved = λ g. refl; lent = λ z. refl }
+moves-list h (list_op.LockRead x) w = moves-lock_read h w x
+moves-list h list_op.UnlockRead w = record { same = same-here w _ _ _ _; moved = λ g. refl; lent = λ z. refl }
+
+-- the other lists are as they were, and so are the wakers of the sleepers
+pub same-rooms : (w : World) (s : Sleepers Sleeping) → s.wakers ≡ w.sleepers.wakers → Same w (record w { sleepers = s })
+same-rooms w s e = record {
+  limit = refl;
+  closed = refl;
+  capacity = refl;
+  tasks = refl;
+  awaiters = refl;
+  inside = refl;
+  table = refl;
+  leaving = refl;
+  waking = refl;
+  wakers = refl;
+  sleepers = e;
+  gone = refl;
+  trace = refl;
+}
+
+pub moves-make_room : (b : Bool) (w : World) → Moves w (op.Run run_op.MakeRoom ∷ []) (make_room_by b w)
+moves-make_room true w =
+    record { same = same-here w _ _ _ _; moved = λ g. refl; lent = λ z. absurd (omega (arith, z)) }
+moves-make_room false w =
+    record { same = same-rooms w _ refl; moved = λ g. refl; lent = λ z. absurd (omega (arith, z)) }
+
+pub moves-return_room : (w : World) → Moves w (op.Run run_op.ReturnRoom ∷ []) (return_room w)
+moves-return_room w =
+    record { same = same-rooms w _ (given_back-same w.sleepers); moved = λ g. refl; lent = λ z. refl }

@@ -1,0 +1,468 @@
+-- Each thing that is done keeps it that a run is in one call at most, and that its own queue is emptied.
+use Rattle.std.proofs.Common.{◌≡◌, ◌≢◌, ◌⊎◌, ℕ, zero, suc, eqb, ◌+◌, ◌≤◌, List, [], ◌∷◌, ◌++◌, length, set, get_or}
+use Rattle.std.proofs.Common.{Bool, true, false, ◌||◌, ltb}
+use Rattle.std.proofs.Common.{refl, sym, ap, ◌∙◌, subst, inl, inr, ⊎_elim, arith, get_or-set_other}
+use Rattle.std.proofs.lemmas.List.{length-append}
+use Rattle.std.specs.Prelude.{Option, Some, None}
+use Rattle.executor_parts.specs.Sleepers.{waker_at}
+use Rattle.executor_model.specs.declared.call.Reply.{Reply}
+use Rattle.executor_model.specs.declared.call.Reply.TheVariants as reply
+use Rattle.executor_model.specs.declared.event.Event.TheVariants as event
+use Rattle.executor_model.specs.declared.op.Hold.{Hold}
+use Rattle.executor_model.specs.declared.op.Hold.TheVariants as hold
+use Rattle.executor_model.specs.declared.op.ListOp.{ListOp}
+use Rattle.executor_model.specs.declared.op.ListOp.TheVariants as list_op
+use Rattle.executor_model.specs.declared.op.Op.{Op}
+use Rattle.executor_model.specs.declared.op.Op.TheVariants as op
+use Rattle.executor_model.specs.declared.op.Polled.TheVariants as of
+use Rattle.executor_model.specs.declared.op.RunOp.{RunOp}
+use Rattle.executor_model.specs.declared.op.RunOp.TheVariants as run_op
+use Rattle.executor_model.specs.declared.op.RunPoll.{RunPoll}
+use Rattle.executor_model.specs.declared.op.Section.{Section}
+use Rattle.executor_model.specs.declared.op.Section.TheVariants as section
+use Rattle.executor_model.specs.declared.op.Sleeper.{Sleeper}
+use Rattle.executor_model.specs.declared.op.Sleeper.TheVariants as sleeper
+use Rattle.executor_model.specs.declared.op.SleeperOp.TheVariants as sleeper_op
+use Rattle.executor_model.specs.declared.op.Sleeping.{Sleeping}
+use Rattle.executor_model.specs.declared.op.Steal.{Steal}
+use Rattle.executor_model.specs.declared.op.StealOp.{StealOp}
+use Rattle.executor_model.specs.declared.op.StealOp.TheVariants as steal_op
+use Rattle.executor_model.specs.declared.op.TickOp.TheVariants as tick_op
+use Rattle.executor_model.specs.declared.op.UserOp.TheVariants as user_op
+use Rattle.executor_model.specs.declared.op.Waker.{Waker}
+use Rattle.executor_model.specs.declared.op.Waker.TheVariants.{Task, Outside}
+use Rattle.executor_model.specs.declared.op.WakerOp.TheVariants as waker_op
+use Rattle.executor_model.specs.declared.step.Hint.{Hint}
+use Rattle.task_moves.specs.Moves as moves
+use Rattle.task_moves.specs.declared.moves.owed.Move.TheVariants as move
+use Rattle.executor_model.specs.Acts.{copy_by}
+use Rattle.executor_model.specs.ActsOfSleepers.{copy_sleeper_by, held_as, lie_again_by, lie_anew_by, lie_down_by}
+use Rattle.executor_model.specs.ActsOfSleepers.{lie_listed_by}
+use Rattle.executor_model.specs.ActsOfSleepers.{pend_as, search_by, sleeper_goes}
+use Rattle.executor_model.specs.ActsOfRuns.{call_by_reference, free_places, kept_by, make_room_by, make_run_by}
+use Rattle.executor_model.specs.ActsOfRuns.{registered}
+use Rattle.executor_model.specs.ActsOfRuns.{reschedule_by, search_own, steal_by, steal_put_by, unregistered, wake_own}
+use Rattle.executor_model.specs.Doing.{act, list_act, run_act, search_by_who, steal_act}
+use Rattle.executor_model.specs.Rows.{borrowing_of, running_of}
+use Rattle.executor_model.specs.Weights.{same, weigh, holds_run, is_run}
+use Rattle.executor_model.specs.World.{World, Place, Up, Lies, Left, Run, Stage, New, Listed, Ended, done, no_run}
+use Rattle.executor_model.specs.World.{new_run}
+use Rattle.executor_model.specs.World.{log, own_of, run_of, task}
+use Rattle.executor_model.proofs.Asides.{aside-owed}
+use Rattle.executor_model.proofs.Lists.{same_cases, weigh-append}
+use Rattle.executor_model.proofs.SleepersNext.{goes-unseen}
+use Rattle.executor_model.proofs.UsingRuns.{part-common, part-look, part-own, part-steal, part-walk, poll_in, is_put}
+use Rattle.executor_model.proofs.UsingRuns.{lessens-look, lessens-own, lessens-steal, first-taken, idle-common}
+use Rattle.executor_model.proofs.UsingRuns.{idle-more, idle-stolen}
+use Rattle.executor_model.proofs.Using.{Mild, emptying_of, is_for_runs, lending_of, mild-aside}
+use Rattle.executor_model.proofs.Using.{mild-lending, mild-none, mild-polling, mild-running, polling_of}
+use Rattle.executor_model.proofs.UsingWorlds.{Idle, count-set, idle, idle-act, idle-copy, idle-copy_sleeper}
+use Rattle.executor_model.proofs.UsingWorlds.{idle-lie, idle-move, idle-search, is_over_stage, is_past, past-set}
+use Rattle.executor_model.proofs.UsingKeeps.{KeepsUsed, Within, used-here, used-idle, used-stays, within-act}
+use Rattle.executor_model.proofs.UsingKeeps.{within-part}
+
+-- stealing
+
+running-steal : (r : ℕ) (o : StealOp) → running_of r (op.Steal o) ≡ same r (poll_in o).run
+running-steal r (steal_op.Length s) = refl
+running-steal r (steal_op.OwnLength s n) = refl
+running-steal r (steal_op.Take s more) = refl
+running-steal r (steal_op.Put s more f) = refl
+
+polling-steal : (r : ℕ) (o : StealOp) → polling_of r (op.Steal o) ≡ same r (poll_in o).run
+polling-steal r (steal_op.Length s) = refl
+polling-steal r (steal_op.OwnLength s n) = refl
+polling-steal r (steal_op.Take s more) = refl
+polling-steal r (steal_op.Put s more f) = refl
+
+within-steal : (r p : ℕ) (o : StealOp) (w : World) → Within r (op.Steal o ∷ []) (steal_act p o w).next
+within-steal r p o w = within-part r (poll_in o) (op.Steal o) (steal_act p o w).next (running-steal r o)
+    (polling-steal r o) refl (λ v n m c. part-steal v m n p o w c)
+
+-- what comes into the own queue of a run comes there in its poll
+used-put : (b : Bool) (p : ℕ) (w : World) (s : Steal) (more f : ℕ) → ltb 0 (free_places w s.poll.run) ≡ b →
+    KeepsUsed w (op.Steal (steal_op.Put s more f) ∷ []) (steal_put_by b p w s more f)
+used-put true p w s more f e = λ r x a b h.
+    (let q : ℕ = s.poll.run in
+    let v : World = kept_by p w q f in
+    let i : Idle v (steal_by more v s).world = idle-more more v s in
+    let k : Within r (op.Steal (steal_op.Put s more f) ∷ []) (steal_by more v s).next =
+    subst (λ (c : Bool). Within r (op.Steal (steal_op.Put s more f) ∷ []) (steal_put_by c p w s more f).next) e
+    (within-steal r p (steal_op.Put s more f) w) in
+    used-here w (op.Steal (steal_op.Put s more f) ∷ []) (steal_by more v s) r x (i.past r)
+    (omega (arith, i.count)) i.gone
+    (⊎_elim
+    (λ (y : (same r q ≡ 1) × (eqb r q ≡ true) × (r ≡ q)). inr (omega (arith, y.0)))
+    (λ (y : (same r q ≡ 0) × (eqb r q ≡ false) × (r ≢ q)).
+    inl (λ z. ap (λ (qs : List (List ℕ)). get_or qs r []) i.own
+    ∙ (get_or-set_other w.own q r (own_of w q ++ f ∷ []) [] y.2 ∙ z)))
+    (same_cases r q)) k h)
+used-put false p w s more f e =
+    used-idle w (op.Steal (steal_op.Put s more f) ∷ []) (steal_put_by false p w s more f) (idle-stolen s.then w s.poll)
+    (λ r. subst (λ (c : Bool). Within r (op.Steal (steal_op.Put s more f) ∷ []) (steal_put_by c p w s more f).next) e
+    (within-steal r p (steal_op.Put s more f) w))
+
+used-steal-by : (b : Bool) (p : ℕ) (o : StealOp) (w : World) → is_put o ≡ b → KeepsUsed w (op.Steal o ∷ [])
+    (steal_act p o w)
+used-steal-by false p o w n =
+    used-stays w (op.Steal o ∷ []) (steal_act p o w) (lessens-steal p o w n) (λ r. within-steal r p o w)
+used-steal-by true p (steal_op.Put s more f) w n = used-put _ p w s more f refl
+used-steal-by true p _ w n = absurd (cc)
+
+-- searching
+
+held-uses : (r : ℕ) (who : Sleeper) → holds_run r (held_as who) ≡ is_run r who
+held-uses r (sleeper.Tick t) = refl
+held-uses r (sleeper.Run q) = refl
+
+within-found : (r : ℕ) (x : Place) (w : World) (q : List ℕ) (s : Sleeping) →
+    Within r (op.Tick (tick_op.Search s) ∷ []) (search_by x w q s).next
+within-found r x w [] s = record { uses = omega arith; polls = omega arith; empties = omega arith; lends = refl }
+within-found r Up w (f ∷ rest) s = let z = held-uses r s.who in
+    record { uses = omega (arith, z); polls = omega arith; empties = omega arith; lends = refl }
+within-found r (Lies n) w (f ∷ rest) s = let z = held-uses r s.who in
+    record { uses = omega (arith, z); polls = omega arith; empties = omega arith; lends = refl }
+within-found r Left w (f ∷ rest) s = let z = held-uses r s.who in
+    record { uses = omega (arith, z); polls = omega arith; empties = omega arith; lends = refl }
+
+used-search : (who : Sleeper) (w : World) (s : Sleeping) → s.who ≡ who →
+    KeepsUsed w (op.Tick (tick_op.Search s) ∷ []) (search_by_who who w s)
+used-search (sleeper.Tick t) w s e =
+    used-idle w (op.Tick (tick_op.Search s) ∷ []) (search_by_who (sleeper.Tick t) w s) (idle-search _ w _ s)
+    (λ r. within-found r _ w _ s)
+used-search (sleeper.Run q) w s e =
+    let x : RunPoll = record { run = q; waker = s.waker; poll = s.poll } in
+    used-stays w (op.Tick (tick_op.Search s) ∷ []) (search_own w x) (lessens-own _ w x refl)
+    (λ r. within-part r x (op.Tick (tick_op.Search s)) (search_own w x).next (ap (is_run r) e) (ap (is_run r) e) refl
+    (λ v n m c. part-own v m x n c _ w))
+
+-- lying down
+
+within-copy : (r : ℕ) (b : Bool) (w : World) (s : Sleeping) →
+    Within r (op.Tick (tick_op.CopyWaker s) ∷ []) (copy_sleeper_by b w s).next
+within-copy r true w s = let z = held-uses r s.who in
+    record { uses = omega (arith, z); polls = omega arith; empties = omega arith; lends = refl }
+within-copy r false w s = record { uses = omega arith; polls = omega arith; empties = omega arith; lends = refl }
+
+-- by a count of at most n for a search and for the poll's end
+module _ (v : Op → ℕ) (m : Mild v) (n : ℕ) (s : Sleeping) (search : v (op.Tick (tick_op.Search s)) ≤ n)
+    (end : v (op.End reply.Pending (held_as s.who)) ≤ n) where
+  lie-nowhere : weigh v (op.Sleeper (sleeper_op.CallSleeper s) ∷ pend_as s.who) ≤ n
+  lie-nowhere = omega (arith, mild-none v m (op.Sleeper (sleeper_op.CallSleeper s)) refl, end)
+
+  lie-anew : (b : Bool) (w : World) → weigh v (lie_anew_by b w s).next ≤ n
+  lie-anew true w = omega (arith, search)
+  lie-anew false w = lie-nowhere
+
+  lie-listed : (b : Bool) (w : World) (k : ℕ) → weigh v (lie_listed_by b w k s).next ≤ n
+  lie-listed true w k = omega (arith, search)
+  lie-listed false w k = lie-nowhere
+
+  lie-again : (o : Option ℕ) (w : World) (k : ℕ) → weigh v (lie_again_by o w k s).next ≤ n
+  lie-again None w k = lie-listed _ w k
+  lie-again (Some at) w k = let old = waker_at (Some at) w.sleepers.wakers in
+      omega (
+        arith,
+        weigh-append v (sleeper_goes old) (pend_as s.who),
+        goes-unseen v (λ f. mild-none v m (op.Move move.Release f) refl) old,
+        end,
+      )
+
+  lie-few : (x : Place) (w : World) → weigh v (lie_down_by x w s).next ≤ n
+  lie-few Up w = lie-anew _ w
+  lie-few (Lies k) w = lie-again _ w k
+  lie-few Left w = lie-nowhere
+
+within-lie : (r : ℕ) (x : Place) (w : World) (s : Sleeping) →
+    Within r (op.Tick (tick_op.LieDown s) ∷ []) (lie_down_by x w s).next
+within-lie r x w s = record {
+  uses =
+      omega (
+        arith,
+        lie-few (running_of r) (mild-running r) (is_run r s.who) s (omega arith) (omega (arith, held-uses r s.who)) x w,
+      );
+  polls = omega (arith, lie-few (polling_of r) (mild-polling r) (is_run r s.who) s (omega arith) (omega arith) x w);
+  empties = omega arith;
+  lends = omega (arith, lie-few (lending_of r) (mild-lending r) 0 s (omega arith) (omega arith) x w);
+}
+
+-- a waker is copied for a call that uses no run
+
+used-copy : (b : Bool) (w : World) (f : ℕ) (held : Hold) →
+    KeepsUsed w (op.Waker (waker_op.CopyWaker f held) ∷ []) (copy_by b w f held)
+used-copy b w f held r x c d h =
+    let i : Idle w (copy_by b w f held).world = idle-copy b w f held in
+    let z : holds_run r held ≡ 0 = omega (arith, h.unlent) in
+    used-here w (op.Waker (waker_op.CopyWaker f held) ∷ []) (copy_by b w f held) r x (i.past r) (omega (arith, i.count))
+    i.gone (inl (λ e. ap (λ (qs : List (List ℕ)). get_or qs r []) i.own ∙ e)) (within b z) h
+  where
+    within : (b : Bool) → holds_run r held ≡ 0 →
+        Within r (op.Waker (waker_op.CopyWaker f held) ∷ []) (copy_by b w f held).next
+    within true z = record { uses = omega (arith, z); polls = omega arith; empties = omega arith; lends = refl }
+    within false z = record { uses = omega (arith, z); polls = omega arith; empties = omega arith; lends = refl }
+
+-- the list of queues
+
+-- a run is made
+used-make : (b : Bool) (w : World) → w.gone ≡ false →
+    KeepsUsed w (op.List (list_op.Write section.MakeRun) ∷ []) (make_run_by b w)
+used-make true w g = used-idle w (op.List (list_op.Write section.MakeRun) ∷ []) (make_run_by true w)
+    (idle w _ refl refl refl)
+    (λ r. record { uses = omega arith; polls = omega arith; empties = omega arith; lends = refl })
+used-make false w g = λ r x a b h. ⊎_elim
+    (λ (y : (same r (length w.runs) ≡ 1) × (eqb r (length w.runs) ≡ true) × (r ≡ length w.runs)).
+    let none : x.uses ≡ 0 = omega (arith, h.unborn (omega (arith, y.2))) in
+    let new : run_of (make_run_by false w).world r ≡ new_run =
+    ap (λ (n : ℕ). get_or (w.runs ++ new_run ∷ []) n no_run) y.2 ∙ last-new w.runs in
+    record {
+      once = omega (arith, none, y.0);
+      unborn = λ e. absurd (omega (arith, e, y.2, length-append w.runs (new_run ∷ [])));
+      unlent = omega (arith, h.unlent);
+      polled = λ e. absurd (omega (arith, e, a, none));
+      emptied = λ e. let no : false ≡ true = sym (ap is_past new) ∙ e in absurd (cc);
+      gone = λ e. let no : false ≡ true = sym g ∙ e in absurd (cc);
+    })
+    (λ (y : (same r (length w.runs) ≡ 0) × (eqb r (length w.runs) ≡ false) × (r ≢ length w.runs)).
+    let run : run_of (make_run_by false w).world r ≡ run_of w r = other-run w.runs r y.2 in
+    let own : own_of w r ≡ [] → own_of (make_run_by false w).world r ≡ [] = other-own w.own r in
+    record {
+      once = omega (arith, h.once, y.0);
+      unborn = λ e. omega (arith, h.unborn (omega (arith, e, length-append w.runs (new_run ∷ []))), y.0);
+      unlent = omega (arith, h.unlent);
+      polled = λ e. ap is_past run ∙ h.polled (omega (arith, e));
+      emptied = λ e. ⊎_elim (λ (z : own_of w r ≡ []). inl (own z))
+          (λ (z : 1 ≤ weigh (emptying_of r) (op.List (list_op.Write section.MakeRun) ∷ []) + x.empties).
+          inr (omega (arith, z))) (h.emptied (sym (ap is_past run) ∙ e));
+      gone = λ e. let no : false ≡ true = sym g ∙ e in absurd (cc);
+    })
+    (same_cases r (length w.runs))
+  where
+    last-new : (rs : List Run) → get_or (rs ++ new_run ∷ []) (length rs) no_run ≡ new_run
+    last-new [] = refl
+    last-new (y ∷ rs) = last-new rs
+
+    other-run : (rs : List Run) (n : ℕ) → n ≢ length rs → get_or (rs ++ new_run ∷ []) n no_run ≡ get_or rs n no_run
+    other-run [] zero k = absurd (k refl)
+    other-run [] (suc n) k = refl
+    other-run (y ∷ rs) zero k = refl
+    other-run (y ∷ rs) (suc n) k = other-run rs n (λ e. k (ap (λ (m : ℕ). suc m) e))
+
+    other-own : (qs : List (List ℕ)) (n : ℕ) → get_or qs n [] ≡ [] → get_or (qs ++ [] ∷ []) n [] ≡ []
+    other-own [] zero k = refl
+    other-own [] (suc n) k = refl
+    other-own (q ∷ qs) zero k = k
+    other-own (q ∷ qs) (suc n) k = other-own qs n k
+
+idle-registered : (t : Stage) (w : World) (q : ℕ) → (run_of w q).stage ≡ t → Idle w (registered t w q)
+idle-registered New w q e = record {
+  own = refl;
+  past = past-set w.runs q _ (ap (λ (t : Stage). (run_of w q).dropped || is_over_stage t) (sym e));
+  count = count-set w.runs q _;
+  gone = refl;
+}
+idle-registered Listed w q e = idle w _ refl refl refl
+idle-registered Ended w q e = idle w _ refl refl refl
+
+used-unregister : (w : World) (q : ℕ) (a : Reply) →
+    KeepsUsed w (op.List (list_op.Write (section.Unregister q a)) ∷ [])
+    (done (unregistered w q) (op.List list_op.UnlockWrite ∷ op.Run (run_op.Reschedule q a) ∷ []))
+used-unregister w q a r x b c h = ⊎_elim
+    (λ (y : (same r q ≡ 1) × (eqb r q ≡ true) × (r ≡ q)).
+    record {
+      once = omega (arith, h.once);
+      unborn = λ e. omega (
+        arith,
+        h.unborn (omega (
+          arith,
+          e,
+          count-set w.runs q
+              (record (run_of w q) { stage = Ended }),
+        )),
+      );
+      unlent = omega (arith, h.unlent);
+      polled = λ e. absurd (omega (arith, e, b, h.once, y.0));
+      emptied = λ e. inr (omega (arith, y.0));
+      gone = λ e. ended w.runs (run_of w q) q r (h.gone e) y.2;
+    })
+    (λ (y : (same r q ≡ 0) × (eqb r q ≡ false) × (r ≢ q)).
+    let run : run_of (unregistered w q) r ≡ run_of w r =
+    get_or-set_other w.runs q r (record (run_of w q) { stage = Ended }) no_run y.2 in
+    record {
+      once = omega (arith, h.once);
+      unborn = λ e. omega (
+        arith,
+        h.unborn (omega (
+          arith,
+          e,
+          count-set w.runs q
+              (record (run_of w q) { stage = Ended }),
+        )),
+      );
+      unlent = omega (arith, h.unlent);
+      polled = λ e. ap is_past run ∙ h.polled (omega (arith, e));
+      emptied = λ e. ⊎_elim (λ (z : own_of w r ≡ []). inl z)
+          (λ (z : 1 ≤ weigh (emptying_of r) (op.List (list_op.Write (section.Unregister q a)) ∷ []) + x.empties).
+          inr (omega (arith, z))) (h.emptied (sym (ap is_past run) ∙ e));
+      gone = λ e. ap is_past run ∙ h.gone e;
+    })
+    (same_cases r q)
+  where
+    or-true : (d : Bool) → (d || true) ≡ true
+    or-true true = refl
+    or-true false = refl
+
+    ended : (rs : List Run) (y : Run) (n m : ℕ) → is_past (get_or rs m no_run) ≡ true → m ≡ n →
+        is_past (get_or (set rs n (record y { stage = Ended })) m no_run) ≡ true
+    ended [] y n m e k = refl
+    ended (z ∷ rs) y zero zero e k = or-true y.dropped
+    ended (z ∷ rs) y (suc n) (suc m) e k = ended rs y n m e (omega (arith, k))
+    ended (z ∷ rs) y zero (suc m) e k = e
+    ended (z ∷ rs) y (suc n) zero e k = e
+
+-- what passes on a section of the lock
+within-lock : (r : ℕ) (s : Section) → Within r (op.List (list_op.LockWrite s) ∷ []) (op.List (list_op.Write s) ∷ [])
+within-lock r s = record { uses = omega arith; polls = omega arith; empties = omega arith; lends = refl }
+
+used-list : (h : Hint) (o : ListOp) (w : World) → (w.gone ≡ true → borrowing_of (op.List o) ≡ 0) →
+    KeepsUsed w (op.List o ∷ []) (list_act h o w)
+used-list h (list_op.LockWrite s) w g =
+    used-idle w (op.List (list_op.LockWrite s) ∷ []) (list_act h (list_op.LockWrite s) w) (idle w _ refl refl refl)
+    (λ r. within-lock r s)
+used-list h (list_op.Write section.MakeRun) w g = used-make h.refused w (here w.gone refl g)
+  where
+    here : (b : Bool) → w.gone ≡ b → (w.gone ≡ true → borrowing_of (op.List (list_op.Write section.MakeRun)) ≡ 0) →
+        b ≡ false
+    here false e k = refl
+    here true e k = absurd (omega (arith, k e))
+used-list h (list_op.Write (section.Register x)) w g =
+    used-idle w (op.List (list_op.Write (section.Register x)) ∷ []) (list_act h (list_op.Write (section.Register x)) w)
+    (idle-registered _ w x.run refl)
+    (λ r. record { uses = omega arith; polls = omega arith; empties = omega arith; lends = refl })
+used-list h (list_op.Write (section.Unregister q a)) w g = used-unregister w q a
+used-list h list_op.UnlockWrite w g =
+    used-idle w (op.List list_op.UnlockWrite ∷ []) (list_act h list_op.UnlockWrite w) (idle w _ refl refl refl)
+    (λ r. record { uses = omega arith; polls = omega arith; empties = omega arith; lends = refl })
+used-list h (list_op.LockRead x) w g =
+    used-idle w (op.List (list_op.LockRead x) ∷ []) (list_act h (list_op.LockRead x) w) (idle w _ refl refl refl)
+    (λ r. within-part r x (op.List (list_op.LockRead x)) (list_act h (list_op.LockRead x) w).next refl refl refl
+    (λ v n m c. part-walk v m x n c w.listed _ _))
+used-list h list_op.UnlockRead w g =
+    used-idle w (op.List list_op.UnlockRead ∷ []) (list_act h list_op.UnlockRead w) (idle w _ refl refl refl)
+    (λ r. record { uses = omega arith; polls = omega arith; empties = omega arith; lends = refl })
+
+-- the other parts of a run's calls
+
+idle-room : (b : Bool) (w : World) → Idle w (make_room_by b w).world
+idle-room true w = idle w _ refl refl refl
+idle-room false w = idle w _ refl refl refl
+
+within-room : (r : ℕ) (b : Bool) (w : World) → Within r (op.Run run_op.MakeRoom ∷ []) (make_room_by b w).next
+within-room r true w = record { uses = omega arith; polls = omega arith; empties = omega arith; lends = refl }
+within-room r false w = record { uses = omega arith; polls = omega arith; empties = omega arith; lends = refl }
+
+idle-by_reference : (p : ℕ) (w : World) (a : Waker) → Idle w (call_by_reference p w a).world
+idle-by_reference p w (Task f) = idle-move true move.WakeByReference p w w f (idle w _ refl refl refl)
+idle-by_reference p w (Outside y) = idle w _ refl refl refl
+
+mild-by_reference : (v : Op → ℕ) → Mild v → (p : ℕ) (w : World) (a : Waker) → weigh v (call_by_reference p w a).next ≡ 0
+mild-by_reference v m p w (Task f) = aside-owed v (mild-aside v m) f _ (moves.wake_by_reference (task w f)).owed
+mild-by_reference v m p w (Outside y) = omega (arith, mild-none v m (op.User (user_op.CallOutside y)) refl)
+
+abbrev called : ℕ → World → RunPoll → World
+called p w x = log w (event.WakerCalled p (of.Run x.run) x.poll x.waker)
+
+mild-own : (v : Op → ℕ) → Mild v → (p : ℕ) (w : World) (x : RunPoll) →
+    weigh v (wake_own p w x).next ≡ v (op.End reply.Pending (hold.Run x.run))
+mild-own v m p w x = omega (
+  arith,
+  weigh-append v (call_by_reference p (called p w x) x.waker).next (op.End reply.Pending (hold.Run x.run) ∷ []),
+  mild-by_reference v m p (called p w x) x.waker,
+)
+
+used-wake_own : (p : ℕ) (w : World) (x : RunPoll) → KeepsUsed w (op.Run (run_op.WakeOwn x) ∷ []) (wake_own p w x)
+used-wake_own p w x =
+    let i : Idle (called p w x) (call_by_reference p (called p w x) x.waker).world =
+    idle-by_reference p (called p w x) x.waker in
+    used-idle w (op.Run (run_op.WakeOwn x) ∷ []) (wake_own p w x)
+    (record { own = i.own; past = i.past; count = i.count; gone = i.gone })
+    (λ r. record {
+      uses = omega (arith, mild-own (running_of r) (mild-running r) p w x);
+      polls = omega (arith, mild-own (polling_of r) (mild-polling r) p w x);
+      empties = omega arith;
+      lends = mild-own (lending_of r) (mild-lending r) p w x;
+    })
+
+used-reschedule : (own : List ℕ) (w : World) (q : ℕ) (a : Reply) → own_of w q ≡ own →
+    KeepsUsed w (op.Run (run_op.Reschedule q a) ∷ []) (reschedule_by own w q a)
+used-reschedule [] w q a o = λ r x b c h. record {
+  once = omega (arith, h.once);
+  unborn = λ e. omega (arith, h.unborn e);
+  unlent = omega (arith, h.unlent);
+  polled = λ e. h.polled (omega (arith, e));
+  emptied = λ e. ⊎_elim
+      (λ (y : (same r q ≡ 1) × (eqb r q ≡ true) × (r ≡ q)). inl (ap (own_of w) y.2 ∙ o))
+      (λ (y : (same r q ≡ 0) × (eqb r q ≡ false) × (r ≢ q)). ⊎_elim (λ (z : own_of w r ≡ []). inl z)
+      (λ (z : 1 ≤ weigh (emptying_of r) (op.Run (run_op.Reschedule q a) ∷ []) + x.empties). inr (omega (arith, z, y.0)))
+      (h.emptied e))
+      (same_cases r q);
+  gone = h.gone;
+}
+used-reschedule (f ∷ rest) w q a o =
+    used-stays w (op.Run (run_op.Reschedule q a) ∷ []) (reschedule_by (f ∷ rest) w q a) (first-taken w q f rest o)
+    (λ r. record { uses = omega arith; polls = omega arith; empties = omega arith; lends = refl })
+
+used-run : (p : ℕ) (h : Hint) (o : RunOp) (w : World) → KeepsUsed w (op.Run o ∷ []) (run_act p h o w)
+used-run p h run_op.MakeRoom w =
+    used-idle w (op.Run run_op.MakeRoom ∷ []) (run_act p h run_op.MakeRoom w) (idle-room h.refused w)
+    (λ r. within-room r h.refused w)
+used-run p h run_op.ReturnRoom w =
+    used-idle w (op.Run run_op.ReturnRoom ∷ []) (run_act p h run_op.ReturnRoom w) (idle w _ refl refl refl)
+    (λ r. record { uses = omega arith; polls = omega arith; empties = omega arith; lends = refl })
+used-run p h (run_op.SearchCommon x) w =
+    used-idle w (op.Run (run_op.SearchCommon x) ∷ []) (run_act p h (run_op.SearchCommon x) w) (idle-common _ w x)
+    (λ r. within-part r x (op.Run (run_op.SearchCommon x)) (run_act p h (run_op.SearchCommon x) w).next refl refl refl
+    (λ v n m c. part-common v m x n c _ w))
+used-run p h (run_op.LookOwn x at left) w =
+    used-stays w (op.Run (run_op.LookOwn x at left) ∷ []) (run_act p h (run_op.LookOwn x at left) w)
+    (lessens-look _ w x at left refl)
+    (λ r. within-part r x (op.Run (run_op.LookOwn x at left))
+    (run_act p h (run_op.LookOwn x at left) w).next refl refl refl
+    (λ v n m c. part-look v m x n c _ w at left))
+used-run p h (run_op.WakeOwn x) w = used-wake_own p w x
+used-run p h (run_op.Reschedule q a) w = used-reschedule _ w q a refl
+
+-- each thing that is done
+
+used-act-by : (b : Bool) (p : ℕ) (h : Hint) (o : Op) (w : World) → is_for_runs o ≡ b →
+    (w.gone ≡ true → borrowing_of o ≡ 0) → KeepsUsed w (o ∷ []) (act p h o w)
+used-act-by false p h o w n g =
+    used-idle w (o ∷ []) (act p h o w) (idle-act p h o w n) (λ r. within-act r p h o w n)
+used-act-by true p h (op.Tick (tick_op.Search s)) w n g = used-search s.who w s refl
+used-act-by true p h (op.Tick (tick_op.CopyWaker s)) w n g =
+    used-idle w (op.Tick (tick_op.CopyWaker s) ∷ []) (act p h (op.Tick (tick_op.CopyWaker s)) w)
+    (idle-copy_sleeper _ w s)
+    (λ r. within-copy r _ w s)
+used-act-by true p h (op.Tick (tick_op.LieDown s)) w n g =
+    used-idle w (op.Tick (tick_op.LieDown s) ∷ []) (act p h (op.Tick (tick_op.LieDown s)) w) (idle-lie _ w s)
+    (λ r. within-lie r _ w s)
+used-act-by true p h (op.User (user_op.PollOwn x)) w n g =
+    used-idle w (op.User (user_op.PollOwn x) ∷ []) (act p h (op.User (user_op.PollOwn x)) w) (idle w _ refl refl refl)
+    (λ r. record { uses = omega arith; polls = omega arith; empties = omega arith; lends = refl })
+used-act-by true p h (op.Waker (waker_op.CopyWaker f held)) w n g = used-copy _ w f held
+used-act-by true p h (op.List o) w n g = used-list h o w g
+used-act-by true p h (op.Steal o) w n g = used-steal-by _ p o w refl
+used-act-by true p h (op.Run o) w n g = used-run p h o w
+used-act-by true p h (op.End a held) w n g =
+    used-idle w (op.End a held ∷ []) (act p h (op.End a held) w) (idle w _ refl refl refl)
+    (λ r. record { uses = omega arith; polls = omega arith; empties = omega arith; lends = refl })
+used-act-by true p h _ w n g = absurd (cc)
+
+pub used-end : (w : World) (p : ℕ) (a : Reply) (held : Hold) →
+    KeepsUsed w (op.End a held ∷ []) (done (log w (event.CallEnded p a)) [])
+used-end w p a held =
+    used-idle w (op.End a held ∷ []) (done (log w (event.CallEnded p a)) []) (idle w _ refl refl refl)
+    (λ r. record { uses = omega arith; polls = omega arith; empties = omega arith; lends = refl })
+
+pub used-act : (p : ℕ) (h : Hint) (o : Op) (w : World) → (w.gone ≡ true → borrowing_of o ≡ 0) →
+    KeepsUsed w (o ∷ []) (act p h o w)
+used-act p h o w g = used-act-by _ p h o w refl g

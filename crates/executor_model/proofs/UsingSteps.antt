@@ -1,0 +1,194 @@
+-- In each run of the machine a run is in one call at most, and where the executor's drop has begun its own queue is
+-- empty.
+use Rattle.std.proofs.Common.{◌≡◌, ◌⊎◌, ℕ, zero, suc, ◌+◌, ◌<◌, ◌≤◌, List, [], ◌∷◌, ◌++◌, length, set, get_or}
+use Rattle.std.proofs.Common.{Bool, true, false, ◌&&◌, ◌||◌, not, refl, sym, ap, ◌∙◌, subst, inl, ⊎_elim, arith}
+use Rattle.std.specs.Prelude.{Option, reverse}
+use Rattle.std.specs.List.{list_any}
+use Rattle.executor_model.specs.declared.call.Call.{Call}
+use Rattle.executor_model.specs.declared.call.Call.TheVariants as call
+use Rattle.executor_model.specs.declared.call.Reply.{Reply}
+use Rattle.executor_model.specs.declared.event.Event.TheVariants as event
+use Rattle.executor_model.specs.declared.op.Hold.{Hold}
+use Rattle.executor_model.specs.declared.op.ListOp.TheVariants as list_op
+use Rattle.executor_model.specs.declared.op.Op.{Op}
+use Rattle.executor_model.specs.declared.op.Op.TheVariants as op
+use Rattle.executor_model.specs.declared.op.RunOp.TheVariants as run_op
+use Rattle.executor_model.specs.declared.op.Section.TheVariants as section
+use Rattle.executor_model.specs.declared.step.Step.{Step}
+use Rattle.executor_model.specs.Doing.{act}
+use Rattle.executor_model.specs.Good.{Good}
+use Rattle.executor_model.specs.OwnQueues.{IsUsedOnce}
+use Rattle.executor_model.specs.Rows.{borrowing_of, running_of}
+use Rattle.executor_model.specs.Sound.{times, times_in}
+use Rattle.executor_model.specs.Steps.{Machine, begun, has_all, has_run, is_drop}
+use Rattle.executor_model.specs.Steps.{is_free, is_on_executor, is_there, is_unborrowed, is_unused, kept, lives, mine}
+use Rattle.executor_model.specs.Steps.{react, run, stack, start, top}
+use Rattle.executor_model.specs.Weights.{weigh_all}
+use Rattle.executor_model.specs.World.{World, Run, Done, done, log, no_run, own_of, run_of}
+use Rattle.executor_model.proofs.Lift.{first-true, good, good-start, none_refused, set-own, split, unborrowed}
+use Rattle.executor_model.proofs.Lift.{unsettled, weigh_all-idle}
+use Rattle.executor_model.proofs.Lists.{same_is, weigh_all-below, weigh_all-push}
+use Rattle.executor_model.proofs.Ways.{Way, along}
+use Rattle.executor_model.proofs.Ways.Way.{acted, reacted, called}
+use Rattle.executor_model.proofs.Using.{emptying-uses, emptying_of, lending_of, polling-uses, polling_of}
+use Rattle.executor_model.proofs.UsingWorlds.{is_over_stage, is_past}
+use Rattle.executor_model.proofs.UsingCalls.{FreeRun, used-begun, used-react}
+use Rattle.executor_model.proofs.UsingKeeps.{Used, counts, with_counts}
+use Rattle.executor_model.proofs.UsingActs.{used-act, used-end}
+
+-- the machine
+
+abbrev pub AllUsed : Machine → Type 0
+AllUsed s = (r : ℕ) → Used s.world r (counts r s.parties)
+
+split-counts : (r : ℕ) (ss : List (List Op)) (p : ℕ) (old rest : List Op) → p < length ss →
+    get_or ss p [] ≡ rest ++ reverse old → counts r ss ≡ with_counts r old (counts r (set ss p rest))
+split-counts r ss p old rest l e = λ i. record {
+  uses = split (running_of r) ss p old rest l e i;
+  polls = split (polling_of r) ss p old rest l e i;
+  empties = split (emptying_of r) ss p old rest l e i;
+  lends = split (lending_of r) ss p old rest l e i;
+}
+
+push-counts : (r : ℕ) (ss : List (List Op)) (p : ℕ) (rest next : List Op) → p < length ss →
+    counts r (set ss p (rest ++ reverse next)) ≡ with_counts r next (counts r (set ss p rest))
+push-counts r ss p rest next l = λ i. record {
+  uses = weigh_all-push (running_of r) ss p rest next l i;
+  polls = weigh_all-push (polling_of r) ss p rest next l i;
+  empties = weigh_all-push (emptying_of r) ss p rest next l i;
+  lends = weigh_all-push (lending_of r) ss p rest next l i;
+}
+
+-- what is kept beside what the others have to do here
+abbrev KeepsHere : World → List Op → Done → List (List Op) → Type 0
+KeepsHere w old d others =
+    (r : ℕ) → (counts r others).polls ≤ (counts r others).uses → (counts r others).empties ≤ (counts r others).uses →
+    Used w r (with_counts r old (counts r others)) → Used d.world r (with_counts r d.next (counts r others))
+
+used-unsettled : (s : Machine) (p : ℕ) (old rest : List Op) (d : Done) → p < length s.parties →
+    stack s p ≡ rest ++ reverse old → KeepsHere s.world old d (set s.parties p rest) → AllUsed s →
+    AllUsed (unsettled s p rest d)
+used-unsettled s p old rest d l e k h r =
+    subst (Used d.world r) (sym (push-counts r s.parties p rest d.next l))
+    (k r (weigh_all-below (polling_of r) (running_of r) (polling-uses r) (set s.parties p rest))
+    (weigh_all-below (emptying_of r) (running_of r) (emptying-uses r) (set s.parties p rest))
+    (subst (Used s.world r) (split-counts r s.parties p old rest l e) (h r)))
+
+unlent-here : (s : Machine) (p : ℕ) (o : Op) (rest : List Op) → p < length s.parties →
+    stack s p ≡ rest ++ reverse (o ∷ []) → Good s → s.world.gone ≡ true → borrowing_of o ≡ 0
+unlent-here s p o rest l e good g =
+    omega (arith, (good.sound 0).lent g, split borrowing_of s.parties p (o ∷ []) rest l e)
+
+and-right : (a b : Bool) → (a && b) ≡ true → b ≡ true
+and-right true b e = e
+and-right false b e = absurd (cc)
+
+free-run : (w : World) (ss others : List (List Op)) (q r : ℕ) → others ≡ ss → has_run w ss q ≡ true →
+    (is_there (run_of w q) ≡ true) × (r ≡ q → weigh_all (running_of r) others ≡ 0)
+free-run w ss others q r e k = (
+  first-true _ _ k,
+  λ z. ap (λ (n : ℕ). weigh_all (running_of n) others) z
+      ∙ (ap (weigh_all (running_of q)) e ∙ unborrowed (weigh_all (running_of q) ss) (and-right _ _ k)),
+)
+
+all-past : (rs : List Run) (r : ℕ) → list_any is_there rs ≡ false → is_past (get_or rs r no_run) ≡ true
+all-past [] r e = refl
+all-past (x ∷ rs) zero e = by x.dropped (list_any is_there rs) e
+  where
+    by : (d c : Bool) → (not d || c) ≡ false → (d || is_over_stage x.stage) ≡ true
+    by true c k = refl
+    by false c k = absurd (cc)
+all-past (x ∷ rs) (suc r) e = all-past rs r (by (is_there x) (list_any is_there rs) e)
+  where
+    by : (d c : Bool) → (d || c) ≡ false → c ≡ false
+    by false c k = k
+    by true c k = absurd (cc)
+
+none-there : (a l t : Bool) → (a && not (l || t)) ≡ true → t ≡ false
+none-there a l false e = refl
+none-there true true true e = absurd (cc)
+none-there true false true e = absurd (cc)
+none-there false l true e = absurd (cc)
+
+free : (s : Machine) (p : ℕ) (rest : List Op) (o : Option Op) (c : Call) (r : ℕ) → set s.parties p rest ≡ s.parties →
+    has_all s.world s.parties o c ≡ true → (not (is_drop c) || is_unborrowed s.world s.parties) ≡ true →
+    FreeRun s.world c r (counts r (set s.parties p rest))
+free s p rest o (call.PollRun q b) r e k n = free-run s.world s.parties (set s.parties p rest) q r e (first-true _ _ k)
+free s p rest o (call.DropRun q) r e k n = free-run s.world s.parties (set s.parties p rest) q r e k
+free s p rest o call.DropExecutor r e k n =
+    all-past s.world.runs r (none-there (is_unused borrowing_of s.parties) (list_any lives s.world.ticks) _ n)
+free s p rest o _ r e k n = tt
+
+pub used-moves : (s : Machine) (p : ℕ) (old rest : List Op) (d : Done) → Good s → p < length s.parties →
+    stack s p ≡ rest ++ reverse old → Way s p old rest d → AllUsed s → AllUsed (unsettled s p rest d)
+used-moves s p old rest d good l e (acted h o q z) u =
+    let e2 : stack s p ≡ rest ++ reverse (o ∷ []) = subst (λ (os : List Op). stack s p ≡ rest ++ reverse os) q e in
+    rw z (used-unsettled s p (o ∷ []) rest (act p h o s.world) l e2
+    (λ r. used-act p h o s.world (unlent-here s p o rest l e2 good) r _) u)
+used-moves s p old rest d good l e (reacted o a k q z) u =
+    let e2 : stack s p ≡ rest ++ reverse (o ∷ []) = subst (λ (os : List Op). stack s p ≡ rest ++ reverse os) q e in
+    rw z (used-unsettled s p (o ∷ []) rest (react p o a s.world) l e2 (λ r. used-react p o a s.world k r _) u)
+used-moves s p old rest d good l e (called c q t n z) u =
+    let e2 : stack s p ≡ rest ++ reverse [] = subst (λ (os : List Op). stack s p ≡ rest ++ reverse os) q e in
+    let f : _ = none_refused (is_free (top (stack s p))) (has_all s.world s.parties (top (stack s p)) c)
+    (not (s.world.gone && is_on_executor c)) (not (is_drop c) || is_unborrowed s.world s.parties) n in
+    let own : set s.parties p rest ≡ s.parties = ap (set s.parties p) t ∙ set-own s.parties p l in
+    rw z (used-unsettled s p [] rest (begun p (log s.world (event.CallBegun p c)) (mine (top (stack s p))) c) l e2
+    (λ r a b. used-begun p s.world (mine (top (stack s p))) c r (counts r (set s.parties p rest)) a b
+    (free s p rest (top (stack s p)) c r own f.1 f.3)) u)
+
+pub used-ends : (s : Machine) (p : ℕ) (a : Reply) (held : Hold) (below : List Op) → p < length s.parties →
+    stack s p ≡ below ++ reverse (op.End a held ∷ []) → AllUsed s →
+    AllUsed (unsettled s p below (done (log s.world (event.CallEnded p a)) []))
+used-ends s p a held below l e u =
+    used-unsettled s p (op.End a held ∷ []) below (done (log s.world (event.CallEnded p a)) []) l e
+    (λ r. used-end s.world p a held r _) u
+
+pub used-start : (limit n : ℕ) → AllUsed (start limit n)
+used-start limit n r = record {
+  once = omega (arith, weigh_all-idle (running_of r) n);
+  unborn = λ e. weigh_all-idle (running_of r) n;
+  unlent = weigh_all-idle (lending_of r) n;
+  polled = λ e. absurd (omega (arith, e, weigh_all-idle (polling_of r) n));
+  emptied = λ e. inl refl;
+  gone = λ e. let no : false ≡ true = e in absurd (cc);
+}
+
+pub all-used : (limit n : ℕ) (ts : List Step) → AllUsed (run ts (start limit n))
+all-used limit n ts = along AllUsed used-moves used-ends ts (start limit n) (good-start limit n) (used-start limit n)
+
+-- so a run is in one call at most
+pub is-used-once : (limit n : ℕ) (ts : List Step) (r : ℕ) → IsUsedOnce (run ts (start limit n)) r
+is-used-once limit n ts r = (all-used limit n ts r).once
+
+-- and nothing stands in an own queue where the executor's drop has begun
+
+abbrev pub OwnEmptied : Machine → Type 0
+OwnEmptied s = s.world.gone ≡ true → (g : ℕ) → times_in g s.world.own ≡ 0
+
+emptying-borrows : (r : ℕ) (o : Op) → emptying_of r o ≤ borrowing_of o
+emptying-borrows r (op.List (list_op.LockWrite section.MakeRun)) = omega arith
+emptying-borrows r (op.List (list_op.LockWrite (section.Register x))) = omega arith
+emptying-borrows r (op.List (list_op.LockWrite (section.Unregister q a))) = grind (arith, same_is)
+emptying-borrows r (op.List (list_op.Write section.MakeRun)) = omega arith
+emptying-borrows r (op.List (list_op.Write (section.Register x))) = omega arith
+emptying-borrows r (op.List (list_op.Write (section.Unregister q a))) = grind (arith, same_is)
+emptying-borrows r (op.Run (run_op.Reschedule q a)) = grind (arith, same_is)
+emptying-borrows r _ = omega arith
+
+none-in : (g : ℕ) (qs : List (List ℕ)) → ((r : ℕ) → get_or qs r [] ≡ []) → times_in g qs ≡ 0
+none-in g [] k = refl
+none-in g (q ∷ qs) k = omega (arith, ap (times g) (k 0), none-in g qs (λ r. k (suc r)))
+
+emptied-here : (s : Machine) → Good s → AllUsed s → OwnEmptied s
+emptied-here s good u e g = none-in g s.world.own (λ r. ⊎_elim (λ (z : own_of s.world r ≡ []). z)
+    (λ (z : 1 ≤ weigh_all (emptying_of r) s.parties). absurd (omega (
+      arith,
+      z,
+      weigh_all-below (emptying_of r) borrowing_of (emptying-borrows r) s.parties,
+      (good.sound 0).lent e,
+    )))
+    ((u r).emptied ((u r).gone e)))
+
+pub own-emptied : (limit n : ℕ) (ts : List Step) → OwnEmptied (run ts (start limit n))
+own-emptied limit n ts = emptied-here (run ts (start limit n)) (good limit n ts) (all-used limit n ts)

@@ -1,0 +1,19 @@
+use Rattle.std.proofs.Common.{ap, sym, ◌∙◌, set, map, refl, arith}
+use Rattle.executor_model.specs.World.{Run, no_run}
+use Rattle.executor_runs.specs.Runs.{as_run, as_stage}
+use Rattle.executor_runs.proofs.Lists.{read, same, written}
+use Rattle.executor_runs.proofs.at.set_stage.Goals as goal
+
+pub returns-clause-runs : goal.returns-clause-runs
+returns-clause-runs c =
+    let xs = c.args.runs.now.items in
+    let x = c.index_mut-run.result.now in
+    written as_run xs c.args.at (record x { stage = c.args.stage }) (record (as_run x) { stage = as_stage c.args.stage })
+    refl ∙ ap (λ (y : Run). set (map as_run xs) c.args.at (record y { stage = as_stage c.args.stage }))
+    (sym (read as_run xs c.args.at x no_run (omega (arith, c.requires)) c.index_mut-run.ensures.value))
+
+pub returns-clause-own : goal.returns-clause-own
+returns-clause-own c =
+    let x = c.index_mut-run.result.now in
+    same (λ y. y.own) c.args.runs.now.items c.args.at x (record x { stage = c.args.stage }) c.index_mut-run.ensures.value
+    refl

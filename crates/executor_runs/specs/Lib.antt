@@ -1,0 +1,5 @@
+pub mod Counted
+pub mod Lodgers
+pub mod Running
+pub mod Runs
+pub mod Walks

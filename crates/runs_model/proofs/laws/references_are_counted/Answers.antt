@@ -1,5 +1,0 @@
-use Rattle.runs_model.proofs.Lift.{good}
-use Rattle.runs_model.proofs.laws.references_are_counted.Goals as goal
-
-pub returns : goal.returns
-returns c = λ limit parties steps f. ((good limit parties steps).sound f).counted

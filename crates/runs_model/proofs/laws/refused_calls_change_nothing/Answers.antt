@@ -1,5 +1,0 @@
-use Rattle.runs_model.proofs.Refusing.{refused-changes-nothing}
-use Rattle.runs_model.proofs.laws.refused_calls_change_nothing.Goals as goal
-
-pub returns : goal.returns
-returns c = refused-changes-nothing

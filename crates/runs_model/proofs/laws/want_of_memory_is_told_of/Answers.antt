@@ -1,5 +1,0 @@
-use Rattle.runs_model.proofs.Refusing.{want-is-told-of}
-use Rattle.runs_model.proofs.laws.want_of_memory_is_told_of.Goals as goal
-
-pub returns : goal.returns
-returns c = want-is-told-of

@@ -1,5 +1,0 @@
-use Rattle.runs_model.proofs.AwaitedRest.{awaiter-is-kept}
-use Rattle.runs_model.proofs.trace_laws.awaiters_are_kept.Goals as goal
-
-pub returns : goal.returns
-returns c = awaiter-is-kept

@@ -1,6 +1,0 @@
-use Rattle.runs_model.specs.DroppedOnce.{DropComesOnce}
-use Rattle.runs_model.proofs.Entering.{places, drop-comes-once}
-use Rattle.runs_model.proofs.trace_laws.drops_come_once.Goals as goal
-
-pub returns : goal.returns
-returns c = places (λ s f. DropComesOnce f s.world.trace) (λ s f fine h. drop-comes-once s f fine h)

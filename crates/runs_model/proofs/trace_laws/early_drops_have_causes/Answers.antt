@@ -1,6 +1,0 @@
-use Rattle.runs_model.specs.EarlyDrop.{EarlyDropHasCause}
-use Rattle.runs_model.proofs.Entering.{places, drop-caused}
-use Rattle.runs_model.proofs.trace_laws.early_drops_have_causes.Goals as goal
-
-pub returns : goal.returns
-returns c = places (λ s f. EarlyDropHasCause f s.world.trace) (λ s f fine h. drop-caused s f fine h)

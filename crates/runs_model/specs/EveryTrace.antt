@@ -1,8 +1,0 @@
--- What holds of the trace of every run, whatever the parties do and in whatever order, and of each future.
-use Rattle.std.specs.Prelude.{ℕ, List}
-use Rattle.runs_model.specs.declared.step.Step.{Step}
-use Rattle.runs_model.specs.Trace.{Trace}
-use Rattle.runs_model.specs.Steps.{run, start}
-
-abbrev pub EveryTrace : (ℕ → Trace → Type 0) → Type 0
-EveryTrace P = (limit parties : ℕ) (steps : List Step) (f : ℕ) → P f (run steps (start limit parties)).world.trace

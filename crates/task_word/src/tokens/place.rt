@@ -1,0 +1,56 @@
+//! Where a handle lies between its calls, which leave it behind a reference.
+ghost use Rattle.task_word.specs.Tokens.{IsThere};
+
+use crate::cell::Cell;
+use crate::tokens::Task;
+use crate::tokens::claim::Claim;
+use std::mem::replace;
+
+/// A handle in its place, or that place while the handle is taking a step. It takes no atomic step to take the handle out, or to
+/// put it back.
+pub struct TaskPlace<F: 'static, T: 'static, W: 'static> {
+    cell: &'static Cell<F, T, W>,
+    claim: Claim,
+}
+
+impl<F: 'static, T: 'static, W: 'static> TaskPlace<F, T, W> {
+    /// A place with this handle.
+    #[inline(always)]
+    pub fn of(task: Task<F, T, W>) -> Self
+        ensures { IsThere result.cell.now.board.shared result.claim }
+    {
+        let Task { cell, claim } = task;
+        TaskPlace { cell, claim }
+    }
+
+    /// The handle, which is to be put back.
+    #[inline(always)]
+    pub fn take(&mut self) -> Task<F, T, W>
+        requires { IsThere self.old.cell.now.board.shared self.old.claim }
+    {
+        let claim = replace(&mut self.claim, Claim::blank());
+        Task {
+            cell: self.cell,
+            claim,
+        }
+    }
+
+    /// The handle is there again.
+    #[inline(always)]
+    pub fn put(&mut self, task: Task<F, T, W>)
+        ensures { IsThere self.new.cell.now.board.shared self.new.claim }
+    {
+        let Task { cell, claim } = task;
+        self.cell = cell;
+        self.claim = claim;
+    }
+
+    /// The handle. Its place goes.
+    #[inline(always)]
+    pub fn open(self) -> Task<F, T, W>
+        requires { IsThere self.cell.now.board.shared self.claim }
+    {
+        let TaskPlace { cell, claim } = self;
+        Task { cell, claim }
+    }
+}

@@ -43,7 +43,7 @@ use Rattle.executor_model.proofs.Lift.{split, unsettled, good-start, none_refuse
 use Rattle.executor_model.proofs.Ways.{Way, along}
 use Rattle.executor_model.proofs.Ways.Way.{acted, reacted, called}
 use Rattle.executor_model.proofs.RunsPlain.{plain-run, plain-steal}
-use Rattle.executor_model.proofs.RunsQueue.{Fewer, fewer-run, fewer-search, fewer-steal}
+use Rattle.executor_model.proofs.RunsQueue.{Fewer, fewer, takes-run, takes-search, takes-steal}
 use Rattle.executor_model.proofs.RunsWays.{by-run, by-search, by-steal}
 use Rattle.executor_model.proofs.AwaitedLists.{plain-act, plain-begun, plain-wake}
 use Rattle.executor_model.proofs.AwaitedSweeps.{KeepsSweeps, Kept, Lists, NoSteps, Sweeps, draining_of, dropping_of}
@@ -98,13 +98,13 @@ sweeps-less w o d k f a b r h =
 
 sweeps-steal : (p : ℕ) (h : Hint) (o : StealOp) (w : World) → KeepsSweeps w (op.Steal o ∷ []) (steal_act p o w)
 sweeps-steal p h o w = sweeps-less w (op.Steal o) (steal_act p o w) (by-steal Kept kept-moves kept-put p o w)
-    (fewer-steal p o w) (omega (arith, ap (λ (x : Row). x.ousting) (plain-steal o)))
+    (fewer w _ (takes-steal p o w)) (omega (arith, ap (λ (x : Row). x.ousting) (plain-steal o)))
     (no-steps _ (plain-act p h (op.Steal o) w refl))
 
 sweeps-run : (p : ℕ) (h : Hint) (o : RunOp) (w : World) → KeepsSweeps w (op.Run o ∷ []) (run_act p h o w)
 sweeps-run p h o w =
     sweeps-less w (op.Run o) (run_act p h o w) (by-run Kept kept-moves kept-put p h o w (λ x e. kept-own p w x _))
-    (fewer-run p h o w) (omega (arith, ap (λ (x : Row). x.ousting) (plain-run o)))
+    (fewer w _ (takes-run p h o w)) (omega (arith, ap (λ (x : Row). x.ousting) (plain-run o)))
     (no-steps _ (plain-act p h (op.Run o) w refl))
 
 sweeps-search_who : (h : Hint) (who : Sleeper) (w : World) (s : Sleeping) → s.who ≡ who →
@@ -113,7 +113,7 @@ sweeps-search_who h (sleeper.Tick t) w s e = sweeps-search _ _ w s refl
 sweeps-search_who h (sleeper.Run q) w s e =
     let x : RunPoll = record { run = q; waker = s.waker; poll = s.poll } in
     sweeps-less w (op.Tick (tick_op.Search s)) (search_own w x) (by-search Kept kept-moves kept-put w q s e)
-    (fewer-search w x) refl (no-steps _ (plain-act 0 h
+    (fewer w _ (takes-search w x)) refl (no-steps _ (plain-act 0 h
     (op.Tick (tick_op.Search (record s { who = sleeper.Run q }))) w refl))
 
 -- the steps of the executor's drop

@@ -112,6 +112,8 @@ pub mod OwnRooms
 pub mod OwnEmpty
 pub mod OwnRuns
 pub mod RunsWatched
+pub mod TraceMore
+pub mod TraceGrows
 pub mod RunsSeen
 pub mod RunsCalm
 pub mod RunsNaming

@@ -1,5 +1,6 @@
 -- What a run does takes from the executor's queue at most, and neither closes nor opens it.
-use Rattle.std.proofs.Common.{◌≡◌, ◌≤◌, ℕ, zero, suc, List, [], ◌∷◌, length, drop, Bool, true, false, refl, ap, arith}
+use Rattle.std.proofs.Common.{◌≡◌, ◌≤◌, ℕ, zero, suc, List, [], ◌∷◌, length, drop, Bool, true, false, refl, sym, ap, subst}
+use Rattle.std.proofs.Common.{arith}
 use Rattle.queue_steps.specs.ClosableQueue.{ClosableQueue, taken}
 use Rattle.executor_model.specs.declared.call.Reply.{Reply}
 use Rattle.executor_model.specs.declared.event.Event.{Event}
@@ -28,23 +29,10 @@ use Rattle.executor_model.specs.ActsOfRuns.{reschedule_by, run_by, search_common
 use Rattle.executor_model.specs.ActsOfRuns.{steal_by, steal_length_by, steal_put_by, steal_take_by, stolen}
 use Rattle.executor_model.specs.Doing.{list_act, run_act, steal_act}
 
-pub record Fewer (w v : World) : Type 0 where
-  pub closed : v.queue.closed ≡ w.queue.closed
-  pub items : length v.queue.items ≤ length w.queue.items
-
-untouched : (w v : World) → v.queue ≡ w.queue → Fewer w v
-untouched w v e = record {
-  closed = ap (λ (q : ClosableQueue ℕ). q.closed) e;
-  items = omega (arith, ap (λ (q : ClosableQueue ℕ). length q.items) e);
-}
-
-drop-less : (xs : List ℕ) → length (drop 1 xs) ≤ length xs
-drop-less [] = omega arith
-drop-less (x ∷ xs) = omega arith
-
--- the first is taken
-first-taken : (w : World) → Fewer w (record w { queue = taken w.queue })
-first-taken w = record { closed = refl; items = drop-less w.queue.items }
+-- a run leaves the queue, or takes its first
+pub data Takes (w v : World) : Type 0 where
+  stays : v.queue ≡ w.queue → Takes w v
+  first : v.queue ≡ taken w.queue → Takes w v
 
 queue-run_by : (b : Bool) (w : World) (x : RunPoll) (f : ℕ) → (run_by b w x f).world.queue ≡ w.queue
 queue-run_by true w x f = refl
@@ -57,52 +45,52 @@ queue-counted false w x f = queue-run_by _ _ x f
 queue-found : (w : World) (x : RunPoll) (f : ℕ) → (found w x f).world.queue ≡ w.queue
 queue-found w x f = queue-counted _ w x f
 
-queue-stolen : (t : Then) (w : World) (x : RunPoll) → (stolen t w x).world.queue ≡ w.queue
+pub queue-stolen : (t : Then) (w : World) (x : RunPoll) → (stolen t w x).world.queue ≡ w.queue
 queue-stolen (then.Found f) w x = queue-found w x f
 queue-stolen (then.Run f) w x = queue-run_by _ w x f
 queue-stolen (then.Walk at left) w x = refl
 
-queue-length : (n : ℕ) (w : World) (s : Steal) → (steal_length_by n w s).world.queue ≡ w.queue
+pub queue-length : (n : ℕ) (w : World) (s : Steal) → (steal_length_by n w s).world.queue ≡ w.queue
 queue-length zero w s = queue-stolen s.then w s.poll
 queue-length (suc n) w s = refl
 
-queue-more : (n : ℕ) (w : World) (s : Steal) → (steal_by n w s).world.queue ≡ w.queue
+pub queue-more : (n : ℕ) (w : World) (s : Steal) → (steal_by n w s).world.queue ≡ w.queue
 queue-more zero w s = queue-stolen s.then w s.poll
 queue-more (suc n) w s = refl
 
-fewer-take : (from : Source) (q : List ℕ) (w : World) (x : RunPoll) (t : Then) (more : ℕ) →
-    Fewer w (steal_take_by q w (record { poll = x; from = from; then = t }) more).world
-fewer-take from [] w x t more = untouched w _ (queue-stolen t w x)
-fewer-take Common (f ∷ rest) w x t more = first-taken w
-fewer-take (Own r) (f ∷ rest) w x t more = untouched w _ refl
+takes-take : (from : Source) (q : List ℕ) (w : World) (x : RunPoll) (t : Then) (more : ℕ) →
+    Takes w (steal_take_by q w (record { poll = x; from = from; then = t }) more).world
+takes-take from [] w x t more = stays (queue-stolen t w x)
+takes-take Common (f ∷ rest) w x t more = first refl
+takes-take (Own r) (f ∷ rest) w x t more = stays refl
 
-queue-put : (b : Bool) (p : ℕ) (w : World) (s : Steal) (more f : ℕ) → (steal_put_by b p w s more f).world.queue
+pub queue-put : (b : Bool) (p : ℕ) (w : World) (s : Steal) (more f : ℕ) → (steal_put_by b p w s more f).world.queue
     ≡ w.queue
 queue-put true p w s more f = queue-more more (kept_by p w s.poll.run f) s
 queue-put false p w s more f = queue-stolen s.then w s.poll
 
-pub fewer-steal : (p : ℕ) (o : StealOp) (w : World) → Fewer w (steal_act p o w).world
-fewer-steal p (steal_op.Length s) w = untouched w _ (queue-length _ w s)
-fewer-steal p (steal_op.OwnLength s n) w = untouched w _ (queue-more _ w s)
-fewer-steal p (steal_op.Take s more) w = fewer-take s.from _ w s.poll s.then more
-fewer-steal p (steal_op.Put s more f) w = untouched w _ (queue-put _ p w s more f)
+pub takes-steal : (p : ℕ) (o : StealOp) (w : World) → Takes w (steal_act p o w).world
+takes-steal p (steal_op.Length s) w = stays (queue-length _ w s)
+takes-steal p (steal_op.OwnLength s n) w = stays (queue-more _ w s)
+takes-steal p (steal_op.Take s more) w = takes-take s.from _ w s.poll s.then more
+takes-steal p (steal_op.Put s more f) w = stays (queue-put _ p w s more f)
 
-queue-own : (q : List ℕ) (w : World) (x : RunPoll) → (search_own_by q w x).world.queue ≡ w.queue
+pub queue-own : (q : List ℕ) (w : World) (x : RunPoll) → (search_own_by q w x).world.queue ≡ w.queue
 queue-own [] w x = refl
 queue-own (f ∷ rest) w x = queue-found (put_own w x.run rest) x f
 
-pub fewer-search : (w : World) (x : RunPoll) → Fewer w (search_own w x).world
-fewer-search w x = untouched w _ (queue-own _ w x)
+pub takes-search : (w : World) (x : RunPoll) → Takes w (search_own w x).world
+takes-search w x = stays (queue-own _ w x)
 
-fewer-common : (q : List ℕ) (w : World) (x : RunPoll) → Fewer w (search_common_by q w x).world
-fewer-common [] w x = untouched w _ refl
-fewer-common (f ∷ rest) w x = first-taken w
+pub takes-common : (q : List ℕ) (w : World) (x : RunPoll) → Takes w (search_common_by q w x).world
+takes-common [] w x = stays refl
+takes-common (f ∷ rest) w x = first refl
 
-queue-look : (q : List ℕ) (w : World) (x : RunPoll) (at left : ℕ) → (look_own_by q w x at left).world.queue ≡ w.queue
+pub queue-look : (q : List ℕ) (w : World) (x : RunPoll) (at left : ℕ) → (look_own_by q w x at left).world.queue ≡ w.queue
 queue-look [] w x at left = refl
 queue-look (f ∷ rest) w x at left = queue-found (put_own w x.run rest) x f
 
-queue-room : (b : Bool) (w : World) → (make_room_by b w).world.queue ≡ w.queue
+pub queue-room : (b : Bool) (w : World) → (make_room_by b w).world.queue ≡ w.queue
 queue-room true w = refl
 queue-room false w = refl
 
@@ -124,7 +112,7 @@ queue-list h list_op.UnlockWrite w = refl
 queue-list h (list_op.LockRead x) w = refl
 queue-list h list_op.UnlockRead w = refl
 
-queue-reschedule : (q : List ℕ) (w : World) (r : ℕ) (a : Reply) → (reschedule_by q w r a).world.queue ≡ w.queue
+pub queue-reschedule : (q : List ℕ) (w : World) (r : ℕ) (a : Reply) → (reschedule_by q w r a).world.queue ≡ w.queue
 queue-reschedule [] w r a = refl
 queue-reschedule (f ∷ rest) w r a = refl
 
@@ -132,15 +120,33 @@ queue-log_if : (b : Bool) (w : World) (e : Event) → (log_if b w e).queue ≡ w
 queue-log_if true w e = refl
 queue-log_if false w e = refl
 
-queue-by_reference : (p : ℕ) (w : World) (a : Waker) → (call_by_reference p w a).world.queue ≡ w.queue
+pub queue-by_reference : (p : ℕ) (w : World) (a : Waker) → (call_by_reference p w a).world.queue ≡ w.queue
 queue-by_reference p w (Task f) = queue-log_if _ w (event.Woken p f)
 queue-by_reference p w (Outside y) = refl
 
-pub fewer-run : (p : ℕ) (h : Hint) (o : RunOp) (w : World) → Fewer w (run_act p h o w).world
-fewer-run p h run_op.MakeRoom w = untouched w _ (queue-room h.refused w)
-fewer-run p h run_op.ReturnRoom w = untouched w _ refl
-fewer-run p h (run_op.SearchCommon x) w = fewer-common _ w x
-fewer-run p h (run_op.LookOwn x at left) w = untouched w _ (queue-look _ w x at left)
-fewer-run p h (run_op.WakeOwn x) w =
-    untouched w _ (queue-by_reference p (log w (event.WakerCalled p (of.Run x.run) x.poll x.waker)) x.waker)
-fewer-run p h (run_op.Reschedule r a) w = untouched w _ (queue-reschedule _ w r a)
+pub takes-run : (p : ℕ) (h : Hint) (o : RunOp) (w : World) → Takes w (run_act p h o w).world
+takes-run p h run_op.MakeRoom w = stays (queue-room h.refused w)
+takes-run p h run_op.ReturnRoom w = stays refl
+takes-run p h (run_op.SearchCommon x) w = takes-common _ w x
+takes-run p h (run_op.LookOwn x at left) w = stays (queue-look _ w x at left)
+takes-run p h (run_op.WakeOwn x) w =
+    stays (queue-by_reference p (log w (event.WakerCalled p (of.Run x.run) x.poll x.waker)) x.waker)
+takes-run p h (run_op.Reschedule r a) w = stays (queue-reschedule _ w r a)
+
+pub record Fewer (w v : World) : Type 0 where
+  pub closed : v.queue.closed ≡ w.queue.closed
+  pub items : length v.queue.items ≤ length w.queue.items
+
+drop-less : (xs : List ℕ) → length (drop 1 xs) ≤ length xs
+drop-less [] = omega arith
+drop-less (x ∷ xs) = omega arith
+
+pub fewer : (w v : World) → Takes w v → Fewer w v
+fewer w v (stays e) = record {
+  closed = ap (λ (q : ClosableQueue ℕ). q.closed) e;
+  items = omega (arith, ap (λ (q : ClosableQueue ℕ). length q.items) e);
+}
+fewer w v (first e) = record {
+  closed = ap (λ (q : ClosableQueue ℕ). q.closed) e;
+  items = subst (λ (q : ClosableQueue ℕ). length q.items ≤ length w.queue.items) (sym e) (drop-less w.queue.items);
+}

@@ -1,10 +1,9 @@
--- What the beginning of a call leaves of the own queues and of the runs that are over, and adds to the trace.
-use Rattle.std.proofs.Common.{◌≡◌, ◌≢◌, ◌∙◌, ℕ, zero, suc, ◌<◌, ◌≤◌, List, [], ◌∷◌, ◌++◌, length, get_or, set}
+-- What the beginning of a call leaves of the own queues and of the runs that are over.
+use Rattle.std.proofs.Common.{◌≡◌, ◌≢◌, ◌∙◌, ℕ, zero, suc, ◌<◌, ◌≤◌, List, [], ◌∷◌, length, get_or, set}
 use Rattle.std.proofs.Common.{true, false, eqb, refl, sym, ap, subst, inl, inr, ⊎_elim, arith, get_or-set_other}
 use Rattle.std.specs.Prelude.{Option, Some, None}
 use Rattle.executor_model.specs.declared.call.Call.{Call}
 use Rattle.executor_model.specs.declared.call.Call.TheVariants as call
-use Rattle.executor_model.specs.declared.event.Event.{Event}
 use Rattle.executor_model.specs.declared.event.Event.TheVariants as event
 use Rattle.executor_model.specs.declared.op.Op.{Op}
 use Rattle.executor_model.specs.declared.op.RunPoll.{RunPoll}
@@ -15,7 +14,6 @@ use Rattle.executor_model.specs.Weights.{same, weigh}
 use Rattle.executor_model.specs.World.{World, Stage, New, Listed, Ended, Run, Done, done, log, no_run, put_run, run_of}
 use Rattle.executor_model.proofs.Lists.{same_cases}
 use Rattle.executor_model.proofs.UsingWorlds.{count-set, is_past}
-use Rattle.runs_called.proofs.KeptGrown.{Grown, seen-and, seen-log, stirs}
 use Rattle.runs_called.proofs.KeptTrace.{Parted, parted-dropped}
 use Rattle.runs_called.proofs.KeptWeights.{quits_of}
 use Rattle.runs_called.proofs.KeptLeads.{IsPast, Leads, steady}
@@ -128,50 +126,3 @@ keeps-begun p w here call.NewRun k = begins w _ _ refl refl (λ r. refl)
 keeps-begun p w here (call.PollRun q b) k = begins-poll _ w _ _ refl refl
 keeps-begun p w here (call.DropRun q) k = begins-drop _ p w q k
 keeps-begun p w here call.DropExecutor k = begins w _ _ refl refl (λ r. refl)
-
--- the trace at the beginning of a call
-
-grown-with : (w v : World) (x : Option ℕ) (d : ℕ → Done) → Grown w v → ((f : ℕ) → Grown w (d f).world) →
-    Grown w (with_future v x d).world
-grown-with w v None d g k = g
-grown-with w v (Some f) d g k = k f
-
-pub grown-begun : (p : ℕ) (w : World) (here : Option Waker) (c : Call) →
-    Grown w (begun p (log w (event.CallBegun p c)) here c).world
-grown-begun p w here c = by c
-  where
-    one : (c : Call) → Grown w (log w (event.CallBegun p c))
-    one c = seen-log w (log w (event.CallBegun p c)) (event.CallBegun p c) refl refl
-
-    two : (c : Call) (v : World) (e : Event) → stirs e ≡ false →
-        v.trace ≡ (log w (event.CallBegun p c)).trace ++ e ∷ [] →
-        Grown w v
-    two c v e z q = seen-and w (log w (event.CallBegun p c)) v (one c) (seen-log (log w (event.CallBegun p c)) v e z q)
-
-    by : (c : Call) → Grown w (begun p (log w (event.CallBegun p c)) here c).world
-    by (call.Wake n) = grown-with w (log w (event.CallBegun p (call.Wake n))) (kept w n) _ (one (call.Wake n))
-        (λ f. seen-log w _ (event.CallBegun p (call.Wake n)) refl refl)
-    by (call.WakeByRef n) = grown-with w (log w (event.CallBegun p (call.WakeByRef n))) (kept w n) _
-        (one (call.WakeByRef n)) (λ f. seen-log w _ (event.CallBegun p (call.WakeByRef n)) refl refl)
-    by (call.Copy n) = grown-with w (log w (event.CallBegun p (call.Copy n))) (kept w n) _ (one (call.Copy n))
-        (λ f. seen-log w _ (event.CallBegun p (call.Copy n)) refl refl)
-    by (call.DropWaker n) = grown-with w (log w (event.CallBegun p (call.DropWaker n))) (kept w n) _
-        (one (call.DropWaker n)) (λ f. seen-log w _ (event.CallBegun p (call.DropWaker n)) refl refl)
-    by call.Keep = grown-with w (log w (event.CallBegun p call.Keep)) (future_of here) _ (one call.Keep)
-        (λ f. seen-log w _ (event.CallBegun p call.Keep) refl refl)
-    by call.WakeSelf = grown-with w (log w (event.CallBegun p call.WakeSelf)) (future_of here) _ (one call.WakeSelf)
-        (λ f. seen-log w _ (event.CallBegun p call.WakeSelf) refl refl)
-    by (call.PollTick u b) = two (call.PollTick u b) _ (event.TickPolled p u) refl refl
-    by (call.DropTick u) = two (call.DropTick u) _ (event.TickDropped p u) refl refl
-    by (call.PollRun q b) = two (call.PollRun q b) _ (event.RunPolled p q) refl refl
-    by (call.DropRun q) = two (call.DropRun q) _ (event.RunDropped p q) refl refl
-    by call.DropExecutor = two call.DropExecutor _ (event.DropBegun p) refl refl
-    by call.Spawn = one call.Spawn
-    by call.TryTick = one call.TryTick
-    by call.IsEmpty = one call.IsEmpty
-    by (call.PollHandle f b) = one (call.PollHandle f b)
-    by (call.Cancel f) = one (call.Cancel f)
-    by (call.Detach f) = one (call.Detach f)
-    by (call.DropHandle f) = one (call.DropHandle f)
-    by call.NewTick = one call.NewTick
-    by call.NewRun = one call.NewRun

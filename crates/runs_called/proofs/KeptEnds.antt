@@ -23,7 +23,7 @@ use Rattle.executor_model.proofs.Lift.{split, unsettled}
 use Rattle.executor_model.proofs.Lists.{weigh_all-push}
 use Rattle.executor_model.proofs.OwnRooms.{Roomy}
 use Rattle.runs_called.proofs.KeptLeads.{IsPast}
-use Rattle.runs_called.proofs.KeptGrown.{Grown, seen-log}
+use Rattle.runs_called.proofs.KeptGrown.{Grown, grown-log}
 use Rattle.runs_called.proofs.KeptTrace.{Parted, get-new, keeps-before, none-kept, get-either, parted-more}
 use Rattle.runs_called.proofs.KeptTrace.{since-length, since-old, get-within, take-old, get-old}
 use Rattle.runs_called.proofs.KeptWeights.{is_end_ready, load_of, quits_of, readies_held, readies_of}
@@ -169,7 +169,7 @@ module _ (s : Machine) (p : ℕ) (a : Reply) (held : Hold) (below : List Op) (l 
     }
 
   grown : Grown s.world ended.world
-  grown = seen-log s.world ended.world (event.CallEnded p a) refl refl
+  grown = grown-log s.world ended.world (event.CallEnded p a) refl refl
 
   still : (v : Op → ℕ) → weigh_all v s.parties
       ≡ v (op.End a held) + weigh_all v (set s.parties p (below ++ reverse []))

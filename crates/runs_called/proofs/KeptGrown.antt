@@ -1,57 +1,23 @@
 -- Each thing that is done adds to the trace, and but for a step of a steal and the taking up of a task neither a poll
 -- of a future nor one that comes into an own queue.
-use Rattle.std.proofs.Common.{◌≡◌, ◌∙◌, ℕ, zero, suc, ◌+◌, List, [], ◌∷◌, ◌++◌, length, Bool, true, false, ◌||◌, refl}
-use Rattle.std.proofs.Common.{sym, ap, append-nil}
-use Rattle.std.proofs.lemmas.List.{append_assoc}
-use Rattle.std.specs.Prelude.{Option, Some, None}
-use Rattle.task_moves.specs.Moves as moves
-use Rattle.task_moves.specs.declared.moves.owed.Answer.{Answer}
-use Rattle.task_moves.specs.declared.moves.owed.Move.{Move}
+use Rattle.std.proofs.Common.{◌≡◌, ℕ, [], ◌∷◌, ◌++◌, Bool, true, false, refl}
+use Rattle.std.specs.Prelude.{Option}
 use Rattle.task_moves.specs.declared.moves.owed.Move.TheVariants as move
-use Rattle.task_moves.specs.declared.moves.owed.Moved.{Moved}
-use Rattle.executor_model.specs.declared.call.Reply.{Reply}
-use Rattle.executor_model.specs.declared.event.Answer.TheVariants as answer
+use Rattle.executor_model.specs.declared.call.Call.{Call}
+use Rattle.executor_model.specs.declared.call.Call.TheVariants as call
 use Rattle.executor_model.specs.declared.event.Event.{Event}
 use Rattle.executor_model.specs.declared.event.Event.TheVariants as event
-use Rattle.executor_model.specs.declared.op.Hold.{Hold}
 use Rattle.executor_model.specs.declared.op.Op.{Op}
 use Rattle.executor_model.specs.declared.op.Op.TheVariants as op
-use Rattle.executor_model.specs.declared.op.ClosingOp.TheVariants as closing_op
-use Rattle.executor_model.specs.declared.op.HandleOp.TheVariants as handle_op
-use Rattle.executor_model.specs.declared.op.ListOp.TheVariants as list_op
-use Rattle.executor_model.specs.declared.op.Polled.{Polled}
-use Rattle.executor_model.specs.declared.op.Polled.TheVariants as of
-use Rattle.executor_model.specs.declared.op.QueueOp.TheVariants as queue_op
-use Rattle.executor_model.specs.declared.op.RunOp.TheVariants as run_op
-use Rattle.executor_model.specs.declared.op.RunPoll.{RunPoll}
-use Rattle.executor_model.specs.declared.op.Section.TheVariants as section
-use Rattle.executor_model.specs.declared.op.Sleeper.{Sleeper}
-use Rattle.executor_model.specs.declared.op.Sleeper.TheVariants as sleeper
-use Rattle.executor_model.specs.declared.op.SleeperOp.TheVariants as sleeper_op
-use Rattle.executor_model.specs.declared.op.Sleeping.{Sleeping}
-use Rattle.executor_model.specs.declared.op.Source.{Source}
-use Rattle.executor_model.specs.declared.op.Source.TheVariants.{Common, Own}
-use Rattle.executor_model.specs.declared.op.Steal.{Steal}
 use Rattle.executor_model.specs.declared.op.StealOp.TheVariants as steal_op
-use Rattle.executor_model.specs.declared.op.TableOp.TheVariants as table_op
-use Rattle.executor_model.specs.declared.op.Then.{Then}
-use Rattle.executor_model.specs.declared.op.Then.TheVariants as then
-use Rattle.executor_model.specs.declared.op.TickOp.TheVariants as tick_op
-use Rattle.executor_model.specs.declared.op.UserOp.TheVariants as user_op
 use Rattle.executor_model.specs.declared.op.Waker.{Waker}
-use Rattle.executor_model.specs.declared.op.Waker.TheVariants.{Task, Outside}
-use Rattle.executor_model.specs.declared.op.WakerOp.TheVariants as waker_op
 use Rattle.executor_model.specs.declared.step.Hint.{Hint}
 use Rattle.executor_model.specs.declared.step.UserEnd.{UserEnd}
-use Rattle.executor_model.specs.declared.step.UserEnd.TheVariants as end
-use Rattle.executor_model.specs.Acts as acts
-use Rattle.executor_model.specs.ActsOfRuns as runs
-use Rattle.executor_model.specs.ActsOfSleepers as sleepers
-use Rattle.executor_model.specs.Doing.{act, search_by_who}
-use Rattle.executor_model.specs.Steps.{accepts, react}
-use Rattle.executor_model.specs.Trace.{Trace, has}
-use Rattle.executor_model.specs.World.{World, Place, Up, Lies, Left, Stage, New, Listed, Ended, log, log_if, task, put}
-use Rattle.executor_model.specs.World.{put_own, run_of}
+use Rattle.executor_model.specs.Doing.{act}
+use Rattle.executor_model.specs.Steps.{accepts, begun, react}
+use Rattle.executor_model.specs.World.{World, log}
+use Rattle.executor_model.proofs.TraceGrows.{Allows, AllowsCall, Grows, grows-act, grows-and, grows-begun, grows-one}
+use Rattle.executor_model.proofs.TraceGrows.{grows-react, is_ordinary}
 
 -- a future comes into an own queue, or is polled
 abbrev pub stirs : Event → Bool
@@ -59,39 +25,17 @@ stirs (event.Kept p f r) = true
 stirs (event.PollBegun p f) = true
 stirs _ = false
 
+pub ordinary-stirs : (e : Event) → is_ordinary e ≡ true → stirs e ≡ false
+ordinary-stirs (event.Kept p f r) z = absurd (cc)
+ordinary-stirs (event.PollBegun p f) z = absurd (cc)
+ordinary-stirs _ z = refl
+
 -- the trace has these events more, none of which is such
-pub record Grown (w v : World) : Type 0 where
-  pub more : Trace
-  pub is : v.trace ≡ w.trace ++ more
-  pub none : has stirs more ≡ false
+abbrev pub Grown : World → World → Type 0
+Grown w v = Grows stirs ordinary-stirs w v
 
-pub seen : (w v : World) → v.trace ≡ w.trace → Grown w v
-seen w v e = record { more = []; is = e ∙ sym (append-nil w.trace); none = refl }
-
-none-both : (xs ys : Trace) → has stirs xs ≡ false → has stirs ys ≡ false → has stirs (xs ++ ys) ≡ false
-none-both [] ys a b = b
-none-both (x ∷ xs) ys a b = by (stirs x) a (λ k. none-both xs ys k b)
-  where
-    by : (c : Bool) → (c || has stirs xs) ≡ false → (has stirs xs ≡ false → has stirs (xs ++ ys) ≡ false) →
-        (c || has stirs (xs ++ ys)) ≡ false
-    by true q k = absurd (cc)
-    by false q k = k q
-
-pub seen-and : (w v u : World) → Grown w v → Grown v u → Grown w u
-seen-and w v u a b = record {
-  more = a.more ++ b.more;
-  is = b.is ∙ (ap (λ (es : Trace). es ++ b.more) a.is ∙ append_assoc w.trace a.more b.more);
-  none = none-both a.more b.more a.none b.none;
-}
-
-pub seen-log : (w v : World) (e : Event) → stirs e ≡ false → v.trace ≡ w.trace ++ e ∷ [] → Grown w v
-seen-log w v e z q = record { more = e ∷ []; is = q; none = ap (λ (b : Bool). b || false) z }
-
--- of a world that has the trace of another, and perhaps one event more
-pub seen-log_if : (b : Bool) (w v u : World) (e : Event) → stirs e ≡ false → u.trace ≡ (log_if b v e).trace →
-    Grown w v → Grown w u
-seen-log_if true w v u e z q k = seen-and w v u k (seen-log v u e z q)
-seen-log_if false w v u e z q k = seen-and w v u k (seen v u q)
+pub grown-log : (w v : World) (e : Event) → stirs e ≡ false → v.trace ≡ w.trace ++ e ∷ [] → Grown w v
+grown-log w v e z q = grows-one stirs ordinary-stirs w v e z q
 
 -- what isn't a step of a steal that puts one into an own queue, nor the taking up of a task
 abbrev pub stirs_op : Op → Bool
@@ -99,321 +43,26 @@ stirs_op (op.Move move.TakeUp f) = true
 stirs_op (op.Steal (steal_op.Put s more f)) = true
 stirs_op _ = false
 
-abbrev is_take_up : Move → Bool
-is_take_up move.TakeUp = true
-is_take_up _ = false
-
-told-mild : (m : Move) (p f : ℕ) → is_take_up m ≡ false → stirs (acts.told_as m p f) ≡ false
-told-mild move.TakeUp p f z = absurd (cc)
-told-mild move.Cancel p f z = refl
-told-mild move.Detach p f z = refl
-told-mild _ p f z = refl
-
-seen-move : (b : Bool) (m : Move) (p : ℕ) (w v : World) (f : ℕ) → is_take_up m ≡ false → Grown w v →
-    Grown w (acts.move_by b m p v f).world
-seen-move true m p w v f z k =
-    seen-log_if (acts.is_told m (task v f)) w v (acts.move_by true m p v f).world (acts.told_as m p f)
-    (told-mild m p f z) refl k
-seen-move false m p w v f z k = k
-
-pub seen-call : (p : ℕ) (w : World) (o : Polled) (a : Waker) (k : ℕ) → Grown w (acts.call_waker p w o a k).world
-seen-call p w o (Task g) k =
-    let v = log w (event.WakerCalled p o k (Task g)) in
-    seen-move true move.Wake p w v g refl (seen-log w v (event.WakerCalled p o k (Task g)) refl refl)
-seen-call p w o (Outside x) k =
-    seen-log w (log w (event.WakerCalled p o k (Outside x))) (event.WakerCalled p o k (Outside x)) refl refl
-
-seen-enter : (b c : Bool) (p : ℕ) (w : World) → Grown w (acts.enter_by b c p w).world
-seen-enter true c p w = seen w w refl
-seen-enter false true p w = seen w w refl
-seen-enter false false p w =
-    seen-log w (acts.enter_by false false p w).world (event.Accepted p (length w.tasks)) refl refl
-
-seen-leave : (b : Bool) (w : World) (f : ℕ) → Grown w (acts.leave_by b w f).world
-seen-leave true w f = seen w (acts.leave_by true w f).world refl
-seen-leave false w f = seen w w refl
-
-seen-take : (q : List ℕ) (w : World) → Grown w (acts.take_by w q).world
-seen-take [] w = seen w w refl
-seen-take (f ∷ rest) w = seen w (acts.take_by w (f ∷ rest)).world refl
-
-seen-append : (b : Bool) (w : World) (f : ℕ) → Grown w (acts.append_by b w f).world
-seen-append true w f = seen w (acts.append_by true w f).world refl
-seen-append false w f = seen w w refl
-
-seen-copy : (b : Bool) (w : World) (f : ℕ) (held : Hold) → Grown w (acts.copy_by b w f held).world
-seen-copy true w f held = seen w w refl
-seen-copy false w f held = seen w (acts.copy_by false w f held).world refl
-
-seen-answered : (p : ℕ) (w v : World) (f : ℕ) (m : Moved) (a : Answer) → Grown w v →
-    Grown w (acts.answered p v f m a).world
-seen-answered p w v f m a k =
-    seen-log_if (acts.is_output a) w v (acts.answered p v f m a).world (event.OutputGiven p f) refl
-    (by (acts.is_output a)) k
+pub grown-act : (p : ℕ) (h : Hint) (o : Op) (w : World) → stirs_op o ≡ false → Grown w (act p h o w).world
+grown-act p h o w z = grows-act stirs ordinary-stirs p h o w (allows o z)
   where
-    by : (b : Bool) → (log_if b (put v f m.state) (event.OutputGiven p f)).trace ≡ (log_if b v
-        (event.OutputGiven p f)).trace
-    by true = refl
-    by false = refl
+    allows : (x : Op) → stirs_op x ≡ false → Allows stirs ordinary-stirs p x
+    allows (op.Move move.TakeUp f) n = absurd (cc)
+    allows (op.Steal (steal_op.Put s more f)) n = absurd (cc)
+    allows (op.End a held) n = refl
+    allows _ n = tt
 
-seen-polled : (p : ℕ) (w : World) (f : ℕ) → Grown w (acts.polled p w f)
-seen-polled p w f = seen-log w (acts.polled p w f) (event.HandlePolled p f) refl refl
+pub grown-react : (p : ℕ) (o : Op) (u : UserEnd) (w : World) → accepts o u ≡ true → Grown w (react p o u w).world
+grown-react p o u w a = grows-react stirs ordinary-stirs p o u w a
 
-seen-look : (o : Option Answer) (p : ℕ) (w : World) (f : ℕ) (a : Waker) (m : Moved) →
-    Grown w (acts.look_by o p w f a m).world
-seen-look None p w f a m = seen w w refl
-seen-look (Some x) p w f a m = seen-answered p w (acts.polled p w f) f m x (seen-polled p w f)
-
-seen-again : (o : Option Answer) (p : ℕ) (w : World) (f : ℕ) (m : Moved) → Grown w (acts.look_again_by o p w f m).world
-seen-again None p w f m = seen w w refl
-seen-again (Some x) p w f m = seen-answered p w w f m x (seen w w refl)
-
-seen-copied : (p : ℕ) (w : World) (f : ℕ) (a : Waker) → Grown w (acts.polled p (acts.copied w a) f)
-seen-copied p w f (Task g) = seen-log w (acts.polled p (acts.copied w (Task g)) f) (event.HandlePolled p f) refl refl
-seen-copied p w f (Outside x) = seen-polled p w f
-
-seen-copy_awaiter : (b : Bool) (p : ℕ) (w : World) (f : ℕ) (a : Waker) → Grown w (acts.copy_awaiter_by b p w f a).world
-seen-copy_awaiter true p w f a = seen w w refl
-seen-copy_awaiter false p w f a = seen-copied p w f a
-
-seen-register : (b : Bool) (w : World) (f : ℕ) (a : Waker) (k : ℕ) → Grown w (acts.register_by b w f a k).world
-seen-register true w f a k = seen w (acts.register_by true w f a k).world refl
-seen-register false w f a k = seen w (acts.register_by false w f a k).world refl
-
-seen-end_register : (b : Bool) (w : World) (f : ℕ) (a : Waker) (k : ℕ) → Grown w (acts.end_register_by b w f a k).world
-seen-end_register true w f a k = seen w (acts.end_register_by true w f a k).world refl
-seen-end_register false w f a k = seen w (acts.end_register_by false w f a k).world refl
-
-seen-notify : (b : Bool) (w : World) (f : ℕ) (own : Bool) → Grown w (acts.notify_by b w f own).world
-seen-notify true w f own = seen w (acts.notify_by true w f own).world refl
-seen-notify false w f own = seen w (acts.notify_by false w f own).world refl
-
-seen-drop_next : (p : ℕ) (w : World) (ls : List ℕ) → Grown w (acts.drop_next_by p w ls).world
-seen-drop_next p w [] = seen w w refl
-seen-drop_next p w (f ∷ rest) = seen-log w (acts.drop_next_by p w (f ∷ rest)).world (event.Dropped p f) refl refl
-
-seen-wake_next : (p : ℕ) (w : World) (ws : List ℕ) → Grown w (acts.wake_next_by p w ws).world
-seen-wake_next p w [] = seen w w refl
-seen-wake_next p w (f ∷ rest) = let v : World = record w { waking = rest } in
-    seen-move true move.Wake p w v f refl (seen w v refl)
-
-seen-drain : (p : ℕ) (w : World) (q : List ℕ) → Grown w (acts.drain_by p w q).world
-seen-drain p w [] = seen-log w (acts.drain_by p w []).world (event.DropEnded p) refl refl
-seen-drain p w (f ∷ rest) = seen w (acts.drain_by p w (f ∷ rest)).world refl
-
--- sleepers and ticks
-
-seen-exchange : (b : Bool) (w : World) → Grown w (sleepers.exchange_by b w).world
-seen-exchange true w = seen w w refl
-seen-exchange false w = seen w (sleepers.exchange_by false w).world refl
-
-seen-hand_out : (b : Bool) (o : Option Sleeping) (w : World) → Grown w (sleepers.hand_out_by b o w).world
-seen-hand_out true o w = seen w (sleepers.hand_out_by true o w).world refl
-seen-hand_out false o w = seen w w refl
-
-seen-make : (b : Bool) (w : World) → Grown w (sleepers.make_tick_by b w).world
-seen-make true w = seen w w refl
-seen-make false w = seen w (sleepers.make_tick_by false w).world refl
-
-seen-search : (x : Place) (q : List ℕ) (w : World) (s : Sleeping) → Grown w (sleepers.search_by x w q s).world
-seen-search x [] w s = seen w w refl
-seen-search x (f ∷ rest) w s = seen w (sleepers.search_by x w (f ∷ rest) s).world refl
-
-seen-put_copy : (w : World) (a : Waker) → Grown w (acts.copied w a)
-seen-put_copy w (Task g) = seen w (acts.copied w (Task g)) refl
-seen-put_copy w (Outside x) = seen w w refl
-
-seen-copy_sleeper : (b : Bool) (w : World) (s : Sleeping) → Grown w (sleepers.copy_sleeper_by b w s).world
-seen-copy_sleeper true w s = seen w w refl
-seen-copy_sleeper false w s = seen-put_copy w s.waker
-
-seen-anew : (b : Bool) (w : World) (s : Sleeping) → Grown w (sleepers.lie_anew_by b w s).world
-seen-anew true w s = seen w (sleepers.lie_anew_by true w s).world refl
-seen-anew false w s = seen w w refl
-
-seen-listed : (b : Bool) (w : World) (n : ℕ) (s : Sleeping) → Grown w (sleepers.lie_listed_by b w n s).world
-seen-listed true w n s = seen w (sleepers.lie_listed_by true w n s).world refl
-seen-listed false w n s = seen w w refl
-
-seen-lie_again : (o : Option ℕ) (w : World) (n : ℕ) (s : Sleeping) → Grown w (sleepers.lie_again_by o w n s).world
-seen-lie_again None w n s = seen-listed _ w n s
-seen-lie_again (Some at) w n s = seen w (sleepers.lie_again_by (Some at) w n s).world refl
-
-seen-lie : (x : Place) (w : World) (s : Sleeping) → Grown w (sleepers.lie_down_by x w s).world
-seen-lie Up w s = seen-anew _ w s
-seen-lie (Lies n) w s = seen-lie_again _ w n s
-seen-lie Left w s = seen w w refl
-
-seen-up : (x : Place) (w : World) (t : Sleeper) → Grown w (sleepers.get_up_by x w t).world
-seen-up Up w t = seen w w refl
-seen-up (Lies n) w t = seen w (sleepers.get_up_by (Lies n) w t).world refl
-seen-up Left w t = seen w w refl
-
-seen-off : (x : Place) (w : World) (t : Sleeper) → Grown w (sleepers.leave_sleepers_by x w t).world
-seen-off Up w t = seen w (sleepers.leave_sleepers_by Up w t).world refl
-seen-off (Lies n) w t = seen w (sleepers.leave_sleepers_by (Lies n) w t).world refl
-seen-off Left w t = seen w w refl
-
--- runs
-
-seen-run_by : (b : Bool) (w : World) (x : RunPoll) (f : ℕ) → Grown w (runs.run_by b w x f).world
-seen-run_by true w x f = seen w (runs.run_by true w x f).world refl
-seen-run_by false w x f = seen w (runs.run_by false w x f).world refl
-
-seen-counted : (b : Bool) (w : World) (x : RunPoll) (f : ℕ) → Grown w (runs.counted_by b w x f).world
-seen-counted true w x f = seen w (runs.counted_by true w x f).world refl
-seen-counted false w x f = let v = runs.counted_to w x.run ((run_of w x.run).counted + 1) in
-    seen-and w v (runs.run_found v x f).world (seen w v refl) (seen-run_by _ v x f)
-
-seen-found : (w : World) (x : RunPoll) (f : ℕ) → Grown w (runs.found w x f).world
-seen-found w x f = seen-counted _ w x f
-
-pub seen-stolen : (t : Then) (w : World) (x : RunPoll) → Grown w (runs.stolen t w x).world
-seen-stolen (then.Found f) w x = seen-found w x f
-seen-stolen (then.Run f) w x = seen-run_by _ w x f
-seen-stolen (then.Walk at left) w x = seen w w refl
-
-seen-length : (n : ℕ) (w : World) (s : Steal) → Grown w (runs.steal_length_by n w s).world
-seen-length zero w s = seen-stolen s.then w s.poll
-seen-length (suc n) w s = seen w w refl
-
-seen-more : (n : ℕ) (w : World) (s : Steal) → Grown w (runs.steal_by n w s).world
-seen-more zero w s = seen-stolen s.then w s.poll
-seen-more (suc n) w s = seen w w refl
-
-seen-first : (from : Source) (w : World) (rest : List ℕ) → Grown w (runs.without_first w from rest)
-seen-first Common w rest = seen w (runs.without_first w Common rest) refl
-seen-first (Own q) w rest = seen w (runs.without_first w (Own q) rest) refl
-
-seen-steal_take : (q : List ℕ) (w : World) (s : Steal) (more : ℕ) → Grown w (runs.steal_take_by q w s more).world
-seen-steal_take [] w s more = seen-stolen s.then w s.poll
-seen-steal_take (f ∷ rest) w s more = seen-first s.from w rest
-
-seen-own : (q : List ℕ) (w : World) (x : RunPoll) → Grown w (runs.search_own_by q w x).world
-seen-own [] w x = seen w w refl
-seen-own (f ∷ rest) w x = let v = put_own w x.run rest in
-    seen-and w v (runs.found v x f).world (seen w v refl) (seen-found v x f)
-
-seen-looks : (q : List ℕ) (w : World) (x : RunPoll) (at left : ℕ) → Grown w (runs.look_own_by q w x at left).world
-seen-looks [] w x at left = seen w w refl
-seen-looks (f ∷ rest) w x at left = let v = put_own w x.run rest in
-    seen-and w v (runs.found v x f).world (seen w v refl) (seen-found v x f)
-
-seen-common : (q : List ℕ) (w : World) (x : RunPoll) → Grown w (runs.search_common_by q w x).world
-seen-common [] w x = seen w w refl
-seen-common (f ∷ rest) w x = seen w (runs.search_common_by (f ∷ rest) w x).world refl
-
-seen-reference : (p : ℕ) (w : World) (a : Waker) → Grown w (runs.call_by_reference p w a).world
-seen-reference p w (Task g) = seen-move true move.WakeByReference p w w g refl (seen w w refl)
-seen-reference p w (Outside y) = seen w w refl
-
-seen-wake_own : (p : ℕ) (w : World) (x : RunPoll) → Grown w (runs.wake_own p w x).world
-seen-wake_own p w x = let v = log w (event.WakerCalled p (of.Run x.run) x.poll x.waker) in
-    seen-and w v (runs.call_by_reference p v x.waker).world
-    (seen-log w v (event.WakerCalled p (of.Run x.run) x.poll x.waker) refl refl) (seen-reference p v x.waker)
-
-seen-reschedule : (q : List ℕ) (w : World) (n : ℕ) (a : Reply) → Grown w (runs.reschedule_by q w n a).world
-seen-reschedule [] w n a = seen w w refl
-seen-reschedule (f ∷ rest) w n a = seen w (runs.reschedule_by (f ∷ rest) w n a).world refl
-
-seen-room : (b : Bool) (w : World) → Grown w (runs.make_room_by b w).world
-seen-room true w = seen w w refl
-seen-room false w = seen w (runs.make_room_by false w).world refl
-
-seen-make_run : (b : Bool) (w : World) → Grown w (runs.make_run_by b w).world
-seen-make_run true w = seen w w refl
-seen-make_run false w = seen w (runs.make_run_by false w).world refl
-
-seen-registered : (t : Stage) (w : World) (q : ℕ) → Grown w (runs.registered t w q)
-seen-registered New w q = seen w (runs.registered New w q) refl
-seen-registered Listed w q = seen w w refl
-seen-registered Ended w q = seen w w refl
-
-seen-who : (who : Sleeper) (w : World) (s : Sleeping) → Grown w (search_by_who who w s).world
-seen-who (sleeper.Tick t) w s = seen-search _ w.queue.items w s
-seen-who (sleeper.Run q) w s = seen-own _ w (record { run = q; waker = s.waker; poll = s.poll })
-
-move-mild : (m : Move) (f : ℕ) → stirs_op (op.Move m f) ≡ false → is_take_up m ≡ false
-move-mild move.TakeUp f z = absurd (cc)
-move-mild _ f z = refl
-
-pub seen-act : (p : ℕ) (h : Hint) (o : Op) (w : World) → stirs_op o ≡ false → Grown w (act p h o w).world
-seen-act p h (op.Move m f) w z = seen-move _ m p w w f (move-mild m f z) (seen w w refl)
-seen-act p h (op.Table table_op.Enter) w z = seen-enter _ _ p w
-seen-act p h (op.Table table_op.LookAtTable) w z = seen w w refl
-seen-act p h (op.Table (table_op.LeaveTable f)) w z = seen-leave _ w f
-seen-act p h (op.Table (table_op.TakeToPoll f)) w z = seen w (acts.take_to_poll w f).world refl
-seen-act p h (op.Table (table_op.PutBack f)) w z = seen w (acts.put_back w f).world refl
-seen-act p h (op.Table (table_op.TakeToDrop f)) w z = seen w (acts.take_to_drop w f).world refl
-seen-act p h (op.Queue queue_op.Take) w z = seen-take _ w
-seen-act p h (op.Queue (queue_op.Append f)) w z = seen-append _ w f
-seen-act p h (op.User (user_op.BeginDrop f)) w z =
-    seen-log w (acts.begin_drop p w f).world (event.Dropped p f) refl refl
-seen-act p h (op.User (user_op.BeginDropOutput f)) w z =
-    seen-log w (acts.begin_drop_output p w f).world (event.OutputDropped p f) refl refl
-seen-act p h (op.User (user_op.Poll f)) w z = seen w w refl
-seen-act p h (op.User (user_op.Drop f)) w z = seen w w refl
-seen-act p h (op.User (user_op.DropOutput f)) w z = seen w w refl
-seen-act p h (op.User (user_op.CallOutside x)) w z = seen w w refl
-seen-act p h (op.User (user_op.PollOwn x)) w z = seen w w refl
-seen-act p h (op.User (user_op.DropOwn q)) w z = seen w w refl
-seen-act p h (op.Waker (waker_op.CopyWaker f held)) w z = seen-copy _ w f held
-seen-act p h (op.Waker (waker_op.CallAwaiter f a k)) w z = seen-call p w (of.Handle f) a k
-seen-act p h (op.Handle (handle_op.Look f a)) w z =
-    seen-look (moves.poll (task w f)).owed.answer p w f a (moves.poll (task w f))
-seen-act p h (op.Handle (handle_op.CopyAwaiter f a)) w z = seen-copy_awaiter _ p w f a
-seen-act p h (op.Handle (handle_op.Register f a k)) w z = seen-register _ w f a k
-seen-act p h (op.Handle (handle_op.EndRegister f a k)) w z = seen-end_register _ w f a k
-seen-act p h (op.Handle (handle_op.LookAgain f)) w z =
-    seen-again (moves.look_again (task w f)).owed.answer p w f (moves.look_again (task w f))
-seen-act p h (op.Handle (handle_op.Notify f own)) w z = seen-notify _ w f own
-seen-act p h (op.Handle (handle_op.EndNotify f own)) w z = seen w (acts.end_notify h w f own).world refl
-seen-act p h (op.Sleeper sleeper_op.ExchangeFlag) w z = seen-exchange _ w
-seen-act p h (op.Sleeper sleeper_op.HandOut) w z = seen-hand_out _ _ w
-seen-act p h (op.Sleeper (sleeper_op.CallSleeper s)) w z = seen-call p w (sleepers.polled_as s.who) s.waker s.poll
-seen-act p h (op.Tick tick_op.MakeTick) w z = seen-make _ w
-seen-act p h (op.Tick (tick_op.Search s)) w z = seen-who s.who w s
-seen-act p h (op.Tick (tick_op.CopyWaker s)) w z = seen-copy_sleeper _ w s
-seen-act p h (op.Tick (tick_op.LieDown s)) w z = seen-lie _ w s
-seen-act p h (op.Tick (tick_op.GetUp t)) w z = seen-up _ w t
-seen-act p h (op.Tick (tick_op.Leave t)) w z = seen-off _ w t
-seen-act p h (op.List (list_op.LockWrite s)) w z = seen w (runs.lock_write w s).world refl
-seen-act p h (op.List (list_op.Write section.MakeRun)) w z = seen-make_run h.refused w
-seen-act p h (op.List (list_op.Write (section.Register x))) w z = seen-registered _ w x.run
-seen-act p h (op.List (list_op.Write (section.Unregister q a))) w z = seen w (runs.unregistered w q) refl
-seen-act p h (op.List list_op.UnlockWrite) w z = seen w (runs.unlock_write w).world refl
-seen-act p h (op.List (list_op.LockRead x)) w z = seen w (runs.lock_read h w x).world refl
-seen-act p h (op.List list_op.UnlockRead) w z = seen w (runs.unlock_read w).world refl
-seen-act p h (op.Steal (steal_op.Length s)) w z = seen-length _ w s
-seen-act p h (op.Steal (steal_op.OwnLength s n)) w z = seen-more _ w s
-seen-act p h (op.Steal (steal_op.Take s more)) w z = seen-steal_take _ w s more
-seen-act p h (op.Steal (steal_op.Put s more f)) w z = absurd (cc)
-seen-act p h (op.Run run_op.MakeRoom) w z = seen-room _ w
-seen-act p h (op.Run run_op.ReturnRoom) w z = seen w (runs.return_room w).world refl
-seen-act p h (op.Run (run_op.SearchCommon x)) w z = seen-common _ w x
-seen-act p h (op.Run (run_op.LookOwn x at left)) w z = seen-looks _ w x at left
-seen-act p h (op.Run (run_op.WakeOwn x)) w z = seen-wake_own p w x
-seen-act p h (op.Run (run_op.Reschedule n a)) w z = seen-reschedule _ w n a
-seen-act p h (op.Closing closing_op.TakeOut) w z = seen w (acts.take_out w).world refl
-seen-act p h (op.Closing closing_op.DropNext) w z = seen-drop_next p w _
-seen-act p h (op.Closing closing_op.WakeNext) w z = seen-wake_next p w _
-seen-act p h (op.Closing closing_op.Close) w z = seen w (acts.close w).world refl
-seen-act p h (op.Closing closing_op.Drain) w z = seen-drain p w _
-seen-act p h (op.End a held) w z = seen-log w (log w (event.CallEnded p a)) (event.CallEnded p a) refl refl
-
-pub seen-react : (p : ℕ) (o : Op) (u : UserEnd) (w : World) → accepts o u ≡ true → Grown w (react p o u w).world
-seen-react p (op.User (user_op.Poll f)) (end.Polled answer.Pending) w a =
-    seen-log w (react p (op.User (user_op.Poll f)) (end.Polled answer.Pending) w).world
-    (event.Answered p f answer.Pending)
-    refl refl
-seen-react p (op.User (user_op.Poll f)) (end.Polled answer.Ready) w a =
-    seen-log w (react p (op.User (user_op.Poll f)) (end.Polled answer.Ready) w).world
-    (event.Answered p f answer.Ready)
-    refl refl
-seen-react p (op.User (user_op.Drop f)) end.Done w a = seen w w refl
-seen-react p (op.User (user_op.DropOutput f)) end.Done w a = seen w w refl
-seen-react p (op.User (user_op.CallOutside x)) end.Done w a = seen w w refl
-seen-react p (op.User (user_op.PollOwn x)) (end.Polled answer.Pending) w a = seen w w refl
-seen-react p (op.User (user_op.PollOwn x)) (end.Polled answer.Ready) w a = seen w w refl
-seen-react p (op.User (user_op.DropOwn q)) end.Done w a = seen w w refl
-seen-react p _ _ w a = absurd (cc)
+pub grown-begun : (p : ℕ) (w : World) (here : Option Waker) (c : Call) →
+    Grown w (begun p (log w (event.CallBegun p c)) here c).world
+grown-begun p w here c =
+    let v = log w (event.CallBegun p c) in
+    grows-and stirs ordinary-stirs w v (begun p v here c).world (grown-log w v (event.CallBegun p c) refl refl)
+    (grows-begun stirs ordinary-stirs p v here c (allows c))
+  where
+    allows : (x : Call) → AllowsCall stirs ordinary-stirs p x
+    allows (call.PollRun q b) = refl
+    allows (call.DropRun q) = refl
+    allows _ = tt

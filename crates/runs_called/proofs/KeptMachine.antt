@@ -28,8 +28,8 @@ use Rattle.executor_model.proofs.OwnRooms.{Roomy, roomy-ends, roomy-moves}
 use Rattle.executor_model.proofs.Ways.{Way, along}
 use Rattle.executor_model.proofs.Ways.Way.{acted, reacted, called}
 use Rattle.runs_called.proofs.KeptActs.{is_apart, keeps-act, keeps-react}
-use Rattle.runs_called.proofs.KeptCalls.{Drops, grown-begun, keeps-begun}
-use Rattle.runs_called.proofs.KeptGrown.{seen-act, seen-react, stirs_op}
+use Rattle.runs_called.proofs.KeptCalls.{Drops, keeps-begun}
+use Rattle.runs_called.proofs.KeptGrown.{grown-act, grown-begun, grown-react, stirs_op}
 use Rattle.runs_called.proofs.KeptWeights.{quits_of}
 use Rattle.runs_called.proofs.StandsLast.{standing-ends}
 use Rattle.runs_called.proofs.StandsMachine.{standing-moves, standing-start}
@@ -78,7 +78,7 @@ keeping-acted s p rest h o true n l e k a b c =
     keeping-on s p (o ∷ []) rest (act p h o s.world) l e k
     (keeps-act p h o s.world n (below-made s p o rest l e k)
     (λ r z. k.leaves r (omega (arith, z, split (quits_of r) s.parties p (o ∷ []) rest l e))))
-    (seen-act p h o s.world (mild o n)) a b c
+    (grown-act p h o s.world (mild o n)) a b c
   where
     not-false : (x : Bool) → not x ≡ true → x ≡ false
     not-false false q = refl
@@ -118,7 +118,7 @@ keeping-way s p old rest d good l e (acted h o q z) a b c k =
 keeping-way s p old rest d good l e (reacted o u n q z) a b c k =
     rw z (keeping-on s p (o ∷ []) rest (react p o u s.world) l
     (subst (λ (os : List Op). stack s p ≡ rest ++ reverse os) q e) k (keeps-react p o u s.world n)
-    (seen-react p o u s.world n)
+    (grown-react p o u s.world n)
     (subst (λ (x : Done). Standing (unsettled s p rest x)) z a)
     (subst (λ (x : Done). Heard (unsettled s p rest x)) z b)
     (subst (λ (x : Done). Roomy (unsettled s p rest x)) z c))

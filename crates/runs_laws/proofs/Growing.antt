@@ -1,9 +1,8 @@
 -- What a step adds to the trace: at most the beginning of one call, and then nothing that begins another.
 use Rattle.std.proofs.Common.{◌≡◌, ◌≢◌, ℕ, List, [], ◌∷◌, ◌++◌, length, Bool, true, false}
-use Rattle.std.proofs.Common.{◌||◌, refl, sym, ap, ◌∙◌, append-nil, arith}
+use Rattle.std.proofs.Common.{refl, sym, ap, ◌∙◌, append-nil, arith}
 use Rattle.std.proofs.lemmas.Bool.Decides.{nat_tests}
 use Rattle.std.proofs.lemmas.List.{append_assoc}
-use Rattle.std.proofs.lemmas.List.Folds.{list_any-append}
 use Rattle.std.specs.Prelude.{Option, Some, None, reverse}
 use Rattle.task_moves.specs.declared.moves.owed.Answer.{Answer}
 use Rattle.task_moves.specs.declared.moves.owed.Moved.{Moved}
@@ -57,6 +56,7 @@ use Rattle.runs_laws.specs.Continued.{IsContinued}
 use Rattle.runs_laws.specs.AtOnce.{doer, is_by}
 use Rattle.executor_model.proofs.RunsMoves.{moves-length, moves-list, moves-look, moves-common, moves-make_room}
 use Rattle.executor_model.proofs.RunsMoves.{moves-own_length, moves-reschedule, moves-return_room, moves-take, same-stolen}
+use Rattle.executor_model.proofs.TraceMore.{has-append, or-false}
 use Rattle.runs_laws.proofs.TickWorlds.{tick-trace}
 
 abbrev pub begins_one : Event → Bool
@@ -79,10 +79,6 @@ grows-same : {p : ℕ} (w v : World) → v.trace ≡ w.trace → Grows p w v
 grows-same w v e =
     record { more = []; is = e ∙ sym (append-nil w.trace); none_begins = refl; none_ends = refl; own = λ q n. refl }
 
-or-false : (a : Bool) → a ≡ false → (a || false) ≡ false
-or-false true e = absurd (cc)
-or-false false e = refl
-
 -- what p did nobody else did
 pub not-by : (p q : ℕ) (e : Event) → doer e ≡ p → q ≢ p → is_by q e ≡ false
 not-by p q e d n = grind (arith, nat_tests)
@@ -104,10 +100,6 @@ grows-log_if : {p : ℕ} (c : Bool) (w v : World) (e : Event) → v.trace ≡ (l
     ends_one e ≡ false → doer e ≡ p → Grows p w v
 grows-log_if true w v e t b n d = grows-log w v e t b n d
 grows-log_if false w v e t b n d = grows-same w v t
-
-has-append : (test : Event → Bool) (xs ys : Trace) → has test xs ≡ false → has test ys ≡ false →
-    has test (xs ++ ys) ≡ false
-has-append test xs ys a b = list_any-append test xs ys ∙ (ap (λ (x : Bool). x || has test ys) a ∙ b)
 
 grows-and : {p : ℕ} (w v u : World) → Grows p w v → Grows p v u → Grows p w u
 grows-and w v u a b = record {

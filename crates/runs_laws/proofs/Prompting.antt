@@ -61,6 +61,7 @@ use Rattle.executor_model.proofs.Resting.{calling-is}
 use Rattle.executor_model.proofs.RunsNext.{BlindToSearches, common-unseen, look-unseen, own-unseen, steal-unseen}
 use Rattle.executor_model.proofs.RunsNext.{walk-unseen}
 use Rattle.executor_model.proofs.SleepersNext.{goes-unseen, tell-unseen}
+use Rattle.executor_model.proofs.TraceMore.{left-false, right-false}
 use Rattle.runs_laws.specs.AtOnce.{doer, is_by, deeds}
 use Rattle.runs_laws.proofs.Growing.{ends_one, is_end, Grows, not-by}
 
@@ -108,14 +109,6 @@ either : (b c : Bool) → c ≡ false → (b || not c) ≡ true
 either true c e = refl
 either false true e = absurd (cc)
 either false false e = refl
-
-left-false : (a b : Bool) → (a || b) ≡ false → a ≡ false
-left-false true b e = absurd (cc)
-left-false false b e = refl
-
-right-false : (a b : Bool) → (a || b) ≡ false → b ≡ false
-right-false true b e = absurd (cc)
-right-false false b e = e
 
 pub told-append : (p : ℕ) (b : Bool) (xs ys : Trace) → told p b (xs ++ ys) ≡ (told p b xs && told p (fresh p b xs) ys)
 told-append p b [] ys = refl

@@ -1,5 +1,5 @@
 -- Each step changes the queue as a closable queue changes.
-use Rattle.std.proofs.Common.{◌≡◌, ℕ, zero, suc, ◌+◌, ◌-◌, ◌<◌, ◌≤◌, List, [], ◌∷◌, ◌++◌, length, drop, Bool}
+use Rattle.std.proofs.Common.{◌≡◌, ℕ, ◌+◌, ◌-◌, ◌<◌, ◌≤◌, List, [], ◌∷◌, ◌++◌, length, drop, Bool}
 use Rattle.std.proofs.Common.{true, false, ◌&&◌, not, ltb, refl, sym, ap, ◌∙◌, subst, arith, length-append, Result}
 use Rattle.std.proofs.lemmas.Bool.Decides.{nat_tests}
 use Rattle.std.specs.Prelude.{Option, Some, None, reverse}
@@ -33,7 +33,6 @@ use Rattle.executor_model.specs.declared.op.Source.TheVariants.{Common, Own}
 use Rattle.executor_model.specs.declared.op.Steal.{Steal}
 use Rattle.executor_model.specs.declared.op.StealOp.{StealOp}
 use Rattle.executor_model.specs.declared.op.StealOp.TheVariants as steal_op
-use Rattle.executor_model.specs.declared.op.Then.{Then}
 use Rattle.executor_model.specs.declared.op.Then.TheVariants as then
 use Rattle.executor_model.specs.declared.op.TickOp.{TickOp}
 use Rattle.executor_model.specs.declared.op.TickOp.TheVariants as tick_op
@@ -50,7 +49,7 @@ use Rattle.executor_model.specs.declared.step.StepError.{StepError}
 use Rattle.executor_model.specs.declared.step.StepError.TheVariants.{NoSuch}
 use Rattle.executor_model.specs.declared.step.UserEnd.{UserEnd}
 use Rattle.executor_model.specs.declared.step.UserEnd.TheVariants as end
-use Rattle.executor_model.specs.World.{World, Place, Done, log, log_if, put_own, task, put}
+use Rattle.executor_model.specs.World.{World, Place, Done, log, log_if, task, put}
 use Rattle.executor_model.specs.Acts.{append_by, take_by, enter_by, leave_by, copy_by, look_by, look_again_by}
 use Rattle.executor_model.specs.Acts.{copy_awaiter_by, register_by, end_register_by, notify_by, call_waker}
 use Rattle.executor_model.specs.Acts.{drop_next_by, wake_next_by, drain_by}
@@ -65,7 +64,8 @@ use Rattle.executor_model.proofs.LeavingRuns.{placed, has-place}
 use Rattle.executor_model.proofs.Entering.{finds-place}
 use Rattle.executor_model.proofs.Spawning.{in-range}
 use Rattle.executor_model.proofs.Stepping.{step-refused, step-made}
-use Rattle.executor_model.proofs.RunsQueue.{queue-list}
+use Rattle.executor_model.proofs.RunsQueue.{queue-by_reference, queue-length, queue-list, queue-look, queue-more, queue-own}
+use Rattle.executor_model.proofs.RunsQueue.{queue-put, queue-reschedule, queue-room, queue-stolen}
 use Rattle.executor_model.proofs.SleepersWorlds.{Rest, call-rest, sleeper-rest, tick-rest, searches}
 use Rattle.runs_laws.specs.Queueings.{queued_by, queueings, counting, Changes, counted_after, CountsQueueings}
 use Rattle.runs_laws.specs.Queueings.Changes.{stays, appends, takes, closes}
@@ -150,30 +150,6 @@ turns-search x w (f ∷ rest) s e = less f rest e refl
 
 -- what a run does changes it by takes alone
 
-queue-run_by : (b : Bool) (w : World) (x : RunPoll) (f : ℕ) → (runs.run_by b w x f).world.queue ≡ w.queue
-queue-run_by true w x f = refl
-queue-run_by false w x f = refl
-
-queue-counted : (b : Bool) (w : World) (x : RunPoll) (f : ℕ) → (runs.counted_by b w x f).world.queue ≡ w.queue
-queue-counted true w x f = refl
-queue-counted false w x f = queue-run_by _ _ x f
-
-queue-found : (w : World) (x : RunPoll) (f : ℕ) → (runs.found w x f).world.queue ≡ w.queue
-queue-found w x f = queue-counted _ w x f
-
-queue-stolen : (t : Then) (w : World) (x : RunPoll) → (runs.stolen t w x).world.queue ≡ w.queue
-queue-stolen (then.Found f) w x = queue-found w x f
-queue-stolen (then.Run f) w x = queue-run_by _ w x f
-queue-stolen (then.Walk at left) w x = refl
-
-queue-more : (n : ℕ) (w : World) (s : Steal) → (runs.steal_by n w s).world.queue ≡ w.queue
-queue-more zero w s = queue-stolen s.then w s.poll
-queue-more (suc n) w s = refl
-
-queue-length : (n : ℕ) (w : World) (s : Steal) → (runs.steal_length_by n w s).world.queue ≡ w.queue
-queue-length zero w s = queue-stolen s.then w s.poll
-queue-length (suc n) w s = refl
-
 turns-stolen : (from : Source) (q : List ℕ) (w : World) (s : Steal) (left : ℕ) → s.from ≡ from →
     runs.source_of w from ≡ q →
     Turns (op.Steal (steal_op.Take s left)) w.queue (runs.steal_take_by q w s left).world.queue
@@ -182,42 +158,16 @@ turns-stolen Common (f ∷ rest) w s left i e =
     less f rest e (ap (λ (a : Source). (runs.without_first w a rest).queue) i)
 turns-stolen (Own r) (f ∷ rest) w s left i e = same (ap (λ (a : Source). (runs.without_first w a rest).queue) i)
 
-queue-put : (b : Bool) (p : ℕ) (w : World) (s : Steal) (left f : ℕ) →
-    (runs.steal_put_by b p w s left f).world.queue ≡ w.queue
-queue-put true p w s left f = queue-more left (runs.kept_by p w s.poll.run f) s
-queue-put false p w s left f = queue-stolen s.then w s.poll
-
 turns-steal : (p : ℕ) (o : StealOp) (w : World) → Turns (op.Steal o) w.queue (steal_act p o w).world.queue
 turns-steal p (steal_op.Length s) w = same (queue-length _ w s)
 turns-steal p (steal_op.OwnLength s n) w = same (queue-more _ w s)
 turns-steal p (steal_op.Take s left) w = turns-stolen s.from _ w s left refl refl
 turns-steal p (steal_op.Put s left f) w = same (queue-put _ p w s left f)
 
-queue-own : (q : List ℕ) (w : World) (x : RunPoll) → (runs.search_own_by q w x).world.queue ≡ w.queue
-queue-own [] w x = refl
-queue-own (f ∷ rest) w x = queue-found (put_own w x.run rest) x f
-
-queue-look : (q : List ℕ) (w : World) (x : RunPoll) (at left : ℕ) →
-    (runs.look_own_by q w x at left).world.queue ≡ w.queue
-queue-look [] w x at left = refl
-queue-look (f ∷ rest) w x at left = queue-found (put_own w x.run rest) x f
-
 turns-common : (q : List ℕ) (w : World) (x : RunPoll) → w.queue.items ≡ q →
     Turns (op.Run (run_op.SearchCommon x)) w.queue (runs.search_common_by q w x).world.queue
 turns-common [] w x e = same refl
 turns-common (f ∷ rest) w x e = less f rest e refl
-
-queue-room : (b : Bool) (w : World) → (runs.make_room_by b w).world.queue ≡ w.queue
-queue-room true w = refl
-queue-room false w = refl
-
-queue-by_reference : (p : ℕ) (w : World) (a : Waker) → (runs.call_by_reference p w a).world.queue ≡ w.queue
-queue-by_reference p w (Task f) = logged _ w (event.Woken p f)
-queue-by_reference p w (Outside y) = refl
-
-queue-reschedule : (q : List ℕ) (w : World) (r : ℕ) (a : Reply) → (runs.reschedule_by q w r a).world.queue ≡ w.queue
-queue-reschedule [] w r a = refl
-queue-reschedule (f ∷ rest) w r a = refl
 
 turns-run : (p : ℕ) (h : Hint) (o : RunOp) (w : World) → Turns (op.Run o) w.queue (run_act p h o w).world.queue
 turns-run p h run_op.MakeRoom w = same (queue-room _ w)

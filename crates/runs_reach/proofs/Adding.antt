@@ -25,7 +25,8 @@ use Rattle.executor_model.specs.Trace.{Trace, has}
 use Rattle.executor_model.specs.World.{World, Done, log}
 use Rattle.executor_model.specs.Steps.{Machine, stack, top, below_top, mine, refusal, begun}
 use Rattle.executor_model.specs.Steps.{react, end_of, settled_by, onto, gone_on, after, step_by, step, stepped, run}
-use Rattle.runs_reach.proofs.Growing.{Allows, AllowsCall, grows-act, grows-begun, has-append, is_ordinary}
+use Rattle.executor_model.proofs.TraceGrows.{Allows, AllowsCall, grows-act, grows-begun, is_ordinary}
+use Rattle.executor_model.proofs.TraceMore.{has-append}
 
 -- a later trace has the earlier one at its beginning
 abbrev pub IsContinued : Trace → Trace → Type 0

@@ -46,6 +46,7 @@ use Rattle.executor_model.proofs.Lists.{weigh_all-below, weigh_all-push}
 use Rattle.executor_model.proofs.OwnCounts.{counts-begun}
 use Rattle.executor_model.proofs.OwnRooms.{Roomy, roomy-ends, roomy-moves}
 use Rattle.executor_model.proofs.RunsAside.{Hull}
+use Rattle.executor_model.proofs.TraceGrows.{Allows, AllowsCall, grows-act, grows-begun, grows-react}
 use Rattle.executor_model.proofs.Using.{emptying-uses, emptying_of}
 use Rattle.executor_model.proofs.UsingSteps.{AllUsed, used-ends, used-moves, used-start}
 use Rattle.executor_model.proofs.UsingWorlds.{count-set, is_over_stage, is_past}
@@ -58,7 +59,6 @@ use Rattle.runs_reach.proofs.BoundSteps.{BoundIn, bound-even, bound-put, bound-t
 use Rattle.runs_reach.proofs.BoundSteps.{scheduled}
 use Rattle.runs_reach.proofs.Evens.{even-act, even-react, is_even}
 use Rattle.runs_reach.proofs.Frames.{Frames, frames-ends, frames-moves, frames-start}
-use Rattle.runs_reach.proofs.Growing.{Allows, AllowsCall, grows-act, grows-begun, grows-react}
 use Rattle.runs_reach.proofs.Leavings.{dropping_of, off_of}
 use Rattle.runs_reach.proofs.Running.{RanIn}
 use Rattle.runs_reach.proofs.RunningCalls.{ran-end}

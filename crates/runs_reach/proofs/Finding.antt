@@ -1,5 +1,5 @@
 -- The step at which an event of a run happened that begins a call.
-use Rattle.std.proofs.Common.{◌≡◌, ℕ, List, [], ◌∷◌, ◌++◌, length, Bool, true, false, ◌||◌, refl}
+use Rattle.std.proofs.Common.{◌≡◌, ℕ, List, [], ◌∷◌, ◌++◌, length, false, refl}
 use Rattle.std.proofs.Common.{sym, ap, ◌∙◌, arith, append-nil, length-append}
 use Rattle.std.proofs.lemmas.List.{append_assoc, append_cancel_left}
 use Rattle.executor_model.specs.declared.call.Call.{Call}
@@ -9,20 +9,13 @@ use Rattle.executor_model.specs.declared.step.Step.{Step}
 use Rattle.executor_model.specs.declared.step.Step.TheVariants.{Begin}
 use Rattle.executor_model.specs.Trace.{Trace, has}
 use Rattle.executor_model.specs.Steps.{Machine, step, stepped, run}
+use Rattle.executor_model.proofs.TraceMore.{left-false, right-false}
 use Rattle.runs_reach.proofs.Adding.{IsContinued, begins_one, Adds, adds, run-continues}
 use Rattle.runs_reach.proofs.Adding.Adds.{refused, goes_on, begins}
 
 abbrev rest_of : Trace → Trace
 rest_of [] = []
 rest_of (e ∷ es) = es
-
-pub left-false : (a b : Bool) → (a || b) ≡ false → a ≡ false
-left-false true b e = absurd (cc)
-left-false false b e = refl
-
-right-false : (a b : Bool) → (a || b) ≡ false → b ≡ false
-right-false true b e = absurd (cc)
-right-false false b e = e
 
 pub heads : (x y : Event) (xs ys : Trace) → x ∷ xs ≡ y ∷ ys → x ≡ y
 heads x y xs ys e = cc

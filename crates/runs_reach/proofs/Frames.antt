@@ -40,10 +40,11 @@ use Rattle.executor_model.proofs.Lift.{none_refused, unsettled, good-start}
 use Rattle.executor_model.proofs.Lists.{same_is, weigh-append, weigh-below}
 use Rattle.executor_model.proofs.Resting.{Opens, idle-stack, opens as begins-answering}
 use Rattle.executor_model.proofs.AwaitedTies.{stack-then}
+use Rattle.executor_model.proofs.TraceGrows.{Grows, Allows, is_ordinary, grows-act, grows-begun, grows-react}
+use Rattle.executor_model.proofs.TraceMore.{left-false, right-false}
 use Rattle.executor_model.proofs.Ways.{Way, along}
 use Rattle.executor_model.proofs.Ways.Way.{acted, reacted, called}
 use Rattle.runs_reach.proofs.Answering.{answers_of, other_of, few, Hands, hands-act, hands-react, is_end}
-use Rattle.runs_reach.proofs.Growing.{Grows, Allows, is_ordinary, grows-act, grows-begun, grows-react}
 use Rattle.runs_reach.proofs.Opens.{Open, opens, opens_one, opens-push, opens-none}
 use Rattle.runs_reach.proofs.Opened.{Tells, at, tells-none, tells-push, tells-poll, polls_no_run}
 
@@ -148,14 +149,6 @@ ordinary-none (event.CallBegun p c) z = absurd (cc)
 ordinary-none (event.CallEnded p a) z = absurd (cc)
 ordinary-none (event.RunPolled p r) z = absurd (cc)
 ordinary-none _ z = refl
-
-left-false : (a b : Bool) → (a || b) ≡ false → a ≡ false
-left-false true b e = absurd (cc)
-left-false false b e = refl
-
-right-false : (a b : Bool) → (a || b) ≡ false → b ≡ false
-right-false true b e = absurd (cc)
-right-false false b e = e
 
 opens-one : (p n : ℕ) (s : List Open) (e : Event) → is_call e ≡ false → opens_one p n e s ≡ s
 opens-one p n s (event.CallBegun q c) z = absurd (cc)

@@ -1,4 +1,3 @@
-pub mod Growing
 pub mod Pushes
 pub mod Dueness
 pub mod Opens

@@ -1,9 +1,7 @@
 -- What holds of each run at every moment, and how the trace tells of its drop and of its end.
 use Rattle.std.proofs.Common.{◌≡◌, ◌⊎◌, ◌∙◌, ⊎_elim, ℕ, ◌<◌, ◌≤◌, [], ◌∷◌}
-use Rattle.std.proofs.Common.{◌++◌, length, Bool, true, false, ◌||◌, eqb, refl, sym, ap, subst, arith}
-use Rattle.std.proofs.Common.{append-nil}
+use Rattle.std.proofs.Common.{◌++◌, length, Bool, true, false, ◌||◌, eqb, refl, sym, ap, arith}
 use Rattle.std.proofs.lemmas.Bool.Decides.{nat_tests}
-use Rattle.std.proofs.lemmas.List.{append_assoc}
 use Rattle.std.specs.Prelude.{Some, slice_get}
 use Rattle.executor_model.specs.declared.call.Reply.TheVariants as reply
 use Rattle.executor_model.specs.declared.event.Event.{Event}
@@ -14,9 +12,10 @@ use Rattle.executor_model.specs.Keeper.{AnswersReady, is_run_drop}
 use Rattle.executor_model.specs.Standing.{polls_sleeper}
 use Rattle.executor_model.specs.Trace.{Trace, has}
 use Rattle.executor_model.specs.World.{World, Ended, run_of}
+use Rattle.executor_model.proofs.TraceGrows.{is_ordinary}
+use Rattle.executor_model.proofs.TraceMore.{over-more}
 use Rattle.executor_model.proofs.UsingWorlds.{is_over_stage, is_past}
 use Rattle.runs_reach.proofs.Endings.{ends-before, ends-later}
-use Rattle.runs_reach.proofs.Growing.{is_ordinary}
 use Rattle.runs_reach.proofs.Opens.{IsOpen, get-old, get-push, get-within, since-new}
 use Rattle.runs_reach.proofs.Pushes.{any-push}
 
@@ -108,24 +107,6 @@ only-push r es e S z h p k g n = ⊎_elim
     new m q y = let no : slice_get (let t : Trace = [] in t) y.place ≡ Some (event.CallEnded p reply.Ready) =
         ap (λ (t : Trace). slice_get t y.place) (sym (ap (λ (i : ℕ). since i (es ++ e ∷ [])) q ∙ since-new es e))
         ∙ y.here in cc
-
--- many more events, each of which keeps it
-
-pub over-more : (P : Trace → Type 0) (t : Event → Bool) →
-    ((es : Trace) (e : Event) → t e ≡ false → P es → P (es ++ e ∷ [])) → (es more : Trace) → has t more ≡ false →
-    P es → P (es ++ more)
-over-more P t k es [] z h = subst P (sym (append-nil es)) h
-over-more P t k es (e ∷ more) z h =
-    subst P (append_assoc es (e ∷ []) more)
-    (over-more P t k (es ++ e ∷ []) more (right-false (t e) _ z) (k es e (left-false (t e) _ z) h))
-  where
-    left-false : (a b : Bool) → (a || b) ≡ false → a ≡ false
-    left-false true b q = absurd (cc)
-    left-false false b q = refl
-
-    right-false : (a b : Bool) → (a || b) ≡ false → b ≡ false
-    right-false true b q = absurd (cc)
-    right-false false b q = q
 
 -- what tells of a run or of what came into its own queue, and the end of a call
 abbrev pub is_of_runs : Event → Bool

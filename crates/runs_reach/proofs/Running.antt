@@ -33,13 +33,14 @@ use Rattle.executor_model.proofs.Lift.{split, unsettled}
 use Rattle.executor_model.proofs.Lists.{same_cases, same_is, weigh_all-below, weigh_all-push}
 use Rattle.executor_model.proofs.RunsMoves.{moves-own_length}
 use Rattle.executor_model.proofs.RunsMoving.{hull-more}
+use Rattle.executor_model.proofs.TraceGrows.{Grows}
+use Rattle.executor_model.proofs.TraceMore.{right-false}
 use Rattle.executor_model.proofs.Using.{polling_of}
 use Rattle.executor_model.proofs.UsingRuns.{idle-more}
 use Rattle.executor_model.proofs.UsingSteps.{AllUsed}
 use Rattle.executor_model.proofs.UsingWorlds.{Idle, count-set, is_over_stage, is_past}
 use Rattle.runs_reach.proofs.Answering.{readying_of}
 use Rattle.runs_reach.proofs.Evens.{Even, even-idle}
-use Rattle.runs_reach.proofs.Growing.{Grows}
 use Rattle.runs_reach.proofs.Leavings.{Leaves, dropping_of, leaves-none, leaving_of}
 use Rattle.runs_reach.proofs.Leavings.{leaving-more}
 use Rattle.runs_reach.proofs.Leavings.{leaving-uses, off_of, off-leaves}
@@ -110,9 +111,6 @@ same-alike r w v e = subst (Alike r w.trace) (sym e)
 
 -- what comes into a run's own queue comes there in its poll
 
-or-false : (a b : Bool) → (a || b) ≡ false → b ≡ false
-or-false true b e = absurd (cc)
-or-false false b e = e
 
 over-true : (t : Stage) → t ≡ Ended → is_over_stage t ≡ true
 over-true t e = ap is_over_stage e
@@ -176,7 +174,7 @@ module _ (s : Machine) (p : ℕ) (x : Steal) (more f : ℕ) (rest : List Op) (r 
           let stage : (run_of d.world r).stage ≡ (run_of s.world r).stage = like.stage r in
           let not_over : (run_of s.world r).stage ≡ Ended → ⊥ =
           λ z. (let no : true ≡ false = sym (over-true (run_of s.world r).stage z)
-          ∙ or-false (run_of s.world r).dropped (is_over_stage (run_of s.world r).stage) there in cc) in
+          ∙ right-false (run_of s.world r).dropped (is_over_stage (run_of s.world r).stage) there in cc) in
           let k = leave in record {
             past = λ z. like.past r ∙ h.past (sym (ap (has (is_run_drop r)) trace-is
                 ∙ has-same (is_run_drop r) s.world.trace (event.Kept p f q) refl) ∙ z);

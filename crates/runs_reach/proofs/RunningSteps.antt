@@ -25,13 +25,13 @@ use Rattle.executor_model.specs.Steps.{future_of, is_unborrowed, kept, mine, rea
 use Rattle.executor_model.specs.World.{World, Run, Done, log, no_run, run_of}
 use Rattle.executor_model.proofs.Lift.{first-true, none_refused, split, unsettled}
 use Rattle.executor_model.proofs.OwnRooms.{Roomy}
+use Rattle.executor_model.proofs.TraceGrows.{Allows, AllowsCall, grows-act, grows-begun, grows-react}
 use Rattle.executor_model.proofs.UsingSteps.{AllUsed}
 use Rattle.executor_model.proofs.Ways.{Way}
 use Rattle.executor_model.proofs.Ways.Way.{acted, reacted, called}
 use Rattle.runs_reach.proofs.Answering.{is_end}
 use Rattle.runs_reach.proofs.Evens.{Even, even-act, even-react, is_even}
 use Rattle.runs_reach.proofs.Frames.{Frames}
-use Rattle.runs_reach.proofs.Growing.{Allows, AllowsCall, grows-act, grows-begun, grows-react}
 use Rattle.runs_reach.proofs.Leavings.{drops_run, leaves-act, leaves-react, is_unregister}
 use Rattle.runs_reach.proofs.Ran.{is_of_runs, ordinary-runs}
 use Rattle.runs_reach.proofs.Running.{RanIn, grown-alike, ran-make, ran-put, ran-unregister, ran-within, stays-with}

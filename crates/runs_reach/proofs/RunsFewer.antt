@@ -1,33 +1,10 @@
 -- What a run does takes from the executor's queue at most.
-use Rattle.std.proofs.Common.{◌≡◌, ◌≤◌, ℕ, zero, suc, List, [], ◌∷◌, drop, Bool, true, false, refl, ap, arith}
-use Rattle.queue_steps.specs.ClosableQueue.{ClosableQueue, taken}
-use Rattle.executor_model.specs.declared.call.Reply.{Reply}
-use Rattle.executor_model.specs.declared.event.Event.{Event}
-use Rattle.executor_model.specs.declared.event.Event.TheVariants as event
-use Rattle.executor_model.specs.declared.op.ListOp.{ListOp}
-use Rattle.executor_model.specs.declared.op.ListOp.TheVariants as list_op
-use Rattle.executor_model.specs.declared.op.Polled.TheVariants as of
-use Rattle.executor_model.specs.declared.op.RunOp.{RunOp}
-use Rattle.executor_model.specs.declared.op.RunOp.TheVariants as run_op
-use Rattle.executor_model.specs.declared.op.RunPoll.{RunPoll}
-use Rattle.executor_model.specs.declared.op.Section.TheVariants as section
-use Rattle.executor_model.specs.declared.op.Source.{Source}
-use Rattle.executor_model.specs.declared.op.Source.TheVariants.{Common, Own}
-use Rattle.executor_model.specs.declared.op.Steal.{Steal}
-use Rattle.executor_model.specs.declared.op.StealOp.{StealOp}
-use Rattle.executor_model.specs.declared.op.StealOp.TheVariants as steal_op
-use Rattle.executor_model.specs.declared.op.Then.{Then}
-use Rattle.executor_model.specs.declared.op.Then.TheVariants as then
-use Rattle.executor_model.specs.declared.op.Waker.{Waker}
-use Rattle.executor_model.specs.declared.op.Waker.TheVariants.{Task, Outside}
-use Rattle.executor_model.specs.declared.step.Hint.{Hint}
-use Rattle.executor_model.specs.World.{World, Stage, New, Listed, Ended, log, log_if, put_own}
-use Rattle.executor_model.specs.ActsOfRuns.{call_by_reference, counted_by, found, kept_by, look_own_by, make_room_by}
-use Rattle.executor_model.specs.ActsOfRuns.{make_run_by, registered}
-use Rattle.executor_model.specs.ActsOfRuns.{reschedule_by, run_by, search_common_by, search_own, search_own_by}
-use Rattle.executor_model.specs.ActsOfRuns.{steal_by, steal_length_by, steal_put_by, steal_take_by, stolen}
-use Rattle.executor_model.specs.Doing.{list_act, run_act, steal_act}
+use Rattle.std.proofs.Common.{◌≡◌, ◌≤◌, ℕ, List, [], ◌∷◌, drop, sym, ap, subst, arith}
+use Rattle.queue_steps.specs.ClosableQueue.{ClosableQueue}
+use Rattle.executor_model.specs.World.{World}
 use Rattle.executor_model.specs.Sound.{times}
+use Rattle.executor_model.proofs.RunsQueue.{Takes}
+use Rattle.executor_model.proofs.RunsQueue.Takes.{stays, first}
 
 pub record Fewer (w v : World) : Type 0 where
   pub items : (g : ℕ) → times g v.queue.items ≤ times g w.queue.items
@@ -41,105 +18,8 @@ drop-less : (g : ℕ) (xs : List ℕ) → times g (drop 1 xs) ≤ times g xs
 drop-less g [] = omega arith
 drop-less g (x ∷ xs) = omega arith
 
--- the first is taken
-first-taken : (w : World) → Fewer w (record w { queue = taken w.queue })
-first-taken w = record { items = λ g. drop-less g w.queue.items }
-
-queue-run_by : (b : Bool) (w : World) (x : RunPoll) (f : ℕ) → (run_by b w x f).world.queue ≡ w.queue
-queue-run_by true w x f = refl
-queue-run_by false w x f = refl
-
-queue-counted : (b : Bool) (w : World) (x : RunPoll) (f : ℕ) → (counted_by b w x f).world.queue ≡ w.queue
-queue-counted true w x f = refl
-queue-counted false w x f = queue-run_by _ _ x f
-
-queue-found : (w : World) (x : RunPoll) (f : ℕ) → (found w x f).world.queue ≡ w.queue
-queue-found w x f = queue-counted _ w x f
-
-queue-stolen : (t : Then) (w : World) (x : RunPoll) → (stolen t w x).world.queue ≡ w.queue
-queue-stolen (then.Found f) w x = queue-found w x f
-queue-stolen (then.Run f) w x = queue-run_by _ w x f
-queue-stolen (then.Walk at left) w x = refl
-
-queue-length : (n : ℕ) (w : World) (s : Steal) → (steal_length_by n w s).world.queue ≡ w.queue
-queue-length zero w s = queue-stolen s.then w s.poll
-queue-length (suc n) w s = refl
-
-queue-more : (n : ℕ) (w : World) (s : Steal) → (steal_by n w s).world.queue ≡ w.queue
-queue-more zero w s = queue-stolen s.then w s.poll
-queue-more (suc n) w s = refl
-
-fewer-take : (from : Source) (q : List ℕ) (w : World) (x : RunPoll) (t : Then) (more : ℕ) →
-    Fewer w (steal_take_by q w (record { poll = x; from = from; then = t }) more).world
-fewer-take from [] w x t more = untouched w _ (queue-stolen t w x)
-fewer-take Common (f ∷ rest) w x t more = first-taken w
-fewer-take (Own r) (f ∷ rest) w x t more = untouched w _ refl
-
-pub queue-put : (b : Bool) (p : ℕ) (w : World) (s : Steal) (more f : ℕ) → (steal_put_by b p w s more f).world.queue
-    ≡ w.queue
-queue-put true p w s more f = queue-more more (kept_by p w s.poll.run f) s
-queue-put false p w s more f = queue-stolen s.then w s.poll
-
-pub fewer-steal : (p : ℕ) (o : StealOp) (w : World) → Fewer w (steal_act p o w).world
-fewer-steal p (steal_op.Length s) w = untouched w _ (queue-length _ w s)
-fewer-steal p (steal_op.OwnLength s n) w = untouched w _ (queue-more _ w s)
-fewer-steal p (steal_op.Take s more) w = fewer-take s.from _ w s.poll s.then more
-fewer-steal p (steal_op.Put s more f) w = untouched w _ (queue-put _ p w s more f)
-
-pub queue-own : (q : List ℕ) (w : World) (x : RunPoll) → (search_own_by q w x).world.queue ≡ w.queue
-queue-own [] w x = refl
-queue-own (f ∷ rest) w x = queue-found (put_own w x.run rest) x f
-
-pub fewer-search : (w : World) (x : RunPoll) → Fewer w (search_own w x).world
-fewer-search w x = untouched w _ (queue-own _ w x)
-
-pub fewer-common : (q : List ℕ) (w : World) (x : RunPoll) → Fewer w (search_common_by q w x).world
-fewer-common [] w x = untouched w _ refl
-fewer-common (f ∷ rest) w x = first-taken w
-
-pub queue-look : (q : List ℕ) (w : World) (x : RunPoll) (at left : ℕ) → (look_own_by q w x at left).world.queue ≡ w.queue
-queue-look [] w x at left = refl
-queue-look (f ∷ rest) w x at left = queue-found (put_own w x.run rest) x f
-
-pub queue-room : (b : Bool) (w : World) → (make_room_by b w).world.queue ≡ w.queue
-queue-room true w = refl
-queue-room false w = refl
-
-queue-make : (b : Bool) (w : World) → (make_run_by b w).world.queue ≡ w.queue
-queue-make true w = refl
-queue-make false w = refl
-
-queue-registered : (t : Stage) (w : World) (r : ℕ) → (registered t w r).queue ≡ w.queue
-queue-registered New w r = refl
-queue-registered Listed w r = refl
-queue-registered Ended w r = refl
-
-pub queue-list : (h : Hint) (o : ListOp) (w : World) → (list_act h o w).world.queue ≡ w.queue
-queue-list h (list_op.LockWrite s) w = refl
-queue-list h (list_op.Write section.MakeRun) w = queue-make h.refused w
-queue-list h (list_op.Write (section.Register x)) w = queue-registered _ w x.run
-queue-list h (list_op.Write (section.Unregister r a)) w = refl
-queue-list h list_op.UnlockWrite w = refl
-queue-list h (list_op.LockRead x) w = refl
-queue-list h list_op.UnlockRead w = refl
-
-queue-reschedule : (q : List ℕ) (w : World) (r : ℕ) (a : Reply) → (reschedule_by q w r a).world.queue ≡ w.queue
-queue-reschedule [] w r a = refl
-queue-reschedule (f ∷ rest) w r a = refl
-
-queue-log_if : (b : Bool) (w : World) (e : Event) → (log_if b w e).queue ≡ w.queue
-queue-log_if true w e = refl
-queue-log_if false w e = refl
-
-queue-by_reference : (p : ℕ) (w : World) (a : Waker) → (call_by_reference p w a).world.queue ≡ w.queue
-queue-by_reference p w (Task f) = queue-log_if _ w (event.Woken p f)
-queue-by_reference p w (Outside y) = refl
-
-pub fewer-run : (p : ℕ) (h : Hint) (o : RunOp) (w : World) → Fewer w (run_act p h o w).world
-fewer-run p h run_op.MakeRoom w = untouched w _ (queue-room h.refused w)
-fewer-run p h run_op.ReturnRoom w = untouched w _ refl
-fewer-run p h (run_op.SearchCommon x) w = fewer-common _ w x
-fewer-run p h (run_op.LookOwn x at left) w = untouched w _ (queue-look _ w x at left)
-fewer-run p h (run_op.WakeOwn x) w =
-    untouched w _ (queue-by_reference p (log w (event.WakerCalled p (of.Run x.run) x.poll x.waker)) x.waker)
-fewer-run p h (run_op.Reschedule r a) w = untouched w _ (queue-reschedule _ w r a)
+pub fewer : (w v : World) → Takes w v → Fewer w v
+fewer w v (stays e) = untouched w v e
+fewer w v (first e) = record {
+  items = λ g. subst (λ (q : ClosableQueue ℕ). times g q.items ≤ times g w.queue.items) (sym e) (drop-less g w.queue.items);
+}

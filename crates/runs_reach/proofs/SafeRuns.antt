@@ -46,8 +46,9 @@ use Rattle.executor_model.proofs.RunsPlain.{plain-after-call, plain-after-room, 
 use Rattle.executor_model.proofs.RunsMoves.{moves-common, moves-length, moves-list, moves-look}
 use Rattle.executor_model.proofs.RunsMoves.{moves-make_room, moves-own, moves-own_length}
 use Rattle.executor_model.proofs.RunsMoves.{moves-take}
-use Rattle.runs_reach.proofs.RunsFewer.{Fewer, untouched, fewer-common, fewer-search, fewer-steal, queue-list, queue-look}
-use Rattle.runs_reach.proofs.RunsFewer.{queue-put, queue-room}
+use Rattle.executor_model.proofs.RunsQueue.{queue-list, queue-look, queue-put, queue-room, takes-common, takes-search}
+use Rattle.executor_model.proofs.RunsQueue.{takes-steal}
+use Rattle.runs_reach.proofs.RunsFewer.{Fewer, fewer, untouched}
 use Rattle.runs_reach.proofs.Safe.{KeepsSafe}
 use Rattle.runs_reach.proofs.SafeSleepers.{safe-search}
 
@@ -124,18 +125,18 @@ appends-take g (f ∷ rest) w s more = refl
 pub safe-steal : (p : ℕ) (o : StealOp) (w : World) → is_put o ≡ false → KeepsSafe w (op.Steal o ∷ []) (steal_act p o w)
 safe-steal p (steal_op.Length s) w e =
     let o = steal_op.Length s in
-    safe-fewer w (op.Steal o ∷ []) (steal_act p o w) (fewer-steal p o w)
+    safe-fewer w (op.Steal o ∷ []) (steal_act p o w) (fewer w _ (takes-steal p o w))
     (moves-length (length (runs.source_of w s.from)) w s).same.tasks (λ g. appends-length g _ w s)
     (plain-after-steal p o w)
 safe-steal p (steal_op.OwnLength s n) w e =
     let o = steal_op.OwnLength s n in
-    safe-fewer w (op.Steal o ∷ []) (steal_act p o w) (fewer-steal p o w)
+    safe-fewer w (op.Steal o ∷ []) (steal_act p o w) (fewer w _ (takes-steal p o w))
     (moves-own_length (runs.share n (runs.free_places w s.poll.run)) n w s).same.tasks
     (λ g. more-blind (appends_of g) (blind-appends g) (runs.share n (runs.free_places w s.poll.run)) w s)
     (plain-after-steal p o w)
 safe-steal p (steal_op.Take s more) w e =
     let o = steal_op.Take s more in
-    safe-fewer w (op.Steal o ∷ []) (steal_act p o w) (fewer-steal p o w)
+    safe-fewer w (op.Steal o ∷ []) (steal_act p o w) (fewer w _ (takes-steal p o w))
     (moves-take s.from (runs.source_of w s.from) w s.poll s.then more refl).same.tasks
     (λ g. appends-take g (runs.source_of w s.from) w s more) (plain-after-steal p o w)
 safe-steal p (steal_op.Put s more f) w e = absurd (cc)
@@ -161,7 +162,7 @@ pub safe-search_who : (who : Sleeper) (w : World) (s : Sleeping) → s.who ≡ w
 safe-search_who (sleeper.Tick t) w s e = safe-search _ _ w s refl
 safe-search_who (sleeper.Run r) w s e =
     let x : RunPoll = record { run = r; waker = s.waker; poll = s.poll } in
-    safe-fewer w (op.Tick (tick_op.Search s) ∷ []) (runs.search_own w x) (fewer-search w x)
+    safe-fewer w (op.Tick (tick_op.Search s) ∷ []) (runs.search_own w x) (fewer w _ (takes-search w x))
     (moves-own (own_of w r) w s r e refl).same.tasks (λ g. search_run-blind (appends_of g) (blind-appends g) w x)
     (plain-after-search w x)
 
@@ -206,7 +207,7 @@ safe-run p h run_op.ReturnRoom w e i =
     safe-fewer w (op.Run run_op.ReturnRoom ∷ []) d (untouched w d.world refl) refl (λ g. refl) (λ v z. refl)
 safe-run p h (run_op.SearchCommon x) w e i =
     let d = run_act p h (run_op.SearchCommon x) w in
-    safe-fewer w (op.Run (run_op.SearchCommon x) ∷ []) d (fewer-common w.queue.items w x)
+    safe-fewer w (op.Run (run_op.SearchCommon x) ∷ []) d (fewer w _ (takes-common w.queue.items w x))
     (moves-common w.queue.items w x refl).same.tasks
     (λ g. common-blind (appends_of g) (blind-appends g) w.queue.items w x) (plain-after-common w x)
 safe-run p h (run_op.LookOwn x at left) w e i =

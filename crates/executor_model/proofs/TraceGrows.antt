@@ -1,8 +1,7 @@
--- What each thing to do adds to the trace.
+-- What each thing to do, and the beginning of a call, adds to the trace.
 use Rattle.std.proofs.Common.{◌≡◌, ◌∙◌, ℕ, zero, suc, ◌+◌, List, [], ◌∷◌, ◌++◌, length, Bool, true, false}
-use Rattle.std.proofs.Common.{◌||◌, refl, sym, ap, append-nil}
+use Rattle.std.proofs.Common.{refl, sym, ap, append-nil}
 use Rattle.std.proofs.lemmas.List.{append_assoc}
-use Rattle.std.proofs.lemmas.List.Folds.{list_any-append}
 use Rattle.std.specs.Prelude.{Option, Some, None}
 use Rattle.task_moves.specs.Moves as moves
 use Rattle.task_moves.specs.declared.moves.owed.Answer.{Answer}
@@ -54,6 +53,7 @@ use Rattle.executor_model.specs.Steps.{accepts, begun, future_of, kept, react, w
 use Rattle.executor_model.specs.Trace.{Trace, has}
 use Rattle.executor_model.specs.World.{World, Place, Up, Lies, Left, Stage, New, Listed, Ended, Done, log, log_if}
 use Rattle.executor_model.specs.World.{task, put, put_own, run_of}
+use Rattle.executor_model.proofs.TraceMore.{has-append, or-false}
 
 -- it begins or ends no call, no poll of a future or of a run and no drop of a run, and no run keeps anything by it
 abbrev pub is_ordinary : Event → Bool
@@ -64,14 +64,6 @@ is_ordinary (event.RunPolled p r) = false
 is_ordinary (event.RunDropped p r) = false
 is_ordinary (event.Kept p f r) = false
 is_ordinary _ = true
-
-or-false : (a : Bool) → a ≡ false → (a || false) ≡ false
-or-false true e = absurd (cc)
-or-false false e = refl
-
-pub has-append : (test : Event → Bool) (xs ys : Trace) → has test xs ≡ false → has test ys ≡ false →
-    has test (xs ++ ys) ≡ false
-has-append test xs ys a b = list_any-append test xs ys ∙ (ap (λ (x : Bool). x || has test ys) a ∙ b)
 
 abbrev is_take_up : Move → Bool
 is_take_up move.TakeUp = true

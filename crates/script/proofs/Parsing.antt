@@ -1,5 +1,6 @@
 -- A text that is read as a script, line by line.
-use Rattle.std.proofs.Common.{◌≡◌, ℕ, suc, ◌+◌, ◌<◌, ◌≤◌, List, [], ◌∷◌, ◌++◌, length, All, refl, sym, ap, ◌∙◌, subst, append_assoc, append-nil, zero-add, add-zero, arith}
+use Rattle.std.proofs.Common.{◌≡◌, ℕ, suc, ◌+◌, ◌<◌, ◌≤◌, List, [], ◌∷◌, ◌++◌, length, All, refl, sym, ap, ◌∙◌, subst}
+use Rattle.std.proofs.Common.{append_assoc, append-nil, zero-add, add-zero, arith}
 use Rattle.std.specs.List.{AllZip}
 use Rattle.std.proofs.lemmas.List.Elements.{All-cons, All-head, All-tail}
 use Rattle.std.proofs.lemmas.Slice.Zip.{all_zipped_more}
@@ -24,14 +25,16 @@ pub record HasParsed (limit : ℕ) (commands : List Command) (text : List ℕ) (
 
 AreGood-few : (before : ℕ) (lines : List (List ℕ)) → before ≤ 10000 → AreGood IsGood before lines → before + length lines ≤ 10000
 AreGood-few before [] few good = omega arith
-AreGood-few before (line ∷ lines) few good = omega (arith, good.0.within, AreGood-few (suc before) lines (omega (arith, good.0.within)) good.1)
+AreGood-few before (line ∷ lines) few good =
+    omega (arith, good.0.within, AreGood-few (suc before) lines (omega (arith, good.0.within)) good.1)
 
 AreGood-short : (before : ℕ) (lines : List (List ℕ)) → AreGood IsGood before lines → All IsShort lines
 AreGood-short before [] good = λ k d within. absurd (omega arith)
 AreGood-short before (line ∷ lines) good = All-cons IsShort line lines good.0.short (AreGood-short (suc before) lines good.1)
 
 -- the first line says the limit
-pub HasParsed-first : (limit : ℕ) (text first : List ℕ) (left : List (List ℕ)) → lines_of text ≡ first ∷ left → IsLimit limit first → IsShort first → HasParsed limit [] text left
+pub HasParsed-first : (limit : ℕ) (text first : List ℕ) (left : List (List ℕ)) → lines_of text ≡ first ∷ left →
+    IsLimit limit first → IsShort first → HasParsed limit [] text left
 HasParsed-first limit text first left parts says short = record {
   first = first;
   front = [];
@@ -42,22 +45,27 @@ HasParsed-first limit text first left parts says short = record {
 }
 
 -- one more line, and its command
-pub HasParsed-push : (limit : ℕ) (commands : List Command) (text : List ℕ) (left rest : List (List ℕ)) (command : Command) (line : List ℕ) → HasParsed limit commands text left → left ≡ line ∷ rest → IsCommand command line → IsGood (suc (length commands)) line → HasParsed limit (commands ++ command ∷ []) text rest
+pub HasParsed-push : (limit : ℕ) (commands : List Command) (text : List ℕ) (left rest : List (List ℕ))
+    (command : Command) (line : List ℕ) → HasParsed limit commands text left → left ≡ line ∷ rest →
+    IsCommand command line → IsGood (suc (length commands)) line → HasParsed limit (commands ++ command ∷ []) text rest
 HasParsed-push limit commands text left rest command line so_far next is good =
     let counted : length commands ≡ length so_far.front = length-AllZip IsCommand commands so_far.front so_far.each in
     record {
       first = so_far.first;
       front = so_far.front ++ line ∷ [];
-      parts = so_far.parts ∙ ap (λ l. (so_far.first ∷ so_far.front) ++ l) next ∙ sym (append_assoc (so_far.first ∷ so_far.front) (line ∷ []) rest);
+      parts = so_far.parts ∙ ap (λ l. (so_far.first ∷ so_far.front) ++ l) next
+          ∙ sym (append_assoc (so_far.first ∷ so_far.front) (line ∷ []) rest);
       says = so_far.says;
       each = all_zipped_more IsCommand commands so_far.front command line so_far.each is;
       good = AreGood-push IsGood 0 (so_far.first ∷ so_far.front) line so_far.good (subst (λ n. IsGood n line) (omega arith) good);
     }
 
 -- no line is left
-pub HasParsed-all : (limit : ℕ) (commands : List Command) (text : List ℕ) (left : List (List ℕ)) → HasParsed limit commands text left → left ≡ [] → IsScript text limit commands
+pub HasParsed-all : (limit : ℕ) (commands : List Command) (text : List ℕ) (left : List (List ℕ)) →
+    HasParsed limit commands text left → left ≡ [] → IsScript text limit commands
 HasParsed-all limit commands text left so_far none =
-    let whole : lines_of text ≡ so_far.first ∷ so_far.front = so_far.parts ∙ ap (λ l. (so_far.first ∷ so_far.front) ++ l) none ∙ append-nil (so_far.first ∷ so_far.front) in
+    let whole : lines_of text ≡ so_far.first ∷ so_far.front = so_far.parts
+    ∙ ap (λ l. (so_far.first ∷ so_far.front) ++ l) none ∙ append-nil (so_far.first ∷ so_far.front) in
     record {
       says = rw whole (so_far.says, so_far.each);
       short = rw whole (AreGood-short 0 (so_far.first ∷ so_far.front) so_far.good);
@@ -65,7 +73,9 @@ HasParsed-all limit commands text left so_far none =
     }
 
 -- the next line isn't good
-pub HasParsed-bad : (limit number : ℕ) (commands : List Command) (text line : List ℕ) (left rest : List (List ℕ)) → HasParsed limit commands text left → left ≡ line ∷ rest → number ≡ length commands + 2 → ¬ (IsGood (suc (length commands)) line) → IsFirstBadLine text number
+pub HasParsed-bad : (limit number : ℕ) (commands : List Command) (text line : List ℕ) (left rest : List (List ℕ)) →
+    HasParsed limit commands text left → left ≡ line ∷ rest → number ≡ length commands + 2 →
+    ¬ (IsGood (suc (length commands)) line) → IsFirstBadLine text number
 HasParsed-bad limit number commands text line left rest so_far next numbered bad =
     let counted : length commands ≡ length so_far.front = length-AllZip IsCommand commands so_far.front so_far.each in
     record {
@@ -79,12 +89,18 @@ HasParsed-bad limit number commands text line left rest so_far next numbered bad
     }
 
 -- the lines so far are few
-pub HasParsed-few : (limit : ℕ) (commands : List Command) (text : List ℕ) (left : List (List ℕ)) → HasParsed limit commands text left → length commands < 10000
+pub HasParsed-few : (limit : ℕ) (commands : List Command) (text : List ℕ) (left : List (List ℕ)) →
+    HasParsed limit commands text left → length commands < 10000
 HasParsed-few limit commands text left so_far =
-    omega (arith, length-AllZip IsCommand commands so_far.front so_far.each, AreGood-few 0 (so_far.first ∷ so_far.front) (omega arith) so_far.good)
+    omega (
+      arith,
+      length-AllZip IsCommand commands so_far.front so_far.each,
+      AreGood-few 0 (so_far.first ∷ so_far.front) (omega arith) so_far.good,
+    )
 
 -- the first line isn't good
-pub IsFirstBadLine-first : (text line : List ℕ) (rest : List (List ℕ)) → lines_of text ≡ line ∷ rest → ((limit : ℕ) → IsLimit limit line → ¬ (IsShort line)) → IsFirstBadLine text 1
+pub IsFirstBadLine-first : (text line : List ℕ) (rest : List (List ℕ)) → lines_of text ≡ line ∷ rest →
+    ((limit : ℕ) → IsLimit limit line → ¬ (IsShort line)) → IsFirstBadLine text 1
 IsFirstBadLine-first text line rest parts bad = record {
   before = [];
   line = line;
@@ -95,7 +111,8 @@ IsFirstBadLine-first text line rest parts bad = record {
   bad = λ good. bad good.spelled.0 good.spelled.1 good.short;
 }
 
-AreGood-later : (before : ℕ) (commands : List Command) (lines : List (List ℕ)) → AllZip IsCommand commands lines → All IsShort lines → suc before + length lines ≤ 10000 → AreGood IsGood (suc before) lines
+AreGood-later : (before : ℕ) (commands : List Command) (lines : List (List ℕ)) → AllZip IsCommand commands lines →
+    All IsShort lines → suc before + length lines ≤ 10000 → AreGood IsGood (suc before) lines
 AreGood-later before [] [] each short few = tt
 AreGood-later before [] (line ∷ lines) each short few = absurd each
 AreGood-later before (command ∷ commands) [] each short few = absurd each
@@ -104,7 +121,8 @@ AreGood-later before (command ∷ commands) (line ∷ lines) each short few = (
   AreGood-later (suc before) commands lines each.1 (All-tail IsShort line lines short) (omega arith),
 )
 
-AreGood-says : (limit : ℕ) (commands : List Command) (lines : List (List ℕ)) → Says limit commands lines → All IsShort lines → length lines ≤ 10000 → AreGood IsGood 0 lines
+AreGood-says : (limit : ℕ) (commands : List Command) (lines : List (List ℕ)) → Says limit commands lines →
+    All IsShort lines → length lines ≤ 10000 → AreGood IsGood 0 lines
 AreGood-says limit commands [] says short few = tt
 AreGood-says limit commands (first ∷ later) says short few = (
   record { within = omega arith; short = All-head IsShort first later short; spelled = (limit, says.0) },
@@ -112,7 +130,8 @@ AreGood-says limit commands (first ∷ later) says short few = (
 )
 
 -- a script has no bad line
-pub IsScript-none : (text : List ℕ) (limit number : ℕ) (commands : List Command) → IsScript text limit commands → ¬ (IsFirstBadLine text number)
+pub IsScript-none : (text : List ℕ) (limit number : ℕ) (commands : List Command) → IsScript text limit commands →
+    ¬ (IsFirstBadLine text number)
 IsScript-none text limit number commands is =
     IsFirstBad-none IsGood text number (AreGood-says limit commands (lines_of text) is.says is.short is.few)
 

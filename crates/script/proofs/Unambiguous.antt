@@ -27,10 +27,12 @@ IsItem-one (Ready m) (Ready n) word p q =
 IsItem-one (Twice name) (Twice other) word p q = cc
 IsItem-one item other word p q = grind arith
 
-AreItems-one : (items others : List Item) (words more : List (List ℕ)) → words ≡ more → AreItems items words → AreItems others more → items ≡ others
+AreItems-one : (items others : List Item) (words more : List (List ℕ)) → words ≡ more → AreItems items words →
+    AreItems others more → items ≡ others
 AreItems-one items others words more same p q = AllZip-one IsItem IsItem-one items others more (rw (← same) p.each) q.each
 
-IsTwice-one : (twice other : Option (List ℕ)) (words more : List (List ℕ)) → words ≡ more → IsTwice twice words → IsTwice other more → twice ≡ other
+IsTwice-one : (twice other : Option (List ℕ)) (words more : List (List ℕ)) → words ≡ more → IsTwice twice words →
+    IsTwice other more → twice ≡ other
 IsTwice-one None None words more same p q = refl
 IsTwice-one (Some held) (Some held') words more same p q =
     let word : p.0 ≡ q.0 = cc in
@@ -79,7 +81,8 @@ IsSpelled-go plain words rest e is = grind arith
 IsSpelled-finish : (plain : Plain) (words rest : List (List ℕ)) → words ≡ codes "finish" ∷ rest → ¬ (IsSpelled plain words)
 IsSpelled-finish plain words rest e is = grind arith
 
-SpellsAs-begin : (refused : Bool) (plain : Plain) (words rest : List (List ℕ)) → words ≡ codes "begin" ∷ rest → ¬ (SpellsAs refused plain words)
+SpellsAs-begin : (refused : Bool) (plain : Plain) (words rest : List (List ℕ)) → words ≡ codes "begin" ∷ rest →
+    ¬ (SpellsAs refused plain words)
 SpellsAs-begin true plain words rest e is = grind arith
 SpellsAs-begin false plain words rest e is = IsSpelled-begin plain words rest e is
 
@@ -87,11 +90,13 @@ SpellsAs-go : (refused : Bool) (plain : Plain) (words rest : List (List ℕ)) �
 SpellsAs-go true plain words rest e is = grind arith
 SpellsAs-go false plain words rest e is = IsSpelled-go plain words rest e is
 
-SpellsAs-finish : (refused : Bool) (plain : Plain) (words rest : List (List ℕ)) → words ≡ codes "finish" ∷ rest → ¬ (SpellsAs refused plain words)
+SpellsAs-finish : (refused : Bool) (plain : Plain) (words rest : List (List ℕ)) → words ≡ codes "finish" ∷ rest →
+    ¬ (SpellsAs refused plain words)
 SpellsAs-finish true plain words rest e is = grind arith
 SpellsAs-finish false plain words rest e is = IsSpelled-finish plain words rest e is
 
-SpellsAs-one : (refused refused' : Bool) (plain plain' : Plain) (words : List (List ℕ)) → SpellsAs refused plain words → SpellsAs refused' plain' words → (refused ≡ refused') × (plain ≡ plain')
+SpellsAs-one : (refused refused' : Bool) (plain plain' : Plain) (words : List (List ℕ)) →
+    SpellsAs refused plain words → SpellsAs refused' plain' words → (refused ≡ refused') × (plain ≡ plain')
 SpellsAs-one true true plain plain' words p q =
     let rest : p.0 ≡ q.0 = cc in
     (refl, IsSpelled-one plain plain' p.0 p.2 (rw rest q.2))
@@ -99,7 +104,8 @@ SpellsAs-one true false plain plain' words p q = absurd (IsSpelled-refuse plain'
 SpellsAs-one false true plain plain' words p q = absurd (IsSpelled-refuse plain words q.0 q.1 p)
 SpellsAs-one false false plain plain' words p q = (refl, IsSpelled-one plain plain' words p q)
 
-SpellsRequest-one : (request other : Request) (words : List (List ℕ)) → SpellsRequest request words → SpellsRequest other words → request ≡ other
+SpellsRequest-one : (request other : Request) (words : List (List ℕ)) → SpellsRequest request words →
+    SpellsRequest other words → request ≡ other
 SpellsRequest-one request other words p q =
     let both = SpellsAs-one request.refused other.refused request.plain other.plain words p q in
     let refused : request.refused ≡ other.refused = both.0 in
@@ -137,7 +143,8 @@ Spells-one (Go party) (Finish other) words p q = grind arith
 Spells-one (Finish party) (Begin other request) words p q = grind arith
 Spells-one (Finish party) (Go other) words p q = grind arith
 
-Says-one : (limit other : ℕ) (commands others : List Command) (lines : List (List ℕ)) → Says limit commands lines → Says other others lines → (limit ≡ other) × (commands ≡ others)
+Says-one : (limit other : ℕ) (commands others : List Command) (lines : List (List ℕ)) → Says limit commands lines →
+    Says other others lines → (limit ≡ other) × (commands ≡ others)
 Says-one limit other commands others [] p q = absurd p
 Says-one limit other commands others (first ∷ later) p q =
     let digits : p.0.0 ≡ q.0.0 = cc in (
@@ -146,5 +153,6 @@ Says-one limit other commands others (first ∷ later) p q =
     )
 
 -- a text is a script of at most one limit and one list of commands
-pub IsScript-one : (text : List ℕ) (limit other : ℕ) (commands others : List Command) → IsScript text limit commands → IsScript text other others → (limit ≡ other) × (commands ≡ others)
+pub IsScript-one : (text : List ℕ) (limit other : ℕ) (commands others : List Command) →
+    IsScript text limit commands → IsScript text other others → (limit ≡ other) × (commands ≡ others)
 IsScript-one text limit other commands others p q = Says-one limit other commands others (lines_of text) p.says q.says

@@ -7,27 +7,33 @@ use Rattle.script.specs.declared.item.Item.TheVariants.{Pend, WakeSelf, Keep, Re
 use Rattle.script.specs.declared.plain.Plain.{Plain}
 use Rattle.script.specs.declared.plain.Plain.TheVariants as plain
 
-pub no_item : (item : Item) (word : List ℕ) → word ≢ codes "pend" → word ≢ codes "self" → word ≢ codes "keep" → ((value : ℕ) → ¬ (IsItem (Ready value) word)) → ((name : List ℕ) → ¬ (IsItem (Twice name) word)) → ¬ (IsItem item word)
+pub no_item : (item : Item) (word : List ℕ) → word ≢ codes "pend" → word ≢ codes "self" → word ≢ codes "keep" →
+    ((value : ℕ) → ¬ (IsItem (Ready value) word)) → ((name : List ℕ) → ¬ (IsItem (Twice name) word)) →
+    ¬ (IsItem item word)
 no_item Pend word pend itself keep ready twice is = pend is
 no_item WakeSelf word pend itself keep ready twice is = itself is
 no_item Keep word pend itself keep ready twice is = keep is
 no_item (Ready value) word pend itself keep ready twice is = ready value is
 no_item (Twice name) word pend itself keep ready twice is = twice name is
 
-pub no_plain : (command : Plain) (first : List ℕ) (words : List (List ℕ)) → first ≢ codes "spawn" → first ≢ codes "try" → first ≢ codes "empty" → first ≢ codes "wake" → first ≢ codes "unkeep" → first ≢ codes "poll" → first ≢ codes "cancel" → first ≢ codes "detach" → first ≢ codes "drop" → first ≢ codes "tick" → first ≢ codes "polltick" → first ≢ codes "droptick" → first ≢ codes "run" → first ≢ codes "pollrun" → first ≢ codes "droprun" → first ≢ codes "end" → ¬ (IsSpelled command (first ∷ words))
-no_plain (plain.Spawn name items) first words not_spawn not_try not_empty not_wake not_unkeep not_poll not_cancel not_detach not_drop not_tick not_polltick not_droptick not_run not_pollrun not_droprun not_end is = let e = is.1 in not_spawn cc
-no_plain plain.Try first words not_spawn not_try not_empty not_wake not_unkeep not_poll not_cancel not_detach not_drop not_tick not_polltick not_droptick not_run not_pollrun not_droprun not_end is = not_try cc
-no_plain plain.Empty first words not_spawn not_try not_empty not_wake not_unkeep not_poll not_cancel not_detach not_drop not_tick not_polltick not_droptick not_run not_pollrun not_droprun not_end is = not_empty cc
-no_plain (plain.Wake name) first words not_spawn not_try not_empty not_wake not_unkeep not_poll not_cancel not_detach not_drop not_tick not_polltick not_droptick not_run not_pollrun not_droprun not_end is = let e = is.0 in not_wake cc
-no_plain (plain.Unkeep name) first words not_spawn not_try not_empty not_wake not_unkeep not_poll not_cancel not_detach not_drop not_tick not_polltick not_droptick not_run not_pollrun not_droprun not_end is = let e = is.0 in not_unkeep cc
-no_plain (plain.Poll name) first words not_spawn not_try not_empty not_wake not_unkeep not_poll not_cancel not_detach not_drop not_tick not_polltick not_droptick not_run not_pollrun not_droprun not_end is = let e = is.0 in not_poll cc
-no_plain (plain.Cancel name) first words not_spawn not_try not_empty not_wake not_unkeep not_poll not_cancel not_detach not_drop not_tick not_polltick not_droptick not_run not_pollrun not_droprun not_end is = let e = is.0 in not_cancel cc
-no_plain (plain.Detach name) first words not_spawn not_try not_empty not_wake not_unkeep not_poll not_cancel not_detach not_drop not_tick not_polltick not_droptick not_run not_pollrun not_droprun not_end is = let e = is.0 in not_detach cc
-no_plain (plain.Drop name) first words not_spawn not_try not_empty not_wake not_unkeep not_poll not_cancel not_detach not_drop not_tick not_polltick not_droptick not_run not_pollrun not_droprun not_end is = let e = is.0 in not_drop cc
-no_plain (plain.Tick name) first words not_spawn not_try not_empty not_wake not_unkeep not_poll not_cancel not_detach not_drop not_tick not_polltick not_droptick not_run not_pollrun not_droprun not_end is = let e = is.0 in not_tick cc
-no_plain (plain.PollTick name) first words not_spawn not_try not_empty not_wake not_unkeep not_poll not_cancel not_detach not_drop not_tick not_polltick not_droptick not_run not_pollrun not_droprun not_end is = let e = is.0 in not_polltick cc
-no_plain (plain.DropTick name) first words not_spawn not_try not_empty not_wake not_unkeep not_poll not_cancel not_detach not_drop not_tick not_polltick not_droptick not_run not_pollrun not_droprun not_end is = let e = is.0 in not_droptick cc
-no_plain (plain.Run name twice) first words not_spawn not_try not_empty not_wake not_unkeep not_poll not_cancel not_detach not_drop not_tick not_polltick not_droptick not_run not_pollrun not_droprun not_end is = let e = is.1 in not_run cc
-no_plain (plain.PollRun name) first words not_spawn not_try not_empty not_wake not_unkeep not_poll not_cancel not_detach not_drop not_tick not_polltick not_droptick not_run not_pollrun not_droprun not_end is = let e = is.0 in not_pollrun cc
-no_plain (plain.DropRun name) first words not_spawn not_try not_empty not_wake not_unkeep not_poll not_cancel not_detach not_drop not_tick not_polltick not_droptick not_run not_pollrun not_droprun not_end is = let e = is.0 in not_droprun cc
-no_plain plain.End first words not_spawn not_try not_empty not_wake not_unkeep not_poll not_cancel not_detach not_drop not_tick not_polltick not_droptick not_run not_pollrun not_droprun not_end is = not_end cc
+pub no_plain : (command : Plain) (first : List ℕ) (words : List (List ℕ)) → first ≢ codes "spawn" →
+    first ≢ codes "try" → first ≢ codes "empty" → first ≢ codes "wake" → first ≢ codes "unkeep" →
+    first ≢ codes "poll" → first ≢ codes "cancel" → first ≢ codes "detach" → first ≢ codes "drop" →
+    first ≢ codes "tick" → first ≢ codes "polltick" → first ≢ codes "droptick" → first ≢ codes "run" →
+    first ≢ codes "pollrun" → first ≢ codes "droprun" → first ≢ codes "end" → ¬ (IsSpelled command (first ∷ words))
+no_plain (plain.Spawn name items) first words not_spawn _ _ _ _ _ _ _ _ _ _ _ _ _ _ _ is = let e = is.1 in not_spawn cc
+no_plain plain.Try first words _ not_try _ _ _ _ _ _ _ _ _ _ _ _ _ _ is = not_try cc
+no_plain plain.Empty first words _ _ not_empty _ _ _ _ _ _ _ _ _ _ _ _ _ is = not_empty cc
+no_plain (plain.Wake name) first words _ _ _ not_wake _ _ _ _ _ _ _ _ _ _ _ _ is = let e = is.0 in not_wake cc
+no_plain (plain.Unkeep name) first words _ _ _ _ not_unkeep _ _ _ _ _ _ _ _ _ _ _ is = let e = is.0 in not_unkeep cc
+no_plain (plain.Poll name) first words _ _ _ _ _ not_poll _ _ _ _ _ _ _ _ _ _ is = let e = is.0 in not_poll cc
+no_plain (plain.Cancel name) first words _ _ _ _ _ _ not_cancel _ _ _ _ _ _ _ _ _ is = let e = is.0 in not_cancel cc
+no_plain (plain.Detach name) first words _ _ _ _ _ _ _ not_detach _ _ _ _ _ _ _ _ is = let e = is.0 in not_detach cc
+no_plain (plain.Drop name) first words _ _ _ _ _ _ _ _ not_drop _ _ _ _ _ _ _ is = let e = is.0 in not_drop cc
+no_plain (plain.Tick name) first words _ _ _ _ _ _ _ _ _ not_tick _ _ _ _ _ _ is = let e = is.0 in not_tick cc
+no_plain (plain.PollTick name) first words _ _ _ _ _ _ _ _ _ _ not_polltick _ _ _ _ _ is = let e = is.0 in not_polltick cc
+no_plain (plain.DropTick name) first words _ _ _ _ _ _ _ _ _ _ _ not_droptick _ _ _ _ is = let e = is.0 in not_droptick cc
+no_plain (plain.Run name twice) first words _ _ _ _ _ _ _ _ _ _ _ _ not_run _ _ _ is = let e = is.1 in not_run cc
+no_plain (plain.PollRun name) first words _ _ _ _ _ _ _ _ _ _ _ _ _ not_pollrun _ _ is = let e = is.0 in not_pollrun cc
+no_plain (plain.DropRun name) first words _ _ _ _ _ _ _ _ _ _ _ _ _ _ not_droprun _ is = let e = is.0 in not_droprun cc
+no_plain plain.End first words _ _ _ _ _ _ _ _ _ _ _ _ _ _ _ not_end is = not_end cc

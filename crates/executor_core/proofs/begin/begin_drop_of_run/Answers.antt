@@ -38,7 +38,8 @@ returns-in-Listed c =
     let t = c.args.todo.now.items in
     record {
       world = ap (λ (v : Running). world_of (with_runs s v)) c.begin_drop.ensures;
-      next = two-put-on t _ _ (op.List (list_op.LockWrite (section.Unregister r reply.Done))) (op.User (user_op.DropOwn r)) c.push_reserved-in-Listed.ensures.items
+      next = two-put-on t _ _ (op.List (list_op.LockWrite (section.Unregister r reply.Done)))
+          (op.User (user_op.DropOwn r)) c.push_reserved-in-Listed.ensures.items
           c.push_reserved-in-Listed-2.ensures.items
           ∙ ap (λ (k : Stage). t ++ reverse (drop_run k r)) (sym (ap as_stage c.in-Listed.is) ∙ c.stage-stage.ensures);
       room = c.requires.room;
@@ -51,7 +52,8 @@ returns-in-Ended c =
     let t = c.args.todo.now.items in
     record {
       world = ap (λ (v : Running). world_of (with_runs s v)) c.begin_drop.ensures;
-      next = two-put-on t _ _ (op.End reply.Done (hold.Run r)) (op.Tick (tick_op.Leave (sleeper.Run r))) c.push_reserved-in-Ended.ensures.items
+      next = two-put-on t _ _ (op.End reply.Done (hold.Run r)) (op.Tick (tick_op.Leave (sleeper.Run r)))
+          c.push_reserved-in-Ended.ensures.items
           c.push_reserved-in-Ended-2.ensures.items
           ∙ ap (λ (k : Stage). t ++ reverse (drop_run k r)) (sym (ap as_stage c.in-Ended.is) ∙ c.stage-stage.ensures);
       room = c.requires.room;

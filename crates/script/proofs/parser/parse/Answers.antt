@@ -3,7 +3,8 @@ use Rattle.std.proofs.lemmas.Grind.{common_steps}
 use Rattle.std.proofs.lemmas.Result.{err_from_is_err_and}
 use Rattle.text_lines.specs.declared.error.ParseError.TheVariants.{BadLine}
 use Rattle.text_lines.proofs.Cutting.{lines_of-none}
-use Rattle.script.proofs.Parsing.{HasParsed-push, HasParsed-all, HasParsed-bad, HasParsed-few, IsFirstBadLine-first, IsScript-none, NoMemory-else}
+use Rattle.script.proofs.Parsing.{HasParsed-push, HasParsed-all, HasParsed-bad, HasParsed-few, IsFirstBadLine-first}
+use Rattle.script.proofs.Parsing.{IsScript-none, NoMemory-else}
 use Rattle.script.proofs.Unambiguous.{IsScript-one}
 use Rattle.script.proofs.parser.parse.Goals as goal
 
@@ -14,17 +15,23 @@ returns-in_default-clause-empty c =
 pub returns-in_default-read_limit-clause-bad : goal.returns-in_default-read_limit-clause-bad
 returns-in_default-read_limit-clause-bad c = λ number is.
     let first : 1 ≡ number = cc in
-    rw (← first) (IsFirstBadLine-first c.args.text.now c.in-Some.first.now c.next.new.self (sym c.of-lines.ensures ∙ c.in-Some.ensures.steps) c.in_default-read_limit.ensures.none)
+    rw (← first) (IsFirstBadLine-first c.args.text.now c.in-Some.first.now c.next.new.self
+    (sym c.of-lines.ensures ∙ c.in-Some.ensures.steps) c.in_default-read_limit.ensures.none)
 
 pub returns-in_default-read_limit-clause-accepts :
     goal.returns-in_default-read_limit-clause-accepts
 returns-in_default-read_limit-clause-accepts c = λ limit commands is.
     absurd (IsScript-none c.args.text.now limit 1 commands is
-    (IsFirstBadLine-first c.args.text.now c.in-Some.first.now c.next.new.self (sym c.of-lines.ensures ∙ c.in-Some.ensures.steps) c.in_default-read_limit.ensures.none))
+    (IsFirstBadLine-first c.args.text.now c.in-Some.first.now c.next.new.self
+    (sym c.of-lines.ensures ∙ c.in-Some.ensures.steps) c.in_default-read_limit.ensures.none))
 
 pub read_command-requires : goal.read_command-requires
 read_command-requires c =
-    omega (arith, HasParsed-few c.in-Some-read_limit.limit c.loop-line.commands.items c.args.text.now c.loop-line.line-iterator c.loop-line.invariant)
+    omega (
+      arith,
+      HasParsed-few c.in-Some-read_limit.limit c.loop-line.commands.items c.args.text.now
+          c.loop-line.line-iterator c.loop-line.invariant,
+    )
 
 pub returns-in_err-command-clause-bad : goal.returns-in_err-command-clause-bad
 returns-in_err-command-clause-bad c = λ number is.
@@ -32,7 +39,9 @@ returns-in_err-command-clause-bad c = λ number is.
     let same : c.in_err-command.field-0.0 ≡ BadLine number = cc in
     let bad = c.in_err-command.ensures.bad number (ap Err same) in
     let counted : c.len.result ≡ length c.loop-line.commands.items = search rules in
-    HasParsed-bad c.in-Some-read_limit.limit number c.loop-line.commands.items c.args.text.now c.in-Some-line.line.now c.loop-line.line-iterator c.next-in-loop-line.new.self c.loop-line.invariant c.in-Some-line.ensures.steps (rw (← counted) bad.0) (rw (← counted) bad.1)
+    HasParsed-bad c.in-Some-read_limit.limit number c.loop-line.commands.items c.args.text.now
+    c.in-Some-line.line.now c.loop-line.line-iterator c.next-in-loop-line.new.self c.loop-line.invariant
+    c.in-Some-line.ensures.steps (rw (← counted) bad.0) (rw (← counted) bad.1)
 
 pub returns-in_err-command-clause-accepts : goal.returns-in_err-command-clause-accepts
 returns-in_err-command-clause-accepts c = λ limit commands is.
@@ -45,11 +54,14 @@ loop-line-preserved c =
     let commands = c.loop-line.commands.items in
     let pushed : c.push.new.self.items ≡ commands ++ c.in_ok-command.command ∷ [] = grind (arith, common_steps) in
     let counted : c.len.result ≡ length commands = search rules in
-    rw pushed (HasParsed-push c.in-Some-read_limit.limit commands c.args.text.now c.loop-line.line-iterator c.next-in-loop-line.new.self c.in_ok-command.command c.in-Some-line.line.now c.loop-line.invariant c.in-Some-line.ensures.steps c.in_ok-command.ensures.good.0 (rw (← counted) c.in_ok-command.ensures.good.1))
+    rw pushed (HasParsed-push c.in-Some-read_limit.limit commands c.args.text.now c.loop-line.line-iterator
+    c.next-in-loop-line.new.self c.in_ok-command.command c.in-Some-line.line.now c.loop-line.invariant
+    c.in-Some-line.ensures.steps c.in_ok-command.ensures.good.0 (rw (← counted) c.in_ok-command.ensures.good.1))
 
 pub returns-clause-script : goal.returns-clause-script
 returns-clause-script c =
-    HasParsed-all c.in-Some-read_limit.limit c.loop-line.commands.items c.args.text.now c.loop-line.line-iterator c.loop-line.invariant c.in-None.ensures.steps.0
+    HasParsed-all c.in-Some-read_limit.limit c.loop-line.commands.items c.args.text.now c.loop-line.line-iterator
+    c.loop-line.invariant c.in-None.ensures.steps.0
 
 pub returns-clause-only : goal.returns-clause-only
 returns-clause-only c = λ limit commands is.

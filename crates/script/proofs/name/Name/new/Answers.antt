@@ -10,7 +10,11 @@ use Rattle.script.proofs.name.Name.new.Goals as goal
 padded : (word : List ℕ) → IsName word → IsPadded record { letters = word ++ drop (length word) (replicate 8 0); len = length word }
 padded word name =
     let front : take (length word) (word ++ drop (length word) (replicate 8 0)) ≡ word = take-append_seam word _ in
-    record { name = rw front name; counted = ap length front; padded = rw front (ap (λ zeros. word ++ zeros) (sym (drop-replicate (length word) 8 0))) }
+    record {
+      name = rw front name;
+      counted = ap length front;
+      padded = rw front (ap (λ zeros. word ++ zeros) (sym (drop-replicate (length word) 8 0)));
+    }
 
 pub invariant_of-result : goal.invariant_of-result
 invariant_of-result c =

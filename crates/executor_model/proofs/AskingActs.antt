@@ -1,11 +1,9 @@
 -- Each thing that is done keeps what holds of each future and of who asked for it.
-use Rattle.std.proofs.Common.{◌≡◌, ◌⊎◌, ℕ, ◌+◌, ◌<◌, List, [], ◌∷◌, ◌++◌, length, Bool, true, false, ◌||◌}
-use Rattle.std.proofs.Common.{◌&&◌, not, eqb, drop, refl, sym, ap, ◌∙◌, ◌≤◌, arith}
-use Rattle.std.proofs.lemmas.Bool.Decides.{nat_tests}
-use Rattle.std.proofs.lemmas.List.{length-set, length-append}
+use Rattle.std.proofs.Common.{◌≡◌, ℕ, ◌+◌, ◌<◌, List, [], ◌∷◌, ◌++◌, length, Bool, true, false, ◌||◌}
+use Rattle.std.proofs.Common.{not, drop, refl, sym, ap, ◌∙◌, ◌≤◌, arith}
+use Rattle.std.proofs.lemmas.List.{length-set}
 use Rattle.std.specs.Prelude.{Option, Some, None, slice_set}
 use Rattle.task_moves.specs.Moves as moves
-use Rattle.task_moves.specs.Moves.{moved, nothing, settled, notify_if, notify_other_if, most_references}
 use Rattle.executor_model.specs.declared.call.Reply.{Reply}
 use Rattle.executor_model.specs.declared.event.Answer.TheVariants as answer
 use Rattle.executor_model.specs.declared.event.Event.TheVariants as event
@@ -13,7 +11,6 @@ use Rattle.executor_model.specs.declared.op.Awaiter.{Awaiter}
 use Rattle.executor_model.specs.declared.op.Waker.{Waker}
 use Rattle.executor_model.specs.declared.op.Waker.TheVariants.{Task, Outside}
 use Rattle.executor_model.specs.declared.op.Hold.{Hold}
-use Rattle.executor_model.specs.declared.op.Polled.TheVariants as of
 use Rattle.executor_model.specs.declared.op.Op.{Op}
 use Rattle.executor_model.specs.declared.op.Op.TheVariants as op
 use Rattle.executor_model.specs.declared.op.ClosingOp.TheVariants as closing_op
@@ -27,11 +24,9 @@ use Rattle.executor_model.specs.declared.op.TickOp.TheVariants as tick_op
 use Rattle.executor_model.specs.declared.op.UserOp.TheVariants as user_op
 use Rattle.executor_model.specs.declared.op.WakerOp.TheVariants as waker_op
 use Rattle.executor_model.specs.declared.step.Hint.{Hint}
-use Rattle.executor_model.specs.World.{World, done, log, log_if, task, awaiter_of, among}
+use Rattle.executor_model.specs.World.{World, done, log, log_if, task, awaiter_of}
 use Rattle.executor_model.specs.Carried.{carried}
-use Rattle.executor_model.specs.Acts.{append_by, take_by, enter_by, take_to_poll, put_back, take_to_drop}
-use Rattle.executor_model.specs.Acts.{leave_by}
-use Rattle.executor_model.specs.Acts.{begin_drop, begin_drop_output, copy_by, polled, look_by, look_again_by}
+use Rattle.executor_model.specs.Acts.{copy_by, polled, look_by, look_again_by}
 use Rattle.executor_model.specs.Acts.{copy_awaiter_by, register_by, end_register_by, notify_by, call_awaiter}
 use Rattle.executor_model.specs.Acts.{closing_ops, drop_next_by, wake_next_by, drain_by}
 use Rattle.executor_model.specs.Doing.{act}
@@ -41,280 +36,25 @@ use Rattle.executor_model.specs.Rows.{past_of}
 use Rattle.executor_model.specs.Sound.{times, phase}
 use Rattle.executor_model.specs.Sound.Phase.{Over}
 use Rattle.executor_model.proofs.Cases.{by_bool, by_list, by_waker}
-use Rattle.executor_model.proofs.Marks.{IsUnmarked, unmarked, IsGoing, going, IsIdle, idle, last-one, IsUnheld, unheld}
-use Rattle.executor_model.proofs.Lists.{read_put, read_push, fresh_is, past_is, same_is, times-append, times-drop}
-use Rattle.executor_model.proofs.Lists.{without_one, phase-push, phase-begun, phase-answered, phase-dropped}
-use Rattle.executor_model.proofs.Counting.{settling, readied, pended, ending, dropping, taken_up, woken, woken_by}
-use Rattle.executor_model.proofs.Counting.{cancel_going, cancel_idle, cancel_over, detached, stays_so, gives}
-use Rattle.executor_model.proofs.Counting.{waits_on, end_registered, end_notified, next_woken}
-use Rattle.executor_model.proofs.Stories.{among_is}
+use Rattle.executor_model.proofs.Marks.{IsUnmarked, unmarked}
+use Rattle.executor_model.proofs.Lists.{read_put, past_is, same_is, times-drop}
+use Rattle.executor_model.proofs.Lists.{phase-push, phase-answered, phase-dropped}
+use Rattle.executor_model.proofs.CountingHandles.{stays_so, gives}
+use Rattle.executor_model.proofs.CountingHandles.{waits_on, end_registered, end_notified, next_woken}
 use Rattle.executor_model.proofs.Asking.{KeepsAsked}
 use Rattle.executor_model.proofs.Requests.{request-push}
 use Rattle.executor_model.proofs.RunsAsking.{asked-list, asked-run, asked-search_who, asked-steal}
 use Rattle.executor_model.proofs.SleepersAsking.{asked-exchange, asked-hand_out, asked-call_sleeper}
 use Rattle.executor_model.proofs.SleepersAsking.{asked-make_tick, asked-copy_sleeper}
 use Rattle.executor_model.proofs.SleepersAsking.{asked-lie_down, asked-get_up, asked-leave_sleepers}
-
-wrong : (a b : Bool) → a ≡ true → (a || b) ≡ false → ⊥
-wrong true b e q = absurd (cc)
-wrong false b e q = absurd (cc)
-
-scheduled-then : (a b : Bool) → a ≡ false → (a || b) ≡ true → b ≡ true
-scheduled-then false b e q = q
-scheduled-then true b e q = absurd (cc)
-
-asked-append : (b : Bool) (w : World) (f : ℕ) → KeepsAsked w (op.Queue (queue_op.Append f) ∷ []) (append_by b w f)
-asked-append = by_bool _
-    (λ w f g r bb h. grind (arith, same_is, times-append))
-    (λ w f g r bb h. grind (arith, same_is))
-
-asked-take : (q : List ℕ) (w : World) → w.queue.items ≡ q → KeepsAsked w (op.Queue queue_op.Take ∷ []) (take_by w q)
-asked-take = by_list _
-    (λ w e g r bb h. grind arith)
-    (λ f rest w e g r bb h. let z : same g f + times g (drop 1 w.queue.items) ≡ times g w.queue.items =
-    times-drop g f rest w.queue.items e in grind (arith, same_is))
-
-asked-enter : (b c : Bool) (p : ℕ) (w : World) → KeepsAsked w (op.Table table_op.Enter ∷ []) (enter_by b c p w)
-asked-enter = by_bool _
-    (λ c p w g r bb h. grind arith)
-    (by_bool _
-    (λ p w g r bb h. grind arith)
-    (λ p w g r bb h. grind (
-      arith,
-      same_is,
-      fresh_is,
-      read_push,
-      times-append,
-      length-append,
-      request-push,
-      phase-push,
-    )))
-
-asked-take_to_poll : (w : World) (f : ℕ) → KeepsAsked w (op.Table (table_op.TakeToPoll f) ∷ []) (take_to_poll w f)
-asked-take_to_poll w f g r bb h = grind (arith, same_is)
-
-asked-put_back : (w : World) (f : ℕ) → KeepsAsked w (op.Table (table_op.PutBack f) ∷ []) (put_back w f)
-asked-put_back w f g r bb h = grind (arith, same_is)
-
-asked-take_to_drop : (w : World) (f : ℕ) → KeepsAsked w (op.Table (table_op.TakeToDrop f) ∷ []) (take_to_drop w f)
-asked-take_to_drop w f g r bb h = grind (arith, same_is)
-
-asked-leave : (b : Bool) (w : World) (f : ℕ) → among f w.table ≡ b →
-    KeepsAsked w (op.Table (table_op.LeaveTable f) ∷ []) (leave_by b w f)
-asked-leave = by_bool _
-    (λ w f e g r bb h. grind (arith, same_is, without_one))
-    (λ w f e g r bb h. grind (arith, same_is))
-
-asked-begin_drop : (p : ℕ) (w : World) (f : ℕ) → KeepsAsked w (op.User (user_op.BeginDrop f) ∷ []) (begin_drop p w f)
-asked-begin_drop p w f g r bb h = grind (arith, same_is, request-push, phase-dropped)
-
-asked-begin_drop_output : (p : ℕ) (w : World) (f : ℕ) →
-    KeepsAsked w (op.User (user_op.BeginDropOutput f) ∷ []) (begin_drop_output p w f)
-asked-begin_drop_output p w f g r bb h = grind (arith, request-push, phase-push)
-
--- the moves of a task, by what they find
-
-asked-release : (b c : Bool) (w : World) (f : ℕ) → moves.is_last (task w f) ≡ b → moves.is_over (task w f) ≡ c →
-    f < length w.tasks → KeepsAsked w (op.Move move.Release f ∷ []) (carried w f (moves.release_by b c (task w f)))
-asked-release = by_bool _
-    (by_bool _
-    (λ w f e q i g r bb h. let z : (task w f).references ≡ 1 = last-one (task w f) e in
-    grind (arith, same_is, read_put, length-set))
-    (λ w f e q i g r bb h. let z : (task w f).references ≡ 1 = last-one (task w f) e in
-    let c : (task w f).completed ≡ false = grind (arith, nat_tests) in grind (arith, same_is, read_put, length-set)))
-    (λ c w f e q i g r bb h. grind (arith, same_is, read_put, length-set))
-
-asked-settle_closed : (a : Bool) (w : World) (f : ℕ) → f < length w.tasks →
-    KeepsAsked w (op.Move move.SettleClosed f ∷ []) (settling a w f)
-asked-settle_closed = by_bool _
-    (λ w f i g r bb h. grind (arith, same_is, read_put, length-set))
-    (λ w f i g r bb h. grind (arith, same_is, read_put, length-set))
-
-asked-give_up : (b : Bool) (w : World) (f : ℕ) → moves.is_last (task w f) ≡ b → f < length w.tasks →
-    KeepsAsked w (op.Move move.GiveUp f ∷ []) (carried w f (moves.give_up_by b (task w f)))
-asked-give_up = by_bool _
-    (λ w f e i g r bb h. let z : (task w f).references ≡ 1 = last-one (task w f) e in
-    grind (arith, same_is, read_put, length-set))
-    (λ w f e i g r bb h. grind (arith, same_is, read_put, length-set))
-
--- by whether the output is unwanted, and whether there is an awaiter
-
-asked-end_ready : (u a : Bool) (w : World) (f : ℕ) → ((task w f).closed || not (task w f).handle) ≡ u →
-    f < length w.tasks → KeepsAsked w (op.Move move.EndReady f ∷ []) (readied u a w f)
-asked-end_ready = by_bool _
-    (by_bool _
-    (λ w f e i g r bb h. grind (arith, same_is, read_put, length-set))
-    (λ w f e i g r bb h. grind (arith, same_is, read_put, length-set)))
-    (by_bool _
-    (λ w f e i g r bb h. grind (arith, same_is, read_put, length-set))
-    (λ w f e i g r bb h. grind (arith, same_is, read_put, length-set)))
-
--- by whether it is closed, scheduled, its reference the last, and its entry in the table
-
-asked-end_pending : (x s l there : Bool) (w : World) (f : ℕ) → (task w f).closed ≡ x → (task w f).scheduled ≡ s →
-    moves.is_last (task w f) ≡ l → among f w.table ≡ there → f < length w.tasks →
-    KeepsAsked w (op.Move move.EndPending f ∷ []) (pended x s l there w f)
-asked-end_pending = by_bool _
-    (λ s l. by_bool _
-    (λ w f e q k m i g r bb h. let a : ((among f w.table ≡ true) × (1 ≤ times f w.table))
-    ⊎ ((among f w.table ≡ false) × (times f w.table ≡ 0)) = among_is f w.table in
-    grind (arith, same_is, read_put, length-set))
-    (λ w f e q k m i g r bb h. let a : ((among f w.table ≡ true) × (1 ≤ times f w.table))
-    ⊎ ((among f w.table ≡ false) × (times f w.table ≡ 0)) = among_is f w.table in
-    grind (arith, same_is, read_put, length-set)))
-    (by_bool _
-    (λ l there w f e q k m i g r bb h. let a : ((among f w.table ≡ true) × (1 ≤ times f w.table))
-    ⊎ ((among f w.table ≡ false) × (times f w.table ≡ 0)) = among_is f w.table in
-    grind (arith, same_is, read_put, length-set))
-    (by_bool _
-    (by_bool _
-    (λ w f e q k m i g r bb h. let a : ((among f w.table ≡ true) × (1 ≤ times f w.table))
-    ⊎ ((among f w.table ≡ false) × (times f w.table ≡ 0)) = among_is f w.table in
-    let z : (task w f).references ≡ 1 = last-one (task w f) k in grind (arith, same_is, read_put, length-set))
-    (λ w f e q k m i g r bb h. let a : ((among f w.table ≡ true) × (1 ≤ times f w.table))
-    ⊎ ((among f w.table ≡ false) × (times f w.table ≡ 0)) = among_is f w.table in
-    let z : (task w f).references ≡ 1 = last-one (task w f) k in grind (arith, same_is, read_put, length-set)))
-    (λ there w f e q k m i g r bb h. let a : ((among f w.table ≡ true) × (1 ≤ times f w.table))
-    ⊎ ((among f w.table ≡ false) × (times f w.table ≡ 0)) = among_is f w.table in
-    grind (arith, same_is, read_put, length-set))))
-
-asked-end_closed : (a : Bool) (w : World) (f : ℕ) → f < length w.tasks →
-    KeepsAsked w (op.Move move.EndClosed f ∷ []) (ending a w f)
-asked-end_closed = by_bool _
-    (λ w f i g r bb h. grind (arith, same_is, read_put, length-set))
-    (λ w f i g r bb h. grind (arith, same_is, read_put, length-set))
-
--- by whether its entry is in the table
-
-asked-drop_runnable : (c there : Bool) (w : World) (f : ℕ) → ((task w f).closed || not (task w f).completed) ≡ c →
-    among f w.table ≡ there → phase f w.trace ≡ Over → f < length w.tasks →
-    KeepsAsked w (op.Move move.DropRunnable f ∷ []) (dropping c there w f)
-asked-drop_runnable = by_bool _
-    (by_bool _
-    (λ w f e m n i g r bb h. let a : ((among f w.table ≡ true) × (1 ≤ times f w.table))
-    ⊎ ((among f w.table ≡ false) × (times f w.table ≡ 0)) = among_is f w.table in
-    grind (arith, nat_tests, same_is, read_put, length-set))
-    (λ w f e m n i g r bb h. let a : ((among f w.table ≡ true) × (1 ≤ times f w.table))
-    ⊎ ((among f w.table ≡ false) × (times f w.table ≡ 0)) = among_is f w.table in
-    grind (arith, nat_tests, same_is, read_put, length-set)))
-    (by_bool _
-    (λ w f e m n i g r bb h. let a : ((among f w.table ≡ true) × (1 ≤ times f w.table))
-    ⊎ ((among f w.table ≡ false) × (times f w.table ≡ 0)) = among_is f w.table in
-    grind (arith, nat_tests, same_is, read_put, length-set))
-    (λ w f e m n i g r bb h. let a : ((among f w.table ≡ true) × (1 ≤ times f w.table))
-    ⊎ ((among f w.table ≡ false) × (times f w.table ≡ 0)) = among_is f w.table in
-    grind (arith, nat_tests, same_is, read_put, length-set)))
-
--- by whether it is closed, and its entry in the table
-
-asked-take_up : (b there : Bool) (p : ℕ) (w : World) (f : ℕ) → (task w f).closed ≡ b →
-    among f (log_if (not b) w (event.PollBegun p f)).table ≡ there → f < length w.tasks →
-    KeepsAsked w (op.Move move.TakeUp f ∷ []) (taken_up b there p w f)
-asked-take_up = by_bool _
-    (by_bool _
-    (λ p w f e m i g r bb h. let a : ((among f w.table ≡ true) × (1 ≤ times f w.table))
-    ⊎ ((among f w.table ≡ false) × (times f w.table ≡ 0)) = among_is f w.table in
-    grind (arith, same_is, read_put, length-set))
-    (λ p w f e m i g r bb h. let a : ((among f w.table ≡ true) × (1 ≤ times f w.table))
-    ⊎ ((among f w.table ≡ false) × (times f w.table ≡ 0)) = among_is f w.table in
-    grind (arith, same_is, read_put, length-set)))
-    (λ there p w f e m i g r bb h. let a : ((among f w.table ≡ true) × (1 ≤ times f w.table))
-    ⊎ ((among f w.table ≡ false) × (times f w.table ≡ 0)) = among_is f w.table in
-    grind (arith, same_is, read_put, length-set, request-push, phase-begun))
-
--- by whether it is over, over or scheduled, and running
-
-asked-wake_by_reference : (o b c : Bool) (p : ℕ) (w : World) (f : ℕ) → moves.is_over (task w f) ≡ o →
-    (moves.is_over (task w f) || (task w f).scheduled) ≡ b → (task w f).running ≡ c → f < length w.tasks →
-    KeepsAsked w (op.Move move.WakeByReference f ∷ []) (woken o b c p w f)
-asked-wake_by_reference = by_bool _
-    (by_bool _
-    (λ c p w f m e q i g r bb h. grind (arith, same_is, read_put, length-set, request-push, phase-push))
-    (by_bool _
-    (λ p w f m e q i g r bb h. absurd (wrong _ _ m e))
-    (λ p w f m e q i g r bb h. absurd (wrong _ _ m e))))
-    (by_bool _
-    (λ c p w f m e q i g r bb h. let s : (task w f).scheduled ≡ true = scheduled-then _ _ m e in
-    grind (arith, same_is, read_put, length-set, request-push, phase-push))
-    (by_bool _
-    (λ p w f m e q i g r bb h. grind (arith, same_is, read_put, length-set, request-push, phase-push))
-    (λ p w f m e q i g r bb h. let k : IsUnmarked (task w f) = unmarked (task w f) e in
-    grind (arith, same_is, read_put, length-set, request-push, phase-push))))
-
-asked-wake : (o b c : Bool) (p : ℕ) (w : World) (f : ℕ) → moves.is_over (task w f) ≡ o →
-    (moves.is_over (task w f) || (task w f).scheduled) ≡ b → (task w f).running ≡ c → f < length w.tasks →
-    KeepsAsked w (op.Move move.Wake f ∷ []) (woken_by o b c p w f)
-asked-wake = by_bool _
-    (by_bool _
-    (λ c p w f m e q i g r bb h. grind (arith, same_is, read_put, length-set, request-push, phase-push))
-    (by_bool _
-    (λ p w f m e q i g r bb h. absurd (wrong _ _ m e))
-    (λ p w f m e q i g r bb h. absurd (wrong _ _ m e))))
-    (by_bool _
-    (λ c p w f m e q i g r bb h. let s : (task w f).scheduled ≡ true = scheduled-then _ _ m e in
-    grind (arith, same_is, read_put, length-set, request-push, phase-push))
-    (by_bool _
-    (λ p w f m e q i g r bb h. grind (arith, same_is, read_put, length-set, request-push, phase-push))
-    (λ p w f m e q i g r bb h. let k : IsUnmarked (task w f) = unmarked (task w f) e in
-    grind (arith, same_is, read_put, length-set, request-push, phase-push))))
-
-asked-call_task : (o b c : Bool) (p e : ℕ) (k : ℕ) (w : World) (f : ℕ) → moves.is_over (task w f) ≡ o →
-    (moves.is_over (task w f) || (task w f).scheduled) ≡ b → (task w f).running ≡ c → f < length w.tasks →
-    KeepsAsked w (op.Waker (waker_op.CallAwaiter e (Task f) k) ∷ [])
-    (woken_by o b c p (log w (event.WakerCalled p (of.Handle e) k (Task f))) f)
-asked-call_task = by_bool _
-    (by_bool _
-    (λ c p e k w f m d q i g r bb h. grind (arith, same_is, read_put, length-set, request-push, phase-push))
-    (by_bool _
-    (λ p e k w f m d q i g r bb h. absurd (wrong _ _ m d))
-    (λ p e k w f m d q i g r bb h. absurd (wrong _ _ m d))))
-    (by_bool _
-    (λ c p e k w f m d q i g r bb h. let s : (task w f).scheduled ≡ true = scheduled-then _ _ m d in
-    grind (arith, same_is, read_put, length-set, request-push, phase-push))
-    (by_bool _
-    (λ p e k w f m d q i g r bb h. grind (arith, same_is, read_put, length-set, request-push, phase-push))
-    (λ p e k w f m d q i g r bb h. let k : IsUnmarked (task w f) = unmarked (task w f) d in
-    grind (arith, same_is, read_put, length-set, request-push, phase-push))))
-
--- by whether an event is logged
-
-asked-cancel_over : (p : ℕ) (w : World) (f : ℕ) → f < length w.tasks →
-    KeepsAsked w (op.Move move.Cancel f ∷ []) (cancel_over false p w f)
-asked-cancel_over p w f i g r bb h = grind (arith, same_is, read_put, length-set, request-push, phase-push)
-
-asked-cancel_going : (a : Bool) (p : ℕ) (w : World) (f : ℕ) → moves.is_going (task w f) ≡ true → f < length w.tasks →
-    KeepsAsked w (op.Move move.Cancel f ∷ []) (cancel_going true a p w f)
-asked-cancel_going = by_bool _
-    (λ p w f e i g r bb h. let z : IsGoing (task w f) = going (task w f) e in
-    grind (arith, same_is, read_put, length-set, request-push, phase-push))
-    (λ p w f e i g r bb h. let z : IsGoing (task w f) = going (task w f) e in
-    grind (arith, same_is, read_put, length-set, request-push, phase-push))
-
-asked-cancel_idle : (a : Bool) (p : ℕ) (w : World) (f : ℕ) → moves.is_over (task w f) ≡ false →
-    moves.is_going (task w f) ≡ false → f < length w.tasks →
-    KeepsAsked w (op.Move move.Cancel f ∷ []) (cancel_idle true a p w f)
-asked-cancel_idle = by_bool _
-    (λ p w f e q i g r bb h. let k : IsIdle (task w f) = idle (task w f) e q in
-    grind (arith, same_is, read_put, length-set, request-push, phase-push))
-    (λ p w f e q i g r bb h. let k : IsIdle (task w f) = idle (task w f) e q in
-    grind (arith, same_is, read_put, length-set, request-push, phase-push))
-
-asked-detach : (o x y : Bool) (p : ℕ) (w : World) (f : ℕ) → ((task w f).completed && not (task w f).closed) ≡ x →
-    (eqb (task w f).references 0 && not (task w f).closed) ≡ y → f < length w.tasks →
-    KeepsAsked w (op.Move move.Detach f ∷ []) (detached o x y p w f)
-asked-detach = by_bool _
-    (by_bool _
-    (λ y p w f e q i g r bb h. grind (arith, nat_tests, same_is, read_put, length-set, request-push, phase-push))
-    (by_bool _
-    (λ p w f e q i g r bb h. let k : IsUnheld (task w f) = unheld (task w f) e q in
-    grind (arith, same_is, read_put, length-set, request-push, phase-push))
-    (λ p w f e q i g r bb h. grind (arith, same_is, read_put, length-set, request-push, phase-push))))
-    (by_bool _
-    (λ y p w f e q i g r bb h. grind (arith, nat_tests, same_is, read_put, length-set, request-push, phase-push))
-    (by_bool _
-    (λ p w f e q i g r bb h. let k : IsUnheld (task w f) = unheld (task w f) e q in
-    grind (arith, same_is, read_put, length-set, request-push, phase-push))
-    (λ p w f e q i g r bb h. grind (arith, same_is, read_put, length-set, request-push, phase-push))))
+use Rattle.executor_model.proofs.AskingMoves.{wrong, scheduled-then, asked-append, asked-take, asked-enter}
+use Rattle.executor_model.proofs.AskingMoves.{asked-take_to_poll, asked-put_back, asked-take_to_drop, asked-leave}
+use Rattle.executor_model.proofs.AskingMoves.{asked-begin_drop, asked-begin_drop_output, asked-release}
+use Rattle.executor_model.proofs.AskingMoves.{asked-settle_closed, asked-give_up, asked-end_ready}
+use Rattle.executor_model.proofs.AskingMoves.{asked-end_pending, asked-end_closed, asked-drop_runnable}
+use Rattle.executor_model.proofs.AskingMoves.{asked-take_up, asked-wake_by_reference, asked-wake, asked-call_task}
+use Rattle.executor_model.proofs.AskingMoves.{asked-cancel_over, asked-cancel_going, asked-cancel_idle}
+use Rattle.executor_model.proofs.AskingMoves.{asked-detach}
 
 -- wakers and polls of a handle
 

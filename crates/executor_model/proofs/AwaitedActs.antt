@@ -2,281 +2,44 @@
 use Rattle.std.proofs.Common.{◌≡◌, ◌⊎◌, ℕ, ◌+◌, ◌<◌, List, [], ◌∷◌, ◌++◌, length, Bool, true, false, ◌||◌, ◌&&◌, not}
 use Rattle.std.proofs.Common.{eqb, drop, refl, sym, ap, ◌∙◌, subst, ◌≤◌, inl, inr, arith}
 use Rattle.std.proofs.lemmas.Bool.Decides.{nat_tests}
-use Rattle.std.proofs.lemmas.List.{length-set, length-append}
+use Rattle.std.proofs.lemmas.List.{length-set}
 use Rattle.std.specs.Prelude.{Option, Some, None, slice_set}
 use Rattle.task_moves.specs.declared.moves.owed.Answer.{Answer}
 use Rattle.task_moves.specs.Moves as moves
-use Rattle.task_moves.specs.Moves.{moved, nothing, settled, notify_if, notify_other_if, most_references}
 use Rattle.executor_model.specs.declared.event.Answer.TheVariants as answer
 use Rattle.executor_model.specs.declared.event.Event.TheVariants as event
 use Rattle.executor_model.specs.declared.op.Awaiter.{Awaiter}
 use Rattle.executor_model.specs.declared.op.Waker.{Waker}
 use Rattle.executor_model.specs.declared.op.Waker.TheVariants.{Task, Outside}
 use Rattle.executor_model.specs.declared.op.Hold.{Hold}
-use Rattle.executor_model.specs.declared.op.Polled.TheVariants as of
 use Rattle.executor_model.specs.declared.op.Op.{Op}
 use Rattle.executor_model.specs.declared.op.Op.TheVariants as op
 use Rattle.executor_model.specs.declared.op.ClosingOp.TheVariants as closing_op
 use Rattle.executor_model.specs.declared.op.HandleOp.TheVariants as handle_op
 use Rattle.task_moves.specs.declared.moves.owed.Move.TheVariants as move
-use Rattle.executor_model.specs.declared.op.QueueOp.TheVariants as queue_op
 use Rattle.executor_model.specs.declared.op.TableOp.TheVariants as table_op
 use Rattle.executor_model.specs.declared.op.UserOp.TheVariants as user_op
 use Rattle.executor_model.specs.declared.op.WakerOp.TheVariants as waker_op
-use Rattle.executor_model.specs.World.{World, Done, done, log, log_if, task, awaiter_of, among}
+use Rattle.executor_model.specs.World.{World, Done, done, log, log_if, task, awaiter_of}
 use Rattle.executor_model.specs.Carried.{carried}
-use Rattle.executor_model.specs.Acts.{append_by, take_by, enter_by, take_to_poll, put_back, take_to_drop}
-use Rattle.executor_model.specs.Acts.{leave_by}
-use Rattle.executor_model.specs.Acts.{begin_drop, begin_drop_output, copy_by, polled, look_by, look_again_by}
+use Rattle.executor_model.specs.Acts.{copy_by, polled, look_by, look_again_by}
 use Rattle.executor_model.specs.Acts.{copy_awaiter_by, register_by, end_register_by, notify_by, call_awaiter}
 use Rattle.executor_model.specs.Acts.{closing_ops, drop_next_by, wake_next_by, close, drain_by}
 use Rattle.executor_model.specs.Weights.{same, weigh, past, waker_past}
 use Rattle.executor_model.specs.Good.{pasts, IsKnownWaker}
 use Rattle.executor_model.specs.Rows.{past_of}
-use Rattle.executor_model.specs.Sound.{Pend, with_ops, times}
+use Rattle.executor_model.specs.Sound.{Pend, times}
 use Rattle.executor_model.proofs.Cases.{by_bool, by_list, by_waker}
-use Rattle.executor_model.proofs.Marks.{IsUnmarked, unmarked, IsMarked, marked, IsGoing, going}
-use Rattle.executor_model.proofs.Marks.{IsIdle, idle, last-one, IsUnheld, unheld}
-use Rattle.executor_model.proofs.Lists.{with_ops-closing, read_put, fresh_is, read_push}
+use Rattle.executor_model.proofs.Marks.{IsUnmarked, unmarked, IsMarked, marked}
+use Rattle.executor_model.proofs.Lists.{with_ops-closing, read_put}
 use Rattle.executor_model.proofs.Lists.{past_is, same_is, times-append, times-drop}
-use Rattle.executor_model.proofs.Counting.{settling, readied, pended, ending, dropping, taken_up, woken, woken_by}
-use Rattle.executor_model.proofs.Counting.{cancel_going, cancel_idle, cancel_over, detached, stays_so, gives}
-use Rattle.executor_model.proofs.Counting.{waits_on, end_registered, end_notified, next_woken}
-use Rattle.executor_model.proofs.Awaited.{heard, heard-push, Awaiting, with_awaiting, with_awaiting-closing, Footing}
-use Rattle.executor_model.proofs.Awaited.{Awaits, KeepsBy, KeepsAwaits, asks_if, kept_at, kept_put, kept_push}
-
-pub awaits-append : (b : Bool) (w : World) (f : ℕ) → KeepsAwaits w (op.Queue (queue_op.Append f) ∷ []) (append_by b w f)
-awaits-append = by_bool _
-    (λ w f g r yy mm bb h. grind (arith, same_is, times-append))
-    (λ w f g r yy mm bb h. grind (arith, same_is))
-
-pub awaits-take : (q : List ℕ) (w : World) → w.queue.items ≡ q →
-    KeepsAwaits w (op.Queue queue_op.Take ∷ []) (take_by w q)
-awaits-take = by_list _
-    (λ w e g r yy mm bb h. grind arith)
-    (λ f rest w e g r yy mm bb h. let z : same g f + times g (drop 1 w.queue.items) ≡ times g w.queue.items =
-    times-drop g f rest w.queue.items e in grind (arith, same_is))
-
-pub awaits-enter : (b c : Bool) (p : ℕ) (w : World) → length w.awaiters ≡ length w.tasks →
-    KeepsAwaits w (op.Table table_op.Enter ∷ []) (enter_by b c p w)
-awaits-enter = by_bool _
-    (λ c p w l g r yy mm bb h. grind arith)
-    (by_bool _
-    (λ p w l g r yy mm bb h. grind arith)
-    (λ p w l g r yy mm bb h.
-    grind (arith, same_is, fresh_is, read_push, kept_push, times-append, length-append, heard-push)))
-
-pub awaits-take_to_poll : (w : World) (f : ℕ) → KeepsAwaits w (op.Table (table_op.TakeToPoll f) ∷ []) (take_to_poll w f)
-awaits-take_to_poll w f g r yy mm bb h = grind (arith, same_is)
-
-pub awaits-put_back : (w : World) (f : ℕ) → KeepsAwaits w (op.Table (table_op.PutBack f) ∷ []) (put_back w f)
-awaits-put_back w f g r yy mm bb h = grind (arith, same_is)
-
-pub awaits-take_to_drop : (w : World) (f : ℕ) → KeepsAwaits w (op.Table (table_op.TakeToDrop f) ∷ []) (take_to_drop w f)
-awaits-take_to_drop w f g r yy mm bb h = grind (arith, same_is)
-
-pub awaits-leave : (b : Bool) (w : World) (f : ℕ) → among f w.table ≡ b →
-    KeepsAwaits w (op.Table (table_op.LeaveTable f) ∷ []) (leave_by b w f)
-awaits-leave = by_bool _
-    (λ w f e g r yy mm bb h. grind (arith, same_is))
-    (λ w f e g r yy mm bb h. h)
-
-pub awaits-begin_drop : (p : ℕ) (w : World) (f : ℕ) →
-    KeepsAwaits w (op.User (user_op.BeginDrop f) ∷ []) (begin_drop p w f)
-awaits-begin_drop p w f g r yy mm bb h = grind (arith, same_is, heard-push)
-
-pub awaits-begin_drop_output : (p : ℕ) (w : World) (f : ℕ) →
-    KeepsAwaits w (op.User (user_op.BeginDropOutput f) ∷ []) (begin_drop_output p w f)
-awaits-begin_drop_output p w f g r yy mm bb h = grind (arith, heard-push)
-
--- the moves of a task, by what they find
-
-pub awaits-release : (b c : Bool) (w : World) (f : ℕ) → moves.is_last (task w f) ≡ b → moves.is_over (task w f) ≡ c →
-    f < length w.tasks → KeepsAwaits w (op.Move move.Release f ∷ []) (carried w f (moves.release_by b c (task w f)))
-awaits-release = by_bool _
-    (by_bool _
-    (λ w f e q i g r yy mm bb h. let z : (task w f).references ≡ 1 = last-one (task w f) e in
-    grind (arith, same_is, read_put, length-set))
-    (λ w f e q i g r yy mm bb h. let z : (task w f).references ≡ 1 = last-one (task w f) e in
-    let c : (task w f).completed ≡ false = grind (arith, nat_tests) in grind (arith, same_is, read_put, length-set)))
-    (λ c w f e q i g r yy mm bb h. grind (arith, same_is, read_put, length-set))
-
-pub awaits-settle_closed : (a : Bool) (w : World) (f : ℕ) → (task w f).awaiter ≡ a → f < length w.tasks →
-    KeepsAwaits w (op.Move move.SettleClosed f ∷ []) (settling a w f)
-awaits-settle_closed = by_bool _
-    (λ w f n i g r yy mm bb h. grind (arith, same_is, read_put, length-set))
-    (λ w f n i g r yy mm bb h. grind (arith, same_is, read_put, length-set))
-
-pub awaits-give_up : (b : Bool) (w : World) (f : ℕ) → moves.is_last (task w f) ≡ b → f < length w.tasks →
-    KeepsAwaits w (op.Move move.GiveUp f ∷ []) (carried w f (moves.give_up_by b (task w f)))
-awaits-give_up = by_bool _
-    (λ w f e i g r yy mm bb h. let z : (task w f).references ≡ 1 = last-one (task w f) e in
-    grind (arith, same_is, read_put, length-set))
-    (λ w f e i g r yy mm bb h. grind (arith, same_is, read_put, length-set))
-
--- by whether the output is unwanted, and whether there is an awaiter
-
-pub awaits-end_ready : (u a : Bool) (w : World) (f : ℕ) → ((task w f).closed || not (task w f).handle) ≡ u →
-    (task w f).awaiter ≡ a → f < length w.tasks → KeepsAwaits w (op.Move move.EndReady f ∷ []) (readied u a w f)
-awaits-end_ready = by_bool _
-    (by_bool _
-    (λ w f e n i g r yy mm bb h. grind (arith, same_is, read_put, length-set))
-    (λ w f e n i g r yy mm bb h. grind (arith, same_is, read_put, length-set)))
-    (by_bool _
-    (λ w f e n i g r yy mm bb h. grind (arith, same_is, read_put, length-set))
-    (λ w f e n i g r yy mm bb h. grind (arith, same_is, read_put, length-set)))
-
--- by whether it is closed, scheduled, its reference the last, and its entry in the table
-
-pub awaits-end_pending : (x s l there : Bool) (w : World) (f : ℕ) → (task w f).closed ≡ x → (task w f).scheduled ≡ s →
-    moves.is_last (task w f) ≡ l → among f w.table ≡ there → f < length w.tasks →
-    KeepsAwaits w (op.Move move.EndPending f ∷ []) (pended x s l there w f)
-awaits-end_pending = by_bool _
-    (λ s l. by_bool _
-    (λ w f e q k m i g r yy mm bb h. grind (arith, same_is, read_put, length-set))
-    (λ w f e q k m i g r yy mm bb h. grind (arith, same_is, read_put, length-set)))
-    (by_bool _
-    (λ l there w f e q k m i g r yy mm bb h. grind (arith, same_is, read_put, length-set))
-    (by_bool _
-    (by_bool _
-    (λ w f e q k m i g r yy mm bb h. let z : (task w f).references ≡ 1 = last-one (task w f) k in
-    grind (arith, same_is, read_put, length-set))
-    (λ w f e q k m i g r yy mm bb h. let z : (task w f).references ≡ 1 = last-one (task w f) k in
-    grind (arith, same_is, read_put, length-set)))
-    (λ there w f e q k m i g r yy mm bb h. grind (arith, same_is, read_put, length-set))))
-
-pub awaits-end_closed : (a : Bool) (w : World) (f : ℕ) → (task w f).awaiter ≡ a → f < length w.tasks →
-    KeepsAwaits w (op.Move move.EndClosed f ∷ []) (ending a w f)
-awaits-end_closed = by_bool _
-    (λ w f n i g r yy mm bb h. grind (arith, same_is, read_put, length-set))
-    (λ w f n i g r yy mm bb h. grind (arith, same_is, read_put, length-set))
-
--- by whether its entry is in the table
-
-pub awaits-drop_runnable : (c there : Bool) (w : World) (f : ℕ) → ((task w f).closed || not (task w f).completed) ≡ c →
-    among f w.table ≡ there → f < length w.tasks →
-    KeepsAwaits w (op.Move move.DropRunnable f ∷ []) (dropping c there w f)
-awaits-drop_runnable = by_bool _
-    (by_bool _
-    (λ w f e m i g r yy mm bb h. grind (arith, nat_tests, same_is, read_put, length-set))
-    (λ w f e m i g r yy mm bb h. grind (arith, nat_tests, same_is, read_put, length-set)))
-    (by_bool _
-    (λ w f e m i g r yy mm bb h. grind (arith, nat_tests, same_is, read_put, length-set))
-    (λ w f e m i g r yy mm bb h. grind (arith, nat_tests, same_is, read_put, length-set)))
-
--- by whether it is closed, and its entry in the table
-
-pub awaits-take_up : (b there : Bool) (p : ℕ) (w : World) (f : ℕ) → (task w f).closed ≡ b →
-    among f (log_if (not b) w (event.PollBegun p f)).table ≡ there → f < length w.tasks →
-    KeepsAwaits w (op.Move move.TakeUp f ∷ []) (taken_up b there p w f)
-awaits-take_up = by_bool _
-    (by_bool _
-    (λ p w f e m i g r yy mm bb h. grind (arith, same_is, read_put, length-set))
-    (λ p w f e m i g r yy mm bb h. grind (arith, same_is, read_put, length-set)))
-    (λ there p w f e m i g r yy mm bb h. grind (arith, same_is, read_put, length-set, heard-push))
-
--- by whether it is over, over or scheduled, and running
-
-pub awaits-wake_by_reference : (o b c : Bool) (p : ℕ) (w : World) (f : ℕ) →
-    (moves.is_over (task w f) || (task w f).scheduled) ≡ b → (task w f).running ≡ c → f < length w.tasks →
-    KeepsAwaits w (op.Move move.WakeByReference f ∷ []) (woken o b c p w f)
-awaits-wake_by_reference = by_bool _
-    (by_bool _
-    (λ c p w f e q i g r yy mm bb h. grind (arith, same_is, read_put, length-set, heard-push))
-    (by_bool _
-    (λ p w f e q i g r yy mm bb h. grind (arith, same_is, read_put, length-set, heard-push))
-    (λ p w f e q i g r yy mm bb h. let k : IsUnmarked (task w f) = unmarked (task w f) e in
-    grind (arith, same_is, read_put, length-set, heard-push))))
-    (by_bool _
-    (λ c p w f e q i g r yy mm bb h. grind (arith, same_is, read_put, length-set, heard-push))
-    (by_bool _
-    (λ p w f e q i g r yy mm bb h. grind (arith, same_is, read_put, length-set, heard-push))
-    (λ p w f e q i g r yy mm bb h. let k : IsUnmarked (task w f) = unmarked (task w f) e in
-    grind (arith, same_is, read_put, length-set, heard-push))))
-
-pub awaits-wake : (o b c : Bool) (p : ℕ) (w : World) (f : ℕ) → (moves.is_over (task w f) || (task w f).scheduled) ≡ b →
-    (task w f).running ≡ c → f < length w.tasks → KeepsAwaits w (op.Move move.Wake f ∷ []) (woken_by o b c p w f)
-awaits-wake = by_bool _
-    (by_bool _
-    (λ c p w f e q i g r yy mm bb h. grind (arith, same_is, read_put, length-set, heard-push))
-    (by_bool _
-    (λ p w f e q i g r yy mm bb h. grind (arith, same_is, read_put, length-set, heard-push))
-    (λ p w f e q i g r yy mm bb h. let k : IsUnmarked (task w f) = unmarked (task w f) e in
-    grind (arith, same_is, read_put, length-set, heard-push))))
-    (by_bool _
-    (λ c p w f e q i g r yy mm bb h. grind (arith, same_is, read_put, length-set, heard-push))
-    (by_bool _
-    (λ p w f e q i g r yy mm bb h. grind (arith, same_is, read_put, length-set, heard-push))
-    (λ p w f e q i g r yy mm bb h. let k : IsUnmarked (task w f) = unmarked (task w f) e in
-    grind (arith, same_is, read_put, length-set, heard-push))))
-
-awaits-call_task : (o b c : Bool) (p e : ℕ) (k : ℕ) (w : World) (f : ℕ) →
-    (moves.is_over (task w f) || (task w f).scheduled) ≡ b → (task w f).running ≡ c → f < length w.tasks →
-    KeepsAwaits w (op.Waker (waker_op.CallAwaiter e (Task f) k) ∷ [])
-    (woken_by o b c p (log w (event.WakerCalled p (of.Handle e) k (Task f))) f)
-awaits-call_task o b c p e k w f d q i g r yy mm bb h =
-    let called : World = log w (event.WakerCalled p (of.Handle e) k (Task f)) in
-    let stand : Footing called g (with_ops g (op.Move move.Wake f ∷ []) r)
-    (with_awaiting g (op.Move move.Wake f ∷ []) yy) =
-    record {
-      one = bb.one;
-      live = bb.live;
-      ends = bb.ends;
-      drop = bb.drop;
-      carries = bb.carries;
-      rests = bb.rests;
-      lent = bb.lent;
-      done = grind (arith, heard-push);
-      stages = bb.stages;
-      few = bb.few;
-      tied = bb.tied;
-    } in
-    let waits : Awaits called g (with_ops g (op.Move move.Wake f ∷ []) r)
-    (with_awaiting g (op.Move move.Wake f ∷ []) yy) mm = grind (arith, same_is, heard-push) in
-    awaits-wake o b c p called f d q i g r yy mm stand waits
-
--- by whether an event is logged
-
-awaits-cancel_over : (o : Bool) (p : ℕ) (w : World) (f : ℕ) → f < length w.tasks →
-    KeepsAwaits w (op.Move move.Cancel f ∷ []) (cancel_over o p w f)
-awaits-cancel_over = by_bool _
-    (λ p w f i g r yy mm bb h. grind (arith, same_is, read_put, length-set, heard-push))
-    (λ p w f i g r yy mm bb h. grind (arith, same_is, read_put, length-set, heard-push))
-
-awaits-cancel_going : (a : Bool) (p : ℕ) (w : World) (f : ℕ) → (task w f).awaiter ≡ a →
-    moves.is_going (task w f) ≡ true → f < length w.tasks →
-    KeepsAwaits w (op.Move move.Cancel f ∷ []) (cancel_going true a p w f)
-awaits-cancel_going = by_bool _
-    (λ p w f n e i g r yy mm bb h. let z : IsGoing (task w f) = going (task w f) e in
-    grind (arith, same_is, read_put, length-set, heard-push))
-    (λ p w f n e i g r yy mm bb h. let z : IsGoing (task w f) = going (task w f) e in
-    grind (arith, same_is, read_put, length-set, heard-push))
-
-awaits-cancel_idle : (a : Bool) (p : ℕ) (w : World) (f : ℕ) → (task w f).awaiter ≡ a →
-    moves.is_over (task w f) ≡ false → moves.is_going (task w f) ≡ false → f < length w.tasks →
-    KeepsAwaits w (op.Move move.Cancel f ∷ []) (cancel_idle true a p w f)
-awaits-cancel_idle = by_bool _
-    (λ p w f n e q i g r yy mm bb h. let k : IsIdle (task w f) = idle (task w f) e q in
-    grind (arith, same_is, read_put, length-set, heard-push))
-    (λ p w f n e q i g r yy mm bb h. let k : IsIdle (task w f) = idle (task w f) e q in
-    grind (arith, same_is, read_put, length-set, heard-push))
-
-pub awaits-detach : (o x y : Bool) (p : ℕ) (w : World) (f : ℕ) → ((task w f).completed && not (task w f).closed) ≡ x →
-    (eqb (task w f).references 0 && not (task w f).closed) ≡ y → f < length w.tasks →
-    KeepsAwaits w (op.Move move.Detach f ∷ []) (detached o x y p w f)
-awaits-detach = by_bool _
-    (by_bool _
-    (λ y p w f e q i g r yy mm bb h. grind (arith, nat_tests, same_is, read_put, length-set, heard-push))
-    (by_bool _
-    (λ p w f e q i g r yy mm bb h. let k : IsUnheld (task w f) = unheld (task w f) e q in
-    grind (arith, same_is, read_put, length-set, heard-push))
-    (λ p w f e q i g r yy mm bb h. grind (arith, same_is, read_put, length-set, heard-push))))
-    (by_bool _
-    (λ y p w f e q i g r yy mm bb h. grind (arith, nat_tests, same_is, read_put, length-set, heard-push))
-    (by_bool _
-    (λ p w f e q i g r yy mm bb h. let k : IsUnheld (task w f) = unheld (task w f) e q in
-    grind (arith, same_is, read_put, length-set, heard-push))
-    (λ p w f e q i g r yy mm bb h. grind (arith, same_is, read_put, length-set, heard-push))))
+use Rattle.executor_model.proofs.Counting.{woken_by}
+use Rattle.executor_model.proofs.CountingHandles.{stays_so, gives}
+use Rattle.executor_model.proofs.CountingHandles.{waits_on, end_registered, end_notified, next_woken}
+use Rattle.executor_model.proofs.Awaited.{heard, heard-push, Awaiting, with_awaiting, with_awaiting-closing}
+use Rattle.executor_model.proofs.Awaited.{Awaits, KeepsBy, KeepsAwaits, asks_if, kept_at, kept_put}
+use Rattle.executor_model.proofs.AwaitedMoves.{awaits-call_task, awaits-cancel_over, awaits-cancel_going}
+use Rattle.executor_model.proofs.AwaitedMoves.{awaits-cancel_idle}
 
 -- wakers and polls of a handle
 

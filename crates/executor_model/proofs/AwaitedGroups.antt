@@ -28,16 +28,16 @@ use Rattle.executor_model.specs.Good.{pasts, IsKnownWaker}
 use Rattle.executor_model.specs.Rows.{past_of}
 use Rattle.executor_model.proofs.Calls.{is_end}
 use Rattle.executor_model.proofs.Awaited.{Mark, KeepsBy, KeepsAwaits, asks_if}
-use Rattle.executor_model.proofs.AwaitedActs.{both-true, awaits-again, awaits-append, awaits-begin_drop}
-use Rattle.executor_model.proofs.AwaitedActs.{awaits-begin_drop_output, awaits-call, awaits-cancel, awaits-close}
-use Rattle.executor_model.proofs.AwaitedActs.{awaits-copy, awaits-copy_awaiter, awaits-detach, awaits-drain}
-use Rattle.executor_model.proofs.AwaitedActs.{awaits-drop_first, awaits-drop_runnable, awaits-end_closed}
-use Rattle.executor_model.proofs.AwaitedActs.{awaits-end_notify, awaits-end_pending, awaits-end_ready}
-use Rattle.executor_model.proofs.AwaitedActs.{awaits-end_register_by, awaits-enter, awaits-give_up, awaits-leave}
-use Rattle.executor_model.proofs.AwaitedActs.{awaits-look, awaits-notify, awaits-pending, awaits-put_back}
-use Rattle.executor_model.proofs.AwaitedActs.{awaits-ready, awaits-register, awaits-release, awaits-settle_closed}
-use Rattle.executor_model.proofs.AwaitedActs.{awaits-take, awaits-take_out, awaits-take_to_drop, awaits-take_to_poll}
-use Rattle.executor_model.proofs.AwaitedActs.{awaits-take_up, awaits-wake, awaits-wake_by_reference}
+use Rattle.executor_model.proofs.AwaitedMoves.{awaits-append, awaits-begin_drop, awaits-begin_drop_output}
+use Rattle.executor_model.proofs.AwaitedMoves.{awaits-detach, awaits-drop_runnable, awaits-end_closed}
+use Rattle.executor_model.proofs.AwaitedMoves.{awaits-end_pending, awaits-end_ready, awaits-enter, awaits-give_up}
+use Rattle.executor_model.proofs.AwaitedMoves.{awaits-leave, awaits-put_back, awaits-release, awaits-settle_closed}
+use Rattle.executor_model.proofs.AwaitedMoves.{awaits-take, awaits-take_to_drop, awaits-take_to_poll, awaits-take_up}
+use Rattle.executor_model.proofs.AwaitedMoves.{awaits-wake, awaits-wake_by_reference}
+use Rattle.executor_model.proofs.AwaitedActs.{both-true, awaits-again, awaits-call, awaits-cancel, awaits-close}
+use Rattle.executor_model.proofs.AwaitedActs.{awaits-copy, awaits-copy_awaiter, awaits-drain, awaits-drop_first}
+use Rattle.executor_model.proofs.AwaitedActs.{awaits-end_notify, awaits-end_register_by, awaits-look, awaits-notify}
+use Rattle.executor_model.proofs.AwaitedActs.{awaits-pending, awaits-ready, awaits-register, awaits-take_out}
 use Rattle.executor_model.proofs.AwaitedActs.{awaits-wake_first, first_known, is_answer, known_waker, own}
 use Rattle.executor_model.proofs.SleepersAwaited.{awaits-exchange, awaits-hand_out, awaits-call_sleeper}
 use Rattle.executor_model.proofs.RunsAwaited.{awaits-list, awaits-run, awaits-search_who, awaits-steal}

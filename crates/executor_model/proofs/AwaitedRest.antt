@@ -30,7 +30,8 @@ use Rattle.executor_model.proofs.AwaitedSweeps.{lists, Sweep, sweep, Sweeps, dro
 use Rattle.executor_model.proofs.AwaitedClosing.{Swept, swept}
 use Rattle.executor_model.proofs.AwaitedSweeps.{rousing_of, shutting_of, draining_of}
 use Rattle.executor_model.proofs.AwaitedCalls.{marked}
-use Rattle.executor_model.proofs.AwaitedRuns.{Waited, waited, nothing_pending, nothing_awaited}
+use Rattle.executor_model.proofs.AwaitedSteps.{Waited, nothing_pending, nothing_awaited}
+use Rattle.executor_model.proofs.AwaitedRuns.{waited}
 use Rattle.executor_model.proofs.AwaitedTelling.{parted-has, dropped-has, over-dropped, Begun}
 use Rattle.executor_model.proofs.AwaitedTelling.{begun-at, called-from, pending-at}
 

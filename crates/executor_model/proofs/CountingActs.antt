@@ -21,15 +21,16 @@ use Rattle.executor_model.specs.Doing.{act}
 use Rattle.executor_model.specs.Weights.{weigh, past, waker_past}
 use Rattle.executor_model.specs.Good.{pasts}
 use Rattle.executor_model.specs.Rows.{past_of}
-use Rattle.executor_model.proofs.Counting.{Keeps, below, can_copy, first_known, own, small, sound-again, sound-append}
-use Rattle.executor_model.proofs.Counting.{sound-begin_drop, sound-begin_drop_output, sound-call, sound-cancel}
-use Rattle.executor_model.proofs.Counting.{sound-copy, sound-copy_awaiter, sound-detach, sound-drain, sound-drop_first}
-use Rattle.executor_model.proofs.Counting.{sound-drop_runnable, sound-end, sound-end_closed, sound-end_notify}
-use Rattle.executor_model.proofs.Counting.{sound-end_pending, sound-end_ready, sound-end_register_by, sound-enter}
-use Rattle.executor_model.proofs.Counting.{sound-give_up, sound-leave, sound-look, sound-notify, sound-put_back}
-use Rattle.executor_model.proofs.Counting.{sound-register, sound-release, sound-settle_closed, sound-take}
-use Rattle.executor_model.proofs.Counting.{sound-take_out, sound-take_to_drop, sound-take_to_poll, sound-take_up}
-use Rattle.executor_model.proofs.Counting.{sound-wake, sound-wake_by_reference, sound-wake_first}
+use Rattle.executor_model.proofs.Counting.{Keeps, sound-append, sound-begin_drop, sound-begin_drop_output}
+use Rattle.executor_model.proofs.Counting.{sound-detach, sound-drop_runnable, sound-end_closed, sound-end_pending}
+use Rattle.executor_model.proofs.Counting.{sound-end_ready, sound-enter, sound-give_up, sound-leave, sound-put_back}
+use Rattle.executor_model.proofs.Counting.{sound-release, sound-settle_closed, sound-take, sound-take_to_drop}
+use Rattle.executor_model.proofs.Counting.{sound-take_to_poll, sound-take_up, sound-wake, sound-wake_by_reference}
+use Rattle.executor_model.proofs.CountingHandles.{below, can_copy, first_known, own, small, sound-again, sound-call}
+use Rattle.executor_model.proofs.CountingHandles.{sound-cancel, sound-copy, sound-copy_awaiter, sound-drain}
+use Rattle.executor_model.proofs.CountingHandles.{sound-drop_first, sound-end, sound-end_notify}
+use Rattle.executor_model.proofs.CountingHandles.{sound-end_register_by, sound-look, sound-notify, sound-register}
+use Rattle.executor_model.proofs.CountingHandles.{sound-take_out, sound-wake_first}
 use Rattle.executor_model.specs.declared.op.RunOp.TheVariants as run_op
 use Rattle.executor_model.proofs.RunsCounting.{sound-list, sound-run, sound-search_who, sound-steal, sound-wake_own}
 use Rattle.executor_model.proofs.SleepersCounting.{sound-exchange, sound-hand_out, sound-call_sleeper}

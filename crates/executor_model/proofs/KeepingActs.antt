@@ -1,9 +1,9 @@
 -- Each thing that is done keeps what holds of an output that is there,
 -- and of the awaiter of a future that is completed.
 use Rattle.std.proofs.Common.{◌≡◌, ◌⊎◌, ℕ, ◌+◌, ◌<◌, List, [], ◌∷◌, ◌++◌, length}
-use Rattle.std.proofs.Common.{Bool, true, false, ◌||◌, not, refl, sym, ap, subst, ◌∙◌, ◌≤◌, arith}
+use Rattle.std.proofs.Common.{Bool, true, false, ◌||◌, refl, sym, ap, subst, ◌∙◌, ◌≤◌, arith}
 use Rattle.std.proofs.lemmas.Bool.Decides.{nat_tests}
-use Rattle.std.proofs.lemmas.List.{length-set, length-append}
+use Rattle.std.proofs.lemmas.List.{length-set}
 use Rattle.std.specs.Prelude.{Option, Some, None, slice_set}
 use Rattle.task_moves.specs.Moves as moves
 use Rattle.executor_model.specs.declared.call.Reply.{Reply}
@@ -13,7 +13,6 @@ use Rattle.executor_model.specs.declared.op.Awaiter.{Awaiter}
 use Rattle.executor_model.specs.declared.op.Waker.{Waker}
 use Rattle.executor_model.specs.declared.op.Waker.TheVariants.{Task, Outside}
 use Rattle.executor_model.specs.declared.op.Hold.{Hold}
-use Rattle.executor_model.specs.declared.op.Polled.TheVariants as of
 use Rattle.executor_model.specs.declared.op.Op.{Op}
 use Rattle.executor_model.specs.declared.op.Op.TheVariants as op
 use Rattle.executor_model.specs.declared.op.ClosingOp.TheVariants as closing_op
@@ -29,10 +28,8 @@ use Rattle.executor_model.specs.declared.op.TickOp.TheVariants as tick_op
 use Rattle.executor_model.specs.declared.op.UserOp.TheVariants as user_op
 use Rattle.executor_model.specs.declared.op.WakerOp.TheVariants as waker_op
 use Rattle.executor_model.specs.declared.step.Hint.{Hint}
-use Rattle.executor_model.specs.World.{World, done, log, log_if, task}
-use Rattle.executor_model.specs.Carried.{carried}
-use Rattle.executor_model.specs.Acts.{append_by, take_by, enter_by, take_to_poll, leave_by, begin_drop}
-use Rattle.executor_model.specs.Acts.{begin_drop_output, copy_by, polled, look_by, look_again_by}
+use Rattle.executor_model.specs.World.{World, done, log, task}
+use Rattle.executor_model.specs.Acts.{copy_by, polled, look_by, look_again_by}
 use Rattle.executor_model.specs.Acts.{copy_awaiter_by, register_by, end_register_by, notify_by, call_awaiter}
 use Rattle.executor_model.specs.Acts.{closing_ops, drop_next_by, wake_next_by, drain_by}
 use Rattle.executor_model.specs.Doing.{act}
@@ -40,211 +37,20 @@ use Rattle.executor_model.specs.Weights.{weigh, past, waker_past}
 use Rattle.executor_model.specs.Good.{pasts, IsKnownWaker}
 use Rattle.executor_model.specs.Rows.{past_of}
 use Rattle.executor_model.proofs.Cases.{by_bool, by_list, by_waker}
-use Rattle.executor_model.proofs.Lists.{read_put, read_push, fresh_is, past_is, same_is}
-use Rattle.executor_model.proofs.Counting.{settling, readied, pended, ending, dropping, taken_up, woken, woken_by}
-use Rattle.executor_model.proofs.Counting.{cancel_going, cancel_idle, cancel_over, detached, stays_so, gives}
-use Rattle.executor_model.proofs.Counting.{waits_on, end_registered, end_notified, next_woken}
+use Rattle.executor_model.proofs.Lists.{read_put, past_is, same_is}
+use Rattle.executor_model.proofs.CountingHandles.{stays_so, gives}
+use Rattle.executor_model.proofs.CountingHandles.{waits_on, end_registered, end_notified, next_woken}
 use Rattle.executor_model.proofs.Keeping.{readies-push, spent-push, Owing, with_owing, Stored, KeepsStored}
 use Rattle.executor_model.proofs.SleepersKeeping.{stored-exchange, stored-hand_out, stored-call_sleeper}
 use Rattle.executor_model.proofs.SleepersKeeping.{stored-make_tick, stored-copy_sleeper}
 use Rattle.executor_model.proofs.RunsKeeping.{stored-list, stored-run, stored-search_who, stored-steal}
 use Rattle.executor_model.proofs.SleepersKeeping.{stored-lie_down, stored-get_up, stored-leave_sleepers}
-
-stored-append : (b : Bool) (w : World) (f : ℕ) → KeepsStored w (op.Queue (queue_op.Append f) ∷ []) (append_by b w f)
-stored-append = by_bool _
-    (λ w f g r bb h. grind (arith, same_is))
-    (λ w f g r bb h. grind (arith, same_is))
-
-stored-take : (q : List ℕ) (w : World) → KeepsStored w (op.Queue queue_op.Take ∷ []) (take_by w q)
-stored-take = by_list _
-    (λ w g r bb h. grind arith)
-    (λ f rest w g r bb h. grind (arith, same_is))
-
-stored-enter : (b c : Bool) (p : ℕ) (w : World) → KeepsStored w (op.Table table_op.Enter ∷ []) (enter_by b c p w)
-stored-enter = by_bool _
-    (λ c p w g r bb h. grind arith)
-    (by_bool _
-    (λ p w g r bb h. grind arith)
-    (λ p w g r bb h. grind (arith, same_is, fresh_is, read_push, length-append, readies-push, spent-push)))
-
-stored-take_to_poll : (w : World) (f : ℕ) → KeepsStored w (op.Table (table_op.TakeToPoll f) ∷ []) (take_to_poll w f)
-stored-take_to_poll w f g r bb h = grind (arith, same_is)
-
-stored-leave : (b : Bool) (w : World) (f : ℕ) → KeepsStored w (op.Table (table_op.LeaveTable f) ∷ []) (leave_by b w f)
-stored-leave = by_bool _
-    (λ w f g r bb h. grind arith)
-    (λ w f g r bb h. grind arith)
-
-stored-begin_drop : (p : ℕ) (w : World) (f : ℕ) → KeepsStored w (op.User (user_op.BeginDrop f) ∷ []) (begin_drop p w f)
-stored-begin_drop p w f g r bb h = grind (arith, readies-push, spent-push)
-
-stored-begin_drop_output : (p : ℕ) (w : World) (f : ℕ) →
-    KeepsStored w (op.User (user_op.BeginDropOutput f) ∷ []) (begin_drop_output p w f)
-stored-begin_drop_output p w f g r bb h = grind (arith, readies-push, spent-push)
-
--- the moves of a task, by what they find
-
-stored-release : (b c : Bool) (w : World) (f : ℕ) → moves.is_last (task w f) ≡ b → f < length w.tasks →
-    KeepsStored w (op.Move move.Release f ∷ []) (carried w f (moves.release_by b c (task w f)))
-stored-release = by_bool _
-    (by_bool _
-    (λ w f e i g r bb h. grind (arith, same_is, read_put, length-set))
-    (λ w f e i g r bb h. let z : (task w f).handle ≡ false = grind (arith, nat_tests) in
-    grind (arith, same_is, read_put, length-set)))
-    (λ c w f e i g r bb h. grind (arith, same_is, read_put, length-set))
-
-stored-settle_closed : (a : Bool) (w : World) (f : ℕ) → f < length w.tasks →
-    KeepsStored w (op.Move move.SettleClosed f ∷ []) (settling a w f)
-stored-settle_closed = by_bool _
-    (λ w f i g r bb h. grind (arith, same_is, read_put, length-set))
-    (λ w f i g r bb h. grind (arith, same_is, read_put, length-set))
-
-stored-give_up : (b : Bool) (w : World) (f : ℕ) → f < length w.tasks →
-    KeepsStored w (op.Move move.GiveUp f ∷ []) (carried w f (moves.give_up_by b (task w f)))
-stored-give_up = by_bool _
-    (λ w f i g r bb h. grind (arith, same_is, read_put, length-set))
-    (λ w f i g r bb h. grind (arith, same_is, read_put, length-set))
-
--- by whether the output is unwanted, and whether there is an awaiter
-
-stored-end_ready : (u a : Bool) (w : World) (f : ℕ) → ((task w f).closed || not (task w f).handle) ≡ u →
-    (task w f).awaiter ≡ a → f < length w.tasks → KeepsStored w (op.Move move.EndReady f ∷ []) (readied u a w f)
-stored-end_ready = by_bool _
-    (by_bool _
-    (λ w f e q i g r bb h. let z : ((task w f).closed ≡ true) ⊎ ((task w f).handle ≡ false) =
-    grind (arith, nat_tests) in grind (arith, same_is, read_put, length-set))
-    (λ w f e q i g r bb h. let z : ((task w f).closed ≡ true) ⊎ ((task w f).handle ≡ false) =
-    grind (arith, nat_tests) in grind (arith, same_is, read_put, length-set)))
-    (by_bool _
-    (λ w f e q i g r bb h. grind (arith, same_is, read_put, length-set))
-    (λ w f e q i g r bb h. grind (arith, same_is, read_put, length-set)))
-
--- by whether it is closed, scheduled, its reference the last, and its entry in the table
-
-stored-end_pending : (x s l there : Bool) (w : World) (f : ℕ) → moves.is_last (task w f) ≡ l → f < length w.tasks →
-    KeepsStored w (op.Move move.EndPending f ∷ []) (pended x s l there w f)
-stored-end_pending = by_bool _
-    (λ s l. by_bool _
-    (λ w f e i g r bb h. grind (arith, same_is, read_put, length-set))
-    (λ w f e i g r bb h. grind (arith, same_is, read_put, length-set)))
-    (by_bool _
-    (λ l there w f e i g r bb h. grind (arith, same_is, read_put, length-set))
-    (by_bool _
-    (by_bool _
-    (λ w f e i g r bb h. let z : (task w f).handle ≡ false = grind (arith, nat_tests) in
-    grind (arith, same_is, read_put, length-set))
-    (λ w f e i g r bb h. let z : (task w f).handle ≡ false = grind (arith, nat_tests) in
-    grind (arith, same_is, read_put, length-set)))
-    (λ there w f e i g r bb h. grind (arith, same_is, read_put, length-set))))
-
-stored-end_closed : (a : Bool) (w : World) (f : ℕ) → f < length w.tasks →
-    KeepsStored w (op.Move move.EndClosed f ∷ []) (ending a w f)
-stored-end_closed = by_bool _
-    (λ w f i g r bb h. grind (arith, same_is, read_put, length-set))
-    (λ w f i g r bb h. grind (arith, same_is, read_put, length-set))
-
--- there is one Runnable, so it isn't polled and wasn't ready
-stored-drop_runnable : (c there : Bool) (w : World) (f : ℕ) → f < length w.tasks →
-    KeepsStored w (op.Move move.DropRunnable f ∷ []) (dropping c there w f)
-stored-drop_runnable = λ c. by_bool _
-    (λ w f i g r bb h. grind (arith, same_is, read_put, length-set))
-    (λ w f i g r bb h. grind (arith, same_is, read_put, length-set))
-
--- by whether it is closed, and its entry in the table
-
-stored-take_up : (b there : Bool) (p : ℕ) (w : World) (f : ℕ) → (task w f).closed ≡ b → f < length w.tasks →
-    KeepsStored w (op.Move move.TakeUp f ∷ []) (taken_up b there p w f)
-stored-take_up = by_bool _
-    (by_bool _
-    (λ p w f e i g r bb h. grind (arith, same_is, read_put, length-set))
-    (λ p w f e i g r bb h. grind (arith, same_is, read_put, length-set)))
-    (λ there p w f e i g r bb h. grind (arith, same_is, read_put, length-set, readies-push, spent-push))
-
--- by whether it is over, over or scheduled, and running
-
-stored-wake_by_reference : (o b c : Bool) (p : ℕ) (w : World) (f : ℕ) → f < length w.tasks →
-    KeepsStored w (op.Move move.WakeByReference f ∷ []) (woken o b c p w f)
-stored-wake_by_reference = by_bool _
-    (by_bool _
-    (λ c p w f i g r bb h. grind (arith, same_is, read_put, length-set, readies-push, spent-push))
-    (by_bool _
-    (λ p w f i g r bb h. grind (arith, same_is, read_put, length-set, readies-push, spent-push))
-    (λ p w f i g r bb h. grind (arith, same_is, read_put, length-set, readies-push, spent-push))))
-    (by_bool _
-    (λ c p w f i g r bb h. grind (arith, same_is, read_put, length-set, readies-push, spent-push))
-    (by_bool _
-    (λ p w f i g r bb h. grind (arith, same_is, read_put, length-set, readies-push, spent-push))
-    (λ p w f i g r bb h. grind (arith, same_is, read_put, length-set, readies-push, spent-push))))
-
-stored-wake : (o b c : Bool) (p : ℕ) (w : World) (f : ℕ) → f < length w.tasks →
-    KeepsStored w (op.Move move.Wake f ∷ []) (woken_by o b c p w f)
-stored-wake = by_bool _
-    (by_bool _
-    (λ c p w f i g r bb h. grind (arith, same_is, read_put, length-set, readies-push, spent-push))
-    (by_bool _
-    (λ p w f i g r bb h. grind (arith, same_is, read_put, length-set, readies-push, spent-push))
-    (λ p w f i g r bb h. grind (arith, same_is, read_put, length-set, readies-push, spent-push))))
-    (by_bool _
-    (λ c p w f i g r bb h. grind (arith, same_is, read_put, length-set, readies-push, spent-push))
-    (by_bool _
-    (λ p w f i g r bb h. grind (arith, same_is, read_put, length-set, readies-push, spent-push))
-    (λ p w f i g r bb h. grind (arith, same_is, read_put, length-set, readies-push, spent-push))))
-
-stored-call_task : (o b c : Bool) (p e : ℕ) (k : ℕ) (w : World) (f : ℕ) → f < length w.tasks →
-    KeepsStored w (op.Waker (waker_op.CallAwaiter e (Task f) k) ∷ [])
-    (woken_by o b c p (log w (event.WakerCalled p (of.Handle e) k (Task f))) f)
-stored-call_task = by_bool _
-    (by_bool _
-    (λ c p e k w f i g r bb h. grind (arith, same_is, read_put, length-set, readies-push, spent-push))
-    (by_bool _
-    (λ p e k w f i g r bb h. grind (arith, same_is, read_put, length-set, readies-push, spent-push))
-    (λ p e k w f i g r bb h. grind (arith, same_is, read_put, length-set, readies-push, spent-push))))
-    (by_bool _
-    (λ c p e k w f i g r bb h. grind (arith, same_is, read_put, length-set, readies-push, spent-push))
-    (by_bool _
-    (λ p e k w f i g r bb h. grind (arith, same_is, read_put, length-set, readies-push, spent-push))
-    (λ p e k w f i g r bb h. grind (arith, same_is, read_put, length-set, readies-push, spent-push))))
-
--- by whether there is an awaiter
-
-stored-cancel_going : (a : Bool) (p : ℕ) (w : World) (f : ℕ) → f < length w.tasks →
-    KeepsStored w (op.Move move.Cancel f ∷ []) (cancel_going true a p w f)
-stored-cancel_going = by_bool _
-    (λ p w f i g r bb h. grind (arith, same_is, read_put, length-set, readies-push, spent-push))
-    (λ p w f i g r bb h. grind (arith, same_is, read_put, length-set, readies-push, spent-push))
-
-stored-cancel_idle : (a : Bool) (p : ℕ) (w : World) (f : ℕ) → f < length w.tasks →
-    KeepsStored w (op.Move move.Cancel f ∷ []) (cancel_idle true a p w f)
-stored-cancel_idle = by_bool _
-    (λ p w f i g r bb h. grind (arith, same_is, read_put, length-set, readies-push, spent-push))
-    (λ p w f i g r bb h. grind (arith, same_is, read_put, length-set, readies-push, spent-push))
-
-stored-cancel_over : (p : ℕ) (w : World) (f : ℕ) → f < length w.tasks →
-    KeepsStored w (op.Move move.Cancel f ∷ []) (cancel_over false p w f)
-stored-cancel_over p w f i g r bb h = grind (arith, same_is, read_put, length-set)
-
-stored-cancel : (b c : Bool) (p : ℕ) (w : World) (f : ℕ) → f < length w.tasks →
-    KeepsStored w (op.Move move.Cancel f ∷ [])
-    (carried (log_if (not b) w (event.Cancelled p f)) f (moves.cancel_by b c (task w f)))
-stored-cancel true c p w f i = stored-cancel_over p w f i
-stored-cancel false true p w f i = stored-cancel_going _ p w f i
-stored-cancel false false p w f i = stored-cancel_idle _ p w f i
-
--- who detaches has taken the handle
-
-stored-detach : (o x y : Bool) (p : ℕ) (w : World) (f : ℕ) → f < length w.tasks →
-    KeepsStored w (op.Move move.Detach f ∷ []) (detached o x y p w f)
-stored-detach = by_bool _
-    (by_bool _
-    (λ y p w f i g r bb h. grind (arith, same_is, read_put, length-set, readies-push, spent-push))
-    (by_bool _
-    (λ p w f i g r bb h. grind (arith, same_is, read_put, length-set, readies-push, spent-push))
-    (λ p w f i g r bb h. grind (arith, same_is, read_put, length-set, readies-push, spent-push))))
-    (by_bool _
-    (λ y p w f i g r bb h. grind (arith, same_is, read_put, length-set, readies-push, spent-push))
-    (by_bool _
-    (λ p w f i g r bb h. grind (arith, same_is, read_put, length-set, readies-push, spent-push))
-    (λ p w f i g r bb h. grind (arith, same_is, read_put, length-set, readies-push, spent-push))))
+use Rattle.executor_model.proofs.KeepingMoves.{stored-append, stored-take, stored-enter, stored-take_to_poll}
+use Rattle.executor_model.proofs.KeepingMoves.{stored-leave, stored-begin_drop, stored-begin_drop_output}
+use Rattle.executor_model.proofs.KeepingMoves.{stored-release, stored-settle_closed, stored-give_up}
+use Rattle.executor_model.proofs.KeepingMoves.{stored-end_ready, stored-end_pending, stored-end_closed}
+use Rattle.executor_model.proofs.KeepingMoves.{stored-drop_runnable, stored-take_up, stored-wake_by_reference}
+use Rattle.executor_model.proofs.KeepingMoves.{stored-wake, stored-call_task, stored-cancel, stored-detach}
 
 -- wakers and polls of a handle
 

@@ -5,6 +5,7 @@ pub mod Asides
 pub mod SleepersLists
 pub mod Marks
 pub mod Counting
+pub mod CountingHandles
 pub mod SleepersNext
 pub mod SleepersCounting
 pub mod SleepersCases
@@ -36,6 +37,7 @@ pub mod Stories
 pub mod Leaving
 pub mod SleepersLeaving
 pub mod RunsLeaving
+pub mod LeavingMoves
 pub mod LeavingActs
 pub mod Borrowing
 pub mod Telling
@@ -50,6 +52,7 @@ pub mod Requests
 pub mod Asking
 pub mod SleepersAsking
 pub mod RunsAsking
+pub mod AskingMoves
 pub mod AskingActs
 pub mod Waking
 pub mod AskingRuns
@@ -67,10 +70,12 @@ pub mod Refusing
 pub mod Keeping
 pub mod SleepersKeeping
 pub mod RunsKeeping
+pub mod KeepingMoves
 pub mod KeepingActs
 pub mod KeepingRuns
 pub mod OutputKept
 pub mod Awaited
+pub mod AwaitedMoves
 pub mod AwaitedActs
 pub mod SleepersAwaited
 pub mod RunsApart
@@ -86,6 +91,7 @@ pub mod Holding
 pub mod AwaitedHeld
 pub mod AwaitedTelling
 pub mod AwaitedCalls
+pub mod AwaitedSteps
 pub mod AwaitedRuns
 pub mod Using
 pub mod UsingWorlds

@@ -34,7 +34,8 @@ use Rattle.executor_model.specs.Steps.{begun, react, end_of, settled_by}
 use Rattle.executor_model.specs.Steps.{onto, gone_on, part_after}
 use Rattle.executor_model.specs.Steps.{with_part, after, step_by, step, stepped, run, idle, start}
 use Rattle.executor_model.proofs.Lists.{weigh_all-push}
-use Rattle.executor_model.proofs.Counting.{Keeps, sound-pending, sound-ready}
+use Rattle.executor_model.proofs.Counting.{Keeps}
+use Rattle.executor_model.proofs.CountingHandles.{sound-pending, sound-ready}
 use Rattle.executor_model.proofs.CountingActs.{sound-act}
 use Rattle.executor_model.proofs.Fitting.{Grown, Grows}
 use Rattle.executor_model.proofs.FittingActs.{grows-act}

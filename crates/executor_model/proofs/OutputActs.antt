@@ -33,7 +33,8 @@ use Rattle.executor_model.specs.Acts.{drop_next_by, followed, wake, wake_next_by
 use Rattle.executor_model.specs.Weights.{weigh}
 use Rattle.executor_model.proofs.Cases.{by_bool}
 use Rattle.executor_model.proofs.Lists.{same_is, read_put, weigh-append}
-use Rattle.executor_model.proofs.Counting.{readied, detached, gives}
+use Rattle.executor_model.proofs.Counting.{readied, detached}
+use Rattle.executor_model.proofs.CountingHandles.{gives}
 use Rattle.executor_model.proofs.Outputs.{output_of, outputs-push, outs_of, Given, KeepsOutput, Calm, Stays, Tame}
 use Rattle.executor_model.proofs.Outputs.{keeps-calm, calm-same, calm-and, calm-log, calm-put, push-stays, none-both}
 use Rattle.executor_model.proofs.Outputs.{keeps-carried, tame-wake, tame-more, tame-detach}

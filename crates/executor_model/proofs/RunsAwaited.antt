@@ -33,7 +33,7 @@ use Rattle.executor_model.proofs.Awaited.{Awaiting, Awaits, Footing, KeepsAwaits
 use Rattle.executor_model.proofs.Awaited.{again_of, calls_of, detaches_of, fresh_of, lending_of, looks_of, mine_of}
 use Rattle.executor_model.proofs.Awaited.{notices_of}
 use Rattle.executor_model.proofs.Awaited.{notifying_of, over_of, storing_of, strays_of, waits_of}
-use Rattle.executor_model.proofs.AwaitedActs.{awaits-wake_by_reference}
+use Rattle.executor_model.proofs.AwaitedMoves.{awaits-wake_by_reference}
 use Rattle.executor_model.proofs.Lists.{times-append, weigh-append}
 use Rattle.executor_model.proofs.RunsCounting.{Bare, bare, with_ops-append}
 use Rattle.executor_model.proofs.RunsMoves.{Moves, Same, times_in-set}

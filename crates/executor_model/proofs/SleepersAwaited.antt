@@ -20,7 +20,7 @@ use Rattle.executor_model.specs.ActsOfSleepers.{lie_down_by, get_up_by, leave_sl
 use Rattle.executor_model.specs.Weights.{same}
 use Rattle.executor_model.specs.Good.{IsKnownWaker}
 use Rattle.executor_model.specs.Sound.{with_ops, times}
-use Rattle.executor_model.proofs.AwaitedActs.{awaits-wake}
+use Rattle.executor_model.proofs.AwaitedMoves.{awaits-wake}
 use Rattle.executor_model.proofs.Cases.{by_bool}
 use Rattle.executor_model.proofs.Counting.{woken_by}
 use Rattle.executor_model.proofs.Lists.{read_put, same_is, times-drop}

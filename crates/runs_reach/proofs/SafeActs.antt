@@ -38,8 +38,8 @@ use Rattle.executor_model.specs.Sound.{times}
 use Rattle.executor_model.proofs.Cases.{by_bool, by_list, by_waker}
 use Rattle.executor_model.proofs.Marks.{IsUnmarked, unmarked}
 use Rattle.executor_model.proofs.Lists.{read_put, past_is, same_is, times-drop}
-use Rattle.executor_model.proofs.Counting.{stays_so, gives}
-use Rattle.executor_model.proofs.Counting.{waits_on, end_registered, end_notified, next_woken}
+use Rattle.executor_model.proofs.CountingHandles.{stays_so, gives}
+use Rattle.executor_model.proofs.CountingHandles.{waits_on, end_registered, end_notified, next_woken}
 use Rattle.runs_reach.proofs.Safe.{KeepsSafe}
 use Rattle.runs_reach.proofs.SafeRuns.{is_put, is_reschedule}
 use Rattle.runs_reach.proofs.SafeRuns.{safe-list, safe-run, safe-search_who, safe-steal}

@@ -1,0 +1,319 @@
+-- A step of a party, by what it keeps of each future and of who waits on its handle.
+use Rattle.std.proofs.Common.{◌≡◌, ◌≢◌, ◌⊎◌, ℕ, suc, ◌+◌, ◌<◌, ◌≤◌, List, [], ◌∷◌, ◌++◌}
+use Rattle.std.proofs.Common.{length, set, get_or, Bool, true, false, cond, eqb}
+use Rattle.std.proofs.Common.{refl, sym, ap, ◌∙◌, subst, ⊎_elim, arith}
+use Rattle.std.specs.Prelude.{reverse}
+use Rattle.executor_model.specs.declared.call.Reply.TheVariants as reply
+use Rattle.executor_model.specs.declared.op.Hold.TheVariants as hold
+use Rattle.executor_model.specs.declared.op.Op.{Op}
+use Rattle.executor_model.specs.declared.op.Op.TheVariants as op
+use Rattle.executor_model.specs.declared.op.HandleOp.TheVariants as handle_op
+use Rattle.executor_model.specs.World.{World, Done, done}
+use Rattle.executor_model.specs.Weights.{same, weigh, weigh_all}
+use Rattle.executor_model.specs.Sound.{Pend, pend, with_ops}
+use Rattle.executor_model.specs.Good.{Good}
+use Rattle.executor_model.specs.Rows.{handling_of}
+use Rattle.executor_model.specs.Steps.{Machine, stack, mine}
+use Rattle.executor_model.proofs.Lists.{same_cases, weigh-reverse, weigh_all-push}
+use Rattle.executor_model.proofs.Lift.{split, split-pend, push-pend, unsettled}
+use Rattle.executor_model.proofs.Telling.{same-cond, one-stray}
+use Rattle.executor_model.proofs.Calls.{calling_of, Passes, Answering, single}
+use Rattle.executor_model.proofs.Resting.{counts-answering}
+use Rattle.executor_model.proofs.Awaited.{heard, Awaiting, with_awaiting, awaiting}
+use Rattle.executor_model.proofs.Awaited.{Footing, Awaits, Mark, looks_of, fresh_of, storing_of}
+use Rattle.executor_model.proofs.Awaited.{again_of, waits_of, over_of, notices_of, notifying_of, mine_of}
+use Rattle.executor_model.proofs.Awaited.{detaches_of, lending_of, strays_of, calls_of}
+use Rattle.executor_model.proofs.AwaitedTies.{AllTied, tied-all}
+use Rattle.executor_model.proofs.AwaitedHeld.{asks_of, asks-weighs, asks-calling, open_of}
+use Rattle.executor_model.proofs.Holding.{nowhere, seen, seen-light}
+use Rattle.executor_model.proofs.Holding.{seen-passes, Spotted, Holds, held-step, held-asks}
+use Rattle.executor_model.proofs.AwaitedCalls.{begun_in}
+use Rattle.executor_model.proofs.AwaitedCalls.{marked, Stages}
+use Rattle.executor_model.proofs.AwaitedTelling.{over-dropped}
+
+pub record Waited (s : Machine) : Type 0 where
+  pub awaits : (g : ℕ) → Awaits s.world g (pend g s.parties) (awaiting g s.parties)
+      (marked s.world g (awaiting g s.parties))
+  pub held : (g : ℕ) → Holds (asks_of g) (open_of (heard g s.world.trace)) s.parties
+  pub tied : AllTied s
+
+abbrev pub nothing_pending : Pend
+nothing_pending = record {
+  waiting = 0;
+  polls = 0;
+  ending = 0;
+  ready = 0;
+  closing = 0;
+  settling = 0;
+  giving = 0;
+  drops = 0;
+  releases = 0;
+  copies = 0;
+  borrowing = 0;
+  ousting = 0;
+}
+
+abbrev pub nothing_awaited : Awaiting
+nothing_awaited = record {
+  handling = 0;
+  looks = 0;
+  fresh = 0;
+  storing = 0;
+  again = 0;
+  waits = 0;
+  over = 0;
+  notices = 0;
+  notifying = 0;
+  mine = 0;
+  detaches = 0;
+  lending = 0;
+  strays = λ k. 0;
+  calls = λ k. 0;
+}
+
+-- what each stack weighs
+
+stages-one : (g : ℕ) (o : Op) →
+    looks_of g o + (fresh_of g o + (storing_of g o + (again_of g o + (waits_of g o + over_of g o)))) ≤ handling_of g o
+stages-one g (op.Handle (handle_op.Look f a)) = omega arith
+stages-one g (op.Handle (handle_op.CopyAwaiter f a)) = omega arith
+stages-one g (op.Handle (handle_op.Register f a k)) = omega arith
+stages-one g (op.Handle (handle_op.EndRegister f a k)) = omega arith
+stages-one g (op.Handle (handle_op.LookAgain f)) = omega arith
+stages-one g (op.End reply.Pending (hold.Handle f)) = omega arith
+stages-one g (op.End reply.Ready (hold.Handle f)) = omega arith
+stages-one g (op.End reply.Cancelled (hold.Handle f)) = omega arith
+stages-one g _ = omega arith
+
+stages-stack : (g : ℕ) (os : List Op) →
+    weigh (looks_of g) os + (weigh (fresh_of g) os
+    + (weigh (storing_of g) os + (weigh (again_of g) os + (weigh (waits_of g) os + weigh (over_of g) os))))
+    ≤ weigh (handling_of g) os
+stages-stack g [] = omega arith
+stages-stack g (o ∷ os) = omega (arith, stages-one g o, stages-stack g os)
+
+stages-all : (g : ℕ) (ss : List (List Op)) →
+    weigh_all (looks_of g) ss
+    + (weigh_all (fresh_of g) ss
+    + (weigh_all (storing_of g) ss
+    + (weigh_all (again_of g) ss + (weigh_all (waits_of g) ss + weigh_all (over_of g) ss))))
+    ≤ weigh_all (handling_of g) ss
+stages-all g [] = omega arith
+stages-all g (s ∷ ss) = omega (arith, stages-stack g s, stages-all g ss)
+
+few-one : (g k : ℕ) (o : Op) → strays_of g k o ≤ fresh_of g o + storing_of g o
+few-one g k (op.Handle (handle_op.Register f a l)) =
+    omega (arith, one-stray (eqb g f) (eqb k l) (same g f) (same-cond g f))
+few-one g k (op.Handle (handle_op.EndRegister f a l)) =
+    omega (arith, one-stray (eqb g f) (eqb k l) (same g f) (same-cond g f))
+few-one g k _ = omega arith
+
+few-stack : (g k : ℕ) (os : List Op) → weigh (strays_of g k) os ≤ weigh (fresh_of g) os + weigh (storing_of g) os
+few-stack g k [] = omega arith
+few-stack g k (o ∷ os) = omega (arith, few-one g k o, few-stack g k os)
+
+few-all : (g k : ℕ) (ss : List (List Op)) →
+    weigh_all (strays_of g k) ss ≤ weigh_all (fresh_of g) ss + weigh_all (storing_of g) ss
+few-all g k [] = omega arith
+few-all g k (s ∷ ss) = omega (arith, few-stack g k s, few-all g k ss)
+
+footing : (s : Machine) → Good s → AllTied s → (g : ℕ) → Footing s.world g (pend g s.parties) (awaiting g s.parties)
+footing s good tied g = record {
+  one = (good.sound g).one;
+  live = (good.sound g).live;
+  ends = (good.sound g).ends;
+  drop = (good.sound g).drop;
+  carries = (good.sound g).carries;
+  rests = (good.sound g).rests;
+  lent = (good.sound g).lent;
+  done = λ d. (good.sound g).over (over-dropped g s.world.trace d (good.sound g).lawful);
+  stages = stages-all g s.parties;
+  few = λ k. few-all g k s.parties;
+  tied = tied-all g s.parties (tied g);
+}
+
+split-awaiting : (g : ℕ) (ss : List (List Op)) (p : ℕ) (old rest : List Op) → p < length ss →
+    get_or ss p [] ≡ rest ++ reverse old → awaiting g ss ≡ with_awaiting g old (awaiting g (set ss p rest))
+split-awaiting g ss p old rest l e = λ i. record {
+  handling = split (handling_of g) ss p old rest l e i;
+  looks = split (looks_of g) ss p old rest l e i;
+  fresh = split (fresh_of g) ss p old rest l e i;
+  storing = split (storing_of g) ss p old rest l e i;
+  again = split (again_of g) ss p old rest l e i;
+  waits = split (waits_of g) ss p old rest l e i;
+  over = split (over_of g) ss p old rest l e i;
+  notices = split (notices_of g) ss p old rest l e i;
+  notifying = split (notifying_of g) ss p old rest l e i;
+  mine = split (mine_of g) ss p old rest l e i;
+  detaches = split (detaches_of g) ss p old rest l e i;
+  lending = split (lending_of g) ss p old rest l e i;
+  strays = λ k. split (strays_of g k) ss p old rest l e i;
+  calls = λ k. split (calls_of g k) ss p old rest l e i;
+}
+
+push-awaiting : (g : ℕ) (ss : List (List Op)) (p : ℕ) (rest next : List Op) → p < length ss →
+    awaiting g (set ss p (rest ++ reverse next)) ≡ with_awaiting g next (awaiting g (set ss p rest))
+push-awaiting g ss p rest next l = λ i. record {
+  handling = weigh_all-push (handling_of g) ss p rest next l i;
+  looks = weigh_all-push (looks_of g) ss p rest next l i;
+  fresh = weigh_all-push (fresh_of g) ss p rest next l i;
+  storing = weigh_all-push (storing_of g) ss p rest next l i;
+  again = weigh_all-push (again_of g) ss p rest next l i;
+  waits = weigh_all-push (waits_of g) ss p rest next l i;
+  over = weigh_all-push (over_of g) ss p rest next l i;
+  notices = weigh_all-push (notices_of g) ss p rest next l i;
+  notifying = weigh_all-push (notifying_of g) ss p rest next l i;
+  mine = weigh_all-push (mine_of g) ss p rest next l i;
+  detaches = weigh_all-push (detaches_of g) ss p rest next l i;
+  lending = weigh_all-push (lending_of g) ss p rest next l i;
+  strays = λ k. weigh_all-push (strays_of g k) ss p rest next l i;
+  calls = λ k. weigh_all-push (calls_of g k) ss p rest next l i;
+}
+
+-- the mark is what it is
+renew : (w : World) (g : ℕ) (p : Pend) (x : Awaiting) (m : Mark) → Awaits w g p x m → Awaits w g p x (marked w g x)
+renew w g p x m h =
+    record {
+      asking = refl;
+      party = refl;
+      inner = refl;
+      asks = refl;
+      single = h.single;
+      unlent = h.unlent;
+      unborn = h.unborn;
+      answered = h.answered;
+      comes = h.comes;
+      registers = h.registers;
+      registered = h.registered;
+      notifies = h.notifies;
+      notified = h.notified;
+      either = h.either;
+      covered = h.covered;
+      unsettled = h.unsettled;
+      over = h.over;
+      parts = h.parts;
+      parted = h.parted;
+    }
+
+-- a step of party p, by what it keeps of g and of its mark
+
+module _ (s : Machine) (p : ℕ) (old rest : List Op) (d : Done) (l : p < length s.parties)
+    (e : stack s p ≡ rest ++ reverse old) (h : Waited s) (g : ℕ) where
+  abbrev pub others : Pend
+  others = pend g (set s.parties p rest)
+
+  abbrev pub beside : Awaiting
+  beside = awaiting g (set s.parties p rest)
+
+  abbrev pub before : Mark
+  before = marked s.world g (with_awaiting g old beside)
+
+  pub footing-here : Good s → Footing s.world g (with_ops g old others) (with_awaiting g old beside)
+  footing-here good = subst (λ (x : Pend × Awaiting). Footing s.world g x.0 x.1)
+      (λ i. (split-pend g s.parties p old rest l e i, split-awaiting g s.parties p old rest l e i))
+      (footing s good h.tied g)
+
+  pub awaits-here : Awaits s.world g (with_ops g old others) (with_awaiting g old beside) before
+  awaits-here = subst (λ (x : Pend × Awaiting). Awaits s.world g x.0 x.1 (marked s.world g x.1))
+      (λ i. (split-pend g s.parties p old rest l e i, split-awaiting g s.parties p old rest l e i)) (h.awaits g)
+
+  pub stages-here : Stages (with_awaiting g old beside)
+  stages-here = subst Stages (split-awaiting g s.parties p old rest l e) (stages-all g s.parties)
+
+  pub awaits-pushed : (m : Mark) → Awaits d.world g (with_ops g d.next others) (with_awaiting g d.next beside) m →
+      Awaits d.world g (pend g (set s.parties p (rest ++ reverse d.next)))
+      (awaiting g (set s.parties p (rest ++ reverse d.next)))
+      (marked d.world g (awaiting g (set s.parties p (rest ++ reverse d.next))))
+  awaits-pushed m k = subst (λ (x : Pend × Awaiting). Awaits d.world g x.0 x.1 (marked d.world g x.1))
+      (sym
+      (let q : (
+        pend g (set s.parties p (rest ++ reverse d.next)),
+        awaiting g (set s.parties p (rest ++ reverse d.next)),
+      )
+      ≡ (with_ops g d.next others, with_awaiting g d.next beside) =
+      λ i. (push-pend g s.parties p rest d.next l i, push-awaiting g s.parties p rest d.next l i) in q))
+      (renew d.world g (with_ops g d.next others) (with_awaiting g d.next beside) m k)
+
+  -- the mark stays
+  pub held-same : (o : Op) → old ≡ o ∷ [] → Passes o d.next → (m : Mark) → m ≡ before →
+      Awaits d.world g (with_ops g d.next others) (with_awaiting g d.next beside) m →
+      Holds (asks_of g) (open_of (heard g d.world.trace)) (set s.parties p (rest ++ reverse d.next))
+  held-same o q c m u k =
+      let sums : weigh (asks_of g) d.next ≡ weigh (asks_of g) old =
+      omega (arith, k.asks, ap (λ (x : Mark). x.asks) u, asks-weighs g d.next, asks-weighs g old) in
+      let own : weigh (asks_of g) d.next ≡ asks_of g o =
+      sums ∙ (ap (weigh (asks_of g)) q ∙ (let z : asks_of g o + 0 ≡ asks_of g o = omega arith in z)) in
+      let inner : (heard g d.world.trace).inner ≡ (heard g s.world.trace).inner =
+      k.inner ∙ ap (λ (x : Mark). x.inner) u in
+      held-step (asks_of g) (asks-calling g) (open_of (heard g s.world.trace)) (open_of (heard g d.world.trace))
+      s.parties p old rest d.next l e
+      (λ b. sym (k.asking ∙ ap (λ (x : Mark). x.asking) u) ∙ b)
+      (k.party ∙ ap (λ (x : Mark). x.party) u)
+      (λ b n. inner)
+      (λ b n t. subst (λ (x : ℕ). Spotted x (seen (asks_of g) (seen (asks_of g) nowhere rest) (reverse d.next)))
+      (sym inner) (subst (Spotted (heard g s.world.trace).inner)
+      (ap (λ (os : List Op). seen (asks_of g) (seen (asks_of g) nowhere rest) (reverse os)) q
+      ∙ seen-passes (asks_of g) (asks-calling g) (seen (asks_of g) nowhere rest) o d.next c own) t))
+      (h.held g)
+
+  -- a poll begins
+  pub held-polled : (o : Op) → old ≡ o ∷ [] → calling_of o ≡ 1 → Passes o d.next → (m : Mark) → m.party ≡ p → m.inner ≡ 0 →
+      m.asks ≡ suc before.asks → Awaits d.world g (with_ops g d.next others) (with_awaiting g d.next beside) m →
+      Holds (asks_of g) (open_of (heard g d.world.trace)) (set s.parties p (rest ++ reverse d.next))
+  held-polled o q one c m a i n k =
+      held-asks (asks_of g) (asks-calling g) (open_of (heard g s.world.trace)) (open_of (heard g d.world.trace))
+      s.parties p old rest d.next l e (k.party ∙ a) (k.inner ∙ i) (c.one one)
+      (omega (arith, k.asks, n, asks-weighs g d.next))
+
+  -- a call of p begins
+  pub held-begun : old ≡ [] → Answering d.next →
+      Awaits d.world g (with_ops g d.next others) (with_awaiting g d.next beside) (begun_in p g before) →
+      Holds (asks_of g) (open_of (heard g d.world.trace)) (set s.parties p (rest ++ reverse d.next))
+  held-begun q a k =
+      let sums : weigh (asks_of g) (reverse d.next) ≡ 0 =
+      omega (
+        arith,
+        k.asks,
+        ap (weigh (asks_of g)) q,
+        asks-weighs g d.next,
+        asks-weighs g old,
+        weigh-reverse (asks_of g) d.next,
+      ) in
+      let one : weigh calling_of (reverse d.next) ≡ 1 =
+      omega (arith, counts-answering d.next a, weigh-reverse calling_of d.next) in
+      held-step (asks_of g) (asks-calling g) (open_of (heard g s.world.trace)) (open_of (heard g d.world.trace))
+      s.parties p old rest d.next l e
+      (λ b. sym k.asking ∙ b)
+      k.party
+      (λ b n. k.inner ∙ apart-inner (heard g s.world.trace).asking n)
+      (λ b n t.
+      let here : (heard g d.world.trace).inner ≡ (heard g s.world.trace).inner + 1 =
+      k.inner ∙ own-inner (heard g s.world.trace).asking (sym k.asking ∙ b) n in
+      let before_it : seen (asks_of g) (seen (asks_of g) nowhere rest) (reverse old) ≡ seen (asks_of g) nowhere rest =
+      ap (λ (os : List Op). seen (asks_of g) (seen (asks_of g) nowhere rest) (reverse os)) q in
+      let was : Spotted (heard g s.world.trace).inner (seen (asks_of g) nowhere rest) =
+      subst (Spotted (heard g s.world.trace).inner) before_it t in
+      subst (Spotted (heard g d.world.trace).inner)
+      (sym (seen-light (asks_of g) (seen (asks_of g) nowhere rest) (reverse d.next) sums))
+      (was.0, omega (arith, was.1, here, one)))
+      (h.held g)
+    where
+      apart-inner : (b : Bool) → (heard g s.world.trace).party ≢ p →
+          (heard g s.world.trace).inner + cond b (same (heard g s.world.trace).party p) 0
+          ≡ (heard g s.world.trace).inner
+      apart-inner false n = omega arith
+      apart-inner true n = ⊎_elim
+          (λ (x : (same (heard g s.world.trace).party p ≡ 1) × (eqb (heard g s.world.trace).party p ≡ true)
+          × ((heard g s.world.trace).party ≡ p)). absurd (n x.2))
+          (λ (x : (same (heard g s.world.trace).party p ≡ 0) × (eqb (heard g s.world.trace).party p ≡ false)
+          × ((heard g s.world.trace).party ≢ p)). omega (arith, x.0)) (same_cases (heard g s.world.trace).party p)
+
+      own-inner : (b : Bool) → b ≡ true → (heard g s.world.trace).party ≡ p →
+          (heard g s.world.trace).inner + cond b (same (heard g s.world.trace).party p) 0
+          ≡ (heard g s.world.trace).inner + 1
+      own-inner false x n = absurd (cc)
+      own-inner true x n = ⊎_elim
+          (λ (x : (same (heard g s.world.trace).party p ≡ 1) × (eqb (heard g s.world.trace).party p ≡ true)
+          × ((heard g s.world.trace).party ≡ p)). omega (arith, x.0))
+          (λ (x : (same (heard g s.world.trace).party p ≡ 0) × (eqb (heard g s.world.trace).party p ≡ false)
+          × ((heard g s.world.trace).party ≢ p)). absurd (x.2 n)) (same_cases (heard g s.world.trace).party p)

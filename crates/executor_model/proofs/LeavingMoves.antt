@@ -1,0 +1,283 @@
+-- The queue, the table and the moves of a task keep what holds of each future and its place in the table.
+use Rattle.std.proofs.Common.{◌≡◌, ◌⊎◌, ℕ, ◌+◌, ◌<◌, List, [], ◌∷◌, length, Bool, true, false, ◌||◌}
+use Rattle.std.proofs.Common.{◌&&◌, not, eqb, drop, refl, ◌≤◌, arith}
+use Rattle.std.proofs.lemmas.Bool.Decides.{nat_tests}
+use Rattle.std.proofs.lemmas.List.{length-set, length-append}
+use Rattle.task_moves.specs.Moves as moves
+use Rattle.executor_model.specs.declared.event.Event.TheVariants as event
+use Rattle.executor_model.specs.declared.op.Waker.{Waker}
+use Rattle.executor_model.specs.declared.op.Waker.TheVariants.{Task}
+use Rattle.executor_model.specs.declared.op.Polled.TheVariants as of
+use Rattle.executor_model.specs.declared.op.Op.TheVariants as op
+use Rattle.task_moves.specs.declared.moves.owed.Move.TheVariants as move
+use Rattle.executor_model.specs.declared.op.QueueOp.TheVariants as queue_op
+use Rattle.executor_model.specs.declared.op.TableOp.TheVariants as table_op
+use Rattle.executor_model.specs.declared.op.UserOp.TheVariants as user_op
+use Rattle.executor_model.specs.declared.op.WakerOp.TheVariants as waker_op
+use Rattle.executor_model.specs.World.{World, log, log_if, task, among}
+use Rattle.executor_model.specs.Carried.{carried}
+use Rattle.executor_model.specs.Acts.{append_by, take_by, enter_by, take_to_poll, put_back, take_to_drop}
+use Rattle.executor_model.specs.Acts.{leave_by}
+use Rattle.executor_model.specs.Acts.{begin_drop, begin_drop_output}
+use Rattle.executor_model.specs.Weights.{same}
+use Rattle.executor_model.specs.Sound.{times}
+use Rattle.executor_model.proofs.Cases.{by_bool, by_list}
+use Rattle.executor_model.proofs.Marks.{IsUnmarked, unmarked, IsGoing, going, IsIdle, idle, last-one, IsUnheld, unheld}
+use Rattle.executor_model.proofs.Lists.{read_put, read_push, fresh_is, same_is}
+use Rattle.executor_model.proofs.Lists.{times-append, times-drop, without_one}
+use Rattle.executor_model.proofs.Counting.{settling, readied, pended, ending, dropping, taken_up, woken, woken_by}
+use Rattle.executor_model.proofs.Counting.{cancel_going, cancel_idle, cancel_over, detached}
+use Rattle.executor_model.proofs.Stories.{story, story-push, times-except, length-except, among_is}
+use Rattle.executor_model.proofs.Leaving.{KeepsLeaves}
+
+pub leaves-append : (b : Bool) (w : World) (f : ℕ) → (b ≡ false → w.queue.closed ≡ true) →
+    KeepsLeaves w (op.Queue (queue_op.Append f) ∷ []) (append_by b w f)
+leaves-append = by_bool _
+    (λ w f c g r yy bb h. grind (arith, same_is, times-append))
+    (λ w f c g r yy bb h. let z : w.queue.closed ≡ true = c refl in grind (arith, same_is))
+
+pub leaves-take : (q : List ℕ) (w : World) → w.queue.items ≡ q → KeepsLeaves w (op.Queue queue_op.Take ∷ []) (take_by w q)
+leaves-take = by_list _
+    (λ w e g r yy bb h. grind arith)
+    (λ f rest w e g r yy bb h. let z : same g f + times g (drop 1 w.queue.items) ≡ times g w.queue.items =
+    times-drop g f rest w.queue.items e in grind (arith, same_is))
+
+pub leaves-enter : (b c : Bool) (p : ℕ) (w : World) →
+    (b ≡ false → w.gone ≡ false → (g : ℕ) → length (story g w.trace).standing < w.limit) →
+    KeepsLeaves w (op.Table table_op.Enter ∷ []) (enter_by b c p w)
+leaves-enter = by_bool _
+    (λ c p w l g r yy bb h. grind arith)
+    (by_bool _
+    (λ p w l g r yy bb h. grind arith)
+    (λ p w l g r yy bb h. let n : w.gone ≡ false = grind arith in
+    let z : length (story g w.trace).standing < w.limit = l refl n g in
+    grind (arith, same_is, fresh_is, read_push, times-append, length-append, story-push)))
+
+pub leaves-take_to_poll : (w : World) (f : ℕ) → KeepsLeaves w (op.Table (table_op.TakeToPoll f) ∷ []) (take_to_poll w f)
+leaves-take_to_poll w f g r yy bb h = grind (arith, same_is)
+
+pub leaves-put_back : (w : World) (f : ℕ) → KeepsLeaves w (op.Table (table_op.PutBack f) ∷ []) (put_back w f)
+leaves-put_back w f g r yy bb h = grind (arith, same_is)
+
+pub leaves-take_to_drop : (w : World) (f : ℕ) → KeepsLeaves w (op.Table (table_op.TakeToDrop f) ∷ []) (take_to_drop w f)
+leaves-take_to_drop w f g r yy bb h = grind (arith, same_is)
+
+pub leaves-leave : (b : Bool) (w : World) (f : ℕ) → among f w.table ≡ b →
+    KeepsLeaves w (op.Table (table_op.LeaveTable f) ∷ []) (leave_by b w f)
+leaves-leave = by_bool _
+    (λ w f e g r yy bb h. grind (arith, same_is, without_one))
+    (λ w f e g r yy bb h. let z : ((among f w.table ≡ true) × (1 ≤ times f w.table))
+    ⊎ ((among f w.table ≡ false) × (times f w.table ≡ 0)) = among_is f w.table in grind (arith, same_is))
+
+pub leaves-begin_drop : (p : ℕ) (w : World) (f : ℕ) → KeepsLeaves w (op.User (user_op.BeginDrop f) ∷ []) (begin_drop p w f)
+leaves-begin_drop p w f g r yy bb h = let z : _ = length-except f (story g w.trace).standing in
+    grind (arith, same_is, times-except, story-push)
+
+pub leaves-begin_drop_output : (p : ℕ) (w : World) (f : ℕ) →
+    KeepsLeaves w (op.User (user_op.BeginDropOutput f) ∷ []) (begin_drop_output p w f)
+leaves-begin_drop_output p w f g r yy bb h = grind (arith, story-push)
+
+-- the moves of a task, by what they find
+
+pub leaves-release : (b c : Bool) (w : World) (f : ℕ) → moves.is_last (task w f) ≡ b → moves.is_over (task w f) ≡ c →
+    f < length w.tasks → KeepsLeaves w (op.Move move.Release f ∷ []) (carried w f (moves.release_by b c (task w f)))
+leaves-release = by_bool _
+    (by_bool _
+    (λ w f e q i g r yy bb h. let z : (task w f).references ≡ 1 = last-one (task w f) e in
+    grind (arith, same_is, read_put, length-set))
+    (λ w f e q i g r yy bb h. let z : (task w f).references ≡ 1 = last-one (task w f) e in
+    let c : (task w f).completed ≡ false = grind (arith, nat_tests) in grind (arith, same_is, read_put, length-set)))
+    (λ c w f e q i g r yy bb h. grind (arith, same_is, read_put, length-set))
+
+pub leaves-settle_closed : (a : Bool) (w : World) (f : ℕ) → f < length w.tasks →
+    KeepsLeaves w (op.Move move.SettleClosed f ∷ []) (settling a w f)
+leaves-settle_closed = by_bool _
+    (λ w f i g r yy bb h. grind (arith, same_is, read_put, length-set))
+    (λ w f i g r yy bb h. grind (arith, same_is, read_put, length-set))
+
+pub leaves-give_up : (b : Bool) (w : World) (f : ℕ) → moves.is_last (task w f) ≡ b → f < length w.tasks →
+    KeepsLeaves w (op.Move move.GiveUp f ∷ []) (carried w f (moves.give_up_by b (task w f)))
+leaves-give_up = by_bool _
+    (λ w f e i g r yy bb h. let z : (task w f).references ≡ 1 = last-one (task w f) e in
+    grind (arith, same_is, read_put, length-set))
+    (λ w f e i g r yy bb h. grind (arith, same_is, read_put, length-set))
+
+-- by whether the output is unwanted, and whether there is an awaiter
+
+pub leaves-end_ready : (u a : Bool) (w : World) (f : ℕ) → ((task w f).closed || not (task w f).handle) ≡ u →
+    f < length w.tasks → KeepsLeaves w (op.Move move.EndReady f ∷ []) (readied u a w f)
+leaves-end_ready = by_bool _
+    (by_bool _
+    (λ w f e i g r yy bb h. grind (arith, same_is, read_put, length-set))
+    (λ w f e i g r yy bb h. grind (arith, same_is, read_put, length-set)))
+    (by_bool _
+    (λ w f e i g r yy bb h. grind (arith, same_is, read_put, length-set))
+    (λ w f e i g r yy bb h. grind (arith, same_is, read_put, length-set)))
+
+-- by whether it is closed, scheduled, its reference the last, and its entry in the table
+
+pub leaves-end_pending : (x s l there : Bool) (w : World) (f : ℕ) → (task w f).closed ≡ x → (task w f).scheduled ≡ s →
+    moves.is_last (task w f) ≡ l → among f w.table ≡ there → f < length w.tasks →
+    KeepsLeaves w (op.Move move.EndPending f ∷ []) (pended x s l there w f)
+leaves-end_pending = by_bool _
+    (λ s l. by_bool _
+    (λ w f e q k m i g r yy bb h. let a : ((among f w.table ≡ true) × (1 ≤ times f w.table))
+    ⊎ ((among f w.table ≡ false) × (times f w.table ≡ 0)) = among_is f w.table in
+    grind (arith, same_is, read_put, length-set))
+    (λ w f e q k m i g r yy bb h. let a : ((among f w.table ≡ true) × (1 ≤ times f w.table))
+    ⊎ ((among f w.table ≡ false) × (times f w.table ≡ 0)) = among_is f w.table in
+    grind (arith, same_is, read_put, length-set)))
+    (by_bool _
+    (λ l there w f e q k m i g r yy bb h. let a : ((among f w.table ≡ true) × (1 ≤ times f w.table))
+    ⊎ ((among f w.table ≡ false) × (times f w.table ≡ 0)) = among_is f w.table in
+    grind (arith, same_is, read_put, length-set))
+    (by_bool _
+    (by_bool _
+    (λ w f e q k m i g r yy bb h. let a : ((among f w.table ≡ true) × (1 ≤ times f w.table))
+    ⊎ ((among f w.table ≡ false) × (times f w.table ≡ 0)) = among_is f w.table in
+    let z : (task w f).references ≡ 1 = last-one (task w f) k in grind (arith, same_is, read_put, length-set))
+    (λ w f e q k m i g r yy bb h. let a : ((among f w.table ≡ true) × (1 ≤ times f w.table))
+    ⊎ ((among f w.table ≡ false) × (times f w.table ≡ 0)) = among_is f w.table in
+    let z : (task w f).references ≡ 1 = last-one (task w f) k in grind (arith, same_is, read_put, length-set)))
+    (λ there w f e q k m i g r yy bb h. let a : ((among f w.table ≡ true) × (1 ≤ times f w.table))
+    ⊎ ((among f w.table ≡ false) × (times f w.table ≡ 0)) = among_is f w.table in
+    grind (arith, same_is, read_put, length-set))))
+
+pub leaves-end_closed : (a : Bool) (w : World) (f : ℕ) → f < length w.tasks →
+    KeepsLeaves w (op.Move move.EndClosed f ∷ []) (ending a w f)
+leaves-end_closed = by_bool _
+    (λ w f i g r yy bb h. grind (arith, same_is, read_put, length-set))
+    (λ w f i g r yy bb h. grind (arith, same_is, read_put, length-set))
+
+-- by whether its entry is in the table
+
+pub leaves-drop_runnable : (c there : Bool) (w : World) (f : ℕ) → ((task w f).closed || not (task w f).completed) ≡ c →
+    among f w.table ≡ there → f < length w.tasks →
+    KeepsLeaves w (op.Move move.DropRunnable f ∷ []) (dropping c there w f)
+leaves-drop_runnable = by_bool _
+    (by_bool _
+    (λ w f e m i g r yy bb h. let a : ((among f w.table ≡ true) × (1 ≤ times f w.table))
+    ⊎ ((among f w.table ≡ false) × (times f w.table ≡ 0)) = among_is f w.table in
+    grind (arith, nat_tests, same_is, read_put, length-set))
+    (λ w f e m i g r yy bb h. let a : ((among f w.table ≡ true) × (1 ≤ times f w.table))
+    ⊎ ((among f w.table ≡ false) × (times f w.table ≡ 0)) = among_is f w.table in
+    grind (arith, nat_tests, same_is, read_put, length-set)))
+    (by_bool _
+    (λ w f e m i g r yy bb h. let a : ((among f w.table ≡ true) × (1 ≤ times f w.table))
+    ⊎ ((among f w.table ≡ false) × (times f w.table ≡ 0)) = among_is f w.table in
+    grind (arith, nat_tests, same_is, read_put, length-set))
+    (λ w f e m i g r yy bb h. let a : ((among f w.table ≡ true) × (1 ≤ times f w.table))
+    ⊎ ((among f w.table ≡ false) × (times f w.table ≡ 0)) = among_is f w.table in
+    grind (arith, nat_tests, same_is, read_put, length-set)))
+
+-- by whether it is closed, and its entry in the table
+
+pub leaves-take_up : (b there : Bool) (p : ℕ) (w : World) (f : ℕ) → (task w f).closed ≡ b →
+    among f (log_if (not b) w (event.PollBegun p f)).table ≡ there → f < length w.tasks →
+    KeepsLeaves w (op.Move move.TakeUp f ∷ []) (taken_up b there p w f)
+leaves-take_up = by_bool _
+    (by_bool _
+    (λ p w f e m i g r yy bb h. let a : ((among f w.table ≡ true) × (1 ≤ times f w.table))
+    ⊎ ((among f w.table ≡ false) × (times f w.table ≡ 0)) = among_is f w.table in
+    grind (arith, same_is, read_put, length-set))
+    (λ p w f e m i g r yy bb h. let a : ((among f w.table ≡ true) × (1 ≤ times f w.table))
+    ⊎ ((among f w.table ≡ false) × (times f w.table ≡ 0)) = among_is f w.table in
+    grind (arith, same_is, read_put, length-set)))
+    (λ there p w f e m i g r yy bb h. let a : ((among f w.table ≡ true) × (1 ≤ times f w.table))
+    ⊎ ((among f w.table ≡ false) × (times f w.table ≡ 0)) = among_is f w.table in
+    grind (arith, same_is, read_put, length-set, story-push))
+
+-- by whether it is over, over or scheduled, and running
+
+pub leaves-wake_by_reference : (o b c : Bool) (p : ℕ) (w : World) (f : ℕ) →
+    (moves.is_over (task w f) || (task w f).scheduled) ≡ b → (task w f).running ≡ c → f < length w.tasks →
+    KeepsLeaves w (op.Move move.WakeByReference f ∷ []) (woken o b c p w f)
+leaves-wake_by_reference = by_bool _
+    (by_bool _
+    (λ c p w f e q i g r yy bb h. grind (arith, same_is, read_put, length-set, story-push))
+    (by_bool _
+    (λ p w f e q i g r yy bb h. grind (arith, same_is, read_put, length-set, story-push))
+    (λ p w f e q i g r yy bb h. let k : IsUnmarked (task w f) = unmarked (task w f) e in
+    grind (arith, same_is, read_put, length-set, story-push))))
+    (by_bool _
+    (λ c p w f e q i g r yy bb h. grind (arith, same_is, read_put, length-set, story-push))
+    (by_bool _
+    (λ p w f e q i g r yy bb h. grind (arith, same_is, read_put, length-set, story-push))
+    (λ p w f e q i g r yy bb h. let k : IsUnmarked (task w f) = unmarked (task w f) e in
+    grind (arith, same_is, read_put, length-set, story-push))))
+
+pub leaves-wake : (o b c : Bool) (p : ℕ) (w : World) (f : ℕ) → (moves.is_over (task w f) || (task w f).scheduled) ≡ b →
+    (task w f).running ≡ c → f < length w.tasks → KeepsLeaves w (op.Move move.Wake f ∷ []) (woken_by o b c p w f)
+leaves-wake = by_bool _
+    (by_bool _
+    (λ c p w f e q i g r yy bb h. grind (arith, same_is, read_put, length-set, story-push))
+    (by_bool _
+    (λ p w f e q i g r yy bb h. grind (arith, same_is, read_put, length-set, story-push))
+    (λ p w f e q i g r yy bb h. let k : IsUnmarked (task w f) = unmarked (task w f) e in
+    grind (arith, same_is, read_put, length-set, story-push))))
+    (by_bool _
+    (λ c p w f e q i g r yy bb h. grind (arith, same_is, read_put, length-set, story-push))
+    (by_bool _
+    (λ p w f e q i g r yy bb h. grind (arith, same_is, read_put, length-set, story-push))
+    (λ p w f e q i g r yy bb h. let k : IsUnmarked (task w f) = unmarked (task w f) e in
+    grind (arith, same_is, read_put, length-set, story-push))))
+
+pub leaves-call_task : (o b c : Bool) (p e : ℕ) (k : ℕ) (w : World) (f : ℕ) →
+    (moves.is_over (task w f) || (task w f).scheduled) ≡ b → (task w f).running ≡ c → f < length w.tasks →
+    KeepsLeaves w (op.Waker (waker_op.CallAwaiter e (Task f) k) ∷ [])
+    (woken_by o b c p (log w (event.WakerCalled p (of.Handle e) k (Task f))) f)
+leaves-call_task = by_bool _
+    (by_bool _
+    (λ c p e k w f d q i g r yy bb h. grind (arith, same_is, read_put, length-set, story-push))
+    (by_bool _
+    (λ p e k w f d q i g r yy bb h. grind (arith, same_is, read_put, length-set, story-push))
+    (λ p e k w f d q i g r yy bb h. let k : IsUnmarked (task w f) = unmarked (task w f) d in
+    grind (arith, same_is, read_put, length-set, story-push))))
+    (by_bool _
+    (λ c p e k w f d q i g r yy bb h. grind (arith, same_is, read_put, length-set, story-push))
+    (by_bool _
+    (λ p e k w f d q i g r yy bb h. grind (arith, same_is, read_put, length-set, story-push))
+    (λ p e k w f d q i g r yy bb h. let k : IsUnmarked (task w f) = unmarked (task w f) d in
+    grind (arith, same_is, read_put, length-set, story-push))))
+
+-- by whether an event is logged
+
+pub leaves-cancel_over : (o : Bool) (p : ℕ) (w : World) (f : ℕ) → f < length w.tasks →
+    KeepsLeaves w (op.Move move.Cancel f ∷ []) (cancel_over o p w f)
+leaves-cancel_over = by_bool _
+    (λ p w f i g r yy bb h. grind (arith, same_is, read_put, length-set, story-push))
+    (λ p w f i g r yy bb h. grind (arith, same_is, read_put, length-set, story-push))
+
+pub leaves-cancel_going : (a : Bool) (p : ℕ) (w : World) (f : ℕ) → moves.is_going (task w f) ≡ true → f < length w.tasks →
+    KeepsLeaves w (op.Move move.Cancel f ∷ []) (cancel_going true a p w f)
+leaves-cancel_going = by_bool _
+    (λ p w f e i g r yy bb h. let z : IsGoing (task w f) = going (task w f) e in
+    grind (arith, same_is, read_put, length-set, story-push))
+    (λ p w f e i g r yy bb h. let z : IsGoing (task w f) = going (task w f) e in
+    grind (arith, same_is, read_put, length-set, story-push))
+
+pub leaves-cancel_idle : (a : Bool) (p : ℕ) (w : World) (f : ℕ) → moves.is_over (task w f) ≡ false →
+    moves.is_going (task w f) ≡ false → f < length w.tasks →
+    KeepsLeaves w (op.Move move.Cancel f ∷ []) (cancel_idle true a p w f)
+leaves-cancel_idle = by_bool _
+    (λ p w f e q i g r yy bb h. let k : IsIdle (task w f) = idle (task w f) e q in
+    grind (arith, same_is, read_put, length-set, story-push))
+    (λ p w f e q i g r yy bb h. let k : IsIdle (task w f) = idle (task w f) e q in
+    grind (arith, same_is, read_put, length-set, story-push))
+
+pub leaves-detach : (o x y : Bool) (p : ℕ) (w : World) (f : ℕ) → ((task w f).completed && not (task w f).closed) ≡ x →
+    (eqb (task w f).references 0 && not (task w f).closed) ≡ y → f < length w.tasks →
+    KeepsLeaves w (op.Move move.Detach f ∷ []) (detached o x y p w f)
+leaves-detach = by_bool _
+    (by_bool _
+    (λ y p w f e q i g r yy bb h. grind (arith, nat_tests, same_is, read_put, length-set, story-push))
+    (by_bool _
+    (λ p w f e q i g r yy bb h. let k : IsUnheld (task w f) = unheld (task w f) e q in
+    grind (arith, same_is, read_put, length-set, story-push))
+    (λ p w f e q i g r yy bb h. grind (arith, same_is, read_put, length-set, story-push))))
+    (by_bool _
+    (λ y p w f e q i g r yy bb h. grind (arith, nat_tests, same_is, read_put, length-set, story-push))
+    (by_bool _
+    (λ p w f e q i g r yy bb h. let k : IsUnheld (task w f) = unheld (task w f) e q in
+    grind (arith, same_is, read_put, length-set, story-push))
+    (λ p w f e q i g r yy bb h. grind (arith, same_is, read_put, length-set, story-push))))

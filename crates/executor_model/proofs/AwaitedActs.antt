@@ -1,6 +1,6 @@
 -- Each thing that is done keeps what holds of each future and of who waits on its handle.
 use Rattle.std.proofs.Common.{◌≡◌, ◌⊎◌, ℕ, ◌+◌, ◌<◌, List, [], ◌∷◌, ◌++◌, length, Bool, true, false, ◌||◌, ◌&&◌, not}
-use Rattle.std.proofs.Common.{eqb, drop, refl, sym, ap, ◌∙◌, subst, ◌≤◌, inl, inr, arith}
+use Rattle.std.proofs.Common.{eqb, drop, refl, sym, ap, subst, ◌≤◌, inl, inr, arith}
 use Rattle.std.proofs.lemmas.Bool.Decides.{nat_tests}
 use Rattle.std.proofs.lemmas.List.{length-set}
 use Rattle.std.specs.Prelude.{Option, Some, None, slice_set}
@@ -12,7 +12,6 @@ use Rattle.executor_model.specs.declared.op.Awaiter.{Awaiter}
 use Rattle.executor_model.specs.declared.op.Waker.{Waker}
 use Rattle.executor_model.specs.declared.op.Waker.TheVariants.{Task, Outside}
 use Rattle.executor_model.specs.declared.op.Hold.{Hold}
-use Rattle.executor_model.specs.declared.op.Op.{Op}
 use Rattle.executor_model.specs.declared.op.Op.TheVariants as op
 use Rattle.executor_model.specs.declared.op.ClosingOp.TheVariants as closing_op
 use Rattle.executor_model.specs.declared.op.HandleOp.TheVariants as handle_op
@@ -25,14 +24,13 @@ use Rattle.executor_model.specs.Carried.{carried}
 use Rattle.executor_model.specs.Acts.{copy_by, polled, look_by, look_again_by}
 use Rattle.executor_model.specs.Acts.{copy_awaiter_by, register_by, end_register_by, notify_by, call_awaiter}
 use Rattle.executor_model.specs.Acts.{closing_ops, drop_next_by, wake_next_by, close, drain_by}
-use Rattle.executor_model.specs.Weights.{same, weigh, past, waker_past}
-use Rattle.executor_model.specs.Good.{pasts, IsKnownWaker}
-use Rattle.executor_model.specs.Rows.{past_of}
+use Rattle.executor_model.specs.Weights.{same, past, waker_past}
+use Rattle.executor_model.specs.Good.{IsKnownWaker}
 use Rattle.executor_model.specs.Sound.{Pend, times}
 use Rattle.executor_model.proofs.Cases.{by_bool, by_list, by_waker}
 use Rattle.executor_model.proofs.Marks.{IsUnmarked, unmarked, IsMarked, marked}
 use Rattle.executor_model.proofs.Lists.{with_ops-closing, read_put}
-use Rattle.executor_model.proofs.Lists.{past_is, same_is, times-append, times-drop}
+use Rattle.executor_model.proofs.Lists.{same_is, times-append, times-drop}
 use Rattle.executor_model.proofs.Counting.{woken_by}
 use Rattle.executor_model.proofs.CountingHandles.{stays_so, gives}
 use Rattle.executor_model.proofs.CountingHandles.{waits_on, end_registered, end_notified, next_woken}
@@ -40,6 +38,7 @@ use Rattle.executor_model.proofs.Awaited.{heard, heard-push, Awaiting, with_awai
 use Rattle.executor_model.proofs.Awaited.{Awaits, KeepsBy, KeepsAwaits, asks_if, kept_at, kept_put}
 use Rattle.executor_model.proofs.AwaitedMoves.{awaits-call_task, awaits-cancel_over, awaits-cancel_going}
 use Rattle.executor_model.proofs.AwaitedMoves.{awaits-cancel_idle}
+use Rattle.executor_model.proofs.CountingHandles.{below}
 
 -- wakers and polls of a handle
 
@@ -255,16 +254,9 @@ pub awaits-end_register_by : (b : Bool) (w : World) (f : ℕ) (a : Waker) (k : �
 awaits-end_register_by true w f a k n i j = awaits-end_register true _ w f a k n refl i j
 awaits-end_register_by false w f a k n i j = awaits-end_register false _ w f a k n refl i j
 
-below : (n f : ℕ) → past n f ≡ 0 → f < n
-below n f e = grind (arith, past_is)
-
 pub both-true : (a b : Bool) → (a && b) ≡ true → a ≡ true
 both-true true b e = refl
 both-true false b e = absurd (cc)
-
--- the op's own future is one
-pub own : (n f : ℕ) (o : Op) → past n f ≤ past_of n o → weigh (past_of n) (o ∷ []) ≡ 0 → f < n
-own n f o le e = below n f (omega (arith, le, e))
 
 pub awaits-wake_first : (p : ℕ) (w : World) (q : List ℕ) → w.waking ≡ q →
     ((f : ℕ) (rest : List ℕ) → q ≡ f ∷ rest → f < length w.tasks) →
@@ -313,19 +305,9 @@ awaits-again = by_bool _
     (λ p w f x q e i. awaits-again_given _ p w f e i)
     (λ p w f x q e i. awaits-again_waits p w f (inr (x, e)) i))
 
-pub known_waker : (w : World) (a : Waker) (n : ℕ) → n + waker_past (length w.tasks) a ≡ 0 → IsKnownWaker w a
-known_waker w (Task k) n z = below _ k (omega (arith, z))
-known_waker w (Outside x) n z = tt
-
 pub awaits-call : (p : ℕ) (w : World) (f : ℕ) (a : Waker) (k : ℕ) →
     past (length w.tasks) f + waker_past (length w.tasks) a ≡ 0 →
     KeepsAwaits w (op.Waker (waker_op.CallAwaiter f a k) ∷ []) (call_awaiter p w f a k)
 awaits-call p w f (Task m) k z =
     awaits-call_task (moves.is_over (task w m)) _ _ p f k w m refl refl (below _ m (omega (arith, z)))
 awaits-call p w f (Outside x) k z = awaits-call_outside p w f x k
-
-pub first_known : (w : World) → pasts (length w.tasks) w.waking ≡ 0 → (f : ℕ) (rest : List ℕ) → w.waking ≡ f ∷ rest →
-    f < length w.tasks
-first_known w u f rest e =
-    let z : past (length w.tasks) f + pasts (length w.tasks) rest ≡ 0 = sym (ap (pasts (length w.tasks)) e) ∙ u in
-    below _ f (omega (arith, z))

@@ -34,11 +34,13 @@ use Rattle.executor_model.proofs.AwaitedMoves.{awaits-end_pending, awaits-end_re
 use Rattle.executor_model.proofs.AwaitedMoves.{awaits-leave, awaits-put_back, awaits-release, awaits-settle_closed}
 use Rattle.executor_model.proofs.AwaitedMoves.{awaits-take, awaits-take_to_drop, awaits-take_to_poll, awaits-take_up}
 use Rattle.executor_model.proofs.AwaitedMoves.{awaits-wake, awaits-wake_by_reference}
-use Rattle.executor_model.proofs.AwaitedActs.{both-true, awaits-again, awaits-call, awaits-cancel, awaits-close}
-use Rattle.executor_model.proofs.AwaitedActs.{awaits-copy, awaits-copy_awaiter, awaits-drain, awaits-drop_first}
-use Rattle.executor_model.proofs.AwaitedActs.{awaits-end_notify, awaits-end_register_by, awaits-look, awaits-notify}
-use Rattle.executor_model.proofs.AwaitedActs.{awaits-pending, awaits-ready, awaits-register, awaits-take_out}
-use Rattle.executor_model.proofs.AwaitedActs.{awaits-wake_first, first_known, is_answer, known_waker, own}
+use Rattle.executor_model.proofs.KnownWakers.{known_waker}
+use Rattle.executor_model.proofs.CountingHandles.{first_known, own}
+use Rattle.executor_model.proofs.AwaitedActs.{awaits-wake_first, is_answer, awaits-pending, awaits-ready}
+use Rattle.executor_model.proofs.AwaitedActs.{awaits-register, awaits-take_out, awaits-end_notify}
+use Rattle.executor_model.proofs.AwaitedActs.{awaits-end_register_by, awaits-look, awaits-notify, awaits-copy}
+use Rattle.executor_model.proofs.AwaitedActs.{awaits-copy_awaiter, awaits-drain, awaits-drop_first, both-true}
+use Rattle.executor_model.proofs.AwaitedActs.{awaits-again, awaits-call, awaits-cancel, awaits-close}
 use Rattle.executor_model.proofs.SleepersAwaited.{awaits-exchange, awaits-hand_out, awaits-call_sleeper}
 use Rattle.executor_model.proofs.RunsAwaited.{awaits-list, awaits-run, awaits-search_who, awaits-steal}
 use Rattle.executor_model.proofs.SleepersAwaited.{awaits-make_tick, awaits-copy_sleeper}

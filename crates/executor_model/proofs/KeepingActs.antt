@@ -1,7 +1,7 @@
 -- Each thing that is done keeps what holds of an output that is there,
 -- and of the awaiter of a future that is completed.
 use Rattle.std.proofs.Common.{◌≡◌, ◌⊎◌, ℕ, ◌+◌, ◌<◌, List, [], ◌∷◌, ◌++◌, length}
-use Rattle.std.proofs.Common.{Bool, true, false, ◌||◌, refl, sym, ap, subst, ◌∙◌, ◌≤◌, arith}
+use Rattle.std.proofs.Common.{Bool, true, false, ◌||◌, refl, subst, arith}
 use Rattle.std.proofs.lemmas.Bool.Decides.{nat_tests}
 use Rattle.std.proofs.lemmas.List.{length-set}
 use Rattle.std.specs.Prelude.{Option, Some, None, slice_set}
@@ -37,7 +37,7 @@ use Rattle.executor_model.specs.Weights.{weigh, past, waker_past}
 use Rattle.executor_model.specs.Good.{pasts, IsKnownWaker}
 use Rattle.executor_model.specs.Rows.{past_of}
 use Rattle.executor_model.proofs.Cases.{by_bool, by_list, by_waker}
-use Rattle.executor_model.proofs.Lists.{read_put, past_is, same_is}
+use Rattle.executor_model.proofs.Lists.{read_put, same_is}
 use Rattle.executor_model.proofs.CountingHandles.{stays_so, gives}
 use Rattle.executor_model.proofs.CountingHandles.{waits_on, end_registered, end_notified, next_woken}
 use Rattle.executor_model.proofs.Keeping.{readies-push, spent-push, Owing, with_owing, Stored, KeepsStored}
@@ -51,6 +51,8 @@ use Rattle.executor_model.proofs.KeepingMoves.{stored-release, stored-settle_clo
 use Rattle.executor_model.proofs.KeepingMoves.{stored-end_ready, stored-end_pending, stored-end_closed}
 use Rattle.executor_model.proofs.KeepingMoves.{stored-drop_runnable, stored-take_up, stored-wake_by_reference}
 use Rattle.executor_model.proofs.KeepingMoves.{stored-wake, stored-call_task, stored-cancel, stored-detach}
+use Rattle.executor_model.proofs.CountingHandles.{below, first_known, own}
+use Rattle.executor_model.proofs.KnownWakers.{known_waker}
 
 -- wakers and polls of a handle
 
@@ -262,29 +264,12 @@ pub stored-ready : (p : ℕ) (w : World) (f : ℕ) →
     (done (log w (event.Answered p f answer.Ready)) (op.User (user_op.BeginDrop f) ∷ op.Move move.EndReady f ∷ []))
 stored-ready p w f g r bb h = grind (arith, same_is, readies-push, spent-push)
 
-below : (n f : ℕ) → past n f ≡ 0 → f < n
-below n f e = grind (arith, past_is)
-
--- the op's own future is one
-own : (n f : ℕ) (o : Op) → past n f ≤ past_of n o → weigh (past_of n) (o ∷ []) ≡ 0 → f < n
-own n f o le e = below n f (omega (arith, le, e))
-
-known_waker : (w : World) (a : Waker) (n : ℕ) → n + waker_past (length w.tasks) a ≡ 0 → IsKnownWaker w a
-known_waker w (Task k) n z = below _ k (omega (arith, z))
-known_waker w (Outside x) n z = tt
-
 stored-call : (p : ℕ) (w : World) (f : ℕ) (a : Waker) (k : ℕ) →
     past (length w.tasks) f + waker_past (length w.tasks) a ≡ 0 →
     KeepsStored w (op.Waker (waker_op.CallAwaiter f a k) ∷ []) (call_awaiter p w f a k)
 stored-call p w f (Task m) k z =
     stored-call_task (moves.is_over (task w m)) _ _ p f k w m (below _ m (omega (arith, z)))
 stored-call p w f (Outside x) k z = stored-call_outside p w f x k
-
-first_known : (w : World) → pasts (length w.tasks) w.waking ≡ 0 → (f : ℕ) (rest : List ℕ) → w.waking ≡ f ∷ rest →
-    f < length w.tasks
-first_known w u f rest e =
-    let z : past (length w.tasks) f + pasts (length w.tasks) rest ≡ 0 = sym (ap (pasts (length w.tasks)) e) ∙ u in
-    below _ f (omega (arith, z))
 
 own_waker : (w : World) (o : RunOp) → weigh (past_of (length w.tasks)) (op.Run o ∷ []) ≡ 0 → (x : RunPoll) →
     o ≡ run_op.WakeOwn x → IsKnownWaker w x.waker

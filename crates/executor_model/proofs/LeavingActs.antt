@@ -1,6 +1,6 @@
 -- Each thing that is done keeps what holds of each future and its place in the table.
 use Rattle.std.proofs.Common.{◌≡◌, ℕ, ◌+◌, ◌<◌, List, [], ◌∷◌, ◌++◌, length, Bool, true, false, ◌||◌}
-use Rattle.std.proofs.Common.{◌&&◌, not, drop, refl, sym, ap, ◌∙◌, ◌≤◌, arith}
+use Rattle.std.proofs.Common.{◌&&◌, not, drop, refl, ap, arith}
 use Rattle.std.proofs.lemmas.List.{length-set}
 use Rattle.std.specs.Prelude.{nat_lt}
 use Rattle.std.specs.Prelude.{Option, Some, None, slice_set}
@@ -37,7 +37,7 @@ use Rattle.executor_model.specs.Rows.{past_of}
 use Rattle.executor_model.specs.Sound.{times}
 use Rattle.executor_model.proofs.Cases.{by_bool, by_list, by_waker}
 use Rattle.executor_model.proofs.Marks.{IsUnmarked, unmarked}
-use Rattle.executor_model.proofs.Lists.{read_put, past_is, same_is}
+use Rattle.executor_model.proofs.Lists.{read_put, same_is}
 use Rattle.executor_model.proofs.Lists.{times-drop}
 use Rattle.executor_model.proofs.CountingHandles.{stays_so, gives}
 use Rattle.executor_model.proofs.CountingHandles.{waits_on, end_registered, end_notified, next_woken}
@@ -55,6 +55,8 @@ use Rattle.executor_model.proofs.LeavingMoves.{leaves-end_pending, leaves-end_cl
 use Rattle.executor_model.proofs.LeavingMoves.{leaves-take_up, leaves-wake_by_reference, leaves-wake}
 use Rattle.executor_model.proofs.LeavingMoves.{leaves-call_task, leaves-cancel_over, leaves-cancel_going}
 use Rattle.executor_model.proofs.LeavingMoves.{leaves-cancel_idle, leaves-detach}
+use Rattle.executor_model.proofs.CountingHandles.{below, first_known, own}
+use Rattle.executor_model.proofs.KnownWakers.{known_waker}
 
 -- wakers and polls of a handle
 
@@ -254,13 +256,6 @@ leaves-end_register_by : (b : Bool) (w : World) (f : ℕ) (a : Waker) (k : ℕ) 
 leaves-end_register_by true w f a k i j = leaves-end_register true _ w f a k refl i j
 leaves-end_register_by false w f a k i j = leaves-end_register false _ w f a k refl i j
 
-below : (n f : ℕ) → past n f ≡ 0 → f < n
-below n f e = grind (arith, past_is)
-
--- the op's own future is one
-own : (n f : ℕ) (o : Op) → past n f ≤ past_of n o → weigh (past_of n) (o ∷ []) ≡ 0 → f < n
-own n f o le e = below n f (omega (arith, le, e))
-
 leaves-wake_first : (p : ℕ) (w : World) (q : List ℕ) → w.waking ≡ q →
     ((f : ℕ) (rest : List ℕ) → q ≡ f ∷ rest → f < length w.tasks) →
     KeepsLeaves w (op.Closing closing_op.WakeNext ∷ []) (wake_next_by p w q)
@@ -298,22 +293,12 @@ leaves-again true false c p w f e i = leaves-again_closed p w f i
 leaves-again false k false p w f e i = leaves-again_waits p w f i
 leaves-again false k true p w f e i = leaves-again_given _ p w f e i
 
-known_waker : (w : World) (a : Waker) (n : ℕ) → n + waker_past (length w.tasks) a ≡ 0 → IsKnownWaker w a
-known_waker w (Task k) n z = below _ k (omega (arith, z))
-known_waker w (Outside x) n z = tt
-
 leaves-call : (p : ℕ) (w : World) (f : ℕ) (a : Waker) (k : ℕ) →
     past (length w.tasks) f + waker_past (length w.tasks) a ≡ 0 →
     KeepsLeaves w (op.Waker (waker_op.CallAwaiter f a k) ∷ []) (call_awaiter p w f a k)
 leaves-call p w f (Task m) k z =
     leaves-call_task (moves.is_over (task w m)) _ _ p f k w m refl refl (below _ m (omega (arith, z)))
 leaves-call p w f (Outside x) k z = leaves-call_outside p w f x k
-
-first_known : (w : World) → pasts (length w.tasks) w.waking ≡ 0 → (f : ℕ) (rest : List ℕ) → w.waking ≡ f ∷ rest →
-    f < length w.tasks
-first_known w u f rest e =
-    let z : past (length w.tasks) f + pasts (length w.tasks) rest ≡ 0 = sym (ap (pasts (length w.tasks)) e) ∙ u in
-    below _ f (omega (arith, z))
 
 -- what it needs beside: room for a Runnable, or a closed queue; and room for a future
 abbrev pub NeedsPlaces : World → Op → Type 0

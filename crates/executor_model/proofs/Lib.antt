@@ -6,6 +6,7 @@ pub mod SleepersLists
 pub mod Marks
 pub mod Counting
 pub mod CountingHandles
+pub mod KnownWakers
 pub mod SleepersNext
 pub mod SleepersCounting
 pub mod SleepersCases
@@ -49,6 +50,8 @@ pub mod LeavingRuns
 pub mod Entering
 pub mod Spawning
 pub mod Requests
+pub mod Pushes
+pub mod Dueness
 pub mod Asking
 pub mod SleepersAsking
 pub mod RunsAsking
@@ -56,6 +59,7 @@ pub mod AskingMoves
 pub mod AskingActs
 pub mod Waking
 pub mod AskingRuns
+pub mod Reached
 pub mod Looking
 pub mod Calls
 pub mod RunsCalls
@@ -118,8 +122,10 @@ pub mod OwnRooms
 pub mod OwnEmpty
 pub mod OwnRuns
 pub mod RunsWatched
+pub mod Tests
 pub mod TraceMore
 pub mod TraceGrows
+pub mod TraceSteps
 pub mod RunsSeen
 pub mod RunsCalm
 pub mod RunsNaming

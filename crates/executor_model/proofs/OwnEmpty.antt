@@ -4,7 +4,6 @@ use Rattle.std.proofs.Common.{◌≡◌, ◌≢◌, ◌⊎◌, ◌∙◌, ℕ, z
 use Rattle.std.proofs.Common.{length, get_or, set, Bool, true, false, eqb, refl, ap, ⊎_elim}
 use Rattle.std.proofs.Common.{arith}
 use Rattle.std.specs.Prelude.{Option, Some, None, is_none, reverse}
-use Rattle.task_moves.specs.declared.moves.owed.Move.TheVariants as move
 use Rattle.executor_model.specs.declared.call.Reply.{Reply}
 use Rattle.executor_model.specs.declared.call.Reply.TheVariants as reply
 use Rattle.executor_model.specs.declared.event.Event.TheVariants as event
@@ -32,8 +31,6 @@ use Rattle.executor_model.specs.declared.op.Then.TheVariants as then
 use Rattle.executor_model.specs.declared.op.TickOp.{TickOp}
 use Rattle.executor_model.specs.declared.op.TickOp.TheVariants as tick_op
 use Rattle.executor_model.specs.declared.op.UserOp.TheVariants as user_op
-use Rattle.executor_model.specs.declared.op.Waker.{Waker}
-use Rattle.executor_model.specs.declared.op.Waker.TheVariants.{Task, Outside}
 use Rattle.executor_model.specs.declared.step.Hint.{Hint}
 use Rattle.executor_model.specs.Acts.{is_copy_refused}
 use Rattle.executor_model.specs.ActsOfRuns as runs
@@ -48,18 +45,16 @@ use Rattle.executor_model.specs.Rows.{running_of}
 use Rattle.executor_model.specs.Steps.{Machine, begun, mine, react, stack, top}
 use Rattle.executor_model.specs.Weights.{same, weigh, weigh_all}
 use Rattle.executor_model.specs.Weights as weights
-use Rattle.executor_model.specs.World.{World, Place, Up, Lies, Left, Stage, New, Listed, Ended, Done, done, log}
+use Rattle.executor_model.specs.World.{World, Place, Up, Lies, Left, Done, done, log}
 use Rattle.executor_model.specs.World.{own_of, place_of, put_own}
-use Rattle.executor_model.proofs.Lift.{no_hint, split, unsettled}
+use Rattle.executor_model.proofs.Lift.{split, unsettled}
 use Rattle.executor_model.proofs.Lists.{same_cases, weigh-append, weigh_all-push}
 use Rattle.executor_model.proofs.OwnCounts.{counts-begun, counts-empty, counts-react}
-use Rattle.executor_model.proofs.RunsAside.{Hull, apart-act, hull, is_run, runs_of, unseen}
-use Rattle.executor_model.proofs.RunsMoving.{Weighs, by_then, hull-found, hull-more}
-use Rattle.executor_model.proofs.RunsMoving.{hull-search}
-use Rattle.executor_model.proofs.RunsMoving.{hull-stolen, hull-tick, walk-by, weighs-found}
-use Rattle.executor_model.proofs.RunsMoving.{weighs-stolen}
+use Rattle.executor_model.proofs.RunsAside.{apart-act, hull, is_run, runs_of, unseen}
+use Rattle.executor_model.proofs.RunsMoving.{Weighs, hull-found, hull-more, hull-search, hull-stolen, hull-tick}
+use Rattle.executor_model.proofs.RunsMoving.{walk-by, weighs-found, weighs-stolen, nothing-by}
 use Rattle.executor_model.proofs.OwnRooms.{Shorter, grown, made-length, needed, of_hull, same-own, shorter-and}
-use Rattle.executor_model.proofs.OwnRooms.{shorter-first}
+use Rattle.executor_model.proofs.OwnRooms.{shorter-first, by_reference, registered-own}
 use Rattle.executor_model.proofs.SleepersNext.{goes-unseen, tell-unseen}
 use Rattle.executor_model.proofs.Ways.{Way, acted, reacted, called}
 
@@ -106,11 +101,6 @@ found-empty r x = record {
   steal = λ f. refl;
   look = λ at left. refl;
 }
-
-nothing-by : (t : Then) → by_then 0 0 t ≡ 0
-nothing-by (then.Found f) = refl
-nothing-by (then.Run f) = refl
-nothing-by (then.Walk at left) = refl
 
 stolen-empty : (r : ℕ) (t : Then) (w : World) (x : RunPoll) → weigh (empty_of r) (runs.stolen t w x).next ≡ 0
 stolen-empty r t w x = weighs-stolen (empty_of r) x 0 0 (found-empty r x) t w ∙ nothing-by t
@@ -211,12 +201,6 @@ none-empty r (op.List o) z = absurd (omega (arith, z))
 none-empty r (op.Run o) z = absurd (omega (arith, z))
 none-empty r _ z = refl
 
-by_reference : (p : ℕ) (w : World) (a : Waker) → (w.own ≡ (runs.call_by_reference p w a).world.own)
-    × (weigh runs_of (runs.call_by_reference p w a).next ≡ 0)
-by_reference p w (Outside y) = (refl, refl)
-by_reference p w (Task g) =
-    let x = apart-act p no_hint (op.Move move.WakeByReference g) w refl in (ap (λ (h : Hull). h.own) x.hull, x.runs)
-
 empty-wake : (p : ℕ) (w : World) (x : RunPoll) → KeepsEmpty w (op.Run (run_op.WakeOwn x) ∷ []) (runs.wake_own p w x)
 empty-wake p w x =
     let v = log w (event.WakerCalled p (of.Run x.run) x.poll x.waker) in
@@ -250,11 +234,6 @@ empty-make false w = record {
   on = λ r m k n u z e h l. no-length (get_or (w.own ++ [] ∷ []) r [])
       (omega (arith, made-length w.own r, ap (λ (xs : List ℕ). length xs) (h (omega (arith, l, e)))));
 }
-
-registered-own : (t : Stage) (w : World) (q : ℕ) → w.own ≡ (runs.registered t w q).own
-registered-own New w q = refl
-registered-own Listed w q = refl
-registered-own Ended w q = refl
 
 empty-list : (h : Hint) (o : ListOp) (w : World) → KeepsEmpty w (op.List o ∷ []) (list_act h o w)
 empty-list h (list_op.LockWrite s) w = stays w _ _ (same-own w _ refl) (λ r. omega arith)

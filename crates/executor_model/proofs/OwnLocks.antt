@@ -49,10 +49,9 @@ use Rattle.executor_model.proofs.Lists.{weigh-append, weigh_all-push}
 use Rattle.executor_model.proofs.OwnCounts.{blind-reads, blind-writes, counts-begun, counts-react, counts-reads}
 use Rattle.executor_model.proofs.OwnCounts.{counts-writes}
 use Rattle.executor_model.proofs.RunsAside.{Hull, apart-act, hull, is_run, runs_of, unseen}
-use Rattle.executor_model.proofs.RunsMoving.{Weighs, by_then, hull-found, hull-more}
-use Rattle.executor_model.proofs.RunsMoving.{hull-search}
-use Rattle.executor_model.proofs.RunsMoving.{hull-stolen, hull-tick, is_search, lying-blind, walk-by, weighs-found}
-use Rattle.executor_model.proofs.RunsMoving.{weighs-stolen}
+use Rattle.executor_model.proofs.RunsMoving.{Weighs, by_then, hull-found, hull-more, hull-search, hull-stolen}
+use Rattle.executor_model.proofs.RunsMoving.{hull-tick, is_search, lying-blind, walk-by, weighs-found, weighs-stolen}
+use Rattle.executor_model.proofs.RunsMoving.{nothing-by}
 use Rattle.executor_model.proofs.SleepersNext.{search-blind}
 use Rattle.executor_model.proofs.Ways.{HasWay, Way, acted, reacted, called, along-free}
 
@@ -109,11 +108,6 @@ walks-by : (t : Then) → by_then 0 1 t ≡ walks_then t
 walks-by (then.Found f) = refl
 walks-by (then.Run f) = refl
 walks-by (then.Walk at left) = refl
-
-nothing-by : (t : Then) → by_then 0 0 t ≡ 0
-nothing-by (then.Found f) = refl
-nothing-by (then.Run f) = refl
-nothing-by (then.Walk at left) = refl
 
 stolen-writes : (t : Then) (w : World) (x : RunPoll) → weigh writes_of (runs.stolen t w x).next ≡ 0
 stolen-writes t w x = weighs-stolen writes_of x 0 0 (found-writes x) t w ∙ nothing-by t

@@ -47,10 +47,9 @@ use Rattle.executor_model.proofs.Lift.{no_hint, split, unsettled}
 use Rattle.executor_model.proofs.Lists.{same_cases, weigh-append, weigh_all-push}
 use Rattle.executor_model.proofs.OwnCounts.{blind-filling, counts-begun, counts-filling, counts-react}
 use Rattle.executor_model.proofs.RunsAside.{Hull, apart-act, hull, is_run, runs_of, unseen}
-use Rattle.executor_model.proofs.RunsMoving.{Weighs, by_then, hull-found, hull-more}
-use Rattle.executor_model.proofs.RunsMoving.{hull-search}
-use Rattle.executor_model.proofs.RunsMoving.{hull-stolen, hull-tick, is_search, lying-blind, walk-by, weighs-found}
-use Rattle.executor_model.proofs.RunsMoving.{weighs-stolen}
+use Rattle.executor_model.proofs.RunsMoving.{Weighs, hull-found, hull-more, hull-search, hull-stolen, hull-tick}
+use Rattle.executor_model.proofs.RunsMoving.{is_search, lying-blind, walk-by, weighs-found, weighs-stolen}
+use Rattle.executor_model.proofs.RunsMoving.{nothing-by}
 use Rattle.executor_model.proofs.SleepersNext.{search-blind}
 use Rattle.executor_model.proofs.Ways.{Way, acted, reacted, called}
 
@@ -117,11 +116,6 @@ found-filling r x = record {
   steal = λ f. refl;
   look = λ at left. refl;
 }
-
-nothing-by : (t : Then) → by_then 0 0 t ≡ 0
-nothing-by (then.Found f) = refl
-nothing-by (then.Run f) = refl
-nothing-by (then.Walk at left) = refl
 
 stolen-filling : (r : ℕ) (t : Then) (w : World) (x : RunPoll) → weigh (filling_of r) (runs.stolen t w x).next ≡ 0
 stolen-filling r t w x = weighs-stolen (filling_of r) x 0 0 (found-filling r x) t w ∙ nothing-by t
@@ -289,7 +283,7 @@ none-filling : (r : ℕ) (o : Op) → runs_of o ≡ 0 → filling_of r o ≡ 0
 none-filling r (op.Steal o) z = absurd (omega (arith, z))
 none-filling r _ z = refl
 
-by_reference : (p : ℕ) (w : World) (a : Waker) → (w.own ≡ (runs.call_by_reference p w a).world.own)
+pub by_reference : (p : ℕ) (w : World) (a : Waker) → (w.own ≡ (runs.call_by_reference p w a).world.own)
     × (weigh runs_of (runs.call_by_reference p w a).next ≡ 0)
 by_reference p w (Outside y) = (refl, refl)
 by_reference p w (Task g) =
@@ -345,7 +339,7 @@ room-make : (b : Bool) (w : World) → KeepsRoom w (op.List (list_op.Write secti
 room-make true w = stays w _ _ (same-own w w refl) (λ r. omega arith)
 room-make false w = record { on = λ r m k n u z e h. made-room w.own r n (omega (arith, e, h)) }
 
-registered-own : (t : Stage) (w : World) (q : ℕ) → w.own ≡ (runs.registered t w q).own
+pub registered-own : (t : Stage) (w : World) (q : ℕ) → w.own ≡ (runs.registered t w q).own
 registered-own New w q = refl
 registered-own Listed w q = refl
 registered-own Ended w q = refl

@@ -45,6 +45,7 @@ use Rattle.executor_model.proofs.Using.{emptying-uses, emptying_of, polling-uses
 use Rattle.executor_model.proofs.UsingWorlds.{is_over_stage}
 use Rattle.executor_model.proofs.UsingSteps.{AllUsed, used-ends, used-moves, used-start}
 use Rattle.executor_model.proofs.Ways.{Way, acted, reacted, called, along}
+use Rattle.executor_model.proofs.Tests.{and-right}
 
 record Runner (s : Machine) (r : ℕ) : Type 0 where
   -- each part of a poll of r names its last poll
@@ -324,10 +325,6 @@ keeps-none : (c : Call) (p : ℕ) (w : World) (here : Option Waker) (r : ℕ) �
     weigh (keeps_of r) [] ≤ weigh (keeps_of r) (begun p (log w (event.CallBegun p c)) here c).next
 keeps-none c p w here r = omega arith
 
-second : (a b : Bool) → (a && b) ≡ true → b ≡ true
-second true b e = e
-second false b e = absurd (cc)
-
 -- a run that is polled is used by no call
 unused-run : (s : Machine) (p q : ℕ) (b : By) (o : Option Op) (rest : List Op) (r : ℕ) →
     set s.parties p rest ≡ s.parties →
@@ -337,7 +334,7 @@ unused-run s p q b o rest r own a e =
     let i : r ≡ q = grind (arith, nat_tests) in
     let free : has_run s.world s.parties q ≡ true = first-true _ _ a in
     let none : weigh_all (running_of q) s.parties ≡ 0 =
-    unborrowed (weigh_all (running_of q) s.parties) (second (is_there (run_of s.world q)) _ free) in
+    unborrowed (weigh_all (running_of q) s.parties) (and-right (is_there (run_of s.world q)) _ free) in
     ap (weigh_all (running_of r)) own ∙ (ap (λ (n : ℕ). weigh_all (running_of n) s.parties) i ∙ none)
 
 past : (d : Bool) (t : Stage) → t ≡ Ended → (d || is_over_stage t) ≡ true

@@ -36,19 +36,20 @@ use Rattle.executor_model.specs.ActsOfRuns as runs
 use Rattle.executor_model.specs.Doing.{act, list_act, run_act, search_by_who, steal_act, tick_act}
 use Rattle.executor_model.specs.Rows.{running_of}
 use Rattle.executor_model.specs.Weights.{same, weigh, is_run}
-use Rattle.executor_model.specs.World.{World, Stage, New, Listed, Ended, Done, done, log, own_of, put_own}
+use Rattle.executor_model.specs.World.{World, Done, done, log, own_of, put_own}
 use Rattle.executor_model.proofs.Lift.{no_hint}
 use Rattle.executor_model.proofs.Lists.{same_cases}
-use Rattle.executor_model.proofs.OwnRooms.{Shorter, grown, made-length, of_hull, same-own, shorter-and, shorter-first}
+use Rattle.executor_model.proofs.OwnRooms.{Shorter, grown, made-length, of_hull, same-own, shorter-and}
+use Rattle.executor_model.proofs.OwnRooms.{shorter-first, registered-own}
 use Rattle.executor_model.proofs.RunsAside.{Hull, apart-act, hull, is_run as is_runs}
 use Rattle.executor_model.proofs.RunsCalm.{poll_in}
-use Rattle.executor_model.proofs.RunsMoving.{Weighs, by_then, hull-found, hull-more}
-use Rattle.executor_model.proofs.RunsMoving.{hull-search}
-use Rattle.executor_model.proofs.RunsMoving.{hull-stolen, hull-tick, weighs-found, weighs-stolen}
+use Rattle.executor_model.proofs.RunsMoving.{Weighs, by_then, hull-found, hull-more, hull-search, hull-stolen}
+use Rattle.executor_model.proofs.RunsMoving.{hull-tick, weighs-found, weighs-stolen}
 use Rattle.executor_model.proofs.RunsSeen.{seen, Seen, seen-act}
 use Rattle.executor_model.proofs.RunsWatched.{Watched, watched, watched-push}
 use Rattle.executor_model.proofs.Using.{polling_of}
 use Rattle.executor_model.proofs.RunsNaming.{stray, stray_of}
+use Rattle.executor_model.proofs.Tests.{or-right}
 
 -- who has run r in hand, and hasn't found its own queue empty
 
@@ -254,10 +255,6 @@ seen-reference : (r p : ℕ) (w : World) (a : Waker) → Seen r w (runs.call_by_
 seen-reference r p w (Outside y) = seen r w w refl
 seen-reference r p w (Task g) = seen-act r p no_hint (op.Move move.WakeByReference g) w
 
-or-right : (a b : Bool) → b ≡ true → (a || b) ≡ true
-or-right true b e = refl
-or-right false b e = e
-
 and-true : (a b : Bool) → a ≡ true → b ≡ true → (a && b) ≡ true
 and-true a b e q = rw (e, q) refl
 
@@ -301,11 +298,6 @@ runs-run p h (run_op.Reschedule n a) w = runs-reschedule _ w n a refl
 runs-make : (b : Bool) (w : World) → KeepsRuns w (op.List (list_op.Write section.MakeRun) ∷ []) (runs.make_run_by b w)
 runs-make true w = stays w _ _ (same-own w w refl) (λ r. omega arith)
 runs-make false w = record { on = λ r z i l. inl (omega (arith, l, made-length w.own r), omega arith) }
-
-registered-own : (t : Stage) (w : World) (q : ℕ) → w.own ≡ (runs.registered t w q).own
-registered-own New w q = refl
-registered-own Listed w q = refl
-registered-own Ended w q = refl
 
 runs-list : (h : Hint) (o : ListOp) (w : World) → KeepsRuns w (op.List o ∷ []) (list_act h o w)
 runs-list h (list_op.LockWrite s) w = stays w _ _ (same-own w _ refl) (λ r. omega arith)

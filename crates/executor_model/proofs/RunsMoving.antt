@@ -140,6 +140,11 @@ by_then found walks (then.Found f) = found
 by_then found walks (then.Run f) = found
 by_then found walks (then.Walk at left) = walks
 
+pub nothing-by : (t : Then) → by_then 0 0 t ≡ 0
+nothing-by (then.Found f) = refl
+nothing-by (then.Run f) = refl
+nothing-by (then.Walk at left) = refl
+
 module _ (v : Op → ℕ) (x : RunPoll) (n m : ℕ) (z : Weighs v x n m) where
   weighs-run_by : (b : Bool) (w : World) (f : ℕ) → weigh v (runs.run_by b w x f).next ≡ n
   weighs-run_by true w f = omega (arith, z.take_up f, z.wake)

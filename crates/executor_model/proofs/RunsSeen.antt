@@ -1,5 +1,5 @@
 -- What each thing to do tells of a run's last poll: nothing, but that its waker may be called.
-use Rattle.std.proofs.Common.{◌≡◌, ◌∙◌, ℕ, [], ◌∷◌, ◌++◌, length, Bool, true, false, ◌&&◌, ◌||◌, eqb, refl, sym, subst}
+use Rattle.std.proofs.Common.{◌≡◌, ◌∙◌, ℕ, [], ◌∷◌, ◌++◌, length, Bool, true, false, ◌&&◌, eqb, refl, sym, subst}
 use Rattle.task_moves.specs.declared.moves.owed.Move.TheVariants as move
 use Rattle.executor_model.specs.declared.event.Event.{Event}
 use Rattle.executor_model.specs.declared.event.Event.TheVariants as event
@@ -16,6 +16,7 @@ use Rattle.executor_model.specs.World.{World}
 use Rattle.executor_model.proofs.RunsWatched.{Watched, watched, watched-push, watches}
 use Rattle.executor_model.proofs.TraceGrows.{Allows, Grows, grows-act, grows-react, is_ordinary}
 use Rattle.executor_model.proofs.TraceMore.{over-more}
+use Rattle.executor_model.proofs.Tests.{or-left}
 
 abbrev pub polls_run : Event → Bool
 polls_run (event.RunPolled p q) = true
@@ -40,10 +41,6 @@ later-and a b c x y = record {
   poll = y.poll ∙ x.poll;
   called = λ e. y.called (x.called e);
 }
-
-or-left : (a b : Bool) → a ≡ true → (a || b) ≡ true
-or-left true b e = refl
-or-left false b e = absurd (cc)
 
 module _ (r : ℕ) where
   mild : (n : ℕ) (e : Event) (s : Watched) → polls_run e ≡ false → Later s (watches r n e s)

@@ -53,7 +53,8 @@ use Rattle.executor_model.specs.Steps.{accepts, begun, future_of, kept, react, w
 use Rattle.executor_model.specs.Trace.{Trace, has}
 use Rattle.executor_model.specs.World.{World, Place, Up, Lies, Left, Stage, New, Listed, Ended, Done, log, log_if}
 use Rattle.executor_model.specs.World.{task, put, put_own, run_of}
-use Rattle.executor_model.proofs.TraceMore.{has-append, or-false}
+use Rattle.executor_model.proofs.Tests.{or-false}
+use Rattle.executor_model.proofs.TraceMore.{has-append}
 
 -- it begins or ends no call, no poll of a future or of a run and no drop of a run, and no run keeps anything by it
 abbrev pub is_ordinary : Event → Bool

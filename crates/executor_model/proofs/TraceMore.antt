@@ -1,25 +1,14 @@
 -- What many more events leave of a trace, where none of them passes a test.
-use Rattle.std.proofs.Common.{◌≡◌, ◌∙◌, [], ◌∷◌, ◌++◌, Bool, true, false, ◌||◌, refl, sym, ap, subst, append-nil}
+use Rattle.std.proofs.Common.{◌≡◌, ◌∙◌, [], ◌∷◌, ◌++◌, Bool, false, ◌||◌, sym, ap, subst, append-nil}
 use Rattle.std.proofs.lemmas.List.{append_assoc}
 use Rattle.std.proofs.lemmas.List.Folds.{list_any-append}
 use Rattle.executor_model.specs.declared.event.Event.{Event}
 use Rattle.executor_model.specs.Trace.{Trace, has}
-
-pub or-false : (a : Bool) → a ≡ false → (a || false) ≡ false
-or-false true e = absurd (cc)
-or-false false e = refl
+use Rattle.executor_model.proofs.Tests.{left-false, right-false}
 
 pub has-append : (test : Event → Bool) (xs ys : Trace) → has test xs ≡ false → has test ys ≡ false →
     has test (xs ++ ys) ≡ false
 has-append test xs ys a b = list_any-append test xs ys ∙ (ap (λ (x : Bool). x || has test ys) a ∙ b)
-
-pub left-false : (a b : Bool) → (a || b) ≡ false → a ≡ false
-left-false true b e = absurd (cc)
-left-false false b e = refl
-
-pub right-false : (a b : Bool) → (a || b) ≡ false → b ≡ false
-right-false true b e = absurd (cc)
-right-false false b e = e
 
 -- many more events, each of which keeps it
 pub over-more : (P : Trace → Type 0) (t : Event → Bool) →

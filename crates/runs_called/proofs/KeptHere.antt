@@ -1,7 +1,7 @@
 -- Where a future is that a run kept last, and what each step leaves of that where nothing is polled and nothing
 -- comes into an own queue.
-use Rattle.std.proofs.Common.{◌≡◌, ◌≢◌, ◌⊎◌, ◌∙◌, ℕ, ◌+◌, ◌<◌, ◌≤◌, List, [], ◌∷◌, ◌++◌, length, set, take, Bool, true}
-use Rattle.std.proofs.Common.{false, ◌||◌, refl, sym, ap, subst, inl, inr, ⊎_elim, arith}
+use Rattle.std.proofs.Common.{◌≡◌, ◌≢◌, ◌⊎◌, ◌∙◌, ℕ, ◌+◌, ◌<◌, ◌≤◌, List, [], ◌∷◌, ◌++◌, length, set, take}
+use Rattle.std.proofs.Common.{refl, sym, ap, subst, inl, inr, ⊎_elim, arith}
 use Rattle.std.specs.Prelude.{Some, reverse, slice_get}
 use Rattle.executor_model.specs.declared.event.Event.TheVariants as event
 use Rattle.executor_model.specs.declared.op.Op.{Op}
@@ -14,7 +14,8 @@ use Rattle.executor_model.proofs.AskingRuns.{Heard}
 use Rattle.executor_model.proofs.Lift.{split, unsettled}
 use Rattle.executor_model.proofs.Lists.{weigh_all-push}
 use Rattle.executor_model.proofs.OwnRooms.{Roomy}
-use Rattle.runs_called.proofs.Dueness.{is_last}
+use Rattle.executor_model.proofs.Dueness.{is_last}
+use Rattle.executor_model.proofs.Tests.{or-left}
 use Rattle.runs_called.proofs.KeptLeads.{Gone, IsPast, Leads}
 use Rattle.runs_called.proofs.KeptGrown.{Grown}
 use Rattle.runs_called.proofs.KeptTrace.{Keeps, Parted, has-both, keeps-before, none-kept, parted-more}
@@ -37,10 +38,6 @@ pub record Keeping (s : Machine) : Type 0 where
 pub take-whole : (es : Trace) → take (length es) es ≡ es
 take-whole [] = refl
 take-whole (e ∷ es) = ap (λ (xs : Trace). e ∷ xs) (take-whole es)
-
-or-left : (a b : Bool) → a ≡ true → (a || b) ≡ true
-or-left true b e = refl
-or-left false b e = absurd (cc)
 
 pub gone-more : (f : ℕ) (w v : World) → (more : Trace) → v.trace ≡ w.trace ++ more → Gone f w.trace → Gone f v.trace
 gone-more f w v more e g = ap (has (is_last f)) e ∙ (has-both (is_last f) w.trace more ∙ or-left _ _ g)

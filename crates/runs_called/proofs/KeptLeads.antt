@@ -18,7 +18,7 @@ use Rattle.executor_model.specs.World.{World, Done, own_of, run_of}
 use Rattle.executor_model.proofs.Lists.{same_cases}
 use Rattle.executor_model.proofs.Using.{is_for_runs, mild-next}
 use Rattle.executor_model.proofs.UsingWorlds.{Idle, idle-act, is_past}
-use Rattle.runs_called.proofs.Dueness.{is_last}
+use Rattle.executor_model.proofs.Dueness.{is_last}
 use Rattle.runs_called.proofs.KeptTrace.{Parted, has-both, or-true}
 use Rattle.runs_called.proofs.KeptWeights.{load_of, mild-quits, quits_of, readies_of}
 use Rattle.runs_called.proofs.StandsSeats.{Seated}

@@ -98,10 +98,6 @@ keeping-acted s p rest h (op.Steal (steal_op.Put x more g)) false n l e k a b c 
 keeping-acted s p rest h (op.End r held) false n l e k a b c = keeping-end s p r held rest l e k a b c
 keeping-acted s p rest h _ false n l e k a b c = absurd (cc)
 
-second : (a b : Bool) → (a && b) ≡ true → b ≡ true
-second true b e = e
-second false b e = absurd (cc)
-
 drops-there : (s : Machine) (p : ℕ) (c : Call) → has_all s.world s.parties (top (stack s p)) c ≡ true → Drops c s.world
 drops-there s p (call.DropRun q) z = run-there s.world.runs q (first-true _ _ z)
 drops-there s p _ z = tt

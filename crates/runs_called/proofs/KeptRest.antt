@@ -14,8 +14,8 @@ use Rattle.executor_model.proofs.Lift.{good}
 use Rattle.executor_model.proofs.OwnRunners.{own-queue-has-runner}
 use Rattle.executor_model.proofs.Resting.{deep, rests, all-rest}
 use Rattle.executor_model.proofs.SleepersTellingRuns.{are_told}
+use Rattle.executor_model.proofs.Dueness.{none-last}
 use Rattle.runs_called.specs.Called.{KeeperIsCalled}
-use Rattle.runs_called.proofs.Dueness.{none-last}
 use Rattle.runs_called.proofs.KeptHere.{Here, Keeping}
 use Rattle.runs_called.proofs.KeptMachine.{keeping}
 use Rattle.runs_called.proofs.KeptTrace.{Parted}

@@ -22,7 +22,7 @@ use Rattle.executor_model.proofs.Lists.{same_cases, same_is, weigh_all-below, we
 use Rattle.executor_model.proofs.OwnRooms.{Roomy}
 use Rattle.executor_model.proofs.Using.{mild-next}
 use Rattle.executor_model.proofs.UsingWorlds.{Idle, idle-act}
-use Rattle.runs_called.proofs.Dueness.{over-last, is_over}
+use Rattle.executor_model.proofs.Dueness.{over-last, is_over}
 use Rattle.runs_called.proofs.KeptLeads.{Gone, IsPast}
 use Rattle.runs_called.proofs.KeptTrace.{Keeps, Kept, Parted, keeps-one, one-other, parted-more}
 use Rattle.runs_called.proofs.KeptTrace.Kept.{now, before}

@@ -11,6 +11,7 @@ use Rattle.executor_model.specs.AwaiterKept.{EndsWith, since}
 use Rattle.executor_model.specs.Keeper.{AnswersReady, is_kept, is_run_drop}
 use Rattle.executor_model.specs.Quiet.{begins_call, ends_call}
 use Rattle.executor_model.specs.Trace.{Trace, has, is_poll}
+use Rattle.executor_model.proofs.Tests.{or-left}
 use Rattle.runs_called.proofs.KeptGrown.{stirs}
 
 -- places in what has grown
@@ -63,10 +64,6 @@ or-first true b e = absurd (cc)
 or-second : (a b : Bool) → (a || b) ≡ false → b ≡ false
 or-second false b e = e
 or-second true b e = absurd (cc)
-
-or-left : (a b : Bool) → a ≡ true → (a || b) ≡ true
-or-left true b e = refl
-or-left false b e = absurd (cc)
 
 -- nothing of what is there passes a test that none of it passes
 none-at : (test : Event → Bool) (es : Trace) (k : ℕ) (x : Event) → has test es ≡ false → slice_get es k ≡ Some x →

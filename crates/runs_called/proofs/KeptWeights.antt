@@ -33,7 +33,7 @@ use Rattle.executor_model.specs.Weights.{same, weigh}
 use Rattle.executor_model.specs.World.{World, Place, Up, Lies, Left, run_of}
 use Rattle.executor_model.proofs.Calls.{calling_of}
 use Rattle.executor_model.proofs.Lists.{same_is, weigh-append}
-use Rattle.executor_model.proofs.RunsMoving.{Weighs, by_then, walk-by, weighs-found, weighs-stolen}
+use Rattle.executor_model.proofs.RunsMoving.{Weighs, walk-by, weighs-found, weighs-stolen, nothing-by}
 use Rattle.executor_model.proofs.Using.{Mild}
 
 -- who has future f in hand, to run it or to put it into its own queue, or has still to drop it
@@ -183,13 +183,8 @@ weighs-quits r x = record {
 pub quits-found : (r : ℕ) (w : World) (x : RunPoll) (g : ℕ) → weigh (quits_of r) (runs.found w x g).next ≡ 0
 quits-found r w x g = weighs-found (quits_of r) x 0 0 (weighs-quits r x) w g
 
-by-none : (t : Then) → by_then 0 0 t ≡ 0
-by-none (then.Found f) = refl
-by-none (then.Run f) = refl
-by-none (then.Walk at left) = refl
-
 pub quits-stolen : (r : ℕ) (t : Then) (w : World) (x : RunPoll) → weigh (quits_of r) (runs.stolen t w x).next ≡ 0
-quits-stolen r t w x = weighs-stolen (quits_of r) x 0 0 (weighs-quits r x) t w ∙ by-none t
+quits-stolen r t w x = weighs-stolen (quits_of r) x 0 0 (weighs-quits r x) t w ∙ nothing-by t
 
 pub quits-walk : (r : ℕ) (x : RunPoll) (qs : List ℕ) (at left : ℕ) → weigh (quits_of r) (runs.walk x qs at left) ≡ 0
 quits-walk r x qs at left = walk-by (λ (os : List Op). weigh (quits_of r) os ≡ 0) x refl (λ q m n. refl) qs at left

@@ -26,8 +26,6 @@ pub mod StandsMachine
 pub mod StandsTelling
 pub mod StandsAnswers
 pub mod StandsMissing
-pub mod Pushes
-pub mod Dueness
 pub mod Queued
 pub mod StandsRest
 pub mod KeptGrown

@@ -12,7 +12,7 @@ use Rattle.executor_model.specs.World.{task}
 use Rattle.executor_model.proofs.AskingRuns.{Heard}
 use Rattle.executor_model.proofs.Lists.{same_is}
 use Rattle.executor_model.proofs.Resting.{all-rest}
-use Rattle.runs_called.proofs.Dueness.{asked-is, not-over}
+use Rattle.executor_model.proofs.Dueness.{asked-is, not-over}
 
 pub due-queued : (s : Machine) → Good s → Heard s → ((q : ℕ) → stack s q ≡ []) → (f : ℕ) → IsDue f s.world.trace →
     1 ≤ queued s.world f

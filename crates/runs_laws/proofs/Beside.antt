@@ -43,11 +43,12 @@ use Rattle.executor_model.specs.Weights.{same, weigh, weigh_all}
 use Rattle.executor_model.specs.World.{World, Stage, New, Listed, Ended, Done, log, own_of, place_of, put_own, without}
 use Rattle.executor_model.proofs.Lift.{no_hint}
 use Rattle.executor_model.proofs.Lists.{same_is, same_cases, weigh-append}
-use Rattle.executor_model.proofs.OwnRooms.{Shorter, grown, made-length, of_hull, same-own, shorter-and, shorter-first}
+use Rattle.executor_model.proofs.OwnRooms.{Shorter, grown, made-length, of_hull, same-own, shorter-and}
+use Rattle.executor_model.proofs.OwnRooms.{shorter-first}
 use Rattle.executor_model.proofs.RunsAside.{Hull, apart-act, hull, is_run, runs_of, unseen}
-use Rattle.executor_model.proofs.RunsMoving.{Weighs, by_then, hull-common, hull-found, hull-length, hull-more, hull-search}
+use Rattle.executor_model.proofs.RunsMoving.{Weighs, hull-common, hull-found, hull-length, hull-more, hull-search}
 use Rattle.executor_model.proofs.RunsMoving.{hull-stolen, hull-tick, is_search, lying-blind, walk-by, weighs-found}
-use Rattle.executor_model.proofs.RunsMoving.{weighs-stolen}
+use Rattle.executor_model.proofs.RunsMoving.{weighs-stolen, nothing-by}
 use Rattle.executor_model.proofs.SleepersNext.{Blind, search-blind}
 use Rattle.runs_laws.specs.Costs.{left_by, registers_of}
 
@@ -94,11 +95,6 @@ found-registers x = record {
   steal = λ f. refl;
   look = λ at left. refl;
 }
-
-pub nothing-by : (t : Then) → by_then 0 0 t ≡ 0
-nothing-by (then.Found f) = refl
-nothing-by (then.Run f) = refl
-nothing-by (then.Walk at left) = refl
 
 stolen-registers : (t : Then) (w : World) (x : RunPoll) → weigh registers_of (runs.stolen t w x).next ≡ 0
 stolen-registers t w x = weighs-stolen registers_of x 0 0 (found-registers x) t w ∙ nothing-by t

@@ -34,6 +34,7 @@ use Rattle.executor_model.proofs.Lists.{same_is, weigh_all-push, weigh_all-set, 
 use Rattle.executor_model.proofs.Needing.{needs}
 use Rattle.executor_model.proofs.Lift.{split, topped}
 use Rattle.executor_model.proofs.RunsAside.{apart-act, is_run, unseen}
+use Rattle.executor_model.proofs.Reached.{Reached, good-here, reached-step}
 use Rattle.runs_laws.specs.Costs.{left_by, registers_of, steps_of, walk_of}
 use Rattle.runs_laws.specs.Remaining.{steps_kept, remaining, is_onward, are_onward, LowersRemaining, EachStepLowers}
 use Rattle.runs_laws.specs.Remaining.{EndsWithin, EachListEnds, queues_of, steps_left}
@@ -41,9 +42,9 @@ use Rattle.runs_laws.proofs.Beside.{Beside, beside-act, beside-react, left-all, 
 use Rattle.runs_laws.proofs.Spending.{kept-log}
 use Rattle.runs_laws.proofs.SpendingGroups.{Settles, spends-act, spends-react}
 use Rattle.runs_laws.proofs.SpendingRuns.{CanPay, Pays, pays-list, pays-run, pays-steal, unleft, unwalked}
+use Rattle.runs_laws.proofs.Reached.{can-pay, used-here}
 use Rattle.runs_laws.proofs.SpendingRuns.Pays.{spends, walks}
 use Rattle.runs_laws.proofs.PayingTicks.{pays-tick}
-use Rattle.runs_laws.proofs.Reached.{Reached, can-pay, good-here, reached-step, used-here}
 
 -- the end of a call takes no more
 

@@ -24,9 +24,9 @@ use Rattle.executor_model.proofs.Lift.{topped}
 use Rattle.executor_model.proofs.Lists.{weigh-append, weigh_all-below}
 use Rattle.executor_model.proofs.OwnLocks.{lock-agrees}
 use Rattle.executor_model.proofs.Spawning.{in-range}
+use Rattle.executor_model.proofs.Reached.{Reached}
 use Rattle.runs_laws.specs.GoingOn.{GoesOn, HolderGoesOn, IsTaken, held_of}
 use Rattle.runs_laws.proofs.Holding.{has-top, held-on-top, weigh_below}
-use Rattle.runs_laws.proofs.Reached.{Reached}
 
 -- how the user code on top may end
 abbrev pub user_end : Op → UserEnd

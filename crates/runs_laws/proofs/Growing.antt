@@ -1,9 +1,9 @@
--- What a step adds to the trace: at most the beginning of one call, and then nothing that begins another.
+-- What each thing that is done adds to the trace: what its own party does, and no end of a call.
 use Rattle.std.proofs.Common.{◌≡◌, ◌≢◌, ℕ, List, [], ◌∷◌, ◌++◌, length, Bool, true, false}
 use Rattle.std.proofs.Common.{refl, sym, ap, ◌∙◌, append-nil, arith}
 use Rattle.std.proofs.lemmas.Bool.Decides.{nat_tests}
 use Rattle.std.proofs.lemmas.List.{append_assoc}
-use Rattle.std.specs.Prelude.{Option, Some, None, reverse}
+use Rattle.std.specs.Prelude.{Option, Some, None}
 use Rattle.task_moves.specs.declared.moves.owed.Answer.{Answer}
 use Rattle.task_moves.specs.declared.moves.owed.Moved.{Moved}
 use Rattle.task_moves.specs.Moves as moves
@@ -36,9 +36,6 @@ use Rattle.executor_model.specs.declared.op.WakerOp.TheVariants as waker_op
 use Rattle.executor_model.specs.declared.op.Waker.{Waker}
 use Rattle.executor_model.specs.declared.op.Waker.TheVariants.{Task, Outside}
 use Rattle.executor_model.specs.declared.step.Hint.{Hint}
-use Rattle.executor_model.specs.declared.step.Step.{Step}
-use Rattle.executor_model.specs.declared.step.Step.TheVariants.{Begin, Go, Answer as Answers}
-use Rattle.executor_model.specs.declared.step.StepError.{StepError}
 use Rattle.executor_model.specs.declared.step.UserEnd.{UserEnd}
 use Rattle.executor_model.specs.declared.step.UserEnd.TheVariants as end
 use Rattle.executor_model.specs.Trace.{Trace, has}
@@ -49,63 +46,54 @@ use Rattle.executor_model.specs.Acts.{notify_by, call_waker, drop_next_by, wake,
 use Rattle.executor_model.specs.ActsOfSleepers.{exchange_by, hand_out_by, polled_as}
 use Rattle.executor_model.specs.ActsOfRuns.{call_by_reference, kept_by, steal_put_by, wake_own}
 use Rattle.executor_model.specs.Doing.{act, run_act, sleeper_act, steal_act}
-use Rattle.executor_model.specs.Steps.{Machine, stack, top, below_top, kept, future_of, mine, refusal, begun, with_future}
-use Rattle.executor_model.specs.Steps.{react, end_of, settled_by, onto, gone_on, after, step_by, step, stepped}
-use Rattle.runs_laws.specs.Remaining.{is_onward}
-use Rattle.runs_laws.specs.Continued.{IsContinued}
+use Rattle.executor_model.specs.Steps.{kept, future_of, begun, with_future}
+use Rattle.executor_model.specs.Steps.{react}
 use Rattle.runs_laws.specs.AtOnce.{doer, is_by}
 use Rattle.executor_model.proofs.RunsMoves.{moves-length, moves-list, moves-look, moves-common, moves-make_room}
 use Rattle.executor_model.proofs.RunsMoves.{moves-own_length, moves-reschedule, moves-return_room, moves-take, same-stolen}
-use Rattle.executor_model.proofs.TraceMore.{has-append, or-false}
+use Rattle.executor_model.proofs.TraceMore.{has-append}
+use Rattle.executor_model.proofs.Tests.{or-false}
 use Rattle.runs_laws.proofs.TickWorlds.{tick-trace}
-
-abbrev pub begins_one : Event → Bool
-begins_one (event.CallBegun p c) = true
-begins_one _ = false
 
 abbrev pub ends_one : Event → Bool
 ends_one (event.CallEnded p r) = true
 ends_one _ = false
 
--- the trace of v is that of w and more that party p did, in which no call begins or ends
+-- the trace of v is that of w and more that party p did, in which no call ends
 pub record Grows (p : ℕ) (w v : World) : Type 0 where
   pub more : Trace
   pub is : v.trace ≡ w.trace ++ more
-  pub none_begins : has begins_one more ≡ false
   pub none_ends : has ends_one more ≡ false
   pub own : (q : ℕ) → q ≢ p → has (is_by q) more ≡ false
 
 grows-same : {p : ℕ} (w v : World) → v.trace ≡ w.trace → Grows p w v
 grows-same w v e =
-    record { more = []; is = e ∙ sym (append-nil w.trace); none_begins = refl; none_ends = refl; own = λ q n. refl }
+    record { more = []; is = e ∙ sym (append-nil w.trace); none_ends = refl; own = λ q n. refl }
 
 -- what p did nobody else did
 pub not-by : (p q : ℕ) (e : Event) → doer e ≡ p → q ≢ p → is_by q e ≡ false
 not-by p q e d n = grind (arith, nat_tests)
 
-grows-log : {p : ℕ} (w v : World) (e : Event) → v.trace ≡ w.trace ++ e ∷ [] → begins_one e ≡ false →
-    ends_one e ≡ false → doer e ≡ p →
+grows-log : {p : ℕ} (w v : World) (e : Event) → v.trace ≡ w.trace ++ e ∷ [] → ends_one e ≡ false → doer e ≡ p →
     Grows p w v
-grows-log {p} w v e t b n d =
+grows-log {p} w v e t n d =
     record {
       more = e ∷ [];
       is = t;
-      none_begins = or-false (begins_one e) b;
       none_ends = or-false (ends_one e) n;
       own = λ q k. or-false
           (is_by q e) (not-by p q e d k);
     }
 
-grows-log_if : {p : ℕ} (c : Bool) (w v : World) (e : Event) → v.trace ≡ (log_if c w e).trace → begins_one e ≡ false →
-    ends_one e ≡ false → doer e ≡ p → Grows p w v
-grows-log_if true w v e t b n d = grows-log w v e t b n d
-grows-log_if false w v e t b n d = grows-same w v t
+grows-log_if : {p : ℕ} (c : Bool) (w v : World) (e : Event) → v.trace ≡ (log_if c w e).trace → ends_one e ≡ false →
+    doer e ≡ p → Grows p w v
+grows-log_if true w v e t n d = grows-log w v e t n d
+grows-log_if false w v e t n d = grows-same w v t
 
 grows-and : {p : ℕ} (w v u : World) → Grows p w v → Grows p v u → Grows p w u
 grows-and w v u a b = record {
   more = a.more ++ b.more;
   is = b.is ∙ (ap (λ (xs : Trace). xs ++ b.more) a.is ∙ append_assoc w.trace a.more b.more);
-  none_begins = has-append begins_one a.more b.more a.none_begins b.none_begins;
   none_ends = has-append ends_one a.more b.more a.none_ends b.none_ends;
   own = λ q k. has-append (is_by q) a.more b.more (a.own q k) (b.own q k);
 }
@@ -123,7 +111,7 @@ grows-take (f ∷ rest) w = grows-same _ _ refl
 grows-enter : (b c : Bool) (p : ℕ) (w : World) → Grows p w (enter_by b c p w).world
 grows-enter true c p w = grows-same _ _ refl
 grows-enter false true p w = grows-same _ _ refl
-grows-enter false false p w = grows-log _ _ (event.Accepted p (length w.tasks)) refl refl refl refl
+grows-enter false false p w = grows-log _ _ (event.Accepted p (length w.tasks)) refl refl refl
 
 grows-leave : {p : ℕ} (b : Bool) (w : World) (f : ℕ) → Grows p w (leave_by b w f).world
 grows-leave true w f = grows-same _ _ refl
@@ -138,19 +126,19 @@ grows-look : (o : Option Answer) (p : ℕ) (w : World) (f : ℕ) (a : Waker) (m 
 grows-look None p w f a m = grows-same _ _ refl
 grows-look (Some x) p w f a m =
     let v : World = put (log w (event.HandlePolled p f)) f m.state in
-    grows-and w v _ (grows-log w v (event.HandlePolled p f) refl refl refl refl)
-    (grows-log_if _ v _ (event.OutputGiven p f) refl refl refl refl)
+    grows-and w v _ (grows-log w v (event.HandlePolled p f) refl refl refl)
+    (grows-log_if _ v _ (event.OutputGiven p f) refl refl refl)
 
 grows-again : (o : Option Answer) (p : ℕ) (w : World) (f : ℕ) (m : Moved) → Grows p w (look_again_by o p w f m).world
 grows-again None p w f m = grows-same _ _ refl
 grows-again (Some x) p w f m =
     grows-and w (put w f m.state) _ (grows-same w (put w f m.state) refl)
-    (grows-log_if _ (put w f m.state) _ (event.OutputGiven p f) refl refl refl refl)
+    (grows-log_if _ (put w f m.state) _ (event.OutputGiven p f) refl refl refl)
 
 grows-copy_awaiter : (b : Bool) (p : ℕ) (w : World) (f : ℕ) (a : Waker) → Grows p w (copy_awaiter_by b p w f a).world
 grows-copy_awaiter true p w f a = grows-same _ _ refl
-grows-copy_awaiter false p w f (Task k) = grows-log _ _ (event.HandlePolled p f) refl refl refl refl
-grows-copy_awaiter false p w f (Outside x) = grows-log _ _ (event.HandlePolled p f) refl refl refl refl
+grows-copy_awaiter false p w f (Task k) = grows-log _ _ (event.HandlePolled p f) refl refl refl
+grows-copy_awaiter false p w f (Outside x) = grows-log _ _ (event.HandlePolled p f) refl refl refl
 
 grows-register : {p : ℕ} (b : Bool) (w : World) (f : ℕ) (a : Waker) (k : ℕ) → Grows p w (register_by b w f a k).world
 grows-register true w f a k = grows-same _ _ refl
@@ -166,14 +154,14 @@ grows-notify true w f mine = grows-same _ _ refl
 grows-notify false w f mine = grows-same _ _ refl
 
 grows-wake : (p : ℕ) (w : World) (f : ℕ) → Grows p w (wake p w f).world
-grows-wake p w f = grows-log_if _ w _ (event.Woken p f) refl refl refl refl
+grows-wake p w f = grows-log_if _ w _ (event.Woken p f) refl refl refl
 
 grows-call : (p : ℕ) (w : World) (o : Polled) (a : Waker) (k : ℕ) → Grows p w (call_waker p w o a k).world
 grows-call p w o (Task m) k =
     grows-and w (log w (event.WakerCalled p o k (Task m))) _
-    (grows-log w _ (event.WakerCalled p o k (Task m)) refl refl refl refl)
+    (grows-log w _ (event.WakerCalled p o k (Task m)) refl refl refl)
     (grows-wake p (log w (event.WakerCalled p o k (Task m))) m)
-grows-call p w o (Outside x) k = grows-log _ _ (event.WakerCalled p o k (Outside x)) refl refl refl refl
+grows-call p w o (Outside x) k = grows-log _ _ (event.WakerCalled p o k (Outside x)) refl refl refl
 
 grows-exchange : {p : ℕ} (b : Bool) (w : World) → Grows p w (exchange_by b w).world
 grows-exchange true w = grows-same _ _ refl
@@ -190,7 +178,7 @@ grows-sleeper p (sleeper_op.CallSleeper s) w = grows-call p w (polled_as s.who) 
 
 grows-drop_next : (p : ℕ) (w : World) (ls : List ℕ) → Grows p w (drop_next_by p w ls).world
 grows-drop_next p w [] = grows-same _ _ refl
-grows-drop_next p w (f ∷ rest) = grows-log _ _ (event.Dropped p f) refl refl refl refl
+grows-drop_next p w (f ∷ rest) = grows-log _ _ (event.Dropped p f) refl refl refl
 
 grows-wake_next : (p : ℕ) (w : World) (ws : List ℕ) → Grows p w (wake_next_by p w ws).world
 grows-wake_next p w [] = grows-same _ _ refl
@@ -199,12 +187,12 @@ grows-wake_next p w (f ∷ rest) =
     (grows-wake p (record w { waking = rest }) f)
 
 grows-drain : (p : ℕ) (w : World) (q : List ℕ) → Grows p w (drain_by p w q).world
-grows-drain p w [] = grows-log _ _ (event.DropEnded p) refl refl refl refl
+grows-drain p w [] = grows-log _ _ (event.DropEnded p) refl refl refl
 grows-drain p w (f ∷ rest) = grows-same _ _ refl
 
 grows-put : (b : Bool) (p : ℕ) (w : World) (s : Steal) (more f : ℕ) → Grows p w (steal_put_by b p w s more f).world
 grows-put true p w s more f =
-    grows-log w _ (event.Kept p f s.poll.run) (moves-own_length more more (kept_by p w s.poll.run f) s).same.trace refl
+    grows-log w _ (event.Kept p f s.poll.run) (moves-own_length more more (kept_by p w s.poll.run f) s).same.trace
     refl refl
 grows-put false p w s more f = grows-same w _ (same-stolen s.then w s.poll).trace
 
@@ -215,13 +203,13 @@ grows-steal p (steal_op.Take s more) w = grows-same w _ (moves-take s.from _ w s
 grows-steal p (steal_op.Put s more f) w = grows-put _ p w s more f
 
 grows-by_reference : (p : ℕ) (w : World) (a : Waker) → Grows p w (call_by_reference p w a).world
-grows-by_reference p w (Task g) = grows-log_if _ w _ (event.Woken p g) refl refl refl refl
+grows-by_reference p w (Task g) = grows-log_if _ w _ (event.Woken p g) refl refl refl
 grows-by_reference p w (Outside y) = grows-same _ _ refl
 
 grows-wake_own : (p : ℕ) (w : World) (x : RunPoll) → Grows p w (wake_own p w x).world
 grows-wake_own p w x =
     let v : World = log w (event.WakerCalled p (of.Run x.run) x.poll x.waker) in
-    grows-and w v _ (grows-log w v (event.WakerCalled p (of.Run x.run) x.poll x.waker) refl refl refl refl)
+    grows-and w v _ (grows-log w v (event.WakerCalled p (of.Run x.run) x.poll x.waker) refl refl refl)
     (grows-by_reference p v x.waker)
 
 grows-run : (p : ℕ) (h : Hint) (o : RunOp) (w : World) → Grows p w (run_act p h o w).world
@@ -240,14 +228,14 @@ pub grows-act : (p : ℕ) (h : Hint) (o : Op) (w : World) → is_end o ≡ false
 grows-act p h (op.Table table_op.Enter) w n = grows-enter _ _ p w
 grows-act p h (op.Queue queue_op.Take) w n = grows-take _ w
 grows-act p h (op.Queue (queue_op.Append f)) w n = grows-append _ w f
-grows-act p h (op.Move move.WakeByReference f) w n = grows-log_if _ w _ (event.Woken p f) refl refl refl refl
+grows-act p h (op.Move move.WakeByReference f) w n = grows-log_if _ w _ (event.Woken p f) refl refl refl
 grows-act p h (op.Move move.Wake f) w n = grows-wake p w f
-grows-act p h (op.Move move.TakeUp f) w n = grows-log_if _ w _ (event.PollBegun p f) refl refl refl refl
-grows-act p h (op.Move move.Cancel f) w n = grows-log_if _ w _ (event.Cancelled p f) refl refl refl refl
-grows-act p h (op.Move move.Detach f) w n = grows-log_if _ w _ (event.Detached p f) refl refl refl refl
-grows-act p h (op.User (user_op.BeginDrop f)) w n = grows-log _ _ (event.Dropped p f) refl refl refl refl
+grows-act p h (op.Move move.TakeUp f) w n = grows-log_if _ w _ (event.PollBegun p f) refl refl refl
+grows-act p h (op.Move move.Cancel f) w n = grows-log_if _ w _ (event.Cancelled p f) refl refl refl
+grows-act p h (op.Move move.Detach f) w n = grows-log_if _ w _ (event.Detached p f) refl refl refl
+grows-act p h (op.User (user_op.BeginDrop f)) w n = grows-log _ _ (event.Dropped p f) refl refl refl
 grows-act p h (op.Table (table_op.LeaveTable f)) w n = grows-leave _ w f
-grows-act p h (op.User (user_op.BeginDropOutput f)) w n = grows-log _ _ (event.OutputDropped p f) refl refl refl refl
+grows-act p h (op.User (user_op.BeginDropOutput f)) w n = grows-log _ _ (event.OutputDropped p f) refl refl refl
 grows-act p h (op.Waker (waker_op.CopyWaker f held)) w n = grows-copy _ w f held
 grows-act p h (op.Handle (handle_op.Look f a)) w n =
     grows-look (moves.poll (task w f)).owed.answer p w f a (moves.poll (task w f))
@@ -271,9 +259,9 @@ grows-act p h _ w n = grows-same _ _ refl
 
 pub grows-react : (p : ℕ) (o : Op) (u : UserEnd) (w : World) → Grows p w (react p o u w).world
 grows-react p (op.User (user_op.Poll f)) (end.Polled answer.Pending) w =
-    grows-log _ _ (event.Answered p f answer.Pending) refl refl refl refl
+    grows-log _ _ (event.Answered p f answer.Pending) refl refl refl
 grows-react p (op.User (user_op.Poll f)) (end.Polled answer.Ready) w =
-    grows-log _ _ (event.Answered p f answer.Ready) refl refl refl refl
+    grows-log _ _ (event.Answered p f answer.Ready) refl refl refl
 grows-react p (op.User (user_op.Poll f)) end.Done w = grows-same _ _ refl
 grows-react p (op.User (user_op.PollOwn x)) (end.Polled answer.Pending) w = grows-same _ _ refl
 grows-react p (op.User (user_op.PollOwn x)) (end.Polled answer.Ready) w = grows-same _ _ refl
@@ -300,94 +288,9 @@ grows-begun p w here (call.Cancel f) = grows-same _ _ refl
 grows-begun p w here (call.Detach f) = grows-same _ _ refl
 grows-begun p w here (call.DropHandle f) = grows-same _ _ refl
 grows-begun p w here call.NewTick = grows-same _ _ refl
-grows-begun p w here (call.PollTick t b) = grows-log _ _ (event.TickPolled p t) refl refl refl refl
-grows-begun p w here (call.DropTick t) = grows-log _ _ (event.TickDropped p t) refl refl refl refl
+grows-begun p w here (call.PollTick t b) = grows-log _ _ (event.TickPolled p t) refl refl refl
+grows-begun p w here (call.DropTick t) = grows-log _ _ (event.TickDropped p t) refl refl refl
 grows-begun p w here call.NewRun = grows-same _ _ refl
-grows-begun p w here (call.PollRun r b) = grows-log _ _ (event.RunPolled p r) refl refl refl refl
-grows-begun p w here (call.DropRun r) = grows-log _ _ (event.RunDropped p r) refl refl refl refl
-grows-begun p w here call.DropExecutor = grows-log _ _ (event.DropBegun p) refl refl refl refl
-
--- a whole step
-
--- what follows es in a trace, where no call begins in it
-pub record More (es now : Trace) : Type 0 where
-  pub more : Trace
-  pub is : now ≡ es ++ more
-  pub none : has begins_one more ≡ false
-
--- a call that ends adds its end
-more-settled : (o : Option Op) (es : Trace) (p : ℕ) (w : World) (os : List Op) (more : Trace) → w.trace ≡ es ++ more →
-    has begins_one more ≡ false → More es (settled_by (end_of o) p w os).world.trace
-more-settled (Some (op.End r held)) es p w os more e n = record {
-  more = more ++ event.CallEnded p r ∷ [];
-  is = ap (λ (xs : Trace). xs ++ event.CallEnded p r ∷ []) e ∙ append_assoc es more (event.CallEnded p r ∷ []);
-  none = has-append begins_one more (event.CallEnded p r ∷ []) n refl;
-}
-more-settled None es p w os more e n = record { more = more; is = e; none = n }
-more-settled (Some _) es p w os more e n = record { more = more; is = e; none = n }
-
-more-onto : (es : Trace) (p : ℕ) (d : Done) (rest : List Op) → More es d.world.trace →
-    More es (onto p d rest).world.trace
-more-onto es p d rest m = more-settled (top (rest ++ reverse d.next)) es p d.world (rest ++ reverse d.next) m.more m.is
-    m.none
-
--- an end that stands on top and is done adds itself
-more-act : (p : ℕ) (h : Hint) (o : Op) (w : World) (b : Bool) → is_end o ≡ b → More w.trace (act p h o w).world.trace
-more-act p h o w false n = let g : Grows p w (act p h o w).world = grows-act p h o w n in
-    record { more = g.more; is = g.is; none = g.none_begins }
-more-act p h (op.End r held) w true n = record { more = event.CallEnded p r ∷ []; is = refl; none = refl }
-more-act p h _ w true n = absurd (cc)
-
-more-react : (p : ℕ) (o : Op) (u : UserEnd) (w : World) → More w.trace (react p o u w).world.trace
-more-react p o u w = let g : Grows p w (react p o u w).world = grows-react p o u w in
-    record { more = g.more; is = g.is; none = g.none_begins }
-
-more-begun : (p : ℕ) (w : World) (here : Option Waker) (c : Call) →
-    More (w.trace ++ event.CallBegun p c ∷ []) (begun p (log w (event.CallBegun p c)) here c).world.trace
-more-begun p w here c = let g : Grows p (log w (event.CallBegun p c))
-    (begun p (log w (event.CallBegun p c)) here c).world =
-    grows-begun p (log w (event.CallBegun p c)) here c in record { more = g.more; is = g.is; none = g.none_begins }
-
-more-gone_on : (p : ℕ) (w : World) (os : List Op) (o : Option Op) (d : Op → Done) →
-    ((x : Op) → More w.trace (d x).world.trace) →
-    More w.trace (gone_on p w os o d).world.trace
-more-gone_on p w os None d k = record { more = []; is = sym (append-nil w.trace); none = refl }
-more-gone_on p w os (Some o) d k = more-onto w.trace p (d o) (below_top os) (k o)
-
--- what a step does to the machine and its trace: nothing; it adds something in which no call begins; or, first of all,
--- the beginning of its call
-pub data Adds (s : Machine) (t : Step) (now : Machine) : Type 0 where
-  refused : now ≡ s → Adds s t now
-  goes_on : is_onward t ≡ true → More s.world.trace now.world.trace → Adds s t now
-  begins : (p : ℕ) (c : Call) → t ≡ Begin p c → More (s.world.trace ++ event.CallBegun p c ∷ []) now.world.trace →
-      Adds s t now
-
-adds-after : (s : Machine) (t : Step) → Adds s t (after s t)
-adds-after s (Begin p c) =
-    begins p c refl (more-onto (s.world.trace ++ event.CallBegun p c ∷ []) p
-    (begun p (log s.world (event.CallBegun p c)) (mine (top (stack s p))) c) (stack s p)
-    (more-begun p s.world (mine (top (stack s p))) c))
-adds-after s (Go p h) =
-    goes_on refl (more-gone_on p s.world (stack s p) (top (stack s p)) (λ o. act p h o s.world)
-    (λ o. more-act p h o s.world (is_end o) refl))
-adds-after s (Answers p u) =
-    goes_on refl (more-gone_on p s.world (stack s p) (top (stack s p)) (λ o. react p o u s.world)
-    (λ o. more-react p o u s.world))
-
-adds-by : (s : Machine) (t : Step) (r : Option StepError) → Adds s t (stepped s (step_by r s t))
-adds-by s t (Some e) = refused refl
-adds-by s t None = adds-after s t
-
-pub adds : (s : Machine) (t : Step) → Adds s t (stepped s (step s t))
-unfolding step
-adds s t = adds-by s t (refusal s t)
-
--- whatever is done, what has happened stays
-pub continues : (s : Machine) (t : Step) → IsContinued s.world.trace (stepped s (step s t)).world.trace
-continues s t = by-kind (adds s t)
-  where
-    by-kind : Adds s t (stepped s (step s t)) → IsContinued s.world.trace (stepped s (step s t)).world.trace
-    by-kind (refused e) = ([], ap (λ (m : Machine). m.world.trace) e ∙ sym (append-nil s.world.trace))
-    by-kind (goes_on k m) = (m.more, m.is)
-    by-kind (begins p c e m) =
-        (event.CallBegun p c ∷ m.more, m.is ∙ append_assoc s.world.trace (event.CallBegun p c ∷ []) m.more)
+grows-begun p w here (call.PollRun r b) = grows-log _ _ (event.RunPolled p r) refl refl refl
+grows-begun p w here (call.DropRun r) = grows-log _ _ (event.RunDropped p r) refl refl refl
+grows-begun p w here call.DropExecutor = grows-log _ _ (event.DropBegun p) refl refl refl

@@ -54,9 +54,10 @@ use Rattle.executor_model.proofs.SleepersNext.{Blind, search-blind}
 use Rattle.executor_model.proofs.Spawning.{top-last}
 use Rattle.executor_model.proofs.UsingSteps.{AllUsed, used-ends, used-moves, used-start}
 use Rattle.executor_model.proofs.Ways.{Way, acted, reacted, called, along}
+use Rattle.executor_model.proofs.Reached.{Reached}
+use Rattle.runs_laws.proofs.Reached.{has-free}
 use Rattle.runs_laws.specs.GoingOn.{held_of}
 use Rattle.runs_laws.proofs.Beside.{by_reference}
-use Rattle.runs_laws.proofs.Reached.{Reached, has-free}
 
 -- nothing that is done under the lock, or gives it back, follows later than next
 abbrev FirstHolds : List Op → Type 0

@@ -23,14 +23,13 @@ use Rattle.executor_model.specs.Steps.{refusal, part_after, after, party_of, run
 use Rattle.executor_model.proofs.Calls.{calling_of, begun_by, ended_by}
 use Rattle.executor_model.proofs.Lift.{no_hint}
 use Rattle.executor_model.proofs.Resting.{Deep, rests}
+use Rattle.executor_model.proofs.Reached.{Reached, run-first, run-then, reached-more, reached-step, deep-here}
 use Rattle.runs_laws.specs.LoneEnds.{is_onward_of, are_onward_of, IsLoneCall, LoneCallsEnd}
 use Rattle.runs_laws.specs.GoingOn.{CanGoOn, IsTaken, held_of}
 use Rattle.runs_laws.specs.Remaining.{remaining, is_onward, are_onward}
 use Rattle.runs_laws.proofs.Ends.{lowers, ends}
 use Rattle.runs_laws.proofs.GoingOn.{goes-on, held-here, holder-goes-on, holding-free}
 use Rattle.runs_laws.proofs.Holding.{has-top}
-use Rattle.runs_laws.proofs.Reached.{Reached, run-first, run-then, reached-more}
-use Rattle.runs_laws.proofs.Reached.{reached-step, deep-here}
 
 left-true : (a b : Bool) → (a && b) ≡ true → (a ≡ true) × (b ≡ true)
 left-true true b e = (refl, e)

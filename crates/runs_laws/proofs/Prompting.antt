@@ -61,7 +61,7 @@ use Rattle.executor_model.proofs.Resting.{calling-is}
 use Rattle.executor_model.proofs.RunsNext.{BlindToSearches, common-unseen, look-unseen, own-unseen, steal-unseen}
 use Rattle.executor_model.proofs.RunsNext.{walk-unseen}
 use Rattle.executor_model.proofs.SleepersNext.{goes-unseen, tell-unseen}
-use Rattle.executor_model.proofs.TraceMore.{left-false, right-false}
+use Rattle.executor_model.proofs.Tests.{left-false, right-false}
 use Rattle.runs_laws.specs.AtOnce.{doer, is_by, deeds}
 use Rattle.runs_laws.proofs.Growing.{ends_one, is_end, Grows, not-by}
 

@@ -43,8 +43,8 @@ use Rattle.executor_model.specs.World.{World, Stage, New, Listed, Ended, Run, Do
 use Rattle.executor_model.specs.World.{own_of, put_own, task}
 use Rattle.executor_model.proofs.Lists.{same_is, weigh-append}
 use Rattle.executor_model.proofs.RunsAside.{runs_of, unseen}
-use Rattle.executor_model.proofs.RunsMoving.{Weighs, walk-by, weighs-found, weighs-stolen}
-use Rattle.runs_laws.proofs.Beside.{by_reference, nothing-by}
+use Rattle.executor_model.proofs.RunsMoving.{Weighs, walk-by, weighs-found, weighs-stolen, nothing-by}
+use Rattle.runs_laws.proofs.Beside.{by_reference}
 use Rattle.runs_laws.specs.Costs.{left_by, steps_of, steps_of_search, steps_then, walk_of, walk_then}
 use Rattle.runs_laws.specs.Remaining.{steps_kept, steps_of_place, steps_of_runs}
 use Rattle.runs_laws.proofs.Spending.{Spends, kept-log, kept-parts, costs-wake, spends-logged}

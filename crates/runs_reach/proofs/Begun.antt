@@ -38,9 +38,9 @@ use Rattle.executor_model.proofs.Stepping.{step-refused}
 use Rattle.executor_model.proofs.Quieting.{asking, quiet-empties}
 use Rattle.executor_model.proofs.AskingRuns.{Heard, heard}
 use Rattle.executor_model.proofs.Resting.{Deep, deep}
+use Rattle.executor_model.proofs.TraceSteps.{IsContinued, run-continues}
 use Rattle.runs_reach.specs.AtRest.{BeginsAtRest, TicksAreExact, EmptinessIsExact}
 use Rattle.runs_reach.specs.Ticks.{ticks}
-use Rattle.runs_reach.proofs.Adding.{IsContinued, run-continues}
 use Rattle.runs_reach.proofs.Finding.{Found, found, no-more}
 use Rattle.runs_reach.proofs.Following.{IsAlone, first-of, follow}
 use Rattle.runs_reach.proofs.Inside.{Inside, not-no}

@@ -9,9 +9,9 @@ use Rattle.executor_model.specs.declared.event.Event.TheVariants as event
 use Rattle.executor_model.specs.AwaiterKept.{since}
 use Rattle.executor_model.specs.Keeper.{is_kept, is_run_drop}
 use Rattle.executor_model.specs.Trace.{Trace, has, is_poll}
-use Rattle.runs_reach.proofs.Dueness.{by_last}
+use Rattle.executor_model.proofs.Pushes.{any-push}
+use Rattle.executor_model.proofs.Dueness.{by_last}
 use Rattle.runs_reach.proofs.Opens.{get-old, get-new, since-old, since-new}
-use Rattle.runs_reach.proofs.Pushes.{any-push}
 
 pub record Bond : Type 0 where
   -- it came there, and it wasn't polled nor the run dropped since; which run, by which party, and at which place

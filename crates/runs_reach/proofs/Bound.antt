@@ -11,8 +11,8 @@ use Rattle.executor_model.specs.Sound.{Pend, times}
 use Rattle.executor_model.specs.Trace.{Trace, has}
 use Rattle.executor_model.specs.World.{World, Ended, own_of, run_of}
 use Rattle.executor_model.proofs.TraceGrows.{Grows, is_ordinary}
-use Rattle.executor_model.proofs.TraceMore.{over-more}
 use Rattle.executor_model.proofs.UsingWorlds.{is_past}
+use Rattle.executor_model.proofs.TraceMore.{over-more}
 use Rattle.runs_reach.proofs.Bonds.{Bond, binds, bond, bond-push}
 use Rattle.runs_reach.proofs.Ran.{has-same}
 use Rattle.runs_reach.proofs.Safe.{Safe}

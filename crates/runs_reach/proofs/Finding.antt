@@ -9,9 +9,9 @@ use Rattle.executor_model.specs.declared.step.Step.{Step}
 use Rattle.executor_model.specs.declared.step.Step.TheVariants.{Begin}
 use Rattle.executor_model.specs.Trace.{Trace, has}
 use Rattle.executor_model.specs.Steps.{Machine, step, stepped, run}
-use Rattle.executor_model.proofs.TraceMore.{left-false, right-false}
-use Rattle.runs_reach.proofs.Adding.{IsContinued, begins_one, Adds, adds, run-continues}
-use Rattle.runs_reach.proofs.Adding.Adds.{refused, goes_on, begins}
+use Rattle.executor_model.proofs.TraceSteps.{IsContinued, begins_one, Adds, adds, run-continues}
+use Rattle.executor_model.proofs.TraceSteps.Adds.{refused, goes_on, begins}
+use Rattle.executor_model.proofs.Tests.{left-false, right-false}
 
 abbrev rest_of : Trace → Trace
 rest_of [] = []

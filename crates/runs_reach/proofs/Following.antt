@@ -19,8 +19,8 @@ use Rattle.executor_model.specs.Steps.{Machine, stack, top, accepts, unless, go_
 use Rattle.executor_model.specs.Steps.{party_of, part_refusal, step, stepped, run}
 use Rattle.executor_model.proofs.Lists.{same_cases}
 use Rattle.executor_model.proofs.Stepping.{step-refused}
-use Rattle.runs_reach.proofs.Adding.{IsContinued, Adds, adds, run-continues}
-use Rattle.runs_reach.proofs.Adding.Adds.{refused, goes_on, begins}
+use Rattle.executor_model.proofs.TraceSteps.{IsContinued, Adds, adds, run-continues}
+use Rattle.executor_model.proofs.TraceSteps.Adds.{refused, goes_on, begins}
 use Rattle.runs_reach.proofs.Finding.{heads, no-more}
 
 -- this event begins no call

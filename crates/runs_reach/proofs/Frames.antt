@@ -41,9 +41,9 @@ use Rattle.executor_model.proofs.Lists.{same_is, weigh-append, weigh-below}
 use Rattle.executor_model.proofs.Resting.{Opens, idle-stack, opens as begins-answering}
 use Rattle.executor_model.proofs.AwaitedTies.{stack-then}
 use Rattle.executor_model.proofs.TraceGrows.{Grows, Allows, is_ordinary, grows-act, grows-begun, grows-react}
-use Rattle.executor_model.proofs.TraceMore.{left-false, right-false}
 use Rattle.executor_model.proofs.Ways.{Way, along}
 use Rattle.executor_model.proofs.Ways.Way.{acted, reacted, called}
+use Rattle.executor_model.proofs.Tests.{left-false, right-false}
 use Rattle.runs_reach.proofs.Answering.{answers_of, other_of, few, Hands, hands-act, hands-react, is_end}
 use Rattle.runs_reach.proofs.Opens.{Open, opens, opens_one, opens-push, opens-none}
 use Rattle.runs_reach.proofs.Opened.{Tells, at, tells-none, tells-push, tells-poll, polls_no_run}

@@ -30,13 +30,13 @@ use Rattle.executor_model.proofs.Calls.{calling_of}
 use Rattle.executor_model.proofs.CallsGroups.{calls-act}
 use Rattle.executor_model.proofs.Lift.{topped}
 use Rattle.executor_model.proofs.Lists.{same_cases, weigh-append, weigh-reverse}
-use Rattle.runs_reach.proofs.Adding.{ends_one, none-ends, run-continues}
 use Rattle.runs_reach.proofs.Answering.{is_end}
 use Rattle.runs_reach.proofs.Finding.{heads, no-more}
 use Rattle.runs_reach.proofs.Following.{IsAlone, still-go, still-answer, wrong-answer, not-begun}
 use Rattle.executor_model.specs.Doing.{act}
 use Rattle.executor_model.proofs.TraceGrows.{Allows, Grows, grows, grows-act, grows-react}
-use Rattle.executor_model.proofs.TraceMore.{left-false}
+use Rattle.executor_model.proofs.TraceSteps.{ends_one, none-ends, run-continues}
+use Rattle.executor_model.proofs.Tests.{left-false}
 
 abbrev yes : Hold → Op
 yes held = op.End reply.Yes held

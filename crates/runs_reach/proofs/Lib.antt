@@ -1,5 +1,3 @@
-pub mod Pushes
-pub mod Dueness
 pub mod Opens
 pub mod Opened
 pub mod Endings
@@ -22,7 +20,6 @@ pub mod Bound
 pub mod BoundSteps
 pub mod BoundWays
 pub mod Placing
-pub mod Adding
 pub mod Reached
 pub mod Ticking
 pub mod LoneMoves

@@ -27,13 +27,13 @@ use Rattle.executor_model.specs.Steps.{Machine, stack, top, answer_refusal, onto
 use Rattle.executor_model.specs.Steps.{with_part, after, refusal, run, start}
 use Rattle.executor_model.proofs.Quieting.{quiet-emptiness}
 use Rattle.executor_model.proofs.Resting.{rests}
+use Rattle.executor_model.proofs.Reached.{Reached, run-first, run-then, run-of, reached-more, good-here, deep-here}
 use Rattle.runs_reach.specs.LoneAnswers.{IsAnswered, IsLoneEmptinessExact, IsLoneTickExact}
 use Rattle.runs_laws.specs.LoneEnds.{are_onward_of, IsLoneCall}
+use Rattle.runs_reach.proofs.Reached.{bonded-here, heard-here}
 use Rattle.runs_reach.specs.Reach.{TakesCommon}
 use Rattle.runs_reach.proofs.Placing.{idle, queue-common}
 use Rattle.runs_reach.proofs.Ticking.{first-times}
-use Rattle.runs_reach.proofs.Reached.{Reached, run-first, run-then, run-of, reached-more}
-use Rattle.runs_reach.proofs.Reached.{bonded-here, good-here, heard-here, deep-here}
 use Rattle.runs_reach.proofs.LoneTicks.{left-true, in-range, of-party, after-is, no-more}
 use Rattle.runs_reach.proofs.Searching.{First, first-taken, none-found}
 use Rattle.runs_reach.proofs.Reaching.{takes-common}

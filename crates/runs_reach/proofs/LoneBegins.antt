@@ -13,8 +13,9 @@ use Rattle.executor_model.specs.Rows.{ticking_of}
 use Rattle.executor_model.specs.Steps.{Machine, stack, top, is_unused, lives, unless, begin_refusal, refusal}
 use Rattle.executor_model.specs.World.{tick_of}
 use Rattle.executor_model.proofs.Resting.{all-rest}
+use Rattle.runs_reach.proofs.Reached.{bonded-here, heard-here}
+use Rattle.executor_model.proofs.Reached.{Reached, good-here, deep-here}
 use Rattle.runs_reach.proofs.Placing.{here, idle}
-use Rattle.runs_reach.proofs.Reached.{Reached, bonded-here, good-here, heard-here, deep-here}
 use Rattle.runs_reach.proofs.Ticking.{none-refused}
 
 module _ (s : Machine) (r : Reached s) (rest : IsAtRest s) (p : ℕ) where

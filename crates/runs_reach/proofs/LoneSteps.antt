@@ -30,6 +30,7 @@ use Rattle.executor_model.proofs.Spawning.{top-last}
 use Rattle.runs_reach.specs.Reach.{takes}
 use Rattle.runs_reach.proofs.LoneMoves.{stray_of, Inner, logged, inner-act, inner-carried, inner-react}
 use Rattle.executor_model.specs.Doing.{act}
+use Rattle.executor_model.proofs.Tests.{or-left, or-right}
 
 -- what goes on isn't user code, and what answers is accepted
 
@@ -76,14 +77,6 @@ pub record Advances (f : ℕ) (w : World) (d : Done) : Type 0 where
 
 self : (f g : ℕ) → f ≡ g → eqb f g ≡ true
 self f g e = grind (arith, nat_tests)
-
-or-left : (a b : Bool) → a ≡ true → (a || b) ≡ true
-or-left true b e = refl
-or-left false b e = absurd (cc)
-
-or-right : (a b : Bool) → b ≡ true → (a || b) ≡ true
-or-right true b e = refl
-or-right false b e = e
 
 taken-up : (p f g : ℕ) (w : World) (closed : Bool) → f ≡ g → among f w.table ≡ true →
     Advances f w (carried (log_if (not closed) w (event.PollBegun p g)) g (moves.take_up_by closed (task w g)))

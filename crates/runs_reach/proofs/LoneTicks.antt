@@ -18,10 +18,10 @@ use Rattle.executor_model.specs.Runs.{run_all}
 use Rattle.executor_model.specs.Steps.{Machine, Part, stack, top, accepts, onto, go_refusal, answer_refusal}
 use Rattle.executor_model.specs.Steps.{part_refusal, party_of, refusal, unless, part_after, with_part, after}
 use Rattle.runs_laws.specs.LoneEnds.{is_onward_of, are_onward_of}
-use Rattle.runs_reach.proofs.Reached.{Reached, run-first, reached-step}
 use Rattle.runs_reach.proofs.LoneSteps.{Going, Ended, Arrives, HasEntry, answering, on-go, on-answer}
 use Rattle.runs_reach.proofs.LoneSteps.Arrives.{going, ended}
 use Rattle.executor_model.specs.Doing.{act}
+use Rattle.executor_model.proofs.Reached.{Reached, run-first, reached-step}
 
 pub left-true : (a b : Bool) → (a && b) ≡ true → (a ≡ true) × (b ≡ true)
 left-true true b e = (refl, e)

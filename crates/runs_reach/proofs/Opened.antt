@@ -10,7 +10,7 @@ use Rattle.executor_model.specs.Trace.{Trace}
 use Rattle.executor_model.specs.Weights.{same}
 use Rattle.executor_model.proofs.Calls.{begin_of, end_of}
 use Rattle.executor_model.proofs.Lists.{same_is}
-use Rattle.runs_reach.proofs.Dueness.{by_last}
+use Rattle.executor_model.proofs.Dueness.{by_last}
 use Rattle.runs_reach.proofs.Opens.{Open, opens, opens_one, opens-push, opens-none, get-old, get-new}
 use Rattle.runs_reach.proofs.Opens.{get-push, IsOpen, open-push, open-now, Before, open-before}
 

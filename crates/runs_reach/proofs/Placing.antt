@@ -24,11 +24,11 @@ use Rattle.executor_model.proofs.Stories.{story}
 use Rattle.executor_model.proofs.Telling.{accepted-counts, begun-has, counted-there, fallen-counts, there-or-none}
 use Rattle.executor_model.proofs.Using.{emptying_of}
 use Rattle.executor_model.proofs.UsingWorlds.{is_over_stage, is_past}
+use Rattle.executor_model.proofs.Dueness.{asked-is, not-over, ready-is, unopened}
 use Rattle.runs_reach.specs.Places.{StandsWithKeeper}
 use Rattle.runs_reach.proofs.Answering.{readying_of}
 use Rattle.runs_reach.proofs.Bonds.{Bond, bond, bond-is, reads}
 use Rattle.runs_reach.proofs.BoundWays.{Bonded, bonded}
-use Rattle.runs_reach.proofs.Dueness.{asked-is, not-over, ready-is, unopened}
 use Rattle.runs_reach.proofs.Ran.{AllReady}
 use Rattle.runs_reach.proofs.Safe.{Safe}
 

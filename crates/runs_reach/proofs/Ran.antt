@@ -13,11 +13,12 @@ use Rattle.executor_model.specs.Standing.{polls_sleeper}
 use Rattle.executor_model.specs.Trace.{Trace, has}
 use Rattle.executor_model.specs.World.{World, Ended, run_of}
 use Rattle.executor_model.proofs.TraceGrows.{is_ordinary}
-use Rattle.executor_model.proofs.TraceMore.{over-more}
 use Rattle.executor_model.proofs.UsingWorlds.{is_over_stage, is_past}
+use Rattle.executor_model.proofs.Pushes.{any-push}
+use Rattle.executor_model.proofs.TraceMore.{over-more}
+use Rattle.executor_model.proofs.Tests.{or-left, or-right}
 use Rattle.runs_reach.proofs.Endings.{ends-before, ends-later}
 use Rattle.runs_reach.proofs.Opens.{IsOpen, get-old, get-push, get-within, since-new}
-use Rattle.runs_reach.proofs.Pushes.{any-push}
 
 -- whatever came into run r's own queue, its own future was ready since
 abbrev pub AllReady : ℕ → Trace → Type 0
@@ -43,14 +44,6 @@ pub record Ran (w : World) (r offs drops readies : ℕ) : Type 0 where
 or-false : (a b : Bool) → b ≡ false → (a || b) ≡ a
 or-false true b e = refl
 or-false false b e = e
-
-or-left : (a b : Bool) → a ≡ true → (a || b) ≡ true
-or-left true b e = refl
-or-left false b e = absurd (cc)
-
-or-right : (a b : Bool) → b ≡ true → (a || b) ≡ true
-or-right true b e = refl
-or-right false b e = e
 
 pub has-same : (t : Event → Bool) (es : Trace) (e : Event) → t e ≡ false → has t (es ++ e ∷ []) ≡ has t es
 has-same t es e z = any-push t t es e ∙ or-false (has t es) (t e) z

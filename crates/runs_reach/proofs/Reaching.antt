@@ -22,14 +22,16 @@ use Rattle.executor_model.specs.Steps.{Machine, run, start}
 use Rattle.executor_model.proofs.Lists.{same_cases}
 use Rattle.executor_model.proofs.Stories.{no-longer}
 use Rattle.executor_model.proofs.Entering.{queue-agrees}
+use Rattle.executor_model.proofs.TraceSteps.{IsContinued, run-continues}
+use Rattle.executor_model.proofs.Reached.{Reached, run-of, good-here, deep-here}
+use Rattle.executor_model.proofs.Tests.{or-left, or-right}
 use Rattle.runs_laws.specs.LoneEnds.{IsLoneCall, LoneCallsEnd}
 use Rattle.runs_reach.specs.Reach.{found_answer, LoneSearch, AreLoneSearches, takes, TakesCommon}
 use Rattle.runs_reach.specs.Reach.{since, HasCommons, IsInReach, IsReachedInOrder}
 use Rattle.runs_reach.proofs.LoneBegins.{poll-begins, tick-begins}
+use Rattle.runs_reach.proofs.Reached.{bonded-here, heard-here}
 use Rattle.runs_reach.proofs.Placing.{common-queue, queue-common}
 use Rattle.runs_reach.proofs.Ticking.{first-times}
-use Rattle.runs_reach.proofs.Adding.{IsContinued, run-continues}
-use Rattle.runs_reach.proofs.Reached.{Reached, run-of, bonded-here, good-here, heard-here, deep-here}
 use Rattle.runs_reach.proofs.Searching.{First, first-taken, reached-new, at-rest}
 
 module _ (s : Machine) (r : Reached s) (rest : IsAtRest s) where
@@ -82,14 +84,6 @@ grows [] s new e =
     record { grown = []; trace = sym (ap (λ (m : Machine). m.world.trace) e) ∙ sym (append-nil s.world.trace) }
 grows (t ∷ ts) s new k = grows-and s k.0 new (run-grows (Begin t.party t.call ∷ t.steps) s k.0 k.1.made)
     (grows ts k.0 new k.2)
-
-or-left : (a b : Bool) → a ≡ true → (a || b) ≡ true
-or-left true b e = refl
-or-left false b e = absurd (cc)
-
-or-right : (a b : Bool) → b ≡ true → (a || b) ≡ true
-or-right true b e = refl
-or-right false b e = e
 
 pub record Takes (f : ℕ) (s new : Machine) : Type 0 where
   pub grows : Grows s new

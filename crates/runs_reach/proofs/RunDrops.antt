@@ -35,14 +35,14 @@ use Rattle.executor_model.proofs.Lists.{weigh-reverse}
 use Rattle.executor_model.proofs.Resting.{all-rest, rests}
 use Rattle.executor_model.proofs.Using.{emptying_of}
 use Rattle.executor_model.proofs.UsingWorlds.{idle-act, is_over_stage}
+use Rattle.executor_model.proofs.Reached.{Reached, deep-here, good-here, reached-more, reached-step, run-first}
 use Rattle.runs_laws.specs.LoneEnds.{IsLoneCall, are_onward_of, is_onward_of}
 use Rattle.runs_reach.specs.RunReach.{Keeps, LeavesCommon}
 use Rattle.runs_reach.proofs.LoneMoves.{Inner, inner-act, inner-react, stray_of}
 use Rattle.runs_reach.proofs.LoneSteps.{Last, from-end}
+use Rattle.runs_reach.proofs.Reached.{bonded-here, heard-here}
 use Rattle.runs_reach.proofs.LoneTicks.{idle-none, in-range, left-true, of-party, stack-set}
 use Rattle.runs_reach.proofs.Placing.{here, idle, keeper-own, queue-common}
-use Rattle.runs_reach.proofs.Reached.{Reached, bonded-here, deep-here, good-here, heard-here, reached-more, reached-step}
-use Rattle.runs_reach.proofs.Reached.{run-first}
 use Rattle.runs_reach.proofs.RunWalks.{Onward, both-light, light, onward}
 use Rattle.runs_reach.proofs.RunWalks.Onward.{acted, answered}
 use Rattle.runs_reach.proofs.Searching.{at-rest}

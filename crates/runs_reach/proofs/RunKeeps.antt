@@ -1,6 +1,6 @@
 -- A poll of a run that is made alone leaves each future that it doesn't take nearer to the front of the run's queue.
 use Rattle.std.proofs.Common.{◌≡◌, ◌⊎◌, ◌∙◌, inl, inr, ⊎_elim, ℕ, zero, suc, ◌<◌, ◌≤◌, List, [], ◌∷◌, ◌++◌, length}
-use Rattle.std.proofs.Common.{Bool, true, false, ◌||◌, drop, refl, sym, ap, subst, arith, append-nil, append_assoc, length-append, Ok}
+use Rattle.std.proofs.Common.{true, false, drop, refl, sym, ap, subst, arith, append-nil, append_assoc, length-append, Ok}
 use Rattle.std.proofs.lemmas.List.{reverse-append}
 use Rattle.std.proofs.lemmas.List.Folds.{list_any-append}
 use Rattle.std.proofs.Math.Seq.{drop-append_seam}
@@ -31,15 +31,17 @@ use Rattle.executor_model.specs.World.{Done, World, log, own_of}
 use Rattle.executor_model.proofs.Lists.{times-append, weigh-append, weigh-reverse}
 use Rattle.executor_model.proofs.Spawning.{top-last}
 use Rattle.executor_model.proofs.Stories.{no-longer}
+use Rattle.executor_model.proofs.TraceSteps.{More, more-act, more-onto, more-react}
+use Rattle.executor_model.proofs.Reached.{Reached, deep-here, good-here, run-first}
+use Rattle.executor_model.proofs.Tests.{or-left, or-right}
 use Rattle.runs_laws.specs.LoneEnds.{are_onward_of, is_onward_of}
 use Rattle.runs_reach.specs.Reach.{since, takes}
 use Rattle.runs_reach.specs.RunReach.{AreLonePolls, HasKept, IsKeptReached, IsLonePoll, Keeps, LoneRunPoll}
-use Rattle.runs_reach.proofs.Adding.{More, more-act, more-onto, more-react}
 use Rattle.runs_reach.proofs.LoneMoves.{stray_of}
 use Rattle.runs_reach.proofs.LoneSteps.{HasEntry, Last, from-end}
+use Rattle.runs_reach.proofs.Reached.{bonded-here, heard-here}
 use Rattle.runs_reach.proofs.LoneTicks.{idle-none, left-true, of-party, stack-set}
 use Rattle.runs_reach.proofs.Placing.{in-own, keeper-own, own-keeper, queued-due}
-use Rattle.runs_reach.proofs.Reached.{Reached, bonded-here, deep-here, good-here, heard-here, run-first}
 use Rattle.runs_reach.proofs.Reaching.{Grows, Place, Takes, grows-and, place, run-grows}
 use Rattle.runs_reach.proofs.RunLeaves.{gone-onto}
 use Rattle.runs_reach.proofs.RunFinds.{Heading, light-no-end}
@@ -314,14 +316,6 @@ grows-polls r [] s new e =
 grows-polls r (t ∷ ts) s new k =
     grows-and s k.0 new (run-grows (Begin t.party (call.PollRun r t.by) ∷ t.steps) s k.0 k.1.call.made)
     (grows-polls r ts k.0 new k.2)
-
-or-left : (a b : Bool) → a ≡ true → (a || b) ≡ true
-or-left true b e = refl
-or-left false b e = absurd (cc)
-
-or-right : (a b : Bool) → b ≡ true → (a || b) ≡ true
-or-right true b e = refl
-or-right false b e = e
 
 takes-now : (f : ℕ) (s next new : Machine) → Taken f s.world.trace next.world.trace → Grows next new → Takes f s new
 takes-now f s next new t g = record {

@@ -39,14 +39,14 @@ use Rattle.executor_model.proofs.Entering.{table-agrees}
 use Rattle.executor_model.proofs.Resting.{rests}
 use Rattle.executor_model.proofs.Stories.{among_is}
 use Rattle.executor_model.proofs.Telling.{begun-has}
+use Rattle.executor_model.proofs.Reached.{Reached, deep-here, good-here, reached-more, reached-step, run-first}
 use Rattle.runs_laws.specs.LoneEnds.{are_onward_of, is_onward_of}
 use Rattle.runs_reach.specs.Reach.{since, takes}
 use Rattle.runs_reach.specs.RunReach.{IsLonePoll, IsReachedByRuns, Keeps, TakesKept, TakesOneCommon, first_answer}
 use Rattle.runs_reach.proofs.LoneSteps.{HasEntry}
 use Rattle.runs_reach.proofs.LoneTicks.{idle-none, in-range, left-true, of-party, stack-set}
+use Rattle.runs_reach.proofs.Reached.{bonded-here, heard-here}
 use Rattle.runs_reach.proofs.Placing.{common-queue, here, idle, in-own, keeper-own, own-keeper, queue-common, queued-due}
-use Rattle.runs_reach.proofs.Reached.{Reached, bonded-here, deep-here, good-here, heard-here, reached-more, reached-step}
-use Rattle.runs_reach.proofs.Reached.{run-first}
 use Rattle.runs_reach.proofs.RunFinds.{Heading, Heads, heads-found}
 use Rattle.runs_reach.proofs.RunFinds.Heading.{stealing}
 use Rattle.runs_reach.proofs.RunWalks.{Onward, Taken, from-heading, onward, with-heading}

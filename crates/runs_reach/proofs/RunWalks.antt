@@ -1,6 +1,6 @@
 -- From where a run has something in hand to where that is taken up.
-use Rattle.std.proofs.Common.{◌≡◌, ◌⊎◌, ◌∙◌, inl, inr, ⊎_elim, ℕ, ◌<◌, List, [], ◌∷◌, ◌++◌, length, Bool, true, false}
-use Rattle.std.proofs.Common.{◌||◌, refl, sym, ap, subst, arith, append-nil, append_assoc, Ok}
+use Rattle.std.proofs.Common.{◌≡◌, ◌⊎◌, ◌∙◌, inl, inr, ⊎_elim, ℕ, ◌<◌, List, [], ◌∷◌, ◌++◌, length, true, false}
+use Rattle.std.proofs.Common.{refl, sym, ap, subst, arith, append-nil, append_assoc, Ok}
 use Rattle.std.proofs.lemmas.List.{append_cancel_right, reverse-append}
 use Rattle.std.proofs.lemmas.List.Folds.{list_any-append}
 use Rattle.std.specs.Prelude.{Option, Some, None, reverse}
@@ -24,13 +24,14 @@ use Rattle.executor_model.specs.World.{Done, World, among}
 use Rattle.executor_model.proofs.Lift.{topped}
 use Rattle.executor_model.proofs.Lists.{weigh-append, weigh-reverse}
 use Rattle.executor_model.proofs.Spawning.{top-last}
+use Rattle.executor_model.proofs.TraceSteps.{IsContinued, More, more-onto, run-continues}
+use Rattle.executor_model.proofs.Reached.{Reached, reached-step, run-first, run-of}
+use Rattle.executor_model.proofs.Tests.{or-left, or-right}
 use Rattle.runs_laws.specs.LoneEnds.{are_onward_of, is_onward_of}
 use Rattle.runs_reach.specs.Reach.{takes}
-use Rattle.runs_reach.proofs.Adding.{IsContinued, More, more-onto, run-continues}
 use Rattle.runs_reach.proofs.LoneMoves.{Inner, inner-act, inner-react, stray_of}
 use Rattle.runs_reach.proofs.LoneSteps.{Advances, HasEntry, Last, Leads, Next, advances, answers, from-end, goes}
 use Rattle.runs_reach.proofs.LoneTicks.{OfParty, after-is, left-true, of-party, stack-set}
-use Rattle.runs_reach.proofs.Reached.{Reached, reached-step, run-first, run-of}
 use Rattle.runs_reach.proofs.RunFinds.{Heading, Heads, Steals, heads-steal, no-end}
 use Rattle.runs_reach.proofs.RunFinds.Heading.{stealing, taking}
 
@@ -98,14 +99,6 @@ pub record Taken (f : ℕ) (before now : Trace) : Type 0 where
   pub events : Trace
   pub is : now ≡ before ++ events
   pub taken : has (takes f) events ≡ true
-
-or-left : (a b : Bool) → a ≡ true → (a || b) ≡ true
-or-left true b e = refl
-or-left false b e = absurd (cc)
-
-or-right : (a b : Bool) → b ≡ true → (a || b) ≡ true
-or-right true b e = refl
-or-right false b e = e
 
 -- it stays so
 taken-more : (f : ℕ) (before now later more : Trace) → Taken f before now → later ≡ now ++ more → Taken f before later

@@ -34,11 +34,11 @@ use Rattle.executor_model.proofs.Lists.{same_cases, same_is, weigh_all-below, we
 use Rattle.executor_model.proofs.RunsMoves.{moves-own_length}
 use Rattle.executor_model.proofs.RunsMoving.{hull-more}
 use Rattle.executor_model.proofs.TraceGrows.{Grows}
-use Rattle.executor_model.proofs.TraceMore.{right-false}
 use Rattle.executor_model.proofs.Using.{polling_of}
 use Rattle.executor_model.proofs.UsingRuns.{idle-more}
 use Rattle.executor_model.proofs.UsingSteps.{AllUsed}
 use Rattle.executor_model.proofs.UsingWorlds.{Idle, count-set, is_over_stage, is_past}
+use Rattle.executor_model.proofs.Tests.{right-false}
 use Rattle.runs_reach.proofs.Answering.{readying_of}
 use Rattle.runs_reach.proofs.Evens.{Even, even-idle}
 use Rattle.runs_reach.proofs.Leavings.{Leaves, dropping_of, leaves-none, leaving_of}
@@ -110,7 +110,6 @@ same-alike r w v e = subst (Alike r w.trace) (sym e)
     (record { drops = refl; polls = refl; ready = λ a. a; only = λ S a. a })
 
 -- what comes into a run's own queue comes there in its poll
-
 
 over-true : (t : Stage) → t ≡ Ended → is_over_stage t ≡ true
 over-true t e = ap is_over_stage e

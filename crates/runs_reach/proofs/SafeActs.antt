@@ -1,7 +1,7 @@
 -- A future that is neither in the executor's queue nor on its way there, and whose task won't be scheduled anew, stays so,
 -- whatever is done but the beginning of its poll.
 use Rattle.std.proofs.Common.{◌≡◌, ℕ, ◌+◌, ◌<◌, List, [], ◌∷◌, ◌++◌, length, Bool, true, false, ◌||◌}
-use Rattle.std.proofs.Common.{not, drop, refl, sym, ap, ◌∙◌, ◌≤◌, arith}
+use Rattle.std.proofs.Common.{not, drop, refl, ap, arith}
 use Rattle.std.proofs.lemmas.List.{length-set}
 use Rattle.std.specs.Prelude.{Option, Some, None, slice_set}
 use Rattle.task_moves.specs.Moves as moves
@@ -37,9 +37,11 @@ use Rattle.executor_model.specs.Rows.{past_of}
 use Rattle.executor_model.specs.Sound.{times}
 use Rattle.executor_model.proofs.Cases.{by_bool, by_list, by_waker}
 use Rattle.executor_model.proofs.Marks.{IsUnmarked, unmarked}
-use Rattle.executor_model.proofs.Lists.{read_put, past_is, same_is, times-drop}
+use Rattle.executor_model.proofs.Lists.{read_put, same_is, times-drop}
 use Rattle.executor_model.proofs.CountingHandles.{stays_so, gives}
 use Rattle.executor_model.proofs.CountingHandles.{waits_on, end_registered, end_notified, next_woken}
+use Rattle.executor_model.proofs.CountingHandles.{below, first_known, own}
+use Rattle.executor_model.proofs.KnownWakers.{known_waker}
 use Rattle.runs_reach.proofs.Safe.{KeepsSafe}
 use Rattle.runs_reach.proofs.SafeRuns.{is_put, is_reschedule}
 use Rattle.runs_reach.proofs.SafeRuns.{safe-list, safe-run, safe-search_who, safe-steal}
@@ -249,13 +251,6 @@ safe-end_register_by : (b : Bool) (w : World) (f : ℕ) (a : Waker) (k : ℕ) �
 safe-end_register_by true w f a k i j = safe-end_register true _ w f a k refl i j
 safe-end_register_by false w f a k i j = safe-end_register false _ w f a k refl i j
 
-below : (n f : ℕ) → past n f ≡ 0 → f < n
-below n f e = grind (arith, past_is)
-
--- the op's own future is one
-own : (n f : ℕ) (o : Op) → past n f ≤ past_of n o → weigh (past_of n) (o ∷ []) ≡ 0 → f < n
-own n f o le e = below n f (omega (arith, le, e))
-
 safe-wake_first : (p : ℕ) (w : World) (q : List ℕ) → w.waking ≡ q →
     ((f : ℕ) (rest : List ℕ) → q ≡ f ∷ rest → f < length w.tasks) →
     KeepsSafe w (op.Closing closing_op.WakeNext ∷ []) (wake_next_by p w q)
@@ -292,22 +287,12 @@ safe-again true false c p w f e i = safe-again_closed p w f i
 safe-again false k false p w f e i = safe-again_waits p w f i
 safe-again false k true p w f e i = safe-again_given _ p w f e i
 
-known_waker : (w : World) (a : Waker) (n : ℕ) → n + waker_past (length w.tasks) a ≡ 0 → IsKnownWaker w a
-known_waker w (Task k) n z = below _ k (omega (arith, z))
-known_waker w (Outside x) n z = tt
-
 safe-call : (p : ℕ) (w : World) (f : ℕ) (a : Waker) (k : ℕ) →
     past (length w.tasks) f + waker_past (length w.tasks) a ≡ 0 →
     KeepsSafe w (op.Waker (waker_op.CallAwaiter f a k) ∷ []) (call_awaiter p w f a k)
 safe-call p w f (Task m) k z = safe-call_task (moves.is_over (task w m)) _ _ p f k w m refl refl refl
     (below _ m (omega (arith, z)))
 safe-call p w f (Outside x) k z = safe-call_outside p w f x k
-
-first_known : (w : World) → pasts (length w.tasks) w.waking ≡ 0 → (f : ℕ) (rest : List ℕ) → w.waking ≡ f ∷ rest →
-    f < length w.tasks
-first_known w u f rest e =
-    let z : past (length w.tasks) f + pasts (length w.tasks) rest ≡ 0 = sym (ap (pasts (length w.tasks)) e) ∙ u in
-    below _ f (omega (arith, z))
 
 safe-take_up_by : (b : Bool) (p : ℕ) (w : World) (f : ℕ) → (task w f).closed ≡ b → b ≡ true → f < length w.tasks →
     KeepsSafe w (op.Move move.TakeUp f ∷ [])

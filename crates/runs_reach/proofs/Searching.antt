@@ -42,12 +42,13 @@ use Rattle.runs_laws.specs.LoneEnds.{are_onward_of, IsLoneCall}
 use Rattle.runs_reach.specs.Reach.{found_answer, takes}
 use Rattle.runs_reach.proofs.Placing.{here, idle, queue-common}
 use Rattle.runs_reach.proofs.Ticking.{ticking, first-times}
-use Rattle.runs_reach.proofs.Reached.{Reached, run-first, reached-more, reached-step}
-use Rattle.runs_reach.proofs.Reached.{bonded-here, good-here, heard-here, deep-here}
+use Rattle.runs_reach.proofs.Reached.{bonded-here, heard-here}
 use Rattle.runs_reach.proofs.LoneMoves.{stray_of}
 use Rattle.runs_reach.proofs.LoneSteps.{Ended, HasEntry, answering}
 use Rattle.runs_reach.proofs.LoneTicks.{in-range, no-more, stack-set, walks, GoneOn, goes-on}
 use Rattle.executor_model.specs.ActsOfSleepers.{search_by}
+use Rattle.executor_model.proofs.Reached.{Reached, run-first, reached-more, reached-step, good-here, deep-here}
+use Rattle.executor_model.proofs.Tests.{or-left}
 
 -- what a lone call that looks leads to, where there is a future to run
 pub record First (f : ℕ) (xs : List ℕ) (p : ℕ) (c : Call) (r : Reply) (s new : Machine) : Type 0 where
@@ -68,10 +69,6 @@ takes-none f (e ∷ es) k = by (is_poll f e) (is_dropped f e) (has (takes f) es)
     by true b c d q h = absurd (cc)
     by false true c d q h = absurd (cc)
     by false false c d q h = h q
-
-or-left : (a b : Bool) → a ≡ true → (a || b) ≡ true
-or-left true b e = refl
-or-left false b e = absurd (cc)
 
 neither : (a b : Bool) → a ≡ false → b ≡ false → (a || b) ≡ false
 neither true b e k = absurd (cc)

@@ -1,4 +1,4 @@
-use Rattle.runs_laws.proofs.Growing.{continues}
+use Rattle.executor_model.proofs.TraceSteps.{continues}
 use Rattle.runs_laws.proofs.laws.traces_continue.Goals as goal
 
 pub returns : goal.returns

@@ -11,7 +11,8 @@ use Rattle.executor_model.specs.Sound.{Phase, after_begun, after_answered, after
 use Rattle.executor_model.specs.Sound.Phase.{Fresh, Polling, Over, Broken}
 use Rattle.executor_model.proofs.Lists.{phase-push}
 use Rattle.executor_model.proofs.Requests.{Request, notes, request, request-push, request-none}
-use Rattle.runs_reach.proofs.Pushes.{any-push, since-push}
+use Rattle.executor_model.proofs.Pushes.{any-push, since-push}
+use Rattle.executor_model.proofs.Tests.{or-left, or-right}
 
 -- what is said of all traces by their last events
 pub by_last : (P : Trace → Type 0) → P [] → ((xs : Trace) (e : Event) → P xs → P (xs ++ e ∷ [])) → (ys : Trace) → P ys
@@ -83,27 +84,19 @@ ready-is f es = by_last (λ (xs : Trace). has (is_ready f) xs ≡ (request f xs)
 
 -- over is ready or dropped
 
-abbrev is_over : Phase → Bool
+abbrev pub is_over : Phase → Bool
 is_over Fresh = false
 is_over Polling = false
 is_over Over = true
 is_over Broken = false
 
 -- as a number of a future's trace: it was ready or dropped
-abbrev is_last : ℕ → Event → Bool
+abbrev pub is_last : ℕ → Event → Bool
 is_last f e = is_ready f e || is_dropped f e
 
 -- what implies what, of tests
-abbrev If : Bool → Bool → Type 0
+abbrev pub If : Bool → Bool → Type 0
 If a b = a ≡ true → b ≡ true
-
-or-right : (a b : Bool) → b ≡ true → (a || b) ≡ true
-or-right true b e = refl
-or-right false b e = e
-
-or-left : (a b : Bool) → a ≡ true → (a || b) ≡ true
-or-left true b e = refl
-or-left false b e = absurd (cc)
 
 over-one : (f : ℕ) (e : Event) (s : Phase) (m : Bool) → If (is_over s) m →
     If (is_over (passes f e s)) (m || is_last f e)
@@ -141,7 +134,7 @@ over-one f (Dropped p g) s m h = by (f == g)
     by false = λ k. or-left m false (h k)
 over-one f e s m h = λ k. or-left m (is_last f e) (h k)
 
-over-last : (f : ℕ) (es : Trace) → If (is_over (phase f es)) (has (is_last f) es)
+pub over-last : (f : ℕ) (es : Trace) → If (is_over (phase f es)) (has (is_last f) es)
 over-last f es = by_last (λ (xs : Trace). If (is_over (phase f xs)) (has (is_last f) xs)) (λ k. absurd (cc)) more es
   where
     more : (xs : Trace) (e : Event) → If (is_over (phase f xs)) (has (is_last f) xs) →
@@ -149,7 +142,7 @@ over-last f es = by_last (λ (xs : Trace). If (is_over (phase f xs)) (has (is_la
     more xs e h k = any-push (is_poll f) (is_last f) xs e
         ∙ over-one f e (phase f xs) (has (is_last f) xs) h (sym (ap is_over (phase-push f Fresh xs e)) ∙ k)
 
-none-last : (f : ℕ) (es : Trace) → has (is_ready f) es ≡ false → has (is_dropped f) es ≡ false →
+pub none-last : (f : ℕ) (es : Trace) → has (is_ready f) es ≡ false → has (is_dropped f) es ≡ false →
     has (is_last f) es ≡ false
 none-last f [] a b = refl
 none-last f (e ∷ es) a b = by (is_ready f e) (has (is_ready f) es) (is_dropped f e) (has (is_dropped f) es) a b

@@ -1,5 +1,5 @@
 -- A step of a party, by what it keeps of each future and of who waits on its handle.
-use Rattle.std.proofs.Common.{◌≡◌, ◌≢◌, ◌⊎◌, ℕ, suc, ◌+◌, ◌<◌, ◌≤◌, List, [], ◌∷◌, ◌++◌}
+use Rattle.std.proofs.Common.{◌≡◌, ◌≢◌, ℕ, suc, ◌+◌, ◌<◌, ◌≤◌, List, [], ◌∷◌, ◌++◌}
 use Rattle.std.proofs.Common.{length, set, get_or, Bool, true, false, cond, eqb}
 use Rattle.std.proofs.Common.{refl, sym, ap, ◌∙◌, subst, ⊎_elim, arith}
 use Rattle.std.specs.Prelude.{reverse}
@@ -8,16 +8,16 @@ use Rattle.executor_model.specs.declared.op.Hold.TheVariants as hold
 use Rattle.executor_model.specs.declared.op.Op.{Op}
 use Rattle.executor_model.specs.declared.op.Op.TheVariants as op
 use Rattle.executor_model.specs.declared.op.HandleOp.TheVariants as handle_op
-use Rattle.executor_model.specs.World.{World, Done, done}
+use Rattle.executor_model.specs.World.{World, Done}
 use Rattle.executor_model.specs.Weights.{same, weigh, weigh_all}
 use Rattle.executor_model.specs.Sound.{Pend, pend, with_ops}
 use Rattle.executor_model.specs.Good.{Good}
 use Rattle.executor_model.specs.Rows.{handling_of}
-use Rattle.executor_model.specs.Steps.{Machine, stack, mine}
+use Rattle.executor_model.specs.Steps.{Machine, stack}
 use Rattle.executor_model.proofs.Lists.{same_cases, weigh-reverse, weigh_all-push}
-use Rattle.executor_model.proofs.Lift.{split, split-pend, push-pend, unsettled}
+use Rattle.executor_model.proofs.Lift.{split, split-pend, push-pend}
 use Rattle.executor_model.proofs.Telling.{same-cond, one-stray}
-use Rattle.executor_model.proofs.Calls.{calling_of, Passes, Answering, single}
+use Rattle.executor_model.proofs.Calls.{calling_of, Passes, Answering}
 use Rattle.executor_model.proofs.Resting.{counts-answering}
 use Rattle.executor_model.proofs.Awaited.{heard, Awaiting, with_awaiting, awaiting}
 use Rattle.executor_model.proofs.Awaited.{Footing, Awaits, Mark, looks_of, fresh_of, storing_of}

@@ -1,5 +1,5 @@
 -- What the steps of the executor's drop look at, and how most of what is done leaves it as it was.
-use Rattle.std.proofs.Common.{◌≡◌, ◌⊎◌, ℕ, ◌+◌, ◌<◌, ◌≤◌, List, [], ◌∷◌, ◌++◌, length, drop}
+use Rattle.std.proofs.Common.{◌≡◌, ◌⊎◌, ℕ, ◌+◌, ◌<◌, ◌≤◌, List, [], ◌∷◌, ◌++◌, length}
 use Rattle.std.proofs.Common.{Bool, true, false, not, refl, sym, ap, ◌∙◌, subst, arith}
 use Rattle.std.specs.Prelude.{Option, Some, None}
 use Rattle.queue_steps.specs.ClosableQueue.{ClosableQueue}
@@ -39,7 +39,7 @@ use Rattle.executor_model.specs.ActsOfRuns.{call_by_reference, kept_by, wake_own
 use Rattle.executor_model.specs.Doing.{act, list_act}
 use Rattle.executor_model.specs.Weights.{weigh, weigh_all}
 use Rattle.executor_model.specs.Rows.{Row, ousting_of}
-use Rattle.executor_model.specs.Steps.{run, mine}
+use Rattle.executor_model.specs.Steps.{mine}
 use Rattle.executor_model.proofs.RunsMoves.{Moves}
 use Rattle.executor_model.proofs.RunsPlain.{plain-list, plain-run, plain-steal}
 use Rattle.executor_model.proofs.RunsQueue.{queue-list}

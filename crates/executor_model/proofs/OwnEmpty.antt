@@ -1,6 +1,6 @@
 -- A run that has found its own queue empty, and searches on or lies down, has it empty still, as it alone appends
 -- there.
-use Rattle.std.proofs.Common.{◌≡◌, ◌≢◌, ◌⊎◌, ◌∙◌, ℕ, zero, suc, ◌+◌, ◌-◌, ◌<◌, ◌≤◌, ◌%◌, List, [], ◌∷◌, ◌++◌}
+use Rattle.std.proofs.Common.{◌≡◌, ◌≢◌, ◌∙◌, ℕ, zero, suc, ◌+◌, ◌<◌, ◌≤◌, ◌%◌, List, [], ◌∷◌, ◌++◌}
 use Rattle.std.proofs.Common.{length, get_or, set, Bool, true, false, eqb, refl, ap, ⊎_elim}
 use Rattle.std.proofs.Common.{arith}
 use Rattle.std.specs.Prelude.{Option, Some, None, is_none, reverse}
@@ -27,7 +27,6 @@ use Rattle.executor_model.specs.declared.op.Steal.{Steal}
 use Rattle.executor_model.specs.declared.op.StealOp.{StealOp}
 use Rattle.executor_model.specs.declared.op.StealOp.TheVariants as steal_op
 use Rattle.executor_model.specs.declared.op.Then.{Then}
-use Rattle.executor_model.specs.declared.op.Then.TheVariants as then
 use Rattle.executor_model.specs.declared.op.TickOp.{TickOp}
 use Rattle.executor_model.specs.declared.op.TickOp.TheVariants as tick_op
 use Rattle.executor_model.specs.declared.op.UserOp.TheVariants as user_op
@@ -50,7 +49,7 @@ use Rattle.executor_model.specs.World.{own_of, place_of, put_own}
 use Rattle.executor_model.proofs.Lift.{split, unsettled}
 use Rattle.executor_model.proofs.Lists.{same_cases, weigh-append, weigh_all-push}
 use Rattle.executor_model.proofs.OwnCounts.{counts-begun, counts-empty, counts-react}
-use Rattle.executor_model.proofs.RunsAside.{apart-act, hull, is_run, runs_of, unseen}
+use Rattle.executor_model.proofs.RunsAside.{apart-act, is_run, runs_of, unseen}
 use Rattle.executor_model.proofs.RunsMoving.{Weighs, hull-found, hull-more, hull-search, hull-stolen, hull-tick}
 use Rattle.executor_model.proofs.RunsMoving.{walk-by, weighs-found, weighs-stolen, nothing-by}
 use Rattle.executor_model.proofs.OwnRooms.{Shorter, grown, made-length, needed, of_hull, same-own, shorter-and}

@@ -1,5 +1,5 @@
 -- The list of queues holds that of each run that is listed once, and no other.
-use Rattle.std.proofs.Common.{◌≡◌, ◌≢◌, ◌⊎◌, ◌∙◌, ℕ, zero, suc, ◌+◌, ◌<◌, ◌≤◌, List, [], ◌∷◌, ◌++◌, length, get_or}
+use Rattle.std.proofs.Common.{◌≡◌, ◌≢◌, ◌∙◌, ℕ, zero, suc, ◌+◌, ◌<◌, ◌≤◌, List, [], ◌∷◌, ◌++◌, length, get_or}
 use Rattle.std.proofs.Common.{set, Bool, true, false, eqb, refl, sym, ap, subst, ⊎_elim, arith, get_or-set_same}
 use Rattle.std.proofs.Common.{get_or-set_other}
 use Rattle.std.proofs.lemmas.Bool.Decides.{nat_tests}
@@ -36,7 +36,7 @@ use Rattle.executor_model.specs.OwnQueues.{ListAgrees, is_listed}
 use Rattle.executor_model.specs.Sound.{times}
 use Rattle.executor_model.specs.Steps.{Machine, begun, mine, react, run, stack, start, top}
 use Rattle.executor_model.specs.Weights.{same}
-use Rattle.executor_model.specs.World.{World, Stage, New, Listed, Ended, Done, done, log, put_own, run_of}
+use Rattle.executor_model.specs.World.{World, Stage, New, Listed, Ended, Done, log, put_own, run_of}
 use Rattle.executor_model.specs.World.{without}
 use Rattle.executor_model.proofs.Lift.{good-start, no_hint}
 use Rattle.executor_model.proofs.Lists.{same_cases, times-append}

@@ -37,7 +37,7 @@ use Rattle.executor_model.proofs.Lists.{same_cases, weigh_all-below, weigh_all-p
 use Rattle.executor_model.proofs.OwnCounts.{counts-begun, counts-react}
 use Rattle.executor_model.proofs.OwnRunning.{KeepsRuns, keeps-uses, keeps_of, runs-act, runs-still}
 use Rattle.executor_model.proofs.RunsNaming.{alike-polling, alike-stray, stray, stray-polls, stray_of, strays}
-use Rattle.executor_model.proofs.RunsAside.{Hull, hull}
+use Rattle.executor_model.proofs.RunsAside.{Hull}
 use Rattle.executor_model.proofs.RunsCalm.{calm-act, calm-react}
 use Rattle.executor_model.proofs.RunsSeen.{Later, Seen, seen-act, seen-and, seen-later, seen-log, seen-react}
 use Rattle.executor_model.proofs.RunsWatched.{Watched, calls-itself, watched, watched-push}

@@ -41,7 +41,7 @@ use Rattle.executor_model.proofs.Lift.{no_hint}
 use Rattle.executor_model.proofs.Lists.{same_cases}
 use Rattle.executor_model.proofs.OwnRooms.{Shorter, grown, made-length, of_hull, same-own, shorter-and}
 use Rattle.executor_model.proofs.OwnRooms.{shorter-first, registered-own}
-use Rattle.executor_model.proofs.RunsAside.{Hull, apart-act, hull, is_run as is_runs}
+use Rattle.executor_model.proofs.RunsAside.{Hull, apart-act, is_run as is_runs}
 use Rattle.executor_model.proofs.RunsCalm.{poll_in}
 use Rattle.executor_model.proofs.RunsMoving.{Weighs, by_then, hull-found, hull-more, hull-search, hull-stolen}
 use Rattle.executor_model.proofs.RunsMoving.{hull-tick, weighs-found, weighs-stolen}

@@ -26,7 +26,7 @@ use Rattle.executor_model.specs.Good.{IsKnownWaker}
 use Rattle.executor_model.specs.Rows.{handling_of}
 use Rattle.executor_model.specs.Sound.{Pend, with_ops}
 use Rattle.executor_model.specs.Weights.{weigh}
-use Rattle.executor_model.specs.World.{World, Done, done, log, own_of, task}
+use Rattle.executor_model.specs.World.{World, Done, log, own_of, task}
 use Rattle.executor_model.specs.ActsOfRuns.{call_by_reference, kept_by, wake_own}
 use Rattle.executor_model.specs.Doing.{list_act, run_act, search_by_who, steal_act}
 use Rattle.executor_model.proofs.Awaited.{Awaiting, Awaits, Footing, KeepsAwaits, Mark, heard-push, with_awaiting}

@@ -1,5 +1,5 @@
 -- Which polls the parts of a run's poll name.
-use Rattle.std.proofs.Common.{◌≡◌, ◌≢◌, ◌⊎◌, ℕ, ◌≤◌, List}
+use Rattle.std.proofs.Common.{◌≡◌, ◌≢◌, ℕ, ◌≤◌}
 use Rattle.std.proofs.Common.{Bool, true, false, eqb, cond, refl, ap, ⊎_elim}
 use Rattle.std.proofs.Common.{arith}
 use Rattle.executor_model.specs.declared.op.ListOp.{ListOp}
@@ -13,7 +13,6 @@ use Rattle.executor_model.specs.declared.op.Section.{Section}
 use Rattle.executor_model.specs.declared.op.Section.TheVariants as section
 use Rattle.executor_model.specs.declared.op.Sleeper.{Sleeper}
 use Rattle.executor_model.specs.declared.op.Sleeper.TheVariants as sleeper
-use Rattle.executor_model.specs.declared.op.Steal.{Steal}
 use Rattle.executor_model.specs.declared.op.StealOp.{StealOp}
 use Rattle.executor_model.specs.declared.op.StealOp.TheVariants as steal_op
 use Rattle.executor_model.specs.declared.op.TickOp.{TickOp}

@@ -40,7 +40,7 @@ use Rattle.executor_model.specs.declared.step.Hint.{Hint}
 use Rattle.executor_model.specs.Acts as acts
 use Rattle.executor_model.specs.ActsOfRuns as runs
 use Rattle.executor_model.specs.Doing.{act, steal_act}
-use Rattle.executor_model.specs.Carried.{carried, owed_ops, awaiter_ops}
+use Rattle.executor_model.specs.Carried.{carried, awaiter_ops}
 use Rattle.executor_model.specs.Weights.{weigh}
 use Rattle.executor_model.specs.World.{World, Place, Run, Done, done, log, log_if, task, put, put_own, put_run}
 use Rattle.executor_model.specs.World.{run_of, among, awaiter_of}

@@ -5,14 +5,13 @@ use Rattle.std.proofs.lemmas.Bool.Decides.{nat_tests}
 use Rattle.std.proofs.lemmas.List.{length-append}
 use Rattle.std.specs.Prelude.{◌-◌, Option, Some, None}
 use Rattle.executor_parts.specs.Order.{IsIn, without}
-use Rattle.executor_parts.specs.Sleepers.{Sleepers, flag_of, next_number, listed, without_entry, freed, risen}
+use Rattle.executor_parts.specs.Sleepers.{Sleepers, flag_of, next_number, without_entry, freed, risen}
 use Rattle.executor_parts.specs.Sleepers.{laid_down, position_of}
 use Rattle.executor_parts.specs.Sleeping.{ExchangeFlag, HandOut, LieDown, LieDownAgain, GetUp, MakeRoom}
 use Rattle.executor_parts.specs.Sleeping.{GiveBack, Lying, handed_by, exchanged_by, again_by}
 use Rattle.executor_parts.proofs.Agreeing.{Keeps, keeps}
 use Rattle.executor_parts.proofs.Ring.{length-without}
 use Rattle.executor_model.specs.declared.op.Sleeper.{Sleeper}
-use Rattle.executor_model.specs.declared.op.Sleeper.TheVariants as sleeper
 use Rattle.executor_model.specs.declared.op.Sleeping.{Sleeping}
 use Rattle.executor_model.specs.declared.op.Waker.TheVariants.{Outside}
 use Rattle.executor_model.specs.ActsOfRuns.{make_room_by, make_run_by, return_room}
@@ -21,7 +20,7 @@ use Rattle.executor_model.specs.ActsOfSleepers.{lie_listed_by}
 use Rattle.executor_model.specs.ActsOfSleepers.{lie_again_by, get_up_by, leave_sleepers_by}
 use Rattle.executor_model.specs.Sound.{times}
 use Rattle.executor_model.specs.World.{World, Place, Up, Lies, Left, place_of, put_place, ticks_with}
-use Rattle.executor_model.specs.SleepersAgree.{lies, lying, room, rooms_of}
+use Rattle.executor_model.specs.SleepersAgree.{lies, room}
 use Rattle.executor_model.proofs.SleepersAway.{Beds, beds}
 use Rattle.executor_model.proofs.TickLists.{at_place, lies_at, lies-here, lying_all, lying_all-set, lying-push}
 use Rattle.executor_model.proofs.TickLists.{lying-rooms, place-at, places, places-push, places-with, places_with}

@@ -17,7 +17,6 @@ use Rattle.executor_model.specs.ActsOfSleepers.{found_by}
 use Rattle.executor_model.specs.SleepersTold.{tells_of}
 use Rattle.executor_model.specs.Weights.{weigh}
 use Rattle.executor_model.specs.World.{World, Place, Up, Lies, Left, run_of}
-use Rattle.executor_model.proofs.Cases.{by_bool}
 use Rattle.executor_model.proofs.Lists.{weigh-reverse}
 
 abbrev pub rises_of : Op → ℕ

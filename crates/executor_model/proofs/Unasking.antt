@@ -26,7 +26,6 @@ use Rattle.executor_model.specs.declared.op.Op.TheVariants as op
 use Rattle.executor_model.specs.declared.op.HandleOp.TheVariants as handle_op
 use Rattle.executor_model.specs.World.{World, task, log, log_if, awaiter_of, among}
 use Rattle.executor_model.specs.Carried.{schedule_ops, future_ops, output_ops, awaiter_ops, next_ops, owed_ops, carried}
-use Rattle.executor_model.specs.Doing.{act}
 use Rattle.executor_model.specs.Acts as acts
 use Rattle.executor_model.specs.Memory.{may_refuse, AsksForNone}
 

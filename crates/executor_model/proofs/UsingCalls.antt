@@ -31,7 +31,7 @@ use Rattle.executor_model.specs.declared.step.UserEnd.TheVariants as end
 use Rattle.executor_model.specs.Rows.{running_of}
 use Rattle.executor_model.specs.Steps.{accepts, begun, drop_run, future_of}
 use Rattle.executor_model.specs.Steps.{is_there, kept, poll_run}
-use Rattle.executor_model.specs.Steps.{react, run, used_up, waker_of, with_future}
+use Rattle.executor_model.specs.Steps.{react, used_up, waker_of, with_future}
 use Rattle.executor_model.specs.Weights.{same, weigh}
 use Rattle.executor_model.specs.World.{World, Run, Stage, New, Listed, Ended, Done, done, log, no_run, own_of}
 use Rattle.executor_model.specs.World.{put_run, run_of}

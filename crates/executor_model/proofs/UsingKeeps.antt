@@ -9,7 +9,7 @@ use Rattle.executor_model.specs.declared.step.Hint.{Hint}
 use Rattle.executor_model.specs.Doing.{act}
 use Rattle.executor_model.specs.Rows.{running_of}
 use Rattle.executor_model.specs.Weights.{same, weigh, weigh_all}
-use Rattle.executor_model.specs.World.{World, Done, done}
+use Rattle.executor_model.specs.World.{World, Done}
 use Rattle.executor_model.specs.World.{own_of, run_of}
 use Rattle.executor_model.proofs.UsingRuns.{Part}
 use Rattle.executor_model.proofs.UsingRuns.{Lessens, lessens}

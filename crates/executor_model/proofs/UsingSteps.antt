@@ -1,6 +1,6 @@
 -- In each run of the machine a run is in one call at most, and where the executor's drop has begun its own queue is
 -- empty.
-use Rattle.std.proofs.Common.{◌≡◌, ◌⊎◌, ℕ, zero, suc, ◌+◌, ◌<◌, ◌≤◌, List, [], ◌∷◌, ◌++◌, length, set, get_or}
+use Rattle.std.proofs.Common.{◌≡◌, ℕ, zero, suc, ◌<◌, ◌≤◌, List, [], ◌∷◌, ◌++◌, length, set, get_or}
 use Rattle.std.proofs.Common.{Bool, true, false, ◌&&◌, ◌||◌, not, refl, sym, ap, ◌∙◌, subst, inl, ⊎_elim, arith}
 use Rattle.std.specs.Prelude.{Option, reverse}
 use Rattle.std.specs.List.{list_any}
@@ -21,7 +21,7 @@ use Rattle.executor_model.specs.OwnQueues.{IsUsedOnce}
 use Rattle.executor_model.specs.Rows.{borrowing_of, running_of}
 use Rattle.executor_model.specs.Sound.{times, times_in}
 use Rattle.executor_model.specs.Steps.{Machine, begun, has_all, has_run, is_drop}
-use Rattle.executor_model.specs.Steps.{is_free, is_on_executor, is_there, is_unborrowed, is_unused, kept, lives, mine}
+use Rattle.executor_model.specs.Steps.{is_free, is_on_executor, is_there, is_unborrowed, is_unused, lives, mine}
 use Rattle.executor_model.specs.Steps.{react, run, stack, start, top}
 use Rattle.executor_model.specs.Weights.{weigh_all}
 use Rattle.executor_model.specs.World.{World, Run, Done, done, log, no_run, own_of, run_of}

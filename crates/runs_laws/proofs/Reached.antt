@@ -10,7 +10,7 @@ use Rattle.executor_model.specs.declared.op.StealOp.TheVariants as steal_op
 use Rattle.executor_model.specs.ActsOfRuns.{free_places, own_places}
 use Rattle.executor_model.specs.OwnQueues.{HasOwnRoom, IsUsedOnce, filling_of}
 use Rattle.executor_model.specs.Rows.{running_of}
-use Rattle.executor_model.specs.Steps.{Machine, stack, top, run}
+use Rattle.executor_model.specs.Steps.{Machine, stack, top}
 use Rattle.executor_model.specs.Weights.{weigh_all}
 use Rattle.executor_model.specs.World.{World, own_of}
 use Rattle.executor_model.proofs.Lift.{split, topped}

@@ -28,7 +28,7 @@ use Rattle.executor_model.specs.Sound.{times}
 use Rattle.executor_model.specs.Steps.{Machine, Part, drop_run, onto, part_after, react, run}
 use Rattle.executor_model.specs.Steps.{stack, start, with_part}
 use Rattle.executor_model.specs.Weights.{weigh, weigh_all}
-use Rattle.executor_model.specs.World.{Done, Ended, Listed, New, Stage, World, done, log, own_of}
+use Rattle.executor_model.specs.World.{Ended, Listed, New, Stage, World, done, log, own_of}
 use Rattle.executor_model.specs.World.{place_of, put_run, run_of}
 use Rattle.executor_model.proofs.LeavingRuns.{has-place}
 use Rattle.executor_model.proofs.Lists.{weigh-reverse}

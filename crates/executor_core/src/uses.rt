@@ -27,56 +27,95 @@ pub enum Use {
     Run(u64),
 }
 
+/// The call uses the executor.
+fn holds_executor(held: Hold) -> bool
+    ensures { result ≡ not (weights.holds_executor held == 0) }
+{
+    match held {
+        Hold::Executor => true,
+        Hold::Spawned(_) => true,
+        Hold::Tick(_) => true,
+        Hold::Run(_) => true,
+        Hold::Nothing => false,
+        Hold::Handle(_) => false,
+        Hold::Waker(_) => false,
+    }
+}
+
+/// It uses the handle of this future.
 #[tactic(auto, using(crate::proofs::Scans::same_test))]
+fn holds_handle(held: Hold, f: u64) -> bool
+    ensures { result ≡ not (weights.holds_handle f held == 0) }
+{
+    match held {
+        Hold::Spawned(g) => f == g,
+        Hold::Handle(g) => f == g,
+        Hold::Nothing => false,
+        Hold::Executor => false,
+        Hold::Waker(_) => false,
+        Hold::Tick(_) => false,
+        Hold::Run(_) => false,
+    }
+}
+
+/// It uses this kept waker.
+#[tactic(auto, using(crate::proofs::Scans::same_test))]
+fn holds_waker(held: Hold, k: u64) -> bool
+    ensures { result ≡ not (weights.holds_waker k held == 0) }
+{
+    match held {
+        Hold::Waker(j) => k == j,
+        Hold::Nothing => false,
+        Hold::Executor => false,
+        Hold::Spawned(_) => false,
+        Hold::Handle(_) => false,
+        Hold::Tick(_) => false,
+        Hold::Run(_) => false,
+    }
+}
+
+/// It uses this tick.
+#[tactic(auto, using(crate::proofs::Scans::same_test))]
+fn holds_tick(held: Hold, t: u64) -> bool
+    ensures { result ≡ not (weights.holds_tick t held == 0) }
+{
+    match held {
+        Hold::Tick(u) => t == u,
+        Hold::Nothing => false,
+        Hold::Executor => false,
+        Hold::Spawned(_) => false,
+        Hold::Handle(_) => false,
+        Hold::Waker(_) => false,
+        Hold::Run(_) => false,
+    }
+}
+
+/// It uses this run.
+#[tactic(auto, using(crate::proofs::Scans::same_test))]
+fn holds_run(held: Hold, r: u64) -> bool
+    ensures { result ≡ not (weights.holds_run r held == 0) }
+{
+    match held {
+        Hold::Run(q) => r == q,
+        Hold::Nothing => false,
+        Hold::Executor => false,
+        Hold::Spawned(_) => false,
+        Hold::Handle(_) => false,
+        Hold::Waker(_) => false,
+        Hold::Tick(_) => false,
+    }
+}
+
+/// It uses this.
 fn holds(held: Hold, what: Use) -> bool
     ensures { result ≡ not (uses.held_of what held == 0) }
 {
     match what {
-        Use::Executor => match held {
-            Hold::Executor => true,
-            Hold::Spawned(_) => true,
-            Hold::Tick(_) => true,
-            Hold::Run(_) => true,
-            Hold::Nothing => false,
-            Hold::Handle(_) => false,
-            Hold::Waker(_) => false,
-        },
-        Use::Handle(f) => match held {
-            Hold::Spawned(g) => f == g,
-            Hold::Handle(g) => f == g,
-            Hold::Nothing => false,
-            Hold::Executor => false,
-            Hold::Waker(_) => false,
-            Hold::Tick(_) => false,
-            Hold::Run(_) => false,
-        },
-        Use::Waker(k) => match held {
-            Hold::Waker(j) => k == j,
-            Hold::Nothing => false,
-            Hold::Executor => false,
-            Hold::Spawned(_) => false,
-            Hold::Handle(_) => false,
-            Hold::Tick(_) => false,
-            Hold::Run(_) => false,
-        },
-        Use::Tick(t) => match held {
-            Hold::Tick(u) => t == u,
-            Hold::Nothing => false,
-            Hold::Executor => false,
-            Hold::Spawned(_) => false,
-            Hold::Handle(_) => false,
-            Hold::Waker(_) => false,
-            Hold::Run(_) => false,
-        },
-        Use::Run(r) => match held {
-            Hold::Run(q) => r == q,
-            Hold::Nothing => false,
-            Hold::Executor => false,
-            Hold::Spawned(_) => false,
-            Hold::Handle(_) => false,
-            Hold::Waker(_) => false,
-            Hold::Tick(_) => false,
-        },
+        Use::Executor => holds_executor(held),
+        Use::Handle(f) => holds_handle(held, f),
+        Use::Waker(k) => holds_waker(held, k),
+        Use::Tick(t) => holds_tick(held, t),
+        Use::Run(r) => holds_run(held, r),
     }
 }
 

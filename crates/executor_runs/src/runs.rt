@@ -1,6 +1,6 @@
 //! The runs by number.
 ghost use Rattle.std.specs.Prelude.{◌≡◌, ◌+◌, ◌-◌, ◌++◌, ◌<◌, ◌≤◌, ◌^◌, ◌==◌, ◌||◌};
-ghost use Rattle.std.specs.Prelude.{true, false, not, List, [], ◌∷◌, length, cond};
+ghost use Rattle.std.specs.Prelude.{true, false, not, List, [], ◌∷◌, length, map, cond};
 ghost use Rattle.std.specs.Prelude.{◌↔◌, IsTrue, IfNone, IfSome, IsOk, OnOk, nat_lt};
 ghost use Rattle.std.specs.List.{list_any};
 ghost use Rattle.executor_model.specs.declared.op.RunPoll.{RunPoll};
@@ -8,6 +8,7 @@ ghost use Rattle.executor_model.specs.ActsOfRuns.{walk};
 ghost use Rattle.executor_model.specs.World.{Left, new_run};
 ghost use Rattle.executor_runs.specs.Running.{free_in, listed_by, own_in, placed, put_in, put_own_in, run_in, unlisted};
 ghost use Rattle.executor_runs.specs.Runs.{as_stage};
+ghost use Rattle.executor_ticks.specs.Lying as lying;
 ghost use Rattle.executor_ticks.specs.Ticks.{as_place, is_lying};
 ghost use Rattle.executor_runs.specs.Walks.{goes_to};
 
@@ -169,8 +170,12 @@ impl Runs {
         }
     }
 
-    /// Each run leaves, and gives its room back.
-    pub fn leave(self, bedroom: &mut Bedroom) {
+    /// Each run leaves, the last first, and gives its room back.
+    pub fn leave(self, bedroom: &mut Bedroom)
+        ensures sleepers { bedroom.new.sleepers
+            ≡ (lying.all_left (map (λ x. x.place) self.runs) bedroom.old).sleepers }
+        ensures flag { bedroom.new.notified ≡ (lying.all_left (map (λ x. x.place) self.runs) bedroom.old).notified }
+    {
         let Runs {
             alloc: _,
             mut runs,

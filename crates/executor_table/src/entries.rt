@@ -123,6 +123,7 @@ impl Entries {
         ensures inside { self.new.inside ≡ self.old.inside }
         ensures present { self.new.present ≡ self.old.present }
         ensures limit { self.new.limit ≡ self.old.limit }
+        ensures next { self.new.next ≡ self.old.next }
         ensures room { OnOk result (self.new.has_room ≡ true) }
         ensures succeeds { self.old.has_room ≡ true → IsOk result }
     {
@@ -193,6 +194,7 @@ impl Entries {
         ensures out { self.new.present ≡ without f self.old.present }
         ensures inside { self.new.inside ≡ slice_set self.old.inside f false }
         ensures limit { self.new.limit ≡ self.old.limit }
+        ensures next { self.new.next ≡ self.old.next }
         ensures room { self.new.has_room ≡ self.old.has_room }
     {
         let place = f as usize;
@@ -209,6 +211,7 @@ impl Entries {
         ensures others { (g : ℕ) → g ≢ f → among g self.new.present ≡ among g self.old.present }
         ensures inside { self.new.inside ≡ slice_set self.old.inside f true }
         ensures limit { self.new.limit ≡ self.old.limit }
+        ensures next { self.new.next ≡ self.old.next }
         ensures room { self.new.has_room ≡ self.old.has_room }
     {
         let place = f as usize;
@@ -243,9 +246,11 @@ impl Entries {
     }
 
     /// All are taken out of the table.
+    #[tactic(auto, using(crate::proofs::Cells::none_present))]
     pub fn take_out(&mut self)
         ensures table { self.new.table ≡ self.old.leaving }
         ensures leaving { self.new.leaving ≡ self.old.table }
+        ensures present { self.old.leaving ≡ [] → self.new.present ≡ [] }
         ensures inside { self.new.inside ≡ self.old.inside }
         ensures limit { self.new.limit ≡ self.old.limit }
     {
@@ -261,6 +266,7 @@ impl Entries {
         ensures table { self.new.table ≡ self.old.table }
         ensures present { self.new.present ≡ self.old.present }
         ensures limit { self.new.limit ≡ self.old.limit }
+        ensures next { self.new.next ≡ self.old.next }
         ensures room { self.new.has_room ≡ self.old.has_room }
     {
         let (_, f) = match self.leaving.leave_first() {

@@ -1,5 +1,5 @@
 -- How one lies down among the sleepers, gets up, and leaves them, as the model has it.
-use Rattle.std.specs.Prelude.{ℕ, nat_lt, Bool, true, false, length, slice_set, Option, Some, None, is_none}
+use Rattle.std.specs.Prelude.{ℕ, nat_lt, Bool, true, false, List, [], ◌∷◌, length, slice_set, Option, Some, None, is_none}
 use Rattle.executor_parts.specs.Sleepers.{Sleepers, flag_of, laid_down, next_number, listed}
 use Rattle.executor_parts.specs.Sleepers.{risen, position_of, waker_at, waker_of}
 use Rattle.executor_model.specs.declared.op.Sleeping.{Sleeping}
@@ -78,3 +78,8 @@ abbrev pub left : Place → Bed → Bed
 left Up b = quiet (given_back b.sleepers) b
 left (Lies n) b = stored (given_back (risen n b.sleepers))
 left Left b = quiet b.sleepers b
+
+-- the sleepers after each of these left, the last first
+abbrev pub all_left : List Place → Bed → Bed
+all_left [] b = b
+all_left (x ∷ xs) b = left x (all_left xs b)

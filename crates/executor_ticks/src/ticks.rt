@@ -3,6 +3,7 @@ ghost use Rattle.std.specs.Prelude.{◌≡◌, ◌++◌, ◌≤◌, true, false,
 ghost use Rattle.std.specs.List.{list_any};
 ghost use Rattle.executor_model.specs.Steps.{lives};
 ghost use Rattle.executor_model.specs.World.{Up, Left};
+ghost use Rattle.executor_ticks.specs.Lying as lying;
 ghost use Rattle.executor_ticks.specs.Ticks.{as_place, is_lying, place_in};
 
 use crate::bedroom::Bedroom;
@@ -108,8 +109,11 @@ impl Ticks {
         }
     }
 
-    /// Each tick leaves, and gives its room back.
-    pub fn leave(self, bedroom: &mut Bedroom) {
+    /// Each tick leaves, the last first, and gives its room back.
+    pub fn leave(self, bedroom: &mut Bedroom)
+        ensures sleepers { bedroom.new.sleepers ≡ (lying.all_left self.places bedroom.old).sleepers }
+        ensures flag { bedroom.new.notified ≡ (lying.all_left self.places bedroom.old).notified }
+    {
         let Ticks { mut places } = self;
         while let Some(place) = places.pop() {
             bedroom.leave(place);

@@ -2,7 +2,6 @@
 use Rattle.std.proofs.Common.{◌≡◌, ◌⊎◌, inl, inr, Bool, true, false, refl, sym, ap, ◌∙◌, subst}
 use Rattle.std.specs.Prelude.{Option, Some, None, Result, Ok, Err, MatchOption, MatchResult, is_some, is_ok, not}
 use Rattle.std.proofs.lemmas.Bool.{false≢true}
-use Rattle.atomic_table.specs.declared.shared.Shared.{Shared}
 use Rattle.task_moves.specs.declared.moves.state.State.{State}
 use Rattle.task_moves.specs.declared.moves.owed.Answer.{Answer}
 use Rattle.task_moves.specs.declared.moves.owed.Answer.TheVariants.{Refused, Pending, Closed, Output}
@@ -115,7 +114,8 @@ module _ {F T W : Type 0} where
   owes cell move owed task None made = state_of cell move owed task made
 
   -- what is found where a look has an answer
-  finds : (cell : Cell F T W) (is_first : Bool) (owed : Owed) (task : Result (Task F T W) (OwingTask F T W)) (output : Option T) (claim : Claim)
+  finds : (cell : Cell F T W) (is_first : Bool) (owed : Owed) (task : Result (Task F T W) (OwingTask F T W)) (output : Option T)
+      (claim : Claim)
       → Came (look_by is_first) cell owed output task → is_some owed.answer ≡ true → is_some output ≡ is_given owed.answer
       → is_ok task ≡ not (is_some owed.awaiter) → IsHandleOf cell task → IsTold task claim
       → FoundAt cell.board.shared claim (found_by output owed.answer)
@@ -126,7 +126,8 @@ module _ {F T W : Type 0} where
       (asked_by is_first owed (state_of cell (look_by is_first) owed task made))
 
   -- the first look has one
-  pub finds_at_once : (cell : Cell F T W) (owed : Owed) (task : Result (Task F T W) (OwingTask F T W)) (output : Option T) (claim : Claim) (found : Found T)
+  pub finds_at_once : (cell : Cell F T W) (owed : Owed) (task : Result (Task F T W) (OwingTask F T W)) (output : Option T)
+      (claim : Claim) (found : Found T)
       → Came moves.poll cell owed output task → is_some owed.answer ≡ true → is_some output ≡ is_given owed.answer
       → is_ok task ≡ not (is_some owed.awaiter) → IsHandleOf cell task → IsTold task claim → found ≡ found_by output owed.answer
       → FoundAt cell.board.shared claim found
@@ -135,10 +136,12 @@ module _ {F T W : Type 0} where
       (finds cell true owed task output claim made answers gives calls same is_told)
 
   -- the second look
-  pub finds_again : (cell : Cell F T W) (owed : Owed) (task : Result (Task F T W) (OwingTask F T W)) (output : Option T) (claim : Claim) (found : Found T)
+  pub finds_again : (cell : Cell F T W) (owed : Owed) (task : Result (Task F T W) (OwingTask F T W)) (output : Option T)
+      (claim : Claim) (found : Found T)
       → Came moves.look_again cell owed output task → is_some output ≡ is_given owed.answer
       → is_ok task ≡ not (is_some owed.awaiter) → IsHandleOf cell task → IsTold task claim → found ≡ found_by output owed.answer
       → FoundAt cell.board.shared claim found
   finds_again cell owed task output claim found made gives calls same is_told is =
       subst (λ (z : Found T). FoundAt cell.board.shared claim z) (sym is)
-      (finds cell false owed task output claim made (answers_again owed (owes cell moves.look_again owed task output made)) gives calls same is_told)
+      (finds cell false owed task output claim made (answers_again owed (owes cell moves.look_again owed task output made))
+      gives calls same is_told)

@@ -1,8 +1,14 @@
 -- What a poll of a handle finds.
 use Rattle.std.specs.Prelude.{◌≡◌, Bool, true, false, Option, Some, None, Result, Ok, Err}
 use Rattle.atomic_table.specs.declared.shared.Shared.{Shared}
+use Rattle.async_task.specs.declared.errors.NoMemory.{NoMemory as WithoutMemory}
+use Rattle.async_task.specs.declared.poll.Poll.{Poll}
+use Rattle.async_task.specs.declared.poll.Poll.TheVariants as polls
+use Rattle.async_task.specs.declared.poll.Poll.TheVariants.{Ready}
 use Rattle.async_task.specs.declared.polling.Found.{Found}
 use Rattle.async_task.specs.declared.polling.Found.TheVariants.{Output, Closed, Pending, NoMemory}
+use Rattle.async_task.specs.declared.task.TaskError.{TaskError}
+use Rattle.async_task.specs.declared.task.TaskError.TheVariants as errors
 use Rattle.task_moves.specs.declared.moves.state.State.{State}
 use Rattle.task_moves.specs.declared.moves.owed.Answer.{Answer}
 use Rattle.task_moves.specs.declared.moves.owed.Answer.TheVariants as answers
@@ -52,3 +58,17 @@ module _ {F T W K P : Type 0} where
 abbrev pub IsTold : {F T W : Type 0} → Result (Task F T W) (OwingTask F T W) → Claim → Type 0
 IsTold (Ok task) claim = claim ≡ task.claim
 IsTold (Err owing) claim = CallsAwaiter owing.task.cell.now.board.shared claim
+
+-- what a handle has found that answers this
+abbrev pub found_in : {T : Type 0} → Poll (Result T TaskError) → Found T
+found_in (Ready (Ok output)) = Output output
+found_in (Ready (Err errors.TaskClosed)) = Closed
+found_in (Ready (Err errors.NoMemory)) = NoMemory
+found_in polls.Pending = Pending
+
+-- and one whose closing is no error
+abbrev pub found_if_any : {T : Type 0} → Poll (Result (Option T) WithoutMemory) → Found T
+found_if_any (Ready (Ok (Some output))) = Output output
+found_if_any (Ready (Ok None)) = Closed
+found_if_any (Ready (Err error)) = NoMemory
+found_if_any polls.Pending = Pending

@@ -2,6 +2,7 @@ ghost use Rattle.std.specs.Prelude.{◌≡◌, IfOk, IfErr, IfSome, is_ok};
 ghost use Rattle.async_executor.specs.Accepting.{Accepts, IsRefusedAt, refused_as};
 ghost use Rattle.async_executor.specs.Errors.{refused};
 ghost use Rattle.async_executor.specs.Stages.{begun, idle};
+ghost use Rattle.async_task.specs.Handles.{task_of};
 
 use crate::call::Call;
 use crate::errors::SpawnError;
@@ -32,8 +33,8 @@ where
     requires { call.old ≡ begun }
     ensures call { call.new ≡ record idle { holds = is_ok result } }
     ensures here { IfOk result (λ both. both.1.identity.realm ≡ realm.now.number) }
-    ensures accepted { IfOk result (λ both. Accepts table.old table.new future both.1) }
-    ensures one_task { IfOk result (λ both. both.0 ≡ both.1) }
+    ensures accepted { IfOk result (λ both. Accepts table.old table.new future (task_of both.1)) }
+    ensures one_task { IfOk result (λ both. both.0 ≡ task_of both.1) }
     ensures future { IfErr result (λ error. refused error ≡ future) }
     ensures cause { IfErr result (IsRefusedAt table.old) }
     ensures same { IfErr result (λ _. (table.new.entries ≡ table.old.entries) × (table.new.limit ≡ table.old.limit)) }
@@ -80,7 +81,7 @@ where
     T: Drop + 'static,
     W: Wake + Drop + 'static,
     R: Wait + Copy + Drop + 'static,
-    ensures one_task { IfSome result (λ made. made.0 ≡ made.1) }
+    ensures one_task { IfSome result (λ made. made.0 ≡ task_of made.1) }
     ensures here { IfSome result (λ made. made.0.identity.realm ≡ realm.now.number) }
     ensures waker { IfSome result (λ made. made.2.identity ≡ made.1.identity) }
 {

@@ -1,6 +1,6 @@
 -- How a run ends, and what a paused one answers, by what the end of its poll owes.
 use Rattle.std.proofs.Common.{◌≡◌, Bool, true, false, refl, sym, subst, ap, ◌∙◌}
-use Rattle.std.specs.Prelude.{Option, Some, None, Result, Err, IfSome, MatchResult, is_some, not}
+use Rattle.std.specs.Prelude.{Option, Some, None, Result, Ok, Err, IfSome, MatchResult, is_some, not}
 use Rattle.std.proofs.lemmas.Bool.{false≢true}
 use Rattle.atomic_table.specs.declared.shared.Shared.{Shared}
 use Rattle.task_moves.specs.declared.schedule_info.ScheduleInfo.{ScheduleInfo}
@@ -48,3 +48,8 @@ comes_next false e = absurd (false≢true e)
 pub at_err : {A E : Type 0} (ok : A → Type 0) (err : E → Type 0) (result : Result A E) (error : E) → result ≡ Err error
     → MatchResult result ok err → err error
 at_err ok err result error e m = subst (λ r. MatchResult r ok err) e m
+
+-- and in that of an `Ok`
+pub at_ok : {A E : Type 0} (ok : A → Type 0) (err : E → Type 0) (result : Result A E) (value : A) → result ≡ Ok value
+    → MatchResult result ok err → ok value
+at_ok ok err result value e m = subst (λ r. MatchResult r ok err) e m

@@ -1,4 +1,5 @@
 ghost use Rattle.std.specs.Prelude.{◌≡◌, IfOk, IfErr};
+ghost use Rattle.async_task.specs.Handles.{task_of};
 
 use crate::cell::{Held, Made, Parts, Realm, Scheduled};
 use crate::runnable::Runnable;
@@ -52,7 +53,7 @@ impl<M> Builder<M> {
         M: Copy + Drop + 'static,
         W: Wake + Drop + 'static,
         R: Wait + Copy + Drop,
-        ensures one_task { IfOk result (λ both. both.0 ≡ both.1) }
+        ensures one_task { IfOk result (λ both. both.0 ≡ task_of both.1) }
         ensures metadata { IfOk result (λ both. both.0.metadata ≡ self.metadata) }
         ensures here { IfOk result (λ both. both.0.identity.realm ≡ realm.now.number) }
         ensures future { IfErr result (λ back. back.future ≡ future) }
@@ -92,7 +93,7 @@ where
     S: Schedule<Scheduled<F, T, S, (), W, R>> + Drop + 'static,
     W: Wake + Drop + 'static,
     R: Wait + Copy + Drop,
-    ensures one_task { IfOk result (λ both. both.0 ≡ both.1) }
+    ensures one_task { IfOk result (λ both. both.0 ≡ task_of both.1) }
     ensures here { IfOk result (λ both. both.0.identity.realm ≡ realm.now.number) }
     ensures future { IfErr result (λ back. back.future ≡ future) }
     ensures schedule { IfErr result (λ back. back.schedule ≡ schedule) }

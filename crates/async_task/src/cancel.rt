@@ -1,4 +1,5 @@
 ghost use Rattle.std.specs.Prelude.{◌≡◌, false, true};
+ghost use Rattle.async_task.specs.Polls.{FoundAt, found_if_any};
 ghost use Rattle.task_word.specs.Tokens.{IsThere};
 
 use crate::cell::{Cancelled, Held, Place, Scheduled, TaskToken};
@@ -25,10 +26,10 @@ where
     R: Wait + Copy + Drop,
 {
     held: Held<F, T, S, M, W, R>,
-    place: Place<F, T, W>,
+    handle: Place<F, T, W>,
     /// That it was cancelled, once it is.
     cancelled: Option<Cancelled>,
-    ghost there: { IsThere place.cell.now.board.shared place.claim },
+    ghost there: { IsThere handle.cell.now.board.shared handle.claim },
 }
 
 impl<F, T, S, M, W, R> Model for Cancel<F, T, S, M, W, R>
@@ -43,9 +44,14 @@ where
     ghost use Rattle.std.specs.Prelude.{is_some};
     ghost use Rattle.async_task.specs.Handles.{Cancelling};
 
-    ghost Value = { Cancelling M };
+    ghost Value = { Cancelling F T M W };
 
-    ghost view = { λ c. record { task = c.held; is_cancelled = is_some c.cancelled } };
+    ghost view = { λ c. record {
+      task = c.held;
+      is_cancelled = is_some c.cancelled;
+      cell = c.handle.cell.now;
+      claim = c.handle.claim;
+    } };
 }
 
 impl<F, T, S, M, W, R> Cancel<F, T, S, M, W, R>
@@ -64,7 +70,7 @@ where
     {
         Cancel {
             held,
-            place: Place::of(token),
+            handle: Place::of(token),
             cancelled: None,
         }
     }
@@ -84,13 +90,15 @@ where
     fn poll(&mut self, waker: &Awaiter<F, T, S, M, W, R>) -> Poll<Result<Option<T>, NoMemory>>
         ensures task { self.new.task ≡ self.old.task }
         ensures cancelled { self.new.is_cancelled ≡ true }
+        ensures same { self.new.cell ≡ self.old.cell }
+        ensures found { FoundAt self.old.cell.board.shared self.new.claim (found_if_any result) }
     {
         if self.cancelled.is_none() {
-            let (token, cancelled) = self.held.cancel(self.place.take());
-            self.place.put(token);
+            let (token, cancelled) = self.held.cancel(self.handle.take());
+            self.handle.put(token);
             self.cancelled = Some(cancelled);
         }
-        found(poll(&self.held, &mut self.place, waker))
+        found(poll(&self.held, &mut self.handle, waker))
     }
 }
 
@@ -106,9 +114,9 @@ where
     fn drop(self) {
         let Self {
             held,
-            place,
+            handle,
             cancelled: _,
         } = self;
-        held.cancel_and_detach(place.open());
+        held.cancel_and_detach(handle.open());
     }
 }

@@ -1,4 +1,6 @@
 ghost use Rattle.std.specs.Prelude.{◌≡◌, false};
+ghost use Rattle.async_task.specs.Handles.{task_of};
+ghost use Rattle.async_task.specs.Polls.{FoundAt, found_if_any};
 ghost use Rattle.task_word.specs.Tokens.{IsThere};
 
 use crate::cancel::Cancel;
@@ -25,8 +27,8 @@ where
     R: Wait + Copy + Drop,
 {
     pub(crate) held: Held<F, T, S, M, W, R>,
-    pub(crate) place: Place<F, T, W>,
-    ghost there: { IsThere place.cell.now.board.shared place.claim },
+    pub(crate) handle: Place<F, T, W>,
+    ghost there: { IsThere handle.cell.now.board.shared handle.claim },
 }
 
 impl<F, T, S, M, W, R> Model for FallibleTask<F, T, S, M, W, R>
@@ -38,11 +40,16 @@ where
     W: Wake + Drop + 'static,
     R: Wait + Copy + Drop,
 {
-    ghost use Rattle.async_task.specs.Handles.{Handle};
+    ghost use Rattle.async_task.specs.Handles.{Polling};
 
-    ghost Value = { Handle M };
+    ghost Value = { Polling F T M W };
 
-    ghost view = { λ h. h.held };
+    ghost view = { λ h. record {
+      identity = h.held.identity;
+      metadata = h.held.metadata;
+      cell = h.handle.cell.now;
+      claim = h.handle.claim;
+    } };
 }
 
 impl<F, T, S, M, W, R> FallibleTask<F, T, S, M, W, R>
@@ -73,17 +80,17 @@ where
 
     /// Gives the handle up. The task goes on, and its output is dropped.
     pub fn detach(self) {
-        let Self { held, place } = self;
-        held.detach(place.open());
+        let Self { held, handle } = self;
+        held.detach(handle.open());
     }
 
     /// What closes the task when it is first polled, and then has the output where there was one.
     pub fn cancel(self) -> Cancel<F, T, S, M, W, R>
-        ensures task { result.task ≡ self }
+        ensures task { result.task ≡ task_of self }
         ensures open { result.is_cancelled ≡ false }
     {
-        let Self { held, place } = self;
-        Cancel::of(held, place.open())
+        let Self { held, handle } = self;
+        Cancel::of(held, handle.open())
     }
 }
 
@@ -98,13 +105,19 @@ where
 {
     type Output = Result<Option<T>, NoMemory>;
 
-    fn poll(&mut self, waker: &Awaiter<F, T, S, M, W, R>) -> Poll<Result<Option<T>, NoMemory>> {
-        found(poll(&self.held, &mut self.place, waker))
+    fn poll(&mut self, waker: &Awaiter<F, T, S, M, W, R>) -> Poll<Result<Option<T>, NoMemory>>
+        ensures task { task_of self.new ≡ task_of self.old }
+        ensures same { self.new.cell ≡ self.old.cell }
+        ensures found { FoundAt self.old.cell.board.shared self.new.claim (found_if_any result) }
+    {
+        found(poll(&self.held, &mut self.handle, waker))
     }
 }
 
 /// What a handle answers that has None where there is no output.
-pub fn found<T>(found: Found<T>) -> Poll<Result<Option<T>, NoMemory>> {
+pub fn found<T>(found: Found<T>) -> Poll<Result<Option<T>, NoMemory>>
+    ensures { found_if_any result ≡ found }
+{
     match found {
         Found::Output(output) => Poll::Ready(Ok(Some(output))),
         Found::Closed => Poll::Ready(Ok(None)),
@@ -123,7 +136,7 @@ where
     R: Wait + Copy + Drop,
 {
     fn drop(self) {
-        let Self { held, place } = self;
-        held.cancel_and_detach(place.open());
+        let Self { held, handle } = self;
+        held.cancel_and_detach(handle.open());
     }
 }

@@ -1,6 +1,7 @@
 //! How a handle of any kind is polled.
 ghost use Rattle.std.specs.Prelude.{◌≡◌};
-ghost use Rattle.async_task.specs.Polls.{found_by};
+ghost use Rattle.async_task.specs.Polls.{found_by, FoundAt, IsTold};
+ghost use Rattle.task_word.specs.Handles.{IsHandleOf};
 ghost use Rattle.task_word.specs.Tokens.{IsThere};
 
 use crate::cell::{Held, Kept, Place, Scheduled, TaskToken, kept, paid, pay_due};
@@ -39,7 +40,9 @@ where
     W: Wake + Drop + 'static,
     R: Wait + Copy + Drop,
     requires { IsThere place.old.cell.now.board.shared place.old.claim }
-    ensures { IsThere place.new.cell.now.board.shared place.new.claim }
+    ensures there { IsThere place.new.cell.now.board.shared place.new.claim }
+    ensures same { place.new.cell.now ≡ place.old.cell.now }
+    ensures found { FoundAt place.old.cell.now.board.shared place.new.claim result }
 {
     let (token, found) = looked(held, place.take(), waker);
     place.put(token);
@@ -60,6 +63,8 @@ where
     M: Copy + Drop + 'static,
     W: Wake + Drop + 'static,
     R: Wait + Copy + Drop,
+    ensures same { result.0.cell.now ≡ token.entry.cell.now }
+    ensures found { FoundAt token.entry.cell.now.board.shared result.0.claim result.1 }
 {
     let (owed, polled) = token.poll(&held.rt());
     match polled {
@@ -86,6 +91,8 @@ where
     M: Copy + Drop + 'static,
     W: Wake + Drop + 'static,
     R: Wait + Copy + Drop,
+    ensures same { result.0.cell.now ≡ waiting.entry.task.cell.now }
+    ensures found { FoundAt waiting.entry.task.cell.now.board.shared result.0.claim result.1 }
 {
     let Registered {
         task,
@@ -120,7 +127,9 @@ where
     M: Copy + Drop + 'static,
     W: Wake + Drop + 'static,
     R: Wait + Copy + Drop,
-    ensures { result.1 ≡ found_by polled.output owed.answer }
+    ensures found { result.1 ≡ found_by polled.output owed.answer }
+    ensures same { IsHandleOf result.0.cell.now polled.task }
+    ensures told { IsTold polled.task result.0.claim }
 {
     let Polled { task, output } = polled;
     let token = held.call_awaiter(task);

@@ -1,4 +1,5 @@
 ghost use Rattle.std.specs.Prelude.{◌≡◌, IfErr, IfOk};
+ghost use Rattle.async_task.specs.Handles.{task_of};
 
 use crate::cell::{GoesBack, Identity, Parked, Realm, Scheduled, Thing, find_with};
 use crate::realm::Returns;
@@ -64,7 +65,7 @@ impl<M> StoredTask<M> {
         M: Copy + Drop + 'static,
         W: Wake + Drop + 'static,
         R: Wait + Copy + Drop,
-        ensures found { IfOk result (λ found. found ≡ self) }
+        ensures found { IfOk result (λ found. task_of found ≡ self) }
         ensures here { IfOk result (λ found. found.identity.realm ≡ realm.now.number) }
         ensures back { IfErr result (λ back. back ≡ self) }
     {

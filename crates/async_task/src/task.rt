@@ -1,4 +1,6 @@
 ghost use Rattle.std.specs.Prelude.{◌≡◌, false};
+ghost use Rattle.async_task.specs.Handles.{task_of};
+ghost use Rattle.async_task.specs.Polls.{FoundAt, found_in};
 ghost use Rattle.task_word.specs.Tokens.{IsThere};
 
 use crate::cancel::Cancel;
@@ -35,8 +37,8 @@ where
     R: Wait + Copy + Drop,
 {
     pub(crate) held: Held<F, T, S, M, W, R>,
-    pub(crate) place: Place<F, T, W>,
-    ghost there: { IsThere place.cell.now.board.shared place.claim },
+    pub(crate) handle: Place<F, T, W>,
+    ghost there: { IsThere handle.cell.now.board.shared handle.claim },
 }
 
 impl<F, T, S, M, W, R> Model for Task<F, T, S, M, W, R>
@@ -48,11 +50,16 @@ where
     W: Wake + Drop + 'static,
     R: Wait + Copy + Drop,
 {
-    ghost use Rattle.async_task.specs.Handles.{Handle};
+    ghost use Rattle.async_task.specs.Handles.{Polling};
 
-    ghost Value = { Handle M };
+    ghost Value = { Polling F T M W };
 
-    ghost view = { λ h. h.held };
+    ghost view = { λ h. record {
+      identity = h.held.identity;
+      metadata = h.held.metadata;
+      cell = h.handle.cell.now;
+      claim = h.handle.claim;
+    } };
 }
 
 impl<F, T, S, M, W, R> Task<F, T, S, M, W, R>
@@ -65,10 +72,10 @@ where
     R: Wait + Copy + Drop,
 {
     pub(crate) fn of(held: Held<F, T, S, M, W, R>, token: TaskToken<F, T, W>) -> Self
-        ensures { result ≡ held }
+        ensures { task_of result ≡ held }
     {
-        let place = Place::of(token);
-        Task { held, place }
+        let handle = Place::of(token);
+        Task { held, handle }
     }
 
     /// The handle for a list, which takes no memory.
@@ -76,8 +83,8 @@ where
         ensures task { result.identity ≡ self.identity }
         ensures metadata { result.metadata ≡ self.metadata }
     {
-        let Self { held, place } = self;
-        held.stored_task(park(place.open()))
+        let Self { held, handle } = self;
+        held.stored_task(park(handle.open()))
     }
 
     /// The metadata that the task was made with.
@@ -99,25 +106,25 @@ where
 
     /// Gives the handle up. The task goes on, and its output is dropped.
     pub fn detach(self) {
-        let Self { held, place } = self;
-        held.detach(place.open());
+        let Self { held, handle } = self;
+        held.detach(handle.open());
     }
 
     /// What closes the task when it is first polled, and then has the output where there was one.
     pub fn cancel(self) -> Cancel<F, T, S, M, W, R>
-        ensures task { result.task ≡ self }
+        ensures task { result.task ≡ task_of self }
         ensures open { result.is_cancelled ≡ false }
     {
-        let Self { held, place } = self;
-        Cancel::of(held, place.open())
+        let Self { held, handle } = self;
+        Cancel::of(held, handle.open())
     }
 
     /// The same handle, which has None for an output where the task is closed.
     pub fn fallible(self) -> FallibleTask<F, T, S, M, W, R>
         ensures { result ≡ self }
     {
-        let Self { held, place } = self;
-        FallibleTask { held, place }
+        let Self { held, handle } = self;
+        FallibleTask { held, handle }
     }
 }
 
@@ -132,13 +139,24 @@ where
 {
     type Output = Result<T, TaskError>;
 
-    fn poll(&mut self, waker: &Awaiter<F, T, S, M, W, R>) -> Poll<Result<T, TaskError>> {
-        match poll(&self.held, &mut self.place, waker) {
-            Found::Output(output) => Poll::Ready(Ok(output)),
-            Found::Closed => Poll::Ready(Err(TaskError::TaskClosed)),
-            Found::Pending => Poll::Pending,
-            Found::NoMemory => Poll::Ready(Err(TaskError::NoMemory)),
-        }
+    fn poll(&mut self, waker: &Awaiter<F, T, S, M, W, R>) -> Poll<Result<T, TaskError>>
+        ensures task { task_of self.new ≡ task_of self.old }
+        ensures same { self.new.cell ≡ self.old.cell }
+        ensures found { FoundAt self.old.cell.board.shared self.new.claim (found_in result) }
+    {
+        answer(poll(&self.held, &mut self.handle, waker))
+    }
+}
+
+/// What a handle answers whose closing is an error.
+fn answer<T>(found: Found<T>) -> Poll<Result<T, TaskError>>
+    ensures { found_in result ≡ found }
+{
+    match found {
+        Found::Output(output) => Poll::Ready(Ok(output)),
+        Found::Closed => Poll::Ready(Err(TaskError::TaskClosed)),
+        Found::Pending => Poll::Pending,
+        Found::NoMemory => Poll::Ready(Err(TaskError::NoMemory)),
     }
 }
 
@@ -152,7 +170,7 @@ where
     R: Wait + Copy + Drop,
 {
     fn drop(self) {
-        let Self { held, place } = self;
-        held.cancel_and_detach(place.open());
+        let Self { held, handle } = self;
+        held.cancel_and_detach(handle.open());
     }
 }

@@ -5,3 +5,4 @@ pub mod Steps
 pub mod Badges
 pub mod Tokens
 pub mod Awaiter
+pub mod Handles

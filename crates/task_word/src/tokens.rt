@@ -107,7 +107,8 @@ impl<F: 'static, T: 'static, W: 'static> Task<F, T, W> {
     pub(crate) fn of(cell: &'static Cell<F, T, W>, pass: Pass<F, T, W>) -> Self
         requires seat { IsSeatOf cell.now.board.shared pass }
         requires has { Has Handle pass }
-        ensures { IsClaimOf pass result.claim }
+        ensures claim { IsClaimOf pass result.claim }
+        ensures cell { result.cell.now ≡ cell.now }
     {
         Task {
             cell,

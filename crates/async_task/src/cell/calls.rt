@@ -1,4 +1,8 @@
 //! The moves of a task's handle, each with all that it owes.
+ghost use Rattle.std.specs.Prelude.{◌≡◌};
+ghost use Rattle.async_task.specs.Polls.{IsTold};
+ghost use Rattle.task_word.specs.Handles.{IsHandleOf};
+
 use crate::cell::resting::{CancelStep, Cancelled};
 use crate::cell::turns::told;
 use crate::cell::{Held, Kept, Scheduled, TaskToken, pay_due};
@@ -17,7 +21,9 @@ where
     R: Wait + Copy + Drop,
 {
     /// The task is cancelled.
-    pub(crate) fn cancel(&self, task: TaskToken<F, T, W>) -> (TaskToken<F, T, W>, Cancelled) {
+    pub(crate) fn cancel(&self, task: TaskToken<F, T, W>) -> (TaskToken<F, T, W>, Cancelled)
+        ensures { result.0.cell.now ≡ task.entry.cell.now }
+    {
         let (CancelStep { woken, task }, cancelled) = self.begin_cancel(task);
         self.queue(woken);
         (self.call_awaiter(task), cancelled)
@@ -28,7 +34,10 @@ where
     pub(crate) fn call_awaiter(
         &self,
         task: Result<TaskToken<F, T, W>, OwingTask<F, T, Kept<W>>>,
-    ) -> TaskToken<F, T, W> {
+    ) -> TaskToken<F, T, W>
+        ensures same { IsHandleOf result.cell.now task.entry }
+        ensures told { IsTold task.entry result.claim }
+    {
         let (task, awaiter) = told(&self.rt, task);
         pay_due(self.call_some(awaiter));
         task

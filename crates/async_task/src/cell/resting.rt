@@ -1,6 +1,8 @@
 //! What stands for something of a task that rests in its cell, while the cell's place stands in a queue or a list.
 //! None of it has a size or a drop: it is made by the step that lays a thing to rest, and goes by the step that takes
 //! that out.
+ghost use Rattle.task_word.specs.Handles.{IsHandleOf};
+
 mod lost;
 
 pub use crate::cell::resting::lost::{Lost, Lot, Thing};
@@ -132,10 +134,9 @@ where
 
     /// The step by which the handle cancels its task.
     #[inline(always)]
-    pub(crate) fn begin_cancel(
-        &self,
-        task: TaskToken<F, T, W>,
-    ) -> (CancelStep<F, T, W>, Cancelled) {
+    pub(crate) fn begin_cancel(&self, task: TaskToken<F, T, W>) -> (CancelStep<F, T, W>, Cancelled)
+        ensures { IsHandleOf task.entry.cell.now result.0.task }
+    {
         let (owed, runnable, task) = task.cancel(&self.rt);
         let woken = owed_runnable(owed, runnable);
         (CancelStep { woken, task }, Cancelled(()))

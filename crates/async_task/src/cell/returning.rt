@@ -1,6 +1,7 @@
 //! What is let go goes back to its realm.
 ghost use Rattle.std.specs.Prelude.{◌≡◌, IfSome};
 ghost use Rattle.async_task.specs.Due.{WasIdle};
+ghost use Rattle.async_task.specs.Handles.{task_of};
 
 use crate::cell::resting::{Lot, Thing};
 use crate::cell::scheduled::{Due, Scheduled, StoredRunnable, StoredWaker};
@@ -174,7 +175,7 @@ impl<M: Drop> Returning<StoredTask<M>> {
         M: Copy + 'static,
         W: Wake + Drop + 'static,
         R: Wait + Copy + Drop,
-        ensures found { IfSome result (λ found. found ≡ self) }
+        ensures found { IfSome result (λ found. task_of found ≡ self) }
         ensures here { IfSome result (λ found. found.identity.realm ≡ realm.now.number) }
     {
         match self.into_inner().redeem(rt, realm) {

@@ -2,7 +2,9 @@
 ghost use Rattle.std.proofs.Props.{props};
 ghost use Rattle.std.specs.Prelude.{◌≡◌, false, is_some, is_ok, Some, None, IfSome, MatchOption};
 ghost use Rattle.async_task.specs.Due.{WasIdle};
+ghost use Rattle.async_task.specs.Polls.{IsTold};
 ghost use Rattle.async_task.specs.Rests.{info_of, was_woken_by};
+ghost use Rattle.task_word.specs.Handles.{IsHandleOf};
 
 use crate::cell::{Held, Kept, RunnableToken, TaskToken, WakerToken};
 use crate::look::{Look, TooManyReferences};
@@ -186,6 +188,8 @@ where
     T: Drop + 'static,
     W: Drop + 'static,
     R: Wait,
+    ensures same { IsHandleOf result.0.cell.now task.entry }
+    ensures told { IsTold task.entry result.0.claim }
 {
     match task {
         Ok(task) => (task, None),

@@ -3,6 +3,7 @@ ghost use Rattle.std.specs.Prelude.{◌≡◌, false, is_some, is_ok, not, IfOk,
 ghost use Rattle.task_moves.specs.Moves as moves;
 ghost use Rattle.task_moves.specs.Moves.{is_over};
 ghost use Rattle.task_word.specs.Awaiter.{needs_slot};
+ghost use Rattle.task_word.specs.Handles.{IsHandleOf};
 ghost use Rattle.task_word.specs.Tokens.{Shows, Owes, Finds, FindsTask, FindsNotParked, Notifies};
 
 use crate::cell::Cell;
@@ -112,6 +113,7 @@ impl<F: 'static, T: 'static, W: 'static> Task<F, T, W> {
         ensures paid { is_ok result.1 ≡ is_some result.0.schedule }
         ensures owes { Owes moves.cancel result.0 }
         ensures calls { is_ok result.2 ≡ not (is_some result.0.awaiter) }
+        ensures same { IsHandleOf self.entry.cell.now result.2 }
     {
         let mut pass = self.cell.pass();
         let owed = closing::cancel(rt, self.cell.board(), &mut pass);
@@ -179,6 +181,7 @@ impl<F: 'static, T: 'static, W: 'static> OwingTask<F, T, W> {
     pub fn notify<R: Wait>(self, rt: &R) -> (Owed, Task<F, T, W>, Option<Debt<W>>)
         ensures made { Notifies self.entry.task.cell.now.board.shared result.0 result.1.claim }
         ensures other { IsFalse (needs_slot result.0.awaiter) → IsNone result.2 }
+        ensures same { result.1.cell.now ≡ self.entry.task.cell.now }
     {
         let OwingTask { task } = self;
         let (cell, mut pass) = task.open();

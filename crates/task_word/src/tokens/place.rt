@@ -1,4 +1,5 @@
 //! Where a handle lies between its calls, which leave it behind a reference.
+ghost use Rattle.std.specs.Prelude.{◌≡◌};
 ghost use Rattle.task_word.specs.Tokens.{IsThere};
 
 use crate::cell::Cell;
@@ -17,7 +18,9 @@ impl<F: 'static, T: 'static, W: 'static> TaskPlace<F, T, W> {
     /// A place with this handle.
     #[inline(always)]
     pub fn of(task: Task<F, T, W>) -> Self
-        ensures { IsThere result.cell.now.board.shared result.claim }
+        ensures there { IsThere result.cell.now.board.shared result.claim }
+        ensures cell { result.cell.now ≡ task.entry.cell.now }
+        ensures claim { result.claim ≡ task.entry.claim }
     {
         let Task { cell, claim } = task;
         TaskPlace { cell, claim }
@@ -27,6 +30,9 @@ impl<F: 'static, T: 'static, W: 'static> TaskPlace<F, T, W> {
     #[inline(always)]
     pub fn take(&mut self) -> Task<F, T, W>
         requires { IsThere self.old.cell.now.board.shared self.old.claim }
+        ensures cell { result.cell.now ≡ self.old.cell.now }
+        ensures claim { result.claim ≡ self.old.claim }
+        ensures stays { self.new.cell.now ≡ self.old.cell.now }
     {
         let claim = replace(&mut self.claim, Claim::blank());
         Task {
@@ -38,7 +44,9 @@ impl<F: 'static, T: 'static, W: 'static> TaskPlace<F, T, W> {
     /// The handle is there again.
     #[inline(always)]
     pub fn put(&mut self, task: Task<F, T, W>)
-        ensures { IsThere self.new.cell.now.board.shared self.new.claim }
+        ensures there { IsThere self.new.cell.now.board.shared self.new.claim }
+        ensures cell { self.new.cell.now ≡ task.entry.cell.now }
+        ensures claim { self.new.claim ≡ task.entry.claim }
     {
         let Task { cell, claim } = task;
         self.cell = cell;
@@ -49,6 +57,8 @@ impl<F: 'static, T: 'static, W: 'static> TaskPlace<F, T, W> {
     #[inline(always)]
     pub fn open(self) -> Task<F, T, W>
         requires { IsThere self.cell.now.board.shared self.claim }
+        ensures cell { result.cell.now ≡ self.entry.cell.now }
+        ensures claim { result.claim ≡ self.entry.claim }
     {
         let TaskPlace { cell, claim } = self;
         Task { cell, claim }

@@ -3,6 +3,7 @@ ghost use Rattle.std.specs.Prelude.{◌≡◌, is_some, is_ok, not, IfOk, MatchB
 ghost use Rattle.task_moves.specs.Moves as moves;
 ghost use Rattle.task_word.specs.Awaiter.{needs_slot};
 ghost use Rattle.task_word.specs.Given.{is_given};
+ghost use Rattle.task_word.specs.Handles.{IsHandleOf};
 ghost use Rattle.task_word.specs.Steps.{HasOutput, IsSeatOf};
 ghost use Rattle.task_word.specs.Tokens.{IsClaimOf, Shows, Owes, Registers};
 
@@ -59,6 +60,7 @@ fn take_answer<F: 'static, T: 'static, W: 'static>(
     ensures shows { MatchOption result.output
         (MatchResult result.task (λ t. IsClaimOf pass t.claim) (λ t. IsClaimOf pass t.task.claim))
         (λ _. ⊤) }
+    ensures same { IsHandleOf cell.now result.task }
 {
     if gives_output(owed) {
         let output = Debt::of(take_output(cell.board(), &mut pass));
@@ -89,6 +91,9 @@ impl<F: 'static, T: 'static, W: 'static> Task<F, T, W> {
         ensures answers { is_ok result.1 ≡ is_some result.0.answer }
         ensures gives { IfOk result.1 (λ polled. is_some polled.output ≡ is_given result.0.answer) }
         ensures calls { IfOk result.1 (λ polled. is_ok polled.task ≡ not (is_some result.0.awaiter)) }
+        ensures same { MatchResult result.1
+            (λ polled. IsHandleOf self.entry.cell.now polled.task)
+            (λ t. t.task.cell.now ≡ self.entry.cell.now) }
     {
         let (cell, mut pass) = self.open();
         let owed = handle::poll(rt, cell.board(), &mut pass);
@@ -116,6 +121,7 @@ impl<F: 'static, T: 'static, W: 'static> WaitingTask<F, T, W> {
     #[inline(always)]
     pub fn register<R: Wait>(self, rt: &R, waker: W) -> (Owed, Registered<F, T, W>)
         ensures made { Registers self.entry.task.cell.now.board.shared result.0 result.1.task.task.claim (is_some result.1.to_call) }
+        ensures same { result.1.task.task.cell.now ≡ self.entry.task.cell.now }
     {
         let WaitingTask { task } = self;
         let (cell, mut pass) = task.open();
@@ -155,6 +161,7 @@ impl<F: 'static, T: 'static, W: 'static> RegisteredTask<F, T, W> {
             (λ _. Owes moves.look_again result.0) }
         ensures gives { is_some result.1.output ≡ is_given result.0.answer }
         ensures calls { is_ok result.1.task ≡ not (is_some result.0.awaiter) }
+        ensures same { IsHandleOf self.entry.task.cell.now result.1.task }
     {
         let RegisteredTask { task } = self;
         let (cell, mut pass) = task.open();

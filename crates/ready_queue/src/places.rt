@@ -1,4 +1,4 @@
-ghost use Rattle.std.specs.Prelude.{◌<◌};
+ghost use Rattle.std.specs.Prelude.{◌≡◌, ◌<◌, IfOk, Some};
 
 use async_task::{NoMemory, Returning, StoredRunnable};
 use concurrent_queue::ConcurrentQueue;
@@ -15,6 +15,7 @@ impl Places {
     /// So many places.
     pub fn leak(alloc: Global, number: usize) -> Result<&'static Places, NoMemory>
         requires { 0 < number }
+        ensures { IfOk result (λ places. places.now.queue.capacity ≡ Some number) }
     {
         let Ok(queue) = ConcurrentQueue::bounded(alloc, number) else {
             return Err(NoMemory);

@@ -24,7 +24,9 @@ where
 {
     /// A queue with these places. Realm and places are its own: its tasks lie there, and no others.
     pub fn new(rt: R, realm: &'static QueueRealm<F, T, W, R>, places: &'static Places) -> Self
-        ensures { result.realm.now.number ≡ realm.now.number }
+        ensures realm { result.realm.now.number ≡ realm.now.number }
+        ensures places { result.ready.places.now ≡ places.now }
+        ensures rt { result.ready.rt ≡ rt }
     {
         ReadyQueue {
             realm,

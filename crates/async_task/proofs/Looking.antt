@@ -4,7 +4,7 @@ use Rattle.std.specs.Prelude.{Option, Some, None, Result, Ok, Err, MatchOption, 
 use Rattle.std.proofs.lemmas.Bool.{false≢true}
 use Rattle.task_moves.specs.declared.moves.state.State.{State}
 use Rattle.task_moves.specs.declared.moves.owed.Answer.{Answer}
-use Rattle.task_moves.specs.declared.moves.owed.Answer.TheVariants.{Refused, Pending, Closed, Output}
+use Rattle.task_moves.specs.declared.moves.owed.Answer.TheVariants.{Pending, Closed, Output}
 use Rattle.task_moves.specs.declared.moves.owed.AwaiterDebt.TheVariants.{NotifyOther}
 use Rattle.task_moves.specs.declared.moves.owed.Moved.{Moved}
 use Rattle.task_moves.specs.declared.moves.owed.Owed.{Owed}
@@ -17,7 +17,7 @@ use Rattle.task_word.specs.declared.cell.Cell.{Cell}
 use Rattle.task_word.specs.declared.tokens.Task.{Task}
 use Rattle.task_word.specs.declared.tokens.claim.Claim.{Claim}
 use Rattle.task_word.specs.declared.tokens.handles.OwingTask.{OwingTask}
-use Rattle.async_task.specs.Polls.{found_by, look_by, Looked, CallsAwaiter, FoundAt, IsTold}
+use Rattle.async_task.specs.Polls.{found_by, look_by, CallsAwaiter, FoundAt, IsTold}
 use Rattle.async_task.specs.declared.polling.Found.{Found}
 
 -- what a look may answer, and whether it owes the awaiter a call then
@@ -40,13 +40,6 @@ looking false g true s = inr (inr (inr refl))
 asked : (is_first : Bool) (s : State) → Asked (look_by is_first s).owed
 asked true s = polling s.closed (is_going s) s.completed s
 asked false s = looking s.closed (is_going s) s.completed s
-
-given : (a : Option Answer) → true ≡ is_given a → a ≡ Some Output
-given None e = absurd (false≢true (sym e))
-given (Some Refused) e = absurd (false≢true (sym e))
-given (Some Pending) e = absurd (false≢true (sym e))
-given (Some Closed) e = absurd (false≢true (sym e))
-given (Some Output) e = refl
 
 asked_by : (is_first : Bool) (owed : Owed) → Owes (look_by is_first) owed → Asked owed
 asked_by is_first owed o = subst Asked (sym o.1) (asked is_first o.0)
@@ -82,11 +75,11 @@ module _ {F T W : Type 0} where
   -- one that owes it a call is followed by that
   calling : (cell : Cell F T W) (is_first : Bool) (owed : Owed) (task : Result (Task F T W) (OwingTask F T W)) (claim : Claim)
       → Shown (look_by is_first) cell owed task → is_ok task ≡ not (is_some owed.awaiter) → IsHandleOf cell task → IsTold task claim
-      → owed.answer ≡ Some Closed → owed.awaiter ≡ Some NotifyOther → Looked (Some Closed) × CallsAwaiter cell.board.shared claim
-  calling cell is_first owed (Ok task) claim made calls same is_told answer e =
+      → owed.awaiter ≡ Some NotifyOther → CallsAwaiter cell.board.shared claim
+  calling cell is_first owed (Ok task) claim made calls same is_told e =
       absurd (false≢true (sym (calls ∙ ap (λ z. not (is_some z)) e)))
-  calling cell is_first owed (Err owing) claim made calls same is_told answer e =
-      ((is_first, owed, (made.3.0, made.3.4), answer), subst (λ (z : Cell F T W). CallsAwaiter z.board.shared claim) same is_told)
+  calling cell is_first owed (Err owing) claim made calls same is_told e =
+      subst (λ (z : Cell F T W). CallsAwaiter z.board.shared claim) same is_told
 
   by_answer : (cell : Cell F T W) (is_first : Bool) (owed : Owed) (task : Result (Task F T W) (OwingTask F T W)) (claim : Claim)
       → Shown (look_by is_first) cell owed task → is_ok task ≡ not (is_some owed.awaiter) → IsHandleOf cell task → IsTold task claim
@@ -99,7 +92,7 @@ module _ {F T W : Type 0} where
       (is_first, owed, unowing cell is_first owed task claim made calls is_told e.1, e.0)
   by_answer cell is_first owed task claim made calls same is_told answers gives (inr (inr (inl e))) =
       subst (λ (z : Option Answer). FoundAt cell.board.shared claim (found_by {T = T} None z)) (sym e.0)
-      (calling cell is_first owed task claim made calls same is_told e.0 e.1)
+      (calling cell is_first owed task claim made calls same is_told e.1)
   by_answer cell is_first owed task claim made calls same is_told answers gives (inr (inr (inr e))) =
       absurd (false≢true (gives ∙ ap is_given e))
 
@@ -119,8 +112,7 @@ module _ {F T W : Type 0} where
       → Came (look_by is_first) cell owed output task → is_some owed.answer ≡ true → is_some output ≡ is_given owed.answer
       → is_ok task ≡ not (is_some owed.awaiter) → IsHandleOf cell task → IsTold task claim
       → FoundAt cell.board.shared claim (found_by output owed.answer)
-  finds cell is_first owed task (Some output) claim made answers gives calls same is_told =
-      (is_first, owed, made, given owed.answer gives)
+  finds cell is_first owed task (Some output) claim made answers gives calls same is_told = tt
   finds cell is_first owed task None claim made answers gives calls same is_told =
       by_answer cell is_first owed task claim made calls same is_told answers gives
       (asked_by is_first owed (state_of cell (look_by is_first) owed task made))

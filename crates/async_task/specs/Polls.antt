@@ -1,5 +1,5 @@
 -- What a poll of a handle finds.
-use Rattle.std.specs.Prelude.{◌≡◌, Bool, true, false, Option, Some, None, Result, Ok, Err}
+use Rattle.std.specs.Prelude.{◌≡◌, Bool, true, false, Option, Some, None, Result, Ok, Err, ⊤}
 use Rattle.atomic_table.specs.declared.shared.Shared.{Shared}
 use Rattle.async_task.specs.declared.errors.NoMemory.{NoMemory as WithoutMemory}
 use Rattle.async_task.specs.declared.poll.Poll.{Poll}
@@ -20,7 +20,7 @@ use Rattle.task_word.specs.declared.tokens.Task.{Task}
 use Rattle.task_word.specs.declared.tokens.claim.Claim.{Claim}
 use Rattle.task_word.specs.declared.tokens.handles.OwingTask.{OwingTask}
 use Rattle.task_word.specs.Cell.{Slot}
-use Rattle.task_word.specs.Tokens.{Shows, Owes, Notifies}
+use Rattle.task_word.specs.Tokens.{Shows, Notifies}
 
 -- the output, where a look has taken it out; else what the look answers, which is that there is none yet or that there won't be one
 abbrev pub found_by : {T : Type 0} → Option T → Option Answer → Found T
@@ -33,10 +33,6 @@ abbrev pub look_by : Bool → State → Moved
 look_by true s = moves.poll s
 look_by false s = moves.look_again s
 
--- a look answered this, whose seat has taken another step since
-abbrev pub Looked : Option Answer → Type 0
-Looked answer = (is_first : Bool) × (owed : Owed) × Owes (look_by is_first) owed × (owed.answer ≡ answer)
-
 module _ {F T W K P : Type 0} where
   -- the last step of this claim's seat, on this board, was a look that answered this
   abbrev pub Looks : Shared (Slot F T W) View K P → Option Answer → Claim → Type 0
@@ -46,11 +42,11 @@ module _ {F T W K P : Type 0} where
   abbrev pub CallsAwaiter : Shared (Slot F T W) View K P → Claim → Type 0
   CallsAwaiter board claim = (owed : Owed) × Notifies board owed claim
 
-  -- what a poll of the handle that has this claim found: that there is no output yet, or that no waker could be had, where its last
-  -- step, on this board, was the look that says so; that there won't be one only where a look said so and the awaiter was told
+  -- what a poll of the handle that has this claim found: that there is no output yet, or that no waker could be had, only where its
+  -- last step, on this board, was the look that says so; that there won't be one only where its last step there told the awaiter
   abbrev pub FoundAt : Shared (Slot F T W) View K P → Claim → Found T → Type 0
-  FoundAt board claim (Output output) = Looked (Some answers.Output)
-  FoundAt board claim Closed = Looked (Some answers.Closed) × CallsAwaiter board claim
+  FoundAt board claim (Output output) = ⊤
+  FoundAt board claim Closed = CallsAwaiter board claim
   FoundAt board claim Pending = Looks board (Some answers.Pending) claim
   FoundAt board claim NoMemory = Looks board None claim
 

@@ -1,6 +1,6 @@
-//! Calls of a queue as rows, each with what it is to answer, and who makes them of either queue.
+//! Calls of a shared queue as rows, each with what it is to answer, and who makes them.
 use crate::words::same;
-use concurrent_queue::{ConcurrentQueue, Exclusive, ForcePushError, PopError, PushError};
+use concurrent_queue::{ConcurrentQueue, ForcePushError, PopError, PushError};
 use std::fmt::Debug;
 use std::process::Abort;
 use std::sync::Wait;
@@ -17,23 +17,6 @@ pub enum Call<T> {
     IsFull(bool),
     IsClosed(bool),
     Capacity(Option<usize>),
-}
-
-/// The calls of an `Exclusive` have their answers.
-pub fn answers<R: Abort>(rt: &R, queue: &mut Exclusive<u64>, calls: &[Call<u64>]) {
-    for call in calls {
-        match call {
-            Call::Push(value, want) => same(rt, queue.push(*value), *want),
-            Call::ForcePush(value, want) => same(rt, queue.force_push(*value), *want),
-            Call::Pop(want) => same(rt, queue.pop(), *want),
-            Call::Close(want) => same(rt, queue.close(), *want),
-            Call::Len(want) => same(rt, queue.len(), *want),
-            Call::IsEmpty(want) => same(rt, queue.is_empty(), *want),
-            Call::IsFull(want) => same(rt, queue.is_full(), *want),
-            Call::IsClosed(want) => same(rt, queue.is_closed(), *want),
-            Call::Capacity(want) => same(rt, queue.capacity(), *want),
-        }
-    }
 }
 
 /// The calls of a `ConcurrentQueue` by this thread have their answers.

@@ -19,17 +19,6 @@ pub fn bounded<R: Abort + AllocGlobal, T: Drop>(rt: &R, cap: usize) -> Concurren
     ConcurrentQueue::bounded(rt.alloc(), cap).expect(rt, "memory")
 }
 
-// The calls of a new queue of this capacity have their answers.
-fn bounded_answers<R: Wait + Abort + AllocGlobal, T: Copy + PartialEq + Debug>(
-    rt: &R,
-    cap: usize,
-    calls: &[Call<T>],
-)
-    requires { 0 < cap }
-{
-    shared_answers(rt, &bounded(rt, cap), calls);
-}
-
 // Pushes so many numbers from `first` on.
 fn push_numbers<R: Wait + Abort>(rt: &R, queue: &ConcurrentQueue<u64>, first: u64, count: u64) {
     for number in 0..count {
@@ -42,50 +31,6 @@ fn pop_numbers<R: Wait + Abort>(rt: &R, queue: &ConcurrentQueue<u64>, first: u64
     for number in 0..count {
         same(rt, queue.pop(rt), Ok(first.wrapping_add(number)));
     }
-}
-
-#[test]
-fn a_full_shared_ring_refuses_and_gives_in_order(rt: HostRuntime) {
-    let calls = &[
-        Call::Push('a', Ok(())),
-        Call::Push('b', Ok(())),
-        Call::Push('c', Err(PushError::Full('c'))),
-        Call::Pop(Ok('a')),
-        Call::Pop(Ok('b')),
-        Call::Pop(Err(PopError::Empty)),
-    ];
-    bounded_answers(&rt, 2, calls);
-}
-
-#[test]
-fn a_closed_shared_chain_refuses_and_drains(rt: HostRuntime) {
-    let calls = &[
-        Call::Push(10u64, Ok(())),
-        Call::Close(true),
-        Call::Close(false),
-        Call::Push(20, Err(PushError::Closed(20))),
-        Call::ForcePush(30, Err(ForcePushError::Closed(30))),
-        Call::Pop(Ok(10)),
-        Call::Pop(Err(PopError::Closed)),
-    ];
-    shared_answers(&rt, &ConcurrentQueue::unbounded(rt.alloc()), calls);
-}
-
-#[test]
-fn a_forced_push_displaces_until_the_queue_is_closed(rt: HostRuntime) {
-    let calls = &[
-        Call::Push('a', Ok(())),
-        Call::Push('b', Ok(())),
-        Call::ForcePush('c', Ok(Some('a'))),
-        Call::Len(2),
-        Call::Close(true),
-        Call::ForcePush('d', Err(ForcePushError::Closed('d'))),
-        Call::Push('e', Err(PushError::Closed('e'))),
-        Call::Pop(Ok('b')),
-        Call::Pop(Ok('c')),
-        Call::Pop(Err(PopError::Closed)),
-    ];
-    bounded_answers(&rt, 2, calls);
 }
 
 // A new walk gives each number from `first` up to the end.
@@ -116,62 +61,6 @@ fn a_shared_walk_gives_the_items_in_order(rt: HostRuntime) {
     let calls = &[Call::ForcePush(1, Ok(None)), Call::Push(2, Ok(()))];
     shared_answers(&rt, &queue, calls);
     walks_take_turns(&rt, &queue);
-}
-
-#[test]
-fn a_shared_slot_holds_one_item(rt: HostRuntime) {
-    let calls = &[
-        Call::Capacity(Some(1)),
-        Call::IsEmpty(true),
-        Call::IsFull(false),
-        Call::Push(5u64, Ok(())),
-        Call::IsFull(true),
-        Call::IsEmpty(false),
-        Call::Push(6, Err(PushError::Full(6))),
-        Call::ForcePush(7, Ok(Some(5))),
-        Call::Len(1),
-        Call::Pop(Ok(7)),
-        Call::Len(0),
-        Call::Pop(Err(PopError::Empty)),
-        Call::IsClosed(false),
-        Call::Close(true),
-        Call::IsClosed(true),
-        Call::Close(false),
-        Call::Pop(Err(PopError::Closed)),
-    ];
-    bounded_answers(&rt, 1, calls);
-}
-
-// Five items at a time go through a queue in order. With five it answers so, and without any it is empty.
-fn hands_on_fives<R: Wait + Abort>(rt: &R, queue: &ConcurrentQueue<u64>, with_five: &[Call<u64>]) {
-    let with_none = &[Call::IsEmpty(true), Call::Pop(Err(PopError::Empty))];
-    for round in 0..25u64 {
-        push_numbers(rt, queue, 5 * round, 5);
-        shared_answers(rt, queue, with_five);
-        pop_numbers(rt, queue, 5 * round, 5);
-        shared_answers(rt, queue, with_none);
-    }
-}
-
-#[test]
-fn a_shared_ring_counts_and_keeps_order_past_a_hundred_items(rt: HostRuntime) {
-    let with_five = &[
-        Call::Capacity(Some(5)),
-        Call::IsFull(true),
-        Call::Len(5),
-        Call::Push(1000, Err(PushError::Full(1000))),
-    ];
-    let ring = bounded(&rt, 5);
-    hands_on_fives(&rt, &ring, with_five);
-    shared_answers(&rt, &ring, &[Call::Close(true), Call::IsClosed(true)]);
-}
-
-#[test]
-fn a_shared_chain_counts_and_keeps_order_past_a_hundred_items(rt: HostRuntime) {
-    let with_five = &[Call::Capacity(None), Call::IsFull(false), Call::Len(5)];
-    let chain = ConcurrentQueue::unbounded(rt.alloc());
-    hands_on_fives(&rt, &chain, with_five);
-    shared_answers(&rt, &chain, &[Call::IsClosed(false)]);
 }
 
 // Pushes an item. A push that is refused has changed nothing, and the next one is accepted.

@@ -1,11 +1,9 @@
 //! One script, and what is owed for it.
 
-ghost use Rattle.std.specs.Prelude.{◌≡◌, true, IfOk};
-ghost use Rattle.script_cases.specs.Owed.{IsOwed};
+ghost use Rattle.std.specs.Prelude.{◌≡◌, ◌↔◌, true};
+ghost use Rattle.cases.specs.Owed.{Meets};
 
-use script::ParseError;
-use simulator::answer;
-use std::alloc::{AllocError, Global};
+use crate::shown::Shown;
 
 /// A script, and what it is to show.
 #[derive(Clone, Copy)]
@@ -34,14 +32,13 @@ impl<'a> Case<'a> {
         Some((case, rest))
     }
 
-    /// Whether the script shows what is owed. A yes means that this is what it shows.
-    pub fn agrees(&self, alloc: Global) -> Result<bool, AllocError>
-        ensures { IfOk result (λ yes. yes ≡ true → IsOwed self.now.script.now self.now.text.now self.now.bad_line) }
+    /// Whether what was shown is what is owed.
+    pub fn is_met_by(&self, shown: &Shown) -> bool
+        ensures { (result ≡ true) ↔ Meets self.now.text.now self.now.bad_line shown.now }
     {
-        match answer(alloc, self.script) {
-            Ok(text) => Ok(self.bad_line == 0 && text.as_slice() == self.text),
-            Err(ParseError::BadLine(number)) => Ok(number == self.bad_line),
-            Err(ParseError::NoMemory) => Err(AllocError),
+        match shown {
+            Shown::Text(text) => self.bad_line == 0 && text.as_slice() == self.text,
+            Shown::BadLine(number) => *number == self.bad_line,
         }
     }
 }

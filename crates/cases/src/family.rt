@@ -1,0 +1,64 @@
+//! The families of scripts: what plays them, and where they lie.
+
+use crate::shown::{Shown, machine, shown_by_queue};
+use queue_player::{play_exclusive, play_shared};
+use std::alloc::{AllocError, AllocGlobal};
+use std::sync::Wait;
+
+/// What plays a script.
+#[derive(Clone, Copy)]
+pub enum Family {
+    /// The step machine.
+    Machine,
+    /// A queue that threads share.
+    Queue,
+    /// The queue of one owner.
+    Exclusive,
+}
+
+impl Family {
+    /// All of them, in the order in which they are played.
+    pub const ALL: [Family; 3] = [Family::Machine, Family::Queue, Family::Exclusive];
+
+    /// The name that an argument and a line of the output have.
+    pub fn name(self) -> &'static str {
+        match self {
+            Family::Machine => "machine",
+            Family::Queue => "queue",
+            Family::Exclusive => "exclusive",
+        }
+    }
+
+    /// The file of `data/` with its scripts. Two families may share one.
+    pub fn file(self) -> &'static str {
+        match self {
+            Family::Machine => "machine.txt",
+            Family::Queue | Family::Exclusive => "queue.txt",
+        }
+    }
+
+    /// The file of `data/` with a few scripts of it, of which one has a wrong line.
+    pub fn file_with_a_wrong_line(self) -> &'static str {
+        match self {
+            Family::Machine => "wrong-machine.txt",
+            Family::Queue | Family::Exclusive => "wrong-queue.txt",
+        }
+    }
+
+    /// The family of this name.
+    pub fn named(name: &str) -> Option<Family> {
+        Family::ALL.into_iter().find(|family| family.name() == name)
+    }
+
+    /// What it shows of a script. The error is a want of memory.
+    pub fn play<R>(self, rt: R, script: &[u8]) -> Result<Shown, AllocError>
+    where
+        R: AllocGlobal + Wait + Copy + Drop,
+    {
+        match self {
+            Family::Machine => machine(rt.alloc(), script),
+            Family::Queue => shown_by_queue(play_shared(rt, rt.alloc(), script)),
+            Family::Exclusive => shown_by_queue(play_exclusive(rt.alloc(), script)),
+        }
+    }
+}

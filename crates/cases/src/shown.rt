@@ -1,0 +1,37 @@
+//! What a player shows of a script.
+
+ghost use Rattle.std.specs.Prelude.{IfOk};
+ghost use Rattle.cases.specs.Owed.{IsShown};
+
+use std::alloc::{AllocError, Global};
+
+/// What a player shows of a script.
+#[derive(Drop)]
+pub enum Shown {
+    /// The text that its calls print.
+    Text(Vec<u8>),
+    /// The script isn't played, since the line of this number, from 1 on, is bad.
+    BadLine(u64),
+}
+
+/// What the step machine shows of a script. The error is a want of memory.
+pub fn machine(alloc: Global, script: &[u8]) -> Result<Shown, AllocError>
+    ensures { IfOk result (IsShown script.now) }
+{
+    match simulator::answer(alloc, script) {
+        Ok(text) => Ok(Shown::Text(text)),
+        Err(script::ParseError::BadLine(number)) => Ok(Shown::BadLine(number)),
+        Err(script::ParseError::NoMemory) => Err(AllocError),
+    }
+}
+
+/// What a player of queues shows of a script. The error is a want of memory.
+pub fn shown_by_queue(
+    shown: Result<Vec<u8>, queue_player::ParseError>,
+) -> Result<Shown, AllocError> {
+    match shown {
+        Ok(text) => Ok(Shown::Text(text)),
+        Err(queue_player::ParseError::BadLine(number)) => Ok(Shown::BadLine(number)),
+        Err(queue_player::ParseError::NoMemory) => Err(AllocError),
+    }
+}

@@ -7,7 +7,7 @@ use std::io::{self, ErrorKind};
 /// Why a future wasn't accepted. It comes back.
 #[derive(Debug, PartialEq, Eq, Drop)]
 pub enum SpawnError<F> {
-    /// As many tasks are queued as the queue has places for.
+    /// As many accepted futures as the queue has places for are not dropped yet.
     Full(F),
     /// The queue is closed.
     Closed(F),

@@ -1,16 +1,24 @@
 ghost use Rattle.std.specs.Prelude.{◌≡◌, IfOk, IfErr, IfSome};
 ghost use Rattle.ready_queue.specs.Errors.{refused};
 
+use crate::accepted::Accepted;
 use crate::errors::SpawnError;
 use crate::names::{QueueRealm, QueueRunnable, QueueTask, QueueWaker};
 use crate::places::Places;
 use crate::ready::Ready;
+use crate::rooms::NoRoom;
 use async_task::{Future, Parts, Wake, close_returned, spawn};
 use std::sync::Wait;
 
 /// A queue of tasks that are to be run, and the realm where they lie. Threads that spawn or run share it by reference.
 #[derive(Drop)]
-pub struct ReadyQueue<F: 'static, T: 'static, W: 'static, R: 'static> {
+pub struct ReadyQueue<F, T, W, R>
+where
+    F: Drop + 'static,
+    T: 'static,
+    W: 'static,
+    R: Wait + Copy + Drop + 'static,
+{
     realm: &'static QueueRealm<F, T, W, R>,
     ready: Ready<R>,
 }
@@ -41,18 +49,27 @@ where
         self.realm
     }
 
-    /// A new task, which is queued to be run. A refused future comes back. What was let go of the queue's tasks is closed first.
+    /// A new task, which is queued to be run. What was let go of the queue's tasks is closed first. The future is accepted
+    /// where it has room until it is dropped; a refused one comes back, and no task was made of it.
     pub fn spawn(&self, future: F) -> Result<QueueTask<F, T, W, R>, SpawnError<F>>
         ensures here { IfOk result (λ task. task.identity.realm ≡ self.now.realm.now.number) }
         ensures future { IfErr result (λ error. refused error ≡ future) }
     {
-        close_returned(self.ready.rt, self.realm);
-        if self.ready.places.queue.is_closed(&self.ready.rt) {
-            return Err(SpawnError::Closed(future));
-        }
-        if self.ready.places.queue.is_full(&self.ready.rt) {
-            return Err(SpawnError::Full(future));
-        }
+        let (places, rt) = (self.ready.places, self.ready.rt);
+        close_returned(rt, self.realm);
+        let room = match places.take_room(&rt) {
+            Ok(room) => room,
+            Err(NoRoom::Closed) => return Err(SpawnError::Closed(future)),
+            Err(NoRoom::Full) => return Err(SpawnError::Full(future)),
+        };
+        self.make(Accepted::new(rt, places, room, future))
+    }
+
+    /// A new task of a future that has room, which is queued. Without memory for it the future comes back.
+    fn make(&self, future: Accepted<F, R>) -> Result<QueueTask<F, T, W, R>, SpawnError<F>>
+        ensures here { IfOk result (λ task. task.identity.realm ≡ self.now.realm.now.number) }
+        ensures future { IfErr result (λ error. refused error ≡ future.future) }
+    {
         let (places, rt) = (self.ready.places, self.ready.rt);
         match spawn(rt, self.realm, future, Ready { places, rt }) {
             Ok((runnable, task)) => {
@@ -65,7 +82,7 @@ where
                     schedule: _,
                     metadata: _,
                 },
-            ) => Err(SpawnError::NoMemory(future)),
+            ) => Err(SpawnError::NoMemory(future.refuse())),
         }
     }
 
@@ -82,9 +99,10 @@ where
         }
     }
 
-    /// Closes the queue and each task that it has. From now on a task that is woken is closed in its place.
+    /// Closes the queue and each task that it has. From now on it accepts no future, and a task that is woken is closed in
+    /// its place.
     pub fn close(&self) {
-        self.ready.places.queue.close(&self.ready.rt);
+        self.ready.places.close(&self.ready.rt);
         for _ in self.ready.rt.forever() {
             match self.next() {
                 Some(runnable) => drop(runnable),

@@ -3,7 +3,8 @@ use crate::places::Places;
 use async_task::{Due, Returning, Schedule, ScheduleInfo, Wake};
 use std::sync::Wait;
 
-/// The schedule value of a queue's tasks: a Runnable that it is given goes into the queue.
+/// The schedule value of a queue's tasks: a Runnable that it is given goes into the queue, which has a place for it unless it
+/// is closed.
 #[derive(Clone, Copy)]
 pub struct Ready<R> {
     pub(crate) places: &'static Places,

@@ -2,10 +2,11 @@
 use crate::executor::Executor;
 use crate::own_queues::OwnQueues;
 use crate::state::Queue;
+use crate::unlocked::{ReadWrite, Unlocked};
 use async_task::Wake;
 use std::alloc::Global;
 use std::fmt;
-use std::sync::{Arc, RwLock, Wait};
+use std::sync::{Arc, Wait};
 
 /// Stands in a text for what is under a lock that isn't free.
 struct Locked;
@@ -20,21 +21,45 @@ impl fmt::Debug for Locked {
 #[derive(Drop)]
 struct LocalRunners<'a, R> {
     rt: R,
-    queues: &'a RwLock<OwnQueues<Arc<Queue, Global>>>,
+    queues: &'a ReadWrite<OwnQueues<Arc<Queue, Global>>>,
+}
+
+impl<R: Wait> LocalRunners<'_, R> {
+    /// The length of the queue at this place of the list, which is read with the lock taken for it alone: whoever writes the
+    /// text may be a user's. Some(None) past the last, None where the lock isn't free.
+    fn length_at(&self, at: usize) -> Option<Option<usize>> {
+        let mut unlocked = Unlocked::at_entry();
+        match self.queues.try_read(&mut unlocked) {
+            Some(reading) => match reading.get().all().get(at) {
+                Some(listed) => Some(Some(listed.queue.len(&self.rt))),
+                None => Some(None),
+            },
+            None => None,
+        }
+    }
 }
 
 impl<R: Wait> fmt::Debug for LocalRunners<'_, R> {
     fn fmt<O: fmt::Write>(&self, f: &mut fmt::Formatter<O>) -> fmt::Result {
-        match self.queues.try_read() {
-            Some(queues) => {
-                let mut list = f.debug_list();
-                for listed in queues.all() {
-                    list.entry(&listed.queue.len(&self.rt));
+        let Some(first) = self.length_at(0) else {
+            return f.write_str("<locked>");
+        };
+        let mut list = f.debug_list();
+        let mut next = first;
+        for at in 1..usize::MAX {
+            let Some(length) = next else {
+                return list.finish();
+            };
+            list.entry(&length);
+            next = match self.length_at(at) {
+                Some(length) => length,
+                None => {
+                    list.entry(&Locked);
+                    None
                 }
-                list.finish()
-            }
-            None => f.write_str("<locked>"),
+            };
         }
+        list.finish()
     }
 }
 
@@ -48,12 +73,15 @@ where
     R: Wait + Copy + Drop + 'static,
 {
     fn fmt<O: fmt::Write>(&self, f: &mut fmt::Formatter<O>) -> fmt::Result {
-        let active = self.table.try_lock().map(|table| table.len());
-        let sleepers = self
-            .state
-            .sleepers
-            .try_lock()
-            .map(|sleepers| sleepers.count());
+        let mut unlocked = Unlocked::at_entry();
+        let active = match self.table.try_lock(&mut unlocked) {
+            Some(mut table) => Some(table.get().len()),
+            None => None,
+        };
+        let sleepers = match self.state.sleepers.try_lock(&mut unlocked) {
+            Some(mut sleepers) => Some(sleepers.get().count()),
+            None => None,
+        };
         let mut text = f.debug_struct("Executor");
         match active {
             Some(active) => text.field("active", &active),

@@ -1,4 +1,5 @@
-ghost use Rattle.std.specs.Prelude.{◌≡◌, ◌<◌, ◌≤◌, [], true, Some, IfOk, IfErr, length, vec_capacity};
+ghost use Rattle.std.specs.Prelude.{◌≡◌, ◌<◌, ◌≤◌, [], true, Some, IfOk, IfErr, length};
+ghost use Rattle.std.specs.VecDeque.{deque_capacity};
 ghost use Rattle.std.specs.Iterator.{IsFinite};
 ghost use Rattle.std.specs.Arc.{arc_value};
 ghost use Rattle.async_executor.specs.Errors.{refused};
@@ -6,18 +7,23 @@ ghost use Rattle.async_executor.specs.Spawning.{SpawnsMany};
 ghost use Rattle.async_executor.specs.Stages.{given, closing};
 
 use crate::call::Call;
+use crate::closing::ClosesReturned;
 use crate::due::{pay, share};
 use crate::errors::SpawnError;
+use crate::foreign::Foreign;
 use crate::handles::Handles;
+use crate::leaving::Leaving;
 use crate::names::{ExRealm, ExRunnable, ExTask, ExWaker};
 use crate::queue::ExQueue;
 use crate::sections;
 use crate::spawning::accept;
 use crate::state::{State, close};
-use async_task::{Future, NoMemory, Returning, StoredWaker, Wake, close_returned};
+use crate::unlocked::{Guarded, Unlocked};
+use async_task::{Future, NoMemory, Returning, StoredWaker, Wake};
 use executor_parts::Places;
 use std::alloc::Global;
-use std::sync::{Arc, Mutex, Wait};
+use std::collections::VecDeque;
+use std::sync::{Arc, Wait};
 
 /// An executor of futures `F`, whose outputs are `T`.
 pub struct Executor<F, T, W, R>
@@ -29,9 +35,11 @@ where
 {
     pub(crate) realm: &'static ExRealm<T, W, R>,
     pub(crate) state: Arc<State<W>, Global>,
-    pub(crate) table: Mutex<Places<F, Returning<StoredWaker>>>,
+    pub(crate) table: Guarded<Places<F, Returning<StoredWaker>>>,
     /// Empty: room for the wakers that the executor's drop takes out of the table.
-    pub(crate) leaving: Vec<Returning<StoredWaker>>,
+    pub(crate) leaving: VecDeque<Returning<StoredWaker>>,
+    /// What was let go of tasks in its realm is to be closed.
+    pub(crate) returned: ClosesReturned,
     pub(crate) rt: R,
     pub(crate) alloc: Global,
 }
@@ -58,7 +66,7 @@ where
         match (
             State::new(alloc, limit),
             Places::with_room(alloc, limit),
-            Vec::with_capacity(alloc, limit),
+            VecDeque::with_capacity(alloc, limit),
         ) {
             (Ok(state), Ok(table), Ok(leaving)) => {
                 Executor::of(rt, alloc, realm, state, table, leaving)
@@ -74,11 +82,11 @@ where
         realm: &'static ExRealm<T, W, R>,
         state: State<W>,
         table: Places<F, Returning<StoredWaker>>,
-        leaving: Vec<Returning<StoredWaker>>,
+        leaving: VecDeque<Returning<StoredWaker>>,
     ) -> Result<Self, NoMemory>
         requires table { (table.entries ≡ []) × (table.has_all_room ≡ true) }
         requires queue { state.queue.capacity ≡ Some table.limit }
-        requires leaving { (leaving.items ≡ []) × (table.limit ≤ vec_capacity leaving) }
+        requires leaving { (leaving.items ≡ []) × (table.limit ≤ deque_capacity leaving) }
         ensures queue { IfOk result (λ executor. (arc_value executor.state).queue.capacity ≡ state.queue.capacity) }
         ensures here { IfOk result (λ executor. executor.realm.now.number ≡ realm.now.number) }
     {
@@ -86,8 +94,9 @@ where
             Ok(state) => Ok(Executor {
                 realm,
                 state,
-                table: Mutex::new(table),
+                table: Guarded::new(table),
                 leaving,
+                returned: ClosesReturned::new(),
                 rt,
                 alloc,
             }),
@@ -97,7 +106,8 @@ where
 
     /// Whether each future that was accepted is dropped. It takes no memory.
     pub fn is_empty(&self) -> bool {
-        sections::is_empty(&*self.table.lock(&self.rt))
+        let mut unlocked = Unlocked::at_entry();
+        sections::is_empty(self.table.lock(&self.rt, &mut unlocked).get())
     }
 
     /// Hands the executor a future. Its task is queued, and the handle is answered: a future with the output, whose drop
@@ -111,20 +121,22 @@ where
         ensures future { IfErr result (λ error. refused error ≡ future) }
         ensures here { IfOk result (λ task. task.identity.realm ≡ self.now.realm.now.number) }
     {
-        close_returned(self.rt, self.realm);
+        let mut unlocked = Unlocked::at_entry();
+        let closed = self.returned.close(self.rt, self.realm, &unlocked);
         let schedule = ExQueue::new(self.rt, share(self.rt, &self.state));
         let mut call = Call::begin();
         let accepted = accept(
-            &mut *self.table.lock(&self.rt),
+            self.table.lock(&self.rt, &mut unlocked).get(),
             self.rt,
             self.realm,
             &mut call,
             schedule,
             future,
+            closed,
         );
         match accepted {
             Ok((runnable, task)) => {
-                self.queue(call, runnable);
+                self.queue(call, runnable, &mut unlocked);
                 Ok(task)
             }
             Err(refused) => {
@@ -140,12 +152,15 @@ where
     /// 2. Tells a sleeper, since there may be more.
     /// 3. Runs it: true.
     pub fn try_tick(&self) -> bool {
+        let mut unlocked = Unlocked::at_entry();
         let mut call = Call::begin();
         match self.state.take(&self.rt, &mut call) {
             Some(stored) => {
-                let due = self.state.notify(self.rt, self.realm, &mut call);
-                pay(self.rt, due);
-                let _ = self.poll_or_drop(stored, call);
+                let due = self
+                    .state
+                    .notify(self.rt, self.realm, &mut call, &mut unlocked);
+                pay(self.rt, due, &mut unlocked);
+                let _ = self.poll_or_drop(stored, call, &mut unlocked);
                 true
             }
             None => {
@@ -156,11 +171,12 @@ where
     }
 
     /// Puts the Runnable of a new task into the queue, and tells a sleeper.
-    fn queue(&self, call: Call, runnable: ExRunnable<T, W, R>)
+    fn queue(&self, call: Call, runnable: ExRunnable<T, W, R>, unlocked: &mut Unlocked)
         requires { call ≡ given }
     {
         let runnable = runnable.into_scheduled();
-        pay(self.rt, self.state.push(self.rt, call, runnable));
+        let due = self.state.push(self.rt, call, runnable, unlocked);
+        pay(self.rt, due, unlocked);
     }
 }
 
@@ -184,23 +200,31 @@ where
             realm,
             state,
             table,
-            mut leaving,
+            leaving,
+            returned,
             rt,
             alloc: _,
         } = self;
-        drop_futures(rt, realm, table.into_inner(), &mut leaving);
-        for waker in leaving {
-            pay(rt, waker.wake(rt, realm));
-        }
+        let mut unlocked = Unlocked::at_entry();
+        let mut leaving = Leaving::of(leaving);
+        drop_futures(rt, realm, table.into_inner(), &mut leaving, &mut unlocked);
+        leaving.wake_all(rt, realm, &mut unlocked);
+        leaving.end();
         let mut call = Call::begin();
         state.close(&rt, &mut call);
-        drain(rt, realm, &state, call);
-        close_returned(rt, realm);
+        drain(rt, realm, &state, call, &mut unlocked);
+        returned.end(rt, realm, &unlocked);
     }
 }
 
 /// Drops each Runnable that is left in the executor's queue, which is closed.
-fn drain<T, W, R>(rt: R, realm: &'static ExRealm<T, W, R>, state: &State<W>, call: Call)
+fn drain<T, W, R>(
+    rt: R,
+    realm: &'static ExRealm<T, W, R>,
+    state: &State<W>,
+    call: Call,
+    unlocked: &mut Unlocked,
+)
 where
     T: Drop + 'static,
     W: Wake + Drop + 'static,
@@ -213,7 +237,8 @@ where
             call.end();
             return;
         };
-        pay(rt, close(rt, realm, &mut call, stored));
+        let due = close(rt, realm, &mut call, stored, unlocked);
+        pay(rt, due, unlocked);
     }
     unreachable!()
 }
@@ -224,7 +249,8 @@ fn drop_futures<F, T, W, R>(
     rt: R,
     realm: &'static ExRealm<T, W, R>,
     table: Places<F, Returning<StoredWaker>>,
-    leaving: &mut Vec<Returning<StoredWaker>>,
+    leaving: &mut Leaving,
+    unlocked: &mut Unlocked,
 )
 where
     F: Drop,
@@ -237,9 +263,12 @@ where
         let Some((future, waker)) = table.leave_first() else {
             return;
         };
-        drop(future);
-        if let Err(refused) = leaving.push(waker) {
-            pay(rt, refused.value.wake(rt, realm));
+        if let Some(future) = future {
+            Foreign::of(future).let_go(unlocked);
+        }
+        if let Err(waker) = leaving.push(waker) {
+            let due = waker.wake(rt, realm);
+            pay(rt, due, unlocked);
         }
     }
 }

@@ -3,11 +3,15 @@
 #![tactic(auto)]
 
 mod call;
+mod closing;
 mod debug;
 mod due;
 mod errors;
 mod executor;
+mod flag;
+mod foreign;
 mod handles;
+mod leaving;
 mod making;
 mod names;
 mod own_queues;
@@ -22,6 +26,7 @@ mod state;
 mod steal;
 mod tick;
 mod ticker;
+mod unlocked;
 
 pub use async_task::{FallibleTask, NoMemory, Task};
 pub use errors::{RunError, SpawnError};

@@ -1,16 +1,19 @@
 //! How ticks and runs are made: all memory that they need later is taken here.
 ghost use Rattle.std.specs.Prelude.{◌≡◌, false, Some, IfOk, IfErr};
+ghost use Rattle.async_executor.specs.Foreign.{value_of};
 ghost use Rattle.async_executor.specs.Polls.{has_left};
 ghost use Rattle.async_executor.specs.Seeds.{seeded};
 
 use crate::call::Polled;
 use crate::executor::Executor;
+use crate::foreign::Foreign;
 use crate::names::ExWaker;
 use crate::run::Run;
 use crate::runner::Runner;
 use crate::sections::{give_back, make_room};
 use crate::tick::Tick;
 use crate::ticker::Ticker;
+use crate::unlocked::Unlocked;
 use async_task::{Future, NoMemory, Wake};
 use std::sync::Wait;
 
@@ -25,7 +28,8 @@ where
     pub fn tick(&self) -> Result<Tick<'_, F, T, W, R>, NoMemory>
         ensures { IfOk result (λ tick. has_left tick.ticker ≡ false) }
     {
-        let made = make_room(&mut *self.state.sleepers.lock(&self.rt));
+        let mut unlocked = Unlocked::at_entry();
+        let made = make_room(self.state.sleepers.lock(&self.rt, &mut unlocked).get());
         match made {
             Ok(new_room) => Ok(Tick {
                 executor: self,
@@ -42,7 +46,7 @@ where
     where
         G: Future<ExWaker<T, W, R>> + Drop,
         ensures back { IfErr result (λ back. back ≡ future) }
-        ensures future { IfOk result (λ run. run.future ≡ Some future) }
+        ensures future { IfOk result (λ run. value_of run.future ≡ Some future) }
         ensures words { IfOk result (λ run. run.runner.words ≡ seeded 0) }
     {
         self.run_from(future, 0)
@@ -53,24 +57,28 @@ where
     where
         G: Future<ExWaker<T, W, R>> + Drop,
         ensures back { IfErr result (λ back. back ≡ future) }
-        ensures future { IfOk result (λ run. run.future ≡ Some future) }
+        ensures future { IfOk result (λ run. value_of run.future ≡ Some future) }
         ensures words { IfOk result (λ run. run.runner.words ≡ seeded seed) }
     {
-        let made = make_room(&mut *self.state.sleepers.lock(&self.rt));
+        let mut unlocked = Unlocked::at_entry();
+        let made = make_room(self.state.sleepers.lock(&self.rt, &mut unlocked).get());
         let Ok(room) = made else {
             return Err(future);
         };
-        match Runner::new(&self.rt, self.alloc, &self.state, seed) {
+        match Runner::new(&self.rt, self.alloc, &self.state, seed, &mut unlocked) {
             Ok(runner) => Ok(Run {
                 executor: self,
-                future: Some(future),
+                future: Some(Foreign::of(future)),
                 runner,
                 ticker: Ticker::Up(room),
                 polled: Polled::never(),
                 taken: 0,
             }),
             Err(NoMemory) => {
-                give_back(&mut *self.state.sleepers.lock(&self.rt), room);
+                give_back(
+                    self.state.sleepers.lock(&self.rt, &mut unlocked).get(),
+                    room,
+                );
                 Err(future)
             }
         }

@@ -21,7 +21,8 @@ pub struct Numbered<Q> {
     pub queue: Q,
 }
 
-/// A run's room in the list, with the number that no other run has. It has no drop: it is given back.
+/// A run's room in the list, with the number that no other run has. It has no drop: it is given back by leaving the list, so
+/// that no queue stays there without a run.
 #[must_use]
 pub struct RunRoom {
     number: u64,
@@ -69,16 +70,6 @@ impl<Q> OwnQueues<Q> {
         Ok(RunRoom { number })
     }
 
-    /// Gives the room of one run back.
-    pub fn return_room(&mut self, room: RunRoom)
-        ensures queues { self.new.queues.items ≡ self.old.queues.items }
-        ensures rooms { self.new.rooms ≡ self.old.rooms - 1 }
-        ensures made { self.new.made ≡ self.old.made }
-    {
-        let RunRoom { number: _ } = room;
-        self.rooms = self.rooms.saturating_sub(1);
-    }
-
     /// A run's queue comes last. It needs no memory where its room was taken.
     pub fn insert(&mut self, room: &RunRoom, queue: Q) -> Result<(), AllocError>
     where
@@ -95,14 +86,16 @@ impl<Q> OwnQueues<Q> {
         Ok(())
     }
 
-    /// A run's queue goes, and the others keep their order.
-    pub fn remove(&mut self, room: &RunRoom) -> Option<Q>
-        ensures queue { result ≡ queue_of room.now.number self.old.queues.items }
-        ensures rest { self.new.queues.items ≡ without room.now.number self.old.queues.items }
-        ensures rooms { self.new.rooms ≡ self.old.rooms }
+    /// A run leaves the list: its room is given back, and its queue goes, where it stands there. The others keep their order.
+    pub fn leave(&mut self, room: RunRoom) -> Option<Q>
+        ensures queue { result ≡ queue_of room.number self.old.queues.items }
+        ensures rest { self.new.queues.items ≡ without room.number self.old.queues.items }
+        ensures rooms { self.new.rooms ≡ self.old.rooms - 1 }
         ensures made { self.new.made ≡ self.old.made }
     {
-        match place_of(self.queues.as_slice(), room.number) {
+        let RunRoom { number } = room;
+        self.rooms = self.rooms.saturating_sub(1);
+        match place_of(self.queues.as_slice(), number) {
             Some(at) => {
                 let Numbered { number: _, queue } = self.queues.remove(at);
                 Some(queue)

@@ -10,6 +10,7 @@ use crate::names::{ExClosing, ExRunning, ExWaker};
 use crate::sections;
 use crate::sections::Taken;
 use crate::state::redeem;
+use crate::unlocked::Unlocked;
 use async_task::{Back, Future, Poll, RunEnd, Started, StoredRunnable, Wake};
 use executor_parts::Place;
 use std::sync::Wait;
@@ -22,7 +23,12 @@ where
     R: Wait + Copy + Drop + 'static,
 {
     /// Runs the task in hand, and ends the call.
-    pub(crate) fn poll_or_drop(&self, stored: StoredRunnable, call: Call) -> Last
+    pub(crate) fn poll_or_drop(
+        &self,
+        stored: StoredRunnable,
+        call: Call,
+        unlocked: &mut Unlocked,
+    ) -> Last
         requires { call ≡ in_hand }
         ensures { result ≡ Ending.Ran }
     {
@@ -32,16 +38,16 @@ where
         };
         let last = call.start();
         match scheduled.into_runnable().start() {
-            Started::Poll(place, running) => self.poll(place, running),
-            Started::Drop(place, closing) => self.drop_future(place, closing),
+            Started::Poll(place, running) => self.poll(place, running, unlocked),
+            Started::Drop(place, closing) => self.drop_future(place, closing, unlocked),
         }
         last
     }
 
-    fn poll(&self, place: Place, running: ExRunning<T, W, R>) {
-        let taken = sections::take(&mut *self.table.lock(&self.rt), place);
+    fn poll(&self, place: Place, running: ExRunning<T, W, R>, unlocked: &mut Unlocked) {
+        let taken = sections::take(self.table.lock(&self.rt, unlocked).get(), place);
         let back = match taken {
-            Some(taken) => match self.poll_future(place, taken, &running) {
+            Some(taken) => match self.poll_future(place, taken, &running, unlocked) {
                 Poll::Ready(output) => Back::Ready(output),
                 Poll::Pending => Back::Pending(place),
             },
@@ -52,43 +58,57 @@ where
             RunEnd::Pause(pause) => {
                 pause.finish();
             }
-            RunEnd::Drop(place, closing) => self.drop_future(place, closing),
+            RunEnd::Drop(place, closing) => self.drop_future(place, closing, unlocked),
         }
     }
 
     /// Polls a future that was taken out of this place, and puts it back, or drops it where it is ready.
-    fn poll_future(&self, place: Place, taken: Taken<F>, running: &ExRunning<T, W, R>) -> Poll<T>
+    fn poll_future(
+        &self,
+        place: Place,
+        taken: Taken<F>,
+        running: &ExRunning<T, W, R>,
+        unlocked: &mut Unlocked,
+    ) -> Poll<T>
         requires { taken.place ≡ place }
     {
         let mut taken = taken;
-        match taken.poll(running.waker()) {
+        match taken.poll(running.waker(), unlocked) {
             Poll::Ready(output) => {
-                drop(taken.into_future());
-                self.leave(place);
+                taken.let_go(unlocked);
+                self.leave(place, unlocked);
                 Poll::Ready(output)
             }
             Poll::Pending => {
-                let displaced = sections::put_back(&mut *self.table.lock(&self.rt), taken);
-                drop(displaced);
+                let displaced = sections::put_back(
+                    self.table.lock(&self.rt, unlocked).get(),
+                    taken,
+                );
+                if let Some(future) = displaced {
+                    future.let_go(unlocked);
+                }
                 Poll::Pending
             }
         }
     }
 
-    fn drop_future(&self, place: Place, closing: ExClosing<T, W, R>) {
-        let taken = sections::take(&mut *self.table.lock(&self.rt), place);
+    fn drop_future(&self, place: Place, closing: ExClosing<T, W, R>, unlocked: &mut Unlocked) {
+        let taken = sections::take(self.table.lock(&self.rt, unlocked).get(), place);
         if let Some(taken) = taken {
-            drop(taken.into_future());
+            taken.let_go(unlocked);
         }
-        self.leave(place);
+        self.leave(place, unlocked);
         closing.finish();
     }
 
-    fn leave(&self, place: Place) {
-        let left = sections::leave(&mut *self.table.lock(&self.rt), place);
+    fn leave(&self, place: Place, unlocked: &mut Unlocked) {
+        let left = sections::leave(self.table.lock(&self.rt, unlocked).get(), place);
         if let Some((future, waker)) = left {
-            drop(future);
-            pay(self.rt, waker.release(self.rt, self.realm));
+            if let Some(future) = future {
+                future.let_go(unlocked);
+            }
+            let due = waker.release(self.rt, self.realm);
+            pay(self.rt, due, unlocked);
         }
     }
 }

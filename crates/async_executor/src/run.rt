@@ -5,9 +5,12 @@ ghost use Rattle.async_executor.specs.Polls.{has_left, HasLeft, IsRunAnswer, IsT
 use crate::call::{Call, Polled};
 use crate::errors::RunError;
 use crate::executor::Executor;
+use crate::foreign::Foreign;
 use crate::names::ExWaker;
 use crate::runner::Runner;
+use crate::sleeping::call_waker;
 use crate::ticker::{Found, Ticker};
+use crate::unlocked::Unlocked;
 use async_task::{Future, Poll, Wake};
 use std::mem;
 use std::sync::Wait;
@@ -30,7 +33,7 @@ where
 {
     pub(crate) executor: &'a Executor<F, T, W, R>,
     /// The future that it runs for, until that is ready.
-    pub(crate) future: Option<G>,
+    pub(crate) future: Option<Foreign<G>>,
     pub(crate) runner: Runner,
     pub(crate) ticker: Ticker,
     /// How its last poll ended, if that took tasks.
@@ -61,23 +64,29 @@ where
             return Poll::Ready(Err(RunError::Finished));
         };
         let executor = self.executor;
-        if let Err(last) = self.runner.begin(executor.rt, &executor.state) {
+        let mut unlocked = Unlocked::at_entry();
+        if let Err(last) = self
+            .runner
+            .begin(executor.rt, &executor.state, &mut unlocked)
+        {
             self.polled.end(last);
             return Poll::Ready(Err(RunError::NoMemory));
         }
-        match future.poll(waker) {
+        match future.poll(waker, &unlocked) {
             Poll::Ready(output) => {
-                self.future = None;
-                self.runner
-                    .end(executor.rt, &executor.state, executor.realm);
+                if let Some(future) = mem::replace(&mut self.future, None) {
+                    future.let_go(&unlocked);
+                }
+                self.runner.end(executor.rt, &executor.state, executor.realm, &mut unlocked);
                 mem::replace(&mut self.ticker, Ticker::Left).leave(
                     executor.rt,
                     &executor.state,
                     executor.realm,
+                    &mut unlocked,
                 );
                 Poll::Ready(Ok(output))
             }
-            Poll::Pending => self.take_tasks(waker),
+            Poll::Pending => self.take_tasks(waker, &mut unlocked),
         }
     }
 }
@@ -91,7 +100,11 @@ where
     G: Future<ExWaker<T, W, R>> + Drop,
 {
     /// Takes tasks and runs each, one at least where one is found.
-    fn take_tasks(&mut self, waker: &ExWaker<T, W, R>) -> Poll<Result<G::Output, RunError>>
+    fn take_tasks(
+        &mut self,
+        waker: &ExWaker<T, W, R>,
+        unlocked: &mut Unlocked,
+    ) -> Poll<Result<G::Output, RunError>>
         ensures answer { IsTasksAnswer self.old.polled self.new.polled result }
         ensures future { self.new.future ≡ self.old.future }
     {
@@ -99,12 +112,12 @@ where
         let mut ran = None;
         let first = self.taken.min(TASKS_OF_ONE_POLL - 1);
         for _turn in first..TASKS_OF_ONE_POLL {
-            match self.find(waker) {
+            match self.find(waker, unlocked) {
                 Found::Runnable(runnable, call) => {
                     self.runner
-                        .count(executor.rt, &executor.state, executor.realm);
+                        .count(executor.rt, &executor.state, executor.realm, unlocked);
                     self.taken = self.taken.saturating_add(1);
-                    ran = Some(executor.poll_or_drop(runnable, call));
+                    ran = Some(executor.poll_or_drop(runnable, call, unlocked));
                 }
                 Found::Nothing(last) => {
                     self.polled.end(last);
@@ -121,12 +134,12 @@ where
             self.polled.end(last);
         }
         self.taken = 0;
-        waker.wake_by_ref();
+        call_waker(waker, unlocked);
         Poll::Pending
     }
 
     /// Searches until a task is found, or the run lies down.
-    fn find(&mut self, waker: &ExWaker<T, W, R>) -> Found
+    fn find(&mut self, waker: &ExWaker<T, W, R>, unlocked: &mut Unlocked) -> Found
         ensures found { IsFoundAtLast result }
         ensures future { self.new.future ≡ self.old.future }
         ensures polled { self.new.polled ≡ self.old.polled }
@@ -134,9 +147,13 @@ where
         let executor = self.executor;
         for _ in executor.rt.forever() {
             let mut call = Call::begin();
-            let found = self
-                .runner
-                .search(executor.rt, &executor.state, executor.realm, &mut call);
+            let found = self.runner.search(
+                executor.rt,
+                &executor.state,
+                executor.realm,
+                &mut call,
+                unlocked,
+            );
             match self.ticker.after_search(
                 executor.rt,
                 &executor.state,
@@ -144,6 +161,7 @@ where
                 call,
                 found,
                 waker,
+                unlocked,
             ) {
                 Found::SearchAgain => {}
                 found => return found,
@@ -162,8 +180,9 @@ where
     G: Drop,
 {
     /// 1. Drops its future.
-    /// 2. Takes its own queue out of the executor's list, and schedules each Runnable that is left there, in order.
-    /// 3. Leaves the sleepers, and gives its room there and in the list back.
+    /// 2. Takes its own queue out of the executor's list, gives its room there back, and schedules each Runnable that is left
+    ///    in the queue, in order.
+    /// 3. Leaves the sleepers, and gives its room there back.
     ///
     /// A run that was never polled only drops its future and gives its room back.
     fn drop(self) {
@@ -175,14 +194,12 @@ where
             polled: _,
             taken: _,
         } = self;
-        drop(future);
-        runner.end(executor.rt, &executor.state, executor.realm);
-        ticker.leave(executor.rt, &executor.state, executor.realm);
-        let room = runner.finish();
-        executor
-            .state
-            .own_queues
-            .write(&executor.rt)
-            .return_room(room);
+        let mut unlocked = Unlocked::at_entry();
+        if let Some(future) = future {
+            future.let_go(&unlocked);
+        }
+        runner.end(executor.rt, &executor.state, executor.realm, &mut unlocked);
+        runner.finish();
+        ticker.leave(executor.rt, &executor.state, executor.realm, &mut unlocked);
     }
 }

@@ -1,5 +1,5 @@
 //! The own queue of a run, and how a run searches.
-ghost use Rattle.std.specs.Prelude.{◌≡◌, true, false, Some, IfOk, IfErr, OnOk, is_some, is_err};
+ghost use Rattle.std.specs.Prelude.{◌≡◌, true, false, None, Some, IsSome, IfOk, IfErr, OnOk, is_some, is_err};
 ghost use Rattle.std.specs.Arc.{arc_value};
 ghost use Rattle.async_executor.specs.Seeds.{seeded};
 ghost use Rattle.async_executor.specs.OwnQueues.{listed};
@@ -11,11 +11,13 @@ use crate::names::ExRealm;
 use crate::own_queues::{OwnQueues, RunRoom};
 use crate::state::{OWN_PLACES, Queue, State, take};
 use crate::steal::steal;
+use crate::unlocked::Unlocked;
 use async_task::{GoesBack, NoMemory, StoredRunnable, Wake};
 use concurrent_queue::ConcurrentQueue;
 use rand_core::{Rng, SeedableRng};
 use rand_xoshiro::Xoshiro256PlusPlus;
 use std::alloc::{AllocError, Global};
+use std::mem;
 use std::sync::{Arc, Wait};
 
 /// After how many tasks a run steals from the global queue before it runs the next.
@@ -24,9 +26,11 @@ const TASKS_BETWEEN_STEALS: u64 = 64;
 /// What a run has of its own among the queues.
 pub struct Runner {
     own: Arc<Queue, Global>,
-    // Its room in the executor's list, with the number under which the own queue stands there.
-    room: RunRoom,
-    // Whether it stands there: from the first poll to the end.
+    // Its room in the executor's list, until it has left that.
+    room: Option<RunRoom>,
+    // The number under which the own queue stands there.
+    number: u64,
+    // Whether it was put there, at the first poll.
     is_listed: bool,
     // Whether the own queue was found empty once it stood in no list. Only contracts read it; it is no `Snapshot`, as a run
     // with one could not be sent to another thread.
@@ -44,6 +48,7 @@ impl Runner {
         alloc: Global,
         state: &State<W>,
         seed: u64,
+        unlocked: &mut Unlocked,
     ) -> Result<Runner, NoMemory>
         ensures words { IfOk result (λ runner. runner.words ≡ seeded seed) }
         ensures own { IfOk result (λ runner. (arc_value runner.own).capacity ≡ Some 512) }
@@ -54,11 +59,12 @@ impl Runner {
         let Ok(own) = Arc::new(alloc, own) else {
             return Err(NoMemory);
         };
-        let room = state.own_queues.write(rt).take_room();
+        let room = state.own_queues.write(rt, unlocked).get().take_room();
         match room {
             Ok(room) => Ok(Runner {
                 own,
-                room,
+                number: room.number(),
+                room: Some(room),
                 is_listed: false,
                 is_drained: false,
                 words: Xoshiro256PlusPlus::seed_from_u64(seed),
@@ -68,37 +74,49 @@ impl Runner {
         }
     }
 
-    /// The own queue goes, which is empty, and the room in the executor's list is to be given back.
-    pub fn finish(self) -> RunRoom
-        requires { self.is_drained ≡ true }
-        ensures { result ≡ self.room }
+    /// The own queue goes, which is empty and in no list.
+    pub fn finish(self)
+        requires drained { self.is_drained ≡ true }
+        requires left { self.room ≡ None }
     {
         let Runner {
             own,
             room,
+            number: _,
             is_listed: _,
             is_drained: _,
             words: _,
             counted: _,
         } = self;
         drop(own);
-        room
+        match room {
+            None => {}
+            Some(_room) => unreachable!(),
+        }
     }
 
     /// Puts the own queue into the executor's list, where it isn't there yet.
-    pub fn begin<W, R: Wait + Copy + Drop>(&mut self, rt: R, state: &State<W>) -> Result<(), Last>
-        ensures listed { OnOk result (self.new ≡ record self.old { is_listed = true }) }
+    pub fn begin<W, R: Wait + Copy + Drop>(
+        &mut self,
+        rt: R,
+        state: &State<W>,
+        unlocked: &mut Unlocked,
+    ) -> Result<(), Last>
+        ensures listed { IsSome self.old.room → OnOk result (self.new ≡ record self.old { is_listed = true }) }
         ensures refused { IfErr result (λ last. (last ≡ Ending.Refused) × (self.new ≡ self.old)) }
     {
         if self.is_listed {
             return Ok(());
         }
+        let Some(room) = &self.room else {
+            return Ok(());
+        };
         let mut call = Call::begin();
         let queue = share(rt, &self.own);
         let inserted = list_in(
-            &mut *state.own_queues.write(&rt),
+            state.own_queues.write(&rt, unlocked).get(),
             &mut call,
-            &self.room,
+            room,
             queue,
         );
         match inserted {
@@ -111,26 +129,52 @@ impl Runner {
         }
     }
 
-    /// Takes the own queue out of the executor's list, where it is there, and then schedules what is left in it, in order.
-    pub fn end<T, W, R>(&mut self, rt: R, state: &State<W>, realm: &'static ExRealm<T, W, R>)
+    /// Takes the own queue out of the executor's list, where it is there, gives its room there back, and then schedules what
+    /// is left in it, in order.
+    pub fn end<T, W, R>(
+        &mut self,
+        rt: R,
+        state: &State<W>,
+        realm: &'static ExRealm<T, W, R>,
+        unlocked: &mut Unlocked,
+    )
     where
         T: Drop + 'static,
         W: Wake + Drop + 'static,
         R: Wait + Copy + Drop + 'static,
-        ensures { self.new.is_drained ≡ true }
+        ensures drained { self.new.is_drained ≡ true }
+        ensures left { self.new.room ≡ None }
     {
-        if self.is_listed {
-            self.is_listed = false;
-            let listed = state.own_queues.write(&rt).remove(&self.room);
+        if let Some(room) = mem::replace(&mut self.room, None) {
+            let listed = state.own_queues.write(&rt, unlocked).get().leave(room);
             drop(listed);
         }
+        self.drain(rt, state, realm, unlocked);
+    }
+
+    /// Schedules what is left in the own queue, in order.
+    fn drain<T, W, R>(
+        &mut self,
+        rt: R,
+        state: &State<W>,
+        realm: &'static ExRealm<T, W, R>,
+        unlocked: &mut Unlocked,
+    )
+    where
+        T: Drop + 'static,
+        W: Wake + Drop + 'static,
+        R: Wait + Copy + Drop + 'static,
+        ensures drained { self.new.is_drained ≡ true }
+        ensures room { self.new.room ≡ self.old.room }
+    {
         for _ in rt.forever() {
             let mut call = Call::begin();
             let Some(stored) = self.take_last(&rt, &mut call) else {
                 call.end();
                 return;
             };
-            pay(rt, state.push_stored(rt, realm, call, stored));
+            let due = state.push_stored(rt, realm, call, stored, unlocked);
+            pay(rt, due, unlocked);
         }
         unreachable!()
     }
@@ -140,6 +184,7 @@ impl Runner {
         requires { call.old ≡ begun }
         ensures call { call.new ≡ took (is_some result) begun }
         ensures drained { result ≡ None → self.new.is_drained ≡ true }
+        ensures room { self.new.room ≡ self.old.room }
     {
         let found = take(&self.own, rt, call);
         self.is_drained = found.is_none();
@@ -147,7 +192,13 @@ impl Runner {
     }
 
     /// Counts a task. At every 64th that the run has counted in its life, it steals from the global queue.
-    pub fn count<T, W, R>(&mut self, rt: R, state: &State<W>, realm: &'static ExRealm<T, W, R>)
+    pub fn count<T, W, R>(
+        &mut self,
+        rt: R,
+        state: &State<W>,
+        realm: &'static ExRealm<T, W, R>,
+        unlocked: &mut Unlocked,
+    )
     where
         T: Drop + 'static,
         W: Wake + Drop + 'static,
@@ -155,7 +206,7 @@ impl Runner {
     {
         self.counted = self.counted.wrapping_add(1);
         if self.counted % TASKS_BETWEEN_STEALS == 0 {
-            drop_refused(rt, realm, steal(&rt, &state.queue, &self.own));
+            drop_refused(rt, realm, steal(&rt, &state.queue, &self.own), unlocked);
         }
     }
 
@@ -171,6 +222,7 @@ impl Runner {
         state: &State<W>,
         realm: &'static ExRealm<T, W, R>,
         call: &mut Call,
+        unlocked: &mut Unlocked,
     ) -> Option<StoredRunnable>
     where
         T: Drop + 'static,
@@ -184,11 +236,11 @@ impl Runner {
         }
         if let Some(runnable) = state.take(&rt, call) {
             let refused = steal(&rt, &state.queue, &self.own);
-            drop_refused(rt, realm, refused);
+            drop_refused(rt, realm, refused, unlocked);
             return Some(runnable);
         }
-        let (found, refused) = self.walk(&rt, state, call);
-        drop_refused(rt, realm, refused);
+        let (found, refused) = self.walk(&rt, state, call, unlocked);
+        drop_refused(rt, realm, refused, unlocked);
         found
     }
 
@@ -199,19 +251,20 @@ impl Runner {
         rt: &R,
         state: &State<W>,
         call: &mut Call,
+        unlocked: &mut Unlocked,
     ) -> (Option<StoredRunnable>, Option<StoredRunnable>)
         requires { call.old ≡ looked false begun }
         ensures { call.new ≡ looked (is_some result.0) begun }
     {
-        let queues = state.own_queues.read(rt);
-        let queues = queues.all();
+        let reading = state.own_queues.read(rt, unlocked);
+        let queues = reading.get().all();
         if queues.is_empty() {
             return (None, None);
         }
         let start = (self.words.next_u64() % queues.len() as u64) as usize;
         for step in 0..queues.len() {
             let listed = &queues[(start + step) % queues.len()];
-            if listed.number == self.room.number() {
+            if listed.number == self.number {
                 continue;
             }
             if let Some(refused) = steal(rt, &listed.queue, &self.own) {
@@ -243,7 +296,12 @@ fn list_in<Q: Drop>(
 }
 
 /// Closes a Runnable that came back from a full queue, where one did.
-fn drop_refused<T, W, R>(rt: R, realm: &'static ExRealm<T, W, R>, refused: Option<StoredRunnable>)
+fn drop_refused<T, W, R>(
+    rt: R,
+    realm: &'static ExRealm<T, W, R>,
+    refused: Option<StoredRunnable>,
+    unlocked: &mut Unlocked,
+)
 where
     T: Drop + 'static,
     W: Wake + Drop + 'static,
@@ -251,7 +309,7 @@ where
 {
     if let Some(stored) = refused {
         match stored.close(rt, realm) {
-            Ok(due) => pay(rt, due),
+            Ok(due) => pay(rt, due, unlocked),
             Err(stored) => stored.go_back(),
         }
     }

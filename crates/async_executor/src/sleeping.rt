@@ -2,7 +2,9 @@ ghost use Rattle.std.specs.Prelude.{◌≡◌, IfSome, is_none};
 ghost use Rattle.async_executor.specs.Copies.{IsCopyOf};
 
 use crate::call::Call;
+use crate::foreign::Foreign;
 use crate::names::{ExDue, ExRealm, ExWaker};
+use crate::unlocked::Unlocked;
 use async_task::{Awaiter, Returning, StoredWaker, Wake};
 use std::sync::Wait;
 
@@ -17,16 +19,28 @@ pub enum SleeperWaker<W> {
 
 impl<W: Wake + Drop + 'static> SleeperWaker<W> {
     /// A copy of a waker for the list of sleepers, or None where none can be had: then memory was wanted.
-    pub fn of<T, R>(waker: &ExWaker<T, W, R>, call: &mut Call) -> Option<Self>
+    pub fn of<T, R>(
+        waker: &ExWaker<T, W, R>,
+        call: &mut Call,
+        unlocked: &Unlocked,
+    ) -> Option<Foreign<Self>>
     where
         T: Drop + 'static,
         R: Wait + Copy + Drop + 'static,
-        ensures copy { IfSome result (λ copy. IsCopyOf W.is_same copy waker.now) }
+        ensures copy { IfSome result (λ copy. IsCopyOf W.is_same copy.value waker.now) }
         ensures call { call.new ≡ record call.old { wanted = is_none result } }
     {
-        let copy = SleeperWaker::copy_of(waker);
-        call.ask(copy.is_none());
-        copy
+        let _ = unlocked;
+        match SleeperWaker::copy_of(waker) {
+            Some(copy) => {
+                call.ask(false);
+                Some(Foreign::of(copy))
+            }
+            None => {
+                call.ask(true);
+                None
+            }
+        }
     }
 
     fn copy_of<T, R>(waker: &ExWaker<T, W, R>) -> Option<Self>
@@ -48,11 +62,17 @@ impl<W: Wake + Drop + 'static> SleeperWaker<W> {
     }
 
     /// Calls the waker. Where a task has to be queued then, it is the answer.
-    pub fn wake<T, R>(self, rt: R, realm: &'static ExRealm<T, W, R>) -> Option<ExDue<T, W, R>>
+    pub fn wake<T, R>(
+        self,
+        rt: R,
+        realm: &'static ExRealm<T, W, R>,
+        unlocked: &Unlocked,
+    ) -> Option<ExDue<T, W, R>>
     where
         T: Drop + 'static,
         R: Wait + Copy + Drop + 'static,
     {
+        let _ = unlocked;
         match self {
             SleeperWaker::Task(waker) => waker.wake(rt, realm),
             SleeperWaker::Outside(waker) => {
@@ -63,11 +83,17 @@ impl<W: Wake + Drop + 'static> SleeperWaker<W> {
     }
 
     /// Drops the waker. Where a task has to be queued then, it is the answer.
-    pub fn release<T, R>(self, rt: R, realm: &'static ExRealm<T, W, R>) -> Option<ExDue<T, W, R>>
+    pub fn release<T, R>(
+        self,
+        rt: R,
+        realm: &'static ExRealm<T, W, R>,
+        unlocked: &Unlocked,
+    ) -> Option<ExDue<T, W, R>>
     where
         T: Drop + 'static,
         R: Wait + Copy + Drop + 'static,
     {
+        let _ = unlocked;
         match self {
             SleeperWaker::Task(waker) => waker.release(rt, realm),
             SleeperWaker::Outside(waker) => {
@@ -76,4 +102,15 @@ impl<W: Wake + Drop + 'static> SleeperWaker<W> {
             }
         }
     }
+}
+
+/// Calls a waker that the caller keeps.
+pub fn call_waker<T, W, R>(waker: &ExWaker<T, W, R>, unlocked: &Unlocked)
+where
+    T: Drop + 'static,
+    W: Wake + Drop + 'static,
+    R: Wait + Copy + Drop + 'static,
+{
+    let _ = unlocked;
+    waker.wake_by_ref();
 }

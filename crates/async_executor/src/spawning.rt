@@ -5,6 +5,7 @@ ghost use Rattle.async_executor.specs.Stages.{begun, idle};
 ghost use Rattle.async_task.specs.Handles.{task_of};
 
 use crate::call::Call;
+use crate::closing::HasClosed;
 use crate::errors::SpawnError;
 use crate::names::{ExRealm, ExRunnable, ExTask};
 use crate::queue::ExQueue;
@@ -12,7 +13,7 @@ use async_task::{Returning, StoredWaker, Wake, spawn};
 use executor_parts::{Place, Places, SpawnRefused};
 use std::sync::Wait;
 
-/// Accepts a future: what a spawn does under the table's lock.
+/// Accepts a future: what a spawn does under the table's lock, once it has closed what was let go.
 ///
 /// 1. Tests the limit.
 /// 2. Makes the task's cell, which has the number of the future's place. Without memory for it, the place is given back.
@@ -24,6 +25,7 @@ pub fn accept<F, T, W, R>(
     call: &mut Call,
     schedule: ExQueue<T, W, R>,
     future: F,
+    closed: HasClosed,
 ) -> Result<(ExRunnable<T, W, R>, ExTask<T, W, R>), SpawnError<F>>
 where
     F: Drop,
@@ -39,6 +41,7 @@ where
     ensures cause { IfErr result (IsRefusedAt table.old) }
     ensures same { IfErr result (λ _. (table.new.entries ≡ table.old.entries) × (table.new.limit ≡ table.old.limit)) }
 {
+    closed.spend();
     let vacancy = match table.vacancy() {
         Ok(vacancy) => vacancy,
         Err(refused) => {

@@ -1,20 +1,23 @@
 //! What the threads of an executor share, but for its futures.
 ghost use Rattle.std.specs.Prelude.{◌≡◌, ◌≢◌, ◌<◌, true, false, Some, None, IfOk, IfErr, IfNone, IfSome, OnOk, OnSome, is_some, length};
-ghost use Rattle.executor_parts.specs.Sleepers.{last_waker, without_last};
+ghost use Rattle.executor_parts.specs.Sleepers.{flag_of, last_waker, without_last};
 ghost use Rattle.async_executor.specs.Calls.{flag_risen};
+ghost use Rattle.async_executor.specs.Foreign.{value_of};
 ghost use Rattle.async_executor.specs.Stages.{begun, took, looked};
 
 use crate::call::Call;
+use crate::flag::Flag;
+use crate::foreign::{Foreign, came_out};
 use crate::names::{ExDue, ExRealm, ExScheduled};
 use crate::own_queues::OwnQueues;
 use crate::sleeping::SleeperWaker;
 use crate::ticker::Risen;
+use crate::unlocked::{Guarded, ReadWrite, Unlocked};
 use async_task::{GoesBack, NoMemory, Returning, StoredRunnable, Wake};
 use concurrent_queue::ConcurrentQueue;
 use executor_parts::Sleepers;
 use std::alloc::Global;
-use std::sync::atomic::{AtomicBool, Ordering};
-use std::sync::{Arc, Mutex, RwLock, Wait};
+use std::sync::{Arc, Wait};
 
 /// How many Runnables a run's own queue has places for.
 pub const OWN_PLACES: usize = 512;
@@ -28,11 +31,11 @@ pub struct State<W> {
     /// The global queue, which has a place for each future that the executor accepts.
     pub queue: Queue,
     /// The own queues of runs, from a run's first poll to its end.
-    pub own_queues: RwLock<OwnQueues<Arc<Queue, Global>>>,
+    pub own_queues: ReadWrite<OwnQueues<Arc<Queue, Global>>>,
     /// Whether a tick or run that sleeps has been told, or none sleeps.
-    pub notified: AtomicBool,
+    pub notified: Flag,
     /// The ticks and runs that sleep.
-    pub sleepers: Mutex<Sleepers<SleeperWaker<W>>>,
+    pub sleepers: Guarded<Sleepers<SleeperWaker<W>>>,
 }
 
 impl<W: Drop> State<W> {
@@ -44,9 +47,9 @@ impl<W: Drop> State<W> {
         match ConcurrentQueue::bounded(alloc, limit) {
             Ok(queue) => Ok(State {
                 queue,
-                own_queues: RwLock::new(OwnQueues::new(alloc)),
-                notified: AtomicBool::new(true),
-                sleepers: Mutex::new(Sleepers::new(alloc)),
+                own_queues: ReadWrite::new(OwnQueues::new(alloc)),
+                notified: Flag::new(),
+                sleepers: Guarded::new(Sleepers::new(alloc)),
             }),
             Err(_) => Err(NoMemory),
         }
@@ -102,17 +105,12 @@ impl<W: Drop> State<W> {
         }
     }
 
-    /// Exchanges the flag from false to true, and says whether it was false: then a waker is to be handed out. It is read
-    /// first: one that reads true is as an exchange that fails, and leaves its cache line to all threads.
+    /// Exchanges the flag from false to true, and says whether it was false: then a waker is to be handed out.
     fn exchange(&self, call: &mut Call) -> bool
         requires { call.old.owes ≡ true }
         ensures { call.new ≡ record call.old { owes = false; won = result } }
     {
-        let won = !self.notified.load(Ordering::SeqCst)
-            && self
-                .notified
-                .compare_exchange(false, true, Ordering::SeqCst, Ordering::SeqCst)
-                .is_ok();
+        let won = self.notified.exchange();
         call.exchange(won);
         won
     }
@@ -122,33 +120,45 @@ impl<W: Drop> State<W> {
     ///
     /// 1. Exchanges the flag from false to true. Where it was true, that is all.
     /// 2. Takes, under the sleepers' lock, the waker added last, if there are as many wakers as sleepers.
-    fn tell<R: Wait>(&self, rt: &R, call: &mut Call) -> Option<SleeperWaker<W>>
+    fn tell<R: Wait>(
+        &self,
+        rt: &R,
+        call: &mut Call,
+        unlocked: &mut Unlocked,
+    ) -> Option<Foreign<SleeperWaker<W>>>
         requires { call.old.owes ≡ true }
         ensures { call.new ≡ record call.old { owes = false; won = false } }
     {
         if !self.exchange(call) {
             return None;
         }
-        hand_out(&mut *self.sleepers.lock(rt), call)
+        hand_out(self.sleepers.lock(rt, unlocked).get(), call)
     }
 
-    /// Stores the flag, which is done under the sleepers' lock.
-    pub fn store_flag(&self, call: &mut Call, notified: bool)
-        requires { call.old.flag ≡ Some notified }
+    /// Stores the flag, as the list of sleepers says, which is lent while their lock is held.
+    pub fn store_flag(&self, sleepers: &Sleepers<SleeperWaker<W>>, call: &mut Call, notified: bool)
+        requires said { notified ≡ flag_of sleepers.now }
+        requires flag { call.old.flag ≡ Some notified }
         ensures { call.new ≡ record call.old { flag = None } }
     {
-        self.notified.store(notified, Ordering::SeqCst);
+        self.notified.store(sleepers, notified);
         call.store_flag(notified);
     }
 
     /// Stores what the flag becomes where one got up or left. The waker that it had is the answer.
-    pub fn store_risen(&self, call: &mut Call, risen: Option<Risen<W>>) -> Option<SleeperWaker<W>>
-        requires { call.old.flag ≡ flag_risen risen }
+    pub fn store_risen(
+        &self,
+        sleepers: &Sleepers<SleeperWaker<W>>,
+        call: &mut Call,
+        risen: Option<Risen<W>>,
+    ) -> Option<Foreign<SleeperWaker<W>>>
+        requires said { IfSome risen (λ risen. risen.notified ≡ flag_of sleepers.now) }
+        requires flag { call.old.flag ≡ flag_risen risen }
         ensures { call.new ≡ record call.old { flag = None } }
     {
         match risen {
             Some(Risen { notified, waker }) => {
-                self.store_flag(call, notified);
+                self.store_flag(sleepers, call, notified);
                 waker
             }
             None => None,
@@ -178,15 +188,15 @@ pub fn take<R: Wait>(queue: &Queue, rt: &R, call: &mut Call) -> Option<StoredRun
 pub fn hand_out<W>(
     sleepers: &mut Sleepers<SleeperWaker<W>>,
     call: &mut Call,
-) -> Option<SleeperWaker<W>>
+) -> Option<Foreign<SleeperWaker<W>>>
     requires { call.old.won ≡ true }
     ensures handed { call.new ≡ record call.old { won = false } }
     ensures told { length sleepers.old.wakers ≢ sleepers.old.count → (result ≡ None) × (sleepers.new ≡ sleepers.old) }
-    ensures last { length sleepers.old.wakers ≡ sleepers.old.count → result ≡ last_waker sleepers.old.wakers }
+    ensures last { length sleepers.old.wakers ≡ sleepers.old.count → value_of result ≡ last_waker sleepers.old.wakers }
     ensures left { length sleepers.old.wakers ≡ sleepers.old.count → sleepers.new ≡ without_last sleepers.old }
 {
     call.hand_out();
-    sleepers.hand_out()
+    came_out(sleepers.hand_out())
 }
 
 /// Closes the Runnable in hand, as the executor's queue is closed. Where that leads to a task that has to be queued, it is the
@@ -196,6 +206,7 @@ pub fn close<T, W, R>(
     realm: &'static ExRealm<T, W, R>,
     call: &mut Call,
     runnable: StoredRunnable,
+    unlocked: &Unlocked,
 ) -> Option<ExDue<T, W, R>>
 where
     T: Drop + 'static,
@@ -205,6 +216,7 @@ where
     requires closed { call.old.closed ≡ true }
     ensures { call.new ≡ record call.old { holds = false; found = false; owes = false } }
 {
+    let _ = unlocked;
     call.close();
     match runnable.close(rt, realm) {
         Ok(due) => due,
@@ -250,6 +262,7 @@ impl<W: Wake + Drop + 'static> State<W> {
         rt: R,
         call: Call,
         runnable: ExScheduled<T, W, R>,
+        unlocked: &mut Unlocked,
     ) -> Option<ExDue<T, W, R>>
     where
         T: Drop + 'static,
@@ -263,8 +276,8 @@ impl<W: Wake + Drop + 'static> State<W> {
         let mut call = call;
         let realm = runnable.realm();
         let due = match self.append(&rt, &mut call, runnable.store()) {
-            Ok(()) => self.notify(rt, realm, &mut call),
-            Err(back) => close(rt, realm, &mut call, back),
+            Ok(()) => self.notify(rt, realm, &mut call, unlocked),
+            Err(back) => close(rt, realm, &mut call, back, unlocked),
         };
         call.end();
         due
@@ -277,6 +290,7 @@ impl<W: Wake + Drop + 'static> State<W> {
         realm: &'static ExRealm<T, W, R>,
         call: Call,
         stored: StoredRunnable,
+        unlocked: &mut Unlocked,
     ) -> Option<ExDue<T, W, R>>
     where
         T: Drop + 'static,
@@ -285,7 +299,7 @@ impl<W: Wake + Drop + 'static> State<W> {
     {
         let mut call = call;
         match redeem(rt, realm, &mut call, stored) {
-            Some(runnable) => self.push(rt, call, runnable),
+            Some(runnable) => self.push(rt, call, runnable, unlocked),
             None => {
                 call.end();
                 None
@@ -300,6 +314,7 @@ impl<W: Wake + Drop + 'static> State<W> {
         rt: R,
         realm: &'static ExRealm<T, W, R>,
         call: &mut Call,
+        unlocked: &mut Unlocked,
     ) -> Option<ExDue<T, W, R>>
     where
         T: Drop + 'static,
@@ -307,8 +322,8 @@ impl<W: Wake + Drop + 'static> State<W> {
         requires { call.old.owes ≡ true }
         ensures { call.new ≡ record call.old { owes = false; won = false } }
     {
-        match self.tell(&rt, call) {
-            Some(waker) => waker.wake(rt, realm),
+        match self.tell(&rt, call, unlocked) {
+            Some(waker) => waker.wake(rt, realm, unlocked),
             None => None,
         }
     }

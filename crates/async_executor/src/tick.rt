@@ -5,6 +5,7 @@ use crate::call::{Call, Polled};
 use crate::executor::Executor;
 use crate::names::ExWaker;
 use crate::ticker::{Found, Ticker};
+use crate::unlocked::Unlocked;
 use async_task::{Future, NoMemory, Poll, Wake};
 use std::sync::Wait;
 
@@ -42,6 +43,7 @@ where
         ensures stays { has_left self.new.ticker ≡ has_left self.old.ticker }
     {
         let executor = self.executor;
+        let mut unlocked = Unlocked::at_entry();
         for _ in executor.rt.forever() {
             let mut call = Call::begin();
             let found = executor.state.take(&executor.rt, &mut call);
@@ -52,9 +54,11 @@ where
                 call,
                 found,
                 waker,
+                &mut unlocked,
             ) {
                 Found::Runnable(runnable, call) => {
-                    self.polled.end(executor.poll_or_drop(runnable, call));
+                    self.polled
+                        .end(executor.poll_or_drop(runnable, call, &mut unlocked));
                     return Poll::Ready(Ok(()));
                 }
                 Found::SearchAgain => {}
@@ -86,6 +90,7 @@ where
             ticker,
             polled: _,
         } = self;
-        ticker.leave(executor.rt, &executor.state, executor.realm);
+        let mut unlocked = Unlocked::at_entry();
+        ticker.leave(executor.rt, &executor.state, executor.realm, &mut unlocked);
     }
 }

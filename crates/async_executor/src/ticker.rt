@@ -1,16 +1,20 @@
 //! How ticks and runs lie down among the sleepers, get up, and leave them.
-ghost use Rattle.std.specs.Prelude.{◌≡◌, true, false, None, is_some};
+ghost use Rattle.std.specs.Prelude.{◌≡◌, true, false, None, IfSome, is_some};
 ghost use Rattle.async_executor.specs.Calls.{flag_laid, lies_laid, flag_risen, IsFound};
 ghost use Rattle.async_executor.specs.Polls.{has_left};
-ghost use Rattle.async_executor.specs.Sleeping.{LiesDown, GetsUp, Leaves};
+ghost use Rattle.async_executor.specs.Foreign.{value_of};
+ghost use Rattle.async_executor.specs.Sleeping.{LiesDown, GetsUp, Leaves, SaysLaid};
+ghost use Rattle.executor_parts.specs.Sleepers.{flag_of};
 ghost use Rattle.async_executor.specs.Stages.{idle, begun, looked};
 
 use crate::call::{Call, Last};
 use crate::due::pay;
+use crate::foreign::{Foreign, came_out};
 use crate::names::{ExRealm, ExWaker};
 use crate::sections::give_back;
-use crate::sleeping::SleeperWaker;
+use crate::sleeping::{SleeperWaker, call_waker};
 use crate::state::State;
+use crate::unlocked::Unlocked;
 use async_task::{Awaiter, StoredRunnable, Wake};
 use executor_parts::{Again, Risen as Stood, Room, Sleeper, Sleepers, Slept, Unreserved};
 use std::mem;
@@ -43,9 +47,9 @@ pub enum Laid<W> {
     /// Anew, or it had been told meanwhile: what the flag becomes.
     Anew(bool),
     /// It lay there already. This waker is dropped, once the lock is given back.
-    Already(SleeperWaker<W>),
+    Already(Foreign<SleeperWaker<W>>),
     /// It can't lie there. This waker is called, once the lock is given back, so that it looks again.
-    Nowhere(SleeperWaker<W>),
+    Nowhere(Foreign<SleeperWaker<W>>),
 }
 
 /// How one got up or left.
@@ -53,7 +57,7 @@ pub struct Risen<W> {
     /// What the flag becomes.
     pub notified: bool,
     /// Its waker, which is dropped once the lock is given back; none where it had been told.
-    pub waker: Option<SleeperWaker<W>>,
+    pub waker: Option<Foreign<SleeperWaker<W>>>,
 }
 
 impl Ticker {
@@ -73,6 +77,7 @@ impl Ticker {
         call: Call,
         found: Option<StoredRunnable>,
         waker: &ExWaker<T, W, R>,
+        unlocked: &mut Unlocked,
     ) -> Found
     where
         T: Drop + 'static,
@@ -85,11 +90,12 @@ impl Ticker {
         match found {
             Some(runnable) => {
                 let mut call = call;
-                self.get_up(rt, state, realm, &mut call);
-                pay(rt, state.notify(rt, realm, &mut call));
+                self.get_up(rt, state, realm, &mut call, unlocked);
+                let due = state.notify(rt, realm, &mut call, unlocked);
+                pay(rt, due, unlocked);
                 Found::Runnable(runnable, call)
             }
-            None => self.after_nothing(rt, state, realm, call, waker),
+            None => self.after_nothing(rt, state, realm, call, waker, unlocked),
         }
     }
 
@@ -101,6 +107,7 @@ impl Ticker {
         realm: &'static ExRealm<T, W, R>,
         call: Call,
         waker: &ExWaker<T, W, R>,
+        unlocked: &mut Unlocked,
     ) -> Found
     where
         T: Drop + 'static,
@@ -111,14 +118,14 @@ impl Ticker {
         ensures stays { has_left self.new ≡ has_left self.old }
     {
         if lies_elsewhere(waker, realm) {
-            waker.wake_by_ref();
+            call_waker(waker, unlocked);
             return Found::Nothing(call.end_called());
         }
         let mut call = call;
-        let Some(copy) = SleeperWaker::of(waker, &mut call) else {
+        let Some(copy) = SleeperWaker::of(waker, &mut call, unlocked) else {
             return Found::NoMemory(call.refuse());
         };
-        self.lie_down(rt, state, realm, call, copy)
+        self.lie_down(rt, state, realm, call, copy, unlocked)
     }
 
     /// Lies down with a waker, and ends the call. It has to search again where it wasn't lying, or had been told.
@@ -128,7 +135,8 @@ impl Ticker {
         state: &State<W>,
         realm: &'static ExRealm<T, W, R>,
         call: Call,
-        waker: SleeperWaker<W>,
+        waker: Foreign<SleeperWaker<W>>,
+        unlocked: &mut Unlocked,
     ) -> Found
     where
         T: Drop + 'static,
@@ -140,15 +148,14 @@ impl Ticker {
     {
         let mut call = call;
         let laid = {
-            let mut sleepers = state.sleepers.lock(&rt);
+            let mut locked = state.sleepers.lock(&rt, unlocked);
+            let sleepers = locked.get();
             let (ticker, laid) = mem::replace(self, Ticker::Left).lie_down_in(
-                &mut *sleepers,
-                &mut call,
-                waker,
+                sleepers, &mut call, waker,
             );
             self.turn_into(ticker);
             if let Laid::Anew(notified) = &laid {
-                state.store_flag(&mut call, *notified);
+                state.store_flag(sleepers, &mut call, *notified);
             }
             laid
         };
@@ -159,12 +166,14 @@ impl Ticker {
             }
             Laid::Already(old) => {
                 let last = call.rest();
-                pay(rt, old.release(rt, realm));
+                let due = old.release(rt, realm, unlocked);
+                pay(rt, due, unlocked);
                 Found::Nothing(last)
             }
             Laid::Nowhere(waker) => {
                 let last = call.end_called();
-                pay(rt, waker.wake(rt, realm));
+                let due = waker.wake(rt, realm, unlocked);
+                pay(rt, due, unlocked);
                 Found::Nothing(last)
             }
         }
@@ -177,6 +186,7 @@ impl Ticker {
         state: &State<W>,
         realm: &'static ExRealm<T, W, R>,
         call: &mut Call,
+        unlocked: &mut Unlocked,
     )
     where
         T: Drop + 'static,
@@ -191,18 +201,26 @@ impl Ticker {
             return;
         }
         let waker = {
-            let mut sleepers = state.sleepers.lock(&rt);
-            let (ticker, risen) = mem::replace(self, Ticker::Left).get_up_in(&mut *sleepers, call);
+            let mut locked = state.sleepers.lock(&rt, unlocked);
+            let sleepers = locked.get();
+            let (ticker, risen) = mem::replace(self, Ticker::Left).get_up_in(sleepers, call);
             self.turn_into(ticker);
-            state.store_risen(call, risen)
+            state.store_risen(sleepers, call, risen)
         };
         if let Some(waker) = waker {
-            pay(rt, waker.release(rt, realm));
+            let due = waker.release(rt, realm, unlocked);
+            pay(rt, due, unlocked);
         }
     }
 
     /// Leaves the sleepers, and gives its room back. If it lay there and had been told, it tells another in its place.
-    pub fn leave<T, W, R>(self, rt: R, state: &State<W>, realm: &'static ExRealm<T, W, R>)
+    pub fn leave<T, W, R>(
+        self,
+        rt: R,
+        state: &State<W>,
+        realm: &'static ExRealm<T, W, R>,
+        unlocked: &mut Unlocked,
+    )
     where
         T: Drop + 'static,
         W: Wake + Drop + 'static,
@@ -210,15 +228,18 @@ impl Ticker {
     {
         let mut call = Call::begin();
         let (waker, was_told) = {
-            let mut sleepers = state.sleepers.lock(&rt);
-            let (risen, was_told) = self.leave_in(&mut *sleepers, &mut call);
-            (state.store_risen(&mut call, risen), was_told)
+            let mut locked = state.sleepers.lock(&rt, unlocked);
+            let sleepers = locked.get();
+            let (risen, was_told) = self.leave_in(sleepers, &mut call);
+            (state.store_risen(sleepers, &mut call, risen), was_told)
         };
         if let Some(waker) = waker {
-            pay(rt, waker.release(rt, realm));
+            let due = waker.release(rt, realm, unlocked);
+            pay(rt, due, unlocked);
         }
         if was_told {
-            pay(rt, state.notify(rt, realm, &mut call));
+            let due = state.notify(rt, realm, &mut call, unlocked);
+            pay(rt, due, unlocked);
         }
         call.end();
     }
@@ -247,33 +268,36 @@ impl Ticker {
         self,
         sleepers: &mut Sleepers<SleeperWaker<W>>,
         call: &mut Call,
-        waker: SleeperWaker<W>,
+        waker: Foreign<SleeperWaker<W>>,
     ) -> (Ticker, Laid<W>)
         requires stored { call.old.flag ≡ None }
         requires up { call.old.lies ≡ false }
-        ensures lies { LiesDown self waker sleepers.old sleepers.new result.0 result.1 }
+        ensures lies { LiesDown self waker.value sleepers.old sleepers.new result.0 result.1 }
         ensures stays { has_left result.0 ≡ has_left self }
+        ensures said { SaysLaid sleepers.new result.1 }
         ensures call { call.new ≡ record call.old { flag = flag_laid result.1; lies = lies_laid result.1 } }
     {
         match self {
-            Ticker::Up(room) => match sleepers.lie_down(room, waker) {
+            Ticker::Up(room) => match sleepers.lie_down(room, waker.into_stored()) {
                 Ok(Slept { sleeper, notified }) => {
                     call.turn_flag(notified);
                     (Ticker::Lies(sleeper), Laid::Anew(notified))
                 }
-                Err(Unreserved { room, waker }) => (Ticker::Up(room), Laid::Nowhere(waker)),
+                Err(Unreserved { room, waker }) => {
+                    (Ticker::Up(room), Laid::Nowhere(Foreign::of(waker)))
+                }
             },
             Ticker::Lies(sleeper) => {
-                let laid = match sleepers.lie_down_again(&sleeper, waker) {
+                let laid = match sleepers.lie_down_again(&sleeper, waker.into_stored()) {
                     Again::Replaced(old) => {
                         call.lie_on();
-                        Laid::Already(old)
+                        Laid::Already(Foreign::of(old))
                     }
                     Again::Notified(notified) => {
                         call.turn_flag(notified);
                         Laid::Anew(notified)
                     }
-                    Again::Unknown(waker) => Laid::Nowhere(waker),
+                    Again::Unknown(waker) => Laid::Nowhere(Foreign::of(waker)),
                 };
                 (Ticker::Lies(sleeper), laid)
             }
@@ -291,6 +315,7 @@ impl Ticker {
         requires stored { call.old.flag ≡ None }
         ensures up { GetsUp self sleepers.old sleepers.new result.0 result.1 }
         ensures stays { has_left result.0 ≡ has_left self }
+        ensures said { IfSome result.1 (λ risen. risen.notified ≡ flag_of sleepers.new) }
         ensures flag { call.new ≡ record call.old { flag = flag_risen result.1 } }
     {
         match self {
@@ -301,7 +326,7 @@ impl Ticker {
                     notified,
                 } = sleepers.get_up(sleeper);
                 call.turn_flag(notified);
-                (Ticker::Up(room), Some(Risen { notified, waker }))
+                (Ticker::Up(room), Some(risen_with(notified, waker)))
             }
             Ticker::Up(room) => (Ticker::Up(room), None),
             Ticker::Left => (Ticker::Left, None),
@@ -316,6 +341,7 @@ impl Ticker {
     ) -> (Option<Risen<W>>, bool)
         requires { call.old ≡ begun }
         ensures left { Leaves self sleepers.old sleepers.new result.0 result.1 }
+        ensures said { IfSome result.0 (λ risen. risen.notified ≡ flag_of sleepers.new) }
         ensures call { call.new ≡ record idle { owes = result.1; flag = flag_risen result.0 } }
     {
         match self {
@@ -329,7 +355,7 @@ impl Ticker {
                 give_back(sleepers, room);
                 call.leave(was_told);
                 call.turn_flag(notified);
-                (Some(Risen { notified, waker }), was_told)
+                (Some(risen_with(notified, waker)), was_told)
             }
             Ticker::Up(room) => {
                 give_back(sleepers, room);
@@ -341,6 +367,17 @@ impl Ticker {
                 (None, false)
             }
         }
+    }
+}
+
+/// One that got up, with the waker that it had.
+fn risen_with<W>(notified: bool, waker: Option<SleeperWaker<W>>) -> Risen<W>
+    ensures flag { result.notified ≡ notified }
+    ensures waker { value_of result.waker ≡ waker }
+{
+    Risen {
+        notified,
+        waker: came_out(waker),
     }
 }
 

@@ -139,12 +139,17 @@ where
     other
 }
 
-/// Each future is dropped once, each output too, and given to one at most; some are given, and some futures are cancelled.
+/// Each future is dropped once, each output too, and given to one at most; some are given, and one at least is cancelled: the
+/// last, before any thread runs.
 #[test]
 fn four_threads_run_futures_that_await_cancel_and_detach_each_other(rt: HostRuntime) {
     let stage = Stage::new(rt, rt.alloc(), TestRealm::leak(rt, rt.alloc()), 10_000);
     let executor: TestExecutor<Job<_>, _> = stage.executor(10_000);
     let last = spawn_chain(&stage, &executor, 10_000);
+    let mut are_well = last.is_some();
+    if let Some(last) = last {
+        stage.drop_handle(last);
+    }
     let ended = thread::map_indices(
         &rt,
         rt.alloc(),
@@ -152,12 +157,8 @@ fn four_threads_run_futures_that_await_cancel_and_detach_each_other(rt: HostRunt
         &|party| run_until_empty(&stage, &executor, party as u64),
     )
     .expect(&rt, "threads");
-    let mut are_well = last.is_some();
     for has_ended in &ended {
         are_well = are_well & *has_ended;
-    }
-    if let Some(last) = last {
-        stage.drop_handle(last);
     }
     let counts = stage.notes.each.as_slice();
     let (made, given) = outputs(counts);

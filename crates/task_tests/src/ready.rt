@@ -56,20 +56,22 @@ fn run<R: Wait + Copy + Drop + 'static>(runnable: QueueRunnable<Sum, u64, Nobody
 
 const CLOSED: Poll<Result<u64, TaskError>> = Poll::Ready(Err(TaskError::TaskClosed));
 
-/// A full queue refuses a future. Where it is full when a task is woken, that task is closed.
+/// A full queue refuses a future, also while its task stands in no queue, until that one's future is dropped.
 #[test]
-fn a_full_queue_refuses_and_closes(rt: HostRuntime) -> Result<(), Fail> {
+fn a_full_queue_refuses(rt: HostRuntime) -> Result<(), Fail> {
     let queue = ReadyQueue::new(
         rt,
         Realm::leak(rt, rt.alloc())?,
         Places::leak(rt.alloc(), 1)?,
     );
-    let mut first = spawned(&rt, &queue, 1);
+    let first = spawned(&rt, &queue, 1);
     is_refused(&rt, &queue, 5, true);
     let runnable = there(&rt, queue.next());
-    let mut second = spawned(&rt, &queue, 0);
+    is_refused(&rt, &queue, 5, true);
     run(runnable);
-    gives(&rt, &mut first, CLOSED);
+    first.detach();
+    queue.run();
+    let mut second = spawned(&rt, &queue, 0);
     queue.run();
     gives(&rt, &mut second, Poll::Ready(Ok(0)));
     holds(&rt, queue.next().is_none());

@@ -1,0 +1,40 @@
+//! The word that says whether a sleeper is to be told.
+ghost use Rattle.std.specs.Prelude.{◌≡◌};
+ghost use Rattle.executor_parts.specs.Sleepers.{flag_of};
+
+use executor_parts::Sleepers;
+use std::sync::atomic::{AtomicBool, Ordering};
+
+/// Whether a tick or run that sleeps has been told, or none sleeps. Each access is one call here, and in the one order of all
+/// of them.
+#[derive(Drop)]
+pub struct Flag {
+    word: AtomicBool,
+}
+
+impl Flag {
+    /// Of an executor where nobody sleeps.
+    pub fn new() -> Flag {
+        Flag {
+            word: AtomicBool::new(true),
+        }
+    }
+
+    /// Exchanges it from false to true, and says whether it was false. It is read first: one that reads true is as an exchange
+    /// that fails, and leaves its cache line to all threads.
+    pub fn exchange(&self) -> bool {
+        !self.word.load(Ordering::SeqCst)
+            && self
+                .word
+                .compare_exchange(false, true, Ordering::SeqCst, Ordering::SeqCst)
+                .is_ok()
+    }
+
+    /// Stores what the list of sleepers says, which is lent for as long as their lock is held.
+    pub fn store<W>(&self, sleepers: &Sleepers<W>, notified: bool)
+        requires { notified ≡ flag_of sleepers.now }
+    {
+        let _ = sleepers;
+        self.word.store(notified, Ordering::SeqCst);
+    }
+}

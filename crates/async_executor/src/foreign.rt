@@ -1,0 +1,100 @@
+//! Values of a user's, which came out from under a lock.
+ghost use Rattle.std.specs.Prelude.{◌≡◌};
+ghost use Rattle.async_executor.specs.Foreign.{value_of};
+
+use crate::names::{ExDue, ExRealm, ExWaker};
+use crate::sleeping::SleeperWaker;
+use crate::unlocked::Unlocked;
+use async_task::{Future, Poll, Wake};
+use std::sync::Wait;
+
+/// A value of a user's, whose code runs only while no lock is held. It has no drop: it is let go, or called, by who is lent an
+/// `Unlocked`.
+#[must_use]
+pub struct Foreign<X> {
+    value: X,
+}
+
+impl<X> Foreign<X> {
+    pub fn of(value: X) -> Self
+        ensures { result.value ≡ value }
+    {
+        Foreign { value }
+    }
+
+    /// The value, which is put under a lock, where none of its code runs.
+    pub fn into_stored(self) -> X
+        ensures { result ≡ self.value }
+    {
+        let Foreign { value } = self;
+        value
+    }
+
+    /// Polls a future.
+    pub fn poll<T, W, R>(
+        &mut self,
+        waker: &ExWaker<T, W, R>,
+        unlocked: &Unlocked,
+    ) -> Poll<X::Output>
+    where
+        X: Future<ExWaker<T, W, R>>,
+        T: Drop + 'static,
+        W: Wake + Drop + 'static,
+        R: Wait + Copy + Drop + 'static,
+    {
+        let _ = unlocked;
+        self.value.poll(waker)
+    }
+
+    /// Drops the value.
+    pub fn let_go(self, unlocked: &Unlocked)
+    where
+        X: Drop,
+    {
+        let _ = unlocked;
+        let Foreign { value } = self;
+        drop(value);
+    }
+}
+
+/// The value that came out, where one did.
+pub fn came_out<X>(value: Option<X>) -> Option<Foreign<X>>
+    ensures { value_of result ≡ value }
+{
+    match value {
+        Some(value) => Some(Foreign::of(value)),
+        None => None,
+    }
+}
+
+impl<W: Wake + Drop + 'static> Foreign<SleeperWaker<W>> {
+    /// Calls the waker. Where a task has to be queued then, it is the answer.
+    pub fn wake<T, R>(
+        self,
+        rt: R,
+        realm: &'static ExRealm<T, W, R>,
+        unlocked: &Unlocked,
+    ) -> Option<ExDue<T, W, R>>
+    where
+        T: Drop + 'static,
+        R: Wait + Copy + Drop + 'static,
+    {
+        let Foreign { value } = self;
+        value.wake(rt, realm, unlocked)
+    }
+
+    /// Drops the waker. Where a task has to be queued then, it is the answer.
+    pub fn release<T, R>(
+        self,
+        rt: R,
+        realm: &'static ExRealm<T, W, R>,
+        unlocked: &Unlocked,
+    ) -> Option<ExDue<T, W, R>>
+    where
+        T: Drop + 'static,
+        R: Wait + Copy + Drop + 'static,
+    {
+        let Foreign { value } = self;
+        value.release(rt, realm, unlocked)
+    }
+}

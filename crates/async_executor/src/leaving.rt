@@ -1,0 +1,74 @@
+//! The wakers that an executor's drop takes out of its table.
+ghost use Rattle.std.specs.Prelude.{◌≡◌, [], ◌∷◌, ◌++◌, drop as list_drop, slice_get, OnOk, IfErr, None};
+
+use crate::due::pay;
+use crate::names::ExRealm;
+use crate::unlocked::Unlocked;
+use async_task::{Returning, StoredWaker, Wake};
+use std::collections::VecDeque;
+use std::sync::Wait;
+
+/// Wakers that are to be called in the order in which they came. It has no drop: it ends empty, so that none is forgotten.
+pub struct Leaving {
+    wakers: VecDeque<Returning<StoredWaker>>,
+}
+
+impl Leaving {
+    /// What has room for them.
+    pub fn of(wakers: VecDeque<Returning<StoredWaker>>) -> Leaving
+        ensures { result.wakers ≡ wakers }
+    {
+        Leaving { wakers }
+    }
+
+    /// One more, which comes last. It comes back where there is no room, and no memory for more.
+    pub fn push(&mut self, waker: Returning<StoredWaker>) -> Result<(), Returning<StoredWaker>>
+        ensures last { OnOk result (self.new.wakers.items ≡ self.old.wakers.items ++ waker ∷ []) }
+        ensures back { IfErr result (λ back. (back ≡ waker) × (self.new.wakers.items ≡ self.old.wakers.items)) }
+    {
+        match self.wakers.push_back(waker) {
+            Ok(()) => Ok(()),
+            Err(refused) => Err(refused.value),
+        }
+    }
+
+    /// Takes out the first.
+    fn next(&mut self) -> Option<Returning<StoredWaker>>
+        ensures first { result ≡ slice_get self.old.wakers.items 0 }
+        ensures rest { self.new.wakers.items ≡ list_drop 1 self.old.wakers.items }
+        ensures none { result ≡ None → self.new.wakers.items ≡ [] }
+    {
+        self.wakers.pop_front()
+    }
+
+    /// Calls each waker, in order.
+    pub fn wake_all<T, W, R>(
+        &mut self,
+        rt: R,
+        realm: &'static ExRealm<T, W, R>,
+        unlocked: &mut Unlocked,
+    )
+    where
+        T: Drop + 'static,
+        W: Wake + Drop + 'static,
+        R: Wait + Copy + Drop + 'static,
+        ensures { self.new.wakers.items ≡ [] }
+    {
+        for _ in rt.forever() {
+            let Some(waker) = self.next() else {
+                return;
+            };
+            let due = waker.wake(rt, realm);
+            pay(rt, due, unlocked);
+        }
+        unreachable!()
+    }
+
+    /// It is empty, and goes.
+    pub fn end(self)
+        requires { self.wakers.items ≡ [] }
+    {
+        let Leaving { wakers } = self;
+        drop(wakers);
+    }
+}

@@ -6,7 +6,7 @@ ghost use Rattle.async_executor.specs.Errors.{refused};
 ghost use Rattle.async_executor.specs.Spawning.{SpawnsMany};
 ghost use Rattle.async_executor.specs.Stages.{given, closing};
 
-use crate::call::Call;
+use crate::call::{Call, Polled};
 use crate::closing::ClosesReturned;
 use crate::due::{pay, share};
 use crate::errors::SpawnError;
@@ -160,7 +160,8 @@ where
                     .state
                     .notify(self.rt, self.realm, &mut call, &mut unlocked);
                 pay(self.rt, due, &mut unlocked);
-                let _ = self.poll_or_drop(stored, call, &mut unlocked);
+                let last = self.poll_or_drop(stored, call, &mut unlocked);
+                Polled::never().end(last);
                 true
             }
             None => {

@@ -27,6 +27,7 @@ mod steal;
 mod tick;
 mod ticker;
 mod unlocked;
+mod walks;
 
 pub use async_task::{FallibleTask, NoMemory, Task};
 pub use errors::{RunError, SpawnError};

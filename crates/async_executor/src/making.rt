@@ -4,7 +4,7 @@ ghost use Rattle.async_executor.specs.Foreign.{value_of};
 ghost use Rattle.async_executor.specs.Polls.{has_left};
 ghost use Rattle.async_executor.specs.Seeds.{seeded};
 
-use crate::call::Polled;
+use crate::call::{Counts, Polled};
 use crate::executor::Executor;
 use crate::foreign::Foreign;
 use crate::names::ExWaker;
@@ -72,7 +72,7 @@ where
                 runner,
                 ticker: Ticker::Up(room),
                 polled: Polled::never(),
-                taken: 0,
+                counts: Counts::new(),
             }),
             Err(NoMemory) => {
                 give_back(

@@ -1,8 +1,11 @@
-ghost use Rattle.std.specs.Prelude.{◌≡◌};
+ghost use Rattle.std.specs.Prelude.{◌≡◌, ◌+◌, ◌==◌, is_some, IfSome};
 ghost use Rattle.async_executor.specs.Calls.{IsFoundAtLast};
+ghost use Rattle.async_executor.specs.Counted.{one_more};
+ghost use Rattle.async_executor.specs.Counting.{GoesOn};
 ghost use Rattle.async_executor.specs.Polls.{has_left, HasLeft, IsRunAnswer, IsTasksAnswer};
+ghost use Rattle.async_executor.specs.Stages.{in_hand};
 
-use crate::call::{Call, Polled};
+use crate::call::{Call, Counts, Ending, Last, Polled};
 use crate::errors::RunError;
 use crate::executor::Executor;
 use crate::foreign::Foreign;
@@ -11,12 +14,9 @@ use crate::runner::Runner;
 use crate::sleeping::call_waker;
 use crate::ticker::{Found, Ticker};
 use crate::unlocked::Unlocked;
-use async_task::{Future, Poll, Wake};
+use async_task::{Future, Poll, StoredRunnable, Wake};
 use std::mem;
 use std::sync::Wait;
-
-/// How many tasks one poll of a run takes at most.
-const TASKS_OF_ONE_POLL: u64 = 200;
 
 /// Runs the executor's futures until a future of its own is ready: a future with that one's output. Its drop gives back to
 /// the executor what it had taken to itself.
@@ -38,8 +38,8 @@ where
     pub(crate) ticker: Ticker,
     /// How its last poll ended, if that took tasks.
     pub(crate) polled: Polled,
-    /// How many tasks it has taken since it last let others go first.
-    pub(crate) taken: u64,
+    /// How many tasks it has taken.
+    pub(crate) counts: Counts,
 }
 
 impl<F, T, W, R, G> Future<ExWaker<T, W, R>> for Run<'_, F, T, W, R, G>
@@ -59,6 +59,7 @@ where
     fn poll(&mut self, waker: &ExWaker<T, W, R>) -> Poll<Result<G::Output, RunError>>
         ensures answer { IsRunAnswer self.old.future self.new.future self.old.polled self.new.polled result }
         ensures left { HasLeft self.new.runner.is_drained (has_left self.new.ticker) result }
+        ensures counted { GoesOn self.old.counts self.new.counts self.old.polled self.new.polled }
     {
         let Some(future) = &mut self.future else {
             return Poll::Ready(Err(RunError::Finished));
@@ -107,17 +108,16 @@ where
     ) -> Poll<Result<G::Output, RunError>>
         ensures answer { IsTasksAnswer self.old.polled self.new.polled result }
         ensures future { self.new.future ≡ self.old.future }
+        ensures counted { GoesOn self.old.counts self.new.counts self.old.polled self.new.polled }
     {
-        let executor = self.executor;
-        let mut ran = None;
-        let first = self.taken.min(TASKS_OF_ONE_POLL - 1);
-        for _turn in first..TASKS_OF_ONE_POLL {
+        for _ in self.executor.rt.forever() {
             match self.find(waker, unlocked) {
                 Found::Runnable(runnable, call) => {
-                    self.runner
-                        .count(executor.rt, &executor.state, executor.realm, unlocked);
-                    self.taken = self.taken.saturating_add(1);
-                    ran = Some(executor.poll_or_drop(runnable, call, unlocked));
+                    if let Some(last) = self.run_task(runnable, call, unlocked) {
+                        self.polled.end(last);
+                        call_waker(waker, unlocked);
+                        return Poll::Pending;
+                    }
                 }
                 Found::Nothing(last) => {
                     self.polled.end(last);
@@ -130,12 +130,30 @@ where
                 Found::SearchAgain => unreachable!(),
             }
         }
-        if let Some(last) = ran {
-            self.polled.end(last);
+        unreachable!()
+    }
+
+    /// Counts the task in hand, and runs it. At each 64th it steals from the executor's queue before; after the 200th it lets
+    /// others go first, and the poll ends by the answer.
+    fn run_task(
+        &mut self,
+        runnable: StoredRunnable,
+        call: Call,
+        unlocked: &mut Unlocked,
+    ) -> Option<Last>
+        requires { call ≡ in_hand }
+        ensures counts { self.new.counts ≡ one_more self.old.counts }
+        ensures full { is_some result ≡ (self.old.counts.taken + 1 == 200) }
+        ensures ending { IfSome result (λ last. last ≡ Ending.GaveWay) }
+        ensures future { self.new.future ≡ self.old.future }
+        ensures polled { self.new.polled ≡ self.old.polled }
+    {
+        let executor = self.executor;
+        if let Some(owed) = self.counts.count() {
+            self.runner.pay(executor.rt, &executor.state, executor.realm, owed, unlocked);
         }
-        self.taken = 0;
-        call_waker(waker, unlocked);
-        Poll::Pending
+        let last = executor.poll_or_drop(runnable, call, unlocked);
+        self.counts.take(last)
     }
 
     /// Searches until a task is found, or the run lies down.
@@ -143,6 +161,7 @@ where
         ensures found { IsFoundAtLast result }
         ensures future { self.new.future ≡ self.old.future }
         ensures polled { self.new.polled ≡ self.old.polled }
+        ensures counts { self.new.counts ≡ self.old.counts }
     {
         let executor = self.executor;
         for _ in executor.rt.forever() {
@@ -192,7 +211,7 @@ where
             mut runner,
             ticker,
             polled: _,
-            taken: _,
+            counts: _,
         } = self;
         let mut unlocked = Unlocked::at_entry();
         if let Some(future) = future {

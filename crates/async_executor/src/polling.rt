@@ -5,12 +5,11 @@ ghost use Rattle.async_executor.specs.Stages.{in_hand};
 
 use crate::call::{Call, Ending, Last};
 use crate::due::pay;
-use crate::executor::Executor;
+use crate::entry::{Executor, Unlocked};
 use crate::names::{ExClosing, ExRunning, ExWaker};
 use crate::sections;
 use crate::sections::Taken;
 use crate::state::redeem;
-use crate::unlocked::Unlocked;
 use async_task::{Back, Future, Poll, RunEnd, Started, StoredRunnable, Wake};
 use executor_parts::Place;
 use std::sync::Wait;

@@ -6,43 +6,18 @@ ghost use Rattle.async_executor.specs.Polls.{has_left, HasLeft, IsRunAnswer, IsT
 ghost use Rattle.async_executor.specs.Stages.{in_hand};
 
 use crate::call::{Call, Counts, Ending, Last, Polled};
+use crate::entry::{Executor, Run, Unlocked};
 use crate::errors::RunError;
-use crate::executor::Executor;
 use crate::foreign::Foreign;
 use crate::names::ExWaker;
 use crate::runner::Runner;
 use crate::sleeping::call_waker;
 use crate::ticker::{Found, Ticker};
-use crate::unlocked::Unlocked;
 use async_task::{Future, Poll, StoredRunnable, Wake};
 use std::mem;
 use std::sync::Wait;
 
-/// Runs the executor's futures until a future of its own is ready: a future with that one's output. Its drop gives back to
-/// the executor what it had taken to itself.
-///
-/// It is made by `Executor::run`.
-#[must_use]
-pub struct Run<'a, F, T, W, R, G>
-where
-    F: Drop,
-    T: Drop + 'static,
-    W: Wake + Drop + 'static,
-    R: Wait + Copy + Drop + 'static,
-    G: Drop,
-{
-    pub(crate) executor: &'a Executor<F, T, W, R>,
-    /// The future that it runs for, until that is ready.
-    pub(crate) future: Option<Foreign<G>>,
-    pub(crate) runner: Runner,
-    pub(crate) ticker: Ticker,
-    /// How its last poll ended, if that took tasks.
-    pub(crate) polled: Polled,
-    /// How many tasks it has taken.
-    pub(crate) counts: Counts,
-}
-
-impl<F, T, W, R, G> Future<ExWaker<T, W, R>> for Run<'_, F, T, W, R, G>
+impl<F, T, W, R, G> Run<'_, F, T, W, R, G>
 where
     F: Future<ExWaker<T, W, R>, Output = T> + Drop,
     T: Drop + 'static,
@@ -50,13 +25,17 @@ where
     R: Wait + Copy + Drop + 'static,
     G: Future<ExWaker<T, W, R>> + Drop,
 {
-    type Output = Result<G::Output, RunError>;
-
+    /// Polls its future, and then runs tasks.
+    ///
     /// 1. At the first poll, puts its own queue into the executor's list.
     /// 2. Polls its future. Where that is ready, the run leaves the executor, and is ready.
     /// 3. Takes tasks and runs each. Where there is none to take, it lies down and is pending.
     /// 4. After 200 tasks it wakes its own waker and is pending. A count that was interrupted goes on in the next poll.
-    fn poll(&mut self, waker: &ExWaker<T, W, R>) -> Poll<Result<G::Output, RunError>>
+    pub(crate) fn go_on(
+        &mut self,
+        waker: &ExWaker<T, W, R>,
+        unlocked: &mut Unlocked,
+    ) -> Poll<Result<G::Output, RunError>>
         ensures answer { IsRunAnswer self.old.future self.new.future self.old.polled self.new.polled result }
         ensures left { HasLeft self.new.runner.is_drained (has_left self.new.ticker) result }
         ensures counted { GoesOn self.old.counts self.new.counts self.old.polled self.new.polled }
@@ -65,29 +44,26 @@ where
             return Poll::Ready(Err(RunError::Finished));
         };
         let executor = self.executor;
-        let mut unlocked = Unlocked::at_entry();
-        if let Err(last) = self
-            .runner
-            .begin(executor.rt, &executor.state, &mut unlocked)
-        {
+        if let Err(last) = self.runner.begin(executor.rt, &executor.state, unlocked) {
             self.polled.end(last);
             return Poll::Ready(Err(RunError::NoMemory));
         }
-        match future.poll(waker, &unlocked) {
+        match future.poll(waker, unlocked) {
             Poll::Ready(output) => {
                 if let Some(future) = mem::replace(&mut self.future, None) {
-                    future.let_go(&unlocked);
+                    future.let_go(unlocked);
                 }
-                self.runner.end(executor.rt, &executor.state, executor.realm, &mut unlocked);
+                self.runner
+                    .end(executor.rt, &executor.state, executor.realm, unlocked);
                 mem::replace(&mut self.ticker, Ticker::Left).leave(
                     executor.rt,
                     &executor.state,
                     executor.realm,
-                    &mut unlocked,
+                    unlocked,
                 );
                 Poll::Ready(Ok(output))
             }
-            Poll::Pending => self.take_tasks(waker, &mut unlocked),
+            Poll::Pending => self.take_tasks(waker, unlocked),
         }
     }
 }
@@ -190,7 +166,19 @@ where
     }
 }
 
-impl<F, T, W, R, G> Drop for Run<'_, F, T, W, R, G>
+/// A run ends.
+///
+/// 1. Drops its future.
+/// 2. Takes its own queue out of the executor's list, gives its room there back, and schedules each Runnable that is left in the
+///    queue, in order.
+/// 3. Leaves the sleepers, and gives its room there back.
+pub fn end<F, T, W, R, G>(
+    executor: &Executor<F, T, W, R>,
+    future: Option<Foreign<G>>,
+    runner: Runner,
+    ticker: Ticker,
+    unlocked: &mut Unlocked,
+)
 where
     F: Drop,
     T: Drop + 'static,
@@ -198,27 +186,11 @@ where
     R: Wait + Copy + Drop + 'static,
     G: Drop,
 {
-    /// 1. Drops its future.
-    /// 2. Takes its own queue out of the executor's list, gives its room there back, and schedules each Runnable that is left
-    ///    in the queue, in order.
-    /// 3. Leaves the sleepers, and gives its room there back.
-    ///
-    /// A run that was never polled only drops its future and gives its room back.
-    fn drop(self) {
-        let Run {
-            executor,
-            future,
-            mut runner,
-            ticker,
-            polled: _,
-            counts: _,
-        } = self;
-        let mut unlocked = Unlocked::at_entry();
-        if let Some(future) = future {
-            future.let_go(&unlocked);
-        }
-        runner.end(executor.rt, &executor.state, executor.realm, &mut unlocked);
-        runner.finish();
-        ticker.leave(executor.rt, &executor.state, executor.realm, &mut unlocked);
+    let mut runner = runner;
+    if let Some(future) = future {
+        future.let_go(unlocked);
     }
+    runner.end(executor.rt, &executor.state, executor.realm, unlocked);
+    runner.finish();
+    ticker.leave(executor.rt, &executor.state, executor.realm, unlocked);
 }

@@ -7,11 +7,11 @@ ghost use Rattle.async_executor.specs.Stages.{idle, begun, took, looked};
 
 use crate::call::{Call, Ending, Last, OwesSteal};
 use crate::due::{pay, share};
+use crate::entry::Unlocked;
 use crate::names::ExRealm;
 use crate::own_queues::{Numbered, OwnQueues, RunRoom};
 use crate::state::{OWN_PLACES, Queue, State, take};
 use crate::steal::steal;
-use crate::unlocked::Unlocked;
 use crate::walks::Walk;
 use async_task::{GoesBack, NoMemory, StoredRunnable, Wake};
 use concurrent_queue::ConcurrentQueue;

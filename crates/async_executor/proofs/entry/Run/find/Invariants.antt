@@ -1,5 +1,5 @@
 use Rattle.std.proofs.Common.{◌≡◌}
-use Rattle.async_executor.proofs.run.Run.find.Given as goal
+use Rattle.async_executor.proofs.entry.Run.find.Given as goal
 
 -- its own future, how its last poll ended, and its counts stay
 abbrev pub invariant-loop : goal.invariant-loop

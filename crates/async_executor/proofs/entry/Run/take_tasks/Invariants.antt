@@ -1,5 +1,5 @@
 use Rattle.std.proofs.Common.{◌≡◌, ◌≤◌}
-use Rattle.async_executor.proofs.run.Run.take_tasks.Given as goal
+use Rattle.async_executor.proofs.entry.Run.take_tasks.Given as goal
 
 -- its own future stays, no poll has ended, and its count goes on
 abbrev pub invariant-loop : goal.invariant-loop

@@ -1,17 +1,20 @@
 //! What a user has and calls. Each call begins with no lock in hand, which it says by an `Unlocked`: none but these can make
 //! one.
-ghost use Rattle.std.specs.Prelude.{◌≡◌, false, Some, IfOk, IfErr};
+ghost use Rattle.std.specs.Prelude.{◌≡◌, false, Some, IfOk, IfErr, length};
+ghost use Rattle.std.specs.Iterator.{IsFinite};
 ghost use Rattle.async_executor.specs.Counting.{GoesOn};
 ghost use Rattle.async_executor.specs.Errors.{refused};
 ghost use Rattle.async_executor.specs.Foreign.{value_of};
 ghost use Rattle.async_executor.specs.Polls.{has_left, HasLeft, IsRunAnswer, IsTickAnswer};
 ghost use Rattle.async_executor.specs.Seeds.{seeded};
+ghost use Rattle.async_executor.specs.Spawning.{SpawnsMany};
 
 use crate::call::{Counts, Polled};
 use crate::closing::ClosesReturned;
 use crate::debug::LocalRunners;
 use crate::errors::{RunError, SpawnError};
 use crate::foreign::Foreign;
+use crate::handles::Handles;
 use crate::leaving::Leaving;
 use crate::locks::Guarded;
 use crate::names::{ExRealm, ExScheduled, ExTask, ExWaker};
@@ -80,6 +83,33 @@ where
         ensures here { IfOk result (λ task. task.identity.realm ≡ self.now.realm.now.number) }
     {
         self.hand_in(future, &mut Unlocked::at_entry())
+    }
+
+    /// Hands the executor one future after the other, until the iterator ends or one is refused. The handles of those that
+    /// were accepted are answered, in order, and the refused future with the cause; the rest stays in the iterator. The room
+    /// for a handle is asked for before its future is spawned.
+    pub fn spawn_many<I: Iterator<Item = F>>(
+        &self,
+        futures: &mut I,
+    ) -> (Handles<T, W, R>, Result<(), SpawnError<F>>)
+        requires { I.can_next futures.old × IsFinite (I.remaining futures.old) }
+        ensures taken { SpawnsMany I.next_gives futures.old futures.new (length result.0.tasks) result.1 }
+        ensures here { result.0.realm ≡ self.now.realm.now.number }
+    {
+        let mut handles = Handles::new(self.rt, self.alloc, self.realm);
+        for _ in self.rt.forever() {
+            let Some(future) = futures.next() else {
+                return (handles, Ok(()));
+            };
+            if handles.reserve().is_err() {
+                return (handles, Err(SpawnError::NoMemory(future)));
+            }
+            match self.spawn(future) {
+                Ok(task) => handles.push_back(task),
+                Err(refused) => return (handles, Err(refused)),
+            }
+        }
+        unreachable!()
     }
 
     /// Runs one task, where one is queued, and says whether it did. It doesn't wait for one, and takes no memory.

@@ -1,9 +1,7 @@
-ghost use Rattle.std.specs.Prelude.{◌≡◌, ◌<◌, ◌≤◌, [], true, Some, IfOk, IfErr, length};
+ghost use Rattle.std.specs.Prelude.{◌≡◌, ◌<◌, ◌≤◌, [], true, Some, IfOk, IfErr};
 ghost use Rattle.std.specs.VecDeque.{deque_capacity};
-ghost use Rattle.std.specs.Iterator.{IsFinite};
 ghost use Rattle.std.specs.Arc.{arc_value};
 ghost use Rattle.async_executor.specs.Errors.{refused};
-ghost use Rattle.async_executor.specs.Spawning.{SpawnsMany};
 ghost use Rattle.async_executor.specs.Stages.{given, closing};
 
 use crate::call::{Call, Polled};
@@ -12,7 +10,6 @@ use crate::due::{pay, share};
 use crate::entry::{Executor, Unlocked};
 use crate::errors::SpawnError;
 use crate::foreign::Foreign;
-use crate::handles::Handles;
 use crate::leaving::Leaving;
 use crate::locks::Guarded;
 use crate::names::{ExRealm, ExRunnable, ExTask, ExWaker};
@@ -247,40 +244,5 @@ where
             let due = waker.wake(rt, realm);
             pay(rt, due, unlocked);
         }
-    }
-}
-
-impl<F, T, W, R> Executor<F, T, W, R>
-where
-    F: Future<ExWaker<T, W, R>, Output = T> + Drop,
-    T: Drop + 'static,
-    W: Wake + Drop + 'static,
-    R: Wait + Copy + Drop + 'static,
-{
-    /// Hands the executor one future after the other, until the iterator ends or one is refused. The handles of those that
-    /// were accepted are answered, in order, and the refused future with the cause; the rest stays in the iterator. The room
-    /// for a handle is asked for before its future is spawned.
-    pub fn spawn_many<I: Iterator<Item = F>>(
-        &self,
-        futures: &mut I,
-    ) -> (Handles<T, W, R>, Result<(), SpawnError<F>>)
-        requires { I.can_next futures.old × IsFinite (I.remaining futures.old) }
-        ensures taken { SpawnsMany I.next_gives futures.old futures.new (length result.0.tasks) result.1 }
-        ensures here { result.0.realm ≡ self.now.realm.now.number }
-    {
-        let mut handles = Handles::new(self.rt, self.alloc, self.realm);
-        for _ in self.rt.forever() {
-            let Some(future) = futures.next() else {
-                return (handles, Ok(()));
-            };
-            if handles.reserve().is_err() {
-                return (handles, Err(SpawnError::NoMemory(future)));
-            }
-            match self.spawn(future) {
-                Ok(task) => handles.push_back(task),
-                Err(refused) => return (handles, Err(refused)),
-            }
-        }
-        unreachable!()
     }
 }

@@ -26,6 +26,7 @@ mod sleeping;
 mod spawning;
 mod state;
 mod steal;
+mod task_run;
 mod tick;
 mod ticker;
 mod walks;

@@ -2,9 +2,9 @@ ghost use Rattle.std.specs.Prelude.{◌≡◌, IfSome, is_none};
 ghost use Rattle.async_executor.specs.Copies.{IsCopyOf};
 
 use crate::call::Call;
+use crate::entry::Unlocked;
 use crate::foreign::Foreign;
 use crate::names::{ExDue, ExRealm, ExWaker};
-use crate::unlocked::Unlocked;
 use async_task::{Awaiter, Returning, StoredWaker, Wake};
 use std::sync::Wait;
 

@@ -9,12 +9,12 @@ ghost use Rattle.async_executor.specs.Stages.{idle, begun, looked};
 
 use crate::call::{Call, Last};
 use crate::due::pay;
+use crate::entry::Unlocked;
 use crate::foreign::{Foreign, came_out};
 use crate::names::{ExRealm, ExWaker};
 use crate::sections::give_back;
 use crate::sleeping::{SleeperWaker, call_waker};
 use crate::state::State;
-use crate::unlocked::Unlocked;
 use async_task::{Awaiter, StoredRunnable, Wake};
 use executor_parts::{Again, Risen as Stood, Room, Sleeper, Sleepers, Slept, Unreserved};
 use std::mem;

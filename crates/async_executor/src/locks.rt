@@ -1,19 +1,6 @@
-//! The locks of an executor, and what says that a party has none of them.
+//! The locks of an executor: who takes one has an `Unlocked` lent for as long.
+use crate::entry::Unlocked;
 use std::sync::{Mutex, MutexGuard, RwLock, RwLockReadGuard, RwLockWriteGuard, Wait};
-
-/// Says that a party has none of an executor's locks. Each call makes one at its beginning. It has no bytes: whoever takes a
-/// lock has it lent for as long as the lock is taken, and what calls, copies or drops a value of a user's is lent it.
-#[derive(Drop)]
-pub struct Unlocked {
-    own: (),
-}
-
-impl Unlocked {
-    /// At the beginning of a call.
-    pub fn at_entry() -> Unlocked {
-        Unlocked { own: () }
-    }
-}
 
 /// What is guarded by a lock that one party has at a time.
 #[derive(Drop)]

@@ -1,6 +1,6 @@
 use Rattle.std.proofs.Common.{◌≡◌}
 use Rattle.async_executor.specs.Polls.{has_left}
-use Rattle.async_executor.proofs.tick.TickFutureExWaker.poll.Given as goal
+use Rattle.async_executor.proofs.entry.Tick.look.Given as goal
 
 -- it hasn't left since, and no poll has ended
 abbrev pub invariant-loop : goal.invariant-loop

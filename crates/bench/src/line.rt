@@ -7,7 +7,7 @@ use std::time::Duration;
 /// A line of what `bench` prints: the workload, the operations, the seconds, and the nanoseconds of one operation.
 ///
 /// The seconds are cut off after three digits, and the nanoseconds after one.
-#[derive(Clone, Copy, Debug)]
+#[derive(Clone, Copy)]
 pub struct Line {
     pub name: &'static str,
     pub ops: u64,

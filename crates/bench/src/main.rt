@@ -3,8 +3,6 @@
 //! Without an argument it lists the names. `bench NAME [OPS]` runs one, and `bench all` runs each at its usual size.
 #![tactic(auto)]
 
-ghost use Rattle.std.specs.Prelude.{◌<◌};
-
 mod line;
 mod runs;
 mod sim;
@@ -23,7 +21,7 @@ use std::process::ExitCode;
 use std::rt::{Clock, Env};
 use std::sync::Wait;
 use std::thread::Threads;
-use words::{asked, operations};
+use words::{Asked, read_words};
 use workloads::task::Tasks;
 use workloads::{ALL, Fault, Workload};
 
@@ -68,38 +66,27 @@ where
     J: Place<R, Gate = Open> + Sync + Drop,
     R: AllocGlobal + Env + Print + Eprint + Clock + Wait + Threads + Sync + Copy + Drop + 'static,
 {
-    let words: Vec<String> = env::args(rt)?.skip(1).collect(rt.alloc())?;
-    match words.as_slice() {
-        [] => list(rt),
-        [word] => {
-            if word.as_str() == "all" {
-                time_all::<L, P, J, R>(rt, realms)
-            } else {
-                let workload = asked(word)?;
-                time::<L, P, J, R>(rt, realms, workload, workload.usual_ops())
+    match arguments(rt)? {
+        Asked::List => list(rt),
+        Asked::All => {
+            for workload in ALL {
+                time::<L, P, J, R>(rt, realms, workload, workload.usual_ops())?;
             }
+            Ok(())
         }
-        [word, count] => time::<L, P, J, R>(rt, realms, asked(word)?, operations(count)?),
-        _ => Err(Fault::Usage),
+        Asked::One(workload, ops) => time::<L, P, J, R>(rt, realms, workload, ops),
     }
+}
+
+/// What the arguments ask.
+fn arguments<R: AllocGlobal + Env>(rt: &R) -> Result<Asked, Fault> {
+    let words: Vec<String> = env::args(rt)?.skip(1).collect(rt.alloc())?;
+    read_words(words.as_slice())
 }
 
 fn list<R: Print>(rt: &R) -> Result<(), Fault> {
     for workload in ALL {
         println!(rt; "{}", workload.name())?;
-    }
-    Ok(())
-}
-
-fn time_all<L, P, J, R>(rt: &R, realms: &Realms<R>) -> Result<(), Fault>
-where
-    L: Chain<R> + Future<Waker<R>, Output = u64> + Drop,
-    P: Worker<R> + Sync + Drop,
-    J: Place<R, Gate = Open> + Sync + Drop,
-    R: AllocGlobal + Print + Eprint + Clock + Wait + Threads + Sync + Copy + Drop + 'static,
-{
-    for workload in ALL {
-        time::<L, P, J, R>(rt, realms, workload, workload.usual_ops())?;
     }
     Ok(())
 }
@@ -111,9 +98,8 @@ where
     P: Worker<R> + Sync + Drop,
     J: Place<R, Gate = Open> + Sync + Drop,
     R: AllocGlobal + Print + Eprint + Clock + Wait + Threads + Sync + Copy + Drop + 'static,
-    requires { 0 < ops }
 {
-    let timing = runs::run::<L, P, J, R>(workload, rt, realms, ops)?;
+    let timing = runs::run::<L, P, J, R>(workload.work(), rt, realms, ops)?;
     eprintln!(rt; "{} moved {}", workload.name(), timing.moved)?;
     let line = Line {
         name: workload.name(),

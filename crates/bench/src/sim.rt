@@ -4,6 +4,7 @@ use simulator::answer;
 use std::alloc::{AllocError, Global};
 use std::rt::Clock;
 use std::time::Instant;
+use workloads::work::Pollers;
 use workloads::{Fault, Timing};
 
 /// How many futures a script has.
@@ -12,37 +13,19 @@ const FUTURES: u64 = 1000;
 /// How many lines a script has at most.
 const LINES: u64 = 10_000;
 
-/// Who polls the futures of a script: each `try`, or so many ticks or runs in turn.
-#[derive(Clone, Copy)]
-pub enum Pollers {
-    Tries,
-    Ticks(u64),
-    Runs(u64),
+/// The word by which a tick or run is made.
+fn making(pollers: Pollers) -> &'static [u8] {
+    match pollers {
+        Pollers::Runs(_) => b"run ",
+        _ => b"tick ",
+    }
 }
 
-impl Pollers {
-    fn count(self) -> u64 {
-        match self {
-            Pollers::Tries => 0,
-            Pollers::Ticks(count) => count,
-            Pollers::Runs(count) => count,
-        }
-    }
-
-    /// The word by which one is made.
-    fn making(self) -> &'static [u8] {
-        match self {
-            Pollers::Runs(_) => b"run ",
-            _ => b"tick ",
-        }
-    }
-
-    /// The word by which one is polled.
-    fn polling(self) -> &'static [u8] {
-        match self {
-            Pollers::Runs(_) => b"pollrun ",
-            _ => b"polltick ",
-        }
+/// The word by which it is polled.
+fn polling(pollers: Pollers) -> &'static [u8] {
+    match pollers {
+        Pollers::Runs(_) => b"pollrun ",
+        _ => b"polltick ",
     }
 }
 
@@ -52,15 +35,24 @@ pub fn lines<R: AllocGlobal + Clock>(rt: &R, pollers: Pollers, ops: u64) -> Resu
     let alloc = rt.alloc();
     let whole = script(alloc, pollers, LINES)?;
     let rest = script(alloc, pollers, ops % LINES)?;
+    time_lines(rt, whole.as_slice(), rest.as_slice(), ops)
+}
+
+/// So many lines: one script as often as that makes, and the other one once.
+fn time_lines<R: AllocGlobal + Clock>(
+    rt: &R,
+    whole: &[u8],
+    rest: &[u8],
+    ops: u64,
+) -> Result<Timing, Fault> {
     let mut moved = 0u64;
     let start = Instant::now(rt)?;
     for _ in 0..ops / LINES {
-        play(alloc, whole.as_slice())?;
+        play(rt.alloc(), whole)?;
         moved = moved.wrapping_add(LINES);
     }
-    play(alloc, rest.as_slice())?;
-    moved = moved.wrapping_add(ops % LINES);
-    Timing::since(rt, start, moved)
+    play(rt.alloc(), rest)?;
+    Timing::since(rt, start, moved.wrapping_add(ops % LINES))
 }
 
 /// Runs a script, which shows something where it has a command.
@@ -100,7 +92,7 @@ fn push_line(text: &mut Vec<u8>, pollers: Pollers, before: u64) -> Result<(), Al
     };
     let count = pollers.count();
     if command < count {
-        return push_command(text, pollers.making(), &poller(command), b"\n");
+        return push_command(text, making(pollers), &poller(command), b"\n");
     }
     match command.saturating_sub(count).checked_sub(count) {
         Some(later) => push_later(text, pollers, later),
@@ -114,7 +106,7 @@ fn push_poll(text: &mut Vec<u8>, pollers: Pollers, command: u64) -> Result<(), A
     if count == 0 {
         text.extend_from_slice(b"try\n")
     } else {
-        push_command(text, pollers.polling(), &poller(command % count), b"\n")
+        push_command(text, polling(pollers), &poller(command % count), b"\n")
     }
 }
 

@@ -2,14 +2,14 @@
 use crate::awaited::Awaited;
 use crate::futures::Yields;
 use crate::names::{Futures, Handle, Timed, Waker};
-use crate::ticks::complete;
+use crate::ticks::{complete, tick_all};
 use crate::workplace::Worker;
 use async_task::{Future, Poll, Wake};
 use std::alloc::Global;
 use std::rt::Clock;
 use std::sync::Wait;
 use std::time::Instant;
-use workloads::{Fault, Timing};
+use workloads::{Fault, Timing, round};
 
 /// How many futures a chain has.
 const LINKS: u64 = 10_000;
@@ -98,12 +98,9 @@ where
 {
     let mut moved = 0u64;
     let start = Instant::now(&rt)?;
-    for _ in 0..ops / LINKS {
-        moved = moved.wrapping_add(links::<L, P, R>(rt, alloc, realm, executor, LINKS)?);
-    }
-    let rest = ops % LINKS;
-    if rest > 0 {
-        moved = moved.wrapping_add(links::<L, P, R>(rt, alloc, realm, executor, rest)?);
+    for number in 0..ops.div_ceil(LINKS) {
+        let count = round(ops, LINKS, number);
+        moved = moved.wrapping_add(links::<L, P, R>(rt, alloc, realm, executor, count)?);
     }
     complete(Timing::since(&rt, start, moved)?, ops)
 }
@@ -121,26 +118,36 @@ where
     P: Worker<R>,
     R: Wait + Copy + Drop + 'static,
 {
-    let mut last = match executor.spawn(L::first(Yields {
-        times: TIMES,
-        number: 1,
-    })) {
-        Ok(task) => task,
-        Err(_) => return Err(Fault::Refused),
+    let Some(last) = spawn_links(executor, count) else {
+        return Err(Fault::Refused);
     };
-    for _ in 1..count {
-        last = match executor.spawn(L::after(last)) {
-            Ok(task) => task,
-            Err(_) => return Err(Fault::Refused),
-        };
-    }
-    for _ in rt.forever() {
-        if !executor.try_tick() {
-            break;
-        }
-    }
     let mut awaited = Awaited::new(rt, alloc, realm);
     awaited.push(last);
-    let output = P::outputs(rt, alloc, awaited)?;
-    Ok(output.wrapping_sub(TIMES))
+    tick_all(&rt, executor);
+    match P::outputs(rt, alloc, awaited) {
+        Ok(output) => Ok(output.wrapping_sub(TIMES)),
+        Err(fault) => Err(fault),
+    }
+}
+
+/// Spawns one chain, and answers the handle of its last future.
+fn spawn_links<L, R>(executor: &Timed<L, R>, count: u64) -> Option<Handle<R>>
+where
+    L: Chain<R> + Future<Waker<R>, Output = u64> + Drop,
+    R: Wait + Copy + Drop + 'static,
+{
+    let first = Yields {
+        times: TIMES,
+        number: 1,
+    };
+    let Ok(mut last) = executor.spawn(L::first(first)) else {
+        return None;
+    };
+    for _ in 1..count {
+        let Ok(next) = executor.spawn(L::after(last)) else {
+            return None;
+        };
+        last = next;
+    }
+    Some(last)
 }

@@ -4,5 +4,26 @@ mod parsing;
 mod running;
 
 pub use jobs::{JobPlace, JobRealm, Open, Place};
-pub use parsing::parse;
-pub use running::run;
+use std::alloc::AllocGlobal;
+use std::rt::Clock;
+use std::sync::Wait;
+use std::thread::Threads;
+use workloads::work::JobWork;
+use workloads::{Fault, Timing};
+
+/// Does so many operations on lists of jobs, whose tasks lie in this realm. `P` is where jobs are done.
+pub fn time<P, R>(
+    work: JobWork,
+    rt: &R,
+    realm: &'static JobRealm<R>,
+    ops: u64,
+) -> Result<Timing, Fault>
+where
+    P: Place<R, Gate = Open> + Sync + Drop,
+    R: AllocGlobal + Clock + Wait + Threads + Sync + Copy + Drop + 'static,
+{
+    match work {
+        JobWork::Parse => parsing::parse(rt, ops),
+        JobWork::Run(workers) => running::run::<P, R>(rt, realm, workers.count(), ops),
+    }
+}

@@ -10,13 +10,12 @@ mod many;
 mod names;
 mod threads;
 mod ticks;
+mod time;
 mod workplace;
 
 pub use awaited::Awaited;
-pub use chain::{Chain, Link, await_chain};
+pub use chain::{Chain, Link};
 pub use futures::Yields;
-pub use many::{drop_full, spawn_many};
 pub use names::{Futures, Handle, Timed, Waker};
-pub use threads::{run, storm};
-pub use ticks::{ping, spawn_tick};
+pub use time::time;
 pub use workplace::{Crew, Worker, Workplace};

@@ -2,13 +2,13 @@
 use crate::awaited::Awaited;
 use crate::futures::Yields;
 use crate::names::{Futures, Timed};
-use crate::ticks::complete;
-use crate::workplace::Worker;
+use crate::ticks::{complete, tick_all};
+use crate::workplace::{Share, Worker, spawn_share};
 use std::alloc::Global;
 use std::rt::Clock;
 use std::sync::Wait;
 use std::time::Instant;
-use workloads::{Fault, Timing};
+use workloads::{Fault, Timing, round};
 
 /// How many futures there are at a time.
 const FUTURES: u64 = 50_000;
@@ -44,10 +44,10 @@ where
 {
     let mut moved = 0u64;
     let start = Instant::now(&rt)?;
-    for _ in 0..ops / FUTURES {
-        moved = moved.wrapping_add(outputs_of::<P, R>(rt, alloc, realm, executor, FUTURES)?);
+    for number in 0..ops.div_ceil(FUTURES) {
+        let count = round(ops, FUTURES, number);
+        moved = moved.wrapping_add(outputs_of::<P, R>(rt, alloc, realm, executor, count)?);
     }
-    moved = moved.wrapping_add(outputs_of::<P, R>(rt, alloc, realm, executor, ops % FUTURES)?);
     complete(Timing::since(&rt, start, moved)?, ops)
 }
 
@@ -64,20 +64,13 @@ where
     R: Wait + Copy + Drop + 'static,
 {
     let mut awaited = Awaited::new(rt, alloc, realm);
-    for _ in 0..count {
-        match executor.spawn(Yields {
-            times: 0,
-            number: 1,
-        }) {
-            Ok(task) => awaited.push(task),
-            Err(_) => return Err(Fault::Refused),
-        }
-    }
-    for _ in rt.forever() {
-        if !executor.try_tick() {
-            break;
-        }
-    }
+    let share = Share {
+        jobs: count,
+        times: 0,
+        number: 1,
+    };
+    spawn_share(executor, share, &mut awaited);
+    tick_all(&rt, executor);
     P::outputs(rt, alloc, awaited)
 }
 
@@ -90,10 +83,10 @@ pub fn drop_full<R: Clock + Wait + Copy + Drop + 'static>(
 ) -> Result<Timing, Fault> {
     let mut moved = 0u64;
     let start = Instant::now(&rt)?;
-    for _ in 0..ops / FUTURES {
-        moved = moved.wrapping_add(dropped(rt, alloc, realm, FUTURES)?);
+    for number in 0..ops.div_ceil(FUTURES) {
+        let count = round(ops, FUTURES, number);
+        moved = moved.wrapping_add(dropped(rt, alloc, realm, count)?);
     }
-    moved = moved.wrapping_add(dropped(rt, alloc, realm, ops % FUTURES)?);
     complete(Timing::since(&rt, start, moved)?, ops)
 }
 

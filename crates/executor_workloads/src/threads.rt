@@ -9,7 +9,7 @@ use std::rt::Clock;
 use std::sync::Wait;
 use std::thread::{self, Threads};
 use std::time::Instant;
-use workloads::{Fault, Timing, share};
+use workloads::{Fault, Timing, round, share};
 
 /// How many futures there are in one round of `run`.
 const JOBS: u64 = 100_000;
@@ -44,19 +44,13 @@ where
 {
     let mut moved = 0u64;
     let start = Instant::now(rt)?;
-    for _ in 0..ops / JOBS {
-        let round = Share {
-            jobs: JOBS,
+    for number in 0..ops.div_ceil(JOBS) {
+        let all = Share {
+            jobs: round(ops, JOBS, number),
             times: 1,
+            number: 0,
         };
-        moved = moved.wrapping_add(work_of_all(rt, place, workers, round)?);
-    }
-    let rest = Share {
-        jobs: ops % JOBS,
-        times: 1,
-    };
-    if rest.jobs > 0 {
-        moved = moved.wrapping_add(work_of_all(rt, place, workers, rest)?);
+        moved = moved.wrapping_add(work_of_all(rt, place, workers, all)?);
     }
     complete(Timing::since(rt, start, moved)?, ops)
 }
@@ -90,6 +84,7 @@ where
     let all = Share {
         jobs: FUTURES,
         times,
+        number: 0,
     };
     let start = Instant::now(rt)?;
     let moved = work_of_all(rt, place, workers, all)?;
@@ -124,6 +119,6 @@ where
 {
     place.work(Share {
         jobs: share(all.jobs, workers as u64, party as u64),
-        times: all.times,
+        ..all
     })
 }

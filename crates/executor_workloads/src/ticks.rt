@@ -1,6 +1,7 @@
 //! Work of one thread on an executor with place for one future.
 use crate::futures::Yields;
-use crate::names::{Futures, Timed};
+use crate::names::{Futures, Timed, Waker};
+use async_task::Future;
 use std::alloc::Global;
 use std::rt::Clock;
 use std::sync::Wait;
@@ -79,6 +80,20 @@ fn spawn_detached<R: Wait + Copy + Drop + 'static>(
         }
         Err(_) => Err(Fault::Refused),
     }
+}
+
+/// Ticks until nothing is to be done.
+pub fn tick_all<F, R>(rt: &R, executor: &Timed<F, R>)
+where
+    F: Future<Waker<R>, Output = u64> + Drop,
+    R: Wait + Copy + Drop + 'static,
+{
+    for _ in rt.forever() {
+        if !executor.try_tick() {
+            return;
+        }
+    }
+    unreachable!()
 }
 
 /// A run that moved as much as it had to.

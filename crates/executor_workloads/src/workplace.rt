@@ -13,11 +13,12 @@ use std::marker::PhantomData;
 use std::sync::Wait;
 use workloads::Fault;
 
-/// What there is to spawn: so many futures, each of which gives way so often.
+/// What there is to spawn: so many futures, each of which gives way so often, and then gives this number and how often that was.
 #[derive(Clone, Copy)]
 pub struct Share {
     pub jobs: u64,
     pub times: u64,
+    pub number: u64,
 }
 
 /// What threads do, and how handles are awaited.
@@ -95,7 +96,7 @@ where
 }
 
 /// Spawns so many futures. One that is refused is not awaited.
-fn spawn_share<R: Wait + Copy + Drop + 'static>(
+pub fn spawn_share<R: Wait + Copy + Drop + 'static>(
     executor: &Timed<Yields, R>,
     share: Share,
     awaited: &mut Awaited<R>,
@@ -103,7 +104,7 @@ fn spawn_share<R: Wait + Copy + Drop + 'static>(
     for _ in 0..share.jobs {
         let future = Yields {
             times: share.times,
-            number: 0,
+            number: share.number,
         };
         if let Ok(task) = executor.spawn(future) {
             awaited.push(task);

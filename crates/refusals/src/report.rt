@@ -12,6 +12,10 @@ pub enum Call {
     Run,
     PollOfRun,
     SpawnMany,
+    /// None of an executor: the realm of jobs.
+    JobRealm,
+    /// None of an executor: what `taskrun jobs 2` does.
+    Jobs,
     /// None of an executor: the program's own waker.
     Own,
     /// None at all.
@@ -29,6 +33,8 @@ impl fmt::Display for Call {
             Call::Run => "run",
             Call::PollOfRun => "poll of a run",
             Call::SpawnMany => "spawn_many",
+            Call::JobRealm => "realm of jobs",
+            Call::Jobs => "jobs",
             Call::Own => "its own",
             Call::Nothing => "nothing",
         })

@@ -9,10 +9,11 @@ mod queue;
 mod sharing;
 pub mod task;
 mod timing;
+pub mod work;
 mod workload;
 
 pub use fault::Fault;
 pub use queue::{on_queue_of_one, on_shared_queue};
-pub use sharing::share;
+pub use sharing::{round, share};
 pub use timing::Timing;
 pub use workload::{ALL, Workload};

@@ -5,6 +5,7 @@ pub use crate::task::parts::{Line, Tasks, Work};
 use crate::task::parts::{
     Queue, Spawned, Waiting, WorkTask, WorkWaker, empty_queue, run, run_next, spawn_to,
 };
+use crate::work::TaskWork;
 use crate::{Fault, Timing};
 use async_task::local_task::{Settled, Start};
 use async_task::{
@@ -16,8 +17,28 @@ use std::rt::Clock;
 use std::sync::Wait;
 use std::time::Instant;
 
+/// Does so many operations on tasks that lie in this realm.
+pub fn time<R: Clock + Wait + Copy + Drop + 'static>(
+    work: TaskWork,
+    rt: R,
+    alloc: Global,
+    realm: &'static Tasks<R>,
+    ops: u64,
+) -> Result<Timing, Fault> {
+    match work {
+        TaskWork::SpawnRun => spawn_run(rt, alloc, realm, ops),
+        TaskWork::DropHandle => drop_handle(rt, alloc, realm, ops),
+        TaskWork::WakeRun => wake_run(rt, alloc, realm, ops),
+        TaskWork::SelfWake => self_wake(rt, alloc, realm, ops),
+        TaskWork::WakeTwice => wake_twice(rt, alloc, realm, ops),
+        TaskWork::WakerClone => waker_clone(rt, alloc, realm, ops),
+        TaskWork::PollPending => poll_pending(rt, alloc, realm, ops),
+        TaskWork::SelfWakeLocalTask => self_wake_alone(&rt, alloc, ops),
+    }
+}
+
 /// Spawns, queues, runs and polls futures that give the numbers below `ops`.
-pub fn spawn_run<R: Clock + Wait + Copy + Drop + 'static>(
+fn spawn_run<R: Clock + Wait + Copy + Drop + 'static>(
     rt: R,
     alloc: Global,
     realm: &'static Tasks<R>,
@@ -68,7 +89,7 @@ fn output(polled: Poll<Result<u64, TaskError>>) -> Result<u64, Fault> {
 }
 
 /// Spawns futures, drops their handles and runs them, so that they are dropped unpolled.
-pub fn drop_handle<R: Clock + Wait + Copy + Drop + 'static>(
+fn drop_handle<R: Clock + Wait + Copy + Drop + 'static>(
     rt: R,
     alloc: Global,
     realm: &'static Tasks<R>,
@@ -107,7 +128,7 @@ fn dropped_unpolled<R: Wait + Copy + Drop + 'static>(
 }
 
 /// Wakes an idle future by a waker that is kept, and runs it.
-pub fn wake_run<R: Clock + Wait + Copy + Drop + 'static>(
+fn wake_run<R: Clock + Wait + Copy + Drop + 'static>(
     rt: R,
     alloc: Global,
     realm: &'static Tasks<R>,
@@ -141,7 +162,7 @@ fn time_wake_run<R: Clock + Wait + Copy + Drop + 'static>(
 }
 
 /// Runs a future that wakes itself in each poll.
-pub fn self_wake<R: Clock + Wait + Copy + Drop + 'static>(
+fn self_wake<R: Clock + Wait + Copy + Drop + 'static>(
     rt: R,
     alloc: Global,
     realm: &'static Tasks<R>,
@@ -173,7 +194,7 @@ fn time_self_wake<R: Clock + Wait + Copy + Drop + 'static>(
 }
 
 /// Wakes a task that is to be run already.
-pub fn wake_twice<R: Clock + Wait + Copy + Drop + 'static>(
+fn wake_twice<R: Clock + Wait + Copy + Drop + 'static>(
     rt: R,
     alloc: Global,
     realm: &'static Tasks<R>,
@@ -207,7 +228,7 @@ fn time_wake_twice<R: Clock + Wait + Copy + Drop + 'static>(
 }
 
 /// Copies a waker, and drops the copy.
-pub fn waker_clone<R: Clock + Wait + Copy + Drop + 'static>(
+fn waker_clone<R: Clock + Wait + Copy + Drop + 'static>(
     rt: R,
     alloc: Global,
     realm: &'static Tasks<R>,
@@ -236,7 +257,7 @@ fn time_waker_clone<R: Clock + Wait + Copy + Drop + 'static>(
 }
 
 /// Polls the handle of a task that isn't finished.
-pub fn poll_pending<R: Clock + Wait + Copy + Drop + 'static>(
+fn poll_pending<R: Clock + Wait + Copy + Drop + 'static>(
     rt: R,
     alloc: Global,
     realm: &'static Tasks<R>,
@@ -271,7 +292,7 @@ const ALONE: u64 = 64;
 
 /// As `self_wake`, on tasks with one owner: each operation is a start, a wake and the end of a poll of
 /// the next of some tasks.
-pub fn self_wake_alone<R: Clock>(rt: &R, alloc: Global, ops: u64) -> Result<Timing, Fault> {
+fn self_wake_alone<R: Clock>(rt: &R, alloc: Global, ops: u64) -> Result<Timing, Fault> {
     let mut tasks: Vec<Alone> = Vec::new(alloc);
     for _ in 0..ALONE {
         tasks.push(LocalTask::new(Work::WakesItself))?;

@@ -3,7 +3,7 @@ use std::rt::Clock;
 use std::time::{Duration, Instant};
 
 /// What one run of a workload took, and the sum of what it moved.
-#[derive(Clone, Copy, Debug)]
+#[derive(Clone, Copy)]
 pub struct Timing {
     pub took: Duration,
     pub moved: u64,

@@ -8,9 +8,22 @@ use workloads::{ALL, Workload, share};
 #[test]
 fn a_name_names_one_workload(rt: HostRuntime) {
     for workload in ALL {
-        same(&rt, Workload::named(workload.name()), Some(workload));
+        let mut named = 0u64;
+        for other in ALL {
+            named = named.saturating_add(u64::from(other.name() == workload.name()));
+        }
+        same(&rt, named, 1);
+        same(&rt, named_as(workload.name()), Some(workload.name()));
     }
-    same(&rt, Workload::named("queue/none"), None);
+    same(&rt, named_as("queue/none"), None);
+}
+
+// The name of the workload that this name names.
+fn named_as(name: &str) -> Option<&'static str> {
+    match Workload::named(name) {
+        Some(workload) => Some(workload.name()),
+        None => None,
+    }
 }
 
 #[test]

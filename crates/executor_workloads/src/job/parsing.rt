@@ -10,13 +10,22 @@ use workloads::{Fault, Timing};
 /// So many lines, 100,000 in a text. The texts are made before the clock starts.
 pub fn parse<R: AllocGlobal + Clock>(rt: &R, ops: u64) -> Result<Timing, Fault> {
     let whole = text(rt.alloc(), JOBS)?;
-    let rest = text(rt.alloc(), ops % JOBS)?;
+    time_parse(rt, &whole, &text(rt.alloc(), ops % JOBS)?, ops / JOBS)
+}
+
+/// One text so many times, and the other one once.
+fn time_parse<R: AllocGlobal + Clock>(
+    rt: &R,
+    whole: &[u8],
+    rest: &[u8],
+    rounds: u64,
+) -> Result<Timing, Fault> {
     let mut moved = 0u64;
     let start = Instant::now(rt)?;
-    for _ in 0..ops / JOBS {
-        moved = moved.wrapping_add(lines_of(rt.alloc(), &whole)?);
+    for _ in 0..rounds {
+        moved = moved.wrapping_add(lines_of(rt.alloc(), whole)?);
     }
-    moved = moved.wrapping_add(lines_of(rt.alloc(), &rest)?);
+    moved = moved.wrapping_add(lines_of(rt.alloc(), rest)?);
     Timing::since(rt, start, moved)
 }
 

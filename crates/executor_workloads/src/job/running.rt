@@ -26,12 +26,31 @@ where
 {
     let whole = jobs(rt.alloc(), JOBS)?;
     let rest = jobs(rt.alloc(), ops % JOBS)?;
+    time_run::<P, R>(rt, realm, workers, &whole, &rest, ops / JOBS)
+}
+
+/// One list so many times, and the other one once.
+fn time_run<P, R>(
+    rt: &R,
+    realm: &'static JobRealm<R>,
+    workers: usize,
+    whole: &[Job],
+    rest: &[Job],
+    rounds: u64,
+) -> Result<Timing, Fault>
+where
+    P: Place<R, Gate = Open> + Sync + Drop,
+    R: AllocGlobal + Clock + Wait + Threads + Sync + Copy + Drop + 'static,
+    requires workers { (0 < workers) × (workers ≤ 64) }
+    requires whole { All IsInRange whole.now × (length whole.now ≤ 100000) }
+    requires rest { All IsInRange rest.now × (length rest.now ≤ 100000) }
+{
     let mut moved = 0u64;
     let start = Instant::now(rt)?;
-    for _ in 0..ops / JOBS {
-        moved = moved.wrapping_add(round::<P, R>(*rt, rt.alloc(), realm, &whole, workers)?);
+    for _ in 0..rounds {
+        moved = moved.wrapping_add(round::<P, R>(*rt, rt.alloc(), realm, whole, workers)?);
     }
-    moved = moved.wrapping_add(round::<P, R>(*rt, rt.alloc(), realm, &rest, workers)?);
+    moved = moved.wrapping_add(round::<P, R>(*rt, rt.alloc(), realm, rest, workers)?);
     Timing::since(rt, start, moved)
 }
 

@@ -1,7 +1,5 @@
-//! A program to start from: two kinds of futures on one queue. Visitors wait at a door and leave their wakers there, and a
+//! Two kinds of futures on one queue. Visitors wait at a door and leave their wakers there, and a
 //! doorkeeper opens it and wakes them.
-#![tactic(auto)]
-
 use async_task::{Awaiter, Future, Nobody, Poll, Realm, Returning, StoredWaker, Wake};
 use concurrent_queue::ConcurrentQueue;
 use ready_queue::{Places, QueueWaker, ReadyQueue};
@@ -19,7 +17,7 @@ enum Job<R> {
 }
 
 /// What became of a future.
-#[derive(Debug, Drop)]
+#[derive(Drop)]
 enum Said {
     GaveUp,
     CameIn,
@@ -63,7 +61,8 @@ fn open<R: Wait + Copy + Drop + 'static>(door: &Door, rt: &R, waker: &JobWaker<R
     Poll::Ready(Said::Opened)
 }
 
-fn main(rt: HostRuntime) -> io::Result<()> {
+#[test]
+fn visitors_come_in_once_the_door_is_open(rt: HostRuntime) -> io::Result<()> {
     let alloc = rt.alloc();
     let door = ConcurrentQueue::bounded(alloc, 2).map_err(|_| ErrorKind::OutOfMemory)?;
     let door: &'static Door = Box::leak(Box::new(alloc, door)?);
@@ -73,6 +72,7 @@ fn main(rt: HostRuntime) -> io::Result<()> {
     queue.spawn(Job::Open(door, rt))?.detach();
     queue.run();
     let nobody = Awaiter::Outside(Nobody);
-    println!(rt; "{:?}", first.poll(&nobody))?;
-    println!(rt; "{:?}", second.poll(&nobody))
+    assert!(rt; matches!(first.poll(&nobody), Poll::Ready(Ok(Said::CameIn))));
+    assert!(rt; matches!(second.poll(&nobody), Poll::Ready(Ok(Said::CameIn))));
+    Ok(())
 }

@@ -1,7 +1,5 @@
 //! A thread pool: two workers run what is spawned until the pool is shut down. A worker that finds nothing to do lets others
 //! go first, and looks again.
-#![tactic(auto)]
-
 use async_executor::Executor;
 use async_task::{Future, Poll, Realm, Wake};
 use blocking::{ThreadWaker, block_on};
@@ -47,7 +45,8 @@ fn work<R: Wait + Copy + Drop + 'static>(
     polls
 }
 
-fn main(rt: HostRuntime) -> io::Result<()> {
+#[test]
+fn two_workers_do_a_hundred_jobs(rt: HostRuntime) -> io::Result<()> {
     let alloc = rt.alloc();
     let pool = Executor::new(rt, alloc, Realm::leak(rt, alloc)?, 100)?;
     let (mut tasks, _) = pool.spawn_many(&mut (1..=100).map(|last| Sum(last, 0)));
@@ -67,6 +66,6 @@ fn main(rt: HostRuntime) -> io::Result<()> {
     let one = || work(&rt, &pool, &is_shut_down);
     let two = || work(&rt, &pool, &is_shut_down);
     let (sum, (one, two)) = thread::join(&rt, client, || thread::join(&rt, one, two));
-    let polls = one.saturating_add(two);
-    println!(rt; "the sum of all jobs is {sum}, after {polls} polls by two workers")
+    assert!(rt; (sum == 171_700) & (one.saturating_add(two) == 5_150));
+    Ok(())
 }

@@ -1,6 +1,4 @@
 //! An actor: an account serves deposits. Its client sends to its mailbox, and waits for each reply in its own.
-#![tactic(auto)]
-
 use async_executor::{ExWaker, Executor};
 use async_task::{Future, Poll, Realm, Wake};
 use blocking::{ThreadWaker, block_on};
@@ -61,7 +59,8 @@ impl<R: Wait + Copy + Drop + 'static> Future<ExWaker<u64, ThreadWaker, R>> for A
     }
 }
 
-fn main(rt: HostRuntime) -> io::Result<()> {
+#[test]
+fn an_account_serves_a_hundred_deposits(rt: HostRuntime) -> io::Result<()> {
     let alloc = rt.alloc();
     let (client, account) = (leak_mailbox(alloc)?, leak_mailbox(alloc)?);
     let bank = Executor::new(rt, alloc, Realm::leak(rt, alloc)?, 1)?;
@@ -74,6 +73,6 @@ fn main(rt: HostRuntime) -> io::Result<()> {
     };
     let serve = || block_on(&rt, alloc, run).ok()?.ok()?.ok();
     let (balance, ()) = thread::join(&rt, serve, deposit);
-    let balance = balance.ok_or(AllocError)?;
-    println!(rt; "the balance after 100 deposits is {balance}")
+    assert!(rt; matches!(balance, Some(5_050)));
+    Ok(())
 }

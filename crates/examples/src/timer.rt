@@ -1,7 +1,5 @@
 //! A timer driver: a thread with a heap of deadlines that wakes tasks. Each sleeper waits at a door, a queue of one place for the
 //! waker that it left last, and the driver closes the door once the time has come.
-#![tactic(auto)]
-
 use async_executor::{ExWaker, Executor};
 use async_task::{Future, Poll, Realm, Wake};
 use blocking::{ThreadWaker, block_on};
@@ -40,7 +38,8 @@ impl<R: Wait + Copy + Drop + 'static> Future<ExWaker<(), ThreadWaker, R>> for Sl
     }
 }
 
-fn main(rt: HostRuntime) -> io::Result<()> {
+#[test]
+fn three_tasks_sleep_until_they_are_woken(rt: HostRuntime) -> io::Result<()> {
     let alloc = rt.alloc();
     let (mut doors, mut deadlines) = (Vec::new(alloc), BinaryHeap::new(alloc));
     for (number, millis) in [30, 10, 20].into_iter().enumerate() {
@@ -74,5 +73,6 @@ fn main(rt: HostRuntime) -> io::Result<()> {
         }
     };
     let ((), woken) = thread::join(&rt, drive, run);
-    println!(rt; "{woken} tasks slept until they were woken")
+    assert!(rt; woken == 3);
+    Ok(())
 }

@@ -1,7 +1,5 @@
 //! A pipeline on two threads: three stages that double numbers and hand them on through bounded queues. A stage that finds
 //! its queue full or empty wakes itself and answers Pending, so that the others get on.
-#![tactic(auto)]
-
 ghost use Rattle.std.specs.Prelude.{◌<◌};
 
 use async_executor::Executor;
@@ -52,7 +50,8 @@ fn belt(alloc: Global, places: usize) -> io::Result<Belt>
     Ok(Box::leak(Box::new(alloc, queue)?))
 }
 
-fn main(rt: HostRuntime) -> io::Result<()> {
+#[test]
+fn three_stages_double_a_thousand_numbers(rt: HostRuntime) -> io::Result<()> {
     let (alloc, realm) = (rt.alloc(), Realm::leak(rt, rt.alloc())?);
     let (source, end) = (belt(alloc, 1_000)?, belt(alloc, 1_000)?);
     let (first, second) = (belt(alloc, 4)?, belt(alloc, 4)?);
@@ -75,5 +74,6 @@ fn main(rt: HostRuntime) -> io::Result<()> {
     let other = || block_on(&rt, alloc, two);
     let _ = thread::join(&rt, other, || block_on(&rt, alloc, three));
     let sum = end.try_iter(&rt).fold(0, u64::saturating_add);
-    println!(rt; "1000 numbers, doubled by each of three stages: {sum}")
+    assert!(rt; sum == 4_004_000);
+    Ok(())
 }

@@ -1,10 +1,9 @@
-//! A program to start from: a future on a queue, which adds the numbers from `left` down to 1, one a poll.
-#![tactic(auto)]
-
+//! A future on a queue of tasks, with its handle.
 use async_task::{Awaiter, Future, Nobody, Poll, Realm, Wake};
 use ready_queue::{Places, ReadyQueue};
 use std::io;
 
+/// A future that adds the numbers from `left` down to 1, one a poll.
 #[derive(Drop)]
 struct Sum {
     left: u64,
@@ -25,10 +24,13 @@ impl<K: Wake> Future<K> for Sum {
     }
 }
 
-fn main(rt: HostRuntime) -> io::Result<()> {
+#[test]
+fn a_future_runs_on_a_queue(rt: HostRuntime) -> io::Result<()> {
     let (realm, places) = (Realm::leak(rt, rt.alloc())?, Places::leak(rt.alloc(), 8)?);
     let queue = ReadyQueue::new(rt, realm, places);
     let mut task = queue.spawn(Sum { left: 4, sum: 0 })?;
     queue.run();
-    println!(rt; "{:?}", task.poll(&Awaiter::Outside(Nobody)))
+    let polled = task.poll(&Awaiter::Outside(Nobody));
+    assert!(rt; matches!(polled, Poll::Ready(Ok(10))));
+    Ok(())
 }

@@ -152,12 +152,15 @@ fn looked<R: Wait>(
     otherwise: Looked,
 ) -> (Handle, Looked, Option<u64>) {
     let Polled { task, output } = polled;
-    let looked = match paid(output) {
-        Some(output) => Looked::Output(output),
-        None => otherwise,
-    };
     let (task, called) = call(rt, task);
-    (task, looked, called)
+    match output {
+        Some(output) => {
+            let mut place = TaskPlace::of(task);
+            let output = place.give(output);
+            (place.open(), Looked::Output(output), called)
+        }
+        None => (task, otherwise, called),
+    }
 }
 
 /// What a poll's waker came to.

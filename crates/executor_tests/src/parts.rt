@@ -335,7 +335,7 @@ impl Meddler {
         };
         match deed {
             Deed::Await(_) => return self.awaits(task, notes, waker),
-            Deed::Detach(_) => task.detach(),
+            Deed::Detach(_) => drop(task.detach()),
             Deed::Drop(_) => drop(task),
         }
         true

@@ -4,7 +4,7 @@ use crate::acts::{Looked, Outcome, Place, Ran};
 use std::sync::Wait;
 use task_word::tokens::{
     Debt, Found, Left, OwingRun, OwingTask, PastRun, Polled, ReadyRun, Registered, RegisteredTask,
-    Run, Runnable, Task, Trace,
+    Run, Runnable, Task, TaskPlace, Trace,
 };
 
 pub type Handle = Task<u64, u64, u64>;

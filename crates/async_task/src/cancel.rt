@@ -95,7 +95,7 @@ where
         ensures cancelled { self.new.is_cancelled ≡ true }
         ensures same { self.new.cell ≡ self.old.cell }
         ensures found { FoundAt self.old.cell.board.shared self.new.claim (found_if_any result) }
-        ensures given { self.new.given ≡ (self.old.given || gives (found_if_any result)) }
+        ensures given { self.new.given ≡ (gives (found_if_any result) || self.old.given) }
     {
         if let Some(duty) = self.duty.take() {
             let token = self.held.cancel(self.handle.take(), duty);

@@ -113,7 +113,7 @@ where
         ensures task { task_of self.new ≡ task_of self.old }
         ensures same { self.new.cell ≡ self.old.cell }
         ensures found { FoundAt self.old.cell.board.shared self.new.claim (found_if_any result) }
-        ensures given { self.new.given ≡ (self.old.given || gives (found_if_any result)) }
+        ensures given { self.new.given ≡ (gives (found_if_any result) || self.old.given) }
     {
         found(poll(&self.held, &mut self.handle, waker))
     }

@@ -43,7 +43,7 @@ where
     ensures there { IsThere place.new.cell.now.board.shared place.new.claim }
     ensures same { place.new.cell.now ≡ place.old.cell.now }
     ensures found { FoundAt place.old.cell.now.board.shared place.new.claim result }
-    ensures given { place.new.given ≡ (place.old.given || gives result) }
+    ensures given { place.new.given ≡ (gives result || place.old.given) }
 {
     let (token, found) = looked(held, place.take(), waker);
     place.put(token);

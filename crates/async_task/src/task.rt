@@ -148,7 +148,7 @@ where
         ensures task { task_of self.new ≡ task_of self.old }
         ensures same { self.new.cell ≡ self.old.cell }
         ensures found { FoundAt self.old.cell.board.shared self.new.claim (found_in result) }
-        ensures given { self.new.given ≡ (self.old.given || gives (found_in result)) }
+        ensures given { self.new.given ≡ (gives (found_in result) || self.old.given) }
     {
         answer(poll(&self.held, &mut self.handle, waker))
     }

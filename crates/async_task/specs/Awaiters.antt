@@ -1,5 +1,5 @@
 -- The wakers of the one type that futures are polled with: whose one is, and when two wake the same.
-use Rattle.std.specs.Prelude.{◌≡◌, ◌↔◌, Bool, true, false, Option, Some, None, IsTrue, ⊤}
+use Rattle.std.specs.Prelude.{◌≡◌, ◌↔◌, Bool, true, false, Option, Some, None, IsTrue}
 use Rattle.async_task.specs.Handles.{Handle}
 use Rattle.async_task.specs.declared.cell.Identity.{Identity}
 use Rattle.async_task.specs.declared.waker.Awaiter.{Awaiter}
@@ -18,11 +18,17 @@ module _ {F T S M W R : Type 0} where
   identity_of (Lent waker) = Some waker.identity
   identity_of (Outside waker) = None
 
-  -- it is the waker that a poll is lent
-  abbrev pub IsLent : Awaiter F T S M W R → Type 0
-  IsLent (Task waker) = ⊥
-  IsLent (Lent waker) = ⊤
-  IsLent (Outside waker) = ⊥
+  -- whether it is a waker that a poll is lent
+  abbrev pub is_lent : Awaiter F T S M W R → Bool
+  is_lent (Task waker) = false
+  is_lent (Lent waker) = true
+  is_lent (Outside waker) = false
+
+  -- it is this waker of a task
+  abbrev pub IsTaskS : Handle M → Awaiter F T S M W R → Type 0
+  IsTaskS task (Task waker) = waker ≡ task
+  IsTaskS task (Lent waker) = ⊥
+  IsTaskS task (Outside waker) = ⊥
 
   -- it is lent to a poll of the task of this handle
   abbrev pub IsLentBy : Awaiter F T S M W R → Handle M → Type 0

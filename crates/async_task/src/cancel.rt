@@ -69,7 +69,7 @@ where
         requires { IsThere handle.cell.now.board.shared handle.claim }
         ensures task { result.task ≡ held }
         ensures open { result.is_cancelled ≡ false }
-        ensures given { result.given ≡ handle.given }
+        ensures given { result.given ≡ handle.entry.given }
     {
         Cancel {
             held,

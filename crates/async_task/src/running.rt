@@ -1,5 +1,5 @@
-ghost use Rattle.std.specs.Prelude.{◌≡◌};
-ghost use Rattle.async_task.specs.Awaiters.{IsLent};
+ghost use Rattle.std.specs.Prelude.{◌≡◌, true};
+ghost use Rattle.async_task.specs.Awaiters.{is_lent};
 
 use crate::cell::{Kept, Remains, Scheduled, paid};
 use crate::poll::{Future, Poll};
@@ -24,7 +24,7 @@ where
 {
     pub(crate) waker: Awaiter<F, T, S, M, W, R>,
     pub(crate) run: ReadyRun<F, T, Kept<W>>,
-    ghost is_lent: { IsLent waker },
+    ghost lent: { is_lent waker ≡ true },
 }
 
 impl<F, T, S, M, W, R> Running<F, T, S, M, W, R>

@@ -1,4 +1,5 @@
-ghost use Rattle.std.specs.Prelude.{◌≡◌, ◌↔◌, IsTrue, IfSome};
+ghost use Rattle.std.specs.Prelude.{◌≡◌, ◌↔◌, IsTrue, IfSome, MatchOption, None};
+ghost use Rattle.async_task.specs.Awaiters.{IsTaskS};
 
 use crate::cell::{Held, Identity, Realm, Scheduled, StoredWaker, WakerToken};
 use crate::lent::LentWaker;
@@ -196,8 +197,8 @@ where
     W: Wake + Drop + 'static,
     R: Wait + Copy + Drop,
 {
-    ghost use Rattle.std.specs.Prelude.{IsTrue, IfSome};
-    ghost use Rattle.async_task.specs.Awaiters.{WakeTheSame, Tells, IsLent};
+    ghost use Rattle.std.specs.Prelude.{◌≡◌, false, IsTrue, IfSome};
+    ghost use Rattle.async_task.specs.Awaiters.{WakeTheSame, Tells, is_lent};
 
     ghost is_same = { λ a b. WakeTheSame W.is_same a b };
 
@@ -220,12 +221,15 @@ where
     /// One that is kept: of a task it has a reference.
     fn clone(&self) -> Option<Self>
         ensures same { IfSome result (λ copy. WakeTheSame W.is_same copy self.now) }
-        ensures kept { IfSome result (λ copy. IsLent copy → ⊥) }
+        ensures kept { IfSome result (λ copy. is_lent copy ≡ false) }
     {
         match self {
-            Awaiter::Task(waker) => waker.clone().map(Awaiter::Task),
-            Awaiter::Lent(waker) => waker.to_waker().map(Awaiter::Task),
-            Awaiter::Outside(waker) => waker.clone().map(Awaiter::Outside),
+            Awaiter::Task(waker) => of_task(waker.clone()),
+            Awaiter::Lent(waker) => of_task(waker.to_waker()),
+            Awaiter::Outside(waker) => match waker.clone() {
+                Some(copy) => Some(Awaiter::Outside(copy)),
+                None => None,
+            },
         }
     }
 
@@ -243,5 +247,24 @@ where
             (Awaiter::Lent(one), Awaiter::Lent(other)) => one.held.is_of(&other.held),
             _ => false,
         }
+    }
+}
+
+/// The waker of a task, as an awaiter.
+fn of_task<F, T, S, M, W, R>(
+    waker: Option<TaskWaker<F, T, S, M, W, R>>,
+) -> Option<Awaiter<F, T, S, M, W, R>>
+where
+    F: Drop + 'static,
+    T: Drop + 'static,
+    S: Schedule<Scheduled<F, T, S, M, W, R>> + Drop + 'static,
+    M: Copy + Drop + 'static,
+    W: Wake + Drop + 'static,
+    R: Wait + Copy + Drop,
+    ensures { MatchOption waker (result ≡ None) (λ waker. IfSome result (IsTaskS waker)) }
+{
+    match waker {
+        Some(waker) => Some(Awaiter::Task(waker)),
+        None => None,
     }
 }

@@ -54,6 +54,10 @@ impl<W: Wake + Drop + 'static> SleeperWaker<W> {
                 Some(copy) => Some(SleeperWaker::Task(Returning::new(copy.store()))),
                 None => None,
             },
+            Awaiter::Lent(waker) => match waker.to_waker() {
+                Some(copy) => Some(SleeperWaker::Task(Returning::new(copy.store()))),
+                None => None,
+            },
             Awaiter::Outside(waker) => match waker.clone() {
                 Some(copy) => Some(SleeperWaker::Outside(copy)),
                 None => None,

@@ -1,7 +1,7 @@
 -- How far a call on the executor is.
 use Rattle.std.specs.Prelude.{◌≡◌, Bool, true, false, Option, Some, None}
 use Rattle.async_executor.specs.declared.call.Ending.{Ending}
-use Rattle.async_executor.specs.declared.call.Ending.TheVariants.{Ran, Lies, Called, Refused}
+use Rattle.async_executor.specs.declared.call.Ending.TheVariants.{Ran, Lies, Called, Refused, GaveWay}
 use Rattle.async_executor.specs.declared.ticker.Found.{Found}
 use Rattle.async_executor.specs.declared.ticker.Found.TheVariants.{Runnable, SearchAgain, Nothing, NoMemory}
 use Rattle.async_executor.specs.declared.ticker.Laid.{Laid}
@@ -33,6 +33,7 @@ IsPending Lies = Unit {0}
 IsPending Called = Unit {0}
 IsPending Ran = ⊥
 IsPending Refused = ⊥
+IsPending GaveWay = ⊥
 
 -- what was found is in hand, and a sleeper was told
 abbrev pub IsFound : Found → Type 0

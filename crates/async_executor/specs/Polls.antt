@@ -2,7 +2,7 @@
 use Rattle.std.specs.Prelude.{◌≡◌, ◌⊎◌, Bool, true, false, not, Option, Some, None, IsSome, Result, Ok, Err}
 use Rattle.async_executor.specs.Calls.{IsPending}
 use Rattle.async_executor.specs.declared.call.Ending.{Ending}
-use Rattle.async_executor.specs.declared.call.Ending.TheVariants.{Ran, Refused}
+use Rattle.async_executor.specs.declared.call.Ending.TheVariants.{Ran, Refused, GaveWay}
 use Rattle.async_executor.specs.declared.call.Polled.{Polled}
 use Rattle.async_executor.specs.declared.errors.RunError.{RunError}
 use Rattle.async_executor.specs.declared.errors.RunError.TheVariants.{NoMemory, Finished}
@@ -26,9 +26,9 @@ abbrev pub HasWaited : Option Ending → Type 0
 HasWaited (Some ending) = IsPending ending
 HasWaited None = ⊥
 
--- a call of this poll found nothing, or ran a task
+-- a call of this poll found nothing, or it let others go first
 abbrev pub HasWorked : Option Ending → Type 0
-HasWorked ending = HasWaited ending ⊎ (ending ≡ Some Ran)
+HasWorked ending = HasWaited ending ⊎ (ending ≡ Some GaveWay)
 
 -- what a tick's poll answers
 abbrev pub IsTickAnswer : {O E : Type 0} → Polled → Polled → Poll (Result O E) → Type 0

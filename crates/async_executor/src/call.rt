@@ -5,6 +5,10 @@ ghost use Rattle.async_executor.specs.Stages.{begun, given, in_hand, took, looke
 use std::marker::Model;
 use std::snapshot::Snapshot;
 
+mod counts;
+
+pub use counts::{Counts, OwesSteal};
+
 /// What a call on the executor has done, has in hand and owes. Only contracts read it, so it has no bytes. It has no drop: it
 /// ends with nothing in hand and nothing owed.
 #[must_use]
@@ -44,10 +48,13 @@ pub enum Ending {
     Called,
     /// Memory was wanted.
     Refused,
+    /// A run ran its 200th task since it last let others go first, and does so now.
+    GaveWay,
 }
 
-/// How a call of a tick or run ended, which that call alone can say. Only contracts read it.
-#[derive(Drop)]
+/// How a call of a tick or run ended, which that call alone can say. Only contracts read it. It has no drop: a poll ends by it,
+/// or it is counted.
+#[must_use]
 pub struct Last {
     ending: Ending,
 }

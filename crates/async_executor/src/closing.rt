@@ -1,6 +1,6 @@
 //! What was let go of a realm's tasks, and who owes that it is closed.
+use crate::entry::Unlocked;
 use crate::names::ExRealm;
-use crate::unlocked::Unlocked;
 use async_task::{Wake, close_returned};
 use std::sync::Wait;
 

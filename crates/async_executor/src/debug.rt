@@ -1,8 +1,8 @@
 //! What the text of an executor shows.
-use crate::executor::Executor;
+use crate::entry::{Executor, Unlocked};
+use crate::locks::ReadWrite;
 use crate::own_queues::OwnQueues;
 use crate::state::Queue;
-use crate::unlocked::{ReadWrite, Unlocked};
 use async_task::Wake;
 use std::alloc::Global;
 use std::fmt;
@@ -17,9 +17,9 @@ impl fmt::Debug for Locked {
     }
 }
 
-/// The lengths of the runs' own queues.
+/// The lengths of the runs' own queues, as a text shows them.
 #[derive(Drop)]
-struct LocalRunners<'a, R> {
+pub struct LocalRunners<'a, R> {
     rt: R,
     queues: &'a ReadWrite<OwnQueues<Arc<Queue, Global>>>,
 }
@@ -27,9 +27,8 @@ struct LocalRunners<'a, R> {
 impl<R: Wait> LocalRunners<'_, R> {
     /// The length of the queue at this place of the list, which is read with the lock taken for it alone: whoever writes the
     /// text may be a user's. Some(None) past the last, None where the lock isn't free.
-    fn length_at(&self, at: usize) -> Option<Option<usize>> {
-        let mut unlocked = Unlocked::at_entry();
-        match self.queues.try_read(&mut unlocked) {
+    pub(crate) fn length_in(&self, at: usize, unlocked: &mut Unlocked) -> Option<Option<usize>> {
+        match self.queues.try_read(unlocked) {
             Some(reading) => match reading.get().all().get(at) {
                 Some(listed) => Some(Some(listed.queue.len(&self.rt))),
                 None => Some(None),
@@ -63,22 +62,24 @@ impl<R: Wait> fmt::Debug for LocalRunners<'_, R> {
     }
 }
 
-/// How many futures have a waker in the table, how many tasks stand in the global queue, how many in each run's own, and how
-/// many ticks and runs sleep; `<locked>` for what stands under a lock that isn't free.
-impl<F, T, W, R> fmt::Debug for Executor<F, T, W, R>
+impl<F, T, W, R> Executor<F, T, W, R>
 where
     F: Drop,
     T: Drop + 'static,
     W: Wake + Drop + 'static,
     R: Wait + Copy + Drop + 'static,
 {
-    fn fmt<O: fmt::Write>(&self, f: &mut fmt::Formatter<O>) -> fmt::Result {
-        let mut unlocked = Unlocked::at_entry();
-        let active = match self.table.try_lock(&mut unlocked) {
+    /// Writes what it shows.
+    pub(crate) fn show<O: fmt::Write>(
+        &self,
+        f: &mut fmt::Formatter<O>,
+        unlocked: &mut Unlocked,
+    ) -> fmt::Result {
+        let active = match self.table.try_lock(unlocked) {
             Some(mut table) => Some(table.get().len()),
             None => None,
         };
-        let sleepers = match self.state.sleepers.try_lock(&mut unlocked) {
+        let sleepers = match self.state.sleepers.try_lock(unlocked) {
             Some(mut sleepers) => Some(sleepers.get().count()),
             None => None,
         };

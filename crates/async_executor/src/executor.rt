@@ -1,48 +1,27 @@
-ghost use Rattle.std.specs.Prelude.{◌≡◌, ◌<◌, ◌≤◌, [], true, Some, IfOk, IfErr, length};
+ghost use Rattle.std.specs.Prelude.{◌≡◌, ◌<◌, ◌≤◌, [], true, Some, IfOk, IfErr};
 ghost use Rattle.std.specs.VecDeque.{deque_capacity};
-ghost use Rattle.std.specs.Iterator.{IsFinite};
 ghost use Rattle.std.specs.Arc.{arc_value};
 ghost use Rattle.async_executor.specs.Errors.{refused};
-ghost use Rattle.async_executor.specs.Spawning.{SpawnsMany};
 ghost use Rattle.async_executor.specs.Stages.{given, closing};
 
-use crate::call::Call;
+use crate::call::{Call, Polled};
 use crate::closing::ClosesReturned;
 use crate::due::{pay, share};
+use crate::entry::{Executor, Unlocked};
 use crate::errors::SpawnError;
 use crate::foreign::Foreign;
-use crate::handles::Handles;
 use crate::leaving::Leaving;
+use crate::locks::Guarded;
 use crate::names::{ExRealm, ExRunnable, ExTask, ExWaker};
 use crate::queue::ExQueue;
 use crate::sections;
 use crate::spawning::accept;
 use crate::state::{State, close};
-use crate::unlocked::{Guarded, Unlocked};
 use async_task::{Future, NoMemory, Returning, StoredWaker, Wake};
 use executor_parts::Places;
 use std::alloc::Global;
 use std::collections::VecDeque;
 use std::sync::{Arc, Wait};
-
-/// An executor of futures `F`, whose outputs are `T`.
-pub struct Executor<F, T, W, R>
-where
-    F: Drop,
-    T: Drop + 'static,
-    W: Wake + Drop + 'static,
-    R: Wait + Copy + Drop + 'static,
-{
-    pub(crate) realm: &'static ExRealm<T, W, R>,
-    pub(crate) state: Arc<State<W>, Global>,
-    pub(crate) table: Guarded<Places<F, Returning<StoredWaker>>>,
-    /// Empty: room for the wakers that the executor's drop takes out of the table.
-    pub(crate) leaving: VecDeque<Returning<StoredWaker>>,
-    /// What was let go of tasks in its realm is to be closed.
-    pub(crate) returned: ClosesReturned,
-    pub(crate) rt: R,
-    pub(crate) alloc: Global,
-}
 
 impl<F, T, W, R> Executor<F, T, W, R>
 where
@@ -104,29 +83,30 @@ where
         }
     }
 
-    /// Whether each future that was accepted is dropped. It takes no memory.
-    pub fn is_empty(&self) -> bool {
-        let mut unlocked = Unlocked::at_entry();
-        sections::is_empty(self.table.lock(&self.rt, &mut unlocked).get())
+    /// Whether each future that was accepted is dropped.
+    pub(crate) fn has_none(&self, unlocked: &mut Unlocked) -> bool {
+        sections::is_empty(self.table.lock(&self.rt, unlocked).get())
     }
 
-    /// Hands the executor a future. Its task is queued, and the handle is answered: a future with the output, whose drop
-    /// cancels the task.
+    /// Accepts a future and queues its task, or refuses it.
     ///
     /// 1. Closes what was let go of tasks in its realm.
     /// 2. Under the table's lock: accepts the future, or refuses it. `Full` where as many accepted futures as the
     ///    limit are not dropped yet, and only then want of memory for the task. The future comes back.
     /// 3. Once the lock is given back: hands the Runnable to the queue, and tells a sleeper.
-    pub fn spawn(&self, future: F) -> Result<ExTask<T, W, R>, SpawnError<F>>
+    pub(crate) fn hand_in(
+        &self,
+        future: F,
+        unlocked: &mut Unlocked,
+    ) -> Result<ExTask<T, W, R>, SpawnError<F>>
         ensures future { IfErr result (λ error. refused error ≡ future) }
         ensures here { IfOk result (λ task. task.identity.realm ≡ self.now.realm.now.number) }
     {
-        let mut unlocked = Unlocked::at_entry();
-        let closed = self.returned.close(self.rt, self.realm, &unlocked);
+        let closed = self.returned.close(self.rt, self.realm, unlocked);
         let schedule = ExQueue::new(self.rt, share(self.rt, &self.state));
         let mut call = Call::begin();
         let accepted = accept(
-            self.table.lock(&self.rt, &mut unlocked).get(),
+            self.table.lock(&self.rt, unlocked).get(),
             self.rt,
             self.realm,
             &mut call,
@@ -136,7 +116,7 @@ where
         );
         match accepted {
             Ok((runnable, task)) => {
-                self.queue(call, runnable, &mut unlocked);
+                self.queue(call, runnable, unlocked);
                 Ok(task)
             }
             Err(refused) => {
@@ -146,21 +126,19 @@ where
         }
     }
 
-    /// Runs one task, where one is queued, and says whether it did. It doesn't wait for one, and takes no memory.
+    /// Runs one task, where one is queued, and says whether it did.
     ///
     /// 1. Takes a Runnable from the queue. Where there is none: false.
     /// 2. Tells a sleeper, since there may be more.
     /// 3. Runs it: true.
-    pub fn try_tick(&self) -> bool {
-        let mut unlocked = Unlocked::at_entry();
+    pub(crate) fn run_one(&self, unlocked: &mut Unlocked) -> bool {
         let mut call = Call::begin();
         match self.state.take(&self.rt, &mut call) {
             Some(stored) => {
-                let due = self
-                    .state
-                    .notify(self.rt, self.realm, &mut call, &mut unlocked);
-                pay(self.rt, due, &mut unlocked);
-                let _ = self.poll_or_drop(stored, call, &mut unlocked);
+                let due = self.state.notify(self.rt, self.realm, &mut call, unlocked);
+                pay(self.rt, due, unlocked);
+                let last = self.poll_or_drop(stored, call, unlocked);
+                Polled::never().end(last);
                 true
             }
             None => {
@@ -180,41 +158,37 @@ where
     }
 }
 
-impl<F, T, W, R> Drop for Executor<F, T, W, R>
+/// An executor ends.
+///
+/// 1. Takes all futures and wakers out of the table, and drops each future, in the order of acceptance.
+/// 2. Wakes each waker, in that order: each task is queued, or was before.
+/// 3. Closes the queue.
+/// 4. Takes from the queue until nothing is left, and drops each Runnable: each task is closed, and who awaits it is called. A
+///    Runnable that a wake in progress still has comes back from the closed queue, and is dropped there.
+/// 5. Closes what was let go of tasks in its realm.
+pub fn end<F, T, W, R>(
+    rt: R,
+    realm: &'static ExRealm<T, W, R>,
+    state: Arc<State<W>, Global>,
+    table: Places<F, Returning<StoredWaker>>,
+    leaving: Leaving,
+    returned: ClosesReturned,
+    unlocked: &mut Unlocked,
+)
 where
     F: Drop,
     T: Drop + 'static,
     W: Wake + Drop + 'static,
     R: Wait + Copy + Drop + 'static,
 {
-    /// 1. Takes all futures and wakers out of the table, and drops each future, in the order of acceptance.
-    /// 2. Wakes each waker, in that order: each task is queued, or was before.
-    /// 3. Closes the queue.
-    /// 4. Takes from the queue until nothing is left, and drops each Runnable: each task is closed, and who awaits it is
-    ///    called. A Runnable that a wake in progress still has comes back from the closed queue, and is dropped there.
-    /// 5. Closes what was let go of tasks in its realm.
-    ///
-    /// It takes no memory.
-    fn drop(self) {
-        let Executor {
-            realm,
-            state,
-            table,
-            leaving,
-            returned,
-            rt,
-            alloc: _,
-        } = self;
-        let mut unlocked = Unlocked::at_entry();
-        let mut leaving = Leaving::of(leaving);
-        drop_futures(rt, realm, table.into_inner(), &mut leaving, &mut unlocked);
-        leaving.wake_all(rt, realm, &mut unlocked);
-        leaving.end();
-        let mut call = Call::begin();
-        state.close(&rt, &mut call);
-        drain(rt, realm, &state, call, &mut unlocked);
-        returned.end(rt, realm, &unlocked);
-    }
+    let mut leaving = leaving;
+    drop_futures(rt, realm, table, &mut leaving, unlocked);
+    leaving.wake_all(rt, realm, unlocked);
+    leaving.end();
+    let mut call = Call::begin();
+    state.close(&rt, &mut call);
+    drain(rt, realm, &state, call, unlocked);
+    returned.end(rt, realm, unlocked);
 }
 
 /// Drops each Runnable that is left in the executor's queue, which is closed.
@@ -270,40 +244,5 @@ where
             let due = waker.wake(rt, realm);
             pay(rt, due, unlocked);
         }
-    }
-}
-
-impl<F, T, W, R> Executor<F, T, W, R>
-where
-    F: Future<ExWaker<T, W, R>, Output = T> + Drop,
-    T: Drop + 'static,
-    W: Wake + Drop + 'static,
-    R: Wait + Copy + Drop + 'static,
-{
-    /// Hands the executor one future after the other, until the iterator ends or one is refused. The handles of those that
-    /// were accepted are answered, in order, and the refused future with the cause; the rest stays in the iterator. The room
-    /// for a handle is asked for before its future is spawned.
-    pub fn spawn_many<I: Iterator<Item = F>>(
-        &self,
-        futures: &mut I,
-    ) -> (Handles<T, W, R>, Result<(), SpawnError<F>>)
-        requires { I.can_next futures.old × IsFinite (I.remaining futures.old) }
-        ensures taken { SpawnsMany I.next_gives futures.old futures.new (length result.0.tasks) result.1 }
-        ensures here { result.0.realm ≡ self.now.realm.now.number }
-    {
-        let mut handles = Handles::new(self.rt, self.alloc, self.realm);
-        for _ in self.rt.forever() {
-            let Some(future) = futures.next() else {
-                return (handles, Ok(()));
-            };
-            if handles.reserve().is_err() {
-                return (handles, Err(SpawnError::NoMemory(future)));
-            }
-            match self.spawn(future) {
-                Ok(task) => handles.push_back(task),
-                Err(refused) => return (handles, Err(refused)),
-            }
-        }
-        unreachable!()
     }
 }

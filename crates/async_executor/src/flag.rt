@@ -2,32 +2,28 @@
 ghost use Rattle.std.specs.Prelude.{◌≡◌};
 ghost use Rattle.executor_parts.specs.Sleepers.{flag_of};
 
+use crossbeam_utils::atomic::AtomicCell;
 use executor_parts::Sleepers;
-use std::sync::atomic::{AtomicBool, Ordering};
 
-/// Whether a tick or run that sleeps has been told, or none sleeps. Each access is one call here, and in the one order of all
-/// of them.
+/// Whether a tick or run that sleeps has been told, or none sleeps. Each access is one call here. The word's type takes no
+/// ordering, so none can be named: each step of it is in the one order of all of them.
 #[derive(Drop)]
 pub struct Flag {
-    word: AtomicBool,
+    word: AtomicCell<bool>,
 }
 
 impl Flag {
     /// Of an executor where nobody sleeps.
     pub fn new() -> Flag {
         Flag {
-            word: AtomicBool::new(true),
+            word: AtomicCell::new(true),
         }
     }
 
     /// Exchanges it from false to true, and says whether it was false. It is read first: one that reads true is as an exchange
     /// that fails, and leaves its cache line to all threads.
     pub fn exchange(&self) -> bool {
-        !self.word.load(Ordering::SeqCst)
-            && self
-                .word
-                .compare_exchange(false, true, Ordering::SeqCst, Ordering::SeqCst)
-                .is_ok()
+        !self.word.load() && self.word.compare_exchange(false, true).is_ok()
     }
 
     /// Stores what the list of sleepers says, which is lent for as long as their lock is held.
@@ -35,6 +31,6 @@ impl Flag {
         requires { notified ≡ flag_of sleepers.now }
     {
         let _ = sleepers;
-        self.word.store(notified, Ordering::SeqCst);
+        self.word.store(notified);
     }
 }

@@ -2,9 +2,9 @@
 ghost use Rattle.std.specs.Prelude.{◌≡◌};
 ghost use Rattle.async_executor.specs.Foreign.{value_of};
 
+use crate::entry::Unlocked;
 use crate::names::{ExDue, ExRealm, ExWaker};
 use crate::sleeping::SleeperWaker;
-use crate::unlocked::Unlocked;
 use async_task::{Future, Poll, Wake};
 use std::sync::Wait;
 

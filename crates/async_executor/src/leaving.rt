@@ -2,8 +2,8 @@
 ghost use Rattle.std.specs.Prelude.{◌≡◌, [], ◌∷◌, ◌++◌, drop as list_drop, slice_get, OnOk, IfErr, None};
 
 use crate::due::pay;
+use crate::entry::Unlocked;
 use crate::names::ExRealm;
-use crate::unlocked::Unlocked;
 use async_task::{Returning, StoredWaker, Wake};
 use std::collections::VecDeque;
 use std::sync::Wait;

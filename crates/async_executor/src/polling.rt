@@ -5,13 +5,13 @@ ghost use Rattle.async_executor.specs.Stages.{in_hand};
 
 use crate::call::{Call, Ending, Last};
 use crate::due::pay;
-use crate::executor::Executor;
-use crate::names::{ExClosing, ExRunning, ExWaker};
+use crate::entry::{Executor, Unlocked};
+use crate::names::ExWaker;
 use crate::sections;
 use crate::sections::Taken;
 use crate::state::redeem;
-use crate::unlocked::Unlocked;
-use async_task::{Back, Future, Poll, RunEnd, Started, StoredRunnable, Wake};
+use crate::task_run::{Begun, Dropping, Polling, begin};
+use async_task::{Back, Future, Poll, StoredRunnable, Wake};
 use executor_parts::Place;
 use std::sync::Wait;
 
@@ -37,28 +37,24 @@ where
             return call.end_missed();
         };
         let last = call.start();
-        match scheduled.into_runnable().start() {
-            Started::Poll(place, running) => self.poll(place, running, unlocked),
-            Started::Drop(place, closing) => self.drop_future(place, closing, unlocked),
+        match begin(scheduled) {
+            Begun::Poll(place, polling) => self.poll(place, polling, unlocked),
+            Begun::Drop(place, dropping) => self.drop_future(place, dropping, unlocked),
         }
         last
     }
 
-    fn poll(&self, place: Place, running: ExRunning<T, W, R>, unlocked: &mut Unlocked) {
+    fn poll(&self, place: Place, polling: Polling<T, W, R>, unlocked: &mut Unlocked) {
         let taken = sections::take(self.table.lock(&self.rt, unlocked).get(), place);
         let back = match taken {
-            Some(taken) => match self.poll_future(place, taken, &running, unlocked) {
+            Some(taken) => match self.poll_future(place, taken, &polling, unlocked) {
                 Poll::Ready(output) => Back::Ready(output),
                 Poll::Pending => Back::Pending(place),
             },
             None => Back::Pending(place),
         };
-        match running.settle(back) {
-            RunEnd::Over => {}
-            RunEnd::Pause(pause) => {
-                pause.finish();
-            }
-            RunEnd::Drop(place, closing) => self.drop_future(place, closing, unlocked),
+        if let Some((place, dropping)) = polling.settle(back, unlocked) {
+            self.drop_future(place, dropping, unlocked);
         }
     }
 
@@ -67,13 +63,13 @@ where
         &self,
         place: Place,
         taken: Taken<F>,
-        running: &ExRunning<T, W, R>,
+        polling: &Polling<T, W, R>,
         unlocked: &mut Unlocked,
     ) -> Poll<T>
         requires { taken.place ≡ place }
     {
         let mut taken = taken;
-        match taken.poll(running.waker(), unlocked) {
+        match taken.poll(polling.waker(), unlocked) {
             Poll::Ready(output) => {
                 taken.let_go(unlocked);
                 self.leave(place, unlocked);
@@ -92,13 +88,13 @@ where
         }
     }
 
-    fn drop_future(&self, place: Place, closing: ExClosing<T, W, R>, unlocked: &mut Unlocked) {
+    fn drop_future(&self, place: Place, dropping: Dropping<T, W, R>, unlocked: &mut Unlocked) {
         let taken = sections::take(self.table.lock(&self.rt, unlocked).get(), place);
         if let Some(taken) = taken {
             taken.let_go(unlocked);
         }
         self.leave(place, unlocked);
-        closing.finish();
+        dropping.finish(unlocked);
     }
 
     fn leave(&self, place: Place, unlocked: &mut Unlocked) {

@@ -1,48 +1,23 @@
-ghost use Rattle.std.specs.Prelude.{◌≡◌};
+ghost use Rattle.std.specs.Prelude.{◌≡◌, ◌+◌, ◌==◌, is_some, IfSome};
 ghost use Rattle.async_executor.specs.Calls.{IsFoundAtLast};
+ghost use Rattle.async_executor.specs.Counted.{one_more};
+ghost use Rattle.async_executor.specs.Counting.{GoesOn};
 ghost use Rattle.async_executor.specs.Polls.{has_left, HasLeft, IsRunAnswer, IsTasksAnswer};
+ghost use Rattle.async_executor.specs.Stages.{in_hand};
 
-use crate::call::{Call, Polled};
+use crate::call::{Call, Counts, Ending, Last, Polled};
+use crate::entry::{Executor, Run, Unlocked};
 use crate::errors::RunError;
-use crate::executor::Executor;
 use crate::foreign::Foreign;
 use crate::names::ExWaker;
 use crate::runner::Runner;
 use crate::sleeping::call_waker;
 use crate::ticker::{Found, Ticker};
-use crate::unlocked::Unlocked;
-use async_task::{Future, Poll, Wake};
+use async_task::{Future, Poll, StoredRunnable, Wake};
 use std::mem;
 use std::sync::Wait;
 
-/// How many tasks one poll of a run takes at most.
-const TASKS_OF_ONE_POLL: u64 = 200;
-
-/// Runs the executor's futures until a future of its own is ready: a future with that one's output. Its drop gives back to
-/// the executor what it had taken to itself.
-///
-/// It is made by `Executor::run`.
-#[must_use]
-pub struct Run<'a, F, T, W, R, G>
-where
-    F: Drop,
-    T: Drop + 'static,
-    W: Wake + Drop + 'static,
-    R: Wait + Copy + Drop + 'static,
-    G: Drop,
-{
-    pub(crate) executor: &'a Executor<F, T, W, R>,
-    /// The future that it runs for, until that is ready.
-    pub(crate) future: Option<Foreign<G>>,
-    pub(crate) runner: Runner,
-    pub(crate) ticker: Ticker,
-    /// How its last poll ended, if that took tasks.
-    pub(crate) polled: Polled,
-    /// How many tasks it has taken since it last let others go first.
-    pub(crate) taken: u64,
-}
-
-impl<F, T, W, R, G> Future<ExWaker<T, W, R>> for Run<'_, F, T, W, R, G>
+impl<F, T, W, R, G> Run<'_, F, T, W, R, G>
 where
     F: Future<ExWaker<T, W, R>, Output = T> + Drop,
     T: Drop + 'static,
@@ -50,43 +25,45 @@ where
     R: Wait + Copy + Drop + 'static,
     G: Future<ExWaker<T, W, R>> + Drop,
 {
-    type Output = Result<G::Output, RunError>;
-
+    /// Polls its future, and then runs tasks.
+    ///
     /// 1. At the first poll, puts its own queue into the executor's list.
     /// 2. Polls its future. Where that is ready, the run leaves the executor, and is ready.
     /// 3. Takes tasks and runs each. Where there is none to take, it lies down and is pending.
     /// 4. After 200 tasks it wakes its own waker and is pending. A count that was interrupted goes on in the next poll.
-    fn poll(&mut self, waker: &ExWaker<T, W, R>) -> Poll<Result<G::Output, RunError>>
+    pub(crate) fn go_on(
+        &mut self,
+        waker: &ExWaker<T, W, R>,
+        unlocked: &mut Unlocked,
+    ) -> Poll<Result<G::Output, RunError>>
         ensures answer { IsRunAnswer self.old.future self.new.future self.old.polled self.new.polled result }
         ensures left { HasLeft self.new.runner.is_drained (has_left self.new.ticker) result }
+        ensures counted { GoesOn self.old.counts self.new.counts self.old.polled self.new.polled }
     {
         let Some(future) = &mut self.future else {
             return Poll::Ready(Err(RunError::Finished));
         };
         let executor = self.executor;
-        let mut unlocked = Unlocked::at_entry();
-        if let Err(last) = self
-            .runner
-            .begin(executor.rt, &executor.state, &mut unlocked)
-        {
+        if let Err(last) = self.runner.begin(executor.rt, &executor.state, unlocked) {
             self.polled.end(last);
             return Poll::Ready(Err(RunError::NoMemory));
         }
-        match future.poll(waker, &unlocked) {
+        match future.poll(waker, unlocked) {
             Poll::Ready(output) => {
                 if let Some(future) = mem::replace(&mut self.future, None) {
-                    future.let_go(&unlocked);
+                    future.let_go(unlocked);
                 }
-                self.runner.end(executor.rt, &executor.state, executor.realm, &mut unlocked);
+                self.runner
+                    .end(executor.rt, &executor.state, executor.realm, unlocked);
                 mem::replace(&mut self.ticker, Ticker::Left).leave(
                     executor.rt,
                     &executor.state,
                     executor.realm,
-                    &mut unlocked,
+                    unlocked,
                 );
                 Poll::Ready(Ok(output))
             }
-            Poll::Pending => self.take_tasks(waker, &mut unlocked),
+            Poll::Pending => self.take_tasks(waker, unlocked),
         }
     }
 }
@@ -107,17 +84,16 @@ where
     ) -> Poll<Result<G::Output, RunError>>
         ensures answer { IsTasksAnswer self.old.polled self.new.polled result }
         ensures future { self.new.future ≡ self.old.future }
+        ensures counted { GoesOn self.old.counts self.new.counts self.old.polled self.new.polled }
     {
-        let executor = self.executor;
-        let mut ran = None;
-        let first = self.taken.min(TASKS_OF_ONE_POLL - 1);
-        for _turn in first..TASKS_OF_ONE_POLL {
+        for _ in self.executor.rt.forever() {
             match self.find(waker, unlocked) {
                 Found::Runnable(runnable, call) => {
-                    self.runner
-                        .count(executor.rt, &executor.state, executor.realm, unlocked);
-                    self.taken = self.taken.saturating_add(1);
-                    ran = Some(executor.poll_or_drop(runnable, call, unlocked));
+                    if let Some(last) = self.run_task(runnable, call, unlocked) {
+                        self.polled.end(last);
+                        call_waker(waker, unlocked);
+                        return Poll::Pending;
+                    }
                 }
                 Found::Nothing(last) => {
                     self.polled.end(last);
@@ -130,12 +106,30 @@ where
                 Found::SearchAgain => unreachable!(),
             }
         }
-        if let Some(last) = ran {
-            self.polled.end(last);
+        unreachable!()
+    }
+
+    /// Counts the task in hand, and runs it. At each 64th it steals from the executor's queue before; after the 200th it lets
+    /// others go first, and the poll ends by the answer.
+    fn run_task(
+        &mut self,
+        runnable: StoredRunnable,
+        call: Call,
+        unlocked: &mut Unlocked,
+    ) -> Option<Last>
+        requires { call ≡ in_hand }
+        ensures counts { self.new.counts ≡ one_more self.old.counts }
+        ensures full { is_some result ≡ (self.old.counts.taken + 1 == 200) }
+        ensures ending { IfSome result (λ last. last ≡ Ending.GaveWay) }
+        ensures future { self.new.future ≡ self.old.future }
+        ensures polled { self.new.polled ≡ self.old.polled }
+    {
+        let executor = self.executor;
+        if let Some(owed) = self.counts.count() {
+            self.runner.pay(executor.rt, &executor.state, executor.realm, owed, unlocked);
         }
-        self.taken = 0;
-        call_waker(waker, unlocked);
-        Poll::Pending
+        let last = executor.poll_or_drop(runnable, call, unlocked);
+        self.counts.take(last)
     }
 
     /// Searches until a task is found, or the run lies down.
@@ -143,6 +137,7 @@ where
         ensures found { IsFoundAtLast result }
         ensures future { self.new.future ≡ self.old.future }
         ensures polled { self.new.polled ≡ self.old.polled }
+        ensures counts { self.new.counts ≡ self.old.counts }
     {
         let executor = self.executor;
         for _ in executor.rt.forever() {
@@ -171,7 +166,19 @@ where
     }
 }
 
-impl<F, T, W, R, G> Drop for Run<'_, F, T, W, R, G>
+/// A run ends.
+///
+/// 1. Drops its future.
+/// 2. Takes its own queue out of the executor's list, gives its room there back, and schedules each Runnable that is left in the
+///    queue, in order.
+/// 3. Leaves the sleepers, and gives its room there back.
+pub fn end<F, T, W, R, G>(
+    executor: &Executor<F, T, W, R>,
+    future: Option<Foreign<G>>,
+    runner: Runner,
+    ticker: Ticker,
+    unlocked: &mut Unlocked,
+)
 where
     F: Drop,
     T: Drop + 'static,
@@ -179,27 +186,11 @@ where
     R: Wait + Copy + Drop + 'static,
     G: Drop,
 {
-    /// 1. Drops its future.
-    /// 2. Takes its own queue out of the executor's list, gives its room there back, and schedules each Runnable that is left
-    ///    in the queue, in order.
-    /// 3. Leaves the sleepers, and gives its room there back.
-    ///
-    /// A run that was never polled only drops its future and gives its room back.
-    fn drop(self) {
-        let Run {
-            executor,
-            future,
-            mut runner,
-            ticker,
-            polled: _,
-            taken: _,
-        } = self;
-        let mut unlocked = Unlocked::at_entry();
-        if let Some(future) = future {
-            future.let_go(&unlocked);
-        }
-        runner.end(executor.rt, &executor.state, executor.realm, &mut unlocked);
-        runner.finish();
-        ticker.leave(executor.rt, &executor.state, executor.realm, &mut unlocked);
+    let mut runner = runner;
+    if let Some(future) = future {
+        future.let_go(unlocked);
     }
+    runner.end(executor.rt, &executor.state, executor.realm, unlocked);
+    runner.finish();
+    ticker.leave(executor.rt, &executor.state, executor.realm, unlocked);
 }

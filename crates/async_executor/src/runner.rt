@@ -1,27 +1,25 @@
 //! The own queue of a run, and how a run searches.
-ghost use Rattle.std.specs.Prelude.{◌≡◌, true, false, None, Some, IsSome, IfOk, IfErr, OnOk, is_some, is_err};
+ghost use Rattle.std.specs.Prelude.{◌≡◌, true, false, None, Some, IsSome, IfOk, IfErr, OnOk, is_some, is_err, length};
 ghost use Rattle.std.specs.Arc.{arc_value};
-ghost use Rattle.async_executor.specs.Seeds.{seeded};
+ghost use Rattle.async_executor.specs.Seeds.{seeded, words_after};
 ghost use Rattle.async_executor.specs.OwnQueues.{listed};
 ghost use Rattle.async_executor.specs.Stages.{idle, begun, took, looked};
 
-use crate::call::{Call, Ending, Last};
+use crate::call::{Call, Ending, Last, OwesSteal};
 use crate::due::{pay, share};
+use crate::entry::Unlocked;
 use crate::names::ExRealm;
-use crate::own_queues::{OwnQueues, RunRoom};
+use crate::own_queues::{Numbered, OwnQueues, RunRoom};
 use crate::state::{OWN_PLACES, Queue, State, take};
 use crate::steal::steal;
-use crate::unlocked::Unlocked;
+use crate::walks::Walk;
 use async_task::{GoesBack, NoMemory, StoredRunnable, Wake};
 use concurrent_queue::ConcurrentQueue;
-use rand_core::{Rng, SeedableRng};
+use rand_core::SeedableRng;
 use rand_xoshiro::Xoshiro256PlusPlus;
 use std::alloc::{AllocError, Global};
 use std::mem;
 use std::sync::{Arc, Wait};
-
-/// After how many tasks a run steals from the global queue before it runs the next.
-const TASKS_BETWEEN_STEALS: u64 = 64;
 
 /// What a run has of its own among the queues.
 pub struct Runner {
@@ -37,8 +35,6 @@ pub struct Runner {
     is_drained: bool,
     // Says at which queue each walk starts.
     words: Xoshiro256PlusPlus,
-    // How many tasks the run has taken in its life.
-    counted: u64,
 }
 
 impl Runner {
@@ -68,7 +64,6 @@ impl Runner {
                 is_listed: false,
                 is_drained: false,
                 words: Xoshiro256PlusPlus::seed_from_u64(seed),
-                counted: 0,
             }),
             Err(_) => Err(NoMemory),
         }
@@ -86,7 +81,6 @@ impl Runner {
             is_listed: _,
             is_drained: _,
             words: _,
-            counted: _,
         } = self;
         drop(own);
         match room {
@@ -191,12 +185,13 @@ impl Runner {
         found
     }
 
-    /// Counts a task. At every 64th that the run has counted in its life, it steals from the global queue.
-    pub fn count<T, W, R>(
+    /// Pays the look at the executor's queue that is owed: it steals from there.
+    pub fn pay<T, W, R>(
         &mut self,
         rt: R,
         state: &State<W>,
         realm: &'static ExRealm<T, W, R>,
+        owed: OwesSteal,
         unlocked: &mut Unlocked,
     )
     where
@@ -204,10 +199,8 @@ impl Runner {
         W: Wake + Drop + 'static,
         R: Wait + Copy + Drop + 'static,
     {
-        self.counted = self.counted.wrapping_add(1);
-        if self.counted % TASKS_BETWEEN_STEALS == 0 {
-            drop_refused(rt, realm, steal(&rt, &state.queue, &self.own), unlocked);
-        }
+        owed.pay();
+        drop_refused(rt, realm, steal(&rt, &state.queue, &self.own), unlocked);
     }
 
     /// The next Runnable of the run, or None where none was found.
@@ -257,13 +250,26 @@ impl Runner {
         ensures { call.new ≡ looked (is_some result.0) begun }
     {
         let reading = state.own_queues.read(rt, unlocked);
-        let queues = reading.get().all();
+        self.walk_round(rt, reading.get().all(), call)
+    }
+
+    /// The section of the list's lock in which a run walks round its queues. Of an empty list it reads no word.
+    fn walk_round<R: Wait>(
+        &mut self,
+        rt: &R,
+        queues: &[Numbered<Arc<Queue, Global>>],
+        call: &mut Call,
+    ) -> (Option<StoredRunnable>, Option<StoredRunnable>)
+        requires { call.old ≡ looked false begun }
+        ensures call { call.new ≡ looked (is_some result.0) begun }
+        ensures words { self.new.words ≡ words_after (length queues.now) self.old.words }
+    {
         if queues.is_empty() {
             return (None, None);
         }
-        let start = (self.words.next_u64() % queues.len() as u64) as usize;
+        let walk = Walk::begin(&mut self.words, queues.len());
         for step in 0..queues.len() {
-            let listed = &queues[(start + step) % queues.len()];
+            let listed = &queues[walk.place(step)];
             if listed.number == self.number {
                 continue;
             }

@@ -2,9 +2,9 @@ ghost use Rattle.std.specs.Prelude.{◌≡◌, IfSome, is_none};
 ghost use Rattle.async_executor.specs.Copies.{IsCopyOf};
 
 use crate::call::Call;
+use crate::entry::Unlocked;
 use crate::foreign::Foreign;
 use crate::names::{ExDue, ExRealm, ExWaker};
-use crate::unlocked::Unlocked;
 use async_task::{Awaiter, Returning, StoredWaker, Wake};
 use std::sync::Wait;
 
@@ -51,6 +51,10 @@ impl<W: Wake + Drop + 'static> SleeperWaker<W> {
     {
         match waker {
             Awaiter::Task(waker) => match waker.clone() {
+                Some(copy) => Some(SleeperWaker::Task(Returning::new(copy.store()))),
+                None => None,
+            },
+            Awaiter::Lent(waker) => match waker.to_waker() {
                 Some(copy) => Some(SleeperWaker::Task(Returning::new(copy.store()))),
                 None => None,
             },

@@ -6,13 +6,14 @@ ghost use Rattle.async_executor.specs.Foreign.{value_of};
 ghost use Rattle.async_executor.specs.Stages.{begun, took, looked};
 
 use crate::call::Call;
+use crate::entry::Unlocked;
 use crate::flag::Flag;
 use crate::foreign::{Foreign, came_out};
+use crate::locks::{Guarded, ReadWrite};
 use crate::names::{ExDue, ExRealm, ExScheduled};
 use crate::own_queues::OwnQueues;
 use crate::sleeping::SleeperWaker;
 use crate::ticker::Risen;
-use crate::unlocked::{Guarded, ReadWrite, Unlocked};
 use async_task::{GoesBack, NoMemory, Returning, StoredRunnable, Wake};
 use concurrent_queue::ConcurrentQueue;
 use executor_parts::Sleepers;

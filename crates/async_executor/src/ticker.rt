@@ -9,13 +9,13 @@ ghost use Rattle.async_executor.specs.Stages.{idle, begun, looked};
 
 use crate::call::{Call, Last};
 use crate::due::pay;
+use crate::entry::Unlocked;
 use crate::foreign::{Foreign, came_out};
 use crate::names::{ExRealm, ExWaker};
 use crate::sections::give_back;
 use crate::sleeping::{SleeperWaker, call_waker};
 use crate::state::State;
-use crate::unlocked::Unlocked;
-use async_task::{Awaiter, StoredRunnable, Wake};
+use async_task::{StoredRunnable, Wake};
 use executor_parts::{Again, Risen as Stood, Room, Sleeper, Sleepers, Slept, Unreserved};
 use std::mem;
 use std::sync::Wait;
@@ -388,8 +388,8 @@ where
     W: Wake + Drop + 'static,
     R: Wait + Copy + Drop + 'static,
 {
-    match waker {
-        Awaiter::Task(waker) => !waker.lies_in(realm),
-        Awaiter::Outside(_) => false,
+    match waker.identity() {
+        Some(identity) => identity.realm != realm.number(),
+        None => false,
     }
 }

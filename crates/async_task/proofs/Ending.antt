@@ -12,7 +12,7 @@ use Rattle.task_word.specs.declared.rule.View.{View}
 use Rattle.task_word.specs.declared.tokens.runs.ClosedRun.{ClosedRun}
 use Rattle.task_word.specs.Cell.{Slot}
 use Rattle.task_word.specs.Tokens.{ShowsSeat}
-use Rattle.async_task.specs.Awaiters.{IsOf}
+use Rattle.async_task.specs.Awaiters.{IsLentBy}
 use Rattle.async_task.specs.Rests.{was_woken_by}
 use Rattle.async_task.specs.Runs.{EndsRun, ClosesBy}
 use Rattle.async_task.specs.declared.cell.Kept.{Kept}
@@ -33,7 +33,7 @@ module _ {F T S M W R K P : Type 0} where
   -- a run whose task was closed meanwhile ends as its closing call, by the move that found that
   pub ends_closed : (board : Shared (Slot F T (Kept W)) View K P) (waker : Awaiter F T S M W R) (back : Back F T) (future dropped : F)
       (closing : Closing F T S M W R) (closed : ClosedRun F T (Kept W)) (owed : Owed) → back ≡ Pending future → dropped ≡ future
-      → IsOf waker closing.held → closing.closed ≡ Run closed → ShowsSeat board moves.end_pending owed closed.pass
+      → IsLentBy waker closing.held → closing.closed ≡ Run closed → ShowsSeat board moves.end_pending owed closed.pass
       → is_some owed.next ≡ true → is_some owed.future ≡ true → EndsRun board waker back (Drop dropped closing)
   ends_closed board waker back future dropped closing closed owed b d w c shows next out =
       subst (λ (x : Back F T). EndsRun board waker x (Drop dropped closing)) (sym b)

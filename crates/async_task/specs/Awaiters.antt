@@ -1,31 +1,54 @@
 -- The wakers of the one type that futures are polled with: whose one is, and when two wake the same.
-use Rattle.std.specs.Prelude.{◌≡◌, ◌↔◌, Bool, true, false, IsTrue}
-use Rattle.async_task.specs.Handles.{Handle, IsOfOneTask}
+use Rattle.std.specs.Prelude.{◌≡◌, ◌↔◌, Bool, true, false, Option, Some, None, IsTrue}
+use Rattle.async_task.specs.Handles.{Handle}
+use Rattle.async_task.specs.declared.cell.Identity.{Identity}
 use Rattle.async_task.specs.declared.waker.Awaiter.{Awaiter}
-use Rattle.async_task.specs.declared.waker.Awaiter.TheVariants.{Task, Outside}
+use Rattle.async_task.specs.declared.waker.Awaiter.TheVariants.{Task, Lent, Outside}
+
+-- both are there, and of one task
+abbrev pub AreOfOneTask : Option Identity → Option Identity → Type 0
+AreOfOneTask (Some a) (Some b) = a ≡ b
+AreOfOneTask (Some a) None = ⊥
+AreOfOneTask None b = ⊥
 
 module _ {F T S M W R : Type 0} where
-  -- whether it is a waker of a task
-  abbrev pub is_a_task_s : Awaiter F T S M W R → Bool
-  is_a_task_s (Task waker) = true
-  is_a_task_s (Outside waker) = false
+  -- which task it is a waker of, if of any
+  abbrev pub identity_of : Awaiter F T S M W R → Option Identity
+  identity_of (Task waker) = Some waker.identity
+  identity_of (Lent waker) = Some waker.identity
+  identity_of (Outside waker) = None
 
-  -- it is a waker of the task of this handle
-  abbrev pub IsOf : Awaiter F T S M W R → Handle M → Type 0
-  IsOf (Task waker) task = waker ≡ task
-  IsOf (Outside waker) task = ⊥
+  -- whether it is a waker that a poll is lent
+  abbrev pub is_lent : Awaiter F T S M W R → Bool
+  is_lent (Task waker) = false
+  is_lent (Lent waker) = true
+  is_lent (Outside waker) = false
 
--- two of tasks are of one task; two from outside are as those say; one of each aren't known to
-abbrev pub WakeTheSame : {F T S M W R : Type 0} → (W → W → Type 0) → Awaiter F T S M W R → Awaiter F T S M W R → Type 0
-WakeTheSame is_same (Task a) (Task b) = IsOfOneTask a b
-WakeTheSame is_same (Outside a) (Outside b) = is_same a b
-WakeTheSame is_same (Task a) (Outside b) = ⊥
-WakeTheSame is_same (Outside a) (Task b) = ⊥
+  -- it is this waker of a task
+  abbrev pub IsTaskS : Handle M → Awaiter F T S M W R → Type 0
+  IsTaskS task (Task waker) = waker ≡ task
+  IsTaskS task (Lent waker) = ⊥
+  IsTaskS task (Outside waker) = ⊥
 
--- what the answer tells: of two wakers of tasks exactly whether they are of one; of two from outside a yes tells what those
--- make of it, and a no nothing
-abbrev pub Tells : {F T S M W R : Type 0} → (W → W → Type 0) → Awaiter F T S M W R → Awaiter F T S M W R → Bool → Type 0
-Tells is_same (Task a) (Task b) answer = IsTrue answer ↔ IsOfOneTask a b
-Tells is_same (Outside a) (Outside b) answer = IsTrue answer → is_same a b
-Tells is_same (Task a) (Outside b) answer = answer ≡ false
-Tells is_same (Outside a) (Task b) answer = answer ≡ false
+  -- it is lent to a poll of the task of this handle
+  abbrev pub IsLentBy : Awaiter F T S M W R → Handle M → Type 0
+  IsLentBy (Task waker) task = ⊥
+  IsLentBy (Lent waker) task = waker ≡ task
+  IsLentBy (Outside waker) task = ⊥
+
+  -- two of tasks are of one task; two from outside are as those say; one of each aren't known to
+  abbrev pub WakeTheSame : (W → W → Type 0) → Awaiter F T S M W R → Awaiter F T S M W R → Type 0
+  WakeTheSame is_same (Outside a) (Outside b) = is_same a b
+  WakeTheSame is_same (Task a) b = AreOfOneTask (Some a.identity) (identity_of b)
+  WakeTheSame is_same (Lent a) b = AreOfOneTask (Some a.identity) (identity_of b)
+  WakeTheSame is_same (Outside a) (Task b) = ⊥
+  WakeTheSame is_same (Outside a) (Lent b) = ⊥
+
+  -- what the answer tells: of two from outside a yes tells what those make of it, and a no nothing; of all others exactly whether they
+  -- are of one task
+  abbrev pub Tells : (W → W → Type 0) → Awaiter F T S M W R → Awaiter F T S M W R → Bool → Type 0
+  Tells is_same (Outside a) (Outside b) answer = IsTrue answer → is_same a b
+  Tells is_same (Task a) b answer = IsTrue answer ↔ AreOfOneTask (Some a.identity) (identity_of b)
+  Tells is_same (Lent a) b answer = IsTrue answer ↔ AreOfOneTask (Some a.identity) (identity_of b)
+  Tells is_same (Outside a) (Task b) answer = answer ≡ false
+  Tells is_same (Outside a) (Lent b) answer = answer ≡ false

@@ -10,12 +10,14 @@ pub record Handle (M : Type 0) : Type 0 where
   pub identity : Identity
   pub metadata : M
 
--- what a contract sees of a handle that is polled: which cell's it is too, and the claim of the seat that has it
+-- what a contract sees of a handle that is polled: which cell's it is too, the claim of the seat that has it, and whether a poll has
+-- given the output
 pub record Polling (F T M W : Type 0) : Type 0 where
   pub identity : Identity
   pub metadata : M
   pub cell : Cell F T (Kept W)
   pub claim : Claim
+  pub given : Bool
 
 abbrev pub task_of : {F T M W : Type 0} → Polling F T M W → Handle M
 task_of polling = record { identity = polling.identity; metadata = polling.metadata }
@@ -26,6 +28,7 @@ pub record Cancelling (F T M W : Type 0) : Type 0 where
   pub is_cancelled : Bool
   pub cell : Cell F T (Kept W)
   pub claim : Claim
+  pub given : Bool
 
 -- what a contract sees of what rests in a task's cell: which task that is
 pub record Resting : Type 0 where

@@ -28,6 +28,13 @@ found_by (Some output) answer = Output output
 found_by None (Some answers.Pending) = Pending
 found_by None _ = Closed
 
+-- whether this gives the output
+abbrev pub gives : {T : Type 0} → Found T → Bool
+gives (Output output) = true
+gives Closed = false
+gives Pending = false
+gives NoMemory = false
+
 -- the move of a poll's first look, or of the one once its waker is registered
 abbrev pub look_by : Bool → State → Moved
 look_by true s = moves.poll s

@@ -12,7 +12,7 @@ use Rattle.async_task.specs.declared.runnable.Started.TheVariants.{Poll as PollI
 use Rattle.async_task.specs.declared.waker.Awaiter.{Awaiter}
 use Rattle.async_task.specs.declared.wake.Wake.{Ghosts}
 use Rattle.async_task.specs.Handles.{Handle}
-use Rattle.async_task.specs.Awaiters.{IsOf}
+use Rattle.async_task.specs.Awaiters.{IsLentBy}
 use Rattle.task_moves.specs.declared.local_task.answers.Back.{Back}
 use Rattle.task_moves.specs.declared.local_task.answers.Back.TheVariants.{Ready, Pending}
 use Rattle.task_moves.specs.declared.moves.owed.Owed.{Owed}
@@ -46,12 +46,12 @@ module _ {F T S M W R K P : Type 0} where
   EndsRun board waker (Ready output) (Drop future closing) = ⊥
   EndsRun board waker (Pending future) Over = ⊥
   EndsRun board waker (Pending future) (Pause pause) =
-      IsOf waker pause.held × IsLeftBy board pause.remains × (is_some pause.remains.owed.future ≡ false)
+      IsLentBy waker pause.held × IsLeftBy board pause.remains × (is_some pause.remains.owed.future ≡ false)
   EndsRun board waker (Pending future) (Drop dropped closing) =
-      (dropped ≡ future) × IsOf waker closing.held × ClosesBy board closing.closed
+      (dropped ≡ future) × IsLentBy waker closing.held × ClosesBy board closing.closed
 
 module _ {F T S M W R : Type 0} where
   -- what a Runnable begins is a run or a closing call of its own task
   abbrev pub BeginsAt : {wakes : Ghosts W} → Handle M → Started F T S M W R wakes → Type 0
-  BeginsAt task (PollIt future running) = IsOf running.waker task
+  BeginsAt task (PollIt future running) = IsLentBy running.waker task
   BeginsAt task (DropIt future closing) = closing.held ≡ task

@@ -67,12 +67,17 @@ impl<M> Builder<M> {
         };
         match Held::new(rt, realm, parts) {
             Ok(made) => {
-                let Made { held, token, task } = made;
+                let Made {
+                    held,
+                    token,
+                    task,
+                    duty,
+                } = made;
                 let runnable = Runnable {
                     held: held.share(),
                     token,
                 };
-                Ok((runnable, Task::of(held, task)))
+                Ok((runnable, Task::of(held, task, duty)))
             }
             Err(parts) => Err(parts),
         }

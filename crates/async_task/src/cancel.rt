@@ -1,8 +1,8 @@
-ghost use Rattle.std.specs.Prelude.{◌≡◌, false, true};
-ghost use Rattle.async_task.specs.Polls.{FoundAt, found_if_any};
+ghost use Rattle.std.specs.Prelude.{◌≡◌, ◌||◌, false, true};
+ghost use Rattle.async_task.specs.Polls.{FoundAt, found_if_any, gives};
 ghost use Rattle.task_word.specs.Tokens.{IsThere};
 
-use crate::cell::{Cancelled, Held, Place, Scheduled, TaskToken};
+use crate::cell::{Duty, Held, Place, Scheduled};
 use crate::errors::NoMemory;
 use crate::fallible::found;
 use crate::poll::{Future, Poll};
@@ -27,8 +27,8 @@ where
 {
     held: Held<F, T, S, M, W, R>,
     handle: Place<F, T, W>,
-    /// That it was cancelled, once it is.
-    cancelled: Option<Cancelled>,
+    /// The duty to cancel it, until it is.
+    duty: Option<Duty>,
     ghost there: { IsThere handle.cell.now.board.shared handle.claim },
 }
 
@@ -41,16 +41,17 @@ where
     W: Wake + Drop + 'static,
     R: Wait + Copy + Drop,
 {
-    ghost use Rattle.std.specs.Prelude.{is_some};
+    ghost use Rattle.std.specs.Prelude.{is_none};
     ghost use Rattle.async_task.specs.Handles.{Cancelling};
 
     ghost Value = { Cancelling F T M W };
 
     ghost view = { λ c. record {
       task = c.held;
-      is_cancelled = is_some c.cancelled;
+      is_cancelled = is_none c.duty;
       cell = c.handle.cell.now;
       claim = c.handle.claim;
+      given = c.handle.given;
     } };
 }
 
@@ -64,14 +65,16 @@ where
     R: Wait + Copy + Drop,
 {
     /// What closes the task of this handle.
-    pub(crate) fn of(held: Held<F, T, S, M, W, R>, token: TaskToken<F, T, W>) -> Self
+    pub(crate) fn of(held: Held<F, T, S, M, W, R>, handle: Place<F, T, W>, duty: Duty) -> Self
+        requires { IsThere handle.cell.now.board.shared handle.claim }
         ensures task { result.task ≡ held }
         ensures open { result.is_cancelled ≡ false }
+        ensures given { result.given ≡ handle.entry.given }
     {
         Cancel {
             held,
-            handle: Place::of(token),
-            cancelled: None,
+            handle,
+            duty: Some(duty),
         }
     }
 }
@@ -92,11 +95,11 @@ where
         ensures cancelled { self.new.is_cancelled ≡ true }
         ensures same { self.new.cell ≡ self.old.cell }
         ensures found { FoundAt self.old.cell.board.shared self.new.claim (found_if_any result) }
+        ensures given { self.new.given ≡ (gives (found_if_any result) || self.old.given) }
     {
-        if self.cancelled.is_none() {
-            let (token, cancelled) = self.held.cancel(self.handle.take());
+        if let Some(duty) = self.duty.take() {
+            let token = self.held.cancel(self.handle.take(), duty);
             self.handle.put(token);
-            self.cancelled = Some(cancelled);
         }
         found(poll(&self.held, &mut self.handle, waker))
     }
@@ -112,11 +115,10 @@ where
     R: Wait + Copy + Drop,
 {
     fn drop(self) {
-        let Self {
-            held,
-            handle,
-            cancelled: _,
-        } = self;
-        held.cancel_and_detach(handle.open());
+        let Self { held, handle, duty } = self;
+        match duty {
+            Some(duty) => held.cancel_and_leave(handle.open(), duty),
+            None => held.leave_cell(handle.open()),
+        }
     }
 }

@@ -1,5 +1,5 @@
 //! The cell that all handles of one task share, and the way of a handle to it.
-ghost use Rattle.std.specs.Prelude.{◌≡◌, IfErr};
+ghost use Rattle.std.specs.Prelude.{◌≡◌, ◌↔◌, IfErr, IsTrue};
 ghost use Rattle.async_task.specs.Slots.{CanRead};
 
 mod calls;
@@ -12,7 +12,10 @@ mod turns;
 
 use crate::cell::fixed::{Claimed, Fixed, Slot, claim, end, leave, no_task_s, read};
 pub(crate) use crate::cell::paying::pay_due;
-pub(crate) use crate::cell::resting::{Cancelled, KeptWaker, Lost, Lot, Parked, Thing, kept, park};
+pub use crate::cell::resting::Detached;
+pub(crate) use crate::cell::resting::{
+    Duty, KeptWaker, Lost, Lot, Parked, Thing, begin, kept, park,
+};
 pub use crate::cell::returning::{GoesBack, Returning, close_returned};
 pub(crate) use crate::cell::scheduled::find_with;
 pub use crate::cell::scheduled::{Due, Scheduled, StoredRunnable, StoredWaker};
@@ -116,6 +119,7 @@ pub(crate) struct Made<F: 'static, T: 'static, S: 'static, M: 'static, W: 'stati
     pub held: Held<F, T, S, M, W, R>,
     pub token: RunnableToken<F, T, W>,
     pub task: TaskToken<F, T, W>,
+    pub duty: Duty,
 }
 
 /// Where a new task lies, its Runnable, and its handle.
@@ -124,6 +128,7 @@ struct Spot<F: 'static, T: 'static, S: 'static, M: 'static, W: 'static> {
     cell: &'static Cell<F, T, S, M, W>,
     token: RunnableToken<F, T, W>,
     task: TaskToken<F, T, W>,
+    duty: Duty,
 }
 
 impl<F, T, S, M, W, R> Held<F, T, S, M, W, R>
@@ -155,9 +160,15 @@ where
                     cell,
                     token,
                     task,
+                    duty,
                 } = spot;
                 let held = Held::of(rt, realm, place, cell, metadata);
-                Ok(Made { held, token, task })
+                Ok(Made {
+                    held,
+                    token,
+                    task,
+                    duty,
+                })
             }
             Err(parts) => Err(parts),
         }
@@ -254,6 +265,13 @@ where
         Identity { realm, place }
     }
 
+    /// Whether both lead to one task.
+    pub(crate) fn is_of(&self, other: &Self) -> bool
+        ensures { IsTrue result ↔ self.now.identity ≡ other.now.identity }
+    {
+        self.identity() == other.identity()
+    }
+
     /// The runtime value that the task was made with.
     pub fn rt(&self) -> R {
         self.rt
@@ -333,12 +351,13 @@ where
             return Err(parts);
         };
         match fill(rt, cell, parts) {
-            Ok((token, task)) => {
+            Ok((token, task, duty)) => {
                 return Ok(Spot {
                     place,
                     cell,
                     token,
                     task,
+                    duty,
                 });
             }
             Err(back) => parts = back,
@@ -352,7 +371,7 @@ fn fill<F, T, S, M, W, R>(
     rt: &R,
     cell: &'static Cell<F, T, S, M, W>,
     parts: Parts<F, S, M>,
-) -> Result<(RunnableToken<F, T, W>, TaskToken<F, T, W>), Parts<F, S, M>>
+) -> Result<(RunnableToken<F, T, W>, TaskToken<F, T, W>, Duty), Parts<F, S, M>>
 where
     F: Drop + 'static,
     T: Drop + 'static,
@@ -372,12 +391,12 @@ where
         schedule,
         metadata,
     } = parts;
-    match cell.word.make(rt, future) {
-        Ok((token, task)) => {
+    match begin(&cell.word, rt, future) {
+        Ok(made) => {
             drop(claim.put(Some(Fixed { schedule, metadata }), PRESENT));
-            Ok((token, task))
+            Ok(made)
         }
-        Err((future, _)) => {
+        Err(future) => {
             drop(claim.put(None, FREE));
             Err(Parts {
                 future,

@@ -1,10 +1,10 @@
-ghost use Rattle.std.specs.Prelude.{◌≡◌, false};
+ghost use Rattle.std.specs.Prelude.{◌≡◌, ◌||◌, false};
 ghost use Rattle.async_task.specs.Handles.{task_of};
-ghost use Rattle.async_task.specs.Polls.{FoundAt, found_if_any};
+ghost use Rattle.async_task.specs.Polls.{FoundAt, found_if_any, gives};
 ghost use Rattle.task_word.specs.Tokens.{IsThere};
 
 use crate::cancel::Cancel;
-use crate::cell::{Held, Place, Scheduled};
+use crate::cell::{Detached, Duty, Held, Place, Scheduled};
 use crate::errors::NoMemory;
 use crate::look::Look;
 use crate::poll::{Future, Poll};
@@ -28,6 +28,7 @@ where
 {
     pub(crate) held: Held<F, T, S, M, W, R>,
     pub(crate) handle: Place<F, T, W>,
+    pub(crate) duty: Duty,
     ghost there: { IsThere handle.cell.now.board.shared handle.claim },
 }
 
@@ -49,6 +50,7 @@ where
       metadata = h.held.metadata;
       cell = h.handle.cell.now;
       claim = h.handle.claim;
+      given = h.handle.given;
     } };
 }
 
@@ -78,19 +80,21 @@ where
         self.look().is_finished()
     }
 
-    /// Gives the handle up. The task goes on, and its output is dropped.
-    pub fn detach(self) {
-        let Self { held, handle } = self;
-        held.detach(handle.open());
+    /// Gives the handle up. The task goes on, and its output is dropped. What it answers shows that the task was not cancelled
+    /// by this handle, and may be let go.
+    pub fn detach(self) -> Detached {
+        let Self { held, handle, duty } = self;
+        held.detach(handle.open(), duty)
     }
 
     /// What closes the task when it is first polled, and then has the output where there was one.
     pub fn cancel(self) -> Cancel<F, T, S, M, W, R>
         ensures task { result.task ≡ task_of self }
         ensures open { result.is_cancelled ≡ false }
+        ensures given { result.given ≡ self.given }
     {
-        let Self { held, handle } = self;
-        Cancel::of(held, handle.open())
+        let Self { held, handle, duty } = self;
+        Cancel::of(held, handle, duty)
     }
 }
 
@@ -109,6 +113,7 @@ where
         ensures task { task_of self.new ≡ task_of self.old }
         ensures same { self.new.cell ≡ self.old.cell }
         ensures found { FoundAt self.old.cell.board.shared self.new.claim (found_if_any result) }
+        ensures given { self.new.given ≡ (gives (found_if_any result) || self.old.given) }
     {
         found(poll(&self.held, &mut self.handle, waker))
     }
@@ -136,7 +141,7 @@ where
     R: Wait + Copy + Drop,
 {
     fn drop(self) {
-        let Self { held, handle } = self;
-        held.cancel_and_detach(handle.open());
+        let Self { held, handle, duty } = self;
+        held.cancel_and_leave(handle.open(), duty);
     }
 }

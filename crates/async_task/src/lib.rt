@@ -7,6 +7,7 @@ mod cell;
 mod debug;
 mod errors;
 mod fallible;
+mod lent;
 mod look;
 mod poll;
 mod polling;
@@ -22,11 +23,12 @@ mod waker;
 pub use builder::{Builder, spawn};
 pub use cancel::Cancel;
 pub use cell::{
-    Cell, Due, GoesBack, Identity, Parts, Realm, Returning, Scheduled, StoredRunnable, StoredWaker,
-    close_returned,
+    Cell, Detached, Due, GoesBack, Identity, Parts, Realm, Returning, Scheduled, StoredRunnable,
+    StoredWaker, close_returned,
 };
 pub use errors::{NoMemory, RealmError};
 pub use fallible::FallibleTask;
+pub use lent::LentWaker;
 pub use look::{Look, TooManyReferences};
 pub use poll::{Future, Poll};
 pub use realm::{Cells, Returns};

@@ -1,6 +1,6 @@
 //! What a look at a task, or a call that was refused, found.
 ghost use Rattle.std.specs.Prelude.{◌≡◌};
-ghost use Rattle.async_task.specs.Looks.{Found, FoundTooMany};
+ghost use Rattle.async_task.specs.Looks.{Found, FoundTooMany, FoundAwake};
 ghost use Rattle.task_moves.specs.Moves.{is_over};
 
 use task_moves::moves::State;
@@ -32,4 +32,11 @@ impl Look {
 pub struct TooManyReferences {
     pub(crate) trace: Trace,
     ghost refused: { ∥ FoundTooMany trace ∥₁ },
+}
+
+/// A task that was woken was over or had a Runnable already, or is being polled: none was owed. It is had by a wake alone.
+#[derive(Drop)]
+pub(crate) struct StaysAwake {
+    pub(crate) trace: Trace,
+    ghost awake: { ∥ FoundAwake trace ∥₁ },
 }

@@ -1,6 +1,6 @@
 //! How a handle of any kind is polled.
-ghost use Rattle.std.specs.Prelude.{◌≡◌};
-ghost use Rattle.async_task.specs.Polls.{found_by, FoundAt, IsTold};
+ghost use Rattle.std.specs.Prelude.{◌≡◌, ◌||◌};
+ghost use Rattle.async_task.specs.Polls.{found_by, FoundAt, gives, IsTold};
 ghost use Rattle.task_word.specs.Handles.{IsHandleOf};
 ghost use Rattle.task_word.specs.Tokens.{IsThere};
 
@@ -10,7 +10,7 @@ use crate::wake::Wake;
 use crate::waker::Awaiter;
 use std::sync::Wait;
 use task_moves::moves::{Answer, Owed};
-use task_word::tokens::{Polled, Registered, WaitingTask};
+use task_word::tokens::{Given, Polled, Registered, WaitingTask};
 
 /// What a poll of a handle finds.
 pub enum Found<T> {
@@ -43,10 +43,16 @@ where
     ensures there { IsThere place.new.cell.now.board.shared place.new.claim }
     ensures same { place.new.cell.now ≡ place.old.cell.now }
     ensures found { FoundAt place.old.cell.now.board.shared place.new.claim result }
+    ensures given { place.new.given ≡ (gives result || place.old.given) }
 {
     let (token, found) = looked(held, place.take(), waker);
     place.put(token);
-    found
+    match found {
+        Found::Output(output) => Found::Output(place.give(output)),
+        Found::Closed => Found::Closed,
+        Found::Pending => Found::Pending,
+        Found::NoMemory => Found::NoMemory,
+    }
 }
 
 /// The handle looks, and waits where there is no answer.
@@ -55,7 +61,7 @@ fn looked<F, T, S, M, W, R>(
     held: &Held<F, T, S, M, W, R>,
     token: TaskToken<F, T, W>,
     waker: &Awaiter<F, T, S, M, W, R>,
-) -> (TaskToken<F, T, W>, Found<T>)
+) -> (TaskToken<F, T, W>, Found<Given<T>>)
 where
     F: Drop + 'static,
     T: Drop + 'static,
@@ -83,7 +89,7 @@ fn registered<F, T, S, M, W, R>(
     waiting: WaitingTask<F, T, Kept<W>>,
     kept: Kept<W>,
     waker: &Awaiter<F, T, S, M, W, R>,
-) -> (TaskToken<F, T, W>, Found<T>)
+) -> (TaskToken<F, T, W>, Found<Given<T>>)
 where
     F: Drop + 'static,
     T: Drop + 'static,
@@ -119,7 +125,7 @@ fn answered<F, T, S, M, W, R>(
     held: &Held<F, T, S, M, W, R>,
     owed: Owed,
     polled: Polled<F, T, Kept<W>>,
-) -> (TaskToken<F, T, W>, Found<T>)
+) -> (TaskToken<F, T, W>, Found<Given<T>>)
 where
     F: Drop + 'static,
     T: Drop + 'static,
@@ -133,7 +139,7 @@ where
 {
     let Polled { task, output } = polled;
     let token = held.call_awaiter(task);
-    let found = match paid(output) {
+    let found = match output {
         Some(output) => Found::Output(output),
         None => match owed.answer {
             Some(Answer::Pending) => Found::Pending,
@@ -161,14 +167,12 @@ where
     if is_foreign(held, waker) {
         return Some(Kept::Nothing);
     }
-    match waker {
-        Awaiter::Task(waker) => {
-            match waker.held.hold() {
-                Ok(token) => Some(Kept::Task(kept(waker.held.identity().place, token))),
-                Err(_) => None,
-            }
-        }
-        Awaiter::Outside(waker) => waker.clone().map(Kept::Outside),
+    if let Awaiter::Outside(waker) = waker {
+        return waker.clone().map(Kept::Outside);
+    }
+    match waker.hold() {
+        Some((place, token)) => Some(Kept::Task(kept(place, token))),
+        None => None,
     }
 }
 
@@ -186,8 +190,8 @@ where
     W: Wake + Drop + 'static,
     R: Wait + Copy + Drop,
 {
-    match waker {
-        Awaiter::Task(waker) => waker.held.identity().realm != held.identity().realm,
-        Awaiter::Outside(_) => false,
+    match waker.identity() {
+        Some(identity) => identity.realm != held.identity().realm,
+        None => false,
     }
 }

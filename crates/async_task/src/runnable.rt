@@ -3,6 +3,7 @@ ghost use Rattle.async_task.specs.Rests.{was_woken_by};
 ghost use Rattle.async_task.specs.Runs.{BeginsAt};
 
 use crate::cell::{Held, Kept, Remains, RunnableToken, Scheduled, pay_due, was_woken};
+use crate::lent::LentWaker;
 use crate::look::TooManyReferences;
 use crate::poll::Future;
 use crate::running::Running;
@@ -172,7 +173,7 @@ where
         match token.take_up(&held.rt()).1 {
             Ok(run) => {
                 let (run, future) = run.ready();
-                let waker = Awaiter::Task(TaskWaker::lent(held));
+                let waker = Awaiter::Lent(LentWaker::of(held));
                 Started::Poll(future.pay(), Running { waker, run })
             }
             Err((closed, future)) => {

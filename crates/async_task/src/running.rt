@@ -1,5 +1,5 @@
 ghost use Rattle.std.specs.Prelude.{◌≡◌, true};
-ghost use Rattle.async_task.specs.Awaiters.{is_a_task_s};
+ghost use Rattle.async_task.specs.Awaiters.{is_lent};
 
 use crate::cell::{Kept, Remains, Scheduled, paid};
 use crate::poll::{Future, Poll};
@@ -24,7 +24,7 @@ where
 {
     pub(crate) waker: Awaiter<F, T, S, M, W, R>,
     pub(crate) run: ReadyRun<F, T, Kept<W>>,
-    ghost is_of_a_task: { is_a_task_s waker ≡ true },
+    ghost lent: { is_lent waker ≡ true },
 }
 
 impl<F, T, S, M, W, R> Running<F, T, S, M, W, R>
@@ -81,7 +81,8 @@ where
     {
         let Self { waker, run } = self;
         let held = match waker {
-            Awaiter::Task(waker) => waker.into_held(),
+            Awaiter::Lent(waker) => waker.into_held(),
+            Awaiter::Task(_) => unreachable!(),
             Awaiter::Outside(_) => unreachable!(),
         };
         match back {

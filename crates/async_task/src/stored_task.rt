@@ -77,7 +77,7 @@ impl<M> StoredTask<M> {
         } = self;
         match find_with(rt, realm, returns, place, metadata) {
             Some(held) => match held.unpark(parked) {
-                Ok(token) => Ok(Task::of(held, token)),
+                Ok((token, duty)) => Ok(Task::of(held, token, duty)),
                 Err(parked) => Err(StoredTask {
                     returns,
                     place,

@@ -1,10 +1,10 @@
-ghost use Rattle.std.specs.Prelude.{◌≡◌, false};
+ghost use Rattle.std.specs.Prelude.{◌≡◌, ◌||◌, false};
 ghost use Rattle.async_task.specs.Handles.{task_of};
-ghost use Rattle.async_task.specs.Polls.{FoundAt, found_in};
+ghost use Rattle.async_task.specs.Polls.{FoundAt, found_in, gives};
 ghost use Rattle.task_word.specs.Tokens.{IsThere};
 
 use crate::cancel::Cancel;
-use crate::cell::{Held, Place, Scheduled, TaskToken, park};
+use crate::cell::{Detached, Duty, Held, Place, Scheduled, TaskToken, park};
 use crate::fallible::FallibleTask;
 use crate::look::Look;
 use crate::poll::{Future, Poll};
@@ -38,6 +38,7 @@ where
 {
     pub(crate) held: Held<F, T, S, M, W, R>,
     pub(crate) handle: Place<F, T, W>,
+    pub(crate) duty: Duty,
     ghost there: { IsThere handle.cell.now.board.shared handle.claim },
 }
 
@@ -59,6 +60,7 @@ where
       metadata = h.held.metadata;
       cell = h.handle.cell.now;
       claim = h.handle.claim;
+      given = h.handle.given;
     } };
 }
 
@@ -71,11 +73,12 @@ where
     W: Wake + Drop + 'static,
     R: Wait + Copy + Drop,
 {
-    pub(crate) fn of(held: Held<F, T, S, M, W, R>, token: TaskToken<F, T, W>) -> Self
-        ensures { task_of result ≡ held }
+    pub(crate) fn of(held: Held<F, T, S, M, W, R>, token: TaskToken<F, T, W>, duty: Duty) -> Self
+        ensures task { task_of result ≡ held }
+        ensures given { result.given ≡ false }
     {
         let handle = Place::of(token);
-        Task { held, handle }
+        Task { held, handle, duty }
     }
 
     /// The handle for a list, which takes no memory.
@@ -83,8 +86,8 @@ where
         ensures task { result.identity ≡ self.identity }
         ensures metadata { result.metadata ≡ self.metadata }
     {
-        let Self { held, handle } = self;
-        held.stored_task(park(handle.open()))
+        let Self { held, handle, duty } = self;
+        held.stored_task(park(handle.open(), duty))
     }
 
     /// The metadata that the task was made with.
@@ -104,27 +107,29 @@ where
         self.look().is_finished()
     }
 
-    /// Gives the handle up. The task goes on, and its output is dropped.
-    pub fn detach(self) {
-        let Self { held, handle } = self;
-        held.detach(handle.open());
+    /// Gives the handle up. The task goes on, and its output is dropped. What it answers shows that the task was not cancelled
+    /// by this handle, and may be let go.
+    pub fn detach(self) -> Detached {
+        let Self { held, handle, duty } = self;
+        held.detach(handle.open(), duty)
     }
 
     /// What closes the task when it is first polled, and then has the output where there was one.
     pub fn cancel(self) -> Cancel<F, T, S, M, W, R>
         ensures task { result.task ≡ task_of self }
         ensures open { result.is_cancelled ≡ false }
+        ensures given { result.given ≡ self.given }
     {
-        let Self { held, handle } = self;
-        Cancel::of(held, handle.open())
+        let Self { held, handle, duty } = self;
+        Cancel::of(held, handle, duty)
     }
 
     /// The same handle, which has None for an output where the task is closed.
     pub fn fallible(self) -> FallibleTask<F, T, S, M, W, R>
         ensures { result ≡ self }
     {
-        let Self { held, handle } = self;
-        FallibleTask { held, handle }
+        let Self { held, handle, duty } = self;
+        FallibleTask { held, handle, duty }
     }
 }
 
@@ -143,6 +148,7 @@ where
         ensures task { task_of self.new ≡ task_of self.old }
         ensures same { self.new.cell ≡ self.old.cell }
         ensures found { FoundAt self.old.cell.board.shared self.new.claim (found_in result) }
+        ensures given { self.new.given ≡ (gives (found_in result) || self.old.given) }
     {
         answer(poll(&self.held, &mut self.handle, waker))
     }
@@ -170,7 +176,7 @@ where
     R: Wait + Copy + Drop,
 {
     fn drop(self) {
-        let Self { held, handle } = self;
-        held.cancel_and_detach(handle.open());
+        let Self { held, handle, duty } = self;
+        held.cancel_and_leave(handle.open(), duty);
     }
 }

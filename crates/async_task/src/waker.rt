@@ -1,20 +1,14 @@
-ghost use Rattle.std.specs.Prelude.{◌≡◌, ◌↔◌, IsTrue};
+ghost use Rattle.std.specs.Prelude.{◌≡◌, ◌↔◌, IsTrue, IfSome, MatchOption, None};
+ghost use Rattle.async_task.specs.Awaiters.{IsTaskS};
 
-use crate::cell::{Held, Realm, Scheduled, StoredWaker, WakerToken};
+use crate::cell::{Held, Identity, Realm, Scheduled, StoredWaker, WakerToken};
+use crate::lent::LentWaker;
 use crate::schedule::Schedule;
 use crate::wake::Wake;
 use std::marker::Model;
 use std::sync::Wait;
 
-/// What a waker of a task has of it.
-pub(crate) enum Hold<F: 'static, T: 'static, W: 'static> {
-    /// A reference.
-    Reference(WakerToken<F, T, W>),
-    /// Nothing: it is lent to a poll, whose run has the task.
-    Lent,
-}
-
-/// A waker of a task. A contract sees which task it is of.
+/// A waker of a task, which has one of its references. A contract sees which task it is of.
 pub struct TaskWaker<F, T, S, M, W, R>
 where
     F: Drop + 'static,
@@ -24,8 +18,8 @@ where
     W: Wake + Drop + 'static,
     R: Wait + Copy + Drop,
 {
-    pub(crate) held: Held<F, T, S, M, W, R>,
-    hold: Hold<F, T, W>,
+    held: Held<F, T, S, M, W, R>,
+    token: WakerToken<F, T, W>,
 }
 
 impl<F, T, S, M, W, R> Model for TaskWaker<F, T, S, M, W, R>
@@ -57,6 +51,8 @@ where
 {
     /// Of a task.
     Task(TaskWaker<F, T, S, M, W, R>),
+    /// Of the task that is polled, lent to its poll. A copy of it is a `Task`.
+    Lent(LentWaker<F, T, S, M, W, R>),
     /// From outside.
     Outside(W),
 }
@@ -74,29 +70,7 @@ where
     pub(crate) fn of(held: Held<F, T, S, M, W, R>, token: WakerToken<F, T, W>) -> Self
         ensures { result ≡ held }
     {
-        let hold = Hold::Reference(token);
-        TaskWaker { held, hold }
-    }
-
-    /// The waker that a poll is lent.
-    pub(crate) fn lent(held: Held<F, T, S, M, W, R>) -> Self
-        ensures { result ≡ held }
-    {
-        let hold = Hold::Lent;
-        TaskWaker { held, hold }
-    }
-
-    /// The way to the task. The waker goes.
-    #[inline(always)]
-    pub(crate) fn into_held(self) -> Held<F, T, S, M, W, R>
-        ensures { result ≡ self }
-    {
-        let Self { held, hold } = self;
-        match hold {
-            Hold::Reference(token) => held.pay(held.release(token)),
-            Hold::Lent => {}
-        }
-        held
+        TaskWaker { held, token }
     }
 
     /// Whether the task lies in this realm: whether the waker, once it is stored, is redeemed there.
@@ -117,11 +91,8 @@ where
     pub fn store(self) -> StoredWaker
         ensures { result.identity ≡ self.identity }
     {
-        let Self { held, hold } = self;
-        match hold {
-            Hold::Reference(token) => held.stored(token),
-            Hold::Lent => held.stored(held.insist()),
-        }
+        let Self { held, token } = self;
+        held.stored(token)
     }
 }
 
@@ -141,16 +112,13 @@ where
 
     /// Queues the task, where it is open and idle. It takes no memory.
     fn wake(self) {
-        let Self { held, hold } = self;
-        held.queue(held.wake());
-        match hold {
-            Hold::Reference(token) => held.pay(held.release(token)),
-            Hold::Lent => {}
-        }
+        let Self { held, token } = self;
+        held.wake_and_queue();
+        held.pay(held.release(token));
     }
 
     fn wake_by_ref(&self) {
-        self.held.queue(self.held.wake());
+        self.held.wake_and_queue();
     }
 
     /// One more, or None where the task has 2^40 references already.
@@ -158,10 +126,7 @@ where
         ensures same { IfSome result (λ copy. IsOfOneTask copy self.now) }
         ensures handle { IfSome result (λ copy. copy ≡ self.now) }
     {
-        match self.held.hold() {
-            Ok(token) => Some(TaskWaker::of(self.held.share(), token)),
-            Err(_) => None,
-        }
+        self.held.one_more()
     }
 
     /// Whether both are of one task.
@@ -182,10 +147,43 @@ where
     R: Wait + Copy + Drop,
 {
     fn drop(self) {
-        let Self { held, hold } = self;
-        match hold {
-            Hold::Reference(token) => held.pay(held.release(token)),
-            Hold::Lent => {}
+        let Self { held, token } = self;
+        held.pay(held.release(token));
+    }
+}
+
+impl<F, T, S, M, W, R> Awaiter<F, T, S, M, W, R>
+where
+    F: Drop + 'static,
+    T: Drop + 'static,
+    S: Schedule<Scheduled<F, T, S, M, W, R>> + Drop + 'static,
+    M: Copy + Drop + 'static,
+    W: Wake + Drop + 'static,
+    R: Wait + Copy + Drop,
+{
+    ghost use Rattle.async_task.specs.Awaiters.{identity_of};
+
+    /// Which task it is a waker of; None of one from outside.
+    pub fn identity(&self) -> Option<Identity>
+        ensures { result ≡ identity_of self.now }
+    {
+        match self {
+            Awaiter::Task(waker) => Some(waker.held.identity()),
+            Awaiter::Lent(waker) => Some(waker.held.identity()),
+            Awaiter::Outside(_) => None,
+        }
+    }
+
+    /// A waker of the same task that is kept; None of one from outside, or where one more reference is refused.
+    pub(crate) fn hold(&self) -> Option<(usize, WakerToken<F, T, W>)> {
+        let held = match self {
+            Awaiter::Task(waker) => &waker.held,
+            Awaiter::Lent(waker) => &waker.held,
+            Awaiter::Outside(_) => return None,
+        };
+        match held.hold() {
+            Ok(token) => Some((held.identity().place, token)),
+            Err(_) => None,
         }
     }
 }
@@ -199,14 +197,15 @@ where
     W: Wake + Drop + 'static,
     R: Wait + Copy + Drop,
 {
-    ghost use Rattle.std.specs.Prelude.{IsTrue};
-    ghost use Rattle.async_task.specs.Awaiters.{WakeTheSame, Tells};
+    ghost use Rattle.std.specs.Prelude.{◌≡◌, false, IsTrue, IfSome};
+    ghost use Rattle.async_task.specs.Awaiters.{WakeTheSame, Tells, is_lent};
 
     ghost is_same = { λ a b. WakeTheSame W.is_same a b };
 
     fn wake(self) {
         match self {
             Awaiter::Task(waker) => waker.wake(),
+            Awaiter::Lent(waker) => waker.wake_by_ref(),
             Awaiter::Outside(waker) => waker.wake(),
         }
     }
@@ -214,16 +213,19 @@ where
     fn wake_by_ref(&self) {
         match self {
             Awaiter::Task(waker) => waker.wake_by_ref(),
+            Awaiter::Lent(waker) => waker.wake_by_ref(),
             Awaiter::Outside(waker) => waker.wake_by_ref(),
         }
     }
 
-    fn clone(&self) -> Option<Self> {
+    /// One that is kept: of a task it has a reference.
+    fn clone(&self) -> Option<Self>
+        ensures same { IfSome result (λ copy. WakeTheSame W.is_same copy self.now) }
+        ensures kept { IfSome result (λ copy. is_lent copy ≡ false) }
+    {
         match self {
-            Awaiter::Task(waker) => match waker.clone() {
-                Some(copy) => Some(Awaiter::Task(copy)),
-                None => None,
-            },
+            Awaiter::Task(waker) => of_task(waker.clone()),
+            Awaiter::Lent(waker) => of_task(waker.to_waker()),
             Awaiter::Outside(waker) => match waker.clone() {
                 Some(copy) => Some(Awaiter::Outside(copy)),
                 None => None,
@@ -238,9 +240,31 @@ where
         ensures tells { Tells W.is_same self.now other.now result }
     {
         match (self, other) {
-            (Awaiter::Task(one), Awaiter::Task(other)) => one.will_wake(other),
             (Awaiter::Outside(one), Awaiter::Outside(other)) => one.will_wake(other),
+            (Awaiter::Task(one), Awaiter::Task(other)) => one.will_wake(other),
+            (Awaiter::Task(one), Awaiter::Lent(other)) => one.held.is_of(&other.held),
+            (Awaiter::Lent(one), Awaiter::Task(other)) => one.held.is_of(&other.held),
+            (Awaiter::Lent(one), Awaiter::Lent(other)) => one.held.is_of(&other.held),
             _ => false,
         }
+    }
+}
+
+/// The waker of a task, as an awaiter.
+fn of_task<F, T, S, M, W, R>(
+    waker: Option<TaskWaker<F, T, S, M, W, R>>,
+) -> Option<Awaiter<F, T, S, M, W, R>>
+where
+    F: Drop + 'static,
+    T: Drop + 'static,
+    S: Schedule<Scheduled<F, T, S, M, W, R>> + Drop + 'static,
+    M: Copy + Drop + 'static,
+    W: Wake + Drop + 'static,
+    R: Wait + Copy + Drop,
+    ensures { MatchOption waker (result ≡ None) (λ waker. IfSome result (IsTaskS waker)) }
+{
+    match waker {
+        Some(waker) => Some(Awaiter::Task(waker)),
+        None => None,
     }
 }

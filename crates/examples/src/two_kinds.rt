@@ -51,7 +51,7 @@ fn visit<R: Wait + Copy + Drop + 'static>(door: &Door, rt: &R, waker: &JobWaker<
 /// Opens the door, and wakes whoever waits there.
 fn open<R: Wait + Copy + Drop + 'static>(door: &Door, rt: &R, waker: &JobWaker<R>) -> Poll<Said> {
     door.close(rt);
-    if let Awaiter::Task(own) = waker {
+    if let Awaiter::Lent(own) = waker {
         for stored in door.try_iter(rt) {
             if let Some(visitor) = stored.redeem(*rt, own.realm()) {
                 visitor.wake();

@@ -335,7 +335,7 @@ impl Meddler {
         };
         match deed {
             Deed::Await(_) => return self.awaits(task, notes, waker),
-            Deed::Detach(_) => task.detach(),
+            Deed::Detach(_) => drop(task.detach()),
             Deed::Drop(_) => drop(task),
         }
         true
@@ -396,12 +396,10 @@ fn keep<R: Wait + Copy + Drop + 'static>(
     place: &Mutex<Option<Returning<StoredWaker>>>,
     waker: &TestWaker<R>,
 ) -> Poll<Gift> {
-    if let Awaiter::Task(waker) = waker {
-        if let Some(copy) = waker.clone() {
-            let old = mem::replace(&mut *place.lock(&rt), Some(Returning::new(copy.store())));
-            if let Some(old) = old {
-                drop_waker(rt, realm, old);
-            }
+    if let Some(Awaiter::Task(copy)) = waker.clone() {
+        let old = mem::replace(&mut *place.lock(&rt), Some(Returning::new(copy.store())));
+        if let Some(old) = old {
+            drop_waker(rt, realm, old);
         }
     }
     Poll::Pending

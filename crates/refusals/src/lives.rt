@@ -123,7 +123,7 @@ fn spawn_and_give_up<R: Wait + Copy + Drop + 'static>(
 
 fn give_up<R: Wait + Copy + Drop + 'static>(task: TestTask<R>, way: Way) {
     match way {
-        Way::Detach => task.detach(),
+        Way::Detach => drop(task.detach()),
         Way::Cancel => drop(task.cancel()),
         Way::Drop => drop(task),
     }

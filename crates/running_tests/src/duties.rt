@@ -47,7 +47,7 @@ where
 {
     for _ in 0..number {
         match executor.spawn(Counted(counts, true)) {
-            Ok(task) => task.detach(),
+            Ok(task) => drop(task.detach()),
             Err(_) => return false,
         }
     }

@@ -92,7 +92,7 @@ fn is_a_handle_here<R: Abort + Wait + Copy + Drop + 'static>(
     match stored.redeem(rt, elsewhere) {
         Ok(_) => panic!(rt; "found elsewhere"),
         Err(stored) => match stored.redeem(rt, here) {
-            Ok(found) => found.detach(),
+            Ok(found) => drop(found.detach()),
             Err(stored) => {
                 stored.go_back();
                 panic!(rt; "not found")

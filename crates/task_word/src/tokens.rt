@@ -8,6 +8,7 @@ ghost use Rattle.task_word.specs.declared.rule.Hold.TheVariants.{Nothing, Refere
 
 mod claim;
 mod debt;
+mod given;
 mod handles;
 mod past;
 mod place;
@@ -21,6 +22,7 @@ use crate::slot::take_awaiter;
 use crate::steps::{Pass, awaiter};
 use crate::tokens::claim::Claim;
 pub use debt::Debt;
+pub use given::Given;
 pub use handles::{DetachingTask, Found, OwingTask};
 pub use past::{OwingRun, PastRun};
 pub use place::TaskPlace;

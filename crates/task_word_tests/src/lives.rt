@@ -4,7 +4,7 @@ use crate::acts::{Looked, Outcome, Place, Ran};
 use std::sync::Wait;
 use task_word::tokens::{
     Debt, Found, Left, OwingRun, OwingTask, PastRun, Polled, ReadyRun, Registered, RegisteredTask,
-    Run, Runnable, Task, Trace,
+    Run, Runnable, Task, TaskPlace, Trace,
 };
 
 pub type Handle = Task<u64, u64, u64>;
@@ -152,12 +152,15 @@ fn looked<R: Wait>(
     otherwise: Looked,
 ) -> (Handle, Looked, Option<u64>) {
     let Polled { task, output } = polled;
-    let looked = match paid(output) {
-        Some(output) => Looked::Output(output),
-        None => otherwise,
-    };
     let (task, called) = call(rt, task);
-    (task, looked, called)
+    match output {
+        Some(output) => {
+            let mut place = TaskPlace::of(task);
+            let output = place.give(output);
+            (place.open(), Looked::Output(output), called)
+        }
+        None => (task, otherwise, called),
+    }
 }
 
 /// What a poll's waker came to.

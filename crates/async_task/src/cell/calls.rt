@@ -3,7 +3,7 @@ ghost use Rattle.std.specs.Prelude.{◌≡◌};
 ghost use Rattle.async_task.specs.Polls.{IsTold};
 ghost use Rattle.task_word.specs.Handles.{IsHandleOf};
 
-use crate::cell::resting::{CancelStep, Cancelled};
+use crate::cell::resting::{CancelStep, Detached, Duty};
 use crate::cell::turns::told;
 use crate::cell::{Held, Kept, Scheduled, TaskToken, pay_due};
 use crate::schedule::Schedule;
@@ -20,13 +20,13 @@ where
     W: Wake + Drop + 'static,
     R: Wait + Copy + Drop,
 {
-    /// The task is cancelled.
-    pub(crate) fn cancel(&self, task: TaskToken<F, T, W>) -> (TaskToken<F, T, W>, Cancelled)
-        ensures { result.0.cell.now ≡ task.entry.cell.now }
+    /// The task is cancelled, which spends the handle's duty.
+    pub(crate) fn cancel(&self, task: TaskToken<F, T, W>, duty: Duty) -> TaskToken<F, T, W>
+        ensures { result.cell.now ≡ task.entry.cell.now }
     {
-        let (CancelStep { woken, task }, cancelled) = self.begin_cancel(task);
+        let CancelStep { woken, task } = self.begin_cancel(task, duty);
         self.queue(woken);
-        (self.call_awaiter(task), cancelled)
+        self.call_awaiter(task)
     }
 
     /// The awaiter is called, where that is owed.
@@ -44,22 +44,27 @@ where
     }
 
     /// The drop of a handle: it cancels its task, and goes.
-    pub(crate) fn cancel_and_detach(&self, task: TaskToken<F, T, W>) {
-        let (task, _) = self.cancel(task);
-        self.detach(task);
+    pub(crate) fn cancel_and_leave(&self, task: TaskToken<F, T, W>, duty: Duty) {
+        self.leave_cell(self.cancel(task, duty));
+    }
+
+    /// The handle goes, and hands its duty on.
+    pub(crate) fn detach(&self, task: TaskToken<F, T, W>, duty: Duty) -> Detached {
+        self.leave_cell(task);
+        Detached::of(duty)
     }
 
     /// The handle goes. An output that lies in the cell is dropped first.
-    pub(crate) fn detach(&self, task: TaskToken<F, T, W>) {
+    pub(crate) fn leave_cell(&self, task: TaskToken<F, T, W>) {
         let (owed, gone) = task.detach(&self.rt);
         match gone {
             Ok(left) => self.pay(self.left(owed, left)),
-            Err(found) => self.detach_emptied(found),
+            Err(found) => self.leave_emptied(found),
         }
     }
 
     /// The output is dropped, and the handle goes.
-    fn detach_emptied(&self, found: Found<F, T, Kept<W>>) {
+    fn leave_emptied(&self, found: Found<F, T, Kept<W>>) {
         let mut found = found;
         for _ in self.rt.forever() {
             let Found { task, output } = found;

@@ -12,6 +12,7 @@ use crate::cell::turns::notified;
 use crate::cell::{Held, Kept, Rest, WakerToken, Woken};
 use crate::schedule::{Schedule, ScheduleInfo};
 use crate::wake::Wake;
+use crate::waker::TaskWaker;
 use std::sync::Wait;
 use task_word::tokens::{OwingRun, PastRun};
 
@@ -46,7 +47,7 @@ where
         ensures { IfSome result (IsDueBy self) }
     {
         match self.wake() {
-            Some(woken) => {
+            Ok(woken) => {
                 match self.release(token) {
                     // A task has one Runnable, so this is none: that two tokens are of one cell is not seen here.
                     Rest::Queue(woken) => self.give_back(woken),
@@ -55,7 +56,7 @@ where
                 }
                 Some(self.due(woken))
             }
-            None => self.release_later(token),
+            Err(_) => self.release_later(token),
         }
     }
 
@@ -208,6 +209,25 @@ where
         let (past, awaiter) = notified(&self.rt, run);
         pay_due(self.call_some(awaiter));
         self.pay(self.give_up(past));
+    }
+
+    /// A wake, with what it owes to the schedule value.
+    #[inline(always)]
+    pub(crate) fn wake_and_queue(&self) {
+        if let Ok(woken) = self.wake() {
+            self.queue(Some(woken));
+        }
+    }
+
+    /// One more waker, or None where the task has 2^40 references already.
+    #[inline(always)]
+    pub(crate) fn one_more(&self) -> Option<TaskWaker<F, T, S, M, W, R>>
+        ensures { IfSome result (λ copy. copy ≡ self.now) }
+    {
+        match self.hold() {
+            Ok(token) => Some(TaskWaker::of(self.share(), token)),
+            Err(_) => None,
+        }
     }
 
     /// Hands the task to its schedule value, where that is owed.

@@ -1,13 +1,14 @@
 //! What stands for something of a task that rests in its cell, while the cell's place stands in a queue or a list.
 //! None of it has a size or a drop: it is made by the step that lays a thing to rest, and goes by the step that takes
 //! that out.
+ghost use Rattle.std.specs.Prelude.{◌≡◌, IfErr};
 ghost use Rattle.task_word.specs.Handles.{IsHandleOf};
 
 mod lost;
 
 pub use crate::cell::resting::lost::{Lost, Lot, Thing};
 use crate::cell::turns::owed_runnable;
-use crate::cell::{Held, Kept, RunnableToken, TaskToken, WakerToken, Woken};
+use crate::cell::{Held, Kept, RunnableToken, TaskToken, WakerToken, Woken, Word};
 use std::sync::Wait;
 use task_word::tokens::OwingTask;
 
@@ -44,9 +45,27 @@ impl Drop for KeptWaker {
     }
 }
 
-/// That a handle has cancelled its task.
-#[derive(Clone, Copy, Drop)]
-pub struct Cancelled(());
+/// The duty of a handle to cancel its task before it goes. It is made with the handle and rests with it. A cancel spends it, and a
+/// detach hands it on.
+pub struct Duty(());
+
+/// That a handle was given up with its duty to cancel unspent: its task goes on. It is had by a detach alone.
+pub struct Detached {
+    duty: Duty,
+}
+
+impl Detached {
+    /// What a handle leaves that goes without a cancel.
+    pub(crate) fn of(duty: Duty) -> Self {
+        Detached { duty }
+    }
+}
+
+impl Drop for Detached {
+    fn drop(self) {
+        let Detached { duty: Duty(()) } = self;
+    }
+}
 
 /// What the handle's cancel has left to be done.
 pub(crate) struct CancelStep<F: 'static, T: 'static, W: 'static> {
@@ -80,11 +99,35 @@ pub(crate) fn kept<F: 'static, T: 'static, W: 'static>(
     }
 }
 
-/// The handle rests in its cell.
+/// The handle rests in its cell, with its duty.
 #[inline(always)]
-pub(crate) fn park<F: 'static, T: 'static, W: 'static>(task: TaskToken<F, T, W>) -> Parked {
+pub(crate) fn park<F: 'static, T: 'static, W: 'static>(
+    task: TaskToken<F, T, W>,
+    duty: Duty,
+) -> Parked {
+    let Duty(()) = duty;
     task.park();
     Parked(())
+}
+
+/// A new task, with its Runnable, its handle, and the handle's duty. The future comes back where the cell isn't empty.
+#[inline(always)]
+pub(crate) fn begin<F, T, W, R>(
+    word: &'static Word<F, T, W>,
+    rt: &R,
+    future: F,
+) -> Result<(RunnableToken<F, T, W>, TaskToken<F, T, W>, Duty), F>
+where
+    F: 'static,
+    T: 'static,
+    W: 'static,
+    R: Wait,
+    ensures { IfErr result (λ back. back ≡ future) }
+{
+    match word.make(rt, future) {
+        Ok((token, task)) => Ok((token, task, Duty(()))),
+        Err((future, _)) => Err(future),
+    }
 }
 
 impl<F, T, S, M, W, R> Held<F, T, S, M, W, R>
@@ -120,13 +163,13 @@ where
         }
     }
 
-    /// The handle that rests in the cell.
+    /// The handle that rests in the cell, with its duty.
     #[inline(always)]
-    pub(crate) fn unpark(&self, parked: Parked) -> Result<TaskToken<F, T, W>, Parked> {
+    pub(crate) fn unpark(&self, parked: Parked) -> Result<(TaskToken<F, T, W>, Duty), Parked> {
         match self.cell.word.unpark(&self.rt) {
             Ok(task) => {
                 let Parked(()) = parked;
-                Ok(task)
+                Ok((task, Duty(())))
             }
             Err(_) => Err(parked),
         }
@@ -134,11 +177,12 @@ where
 
     /// The step by which the handle cancels its task.
     #[inline(always)]
-    pub(crate) fn begin_cancel(&self, task: TaskToken<F, T, W>) -> (CancelStep<F, T, W>, Cancelled)
-        ensures { IsHandleOf task.entry.cell.now result.0.task }
+    pub(crate) fn begin_cancel(&self, task: TaskToken<F, T, W>, duty: Duty) -> CancelStep<F, T, W>
+        ensures { IsHandleOf task.entry.cell.now result.task }
     {
+        let Duty(()) = duty;
         let (owed, runnable, task) = task.cancel(&self.rt);
         let woken = owed_runnable(owed, runnable);
-        (CancelStep { woken, task }, Cancelled(()))
+        CancelStep { woken, task }
     }
 }

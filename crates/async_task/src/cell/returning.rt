@@ -264,7 +264,7 @@ where
         },
         Thing::Handle(parked) => match Held::find(rt, realm, place) {
             Some(held) => match held.unpark(parked) {
-                Ok(token) => drop(Task::of(held, token)),
+                Ok((token, duty)) => drop(Task::of(held, token, duty)),
                 Err(parked) => returns.set_aside(Thing::Handle(parked)),
             },
             None => returns.set_aside(Thing::Handle(parked)),

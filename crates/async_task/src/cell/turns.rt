@@ -1,13 +1,13 @@
 //! The steps of a task's word that a handle, a waker or a Runnable takes. What a step leaves to be done is the answer.
 ghost use Rattle.std.proofs.Props.{props};
-ghost use Rattle.std.specs.Prelude.{◌≡◌, false, is_some, is_ok, Some, None, IfSome, MatchOption};
+ghost use Rattle.std.specs.Prelude.{◌≡◌, false, is_some, is_ok, Some, None, IfOk, IfSome, MatchOption};
 ghost use Rattle.async_task.specs.Due.{WasIdle};
 ghost use Rattle.async_task.specs.Polls.{IsTold};
 ghost use Rattle.async_task.specs.Rests.{info_of, was_woken_by};
 ghost use Rattle.task_word.specs.Handles.{IsHandleOf};
 
 use crate::cell::{Held, Kept, RunnableToken, TaskToken, WakerToken};
-use crate::look::{Look, TooManyReferences};
+use crate::look::{Look, StaysAwake, TooManyReferences};
 use crate::schedule::ScheduleInfo;
 use std::sync::Wait;
 use task_moves::moves::Owed;
@@ -67,13 +67,19 @@ where
     W: Drop + 'static,
     R: Wait + Copy + Drop,
 {
-    /// A wake: a Runnable is the answer where one is owed.
+    /// A wake: a Runnable is the answer where one is owed, and else what shows that none was.
     #[inline(always)]
-    pub(crate) fn wake(&self) -> Option<Woken<F, T, W>>
-        ensures { IfSome result (λ woken. WasIdle woken.info) }
+    pub(crate) fn wake(&self) -> Result<Woken<F, T, W>, StaysAwake>
+        ensures { IfOk result (λ woken. WasIdle woken.info) }
     {
         let (owed, runnable) = self.cell.word.wake(&self.rt);
-        owed_runnable(owed, runnable)
+        match runnable {
+            Ok(token) => match owed.schedule {
+                Some(info) => Ok(Woken { token, info }),
+                None => unreachable!(),
+            },
+            Err(trace) => Err(StaysAwake { trace }),
+        }
     }
 
     /// One reference more, where that is allowed.
@@ -83,17 +89,6 @@ where
             Ok(token) => Ok(token),
             Err(trace) => Err(TooManyReferences { trace }),
         }
-    }
-
-    /// One reference more, for a waker that is lent. That nobody has such a waker by value the types don't say: this
-    /// waits where there are too many references.
-    pub(crate) fn insist(&self) -> WakerToken<F, T, W> {
-        for _ in self.rt.forever() {
-            if let Ok(token) = self.hold() {
-                return token;
-            }
-        }
-        unreachable!()
     }
 
     /// A reference goes.

@@ -10,7 +10,7 @@ ghost use Rattle.task_word.specs.Tokens.{IsClaimOf, Shows, Owes, Registers};
 use crate::cell::Cell;
 use crate::slot::{take_awaiter, take_output};
 use crate::steps::{Pass, awaiter, handle, needs_slot};
-use crate::tokens::{Debt, OwingTask, Task};
+use crate::tokens::{Debt, Given, OwingTask, Task};
 use std::sync::Wait;
 use task_moves::moves::{Answer, Owed};
 
@@ -27,7 +27,7 @@ pub struct RegisteredTask<F: 'static, T: 'static, W: 'static> {
 /// What a look came to: the handle, and the output where it is given.
 pub struct Polled<F: 'static, T: 'static, W: 'static> {
     pub task: Result<Task<F, T, W>, OwingTask<F, T, W>>,
-    pub output: Option<Debt<T>>,
+    pub output: Option<Given<T>>,
 }
 
 /// What a poll's waker came to.
@@ -63,7 +63,7 @@ fn take_answer<F: 'static, T: 'static, W: 'static>(
     ensures same { IsHandleOf cell.now result.task }
 {
     if gives_output(owed) {
-        let output = Debt::of(take_output(cell.board(), &mut pass));
+        let output = Given::of(take_output(cell.board(), &mut pass));
         handle::spend(cell.board(), &mut pass);
         Polled {
             task: Task::of(cell, pass).owing(owed),

@@ -1,8 +1,0 @@
-use Rattle.std.proofs.Common.{◌≡◌}
-use Rattle.async_executor.proofs.run.Run.find.Given as goal
-
--- its own future, and how its last poll ended, stay
-abbrev pub invariant-loop : goal.invariant-loop
-invariant-loop g l =
-    (goal.iterator-loop g).can_next l.iterator' × (goal.iterator-loop g).is_finite l.iterator'
-    × (l.self.future ≡ l.fn.self.future) × (l.self.polled ≡ l.fn.self.polled)

@@ -1,0 +1,86 @@
+//! What a run counts.
+ghost use Rattle.std.specs.Prelude.{◌≡◌, ◌+◌, ◌==◌, cond, is_some, IfSome};
+ghost use Rattle.async_executor.specs.declared.call.Ending.TheVariants.{Ran, GaveWay};
+
+use super::{Ending, Last};
+use std::marker::Model;
+
+/// At every 64th task that it has counted in its life, a run steals from the executor's queue.
+const STEALS_AT: u64 = 64;
+
+/// After 200 tasks a run lets others go first.
+const PAUSES_AT: u64 = 200;
+
+/// How many tasks a run has counted since it last stole so, and how many it has run since it last let others go first.
+#[derive(Drop)]
+pub struct Counts {
+    counted: u64,
+    taken: u64,
+}
+
+/// Says that a run owes a look at the executor's queue, before it runs the next task. It has no drop.
+#[must_use]
+pub struct OwesSteal {
+    own: (),
+}
+
+impl Model for Counts {
+    ghost use Rattle.std.specs.Prelude.{◌<◌};
+    ghost use Rattle.async_executor.specs.Counted.{Counted};
+
+    ghost Value = { Counted };
+
+    ghost view = { λ c. record { counted = c.counted; taken = c.taken } };
+
+    ghost invariant = { λ c. (c.counted < 64) × (c.taken < 200) };
+}
+
+impl Counts {
+    /// Nothing is counted.
+    pub fn new() -> Counts
+        ensures { result ≡ record { counted = 0; taken = 0 } }
+    {
+        Counts {
+            counted: 0,
+            taken: 0,
+        }
+    }
+
+    /// One more task is counted. At the 64th the count begins anew, and a look at the executor's queue is owed.
+    pub fn count(&mut self) -> Option<OwesSteal>
+        ensures full { is_some result ≡ (self.old.counted + 1 == 64) }
+        ensures counted { self.new ≡ record self.old { counted = cond (is_some result) 0 (self.old.counted + 1) } }
+    {
+        let counted = self.counted + 1;
+        if counted == STEALS_AT {
+            self.counted = 0;
+            return Some(OwesSteal { own: () });
+        }
+        self.counted = counted;
+        None
+    }
+
+    /// One more task was run. At the 200th the count begins anew, and a poll ends by that: its end is the answer.
+    pub fn take(&mut self, last: Last) -> Option<Last>
+        requires ran { last ≡ Ran }
+        ensures full { is_some result ≡ (self.old.taken + 1 == 200) }
+        ensures ending { IfSome result (λ last. last ≡ GaveWay) }
+        ensures taken { self.new ≡ record self.old { taken = cond (is_some result) 0 (self.old.taken + 1) } }
+    {
+        let Last { ending: _ } = last;
+        let taken = self.taken + 1;
+        if taken == PAUSES_AT {
+            self.taken = 0;
+            return Some(Last::of(Ending::GaveWay));
+        }
+        self.taken = taken;
+        None
+    }
+}
+
+impl OwesSteal {
+    /// The run looks at the executor's queue.
+    pub fn pay(self) {
+        let OwesSteal { own: () } = self;
+    }
+}

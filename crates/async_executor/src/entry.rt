@@ -1,0 +1,341 @@
+//! What a user has and calls. Each call begins with no lock in hand, which it says by an `Unlocked`: none but these can make
+//! one.
+ghost use Rattle.std.specs.Prelude.{◌≡◌, false, Some, IfOk, IfErr, length};
+ghost use Rattle.std.specs.Iterator.{IsFinite};
+ghost use Rattle.async_executor.specs.Counting.{GoesOn};
+ghost use Rattle.async_executor.specs.Errors.{refused};
+ghost use Rattle.async_executor.specs.Foreign.{value_of};
+ghost use Rattle.async_executor.specs.Polls.{has_left, HasLeft, IsRunAnswer, IsTickAnswer};
+ghost use Rattle.async_executor.specs.Seeds.{seeded};
+ghost use Rattle.async_executor.specs.Spawning.{SpawnsMany};
+
+use crate::call::{Counts, Polled};
+use crate::closing::ClosesReturned;
+use crate::debug::LocalRunners;
+use crate::errors::{RunError, SpawnError};
+use crate::foreign::Foreign;
+use crate::handles::Handles;
+use crate::leaving::Leaving;
+use crate::locks::Guarded;
+use crate::names::{ExRealm, ExScheduled, ExTask, ExWaker};
+use crate::queue::ExQueue;
+use crate::runner::Runner;
+use crate::state::State;
+use crate::ticker::Ticker;
+use crate::{executor, run};
+use async_task::{Future, NoMemory, Poll, Returning, Schedule, ScheduleInfo, StoredWaker, Wake};
+use executor_parts::Places;
+use std::alloc::Global;
+use std::collections::VecDeque;
+use std::fmt;
+use std::sync::{Arc, Wait};
+
+/// Says that a party has none of an executor's locks. It has no bytes: whoever takes a lock has it lent for as long as the lock
+/// is taken, and what calls, copies or drops a value of a user's is lent it.
+#[derive(Drop)]
+pub struct Unlocked {
+    own: (),
+}
+
+impl Unlocked {
+    /// At the beginning of a call.
+    fn at_entry() -> Unlocked {
+        Unlocked { own: () }
+    }
+}
+
+/// An executor of futures `F`, whose outputs are `T`.
+pub struct Executor<F, T, W, R>
+where
+    F: Drop,
+    T: Drop + 'static,
+    W: Wake + Drop + 'static,
+    R: Wait + Copy + Drop + 'static,
+{
+    pub(crate) realm: &'static ExRealm<T, W, R>,
+    pub(crate) state: Arc<State<W>, Global>,
+    pub(crate) table: Guarded<Places<F, Returning<StoredWaker>>>,
+    /// Empty: room for the wakers that the executor's drop takes out of the table.
+    pub(crate) leaving: VecDeque<Returning<StoredWaker>>,
+    /// What was let go of tasks in its realm is to be closed.
+    pub(crate) returned: ClosesReturned,
+    pub(crate) rt: R,
+    pub(crate) alloc: Global,
+}
+
+impl<F, T, W, R> Executor<F, T, W, R>
+where
+    F: Future<ExWaker<T, W, R>, Output = T> + Drop,
+    T: Drop + 'static,
+    W: Wake + Drop + 'static,
+    R: Wait + Copy + Drop + 'static,
+{
+    /// Whether each future that was accepted is dropped. It takes no memory.
+    pub fn is_empty(&self) -> bool {
+        self.has_none(&mut Unlocked::at_entry())
+    }
+
+    /// Hands the executor a future. Its task is queued, and the handle is answered: a future with the output, whose drop
+    /// cancels the task. `Full` where as many accepted futures as the limit are not dropped yet, and only then want of memory
+    /// for the task. The future comes back.
+    pub fn spawn(&self, future: F) -> Result<ExTask<T, W, R>, SpawnError<F>>
+        ensures future { IfErr result (λ error. refused error ≡ future) }
+        ensures here { IfOk result (λ task. task.identity.realm ≡ self.now.realm.now.number) }
+    {
+        self.hand_in(future, &mut Unlocked::at_entry())
+    }
+
+    /// Hands the executor one future after the other, until the iterator ends or one is refused. The handles of those that
+    /// were accepted are answered, in order, and the refused future with the cause; the rest stays in the iterator. The room
+    /// for a handle is asked for before its future is spawned.
+    pub fn spawn_many<I: Iterator<Item = F>>(
+        &self,
+        futures: &mut I,
+    ) -> (Handles<T, W, R>, Result<(), SpawnError<F>>)
+        requires { I.can_next futures.old × IsFinite (I.remaining futures.old) }
+        ensures taken { SpawnsMany I.next_gives futures.old futures.new (length result.0.tasks) result.1 }
+        ensures here { result.0.realm ≡ self.now.realm.now.number }
+    {
+        let mut handles = Handles::new(self.rt, self.alloc, self.realm);
+        for _ in self.rt.forever() {
+            let Some(future) = futures.next() else {
+                return (handles, Ok(()));
+            };
+            if handles.reserve().is_err() {
+                return (handles, Err(SpawnError::NoMemory(future)));
+            }
+            match self.spawn(future) {
+                Ok(task) => handles.push_back(task),
+                Err(refused) => return (handles, Err(refused)),
+            }
+        }
+        unreachable!()
+    }
+
+    /// Runs one task, where one is queued, and says whether it did. It doesn't wait for one, and takes no memory.
+    pub fn try_tick(&self) -> bool {
+        self.run_one(&mut Unlocked::at_entry())
+    }
+
+    /// A future that waits for a future of the executor which is to be polled, and polls it once.
+    pub fn tick(&self) -> Result<Tick<'_, F, T, W, R>, NoMemory>
+        ensures { IfOk result (λ tick. has_left tick.ticker ≡ false) }
+    {
+        self.make_tick(&mut Unlocked::at_entry())
+    }
+
+    /// A future that runs the executor's futures until this one is ready, and has its output then. For want of memory the
+    /// future comes back.
+    pub fn run<G>(&self, future: G) -> Result<Run<'_, F, T, W, R, G>, G>
+    where
+        G: Future<ExWaker<T, W, R>> + Drop,
+        ensures back { IfErr result (λ back. back ≡ future) }
+        ensures future { IfOk result (λ run. value_of run.future ≡ Some future) }
+        ensures words { IfOk result (λ run. run.runner.words ≡ seeded 0) }
+    {
+        self.make_run(future, 0, &mut Unlocked::at_entry())
+    }
+
+    /// As `run`, with another seed for the places at which it begins to look for tasks of other runs.
+    pub fn run_from<G>(&self, future: G, seed: u64) -> Result<Run<'_, F, T, W, R, G>, G>
+    where
+        G: Future<ExWaker<T, W, R>> + Drop,
+        ensures back { IfErr result (λ back. back ≡ future) }
+        ensures future { IfOk result (λ run. value_of run.future ≡ Some future) }
+        ensures words { IfOk result (λ run. run.runner.words ≡ seeded seed) }
+    {
+        self.make_run(future, seed, &mut Unlocked::at_entry())
+    }
+}
+
+impl<F, T, W, R> Drop for Executor<F, T, W, R>
+where
+    F: Drop,
+    T: Drop + 'static,
+    W: Wake + Drop + 'static,
+    R: Wait + Copy + Drop + 'static,
+{
+    /// Drops each future, in the order of acceptance, calls each waker, in that order, and closes each task that is left. It
+    /// takes no memory.
+    fn drop(self) {
+        let Executor {
+            realm,
+            state,
+            table,
+            leaving,
+            returned,
+            rt,
+            alloc: _,
+        } = self;
+        executor::end(
+            rt,
+            realm,
+            state,
+            table.into_inner(),
+            Leaving::of(leaving),
+            returned,
+            &mut Unlocked::at_entry(),
+        );
+    }
+}
+
+/// How many futures have a waker in the table, how many tasks stand in the global queue, how many in each run's own, and how
+/// many ticks and runs sleep; `<locked>` for what stands under a lock that isn't free.
+impl<F, T, W, R> fmt::Debug for Executor<F, T, W, R>
+where
+    F: Drop,
+    T: Drop + 'static,
+    W: Wake + Drop + 'static,
+    R: Wait + Copy + Drop + 'static,
+{
+    fn fmt<O: fmt::Write>(&self, f: &mut fmt::Formatter<O>) -> fmt::Result {
+        self.show(f, &mut Unlocked::at_entry())
+    }
+}
+
+impl<R: Wait> LocalRunners<'_, R> {
+    /// The length of the queue at this place of the list. The writer of the text, who may be a user's, asks for it.
+    pub(crate) fn length_at(&self, at: usize) -> Option<Option<usize>> {
+        self.length_in(at, &mut Unlocked::at_entry())
+    }
+}
+
+/// Waits for a future that is to be polled, and polls it once: a future with output `Ok(())`. After it was ready it serves as
+/// a new one. Its drop passes on to another tick or run what it had been told.
+///
+/// It is made by `Executor::tick`.
+#[must_use]
+pub struct Tick<'a, F, T, W, R>
+where
+    F: Drop,
+    T: Drop + 'static,
+    W: Wake + Drop + 'static,
+    R: Wait + Copy + Drop + 'static,
+{
+    pub(crate) executor: &'a Executor<F, T, W, R>,
+    pub(crate) ticker: Ticker,
+    /// How its last poll ended.
+    pub(crate) polled: Polled,
+}
+
+impl<F, T, W, R> Future<ExWaker<T, W, R>> for Tick<'_, F, T, W, R>
+where
+    F: Future<ExWaker<T, W, R>, Output = T> + Drop,
+    T: Drop + 'static,
+    W: Wake + Drop + 'static,
+    R: Wait + Copy + Drop + 'static,
+{
+    type Output = Result<(), NoMemory>;
+
+    /// Runs a task, and is ready, or lies down and is pending.
+    fn poll(&mut self, waker: &ExWaker<T, W, R>) -> Poll<Result<(), NoMemory>>
+        ensures answer { IsTickAnswer self.old.polled self.new.polled result }
+        ensures stays { has_left self.new.ticker ≡ has_left self.old.ticker }
+    {
+        self.look(waker, &mut Unlocked::at_entry())
+    }
+}
+
+impl<F, T, W, R> Drop for Tick<'_, F, T, W, R>
+where
+    F: Drop,
+    T: Drop + 'static,
+    W: Wake + Drop + 'static,
+    R: Wait + Copy + Drop + 'static,
+{
+    /// Leaves the sleepers, and gives its room there back.
+    fn drop(self) {
+        let Tick {
+            executor,
+            ticker,
+            polled: _,
+        } = self;
+        ticker.leave(
+            executor.rt,
+            &executor.state,
+            executor.realm,
+            &mut Unlocked::at_entry(),
+        );
+    }
+}
+
+/// Runs the executor's futures until a future of its own is ready: a future with that one's output. Its drop gives back to
+/// the executor what it had taken to itself.
+///
+/// It is made by `Executor::run`.
+#[must_use]
+pub struct Run<'a, F, T, W, R, G>
+where
+    F: Drop,
+    T: Drop + 'static,
+    W: Wake + Drop + 'static,
+    R: Wait + Copy + Drop + 'static,
+    G: Drop,
+{
+    pub(crate) executor: &'a Executor<F, T, W, R>,
+    /// The future that it runs for, until that is ready.
+    pub(crate) future: Option<Foreign<G>>,
+    pub(crate) runner: Runner,
+    pub(crate) ticker: Ticker,
+    /// How its last poll ended, if that took tasks.
+    pub(crate) polled: Polled,
+    /// How many tasks it has taken.
+    pub(crate) counts: Counts,
+}
+
+impl<F, T, W, R, G> Future<ExWaker<T, W, R>> for Run<'_, F, T, W, R, G>
+where
+    F: Future<ExWaker<T, W, R>, Output = T> + Drop,
+    T: Drop + 'static,
+    W: Wake + Drop + 'static,
+    R: Wait + Copy + Drop + 'static,
+    G: Future<ExWaker<T, W, R>> + Drop,
+{
+    type Output = Result<G::Output, RunError>;
+
+    /// Polls its future, and is ready where that is. Else it runs tasks, until it finds none or ran 200 since it last let
+    /// others go first.
+    fn poll(&mut self, waker: &ExWaker<T, W, R>) -> Poll<Result<G::Output, RunError>>
+        ensures answer { IsRunAnswer self.old.future self.new.future self.old.polled self.new.polled result }
+        ensures left { HasLeft self.new.runner.is_drained (has_left self.new.ticker) result }
+        ensures counted { GoesOn self.old.counts self.new.counts self.old.polled self.new.polled }
+    {
+        self.go_on(waker, &mut Unlocked::at_entry())
+    }
+}
+
+impl<F, T, W, R, G> Drop for Run<'_, F, T, W, R, G>
+where
+    F: Drop,
+    T: Drop + 'static,
+    W: Wake + Drop + 'static,
+    R: Wait + Copy + Drop + 'static,
+    G: Drop,
+{
+    /// Drops its future, schedules what is left in its own queue, and leaves the sleepers. A run that was never polled only
+    /// drops its future and gives its room back.
+    fn drop(self) {
+        let Run {
+            executor,
+            future,
+            runner,
+            ticker,
+            polled: _,
+            counts: _,
+        } = self;
+        run::end(executor, future, runner, ticker, &mut Unlocked::at_entry());
+    }
+}
+
+impl<T, W, R> Schedule<ExScheduled<T, W, R>> for ExQueue<T, W, R>
+where
+    T: Drop + 'static,
+    W: Wake + Drop + 'static,
+    R: Wait + Copy + Drop + 'static,
+{
+    /// Appends the Runnable to the executor's queue, and tells a tick or run that sleeps. Once the executor's drop has begun it
+    /// is dropped in its place.
+    fn schedule(&self, runnable: ExScheduled<T, W, R>, _info: ScheduleInfo) {
+        self.queue(runnable, &mut Unlocked::at_entry());
+    }
+}

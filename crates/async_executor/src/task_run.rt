@@ -1,0 +1,100 @@
+//! A task while it is run. Its end calls who awaits it, so it is lent an `Unlocked`.
+use crate::entry::Unlocked;
+use crate::names::{ExClosing, ExRunning, ExScheduled, ExWaker};
+use async_task::{Back, RunEnd, Started, Wake};
+use executor_parts::Place;
+use std::sync::Wait;
+
+/// What a task begins that is to be run.
+#[must_use]
+pub enum Begun<T, W, R>
+where
+    T: Drop + 'static,
+    W: Wake + Drop + 'static,
+    R: Wait + Copy + Drop + 'static,
+{
+    /// The future at this place is polled, and the run is then settled.
+    Poll(Place, Polling<T, W, R>),
+    /// The task is closed: the future at this place is dropped, and the run is then finished.
+    Drop(Place, Dropping<T, W, R>),
+}
+
+/// A run whose future is polled. It has no drop: it is settled.
+#[must_use]
+pub struct Polling<T, W, R>
+where
+    T: Drop + 'static,
+    W: Wake + Drop + 'static,
+    R: Wait + Copy + Drop + 'static,
+{
+    running: ExRunning<T, W, R>,
+}
+
+/// A run whose future is dropped. It has no drop: it is finished.
+#[must_use]
+pub struct Dropping<T, W, R>
+where
+    T: Drop + 'static,
+    W: Wake + Drop + 'static,
+    R: Wait + Copy + Drop + 'static,
+{
+    closing: ExClosing<T, W, R>,
+}
+
+/// Begins the run of a task.
+pub fn begin<T, W, R>(scheduled: ExScheduled<T, W, R>) -> Begun<T, W, R>
+where
+    T: Drop + 'static,
+    W: Wake + Drop + 'static,
+    R: Wait + Copy + Drop + 'static,
+{
+    match scheduled.into_runnable().start() {
+        Started::Poll(place, running) => Begun::Poll(place, Polling { running }),
+        Started::Drop(place, closing) => Begun::Drop(place, Dropping { closing }),
+    }
+}
+
+impl<T, W, R> Polling<T, W, R>
+where
+    T: Drop + 'static,
+    W: Wake + Drop + 'static,
+    R: Wait + Copy + Drop + 'static,
+{
+    /// The waker that the future is polled with.
+    pub fn waker(&self) -> &ExWaker<T, W, R> {
+        self.running.waker()
+    }
+
+    /// Ends the run, with no lock held. Where the task was closed meanwhile, the answer is the place of its future, which is
+    /// dropped then.
+    pub fn settle(
+        self,
+        back: Back<Place, T>,
+        unlocked: &Unlocked,
+    ) -> Option<(Place, Dropping<T, W, R>)> {
+        let _ = unlocked;
+        let Polling { running } = self;
+        match running.settle(back) {
+            RunEnd::Over => None,
+            RunEnd::Pause(pause) => {
+                pause.finish();
+                None
+            }
+            RunEnd::Drop(place, closing) => Some((place, Dropping { closing })),
+        }
+    }
+}
+
+impl<T, W, R> Dropping<T, W, R>
+where
+    T: Drop + 'static,
+    W: Wake + Drop + 'static,
+    R: Wait + Copy + Drop + 'static,
+{
+    /// Ends the run, with no lock held, once the future is dropped.
+    pub fn finish(self, unlocked: &Unlocked) {
+        let _ = unlocked;
+        let Dropping { closing } = self;
+        closing.finish();
+    }
+}

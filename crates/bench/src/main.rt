@@ -23,7 +23,7 @@ use std::sync::Wait;
 use std::thread::Threads;
 use words::{Asked, read_words};
 use workloads::task::Tasks;
-use workloads::{ALL, Fault, Workload};
+use workloads::{Fault, Workload, all};
 
 fn main(rt: HostRuntime) -> ExitCode {
     // Generic code that makes a realm and works on it gets no proof, nor does code over any runtime type with futures that
@@ -69,8 +69,8 @@ where
     match arguments(rt)? {
         Asked::List => list(rt),
         Asked::All => {
-            for workload in ALL {
-                time::<L, P, J, R>(rt, realms, workload, workload.usual_ops())?;
+            for workload in all() {
+                time::<L, P, J, R>(rt, realms, *workload, workload.usual_ops())?;
             }
             Ok(())
         }
@@ -85,7 +85,7 @@ fn arguments<R: AllocGlobal + Env>(rt: &R) -> Result<Asked, Fault> {
 }
 
 fn list<R: Print>(rt: &R) -> Result<(), Fault> {
-    for workload in ALL {
+    for workload in all() {
         println!(rt; "{}", workload.name())?;
     }
     Ok(())

@@ -10,12 +10,12 @@ mod many;
 mod names;
 mod threads;
 mod ticks;
-mod time;
+mod work;
 mod workplace;
 
 pub use awaited::Awaited;
 pub use chain::{Chain, Link};
 pub use futures::Yields;
 pub use names::{Futures, Handle, Timed, Waker};
-pub use time::time;
+pub use work::time;
 pub use workplace::{Crew, Worker, Workplace};

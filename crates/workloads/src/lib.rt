@@ -16,4 +16,4 @@ pub use fault::Fault;
 pub use queue::{on_queue_of_one, on_shared_queue};
 pub use sharing::{round, share};
 pub use timing::Timing;
-pub use workload::{ALL, Workload};
+pub use workload::{Workload, all};

@@ -19,8 +19,7 @@ use crate::work::Workers::{Four, One, Two};
 #[derive(Clone, Copy)]
 pub struct Workload(&'static str, u64, Work);
 
-/// Every workload, in the order in which they are listed and run.
-pub const ALL: [Workload; 44] = [
+const ALL: &[Workload] = &[
     Workload("base/fetch-add", 50_000_000, FetchAdd),
     Workload("base/mutex-lock", 20_000_000, MutexLock),
     Workload("queue/single", 10_000_000, Queue(Single, PushAndPop)),
@@ -75,6 +74,11 @@ pub const ALL: [Workload; 44] = [
     Workload("jobs/run-4", 200_000, Jobs(JobWork::Run(Four))),
 ];
 
+/// Every workload, in the order in which they are listed and run.
+pub fn all() -> &'static [Workload] {
+    ALL
+}
+
 impl Workload {
     /// Its name, by which `bench` is asked for it.
     pub fn name(self) -> &'static str {
@@ -95,9 +99,9 @@ impl Workload {
 
     /// The workload of this name, or `None`.
     pub fn named(name: &str) -> Option<Workload> {
-        for workload in ALL {
+        for workload in all() {
             if workload.0 == name {
-                return Some(workload);
+                return Some(*workload);
             }
         }
         None

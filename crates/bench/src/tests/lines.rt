@@ -3,13 +3,13 @@ use crate::line::Line;
 use crate::tests::same::same;
 use std::test::Fail;
 use std::time::Duration;
-use workloads::{ALL, Workload, share};
+use workloads::{Workload, all, share};
 
 #[test]
 fn a_name_names_one_workload(rt: HostRuntime) {
-    for workload in ALL {
+    for workload in all() {
         let mut named = 0u64;
-        for other in ALL {
+        for other in all() {
             named = named.saturating_add(u64::from(other.name() == workload.name()));
         }
         same(&rt, named, 1);

@@ -4,7 +4,7 @@ use crate::tests::same::same;
 use executor_workloads::job::{JobPlace, JobRealm, Open};
 use executor_workloads::{Awaited, Futures, Link, Workplace};
 use std::test::Fail;
-use workloads::ALL;
+use workloads::all;
 use workloads::task::Tasks;
 use workloads::work::{TaskWork, Way, Work};
 
@@ -30,7 +30,7 @@ fn each_workload_moves_what_it_was_asked_to(rt: HostRuntime) -> Result<(), Fail>
         futures: Futures::leak(rt, rt.alloc())?,
         jobs: JobRealm::<HostRuntime>::leak(rt, rt.alloc())?,
     };
-    for workload in ALL {
+    for workload in all() {
         let moved = match run::<
             Link<HostRuntime>,
             Workplace<Awaited<HostRuntime>, HostRuntime>,

@@ -1,6 +1,7 @@
 //! The families of scripts: what plays them, and where they lie.
 
-use crate::shown::{Shown, machine, shown_by_queue};
+use crate::shown::{Shown, machine, shown_by_executor, shown_by_queue};
+use executor_player::Home;
 use queue_player::{play_exclusive, play_shared};
 use std::alloc::{AllocError, AllocGlobal};
 use std::sync::Wait;
@@ -10,6 +11,8 @@ use std::sync::Wait;
 pub enum Family {
     /// The step machine.
     Machine,
+    /// A running executor.
+    Executor,
     /// A queue that threads share.
     Queue,
     /// The queue of one owner.
@@ -18,12 +21,18 @@ pub enum Family {
 
 impl Family {
     /// All of them, in the order in which they are played.
-    pub const ALL: [Family; 3] = [Family::Machine, Family::Queue, Family::Exclusive];
+    pub const ALL: [Family; 4] = [
+        Family::Machine,
+        Family::Executor,
+        Family::Queue,
+        Family::Exclusive,
+    ];
 
     /// The name that an argument and a line of the output have.
     pub fn name(self) -> &'static str {
         match self {
             Family::Machine => "machine",
+            Family::Executor => "executor",
             Family::Queue => "queue",
             Family::Exclusive => "exclusive",
         }
@@ -33,6 +42,7 @@ impl Family {
     pub fn file(self) -> &'static str {
         match self {
             Family::Machine => "machine.txt",
+            Family::Executor => "executor.txt",
             Family::Queue | Family::Exclusive => "queue.txt",
         }
     }
@@ -41,6 +51,7 @@ impl Family {
     pub fn file_with_a_wrong_line(self) -> &'static str {
         match self {
             Family::Machine => "wrong-machine.txt",
+            Family::Executor => "wrong-executor.txt",
             Family::Queue | Family::Exclusive => "wrong-queue.txt",
         }
     }
@@ -50,13 +61,17 @@ impl Family {
         Family::ALL.into_iter().find(|family| family.name() == name)
     }
 
-    /// What it shows of a script. The error is a want of memory.
-    pub fn play<R>(self, rt: R, script: &[u8]) -> Result<Shown, AllocError>
+    /// What it shows of a script; the tasks of an executor lie in the realm of this home. The error is a want of memory.
+    pub fn play<G, R>(self, rt: R, home: &G, script: &[u8]) -> Result<Shown, AllocError>
     where
-        R: AllocGlobal + Wait + Copy + Drop,
+        G: Home<R>,
+        R: AllocGlobal + Wait + Copy + Drop + 'static,
     {
         match self {
             Family::Machine => machine(rt.alloc(), script),
+            Family::Executor => {
+                shown_by_executor(executor_player::play(rt, rt.alloc(), home, script))
+            }
             Family::Queue => shown_by_queue(play_shared(rt, rt.alloc(), script)),
             Family::Exclusive => shown_by_queue(play_exclusive(rt.alloc(), script)),
         }

@@ -10,6 +10,7 @@ mod fault;
 mod shown;
 mod verdict;
 
+use executor_player::{HandedIn, Home, ScriptRealm};
 use family::Family;
 use fault::Fault;
 use std::alloc::AllocGlobal;
@@ -20,7 +21,11 @@ use std::{env, fs};
 use verdict::judged;
 
 fn main(rt: HostRuntime) -> ExitCode {
-    match run(rt) {
+    let run = match ScriptRealm::leak(rt, rt.alloc()) {
+        Ok(realm) => run(rt, &HandedIn::of(realm)),
+        Err(error) => Err(Fault::from(error)),
+    };
+    match run {
         Ok(()) => ExitCode::SUCCESS,
         Err(fault) => {
             // A fault that can't be told still has its status.
@@ -31,15 +36,16 @@ fn main(rt: HostRuntime) -> ExitCode {
 }
 
 /// Does what the arguments ask.
-fn run<R>(rt: R) -> Result<(), Fault>
+fn run<G, R>(rt: R, home: &G) -> Result<(), Fault>
 where
-    R: AllocGlobal + Env + Files + Print + Wait + Copy + Drop,
+    G: Home<R>,
+    R: AllocGlobal + Env + Files + Print + Wait + Copy + Drop + 'static,
 {
     let words: Vec<String> = env::args(&rt)?.skip(1).collect(rt.alloc())?;
     match words.as_slice() {
-        [] => play_all(rt),
+        [] => play_all(rt, home),
         [family, file] => match Family::named(family.as_str()) {
-            Some(family) => play(rt, family, family.name(), file.as_str()),
+            Some(family) => play(rt, home, family, family.name(), file.as_str()),
             None => Err(Fault::Usage),
         },
         _ => Err(Fault::Usage),
@@ -47,13 +53,14 @@ where
 }
 
 /// Plays each family's scripts, and those of which one has a wrong line.
-fn play_all<R>(rt: R) -> Result<(), Fault>
+fn play_all<G, R>(rt: R, home: &G) -> Result<(), Fault>
 where
-    R: AllocGlobal + Files + Print + Wait + Copy + Drop,
+    G: Home<R>,
+    R: AllocGlobal + Files + Print + Wait + Copy + Drop + 'static,
 {
     let mut ended = Ok(());
     for family in Family::ALL {
-        match play(rt, family, family.name(), family.file()) {
+        match play(rt, home, family, family.name(), family.file()) {
             Err(Fault::Differs) => ended = Err(Fault::Differs),
             Err(fault) => return Err(fault),
             Ok(()) => {}
@@ -61,7 +68,13 @@ where
     }
     println!(rt; "With a wrong line:")?;
     for family in Family::ALL {
-        match play(rt, family, family.name(), family.file_with_a_wrong_line()) {
+        match play(
+            rt,
+            home,
+            family,
+            family.name(),
+            family.file_with_a_wrong_line(),
+        ) {
             // A wrong line that isn't seen.
             Ok(()) => ended = Err(Fault::Differs),
             Err(Fault::Differs) => {}
@@ -72,12 +85,13 @@ where
 }
 
 /// Plays the scripts of a file. The error is `Differs` where one doesn't show what is owed.
-fn play<R>(rt: R, family: Family, label: &str, file: &str) -> Result<(), Fault>
+fn play<G, R>(rt: R, home: &G, family: Family, label: &str, file: &str) -> Result<(), Fault>
 where
-    R: AllocGlobal + Files + Print + Wait + Copy + Drop,
+    G: Home<R>,
+    R: AllocGlobal + Files + Print + Wait + Copy + Drop + 'static,
 {
     let text = fs::read_to_string(&rt, file)?;
-    let verdict = judged(rt, family, text.as_str())?;
+    let verdict = judged(rt, home, family, text.as_str())?;
     verdict.print(&rt, label)?;
     if verdict.is_agreed() {
         Ok(())

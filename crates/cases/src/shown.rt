@@ -3,6 +3,7 @@
 ghost use Rattle.std.specs.Prelude.{IfOk};
 ghost use Rattle.cases.specs.Owed.{IsShown};
 
+use executor_player::PlayError;
 use std::alloc::{AllocError, Global};
 
 /// What a player shows of a script.
@@ -33,5 +34,14 @@ pub fn shown_by_queue(
         Ok(text) => Ok(Shown::Text(text)),
         Err(queue_player::ParseError::BadLine(number)) => Ok(Shown::BadLine(number)),
         Err(queue_player::ParseError::NoMemory) => Err(AllocError),
+    }
+}
+
+/// What a player of executors shows of a script. A line that it has no call for counts as bad. The error is a want of memory.
+pub fn shown_by_executor(shown: Result<Vec<u8>, PlayError>) -> Result<Shown, AllocError> {
+    match shown {
+        Ok(text) => Ok(Shown::Text(text)),
+        Err(PlayError::BadLine(number) | PlayError::NotWhole(number)) => Ok(Shown::BadLine(number)),
+        Err(PlayError::NoMemory) => Err(AllocError),
     }
 }

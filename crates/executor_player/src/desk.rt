@@ -1,0 +1,128 @@
+//! The executor of a script.
+use crate::answer::Answer;
+use crate::future::{Planned, Scripted};
+use crate::handle::{Held, HoldIn};
+use crate::outside::{Bell, Gift};
+use crate::own::Own;
+use crate::seat::Seat;
+use crate::shelf::SharedShelf;
+use async_executor::{Executor, SpawnError};
+use script::{Item, Name};
+use std::rc::Rc;
+use std::sync::Wait;
+
+/// The executor of a script.
+pub type ScriptExecutor<F, R> = Executor<F, Gift, Bell, R>;
+
+/// What a future is made of.
+#[derive(Drop)]
+pub struct Plan<H: Drop> {
+    pub name: Name,
+    pub items: Vec<Item>,
+    /// The handles that its items name.
+    pub held: Vec<Held<H>>,
+}
+
+/// A future wasn't accepted: why, and the handles that it was to hold.
+#[derive(Drop)]
+pub struct Refused<H: Drop> {
+    pub answer: Answer,
+    pub held: Vec<Held<H>>,
+}
+
+/// An executor whose handles are `H` and whose ticks and runs are `S`, as a player sees it.
+pub trait Desk<H: Drop, S> {
+    fn spawn(&self, plan: Plan<H>) -> Result<H, Refused<H>>;
+
+    fn try_tick(&self) -> bool;
+
+    fn is_empty(&self) -> bool;
+
+    /// A new tick, where there is memory for it.
+    fn tick(&self) -> Option<S>;
+
+    /// A new run. For want of memory its future comes back.
+    fn run(&self, own: Own<H>) -> Result<S, Own<H>>;
+}
+
+/// An executor of a script, and where the wakers of its futures are kept.
+#[derive(Drop)]
+pub struct OnExecutor<'a, F, R>
+where
+    F: Drop,
+    R: Wait + Copy + Drop + 'static,
+{
+    pub executor: &'a ScriptExecutor<F, R>,
+    pub shelf: SharedShelf,
+}
+
+impl<'a, F, H, R> Desk<H, Seat<'a, F, H, R>> for OnExecutor<'a, F, R>
+where
+    F: Planned<H, R>,
+    H: HoldIn<R>,
+    R: Wait + Copy + Drop + 'static,
+{
+    fn spawn(&self, plan: Plan<H>) -> Result<H, Refused<H>> {
+        let Plan { name, items, held } = plan;
+        let Ok(shelf) = Rc::clone(&self.shelf) else {
+            return Err(Refused {
+                answer: Answer::NoMemory,
+                held,
+            });
+        };
+        hand_over(
+            self.executor,
+            Scripted {
+                name,
+                items,
+                next: 0,
+                held,
+                shelf,
+            },
+        )
+    }
+
+    fn try_tick(&self) -> bool {
+        self.executor.try_tick()
+    }
+
+    fn is_empty(&self) -> bool {
+        self.executor.is_empty()
+    }
+
+    fn tick(&self) -> Option<Seat<'a, F, H, R>> {
+        let executor = self.executor;
+        match executor.tick() {
+            Ok(tick) => Some(Seat::Tick(tick)),
+            Err(_) => None,
+        }
+    }
+
+    fn run(&self, own: Own<H>) -> Result<Seat<'a, F, H, R>, Own<H>> {
+        let executor = self.executor;
+        match executor.run(own) {
+            Ok(run) => Ok(Seat::Run(run)),
+            Err(own) => Err(own),
+        }
+    }
+}
+
+/// Spawns a future.
+fn hand_over<F, H, R>(executor: &ScriptExecutor<F, R>, future: Scripted<H>) -> Result<H, Refused<H>>
+where
+    F: Planned<H, R>,
+    H: HoldIn<R>,
+    R: Wait + Copy + Drop + 'static,
+{
+    match executor.spawn(F::planned(future)) {
+        Ok(task) => Ok(H::of(task)),
+        Err(SpawnError::Full(future)) => Err(Refused {
+            answer: Answer::Full,
+            held: future.into_held(),
+        }),
+        Err(SpawnError::NoMemory(future)) => Err(Refused {
+            answer: Answer::NoMemory,
+            held: future.into_held(),
+        }),
+    }
+}

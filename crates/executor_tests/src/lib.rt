@@ -3,11 +3,7 @@
 #![tactic(auto)]
 
 #[cfg(test)]
-mod alone;
-#[cfg(test)]
 mod borrowed;
-#[cfg(test)]
-mod closing;
 #[cfg(test)]
 mod hello;
 #[cfg(test)]
@@ -15,16 +11,10 @@ mod many;
 #[cfg(test)]
 mod parts;
 #[cfg(test)]
-mod play;
-#[cfg(test)]
-mod refusals;
-#[cfg(test)]
-mod runs;
+mod rows;
 #[cfg(test)]
 mod stage;
 #[cfg(test)]
 mod texts;
 #[cfg(test)]
 mod threads;
-#[cfg(test)]
-mod ticks;

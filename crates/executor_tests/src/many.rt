@@ -1,7 +1,7 @@
 //! Many of a kind, one after the other.
 use crate::parts::{Bell, Gift, Job, TestExecutor, TestRealm, TestWaker, Work};
 use crate::stage::{Planned, Stage};
-use async_executor::Handles;
+use async_executor::{Handles, SpawnError};
 use async_task::{Future, Poll, Returning, StoredTask};
 use std::mem;
 use std::process::Abort;
@@ -46,51 +46,61 @@ impl<R: Wait + Copy + Drop + 'static> Future<TestWaker<R>> for InOrder<R> {
     }
 }
 
-/// Spawns so many futures in one call: what awaits them in order.
-fn in_order<F, R>(stage: &Stage<R>, executor: &TestExecutor<F, R>, count: u64) -> InOrder<R>
-where
-    F: Planned<R>,
-    R: Abort + Wait + Copy + Drop + 'static,
-{
-    let futures = stage.all_ready(count);
-    let (handles, _) = executor.spawn_many(&mut futures.into_iter());
-    InOrder {
-        rt: stage.rt,
-        realm: stage.realm,
-        handles,
-        awaited: None,
-        next: 0,
+impl<R: Abort + Wait + Copy + Drop + 'static> Stage<R> {
+    /// Spawns so many futures in one call: what awaits them in order, and the name of the one that was refused since the
+    /// executor is full.
+    fn in_order<F: Planned<R>>(
+        &self,
+        executor: &TestExecutor<F, R>,
+        count: u64,
+    ) -> (InOrder<R>, Option<u64>) {
+        let futures = self.all_ready(count);
+        let (handles, refused) = executor.spawn_many(&mut futures.into_iter());
+        let in_order = InOrder {
+            rt: self.rt,
+            realm: self.realm,
+            handles,
+            awaited: None,
+            next: 0,
+        };
+        (in_order, refused_name::<F, R>(refused))
+    }
+
+    /// Runs a future, and polls the run so often at most: its output, and how many polls were pending.
+    fn run_to_its_end<F: Planned<R>>(
+        &self,
+        executor: &TestExecutor<F, R>,
+        future: InOrder<R>,
+        most: u64,
+    ) -> (u64, u64) {
+        let Ok(mut run) = executor.run(future) else {
+            return (0, 0);
+        };
+        let waker = self.bell();
+        let mut ended = (0, most);
+        for polls in 0..most {
+            match run.poll(&waker) {
+                Poll::Ready(Ok(output)) => {
+                    ended = (output, polls);
+                    break;
+                }
+                Poll::Ready(Err(_)) => break,
+                Poll::Pending => {}
+            }
+        }
+        ended
     }
 }
 
-/// Runs a future, and polls the run so often at most: its output, and how many polls were pending.
-fn run_to_its_end<F, G, R>(
-    stage: &Stage<R>,
-    executor: &TestExecutor<F, R>,
-    future: G,
-    most: u64,
-) -> (u64, u64)
+fn refused_name<F, R>(refused: Result<(), SpawnError<F>>) -> Option<u64>
 where
     F: Planned<R>,
-    G: Future<TestWaker<R>, Output = u64> + Drop,
-    R: Abort + Wait + Copy + Drop + 'static,
+    R: Wait + Copy + Drop + 'static,
 {
-    let Ok(mut run) = executor.run(future) else {
-        return (0, 0);
-    };
-    let waker = stage.bell();
-    let mut ended = (0, most);
-    for polls in 0..most {
-        match run.poll(&waker) {
-            Poll::Ready(Ok(output)) => {
-                ended = (output, polls);
-                break;
-            }
-            Poll::Ready(Err(_)) => break,
-            Poll::Pending => {}
-        }
+    match refused {
+        Err(SpawnError::Full(future)) => Some(future.name()),
+        Err(SpawnError::NoMemory(_)) | Ok(()) => None,
     }
-    ended
 }
 
 /// A run takes 200 tasks at each poll, so that it is ready after 250 polls that are pending. Each future is polled once.
@@ -98,14 +108,28 @@ where
 fn a_run_awaits_fifty_thousand_handles_in_order(rt: HostRuntime) {
     let stage = Stage::new(rt, rt.alloc(), TestRealm::leak(rt, rt.alloc()), 50_000);
     let executor: TestExecutor<Job<_>, _> = stage.executor(50_000);
-    let future = in_order(&stage, &executor, 50_000);
-    let came = run_to_its_end(&stage, &executor, future, 50_000);
-    let mut are_well = stage.notes.lost.load(SeqCst) == 50_000;
+    let (future, refused) = stage.in_order(&executor, 50_000);
+    let came = stage.run_to_its_end(&executor, future, 50_000);
+    let mut are_well = refused.is_none();
     for each in &stage.notes.each {
         let is_well = (each.polls.load(SeqCst), each.drops.load(SeqCst)) == (1, 1);
         are_well = are_well & is_well & (each.lost.load(SeqCst) == 1);
     }
     assert!(rt; (came == (50_000, 250)) & are_well & executor.is_empty());
+}
+
+/// A spawn of many accepts as many as there are places, and hands the next future back. None is no refusal.
+#[test]
+fn many_are_spawned_until_one_is_refused(rt: HostRuntime) {
+    let stage = Stage::new(rt, rt.alloc(), TestRealm::leak(rt, rt.alloc()), 0);
+    let executor: TestExecutor<Job<_>, _> = stage.executor(2);
+    let mut are_well = true;
+    for (count, refused, output) in [(0, None, 0), (3, Some(2), 2), (2, None, 2)] {
+        let (future, was_refused) = stage.in_order(&executor, count);
+        let (came, _) = stage.run_to_its_end(&executor, future, 9);
+        are_well = are_well & (was_refused == refused) & (came == output) & executor.is_empty();
+    }
+    assert!(rt; are_well);
 }
 
 /// Makes an executor, spawns a future on it, and drops both: the text of where the task lay.
@@ -114,11 +138,7 @@ where
     F: Planned<R>,
     R: Abort + Wait + Copy + Drop + 'static,
 {
-    let future = stage.job(Some(0), Work::Pend);
-    let stored = match executor.spawn(future) {
-        Ok(task) => Returning::new(task.store()),
-        Err(_) => return None,
-    };
+    let stored = stage.spawn(&executor, stage.job(0, Work::Pend))?;
     let text = format!(in stage.alloc; "{stored:?}").ok();
     stage.drop_handle(stored);
     text

@@ -4,25 +4,22 @@ ghost use Rattle.std.specs.Prelude.{◌<◌};
 
 use crate::parts::{
     Bell, Gift, Job, Notes, TestExecutor, TestRealm, TestTask, TestWaker, Work, drop_stored,
-    drop_waker,
 };
-use async_executor::{Run, RunError, SpawnError, Tick};
-use async_task::{
-    Awaiter, Future, NoMemory, Poll, RealmError, Returning, StoredTask, StoredWaker, TaskError,
-    Wake,
-};
+use async_executor::{Run, RunError, Tick};
+use async_task::{Awaiter, Future, NoMemory, Poll, RealmError, Returning, StoredTask, TaskError};
 use std::alloc::Global;
-use std::mem;
 use std::process::Abort;
 use std::sync::atomic::Ordering::SeqCst;
 use std::sync::{Arc, Wait};
+
+/// The name of the futures that runs wait for.
+const OWN: u64 = u64::MAX;
 
 /// A future that a test spawns.
 pub trait Planned<R: Wait + Copy + Drop + 'static>: Future<TestWaker<R>, Output = Gift> + Drop {
     fn planned(job: Job<R>) -> Self;
 
-    /// Its name, where its polls and its drop are noted.
-    fn name(&self) -> Option<u64>;
+    fn name(&self) -> u64;
 }
 
 impl<R: Wait + Copy + Drop + 'static> Planned<R> for Job<R> {
@@ -30,7 +27,7 @@ impl<R: Wait + Copy + Drop + 'static> Planned<R> for Job<R> {
         job
     }
 
-    fn name(&self) -> Option<u64> {
+    fn name(&self) -> u64 {
         self.name
     }
 }
@@ -53,7 +50,7 @@ pub enum End {
     Nothing,
 }
 
-/// A tick or run.
+/// What a test polls.
 #[derive(Drop)]
 pub enum Seat<'a, F, R>
 where
@@ -61,6 +58,7 @@ where
     R: Wait + Copy + Drop + 'static,
 {
     Free,
+    Handle(TestTask<R>),
     Tick(Tick<'a, F, Gift, Bell, R>),
     Run(Run<'a, F, Gift, Bell, R, F>),
 }
@@ -103,8 +101,7 @@ impl<R: Abort + Wait + Copy + Drop + 'static> Stage<R> {
         }
     }
 
-    /// A future, whose polls and drop are noted where it has a name.
-    pub fn job<F: Planned<R>>(&self, name: Option<u64>, work: Work<R>) -> F {
+    pub fn job<F: Planned<R>>(&self, name: u64, work: Work) -> F {
         F::planned(Job {
             rt: self.rt,
             realm: self.realm,
@@ -116,7 +113,7 @@ impl<R: Abort + Wait + Copy + Drop + 'static> Stage<R> {
 
     /// A future of this name that gives it.
     pub fn ready<F: Planned<R>>(&self, name: u64) -> F {
-        self.job(Some(name), Work::Ready(name))
+        self.job(name, Work::Yield(0, name))
     }
 
     /// Futures of the names from 0 to below this number, each of which gives its own.
@@ -164,17 +161,21 @@ impl<R: Abort + Wait + Copy + Drop + 'static> Stage<R> {
         }
     }
 
-    /// Spawns a future of this name, and says whether it was refused since the executor is full, and came back.
-    pub fn spawn_is_full<F: Planned<R>>(&self, executor: &TestExecutor<F, R>, name: u64) -> bool {
-        match executor.spawn(self.ready(name)) {
-            Err(SpawnError::Full(future)) => future.name() == Some(name),
-            _ => false,
-        }
-    }
-
     /// Drops a handle, which cancels its task.
     pub fn drop_handle(&self, stored: Returning<StoredTask>) {
         drop_stored(self.rt, self.realm, stored);
+    }
+
+    /// A handle, or nothing where the future was refused.
+    pub fn handle<'a, F: Planned<R>>(
+        &self,
+        executor: &'a TestExecutor<F, R>,
+        future: F,
+    ) -> Seat<'a, F, R> {
+        match executor.spawn(future) {
+            Ok(task) => Seat::Handle(task),
+            Err(_) => Seat::Free,
+        }
     }
 
     /// A tick, or nothing where it was refused.
@@ -185,89 +186,28 @@ impl<R: Abort + Wait + Copy + Drop + 'static> Stage<R> {
         }
     }
 
-    /// A run, or nothing where it was refused.
+    /// A run whose own future does this, or nothing where it was refused.
     pub fn run<'a, F: Planned<R>>(
         &self,
         executor: &'a TestExecutor<F, R>,
-        future: F,
+        own: Work,
         seed: u64,
     ) -> Seat<'a, F, R> {
-        match executor.run_from(future, seed) {
+        match executor.run_from(self.job(OWN, own), seed) {
             Ok(run) => Seat::Run(run),
             Err(_) => Seat::Free,
         }
     }
 
-    /// Polls a tick or run by an outside waker.
-    pub fn poll_seat<F: Planned<R>>(&self, seat: &mut Seat<'_, F, R>) -> End {
+    /// Polls a handle, tick or run by an outside waker.
+    pub fn poll<F: Planned<R>>(&self, seat: &mut Seat<'_, F, R>) -> End {
         let waker = self.bell();
         match seat {
             Seat::Free => End::Nothing,
+            Seat::Handle(task) => end_of_task(task.poll(&waker)),
             Seat::Tick(tick) => end_of_tick(tick.poll(&waker)),
             Seat::Run(run) => end_of_run(run.poll(&waker)),
         }
-    }
-
-    /// Polls a handle by an outside waker.
-    pub fn poll_task(&self, task: &mut TestTask<R>) -> End {
-        let waker = self.bell();
-        end_of_task(task.poll(&waker))
-    }
-
-    /// Wakes a future by the waker that it kept, which stays, and says whether there was one.
-    pub fn wake(&self) -> bool {
-        match self.take_waker() {
-            Some(stored) => match stored.redeem(self.rt, self.realm) {
-                Some(waker) => {
-                    waker.wake_by_ref();
-                    *self.notes.kept.lock(&self.rt) = Some(Returning::new(waker.store()));
-                    true
-                }
-                None => false,
-            },
-            None => false,
-        }
-    }
-
-    /// Lets the waker go that a future kept, and says whether there was one.
-    pub fn let_waker_go(&self) -> bool {
-        match self.take_waker() {
-            Some(stored) => {
-                drop_waker(self.rt, self.realm, stored);
-                true
-            }
-            None => false,
-        }
-    }
-
-    fn take_waker(&self) -> Option<Returning<StoredWaker>> {
-        mem::replace(&mut *self.notes.kept.lock(&self.rt), None)
-    }
-
-    /// The futures that were polled so far are these, in order.
-    pub fn has_polled(&self, names: &[u64]) -> bool {
-        self.notes.polled.lock(&self.rt).as_slice() == names
-    }
-
-    /// The futures that were dropped so far are these, in order.
-    pub fn has_dropped(&self, names: &[u64]) -> bool {
-        self.notes.dropped.lock(&self.rt).as_slice() == names
-    }
-
-    /// So many were polled so far, those with the names from 0 on, in order.
-    pub fn has_polled_in_order(&self, names: u64) -> bool {
-        let polled = self.notes.polled.lock(&self.rt);
-        for (name, polled) in polled.iter().enumerate() {
-            if *polled != name as u64 {
-                return false;
-            }
-        }
-        polled.len() as u64 == names
-    }
-
-    /// How many polls of futures with a name there were so far.
-    pub fn polls(&self) -> usize {
-        self.notes.polled.lock(&self.rt).len()
     }
 
     /// How often outside wakers were called so far.

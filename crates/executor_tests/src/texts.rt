@@ -31,12 +31,12 @@ fn the_text_of_an_executor(rt: HostRuntime) {
     for name in 1..1000 {
         stage.spawn_detached(&executor, stage.ready(name));
     }
-    let mut run = stage.run(&executor, stage.job(None, Work::Pend), 0);
-    stage.poll_seat(&mut run);
+    let mut run = stage.run(&executor, Work::Pend, 0);
+    stage.poll(&mut run);
     let busy = "Executor { active: 800, global_tasks: 296, local_runners: [504], sleepers: 0 }";
     let is_shown_busy = is_shown(rt.alloc(), &executor, busy);
     for _ in 0..5 {
-        stage.poll_seat(&mut run);
+        stage.poll(&mut run);
     }
     let idle = "Executor { active: 0, global_tasks: 0, local_runners: [0], sleepers: 1 }";
     let is_shown_idle = is_shown(rt.alloc(), &executor, idle);
@@ -58,9 +58,9 @@ where
         if is_over.load(SeqCst) {
             return true;
         }
-        let mut run = stage.run(executor, stage.job(None, Work::Pend), 0);
+        let mut run = stage.run(executor, Work::Pend, 0);
         stage.spawn_detached(executor, stage.ready(0));
-        stage.poll_seat(&mut run);
+        stage.poll(&mut run);
     }
     false
 }
@@ -129,7 +129,7 @@ fn executors_and_handles_are_shared_and_ticks_and_runs_move(rt: HostRuntime) {
     let executor: TestExecutor<Job<_>, _> = stage.executor(2);
     moves_and_is_shared(&executor);
     moves(&stage.tick(&executor));
-    moves(&stage.run(&executor, stage.job(None, Work::Pend), 0));
+    moves(&stage.run(&executor, Work::Pend, 0));
 }
 
 /// There is no memory for an executor with more places than memory can have.

@@ -1,6 +1,6 @@
 //! Threads that really overlap. A thread whose loop passes its bound fails the test.
 use crate::parts::{Counts, Deed, Job, Meddler, TestExecutor, TestRealm, Work};
-use crate::stage::{End, Planned, Seat, Stage};
+use crate::stage::{End, Planned, Stage};
 use async_task::{Returning, StoredTask};
 use std::process::Abort;
 use std::sync::Wait;
@@ -28,18 +28,101 @@ where
     false
 }
 
-/// Polls a run and gives way until the executor is empty, and says whether it came to that.
-fn run_until_empty<F, R>(stage: &Stage<R>, executor: &TestExecutor<F, R>, seed: u64) -> bool
-where
-    F: Planned<R>,
-    R: Abort + Wait + Copy + Drop + 'static,
-{
-    let mut run = stage.run(executor, stage.job(None, Work::Pend), seed);
-    for _ in 0..MOST_TURNS {
-        if stage.poll_seat(&mut run) != End::Pending {
-            return false;
+impl<R: Abort + Wait + Copy + Drop + 'static> Stage<R> {
+    /// Polls a run and gives way until the executor is empty, and says whether it came to that.
+    fn run_until_empty<F: Planned<R>>(&self, executor: &TestExecutor<F, R>, seed: u64) -> bool {
+        let mut run = self.run(executor, Work::Pend, seed);
+        for _ in 0..MOST_TURNS {
+            if self.poll(&mut run) != End::Pending {
+                return false;
+            }
+            if executor.is_empty() {
+                return true;
+            }
+            thread::yield_now();
         }
-        if executor.is_empty() {
+        false
+    }
+
+    /// Spawns futures of the names from 0 on, each of which wakes itself once, and gives their handles up.
+    fn spawn_all<F: Planned<R>>(&self, executor: &TestExecutor<F, R>, names: u64) -> bool {
+        for name in 0..names {
+            let future = self.job(name, Work::Yield(1, name));
+            if !self.spawn_detached(executor, future) {
+                return false;
+            }
+        }
+        true
+    }
+
+    /// Spawns futures of the names from 0 on. Each has the handle of the one before; the last one's is the answer.
+    fn spawn_chain<F: Planned<R>>(
+        &self,
+        executor: &TestExecutor<F, R>,
+        names: u64,
+    ) -> Option<Returning<StoredTask>> {
+        let mut other = None;
+        for name in 0..names {
+            let meddler = Meddler {
+                deed: deed_of(name),
+                has_given_way: false,
+                other,
+            };
+            other = self.spawn(executor, self.job(name, Work::Meddle(meddler)));
+        }
+        other
+    }
+
+    /// Polls a tick each time that its waker was called, as often as there are rounds, and says whether it came to that.
+    fn tick_when_called<F: Planned<R>>(
+        &self,
+        executor: &TestExecutor<F, R>,
+        lying: &AtomicU64,
+        rounds: u64,
+    ) -> bool {
+        let mut tick = self.tick(executor);
+        for round in 0..rounds {
+            if self.poll(&mut tick) != End::Pending {
+                return false;
+            }
+            let called = self.rings();
+            lying.store(round.saturating_add(1), SeqCst);
+            if !passes(&self.notes.rings, called) | (self.poll(&mut tick) != End::Ready) {
+                return false;
+            }
+        }
+        true
+    }
+
+    /// Spawns a future each time that the tick lies, as often as there are rounds, and says whether it came to that.
+    fn spawn_when_lying<F: Planned<R>>(
+        &self,
+        executor: &TestExecutor<F, R>,
+        lying: &AtomicU64,
+        rounds: u64,
+    ) -> bool {
+        for round in 0..rounds {
+            if !passes(lying, round) || !self.spawn_detached(executor, self.ready(0)) {
+                return false;
+            }
+        }
+        true
+    }
+}
+
+/// Which deed the future of this name does.
+fn deed_of(name: u64) -> Deed {
+    match name % 4 {
+        0 | 1 => Deed::Await,
+        2 => Deed::Detach,
+        _ => Deed::Drop,
+    }
+}
+
+/// Waits until the number has passed this one, and says whether it did.
+fn passes(number: &AtomicU64, last: u64) -> bool {
+    for _ in 0..MOST_TURNS {
+        if number.load(SeqCst) > last {
             return true;
         }
         thread::yield_now();
@@ -52,17 +135,14 @@ where
 fn each_is_well(counts: &[Counts], polls: Option<u64>) -> bool {
     for each in counts {
         let made = each.made.load(SeqCst);
-        let is_well = each.drops.load(SeqCst) == 1
-            && made <= 1
-            && each.lost.load(SeqCst) == made
-            && each.given.load(SeqCst) <= made;
-        if !is_well {
+        let is_well = (each.overlaps.load(SeqCst) == 0)
+            & (each.drops.load(SeqCst) == 1)
+            & (made <= 1)
+            & (each.lost.load(SeqCst) == made)
+            & (each.given.load(SeqCst) <= made);
+        let polled = each.polls.load(SeqCst);
+        if !is_well | (polls.unwrap_or(polled) != polled) {
             return false;
-        }
-        if let Some(polls) = polls {
-            if each.polls.load(SeqCst) != polls {
-                return false;
-            }
         }
     }
     true
@@ -79,27 +159,12 @@ fn outputs(counts: &[Counts]) -> (u64, u64) {
     (made, given)
 }
 
-/// Spawns futures of the names from 0 on, each of which wakes itself once, and gives their handles up.
-fn spawn_all<F, R>(stage: &Stage<R>, executor: &TestExecutor<F, R>, names: u64) -> bool
-where
-    F: Planned<R>,
-    R: Abort + Wait + Copy + Drop + 'static,
-{
-    for name in 0..names {
-        let future = stage.job(Some(name), Work::Yield(1, name));
-        if !stage.spawn_detached(executor, future) {
-            return false;
-        }
-    }
-    true
-}
-
 /// Each future is polled twice, dropped once, and its one output too.
 #[test]
 fn two_threads_tick_a_thousand_futures(rt: HostRuntime) {
     let stage = Stage::new(rt, rt.alloc(), TestRealm::leak(rt, rt.alloc()), 1_000);
     let executor: TestExecutor<Job<_>, _> = stage.executor(1_000);
-    let are_spawned = spawn_all(&stage, &executor, 1_000);
+    let are_spawned = stage.spawn_all(&executor, 1_000);
     let (one, other) = thread::join(
         &rt,
         || tick_until_empty(&executor),
@@ -107,36 +172,7 @@ fn two_threads_tick_a_thousand_futures(rt: HostRuntime) {
     );
     let counts = stage.notes.each.as_slice();
     let is_well = each_is_well(counts, Some(2)) & (outputs(counts) == (1_000, 0));
-    let no_overlaps = stage.notes.overlaps.load(SeqCst) == 0;
-    assert!(rt; are_spawned & one & other & is_well & no_overlaps);
-}
-
-/// Which deed the future of this name does.
-fn deed_of(name: u64) -> Deed {
-    match name % 4 {
-        0 | 1 => Deed::Await(1),
-        2 => Deed::Detach(1),
-        _ => Deed::Drop(1),
-    }
-}
-
-/// Spawns futures of the names from 0 on. Each has the handle of the one before; the last one's is the answer.
-fn spawn_chain<F, R>(
-    stage: &Stage<R>,
-    executor: &TestExecutor<F, R>,
-    names: u64,
-) -> Option<Returning<StoredTask>>
-where
-    F: Planned<R>,
-    R: Abort + Wait + Copy + Drop + 'static,
-{
-    let mut other = None;
-    for name in 0..names {
-        let deed = deed_of(name);
-        let future = stage.job(Some(name), Work::Meddle(Meddler { deed, other }));
-        other = stage.spawn(executor, future);
-    }
-    other
+    assert!(rt; are_spawned & one & other & is_well);
 }
 
 /// Each future is dropped once, each output too, and given to one at most; some are given, and one at least is cancelled: the
@@ -145,7 +181,7 @@ where
 fn four_threads_run_futures_that_await_cancel_and_detach_each_other(rt: HostRuntime) {
     let stage = Stage::new(rt, rt.alloc(), TestRealm::leak(rt, rt.alloc()), 10_000);
     let executor: TestExecutor<Job<_>, _> = stage.executor(10_000);
-    let last = spawn_chain(&stage, &executor, 10_000);
+    let last = stage.spawn_chain(&executor, 10_000);
     let mut are_well = last.is_some();
     if let Some(last) = last {
         stage.drop_handle(last);
@@ -154,7 +190,7 @@ fn four_threads_run_futures_that_await_cancel_and_detach_each_other(rt: HostRunt
         &rt,
         rt.alloc(),
         4,
-        &|party| run_until_empty(&stage, &executor, party as u64),
+        &|party| stage.run_until_empty(&executor, party as u64),
     )
     .expect(&rt, "threads");
     for has_ended in &ended {
@@ -162,68 +198,7 @@ fn four_threads_run_futures_that_await_cancel_and_detach_each_other(rt: HostRunt
     }
     let counts = stage.notes.each.as_slice();
     let (made, given) = outputs(counts);
-    let no_overlaps = stage.notes.overlaps.load(SeqCst) == 0;
-    assert!(rt;
-        are_well & no_overlaps & each_is_well(counts, None) & (made < 10_000) & (given > 0)
-    );
-}
-
-/// Polls a tick each time that its waker was called, as often as there are rounds, and says whether it came to that.
-fn tick_when_called<F, R>(
-    stage: &Stage<R>,
-    executor: &TestExecutor<F, R>,
-    lying: &AtomicU64,
-    rounds: u64,
-) -> bool
-where
-    F: Planned<R>,
-    R: Abort + Wait + Copy + Drop + 'static,
-{
-    let mut tick = stage.tick(executor);
-    for round in 0..rounds {
-        if stage.poll_seat(&mut tick) != End::Pending {
-            return false;
-        }
-        let called = stage.rings();
-        lying.store(round.saturating_add(1), SeqCst);
-        if !passes(&stage.notes.rings, called) | (stage.poll_seat(&mut tick) != End::Ready) {
-            return false;
-        }
-    }
-    true
-}
-
-/// Spawns a future each time that the tick lies, as often as there are rounds, and says whether it came to that.
-fn spawn_when_lying<F, R>(
-    stage: &Stage<R>,
-    executor: &TestExecutor<F, R>,
-    lying: &AtomicU64,
-    rounds: u64,
-) -> bool
-where
-    F: Planned<R>,
-    R: Abort + Wait + Copy + Drop + 'static,
-{
-    for round in 0..rounds {
-        if !passes(lying, round) {
-            return false;
-        }
-        if !stage.spawn_detached(executor, stage.job(Some(0), Work::Ready(round))) {
-            return false;
-        }
-    }
-    true
-}
-
-/// Waits until the number has passed this one, and says whether it did.
-fn passes(number: &AtomicU64, last: u64) -> bool {
-    for _ in 0..MOST_TURNS {
-        if number.load(SeqCst) > last {
-            return true;
-        }
-        thread::yield_now();
-    }
-    false
+    assert!(rt; are_well & each_is_well(counts, None) & (made < 10_000) & (given > 0));
 }
 
 /// Each round the tick waits, a spawn on the other thread calls it, and its next poll finds that future.
@@ -234,9 +209,9 @@ fn a_lying_tick_is_called_by_a_spawn_on_another_thread(rt: HostRuntime) {
     let lying = AtomicU64::new(0);
     let (ticked, spawned) = thread::join(
         &rt,
-        || tick_when_called(&stage, &executor, &lying, 10_000),
-        || spawn_when_lying(&stage, &executor, &lying, 10_000),
+        || stage.tick_when_called(&executor, &lying, 10_000),
+        || stage.spawn_when_lying(&executor, &lying, 10_000),
     );
-    let dropped = stage.notes.drops.load(SeqCst);
+    let dropped = stage.notes.of(0).drops.load(SeqCst);
     assert!(rt; ticked & spawned & (dropped == 10_000));
 }

@@ -1,7 +1,7 @@
 //! The families of scripts: what plays them, and where they lie.
 
 use crate::shown::{Shown, machine, shown_by_executor, shown_by_queue};
-use executor_player::Home;
+use executor_player::Plays;
 use queue_player::{play_exclusive, play_shared};
 use std::alloc::{AllocError, AllocGlobal};
 use std::sync::Wait;
@@ -61,17 +61,15 @@ impl Family {
         Family::ALL.into_iter().find(|family| family.name() == name)
     }
 
-    /// What it shows of a script; the tasks of an executor lie in the realm of this home. The error is a want of memory.
-    pub fn play<G, R>(self, rt: R, home: &G, script: &[u8]) -> Result<Shown, AllocError>
+    /// What it shows of a script; scripts of executors are played by this player. The error is a want of memory.
+    pub fn play<P, R>(self, rt: R, player: &P, script: &[u8]) -> Result<Shown, AllocError>
     where
-        G: Home<R>,
+        P: Plays<R>,
         R: AllocGlobal + Wait + Copy + Drop + 'static,
     {
         match self {
             Family::Machine => machine(rt.alloc(), script),
-            Family::Executor => {
-                shown_by_executor(executor_player::play(rt, rt.alloc(), home, script))
-            }
+            Family::Executor => { shown_by_executor(player.play(script)) }
             Family::Queue => shown_by_queue(play_shared(rt, rt.alloc(), script)),
             Family::Exclusive => shown_by_queue(play_exclusive(rt.alloc(), script)),
         }

@@ -10,7 +10,7 @@ mod fault;
 mod shown;
 mod verdict;
 
-use executor_player::{HandedIn, Home, ScriptRealm};
+use executor_player::{ExecutorPlayer, Plays, ScriptRealm};
 use family::Family;
 use fault::Fault;
 use std::alloc::AllocGlobal;
@@ -21,11 +21,12 @@ use std::{env, fs};
 use verdict::judged;
 
 fn main(rt: HostRuntime) -> ExitCode {
-    let run = match ScriptRealm::leak(rt, rt.alloc()) {
-        Ok(realm) => run(rt, &HandedIn::of(realm)),
+    // Generic code that makes a realm and works on it gets no proof, so it is made here.
+    let ended = match ScriptRealm::<HostRuntime>::leak(rt, rt.alloc()) {
+        Ok(realm) => run::<ExecutorPlayer<HostRuntime>, HostRuntime>(rt, realm),
         Err(error) => Err(Fault::from(error)),
     };
-    match run {
+    match ended {
         Ok(()) => ExitCode::SUCCESS,
         Err(fault) => {
             // A fault that can't be told still has its status.
@@ -35,17 +36,18 @@ fn main(rt: HostRuntime) -> ExitCode {
     }
 }
 
-/// Does what the arguments ask.
-fn run<G, R>(rt: R, home: &G) -> Result<(), Fault>
+/// Does what the arguments ask. Scripts of executors are played by a `P`, whose tasks lie in this realm.
+fn run<P, R>(rt: R, realm: &'static ScriptRealm<R>) -> Result<(), Fault>
 where
-    G: Home<R>,
+    P: Plays<R> + Drop,
     R: AllocGlobal + Env + Files + Print + Wait + Copy + Drop + 'static,
 {
     let words: Vec<String> = env::args(&rt)?.skip(1).collect(rt.alloc())?;
+    let player = P::at(rt, rt.alloc(), realm);
     match words.as_slice() {
-        [] => play_all(rt, home),
+        [] => play_all(rt, &player),
         [family, file] => match Family::named(family.as_str()) {
-            Some(family) => play(rt, home, family, family.name(), file.as_str()),
+            Some(family) => play(rt, &player, family, family.name(), file.as_str()),
             None => Err(Fault::Usage),
         },
         _ => Err(Fault::Usage),
@@ -53,14 +55,14 @@ where
 }
 
 /// Plays each family's scripts, and those of which one has a wrong line.
-fn play_all<G, R>(rt: R, home: &G) -> Result<(), Fault>
+fn play_all<P, R>(rt: R, player: &P) -> Result<(), Fault>
 where
-    G: Home<R>,
+    P: Plays<R>,
     R: AllocGlobal + Files + Print + Wait + Copy + Drop + 'static,
 {
     let mut ended = Ok(());
     for family in Family::ALL {
-        match play(rt, home, family, family.name(), family.file()) {
+        match play(rt, player, family, family.name(), family.file()) {
             Err(Fault::Differs) => ended = Err(Fault::Differs),
             Err(fault) => return Err(fault),
             Ok(()) => {}
@@ -70,7 +72,7 @@ where
     for family in Family::ALL {
         match play(
             rt,
-            home,
+            player,
             family,
             family.name(),
             family.file_with_a_wrong_line(),
@@ -85,13 +87,13 @@ where
 }
 
 /// Plays the scripts of a file. The error is `Differs` where one doesn't show what is owed.
-fn play<G, R>(rt: R, home: &G, family: Family, label: &str, file: &str) -> Result<(), Fault>
+fn play<P, R>(rt: R, player: &P, family: Family, label: &str, file: &str) -> Result<(), Fault>
 where
-    G: Home<R>,
+    P: Plays<R>,
     R: AllocGlobal + Files + Print + Wait + Copy + Drop + 'static,
 {
     let text = fs::read_to_string(&rt, file)?;
-    let verdict = judged(rt, home, family, text.as_str())?;
+    let verdict = judged(rt, player, family, text.as_str())?;
     verdict.print(&rt, label)?;
     if verdict.is_agreed() {
         Ok(())

@@ -4,7 +4,7 @@ use crate::case::Case;
 use crate::family::Family;
 use crate::fault::Fault;
 use crate::shown::Shown;
-use executor_player::Home;
+use executor_player::Plays;
 use std::alloc::AllocGlobal;
 use std::io::{self, Write};
 use std::sync::Wait;
@@ -29,14 +29,14 @@ pub struct Difference<'a> {
 
 /// Plays the cases of a text, one after the other. The errors are `NoMemory`, and `NoCase` where the text goes on with what is no
 /// case.
-pub fn judged<'a, G, R>(
+pub fn judged<'a, P, R>(
     rt: R,
-    home: &G,
+    player: &P,
     family: Family,
     text: &'a str,
 ) -> Result<Verdict<'a>, Fault>
 where
-    G: Home<R>,
+    P: Plays<R>,
     R: AllocGlobal + Wait + Copy + Drop + 'static,
 {
     let mut verdict = Verdict {
@@ -52,7 +52,7 @@ where
         let Some((case, more)) = Case::cut_from(rest) else {
             return Err(Fault::NoCase(number));
         };
-        let shown = family.play(rt, home, case.script)?;
+        let shown = family.play(rt, player, case.script)?;
         verdict.count(number.saturating_add(1), case, shown);
         rest = more;
     }

@@ -6,7 +6,6 @@ mod desk;
 mod errors;
 mod future;
 mod handle;
-mod home;
 mod outside;
 mod own;
 mod player;
@@ -15,8 +14,8 @@ mod seat;
 mod shelf;
 mod sitting;
 mod stage;
+mod theatre;
 
 pub use errors::PlayError;
-pub use home::{HandedIn, Home};
 pub use outside::{Bell, Gift, ScriptRealm};
-pub use playing::play;
+pub use theatre::{ExecutorPlayer, Plays, Theatre};

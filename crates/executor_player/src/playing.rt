@@ -4,13 +4,12 @@ ghost use Rattle.std.specs.Prelude.{◌<◌};
 use crate::answer::{Answer, show_end};
 use crate::desk::{Desk, OnExecutor, ScriptExecutor};
 use crate::errors::PlayError;
-use crate::future::{Planned, Scripted};
-use crate::handle::{Handle, Hold, HoldIn};
-use crate::home::Home;
+use crate::future::Planned;
+use crate::handle::{Hold, HoldIn};
 use crate::outside::ScriptRealm;
 use crate::player::{Named, Player};
 use crate::seat::{Seat, Sit};
-use crate::shelf::{Keep, KeepIn, Keeper, SharedShelf, Shelf};
+use crate::shelf::{Keep, KeepIn, SharedShelf, Shelf};
 use crate::stage::{Shared, Stage};
 use async_executor::Executor;
 use script::{Command, Plain, Request, Word, parse};
@@ -19,12 +18,17 @@ use std::collections::BTreeMap;
 use std::rc::Rc;
 use std::sync::Wait;
 
-/// Plays a script of `taskrun sim` on an executor of its own, whose tasks lie in the realm of this home, and gives the text of what happens:
-/// that of the simulator. It takes whole calls of one party; `begin`, `go`, `finish` and `refuse` are `NotWhole`. Before anything
-/// is played the first bad line is refused, and then the first that isn't whole.
-pub fn play<G, R>(rt: R, alloc: Global, home: &G, script: &[u8]) -> Result<Vec<u8>, PlayError>
+/// Plays a script in a realm, as `Plays::play` says.
+pub fn play_script<F, H, K, R>(
+    rt: R,
+    alloc: Global,
+    realm: &'static ScriptRealm<R>,
+    script: &[u8],
+) -> Result<Vec<u8>, PlayError>
 where
-    G: Home<R>,
+    F: Planned<H, R>,
+    H: HoldIn<R>,
+    K: KeepIn<R>,
     R: Wait + Copy + Drop + 'static,
 {
     let Some(script) = parse(alloc, script)? else {
@@ -33,13 +37,19 @@ where
     if let Some(line) = first_not_whole(script.commands.as_slice()) {
         return Err(PlayError::NotWhole(line));
     }
-    play_commands::<Scripted<Handle<R>>, Handle<R>, Keeper<R>, G, R>(
+    if script.limit == 0 {
+        return Err(PlayError::NoMemory);
+    }
+    let stage = Stage::new(alloc)?;
+    play_in::<F, H, K, R>(
         rt,
         alloc,
-        home,
-        script.limit,
+        realm,
+        &stage,
+        script.limit as usize,
         script.commands.as_slice(),
-    )
+    );
+    Ok(stage.take_text()?)
 }
 
 /// The number of the first line that is no whole call.
@@ -63,29 +73,6 @@ fn whole(command: &Command) -> Option<&Plain> {
         ) => Some(plain),
         _ => None,
     }
-}
-
-/// Plays the commands on a new executor of so many places, until it is dropped, and then what follows.
-fn play_commands<F, H, K, G, R>(
-    rt: R,
-    alloc: Global,
-    home: &G,
-    limit: u64,
-    commands: &[Command],
-) -> Result<Vec<u8>, PlayError>
-where
-    F: Planned<H, R>,
-    H: HoldIn<R>,
-    K: KeepIn<R>,
-    G: Home<R>,
-    R: Wait + Copy + Drop + 'static,
-{
-    if limit == 0 {
-        return Err(PlayError::NoMemory);
-    }
-    let stage = Stage::new(alloc)?;
-    play_in::<F, H, K, R>(rt, alloc, home.realm(), &stage, limit as usize, commands);
-    Ok(stage.take_text()?)
 }
 
 /// Plays the commands on a new executor in a realm.

@@ -1,0 +1,59 @@
+//! Where scripts are played, as code over any runtime type may know it. Such code gets no proof of calls on an executor whose
+//! futures hold handles: so it is generic over what `Plays`, and a program that has its runtime value says which that is.
+use crate::errors::PlayError;
+use crate::future::{Planned, Scripted};
+use crate::handle::{Handle, HoldIn};
+use crate::outside::ScriptRealm;
+use crate::playing::play_script;
+use crate::shelf::{KeepIn, Keeper};
+use std::alloc::Global;
+use std::marker::PhantomData;
+use std::sync::Wait;
+
+/// Where scripts are played, each on an executor of its own.
+pub trait Plays<R: Wait + Copy + Drop + 'static> {
+    /// The tasks of all its scripts lie in this realm.
+    fn at(rt: R, alloc: Global, realm: &'static ScriptRealm<R>) -> Self;
+
+    /// Plays a script of `taskrun sim` on an executor of its own, and gives the text of what happens: that of the simulator. It
+    /// takes whole calls of one party; `begin`, `go`, `finish` and `refuse` are `NotWhole`. Before anything is played the first
+    /// bad line is refused, and then the first that isn't whole.
+    fn play(&self, script: &[u8]) -> Result<Vec<u8>, PlayError>;
+}
+
+/// Where the futures of scripts are `F`, their handles `H`, and who keeps their wakers `K`.
+#[derive(Drop)]
+pub struct Theatre<F, H, K, R: Wait + Copy + Drop + 'static> {
+    rt: R,
+    alloc: Global,
+    realm: &'static ScriptRealm<R>,
+    futures: PhantomData<F>,
+    handles: PhantomData<H>,
+    keepers: PhantomData<K>,
+}
+
+/// The one that a program names.
+pub type ExecutorPlayer<R> = Theatre<Scripted<Handle<R>>, Handle<R>, Keeper<R>, R>;
+
+impl<F, H, K, R> Plays<R> for Theatre<F, H, K, R>
+where
+    F: Planned<H, R>,
+    H: HoldIn<R>,
+    K: KeepIn<R>,
+    R: Wait + Copy + Drop + 'static,
+{
+    fn at(rt: R, alloc: Global, realm: &'static ScriptRealm<R>) -> Self {
+        Theatre {
+            rt,
+            alloc,
+            realm,
+            futures: PhantomData,
+            handles: PhantomData,
+            keepers: PhantomData,
+        }
+    }
+
+    fn play(&self, script: &[u8]) -> Result<Vec<u8>, PlayError> {
+        play_script::<F, H, K, R>(self.rt, self.alloc, self.realm, script)
+    }
+}

@@ -1,5 +1,5 @@
 //! Many of a kind, one after the other.
-use crate::parts::{Bell, Gift, Job, TestExecutor, TestRealm, TestWaker, Work};
+use crate::parts::{Bell, Gift, Job, TestRealm, TestWaker, Work};
 use crate::stage::{Planned, Stage};
 use async_executor::{Handles, SpawnError};
 use async_task::{Future, Poll, Returning, StoredTask};
@@ -46,16 +46,17 @@ impl<R: Wait + Copy + Drop + 'static> Future<TestWaker<R>> for InOrder<R> {
     }
 }
 
-impl<R: Abort + Wait + Copy + Drop + 'static> Stage<R> {
+impl<F: Planned<R>, R: Abort + Wait + Copy + Drop + 'static> Stage<F, R> {
     /// Spawns so many futures in one call: what awaits them in order, and the name of the one that was refused since the
     /// executor is full.
-    fn in_order<F: Planned<R>>(
-        &self,
-        executor: &TestExecutor<F, R>,
-        count: u64,
-    ) -> (InOrder<R>, Option<u64>) {
-        let futures = self.all_ready(count);
-        let (handles, refused) = executor.spawn_many(&mut futures.into_iter());
+    fn in_order(&self, count: u64) -> (InOrder<R>, Option<u64>) {
+        let mut futures = Vec::new(self.alloc);
+        for name in 0..count {
+            if futures.push(self.ready(name)).is_err() {
+                panic!(self.rt; "memory");
+            }
+        }
+        let (handles, refused) = self.executor.spawn_many(&mut futures.into_iter());
         let in_order = InOrder {
             rt: self.rt,
             realm: self.realm,
@@ -63,17 +64,16 @@ impl<R: Abort + Wait + Copy + Drop + 'static> Stage<R> {
             awaited: None,
             next: 0,
         };
-        (in_order, refused_name::<F, R>(refused))
+        let refused = match refused {
+            Err(SpawnError::Full(future)) => Some(future.name()),
+            Err(SpawnError::NoMemory(_)) | Ok(()) => None,
+        };
+        (in_order, refused)
     }
 
     /// Runs a future, and polls the run so often at most: its output, and how many polls were pending.
-    fn run_to_its_end<F: Planned<R>>(
-        &self,
-        executor: &TestExecutor<F, R>,
-        future: InOrder<R>,
-        most: u64,
-    ) -> (u64, u64) {
-        let Ok(mut run) = executor.run(future) else {
+    fn run_to_its_end(&self, future: InOrder<R>, most: u64) -> (u64, u64) {
+        let Ok(mut run) = self.executor.run(future) else {
             return (0, 0);
         };
         let waker = self.bell();
@@ -92,53 +92,43 @@ impl<R: Abort + Wait + Copy + Drop + 'static> Stage<R> {
     }
 }
 
-fn refused_name<F, R>(refused: Result<(), SpawnError<F>>) -> Option<u64>
-where
-    F: Planned<R>,
-    R: Wait + Copy + Drop + 'static,
-{
-    match refused {
-        Err(SpawnError::Full(future)) => Some(future.name()),
-        Err(SpawnError::NoMemory(_)) | Ok(()) => None,
-    }
-}
-
 /// A run takes 200 tasks at each poll, so that it is ready after 250 polls that are pending. Each future is polled once.
 #[test]
 fn a_run_awaits_fifty_thousand_handles_in_order(rt: HostRuntime) {
-    let stage = Stage::new(rt, rt.alloc(), TestRealm::leak(rt, rt.alloc()), 50_000);
-    let executor: TestExecutor<Job<_>, _> = stage.executor(50_000);
-    let (future, refused) = stage.in_order(&executor, 50_000);
-    let came = stage.run_to_its_end(&executor, future, 50_000);
+    let stage = Stage::<Job<_>, _>::new(rt, rt.alloc(), TestRealm::leak(rt, rt.alloc()), 50_000);
+    let (future, refused) = stage.in_order(50_000);
+    let came = stage.run_to_its_end(future, 50_000);
     let mut are_well = refused.is_none();
     for each in &stage.notes.each {
         let is_well = (each.polls.load(SeqCst), each.drops.load(SeqCst)) == (1, 1);
         are_well = are_well & is_well & (each.lost.load(SeqCst) == 1);
     }
-    assert!(rt; (came == (50_000, 250)) & are_well & executor.is_empty());
+    assert!(rt; (came == (50_000, 250)) & are_well & stage.executor.is_empty());
 }
 
 /// A spawn of many accepts as many as there are places, and hands the next future back. None is no refusal.
 #[test]
 fn many_are_spawned_until_one_is_refused(rt: HostRuntime) {
-    let stage = Stage::new(rt, rt.alloc(), TestRealm::leak(rt, rt.alloc()), 0);
-    let executor: TestExecutor<Job<_>, _> = stage.executor(2);
+    let stage = Stage::<Job<_>, _>::new(rt, rt.alloc(), TestRealm::leak(rt, rt.alloc()), 2);
     let mut are_well = true;
     for (count, refused, output) in [(0, None, 0), (3, Some(2), 2), (2, None, 2)] {
-        let (future, was_refused) = stage.in_order(&executor, count);
-        let (came, _) = stage.run_to_its_end(&executor, future, 9);
-        are_well = are_well & (was_refused == refused) & (came == output) & executor.is_empty();
+        let (future, was_refused) = stage.in_order(count);
+        let (came, _) = stage.run_to_its_end(future, 9);
+        are_well = are_well
+            & (was_refused == refused)
+            & (came == output)
+            & stage.executor.is_empty();
     }
     assert!(rt; are_well);
 }
 
 /// Makes an executor, spawns a future on it, and drops both: the text of where the task lay.
-fn place_of_a_short_life<F, R>(stage: &Stage<R>, executor: TestExecutor<F, R>) -> Option<String>
+fn place_of_a_short_life<F, R>(stage: Stage<F, R>) -> Option<String>
 where
     F: Planned<R>,
     R: Abort + Wait + Copy + Drop + 'static,
 {
-    let stored = stage.spawn(&executor, stage.job(0, Work::Pend))?;
+    let stored = stage.spawn(stage.job(0, Work::Pend))?;
     let text = format!(in stage.alloc; "{stored:?}").ok();
     stage.drop_handle(stored);
     text
@@ -148,12 +138,14 @@ where
 /// executors, one after the other, has its task in the place of the first one's.
 #[test]
 fn a_thousand_executors_use_the_place_of_the_first(rt: HostRuntime) {
-    let stage = Stage::new(rt, rt.alloc(), TestRealm::leak(rt, rt.alloc()), 1);
-    let first = place_of_a_short_life::<Job<_>, _>(&stage, stage.executor(1));
+    let Ok(realm) = TestRealm::leak(rt, rt.alloc()) else {
+        panic!(rt; "no realm");
+    };
+    let new = || Stage::<Job<_>, _>::new(rt, rt.alloc(), Ok(realm), 1);
+    let first = place_of_a_short_life(new());
     let mut is_the_same = first.is_some();
     for _ in 0..1_000 {
-        let place = place_of_a_short_life::<Job<_>, _>(&stage, stage.executor(1));
-        is_the_same = is_the_same & (place == first);
+        is_the_same = is_the_same & (place_of_a_short_life(new()) == first);
     }
     assert!(rt; is_the_same);
 }

@@ -14,8 +14,6 @@ pub struct Counts {
     pub drops: AtomicU64,
     /// The outputs that it gave.
     pub made: AtomicU64,
-    /// The outputs of it that another future was given.
-    pub given: AtomicU64,
     /// The outputs of it that were dropped.
     pub lost: AtomicU64,
     /// How many polls of it are in progress.
@@ -30,7 +28,6 @@ impl Counts {
             polls: AtomicU64::new(0),
             drops: AtomicU64::new(0),
             made: AtomicU64::new(0),
-            given: AtomicU64::new(0),
             lost: AtomicU64::new(0),
             inside: AtomicU64::new(0),
             overlaps: AtomicU64::new(0),
@@ -45,6 +42,8 @@ pub struct Notes {
     pub each: Vec<Counts>,
     /// Of all others.
     others: Counts,
+    /// How many outputs were given to another future.
+    pub given: AtomicU64,
     /// How often an outside waker was called.
     pub rings: AtomicU64,
     /// How many copies of outside wakers may still be made.
@@ -61,6 +60,7 @@ impl Notes {
         let notes = Notes {
             each,
             others: Counts::none(),
+            given: AtomicU64::new(0),
             rings: AtomicU64::new(0),
             copies: AtomicU64::new(u64::MAX),
         };
@@ -287,8 +287,8 @@ impl Meddler {
         let polled = task.poll(waker);
         self.other = Some(Returning::new(task.store()));
         match polled {
-            Poll::Ready(Ok(gift)) => {
-                notes.of(gift.number()).given.fetch_add(1, SeqCst);
+            Poll::Ready(Ok(_)) => {
+                notes.given.fetch_add(1, SeqCst);
                 true
             }
             Poll::Ready(Err(_)) => true,

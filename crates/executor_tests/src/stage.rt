@@ -1,12 +1,10 @@
-//! What a test's executors share, and calls on them whose answers are plain values, so that what calls these is cheap to
-//! prove. No request for memory is refused here, but for copies of wakers.
+//! An executor with what is noted of its futures, and calls on it whose answers are plain values, so that what calls these is
+//! cheap to prove. No request for memory is refused here, but for copies of wakers.
 ghost use Rattle.std.specs.Prelude.{◌<◌};
 
-use crate::parts::{
-    Bell, Gift, Job, Notes, TestExecutor, TestRealm, TestTask, TestWaker, Work, drop_stored,
-};
+use crate::parts::{Bell, Gift, Job, Notes, TestExecutor, TestRealm, TestWaker, Work, drop_stored};
 use async_executor::{Run, RunError, Tick};
-use async_task::{Awaiter, Future, NoMemory, Poll, RealmError, Returning, StoredTask, TaskError};
+use async_task::{Awaiter, Future, NoMemory, Poll, RealmError, Returning, StoredTask};
 use std::alloc::Global;
 use std::process::Abort;
 use std::sync::atomic::Ordering::SeqCst;
@@ -32,7 +30,7 @@ impl<R: Wait + Copy + Drop + 'static> Planned<R> for Job<R> {
     }
 }
 
-/// What a poll ends with.
+/// What a poll of a tick or run ends with.
 #[derive(Clone, Copy, PartialEq)]
 pub enum End {
     Pending,
@@ -44,13 +42,11 @@ pub enum End {
     NoMemory,
     /// The run gave its output before.
     Finished,
-    /// The task is closed.
-    Closed,
     /// There is nothing to poll.
     Nothing,
 }
 
-/// What a test polls.
+/// A tick or run.
 #[derive(Drop)]
 pub enum Seat<'a, F, R>
 where
@@ -58,50 +54,46 @@ where
     R: Wait + Copy + Drop + 'static,
 {
     Free,
-    Handle(TestTask<R>),
     Tick(Tick<'a, F, Gift, Bell, R>),
     Run(Run<'a, F, Gift, Bell, R, F>),
 }
 
-/// What a test's executors share.
+/// An executor with its notes.
 #[derive(Drop)]
-pub struct Stage<R: Wait + Copy + Drop + 'static> {
+pub struct Stage<F: Drop, R: Wait + Copy + Drop + 'static> {
     pub rt: R,
     pub alloc: Global,
     pub realm: &'static TestRealm<R>,
     pub notes: Arc<Notes, Global>,
+    pub executor: TestExecutor<F, R>,
 }
 
-impl<R: Abort + Wait + Copy + Drop + 'static> Stage<R> {
-    /// What a test's executors share, where so many futures are noted one by one, by their names from 0 on.
+impl<F: Planned<R>, R: Abort + Wait + Copy + Drop + 'static> Stage<F, R> {
+    /// An executor of so many places. As many futures are noted one by one, by their names from 0 on.
     pub fn new(
         rt: R,
         alloc: Global,
         realm: Result<&'static TestRealm<R>, RealmError>,
-        count: usize,
-    ) -> Stage<R> {
-        match realm {
-            Ok(realm) => Stage {
+        limit: usize,
+    ) -> Stage<F, R>
+        requires { 0 < limit }
+    {
+        let Ok(realm) = realm else {
+            panic!(rt; "no realm");
+        };
+        match TestExecutor::new(rt, alloc, realm, limit) {
+            Ok(executor) => Stage {
                 rt,
                 alloc,
                 realm,
-                notes: Notes::new(alloc, count).expect(&rt, "memory"),
+                notes: Notes::new(alloc, limit).expect(&rt, "memory"),
+                executor,
             },
-            Err(error) => panic!(rt; "{error}"),
+            Err(_) => panic!(rt; "memory"),
         }
     }
 
-    /// An executor of so many places.
-    pub fn executor<F: Planned<R>>(&self, limit: usize) -> TestExecutor<F, R>
-        requires { 0 < limit }
-    {
-        match TestExecutor::new(self.rt, self.alloc, self.realm, limit) {
-            Ok(executor) => executor,
-            Err(_) => panic!(self.rt; "memory"),
-        }
-    }
-
-    pub fn job<F: Planned<R>>(&self, name: u64, work: Work) -> F {
+    pub fn job(&self, name: u64, work: Work) -> F {
         F::planned(Job {
             rt: self.rt,
             realm: self.realm,
@@ -112,19 +104,8 @@ impl<R: Abort + Wait + Copy + Drop + 'static> Stage<R> {
     }
 
     /// A future of this name that gives it.
-    pub fn ready<F: Planned<R>>(&self, name: u64) -> F {
+    pub fn ready(&self, name: u64) -> F {
         self.job(name, Work::Yield(0, name))
-    }
-
-    /// Futures of the names from 0 to below this number, each of which gives its own.
-    pub fn all_ready<F: Planned<R>>(&self, names: u64) -> Vec<F> {
-        let mut futures = Vec::new(self.alloc);
-        for name in 0..names {
-            if futures.push(self.ready(name)).is_err() {
-                panic!(self.rt; "memory");
-            }
-        }
-        futures
     }
 
     fn notes(&self) -> Arc<Notes, Global> {
@@ -139,20 +120,16 @@ impl<R: Abort + Wait + Copy + Drop + 'static> Stage<R> {
     }
 
     /// Spawns a future. Its handle is the answer, where it is accepted.
-    pub fn spawn<F: Planned<R>>(
-        &self,
-        executor: &TestExecutor<F, R>,
-        future: F,
-    ) -> Option<Returning<StoredTask>> {
-        match executor.spawn(future) {
+    pub fn spawn(&self, future: F) -> Option<Returning<StoredTask>> {
+        match self.executor.spawn(future) {
             Ok(task) => Some(Returning::new(task.store())),
             Err(_) => None,
         }
     }
 
     /// Spawns a future and gives its handle up, and says whether it was accepted.
-    pub fn spawn_detached<F: Planned<R>>(&self, executor: &TestExecutor<F, R>, future: F) -> bool {
-        match executor.spawn(future) {
+    pub fn spawn_detached(&self, future: F) -> bool {
+        match self.executor.spawn(future) {
             Ok(task) => {
                 task.detach();
                 true
@@ -166,45 +143,27 @@ impl<R: Abort + Wait + Copy + Drop + 'static> Stage<R> {
         drop_stored(self.rt, self.realm, stored);
     }
 
-    /// A handle, or nothing where the future was refused.
-    pub fn handle<'a, F: Planned<R>>(
-        &self,
-        executor: &'a TestExecutor<F, R>,
-        future: F,
-    ) -> Seat<'a, F, R> {
-        match executor.spawn(future) {
-            Ok(task) => Seat::Handle(task),
-            Err(_) => Seat::Free,
-        }
-    }
-
     /// A tick, or nothing where it was refused.
-    pub fn tick<'a, F: Planned<R>>(&self, executor: &'a TestExecutor<F, R>) -> Seat<'a, F, R> {
-        match executor.tick() {
+    pub fn tick(&self) -> Seat<'_, F, R> {
+        match self.executor.tick() {
             Ok(tick) => Seat::Tick(tick),
             Err(_) => Seat::Free,
         }
     }
 
     /// A run whose own future does this, or nothing where it was refused.
-    pub fn run<'a, F: Planned<R>>(
-        &self,
-        executor: &'a TestExecutor<F, R>,
-        own: Work,
-        seed: u64,
-    ) -> Seat<'a, F, R> {
-        match executor.run_from(self.job(OWN, own), seed) {
+    pub fn run(&self, own: Work, seed: u64) -> Seat<'_, F, R> {
+        match self.executor.run_from(self.job(OWN, own), seed) {
             Ok(run) => Seat::Run(run),
             Err(_) => Seat::Free,
         }
     }
 
-    /// Polls a handle, tick or run by an outside waker.
-    pub fn poll<F: Planned<R>>(&self, seat: &mut Seat<'_, F, R>) -> End {
+    /// Polls a tick or run by an outside waker.
+    pub fn poll(&self, seat: &mut Seat<'_, F, R>) -> End {
         let waker = self.bell();
         match seat {
             Seat::Free => End::Nothing,
-            Seat::Handle(task) => end_of_task(task.poll(&waker)),
             Seat::Tick(tick) => end_of_tick(tick.poll(&waker)),
             Seat::Run(run) => end_of_run(run.poll(&waker)),
         }
@@ -230,14 +189,5 @@ fn end_of_run(polled: Poll<Result<Gift, RunError>>) -> End {
         Poll::Ready(Ok(gift)) => End::Gives(gift.number()),
         Poll::Ready(Err(RunError::NoMemory)) => End::NoMemory,
         Poll::Ready(Err(RunError::Finished)) => End::Finished,
-    }
-}
-
-fn end_of_task(polled: Poll<Result<Gift, TaskError>>) -> End {
-    match polled {
-        Poll::Pending => End::Pending,
-        Poll::Ready(Ok(gift)) => End::Gives(gift.number()),
-        Poll::Ready(Err(TaskError::TaskClosed)) => End::Closed,
-        Poll::Ready(Err(TaskError::NoMemory)) => End::NoMemory,
     }
 }

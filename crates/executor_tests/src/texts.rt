@@ -23,25 +23,23 @@ fn is_shown<X: Debug>(alloc: Global, value: &X, want: &str) -> bool {
 /// global queue to itself, and at each 64th as many as its own queue of 512 places then has room for.
 #[test]
 fn the_text_of_an_executor(rt: HostRuntime) {
-    let stage = Stage::new(rt, rt.alloc(), TestRealm::leak(rt, rt.alloc()), 0);
-    let executor: TestExecutor<Job<_>, _> = stage.executor(1000);
-    stage.spawn_detached(&executor, stage.ready(0));
+    let stage = Stage::<Job<_>, _>::new(rt, rt.alloc(), TestRealm::leak(rt, rt.alloc()), 1000);
+    stage.spawn_detached(stage.ready(0));
     let fresh = "Executor { active: 1, global_tasks: 1, local_runners: [], sleepers: 0 }";
-    let is_shown_fresh = is_shown(rt.alloc(), &executor, fresh);
+    let is_shown_fresh = is_shown(rt.alloc(), &stage.executor, fresh);
     for name in 1..1000 {
-        stage.spawn_detached(&executor, stage.ready(name));
+        stage.spawn_detached(stage.ready(name));
     }
-    let mut run = stage.run(&executor, Work::Pend, 0);
+    let mut run = stage.run(Work::Pend, 0);
     stage.poll(&mut run);
     let busy = "Executor { active: 800, global_tasks: 296, local_runners: [504], sleepers: 0 }";
-    let is_shown_busy = is_shown(rt.alloc(), &executor, busy);
+    let is_shown_busy = is_shown(rt.alloc(), &stage.executor, busy);
     for _ in 0..5 {
         stage.poll(&mut run);
     }
     let idle = "Executor { active: 0, global_tasks: 0, local_runners: [0], sleepers: 1 }";
-    let is_shown_idle = is_shown(rt.alloc(), &executor, idle);
+    let is_shown_idle = is_shown(rt.alloc(), &stage.executor, idle);
     drop(run);
-    drop(executor);
     assert!(rt; is_shown_fresh & is_shown_busy & is_shown_idle);
 }
 
@@ -49,7 +47,7 @@ fn the_text_of_an_executor(rt: HostRuntime) {
 const MOST_TURNS: u64 = 10_000_000;
 
 /// Uses each lock of the executor again and again until it is told to stop, and says whether it was.
-fn use_locks<F, R>(stage: &Stage<R>, executor: &TestExecutor<F, R>, is_over: &AtomicBool) -> bool
+fn use_locks<F, R>(stage: &Stage<F, R>, is_over: &AtomicBool) -> bool
 where
     F: Planned<R>,
     R: Abort + Wait + Copy + Drop + 'static,
@@ -58,8 +56,8 @@ where
         if is_over.load(SeqCst) {
             return true;
         }
-        let mut run = stage.run(executor, Work::Pend, 0);
-        stage.spawn_detached(executor, stage.ready(0));
+        let mut run = stage.run(Work::Pend, 0);
+        stage.spawn_detached(stage.ready(0));
         stage.poll(&mut run);
     }
     false
@@ -91,13 +89,12 @@ fn sees_each_lock<X: Debug>(alloc: Global, value: &X, is_over: &AtomicBool) -> b
 /// The text waits for no lock: `<locked>` stands for what is under one that isn't free.
 #[test]
 fn the_text_of_an_executor_has_locked_for_what_is_in_use(rt: HostRuntime) {
-    let stage = Stage::new(rt, rt.alloc(), TestRealm::leak(rt, rt.alloc()), 1);
-    let executor: TestExecutor<Job<_>, _> = stage.executor(2);
+    let stage = Stage::<Job<_>, _>::new(rt, rt.alloc(), TestRealm::leak(rt, rt.alloc()), 2);
     let is_over = AtomicBool::new(false);
     let (used, seen) = thread::join(
         &rt,
-        || use_locks(&stage, &executor, &is_over),
-        || sees_each_lock(rt.alloc(), &executor, &is_over),
+        || use_locks(&stage, &is_over),
+        || sees_each_lock(rt.alloc(), &stage.executor, &is_over),
     );
     assert!(rt; used & seen);
 }
@@ -125,17 +122,16 @@ fn moves_and_is_shared<X: Send + Sync>(_value: &X) {}
 /// An executor and its handles move to other threads and are shared with them, ticks and runs move.
 #[test]
 fn executors_and_handles_are_shared_and_ticks_and_runs_move(rt: HostRuntime) {
-    let stage = Stage::new(rt, rt.alloc(), TestRealm::leak(rt, rt.alloc()), 1);
-    let executor: TestExecutor<Job<_>, _> = stage.executor(2);
-    moves_and_is_shared(&executor);
-    moves(&stage.tick(&executor));
-    moves(&stage.run(&executor, Work::Pend, 0));
+    let stage = Stage::<Job<_>, _>::new(rt, rt.alloc(), TestRealm::leak(rt, rt.alloc()), 2);
+    moves_and_is_shared(&stage.executor);
+    moves(&stage.tick());
+    moves(&stage.run(Work::Pend, 0));
 }
 
 /// There is no memory for an executor with more places than memory can have.
 #[test]
 fn an_executor_of_too_many_places_is_refused(rt: HostRuntime) {
-    let stage = Stage::new(rt, rt.alloc(), TestRealm::leak(rt, rt.alloc()), 0);
+    let stage = Stage::<Job<_>, _>::new(rt, rt.alloc(), TestRealm::leak(rt, rt.alloc()), 1);
     let is_refused = match TestExecutor::<Job<_>, _>::new(rt, rt.alloc(), stage.realm, usize::MAX) {
         Ok(executor) => {
             drop(executor);

@@ -1,5 +1,5 @@
 //! Threads that really overlap. A thread whose loop passes its bound fails the test.
-use crate::parts::{Counts, Deed, Job, Meddler, TestExecutor, TestRealm, Work};
+use crate::parts::{Counts, Deed, Job, Meddler, TestRealm, Work};
 use crate::stage::{End, Planned, Stage};
 use async_task::{Returning, StoredTask};
 use std::process::Abort;
@@ -11,32 +11,28 @@ use std::thread;
 /// How many turns a loop may take.
 const MOST_TURNS: u64 = 10_000_000;
 
-/// Ticks until the executor is empty, and says whether it came to that.
-fn tick_until_empty<F, R>(executor: &TestExecutor<F, R>) -> bool
-where
-    F: Planned<R>,
-    R: Wait + Copy + Drop + 'static,
-{
-    for _ in 0..MOST_TURNS {
-        if !executor.try_tick() {
-            if executor.is_empty() {
-                return true;
+impl<F: Planned<R>, R: Abort + Wait + Copy + Drop + 'static> Stage<F, R> {
+    /// Ticks until the executor is empty, and says whether it came to that.
+    fn tick_until_empty(&self) -> bool {
+        for _ in 0..MOST_TURNS {
+            if !self.executor.try_tick() {
+                if self.executor.is_empty() {
+                    return true;
+                }
+                thread::yield_now();
             }
-            thread::yield_now();
         }
+        false
     }
-    false
-}
 
-impl<R: Abort + Wait + Copy + Drop + 'static> Stage<R> {
     /// Polls a run and gives way until the executor is empty, and says whether it came to that.
-    fn run_until_empty<F: Planned<R>>(&self, executor: &TestExecutor<F, R>, seed: u64) -> bool {
-        let mut run = self.run(executor, Work::Pend, seed);
+    fn run_until_empty(&self, seed: u64) -> bool {
+        let mut run = self.run(Work::Pend, seed);
         for _ in 0..MOST_TURNS {
             if self.poll(&mut run) != End::Pending {
                 return false;
             }
-            if executor.is_empty() {
+            if self.executor.is_empty() {
                 return true;
             }
             thread::yield_now();
@@ -45,10 +41,10 @@ impl<R: Abort + Wait + Copy + Drop + 'static> Stage<R> {
     }
 
     /// Spawns futures of the names from 0 on, each of which wakes itself once, and gives their handles up.
-    fn spawn_all<F: Planned<R>>(&self, executor: &TestExecutor<F, R>, names: u64) -> bool {
+    fn spawn_all(&self, names: u64) -> bool {
         for name in 0..names {
             let future = self.job(name, Work::Yield(1, name));
-            if !self.spawn_detached(executor, future) {
+            if !self.spawn_detached(future) {
                 return false;
             }
         }
@@ -56,11 +52,7 @@ impl<R: Abort + Wait + Copy + Drop + 'static> Stage<R> {
     }
 
     /// Spawns futures of the names from 0 on. Each has the handle of the one before; the last one's is the answer.
-    fn spawn_chain<F: Planned<R>>(
-        &self,
-        executor: &TestExecutor<F, R>,
-        names: u64,
-    ) -> Option<Returning<StoredTask>> {
+    fn spawn_chain(&self, names: u64) -> Option<Returning<StoredTask>> {
         let mut other = None;
         for name in 0..names {
             let meddler = Meddler {
@@ -68,19 +60,14 @@ impl<R: Abort + Wait + Copy + Drop + 'static> Stage<R> {
                 has_given_way: false,
                 other,
             };
-            other = self.spawn(executor, self.job(name, Work::Meddle(meddler)));
+            other = self.spawn(self.job(name, Work::Meddle(meddler)));
         }
         other
     }
 
     /// Polls a tick each time that its waker was called, as often as there are rounds, and says whether it came to that.
-    fn tick_when_called<F: Planned<R>>(
-        &self,
-        executor: &TestExecutor<F, R>,
-        lying: &AtomicU64,
-        rounds: u64,
-    ) -> bool {
-        let mut tick = self.tick(executor);
+    fn tick_when_called(&self, lying: &AtomicU64, rounds: u64) -> bool {
+        let mut tick = self.tick();
         for round in 0..rounds {
             if self.poll(&mut tick) != End::Pending {
                 return false;
@@ -95,14 +82,9 @@ impl<R: Abort + Wait + Copy + Drop + 'static> Stage<R> {
     }
 
     /// Spawns a future each time that the tick lies, as often as there are rounds, and says whether it came to that.
-    fn spawn_when_lying<F: Planned<R>>(
-        &self,
-        executor: &TestExecutor<F, R>,
-        lying: &AtomicU64,
-        rounds: u64,
-    ) -> bool {
+    fn spawn_when_lying(&self, lying: &AtomicU64, rounds: u64) -> bool {
         for round in 0..rounds {
-            if !passes(lying, round) || !self.spawn_detached(executor, self.ready(0)) {
+            if !passes(lying, round) || !self.spawn_detached(self.ready(0)) {
                 return false;
             }
         }
@@ -130,16 +112,15 @@ fn passes(number: &AtomicU64, last: u64) -> bool {
     false
 }
 
-/// Each future was dropped once, each of its outputs too, it gave one at most, and that to one other at most. No two polls of
-/// one overlapped. So many polls are wanted of each, where it is said.
+/// Each future was dropped once, it gave one output at most, and that was dropped once, wherever it went. No two polls of one
+/// overlapped. So many polls are wanted of each, where it is said.
 fn each_is_well(counts: &[Counts], polls: Option<u64>) -> bool {
     for each in counts {
         let made = each.made.load(SeqCst);
         let is_well = (each.overlaps.load(SeqCst) == 0)
             & (each.drops.load(SeqCst) == 1)
             & (made <= 1)
-            & (each.lost.load(SeqCst) == made)
-            & (each.given.load(SeqCst) <= made);
+            & (each.lost.load(SeqCst) == made);
         let polled = each.polls.load(SeqCst);
         if !is_well | (polls.unwrap_or(polled) != polled) {
             return false;
@@ -148,30 +129,27 @@ fn each_is_well(counts: &[Counts], polls: Option<u64>) -> bool {
     true
 }
 
-/// How many outputs were made, and how many of them another future was given.
-fn outputs(counts: &[Counts]) -> (u64, u64) {
+/// How many outputs were made.
+fn outputs(counts: &[Counts]) -> u64 {
     let mut made = 0u64;
-    let mut given = 0u64;
     for each in counts {
         made = made.saturating_add(each.made.load(SeqCst));
-        given = given.saturating_add(each.given.load(SeqCst));
     }
-    (made, given)
+    made
 }
 
 /// Each future is polled twice, dropped once, and its one output too.
 #[test]
 fn two_threads_tick_a_thousand_futures(rt: HostRuntime) {
-    let stage = Stage::new(rt, rt.alloc(), TestRealm::leak(rt, rt.alloc()), 1_000);
-    let executor: TestExecutor<Job<_>, _> = stage.executor(1_000);
-    let are_spawned = stage.spawn_all(&executor, 1_000);
+    let stage = Stage::<Job<_>, _>::new(rt, rt.alloc(), TestRealm::leak(rt, rt.alloc()), 1_000);
+    let are_spawned = stage.spawn_all(1_000);
     let (one, other) = thread::join(
         &rt,
-        || tick_until_empty(&executor),
-        || tick_until_empty(&executor),
+        || stage.tick_until_empty(),
+        || stage.tick_until_empty(),
     );
     let counts = stage.notes.each.as_slice();
-    let is_well = each_is_well(counts, Some(2)) & (outputs(counts) == (1_000, 0));
+    let is_well = each_is_well(counts, Some(2)) & (outputs(counts) == 1_000);
     assert!(rt; are_spawned & one & other & is_well);
 }
 
@@ -179,9 +157,8 @@ fn two_threads_tick_a_thousand_futures(rt: HostRuntime) {
 /// last, before any thread runs.
 #[test]
 fn four_threads_run_futures_that_await_cancel_and_detach_each_other(rt: HostRuntime) {
-    let stage = Stage::new(rt, rt.alloc(), TestRealm::leak(rt, rt.alloc()), 10_000);
-    let executor: TestExecutor<Job<_>, _> = stage.executor(10_000);
-    let last = stage.spawn_chain(&executor, 10_000);
+    let stage = Stage::<Job<_>, _>::new(rt, rt.alloc(), TestRealm::leak(rt, rt.alloc()), 10_000);
+    let last = stage.spawn_chain(10_000);
     let mut are_well = last.is_some();
     if let Some(last) = last {
         stage.drop_handle(last);
@@ -190,27 +167,26 @@ fn four_threads_run_futures_that_await_cancel_and_detach_each_other(rt: HostRunt
         &rt,
         rt.alloc(),
         4,
-        &|party| stage.run_until_empty(&executor, party as u64),
+        &|party| stage.run_until_empty(party as u64),
     )
     .expect(&rt, "threads");
     for has_ended in &ended {
         are_well = are_well & *has_ended;
     }
     let counts = stage.notes.each.as_slice();
-    let (made, given) = outputs(counts);
-    assert!(rt; are_well & each_is_well(counts, None) & (made < 10_000) & (given > 0));
+    let given = stage.notes.given.load(SeqCst);
+    assert!(rt; are_well & each_is_well(counts, None) & (outputs(counts) < 10_000) & (given > 0));
 }
 
 /// Each round the tick waits, a spawn on the other thread calls it, and its next poll finds that future.
 #[test]
 fn a_lying_tick_is_called_by_a_spawn_on_another_thread(rt: HostRuntime) {
-    let stage = Stage::new(rt, rt.alloc(), TestRealm::leak(rt, rt.alloc()), 1);
-    let executor: TestExecutor<Job<_>, _> = stage.executor(2);
+    let stage = Stage::<Job<_>, _>::new(rt, rt.alloc(), TestRealm::leak(rt, rt.alloc()), 2);
     let lying = AtomicU64::new(0);
     let (ticked, spawned) = thread::join(
         &rt,
-        || stage.tick_when_called(&executor, &lying, 10_000),
-        || stage.spawn_when_lying(&executor, &lying, 10_000),
+        || stage.tick_when_called(&lying, 10_000),
+        || stage.spawn_when_lying(&lying, 10_000),
     );
     let dropped = stage.notes.of(0).drops.load(SeqCst);
     assert!(rt; ticked & spawned & (dropped == 10_000));

@@ -92,34 +92,23 @@ impl<F: Planned<R>, R: Abort + Wait + Copy + Drop + 'static> Stage<F, R> {
     }
 }
 
-/// A run takes 200 tasks at each poll, so that it is ready after 250 polls that are pending. Each future is polled once.
+/// A spawn of many accepts as many as there are places, and hands the next future back. None is no refusal. A run takes 200 tasks
+/// at each poll, so that it is ready after 250 polls that are pending. Each future is polled once.
 #[test]
 fn a_run_awaits_fifty_thousand_handles_in_order(rt: HostRuntime) {
     let stage = Stage::<Job<_>, _>::new(rt, rt.alloc(), TestRealm::leak(rt, rt.alloc()), 50_000);
-    let (future, refused) = stage.in_order(50_000);
-    let came = stage.run_to_its_end(future, 50_000);
-    let mut are_well = refused.is_none();
+    let mut are_well = true;
+    for (count, refused, came) in [(0, None, (0, 0)), (50_001, Some(50_000), (50_000, 250))] {
+        let (future, was_refused) = stage.in_order(count);
+        are_well = are_well
+            & (was_refused == refused)
+            & (stage.run_to_its_end(future, 999) == came);
+    }
     for each in &stage.notes.each {
         let is_well = (each.polls.load(SeqCst), each.drops.load(SeqCst)) == (1, 1);
         are_well = are_well & is_well & (each.lost.load(SeqCst) == 1);
     }
-    assert!(rt; (came == (50_000, 250)) & are_well & stage.executor.is_empty());
-}
-
-/// A spawn of many accepts as many as there are places, and hands the next future back. None is no refusal.
-#[test]
-fn many_are_spawned_until_one_is_refused(rt: HostRuntime) {
-    let stage = Stage::<Job<_>, _>::new(rt, rt.alloc(), TestRealm::leak(rt, rt.alloc()), 2);
-    let mut are_well = true;
-    for (count, refused, output) in [(0, None, 0), (3, Some(2), 2), (2, None, 2)] {
-        let (future, was_refused) = stage.in_order(count);
-        let (came, _) = stage.run_to_its_end(future, 9);
-        are_well = are_well
-            & (was_refused == refused)
-            & (came == output)
-            & stage.executor.is_empty();
-    }
-    assert!(rt; are_well);
+    assert!(rt; are_well & stage.executor.is_empty());
 }
 
 /// Makes an executor, spawns a future on it, and drops both: the text of where the task lay.

@@ -165,26 +165,16 @@ pub enum Work {
     Pend,
     /// Wakes itself this often, and then gives the number.
     Yield(u64, u64),
-    /// Gives way, then does something with the handle that it has, if any, and gives its own name.
+    /// Gives way, then does something with the handle that it has, if any, and gives its own name. That says what it does: half of
+    /// them await the other's output, or its end, one in four detaches it, and one in four drops the handle, which cancels it.
     Meddle(Meddler),
 }
 
 /// Who does something with another's handle.
 #[derive(Drop)]
 pub struct Meddler {
-    pub deed: Deed,
     pub has_given_way: bool,
     pub other: Option<Returning<StoredTask>>,
-}
-
-/// What a future does with another's handle.
-#[derive(Clone, Copy)]
-pub enum Deed {
-    /// Awaits its output, or its end.
-    Await,
-    Detach,
-    /// Drops it, which cancels the task.
-    Drop,
 }
 
 /// A future of the tests. Its polls and its drop are noted.
@@ -241,19 +231,21 @@ impl<R: Wait + Copy + Drop + 'static> Job<R> {
                 None
             }
             Work::Meddle(meddler) => {
-                let is_done = meddler.is_done(self.rt, self.realm, &self.notes, waker);
-                is_done.then_some(self.name)
+                let name = self.name;
+                let is_done = meddler.is_done(self.rt, self.realm, name, &self.notes, waker);
+                is_done.then_some(name)
             }
         }
     }
 }
 
 impl Meddler {
-    /// The first poll gives way, the second does the deed. Only who awaits goes on after that.
+    /// The first poll gives way, the second does what the name says. Only who awaits goes on after that.
     fn is_done<R: Wait + Copy + Drop + 'static>(
         &mut self,
         rt: R,
         realm: &'static TestRealm<R>,
+        name: u64,
         notes: &Notes,
         waker: &TestWaker<R>,
     ) -> bool {
@@ -268,10 +260,10 @@ impl Meddler {
         let Some(task) = stored.redeem(rt, realm) else {
             return true;
         };
-        match self.deed {
-            Deed::Await => return self.awaits(task, notes, waker),
-            Deed::Detach => drop(task.detach()),
-            Deed::Drop => drop(task),
+        match name % 4 {
+            0 | 1 => return self.awaits(task, notes, waker),
+            2 => drop(task.detach()),
+            _ => drop(task),
         }
         true
     }

@@ -1,5 +1,5 @@
 //! Threads that really overlap. A thread whose loop passes its bound fails the test.
-use crate::parts::{Counts, Deed, Job, Meddler, TestRealm, Work};
+use crate::parts::{Counts, Job, Meddler, TestRealm, Work};
 use crate::stage::{End, Planned, Stage};
 use async_task::{Returning, StoredTask};
 use std::process::Abort;
@@ -56,7 +56,6 @@ impl<F: Planned<R>, R: Abort + Wait + Copy + Drop + 'static> Stage<F, R> {
         let mut other = None;
         for name in 0..names {
             let meddler = Meddler {
-                deed: deed_of(name),
                 has_given_way: false,
                 other,
             };
@@ -89,15 +88,6 @@ impl<F: Planned<R>, R: Abort + Wait + Copy + Drop + 'static> Stage<F, R> {
             }
         }
         true
-    }
-}
-
-/// Which deed the future of this name does.
-fn deed_of(name: u64) -> Deed {
-    match name % 4 {
-        0 | 1 => Deed::Await,
-        2 => Deed::Detach,
-        _ => Deed::Drop,
     }
 }
 

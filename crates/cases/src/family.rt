@@ -1,9 +1,10 @@
 //! The families of scripts: what plays them, and where they lie.
 
-use crate::shown::{Shown, machine, shown_by_queue};
+use crate::shown::{Shown, machine, shown_by_queue, shown_by_tasks};
 use queue_player::{play_exclusive, play_shared};
 use std::alloc::{AllocError, AllocGlobal};
 use std::sync::Wait;
+use task_player::PlaysTasks;
 
 /// What plays a script.
 #[derive(Clone, Copy)]
@@ -14,11 +15,18 @@ pub enum Family {
     Queue,
     /// The queue of one owner.
     Exclusive,
+    /// Tasks that threads share.
+    Task,
 }
 
 impl Family {
     /// All of them, in the order in which they are played.
-    pub const ALL: [Family; 3] = [Family::Machine, Family::Queue, Family::Exclusive];
+    pub const ALL: [Family; 4] = [
+        Family::Machine,
+        Family::Queue,
+        Family::Exclusive,
+        Family::Task,
+    ];
 
     /// The name that an argument and a line of the output have.
     pub fn name(self) -> &'static str {
@@ -26,6 +34,7 @@ impl Family {
             Family::Machine => "machine",
             Family::Queue => "queue",
             Family::Exclusive => "exclusive",
+            Family::Task => "task",
         }
     }
 
@@ -34,6 +43,7 @@ impl Family {
         match self {
             Family::Machine => "machine.txt",
             Family::Queue | Family::Exclusive => "queue.txt",
+            Family::Task => "task.txt",
         }
     }
 
@@ -42,6 +52,7 @@ impl Family {
         match self {
             Family::Machine => "wrong-machine.txt",
             Family::Queue | Family::Exclusive => "wrong-queue.txt",
+            Family::Task => "wrong-task.txt",
         }
     }
 
@@ -50,15 +61,17 @@ impl Family {
         Family::ALL.into_iter().find(|family| family.name() == name)
     }
 
-    /// What it shows of a script. The error is a want of memory.
-    pub fn play<R>(self, rt: R, script: &[u8]) -> Result<Shown, AllocError>
+    /// What it shows of a script, where `tasks` plays those of tasks. The error is a want of memory.
+    pub fn play<R, P>(self, rt: R, tasks: &mut P, script: &[u8]) -> Result<Shown, AllocError>
     where
         R: AllocGlobal + Wait + Copy + Drop,
+        P: PlaysTasks,
     {
         match self {
             Family::Machine => machine(rt.alloc(), script),
             Family::Queue => shown_by_queue(play_shared(rt, rt.alloc(), script)),
             Family::Exclusive => shown_by_queue(play_exclusive(rt.alloc(), script)),
+            Family::Task => shown_by_tasks(tasks.play(script)),
         }
     }
 }

@@ -1,5 +1,6 @@
 //! Why scripts aren't played.
 
+use async_task::RealmError;
 use std::alloc::AllocError;
 use std::{fmt, io};
 
@@ -14,6 +15,8 @@ pub enum Fault {
     Differs,
     /// Memory was refused.
     NoMemory,
+    /// The system gave no random bytes.
+    NoRandom,
     /// A file can't be read, or the output not written.
     Io(io::Error),
 }
@@ -24,7 +27,7 @@ impl Fault {
         match self {
             Fault::Differs => 1,
             Fault::Usage | Fault::NoCase(_) => 2,
-            Fault::NoMemory => 3,
+            Fault::NoMemory | Fault::NoRandom => 3,
             Fault::Io(_) => 4,
         }
     }
@@ -35,11 +38,12 @@ impl fmt::Display for Fault {
         match self {
             Fault::Usage => write!(
                 f,
-                "usage: cases, or cases <family> <file>; a family is machine, queue or exclusive"
+                "usage: cases, or cases <family> <file>; a family is machine, queue, exclusive or task"
             ),
             Fault::NoCase(number) => write!(f, "behind case {number} stands no case"),
             Fault::Differs => write!(f, "not all scripts show what is owed"),
             Fault::NoMemory => write!(f, "out of memory"),
+            Fault::NoRandom => write!(f, "no random number"),
             Fault::Io(error) => write!(f, "{error}"),
         }
     }
@@ -54,5 +58,14 @@ impl From<AllocError> for Fault {
 impl From<io::Error> for Fault {
     fn from(error: io::Error) -> Fault {
         Fault::Io(error)
+    }
+}
+
+impl From<RealmError> for Fault {
+    fn from(error: RealmError) -> Fault {
+        match error {
+            RealmError::NoMemory => Fault::NoMemory,
+            RealmError::NoRandom => Fault::NoRandom,
+        }
     }
 }

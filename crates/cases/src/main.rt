@@ -17,10 +17,18 @@ use std::process::ExitCode;
 use std::rt::{Env, Files};
 use std::sync::Wait;
 use std::{env, fs};
+use task_player::{Kept, PlaysTasks, TaskPlayer, Tasks};
 use verdict::judged;
 
 fn main(rt: HostRuntime) -> ExitCode {
-    match run(rt) {
+    let ended = match Tasks::leak(rt, rt.alloc()) {
+        Ok(realm) => run(
+            rt,
+            &mut TaskPlayer::new(rt, rt.alloc(), realm, Kept::new(rt.alloc())),
+        ),
+        Err(error) => Err(Fault::from(error)),
+    };
+    match ended {
         Ok(()) => ExitCode::SUCCESS,
         Err(fault) => {
             // A fault that can't be told still has its status.
@@ -30,16 +38,17 @@ fn main(rt: HostRuntime) -> ExitCode {
     }
 }
 
-/// Does what the arguments ask.
-fn run<R>(rt: R) -> Result<(), Fault>
+/// Does what the arguments ask. Scripts of tasks are played by `tasks`.
+fn run<R, P>(rt: R, tasks: &mut P) -> Result<(), Fault>
 where
     R: AllocGlobal + Env + Files + Print + Wait + Copy + Drop,
+    P: PlaysTasks,
 {
     let words: Vec<String> = env::args(&rt)?.skip(1).collect(rt.alloc())?;
     match words.as_slice() {
-        [] => play_all(rt),
+        [] => play_all(rt, tasks),
         [family, file] => match Family::named(family.as_str()) {
-            Some(family) => play(rt, family, family.name(), file.as_str()),
+            Some(family) => play(rt, tasks, family, family.name(), file.as_str()),
             None => Err(Fault::Usage),
         },
         _ => Err(Fault::Usage),
@@ -47,13 +56,14 @@ where
 }
 
 /// Plays each family's scripts, and those of which one has a wrong line.
-fn play_all<R>(rt: R) -> Result<(), Fault>
+fn play_all<R, P>(rt: R, tasks: &mut P) -> Result<(), Fault>
 where
     R: AllocGlobal + Files + Print + Wait + Copy + Drop,
+    P: PlaysTasks,
 {
     let mut ended = Ok(());
     for family in Family::ALL {
-        match play(rt, family, family.name(), family.file()) {
+        match play(rt, tasks, family, family.name(), family.file()) {
             Err(Fault::Differs) => ended = Err(Fault::Differs),
             Err(fault) => return Err(fault),
             Ok(()) => {}
@@ -61,7 +71,13 @@ where
     }
     println!(rt; "With a wrong line:")?;
     for family in Family::ALL {
-        match play(rt, family, family.name(), family.file_with_a_wrong_line()) {
+        match play(
+            rt,
+            tasks,
+            family,
+            family.name(),
+            family.file_with_a_wrong_line(),
+        ) {
             // A wrong line that isn't seen.
             Ok(()) => ended = Err(Fault::Differs),
             Err(Fault::Differs) => {}
@@ -72,12 +88,13 @@ where
 }
 
 /// Plays the scripts of a file. The error is `Differs` where one doesn't show what is owed.
-fn play<R>(rt: R, family: Family, label: &str, file: &str) -> Result<(), Fault>
+fn play<R, P>(rt: R, tasks: &mut P, family: Family, label: &str, file: &str) -> Result<(), Fault>
 where
     R: AllocGlobal + Files + Print + Wait + Copy + Drop,
+    P: PlaysTasks,
 {
     let text = fs::read_to_string(&rt, file)?;
-    let verdict = judged(rt, family, text.as_str())?;
+    let verdict = judged(rt, tasks, family, text.as_str())?;
     verdict.print(&rt, label)?;
     if verdict.is_agreed() {
         Ok(())

@@ -7,6 +7,7 @@ use crate::shown::Shown;
 use std::alloc::AllocGlobal;
 use std::io::{self, Write};
 use std::sync::Wait;
+use task_player::PlaysTasks;
 
 /// What the scripts of one text came to.
 #[derive(Drop)]
@@ -28,9 +29,15 @@ pub struct Difference<'a> {
 
 /// Plays the cases of a text, one after the other. The errors are `NoMemory`, and `NoCase` where the text goes on with what is no
 /// case.
-pub fn judged<'a, R>(rt: R, family: Family, text: &'a str) -> Result<Verdict<'a>, Fault>
+pub fn judged<'a, R, P>(
+    rt: R,
+    tasks: &mut P,
+    family: Family,
+    text: &'a str,
+) -> Result<Verdict<'a>, Fault>
 where
     R: AllocGlobal + Wait + Copy + Drop,
+    P: PlaysTasks,
 {
     let mut verdict = Verdict {
         agreed: 0,
@@ -45,7 +52,7 @@ where
         let Some((case, more)) = Case::cut_from(rest) else {
             return Err(Fault::NoCase(number));
         };
-        let shown = family.play(rt, case.script)?;
+        let shown = family.play(rt, tasks, case.script)?;
         verdict.count(number.saturating_add(1), case, shown);
         rest = more;
     }

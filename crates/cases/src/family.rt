@@ -4,7 +4,7 @@ use crate::shown::{Shown, machine, shown_by_queue, shown_by_tasks};
 use queue_player::{play_exclusive, play_shared};
 use std::alloc::{AllocError, AllocGlobal};
 use std::sync::Wait;
-use task_player::PlaysTasks;
+use task_player::{PlaysTasks, play_local};
 
 /// What plays a script.
 #[derive(Clone, Copy)]
@@ -17,15 +17,18 @@ pub enum Family {
     Exclusive,
     /// Tasks that threads share.
     Task,
+    /// Tasks of one owner.
+    LocalTask,
 }
 
 impl Family {
     /// All of them, in the order in which they are played.
-    pub const ALL: [Family; 4] = [
+    pub const ALL: [Family; 5] = [
         Family::Machine,
         Family::Queue,
         Family::Exclusive,
         Family::Task,
+        Family::LocalTask,
     ];
 
     /// The name that an argument and a line of the output have.
@@ -35,6 +38,7 @@ impl Family {
             Family::Queue => "queue",
             Family::Exclusive => "exclusive",
             Family::Task => "task",
+            Family::LocalTask => "local-task",
         }
     }
 
@@ -43,7 +47,7 @@ impl Family {
         match self {
             Family::Machine => "machine.txt",
             Family::Queue | Family::Exclusive => "queue.txt",
-            Family::Task => "task.txt",
+            Family::Task | Family::LocalTask => "task.txt",
         }
     }
 
@@ -52,7 +56,7 @@ impl Family {
         match self {
             Family::Machine => "wrong-machine.txt",
             Family::Queue | Family::Exclusive => "wrong-queue.txt",
-            Family::Task => "wrong-task.txt",
+            Family::Task | Family::LocalTask => "wrong-task.txt",
         }
     }
 
@@ -72,6 +76,7 @@ impl Family {
             Family::Queue => shown_by_queue(play_shared(rt, rt.alloc(), script)),
             Family::Exclusive => shown_by_queue(play_exclusive(rt.alloc(), script)),
             Family::Task => shown_by_tasks(tasks.play(script)),
+            Family::LocalTask => shown_by_tasks(play_local(rt.alloc(), script)),
         }
     }
 }

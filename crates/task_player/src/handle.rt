@@ -1,4 +1,5 @@
-//! The handle of a task, of whichever type, and what its calls answer.
+//! The handle of a task, of whichever type.
+use crate::answer::Answer;
 use crate::stage::{Actor, Bell, Line, Output, ScriptAwaiter};
 use async_task::{Cancel, FallibleTask, Future, NoMemory, Poll, Task, TaskError};
 use std::alloc::{AllocError, Global};
@@ -16,20 +17,6 @@ pub enum Handle<R: Wait + Copy + Drop + 'static> {
     Task(ScriptTask<R>),
     Fallible(ScriptFallible<R>),
     Cancel(ScriptCancel<R>),
-}
-
-/// What a call answers.
-#[derive(Drop)]
-pub enum Answer {
-    Ok,
-    Done,
-    NotPossible,
-    Is(bool),
-    Number(u64),
-    Pending,
-    Ready(u64),
-    Cancelled,
-    Text(String),
 }
 
 impl<R: Wait + Copy + Drop + 'static> Handle<R> {

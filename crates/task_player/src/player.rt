@@ -1,6 +1,7 @@
 //! Plays commands, one after the other.
+use crate::answer::Answer;
 use crate::command::{Command, Item, Name};
-use crate::handle::{Answer, Handle};
+use crate::handle::Handle;
 use crate::kept::Keeps;
 use crate::runs::OpenRun;
 use crate::scene::{SharedScene, copied};
@@ -37,29 +38,8 @@ impl<R: Wait + Copy + Drop + 'static> Player<R> {
             Command::Handle(call, name) => self.handle_call(call, name, kept),
             Command::Pair(call, first, second) => self.pair_call(call, first, second, kept),
         };
-        self.say(word, answer?)
-    }
-
-    /// Shows what a call answers.
-    fn say(&self, word: &str, answer: Answer) -> Result<(), AllocError> {
-        match answer {
-            Answer::Ok => self.scene.answer(&self.rt, word, "ok"),
-            Answer::Done => self.scene.answer(&self.rt, word, "done"),
-            Answer::NotPossible => self.scene.answer(&self.rt, word, "not possible"),
-            Answer::Is(true) => self.scene.answer(&self.rt, word, "true"),
-            Answer::Is(false) => self.scene.answer(&self.rt, word, "false"),
-            Answer::Pending => self.scene.answer(&self.rt, word, "pending"),
-            Answer::Cancelled => self.scene.answer(&self.rt, word, "cancelled"),
-            Answer::Number(number) => {
-                let text = format!(in self.alloc; "{number}")?;
-                self.scene.answer(&self.rt, word, text.as_str())
-            }
-            Answer::Ready(value) => {
-                let text = format!(in self.alloc; "ready {value}")?;
-                self.scene.answer(&self.rt, word, text.as_str())
-            }
-            Answer::Text(text) => self.scene.answer(&self.rt, word, text.as_str()),
-        }
+        let text = answer?.into_text(self.alloc)?;
+        self.scene.answer(&self.rt, word, text.as_str())
     }
 
     /// Makes a task, whose Runnable goes to the end of the list.

@@ -1,6 +1,7 @@
 //! The calls on the list of Runnables and on open runs.
+use crate::answer::Answer;
 use crate::command::ListCall;
-use crate::handle::{Answer, Handle, marks_of};
+use crate::handle::{Handle, marks_of};
 use crate::kept::Keeps;
 use crate::player::Player;
 use crate::scene::Entry;

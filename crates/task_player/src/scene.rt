@@ -1,22 +1,12 @@
 //! What the tasks of a script share: the lines shown so far, the list of Runnables, and what is known of each name.
+use crate::answer::Answer;
 use crate::command::Name;
-use crate::handle::Answer;
+use crate::counts::{Counts, Happening};
 use async_task::{Returning, StoredRunnable, StoredWaker};
 use std::alloc::{AllocError, Global};
 use std::collections::VecDeque;
 use std::mem;
 use std::sync::{Arc, Mutex, Wait};
-
-/// How often things happened to a task.
-#[derive(Clone, Copy, Drop)]
-pub struct Counts {
-    pub polls: u64,
-    pub schedules: u64,
-    pub future_drops: u64,
-    pub lost: u64,
-    /// Drops of schedule values, less those that were made by sharing.
-    pub schedule_drops: i64,
-}
 
 /// What is known of a name.
 #[derive(Drop)]
@@ -64,47 +54,14 @@ pub fn copied<R: Wait>(rt: &R, scene: &SharedScene) -> SharedScene {
     unreachable!()
 }
 
-/// What is counted.
-#[derive(Clone, Copy, Drop)]
-pub enum Happening {
-    Poll,
-    Schedule,
-    FutureDrop,
-    /// The drop of an output that nobody read.
-    Loss,
-    /// One more schedule value.
-    Share,
-    ScheduleDrop,
-}
-
-impl Counts {
-    fn count(&mut self, happening: Happening) {
-        match happening {
-            Happening::Poll => self.polls = self.polls.saturating_add(1),
-            Happening::Schedule => self.schedules = self.schedules.saturating_add(1),
-            Happening::FutureDrop => self.future_drops = self.future_drops.saturating_add(1),
-            Happening::Loss => self.lost = self.lost.saturating_add(1),
-            Happening::Share => self.schedule_drops = self.schedule_drops.saturating_sub(1),
-            Happening::ScheduleDrop => self.schedule_drops = self.schedule_drops.saturating_add(1),
-        }
-    }
-}
-
 impl Board {
     pub fn new(alloc: Global, names: Vec<String>) -> Result<Board, AllocError> {
         let mut records = Vec::new(alloc);
         for name in names {
-            let counts = Counts {
-                polls: 0,
-                schedules: 0,
-                future_drops: 0,
-                lost: 0,
-                schedule_drops: 0,
-            };
             records.push(Record {
                 name,
                 spawned: false,
-                counts,
+                counts: Counts::new(),
                 kept: Vec::new(alloc),
             })?;
         }
@@ -236,15 +193,7 @@ impl Scene {
             Some(record) if record.spawned => record.counts,
             _ => return Ok(Answer::NotPossible),
         };
-        let Counts {
-            polls,
-            schedules,
-            future_drops,
-            lost,
-            schedule_drops,
-        } = counts;
-        let text = format!(in alloc; "{polls} {schedules} {future_drops} {lost} {schedule_drops}")?;
-        Ok(Answer::Text(text))
+        Ok(Answer::Text(counts.into_text(alloc)?))
     }
 
     /// What was shown so far, which is taken out. An error where memory was refused meanwhile.

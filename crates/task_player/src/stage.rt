@@ -1,6 +1,7 @@
 //! What the tasks of a script are made of.
 use crate::command::{Act, Item, Name};
-use crate::scene::{Happening, SharedScene, copied};
+use crate::counts::Happening;
+use crate::scene::{SharedScene, copied};
 use async_task::{
     Awaiter, Future, Poll, Realm, Returning, Runnable, Running, Schedule, ScheduleInfo, Scheduled,
     Shared, TaskWaker, Wake,

@@ -1,6 +1,7 @@
 //! The calls on kept wakers.
+use crate::answer::Answer;
 use crate::command::{Name, WakerCall};
-use crate::handle::{Answer, Handle};
+use crate::handle::Handle;
 use crate::kept::Keeps;
 use crate::player::Player;
 use crate::runs::OpenRun;

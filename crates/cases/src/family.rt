@@ -1,10 +1,12 @@
 //! The families of scripts: what plays them, and where they lie.
 
-use crate::shown::{Shown, machine, shown_by_executor, shown_by_queue};
+use crate::players::Players;
+use crate::shown::{Shown, machine, shown_by_executor, shown_by_queue, shown_by_tasks};
 use executor_player::Plays;
 use queue_player::{play_exclusive, play_shared};
 use std::alloc::{AllocError, AllocGlobal};
 use std::sync::Wait;
+use task_player::{PlaysTasks, play_local};
 
 /// What plays a script.
 #[derive(Clone, Copy)]
@@ -17,15 +19,21 @@ pub enum Family {
     Queue,
     /// The queue of one owner.
     Exclusive,
+    /// Tasks that threads share.
+    Task,
+    /// Tasks of one owner.
+    LocalTask,
 }
 
 impl Family {
     /// All of them, in the order in which they are played.
-    pub const ALL: [Family; 4] = [
+    pub const ALL: [Family; 6] = [
         Family::Machine,
         Family::Executor,
         Family::Queue,
         Family::Exclusive,
+        Family::Task,
+        Family::LocalTask,
     ];
 
     /// The name that an argument and a line of the output have.
@@ -35,6 +43,8 @@ impl Family {
             Family::Executor => "executor",
             Family::Queue => "queue",
             Family::Exclusive => "exclusive",
+            Family::Task => "task",
+            Family::LocalTask => "local-task",
         }
     }
 
@@ -44,6 +54,7 @@ impl Family {
             Family::Machine => "machine.txt",
             Family::Executor => "executor.txt",
             Family::Queue | Family::Exclusive => "queue.txt",
+            Family::Task | Family::LocalTask => "task.txt",
         }
     }
 
@@ -53,6 +64,7 @@ impl Family {
             Family::Machine => "wrong-machine.txt",
             Family::Executor => "wrong-executor.txt",
             Family::Queue | Family::Exclusive => "wrong-queue.txt",
+            Family::Task | Family::LocalTask => "wrong-task.txt",
         }
     }
 
@@ -61,17 +73,25 @@ impl Family {
         Family::ALL.into_iter().find(|family| family.name() == name)
     }
 
-    /// What it shows of a script; scripts of executors are played by this player. The error is a want of memory.
-    pub fn play<P, R>(self, rt: R, player: &P, script: &[u8]) -> Result<Shown, AllocError>
+    /// What it shows of a script, by the one of these players that plays it. The error is a want of memory.
+    pub fn play<E, T, R>(
+        self,
+        rt: R,
+        players: &mut Players<E, T>,
+        script: &[u8],
+    ) -> Result<Shown, AllocError>
     where
-        P: Plays<R>,
+        E: Plays<R>,
+        T: PlaysTasks<R>,
         R: AllocGlobal + Wait + Copy + Drop + 'static,
     {
         match self {
             Family::Machine => machine(rt.alloc(), script),
-            Family::Executor => { shown_by_executor(player.play(script)) }
+            Family::Executor => shown_by_executor(players.executors.play(script)),
             Family::Queue => shown_by_queue(play_shared(rt, rt.alloc(), script)),
             Family::Exclusive => shown_by_queue(play_exclusive(rt.alloc(), script)),
+            Family::Task => shown_by_tasks(players.tasks.play(script)),
+            Family::LocalTask => shown_by_tasks(play_local(rt.alloc(), script)),
         }
     }
 }

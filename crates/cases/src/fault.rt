@@ -15,7 +15,7 @@ pub enum Fault {
     Differs,
     /// Memory was refused.
     NoMemory,
-    /// The system gave no random bytes, of which the realm of the executors has its number.
+    /// The system gave no random bytes, of which a realm has its number.
     NoRandom,
     /// A file can't be read, or the output not written.
     Io(io::Error),
@@ -38,7 +38,7 @@ impl fmt::Display for Fault {
         match self {
             Fault::Usage => write!(
                 f,
-                "usage: cases, or cases <family> <file>; a family is machine, executor, queue or exclusive"
+                "usage: cases, or cases <family> <file>; a family is machine, executor, queue, exclusive, task or local-task"
             ),
             Fault::NoCase(number) => write!(f, "behind case {number} stands no case"),
             Fault::Differs => write!(f, "not all scripts show what is owed"),

@@ -7,24 +7,33 @@
 mod case;
 mod family;
 mod fault;
+mod players;
 mod shown;
 mod verdict;
 
 use executor_player::{ExecutorPlayer, Plays, ScriptRealm};
 use family::Family;
 use fault::Fault;
+use players::Players;
 use std::alloc::AllocGlobal;
 use std::process::ExitCode;
 use std::rt::{Env, Files};
 use std::sync::Wait;
 use std::{env, fs};
+use task_player::{PlaysTasks, TaskPlayer, Tasks};
 use verdict::judged;
 
 fn main(rt: HostRuntime) -> ExitCode {
-    // Generic code that makes a realm and works on it gets no proof, so it is made here.
-    let ended = match ScriptRealm::<HostRuntime>::leak(rt, rt.alloc()) {
-        Ok(realm) => run::<ExecutorPlayer<HostRuntime>, HostRuntime>(rt, realm),
-        Err(error) => Err(Fault::from(error)),
+    // Generic code that makes a realm and works on it gets no proof, so realms are made here.
+    let executors = ScriptRealm::<HostRuntime>::leak(rt, rt.alloc());
+    let tasks = Tasks::<HostRuntime>::leak(rt, rt.alloc());
+    let ended = match (executors, tasks) {
+        (Ok(executors), Ok(tasks)) => {
+            run::<ExecutorPlayer<HostRuntime>, TaskPlayer<HostRuntime>, HostRuntime>(
+                rt, executors, tasks,
+            )
+        }
+        (Err(error), _) | (_, Err(error)) => Err(Fault::from(error)),
     };
     match ended {
         Ok(()) => ExitCode::SUCCESS,
@@ -36,18 +45,26 @@ fn main(rt: HostRuntime) -> ExitCode {
     }
 }
 
-/// Does what the arguments ask. Scripts of executors are played by a `P`, whose tasks lie in this realm.
-fn run<P, R>(rt: R, realm: &'static ScriptRealm<R>) -> Result<(), Fault>
+/// Does what the arguments ask. Scripts of executors are played by an `E`, and those of tasks by a `T`, each in its realm.
+fn run<E, T, R>(
+    rt: R,
+    executors: &'static ScriptRealm<R>,
+    tasks: &'static Tasks<R>,
+) -> Result<(), Fault>
 where
-    P: Plays<R> + Drop,
+    E: Plays<R> + Drop,
+    T: PlaysTasks<R> + Drop,
     R: AllocGlobal + Env + Files + Print + Wait + Copy + Drop + 'static,
 {
     let words: Vec<String> = env::args(&rt)?.skip(1).collect(rt.alloc())?;
-    let player = P::at(rt, rt.alloc(), realm);
+    let mut players = Players {
+        executors: E::at(rt, rt.alloc(), executors),
+        tasks: T::at(rt, rt.alloc(), tasks),
+    };
     match words.as_slice() {
-        [] => play_all(rt, &player),
+        [] => play_all(rt, &mut players),
         [family, file] => match Family::named(family.as_str()) {
-            Some(family) => play(rt, &player, family, family.name(), file.as_str()),
+            Some(family) => play(rt, &mut players, family, family.name(), file.as_str()),
             None => Err(Fault::Usage),
         },
         _ => Err(Fault::Usage),
@@ -55,14 +72,15 @@ where
 }
 
 /// Plays each family's scripts, and those of which one has a wrong line.
-fn play_all<P, R>(rt: R, player: &P) -> Result<(), Fault>
+fn play_all<E, T, R>(rt: R, players: &mut Players<E, T>) -> Result<(), Fault>
 where
-    P: Plays<R>,
+    E: Plays<R>,
+    T: PlaysTasks<R>,
     R: AllocGlobal + Files + Print + Wait + Copy + Drop + 'static,
 {
     let mut ended = Ok(());
     for family in Family::ALL {
-        match play(rt, player, family, family.name(), family.file()) {
+        match play(rt, players, family, family.name(), family.file()) {
             Err(Fault::Differs) => ended = Err(Fault::Differs),
             Err(fault) => return Err(fault),
             Ok(()) => {}
@@ -72,7 +90,7 @@ where
     for family in Family::ALL {
         match play(
             rt,
-            player,
+            players,
             family,
             family.name(),
             family.file_with_a_wrong_line(),
@@ -87,13 +105,20 @@ where
 }
 
 /// Plays the scripts of a file. The error is `Differs` where one doesn't show what is owed.
-fn play<P, R>(rt: R, player: &P, family: Family, label: &str, file: &str) -> Result<(), Fault>
+fn play<E, T, R>(
+    rt: R,
+    players: &mut Players<E, T>,
+    family: Family,
+    label: &str,
+    file: &str,
+) -> Result<(), Fault>
 where
-    P: Plays<R>,
+    E: Plays<R>,
+    T: PlaysTasks<R>,
     R: AllocGlobal + Files + Print + Wait + Copy + Drop + 'static,
 {
     let text = fs::read_to_string(&rt, file)?;
-    let verdict = judged(rt, player, family, text.as_str())?;
+    let verdict = judged(rt, players, family, text.as_str())?;
     verdict.print(&rt, label)?;
     if verdict.is_agreed() {
         Ok(())

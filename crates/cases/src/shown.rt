@@ -45,3 +45,12 @@ pub fn shown_by_executor(shown: Result<Vec<u8>, PlayError>) -> Result<Shown, All
         Err(PlayError::NoMemory) => Err(AllocError),
     }
 }
+
+/// What a player of tasks shows of a script. The error is a want of memory.
+pub fn shown_by_tasks(shown: Result<Vec<u8>, task_player::PlayError>) -> Result<Shown, AllocError> {
+    match shown {
+        Ok(text) => Ok(Shown::Text(text)),
+        Err(task_player::PlayError::BadLine(number)) => Ok(Shown::BadLine(number)),
+        Err(task_player::PlayError::NoMemory) => Err(AllocError),
+    }
+}

@@ -3,11 +3,13 @@
 use crate::case::Case;
 use crate::family::Family;
 use crate::fault::Fault;
+use crate::players::Players;
 use crate::shown::Shown;
 use executor_player::Plays;
 use std::alloc::AllocGlobal;
 use std::io::{self, Write};
 use std::sync::Wait;
+use task_player::PlaysTasks;
 
 /// What the scripts of one text came to.
 #[derive(Drop)]
@@ -29,14 +31,15 @@ pub struct Difference<'a> {
 
 /// Plays the cases of a text, one after the other. The errors are `NoMemory`, and `NoCase` where the text goes on with what is no
 /// case.
-pub fn judged<'a, P, R>(
+pub fn judged<'a, E, T, R>(
     rt: R,
-    player: &P,
+    players: &mut Players<E, T>,
     family: Family,
     text: &'a str,
 ) -> Result<Verdict<'a>, Fault>
 where
-    P: Plays<R>,
+    E: Plays<R>,
+    T: PlaysTasks<R>,
     R: AllocGlobal + Wait + Copy + Drop + 'static,
 {
     let mut verdict = Verdict {
@@ -52,7 +55,7 @@ where
         let Some((case, more)) = Case::cut_from(rest) else {
             return Err(Fault::NoCase(number));
         };
-        let shown = family.play(rt, player, case.script)?;
+        let shown = family.play(rt, players, case.script)?;
         verdict.count(number.saturating_add(1), case, shown);
         rest = more;
     }

@@ -1,5 +1,6 @@
 //! An executor of one future, as a user of this crate writes it: the README shows what stands here.
 //! It runs the future as long as that wakes itself, and polls its handle then.
+use crate::calls::same;
 use crate::parts::Sum;
 use async_task::{
     Awaiter, Future, Nobody, Poll, Realm, Returning, Schedule, ScheduleInfo, Scheduled,
@@ -7,6 +8,7 @@ use async_task::{
 };
 use std::alloc::{AllocError, Global};
 use std::sync::{Arc, Mutex, Wait};
+use std::test::Fail;
 
 #[derive(Drop)]
 pub struct Turn<R>(Arc<Mutex<Option<Returning<StoredRunnable>>>, Global>, R);
@@ -38,4 +40,12 @@ pub fn run<R: Wait + Copy + Drop + 'static>(
         }
     }
     Ok(task.poll(&Awaiter::Outside(Nobody)))
+}
+
+#[test]
+fn an_executor_of_one_future_runs_it_to_its_end(rt: HostRuntime) -> Result<(), Fail> {
+    let realm = Realm::leak(rt, rt.alloc())?;
+    let polled = run(rt, rt.alloc(), realm, Sum { left: 4, sum: 0 })?;
+    same(&rt, polled, Poll::Ready(Ok(10)));
+    Ok(())
 }

@@ -1,5 +1,5 @@
 //! A queue of tasks that are to be run: what it refuses, and what it closes.
-use crate::calls::{holds, same, there};
+use crate::calls::{holds, same};
 use crate::parts::Sum;
 use async_task::{Awaiter, Future, Nobody, Poll, Realm, TaskError};
 use ready_queue::{Places, QueueRunnable, QueueTask, ReadyQueue, SpawnError};
@@ -11,17 +11,12 @@ type TestQueue<R> = ReadyQueue<Sum, u64, Nobody, R>;
 
 type TestTask<R> = QueueTask<Sum, u64, Nobody, R>;
 
-/// A future that is Pending so many times.
-fn sum(left: u64) -> Sum {
-    Sum { left, sum: 0 }
-}
-
 fn spawned<R: Abort + Wait + Copy + Drop + 'static>(
     rt: &R,
     queue: &TestQueue<R>,
     left: u64,
 ) -> TestTask<R> {
-    match queue.spawn(sum(left)) {
+    match queue.spawn(Sum { left, sum: 0 }) {
         Ok(task) => task,
         Err(_) => panic!(rt; "refused"),
     }
@@ -34,7 +29,7 @@ fn is_refused<R: Abort + Wait + Copy + Drop + 'static>(
     left: u64,
     is_full: bool,
 ) {
-    match queue.spawn(sum(left)) {
+    match queue.spawn(Sum { left, sum: 0 }) {
         Ok(_) => panic!(rt; "accepted"),
         Err(SpawnError::Full(back)) => same(rt, (is_full, back.left), (true, left)),
         Err(SpawnError::Closed(back)) => same(rt, (is_full, back.left), (false, left)),
@@ -59,14 +54,11 @@ const CLOSED: Poll<Result<u64, TaskError>> = Poll::Ready(Err(TaskError::TaskClos
 /// A full queue refuses a future, also while its task stands in no queue, until that one's future is dropped.
 #[test]
 fn a_full_queue_refuses(rt: HostRuntime) -> Result<(), Fail> {
-    let queue = ReadyQueue::new(
-        rt,
-        Realm::leak(rt, rt.alloc())?,
-        Places::leak(rt.alloc(), 1)?,
-    );
+    let (realm, places) = (Realm::leak(rt, rt.alloc())?, Places::leak(rt.alloc(), 1)?);
+    let queue = ReadyQueue::new(rt, realm, places);
     let first = spawned(&rt, &queue, 1);
     is_refused(&rt, &queue, 5, true);
-    let runnable = there(&rt, queue.next());
+    let runnable = queue.next().expect(&rt, "a task");
     is_refused(&rt, &queue, 5, true);
     run(runnable);
     first.detach();
@@ -81,13 +73,10 @@ fn a_full_queue_refuses(rt: HostRuntime) -> Result<(), Fail> {
 /// A closed queue has closed what it had, closes a task that is woken, and refuses a future.
 #[test]
 fn a_closed_queue_closes_its_tasks(rt: HostRuntime) -> Result<(), Fail> {
-    let queue = ReadyQueue::new(
-        rt,
-        Realm::leak(rt, rt.alloc())?,
-        Places::leak(rt.alloc(), 2)?,
-    );
+    let (realm, places) = (Realm::leak(rt, rt.alloc())?, Places::leak(rt.alloc(), 2)?);
+    let queue = ReadyQueue::new(rt, realm, places);
     let mut first = spawned(&rt, &queue, 1);
-    let runnable = there(&rt, queue.next());
+    let runnable = queue.next().expect(&rt, "a task");
     let mut second = spawned(&rt, &queue, 0);
     gives(&rt, &mut second, Poll::Pending);
     queue.close();

@@ -1,8 +1,7 @@
 //! Tasks that threads wake, run, await and cancel at the same time. A loop past its bound fails the test.
-use crate::calls::{Stage, same};
+use crate::calls::{Stage, holds, same};
 use crate::parts::{
-    Counts, Tasks, TestRunnable, TestTask, TestWaker, drop_cancel, drop_task, drop_waker, next,
-    no_tasks, ran,
+    Counts, Tasks, TestTask, TestWaker, drop_cancel, drop_task, drop_waker, next, ran,
 };
 use async_task::{Future, Poll, TaskError, Wake};
 use std::alloc::Global;
@@ -35,28 +34,6 @@ fn waits_until<R: Abort>(rt: &R, counter: &AtomicU64, least: u64) {
     panic!(rt; "a thread has waited in vain");
 }
 
-/// The next Runnable that is queued, or None where there is none once the counter has come so far.
-fn awaited<R: Abort + Wait + Copy + Drop + 'static>(
-    rt: R,
-    realm: &'static Tasks<R>,
-    counts: &Counts,
-    counter: &AtomicU64,
-    least: u64,
-) -> Option<TestRunnable<R>> {
-    for _ in 0..MOST_TURNS {
-        let is_last = counter.load(SeqCst) >= least;
-        if counts.queued.load(SeqCst) > 0 {
-            if let Some(runnable) = next(rt, realm, counts) {
-                return Some(runnable);
-            }
-        } else if is_last {
-            return None;
-        }
-        thread::yield_now();
-    }
-    panic!(rt; "a thread has looked in vain for what it is to run");
-}
-
 /// Runs each Runnable that is queued, until none is there and the counter has come so far.
 fn runs_until<R: Abort + Wait + Copy + Drop + 'static>(
     rt: R,
@@ -65,13 +42,24 @@ fn runs_until<R: Abort + Wait + Copy + Drop + 'static>(
     counter: &AtomicU64,
     least: u64,
 ) {
-    for _ in 0..MOST_TURNS {
-        match awaited(rt, realm, counts, counter, least) {
-            Some(runnable) => ran(runnable),
-            None => return,
-        };
+    let mut idle = 0;
+    for _ in rt.forever() {
+        let is_last = counter.load(SeqCst) >= least;
+        if counts.queued.load(SeqCst) > 0 {
+            if let Some(runnable) = next(rt, realm, counts) {
+                ran(runnable);
+                idle = 0;
+            }
+        } else if is_last {
+            return;
+        } else if idle == MOST_TURNS {
+            panic!(rt; "a thread has looked in vain for what it is to run");
+        } else {
+            idle += 1;
+            thread::yield_now();
+        }
     }
-    panic!(rt; "more is queued than is woken");
+    unreachable!()
 }
 
 /// Wakes the task once a round, in one of two ways, beside a copy of the waker, and goes on once a poll has begun after the
@@ -106,17 +94,18 @@ fn was_polled_for_its_wakes<R: Abort + Wait + Copy + Drop + 'static>(stage: &Sta
     same(&stage.rt, stage.counts.overlaps.load(SeqCst), 0);
     same(&stage.rt, stage.counts.longest.load(SeqCst), 1);
     let polls = stage.counts.polls.load(SeqCst);
-    stage.holds((ROUNDS <= polls) & (polls <= 2 * ROUNDS + 1));
-    stage.future_drops(1);
-    stage.schedule_drops(1);
+    holds(&stage.rt, (ROUNDS <= polls) & (polls <= 2 * ROUNDS + 1));
+    same(&stage.rt, stage.counts.future_drops.load(SeqCst), 1);
+    same(&stage.rt, stage.counts.schedule_drops.load(SeqCst), 1);
 }
 
 /// Two threads wake a task that nobody awaits, each once a round, while this one runs it: each round ends with a poll that
 /// began after its wakes.
 #[test]
 fn wakes_of_two_threads_meet_a_run(rt: HostRuntime) {
-    let stage = Stage::new(rt, rt.alloc(), no_tasks(rt, rt.alloc()));
-    let runnable = stage.detached(1_000_000, false);
+    let stage = Stage::new(rt, rt.alloc(), Tasks::leak(rt, rt.alloc()));
+    let (runnable, task) = stage.task(1_000_000, false);
+    task.detach();
     let (one, other) = (stage.waker(&runnable), stage.waker(&runnable));
     let (one_s, other_s) = (stage.counts_too(), stage.counts_too());
     ran(runnable);
@@ -138,7 +127,7 @@ fn wakes_of_two_threads_meet_a_run(rt: HostRuntime) {
 
 /// Whether a poll by a waker that rings here gives the output.
 fn gives<R: Abort + Wait + Copy + Drop + 'static>(bell: &Stage<R>, task: &mut TestTask<R>) -> bool {
-    match task.poll(&bell.bell()) {
+    match task.poll(&bell.bell(false)) {
         Poll::Ready(output) => {
             same(&bell.rt, output, Ok(3));
             true
@@ -153,15 +142,19 @@ fn awaits<R: Abort + Wait + Copy + Drop + 'static>(stage: &Stage<R>, task: &mut 
     let (first, last) = (stage.counted_apart(), stage.counted_apart());
     if !gives(&first, task) && !gives(&last, task) {
         waits_until(&stage.rt, &last.counts.rings, 1);
-        stage.holds(gives(&last, task));
+        holds(&stage.rt, gives(&last, task));
     }
-    stage.poll(task, Poll::Ready(Err(TaskError::TaskClosed)));
+    stage.poll(
+        task,
+        &stage.bell(false),
+        Poll::Ready(Err(TaskError::TaskClosed)),
+    );
 }
 
 /// Handles are polled while another thread ends their tasks.
 #[test]
 fn a_handle_is_awaited_while_its_task_ends(rt: HostRuntime) {
-    let stage = Stage::new(rt, rt.alloc(), no_tasks(rt, rt.alloc()));
+    let stage = Stage::new(rt, rt.alloc(), Tasks::leak(rt, rt.alloc()));
     let (realm, counts) = (stage.realm, stage.counts_too());
     let runs = move || runs_until(rt, realm, &counts, &counts.polls, ROUNDS);
     let runner = thread::spawn(&rt, runs);
@@ -184,7 +177,7 @@ fn is_given_up<R: Abort + Wait + Copy + Drop + 'static>(stage: &Stage<R>, number
         1 => drop_cancel(task.cancel()),
         _ => {
             let mut cancel = task.cancel();
-            let _ = cancel.poll(&stage.bell());
+            let _ = cancel.poll(&stage.bell(false));
             drop_cancel(cancel);
         }
     }
@@ -196,7 +189,7 @@ fn is_given_up<R: Abort + Wait + Copy + Drop + 'static>(stage: &Stage<R>, number
 /// Tasks are cancelled while another thread runs them: each future is dropped once.
 #[test]
 fn a_cancel_meets_a_run(rt: HostRuntime) {
-    let stage = Stage::new(rt, rt.alloc(), no_tasks(rt, rt.alloc()));
+    let stage = Stage::new(rt, rt.alloc(), Tasks::leak(rt, rt.alloc()));
     let (realm, counts) = (stage.realm, stage.counts_too());
     let runs = move || runs_until(rt, realm, &counts, &counts.future_drops, CANCELS);
     let runner = thread::spawn(&rt, runs);
@@ -204,6 +197,6 @@ fn a_cancel_meets_a_run(rt: HostRuntime) {
         is_given_up(&stage, number);
     }
     runner.expect(&rt, "a thread").join(&rt);
-    stage.future_drops(CANCELS);
-    stage.schedule_drops(CANCELS);
+    same(&rt, stage.counts.future_drops.load(SeqCst), CANCELS);
+    same(&rt, stage.counts.schedule_drops.load(SeqCst), CANCELS);
 }

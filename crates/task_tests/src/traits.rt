@@ -1,6 +1,6 @@
 //! Traits, markers and texts of the public types.
 use crate::calls::{Stage, same, shown};
-use crate::parts::{drop_cancel, drop_fallible, drop_waker, no_tasks};
+use crate::parts::{Tasks, drop_cancel, drop_waker};
 use async_task::{Builder, NoMemory, Poll, RealmError, ScheduleInfo, TaskError, WithInfo};
 use std::fmt::Debug;
 
@@ -31,13 +31,13 @@ fn plain_types_are_copied_compared_and_shown(rt: HostRuntime) {
 /// are.
 #[test]
 fn handles_move_and_are_shared(rt: HostRuntime) {
-    let stage = Stage::new(rt, rt.alloc(), no_tasks(rt, rt.alloc()));
+    let stage = Stage::new(rt, rt.alloc(), Tasks::leak(rt, rt.alloc()));
     let (runnable, task) = stage.task(0, false);
     let runnable = moves_and_is_shared(runnable);
     let waker = moves_and_is_shared(stage.waker(&runnable));
     let task = moves_and_is_shared(moves_and_is_shared(task).fallible());
     drop_cancel(moves_and_is_shared(task.cancel()));
-    stage.run(runnable, false);
+    stage.run(runnable);
     drop_waker(waker);
     stage.seen((0, 0, 1, 1));
 }
@@ -45,14 +45,14 @@ fn handles_move_and_are_shared(rt: HostRuntime) {
 /// A handle's text has the marks of its task at that moment, and how many references there are.
 #[test]
 fn a_handle_is_shown_with_the_marks_of_its_task(rt: HostRuntime) {
-    let stage = Stage::new(rt, rt.alloc(), no_tasks(rt, rt.alloc()));
+    let stage = Stage::new(rt, rt.alloc(), Tasks::leak(rt, rt.alloc()));
     let (runnable, mut task) = stage.task(0, false);
     shown(
         &rt,
         &runnable,
         "Runnable { scheduled: true, running: false, completed: false, closed: false, awaiter: false, task: true, ref_count: 1, metadata: 7 }",
     );
-    stage.poll(&mut task, Poll::Pending);
+    stage.poll(&mut task, &stage.bell(false), Poll::Pending);
     let waker = stage.waker(&runnable);
     let task = task.fallible();
     shown(
@@ -61,11 +61,4 @@ fn a_handle_is_shown_with_the_marks_of_its_task(rt: HostRuntime) {
         "FallibleTask { scheduled: true, running: false, completed: false, closed: false, awaiter: true, task: true, ref_count: 2, metadata: 7 }",
     );
     drop_waker(waker);
-    drop_fallible(task);
-    shown(
-        &rt,
-        &runnable,
-        "Runnable { scheduled: true, running: false, completed: false, closed: true, awaiter: false, task: false, ref_count: 1, metadata: 7 }",
-    );
-    stage.run(runnable, false);
 }

@@ -1,12 +1,7 @@
-//! Tests of a task's word. A crate of its own so that they are proved beside it, and it only once.
+//! Tests of a task's word, where no script of `cases` shows it. A crate of its own so that they are proved beside it, and it
+//! only once.
 #![tactic(auto)]
 
-#[cfg(test)]
-mod acts;
-#[cfg(test)]
-mod awaiters;
-#[cfg(test)]
-mod handles;
 #[cfg(test)]
 mod lives;
 #[cfg(test)]
@@ -15,5 +10,3 @@ mod races;
 mod threads;
 #[cfg(test)]
 mod tokens;
-#[cfg(test)]
-mod words;

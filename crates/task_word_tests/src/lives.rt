@@ -1,13 +1,47 @@
 //! What the tests do with tokens: a run up to its end, or a poll of the handle, with all that they owe. None of a task's tokens
 //! can be dropped, so each of these uses up what it is handed.
-use crate::acts::{Looked, Outcome, Place, Ran};
 use std::sync::Wait;
+use task_word::Cell;
 use task_word::tokens::{
-    Debt, Found, Left, OwingRun, OwingTask, PastRun, Polled, ReadyRun, Registered, RegisteredTask,
-    Run, Runnable, Task, TaskPlace, Trace,
+    Debt, Found, Left, OwingRun, OwingTask, PastRun, Polled, Registered, Run, Runnable, Task,
+    TaskPlace, Trace,
 };
 
+/// A cell whose futures, outputs and awaiters are numbers.
+pub type Place = Cell<u64, u64, u64>;
+
 pub type Handle = Task<u64, u64, u64>;
+
+/// What a run came to.
+#[derive(Clone, Copy, PartialEq, Eq, Debug)]
+pub enum Ran {
+    /// No Runnable rests in the word.
+    Nothing,
+    /// The poll gave no output; and whether the future was dropped.
+    Pending(bool),
+    /// The task was closed, and its future dropped; and whether the cell was to be emptied.
+    Closed(bool),
+    /// The poll gave an output, which lies in the cell.
+    Ready,
+    /// The same, but nobody wants it.
+    ReadyForNobody,
+}
+
+/// The same, with the awaiter that was called, and the one that was found left.
+#[derive(Clone, Copy, PartialEq, Eq, Debug)]
+pub struct Outcome {
+    pub ran: Ran,
+    pub called: Option<u64>,
+    pub left: Option<u64>,
+}
+
+/// What a look of the handle came to.
+#[derive(Clone, Copy, PartialEq, Eq, Debug)]
+pub enum Looked {
+    Pending,
+    Closed,
+    Output(u64),
+}
 
 /// The value that is owed a call or a drop.
 fn paid(debt: Option<Debt<u64>>) -> Option<u64> {
@@ -39,11 +73,12 @@ pub fn make<R: Wait>(rt: &R, place: &'static Place) -> Option<Handle> {
     }
 }
 
-/// The end of a run: the awaiter is called, where that is owed, and the reference given up.
-fn leave<R: Wait>(
+/// What is left of a run of a closed task, whose future is dropped: the awaiter is called, where that is owed, and the reference
+/// given up.
+pub fn close<R: Wait>(
     rt: &R,
     left: Result<PastRun<u64, u64, u64>, OwingRun<u64, u64, u64>>,
-) -> (bool, Option<u64>, Option<u64>) {
+) -> Outcome {
     let (past, called) = match left {
         Ok(past) => (past, None),
         Err(owing) => {
@@ -53,22 +88,30 @@ fn leave<R: Wait>(
     };
     let (owed, Left { runnable, awaiter }) = past.give_up(rt);
     rest(runnable);
-    (owed.empty_cell, called, paid(awaiter))
+    Outcome {
+        ran: Ran::Closed(owed.empty_cell),
+        called,
+        left: paid(awaiter),
+    }
 }
 
 /// A poll that gives this output.
-fn finish<R: Wait>(rt: &R, run: ReadyRun<u64, u64, u64>, output: u64) -> Outcome {
+fn finish<R: Wait>(rt: &R, run: Run<u64, u64, u64>, output: u64) -> Outcome {
+    let (run, future) = run.ready();
+    future.pay();
     let (_, left, back) = run.store(rt, output);
     let ran = match paid(back) {
         Some(_) => Ran::ReadyForNobody,
         None => Ran::Ready,
     };
-    let (_, called, left) = leave(rt, left);
-    Outcome { ran, called, left }
+    Outcome {
+        ran,
+        ..close(rt, left)
+    }
 }
 
 /// A poll that gives none.
-fn pause<R: Wait>(rt: &R, run: Run<u64, u64, u64>) -> Outcome {
+pub fn pause<R: Wait>(rt: &R, run: Run<u64, u64, u64>) -> Outcome {
     let (_, left, future) = run.pend(rt);
     let is_dropped = paid(future).is_some();
     match left {
@@ -80,14 +123,7 @@ fn pause<R: Wait>(rt: &R, run: Run<u64, u64, u64>) -> Outcome {
                 left: paid(awaiter),
             }
         }
-        Err(closed) => {
-            let (is_empty, called, left) = leave(rt, closed.settle(rt).1);
-            Outcome {
-                ran: Ran::Closed(is_empty),
-                called,
-                left,
-            }
-        }
+        Err(closed) => close(rt, closed.settle(rt).1),
     }
 }
 
@@ -96,21 +132,12 @@ pub fn run<R: Wait>(rt: &R, place: &'static Place, output: Option<u64>) -> Outco
     match place.resume(rt) {
         Ok(runnable) => match runnable.take_up(rt).1 {
             Ok(run) => match output {
-                Some(output) => {
-                    let (run, future) = run.ready();
-                    future.pay();
-                    finish(rt, run, output)
-                }
+                Some(output) => finish(rt, run, output),
                 None => pause(rt, run),
             },
             Err((closed, future)) => {
                 future.pay();
-                let (is_empty, called, left) = leave(rt, closed.settle(rt).1);
-                Outcome {
-                    ran: Ran::Closed(is_empty),
-                    called,
-                    left,
-                }
+                close(rt, closed.settle(rt).1)
             }
         },
         Err(_) => Outcome {
@@ -121,65 +148,38 @@ pub fn run<R: Wait>(rt: &R, place: &'static Place, output: Option<u64>) -> Outco
     }
 }
 
-/// Lets the Runnable go that rests in the word, where one does. The answer has the awaiter that is called.
-pub fn let_go<R: Wait>(rt: &R, place: &'static Place) -> Option<(bool, Option<u64>)> {
-    match place.resume(rt) {
-        Ok(runnable) => {
-            let (_, closed, future) = runnable.let_go(rt);
-            future.pay();
-            let (is_empty, called, _) = leave(rt, closed.settle(rt).1);
-            Some((is_empty, called))
-        }
-        Err(_) => None,
-    }
-}
-
 /// The handle calls the awaiter, where that is owed.
-fn call<R: Wait>(rt: &R, task: Result<Handle, OwingTask<u64, u64, u64>>) -> (Handle, Option<u64>) {
+fn call<R: Wait>(rt: &R, task: Result<Handle, OwingTask<u64, u64, u64>>) -> Handle {
     match task {
-        Ok(task) => (task, None),
+        Ok(task) => task,
         Err(owing) => {
             let (_, task, awaiter) = owing.notify(rt);
-            (task, paid(awaiter))
+            paid(awaiter);
+            task
         }
     }
 }
 
-/// What a look came to, with the handle and the awaiter that was called.
-fn looked<R: Wait>(
-    rt: &R,
-    polled: Polled<u64, u64, u64>,
-    otherwise: Looked,
-) -> (Handle, Looked, Option<u64>) {
+/// What a look came to, with the handle.
+fn answered<R: Wait>(rt: &R, polled: Polled<u64, u64, u64>, otherwise: Looked) -> (Handle, Looked) {
     let Polled { task, output } = polled;
-    let (task, called) = call(rt, task);
+    let task = call(rt, task);
     match output {
         Some(output) => {
             let mut place = TaskPlace::of(task);
             let output = place.give(output);
-            (place.open(), Looked::Output(output), called)
+            (place.open(), Looked::Output(output))
         }
-        None => (task, otherwise, called),
+        None => (task, otherwise),
     }
 }
 
-/// What a poll's waker came to.
-#[derive(Clone, Copy, PartialEq, Eq, Debug)]
-pub enum Kept {
-    /// The poll had an answer at once.
-    Unasked,
-    /// It is stored, in the place of another or of none.
-    Stored(Option<u64>),
-    /// It was called.
-    Called(u64),
-}
-
-/// A poll of the handle with this waker, up to its answer; and the awaiters that were called and dropped.
-pub fn poll<R: Wait>(rt: &R, task: Handle, waker: u64) -> (Handle, Looked, Kept) {
+/// A poll of the handle with this waker, up to its answer; and the waker, where it was called at once.
+pub fn poll<R: Wait>(rt: &R, task: Handle, waker: u64) -> (Handle, Looked, Option<u64>) {
     match task.poll(rt).1 {
         Ok(polled) => {
-            let (task, answer, _) = looked(rt, polled, Looked::Closed);
-            (task, answer, Kept::Unasked)
+            let (task, answer) = answered(rt, polled, Looked::Closed);
+            (task, answer, None)
         }
         Err(waiting) => {
             let Registered {
@@ -187,54 +187,50 @@ pub fn poll<R: Wait>(rt: &R, task: Handle, waker: u64) -> (Handle, Looked, Kept)
                 to_call,
                 to_drop,
             } = waiting.register(rt, waker).1;
-            let (called, before) = (paid(to_call), paid(to_drop));
-            let kept = match called {
-                Some(waker) => Kept::Called(waker),
-                None => Kept::Stored(before),
+            let called = paid(to_call);
+            paid(to_drop);
+            let (owed, polled) = task.look_again(rt);
+            let otherwise = match owed.awaiter {
+                Some(_) => Looked::Closed,
+                None => Looked::Pending,
             };
-            let (task, answer) = again(rt, task);
-            (task, answer, kept)
+            let (task, answer) = answered(rt, polled, otherwise);
+            (task, answer, called)
         }
     }
 }
 
-/// The look after a waker was registered.
-fn again<R: Wait>(rt: &R, task: RegisteredTask<u64, u64, u64>) -> (Handle, Looked) {
-    let (owed, polled) = task.look_again(rt);
-    let otherwise = match owed.awaiter {
-        Some(_) => Looked::Closed,
-        None => Looked::Pending,
-    };
-    let (task, answer, _) = looked(rt, polled, otherwise);
-    (task, answer)
-}
-
-/// The handle cancels the task: whether a Runnable rests by that, and the awaiter that is called.
-pub fn cancel<R: Wait>(rt: &R, task: Handle) -> (Handle, bool, Option<u64>) {
+/// The handle cancels the task.
+pub fn cancel<R: Wait>(rt: &R, task: Handle) -> Handle {
     let (_, runnable, task) = task.cancel(rt);
-    let is_queued = rest(runnable);
-    let (task, called) = call(rt, task);
-    (task, is_queued, called)
+    rest(runnable);
+    call(rt, task)
 }
 
-/// What is left where the handle went: whether a Runnable was owed.
-fn leaves(left: Left<u64, u64, u64>) -> bool {
+/// What is left of a task where a handle or a waker went: whether a Runnable was owed.
+pub fn leaves(left: Left<u64, u64, u64>) -> bool {
     let Left { runnable, awaiter } = left;
     paid(awaiter);
     rest(runnable)
 }
 
-/// The handle goes: the output that lay in the cell, and whether a Runnable was owed.
-pub fn detach<R: Wait>(rt: &R, mine: Handle) -> (Option<u64>, bool) {
+/// The handle goes: the output that lay in the cell.
+pub fn detach<R: Wait>(rt: &R, mine: Handle) -> Option<u64> {
     let mut going = match mine.detach(rt).1 {
-        Ok(left) => return (None, leaves(left)),
+        Ok(left) => {
+            leaves(left);
+            return None;
+        }
         Err(found) => found,
     };
     for _ in rt.forever() {
         let Found { task, output } = going;
         let output = output.pay();
         match task.detach(rt).1 {
-            Ok(left) => return (Some(output), leaves(left)),
+            Ok(left) => {
+                leaves(left);
+                return Some(output);
+            }
             Err(found) => going = found,
         }
     }

@@ -1,6 +1,5 @@
 //! A poll of the handle meets the end of its task, and a cancel meets runs, on two threads.
-use crate::acts::{Looked, Outcome, Place, Ran};
-use crate::lives::{Handle, Kept, cancel, detach, make, poll, run};
+use crate::lives::{Handle, Looked, Outcome, Place, Ran, cancel, detach, make, poll, run};
 use std::alloc::{AllocError, Global};
 use std::boxed::Box;
 use std::sync::Wait;
@@ -53,10 +52,7 @@ impl Stage {
 
     /// Counts what a run did. The answer is whether there was one.
     fn count(&self, outcome: Outcome) -> bool {
-        match outcome.called {
-            Some(waker) => self.called.fetch_max(waker, SeqCst),
-            None => 0,
-        };
+        self.called.fetch_max(outcome.called.unwrap_or(0), SeqCst);
         let (futures, given, dropped) = match outcome.ran {
             Ran::Nothing => return false,
             Ran::Pending(is_dropped) => (is_dropped as u64, 0, 0),
@@ -115,37 +111,27 @@ fn make_soon<R: Wait>(rt: &R, stage: &'static Stage, round: u64) -> Option<Handl
     None
 }
 
-/// Whether the handle's last look left a waker that wasn't called yet, and the next look is to wait for that.
-fn waits(stage: &'static Stage, polls: u64, most: u64, waker: u64) -> bool {
-    polls >= most && stage.called.load(SeqCst) < waker
-}
-
 /// Polls a new task until it has an output, which is the answer. After so many polls it waits until the waker of its last one
 /// was called. Wakers have numbers from this one on.
 fn await_output<R: Wait>(rt: &R, stage: &'static Stage, most: u64, first: u64) -> Option<u64> {
     let mut task = make_soon(rt, stage, first)?;
     let mut polls: u64 = 0;
     for _ in 0..TURNS {
-        if waits(stage, polls, most, first.saturating_add(polls)) {
+        if polls >= most && stage.called.load(SeqCst) < first.saturating_add(polls) {
             thread::yield_now();
         } else {
             polls = polls.saturating_add(1).min(most);
-            let (back, answer, kept) = poll(rt, task, first.saturating_add(polls));
+            let (back, answer, called) = poll(rt, task, first.saturating_add(polls));
             task = back;
-            match (answer, kept) {
-                (Looked::Pending, Kept::Called(waker)) => {
-                    stage.called.fetch_max(waker, SeqCst);
+            match answer {
+                Looked::Pending => {
+                    stage.called.fetch_max(called.unwrap_or(0), SeqCst);
                 }
-                (Looked::Pending, _) => {}
-                (Looked::Closed, _) => break,
-                (Looked::Output(output), _) => {
+                Looked::Closed => break,
+                Looked::Output(output) => {
                     let (task, answer, _) = poll(rt, task, 0);
                     detach(rt, task);
-                    return if answer == Looked::Closed {
-                        Some(output)
-                    } else {
-                        None
-                    };
+                    return (answer == Looked::Closed).then_some(output);
                 }
             }
         }
@@ -160,17 +146,12 @@ fn await_output<R: Wait>(rt: &R, stage: &'static Stage, most: u64, first: u64) -
 fn an_end_meets_the_polls_of_a_handle(rt: HostRuntime) {
     let stage = Stage::leak(rt.alloc()).expect(&rt, "memory");
     let runner = thread::spawn(&rt, move || run_all(&rt, stage, true)).expect(&rt, "a thread");
-    let mut outputs: u64 = 0;
-    for round in 0..1_000_u64 {
-        if await_output(&rt, stage, 1 + round % 4, round.saturating_mul(10)) == Some(9) {
-            outputs = outputs.saturating_add(1);
-        } else {
-            break;
-        }
-    }
+    let are_given = (0..1_000_u64).all(|round| {
+        await_output(&rt, stage, 1 + round % 4, round.saturating_mul(10)) == Some(9)
+    });
     stage.over.store(1, SeqCst);
     assert!(&rt; runner.join(&rt));
-    assert!(&rt; outputs == 1_000);
+    assert!(&rt; are_given);
     assert!(&rt; stage.futures.load(SeqCst) == 1_000);
     assert!(&rt; stage.given.load(SeqCst) == 1_000);
     assert!(&rt; stage.dropped.load(SeqCst) == 0);
@@ -180,8 +161,7 @@ fn an_end_meets_the_polls_of_a_handle(rt: HostRuntime) {
 fn make_and_cancel<R: Wait>(rt: &R, stage: &'static Stage, round: u64) -> bool {
     match make_soon(rt, stage, round) {
         Some(task) => {
-            let (task, _, _) = cancel(rt, task);
-            let (output, _) = detach(rt, task);
+            let output = detach(rt, cancel(rt, task));
             stage.dropped.fetch_add(output.is_some() as u64, SeqCst);
             true
         }
@@ -194,17 +174,10 @@ fn make_and_cancel<R: Wait>(rt: &R, stage: &'static Stage, round: u64) -> bool {
 fn a_cancel_meets_runs(rt: HostRuntime) {
     let stage = Stage::leak(rt.alloc()).expect(&rt, "memory");
     let runner = thread::spawn(&rt, move || run_all(&rt, stage, false)).expect(&rt, "a thread");
-    let mut rounds: u64 = 0;
-    for round in 0..100_000_u64 {
-        if make_and_cancel(&rt, stage, round) {
-            rounds = rounds.saturating_add(1);
-        } else {
-            break;
-        }
-    }
+    let are_made = (0..100_000_u64).all(|round| make_and_cancel(&rt, stage, round));
     stage.over.store(1, SeqCst);
     assert!(&rt; runner.join(&rt));
-    assert!(&rt; rounds == 100_000);
+    assert!(&rt; are_made);
     assert!(&rt; stage.futures.load(SeqCst) == 100_000);
     assert!(&rt; stage.given.load(SeqCst) == stage.dropped.load(SeqCst));
 }

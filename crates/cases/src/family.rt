@@ -48,13 +48,13 @@ impl Family {
         }
     }
 
-    /// The file of `data/` with its scripts. Two families may share one.
-    pub fn file(self) -> &'static str {
+    /// The files of `data/` with its scripts. Families share some.
+    pub fn files(self) -> &'static [&'static str] {
         match self {
-            Family::Machine => "machine.txt",
-            Family::Executor => "executor.txt",
-            Family::Queue | Family::Exclusive => "queue.txt",
-            Family::Task | Family::LocalTask => "task.txt",
+            Family::Machine => &["calls.txt", "steps.txt"],
+            Family::Executor => &["calls.txt"],
+            Family::Queue | Family::Exclusive => &["queue.txt"],
+            Family::Task | Family::LocalTask => &["task.txt"],
         }
     }
 

@@ -64,7 +64,7 @@ where
     match words.as_slice() {
         [] => play_all(rt, &mut players),
         [family, file] => match Family::named(family.as_str()) {
-            Some(family) => play(rt, &mut players, family, family.name(), file.as_str()),
+            Some(family) => play_files(rt, &mut players, family, &[file.as_str()]),
             None => Err(Fault::Usage),
         },
         _ => Err(Fault::Usage),
@@ -80,7 +80,7 @@ where
 {
     let mut ended = Ok(());
     for family in Family::ALL {
-        match play(rt, players, family, family.name(), family.file()) {
+        match play_files(rt, players, family, family.files()) {
             Err(Fault::Differs) => ended = Err(Fault::Differs),
             Err(fault) => return Err(fault),
             Ok(()) => {}
@@ -88,13 +88,7 @@ where
     }
     println!(rt; "With a wrong line:")?;
     for family in Family::ALL {
-        match play(
-            rt,
-            players,
-            family,
-            family.name(),
-            family.file_with_a_wrong_line(),
-        ) {
+        match play_files(rt, players, family, &[family.file_with_a_wrong_line()]) {
             // A wrong line that isn't seen.
             Ok(()) => ended = Err(Fault::Differs),
             Err(Fault::Differs) => {}
@@ -104,22 +98,24 @@ where
     ended
 }
 
-/// Plays the scripts of a file. The error is `Differs` where one doesn't show what is owed.
-fn play<E, T, R>(
+/// Plays the scripts of files, one file behind the other. The error is `Differs` where one doesn't show what is owed.
+fn play_files<E, T, R>(
     rt: R,
     players: &mut Players<E, T>,
     family: Family,
-    label: &str,
-    file: &str,
+    files: &[&str],
 ) -> Result<(), Fault>
 where
     E: Plays<R>,
     T: PlaysTasks<R>,
     R: AllocGlobal + Files + Print + Wait + Copy + Drop + 'static,
 {
-    let text = fs::read_to_string(&rt, file)?;
-    let verdict = judged(rt, players, family, text.as_str())?;
-    verdict.print(&rt, label)?;
+    let mut scripts = String::new(rt.alloc());
+    for file in files {
+        scripts.push_str(fs::read_to_string(&rt, file)?.as_str())?;
+    }
+    let verdict = judged(rt, players, family, scripts.as_str())?;
+    verdict.print(&rt, family.name())?;
     if verdict.is_agreed() {
         Ok(())
     } else {

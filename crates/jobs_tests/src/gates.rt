@@ -8,18 +8,25 @@ use std::thread;
 /// How many turns a job waits for the other at most.
 const MOST_TURNS: u64 = 10_000_000;
 
-/// Each of two jobs waits for the other here.
+/// Counts the jobs that meet it, by number; each of two waits here for the other.
 #[derive(Drop)]
 struct Both {
-    first: AtomicBool,
-    second: AtomicBool,
+    first: AtomicU64,
+    second: AtomicU64,
+    others: AtomicU64,
     has_failed: AtomicBool,
 }
 
-impl Both {
-    fn wait_for(&self, other: &AtomicBool) {
+impl Gate for Both {
+    fn meet(&self, job: u64) {
+        let (met, other) = match job {
+            0 => (&self.first, &self.second),
+            1 => (&self.second, &self.first),
+            _ => (&self.others, &self.others),
+        };
+        met.fetch_add(1, SeqCst);
         for _ in 0..MOST_TURNS {
-            if other.load(SeqCst) {
+            if other.load(SeqCst) > 0 {
                 return;
             }
             thread::yield_now();
@@ -28,82 +35,25 @@ impl Both {
     }
 }
 
-impl Gate for Both {
-    fn meet(&self, job: u64) {
-        if job == 0 {
-            self.first.store(true, SeqCst);
-            self.wait_for(&self.second);
-        } else {
-            self.second.store(true, SeqCst);
-            self.wait_for(&self.first);
-        }
-    }
-}
+type BothPlace<'a> = JobPlace<&'a Both, HostRuntime>;
 
-/// One worker alone would wait in the first of both for the other.
+/// A sum of many polls and a product are had at a time, and each meets the gate once: one worker alone would wait in the first
+/// for the other.
 #[test]
-fn two_workers_have_two_jobs_at_a_time(rt: HostRuntime) -> Result<(), Fail> {
+fn two_workers_have_two_jobs_at_a_time_and_each_meets_the_gate_once(
+    rt: HostRuntime,
+) -> Result<(), Fail> {
     let realm = JobRealm::<HostRuntime>::leak(rt, rt.alloc())?;
     let both = Both {
-        first: AtomicBool::new(false),
-        second: AtomicBool::new(false),
-        has_failed: AtomicBool::new(false),
-    };
-    let list = [Job::Sum(1), Job::Sum(2)];
-    let ended = run_jobs::<JobPlace<&Both, HostRuntime>, HostRuntime>(
-        rt,
-        rt.alloc(),
-        realm,
-        &list,
-        2,
-        &both,
-    );
-    assert!(rt; ended.is_ok() & !both.has_failed.load(SeqCst));
-    Ok(())
-}
-
-/// Counts the jobs that meet it, by number.
-#[derive(Drop)]
-struct Counted {
-    first: AtomicU64,
-    second: AtomicU64,
-    others: AtomicU64,
-}
-
-impl Gate for Counted {
-    fn meet(&self, job: u64) {
-        let met = match job {
-            0 => &self.first,
-            1 => &self.second,
-            _ => &self.others,
-        };
-        met.fetch_add(1, SeqCst);
-    }
-}
-
-/// A sum of many polls and a product each meet it once.
-#[test]
-fn each_job_meets_the_gate_once(rt: HostRuntime) -> Result<(), Fail> {
-    let realm = JobRealm::<HostRuntime>::leak(rt, rt.alloc())?;
-    let counted = Counted {
         first: AtomicU64::new(0),
         second: AtomicU64::new(0),
         others: AtomicU64::new(0),
+        has_failed: AtomicBool::new(false),
     };
     let list = [Job::Sum(1_000_000), Job::Mul(2, 3)];
-    let ended = run_jobs::<JobPlace<&Counted, HostRuntime>, HostRuntime>(
-        rt,
-        rt.alloc(),
-        realm,
-        &list,
-        2,
-        &counted,
-    );
-    let met = (
-        counted.first.load(SeqCst),
-        counted.second.load(SeqCst),
-        counted.others.load(SeqCst),
-    );
-    assert!(rt; ended.is_ok() & (met == (1, 1, 0)));
+    let ended = run_jobs::<BothPlace<'_>, HostRuntime>(rt, rt.alloc(), realm, &list, 2, &both);
+    let met = (both.first.load(SeqCst), both.second.load(SeqCst));
+    let is_well = ended.is_ok() & !both.has_failed.load(SeqCst);
+    assert!(rt; is_well & (met == (1, 1)) & (both.others.load(SeqCst) == 0));
     Ok(())
 }

@@ -2,11 +2,9 @@
 ghost use Rattle.std.specs.Prelude.{◌<◌, ◌≤◌, All, IfOk, length};
 ghost use Rattle.job_answers.specs.Answers.{IsInRange};
 
-use jobs::{Answer, Job, JobPlace, JobRealm, Open, Place, run_jobs};
+use jobs::{Answer, Job, JobPlace, JobRealm, Open, run_jobs};
 use std::alloc::{AllocError, Global};
-use std::sync::Wait;
 use std::test::Fail;
-use std::thread::Threads;
 
 type HostPlace = JobPlace<Open, HostRuntime>;
 
@@ -17,16 +15,6 @@ fn a_sum_and_a_product_that_is_too_large(rt: HostRuntime) -> Result<(), Fail> {
     let want = [Answer::Value(55), Answer::TooLarge];
     match run_jobs::<HostPlace, HostRuntime>(rt, rt.alloc(), realm, &list, 2, Open) {
         Ok(answers) => assert!(rt; answers.as_slice() == want.as_slice()),
-        Err(_) => panic!(rt; "refused"),
-    }
-    Ok(())
-}
-
-#[test]
-fn no_job_has_no_answer(rt: HostRuntime) -> Result<(), Fail> {
-    let realm = JobRealm::<HostRuntime>::leak(rt, rt.alloc())?;
-    match run_jobs::<HostPlace, HostRuntime>(rt, rt.alloc(), realm, &[], 1, Open) {
-        Ok(answers) => assert!(rt; answers.is_empty()),
         Err(_) => panic!(rt; "refused"),
     }
     Ok(())
@@ -75,24 +63,6 @@ fn thirds(alloc: Global) -> Result<Vec<Job>, AllocError>
 }
 
 /// Whether `thirds` are answered in order.
-fn answers_thirds<P, R>(
-    rt: R,
-    alloc: Global,
-    realm: &'static JobRealm<R>,
-    workers: usize,
-) -> Result<bool, AllocError>
-where
-    P: Place<R, Gate = Open> + Sync + Drop,
-    R: Threads + Sync + Wait + Copy + Drop + 'static,
-    requires { (0 < workers) × (workers ≤ 64) }
-{
-    let list = thirds(alloc)?;
-    match run_jobs::<P, R>(rt, alloc, realm, &list, workers, Open) {
-        Ok(answers) => Ok(are_thirds(&answers)),
-        Err(_) => Ok(false),
-    }
-}
-
 fn are_thirds(answers: &[Answer]) -> bool {
     for (number, answer) in answers.iter().enumerate() {
         if *answer != Answer::Value(3u64.saturating_mul(number as u64)) {
@@ -105,23 +75,32 @@ fn are_thirds(answers: &[Answer]) -> bool {
 #[test]
 fn as_many_jobs_as_there_may_be_on_one_worker(rt: HostRuntime) -> Result<(), Fail> {
     let realm = JobRealm::<HostRuntime>::leak(rt, rt.alloc())?;
-    let is_so = answers_thirds::<HostPlace, HostRuntime>(rt, rt.alloc(), realm, 1)?;
-    assert!(rt; is_so);
+    let list = thirds(rt.alloc())?;
+    match run_jobs::<HostPlace, HostRuntime>(rt, rt.alloc(), realm, &list, 1, Open) {
+        Ok(answers) => assert!(rt; are_thirds(&answers)),
+        Err(_) => panic!(rt; "refused"),
+    }
     Ok(())
 }
 
 #[test]
 fn as_many_jobs_as_there_may_be_on_four_workers(rt: HostRuntime) -> Result<(), Fail> {
     let realm = JobRealm::<HostRuntime>::leak(rt, rt.alloc())?;
-    let is_so = answers_thirds::<HostPlace, HostRuntime>(rt, rt.alloc(), realm, 4)?;
-    assert!(rt; is_so);
+    let list = thirds(rt.alloc())?;
+    match run_jobs::<HostPlace, HostRuntime>(rt, rt.alloc(), realm, &list, 4, Open) {
+        Ok(answers) => assert!(rt; are_thirds(&answers)),
+        Err(_) => panic!(rt; "refused"),
+    }
     Ok(())
 }
 
 #[test]
 fn as_many_jobs_as_there_may_be_on_64_workers(rt: HostRuntime) -> Result<(), Fail> {
     let realm = JobRealm::<HostRuntime>::leak(rt, rt.alloc())?;
-    let is_so = answers_thirds::<HostPlace, HostRuntime>(rt, rt.alloc(), realm, 64)?;
-    assert!(rt; is_so);
+    let list = thirds(rt.alloc())?;
+    match run_jobs::<HostPlace, HostRuntime>(rt, rt.alloc(), realm, &list, 64, Open) {
+        Ok(answers) => assert!(rt; are_thirds(&answers)),
+        Err(_) => panic!(rt; "refused"),
+    }
     Ok(())
 }

@@ -8,9 +8,3 @@ mod places;
 mod refusals;
 #[cfg(test)]
 mod rows;
-#[cfg(test)]
-mod runs;
-#[cfg(test)]
-mod ticks;
-#[cfg(test)]
-mod words;

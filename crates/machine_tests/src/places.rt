@@ -17,13 +17,11 @@ fn each_section_of_the_table(rt: HostRuntime) {
     let second = entered(&rt, &mut places, 8, 80);
     assert!(&rt; !places.is_empty());
     assert!(&rt; places.waker(second).copied() == Some(80));
-    assert!(&rt; places.take(first) == Some(7));
-    assert!(&rt; places.take(first) == None);
-    assert!(&rt; places.put_back(first, 9) == None);
-    assert!(&rt; places.put_back(first, 7) == Some(9));
+    assert!(&rt; (places.take(first), places.take(first)) == (Some(7), None));
+    let replaced = (places.put_back(first, 9), places.put_back(first, 7));
+    assert!(&rt; replaced == (None, Some(9)));
     assert!(&rt; places.leave(first) == Some((Some(7), 70)));
-    assert!(&rt; places.leave(first) == None);
-    assert!(&rt; places.put_back(first, 7) == Some(7));
+    assert!(&rt; (places.leave(first), places.put_back(first, 7)) == (None, Some(7)));
     assert!(&rt; places.len() == 1);
 }
 

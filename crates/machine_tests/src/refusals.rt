@@ -1,210 +1,174 @@
-use crate::words::{
-    PENDING, READY, answer, answered, answered_inside, begin, finish, finished, go, machine_for,
-    polling, stepped,
+//! What a script can't say: each refusal but the machine's own want of memory, with the state unchanged; copies of wakers
+//! and wakes by value; a tick that a task polls by its own waker; and a later request for memory that is refused.
+use crate::rows::Row::{
+    self, Answered, Begins, Ends, Goes, GoesRefused, Makes, New, Refused, Stands, Unanswered, Waits,
 };
-use executor_model::{By, Call, Hint, Reply, Step, StepError, UserEnd};
+use crate::rows::{DONE, PENDING, READY, plays};
+use executor_model::Call::{
+    self, Cancel, Copy, Detach, DropExecutor, DropHandle, DropRun, DropTick, DropWaker, IsEmpty,
+    Keep, NewRun, NewTick, Spawn, TryTick, Wake, WakeByRef, WakeSelf,
+};
+use executor_model::StepError::{self, Gone, NoSuch};
+use executor_model::{By, Reply};
+
+const OUTSIDE: By = By::Outside(1);
+
+const POLL: Call = Call::PollHandle(0, OUTSIDE);
+
+const POLL_TICK: Call = Call::PollTick(0, OUTSIDE);
+
+const POLL_RUN: Call = Call::PollRun(0, OUTSIDE);
+
+const ROWS: &[Row] = &[
+    New, // a party in a call is busy
+    Begins(0, Spawn),
+    Refused(0, &[IsEmpty], StepError::Busy),
+    Ends(0, &[], Reply::Made),
+    New, // what is not there
+    Refused(9, &[IsEmpty], NoSuch),
+    Refused(0, &[Wake(0), WakeByRef(0), Copy(0)], NoSuch),
+    Refused(0, &[Keep, WakeSelf, POLL, Cancel(0), Detach(0)], NoSuch),
+    Refused(0, &[DropWaker(0), DropHandle(0), DropRun(0)], NoSuch),
+    Refused(0, &[POLL_TICK, DropTick(0), POLL_RUN], NoSuch),
+    Makes(0, IsEmpty, &[], Reply::Yes),
+    New, // a handle in use
+    Makes(0, Spawn, &[], Reply::Made),
+    Begins(0, POLL),
+    Refused(1, &[Cancel(0)], NoSuch),
+    Ends(0, &[], Reply::Pending),
+    Makes(1, Cancel(0), &[DONE], Reply::Done),
+    New, // a waker in use, in a poll of a future, which begins at the fifth step of a `TryTick`
+    Makes(0, Spawn, &[], Reply::Made),
+    Begins(0, TryTick),
+    Goes(0, 4),
+    Begins(0, Keep),
+    Goes(0, 1),
+    Answered(Reply::Made),
+    Begins(1, WakeByRef(0)),
+    Refused(2, &[DropWaker(0)], NoSuch),
+    Makes(2, Copy(0), &[], Reply::Made),
+    Ends(1, &[], Reply::Done),
+    Makes(2, DropWaker(0), &[], Reply::Done),
+    New, // a dropped executor is gone
+    Makes(0, Spawn, &[], Reply::Made),
+    Makes(0, DropExecutor, &[DONE], Reply::Done),
+    Refused(1, &[Spawn, TryTick, IsEmpty], Gone),
+    Refused(1, &[NewTick, NewRun, DropExecutor], Gone),
+    Makes(1, POLL, &[], Reply::Cancelled),
+    New, // an executor in use is borrowed
+    Begins(1, IsEmpty),
+    Refused(0, &[DropExecutor], StepError::Borrowed),
+    Ends(1, &[], Reply::Yes),
+    Begins(1, TryTick),
+    Refused(0, &[DropExecutor], StepError::Borrowed),
+    Ends(1, &[], Reply::No),
+    Begins(1, Spawn),
+    Refused(0, &[DropExecutor], StepError::Borrowed),
+    Ends(1, &[], Reply::Made),
+    Begins(1, NewTick),
+    Refused(0, &[DropExecutor], StepError::Borrowed),
+    Ends(1, &[], Reply::Made),
+    Makes(1, DropTick(0), &[], Reply::Done),
+    Begins(1, NewRun),
+    Refused(0, &[DropExecutor], StepError::Borrowed),
+    Ends(1, &[], Reply::Made),
+    New, // a party without a call is idle
+    Stands(0, StepError::Idle),
+    Unanswered(0, DONE, StepError::Idle),
+    New, // user code answers first, and as it can
+    Makes(0, Spawn, &[], Reply::Made),
+    Begins(0, TryTick),
+    Unanswered(0, READY, StepError::WrongAnswer),
+    Goes(0, 4),
+    Stands(0, StepError::WrongAnswer),
+    Unanswered(0, DONE, StepError::WrongAnswer),
+    Ends(0, &[PENDING], Reply::Yes),
+    New, // who wants the taken lock waits
+    Makes(0, NewRun, &[], Reply::Made),
+    Makes(0, NewRun, &[], Reply::Made),
+    Begins(0, POLL_RUN),
+    Goes(0, 1),
+    Begins(1, Call::PollRun(1, OUTSIDE)),
+    Waits(1, true),
+    Stands(1, StepError::Waits),
+    Ends(0, &[PENDING], Reply::Pending),
+    Waits(1, false),
+    Ends(1, &[PENDING], Reply::Pending),
+    New, // of a new run's requests the first and the last are refused; its second step makes none
+    Begins(0, NewRun),
+    GoesRefused(0),
+    Ends(0, &[], Reply::NoMemory),
+    Begins(0, NewRun),
+    Goes(0, 2),
+    GoesRefused(0),
+    Ends(0, &[], Reply::NoMemory),
+    Refused(0, &[POLL_RUN], NoSuch),
+    Begins(0, NewRun),
+    Goes(0, 1),
+    GoesRefused(0),
+    Ends(0, &[], Reply::Made),
+    Makes(0, POLL_RUN, &[PENDING], Reply::Pending),
+    New, // a tick whose second copy is refused lies
+    Makes(0, NewTick, &[], Reply::Made),
+    Begins(0, POLL_TICK),
+    Goes(0, 4),
+    GoesRefused(0),
+    Ends(0, &[], Reply::NoMemory),
+    Makes(0, Spawn, &[DONE], Reply::Made),
+    Makes(0, POLL_TICK, &[READY, DONE], Reply::Ready),
+    New, // a task polls a tick by its own waker, which wakes it where the tick is told
+    Makes(0, NewTick, &[], Reply::Made),
+    Makes(0, Spawn, &[], Reply::Made),
+    Begins(0, TryTick),
+    Goes(0, 4),
+    Begins(0, Call::PollTick(0, By::Mine)),
+    Goes(0, 7),
+    Answered(Reply::Pending),
+    Ends(0, &[PENDING], Reply::Yes),
+    Makes(0, Spawn, &[], Reply::Made),
+    Makes(0, TryTick, &[READY, DONE], Reply::Yes),
+    Makes(0, TryTick, &[READY, DONE], Reply::Yes),
+    Makes(0, TryTick, &[], Reply::No),
+    New, // copies of wakers, and wakes by value
+    Makes(0, Spawn, &[], Reply::Made),
+    Begins(0, TryTick),
+    Goes(0, 4),
+    Begins(0, Keep),
+    Goes(0, 1),
+    Begins(0, WakeSelf),
+    Goes(0, 1),
+    Answered(Reply::Done),
+    Ends(0, &[PENDING], Reply::Yes),
+    Makes(0, Copy(0), &[], Reply::Made),
+    Makes(0, WakeByRef(1), &[], Reply::Done),
+    Makes(0, Wake(1), &[], Reply::Done),
+    Makes(0, DropWaker(0), &[], Reply::Done),
+    Makes(0, TryTick, &[READY, DONE], Reply::Yes),
+    Makes(0, TryTick, &[], Reply::No),
+];
 
 #[test]
-fn a_party_in_a_call_is_busy(rt: HostRuntime) {
-    let mut machine = machine_for(&rt, 1);
-    stepped(&rt, &mut machine, begin(0, Call::Spawn), Ok(()));
-    stepped(
-        &rt,
-        &mut machine,
-        begin(0, Call::IsEmpty),
-        Err(StepError::Busy),
-    );
-    assert!(&rt; machine.trace().len() == 1);
-    finished(&rt, &mut machine, 0, &[], Reply::Made);
+fn each_row_is_met(rt: HostRuntime) {
+    plays(&rt, ROWS);
 }
 
+// Of a wake by reference a script shows the same.
 #[test]
-fn what_is_not_there_is_refused(rt: HostRuntime) {
-    let mut machine = machine_for(&rt, 1);
-    let none = [
-        begin(9, Call::IsEmpty),
-        begin(0, Call::Wake(0)),
-        begin(0, Call::WakeByRef(0)),
-        begin(0, Call::Copy(0)),
-        begin(0, Call::DropWaker(0)),
-        begin(0, Call::Keep),
-        begin(0, Call::WakeSelf),
-        begin(0, Call::PollHandle(0, By::Outside(1))),
-        begin(0, Call::Cancel(0)),
-        begin(0, Call::Detach(0)),
-        begin(0, Call::DropHandle(0)),
-        begin(0, Call::PollTick(0, By::Outside(1))),
-        begin(0, Call::DropTick(0)),
-        begin(0, Call::PollRun(0, By::Outside(1))),
-        begin(0, Call::DropRun(0)),
-    ];
-    for step in none {
-        stepped(&rt, &mut machine, step, Err(StepError::NoSuch));
+fn a_wake_by_value_that_the_closing_drop_catches_ends(rt: HostRuntime) {
+    for steps in 0..4 {
+        let rows = [
+            Makes(0, Spawn, &[], Reply::Made),
+            Begins(0, TryTick),
+            Goes(0, 4),
+            Begins(0, Keep),
+            Goes(0, 1),
+            Ends(0, &[PENDING], Reply::Yes),
+            Begins(1, Wake(0)),
+            Goes(1, steps),
+            Makes(0, DropExecutor, &[DONE], Reply::Done),
+            Ends(1, &[], Reply::Done),
+            Makes(2, POLL, &[], Reply::Cancelled),
+        ];
+        plays(&rt, &rows);
     }
-    assert!(&rt; machine.trace().is_empty());
-    answered(&rt, &mut machine, 0, Call::IsEmpty, &[], Reply::Yes);
-}
-
-#[test]
-fn a_handle_that_a_call_uses_is_not_there_for_another(rt: HostRuntime) {
-    let mut machine = machine_for(&rt, 1);
-    answered(&rt, &mut machine, 0, Call::Spawn, &[], Reply::Made);
-    stepped(
-        &rt,
-        &mut machine,
-        begin(0, Call::PollHandle(0, By::Outside(1))),
-        Ok(()),
-    );
-    stepped(
-        &rt,
-        &mut machine,
-        begin(1, Call::Cancel(0)),
-        Err(StepError::NoSuch),
-    );
-    finished(&rt, &mut machine, 0, &[], Reply::Pending);
-    answered(
-        &rt,
-        &mut machine,
-        1,
-        Call::Cancel(0),
-        &[UserEnd::Done],
-        Reply::Done,
-    );
-}
-
-#[test]
-fn a_waker_that_a_call_uses_is_not_used_up_by_another(rt: HostRuntime) {
-    let mut machine = machine_for(&rt, 1);
-    answered(&rt, &mut machine, 0, Call::Spawn, &[], Reply::Made);
-    polling(&rt, &mut machine, 0);
-    answered_inside(&rt, &mut machine, 0, Call::Keep, 1, Reply::Made);
-    stepped(&rt, &mut machine, begin(1, Call::WakeByRef(0)), Ok(()));
-    stepped(
-        &rt,
-        &mut machine,
-        begin(2, Call::DropWaker(0)),
-        Err(StepError::NoSuch),
-    );
-    answered_inside(&rt, &mut machine, 2, Call::Copy(0), 1, Reply::Made);
-    finished(&rt, &mut machine, 1, &[], Reply::Done);
-    answered(&rt, &mut machine, 2, Call::DropWaker(0), &[], Reply::Done);
-}
-
-#[test]
-fn a_dropped_executor_is_gone(rt: HostRuntime) {
-    let mut machine = machine_for(&rt, 1);
-    answered(&rt, &mut machine, 0, Call::Spawn, &[], Reply::Made);
-    answered(
-        &rt,
-        &mut machine,
-        0,
-        Call::DropExecutor,
-        &[UserEnd::Done],
-        Reply::Done,
-    );
-    let seen = machine.trace().len();
-    for call in [
-        Call::Spawn,
-        Call::TryTick,
-        Call::IsEmpty,
-        Call::NewTick,
-        Call::NewRun,
-        Call::DropExecutor,
-    ] {
-        stepped(&rt, &mut machine, begin(1, call), Err(StepError::Gone));
-    }
-    assert!(&rt; machine.trace().len() == seen);
-    let poll = Call::PollHandle(0, By::Outside(1));
-    answered(&rt, &mut machine, 1, poll, &[], Reply::Cancelled);
-}
-
-#[test]
-fn an_executor_in_use_is_borrowed(rt: HostRuntime) {
-    for call in [
-        Call::Spawn,
-        Call::TryTick,
-        Call::IsEmpty,
-        Call::NewTick,
-        Call::NewRun,
-    ] {
-        let mut machine = machine_for(&rt, 1);
-        stepped(&rt, &mut machine, begin(1, call), Ok(()));
-        stepped(
-            &rt,
-            &mut machine,
-            begin(0, Call::DropExecutor),
-            Err(StepError::Borrowed),
-        );
-        assert!(&rt; machine.trace().len() == 1);
-        assert!(&rt; finish(&mut machine, 1, &[]).is_some());
-    }
-}
-
-#[test]
-fn a_party_without_a_call_is_idle(rt: HostRuntime) {
-    let mut machine = machine_for(&rt, 1);
-    stepped(&rt, &mut machine, go(0), Err(StepError::Idle));
-    stepped(
-        &rt,
-        &mut machine,
-        answer(0, UserEnd::Done),
-        Err(StepError::Idle),
-    );
-    assert!(&rt; machine.trace().is_empty());
-    let refused = machine.run(&[begin(0, Call::IsEmpty), go(0), go(0)]);
-    assert!(&rt; refused == Some((2, StepError::Idle)));
-    assert!(&rt; machine.trace().len() == 2);
-}
-
-#[test]
-fn user_code_answers_first_and_as_it_can(rt: HostRuntime) {
-    let mut machine = machine_for(&rt, 1);
-    answered(&rt, &mut machine, 0, Call::Spawn, &[], Reply::Made);
-    stepped(&rt, &mut machine, begin(0, Call::TryTick), Ok(()));
-    stepped(
-        &rt,
-        &mut machine,
-        answer(0, READY),
-        Err(StepError::WrongAnswer),
-    );
-    assert!(&rt; machine.run(&[go(0), go(0), go(0), go(0)]).is_none());
-    let seen = machine.trace().len();
-    stepped(&rt, &mut machine, go(0), Err(StepError::WrongAnswer));
-    stepped(
-        &rt,
-        &mut machine,
-        answer(0, UserEnd::Done),
-        Err(StepError::WrongAnswer),
-    );
-    assert!(&rt; machine.trace().len() == seen);
-    finished(&rt, &mut machine, 0, &[PENDING], Reply::Yes);
-}
-
-#[test]
-fn a_refused_request_for_memory_is_answered(rt: HostRuntime) {
-    let refused = Step::Go {
-        party: 0,
-        hint: Hint {
-            refused: true,
-            same: false,
-            start: 0,
-        },
-    };
-    let mut machine = machine_for(&rt, 1);
-    assert!(&rt; machine.run(&[begin(0, Call::Spawn), refused]).is_none());
-    finished(&rt, &mut machine, 0, &[], Reply::NoMemory);
-    answered(&rt, &mut machine, 0, Call::Spawn, &[], Reply::Made);
-    answered(&rt, &mut machine, 0, Call::Spawn, &[], Reply::Full);
-    let poll = Call::PollHandle(0, By::Outside(1));
-    assert!(&rt; machine.run(&[begin(0, poll), go(0), refused]).is_none());
-    finished(&rt, &mut machine, 0, &[], Reply::NoMemory);
-    polling(&rt, &mut machine, 0);
-    assert!(&rt; machine.run(&[begin(0, Call::Keep), refused]).is_none());
-    stepped(
-        &rt,
-        &mut machine,
-        begin(0, Call::Copy(0)),
-        Err(StepError::NoSuch),
-    );
-    finished(&rt, &mut machine, 0, &[PENDING], Reply::Yes);
 }

@@ -1,142 +1,128 @@
-use crate::words::{
-    PENDING, READY, answered, answered_inside, begin, finish, finished, go, machine_for,
-    polled_and_dropped, polling, stepped,
-};
-use executor_model::{By, Call, Event, Reply, UserEnd};
+//! Lists of steps as rows, each with what comes of it, which one loop goes through.
+use executor_core::{Kind, Machine};
+use executor_model::{Answer, Call, Event, Hint, Reply, Step, StepError, UserEnd};
+use std::process::Abort;
 
-const OUTSIDE: By = By::Outside(1);
+pub const PENDING: UserEnd = UserEnd::Polled(Answer::Pending);
 
-#[test]
-fn each_call_has_its_answer(rt: HostRuntime) {
-    let mut machine = machine_for(&rt, 2);
-    answered(&rt, &mut machine, 0, Call::IsEmpty, &[], Reply::Yes);
-    answered(&rt, &mut machine, 0, Call::TryTick, &[], Reply::No);
-    answered(&rt, &mut machine, 0, Call::Spawn, &[], Reply::Made);
-    answered(&rt, &mut machine, 0, Call::IsEmpty, &[], Reply::No);
-    polling(&rt, &mut machine, 0);
-    answered_inside(&rt, &mut machine, 0, Call::Keep, 1, Reply::Made);
-    answered_inside(&rt, &mut machine, 0, Call::WakeSelf, 1, Reply::Done);
-    finished(&rt, &mut machine, 0, &[PENDING], Reply::Yes);
-    answered(&rt, &mut machine, 0, Call::Copy(0), &[], Reply::Made);
-    answered(&rt, &mut machine, 0, Call::WakeByRef(1), &[], Reply::Done);
-    answered(&rt, &mut machine, 0, Call::Wake(1), &[], Reply::Done);
-    answered(&rt, &mut machine, 0, Call::DropWaker(0), &[], Reply::Done);
-    let poll = Call::PollHandle(0, OUTSIDE);
-    answered(&rt, &mut machine, 0, poll, &[], Reply::Pending);
-    let ends = [READY, UserEnd::Done, UserEnd::Done];
-    answered(&rt, &mut machine, 0, Call::TryTick, &ends, Reply::Yes);
-    answered(&rt, &mut machine, 0, poll, &[], Reply::Ready);
-    answered(&rt, &mut machine, 0, Call::Detach(0), &[], Reply::Done);
-    polled_and_dropped(&rt, &machine, 0, (2, 1));
+pub const READY: UserEnd = UserEnd::Polled(Answer::Ready);
+
+pub const DONE: UserEnd = UserEnd::Done;
+
+/// What a party does, and what comes of it.
+#[derive(Clone, Copy)]
+pub enum Row {
+    /// A list begins, on a new machine.
+    New,
+    /// It begins a call.
+    Begins(u32, Call),
+    /// It takes so many steps.
+    Goes(u32, u32),
+    /// It takes a step in which a request for memory is refused.
+    GoesRefused(u32),
+    /// It goes on until its calls have ended. User code ends in these ways, in turn, and the last call has this answer.
+    Ends(u32, &'static [UserEnd], Reply),
+    /// It makes a whole call, by both of these.
+    Makes(u32, Call, &'static [UserEnd], Reply),
+    /// The call that it ended right before had this answer.
+    Answered(Reply),
+    /// It may begin none of these calls, and nothing changes.
+    Refused(u32, &'static [Call], StepError),
+    /// It can't go on.
+    Stands(u32, StepError),
+    /// Its user code can't end in this way.
+    Unanswered(u32, UserEnd, StepError),
+    /// Whether it waits for the lock of the list of queues.
+    Waits(u32, bool),
 }
 
-#[test]
-fn a_cancelled_future_is_dropped_unpolled(rt: HostRuntime) {
-    let mut machine = machine_for(&rt, 2);
-    let done = [UserEnd::Done, UserEnd::Done];
-    answered(&rt, &mut machine, 0, Call::Spawn, &[], Reply::Made);
-    answered(&rt, &mut machine, 0, Call::Spawn, &[], Reply::Made);
-    answered(&rt, &mut machine, 0, Call::Cancel(0), &[], Reply::Done);
-    answered(&rt, &mut machine, 0, Call::DropHandle(1), &[], Reply::Done);
-    answered(&rt, &mut machine, 0, Call::TryTick, &done, Reply::Yes);
-    answered(&rt, &mut machine, 0, Call::TryTick, &done, Reply::Yes);
-    answered(&rt, &mut machine, 0, Call::TryTick, &done, Reply::No);
-    answered(&rt, &mut machine, 0, Call::IsEmpty, &[], Reply::Yes);
-    let poll = Call::PollHandle(0, OUTSIDE);
-    answered(&rt, &mut machine, 0, poll, &[], Reply::Cancelled);
-    polled_and_dropped(&rt, &machine, 0, (0, 1));
-    polled_and_dropped(&rt, &machine, 1, (0, 1));
+fn go(party: u32, refused: bool) -> Step {
+    let (same, start) = (false, 0);
+    let hint = Hint {
+        refused,
+        same,
+        start,
+    };
+    Step::Go { party, hint }
 }
 
-#[test]
-fn a_full_executor_takes_one_in_again_once_one_is_dropped(rt: HostRuntime) {
-    let mut machine = machine_for(&rt, 1);
-    answered(&rt, &mut machine, 0, Call::Spawn, &[], Reply::Made);
-    answered(&rt, &mut machine, 0, Call::Spawn, &[], Reply::Full);
-    let ends = [READY, UserEnd::Done];
-    answered(&rt, &mut machine, 0, Call::TryTick, &ends, Reply::Yes);
-    answered(&rt, &mut machine, 0, Call::Spawn, &[], Reply::Made);
-}
-
-#[test]
-fn three_wakes_make_one_poll(rt: HostRuntime) {
-    let mut machine = machine_for(&rt, 1);
-    answered(&rt, &mut machine, 0, Call::Spawn, &[], Reply::Made);
-    polling(&rt, &mut machine, 0);
-    answered_inside(&rt, &mut machine, 0, Call::Keep, 1, Reply::Made);
-    finished(&rt, &mut machine, 0, &[PENDING], Reply::Yes);
-    for _ in 0..3 {
-        answered(&rt, &mut machine, 0, Call::WakeByRef(0), &[], Reply::Done);
+fn last_reply(machine: &Machine) -> Option<Reply> {
+    match machine.trace().last() {
+        Some(Event::CallEnded { reply, .. }) => Some(*reply),
+        _ => None,
     }
-    answered(&rt, &mut machine, 0, Call::TryTick, &[PENDING], Reply::Yes);
-    answered(&rt, &mut machine, 0, Call::TryTick, &[PENDING], Reply::No);
-    polled_and_dropped(&rt, &machine, 0, (2, 0));
 }
 
-#[test]
-fn a_future_that_awaits_another_is_polled_after_it(rt: HostRuntime) {
-    let mut machine = machine_for(&rt, 2);
-    let await_first = Call::PollHandle(0, By::Mine);
-    answered(&rt, &mut machine, 0, Call::Spawn, &[], Reply::Made);
-    answered(&rt, &mut machine, 0, Call::Spawn, &[], Reply::Made);
-    polling(&rt, &mut machine, 0);
-    answered_inside(&rt, &mut machine, 0, Call::WakeSelf, 1, Reply::Done);
-    finished(&rt, &mut machine, 0, &[PENDING], Reply::Yes);
-    polling(&rt, &mut machine, 0);
-    answered_inside(&rt, &mut machine, 0, await_first, 5, Reply::Pending);
-    finished(&rt, &mut machine, 0, &[PENDING], Reply::Yes);
-    let ends = [READY, UserEnd::Done];
-    answered(&rt, &mut machine, 0, Call::TryTick, &ends, Reply::Yes);
-    polling(&rt, &mut machine, 0);
-    answered_inside(&rt, &mut machine, 0, await_first, 1, Reply::Ready);
-    finished(&rt, &mut machine, 0, &ends, Reply::Yes);
-    answered(&rt, &mut machine, 0, Call::TryTick, &[], Reply::No);
-    let poll = Call::PollHandle(1, OUTSIDE);
-    answered(&rt, &mut machine, 0, poll, &[], Reply::Ready);
-    polled_and_dropped(&rt, &machine, 0, (2, 1));
-    polled_and_dropped(&rt, &machine, 1, (2, 1));
-}
-
-#[test]
-fn the_closing_drop_drops_in_the_order_of_acceptance(rt: HostRuntime) {
-    let mut machine = machine_for(&rt, 3);
-    let ends = [READY, UserEnd::Done, UserEnd::Done, UserEnd::Done];
-    for _ in 0..3 {
-        answered(&rt, &mut machine, 0, Call::Spawn, &[], Reply::Made);
-    }
-    answered(&rt, &mut machine, 0, Call::TryTick, &ends, Reply::Yes);
-    answered(&rt, &mut machine, 0, Call::Spawn, &[], Reply::Made);
-    let done = [UserEnd::Done; 4];
-    answered(&rt, &mut machine, 0, Call::DropExecutor, &done, Reply::Done);
-    let mut next = 0u64;
-    for event in machine.trace() {
-        if let Event::Dropped { future, .. } = event {
-            assert!(&rt; *future == next);
-            next = next.saturating_add(1);
-        }
-    }
-    assert!(&rt; next == 4);
-}
-
-#[test]
-fn a_wake_that_the_closing_drop_catches_ends(rt: HostRuntime) {
-    for call in [Call::Wake(0), Call::WakeByRef(0)] {
-        for steps in 0..5 {
-            let mut machine = machine_for(&rt, 1);
-            answered(&rt, &mut machine, 0, Call::Spawn, &[], Reply::Made);
-            polling(&rt, &mut machine, 0);
-            answered_inside(&rt, &mut machine, 0, Call::Keep, 1, Reply::Made);
-            finished(&rt, &mut machine, 0, &[PENDING], Reply::Yes);
-            stepped(&rt, &mut machine, begin(1, call), Ok(()));
-            for _ in 0..steps {
-                let _ended = machine.step(go(1));
+// What the last call was answered, or nothing where a step was refused otherwise, or an end of user code is left.
+fn finish(machine: &mut Machine, party: u32, ends: &[UserEnd]) -> Option<Reply> {
+    let mut later = ends.iter();
+    for _ in 0..128 {
+        match machine.step(go(party, false)) {
+            Ok(()) => {}
+            Err(StepError::Idle) if later.len() == 0 => return last_reply(machine),
+            Err(StepError::WrongAnswer) => {
+                let end = *later.next()?;
+                machine.step(Step::Answer { party, end }).ok()?;
             }
-            let done = [UserEnd::Done];
-            answered(&rt, &mut machine, 0, Call::DropExecutor, &done, Reply::Done);
-            assert!(&rt; finish(&mut machine, 1, &[]).is_some());
-            let poll = Call::PollHandle(0, OUTSIDE);
-            answered(&rt, &mut machine, 2, poll, &[], Reply::Cancelled);
-            polled_and_dropped(&rt, &machine, 0, (1, 1));
+            Err(_) => return None,
         }
+    }
+    None
+}
+
+fn has_begun(machine: &mut Machine, party: u32, call: Call) -> bool {
+    machine.run(&[Step::Begin { party, call }]).is_none()
+}
+
+fn has_gone(machine: &mut Machine, party: u32, steps: u32) -> bool {
+    (0..steps).all(|_| machine.step(go(party, false)).is_ok())
+}
+
+// Whether the step is refused so, and changes nothing.
+fn is_refused(machine: &mut Machine, step: Step, error: StepError) -> bool {
+    let seen = machine.trace().len();
+    machine.step(step) == Err(error) && machine.trace().len() == seen
+}
+
+fn are_refused(machine: &mut Machine, party: u32, calls: &[Call], error: StepError) -> bool {
+    calls.iter().all(|call| is_refused(machine, Step::Begin { party, call: *call }, error))
+}
+
+fn is_met(machine: &mut Machine, row: Row) -> bool {
+    match row {
+        Row::New => true,
+        Row::Begins(party, call) => has_begun(machine, party, call),
+        Row::Goes(party, steps) => has_gone(machine, party, steps),
+        Row::GoesRefused(party) => machine.step(go(party, true)).is_ok(),
+        Row::Ends(party, ends, reply) => finish(machine, party, ends) == Some(reply),
+        Row::Makes(party, call, ends, reply) => {
+            has_begun(machine, party, call) && finish(machine, party, ends) == Some(reply)
+        }
+        Row::Answered(reply) => last_reply(machine) == Some(reply),
+        Row::Refused(party, calls, error) => are_refused(machine, party, calls, error),
+        Row::Stands(party, error) => is_refused(machine, go(party, false), error),
+        Row::Unanswered(party, end, error) => {
+            is_refused(machine, Step::Answer { party, end }, error)
+        }
+        Row::Waits(party, waits) => machine.waits(party) == waits,
+    }
+}
+
+// A machine of three parties with places for two futures.
+fn new_machine<R: AllocGlobal + Abort>(rt: &R) -> Machine {
+    Machine::new(rt.alloc(), 2, Kind::Owned, 3).expect(rt, "room for three parties")
+}
+
+/// Each list of these rows is played on a machine of its own.
+pub fn plays<R: AllocGlobal + Abort>(rt: &R, rows: &[Row]) {
+    let mut machine = new_machine(rt);
+    let (mut list, mut number) = (0u64, 0u64);
+    for row in rows {
+        number = number.saturating_add(1);
+        if matches!(row, Row::New) {
+            machine = new_machine(rt);
+            (list, number) = (list.saturating_add(1), 0);
+        }
+        assert!(rt; is_met(&mut machine, *row), "list {list}: row {number}");
     }
 }

@@ -2,7 +2,7 @@
 ghost use Rattle.std.specs.Prelude.{◌≡◌, []};
 
 use crate::words::same;
-use concurrent_queue::{ConcurrentQueue, Exclusive, PushError, Remains};
+use concurrent_queue::{ConcurrentQueue, Exclusive, Remains};
 use std::process::Abort;
 use std::sync::Wait;
 
@@ -11,30 +11,21 @@ struct Held {
     number: u64,
 }
 
-// Takes a refused item apart.
-fn refuse(refused: PushError<Held>) {
-    let Held { number: _ } = refused.into_inner();
-}
-
 // A queue of one owner comes back while it holds an item, and ends when it has given it out.
 fn ends<R: Abort>(rt: &R, mut queue: Exclusive<Held>)
     requires { queue.items ≡ [] }
 {
-    match queue.push(Held { number: 5 }) {
-        Ok(()) => {}
-        Err(refused) => {
-            refuse(refused);
-            return end_empty(queue);
-        }
+    if let Err(refused) = queue.push(Held { number: 5 }) {
+        let Held { number: _ } = refused.into_inner();
+        return end_empty(queue);
     }
-    let mut queue = match queue.destroy_empty() {
-        Ok(()) => unreachable!(),
-        Err(back) => back,
+    let Err(mut queue) = queue.destroy_empty() else {
+        unreachable!();
     };
-    match queue.pop() {
-        Ok(Held { number }) => same(rt, number, 5),
-        Err(_) => unreachable!(),
-    }
+    let Ok(Held { number }) = queue.pop() else {
+        unreachable!();
+    };
+    same(rt, number, 5);
     end_empty(queue);
 }
 
@@ -42,9 +33,8 @@ fn ends<R: Abort>(rt: &R, mut queue: Exclusive<Held>)
 fn end_empty(queue: Exclusive<Held>)
     requires { queue.items ≡ [] }
 {
-    match queue.destroy_empty() {
-        Ok(()) => {}
-        Err(_) => unreachable!(),
+    if let Err(_) = queue.destroy_empty() {
+        unreachable!();
     }
 }
 
@@ -61,82 +51,50 @@ fn an_empty_queue_of_one_owner_ends(rt: HostRuntime) {
 
 fn push<R: Wait + Abort>(rt: &R, queue: &ConcurrentQueue<Held>, number: u64) {
     if let Err(refused) = queue.push(rt, Held { number }) {
-        refuse(refused);
+        let Held { number: _ } = refused.into_inner();
         same(rt, "pushed", "refused");
     }
 }
 
-fn pop<R: Wait + Abort>(rt: &R, queue: &ConcurrentQueue<Held>, expected: u64) {
-    if let Ok(Held { number }) = queue.pop(rt) {
-        same(rt, number, expected);
-    } else {
-        same(rt, "popped", "empty");
-    }
-}
-
-// Whether what is left begins with this number.
-fn gives(left: &mut Remains<Held>, expected: u64) -> bool {
-    match left.next() {
-        Some(Held { number }) => number == expected,
-        None => false,
-    }
-}
-
-// Takes out what is left, ends it, and answers how much it was.
-fn end(mut left: Remains<Held>) -> u64 {
+// Takes out what is left, which are the numbers from this one on, ends it, and answers how much it was.
+fn end<R: Abort>(rt: &R, mut left: Remains<Held>, first: u64) -> u64 {
     let mut count = 0u64;
-    while let Some(Held { number: _ }) = left.next() {
+    while let Some(Held { number }) = left.next() {
+        same(rt, number, first.wrapping_add(count));
         count = count.wrapping_add(1);
     }
     left.destroy_empty();
     count
 }
 
-// A queue that has given its first item is taken apart while it holds three more, or as many as it may.
+// A queue that has given its first item is taken apart while it holds as many as it may, and at least one.
 fn taken_apart<R: Wait + Abort>(rt: &R, queue: ConcurrentQueue<Held>, held: u64) {
     for number in 0..held {
         push(rt, &queue, number);
     }
-    pop(rt, &queue, 0);
-    push(rt, &queue, held);
-    let mut left = queue.take_apart();
-    for number in 1..held {
-        same(rt, gives(&mut left, number), true);
+    if let Ok(Held { number }) = queue.pop(rt) {
+        same(rt, number, 0);
+        push(rt, &queue, held);
     }
-    same(rt, end(left), 1);
+    same(rt, end(rt, queue.take_apart(), 1), held);
 }
 
 #[test]
 fn a_shared_queue_taken_apart_gives_its_items_in_order(rt: HostRuntime) {
-    for capacity in [1, 2, 3, 8] {
+    for (capacity, held) in [(1, 1), (2, 2), (3, 3), (8, 8), (4, 0)] {
         match ConcurrentQueue::bounded(rt.alloc(), capacity) {
-            Ok(queue) => taken_apart(&rt, queue, capacity as u64),
+            Ok(queue) => taken_apart(&rt, queue, held),
             Err(_) => same(&rt, "memory", "no memory"),
         }
     }
-    taken_apart(&rt, ConcurrentQueue::unbounded(rt.alloc()), 40);
-}
-
-#[test]
-fn an_empty_shared_queue_leaves_nothing(rt: HostRuntime) {
-    match ConcurrentQueue::bounded(rt.alloc(), 4) {
-        Ok(queue) => same(&rt, end(queue.take_apart()), 0),
-        Err(_) => same(&rt, "memory", "no memory"),
+    for held in [40, 0] {
+        taken_apart(&rt, ConcurrentQueue::unbounded(rt.alloc()), held);
     }
-    same(
-        &rt,
-        end(ConcurrentQueue::unbounded(rt.alloc()).take_apart()),
-        0,
-    );
 }
 
 #[test]
 fn what_is_left_is_dropped(rt: HostRuntime) {
-    match ConcurrentQueue::bounded(rt.alloc(), 4) {
-        Ok(queue) => {
-            same(&rt, queue.push(&rt, 1), Ok(()));
-            drop(queue.take_apart());
-        }
-        Err(_) => same(&rt, "memory", "no memory"),
-    }
+    let queue = ConcurrentQueue::bounded(rt.alloc(), 4).expect(&rt, "memory");
+    same(&rt, queue.push(&rt, 1), Ok(()));
+    drop(queue.take_apart());
 }

@@ -3,21 +3,13 @@
 #![tactic(auto)]
 
 #[cfg(test)]
-mod calls;
-#[cfg(test)]
 mod ended;
-#[cfg(test)]
-mod exclusive;
-#[cfg(test)]
-mod forced;
 #[cfg(test)]
 mod parties;
 #[cfg(test)]
-mod rounds;
-#[cfg(test)]
 mod seated;
 #[cfg(test)]
-mod shared;
+mod texts;
 #[cfg(test)]
 mod threads;
 #[cfg(test)]

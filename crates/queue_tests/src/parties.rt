@@ -1,8 +1,7 @@
-//! Parties that play their roles on one queue, each in a thread of its own. One that goes round more than `MOST_TURNS`
-//! times fails its test.
-use crate::calls::{Call, shared_answers};
-use crate::words::{holds, same, same_numbers};
-use concurrent_queue::{ConcurrentQueue, PopError, PushError};
+//! Parties that play their roles on one queue, each in a thread of its own, and how what they did adds up. One that goes
+//! round more than `MOST_TURNS` times fails its test.
+use crate::words::{holds, same};
+use concurrent_queue::{ConcurrentQueue, ForcePushError, PopError, PushError};
 use std::alloc::AllocGlobal;
 use std::process::Abort;
 use std::sync::Wait;
@@ -11,24 +10,35 @@ use std::thread::{self, Threads};
 
 const MOST_TURNS: u64 = 10_000_000;
 
-// How many numbers a share has.
-const SHARE: u64 = 1000;
+// How often a party goes round that takes out what it puts in.
+const ROUNDS: u64 = 25_000;
+
+// How often a party calls a queue that it saw closed.
+const LATE: u64 = 100;
 
 // The numbers of a party begin so far after those of the party before it.
 const APART: u64 = 1 << 40;
 
-// How many pushes are seen before the queue is closed.
-const LOAD: u64 = 500;
-
 /// What a party does.
+#[derive(Clone, Copy)]
 pub enum Role {
-    PushShare,
-    PopShare,
-    PushUntilClosed,
-    PopUntilClosed,
+    /// Pushes until so many are accepted or the queue is closed.
+    Push { most: u64 },
+    /// Pops until it has so many or the queue is closed.
+    Pop { most: u64 },
+    /// Each round pushes a number and takes one out: what it displaced by force, or else what it pops, which is there.
+    PushAndTake { by_force: bool },
     /// Pushes by force until the queue is closed, and closes it itself after so many.
-    ForceUntilClosed { closes_after: u64 },
-    CloseUnderLoad,
+    Force { closes_after: u64 },
+    /// Closes the queue once so many were pushed until it is closed.
+    Close { load: u64 },
+}
+
+// A queue, and how many were pushed until it is closed.
+#[derive(Drop)]
+struct Game {
+    queue: ConcurrentQueue<u64>,
+    pushed: AtomicU64,
 }
 
 // What a party did: how many of its numbers, from its first one on, were accepted, what it took out, and how many of its
@@ -47,8 +57,9 @@ impl Part {
         self.first.wrapping_add(self.accepted)
     }
 
-    fn accept(&mut self) {
+    fn accept(&mut self, game: &Game) {
         self.accepted = self.accepted.wrapping_add(1);
+        game.pushed.fetch_add(1, Ordering::SeqCst);
     }
 
     fn take<R: Abort>(&mut self, rt: &R, number: u64) {
@@ -56,131 +67,108 @@ impl Part {
     }
 }
 
-// After so many turns the test fails.
-fn gives_up<R: Abort>(rt: &R, what: &str) -> ! {
-    panic!(rt; "{what} in {MOST_TURNS} turns")
+// Who saw the queue closed, by any answer, sees it so ever after.
+fn refuses<R: Wait + Abort>(rt: &R, queue: &ConcurrentQueue<u64>) {
+    for late in 0..LATE {
+        same(rt, queue.push(rt, late), Err(PushError::Closed(late)));
+        let forced = queue.force_push(rt, late);
+        same(rt, forced, Err(ForcePushError::Closed(late)));
+        holds(rt, queue.is_closed(rt) && !queue.close(rt));
+    }
 }
 
-fn push_number<R: Wait + Abort>(rt: &R, queue: &ConcurrentQueue<u64>, number: u64) {
+fn gives_no_more<R: Wait + Abort>(rt: &R, queue: &ConcurrentQueue<u64>) {
+    for _ in 0..LATE {
+        same(rt, queue.pop(rt), Err(PopError::Closed));
+        holds(rt, queue.is_empty(rt));
+    }
+}
+
+fn push<R: Wait + Abort>(rt: &R, game: &Game, part: &mut Part, most: u64) {
     for _ in 0..MOST_TURNS {
-        match queue.push(rt, number) {
-            Ok(()) => return,
-            Err(refused) => holds(rt, refused.is_full()),
+        if part.accepted == most {
+            return;
         }
-        thread::yield_now();
-    }
-    gives_up(rt, "no room")
-}
-
-fn pop_number<R: Wait + Abort>(rt: &R, queue: &ConcurrentQueue<u64>) -> u64 {
-    for _ in 0..MOST_TURNS {
-        match queue.pop(rt) {
-            Ok(number) => return number,
-            Err(none) => holds(rt, none.is_empty()),
-        }
-        thread::yield_now();
-    }
-    gives_up(rt, "no item")
-}
-
-fn push_share<R: Wait + Abort>(rt: &R, queue: &ConcurrentQueue<u64>, part: &mut Part) {
-    for _ in 0..SHARE {
-        push_number(rt, queue, part.next());
-        part.accept();
-    }
-}
-
-fn pop_share<R: Wait + Abort>(rt: &R, queue: &ConcurrentQueue<u64>, part: &mut Part) {
-    for _ in 0..SHARE {
-        part.take(rt, pop_number(rt, queue));
-    }
-}
-
-fn push_until_closed<R: Wait + Abort>(
-    rt: &R,
-    queue: &ConcurrentQueue<u64>,
-    pushed: &AtomicU64,
-    part: &mut Part,
-) {
-    for _ in 0..MOST_TURNS {
-        match queue.push(rt, part.next()) {
-            Ok(()) => {
-                part.accept();
-                pushed.fetch_add(1, Ordering::SeqCst);
-            }
-            Err(PushError::Full(_)) => thread::yield_now(),
+        match game.queue.push(rt, part.next()) {
+            Ok(()) => part.accept(game),
             Err(refused) => {
-                holds(rt, refused.is_closed());
-                return;
+                if refused.is_closed() {
+                    same(rt, refused.into_inner(), part.next());
+                    return refuses(rt, &game.queue);
+                }
+                holds(rt, refused.is_full());
+                thread::yield_now();
             }
         }
     }
-    gives_up(rt, "not closed")
+    panic!(rt; "no room, and not closed");
 }
 
-fn force_until_closed<R: Wait + Abort>(
-    rt: &R,
-    queue: &ConcurrentQueue<u64>,
-    pushed: &AtomicU64,
-    part: &mut Part,
-    closes_after: u64,
-) {
+fn pop<R: Wait + Abort>(rt: &R, game: &Game, part: &mut Part, most: u64) {
+    for _ in 0..MOST_TURNS {
+        if part.taken.len() as u64 == most {
+            return;
+        }
+        match game.queue.pop(rt) {
+            Ok(number) => part.take(rt, number),
+            Err(none) if none.is_empty() => thread::yield_now(),
+            Err(_) => return gives_no_more(rt, &game.queue),
+        }
+    }
+    panic!(rt; "no item, and not closed");
+}
+
+fn push_and_take<R: Wait + Abort>(rt: &R, game: &Game, part: &mut Part, by_force: bool) {
+    for _ in 0..ROUNDS {
+        let displaced = if by_force {
+            game.queue.force_push(rt, part.next()).expect(rt, "open")
+        } else {
+            same(rt, game.queue.push(rt, part.next()), Ok(()));
+            None
+        };
+        part.accept(game);
+        let taken = match displaced {
+            Some(oldest) => oldest,
+            None => game.queue.pop(rt).expect(rt, "an item is there"),
+        };
+        part.take(rt, taken);
+    }
+}
+
+fn force<R: Wait + Abort>(rt: &R, game: &Game, part: &mut Part, closes_after: u64) {
     for _ in 0..MOST_TURNS {
         if part.accepted == closes_after {
-            part.closed = u64::from(queue.close(rt));
+            part.closed = u64::from(game.queue.close(rt));
         }
-        match queue.force_push(rt, part.next()) {
+        match game.queue.force_push(rt, part.next()) {
             Ok(displaced) => {
                 if let Some(number) = displaced {
                     part.take(rt, number);
                 }
-                part.accept();
-                pushed.fetch_add(1, Ordering::SeqCst);
+                part.accept(game);
             }
             Err(refused) => {
                 same(rt, refused.into_inner(), part.next());
-                return;
+                return refuses(rt, &game.queue);
             }
         }
     }
-    gives_up(rt, "not closed")
+    panic!(rt; "not closed");
 }
 
-fn pop_until_closed<R: Wait + Abort>(rt: &R, queue: &ConcurrentQueue<u64>, part: &mut Part) {
+fn close<R: Wait + Abort>(rt: &R, game: &Game, part: &mut Part, load: u64) {
     for _ in 0..MOST_TURNS {
-        match queue.pop(rt) {
-            Ok(number) => part.take(rt, number),
-            Err(PopError::Empty) => thread::yield_now(),
-            Err(PopError::Closed) => return,
-        }
-    }
-    gives_up(rt, "not closed")
-}
-
-fn close_under_load<R: Wait + Abort>(
-    rt: &R,
-    queue: &ConcurrentQueue<u64>,
-    pushed: &AtomicU64,
-    part: &mut Part,
-) {
-    for _ in 0..MOST_TURNS {
-        if pushed.load(Ordering::SeqCst) >= LOAD {
-            part.closed = u64::from(queue.close(rt));
+        if game.pushed.load(Ordering::SeqCst) >= load {
+            part.closed = u64::from(game.queue.close(rt));
             return;
         }
         thread::yield_now();
     }
-    gives_up(rt, "nothing pushed")
+    panic!(rt; "nothing pushed");
 }
 
 // What a party does in its thread.
-fn play<R: Wait + Abort + AllocGlobal>(
-    rt: &R,
-    queue: &ConcurrentQueue<u64>,
-    pushed: &AtomicU64,
-    party: usize,
-    role: &Role,
-) -> Part {
+fn play<R: Wait + Abort + AllocGlobal>(rt: &R, game: &Game, party: usize, role: Role) -> Part {
     let mut part = Part {
         first: APART.wrapping_mul(party as u64),
         accepted: 0,
@@ -188,86 +176,81 @@ fn play<R: Wait + Abort + AllocGlobal>(
         closed: 0,
     };
     match role {
-        Role::PushShare => push_share(rt, queue, &mut part),
-        Role::PopShare => pop_share(rt, queue, &mut part),
-        Role::PushUntilClosed => push_until_closed(rt, queue, pushed, &mut part),
-        Role::PopUntilClosed => pop_until_closed(rt, queue, &mut part),
-        Role::ForceUntilClosed { closes_after } => {
-            force_until_closed(rt, queue, pushed, &mut part, *closes_after)
-        }
-        Role::CloseUnderLoad => close_under_load(rt, queue, pushed, &mut part),
+        Role::Push { most } => push(rt, game, &mut part, most),
+        Role::Pop { most } => pop(rt, game, &mut part, most),
+        Role::PushAndTake { by_force } => push_and_take(rt, game, &mut part, by_force),
+        Role::Force { closes_after } => force(rt, game, &mut part, closes_after),
+        Role::Close { load } => close(rt, game, &mut part, load),
     }
     part
 }
 
-// All numbers that were accepted, sorted.
-fn all_accepted<R: Abort + AllocGlobal>(rt: &R, parts: &[Part]) -> Vec<u64> {
-    let mut all = Vec::new(rt.alloc());
+// All numbers that were taken out are all that were accepted.
+fn nothing_is_lost<R: Abort + AllocGlobal>(rt: &R, parts: &[Part]) {
+    let mut taken = Vec::new(rt.alloc());
     for part in parts {
-        for number in 0..part.accepted {
-            all.push(part.first.wrapping_add(number))
-                .expect(rt, "memory");
+        let all = taken.extend_from_slice(part.taken.as_slice());
+        all.expect(rt, "memory");
+    }
+    taken.sort().expect(rt, "memory");
+    let mut numbers = taken.iter();
+    for part in parts {
+        for number in part.first..part.next() {
+            same(rt, numbers.next().copied(), Some(number));
         }
     }
-    all.sort().expect(rt, "memory");
-    all
+    same(rt, numbers.next().copied(), None);
 }
 
-// All numbers that were taken out, sorted.
-fn all_taken<R: Abort + AllocGlobal>(rt: &R, parts: &[Part]) -> Vec<u64> {
-    let mut all = Vec::new(rt.alloc());
-    for part in parts {
-        all.extend_from_slice(part.taken.as_slice())
-            .expect(rt, "memory");
+// What a party took out of another's numbers came in the order in which that one pushed them.
+fn comes_in_order<R: Abort>(rt: &R, taken: &[u64], pushed_by: &Part) {
+    let mut least = pushed_by.first;
+    for number in taken {
+        if *number / APART == pushed_by.first / APART {
+            holds(rt, least <= *number);
+            least = number.wrapping_add(1);
+        }
     }
-    all.sort().expect(rt, "memory");
-    all
 }
 
-fn all_closed(parts: &[Part]) -> u64 {
-    let mut all = 0u64;
+// What they did adds up, and so many closes closed the queue.
+fn add_up<R: Abort + AllocGlobal>(rt: &R, parts: &[Part], closed: u64) {
+    nothing_is_lost(rt, parts);
+    let mut closes = 0u64;
     for part in parts {
-        all = all.wrapping_add(part.closed);
+        closes = closes.wrapping_add(part.closed);
+        for other in parts {
+            comes_in_order(rt, part.taken.as_slice(), other);
+        }
     }
-    all
+    same(rt, closes, closed);
 }
 
 fn is_shared<Q: Send + Sync>(_queue: &Q) {}
 
-// The roles are played at the same time, each in a thread of its own.
-fn parts<R: Wait + Abort + AllocGlobal + Threads + Sync>(
-    rt: &R,
-    queue: &ConcurrentQueue<u64>,
-    roles: &[Role],
-) -> Vec<Part> {
-    is_shared(queue);
-    let pushed = AtomicU64::new(0);
-    thread::map_indices(
-        rt,
-        rt.alloc(),
-        roles.len(),
-        &|party| { play(rt, queue, &pushed, party, &roles[party]) },
-    )
-    .expect(rt, "memory")
-}
-
-// What was taken out is what was accepted, and so many closes closed the queue.
-fn add_up<R: Abort + AllocGlobal>(rt: &R, parts: &[Part], closed: u64) {
-    same_numbers(rt, &all_taken(rt, parts), &all_accepted(rt, parts));
-    same(rt, all_closed(parts), closed);
-}
-
-/// The roles are played on the queue, and what they did adds up. So many of their closes closed the queue, and these
-/// calls then have their answers.
+/// The roles are played at the same time on a queue of this capacity (0 for a chain), each in a thread of its own. What they
+/// did adds up, the queue is empty then, and closed where a party closes it.
 pub fn all_play<R: Wait + Abort + AllocGlobal + Threads + Sync>(
     rt: &R,
-    queue: ConcurrentQueue<u64>,
+    capacity: usize,
     roles: &[Role],
     closed: u64,
-    at_end: &[Call<u64>],
 ) {
-    let parts = parts(rt, &queue, roles);
+    let queue = if capacity == 0 {
+        ConcurrentQueue::unbounded(rt.alloc())
+    } else {
+        ConcurrentQueue::bounded(rt.alloc(), capacity).expect(rt, "memory")
+    };
+    is_shared(&queue);
+    let pushed = AtomicU64::new(0);
+    let game = Game { queue, pushed };
+    let play = &|party| { play(rt, &game, party, roles[party]) };
+    let parts = thread::map_indices(rt, rt.alloc(), roles.len(), play);
+    let parts = parts.expect(rt, "memory");
     same(rt, parts.len(), roles.len());
     add_up(rt, &parts, closed);
-    shared_answers(rt, &queue, at_end);
+    let none = game.queue.pop(rt).err().map(|none| none.is_closed());
+    same(rt, none, Some(closed != 0));
+    same(rt, game.queue.is_closed(rt), closed != 0);
+    holds(rt, game.queue.is_empty(rt));
 }

@@ -17,16 +17,12 @@ fn closes_for_good<T>(slot: &Single<T>) -> bool
 }
 
 // A ring accepts nothing by a seat that closed it.
-fn refuses_after_its_close<R: Wait>(
-    rt: &R,
-    ring: &Bounded<u64>,
-    value: u64,
-) -> Result<(), PushError<u64>>
+fn closes_and_pushes<R: Wait>(rt: &R, ring: &Bounded<u64>) -> Result<(), PushError<u64>>
     ensures { IsErr result }
 {
     let mut seat = ring.seat();
     seated::bounded::close(ring, &mut seat);
-    seated::bounded::push(rt, ring, &mut seat, value)
+    seated::bounded::push(rt, ring, &mut seat, 6)
 }
 
 #[test]
@@ -49,7 +45,10 @@ fn a_user_takes_seats_at_a_ring(rt: HostRuntime) {
     let mut seat = ring.seat();
     let pushed = seated::bounded::push(&rt, &ring, &mut seat, 5);
     same(&rt, pushed, Ok(()));
-    let refused = refuses_after_its_close(&rt, &ring, 6);
-    same(&rt, refused, Err(PushError::Closed(6)));
+    same(
+        &rt,
+        closes_and_pushes(&rt, &ring),
+        Err(PushError::Closed(6)),
+    );
     same(&rt, seated::bounded::pop(&rt, &ring, &mut seat), Ok(5));
 }

@@ -1,89 +1,79 @@
-//! `ConcurrentQueue` called by several threads: each number that is pushed is popped once.
-ghost use Rattle.std.specs.Prelude.{◌<◌};
-
-use crate::calls::Call;
+//! `ConcurrentQueue` called by several threads: each number that is accepted is taken out once, under forced pushes and
+//! closes too. Wherever parties play it is looked at that numbers come in order, and that who saw the queue closed sees it so
+//! ever after.
 use crate::parties::{Role, all_play};
-use crate::shared::bounded;
-use concurrent_queue::{ConcurrentQueue, PopError};
-use std::alloc::AllocGlobal;
-use std::process::Abort;
-use std::sync::Wait;
-use std::thread::Threads;
 
-const ONE_PAIR: &[Role] = &[Role::PushShare, Role::PopShare];
+const PUSH: Role = Role::Push { most: 1000 };
 
-const TWO_PAIRS: &[Role] = &[
-    Role::PushShare,
-    Role::PushShare,
-    Role::PopShare,
-    Role::PopShare,
-];
+const POP: Role = Role::Pop { most: 1000 };
 
-// Some push a share while as many pop one.
-fn hand_over<R: Wait + Abort + AllocGlobal + Threads + Sync>(
-    rt: &R,
-    queue: ConcurrentQueue<u64>,
-    pairs: &[Role],
-) {
-    all_play(rt, queue, pairs, 0, &[Call::Pop(Err(PopError::Empty))]);
+const PUSH_ON: Role = Role::Push { most: u64::MAX };
+
+const POP_ON: Role = Role::Pop { most: u64::MAX };
+
+const CLOSE: Role = Role::Close { load: 500 };
+
+const fn force(closes_after: u64) -> Role {
+    Role::Force { closes_after }
 }
 
 #[test]
-fn a_ring_hands_over_each_number_once(rt: HostRuntime) {
-    hand_over(&rt, bounded(&rt, 8), TWO_PAIRS);
+fn each_number_is_handed_over_once(rt: HostRuntime) {
+    for capacity in [1, 8, 1024, 0] {
+        all_play(&rt, capacity, &[PUSH, PUSH, POP, POP], 0);
+    }
+    for capacity in [1, 8] {
+        all_play(&rt, capacity, &[PUSH, POP], 0);
+    }
 }
 
 #[test]
-fn a_large_ring_hands_over_each_number_once(rt: HostRuntime) {
-    hand_over(&rt, bounded(&rt, 1024), TWO_PAIRS);
+fn a_queue_closed_under_load_loses_nothing(rt: HostRuntime) {
+    let roles = [PUSH_ON, PUSH_ON, POP_ON, POP_ON, CLOSE, CLOSE];
+    for capacity in [1, 8, 0] {
+        all_play(&rt, capacity, &roles, 1);
+    }
 }
 
 #[test]
-fn a_ring_hands_over_each_number_once_between_two_threads(rt: HostRuntime) {
-    hand_over(&rt, bounded(&rt, 8), ONE_PAIR);
+fn threads_displace_and_close(rt: HostRuntime) {
+    for capacity in [1, 8, 1024] {
+        all_play(&rt, capacity, &[force(2000), POP_ON], 1);
+        let roles = [force(u64::MAX), POP_ON, PUSH_ON, CLOSE];
+        all_play(&rt, capacity, &roles, 1);
+    }
 }
 
 #[test]
-fn a_slot_hands_over_each_number_once_between_two_threads(rt: HostRuntime) {
-    hand_over(&rt, bounded(&rt, 1), ONE_PAIR);
+fn who_pushed_finds_an_item_or_displaces_one(rt: HostRuntime) {
+    all_play(&rt, 4, &[Role::PushAndTake { by_force: false }; 4], 0);
+    for capacity in [4, 2, 1] {
+        all_play(&rt, capacity, &[Role::PushAndTake { by_force: true }; 4], 0);
+    }
 }
 
 #[test]
-fn a_slot_hands_over_each_number_once(rt: HostRuntime) {
-    hand_over(&rt, bounded(&rt, 1), TWO_PAIRS);
+fn each_producers_items_come_in_order_under_displacement(rt: HostRuntime) {
+    let roles = [force(25_000), force(25_000), POP_ON, POP_ON];
+    for capacity in [2, 8] {
+        all_play(&rt, capacity, &roles, 1);
+    }
 }
 
 #[test]
-fn a_chain_hands_over_each_number_once(rt: HostRuntime) {
-    hand_over(&rt, ConcurrentQueue::unbounded(rt.alloc()), TWO_PAIRS);
-}
-
-// Two push, two pop and two close.
-const CLOSED_BY_TWO: &[Role] = &[
-    Role::PushUntilClosed,
-    Role::PushUntilClosed,
-    Role::PopUntilClosed,
-    Role::PopUntilClosed,
-    Role::CloseUnderLoad,
-    Role::CloseUnderLoad,
-];
-
-fn close_once<R: Wait + Abort + AllocGlobal + Threads + Sync>(rt: &R, queue: ConcurrentQueue<u64>) {
-    let closed = &[Call::Pop(Err(PopError::Closed))];
-    all_play(rt, queue, CLOSED_BY_TWO, 1, closed);
+fn one_of_four_closes_is_told_that_it_closed(rt: HostRuntime) {
+    for _ in 0..50 {
+        for capacity in [1, 4, 0] {
+            all_play(&rt, capacity, &[Role::Close { load: 0 }; 4], 1);
+        }
+    }
 }
 
 #[test]
-fn a_ring_closed_under_load_loses_nothing(rt: HostRuntime) {
-    close_once(&rt, bounded(&rt, 8));
-}
-
-#[test]
-fn a_slot_closed_under_load_loses_nothing(rt: HostRuntime) {
-    close_once(&rt, bounded(&rt, 1));
-}
-
-#[test]
-fn a_chain_closed_under_load_loses_nothing(rt: HostRuntime) {
-    close_once(&rt, ConcurrentQueue::unbounded(rt.alloc()));
+fn what_was_closed_stays_closed_to_each_thread(rt: HostRuntime) {
+    for _ in 0..50 {
+        for capacity in [1, 4, 0] {
+            all_play(&rt, capacity, &[PUSH_ON, force(100), POP_ON, POP_ON], 1);
+        }
+    }
 }

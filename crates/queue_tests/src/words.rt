@@ -14,13 +14,6 @@ pub fn holds<R: Abort>(rt: &R, it: bool) {
     assert!(rt; it);
 }
 
-/// The numbers are these, in this order: the first that isn't is named.
-pub fn same_numbers<R: Abort>(rt: &R, numbers: &[u64], want: &[u64]) {
-    for index in 0..numbers.len().max(want.len()) {
-        same(rt, numbers.get(index), want.get(index));
-    }
-}
-
 /// It prints as this text.
 pub fn prints<R: Abort + AllocGlobal, T: Display>(rt: &R, it: &T, want: &str) {
     let text = format!(in rt.alloc(); "{it}").expect(rt, "memory");

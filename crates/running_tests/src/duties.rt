@@ -72,28 +72,21 @@ fn polled_twice<R>(
 where
     R: Wait + Copy + Drop + 'static,
 {
-    let Ok(run) = executor.run(Counted(counts, false)) else {
+    let Ok(mut run) = executor.run(Counted(counts, false)) else {
         return None;
     };
-    let mut run = run;
     let waker = Awaiter::Outside(Nobody);
     let mut is_well = hand_in(executor, counts, 150);
     is_well &= matches!(run.poll(&waker), Poll::Pending);
-    is_well &= is_shown(
-        alloc,
-        executor,
-        "Executor { active: 0, global_tasks: 0, local_runners: [0], sleepers: 1 }",
-    );
+    let text = "Executor { active: 0, global_tasks: 0, local_runners: [0], sleepers: 1 }";
+    is_well &= is_shown(alloc, executor, text);
     let first = counts.polls.load(SeqCst);
     is_well &= hand_in(executor, counts, 150);
     is_well &= matches!(run.poll(&waker), Poll::Pending);
     let second = counts.polls.load(SeqCst);
     drop(run);
-    is_well &= is_shown(
-        alloc,
-        executor,
-        "Executor { active: 100, global_tasks: 100, local_runners: [], sleepers: 0 }",
-    );
+    let text = "Executor { active: 100, global_tasks: 100, local_runners: [], sleepers: 0 }";
+    is_well &= is_shown(alloc, executor, text);
     if is_well { Some((first, second)) } else { None }
 }
 

@@ -37,7 +37,7 @@ impl Asks {
     }
 }
 
-/// A future that is pending, and asks while it is polled and dropped.
+/// A future that is pending, and a waker: it asks while it is polled, called, copied and dropped.
 struct Nosy(&'static Asks);
 
 impl<K> Future<K> for Nosy {
@@ -56,10 +56,7 @@ impl Drop for Nosy {
     }
 }
 
-/// A waker that asks while it is called, copied and dropped.
-struct Bell(&'static Asks);
-
-impl Wake for Bell {
+impl Wake for Nosy {
     ghost is_same = { λ a b. Unit {0} };
 
     fn wake(self) {
@@ -72,18 +69,11 @@ impl Wake for Bell {
 
     fn clone(&self) -> Option<Self> {
         self.0.ask();
-        Some(Bell(self.0))
+        Some(Nosy(self.0))
     }
 
     fn will_wake(&self, _other: &Self) -> bool {
         false
-    }
-}
-
-impl Drop for Bell {
-    fn drop(self) {
-        self.0.ask();
-        let Bell(_) = self;
     }
 }
 
@@ -99,7 +89,7 @@ impl<K> Future<K> for Never {
     }
 }
 
-type TestExecutor<R> = Executor<Nosy, (), Bell, R>;
+type TestExecutor<R> = Executor<Nosy, (), Nosy, R>;
 
 /// Takes each lock of the executor when it is asked: the table's, the sleepers', and that of the runs' queues.
 fn take_locks<R: Wait + Copy + Drop + 'static>(executor: &TestExecutor<R>, asks: &'static Asks) {
@@ -120,11 +110,10 @@ fn take_locks<R: Wait + Copy + Drop + 'static>(executor: &TestExecutor<R>, asks:
 
 /// Lets a tick lie down and be told, and says whether all was accepted.
 fn tick<R: Wait + Copy + Drop + 'static>(executor: &TestExecutor<R>, asks: &'static Asks) -> bool {
-    let Ok(tick) = executor.tick() else {
+    let Ok(mut tick) = executor.tick() else {
         return false;
     };
-    let mut tick = tick;
-    let bell = Awaiter::Outside(Bell(asks));
+    let bell = Awaiter::Outside(Nosy(asks));
     let is_first_pending = matches!(tick.poll(&bell), Poll::Pending);
     let is_pending = matches!(tick.poll(&bell), Poll::Pending);
     let Ok(task) = executor.spawn(Nosy(asks)) else {
@@ -137,11 +126,10 @@ fn tick<R: Wait + Copy + Drop + 'static>(executor: &TestExecutor<R>, asks: &'sta
 
 /// Runs a future that is pending, and drops the run.
 fn run<R: Wait + Copy + Drop + 'static>(executor: &TestExecutor<R>, asks: &'static Asks) -> bool {
-    let Ok(run) = executor.run(Nosy(asks)) else {
+    let Ok(mut run) = executor.run(Nosy(asks)) else {
         return false;
     };
-    let mut run = run;
-    let bell = Awaiter::Outside(Bell(asks));
+    let bell = Awaiter::Outside(Nosy(asks));
     matches!(run.poll(&bell), Poll::Pending)
 }
 
@@ -156,23 +144,20 @@ fn play<R: Wait + Copy + Drop + 'static>(executor: &TestExecutor<R>, asks: &'sta
 #[test]
 fn code_of_a_user_runs_under_no_lock(rt: HostRuntime) -> Result<(), Fail> {
     let (alloc, realm) = (rt.alloc(), Realm::leak(rt, rt.alloc())?);
-    let asks: &'static Asks = Box::leak(Box::new(
-        alloc,
-        Asks {
-            asked: AtomicU64::new(0),
-            answered: AtomicU64::new(0),
-            missed: AtomicU64::new(0),
-            is_over: AtomicBool::new(false),
-        },
-    )?);
+    let asks = Asks {
+        asked: AtomicU64::new(0),
+        answered: AtomicU64::new(0),
+        missed: AtomicU64::new(0),
+        is_over: AtomicBool::new(false),
+    };
+    let asks: &'static Asks = Box::leak(Box::new(alloc, asks)?);
     let executor = TestExecutor::new(rt, alloc, realm, 4)?;
     let (_, is_well) = thread::join(
         &rt,
         || take_locks(&executor, asks),
         || play(&executor, asks),
     );
-    assert!(rt; is_well);
-    assert!(rt; asks.missed.load(SeqCst) == 0);
-    assert!(rt; asks.asked.load(SeqCst) >= 12);
+    let (missed, asked) = (asks.missed.load(SeqCst), asks.asked.load(SeqCst));
+    assert!(rt; is_well & (missed == 0) & (asked >= 12));
     Ok(())
 }

@@ -1,6 +1,6 @@
 //! What a queue of tasks accepts, it runs, unless it is closed.
 use async_task::{Awaiter, Future, Nobody, Poll, Realm, Wake};
-use ready_queue::{Places, QueueTask, ReadyQueue, SpawnError};
+use ready_queue::{Places, QueueTask, ReadyQueue};
 use std::sync::Wait;
 use std::test::Fail;
 use std::thread;
@@ -45,10 +45,9 @@ fn handed_in<R: Wait + Copy + Drop + 'static>(queue: &TestQueue<R>) -> Option<Te
 
 /// Hands a future in, and says whether it was accepted and run to its end.
 fn is_run<R: Wait + Copy + Drop + 'static>(queue: &TestQueue<R>) -> bool {
-    let Some(task) = handed_in(queue) else {
+    let Some(mut task) = handed_in(queue) else {
         return false;
     };
-    let mut task = task;
     for _ in 0..MOST_TURNS {
         queue.run();
         match task.poll(&Awaiter::Outside(Nobody)) {
@@ -78,48 +77,5 @@ fn what_is_accepted_beside_another_thread_is_run(rt: HostRuntime) -> Result<(), 
     );
     let both = thread::join(&rt, || run_of(&queue), || run_of(&queue));
     assert!(rt; both == (ROUNDS, ROUNDS));
-    Ok(())
-}
-
-/// How a future is refused.
-#[derive(Clone, Copy, PartialEq)]
-enum Answer {
-    Accepted,
-    Full,
-    Closed,
-    NoMemory,
-}
-
-fn tried<R: Wait + Copy + Drop + 'static>(queue: &TestQueue<R>) -> Answer {
-    match queue.spawn(Once(false)) {
-        Ok(task) => {
-            task.detach();
-            Answer::Accepted
-        }
-        Err(SpawnError::Full(_)) => Answer::Full,
-        Err(SpawnError::Closed(_)) => Answer::Closed,
-        Err(SpawnError::NoMemory(_)) => Answer::NoMemory,
-    }
-}
-
-/// An open task has its room until its future is dropped, also while it stands in no queue; a closed queue has no room.
-#[test]
-fn an_open_task_keeps_its_room(rt: HostRuntime) -> Result<(), Fail> {
-    let queue = TestQueue::new(
-        rt,
-        Realm::leak(rt, rt.alloc())?,
-        Places::leak(rt.alloc(), 1)?,
-    );
-    assert!(rt; tried(&queue) == Answer::Accepted);
-    let Some(runnable) = queue.next() else {
-        panic!(rt; "nothing is queued");
-    };
-    assert!(rt; tried(&queue) == Answer::Full);
-    runnable.run();
-    assert!(rt; tried(&queue) == Answer::Full);
-    queue.run();
-    assert!(rt; tried(&queue) == Answer::Accepted);
-    queue.close();
-    assert!(rt; tried(&queue) == Answer::Closed);
     Ok(())
 }

@@ -3,8 +3,4 @@
 #![tactic(auto)]
 
 #[cfg(test)]
-mod names;
-#[cfg(test)]
 mod texts;
-#[cfg(test)]
-mod words;

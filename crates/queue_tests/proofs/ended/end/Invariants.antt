@@ -1,5 +1,5 @@
 use Rattle.std.proofs.Common.{length}
 use Rattle.queue_tests.proofs.ended.end.Given as goal
 
-abbrev pub decreases-loop-count : goal.decreases-loop-count
-decreases-loop-count l = length l.left
+abbrev pub decreases-loop-number : goal.decreases-loop-number
+decreases-loop-number g l = length l.left

@@ -1,0 +1,153 @@
+//! `ConcurrentQueue` called by one thread: what is printed, what a script can't say of walks and items, and refused memory. Of an
+//! `Exclusive` the contracts say what a refusal leaves.
+ghost use Rattle.std.specs.Prelude.{◌≡◌, ◌%◌};
+
+use crate::words::{debugs, holds, prints, same};
+use concurrent_queue::glimpse::{Glimpse, Locked};
+use concurrent_queue::{ConcurrentQueue, Exclusive, ForcePushError, NoMemory, PopError, PushError};
+use queue_steps::Unbounded;
+use std::process::Abort;
+use std::sync::{Mutex, Wait};
+
+#[test]
+fn errors_print_their_names(rt: HostRuntime) {
+    prints(&rt, &PopError::Empty, "Empty");
+    prints(&rt, &PopError::Closed, "Closed");
+    prints(&rt, &PushError::Full(1), "Full");
+    prints(&rt, &PushError::Closed(1), "Closed");
+    prints(&rt, &PushError::NoMemory(1), "NoMemory");
+    prints(&rt, &ForcePushError::Closed(1), "Closed");
+    prints(&rt, &ForcePushError::NoMemory(1), "NoMemory");
+    debugs(&rt, &PushError::Full(1), "Full(1)");
+    debugs(&rt, &NoMemory, "NoMemory");
+}
+
+#[test]
+fn queues_and_walks_print_what_they_are(rt: HostRuntime) {
+    let ring = ConcurrentQueue::bounded(rt.alloc(), 4).expect(&rt, "memory");
+    same(&rt, ring.push(&rt, 'x'), Ok(()));
+    let text = "ConcurrentQueue { len: 1, capacity: Some(4), is_closed: false }";
+    debugs(&rt, &ring, text);
+    let chain = ConcurrentQueue::<u64>::unbounded(rt.alloc());
+    holds(&rt, chain.close(&rt));
+    let text = "TryIter(ConcurrentQueue { len: 0, capacity: None, is_closed: true })";
+    debugs(&rt, &chain.try_iter(&rt), text);
+}
+
+#[test]
+fn a_text_waits_for_no_lock(rt: HostRuntime) {
+    let lock = Mutex::new(Unbounded::<u64>::new(rt.alloc()));
+    let held = lock.lock(&rt);
+    holds(&rt, Glimpse::under(&lock).is_none());
+    drop(held);
+    let glimpse = Glimpse::under(&lock);
+    holds(
+        &rt,
+        matches!(
+            glimpse,
+            Some(Glimpse {
+                len: 0,
+                is_closed: false
+            })
+        ),
+    );
+    debugs(&rt, &Locked, "<locked>");
+}
+
+// A walk and its copy take turns at the items, and go on after a push.
+#[test]
+fn a_walk_and_its_copy_take_turns(rt: HostRuntime) {
+    let queue = ConcurrentQueue::unbounded(rt.alloc());
+    same(
+        &rt,
+        (queue.push(&rt, 1), queue.push(&rt, 2)),
+        (Ok(()), Ok(())),
+    );
+    let mut walk = queue.try_iter(&rt);
+    let mut copy = walk.clone().expect(&rt, "memory");
+    same(&rt, (walk.next(), copy.next()), (Some(1), Some(2)));
+    same(&rt, (walk.next(), copy.next()), (None, None));
+    same(&rt, queue.push(&rt, 3), Ok(()));
+    same(&rt, walk.next(), Some(3));
+}
+
+// A number of which a proof knows that it is even.
+#[derive(Drop)]
+struct Even {
+    value: u64,
+    ghost even: { value % 2 ≡ 0 },
+}
+
+// What its type says of an item is known of each that is popped or walked to.
+fn pop_even<R: Wait>(rt: &R, queue: &ConcurrentQueue<Even>) -> u64
+    ensures { result % 2 ≡ 0 }
+{
+    match queue.pop(rt) {
+        Ok(even) => even.value,
+        Err(_) => 0,
+    }
+}
+
+fn walk_to_even<R: Wait>(rt: &R, queue: &ConcurrentQueue<Even>) -> u64
+    ensures { result % 2 ≡ 0 }
+{
+    match queue.try_iter(rt).next() {
+        Some(even) => even.value,
+        None => 0,
+    }
+}
+
+#[test]
+fn items_keep_what_their_type_promises(rt: HostRuntime) {
+    let queue = ConcurrentQueue::bounded(rt.alloc(), 3).expect(&rt, "memory");
+    for value in [42, 8] {
+        holds(&rt, queue.push(&rt, Even { value }).is_ok());
+    }
+    same(&rt, pop_even(&rt, &queue), 42);
+    same(&rt, walk_to_even(&rt, &queue), 8);
+    same(&rt, pop_even(&rt, &queue), 0);
+}
+
+// Pushes an item. A push that is refused has changed nothing, and the next one is accepted. The next two tests also pass where
+// any one allocation is refused: `rt try --test --fail-alloc N`.
+fn push_or_push_again<R: Wait + Abort>(rt: &R, queue: &ConcurrentQueue<u64>, item: u64) {
+    let before = queue.len(rt);
+    if let Err(refused) = queue.push(rt, item) {
+        same(rt, refused, PushError::NoMemory(item));
+        same(rt, (queue.len(rt), queue.is_closed(rt)), (before, false));
+        same(rt, queue.force_push(rt, item), Ok(None));
+    }
+}
+
+#[test]
+fn a_refused_shared_push_hands_back_the_value_and_changes_nothing(rt: HostRuntime) {
+    let queue = ConcurrentQueue::unbounded(rt.alloc());
+    for item in 0..100u64 {
+        push_or_push_again(&rt, &queue, item);
+    }
+    for item in 0..100u64 {
+        same(&rt, queue.pop(&rt), Ok(item));
+    }
+}
+
+// Ten forced pushes find room, and leave the last four items.
+#[test]
+fn a_shared_ring_is_refused_whole_or_takes_no_more_memory(rt: HostRuntime) {
+    match ConcurrentQueue::bounded(rt.alloc(), 4) {
+        Err(refused) => same(&rt, refused, NoMemory),
+        Ok(queue) => {
+            for item in 0..10u64 {
+                holds(&rt, queue.force_push(&rt, item).is_ok());
+            }
+            same(&rt, queue.pop(&rt), Ok(6));
+        }
+    }
+}
+
+#[test]
+fn no_ring_has_two_to_the_sixty_places(rt: HostRuntime) {
+    let refused = Exclusive::<()>::bounded(rt.alloc(), 1 << 60);
+    holds(&rt, matches!(refused, Err(NoMemory)));
+    let refused = ConcurrentQueue::<()>::bounded(rt.alloc(), 1 << 60);
+    holds(&rt, matches!(refused, Err(NoMemory)));
+}

@@ -49,7 +49,7 @@ use Rattle.executor_model.proofs.LeavingRuns.{Placed, placed-moves, placed-ends,
 use Rattle.executor_model.proofs.Telling.{counted-drop}
 use Rattle.executor_model.proofs.Requests.{request-push, request-none}
 use Rattle.executor_model.proofs.Asking.{Grounds, grounded, Asked, KeepsAsked}
-use Rattle.executor_model.proofs.AskingActs.{NeedsOver, asked-act, asked-pending, asked-ready}
+use Rattle.executor_model.proofs.AskingAll.{NeedsOver, asked-act, asked-pending, asked-ready}
 
 pub record Heard (s : Machine) : Type 0 where
   pub placed : Placed s

@@ -36,7 +36,7 @@ use Rattle.executor_model.specs.Steps.{with_part, after, step_by, step, stepped,
 use Rattle.executor_model.proofs.Lists.{weigh_all-push}
 use Rattle.executor_model.proofs.Counting.{Keeps}
 use Rattle.executor_model.proofs.CountingHandles.{sound-pending, sound-ready}
-use Rattle.executor_model.proofs.CountingActs.{sound-act}
+use Rattle.executor_model.proofs.SoundAll.{sound-act}
 use Rattle.executor_model.proofs.Fitting.{Grown, Grows}
 use Rattle.executor_model.proofs.FittingActs.{grows-act}
 pub use Rattle.executor_model.proofs.Growing.{KeepsHere, push-pend, split, split-pend}

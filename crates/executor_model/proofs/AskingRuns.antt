@@ -44,7 +44,7 @@ use Rattle.executor_model.proofs.Ways.{Way, along}
 use Rattle.executor_model.proofs.Ways.Way.{acted, reacted, called}
 use Rattle.executor_model.proofs.Lawful.{dropped-over}
 use Rattle.executor_model.proofs.Stories.{story}
-use Rattle.executor_model.proofs.Leaving.{extra, waking_of}
+use Rattle.executor_model.proofs.Extras.{extra, waking_of}
 use Rattle.executor_model.proofs.LeavingRuns.{Placed, placed-moves, placed-ends, placed-start}
 use Rattle.executor_model.proofs.Telling.{counted-drop}
 use Rattle.executor_model.proofs.Requests.{request-push, request-none}

@@ -20,7 +20,8 @@ use Rattle.executor_model.proofs.Lift.{good}
 use Rattle.executor_model.proofs.Resting.{Deep, deep, rests, all-rest}
 use Rattle.executor_model.proofs.Stories.{story}
 use Rattle.executor_model.proofs.Telling.{fallen-counts, counted-there}
-use Rattle.executor_model.proofs.Leaving.{closing_of, waking_of, Extra, extra, Leaves}
+use Rattle.executor_model.proofs.Leaving.{Leaves}
+use Rattle.executor_model.proofs.Extras.{Extra, no_extra, extra, extra-none}
 use Rattle.executor_model.proofs.LeavingRuns.{Placed, placed}
 use Rattle.executor_model.proofs.Awaited.{Heard, heard, Awaiting, awaiting, Awaits, Mark, looks_of, fresh_of}
 use Rattle.executor_model.proofs.Awaited.{storing_of, again_of, waits_of, over_of, notices_of, notifying_of}
@@ -35,9 +36,6 @@ use Rattle.executor_model.proofs.AwaitedRuns.{waited}
 use Rattle.executor_model.proofs.AwaitedTelling.{parted-has, dropped-has, over-dropped, Begun}
 use Rattle.executor_model.proofs.AwaitedTelling.{begun-at, called-from, pending-at}
 
-abbrev nothing_more : Extra
-nothing_more = record { leaves = 0; closing = 0; waking = 0 }
-
 abbrev nothing_swept : Sweep
 nothing_swept = record { outs = 0; drops = 0; wakes = 0; shuts = 0; drains = 0 }
 
@@ -46,7 +44,7 @@ no-times g [] e = refl
 no-times g (x ∷ xs) e = absurd (omega (arith, e))
 
 -- where nothing is left to do, a dropped future has no Runnable
-none-queued : (gone : Bool) (w : World) (g : ℕ) → w.gone ≡ gone → Leaves w g nothing_pending nothing_more →
+none-queued : (gone : Bool) (w : World) (g : ℕ) → w.gone ≡ gone → Leaves w g nothing_pending no_extra →
     Sweeps (lists w) nothing_swept → (w.gone ≡ true → times_in g w.own ≡ 0) → 1 ≤ (story g w.trace).fallen →
     queued w g ≡ 0
 none-queued = by_bool _
@@ -119,13 +117,8 @@ module _ (s : Machine) (fine : Good s) (h : Placed s) (d : Deep s) (v : Swept s)
     ousting = all-rest ousting_of s.parties idle i;
   }
 
-  is-no-more : extra g s.parties ≡ nothing_more
-  is-no-more =
-      λ i. record {
-        leaves = all-rest (leaves_of g) s.parties idle i;
-        closing = all-rest closing_of s.parties idle i;
-        waking = all-rest waking_of s.parties idle i;
-      }
+  is-no-more : extra g s.parties ≡ no_extra
+  is-no-more = extra-none g s.parties (λ v. all-rest v s.parties idle)
 
   is-swept : sweep s.parties ≡ nothing_swept
   is-swept = λ i. record {
@@ -157,7 +150,7 @@ module _ (s : Machine) (fine : Good s) (h : Placed s) (d : Deep s) (v : Swept s)
   sound-here : Sound s.world g nothing_pending
   sound-here = subst (Sound s.world g) is-nothing (fine.sound g)
 
-  leaves-here : Leaves s.world g nothing_pending nothing_more
+  leaves-here : Leaves s.world g nothing_pending no_extra
   leaves-here = subst (λ (y : Pend × Extra). Leaves s.world g y.0 y.1) (λ i. (is-nothing i, is-no-more i)) (h.leaves g)
 
   awaits-here : Awaits s.world g nothing_pending nothing_awaited (marked s.world g nothing_awaited)

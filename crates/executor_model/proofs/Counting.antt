@@ -1,7 +1,5 @@
 -- What the queue, the table and the moves of a task keep of each future.
-use Rattle.std.proofs.Common.{◌≡◌, ℕ, ◌+◌, ◌^◌, ◌<◌, List, [], ◌∷◌, length, Bool, true, false, ◌||◌, ◌&&◌, not}
-use Rattle.std.proofs.Common.{eqb, drop, arith}
-use Rattle.std.proofs.lemmas.Bool.Decides.{nat_tests}
+use Rattle.std.proofs.Common.{ℕ, ◌+◌, ◌^◌, ◌<◌, List, length, Bool, true, false, not}
 use Rattle.std.specs.Prelude.{Some}
 use Rattle.task_moves.specs.declared.moves.owed.Move.TheVariants as move
 use Rattle.task_moves.specs.declared.moves.owed.FutureDebt.TheVariants.{DropFuture}
@@ -10,24 +8,10 @@ use Rattle.task_moves.specs.Moves.{moved, nothing, settled, notify_if}
 use Rattle.executor_model.specs.declared.event.Event.TheVariants as event
 use Rattle.executor_model.specs.declared.op.Waker.{Waker}
 use Rattle.executor_model.specs.declared.op.Waker.TheVariants.{Task, Outside}
-use Rattle.executor_model.specs.declared.op.Polled.TheVariants as of
 use Rattle.executor_model.specs.declared.op.Op.{Op}
-use Rattle.executor_model.specs.declared.op.Op.TheVariants as op
-use Rattle.executor_model.specs.declared.op.QueueOp.TheVariants as queue_op
-use Rattle.executor_model.specs.declared.op.TableOp.TheVariants as table_op
-use Rattle.executor_model.specs.declared.op.UserOp.TheVariants as user_op
-use Rattle.executor_model.specs.declared.op.WakerOp.TheVariants as waker_op
-use Rattle.executor_model.specs.World.{World, Done, done, log, log_if, task, put, among}
+use Rattle.executor_model.specs.World.{World, Done, done, log_if, task, put}
 use Rattle.executor_model.specs.Carried.{carried, owed_ops}
-use Rattle.executor_model.specs.Acts.{append_by, take_by, enter_by, take_to_poll, put_back, take_to_drop}
-use Rattle.executor_model.specs.Acts.{leave_by, begin_drop, begin_drop_output}
-use Rattle.executor_model.specs.Weights.{same}
-use Rattle.executor_model.specs.Sound.{with_ops, Pend, Sound, times}
-use Rattle.executor_model.proofs.Cases.{by_bool, by_list}
-use Rattle.executor_model.proofs.Marks.{IsUnmarked, unmarked, IsGoing, going, IsIdle, idle, last-one, IsUnheld, unheld}
-use Rattle.executor_model.proofs.Lists.{read_put, read_push, fresh_is, same_is, times-append}
-use Rattle.executor_model.proofs.Lists.{times-drop, awaiters_of-push, phase-push}
-use Rattle.executor_model.proofs.Lists.{phase-begun, phase-dropped, without_one}
+use Rattle.executor_model.specs.Sound.{with_ops, Pend, Sound}
 
 -- it keeps what holds of g
 abbrev pub Keeps : World → List Op → Done → Type 0

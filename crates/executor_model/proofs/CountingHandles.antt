@@ -1,44 +1,38 @@
 -- What wakers, polls of a handle, the drop of the executor and user code keep of each future.
-use Rattle.std.proofs.Common.{◌≡◌, ℕ, ◌+◌, ◌^◌, ◌<◌, List, [], ◌∷◌, ◌++◌, length, Bool, true, false, ◌||◌, not}
-use Rattle.std.proofs.Common.{set, drop, refl, sym, ap, ◌∙◌, ◌≤◌, subst, arith}
+use Rattle.std.proofs.Common.{◌≡◌, ℕ, ◌+◌, ◌^◌, ◌<◌, List, [], ◌∷◌, ◌++◌, length, Bool, true, false, not}
+use Rattle.std.proofs.Common.{sym, ap, ◌∙◌, ◌≤◌, arith}
 use Rattle.std.proofs.lemmas.Bool.Decides.{nat_tests}
-use Rattle.std.specs.Prelude.{Option, Some, None, slice_set}
+use Rattle.std.specs.Prelude.{Option, Some, None}
 use Rattle.task_moves.specs.declared.moves.state.State.{State}
 use Rattle.task_moves.specs.declared.moves.owed.Answer.TheVariants as said
 use Rattle.task_moves.specs.declared.moves.owed.Move.TheVariants as move
 use Rattle.task_moves.specs.declared.moves.owed.AwaiterDebt.TheVariants as debt
 use Rattle.task_moves.specs.Moves as moves
 use Rattle.task_moves.specs.Moves.{moved, nothing, notify_other_if}
-use Rattle.executor_model.specs.declared.call.Reply.{Reply}
 use Rattle.executor_model.specs.declared.event.Answer.TheVariants as answer
 use Rattle.executor_model.specs.declared.event.Event.TheVariants as event
 use Rattle.executor_model.specs.declared.op.Awaiter.{Awaiter}
 use Rattle.executor_model.specs.declared.op.Waker.{Waker}
 use Rattle.executor_model.specs.declared.op.Waker.TheVariants.{Task, Outside}
-use Rattle.executor_model.specs.declared.op.Hold.{Hold}
 use Rattle.executor_model.specs.declared.op.Op.{Op}
 use Rattle.executor_model.specs.declared.op.Op.TheVariants as op
-use Rattle.executor_model.specs.declared.op.ClosingOp.TheVariants as closing_op
 use Rattle.executor_model.specs.declared.op.HandleOp.TheVariants as handle_op
 use Rattle.executor_model.specs.declared.op.TableOp.TheVariants as table_op
 use Rattle.executor_model.specs.declared.op.UserOp.TheVariants as user_op
 use Rattle.executor_model.specs.declared.op.WakerOp.TheVariants as waker_op
 use Rattle.executor_model.specs.declared.step.Hint.{Hint}
-use Rattle.executor_model.specs.World.{World, Done, done, log, log_if, task, put, awaiter_of, put_awaiter, among}
-use Rattle.executor_model.specs.Carried.{carried, owed_ops}
-use Rattle.executor_model.specs.Acts.{copy_by, is_refused, answered}
-use Rattle.executor_model.specs.Acts.{polled, look_by, look_again_by, is_copy_refused, copy_awaiter_by}
-use Rattle.executor_model.specs.Acts.{register_by, end_register_by, notify_by, told, let_go, call_awaiter}
-use Rattle.executor_model.specs.Acts.{closing_ops, drop_next_by, wake_next_by, drain_by}
+use Rattle.executor_model.specs.World.{World, Done, done, log, log_if, task, put, put_awaiter, among}
+use Rattle.executor_model.specs.Carried.{owed_ops}
+use Rattle.executor_model.specs.Acts.{is_refused, answered}
+use Rattle.executor_model.specs.Acts.{is_copy_refused}
+use Rattle.executor_model.specs.Acts.{told, let_go}
+use Rattle.executor_model.specs.Acts.{closing_ops}
 use Rattle.executor_model.specs.Weights.{same, weigh, past, waker_past}
 use Rattle.executor_model.specs.Good.{pasts}
 use Rattle.executor_model.specs.Rows.{past_of}
-use Rattle.executor_model.specs.Sound.{with_ops, Sound, times, awaiters_of}
-use Rattle.executor_model.proofs.Cases.{by_bool, by_list, by_waker}
-use Rattle.executor_model.proofs.Lists.{read_put, wakers_of-push, past_is, same_is, times-append}
-use Rattle.executor_model.proofs.Lists.{times-drop, awaiters_of-set, wakes_if, phase-push}
-use Rattle.executor_model.proofs.Lists.{phase-answered, phase-dropped, with_ops-closing}
-use Rattle.executor_model.proofs.Counting.{Keeps, CanCopy, woken_by}
+use Rattle.executor_model.proofs.Lists.{past_is, same_is}
+use Rattle.executor_model.proofs.Lists.{phase-answered}
+use Rattle.executor_model.proofs.Counting.{Keeps, CanCopy}
 
 -- wakers and polls of a handle
 

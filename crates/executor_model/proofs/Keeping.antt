@@ -1,102 +1,12 @@
 -- What holds at every moment of a future whose output is or will be there, and of the awaiter of one that is completed.
-use Rattle.std.proofs.Common.{◌≡◌, ◌⊎◌, ℕ, ◌+◌, ◌<◌, ◌≤◌, List, [], ◌∷◌, ◌++◌, length, true, false, cond, refl, arith}
-use Rattle.std.proofs.lemmas.List.Sums.{sum_by_push}
-use Rattle.std.specs.Prelude.{count_by}
-use Rattle.executor_model.specs.declared.call.Call.TheVariants.{Detach, DropHandle}
-use Rattle.executor_model.specs.declared.event.Answer.TheVariants.{Pending, Ready}
-use Rattle.executor_model.specs.declared.event.Event.{Event}
-use Rattle.executor_model.specs.declared.event.Event.TheVariants.{CallBegun, Answered, Cancelled, OutputGiven}
+use Rattle.std.proofs.Common.{◌≡◌, ◌⊎◌, ℕ, ◌+◌, ◌<◌, ◌≤◌, List, length, true, false, arith}
 use Rattle.executor_model.specs.declared.op.Op.{Op}
-use Rattle.executor_model.specs.declared.op.Op.TheVariants as op
-use Rattle.executor_model.specs.declared.op.HandleOp.TheVariants as handle_op
-use Rattle.task_moves.specs.declared.moves.owed.Move.TheVariants as move
-use Rattle.executor_model.specs.Trace.{Trace, takes_handle, is_ready, is_cancelled}
-use Rattle.executor_model.specs.OutputOnce.{is_output_given}
 use Rattle.executor_model.specs.World.{World, Done, task}
-use Rattle.executor_model.specs.Weights.{same, weigh, weigh_all}
+use Rattle.executor_model.specs.Weights.{weigh, weigh_all}
 use Rattle.executor_model.specs.Sound.{Sound, pend}
 use Rattle.executor_model.specs.Rows.{waiting_of, polls_of, ready_of}
-
--- how often g was ready
-
-abbrev pub ready_in : ℕ → Event → ℕ
-ready_in g (Answered p f Ready) = same g f
-ready_in g _ = 0
-
-unfoldable pub readies : ℕ → Trace → ℕ
-readies g es = count_by (is_ready g) es
-
-one-ready : (g : ℕ) (e : Event) → cond (is_ready g e) 1 0 ≡ ready_in g e
-unfolding same
-one-ready g (Answered p f Ready) = refl
-one-ready g (Answered p f Pending) = refl
-one-ready g _ = refl
-
-pub readies-push : (g : ℕ) (es : Trace) (e : Event) → readies g (es ++ e ∷ []) ≡ readies g es + ready_in g e
-unfolding readies
-readies-push g es e = omega (arith, sum_by_push (λ (x : Event). cond (is_ready g x) 1 0) es e, one-ready g e)
-
-pub readies-none : (g : ℕ) → readies g [] ≡ 0
-unfolding readies
-readies-none g = refl
-
--- how often g was cancelled, its output given, and its handle taken
-
-abbrev pub spent_in : ℕ → Event → ℕ
-spent_in g (Cancelled p f) = same g f
-spent_in g (OutputGiven p f) = same g f
-spent_in g (CallBegun p (Detach f)) = same g f
-spent_in g (CallBegun p (DropHandle f)) = same g f
-spent_in g _ = 0
-
-unfoldable pub spent : ℕ → Trace → ℕ
-spent g es = count_by (is_cancelled g) es + (count_by (is_output_given g) es + count_by (takes_handle g) es)
-
-one-spent : (g : ℕ) (e : Event) →
-    cond (is_cancelled g e) 1 0 + (cond (is_output_given g e) 1 0 + cond (takes_handle g e) 1 0) ≡ spent_in g e
-unfolding same
-one-spent g (Cancelled p f) = omega arith
-one-spent g (OutputGiven p f) = omega arith
-one-spent g (CallBegun p (Detach f)) = omega arith
-one-spent g (CallBegun p (DropHandle f)) = omega arith
-one-spent g (CallBegun p _) = refl
-one-spent g _ = refl
-
-pub spent-push : (g : ℕ) (es : Trace) (e : Event) → spent g (es ++ e ∷ []) ≡ spent g es + spent_in g e
-unfolding spent
-spent-push g es e = omega (
-  arith,
-  sum_by_push (λ (x : Event). cond (is_cancelled g x) 1 0) es e,
-  sum_by_push (λ (x : Event). cond (is_output_given g x) 1 0) es e,
-  sum_by_push (λ (x : Event). cond (takes_handle g x) 1 0) es e,
-  one-spent g e,
-)
-
-pub spent-none : (g : ℕ) → spent g [] ≡ 0
-unfolding spent
-spent-none g = refl
-
--- what the parties have still to do with g
-
-abbrev pub detaches_of : ℕ → Op → ℕ
-detaches_of g (op.Move move.Detach f) = same g f
-detaches_of g _ = 0
-
--- who will look whether the awaiter is to be called
-abbrev pub telling_of : ℕ → Op → ℕ
-telling_of g (op.Handle (handle_op.Notify f mine)) = same g f
-telling_of g (op.Handle (handle_op.LookAgain f)) = same g f
-telling_of g _ = 0
-
--- who takes it out
-abbrev pub taking_of : ℕ → Op → ℕ
-taking_of g (op.Handle (handle_op.EndNotify f mine)) = same g f
-taking_of g _ = 0
-
--- who stores it
-abbrev pub storing_of : ℕ → Op → ℕ
-storing_of g (op.Handle (handle_op.EndRegister f a k)) = same g f
-storing_of g _ = 0
+use Rattle.executor_model.proofs.Tallies.{readies, spent}
+use Rattle.executor_model.proofs.Extras.{detaches_of, telling_of, taking_of, storing_of}
 
 pub record Owing : Type 0 where
   pub waiting : ℕ

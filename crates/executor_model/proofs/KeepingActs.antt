@@ -40,7 +40,8 @@ use Rattle.executor_model.proofs.Cases.{by_bool, by_list, by_waker}
 use Rattle.executor_model.proofs.Lists.{read_put, same_is}
 use Rattle.executor_model.proofs.CountingHandles.{stays_so, gives}
 use Rattle.executor_model.proofs.CountingHandles.{waits_on, end_registered, end_notified, next_woken}
-use Rattle.executor_model.proofs.Keeping.{readies-push, spent-push, Owing, with_owing, Stored, KeepsStored}
+use Rattle.executor_model.proofs.Tallies.{readies-push, spent-push}
+use Rattle.executor_model.proofs.Keeping.{Owing, with_owing, Stored, KeepsStored}
 use Rattle.executor_model.proofs.SleepersKeeping.{stored-exchange, stored-hand_out, stored-call_sleeper}
 use Rattle.executor_model.proofs.SleepersKeeping.{stored-make_tick, stored-copy_sleeper}
 use Rattle.executor_model.proofs.RunsKeeping.{stored-list, stored-run, stored-search_who, stored-steal}

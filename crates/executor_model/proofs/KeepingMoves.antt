@@ -22,7 +22,8 @@ use Rattle.executor_model.proofs.Cases.{by_bool, by_list}
 use Rattle.executor_model.proofs.Lists.{read_put, read_push, fresh_is, same_is}
 use Rattle.executor_model.proofs.Counting.{settling, readied, pended, ending, dropping, taken_up, woken, woken_by}
 use Rattle.executor_model.proofs.Counting.{cancel_going, cancel_idle, cancel_over, detached}
-use Rattle.executor_model.proofs.Keeping.{readies-push, spent-push, KeepsStored}
+use Rattle.executor_model.proofs.Tallies.{readies-push, spent-push}
+use Rattle.executor_model.proofs.Keeping.{KeepsStored}
 
 pub stored-append : (b : Bool) (w : World) (f : ℕ) → KeepsStored w (op.Queue (queue_op.Append f) ∷ []) (append_by b w f)
 stored-append = by_bool _

@@ -39,9 +39,9 @@ use Rattle.executor_model.proofs.Lists.{same_is, weigh_all-push}
 use Rattle.executor_model.proofs.Lift.{split, unsettled, weigh_all-idle, good-start}
 use Rattle.executor_model.proofs.Ways.{Way, along}
 use Rattle.executor_model.proofs.Ways.Way.{acted, reacted, called}
-use Rattle.executor_model.proofs.Keeping.{readies-push, readies-none, spent-push, spent-none, spent_in, ready_in}
-use Rattle.executor_model.proofs.Keeping.{detaches_of, telling_of, taking_of, storing_of, Owing, with_owing}
-use Rattle.executor_model.proofs.Keeping.{owing, Footing, footing, Stored, KeepsStored}
+use Rattle.executor_model.proofs.Tallies.{readies-push, readies-none, spent-push, spent-none, spent_in, ready_in}
+use Rattle.executor_model.proofs.Extras.{detaches_of, telling_of, taking_of, storing_of}
+use Rattle.executor_model.proofs.Keeping.{Owing, with_owing, owing, Footing, footing, Stored, KeepsStored}
 use Rattle.executor_model.proofs.KeepingActs.{stored-act, stored-end, stored-pending, stored-ready}
 
 abbrev pub Stores : Machine → Type 0

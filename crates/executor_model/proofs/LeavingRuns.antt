@@ -39,16 +39,17 @@ use Rattle.executor_model.specs.Steps.{Machine, stack, idle, run, start, mine, t
 use Rattle.executor_model.specs.Steps.{is_on_executor, is_drop, is_unused, is_unborrowed, accepts, begun}
 use Rattle.executor_model.specs.Steps.{react, used_up, with_future, future_of, kept, waker_of, poll_run, drop_run}
 use Rattle.executor_model.specs.Rows.{borrowing_of, waiting_of, polls_of, ending_of, ready_of, settling_of, giving_of}
-use Rattle.executor_model.specs.Rows.{drops_of, releases_of, copies_of, ousting_of, past_of, leaves_of}
+use Rattle.executor_model.specs.Rows.{drops_of, releases_of, copies_of, ousting_of, past_of}
 use Rattle.executor_model.proofs.Cases.{by_bool}
 use Rattle.executor_model.proofs.Lists.{weigh_all-push}
 use Rattle.executor_model.proofs.Lift.{split, split-pend, push-pend, unsettled, good-start, none_refused}
 use Rattle.executor_model.proofs.Lift.{open_executor, unborrowed, unused, weigh_all-idle, set-own}
+use Rattle.executor_model.proofs.Views.{none}
 use Rattle.executor_model.proofs.Ways.{Way, along}
 use Rattle.executor_model.proofs.Ways.Way.{acted, reacted, called}
 use Rattle.executor_model.proofs.Stories.{story, story-none, story-push, among_is, no-longer}
 use Rattle.executor_model.proofs.Telling.{same-standing}
-use Rattle.executor_model.proofs.Leaving.{closing_of, waking_of, Extra, with_extra, extra}
+use Rattle.executor_model.proofs.Extras.{Extra, closing_of, no_extra, with_extra, extra, extra-none, extra-by}
 use Rattle.executor_model.proofs.Leaving.{Base, based, Leaves, KeepsLeaves}
 use Rattle.executor_model.proofs.LeavingActs.{NeedsPlaces, leaves-act, leaves-pending, leaves-ready}
 use Rattle.executor_model.proofs.Borrowing.{uses_of, bare_all, Tidy, bare-moved, none-uses, drop-uses-all}
@@ -60,19 +61,12 @@ pub record Placed (s : Machine) : Type 0 where
 
 split-extra : (g : ℕ) (ss : List (List Op)) (p : ℕ) (old rest : List Op) → p < length ss →
     get_or ss p [] ≡ rest ++ reverse old → extra g ss ≡ with_extra g old (extra g (set ss p rest))
-split-extra g ss p old rest h e = λ i. record {
-  leaves = split (leaves_of g) ss p old rest h e i;
-  closing = split closing_of ss p old rest h e i;
-  waking = split waking_of ss p old rest h e i;
-}
+split-extra g ss p old rest h e = extra-by g ss (set ss p rest) old (λ v. split v ss p old rest h e)
 
 push-extra : (g : ℕ) (ss : List (List Op)) (p : ℕ) (rest next : List Op) → p < length ss →
     extra g (set ss p (rest ++ reverse next)) ≡ with_extra g next (extra g (set ss p rest))
-push-extra g ss p rest next h = λ i. record {
-  leaves = weigh_all-push (leaves_of g) ss p rest next h i;
-  closing = weigh_all-push closing_of ss p rest next h i;
-  waking = weigh_all-push waking_of ss p rest next h i;
-}
+push-extra g ss p rest next h =
+    extra-by g (set ss p (rest ++ reverse next)) (set ss p rest) next (λ v. weigh_all-push v ss p rest next h)
 
 -- it keeps what holds of g, beside what the others have to do here
 abbrev pub KeepsHere : World → List Op → Done → List (List Op) → Type 0
@@ -254,6 +248,16 @@ begins-list : (w : World) (p : ℕ) (c : Call) (os : List Op) → ((g : ℕ) (r 
 begins-list w p c os a b g r yy bb h = subst (λ (x : Pend × Extra). Leaves (log w (event.CallBegun p c)) g x.0 x.1)
     (λ i. (sym (a g r) i, sym (b g yy) i)) (begins-nothing w p c g r yy bb h)
 
+begins-detach : (w : World) (p f : ℕ) →
+    KeepsLeaves w [] (done (log w (event.CallBegun p (call.Detach f)))
+    (op.Move move.Detach f ∷ op.End reply.Done (hold.Handle f) ∷ []))
+begins-detach w p f g r yy bb h = grind (arith, story-push)
+
+begins-drop_handle : (w : World) (p f : ℕ) →
+    KeepsLeaves w [] (done (log w (event.CallBegun p (call.DropHandle f)))
+    (op.Move move.Cancel f ∷ op.Move move.Detach f ∷ op.End reply.Done (hold.Handle f) ∷ []))
+begins-drop_handle w p f g r yy bb h = grind (arith, story-push)
+
 -- the drop of the executor, where no call uses it
 begins-drop : (w : World) (p : ℕ) (c : Call) (g : ℕ) (r : Pend) (y : Extra) → w.gone ≡ false → r.drops + y.leaves ≡ 0 →
     Base w g (with_ops g [] r) → Leaves w g (with_ops g [] r) (with_extra g [] y) →
@@ -296,13 +300,8 @@ begins s w p ss others o here (call.PollHandle f b) q z on un g =
 begins s w p ss others o here (call.Cancel f) q z on un g =
     begins-list w p (call.Cancel f) (op.Move move.Cancel f ∷ op.End reply.Done (hold.Handle f) ∷ []) (λ g r. refl)
     (λ g r. refl) g _ _
-begins s w p ss others o here (call.Detach f) q z on un g =
-    begins-list w p (call.Detach f) (op.Move move.Detach f ∷ op.End reply.Done (hold.Handle f) ∷ []) (λ g r. refl)
-    (λ g r. refl) g _ _
-begins s w p ss others o here (call.DropHandle f) q z on un g =
-    begins-list w p (call.DropHandle f)
-    (op.Move move.Cancel f ∷ op.Move move.Detach f ∷ op.End reply.Done (hold.Handle f) ∷ []) (λ g r. refl)
-    (λ g r. refl) g _ _
+begins s w p ss others o here (call.Detach f) q z on un g = begins-detach w p f g _ _
+begins s w p ss others o here (call.DropHandle f) q z on un g = begins-drop_handle w p f g _ _
 begins s w p ss others o here call.NewTick q z on un g = begins-make w p g _ _
 begins s w p ss others o here (call.PollTick t b) q z on un g =
     begins-search w p (call.PollTick t b) t
@@ -376,7 +375,7 @@ bare-idle (suc n) = omega (arith, bare-idle n)
 pub placed-start : (limit n : ℕ) → Placed (start limit n)
 placed-start limit n = record {
   leaves = λ g. subst (λ (x : Pend × Extra). Leaves (start limit n).world g x.0 x.1)
-      (sym (let q : (pend g (idle n), extra g (idle n)) ≡ (nothing_pending, nothing_more) = λ i. (
+      (sym (let q : (pend g (idle n), extra g (idle n)) ≡ (none, no_extra) = λ i. (
         record {
           waiting = weigh_all-idle (waiting_of g) n i;
           polls = weigh_all-idle (polls_of g) n i;
@@ -391,36 +390,12 @@ placed-start limit n = record {
           borrowing = weigh_all-idle borrowing_of n i;
           ousting = weigh_all-idle ousting_of n i;
         },
-        record {
-          leaves = weigh_all-idle (leaves_of g) n i;
-          closing = weigh_all-idle closing_of n i;
-          waking = weigh_all-idle waking_of n i;
-        },
+        extra-none g (idle n) (λ v. weigh_all-idle v n) i,
       ) in q)) (none_placed limit g);
   bare = bare-idle n;
 }
   where
-    nothing_pending : Pend
-    nothing_pending =
-        record {
-          waiting = 0;
-          polls = 0;
-          ending = 0;
-          ready = 0;
-          closing = 0;
-          settling = 0;
-          giving = 0;
-          drops = 0;
-          releases = 0;
-          copies = 0;
-          borrowing = 0;
-          ousting = 0;
-        }
-
-    nothing_more : Extra
-    nothing_more = record { leaves = 0; closing = 0; waking = 0 }
-
-    none_placed : (limit g : ℕ) → Leaves (start limit 0).world g nothing_pending nothing_more
+    none_placed : (limit g : ℕ) → Leaves (start limit 0).world g none no_extra
     none_placed limit g = grind (arith, story-none)
 
 pub placed : (limit n : ℕ) (ts : List Step) → Placed (run ts (start limit n))

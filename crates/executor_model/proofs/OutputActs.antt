@@ -35,7 +35,9 @@ use Rattle.executor_model.proofs.Cases.{by_bool}
 use Rattle.executor_model.proofs.Lists.{same_is, read_put, weigh-append}
 use Rattle.executor_model.proofs.Counting.{readied, detached}
 use Rattle.executor_model.proofs.CountingHandles.{gives}
-use Rattle.executor_model.proofs.Outputs.{output_of, outputs-push, outs_of, Given, KeepsOutput, Calm, Stays, Tame}
+use Rattle.executor_model.proofs.Tallies.{output_of, outputs-push}
+use Rattle.executor_model.proofs.Extras.{outs_of}
+use Rattle.executor_model.proofs.Outputs.{Given, KeepsOutput, Calm, Stays, Tame}
 use Rattle.executor_model.proofs.Outputs.{keeps-calm, calm-same, calm-and, calm-log, calm-put, push-stays, none-both}
 use Rattle.executor_model.proofs.Outputs.{keeps-carried, tame-wake, tame-more, tame-detach}
 

@@ -27,7 +27,9 @@ use Rattle.executor_model.specs.Weights.{weigh, past}
 use Rattle.executor_model.specs.Rows.{past_of}
 use Rattle.executor_model.specs.Steps.{used_up, with_future, future_of, kept, accepts, begun, react}
 use Rattle.executor_model.proofs.Lists.{past_is}
-use Rattle.executor_model.proofs.Outputs.{output_of, outs_of, KeepsOutput, keeps-calm, calm-same, calm-log}
+use Rattle.executor_model.proofs.Tallies.{output_of}
+use Rattle.executor_model.proofs.Extras.{outs_of}
+use Rattle.executor_model.proofs.Outputs.{KeepsOutput, keeps-calm, calm-same, calm-log}
 use Rattle.executor_model.proofs.Outputs.{keeps-carried, tame-wake, tame-release, tame-take_up}
 use Rattle.executor_model.proofs.Outputs.{tame-give_up, tame-end_pending, tame-cancel}
 use Rattle.executor_model.proofs.OutputActs.{keeps-after, keeps-log, keeps-logged, keeps-same, none-closing, out-again}

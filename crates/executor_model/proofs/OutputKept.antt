@@ -34,7 +34,9 @@ use Rattle.executor_model.specs.Steps.{Machine, stack, top, step, step_by, stepp
 use Rattle.executor_model.specs.Steps.{go_refusal, onto, part_after, with_part, run, start}
 use Rattle.executor_model.proofs.Telling.{counted-there, there-or-none}
 use Rattle.executor_model.proofs.Resting.{Deep, deep, rests, all-rest}
-use Rattle.executor_model.proofs.Keeping.{readies, spent, telling_of, taking_of, storing_of, owing}
+use Rattle.executor_model.proofs.Tallies.{readies, spent}
+use Rattle.executor_model.proofs.Extras.{telling_of, taking_of, storing_of}
+use Rattle.executor_model.proofs.Keeping.{owing}
 use Rattle.executor_model.proofs.KeepingRuns.{Stores, stores}
 
 -- what the trace says, counted

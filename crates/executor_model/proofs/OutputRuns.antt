@@ -20,7 +20,9 @@ use Rattle.executor_model.proofs.Lists.{weigh_all-push, same_is}
 use Rattle.executor_model.proofs.Lift.{split, unsettled, good-start}
 use Rattle.executor_model.proofs.Ways.{Way, along}
 use Rattle.executor_model.proofs.Ways.Way.{acted, reacted, called}
-use Rattle.executor_model.proofs.Outputs.{outputs, outputs-none, outs_of, Given, KeepsOutput}
+use Rattle.executor_model.proofs.Tallies.{outputs, outputs-none}
+use Rattle.executor_model.proofs.Extras.{outs_of}
+use Rattle.executor_model.proofs.Outputs.{Given, KeepsOutput}
 use Rattle.executor_model.proofs.OutputGroups.{NeedsUnready, out-act, out-react, out-begun}
 
 abbrev pub Gives : Machine → Type 0

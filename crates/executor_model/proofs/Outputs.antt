@@ -1,8 +1,7 @@
 -- An output is given or dropped at most once: each thing that is done keeps it.
 use Rattle.std.proofs.Common.{◌≡◌, ℕ, zero, suc, ◌+◌, ◌≤◌, List, [], ◌∷◌, ◌++◌, set, get_or}
-use Rattle.std.proofs.Common.{Bool, true, false, cond, refl, sym, ap, ◌∙◌, subst, arith}
-use Rattle.std.proofs.lemmas.List.Sums.{sum_by_push}
-use Rattle.std.specs.Prelude.{Option, Some, None, count_by}
+use Rattle.std.proofs.Common.{Bool, true, false, refl, sym, ap, ◌∙◌, subst, arith}
+use Rattle.std.specs.Prelude.{Option, Some, None}
 use Rattle.task_moves.specs.declared.schedule_info.ScheduleInfo.{ScheduleInfo}
 use Rattle.task_moves.specs.declared.moves.state.State.{State}
 use Rattle.task_moves.specs.declared.moves.owed.Move.{Move}
@@ -17,49 +16,13 @@ use Rattle.task_moves.specs.declared.moves.owed.Moved.{Moved}
 use Rattle.task_moves.specs.Moves as moves
 use Rattle.task_moves.specs.Moves.{moved}
 use Rattle.executor_model.specs.declared.event.Event.{Event}
-use Rattle.executor_model.specs.declared.event.Event.TheVariants.{OutputGiven, OutputDropped}
 use Rattle.executor_model.specs.declared.op.Op.{Op}
-use Rattle.executor_model.specs.declared.op.Op.TheVariants as op
-use Rattle.executor_model.specs.declared.op.UserOp.TheVariants as user_op
-use Rattle.executor_model.specs.Trace.{Trace, is_output_dropped}
-use Rattle.executor_model.specs.OutputOnce.{is_output_given}
 use Rattle.executor_model.specs.World.{World, Done, log, log_if, task, put, blank}
 use Rattle.executor_model.specs.Carried.{carried, owed_ops, schedule_ops, future_ops, output_ops, awaiter_ops, next_ops}
-use Rattle.executor_model.specs.Weights.{same, weigh}
+use Rattle.executor_model.specs.Weights.{weigh}
 use Rattle.executor_model.proofs.Lists.{weigh-append}
-
--- what an event adds to the outputs of g that were given or dropped
-abbrev pub output_of : ℕ → Event → ℕ
-output_of g (OutputGiven p f) = same g f
-output_of g (OutputDropped p f) = same g f
-output_of g _ = 0
-
-unfoldable pub outputs : ℕ → Trace → ℕ
-outputs g es = count_by (is_output_given g) es + count_by (is_output_dropped g) es
-
-one-output : (g : ℕ) (e : Event) → cond (is_output_given g e) 1 0 + cond (is_output_dropped g e) 1 0 ≡ output_of g e
-unfolding same
-one-output g (OutputGiven p f) = omega arith
-one-output g (OutputDropped p f) = omega arith
-one-output g _ = refl
-
-pub outputs-push : (g : ℕ) (es : Trace) (e : Event) → outputs g (es ++ e ∷ []) ≡ outputs g es + output_of g e
-unfolding outputs
-outputs-push g es e = omega (
-  arith,
-  sum_by_push (λ (x : Event). cond (is_output_given g x) 1 0) es e,
-  sum_by_push (λ (x : Event). cond (is_output_dropped g x) 1 0) es e,
-  one-output g e,
-)
-
-pub outputs-none : (g : ℕ) → outputs g [] ≡ 0
-unfolding outputs
-outputs-none g = refl
-
--- outputs of g that are to be dropped
-abbrev pub outs_of : ℕ → Op → ℕ
-outs_of g (op.User (user_op.BeginDropOutput f)) = same g f
-outs_of g _ = 0
+use Rattle.executor_model.proofs.Tallies.{outputs, outputs-push, output_of}
+use Rattle.executor_model.proofs.Extras.{outs_of}
 
 pub record Given (w : World) (g : ℕ) (owed : ℕ) : Type 0 where
   pub once : outputs g w.trace + owed ≤ 1

@@ -1,47 +1,16 @@
 -- What a run does keeps what holds of each future.
 use Rattle.std.proofs.Common.{◌≡◌, ℕ, ◌+◌, ◌-◌, ◌<◌, List, [], ◌∷◌, ◌++◌, length, Bool, true, false, ltb, cond}
-use Rattle.std.proofs.Common.{refl, sym, subst, ap, arith}
+use Rattle.std.proofs.Common.{refl, ap, arith}
 use Rattle.std.proofs.lemmas.Bool.Decides.{nat_tests}
-use Rattle.task_moves.specs.Moves as moves
-use Rattle.task_moves.specs.declared.moves.owed.Move.TheVariants as move
-use Rattle.executor_model.specs.declared.call.Reply.TheVariants as reply
-use Rattle.executor_model.specs.declared.event.Event.TheVariants as event
-use Rattle.executor_model.specs.declared.op.Hold.TheVariants as hold
 use Rattle.executor_model.specs.declared.op.Op.{Op}
-use Rattle.executor_model.specs.declared.op.Op.TheVariants as op
-use Rattle.executor_model.specs.declared.op.Polled.TheVariants as of
-use Rattle.executor_model.specs.declared.op.RunOp.TheVariants as run_op
-use Rattle.executor_model.specs.declared.op.RunPoll.{RunPoll}
-use Rattle.executor_model.specs.declared.op.Sleeper.{Sleeper}
-use Rattle.executor_model.specs.declared.op.Sleeper.TheVariants as sleeper
-use Rattle.executor_model.specs.declared.op.Sleeping.{Sleeping}
-use Rattle.executor_model.specs.declared.op.Steal.{Steal}
-use Rattle.executor_model.specs.declared.op.StealOp.{StealOp}
-use Rattle.executor_model.specs.declared.op.StealOp.TheVariants as steal_op
-use Rattle.executor_model.specs.declared.op.TickOp.TheVariants as tick_op
-use Rattle.executor_model.specs.declared.op.Waker.{Waker}
-use Rattle.executor_model.specs.declared.op.Waker.TheVariants.{Task, Outside}
-use Rattle.executor_model.specs.World.{World, Done, done, log, task, own_of}
-use Rattle.executor_model.specs.ActsOfRuns.{call_by_reference, free_places, kept_by, steal_put_by, wake_own}
-use Rattle.executor_model.specs.Doing.{list_act, run_act, search_by_who, steal_act}
-use Rattle.executor_model.specs.declared.op.ListOp.{ListOp}
-use Rattle.executor_model.specs.declared.op.RunOp.{RunOp}
-use Rattle.executor_model.specs.declared.step.Hint.{Hint}
+use Rattle.executor_model.specs.World.{World, own_of}
+use Rattle.executor_model.specs.ActsOfRuns.{free_places}
 use Rattle.executor_model.specs.Rows.{Row, polls_of, ending_of, ready_of, closing_of, settling_of}
 use Rattle.executor_model.specs.Rows.{giving_of, drops_of, releases_of, copies_of, ousting_of, borrowing_of, waiting_of}
-use Rattle.executor_model.specs.Sound.{Pend, Sound, with_ops}
+use Rattle.executor_model.specs.Sound.{Pend, with_ops}
 use Rattle.executor_model.specs.Weights.{weigh}
-use Rattle.executor_model.proofs.Counting.{Keeps}
-use Rattle.executor_model.proofs.RunsMoves.{Moves, Same, moves-common, moves-length, moves-list, moves-look}
-use Rattle.executor_model.proofs.RunsMoves.{moves-make_room, moves-own, moves-own_length, moves-put_back}
-use Rattle.executor_model.proofs.RunsMoves.{moves-reschedule, moves-return_room, moves-take, times_in-set}
-use Rattle.executor_model.proofs.RunsPlain.{IsPlain, AllPlain, plain-after-call, plain-after-common}
-use Rattle.executor_model.proofs.RunsPlain.{plain-after-list, plain-after-look, plain-after-reschedule}
-use Rattle.executor_model.proofs.RunsPlain.{plain-after-room, plain-after-search, plain-after-steal, plain-list}
-use Rattle.executor_model.specs.declared.op.QueueOp.TheVariants as queue_op
-use Rattle.executor_model.proofs.RunsNext.{stolen-blind}
-use Rattle.executor_model.proofs.RunsPlain.{blind-plain}
-use Rattle.executor_model.proofs.Lists.{phase-push, times-append, weigh-append}
+use Rattle.executor_model.proofs.RunsPlain.{IsPlain, AllPlain}
+use Rattle.executor_model.proofs.Lists.{weigh-append}
 
 -- these count for a Runnable in hand and a use of the executor alone
 pub record Bare (g : ℕ) (os : List Op) : Type 0 where

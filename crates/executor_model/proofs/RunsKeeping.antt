@@ -27,9 +27,9 @@ use Rattle.executor_model.specs.Weights.{weigh}
 use Rattle.executor_model.specs.World.{World, Done, log, task}
 use Rattle.executor_model.specs.ActsOfRuns.{call_by_reference, kept_by, wake_own}
 use Rattle.executor_model.specs.Doing.{list_act, run_act, search_by_who, steal_act}
-use Rattle.executor_model.proofs.Keeping.{detaches_of, telling_of, taking_of, storing_of, KeepsStored, Footing, Owing}
-use Rattle.executor_model.proofs.Keeping.{Stored}
-use Rattle.executor_model.proofs.Keeping.{readies-push, spent-push, with_owing}
+use Rattle.executor_model.proofs.Tallies.{readies-push, spent-push}
+use Rattle.executor_model.proofs.Extras.{detaches_of, telling_of, taking_of, storing_of}
+use Rattle.executor_model.proofs.Keeping.{KeepsStored, Footing, Owing, Stored, with_owing}
 use Rattle.executor_model.proofs.Lists.{weigh-append}
 use Rattle.executor_model.proofs.RunsMoves.{Moves, Same}
 use Rattle.executor_model.proofs.RunsPlain.{AllPlain}

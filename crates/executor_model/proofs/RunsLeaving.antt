@@ -42,7 +42,8 @@ use Rattle.executor_model.proofs.RunsMoves.{Moves, Same, moves-common, moves-len
 use Rattle.executor_model.proofs.RunsMoves.{moves-make_room, moves-own, moves-own_length, moves-put_back}
 use Rattle.executor_model.proofs.RunsMoves.{moves-reschedule, moves-return_room, moves-take, times_in-set}
 use Rattle.executor_model.proofs.RunsCounting.{Bare, bare, known-run}
-use Rattle.executor_model.proofs.Leaving.{Base, KeepsLeaves, closing_of, waking_of}
+use Rattle.executor_model.proofs.Leaving.{Base, KeepsLeaves}
+use Rattle.executor_model.proofs.Extras.{closing_of, waking_of}
 use Rattle.executor_model.proofs.SleepersLeaving.{leaves-search}
 use Rattle.executor_model.proofs.Stories.{story-push}
 

@@ -19,7 +19,8 @@ use Rattle.executor_model.specs.declared.step.Hint.{Hint}
 use Rattle.executor_model.specs.World.{World, Done, log, put_own, own_of, task}
 use Rattle.executor_model.specs.ActsOfRuns.{call_by_reference, kept_by, search_own, wake_own}
 use Rattle.executor_model.specs.Doing.{list_act, run_act, steal_act}
-use Rattle.executor_model.proofs.Outputs.{outs_of, KeepsOutput, Calm, calm-and, calm-log, calm-same, keeps-calm}
+use Rattle.executor_model.proofs.Extras.{outs_of}
+use Rattle.executor_model.proofs.Outputs.{KeepsOutput, Calm, calm-and, calm-log, calm-same, keeps-calm}
 use Rattle.executor_model.proofs.Outputs.{tame-wake}
 use Rattle.executor_model.proofs.OutputActs.{keeps-after, keeps-followed, keeps-logged, keeps-same}
 use Rattle.executor_model.proofs.RunsMoves.{Moves}

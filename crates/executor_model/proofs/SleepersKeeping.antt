@@ -22,7 +22,8 @@ use Rattle.executor_model.proofs.Counting.{woken, woken_by}
 use Rattle.executor_model.proofs.Lists.{read_put, same_is}
 use Rattle.executor_model.proofs.SleepersCases.{by_going, LiesDown, lies-down, GetsUp, gets-up, Leaves, leaves}
 use Rattle.executor_model.proofs.SleepersCounting.{asleep}
-use Rattle.executor_model.proofs.Keeping.{KeepsStored, readies-push, spent-push}
+use Rattle.executor_model.proofs.Tallies.{readies-push, spent-push}
+use Rattle.executor_model.proofs.Keeping.{KeepsStored}
 
 -- telling
 

@@ -21,7 +21,8 @@ use Rattle.executor_model.specs.ActsOfSleepers.{exchange_by, hand_out_by, make_t
 use Rattle.executor_model.specs.ActsOfSleepers.{copy_sleeper_by, lie_anew_by, lie_listed_by, lie_again_by, lie_down_by}
 use Rattle.executor_model.specs.ActsOfSleepers.{get_up_by, leave_sleepers_by}
 use Rattle.executor_model.specs.Doing.{search_by_who, sleeper_act, tick_act}
-use Rattle.executor_model.proofs.Outputs.{outs_of, KeepsOutput, Calm, calm-same, calm-put, calm-log, keeps-calm}
+use Rattle.executor_model.proofs.Extras.{outs_of}
+use Rattle.executor_model.proofs.Outputs.{KeepsOutput, Calm, calm-same, calm-put, calm-log, keeps-calm}
 use Rattle.executor_model.proofs.OutputActs.{keeps-after, keeps-log, out-wake}
 use Rattle.executor_model.proofs.RunsOutputs.{out-search_run, unseen-outs}
 use Rattle.executor_model.proofs.RunsNext.{tick-blind}

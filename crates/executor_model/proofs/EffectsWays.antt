@@ -1,0 +1,145 @@
+-- Each way in which a party goes on has one effect on each future; and what such an effect keeps of the view of each future
+-- (proofs/Views), each step of the machine keeps.
+use Rattle.std.proofs.Common.{◌≡◌, ℕ, ◌+◌, ◌<◌, List, [], ◌∷◌, ◌++◌, length, set, false, true, ◌&&◌, ◌||◌, not}
+use Rattle.std.proofs.Common.{refl, sym, subst, arith}
+use Rattle.std.specs.Prelude.{Option, reverse}
+use Rattle.task_moves.specs.declared.moves.owed.Move.TheVariants as move
+use Rattle.executor_model.specs.declared.call.Call.{Call}
+use Rattle.executor_model.specs.declared.call.Call.TheVariants as call
+use Rattle.executor_model.specs.declared.call.Reply.{Reply}
+use Rattle.executor_model.specs.declared.call.Reply.TheVariants as reply
+use Rattle.executor_model.specs.declared.event.Answer.TheVariants as answer
+use Rattle.executor_model.specs.declared.event.Event.TheVariants as event
+use Rattle.executor_model.specs.declared.op.ClosingOp.TheVariants as closing_op
+use Rattle.executor_model.specs.declared.op.Hold.{Hold}
+use Rattle.executor_model.specs.declared.op.Hold.TheVariants as hold
+use Rattle.executor_model.specs.declared.op.Op.{Op}
+use Rattle.executor_model.specs.declared.op.Op.TheVariants as op
+use Rattle.executor_model.specs.declared.op.TableOp.TheVariants as table_op
+use Rattle.executor_model.specs.declared.op.UserOp.TheVariants as user_op
+use Rattle.executor_model.specs.declared.op.Waker.{Waker}
+use Rattle.executor_model.specs.declared.step.UserEnd.{UserEnd}
+use Rattle.executor_model.specs.declared.step.UserEnd.TheVariants as end
+use Rattle.executor_model.specs.World.{World, Done, done, log}
+use Rattle.executor_model.specs.Sound.{Pend, pend, with_ops}
+use Rattle.executor_model.specs.Good.{Good}
+use Rattle.executor_model.specs.Rows.{past_of, borrowing_of, waiting_of, polls_of, ending_of, ready_of, closing_of}
+use Rattle.executor_model.specs.Rows.{settling_of, giving_of, drops_of, releases_of, copies_of, ousting_of}
+use Rattle.executor_model.specs.Steps.{Machine, stack, mine, top, accepts, begun, react, has_all, is_drop, is_free}
+use Rattle.executor_model.specs.Steps.{idle, is_on_executor, is_unborrowed, start}
+use Rattle.executor_model.specs.Weights.{weigh}
+use Rattle.executor_model.proofs.Lists.{weigh_all-push}
+use Rattle.executor_model.proofs.Lift.{split, split-pend, push-pend, unsettled, none_refused, open_executor, weigh_all-idle}
+use Rattle.executor_model.proofs.Ways.{Way}
+use Rattle.executor_model.proofs.Ways.Way.{acted, reacted, called}
+use Rattle.executor_model.proofs.Extras.{Extra, extra, extra-by, extra-none, no_extra, with_extra}
+use Rattle.executor_model.proofs.Views.{Seen, seen, none}
+use Rattle.executor_model.proofs.Effects.{Effect, effect-act}
+use Rattle.executor_model.proofs.Effects.Effect.{passes}
+use Rattle.executor_model.proofs.EffectsCalls.{by_call, goes-begun}
+
+pub data Effects (w : World) : List Op → Done → Type 0 where
+  does : {old : List Op} {d : Done} → Effect w old d → Effects w old d
+  -- the future that is polled answers that it is pending, or ready
+  pends : (p f : ℕ) → Effects w (op.User (user_op.Poll f) ∷ [])
+      (done (log w (event.Answered p f answer.Pending)) (op.Table (table_op.PutBack f) ∷ []))
+  readies : (p f : ℕ) → Effects w (op.User (user_op.Poll f) ∷ [])
+      (done (log w (event.Answered p f answer.Ready)) (op.User (user_op.BeginDrop f) ∷ op.Move move.EndReady f ∷ []))
+  -- the drop of the executor begins
+  closes : (p : ℕ) → w.gone ≡ false → Effects w []
+      (done (log (record (log w (event.CallBegun p call.DropExecutor)) { gone = true }) (event.DropBegun p))
+      (op.Closing closing_op.TakeOut ∷ op.End reply.Done hold.Nothing ∷ []))
+
+effect-react : (p : ℕ) (o : Op) (u : UserEnd) (w : World) → accepts o u ≡ true → Effects w (o ∷ []) (react p o u w)
+effect-react p (op.User (user_op.Poll f)) (end.Polled answer.Pending) w a = pends p f
+effect-react p (op.User (user_op.Poll f)) (end.Polled answer.Ready) w a = readies p f
+effect-react p (op.User (user_op.Drop f)) end.Done w a = does (passes (λ g r y. grind arith))
+effect-react p (op.User (user_op.DropOutput f)) end.Done w a = does (passes (λ g r y. grind arith))
+effect-react p (op.User (user_op.CallOutside x)) end.Done w a = does (passes (λ g r y. grind arith))
+effect-react p (op.User (user_op.PollOwn x)) (end.Polled answer.Pending) w a = does (passes (λ g r y. grind arith))
+effect-react p (op.User (user_op.PollOwn x)) (end.Polled answer.Ready) w a = does (passes (λ g r y. grind arith))
+effect-react p (op.User (user_op.DropOwn r)) end.Done w a = does (passes (λ g r y. grind arith))
+effect-react p _ _ w a = absurd (cc)
+
+effect-begun : (p : ℕ) (w : World) (here : Option Waker) (c : Call) → not (w.gone && is_on_executor c) ≡ true →
+    Effects w [] (begun p (log w (event.CallBegun p c)) here c)
+effect-begun p w here = by_call _
+    (λ on. closes p (open_executor w call.DropExecutor refl on))
+    (λ c d on. does (passes (goes-begun p w here c d (λ e. open_executor w c e on))))
+
+-- the futures that it speaks of are there
+op-known : (s : Machine) (p : ℕ) (o : Op) (rest : List Op) → p < length s.parties →
+    stack s p ≡ rest ++ reverse (o ∷ []) → Good s → weigh (past_of (length s.world.tasks)) (o ∷ []) ≡ 0
+op-known s p o rest l e good =
+    omega (arith, good.ops, split (past_of (length s.world.tasks)) s.parties p (o ∷ []) rest l e)
+
+pub effects-way : (s : Machine) (p : ℕ) (old rest : List Op) (d : Done) → Good s → p < length s.parties →
+    stack s p ≡ rest ++ reverse old → Way s p old rest d → Effects s.world old d
+effects-way s p old rest d good l e (acted h o q z) =
+    rw z (rw q (does (effect-act p h o s.world good.fits.awaiting good.fits.waking
+    (op-known s p o rest l (subst (λ (os : List Op). stack s p ≡ rest ++ reverse os) q e) good))))
+effects-way s p old rest d good l e (reacted o u a q z) = rw z (rw q (effect-react p o u s.world a))
+effects-way s p old rest d good l e (called c q r n z) =
+    let f : _ = none_refused (is_free (top (stack s p))) (has_all s.world s.parties (top (stack s p)) c)
+    (not (s.world.gone && is_on_executor c)) (not (is_drop c) || is_unborrowed s.world s.parties) n in
+    rw z (rw q (effect-begun p s.world (mine (top (stack s p))) c f.2))
+
+-- what is seen of a future in the machine, and where p has these to do beside what all others have
+
+abbrev pub view : Machine → ℕ → Seen
+view s g = seen s.world g (pend g s.parties) (extra g s.parties)
+
+abbrev pub view_with : List (List Op) → World → List Op → ℕ → Seen
+view_with others w os g = seen w g (with_ops g os (pend g others)) (with_extra g os (extra g others))
+
+module _ (F P : Seen → Type 0) (s : Machine) (p : ℕ) (old rest : List Op) (l : p < length s.parties)
+    (e : stack s p ≡ rest ++ reverse old) where
+  view-split : (g : ℕ) → view s g ≡ view_with (set s.parties p rest) s.world old g
+  view-split g = λ t. seen s.world g (split-pend g s.parties p old rest l e t)
+      (extra-by g s.parties (set s.parties p rest) old (λ v. split v s.parties p old rest l e) t)
+
+  view-push : (d : Done) (g : ℕ) →
+      view (unsettled s p rest d) g ≡ view_with (set s.parties p rest) d.world d.next g
+  view-push d g = λ t. seen d.world g (push-pend g s.parties p rest d.next l t)
+      (extra-by g (set s.parties p (rest ++ reverse d.next)) (set s.parties p rest) d.next
+      (λ v. weigh_all-push v s.parties p rest d.next l) t)
+
+  pub lifted : (d : Done) →
+      ((g : ℕ) → F (view_with (set s.parties p rest) s.world old g) →
+      P (view_with (set s.parties p rest) s.world old g) → P (view_with (set s.parties p rest) d.world d.next g)) →
+      ((g : ℕ) → F (view s g)) → ((g : ℕ) → P (view s g)) → (g : ℕ) → P (view (unsettled s p rest d) g)
+  lifted d k f h g = subst P (sym (view-push d g)) (k g (subst F (view-split g) (f g)) (subst P (view-split g) (h g)))
+
+-- and where a call ends, and none has begun
+
+pub ended : (P : Seen → Type 0) (s : Machine) (p : ℕ) (a : Reply) (held : Hold) (below : List Op) → p < length s.parties →
+    stack s p ≡ below ++ reverse (op.End a held ∷ []) →
+    ((g : ℕ) (r : Pend) (y : Extra) →
+    P (seen s.world g (with_ops g (op.End a held ∷ []) r) (with_extra g (op.End a held ∷ []) y)) →
+    P (seen (log s.world (event.CallEnded p a)) g (with_ops g [] r) (with_extra g [] y))) →
+    ((g : ℕ) → P (view s g)) → (g : ℕ) →
+    P (view (unsettled s p below (done (log s.world (event.CallEnded p a)) [])) g)
+ended P s p a held below l e k h =
+    lifted (λ x. Unit {0}) P s p (op.End a held ∷ []) below l e (done (log s.world (event.CallEnded p a)) [])
+    (λ g b q. k g _ _ q) (λ g. tt) h
+
+pub view-start : (P : Seen → Type 0) (limit n g : ℕ) → P (seen (start limit 0).world g none no_extra) →
+    P (view (start limit n) g)
+view-start P limit n g h = subst P
+    (sym (λ t. seen (start limit n).world g (pend-idle g n t) (extra-none g (idle n) (λ v. weigh_all-idle v n) t))) h
+  where
+    pend-idle : (g n : ℕ) → pend g (idle n) ≡ none
+    pend-idle g n = λ t. record {
+      waiting = weigh_all-idle (waiting_of g) n t;
+      polls = weigh_all-idle (polls_of g) n t;
+      ending = weigh_all-idle (ending_of g) n t;
+      ready = weigh_all-idle (ready_of g) n t;
+      closing = weigh_all-idle (closing_of g) n t;
+      settling = weigh_all-idle (settling_of g) n t;
+      giving = weigh_all-idle (giving_of g) n t;
+      drops = weigh_all-idle (drops_of g) n t;
+      releases = weigh_all-idle (releases_of g) n t;
+      copies = weigh_all-idle (copies_of g) n t;
+      borrowing = weigh_all-idle borrowing_of n t;
+      ousting = weigh_all-idle ousting_of n t;
+    }

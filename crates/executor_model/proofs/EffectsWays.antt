@@ -18,6 +18,7 @@ use Rattle.executor_model.specs.declared.op.Op.TheVariants as op
 use Rattle.executor_model.specs.declared.op.TableOp.TheVariants as table_op
 use Rattle.executor_model.specs.declared.op.UserOp.TheVariants as user_op
 use Rattle.executor_model.specs.declared.op.Waker.{Waker}
+use Rattle.executor_model.specs.declared.step.Step.{Step}
 use Rattle.executor_model.specs.declared.step.UserEnd.{UserEnd}
 use Rattle.executor_model.specs.declared.step.UserEnd.TheVariants as end
 use Rattle.executor_model.specs.World.{World, Done, done, log}
@@ -25,15 +26,17 @@ use Rattle.executor_model.specs.Sound.{Pend, pend, with_ops}
 use Rattle.executor_model.specs.Good.{Good}
 use Rattle.executor_model.specs.Rows.{past_of, borrowing_of, waiting_of, polls_of, ending_of, ready_of, closing_of}
 use Rattle.executor_model.specs.Rows.{settling_of, giving_of, drops_of, releases_of, copies_of, ousting_of}
-use Rattle.executor_model.specs.Steps.{Machine, stack, mine, top, accepts, begun, react, has_all, is_drop, is_free}
+use Rattle.executor_model.specs.Steps.{Machine, run, stack, mine, top, accepts, begun, react, has_all, is_drop, is_free}
 use Rattle.executor_model.specs.Steps.{idle, is_on_executor, is_unborrowed, start}
 use Rattle.executor_model.specs.Weights.{weigh}
 use Rattle.executor_model.proofs.Lists.{weigh_all-push}
-use Rattle.executor_model.proofs.Lift.{split, split-pend, push-pend, unsettled, none_refused, open_executor, weigh_all-idle}
-use Rattle.executor_model.proofs.Ways.{Way}
+use Rattle.executor_model.proofs.Lift.{split, split-pend, push-pend, unsettled, none_refused, open_executor, weigh_all-idle, good-start}
+use Rattle.executor_model.proofs.Ways.{Way, along}
 use Rattle.executor_model.proofs.Ways.Way.{acted, reacted, called}
 use Rattle.executor_model.proofs.Extras.{Extra, extra, extra-by, extra-none, no_extra, with_extra}
 use Rattle.executor_model.proofs.Views.{Seen, seen, none}
+use Rattle.executor_model.proofs.SoundAll.{sure-of}
+use Rattle.executor_model.proofs.SoundViews.{Sure}
 use Rattle.executor_model.proofs.Effects.{Effect, effect-act}
 use Rattle.executor_model.proofs.Effects.Effect.{passes}
 use Rattle.executor_model.proofs.EffectsCalls.{by_call, goes-begun}
@@ -143,3 +146,25 @@ view-start P limit n g h = subst P
       borrowing = weigh_all-idle borrowing_of n t;
       ousting = weigh_all-idle ousting_of n t;
     }
+
+-- What holds of each future at the start, and what each of these effects and the end of a call keep, holds in each run.
+module _ (P : Seen → Type 0)
+    (act : (w : World) (old : List Op) (d : Done) → Effects w old d → (g : ℕ) (r : Pend) (y : Extra) →
+    Sure (seen w g (with_ops g old r) (with_extra g old y)) → P (seen w g (with_ops g old r) (with_extra g old y)) →
+    P (seen d.world g (with_ops g d.next r) (with_extra g d.next y)))
+    (end_kept : (w : World) (p : ℕ) (a : Reply) (held : Hold) (g : ℕ) (r : Pend) (y : Extra) →
+    P (seen w g (with_ops g (op.End a held ∷ []) r) (with_extra g (op.End a held ∷ []) y)) →
+    P (seen (log w (event.CallEnded p a)) g (with_ops g [] r) (with_extra g [] y)))
+    (first : (limit g : ℕ) → P (seen (start limit 0).world g none no_extra)) where
+  moves-kept : (s : Machine) (p : ℕ) (old rest : List Op) (d : Done) → Good s → p < length s.parties →
+      stack s p ≡ rest ++ reverse old → Way s p old rest d → ((g : ℕ) → P (view s g)) → (g : ℕ) →
+      P (view (unsettled s p rest d) g)
+  moves-kept s p old rest d good l e way h =
+      lifted Sure P s p old rest l e d
+      (λ g b k. act s.world old d (effects-way s p old rest d good l e way) g _ _ b k)
+      (λ g. sure-of s.world g (pend g s.parties) (extra g s.parties) (good.sound g)) h
+
+  pub each-run : (limit n : ℕ) (ts : List Step) (g : ℕ) → P (view (run ts (start limit n)) g)
+  each-run limit n ts = along (λ (s : Machine). (g : ℕ) → P (view s g)) moves-kept
+      (λ s p a held below l e h. ended P s p a held below l e (end_kept s.world p a held) h) ts (start limit n)
+      (good-start limit n) (λ g. view-start P limit n g (first limit g))

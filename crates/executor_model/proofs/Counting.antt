@@ -1,4 +1,4 @@
--- What the queue, the table and the moves of a task keep of each future.
+-- What the counts of each future (specs/Sound) are kept by; and what a move of a task leads to, by what it finds there.
 use Rattle.std.proofs.Common.{ℕ, ◌+◌, ◌^◌, ◌<◌, List, length, Bool, true, false, not}
 use Rattle.std.specs.Prelude.{Some}
 use Rattle.task_moves.specs.declared.moves.owed.Move.TheVariants as move

@@ -1,4 +1,5 @@
--- What wakers, polls of a handle, the drop of the executor and user code keep of each future.
+-- The counts of each future (specs/Sound) where user code answers; and what polls of a handle and the wakes of the
+-- executor's drop lead to, by what they find.
 use Rattle.std.proofs.Common.{◌≡◌, ℕ, ◌+◌, ◌^◌, ◌<◌, List, [], ◌∷◌, ◌++◌, length, Bool, true, false, not}
 use Rattle.std.proofs.Common.{sym, ap, ◌∙◌, ◌≤◌, arith}
 use Rattle.std.proofs.lemmas.Bool.Decides.{nat_tests}

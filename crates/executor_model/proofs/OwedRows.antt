@@ -15,7 +15,7 @@ use Rattle.executor_model.specs.Carried.{schedule_ops, drop_ops, future_ops, out
 use Rattle.executor_model.specs.Weights.{same, weigh}
 use Rattle.executor_model.specs.Rows.{borrowing_of, waiting_of, polls_of, ending_of, ready_of, closing_of, settling_of}
 use Rattle.executor_model.specs.Rows.{giving_of, drops_of, releases_of, copies_of, ousting_of}
-use Rattle.executor_model.specs.Sound.{Pend, with_ops}
+use Rattle.executor_model.specs.Sound.{Pend}
 use Rattle.executor_model.proofs.Lists.{weigh-append}
 use Rattle.executor_model.proofs.Extras.{Extra, no_extra, plus_extra, extras, extras-append}
 use Rattle.executor_model.proofs.Views.{none, plus, hand, of_schedule, of_drop, of_future, of_next, of_owed}
@@ -173,22 +173,3 @@ module _ (g f k : ℕ) (e : same g f ≡ k) where
       plus_extra (plus_extra no_extra (of_output k o.drop_output)) (of_awaiter k o.awaiter) =
       extras-append g (s ++ u ++ v) y ∙ extras-both e2 (extras-awaiter o.awaiter) in
       extras-append g (s ++ u ++ v ++ y) (next_ops f o.next) ∙ extras-both e3 (extras-next o.next)
-
-assoc : (v : Op → ℕ) (xs ys : List Op) (n : ℕ) → weigh v (xs ++ ys) + n ≡ weigh v xs + (weigh v ys + n)
-assoc v xs ys n = omega (arith, weigh-append v xs ys)
-
-pub with_ops-append : (g : ℕ) (xs ys : List Op) (r : Pend) → with_ops g (xs ++ ys) r ≡ with_ops g xs (with_ops g ys r)
-with_ops-append g xs ys r = λ t. record {
-  waiting = assoc (waiting_of g) xs ys r.waiting t;
-  polls = assoc (polls_of g) xs ys r.polls t;
-  ending = assoc (ending_of g) xs ys r.ending t;
-  ready = assoc (ready_of g) xs ys r.ready t;
-  closing = assoc (closing_of g) xs ys r.closing t;
-  settling = assoc (settling_of g) xs ys r.settling t;
-  giving = assoc (giving_of g) xs ys r.giving t;
-  drops = assoc (drops_of g) xs ys r.drops t;
-  releases = assoc (releases_of g) xs ys r.releases t;
-  copies = assoc (copies_of g) xs ys r.copies t;
-  borrowing = assoc borrowing_of xs ys r.borrowing t;
-  ousting = assoc ousting_of xs ys r.ousting t;
-}

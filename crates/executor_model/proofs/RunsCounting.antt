@@ -1,4 +1,4 @@
--- What a run does keeps what holds of each future.
+-- What a run does counts for a Runnable in hand and a use of the executor alone: for the laws of each future.
 use Rattle.std.proofs.Common.{◌≡◌, ℕ, ◌+◌, ◌-◌, ◌<◌, List, [], ◌∷◌, ◌++◌, length, Bool, true, false, ltb, cond}
 use Rattle.std.proofs.Common.{refl, ap, arith}
 use Rattle.std.proofs.lemmas.Bool.Decides.{nat_tests}

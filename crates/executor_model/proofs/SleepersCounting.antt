@@ -1,4 +1,4 @@
--- What tells sleepers, and what a tick does, keeps what holds of each future.
+-- What a tick that lies down, gets up or leaves leads to, by the waker that it finds: for the laws of each future.
 use Rattle.std.proofs.Common.{ℕ, ◌++◌}
 use Rattle.std.specs.Prelude.{Option, slice_set, is_none}
 use Rattle.executor_parts.specs.Sleepers.{risen}

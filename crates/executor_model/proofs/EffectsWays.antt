@@ -27,10 +27,11 @@ use Rattle.executor_model.specs.Good.{Good}
 use Rattle.executor_model.specs.Rows.{past_of, borrowing_of, waiting_of, polls_of, ending_of, ready_of, closing_of}
 use Rattle.executor_model.specs.Rows.{settling_of, giving_of, drops_of, releases_of, copies_of, ousting_of}
 use Rattle.executor_model.specs.Steps.{Machine, run, stack, mine, top, accepts, begun, react, has_all, is_drop, is_free}
-use Rattle.executor_model.specs.Steps.{idle, is_on_executor, is_unborrowed, start}
-use Rattle.executor_model.specs.Weights.{weigh}
+use Rattle.executor_model.specs.Steps.{idle, is_on_executor, is_unborrowed, is_unused, start}
+use Rattle.executor_model.specs.Weights.{weigh, weigh_all}
 use Rattle.executor_model.proofs.Lists.{weigh_all-push}
-use Rattle.executor_model.proofs.Lift.{split, split-pend, push-pend, unsettled, none_refused, open_executor, weigh_all-idle, good-start}
+use Rattle.executor_model.proofs.Lift.{split, split-pend, push-pend, unsettled, none_refused, open_executor, unborrowed, unused}
+use Rattle.executor_model.proofs.Lift.{weigh_all-idle, good-start}
 use Rattle.executor_model.proofs.Ways.{Way, along}
 use Rattle.executor_model.proofs.Ways.Way.{acted, reacted, called}
 use Rattle.executor_model.proofs.Extras.{Extra, extra, extra-by, extra-none, no_extra, with_extra}
@@ -41,34 +42,37 @@ use Rattle.executor_model.proofs.Effects.{Effect, effect-act}
 use Rattle.executor_model.proofs.Effects.Effect.{passes}
 use Rattle.executor_model.proofs.EffectsCalls.{by_call, goes-begun}
 
-pub data Effects (w : World) : List Op → Done → Type 0 where
-  does : {old : List Op} {d : Done} → Effect w old d → Effects w old d
+-- in a machine of this world and these parties
+pub data Effects (w : World) (ss : List (List Op)) : List Op → Done → Type 0 where
+  does : {old : List Op} {d : Done} → Effect w old d → Effects w ss old d
   -- the future that is polled answers that it is pending, or ready
-  pends : (p f : ℕ) → Effects w (op.User (user_op.Poll f) ∷ [])
+  pends : (p f : ℕ) → Effects w ss (op.User (user_op.Poll f) ∷ [])
       (done (log w (event.Answered p f answer.Pending)) (op.Table (table_op.PutBack f) ∷ []))
-  readies : (p f : ℕ) → Effects w (op.User (user_op.Poll f) ∷ [])
+  readies : (p f : ℕ) → Effects w ss (op.User (user_op.Poll f) ∷ [])
       (done (log w (event.Answered p f answer.Ready)) (op.User (user_op.BeginDrop f) ∷ op.Move move.EndReady f ∷ []))
-  -- the drop of the executor begins
-  closes : (p : ℕ) → w.gone ≡ false → Effects w []
+  -- the drop of the executor begins, where no call uses it
+  closes : (p : ℕ) → w.gone ≡ false → weigh_all borrowing_of ss ≡ 0 → Effects w ss []
       (done (log (record (log w (event.CallBegun p call.DropExecutor)) { gone = true }) (event.DropBegun p))
       (op.Closing closing_op.TakeOut ∷ op.End reply.Done hold.Nothing ∷ []))
 
-effect-react : (p : ℕ) (o : Op) (u : UserEnd) (w : World) → accepts o u ≡ true → Effects w (o ∷ []) (react p o u w)
-effect-react p (op.User (user_op.Poll f)) (end.Polled answer.Pending) w a = pends p f
-effect-react p (op.User (user_op.Poll f)) (end.Polled answer.Ready) w a = readies p f
-effect-react p (op.User (user_op.Drop f)) end.Done w a = does (passes (λ g r y. grind arith))
-effect-react p (op.User (user_op.DropOutput f)) end.Done w a = does (passes (λ g r y. grind arith))
-effect-react p (op.User (user_op.CallOutside x)) end.Done w a = does (passes (λ g r y. grind arith))
-effect-react p (op.User (user_op.PollOwn x)) (end.Polled answer.Pending) w a = does (passes (λ g r y. grind arith))
-effect-react p (op.User (user_op.PollOwn x)) (end.Polled answer.Ready) w a = does (passes (λ g r y. grind arith))
-effect-react p (op.User (user_op.DropOwn r)) end.Done w a = does (passes (λ g r y. grind arith))
-effect-react p _ _ w a = absurd (cc)
+effect-react : (p : ℕ) (o : Op) (u : UserEnd) (w : World) (ss : List (List Op)) → accepts o u ≡ true →
+    Effects w ss (o ∷ []) (react p o u w)
+effect-react p (op.User (user_op.Poll f)) (end.Polled answer.Pending) w ss a = pends p f
+effect-react p (op.User (user_op.Poll f)) (end.Polled answer.Ready) w ss a = readies p f
+effect-react p (op.User (user_op.Drop f)) end.Done w ss a = does (passes (λ g r y. grind arith))
+effect-react p (op.User (user_op.DropOutput f)) end.Done w ss a = does (passes (λ g r y. grind arith))
+effect-react p (op.User (user_op.CallOutside x)) end.Done w ss a = does (passes (λ g r y. grind arith))
+effect-react p (op.User (user_op.PollOwn x)) (end.Polled answer.Pending) w ss a = does (passes (λ g r y. grind arith))
+effect-react p (op.User (user_op.PollOwn x)) (end.Polled answer.Ready) w ss a = does (passes (λ g r y. grind arith))
+effect-react p (op.User (user_op.DropOwn r)) end.Done w ss a = does (passes (λ g r y. grind arith))
+effect-react p _ _ w ss a = absurd (cc)
 
-effect-begun : (p : ℕ) (w : World) (here : Option Waker) (c : Call) → not (w.gone && is_on_executor c) ≡ true →
-    Effects w [] (begun p (log w (event.CallBegun p c)) here c)
-effect-begun p w here = by_call _
-    (λ on. closes p (open_executor w call.DropExecutor refl on))
-    (λ c d on. does (passes (goes-begun p w here c d (λ e. open_executor w c e on))))
+effect-begun : (p : ℕ) (w : World) (ss : List (List Op)) (here : Option Waker) (c : Call) →
+    not (w.gone && is_on_executor c) ≡ true → (not (is_drop c) || is_unused borrowing_of ss) ≡ true →
+    Effects w ss [] (begun p (log w (event.CallBegun p c)) here c)
+effect-begun p w ss here = by_call _
+    (λ on un. closes p (open_executor w call.DropExecutor refl on) (unborrowed (weigh_all borrowing_of ss) un))
+    (λ c d on un. does (passes (goes-begun p w here c d (λ e. open_executor w c e on))))
 
 -- the futures that it speaks of are there
 op-known : (s : Machine) (p : ℕ) (o : Op) (rest : List Op) → p < length s.parties →
@@ -77,15 +81,15 @@ op-known s p o rest l e good =
     omega (arith, good.ops, split (past_of (length s.world.tasks)) s.parties p (o ∷ []) rest l e)
 
 pub effects-way : (s : Machine) (p : ℕ) (old rest : List Op) (d : Done) → Good s → p < length s.parties →
-    stack s p ≡ rest ++ reverse old → Way s p old rest d → Effects s.world old d
+    stack s p ≡ rest ++ reverse old → Way s p old rest d → Effects s.world s.parties old d
 effects-way s p old rest d good l e (acted h o q z) =
     rw z (rw q (does (effect-act p h o s.world good.fits.awaiting good.fits.waking
     (op-known s p o rest l (subst (λ (os : List Op). stack s p ≡ rest ++ reverse os) q e) good))))
-effects-way s p old rest d good l e (reacted o u a q z) = rw z (rw q (effect-react p o u s.world a))
+effects-way s p old rest d good l e (reacted o u a q z) = rw z (rw q (effect-react p o u s.world s.parties a))
 effects-way s p old rest d good l e (called c q r n z) =
     let f : _ = none_refused (is_free (top (stack s p))) (has_all s.world s.parties (top (stack s p)) c)
     (not (s.world.gone && is_on_executor c)) (not (is_drop c) || is_unborrowed s.world s.parties) n in
-    rw z (rw q (effect-begun p s.world (mine (top (stack s p))) c f.2))
+    rw z (rw q (effect-begun p s.world s.parties (mine (top (stack s p))) c f.2 (unused c s.world s.parties f.3)))
 
 -- what is seen of a future in the machine, and where p has these to do beside what all others have
 
@@ -149,7 +153,7 @@ view-start P limit n g h = subst P
 
 -- What holds of each future at the start, and what each of these effects and the end of a call keep, holds in each run.
 module _ (P : Seen → Type 0)
-    (act : (w : World) (old : List Op) (d : Done) → Effects w old d → (g : ℕ) (r : Pend) (y : Extra) →
+    (act : (w : World) (ss : List (List Op)) (old : List Op) (d : Done) → Effects w ss old d → (g : ℕ) (r : Pend) (y : Extra) →
     Sure (seen w g (with_ops g old r) (with_extra g old y)) → P (seen w g (with_ops g old r) (with_extra g old y)) →
     P (seen d.world g (with_ops g d.next r) (with_extra g d.next y)))
     (end_kept : (w : World) (p : ℕ) (a : Reply) (held : Hold) (g : ℕ) (r : Pend) (y : Extra) →
@@ -161,7 +165,7 @@ module _ (P : Seen → Type 0)
       P (view (unsettled s p rest d) g)
   moves-kept s p old rest d good l e way h =
       lifted Sure P s p old rest l e d
-      (λ g b k. act s.world old d (effects-way s p old rest d good l e way) g _ _ b k)
+      (λ g b k. act s.world s.parties old d (effects-way s p old rest d good l e way) g _ _ b k)
       (λ g. sure-of s.world g (pend g s.parties) (extra g s.parties) (good.sound g)) h
 
   pub each-run : (limit n : ℕ) (ts : List Step) (g : ℕ) → P (view (run ts (start limit n)) g)

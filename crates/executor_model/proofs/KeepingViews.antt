@@ -128,8 +128,8 @@ stored-closes : (p : ℕ) (w : World) → KeepsStored w []
 stored-closes p w g r y k h = grind (arith, readies-push, spent-push)
 
 -- whatever a party does
-pub stored-act : (w : World) (old : List Op) (d : Done) → Effects w old d → KeepsStored w old d
-stored-act w old d (does e) g r y k h = stored-effect w old d e g r y k h
-stored-act w old d (pends p f) g r y k h = stored-pends p f w g r y k h
-stored-act w old d (readies p f) g r y k h = stored-readies p f w g r y k h
-stored-act w old d (closes p e) g r y k h = stored-closes p w g r y k h
+pub stored-act : (w : World) (ss : List (List Op)) (old : List Op) (d : Done) → Effects w ss old d → KeepsStored w old d
+stored-act w ss old d (does e) g r y k h = stored-effect w old d e g r y k h
+stored-act w ss old d (pends p f) g r y k h = stored-pends p f w g r y k h
+stored-act w ss old d (readies p f) g r y k h = stored-readies p f w g r y k h
+stored-act w ss old d (closes p e u) g r y k h = stored-closes p w g r y k h

@@ -4,11 +4,14 @@ use Rattle.std.proofs.Common.{◌≡◌, ℕ, ◌+◌, ◌<◌, List, [], ◌∷
 use Rattle.std.proofs.lemmas.List.{length-append}
 use Rattle.std.specs.Prelude.{nat_lt, slice_set}
 use Rattle.task_moves.specs.declared.moves.owed.Move.TheVariants as move
+use Rattle.executor_model.specs.declared.call.Call.TheVariants as call
 use Rattle.executor_model.specs.declared.call.Reply.{Reply}
+use Rattle.executor_model.specs.declared.call.Reply.TheVariants as reply
 use Rattle.executor_model.specs.declared.event.Answer.TheVariants as answer
 use Rattle.executor_model.specs.declared.event.Event.TheVariants as event
 use Rattle.executor_model.specs.declared.op.ClosingOp.TheVariants as closing_op
 use Rattle.executor_model.specs.declared.op.Hold.{Hold}
+use Rattle.executor_model.specs.declared.op.Hold.TheVariants as hold
 use Rattle.executor_model.specs.declared.op.Op.{Op}
 use Rattle.executor_model.specs.declared.op.Op.TheVariants as op
 use Rattle.executor_model.specs.declared.op.QueueOp.TheVariants as queue_op
@@ -27,7 +30,7 @@ use Rattle.executor_model.proofs.Stories.{length-except, story, story-push, time
 use Rattle.executor_model.proofs.Extras.{Extra, with_extra}
 use Rattle.executor_model.proofs.Leaving.{Base, Entered, Leaves, KeepsLeaves}
 use Rattle.executor_model.proofs.LeavingViews.{base-passes, entered-loose, entered-moved, entered-passes}
-use Rattle.executor_model.proofs.Passes.{GoesBy}
+use Rattle.executor_model.proofs.Views.{seen}
 use Rattle.executor_model.proofs.Passing.{goes-end}
 use Rattle.executor_model.proofs.Effects.{Effect, effect-act, turned-keeps}
 use Rattle.executor_model.proofs.Effects.Effect.{passes, turns, refuses, enters, unlists, drops, takes_out, drops_next}
@@ -77,7 +80,7 @@ NeedsPlaces w (op.Table table_op.Enter) = not (nat_lt (length w.table) w.limit) 
     length (story g w.trace).standing < w.limit
 NeedsPlaces w _ = Unit {0}
 
-leaves-effect : (w : World) (old : List Op) (d : Done) → ((o : Op) → old ≡ o ∷ [] → NeedsPlaces w o) →
+pub leaves-effect : (w : World) (old : List Op) (d : Done) → ((o : Op) → old ≡ o ∷ [] → NeedsPlaces w o) →
     Effect w old d → KeepsLeaves w old d
 leaves-effect w old d n (passes s) g r y b h = entered-passes _ _ (s g r y).passes (s g r y).stays h
 leaves-effect w old _ n (turns d m p f v more i j k s a e) g r y b h =
@@ -92,32 +95,24 @@ leaves-effect w old d n takes_out g r y b h = leaves-takes_out _ _ w refl g r y 
 leaves-effect w old d n (drops_next p f rest e) g r y b h =
     leaves-drops_next rest (w.waking ++ f ∷ []) p w f e g r y b h
 
-first : (o q : Op) → (o ∷ []) ≡ (q ∷ []) → o ≡ q
-first o q e = cc
-
--- each thing to do that speaks of futures that are there
-pub leaves-act : (p : ℕ) (h : Hint) (o : Op) (w : World) → length w.awaiters ≡ length w.tasks →
-    pasts (length w.tasks) w.waking ≡ 0 → weigh (past_of (length w.tasks)) (o ∷ []) ≡ 0 → NeedsPlaces w o →
-    KeepsLeaves w (o ∷ []) (act p h o w)
-leaves-act p h o w n u z m = leaves-effect w (o ∷ []) (act p h o w) (λ q e. subst (NeedsPlaces w) (first o q e) m)
-    (effect-act p h o w n u z)
-
 -- the answers of user code
-pub leaves-pending : (p : ℕ) (w : World) (f : ℕ) →
-    KeepsLeaves w (op.User (user_op.Poll f) ∷ [])
+pub leaves-pends : (p f : ℕ) (w : World) → KeepsLeaves w (op.User (user_op.Poll f) ∷ [])
     (done (log w (event.Answered p f answer.Pending)) (op.Table (table_op.PutBack f) ∷ []))
-leaves-pending p w f g r y b h = grind (arith, same_is, story-push)
+leaves-pends p f w g r y b h = grind (arith, same_is, story-push)
 
-pub leaves-ready : (p : ℕ) (w : World) (f : ℕ) →
-    KeepsLeaves w (op.User (user_op.Poll f) ∷ [])
+pub leaves-readies : (p f : ℕ) (w : World) → KeepsLeaves w (op.User (user_op.Poll f) ∷ [])
     (done (log w (event.Answered p f answer.Ready)) (op.User (user_op.BeginDrop f) ∷ op.Move move.EndReady f ∷ []))
-leaves-ready p w f g r y b h = grind (arith, same_is, story-push)
+leaves-readies p f w g r y b h = grind (arith, same_is, story-push)
 
--- the end of a call, and its beginning, but for the drop of the executor
-pub leaves-end : (p : ℕ) (w : World) (a : Reply) (held : Hold) (g : ℕ) (r : Pend) (y : Extra) →
+-- the drop of the executor begins, where no call uses it
+pub leaves-closes : (p : ℕ) (w : World) (g : ℕ) (r : Pend) (y : Extra) → w.gone ≡ false → r.drops + y.leaves ≡ 0 →
+    Base (seen w g (with_ops g [] r) (with_extra g [] y)) → Leaves w g (with_ops g [] r) (with_extra g [] y) →
+    Leaves (log (record (log w (event.CallBegun p call.DropExecutor)) { gone = true }) (event.DropBegun p)) g
+    (with_ops g (op.Closing closing_op.TakeOut ∷ op.End reply.Done hold.Nothing ∷ []) r)
+    (with_extra g (op.Closing closing_op.TakeOut ∷ op.End reply.Done hold.Nothing ∷ []) y)
+leaves-closes p w g r y n z b h = grind (arith, story-push)
+
+pub leaves-end : (w : World) (p : ℕ) (a : Reply) (held : Hold) (g : ℕ) (r : Pend) (y : Extra) →
     Leaves w g (with_ops g (op.End a held ∷ []) r) (with_extra g (op.End a held ∷ []) y) →
     Leaves (log w (event.CallEnded p a)) g (with_ops g [] r) (with_extra g [] y)
-leaves-end p w a held g r y h = let s = goes-end p w a held g r y in entered-passes _ _ s.passes s.stays h
-
-pub leaves-goes : (w : World) (old : List Op) (d : Done) → GoesBy w old d → KeepsLeaves w old d
-leaves-goes w old d s g r y b h = entered-passes _ _ (s g r y).passes (s g r y).stays h
+leaves-end w p a held g r y h = let s = goes-end p w a held g r y in entered-passes _ _ s.passes s.stays h

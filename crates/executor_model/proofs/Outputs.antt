@@ -122,8 +122,8 @@ out-closes : (p : ℕ) (w : World) → KeepsOutput w []
 out-closes p w g r y b h = grind (arith, outputs-push)
 
 -- whatever a party does
-pub out-act : (w : World) (old : List Op) (d : Done) → Effects w old d → KeepsOutput w old d
-out-act w old d (does e) g r y b h = out-effect w old d e g r y b h
-out-act w old d (pends p f) g r y b h = out-pends p f w g r y b h
-out-act w old d (readies p f) g r y b h = out-readies p f w g r y b h
-out-act w old d (closes p e) g r y b h = out-closes p w g r y b h
+pub out-act : (w : World) (ss : List (List Op)) (old : List Op) (d : Done) → Effects w ss old d → KeepsOutput w old d
+out-act w ss old d (does e) g r y b h = out-effect w old d e g r y b h
+out-act w ss old d (pends p f) g r y b h = out-pends p f w g r y b h
+out-act w ss old d (readies p f) g r y b h = out-readies p f w g r y b h
+out-act w ss old d (closes p e u) g r y b h = out-closes p w g r y b h

@@ -43,7 +43,7 @@ pub use Rattle.executor_model.proofs.Growing.{KeepsHere, push-pend, split, split
 use Rattle.executor_model.proofs.Growing.{more-all}
 pub use Rattle.executor_model.proofs.Begins.{first-true, handle-known, kept-used, none_refused, open_executor, unborrowed}
 pub use Rattle.executor_model.proofs.Begins.{unused}
-use Rattle.executor_model.proofs.Begins.{Begins, begins}
+use Rattle.executor_model.proofs.Begins.{begins, sound-begun}
 
 -- the machine, with this for p to do on top of the rest
 abbrev pub unsettled : Machine → ℕ → List Op → Done → Machine
@@ -202,12 +202,12 @@ good-begin s p c l n good =
     let f : _ = none_refused (is_free (top (stack s p))) (has_all s.world s.parties (top (stack s p)) c)
     (not (s.world.gone && is_on_executor c)) (not (is_drop c) || is_unborrowed s.world s.parties) n in
     let own : set s.parties p (stack s p) ≡ s.parties = set-own s.parties p l in
-    let b : Begins s.world (begun p (log s.world (event.CallBegun p c)) (mine (top (stack s p))) c)
-    (set s.parties p (stack s p)) = begins s.world p s.parties (set s.parties p (stack s p)) (top (stack s p))
-    (mine (top (stack s p))) c (here-known s p (top (stack s p)) l refl good)
-    (λ v. omega (arith, ap (weigh_all v) own)) f.1 f.2 (unused c s.world s.parties f.3) in
     good-onto s p [] (stack s p) (begun p (log s.world (event.CallBegun p c)) (mine (top (stack s p))) c) l
-    (sym (append-nil (stack s p))) b.0 b.1 good
+    (sym (append-nil (stack s p)))
+    (sound-begun s.world p s.parties (set s.parties p (stack s p)) (mine (top (stack s p))) c
+    (λ v. omega (arith, ap (weigh_all v) own)) f.2 (unused c s.world s.parties f.3))
+    (begins s.world p s.parties (top (stack s p)) (mine (top (stack s p))) c
+    (here-known s p (top (stack s p)) l refl good) f.1) good
 
 -- every step
 

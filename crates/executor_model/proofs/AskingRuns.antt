@@ -1,53 +1,31 @@
 -- In each run a future is woken between two polls, and who is asked for is scheduled.
-use Rattle.std.proofs.Common.{◌≡◌, ◌≢◌, ◌⊎◌, ℕ, ◌<◌, ◌≤◌, List, [], ◌∷◌, ◌++◌, length, set}
-use Rattle.std.proofs.Common.{true, refl, sym, subst, inl, inr, arith}
-use Rattle.std.specs.Prelude.{Option, Some, None, reverse}
-use Rattle.executor_model.specs.declared.op.Waker.{Waker}
-use Rattle.executor_model.specs.declared.call.Call.{Call}
-use Rattle.executor_model.specs.declared.call.Call.TheVariants as call
+use Rattle.std.proofs.Common.{◌≡◌, ◌≢◌, ◌⊎◌, ℕ, ◌<◌, ◌≤◌, List, [], ◌∷◌, ◌++◌, length}
+use Rattle.std.proofs.Common.{subst, inl, inr, arith}
+use Rattle.std.specs.Prelude.{reverse}
 use Rattle.executor_model.specs.declared.call.Reply.{Reply}
-use Rattle.executor_model.specs.declared.call.Reply.TheVariants as reply
-use Rattle.executor_model.specs.declared.event.Answer.TheVariants as answer
 use Rattle.executor_model.specs.declared.event.Event.TheVariants as event
 use Rattle.executor_model.specs.declared.op.Hold.{Hold}
-use Rattle.executor_model.specs.declared.op.Hold.TheVariants as hold
 use Rattle.executor_model.specs.declared.op.Op.{Op}
-use Rattle.executor_model.specs.declared.op.Sleeping.{Sleeping}
 use Rattle.executor_model.specs.declared.op.Op.TheVariants as op
-use Rattle.executor_model.specs.declared.op.ClosingOp.TheVariants as closing_op
-use Rattle.executor_model.specs.declared.op.HandleOp.TheVariants as handle_op
 use Rattle.task_moves.specs.declared.moves.owed.Move.TheVariants as move
-use Rattle.executor_model.specs.declared.op.QueueOp.TheVariants as queue_op
-use Rattle.executor_model.specs.declared.op.RunOp.TheVariants as run_op
-use Rattle.executor_model.specs.declared.op.RunPoll.{RunPoll}
-use Rattle.executor_model.specs.declared.op.Sleeper.TheVariants as sleeper
-use Rattle.executor_model.specs.declared.op.TableOp.TheVariants as table_op
-use Rattle.executor_model.specs.declared.op.TickOp.TheVariants as tick_op
-use Rattle.executor_model.specs.declared.op.UserOp.TheVariants as user_op
-use Rattle.executor_model.specs.declared.op.WakerOp.TheVariants as waker_op
 use Rattle.executor_model.specs.declared.step.Step.{Step}
-use Rattle.executor_model.specs.declared.step.UserEnd.{UserEnd}
-use Rattle.executor_model.specs.declared.step.UserEnd.TheVariants as end
 use Rattle.executor_model.specs.Trace.{Trace}
-use Rattle.executor_model.specs.World.{World, Stage, New, Listed, Ended, Run, Done, done, log, run_of}
-use Rattle.executor_model.specs.Doing.{act}
-use Rattle.executor_model.specs.Weights.{weigh, past}
-use Rattle.executor_model.specs.Sound.{Sound, Pend, pend, with_ops, phase}
+use Rattle.executor_model.specs.World.{World, Done, done, log}
+use Rattle.executor_model.specs.Weights.{past}
+use Rattle.executor_model.specs.Sound.{Pend, pend, with_ops, phase}
 use Rattle.executor_model.specs.Sound.Phase.{Over, Broken}
 use Rattle.executor_model.specs.Good.{Good}
 use Rattle.executor_model.specs.Rows.{past_of}
-use Rattle.executor_model.specs.Steps.{Machine, stack, run, start, idle, mine, top, accepts, begun}
-use Rattle.executor_model.specs.Steps.{react, used_up, with_future, future_of, kept, waker_of, poll_run, drop_run}
-use Rattle.executor_model.proofs.Lists.{past_is, phase-push}
-use Rattle.executor_model.proofs.Lift.{split, split-pend, push-pend, unsettled, good-start}
+use Rattle.executor_model.specs.Steps.{Machine, stack, run, start}
+use Rattle.executor_model.proofs.Lists.{past_is}
+use Rattle.executor_model.proofs.Lift.{split, unsettled, good-start}
 use Rattle.executor_model.proofs.Ways.{Way, along}
-use Rattle.executor_model.proofs.Ways.Way.{acted, reacted, called}
 use Rattle.executor_model.proofs.Lawful.{dropped-over}
 use Rattle.executor_model.proofs.Stories.{story}
 use Rattle.executor_model.proofs.Extras.{Extra, extra, no_extra, waking_of, with_extra}
 use Rattle.executor_model.proofs.LeavingRuns.{Placed, placed-moves, placed-ends, placed-start}
 use Rattle.executor_model.proofs.Telling.{counted-drop}
-use Rattle.executor_model.proofs.Requests.{request-push, request-none}
+use Rattle.executor_model.proofs.Requests.{request-none}
 use Rattle.executor_model.proofs.Views.{none, seen}
 use Rattle.executor_model.proofs.SoundAll.{sure-of}
 use Rattle.executor_model.proofs.Passing.{goes-end}

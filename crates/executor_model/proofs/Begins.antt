@@ -1,7 +1,7 @@
 -- What the beginning of a call keeps.
-use Rattle.std.proofs.Common.{◌≡◌, ◌⊎◌, ℕ, zero, suc, ◌+◌, ◌≤◌, List, [], ◌∷◌, length}
+use Rattle.std.proofs.Common.{◌≡◌, ℕ, zero, suc, ◌+◌, ◌≤◌, List, [], ◌∷◌, length}
 use Rattle.std.proofs.Common.{Bool, true, false, ◌&&◌, ◌||◌, not, eqb, refl, sym, ap, ◌∙◌}
-use Rattle.std.proofs.Common.{subst, inl, inr, ⊎_elim, arith}
+use Rattle.std.proofs.Common.{⊎_elim, arith}
 use Rattle.std.proofs.lemmas.Bool.Decides.{nat_tests}
 use Rattle.std.proofs.lemmas.List.{get_or_past}
 use Rattle.task_moves.specs.declared.moves.state.State.{State}
@@ -16,16 +16,13 @@ use Rattle.executor_model.specs.declared.event.Event.TheVariants as event
 use Rattle.executor_model.specs.declared.op.Waker.{Waker}
 use Rattle.executor_model.specs.declared.op.Waker.TheVariants.{Task, Outside}
 use Rattle.executor_model.specs.declared.op.Hold.TheVariants as hold
-use Rattle.executor_model.specs.declared.op.Sleeping.{Sleeping}
 use Rattle.executor_model.specs.declared.op.Op.{Op}
 use Rattle.executor_model.specs.declared.op.Op.TheVariants as op
 use Rattle.executor_model.specs.declared.op.ClosingOp.TheVariants as closing_op
 use Rattle.executor_model.specs.declared.op.HandleOp.TheVariants as handle_op
 use Rattle.task_moves.specs.declared.moves.owed.Move.TheVariants as move
 use Rattle.executor_model.specs.declared.op.QueueOp.TheVariants as queue_op
-use Rattle.executor_model.specs.declared.op.RunOp.TheVariants as run_op
 use Rattle.executor_model.specs.declared.op.RunPoll.{RunPoll}
-use Rattle.executor_model.specs.declared.op.Sleeper.TheVariants as sleeper
 use Rattle.executor_model.specs.declared.op.SleeperOp.TheVariants as sleeper_op
 use Rattle.executor_model.specs.declared.op.TableOp.TheVariants as table_op
 use Rattle.executor_model.specs.declared.op.TickOp.TheVariants as tick_op
@@ -33,7 +30,6 @@ use Rattle.executor_model.specs.declared.op.UserOp.TheVariants as user_op
 use Rattle.executor_model.specs.declared.op.WakerOp.TheVariants as waker_op
 use Rattle.executor_model.specs.declared.step.StepError.TheVariants.{Busy, NoSuch, Gone, Borrowed}
 use Rattle.executor_model.specs.World.{World, Stage, New, Listed, Ended, Run, Done, done, log, task, blank, run_of}
-use Rattle.executor_model.specs.World.{put_run}
 use Rattle.executor_model.specs.Weights.{weigh, weigh_all, past, waker_past}
 use Rattle.executor_model.specs.Sound.{Sound, Pend, with_ops}
 use Rattle.executor_model.specs.Good.{Fits}
@@ -44,7 +40,7 @@ use Rattle.executor_model.specs.Steps.{kept, has_all}
 use Rattle.executor_model.specs.Steps.{is_on_executor, is_drop, is_unused, is_unborrowed, unless}
 use Rattle.executor_model.specs.Steps.{used_up, with_future}
 use Rattle.executor_model.specs.Steps.{waker_of, future_of, poll_run, drop_run, begun}
-use Rattle.executor_model.proofs.Lists.{same_is, past_is, phase-push, wakers_of-used}
+use Rattle.executor_model.proofs.Lists.{same_is, past_is, phase-push}
 use Rattle.executor_model.proofs.Lists.{wakers_past-used, weigh_all-below}
 use Rattle.executor_model.proofs.Effects.Effect.{passes}
 use Rattle.executor_model.proofs.EffectsCalls.{by_call, goes-begun}

@@ -1,6 +1,6 @@
 -- Each way in which a party goes on has one effect on each future; and what such an effect keeps of the view of each future
 -- (proofs/Views), each step of the machine keeps.
-use Rattle.std.proofs.Common.{◌≡◌, ℕ, ◌+◌, ◌<◌, List, [], ◌∷◌, ◌++◌, length, set, false, true, ◌&&◌, ◌||◌, not}
+use Rattle.std.proofs.Common.{◌≡◌, ℕ, ◌<◌, List, [], ◌∷◌, ◌++◌, length, set, false, true, ◌&&◌, ◌||◌, not}
 use Rattle.std.proofs.Common.{refl, sym, subst, arith}
 use Rattle.std.specs.Prelude.{Option, reverse}
 use Rattle.task_moves.specs.declared.moves.owed.Move.TheVariants as move

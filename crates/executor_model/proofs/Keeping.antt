@@ -1,5 +1,5 @@
 -- What holds at every moment of a future whose output is or will be there, and of the awaiter of one that is completed.
-use Rattle.std.proofs.Common.{◌≡◌, ◌⊎◌, ℕ, ◌+◌, ◌<◌, ◌≤◌, true, false, arith}
+use Rattle.std.proofs.Common.{◌≡◌, ◌⊎◌, ◌+◌, ◌<◌, ◌≤◌, true, false, arith}
 use Rattle.executor_model.proofs.Passes.{Watched}
 use Rattle.executor_model.proofs.SoundViews.{Sure}
 use Rattle.executor_model.proofs.Views.{Seen}

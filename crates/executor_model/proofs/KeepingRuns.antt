@@ -1,6 +1,6 @@
 -- In each run, what holds of an output that is there and of the awaiter of a future that is completed holds at every
 -- moment.
-use Rattle.std.proofs.Common.{◌≡◌, ℕ, ◌+◌, List, [], ◌∷◌, arith}
+use Rattle.std.proofs.Common.{ℕ, List, [], ◌∷◌, arith}
 use Rattle.executor_model.specs.declared.call.Reply.{Reply}
 use Rattle.executor_model.specs.declared.event.Event.TheVariants as event
 use Rattle.executor_model.specs.declared.op.Hold.{Hold}

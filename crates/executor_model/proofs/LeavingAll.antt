@@ -1,6 +1,6 @@
 -- What holds of each future and its place in the table (proofs/Leaving) is kept by each effect, and so by each thing that
 -- is done.
-use Rattle.std.proofs.Common.{◌≡◌, ℕ, ◌+◌, ◌<◌, List, [], ◌∷◌, ◌++◌, length, true, false, ◌&&◌, not, refl, ap, subst, arith}
+use Rattle.std.proofs.Common.{◌≡◌, ℕ, ◌+◌, ◌<◌, List, [], ◌∷◌, ◌++◌, length, true, false, ◌&&◌, not, refl, ap, arith}
 use Rattle.std.proofs.lemmas.List.{length-append}
 use Rattle.std.specs.Prelude.{nat_lt, slice_set}
 use Rattle.task_moves.specs.declared.moves.owed.Move.TheVariants as move
@@ -17,13 +17,9 @@ use Rattle.executor_model.specs.declared.op.Op.TheVariants as op
 use Rattle.executor_model.specs.declared.op.QueueOp.TheVariants as queue_op
 use Rattle.executor_model.specs.declared.op.TableOp.TheVariants as table_op
 use Rattle.executor_model.specs.declared.op.UserOp.TheVariants as user_op
-use Rattle.executor_model.specs.declared.step.Hint.{Hint}
 use Rattle.executor_model.specs.World.{World, Done, done, log, among}
 use Rattle.executor_model.specs.Acts.{append_by, begin_drop, closing_ops, enter_by, leave_by, stands_alone}
-use Rattle.executor_model.specs.Doing.{act}
-use Rattle.executor_model.specs.Weights.{same, weigh}
-use Rattle.executor_model.specs.Good.{pasts}
-use Rattle.executor_model.specs.Rows.{past_of}
+use Rattle.executor_model.specs.Weights.{same}
 use Rattle.executor_model.specs.Sound.{Pend, times, with_ops}
 use Rattle.executor_model.proofs.Lists.{fresh_is, read_push, same_is, times-append, without_one}
 use Rattle.executor_model.proofs.Stories.{length-except, story, story-push, times-except}
@@ -32,7 +28,7 @@ use Rattle.executor_model.proofs.Leaving.{Base, Entered, Leaves, KeepsLeaves}
 use Rattle.executor_model.proofs.LeavingViews.{base-passes, entered-loose, entered-moved, entered-passes}
 use Rattle.executor_model.proofs.Views.{seen}
 use Rattle.executor_model.proofs.Passing.{goes-end}
-use Rattle.executor_model.proofs.Effects.{Effect, effect-act, turned-keeps}
+use Rattle.executor_model.proofs.Effects.{Effect, turned-keeps}
 use Rattle.executor_model.proofs.Effects.Effect.{passes, turns, refuses, enters, unlists, drops, takes_out, drops_next}
 
 leaves-refuses : (w : World) (f : ℕ) → w.queue.closed ≡ true →

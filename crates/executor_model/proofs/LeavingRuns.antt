@@ -1,53 +1,37 @@
 -- In each run every future leaves the table as it should, and no append finds the queue full.
-use Rattle.std.proofs.Common.{◌≡◌, ℕ, zero, suc, ◌+◌, ◌<◌, ◌≤◌, List, [], ◌∷◌, ◌++◌, length, set, get_or}
-use Rattle.std.proofs.Common.{Bool, true, false, ◌&&◌, ◌||◌, not, refl, sym, ap, ◌∙◌, subst, inl, ⊎_elim, arith}
+use Rattle.std.proofs.Common.{◌≡◌, ℕ, zero, suc, ◌+◌, ◌<◌, ◌≤◌, List, [], ◌∷◌, ◌++◌, length, set}
+use Rattle.std.proofs.Common.{Bool, true, false, ◌&&◌, not, refl, subst, inl, ⊎_elim, arith}
 use Rattle.std.proofs.lemmas.Bool.Decides.{nat_tests}
-use Rattle.std.specs.Prelude.{Option, reverse, nat_lt}
-use Rattle.executor_model.specs.declared.op.Waker.{Waker}
-use Rattle.executor_model.specs.declared.call.Call.{Call}
-use Rattle.executor_model.specs.declared.call.Call.TheVariants as call
+use Rattle.std.specs.Prelude.{reverse, nat_lt}
 use Rattle.executor_model.specs.declared.call.Reply.{Reply}
-use Rattle.executor_model.specs.declared.call.Reply.TheVariants as reply
-use Rattle.executor_model.specs.declared.event.Answer.TheVariants as answer
 use Rattle.executor_model.specs.declared.event.Event.TheVariants as event
 use Rattle.executor_model.specs.declared.op.Hold.{Hold}
-use Rattle.executor_model.specs.declared.op.Hold.TheVariants as hold
 use Rattle.executor_model.specs.declared.op.Op.{Op}
 use Rattle.executor_model.specs.declared.op.Op.TheVariants as op
-use Rattle.executor_model.specs.declared.op.ClosingOp.TheVariants as closing_op
 use Rattle.task_moves.specs.declared.moves.owed.Move.TheVariants as move
 use Rattle.executor_model.specs.declared.op.QueueOp.TheVariants as queue_op
 use Rattle.executor_model.specs.declared.op.TableOp.TheVariants as table_op
-use Rattle.executor_model.specs.declared.op.UserOp.TheVariants as user_op
 use Rattle.executor_model.specs.declared.step.Step.{Step}
-use Rattle.executor_model.specs.declared.step.UserEnd.{UserEnd}
-use Rattle.executor_model.specs.declared.step.UserEnd.TheVariants as end
 use Rattle.executor_model.specs.World.{World, Done, done, log, among}
-use Rattle.executor_model.specs.Doing.{act}
-use Rattle.executor_model.specs.Weights.{weigh, weigh_all, same}
-use Rattle.executor_model.specs.Sound.{Pend, pend, with_ops, queued, times}
-use Rattle.executor_model.specs.Rows as rows
+use Rattle.executor_model.specs.Weights.{same}
+use Rattle.executor_model.specs.Sound.{Pend, pend, queued, times}
 use Rattle.executor_model.specs.Good.{Good}
-use Rattle.executor_model.specs.Steps.{Machine, stack, idle, run, start, mine, top, is_free, has_all}
-use Rattle.executor_model.specs.Steps.{is_on_executor, is_drop, is_unused, is_unborrowed, accepts, begun}
-use Rattle.executor_model.specs.Steps.{react}
-use Rattle.executor_model.specs.Rows.{borrowing_of, waiting_of, polls_of, ending_of, ready_of, settling_of, giving_of}
+use Rattle.executor_model.specs.Steps.{Machine, stack, idle, run, start, mine, top}
+use Rattle.executor_model.specs.Rows.{waiting_of}
 use Rattle.executor_model.specs.Rows.{drops_of, leaves_of}
 use Rattle.executor_model.proofs.Cases.{by_bool}
-use Rattle.executor_model.proofs.Lists.{weigh_all-push}
-use Rattle.executor_model.proofs.Lift.{split, split-pend, push-pend, unsettled, good-start, none_refused}
-use Rattle.executor_model.proofs.Lift.{open_executor, unborrowed, unused, weigh_all-idle, set-own}
+use Rattle.executor_model.proofs.Lift.{split, unsettled, good-start}
 use Rattle.executor_model.proofs.Views.{none, seen}
 use Rattle.executor_model.proofs.Ways.{Way, along}
 use Rattle.executor_model.proofs.Ways.Way.{acted, reacted, called}
-use Rattle.executor_model.proofs.Stories.{story, story-none, story-push, among_is, no-longer}
+use Rattle.executor_model.proofs.Stories.{story, story-none, among_is, no-longer}
 use Rattle.executor_model.proofs.Telling.{same-standing}
-use Rattle.executor_model.proofs.Extras.{Extra, closing_of, no_extra, with_extra, extra, extra-none, extra-by}
+use Rattle.executor_model.proofs.Extras.{closing_of, no_extra, extra}
 use Rattle.executor_model.proofs.Leaving.{Base, based, Entered, Leaves}
 use Rattle.executor_model.proofs.LeavingAll.{NeedsPlaces, leaves-effect, leaves-pends, leaves-readies, leaves-closes, leaves-end}
 use Rattle.executor_model.proofs.EffectsWays.{Effects, effects-way, ended, lifted, view_with, view-start}
 use Rattle.executor_model.proofs.EffectsWays.Effects.{does, pends, readies, closes}
-use Rattle.executor_model.proofs.Borrowing.{uses_of, bare_all, Tidy, bare-moved, none-uses, drop-uses-all}
+use Rattle.executor_model.proofs.Borrowing.{bare_all, Tidy, bare-moved, none-uses, drop-uses-all}
 use Rattle.executor_model.proofs.TidyingGroups.{NeedsNoEntry, tidy-act, tidy-react, tidy-begun}
 
 pub record Placed (s : Machine) : Type 0 where

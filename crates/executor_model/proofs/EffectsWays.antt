@@ -24,14 +24,14 @@ use Rattle.executor_model.specs.declared.step.UserEnd.TheVariants as end
 use Rattle.executor_model.specs.World.{World, Done, done, log}
 use Rattle.executor_model.specs.Sound.{Pend, pend, with_ops}
 use Rattle.executor_model.specs.Good.{Good}
-use Rattle.executor_model.specs.Rows.{past_of, borrowing_of, waiting_of, polls_of, ending_of, ready_of, closing_of}
-use Rattle.executor_model.specs.Rows.{settling_of, giving_of, drops_of, releases_of, copies_of, ousting_of}
+use Rattle.executor_model.specs.Rows.{past_of, borrowing_of}
 use Rattle.executor_model.specs.Steps.{Machine, run, stack, mine, top, accepts, begun, react, has_all, is_drop, is_free}
 use Rattle.executor_model.specs.Steps.{idle, is_on_executor, is_unborrowed, is_unused, start}
 use Rattle.executor_model.specs.Weights.{weigh, weigh_all}
 use Rattle.executor_model.proofs.Lists.{weigh_all-push}
 use Rattle.executor_model.proofs.Lift.{split, split-pend, push-pend, unsettled, none_refused, open_executor, unborrowed, unused}
 use Rattle.executor_model.proofs.Lift.{weigh_all-idle, good-start}
+use Rattle.executor_model.proofs.Growing.{pend-none}
 use Rattle.executor_model.proofs.Ways.{Way, along}
 use Rattle.executor_model.proofs.Ways.Way.{acted, reacted, called}
 use Rattle.executor_model.proofs.Extras.{Extra, extra, extra-by, extra-none, no_extra, with_extra}
@@ -133,23 +133,8 @@ ended P s p a held below l e k h =
 pub view-start : (P : Seen → Type 0) (limit n g : ℕ) → P (seen (start limit 0).world g none no_extra) →
     P (view (start limit n) g)
 view-start P limit n g h = subst P
-    (sym (λ t. seen (start limit n).world g (pend-idle g n t) (extra-none g (idle n) (λ v. weigh_all-idle v n) t))) h
-  where
-    pend-idle : (g n : ℕ) → pend g (idle n) ≡ none
-    pend-idle g n = λ t. record {
-      waiting = weigh_all-idle (waiting_of g) n t;
-      polls = weigh_all-idle (polls_of g) n t;
-      ending = weigh_all-idle (ending_of g) n t;
-      ready = weigh_all-idle (ready_of g) n t;
-      closing = weigh_all-idle (closing_of g) n t;
-      settling = weigh_all-idle (settling_of g) n t;
-      giving = weigh_all-idle (giving_of g) n t;
-      drops = weigh_all-idle (drops_of g) n t;
-      releases = weigh_all-idle (releases_of g) n t;
-      copies = weigh_all-idle (copies_of g) n t;
-      borrowing = weigh_all-idle borrowing_of n t;
-      ousting = weigh_all-idle ousting_of n t;
-    }
+    (sym (λ t. seen (start limit n).world g (pend-none g (idle n) (λ v. weigh_all-idle v n) t)
+    (extra-none g (idle n) (λ v. weigh_all-idle v n) t))) h
 
 -- What holds of each future at the start, and what each of these effects and the end of a call keep, holds in each run.
 module _ (P : Seen → Type 0)

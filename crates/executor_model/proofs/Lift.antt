@@ -39,7 +39,8 @@ use Rattle.executor_model.proofs.CountingHandles.{sound-pending, sound-ready}
 use Rattle.executor_model.proofs.SoundAll.{sound-act}
 use Rattle.executor_model.proofs.Fitting.{Grown, Grows}
 use Rattle.executor_model.proofs.FittingActs.{grows-act}
-pub use Rattle.executor_model.proofs.Growing.{KeepsHere, push-pend, split, split-pend}
+pub use Rattle.executor_model.proofs.Growing.{KeepsHere, pend-none, push-pend, split, split-pend}
+use Rattle.executor_model.proofs.Views.{none}
 use Rattle.executor_model.proofs.Growing.{more-all}
 pub use Rattle.executor_model.proofs.Begins.{first-true, handle-known, kept-used, none_refused, open_executor, unborrowed}
 pub use Rattle.executor_model.proofs.Begins.{unused}
@@ -260,40 +261,11 @@ good-start limit n = record {
     inside = refl;
   };
   ops = weigh_all-idle (past_of 0) n;
-  sound = λ g. subst (Sound (start limit n).world g) (sym (λ i. record {
-    waiting = weigh_all-idle (waiting_of g) n i;
-    polls = weigh_all-idle (polls_of g) n i;
-    ending = weigh_all-idle (ending_of g) n i;
-    ready = weigh_all-idle (ready_of g) n i;
-    closing = weigh_all-idle (closing_of g) n i;
-    settling = weigh_all-idle (settling_of g) n i;
-    giving = weigh_all-idle (giving_of g) n i;
-    drops = weigh_all-idle (drops_of g) n i;
-    releases = weigh_all-idle (releases_of g) n i;
-    copies = weigh_all-idle (copies_of g) n i;
-    borrowing = weigh_all-idle borrowing_of n i;
-    ousting = weigh_all-idle ousting_of n i;
-  })) (none_sound limit g);
+  sound = λ g. subst (Sound (start limit n).world g) (sym (pend-none g (idle n) (λ v. weigh_all-idle v n)))
+      (none_sound limit g);
 }
   where
-    none_pending : Pend
-    none_pending =
-        record {
-          waiting = 0;
-          polls = 0;
-          ending = 0;
-          ready = 0;
-          closing = 0;
-          settling = 0;
-          giving = 0;
-          drops = 0;
-          releases = 0;
-          copies = 0;
-          borrowing = 0;
-          ousting = 0;
-        }
-
-    none_sound : (limit g : ℕ) → Sound (start limit 0).world g none_pending
+    none_sound : (limit g : ℕ) → Sound (start limit 0).world g none
     none_sound limit g = grind arith
 
 pub good : (limit n : ℕ) (ts : List Step) → Good (run ts (start limit n))

@@ -125,19 +125,7 @@ grows-begun : (w : World) (p : ℕ) (c : Call) (next : List Op) → (Fits w → 
     Grows w [] (done (log w (event.CallBegun p c)) next)
 grows-begun w p c next z h k =
     record {
-      fits =
-          record {
-            queue = h.queue;
-            own = h.own;
-            table = h.table;
-            leaving = h.leaving;
-            waking = h.waking;
-            wakers = h.wakers;
-            awaiters = h.awaiters;
-            sleepers = h.sleepers;
-            awaiting = h.awaiting;
-            inside = h.inside;
-          };
+      fits = record { awaiting = h.awaiting; inside = h.inside };
       next = z h;
       more = omega arith;
     }
@@ -147,19 +135,7 @@ grows-told : (w : World) (p : ℕ) (c : Call) (e : Event) (next : List Op) → w
     Grows w [] (done (log (log w (event.CallBegun p c)) e) next)
 grows-told w p c e next z h k =
     record {
-      fits =
-          record {
-            queue = h.queue;
-            own = h.own;
-            table = h.table;
-            leaving = h.leaving;
-            waking = h.waking;
-            wakers = h.wakers;
-            awaiters = h.awaiters;
-            sleepers = h.sleepers;
-            awaiting = h.awaiting;
-            inside = h.inside;
-          };
+      fits = record { awaiting = h.awaiting; inside = h.inside };
       next = z;
       more = omega arith;
     }
@@ -170,19 +146,7 @@ grows-told_run : (w : World) (p : ℕ) (c : Call) (rs : List Run) (e : Event) (n
     Grows w [] (done (log (record (log w (event.CallBegun p c)) { runs = rs }) e) next)
 grows-told_run w p c rs e next z h k =
     record {
-      fits =
-          record {
-            queue = h.queue;
-            own = h.own;
-            table = h.table;
-            leaving = h.leaving;
-            waking = h.waking;
-            wakers = h.wakers;
-            awaiters = h.awaiters;
-            sleepers = h.sleepers;
-            awaiting = h.awaiting;
-            inside = h.inside;
-          };
+      fits = record { awaiting = h.awaiting; inside = h.inside };
       next = z;
       more = omega arith;
     }
@@ -202,19 +166,7 @@ grows-used : (w : World) (p k f : ℕ) (c : Call) (next : List Op) → slice_get
     Grows w [] (done (used_up (log w (event.CallBegun p c)) k) next)
 grows-used w p k f c next e z h y =
     record {
-      fits =
-          record {
-            queue = h.queue;
-            own = h.own;
-            table = h.table;
-            leaving = h.leaving;
-            waking = h.waking;
-            wakers = omega (arith, wakers_past-used (length w.tasks) f k w.wakers e, h.wakers);
-            awaiters = h.awaiters;
-            sleepers = h.sleepers;
-            awaiting = h.awaiting;
-            inside = h.inside;
-          };
+      fits = record { awaiting = h.awaiting; inside = h.inside };
       next = z (kept-known w k f h e);
       more = omega arith;
     }
@@ -315,18 +267,7 @@ begins w p ss o here (call.PollRun r b) k has =
 begins w p ss o here (call.DropRun r) k has =
     grows-told_run w p _ _ _ _ (past-drop_run (length w.tasks) (run_of w r).stage r)
 begins w p ss o here call.DropExecutor k has = λ h y. record {
-  fits = record {
-    queue = h.queue;
-    own = h.own;
-    table = h.table;
-    leaving = h.leaving;
-    waking = h.waking;
-    wakers = h.wakers;
-    awaiters = h.awaiters;
-    sleepers = h.sleepers;
-    awaiting = h.awaiting;
-    inside = h.inside;
-  };
+  fits = record { awaiting = h.awaiting; inside = h.inside };
   next = refl;
   more = omega arith;
 }

@@ -23,7 +23,7 @@ use Rattle.executor_model.specs.declared.step.UserEnd.TheVariants as end
 use Rattle.executor_model.specs.World.{World, Done, done, log}
 use Rattle.executor_model.specs.Doing.{act}
 use Rattle.executor_model.specs.Weights.{weigh, weigh_all, waker_past}
-use Rattle.executor_model.specs.Sound.{Sound, Pend}
+use Rattle.executor_model.specs.Sound.{Sound, Pend, pend}
 use Rattle.executor_model.specs.Good.{Good}
 use Rattle.executor_model.specs.Rows.{borrowing_of, waiting_of, polls_of, ending_of, ready_of, closing_of, settling_of}
 use Rattle.executor_model.specs.Rows.{giving_of, drops_of, releases_of, copies_of, ousting_of, past_of}
@@ -39,6 +39,7 @@ use Rattle.executor_model.proofs.CountingHandles.{sound-pending, sound-ready}
 use Rattle.executor_model.proofs.SoundAll.{sound-act}
 use Rattle.executor_model.proofs.Fitting.{Grown, Grows}
 use Rattle.executor_model.proofs.FittingActs.{grows-act}
+use Rattle.executor_model.proofs.FittingSound.{fits-sound}
 pub use Rattle.executor_model.proofs.Growing.{KeepsHere, pend-none, push-pend, split, split-pend}
 use Rattle.executor_model.proofs.Views.{none}
 use Rattle.executor_model.proofs.Growing.{more-all}
@@ -59,8 +60,11 @@ good-unsettled s p old rest d h e keeps grows good =
     split (past_of n) s.parties p old rest h e in
     let g : Grown s.world d = grows good.fits (omega (arith, z, good.ops)) in
     let m = length d.world.tasks in
+    let sound : (f : ℕ) → Sound d.world f (pend f (set s.parties p (rest ++ reverse d.next))) = λ f.
+    subst (Sound d.world f) (sym (push-pend f s.parties p rest d.next h))
+    (keeps f (subst (Sound s.world f) (split-pend f s.parties p old rest h e) (good.sound f))) in
     record {
-      fits = g.fits;
+      fits = fits-sound d.world (λ f. pend f (set s.parties p (rest ++ reverse d.next))) sound g.fits;
       ops =
           omega (
             arith,
@@ -68,8 +72,7 @@ good-unsettled s p old rest d h e keeps grows good =
             g.next,
             more-all n m g.more (set s.parties p rest) (omega (arith, z, good.ops)),
           );
-      sound = λ f. subst (Sound d.world f) (sym (push-pend f s.parties p rest d.next h))
-          (keeps f (subst (Sound s.world f) (split-pend f s.parties p old rest h e) (good.sound f)));
+      sound = sound;
     }
 
 -- the end of a call is one thing more

@@ -45,7 +45,7 @@ use Rattle.executor_model.specs.Good.{Fits, pasts, pasts_in}
 use Rattle.executor_model.specs.Rows.{past_of, then_past}
 use Rattle.executor_model.specs.Weights.{past, waker_past, weigh}
 use Rattle.executor_model.proofs.Fitting.{Grown, Grows, Shaped, shaped, fits-log, grows-carried, same-log}
-use Rattle.executor_model.proofs.Lists.{pasts-append, pasts-drop, weigh-append}
+use Rattle.executor_model.proofs.Lists.{pasts-drop, weigh-append}
 use Rattle.executor_model.proofs.RunsMoves.{Same, same-found, same-here, same-rooms, same-stolen, same-taken}
 use Rattle.executor_model.proofs.RunsMoves.{same-trans}
 use Rattle.executor_model.proofs.SleepersLists.{given_back-same}

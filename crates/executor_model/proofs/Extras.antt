@@ -5,9 +5,14 @@ use Rattle.executor_model.specs.declared.op.Op.{Op}
 use Rattle.executor_model.specs.declared.op.Op.TheVariants as op
 use Rattle.executor_model.specs.declared.op.ClosingOp.TheVariants as closing_op
 use Rattle.executor_model.specs.declared.op.HandleOp.TheVariants as handle_op
+use Rattle.executor_model.specs.declared.op.RunOp.{RunOp}
+use Rattle.executor_model.specs.declared.op.RunOp.TheVariants as run_op
+use Rattle.executor_model.specs.declared.op.Sleeper.{Sleeper}
+use Rattle.executor_model.specs.declared.op.Sleeper.TheVariants as sleeper
+use Rattle.executor_model.specs.declared.op.TickOp.TheVariants as tick_op
 use Rattle.executor_model.specs.declared.op.UserOp.TheVariants as user_op
 use Rattle.task_moves.specs.declared.moves.owed.Move.TheVariants as move
-use Rattle.executor_model.specs.Rows.{leaves_of}
+use Rattle.executor_model.specs.Rows.{appends_of, leaves_of}
 use Rattle.executor_model.specs.Weights.{same, weigh, weigh_all}
 use Rattle.executor_model.proofs.Lists.{weigh-append}
 
@@ -53,6 +58,23 @@ abbrev pub storing_of : ℕ → Op → ℕ
 storing_of g (op.Handle (handle_op.EndRegister f a k)) = same g f
 storing_of g _ = 0
 
+-- who searches is a run
+abbrev pub runs_of_who : Sleeper → ℕ
+runs_of_who (sleeper.Run r) = 1
+runs_of_who (sleeper.Tick t) = 0
+
+abbrev pub runs_of_run : RunOp → ℕ
+runs_of_run (run_op.WakeOwn x) = 0
+runs_of_run _ = 1
+
+-- what a run does, but for the call of its own waker
+abbrev pub runs_of : Op → ℕ
+runs_of (op.Steal o) = 1
+runs_of (op.List o) = 1
+runs_of (op.Run o) = runs_of_run o
+runs_of (op.Tick (tick_op.Search s)) = runs_of_who s.who
+runs_of _ = 0
+
 pub record Extra : Type 0 where
   pub leaves : ℕ
   pub closing : ℕ
@@ -62,6 +84,8 @@ pub record Extra : Type 0 where
   pub telling : ℕ
   pub taking : ℕ
   pub storing : ℕ
+  pub appends : ℕ
+  pub runs : ℕ
 
 abbrev pub extras : ℕ → List Op → Extra
 extras g os = record {
@@ -73,6 +97,8 @@ extras g os = record {
   telling = weigh (telling_of g) os;
   taking = weigh (taking_of g) os;
   storing = weigh (storing_of g) os;
+  appends = weigh (appends_of g) os;
+  runs = weigh runs_of os;
 }
 
 abbrev pub no_extra : Extra
@@ -88,6 +114,8 @@ plus_extra a b = record {
   telling = a.telling + b.telling;
   taking = a.taking + b.taking;
   storing = a.storing + b.storing;
+  appends = a.appends + b.appends;
+  runs = a.runs + b.runs;
 }
 
 abbrev pub with_extra : ℕ → List Op → Extra → Extra
@@ -103,6 +131,8 @@ extra g ss = record {
   telling = weigh_all (telling_of g) ss;
   taking = weigh_all (taking_of g) ss;
   storing = weigh_all (storing_of g) ss;
+  appends = weigh_all (appends_of g) ss;
+  runs = weigh_all runs_of ss;
 }
 
 pub extras-append : (g : ℕ) (xs ys : List Op) → extras g (xs ++ ys) ≡ plus_extra (extras g xs) (extras g ys)
@@ -115,6 +145,8 @@ extras-append g xs ys = λ t. record {
   telling = weigh-append (telling_of g) xs ys t;
   taking = weigh-append (taking_of g) xs ys t;
   storing = weigh-append (storing_of g) xs ys t;
+  appends = weigh-append (appends_of g) xs ys t;
+  runs = weigh-append runs_of xs ys t;
 }
 
 assoc : (v : Op → ℕ) (xs ys : List Op) (n : ℕ) → weigh v (xs ++ ys) + n ≡ weigh v xs + (weigh v ys + n)
@@ -131,6 +163,8 @@ with_extra-append g xs ys r = λ t. record {
   telling = assoc (telling_of g) xs ys r.telling t;
   taking = assoc (taking_of g) xs ys r.taking t;
   storing = assoc (storing_of g) xs ys r.storing t;
+  appends = assoc (appends_of g) xs ys r.appends t;
+  runs = assoc runs_of xs ys r.runs t;
 }
 
 -- what holds of each count holds of all of them
@@ -145,6 +179,8 @@ extra-none g ss a = λ t. record {
   telling = a (telling_of g) t;
   taking = a (taking_of g) t;
   storing = a (storing_of g) t;
+  appends = a (appends_of g) t;
+  runs = a runs_of t;
 }
 
 pub extra-by : (g : ℕ) (ss ts : List (List Op)) (os : List Op) →
@@ -158,9 +194,11 @@ extra-by g ss ts os a = λ t. record {
   telling = a (telling_of g) t;
   taking = a (taking_of g) t;
   storing = a (storing_of g) t;
+  appends = a (appends_of g) t;
+  runs = a runs_of t;
 }
 
--- what an operation counts for here, its entry aside
+-- what an operation counts for here, but for its entry, appends and what runs do
 abbrev pub extra_row : ℕ → Op → Extra
 extra_row g o = record no_extra {
   closing = closing_of o;

@@ -19,7 +19,7 @@ use Rattle.executor_model.specs.Sound.{Pend}
 use Rattle.executor_model.proofs.Lists.{weigh-append}
 use Rattle.executor_model.proofs.Extras.{Extra, no_extra, plus_extra, extras, extras-append}
 use Rattle.executor_model.proofs.Views.{none, plus, hand, of_schedule, of_drop, of_future, of_next, of_owed}
-use Rattle.executor_model.proofs.Views.{extra_hand, of_output, of_awaiter, extra_next, extra_owed}
+use Rattle.executor_model.proofs.Views.{extra_hand, of_append, of_output, of_awaiter, extra_next, extra_owed}
 
 -- the counts of a list of things to do, all at once
 
@@ -130,8 +130,8 @@ module _ (g f k : ℕ) (e : same g f ≡ k) where
   extras-hand move.Detach = ap (λ (n : ℕ). record no_extra { detaches = n }) one
   extras-hand _ = refl
 
-  extras-schedule : (o : Option ScheduleInfo) → extras g (schedule_ops f o) ≡ no_extra
-  extras-schedule (Some i) = refl
+  extras-schedule : (o : Option ScheduleInfo) → extras g (schedule_ops f o) ≡ of_append k o
+  extras-schedule (Some i) = ap (λ (n : ℕ). record no_extra { appends = n }) one
   extras-schedule None = refl
 
   extras-future : (b : Bool) (o : Option FutureDebt) → extras g (future_ops b f o) ≡ no_extra
@@ -165,11 +165,11 @@ module _ (g f k : ℕ) (e : same g f ≡ k) where
       let u = future_ops b f o.future in
       let v = output_ops o.drop_output f in
       let y = awaiter_ops f o.awaiter in
-      let e1 : extras g (s ++ u) ≡ no_extra = extras-append g s u
+      let e1 : extras g (s ++ u) ≡ plus_extra (of_append k o.schedule) no_extra = extras-append g s u
       ∙ extras-both (extras-schedule o.schedule) (extras-future b o.future) in
-      let e2 : extras g (s ++ u ++ v) ≡ plus_extra no_extra (of_output k o.drop_output) =
+      let e2 : extras g (s ++ u ++ v) ≡ plus_extra (plus_extra (of_append k o.schedule) no_extra) (of_output k o.drop_output) =
       extras-append g (s ++ u) v ∙ extras-both e1 (extras-output o.drop_output) in
       let e3 : extras g (s ++ u ++ v ++ y) ≡
-      plus_extra (plus_extra no_extra (of_output k o.drop_output)) (of_awaiter k o.awaiter) =
+      plus_extra (plus_extra (plus_extra (of_append k o.schedule) no_extra) (of_output k o.drop_output)) (of_awaiter k o.awaiter) =
       extras-append g (s ++ u ++ v) y ∙ extras-both e2 (extras-awaiter o.awaiter) in
       extras-append g (s ++ u ++ v ++ y) (next_ops f o.next) ∙ extras-both e3 (extras-next o.next)

@@ -1,6 +1,6 @@
 -- What one future sees of a step that moves no task: things pass from one place to another, the drop of the executor goes
--- on, and its handle is polled. What holds of the views before and after (proofs/Views), in four parts, each for the laws
--- that need it.
+-- on, and its handle is polled. What holds of the views before and after (proofs/Views), in parts, each for the laws that
+-- need it.
 use Rattle.std.proofs.Common.{◌≡◌, ◌⊎◌, ℕ, ◌+◌, ◌^◌, ◌<◌, ◌≤◌, List, true, false}
 use Rattle.executor_model.specs.declared.op.Op.{Op}
 use Rattle.executor_model.specs.World.{World, Done}
@@ -71,11 +71,16 @@ pub record Handles (x y : Seen) : Type 0 where
   pub watched : (x.state.completed ≡ true → (x.state.scheduled ≡ false) × (x.state.running ≡ false)) → Watched x →
       Watched y
 
+-- the executor's queue: nothing comes there or on its way there, but by what runs do
+pub record Queues (x y : Seen) : Type 0 where
+  pub common : (y.common + y.extra.appends ≤ x.common + x.extra.appends) ⊎ (1 ≤ x.extra.runs)
+
 pub record Goes (x y : Seen) : Type 0 where
   pub passes : Passes x y
   pub stays : Stays x y
   pub gives : Gives x y
   pub handles : Handles x y
+  pub queues : Queues x y
 
 abbrev pub GoesBy : World → List Op → Done → Type 0
 GoesBy w old d = (g : ℕ) (r : Pend) (y : Extra) →

@@ -7,12 +7,10 @@ use Rattle.executor_model.specs.Trace.{Trace, is_dropped}
 use Rattle.executor_model.specs.AwaiterKept.{since, IsOverWithHandle, AwaiterIsKept}
 use Rattle.executor_model.specs.World.{World, task, blank}
 use Rattle.executor_model.specs.Sound.{Sound, Pend, pend, queued, times, times_in, phase}
-use Rattle.executor_model.specs.Rows as rows
 use Rattle.executor_model.specs.Sound.Phase.{Over}
 use Rattle.executor_model.specs.Good.{Good}
 use Rattle.executor_model.specs.Weights.{past}
-use Rattle.executor_model.specs.Rows.{handling_of, borrowing_of, waiting_of, polls_of, ending_of, ready_of, settling_of}
-use Rattle.executor_model.specs.Rows.{giving_of, drops_of, releases_of, copies_of, ousting_of, leaves_of}
+use Rattle.executor_model.specs.Rows.{ousting_of}
 use Rattle.executor_model.specs.Steps.{Machine, stack, run, start}
 use Rattle.executor_model.proofs.Cases.{by_bool}
 use Rattle.executor_model.proofs.Lists.{past_is}
@@ -23,9 +21,7 @@ use Rattle.executor_model.proofs.Telling.{fallen-counts, counted-there}
 use Rattle.executor_model.proofs.Leaving.{Leaves}
 use Rattle.executor_model.proofs.Extras.{Extra, no_extra, extra, extra-none}
 use Rattle.executor_model.proofs.LeavingRuns.{Placed, placed}
-use Rattle.executor_model.proofs.Awaited.{Heard, heard, Awaiting, awaiting, Awaits, Mark, looks_of, fresh_of}
-use Rattle.executor_model.proofs.Awaited.{storing_of, again_of, waits_of, over_of, notices_of, notifying_of}
-use Rattle.executor_model.proofs.Awaited.{mine_of, detaches_of, lending_of, strays_of, calls_of}
+use Rattle.executor_model.proofs.Awaited.{Heard, heard, Awaiting, awaiting, Awaits, Mark}
 use Rattle.executor_model.proofs.UsingSteps.{OwnEmptied, own-emptied}
 use Rattle.executor_model.proofs.AwaitedSweeps.{lists, Sweep, sweep, Sweeps, dropping_of}
 use Rattle.executor_model.proofs.AwaitedClosing.{Swept, swept}

@@ -22,10 +22,9 @@ use Rattle.executor_model.specs.Acts.{is_copy_refused}
 use Rattle.executor_model.specs.Doing.{act}
 use Rattle.executor_model.specs.Weights.{same, weigh, weigh_all, past}
 use Rattle.executor_model.specs.Sound.{Pend, pend, with_ops}
-use Rattle.executor_model.specs.Rows as rows
 use Rattle.executor_model.specs.Good.{Good}
-use Rattle.executor_model.specs.Rows.{handling_of, borrowing_of, waiting_of, polls_of, ending_of, ready_of, settling_of}
-use Rattle.executor_model.specs.Rows.{giving_of, drops_of, releases_of, copies_of, ousting_of, past_of}
+use Rattle.executor_model.specs.Rows.{handling_of}
+use Rattle.executor_model.specs.Rows.{past_of}
 use Rattle.executor_model.specs.Steps.{Machine, stack, idle, run, start, mine, top, is_free, has_all, has_handle}
 use Rattle.executor_model.specs.Steps.{is_on_executor, is_drop, is_unborrowed, accepts, begun, react}
 use Rattle.task_moves.specs.Moves as moves
@@ -38,9 +37,7 @@ use Rattle.executor_model.proofs.Calls.{calling_of, is_end, Passes, single, then
 use Rattle.executor_model.proofs.CallsGroups.{calls-act}
 use Rattle.executor_model.proofs.Resting.{idle-stack, opens}
 use Rattle.executor_model.proofs.Awaited.{Heard, heard, heard-none, Awaiting, with_awaiting, awaiting}
-use Rattle.executor_model.proofs.Awaited.{Awaits, Mark, asks_if, looks_of, fresh_of, storing_of}
-use Rattle.executor_model.proofs.Awaited.{again_of, waits_of, over_of, notices_of, notifying_of, mine_of}
-use Rattle.executor_model.proofs.Awaited.{detaches_of, lending_of, strays_of, calls_of}
+use Rattle.executor_model.proofs.Awaited.{Awaits, Mark, asks_if}
 use Rattle.executor_model.proofs.AwaitedActs.{is_answer}
 use Rattle.executor_model.proofs.AwaitedGroups.{awaits-act, awaits-react, asked}
 use Rattle.executor_model.proofs.AwaitedTies.{Tied, AllTied, tied-moves, tied-ends}

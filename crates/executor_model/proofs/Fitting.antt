@@ -27,13 +27,13 @@ use Rattle.executor_model.specs.declared.op.WakerOp.TheVariants as waker_op
 use Rattle.executor_model.specs.declared.step.Hint.{Hint}
 use Rattle.executor_model.specs.World.{World, Done, done, log, log_if, task, put, awaiter_of, put_awaiter, among}
 use Rattle.executor_model.specs.Carried.{awaiter_ops, owed_ops, carried}
-use Rattle.executor_model.specs.Acts.{append_by, take_by, enter_by, entered, leave_by, copy_by}
+use Rattle.executor_model.specs.Acts.{append_by, take_by, enter_by, leave_by, copy_by}
 use Rattle.executor_model.specs.Acts.{answered, polled}
 use Rattle.executor_model.specs.Acts.{look_by, look_again_by, copy_awaiter_by, register_by, end_register_by, notify_by}
 use Rattle.executor_model.specs.Acts.{end_notify, told, let_go, waker_goes, call_awaiter, closing_ops}
 use Rattle.executor_model.specs.Acts.{drop_next_by}
 use Rattle.executor_model.specs.Acts.{wake_next_by, drain_by, followed, wake, reply_of, is_output}
-use Rattle.executor_model.specs.Weights.{weigh, weigh_sleepers, past, waker_past}
+use Rattle.executor_model.specs.Weights.{weigh, past, waker_past}
 use Rattle.executor_model.specs.Good.{pasts, awaiters_past, Fits}
 use Rattle.executor_model.specs.Rows.{past_of}
 use Rattle.executor_model.proofs.Cases.{by_bool, by_list, by_waker}

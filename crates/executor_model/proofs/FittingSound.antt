@@ -1,6 +1,6 @@
 -- Each number that the world keeps is a future's (specs/Good): of any other the counts say that nothing holds it, since
 -- it has no task.
-use Rattle.std.proofs.Common.{◌≡◌, ◌⊎◌, ℕ, ◌+◌, ◌≤◌, List, [], ◌∷◌, length, refl, ap, ⊎_elim, arith}
+use Rattle.std.proofs.Common.{◌≡◌, ℕ, ◌+◌, ◌≤◌, List, [], ◌∷◌, length, refl, ap, ⊎_elim, arith}
 use Rattle.std.proofs.lemmas.List.{get_or_past}
 use Rattle.std.specs.Prelude.{Option, Some, None}
 use Rattle.task_moves.specs.declared.moves.state.State.{State}
@@ -8,9 +8,9 @@ use Rattle.executor_model.specs.declared.op.Awaiter.{Awaiter}
 use Rattle.executor_model.specs.declared.op.Sleeping.{Sleeping}
 use Rattle.executor_model.specs.declared.op.Waker.{Waker}
 use Rattle.executor_model.specs.declared.op.Waker.TheVariants.{Task, Outside}
-use Rattle.executor_model.specs.World.{World, task, blank}
+use Rattle.executor_model.specs.World.{World, blank}
 use Rattle.executor_model.specs.Good.{Fits, pasts, pasts_in, wakers_past, awaiters_past, sleepers_past}
-use Rattle.executor_model.specs.Sound.{Sound, Pend, living, queued, times, times_in, tokens, wakers_of, awaiters_of}
+use Rattle.executor_model.specs.Sound.{Sound, Pend, living, times, times_in, tokens, wakers_of, awaiters_of}
 use Rattle.executor_model.specs.Sound.{sleepers_of}
 use Rattle.executor_model.specs.Weights.{same, past, waker_past, wakes}
 use Rattle.executor_model.proofs.Lists.{past_is, same_cases}

@@ -23,10 +23,9 @@ use Rattle.executor_model.specs.declared.step.UserEnd.TheVariants as end
 use Rattle.executor_model.specs.World.{World, Done, done, log}
 use Rattle.executor_model.specs.Doing.{act}
 use Rattle.executor_model.specs.Weights.{weigh, weigh_all, waker_past}
-use Rattle.executor_model.specs.Sound.{Sound, Pend, pend}
+use Rattle.executor_model.specs.Sound.{Sound, pend}
 use Rattle.executor_model.specs.Good.{Good}
-use Rattle.executor_model.specs.Rows.{borrowing_of, waiting_of, polls_of, ending_of, ready_of, closing_of, settling_of}
-use Rattle.executor_model.specs.Rows.{giving_of, drops_of, releases_of, copies_of, ousting_of, past_of}
+use Rattle.executor_model.specs.Rows.{past_of}
 use Rattle.executor_model.specs.Steps.{Machine, stack, top, below_top, is_free, mine, has_all}
 use Rattle.executor_model.specs.Steps.{is_on_executor, is_drop, is_unborrowed, unless, begin_refusal}
 use Rattle.executor_model.specs.Steps.{answer_refusal, accepts, party_of, part_refusal, refusal}

@@ -1,6 +1,6 @@
 -- What a run does leaves numbers that are futures'.
 use Rattle.std.proofs.Common.{◌≡◌, ℕ, zero, suc, ◌+◌, ◌%◌, List, [], ◌∷◌, ◌++◌, length, get_or, set, Bool, true}
-use Rattle.std.proofs.Common.{false, eqb, not, refl, ap, ◌∙◌, arith}
+use Rattle.std.proofs.Common.{false, eqb, not, refl, ap, arith}
 use Rattle.executor_model.specs.declared.call.Reply.{Reply}
 use Rattle.executor_model.specs.declared.call.Reply.TheVariants as reply
 use Rattle.executor_model.specs.declared.op.Hold.TheVariants as hold
@@ -34,7 +34,7 @@ use Rattle.executor_model.specs.declared.op.Polled.TheVariants as of
 use Rattle.executor_model.specs.World.{World, Place, Up, Lies, Left, Stage, New, Listed, Ended, Done, done, log}
 use Rattle.executor_model.specs.World.{log_if, own_of, put_own, run_of, task}
 use Rattle.executor_model.specs.ActsOfSleepers.{found_by}
-use Rattle.executor_model.specs.ActsOfRuns.{call_by_reference, run_by, counted_by, counted_to, found, make_run_by}
+use Rattle.executor_model.specs.ActsOfRuns.{call_by_reference, run_by, counted_by, found, make_run_by}
 use Rattle.executor_model.specs.ActsOfRuns.{registered}
 use Rattle.executor_model.specs.ActsOfRuns.{kept_by, look_own_by, next_place, queue_at, search_common_by, walk}
 use Rattle.executor_model.specs.ActsOfRuns.{search_own_by, source_of, stolen, steal_by, steal_length_by}
@@ -49,7 +49,6 @@ use Rattle.executor_model.proofs.Lists.{pasts-drop, weigh-append}
 use Rattle.executor_model.proofs.RunsMoves.{Same, same-found, same-here, same-rooms, same-stolen, same-taken}
 use Rattle.executor_model.proofs.RunsMoves.{same-trans}
 use Rattle.executor_model.proofs.SleepersLists.{given_back-same}
-use Rattle.queue_steps.specs.ClosableQueue.{ClosableQueue}
 use Rattle.executor_model.proofs.SleepersFitting.{grows-search}
 
 -- own queues

@@ -4,7 +4,7 @@ use Rattle.std.proofs.Math.ListN.{length-set}
 use Rattle.std.specs.Prelude.{Option, Some, None, is_none}
 use Rattle.task_moves.specs.Moves as moves
 use Rattle.task_moves.specs.declared.moves.state.State.{State}
-use Rattle.executor_parts.specs.Sleepers.{last_waker, next_number, position_of, waker_at, waker_of}
+use Rattle.executor_parts.specs.Sleepers.{last_waker, position_of, waker_at, waker_of}
 use Rattle.executor_model.specs.declared.event.Event.TheVariants as event
 use Rattle.executor_model.specs.declared.op.Op.{Op}
 use Rattle.executor_model.specs.declared.op.Op.TheVariants as op
@@ -21,12 +21,12 @@ use Rattle.executor_model.specs.ActsOfSleepers.{exchange_by, hand_out_by, make_t
 use Rattle.executor_model.specs.ActsOfSleepers.{copy_sleeper_by, lie_anew_by, sleeper_goes, lie_listed_by}
 use Rattle.executor_model.specs.ActsOfSleepers.{pend_as}
 use Rattle.executor_model.specs.ActsOfSleepers.{lie_again_by, lie_down_by, get_up_by, tell_if, leave_sleepers_by}
-use Rattle.executor_model.specs.Weights.{weigh, waker_past, weigh_sleepers}
+use Rattle.executor_model.specs.Weights.{weigh, waker_past}
 use Rattle.executor_model.specs.Good.{Fits}
 use Rattle.executor_model.specs.Rows.{past_of}
 use Rattle.executor_model.proofs.Fitting.{Grown, Grows, Shaped, shaped, fits-log, same-log, grows-carried, past_goes}
 use Rattle.executor_model.proofs.Lists.{pasts-drop, weigh-append}
-use Rattle.executor_model.proofs.SleepersLists.{held, given_back-same, sleepers-append, sleepers-last}
+use Rattle.executor_model.proofs.SleepersLists.{held, sleepers-last}
 use Rattle.executor_model.proofs.SleepersLists.{sleepers-risen, sleepers-left, sleepers-set}
 
 -- the places of futures are as they were

@@ -1,6 +1,6 @@
 -- A future away from the executor's queue (proofs/Safe): kept by each move of its task but the beginning of a poll, and by
 -- each effect of what no run does, on its view.
-use Rattle.std.proofs.Common.{◌≡◌, ◌⊎◌, ℕ, ◌+◌, ◌<◌, ◌≤◌, List, [], ◌∷◌, ◌++◌, length, true, false, inl, inr, ap, ◌∙◌, arith}
+use Rattle.std.proofs.Common.{◌≡◌, ◌⊎◌, ℕ, ◌+◌, ◌<◌, ◌≤◌, List, [], ◌∷◌, ◌++◌, true, false, inl, inr, ap, ◌∙◌, arith}
 use Rattle.std.proofs.lemmas.Bool.Decides.{nat_tests}
 use Rattle.std.proofs.lemmas.List.{length-append}
 use Rattle.std.specs.Prelude.{slice_set}
@@ -15,7 +15,6 @@ use Rattle.executor_model.specs.declared.op.QueueOp.TheVariants as queue_op
 use Rattle.executor_model.specs.declared.op.TableOp.TheVariants as table_op
 use Rattle.executor_model.specs.declared.op.UserOp.TheVariants as user_op
 use Rattle.executor_model.specs.Acts.{append_by, begin_drop, closing_ops, enter_by, leave_by, stands_alone}
-use Rattle.executor_model.specs.Rows.{appends_of}
 use Rattle.executor_model.specs.Sound.{Pend, with_ops}
 use Rattle.executor_model.specs.Weights.{weigh}
 use Rattle.executor_model.specs.World.{World, Done, done, log, task}

@@ -7,12 +7,10 @@ use Rattle.executor_model.specs.Trace.{Trace, is_dropped}
 use Rattle.executor_model.specs.AwaiterKept.{since, IsOverWithHandle, AwaiterIsKept}
 use Rattle.executor_model.specs.World.{World, task, blank}
 use Rattle.executor_model.specs.Sound.{Sound, Pend, pend, queued, times, times_in, phase}
-use Rattle.executor_model.specs.Rows as rows
 use Rattle.executor_model.specs.Sound.Phase.{Over}
 use Rattle.executor_model.specs.Good.{Good}
 use Rattle.executor_model.specs.Weights.{past}
-use Rattle.executor_model.specs.Rows.{handling_of, borrowing_of, waiting_of, polls_of, ending_of, ready_of, settling_of}
-use Rattle.executor_model.specs.Rows.{giving_of, drops_of, releases_of, copies_of, ousting_of, leaves_of}
+use Rattle.executor_model.specs.Rows.{ousting_of}
 use Rattle.executor_model.specs.Steps.{Machine, stack, run, start}
 use Rattle.executor_model.proofs.Cases.{by_bool}
 use Rattle.executor_model.proofs.Lists.{past_is}
@@ -20,23 +18,21 @@ use Rattle.executor_model.proofs.Lift.{good}
 use Rattle.executor_model.proofs.Resting.{Deep, deep, rests, all-rest}
 use Rattle.executor_model.proofs.Stories.{story}
 use Rattle.executor_model.proofs.Telling.{fallen-counts, counted-there}
-use Rattle.executor_model.proofs.Leaving.{closing_of, waking_of, Extra, extra, Leaves}
+use Rattle.executor_model.proofs.Leaving.{Leaves}
+use Rattle.executor_model.proofs.Extras.{Extra, no_extra, extra, extra-none}
 use Rattle.executor_model.proofs.LeavingRuns.{Placed, placed}
-use Rattle.executor_model.proofs.Awaited.{Heard, heard, Awaiting, awaiting, Awaits, Mark, looks_of, fresh_of}
-use Rattle.executor_model.proofs.Awaited.{storing_of, again_of, waits_of, over_of, notices_of, notifying_of}
-use Rattle.executor_model.proofs.Awaited.{mine_of, detaches_of, lending_of, strays_of, calls_of}
+use Rattle.executor_model.proofs.Awaited.{Heard, heard, Awaiting, awaiting, Awaits, Mark}
 use Rattle.executor_model.proofs.UsingSteps.{OwnEmptied, own-emptied}
 use Rattle.executor_model.proofs.AwaitedSweeps.{lists, Sweep, sweep, Sweeps, dropping_of}
 use Rattle.executor_model.proofs.AwaitedClosing.{Swept, swept}
 use Rattle.executor_model.proofs.AwaitedSweeps.{rousing_of, shutting_of, draining_of}
 use Rattle.executor_model.proofs.AwaitedCalls.{marked}
-use Rattle.executor_model.proofs.AwaitedSteps.{Waited, nothing_pending, nothing_awaited}
+use Rattle.executor_model.proofs.AwaitedSteps.{Waited, awaiting-none, nothing_awaited}
+use Rattle.executor_model.proofs.Growing.{pend-none}
+use Rattle.executor_model.proofs.Views.{none}
 use Rattle.executor_model.proofs.AwaitedRuns.{waited}
 use Rattle.executor_model.proofs.AwaitedTelling.{parted-has, dropped-has, over-dropped, Begun}
 use Rattle.executor_model.proofs.AwaitedTelling.{begun-at, called-from, pending-at}
-
-abbrev nothing_more : Extra
-nothing_more = record { leaves = 0; closing = 0; waking = 0 }
 
 abbrev nothing_swept : Sweep
 nothing_swept = record { outs = 0; drops = 0; wakes = 0; shuts = 0; drains = 0 }
@@ -46,7 +42,7 @@ no-times g [] e = refl
 no-times g (x ∷ xs) e = absurd (omega (arith, e))
 
 -- where nothing is left to do, a dropped future has no Runnable
-none-queued : (gone : Bool) (w : World) (g : ℕ) → w.gone ≡ gone → Leaves w g nothing_pending nothing_more →
+none-queued : (gone : Bool) (w : World) (g : ℕ) → w.gone ≡ gone → Leaves w g none no_extra →
     Sweeps (lists w) nothing_swept → (w.gone ≡ true → times_in g w.own ≡ 0) → 1 ≤ (story g w.trace).fallen →
     queued w g ≡ 0
 none-queued = by_bool _
@@ -59,20 +55,20 @@ none-waking w g v e = ⊎_elim (λ (x : 1 ≤ 0). absurd (omega (arith, x)))
     (λ (x : length w.waking ≡ 0). no-times g w.waking x) (v.awake e)
 
 -- it is settled
-settled : (gone : Bool) (w : World) (g : ℕ) (m : Mark) → w.gone ≡ gone → Sound w g nothing_pending →
-    Awaits w g nothing_pending nothing_awaited m → Sweeps (lists w) nothing_swept → (heard g w.trace).dropped ≡ true →
+settled : (gone : Bool) (w : World) (g : ℕ) (m : Mark) → w.gone ≡ gone → Sound w g none →
+    Awaits w g none nothing_awaited m → Sweeps (lists w) nothing_swept → (heard g w.trace).dropped ≡ true →
     (task w g).scheduled ≡ false → (task w g).running ≡ false →
     ((task w g).closed ≡ true) ⊎ ((task w g).completed ≡ true)
 settled = by_bool _
     (λ w g m e h a v d s r. let z : times g w.waking ≡ 0 = none-waking w g v e in grind arith)
     (λ w g m e h a v d s r. let z : phase g w.trace ≡ Over = over-dropped g w.trace d h.lawful in grind arith)
 
-not-scheduled : (b : Bool) (w : World) (g : ℕ) → (task w g).scheduled ≡ b → Sound w g nothing_pending →
+not-scheduled : (b : Bool) (w : World) (g : ℕ) → (task w g).scheduled ≡ b → Sound w g none →
     queued w g ≡ 0 → b ≡ false
 not-scheduled false w g e h z = refl
 not-scheduled true w g e h z = absurd (omega (arith, h.owed e, z))
 
-not-running : (b : Bool) (w : World) (g : ℕ) → (task w g).running ≡ b → Sound w g nothing_pending → b ≡ false
+not-running : (b : Bool) (w : World) (g : ℕ) → (task w g).running ≡ b → Sound w g none → b ≡ false
 not-running false w g e h = refl
 not-running true w g e h = absurd (omega (arith, h.going e))
 
@@ -86,12 +82,12 @@ known-task w g h = ⊎_elim (λ (x : (past (length w.tasks) g ≡ 0) × (g < len
     (past_is (length w.tasks) g).1
 
 handle-there : (b : Bool) (w : World) (g : ℕ) (m : Mark) → (task w g).handle ≡ b →
-    Awaits w g nothing_pending nothing_awaited m → ((task w g).closed ≡ true) ⊎ ((task w g).completed ≡ true) →
+    Awaits w g none nothing_awaited m → ((task w g).closed ≡ true) ⊎ ((task w g).completed ≡ true) →
     (heard g w.trace).parted ≡ false → b ≡ true
 handle-there true w g m e a h n = refl
 handle-there false w g m e a h n = let no : true ≡ false = sym (a.parted (known-task w g h) e) ∙ n in absurd (cc)
 
-called-there : (w : World) (g : ℕ) (m : Mark) → Awaits w g nothing_pending nothing_awaited m →
+called-there : (w : World) (g : ℕ) (m : Mark) → Awaits w g none nothing_awaited m →
     (task w g).handle ≡ true → ((task w g).closed ≡ true) ⊎ ((task w g).completed ≡ true) →
     (task w g).scheduled ≡ false → (task w g).running ≡ false → (heard g w.trace).pending ≡ true →
     (heard g w.trace).called ≡ true
@@ -103,29 +99,11 @@ module _ (s : Machine) (fine : Good s) (h : Placed s) (d : Deep s) (v : Swept s)
   idle : (q : ℕ) → stack s q ≡ []
   idle q = rests s d over.quiet q
 
-  is-nothing : pend g s.parties ≡ nothing_pending
-  is-nothing = λ i. record {
-    waiting = all-rest (waiting_of g) s.parties idle i;
-    polls = all-rest (polls_of g) s.parties idle i;
-    ending = all-rest (ending_of g) s.parties idle i;
-    ready = all-rest (ready_of g) s.parties idle i;
-    closing = all-rest (rows.closing_of g) s.parties idle i;
-    settling = all-rest (settling_of g) s.parties idle i;
-    giving = all-rest (giving_of g) s.parties idle i;
-    drops = all-rest (drops_of g) s.parties idle i;
-    releases = all-rest (releases_of g) s.parties idle i;
-    copies = all-rest (copies_of g) s.parties idle i;
-    borrowing = all-rest borrowing_of s.parties idle i;
-    ousting = all-rest ousting_of s.parties idle i;
-  }
+  is-nothing : pend g s.parties ≡ none
+  is-nothing = pend-none g s.parties (λ v. all-rest v s.parties idle)
 
-  is-no-more : extra g s.parties ≡ nothing_more
-  is-no-more =
-      λ i. record {
-        leaves = all-rest (leaves_of g) s.parties idle i;
-        closing = all-rest closing_of s.parties idle i;
-        waking = all-rest waking_of s.parties idle i;
-      }
+  is-no-more : extra g s.parties ≡ no_extra
+  is-no-more = extra-none g s.parties (λ v. all-rest v s.parties idle)
 
   is-swept : sweep s.parties ≡ nothing_swept
   is-swept = λ i. record {
@@ -137,30 +115,15 @@ module _ (s : Machine) (fine : Good s) (h : Placed s) (d : Deep s) (v : Swept s)
   }
 
   is-none-awaited : awaiting g s.parties ≡ nothing_awaited
-  is-none-awaited = λ i. record {
-    handling = all-rest (handling_of g) s.parties idle i;
-    looks = all-rest (looks_of g) s.parties idle i;
-    fresh = all-rest (fresh_of g) s.parties idle i;
-    storing = all-rest (storing_of g) s.parties idle i;
-    again = all-rest (again_of g) s.parties idle i;
-    waits = all-rest (waits_of g) s.parties idle i;
-    over = all-rest (over_of g) s.parties idle i;
-    notices = all-rest (notices_of g) s.parties idle i;
-    notifying = all-rest (notifying_of g) s.parties idle i;
-    mine = all-rest (mine_of g) s.parties idle i;
-    detaches = all-rest (detaches_of g) s.parties idle i;
-    lending = all-rest (lending_of g) s.parties idle i;
-    strays = λ k. all-rest (strays_of g k) s.parties idle i;
-    calls = λ k. all-rest (calls_of g k) s.parties idle i;
-  }
+  is-none-awaited = awaiting-none g s.parties (λ v. all-rest v s.parties idle)
 
-  sound-here : Sound s.world g nothing_pending
+  sound-here : Sound s.world g none
   sound-here = subst (Sound s.world g) is-nothing (fine.sound g)
 
-  leaves-here : Leaves s.world g nothing_pending nothing_more
+  leaves-here : Leaves s.world g none no_extra
   leaves-here = subst (λ (y : Pend × Extra). Leaves s.world g y.0 y.1) (λ i. (is-nothing i, is-no-more i)) (h.leaves g)
 
-  awaits-here : Awaits s.world g nothing_pending nothing_awaited (marked s.world g nothing_awaited)
+  awaits-here : Awaits s.world g none nothing_awaited (marked s.world g nothing_awaited)
   awaits-here = subst (λ (y : Pend × Awaiting). Awaits s.world g y.0 y.1 (marked s.world g y.1))
       (λ i. (is-nothing i, is-none-awaited i)) (x.awaits g)
 

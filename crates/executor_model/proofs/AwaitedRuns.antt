@@ -22,10 +22,9 @@ use Rattle.executor_model.specs.Acts.{is_copy_refused}
 use Rattle.executor_model.specs.Doing.{act}
 use Rattle.executor_model.specs.Weights.{same, weigh, weigh_all, past}
 use Rattle.executor_model.specs.Sound.{Pend, pend, with_ops}
-use Rattle.executor_model.specs.Rows as rows
 use Rattle.executor_model.specs.Good.{Good}
-use Rattle.executor_model.specs.Rows.{handling_of, borrowing_of, waiting_of, polls_of, ending_of, ready_of, settling_of}
-use Rattle.executor_model.specs.Rows.{giving_of, drops_of, releases_of, copies_of, ousting_of, past_of}
+use Rattle.executor_model.specs.Rows.{handling_of}
+use Rattle.executor_model.specs.Rows.{past_of}
 use Rattle.executor_model.specs.Steps.{Machine, stack, idle, run, start, mine, top, is_free, has_all, has_handle}
 use Rattle.executor_model.specs.Steps.{is_on_executor, is_drop, is_unborrowed, accepts, begun, react}
 use Rattle.task_moves.specs.Moves as moves
@@ -38,9 +37,7 @@ use Rattle.executor_model.proofs.Calls.{calling_of, is_end, Passes, single, then
 use Rattle.executor_model.proofs.CallsGroups.{calls-act}
 use Rattle.executor_model.proofs.Resting.{idle-stack, opens}
 use Rattle.executor_model.proofs.Awaited.{Heard, heard, heard-none, Awaiting, with_awaiting, awaiting}
-use Rattle.executor_model.proofs.Awaited.{Awaits, Mark, asks_if, looks_of, fresh_of, storing_of}
-use Rattle.executor_model.proofs.Awaited.{again_of, waits_of, over_of, notices_of, notifying_of, mine_of}
-use Rattle.executor_model.proofs.Awaited.{detaches_of, lending_of, strays_of, calls_of}
+use Rattle.executor_model.proofs.Awaited.{Awaits, Mark, asks_if}
 use Rattle.executor_model.proofs.AwaitedActs.{is_answer}
 use Rattle.executor_model.proofs.AwaitedGroups.{awaits-act, awaits-react, asked}
 use Rattle.executor_model.proofs.AwaitedTies.{Tied, AllTied, tied-moves, tied-ends}
@@ -50,7 +47,9 @@ use Rattle.executor_model.proofs.Holding.{Spotted, Holds, held-step}
 use Rattle.executor_model.proofs.AwaitedCalls.{begun_in, UsesHandle, awaits-begun, EndHeard}
 use Rattle.executor_model.proofs.AwaitedCalls.{heard-end, marked, awaits-end}
 use Rattle.executor_model.proofs.AwaitedCalls.EndHeard.{own, within, apart}
-use Rattle.executor_model.proofs.AwaitedSteps.{Waited, nothing_pending, nothing_awaited, before}
+use Rattle.executor_model.proofs.AwaitedSteps.{Waited, awaiting-none, nothing_awaited, before}
+use Rattle.executor_model.proofs.Growing.{pend-none}
+use Rattle.executor_model.proofs.Views.{none}
 use Rattle.executor_model.proofs.AwaitedSteps.{footing-here, awaits-here, stages-here, awaits-pushed, held-same}
 use Rattle.executor_model.proofs.AwaitedSteps.{held-polled, held-begun}
 
@@ -323,44 +322,16 @@ waited-start : (limit n : ℕ) → Waited (start limit n)
 waited-start limit n = record {
   awaits = λ g. subst (λ (x : Pend × Awaiting). Awaits (start limit n).world g x.0 x.1
       (marked (start limit n).world g x.1))
-      (sym (let q : (pend g (idle n), awaiting g (idle n)) ≡ (nothing_pending, nothing_awaited) = λ i. (
-        record {
-          waiting = weigh_all-idle (waiting_of g) n i;
-          polls = weigh_all-idle (polls_of g) n i;
-          ending = weigh_all-idle (ending_of g) n i;
-          ready = weigh_all-idle (ready_of g) n i;
-          closing = weigh_all-idle (rows.closing_of g) n i;
-          settling = weigh_all-idle (settling_of g) n i;
-          giving = weigh_all-idle (giving_of g) n i;
-          drops = weigh_all-idle (drops_of g) n i;
-          releases = weigh_all-idle (releases_of g) n i;
-          copies = weigh_all-idle (copies_of g) n i;
-          borrowing = weigh_all-idle borrowing_of n i;
-          ousting = weigh_all-idle ousting_of n i;
-        },
-        record {
-          handling = weigh_all-idle (handling_of g) n i;
-          looks = weigh_all-idle (looks_of g) n i;
-          fresh = weigh_all-idle (fresh_of g) n i;
-          storing = weigh_all-idle (storing_of g) n i;
-          again = weigh_all-idle (again_of g) n i;
-          waits = weigh_all-idle (waits_of g) n i;
-          over = weigh_all-idle (over_of g) n i;
-          notices = weigh_all-idle (notices_of g) n i;
-          notifying = weigh_all-idle (notifying_of g) n i;
-          mine = weigh_all-idle (mine_of g) n i;
-          detaches = weigh_all-idle (detaches_of g) n i;
-          lending = weigh_all-idle (lending_of g) n i;
-          strays = λ k. weigh_all-idle (strays_of g k) n i;
-          calls = λ k. weigh_all-idle (calls_of g k) n i;
-        },
+      (sym (let q : (pend g (idle n), awaiting g (idle n)) ≡ (none, nothing_awaited) = λ i. (
+        pend-none g (idle n) (λ v. weigh_all-idle v n) i,
+        awaiting-none g (idle n) (λ v. weigh_all-idle v n) i,
       ) in q)) (none_awaited limit g);
   held = λ g b. let no : false ≡ true = sym (ap (λ (t : Heard). t.asking) (heard-none g)) ∙ b in absurd (cc);
   tied = λ g q. subst (Tied g 0) (sym (idle-stack n q)) tt;
 }
   where
     none_awaited : (limit g : ℕ) →
-        Awaits (start limit 0).world g nothing_pending nothing_awaited (marked (start limit 0).world g nothing_awaited)
+        Awaits (start limit 0).world g none nothing_awaited (marked (start limit 0).world g nothing_awaited)
     none_awaited limit g = grind (arith, heard-none)
 
 pub waited : (limit n : ℕ) (ts : List Step) → Waited (run ts (start limit n))

@@ -37,22 +37,6 @@ pub record Waited (s : Machine) : Type 0 where
   pub held : (g : ℕ) → Holds (asks_of g) (open_of (heard g s.world.trace)) s.parties
   pub tied : AllTied s
 
-abbrev pub nothing_pending : Pend
-nothing_pending = record {
-  waiting = 0;
-  polls = 0;
-  ending = 0;
-  ready = 0;
-  closing = 0;
-  settling = 0;
-  giving = 0;
-  drops = 0;
-  releases = 0;
-  copies = 0;
-  borrowing = 0;
-  ousting = 0;
-}
-
 abbrev pub nothing_awaited : Awaiting
 nothing_awaited = record {
   handling = 0;
@@ -132,43 +116,55 @@ footing s good tied g = record {
   tied = tied-all g s.parties (tied g);
 }
 
+-- what holds of each count holds of all of them
+
+awaiting-by : (g : ℕ) (ss ts : List (List Op)) (os : List Op) →
+    ((v : Op → ℕ) → weigh_all v ss ≡ weigh v os + weigh_all v ts) →
+    awaiting g ss ≡ with_awaiting g os (awaiting g ts)
+awaiting-by g ss ts os a = λ t. record {
+  handling = a (handling_of g) t;
+  looks = a (looks_of g) t;
+  fresh = a (fresh_of g) t;
+  storing = a (storing_of g) t;
+  again = a (again_of g) t;
+  waits = a (waits_of g) t;
+  over = a (over_of g) t;
+  notices = a (notices_of g) t;
+  notifying = a (notifying_of g) t;
+  mine = a (mine_of g) t;
+  detaches = a (detaches_of g) t;
+  lending = a (lending_of g) t;
+  strays = λ k. a (strays_of g k) t;
+  calls = λ k. a (calls_of g k) t;
+}
+
+pub awaiting-none : (g : ℕ) (ss : List (List Op)) → ((v : Op → ℕ) → weigh_all v ss ≡ 0) →
+    awaiting g ss ≡ nothing_awaited
+awaiting-none g ss a = λ t. record {
+  handling = a (handling_of g) t;
+  looks = a (looks_of g) t;
+  fresh = a (fresh_of g) t;
+  storing = a (storing_of g) t;
+  again = a (again_of g) t;
+  waits = a (waits_of g) t;
+  over = a (over_of g) t;
+  notices = a (notices_of g) t;
+  notifying = a (notifying_of g) t;
+  mine = a (mine_of g) t;
+  detaches = a (detaches_of g) t;
+  lending = a (lending_of g) t;
+  strays = λ k. a (strays_of g k) t;
+  calls = λ k. a (calls_of g k) t;
+}
+
 split-awaiting : (g : ℕ) (ss : List (List Op)) (p : ℕ) (old rest : List Op) → p < length ss →
     get_or ss p [] ≡ rest ++ reverse old → awaiting g ss ≡ with_awaiting g old (awaiting g (set ss p rest))
-split-awaiting g ss p old rest l e = λ i. record {
-  handling = split (handling_of g) ss p old rest l e i;
-  looks = split (looks_of g) ss p old rest l e i;
-  fresh = split (fresh_of g) ss p old rest l e i;
-  storing = split (storing_of g) ss p old rest l e i;
-  again = split (again_of g) ss p old rest l e i;
-  waits = split (waits_of g) ss p old rest l e i;
-  over = split (over_of g) ss p old rest l e i;
-  notices = split (notices_of g) ss p old rest l e i;
-  notifying = split (notifying_of g) ss p old rest l e i;
-  mine = split (mine_of g) ss p old rest l e i;
-  detaches = split (detaches_of g) ss p old rest l e i;
-  lending = split (lending_of g) ss p old rest l e i;
-  strays = λ k. split (strays_of g k) ss p old rest l e i;
-  calls = λ k. split (calls_of g k) ss p old rest l e i;
-}
+split-awaiting g ss p old rest l e = awaiting-by g ss (set ss p rest) old (λ v. split v ss p old rest l e)
 
 push-awaiting : (g : ℕ) (ss : List (List Op)) (p : ℕ) (rest next : List Op) → p < length ss →
     awaiting g (set ss p (rest ++ reverse next)) ≡ with_awaiting g next (awaiting g (set ss p rest))
-push-awaiting g ss p rest next l = λ i. record {
-  handling = weigh_all-push (handling_of g) ss p rest next l i;
-  looks = weigh_all-push (looks_of g) ss p rest next l i;
-  fresh = weigh_all-push (fresh_of g) ss p rest next l i;
-  storing = weigh_all-push (storing_of g) ss p rest next l i;
-  again = weigh_all-push (again_of g) ss p rest next l i;
-  waits = weigh_all-push (waits_of g) ss p rest next l i;
-  over = weigh_all-push (over_of g) ss p rest next l i;
-  notices = weigh_all-push (notices_of g) ss p rest next l i;
-  notifying = weigh_all-push (notifying_of g) ss p rest next l i;
-  mine = weigh_all-push (mine_of g) ss p rest next l i;
-  detaches = weigh_all-push (detaches_of g) ss p rest next l i;
-  lending = weigh_all-push (lending_of g) ss p rest next l i;
-  strays = λ k. weigh_all-push (strays_of g k) ss p rest next l i;
-  calls = λ k. weigh_all-push (calls_of g k) ss p rest next l i;
-}
+push-awaiting g ss p rest next l =
+    awaiting-by g (set ss p (rest ++ reverse next)) (set ss p rest) next (λ v. weigh_all-push v ss p rest next l)
 
 -- the mark is what it is
 renew : (w : World) (g : ℕ) (p : Pend) (x : Awaiting) (m : Mark) → Awaits w g p x m → Awaits w g p x (marked w g x)

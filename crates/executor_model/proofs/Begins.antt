@@ -1,7 +1,7 @@
 -- What the beginning of a call keeps.
-use Rattle.std.proofs.Common.{◌≡◌, ◌⊎◌, ℕ, zero, suc, ◌+◌, ◌≤◌, List, [], ◌∷◌, length}
+use Rattle.std.proofs.Common.{◌≡◌, ℕ, zero, suc, ◌+◌, ◌≤◌, List, [], ◌∷◌, length}
 use Rattle.std.proofs.Common.{Bool, true, false, ◌&&◌, ◌||◌, not, eqb, refl, sym, ap, ◌∙◌}
-use Rattle.std.proofs.Common.{subst, inl, inr, ⊎_elim, arith}
+use Rattle.std.proofs.Common.{⊎_elim, arith}
 use Rattle.std.proofs.lemmas.Bool.Decides.{nat_tests}
 use Rattle.std.proofs.lemmas.List.{get_or_past}
 use Rattle.task_moves.specs.declared.moves.state.State.{State}
@@ -16,16 +16,13 @@ use Rattle.executor_model.specs.declared.event.Event.TheVariants as event
 use Rattle.executor_model.specs.declared.op.Waker.{Waker}
 use Rattle.executor_model.specs.declared.op.Waker.TheVariants.{Task, Outside}
 use Rattle.executor_model.specs.declared.op.Hold.TheVariants as hold
-use Rattle.executor_model.specs.declared.op.Sleeping.{Sleeping}
 use Rattle.executor_model.specs.declared.op.Op.{Op}
 use Rattle.executor_model.specs.declared.op.Op.TheVariants as op
 use Rattle.executor_model.specs.declared.op.ClosingOp.TheVariants as closing_op
 use Rattle.executor_model.specs.declared.op.HandleOp.TheVariants as handle_op
 use Rattle.task_moves.specs.declared.moves.owed.Move.TheVariants as move
 use Rattle.executor_model.specs.declared.op.QueueOp.TheVariants as queue_op
-use Rattle.executor_model.specs.declared.op.RunOp.TheVariants as run_op
 use Rattle.executor_model.specs.declared.op.RunPoll.{RunPoll}
-use Rattle.executor_model.specs.declared.op.Sleeper.TheVariants as sleeper
 use Rattle.executor_model.specs.declared.op.SleeperOp.TheVariants as sleeper_op
 use Rattle.executor_model.specs.declared.op.TableOp.TheVariants as table_op
 use Rattle.executor_model.specs.declared.op.TickOp.TheVariants as tick_op
@@ -33,7 +30,6 @@ use Rattle.executor_model.specs.declared.op.UserOp.TheVariants as user_op
 use Rattle.executor_model.specs.declared.op.WakerOp.TheVariants as waker_op
 use Rattle.executor_model.specs.declared.step.StepError.TheVariants.{Busy, NoSuch, Gone, Borrowed}
 use Rattle.executor_model.specs.World.{World, Stage, New, Listed, Ended, Run, Done, done, log, task, blank, run_of}
-use Rattle.executor_model.specs.World.{put_run}
 use Rattle.executor_model.specs.Weights.{weigh, weigh_all, past, waker_past}
 use Rattle.executor_model.specs.Sound.{Sound, Pend, with_ops}
 use Rattle.executor_model.specs.Good.{Fits}
@@ -44,9 +40,11 @@ use Rattle.executor_model.specs.Steps.{kept, has_all}
 use Rattle.executor_model.specs.Steps.{is_on_executor, is_drop, is_unused, is_unborrowed, unless}
 use Rattle.executor_model.specs.Steps.{used_up, with_future}
 use Rattle.executor_model.specs.Steps.{waker_of, future_of, poll_run, drop_run, begun}
-use Rattle.executor_model.proofs.Lists.{same_is, past_is, phase-push, wakers_of-used}
+use Rattle.executor_model.proofs.Lists.{same_is, past_is, phase-push}
 use Rattle.executor_model.proofs.Lists.{wakers_past-used, weigh_all-below}
-use Rattle.executor_model.proofs.Counting.{Keeps}
+use Rattle.executor_model.proofs.Effects.Effect.{passes}
+use Rattle.executor_model.proofs.EffectsCalls.{by_call, goes-begun}
+use Rattle.executor_model.proofs.SoundAll.{sound-effect}
 use Rattle.executor_model.proofs.Fitting.{Grows}
 use Rattle.executor_model.proofs.RunsPlain.{plain-list, plain-run, plain-steal}
 use Rattle.executor_model.proofs.Growing.{KeepsHere}
@@ -72,70 +70,6 @@ polls-borrow g _ = omega arith
 polls-borrow-all : (g : ℕ) (ss : List (List Op)) → weigh_all (polls_of g) ss ≤ weigh_all borrowing_of ss
 polls-borrow-all g = weigh_all-below (polls_of g) borrowing_of (polls-borrow g)
 
--- a call that leaves the executor as it was
-abbrev pub Begins : World → Done → List (List Op) → Type 0
-Begins w d others = KeepsHere w [] d others × Grows w [] d
-
-begins-log : (w : World) (p : ℕ) (c : Call) → Keeps w [] (done (log w (event.CallBegun p c)) [])
-begins-log w p c g r h = grind (arith, phase-push)
-
--- the call is on the executor, which isn't gone
-begins-on : (w : World) (p : ℕ) (c : Call) (o : Op) →
-    (o ≡ op.Table table_op.Enter) ⊎ ((o ≡ op.Queue queue_op.Take) ⊎ (o ≡ op.Table table_op.LookAtTable)) →
-    w.gone ≡ false → Keeps w [] (done (log w (event.CallBegun p c)) (o ∷ []))
-begins-on w p c o e n = ⊎_elim
-    (λ (x : o ≡ op.Table table_op.Enter). subst (λ (y : Op). Keeps w [] (done (log w (event.CallBegun p c)) (y ∷ [])))
-    (sym x) enters)
-    (⊎_elim (λ (x : o ≡ op.Queue queue_op.Take).
-    subst (λ (y : Op). Keeps w [] (done (log w (event.CallBegun p c)) (y ∷ []))) (sym x) takes)
-    (λ (x : o ≡ op.Table table_op.LookAtTable).
-    subst (λ (y : Op). Keeps w [] (done (log w (event.CallBegun p c)) (y ∷ []))) (sym x) looks)) e
-  where
-    enters : Keeps w [] (done (log w (event.CallBegun p c)) (op.Table table_op.Enter ∷ []))
-    enters g r h = grind (arith, phase-push)
-
-    takes : Keeps w [] (done (log w (event.CallBegun p c)) (op.Queue queue_op.Take ∷ []))
-    takes g r h = grind (arith, phase-push)
-
-    looks : Keeps w [] (done (log w (event.CallBegun p c)) (op.Table table_op.LookAtTable ∷ []))
-    looks g r h = grind (arith, phase-push)
-
-begins-make : (w : World) (p : ℕ) → w.gone ≡ false →
-    Keeps w [] (done (log w (event.CallBegun p call.NewTick)) (op.Tick tick_op.MakeTick ∷ []))
-begins-make w p n g r h = grind (arith, phase-push)
-
-begins-search : (w : World) (p t : ℕ) (b : By) (s : Sleeping) → w.gone ≡ false →
-    Keeps w [] (done (log (log w (event.CallBegun p (call.PollTick t b))) (event.TickPolled p t))
-    (op.Tick (tick_op.Search s) ∷ []))
-begins-search w p t b s n g r h = grind (arith, phase-push)
-
-begins-leave : (w : World) (p t : ℕ) → w.gone ≡ false →
-    Keeps w [] (done (log (log w (event.CallBegun p (call.DropTick t))) (event.TickDropped p t))
-    (op.Tick (tick_op.Leave (sleeper.Tick t)) ∷ op.End reply.Done (hold.Tick t) ∷ []))
-begins-leave w p t n g r h = grind (arith, phase-push)
-
-begins-room : (w : World) (p : ℕ) → w.gone ≡ false →
-    Keeps w [] (done (log w (event.CallBegun p call.NewRun)) (op.Run run_op.MakeRoom ∷ []))
-begins-room w p n g r h = grind (arith, phase-push)
-
-begins-poll_run : (t : Stage) (w : World) (p r : ℕ) (b : By) (x : RunPoll) → w.gone ≡ false →
-    Keeps w [] (done (log (log w (event.CallBegun p (call.PollRun r b))) (event.RunPolled p r)) (poll_run t x))
-begins-poll_run New w p r b x n g y h = grind (arith, phase-push)
-begins-poll_run Listed w p r b x n g y h = grind (arith, phase-push)
-begins-poll_run Ended w p r b x n g y h = grind (arith, phase-push)
-
--- that it is being dropped is told, and kept of the run
-abbrev run_dropped : World → ℕ → ℕ → World
-run_dropped w p r =
-    let v = log w (event.CallBegun p (call.DropRun r)) in
-    log (put_run v r (record (run_of v r) { dropped = true })) (event.RunDropped p r)
-
-begins-drop_run : (t : Stage) (w : World) (p r : ℕ) → w.gone ≡ false →
-    Keeps w [] (done (run_dropped w p r) (drop_run t r))
-begins-drop_run New w p r n g y h = grind (arith, phase-push)
-begins-drop_run Listed w p r n g y h = grind (arith, phase-push)
-begins-drop_run Ended w p r n g y h = grind (arith, phase-push)
-
 -- the kept waker k is used up
 pub kept-used : (w : World) (k f : ℕ) → slice_index_or w.wakers k None ≡ Some f → slice_get w.wakers k ≡ Some (Some f)
 kept-used w k f e = go w.wakers k e
@@ -144,16 +78,6 @@ kept-used w k f e = go w.wakers k e
     go [] k e = absurd (cc)
     go (x ∷ ws) zero e = ap (λ (y : Option ℕ). let z : Option (Option ℕ) = Some y in z) e
     go (x ∷ ws) (suc k) e = go ws k e
-
-begins-wake : (w : World) (p k f : ℕ) (c : Call) → slice_get w.wakers k ≡ Some (Some f) →
-    Keeps w [] (done (used_up (log w (event.CallBegun p c)) k)
-    (op.Move move.Wake f ∷ op.End reply.Done hold.Nothing ∷ []))
-begins-wake w p k f c e g r h = let z : _ = wakers_of-used g f k w.wakers e in grind (arith, same_is, phase-push)
-
-begins-release : (w : World) (p k f : ℕ) (c : Call) → slice_get w.wakers k ≡ Some (Some f) →
-    Keeps w [] (done (used_up (log w (event.CallBegun p c)) k)
-    (op.Move move.Release f ∷ op.End reply.Done hold.Nothing ∷ []))
-begins-release w p k f c e g r h = let z : _ = wakers_of-used g f k w.wakers e in grind (arith, same_is, phase-push)
 
 -- the drop of the executor, where no call uses it
 begins-drop : (w : World) (p : ℕ) (c : Call) (g : ℕ) (r : Pend) → w.gone ≡ false → r.borrowing ≡ 0 → r.polls ≡ 0 →
@@ -201,19 +125,7 @@ grows-begun : (w : World) (p : ℕ) (c : Call) (next : List Op) → (Fits w → 
     Grows w [] (done (log w (event.CallBegun p c)) next)
 grows-begun w p c next z h k =
     record {
-      fits =
-          record {
-            queue = h.queue;
-            own = h.own;
-            table = h.table;
-            leaving = h.leaving;
-            waking = h.waking;
-            wakers = h.wakers;
-            awaiters = h.awaiters;
-            sleepers = h.sleepers;
-            awaiting = h.awaiting;
-            inside = h.inside;
-          };
+      fits = record { awaiting = h.awaiting; inside = h.inside };
       next = z h;
       more = omega arith;
     }
@@ -223,19 +135,7 @@ grows-told : (w : World) (p : ℕ) (c : Call) (e : Event) (next : List Op) → w
     Grows w [] (done (log (log w (event.CallBegun p c)) e) next)
 grows-told w p c e next z h k =
     record {
-      fits =
-          record {
-            queue = h.queue;
-            own = h.own;
-            table = h.table;
-            leaving = h.leaving;
-            waking = h.waking;
-            wakers = h.wakers;
-            awaiters = h.awaiters;
-            sleepers = h.sleepers;
-            awaiting = h.awaiting;
-            inside = h.inside;
-          };
+      fits = record { awaiting = h.awaiting; inside = h.inside };
       next = z;
       more = omega arith;
     }
@@ -246,19 +146,7 @@ grows-told_run : (w : World) (p : ℕ) (c : Call) (rs : List Run) (e : Event) (n
     Grows w [] (done (log (record (log w (event.CallBegun p c)) { runs = rs }) e) next)
 grows-told_run w p c rs e next z h k =
     record {
-      fits =
-          record {
-            queue = h.queue;
-            own = h.own;
-            table = h.table;
-            leaving = h.leaving;
-            waking = h.waking;
-            wakers = h.wakers;
-            awaiters = h.awaiters;
-            sleepers = h.sleepers;
-            awaiting = h.awaiting;
-            inside = h.inside;
-          };
+      fits = record { awaiting = h.awaiting; inside = h.inside };
       next = z;
       more = omega arith;
     }
@@ -278,51 +166,30 @@ grows-used : (w : World) (p k f : ℕ) (c : Call) (next : List Op) → slice_get
     Grows w [] (done (used_up (log w (event.CallBegun p c)) k) next)
 grows-used w p k f c next e z h y =
     record {
-      fits =
-          record {
-            queue = h.queue;
-            own = h.own;
-            table = h.table;
-            leaving = h.leaving;
-            waking = h.waking;
-            wakers = omega (arith, wakers_past-used (length w.tasks) f k w.wakers e, h.wakers);
-            awaiters = h.awaiters;
-            sleepers = h.sleepers;
-            awaiting = h.awaiting;
-            inside = h.inside;
-          };
+      fits = record { awaiting = h.awaiting; inside = h.inside };
       next = z (kept-known w k f h e);
       more = omega arith;
     }
 
--- nothing that counts is to do
-keeps-begun : (w : World) (p : ℕ) (c : Call) (os : List Op) → ((g : ℕ) (r : Pend) → with_ops g os r ≡ with_ops g [] r) →
-    Keeps w [] (done (log w (event.CallBegun p c)) os)
-keeps-begun w p c os e g r h = subst (Sound (log w (event.CallBegun p c)) g) (sym (e g r)) (begins-log w p c g r h)
-
-module _ (w : World) (p : ℕ) (others : List (List Op)) where
-  begins-by : (c : Call) (os : List Op) → ((g : ℕ) (r : Pend) → with_ops g os r ≡ with_ops g [] r) →
-      (Fits w → weigh (past_of (length w.tasks)) os ≡ 0) → Begins w (done (log w (event.CallBegun p c)) os) others
-  begins-by c os e z = ((λ g. keeps-begun w p c os e g _), grows-begun w p c os z)
-
+module _ (w : World) (p : ℕ) where
   begins-kept : (c : Call) (k : ℕ) (r : Option ℕ) (d : ℕ → Done) → kept w k ≡ r →
-      ((f : ℕ) → slice_get w.wakers k ≡ Some (Some f) → Begins w (d f) others) →
-      Begins w (with_future (log w (event.CallBegun p c)) r d) others
-  begins-kept c k None d e b = begins-by c [] (λ g r. refl) (λ h. refl)
+      ((f : ℕ) → slice_get w.wakers k ≡ Some (Some f) → Grows w [] (d f)) →
+      Grows w [] (with_future (log w (event.CallBegun p c)) r d)
+  begins-kept c k None d e b = grows-begun w p c [] (λ h. refl)
   begins-kept c k (Some f) d e b = b f (kept-used w k f e)
 
-  begins-here : (c : Call) (r : Option ℕ) (d : ℕ → Done) → ((f : ℕ) → r ≡ Some f → Begins w (d f) others) →
-      Begins w (with_future (log w (event.CallBegun p c)) r d) others
-  begins-here c None d b = begins-by c [] (λ g r. refl) (λ h. refl)
+  begins-here : (c : Call) (r : Option ℕ) (d : ℕ → Done) → ((f : ℕ) → r ≡ Some f → Grows w [] (d f)) →
+      Grows w [] (with_future (log w (event.CallBegun p c)) r d)
+  begins-here c None d b = grows-begun w p c [] (λ h. refl)
   begins-here c (Some f) d b = b f refl
 
   begins-waker : (c : Call) (here : Option Waker) (b : By) (f : ℕ) → past (length w.tasks) f ≡ 0 →
       ((a : Waker) → here ≡ Some a → waker_past (length w.tasks) a ≡ 0) →
-      Begins w (done (log w (event.CallBegun p c)) (op.Handle (handle_op.Look f (waker_of here b)) ∷ [])) others
-  begins-waker c (Some g) by.Mine f z k = begins-by c _ (λ g r. refl) (λ h. omega (arith, z, k g refl))
-  begins-waker c None by.Mine f z k = begins-by c _ (λ g r. refl) (λ h. omega (arith, z))
-  begins-waker c (Some g) (by.Outside x) f z k = begins-by c _ (λ g r. refl) (λ h. omega (arith, z))
-  begins-waker c None (by.Outside x) f z k = begins-by c _ (λ g r. refl) (λ h. omega (arith, z))
+      Grows w [] (done (log w (event.CallBegun p c)) (op.Handle (handle_op.Look f (waker_of here b)) ∷ []))
+  begins-waker c (Some g) by.Mine f z k = grows-begun w p c _ (λ h. omega (arith, z, k g refl))
+  begins-waker c None by.Mine f z k = grows-begun w p c _ (λ h. omega (arith, z))
+  begins-waker c (Some g) (by.Outside x) f z k = grows-begun w p c _ (λ h. omega (arith, z))
+  begins-waker c None (by.Outside x) f z k = grows-begun w p c _ (λ h. omega (arith, z))
 
 waker-known : (w : World) (here : Option Waker) (b : By) →
     ((a : Waker) → here ≡ Some a → waker_past (length w.tasks) a ≡ 0) →
@@ -346,108 +213,61 @@ open_executor w c e n = grind (arith, nat_tests)
 pub unborrowed : (a : ℕ) → eqb a 0 ≡ true → a ≡ 0
 unborrowed a e = grind (arith, nat_tests)
 
-pub begins : (w : World) (p : ℕ) (ss others : List (List Op)) (o : Option Op) (here : Option Waker) (c : Call) →
-    ((a : Waker) → here ≡ Some a → waker_past (length w.tasks) a ≡ 0) →
-    ((v : Op → ℕ) → weigh_all v others ≤ weigh_all v ss) →
-    has_all w ss o c ≡ true → not (w.gone && is_on_executor c) ≡ true →
+-- the counts of each future
+pub sound-begun : (w : World) (p : ℕ) (ss others : List (List Op)) (here : Option Waker) (c : Call) →
+    ((v : Op → ℕ) → weigh_all v others ≤ weigh_all v ss) → not (w.gone && is_on_executor c) ≡ true →
     (not (is_drop c) || is_unused borrowing_of ss) ≡ true →
-    Begins w (begun p (log w (event.CallBegun p c)) here c) others
-begins w p ss others o here call.Spawn k le has on un = (
-  (λ g. begins-on w p call.Spawn (op.Table table_op.Enter) (inl refl) (open_executor w call.Spawn refl on) g _),
-  grows-begun w p _ _ (λ h. refl),
-)
-begins w p ss others o here call.TryTick k le has on un = (
-  (λ g. begins-on w p call.TryTick (op.Queue queue_op.Take) (inr (inl refl)) (open_executor w call.TryTick refl on) g
-      _),
-  grows-begun w p _ _ (λ h. refl),
-)
-begins w p ss others o here call.IsEmpty k le has on un = (
-  (λ g. begins-on w p call.IsEmpty (op.Table table_op.LookAtTable) (inr (inr refl))
-      (open_executor w call.IsEmpty refl on) g _),
-  grows-begun w p _ _ (λ h. refl),
-)
-begins w p ss others o here (call.Wake n) k le has on un =
-    begins-kept w p others (call.Wake n) n _ _ refl
-    (λ f e. (
-      (λ g. begins-wake w p n f (call.Wake n) e g _),
-      grows-used w p n f (call.Wake n) _ e (λ z. omega (arith, z)),
-    ))
-begins w p ss others o here (call.WakeByRef n) k le has on un =
-    begins-kept w p others (call.WakeByRef n) n _ _ refl
-    (λ f e. begins-by w p others (call.WakeByRef n) _ (λ g r. refl) (λ h. omega (arith, kept-known w n f h e)))
-begins w p ss others o here (call.Copy n) k le has on un =
-    begins-kept w p others (call.Copy n) n _ _ refl
-    (λ f e. begins-by w p others (call.Copy n) _ (λ g r. refl) (λ h. omega (arith, kept-known w n f h e)))
-begins w p ss others o here (call.DropWaker n) k le has on un =
-    begins-kept w p others (call.DropWaker n) n _ _ refl
-    (λ f e. (
-      (λ g. begins-release w p n f (call.DropWaker n) e g _),
-      grows-used w p n f (call.DropWaker n) _ e (λ z. omega (arith, z)),
-    ))
-begins w p ss others o here call.Keep k le has on un =
-    begins-here w p others call.Keep (future_of here) _
-    (λ f e. begins-by w p others call.Keep _ (λ g r. refl) (λ h. omega (arith, future-known w here k f e)))
-begins w p ss others o here call.WakeSelf k le has on un =
-    begins-here w p others call.WakeSelf (future_of here) _
-    (λ f e. begins-by w p others call.WakeSelf _ (λ g r. refl) (λ h. omega (arith, future-known w here k f e)))
-begins w p ss others o here (call.PollHandle f b) k le has on un =
-    begins-waker w p others (call.PollHandle f b) here b f (handle-known w f (first-true _ _ (first-true _ _ has))) k
-begins w p ss others o here (call.Cancel f) k le has on un =
-    begins-by w p others (call.Cancel f) _ (λ g r. refl) (λ h. omega (arith, handle-known w f (first-true _ _ has)))
-begins w p ss others o here (call.Detach f) k le has on un =
-    begins-by w p others (call.Detach f) _ (λ g r. refl) (λ h. omega (arith, handle-known w f (first-true _ _ has)))
-begins w p ss others o here (call.DropHandle f) k le has on un =
-    begins-by w p others (call.DropHandle f) _ (λ g r. refl) (λ h. omega (arith, handle-known w f (first-true _ _ has)))
-begins w p ss others o here call.NewTick k le has on un =
-    ((λ g. begins-make w p (open_executor w call.NewTick refl on) g _), grows-begun w p _ _ (λ h. refl))
-begins w p ss others o here (call.PollTick t b) k le has on un = (
-  (λ g. begins-search w p t b
-      (record {
-        waker = waker_of here b;
-        who = sleeper.Tick t;
-        poll = length (log w (event.CallBegun p (call.PollTick t b))).trace;
-      })
-      (open_executor w (call.PollTick t b) refl on) g _),
-  grows-told w p _ _ _ (waker-known w here b k),
-)
-begins w p ss others o here (call.DropTick t) k le has on un =
-    ((λ g. begins-leave w p t (open_executor w (call.DropTick t) refl on) g _), grows-told w p _ _ _ refl)
-begins w p ss others o here call.NewRun k le has on un =
-    ((λ g. begins-room w p (open_executor w call.NewRun refl on) g _), grows-begun w p _ _ (λ h. refl))
-begins w p ss others o here (call.PollRun r b) k le has on un =
+    KeepsHere w [] (begun p (log w (event.CallBegun p c)) here c) others
+sound-begun w p ss others here = by_call _
+    (λ le on un g. (let z : weigh_all borrowing_of others ≡ 0 =
+    omega (arith, le borrowing_of, unborrowed (weigh_all borrowing_of ss) un) in
+    begins-drop w p call.DropExecutor g _ (open_executor w call.DropExecutor refl on) z
+    (omega (arith, z, polls-borrow-all g others))))
+    (λ c d le on un g. sound-effect w [] (begun p (log w (event.CallBegun p c)) here c)
+    (passes (goes-begun p w here c d (λ e. open_executor w c e on))) g _)
+
+-- and that what is to do speaks of futures that are there
+pub begins : (w : World) (p : ℕ) (ss : List (List Op)) (o : Option Op) (here : Option Waker) (c : Call) →
+    ((a : Waker) → here ≡ Some a → waker_past (length w.tasks) a ≡ 0) → has_all w ss o c ≡ true →
+    Grows w [] (begun p (log w (event.CallBegun p c)) here c)
+begins w p ss o here call.Spawn k has = grows-begun w p _ _ (λ h. refl)
+begins w p ss o here call.TryTick k has = grows-begun w p _ _ (λ h. refl)
+begins w p ss o here call.IsEmpty k has = grows-begun w p _ _ (λ h. refl)
+begins w p ss o here (call.Wake n) k has = begins-kept w p (call.Wake n) n _ _ refl
+    (λ f e. grows-used w p n f (call.Wake n) _ e (λ z. omega (arith, z)))
+begins w p ss o here (call.WakeByRef n) k has = begins-kept w p (call.WakeByRef n) n _ _ refl
+    (λ f e. grows-begun w p (call.WakeByRef n) _ (λ h. omega (arith, kept-known w n f h e)))
+begins w p ss o here (call.Copy n) k has = begins-kept w p (call.Copy n) n _ _ refl
+    (λ f e. grows-begun w p (call.Copy n) _ (λ h. omega (arith, kept-known w n f h e)))
+begins w p ss o here (call.DropWaker n) k has = begins-kept w p (call.DropWaker n) n _ _ refl
+    (λ f e. grows-used w p n f (call.DropWaker n) _ e (λ z. omega (arith, z)))
+begins w p ss o here call.Keep k has = begins-here w p call.Keep (future_of here) _
+    (λ f e. grows-begun w p call.Keep _ (λ h. omega (arith, future-known w here k f e)))
+begins w p ss o here call.WakeSelf k has = begins-here w p call.WakeSelf (future_of here) _
+    (λ f e. grows-begun w p call.WakeSelf _ (λ h. omega (arith, future-known w here k f e)))
+begins w p ss o here (call.PollHandle f b) k has =
+    begins-waker w p (call.PollHandle f b) here b f (handle-known w f (first-true _ _ (first-true _ _ has))) k
+begins w p ss o here (call.Cancel f) k has =
+    grows-begun w p (call.Cancel f) _ (λ h. omega (arith, handle-known w f (first-true _ _ has)))
+begins w p ss o here (call.Detach f) k has =
+    grows-begun w p (call.Detach f) _ (λ h. omega (arith, handle-known w f (first-true _ _ has)))
+begins w p ss o here (call.DropHandle f) k has =
+    grows-begun w p (call.DropHandle f) _ (λ h. omega (arith, handle-known w f (first-true _ _ has)))
+begins w p ss o here call.NewTick k has = grows-begun w p _ _ (λ h. refl)
+begins w p ss o here (call.PollTick t b) k has = grows-told w p _ _ _ (waker-known w here b k)
+begins w p ss o here (call.DropTick t) k has = grows-told w p _ _ _ refl
+begins w p ss o here call.NewRun k has = grows-begun w p _ _ (λ h. refl)
+begins w p ss o here (call.PollRun r b) k has =
     let x : RunPoll = record {
       run = r;
       waker = waker_of here b;
       poll = length (log w (event.CallBegun p (call.PollRun r b))).trace;
-    } in (
-      (λ g. begins-poll_run (run_of w r).stage w p r b x (open_executor w (call.PollRun r b) refl on) g _),
-      grows-told w p _ _ _ (past-poll_run (length w.tasks) (run_of w r).stage x (waker-known w here b k)),
-    )
-begins w p ss others o here (call.DropRun r) k le has on un = (
-  (λ g. begins-drop_run (run_of w r).stage w p r (open_executor w (call.DropRun r) refl on) g _),
-  grows-told_run w p _ _ _ _ (past-drop_run (length w.tasks) (run_of w r).stage r),
-)
-begins w p ss others o here call.DropExecutor k le has on un =
-    let n : w.gone ≡ false = open_executor w call.DropExecutor refl on in
-    let z : weigh_all borrowing_of others ≡ 0 =
-    omega (arith, le borrowing_of, unborrowed (weigh_all borrowing_of ss) un) in (
-      (λ g. begins-drop w p call.DropExecutor g _ n z (omega (arith, z, polls-borrow-all g others))),
-      (λ h y.
-          record {
-            fits =
-                record {
-                  queue = h.queue;
-                  own = h.own;
-                  table = h.table;
-                  leaving = h.leaving;
-                  waking = h.waking;
-                  wakers = h.wakers;
-                  awaiters = h.awaiters;
-                  sleepers = h.sleepers;
-                  awaiting = h.awaiting;
-                  inside = h.inside;
-                };
-            next = refl;
-            more = omega arith;
-          }),
-    )
+    } in
+    grows-told w p _ _ _ (past-poll_run (length w.tasks) (run_of w r).stage x (waker-known w here b k))
+begins w p ss o here (call.DropRun r) k has =
+    grows-told_run w p _ _ _ _ (past-drop_run (length w.tasks) (run_of w r).stage r)
+begins w p ss o here call.DropExecutor k has = λ h y. record {
+  fits = record { awaiting = h.awaiting; inside = h.inside };
+  next = refl;
+  more = omega arith;
+}

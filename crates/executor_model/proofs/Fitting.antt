@@ -27,24 +27,30 @@ use Rattle.executor_model.specs.declared.op.WakerOp.TheVariants as waker_op
 use Rattle.executor_model.specs.declared.step.Hint.{Hint}
 use Rattle.executor_model.specs.World.{World, Done, done, log, log_if, task, put, awaiter_of, put_awaiter, among}
 use Rattle.executor_model.specs.Carried.{awaiter_ops, owed_ops, carried}
-use Rattle.executor_model.specs.Acts.{append_by, take_by, enter_by, entered, leave_by, copy_by}
+use Rattle.executor_model.specs.Acts.{append_by, take_by, enter_by, leave_by, copy_by}
 use Rattle.executor_model.specs.Acts.{answered, polled}
 use Rattle.executor_model.specs.Acts.{look_by, look_again_by, copy_awaiter_by, register_by, end_register_by, notify_by}
 use Rattle.executor_model.specs.Acts.{end_notify, told, let_go, waker_goes, call_awaiter, closing_ops}
 use Rattle.executor_model.specs.Acts.{drop_next_by}
 use Rattle.executor_model.specs.Acts.{wake_next_by, drain_by, followed, wake, reply_of, is_output}
-use Rattle.executor_model.specs.Weights.{weigh, weigh_sleepers, past, waker_past}
+use Rattle.executor_model.specs.Weights.{weigh, past, waker_past}
 use Rattle.executor_model.specs.Good.{pasts, awaiters_past, Fits}
 use Rattle.executor_model.specs.Rows.{past_of}
 use Rattle.executor_model.proofs.Cases.{by_bool, by_list, by_waker}
 use Rattle.executor_model.proofs.Owed.{owed-future, owed-awaiter, owed-nothing}
-use Rattle.executor_model.proofs.Lists.{past_is, pasts-append, pasts-without, pasts-more, pasts_in-more, pasts-drop}
-use Rattle.executor_model.proofs.Lists.{wakers_past-more, wakers_past-push, awaiters_past-set, awaiters_past-push}
-use Rattle.executor_model.proofs.Lists.{awaiters_past-more, sleepers_past-more, past_if, weigh-append}
+use Rattle.executor_model.proofs.Lists.{past_is, pasts-drop, awaiters_past-set, past_if, weigh-append}
 
--- the world fits after it, so do the new things to do, and no future went
+-- each future has its place in each list
+pub record Shaped (w : World) : Type 0 where
+  pub awaiting : length w.awaiters ≡ length w.tasks
+  pub inside : length w.inside ≡ length w.tasks
+
+pub shaped : (w : World) → Fits w → Shaped w
+shaped w h = record { awaiting = h.awaiting; inside = h.inside }
+
+-- so it has after it, the new things to do speak of futures that are there, and no future went
 pub record Grown (w : World) (d : Done) : Type 0 where
-  pub fits : Fits d.world
+  pub fits : Shaped d.world
   pub next : weigh (past_of (length d.world.tasks)) d.next ≡ 0
   pub more : length w.tasks ≤ length d.world.tasks
 
@@ -61,30 +67,18 @@ module _ (n f : ℕ) (z : past n f ≡ 0) where
       (record { append = z; output = refl; release = z; settle_closed = z; give_up = z; end_closed = z; detach = z }) b
       o (owed-future (past_of n) f (record { poll = z; drop = z }) b o.future) (past_awaiter o.awaiter)
 
-pub fits-log : (b : Bool) (w : World) (e : Event) → Fits w → Fits (log_if b w e)
-fits-log true w e h =
-    record {
-      queue = h.queue;
-      own = h.own;
-      table = h.table;
-      leaving = h.leaving;
-      waking = h.waking;
-      wakers = h.wakers;
-      awaiters = h.awaiters;
-      sleepers = h.sleepers;
-      awaiting = h.awaiting;
-      inside = h.inside;
-    }
+pub fits-log : (b : Bool) (w : World) (e : Event) → Shaped w → Shaped (log_if b w e)
+fits-log true w e h = record { awaiting = h.awaiting; inside = h.inside }
 fits-log false w e h = h
 
 pub same-log : (b : Bool) (w : World) (e : Event) → length (log_if b w e).tasks ≡ length w.tasks
 same-log true w e = refl
 same-log false w e = refl
 
-fits-put : (w : World) (f : ℕ) (s : State) → Fits w → Fits (put w f s)
+fits-put : (w : World) (f : ℕ) (s : State) → Shaped w → Shaped (put w f s)
 fits-put w f s h = grind (arith, length-set {A = State})
 
-pub grows-carried : (w v : World) (f : ℕ) (m : Moved) → length v.tasks ≡ length w.tasks → Fits v →
+pub grows-carried : (w v : World) (f : ℕ) (m : Moved) → length v.tasks ≡ length w.tasks → Shaped v →
     past (length w.tasks) f ≡ 0 → Grown w (carried v f m)
 grows-carried w v f m l h z =
     let q : length (set v.tasks f m.state) ≡ length w.tasks = length-set v.tasks f m.state ∙ l in
@@ -100,7 +94,7 @@ below n f e = grind (arith, past_is)
 
 pub grows-append : (b : Bool) (w : World) (f : ℕ) → Grows w (op.Queue (queue_op.Append f) ∷ []) (append_by b w f)
 grows-append = by_bool _
-    (λ w f h k. grind (arith, pasts-append))
+    (λ w f h k. grind arith)
     (λ w f h k. grind arith)
 
 pub grows-take : (q : List ℕ) (w : World) → w.queue.items ≡ q → Grows w (op.Queue queue_op.Take ∷ []) (take_by w q)
@@ -114,18 +108,8 @@ grows-enter = by_bool _
     (λ c p w h k. grind arith)
     (by_bool _
     (λ p w h k. grind arith)
-    (λ p w h k. let le : length w.tasks ≤ length (enter_by false false p w).world.tasks =
-    omega (arith, length-append w.tasks (entered ∷ [])) in
-    let y : weigh_sleepers (waker_past (length (enter_by false false p w).world.tasks)) w.sleepers.wakers ≡ 0 =
-    sleepers_past-more _ _ w.sleepers.wakers le h.sleepers in
-    grind (
+    (λ p w h k. grind (
       arith,
-      pasts-append,
-      pasts-more,
-      pasts_in-more,
-      wakers_past-more,
-      awaiters_past-more,
-      awaiters_past-push,
       past_is,
       length-append {A = State},
       length-append {A = Bool},
@@ -135,34 +119,23 @@ grows-enter = by_bool _
 pub grows-inside : (w : World) (f : ℕ) (b : Bool) (old next : List Op) → weigh (past_of (length w.tasks)) next ≡ 0 →
     Fits w → Grown w (done (record w { inside = slice_set w.inside f b }) next)
 grows-inside w f b old next z h = record {
-  fits = record {
-    queue = h.queue;
-    own = h.own;
-    table = h.table;
-    leaving = h.leaving;
-    waking = h.waking;
-    wakers = h.wakers;
-    awaiters = h.awaiters;
-    sleepers = h.sleepers;
-    awaiting = h.awaiting;
-    inside = length-set w.inside f b ∙ h.inside;
-  };
+  fits = record { awaiting = h.awaiting; inside = length-set w.inside f b ∙ h.inside };
   next = z;
   more = omega arith;
 }
 
 pub grows-leave : (b : Bool) (w : World) (f : ℕ) → Grows w (op.Table (table_op.LeaveTable f) ∷ []) (leave_by b w f)
 grows-leave = by_bool _
-    (λ w f h k. grind (arith, pasts-without))
+    (λ w f h k. grind arith)
     (λ w f h k. grind arith)
 
 pub grows-copy : (b : Bool) (w : World) (f : ℕ) (held : Hold) →
     Grows w (op.Waker (waker_op.CopyWaker f held) ∷ []) (copy_by b w f held)
 grows-copy = by_bool _
     (λ w f held h k. grind arith)
-    (λ w f held h k. grind (arith, length-set {A = State}, wakers_past-push))
+    (λ w f held h k. grind (arith, length-set {A = State}))
 
-grows-answered : (w v : World) (p f : ℕ) (m : Moved) (a : Answer) → length v.tasks ≡ length w.tasks → Fits v →
+grows-answered : (w v : World) (p f : ℕ) (m : Moved) (a : Answer) → length v.tasks ≡ length w.tasks → Shaped v →
     past (length w.tasks) f ≡ 0 → Grown w (answered p v f m a)
 grows-answered w v p f m a l h z =
     let q : length (set v.tasks f m.state) ≡ length w.tasks = length-set v.tasks f m.state ∙ l in
@@ -184,12 +157,12 @@ pub grows-look : (a : Option Answer) (p : ℕ) (w : World) (f : ℕ) (x : Waker)
     Grows w (op.Handle (handle_op.Look f x) ∷ []) (look_by a p w f x m)
 grows-look None p w f x m h k = grind arith
 grows-look (Some a) p w f x m h k =
-    grows-answered w (polled p w f) p f m a refl (fits-log true w (event.HandlePolled p f) h) (omega (arith, k))
+    grows-answered w (polled p w f) p f m a refl (fits-log true w (event.HandlePolled p f) (shaped w h)) (omega (arith, k))
 
 pub grows-again : (a : Option Answer) (p : ℕ) (w : World) (f : ℕ) (m : Moved) →
     Grows w (op.Handle (handle_op.LookAgain f) ∷ []) (look_again_by a p w f m)
 grows-again None p w f m h k = grind arith
-grows-again (Some a) p w f m h k = grows-answered w w p f m a refl h (omega (arith, k))
+grows-again (Some a) p w f m h k = grows-answered w w p f m a refl (shaped w h) (omega (arith, k))
 
 pub grows-copy_awaiter : (b : Bool) (p : ℕ) (w : World) (f : ℕ) (x : Waker) →
     Grows w (op.Handle (handle_op.CopyAwaiter f x) ∷ []) (copy_awaiter_by b p w f x)
@@ -224,20 +197,9 @@ grows-awaiter w f s a next i h z n =
     let e : awaiters_past (length w.tasks) (set w.awaiters f a) + past_if (length w.tasks) (awaiter_of w f)
     ≡ awaiters_past (length w.tasks) w.awaiters + past_if (length w.tasks) a =
     awaiters_past-set (length w.tasks) f a w.awaiters i in
-    let fp = fits-put w f s h in
+    let fp = fits-put w f s (shaped w h) in
     record {
-      fits = record {
-        queue = fp.queue;
-        own = fp.own;
-        table = fp.table;
-        leaving = fp.leaving;
-        waking = fp.waking;
-        wakers = fp.wakers;
-        awaiters = subst (λ m. awaiters_past m (set w.awaiters f a) ≡ 0) (sym q) (omega (arith, e, h.awaiters, z));
-        sleepers = fp.sleepers;
-        awaiting = l ∙ fp.awaiting;
-        inside = fp.inside;
-      };
+      fits = record { awaiting = l ∙ fp.awaiting; inside = fp.inside };
       next = subst (λ m. weigh (past_of m) next ≡ 0) (sym q) (n (omega (arith, e, h.awaiters, z)));
       more = omega (arith, q);
     }
@@ -296,7 +258,7 @@ grows-call = λ p w f. by_waker _
     (λ g k h z. let v = log w (event.WakerCalled p (of.Handle f) k (Task g)) in
     let b = not (moves.is_over (task w g)) in
     grows-carried w (log_if b v (event.Woken p g)) g (moves.wake (task w g)) (same-log b v (event.Woken p g))
-    (fits-log b v (event.Woken p g) (fits-log true w (event.WakerCalled p (of.Handle f) k (Task g)) h))
+    (fits-log b v (event.Woken p g) (fits-log true w (event.WakerCalled p (of.Handle f) k (Task g)) (shaped w h)))
     (omega (arith, z)))
     (λ x k h z. grind arith)
 
@@ -312,19 +274,7 @@ grows-drop_next p w (f ∷ rest) e h k =
     let n = length w.tasks in
     let z : past n f + pasts n rest ≡ 0 = sym (ap (pasts n) e) ∙ h.leaving in
     record {
-      fits =
-          record {
-            queue = h.queue;
-            own = h.own;
-            table = h.table;
-            leaving = omega (arith, z);
-            waking = omega (arith, pasts-append n w.waking (f ∷ []), h.waking, z);
-            wakers = h.wakers;
-            awaiters = h.awaiters;
-            sleepers = h.sleepers;
-            awaiting = h.awaiting;
-            inside = length-set w.inside f false ∙ h.inside;
-          };
+      fits = record { awaiting = h.awaiting; inside = length-set w.inside f false ∙ h.inside };
       next = omega (arith, past_closing n rest (w.waking ++ f ∷ []), z);
       more = omega arith;
     }
@@ -351,19 +301,7 @@ grows-wake_next p w (f ∷ rest) e h k =
     let z : past n f + pasts n rest ≡ 0 = sym (ap (pasts n) e) ∙ h.waking in
     let v : World = record w { waking = rest } in
     let b = not (moves.is_over (task w f)) in
-    let fv : Fits v =
-    record {
-      queue = h.queue;
-      own = h.own;
-      table = h.table;
-      leaving = h.leaving;
-      waking = omega (arith, z);
-      wakers = h.wakers;
-      awaiters = h.awaiters;
-      sleepers = h.sleepers;
-      awaiting = h.awaiting;
-      inside = h.inside;
-    } in
+    let fv : Shaped v = record { awaiting = h.awaiting; inside = h.inside } in
     grows-followed w (wake p v f) [] rest
     (grows-carried w (log_if b v (event.Woken p f)) f (moves.wake (task w f)) (same-log b v (event.Woken p f))
     (fits-log b v (event.Woken p f) fv) (omega (arith, z)))
@@ -380,9 +318,9 @@ grows-same w os h k = grind arith
 
 pub grows-logged : (w : World) (e : Event) (next : List Op) → weigh (past_of (length w.tasks)) next ≡ 0 → Fits w →
     Grown w (done (log w e) next)
-grows-logged w e next z h = record { fits = fits-log true w e h; next = z; more = omega arith }
+grows-logged w e next z h = record { fits = fits-log true w e (shaped w h); next = z; more = omega arith }
 
 -- a move, and the event that it has
 pub grows-moved : (w : World) (b : Bool) (e : Event) (f : ℕ) (m : Moved) → Fits w → past (length w.tasks) f ≡ 0 →
     Grown w (carried (log_if b w e) f m)
-grows-moved w b e f m h z = grows-carried w (log_if b w e) f m (same-log b w e) (fits-log b w e h) z
+grows-moved w b e f m h z = grows-carried w (log_if b w e) f m (same-log b w e) (fits-log b w e (shaped w h)) z

@@ -16,7 +16,7 @@ use Rattle.executor_model.specs.declared.op.WakerOp.TheVariants as waker_op
 use Rattle.executor_model.specs.declared.step.Hint.{Hint}
 use Rattle.executor_model.specs.World.{World, task}
 use Rattle.executor_model.specs.Doing.{act}
-use Rattle.executor_model.proofs.Fitting.{Grows, grows-again, grows-append, grows-call, grows-carried}
+use Rattle.executor_model.proofs.Fitting.{Grows, shaped, grows-again, grows-append, grows-call, grows-carried}
 use Rattle.executor_model.proofs.Fitting.{grows-copy, grows-copy_awaiter, grows-drain, grows-drop_next}
 use Rattle.executor_model.proofs.Fitting.{grows-end_notify, grows-end_register, grows-enter, grows-inside}
 use Rattle.executor_model.proofs.Fitting.{grows-leave, grows-logged, grows-look, grows-moved, grows-notify}
@@ -41,18 +41,18 @@ grows-act p c (op.Move move.Cancel f) w h k = grows-moved w (not (moves.is_over 
     (moves.cancel (task w f)) h (omega (arith, k))
 grows-act p c (op.Move move.Detach f) w h k = grows-moved w (not ((task w f).completed && not (task w f).closed))
     (event.Detached p f) f (moves.detach (task w f)) h (omega (arith, k))
-grows-act p c (op.Move move.Release f) w h k = grows-carried w w f (moves.release (task w f)) refl h (omega (arith, k))
+grows-act p c (op.Move move.Release f) w h k = grows-carried w w f (moves.release (task w f)) refl (shaped w h) (omega (arith, k))
 grows-act p c (op.Move move.SettleClosed f) w h k =
-    grows-carried w w f (moves.settle_closed (task w f)) refl h (omega (arith, k))
-grows-act p c (op.Move move.GiveUp f) w h k = grows-carried w w f (moves.give_up (task w f)) refl h (omega (arith, k))
+    grows-carried w w f (moves.settle_closed (task w f)) refl (shaped w h) (omega (arith, k))
+grows-act p c (op.Move move.GiveUp f) w h k = grows-carried w w f (moves.give_up (task w f)) refl (shaped w h) (omega (arith, k))
 grows-act p c (op.Move move.EndReady f) w h k =
-    grows-carried w w f (moves.end_ready (task w f)) refl h (omega (arith, k))
+    grows-carried w w f (moves.end_ready (task w f)) refl (shaped w h) (omega (arith, k))
 grows-act p c (op.Move move.EndPending f) w h k =
-    grows-carried w w f (moves.end_pending (task w f)) refl h (omega (arith, k))
+    grows-carried w w f (moves.end_pending (task w f)) refl (shaped w h) (omega (arith, k))
 grows-act p c (op.Move move.EndClosed f) w h k =
-    grows-carried w w f (moves.end_closed (task w f)) refl h (omega (arith, k))
+    grows-carried w w f (moves.end_closed (task w f)) refl (shaped w h) (omega (arith, k))
 grows-act p c (op.Move move.DropRunnable f) w h k =
-    grows-carried w w f (moves.drop_runnable (task w f)) refl h (omega (arith, k))
+    grows-carried w w f (moves.drop_runnable (task w f)) refl (shaped w h) (omega (arith, k))
 grows-act p c (op.Table (table_op.TakeToPoll f)) w h k =
     grows-inside w f false [] (op.User (user_op.Poll f) ∷ []) (omega (arith, k)) h
 grows-act p c (op.Table (table_op.PutBack f)) w h k =
@@ -89,18 +89,7 @@ grows-act p c (op.Steal o) w h k = grows-steal p o w h k
 grows-act p c (op.Run o) w h k = grows-run p c o w h k
 grows-act p c (op.Closing closing_op.TakeOut) w h k =
     (record {
-      fits = record {
-        queue = h.queue;
-        own = h.own;
-        table = h.leaving;
-        leaving = h.table;
-        waking = h.waking;
-        wakers = h.wakers;
-        awaiters = h.awaiters;
-        sleepers = h.sleepers;
-        awaiting = h.awaiting;
-        inside = h.inside;
-      };
+      fits = record { awaiting = h.awaiting; inside = h.inside };
       next = past_closing (length w.tasks) w.table w.waking;
       more = omega arith;
     })

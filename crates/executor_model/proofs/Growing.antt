@@ -32,6 +32,7 @@ use Rattle.executor_model.specs.Rows.{borrowing_of, waiting_of, polls_of, ending
 use Rattle.executor_model.specs.Rows.{giving_of, drops_of, releases_of, copies_of, ousting_of, past_of}
 use Rattle.executor_model.specs.Rows.{then_past}
 use Rattle.executor_model.specs.Steps.{mine}
+use Rattle.executor_model.proofs.Views.{none}
 use Rattle.executor_model.proofs.Lists.{past-more, waker_past-more}
 use Rattle.executor_model.proofs.Lists.{weigh-append, weigh-reverse, weigh_all-set}
 use Rattle.executor_model.proofs.Lists.{weigh_all-push}
@@ -42,39 +43,49 @@ pub split : (v : Op → ℕ) (ss : List (List Op)) (p : ℕ) (old rest : List Op
 split v ss p old rest h e =
     omega (arith, weigh_all-set v ss p rest h, ap (weigh v) e, weigh-append v rest (reverse old), weigh-reverse v old)
 
+-- what holds of each count holds of all of them
+
+pub pend-by : (g : ℕ) (ss ts : List (List Op)) (os : List Op) →
+    ((v : Op → ℕ) → weigh_all v ss ≡ weigh v os + weigh_all v ts) → pend g ss ≡ with_ops g os (pend g ts)
+pend-by g ss ts os a = λ t. record {
+  waiting = a (waiting_of g) t;
+  polls = a (polls_of g) t;
+  ending = a (ending_of g) t;
+  ready = a (ready_of g) t;
+  closing = a (closing_of g) t;
+  settling = a (settling_of g) t;
+  giving = a (giving_of g) t;
+  drops = a (drops_of g) t;
+  releases = a (releases_of g) t;
+  copies = a (copies_of g) t;
+  borrowing = a borrowing_of t;
+  ousting = a ousting_of t;
+}
+
+pub pend-none : (g : ℕ) (ss : List (List Op)) → ((v : Op → ℕ) → weigh_all v ss ≡ 0) → pend g ss ≡ none
+pend-none g ss a = λ t. record {
+  waiting = a (waiting_of g) t;
+  polls = a (polls_of g) t;
+  ending = a (ending_of g) t;
+  ready = a (ready_of g) t;
+  closing = a (closing_of g) t;
+  settling = a (settling_of g) t;
+  giving = a (giving_of g) t;
+  drops = a (drops_of g) t;
+  releases = a (releases_of g) t;
+  copies = a (copies_of g) t;
+  borrowing = a borrowing_of t;
+  ousting = a ousting_of t;
+}
+
 pub split-pend : (g : ℕ) (ss : List (List Op)) (p : ℕ) (old rest : List Op) → p < length ss →
     get_or ss p [] ≡ rest ++ reverse old → pend g ss ≡ with_ops g old (pend g (set ss p rest))
-split-pend g ss p old rest h e = λ i. record {
-  waiting = split (waiting_of g) ss p old rest h e i;
-  polls = split (polls_of g) ss p old rest h e i;
-  ending = split (ending_of g) ss p old rest h e i;
-  ready = split (ready_of g) ss p old rest h e i;
-  closing = split (closing_of g) ss p old rest h e i;
-  settling = split (settling_of g) ss p old rest h e i;
-  giving = split (giving_of g) ss p old rest h e i;
-  drops = split (drops_of g) ss p old rest h e i;
-  releases = split (releases_of g) ss p old rest h e i;
-  copies = split (copies_of g) ss p old rest h e i;
-  borrowing = split borrowing_of ss p old rest h e i;
-  ousting = split ousting_of ss p old rest h e i;
-}
+split-pend g ss p old rest h e = pend-by g ss (set ss p rest) old (λ v. split v ss p old rest h e)
 
 pub push-pend : (g : ℕ) (ss : List (List Op)) (p : ℕ) (rest next : List Op) → p < length ss →
     pend g (set ss p (rest ++ reverse next)) ≡ with_ops g next (pend g (set ss p rest))
-push-pend g ss p rest next h = λ i. record {
-  waiting = weigh_all-push (waiting_of g) ss p rest next h i;
-  polls = weigh_all-push (polls_of g) ss p rest next h i;
-  ending = weigh_all-push (ending_of g) ss p rest next h i;
-  ready = weigh_all-push (ready_of g) ss p rest next h i;
-  closing = weigh_all-push (closing_of g) ss p rest next h i;
-  settling = weigh_all-push (settling_of g) ss p rest next h i;
-  giving = weigh_all-push (giving_of g) ss p rest next h i;
-  drops = weigh_all-push (drops_of g) ss p rest next h i;
-  releases = weigh_all-push (releases_of g) ss p rest next h i;
-  copies = weigh_all-push (copies_of g) ss p rest next h i;
-  borrowing = weigh_all-push borrowing_of ss p rest next h i;
-  ousting = weigh_all-push ousting_of ss p rest next h i;
-}
+push-pend g ss p rest next h =
+    pend-by g (set ss p (rest ++ reverse next)) (set ss p rest) next (λ v. weigh_all-push v ss p rest next h)
 
 -- more futures are there, so what fits goes on to fit
 module _ (n m : ℕ) (h : n ≤ m) where

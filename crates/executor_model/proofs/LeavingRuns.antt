@@ -1,115 +1,42 @@
 -- In each run every future leaves the table as it should, and no append finds the queue full.
-use Rattle.std.proofs.Common.{◌≡◌, ℕ, zero, suc, ◌+◌, ◌<◌, ◌≤◌, List, [], ◌∷◌, ◌++◌, length, set, get_or}
-use Rattle.std.proofs.Common.{Bool, true, false, ◌&&◌, ◌||◌, not, refl, sym, ap, ◌∙◌, subst, inl, ⊎_elim, arith}
+use Rattle.std.proofs.Common.{◌≡◌, ℕ, zero, suc, ◌+◌, ◌<◌, ◌≤◌, List, [], ◌∷◌, ◌++◌, length, set}
+use Rattle.std.proofs.Common.{Bool, true, false, ◌&&◌, not, refl, subst, inl, ⊎_elim, arith}
 use Rattle.std.proofs.lemmas.Bool.Decides.{nat_tests}
-use Rattle.std.specs.Prelude.{Option, Some, None, reverse, nat_lt}
-use Rattle.executor_model.specs.declared.op.Waker.{Waker}
-use Rattle.executor_model.specs.declared.call.Call.{Call}
-use Rattle.executor_model.specs.declared.call.Call.TheVariants as call
+use Rattle.std.specs.Prelude.{reverse, nat_lt}
 use Rattle.executor_model.specs.declared.call.Reply.{Reply}
-use Rattle.executor_model.specs.declared.call.Reply.TheVariants as reply
-use Rattle.executor_model.specs.declared.event.Answer.TheVariants as answer
 use Rattle.executor_model.specs.declared.event.Event.TheVariants as event
 use Rattle.executor_model.specs.declared.op.Hold.{Hold}
-use Rattle.executor_model.specs.declared.op.Hold.TheVariants as hold
 use Rattle.executor_model.specs.declared.op.Op.{Op}
-use Rattle.executor_model.specs.declared.op.Sleeping.{Sleeping}
 use Rattle.executor_model.specs.declared.op.Op.TheVariants as op
-use Rattle.executor_model.specs.declared.op.ClosingOp.TheVariants as closing_op
-use Rattle.executor_model.specs.declared.op.HandleOp.TheVariants as handle_op
 use Rattle.task_moves.specs.declared.moves.owed.Move.TheVariants as move
 use Rattle.executor_model.specs.declared.op.QueueOp.TheVariants as queue_op
-use Rattle.executor_model.specs.declared.op.RunOp.TheVariants as run_op
-use Rattle.executor_model.specs.declared.op.RunPoll.{RunPoll}
-use Rattle.executor_model.specs.declared.op.Sleeper.TheVariants as sleeper
 use Rattle.executor_model.specs.declared.op.TableOp.TheVariants as table_op
-use Rattle.executor_model.specs.declared.op.TickOp.TheVariants as tick_op
-use Rattle.executor_model.specs.declared.op.UserOp.TheVariants as user_op
-use Rattle.executor_model.specs.declared.op.WakerOp.TheVariants as waker_op
 use Rattle.executor_model.specs.declared.step.Step.{Step}
-use Rattle.executor_model.specs.declared.step.UserEnd.{UserEnd}
-use Rattle.executor_model.specs.declared.step.UserEnd.TheVariants as end
-use Rattle.executor_model.specs.World.{World, Stage, New, Listed, Ended, Run, Done, done, log, among, run_of}
-use Rattle.executor_model.specs.Doing.{act}
-use Rattle.executor_model.specs.Weights.{weigh, weigh_all, same}
-use Rattle.executor_model.specs.Sound.{Pend, pend, with_ops, queued, times}
-use Rattle.executor_model.specs.Rows as rows
+use Rattle.executor_model.specs.World.{World, Done, done, log, among}
+use Rattle.executor_model.specs.Weights.{same}
+use Rattle.executor_model.specs.Sound.{Pend, pend, queued, times}
 use Rattle.executor_model.specs.Good.{Good}
-use Rattle.executor_model.specs.Steps.{Machine, stack, idle, run, start, mine, top, is_free, has_all}
-use Rattle.executor_model.specs.Steps.{is_on_executor, is_drop, is_unused, is_unborrowed, accepts, begun}
-use Rattle.executor_model.specs.Steps.{react, used_up, with_future, future_of, kept, waker_of, poll_run, drop_run}
-use Rattle.executor_model.specs.Rows.{borrowing_of, waiting_of, polls_of, ending_of, ready_of, settling_of, giving_of}
-use Rattle.executor_model.specs.Rows.{drops_of, releases_of, copies_of, ousting_of, past_of, leaves_of}
+use Rattle.executor_model.specs.Steps.{Machine, stack, idle, run, start, mine, top}
+use Rattle.executor_model.specs.Rows.{waiting_of}
+use Rattle.executor_model.specs.Rows.{drops_of, leaves_of}
 use Rattle.executor_model.proofs.Cases.{by_bool}
-use Rattle.executor_model.proofs.Lists.{weigh_all-push}
-use Rattle.executor_model.proofs.Lift.{split, split-pend, push-pend, unsettled, good-start, none_refused}
-use Rattle.executor_model.proofs.Lift.{open_executor, unborrowed, unused, weigh_all-idle, set-own}
+use Rattle.executor_model.proofs.Lift.{split, unsettled, good-start}
+use Rattle.executor_model.proofs.Views.{none, seen}
 use Rattle.executor_model.proofs.Ways.{Way, along}
 use Rattle.executor_model.proofs.Ways.Way.{acted, reacted, called}
-use Rattle.executor_model.proofs.Stories.{story, story-none, story-push, among_is, no-longer}
+use Rattle.executor_model.proofs.Stories.{story, story-none, among_is, no-longer}
 use Rattle.executor_model.proofs.Telling.{same-standing}
-use Rattle.executor_model.proofs.Leaving.{closing_of, waking_of, Extra, with_extra, extra}
-use Rattle.executor_model.proofs.Leaving.{Base, based, Leaves, KeepsLeaves}
-use Rattle.executor_model.proofs.LeavingActs.{NeedsPlaces, leaves-act, leaves-pending, leaves-ready}
-use Rattle.executor_model.proofs.Borrowing.{uses_of, bare_all, Tidy, bare-moved, none-uses, drop-uses-all}
+use Rattle.executor_model.proofs.Extras.{closing_of, no_extra, extra}
+use Rattle.executor_model.proofs.Leaving.{Base, based, Entered, Leaves}
+use Rattle.executor_model.proofs.LeavingAll.{NeedsPlaces, leaves-effect, leaves-pends, leaves-readies, leaves-closes, leaves-end}
+use Rattle.executor_model.proofs.EffectsWays.{Effects, effects-way, ended, lifted, view_with, view-start}
+use Rattle.executor_model.proofs.EffectsWays.Effects.{does, pends, readies, closes}
+use Rattle.executor_model.proofs.Borrowing.{bare_all, Tidy, bare-moved, none-uses, drop-uses-all}
 use Rattle.executor_model.proofs.TidyingGroups.{NeedsNoEntry, tidy-act, tidy-react, tidy-begun}
 
 pub record Placed (s : Machine) : Type 0 where
   pub leaves : (g : ℕ) → Leaves s.world g (pend g s.parties) (extra g s.parties)
   pub bare : bare_all s.parties ≡ 0
-
-split-extra : (g : ℕ) (ss : List (List Op)) (p : ℕ) (old rest : List Op) → p < length ss →
-    get_or ss p [] ≡ rest ++ reverse old → extra g ss ≡ with_extra g old (extra g (set ss p rest))
-split-extra g ss p old rest h e = λ i. record {
-  leaves = split (leaves_of g) ss p old rest h e i;
-  closing = split closing_of ss p old rest h e i;
-  waking = split waking_of ss p old rest h e i;
-}
-
-push-extra : (g : ℕ) (ss : List (List Op)) (p : ℕ) (rest next : List Op) → p < length ss →
-    extra g (set ss p (rest ++ reverse next)) ≡ with_extra g next (extra g (set ss p rest))
-push-extra g ss p rest next h = λ i. record {
-  leaves = weigh_all-push (leaves_of g) ss p rest next h i;
-  closing = weigh_all-push closing_of ss p rest next h i;
-  waking = weigh_all-push waking_of ss p rest next h i;
-}
-
--- it keeps what holds of g, beside what the others have to do here
-abbrev pub KeepsHere : World → List Op → Done → List (List Op) → Type 0
-KeepsHere w old d others = (g : ℕ) → Base w g (with_ops g old (pend g others)) →
-    Leaves w g (with_ops g old (pend g others)) (with_extra g old (extra g others)) →
-    Leaves d.world g (with_ops g d.next (pend g others)) (with_extra g d.next (extra g others))
-
-module _ (s : Machine) (p : ℕ) (old rest : List Op) (l : p < length s.parties)
-    (e : stack s p ≡ rest ++ reverse old) where
-  leaves-split : (g : ℕ) → Leaves s.world g (pend g s.parties) (extra g s.parties) →
-      Leaves s.world g (with_ops g old (pend g (set s.parties p rest)))
-      (with_extra g old (extra g (set s.parties p rest)))
-  leaves-split g h = subst (λ (x : Pend × Extra). Leaves s.world g x.0 x.1)
-      (λ i. (split-pend g s.parties p old rest l e i, split-extra g s.parties p old rest l e i)) h
-
-  leaves-pushed : (d : Done) (g : ℕ) →
-      Leaves d.world g (with_ops g d.next (pend g (set s.parties p rest)))
-      (with_extra g d.next (extra g (set s.parties p rest))) →
-      Leaves d.world g (pend g (set s.parties p (rest ++ reverse d.next)))
-      (extra g (set s.parties p (rest ++ reverse d.next)))
-  leaves-pushed d g h = subst (λ (x : Pend × Extra). Leaves d.world g x.0 x.1)
-      (sym
-      (let q : (pend g (set s.parties p (rest ++ reverse d.next)), extra g (set s.parties p (rest ++ reverse d.next)))
-      ≡ (
-        with_ops g d.next (pend g (set s.parties p rest)),
-        with_extra g d.next (extra g (set s.parties p rest)),
-      ) =
-      λ i. (push-pend g s.parties p rest d.next l i, push-extra g s.parties p rest d.next l i) in q)) h
-
-  placed-unsettled : (d : Done) → Good s → KeepsHere s.world old d (set s.parties p rest) → Tidy old d.next → Placed s →
-      Placed (unsettled s p rest d)
-  placed-unsettled d good k t h = record {
-    leaves = λ g. leaves-pushed d g
-        (k g (subst (Base s.world g) (split-pend g s.parties p old rest l e)
-        (based s.world g (pend g s.parties) (good.sound g))) (leaves-split g (h.leaves g)));
-    bare = bare-moved s.parties p old rest d.next l e t h.bare;
-  }
 
 -- a Runnable on its way finds a place
 
@@ -158,9 +85,9 @@ needs-places s p _ rest l e good h = tt
 
 -- a Runnable that is dropped is one of a future that has no entry any more
 
-closes : (s : Machine) (p f : ℕ) (rest : List Op) → p < length s.parties →
+closing-here : (s : Machine) (p f : ℕ) (rest : List Op) → p < length s.parties →
     stack s p ≡ rest ++ reverse (op.Move move.DropRunnable f ∷ []) → 1 ≤ (extra f s.parties).closing
-closes s p f rest l e = omega (arith, split closing_of s.parties p (op.Move move.DropRunnable f ∷ []) rest l e)
+closing-here s p f rest l e = omega (arith, split closing_of s.parties p (op.Move move.DropRunnable f ∷ []) rest l e)
 
 no-entry : (f : ℕ) (xs : List ℕ) → times f xs ≡ 0 → among f xs ≡ false
 no-entry f xs z = ⊎_elim (λ (x : (among f xs ≡ true) × (1 ≤ times f xs)). absurd (omega (arith, x.1, z)))
@@ -169,258 +96,65 @@ no-entry f xs z = ⊎_elim (λ (x : (among f xs ≡ true) × (1 ≤ times f xs))
 needs-no-entry : (s : Machine) (p : ℕ) (o : Op) (rest : List Op) → p < length s.parties →
     stack s p ≡ rest ++ reverse (o ∷ []) → Placed s → NeedsNoEntry s.world o
 needs-no-entry s p (op.Move move.DropRunnable f) rest l e h =
-    let x : _ = (h.leaves f).late (closes s p f rest l e) in
+    let x : _ = (h.leaves f).late (closing-here s p f rest l e) in
     no-entry f s.world.table ((h.leaves f).swept x.0 x.1).0
 needs-no-entry s p _ rest l e h = tt
 
--- the end of user code
-keeps-react : (p : ℕ) (o : Op) (u : UserEnd) (w : World) → accepts o u ≡ true → KeepsLeaves w (o ∷ []) (react p o u w)
-keeps-react p (op.User (user_op.Poll f)) (end.Polled answer.Pending) w a = leaves-pending p w f
-keeps-react p (op.User (user_op.Poll f)) (end.Polled answer.Ready) w a = leaves-ready p w f
-keeps-react p (op.User (user_op.Drop f)) end.Done w a = λ g r yy bb h. h
-keeps-react p (op.User (user_op.DropOutput f)) end.Done w a = λ g r yy bb h. h
-keeps-react p (op.User (user_op.CallOutside x)) end.Done w a = λ g r yy bb h. h
-keeps-react p (op.User (user_op.PollOwn x)) (end.Polled answer.Pending) w a = λ g r yy bb h. h
-keeps-react p (op.User (user_op.PollOwn x)) (end.Polled answer.Ready) w a = λ g r yy bb h. h
-keeps-react p (op.User (user_op.DropOwn t)) end.Done w a = λ g r yy bb h. h
-keeps-react p _ _ w a = absurd (cc)
-
--- the beginning of a call
-
-begins-nothing : (w : World) (p : ℕ) (c : Call) → KeepsLeaves w [] (done (log w (event.CallBegun p c)) [])
-begins-nothing w p c g r yy bb h = grind (arith, story-push)
-
-begins-with : (w : World) (p : ℕ) (c : Call) (x : Option ℕ) (d : ℕ → Done) → ((f : ℕ) → KeepsLeaves w [] (d f)) →
-    KeepsLeaves w [] (with_future (log w (event.CallBegun p c)) x d)
-begins-with w p c None d k = begins-nothing w p c
-begins-with w p c (Some f) d k = k f
-
-begins-enter : (w : World) (p : ℕ) (c : Call) →
-    KeepsLeaves w [] (done (log w (event.CallBegun p c)) (op.Table table_op.Enter ∷ []))
-begins-enter w p c g r yy bb h = grind (arith, story-push)
-
-begins-take : (w : World) (p : ℕ) (c : Call) →
-    KeepsLeaves w [] (done (log w (event.CallBegun p c)) (op.Queue queue_op.Take ∷ []))
-begins-take w p c g r yy bb h = grind (arith, story-push)
-
-begins-look : (w : World) (p : ℕ) (c : Call) →
-    KeepsLeaves w [] (done (log w (event.CallBegun p c)) (op.Table table_op.LookAtTable ∷ []))
-begins-look w p c g r yy bb h = grind (arith, story-push)
-
-begins-make : (w : World) (p : ℕ) →
-    KeepsLeaves w [] (done (log w (event.CallBegun p call.NewTick)) (op.Tick tick_op.MakeTick ∷ []))
-begins-make w p g r yy bb h = grind (arith, story-push)
-
-begins-search : (w : World) (p : ℕ) (c : Call) (t : ℕ) (x : Sleeping) →
-    KeepsLeaves w [] (done (log (log w (event.CallBegun p c)) (event.TickPolled p t)) (op.Tick (tick_op.Search x) ∷ []))
-begins-search w p c t x g r yy bb h = grind (arith, story-push)
-
-begins-leave : (w : World) (p : ℕ) (c : Call) (t : ℕ) →
-    KeepsLeaves w [] (done (log (log w (event.CallBegun p c)) (event.TickDropped p t))
-    (op.Tick (tick_op.Leave (sleeper.Tick t)) ∷
-    op.End reply.Done (hold.Tick t) ∷ []))
-begins-leave w p c t g r yy bb h = grind (arith, story-push)
-
-begins-room : (w : World) (p : ℕ) →
-    KeepsLeaves w [] (done (log w (event.CallBegun p call.NewRun)) (op.Run run_op.MakeRoom ∷ []))
-begins-room w p g r yy bb h = grind (arith, story-push)
-
-begins-poll_run : (t : Stage) (w : World) (p : ℕ) (c : Call) (q : ℕ) (x : RunPoll) →
-    KeepsLeaves w [] (done (log (log w (event.CallBegun p c)) (event.RunPolled p q)) (poll_run t x))
-begins-poll_run New w p c q x g r yy bb h = grind (arith, story-push)
-begins-poll_run Listed w p c q x g r yy bb h = grind (arith, story-push)
-begins-poll_run Ended w p c q x g r yy bb h = grind (arith, story-push)
-
-begins-drop_run : (t : Stage) (w : World) (p : ℕ) (c : Call) (rs : List Run) (q : ℕ) →
-    KeepsLeaves w [] (done (log (record (log w (event.CallBegun p c)) { runs = rs }) (event.RunDropped p q))
-    (drop_run t q))
-begins-drop_run New w p c rs q g r yy bb h = grind (arith, story-push)
-begins-drop_run Listed w p c rs q g r yy bb h = grind (arith, story-push)
-begins-drop_run Ended w p c rs q g r yy bb h = grind (arith, story-push)
-
-begins-wake : (w : World) (p k f : ℕ) (c : Call) →
-    KeepsLeaves w [] (done (used_up (log w (event.CallBegun p c)) k)
-    (op.Move move.Wake f ∷ op.End reply.Done hold.Nothing ∷ []))
-begins-wake w p k f c g r yy bb h = grind (arith, story-push)
-
-begins-release : (w : World) (p k f : ℕ) (c : Call) →
-    KeepsLeaves w [] (done (used_up (log w (event.CallBegun p c)) k)
-    (op.Move move.Release f ∷ op.End reply.Done hold.Nothing ∷ []))
-begins-release w p k f c g r yy bb h = grind (arith, story-push)
-
-begins-list : (w : World) (p : ℕ) (c : Call) (os : List Op) → ((g : ℕ) (r : Pend) → with_ops g os r ≡ with_ops g [] r) →
-    ((g : ℕ) (r : Extra) → with_extra g os r ≡ with_extra g [] r) →
-    KeepsLeaves w [] (done (log w (event.CallBegun p c)) os)
-begins-list w p c os a b g r yy bb h = subst (λ (x : Pend × Extra). Leaves (log w (event.CallBegun p c)) g x.0 x.1)
-    (λ i. (sym (a g r) i, sym (b g yy) i)) (begins-nothing w p c g r yy bb h)
-
--- the drop of the executor, where no call uses it
-begins-drop : (w : World) (p : ℕ) (c : Call) (g : ℕ) (r : Pend) (y : Extra) → w.gone ≡ false → r.drops + y.leaves ≡ 0 →
-    Base w g (with_ops g [] r) → Leaves w g (with_ops g [] r) (with_extra g [] y) →
-    Leaves (log (record (log w (event.CallBegun p c)) { gone = true }) (event.DropBegun p)) g
-    (with_ops g (op.Closing closing_op.TakeOut ∷ op.End reply.Done hold.Nothing ∷ []) r)
-    (with_extra g (op.Closing closing_op.TakeOut ∷ op.End reply.Done hold.Nothing ∷ []) y)
-begins-drop w p c g r y n z bb h = grind (arith, story-push)
-
-begins : (s : Machine) (w : World) (p : ℕ) (ss others : List (List Op)) (o : Option Op) (here : Option Waker)
-    (c : Call) →
-    others ≡ ss → bare_all ss ≡ 0 → not (w.gone && is_on_executor c) ≡ true →
-    (not (is_drop c) || is_unused borrowing_of ss) ≡ true →
-    KeepsHere w [] (begun p (log w (event.CallBegun p c)) here c) others
-begins s w p ss others o here call.Spawn q z on un g = begins-enter w p call.Spawn g _ _
-begins s w p ss others o here call.TryTick q z on un g = begins-take w p call.TryTick g _ _
-begins s w p ss others o here call.IsEmpty q z on un g = begins-look w p call.IsEmpty g _ _
-begins s w p ss others o here (call.Wake k) q z on un g =
-    begins-with w p (call.Wake k) (kept w k) _ (λ f. begins-wake w p k f (call.Wake k)) g _ _
-begins s w p ss others o here (call.WakeByRef k) q z on un g =
-    begins-with w p (call.WakeByRef k) (kept w k) _
-    (λ f. begins-list w p (call.WakeByRef k) (op.Move move.WakeByReference f ∷ op.End reply.Done (hold.Waker k) ∷ [])
-    (λ g r. refl) (λ g r. refl)) g _ _
-begins s w p ss others o here (call.Copy k) q z on un g =
-    begins-with w p (call.Copy k) (kept w k) _
-    (λ f. begins-list w p (call.Copy k) (op.Waker (waker_op.CopyWaker f (hold.Waker k)) ∷ []) (λ g r. refl)
-    (λ g r. refl)) g _ _
-begins s w p ss others o here (call.DropWaker k) q z on un g =
-    begins-with w p (call.DropWaker k) (kept w k) _ (λ f. begins-release w p k f (call.DropWaker k)) g _ _
-begins s w p ss others o here call.Keep q z on un g =
-    begins-with w p call.Keep (future_of here) _
-    (λ f. begins-list w p call.Keep (op.Waker (waker_op.CopyWaker f hold.Nothing) ∷ []) (λ g r. refl) (λ g r. refl)) g
-    _ _
-begins s w p ss others o here call.WakeSelf q z on un g =
-    begins-with w p call.WakeSelf (future_of here) _
-    (λ f. begins-list w p call.WakeSelf (op.Move move.WakeByReference f ∷ op.End reply.Done hold.Nothing ∷ [])
-    (λ g r. refl) (λ g r. refl)) g _ _
-begins s w p ss others o here (call.PollHandle f b) q z on un g =
-    begins-list w p (call.PollHandle f b) (op.Handle (handle_op.Look f (waker_of here b)) ∷ []) (λ g r. refl)
-    (λ g r. refl) g _ _
-begins s w p ss others o here (call.Cancel f) q z on un g =
-    begins-list w p (call.Cancel f) (op.Move move.Cancel f ∷ op.End reply.Done (hold.Handle f) ∷ []) (λ g r. refl)
-    (λ g r. refl) g _ _
-begins s w p ss others o here (call.Detach f) q z on un g =
-    begins-list w p (call.Detach f) (op.Move move.Detach f ∷ op.End reply.Done (hold.Handle f) ∷ []) (λ g r. refl)
-    (λ g r. refl) g _ _
-begins s w p ss others o here (call.DropHandle f) q z on un g =
-    begins-list w p (call.DropHandle f)
-    (op.Move move.Cancel f ∷ op.Move move.Detach f ∷ op.End reply.Done (hold.Handle f) ∷ []) (λ g r. refl)
-    (λ g r. refl) g _ _
-begins s w p ss others o here call.NewTick q z on un g = begins-make w p g _ _
-begins s w p ss others o here (call.PollTick t b) q z on un g =
-    begins-search w p (call.PollTick t b) t
-    (record {
-      waker = waker_of here b;
-      who = sleeper.Tick t;
-      poll = length (log w (event.CallBegun p (call.PollTick t b))).trace;
-    }) g _ _
-begins s w p ss others o here (call.DropTick t) q z on un g = begins-leave w p (call.DropTick t) t g _ _
-begins s w p ss others o here call.NewRun q z on un g = begins-room w p g _ _
-begins s w p ss others o here (call.PollRun t b) q z on un g =
-    begins-poll_run (run_of w t).stage w p (call.PollRun t b) t
-    (record {
-      run = t;
-      waker = waker_of here b;
-      poll = length (log w (event.CallBegun p (call.PollRun t b))).trace;
-    }) g _ _
-begins s w p ss others o here (call.DropRun t) q z on un g =
-    begins-drop_run (run_of w t).stage w p (call.DropRun t) _ t g _ _
-begins s w p ss others o here call.DropExecutor q z on un g =
-    let n : w.gone ≡ false = open_executor w call.DropExecutor refl on in
-    let b : weigh_all borrowing_of ss ≡ 0 = unborrowed (weigh_all borrowing_of ss) un in
-    let u : weigh_all uses_of ss ≡ 0 = none-uses ss b z in
-    let v : weigh_all uses_of others ≡ 0 = ap (weigh_all uses_of) q ∙ u in
-    begins-drop w p call.DropExecutor g _ _ n (omega (arith, v, drop-uses-all g others))
-
 -- every step
+
+leaves-way : (s : Machine) (p : ℕ) (old rest : List Op) (d : Done) → Good s → p < length s.parties →
+    stack s p ≡ rest ++ reverse old → Placed s → Effects s.world s.parties old d → (g : ℕ) →
+    Base (view_with (set s.parties p rest) s.world old g) → Entered (view_with (set s.parties p rest) s.world old g) →
+    Entered (view_with (set s.parties p rest) d.world d.next g)
+leaves-way s p old rest d good l e h (does x) g b k =
+    leaves-effect s.world old d (λ o q. needs-places s p o rest l
+    (subst (λ (os : List Op). stack s p ≡ rest ++ reverse os) q e) good h) x g _ _ b k
+leaves-way s p old rest d good l e h (pends q f) g b k = leaves-pends q f s.world g _ _ b k
+leaves-way s p old rest d good l e h (readies q f) g b k = leaves-readies q f s.world g _ _ b k
+leaves-way s p old rest d good l e h (closes q n u) g b k =
+    leaves-closes q s.world g _ _ n
+    (omega (
+      arith,
+      none-uses s.parties u h.bare,
+      drop-uses-all g s.parties,
+      split (drops_of g) s.parties p [] rest l e,
+      split (leaves_of g) s.parties p [] rest l e,
+    )) b k
+
+tidy-way : (s : Machine) (p : ℕ) (old rest : List Op) (d : Done) → p < length s.parties →
+    stack s p ≡ rest ++ reverse old → Placed s → Way s p old rest d → Tidy old d.next
+tidy-way s p old rest d l e h (acted t o q z) =
+    rw z (rw q (tidy-act p t o s.world
+    (needs-no-entry s p o rest l (subst (λ (os : List Op). stack s p ≡ rest ++ reverse os) q e) h)))
+tidy-way s p old rest d l e h (reacted o u a q z) = rw z (rw q (tidy-react p o u s.world a))
+tidy-way s p old rest d l e h (called c q r n z) =
+    rw z (rw q (tidy-begun p (log s.world (event.CallBegun p c)) (mine (top (stack s p))) c))
 
 pub placed-moves : (s : Machine) (p : ℕ) (old rest : List Op) (d : Done) → Good s → p < length s.parties →
     stack s p ≡ rest ++ reverse old → Way s p old rest d → Placed s → Placed (unsettled s p rest d)
-placed-moves s p old rest d good l e (acted h o q z) placed =
-    let e2 : stack s p ≡ rest ++ reverse (o ∷ []) = subst (λ (os : List Op). stack s p ≡ rest ++ reverse os) q e in
-    let w : weigh (past_of (length s.world.tasks)) (o ∷ []) ≡ 0 =
-    omega (arith, good.ops, split (past_of (length s.world.tasks)) s.parties p (o ∷ []) rest l e2) in
-    rw z (placed-unsettled s p (o ∷ []) rest l e2 (act p h o s.world) good
-    (λ g. leaves-act p h o s.world good.fits.awaiting good.fits.waking w (needs-places s p o rest l e2 good placed) g
-    _ _) (tidy-act p h o s.world (needs-no-entry s p o rest l e2 placed)) placed)
-placed-moves s p old rest d good l e (reacted o u a q z) placed =
-    let e2 : stack s p ≡ rest ++ reverse (o ∷ []) = subst (λ (os : List Op). stack s p ≡ rest ++ reverse os) q e in
-    rw z (placed-unsettled s p (o ∷ []) rest l e2 (react p o u s.world) good (λ g. keeps-react p o u s.world a g _ _)
-    (tidy-react p o u s.world a) placed)
-placed-moves s p old rest d good l e (called c q r n z) placed =
-    let e2 : stack s p ≡ rest ++ reverse [] = subst (λ (os : List Op). stack s p ≡ rest ++ reverse os) q e in
-    let f : _ = none_refused (is_free (top (stack s p))) (has_all s.world s.parties (top (stack s p)) c)
-    (not (s.world.gone && is_on_executor c)) (not (is_drop c) || is_unborrowed s.world s.parties) n in
-    let own : set s.parties p rest ≡ s.parties = ap (set s.parties p) r ∙ set-own s.parties p l in
-    rw z (placed-unsettled s p [] rest l e2
-    (begun p (log s.world (event.CallBegun p c)) (mine (top (stack s p))) c) good
-    (begins s s.world p s.parties (set s.parties p rest) (top (stack s p)) (mine (top (stack s p))) c own
-    placed.bare f.2 (unused c s.world s.parties f.3))
-    (tidy-begun p (log s.world (event.CallBegun p c)) (mine (top (stack s p))) c) placed)
+placed-moves s p old rest d good l e way h = record {
+  leaves = lifted Base Entered s p old rest l e d
+      (leaves-way s p old rest d good l e h (effects-way s p old rest d good l e way))
+      (λ g. based s.world g (pend g s.parties) (extra g s.parties) (good.sound g)) h.leaves;
+  bare = bare-moved s.parties p old rest d.next l e (tidy-way s p old rest d l e h way) h.bare;
+}
 
-module _ (s : Machine) (p : ℕ) (a : Reply) (held : Hold) (below : List Op) (l : p < length s.parties)
-    (e : stack s p ≡ below ++ reverse (op.End a held ∷ [])) where
-  leaves-end : (g : ℕ) (r : Pend) (y : Extra) →
-      Leaves s.world g (with_ops g (op.End a held ∷ []) r) (with_extra g (op.End a held ∷ []) y) →
-      Leaves (log s.world (event.CallEnded p a)) g (with_ops g [] r) (with_extra g [] y)
-  leaves-end g r y h = grind (arith, story-push)
-
-  pub placed-ends : Placed s → Placed (unsettled s p below (done (log s.world (event.CallEnded p a)) []))
-  placed-ends h = record {
-    leaves = λ g. leaves-pushed s p (op.End a held ∷ []) below l e (done (log s.world (event.CallEnded p a)) []) g
-        (leaves-end g _ _ (leaves-split s p (op.End a held ∷ []) below l e g (h.leaves g)));
-    bare = bare-moved s.parties p (op.End a held ∷ []) below [] l e (record { keeps = λ x. refl }) h.bare;
-  }
+pub placed-ends : (s : Machine) (p : ℕ) (a : Reply) (held : Hold) (below : List Op) → p < length s.parties →
+    stack s p ≡ below ++ reverse (op.End a held ∷ []) → Placed s →
+    Placed (unsettled s p below (done (log s.world (event.CallEnded p a)) []))
+placed-ends s p a held below l e h = record {
+  leaves = ended Entered s p a held below l e (leaves-end s.world p a held) h.leaves;
+  bare = bare-moved s.parties p (op.End a held ∷ []) below [] l e (record { keeps = λ x. refl }) h.bare;
+}
 
 bare-idle : (n : ℕ) → bare_all (idle n) ≡ 0
 bare-idle zero = refl
 bare-idle (suc n) = omega (arith, bare-idle n)
 
 pub placed-start : (limit n : ℕ) → Placed (start limit n)
-placed-start limit n = record {
-  leaves = λ g. subst (λ (x : Pend × Extra). Leaves (start limit n).world g x.0 x.1)
-      (sym (let q : (pend g (idle n), extra g (idle n)) ≡ (nothing_pending, nothing_more) = λ i. (
-        record {
-          waiting = weigh_all-idle (waiting_of g) n i;
-          polls = weigh_all-idle (polls_of g) n i;
-          ending = weigh_all-idle (ending_of g) n i;
-          ready = weigh_all-idle (ready_of g) n i;
-          closing = weigh_all-idle (rows.closing_of g) n i;
-          settling = weigh_all-idle (settling_of g) n i;
-          giving = weigh_all-idle (giving_of g) n i;
-          drops = weigh_all-idle (drops_of g) n i;
-          releases = weigh_all-idle (releases_of g) n i;
-          copies = weigh_all-idle (copies_of g) n i;
-          borrowing = weigh_all-idle borrowing_of n i;
-          ousting = weigh_all-idle ousting_of n i;
-        },
-        record {
-          leaves = weigh_all-idle (leaves_of g) n i;
-          closing = weigh_all-idle closing_of n i;
-          waking = weigh_all-idle waking_of n i;
-        },
-      ) in q)) (none_placed limit g);
-  bare = bare-idle n;
-}
+placed-start limit n = record { leaves = λ g. view-start Entered limit n g (none_placed limit g); bare = bare-idle n }
   where
-    nothing_pending : Pend
-    nothing_pending =
-        record {
-          waiting = 0;
-          polls = 0;
-          ending = 0;
-          ready = 0;
-          closing = 0;
-          settling = 0;
-          giving = 0;
-          drops = 0;
-          releases = 0;
-          copies = 0;
-          borrowing = 0;
-          ousting = 0;
-        }
-
-    nothing_more : Extra
-    nothing_more = record { leaves = 0; closing = 0; waking = 0 }
-
-    none_placed : (limit g : ℕ) → Leaves (start limit 0).world g nothing_pending nothing_more
+    none_placed : (limit g : ℕ) → Entered (seen (start limit 0).world g none no_extra)
     none_placed limit g = grind (arith, story-none)
 
 pub placed : (limit n : ℕ) (ts : List Step) → Placed (run ts (start limit n))

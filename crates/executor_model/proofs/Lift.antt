@@ -23,10 +23,9 @@ use Rattle.executor_model.specs.declared.step.UserEnd.TheVariants as end
 use Rattle.executor_model.specs.World.{World, Done, done, log}
 use Rattle.executor_model.specs.Doing.{act}
 use Rattle.executor_model.specs.Weights.{weigh, weigh_all, waker_past}
-use Rattle.executor_model.specs.Sound.{Sound, Pend}
+use Rattle.executor_model.specs.Sound.{Sound, pend}
 use Rattle.executor_model.specs.Good.{Good}
-use Rattle.executor_model.specs.Rows.{borrowing_of, waiting_of, polls_of, ending_of, ready_of, closing_of, settling_of}
-use Rattle.executor_model.specs.Rows.{giving_of, drops_of, releases_of, copies_of, ousting_of, past_of}
+use Rattle.executor_model.specs.Rows.{past_of}
 use Rattle.executor_model.specs.Steps.{Machine, stack, top, below_top, is_free, mine, has_all}
 use Rattle.executor_model.specs.Steps.{is_on_executor, is_drop, is_unborrowed, unless, begin_refusal}
 use Rattle.executor_model.specs.Steps.{answer_refusal, accepts, party_of, part_refusal, refusal}
@@ -36,14 +35,16 @@ use Rattle.executor_model.specs.Steps.{with_part, after, step_by, step, stepped,
 use Rattle.executor_model.proofs.Lists.{weigh_all-push}
 use Rattle.executor_model.proofs.Counting.{Keeps}
 use Rattle.executor_model.proofs.CountingHandles.{sound-pending, sound-ready}
-use Rattle.executor_model.proofs.CountingActs.{sound-act}
+use Rattle.executor_model.proofs.SoundAll.{sound-act}
 use Rattle.executor_model.proofs.Fitting.{Grown, Grows}
 use Rattle.executor_model.proofs.FittingActs.{grows-act}
-pub use Rattle.executor_model.proofs.Growing.{KeepsHere, push-pend, split, split-pend}
+use Rattle.executor_model.proofs.FittingSound.{fits-sound}
+pub use Rattle.executor_model.proofs.Growing.{KeepsHere, pend-none, push-pend, split, split-pend}
+use Rattle.executor_model.proofs.Views.{none}
 use Rattle.executor_model.proofs.Growing.{more-all}
 pub use Rattle.executor_model.proofs.Begins.{first-true, handle-known, kept-used, none_refused, open_executor, unborrowed}
 pub use Rattle.executor_model.proofs.Begins.{unused}
-use Rattle.executor_model.proofs.Begins.{Begins, begins}
+use Rattle.executor_model.proofs.Begins.{begins, sound-begun}
 
 -- the machine, with this for p to do on top of the rest
 abbrev pub unsettled : Machine → ℕ → List Op → Done → Machine
@@ -58,8 +59,11 @@ good-unsettled s p old rest d h e keeps grows good =
     split (past_of n) s.parties p old rest h e in
     let g : Grown s.world d = grows good.fits (omega (arith, z, good.ops)) in
     let m = length d.world.tasks in
+    let sound : (f : ℕ) → Sound d.world f (pend f (set s.parties p (rest ++ reverse d.next))) = λ f.
+    subst (Sound d.world f) (sym (push-pend f s.parties p rest d.next h))
+    (keeps f (subst (Sound s.world f) (split-pend f s.parties p old rest h e) (good.sound f))) in
     record {
-      fits = g.fits;
+      fits = fits-sound d.world (λ f. pend f (set s.parties p (rest ++ reverse d.next))) sound g.fits;
       ops =
           omega (
             arith,
@@ -67,8 +71,7 @@ good-unsettled s p old rest d h e keeps grows good =
             g.next,
             more-all n m g.more (set s.parties p rest) (omega (arith, z, good.ops)),
           );
-      sound = λ f. subst (Sound d.world f) (sym (push-pend f s.parties p rest d.next h))
-          (keeps f (subst (Sound s.world f) (split-pend f s.parties p old rest h e) (good.sound f)));
+      sound = sound;
     }
 
 -- the end of a call is one thing more
@@ -202,12 +205,12 @@ good-begin s p c l n good =
     let f : _ = none_refused (is_free (top (stack s p))) (has_all s.world s.parties (top (stack s p)) c)
     (not (s.world.gone && is_on_executor c)) (not (is_drop c) || is_unborrowed s.world s.parties) n in
     let own : set s.parties p (stack s p) ≡ s.parties = set-own s.parties p l in
-    let b : Begins s.world (begun p (log s.world (event.CallBegun p c)) (mine (top (stack s p))) c)
-    (set s.parties p (stack s p)) = begins s.world p s.parties (set s.parties p (stack s p)) (top (stack s p))
-    (mine (top (stack s p))) c (here-known s p (top (stack s p)) l refl good)
-    (λ v. omega (arith, ap (weigh_all v) own)) f.1 f.2 (unused c s.world s.parties f.3) in
     good-onto s p [] (stack s p) (begun p (log s.world (event.CallBegun p c)) (mine (top (stack s p))) c) l
-    (sym (append-nil (stack s p))) b.0 b.1 good
+    (sym (append-nil (stack s p)))
+    (sound-begun s.world p s.parties (set s.parties p (stack s p)) (mine (top (stack s p))) c
+    (λ v. omega (arith, ap (weigh_all v) own)) f.2 (unused c s.world s.parties f.3))
+    (begins s.world p s.parties (top (stack s p)) (mine (top (stack s p))) c
+    (here-known s p (top (stack s p)) l refl good) f.1) good
 
 -- every step
 
@@ -260,40 +263,11 @@ good-start limit n = record {
     inside = refl;
   };
   ops = weigh_all-idle (past_of 0) n;
-  sound = λ g. subst (Sound (start limit n).world g) (sym (λ i. record {
-    waiting = weigh_all-idle (waiting_of g) n i;
-    polls = weigh_all-idle (polls_of g) n i;
-    ending = weigh_all-idle (ending_of g) n i;
-    ready = weigh_all-idle (ready_of g) n i;
-    closing = weigh_all-idle (closing_of g) n i;
-    settling = weigh_all-idle (settling_of g) n i;
-    giving = weigh_all-idle (giving_of g) n i;
-    drops = weigh_all-idle (drops_of g) n i;
-    releases = weigh_all-idle (releases_of g) n i;
-    copies = weigh_all-idle (copies_of g) n i;
-    borrowing = weigh_all-idle borrowing_of n i;
-    ousting = weigh_all-idle ousting_of n i;
-  })) (none_sound limit g);
+  sound = λ g. subst (Sound (start limit n).world g) (sym (pend-none g (idle n) (λ v. weigh_all-idle v n)))
+      (none_sound limit g);
 }
   where
-    none_pending : Pend
-    none_pending =
-        record {
-          waiting = 0;
-          polls = 0;
-          ending = 0;
-          ready = 0;
-          closing = 0;
-          settling = 0;
-          giving = 0;
-          drops = 0;
-          releases = 0;
-          copies = 0;
-          borrowing = 0;
-          ousting = 0;
-        }
-
-    none_sound : (limit g : ℕ) → Sound (start limit 0).world g none_pending
+    none_sound : (limit g : ℕ) → Sound (start limit 0).world g none
     none_sound limit g = grind arith
 
 pub good : (limit n : ℕ) (ts : List Step) → Good (run ts (start limit n))

@@ -28,13 +28,15 @@ use Rattle.executor_model.specs.OutputOnce.{is_output_given}
 use Rattle.executor_model.specs.OutputKept.{polls_alone, OutputIsThere, GivesOutput, OutputIsKept}
 use Rattle.executor_model.specs.World.{World, log, task, blank}
 use Rattle.executor_model.specs.Acts.{look_by}
+use Rattle.executor_model.specs.Sound.{pend}
 use Rattle.executor_model.specs.Weights.{weigh_all}
 use Rattle.executor_model.specs.Rows.{handling_of, ready_of}
 use Rattle.executor_model.specs.Steps.{Machine, stack, top, step, step_by, stepped, refusal, unless, begin_refusal}
 use Rattle.executor_model.specs.Steps.{go_refusal, onto, part_after, with_part, run, start}
 use Rattle.executor_model.proofs.Telling.{counted-there, there-or-none}
 use Rattle.executor_model.proofs.Resting.{Deep, deep, rests, all-rest}
-use Rattle.executor_model.proofs.Keeping.{readies, spent, telling_of, taking_of, storing_of, owing}
+use Rattle.executor_model.proofs.Tallies.{readies, spent}
+use Rattle.executor_model.proofs.Extras.{telling_of, taking_of, storing_of}
 use Rattle.executor_model.proofs.KeepingRuns.{Stores, stores}
 
 -- what the trace says, counted
@@ -85,14 +87,14 @@ module _ (s : Machine) (f : ℕ) (h : Stores s) (idle : (q : ℕ) → stack s q 
       let r : 1 ≤ readies f s.world.trace = was-ready f s.world.trace k in
       let n : spent f s.world.trace ≡ 0 = unspent f s.world.trace k in
       let c : (task s.world f).completed ≡ true =
-      ⊎_elim (λ x. x) (λ (x : 1 ≤ (owing f s.parties).ready). absurd (omega (arith, x, none (ready_of f))))
+      ⊎_elim (λ x. x) (λ (x : 1 ≤ (pend f s.parties).ready). absurd (omega (arith, x, none (ready_of f))))
       ((h f).there r) in
       record {
         completed = c;
         unclosed = (h f).unclosed (omega (arith, r)) n;
         handle = (h f).held (known s.world.tasks f c) n;
         unawaited = no-true (task s.world f).awaiter
-            (λ x. absurd (omega (arith, (h f).told c x, none (telling_of f), none (taking_of f), none (storing_of f))));
+            (λ x. absurd (omega (arith, (h f).watched.told c x, none (telling_of f), none (taking_of f), none (storing_of f))));
       }
 
 -- a poll alone

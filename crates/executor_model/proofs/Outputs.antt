@@ -1,230 +1,128 @@
--- An output is given or dropped at most once: each thing that is done keeps it.
-use Rattle.std.proofs.Common.{◌≡◌, ℕ, zero, suc, ◌+◌, ◌≤◌, List, [], ◌∷◌, ◌++◌, set, get_or}
-use Rattle.std.proofs.Common.{Bool, true, false, cond, refl, sym, ap, ◌∙◌, subst, arith}
-use Rattle.std.proofs.lemmas.List.Sums.{sum_by_push}
-use Rattle.std.specs.Prelude.{Option, Some, None, count_by}
-use Rattle.task_moves.specs.declared.schedule_info.ScheduleInfo.{ScheduleInfo}
-use Rattle.task_moves.specs.declared.moves.state.State.{State}
+-- An output is given or dropped at most once: what holds of it at every moment, and each effect keeps.
+use Rattle.std.proofs.Common.{◌≡◌, ℕ, ◌+◌, ◌<◌, ◌≤◌, List, [], ◌∷◌, ◌++◌, true, false, arith}
+use Rattle.std.proofs.lemmas.Bool.Decides.{nat_tests}
+use Rattle.std.specs.Prelude.{slice_set}
 use Rattle.task_moves.specs.declared.moves.owed.Move.{Move}
 use Rattle.task_moves.specs.declared.moves.owed.Move.TheVariants as move
-use Rattle.task_moves.specs.declared.moves.owed.FutureDebt.{FutureDebt}
-use Rattle.task_moves.specs.declared.moves.owed.FutureDebt.TheVariants.{PollFuture, DropFuture}
-use Rattle.task_moves.specs.declared.moves.owed.AwaiterDebt.{AwaiterDebt}
-use Rattle.task_moves.specs.declared.moves.owed.AwaiterDebt.TheVariants.{NotifyAwaiter, NotifyOther, CallGiven}
-use Rattle.task_moves.specs.declared.moves.owed.AwaiterDebt.TheVariants.{StoreCopy, CallStored, TakeAwaiter, CallTaken}
-use Rattle.task_moves.specs.declared.moves.owed.Owed.{Owed}
-use Rattle.task_moves.specs.declared.moves.owed.Moved.{Moved}
-use Rattle.task_moves.specs.Moves as moves
-use Rattle.task_moves.specs.Moves.{moved}
-use Rattle.executor_model.specs.declared.event.Event.{Event}
-use Rattle.executor_model.specs.declared.event.Event.TheVariants.{OutputGiven, OutputDropped}
+use Rattle.task_moves.proofs.Cases.{by_move}
+use Rattle.executor_model.specs.declared.call.Call.TheVariants as call
+use Rattle.executor_model.specs.declared.call.Reply.TheVariants as reply
+use Rattle.executor_model.specs.declared.event.Answer.TheVariants as answer
+use Rattle.executor_model.specs.declared.event.Event.TheVariants as event
+use Rattle.executor_model.specs.declared.op.ClosingOp.TheVariants as closing_op
+use Rattle.executor_model.specs.declared.op.Hold.TheVariants as hold
 use Rattle.executor_model.specs.declared.op.Op.{Op}
 use Rattle.executor_model.specs.declared.op.Op.TheVariants as op
+use Rattle.executor_model.specs.declared.op.TableOp.TheVariants as table_op
 use Rattle.executor_model.specs.declared.op.UserOp.TheVariants as user_op
-use Rattle.executor_model.specs.Trace.{Trace, is_output_dropped}
-use Rattle.executor_model.specs.OutputOnce.{is_output_given}
-use Rattle.executor_model.specs.World.{World, Done, log, log_if, task, put, blank}
-use Rattle.executor_model.specs.Carried.{carried, owed_ops, schedule_ops, future_ops, output_ops, awaiter_ops, next_ops}
-use Rattle.executor_model.specs.Weights.{same, weigh}
-use Rattle.executor_model.proofs.Lists.{weigh-append}
+use Rattle.executor_model.specs.World.{World, Done, done, log}
+use Rattle.executor_model.specs.Acts.{begin_drop, closing_ops, enter_by, stands_alone}
+use Rattle.executor_model.specs.Sound.{Pend, with_ops}
+use Rattle.executor_model.proofs.Lists.{fresh_is, read_push, same_is}
+use Rattle.executor_model.proofs.Tallies.{outputs-push}
+use Rattle.executor_model.proofs.Extras.{Extra, with_extra}
+use Rattle.executor_model.proofs.Views.{Seen, seen, before, after}
+use Rattle.executor_model.proofs.Passes.{Passes, Gives}
+use Rattle.executor_model.proofs.MoveViews.{Alike}
+use Rattle.executor_model.proofs.SoundViews.{Sure, sound-passes}
+use Rattle.executor_model.proofs.Effects.{Effect, turned-keeps}
+use Rattle.executor_model.proofs.Effects.Effect.{passes, turns, refuses, enters, unlists, drops, takes_out, drops_next}
+use Rattle.executor_model.proofs.EffectsWays.{Effects}
+use Rattle.executor_model.proofs.EffectsWays.Effects.{does, pends, readies, closes}
 
--- what an event adds to the outputs of g that were given or dropped
-abbrev pub output_of : ℕ → Event → ℕ
-output_of g (OutputGiven p f) = same g f
-output_of g (OutputDropped p f) = same g f
-output_of g _ = 0
+pub record Given (x : Seen) : Type 0 where
+  pub once : x.outputs + x.extra.outs ≤ 1
+  pub completed : 1 ≤ x.outputs + x.extra.outs → x.state.completed ≡ true
+  pub closed : 1 ≤ x.outputs + x.extra.outs → x.state.closed ≡ true
 
-unfoldable pub outputs : ℕ → Trace → ℕ
-outputs g es = count_by (is_output_given g) es + count_by (is_output_dropped g) es
+given-passes : (x y : Seen) → Passes x y → Gives x y → Given x → Given y
+given-passes x y s q h = grind arith
 
-one-output : (g : ℕ) (e : Event) → cond (is_output_given g e) 1 0 + cond (is_output_dropped g e) 1 0 ≡ output_of g e
-unfolding same
-one-output g (OutputGiven p f) = omega arith
-one-output g (OutputDropped p f) = omega arith
-one-output g _ = refl
+given-loose : (x : Seen) (p q : Pend) (a b : Extra) → Alike p q a b → Given (record x { pend = p; extra = a }) →
+    Given (record x { pend = q; extra = b })
+given-loose x p q a b l h = grind arith
 
-pub outputs-push : (g : ℕ) (es : Trace) (e : Event) → outputs g (es ++ e ∷ []) ≡ outputs g es + output_of g e
-unfolding outputs
-outputs-push g es e = omega (
-  arith,
-  sum_by_push (λ (x : Event). cond (is_output_given g x) 1 0) es e,
-  sum_by_push (λ (x : Event). cond (is_output_dropped g x) 1 0) es e,
-  one-output g e,
-)
+-- who was ready isn't completed yet
+given-turned : (m : Move) (x : Seen) → stands_alone m ≡ true → (1 ≤ (before m x).pend.ready → x.state.completed ≡ false) →
+    Given (before m x) → Given (after m x)
+given-turned = by_move _
+    (λ x n b h. grind (arith, nat_tests))
+    (λ x n b h. grind (arith, nat_tests))
+    (λ x n b h. absurd (cc))
+    (λ x n b h. grind (arith, nat_tests))
+    (λ x n b h. grind (arith, nat_tests))
+    (λ x n b h. grind (arith, nat_tests))
+    (λ x n b h. grind (arith, nat_tests))
+    (λ x n b h. grind (arith, nat_tests))
+    (λ x n b h. grind (arith, nat_tests))
+    (λ x n b h. grind (arith, nat_tests))
+    (λ x n b h. grind (arith, nat_tests))
+    (λ x n b h. grind (arith, nat_tests))
+    (λ x n b h. grind (arith, nat_tests))
+    (λ x n b h. absurd (cc))
+    (λ x n b h. absurd (cc))
+    (λ x n b h. absurd (cc))
+    (λ x n b h. absurd (cc))
+    (λ x n b h. absurd (cc))
+    (λ x n b h. absurd (cc))
 
-pub outputs-none : (g : ℕ) → outputs g [] ≡ 0
-unfolding outputs
-outputs-none g = refl
+given-moved : (m : Move) (x : Seen) → x.number < x.tasks → stands_alone m ≡ true → Sure (before m x) →
+    Given (before m x) → Given (after m x)
+given-moved m x i n b h = given-turned m x n (λ k. b.live (omega (arith, k))) h
 
--- outputs of g that are to be dropped
-abbrev pub outs_of : ℕ → Op → ℕ
-outs_of g (op.User (user_op.BeginDropOutput f)) = same g f
-outs_of g _ = 0
+abbrev pub KeepsOutput : World → List Op → Done → Type 0
+KeepsOutput w old d = (g : ℕ) (r : Pend) (y : Extra) → Sure (seen w g (with_ops g old r) (with_extra g old y)) →
+    Given (seen w g (with_ops g old r) (with_extra g old y)) →
+    Given (seen d.world g (with_ops g d.next r) (with_extra g d.next y))
 
-pub record Given (w : World) (g : ℕ) (owed : ℕ) : Type 0 where
-  pub once : outputs g w.trace + owed ≤ 1
-  pub completed : 1 ≤ outputs g w.trace + owed → (task w g).completed ≡ true
-  pub closed : 1 ≤ outputs g w.trace + owed → (task w g).closed ≡ true
+out-enters : (p : ℕ) (w : World) → KeepsOutput w (op.Table table_op.Enter ∷ []) (enter_by false false p w)
+out-enters p w g r y b h = grind (arith, same_is, fresh_is, read_push, outputs-push)
 
--- beside what else is owed
-pub record KeepsOutput (w : World) (old : List Op) (d : Done) : Type 0 where
-  pub keeps : (g r : ℕ) → Given w g (weigh (outs_of g) old + r) → Given d.world g (weigh (outs_of g) d.next + r)
+out-drops : (p f : ℕ) (w : World) → KeepsOutput w (op.User (user_op.BeginDrop f) ∷ []) (begin_drop p w f)
+out-drops p f w g r y b h = grind (arith, outputs-push)
 
--- no output goes, and what is completed or closed stays so
-pub record Calm (w v : World) : Type 0 where
-  pub trace : (g : ℕ) → outputs g v.trace ≡ outputs g w.trace
-  pub completed : (g : ℕ) → (task w g).completed ≡ true → (task v g).completed ≡ true
-  pub closed : (g : ℕ) → (task w g).closed ≡ true → (task v g).closed ≡ true
+out-takes_out : (ls ws : List ℕ) (w : World) → KeepsOutput w (op.Closing closing_op.TakeOut ∷ [])
+    (done (record w { table = w.leaving; leaving = w.table }) (closing_ops ls ws))
+out-takes_out [] [] w g r y b h = grind arith
+out-takes_out [] (x ∷ ws) w g r y b h = grind arith
+out-takes_out (x ∷ ls) ws w g r y b h = grind arith
 
-pub keeps-calm : (w : World) (old : List Op) (d : Done) → Calm w d.world → ((g : ℕ) → weigh (outs_of g) d.next ≡ 0) →
-    KeepsOutput w old d
-keeps-calm w old d c z = record {
-  keeps = λ g r h. record {
-    once = omega (arith, h.once, c.trace g, z g);
-    completed = λ k. c.completed g (h.completed (omega (arith, k, c.trace g, z g)));
-    closed = λ k. c.closed g (h.closed (omega (arith, k, c.trace g, z g)));
-  };
-}
+out-drops_next : (ls ws : List ℕ) (p : ℕ) (w : World) (f : ℕ) (rest : List ℕ) →
+    KeepsOutput w (op.Closing closing_op.DropNext ∷ [])
+    (done (log (record w { leaving = rest; waking = w.waking ++ f ∷ []; inside = slice_set w.inside f false })
+    (event.Dropped p f)) (op.User (user_op.Drop f) ∷ closing_ops ls ws))
+out-drops_next [] [] p w f rest g r y b h = grind (arith, outputs-push)
+out-drops_next [] (x ∷ ws) p w f rest g r y b h = grind (arith, outputs-push)
+out-drops_next (x ∷ ls) ws p w f rest g r y b h = grind (arith, outputs-push)
 
-pub calm-same : (w v : World) → v.tasks ≡ w.tasks → v.trace ≡ w.trace → Calm w v
-calm-same w v t e = record {
-  trace = λ g. ap (outputs g) e;
-  completed = λ g k. subst (λ (ts : List State). (get_or ts g blank).completed ≡ true) (sym t) k;
-  closed = λ g k. subst (λ (ts : List State). (get_or ts g blank).closed ≡ true) (sym t) k;
-}
+out-effect : (w : World) (old : List Op) (d : Done) → Effect w old d → KeepsOutput w old d
+out-effect w old d (passes s) g r y b h = given-passes _ _ (s g r y).passes (s g r y).gives h
+out-effect w old _ (turns d m p f v more i j n s a e) g r y b h =
+    turned-keeps Sure Given (λ m x. stands_alone m ≡ true) given-moved given-loose (λ x y z. sound-passes x y z.passes)
+    (λ x y z b. given-passes x y z.passes z.gives) w old d m p f v more i (λ q u. j) s a e g r y b h
+out-effect w old d (refuses f e) g r y b h = grind arith
+out-effect w old d (enters p e) g r y b h = out-enters p w g r y b h
+out-effect w old d (unlists f e) g r y b h = grind arith
+out-effect w old d (drops p f) g r y b h = out-drops p f w g r y b h
+out-effect w old d takes_out g r y b h = out-takes_out w.table w.waking w g r y b h
+out-effect w old d (drops_next p f rest e) g r y b h = out-drops_next rest (w.waking ++ f ∷ []) p w f rest g r y b h
 
-pub calm-and : (w v u : World) → Calm w v → Calm v u → Calm w u
-calm-and w v u a b = record {
-  trace = λ g. b.trace g ∙ a.trace g;
-  completed = λ g k. b.completed g (a.completed g k);
-  closed = λ g k. b.closed g (a.closed g k);
-}
+out-pends : (p f : ℕ) (w : World) → KeepsOutput w (op.User (user_op.Poll f) ∷ [])
+    (done (log w (event.Answered p f answer.Pending)) (op.Table (table_op.PutBack f) ∷ []))
+out-pends p f w g r y b h = grind (arith, outputs-push)
 
-pub calm-log : (w : World) (e : Event) → ((g : ℕ) → output_of g e ≡ 0) → Calm w (log w e)
-calm-log w e z = record {
-  trace = λ g. omega (arith, outputs-push g w.trace e, z g);
-  completed = λ g k. k;
-  closed = λ g k. k;
-}
+out-readies : (p f : ℕ) (w : World) → KeepsOutput w (op.User (user_op.Poll f) ∷ [])
+    (done (log w (event.Answered p f answer.Ready)) (op.User (user_op.BeginDrop f) ∷ op.Move move.EndReady f ∷ []))
+out-readies p f w g r y b h = grind (arith, outputs-push)
 
-pub calm-log_if : (b : Bool) (w : World) (e : Event) → ((g : ℕ) → output_of g e ≡ 0) → Calm w (log_if b w e)
-calm-log_if true w e z = calm-log w e z
-calm-log_if false w e z = calm-same w w refl refl
+out-closes : (p : ℕ) (w : World) → KeepsOutput w []
+    (done (log (record (log w (event.CallBegun p call.DropExecutor)) { gone = true }) (event.DropBegun p))
+    (op.Closing closing_op.TakeOut ∷ op.End reply.Done hold.Nothing ∷ []))
+out-closes p w g r y b h = grind (arith, outputs-push)
 
--- a mark that stays where a task changes
-put-stays : (mark : State → Bool) (ts : List State) (f : ℕ) (s : State) →
-    (mark (get_or ts f blank) ≡ true → mark s ≡ true) → (g : ℕ) → mark (get_or ts g blank) ≡ true →
-    mark (get_or (set ts f s) g blank) ≡ true
-put-stays mark [] f s k g e = e
-put-stays mark (t ∷ ts) zero s k zero e = k e
-put-stays mark (t ∷ ts) zero s k (suc g) e = e
-put-stays mark (t ∷ ts) (suc f) s k zero e = e
-put-stays mark (t ∷ ts) (suc f) s k (suc g) e = put-stays mark ts f s k g e
-
-pub push-stays : (mark : State → Bool) → mark blank ≡ false → (ts : List State) (s : State) (g : ℕ) →
-    mark (get_or ts g blank) ≡ true → mark (get_or (ts ++ s ∷ []) g blank) ≡ true
-push-stays mark n [] s g e = let no : false ≡ true = sym n ∙ e in absurd (cc)
-push-stays mark n (t ∷ ts) s zero e = e
-push-stays mark n (t ∷ ts) s (suc g) e = push-stays mark n ts s g e
-
--- a state that is completed or closed where the other is
-pub record Stays (s t : State) : Type 0 where
-  pub completed : s.completed ≡ true → t.completed ≡ true
-  pub closed : s.closed ≡ true → t.closed ≡ true
-
-pub calm-put : (w : World) (f : ℕ) (s : State) → Stays (task w f) s → Calm w (put w f s)
-calm-put w f s k = record {
-  trace = λ g. refl;
-  completed = put-stays (λ (t : State). t.completed) w.tasks f s k.completed;
-  closed = put-stays (λ (t : State). t.closed) w.tasks f s k.closed;
-}
-
--- no output is owed
-none-scheduled : (g f : ℕ) (o : Option ScheduleInfo) → weigh (outs_of g) (schedule_ops f o) ≡ 0
-none-scheduled g f (Some info) = refl
-none-scheduled g f None = refl
-
-none-future : (g f : ℕ) (there : Bool) (o : Option FutureDebt) → weigh (outs_of g) (future_ops there f o) ≡ 0
-none-future g f there (Some PollFuture) = refl
-none-future g f true (Some DropFuture) = refl
-none-future g f false (Some DropFuture) = refl
-none-future g f there None = refl
-
-pub none-awaiter : (g f : ℕ) (o : Option AwaiterDebt) → weigh (outs_of g) (awaiter_ops f o) ≡ 0
-none-awaiter g f (Some NotifyAwaiter) = refl
-none-awaiter g f (Some NotifyOther) = refl
-none-awaiter g f (Some CallGiven) = refl
-none-awaiter g f (Some StoreCopy) = refl
-none-awaiter g f (Some CallStored) = refl
-none-awaiter g f (Some TakeAwaiter) = refl
-none-awaiter g f (Some CallTaken) = refl
-none-awaiter g f None = refl
-
-none-next : (g f : ℕ) (o : Option Move) → weigh (outs_of g) (next_ops f o) ≡ 0
-none-next g f (Some move.Release) = refl
-none-next g f (Some move.SettleClosed) = refl
-none-next g f (Some move.GiveUp) = refl
-none-next g f (Some move.EndClosed) = refl
-none-next g f (Some move.Detach) = refl
-none-next g f _ = refl
-
-pub none-both : (g : ℕ) (xs ys : List Op) → weigh (outs_of g) xs ≡ 0 → weigh (outs_of g) ys ≡ 0 →
-    weigh (outs_of g) (xs ++ ys) ≡ 0
-none-both g xs ys a b = omega (arith, weigh-append (outs_of g) xs ys, a, b)
-
-none-owed : (g f : ℕ) (there : Bool) (o : Owed) → o.drop_output ≡ false → weigh (outs_of g) (owed_ops there f o) ≡ 0
-none-owed g f there o e =
-    let z : weigh (outs_of g) (output_ops o.drop_output f) ≡ 0 =
-    ap (λ (b : Bool). weigh (outs_of g) (output_ops b f)) e in
-    none-both g _ _ (none-both g _ _
-    (none-both g _ _ (none-both g _ _ (none-scheduled g f o.schedule) (none-future g f there o.future)) z)
-    (none-awaiter g f o.awaiter)) (none-next g f o.next)
-
--- a move of a task at which no output goes
-pub record Tame (s : State) (m : Moved) : Type 0 where
-  pub completed : s.completed ≡ true → m.state.completed ≡ true
-  pub closed : s.closed ≡ true → m.state.closed ≡ true
-  pub quiet : m.owed.drop_output ≡ false
-
-pub keeps-carried : (w v : World) (f : ℕ) (m : Moved) (old : List Op) → Calm w v → Tame (task v f) m →
-    KeepsOutput w old (carried v f m)
-keeps-carried w v f m old c t =
-    keeps-calm w old (carried v f m)
-    (calm-and w v (put v f m.state) c (calm-put v f m.state record { completed = t.completed; closed = t.closed }))
-    (λ g. none-owed g f _ m.owed t.quiet)
-
-pub tame-wake : (b c : Bool) (s : State) → Tame s (moves.wake_by_reference_by b c s)
-tame-wake true c s = record { completed = λ e. e; closed = λ e. e; quiet = refl }
-tame-wake false true s = record { completed = λ e. e; closed = λ e. e; quiet = refl }
-tame-wake false false s = record { completed = λ e. e; closed = λ e. e; quiet = refl }
-
-pub tame-more : (s : State) (m : Moved) → Tame s m → Tame s (moved m.state (record m.owed { next = Some move.Release }))
-tame-more s m t = record { completed = t.completed; closed = t.closed; quiet = t.quiet }
-
-pub tame-release : (b c : Bool) (s : State) → Tame s (moves.release_by b c s)
-tame-release false c s = record { completed = λ e. e; closed = λ e. e; quiet = refl }
-tame-release true true s = record { completed = λ e. e; closed = λ e. e; quiet = refl }
-tame-release true false s = record { completed = λ e. e; closed = λ e. refl; quiet = refl }
-
-pub tame-take_up : (b : Bool) (s : State) → Tame s (moves.take_up_by b s)
-tame-take_up true s = record { completed = λ e. e; closed = λ e. e; quiet = refl }
-tame-take_up false s = record { completed = λ e. e; closed = λ e. e; quiet = refl }
-
-pub tame-give_up : (b : Bool) (s : State) → Tame s (moves.give_up_by b s)
-tame-give_up true s = record { completed = λ e. e; closed = λ e. e; quiet = refl }
-tame-give_up false s = record { completed = λ e. e; closed = λ e. e; quiet = refl }
-
-pub tame-end_pending : (a b c : Bool) (s : State) → Tame s (moves.end_pending_by a b c s)
-tame-end_pending true b c s = record { completed = λ e. e; closed = λ e. e; quiet = refl }
-tame-end_pending false true c s = record { completed = λ e. e; closed = λ e. e; quiet = refl }
-tame-end_pending false false true s = record { completed = λ e. e; closed = λ e. refl; quiet = refl }
-tame-end_pending false false false s = record { completed = λ e. e; closed = λ e. e; quiet = refl }
-
-pub tame-cancel : (a b : Bool) (s : State) → Tame s (moves.cancel_by a b s)
-tame-cancel true b s = record { completed = λ e. e; closed = λ e. e; quiet = refl }
-tame-cancel false true s = record { completed = λ e. e; closed = λ e. refl; quiet = refl }
-tame-cancel false false s = record { completed = λ e. e; closed = λ e. refl; quiet = refl }
-
-pub tame-detach : (b : Bool) (s : State) → Tame s (moves.detach_by false b s)
-tame-detach true s = record { completed = λ e. e; closed = λ e. refl; quiet = refl }
-tame-detach false s = record { completed = λ e. e; closed = λ e. e; quiet = refl }
+-- whatever a party does
+pub out-act : (w : World) (ss : List (List Op)) (old : List Op) (d : Done) → Effects w ss old d → KeepsOutput w old d
+out-act w ss old d (does e) g r y b h = out-effect w old d e g r y b h
+out-act w ss old d (pends p f) g r y b h = out-pends p f w g r y b h
+out-act w ss old d (readies p f) g r y b h = out-readies p f w g r y b h
+out-act w ss old d (closes p e u) g r y b h = out-closes p w g r y b h

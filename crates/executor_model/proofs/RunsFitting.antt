@@ -1,6 +1,6 @@
 -- What a run does leaves numbers that are futures'.
 use Rattle.std.proofs.Common.{◌≡◌, ℕ, zero, suc, ◌+◌, ◌%◌, List, [], ◌∷◌, ◌++◌, length, get_or, set, Bool, true}
-use Rattle.std.proofs.Common.{false, eqb, not, refl, ap, ◌∙◌, arith}
+use Rattle.std.proofs.Common.{false, eqb, not, refl, ap, arith}
 use Rattle.executor_model.specs.declared.call.Reply.{Reply}
 use Rattle.executor_model.specs.declared.call.Reply.TheVariants as reply
 use Rattle.executor_model.specs.declared.op.Hold.TheVariants as hold
@@ -34,7 +34,7 @@ use Rattle.executor_model.specs.declared.op.Polled.TheVariants as of
 use Rattle.executor_model.specs.World.{World, Place, Up, Lies, Left, Stage, New, Listed, Ended, Done, done, log}
 use Rattle.executor_model.specs.World.{log_if, own_of, put_own, run_of, task}
 use Rattle.executor_model.specs.ActsOfSleepers.{found_by}
-use Rattle.executor_model.specs.ActsOfRuns.{call_by_reference, run_by, counted_by, counted_to, found, make_run_by}
+use Rattle.executor_model.specs.ActsOfRuns.{call_by_reference, run_by, counted_by, found, make_run_by}
 use Rattle.executor_model.specs.ActsOfRuns.{registered}
 use Rattle.executor_model.specs.ActsOfRuns.{kept_by, look_own_by, next_place, queue_at, search_common_by, walk}
 use Rattle.executor_model.specs.ActsOfRuns.{search_own_by, source_of, stolen, steal_by, steal_length_by}
@@ -44,12 +44,11 @@ use Rattle.executor_model.specs.Doing.{list_act, run_act, search_by_who, steal_a
 use Rattle.executor_model.specs.Good.{Fits, pasts, pasts_in}
 use Rattle.executor_model.specs.Rows.{past_of, then_past}
 use Rattle.executor_model.specs.Weights.{past, waker_past, weigh}
-use Rattle.executor_model.proofs.Fitting.{Grown, Grows, fits-log, grows-carried, same-log}
-use Rattle.executor_model.proofs.Lists.{pasts-append, pasts-drop, weigh-append}
+use Rattle.executor_model.proofs.Fitting.{Grown, Grows, Shaped, shaped, fits-log, grows-carried, same-log}
+use Rattle.executor_model.proofs.Lists.{pasts-drop, weigh-append}
 use Rattle.executor_model.proofs.RunsMoves.{Same, same-found, same-here, same-rooms, same-stolen, same-taken}
 use Rattle.executor_model.proofs.RunsMoves.{same-trans}
 use Rattle.executor_model.proofs.SleepersLists.{given_back-same}
-use Rattle.queue_steps.specs.ClosableQueue.{ClosableQueue}
 use Rattle.executor_model.proofs.SleepersFitting.{grows-search}
 
 -- own queues
@@ -59,16 +58,6 @@ pasts_in-first : (n r f : ℕ) (rest : List ℕ) (qs : List (List ℕ)) → get_
 pasts_in-first n r f rest [] e = absurd (cc)
 pasts_in-first n zero f rest (x ∷ qs) e = omega (arith, ap (pasts n) e)
 pasts_in-first n (suc r) f rest (x ∷ qs) e = omega (arith, pasts_in-first n r f rest qs e)
-
-pasts_in-append : (n : ℕ) (xs ys : List (List ℕ)) → pasts_in n (xs ++ ys) ≡ pasts_in n xs + pasts_in n ys
-pasts_in-append n [] ys = omega arith
-pasts_in-append n (x ∷ xs) ys = omega (arith, pasts_in-append n xs ys)
-
-pasts_in-put : (n r f : ℕ) (qs : List (List ℕ)) → past n f ≡ 0 → pasts_in n qs ≡ 0 →
-    pasts_in n (set qs r (get_or qs r [] ++ f ∷ [])) ≡ 0
-pasts_in-put n r f [] z h = refl
-pasts_in-put n zero f (x ∷ qs) z h = omega (arith, pasts-append n x (f ∷ []), z, h)
-pasts_in-put n (suc r) f (x ∷ qs) z h = omega (arith, pasts_in-put n r f qs z (omega (arith, h)), h)
 
 -- what follows speaks of what was found, and of the poll's waker
 
@@ -119,66 +108,36 @@ module _ (n : ℕ) (x : RunPoll) (wz : waker_past n x.waker ≡ 0) where
       by true z = z
       by false z = omega (arith, wz)
 
--- the lists that Runnables move between
-
-untouched-run_by : (b : Bool) (w : World) (x : RunPoll) (f : ℕ) → ((run_by b w x f).world.own ≡ w.own) ×
-    ((run_by b w x f).world.queue ≡ w.queue)
-untouched-run_by true w x f = (refl, refl)
-untouched-run_by false w x f = (refl, refl)
-
-untouched-counted : (b : Bool) (w : World) (x : RunPoll) (f : ℕ) → ((counted_by b w x f).world.own ≡ w.own) ×
-    ((counted_by b w x f).world.queue ≡ w.queue)
-untouched-counted true w x f = (refl, refl)
-untouched-counted false w x f = untouched-run_by _ (counted_to w x.run ((run_of w x.run).counted + 1)) x f
-
-untouched-stolen : (t : Then) (w : World) (x : RunPoll) → ((stolen t w x).world.own ≡ w.own) ×
-    ((stolen t w x).world.queue ≡ w.queue)
-untouched-stolen (then.Found f) w x = untouched-counted _ w x f
-untouched-stolen (then.Run f) w x = untouched-run_by _ w x f
-untouched-stolen (then.Walk at left) w x = (refl, refl)
-
--- such lists fit, and all else is as it was
+-- Runnables move, and all else is as it was
 
 grows-moves : (w : World) (old : List Op) (d : Done) → Same w d.world →
-    (Fits w → weigh (past_of (length w.tasks)) old ≡ 0 → pasts (length w.tasks) d.world.queue.items ≡ 0) →
-    (Fits w → weigh (past_of (length w.tasks)) old ≡ 0 → pasts_in (length w.tasks) d.world.own ≡ 0) →
     (Fits w → weigh (past_of (length w.tasks)) old ≡ 0 → weigh (past_of (length w.tasks)) d.next ≡ 0) → Grows w old d
-grows-moves w old d s q o n h k =
-    let a = q h k in
-    let b = o h k in
-    let c = n h k in
-    grind arith
+grows-moves w old d s n h k = let c = n h k in grind arith
 
--- what goes on in hand changes neither
+-- what goes on in hand
 grows-stolen : (w : World) (old : List Op) (t : Then) (x : RunPoll) →
     (weigh (past_of (length w.tasks)) old ≡ 0 → waker_past (length w.tasks) x.waker ≡ 0) →
     (weigh (past_of (length w.tasks)) old ≡ 0 → then_past (length w.tasks) t ≡ 0) → Grows w old (stolen t w x)
 grows-stolen w old t x a b = grows-moves w old (stolen t w x) (same-stolen t w x)
-    (λ h k. ap (λ (q : ClosableQueue ℕ). pasts (length w.tasks) q.items) (untouched-stolen t w x).1 ∙ h.queue)
-    (λ h k. ap (pasts_in (length w.tasks)) (untouched-stolen t w x).0 ∙ h.own)
     (λ h k. past-stolen (length w.tasks) x (a k) t w (b k))
 
-grows-found : (w v : World) (old : List Op) (x : RunPoll) (f : ℕ) → Same w v → v.queue ≡ w.queue →
-    (Fits w → pasts_in (length w.tasks) v.own ≡ 0) →
+grows-found : (w v : World) (old : List Op) (x : RunPoll) (f : ℕ) → Same w v →
     (weigh (past_of (length w.tasks)) old ≡ 0 → waker_past (length w.tasks) x.waker ≡ 0) →
     (Fits w → past (length w.tasks) f ≡ 0) → Grows w old (found v x f)
-grows-found w v old x f s e o a b = grows-moves w old (found v x f) (same-trans s (same-found v x f))
-    (λ h k. ap (λ (q : ClosableQueue ℕ). pasts (length w.tasks) q.items) ((untouched-stolen (then.Found f) v x).1 ∙ e) ∙
-    h.queue)
-    (λ h k. ap (pasts_in (length w.tasks)) (untouched-stolen (then.Found f) v x).0 ∙ o h)
+grows-found w v old x f s a b = grows-moves w old (found v x f) (same-trans s (same-found v x f))
     (λ h k. past-found (length w.tasks) x (a k) v f (b h))
 
 grows-length : (n : ℕ) (w : World) (s : Steal) → Grows w (op.Steal (steal_op.Length s) ∷ []) (steal_length_by n w s)
 grows-length zero w s = grows-stolen w (op.Steal (steal_op.Length s) ∷ []) s.then s.poll (λ k. omega (arith, k))
     (λ k. omega (arith, k))
-grows-length (suc n) w s = grows-moves w (op.Steal (steal_op.Length s) ∷ []) _ (same-here w _ _ _ _) (λ h k. h.queue)
-    (λ h k. h.own) (λ h k. k)
+grows-length (suc n) w s = grows-moves w (op.Steal (steal_op.Length s) ∷ []) _ (same-here w _ _ _ _) (λ h k. k)
 
-grows-more : (n m : ℕ) (w : World) (s : Steal) → Grows w (op.Steal (steal_op.OwnLength s m) ∷ []) (steal_by n w s)
-grows-more zero m w s = grows-stolen w (op.Steal (steal_op.OwnLength s m) ∷ []) s.then s.poll (λ k. omega (arith, k))
-    (λ k. omega (arith, k))
-grows-more (suc n) m w s = grows-moves w (op.Steal (steal_op.OwnLength s m) ∷ []) _ (same-here w _ _ _ _)
-    (λ h k. h.queue) (λ h k. h.own) (λ h k. k)
+grows-more : (n : ℕ) (w : World) (s : Steal) → Shaped w → waker_past (length w.tasks) s.poll.waker ≡ 0 →
+    then_past (length w.tasks) s.then ≡ 0 → Grown w (steal_by n w s)
+grows-more zero w s h a t =
+    let u : Same w (stolen s.then w s.poll).world = same-stolen s.then w s.poll in
+    let c = past-stolen (length w.tasks) s.poll a s.then w t in grind arith
+grows-more (suc n) w s h a t = grind arith
 
 grows-take_first : (from : Source) (q : List ℕ) (w : World) (x : RunPoll) (t : Then) (more : ℕ) → source_of w from ≡ q →
     Grows w (op.Steal (steal_op.Take (record { poll = x; from = from; then = t }) more) ∷ [])
@@ -188,54 +147,36 @@ grows-take_first from [] w x t more e =
     (λ k. omega (arith, k)) (λ k. omega (arith, k))
 grows-take_first Common (f ∷ rest) w x t more e =
     grows-moves w (op.Steal (steal_op.Take (record { poll = x; from = Common; then = t }) more) ∷ []) _ (same-taken w)
-    (λ h k. (let z = pasts-drop (length w.tasks) f rest w.queue.items e in omega (arith, z, h.queue)))
-    (λ h k. h.own)
     (λ h k. (let z = pasts-drop (length w.tasks) f rest w.queue.items e in omega (arith, z, h.queue, k)))
 grows-take_first (Own r) (f ∷ rest) w x t more e =
     grows-moves w (op.Steal (steal_op.Take (record { poll = x; from = (Own r); then = t }) more) ∷ []) _
     (same-here w _ _ _ _)
-    (λ h k. h.queue)
-    (λ h k. omega (arith, pasts_in-first (length w.tasks) r f rest w.own e, h.own))
     (λ h k. omega (arith, pasts_in-first (length w.tasks) r f rest w.own e, h.own, k))
 
 grows-put : (b : Bool) (p : ℕ) (w : World) (s : Steal) (more f : ℕ) →
     Grows w (op.Steal (steal_op.Put s more f) ∷ []) (steal_put_by b p w s more f)
-grows-put false p w s more f h k = grows-moves w (op.Steal (steal_op.Put s more f) ∷ []) _ (same-stolen s.then w s.poll)
-    (λ h k. ap (λ (q : ClosableQueue ℕ). pasts (length w.tasks) q.items) (untouched-stolen s.then w s.poll).1 ∙ h.queue)
-    (λ h k. ap (pasts_in (length w.tasks)) (untouched-stolen s.then w s.poll).0 ∙ h.own)
+grows-put false p w s more f h k =
+    grows-moves w (op.Steal (steal_op.Put s more f) ∷ []) _ (same-stolen s.then w s.poll)
     (λ h k. omega (arith, k, past-stolen (length w.tasks) s.poll (omega (arith, k)) s.then w (omega (arith, k)))) h k
 grows-put true p w s more f h k =
     let v = kept_by p w s.poll.run f in
-    let z : Fits v = record {
-      queue = h.queue;
-      own = pasts_in-put (length w.tasks) s.poll.run f w.own (omega (arith, k)) h.own;
-      table = h.table;
-      leaving = h.leaving;
-      waking = h.waking;
-      wakers = h.wakers;
-      awaiters = h.awaiters;
-      sleepers = h.sleepers;
-      awaiting = h.awaiting;
-      inside = h.inside;
-    } in
-    let g : Grown v (steal_by more v s) = grows-more more 0 v s z (omega (arith, k)) in
+    let t : Shaped v = record { awaiting = h.awaiting; inside = h.inside } in
+    let g : Grown v (steal_by more v s) = grows-more more v s t (omega (arith, k)) (omega (arith, k)) in
     record { fits = g.fits; next = g.next; more = g.more }
 
 pub grows-steal : (p : ℕ) (o : StealOp) (w : World) → Grows w (op.Steal o ∷ []) (steal_act p o w)
 grows-steal p (steal_op.Length s) w = grows-length _ w s
-grows-steal p (steal_op.OwnLength s n) w = grows-more _ n w s
+grows-steal p (steal_op.OwnLength s n) w = λ h k.
+    grows-more _ w s (shaped w h) (omega (arith, k)) (omega (arith, k))
 grows-steal p (steal_op.Take s more) w = grows-take_first s.from _ w s.poll s.then more refl
 grows-steal p (steal_op.Put s more f) w = grows-put _ p w s more f
 
 grows-own : (q : List ℕ) (w : World) (s : Sleeping) (r : ℕ) → own_of w r ≡ q →
     Grows w (op.Tick (tick_op.Search s) ∷ []) (search_own_by q w (record { run = r; waker = s.waker; poll = s.poll }))
-grows-own [] w s r e = grows-moves w (op.Tick (tick_op.Search s) ∷ []) _ (same-here w _ _ _ _) (λ h k. h.queue)
-    (λ h k. h.own) (λ h k. omega (arith, k))
+grows-own [] w s r e = grows-moves w (op.Tick (tick_op.Search s) ∷ []) _ (same-here w _ _ _ _) (λ h k. omega (arith, k))
 grows-own (f ∷ rest) w s r e = grows-found w (put_own w r rest) (op.Tick (tick_op.Search s) ∷ [])
     (record { run = r; waker = s.waker; poll = s.poll }) f
-    (same-here w _ _ _ _) refl
-    (λ h. omega (arith, pasts_in-first (length w.tasks) r f rest w.own e, h.own))
-    (λ k. omega (arith, k))
+    (same-here w _ _ _ _) (λ k. omega (arith, k))
     (λ h. omega (arith, pasts_in-first (length w.tasks) r f rest w.own e, h.own))
 
 pub grows-search_who : (who : Sleeper) (w : World) (s : Sleeping) →
@@ -245,22 +186,17 @@ grows-search_who (sleeper.Run r) w s = grows-own _ w s r refl
 
 grows-common : (q : List ℕ) (w : World) (x : RunPoll) → w.queue.items ≡ q →
     Grows w (op.Run (run_op.SearchCommon x) ∷ []) (search_common_by q w x)
-grows-common [] w x e = grows-moves w (op.Run (run_op.SearchCommon x) ∷ []) _ (same-here w _ _ _ _) (λ h k. h.queue)
-    (λ h k. h.own) (λ h k. omega (arith, k))
+grows-common [] w x e = grows-moves w (op.Run (run_op.SearchCommon x) ∷ []) _ (same-here w _ _ _ _) (λ h k. omega (arith, k))
 grows-common (f ∷ rest) w x e = grows-moves w (op.Run (run_op.SearchCommon x) ∷ []) _ (same-taken w)
-    (λ h k. (let z = pasts-drop (length w.tasks) f rest w.queue.items e in omega (arith, z, h.queue)))
-    (λ h k. h.own)
     (λ h k. (let z = pasts-drop (length w.tasks) f rest w.queue.items e in omega (arith, z, h.queue, k)))
 
 grows-look : (q : List ℕ) (w : World) (x : RunPoll) (at left : ℕ) → own_of w x.run ≡ q →
     Grows w (op.Run (run_op.LookOwn x at left) ∷ []) (look_own_by q w x at left)
 grows-look [] w x at left e h k = grows-moves w (op.Run (run_op.LookOwn x at left) ∷ []) _ (same-here w _ _ _ _)
-    (λ h k. h.queue) (λ h k. h.own)
     (λ h k. past-walk (length w.tasks) x (omega (arith, k)) w.listed at left) h k
 grows-look (f ∷ rest) w x at left e h k =
     let g : Grown w (found (put_own w x.run rest) x f) = grows-found w (put_own w x.run rest)
-    (op.Run (run_op.LookOwn x at left) ∷ []) x f (same-here w _ _ _ _) refl
-    (λ h. omega (arith, pasts_in-first (length w.tasks) x.run f rest w.own e, h.own))
+    (op.Run (run_op.LookOwn x at left) ∷ []) x f (same-here w _ _ _ _)
     (λ k. omega (arith, k))
     (λ h. omega (arith, pasts_in-first (length w.tasks) x.run f rest w.own e, h.own)) h k in
     record { fits = g.fits; next = omega (arith, g.next); more = g.more }
@@ -268,50 +204,43 @@ grows-look (f ∷ rest) w x at left e h k =
 grows-reschedule : (q : List ℕ) (w : World) (r : ℕ) (a : Reply) → own_of w r ≡ q →
     Grows w (op.Run (run_op.Reschedule r a) ∷ []) (reschedule_by q w r a)
 grows-reschedule [] w r a e = grows-moves w (op.Run (run_op.Reschedule r a) ∷ []) _ (same-here w _ _ _ _)
-    (λ h k. h.queue) (λ h k. h.own) (λ h k. refl)
+    (λ h k. refl)
 grows-reschedule (f ∷ rest) w r a e =
-    grows-moves w (op.Run (run_op.Reschedule r a) ∷ []) _ (same-here w _ _ _ _) (λ h k. h.queue)
-    (λ h k. omega (arith, pasts_in-first (length w.tasks) r f rest w.own e, h.own))
+    grows-moves w (op.Run (run_op.Reschedule r a) ∷ []) _ (same-here w _ _ _ _) 
     (λ h k. omega (arith, pasts_in-first (length w.tasks) r f rest w.own e, h.own, k))
 
 grows-make : (b : Bool) (w : World) → Grows w (op.List (list_op.Write section.MakeRun) ∷ []) (make_run_by b w)
 grows-make true w = grows-moves w (op.List (list_op.Write section.MakeRun) ∷ []) _ (same-here w _ _ _ _)
-    (λ h k. h.queue) (λ h k. h.own) (λ h k. refl)
+    (λ h k. refl)
 grows-make false w = grows-moves w (op.List (list_op.Write section.MakeRun) ∷ []) _ (same-here w _ _ _ _)
-    (λ h k. h.queue)
-    (λ h k. omega (arith, pasts_in-append (length w.tasks) w.own ([] ∷ []), h.own)) (λ h k. refl)
+    (λ h k. refl)
 
 grows-register : (t : Stage) (w : World) (x : RunPoll) → Grows w (op.List (list_op.Write (section.Register x)) ∷ [])
     (done (registered t w x.run) (op.List list_op.UnlockWrite ∷ op.User (user_op.PollOwn x) ∷ []))
 grows-register New w x = grows-moves w (op.List (list_op.Write (section.Register x)) ∷ []) _ (same-here w _ _ _ _)
-    (λ h k. h.queue) (λ h k. h.own) (λ h k. omega (arith, k))
+    (λ h k. omega (arith, k))
 grows-register Listed w x = grows-moves w (op.List (list_op.Write (section.Register x)) ∷ []) _ (same-here w _ _ _ _)
-    (λ h k. h.queue) (λ h k. h.own) (λ h k. omega (arith, k))
+    (λ h k. omega (arith, k))
 grows-register Ended w x = grows-moves w (op.List (list_op.Write (section.Register x)) ∷ []) _ (same-here w _ _ _ _)
-    (λ h k. h.queue) (λ h k. h.own) (λ h k. omega (arith, k))
+    (λ h k. omega (arith, k))
 
 pub grows-list : (h : Hint) (o : ListOp) (w : World) → Grows w (op.List o ∷ []) (list_act h o w)
 grows-list c (list_op.LockWrite s) w =
-    grows-moves w (op.List (list_op.LockWrite s) ∷ []) _ (same-here w _ _ _ _) (λ h k. h.queue) (λ h k. h.own)
-    (λ h k. k)
+    grows-moves w (op.List (list_op.LockWrite s) ∷ []) _ (same-here w _ _ _ _) (λ h k. k)
 grows-list c (list_op.Write section.MakeRun) w = grows-make c.refused w
 grows-list c (list_op.Write (section.Register x)) w = grows-register _ w x
 grows-list c (list_op.Write (section.Unregister r a)) w =
-    grows-moves w (op.List (list_op.Write (section.Unregister r a)) ∷ []) _ (same-here w _ _ _ _) (λ h k. h.queue)
-    (λ h k. h.own) (λ h k. refl)
+    grows-moves w (op.List (list_op.Write (section.Unregister r a)) ∷ []) _ (same-here w _ _ _ _) (λ h k. refl)
 grows-list c list_op.UnlockWrite w = grows-moves w (op.List list_op.UnlockWrite ∷ []) _ (same-here w _ _ _ _)
-    (λ h k. h.queue) (λ h k. h.own) (λ h k. refl)
+    (λ h k. refl)
 grows-list c (list_op.LockRead x) w =
-    grows-moves w (op.List (list_op.LockRead x) ∷ []) _ (same-here w _ _ _ _) (λ h k. h.queue) (λ h k. h.own)
-    (λ h k. past-walk (length w.tasks) x (omega (arith, k)) w.listed (c.start % length w.listed) (length w.listed))
+    grows-moves w (op.List (list_op.LockRead x) ∷ []) _ (same-here w _ _ _ _) (λ h k. past-walk (length w.tasks) x (omega (arith, k)) w.listed (c.start % length w.listed) (length w.listed))
 grows-list c list_op.UnlockRead w = grows-moves w (op.List list_op.UnlockRead ∷ []) _ (same-here w _ _ _ _)
-    (λ h k. h.queue) (λ h k. h.own) (λ h k. refl)
+    (λ h k. refl)
 
 grows-room : (b : Bool) (w : World) → Grows w (op.Run run_op.MakeRoom ∷ []) (make_room_by b w)
-grows-room true w = grows-moves w (op.Run run_op.MakeRoom ∷ []) _ (same-here w _ _ _ _) (λ h k. h.queue) (λ h k. h.own)
-    (λ h k. refl)
-grows-room false w = grows-moves w (op.Run run_op.MakeRoom ∷ []) _ (same-rooms w _ refl) (λ h k. h.queue) (λ h k. h.own)
-    (λ h k. refl)
+grows-room true w = grows-moves w (op.Run run_op.MakeRoom ∷ []) _ (same-here w _ _ _ _) (λ h k. refl)
+grows-room false w = grows-moves w (op.Run run_op.MakeRoom ∷ []) _ (same-rooms w _ refl) (λ h k. refl)
 
 grows-wake_own : (p : ℕ) (a : Waker) (w v : World) (x : RunPoll) →
     v ≡ log w (event.WakerCalled p (of.Run x.run) x.poll x.waker) →
@@ -320,7 +249,7 @@ grows-wake_own : (p : ℕ) (a : Waker) (w v : World) (x : RunPoll) →
     ((call_by_reference p v a).next ++ op.End reply.Pending (hold.Run x.run) ∷ []))
 grows-wake_own p (Outside y) w v x e z h =
     rw e (record {
-      fits = fits-log true w (event.WakerCalled p (of.Run x.run) x.poll x.waker) h;
+      fits = fits-log true w (event.WakerCalled p (of.Run x.run) x.poll x.waker) (shaped w h);
       next = refl;
       more = omega arith;
     })
@@ -330,7 +259,7 @@ grows-wake_own p (Task g) w v x e z h =
     let k : Grown w (call_by_reference p u (Task g)) =
     grows-carried w (log_if b u (event.Woken p g)) g (moves.wake_by_reference (task w g))
     (same-log b u (event.Woken p g)) (fits-log b u (event.Woken p g)
-    (fits-log true w (event.WakerCalled p (of.Run x.run) x.poll x.waker) h)) z in
+    (fits-log true w (event.WakerCalled p (of.Run x.run) x.poll x.waker) (shaped w h))) z in
     rw e (record {
       fits = k.fits;
       next = omega (
@@ -345,7 +274,7 @@ grows-wake_own p (Task g) w v x e z h =
 pub grows-run : (p : ℕ) (h : Hint) (o : RunOp) (w : World) → Grows w (op.Run o ∷ []) (run_act p h o w)
 grows-run p c run_op.MakeRoom w = grows-room c.refused w
 grows-run p c run_op.ReturnRoom w = grows-moves w (op.Run run_op.ReturnRoom ∷ []) _
-    (same-rooms w _ (given_back-same w.sleepers)) (λ h k. h.queue) (λ h k. h.own) (λ h k. refl)
+    (same-rooms w _ (given_back-same w.sleepers)) (λ h k. refl)
 grows-run p c (run_op.SearchCommon x) w = grows-common _ w x refl
 grows-run p c (run_op.LookOwn x at left) w = grows-look _ w x at left refl
 grows-run p c (run_op.WakeOwn x) w = λ h k. grows-wake_own p x.waker w _ x refl (omega (arith, k)) h

@@ -68,9 +68,6 @@ stray_of r k (op.Steal o) = strays r k (poll_in o)
 stray_of r k (op.Run o) = stray_run r k o
 stray_of r k _ = 0
 
-steal-stray : (r k : ℕ) (o : StealOp) → stray_of r k (op.Steal o) ≡ strays r k (poll_in o)
-steal-stray r k o = refl
-
 none-stray : (r k : ℕ) (o : Op) → runs_of o ≡ 0 → stray_of r k o ≡ 0
 none-stray r k (op.User (user_op.PollOwn x)) z = absurd (omega (arith, z))
 none-stray r k (op.Tick o) z = absurd (omega (arith, z))

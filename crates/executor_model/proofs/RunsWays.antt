@@ -2,16 +2,13 @@
 -- kept, and by the call of the run's own waker.
 use Rattle.std.proofs.Common.{◌≡◌, ℕ, ◌<◌, List, [], ◌∷◌, length, Bool, true, false, ltb, refl, arith}
 use Rattle.executor_model.specs.declared.call.Reply.{Reply}
-use Rattle.executor_model.specs.declared.call.Reply.TheVariants as reply
 use Rattle.executor_model.specs.declared.op.ListOp.{ListOp}
-use Rattle.executor_model.specs.declared.op.ListOp.TheVariants as list_op
 use Rattle.executor_model.specs.declared.op.Op.{Op}
 use Rattle.executor_model.specs.declared.op.Op.TheVariants as op
 use Rattle.executor_model.specs.declared.op.QueueOp.TheVariants as queue_op
 use Rattle.executor_model.specs.declared.op.RunOp.{RunOp}
 use Rattle.executor_model.specs.declared.op.RunOp.TheVariants as run_op
 use Rattle.executor_model.specs.declared.op.RunPoll.{RunPoll}
-use Rattle.executor_model.specs.declared.op.Section.TheVariants as section
 use Rattle.executor_model.specs.declared.op.Sleeper.TheVariants as sleeper
 use Rattle.executor_model.specs.declared.op.Sleeping.{Sleeping}
 use Rattle.executor_model.specs.declared.op.Steal.{Steal}
@@ -21,8 +18,7 @@ use Rattle.executor_model.specs.declared.op.TickOp.TheVariants as tick_op
 use Rattle.executor_model.specs.declared.op.UserOp.TheVariants as user_op
 use Rattle.executor_model.specs.declared.step.Hint.{Hint}
 use Rattle.executor_model.specs.Weights.{weigh}
-use Rattle.executor_model.specs.Steps.{drop_run, poll_run}
-use Rattle.executor_model.specs.World.{World, Done, Stage, New, Listed, Ended}
+use Rattle.executor_model.specs.World.{World, Done}
 use Rattle.executor_model.specs.ActsOfRuns.{free_places, kept_by, reschedule_by, search_own, steal_put_by, wake_own}
 use Rattle.executor_model.specs.Doing.{list_act, run_act, steal_act}
 use Rattle.executor_model.proofs.RunsCounting.{known-run}
@@ -55,25 +51,6 @@ plain-of-runs os a v z = a v record {
 after-reschedule : (q : List ℕ) (w : World) (r : ℕ) (a : Reply) → AllOfRuns (reschedule_by q w r a).next
 after-reschedule [] w r a v u = omega (arith, u.leave r, u.blind.end a r)
 after-reschedule (f ∷ rest) w r a v u = omega (arith, u.append f, u.blind.run (run_op.Reschedule r a))
-
--- how a poll and a drop of a run begin
-pub of-poll : (t : Stage) (x : RunPoll) → AllOfRuns (poll_run t x)
-of-poll New x v u = omega (arith, u.blind.list (list_op.LockWrite (section.Register x)))
-of-poll Listed x v u = omega (arith, u.blind.poll x)
-of-poll Ended x v u = omega (arith, u.blind.end reply.Finished x.run)
-
-pub of-drop : (t : Stage) (r : ℕ) → AllOfRuns (drop_run t r)
-of-drop New r v u = omega (arith, u.drop r, u.blind.run (run_op.Reschedule r reply.Done))
-of-drop Listed r v u =
-    omega (arith, u.drop r, u.blind.list (list_op.LockWrite (section.Unregister r reply.Done)))
-of-drop Ended r v u = omega (arith, u.leave r, u.blind.end reply.Done r)
-
--- and what follows where its own future was ready
-pub of-ready : (x : RunPoll) →
-    AllOfRuns (op.User (user_op.DropOwn x.run) ∷ op.List (list_op.LockWrite (section.Unregister x.run reply.Ready)) ∷
-    [])
-of-ready x v u =
-    omega (arith, u.drop x.run, u.blind.list (list_op.LockWrite (section.Unregister x.run reply.Ready)))
 
 module _
     (P : World → List Op → Done → Type 0)

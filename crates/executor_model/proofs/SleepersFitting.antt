@@ -4,7 +4,7 @@ use Rattle.std.proofs.Math.ListN.{length-set}
 use Rattle.std.specs.Prelude.{Option, Some, None, is_none}
 use Rattle.task_moves.specs.Moves as moves
 use Rattle.task_moves.specs.declared.moves.state.State.{State}
-use Rattle.executor_parts.specs.Sleepers.{last_waker, next_number, position_of, waker_at, waker_of}
+use Rattle.executor_parts.specs.Sleepers.{last_waker, position_of, waker_at, waker_of}
 use Rattle.executor_model.specs.declared.event.Event.TheVariants as event
 use Rattle.executor_model.specs.declared.op.Op.{Op}
 use Rattle.executor_model.specs.declared.op.Op.TheVariants as op
@@ -21,20 +21,17 @@ use Rattle.executor_model.specs.ActsOfSleepers.{exchange_by, hand_out_by, make_t
 use Rattle.executor_model.specs.ActsOfSleepers.{copy_sleeper_by, lie_anew_by, sleeper_goes, lie_listed_by}
 use Rattle.executor_model.specs.ActsOfSleepers.{pend_as}
 use Rattle.executor_model.specs.ActsOfSleepers.{lie_again_by, lie_down_by, get_up_by, tell_if, leave_sleepers_by}
-use Rattle.executor_model.specs.Weights.{weigh, waker_past, weigh_sleepers}
+use Rattle.executor_model.specs.Weights.{weigh, waker_past}
 use Rattle.executor_model.specs.Good.{Fits}
 use Rattle.executor_model.specs.Rows.{past_of}
-use Rattle.executor_model.proofs.Fitting.{Grown, Grows, fits-log, same-log, grows-carried, past_goes}
+use Rattle.executor_model.proofs.Fitting.{Grown, Grows, Shaped, shaped, fits-log, same-log, grows-carried, past_goes}
 use Rattle.executor_model.proofs.Lists.{pasts-drop, weigh-append}
-use Rattle.executor_model.proofs.SleepersLists.{held, given_back-same, sleepers-append, sleepers-last}
+use Rattle.executor_model.proofs.SleepersLists.{held, sleepers-last}
 use Rattle.executor_model.proofs.SleepersLists.{sleepers-risen, sleepers-left, sleepers-set}
 
--- the list of sleepers is another one, which fits too
-fits-sleepers : (w v : World) → v.tasks ≡ w.tasks → v.queue ≡ w.queue → v.own ≡ w.own → v.table ≡ w.table →
-    v.leaving ≡ w.leaving →
-    v.waking ≡ w.waking → v.wakers ≡ w.wakers → v.awaiters ≡ w.awaiters → v.inside ≡ w.inside
-    → weigh_sleepers (waker_past (length w.tasks)) v.sleepers.wakers ≡ 0 → Fits w → Fits v
-fits-sleepers w v e1 e2 e3 e4 e5 e6 e7 e8 e9 z h = grind arith
+-- the places of futures are as they were
+fits-sleepers : (w v : World) → v.tasks ≡ w.tasks → v.awaiters ≡ w.awaiters → v.inside ≡ w.inside → Fits w → Shaped v
+fits-sleepers w v e a i h = grind arith
 
 -- a waker that goes speaks of a future that is there, where its entry did
 past_goes_if : (n : ℕ) (o : Option Sleeping) → weigh (past_of n) (sleeper_goes o) ≡ held (waker_past n) o
@@ -45,7 +42,7 @@ pub grows-exchange : (b : Bool) (w : World) → Grows w (op.Sleeper sleeper_op.E
 grows-exchange true w h k = grind arith
 grows-exchange false w h k =
     record {
-      fits = fits-sleepers w _ refl refl refl refl refl refl refl refl refl h.sleepers h;
+      fits = fits-sleepers w _ refl refl refl h;
       next = refl;
       more = omega arith;
     }
@@ -54,18 +51,15 @@ pub grows-hand_out : (b : Bool) (o : Option Sleeping) (w : World) → last_waker
     Grows w (op.Sleeper sleeper_op.HandOut ∷ []) (hand_out_by b o w)
 grows-hand_out false o w e h k = grind arith
 grows-hand_out true None w e h k =
-    let v = waker_past (length w.tasks) in
     record {
-      fits = fits-sleepers w _ refl refl refl refl refl refl refl refl refl
-          (omega (arith, sleepers-last v w.sleepers, h.sleepers)) h;
+      fits = fits-sleepers w _ refl refl refl h;
       next = refl;
       more = omega arith;
     }
 grows-hand_out true (Some s) w e h k =
     let v = waker_past (length w.tasks) in
     record {
-      fits = fits-sleepers w _ refl refl refl refl refl refl refl refl refl
-          (omega (arith, sleepers-last v w.sleepers, h.sleepers)) h;
+      fits = fits-sleepers w _ refl refl refl h;
       next = omega (arith, sleepers-last v w.sleepers, h.sleepers, ap (held v) e);
       more = omega arith;
     }
@@ -76,15 +70,15 @@ grows-call_waker p w o (Task g) k z h =
     let v = log w (event.WakerCalled p o k (Task g)) in
     let b = not (moves.is_over (task w g)) in
     grows-carried w (log_if b v (event.Woken p g)) g (moves.wake (task w g)) (same-log b v (event.Woken p g))
-    (fits-log b v (event.Woken p g) (fits-log true w (event.WakerCalled p o k (Task g)) h)) z
+    (fits-log b v (event.Woken p g) (fits-log true w (event.WakerCalled p o k (Task g)) (shaped w h))) z
 grows-call_waker p w o (Outside x) k z h =
-    record { fits = fits-log true w (event.WakerCalled p o k (Outside x)) h; next = refl; more = omega arith }
+    record { fits = fits-log true w (event.WakerCalled p o k (Outside x)) (shaped w h); next = refl; more = omega arith }
 
 pub grows-make_tick : (b : Bool) (w : World) → Grows w (op.Tick tick_op.MakeTick ∷ []) (make_tick_by b w)
 grows-make_tick true w h k = grind arith
 grows-make_tick false w h k =
     record {
-      fits = fits-sleepers w _ refl refl refl refl refl refl refl refl refl h.sleepers h;
+      fits = fits-sleepers w _ refl refl refl h;
       next = refl;
       more = omega arith;
     }
@@ -103,35 +97,19 @@ grows-copy_sleeper true a t m w h k = grind arith
 grows-copy_sleeper false (Task g) t m w h k = grind (arith, length-set {A = State})
 grows-copy_sleeper false (Outside x) t m w h k = grind arith
 
--- a list of sleepers that fits is stored, and a tick with it
-grows-put : (w v : World) (next : List Op) → v.tasks ≡ w.tasks → v.queue ≡ w.queue → v.own ≡ w.own → v.table ≡ w.table →
-    v.leaving ≡ w.leaving → v.waking ≡ w.waking → v.wakers ≡ w.wakers → v.awaiters ≡ w.awaiters → v.inside ≡ w.inside
-    → weigh_sleepers (waker_past (length w.tasks)) v.sleepers.wakers ≡ 0 → weigh (past_of (length w.tasks)) next ≡ 0 →
-    Fits w → Grown w (done v next)
-grows-put w v next e1 e2 e3 e4 e5 e6 e7 e8 e9 z n h =
-    record {
-      fits = fits-sleepers w v e1 e2 e3 e4 e5 e6 e7 e8 e9 z h;
-      next = rw e1 n;
-      more = omega (arith, ap length e1);
-    }
+-- another list of sleepers is stored, and a tick with it
+grows-put : (w v : World) (next : List Op) → v.tasks ≡ w.tasks → v.awaiters ≡ w.awaiters → v.inside ≡ w.inside →
+    weigh (past_of (length w.tasks)) next ≡ 0 → Fits w → Grown w (done v next)
+grows-put w v next e a i n h =
+    record { fits = fits-sleepers w v e a i h; next = rw e n; more = omega (arith, ap length e) }
 
 grows-lie_anew : (b : Bool) (w : World) (s : Sleeping) → Grows w (op.Tick (tick_op.LieDown s) ∷ []) (lie_anew_by b w s)
-grows-lie_anew true w s h k =
-    grows-put w _ _ refl refl refl refl refl refl refl refl refl
-    (omega (
-      arith,
-      sleepers-append (waker_past (length w.tasks)) w.sleepers.wakers ((next_number w.sleepers, s) ∷ []),
-      h.sleepers,
-      k,
-    )) (omega (arith, k)) h
+grows-lie_anew true w s h k = grows-put w _ _ refl refl refl (omega (arith, k)) h
 grows-lie_anew false w s h k = grind arith
 
 grows-lie_listed : (b : Bool) (w : World) (n : ℕ) (s : Sleeping) →
     Grows w (op.Tick (tick_op.LieDown s) ∷ []) (lie_listed_by b w n s)
-grows-lie_listed true w n s h k =
-    grows-put w _ _ refl refl refl refl refl refl refl refl refl
-    (omega (arith, sleepers-append (waker_past (length w.tasks)) w.sleepers.wakers ((n, s) ∷ []), h.sleepers, k))
-    (omega (arith, k)) h
+grows-lie_listed true w n s h k = grows-put w _ _ refl refl refl (omega (arith, k)) h
 grows-lie_listed false w n s h k = grind arith
 
 grows-lie_again : (o : Option ℕ) (w : World) (n : ℕ) (s : Sleeping) → position_of n w.sleepers.wakers ≡ o →
@@ -141,8 +119,7 @@ grows-lie_again (Some at) w n s e h k =
     let v = waker_past (length w.tasks) in
     let z = sleepers-set v n at s w.sleepers.wakers e in
     let old = waker_at (Some at) w.sleepers.wakers in
-    grows-put w _ _ refl refl refl refl refl refl refl refl refl (omega (arith, z, h.sleepers, k))
-    (omega (
+    grows-put w _ _ refl refl refl (omega (
       arith,
       z,
       h.sleepers,
@@ -163,8 +140,7 @@ grows-get_up (Lies n) w t h k =
     let v = waker_past (length w.tasks) in
     let z = sleepers-risen v n w.sleepers in
     let old = waker_of n w.sleepers.wakers in
-    grows-put w _ _ refl refl refl refl refl refl refl refl refl (omega (arith, z, h.sleepers))
-    (omega (
+    grows-put w _ _ refl refl refl (omega (
       arith,
       z,
       h.sleepers,
@@ -180,15 +156,13 @@ past_tell n false = refl
 pub grows-leave_sleepers : (x : Place) (w : World) (t : Sleeper) →
     Grows w (op.Tick (tick_op.Leave t) ∷ []) (leave_sleepers_by x w t)
 grows-leave_sleepers Up w t h k =
-    grows-put w _ _ refl refl refl refl refl refl refl refl refl
-    (omega (arith, ap (weigh_sleepers (waker_past (length w.tasks))) (given_back-same w.sleepers), h.sleepers)) refl h
+    grows-put w _ _ refl refl refl refl h
 grows-leave_sleepers (Lies n) w t h k =
     let v = waker_past (length w.tasks) in
     let z = sleepers-left v n w.sleepers in
     let old = waker_of n w.sleepers.wakers in
     let told = tell_if (is_none old) in
-    grows-put w _ _ refl refl refl refl refl refl refl refl refl (omega (arith, z, h.sleepers))
-    (omega (
+    grows-put w _ _ refl refl refl (omega (
       arith,
       z,
       h.sleepers,

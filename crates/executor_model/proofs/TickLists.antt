@@ -78,12 +78,6 @@ is_tick [] t h = absurd (h refl)
 is_tick (y ∷ ts) zero h = omega arith
 is_tick (y ∷ ts) (suc t) h = omega (arith, is_tick ts t h)
 
-pub up-is : (ts : List Place) (t : ℕ) → get_or ts t Left ≡ Up → t < length ts
-up-is ts t e = is_tick ts t (λ q. let no : Up ≡ Left = sym e ∙ q in absurd (cc))
-
-pub lies-is : (ts : List Place) (t n : ℕ) → get_or ts t Left ≡ Lies n → t < length ts
-lies-is ts t n e = is_tick ts t (λ q. let no : Lies n ≡ Left = sym e ∙ q in absurd (cc))
-
 pub same_self : (n : ℕ) → same n n ≡ 1
 same_self n = grind (arith, same_is)
 
@@ -221,11 +215,6 @@ times-in n (x ∷ xs) h = ⊎_elim
     (λ (z : (same n x ≡ 1) × (eqb n x ≡ true) × (n ≡ x)). inl (sym z.2))
     (λ (z : (same n x ≡ 0) × (eqb n x ≡ false) × (n ≢ x)). inr (times-in n xs (omega (arith, h, z.0))))
     (same_cases n x)
-
-in-times : (n : ℕ) (xs : List ℕ) → IsIn n xs → 1 ≤ times n xs
-in-times n [] e = absurd e
-in-times n (x ∷ xs) (inl e) = let z : same n x ≡ 1 = subst (λ k. same n k ≡ 1) (sym e) (same_self n) in omega (arith, z)
-in-times n (x ∷ xs) (inr e) = omega (arith, in-times n xs e)
 
 pub times-apart : (n : ℕ) (xs : List ℕ) → IsApart xs → times n xs ≤ 1
 times-apart n [] a = omega arith

@@ -218,15 +218,6 @@ mild-polling r = record {
   handles = λ o. refl;
 }
 
-pub mild-emptying : (r : ℕ) → Mild (emptying_of r)
-mild-emptying r = record {
-  few = λ o. omega (arith, emptying-uses r o, running-few r o);
-  executor = λ a. refl;
-  spawned = λ a f. refl;
-  handle = λ a f. refl;
-  handles = λ o. refl;
-}
-
 pub mild-lending : (r : ℕ) → Mild (lending_of r)
 mild-lending r = record {
   few = lending-few r;

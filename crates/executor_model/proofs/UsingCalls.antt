@@ -107,11 +107,6 @@ poll-open New y r e = refl
 poll-open Listed y r e = refl
 poll-open Ended y r e = absurd (omega (arith, e))
 
-poll-empties : (t : Stage) (y : RunPoll) (r : ℕ) → weigh (emptying_of r) (poll_run t y) ≡ 0
-poll-empties New y r = refl
-poll-empties Listed y r = refl
-poll-empties Ended y r = refl
-
 poll-lends : (t : Stage) (y : RunPoll) (r : ℕ) → weigh (lending_of r) (poll_run t y) ≡ 0
 poll-lends New y r = refl
 poll-lends Listed y r = refl

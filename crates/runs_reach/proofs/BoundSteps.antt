@@ -53,8 +53,7 @@ use Rattle.runs_reach.proofs.Leavings.{dropping_of, off_of}
 use Rattle.runs_reach.proofs.Opens.{le-or}
 use Rattle.runs_reach.proofs.Running.{RanIn}
 use Rattle.runs_reach.proofs.Safe.{Floor, KeepsSafe, Safe, floor}
-use Rattle.runs_reach.proofs.SafeMoves.{safe-take_up_open}
-use Rattle.runs_reach.proofs.SafeActs.{IsTame, safe-act}
+use Rattle.runs_reach.proofs.SafeActs.{IsTame, safe-act, safe-take_up_open}
 use Rattle.runs_reach.proofs.SafeRuns.{safe-put}
 
 abbrev pub BoundIn : Machine → ℕ → Type 0

@@ -3,10 +3,9 @@ pub mod Opened
 pub mod Endings
 pub mod Bonds
 pub mod Safe
-pub mod SafeSleepers
 pub mod RunsFewer
 pub mod SafeRuns
-pub mod SafeMoves
+pub mod SafeViews
 pub mod SafeActs
 pub mod Answering
 pub mod Frames

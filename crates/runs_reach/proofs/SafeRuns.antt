@@ -1,43 +1,29 @@
 -- What a run does keeps a future away from the executor's queue, but for what it schedules.
-use Rattle.std.proofs.Common.{◌≡◌, ℕ, zero, suc, ◌<◌, List, [], ◌∷◌, length, Bool, true, false, ◌||◌}
+use Rattle.std.proofs.Common.{◌≡◌, ℕ, zero, suc, List, [], ◌∷◌, length, Bool, true, false}
 use Rattle.std.proofs.Common.{refl, sym, ap, subst, get_or, arith}
-use Rattle.std.proofs.lemmas.List.{length-set}
-use Rattle.task_moves.specs.Moves as moves
 use Rattle.task_moves.specs.declared.moves.state.State.{State}
-use Rattle.executor_model.specs.declared.call.Reply.TheVariants as reply
-use Rattle.executor_model.specs.declared.event.Event.TheVariants as event
-use Rattle.executor_model.specs.declared.op.Hold.TheVariants as hold
 use Rattle.executor_model.specs.declared.op.ListOp.{ListOp}
 use Rattle.executor_model.specs.declared.op.ListOp.TheVariants as list_op
 use Rattle.executor_model.specs.declared.op.Op.{Op}
 use Rattle.executor_model.specs.declared.op.Op.TheVariants as op
-use Rattle.executor_model.specs.declared.op.Polled.TheVariants as of
 use Rattle.executor_model.specs.declared.op.RunOp.{RunOp}
 use Rattle.executor_model.specs.declared.op.RunOp.TheVariants as run_op
 use Rattle.executor_model.specs.declared.op.RunPoll.{RunPoll}
 use Rattle.executor_model.specs.declared.op.Section.{Section}
 use Rattle.executor_model.specs.declared.op.Section.TheVariants as section
-use Rattle.executor_model.specs.declared.op.Sleeper.{Sleeper}
 use Rattle.executor_model.specs.declared.op.Sleeper.TheVariants as sleeper
 use Rattle.executor_model.specs.declared.op.Sleeping.{Sleeping}
 use Rattle.executor_model.specs.declared.op.Steal.{Steal}
 use Rattle.executor_model.specs.declared.op.StealOp.{StealOp}
 use Rattle.executor_model.specs.declared.op.StealOp.TheVariants as steal_op
 use Rattle.executor_model.specs.declared.op.TickOp.TheVariants as tick_op
-use Rattle.executor_model.specs.declared.op.Waker.{Waker}
-use Rattle.executor_model.specs.declared.op.Waker.TheVariants.{Task, Outside}
 use Rattle.executor_model.specs.declared.step.Hint.{Hint}
-use Rattle.executor_model.specs.World.{World, Done, blank, log, task, own_of}
-use Rattle.executor_model.specs.Acts.{followed}
+use Rattle.executor_model.specs.World.{World, Done, blank, own_of}
 use Rattle.executor_model.specs.ActsOfRuns as runs
 use Rattle.executor_model.specs.ActsOfRuns.{wake_own}
-use Rattle.executor_model.specs.Doing.{list_act, run_act, search_by_who, steal_act}
-use Rattle.executor_model.specs.Good.{IsKnownWaker}
+use Rattle.executor_model.specs.Doing.{list_act, run_act, steal_act}
 use Rattle.executor_model.specs.Rows.{appends_of}
 use Rattle.executor_model.specs.Weights.{weigh}
-use Rattle.executor_model.proofs.Counting.{woken}
-use Rattle.executor_model.proofs.Lists.{read_put, same_is}
-use Rattle.executor_model.proofs.Marks.{IsUnmarked, unmarked}
 use Rattle.executor_model.proofs.RunsNext.{BlindToRuns, common-blind, list-blind, look-blind, more-blind, room-blind}
 use Rattle.executor_model.proofs.RunsNext.{search_run-blind, stolen-blind}
 use Rattle.executor_model.proofs.RunsCounting.{Bare, bare}
@@ -50,7 +36,6 @@ use Rattle.executor_model.proofs.RunsQueue.{queue-list, queue-look, queue-put, q
 use Rattle.executor_model.proofs.RunsQueue.{takes-steal}
 use Rattle.runs_reach.proofs.RunsFewer.{Fewer, fewer, untouched}
 use Rattle.runs_reach.proofs.Safe.{KeepsSafe}
-use Rattle.runs_reach.proofs.SafeSleepers.{safe-search}
 
 abbrev pub is_put : StealOp → Bool
 is_put (steal_op.Put s more f) = true
@@ -156,64 +141,40 @@ safe-list h o w =
     safe-fewer w (op.List o ∷ []) (list_act h o w) (untouched w (list_act h o w).world (queue-list h o w))
     (moves-list h o w).same.tasks (λ g. list-blind (appends_of g) (blind-appends g) h o w) (plain-after-list h o w)
 
--- a tick looks at the executor's queue, a run at its own
-pub safe-search_who : (who : Sleeper) (w : World) (s : Sleeping) → s.who ≡ who →
-    KeepsSafe w (op.Tick (tick_op.Search s) ∷ []) (search_by_who who w s)
-safe-search_who (sleeper.Tick t) w s e = safe-search _ _ w s refl
-safe-search_who (sleeper.Run r) w s e =
+-- a run looks at its own queue
+pub safe-search_own : (w : World) (s : Sleeping) (r : ℕ) → s.who ≡ sleeper.Run r →
+    KeepsSafe w (op.Tick (tick_op.Search s) ∷ [])
+    (runs.search_own w (record { run = r; waker = s.waker; poll = s.poll }))
+safe-search_own w s r e =
     let x : RunPoll = record { run = r; waker = s.waker; poll = s.poll } in
     safe-fewer w (op.Tick (tick_op.Search s) ∷ []) (runs.search_own w x) (fewer w _ (takes-search w x))
     (moves-own (own_of w r) w s r e refl).same.tasks (λ g. search_run-blind (appends_of g) (blind-appends g) w x)
     (plain-after-search w x)
 
--- its own waker is called
+-- what calls no waker, and hands nothing on
+abbrev pub Stays : RunOp → Type 0
+Stays (run_op.WakeOwn x) = ⊥
+Stays (run_op.Reschedule t a) = ⊥
+Stays _ = Unit {0}
 
-abbrev polled_with : ℕ → ℕ → Waker → RunPoll
-polled_with t k a = record { run = t; waker = a; poll = k }
-
-abbrev own_woken : Bool → Bool → Bool → ℕ → ℕ → ℕ → World → ℕ → Done
-own_woken o b c p t k w f = followed
-    (woken o b c p (log w (event.WakerCalled p (of.Run t) k (Task f))) f)
-    (op.End reply.Pending (hold.Run t) ∷ [])
-
-wrong : (o x : Bool) → o ≡ true → (o || x) ≡ false → ⊥
-wrong true x m e = absurd (cc)
-wrong false x m e = absurd (cc)
-
-safe-own_task : (o b c : Bool) (p t k : ℕ) (w : World) (f : ℕ) → moves.is_over (task w f) ≡ o →
-    (moves.is_over (task w f) || (task w f).scheduled) ≡ b → (task w f).running ≡ c → f < length w.tasks →
-    KeepsSafe w (op.Run (run_op.WakeOwn (polled_with t k (Task f))) ∷ []) (own_woken o b c p t k w f)
-safe-own_task true true c p t k w f m d q i g r nn bb h = grind (arith, same_is, read_put, length-set)
-safe-own_task true false c p t k w f m d q i g r nn bb h = absurd (wrong _ _ m d)
-safe-own_task false true c p t k w f m d q i g r nn bb h = grind (arith, same_is, read_put, length-set)
-safe-own_task false false true p t k w f m d q i g r nn bb h = grind (arith, same_is, read_put, length-set)
-safe-own_task false false false p t k w f m d q i g r nn bb h = let z : IsUnmarked (task w f) = unmarked (task w f) d in
-    grind (arith, same_is, read_put, length-set)
-
-safe-wake_own : (p t k : ℕ) (a : Waker) (w : World) → IsKnownWaker w a →
-    KeepsSafe w (op.Run (run_op.WakeOwn (polled_with t k a)) ∷ []) (wake_own p w (polled_with t k a))
-safe-wake_own p t k (Task f) w i = safe-own_task (moves.is_over (task w f)) _ _ p t k w f refl refl refl i
-safe-wake_own p t k (Outside y) w i = λ g r nn bb h. grind arith
-
-pub safe-run : (p : ℕ) (h : Hint) (o : RunOp) (w : World) → is_reschedule o ≡ false →
-    ((x : RunPoll) → o ≡ run_op.WakeOwn x → IsKnownWaker w x.waker) → KeepsSafe w (op.Run o ∷ []) (run_act p h o w)
-safe-run p h run_op.MakeRoom w e i =
+pub safe-run : (p : ℕ) (h : Hint) (o : RunOp) (w : World) → Stays o → KeepsSafe w (op.Run o ∷ []) (run_act p h o w)
+safe-run p h run_op.MakeRoom w e =
     let d = run_act p h run_op.MakeRoom w in
     safe-fewer w (op.Run run_op.MakeRoom ∷ []) d (untouched w d.world (queue-room h.refused w))
     (moves-make_room h.refused w).same.tasks (λ g. room-blind (appends_of g) (blind-appends g) h.refused w)
     (plain-after-room h.refused w)
-safe-run p h run_op.ReturnRoom w e i =
+safe-run p h run_op.ReturnRoom w e =
     let d = run_act p h run_op.ReturnRoom w in
     safe-fewer w (op.Run run_op.ReturnRoom ∷ []) d (untouched w d.world refl) refl (λ g. refl) (λ v z. refl)
-safe-run p h (run_op.SearchCommon x) w e i =
+safe-run p h (run_op.SearchCommon x) w e =
     let d = run_act p h (run_op.SearchCommon x) w in
     safe-fewer w (op.Run (run_op.SearchCommon x) ∷ []) d (fewer w _ (takes-common w.queue.items w x))
     (moves-common w.queue.items w x refl).same.tasks
     (λ g. common-blind (appends_of g) (blind-appends g) w.queue.items w x) (plain-after-common w x)
-safe-run p h (run_op.LookOwn x at left) w e i =
+safe-run p h (run_op.LookOwn x at left) w e =
     let d = run_act p h (run_op.LookOwn x at left) w in
     safe-fewer w (op.Run (run_op.LookOwn x at left) ∷ []) d (untouched w d.world (queue-look (own_of w x.run) w x at left))
     (moves-look (own_of w x.run) w x at left refl).same.tasks
     (λ g. look-blind (appends_of g) (blind-appends g) (own_of w x.run) w x at left) (plain-after-look w x at left)
-safe-run p h (run_op.WakeOwn x) w e i = safe-wake_own p x.run x.poll x.waker w (i x refl)
-safe-run p h (run_op.Reschedule t a) w e i = absurd (cc)
+safe-run p h (run_op.WakeOwn x) w e = absurd e
+safe-run p h (run_op.Reschedule t a) w e = absurd e

@@ -1,0 +1,135 @@
+-- What holds of an output that is there and of an awaiter (proofs/Keeping): kept by each move of the future's task, and by
+-- each effect.
+use Rattle.std.proofs.Common.{◌≡◌, ℕ, ◌<◌, List, [], ◌∷◌, ◌++◌, true, false, arith}
+use Rattle.std.proofs.lemmas.Bool.Decides.{nat_tests}
+use Rattle.std.proofs.lemmas.List.{length-append}
+use Rattle.std.specs.Prelude.{slice_set}
+use Rattle.task_moves.specs.declared.moves.owed.Move.{Move}
+use Rattle.task_moves.specs.declared.moves.owed.Move.TheVariants as move
+use Rattle.task_moves.proofs.Cases.{by_move}
+use Rattle.executor_model.specs.declared.call.Call.TheVariants as call
+use Rattle.executor_model.specs.declared.call.Reply.TheVariants as reply
+use Rattle.executor_model.specs.declared.event.Answer.TheVariants as answer
+use Rattle.executor_model.specs.declared.event.Event.TheVariants as event
+use Rattle.executor_model.specs.declared.op.ClosingOp.TheVariants as closing_op
+use Rattle.executor_model.specs.declared.op.Hold.TheVariants as hold
+use Rattle.executor_model.specs.declared.op.Op.{Op}
+use Rattle.executor_model.specs.declared.op.Op.TheVariants as op
+use Rattle.executor_model.specs.declared.op.QueueOp.TheVariants as queue_op
+use Rattle.executor_model.specs.declared.op.TableOp.TheVariants as table_op
+use Rattle.executor_model.specs.declared.op.UserOp.TheVariants as user_op
+use Rattle.executor_model.specs.World.{World, Done, done, log}
+use Rattle.executor_model.specs.Acts.{append_by, begin_drop, closing_ops, enter_by, leave_by, stands_alone}
+use Rattle.executor_model.specs.Sound.{Pend, with_ops}
+use Rattle.executor_model.proofs.Lists.{fresh_is, read_push, same_is}
+use Rattle.executor_model.proofs.Tallies.{readies-push, spent-push}
+use Rattle.executor_model.proofs.Extras.{Extra, with_extra}
+use Rattle.executor_model.proofs.Views.{Seen, seen, before, after}
+use Rattle.executor_model.proofs.Passes.{Passes, Handles, Watched}
+use Rattle.executor_model.proofs.MoveViews.{Alike}
+use Rattle.executor_model.proofs.SoundViews.{Sure, sound-passes}
+use Rattle.executor_model.proofs.Keeping.{Footing, Stored, footing}
+use Rattle.executor_model.proofs.Effects.{Effect, turned-keeps}
+use Rattle.executor_model.proofs.Effects.Effect.{passes, turns, refuses, enters, unlists, drops, takes_out, drops_next}
+use Rattle.executor_model.proofs.EffectsWays.{Effects}
+use Rattle.executor_model.proofs.EffectsWays.Effects.{does, pends, readies, closes}
+
+stored-passes : (x y : Seen) → Passes x y → Handles x y → Footing x → Stored x → Stored y
+stored-passes x y s q b h = let w : Watched y = q.watched b.rests h.watched in grind arith
+
+stored-loose : (x : Seen) (p q : Pend) (a b : Extra) → Alike p q a b → Stored (record x { pend = p; extra = a }) →
+    Stored (record x { pend = q; extra = b })
+stored-loose x p q a b l h = grind arith
+
+stored-turned : (m : Move) (x : Seen) → x.number < x.tasks → stands_alone m ≡ true → Footing (before m x) →
+    Stored (before m x) → Stored (after m x)
+stored-turned = by_move _
+    (λ x i n b h. grind (arith, nat_tests))
+    (λ x i n b h. grind (arith, nat_tests))
+    (λ x i n b h. absurd (cc))
+    (λ x i n b h. grind (arith, nat_tests))
+    (λ x i n b h. grind (arith, nat_tests))
+    (λ x i n b h. grind (arith, nat_tests))
+    (λ x i n b h. grind (arith, nat_tests))
+    (λ x i n b h. grind (arith, nat_tests))
+    (λ x i n b h. grind (arith, nat_tests))
+    (λ x i n b h. grind (arith, nat_tests))
+    (λ x i n b h. grind (arith, nat_tests))
+    (λ x i n b h. grind (arith, nat_tests))
+    (λ x i n b h. grind (arith, nat_tests))
+    (λ x i n b h. absurd (cc))
+    (λ x i n b h. absurd (cc))
+    (λ x i n b h. absurd (cc))
+    (λ x i n b h. absurd (cc))
+    (λ x i n b h. absurd (cc))
+    (λ x i n b h. absurd (cc))
+
+stored-moved : (m : Move) (x : Seen) → x.number < x.tasks → stands_alone m ≡ true → Sure (before m x) →
+    Stored (before m x) → Stored (after m x)
+stored-moved m x i n b h = stored-turned m x i n (footing (before m x) b) h
+
+abbrev pub KeepsStored : World → List Op → Done → Type 0
+KeepsStored w old d = (g : ℕ) (r : Pend) (y : Extra) → Sure (seen w g (with_ops g old r) (with_extra g old y)) →
+    Stored (seen w g (with_ops g old r) (with_extra g old y)) →
+    Stored (seen d.world g (with_ops g d.next r) (with_extra g d.next y))
+
+stored-refuses : (w : World) (f : ℕ) → KeepsStored w (op.Queue (queue_op.Append f) ∷ []) (append_by false w f)
+stored-refuses w f g r y k h = grind (arith, same_is)
+
+stored-enters : (p : ℕ) (w : World) → KeepsStored w (op.Table table_op.Enter ∷ []) (enter_by false false p w)
+stored-enters p w g r y k h = let b = footing _ k in
+    grind (arith, same_is, fresh_is, read_push, length-append, readies-push, spent-push)
+
+stored-unlists : (w : World) (f : ℕ) → KeepsStored w (op.Table (table_op.LeaveTable f) ∷ []) (leave_by true w f)
+stored-unlists w f g r y k h = grind arith
+
+stored-drops : (p f : ℕ) (w : World) → KeepsStored w (op.User (user_op.BeginDrop f) ∷ []) (begin_drop p w f)
+stored-drops p f w g r y k h = grind (arith, readies-push, spent-push)
+
+stored-takes_out : (ls ws : List ℕ) (w : World) → KeepsStored w (op.Closing closing_op.TakeOut ∷ [])
+    (done (record w { table = w.leaving; leaving = w.table }) (closing_ops ls ws))
+stored-takes_out [] [] w g r y k h = grind arith
+stored-takes_out [] (x ∷ ws) w g r y k h = grind arith
+stored-takes_out (x ∷ ls) ws w g r y k h = grind arith
+
+stored-drops_next : (ls ws : List ℕ) (p : ℕ) (w : World) (f : ℕ) (rest : List ℕ) →
+    KeepsStored w (op.Closing closing_op.DropNext ∷ [])
+    (done (log (record w { leaving = rest; waking = w.waking ++ f ∷ []; inside = slice_set w.inside f false })
+    (event.Dropped p f)) (op.User (user_op.Drop f) ∷ closing_ops ls ws))
+stored-drops_next [] [] p w f rest g r y k h = grind (arith, readies-push, spent-push)
+stored-drops_next [] (x ∷ ws) p w f rest g r y k h = grind (arith, readies-push, spent-push)
+stored-drops_next (x ∷ ls) ws p w f rest g r y k h = grind (arith, readies-push, spent-push)
+
+pub stored-effect : (w : World) (old : List Op) (d : Done) → Effect w old d → KeepsStored w old d
+stored-effect w old d (passes s) g r y k h =
+    stored-passes _ _ (s g r y).passes (s g r y).handles (footing _ k) h
+stored-effect w old _ (turns d m p f v more i j n s a e) g r y k h =
+    turned-keeps Sure Stored (λ m x. stands_alone m ≡ true) stored-moved stored-loose
+    (λ x y z. sound-passes x y z.passes) (λ x y z b. stored-passes x y z.passes z.handles (footing x b)) w old d m p f v
+    more i (λ q u. j) s a e g r y k h
+stored-effect w old d (refuses f e) g r y k h = stored-refuses w f g r y k h
+stored-effect w old d (enters p e) g r y k h = stored-enters p w g r y k h
+stored-effect w old d (unlists f e) g r y k h = stored-unlists w f g r y k h
+stored-effect w old d (drops p f) g r y k h = stored-drops p f w g r y k h
+stored-effect w old d takes_out g r y k h = stored-takes_out w.table w.waking w g r y k h
+stored-effect w old d (drops_next p f rest e) g r y k h = stored-drops_next rest (w.waking ++ f ∷ []) p w f rest g r y k h
+
+stored-pends : (p f : ℕ) (w : World) → KeepsStored w (op.User (user_op.Poll f) ∷ [])
+    (done (log w (event.Answered p f answer.Pending)) (op.Table (table_op.PutBack f) ∷ []))
+stored-pends p f w g r y k h = grind (arith, same_is, readies-push, spent-push)
+
+stored-readies : (p f : ℕ) (w : World) → KeepsStored w (op.User (user_op.Poll f) ∷ [])
+    (done (log w (event.Answered p f answer.Ready)) (op.User (user_op.BeginDrop f) ∷ op.Move move.EndReady f ∷ []))
+stored-readies p f w g r y k h = let b = footing _ k in grind (arith, same_is, readies-push, spent-push)
+
+stored-closes : (p : ℕ) (w : World) → KeepsStored w []
+    (done (log (record (log w (event.CallBegun p call.DropExecutor)) { gone = true }) (event.DropBegun p))
+    (op.Closing closing_op.TakeOut ∷ op.End reply.Done hold.Nothing ∷ []))
+stored-closes p w g r y k h = grind (arith, readies-push, spent-push)
+
+-- whatever a party does
+pub stored-act : (w : World) (ss : List (List Op)) (old : List Op) (d : Done) → Effects w ss old d → KeepsStored w old d
+stored-act w ss old d (does e) g r y k h = stored-effect w old d e g r y k h
+stored-act w ss old d (pends p f) g r y k h = stored-pends p f w g r y k h
+stored-act w ss old d (readies p f) g r y k h = stored-readies p f w g r y k h
+stored-act w ss old d (closes p e u) g r y k h = stored-closes p w g r y k h

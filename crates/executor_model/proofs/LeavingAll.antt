@@ -1,0 +1,114 @@
+-- What holds of each future and its place in the table (proofs/Leaving) is kept by each effect, and so by each thing that
+-- is done.
+use Rattle.std.proofs.Common.{◌≡◌, ℕ, ◌+◌, ◌<◌, List, [], ◌∷◌, ◌++◌, length, true, false, ◌&&◌, not, refl, ap, arith}
+use Rattle.std.proofs.lemmas.List.{length-append}
+use Rattle.std.specs.Prelude.{nat_lt, slice_set}
+use Rattle.task_moves.specs.declared.moves.owed.Move.TheVariants as move
+use Rattle.executor_model.specs.declared.call.Call.TheVariants as call
+use Rattle.executor_model.specs.declared.call.Reply.{Reply}
+use Rattle.executor_model.specs.declared.call.Reply.TheVariants as reply
+use Rattle.executor_model.specs.declared.event.Answer.TheVariants as answer
+use Rattle.executor_model.specs.declared.event.Event.TheVariants as event
+use Rattle.executor_model.specs.declared.op.ClosingOp.TheVariants as closing_op
+use Rattle.executor_model.specs.declared.op.Hold.{Hold}
+use Rattle.executor_model.specs.declared.op.Hold.TheVariants as hold
+use Rattle.executor_model.specs.declared.op.Op.{Op}
+use Rattle.executor_model.specs.declared.op.Op.TheVariants as op
+use Rattle.executor_model.specs.declared.op.QueueOp.TheVariants as queue_op
+use Rattle.executor_model.specs.declared.op.TableOp.TheVariants as table_op
+use Rattle.executor_model.specs.declared.op.UserOp.TheVariants as user_op
+use Rattle.executor_model.specs.World.{World, Done, done, log, among}
+use Rattle.executor_model.specs.Acts.{append_by, begin_drop, closing_ops, enter_by, leave_by, stands_alone}
+use Rattle.executor_model.specs.Weights.{same}
+use Rattle.executor_model.specs.Sound.{Pend, times, with_ops}
+use Rattle.executor_model.proofs.Lists.{fresh_is, read_push, same_is, times-append, without_one}
+use Rattle.executor_model.proofs.Stories.{length-except, story, story-push, times-except}
+use Rattle.executor_model.proofs.Extras.{Extra, with_extra}
+use Rattle.executor_model.proofs.Leaving.{Base, Entered, Leaves, KeepsLeaves}
+use Rattle.executor_model.proofs.LeavingViews.{base-passes, entered-loose, entered-moved, entered-passes}
+use Rattle.executor_model.proofs.Views.{seen}
+use Rattle.executor_model.proofs.Passing.{goes-end}
+use Rattle.executor_model.proofs.Effects.{Effect, turned-keeps}
+use Rattle.executor_model.proofs.Effects.Effect.{passes, turns, refuses, enters, unlists, drops, takes_out, drops_next}
+
+leaves-refuses : (w : World) (f : ℕ) → w.queue.closed ≡ true →
+    KeepsLeaves w (op.Queue (queue_op.Append f) ∷ []) (append_by false w f)
+leaves-refuses w f c g r y b h = grind (arith, same_is)
+
+leaves-enters : (p : ℕ) (w : World) → (w.gone ≡ false → (g : ℕ) → length (story g w.trace).standing < w.limit) →
+    KeepsLeaves w (op.Table table_op.Enter ∷ []) (enter_by false false p w)
+leaves-enters p w l g r y b h =
+    let n : w.gone ≡ false = grind arith in
+    let z : length (story g w.trace).standing < w.limit = l n g in
+    grind (arith, same_is, fresh_is, read_push, times-append, length-append, story-push)
+
+leaves-unlists : (w : World) (f : ℕ) → among f w.table ≡ true →
+    KeepsLeaves w (op.Table (table_op.LeaveTable f) ∷ []) (leave_by true w f)
+leaves-unlists w f e g r y b h = grind (arith, same_is, without_one)
+
+leaves-drops : (p f : ℕ) (w : World) → KeepsLeaves w (op.User (user_op.BeginDrop f) ∷ []) (begin_drop p w f)
+leaves-drops p f w g r y b h = let z : _ = length-except f (story g w.trace).standing in
+    grind (arith, same_is, times-except, story-push)
+
+leaves-takes_out : (ls ws : List ℕ) (w : World) → w.table ≡ ls → KeepsLeaves w (op.Closing closing_op.TakeOut ∷ [])
+    (done (record w { table = w.leaving; leaving = w.table }) (closing_ops ls ws))
+leaves-takes_out [] [] w e g r y b h = let z : times g w.table ≡ 0 = ap (times g) e in grind arith
+leaves-takes_out [] (x ∷ ws) w e g r y b h = let z : times g w.table ≡ 0 = ap (times g) e in grind arith
+leaves-takes_out (x ∷ ls) ws w e g r y b h = grind arith
+
+leaves-drops_next : (rest ws : List ℕ) (p : ℕ) (w : World) (f : ℕ) → w.leaving ≡ f ∷ rest →
+    KeepsLeaves w (op.Closing closing_op.DropNext ∷ [])
+    (done (log (record w { leaving = rest; waking = w.waking ++ f ∷ []; inside = slice_set w.inside f false })
+    (event.Dropped p f)) (op.User (user_op.Drop f) ∷ closing_ops rest ws))
+leaves-drops_next [] [] p w f e g r y b h = let z : times g w.leaving ≡ same g f + 0 = ap (times g) e in
+    grind (arith, same_is, times-append, story-push)
+leaves-drops_next [] (x ∷ ws) p w f e g r y b h = let z : times g w.leaving ≡ same g f + 0 = ap (times g) e in
+    grind (arith, same_is, times-append, story-push)
+leaves-drops_next (x ∷ ls) ws p w f e g r y b h =
+    let z : times g w.leaving ≡ same g f + times g (x ∷ ls) = ap (times g) e in
+    grind (arith, same_is, times-append, story-push)
+
+-- what it needs beside: room for a Runnable, or a closed queue; and room for a future
+abbrev pub NeedsPlaces : World → Op → Type 0
+NeedsPlaces w (op.Queue (queue_op.Append f)) = (not w.queue.closed && nat_lt (length w.queue.items) w.limit) ≡ false →
+    w.queue.closed ≡ true
+NeedsPlaces w (op.Table table_op.Enter) = not (nat_lt (length w.table) w.limit) ≡ false → w.gone ≡ false → (g : ℕ) →
+    length (story g w.trace).standing < w.limit
+NeedsPlaces w _ = Unit {0}
+
+pub leaves-effect : (w : World) (old : List Op) (d : Done) → ((o : Op) → old ≡ o ∷ [] → NeedsPlaces w o) →
+    Effect w old d → KeepsLeaves w old d
+leaves-effect w old d n (passes s) g r y b h = entered-passes _ _ (s g r y).passes (s g r y).stays h
+leaves-effect w old _ n (turns d m p f v more i j k s a e) g r y b h =
+    turned-keeps Base Entered (λ m x. stands_alone m ≡ true) entered-moved entered-loose
+    (λ x y z. base-passes x y z.passes) (λ x y z c. entered-passes x y z.passes z.stays) w old d m p f v more i
+    (λ q u. j) s a e g r y b h
+leaves-effect w old d n (refuses f e) g r y b h = leaves-refuses w f (n (op.Queue (queue_op.Append f)) refl e) g r y b h
+leaves-effect w old d n (enters p e) g r y b h = leaves-enters p w (n (op.Table table_op.Enter) refl e) g r y b h
+leaves-effect w old d n (unlists f e) g r y b h = leaves-unlists w f e g r y b h
+leaves-effect w old d n (drops p f) g r y b h = leaves-drops p f w g r y b h
+leaves-effect w old d n takes_out g r y b h = leaves-takes_out _ _ w refl g r y b h
+leaves-effect w old d n (drops_next p f rest e) g r y b h =
+    leaves-drops_next rest (w.waking ++ f ∷ []) p w f e g r y b h
+
+-- the answers of user code
+pub leaves-pends : (p f : ℕ) (w : World) → KeepsLeaves w (op.User (user_op.Poll f) ∷ [])
+    (done (log w (event.Answered p f answer.Pending)) (op.Table (table_op.PutBack f) ∷ []))
+leaves-pends p f w g r y b h = grind (arith, same_is, story-push)
+
+pub leaves-readies : (p f : ℕ) (w : World) → KeepsLeaves w (op.User (user_op.Poll f) ∷ [])
+    (done (log w (event.Answered p f answer.Ready)) (op.User (user_op.BeginDrop f) ∷ op.Move move.EndReady f ∷ []))
+leaves-readies p f w g r y b h = grind (arith, same_is, story-push)
+
+-- the drop of the executor begins, where no call uses it
+pub leaves-closes : (p : ℕ) (w : World) (g : ℕ) (r : Pend) (y : Extra) → w.gone ≡ false → r.drops + y.leaves ≡ 0 →
+    Base (seen w g (with_ops g [] r) (with_extra g [] y)) → Leaves w g (with_ops g [] r) (with_extra g [] y) →
+    Leaves (log (record (log w (event.CallBegun p call.DropExecutor)) { gone = true }) (event.DropBegun p)) g
+    (with_ops g (op.Closing closing_op.TakeOut ∷ op.End reply.Done hold.Nothing ∷ []) r)
+    (with_extra g (op.Closing closing_op.TakeOut ∷ op.End reply.Done hold.Nothing ∷ []) y)
+leaves-closes p w g r y n z b h = grind (arith, story-push)
+
+pub leaves-end : (w : World) (p : ℕ) (a : Reply) (held : Hold) (g : ℕ) (r : Pend) (y : Extra) →
+    Leaves w g (with_ops g (op.End a held ∷ []) r) (with_extra g (op.End a held ∷ []) y) →
+    Leaves (log w (event.CallEnded p a)) g (with_ops g [] r) (with_extra g [] y)
+leaves-end w p a held g r y h = let s = goes-end p w a held g r y in entered-passes _ _ s.passes s.stays h

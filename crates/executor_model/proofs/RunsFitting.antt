@@ -206,7 +206,7 @@ grows-reschedule : (q : List ℕ) (w : World) (r : ℕ) (a : Reply) → own_of w
 grows-reschedule [] w r a e = grows-moves w (op.Run (run_op.Reschedule r a) ∷ []) _ (same-here w _ _ _ _)
     (λ h k. refl)
 grows-reschedule (f ∷ rest) w r a e =
-    grows-moves w (op.Run (run_op.Reschedule r a) ∷ []) _ (same-here w _ _ _ _) 
+    grows-moves w (op.Run (run_op.Reschedule r a) ∷ []) _ (same-here w _ _ _ _)
     (λ h k. omega (arith, pasts_in-first (length w.tasks) r f rest w.own e, h.own, k))
 
 grows-make : (b : Bool) (w : World) → Grows w (op.List (list_op.Write section.MakeRun) ∷ []) (make_run_by b w)

@@ -206,7 +206,7 @@ grows-reschedule : (q : List ℕ) (w : World) (r : ℕ) (a : Reply) → own_of w
 grows-reschedule [] w r a e = grows-moves w (op.Run (run_op.Reschedule r a) ∷ []) _ (same-here w _ _ _ _)
     (λ h k. refl)
 grows-reschedule (f ∷ rest) w r a e =
-    grows-moves w (op.Run (run_op.Reschedule r a) ∷ []) _ (same-here w _ _ _ _) 
+    grows-moves w (op.Run (run_op.Reschedule r a) ∷ []) _ (same-here w _ _ _ _)
     (λ h k. omega (arith, pasts_in-first (length w.tasks) r f rest w.own e, h.own, k))
 
 grows-make : (b : Bool) (w : World) → Grows w (op.List (list_op.Write section.MakeRun) ∷ []) (make_run_by b w)
@@ -234,7 +234,8 @@ grows-list c (list_op.Write (section.Unregister r a)) w =
 grows-list c list_op.UnlockWrite w = grows-moves w (op.List list_op.UnlockWrite ∷ []) _ (same-here w _ _ _ _)
     (λ h k. refl)
 grows-list c (list_op.LockRead x) w =
-    grows-moves w (op.List (list_op.LockRead x) ∷ []) _ (same-here w _ _ _ _) (λ h k. past-walk (length w.tasks) x (omega (arith, k)) w.listed (c.start % length w.listed) (length w.listed))
+    grows-moves w (op.List (list_op.LockRead x) ∷ []) _ (same-here w _ _ _ _)
+    (λ h k. past-walk (length w.tasks) x (omega (arith, k)) w.listed (c.start % length w.listed) (length w.listed))
 grows-list c list_op.UnlockRead w = grows-moves w (op.List list_op.UnlockRead ∷ []) _ (same-here w _ _ _ _)
     (λ h k. refl)
 

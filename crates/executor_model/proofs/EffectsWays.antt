@@ -29,7 +29,8 @@ use Rattle.executor_model.specs.Steps.{Machine, run, stack, mine, top, accepts, 
 use Rattle.executor_model.specs.Steps.{idle, is_on_executor, is_unborrowed, is_unused, start}
 use Rattle.executor_model.specs.Weights.{weigh, weigh_all}
 use Rattle.executor_model.proofs.Lists.{weigh_all-push}
-use Rattle.executor_model.proofs.Lift.{split, split-pend, push-pend, unsettled, none_refused, open_executor, unborrowed, unused}
+use Rattle.executor_model.proofs.Lift.{split, split-pend, push-pend, unsettled, none_refused, open_executor}
+use Rattle.executor_model.proofs.Lift.{unborrowed, unused}
 use Rattle.executor_model.proofs.Lift.{weigh_all-idle, good-start}
 use Rattle.executor_model.proofs.Growing.{pend-none}
 use Rattle.executor_model.proofs.Ways.{Way, along}
@@ -138,7 +139,8 @@ view-start P limit n g h = subst P
 
 -- What holds of each future at the start, and what each of these effects and the end of a call keep, holds in each run.
 module _ (P : Seen → Type 0)
-    (act : (w : World) (ss : List (List Op)) (old : List Op) (d : Done) → Effects w ss old d → (g : ℕ) (r : Pend) (y : Extra) →
+    (act : (w : World) (ss : List (List Op)) (old : List Op) (d : Done) → Effects w ss old d →
+    (g : ℕ) (r : Pend) (y : Extra) →
     Sure (seen w g (with_ops g old r) (with_extra g old y)) → P (seen w g (with_ops g old r) (with_extra g old y)) →
     P (seen d.world g (with_ops g d.next r) (with_extra g d.next y)))
     (end_kept : (w : World) (p : ℕ) (a : Reply) (held : Hold) (g : ℕ) (r : Pend) (y : Extra) →

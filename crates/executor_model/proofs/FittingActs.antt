@@ -41,10 +41,12 @@ grows-act p c (op.Move move.Cancel f) w h k = grows-moved w (not (moves.is_over 
     (moves.cancel (task w f)) h (omega (arith, k))
 grows-act p c (op.Move move.Detach f) w h k = grows-moved w (not ((task w f).completed && not (task w f).closed))
     (event.Detached p f) f (moves.detach (task w f)) h (omega (arith, k))
-grows-act p c (op.Move move.Release f) w h k = grows-carried w w f (moves.release (task w f)) refl (shaped w h) (omega (arith, k))
+grows-act p c (op.Move move.Release f) w h k =
+    grows-carried w w f (moves.release (task w f)) refl (shaped w h) (omega (arith, k))
 grows-act p c (op.Move move.SettleClosed f) w h k =
     grows-carried w w f (moves.settle_closed (task w f)) refl (shaped w h) (omega (arith, k))
-grows-act p c (op.Move move.GiveUp f) w h k = grows-carried w w f (moves.give_up (task w f)) refl (shaped w h) (omega (arith, k))
+grows-act p c (op.Move move.GiveUp f) w h k =
+    grows-carried w w f (moves.give_up (task w f)) refl (shaped w h) (omega (arith, k))
 grows-act p c (op.Move move.EndReady f) w h k =
     grows-carried w w f (moves.end_ready (task w f)) refl (shaped w h) (omega (arith, k))
 grows-act p c (op.Move move.EndPending f) w h k =

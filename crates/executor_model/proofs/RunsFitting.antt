@@ -234,7 +234,8 @@ grows-list c (list_op.Write (section.Unregister r a)) w =
 grows-list c list_op.UnlockWrite w = grows-moves w (op.List list_op.UnlockWrite ∷ []) _ (same-here w _ _ _ _)
     (λ h k. refl)
 grows-list c (list_op.LockRead x) w =
-    grows-moves w (op.List (list_op.LockRead x) ∷ []) _ (same-here w _ _ _ _) (λ h k. past-walk (length w.tasks) x (omega (arith, k)) w.listed (c.start % length w.listed) (length w.listed))
+    grows-moves w (op.List (list_op.LockRead x) ∷ []) _ (same-here w _ _ _ _)
+    (λ h k. past-walk (length w.tasks) x (omega (arith, k)) w.listed (c.start % length w.listed) (length w.listed))
 grows-list c list_op.UnlockRead w = grows-moves w (op.List list_op.UnlockRead ∷ []) _ (same-here w _ _ _ _)
     (λ h k. refl)
 

@@ -37,19 +37,7 @@ where
     if let Some(line) = first_not_whole(script.commands.as_slice()) {
         return Err(PlayError::NotWhole(line));
     }
-    if script.limit == 0 {
-        return Err(PlayError::NoMemory);
-    }
-    let stage = Stage::new(alloc)?;
-    play_in::<F, H, K, R>(
-        rt,
-        alloc,
-        realm,
-        &stage,
-        script.limit as usize,
-        script.commands.as_slice(),
-    );
-    Ok(stage.take_text()?)
+    play_commands::<F, H, K, R>(rt, alloc, realm, script.limit, script.commands.as_slice())
 }
 
 /// The number of the first line that is no whole call.
@@ -73,6 +61,28 @@ fn whole(command: &Command) -> Option<&Plain> {
         ) => Some(plain),
         _ => None,
     }
+}
+
+/// Plays the commands on a new executor of so many places, and gives the text of what happens.
+fn play_commands<F, H, K, R>(
+    rt: R,
+    alloc: Global,
+    realm: &'static ScriptRealm<R>,
+    limit: u64,
+    commands: &[Command],
+) -> Result<Vec<u8>, PlayError>
+where
+    F: Planned<H, R>,
+    H: HoldIn<R>,
+    K: KeepIn<R>,
+    R: Wait + Copy + Drop + 'static,
+{
+    if limit == 0 {
+        return Err(PlayError::NoMemory);
+    }
+    let stage = Stage::new(alloc)?;
+    play_in::<F, H, K, R>(rt, alloc, realm, &stage, limit as usize, commands);
+    Ok(stage.take_text()?)
 }
 
 /// Plays the commands on a new executor in a realm.

@@ -4,7 +4,7 @@ use crate::future::{Planned, Scripted};
 use crate::handle::{Held, HoldIn};
 use crate::outside::{Bell, Gift};
 use crate::own::Own;
-use crate::seat::Seat;
+use crate::seat::SitOn;
 use crate::shelf::SharedShelf;
 use async_executor::{Executor, SpawnError};
 use script::{Item, Name};
@@ -56,10 +56,11 @@ where
     pub shelf: SharedShelf,
 }
 
-impl<'a, F, H, R> Desk<H, Seat<'a, F, H, R>> for OnExecutor<'a, F, R>
+impl<'a, F, H, R, S> Desk<H, S> for OnExecutor<'a, F, R>
 where
     F: Planned<H, R>,
     H: HoldIn<R>,
+    S: SitOn<'a, F, H, R>,
     R: Wait + Copy + Drop + 'static,
 {
     fn spawn(&self, plan: Plan<H>) -> Result<H, Refused<H>> {
@@ -90,18 +91,18 @@ where
         self.executor.is_empty()
     }
 
-    fn tick(&self) -> Option<Seat<'a, F, H, R>> {
+    fn tick(&self) -> Option<S> {
         let executor = self.executor;
         match executor.tick() {
-            Ok(tick) => Some(Seat::Tick(tick)),
+            Ok(tick) => Some(S::of_tick(tick)),
             Err(_) => None,
         }
     }
 
-    fn run(&self, own: Own<H>) -> Result<Seat<'a, F, H, R>, Own<H>> {
+    fn run(&self, own: Own<H>) -> Result<S, Own<H>> {
         let executor = self.executor;
         match executor.run(own) {
-            Ok(run) => Ok(Seat::Run(run)),
+            Ok(run) => Ok(S::of_run(run)),
             Err(own) => Err(own),
         }
     }

@@ -16,6 +16,18 @@ pub trait Sit: Drop {
     fn poll_by(&mut self, bell: Bell) -> Answer;
 }
 
+/// The same, as it comes from an executor.
+pub trait SitOn<'a, F, H, R>: Sit
+where
+    F: Drop,
+    H: Drop,
+    R: Wait + Copy + Drop + 'static,
+{
+    fn of_tick(tick: Tick<'a, F, Gift, Bell, R>) -> Self;
+
+    fn of_run(run: Run<'a, F, Gift, Bell, R, Own<H>>) -> Self;
+}
+
 /// A tick or run.
 #[derive(Drop)]
 pub enum Seat<'a, F, H, R>
@@ -26,6 +38,21 @@ where
 {
     Tick(Tick<'a, F, Gift, Bell, R>),
     Run(Run<'a, F, Gift, Bell, R, Own<H>>),
+}
+
+impl<'a, F, H, R> SitOn<'a, F, H, R> for Seat<'a, F, H, R>
+where
+    F: Planned<H, R>,
+    H: HoldIn<R>,
+    R: Wait + Copy + Drop + 'static,
+{
+    fn of_tick(tick: Tick<'a, F, Gift, Bell, R>) -> Self {
+        Seat::Tick(tick)
+    }
+
+    fn of_run(run: Run<'a, F, Gift, Bell, R, Own<H>>) -> Self {
+        Seat::Run(run)
+    }
 }
 
 impl<F, H, R> Sit for Seat<'_, F, H, R>

@@ -7,14 +7,14 @@ use crate::errors::PlayError;
 use crate::future::Planned;
 use crate::handle::{Hold, HoldIn};
 use crate::outside::ScriptRealm;
-use crate::player::{Named, Player};
-use crate::seat::{Seat, Sit};
+use crate::player::Player;
+use crate::seat::{ScriptRun, ScriptTick, SitRun, SitTick};
 use crate::shelf::{Keep, KeepIn, SharedShelf, Shelf};
+use crate::sitting::Seats;
 use crate::stage::{Shared, Stage};
 use async_executor::Executor;
 use script::{Command, Plain, Request, Word, parse};
 use std::alloc::Global;
-use std::collections::BTreeMap;
 use std::rc::Rc;
 use std::sync::Wait;
 
@@ -165,20 +165,23 @@ where
     R: Wait + Copy + Drop + 'static,
 {
     let desk = OnExecutor { executor, shelf };
-    play_on::<OnExecutor<'a, F, R>, Seat<'a, F, H, R>, H, K>(player, &desk, commands)
+    play_on::<OnExecutor<'a, F, R>, ScriptTick<'a, F, R>, ScriptRun<'a, F, H, R>, H, K>(
+        player, &desk, commands,
+    )
 }
 
-fn play_on<D, S, H, K>(player: &mut Player<H, K>, desk: &D, commands: &[Command]) -> usize
+fn play_on<D, T, N, H, K>(player: &mut Player<H, K>, desk: &D, commands: &[Command]) -> usize
 where
-    D: Desk<H, S>,
-    S: Sit,
+    D: Desk<H>,
+    T: SitTick<D>,
+    N: SitRun<D, H>,
     H: Hold,
     K: Keep,
 {
-    let mut seats: Named<S> = BTreeMap::new(player.alloc);
+    let mut seats: Seats<T, N> = Seats::new(player.alloc);
     for (place, command) in commands.iter().enumerate() {
         if let Some(plain) = whole(command) {
-            if is_end(plain) && seats.is_empty() {
+            if is_end(plain) && seats.are_free() {
                 return place;
             }
             let answer = player.call(desk, &mut seats, plain);

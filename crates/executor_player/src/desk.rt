@@ -3,8 +3,6 @@ use crate::answer::Answer;
 use crate::future::{Planned, Scripted};
 use crate::handle::{Held, HoldIn};
 use crate::outside::{Bell, Gift};
-use crate::own::Own;
-use crate::seat::Seat;
 use crate::shelf::SharedShelf;
 use async_executor::{Executor, SpawnError};
 use script::{Item, Name};
@@ -30,19 +28,13 @@ pub struct Refused<H: Drop> {
     pub held: Vec<Held<H>>,
 }
 
-/// An executor whose handles are `H` and whose ticks and runs are `S`, as a player sees it.
-pub trait Desk<H: Drop, S> {
+/// An executor whose handles are `H`, as a player sees it.
+pub trait Desk<H: Drop> {
     fn spawn(&self, plan: Plan<H>) -> Result<H, Refused<H>>;
 
     fn try_tick(&self) -> bool;
 
     fn is_empty(&self) -> bool;
-
-    /// A new tick, where there is memory for it.
-    fn tick(&self) -> Option<S>;
-
-    /// A new run. For want of memory its future comes back.
-    fn run(&self, own: Own<H>) -> Result<S, Own<H>>;
 }
 
 /// An executor of a script, and where the wakers of its futures are kept.
@@ -56,7 +48,7 @@ where
     pub shelf: SharedShelf,
 }
 
-impl<'a, F, H, R> Desk<H, Seat<'a, F, H, R>> for OnExecutor<'a, F, R>
+impl<F, H, R> Desk<H> for OnExecutor<'_, F, R>
 where
     F: Planned<H, R>,
     H: HoldIn<R>,
@@ -88,22 +80,6 @@ where
 
     fn is_empty(&self) -> bool {
         self.executor.is_empty()
-    }
-
-    fn tick(&self) -> Option<Seat<'a, F, H, R>> {
-        let executor = self.executor;
-        match executor.tick() {
-            Ok(tick) => Some(Seat::Tick(tick)),
-            Err(_) => None,
-        }
-    }
-
-    fn run(&self, own: Own<H>) -> Result<Seat<'a, F, H, R>, Own<H>> {
-        let executor = self.executor;
-        match executor.run(own) {
-            Ok(run) => Ok(Seat::Run(run)),
-            Err(own) => Err(own),
-        }
     }
 }
 

@@ -7,14 +7,14 @@ use crate::errors::PlayError;
 use crate::future::Planned;
 use crate::handle::{Hold, HoldIn};
 use crate::outside::ScriptRealm;
-use crate::player::{Named, Player};
-use crate::seat::{Seat, Sit};
+use crate::player::Player;
+use crate::seat::{ScriptRun, ScriptTick, SitRun, SitTick};
 use crate::shelf::{Keep, KeepIn, SharedShelf, Shelf};
+use crate::sitting::Seats;
 use crate::stage::{Shared, Stage};
 use async_executor::Executor;
 use script::{Command, Plain, Request, Word, parse};
 use std::alloc::Global;
-use std::collections::BTreeMap;
 use std::rc::Rc;
 use std::sync::Wait;
 
@@ -37,19 +37,7 @@ where
     if let Some(line) = first_not_whole(script.commands.as_slice()) {
         return Err(PlayError::NotWhole(line));
     }
-    if script.limit == 0 {
-        return Err(PlayError::NoMemory);
-    }
-    let stage = Stage::new(alloc)?;
-    play_in::<F, H, K, R>(
-        rt,
-        alloc,
-        realm,
-        &stage,
-        script.limit as usize,
-        script.commands.as_slice(),
-    );
-    Ok(stage.take_text()?)
+    play_commands::<F, H, K, R>(rt, alloc, realm, script.limit, script.commands.as_slice())
 }
 
 /// The number of the first line that is no whole call.
@@ -73,6 +61,28 @@ fn whole(command: &Command) -> Option<&Plain> {
         ) => Some(plain),
         _ => None,
     }
+}
+
+/// Plays the commands on a new executor of so many places, and gives the text of what happens.
+fn play_commands<F, H, K, R>(
+    rt: R,
+    alloc: Global,
+    realm: &'static ScriptRealm<R>,
+    limit: u64,
+    commands: &[Command],
+) -> Result<Vec<u8>, PlayError>
+where
+    F: Planned<H, R>,
+    H: HoldIn<R>,
+    K: KeepIn<R>,
+    R: Wait + Copy + Drop + 'static,
+{
+    if limit == 0 {
+        return Err(PlayError::NoMemory);
+    }
+    let stage = Stage::new(alloc)?;
+    play_in::<F, H, K, R>(rt, alloc, realm, &stage, limit as usize, commands);
+    Ok(stage.take_text()?)
 }
 
 /// Plays the commands on a new executor in a realm.
@@ -155,20 +165,23 @@ where
     R: Wait + Copy + Drop + 'static,
 {
     let desk = OnExecutor { executor, shelf };
-    play_on::<OnExecutor<'a, F, R>, Seat<'a, F, H, R>, H, K>(player, &desk, commands)
+    play_on::<OnExecutor<'a, F, R>, ScriptTick<'a, F, R>, ScriptRun<'a, F, H, R>, H, K>(
+        player, &desk, commands,
+    )
 }
 
-fn play_on<D, S, H, K>(player: &mut Player<H, K>, desk: &D, commands: &[Command]) -> usize
+fn play_on<D, T, N, H, K>(player: &mut Player<H, K>, desk: &D, commands: &[Command]) -> usize
 where
-    D: Desk<H, S>,
-    S: Sit,
+    D: Desk<H>,
+    T: SitTick<D>,
+    N: SitRun<D, H>,
     H: Hold,
     K: Keep,
 {
-    let mut seats: Named<S> = BTreeMap::new(player.alloc);
+    let mut seats: Seats<T, N> = Seats::new(player.alloc);
     for (place, command) in commands.iter().enumerate() {
         if let Some(plain) = whole(command) {
-            if is_end(plain) && seats.is_empty() {
+            if is_end(plain) && seats.are_free() {
                 return place;
             }
             let answer = player.call(desk, &mut seats, plain);

@@ -1,8 +1,9 @@
 //! The ticks and runs of a script.
 use crate::answer::Answer;
+use crate::desk::OnExecutor;
 use crate::future::Planned;
 use crate::handle::HoldIn;
-use crate::outside::{Bell, Gift};
+use crate::outside::{Bell, Gift, ScriptWaker};
 use crate::own::Own;
 use async_executor::{Run, RunError, Tick};
 use async_task::{Awaiter, Future, NoMemory, Poll};
@@ -10,42 +11,74 @@ use std::sync::Wait;
 
 /// A tick or run, as a player sees it.
 pub trait Sit: Drop {
-    fn is_tick(&self) -> bool;
-
     /// Polls it by an outside waker.
     fn poll_by(&mut self, bell: Bell) -> Answer;
 }
 
-/// A tick or run.
-#[derive(Drop)]
-pub enum Seat<'a, F, H, R>
-where
-    F: Drop,
-    H: Drop,
-    R: Wait + Copy + Drop + 'static,
-{
-    Tick(Tick<'a, F, Gift, Bell, R>),
-    Run(Run<'a, F, Gift, Bell, R, Own<H>>),
+/// A tick of the executor of a desk.
+pub trait SitTick<D>: Sit {
+    /// A new one, where there is memory for it.
+    fn at(desk: &D) -> Option<Self>;
 }
 
-impl<F, H, R> Sit for Seat<'_, F, H, R>
+/// A run of the executor of a desk, whose futures' handles are `H`.
+pub trait SitRun<D, H: Drop>: Sit {
+    /// A new one. For want of memory its own future comes back.
+    fn at(desk: &D, own: Own<H>) -> Result<Self, Own<H>>;
+}
+
+/// A tick of a script.
+pub type ScriptTick<'a, F, R> = Tick<'a, F, Gift, Bell, R>;
+
+/// A run of a script.
+pub type ScriptRun<'a, F, H, R> = Run<'a, F, Gift, Bell, R, Own<H>>;
+
+impl<F, R> Sit for ScriptTick<'_, F, R>
+where
+    F: Future<ScriptWaker<R>, Output = Gift> + Drop,
+    R: Wait + Copy + Drop + 'static,
+{
+    fn poll_by(&mut self, bell: Bell) -> Answer {
+        answer_of_tick(self.poll(&Awaiter::Outside(bell)))
+    }
+}
+
+impl<'a, F, R> SitTick<OnExecutor<'a, F, R>> for ScriptTick<'a, F, R>
+where
+    F: Future<ScriptWaker<R>, Output = Gift> + Drop,
+    R: Wait + Copy + Drop + 'static,
+{
+    fn at(desk: &OnExecutor<'a, F, R>) -> Option<Self> {
+        let executor = desk.executor;
+        match executor.tick() {
+            Ok(tick) => Some(tick),
+            Err(_) => None,
+        }
+    }
+}
+
+impl<F, H, R> Sit for ScriptRun<'_, F, H, R>
 where
     F: Planned<H, R>,
     H: HoldIn<R>,
     R: Wait + Copy + Drop + 'static,
 {
-    fn is_tick(&self) -> bool {
-        match self {
-            Seat::Tick(_) => true,
-            Seat::Run(_) => false,
-        }
-    }
-
     fn poll_by(&mut self, bell: Bell) -> Answer {
-        let waker = Awaiter::Outside(bell);
-        match self {
-            Seat::Tick(tick) => answer_of_tick(tick.poll(&waker)),
-            Seat::Run(run) => answer_of_run(run.poll(&waker)),
+        answer_of_run(self.poll(&Awaiter::Outside(bell)))
+    }
+}
+
+impl<'a, F, H, R> SitRun<OnExecutor<'a, F, R>, H> for ScriptRun<'a, F, H, R>
+where
+    F: Planned<H, R>,
+    H: HoldIn<R>,
+    R: Wait + Copy + Drop + 'static,
+{
+    fn at(desk: &OnExecutor<'a, F, R>, own: Own<H>) -> Result<Self, Own<H>> {
+        let executor = desk.executor;
+        match executor.run(own) {
+            Ok(run) => Ok(run),
+            Err(own) => Err(own),
         }
     }
 }

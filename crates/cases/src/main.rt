@@ -21,11 +21,20 @@ use task_player::{Kept, PlaysTasks, TaskPlayer, Tasks};
 use verdict::judged;
 
 fn main(rt: HostRuntime) -> ExitCode {
-    let ended = match Tasks::leak(rt, rt.alloc()) {
-        Ok(realm) => run(
-            rt,
-            &mut TaskPlayer::new(rt, rt.alloc(), realm, Kept::new(rt.alloc())),
-        ),
+    let alloc = rt.alloc();
+    let ended = match Tasks::leak(rt, alloc) {
+        Ok(realm) => {
+            let kept = Kept::new(alloc);
+            run(
+                rt,
+                &mut TaskPlayer {
+                    rt,
+                    alloc,
+                    realm,
+                    kept,
+                },
+            )
+        }
         Err(error) => Err(Fault::from(error)),
     };
     match ended {

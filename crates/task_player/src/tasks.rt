@@ -17,25 +17,14 @@ pub trait PlaysTasks {
     fn play(&mut self, script: &[u8]) -> Result<Vec<u8>, PlayError>;
 }
 
-/// Plays scripts on tasks that lie in a realm, and keeps their handles there.
+/// Plays scripts on tasks that lie in a realm, and keeps their handles in `kept`. A program writes it as a struct where it has its
+/// `rt`: no call that takes both `'static` realm and `kept` gets a proof.
 #[derive(Drop)]
 pub struct TaskPlayer<R: Wait + Copy + Drop + 'static, K> {
-    rt: R,
-    alloc: Global,
-    realm: &'static Tasks<R>,
-    kept: K,
-}
-
-impl<R: Wait + Copy + Drop + 'static, K: Drop> TaskPlayer<R, K> {
-    /// A player whose tasks lie in this realm, and that keeps their handles here.
-    pub fn new(rt: R, alloc: Global, realm: &'static Tasks<R>, kept: K) -> TaskPlayer<R, K> {
-        TaskPlayer {
-            rt,
-            alloc,
-            realm,
-            kept,
-        }
-    }
+    pub rt: R,
+    pub alloc: Global,
+    pub realm: &'static Tasks<R>,
+    pub kept: K,
 }
 
 impl<R, K> PlaysTasks for TaskPlayer<R, K>

@@ -81,9 +81,9 @@ impl Family {
         script: &[u8],
     ) -> Result<Shown, AllocError>
     where
-        E: Plays<R>,
-        T: PlaysTasks<R>,
-        R: AllocGlobal + Wait + Copy + Drop + 'static,
+        E: Plays,
+        T: PlaysTasks,
+        R: AllocGlobal + Wait + Copy + Drop,
     {
         match self {
             Family::Machine => machine(rt.alloc(), script),

@@ -16,22 +16,32 @@ use family::Family;
 use fault::Fault;
 use players::Players;
 use std::alloc::AllocGlobal;
+use std::marker::PhantomData;
 use std::process::ExitCode;
 use std::rt::{Env, Files};
 use std::sync::Wait;
 use std::{env, fs};
-use task_player::{PlaysTasks, TaskPlayer, Tasks};
+use task_player::{Kept, PlaysTasks, TaskPlayer, Tasks};
 use verdict::judged;
 
 fn main(rt: HostRuntime) -> ExitCode {
-    // Generic code that makes a realm and works on it gets no proof, so realms are made here.
-    let executors = ScriptRealm::<HostRuntime>::leak(rt, rt.alloc());
-    let tasks = Tasks::<HostRuntime>::leak(rt, rt.alloc());
-    let ended = match (executors, tasks) {
+    // What holds types of tasks beside a realm is written as a struct, here where `rt` is known: no call makes it with a proof.
+    let alloc = rt.alloc();
+    let ended = match (ScriptRealm::leak(rt, alloc), Tasks::leak(rt, alloc)) {
         (Ok(executors), Ok(tasks)) => {
-            run::<ExecutorPlayer<HostRuntime>, TaskPlayer<HostRuntime>, HostRuntime>(
-                rt, executors, tasks,
-            )
+            let executors: ExecutorPlayer<HostRuntime> = ExecutorPlayer {
+                rt,
+                alloc,
+                realm: executors,
+                kinds: PhantomData,
+            };
+            let tasks = TaskPlayer {
+                rt,
+                alloc,
+                realm: tasks,
+                kept: Kept::new(alloc),
+            };
+            run(rt, &mut Players { executors, tasks })
         }
         (Err(error), _) | (_, Err(error)) => Err(Fault::from(error)),
     };
@@ -45,26 +55,18 @@ fn main(rt: HostRuntime) -> ExitCode {
     }
 }
 
-/// Does what the arguments ask. Scripts of executors are played by an `E`, and those of tasks by a `T`, each in its realm.
-fn run<E, T, R>(
-    rt: R,
-    executors: &'static ScriptRealm<R>,
-    tasks: &'static Tasks<R>,
-) -> Result<(), Fault>
+/// Does what the arguments ask.
+fn run<E, T, R>(rt: R, players: &mut Players<E, T>) -> Result<(), Fault>
 where
-    E: Plays<R> + Drop,
-    T: PlaysTasks<R> + Drop,
-    R: AllocGlobal + Env + Files + Print + Wait + Copy + Drop + 'static,
+    E: Plays,
+    T: PlaysTasks,
+    R: AllocGlobal + Env + Files + Print + Wait + Copy + Drop,
 {
     let words: Vec<String> = env::args(&rt)?.skip(1).collect(rt.alloc())?;
-    let mut players = Players {
-        executors: E::at(rt, rt.alloc(), executors),
-        tasks: T::at(rt, rt.alloc(), tasks),
-    };
     match words.as_slice() {
-        [] => play_all(rt, &mut players),
+        [] => play_all(rt, players),
         [family, file] => match Family::named(family.as_str()) {
-            Some(family) => play_files(rt, &mut players, family, &[file.as_str()]),
+            Some(family) => play_files(rt, players, family, &[file.as_str()]),
             None => Err(Fault::Usage),
         },
         _ => Err(Fault::Usage),
@@ -74,9 +76,9 @@ where
 /// Plays each family's scripts, and those of which one has a wrong line.
 fn play_all<E, T, R>(rt: R, players: &mut Players<E, T>) -> Result<(), Fault>
 where
-    E: Plays<R>,
-    T: PlaysTasks<R>,
-    R: AllocGlobal + Files + Print + Wait + Copy + Drop + 'static,
+    E: Plays,
+    T: PlaysTasks,
+    R: AllocGlobal + Files + Print + Wait + Copy + Drop,
 {
     let mut ended = Ok(());
     for family in Family::ALL {
@@ -106,9 +108,9 @@ fn play_files<E, T, R>(
     files: &[&str],
 ) -> Result<(), Fault>
 where
-    E: Plays<R>,
-    T: PlaysTasks<R>,
-    R: AllocGlobal + Files + Print + Wait + Copy + Drop + 'static,
+    E: Plays,
+    T: PlaysTasks,
+    R: AllocGlobal + Files + Print + Wait + Copy + Drop,
 {
     let mut scripts = String::new(rt.alloc());
     for file in files {

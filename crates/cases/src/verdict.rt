@@ -38,9 +38,9 @@ pub fn judged<'a, E, T, R>(
     text: &'a str,
 ) -> Result<Verdict<'a>, Fault>
 where
-    E: Plays<R>,
-    T: PlaysTasks<R>,
-    R: AllocGlobal + Wait + Copy + Drop + 'static,
+    E: Plays,
+    T: PlaysTasks,
+    R: AllocGlobal + Wait + Copy + Drop,
 {
     let mut verdict = Verdict {
         agreed: 0,

@@ -11,48 +11,33 @@ use std::marker::PhantomData;
 use std::sync::Wait;
 
 /// Where scripts are played, each on an executor of its own.
-pub trait Plays<R: Wait + Copy + Drop + 'static> {
-    /// The tasks of all its scripts lie in this realm.
-    fn at(rt: R, alloc: Global, realm: &'static ScriptRealm<R>) -> Self;
-
+pub trait Plays {
     /// Plays a script of `taskrun sim` on an executor of its own, and gives the text of what happens: that of the simulator. It
     /// takes whole calls of one party; `begin`, `go`, `finish` and `refuse` are `NotWhole`. Before anything is played the first
     /// bad line is refused, and then the first that isn't whole.
     fn play(&self, script: &[u8]) -> Result<Vec<u8>, PlayError>;
 }
 
-/// Where the futures of scripts are `F`, their handles `H`, and who keeps their wakers `K`.
+/// Where the futures of scripts are `F`, their handles `H`, and who keeps their wakers `K`. The tasks of all scripts lie in the
+/// realm. A program writes it as a struct where it has its `rt`: no call that takes the realm beside such types gets a proof.
 #[derive(Drop)]
 pub struct Theatre<F, H, K, R: Wait + Copy + Drop + 'static> {
-    rt: R,
-    alloc: Global,
-    realm: &'static ScriptRealm<R>,
-    futures: PhantomData<F>,
-    handles: PhantomData<H>,
-    keepers: PhantomData<K>,
+    pub rt: R,
+    pub alloc: Global,
+    pub realm: &'static ScriptRealm<R>,
+    pub kinds: PhantomData<(F, H, K)>,
 }
 
 /// The one that a program names.
 pub type ExecutorPlayer<R> = Theatre<Scripted<Handle<R>>, Handle<R>, Keeper<R>, R>;
 
-impl<F, H, K, R> Plays<R> for Theatre<F, H, K, R>
+impl<F, H, K, R> Plays for Theatre<F, H, K, R>
 where
     F: Planned<H, R>,
     H: HoldIn<R>,
     K: KeepIn<R>,
     R: Wait + Copy + Drop + 'static,
 {
-    fn at(rt: R, alloc: Global, realm: &'static ScriptRealm<R>) -> Self {
-        Theatre {
-            rt,
-            alloc,
-            realm,
-            futures: PhantomData,
-            handles: PhantomData,
-            keepers: PhantomData,
-        }
-    }
-
     fn play(&self, script: &[u8]) -> Result<Vec<u8>, PlayError> {
         play_script::<F, H, K, R>(self.rt, self.alloc, self.realm, script)
     }

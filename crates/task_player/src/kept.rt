@@ -4,9 +4,6 @@ use std::alloc::{AllocError, Global};
 /// Where a player keeps handles `H` by number, and open runs `O`, of which the last is the innermost. A player is written for
 /// any such place, and is given one where its runtime value is known.
 pub trait Keeps<H, O> {
-    /// Keeps nothing yet.
-    fn new(alloc: Global) -> Self;
-
     /// Takes the handle of this number out.
     fn take(&mut self, number: usize) -> Option<H>;
 
@@ -30,14 +27,17 @@ pub struct Kept<H, O> {
     open: Vec<O>,
 }
 
-impl<H: Drop, O: Drop> Keeps<H, O> for Kept<H, O> {
-    fn new(alloc: Global) -> Kept<H, O> {
+impl<H: Drop, O: Drop> Kept<H, O> {
+    /// Keeps nothing yet.
+    pub fn new(alloc: Global) -> Kept<H, O> {
         Kept {
             handles: Vec::new(alloc),
             open: Vec::new(alloc),
         }
     }
+}
 
+impl<H: Drop, O: Drop> Keeps<H, O> for Kept<H, O> {
     fn take(&mut self, number: usize) -> Option<H> {
         match self.handles.get_mut(number) {
             Some(place) => place.take(),

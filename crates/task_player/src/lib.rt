@@ -23,4 +23,4 @@ pub use kept::{Keeps, Kept};
 pub use local::play_local;
 pub use runs::OpenRun;
 pub use stage::Tasks;
-pub use tasks::{KeepingPlayer, PlaysTasks, TaskPlayer};
+pub use tasks::{PlaysTasks, TaskPlayer};

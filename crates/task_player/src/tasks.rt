@@ -1,7 +1,7 @@
 //! What plays whole scripts.
 use crate::error::PlayError;
 use crate::handle::Handle;
-use crate::kept::{Keeps, Kept};
+use crate::kept::Keeps;
 use crate::parser::{Script, parse};
 use crate::player::Player;
 use crate::runs::OpenRun;
@@ -11,41 +11,27 @@ use std::alloc::Global;
 use std::sync::Wait;
 
 /// Plays scripts of calls on tasks.
-pub trait PlaysTasks<R: Wait + Copy + Drop + 'static> {
-    /// A player whose tasks lie in this realm.
-    fn at(rt: R, alloc: Global, realm: &'static Tasks<R>) -> Self;
-
+pub trait PlaysTasks {
     /// What a script shows. The errors are `BadLine` with the first bad line, in which case nothing was played, and
     /// `NoMemory`. It takes memory.
     fn play(&mut self, script: &[u8]) -> Result<Vec<u8>, PlayError>;
 }
 
-/// Plays scripts on tasks that lie in a realm, and keeps their handles in a `K`.
+/// Plays scripts on tasks that lie in a realm, and keeps their handles in `kept`. A program writes it as a struct where it has its
+/// `rt`: no call that takes both `'static` realm and `kept` gets a proof.
 #[derive(Drop)]
-pub struct KeepingPlayer<K, R: Wait + Copy + Drop + 'static> {
-    rt: R,
-    alloc: Global,
-    realm: &'static Tasks<R>,
-    kept: K,
+pub struct TaskPlayer<R: Wait + Copy + Drop + 'static, K> {
+    pub rt: R,
+    pub alloc: Global,
+    pub realm: &'static Tasks<R>,
+    pub kept: K,
 }
 
-/// The one that a program names.
-pub type TaskPlayer<R> = KeepingPlayer<Kept<Handle<R>, OpenRun<R>>, R>;
-
-impl<K, R> PlaysTasks<R> for KeepingPlayer<K, R>
+impl<R, K> PlaysTasks for TaskPlayer<R, K>
 where
     R: Wait + Copy + Drop + 'static,
     K: Keeps<Handle<R>, OpenRun<R>>,
 {
-    fn at(rt: R, alloc: Global, realm: &'static Tasks<R>) -> Self {
-        KeepingPlayer {
-            rt,
-            alloc,
-            realm,
-            kept: K::new(alloc),
-        }
-    }
-
     fn play(&mut self, script: &[u8]) -> Result<Vec<u8>, PlayError> {
         let Script { names, commands } = parse(self.alloc, script)?;
         let scene = Scene::new(self.alloc, names)?;

@@ -3,8 +3,6 @@
 #![tactic(auto)]
 
 #[cfg(test)]
-mod places;
-#[cfg(test)]
 mod refusals;
 #[cfg(test)]
 mod rows;

@@ -1,7 +1,7 @@
 //! What a script can't say: each refusal but the machine's own want of memory, with the state unchanged; copies of wakers
 //! and wakes by value; a tick that a task polls by its own waker; and a later request for memory that is refused.
 use crate::rows::Row::{
-    self, Answered, Begins, Ends, Goes, GoesRefused, Makes, New, Refused, Stands, Unanswered, Waits,
+    self, Answered, Begins, Ends, Goes, GoesRefused, Makes, New, Refused, Stands, Unanswered,
 };
 use crate::rows::{DONE, PENDING, READY, plays};
 use executor_model::Call::{
@@ -89,10 +89,8 @@ const ROWS: &[Row] = &[
     Begins(0, POLL_RUN),
     Goes(0, 1),
     Begins(1, Call::PollRun(1, OUTSIDE)),
-    Waits(1, true),
     Stands(1, StepError::Waits),
     Ends(0, &[PENDING], Reply::Pending),
-    Waits(1, false),
     Ends(1, &[PENDING], Reply::Pending),
     New, // of a new run's requests the first and the last are refused; its second step makes none
     Begins(0, NewRun),

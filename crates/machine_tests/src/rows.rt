@@ -32,8 +32,6 @@ pub enum Row {
     Stands(u32, StepError),
     /// Its user code can't end in this way.
     Unanswered(u32, UserEnd, StepError),
-    /// Whether it waits for the lock of the list of queues.
-    Waits(u32, bool),
 }
 
 fn go(party: u32, refused: bool) -> Step {
@@ -104,7 +102,6 @@ fn is_met(machine: &mut Machine, row: Row) -> bool {
         Row::Unanswered(party, end, error) => {
             is_refused(machine, Step::Answer { party, end }, error)
         }
-        Row::Waits(party, waits) => machine.waits(party) == waits,
     }
 }
 

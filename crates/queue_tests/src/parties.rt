@@ -1,6 +1,6 @@
 //! Parties that play their roles on one queue, each in a thread of its own, and how what they did adds up. One that goes
 //! round more than `MOST_TURNS` times fails its test.
-use crate::words::{holds, same};
+use crate::words::{holds, queue_of, same};
 use concurrent_queue::{ConcurrentQueue, ForcePushError, PopError, PushError};
 use std::alloc::AllocGlobal;
 use std::process::Abort;
@@ -84,87 +84,87 @@ fn gives_no_more<R: Wait + Abort>(rt: &R, queue: &ConcurrentQueue<u64>) {
     }
 }
 
-fn push<R: Wait + Abort>(rt: &R, game: &Game, part: &mut Part, most: u64) {
-    for _ in 0..MOST_TURNS {
-        if part.accepted == most {
-            return;
-        }
-        match game.queue.push(rt, part.next()) {
-            Ok(()) => part.accept(game),
-            Err(refused) => {
-                if refused.is_closed() {
-                    same(rt, refused.into_inner(), part.next());
-                    return refuses(rt, &game.queue);
-                }
-                holds(rt, refused.is_full());
-                thread::yield_now();
-            }
+// Pushes the next number, and says whether the queue was seen closed.
+fn push<R: Wait + Abort>(rt: &R, game: &Game, part: &mut Part) -> bool {
+    match game.queue.push(rt, part.next()) {
+        Ok(()) => part.accept(game),
+        Err(refused) if refused.is_full() => thread::yield_now(),
+        Err(refused) => {
+            same(rt, refused, PushError::Closed(part.next()));
+            refuses(rt, &game.queue);
+            return true;
         }
     }
-    panic!(rt; "no room, and not closed");
+    false
 }
 
-fn pop<R: Wait + Abort>(rt: &R, game: &Game, part: &mut Part, most: u64) {
-    for _ in 0..MOST_TURNS {
-        if part.taken.len() as u64 == most {
-            return;
-        }
-        match game.queue.pop(rt) {
-            Ok(number) => part.take(rt, number),
-            Err(none) if none.is_empty() => thread::yield_now(),
-            Err(_) => return gives_no_more(rt, &game.queue),
+// Takes a number out, and says whether the queue was seen closed.
+fn pop<R: Wait + Abort>(rt: &R, game: &Game, part: &mut Part) -> bool {
+    match game.queue.pop(rt) {
+        Ok(number) => part.take(rt, number),
+        Err(PopError::Empty) => thread::yield_now(),
+        Err(PopError::Closed) => {
+            gives_no_more(rt, &game.queue);
+            return true;
         }
     }
-    panic!(rt; "no item, and not closed");
+    false
+}
+
+// Pushes the next number by force, and says whether the queue was seen closed.
+fn force<R: Wait + Abort>(rt: &R, game: &Game, part: &mut Part) -> bool {
+    match game.queue.force_push(rt, part.next()) {
+        Ok(displaced) => {
+            if let Some(number) = displaced {
+                part.take(rt, number);
+            }
+            part.accept(game);
+            false
+        }
+        Err(refused) => {
+            same(rt, refused, ForcePushError::Closed(part.next()));
+            refuses(rt, &game.queue);
+            true
+        }
+    }
 }
 
 fn push_and_take<R: Wait + Abort>(rt: &R, game: &Game, part: &mut Part, by_force: bool) {
-    for _ in 0..ROUNDS {
-        let displaced = if by_force {
-            game.queue.force_push(rt, part.next()).expect(rt, "open")
-        } else {
-            same(rt, game.queue.push(rt, part.next()), Ok(()));
-            None
-        };
-        part.accept(game);
-        let taken = match displaced {
-            Some(oldest) => oldest,
-            None => game.queue.pop(rt).expect(rt, "an item is there"),
-        };
-        part.take(rt, taken);
-    }
+    let displaced = if by_force {
+        game.queue.force_push(rt, part.next()).expect(rt, "open")
+    } else {
+        same(rt, game.queue.push(rt, part.next()), Ok(()));
+        None
+    };
+    part.accept(game);
+    let taken = match displaced {
+        Some(oldest) => oldest,
+        None => game.queue.pop(rt).expect(rt, "an item is there"),
+    };
+    part.take(rt, taken);
 }
 
-fn force<R: Wait + Abort>(rt: &R, game: &Game, part: &mut Part, closes_after: u64) {
-    for _ in 0..MOST_TURNS {
-        if part.accepted == closes_after {
-            part.closed = u64::from(game.queue.close(rt));
+// A party takes a turn, and says whether it was its last.
+fn is_over<R: Wait + Abort>(rt: &R, game: &Game, part: &mut Part, role: Role) -> bool {
+    match role {
+        Role::Push { most } => part.accepted == most || push(rt, game, part),
+        Role::Pop { most } => part.taken.len() as u64 == most || pop(rt, game, part),
+        Role::PushAndTake { by_force } => {
+            push_and_take(rt, game, part, by_force);
+            part.accepted == ROUNDS
         }
-        match game.queue.force_push(rt, part.next()) {
-            Ok(displaced) => {
-                if let Some(number) = displaced {
-                    part.take(rt, number);
-                }
-                part.accept(game);
+        Role::Force { closes_after } => {
+            if part.accepted == closes_after {
+                part.closed = u64::from(game.queue.close(rt));
             }
-            Err(refused) => {
-                same(rt, refused.into_inner(), part.next());
-                return refuses(rt, &game.queue);
-            }
+            force(rt, game, part)
+        }
+        Role::Close { load } => {
+            let is_loaded = game.pushed.load(Ordering::SeqCst) >= load;
+            part.closed = u64::from(is_loaded && game.queue.close(rt));
+            is_loaded
         }
     }
-    panic!(rt; "not closed");
-}
-
-fn close<R: Wait + Abort>(rt: &R, game: &Game, part: &mut Part, load: u64) {
-    for _ in 0..MOST_TURNS {
-        if game.pushed.load(Ordering::SeqCst) >= load {
-            part.closed = u64::from(game.queue.close(rt));
-            return;
-        }
-        thread::yield_now();
-    }
-    panic!(rt; "nothing pushed");
 }
 
 // What a party does in its thread.
@@ -175,14 +175,12 @@ fn play<R: Wait + Abort + AllocGlobal>(rt: &R, game: &Game, party: usize, role: 
         taken: Vec::new(rt.alloc()),
         closed: 0,
     };
-    match role {
-        Role::Push { most } => push(rt, game, &mut part, most),
-        Role::Pop { most } => pop(rt, game, &mut part, most),
-        Role::PushAndTake { by_force } => push_and_take(rt, game, &mut part, by_force),
-        Role::Force { closes_after } => force(rt, game, &mut part, closes_after),
-        Role::Close { load } => close(rt, game, &mut part, load),
+    for _ in 0..MOST_TURNS {
+        if is_over(rt, game, &mut part, role) {
+            return part;
+        }
     }
-    part
+    panic!(rt; "no end of turns");
 }
 
 // All numbers that were taken out are all that were accepted.
@@ -228,29 +226,27 @@ fn add_up<R: Abort + AllocGlobal>(rt: &R, parts: &[Part], closed: u64) {
 
 fn is_shared<Q: Send + Sync>(_queue: &Q) {}
 
-/// The roles are played at the same time on a queue of this capacity (0 for a chain), each in a thread of its own. What they
+/// The roles are played at the same time on a queue of each capacity (0 for a chain), each in a thread of its own. What they
 /// did adds up, the queue is empty then, and closed where a party closes it.
 pub fn all_play<R: Wait + Abort + AllocGlobal + Threads + Sync>(
     rt: &R,
-    capacity: usize,
+    capacities: &[usize],
     roles: &[Role],
     closed: u64,
 ) {
-    let queue = if capacity == 0 {
-        ConcurrentQueue::unbounded(rt.alloc())
-    } else {
-        ConcurrentQueue::bounded(rt.alloc(), capacity).expect(rt, "memory")
-    };
-    is_shared(&queue);
-    let pushed = AtomicU64::new(0);
-    let game = Game { queue, pushed };
-    let play = &|party| { play(rt, &game, party, roles[party]) };
-    let parts = thread::map_indices(rt, rt.alloc(), roles.len(), play);
-    let parts = parts.expect(rt, "memory");
-    same(rt, parts.len(), roles.len());
-    add_up(rt, &parts, closed);
-    let none = game.queue.pop(rt).err().map(|none| none.is_closed());
-    same(rt, none, Some(closed != 0));
-    same(rt, game.queue.is_closed(rt), closed != 0);
-    holds(rt, game.queue.is_empty(rt));
+    for capacity in capacities {
+        let queue = queue_of(rt, *capacity);
+        is_shared(&queue);
+        let pushed = AtomicU64::new(0);
+        let game = Game { queue, pushed };
+        let play = &|party| { play(rt, &game, party, roles[party]) };
+        let parts = thread::map_indices(rt, rt.alloc(), roles.len(), play);
+        let parts = parts.expect(rt, "memory");
+        same(rt, parts.len(), roles.len());
+        add_up(rt, &parts, closed);
+        let none = game.queue.pop(rt).err().map(|none| none.is_closed());
+        same(rt, none, Some(closed != 0));
+        same(rt, game.queue.is_closed(rt), closed != 0);
+        holds(rt, game.queue.is_empty(rt));
+    }
 }

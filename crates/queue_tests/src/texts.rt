@@ -40,17 +40,8 @@ fn a_text_waits_for_no_lock(rt: HostRuntime) {
     let held = lock.lock(&rt);
     holds(&rt, Glimpse::under(&lock).is_none());
     drop(held);
-    let glimpse = Glimpse::under(&lock);
-    holds(
-        &rt,
-        matches!(
-            glimpse,
-            Some(Glimpse {
-                len: 0,
-                is_closed: false
-            })
-        ),
-    );
+    let glimpse = Glimpse::under(&lock).map(|it| (it.len, it.is_closed));
+    same(&rt, glimpse, Some((0, false)));
     debugs(&rt, &Locked, "<locked>");
 }
 
@@ -58,11 +49,9 @@ fn a_text_waits_for_no_lock(rt: HostRuntime) {
 #[test]
 fn a_walk_and_its_copy_take_turns(rt: HostRuntime) {
     let queue = ConcurrentQueue::unbounded(rt.alloc());
-    same(
-        &rt,
-        (queue.push(&rt, 1), queue.push(&rt, 2)),
-        (Ok(()), Ok(())),
-    );
+    for item in [1, 2] {
+        same(&rt, queue.push(&rt, item), Ok(()));
+    }
     let mut walk = queue.try_iter(&rt);
     let mut copy = walk.clone().expect(&rt, "memory");
     same(&rt, (walk.next(), copy.next()), (Some(1), Some(2)));
@@ -79,19 +68,10 @@ struct Even {
 }
 
 // What its type says of an item is known of each that is popped or walked to.
-fn pop_even<R: Wait>(rt: &R, queue: &ConcurrentQueue<Even>) -> u64
+fn value(even: Option<Even>) -> u64
     ensures { result % 2 ≡ 0 }
 {
-    match queue.pop(rt) {
-        Ok(even) => even.value,
-        Err(_) => 0,
-    }
-}
-
-fn walk_to_even<R: Wait>(rt: &R, queue: &ConcurrentQueue<Even>) -> u64
-    ensures { result % 2 ≡ 0 }
-{
-    match queue.try_iter(rt).next() {
+    match even {
         Some(even) => even.value,
         None => 0,
     }
@@ -103,9 +83,9 @@ fn items_keep_what_their_type_promises(rt: HostRuntime) {
     for value in [42, 8] {
         holds(&rt, queue.push(&rt, Even { value }).is_ok());
     }
-    same(&rt, pop_even(&rt, &queue), 42);
-    same(&rt, walk_to_even(&rt, &queue), 8);
-    same(&rt, pop_even(&rt, &queue), 0);
+    same(&rt, value(queue.pop(&rt).ok()), 42);
+    same(&rt, value(queue.try_iter(&rt).next()), 8);
+    same(&rt, value(queue.pop(&rt).ok()), 0);
 }
 
 // Pushes an item. A push that is refused has changed nothing, and the next one is accepted. The next two tests also pass where

@@ -1,5 +1,6 @@
-//! What the tests compare with. Each of these compares in one place what the tests compare often, so that a call of it
+//! The queues of the tests, and what they compare with. Each of these compares in one place what the tests compare often, so that a call of it
 //! is cheap to prove.
+use concurrent_queue::ConcurrentQueue;
 use std::alloc::AllocGlobal;
 use std::fmt::{Debug, Display};
 use std::process::Abort;
@@ -23,4 +24,12 @@ pub fn prints<R: Abort + AllocGlobal, T: Display>(rt: &R, it: &T, want: &str) {
 /// Its Debug text is this one.
 pub fn debugs<R: Abort + AllocGlobal, T: Debug>(rt: &R, it: &T, want: &str) {
     prints(rt, &format_args!("{it:?}"), want);
+}
+
+/// A queue of this capacity (0 for a chain).
+pub fn queue_of<R: Abort + AllocGlobal, T>(rt: &R, capacity: usize) -> ConcurrentQueue<T> {
+    if capacity == 0 {
+        return ConcurrentQueue::unbounded(rt.alloc());
+    }
+    ConcurrentQueue::bounded(rt.alloc(), capacity).expect(rt, "memory")
 }

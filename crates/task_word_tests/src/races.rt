@@ -150,23 +150,17 @@ fn an_end_meets_the_polls_of_a_handle(rt: HostRuntime) {
         await_output(&rt, stage, 1 + round % 4, round.saturating_mul(10)) == Some(9)
     });
     stage.over.store(1, SeqCst);
-    assert!(&rt; runner.join(&rt));
-    assert!(&rt; are_given);
-    assert!(&rt; stage.futures.load(SeqCst) == 1_000);
-    assert!(&rt; stage.given.load(SeqCst) == 1_000);
-    assert!(&rt; stage.dropped.load(SeqCst) == 0);
+    assert!(&rt; runner.join(&rt) & are_given);
+    let (futures, given) = (stage.futures.load(SeqCst), stage.given.load(SeqCst));
+    assert!(&rt; (futures, given, stage.dropped.load(SeqCst)) == (1_000, 1_000, 0));
 }
 
-/// A task is made, cancelled and let go. The answer is false where the cell doesn't become empty.
-fn make_and_cancel<R: Wait>(rt: &R, stage: &'static Stage, round: u64) -> bool {
-    match make_soon(rt, stage, round) {
-        Some(task) => {
-            let output = detach(rt, cancel(rt, task));
-            stage.dropped.fetch_add(output.is_some() as u64, SeqCst);
-            true
-        }
-        None => false,
-    }
+/// A task is made, cancelled and let go. None where the cell doesn't become empty.
+fn make_and_cancel<R: Wait>(rt: &R, stage: &'static Stage, round: u64) -> Option<()> {
+    let task = make_soon(rt, stage, round)?;
+    let output = detach(rt, cancel(rt, task));
+    stage.dropped.fetch_add(output.is_some() as u64, SeqCst);
+    Some(())
 }
 
 /// A task is cancelled on this thread while another runs it, 100,000 times: each future is dropped once, and so is each output.
@@ -174,10 +168,9 @@ fn make_and_cancel<R: Wait>(rt: &R, stage: &'static Stage, round: u64) -> bool {
 fn a_cancel_meets_runs(rt: HostRuntime) {
     let stage = Stage::leak(rt.alloc()).expect(&rt, "memory");
     let runner = thread::spawn(&rt, move || run_all(&rt, stage, false)).expect(&rt, "a thread");
-    let are_made = (0..100_000_u64).all(|round| make_and_cancel(&rt, stage, round));
+    let are_made = (0..100_000_u64).all(|round| make_and_cancel(&rt, stage, round).is_some());
     stage.over.store(1, SeqCst);
-    assert!(&rt; runner.join(&rt));
-    assert!(&rt; are_made);
+    assert!(&rt; runner.join(&rt) & are_made);
     assert!(&rt; stage.futures.load(SeqCst) == 100_000);
     assert!(&rt; stage.given.load(SeqCst) == stage.dropped.load(SeqCst));
 }

@@ -1,6 +1,5 @@
 //! Wakes of two threads meet the runs of a third.
 use crate::lives::{Outcome, Place, Ran, close, detach, leaves, make, pause, rest};
-use std::alloc::{AllocError, Global};
 use std::boxed::Box;
 use std::sync::Wait;
 use std::sync::atomic::AtomicU64;
@@ -19,17 +18,6 @@ struct Told {
     one: AtomicU64,
     other: AtomicU64,
     done: AtomicU64,
-}
-
-impl Told {
-    fn leak(alloc: Global) -> Result<&'static Told, AllocError> {
-        let told = Told {
-            one: AtomicU64::new(0),
-            other: AtomicU64::new(0),
-            done: AtomicU64::new(0),
-        };
-        Ok(Box::leak(Box::new(alloc, told)?))
-    }
 }
 
 /// What runs have seen: polls, what was told before the last of them, and the future that was dropped.
@@ -104,7 +92,12 @@ fn last_waker<R: Wait>(rt: &R, place: &'static Place) -> Option<Waker<u64, u64, 
 #[test]
 fn wakes_of_two_threads_meet_the_runs_of_a_third(rt: HostRuntime) {
     let place = Place::leak(rt.alloc()).expect(&rt, "memory");
-    let told = Told::leak(rt.alloc()).expect(&rt, "memory");
+    let told = Told {
+        one: AtomicU64::new(0),
+        other: AtomicU64::new(0),
+        done: AtomicU64::new(0),
+    };
+    let told: &'static Told = Box::leak(Box::new(rt.alloc(), told).expect(&rt, "memory"));
     let mine = last_waker(&rt, place).expect(&rt, "an empty cell");
     let one = thread::spawn(&rt, move || rouse(&rt, place, &told.one, &told.done));
     let other = thread::spawn(&rt, move || rouse(&rt, place, &told.other, &told.done));

@@ -36,10 +36,6 @@ fn what_is_left_is_handed_out(rt: HostRuntime) {
     let task = poll(&rt, task, 5).0;
     assert!(&rt; detach(&rt, task).is_none());
     let paused = run(&rt, place, None);
-    assert!(&rt; paused.ran == Ran::Pending(true));
-    assert!(&rt; paused.left == Some(5));
-    let task = make(&rt, place).expect(&rt, "an empty cell");
-    assert!(&rt; detach(&rt, task).is_none());
-    assert!(&rt; run(&rt, place, Some(9)).ran == Ran::ReadyForNobody);
+    assert!(&rt; (paused.ran, paused.left) == (Ran::Pending(true), Some(5)));
     assert!(&rt; make(&rt, place).is_some_and(|task| detach(&rt, task).is_none()));
 }

@@ -138,9 +138,12 @@ impl<R: Wait + Copy + Drop> Line<R> {
         counts.longest.fetch_max(queue.len() as u64, SeqCst);
         counts.queued.fetch_add(1, SeqCst);
         drop(queue);
-        let sleeper = counts.sleepers.lock(&self.rt).pop()?;
-        match sleeper.wake(self.rt, realm) {
-            Some(Due { runnable, info: _ }) => Some(runnable),
+        let sleeper = counts.sleepers.lock(&self.rt).pop();
+        match sleeper {
+            Some(sleeper) => match sleeper.wake(self.rt, realm) {
+                Some(Due { runnable, info: _ }) => Some(runnable),
+                None => None,
+            },
             None => None,
         }
     }
@@ -216,10 +219,15 @@ pub fn next<R: Wait + Copy + Drop + 'static>(
     realm: &'static Tasks<R>,
     counts: &Counts,
 ) -> Option<TestRunnable<R>> {
-    let stored = counts.queue.lock(&rt).pop()?;
-    counts.queued.fetch_sub(1, SeqCst);
-    match stored.redeem(rt, realm) {
-        Some(scheduled) => Some(scheduled.into_runnable()),
+    let stored = counts.queue.lock(&rt).pop();
+    match stored {
+        Some(stored) => {
+            counts.queued.fetch_sub(1, SeqCst);
+            match stored.redeem(rt, realm) {
+                Some(scheduled) => Some(scheduled.into_runnable()),
+                None => None,
+            }
+        }
         None => None,
     }
 }

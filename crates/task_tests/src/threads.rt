@@ -42,7 +42,7 @@ fn runs_until<R: Abort + Wait + Copy + Drop + 'static>(
     counter: &AtomicU64,
     least: u64,
 ) {
-    let mut idle = 0;
+    let mut idle = 0u64;
     for _ in rt.forever() {
         let is_last = counter.load(SeqCst) >= least;
         if counts.queued.load(SeqCst) > 0 {
@@ -55,7 +55,7 @@ fn runs_until<R: Abort + Wait + Copy + Drop + 'static>(
         } else if idle == MOST_TURNS {
             panic!(rt; "a thread has looked in vain for what it is to run");
         } else {
-            idle += 1;
+            idle = idle.saturating_add(1);
             thread::yield_now();
         }
     }

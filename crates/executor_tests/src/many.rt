@@ -66,13 +66,17 @@ impl<F: Planned<R>, R: Abort + Wait + Copy + Drop + 'static> Stage<F, R> {
         };
         let refused = match refused {
             Err(SpawnError::Full(future)) => Some(future.name()),
-            Err(SpawnError::NoMemory(_)) | Ok(()) => None,
+            Err(SpawnError::NoMemory(_future)) => None,
+            Ok(()) => None,
         };
         (in_order, refused)
     }
 
     /// Runs a future, and polls the run so often at most: its output, and how many polls were pending.
-    fn run_to_its_end(&self, future: InOrder<R>, most: u64) -> (u64, u64) {
+    fn run_to_its_end<G>(&self, future: G, most: u64) -> (u64, u64)
+    where
+        G: Future<TestWaker<R>, Output = u64> + Drop,
+    {
         let Ok(mut run) = self.executor.run(future) else {
             return (0, 0);
         };

@@ -160,9 +160,12 @@ fn is_over<R: Wait + Abort>(rt: &R, game: &Game, part: &mut Part, role: Role) ->
             force(rt, game, part)
         }
         Role::Close { load } => {
-            let is_loaded = game.pushed.load(Ordering::SeqCst) >= load;
-            part.closed = u64::from(is_loaded && game.queue.close(rt));
-            is_loaded
+            if game.pushed.load(Ordering::SeqCst) < load {
+                thread::yield_now();
+                return false;
+            }
+            part.closed = u64::from(game.queue.close(rt));
+            true
         }
     }
 }

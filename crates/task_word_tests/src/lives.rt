@@ -52,7 +52,7 @@ fn paid(debt: Option<Debt<u64>>) -> Option<u64> {
 }
 
 /// A Runnable comes to rest, where one is there.
-pub fn rest(owed: Result<Runnable<u64, u64, u64>, Trace>) -> bool {
+fn rest(owed: Result<Runnable<u64, u64, u64>, Trace>) -> bool {
     match owed {
         Ok(runnable) => {
             runnable.rest();
@@ -75,7 +75,7 @@ pub fn make<R: Wait>(rt: &R, place: &'static Place) -> Option<Handle> {
 
 /// What is left of a run of a closed task, whose future is dropped: the awaiter is called, where that is owed, and the reference
 /// given up.
-pub fn close<R: Wait>(
+fn close<R: Wait>(
     rt: &R,
     left: Result<PastRun<u64, u64, u64>, OwingRun<u64, u64, u64>>,
 ) -> Outcome {
@@ -111,7 +111,7 @@ fn finish<R: Wait>(rt: &R, run: Run<u64, u64, u64>, output: u64) -> Outcome {
 }
 
 /// A poll that gives none.
-pub fn pause<R: Wait>(rt: &R, run: Run<u64, u64, u64>) -> Outcome {
+fn pause<R: Wait>(rt: &R, run: Run<u64, u64, u64>) -> Outcome {
     let (_, left, future) = run.pend(rt);
     let is_dropped = paid(future).is_some();
     match left {
@@ -200,15 +200,8 @@ pub fn poll<R: Wait>(rt: &R, task: Handle, waker: u64) -> (Handle, Looked, Optio
     }
 }
 
-/// The handle cancels the task.
-pub fn cancel<R: Wait>(rt: &R, task: Handle) -> Handle {
-    let (_, runnable, task) = task.cancel(rt);
-    rest(runnable);
-    call(rt, task)
-}
-
 /// What is left of a task where a handle or a waker went: whether a Runnable was owed.
-pub fn leaves(left: Left<u64, u64, u64>) -> bool {
+fn leaves(left: Left<u64, u64, u64>) -> bool {
     let Left { runnable, awaiter } = left;
     paid(awaiter);
     rest(runnable)

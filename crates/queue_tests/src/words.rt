@@ -1,5 +1,5 @@
-//! The queues of the tests, and what they compare with. Each of these compares in one place what the tests compare often, so that a call of it
-//! is cheap to prove.
+//! The queues of the tests, and what they compare with. Each of these compares in one place what the tests compare often, so
+//! that a call of it is cheap to prove.
 use concurrent_queue::ConcurrentQueue;
 use std::alloc::AllocGlobal;
 use std::fmt::{Debug, Display};

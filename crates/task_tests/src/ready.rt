@@ -51,7 +51,8 @@ fn run<R: Wait + Copy + Drop + 'static>(runnable: QueueRunnable<Sum, u64, Nobody
 
 const CLOSED: Poll<Result<u64, TaskError>> = Poll::Ready(Err(TaskError::TaskClosed));
 
-/// A full queue refuses a future, also while its task stands in no queue, until that one's future is dropped.
+/// A full queue refuses a future, also while its task stands in no queue and after a run that left it pending, until that one's
+/// future is dropped.
 #[test]
 fn a_full_queue_refuses(rt: HostRuntime) -> Result<(), Fail> {
     let (realm, places) = (Realm::leak(rt, rt.alloc())?, Places::leak(rt.alloc(), 1)?);
@@ -61,6 +62,7 @@ fn a_full_queue_refuses(rt: HostRuntime) -> Result<(), Fail> {
     let runnable = queue.next().expect(&rt, "a task");
     is_refused(&rt, &queue, 5, true);
     run(runnable);
+    is_refused(&rt, &queue, 5, true);
     first.detach();
     queue.run();
     let mut second = spawned(&rt, &queue, 0);

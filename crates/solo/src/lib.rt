@@ -1,0 +1,20 @@
+//! An executor of one owner, by `&mut`, which never runs code of its user: what has to be polled, dropped or called it hands out.
+#![tactic(auto)]
+
+mod cells;
+mod closing;
+mod line;
+mod names;
+mod owed;
+mod solo;
+mod table;
+#[cfg(test)]
+mod tests;
+mod ticks;
+mod turns;
+
+pub use names::{Kind, SoloWaker, Task};
+pub use owed::{Found, Lent, Owed, SpawnError, Spawned, Taken, Told};
+pub use solo::Solo;
+pub use task_moves::local_task::{Back, Polled};
+pub use ticks::{Dropped, Look, Ticked, Ticker};

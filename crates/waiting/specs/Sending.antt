@@ -1,0 +1,38 @@
+-- The message that comes back.
+use Rattle.std.specs.Prelude.{◌≡◌, Option, Some, None, Result, Ok, Err}
+use Rattle.async_task.specs.declared.poll.Poll.{Poll}
+use Rattle.async_task.specs.declared.poll.Poll.TheVariants.{Ready, Pending}
+use Rattle.waiting.specs.declared.channel.errors.TrySendError.{TrySendError}
+use Rattle.waiting.specs.declared.channel.errors.TrySendError.TheVariants as tried
+use Rattle.waiting.specs.declared.channel.errors.SendError.{SendError}
+use Rattle.waiting.specs.declared.channel.errors.SendError.TheVariants as unsent
+use Rattle.waiting.specs.declared.channel.sender.Tried.{Tried}
+use Rattle.waiting.specs.declared.channel.sender.Tried.TheVariants.{Sent, Refused, Waits, Again}
+
+module _ {T : Type 0} where
+  abbrev pub try_sent : TrySendError T → T
+  try_sent (tried.Full message) = message
+  try_sent (tried.Closed message) = message
+
+  abbrev pub refused : SendError T → T
+  refused (unsent.Closed message) = message
+  refused (unsent.NoMemory message) = message
+
+  -- a try with this message: it was sent, or comes back
+  abbrev pub HasTried : T → Tried T → Type 0
+  HasTried message Sent = Unit {0}
+  HasTried message (Refused error) = refused error ≡ message
+  HasTried message (Waits back) = back ≡ message
+  HasTried message (Again back) = back ≡ message
+
+  -- a poll with this message: it was sent, or comes back, or is still there
+  abbrev pub IsBack : Option T → Option T → Poll (Result (Unit {0}) (SendError T)) → Type 0
+  IsBack old new (Ready (Ok _)) = new ≡ None
+  IsBack old new (Ready (Err error)) = (old ≡ Some (refused error)) × (new ≡ None)
+  IsBack old new Pending = new ≡ old
+
+  -- a poll with this message: it was sent, or is still there
+  abbrev pub IsSentOrBack : Option T → Option T → Poll (Result (Unit {0}) (SendError (Unit {0}))) → Type 0
+  IsSentOrBack old new (Ready (Ok _)) = new ≡ None
+  IsSentOrBack old new (Ready (Err _)) = new ≡ old
+  IsSentOrBack old new Pending = new ≡ old

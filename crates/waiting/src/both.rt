@@ -1,0 +1,74 @@
+//! Both of two futures.
+use async_task::{Future, Poll};
+use std::mem;
+
+/// A future that is awaited beside others, and then its output.
+#[derive(Drop)]
+pub enum Awaited<F, T> {
+    /// It isn't ready yet.
+    Waiting(F),
+    /// Its output, which is kept until all are ready.
+    Done(T),
+    /// Its output was given.
+    Given,
+}
+
+/// Is ready once both are, with both outputs. A poll polls each that isn't ready yet. Dropped, it drops what it has.
+#[derive(Drop)]
+pub struct Join<A, X, B, Y> {
+    pub(crate) first: Awaited<A, X>,
+    pub(crate) second: Awaited<B, Y>,
+}
+
+impl<F: Drop, T: Drop> Awaited<F, T> {
+    /// Polls the future, unless it was ready before.
+    fn go_on<K>(&mut self, waker: &K)
+    where
+        F: Future<K, Output = T>,
+    {
+        if let Awaited::Waiting(future) = self {
+            if let Poll::Ready(output) = future.poll(waker) {
+                *self = Awaited::Done(output);
+            }
+        }
+    }
+
+    /// The output, where it is there. It is given once.
+    fn give(&mut self) -> Option<T> {
+        match mem::replace(self, Awaited::Given) {
+            Awaited::Done(output) => Some(output),
+            other => {
+                *self = other;
+                None
+            }
+        }
+    }
+}
+
+impl<K, A, X, B, Y> Future<K> for Join<A, X, B, Y>
+where
+    A: Future<K, Output = X> + Drop,
+    B: Future<K, Output = Y> + Drop,
+    X: Drop,
+    Y: Drop,
+{
+    type Output = (X, Y);
+
+    fn poll(&mut self, waker: &K) -> Poll<(X, Y)> {
+        self.first.go_on(waker);
+        self.second.go_on(waker);
+        let Awaited::Done(_) = &self.second else {
+            return Poll::Pending;
+        };
+        let Some(first) = self.first.give() else {
+            return Poll::Pending;
+        };
+        match self.second.give() {
+            Some(second) => Poll::Ready((first, second)),
+            None => {
+                self.first = Awaited::Done(first);
+                Poll::Pending
+            }
+        }
+    }
+}

@@ -1,0 +1,126 @@
+use crate::channel::errors::{RecvError, TryRecvError};
+use crate::channel::shared::{Shared, Turn, go_on};
+use crate::listener::Listener;
+use async_task::{Future, NoMemory, Poll, Wake};
+use std::sync::atomic::Ordering::SeqCst;
+use std::sync::{Arc, Wait};
+
+/// Receives messages, each of which one receiver gets, the oldest first. The drop of the last receiver closes the channel.
+pub struct Receiver<T, K, R>
+where
+    T: Drop,
+    K: Wake + Drop,
+    R: Wait + Copy + Drop,
+{
+    shared: Arc<Shared<T, K, R>>,
+    waiting: Option<Listener<K, R>>,
+}
+
+/// Receives a message: a future that is ready once one came, or the channel is closed and empty. Dropped before, it takes none.
+#[derive(Drop)]
+pub struct Recv<'a, T, K, R>
+where
+    T: Drop,
+    K: Wake + Drop,
+    R: Wait + Copy + Drop,
+{
+    receiver: &'a mut Receiver<T, K, R>,
+}
+
+impl<T, K, R> Receiver<T, K, R>
+where
+    T: Drop,
+    K: Wake + Drop,
+    R: Wait + Copy + Drop,
+{
+    pub(crate) fn new(shared: Arc<Shared<T, K, R>>) -> Self {
+        Receiver {
+            shared,
+            waiting: None,
+        }
+    }
+
+    /// One more receiver; refused where there are too many. It takes no memory.
+    pub fn clone(&self) -> Result<Self, NoMemory> {
+        match Arc::try_clone(&self.shared) {
+            Ok(shared) => {
+                shared.receivers.fetch_add(1, SeqCst);
+                Ok(Receiver::new(shared))
+            }
+            Err(_) => Err(NoMemory),
+        }
+    }
+
+    /// Takes the oldest message, where one is there, and tells one who waits for its place. It takes no memory.
+    pub fn try_recv(&self) -> Result<T, TryRecvError> {
+        self.shared.try_recv()
+    }
+
+    /// Receives a message, and waits for one.
+    pub fn recv(&mut self) -> Recv<'_, T, K, R> {
+        Recv { receiver: self }
+    }
+
+    /// As the poll of `recv`, for a future that has the receiver in a field. It takes memory where it has to wait.
+    pub fn poll_recv(&mut self, waker: &K) -> Poll<Result<T, RecvError>> {
+        for _ in self.shared.rt().forever() {
+            match self.shared.try_recv() {
+                Ok(message) => {
+                    self.waiting = None;
+                    return Poll::Ready(Ok(message));
+                }
+                Err(TryRecvError::Closed) => {
+                    self.waiting = None;
+                    return Poll::Ready(Err(RecvError::Closed));
+                }
+                Err(TryRecvError::Empty) => {}
+            }
+            match go_on(self.shared.messages(), &mut self.waiting, waker) {
+                Ok(Turn::Looks) => {}
+                Ok(Turn::Waits) => return Poll::Pending,
+                Err(NoMemory) => return Poll::Ready(Err(RecvError::NoMemory)),
+            }
+        }
+        unreachable!()
+    }
+
+    /// Closes the channel: nothing is sent any more, what was sent can still be received, and all who wait are told. Answers
+    /// whether it was open. It takes no memory.
+    pub fn close(&self) -> bool {
+        self.shared.close()
+    }
+
+    /// How many messages there are, which others may change at once.
+    pub fn len(&self) -> usize {
+        self.shared.len()
+    }
+}
+
+impl<T, K, R> Drop for Receiver<T, K, R>
+where
+    T: Drop,
+    K: Wake + Drop,
+    R: Wait + Copy + Drop,
+{
+    /// Leaves those who wait, and closes the channel where it is the last receiver.
+    fn drop(self) {
+        let Receiver { shared, waiting } = self;
+        drop(waiting);
+        if shared.receivers.fetch_sub(1, SeqCst) == 1 {
+            shared.close();
+        }
+    }
+}
+
+impl<'a, T, K, R> Future<K> for Recv<'a, T, K, R>
+where
+    T: Drop,
+    K: Wake + Drop,
+    R: Wait + Copy + Drop,
+{
+    type Output = Result<T, RecvError>;
+
+    fn poll(&mut self, waker: &K) -> Poll<Result<T, RecvError>> {
+        self.receiver.poll_recv(waker)
+    }
+}

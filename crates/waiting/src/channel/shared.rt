@@ -1,0 +1,147 @@
+ghost use Rattle.std.specs.Prelude.{◌≡◌, ◌<◌, IfErr};
+ghost use Rattle.waiting.specs.Sending.{try_sent};
+
+use crate::channel::errors::{TryRecvError, TrySendError};
+use crate::event::Event;
+use crate::listener::Listener;
+use async_task::{Future, NoMemory, Poll, Wake};
+use concurrent_queue::{ConcurrentQueue, PopError, PushError};
+use std::alloc::Global;
+use std::sync::Wait;
+use std::sync::atomic::AtomicU64;
+
+/// What the senders and receivers of a channel share.
+#[derive(Drop)]
+pub struct Shared<T, K, R>
+where
+    T: Drop,
+    K: Wake + Drop,
+    R: Wait + Copy + Drop,
+{
+    rt: R,
+    queue: ConcurrentQueue<T>,
+    /// Told for each place that comes free.
+    places: Event<K, R>,
+    /// Told for each message that comes.
+    messages: Event<K, R>,
+    /// How many senders there are.
+    pub senders: AtomicU64,
+    /// How many receivers there are.
+    pub receivers: AtomicU64,
+}
+
+impl<T, K, R> Shared<T, K, R>
+where
+    T: Drop,
+    K: Wake + Drop,
+    R: Wait + Copy + Drop,
+{
+    pub fn new(rt: R, alloc: Global, places: usize) -> Result<Self, NoMemory>
+        requires { 0 < places }
+    {
+        let Ok(queue) = ConcurrentQueue::bounded(alloc, places) else {
+            return Err(NoMemory);
+        };
+        let (free, came) = match (Event::new(rt, alloc), Event::new(rt, alloc)) {
+            (Ok(free), Ok(came)) => (free, came),
+            _ => return Err(NoMemory),
+        };
+        Ok(Shared {
+            rt,
+            queue,
+            places: free,
+            messages: came,
+            senders: AtomicU64::new(1),
+            receivers: AtomicU64::new(1),
+        })
+    }
+
+    /// Appends the message, and then tells one who waits for it.
+    pub fn try_send(&self, message: T) -> Result<(), TrySendError<T>>
+        ensures { IfErr result (λ error. try_sent error ≡ message) }
+    {
+        match self.queue.push(&self.rt, message) {
+            Ok(()) => {
+                self.messages.notify();
+                Ok(())
+            }
+            Err(PushError::Closed(message)) => Err(TrySendError::Closed(message)),
+            Err(PushError::Full(message) | PushError::NoMemory(message)) => Err(TrySendError::Full(
+                message,
+            )),
+        }
+    }
+
+    /// Takes the oldest message, and then tells one who waits for its place.
+    pub fn try_recv(&self) -> Result<T, TryRecvError> {
+        match self.queue.pop(&self.rt) {
+            Ok(message) => {
+                self.places.notify();
+                Ok(message)
+            }
+            Err(PopError::Empty) => Err(TryRecvError::Empty),
+            Err(PopError::Closed) => Err(TryRecvError::Closed),
+        }
+    }
+
+    /// Closes the channel, and tells all who wait. Answers whether it was open.
+    pub fn close(&self) -> bool {
+        let was_open = self.queue.close(&self.rt);
+        self.places.notify_all();
+        self.messages.notify_all();
+        was_open
+    }
+
+    pub fn rt(&self) -> R {
+        self.rt
+    }
+
+    pub fn places(&self) -> &Event<K, R> {
+        &self.places
+    }
+
+    pub fn messages(&self) -> &Event<K, R> {
+        &self.messages
+    }
+
+    /// How many messages there are.
+    pub fn len(&self) -> usize {
+        self.queue.len(&self.rt)
+    }
+}
+
+/// What one who waits has to do.
+pub enum Turn {
+    /// It waits, and its waker is called.
+    Waits,
+    /// It looks again: it listens since now, or was told.
+    Looks,
+}
+
+/// Listens, or awaits the call where it listens already.
+pub fn go_on<K, R>(
+    event: &Event<K, R>,
+    waiting: &mut Option<Listener<K, R>>,
+    waker: &K,
+) -> Result<Turn, NoMemory>
+where
+    K: Wake + Drop,
+    R: Wait + Copy + Drop,
+{
+    match waiting.take() {
+        None => match event.listen() {
+            Ok(listener) => {
+                *waiting = Some(listener);
+                Ok(Turn::Looks)
+            }
+            Err(error) => Err(error),
+        },
+        Some(mut listener) => match listener.poll(waker) {
+            Poll::Pending => {
+                *waiting = Some(listener);
+                Ok(Turn::Waits)
+            }
+            Poll::Ready(()) => Ok(Turn::Looks),
+        },
+    }
+}

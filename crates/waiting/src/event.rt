@@ -1,0 +1,99 @@
+use crate::listener::Listener;
+use crate::waiters::{Call, Waiters};
+use async_task::{NoMemory, Wake};
+use std::alloc::Global;
+use std::sync::{Arc, Mutex, Wait};
+
+/// An event that futures wait for, as many as memory holds. After `Event` of `event-listener`. A call tells one who listens, the
+/// one who came first, or all; it stays that one's until it is used or passed on, and one with nobody to hear it is gone. So
+/// who waits for a fact listens first, then looks whether it holds, and then awaits the listener. Its waker's type is `K`.
+///
+/// Wakers are called and dropped with no lock held, and a call takes no memory.
+#[derive(Drop)]
+pub struct Event<K, R>
+where
+    K: Wake + Drop,
+    R: Wait + Copy + Drop,
+{
+    waiters: Arc<Mutex<Waiters<K>>>,
+    rt: R,
+}
+
+impl<K, R> Event<K, R>
+where
+    K: Wake + Drop,
+    R: Wait + Copy + Drop,
+{
+    /// An event for which nobody waits.
+    pub fn new(rt: R, alloc: Global) -> Result<Self, NoMemory> {
+        match Arc::new(alloc, Mutex::new(Waiters::new(alloc))) {
+            Ok(waiters) => Ok(Event { waiters, rt }),
+            Err(_) => Err(NoMemory),
+        }
+    }
+
+    /// The same event, for another who tells or waits; refused where it has too many already. Takes no memory.
+    pub fn clone(&self) -> Result<Self, NoMemory> {
+        match Arc::try_clone(&self.waiters) {
+            Ok(waiters) => Ok(Event {
+                waiters,
+                rt: self.rt,
+            }),
+            Err(_) => Err(NoMemory),
+        }
+    }
+
+    /// Listens from now on: a future that is ready once it was told. It takes memory for its place in the list.
+    pub fn listen(&self) -> Result<Listener<K, R>, NoMemory> {
+        let event = match self.clone() {
+            Ok(event) => event,
+            Err(error) => return Err(error),
+        };
+        let listening = self.waiters.lock(&self.rt).listen();
+        match listening {
+            Ok(listening) => Ok(Listener::new(self.rt, event, listening)),
+            Err(_) => Err(NoMemory),
+        }
+    }
+
+    /// Tells the one who has waited longest of those who weren't told yet. Answers whether one waited.
+    pub fn notify(&self) -> bool {
+        let told = self.waiters.lock(&self.rt).tell();
+        reach(told)
+    }
+
+    /// Tells all who wait now. Answers how many.
+    pub fn notify_all(&self) -> u64 {
+        let waiting = self.waiters.lock(&self.rt).len();
+        let mut number = 0u64;
+        for _ in 0..waiting {
+            if !self.notify() {
+                break;
+            }
+            number = number.saturating_add(1);
+        }
+        number
+    }
+
+    /// Tells the next in the place of one who was told and leaves.
+    pub(crate) fn pass_on(&self, call: Call) {
+        let told = self.waiters.lock(&self.rt).pass_on(call);
+        let _ = reach(told);
+    }
+
+    pub(crate) fn waiters(&self) -> &Mutex<Waiters<K>> {
+        &*self.waiters
+    }
+}
+
+/// Calls who was told. Answers whether one was.
+fn reach<K: Wake>(told: Option<Option<K>>) -> bool {
+    match told {
+        Some(Some(waker)) => {
+            waker.wake();
+            true
+        }
+        Some(None) => true,
+        None => false,
+    }
+}

@@ -1,0 +1,98 @@
+use crate::event::Event;
+use crate::waiters::{Left, Listening, Looked};
+use async_task::{Future, Poll, Wake};
+use std::mem;
+use std::sync::Wait;
+
+/// One who waits for an event: a future that is ready once it was told, and from then on. Each poll leaves its waker in the
+/// place of the one before. Where no copy of the waker can be had it calls the waker, so that it is polled again.
+///
+/// Dropped before it was told, it leaves. Dropped when it was told and no poll has answered so, it tells the next.
+pub struct Listener<K, R>
+where
+    K: Wake + Drop,
+    R: Wait + Copy + Drop,
+{
+    event: Event<K, R>,
+    rt: R,
+    listening: Option<Listening>,
+}
+
+impl<K, R> Listener<K, R>
+where
+    K: Wake + Drop,
+    R: Wait + Copy + Drop,
+{
+    pub(crate) fn new(rt: R, event: Event<K, R>, listening: Listening) -> Self {
+        Listener {
+            event,
+            rt,
+            listening: Some(listening),
+        }
+    }
+}
+
+/// Leaves, and tells the next where it was told.
+fn leave<K, R>(rt: &R, event: &Event<K, R>, listening: Listening)
+where
+    K: Wake + Drop,
+    R: Wait + Copy + Drop,
+{
+    let left = event.waiters().lock(rt).leave(listening);
+    match left {
+        Left::Told(call) => event.pass_on(call),
+        Left::Untold(_waker) => {}
+    }
+}
+
+impl<K, R> Future<K> for Listener<K, R>
+where
+    K: Wake + Drop,
+    R: Wait + Copy + Drop,
+{
+    type Output = ();
+
+    /// 1. Takes a copy of the waker.
+    /// 2. Looks whether it was told, and else leaves the copy, under the lock.
+    /// 3. Drops the waker that it had left before, with no lock held.
+    fn poll(&mut self, waker: &K) -> Poll<()> {
+        let Some(listening) = self.listening.take() else {
+            return Poll::Ready(());
+        };
+        let copy = waker.clone();
+        let is_left = copy.is_some();
+        let looked = self.event.waiters().lock(&self.rt).look(listening, copy);
+        match looked {
+            Looked::Told(call, _waker) => {
+                call.take();
+                Poll::Ready(())
+            }
+            Looked::Waits(listening, _before) => {
+                if let Some(other) = mem::replace(&mut self.listening, Some(listening)) {
+                    leave(&self.rt, &self.event, other);
+                }
+                if !is_left {
+                    waker.wake_by_ref();
+                }
+                Poll::Pending
+            }
+        }
+    }
+}
+
+impl<K, R> Drop for Listener<K, R>
+where
+    K: Wake + Drop,
+    R: Wait + Copy + Drop,
+{
+    fn drop(self) {
+        let Listener {
+            event,
+            rt,
+            listening,
+        } = self;
+        if let Some(listening) = listening {
+            leave(&rt, &event, listening);
+        }
+    }
+}

@@ -1,0 +1,45 @@
+//! The futures by the names of their functions.
+ghost use Rattle.std.specs.Prelude.{◌≡◌, false, Some};
+
+use crate::both::{Awaited, Join};
+use crate::first::Select;
+use crate::now::{Never, Ready, YieldNow};
+use std::marker::PhantomData;
+
+/// A future that is ready with this value. Takes no memory.
+pub fn ready<T>(value: T) -> Ready<T>
+    ensures { result.value ≡ Some value }
+{
+    Ready { value: Some(value) }
+}
+
+/// A future that is never ready. Takes no memory.
+pub fn pending<T>() -> Never<T> {
+    Never {
+        output: PhantomData,
+    }
+}
+
+/// A future that lets others go first, once. Takes no memory.
+pub fn yield_now() -> YieldNow
+    ensures { result.has_yielded ≡ false }
+{
+    YieldNow { has_yielded: false }
+}
+
+/// Awaits two futures at once. Takes no memory.
+pub fn join<A, X, B, Y>(first: A, second: B) -> Join<A, X, B, Y> {
+    Join {
+        first: Awaited::Waiting(first),
+        second: Awaited::Waiting(second),
+    }
+}
+
+/// Awaits the first of two futures. Takes no memory.
+pub fn select<A, B>(first: A, second: B) -> Select<A, B>
+    ensures { result.both ≡ Some (first, second) }
+{
+    Select {
+        both: Some((first, second)),
+    }
+}

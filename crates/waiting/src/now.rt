@@ -1,0 +1,66 @@
+//! Futures that wait for nothing, for ever, or for others to go first.
+ghost use Rattle.std.specs.Prelude.{◌≡◌, true, false, None, IfSome};
+ghost use Rattle.async_task.specs.declared.poll.Poll.TheVariants as poll;
+
+use async_task::{Future, Poll, Wake};
+use std::marker::PhantomData;
+
+/// Is ready at its first poll. Polled again it is pending for ever.
+#[derive(Drop)]
+pub struct Ready<T> {
+    pub(crate) value: Option<T>,
+}
+
+/// Is never ready.
+#[derive(Drop)]
+pub struct Never<T> {
+    pub(crate) output: PhantomData<T>,
+}
+
+/// Is pending once, having called its waker, so that others go first; and then ready.
+#[derive(Drop)]
+pub struct YieldNow {
+    pub(crate) has_yielded: bool,
+}
+
+impl<K, T> Future<K> for Ready<T> {
+    type Output = T;
+
+    fn poll(&mut self, _waker: &K) -> Poll<T>
+        ensures given { IfSome self.old.value (λ value. result ≡ poll.Ready value) }
+        ensures spent { self.old.value ≡ None → result ≡ poll.Pending }
+        ensures gone { self.new.value ≡ None }
+    {
+        match self.value.take() {
+            Some(value) => Poll::Ready(value),
+            None => Poll::Pending,
+        }
+    }
+}
+
+impl<K, T> Future<K> for Never<T> {
+    type Output = T;
+
+    fn poll(&mut self, _waker: &K) -> Poll<T>
+        ensures { result ≡ poll.Pending }
+    {
+        Poll::Pending
+    }
+}
+
+impl<K: Wake> Future<K> for YieldNow {
+    type Output = ();
+
+    fn poll(&mut self, waker: &K) -> Poll<()>
+        ensures first { self.old.has_yielded ≡ false → result ≡ poll.Pending }
+        ensures then { self.old.has_yielded ≡ true → result ≡ poll.Ready tt }
+        ensures yielded { self.new.has_yielded ≡ true }
+    {
+        if self.has_yielded {
+            return Poll::Ready(());
+        }
+        self.has_yielded = true;
+        waker.wake_by_ref();
+        Poll::Pending
+    }
+}

@@ -1,0 +1,130 @@
+//! One value, from one sender to one receiver. After `oneshot` of `futures`.
+ghost use Rattle.std.specs.Prelude.{◌≡◌, IfErr};
+
+use crate::slot::{Received, Slot};
+use async_task::{Future, NoMemory, Poll, Wake};
+use std::alloc::Global;
+use std::sync::{Arc, Mutex, Wait};
+
+/// No value comes: the sender went without sending, or the value was taken by an earlier poll.
+#[derive(Clone, Copy, Debug, PartialEq, Eq, Drop)]
+pub struct Canceled;
+
+/// Sends one value. Its drop, where it sent none, tells the receiver that none comes.
+pub struct Sender<T, K, R>
+where
+    T: Drop,
+    K: Wake + Drop,
+    R: Wait + Copy + Drop,
+{
+    slot: Arc<Mutex<Slot<T, K>>>,
+    rt: R,
+}
+
+/// Receives one value: a future that is ready once it was sent, or once the sender went. Each poll leaves its waker in the place of
+/// the one before. Where no copy of the waker can be had it calls the waker, so that it is polled again. Its drop drops a value
+/// that was sent and not taken; from then on a value is refused.
+pub struct Receiver<T, K, R>
+where
+    T: Drop,
+    K: Wake + Drop,
+    R: Wait + Copy + Drop,
+{
+    slot: Arc<Mutex<Slot<T, K>>>,
+    rt: R,
+}
+
+/// A sender and its receiver. It takes memory for the place of the value, and no call after that does.
+pub fn channel<T, K, R>(
+    rt: R,
+    alloc: Global,
+) -> Result<(Sender<T, K, R>, Receiver<T, K, R>), NoMemory>
+where
+    T: Drop,
+    K: Wake + Drop,
+    R: Wait + Copy + Drop,
+{
+    let Ok(slot) = Arc::new(alloc, Mutex::new(Slot::Empty)) else {
+        return Err(NoMemory);
+    };
+    match Arc::try_clone(&slot) {
+        Ok(same) => Ok((Sender { slot, rt }, Receiver { slot: same, rt })),
+        Err(_) => Err(NoMemory),
+    }
+}
+
+impl<T, K, R> Sender<T, K, R>
+where
+    T: Drop,
+    K: Wake + Drop,
+    R: Wait + Copy + Drop,
+{
+    /// Sends the value, and calls the receiver. Where that is gone the value comes back. It takes no memory.
+    pub fn send(self, value: T) -> Result<(), T>
+        ensures { IfErr result (λ back. back ≡ value) }
+    {
+        let Sender { slot, rt } = self;
+        let put = slot.lock(&rt).put(value);
+        match put {
+            Ok(Some(waker)) => {
+                waker.wake();
+                Ok(())
+            }
+            Ok(None) => Ok(()),
+            Err(value) => Err(value),
+        }
+    }
+}
+
+impl<T, K, R> Drop for Sender<T, K, R>
+where
+    T: Drop,
+    K: Wake + Drop,
+    R: Wait + Copy + Drop,
+{
+    fn drop(self) {
+        let Sender { slot, rt } = self;
+        let waker = slot.lock(&rt).end();
+        if let Some(waker) = waker {
+            waker.wake();
+        }
+    }
+}
+
+impl<T, K, R> Future<K> for Receiver<T, K, R>
+where
+    T: Drop,
+    K: Wake + Drop,
+    R: Wait + Copy + Drop,
+{
+    type Output = Result<T, Canceled>;
+
+    fn poll(&mut self, waker: &K) -> Poll<Result<T, Canceled>> {
+        let copy = waker.clone();
+        let is_left = copy.is_some();
+        let received = self.slot.lock(&self.rt).receive(copy);
+        match received {
+            Received::Value(value, _copy) => Poll::Ready(Ok(value)),
+            Received::Ended(_copy) => Poll::Ready(Err(Canceled)),
+            Received::Waits(_before) => {
+                if !is_left {
+                    waker.wake_by_ref();
+                }
+                Poll::Pending
+            }
+        }
+    }
+}
+
+impl<T, K, R> Drop for Receiver<T, K, R>
+where
+    T: Drop,
+    K: Wake + Drop,
+    R: Wait + Copy + Drop,
+{
+    fn drop(self) {
+        let Receiver { slot, rt } = self;
+        let left = slot.lock(&rt).close();
+        drop(left);
+    }
+}

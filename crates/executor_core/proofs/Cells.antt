@@ -4,7 +4,7 @@ use Rattle.std.proofs.lemmas.Bool.{cases_eq, false≢true}
 use Rattle.std.proofs.lemmas.Bool.Decides.{nat_tests}
 use Rattle.executor_model.specs.World.{without, among}
 use Rattle.executor_parts.specs.Places.{Entry}
-use Rattle.executor_table.specs.Entered.{futures_of, present_of}
+use Rattle.executor_core.specs.Entered.{futures_of, present_of}
 
 pub among_no : (f x : ℕ) (xs : List ℕ) → x ≢ f → among f (x ∷ xs) ≡ among f xs
 among_no f x xs ne = let e : eqb f x ≡ false = grind (arith, nat_tests) in rw (e, among)

@@ -6,19 +6,19 @@ use Rattle.executor_model.specs.declared.call.Reply.TheVariants as reply
 use Rattle.executor_model.specs.declared.op.Op.{Op}
 use Rattle.executor_model.specs.declared.op.Op.TheVariants as op
 use Rattle.executor_model.specs.declared.op.RunPoll.{RunPoll}
-use Rattle.executor_model.specs.declared.op.Sleeper.{Sleeper}
+use Rattle.executor_model.specs.declared.op.TickOrRun.{TickOrRun}
 use Rattle.executor_model.specs.declared.op.SleeperOp.TheVariants as sleeper_op
 use Rattle.executor_model.specs.declared.op.Sleeping.{Sleeping}
 use Rattle.executor_model.specs.ActsOfRuns.{counted_by, counted_to, run_by, run_found}
 use Rattle.executor_model.specs.ActsOfSleepers.{found_by, held_as, search_by, search_tick}
-use Rattle.executor_model.specs.World.{World, Place, done, place_of, run_of}
-use Rattle.executor_ticks.specs.Ticks.{is_lying}
-use Rattle.executor_runs.specs.Running.{Running, put_in, run_in}
+use Rattle.executor_model.specs.World.{World, Ticker, done, place_of, run_of}
+use Rattle.executor_core.specs.Ticks.{is_asleep}
+use Rattle.executor_core.specs.Running.{Running, put_in, run_in}
 use Rattle.executor_core.specs.declared.store.Store.{Store}
-use Rattle.executor_core.specs.Rising.{counted, onward, rises}
+use Rattle.executor_core.specs.WakingUp.{counted, onward, wakes_up}
 use Rattle.executor_core.specs.Views.{world_of}
 use Rattle.executor_core.proofs.Owing.{reverse_before}
-use Rattle.executor_core.proofs.Stealing.{rises-found, with_runs}
+use Rattle.executor_core.proofs.Stealing.{wakes_up-found, with_runs}
 
 -- run r has taken one more task, and counted one more
 abbrev pub taken_in : Running → ℕ → Bool → Running
@@ -28,12 +28,12 @@ abbrev pub counted_in : Running → ℕ → Bool → Running
 counted_in s r b = put_in s r (record (run_in s r) { counted = cond b 0 ((run_in s r).counted + 1) })
 
 module _ (s : Store) (x : RunPoll) (f : ℕ) where
-  taken-by : (b : Bool) → world_of (with_runs s (taken_in s.lodgers.runs x.run b)) ≡ (run_by b (world_of s) x f).world
+  taken-by : (b : Bool) → world_of (with_runs s (taken_in s.ticks_and_runs.runs x.run b)) ≡ (run_by b (world_of s) x f).world
   taken-by true = refl
   taken-by false = refl
 
   pub taken-world : (b : Bool) (rs : Running) → b ≡ ((run_of (world_of s) x.run).taken + 1 == 200) →
-      rs ≡ taken_in s.lodgers.runs x.run b → world_of (with_runs s rs) ≡ (run_found (world_of s) x f).world
+      rs ≡ taken_in s.ticks_and_runs.runs x.run b → world_of (with_runs s rs) ≡ (run_found (world_of s) x f).world
   taken-world b rs e q = ap (λ (v : Running). world_of (with_runs s v)) q
       ∙ (taken-by b ∙ ap (λ (t : Bool). (run_by t (world_of s) x f).world) e)
 
@@ -50,37 +50,37 @@ module _ (s : Store) (x : RunPoll) (f : ℕ) where
       counted (world_of s) x f ≡ counted_by t (world_of s) x f
   counted-as b t e q = ap (λ (v : Bool). counted_by v (world_of s) x f) (sym e ∙ q)
 
-  pub counted-full : (b : Bool) (rs : Running) → b ≡ true → rs ≡ counted_in s.lodgers.runs x.run b →
+  pub counted-full : (b : Bool) (rs : Running) → b ≡ true → rs ≡ counted_in s.ticks_and_runs.runs x.run b →
       world_of (with_runs s rs) ≡ counted_to (world_of s) x.run 0
   counted-full b rs t q =
-      ap (λ (v : Running). world_of (with_runs s v)) (q ∙ ap (counted_in s.lodgers.runs x.run) t)
+      ap (λ (v : Running). world_of (with_runs s v)) (q ∙ ap (counted_in s.ticks_and_runs.runs x.run) t)
 
-  pub counted-on : (b : Bool) (rs : Running) → b ≡ false → rs ≡ counted_in s.lodgers.runs x.run b →
+  pub counted-on : (b : Bool) (rs : Running) → b ≡ false → rs ≡ counted_in s.ticks_and_runs.runs x.run b →
       world_of (with_runs s rs) ≡ counted_to (world_of s) x.run ((run_of (world_of s) x.run).counted + 1)
   counted-on b rs t q =
-      ap (λ (v : Running). world_of (with_runs s v)) (q ∙ ap (counted_in s.lodgers.runs x.run) t)
+      ap (λ (v : Running). world_of (with_runs s v)) (q ∙ ap (counted_in s.ticks_and_runs.runs x.run) t)
 
--- who lies gets up before these
-pub rises-first : (k : Place) (who : Sleeper) (lies : Bool) (more : List Op) → lies ≡ is_lying k →
-    found_by k who more ≡ rises lies who ++ more
-rises-first k who lies more e = rises-found k who more ∙ ap (λ (b : Bool). rises b who ++ more) (sym e)
+-- who sleeps wakes up before these
+pub wakes_up-first : (k : Ticker) (who : TickOrRun) (sleeps : Bool) (more : List Op) → sleeps ≡ is_asleep k →
+    found_by k who more ≡ wakes_up sleeps who ++ more
+wakes_up-first k who sleeps more e = wakes_up-found k who more ∙ ap (λ (b : Bool). wakes_up b who ++ more) (sym e)
 
-pub found-next : (t n more : List Op) (k : Place) (who : Sleeper) (lies : Bool) → lies ≡ is_lying k →
-    ((t ++ reverse n) ++ reverse more) ++ reverse (rises lies who) ≡ t ++ reverse (found_by k who more ++ n)
-found-next t n more k who lies e =
-    sym (reverse_before (t ++ reverse n) (rises lies who) more)
-    ∙ (sym (reverse_before t (rises lies who ++ more) n)
-    ∙ ap (λ (l : List Op). t ++ reverse (l ++ n)) (sym (rises-first k who lies more e)))
+pub found-next : (t n more : List Op) (k : Ticker) (who : TickOrRun) (sleeps : Bool) → sleeps ≡ is_asleep k →
+    ((t ++ reverse n) ++ reverse more) ++ reverse (wakes_up sleeps who) ≡ t ++ reverse (found_by k who more ++ n)
+found-next t n more k who sleeps e =
+    sym (reverse_before (t ++ reverse n) (wakes_up sleeps who) more)
+    ∙ (sym (reverse_before t (wakes_up sleeps who ++ more) n)
+    ∙ ap (λ (l : List Op). t ++ reverse (l ++ n)) (sym (wakes_up-first k who sleeps more e)))
 
 -- what a tick does once it has found something
 abbrev pub ready_ops : Sleeping → ℕ → List Op
 ready_ops x f = op.Sleeper sleeper_op.ExchangeFlag ∷ op.Move move.TakeUp f ∷ op.End reply.Ready (held_as x.who) ∷ []
 
-pub found-tick : (w : World) (x : Sleeping) (f : ℕ) (rest : List ℕ) (lies : Bool) → w.queue.items ≡ f ∷ rest →
-    lies ≡ is_lying (place_of w x.who) →
+pub found-tick : (w : World) (x : Sleeping) (f : ℕ) (rest : List ℕ) (sleeps : Bool) → w.queue.items ≡ f ∷ rest →
+    sleeps ≡ is_asleep (place_of w x.who) →
     search_tick w x
-    ≡ done (record w { queue = record w.queue { items = drop 1 w.queue.items } }) (rises lies x.who ++ ready_ops x f)
-found-tick w x f rest lies e l =
+    ≡ done (record w { queue = record w.queue { items = drop 1 w.queue.items } }) (wakes_up sleeps x.who ++ ready_ops x f)
+found-tick w x f rest sleeps e l =
     ap (λ (q : List ℕ). search_by (place_of w x.who) w q x) e
     ∙ ap (λ (ops : List Op). done (record w { queue = record w.queue { items = drop 1 w.queue.items } }) ops)
-    (rises-first (place_of w x.who) x.who lies (ready_ops x f) l)
+    (wakes_up-first (place_of w x.who) x.who sleeps (ready_ops x f) l)

@@ -2,7 +2,17 @@ pub mod Owing
 pub mod Scans
 pub mod Reaching
 pub mod Lifting
-pub mod Lying
+pub mod FallingAsleep
 pub mod Stealing
 pub mod Finding
 pub mod Listing
+pub mod Cells
+pub mod Seating
+pub mod TicksPlaces
+pub mod Rooms
+pub mod TicksLeaving
+pub mod Lists
+pub mod Taking
+pub mod Walking
+pub mod TicksAndRunsAt
+mod RunsLeaving

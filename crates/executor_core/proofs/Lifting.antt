@@ -10,14 +10,14 @@ use Rattle.executor_model.specs.declared.step.StepError.{StepError}
 use Rattle.executor_model.specs.declared.step.StepError.TheVariants.{NoSuch}
 use Rattle.executor_model.specs.World.{World}
 use Rattle.executor_model.specs.Good.{Good, Needs}
-use Rattle.executor_model.specs.Runs.{run_all}
+use Rattle.executor_model.specs.Executions.{run_all}
 use Rattle.executor_model.specs.Steps.{Machine, part, stack, top, party_of, part_refusal}
 use Rattle.executor_model.specs.Steps.{part_after, with_part, refusal, after, step}
 use Rattle.executor_model.specs.Steps.{start, idle}
-use Rattle.executor_model.proofs.Needing.{needs}
+use Rattle.executor_model.proofs.Steps.Needing.{needs}
 use Rattle.executor_core.specs.Reached.{IsReached}
 use Rattle.executor_core.proofs.Reaching.{begins}
-use Rattle.executor_model.proofs.Stepping.{refusal-there, refusal-absent, step-refused, step-made, run_all-push}
+use Rattle.executor_model.proofs.Steps.Stepping.{refusal-there, refusal-absent, step-refused, step-made, run_all-push}
 
 abbrev pub items : List (Vec Op Global) → List (List Op)
 items ps = map (λ v. v.items) ps

@@ -4,8 +4,8 @@ use Rattle.std.proofs.Common.{Bool, true, false, not, ◌||◌, cond, eqb, refl,
 use Rattle.std.specs.Prelude.{remove, IfNone, IfSome, None, Option, Some}
 use Rattle.std.specs.List.{position_or_len, list_any}
 use Rattle.executor_model.specs.World.{without}
-use Rattle.executor_runs.specs.declared.run.Run.{Run as RunOfCode}
-use Rattle.executor_runs.specs.Runs.{as_run}
+use Rattle.executor_core.specs.declared.runs.run.Run.{Run as RunOfCode}
+use Rattle.executor_core.specs.Runs.{as_run}
 
 module _ {A B : Type 0} (f : A → B) where
   -- one that was read in the list

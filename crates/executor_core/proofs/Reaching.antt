@@ -3,13 +3,11 @@ use Rattle.std.proofs.Common.{◌≡◌, ℕ, List, [], ◌∷◌, ◌++◌, ref
 use Rattle.std.specs.Prelude.{None}
 use Rattle.executor_model.specs.declared.step.Step.{Step}
 use Rattle.executor_model.specs.declared.step.StepError.{StepError}
-use Rattle.executor_model.specs.EveryTrace.{EveryTrace}
 use Rattle.executor_model.specs.Good.{Good}
-use Rattle.executor_model.specs.Runs.{EveryMachine, EveryRun}
+use Rattle.executor_model.specs.Executions.{EveryMachine}
 use Rattle.executor_model.specs.Steps.{Machine, refusal, after, step, stepped, run, start}
-use Rattle.executor_model.specs.Trace.{Trace}
-use Rattle.executor_model.proofs.Lift.{good}
-use Rattle.executor_model.proofs.Stepping.{step-made}
+use Rattle.executor_model.proofs.Steps.Lift.{good}
+use Rattle.executor_model.proofs.Steps.Stepping.{step-made}
 use Rattle.executor_core.specs.Reached.{IsReached}
 
 pub is_good : (s : Machine) → IsReached s → Good s
@@ -36,14 +34,6 @@ goes_on s new t n e r = record {
 pub begins : (s : Machine) (limit n : ℕ) → s ≡ start limit n → IsReached s
 begins s limit n e = record { limit = limit; parties = n; steps = []; here = e }
 
--- a law of every trace is one of this machine's
-pub law_here : (P : ℕ → Trace → Type 0) → EveryTrace P → (s : Machine) → IsReached s → (f : ℕ) → P f s.world.trace
-law_here P law s r f = subst (λ (x : Machine). P f x.world.trace) (sym r.here) (law r.limit r.parties r.steps f)
-
--- and so is a law of every run
-pub run_here : (P : Machine → ℕ → Type 0) → EveryRun P → (s : Machine) → IsReached s → (f : ℕ) → P s f
-run_here P law s r f = subst (λ (x : Machine). P x f) (sym r.here) (law r.limit r.parties r.steps f)
-
--- and one of every machine is one of this
+-- a law of every machine is one of this
 pub machine_law_here : (P : Machine → Type 0) → EveryMachine P → (s : Machine) → IsReached s → P s
 machine_law_here P law s r = subst P (sym r.here) (law r.limit r.parties r.steps)

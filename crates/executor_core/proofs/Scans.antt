@@ -6,7 +6,7 @@ use Rattle.std.proofs.lemmas.Bool.Decides.{nat_tests}
 use Rattle.std.proofs.lemmas.Grind.{common_steps}
 use Rattle.executor_model.specs.declared.op.Op.{Op}
 use Rattle.executor_model.specs.Weights.{same, weigh}
-use Rattle.executor_model.proofs.Lists.{same_cases}
+use Rattle.executor_model.proofs.Steps.Lists.{same_cases}
 
 pub same_test : (t u : ℕ) → eqb t u ≡ not (eqb (same t u) 0)
 same_test t u = ⊎_elim

@@ -6,13 +6,13 @@ use Rattle.std.proofs.lemmas.Bool.{cases_eq, false≢true}
 use Rattle.std.proofs.lemmas.Bool.Decides.{nat_tests}
 use Rattle.std.proofs.lemmas.Option.{none-some, slice_get_read, slice_get_past}
 use Rattle.executor_model.specs.World.{without, among}
-use Rattle.executor_parts.specs.declared.places.Place.{Place}
+use Rattle.executor_parts.specs.declared.places.EntryPlace.{EntryPlace}
 use Rattle.executor_parts.specs.Order.{IsIn, IsApart}
 use Rattle.executor_parts.specs.Places.{Entry, place_of, entry_at, stamped, entry_in, where_there, waker_of}
 use Rattle.executor_parts.specs.Places.{without_entry, with_future, left_by, set_future}
-use Rattle.executor_table.specs.declared.entries.Seat.{Seat}
-use Rattle.executor_table.specs.Entered.{place_by, place_in, AreSeated, futures_of, present_by, present_of}
-use Rattle.executor_table.proofs.Cells.{among_no, among_yes, without_no, without_yes, without_none}
+use Rattle.executor_core.specs.declared.table.entries.Seat.{Seat}
+use Rattle.executor_core.specs.Entered.{place_by, place_in, AreSeated, futures_of, present_by, present_of}
+use Rattle.executor_core.proofs.Cells.{among_no, among_yes, without_no, without_yes, without_none}
 
 module _ {F : Type 0} where
   abbrev keys_of : List (Entry F ℕ) → List ℕ
@@ -77,13 +77,13 @@ module _ {F : Type 0} where
       ]
 
   -- it is the one under its key
-  pub key_found : (p : Place) (f : ℕ) (es : List (Entry F ℕ)) → waker_of (entry_in p es) ≡ Some f →
+  pub key_found : (p : EntryPlace) (f : ℕ) (es : List (Entry F ℕ)) → waker_of (entry_in p es) ≡ Some f →
       waker_of (entry_at p.key es) ≡ Some f
   key_found p f es found = stamped_found p.stamp f (entry_at p.key es) found
 
   -- a change at its place is one under its key
   pub set_found :
-      (p : Place) (f : ℕ) (future : Option F) (es : List (Entry F ℕ))
+      (p : EntryPlace) (f : ℕ) (future : Option F) (es : List (Entry F ℕ))
       → waker_of (entry_in p es) ≡ Some f → set_future p future es ≡ with_future p.key future es
   set_found p f future es found = of (entry_in p es) found
     where
@@ -93,7 +93,7 @@ module _ {F : Type 0} where
       of (Some e) found = refl
 
   pub left_found :
-      (p : Place) (f : ℕ) (es : List (Entry F ℕ))
+      (p : EntryPlace) (f : ℕ) (es : List (Entry F ℕ))
       → waker_of (entry_in p es) ≡ Some f → left_by p es ≡ without_entry p.key es
   left_found p f es found = of (entry_in p es) found
     where
@@ -107,7 +107,7 @@ module _ {F : Type 0} where
   -- other seats with the same places, and maybe more of them
   seated_kept :
       (old new : List Seat) (es : List (Entry F ℕ))
-      → ((n : ℕ) (p : Place) → place_in old n ≡ Some p → place_in new n ≡ Some p)
+      → ((n : ℕ) (p : EntryPlace) → place_in old n ≡ Some p → place_in new n ≡ Some p)
       → AreSeated old es → AreSeated new es
   seated_kept old new [] same seated = tt
   seated_kept old new (e ∷ es) same seated = (same e.waker (place_of e) seated.0, seated_kept old new es same seated.1)
@@ -141,7 +141,7 @@ module _ {F : Type 0} where
 
   -- the entry of this future is where its seat says
   is_seated :
-      (seats : List Seat) (e : Entry F ℕ) (f : ℕ) (p : Place)
+      (seats : List Seat) (e : Entry F ℕ) (f : ℕ) (p : EntryPlace)
       → place_in seats e.waker ≡ Some (place_of e) → place_in seats f ≡ Some p → e.waker ≡ f → place_of e ≡ p
   is_seated seats e f p seated here same =
       let both : Some (place_of e) ≡ Some p = sym seated ∙ ap (place_in seats) same ∙ here in
@@ -149,10 +149,10 @@ module _ {F : Type 0} where
 
   -- an entry under another key is of another future
   other_future :
-      (seats : List Seat) (e : Entry F ℕ) (f : ℕ) (p : Place)
+      (seats : List Seat) (e : Entry F ℕ) (f : ℕ) (p : EntryPlace)
       → place_in seats e.waker ≡ Some (place_of e) → place_in seats f ≡ Some p → e.key ≢ p.key → e.waker ≢ f
   other_future seats e f p seated here differs same =
-      differs (ap (λ (q : Place). q.key) (is_seated seats e f p seated here same))
+      differs (ap (λ (q : EntryPlace). q.key) (is_seated seats e f p seated here same))
 
   -- ---- the futures
 
@@ -177,7 +177,7 @@ module _ {F : Type 0} where
       ]
 
   -- no other entry is at this place
-  none_in : (p : Place) (e : Entry F ℕ) (es : List (Entry F ℕ)) → IsApart (keys_of (e ∷ es)) → e.key ≡ p.key →
+  none_in : (p : EntryPlace) (e : Entry F ℕ) (es : List (Entry F ℕ)) → IsApart (keys_of (e ∷ es)) → e.key ≡ p.key →
       entry_in p es ≡ None
   none_in p e es apart here =
       let absent : ¬ IsIn p.key (keys_of es) = λ there. apart.0 (subst (λ k. IsIn k (keys_of es)) (sym here) there) in
@@ -185,7 +185,7 @@ module _ {F : Type 0} where
 
   -- its entry isn't at its place, so it has none
   pub not_among :
-      (seats : List Seat) (f : ℕ) (p : Place) (es : List (Entry F ℕ))
+      (seats : List Seat) (f : ℕ) (p : EntryPlace) (es : List (Entry F ℕ))
       → AreSeated seats es → IsApart (keys_of es) → place_in seats f ≡ Some p → waker_of (entry_in p es) ≢ Some f
       → among f (futures_of es) ≡ false
   not_among seats f p [] seated apart here other = refl
@@ -193,8 +193,8 @@ module _ {F : Type 0} where
       elim (cases_eq e.waker f) [
         | inl same ↦
             let place = is_seated seats e f p seated.0 here same in
-            let under = at_here p.key e es (ap (λ (q : Place). q.key) place) in
-            let found = ap (stamped p.stamp) under ∙ is_stamped p.stamp e (ap (λ (q : Place). q.stamp) place) in
+            let under = at_here p.key e es (ap (λ (q : EntryPlace). q.key) place) in
+            let found = ap (stamped p.stamp) under ∙ is_stamped p.stamp e (ap (λ (q : EntryPlace). q.stamp) place) in
             absurd (other (ap waker_of found ∙ ap Some same))
         | inr differs ↦
             among_no f e.waker (futures_of es) differs
@@ -216,7 +216,7 @@ module _ {F : Type 0} where
       among_no f e.waker (futures_of es) other ∙ none_among seats f es seated.1 none
 
   pub futures_without :
-      (seats : List Seat) (f : ℕ) (p : Place) (es : List (Entry F ℕ))
+      (seats : List Seat) (f : ℕ) (p : EntryPlace) (es : List (Entry F ℕ))
       → AreSeated seats es → place_in seats f ≡ Some p → waker_of (entry_at p.key es) ≡ Some f
       → futures_of (without_entry p.key es) ≡ without f (futures_of es)
   futures_without seats f p [] seated here found = absurd (none-some f found)
@@ -290,7 +290,7 @@ module _ {F : Type 0} where
 
   -- the entries after that of a future are of others
   rest_absent :
-      (seats : List Seat) (f : ℕ) (p : Place) (e : Entry F ℕ) (es : List (Entry F ℕ))
+      (seats : List Seat) (f : ℕ) (p : EntryPlace) (e : Entry F ℕ) (es : List (Entry F ℕ))
       → AreSeated seats es → IsApart (keys_of (e ∷ es)) → place_in seats f ≡ Some p → e.key ≡ p.key
       → among f (present_of es) ≡ false
   rest_absent seats f p e es seated apart here at =
@@ -299,7 +299,7 @@ module _ {F : Type 0} where
       none_present f es (not_among seats f p es seated apart.1 here other)
 
   pub present_without :
-      (seats : List Seat) (f : ℕ) (p : Place) (es : List (Entry F ℕ))
+      (seats : List Seat) (f : ℕ) (p : EntryPlace) (es : List (Entry F ℕ))
       → AreSeated seats es → IsApart (keys_of es) → place_in seats f ≡ Some p → waker_of (entry_at p.key es) ≡ Some f
       → present_of (without_entry p.key es) ≡ without f (present_of es)
   present_without seats f p [] seated apart here found = absurd (none-some f found)
@@ -318,7 +318,7 @@ module _ {F : Type 0} where
       ]
 
   pub present_out :
-      (seats : List Seat) (f : ℕ) (p : Place) (es : List (Entry F ℕ))
+      (seats : List Seat) (f : ℕ) (p : EntryPlace) (es : List (Entry F ℕ))
       → AreSeated seats es → IsApart (keys_of es) → place_in seats f ≡ Some p → waker_of (entry_at p.key es) ≡ Some f
       → present_of (with_future p.key None es) ≡ without f (present_of es)
   present_out seats f p [] seated apart here found = absurd (none-some f found)
@@ -338,7 +338,7 @@ module _ {F : Type 0} where
       ]
 
   pub present_back :
-      (seats : List Seat) (f : ℕ) (p : Place) (x : F) (es : List (Entry F ℕ))
+      (seats : List Seat) (f : ℕ) (p : EntryPlace) (x : F) (es : List (Entry F ℕ))
       → AreSeated seats es → place_in seats f ≡ Some p → waker_of (entry_at p.key es) ≡ Some f
       → among f (present_of (with_future p.key (Some x) es)) ≡ true
   present_back seats f p x [] seated here found = absurd (none-some f found)
@@ -384,7 +384,7 @@ place_new [] s (suc n) here = absurd (omega arith)
 place_new (x ∷ seats) s zero here = absurd (omega arith)
 place_new (x ∷ seats) s (suc n) here = place_new seats s n (omega arith)
 
-place_kept : (seats : List Seat) (s : Seat) (n : ℕ) (p : Place) → place_in seats n ≡ Some p →
+place_kept : (seats : List Seat) (s : Seat) (n : ℕ) (p : EntryPlace) → place_in seats n ≡ Some p →
     place_in (seats ++ s ∷ []) n ≡ Some p
 place_kept [] s n p here = absurd (none-some p here)
 place_kept (x ∷ seats) s zero p here = here
@@ -408,7 +408,7 @@ pub place_past : (seats : List Seat) (f : ℕ) → length seats ≤ f → place_
 place_past seats f past = ap place_by (slice_get_past seats f past)
 
 -- a future with a seat is one of those that were accepted
-pub is_known : (seats : List Seat) (f : ℕ) (p : Place) → place_in seats f ≡ Some p → f < length seats
+pub is_known : (seats : List Seat) (f : ℕ) (p : EntryPlace) → place_in seats f ≡ Some p → f < length seats
 is_known [] f p here = absurd (none-some p here)
 is_known (x ∷ seats) zero p here = omega arith
 is_known (x ∷ seats) (suc f) p here = omega (arith, is_known seats f p here)
@@ -436,7 +436,7 @@ seated_written seats f s es same seated =
 
 -- a search found an entry where the future has one
 pub is_found :
-    {F : Type 0} (f : ℕ) (es : List (Entry F ℕ)) (result : Option Place)
+    {F : Type 0} (f : ℕ) (es : List (Entry F ℕ)) (result : Option EntryPlace)
     → IfSome result (λ place. waker_of (entry_in place es) ≡ Some f) → IfNone result (among f (futures_of es) ≡ false)
     → is_some result ≡ among f (futures_of es)
 is_found f es None found absent = sym absent

@@ -2,16 +2,16 @@
 use Rattle.std.proofs.Common.{◌≡◌, ◌≢◌, ℕ, zero, suc, ◌-◌, List, [], ◌∷◌, ◌++◌, refl, sub-one}
 use Rattle.executor_model.specs.declared.op.Op.{Op}
 use Rattle.executor_model.specs.declared.op.Op.TheVariants as op
-use Rattle.executor_model.specs.declared.op.Sleeper.{Sleeper}
+use Rattle.executor_model.specs.declared.op.TickOrRun.{TickOrRun}
 use Rattle.executor_model.specs.declared.op.Steal.{Steal}
 use Rattle.executor_model.specs.declared.op.StealOp.TheVariants as steal_op
 use Rattle.executor_model.specs.ActsOfRuns.{steal_by, steal_length_by}
 use Rattle.executor_model.specs.ActsOfSleepers.{found_by}
-use Rattle.executor_model.specs.World.{World, Place, Up, Lies, Left, done}
-use Rattle.executor_ticks.specs.Ticks.{is_lying}
-use Rattle.executor_runs.specs.Running.{Running}
+use Rattle.executor_model.specs.World.{World, Ticker, Awake, Asleep, Left, done}
+use Rattle.executor_core.specs.Ticks.{is_asleep}
+use Rattle.executor_core.specs.Running.{Running}
 use Rattle.executor_core.specs.declared.store.Store.{Store}
-use Rattle.executor_core.specs.Rising.{rises}
+use Rattle.executor_core.specs.WakingUp.{wakes_up}
 
 pub length-some : (n : ℕ) (w : World) (s : Steal) → n ≢ 0 →
     steal_length_by n w s ≡ done w (op.Steal (steal_op.OwnLength s n) ∷ [])
@@ -23,12 +23,12 @@ pub left-some : (n : ℕ) (w : World) (s : Steal) → n ≢ 0 →
 left-some zero w s h = absurd (h refl)
 left-some (suc n) w s h = rw sub-one refl
 
--- who lies gets up first
-pub rises-found : (k : Place) (who : Sleeper) (more : List Op) → found_by k who more ≡ rises (is_lying k) who ++ more
-rises-found Up who more = refl
-rises-found (Lies n) who more = refl
-rises-found Left who more = refl
+-- who sleeps wakes up first
+pub wakes_up-found : (k : Ticker) (who : TickOrRun) (more : List Op) → found_by k who more ≡ wakes_up (is_asleep k) who ++ more
+wakes_up-found Awake who more = refl
+wakes_up-found (Asleep n) who more = refl
+wakes_up-found Left who more = refl
 
 -- the store with these runs
 abbrev pub with_runs : Store → Running → Store
-with_runs s rs = record s { lodgers = record s.lodgers { runs = rs } }
+with_runs s rs = record s { ticks_and_runs = record s.ticks_and_runs { runs = rs } }

@@ -5,7 +5,7 @@ use Rattle.std.specs.Prelude.{position, remove, None, Some}
 use Rattle.std.specs.List.{position_or_len}
 use Rattle.std.proofs.lemmas.Bool.Decides.{nat_tests}
 use Rattle.executor_model.specs.World.{without}
-use Rattle.executor_runs.proofs.Lists.{removed}
+use Rattle.executor_core.proofs.Lists.{removed}
 
 at-is : (b : Bool) (n at : ℕ) → cond b (Some n) None ≡ Some at → n ≡ at
 at-is true n at e = cc

@@ -6,7 +6,7 @@ use Rattle.std.proofs.lemmas.Bool.Decides.{nat_tests}
 use Rattle.executor_model.specs.declared.op.Op.{Op}
 use Rattle.executor_model.specs.declared.op.RunPoll.{RunPoll}
 use Rattle.executor_model.specs.ActsOfRuns.{next_place, queue_at, walk}
-use Rattle.executor_runs.specs.Walks.{goes_to}
+use Rattle.executor_core.specs.Walks.{goes_to}
 
 by-own : (b : Bool) (own other : List Op) → b ≡ true → elim b [ true ↦ own | false ↦ other ] ≡ own
 by-own true own other e = refl

@@ -2,11 +2,11 @@
 use Rattle.std.specs.Prelude.{◌≡◌, ℕ, ◌<◌, ◌≤◌, Bool, true, false, List, [], ◌∷◌}
 use Rattle.std.specs.Prelude.{length, map, slice_get, Option, Some, None}
 use Rattle.executor_parts.specs.Places.{Entry, place_of}
-use Rattle.executor_parts.specs.declared.places.Place.{Place}
+use Rattle.executor_parts.specs.declared.places.EntryPlace.{EntryPlace}
 use Rattle.executor_parts.specs.declared.places.Vacancy.{Vacancy}
 use Rattle.executor_parts.specs.declared.places.SpawnRefused.{SpawnRefused}
 use Rattle.executor_parts.specs.declared.places.SpawnRefused.TheVariants.{Full, NoMemory}
-use Rattle.executor_table.specs.declared.entries.Seat.{Seat}
+use Rattle.executor_core.specs.declared.table.entries.Seat.{Seat}
 
 pub record Entered : Type 0 where
   -- the futures that have an entry in the table, in the order of acceptance
@@ -20,7 +20,7 @@ pub record Entered : Type 0 where
   -- at most so many have an entry
   pub limit : ℕ
   -- where the next one enters
-  pub next : Place
+  pub next : EntryPlace
   -- one more future may enter without memory
   pub has_room : Bool
 
@@ -35,12 +35,12 @@ abbrev pub IsRefusal : Entered → SpawnRefused → Type 0
 IsRefusal s Full = s.limit ≤ length s.table
 IsRefusal s NoMemory = (length s.table < s.limit) × (s.has_room ≡ false)
 
-abbrev pub place_by : Option Seat → Option Place
+abbrev pub place_by : Option Seat → Option EntryPlace
 place_by None = None
 place_by (Some seat) = Some seat.place
 
 -- the place of the entry that a future has or had
-abbrev pub place_in : List Seat → ℕ → Option Place
+abbrev pub place_in : List Seat → ℕ → Option EntryPlace
 place_in seats f = place_by (slice_get seats f)
 
 -- each of these entries is where the seat of its future says, and its waker is the number of that future

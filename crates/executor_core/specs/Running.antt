@@ -2,7 +2,7 @@
 use Rattle.std.specs.Prelude.{◌≡◌, ℕ, ◌-◌, Bool, List, [], ◌∷◌, ◌++◌, Option}
 use Rattle.std.specs.Prelude.{None, Some, length, slice_index_or, slice_set}
 use Rattle.std.specs.Prelude.{cond, nat_lt}
-use Rattle.executor_model.specs.World.{Place, Run, Stage, New, Listed, Ended, Lock, no_run, without}
+use Rattle.executor_model.specs.World.{Ticker, Run, Stage, New, Listed, Ended, Lock, no_run, without}
 
 -- the runs, their own queues and the list of these: the runs and queues by number, a Runnable by its future
 pub record Running : Type 0 where
@@ -39,7 +39,7 @@ listed_by Ended r s = s
 abbrev pub unlisted : ℕ → Running → Running
 unlisted r s = record (put_in s r (record (run_in s r) { stage = Ended })) { listed = without r s.listed }
 
-abbrev pub placed : ℕ → Place → Running → Running
+abbrev pub placed : ℕ → Ticker → Running → Running
 placed r x s = put_in s r (record (run_in s r) { place = x })
 
 -- a queue that was made ahead is empty

@@ -1,10 +1,10 @@
 -- The runs of the code, as the model's.
 use Rattle.executor_model.specs.World.{Run, Stage, New, Listed, Ended, Lock}
-use Rattle.executor_runs.specs.declared.lock.Lock.{Lock as LockOfList}
-use Rattle.executor_runs.specs.declared.run.Run.{Run as RunOfCode}
-use Rattle.executor_runs.specs.declared.run.Stage.{Stage as StageOfRun}
-use Rattle.executor_runs.specs.declared.run.Stage.TheVariants as stage
-use Rattle.executor_ticks.specs.Ticks.{as_place}
+use Rattle.executor_core.specs.declared.runs.lock.Lock.{Lock as LockOfList}
+use Rattle.executor_core.specs.declared.runs.run.Run.{Run as RunOfCode}
+use Rattle.executor_core.specs.declared.runs.run.Stage.{Stage as StageOfRun}
+use Rattle.executor_core.specs.declared.runs.run.Stage.TheVariants as stage
+use Rattle.executor_core.specs.Ticks.{as_ticker}
 
 abbrev pub as_stage : StageOfRun → Stage
 as_stage stage.New = New
@@ -16,7 +16,7 @@ as_lock l = record { writing = l.writing; readers = l.readers }
 
 abbrev pub as_run : RunOfCode → Run
 as_run x = record {
-  place = as_place x.place;
+  place = as_ticker x.place;
   stage = as_stage x.stage;
   dropped = x.dropped;
   taken = x.counts.taken;

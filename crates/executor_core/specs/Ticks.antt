@@ -1,14 +1,14 @@
--- What a contract sees of the places of ticks, and of the sleepers among whom they lie down.
+-- What a contract sees of the places of ticks, and of the sleepers among whom they fall asleep.
 use Rattle.std.specs.Prelude.{ℕ, ◌+◌, ◌-◌, ◌<◌, ◌≤◌, Bool, true, false, List, Option, None, Some, slice_index_or}
 use Rattle.executor_parts.specs.Sleepers.{Sleepers}
 use Rattle.executor_parts.specs.declared.sleepers.Room.{Room}
 use Rattle.executor_model.specs.declared.op.Sleeping.{Sleeping}
-use Rattle.executor_model.specs.World.{Place, Up, Lies, Left}
-use Rattle.executor_ticks.specs.declared.place.Place.{Place as PlaceOfCode}
-use Rattle.executor_ticks.specs.declared.place.Place.TheVariants as place
+use Rattle.executor_model.specs.World.{Ticker, Awake, Asleep, Left}
+use Rattle.executor_core.specs.declared.ticks.ticker.Ticker.{Ticker as TickerOfCode}
+use Rattle.executor_core.specs.declared.ticks.ticker.Ticker.TheVariants as ticker
 
 -- the sleepers and the flag beside them
-pub record Bed : Type 0 where
+pub record Flagged : Type 0 where
   pub sleepers : Sleepers Sleeping
   pub notified : Bool
   -- room for one more was made ahead
@@ -16,18 +16,18 @@ pub record Bed : Type 0 where
 
 -- the places of the ticks by number
 pub record Ticked : Type 0 where
-  pub places : List Place
+  pub places : List Ticker
   -- there may be one more without memory
   pub has_room : Bool
 
--- the model's place: the number says where one lies
-abbrev pub as_place : PlaceOfCode → Place
-as_place place.Up = Up
-as_place (place.Lies sleeper) = Lies sleeper.number
-as_place place.Left = Left
+-- the model's place: the number says where one sleeps
+abbrev pub as_ticker : TickerOfCode → Ticker
+as_ticker ticker.Awake = Awake
+as_ticker (ticker.Asleep sleeper) = Asleep sleeper.number
+as_ticker ticker.Left = Left
 
 -- where tick t is; one that isn't there is as one that left
-abbrev pub place_in : Ticked → ℕ → Place
+abbrev pub place_in : Ticked → ℕ → Ticker
 place_in s t = slice_index_or s.places t Left
 
 -- the room there is, but what was made ahead
@@ -45,10 +45,10 @@ IsSpare None s = Unit {0}
 IsSpare (Some room) s = s.count < s.rooms
 
 -- these sleepers and this flag, with no room ahead
-abbrev pub bed : Sleepers Sleeping → Bool → Bed
-bed s b = record { sleepers = s; notified = b; has_room = false }
+abbrev pub flagged : Sleepers Sleeping → Bool → Flagged
+flagged s b = record { sleepers = s; notified = b; has_room = false }
 
-abbrev pub is_lying : Place → Bool
-is_lying Up = false
-is_lying (Lies n) = true
-is_lying Left = false
+abbrev pub is_asleep : Ticker → Bool
+is_asleep Awake = false
+is_asleep (Asleep n) = true
+is_asleep Left = false

@@ -6,7 +6,7 @@ use Rattle.std.specs.VecDeque.{deque_len, deque_capacity}
 use Rattle.executor_model.specs.declared.op.Op.{Op}
 use Rattle.executor_model.specs.World.{World, Done}
 use Rattle.executor_model.specs.Steps.{Machine}
-use Rattle.executor_runs.specs.Lodgers as lodgers
+use Rattle.executor_core.specs.TicksAndRuns as ticks_and_runs
 use Rattle.executor_core.specs.declared.store.Store.{Store}
 
 abbrev pub world_of : Store → World
@@ -20,13 +20,13 @@ world_of s = record {
   leaving = s.entries.leaving;
   waking = s.waking.items;
   wakers = s.wakers.items;
-  ticks = s.lodgers.ticks.places;
-  runs = s.lodgers.runs.runs;
-  own = s.lodgers.runs.own;
-  listed = s.lodgers.runs.listed;
-  lock = s.lodgers.runs.lock;
-  sleepers = s.lodgers.bedroom.sleepers;
-  notified = s.lodgers.bedroom.notified;
+  ticks = s.ticks_and_runs.ticks.places;
+  runs = s.ticks_and_runs.runs.runs;
+  own = s.ticks_and_runs.runs.own;
+  listed = s.ticks_and_runs.runs.listed;
+  lock = s.ticks_and_runs.runs.lock;
+  sleepers = s.ticks_and_runs.flagged_sleepers.sleepers;
+  notified = s.ticks_and_runs.flagged_sleepers.notified;
   gone = s.gone;
   trace = s.trace.items;
 }
@@ -39,8 +39,8 @@ pub record HasRoom (s : Store) : Type 0 where
   pub entries : s.entries.has_room ≡ true
   pub waking : deque_len s.waking + 1 ≤ deque_capacity s.waking
   pub wakers : vec_len s.wakers + 1 ≤ vec_capacity s.wakers
-  pub lodgers : lodgers.HasRoom s.lodgers
-  pub readers : s.lodgers.runs.lock.readers + 1 < 2 ^ 64
+  pub ticks_and_runs : ticks_and_runs.HasRoom s.ticks_and_runs
+  pub readers : s.ticks_and_runs.runs.lock.readers + 1 < 2 ^ 64
   pub trace : vec_len s.trace + 5 ≤ vec_capacity s.trace
 
 -- the trace may have one more

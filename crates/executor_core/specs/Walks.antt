@@ -9,9 +9,9 @@ use Rattle.executor_model.specs.declared.op.StealOp.TheVariants as steal_op
 use Rattle.executor_model.specs.declared.op.Then.TheVariants as then
 use Rattle.executor_model.specs.declared.op.TickOp.TheVariants as tick_op
 use Rattle.executor_model.specs.ActsOfRuns.{asleep}
-use Rattle.executor_runs.specs.declared.list.Found.{Found}
+use Rattle.executor_core.specs.declared.runs.list.Found.{Found}
 
--- it steals from this queue; behind the last it gives the lock back, and the run lies down
+-- it steals from this queue; behind the last it gives the lock back, and the run falls asleep
 abbrev pub goes_to : RunPoll → Option Found → List Op
 goes_to x None = op.List list_op.UnlockRead ∷ op.Tick (tick_op.CopyWaker (asleep x)) ∷ []
 goes_to x (Some found) = op.Steal (steal_op.Length (record {

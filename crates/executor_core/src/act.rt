@@ -11,8 +11,20 @@ ghost use Rattle.executor_model.specs.Good.{IsKnown, CanGrow, IsHeld, HasPlace, 
 ghost use Rattle.executor_core.specs.Views.{world_of, HasRoom, HasRoomToEnd, HasSpace, Does};
 ghost use Rattle.executor_model.specs.Good.{Needs, Fits};
 
+pub mod closing;
+pub mod handle;
+pub mod list;
+pub mod queue;
+pub mod run;
+pub mod sleeper;
+pub mod steal;
+pub mod table;
+pub mod task;
+pub mod tick;
+pub mod user;
+pub mod waker;
+
 use crate::store::Store;
-use crate::{closing, handle, list, queue, run, sleeper, steal, table, task, tick, user, waker};
 use executor_model::{Event, Hint, Op};
 
 /// The party does this, and is told this from outside.

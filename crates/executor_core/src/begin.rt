@@ -12,12 +12,12 @@ ghost use Rattle.executor_core.specs.Kinds.{is_on_part, is_on_run, is_on_kept, i
 ghost use Rattle.executor_core.specs.Views.{world_of, HasRoom, HasRoomToEnd, HasSpace, Does};
 
 use crate::possible::kept;
+use crate::runs::Stage;
 use crate::store::Store;
 use executor_model::{
     By, Call, ClosingOp, Event, HandleOp, Hold, ListOp, Op, QueueOp, Reply, RunOp, RunPoll,
-    Section, Sleeper, Sleeping, TableOp, TickOp, UserOp, Waker, WakerOp,
+    Section, Sleeping, TableOp, TickOp, TickOrRun, UserOp, Waker, WakerOp,
 };
-use executor_runs::Stage;
 use task_moves::moves::Move;
 
 fn waker_of(here: Option<Waker>, by: By) -> Waker
@@ -86,7 +86,7 @@ fn begin_on_tick(store: &mut Store, todo: &mut Vec<Op>, party: u32, here: Option
         Call::PollTick(t, by) => {
             let sleeping = Sleeping {
                 waker: waker_of(here, by),
-                who: Sleeper::Tick(t),
+                who: TickOrRun::Tick(t),
                 poll: store.trace.len() as u64,
             };
             store
@@ -99,7 +99,7 @@ fn begin_on_tick(store: &mut Store, todo: &mut Vec<Op>, party: u32, here: Option
                 .trace
                 .push_reserved(Event::TickDropped { party, tick: t });
             todo.push_reserved(Op::End(Reply::Done, Hold::Tick(t)));
-            todo.push_reserved(Op::Tick(TickOp::Leave(Sleeper::Tick(t))));
+            todo.push_reserved(Op::Tick(TickOp::Leave(TickOrRun::Tick(t))));
         }
         _ => begin_on_run(store, todo, party, here, call),
     }
@@ -141,7 +141,7 @@ fn begin_poll_of_run(store: &Store, todo: &mut Vec<Op>, x: RunPoll)
     requires space { HasSpace todo.old }
     ensures { todo.new.items ≡ todo.old.items ++ reverse (steps.poll_run (run_of (world_of store.now) x.run).stage x) }
 {
-    match store.lodgers.runs.stage(x.run) {
+    match store.ticks_and_runs.runs.stage(x.run) {
         Stage::New => todo.push_reserved(Op::List(ListOp::LockWrite(Section::Register(x)))),
         Stage::Listed => todo.push_reserved(Op::User(UserOp::PollOwn(x))),
         Stage::Ended => todo.push_reserved(Op::End(Reply::Finished, Hold::Run(x.run))),
@@ -158,8 +158,8 @@ fn begin_drop_of_run(store: &mut Store, todo: &mut Vec<Op>, r: u64)
         (steps.drop_run (run_of (world_of store.old) r).stage r))
         store.new todo.old.items todo.new.items }
 {
-    let stage = store.lodgers.runs.stage(r);
-    store.lodgers.runs.begin_drop(r);
+    let stage = store.ticks_and_runs.runs.stage(r);
+    store.ticks_and_runs.runs.begin_drop(r);
     match stage {
         Stage::New => {
             todo.push_reserved(Op::Run(RunOp::Reschedule(r, Reply::Done)));
@@ -172,7 +172,7 @@ fn begin_drop_of_run(store: &mut Store, todo: &mut Vec<Op>, r: u64)
         }
         Stage::Ended => {
             todo.push_reserved(Op::End(Reply::Done, Hold::Run(r)));
-            todo.push_reserved(Op::Tick(TickOp::Leave(Sleeper::Run(r))));
+            todo.push_reserved(Op::Tick(TickOp::Leave(TickOrRun::Run(r))));
         }
     }
 }

@@ -9,8 +9,8 @@ ghost use Rattle.executor_model.specs.Good.{IsKnown, CanGrow, IsHeld, HasPlace, 
 ghost use Rattle.executor_core.specs.Views.{world_of, HasRoom, HasRoomToEnd, HasSpace, Does};
 
 use crate::store::Store;
+use crate::table::Entries;
 use executor_model::{HandleOp, Op, QueueOp, TableOp, UserOp};
-use executor_table::Entries;
 use task_moves::ScheduleInfo;
 use task_moves::moves::{self, AwaiterDebt, FutureDebt, Move, Moved, State};
 

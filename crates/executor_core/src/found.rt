@@ -1,23 +1,23 @@
 //! What a run does with what it has found.
 ghost use Rattle.std.specs.Prelude.{◌≡◌, ◌+◌, ◌≤◌, ◌++◌, reverse, vec_len, vec_capacity};
 ghost use Rattle.executor_model.specs.ActsOfRuns as runs;
-ghost use Rattle.executor_core.specs.Rising.{counted, onward};
+ghost use Rattle.executor_core.specs.WakingUp.{counted, onward};
 ghost use Rattle.executor_core.specs.Views.{world_of, HasRoomToEnd, HasSpace, Does};
 
+use crate::act::tick::push_wake_up;
 use crate::store::Store;
-use crate::tick::push_rises;
 use executor_model::{
-    Op, RunOp, RunPoll, Sleeper, SleeperOp, Sleeping, Source, Steal, StealOp, Then, TickOp,
+    Op, RunOp, RunPoll, SleeperOp, Sleeping, Source, Steal, StealOp, Then, TickOp, TickOrRun,
 };
 use task_moves::moves::Move;
 
-/// How a run lies down in this poll.
+/// How a run falls asleep in this poll.
 pub fn asleep(x: RunPoll) -> Sleeping
     ensures { result ≡ runs.asleep x }
 {
     Sleeping {
         waker: x.waker,
-        who: Sleeper::Run(x.run),
+        who: TickOrRun::Run(x.run),
         poll: x.poll,
     }
 }
@@ -45,7 +45,7 @@ pub fn push_run(store: &mut Store, todo: &mut Vec<Op>, x: RunPoll, f: u64)
     ensures capacity { vec_capacity todo.new ≡ vec_capacity todo.old }
     ensures len { vec_len todo.new ≡ vec_len todo.old + 2 }
 {
-    let full = store.lodgers.runs.take_one(x.run);
+    let full = store.ticks_and_runs.runs.take_one(x.run);
     push_onward(todo, full, x);
     todo.push_reserved(Op::Move(Move::TakeUp, f));
 }
@@ -58,7 +58,7 @@ fn push_counted(store: &mut Store, todo: &mut Vec<Op>, x: RunPoll, f: u64)
     ensures capacity { vec_capacity todo.new ≡ vec_capacity todo.old }
     ensures len { vec_len todo.new ≤ vec_len todo.old + 2 }
 {
-    let full = store.lodgers.runs.count(x.run);
+    let full = store.ticks_and_runs.runs.count(x.run);
     if full {
         todo.push_reserved(Op::Steal(StealOp::Length(Steal {
             poll: x,
@@ -70,7 +70,7 @@ fn push_counted(store: &mut Store, todo: &mut Vec<Op>, x: RunPoll, f: u64)
     }
 }
 
-/// The run gets up if it lies, tells a sleeper and counts what it has found.
+/// The run wakes up if it sleeps, tells a sleeper and counts what it has found.
 pub fn push_found(store: &mut Store, todo: &mut Vec<Op>, x: RunPoll, f: u64)
     requires room { HasRoomToEnd store.old }
     requires space { vec_len todo.old + 4 ≤ vec_capacity todo.old }
@@ -78,8 +78,8 @@ pub fn push_found(store: &mut Store, todo: &mut Vec<Op>, x: RunPoll, f: u64)
     ensures capacity { vec_capacity todo.new ≡ vec_capacity todo.old }
     ensures len { vec_len todo.new ≤ vec_len todo.old + 4 }
 {
-    let lies = store.lodgers.lies(Sleeper::Run(x.run));
+    let sleeps = store.ticks_and_runs.sleeps(TickOrRun::Run(x.run));
     push_counted(store, todo, x, f);
     todo.push_reserved(Op::Sleeper(SleeperOp::ExchangeFlag));
-    push_rises(todo, lies, Sleeper::Run(x.run));
+    push_wake_up(todo, sleeps, TickOrRun::Run(x.run));
 }

@@ -3,42 +3,20 @@ ghost use Rattle.std.specs.Prelude.{◌≡◌, ◌⊎◌, ℕ, ◌+◌, ◌<◌,
 ghost use Rattle.std.specs.Prelude.{OnOk, IfOk, IfErr, IfSome};
 ghost use Rattle.std.specs.Prelude.{MatchOption, slice_get, take, List, length, map};
 ghost use Rattle.executor_model.specs.Steps as steps;
-ghost use Rattle.executor_model.specs.AskedPolls.{IsWokenBetweenPolls};
-ghost use Rattle.executor_model.specs.AwaiterKept.{AwaiterIsKept};
-ghost use Rattle.executor_model.specs.DroppedOnce.{DropComesOnce, IsDroppedByTheEnd};
-ghost use Rattle.executor_model.specs.EarlyDrop.{EarlyDropHasCause};
-ghost use Rattle.executor_model.specs.LawfulPolls.{HasLawfulPolls};
-ghost use Rattle.executor_model.specs.OutputKept.{OutputIsKept};
-ghost use Rattle.executor_model.specs.OutputOnce.{OutputGoesOnce};
-ghost use Rattle.executor_model.specs.Runs.{run_all};
-ghost use Rattle.executor_model.specs.SleepersAgree.{SleepersAgree};
-ghost use Rattle.executor_model.specs.SleepersTold.{SleepersAreTold};
+ghost use Rattle.executor_model.specs.Executions.{run_all};
 ghost use Rattle.executor_model.specs.World.{awaiter_of};
-ghost use Rattle.runs_called.specs.Called.{KeeperIsCalled, SomeStandingIsCalled};
-ghost use Rattle.runs_laws.specs.LoneEnds.{LoneCallsEnd};
-ghost use Rattle.runs_reach.specs.Reach.{IsInReach, IsReachedInOrder};
-ghost use Rattle.runs_reach.specs.RunReach.{IsKeptReached, IsReachedByRuns, LeavesCommon};
 ghost use Rattle.executor_core.specs.Views.{world_of, state_of, HasRoom, HasSpace};
+ghost use Rattle.executor_core.specs.AllLaws.{AllLaws};
 ghost use Rattle.executor_core.specs.Reached.{IsReached};
 ghost use Rattle.executor_core.specs.Refused.{IsRefused, waits_for_lock};
 
+use crate::laws::all_laws;
 use crate::part::take_part;
 use crate::possible::{go_waits, has_handle, part_refusal};
+use crate::runs::TicksAndRuns;
 use crate::store::Store;
-use executor_model::laws::{outputs_are_kept, sleepers_agree, sleepers_are_told};
-use executor_model::trace_laws::{
-    awaiters_are_kept, closing_drops_each_future_once, drops_come_once, early_drops_have_causes,
-    outputs_go_once, polls_are_asked_for, polls_are_lawful,
-};
+use crate::table::Entries;
 use executor_model::{Awaiter, Event, Kind, Op, Step, StepError};
-use executor_runs::Lodgers;
-use executor_table::Entries;
-use runs_called::laws::{keepers_are_called, some_standing_is_called};
-use runs_laws::laws::lone_calls_end;
-use runs_reach::laws::{
-    arrival_order_needs_fewer_ticks, common_futures_are_in_reach,
-    dropped_runs_leave_common_futures, kept_futures_are_in_reach, runs_reach_futures,
-};
 use std::alloc::{AllocError, Global};
 use std::collections::VecDeque;
 use std::marker::Model;
@@ -77,8 +55,8 @@ fn make_room(store: &mut Store) -> Result<(), StepError>
         && store.entries.reserve().is_ok()
         && store.waking.reserve(1).is_ok()
         && store.wakers.reserve(1).is_ok()
-        && store.lodgers.reserve().is_ok()
-        && store.lodgers.runs.counts_on()
+        && store.ticks_and_runs.reserve().is_ok()
+        && store.ticks_and_runs.runs.counts_on()
         && store.trace.reserve(5).is_ok();
     if room {
         Ok(())
@@ -134,7 +112,7 @@ fn empty(alloc: Global, limit: u64) -> Store
         entries: Entries::new(alloc, limit),
         waking: VecDeque::new(alloc),
         wakers: Vec::new(alloc),
-        lodgers: Lodgers::new(alloc),
+        ticks_and_runs: TicksAndRuns::new(alloc),
         gone: false,
         trace: Vec::new(alloc),
     }
@@ -172,51 +150,17 @@ impl Machine {
         }
     }
 
-    /// Steps until one is refused. Says the place of that one, and why, if one was. What holds of every trace holds
-    /// of this machine's then, and what holds of every machine of this one: each such law has a clause here.
+    /// Steps until one is refused. Says the place of that one, and why, if one was. Then all laws of every list of
+    /// steps hold of this machine.
     pub fn run(&mut self, list: &[Step]) -> Option<(usize, StepError)>
         ensures made { MatchOption result (run_all list.now self.old ≡ Ok self.new)
             (λ r. run_all (take r.0 list.now) self.old ≡ Ok self.new) }
         ensures refused { IfSome result
             (λ r. (t : Step) × (slice_get list.now r.0 ≡ Some t) × IsRefused self.new t r.1) }
-        ensures polls_are_lawful { (f : ℕ) → HasLawfulPolls f self.new.world.trace }
-        ensures outputs_go_once { (f : ℕ) → OutputGoesOnce f self.new.world.trace }
-        ensures polls_are_asked_for { (f : ℕ) → IsWokenBetweenPolls f self.new.world.trace }
-        ensures drops_come_once { (f : ℕ) → DropComesOnce f self.new.world.trace }
-        ensures early_drops_have_causes { (f : ℕ) → EarlyDropHasCause f self.new.world.trace }
-        ensures closing_drops { (f : ℕ) → IsDroppedByTheEnd f self.new.world.trace }
-        ensures outputs_are_kept { (f : ℕ) → OutputIsKept self.new f }
-        ensures awaiters_are_kept { (f : ℕ) → AwaiterIsKept f self.new.world.trace }
-        ensures sleepers_agree { SleepersAgree self.new }
-        ensures sleepers_are_told { SleepersAreTold self.new }
-        ensures some_standing_is_called { (f : ℕ) → SomeStandingIsCalled f self.new.world.trace }
-        ensures keepers_are_called { (f : ℕ) → KeeperIsCalled f self.new.world.trace }
-        ensures lone_calls_end { LoneCallsEnd self.new }
-        ensures in_reach { IsInReach self.new }
-        ensures in_order { IsReachedInOrder self.new }
-        ensures reached_by_runs { IsReachedByRuns self.new }
-        ensures kept_in_reach { IsKeptReached self.new }
-        ensures drops_leave_common { LeavesCommon self.new }
+        ensures laws { AllLaws self.new }
     {
         let refused = self.run_on(list);
-        polls_are_lawful();
-        outputs_go_once();
-        polls_are_asked_for();
-        drops_come_once();
-        early_drops_have_causes();
-        closing_drops_each_future_once();
-        outputs_are_kept();
-        awaiters_are_kept();
-        sleepers_agree();
-        sleepers_are_told();
-        some_standing_is_called();
-        keepers_are_called();
-        lone_calls_end();
-        common_futures_are_in_reach();
-        arrival_order_needs_fewer_ticks();
-        runs_reach_futures();
-        kept_futures_are_in_reach();
-        dropped_runs_leave_common_futures();
+        all_laws();
         refused
     }
 

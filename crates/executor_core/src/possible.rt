@@ -84,14 +84,14 @@ pub fn has_handle(store: &Store, parties: &[Vec<Op>], f: u64) -> bool
 fn has_tick(store: &Store, parties: &[Vec<Op>], t: u64) -> bool
     ensures { result ≡ steps.has_tick (world_of store.now) (map (λ v. v.items) parties.now) t }
 {
-    store.lodgers.ticks.has(t) && is_unused(parties, Use::Tick(t))
+    store.ticks_and_runs.ticks.has(t) && is_unused(parties, Use::Tick(t))
 }
 
 /// The run was not dropped, and no call uses it.
 fn has_run(store: &Store, parties: &[Vec<Op>], r: u64) -> bool
     ensures { result ≡ steps.has_run (world_of store.now) (map (λ v. v.items) parties.now) r }
 {
-    store.lodgers.runs.has(r) && is_unused(parties, Use::Run(r))
+    store.ticks_and_runs.runs.has(r) && is_unused(parties, Use::Run(r))
 }
 
 fn is_known(top: Option<Op>, by: By) -> bool
@@ -163,8 +163,8 @@ fn is_unborrowed(store: &Store, parties: &[Vec<Op>]) -> bool
     ensures { result ≡ steps.is_unborrowed (world_of store.now) (map (λ v. v.items) parties.now) }
 {
     is_unused(parties, Use::Executor)
-        && !store.lodgers.ticks.has_any()
-        && !store.lodgers.runs.has_any()
+        && !store.ticks_and_runs.ticks.has_any()
+        && !store.ticks_and_runs.runs.has_any()
 }
 
 fn begin_refusal(
@@ -195,8 +195,8 @@ pub fn go_waits(store: &Store, top: Option<Op>) -> bool
     ensures { result ≡ waits_for_lock (world_of store.now) top }
 {
     match top {
-        Some(Op::List(ListOp::LockWrite(_))) => store.lodgers.runs.is_locked(),
-        Some(Op::List(ListOp::LockRead(_))) => store.lodgers.runs.is_locked_to_write(),
+        Some(Op::List(ListOp::LockWrite(_))) => store.ticks_and_runs.runs.is_locked(),
+        Some(Op::List(ListOp::LockRead(_))) => store.ticks_and_runs.runs.is_locked_to_write(),
         _ => false,
     }
 }

@@ -4,9 +4,9 @@ ghost use Rattle.executor_model.specs.ActsOfRuns as runs;
 ghost use Rattle.executor_core.specs.Views.{world_of, HasRoom, HasSpace, Does};
 
 use crate::found::{asleep, push_found};
+use crate::runs::Found;
 use crate::store::Store;
 use executor_model::{ListOp, Op, RunOp, RunPoll, Source, Steal, StealOp, Then, TickOp};
-use executor_runs::Found;
 
 /// The first Runnable of the own queue is taken, where there is one.
 pub fn search_own(store: &mut Store, todo: &mut Vec<Op>, x: RunPoll)
@@ -14,7 +14,7 @@ pub fn search_own(store: &mut Store, todo: &mut Vec<Op>, x: RunPoll)
     requires space { HasSpace todo.old }
     ensures { Does (runs.search_own (world_of store.old) x) store.new todo.old.items todo.new.items }
 {
-    match store.lodgers.runs.take(x.run) {
+    match store.ticks_and_runs.runs.take(x.run) {
         Some(f) => push_found(store, todo, x, f),
         None => todo.push_reserved(Op::Run(RunOp::SearchCommon(x))),
     }
@@ -37,13 +37,13 @@ pub fn search_common(store: &mut Store, todo: &mut Vec<Op>, x: RunPoll)
 }
 
 /// The walk goes on at this place of the list, where so many queues are still to go to: it steals from the next that
-/// isn't the run's own. Behind the last the run lies down.
+/// isn't the run's own. Behind the last the run falls asleep.
 pub fn push_walk(store: &Store, todo: &mut Vec<Op>, x: RunPoll, at: u64, left: u64)
     requires space { vec_len todo.old + 2 ≤ vec_capacity todo.old }
     ensures { todo.new.items
         ≡ todo.old.items ++ reverse (runs.walk x (world_of store.now).listed at left) }
 {
-    match store.lodgers.runs.next(x.run, at, left) {
+    match store.ticks_and_runs.runs.next(x.run, at, left) {
         Some(Found { run, next, left }) => todo.push_reserved(Op::Steal(StealOp::Length(Steal {
             poll: x,
             from: Source::Own(run),
@@ -63,7 +63,7 @@ pub fn look_own(store: &mut Store, todo: &mut Vec<Op>, x: RunPoll, at: u64, left
     requires space { HasSpace todo.old }
     ensures { Does (runs.look_own (world_of store.old) x at left) store.new todo.old.items todo.new.items }
 {
-    match store.lodgers.runs.take(x.run) {
+    match store.ticks_and_runs.runs.take(x.run) {
         Some(f) => {
             push_found(store, todo, x, f);
             todo.push_reserved(Op::List(ListOp::UnlockRead));

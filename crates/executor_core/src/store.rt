@@ -1,6 +1,6 @@
+use crate::runs::TicksAndRuns;
+use crate::table::Entries;
 use executor_model::{Awaiter, Event};
-use executor_runs::Lodgers;
-use executor_table::Entries;
 use std::collections::VecDeque;
 use task_moves::moves::State;
 
@@ -21,8 +21,8 @@ pub struct Store {
     pub waking: VecDeque<u64>,
     /// The kept wakers by number, each by its future.
     pub wakers: Vec<Option<u64>>,
-    /// The ticks and runs, the sleepers among whom they lie down, and the flag beside these.
-    pub lodgers: Lodgers,
+    /// The ticks and runs, the sleepers among whom they fall asleep, and the flag beside these.
+    pub ticks_and_runs: TicksAndRuns,
     /// The executor's drop was begun.
     pub gone: bool,
     pub trace: Vec<Event>,

@@ -12,8 +12,8 @@ ghost use Rattle.executor_core.specs.Uses as uses;
 ghost use Rattle.executor_core.specs.Views.{world_of, HasRoom, HasRoomToEnd, HasSpace, Does};
 
 use executor_model::{
-    HandleOp, Hold, ListOp, Op, QueueOp, RunOp, Section, Sleeper, StealOp, TableOp, TickOp, UserOp,
-    WakerOp,
+    HandleOp, Hold, ListOp, Op, QueueOp, RunOp, Section, StealOp, TableOp, TickOp, TickOrRun,
+    UserOp, WakerOp,
 };
 use task_moves::moves::Move;
 
@@ -126,8 +126,8 @@ fn borrows_in_tick(op: TickOp) -> bool
         TickOp::MakeTick => true,
         TickOp::Search(_) => true,
         TickOp::CopyWaker(_) => true,
-        TickOp::LieDown(_) => true,
-        TickOp::GetUp(_) => false,
+        TickOp::FallAsleep(_) => true,
+        TickOp::WakeUp(_) => false,
         TickOp::Leave(_) => false,
     }
 }
@@ -206,12 +206,12 @@ fn lends(op: Op, k: u64) -> bool
 
 /// Who is polled in this is the tick.
 #[tactic(auto, using(crate::proofs::Scans::same_test))]
-fn is_tick(who: Sleeper, t: u64) -> bool
+fn is_tick(who: TickOrRun, t: u64) -> bool
     ensures { result ≡ not (weights.is_tick t who == 0) }
 {
     match who {
-        Sleeper::Tick(u) => t == u,
-        Sleeper::Run(_) => false,
+        TickOrRun::Tick(u) => t == u,
+        TickOrRun::Run(_) => false,
     }
 }
 
@@ -221,7 +221,7 @@ fn ticks(op: Op, t: u64) -> bool
     match op {
         Op::Tick(TickOp::Search(s)) => is_tick(s.who, t),
         Op::Tick(TickOp::CopyWaker(s)) => is_tick(s.who, t),
-        Op::Tick(TickOp::LieDown(s)) => is_tick(s.who, t),
+        Op::Tick(TickOp::FallAsleep(s)) => is_tick(s.who, t),
         Op::End(_, held) => holds(held, Use::Tick(t)),
         _ => false,
     }
@@ -229,12 +229,12 @@ fn ticks(op: Op, t: u64) -> bool
 
 /// Who is polled in this is the run.
 #[tactic(auto, using(crate::proofs::Scans::same_test))]
-fn is_run(who: Sleeper, r: u64) -> bool
+fn is_run(who: TickOrRun, r: u64) -> bool
     ensures { result ≡ not (weights.is_run r who == 0) }
 {
     match who {
-        Sleeper::Run(q) => r == q,
-        Sleeper::Tick(_) => false,
+        TickOrRun::Run(q) => r == q,
+        TickOrRun::Tick(_) => false,
     }
 }
 
@@ -300,7 +300,7 @@ fn runs(op: Op, r: u64) -> bool
         Op::User(UserOp::PollOwn(x)) => r == x.run,
         Op::Tick(TickOp::Search(s)) => is_run(s.who, r),
         Op::Tick(TickOp::CopyWaker(s)) => is_run(s.who, r),
-        Op::Tick(TickOp::LieDown(s)) => is_run(s.who, r),
+        Op::Tick(TickOp::FallAsleep(s)) => is_run(s.who, r),
         Op::List(op) => lists(op, r),
         Op::Steal(op) => steals(op, r),
         Op::Run(op) => is_of(op, r),

@@ -1,8 +1,4 @@
-pub mod TickWorlds
-pub mod Growing
-pub mod Prompting
-pub mod PromptRuns
-pub mod Queueing
+-- Calls end, and so do calls that are made alone: calls_end and lone_calls_end.
 pub mod Spending
 pub mod SpendingActs
 pub mod SpendingTicks

@@ -1,3 +1,4 @@
+-- Where a future is due and some tick or run stands, one that stands is called: some_standing_is_called.
 pub mod Sitting
 pub mod Watched
 pub mod Listed
@@ -8,12 +9,12 @@ pub mod StandsWorlds
 pub mod StandsNothing
 pub mod StandsOwn
 pub mod StandsTied
-pub mod StandsLying
+pub mod StandsAsleep
 pub mod StandsActs
 pub mod StandsRuns
 pub mod StandsGoing
 pub mod StandsGroups
-pub mod StandsRising
+pub mod StandsWakingUp
 pub mod StandsPolls
 pub mod StandsCalls
 pub mod StandsEnds
@@ -28,17 +29,3 @@ pub mod StandsAnswers
 pub mod StandsMissing
 pub mod Queued
 pub mod StandsRest
-pub mod KeptGrown
-pub mod KeptTrace
-pub mod KeptWeights
-pub mod KeptLeads
-pub mod KeptSearch
-pub mod KeptRuns
-pub mod KeptActs
-pub mod KeptCalls
-pub mod KeptHere
-pub mod KeptTaken
-pub mod KeptPut
-pub mod KeptEnds
-pub mod KeptMachine
-pub mod KeptRest

@@ -17,8 +17,8 @@ use Rattle.executor_model.specs.declared.op.RunOp.{RunOp}
 use Rattle.executor_model.specs.declared.op.RunOp.TheVariants as run_op
 use Rattle.executor_model.specs.declared.op.Section.{Section}
 use Rattle.executor_model.specs.declared.op.Section.TheVariants as section
-use Rattle.executor_model.specs.declared.op.Sleeper.{Sleeper}
-use Rattle.executor_model.specs.declared.op.Sleeper.TheVariants as sleeper
+use Rattle.executor_model.specs.declared.op.TickOrRun.{TickOrRun}
+use Rattle.executor_model.specs.declared.op.TickOrRun.TheVariants as tick_or_run
 use Rattle.executor_model.specs.declared.op.SleeperOp.{SleeperOp}
 use Rattle.executor_model.specs.declared.op.SleeperOp.TheVariants as sleeper_op
 use Rattle.executor_model.specs.declared.op.StealOp.{StealOp}
@@ -89,25 +89,25 @@ steps_of_sleeper sleeper_op.HandOut = 30
 steps_of_sleeper (sleeper_op.CallSleeper s) = 26
 
 -- of a poll of a tick, and of a run: a run takes up to 200 futures from where it counts anew, each in 150 steps: it
--- gets up, tells a sleeper, takes the future up and searches on; and what else a poll does takes no more than 150
-abbrev pub steps_of_search : Sleeper → ℕ
-steps_of_search (sleeper.Tick t) = 141
-steps_of_search (sleeper.Run r) = 30102
+-- wakes up, tells a sleeper, takes the future up and searches on; and what else a poll does takes no more than 150
+abbrev pub steps_of_search : TickOrRun → ℕ
+steps_of_search (tick_or_run.Tick t) = 141
+steps_of_search (tick_or_run.Run r) = 30102
 
-abbrev pub steps_of_copy : Sleeper → ℕ
-steps_of_copy (sleeper.Tick t) = 140
-steps_of_copy (sleeper.Run r) = 30100
+abbrev pub steps_of_copy : TickOrRun → ℕ
+steps_of_copy (tick_or_run.Tick t) = 140
+steps_of_copy (tick_or_run.Run r) = 30100
 
-abbrev pub steps_of_lying : Sleeper → ℕ
-steps_of_lying (sleeper.Tick t) = 139
-steps_of_lying (sleeper.Run r) = 30100
+abbrev pub steps_of_sleeping : TickOrRun → ℕ
+steps_of_sleeping (tick_or_run.Tick t) = 139
+steps_of_sleeping (tick_or_run.Run r) = 30100
 
 abbrev pub steps_of_tick : TickOp → ℕ
 steps_of_tick tick_op.MakeTick = 5
 steps_of_tick (tick_op.Search s) = steps_of_search s.who
 steps_of_tick (tick_op.CopyWaker s) = steps_of_copy s.who
-steps_of_tick (tick_op.LieDown s) = steps_of_lying s.who
-steps_of_tick (tick_op.GetUp who) = 17
+steps_of_tick (tick_op.FallAsleep s) = steps_of_sleeping s.who
+steps_of_tick (tick_op.WakeUp who) = 17
 steps_of_tick (tick_op.Leave who) = 45
 
 -- a run comes up, and with 200 futures that it may take; at its first poll it comes into the list; and where it goes
@@ -169,7 +169,7 @@ steps_of (op.End r held) = 1
 
 -- walks and steals
 
--- a walk that has still so many queues to go to steals from each, and then the run lies down
+-- a walk that has still so many queues to go to steals from each, and then the run falls asleep
 abbrev pub walk_then : Then → ℕ
 walk_then (then.Found f) = 0
 walk_then (then.Run f) = 0

@@ -5,3 +5,10 @@ pub mod LoneEnds
 pub mod Queueings
 pub mod Continued
 pub mod AtOnce
+pub mod Called
+pub mod Places
+pub mod Ticks
+pub mod Reach
+pub mod LoneAnswers
+pub mod AtRest
+pub mod RunReach

@@ -10,7 +10,7 @@ use Rattle.executor_model.specs.Emptiness.{AllDropped, IsAtRest}
 use Rattle.executor_model.specs.Keeper.{IsCommon}
 use Rattle.executor_model.specs.Steps.{Machine}
 use Rattle.executor_model.specs.Trace.{Trace}
-use Rattle.runs_laws.specs.LoneEnds.{IsLoneCall}
+use Rattle.executor_laws.specs.LoneEnds.{IsLoneCall}
 
 -- the call of party p is answered so, behind what it did
 abbrev pub IsAnswered : ℕ → Call → Reply → Machine → Machine → Type 0

@@ -4,9 +4,9 @@ use Rattle.executor_model.specs.declared.call.Call.{Call}
 use Rattle.executor_model.specs.declared.step.Step.{Step}
 use Rattle.executor_model.specs.declared.step.Step.TheVariants.{Begin, Go, Answer}
 use Rattle.executor_model.specs.Quiet.{IsQuiet}
-use Rattle.executor_model.specs.Runs.{run_all}
+use Rattle.executor_model.specs.Executions.{run_all}
 use Rattle.executor_model.specs.Steps.{Machine, after, refusal}
-use Rattle.runs_laws.specs.Remaining.{remaining}
+use Rattle.executor_laws.specs.Remaining.{remaining}
 
 -- a step by which party p goes on with what it has begun
 abbrev pub is_onward_of : ℕ → Step → Bool

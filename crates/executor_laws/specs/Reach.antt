@@ -16,7 +16,7 @@ use Rattle.executor_model.specs.Sound.{times}
 use Rattle.executor_model.specs.Steps.{Machine, lives}
 use Rattle.executor_model.specs.Trace.{Trace, has, is_poll, is_dropped}
 use Rattle.executor_model.specs.World.{tick_of}
-use Rattle.runs_laws.specs.LoneEnds.{IsLoneCall}
+use Rattle.executor_laws.specs.LoneEnds.{IsLoneCall}
 
 abbrev pub IsLoneTick : ℕ → List Step → Machine → Machine → Type 0
 IsLoneTick p steps s new = IsLoneCall p TryTick steps s new

@@ -10,11 +10,11 @@ use Rattle.executor_model.specs.declared.op.Awaiter.{Awaiter}
 use Rattle.executor_model.specs.declared.op.Sleeping.{Sleeping}
 use Rattle.executor_model.specs.declared.step.Step.{Step}
 use Rattle.executor_model.specs.declared.step.Step.TheVariants.{Begin, Go, Answer}
-use Rattle.executor_model.specs.Runs.{run_all}
+use Rattle.executor_model.specs.Executions.{run_all}
 use Rattle.executor_model.specs.Steps.{Machine, refusal, after}
 use Rattle.executor_model.specs.Weights.{weigh_all}
-use Rattle.executor_model.specs.World.{World, Place, Up, Lies, Left, Run}
-use Rattle.runs_laws.specs.Costs.{left_by, registers_of, steps_of, walk_of}
+use Rattle.executor_model.specs.World.{World, Ticker, Awake, Asleep, Left, Run}
+use Rattle.executor_laws.specs.Costs.{left_by, registers_of, steps_of, walk_of}
 
 -- the steps that are left, but those of walks and steals
 
@@ -43,21 +43,21 @@ abbrev pub steps_of_tasks : List State → ℕ
 steps_of_tasks [] = 0
 steps_of_tasks (s ∷ ss) = steps_of_task s + steps_of_tasks ss
 
--- how many sleepers were notified, and have no waker in the list: one that lies down again then searches once more
+-- how many sleepers were notified, and have no waker in the list: one that falls asleep again then searches once more
 abbrev pub notified_of : Sleepers Sleeping → ℕ
 notified_of s = s.count - length s.wakers
 
--- whether a tick or run is up: one that lies down searches once more
-abbrev pub up_of : Place → ℕ
-up_of Up = 1
-up_of (Lies n) = 0
+-- whether a tick or run is awake: one that falls asleep searches once more
+abbrev pub up_of : Ticker → ℕ
+up_of Awake = 1
+up_of (Asleep n) = 0
 up_of Left = 0
 
-abbrev pub ups : List Place → ℕ
+abbrev pub ups : List Ticker → ℕ
 ups [] = 0
 ups (x ∷ xs) = up_of x + ups xs
 
--- the steps of a run: it searches once more where it lies down, and may take so many futures until it lets others go
+-- the steps of a run: it searches once more where it falls asleep, and may take so many futures until it lets others go
 -- first
 abbrev pub steps_of_place : Run → ℕ
 steps_of_place x = 3 * up_of x.place + 150 * (200 - x.taken)

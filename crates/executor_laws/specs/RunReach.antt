@@ -13,8 +13,8 @@ use Rattle.executor_model.specs.Keeper.{IsCommon, IsKeeper}
 use Rattle.executor_model.specs.Sound.{times}
 use Rattle.executor_model.specs.Steps.{Machine}
 use Rattle.executor_model.specs.Trace.{Trace, has}
-use Rattle.runs_laws.specs.LoneEnds.{IsLoneCall}
-use Rattle.runs_reach.specs.Reach.{since, takes}
+use Rattle.executor_laws.specs.LoneEnds.{IsLoneCall}
+use Rattle.executor_laws.specs.Reach.{since, takes}
 
 -- what user code answers first in these steps
 abbrev pub first_answer : List Step → Option UserEnd

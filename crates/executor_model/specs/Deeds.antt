@@ -1,7 +1,5 @@
--- Whoever is answered no is answered at once: he has done nothing since his call began.
-use Rattle.std.specs.Prelude.{◌≡◌, ℕ, ◌==◌, Bool, [], ◌∷◌, ◌++◌, filter}
-use Rattle.executor_model.specs.declared.call.Call.{Call}
-use Rattle.executor_model.specs.declared.call.Reply.TheVariants.{No}
+-- What each party did.
+use Rattle.std.specs.Prelude.{ℕ, ◌==◌, Bool, filter}
 use Rattle.executor_model.specs.declared.event.Event.{Event}
 use Rattle.executor_model.specs.declared.event.Event.TheVariants.{CallBegun, CallEnded, Accepted, PollBegun, Answered}
 use Rattle.executor_model.specs.declared.event.Event.TheVariants.{Woken, Cancelled, Detached, Dropped, OutputDropped}
@@ -39,8 +37,3 @@ is_by p e = doer e == p
 -- what party p did, in order
 abbrev pub deeds : ℕ → Trace → Trace
 deeds p trace = filter (is_by p) trace
-
--- of what party p did, an answer no stands right behind the beginning of its call
-abbrev pub NoComesAtOnce : ℕ → Trace → Type 0
-NoComesAtOnce p trace = (before later : Trace) → deeds p trace ≡ before ++ CallEnded p No ∷ later →
-    (earlier : Trace) × (c : Call) × (before ≡ earlier ++ CallBegun p c ∷ [])

@@ -1,12 +1,12 @@
 -- The table and the queue: which futures have an entry, and which have a Runnable.
-use Rattle.std.specs.Prelude.{◌≡◌, ◌⊎◌, ℕ, ◌≤◌, true, false, Some}
+use Rattle.std.specs.Prelude.{◌≡◌, ◌⊎◌, ℕ, ◌+◌, ◌≤◌, true, false, Some}
 use Rattle.queue_steps.specs.ClosableQueue.{HasRoom}
 use Rattle.executor_model.specs.declared.op.Op.TheVariants as op
 use Rattle.executor_model.specs.declared.op.QueueOp.TheVariants as queue_op
 use Rattle.executor_model.specs.Trace.{has, is_accepted, is_dropped, is_drop_begun}
 use Rattle.executor_model.specs.Weights.{weigh_all}
 use Rattle.executor_model.specs.EarlyDrop.{before_drop}
-use Rattle.executor_model.specs.Sound.{times}
+use Rattle.executor_model.specs.Sound.{times, times_in}
 use Rattle.executor_model.specs.Rows.{drops_of, leaves_of, ousting_of}
 use Rattle.executor_model.specs.Steps.{Machine, stack, top}
 
@@ -36,6 +36,15 @@ pub record QueueAgrees (s : Machine) (f : ℕ) : Type 0 where
       has is_drop_begun (before_drop f s.world.trace) ≡ true
   -- once that has begun, no other call drops a future
   pub alone : has is_drop_begun s.world.trace ≡ true → weigh_all (drops_of f) s.parties ≡ 0
+
+-- and so is one in a run's own queue, and the only one in all queues
+pub record OwnAgrees (s : Machine) (f : ℕ) : Type 0 where
+  pub once : times f s.world.queue.items + times_in f s.world.own ≤ 1
+  pub accepted : 1 ≤ times_in f s.world.own → has (is_accepted f) s.world.trace ≡ true
+  pub undropped : 1 ≤ times_in f s.world.own → has (is_dropped f) s.world.trace ≡ true →
+      has is_drop_begun s.world.trace ≡ true
+  pub by_closing : 1 ≤ times_in f s.world.own → has (is_dropped f) s.world.trace ≡ true →
+      has is_drop_begun (before_drop f s.world.trace) ≡ true
 
 -- a party that is about to append a Runnable finds a place for it
 abbrev pub FindsPlace : Machine → ℕ → Type 0

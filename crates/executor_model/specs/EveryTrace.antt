@@ -1,4 +1,4 @@
--- What holds of the trace of every run, whatever the parties do and in whatever order, and of each future.
+-- What holds of the trace of every execution, whatever the parties do and in whatever order, and of each future.
 use Rattle.std.specs.Prelude.{ℕ, List}
 use Rattle.executor_model.specs.declared.step.Step.{Step}
 use Rattle.executor_model.specs.Trace.{Trace}

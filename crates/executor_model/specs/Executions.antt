@@ -1,4 +1,4 @@
--- What holds of every run, whatever the parties do and in whatever order.
+-- What holds of every execution, whatever the parties do and in whatever order.
 use Rattle.std.specs.Prelude.{◌≡◌, ℕ, ◌+◌, ◌≤◌, List, [], ◌∷◌, Result, Ok, Err}
 use Rattle.executor_model.specs.declared.step.Step.{Step}
 use Rattle.executor_model.specs.declared.step.StepError.{StepError}
@@ -6,8 +6,8 @@ use Rattle.executor_model.specs.World.{task}
 use Rattle.executor_model.specs.Steps.{Machine, step, run, start}
 use Rattle.executor_model.specs.Sound.{pend, tokens, living}
 
-abbrev pub EveryRun : (Machine → ℕ → Type 0) → Type 0
-EveryRun P = (limit parties : ℕ) (steps : List Step) (f : ℕ) → P (run steps (start limit parties)) f
+abbrev pub EveryExecution : (Machine → ℕ → Type 0) → Type 0
+EveryExecution P = (limit parties : ℕ) (steps : List Step) (f : ℕ) → P (run steps (start limit parties)) f
 
 abbrev pub EveryMachine : (Machine → Type 0) → Type 0
 EveryMachine P = (limit parties : ℕ) (steps : List Step) → P (run steps (start limit parties))

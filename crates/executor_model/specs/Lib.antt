@@ -16,7 +16,7 @@ pub mod Rows
 pub mod Steps
 pub mod Sound
 pub mod Good
-pub mod Runs
+pub mod Executions
 pub mod EveryTrace
 pub mod Entries
 pub mod Limit
@@ -32,3 +32,6 @@ pub mod OwnQueues
 pub mod HandingOn
 pub mod SleepersAgree
 pub mod SleepersTold
+pub mod Deeds
+pub mod Calls
+pub mod CallsMean

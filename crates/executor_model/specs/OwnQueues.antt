@@ -1,6 +1,5 @@
 -- What holds of the runs' own queues, and of the list of these with its lock.
-use Rattle.std.specs.Prelude.{◌≡◌, ◌⊎◌, ℕ, ◌+◌, ◌≤◌, ◌==◌, true, List, [], length, cond}
-use Rattle.executor_model.specs.declared.op.ListOp.{ListOp}
+use Rattle.std.specs.Prelude.{◌≡◌, ◌⊎◌, ℕ, ◌+◌, ◌≤◌, ◌==◌, true, [], length, cond}
 use Rattle.executor_model.specs.declared.op.ListOp.TheVariants as list_op
 use Rattle.executor_model.specs.declared.op.Op.{Op}
 use Rattle.executor_model.specs.declared.op.Op.TheVariants as op
@@ -14,7 +13,7 @@ use Rattle.executor_model.specs.ActsOfRuns.{own_places}
 use Rattle.executor_model.specs.Rows.{running_of}
 use Rattle.executor_model.specs.Sound.{times}
 use Rattle.executor_model.specs.Standing.{CallsItself}
-use Rattle.executor_model.specs.Steps.{Machine, stack, top}
+use Rattle.executor_model.specs.Steps.{Machine}
 use Rattle.executor_model.specs.Weights.{is_run, same, weigh_all}
 use Rattle.executor_model.specs.World.{Stage, New, Listed, Ended, own_of, run_of}
 
@@ -38,6 +37,10 @@ filling_of r _ = 0
 -- for these there are free places, since a run alone appends to its own queue
 abbrev pub HasOwnRoom : Machine → ℕ → Type 0
 HasOwnRoom s r = length (own_of s.world r) + weigh_all (filling_of r) s.parties ≤ own_places s.world r
+
+-- and there are never more than 512 Runnables
+abbrev pub IsWithinBound : Machine → ℕ → Type 0
+IsWithinBound s r = length (own_of s.world r) ≤ 512
 
 -- the list
 
@@ -83,12 +86,12 @@ pub record LockAgrees (s : Machine) : Type 0 where
 
 -- who runs what stands there
 
--- run r has found its own queue empty, and searches on or lies down
+-- run r has found its own queue empty, and searches on or falls asleep
 abbrev pub empty_of : ℕ → Op → ℕ
 empty_of r (op.Run (run_op.SearchCommon x)) = same r x.run
 empty_of r (op.List (list_op.LockRead x)) = same r x.run
 empty_of r (op.Tick (tick_op.CopyWaker s)) = is_run r s.who
-empty_of r (op.Tick (tick_op.LieDown s)) = is_run r s.who
+empty_of r (op.Tick (tick_op.FallAsleep s)) = is_run r s.who
 empty_of r _ = 0
 
 -- as a run alone appends to its own queue, it is still empty then

@@ -17,15 +17,15 @@ use Rattle.executor_model.specs.declared.op.WakerOp.TheVariants as waker_op
 use Rattle.executor_model.specs.declared.op.ListOp.TheVariants as list_op
 use Rattle.executor_model.specs.declared.op.RunOp.TheVariants as run_op
 use Rattle.executor_model.specs.declared.op.Section.TheVariants as section
-use Rattle.executor_model.specs.declared.op.Sleeper.{Sleeper}
-use Rattle.executor_model.specs.declared.op.Sleeper.TheVariants as sleeper
+use Rattle.executor_model.specs.declared.op.TickOrRun.{TickOrRun}
+use Rattle.executor_model.specs.declared.op.TickOrRun.TheVariants as tick_or_run
 use Rattle.executor_model.specs.declared.op.UserOp.TheVariants as user_op
 use Rattle.executor_model.specs.declared.op.Waker.{Waker}
 use Rattle.executor_model.specs.declared.op.Waker.TheVariants.{Task, Outside}
 use Rattle.executor_model.specs.declared.step.Hint.{Hint}
 use Rattle.executor_model.specs.declared.step.UserEnd.{UserEnd}
 use Rattle.executor_model.specs.ActsOfRuns.{make_room_by, return_room, write}
-use Rattle.executor_model.specs.ActsOfSleepers.{copy_sleeper, lie_down}
+use Rattle.executor_model.specs.ActsOfSleepers.{copy_sleeper, fall_asleep}
 use Rattle.executor_model.specs.Doing.{act}
 use Rattle.executor_model.specs.Memory.{may_refuse, takes_no_memory}
 use Rattle.executor_model.specs.Steps.{begun, react}
@@ -49,9 +49,9 @@ is_search (call.PollTick t by) = true
 is_search (call.PollRun r by) = true
 is_search _ = false
 
-abbrev pub is_run_poll : Sleeper → Bool
-is_run_poll (sleeper.Tick t) = false
-is_run_poll (sleeper.Run r) = true
+abbrev pub is_run_poll : TickOrRun → Bool
+is_run_poll (tick_or_run.Tick t) = false
+is_run_poll (tick_or_run.Run r) = true
 
 -- it is a part of a poll of a run, or of a run's making
 abbrev pub is_of_run : Op → Bool
@@ -62,15 +62,15 @@ is_of_run (op.Steal o) = true
 is_of_run (op.Run o) = true
 is_of_run _ = false
 
--- a tick or run copies its waker, or lies down with the copy
-abbrev pub lies_down : Op → Bool
-lies_down (op.Tick (tick_op.CopyWaker s)) = true
-lies_down (op.Tick (tick_op.LieDown s)) = true
-lies_down _ = false
+-- a tick or run copies its waker, or falls asleep with the copy
+abbrev pub falls_asleep : Op → Bool
+falls_asleep (op.Tick (tick_op.CopyWaker s)) = true
+falls_asleep (op.Tick (tick_op.FallAsleep s)) = true
+falls_asleep _ = false
 
 -- a call that may be refused changes nothing as it begins, and nothing as long as it may still be refused or where it
 -- is: what follows asks for memory, or ends the call with a refusal. A poll of a tick or run is told of as it begins;
--- a copy of its waker that is refused changes nothing; and where it lay down, that is kept, which changes the sleepers,
+-- a copy of its waker that is refused changes nothing; and where it fell asleep, that is kept, which changes the sleepers,
 -- their flag and where it is alone. A poll of a run keeps what it did before. The making of a run that is refused makes
 -- nothing, and gives the room back that it had
 pub record RefusedChangesNothing (w : World) (p : ℕ) : Type 0 where
@@ -80,16 +80,16 @@ pub record RefusedChangesNothing (w : World) (p : ℕ) : Type 0 where
       (begun p w here (call.PollTick t b)).world ≡ log w (event.TickPolled p t)
   pub runs : (here : Option Waker) (r : ℕ) (b : By) →
       (begun p w here (call.PollRun r b)).world ≡ log w (event.RunPolled p r)
-  pub goes_on : (h : Hint) (o : Op) → list_any may_refuse (act p h o w).next ≡ true → lies_down o ≡ false →
+  pub goes_on : (h : Hint) (o : Op) → list_any may_refuse (act p h o w).next ≡ true → falls_asleep o ≡ false →
       is_of_run o ≡ false →
       (act p h o w).world ≡ w
   pub copies : (h : Hint) (s : Sleeping) → list_any ends_for_want (copy_sleeper h w s).next ≡ true →
       (copy_sleeper h w s).world ≡ w
-  pub lies : (s : Sleeping) → (lie_down w s).world ≡ record w {
-    ticks = (lie_down w s).world.ticks;
-    runs = (lie_down w s).world.runs;
-    sleepers = (lie_down w s).world.sleepers;
-    notified = (lie_down w s).world.notified;
+  pub sleeps : (s : Sleeping) → (fall_asleep w s).world ≡ record w {
+    ticks = (fall_asleep w s).world.ticks;
+    runs = (fall_asleep w s).world.runs;
+    sleepers = (fall_asleep w s).world.sleepers;
+    notified = (fall_asleep w s).world.notified;
   }
   pub makes : (h : Hint) → list_any ends_for_want (make_room_by h.refused w).next ≡ true →
       (make_room_by h.refused w).world ≡ w

@@ -25,7 +25,7 @@ use Rattle.executor_model.specs.declared.op.ListOp.TheVariants as list_op
 use Rattle.executor_model.specs.declared.op.RunOp.TheVariants as run_op
 use Rattle.executor_model.specs.declared.op.RunPoll.{RunPoll}
 use Rattle.executor_model.specs.declared.op.Section.TheVariants as section
-use Rattle.executor_model.specs.declared.op.Sleeper.TheVariants as sleeper
+use Rattle.executor_model.specs.declared.op.TickOrRun.TheVariants as tick_or_run
 use Rattle.executor_model.specs.declared.op.TableOp.TheVariants as table_op
 use Rattle.executor_model.specs.declared.op.TickOp.TheVariants as tick_op
 use Rattle.executor_model.specs.declared.op.UserOp.TheVariants as user_op
@@ -37,7 +37,7 @@ use Rattle.executor_model.specs.declared.step.StepError.TheVariants.{Busy, NoSuc
 use Rattle.executor_model.specs.declared.step.StepError.TheVariants.{WrongAnswer, Waits}
 use Rattle.executor_model.specs.declared.step.UserEnd.{UserEnd}
 use Rattle.executor_model.specs.declared.step.UserEnd.TheVariants as end
-use Rattle.executor_model.specs.World.{World, Place, Up, Lies, Left, Stage, New, Listed, Ended, Run, Lock, Done}
+use Rattle.executor_model.specs.World.{World, Ticker, Awake, Asleep, Left, Stage, New, Listed, Ended, Run, Lock, Done}
 use Rattle.executor_model.specs.World.{done, log}
 use Rattle.executor_model.specs.World.{task, tick_of, run_of, put_run}
 use Rattle.executor_model.specs.ActsOfRuns.{asleep}
@@ -112,9 +112,9 @@ abbrev pub is_known : Option Op → By → Bool
 is_known o by.Mine = has_mine (mine o)
 is_known o (by.Outside x) = true
 
-abbrev pub lives : Place → Bool
-lives Up = true
-lives (Lies n) = true
+abbrev pub lives : Ticker → Bool
+lives Awake = true
+lives (Asleep n) = true
 lives Left = false
 
 abbrev pub is_there : Run → Bool
@@ -250,7 +250,7 @@ poll_run Ended x = op.End reply.Finished (hold.Run x.run) ∷ []
 abbrev pub drop_run : Stage → ℕ → List Op
 drop_run New r = op.User (user_op.DropOwn r) ∷ op.Run (run_op.Reschedule r reply.Done) ∷ []
 drop_run Listed r = op.User (user_op.DropOwn r) ∷ op.List (list_op.LockWrite (section.Unregister r reply.Done)) ∷ []
-drop_run Ended r = op.Tick (tick_op.Leave (sleeper.Run r)) ∷ op.End reply.Done (hold.Run r) ∷ []
+drop_run Ended r = op.Tick (tick_op.Leave (tick_or_run.Run r)) ∷ op.End reply.Done (hold.Run r) ∷ []
 
 -- what a call changes as it begins, and what it will do
 abbrev pub begun : ℕ → World → Option Waker → Call → Done
@@ -276,9 +276,9 @@ begun p w here (call.DropHandle f) =
     done w (op.Move move.Cancel f ∷ op.Move move.Detach f ∷ op.End reply.Done (hold.Handle f) ∷ [])
 begun p w here call.NewTick = done w (op.Tick tick_op.MakeTick ∷ [])
 begun p w here (call.PollTick t b) = done (log w (event.TickPolled p t))
-    (op.Tick (tick_op.Search (record { waker = waker_of here b; who = sleeper.Tick t; poll = length w.trace })) ∷ [])
+    (op.Tick (tick_op.Search (record { waker = waker_of here b; who = tick_or_run.Tick t; poll = length w.trace })) ∷ [])
 begun p w here (call.DropTick t) = done (log w (event.TickDropped p t))
-    (op.Tick (tick_op.Leave (sleeper.Tick t)) ∷ op.End reply.Done (hold.Tick t) ∷ [])
+    (op.Tick (tick_op.Leave (tick_or_run.Tick t)) ∷ op.End reply.Done (hold.Tick t) ∷ [])
 begun p w here call.NewRun = done w (op.Run run_op.MakeRoom ∷ [])
 begun p w here (call.PollRun r b) = done (log w (event.RunPolled p r))
     (poll_run (run_of w r).stage (record { run = r; waker = waker_of here b; poll = length w.trace }))

@@ -6,16 +6,16 @@ use Rattle.executor_parts.specs.Sleepers.{Sleepers, flag_of}
 use Rattle.executor_model.specs.declared.event.Event.{Event}
 use Rattle.executor_model.specs.declared.op.Op.{Op}
 use Rattle.executor_model.specs.declared.op.Awaiter.{Awaiter}
-use Rattle.executor_model.specs.declared.op.Sleeper.{Sleeper}
-use Rattle.executor_model.specs.declared.op.Sleeper.TheVariants as sleeper
+use Rattle.executor_model.specs.declared.op.TickOrRun.{TickOrRun}
+use Rattle.executor_model.specs.declared.op.TickOrRun.TheVariants as tick_or_run
 use Rattle.executor_model.specs.declared.op.Sleeping.{Sleeping}
 use Rattle.executor_model.specs.Trace.{Trace}
 
--- a tick or run is up, or lies among the sleepers under this number, or has left them
-pub data Place : Type 0 where
-  Up : Place
-  Lies : ℕ → Place
-  Left : Place
+-- a tick or run is awake, or is among the sleepers under this number, or has left them
+pub data Ticker : Type 0 where
+  Awake : Ticker
+  Asleep : ℕ → Ticker
+  Left : Ticker
 
 -- a run was never polled; or its own queue is in the list; or that has gone from there, as its own future was ready or
 -- the run is being dropped
@@ -25,7 +25,7 @@ pub data Stage : Type 0 where
   Ended : Stage
 
 pub record Run : Type 0 where
-  pub place : Place
+  pub place : Ticker
   pub stage : Stage
   pub dropped : Bool
   -- how many it has taken since it last let others go first, and of those in its life how many since the last 64th
@@ -56,14 +56,14 @@ pub record World : Type 0 where
   -- the kept wakers by number, each by its future; none where it was used up
   pub wakers : List (Option ℕ)
   -- the ticks by number
-  pub ticks : List Place
+  pub ticks : List Ticker
   -- the runs by number, and the own queue of each: the Runnables, by their futures
   pub runs : List Run
   pub own : List (List ℕ)
   -- the runs whose own queues are in the list, in the order in which these came, and the lock of the list
   pub listed : List ℕ
   pub lock : Lock
-  -- those that lie down, and the flag beside them
+  -- those that fall asleep, and the flag beside them
   pub sleepers : Sleepers Sleeping
   pub notified : Bool
   -- the executor's drop was begun
@@ -103,11 +103,11 @@ awaiter_of w f = slice_index_or w.awaiters f None
 abbrev pub put_awaiter : World → ℕ → Option Awaiter → World
 put_awaiter w f a = record w { awaiters = slice_set w.awaiters f a }
 
-abbrev pub tick_of : World → ℕ → Place
+abbrev pub tick_of : World → ℕ → Ticker
 tick_of w t = slice_index_or w.ticks t Left
 
 abbrev pub new_run : Run
-new_run = record { place = Up; stage = New; dropped = false; taken = 0; counted = 0 }
+new_run = record { place = Awake; stage = New; dropped = false; taken = 0; counted = 0 }
 
 -- no run
 abbrev pub no_run : Run
@@ -127,19 +127,19 @@ abbrev pub put_own : World → ℕ → List ℕ → World
 put_own w r q = record w { own = slice_set w.own r q }
 
 -- where a tick or run is
-abbrev pub place_of : World → Sleeper → Place
-place_of w (sleeper.Tick t) = tick_of w t
-place_of w (sleeper.Run r) = (run_of w r).place
+abbrev pub place_of : World → TickOrRun → Ticker
+place_of w (tick_or_run.Tick t) = tick_of w t
+place_of w (tick_or_run.Run r) = (run_of w r).place
 
-abbrev pub ticks_with : List Place → Sleeper → Place → List Place
-ticks_with ts (sleeper.Tick t) x = slice_set ts t x
-ticks_with ts (sleeper.Run r) x = ts
+abbrev pub ticks_with : List Ticker → TickOrRun → Ticker → List Ticker
+ticks_with ts (tick_or_run.Tick t) x = slice_set ts t x
+ticks_with ts (tick_or_run.Run r) x = ts
 
-abbrev pub runs_with : List Run → Sleeper → Place → List Run
-runs_with rs (sleeper.Tick t) x = rs
-runs_with rs (sleeper.Run r) x = slice_set rs r (record (slice_index_or rs r no_run) { place = x })
+abbrev pub runs_with : List Run → TickOrRun → Ticker → List Run
+runs_with rs (tick_or_run.Tick t) x = rs
+runs_with rs (tick_or_run.Run r) x = slice_set rs r (record (slice_index_or rs r no_run) { place = x })
 
-abbrev pub put_place : World → Sleeper → Place → World
+abbrev pub put_place : World → TickOrRun → Ticker → World
 put_place w who x = record w { ticks = ticks_with w.ticks who x; runs = runs_with w.runs who x }
 
 -- a section on the sleepers ends, and the flag is stored

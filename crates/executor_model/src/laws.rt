@@ -1,16 +1,16 @@
-//! Laws of every run of the machine, of any number of parties and any list of steps.
+//! Laws of every execution of the machine, of any number of parties and any list of steps.
 ghost use Rattle.std.specs.Prelude.{ℕ};
 ghost use Rattle.executor_model.specs.declared.step.Hint.{Hint};
 ghost use Rattle.executor_model.specs.Emptiness.{IsEmptinessExact, IsQuietEmptinessExact};
-ghost use Rattle.executor_model.specs.Entries.{FindsPlace, QueueAgrees, TableAgrees};
+ghost use Rattle.executor_model.specs.Entries.{FindsPlace, OwnAgrees, QueueAgrees, TableAgrees};
 ghost use Rattle.executor_model.specs.HandingOn.{HandsOn, IsOnItsWay};
 ghost use Rattle.executor_model.specs.Limit.{IsLimitExact};
 ghost use Rattle.executor_model.specs.Memory.{NeedsNoMemory};
 ghost use Rattle.executor_model.specs.OutputKept.{OutputIsKept};
 ghost use Rattle.executor_model.specs.OwnQueues.{HasOwnRoom, IsEmptyMeanwhile, IsUsedOnce};
-ghost use Rattle.executor_model.specs.OwnQueues.{ListAgrees, LockAgrees, OwnQueueHasRunner};
+ghost use Rattle.executor_model.specs.OwnQueues.{IsWithinBound, ListAgrees, LockAgrees, OwnQueueHasRunner};
 ghost use Rattle.executor_model.specs.Refusals.{IsWantToldOf, RefusedChangesNothing};
-ghost use Rattle.executor_model.specs.Runs.{EveryMachine, EveryRun, HasOneRunnable, IsCounted};
+ghost use Rattle.executor_model.specs.Executions.{EveryMachine, EveryExecution, HasOneRunnable, IsCounted};
 ghost use Rattle.executor_model.specs.SleepersAgree.{SleepersAgree};
 ghost use Rattle.executor_model.specs.SleepersTold.{SleepersAreTold};
 ghost use Rattle.executor_model.specs.World.{World};
@@ -19,27 +19,28 @@ ghost use Rattle.executor_model.specs.World.{World};
 /// closing call. Stored awaiters are wakers, and so are those in the table, those that the drop of the
 /// executor has taken out, and those on their way.
 pub fn references_are_counted()
-    ensures { EveryRun IsCounted }
+    ensures { EveryExecution IsCounted }
 {}
 
 /// Whatever the parties do, a task has at most one Runnable, unfinished run or closing call.
 pub fn one_runnable()
-    ensures { EveryRun HasOneRunnable }
+    ensures { EveryExecution HasOneRunnable }
 {}
 
 /// Whatever the parties do, until the drop of the executor takes the table out, an accepted future has one
 /// entry there where it is undropped or the call that dropped it has still to take the entry out; no other
 /// has one. A Runnable in the queue is one of an accepted future, and its only one there, and that future
 /// is undropped or was dropped by the drop of the executor: after that began, and once it has begun no other
-/// call has a future to drop.
+/// call has a future to drop. So it is with a Runnable in a run's own queue, and a future has one at most in all queues.
 pub fn table_and_queue_agree()
-    ensures table { EveryRun TableAgrees }
-    ensures queue { EveryRun QueueAgrees }
+    ensures table { EveryExecution TableAgrees }
+    ensures queue { EveryExecution QueueAgrees }
+    ensures own { EveryExecution OwnAgrees }
 {}
 
 /// Whatever the parties do, whoever is about to append a Runnable to the queue finds a place for it.
 pub fn no_append_is_refused_full()
-    ensures { EveryRun FindsPlace }
+    ensures { EveryExecution FindsPlace }
 {}
 
 /// Whatever the parties do, a spawn is always answered that the executor is full where as many accepted
@@ -88,7 +89,7 @@ pub fn want_of_memory_is_told_of()
 /// was ready, nobody has cancelled it, no poll was given the output and no call has taken the handle, then a
 /// poll of the handle, with no step of another party in between, gives the output, whoever makes it.
 pub fn outputs_are_kept()
-    ensures { EveryRun OutputIsKept }
+    ensures { EveryExecution OutputIsKept }
 {}
 
 /// Each wake that marks a task as scheduled hands on exactly one Runnable where the task isn't running,
@@ -99,19 +100,19 @@ pub fn outputs_are_kept()
 /// has none.
 pub fn wakes_are_handed_on()
     ensures handed { (w : World) (f p : ℕ) (h : Hint) → HandsOn w f p h }
-    ensures marked { EveryRun IsOnItsWay }
+    ensures marked { EveryExecution IsOnItsWay }
 {}
 
-/// Whatever the parties do, no two ticks or runs lie under one number, as many sleep as ticks and runs lie, and there
+/// Whatever the parties do, no two ticks or runs sleep under one number, the list counts as many as ticks and runs sleep, and there
 /// are never more wakers than sleepers. The flag is true only where nobody sleeps, a sleeper is notified, or a party
 /// stands between its won exchange of the flag and its hand-out. There is as much room as ticks live and runs haven't
 /// left, and as a party has made for a run that isn't there yet, or has still to give back; so who lives finds a place:
-/// one that is up finds room to lie down in, and one that was notified may be listed again.
+/// one that is awake finds room to sleep in, and one that was notified may be listed again.
 pub fn sleepers_agree()
     ensures { EveryMachine SleepersAgree }
 {}
 
-/// Whatever the parties do, where a Runnable stands in the queue and a tick or run lies among the sleepers, a sleeper
+/// Whatever the parties do, where a Runnable stands in the queue and a tick or run is among the sleepers, a sleeper
 /// is notified, or a party has still to exchange the flag, to hand out or to search. Who has still to call a waker
 /// that was handed out isn't needed.
 pub fn sleepers_are_told()
@@ -123,12 +124,13 @@ pub fn sleepers_are_told()
 /// and nobody walks while somebody writes. In a run's own queue there is a free place for each Runnable that a steal may
 /// still bring, so no append there is refused; a run that has found its own queue empty has it empty until it searches
 /// again or its poll ends; and what stands there belongs to a run in its poll or its drop, or to one whose last poll
-/// called its own waker.
+/// called its own waker. It is never more than 512.
 pub fn own_queues_agree()
-    ensures used { EveryRun IsUsedOnce }
-    ensures listed { EveryRun ListAgrees }
+    ensures used { EveryExecution IsUsedOnce }
+    ensures listed { EveryExecution ListAgrees }
     ensures locked { EveryMachine LockAgrees }
-    ensures roomy { EveryRun HasOwnRoom }
-    ensures empty { EveryRun IsEmptyMeanwhile }
-    ensures kept { EveryRun OwnQueueHasRunner }
+    ensures roomy { EveryExecution HasOwnRoom }
+    ensures empty { EveryExecution IsEmptyMeanwhile }
+    ensures kept { EveryExecution OwnQueueHasRunner }
+    ensures bounded { EveryExecution IsWithinBound }
 {}

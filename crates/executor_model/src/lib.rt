@@ -3,6 +3,7 @@
 #![tactic(auto)]
 
 mod call;
+pub mod call_laws;
 mod event;
 mod kind;
 pub mod laws;
@@ -15,7 +16,7 @@ pub use event::{Answer, Event};
 pub use kind::Kind;
 pub use op::{
     Awaiter, ClosingOp, HandleOp, Hold, ListOp, Op, Polled, QueueOp, RunOp, RunPoll, Section,
-    Sleeper, SleeperOp, Sleeping, Source, Steal, StealOp, TableOp, Then, TickOp, UserOp, Waker,
+    SleeperOp, Sleeping, Source, Steal, StealOp, TableOp, Then, TickOp, TickOrRun, UserOp, Waker,
     WakerOp,
 };
 pub use step::{Hint, Step, StepError, UserEnd};

@@ -29,21 +29,21 @@ pub enum Polled {
     Run(u64),
 }
 
-/// Who lies down among the sleepers.
+/// Who falls asleep among the sleepers.
 #[derive(Clone, Copy, Debug, PartialEq, Eq)]
-pub enum Sleeper {
+pub enum TickOrRun {
     /// The tick with this number.
     Tick(u64),
     /// The run with this number.
     Run(u64),
 }
 
-/// What the list of sleepers keeps of a tick or run: the waker that it lay down with, who it is, and the poll by
+/// What the list of sleepers keeps of a tick or run: the waker that it fell asleep with, who it is, and the poll by
 /// the place of its `TickPolled` or `RunPolled` in the trace.
 #[derive(Clone, Copy, Debug, PartialEq, Eq)]
 pub struct Sleeping {
     pub waker: Waker,
-    pub who: Sleeper,
+    pub who: TickOrRun,
     pub poll: u64,
 }
 
@@ -161,18 +161,18 @@ pub enum SleeperOp {
 /// polled, the waker that the poll was given, and the poll.
 #[derive(Clone, Copy, Debug)]
 pub enum TickOp {
-    /// A tick is made, with room to lie down in.
+    /// A tick is made, with room to sleep in.
     MakeTick,
     /// It searches from the beginning: the first Runnable is taken, by a run that of its own queue.
     Search(Sleeping),
-    /// The waker is copied, to lie down with.
+    /// The waker is copied, to fall asleep with.
     CopyWaker(Sleeping),
-    /// It lies down with the copy, or lies down again.
-    LieDown(Sleeping),
-    /// It gets up.
-    GetUp(Sleeper),
-    /// It leaves the sleepers, and gives its room back.
-    Leave(Sleeper),
+    /// It falls asleep with the copy, or falls asleep again.
+    FallAsleep(Sleeping),
+    /// It wakes up.
+    WakeUp(TickOrRun),
+    /// It leaves the sleepers. Where it slept, its room is given back in a step of its own, once another was told in its place.
+    Leave(TickOrRun),
 }
 
 /// What is done with the list of the runs' own queues under its write lock.
@@ -242,12 +242,13 @@ pub enum StealOp {
     Put(Steal, u64, u64),
 }
 
-/// Parts of the making, of a poll and of the drop of a run: what a run alone does.
+/// Parts of the making, of a poll and of the drop of a run: what a run alone does, and the return of room.
 #[derive(Clone, Copy, Debug)]
 pub enum RunOp {
-    /// Room is made to lie down in.
+    /// Room is made to fall asleep in.
     MakeRoom,
-    /// That room is given back, as the rest was refused.
+    /// Room is given back: that which was just made, as the rest was refused, or that of a tick or run which slept and has left
+    /// the sleepers.
     ReturnRoom,
     /// The first Runnable of the executor's queue is taken.
     SearchCommon(RunPoll),

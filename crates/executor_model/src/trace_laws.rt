@@ -1,4 +1,4 @@
-//! Laws of the trace of every run, of any number of parties and any list of steps.
+//! Laws of the trace of every execution, of any number of parties and any list of steps.
 ghost use Rattle.executor_model.specs.AskedPolls.{IsWokenBetweenPolls};
 ghost use Rattle.executor_model.specs.AwaiterKept.{AwaiterIsKept};
 ghost use Rattle.executor_model.specs.DroppedOnce.{DropComesOnce, IsDroppedByTheEnd};

@@ -106,7 +106,7 @@ const ROWS: &[Row] = &[
     GoesRefused(0),
     Ends(0, &[], Reply::Made),
     Makes(0, POLL_RUN, &[PENDING], Reply::Pending),
-    New, // a tick whose second copy is refused lies
+    New, // a tick whose second copy is refused sleeps
     Makes(0, NewTick, &[], Reply::Made),
     Begins(0, POLL_TICK),
     Goes(0, 4),

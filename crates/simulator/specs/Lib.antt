@@ -1,7 +1,6 @@
 pub mod Play
 pub mod Turn
 pub mod Commands
-pub mod Lawful
 pub mod EventText
 pub mod EndText
 pub mod Text

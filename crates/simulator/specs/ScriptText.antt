@@ -1,6 +1,7 @@
 -- What a script prints: its commands are played in order on a new machine,
 -- and what happens and how each ends is printed.
 use Rattle.std.specs.Prelude.{◌≡◌, ℕ, List, [], ◌∷◌}
+use Rattle.executor_core.specs.AllLaws.{AllLaws}
 use Rattle.executor_model.specs.declared.event.Event.{Event}
 use Rattle.executor_model.specs.Steps as steps
 use Rattle.script.specs.declared.command.Command.{Command}
@@ -8,7 +9,6 @@ use Rattle.simulator.specs.declared.moment.Moment.{Moment}
 use Rattle.simulator.specs.declared.moment.Moment.TheVariants.{Happened, Ended, Stopped}
 use Rattle.simulator.specs.Play.{Player, start}
 use Rattle.simulator.specs.Commands.{PlaysAll}
-use Rattle.simulator.specs.Lawful.{IsLawful}
 use Rattle.simulator.specs.Text.{moments_text}
 
 -- what happened in these moments, without how the commands ended
@@ -19,12 +19,12 @@ happened (Ended word outcome ∷ moments) = happened moments
 happened (Stopped ∷ moments) = happened moments
 
 -- the commands were played to this end: its machine is what the steps that were tried make of a new one,
--- of ten parties, what it shows is all that happened to the machine, in order, and the machine keeps to the laws
+-- of ten parties, what it shows is all that happened to the machine, in order, and all laws hold of the machine
 pub record IsPlayed (limit : ℕ) (commands : List Command) (last : Player) : Type 0 where
   pub plays : PlaysAll 0 commands (start commands limit) last
   pub made : steps.run last.tried (steps.start limit 10) ≡ last.machine
   pub shown : happened last.moments ≡ last.machine.world.trace
-  pub lawful : IsLawful last.machine
+  pub laws : AllLaws last.machine
 
 -- the text of the moments of such a play
 abbrev pub IsTextOf : ℕ → List Command → List ℕ → Type 0

@@ -12,23 +12,14 @@ mod turn;
 
 ghost use Rattle.std.specs.Prelude.{◌≡◌, IfOk};
 ghost use Rattle.simulator.specs.Play.{Player};
-ghost use Rattle.simulator.specs.Lawful.{IsLawful};
+ghost use Rattle.executor_core.specs.AllLaws.{AllLaws};
 ghost use Rattle.simulator.specs.ScriptText.{IsPlayed};
 
 use crate::moment::Moment;
 use crate::play::player::Player;
 use executor_core::Machine;
-use executor_model::laws::{outputs_are_kept, sleepers_agree, sleepers_are_told};
-use executor_model::trace_laws::{
-    awaiters_are_kept, closing_drops_each_future_once, drops_come_once, early_drops_have_causes,
-    outputs_go_once, polls_are_asked_for, polls_are_lawful,
-};
-use runs_called::laws::{keepers_are_called, some_standing_is_called};
-use runs_laws::laws::{no_comes_at_once, traces_continue};
-use runs_reach::laws::{
-    calls_at_rest_are_exact, common_futures_are_in_reach, dropped_runs_leave_common_futures,
-    kept_futures_are_in_reach, runs_reach_futures,
-};
+use executor_core::laws::all_laws;
+use executor_laws::laws::traces_continue;
 use script::{Command, Names};
 use std::alloc::{AllocError, Global};
 
@@ -61,27 +52,10 @@ pub fn run(alloc: Global, limit: u64, commands: &[Command]) -> Result<Played, Al
     Ok(player.into_played())
 }
 
-/// The laws of every list of steps hold of a machine. Does nothing.
+/// All laws of every list of steps hold of a machine. Does nothing.
 fn keeps_to_laws(machine: &Machine)
-    ensures { IsLawful machine.now }
+    ensures { AllLaws machine.now }
 {
-    polls_are_lawful();
-    polls_are_asked_for();
-    outputs_go_once();
-    drops_come_once();
-    early_drops_have_causes();
-    closing_drops_each_future_once();
-    awaiters_are_kept();
-    calls_at_rest_are_exact();
-    no_comes_at_once();
-    outputs_are_kept();
-    sleepers_agree();
-    sleepers_are_told();
-    some_standing_is_called();
-    keepers_are_called();
-    common_futures_are_in_reach();
-    runs_reach_futures();
-    kept_futures_are_in_reach();
-    dropped_runs_leave_common_futures();
+    all_laws();
     machine.is_reached();
 }

@@ -1,7 +1,7 @@
 //! The text of a run: a line for each poll, answer and drop, and one for the end of each command.
 
 ghost use Rattle.std.specs.Prelude.{◌≡◌, ◌++◌, codes, IfOk, OnOk};
-ghost use Rattle.simulator.specs.EndText.{end_text, outcome_text, reply_text, word_text};
+ghost use Rattle.simulator.specs.EndText.{end_text, outcome_text, reply_text};
 ghost use Rattle.simulator.specs.EventText.{event_text, line_on, name_of, outside_name, outside_of_run, outside_of_tick};
 ghost use Rattle.simulator.specs.Text.{moment_text, moments_text};
 
@@ -143,36 +143,10 @@ fn push_name(text: &mut Vec<u8>, future: u64, names: &Names) -> Result<(), Alloc
 fn push_end(text: &mut Vec<u8>, word: Word, outcome: Outcome) -> Result<(), AllocError>
     ensures { OnOk result (text.new.items ≡ text.old.items ++ end_text word outcome) }
 {
-    text.extend_from_slice(word_bytes(word))?;
+    text.extend_from_slice(word.text())?;
     text.extend_from_slice(b": ")?;
     push_outcome(text, outcome)?;
     text.extend_from_slice(b"\n")
-}
-
-fn word_bytes(word: Word) -> &'static [u8]
-    ensures { result.now ≡ word_text word }
-{
-    match word {
-        Word::Spawn => b"spawn",
-        Word::Try => b"try",
-        Word::Empty => b"empty",
-        Word::Wake => b"wake",
-        Word::Unkeep => b"unkeep",
-        Word::Poll => b"poll",
-        Word::Cancel => b"cancel",
-        Word::Detach => b"detach",
-        Word::Drop => b"drop",
-        Word::Tick => b"tick",
-        Word::PollTick => b"polltick",
-        Word::DropTick => b"droptick",
-        Word::Run => b"run",
-        Word::PollRun => b"pollrun",
-        Word::DropRun => b"droprun",
-        Word::End => b"end",
-        Word::Begin => b"begin",
-        Word::Go => b"go",
-        Word::Finish => b"finish",
-    }
 }
 
 fn push_outcome(text: &mut Vec<u8>, outcome: Outcome) -> Result<(), AllocError>

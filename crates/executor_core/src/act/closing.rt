@@ -11,8 +11,8 @@ ghost use Rattle.executor_model.specs.Good.{IsKnown, CanGrow, IsHeld, HasPlace, 
 ghost use Rattle.executor_model.specs.Good.{IsKnownWaker, CanWake, ClosingNeeds};
 ghost use Rattle.executor_core.specs.Views.{world_of, HasRoom, HasRoomToEnd, HasSpace, Does};
 
+use crate::act::task::move_task;
 use crate::store::Store;
-use crate::task::move_task;
 use executor_model::{ClosingOp, Event, Op, UserOp};
 use task_moves::moves::Move;
 

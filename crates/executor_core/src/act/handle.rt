@@ -11,9 +11,9 @@ ghost use Rattle.executor_model.specs.Good.{IsKnown, CanGrow, IsHeld, HasPlace, 
 ghost use Rattle.executor_model.specs.Good.{IsKnownWaker, CanWake, HandleNeeds};
 ghost use Rattle.executor_core.specs.Views.{world_of, HasRoom, HasRoomToEnd, HasSpace, Does};
 
+use crate::act::waker::{copy, push_goes};
 use crate::carry::push_awaiter;
 use crate::store::Store;
-use crate::waker::{copy, push_goes};
 use executor_model::{Awaiter, Event, HandleOp, Hint, Hold, Op, Reply, Waker, WakerOp};
 use task_moves::moves::{self, Answer, Moved};
 

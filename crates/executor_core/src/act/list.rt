@@ -16,13 +16,13 @@ pub fn act(store: &mut Store, todo: &mut Vec<Op>, hint: Hint, op: ListOp)
 {
     match op {
         ListOp::LockWrite(section) => {
-            store.lodgers.runs.lock_write();
+            store.ticks_and_runs.runs.lock_write();
             todo.push_reserved(Op::List(ListOp::Write(section)));
         }
         ListOp::Write(section) => write(store, todo, hint, section),
-        ListOp::UnlockWrite => store.lodgers.runs.unlock_write(),
+        ListOp::UnlockWrite => store.ticks_and_runs.runs.unlock_write(),
         ListOp::LockRead(x) => lock_read(store, todo, hint, x),
-        ListOp::UnlockRead => store.lodgers.runs.unlock_read(),
+        ListOp::UnlockRead => store.ticks_and_runs.runs.unlock_read(),
     }
 }
 
@@ -35,12 +35,12 @@ fn write(store: &mut Store, todo: &mut Vec<Op>, hint: Hint, section: Section)
     match section {
         Section::MakeRun => make_run(store, todo, hint),
         Section::Register(x) => {
-            store.lodgers.runs.register(x.run);
+            store.ticks_and_runs.runs.register(x.run);
             todo.push_reserved(Op::User(UserOp::PollOwn(x)));
             todo.push_reserved(Op::List(ListOp::UnlockWrite));
         }
         Section::Unregister(r, reply) => {
-            store.lodgers.runs.unregister(r);
+            store.ticks_and_runs.runs.unregister(r);
             todo.push_reserved(Op::Run(RunOp::Reschedule(r, reply)));
             todo.push_reserved(Op::List(ListOp::UnlockWrite));
         }
@@ -59,8 +59,8 @@ fn make_run(store: &mut Store, todo: &mut Vec<Op>, hint: Hint)
         todo.push_reserved(Op::List(ListOp::UnlockWrite));
         return;
     }
-    let r = store.lodgers.runs.len();
-    store.lodgers.runs.push();
+    let r = store.ticks_and_runs.runs.len();
+    store.ticks_and_runs.runs.push();
     todo.push_reserved(Op::End(Reply::Made, Hold::Run(r)));
     todo.push_reserved(Op::List(ListOp::UnlockWrite));
 }
@@ -78,8 +78,8 @@ fn lock_read(store: &mut Store, todo: &mut Vec<Op>, hint: Hint, x: RunPoll)
     requires space { HasSpace todo.old }
     ensures { Does (runs.lock_read hint (world_of store.old) x) store.new todo.old.items todo.new.items }
 {
-    store.lodgers.runs.lock_read();
-    let count = store.lodgers.runs.listed();
+    store.ticks_and_runs.runs.lock_read();
+    let count = store.ticks_and_runs.runs.listed();
     let at = starting_place(hint.start, count);
     push_walk(store, todo, x, at, count);
 }

@@ -5,11 +5,12 @@ ghost use Rattle.executor_model.specs.Doing as doing;
 ghost use Rattle.executor_model.specs.Good.{CanWake, RunNeeds};
 ghost use Rattle.executor_core.specs.Views.{world_of, HasRoom, HasSpace, Does};
 
+use crate::act::waker::call_by_reference;
 use crate::search::{look_own, search_common};
 use crate::store::Store;
-use crate::waker::call_by_reference;
 use executor_model::{
-    Event, Hint, Hold, ListOp, Op, Polled, QueueOp, Reply, RunOp, RunPoll, Section, Sleeper, TickOp,
+    Event, Hint, Hold, ListOp, Op, Polled, QueueOp, Reply, RunOp, RunPoll, Section, TickOp,
+    TickOrRun,
 };
 
 /// The party does this part of the making, of a poll or of the drop of a run.
@@ -21,7 +22,7 @@ pub fn act(store: &mut Store, todo: &mut Vec<Op>, party: u32, hint: Hint, op: Ru
 {
     match op {
         RunOp::MakeRoom => make_room(store, todo, hint),
-        RunOp::ReturnRoom => store.lodgers.bedroom.give_room_back(),
+        RunOp::ReturnRoom => store.ticks_and_runs.flagged_sleepers.give_room_back(),
         RunOp::SearchCommon(x) => search_common(store, todo, x),
         RunOp::LookOwn(x, at, left) => look_own(store, todo, x, at, left),
         RunOp::WakeOwn(x) => wake_own(store, todo, party, x),
@@ -29,7 +30,7 @@ pub fn act(store: &mut Store, todo: &mut Vec<Op>, party: u32, hint: Hint, op: Ru
     }
 }
 
-/// Room to lie down in is made for a run, where memory is not refused.
+/// Room to fall asleep in is made for a run, where memory is not refused.
 fn make_room(store: &mut Store, todo: &mut Vec<Op>, hint: Hint)
     requires room { HasRoom store.old }
     requires space { HasSpace todo.old }
@@ -39,7 +40,7 @@ fn make_room(store: &mut Store, todo: &mut Vec<Op>, hint: Hint)
         todo.push_reserved(Op::End(Reply::NoMemory, Hold::Executor));
         return;
     }
-    store.lodgers.bedroom.add_room();
+    store.ticks_and_runs.flagged_sleepers.add_room();
     todo.push_reserved(Op::List(ListOp::LockWrite(Section::MakeRun)));
 }
 
@@ -66,14 +67,14 @@ fn reschedule(store: &mut Store, todo: &mut Vec<Op>, r: u64, reply: Reply)
     requires space { HasSpace todo.old }
     ensures { Does (runs.reschedule (world_of store.old) r reply) store.new todo.old.items todo.new.items }
 {
-    match store.lodgers.runs.take(r) {
+    match store.ticks_and_runs.runs.take(r) {
         Some(f) => {
             todo.push_reserved(Op::Run(RunOp::Reschedule(r, reply)));
             todo.push_reserved(Op::Queue(QueueOp::Append(f)));
         }
         None => {
             todo.push_reserved(Op::End(reply, Hold::Run(r)));
-            todo.push_reserved(Op::Tick(TickOp::Leave(Sleeper::Run(r))));
+            todo.push_reserved(Op::Tick(TickOp::Leave(TickOrRun::Run(r))));
         }
     }
 }

@@ -5,9 +5,9 @@ ghost use Rattle.executor_model.specs.Doing as doing;
 ghost use Rattle.executor_model.specs.Good.{SleeperNeeds};
 ghost use Rattle.executor_core.specs.Views.{world_of, HasRoom, HasSpace, Does};
 
+use crate::act::waker::call_waker;
 use crate::store::Store;
-use crate::waker::call_waker;
-use executor_model::{Op, Polled, Sleeper, SleeperOp};
+use executor_model::{Op, Polled, SleeperOp, TickOrRun};
 
 /// The party does this to tell a sleeper that there is something to do.
 pub fn act(store: &mut Store, todo: &mut Vec<Op>, party: u32, op: SleeperOp)
@@ -25,13 +25,13 @@ pub fn act(store: &mut Store, todo: &mut Vec<Op>, party: u32, op: SleeperOp)
     }
 }
 
-/// What a poll was of in which someone lay down.
-fn polled_as(who: Sleeper) -> Polled
+/// What a poll was of in which someone fell asleep.
+fn polled_as(who: TickOrRun) -> Polled
     ensures { result ≡ sleepers.polled_as who }
 {
     match who {
-        Sleeper::Tick(t) => Polled::Tick(t),
-        Sleeper::Run(r) => Polled::Run(r),
+        TickOrRun::Tick(t) => Polled::Tick(t),
+        TickOrRun::Run(r) => Polled::Run(r),
     }
 }
 
@@ -41,7 +41,7 @@ fn exchange_flag(store: &mut Store, todo: &mut Vec<Op>)
     requires space { HasSpace todo.old }
     ensures { Does (sleepers.exchange_flag (world_of store.old)) store.new todo.old.items todo.new.items }
 {
-    if store.lodgers.bedroom.exchange_flag() {
+    if store.ticks_and_runs.flagged_sleepers.exchange_flag() {
         todo.push_reserved(Op::Sleeper(SleeperOp::HandOut));
     }
 }
@@ -52,7 +52,7 @@ fn hand_out(store: &mut Store, todo: &mut Vec<Op>)
     requires space { HasSpace todo.old }
     ensures { Does (sleepers.hand_out (world_of store.old)) store.new todo.old.items todo.new.items }
 {
-    match store.lodgers.bedroom.hand_out() {
+    match store.ticks_and_runs.flagged_sleepers.hand_out() {
         Some(sleeping) => todo.push_reserved(Op::Sleeper(SleeperOp::CallSleeper(sleeping))),
         None => {}
     }

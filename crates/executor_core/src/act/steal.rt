@@ -43,7 +43,7 @@ fn source_len(store: &Store, from: Source) -> u64
 {
     match from {
         Source::Common => store.queue.len() as u64,
-        Source::Own(r) => store.lodgers.runs.own_len(r),
+        Source::Own(r) => store.ticks_and_runs.runs.own_len(r),
     }
 }
 
@@ -59,7 +59,7 @@ fn take_first(store: &mut Store, from: Source) -> Option<u64>
 {
     match from {
         Source::Common => store.queue.pop_front(),
-        Source::Own(r) => store.lodgers.runs.take(r),
+        Source::Own(r) => store.ticks_and_runs.runs.take(r),
     }
 }
 
@@ -104,7 +104,7 @@ fn own_length(store: &mut Store, todo: &mut Vec<Op>, s: Steal, n: u64)
     requires space { HasSpace todo.old }
     ensures { Does (runs.steal_own_length (world_of store.old) s n) store.new todo.old.items todo.new.items }
 {
-    let free = store.lodgers.runs.free_places(s.poll.run);
+    let free = store.ticks_and_runs.runs.free_places(s.poll.run);
     go_on(store, todo, s, share(n, free));
 }
 
@@ -126,7 +126,7 @@ fn put(store: &mut Store, todo: &mut Vec<Op>, party: u32, s: Steal, more: u64, f
     requires space { HasSpace todo.old }
     ensures { Does (runs.steal_put party (world_of store.old) s more f) store.new todo.old.items todo.new.items }
 {
-    let kept = store.lodgers.runs.append(s.poll.run, f);
+    let kept = store.ticks_and_runs.runs.append(s.poll.run, f);
     if kept {
         store.trace.push_reserved(Event::Kept {
             party,

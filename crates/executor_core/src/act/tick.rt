@@ -1,16 +1,18 @@
-//! The making of ticks, and how ticks and runs search, lie down, get up and leave.
+//! The making of ticks, and how ticks and runs search, fall asleep, wake up and leave.
 ghost use Rattle.std.specs.Prelude.{◌≡◌, ◌+◌, ◌≤◌, ◌++◌, reverse, vec_len, vec_capacity};
 ghost use Rattle.executor_model.specs.ActsOfSleepers as sleepers;
 ghost use Rattle.executor_model.specs.Doing as doing;
 ghost use Rattle.executor_model.specs.Good.{IsKnownWaker, TickNeeds};
-ghost use Rattle.executor_core.specs.Rising.{rises};
+ghost use Rattle.executor_core.specs.WakingUp.{passed_on, wakes_up};
 ghost use Rattle.executor_core.specs.Views.{world_of, HasRoom, HasSpace, Does};
 
+use crate::act::waker::{copy, push_goes};
 use crate::search::search_own;
 use crate::store::Store;
-use crate::waker::{copy, push_goes};
-use executor_model::{Hint, Hold, Op, Reply, RunPoll, Sleeper, SleeperOp, Sleeping, TickOp};
-use executor_ticks::Laid;
+use crate::ticks::FellAsleep;
+use executor_model::{
+    Hint, Hold, Op, Reply, RunOp, RunPoll, SleeperOp, Sleeping, TickOp, TickOrRun,
+};
 use task_moves::moves::Move;
 
 /// The party does this part of the making of a tick, or of a poll or the drop of a tick or run.
@@ -24,8 +26,8 @@ pub fn act(store: &mut Store, todo: &mut Vec<Op>, hint: Hint, op: TickOp)
         TickOp::MakeTick => make_tick(store, todo, hint),
         TickOp::Search(s) => search(store, todo, s),
         TickOp::CopyWaker(s) => copy_waker(store, todo, hint, s),
-        TickOp::LieDown(s) => lie_down(store, todo, s),
-        TickOp::GetUp(who) => get_up(store, todo, who),
+        TickOp::FallAsleep(s) => fall_asleep(store, todo, s),
+        TickOp::WakeUp(who) => wake_up(store, todo, who),
         TickOp::Leave(who) => leave(store, todo, who),
     }
 }
@@ -40,30 +42,30 @@ fn make_tick(store: &mut Store, todo: &mut Vec<Op>, hint: Hint)
         todo.push_reserved(Op::End(Reply::NoMemory, Hold::Executor));
         return;
     }
-    store.lodgers.ticks.push();
-    store.lodgers.bedroom.add_room();
+    store.ticks_and_runs.ticks.push();
+    store.ticks_and_runs.flagged_sleepers.add_room();
     todo.push_reserved(Op::End(Reply::Made, Hold::Executor));
 }
 
 /// Who is polled, and stays so until the call has ended.
-fn held_as(who: Sleeper) -> Hold
+fn held_as(who: TickOrRun) -> Hold
     ensures { result ≡ sleepers.held_as who }
 {
     match who {
-        Sleeper::Tick(t) => Hold::Tick(t),
-        Sleeper::Run(r) => Hold::Run(r),
+        TickOrRun::Tick(t) => Hold::Tick(t),
+        TickOrRun::Run(r) => Hold::Run(r),
     }
 }
 
-/// Who has found something and lies gets up first.
-pub fn push_rises(todo: &mut Vec<Op>, lies: bool, who: Sleeper)
+/// Who has found something and sleeps wakes up first.
+pub fn push_wake_up(todo: &mut Vec<Op>, sleeps: bool, who: TickOrRun)
     requires space { vec_len todo.old + 1 ≤ vec_capacity todo.old }
-    ensures items { todo.new.items ≡ todo.old.items ++ reverse (rises lies who) }
+    ensures items { todo.new.items ≡ todo.old.items ++ reverse (wakes_up sleeps who) }
     ensures capacity { vec_capacity todo.new ≡ vec_capacity todo.old }
     ensures len { vec_len todo.new ≤ vec_len todo.old + 1 }
 {
-    if lies {
-        todo.push_reserved(Op::Tick(TickOp::GetUp(who)));
+    if sleeps {
+        todo.push_reserved(Op::Tick(TickOp::WakeUp(who)));
     }
 }
 
@@ -74,8 +76,8 @@ fn search(store: &mut Store, todo: &mut Vec<Op>, s: Sleeping)
     ensures { Does (doing.search (world_of store.old) s) store.new todo.old.items todo.new.items }
 {
     match s.who {
-        Sleeper::Tick(_) => search_tick(store, todo, s),
-        Sleeper::Run(r) => search_own(
+        TickOrRun::Tick(_) => search_tick(store, todo, s),
+        TickOrRun::Run(r) => search_own(
             store,
             todo,
             RunPoll {
@@ -87,7 +89,7 @@ fn search(store: &mut Store, todo: &mut Vec<Op>, s: Sleeping)
     }
 }
 
-/// The poll of a tick takes the first Runnable, where there is one, tells another sleeper, and runs it. Else it lies
+/// The poll of a tick takes the first Runnable, where there is one, tells another sleeper, and runs it. Else it sleeps
 /// down.
 fn search_tick(store: &mut Store, todo: &mut Vec<Op>, s: Sleeping)
     requires room { HasRoom store.old }
@@ -98,14 +100,14 @@ fn search_tick(store: &mut Store, todo: &mut Vec<Op>, s: Sleeping)
         todo.push_reserved(Op::Tick(TickOp::CopyWaker(s)));
         return;
     };
-    let lies = store.lodgers.lies(s.who);
+    let sleeps = store.ticks_and_runs.sleeps(s.who);
     todo.push_reserved(Op::End(Reply::Ready, held_as(s.who)));
     todo.push_reserved(Op::Move(Move::TakeUp, f));
     todo.push_reserved(Op::Sleeper(SleeperOp::ExchangeFlag));
-    push_rises(todo, lies, s.who);
+    push_wake_up(todo, sleeps, s.who);
 }
 
-/// The waker is copied, to lie down with.
+/// The waker is copied, to fall asleep with.
 fn copy_waker(store: &mut Store, todo: &mut Vec<Op>, hint: Hint, s: Sleeping)
     requires room { HasRoom store.old }
     requires space { HasSpace todo.old }
@@ -116,11 +118,11 @@ fn copy_waker(store: &mut Store, todo: &mut Vec<Op>, hint: Hint, s: Sleeping)
         todo.push_reserved(Op::End(Reply::NoMemory, held_as(s.who)));
         return;
     }
-    todo.push_reserved(Op::Tick(TickOp::LieDown(s)));
+    todo.push_reserved(Op::Tick(TickOp::FallAsleep(s)));
 }
 
 /// The poll has nothing to answer yet.
-fn push_pending(todo: &mut Vec<Op>, who: Sleeper)
+fn push_pending(todo: &mut Vec<Op>, who: TickOrRun)
     requires space { vec_len todo.old + 3 ≤ vec_capacity todo.old }
     ensures items { todo.new.items ≡ todo.old.items ++ reverse (sleepers.pend_as who) }
     ensures space { vec_len todo.new + 2 ≤ vec_capacity todo.new }
@@ -128,7 +130,7 @@ fn push_pending(todo: &mut Vec<Op>, who: Sleeper)
     todo.push_reserved(Op::End(Reply::Pending, held_as(who)));
 }
 
-/// What one lay down with goes, and isn't called.
+/// What one fell asleep with goes, and isn't called.
 fn push_sleeper_goes(todo: &mut Vec<Op>, old: Option<Sleeping>)
     requires space { vec_len todo.old + 2 ≤ vec_capacity todo.old }
     ensures items { todo.new.items ≡ todo.old.items ++ reverse (sleepers.sleeper_goes old) }
@@ -140,53 +142,58 @@ fn push_sleeper_goes(todo: &mut Vec<Op>, old: Option<Sleeping>)
     }
 }
 
-/// It lies down, or lies down again. Where it lay down anew, or had been told, the poll searches once more.
-fn lie_down(store: &mut Store, todo: &mut Vec<Op>, s: Sleeping)
+/// It falls asleep, or falls asleep again. Where it fell asleep anew, or had been told, the poll searches once more.
+fn fall_asleep(store: &mut Store, todo: &mut Vec<Op>, s: Sleeping)
     requires room { HasRoom store.old }
     requires space { HasSpace todo.old }
-    ensures { Does (sleepers.lie_down (world_of store.old) s) store.new todo.old.items todo.new.items }
+    ensures { Does (sleepers.fall_asleep (world_of store.old) s) store.new todo.old.items todo.new.items }
 {
-    match store.lodgers.lie_down(s) {
-        Laid::Searches => todo.push_reserved(Op::Tick(TickOp::Search(s))),
-        Laid::Rests(old) => {
+    match store.ticks_and_runs.fall_asleep(s) {
+        FellAsleep::Searches => todo.push_reserved(Op::Tick(TickOp::Search(s))),
+        FellAsleep::Rests(old) => {
             push_pending(todo, s.who);
             push_sleeper_goes(todo, old);
         }
-        Laid::Nowhere => {
+        FellAsleep::Nowhere => {
             push_pending(todo, s.who);
             todo.push_reserved(Op::Sleeper(SleeperOp::CallSleeper(s)));
         }
     }
 }
 
-/// It gets up.
-fn get_up(store: &mut Store, todo: &mut Vec<Op>, who: Sleeper)
+/// It wakes up.
+fn wake_up(store: &mut Store, todo: &mut Vec<Op>, who: TickOrRun)
     requires room { HasRoom store.old }
     requires space { HasSpace todo.old }
-    ensures { Does (sleepers.get_up (world_of store.old) who) store.new todo.old.items todo.new.items }
+    ensures { Does (sleepers.wake_up (world_of store.old) who) store.new todo.old.items todo.new.items }
 {
-    let old = store.lodgers.get_up(who);
+    let old = store.ticks_and_runs.wake_up(who);
     push_sleeper_goes(todo, old);
 }
 
-/// Another is told in the place of one that had been.
-fn push_tell(todo: &mut Vec<Op>, told: bool)
-    requires space { vec_len todo.old + 3 ≤ vec_capacity todo.old }
-    ensures items { todo.new.items ≡ todo.old.items ++ reverse (sleepers.tell_if told) }
+/// One that slept has left: another is told in its place, where it had been told, and then its room is given back.
+fn push_passed_on(todo: &mut Vec<Op>, slept: bool, told: bool)
+    requires space { vec_len todo.old + 4 ≤ vec_capacity todo.old }
+    ensures items { todo.new.items ≡ todo.old.items ++ reverse (passed_on slept told) }
     ensures space { vec_len todo.new + 2 ≤ vec_capacity todo.new }
 {
+    if !slept {
+        return;
+    }
+    todo.push_reserved(Op::Run(RunOp::ReturnRoom));
     if told {
         todo.push_reserved(Op::Sleeper(SleeperOp::ExchangeFlag));
     }
 }
 
-/// It leaves the sleepers. If it had been told, another is told in its place.
-fn leave(store: &mut Store, todo: &mut Vec<Op>, who: Sleeper)
+/// It leaves the sleepers. If it had been told, another is told in its place. Where it slept, its room is given back after that.
+fn leave(store: &mut Store, todo: &mut Vec<Op>, who: TickOrRun)
     requires room { HasRoom store.old }
     requires space { HasSpace todo.old }
     ensures { Does (sleepers.leave_sleepers (world_of store.old) who) store.new todo.old.items todo.new.items }
 {
-    let (old, told) = store.lodgers.leave(who);
-    push_tell(todo, told);
+    let slept = store.ticks_and_runs.sleeps(who);
+    let (old, told) = store.ticks_and_runs.leave(who);
+    push_passed_on(todo, slept, told);
     push_sleeper_goes(todo, old);
 }

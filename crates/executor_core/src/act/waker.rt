@@ -12,8 +12,8 @@ ghost use Rattle.executor_model.specs.Good.{IsKnown, CanGrow, IsHeld, HasPlace, 
 ghost use Rattle.executor_model.specs.Good.{IsKnownWaker, CanWake, WakerNeeds};
 ghost use Rattle.executor_core.specs.Views.{world_of, HasRoom, HasRoomToEnd, HasSpace, Does};
 
+use crate::act::task::move_task;
 use crate::store::Store;
-use crate::task::move_task;
 use executor_model::{Event, Hint, Hold, Op, Polled, Reply, UserOp, Waker, WakerOp};
 use task_moves::moves::{MOST_REFERENCES, Move, State};
 

@@ -4,11 +4,11 @@ ghost use Rattle.std.specs.Prelude.{[], ◌∷◌, IfNone, IfSome, length, map, 
 ghost use Rattle.std.specs.Prelude.{cond, slice_index_or, slice_set, vec_len, vec_capacity};
 ghost use Rattle.std.specs.List.{list_any};
 ghost use Rattle.executor_model.specs.World.{Left, no_run};
-ghost use Rattle.executor_runs.specs.Runs.{as_run, as_stage};
-ghost use Rattle.executor_ticks.specs.Ticks.{as_place, is_lying};
+ghost use Rattle.executor_core.specs.Runs.{as_run, as_stage};
+ghost use Rattle.executor_core.specs.Ticks.{as_ticker, is_asleep};
 
-use crate::run::{Run, Stage};
-use executor_ticks::Place;
+use crate::runs::run::{Run, Stage};
+use crate::ticks::Ticker;
 use std::mem;
 
 /// The drop of some of these was not begun.
@@ -77,9 +77,9 @@ pub fn take_one(runs: &mut Vec<Run>, at: usize) -> bool
 }
 
 /// It is taken out of its place.
-pub fn take_place(runs: &mut Vec<Run>, at: usize) -> Place
+pub fn take_place(runs: &mut Vec<Run>, at: usize) -> Ticker
     requires { at < vec_len runs.old }
-    ensures taken { as_place result ≡ (slice_index_or (map as_run runs.old.items) at no_run).place }
+    ensures taken { as_ticker result ≡ (slice_index_or (map as_run runs.old.items) at no_run).place }
     ensures runs { map as_run runs.new.items ≡ slice_set (map as_run runs.old.items) at
         (record (slice_index_or (map as_run runs.old.items) at no_run) { place = Left }) }
     ensures own { map (λ x. x.own) runs.new.items ≡ map (λ x. x.own) runs.old.items }
@@ -87,15 +87,15 @@ pub fn take_place(runs: &mut Vec<Run>, at: usize) -> Place
     ensures room { vec_capacity runs.new ≡ vec_capacity runs.old }
 {
     let run = &mut runs[at];
-    mem::replace(&mut run.place, Place::Left)
+    mem::replace(&mut run.place, Ticker::Left)
 }
 
 /// It is put into its place.
-pub fn put_place(runs: &mut Vec<Run>, at: usize, place: Place)
+pub fn put_place(runs: &mut Vec<Run>, at: usize, place: Ticker)
     requires within { at < vec_len runs.old }
     requires free { (slice_index_or (map as_run runs.old.items) at no_run).place ≡ Left }
     ensures runs { map as_run runs.new.items ≡ slice_set (map as_run runs.old.items) at
-        (record (slice_index_or (map as_run runs.old.items) at no_run) { place = as_place place }) }
+        (record (slice_index_or (map as_run runs.old.items) at no_run) { place = as_ticker place }) }
     ensures own { map (λ x. x.own) runs.new.items ≡ map (λ x. x.own) runs.old.items }
     ensures len { vec_len runs.new ≡ vec_len runs.old }
     ensures room { vec_capacity runs.new ≡ vec_capacity runs.old }

@@ -18,7 +18,7 @@ pub struct Counts {
 
 impl Model for Counts {
     ghost use Rattle.std.specs.Prelude.{◌<◌};
-    ghost use Rattle.executor_runs.specs.Counted.{Counted};
+    ghost use Rattle.executor_core.specs.Counted.{Counted};
 
     ghost Value = { Counted };
 

@@ -4,7 +4,7 @@ ghost use Rattle.std.specs.Prelude.{IsOk, length, position, vec_len, vec_capacit
 ghost use Rattle.executor_model.specs.declared.op.RunPoll.{RunPoll};
 ghost use Rattle.executor_model.specs.ActsOfRuns.{next_place, queue_at, walk};
 ghost use Rattle.executor_model.specs.World.{without};
-ghost use Rattle.executor_runs.specs.Walks.{goes_to};
+ghost use Rattle.executor_core.specs.Walks.{goes_to};
 
 use std::alloc::{AllocError, Global};
 

@@ -1,11 +1,11 @@
 //! A run.
 ghost use Rattle.std.specs.Prelude.{◌≡◌};
 ghost use Rattle.executor_model.specs.World.{new_run};
-ghost use Rattle.executor_runs.specs.Runs.{as_run};
+ghost use Rattle.executor_core.specs.Runs.{as_run};
 
-use crate::counts::Counts;
-use crate::own::OwnQueue;
-use executor_ticks::Place;
+use crate::runs::counts::Counts;
+use crate::runs::own::OwnQueue;
+use crate::ticks::Ticker;
 
 /// How far a run has come.
 #[derive(Clone, Copy, Debug, PartialEq, Eq)]
@@ -18,9 +18,9 @@ pub enum Stage {
     Ended,
 }
 
-/// A run. It has no drop: it leaves the bedroom.
+/// A run. It has no drop: it leaves the sleepers.
 pub struct Run {
-    pub place: Place,
+    pub place: Ticker,
     pub stage: Stage,
     /// Its drop was begun.
     pub dropped: bool,
@@ -29,13 +29,13 @@ pub struct Run {
 }
 
 impl Run {
-    /// A run that is up and was never polled, with this queue.
+    /// A run that is awake and was never polled, with this queue.
     pub fn new(own: OwnQueue) -> Run
         ensures run { as_run result ≡ new_run }
         ensures own { result.own ≡ own }
     {
         Run {
-            place: Place::Up,
+            place: Ticker::Awake,
             stage: Stage::New,
             dropped: false,
             counts: Counts::new(),

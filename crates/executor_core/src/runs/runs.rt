@@ -6,24 +6,24 @@ ghost use Rattle.std.specs.List.{list_any};
 ghost use Rattle.executor_model.specs.declared.op.RunPoll.{RunPoll};
 ghost use Rattle.executor_model.specs.ActsOfRuns.{walk};
 ghost use Rattle.executor_model.specs.World.{Left, new_run};
-ghost use Rattle.executor_runs.specs.Running.{free_in, listed_by, own_in, placed, put_in, put_own_in, run_in, unlisted};
-ghost use Rattle.executor_runs.specs.Runs.{as_stage};
-ghost use Rattle.executor_ticks.specs.Lying as lying;
-ghost use Rattle.executor_ticks.specs.Ticks.{as_place, is_lying};
-ghost use Rattle.executor_runs.specs.Walks.{goes_to};
+ghost use Rattle.executor_core.specs.Running.{free_in, listed_by, own_in, placed, put_in, put_own_in, run_in, unlisted};
+ghost use Rattle.executor_core.specs.Runs.{as_stage};
+ghost use Rattle.executor_core.specs.FallingAsleep as falling;
+ghost use Rattle.executor_core.specs.Ticks.{as_ticker, is_asleep};
+ghost use Rattle.executor_core.specs.Walks.{goes_to};
 
-use crate::at;
-use crate::list::{Found, QueueList};
-use crate::lock::Lock;
-use crate::own::OwnQueue;
-use crate::run::{Run, Stage};
-use executor_ticks::{Bedroom, Place};
+use crate::runs::at;
+use crate::runs::list::{Found, QueueList};
+use crate::runs::lock::Lock;
+use crate::runs::own::OwnQueue;
+use crate::runs::run::{Run, Stage};
+use crate::ticks::{FlaggedSleepers, Ticker};
 use std::alloc::{AllocError, Global};
 use std::marker::Model;
 use std::mem;
 
 /// The runs of the machine, and the list of their own queues. A run is named by its number; one that isn't there is as one that
-/// was dropped and has an empty queue with no place. They have no drop: they leave the bedroom.
+/// was dropped and has an empty queue with no place. They have no drop: they leave the sleepers.
 pub struct Runs {
     alloc: Global,
     // By number.
@@ -36,8 +36,8 @@ pub struct Runs {
 
 impl Model for Runs {
     ghost use Rattle.std.specs.Prelude.{◌≡◌, [], map, nat_lt, ◌&&◌, is_some, vec_len, vec_capacity};
-    ghost use Rattle.executor_runs.specs.Running.{Running, IsBlank};
-    ghost use Rattle.executor_runs.specs.Runs.{as_lock, as_run};
+    ghost use Rattle.executor_core.specs.Running.{Running, IsBlank};
+    ghost use Rattle.executor_core.specs.Runs.{as_lock, as_run};
 
     ghost Value = { Running };
 
@@ -135,33 +135,33 @@ impl Runs {
         }
     }
 
-    /// Whether this run lies among the sleepers.
-    pub fn lies(&self, r: u64) -> bool
-        ensures { result ≡ is_lying (run_in self.now r).place }
+    /// Whether this run is among the sleepers.
+    pub fn sleeps(&self, r: u64) -> bool
+        ensures { result ≡ is_asleep (run_in self.now r).place }
     {
         match self.runs.get(r as usize) {
-            Some(run) => run.place.lies(),
+            Some(run) => run.place.sleeps(),
             None => false,
         }
     }
 
     /// This run is taken out of its place, which it is put back into.
-    pub fn take_place(&mut self, r: u64) -> Place
-        ensures taken { as_place result ≡ (run_in self.old r).place }
+    pub fn take_place(&mut self, r: u64) -> Ticker
+        ensures taken { as_ticker result ≡ (run_in self.old r).place }
         ensures left { self.new ≡ placed r Left self.old }
     {
         if r < self.runs.len() as u64 {
             at::take_place(&mut self.runs, r as usize)
         } else {
-            Place::Left
+            Ticker::Left
         }
     }
 
     /// It is put into its place, from which it was taken.
-    pub fn put_place(&mut self, r: u64, place: Place)
+    pub fn put_place(&mut self, r: u64, place: Ticker)
         requires free { (run_in self.old r).place ≡ Left }
-        requires nowhere { length self.old.runs ≤ r → is_lying (as_place place) ≡ false }
-        ensures { self.new ≡ placed r (as_place place) self.old }
+        requires nowhere { length self.old.runs ≤ r → is_asleep (as_ticker place) ≡ false }
+        ensures { self.new ≡ placed r (as_ticker place) self.old }
     {
         if r < self.runs.len() as u64 {
             at::put_place(&mut self.runs, r as usize, place);
@@ -170,11 +170,11 @@ impl Runs {
         }
     }
 
-    /// Each run leaves, the last first, and gives its room back.
-    pub fn leave(self, bedroom: &mut Bedroom)
-        ensures sleepers { bedroom.new.sleepers
-            ≡ (lying.all_left (map (λ x. x.place) self.runs) bedroom.old).sleepers }
-        ensures flag { bedroom.new.notified ≡ (lying.all_left (map (λ x. x.place) self.runs) bedroom.old).notified }
+    /// Each run goes for good, the last first.
+    pub fn leave(self, flagged_sleepers: &mut FlaggedSleepers)
+        ensures sleepers { flagged_sleepers.new.sleepers
+            ≡ (falling.all_gone (map (λ x. x.place) self.runs) flagged_sleepers.old).sleepers }
+        ensures flag { flagged_sleepers.new.notified ≡ (falling.all_gone (map (λ x. x.place) self.runs) flagged_sleepers.old).notified }
     {
         let Runs {
             alloc: _,
@@ -191,7 +191,7 @@ impl Runs {
                 counts: _,
                 own: _,
             } = run;
-            bedroom.leave(place);
+            flagged_sleepers.let_go(place);
         }
         runs.destroy_empty();
     }

@@ -4,9 +4,9 @@ ghost use Rattle.std.specs.Prelude.{OnOk, IsOk, IfOk, IfErr, IfSome, IfNone, Som
 ghost use Rattle.executor_model.specs.World.{without, among};
 ghost use Rattle.executor_parts.specs.Order.{IsApart};
 ghost use Rattle.executor_parts.specs.Places.{entry_in, waker_of};
-ghost use Rattle.executor_table.specs.Entered.{AreSeated, IsRefusal, IsVacancy, futures_of, place_in, present_of};
+ghost use Rattle.executor_core.specs.Entered.{AreSeated, IsRefusal, IsVacancy, futures_of, place_in, present_of};
 
-use executor_parts::{Place, Places, SpawnRefused, Vacancy};
+use executor_parts::{EntryPlace, Places, SpawnRefused, Vacancy};
 use std::alloc::{AllocError, Global};
 use std::marker::Model;
 
@@ -23,14 +23,14 @@ pub struct Entries {
 #[derive(Clone, Copy)]
 struct Seat {
     // Where its entry is, where it has one.
-    place: Place,
+    place: EntryPlace,
     // It is in its place.
     inside: bool,
 }
 
 impl Model for Entries {
     ghost use Rattle.std.specs.Prelude.{◌≡◌, map, nat_lt, ◌&&◌, vec_len, vec_capacity};
-    ghost use Rattle.executor_table.specs.Entered.{Entered, AreSeated, futures_of, present_of};
+    ghost use Rattle.executor_core.specs.Entered.{Entered, AreSeated, futures_of, present_of};
 
     ghost Value = { Entered };
 
@@ -49,7 +49,7 @@ impl Model for Entries {
 }
 
 /// Where this future has an entry, if it has one.
-fn find(table: &Places<(), u64>, seats: &Vec<Seat>, f: u64) -> Option<Place>
+fn find(table: &Places<(), u64>, seats: &Vec<Seat>, f: u64) -> Option<EntryPlace>
     requires { AreSeated seats.now.items table.now.entries }
     ensures here { IfSome result (λ place. place_in seats.now.items f ≡ Some place) }
     ensures found { IfSome result (λ place. waker_of (entry_in place table.now.entries) ≡ Some f) }

@@ -1,21 +1,21 @@
-//! The sleepers, with the room in which nobody lies.
+//! The sleepers, with the room in which nobody sleeps.
 ghost use Rattle.std.specs.Prelude.{◌≡◌, ◌≢◌, ◌+◌, ◌<◌, ◌≤◌, true, not, [], None, length, vec_len, OnOk, IsOk};
 ghost use Rattle.executor_parts.specs.Sleepers.{last_waker, without_last};
 ghost use Rattle.executor_model.specs.ActsOfSleepers.{given_back};
-ghost use Rattle.executor_model.specs.World.{Up, Lies};
-ghost use Rattle.executor_ticks.specs.Lying as lying;
-ghost use Rattle.executor_ticks.specs.Ticks.{as_place, bed, rooms_beside, IsSpare};
+ghost use Rattle.executor_model.specs.World.{Awake, Asleep};
+ghost use Rattle.executor_core.specs.FallingAsleep as falling;
+ghost use Rattle.executor_core.specs.Ticks.{as_ticker, flagged, rooms_beside, IsSpare};
 
-use crate::place::Place;
+use crate::ticks::ticker::Ticker;
 use executor_model::Sleeping;
-use executor_parts::{Again, Risen, Room, Sleeper, Sleepers, Slept, Unreserved, exchange_flag};
+use executor_parts::{Again, Room, Sleeper, Sleepers, Slept, Unreserved, WokenUp, exchange_flag};
 use std::alloc::{AllocError, Global};
 use std::marker::Model;
 use std::mem;
 
-/// The sleepers and the flag beside them, with the room in which nobody lies: as much as there is for more sleepers. Each
+/// The sleepers and the flag beside them, with the room in which nobody sleeps: as much as there is for more sleepers. Each
 /// call but `reserve` is one section of whoever locks them, and takes no memory.
-pub struct Bedroom {
+pub struct FlaggedSleepers {
     sleepers: Sleepers<Sleeping>,
     notified: bool,
     rooms: Vec<Room>,
@@ -23,22 +23,22 @@ pub struct Bedroom {
     spare: Option<Room>,
 }
 
-/// How a tick or run lay down.
+/// How a tick or run fell asleep.
 #[derive(Clone, Copy)]
-pub enum Laid {
+pub enum FellAsleep {
     /// Anew, or it had been told meanwhile: it has to search once more.
     Searches,
-    /// It lay there already, with this, which goes.
+    /// It slept there already, with this, which goes.
     Rests(Option<Sleeping>),
     /// There is no place for it.
     Nowhere,
 }
 
-impl Model for Bedroom {
+impl Model for FlaggedSleepers {
     ghost use Rattle.std.specs.Prelude.{◌+◌, ◌≤◌, nat_lt, ◌&&◌, is_some, vec_len, vec_capacity};
-    ghost use Rattle.executor_ticks.specs.Ticks.{Bed, ahead, rooms_beside, IsSpare};
+    ghost use Rattle.executor_core.specs.Ticks.{Flagged, ahead, rooms_beside, IsSpare};
 
-    ghost Value = { Bed };
+    ghost Value = { Flagged };
 
     ghost view = { λ s. record {
       sleepers = record s.sleepers { rooms = rooms_beside s.spare s.sleepers.rooms };
@@ -84,24 +84,24 @@ fn give_one_back(sleepers: &mut Sleepers<Sleeping>, rooms: &mut Vec<Room>)
     }
 }
 
-/// One that was up lies down.
-fn lie_down_anew(
+/// One that was awake falls asleep.
+fn fall_asleep_anew(
     sleepers: &mut Sleepers<Sleeping>,
     rooms: &mut Vec<Room>,
     notified: &mut bool,
     sleeping: Sleeping,
-) -> (Place, Laid)
+) -> (Ticker, FellAsleep)
     requires { sleepers.old.rooms ≤ vec_len rooms.old + sleepers.old.count }
-    ensures place { as_place result.0 ≡ (lying.lie_down Up sleeping (bed sleepers.old notified.old)).place }
-    ensures laid { result.1 ≡ (lying.lie_down Up sleeping (bed sleepers.old notified.old)).laid }
-    ensures sleepers { sleepers.new ≡ (lying.lie_down Up sleeping (bed sleepers.old notified.old)).bed.sleepers }
-    ensures flag { notified.new ≡ (lying.lie_down Up sleeping (bed sleepers.old notified.old)).bed.notified }
+    ensures place { as_ticker result.0 ≡ (falling.fall_asleep Awake sleeping (flagged sleepers.old notified.old)).place }
+    ensures fell_asleep { result.1 ≡ (falling.fall_asleep Awake sleeping (flagged sleepers.old notified.old)).fell_asleep }
+    ensures sleepers { sleepers.new ≡ (falling.fall_asleep Awake sleeping (flagged sleepers.old notified.old)).flagged.sleepers }
+    ensures flag { notified.new ≡ (falling.fall_asleep Awake sleeping (flagged sleepers.old notified.old)).flagged.notified }
     ensures hand { sleepers.new.rooms ≤ vec_len rooms.new + sleepers.new.count }
 {
     let Some(room) = rooms.pop() else {
-        return (Place::Up, Laid::Nowhere);
+        return (Ticker::Awake, FellAsleep::Nowhere);
     };
-    match sleepers.lie_down(room, sleeping) {
+    match sleepers.fall_asleep(room, sleeping) {
         Ok(
             Slept {
                 sleeper,
@@ -109,47 +109,47 @@ fn lie_down_anew(
             },
         ) => {
             *notified = flag;
-            (Place::Lies(sleeper), Laid::Searches)
+            (Ticker::Asleep(sleeper), FellAsleep::Searches)
         }
         Err(Unreserved { room, waker: _ }) => {
             rooms.push_reserved(room);
-            (Place::Up, Laid::Nowhere)
+            (Ticker::Awake, FellAsleep::Nowhere)
         }
     }
 }
 
-/// One that lay lies down again.
-fn lie_down_again(
+/// One that slept falls asleep again.
+fn fall_asleep_again(
     sleepers: &mut Sleepers<Sleeping>,
     notified: &mut bool,
     sleeper: &Sleeper,
     sleeping: Sleeping,
-) -> Laid
-    ensures laid { result ≡ (lying.lie_down (Lies sleeper.now.number) sleeping (bed sleepers.old notified.old)).laid }
+) -> FellAsleep
+    ensures fell_asleep { result ≡ (falling.fall_asleep (Asleep sleeper.now.number) sleeping (flagged sleepers.old notified.old)).fell_asleep }
     ensures sleepers { sleepers.new
-        ≡ (lying.lie_down (Lies sleeper.now.number) sleeping (bed sleepers.old notified.old)).bed.sleepers }
+        ≡ (falling.fall_asleep (Asleep sleeper.now.number) sleeping (flagged sleepers.old notified.old)).flagged.sleepers }
     ensures flag { notified.new
-        ≡ (lying.lie_down (Lies sleeper.now.number) sleeping (bed sleepers.old notified.old)).bed.notified }
+        ≡ (falling.fall_asleep (Asleep sleeper.now.number) sleeping (flagged sleepers.old notified.old)).flagged.notified }
     ensures count { sleepers.new.count ≡ sleepers.old.count }
     ensures rooms { sleepers.new.rooms ≡ sleepers.old.rooms }
 {
-    match sleepers.lie_down_again(sleeper, sleeping) {
-        Again::Replaced(old) => Laid::Rests(Some(old)),
+    match sleepers.fall_asleep_again(sleeper, sleeping) {
+        Again::Replaced(old) => FellAsleep::Rests(Some(old)),
         Again::Notified(flag) => {
             *notified = flag;
-            Laid::Searches
+            FellAsleep::Searches
         }
-        Again::Unknown(_) => Laid::Nowhere,
+        Again::Unknown(_) => FellAsleep::Nowhere,
     }
 }
 
-impl Bedroom {
+impl FlaggedSleepers {
     /// No sleepers and no room, which takes no memory.
-    pub fn new(alloc: Global) -> Bedroom
+    pub fn new(alloc: Global) -> FlaggedSleepers
         ensures sleepers { result.sleepers ≡ record { count = 0; rooms = 0; wakers = []; free = [] } }
         ensures flag { result.notified ≡ true }
     {
-        Bedroom {
+        FlaggedSleepers {
             sleepers: Sleepers::new(alloc),
             notified: true,
             rooms: Vec::new(alloc),
@@ -186,7 +186,7 @@ impl Bedroom {
         }
     }
 
-    /// The room for one sleeper is given back, where nobody lies in it.
+    /// The room for one sleeper is given back, where nobody sleeps in it.
     pub fn give_room_back(&mut self)
         ensures sleepers { self.new.sleepers ≡ given_back self.old.sleepers }
         ensures flag { self.new.notified ≡ self.old.notified }
@@ -217,95 +217,118 @@ impl Bedroom {
         self.sleepers.hand_out()
     }
 
-    /// One lies down with this, or lies down again.
-    pub fn lie_down(&mut self, place: Place, sleeping: Sleeping) -> (Place, Laid)
-        ensures place { as_place result.0 ≡ (lying.lie_down (as_place place) sleeping self.old).place }
-        ensures laid { result.1 ≡ (lying.lie_down (as_place place) sleeping self.old).laid }
-        ensures sleepers { self.new.sleepers ≡ (lying.lie_down (as_place place) sleeping self.old).bed.sleepers }
-        ensures flag { self.new.notified ≡ (lying.lie_down (as_place place) sleeping self.old).bed.notified }
+    /// One falls asleep with this, or falls asleep again.
+    pub fn fall_asleep(&mut self, place: Ticker, sleeping: Sleeping) -> (Ticker, FellAsleep)
+        ensures place { as_ticker result.0 ≡ (falling.fall_asleep (as_ticker place) sleeping self.old).place }
+        ensures fell_asleep { result.1 ≡ (falling.fall_asleep (as_ticker place) sleeping self.old).fell_asleep }
+        ensures sleepers { self.new.sleepers ≡ (falling.fall_asleep (as_ticker place) sleeping self.old).flagged.sleepers }
+        ensures flag { self.new.notified ≡ (falling.fall_asleep (as_ticker place) sleeping self.old).flagged.notified }
     {
         give_spare_back(&mut self.sleepers, &mut self.spare);
         match place {
-            Place::Up => lie_down_anew(
+            Ticker::Awake => fall_asleep_anew(
                 &mut self.sleepers,
                 &mut self.rooms,
                 &mut self.notified,
                 sleeping,
             ),
-            Place::Lies(sleeper) => {
-                let laid = lie_down_again(
+            Ticker::Asleep(sleeper) => {
+                let fell_asleep = fall_asleep_again(
                     &mut self.sleepers,
                     &mut self.notified,
                     &sleeper,
                     sleeping,
                 );
-                (Place::Lies(sleeper), laid)
+                (Ticker::Asleep(sleeper), fell_asleep)
             }
-            Place::Left => (Place::Left, Laid::Nowhere),
+            Ticker::Left => (Ticker::Left, FellAsleep::Nowhere),
         }
     }
 
-    /// One gets up, where it lies. Answers what it lay with, which goes.
-    #[tactic(auto, using(crate::proofs::Rooms::risen_count, crate::proofs::Rooms::risen_rooms))]
-    pub fn get_up(&mut self, place: Place) -> (Place, Option<Sleeping>)
+    /// One wakes up, where it sleeps. Answers what it slept with, which goes.
+    #[tactic(auto, using(crate::proofs::Rooms::woken_up_count, crate::proofs::Rooms::woken_up_rooms))]
+    pub fn wake_up(&mut self, place: Ticker) -> (Ticker, Option<Sleeping>)
         requires { self.old.has_room ≡ true }
-        ensures place { as_place result.0 ≡ lying.up_now (as_place place) }
-        ensures old { result.1 ≡ lying.lies_with (as_place place) self.old.sleepers }
-        ensures sleepers { self.new.sleepers ≡ (lying.got_up (as_place place) self.old).sleepers }
-        ensures flag { self.new.notified ≡ (lying.got_up (as_place place) self.old).notified }
+        ensures place { as_ticker result.0 ≡ falling.awake_now (as_ticker place) }
+        ensures old { result.1 ≡ falling.sleeps_with (as_ticker place) self.old.sleepers }
+        ensures sleepers { self.new.sleepers ≡ (falling.woke_up (as_ticker place) self.old).sleepers }
+        ensures flag { self.new.notified ≡ (falling.woke_up (as_ticker place) self.old).notified }
     {
         give_spare_back(&mut self.sleepers, &mut self.spare);
         match place {
-            Place::Up => (Place::Up, None),
-            Place::Lies(sleeper) => {
-                let Risen {
+            Ticker::Awake => (Ticker::Awake, None),
+            Ticker::Asleep(sleeper) => {
+                let WokenUp {
                     room,
                     waker,
                     notified,
-                } = self.sleepers.get_up(sleeper);
+                } = self.sleepers.wake_up(sleeper);
                 self.rooms.push_reserved(room);
                 self.notified = notified;
-                (Place::Up, waker)
+                (Ticker::Awake, waker)
             }
-            Place::Left => (Place::Left, None),
+            Ticker::Left => (Ticker::Left, None),
         }
     }
 
-    /// One leaves, and gives its room back. Answers what it lay with, which goes, and whether it had been told, so that another
-    /// is to be told in its place.
-    #[tactic(auto, using(crate::proofs::Rooms::risen_count, crate::proofs::Rooms::risen_rooms))]
-    pub fn leave(&mut self, place: Place) -> (Option<Sleeping>, bool)
-        ensures old { result.0 ≡ lying.lies_with (as_place place) self.old.sleepers }
-        ensures told { result.1 ≡ lying.was_told (as_place place) self.old.sleepers }
-        ensures sleepers { self.new.sleepers ≡ (lying.left (as_place place) self.old).sleepers }
-        ensures flag { self.new.notified ≡ (lying.left (as_place place) self.old).notified }
+    /// One leaves. Where it was awake, its room is given back; where it slept, `give_room_back` is still to come. Answers what it slept
+    /// with, which goes, and whether it had been told, so that another is to be told in its place.
+    #[tactic(auto, using(crate::proofs::Rooms::woken_up_count, crate::proofs::Rooms::woken_up_rooms))]
+    pub fn leave(&mut self, place: Ticker) -> (Option<Sleeping>, bool)
+        requires { self.old.has_room ≡ true }
+        ensures old { result.0 ≡ falling.sleeps_with (as_ticker place) self.old.sleepers }
+        ensures told { result.1 ≡ falling.was_told (as_ticker place) self.old.sleepers }
+        ensures sleepers { self.new.sleepers ≡ (falling.left (as_ticker place) self.old).sleepers }
+        ensures flag { self.new.notified ≡ (falling.left (as_ticker place) self.old).notified }
     {
         give_spare_back(&mut self.sleepers, &mut self.spare);
         match place {
-            Place::Up => {
+            Ticker::Awake => {
                 give_one_back(&mut self.sleepers, &mut self.rooms);
                 (None, false)
             }
-            Place::Lies(sleeper) => {
-                let (risen, told) = self.sleepers.leave(sleeper);
-                let Risen {
+            Ticker::Asleep(sleeper) => {
+                let (woken_up, told) = self.sleepers.leave(sleeper);
+                let WokenUp {
                     room,
                     waker,
                     notified,
-                } = risen;
-                give_back(&mut self.sleepers, room);
+                } = woken_up;
+                self.rooms.push_reserved(room);
                 self.notified = notified;
                 (waker, told)
             }
-            Place::Left => (None, false),
+            Ticker::Left => (None, false),
+        }
+    }
+
+    /// One goes for good: it leaves, and its room is given back.
+    #[tactic(auto, using(crate::proofs::Rooms::woken_up_count, crate::proofs::Rooms::woken_up_rooms))]
+    pub fn let_go(&mut self, place: Ticker)
+        ensures sleepers { self.new.sleepers ≡ (falling.gone (as_ticker place) self.old).sleepers }
+        ensures flag { self.new.notified ≡ (falling.gone (as_ticker place) self.old).notified }
+    {
+        give_spare_back(&mut self.sleepers, &mut self.spare);
+        match place {
+            Ticker::Awake => give_one_back(&mut self.sleepers, &mut self.rooms),
+            Ticker::Asleep(sleeper) => {
+                let WokenUp {
+                    room,
+                    waker: _,
+                    notified,
+                } = self.sleepers.wake_up(sleeper);
+                give_back(&mut self.sleepers, room);
+                self.notified = notified;
+            }
+            Ticker::Left => {}
         }
     }
 }
 
-impl Drop for Bedroom {
+impl Drop for FlaggedSleepers {
     /// All room is given back.
     fn drop(self) {
-        let Bedroom {
+        let FlaggedSleepers {
             mut sleepers,
             notified: _,
             mut rooms,

@@ -2,29 +2,29 @@
 ghost use Rattle.std.specs.Prelude.{◌≡◌, ◌++◌, ◌≤◌, true, false, [], ◌∷◌, OnOk, IsOk, length, slice_set};
 ghost use Rattle.std.specs.List.{list_any};
 ghost use Rattle.executor_model.specs.Steps.{lives};
-ghost use Rattle.executor_model.specs.World.{Up, Left};
-ghost use Rattle.executor_ticks.specs.Lying as lying;
-ghost use Rattle.executor_ticks.specs.Ticks.{as_place, is_lying, place_in};
+ghost use Rattle.executor_model.specs.World.{Awake, Left};
+ghost use Rattle.executor_core.specs.FallingAsleep as falling;
+ghost use Rattle.executor_core.specs.Ticks.{as_ticker, is_asleep, place_in};
 
-use crate::bedroom::Bedroom;
-use crate::place::{Place, any_there, put, take};
+use crate::ticks::flagged_sleepers::FlaggedSleepers;
+use crate::ticks::ticker::{Ticker, any_there, put, take};
 use std::alloc::{AllocError, Global};
 use std::marker::Model;
 
-/// Where each tick of the machine is. One that isn't there is as one that left. They have no drop: they leave the bedroom.
+/// Where each tick of the machine is. One that isn't there is as one that left. They have no drop: they leave the sleepers.
 pub struct Ticks {
     // By number.
-    places: Vec<Place>,
+    places: Vec<Ticker>,
 }
 
 impl Model for Ticks {
     ghost use Rattle.std.specs.Prelude.{map, nat_lt, vec_len, vec_capacity};
-    ghost use Rattle.executor_ticks.specs.Ticks.{Ticked, as_place};
+    ghost use Rattle.executor_core.specs.Ticks.{Ticked, as_ticker};
 
     ghost Value = { Ticked };
 
     ghost view = { λ s. record {
-      places = map as_place s.places.items;
+      places = map as_ticker s.places.items;
       has_room = nat_lt (vec_len s.places) (vec_capacity s.places);
     } };
 }
@@ -59,48 +59,48 @@ impl Ticks {
     }
 
     /// Whether some tick wasn't dropped.
-    #[tactic(auto, using(crate::proofs::Places::any_mapped))]
+    #[tactic(auto, using(crate::proofs::TicksPlaces::any_mapped))]
     pub fn has_any(&self) -> bool
         ensures { result ≡ list_any lives self.now.places }
     {
         any_there(self.places.as_slice())
     }
 
-    /// Whether it lies among the sleepers.
-    pub fn lies(&self, t: u64) -> bool
-        ensures { result ≡ is_lying (place_in self.now t) }
+    /// Whether it is among the sleepers.
+    pub fn sleeps(&self, t: u64) -> bool
+        ensures { result ≡ is_asleep (place_in self.now t) }
     {
         match self.places.get(t as usize) {
-            Some(place) => place.lies(),
+            Some(place) => place.sleeps(),
             None => false,
         }
     }
 
-    /// One more tick, which is up. It has the next number. Takes no memory.
+    /// One more tick, which is awake. It has the next number. Takes no memory.
     pub fn push(&mut self)
         requires { self.old.has_room ≡ true }
-        ensures { self.new.places ≡ self.old.places ++ Up ∷ [] }
+        ensures { self.new.places ≡ self.old.places ++ Awake ∷ [] }
     {
-        self.places.push_reserved(Place::Up);
+        self.places.push_reserved(Ticker::Awake);
     }
 
     /// It is taken out of its place, which it is put back into.
-    pub fn take(&mut self, t: u64) -> Place
-        ensures taken { as_place result ≡ place_in self.old t }
+    pub fn take(&mut self, t: u64) -> Ticker
+        ensures taken { as_ticker result ≡ place_in self.old t }
         ensures left { self.new ≡ record self.old { places = slice_set self.old.places t Left } }
     {
         if t < self.places.len() as u64 {
             take(&mut self.places, t as usize)
         } else {
-            Place::Left
+            Ticker::Left
         }
     }
 
     /// It is put into its place, from which it was taken.
-    pub fn put(&mut self, t: u64, place: Place)
+    pub fn put(&mut self, t: u64, place: Ticker)
         requires free { place_in self.old t ≡ Left }
-        requires nowhere { length self.old.places ≤ t → is_lying (as_place place) ≡ false }
-        ensures { self.new ≡ record self.old { places = slice_set self.old.places t (as_place place) } }
+        requires nowhere { length self.old.places ≤ t → is_asleep (as_ticker place) ≡ false }
+        ensures { self.new ≡ record self.old { places = slice_set self.old.places t (as_ticker place) } }
     {
         if t < self.places.len() as u64 {
             put(&mut self.places, t as usize, place);
@@ -109,14 +109,14 @@ impl Ticks {
         }
     }
 
-    /// Each tick leaves, the last first, and gives its room back.
-    pub fn leave(self, bedroom: &mut Bedroom)
-        ensures sleepers { bedroom.new.sleepers ≡ (lying.all_left self.places bedroom.old).sleepers }
-        ensures flag { bedroom.new.notified ≡ (lying.all_left self.places bedroom.old).notified }
+    /// Each tick goes for good, the last first.
+    pub fn leave(self, flagged_sleepers: &mut FlaggedSleepers)
+        ensures sleepers { flagged_sleepers.new.sleepers ≡ (falling.all_gone self.places flagged_sleepers.old).sleepers }
+        ensures flag { flagged_sleepers.new.notified ≡ (falling.all_gone self.places flagged_sleepers.old).notified }
     {
         let Ticks { mut places } = self;
         while let Some(place) = places.pop() {
-            bedroom.leave(place);
+            flagged_sleepers.let_go(place);
         }
         places.destroy_empty();
     }

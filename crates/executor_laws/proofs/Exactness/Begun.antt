@@ -1,3 +1,4 @@
+-- For ticks_are_exact, calls_at_rest_are_exact and lone_calls_are_exact.
 -- How a call is answered that begins at rest.
 use Rattle.std.proofs.Common.{◌≡◌, ◌≢◌, ◌⊎◌, ℕ, ◌<◌, ◌≤◌, List, [], ◌∷◌, ◌++◌, length, set, get_or}
 use Rattle.std.proofs.Common.{Bool, true, false, ◌&&◌, not, ltb, refl, sym, ap, ◌∙◌, subst, inl, inr}
@@ -32,22 +33,22 @@ use Rattle.executor_model.specs.Sound.{times}
 use Rattle.executor_model.specs.Good.{Good}
 use Rattle.executor_model.specs.Steps.{Machine, stack, top, unless, begin_refusal, part_refusal, refusal}
 use Rattle.executor_model.specs.Steps.{part_after, with_part, step_by, step, stepped, run, start}
-use Rattle.executor_model.proofs.Lists.{same_is}
-use Rattle.executor_model.proofs.Lift.{good}
-use Rattle.executor_model.proofs.Stepping.{step-refused}
-use Rattle.executor_model.proofs.Quieting.{asking, quiet-empties}
-use Rattle.executor_model.proofs.AskingRuns.{Heard, heard}
-use Rattle.executor_model.proofs.Resting.{Deep, deep}
-use Rattle.executor_model.proofs.TraceSteps.{IsContinued, run-continues}
-use Rattle.runs_reach.specs.AtRest.{BeginsAtRest, TicksAreExact, EmptinessIsExact}
-use Rattle.runs_reach.specs.Ticks.{ticks}
-use Rattle.runs_reach.proofs.Finding.{Found, found, no-more}
-use Rattle.runs_reach.proofs.Following.{IsAlone, first-of, follow}
-use Rattle.runs_reach.proofs.Inside.{Inside, not-no}
-use Rattle.runs_reach.proofs.BoundWays.{Bonded, bonded}
-use Rattle.runs_reach.proofs.Placing.{common-queue, here, idle, queue-common}
-use Rattle.runs_reach.proofs.Ticking.{ticking, begun-alone}
-use Rattle.runs_reach.proofs.Ticking.{gone-on-alone, finds-nothing, placed-there}
+use Rattle.executor_model.proofs.Steps.Lists.{same_is}
+use Rattle.executor_model.proofs.Steps.Lift.{good}
+use Rattle.executor_model.proofs.Steps.Stepping.{step-refused}
+use Rattle.executor_model.proofs.Emptiness.Quieting.{asking, quiet-empties}
+use Rattle.executor_model.proofs.Polls.AskingExecutions.{Heard, heard}
+use Rattle.executor_model.proofs.Quiet.Resting.{Deep, deep}
+use Rattle.executor_model.proofs.Steps.TraceSteps.{IsContinued, run-continues}
+use Rattle.executor_laws.specs.AtRest.{BeginsAtRest, TicksAreExact, EmptinessIsExact}
+use Rattle.executor_laws.specs.Ticks.{ticks}
+use Rattle.executor_laws.proofs.Exactness.Finding.{Found, found, no-more}
+use Rattle.executor_laws.proofs.Exactness.Following.{IsAlone, first-of, follow}
+use Rattle.executor_laws.proofs.Exactness.Inside.{Inside, not-no}
+use Rattle.executor_laws.proofs.Placement.BoundWays.{Bonded, bonded}
+use Rattle.executor_laws.proofs.Placement.Placing.{common-queue, here, idle, queue-common}
+use Rattle.executor_laws.proofs.Exactness.Ticking.{ticking, begun-alone}
+use Rattle.executor_laws.proofs.Exactness.Ticking.{gone-on-alone, finds-nothing, placed-there}
 
 -- a call that was shown to begin is one of a party that is there
 known : (s : Machine) (p : ℕ) (c : Call) (more : Trace) →

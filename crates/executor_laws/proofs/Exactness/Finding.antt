@@ -1,3 +1,4 @@
+-- For ticks_are_exact, calls_at_rest_are_exact and lone_calls_are_exact.
 -- The step at which an event of a run happened that begins a call.
 use Rattle.std.proofs.Common.{◌≡◌, ℕ, List, [], ◌∷◌, ◌++◌, length, false, refl}
 use Rattle.std.proofs.Common.{sym, ap, ◌∙◌, arith, append-nil, length-append}
@@ -9,9 +10,9 @@ use Rattle.executor_model.specs.declared.step.Step.{Step}
 use Rattle.executor_model.specs.declared.step.Step.TheVariants.{Begin}
 use Rattle.executor_model.specs.Trace.{Trace, has}
 use Rattle.executor_model.specs.Steps.{Machine, step, stepped, run}
-use Rattle.executor_model.proofs.TraceSteps.{IsContinued, begins_one, Adds, adds, run-continues}
-use Rattle.executor_model.proofs.TraceSteps.Adds.{refused, goes_on, begins}
-use Rattle.executor_model.proofs.Tests.{left-false, right-false}
+use Rattle.executor_model.proofs.Steps.TraceSteps.{IsContinued, begins_one, Adds, adds, run-continues}
+use Rattle.executor_model.proofs.Steps.TraceSteps.Adds.{refused, goes_on, begins}
+use Rattle.executor_model.proofs.Steps.Tests.{left-false, right-false}
 
 abbrev rest_of : Trace → Trace
 rest_of [] = []

@@ -1,3 +1,4 @@
+-- For ticks_are_exact, calls_at_rest_are_exact and lone_calls_are_exact.
 -- What happens next behind the beginning of a call, where nobody else does anything.
 use Rattle.std.proofs.Common.{◌≡◌, ◌≢◌, ℕ, List, [], ◌∷◌, ◌++◌, length, Bool, true, false}
 use Rattle.std.proofs.Common.{eqb, ltb, refl, sym, ap, ◌∙◌, subst, ⊎_elim}
@@ -17,11 +18,11 @@ use Rattle.executor_model.specs.Trace.{Trace}
 use Rattle.executor_model.specs.Weights.{same}
 use Rattle.executor_model.specs.Steps.{Machine, stack, top, accepts, unless, go_refusal, answer_refusal}
 use Rattle.executor_model.specs.Steps.{party_of, part_refusal, step, stepped, run}
-use Rattle.executor_model.proofs.Lists.{same_cases}
-use Rattle.executor_model.proofs.Stepping.{step-refused}
-use Rattle.executor_model.proofs.TraceSteps.{IsContinued, Adds, adds, run-continues}
-use Rattle.executor_model.proofs.TraceSteps.Adds.{refused, goes_on, begins}
-use Rattle.runs_reach.proofs.Finding.{heads, no-more}
+use Rattle.executor_model.proofs.Steps.Lists.{same_cases}
+use Rattle.executor_model.proofs.Steps.Stepping.{step-refused}
+use Rattle.executor_model.proofs.Steps.TraceSteps.{IsContinued, Adds, adds, run-continues}
+use Rattle.executor_model.proofs.Steps.TraceSteps.Adds.{refused, goes_on, begins}
+use Rattle.executor_laws.proofs.Exactness.Finding.{heads, no-more}
 
 -- this event begins no call
 abbrev pub IsAlone : Event → Type 0

@@ -1,3 +1,4 @@
+-- For ticks_are_exact, calls_at_rest_are_exact and lone_calls_are_exact.
 -- A call that has found something to do isn't answered no before something else happens.
 use Rattle.std.proofs.Common.{◌≡◌, ◌≢◌, ◌⊎◌, ℕ, zero, suc, ◌-◌, ◌<◌, List, [], ◌∷◌, ◌++◌, length}
 use Rattle.std.proofs.Common.{take, true, false, eqb, refl, sym, ap, ◌∙◌, subst, inl, inr}
@@ -26,17 +27,17 @@ use Rattle.executor_model.specs.World.{World, Done}
 use Rattle.executor_model.specs.Weights.{same, weigh}
 use Rattle.executor_model.specs.Steps.{Machine, stack, top, below_top, react, refusal, Part, end_of, settled_by, onto}
 use Rattle.executor_model.specs.Steps.{gone_on, with_part, after, step_by, step, stepped, run}
-use Rattle.executor_model.proofs.Calls.{calling_of}
-use Rattle.executor_model.proofs.CallsGroups.{calls-act}
-use Rattle.executor_model.proofs.Lift.{topped}
-use Rattle.executor_model.proofs.Lists.{same_cases, weigh-append, weigh-reverse}
-use Rattle.runs_reach.proofs.Answering.{is_end}
-use Rattle.runs_reach.proofs.Finding.{heads, no-more}
-use Rattle.runs_reach.proofs.Following.{IsAlone, still-go, still-answer, wrong-answer, not-begun}
+use Rattle.executor_model.proofs.Quiet.Calls.{calling_of}
+use Rattle.executor_model.proofs.Quiet.CallsGroups.{calls-act}
+use Rattle.executor_model.proofs.Steps.Lift.{topped}
+use Rattle.executor_model.proofs.Steps.Lists.{same_cases, weigh-append, weigh-reverse}
+use Rattle.executor_laws.proofs.Placement.Answering.{is_end}
+use Rattle.executor_laws.proofs.Exactness.Finding.{heads, no-more}
+use Rattle.executor_laws.proofs.Exactness.Following.{IsAlone, still-go, still-answer, wrong-answer, not-begun}
 use Rattle.executor_model.specs.Doing.{act}
-use Rattle.executor_model.proofs.TraceGrows.{Allows, Grows, grows, grows-act, grows-react}
-use Rattle.executor_model.proofs.TraceSteps.{ends_one, none-ends, run-continues}
-use Rattle.executor_model.proofs.Tests.{left-false}
+use Rattle.executor_model.proofs.Steps.TraceGrows.{Allows, Grows, grows, grows-act, grows-react}
+use Rattle.executor_model.proofs.Steps.TraceSteps.{ends_one, none-ends, run-continues}
+use Rattle.executor_model.proofs.Steps.Tests.{left-false}
 
 abbrev yes : Hold → Op
 yes held = op.End reply.Yes held

@@ -1,3 +1,4 @@
+-- For ticks_are_exact, calls_at_rest_are_exact and lone_calls_are_exact.
 -- Whole calls that a party makes alone are answered as it is.
 use Rattle.std.proofs.Common.{◌≡◌, ◌⊎◌, ℕ, ◌<◌, List, [], ◌∷◌, ◌++◌, length, set, true, ltb, refl, sym, ap, ◌∙◌}
 use Rattle.std.proofs.Common.{subst, inl, inr, ⊎_elim, arith, Ok, get_or-set_same}
@@ -20,23 +21,23 @@ use Rattle.executor_model.specs.declared.step.Step.TheVariants.{Begin, Go, Answe
 use Rattle.executor_model.specs.Emptiness.{AllDropped, AnswersAlone, IsAtRest, IsQuietEmptinessExact, asks_alone}
 use Rattle.executor_model.specs.Keeper.{IsCommon}
 use Rattle.executor_model.specs.Acts.{look_at_table}
-use Rattle.executor_model.specs.Runs.{run_all}
+use Rattle.executor_model.specs.Executions.{run_all}
 use Rattle.executor_model.specs.Sound.{times}
 use Rattle.executor_model.specs.World.{log}
 use Rattle.executor_model.specs.Steps.{Machine, stack, top, answer_refusal, onto, part_after}
 use Rattle.executor_model.specs.Steps.{with_part, after, refusal, run, start}
-use Rattle.executor_model.proofs.Quieting.{quiet-emptiness}
-use Rattle.executor_model.proofs.Resting.{rests}
-use Rattle.executor_model.proofs.Reached.{Reached, run-first, run-then, run-of, reached-more, good-here, deep-here}
-use Rattle.runs_reach.specs.LoneAnswers.{IsAnswered, IsLoneEmptinessExact, IsLoneTickExact}
-use Rattle.runs_laws.specs.LoneEnds.{are_onward_of, IsLoneCall}
-use Rattle.runs_reach.proofs.Reached.{bonded-here, heard-here}
-use Rattle.runs_reach.specs.Reach.{TakesCommon}
-use Rattle.runs_reach.proofs.Placing.{idle, queue-common}
-use Rattle.runs_reach.proofs.Ticking.{first-times}
-use Rattle.runs_reach.proofs.LoneTicks.{left-true, in-range, of-party, after-is, no-more}
-use Rattle.runs_reach.proofs.Searching.{First, first-taken, none-found}
-use Rattle.runs_reach.proofs.Reaching.{takes-common}
+use Rattle.executor_model.proofs.Emptiness.Quieting.{quiet-emptiness}
+use Rattle.executor_model.proofs.Quiet.Resting.{rests}
+use Rattle.executor_model.proofs.Steps.Reached.{Reached, run-first, run-then, run-of, reached-more, good-here, deep-here}
+use Rattle.executor_laws.specs.LoneAnswers.{IsAnswered, IsLoneEmptinessExact, IsLoneTickExact}
+use Rattle.executor_laws.specs.LoneEnds.{are_onward_of, IsLoneCall}
+use Rattle.executor_laws.proofs.Reach.Reached.{bonded-here, heard-here}
+use Rattle.executor_laws.specs.Reach.{TakesCommon}
+use Rattle.executor_laws.proofs.Placement.Placing.{idle, queue-common}
+use Rattle.executor_laws.proofs.Exactness.Ticking.{first-times}
+use Rattle.executor_laws.proofs.Reach.LoneTicks.{left-true, in-range, of-party, after-is, no-more}
+use Rattle.executor_laws.proofs.Reach.Searching.{First, first-taken, none-found}
+use Rattle.executor_laws.proofs.Reach.Reaching.{takes-common}
 
 -- a call has one answer
 

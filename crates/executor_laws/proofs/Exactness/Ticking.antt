@@ -1,3 +1,4 @@
+-- For ticks_are_exact, calls_at_rest_are_exact and lone_calls_are_exact.
 -- Where no call is in progress, a tick finds a future exactly where one is common.
 use Rattle.std.proofs.Common.{◌≡◌, ◌⊎◌, ℕ, ◌<◌, ◌≤◌, List, [], ◌∷◌, ◌++◌, length, set, get_or}
 use Rattle.std.proofs.Common.{Bool, true, false, ◌&&◌, not, refl, sym, ap, ◌∙◌, subst, inl, inr}
@@ -28,13 +29,13 @@ use Rattle.executor_model.specs.Sound.{times}
 use Rattle.executor_model.specs.Good.{Good}
 use Rattle.executor_model.specs.Steps.{Machine, stack, top, step, step_by, stepped, refusal, unless, begin_refusal}
 use Rattle.executor_model.specs.Steps.{go_refusal, onto, part_after, with_part, run, start}
-use Rattle.executor_model.proofs.Lists.{same_is}
-use Rattle.executor_model.proofs.Lift.{good}
-use Rattle.executor_model.proofs.AskingRuns.{Heard, heard}
-use Rattle.executor_model.proofs.Resting.{Deep, deep}
-use Rattle.runs_reach.specs.Ticks.{ticks, FindsNothing, FindsCommon, IsTickExact}
-use Rattle.runs_reach.proofs.BoundWays.{Bonded, bonded}
-use Rattle.runs_reach.proofs.Placing.{common-queue, here, idle, queue-common}
+use Rattle.executor_model.proofs.Steps.Lists.{same_is}
+use Rattle.executor_model.proofs.Steps.Lift.{good}
+use Rattle.executor_model.proofs.Polls.AskingExecutions.{Heard, heard}
+use Rattle.executor_model.proofs.Quiet.Resting.{Deep, deep}
+use Rattle.executor_laws.specs.Ticks.{ticks, FindsNothing, FindsCommon, IsTickExact}
+use Rattle.executor_laws.proofs.Placement.BoundWays.{Bonded, bonded}
+use Rattle.executor_laws.proofs.Placement.Placing.{common-queue, here, idle, queue-common}
 
 -- the machine in which p has called a tick, and has still to take
 abbrev pub ticking : Machine → ℕ → Machine

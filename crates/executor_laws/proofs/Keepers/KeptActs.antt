@@ -1,3 +1,4 @@
+-- For keepers_are_called.
 -- What each thing to do and the end of user code leave of the own queues, and of who has a kept future in hand.
 use Rattle.std.proofs.Common.{◌≡◌, ℕ, ◌+◌, ◌%◌, ◌<◌, ◌≤◌, List, [], ◌∷◌, length, Bool, true, false, refl, inl, arith}
 use Rattle.std.specs.Prelude.{not, Option, Some, None}
@@ -14,8 +15,8 @@ use Rattle.executor_model.specs.declared.op.RunOp.{RunOp}
 use Rattle.executor_model.specs.declared.op.RunOp.TheVariants as run_op
 use Rattle.executor_model.specs.declared.op.RunPoll.{RunPoll}
 use Rattle.executor_model.specs.declared.op.Section.TheVariants as section
-use Rattle.executor_model.specs.declared.op.Sleeper.{Sleeper}
-use Rattle.executor_model.specs.declared.op.Sleeper.TheVariants as sleeper
+use Rattle.executor_model.specs.declared.op.TickOrRun.{TickOrRun}
+use Rattle.executor_model.specs.declared.op.TickOrRun.TheVariants as tick_or_run
 use Rattle.executor_model.specs.declared.op.Sleeping.{Sleeping}
 use Rattle.executor_model.specs.declared.op.StealOp.TheVariants as steal_op
 use Rattle.executor_model.specs.declared.op.TableOp.TheVariants as table_op
@@ -30,23 +31,23 @@ use Rattle.executor_model.specs.declared.step.UserEnd.{UserEnd}
 use Rattle.executor_model.specs.declared.step.UserEnd.TheVariants as end
 use Rattle.executor_model.specs.Acts.{copy_by, is_copy_refused}
 use Rattle.executor_model.specs.ActsOfRuns as runs
-use Rattle.executor_model.specs.ActsOfSleepers.{copy_sleeper_by, lie_again_by, lie_anew_by, lie_down_by, lie_listed_by}
+use Rattle.executor_model.specs.ActsOfSleepers.{copy_sleeper_by, sleep_again_by, sleep_anew_by, fall_asleep_by, sleep_listed_by}
 use Rattle.executor_model.specs.ActsOfSleepers.{pend_as, search_by, sleeper_goes}
 use Rattle.executor_model.specs.Doing.{act, list_act, run_act, search, tick_act}
 use Rattle.executor_model.specs.Rows.{running_of}
 use Rattle.executor_model.specs.Steps.{accepts, react}
 use Rattle.executor_model.specs.Weights.{same, weigh}
-use Rattle.executor_model.specs.World.{World, Place, Up, Lies, Left, own_of}
-use Rattle.executor_model.proofs.Lists.{same_is, weigh-append}
-use Rattle.executor_model.proofs.SleepersCounting.{asleep}
-use Rattle.executor_model.proofs.UsingWorlds.{idle, idle-copy_sleeper, idle-lie, idle-search}
-use Rattle.runs_called.proofs.KeptGrown.{stirs_op}
-use Rattle.runs_called.proofs.KeptWeights.{load_of, quits-walk, quits_of}
-use Rattle.runs_called.proofs.StandsRuns.{walks-lock, walks-look_own, walks-search, walks-search_common}
-use Rattle.runs_called.proofs.KeptLeads.{IsPast, Leads, keeps-drop, keeps-plain, of-idle}
-use Rattle.runs_called.proofs.KeptSearch.{keeps-common, keeps-steal, load-look, load-own, of-walks, quits-look}
-use Rattle.runs_called.proofs.KeptSearch.{quits-own}
-use Rattle.runs_called.proofs.KeptRuns.{keeps-make, keeps-register, keeps-reschedule, keeps-unregister, keeps-wake}
+use Rattle.executor_model.specs.World.{World, Ticker, Awake, Asleep, Left, own_of}
+use Rattle.executor_model.proofs.Steps.Lists.{same_is, weigh-append}
+use Rattle.executor_model.proofs.Steps.SleepersCounting.{asleep}
+use Rattle.executor_model.proofs.OwnQueues.UsingWorlds.{idle, idle-copy_sleeper, idle-sleep, idle-search}
+use Rattle.executor_laws.proofs.Keepers.KeptGrown.{stirs_op}
+use Rattle.executor_laws.proofs.Keepers.KeptWeights.{load_of, quits-walk, quits_of}
+use Rattle.executor_laws.proofs.Wakeups.StandsRuns.{walks-lock, walks-look_own, walks-search, walks-search_common}
+use Rattle.executor_laws.proofs.Keepers.KeptLeads.{IsPast, Leads, keeps-drop, keeps-plain, of-idle}
+use Rattle.executor_laws.proofs.Keepers.KeptSearch.{keeps-common, keeps-steal, load-look, load-own, of-walks, quits-look}
+use Rattle.executor_laws.proofs.Keepers.KeptSearch.{quits-own}
+use Rattle.executor_laws.proofs.Keepers.KeptRuns.{keeps-make, keeps-register, keeps-reschedule, keeps-unregister, keeps-wake}
 
 -- sleepers
 
@@ -63,38 +64,38 @@ quits-copy true r w s = refl
 quits-copy false r w s = refl
 
 quits-listed : (b : Bool) (r : ℕ) (w : World) (n : ℕ) (s : Sleeping) →
-    weigh (quits_of r) (lie_listed_by b w n s).next ≡ 0
+    weigh (quits_of r) (sleep_listed_by b w n s).next ≡ 0
 quits-listed true r w n s = refl
 quits-listed false r w n s = refl
 
 quits-again : (o : Option ℕ) (r : ℕ) (w : World) (n : ℕ) (s : Sleeping) →
-    weigh (quits_of r) (lie_again_by o w n s).next ≡ 0
+    weigh (quits_of r) (sleep_again_by o w n s).next ≡ 0
 quits-again None r w n s = quits-listed _ r w n s
 quits-again (Some at) r w n s = let o : Option Sleeping = waker_at (Some at) w.sleepers.wakers in
     omega (arith, weigh-append (quits_of r) (sleeper_goes o) (pend_as s.who), goes-quits r o)
 
-quits-anew : (b : Bool) (r : ℕ) (w : World) (s : Sleeping) → weigh (quits_of r) (lie_anew_by b w s).next ≡ 0
+quits-anew : (b : Bool) (r : ℕ) (w : World) (s : Sleeping) → weigh (quits_of r) (sleep_anew_by b w s).next ≡ 0
 quits-anew true r w s = refl
 quits-anew false r w s = refl
 
-quits-lie : (x : Place) (r : ℕ) (w : World) (s : Sleeping) → weigh (quits_of r) (lie_down_by x w s).next ≡ 0
-quits-lie Up r w s = quits-anew _ r w s
-quits-lie (Lies n) r w s = quits-again _ r w n s
-quits-lie Left r w s = refl
+quits-sleep : (x : Ticker) (r : ℕ) (w : World) (s : Sleeping) → weigh (quits_of r) (fall_asleep_by x w s).next ≡ 0
+quits-sleep Awake r w s = quits-anew _ r w s
+quits-sleep (Asleep n) r w s = quits-again _ r w n s
+quits-sleep Left r w s = refl
 
-quits-search : (x : Place) (r : ℕ) (w : World) (q : List ℕ) (s : Sleeping) →
+quits-search : (x : Ticker) (r : ℕ) (w : World) (q : List ℕ) (s : Sleeping) →
     weigh (quits_of r) (search_by x w q s).next ≡ 0
 quits-search x r w [] s = refl
-quits-search Up r w (f ∷ rest) s = refl
-quits-search (Lies n) r w (f ∷ rest) s = refl
+quits-search Awake r w (f ∷ rest) s = refl
+quits-search (Asleep n) r w (f ∷ rest) s = refl
 quits-search Left r w (f ∷ rest) s = refl
 
-keeps-search : (who : Sleeper) (k : ℕ) (a : Waker) (w : World) →
+keeps-search : (who : TickOrRun) (k : ℕ) (a : Waker) (w : World) →
     Leads w (op.Tick (tick_op.Search (asleep a who k)) ∷ []) (search w (asleep a who k))
-keeps-search (sleeper.Tick u) k a w = of-idle w _ (search w (asleep a (sleeper.Tick u) k))
-    (idle-search _ w w.queue.items (asleep a (sleeper.Tick u) k)) (λ r. refl)
-    (λ r. quits-search _ r w w.queue.items (asleep a (sleeper.Tick u) k)) (λ f. omega arith)
-keeps-search (sleeper.Run q) k a w = let x : RunPoll = record { run = q; waker = a; poll = k } in
+keeps-search (tick_or_run.Tick u) k a w = of-idle w _ (search w (asleep a (tick_or_run.Tick u) k))
+    (idle-search _ w w.queue.items (asleep a (tick_or_run.Tick u) k)) (λ r. refl)
+    (λ r. quits-search _ r w w.queue.items (asleep a (tick_or_run.Tick u) k)) (λ f. omega arith)
+keeps-search (tick_or_run.Run q) k a w = let x : RunPoll = record { run = q; waker = a; poll = k } in
     of-walks w x _ (runs.search_own w x) (walks-search w x) (λ r. refl) (λ r. quits-own _ w x r)
     (λ f r. omega (arith, load-own (own_of w q) w x f r refl))
 
@@ -102,10 +103,10 @@ keeps-tick : (p : ℕ) (h : Hint) (o : TickOp) (w : World) → Leads w (op.Tick 
 keeps-tick p h (tick_op.Search s) w = keeps-search s.who s.poll s.waker w
 keeps-tick p h (tick_op.CopyWaker s) w = of-idle w _ (tick_act h (tick_op.CopyWaker s) w)
     (idle-copy_sleeper (is_copy_refused h w s.waker) w s) (λ r. refl) (λ r. quits-copy _ r w s) (λ f. omega arith)
-keeps-tick p h (tick_op.LieDown s) w = of-idle w _ (tick_act h (tick_op.LieDown s) w)
-    (idle-lie _ w s) (λ r. refl) (λ r. quits-lie _ r w s) (λ f. omega arith)
+keeps-tick p h (tick_op.FallAsleep s) w = of-idle w _ (tick_act h (tick_op.FallAsleep s) w)
+    (idle-sleep _ w s) (λ r. refl) (λ r. quits-sleep _ r w s) (λ f. omega arith)
 keeps-tick p h tick_op.MakeTick w = keeps-plain p h (op.Tick tick_op.MakeTick) w refl (λ f. refl)
-keeps-tick p h (tick_op.GetUp u) w = keeps-plain p h (op.Tick (tick_op.GetUp u)) w refl (λ f. refl)
+keeps-tick p h (tick_op.WakeUp u) w = keeps-plain p h (op.Tick (tick_op.WakeUp u)) w refl (λ f. refl)
 keeps-tick p h (tick_op.Leave u) w = keeps-plain p h (op.Tick (tick_op.Leave u)) w refl (λ f. refl)
 
 one-same : (r : ℕ) → 1 ≤ same r r

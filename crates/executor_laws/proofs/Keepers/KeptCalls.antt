@@ -1,3 +1,4 @@
+-- For keepers_are_called.
 -- What the beginning of a call leaves of the own queues and of the runs that are over.
 use Rattle.std.proofs.Common.{◌≡◌, ◌≢◌, ◌∙◌, ℕ, zero, suc, ◌<◌, ◌≤◌, List, [], ◌∷◌, length, get_or, set}
 use Rattle.std.proofs.Common.{true, false, eqb, refl, sym, ap, subst, inl, inr, ⊎_elim, arith, get_or-set_other}
@@ -12,11 +13,11 @@ use Rattle.executor_model.specs.Sound.{times}
 use Rattle.executor_model.specs.Steps.{begun, drop_run, future_of, kept, poll_run, with_future}
 use Rattle.executor_model.specs.Weights.{same, weigh}
 use Rattle.executor_model.specs.World.{World, Stage, New, Listed, Ended, Run, Done, done, log, no_run, put_run, run_of}
-use Rattle.executor_model.proofs.Lists.{same_cases}
-use Rattle.executor_model.proofs.UsingWorlds.{count-set, is_past}
-use Rattle.runs_called.proofs.KeptTrace.{Parted, parted-dropped}
-use Rattle.runs_called.proofs.KeptWeights.{quits_of}
-use Rattle.runs_called.proofs.KeptLeads.{IsPast, Leads, steady}
+use Rattle.executor_model.proofs.Steps.Lists.{same_cases}
+use Rattle.executor_model.proofs.OwnQueues.UsingWorlds.{count-set, is_past}
+use Rattle.executor_laws.proofs.Keepers.KeptTrace.{Parted, parted-dropped}
+use Rattle.executor_laws.proofs.Keepers.KeptWeights.{quits_of}
+use Rattle.executor_laws.proofs.Keepers.KeptLeads.{IsPast, Leads, steady}
 
 -- the beginning of a call
 
@@ -112,17 +113,6 @@ keeps-begun p w here call.Keep k =
 keeps-begun p w here call.WakeSelf k =
     begins-with w (log w (event.CallBegun p call.WakeSelf)) (future_of here) _ refl refl
     (λ f. begins w _ _ refl refl (λ r. refl))
-keeps-begun p w here call.Spawn k = begins w _ _ refl refl (λ r. refl)
-keeps-begun p w here call.TryTick k = begins w _ _ refl refl (λ r. refl)
-keeps-begun p w here call.IsEmpty k = begins w _ _ refl refl (λ r. refl)
-keeps-begun p w here (call.PollHandle f b) k = begins w _ _ refl refl (λ r. refl)
-keeps-begun p w here (call.Cancel f) k = begins w _ _ refl refl (λ r. refl)
-keeps-begun p w here (call.Detach f) k = begins w _ _ refl refl (λ r. refl)
-keeps-begun p w here (call.DropHandle f) k = begins w _ _ refl refl (λ r. refl)
-keeps-begun p w here call.NewTick k = begins w _ _ refl refl (λ r. refl)
-keeps-begun p w here (call.PollTick u b) k = begins w _ _ refl refl (λ r. refl)
-keeps-begun p w here (call.DropTick u) k = begins w _ _ refl refl (λ r. refl)
-keeps-begun p w here call.NewRun k = begins w _ _ refl refl (λ r. refl)
 keeps-begun p w here (call.PollRun q b) k = begins-poll _ w _ _ refl refl
 keeps-begun p w here (call.DropRun q) k = begins-drop _ p w q k
-keeps-begun p w here call.DropExecutor k = begins w _ _ refl refl (λ r. refl)
+keeps-begun p w here _ k = begins w _ _ refl refl (λ r. refl)

@@ -1,3 +1,4 @@
+-- For keepers_are_called.
 -- Where a poll of a run is answered that its own future is ready, that comes after all that it kept.
 use Rattle.std.proofs.Common.{◌≡◌, ◌⊎◌, ◌∙◌, ℕ, zero, suc, ◌+◌, ◌<◌, ◌≤◌, List, [], ◌∷◌, ◌++◌, length, set, drop, take}
 use Rattle.std.proofs.Common.{Bool, true, false, cond, refl, sym, ap, subst, inl, inr, ⊎_elim, arith}
@@ -10,7 +11,7 @@ use Rattle.executor_model.specs.declared.op.Hold.{Hold}
 use Rattle.executor_model.specs.declared.op.Hold.TheVariants as hold
 use Rattle.executor_model.specs.declared.op.Op.{Op}
 use Rattle.executor_model.specs.declared.op.Op.TheVariants as op
-use Rattle.executor_model.specs.declared.op.Sleeper.TheVariants as sleeper
+use Rattle.executor_model.specs.declared.op.TickOrRun.TheVariants as tick_or_run
 use Rattle.executor_model.specs.AwaiterKept.{EndsWith, since}
 use Rattle.executor_model.specs.Keeper.{AnswersReady}
 use Rattle.executor_model.specs.Quiet.{begins_call, ends_call}
@@ -18,24 +19,24 @@ use Rattle.executor_model.specs.Steps.{Machine, stack}
 use Rattle.executor_model.specs.Trace.{Trace, has}
 use Rattle.executor_model.specs.Weights.{weigh_all}
 use Rattle.executor_model.specs.World.{Done, done, log}
-use Rattle.executor_model.proofs.AskingRuns.{Heard}
-use Rattle.executor_model.proofs.Lift.{split, unsettled}
-use Rattle.executor_model.proofs.Lists.{weigh_all-push}
-use Rattle.executor_model.proofs.OwnRooms.{Roomy}
-use Rattle.runs_called.proofs.KeptLeads.{IsPast}
-use Rattle.runs_called.proofs.KeptGrown.{Grown, grown-log}
-use Rattle.runs_called.proofs.KeptTrace.{Parted, get-new, keeps-before, none-kept, get-either, parted-more}
-use Rattle.runs_called.proofs.KeptTrace.{since-length, since-old, get-within, take-old, get-old}
-use Rattle.runs_called.proofs.KeptWeights.{is_end_ready, load_of, quits_of, readies_held, readies_of}
-use Rattle.runs_called.proofs.Stands.{asks_of}
-use Rattle.runs_called.proofs.StandsAnswers.{IsLevel, level-from}
-use Rattle.runs_called.proofs.StandsLast.{meets}
-use Rattle.runs_called.proofs.StandsSteps.{Standing}
-use Rattle.runs_called.proofs.StandsTelling.{Begun, LastPoll, begun-at, drops_it, has-later, last-poll, left-has}
-use Rattle.runs_called.proofs.StandsTelling.{polls_it, unasked-all}
-use Rattle.runs_called.proofs.StandsWeights.{asks-all}
-use Rattle.runs_called.proofs.Watched.{Watched, poll_begun, watched, watched_from}
-use Rattle.runs_called.proofs.KeptHere.{Here, Keeping, gone-more, take-whole}
+use Rattle.executor_model.proofs.Polls.AskingExecutions.{Heard}
+use Rattle.executor_model.proofs.Steps.Lift.{split, unsettled}
+use Rattle.executor_model.proofs.Steps.Lists.{weigh_all-push}
+use Rattle.executor_model.proofs.OwnQueues.OwnRooms.{Roomy}
+use Rattle.executor_laws.proofs.Keepers.KeptLeads.{IsPast}
+use Rattle.executor_laws.proofs.Keepers.KeptGrown.{Grown, grown-log}
+use Rattle.executor_laws.proofs.Keepers.KeptTrace.{Parted, get-new, keeps-before, none-kept, get-either, parted-more}
+use Rattle.executor_laws.proofs.Keepers.KeptTrace.{since-length, since-old, get-within, take-old, get-old}
+use Rattle.executor_laws.proofs.Keepers.KeptWeights.{is_end_ready, load_of, quits_of, readies_held, readies_of}
+use Rattle.executor_laws.proofs.Wakeups.Stands.{asks_of}
+use Rattle.executor_laws.proofs.Wakeups.StandsAnswers.{IsLevel, level-from}
+use Rattle.executor_laws.proofs.Wakeups.StandsLast.{meets}
+use Rattle.executor_laws.proofs.Wakeups.StandsSteps.{Standing}
+use Rattle.executor_laws.proofs.Wakeups.StandsTelling.{Begun, LastPoll, begun-at, drops_it, has-later, last-poll, left-has}
+use Rattle.executor_laws.proofs.Wakeups.StandsTelling.{polls_it, unasked-all}
+use Rattle.executor_laws.proofs.Wakeups.StandsWeights.{asks-all}
+use Rattle.executor_laws.proofs.Wakeups.Watched.{Watched, poll_begun, watched, watched_from}
+use Rattle.executor_laws.proofs.Keepers.KeptHere.{Here, Keeping, gone-more, take-whole}
 
 -- a call ends, which may be a poll of a run whose own future was ready
 
@@ -46,58 +47,58 @@ module _ (s : Machine) (p : ℕ) (a : Reply) (held : Hold) (below : List Op) (l 
 
   -- run r's poll ends so
   module _ (r : ℕ) (ready : a ≡ reply.Ready) (of_it : 1 ≤ readies_held r held) where
-    asks : 1 ≤ asks_of (sleeper.Run r) (op.End a held)
-    asks = subst (λ (b : Reply). 1 ≤ asks_of (sleeper.Run r) (op.End b held)) (sym ready) (by held of_it)
+    asks : 1 ≤ asks_of (tick_or_run.Run r) (op.End a held)
+    asks = subst (λ (b : Reply). 1 ≤ asks_of (tick_or_run.Run r) (op.End b held)) (sym ready) (by held of_it)
       where
-        by : (o : Hold) → 1 ≤ readies_held r o → 1 ≤ asks_of (sleeper.Run r) (op.End reply.Ready o)
+        by : (o : Hold) → 1 ≤ readies_held r o → 1 ≤ asks_of (tick_or_run.Run r) (op.End reply.Ready o)
         by (hold.Run q) z = omega (arith, z)
         by (hold.Tick q) z = absurd (omega (arith, z))
         by _ z = absurd (omega (arith, z))
 
-    open_poll : ((watched (sleeper.Run r) s.world.trace).asking ≡ true)
-        × ((watched (sleeper.Run r) s.world.trace).party ≡ p) × ((watched (sleeper.Run r) s.world.trace).inner ≡ 0)
-    open_poll = (meets s p a held below l e k.standing (sleeper.Run r)).ended asks
+    open_poll : ((watched (tick_or_run.Run r) s.world.trace).asking ≡ true)
+        × ((watched (tick_or_run.Run r) s.world.trace).party ≡ p) × ((watched (tick_or_run.Run r) s.world.trace).inner ≡ 0)
+    open_poll = (meets s p a held below l e k.standing (tick_or_run.Run r)).ended asks
 
-    living : has (drops_it (sleeper.Run r)) s.world.trace ≡ false
-    living = sym (left-has (sleeper.Run r) s.world.trace) ∙ by (watched (sleeper.Run r) s.world.trace).left refl
+    living : has (drops_it (tick_or_run.Run r)) s.world.trace ≡ false
+    living = sym (left-has (tick_or_run.Run r) s.world.trace) ∙ by (watched (tick_or_run.Run r) s.world.trace).left refl
       where
-        by : (b : Bool) → (watched (sleeper.Run r) s.world.trace).left ≡ b → b ≡ false
+        by : (b : Bool) → (watched (tick_or_run.Run r) s.world.trace).left ≡ b → b ≡ false
         by false q = refl
         by true q = absurd (omega (
           arith,
-          ((k.standing.stands (sleeper.Run r)).parted q).2,
-          asks-all (sleeper.Run r) s.parties,
-          split (asks_of (sleeper.Run r)) s.parties p (op.End a held ∷ []) below l e,
+          ((k.standing.stands (tick_or_run.Run r)).parted q).2,
+          asks-all (tick_or_run.Run r) s.parties,
+          split (asks_of (tick_or_run.Run r)) s.parties p (op.End a held ∷ []) below l e,
           asks,
         ))
 
-    last : LastPoll (sleeper.Run r) s.world.trace
+    last : LastPoll (tick_or_run.Run r) s.world.trace
     last = ⊎_elim
-        (λ (z : has (polls_it (sleeper.Run r)) s.world.trace ≡ false). absurd
-        (let no : true ≡ false = sym open_poll.0 ∙ unasked-all (sleeper.Run r) s.world.trace z in cc))
-        (λ (z : LastPoll (sleeper.Run r) s.world.trace). z)
-        (last-poll (sleeper.Run r) s.world.trace)
+        (λ (z : has (polls_it (tick_or_run.Run r)) s.world.trace ≡ false). absurd
+        (let no : true ≡ false = sym open_poll.0 ∙ unasked-all (tick_or_run.Run r) s.world.trace z in cc))
+        (λ (z : LastPoll (tick_or_run.Run r) s.world.trace). z)
+        (last-poll (tick_or_run.Run r) s.world.trace)
 
     since_it : (es : Trace) → drop (suc last.poll) es ≡ since last.poll es
     since_it es = ap (λ (n : ℕ). drop n es) (let z : suc last.poll ≡ last.poll + 1 = omega arith in z)
 
-    unpolled : has (polls_it (sleeper.Run r)) (since last.poll s.world.trace) ≡ false
-    unpolled = ap (has (polls_it (sleeper.Run r))) (sym (since_it s.world.trace)) ∙ last.last
+    unpolled : has (polls_it (tick_or_run.Run r)) (since last.poll s.world.trace) ≡ false
+    unpolled = ap (has (polls_it (tick_or_run.Run r))) (sym (since_it s.world.trace)) ∙ last.last
 
-    begun_there : Begun (sleeper.Run r) last.poll last.party s.world.trace
-    begun_there = begun-at (sleeper.Run r) last.poll last.party s.world.trace last.polled
+    begun_there : Begun (tick_or_run.Run r) last.poll last.party s.world.trace
+    begun_there = begun-at (tick_or_run.Run r) last.poll last.party s.world.trace last.polled
 
-    all : watched (sleeper.Run r) s.world.trace
-        ≡ watched_from (sleeper.Run r) (suc last.poll) (poll_begun last.poll last.party begun_there.before)
+    all : watched (tick_or_run.Run r) s.world.trace
+        ≡ watched_from (tick_or_run.Run r) (suc last.poll) (poll_begun last.poll last.party begun_there.before)
         (since last.poll s.world.trace)
-    all = begun_there.all ∙ ap (watched_from (sleeper.Run r) (suc last.poll)
+    all = begun_there.all ∙ ap (watched_from (tick_or_run.Run r) (suc last.poll)
         (poll_begun last.poll last.party begun_there.before)) (since_it s.world.trace)
 
-    level : IsLevel last.party 0 (since last.poll s.world.trace) (watched (sleeper.Run r) s.world.trace)
+    level : IsLevel last.party 0 (since last.poll s.world.trace) (watched (tick_or_run.Run r) s.world.trace)
     level = subst (IsLevel last.party 0 (since last.poll s.world.trace)) (sym all)
-        (level-from (sleeper.Run r) last.party (suc last.poll) (poll_begun last.poll last.party begun_there.before)
+        (level-from (tick_or_run.Run r) last.party (suc last.poll) (poll_begun last.poll last.party begun_there.before)
         (since last.poll s.world.trace) unpolled
-        (has-later (drops_it (sleeper.Run r)) (last.poll + 1) s.world.trace living) refl refl
+        (has-later (drops_it (tick_or_run.Run r)) (last.poll + 1) s.world.trace living) refl refl
         (sym (ap (λ (w : Watched). w.asking) all) ∙ open_poll.0))
 
     same_party : last.party ≡ p

@@ -1,3 +1,4 @@
+-- For keepers_are_called.
 -- Each thing that is done adds to the trace, and but for a step of a steal and the taking up of a task neither a poll
 -- of a future nor one that comes into an own queue.
 use Rattle.std.proofs.Common.{◌≡◌, ℕ, [], ◌∷◌, ◌++◌, Bool, true, false, refl}
@@ -16,8 +17,8 @@ use Rattle.executor_model.specs.declared.step.UserEnd.{UserEnd}
 use Rattle.executor_model.specs.Doing.{act}
 use Rattle.executor_model.specs.Steps.{accepts, begun, react}
 use Rattle.executor_model.specs.World.{World, log}
-use Rattle.executor_model.proofs.TraceGrows.{Allows, AllowsCall, Grows, grows-act, grows-and, grows-begun, grows-one}
-use Rattle.executor_model.proofs.TraceGrows.{grows-react, is_ordinary}
+use Rattle.executor_model.proofs.Steps.TraceGrows.{Allows, AllowsCall, Grows, grows-act, grows-and, grows-begun, grows-one}
+use Rattle.executor_model.proofs.Steps.TraceGrows.{grows-react, is_ordinary}
 
 -- a future comes into an own queue, or is polled
 abbrev pub stirs : Event → Bool

@@ -1,3 +1,4 @@
+-- For keepers_are_called.
 -- Where a future is that a run kept last, and what each step leaves of that where nothing is polled and nothing
 -- comes into an own queue.
 use Rattle.std.proofs.Common.{◌≡◌, ◌≢◌, ◌⊎◌, ◌∙◌, ℕ, ◌+◌, ◌<◌, ◌≤◌, List, [], ◌∷◌, ◌++◌, length, set, take}
@@ -10,17 +11,17 @@ use Rattle.executor_model.specs.Steps.{Machine, stack}
 use Rattle.executor_model.specs.Trace.{Trace, has}
 use Rattle.executor_model.specs.Weights.{weigh, weigh_all}
 use Rattle.executor_model.specs.World.{World, Done, own_of}
-use Rattle.executor_model.proofs.AskingRuns.{Heard}
-use Rattle.executor_model.proofs.Lift.{split, unsettled}
-use Rattle.executor_model.proofs.Lists.{weigh_all-push}
-use Rattle.executor_model.proofs.OwnRooms.{Roomy}
-use Rattle.executor_model.proofs.Dueness.{is_last}
-use Rattle.executor_model.proofs.Tests.{or-left}
-use Rattle.runs_called.proofs.KeptLeads.{Gone, IsPast, Leads}
-use Rattle.runs_called.proofs.KeptGrown.{Grown}
-use Rattle.runs_called.proofs.KeptTrace.{Keeps, Parted, has-both, keeps-before, none-kept, parted-more}
-use Rattle.runs_called.proofs.KeptWeights.{load_of, quits_of, readies_of}
-use Rattle.runs_called.proofs.StandsSteps.{Standing}
+use Rattle.executor_model.proofs.Polls.AskingExecutions.{Heard}
+use Rattle.executor_model.proofs.Steps.Lift.{split, unsettled}
+use Rattle.executor_model.proofs.Steps.Lists.{weigh_all-push}
+use Rattle.executor_model.proofs.OwnQueues.OwnRooms.{Roomy}
+use Rattle.executor_model.proofs.Polls.Dueness.{is_last}
+use Rattle.executor_model.proofs.Steps.Tests.{or-left}
+use Rattle.executor_laws.proofs.Keepers.KeptLeads.{Gone, IsPast, Leads}
+use Rattle.executor_laws.proofs.Keepers.KeptGrown.{Grown}
+use Rattle.executor_laws.proofs.Keepers.KeptTrace.{Keeps, Parted, has-both, keeps-before, none-kept, parted-more}
+use Rattle.executor_laws.proofs.Keepers.KeptWeights.{load_of, quits_of, readies_of}
+use Rattle.executor_laws.proofs.Wakeups.StandsSteps.{Standing}
 
 -- it is where it was kept, or on its way, or gone, or the run is over
 abbrev pub Here : ℕ → ℕ → World → ℕ → Type 0

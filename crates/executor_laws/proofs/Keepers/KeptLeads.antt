@@ -1,3 +1,4 @@
+-- For keepers_are_called.
 -- What a thing to do may leave of the own queues, of who has a kept future in hand, and of the runs that are over.
 use Rattle.std.proofs.Common.{◌≡◌, ◌≢◌, ◌⊎◌, ◌∙◌, ℕ, ◌+◌, ◌<◌, ◌≤◌, List, [], ◌∷◌, ◌++◌, length, get_or, Bool, true}
 use Rattle.std.proofs.Common.{false, ◌||◌, eqb, refl, sym, ap, subst, inl, inr, ⊎_elim, arith}
@@ -6,8 +7,8 @@ use Rattle.std.specs.Prelude.{not, nat_lt}
 use Rattle.executor_model.specs.declared.event.Event.TheVariants as event
 use Rattle.executor_model.specs.declared.op.Op.{Op}
 use Rattle.executor_model.specs.declared.op.Op.TheVariants as op
-use Rattle.executor_model.specs.declared.op.Sleeper.{Sleeper}
-use Rattle.executor_model.specs.declared.op.Sleeper.TheVariants as sleeper
+use Rattle.executor_model.specs.declared.op.TickOrRun.{TickOrRun}
+use Rattle.executor_model.specs.declared.op.TickOrRun.TheVariants as tick_or_run
 use Rattle.executor_model.specs.declared.op.UserOp.TheVariants as user_op
 use Rattle.executor_model.specs.declared.step.Hint.{Hint}
 use Rattle.executor_model.specs.Doing.{act}
@@ -15,13 +16,13 @@ use Rattle.executor_model.specs.Sound.{times}
 use Rattle.executor_model.specs.Trace.{Trace, has}
 use Rattle.executor_model.specs.Weights.{same, weigh}
 use Rattle.executor_model.specs.World.{World, Done, own_of, run_of}
-use Rattle.executor_model.proofs.Lists.{same_cases}
-use Rattle.executor_model.proofs.Using.{is_for_runs, mild-next}
-use Rattle.executor_model.proofs.UsingWorlds.{Idle, idle-act, is_past}
-use Rattle.executor_model.proofs.Dueness.{is_last}
-use Rattle.runs_called.proofs.KeptTrace.{Parted, has-both, or-true}
-use Rattle.runs_called.proofs.KeptWeights.{load_of, mild-quits, quits_of, readies_of}
-use Rattle.runs_called.proofs.StandsSeats.{Seated}
+use Rattle.executor_model.proofs.Steps.Lists.{same_cases}
+use Rattle.executor_model.proofs.OwnQueues.Using.{is_for_runs, mild-next}
+use Rattle.executor_model.proofs.OwnQueues.UsingWorlds.{Idle, idle-act, is_past}
+use Rattle.executor_model.proofs.Polls.Dueness.{is_last}
+use Rattle.executor_laws.proofs.Keepers.KeptTrace.{Parted, has-both, or-true}
+use Rattle.executor_laws.proofs.Keepers.KeptWeights.{load_of, mild-quits, quits_of, readies_of}
+use Rattle.executor_laws.proofs.Wakeups.StandsSeats.{Seated}
 
 -- future f was ready or dropped
 abbrev pub Gone : ℕ → Trace → Type 0
@@ -54,19 +55,19 @@ not-same false false e = refl
 not-same true false e = absurd (cc)
 not-same false true e = absurd (cc)
 
-pub past-seated : (w v : World) → ((t : Sleeper) → Seated t w v) → (r : ℕ) → is_past (run_of v r) ≡ is_past (run_of w r)
+pub past-seated : (w v : World) → ((t : TickOrRun) → Seated t w v) → (r : ℕ) → is_past (run_of v r) ≡ is_past (run_of w r)
 past-seated w v s r =
-    let d : (run_of v r).dropped ≡ (run_of w r).dropped = not-same _ _ (s (sleeper.Run r)).lives in
-    λ i. d i || (s (sleeper.Run r)).over i
+    let d : (run_of v r).dropped ≡ (run_of w r).dropped = not-same _ _ (s (tick_or_run.Run r)).lives in
+    λ i. d i || (s (tick_or_run.Run r)).over i
 
 pub count-made : (n m : ℕ) → nat_lt n n ≡ nat_lt n m → m ≤ n
 count-made n m e = grind (arith, nat_tests)
 
-pub count-seated : (w v : World) → ((t : Sleeper) → Seated t w v) → length v.runs ≡ length w.runs
+pub count-seated : (w v : World) → ((t : TickOrRun) → Seated t w v) → length v.runs ≡ length w.runs
 count-seated w v s = omega (
   arith,
-  count-made (length v.runs) (length w.runs) (s (sleeper.Run (length v.runs))).made,
-  count-made (length w.runs) (length v.runs) (sym (s (sleeper.Run (length w.runs))).made),
+  count-made (length v.runs) (length w.runs) (s (tick_or_run.Run (length v.runs))).made,
+  count-made (length w.runs) (length v.runs) (sym (s (tick_or_run.Run (length w.runs))).made),
 )
 
 pub steady : (w : World) (old : List Op) (d : Done) → ((r : ℕ) → is_past (run_of d.world r) ≡ is_past (run_of w r)) →

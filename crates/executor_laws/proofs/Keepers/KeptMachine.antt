@@ -1,3 +1,4 @@
+-- For keepers_are_called.
 -- After each list of steps a future that a run kept last stands in that run's own queue, or somebody has it in hand, or
 -- it was ready or dropped, or the run is over.
 use Rattle.std.proofs.Common.{◌≡◌, ◌⊎◌, ℕ, zero, suc, ◌<◌, ◌≤◌, List, [], ◌∷◌, ◌++◌, length, Bool, true, false}
@@ -22,23 +23,23 @@ use Rattle.executor_model.specs.Rows.{running_of}
 use Rattle.executor_model.specs.Steps.{Machine, stack, run, start, begun, has_all, is_drop, is_free, is_on_executor}
 use Rattle.executor_model.specs.Steps.{is_unborrowed, mine, react, top}
 use Rattle.executor_model.specs.World.{Done, done, log}
-use Rattle.executor_model.proofs.AskingRuns.{Heard, heard-ends, heard-moves, heard-start}
-use Rattle.executor_model.proofs.Lift.{first-true, good-start, none_refused, split, unsettled, weigh_all-idle}
-use Rattle.executor_model.proofs.OwnRooms.{Roomy, roomy-ends, roomy-moves}
-use Rattle.executor_model.proofs.Ways.{Way, along}
-use Rattle.executor_model.proofs.Ways.Way.{acted, reacted, called}
-use Rattle.runs_called.proofs.KeptActs.{is_apart, keeps-act, keeps-react}
-use Rattle.runs_called.proofs.KeptCalls.{Drops, keeps-begun}
-use Rattle.runs_called.proofs.KeptGrown.{grown-act, grown-begun, grown-react, stirs_op}
-use Rattle.runs_called.proofs.KeptWeights.{quits_of}
-use Rattle.runs_called.proofs.StandsLast.{standing-ends}
-use Rattle.runs_called.proofs.StandsMachine.{standing-moves, standing-start}
-use Rattle.runs_called.proofs.StandsSteps.{Standing}
-use Rattle.runs_called.proofs.StandsUses.{run-there}
-use Rattle.runs_called.proofs.KeptHere.{Keeping, keeping-on}
-use Rattle.runs_called.proofs.KeptTaken.{keeping-taken}
-use Rattle.runs_called.proofs.KeptPut.{has-free, keeping-put, put-free}
-use Rattle.runs_called.proofs.KeptEnds.{keeping-end}
+use Rattle.executor_model.proofs.Polls.AskingExecutions.{Heard, heard-ends, heard-moves, heard-start}
+use Rattle.executor_model.proofs.Steps.Lift.{first-true, good-start, none_refused, split, unsettled, weigh_all-idle}
+use Rattle.executor_model.proofs.OwnQueues.OwnRooms.{Roomy, roomy-ends, roomy-moves}
+use Rattle.executor_model.proofs.Steps.Ways.{Way, along}
+use Rattle.executor_model.proofs.Steps.Ways.Way.{acted, reacted, called}
+use Rattle.executor_laws.proofs.Keepers.KeptActs.{is_apart, keeps-act, keeps-react}
+use Rattle.executor_laws.proofs.Keepers.KeptCalls.{Drops, keeps-begun}
+use Rattle.executor_laws.proofs.Keepers.KeptGrown.{grown-act, grown-begun, grown-react, stirs_op}
+use Rattle.executor_laws.proofs.Keepers.KeptWeights.{quits_of}
+use Rattle.executor_laws.proofs.Wakeups.StandsLast.{standing-ends}
+use Rattle.executor_laws.proofs.Wakeups.StandsMachine.{standing-moves, standing-start}
+use Rattle.executor_laws.proofs.Wakeups.StandsSteps.{Standing}
+use Rattle.executor_laws.proofs.Wakeups.StandsUses.{run-there}
+use Rattle.executor_laws.proofs.Keepers.KeptHere.{Keeping, keeping-on}
+use Rattle.executor_laws.proofs.Keepers.KeptTaken.{keeping-taken}
+use Rattle.executor_laws.proofs.Keepers.KeptPut.{has-free, keeping-put, put-free}
+use Rattle.executor_laws.proofs.Keepers.KeptEnds.{keeping-end}
 
 -- who leaves was made
 

@@ -1,3 +1,4 @@
+-- For keepers_are_called.
 -- Where a steal puts a future into an own queue, the run that steals keeps it.
 use Rattle.std.proofs.Common.{◌≡◌, ◌≢◌, ◌∙◌, ℕ, zero, suc, ◌+◌, ◌<◌, ◌≤◌, List, [], ◌∷◌, ◌++◌, length, get_or, set}
 use Rattle.std.proofs.Common.{Bool, true, false, ◌||◌, not, cond, eqb, refl, sym, ap, subst, inl, inr, ⊎_elim, arith}
@@ -17,22 +18,22 @@ use Rattle.executor_model.specs.Sound.{times}
 use Rattle.executor_model.specs.Steps.{Machine, stack}
 use Rattle.executor_model.specs.Weights.{same, weigh, weigh_all}
 use Rattle.executor_model.specs.World.{World, Done, own_of, run_of}
-use Rattle.executor_model.proofs.AskingRuns.{Heard}
-use Rattle.executor_model.proofs.Lift.{split, unsettled}
-use Rattle.executor_model.proofs.Lists.{same_cases, same_is, weigh_all-push, times-append}
-use Rattle.executor_model.proofs.OwnRooms.{Roomy}
-use Rattle.executor_model.proofs.Using.{polling_of}
-use Rattle.executor_model.proofs.RunsMoves.{same-stolen}
-use Rattle.executor_model.proofs.UsingWorlds.{is_over_stage, is_past}
-use Rattle.runs_called.proofs.KeptLeads.{IsPast, count-seated, past-seated}
-use Rattle.runs_called.proofs.KeptSearch.{load-more, quits-more}
-use Rattle.runs_called.proofs.KeptTrace.{Keeps, Kept, Parted, keeps-one, one-other, parted-more}
-use Rattle.runs_called.proofs.KeptTrace.Kept.{now, before}
-use Rattle.runs_called.proofs.KeptWeights.{load_of, quits_of, readies_of}
-use Rattle.runs_called.proofs.StandsSteps.{Standing}
-use Rattle.runs_called.proofs.StandsRuns.{Calm, walks-more}
-use Rattle.runs_called.proofs.StandsUses.{run-there}
-use Rattle.runs_called.proofs.KeptHere.{Here, Keeping, gone-more}
+use Rattle.executor_model.proofs.Polls.AskingExecutions.{Heard}
+use Rattle.executor_model.proofs.Steps.Lift.{split, unsettled}
+use Rattle.executor_model.proofs.Steps.Lists.{same_cases, same_is, weigh_all-push, times-append}
+use Rattle.executor_model.proofs.OwnQueues.OwnRooms.{Roomy}
+use Rattle.executor_model.proofs.OwnQueues.Using.{polling_of}
+use Rattle.executor_model.proofs.Steps.RunsMoves.{same-stolen}
+use Rattle.executor_model.proofs.OwnQueues.UsingWorlds.{is_over_stage, is_past}
+use Rattle.executor_laws.proofs.Keepers.KeptLeads.{IsPast, count-seated, past-seated}
+use Rattle.executor_laws.proofs.Keepers.KeptSearch.{load-more, quits-more}
+use Rattle.executor_laws.proofs.Keepers.KeptTrace.{Keeps, Kept, Parted, keeps-one, one-other, parted-more}
+use Rattle.executor_laws.proofs.Keepers.KeptTrace.Kept.{now, before}
+use Rattle.executor_laws.proofs.Keepers.KeptWeights.{load_of, quits_of, readies_of}
+use Rattle.executor_laws.proofs.Wakeups.StandsSteps.{Standing}
+use Rattle.executor_laws.proofs.Wakeups.StandsRuns.{Calm, walks-more}
+use Rattle.executor_laws.proofs.Wakeups.StandsUses.{run-there}
+use Rattle.executor_laws.proofs.Keepers.KeptHere.{Here, Keeping, gone-more}
 
 -- one comes into the own queue of the run that steals
 

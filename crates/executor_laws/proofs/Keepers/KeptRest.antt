@@ -1,3 +1,4 @@
+-- For keepers_are_called.
 -- At a quiet trace a run that keeps a due future has it in its own queue, stands, and is called.
 use Rattle.std.proofs.Common.{◌≡◌, ◌∙◌, ℕ, ◌≤◌, List, [], length, true, false, sym, inl, inr, ⊎_elim, arith}
 use Rattle.executor_model.specs.declared.step.Step.{Step}
@@ -9,20 +10,20 @@ use Rattle.executor_model.specs.Steps.{Machine, run, stack, start}
 use Rattle.executor_model.specs.Trace.{has}
 use Rattle.executor_model.specs.Weights.{weigh_all}
 use Rattle.executor_model.specs.World.{own_of}
-use Rattle.executor_model.proofs.AskingRuns.{heard}
-use Rattle.executor_model.proofs.Lift.{good}
-use Rattle.executor_model.proofs.OwnRunners.{own-queue-has-runner}
-use Rattle.executor_model.proofs.Resting.{deep, rests, all-rest}
-use Rattle.executor_model.proofs.SleepersTellingRuns.{are_told}
-use Rattle.executor_model.proofs.Dueness.{none-last}
-use Rattle.runs_called.specs.Called.{KeeperIsCalled}
-use Rattle.runs_called.proofs.KeptHere.{Here, Keeping}
-use Rattle.runs_called.proofs.KeptMachine.{keeping}
-use Rattle.runs_called.proofs.KeptTrace.{Parted}
-use Rattle.runs_called.proofs.KeptWeights.{load_of, readies_of}
-use Rattle.runs_called.proofs.Queued.{times-length}
-use Rattle.runs_called.proofs.StandsMachine.{standing}
-use Rattle.runs_called.proofs.StandsRest.{keeper-called, keeper-stands}
+use Rattle.executor_model.proofs.Polls.AskingExecutions.{heard}
+use Rattle.executor_model.proofs.Steps.Lift.{good}
+use Rattle.executor_model.proofs.OwnQueues.OwnRunners.{own-queue-has-runner}
+use Rattle.executor_model.proofs.Quiet.Resting.{deep, rests, all-rest}
+use Rattle.executor_model.proofs.Sleepers.SleepersTellingExecutions.{are_told}
+use Rattle.executor_model.proofs.Polls.Dueness.{none-last}
+use Rattle.executor_laws.specs.Called.{KeeperIsCalled}
+use Rattle.executor_laws.proofs.Keepers.KeptHere.{Here, Keeping}
+use Rattle.executor_laws.proofs.Keepers.KeptMachine.{keeping}
+use Rattle.executor_laws.proofs.Keepers.KeptTrace.{Parted}
+use Rattle.executor_laws.proofs.Keepers.KeptWeights.{load_of, readies_of}
+use Rattle.executor_laws.proofs.Wakeups.Queued.{times-length}
+use Rattle.executor_laws.proofs.Wakeups.StandsMachine.{standing}
+use Rattle.executor_laws.proofs.Wakeups.StandsRest.{keeper-called, keeper-stands}
 
 -- it stands in its own queue
 kept-there : (s : Machine) → ((q : ℕ) → stack s q ≡ []) → Keeping s → (f r : ℕ) → IsDue f s.world.trace →

@@ -1,7 +1,8 @@
+-- For keepers_are_called.
 -- What is done with the list of queues, by a run that leaves and by one that pauses leaves of the own queues and of
 -- who has a kept future in hand.
 use Rattle.std.proofs.Common.{◌≡◌, ◌≢◌, ◌⊎◌, ◌∙◌, ℕ, zero, suc, ◌<◌, ◌≤◌, List, [], ◌∷◌, ◌++◌, length, get_or, set}
-use Rattle.std.proofs.Common.{Bool, true, false, ◌||◌, cond, eqb, refl, sym, ap, subst, inl, inr, ⊎_elim, arith}
+use Rattle.std.proofs.Common.{Bool, true, false, cond, eqb, refl, sym, ap, subst, inl, inr, ⊎_elim, arith}
 use Rattle.std.proofs.Common.{get_or-set_other, length-append}
 use Rattle.task_moves.specs.declared.moves.owed.Move.TheVariants as move
 use Rattle.executor_model.specs.declared.call.Reply.{Reply}
@@ -14,7 +15,6 @@ use Rattle.executor_model.specs.declared.op.Polled.TheVariants as of
 use Rattle.executor_model.specs.declared.op.RunOp.TheVariants as run_op
 use Rattle.executor_model.specs.declared.op.RunPoll.{RunPoll}
 use Rattle.executor_model.specs.declared.op.Section.TheVariants as section
-use Rattle.executor_model.specs.declared.op.Sleeper.TheVariants as sleeper
 use Rattle.executor_model.specs.declared.op.UserOp.TheVariants as user_op
 use Rattle.executor_model.specs.declared.op.Waker.{Waker}
 use Rattle.executor_model.specs.declared.op.Waker.TheVariants.{Task, Outside}
@@ -23,16 +23,15 @@ use Rattle.executor_model.specs.ActsOfRuns as runs
 use Rattle.executor_model.specs.Sound.{times}
 use Rattle.executor_model.specs.Weights.{same, weigh}
 use Rattle.executor_model.specs.World.{World, Stage, New, Listed, Ended, Run, done, log, new_run, no_run, own_of, run_of}
-use Rattle.executor_model.proofs.Lift.{no_hint}
-use Rattle.executor_model.proofs.Lists.{same_cases, weigh-append}
-use Rattle.executor_model.proofs.Using.{mild-next}
-use Rattle.executor_model.proofs.UsingWorlds.{Idle, idle, idle-act, count-set, is_past}
-use Rattle.runs_called.proofs.KeptTrace.{Parted, or-true}
-use Rattle.runs_called.proofs.KeptWeights.{is_end_ready, mild-quits, quits_of, readies_of}
-use Rattle.runs_called.proofs.Stands.{View, view}
-use Rattle.runs_called.proofs.StandsGoing.{walks-registered}
-use Rattle.runs_called.proofs.KeptLeads.{IsPast, Leads, not-same, of-idle}
-use Rattle.runs_called.proofs.KeptSearch.{of-walks}
+use Rattle.executor_model.proofs.Steps.Lift.{no_hint}
+use Rattle.executor_model.proofs.Steps.Lists.{same_cases, weigh-append}
+use Rattle.executor_model.proofs.OwnQueues.Using.{mild-next}
+use Rattle.executor_model.proofs.OwnQueues.UsingWorlds.{Idle, idle, idle-act, count-set, is_past}
+use Rattle.executor_laws.proofs.Keepers.KeptTrace.{Parted, or-true}
+use Rattle.executor_laws.proofs.Keepers.KeptWeights.{is_end_ready, mild-quits, quits_of, readies_of}
+use Rattle.executor_laws.proofs.Wakeups.StandsGoing.{walks-registered}
+use Rattle.executor_laws.proofs.Keepers.KeptLeads.{IsPast, Leads, of-idle}
+use Rattle.executor_laws.proofs.Keepers.KeptSearch.{of-walks}
 
 -- the list of queues
 
@@ -154,12 +153,6 @@ keeps-reschedule (g ∷ rest) w q a e k = record {
       inl (omega (arith, ap (times f) (get_or-set_other w.own q r rest [] x.2))))
       (same_cases r q);
 }
-
-past-view : (w v : World) (r : ℕ) → view (sleeper.Run r) v ≡ view (sleeper.Run r) w →
-    is_past (run_of v r) ≡ is_past (run_of w r)
-past-view w v r e =
-    let d : (run_of v r).dropped ≡ (run_of w r).dropped = not-same _ _ (ap (λ (y : View). y.living) e) in
-    λ i. d i || (ap (λ (y : View). y.over) e) i
 
 idle-reference : (p : ℕ) (w : World) (a : Waker) → Idle w (runs.call_by_reference p w a).world
 idle-reference p w (Task g) = idle-act p no_hint (op.Move move.WakeByReference g) w refl

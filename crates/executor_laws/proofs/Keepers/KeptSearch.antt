@@ -1,3 +1,4 @@
+-- For keepers_are_called.
 -- What a run's search and its steals leave of the own queues and of who has a kept future in hand.
 use Rattle.std.proofs.Common.{◌≡◌, ℕ, zero, suc, ◌+◌, ◌≤◌, List, [], ◌∷◌, length, get_or, set, false, refl, ap, arith}
 use Rattle.executor_model.specs.declared.op.Op.{Op}
@@ -15,13 +16,13 @@ use Rattle.executor_model.specs.Rows.{then_waiting}
 use Rattle.executor_model.specs.Sound.{times}
 use Rattle.executor_model.specs.Weights.{same, weigh}
 use Rattle.executor_model.specs.World.{World, Done, own_of, put_own}
-use Rattle.executor_model.proofs.RunsAside.{Hull, hull}
-use Rattle.executor_model.proofs.RunsMoving.{hull-found, hull-stolen}
-use Rattle.runs_called.proofs.KeptGrown.{stirs_op}
-use Rattle.runs_called.proofs.KeptWeights.{load-found, load-stolen, load_of, quits-found, quits-stolen, quits-walk}
-use Rattle.runs_called.proofs.KeptWeights.{quits_of, readies_of}
-use Rattle.runs_called.proofs.StandsRuns.{Walks, walks-steal}
-use Rattle.runs_called.proofs.KeptLeads.{Leads, count-seated, past-seated, steady}
+use Rattle.executor_model.proofs.OwnQueues.RunsAside.{Hull, hull}
+use Rattle.executor_model.proofs.OwnQueues.RunsMoving.{hull-found, hull-stolen}
+use Rattle.executor_laws.proofs.Keepers.KeptGrown.{stirs_op}
+use Rattle.executor_laws.proofs.Keepers.KeptWeights.{load-found, load-stolen, load_of, quits-found, quits-stolen, quits-walk}
+use Rattle.executor_laws.proofs.Keepers.KeptWeights.{quits_of, readies_of}
+use Rattle.executor_laws.proofs.Wakeups.StandsRuns.{Walks, walks-steal}
+use Rattle.executor_laws.proofs.Keepers.KeptLeads.{Leads, count-seated, past-seated, steady}
 
 -- searches and steals
 

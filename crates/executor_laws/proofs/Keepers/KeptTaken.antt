@@ -1,3 +1,4 @@
+-- For keepers_are_called.
 -- Where a task is taken up, its future is polled or will be dropped.
 use Rattle.std.proofs.Common.{◌≡◌, ◌≢◌, ◌⊎◌, ◌∙◌, ℕ, ◌<◌, ◌≤◌, List, [], ◌∷◌, ◌++◌, length, get_or, set}
 use Rattle.std.proofs.Common.{append-nil, Bool, true, false, not, eqb, refl, sym, ap, subst, inl, inr, ⊎_elim, arith}
@@ -16,19 +17,19 @@ use Rattle.executor_model.specs.Steps.{Machine, stack}
 use Rattle.executor_model.specs.Trace.{Trace}
 use Rattle.executor_model.specs.Weights.{same, weigh, weigh_all}
 use Rattle.executor_model.specs.World.{Done, log_if, among, task}
-use Rattle.executor_model.proofs.AskingRuns.{Heard}
-use Rattle.executor_model.proofs.Lift.{split, unsettled}
-use Rattle.executor_model.proofs.Lists.{same_cases, same_is, weigh_all-below, weigh_all-push}
-use Rattle.executor_model.proofs.OwnRooms.{Roomy}
-use Rattle.executor_model.proofs.Using.{mild-next}
-use Rattle.executor_model.proofs.UsingWorlds.{Idle, idle-act}
-use Rattle.executor_model.proofs.Dueness.{over-last, is_over}
-use Rattle.runs_called.proofs.KeptLeads.{Gone, IsPast}
-use Rattle.runs_called.proofs.KeptTrace.{Keeps, Kept, Parted, keeps-one, one-other, parted-more}
-use Rattle.runs_called.proofs.KeptTrace.Kept.{now, before}
-use Rattle.runs_called.proofs.KeptWeights.{drops-load, load_of, mild-quits, quits_of, readies_of}
-use Rattle.runs_called.proofs.StandsSteps.{Standing}
-use Rattle.runs_called.proofs.KeptHere.{Here, Keeping, gone-more}
+use Rattle.executor_model.proofs.Polls.AskingExecutions.{Heard}
+use Rattle.executor_model.proofs.Steps.Lift.{split, unsettled}
+use Rattle.executor_model.proofs.Steps.Lists.{same_cases, same_is, weigh_all-below, weigh_all-push}
+use Rattle.executor_model.proofs.OwnQueues.OwnRooms.{Roomy}
+use Rattle.executor_model.proofs.OwnQueues.Using.{mild-next}
+use Rattle.executor_model.proofs.OwnQueues.UsingWorlds.{Idle, idle-act}
+use Rattle.executor_model.proofs.Polls.Dueness.{over-last, is_over}
+use Rattle.executor_laws.proofs.Keepers.KeptLeads.{Gone, IsPast}
+use Rattle.executor_laws.proofs.Keepers.KeptTrace.{Keeps, Kept, Parted, keeps-one, one-other, parted-more}
+use Rattle.executor_laws.proofs.Keepers.KeptTrace.Kept.{now, before}
+use Rattle.executor_laws.proofs.Keepers.KeptWeights.{drops-load, load_of, mild-quits, quits_of, readies_of}
+use Rattle.executor_laws.proofs.Wakeups.StandsSteps.{Standing}
+use Rattle.executor_laws.proofs.Keepers.KeptHere.{Here, Keeping, gone-more}
 
 -- a task is taken up
 

@@ -1,3 +1,4 @@
+-- For keepers_are_called.
 -- What more events leave of who keeps a future, and of the answers of runs.
 use Rattle.std.proofs.Common.{◌≡◌, ◌≢◌, ◌⊎◌, ◌∙◌, inl, inr, ⊎_elim, ℕ, zero, suc, ◌+◌, ◌<◌, ◌≤◌, [], ◌∷◌, ◌++◌, length}
 use Rattle.std.proofs.Common.{drop, take, Bool, true, false, ◌||◌, eqb, refl, sym, ap, subst, arith}
@@ -11,8 +12,8 @@ use Rattle.executor_model.specs.AwaiterKept.{EndsWith, since}
 use Rattle.executor_model.specs.Keeper.{AnswersReady, is_kept, is_run_drop}
 use Rattle.executor_model.specs.Quiet.{begins_call, ends_call}
 use Rattle.executor_model.specs.Trace.{Trace, has, is_poll}
-use Rattle.executor_model.proofs.Tests.{or-left}
-use Rattle.runs_called.proofs.KeptGrown.{stirs}
+use Rattle.executor_model.proofs.Steps.Tests.{or-left}
+use Rattle.executor_laws.proofs.Keepers.KeptGrown.{stirs}
 
 -- places in what has grown
 

@@ -1,3 +1,4 @@
+-- For keepers_are_called.
 -- Who has a kept future in hand, or its drop; a run that leaves; and what each thing to do leaves of that.
 use Rattle.std.proofs.Common.{◌≡◌, ◌∙◌, ℕ, ◌+◌, ◌≤◌, List, [], ◌∷◌, Bool, true, false, cond, eqb, refl, arith}
 use Rattle.task_moves.specs.declared.moves.owed.Move.TheVariants as move
@@ -15,8 +16,8 @@ use Rattle.executor_model.specs.declared.op.RunOp.TheVariants as run_op
 use Rattle.executor_model.specs.declared.op.RunPoll.{RunPoll}
 use Rattle.executor_model.specs.declared.op.Section.{Section}
 use Rattle.executor_model.specs.declared.op.Section.TheVariants as section
-use Rattle.executor_model.specs.declared.op.Sleeper.{Sleeper}
-use Rattle.executor_model.specs.declared.op.Sleeper.TheVariants as sleeper
+use Rattle.executor_model.specs.declared.op.TickOrRun.{TickOrRun}
+use Rattle.executor_model.specs.declared.op.TickOrRun.TheVariants as tick_or_run
 use Rattle.executor_model.specs.declared.op.SleeperOp.TheVariants as sleeper_op
 use Rattle.executor_model.specs.declared.op.StealOp.{StealOp}
 use Rattle.executor_model.specs.declared.op.StealOp.TheVariants as steal_op
@@ -30,11 +31,11 @@ use Rattle.executor_model.specs.ActsOfRuns as runs
 use Rattle.executor_model.specs.ActsOfSleepers.{found_by}
 use Rattle.executor_model.specs.Rows.{drops_of, then_waiting}
 use Rattle.executor_model.specs.Weights.{same, weigh}
-use Rattle.executor_model.specs.World.{World, Place, Up, Lies, Left, run_of}
-use Rattle.executor_model.proofs.Calls.{calling_of}
-use Rattle.executor_model.proofs.Lists.{same_is, weigh-append}
-use Rattle.executor_model.proofs.RunsMoving.{Weighs, walk-by, weighs-found, weighs-stolen, nothing-by}
-use Rattle.executor_model.proofs.Using.{Mild}
+use Rattle.executor_model.specs.World.{World, Ticker, Awake, Asleep, Left, run_of}
+use Rattle.executor_model.proofs.Quiet.Calls.{calling_of}
+use Rattle.executor_model.proofs.Steps.Lists.{same_is, weigh-append}
+use Rattle.executor_model.proofs.OwnQueues.RunsMoving.{Weighs, walk-by, weighs-found, weighs-stolen, nothing-by}
+use Rattle.executor_model.proofs.OwnQueues.Using.{Mild}
 
 -- who has future f in hand, to run it or to put it into its own queue, or has still to drop it
 abbrev pub load_steal : ℕ → StealOp → ℕ
@@ -52,15 +53,10 @@ load_of f _ = 0
 
 pub drops-load : (f : ℕ) (o : Op) → drops_of f o ≤ load_of f o
 drops-load f (op.Move move.TakeUp g) = omega arith
-drops-load f (op.Move move.Wake g) = omega arith
 drops-load f (op.Table (table_op.TakeToDrop g)) = omega arith
-drops-load f (op.Table table_op.Enter) = omega arith
 drops-load f (op.Queue queue_op.Take) = omega arith
 drops-load f (op.User (user_op.BeginDrop g)) = omega arith
 drops-load f (op.Steal (steal_op.Length s)) = omega arith
-drops-load f (op.Steal (steal_op.OwnLength s n)) = omega arith
-drops-load f (op.Steal (steal_op.Take s more)) = omega arith
-drops-load f (op.Steal (steal_op.Put s more g)) = omega arith
 drops-load f (op.Waker (waker_op.CopyWaker g held)) = omega arith
 drops-load f (op.Handle (handle_op.LookAgain g)) = omega arith
 drops-load f (op.Sleeper sleeper_op.HandOut) = omega arith
@@ -68,11 +64,7 @@ drops-load f (op.Tick tick_op.MakeTick) = omega arith
 drops-load f (op.Run run_op.MakeRoom) = omega arith
 drops-load f (op.Closing closing_op.Drain) = omega arith
 drops-load f (op.List (list_op.LockWrite section.MakeRun)) = omega arith
-drops-load f (op.List (list_op.LockWrite (section.Register x))) = omega arith
-drops-load f (op.List (list_op.LockWrite (section.Unregister q a))) = omega arith
 drops-load f (op.List (list_op.Write section.MakeRun)) = omega arith
-drops-load f (op.List (list_op.Write (section.Register x))) = omega arith
-drops-load f (op.List (list_op.Write (section.Unregister q a))) = omega arith
 drops-load f _ = omega arith
 
 -- what is found is in hand
@@ -87,20 +79,20 @@ load-counted : (f : ℕ) (b : Bool) (w : World) (x : RunPoll) (g : ℕ) →
 load-counted f true w x g = omega arith
 load-counted f false w x g = load-run_by f _ _ x g
 
-load-rises : (f : ℕ) (p : Place) (who : Sleeper) →
+load-wakes_up : (f : ℕ) (p : Ticker) (who : TickOrRun) →
     weigh (load_of f) (found_by p who (op.Sleeper sleeper_op.ExchangeFlag ∷ [])) ≡ 0
-load-rises f Up who = refl
-load-rises f (Lies n) who = refl
-load-rises f Left who = refl
+load-wakes_up f Awake who = refl
+load-wakes_up f (Asleep n) who = refl
+load-wakes_up f Left who = refl
 
 pub load-found : (f : ℕ) (w : World) (x : RunPoll) (g : ℕ) → weigh (load_of f) (runs.found w x g).next ≡ same f g
 load-found f w x g =
-    let first = found_by (run_of w x.run).place (sleeper.Run x.run) (op.Sleeper sleeper_op.ExchangeFlag ∷ []) in
+    let first = found_by (run_of w x.run).place (tick_or_run.Run x.run) (op.Sleeper sleeper_op.ExchangeFlag ∷ []) in
     let b = eqb ((run_of w x.run).counted + 1) 64 in
     omega (
       arith,
       weigh-append (load_of f) first (runs.counted_by b w x g).next,
-      load-rises f (run_of w x.run).place (sleeper.Run x.run),
+      load-wakes_up f (run_of w x.run).place (tick_or_run.Run x.run),
       load-counted f b w x g,
     )
 
@@ -109,9 +101,6 @@ pub load-stolen : (f : ℕ) (t : Then) (w : World) (x : RunPoll) →
 load-stolen f (then.Found g) w x = load-found f w x g
 load-stolen f (then.Run g) w x = load-run_by f _ w x g
 load-stolen f (then.Walk at left) w x = refl
-
-pub load-walk : (f : ℕ) (x : RunPoll) (qs : List ℕ) (at left : ℕ) → weigh (load_of f) (runs.walk x qs at left) ≡ 0
-load-walk f x qs at left = walk-by (λ (os : List Op). weigh (load_of f) os ≡ 0) x refl (λ r m n. refl) qs at left
 
 -- run r leaves, so that it is over, or is dropped
 

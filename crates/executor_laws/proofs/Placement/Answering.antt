@@ -1,3 +1,4 @@
+-- For due_futures_stand_with_their_keepers.
 -- Which thing to do answers the poll of a run: a part of the poll, or what a run does that is ready, leads to another such
 -- thing, or to the end of the call with another answer.
 use Rattle.std.proofs.Common.{◌≡◌, ◌∙◌, ℕ, ◌+◌, ◌≤◌, ◌%◌, List, [], ◌∷◌, ◌++◌}
@@ -21,8 +22,8 @@ use Rattle.executor_model.specs.declared.op.RunOp.TheVariants as run_op
 use Rattle.executor_model.specs.declared.op.RunPoll.{RunPoll}
 use Rattle.executor_model.specs.declared.op.Section.{Section}
 use Rattle.executor_model.specs.declared.op.Section.TheVariants as section
-use Rattle.executor_model.specs.declared.op.Sleeper.{Sleeper}
-use Rattle.executor_model.specs.declared.op.Sleeper.TheVariants as sleeper
+use Rattle.executor_model.specs.declared.op.TickOrRun.{TickOrRun}
+use Rattle.executor_model.specs.declared.op.TickOrRun.TheVariants as tick_or_run
 use Rattle.executor_model.specs.declared.op.SleeperOp.TheVariants as sleeper_op
 use Rattle.executor_model.specs.declared.op.Sleeping.{Sleeping}
 use Rattle.executor_model.specs.declared.op.StealOp.{StealOp}
@@ -37,18 +38,19 @@ use Rattle.executor_model.specs.declared.step.UserEnd.{UserEnd}
 use Rattle.executor_model.specs.declared.step.UserEnd.TheVariants as end
 use Rattle.executor_model.specs.Acts.{copy_by}
 use Rattle.executor_model.specs.ActsOfRuns.{call_by_reference, make_room_by, make_run_by, reschedule_by, wake_own}
-use Rattle.executor_model.specs.ActsOfSleepers.{copy_sleeper_by, held_as, lie_again_by, lie_anew_by, lie_down_by}
-use Rattle.executor_model.specs.ActsOfSleepers.{lie_listed_by, pend_as, search_by, sleeper_goes}
+use Rattle.executor_model.specs.ActsOfSleepers.{copy_sleeper_by, held_as, sleep_again_by, sleep_anew_by, fall_asleep_by}
+use Rattle.executor_model.specs.ActsOfSleepers.{sleep_listed_by, pend_as, search_by, sleeper_goes}
 use Rattle.executor_model.specs.Doing.{act, list_act, run_act, search_by_who, steal_act}
 use Rattle.executor_model.specs.Steps.{accepts, react}
 use Rattle.executor_model.specs.Weights.{same, weigh, is_run}
-use Rattle.executor_model.specs.World.{World, Place, Up, Lies, Left, log, own_of, place_of, task}
-use Rattle.executor_model.proofs.Asides.{aside-owed}
-use Rattle.executor_model.proofs.Calls.{calling_of}
-use Rattle.executor_model.proofs.Lists.{same_is, weigh-append}
-use Rattle.executor_model.proofs.SleepersNext.{goes-unseen}
-use Rattle.executor_model.proofs.Using.{Mild, is_for_runs, mild-aside, mild-next, mild-polling, polling_of}
-use Rattle.executor_model.proofs.UsingRuns.{Part, part-common, part-look, part-own, part-steal, part-walk, poll_in}
+use Rattle.executor_model.specs.World.{World, Ticker, Awake, Asleep, Left, log, own_of, place_of, task}
+use Rattle.executor_model.proofs.Steps.Asides.{aside-owed}
+use Rattle.executor_model.proofs.Quiet.Calls.{calling_of}
+use Rattle.executor_model.proofs.Steps.Lists.{same_is, weigh-append}
+use Rattle.executor_model.proofs.Steps.SleepersNext.{goes-unseen}
+use Rattle.executor_model.proofs.OwnQueues.Using.{Mild, is_for_runs, mild-aside, mild-next, mild-polling, polling_of}
+use Rattle.executor_model.proofs.OwnQueues.UsingRuns.{Part, part-common, part-look, part-own, part-steal, part-walk}
+use Rattle.executor_model.proofs.OwnQueues.RunsDone.{poll_in}
 
 -- what a run does that is ready
 abbrev pub readying_section : ℕ → Section → ℕ
@@ -140,7 +142,7 @@ as_much r o next e = record { most = omega (arith, e); least = omega (arith, e) 
 none-before : (r : ℕ) (o : Op) → is_for_runs o ≡ false → answers_of r o ≡ 0
 none-before r (op.Tick (tick_op.Search s)) n = absurd (cc)
 none-before r (op.Tick (tick_op.CopyWaker s)) n = absurd (cc)
-none-before r (op.Tick (tick_op.LieDown s)) n = absurd (cc)
+none-before r (op.Tick (tick_op.FallAsleep s)) n = absurd (cc)
 none-before r (op.User (user_op.PollOwn x)) n = absurd (cc)
 none-before r (op.Waker (waker_op.CopyWaker f held)) n = absurd (cc)
 none-before r (op.List o) n = absurd (cc)
@@ -155,29 +157,27 @@ hands-plain r p h o w n =
 
 steal-is : (r : ℕ) (o : StealOp) → answers_of r (op.Steal o) ≡ same r (poll_in o).run
 steal-is r (steal_op.Length s) = omega arith
-steal-is r (steal_op.OwnLength s n) = omega arith
-steal-is r (steal_op.Take s more) = omega arith
-steal-is r (steal_op.Put s more f) = omega arith
+steal-is r _ = omega arith
 
 -- a tick's search
-held : (r : ℕ) (who : Sleeper) (t : ℕ) → who ≡ sleeper.Tick t → readying_of r (op.End reply.Ready (held_as who)) ≡ 0
-held r (sleeper.Tick u) t e = refl
-held r (sleeper.Run u) t e = absurd (cc)
+held : (r : ℕ) (who : TickOrRun) (t : ℕ) → who ≡ tick_or_run.Tick t → readying_of r (op.End reply.Ready (held_as who)) ≡ 0
+held r (tick_or_run.Tick u) t e = refl
+held r (tick_or_run.Run u) t e = absurd (cc)
 
-search-none : (r : ℕ) (x : Place) (w : World) (q : List ℕ) (s : Sleeping) (t : ℕ) → s.who ≡ sleeper.Tick t →
+search-none : (r : ℕ) (x : Ticker) (w : World) (q : List ℕ) (s : Sleeping) (t : ℕ) → s.who ≡ tick_or_run.Tick t →
     weigh (answers_of r) (search_by x w q s).next ≡ 0
 search-none r x w [] s t e = omega (arith, ap (is_run r) e)
-search-none r Up w (f ∷ rest) s t e = omega (arith, held r s.who t e)
-search-none r (Lies n) w (f ∷ rest) s t e = omega (arith, held r s.who t e)
+search-none r Awake w (f ∷ rest) s t e = omega (arith, held r s.who t e)
+search-none r (Asleep n) w (f ∷ rest) s t e = omega (arith, held r s.who t e)
 search-none r Left w (f ∷ rest) s t e = omega (arith, held r s.who t e)
 
-hands-search : (r : ℕ) (who : Sleeper) (w : World) (s : Sleeping) → s.who ≡ who →
+hands-search : (r : ℕ) (who : TickOrRun) (w : World) (s : Sleeping) → s.who ≡ who →
     Hands r (op.Tick (tick_op.Search s)) (search_by_who who w s).next
-hands-search r (sleeper.Tick t) w s e = as_much r (op.Tick (tick_op.Search s)) (search_by_who (sleeper.Tick t) w s).next
+hands-search r (tick_or_run.Tick t) w s e = as_much r (op.Tick (tick_op.Search s)) (search_by_who (tick_or_run.Tick t) w s).next
     (omega (arith, search-none r (place_of w s.who) w w.queue.items s t e, ap (is_run r) e))
-hands-search r (sleeper.Run q) w s e =
+hands-search r (tick_or_run.Run q) w s e =
     let x : RunPoll = record { run = q; waker = s.waker; poll = s.poll } in
-    as_much r (op.Tick (tick_op.Search s)) (search_by_who (sleeper.Run q) w s).next
+    as_much r (op.Tick (tick_op.Search s)) (search_by_who (tick_or_run.Run q) w s).next
     (omega (arith, part-own (answers_of r) (mild r) x (same r q) (part r x) (own_of w q) w, ap (is_run r) e))
 
 -- it ends with another answer
@@ -185,18 +185,18 @@ hands-copy : (r : ℕ) (b : Bool) (w : World) (s : Sleeping) →
     Hands r (op.Tick (tick_op.CopyWaker s)) (copy_sleeper_by b w s).next
 hands-copy r true w s = record { most = omega arith; least = omega (arith, is-few r s.who) }
   where
-    is-few : (r : ℕ) (who : Sleeper) → is_run r who ≤ 1
-    is-few r (sleeper.Tick t) = omega arith
-    is-few r (sleeper.Run q) = same-few r q
+    is-few : (r : ℕ) (who : TickOrRun) → is_run r who ≤ 1
+    is-few r (tick_or_run.Tick t) = omega arith
+    is-few r (tick_or_run.Run q) = same-few r q
 hands-copy r false w s = as_much r (op.Tick (tick_op.CopyWaker s)) _ (omega arith)
 
 module _ (r : ℕ) (s : Sleeping) where
-  who-few : (who : Sleeper) → is_run r who ≤ 1
-  who-few (sleeper.Tick t) = omega arith
-  who-few (sleeper.Run q) = same-few r q
+  who-few : (who : TickOrRun) → is_run r who ≤ 1
+  who-few (tick_or_run.Tick t) = omega arith
+  who-few (tick_or_run.Run q) = same-few r q
 
   pends : (before : List Op) → weigh (answers_of r) before ≡ 0 →
-      Hands r (op.Tick (tick_op.LieDown s)) (before ++ pend_as s.who)
+      Hands r (op.Tick (tick_op.FallAsleep s)) (before ++ pend_as s.who)
   pends before z = record {
     most = omega (arith, weigh-append (answers_of r) before (pend_as s.who), z);
     least = omega (
@@ -207,26 +207,26 @@ module _ (r : ℕ) (s : Sleeping) where
     );
   }
 
-  searches : Hands r (op.Tick (tick_op.LieDown s)) (op.Tick (tick_op.Search s) ∷ [])
-  searches = as_much r (op.Tick (tick_op.LieDown s)) _ (omega arith)
+  searches : Hands r (op.Tick (tick_op.FallAsleep s)) (op.Tick (tick_op.Search s) ∷ [])
+  searches = as_much r (op.Tick (tick_op.FallAsleep s)) _ (omega arith)
 
-  hands-anew : (b : Bool) (w : World) → Hands r (op.Tick (tick_op.LieDown s)) (lie_anew_by b w s).next
+  hands-anew : (b : Bool) (w : World) → Hands r (op.Tick (tick_op.FallAsleep s)) (sleep_anew_by b w s).next
   hands-anew true w = searches
   hands-anew false w = pends (op.Sleeper (sleeper_op.CallSleeper s) ∷ []) refl
 
-  hands-listed : (b : Bool) (w : World) (k : ℕ) → Hands r (op.Tick (tick_op.LieDown s)) (lie_listed_by b w k s).next
+  hands-listed : (b : Bool) (w : World) (k : ℕ) → Hands r (op.Tick (tick_op.FallAsleep s)) (sleep_listed_by b w k s).next
   hands-listed true w k = searches
   hands-listed false w k = pends (op.Sleeper (sleeper_op.CallSleeper s) ∷ []) refl
 
-  hands-again : (o : Option ℕ) (w : World) (k : ℕ) → Hands r (op.Tick (tick_op.LieDown s)) (lie_again_by o w k s).next
+  hands-again : (o : Option ℕ) (w : World) (k : ℕ) → Hands r (op.Tick (tick_op.FallAsleep s)) (sleep_again_by o w k s).next
   hands-again None w k = hands-listed _ w k
   hands-again (Some at) w k = let old = waker_at (Some at) w.sleepers.wakers in
       pends (sleeper_goes old) (goes-unseen (answers_of r) (λ f. refl) old)
 
-  hands-lie : (x : Place) (w : World) → Hands r (op.Tick (tick_op.LieDown s)) (lie_down_by x w s).next
-  hands-lie Up w = hands-anew _ w
-  hands-lie (Lies k) w = hands-again _ w k
-  hands-lie Left w = pends (op.Sleeper (sleeper_op.CallSleeper s) ∷ []) refl
+  hands-sleep : (x : Ticker) (w : World) → Hands r (op.Tick (tick_op.FallAsleep s)) (fall_asleep_by x w s).next
+  hands-sleep Awake w = hands-anew _ w
+  hands-sleep (Asleep k) w = hands-again _ w k
+  hands-sleep Left w = pends (op.Sleeper (sleeper_op.CallSleeper s) ∷ []) refl
 
 hands-waker : (r : ℕ) (b : Bool) (w : World) (f : ℕ) (held : Hold) →
     Hands r (op.Waker (waker_op.CopyWaker f held)) (copy_by b w f held).next
@@ -313,7 +313,7 @@ hands-by : (b : Bool) (r p : ℕ) (h : Hint) (o : Op) (w : World) → is_for_run
 hands-by false r p h o w n e = hands-plain r p h o w n
 hands-by true r p h (op.Tick (tick_op.Search s)) w n e = hands-search r s.who w s refl
 hands-by true r p h (op.Tick (tick_op.CopyWaker s)) w n e = hands-copy r _ w s
-hands-by true r p h (op.Tick (tick_op.LieDown s)) w n e = hands-lie r s _ w
+hands-by true r p h (op.Tick (tick_op.FallAsleep s)) w n e = hands-sleep r s _ w
 hands-by true r p h (op.User (user_op.PollOwn x)) w n e = as_much r (op.User (user_op.PollOwn x)) _ (omega arith)
 hands-by true r p h (op.Waker (waker_op.CopyWaker f held)) w n e = hands-waker r _ w f held
 hands-by true r p h (op.List o) w n e = hands-list r h o w

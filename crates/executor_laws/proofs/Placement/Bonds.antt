@@ -1,3 +1,4 @@
+-- For due_futures_stand_with_their_keepers.
 -- What a trace tells of the last time that a future came into a run's own queue, read from left to right.
 use Rattle.std.proofs.Common.{◌≡◌, ◌∙◌, ℕ, zero, suc, ◌+◌, ◌<◌, [], ◌∷◌, ◌++◌}
 use Rattle.std.proofs.Common.{length, drop, Bool, true, false, ◌||◌, eqb, cond, refl, sym, ap, subst, arith}
@@ -9,9 +10,9 @@ use Rattle.executor_model.specs.declared.event.Event.TheVariants as event
 use Rattle.executor_model.specs.AwaiterKept.{since}
 use Rattle.executor_model.specs.Keeper.{is_kept, is_run_drop}
 use Rattle.executor_model.specs.Trace.{Trace, has, is_poll}
-use Rattle.executor_model.proofs.Pushes.{any-push}
-use Rattle.executor_model.proofs.Dueness.{by_last}
-use Rattle.runs_reach.proofs.Opens.{get-old, get-new, since-old, since-new}
+use Rattle.executor_model.proofs.Steps.Pushes.{any-push}
+use Rattle.executor_model.proofs.Polls.Dueness.{by_last}
+use Rattle.executor_laws.proofs.Placement.Opens.{get-old, get-new, since-old, since-new}
 
 pub record Bond : Type 0 where
   -- it came there, and it wasn't polled nor the run dropped since; which run, by which party, and at which place

@@ -1,3 +1,4 @@
+-- For due_futures_stand_with_their_keepers.
 -- At every moment a future that stands in a run's own queue came there last, since its last poll began; and one that came
 -- to a run that is neither dropped nor ready isn't in the executor's queue.
 use Rattle.std.proofs.Common.{◌≡◌, ◌⊎◌, ◌∙◌, inl, inr, ⊎_elim, ℕ, ◌<◌, ◌≤◌, [], ◌∷◌}
@@ -10,12 +11,12 @@ use Rattle.executor_model.specs.Keeper.{is_run_drop}
 use Rattle.executor_model.specs.Sound.{Pend, times}
 use Rattle.executor_model.specs.Trace.{Trace, has}
 use Rattle.executor_model.specs.World.{World, Ended, own_of, run_of}
-use Rattle.executor_model.proofs.TraceGrows.{Grows, is_ordinary}
-use Rattle.executor_model.proofs.UsingWorlds.{is_past}
-use Rattle.executor_model.proofs.TraceMore.{over-more}
-use Rattle.runs_reach.proofs.Bonds.{Bond, binds, bond, bond-push}
-use Rattle.runs_reach.proofs.Ran.{has-same}
-use Rattle.runs_reach.proofs.Safe.{Safe}
+use Rattle.executor_model.proofs.Steps.TraceGrows.{Grows, is_ordinary}
+use Rattle.executor_model.proofs.OwnQueues.UsingWorlds.{is_past}
+use Rattle.executor_model.proofs.Steps.TraceMore.{over-more}
+use Rattle.executor_laws.proofs.Placement.Bonds.{Bond, binds, bond, bond-push}
+use Rattle.executor_laws.proofs.Placement.Ran.{has-same}
+use Rattle.executor_laws.proofs.Placement.Safe.{Safe}
 
 abbrev pub kept : ℕ → World → Type 0
 kept f w = (bond f w.trace).kept ≡ true

@@ -1,3 +1,4 @@
+-- For due_futures_stand_with_their_keepers.
 -- Each step keeps what holds at every moment of a future and of the run that keeps it.
 use Rattle.std.proofs.Common.{◌≡◌, ◌≢◌, ◌∙◌, inl, inr, ⊎_elim, ℕ, zero, suc, ◌+◌, ◌<◌, ◌≤◌, List, [], ◌∷◌}
 use Rattle.std.proofs.Common.{◌++◌, length, set, get_or, Bool, true, false, not, eqb, refl}
@@ -37,24 +38,24 @@ use Rattle.executor_model.specs.Trace.{has}
 use Rattle.executor_model.specs.Weights.{past, same, weigh, weigh_all}
 use Rattle.executor_model.specs.World.{World, Ended, Run, Done, among, log, log_if, no_run}
 use Rattle.executor_model.specs.World.{own_of, run_of, task}
-use Rattle.executor_model.proofs.Lift.{push-pend, split, split-pend, unsettled}
-use Rattle.executor_model.proofs.Lists.{past_is, same_cases, same_is, times-append, weigh_all-below, weigh_all-push}
-use Rattle.executor_model.proofs.OwnRooms.{Roomy}
-use Rattle.executor_model.proofs.RunsMoves.{moves-own_length}
-use Rattle.executor_model.proofs.RunsMoving.{hull-more}
-use Rattle.executor_model.proofs.Using.{polling_of}
-use Rattle.executor_model.proofs.UsingRuns.{idle-more}
-use Rattle.executor_model.proofs.UsingSteps.{AllUsed}
-use Rattle.executor_model.proofs.UsingWorlds.{is_past}
-use Rattle.runs_reach.proofs.Bound.{Bound, Tied, bound-kept, bound-polled, bound-same, keeper, kept}
-use Rattle.runs_reach.proofs.Bound.{tied-kept, tied-other, tied-same}
-use Rattle.runs_reach.proofs.Evens.{Even, even-idle}
-use Rattle.runs_reach.proofs.Leavings.{dropping_of, off_of}
-use Rattle.runs_reach.proofs.Opens.{le-or}
-use Rattle.runs_reach.proofs.Running.{RanIn}
-use Rattle.runs_reach.proofs.Safe.{Floor, KeepsSafe, Safe, floor}
-use Rattle.runs_reach.proofs.SafeActs.{IsTame, safe-act, safe-take_up_open}
-use Rattle.runs_reach.proofs.SafeRuns.{safe-put}
+use Rattle.executor_model.proofs.Steps.Lift.{push-pend, split, split-pend, unsettled}
+use Rattle.executor_model.proofs.Steps.Lists.{past_is, same_cases, same_is, times-append, weigh_all-below, weigh_all-push}
+use Rattle.executor_model.proofs.OwnQueues.OwnRooms.{Roomy}
+use Rattle.executor_model.proofs.Steps.RunsMoves.{moves-own_length}
+use Rattle.executor_model.proofs.OwnQueues.RunsMoving.{hull-more}
+use Rattle.executor_model.proofs.OwnQueues.Using.{polling_of}
+use Rattle.executor_model.proofs.OwnQueues.UsingRuns.{idle-more}
+use Rattle.executor_model.proofs.OwnQueues.UsingSteps.{AllUsed}
+use Rattle.executor_model.proofs.OwnQueues.UsingWorlds.{is_past}
+use Rattle.executor_laws.proofs.Placement.Bound.{Bound, Tied, bound-kept, bound-polled, bound-same, keeper, kept}
+use Rattle.executor_laws.proofs.Placement.Bound.{tied-kept, tied-other, tied-same}
+use Rattle.executor_laws.proofs.Placement.Evens.{Even, even-idle}
+use Rattle.executor_laws.proofs.Placement.Leavings.{dropping_of, off_of}
+use Rattle.executor_laws.proofs.Placement.Opens.{le-or}
+use Rattle.executor_laws.proofs.Placement.Running.{RanIn}
+use Rattle.executor_laws.proofs.Placement.Safe.{Floor, KeepsSafe, Safe, floor}
+use Rattle.executor_laws.proofs.Placement.SafeActs.{IsTame, safe-act, safe-take_up_open}
+use Rattle.executor_laws.proofs.Placement.SafeRuns.{safe-put}
 
 abbrev pub BoundIn : Machine → ℕ → Type 0
 BoundIn s f = Bound s.world f (pend f s.parties) (weigh_all (appends_of f) s.parties)
@@ -71,15 +72,8 @@ appends-wait g (op.Tick tick_op.MakeTick) = omega arith
 appends-wait g (op.Run run_op.MakeRoom) = omega arith
 appends-wait g (op.Closing closing_op.Close) = omega arith
 appends-wait g (op.Steal (steal_op.Length s)) = omega arith
-appends-wait g (op.Steal (steal_op.OwnLength s n)) = omega arith
-appends-wait g (op.Steal (steal_op.Take s more)) = omega arith
-appends-wait g (op.Steal (steal_op.Put s more f)) = omega arith
 appends-wait g (op.List (list_op.LockWrite section.MakeRun)) = omega arith
-appends-wait g (op.List (list_op.LockWrite (section.Register x))) = omega arith
-appends-wait g (op.List (list_op.LockWrite (section.Unregister r a))) = omega arith
 appends-wait g (op.List (list_op.Write section.MakeRun)) = omega arith
-appends-wait g (op.List (list_op.Write (section.Register x))) = omega arith
-appends-wait g (op.List (list_op.Write (section.Unregister r a))) = omega arith
 appends-wait g _ = omega arith
 
 -- what stands in a run's own queue is one of those in all
@@ -87,15 +81,6 @@ own-in : (f r : ℕ) (qs : List (List ℕ)) → times f (get_or qs r []) ≤ tim
 own-in f r [] = omega arith
 own-in f zero (q ∷ qs) = omega arith
 own-in f (suc r) (q ∷ qs) = omega (arith, own-in f r qs)
-
--- and two own queues have it twice
-own-two : (f r n : ℕ) (qs : List (List ℕ)) → r ≢ n →
-    times f (get_or qs r []) + times f (get_or qs n []) ≤ times_in f qs
-own-two f r n [] k = omega arith
-own-two f zero zero (q ∷ qs) k = absurd (k refl)
-own-two f zero (suc n) (q ∷ qs) k = omega (arith, own-in f n qs)
-own-two f (suc r) zero (q ∷ qs) k = omega (arith, own-in f r qs)
-own-two f (suc r) (suc n) (q ∷ qs) k = omega (arith, own-two f r n qs (λ e. k (ap (λ (m : ℕ). suc m) e)))
 
 below : (n f : ℕ) → past n f ≡ 0 → f < n
 below n f e = grind (arith, past_is)

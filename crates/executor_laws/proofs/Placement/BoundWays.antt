@@ -1,3 +1,4 @@
+-- For due_futures_stand_with_their_keepers.
 -- So each step of a machine does, whatever it is.
 use Rattle.std.proofs.Common.{◌≡◌, ◌⊎◌, ◌∙◌, inl, inr, ⊎_elim, ℕ, zero, suc, ◌<◌, ◌≤◌, List, [], ◌∷◌}
 use Rattle.std.proofs.Common.{◌++◌, length, set, get_or, Bool, true, false, ◌&&◌, ◌||◌, not, ltb, refl}
@@ -41,32 +42,33 @@ use Rattle.executor_model.specs.Steps.{top, with_future}
 use Rattle.executor_model.specs.Weights.{weigh, weigh_all}
 use Rattle.executor_model.specs.World.{World, Stage, New, Listed, Ended, Run, Done, blank, done, log, new_run, no_run}
 use Rattle.executor_model.specs.World.{own_of, run_of, task}
-use Rattle.executor_model.proofs.Lift.{first-true, good-start, none_refused, split, unsettled, weigh_all-idle}
-use Rattle.executor_model.proofs.Lists.{weigh_all-below, weigh_all-push}
-use Rattle.executor_model.proofs.OwnCounts.{counts-begun}
-use Rattle.executor_model.proofs.OwnRooms.{Roomy, roomy-ends, roomy-moves}
-use Rattle.executor_model.proofs.RunsAside.{Hull}
-use Rattle.executor_model.proofs.TraceGrows.{Allows, AllowsCall, grows-act, grows-begun, grows-react}
-use Rattle.executor_model.proofs.Using.{emptying-uses, emptying_of}
-use Rattle.executor_model.proofs.UsingSteps.{AllUsed, used-ends, used-moves, used-start}
-use Rattle.executor_model.proofs.UsingWorlds.{count-set, is_over_stage, is_past}
-use Rattle.executor_model.proofs.Ways.{Way, along}
-use Rattle.executor_model.proofs.Ways.Way.{acted, reacted, called}
-use Rattle.runs_reach.proofs.Bound.{Tied, bound-drop, bound-same, is_bond, ordinary-bond, tied-grows, tied-one}
-use Rattle.runs_reach.proofs.Bound.{tied-same}
-use Rattle.runs_reach.proofs.Bonds.{Bond, bond, bond-none}
-use Rattle.runs_reach.proofs.BoundSteps.{BoundIn, bound-even, bound-put, bound-take_up, keeps, safe-on, same-even}
-use Rattle.runs_reach.proofs.BoundSteps.{scheduled}
-use Rattle.runs_reach.proofs.Evens.{even-act, even-react, is_even}
-use Rattle.runs_reach.proofs.Frames.{Frames, frames-ends, frames-moves, frames-start}
-use Rattle.runs_reach.proofs.Leavings.{dropping_of, off_of}
-use Rattle.runs_reach.proofs.Running.{RanIn}
-use Rattle.runs_reach.proofs.RunningCalls.{ran-end}
-use Rattle.runs_reach.proofs.Leavings.{drops_run}
-use Rattle.runs_reach.proofs.Opens.{le-or}
-use Rattle.runs_reach.proofs.RunningSteps.{free, ran-way, runs-begun}
-use Rattle.runs_reach.proofs.Safe.{KeepsSafe}
-use Rattle.runs_reach.proofs.SafeActs.{IsTame, safe-pending, safe-ready}
+use Rattle.executor_model.proofs.Steps.Lift.{first-true, good-start, none_refused, split, unsettled, weigh_all-idle}
+use Rattle.executor_model.proofs.Steps.Lists.{weigh_all-below, weigh_all-push}
+use Rattle.executor_model.proofs.OwnQueues.OwnCounts.{counts-begun}
+use Rattle.executor_model.proofs.OwnQueues.OwnRooms.{Roomy, roomy-ends, roomy-moves}
+use Rattle.executor_model.proofs.OwnQueues.RunsAside.{Hull}
+use Rattle.executor_model.proofs.Steps.TraceGrows.{Allows, AllowsCall, grows-act, grows-begun, grows-react}
+use Rattle.executor_model.proofs.OwnQueues.Using.{emptying-uses, emptying_of}
+use Rattle.executor_model.proofs.OwnQueues.UsingSteps.{AllUsed, used-ends, used-moves, used-start}
+use Rattle.executor_model.proofs.OwnQueues.UsingWorlds.{count-set, is_over_stage, is_past}
+use Rattle.executor_model.proofs.Steps.Ways.{Way, along}
+use Rattle.executor_model.proofs.Steps.Ways.Way.{acted, reacted, called}
+use Rattle.executor_laws.proofs.Placement.Bound.{Tied, bound-drop, bound-same, is_bond, ordinary-bond, tied-grows, tied-one}
+use Rattle.executor_laws.proofs.Placement.Bound.{tied-same}
+use Rattle.executor_laws.proofs.Placement.Bonds.{Bond, bond, bond-none}
+use Rattle.executor_laws.proofs.Placement.BoundSteps.{BoundIn, bound-even, bound-put, bound-take_up, keeps, safe-on, same-even}
+use Rattle.executor_laws.proofs.Placement.BoundSteps.{scheduled}
+use Rattle.executor_laws.proofs.Placement.Evens.{even-act, even-react}
+use Rattle.executor_model.proofs.OwnQueues.UsingRuns.{is_even}
+use Rattle.executor_laws.proofs.Placement.Frames.{Frames, frames-ends, frames-moves, frames-start}
+use Rattle.executor_laws.proofs.Placement.Leavings.{dropping_of, off_of}
+use Rattle.executor_laws.proofs.Placement.Running.{RanIn}
+use Rattle.executor_laws.proofs.Placement.RunningCalls.{ran-end}
+use Rattle.executor_laws.proofs.Placement.Leavings.{drops_run}
+use Rattle.executor_laws.proofs.Placement.Opens.{le-or}
+use Rattle.executor_laws.proofs.Placement.RunningSteps.{free, ran-way, runs-begun}
+use Rattle.executor_laws.proofs.Placement.Safe.{KeepsSafe}
+use Rattle.executor_laws.proofs.Placement.SafeActs.{IsTame, safe-pending, safe-ready}
 
 -- a run that is put back is that, and the others are as they were
 run-set : (rs : List Run) (q : ℕ) (y : Run) (r : ℕ) →
@@ -139,18 +141,7 @@ idles-begun p w o call.WakeSelf = idles-with w _ (future_of o) _ refl refl
     (λ f. idles w _ _ refl refl (λ g. refl) (λ g. refl) (λ g. refl))
 idles-begun p w o (call.PollRun q b) = idles-poll w _ _ _ refl refl
 idles-begun p w o (call.DropRun q) = idles-drop w _ _ q refl refl
-idles-begun p w o call.Spawn = idles w _ _ refl refl (λ g. refl) (λ g. refl) (λ g. refl)
-idles-begun p w o call.TryTick = idles w _ _ refl refl (λ g. refl) (λ g. refl) (λ g. refl)
-idles-begun p w o call.IsEmpty = idles w _ _ refl refl (λ g. refl) (λ g. refl) (λ g. refl)
-idles-begun p w o (call.PollHandle f b) = idles w _ _ refl refl (λ g. refl) (λ g. refl) (λ g. refl)
-idles-begun p w o (call.Cancel f) = idles w _ _ refl refl (λ g. refl) (λ g. refl) (λ g. refl)
-idles-begun p w o (call.Detach f) = idles w _ _ refl refl (λ g. refl) (λ g. refl) (λ g. refl)
-idles-begun p w o (call.DropHandle f) = idles w _ _ refl refl (λ g. refl) (λ g. refl) (λ g. refl)
-idles-begun p w o call.NewTick = idles w _ _ refl refl (λ g. refl) (λ g. refl) (λ g. refl)
-idles-begun p w o (call.PollTick t b) = idles w _ _ refl refl (λ g. refl) (λ g. refl) (λ g. refl)
-idles-begun p w o (call.DropTick t) = idles w _ _ refl refl (λ g. refl) (λ g. refl) (λ g. refl)
-idles-begun p w o call.NewRun = idles w _ _ refl refl (λ g. refl) (λ g. refl) (λ g. refl)
-idles-begun p w o call.DropExecutor = idles w _ _ refl refl (λ g. refl) (λ g. refl) (λ g. refl)
+idles-begun p w o _ = idles w _ _ refl refl (λ g. refl) (λ g. refl) (λ g. refl)
 
 keeps-idle : (w : World) (d : Done) → Idles w d → KeepsSafe w [] d
 keeps-idle w d i g r n b h = record {

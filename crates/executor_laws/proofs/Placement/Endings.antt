@@ -1,3 +1,4 @@
+-- For due_futures_stand_with_their_keepers.
 -- How a call ends that is in progress, and that it has one end.
 use Rattle.std.proofs.Common.{◌≡◌, ◌⊎◌, ◌∙◌, inl, inr, ⊎_elim, ℕ, suc, ◌<◌, ◌≤◌, [], ◌∷◌, ◌++◌}
 use Rattle.std.proofs.Common.{length, take, refl, sym, ap, subst, arith}
@@ -8,8 +9,8 @@ use Rattle.executor_model.specs.declared.event.Event.TheVariants as event
 use Rattle.executor_model.specs.AwaiterKept.{EndsWith, since}
 use Rattle.executor_model.specs.Quiet.{begins_call, ends_call}
 use Rattle.executor_model.specs.Trace.{Trace}
-use Rattle.executor_model.proofs.Calls.{begun_by, ended_by}
-use Rattle.runs_reach.proofs.Opens.{get-old, get-new, get-within, get-push, since-old, take-old, take-all, le-or, IsOpen}
+use Rattle.executor_model.proofs.Quiet.Calls.{begun_by, ended_by}
+use Rattle.executor_laws.proofs.Placement.Opens.{get-old, get-new, get-within, get-push, since-old, take-old, take-all, le-or, IsOpen}
 
 begun-is : (p : ℕ) (es : Trace) → begun_by p es ≡ count_by (begins_call p) es
 unfolding begun_by

@@ -1,3 +1,4 @@
+-- For due_futures_stand_with_their_keepers.
 -- Each call of a party that is in progress has one thing on the party's stack that answers it, and that of a run's poll
 -- answers that.
 use Rattle.std.proofs.Common.{◌≡◌, ◌≢◌, ◌⊎◌, ◌∙◌, inl, inr, ℕ, ◌+◌, ◌<◌, ◌≤◌, List, [], ◌∷◌, ◌++◌}
@@ -34,19 +35,19 @@ use Rattle.executor_model.specs.Steps.{with_future}
 use Rattle.executor_model.specs.Trace.{Trace, has}
 use Rattle.executor_model.specs.Weights.{same, weigh}
 use Rattle.executor_model.specs.World.{World, Stage, New, Listed, Ended, Done, done, log, run_of}
-use Rattle.executor_model.proofs.Calls.{calling_of, Answering, single, then}
-use Rattle.executor_model.proofs.CallsGroups.{calls-act}
-use Rattle.executor_model.proofs.Lift.{none_refused, unsettled, good-start}
-use Rattle.executor_model.proofs.Lists.{same_is, weigh-append, weigh-below}
-use Rattle.executor_model.proofs.Resting.{Opens, idle-stack, opens as begins-answering}
-use Rattle.executor_model.proofs.AwaitedTies.{stack-then}
-use Rattle.executor_model.proofs.TraceGrows.{Grows, Allows, is_ordinary, grows-act, grows-begun, grows-react}
-use Rattle.executor_model.proofs.Ways.{Way, along}
-use Rattle.executor_model.proofs.Ways.Way.{acted, reacted, called}
-use Rattle.executor_model.proofs.Tests.{left-false, right-false}
-use Rattle.runs_reach.proofs.Answering.{answers_of, other_of, few, Hands, hands-act, hands-react, is_end}
-use Rattle.runs_reach.proofs.Opens.{Open, opens, opens_one, opens-push, opens-none}
-use Rattle.runs_reach.proofs.Opened.{Tells, at, tells-none, tells-push, tells-poll, polls_no_run}
+use Rattle.executor_model.proofs.Quiet.Calls.{calling_of, Answering, single, then}
+use Rattle.executor_model.proofs.Quiet.CallsGroups.{calls-act}
+use Rattle.executor_model.proofs.Steps.Lift.{none_refused, unsettled, good-start}
+use Rattle.executor_model.proofs.Steps.Lists.{same_is, weigh-append, weigh-below}
+use Rattle.executor_model.proofs.Quiet.Resting.{Opens, idle-stack, opens as begins-answering}
+use Rattle.executor_model.proofs.Awaiters.AwaitedTies.{stack-then}
+use Rattle.executor_model.proofs.Steps.TraceGrows.{Grows, Allows, is_ordinary, grows-act, grows-begun, grows-react}
+use Rattle.executor_model.proofs.Steps.Ways.{Way, along}
+use Rattle.executor_model.proofs.Steps.Ways.Way.{acted, reacted, called}
+use Rattle.executor_model.proofs.Steps.Tests.{left-false, right-false}
+use Rattle.executor_laws.proofs.Placement.Answering.{answers_of, other_of, few, Hands, hands-act, hands-react, is_end}
+use Rattle.executor_laws.proofs.Placement.Opens.{Open, opens, opens_one, opens-push, opens-none}
+use Rattle.executor_laws.proofs.Placement.Opened.{Tells, at, tells-none, tells-push, tells-poll, polls_no_run}
 
 -- this answers the call
 abbrev pub Fits : Op → Open → Type 0
@@ -263,26 +264,15 @@ none-drop Listed q = record { answers = λ r. refl }
 none-drop Ended q = record { answers = λ r. refl }
 
 none-begun : (p : ℕ) (w : World) (o : Option Waker) (c : Call) → polls_run c ≡ false → NoAnswer (begun p w o c).next
-none-begun p w o call.Spawn z = record { answers = λ r. refl }
-none-begun p w o call.TryTick z = record { answers = λ r. refl }
-none-begun p w o call.IsEmpty z = record { answers = λ r. refl }
 none-begun p w o (call.Wake k) z = none-with w (kept w k) _ (λ f. record { answers = λ r. refl })
 none-begun p w o (call.WakeByRef k) z = none-with w (kept w k) _ (λ f. record { answers = λ r. refl })
 none-begun p w o (call.Copy k) z = none-with w (kept w k) _ (λ f. record { answers = λ r. refl })
 none-begun p w o (call.DropWaker k) z = none-with w (kept w k) _ (λ f. record { answers = λ r. refl })
 none-begun p w o call.Keep z = none-with w (future_of o) _ (λ f. record { answers = λ r. refl })
 none-begun p w o call.WakeSelf z = none-with w (future_of o) _ (λ f. record { answers = λ r. refl })
-none-begun p w o (call.PollHandle f b) z = record { answers = λ r. refl }
-none-begun p w o (call.Cancel f) z = record { answers = λ r. refl }
-none-begun p w o (call.Detach f) z = record { answers = λ r. refl }
-none-begun p w o (call.DropHandle f) z = record { answers = λ r. refl }
-none-begun p w o call.NewTick z = record { answers = λ r. refl }
-none-begun p w o (call.PollTick t b) z = record { answers = λ r. refl }
-none-begun p w o (call.DropTick t) z = record { answers = λ r. refl }
-none-begun p w o call.NewRun z = record { answers = λ r. refl }
 none-begun p w o (call.PollRun q b) z = absurd (cc)
 none-begun p w o (call.DropRun q) z = none-drop _ q
-none-begun p w o call.DropExecutor z = record { answers = λ r. refl }
+none-begun p w o _ z = record { answers = λ r. refl }
 
 self-same : (r : ℕ) → same r r ≡ 1
 self-same r = grind (arith, same_is)

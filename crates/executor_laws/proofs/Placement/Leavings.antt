@@ -1,3 +1,4 @@
+-- For due_futures_stand_with_their_keepers.
 -- Who leaves the list of queues, as the run's own future was ready or the run is dropped, goes on to leave it until its
 -- call ends; and nobody else begins to.
 use Rattle.std.proofs.Common.{◌≡◌, ◌∙◌, ℕ, zero, suc, ◌≤◌, ◌%◌, List, [], ◌∷◌}
@@ -23,8 +24,8 @@ use Rattle.executor_model.specs.declared.op.RunOp.TheVariants as run_op
 use Rattle.executor_model.specs.declared.op.RunPoll.{RunPoll}
 use Rattle.executor_model.specs.declared.op.Section.{Section}
 use Rattle.executor_model.specs.declared.op.Section.TheVariants as section
-use Rattle.executor_model.specs.declared.op.Sleeper.{Sleeper}
-use Rattle.executor_model.specs.declared.op.Sleeper.TheVariants as sleeper
+use Rattle.executor_model.specs.declared.op.TickOrRun.{TickOrRun}
+use Rattle.executor_model.specs.declared.op.TickOrRun.TheVariants as tick_or_run
 use Rattle.executor_model.specs.declared.op.Sleeping.{Sleeping}
 use Rattle.executor_model.specs.declared.op.Steal.{Steal}
 use Rattle.executor_model.specs.declared.op.Then.{Then}
@@ -39,21 +40,22 @@ use Rattle.executor_model.specs.declared.step.UserEnd.{UserEnd}
 use Rattle.executor_model.specs.declared.step.UserEnd.TheVariants as end
 use Rattle.executor_model.specs.Acts.{copy_by}
 use Rattle.executor_model.specs.ActsOfRuns.{call_by_reference, make_room_by, make_run_by, reschedule_by, steal_by, wake_own}
-use Rattle.executor_model.specs.ActsOfSleepers.{copy_sleeper_by, lie_again_by, lie_anew_by, lie_down_by}
-use Rattle.executor_model.specs.ActsOfSleepers.{lie_listed_by, pend_as, search_by, sleeper_goes}
+use Rattle.executor_model.specs.ActsOfSleepers.{copy_sleeper_by, sleep_again_by, sleep_anew_by, fall_asleep_by}
+use Rattle.executor_model.specs.ActsOfSleepers.{sleep_listed_by, pend_as, search_by, sleeper_goes}
 use Rattle.executor_model.specs.Doing.{act, list_act, run_act, search_by_who}
 use Rattle.executor_model.specs.Rows.{running_of}
 use Rattle.executor_model.specs.Steps.{accepts, begun, drop_run, future_of, kept, poll_run, react, with_future}
 use Rattle.executor_model.specs.Weights.{same, weigh}
-use Rattle.executor_model.specs.World.{World, Place, Up, Lies, Left, Stage, New, Listed, Ended, Done, log, own_of, task}
-use Rattle.executor_model.proofs.Asides.{aside-owed}
-use Rattle.executor_model.proofs.Calls.{calling_of}
-use Rattle.executor_model.proofs.Lists.{same_is, weigh-append, weigh-below}
-use Rattle.executor_model.proofs.RunsMoving.{Weighs, by_then, weighs-stolen}
-use Rattle.executor_model.proofs.SleepersNext.{goes-unseen}
-use Rattle.executor_model.proofs.Using.{Mild, is_for_runs, mild-aside, mild-next}
-use Rattle.executor_model.proofs.UsingRuns.{Part, part-common, part-look, part-own, part-steal, part-walk, poll_in}
-use Rattle.runs_reach.proofs.Answering.{is_end, readying_of}
+use Rattle.executor_model.specs.World.{World, Ticker, Awake, Asleep, Left, Stage, New, Listed, Ended, Done, log, own_of, task}
+use Rattle.executor_model.proofs.Steps.Asides.{aside-owed}
+use Rattle.executor_model.proofs.Quiet.Calls.{calling_of}
+use Rattle.executor_model.proofs.Steps.Lists.{same_is, weigh-append, weigh-below}
+use Rattle.executor_model.proofs.OwnQueues.RunsMoving.{Weighs, by_then, weighs-stolen}
+use Rattle.executor_model.proofs.Steps.SleepersNext.{goes-unseen}
+use Rattle.executor_model.proofs.OwnQueues.Using.{Mild, is_for_runs, mild-aside, mild-next}
+use Rattle.executor_model.proofs.OwnQueues.UsingRuns.{Part, part-common, part-look, part-own, part-steal, part-walk}
+use Rattle.executor_model.proofs.OwnQueues.RunsDone.{poll_in}
+use Rattle.executor_laws.proofs.Placement.Answering.{is_end, readying_of}
 
 -- it has left the list as it was ready
 abbrev pub off_of : ℕ → Op → ℕ
@@ -96,30 +98,20 @@ off-leaves r _ = omega arith
 
 pub dropping-leaves : (r : ℕ) (o : Op) → dropping_of r o ≤ leaving_of r o
 dropping-leaves r (op.List (list_op.LockWrite (section.Unregister q reply.Ready))) = omega arith
-dropping-leaves r (op.List (list_op.LockWrite (section.Unregister q a))) = omega arith
 dropping-leaves r (op.List (list_op.Write (section.Unregister q reply.Ready))) = omega arith
-dropping-leaves r (op.List (list_op.Write (section.Unregister q a))) = omega arith
 dropping-leaves r (op.Run (run_op.Reschedule q reply.Ready)) = omega arith
-dropping-leaves r (op.Run (run_op.Reschedule q a)) = omega arith
 dropping-leaves r _ = omega arith
 
 pub readying-leaves : (r : ℕ) (o : Op) → readying_of r o ≤ leaving_of r o
 readying-leaves r (op.List (list_op.LockWrite (section.Unregister q reply.Ready))) = omega arith
-readying-leaves r (op.List (list_op.LockWrite (section.Unregister q a))) = omega arith
 readying-leaves r (op.List (list_op.Write (section.Unregister q reply.Ready))) = omega arith
-readying-leaves r (op.List (list_op.Write (section.Unregister q a))) = omega arith
 readying-leaves r (op.Run (run_op.Reschedule q reply.Ready)) = omega arith
-readying-leaves r (op.Run (run_op.Reschedule q a)) = omega arith
 readying-leaves r (op.End reply.Ready (hold.Run q)) = omega arith
 readying-leaves r _ = omega arith
 
 pub leaving-uses : (r : ℕ) (o : Op) → leaving_of r o ≤ running_of r o
 leaving-uses r (op.List (list_op.LockWrite section.MakeRun)) = omega arith
-leaving-uses r (op.List (list_op.LockWrite (section.Register x))) = omega arith
-leaving-uses r (op.List (list_op.LockWrite (section.Unregister q a))) = omega arith
 leaving-uses r (op.List (list_op.Write section.MakeRun)) = omega arith
-leaving-uses r (op.List (list_op.Write (section.Register x))) = omega arith
-leaving-uses r (op.List (list_op.Write (section.Unregister q a))) = omega arith
 leaving-uses r (op.Run (run_op.Reschedule q a)) = omega arith
 leaving-uses r (op.End reply.Ready (hold.Run q)) = omega arith
 leaving-uses r _ = omega arith
@@ -178,31 +170,31 @@ leaves (op.Run (run_op.Reschedule q a)) = true
 leaves (op.End a held) = true
 leaves _ = false
 
-search-none : (r : ℕ) (x : Place) (w : World) (q : List ℕ) (s : Sleeping) (t : ℕ) → s.who ≡ sleeper.Tick t →
+search-none : (r : ℕ) (x : Ticker) (w : World) (q : List ℕ) (s : Sleeping) (t : ℕ) → s.who ≡ tick_or_run.Tick t →
     weigh (leaving_of r) (search_by x w q s).next ≡ 0
 search-none r x w [] s t e = refl
 search-none r x w (f ∷ rest) s t e = by x s.who t e
   where
-    by : (x : Place) (who : Sleeper) (t : ℕ) → who ≡ sleeper.Tick t →
+    by : (x : Ticker) (who : TickOrRun) (t : ℕ) → who ≡ tick_or_run.Tick t →
         weigh (leaving_of r) (search_by x w (f ∷ rest) (record s { who = who })).next ≡ 0
-    by Up (sleeper.Tick u) t e = refl
-    by (Lies n) (sleeper.Tick u) t e = refl
-    by Left (sleeper.Tick u) t e = refl
-    by x (sleeper.Run u) t e = absurd (cc)
+    by Awake (tick_or_run.Tick u) t e = refl
+    by (Asleep n) (tick_or_run.Tick u) t e = refl
+    by Left (tick_or_run.Tick u) t e = refl
+    by x (tick_or_run.Run u) t e = absurd (cc)
 
 module _ (r : ℕ) (s : Sleeping) where
   pends : weigh (leaving_of r) (pend_as s.who) ≡ 0
   pends = refl
 
-  none-anew : (b : Bool) (w : World) → weigh (leaving_of r) (lie_anew_by b w s).next ≡ 0
+  none-anew : (b : Bool) (w : World) → weigh (leaving_of r) (sleep_anew_by b w s).next ≡ 0
   none-anew true w = refl
   none-anew false w = refl
 
-  none-listed : (b : Bool) (w : World) (k : ℕ) → weigh (leaving_of r) (lie_listed_by b w k s).next ≡ 0
+  none-listed : (b : Bool) (w : World) (k : ℕ) → weigh (leaving_of r) (sleep_listed_by b w k s).next ≡ 0
   none-listed true w k = refl
   none-listed false w k = refl
 
-  none-again : (o : Option ℕ) (w : World) (k : ℕ) → weigh (leaving_of r) (lie_again_by o w k s).next ≡ 0
+  none-again : (o : Option ℕ) (w : World) (k : ℕ) → weigh (leaving_of r) (sleep_again_by o w k s).next ≡ 0
   none-again None w k = none-listed _ w k
   none-again (Some at) w k = let old = waker_at (Some at) w.sleepers.wakers in
       omega (
@@ -211,10 +203,10 @@ module _ (r : ℕ) (s : Sleeping) where
         goes-unseen (leaving_of r) (λ f. refl) old,
       )
 
-  none-lie : (x : Place) (w : World) → weigh (leaving_of r) (lie_down_by x w s).next ≡ 0
-  none-lie Up w = none-anew _ w
-  none-lie (Lies k) w = none-again _ w k
-  none-lie Left w = refl
+  none-sleep : (x : Ticker) (w : World) → weigh (leaving_of r) (fall_asleep_by x w s).next ≡ 0
+  none-sleep Awake w = none-anew _ w
+  none-sleep (Asleep k) w = none-again _ w k
+  none-sleep Left w = refl
 
 none-copy : (r : ℕ) (b : Bool) (w : World) (s : Sleeping) → weigh (leaving_of r) (copy_sleeper_by b w s).next ≡ 0
 none-copy r true w s = refl
@@ -230,16 +222,12 @@ none-make r false w = refl
 
 none-list : (r : ℕ) (h : Hint) (o : ListOp) (w : World) → leaves (op.List o) ≡ false →
     weigh (leaving_of r) (list_act h o w).next ≡ 0
-none-list r h (list_op.LockWrite section.MakeRun) w e = refl
-none-list r h (list_op.LockWrite (section.Register x)) w e = refl
 none-list r h (list_op.LockWrite (section.Unregister q a)) w e = absurd (cc)
 none-list r h (list_op.Write section.MakeRun) w e = none-make r h.refused w
-none-list r h (list_op.Write (section.Register x)) w e = refl
 none-list r h (list_op.Write (section.Unregister q a)) w e = absurd (cc)
-none-list r h list_op.UnlockWrite w e = refl
 none-list r h (list_op.LockRead x) w e =
     part-walk (leaving_of r) (mild r) x 0 (part r x) w.listed (h.start % length w.listed) (length w.listed)
-none-list r h list_op.UnlockRead w e = refl
+none-list r h _ w e = refl
 
 none-room : (r : ℕ) (b : Bool) (w : World) → weigh (leaving_of r) (make_room_by b w).next ≡ 0
 none-room r true w = refl
@@ -268,10 +256,10 @@ none-run r p h (run_op.LookOwn x at left) w e =
 none-run r p h (run_op.WakeOwn x) w e = none-own r p w x
 none-run r p h (run_op.Reschedule q a) w e = absurd (cc)
 
-none-search : (r : ℕ) (who : Sleeper) (w : World) (s : Sleeping) → s.who ≡ who →
+none-search : (r : ℕ) (who : TickOrRun) (w : World) (s : Sleeping) → s.who ≡ who →
     weigh (leaving_of r) (search_by_who who w s).next ≡ 0
-none-search r (sleeper.Tick t) w s e = search-none r _ w w.queue.items s t e
-none-search r (sleeper.Run q) w s e =
+none-search r (tick_or_run.Tick t) w s e = search-none r _ w w.queue.items s t e
+none-search r (tick_or_run.Run q) w s e =
     let x : RunPoll = record { run = q; waker = s.waker; poll = s.poll } in
     part-own (leaving_of r) (mild r) x 0 (part r x) (own_of w q) w
 
@@ -280,7 +268,7 @@ none-by : (b : Bool) (r p : ℕ) (h : Hint) (o : Op) (w : World) → is_for_runs
 none-by false r p h o w n e = mild-next (leaving_of r) (mild r) p h o w n
 none-by true r p h (op.Tick (tick_op.Search s)) w n e = none-search r s.who w s refl
 none-by true r p h (op.Tick (tick_op.CopyWaker s)) w n e = none-copy r _ w s
-none-by true r p h (op.Tick (tick_op.LieDown s)) w n e = none-lie r s _ w
+none-by true r p h (op.Tick (tick_op.FallAsleep s)) w n e = none-sleep r s _ w
 none-by true r p h (op.User (user_op.PollOwn x)) w n e = refl
 none-by true r p h (op.Waker (waker_op.CopyWaker f held)) w n e = none-waker r _ w f held
 none-by true r p h (op.List o) w n e = none-list r h o w e

@@ -1,3 +1,4 @@
+-- For due_futures_stand_with_their_keepers.
 -- The calls that a trace tells of as in progress are those that are, each poll of a run at its place.
 use Rattle.std.proofs.Common.{◌≡◌, ◌∙◌, ⊎_elim, ℕ, zero, suc, ◌+◌, ◌<◌, ◌≤◌, List, [], ◌∷◌, ◌++◌}
 use Rattle.std.proofs.Common.{length, drop, Bool, true, false, eqb, cond, refl, sym, ap, subst, arith}
@@ -8,11 +9,11 @@ use Rattle.executor_model.specs.declared.event.Event.{Event}
 use Rattle.executor_model.specs.declared.event.Event.TheVariants as event
 use Rattle.executor_model.specs.Trace.{Trace}
 use Rattle.executor_model.specs.Weights.{same}
-use Rattle.executor_model.proofs.Calls.{begin_of, end_of}
-use Rattle.executor_model.proofs.Lists.{same_is}
-use Rattle.executor_model.proofs.Dueness.{by_last}
-use Rattle.runs_reach.proofs.Opens.{Open, opens, opens_one, opens-push, opens-none, get-old, get-new}
-use Rattle.runs_reach.proofs.Opens.{get-push, IsOpen, open-push, open-now, Before, open-before}
+use Rattle.executor_model.proofs.Quiet.Calls.{begin_of, end_of}
+use Rattle.executor_model.proofs.Steps.Lists.{same_is}
+use Rattle.executor_model.proofs.Polls.Dueness.{by_last}
+use Rattle.executor_laws.proofs.Placement.Opens.{Open, opens, opens_one, opens-push, opens-none, get-old, get-new}
+use Rattle.executor_laws.proofs.Placement.Opens.{get-push, IsOpen, open-push, open-now, Before, open-before}
 
 abbrev pub at : List Open → ℕ → Option Open
 at s d = slice_get s d

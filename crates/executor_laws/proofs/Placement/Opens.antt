@@ -1,3 +1,4 @@
+-- For due_futures_stand_with_their_keepers.
 -- Which calls of a party are in progress, read from a trace; and how a call ends that is.
 use Rattle.std.proofs.Common.{◌≡◌, ◌⊎◌, ◌∙◌, inl, inr, ⊎_elim, ℕ, zero, suc, ◌+◌, ◌-◌, ◌<◌, ◌≤◌, List, [], ◌∷◌, ◌++◌}
 use Rattle.std.proofs.Common.{length, drop, take, eqb, cond, refl, sym, ap, subst, arith}
@@ -7,7 +8,7 @@ use Rattle.executor_model.specs.declared.event.Event.{Event}
 use Rattle.executor_model.specs.declared.event.Event.TheVariants as event
 use Rattle.executor_model.specs.AwaiterKept.{since}
 use Rattle.executor_model.specs.Trace.{Trace}
-use Rattle.executor_model.proofs.Calls.{begun_by, ended_by, begin_of, end_of, begun-push, ended-push}
+use Rattle.executor_model.proofs.Quiet.Calls.{begun_by, ended_by, begin_of, end_of, begun-push, ended-push}
 
 -- a call that is in progress: of a poll of a run, that run and the place at which the poll is told of
 abbrev pub Open : Type 0

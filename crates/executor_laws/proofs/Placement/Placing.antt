@@ -1,3 +1,4 @@
+-- For due_futures_stand_with_their_keepers.
 -- Where no call is in progress a due future stands with its keeper, and in the executor's queue where it has none.
 use Rattle.std.proofs.Common.{◌≡◌, ◌⊎◌, ◌∙◌, inl, inr, ⊎_elim, ℕ, zero, suc, ◌+◌, ◌<◌, ◌≤◌, List, [], ◌∷◌}
 use Rattle.std.proofs.Common.{get_or, Bool, true, false, ◌||◌, refl, sym, ap, subst, arith}
@@ -17,20 +18,20 @@ use Rattle.executor_model.specs.Steps.{Machine, run, stack, start}
 use Rattle.executor_model.specs.Trace.{Trace, has, is_accepted, is_dropped, is_ready}
 use Rattle.executor_model.specs.Weights.{weigh_all}
 use Rattle.executor_model.specs.World.{Ended, own_of, run_of, task}
-use Rattle.executor_model.proofs.AskingRuns.{Heard, heard}
-use Rattle.executor_model.proofs.Lift.{good}
-use Rattle.executor_model.proofs.Resting.{Deep, all-rest, deep, rests}
-use Rattle.executor_model.proofs.Stories.{story}
-use Rattle.executor_model.proofs.Telling.{accepted-counts, begun-has, counted-there, fallen-counts, there-or-none}
-use Rattle.executor_model.proofs.Using.{emptying_of}
-use Rattle.executor_model.proofs.UsingWorlds.{is_over_stage, is_past}
-use Rattle.executor_model.proofs.Dueness.{asked-is, not-over, ready-is, unopened}
-use Rattle.runs_reach.specs.Places.{StandsWithKeeper}
-use Rattle.runs_reach.proofs.Answering.{readying_of}
-use Rattle.runs_reach.proofs.Bonds.{Bond, bond, bond-is, reads}
-use Rattle.runs_reach.proofs.BoundWays.{Bonded, bonded}
-use Rattle.runs_reach.proofs.Ran.{AllReady}
-use Rattle.runs_reach.proofs.Safe.{Safe}
+use Rattle.executor_model.proofs.Polls.AskingExecutions.{Heard, heard}
+use Rattle.executor_model.proofs.Steps.Lift.{good}
+use Rattle.executor_model.proofs.Quiet.Resting.{Deep, all-rest, deep, rests}
+use Rattle.executor_model.proofs.OneFuture.Stories.{story}
+use Rattle.executor_model.proofs.OneFuture.Telling.{accepted-counts, begun-has, counted-there, fallen-counts, there-or-none}
+use Rattle.executor_model.proofs.OwnQueues.Using.{emptying_of}
+use Rattle.executor_model.proofs.OwnQueues.UsingWorlds.{is_over_stage, is_past}
+use Rattle.executor_model.proofs.Polls.Dueness.{asked-is, not-over, ready-is, unopened}
+use Rattle.executor_laws.specs.Places.{StandsWithKeeper}
+use Rattle.executor_laws.proofs.Placement.Answering.{readying_of}
+use Rattle.executor_laws.proofs.Placement.Bonds.{Bond, bond, bond-is, reads}
+use Rattle.executor_laws.proofs.Placement.BoundWays.{Bonded, bonded}
+use Rattle.executor_laws.proofs.Placement.Ran.{AllReady}
+use Rattle.executor_laws.proofs.Placement.Safe.{Safe}
 
 no-true : (a : Bool) → (a ≡ true → ⊥) → a ≡ false
 no-true true k = absurd (k refl)

@@ -1,3 +1,4 @@
+-- For due_futures_stand_with_their_keepers.
 -- What holds of each run at every moment, and how the trace tells of its drop and of its end.
 use Rattle.std.proofs.Common.{◌≡◌, ◌⊎◌, ◌∙◌, ⊎_elim, ℕ, ◌<◌, ◌≤◌, [], ◌∷◌}
 use Rattle.std.proofs.Common.{◌++◌, length, Bool, true, false, ◌||◌, eqb, refl, sym, ap, arith}
@@ -6,19 +7,19 @@ use Rattle.std.specs.Prelude.{Some, slice_get}
 use Rattle.executor_model.specs.declared.call.Reply.TheVariants as reply
 use Rattle.executor_model.specs.declared.event.Event.{Event}
 use Rattle.executor_model.specs.declared.event.Event.TheVariants as event
-use Rattle.executor_model.specs.declared.op.Sleeper.TheVariants as sleeper
+use Rattle.executor_model.specs.declared.op.TickOrRun.TheVariants as tick_or_run
 use Rattle.executor_model.specs.AwaiterKept.{EndsWith, since}
 use Rattle.executor_model.specs.Keeper.{AnswersReady, is_run_drop}
 use Rattle.executor_model.specs.Standing.{polls_sleeper}
 use Rattle.executor_model.specs.Trace.{Trace, has}
 use Rattle.executor_model.specs.World.{World, Ended, run_of}
-use Rattle.executor_model.proofs.TraceGrows.{is_ordinary}
-use Rattle.executor_model.proofs.UsingWorlds.{is_over_stage, is_past}
-use Rattle.executor_model.proofs.Pushes.{any-push}
-use Rattle.executor_model.proofs.TraceMore.{over-more}
-use Rattle.executor_model.proofs.Tests.{or-left, or-right}
-use Rattle.runs_reach.proofs.Endings.{ends-before, ends-later}
-use Rattle.runs_reach.proofs.Opens.{IsOpen, get-old, get-push, get-within, since-new}
+use Rattle.executor_model.proofs.Steps.TraceGrows.{is_ordinary}
+use Rattle.executor_model.proofs.OwnQueues.UsingWorlds.{is_over_stage, is_past}
+use Rattle.executor_model.proofs.Steps.Pushes.{any-push}
+use Rattle.executor_model.proofs.Steps.TraceMore.{over-more}
+use Rattle.executor_model.proofs.Steps.Tests.{or-right}
+use Rattle.executor_laws.proofs.Placement.Endings.{ends-before, ends-later}
+use Rattle.executor_laws.proofs.Placement.Opens.{IsOpen, get-old, get-push, get-within, since-new}
 
 -- whatever came into run r's own queue, its own future was ready since
 abbrev pub AllReady : ℕ → Trace → Type 0
@@ -32,7 +33,7 @@ ReadyOnly r es b =
 pub record Ran (w : World) (r offs drops readies : ℕ) : Type 0 where
   pub past : has (is_run_drop r) w.trace ≡ true → is_past (run_of w r) ≡ true
   pub unborn : length w.runs ≤ r →
-      (has (is_run_drop r) w.trace ≡ false) × (has (polls_sleeper (sleeper.Run r)) w.trace ≡ false)
+      (has (is_run_drop r) w.trace ≡ false) × (has (polls_sleeper (tick_or_run.Run r)) w.trace ≡ false)
   pub off : 1 ≤ offs → (run_of w r).stage ≡ Ended
   pub dropping : 1 ≤ drops → has (is_run_drop r) w.trace ≡ true
   pub ended : (run_of w r).stage ≡ Ended →
@@ -47,9 +48,6 @@ or-false false b e = e
 
 pub has-same : (t : Event → Bool) (es : Trace) (e : Event) → t e ≡ false → has t (es ++ e ∷ []) ≡ has t es
 has-same t es e z = any-push t t es e ∙ or-false (has t es) (t e) z
-
-pub has-more : (t : Event → Bool) (es : Trace) (e : Event) → has t es ≡ true → has t (es ++ e ∷ []) ≡ true
-has-more t es e z = any-push t t es e ∙ or-left (has t es) (t e) z
 
 pub has-now : (t : Event → Bool) (es : Trace) (e : Event) → t e ≡ true → has t (es ++ e ∷ []) ≡ true
 has-now t es e z = any-push t t es e ∙ or-right (has t es) (t e) z
@@ -122,7 +120,7 @@ no-drop : (r : ℕ) (e : Event) → is_of_runs e ≡ false → is_run_drop r e �
 no-drop r (event.RunDropped p q) z = absurd (cc)
 no-drop r _ z = refl
 
-no-poll : (r : ℕ) (e : Event) → is_of_runs e ≡ false → polls_sleeper (sleeper.Run r) e ≡ false
+no-poll : (r : ℕ) (e : Event) → is_of_runs e ≡ false → polls_sleeper (tick_or_run.Run r) e ≡ false
 no-poll r (event.RunPolled p q) z = absurd (cc)
 no-poll r _ z = refl
 
@@ -137,14 +135,14 @@ no-end _ z = refl
 -- such a trace tells the same of the runs
 pub record Alike (r : ℕ) (es now : Trace) : Type 0 where
   pub drops : has (is_run_drop r) now ≡ has (is_run_drop r) es
-  pub polls : has (polls_sleeper (sleeper.Run r)) now ≡ has (polls_sleeper (sleeper.Run r)) es
+  pub polls : has (polls_sleeper (tick_or_run.Run r)) now ≡ has (polls_sleeper (tick_or_run.Run r)) es
   pub ready : AllReady r es → AllReady r now
   pub only : (S : Bool) → ReadyOnly r es S → ReadyOnly r now S
 
 pub alike-one : (r : ℕ) (es now : Trace) (e : Event) → is_of_runs e ≡ false → Alike r es now → Alike r es (now ++ e ∷ [])
 alike-one r es now e z h = record {
   drops = has-same (is_run_drop r) now e (no-drop r e z) ∙ h.drops;
-  polls = has-same (polls_sleeper (sleeper.Run r)) now e (no-poll r e z) ∙ h.polls;
+  polls = has-same (polls_sleeper (tick_or_run.Run r)) now e (no-poll r e z) ∙ h.polls;
   ready = λ a. ready-push r now e (no-keep r e z) (h.ready a);
   only = λ S a. only-push r now e S (no-end e z) (h.only S a);
 }

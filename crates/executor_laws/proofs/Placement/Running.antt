@@ -1,3 +1,4 @@
+-- For due_futures_stand_with_their_keepers.
 -- At every moment each run that has left the list of queues as it was ready is about to end its poll so, or has; and one
 -- whose poll was answered so has left.
 use Rattle.std.proofs.Common.{◌≡◌, ◌≢◌, ◌⊎◌, ◌∙◌, inl, inr, ⊎_elim, ℕ, zero, suc, ◌+◌, ◌<◌, ◌≤◌, List, [], ◌∷◌}
@@ -16,7 +17,7 @@ use Rattle.executor_model.specs.declared.op.Op.TheVariants as op
 use Rattle.executor_model.specs.declared.op.RunOp.TheVariants as run_op
 use Rattle.executor_model.specs.declared.op.RunPoll.{RunPoll}
 use Rattle.executor_model.specs.declared.op.Section.TheVariants as section
-use Rattle.executor_model.specs.declared.op.Sleeper.TheVariants as sleeper
+use Rattle.executor_model.specs.declared.op.TickOrRun.TheVariants as tick_or_run
 use Rattle.executor_model.specs.declared.op.Steal.{Steal}
 use Rattle.executor_model.specs.declared.op.StealOp.TheVariants as steal_op
 use Rattle.executor_model.specs.declared.op.UserOp.TheVariants as user_op
@@ -29,25 +30,25 @@ use Rattle.executor_model.specs.Steps.{run, stack}
 use Rattle.executor_model.specs.Trace.{Trace, has}
 use Rattle.executor_model.specs.Weights.{same, weigh, weigh_all}
 use Rattle.executor_model.specs.World.{World, Stage, New, Listed, Ended, Run, Done, done, new_run, no_run, run_of}
-use Rattle.executor_model.proofs.Lift.{split, unsettled}
-use Rattle.executor_model.proofs.Lists.{same_cases, same_is, weigh_all-below, weigh_all-push}
-use Rattle.executor_model.proofs.RunsMoves.{moves-own_length}
-use Rattle.executor_model.proofs.RunsMoving.{hull-more}
-use Rattle.executor_model.proofs.TraceGrows.{Grows}
-use Rattle.executor_model.proofs.Using.{polling_of}
-use Rattle.executor_model.proofs.UsingRuns.{idle-more}
-use Rattle.executor_model.proofs.UsingSteps.{AllUsed}
-use Rattle.executor_model.proofs.UsingWorlds.{Idle, count-set, is_over_stage, is_past}
-use Rattle.executor_model.proofs.Tests.{right-false}
-use Rattle.runs_reach.proofs.Answering.{readying_of}
-use Rattle.runs_reach.proofs.Evens.{Even, even-idle}
-use Rattle.runs_reach.proofs.Leavings.{Leaves, dropping_of, leaves-none, leaving_of}
-use Rattle.runs_reach.proofs.Leavings.{leaving-more}
-use Rattle.runs_reach.proofs.Leavings.{leaving-uses, off_of, off-leaves}
-use Rattle.runs_reach.proofs.Leavings.{dropping-leaves}
-use Rattle.runs_reach.proofs.Opens.{le-or}
-use Rattle.runs_reach.proofs.Ran.{Alike, AllReady, Ran, ReadyOnly, alike-more, has-same}
-use Rattle.runs_reach.proofs.Ran.{is_of_runs, only-push, ordinary-runs, ready-push}
+use Rattle.executor_model.proofs.Steps.Lift.{split, unsettled}
+use Rattle.executor_model.proofs.Steps.Lists.{same_cases, same_is, weigh_all-below, weigh_all-push}
+use Rattle.executor_model.proofs.Steps.RunsMoves.{moves-own_length}
+use Rattle.executor_model.proofs.OwnQueues.RunsMoving.{hull-more}
+use Rattle.executor_model.proofs.Steps.TraceGrows.{Grows}
+use Rattle.executor_model.proofs.OwnQueues.Using.{polling_of}
+use Rattle.executor_model.proofs.OwnQueues.UsingRuns.{idle-more}
+use Rattle.executor_model.proofs.OwnQueues.UsingSteps.{AllUsed}
+use Rattle.executor_model.proofs.OwnQueues.UsingWorlds.{Idle, count-set, is_over_stage, is_past}
+use Rattle.executor_model.proofs.Steps.Tests.{right-false}
+use Rattle.executor_laws.proofs.Placement.Answering.{readying_of}
+use Rattle.executor_laws.proofs.Placement.Evens.{Even, even-idle}
+use Rattle.executor_laws.proofs.Placement.Leavings.{Leaves, dropping_of, leaves-none, leaving_of}
+use Rattle.executor_laws.proofs.Placement.Leavings.{leaving-more}
+use Rattle.executor_laws.proofs.Placement.Leavings.{leaving-uses, off_of, off-leaves}
+use Rattle.executor_laws.proofs.Placement.Leavings.{dropping-leaves}
+use Rattle.executor_laws.proofs.Placement.Opens.{le-or}
+use Rattle.executor_laws.proofs.Placement.Ran.{Alike, AllReady, Ran, ReadyOnly, alike-more, has-same}
+use Rattle.executor_laws.proofs.Placement.Ran.{is_of_runs, only-push, ordinary-runs, ready-push}
 
 abbrev pub RanIn : Machine → ℕ → Type 0
 RanIn s r = Ran s.world r (weigh_all (off_of r) s.parties) (weigh_all (dropping_of r) s.parties)
@@ -122,7 +123,7 @@ over-ended Ended e = refl
 kept-alike : (r p f q : ℕ) (es : Trace) → eqb r q ≡ false → Alike r es (es ++ event.Kept p f q ∷ [])
 kept-alike r p f q es z = record {
   drops = has-same (is_run_drop r) es (event.Kept p f q) refl;
-  polls = has-same (polls_sleeper (sleeper.Run r)) es (event.Kept p f q) refl;
+  polls = has-same (polls_sleeper (tick_or_run.Run r)) es (event.Kept p f q) refl;
   ready = ready-push r es (event.Kept p f q) z;
   only = λ S. only-push r es (event.Kept p f q) S refl;
 }
@@ -179,8 +180,8 @@ module _ (s : Machine) (p : ℕ) (x : Steal) (more f : ℕ) (rest : List Op) (r 
                 ∙ has-same (is_run_drop r) s.world.trace (event.Kept p f q) refl) ∙ z);
             unborn = λ z. (let y = h.unborn (omega (arith, z, like.count)) in (
               ap (has (is_run_drop r)) trace-is ∙ (has-same (is_run_drop r) s.world.trace (event.Kept p f q) refl ∙ y.0),
-              ap (has (polls_sleeper (sleeper.Run r))) trace-is
-                  ∙ (has-same (polls_sleeper (sleeper.Run r)) s.world.trace (event.Kept p f q) refl ∙ y.1),
+              ap (has (polls_sleeper (tick_or_run.Run r))) trace-is
+                  ∙ (has-same (polls_sleeper (tick_or_run.Run r)) s.world.trace (event.Kept p f q) refl ∙ y.1),
             ));
             off = λ z. stage ∙ h.off (omega (
               arith,
@@ -293,7 +294,7 @@ module _ (s : Machine) (p : ℕ) (rest : List Op) (r : ℕ) (l : p < length s.pa
               dropping = λ z. absurd (omega (arith, z, drops));
               ended = λ z. absurd (let no : New ≡ Ended = sym (ap (λ (x : Run). x.stage) run) ∙ z in cc);
               answered = λ q j g y. absurd (let no : true ≡ false =
-                  sym (get-has (polls_sleeper (sleeper.Run r)) s.world.trace j (event.RunPolled q r) g
+                  sym (get-has (polls_sleeper (tick_or_run.Run r)) s.world.trace j (event.RunPolled q r) g
                   (let z : eqb r r ≡ true = grind (arith, nat_tests) in z)) ∙ born.1 in cc);
             }
 

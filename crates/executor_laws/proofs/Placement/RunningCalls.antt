@@ -1,3 +1,4 @@
+-- For due_futures_stand_with_their_keepers.
 -- The beginning and the end of a call keep what holds of each run at every moment; so each step does.
 use Rattle.std.proofs.Common.{◌≡◌, ◌≢◌, ◌⊎◌, ◌∙◌, inl, inr, ⊎_elim, ℕ, zero, suc, ◌+◌, ◌<◌, ◌≤◌, List, [], ◌∷◌}
 use Rattle.std.proofs.Common.{◌++◌, length, drop, set, get_or, true, false, eqb, refl}
@@ -16,7 +17,7 @@ use Rattle.executor_model.specs.declared.op.Hold.{Hold}
 use Rattle.executor_model.specs.declared.op.Hold.TheVariants as hold
 use Rattle.executor_model.specs.declared.op.Op.{Op}
 use Rattle.executor_model.specs.declared.op.Op.TheVariants as op
-use Rattle.executor_model.specs.declared.op.Sleeper.TheVariants as sleeper
+use Rattle.executor_model.specs.declared.op.TickOrRun.TheVariants as tick_or_run
 use Rattle.executor_model.specs.declared.op.Waker.{Waker}
 use Rattle.executor_model.specs.AwaiterKept.{EndsWith, since}
 use Rattle.executor_model.specs.Keeper.{AnswersReady, is_run_drop}
@@ -25,19 +26,19 @@ use Rattle.executor_model.specs.Steps.{Machine, begun, is_there, stack}
 use Rattle.executor_model.specs.Trace.{Trace, has}
 use Rattle.executor_model.specs.Weights.{same, weigh_all}
 use Rattle.executor_model.specs.World.{World, Ended, Run, done, log, no_run, run_of}
-use Rattle.executor_model.proofs.Lift.{split, unsettled}
-use Rattle.executor_model.proofs.Lists.{same_cases, same_is, weigh_all-push}
-use Rattle.executor_model.proofs.UsingWorlds.{count-set, is_over_stage, is_past}
-use Rattle.runs_reach.proofs.Answering.{answers_of, other_of, readying_of}
-use Rattle.runs_reach.proofs.Endings.{ends-before, ends-here}
-use Rattle.runs_reach.proofs.Frames.{Frames, Framed, Fits, framed-end, here}
-use Rattle.runs_reach.proofs.Leavings.{Leaves, dropping_of, drops_run, leaves-none}
-use Rattle.runs_reach.proofs.Leavings.{none-begun, drop-leaves, off_of}
-use Rattle.runs_reach.proofs.Opened.{at, poll_at, run_in, told}
-use Rattle.runs_reach.proofs.Opens.{IsOpen, Open, get-old, get-push, le-or, opens}
-use Rattle.runs_reach.proofs.Ran.{Alike, AllReady, has-now, has-same}
-use Rattle.runs_reach.proofs.Ran.{only-push, ready-push, alike-one}
-use Rattle.runs_reach.proofs.Running.{RanIn, ran-within}
+use Rattle.executor_model.proofs.Steps.Lift.{split, unsettled}
+use Rattle.executor_model.proofs.Steps.Lists.{same_cases, same_is, weigh_all-push}
+use Rattle.executor_model.proofs.OwnQueues.UsingWorlds.{count-set, is_over_stage, is_past}
+use Rattle.executor_laws.proofs.Placement.Answering.{answers_of, other_of, readying_of}
+use Rattle.executor_laws.proofs.Placement.Endings.{ends-before, ends-here}
+use Rattle.executor_laws.proofs.Placement.Frames.{Frames, Framed, Fits, framed-end, here}
+use Rattle.executor_laws.proofs.Placement.Leavings.{Leaves, dropping_of, drops_run, leaves-none}
+use Rattle.executor_laws.proofs.Placement.Leavings.{none-begun, drop-leaves, off_of}
+use Rattle.executor_laws.proofs.Placement.Opened.{at, poll_at, run_in, told}
+use Rattle.executor_laws.proofs.Placement.Opens.{IsOpen, Open, get-old, get-push, le-or, opens}
+use Rattle.executor_laws.proofs.Placement.Ran.{Alike, AllReady, has-now, has-same}
+use Rattle.executor_laws.proofs.Placement.Ran.{only-push, ready-push, alike-one}
+use Rattle.executor_laws.proofs.Placement.Running.{RanIn, ran-within}
 
 -- the end of a call
 
@@ -140,7 +141,7 @@ module _ (s : Machine) (p : ℕ) (a : Reply) (held : Hold) (below : List Op) (l 
       past = λ z. h.past (sym (has-same (is_run_drop r) es x refl) ∙ z);
       unborn = λ z. (let y = h.unborn z in (
         has-same (is_run_drop r) es x refl ∙ y.0,
-        has-same (polls_sleeper (sleeper.Run r)) es x refl ∙ y.1,
+        has-same (polls_sleeper (tick_or_run.Run r)) es x refl ∙ y.1,
       ));
       off = λ z. h.off (omega (
         arith,
@@ -205,7 +206,7 @@ module _ (s : Machine) (p : ℕ) (a : Reply) (held : Hold) (below : List Op) (l 
 polled-alike : (r p q : ℕ) (es : Trace) → eqb r q ≡ false → Alike r es (es ++ event.RunPolled p q ∷ [])
 polled-alike r p q es z = record {
   drops = has-same (is_run_drop r) es (event.RunPolled p q) refl;
-  polls = has-same (polls_sleeper (sleeper.Run r)) es (event.RunPolled p q) z;
+  polls = has-same (polls_sleeper (tick_or_run.Run r)) es (event.RunPolled p q) z;
   ready = ready-push r es (event.RunPolled p q) refl;
   only = λ S. only-push r es (event.RunPolled p q) S refl;
 }
@@ -213,7 +214,7 @@ polled-alike r p q es z = record {
 dropped-alike : (r p q : ℕ) (es : Trace) → eqb r q ≡ false → Alike r es (es ++ event.RunDropped p q ∷ [])
 dropped-alike r p q es z = record {
   drops = has-same (is_run_drop r) es (event.RunDropped p q) z;
-  polls = has-same (polls_sleeper (sleeper.Run r)) es (event.RunDropped p q) refl;
+  polls = has-same (polls_sleeper (tick_or_run.Run r)) es (event.RunDropped p q) refl;
   ready = ready-push r es (event.RunDropped p q) refl;
   only = λ S. only-push r es (event.RunDropped p q) S refl;
 }

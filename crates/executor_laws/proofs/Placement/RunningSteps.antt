@@ -1,3 +1,4 @@
+-- For due_futures_stand_with_their_keepers.
 -- Each step keeps what holds of each run at every moment.
 use Rattle.std.proofs.Common.{◌≡◌, ℕ, ◌+◌, ◌<◌, ◌≤◌, List, [], ◌∷◌}
 use Rattle.std.proofs.Common.{◌++◌, length, get_or, Bool, true, false, ◌&&◌, ◌||◌, not, eqb, ltb, cond, refl}
@@ -23,19 +24,20 @@ use Rattle.executor_model.specs.OwnQueues.{filling_of}
 use Rattle.executor_model.specs.Steps.{Machine, accepts, begun, has_all, is_drop, is_free, is_on_executor}
 use Rattle.executor_model.specs.Steps.{future_of, is_unborrowed, kept, mine, react, stack, top, with_future}
 use Rattle.executor_model.specs.World.{World, Run, Done, log, no_run, run_of}
-use Rattle.executor_model.proofs.Lift.{first-true, none_refused, split, unsettled}
-use Rattle.executor_model.proofs.OwnRooms.{Roomy}
-use Rattle.executor_model.proofs.TraceGrows.{Allows, AllowsCall, grows-act, grows-begun, grows-react}
-use Rattle.executor_model.proofs.UsingSteps.{AllUsed}
-use Rattle.executor_model.proofs.Ways.{Way}
-use Rattle.executor_model.proofs.Ways.Way.{acted, reacted, called}
-use Rattle.runs_reach.proofs.Answering.{is_end}
-use Rattle.runs_reach.proofs.Evens.{Even, even-act, even-react, is_even}
-use Rattle.runs_reach.proofs.Frames.{Frames}
-use Rattle.runs_reach.proofs.Leavings.{drops_run, leaves-act, leaves-react, is_unregister}
-use Rattle.runs_reach.proofs.Ran.{is_of_runs, ordinary-runs}
-use Rattle.runs_reach.proofs.Running.{RanIn, grown-alike, ran-make, ran-put, ran-unregister, ran-within, stays-with}
-use Rattle.runs_reach.proofs.RunningCalls.{ran-call, ran-drop, ran-end, ran-poll}
+use Rattle.executor_model.proofs.Steps.Lift.{first-true, none_refused, split, unsettled}
+use Rattle.executor_model.proofs.OwnQueues.OwnRooms.{Roomy}
+use Rattle.executor_model.proofs.Steps.TraceGrows.{Allows, AllowsCall, grows-act, grows-begun, grows-react}
+use Rattle.executor_model.proofs.OwnQueues.UsingSteps.{AllUsed}
+use Rattle.executor_model.proofs.Steps.Ways.{Way}
+use Rattle.executor_model.proofs.Steps.Ways.Way.{acted, reacted, called}
+use Rattle.executor_laws.proofs.Placement.Answering.{is_end}
+use Rattle.executor_laws.proofs.Placement.Evens.{Even, even-act, even-react}
+use Rattle.executor_model.proofs.OwnQueues.UsingRuns.{is_even}
+use Rattle.executor_laws.proofs.Placement.Frames.{Frames}
+use Rattle.executor_laws.proofs.Placement.Leavings.{drops_run, leaves-act, leaves-react, is_unregister}
+use Rattle.executor_laws.proofs.Placement.Ran.{is_of_runs, ordinary-runs}
+use Rattle.executor_laws.proofs.Placement.Running.{RanIn, grown-alike, ran-make, ran-put, ran-unregister, ran-within, stays-with}
+use Rattle.executor_laws.proofs.Placement.RunningCalls.{ran-call, ran-drop, ran-end, ran-poll}
 
 -- a steal that is on its way finds a place
 pub free : (s : Machine) (p : ℕ) (x : Steal) (more f : ℕ) (rest : List Op) → p < length s.parties →

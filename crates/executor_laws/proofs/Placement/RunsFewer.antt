@@ -1,10 +1,11 @@
+-- For due_futures_stand_with_their_keepers.
 -- What a run does takes from the executor's queue at most.
 use Rattle.std.proofs.Common.{◌≡◌, ◌≤◌, ℕ, List, [], ◌∷◌, drop, sym, ap, subst, arith}
 use Rattle.queue_steps.specs.ClosableQueue.{ClosableQueue}
 use Rattle.executor_model.specs.World.{World}
 use Rattle.executor_model.specs.Sound.{times}
-use Rattle.executor_model.proofs.RunsQueue.{Takes}
-use Rattle.executor_model.proofs.RunsQueue.Takes.{stays, first}
+use Rattle.executor_model.proofs.Awaiters.RunsQueue.{Takes}
+use Rattle.executor_model.proofs.Awaiters.RunsQueue.Takes.{stays, first}
 
 pub record Fewer (w v : World) : Type 0 where
   pub items : (g : ℕ) → times g v.queue.items ≤ times g w.queue.items

@@ -1,3 +1,4 @@
+-- For due_futures_stand_with_their_keepers.
 -- A future away from the executor's queue: none of its Runnables is there or on its way there, it isn't polled, and its
 -- task won't be scheduled anew unless a poll of it begins.
 use Rattle.std.proofs.Common.{◌≡◌, ◌⊎◌, ℕ, ◌+◌, ◌≤◌, List, true, false}

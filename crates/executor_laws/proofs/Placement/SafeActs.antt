@@ -1,4 +1,5 @@
--- Each thing that is done keeps a future away from the executor's queue (proofs/Safe), where it begins no poll of it and
+-- For due_futures_stand_with_their_keepers.
+-- Each thing that is done keeps a future away from the executor's queue (proofs/Placement/Safe), where it begins no poll of it and
 -- brings nothing into a run's own queue or from there.
 use Rattle.std.proofs.Common.{◌≡◌, ℕ, ◌+◌, ◌<◌, [], ◌∷◌, length, Bool, true, false, refl, ap, subst, arith}
 use Rattle.std.proofs.lemmas.List.{length-set}
@@ -8,8 +9,8 @@ use Rattle.executor_model.specs.declared.event.Event.TheVariants as event
 use Rattle.executor_model.specs.declared.op.Op.{Op}
 use Rattle.executor_model.specs.declared.op.Op.TheVariants as op
 use Rattle.executor_model.specs.declared.op.RunOp.TheVariants as run_op
-use Rattle.executor_model.specs.declared.op.Sleeper.{Sleeper}
-use Rattle.executor_model.specs.declared.op.Sleeper.TheVariants as sleeper
+use Rattle.executor_model.specs.declared.op.TickOrRun.{TickOrRun}
+use Rattle.executor_model.specs.declared.op.TickOrRun.TheVariants as tick_or_run
 use Rattle.executor_model.specs.declared.op.Sleeping.{Sleeping}
 use Rattle.executor_model.specs.declared.op.TableOp.TheVariants as table_op
 use Rattle.executor_model.specs.declared.op.TickOp.TheVariants as tick_op
@@ -21,14 +22,14 @@ use Rattle.executor_model.specs.Rows.{appends_of, past_of}
 use Rattle.executor_model.specs.Sound.{Pend, with_ops}
 use Rattle.executor_model.specs.Weights.{same, weigh}
 use Rattle.executor_model.specs.World.{World, done, log, task}
-use Rattle.executor_model.proofs.Counting.{taken_up}
-use Rattle.executor_model.proofs.Effects.{effect-act}
-use Rattle.executor_model.proofs.Extras.{runs_of, runs_of_who}
-use Rattle.executor_model.proofs.Lists.{read_put, same_is}
-use Rattle.runs_reach.proofs.Safe.{Floor, KeepsSafe, Safe}
-use Rattle.runs_reach.proofs.SafeRuns.{is_put, is_reschedule}
-use Rattle.runs_reach.proofs.SafeRuns.{safe-list, safe-run, safe-search_own, safe-steal}
-use Rattle.runs_reach.proofs.SafeViews.{safe-effect}
+use Rattle.executor_model.proofs.Counts.Counting.{taken_up}
+use Rattle.executor_model.proofs.OneFuture.Effects.{effect-act}
+use Rattle.executor_model.proofs.OneFuture.Extras.{runs_of, runs_of_who}
+use Rattle.executor_model.proofs.Steps.Lists.{read_put, same_is}
+use Rattle.executor_laws.proofs.Placement.Safe.{Floor, KeepsSafe, Safe}
+use Rattle.executor_laws.proofs.Placement.SafeRuns.{is_put, is_reschedule}
+use Rattle.executor_laws.proofs.Placement.SafeRuns.{safe-list, safe-run, safe-search_own, safe-steal}
+use Rattle.executor_laws.proofs.Placement.SafeViews.{safe-effect}
 
 -- of another future, where the task is open
 pub safe-take_up_open : (there : Bool) (p : ℕ) (w : World) (f : ℕ) → f < length w.tasks → (g : ℕ) (r : Pend) (nn : ℕ) →
@@ -66,12 +67,12 @@ safe-other : (p : ℕ) (h : Hint) (o : Op) (w : World) → length w.awaiters ≡
 safe-other p h o w n u z m e = safe-effect w (o ∷ []) (act p h o w)
     (λ f q. subst (IsTame w) (first o (op.Move move.TakeUp f) q) m) (omega (arith, e)) (effect-act p h o w n u z)
 
-safe-search : (who : Sleeper) (p : ℕ) (h : Hint) (w : World) (s : Sleeping) → length w.awaiters ≡ length w.tasks →
+safe-search : (who : TickOrRun) (p : ℕ) (h : Hint) (w : World) (s : Sleeping) → length w.awaiters ≡ length w.tasks →
     pasts (length w.tasks) w.waking ≡ 0 → weigh (past_of (length w.tasks)) (op.Tick (tick_op.Search s) ∷ []) ≡ 0 →
     s.who ≡ who → KeepsSafe w (op.Tick (tick_op.Search s) ∷ []) (search_by_who s.who w s)
-safe-search (sleeper.Tick t) p h w s n u z e =
+safe-search (tick_or_run.Tick t) p h w s n u z e =
     safe-other p h (op.Tick (tick_op.Search s)) w n u z tt (ap runs_of_who e)
-safe-search (sleeper.Run r) p h w s n u z e = rw e (safe-search_own w s r e)
+safe-search (tick_or_run.Run r) p h w s n u z e = rw e (safe-search_own w s r e)
 
 -- each thing to do that speaks of futures that are there
 pub safe-act : (p : ℕ) (h : Hint) (o : Op) (w : World) → length w.awaiters ≡ length w.tasks →

@@ -1,3 +1,4 @@
+-- For due_futures_stand_with_their_keepers.
 -- What a run does keeps a future away from the executor's queue, but for what it schedules.
 use Rattle.std.proofs.Common.{◌≡◌, ℕ, zero, suc, List, [], ◌∷◌, length, Bool, true, false}
 use Rattle.std.proofs.Common.{refl, sym, ap, subst, get_or, arith}
@@ -11,7 +12,7 @@ use Rattle.executor_model.specs.declared.op.RunOp.TheVariants as run_op
 use Rattle.executor_model.specs.declared.op.RunPoll.{RunPoll}
 use Rattle.executor_model.specs.declared.op.Section.{Section}
 use Rattle.executor_model.specs.declared.op.Section.TheVariants as section
-use Rattle.executor_model.specs.declared.op.Sleeper.TheVariants as sleeper
+use Rattle.executor_model.specs.declared.op.TickOrRun.TheVariants as tick_or_run
 use Rattle.executor_model.specs.declared.op.Sleeping.{Sleeping}
 use Rattle.executor_model.specs.declared.op.Steal.{Steal}
 use Rattle.executor_model.specs.declared.op.StealOp.{StealOp}
@@ -24,18 +25,18 @@ use Rattle.executor_model.specs.ActsOfRuns.{wake_own}
 use Rattle.executor_model.specs.Doing.{list_act, run_act, steal_act}
 use Rattle.executor_model.specs.Rows.{appends_of}
 use Rattle.executor_model.specs.Weights.{weigh}
-use Rattle.executor_model.proofs.RunsNext.{BlindToRuns, common-blind, list-blind, look-blind, more-blind, room-blind}
-use Rattle.executor_model.proofs.RunsNext.{search_run-blind, stolen-blind}
-use Rattle.executor_model.proofs.RunsCounting.{Bare, bare}
-use Rattle.executor_model.proofs.RunsPlain.{AllPlain, plain-after-common, plain-after-list, plain-after-look}
-use Rattle.executor_model.proofs.RunsPlain.{plain-after-call, plain-after-room, plain-after-search, plain-after-steal}
-use Rattle.executor_model.proofs.RunsMoves.{moves-common, moves-length, moves-list, moves-look}
-use Rattle.executor_model.proofs.RunsMoves.{moves-make_room, moves-own, moves-own_length}
-use Rattle.executor_model.proofs.RunsMoves.{moves-take}
-use Rattle.executor_model.proofs.RunsQueue.{queue-list, queue-look, queue-put, queue-room, takes-common, takes-search}
-use Rattle.executor_model.proofs.RunsQueue.{takes-steal}
-use Rattle.runs_reach.proofs.RunsFewer.{Fewer, fewer, untouched}
-use Rattle.runs_reach.proofs.Safe.{KeepsSafe}
+use Rattle.executor_model.proofs.Steps.RunsNext.{BlindToRuns, common-blind, list-blind, look-blind, more-blind, room-blind}
+use Rattle.executor_model.proofs.Steps.RunsNext.{search_run-blind, stolen-blind}
+use Rattle.executor_model.proofs.Steps.RunsCounting.{Bare, bare}
+use Rattle.executor_model.proofs.Steps.RunsPlain.{AllPlain, plain-after-common, plain-after-list, plain-after-look}
+use Rattle.executor_model.proofs.Steps.RunsPlain.{plain-after-call, plain-after-room, plain-after-search, plain-after-steal}
+use Rattle.executor_model.proofs.Steps.RunsMoves.{moves-common, moves-length, moves-list, moves-look}
+use Rattle.executor_model.proofs.Steps.RunsMoves.{moves-make_room, moves-own, moves-own_length}
+use Rattle.executor_model.proofs.Steps.RunsMoves.{moves-take}
+use Rattle.executor_model.proofs.Awaiters.RunsQueue.{queue-list, queue-look, queue-put, queue-room, takes-common, takes-search}
+use Rattle.executor_model.proofs.Awaiters.RunsQueue.{takes-steal}
+use Rattle.executor_laws.proofs.Placement.RunsFewer.{Fewer, fewer, untouched}
+use Rattle.executor_laws.proofs.Placement.Safe.{KeepsSafe}
 
 abbrev pub is_put : StealOp → Bool
 is_put (steal_op.Put s more f) = true
@@ -62,9 +63,7 @@ blind-appends g = record {
   where
     by_steal : (o : StealOp) → appends_of g (op.Steal o) ≡ 0
     by_steal (steal_op.Length s) = refl
-    by_steal (steal_op.OwnLength s n) = refl
-    by_steal (steal_op.Take s more) = refl
-    by_steal (steal_op.Put s more f) = refl
+    by_steal _ = refl
 
     by_section : (s : Section) → appends_of g (op.List (list_op.Write s)) ≡ 0
     by_section section.MakeRun = refl
@@ -74,17 +73,11 @@ blind-appends g = record {
     by_list : (o : ListOp) → appends_of g (op.List o) ≡ 0
     by_list (list_op.LockWrite s) = by_section s
     by_list (list_op.Write s) = by_section s
-    by_list list_op.UnlockWrite = refl
-    by_list (list_op.LockRead x) = refl
-    by_list list_op.UnlockRead = refl
+    by_list _ = refl
 
     by_run : (o : RunOp) → appends_of g (op.Run o) ≡ 0
     by_run run_op.MakeRoom = refl
-    by_run run_op.ReturnRoom = refl
-    by_run (run_op.SearchCommon x) = refl
-    by_run (run_op.LookOwn x at left) = refl
-    by_run (run_op.WakeOwn x) = refl
-    by_run (run_op.Reschedule r a) = refl
+    by_run _ = refl
 
 -- where the tasks stay and nothing comes into the queue
 safe-fewer : (w : World) (old : List Op) (d : Done) → Fewer w d.world → d.world.tasks ≡ w.tasks →
@@ -142,7 +135,7 @@ safe-list h o w =
     (moves-list h o w).same.tasks (λ g. list-blind (appends_of g) (blind-appends g) h o w) (plain-after-list h o w)
 
 -- a run looks at its own queue
-pub safe-search_own : (w : World) (s : Sleeping) (r : ℕ) → s.who ≡ sleeper.Run r →
+pub safe-search_own : (w : World) (s : Sleeping) (r : ℕ) → s.who ≡ tick_or_run.Run r →
     KeepsSafe w (op.Tick (tick_op.Search s) ∷ [])
     (runs.search_own w (record { run = r; waker = s.waker; poll = s.poll }))
 safe-search_own w s r e =

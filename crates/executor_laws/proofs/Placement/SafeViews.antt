@@ -1,4 +1,5 @@
--- A future away from the executor's queue (proofs/Safe): kept by each move of its task but the beginning of a poll, and by
+-- For due_futures_stand_with_their_keepers.
+-- A future away from the executor's queue (proofs/Placement/Safe): kept by each move of its task but the beginning of a poll, and by
 -- each effect of what no run does, on its view.
 use Rattle.std.proofs.Common.{◌≡◌, ◌⊎◌, ℕ, ◌+◌, ◌<◌, ◌≤◌, List, [], ◌∷◌, ◌++◌, true, false, inl, inr, ap, ◌∙◌, arith}
 use Rattle.std.proofs.lemmas.Bool.Decides.{nat_tests}
@@ -18,15 +19,15 @@ use Rattle.executor_model.specs.Acts.{append_by, begin_drop, closing_ops, enter_
 use Rattle.executor_model.specs.Sound.{Pend, with_ops}
 use Rattle.executor_model.specs.Weights.{weigh}
 use Rattle.executor_model.specs.World.{World, Done, done, log, task}
-use Rattle.executor_model.proofs.Lists.{fresh_is, read_push, same_is, times-append}
-use Rattle.executor_model.proofs.Extras.{Extra, no_extra, runs_of, with_extra}
-use Rattle.executor_model.proofs.Views.{Seen, seen, before, after}
-use Rattle.executor_model.proofs.MoveViews.{Alike}
-use Rattle.executor_model.proofs.Passes.{Passes, Queues}
-use Rattle.executor_model.proofs.SoundViews.{tokens, living}
-use Rattle.executor_model.proofs.Effects.{Effect, Wakes, turned-after}
-use Rattle.executor_model.proofs.Effects.Effect.{passes, turns, refuses, enters, unlists, drops, takes_out, drops_next}
-use Rattle.runs_reach.proofs.Safe.{Floor, KeepsSafe, Safe}
+use Rattle.executor_model.proofs.Steps.Lists.{fresh_is, read_push, same_is, times-append}
+use Rattle.executor_model.proofs.OneFuture.Extras.{Extra, no_extra, runs_of, with_extra}
+use Rattle.executor_model.proofs.OneFuture.Views.{Seen, seen, before, after}
+use Rattle.executor_model.proofs.OneFuture.MoveViews.{Alike}
+use Rattle.executor_model.proofs.OneFuture.Passes.{Passes, Queues}
+use Rattle.executor_model.proofs.Counts.SoundViews.{tokens, living}
+use Rattle.executor_model.proofs.OneFuture.Effects.{Effect, Wakes, turned-after}
+use Rattle.executor_model.proofs.OneFuture.Effects.Effect.{passes, turns, refuses, enters, unlists, drops, takes_out, drops_next}
+use Rattle.executor_laws.proofs.Placement.Safe.{Floor, KeepsSafe, Safe}
 
 record Ground (x : Seen) : Type 0 where
   counted : x.state.references ≡ tokens x + living x

@@ -1,3 +1,4 @@
+-- For no_comes_at_once.
 -- Whoever is answered no has done nothing since his call began, in each run.
 use Rattle.std.proofs.Common.{◌≡◌, ◌≢◌, ◌⊎◌, ℕ, ◌+◌, ◌<◌, List, [], ◌∷◌, ◌++◌, length}
 use Rattle.std.proofs.Common.{Bool, true, false, ◌||◌, ◌&&◌, not, eqb, refl, sym, ap, ◌∙◌, subst, inl}
@@ -38,16 +39,17 @@ use Rattle.executor_model.specs.Weights.{same, weigh}
 use Rattle.executor_model.specs.Good.{Good}
 use Rattle.executor_model.specs.Steps.{Machine, stack, top, is_free, waits, future_of, mine, unless}
 use Rattle.executor_model.specs.Steps.{begun, drop_run, poll_run, react, kept, with_future, run, start}
-use Rattle.executor_model.proofs.Lift.{unsettled, good-start}
-use Rattle.executor_model.proofs.Lists.{same_cases, weigh-append, weigh-reverse}
-use Rattle.executor_model.proofs.Resting.{idle-stack}
-use Rattle.executor_model.proofs.Spawning.{top-last}
-use Rattle.executor_model.proofs.Ways.{Way, along}
-use Rattle.executor_model.proofs.Ways.Way.{acted, reacted, called}
-use Rattle.runs_laws.specs.AtOnce.{deeds, NoComesAtOnce}
-use Rattle.runs_laws.proofs.Growing.{is_end, Grows, grows-act, grows-react, grows-begun}
-use Rattle.runs_laws.proofs.Prompting.{hasty, quick_of, is_no, told, fresh, told-append, told-grows, told-log}
-use Rattle.runs_laws.proofs.Prompting.{fresh-log, deeds-other, deeds-other_log, slow-act}
+use Rattle.executor_model.proofs.Steps.Lift.{unsettled, good-start}
+use Rattle.executor_model.proofs.Steps.Lists.{same_cases, weigh-append, weigh-reverse}
+use Rattle.executor_model.proofs.Quiet.Resting.{idle-stack}
+use Rattle.executor_model.proofs.Table.Spawning.{top-last}
+use Rattle.executor_model.proofs.Steps.Ways.{Way, along}
+use Rattle.executor_model.proofs.Steps.Ways.Way.{acted, reacted, called}
+use Rattle.executor_model.specs.Deeds.{deeds}
+use Rattle.executor_laws.specs.AtOnce.{NoComesAtOnce}
+use Rattle.executor_model.proofs.Steps.Deeds.{is_end, Grows, grows-act, grows-react, grows-begun}
+use Rattle.executor_laws.proofs.Promptness.Prompting.{hasty, quick_of, is_no, told, fresh, told-append, told-grows, told-log}
+use Rattle.executor_laws.proofs.Promptness.Prompting.{fresh-log, deeds-other, deeds-other_log, slow-act}
 
 -- what p has to do, where it did this: nothing of it is answered no next; or what is on top may be,
 -- and p's call has begun last

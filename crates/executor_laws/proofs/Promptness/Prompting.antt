@@ -1,3 +1,4 @@
+-- For no_comes_at_once.
 -- A party that may be answered no next has done nothing since its call began.
 use Rattle.std.proofs.Common.{◌≡◌, ◌≢◌, ℕ, ◌≤◌, List, [], ◌∷◌, ◌++◌, Bool, true, false, ◌||◌, ◌&&◌, not}
 use Rattle.std.proofs.Common.{cond, refl, ap, ◌∙◌, ⊎_elim, arith, append-nil}
@@ -31,8 +32,8 @@ use Rattle.executor_model.specs.declared.op.QueueOp.TheVariants as queue_op
 use Rattle.executor_model.specs.declared.op.RunOp.{RunOp}
 use Rattle.executor_model.specs.declared.op.RunOp.TheVariants as run_op
 use Rattle.executor_model.specs.declared.op.Section.TheVariants as section
-use Rattle.executor_model.specs.declared.op.Sleeper.{Sleeper}
-use Rattle.executor_model.specs.declared.op.Sleeper.TheVariants as sleeper
+use Rattle.executor_model.specs.declared.op.TickOrRun.{TickOrRun}
+use Rattle.executor_model.specs.declared.op.TickOrRun.TheVariants as tick_or_run
 use Rattle.executor_model.specs.declared.op.Sleeping.{Sleeping}
 use Rattle.executor_model.specs.declared.op.TableOp.TheVariants as table_op
 use Rattle.executor_model.specs.declared.op.TickOp.{TickOp}
@@ -44,26 +45,26 @@ use Rattle.executor_model.specs.declared.op.Waker.TheVariants.{Task, Outside}
 use Rattle.executor_model.specs.declared.step.Hint.{Hint}
 use Rattle.executor_model.specs.Quiet.{begins_call}
 use Rattle.executor_model.specs.Trace.{Trace, has}
-use Rattle.executor_model.specs.World.{World, Place, Up, Lies, Left, log, task, awaiter_of, place_of}
+use Rattle.executor_model.specs.World.{World, Ticker, Awake, Asleep, Left, log, task, awaiter_of, place_of}
 use Rattle.executor_model.specs.Carried.{awaiter_ops}
 use Rattle.executor_model.specs.Acts.{enter_by, copy_by, answered, polled, look_by, let_go, look_again_by}
 use Rattle.executor_model.specs.Acts.{copy_awaiter_by, register_by, end_register_by}
-use Rattle.executor_model.specs.ActsOfSleepers.{make_tick_by, search_by, copy_sleeper_by, pend_as, lie_anew_by}
-use Rattle.executor_model.specs.ActsOfSleepers.{sleeper_goes, lie_listed_by, lie_again_by, lie_down_by, get_up_by}
-use Rattle.executor_model.specs.ActsOfSleepers.{tell_if, leave_sleepers_by}
+use Rattle.executor_model.specs.ActsOfSleepers.{make_tick_by, search_by, copy_sleeper_by, pend_as, sleep_anew_by}
+use Rattle.executor_model.specs.ActsOfSleepers.{sleeper_goes, sleep_listed_by, sleep_again_by, fall_asleep_by, wake_up_by}
+use Rattle.executor_model.specs.ActsOfSleepers.{tell_and_return, leave_sleepers_by}
 use Rattle.executor_model.specs.ActsOfRuns as runs
 use Rattle.executor_model.specs.Doing.{act, list_act, run_act, search_by_who, tick_act}
 use Rattle.executor_model.specs.Weights.{weigh}
-use Rattle.executor_model.proofs.Calls.{calling_of}
-use Rattle.executor_model.proofs.CallsGroups.{calls-act}
-use Rattle.executor_model.proofs.Lists.{weigh-append}
-use Rattle.executor_model.proofs.Resting.{calling-is}
-use Rattle.executor_model.proofs.RunsNext.{BlindToSearches, common-unseen, look-unseen, own-unseen, steal-unseen}
-use Rattle.executor_model.proofs.RunsNext.{walk-unseen}
-use Rattle.executor_model.proofs.SleepersNext.{goes-unseen, tell-unseen}
-use Rattle.executor_model.proofs.Tests.{left-false, right-false}
-use Rattle.runs_laws.specs.AtOnce.{doer, is_by, deeds}
-use Rattle.runs_laws.proofs.Growing.{ends_one, is_end, Grows, not-by}
+use Rattle.executor_model.proofs.Quiet.Calls.{calling_of}
+use Rattle.executor_model.proofs.Quiet.CallsGroups.{calls-act}
+use Rattle.executor_model.proofs.Steps.Lists.{weigh-append}
+use Rattle.executor_model.proofs.Quiet.Resting.{calling-is}
+use Rattle.executor_model.proofs.Steps.RunsNext.{BlindToSearches, common-unseen, look-unseen, own-unseen, steal-unseen}
+use Rattle.executor_model.proofs.Steps.RunsNext.{walk-unseen}
+use Rattle.executor_model.proofs.Steps.SleepersNext.{goes-unseen, tell-unseen}
+use Rattle.executor_model.proofs.Steps.Tests.{left-false, right-false}
+use Rattle.executor_model.specs.Deeds.{doer, is_by, deeds}
+use Rattle.executor_model.proofs.Steps.Deeds.{ends_one, is_end, Grows, not-by}
 
 abbrev pub is_refusal : Reply → ℕ
 is_refusal reply.No = 1
@@ -291,48 +292,48 @@ slow-make : (b : Bool) (w : World) → weigh hasty (make_tick_by b w).next ≡ 0
 slow-make true w = refl
 slow-make false w = refl
 
-slow-search : (x : Place) (w : World) (q : List ℕ) (s : Sleeping) → weigh hasty (search_by x w q s).next ≡ 0
+slow-search : (x : Ticker) (w : World) (q : List ℕ) (s : Sleeping) → weigh hasty (search_by x w q s).next ≡ 0
 slow-search x w [] s = refl
-slow-search Up w (f ∷ rest) s = refl
-slow-search (Lies n) w (f ∷ rest) s = refl
+slow-search Awake w (f ∷ rest) s = refl
+slow-search (Asleep n) w (f ∷ rest) s = refl
 slow-search Left w (f ∷ rest) s = refl
 
 slow-copy_sleeper : (b : Bool) (w : World) (s : Sleeping) → weigh hasty (copy_sleeper_by b w s).next ≡ 0
 slow-copy_sleeper true w s = refl
 slow-copy_sleeper false w s = refl
 
-slow-anew : (b : Bool) (w : World) (s : Sleeping) → weigh hasty (lie_anew_by b w s).next ≡ 0
+slow-anew : (b : Bool) (w : World) (s : Sleeping) → weigh hasty (sleep_anew_by b w s).next ≡ 0
 slow-anew true w s = refl
 slow-anew false w s = refl
 
-slow-listed : (b : Bool) (w : World) (n : ℕ) (s : Sleeping) → weigh hasty (lie_listed_by b w n s).next ≡ 0
+slow-listed : (b : Bool) (w : World) (n : ℕ) (s : Sleeping) → weigh hasty (sleep_listed_by b w n s).next ≡ 0
 slow-listed true w n s = refl
 slow-listed false w n s = refl
 
-slow-lie_again : (o : Option ℕ) (w : World) (n : ℕ) (s : Sleeping) → weigh hasty (lie_again_by o w n s).next ≡ 0
-slow-lie_again None w n s = slow-listed _ w n s
-slow-lie_again (Some at) w n s = let old = waker_at (Some at) w.sleepers.wakers in
+slow-sleep_again : (o : Option ℕ) (w : World) (n : ℕ) (s : Sleeping) → weigh hasty (sleep_again_by o w n s).next ≡ 0
+slow-sleep_again None w n s = slow-listed _ w n s
+slow-sleep_again (Some at) w n s = let old = waker_at (Some at) w.sleepers.wakers in
     omega (arith, weigh-append hasty (sleeper_goes old) (pend_as s.who), slow-goes old)
 
-slow-lie : (x : Place) (w : World) (s : Sleeping) → weigh hasty (lie_down_by x w s).next ≡ 0
-slow-lie Up w s = slow-anew _ w s
-slow-lie (Lies n) w s = slow-lie_again _ w n s
-slow-lie Left w s = refl
+slow-sleep : (x : Ticker) (w : World) (s : Sleeping) → weigh hasty (fall_asleep_by x w s).next ≡ 0
+slow-sleep Awake w s = slow-anew _ w s
+slow-sleep (Asleep n) w s = slow-sleep_again _ w n s
+slow-sleep Left w s = refl
 
-slow-up : (x : Place) (w : World) (who : Sleeper) → weigh hasty (get_up_by x w who).next ≡ 0
-slow-up Up w who = refl
-slow-up (Lies n) w who = slow-goes (waker_of n w.sleepers.wakers)
+slow-up : (x : Ticker) (w : World) (who : TickOrRun) → weigh hasty (wake_up_by x w who).next ≡ 0
+slow-up Awake w who = refl
+slow-up (Asleep n) w who = slow-goes (waker_of n w.sleepers.wakers)
 slow-up Left w who = refl
 
-slow-leave : (x : Place) (w : World) (who : Sleeper) → weigh hasty (leave_sleepers_by x w who).next ≡ 0
-slow-leave Up w who = refl
-slow-leave (Lies n) w who =
+slow-leave : (x : Ticker) (w : World) (who : TickOrRun) → weigh hasty (leave_sleepers_by x w who).next ≡ 0
+slow-leave Awake w who = refl
+slow-leave (Asleep n) w who =
     let old = waker_of n w.sleepers.wakers in
     omega (
       arith,
-      weigh-append hasty (sleeper_goes old) (tell_if (is_none old)),
+      weigh-append hasty (sleeper_goes old) (tell_and_return (is_none old)),
       slow-goes old,
-      tell-unseen hasty refl (is_none old),
+      tell-unseen hasty refl refl (is_none old),
     )
 slow-leave Left w who = refl
 
@@ -353,16 +354,16 @@ searching = record {
   wake = λ x. refl;
 }
 
-slow-searches : (who : Sleeper) (w : World) (s : Sleeping) → weigh hasty (search_by_who who w s).next ≡ 0
-slow-searches (sleeper.Tick t) w s = slow-search (place_of w s.who) w w.queue.items s
-slow-searches (sleeper.Run r) w s = own-unseen hasty searching _ w _
+slow-searches : (who : TickOrRun) (w : World) (s : Sleeping) → weigh hasty (search_by_who who w s).next ≡ 0
+slow-searches (tick_or_run.Tick t) w s = slow-search (place_of w s.who) w w.queue.items s
+slow-searches (tick_or_run.Run r) w s = own-unseen hasty searching _ w _
 
 slow-tick : (h : Hint) (o : TickOp) (w : World) → weigh hasty (tick_act h o w).next ≡ 0
 slow-tick h tick_op.MakeTick w = slow-make _ w
 slow-tick h (tick_op.Search s) w = slow-searches s.who w s
 slow-tick h (tick_op.CopyWaker s) w = slow-copy_sleeper _ w s
-slow-tick h (tick_op.LieDown s) w = slow-lie _ w s
-slow-tick h (tick_op.GetUp who) w = slow-up _ w who
+slow-tick h (tick_op.FallAsleep s) w = slow-sleep _ w s
+slow-tick h (tick_op.WakeUp who) w = slow-up _ w who
 slow-tick h (tick_op.Leave who) w = slow-leave _ w who
 
 slow-made : (b : Bool) (w : World) → weigh hasty (runs.make_run_by b w).next ≡ 0
@@ -370,15 +371,11 @@ slow-made true w = refl
 slow-made false w = refl
 
 slow-list : (h : Hint) (o : ListOp) (w : World) → hasty (op.List o) ≡ 0 → weigh hasty (list_act h o w).next ≡ 0
-slow-list h (list_op.LockWrite section.MakeRun) w z = refl
-slow-list h (list_op.LockWrite (section.Register x)) w z = refl
 slow-list h (list_op.LockWrite (section.Unregister r a)) w z = omega (arith, z)
 slow-list h (list_op.Write section.MakeRun) w z = slow-made _ w
-slow-list h (list_op.Write (section.Register x)) w z = refl
 slow-list h (list_op.Write (section.Unregister r a)) w z = omega (arith, z)
-slow-list h list_op.UnlockWrite w z = refl
 slow-list h (list_op.LockRead x) w z = walk-unseen hasty searching x w.listed _ _
-slow-list h list_op.UnlockRead w z = refl
+slow-list h _ w z = refl
 
 slow-wake : (p : ℕ) (h : Hint) (w : World) (a : Waker) → weigh hasty (runs.call_by_reference p w a).next ≡ 0
 slow-wake p h w (Task g) =

@@ -1,3 +1,4 @@
+-- For queueings_are_counted.
 -- Each step changes the queue as a closable queue changes.
 use Rattle.std.proofs.Common.{◌≡◌, ℕ, ◌+◌, ◌-◌, ◌<◌, ◌≤◌, List, [], ◌∷◌, ◌++◌, length, drop, Bool}
 use Rattle.std.proofs.Common.{true, false, ◌&&◌, not, ltb, refl, sym, ap, ◌∙◌, subst, arith, length-append, Result}
@@ -5,28 +6,22 @@ use Rattle.std.proofs.lemmas.Bool.Decides.{nat_tests}
 use Rattle.std.specs.Prelude.{Option, Some, None, reverse}
 use Rattle.queue_steps.specs.ClosableQueue.{ClosableQueue, most_accepted, HasRoom, appended, taken, shut}
 use Rattle.task_moves.specs.declared.moves.owed.Answer.{Answer}
-use Rattle.task_moves.specs.declared.moves.owed.Moved.{Moved}
-use Rattle.task_moves.specs.Moves as moves
 use Rattle.executor_model.specs.declared.call.Call.{Call}
 use Rattle.executor_model.specs.declared.call.Call.TheVariants as call
 use Rattle.executor_model.specs.declared.call.Reply.{Reply}
 use Rattle.executor_model.specs.declared.event.Answer.TheVariants as answer
-use Rattle.executor_model.specs.declared.event.Event.{Event}
 use Rattle.executor_model.specs.declared.event.Event.TheVariants as event
-use Rattle.executor_model.specs.declared.op.Hold.{Hold}
 use Rattle.executor_model.specs.declared.op.Waker.{Waker}
-use Rattle.executor_model.specs.declared.op.Waker.TheVariants.{Task, Outside}
 use Rattle.executor_model.specs.declared.op.Op.{Op}
 use Rattle.executor_model.specs.declared.op.Op.TheVariants as op
 use Rattle.executor_model.specs.declared.op.ClosingOp.TheVariants as closing_op
-use Rattle.executor_model.specs.declared.op.HandleOp.TheVariants as handle_op
 use Rattle.executor_model.specs.declared.op.Polled.{Polled}
 use Rattle.executor_model.specs.declared.op.Polled.TheVariants as of
 use Rattle.executor_model.specs.declared.op.RunOp.{RunOp}
 use Rattle.executor_model.specs.declared.op.RunOp.TheVariants as run_op
 use Rattle.executor_model.specs.declared.op.RunPoll.{RunPoll}
-use Rattle.executor_model.specs.declared.op.Sleeper.{Sleeper}
-use Rattle.executor_model.specs.declared.op.Sleeper.TheVariants as sleeper
+use Rattle.executor_model.specs.declared.op.TickOrRun.{TickOrRun}
+use Rattle.executor_model.specs.declared.op.TickOrRun.TheVariants as tick_or_run
 use Rattle.executor_model.specs.declared.op.Sleeping.{Sleeping}
 use Rattle.executor_model.specs.declared.op.Source.{Source}
 use Rattle.executor_model.specs.declared.op.Source.TheVariants.{Common, Own}
@@ -35,11 +30,8 @@ use Rattle.executor_model.specs.declared.op.StealOp.{StealOp}
 use Rattle.executor_model.specs.declared.op.StealOp.TheVariants as steal_op
 use Rattle.executor_model.specs.declared.op.TickOp.{TickOp}
 use Rattle.executor_model.specs.declared.op.TickOp.TheVariants as tick_op
-use Rattle.task_moves.specs.declared.moves.owed.Move.TheVariants as move
 use Rattle.executor_model.specs.declared.op.QueueOp.TheVariants as queue_op
-use Rattle.executor_model.specs.declared.op.TableOp.TheVariants as table_op
 use Rattle.executor_model.specs.declared.op.UserOp.TheVariants as user_op
-use Rattle.executor_model.specs.declared.op.WakerOp.TheVariants as waker_op
 use Rattle.executor_model.specs.declared.step.Hint.{Hint}
 use Rattle.executor_model.specs.declared.step.Step.{Step}
 use Rattle.executor_model.specs.declared.step.Step.TheVariants.{Begin, Go}
@@ -48,26 +40,26 @@ use Rattle.executor_model.specs.declared.step.StepError.{StepError}
 use Rattle.executor_model.specs.declared.step.StepError.TheVariants.{NoSuch}
 use Rattle.executor_model.specs.declared.step.UserEnd.{UserEnd}
 use Rattle.executor_model.specs.declared.step.UserEnd.TheVariants as end
-use Rattle.executor_model.specs.World.{World, Place, Done, log, log_if, task, put}
-use Rattle.executor_model.specs.Acts.{append_by, take_by, enter_by, leave_by, copy_by, look_by, look_again_by}
-use Rattle.executor_model.specs.Acts.{copy_awaiter_by, register_by, end_register_by, notify_by, call_waker}
-use Rattle.executor_model.specs.Acts.{drop_next_by, wake_next_by, drain_by}
+use Rattle.executor_model.specs.World.{World, Ticker, Done, log}
+use Rattle.executor_model.specs.Acts.{append_by, take_by}
+use Rattle.executor_model.specs.Acts.{drain_by}
 use Rattle.executor_model.specs.ActsOfSleepers.{search_by}
 use Rattle.executor_model.specs.ActsOfRuns as runs
 use Rattle.executor_model.specs.Doing.{act, run_act, search_by_who, steal_act, tick_act}
 use Rattle.executor_model.specs.Steps.{Machine, stack, top, below_top, refusal, go_refusal, unless}
 use Rattle.executor_model.specs.Steps.{begun, react, future_of, mine, kept, with_future, settled_by}
 use Rattle.executor_model.specs.Steps.{gone_on, after, step, stepped, run, start}
-use Rattle.executor_model.proofs.Lift.{topped, good}
-use Rattle.executor_model.proofs.LeavingRuns.{placed, has-place}
-use Rattle.executor_model.proofs.Entering.{finds-place}
-use Rattle.executor_model.proofs.Spawning.{in-range}
-use Rattle.executor_model.proofs.Stepping.{step-refused, step-made}
-use Rattle.executor_model.proofs.RunsQueue.{queue-by_reference, queue-length, queue-list, queue-look, queue-more, queue-own}
-use Rattle.executor_model.proofs.RunsQueue.{queue-put, queue-reschedule, queue-room, queue-stolen}
-use Rattle.executor_model.proofs.SleepersWorlds.{Rest, call-rest, sleeper-rest, tick-rest, searches}
-use Rattle.runs_laws.specs.Queueings.{queued_by, queueings, counting, Changes, counted_after, CountsQueueings}
-use Rattle.runs_laws.specs.Queueings.Changes.{stays, appends, takes, closes}
+use Rattle.executor_model.proofs.Steps.Lift.{topped, good}
+use Rattle.executor_model.proofs.Table.LeavingExecutions.{placed, has-place}
+use Rattle.executor_model.proofs.Table.Entering.{finds-place}
+use Rattle.executor_model.proofs.Table.Spawning.{in-range}
+use Rattle.executor_model.proofs.Steps.Stepping.{step-refused, step-made}
+use Rattle.executor_model.proofs.Awaiters.RunsQueue.{queue-by_reference, queue-length, queue-list, queue-look, queue-more, queue-own}
+use Rattle.executor_model.proofs.Awaiters.RunsQueue.{queue-put, queue-reschedule, queue-room, queue-stolen}
+use Rattle.executor_model.proofs.OwnQueues.RunsAside.{Rest as Whole, frame-act}
+use Rattle.executor_model.proofs.Awaiters.SleepersWorlds.{Rest, sleeper-rest, tick-rest, searches}
+use Rattle.executor_laws.specs.Queueings.{queued_by, queueings, counting, Changes, counted_after, CountsQueueings}
+use Rattle.executor_laws.specs.Queueings.Changes.{stays, appends, takes, closes}
 
 -- what doing o does to the queue
 data Turns (o : Op) (q new : ClosableQueue ℕ) : Type 0 where
@@ -92,57 +84,8 @@ turns-drain : (p : ℕ) (w : World) (items : List ℕ) → w.queue.items ≡ ite
 turns-drain p w [] e = same refl
 turns-drain p w (f ∷ rest) e = less f rest e refl
 
--- all else leaves it
-
-logged : (b : Bool) (w : World) (e : Event) → (log_if b w e).queue ≡ w.queue
-logged true w e = refl
-logged false w e = refl
-
-entered : (b c : Bool) (p : ℕ) (w : World) → (enter_by b c p w).world.queue ≡ w.queue
-entered true c p w = refl
-entered false true p w = refl
-entered false false p w = refl
-
-leaves : (b : Bool) (w : World) (f : ℕ) → (leave_by b w f).world.queue ≡ w.queue
-leaves true w f = refl
-leaves false w f = refl
-
-copies : (b : Bool) (w : World) (f : ℕ) (held : Hold) → (copy_by b w f held).world.queue ≡ w.queue
-copies true w f held = refl
-copies false w f held = refl
-
-looks : (a : Option Answer) (p : ℕ) (w : World) (f : ℕ) (x : Waker) (m : Moved) →
-    (look_by a p w f x m).world.queue ≡ w.queue
-looks None p w f x m = refl
-looks (Some a) p w f x m = logged _ (put (log w (event.HandlePolled p f)) f m.state) (event.OutputGiven p f)
-
-looks-again : (a : Option Answer) (p : ℕ) (w : World) (f : ℕ) (m : Moved) →
-    (look_again_by a p w f m).world.queue ≡ w.queue
-looks-again None p w f m = refl
-looks-again (Some a) p w f m = logged _ (put w f m.state) (event.OutputGiven p f)
-
-copies-awaiter : (b : Bool) (p : ℕ) (w : World) (f : ℕ) (a : Waker) → (copy_awaiter_by b p w f a).world.queue ≡ w.queue
-copies-awaiter true p w f a = refl
-copies-awaiter false p w f (Task g) = refl
-copies-awaiter false p w f (Outside x) = refl
-
-registers : (b : Bool) (w : World) (f : ℕ) (a : Waker) (k : ℕ) → (register_by b w f a k).world.queue ≡ w.queue
-registers true w f a k = refl
-registers false w f a k = refl
-
-ends-register : (b : Bool) (w : World) (f : ℕ) (a : Waker) (k : ℕ) → (end_register_by b w f a k).world.queue ≡ w.queue
-ends-register true w f a k = refl
-ends-register false w f a k = refl
-
-notifies : (b : Bool) (w : World) (f : ℕ) (mine : Bool) → (notify_by b w f mine).world.queue ≡ w.queue
-notifies true w f mine = refl
-notifies false w f mine = refl
-
-calls : (p : ℕ) (w : World) (o : Polled) (a : Waker) (k : ℕ) → (call_waker p w o a k).world.queue ≡ w.queue
-calls p w o a k = sym (ap (λ (r : Rest). r.queue) (call-rest p w o a k))
-
 -- of what a tick does, the search alone takes
-turns-search : (x : Place) (w : World) (items : List ℕ) (s : Sleeping) → w.queue.items ≡ items →
+turns-search : (x : Ticker) (w : World) (items : List ℕ) (s : Sleeping) → w.queue.items ≡ items →
     Turns (op.Tick (tick_op.Search s)) w.queue (search_by x w items s).world.queue
 turns-search x w [] s e = same refl
 turns-search x w (f ∷ rest) s e = less f rest e refl
@@ -177,10 +120,10 @@ turns-run p h (run_op.WakeOwn x) w =
     same (queue-by_reference p (log w (event.WakerCalled p (of.Run x.run) x.poll x.waker)) x.waker)
 turns-run p h (run_op.Reschedule r a) w = same (queue-reschedule _ w r a)
 
-turns-searches : (who : Sleeper) (w : World) (s : Sleeping) →
+turns-searches : (who : TickOrRun) (w : World) (s : Sleeping) →
     Turns (op.Tick (tick_op.Search s)) w.queue (search_by_who who w s).world.queue
-turns-searches (sleeper.Tick t) w s = turns-search _ w w.queue.items s refl
-turns-searches (sleeper.Run r) w s = same (queue-own _ w _)
+turns-searches (tick_or_run.Tick t) w s = turns-search _ w w.queue.items s refl
+turns-searches (tick_or_run.Run r) w s = same (queue-own _ w _)
 
 turns-tick : (h : Hint) (o : TickOp) (w : World) (b : Bool) → searches o ≡ b →
     Turns (op.Tick o) w.queue (tick_act h o w).world.queue
@@ -188,45 +131,18 @@ turns-tick h (tick_op.Search s) w b e = turns-searches s.who w s
 turns-tick h o w false e = same (sym (ap (λ (r : Rest). r.queue) (tick-rest h o w e)))
 turns-tick h _ w true e = absurd (cc)
 
-drops-next : (p : ℕ) (w : World) (fs : List ℕ) → (drop_next_by p w fs).world.queue ≡ w.queue
-drops-next p w [] = refl
-drops-next p w (f ∷ fs) = refl
-
-wakes-next : (p : ℕ) (w : World) (fs : List ℕ) → (wake_next_by p w fs).world.queue ≡ w.queue
-wakes-next p w [] = refl
-wakes-next p w (f ∷ fs) = logged _ (record w { waking = fs }) (event.Woken p f)
-
 turns-act : (p : ℕ) (h : Hint) (o : Op) (w : World) → Turns o w.queue (act p h o w).world.queue
-turns-act p h (op.Table table_op.Enter) w = same (entered _ _ p w)
 turns-act p h (op.Queue queue_op.Take) w = turns-take w w.queue.items refl
 turns-act p h (op.Queue (queue_op.Append f)) w = turns-append w.queue.closed _ w f refl
-turns-act p h (op.Move move.WakeByReference f) w = same (logged _ w (event.Woken p f))
-turns-act p h (op.Move move.Wake f) w = same (logged _ w (event.Woken p f))
-turns-act p h (op.Move move.TakeUp f) w = same (logged _ w (event.PollBegun p f))
-turns-act p h (op.Move move.Cancel f) w = same (logged _ w (event.Cancelled p f))
-turns-act p h (op.Move move.Detach f) w = same (logged _ w (event.Detached p f))
-turns-act p h (op.Table (table_op.LeaveTable f)) w = same (leaves _ w f)
-turns-act p h (op.Waker (waker_op.CopyWaker f held)) w = same (copies _ w f held)
-turns-act p h (op.Handle (handle_op.Look f a)) w =
-    same (looks (moves.poll (task w f)).owed.answer p w f a (moves.poll (task w f)))
-turns-act p h (op.Handle (handle_op.CopyAwaiter f a)) w = same (copies-awaiter _ p w f a)
-turns-act p h (op.Handle (handle_op.Register f a k)) w = same (registers _ w f a k)
-turns-act p h (op.Handle (handle_op.EndRegister f a k)) w = same (ends-register _ w f a k)
-turns-act p h (op.Handle (handle_op.LookAgain f)) w =
-    same (looks-again (moves.look_again (task w f)).owed.answer p w f (moves.look_again (task w f)))
-turns-act p h (op.Handle (handle_op.Notify f mine)) w = same (notifies _ w f mine)
-turns-act p h (op.Waker (waker_op.CallAwaiter f a k)) w = same (calls p w (of.Handle f) a k)
 turns-act p h (op.Sleeper o) w = same (sym (ap (λ (r : Rest). r.queue) (sleeper-rest p o w)))
 turns-act p h (op.Tick o) w = turns-tick h o w (searches o) refl
 turns-act p h (op.List o) w = same (queue-list h o w)
 turns-act p h (op.Steal o) w = turns-steal p o w
 turns-act p h (op.Run o) w = turns-run p h o w
-turns-act p h (op.Closing closing_op.DropNext) w = same (drops-next p w w.leaving)
-turns-act p h (op.Closing closing_op.WakeNext) w = same (wakes-next p w w.waking)
 turns-act p h (op.Closing closing_op.Close) w = shuts refl
 turns-act p h (op.Closing closing_op.Drain) w = turns-drain p w w.queue.items refl
-turns-act p h (op.User (user_op.BeginDrop f)) w = same refl
-turns-act p h _ w = same refl
+turns-act p h (op.User (user_op.PollOwn x)) w = same refl
+turns-act p h o w = same (ap (λ (r : Whole). r.queue) (sym (frame-act p h o w refl).rest))
 
 reacts : (p : ℕ) (o : Op) (u : UserEnd) (w : World) → (react p o u w).world.queue ≡ w.queue
 reacts p (op.User (user_op.Poll f)) (end.Polled answer.Pending) w = refl

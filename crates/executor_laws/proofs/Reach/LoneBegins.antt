@@ -1,3 +1,4 @@
+-- For common_futures_are_in_reach and arrival_order_needs_fewer_ticks.
 -- Which calls that look for a future can begin where no call is in progress.
 use Rattle.std.proofs.Common.{◌≡◌, ℕ, ◌<◌, List, [], length, Bool, true, false, ◌&&◌, not, ◌==◌, ap, ◌∙◌, arith}
 use Rattle.std.proofs.lemmas.Bool.Decides.{nat_tests}
@@ -12,11 +13,11 @@ use Rattle.executor_model.specs.Emptiness.{IsAtRest}
 use Rattle.executor_model.specs.Rows.{ticking_of}
 use Rattle.executor_model.specs.Steps.{Machine, stack, top, is_unused, lives, unless, begin_refusal, refusal}
 use Rattle.executor_model.specs.World.{tick_of}
-use Rattle.executor_model.proofs.Resting.{all-rest}
-use Rattle.runs_reach.proofs.Reached.{bonded-here, heard-here}
-use Rattle.executor_model.proofs.Reached.{Reached, good-here, deep-here}
-use Rattle.runs_reach.proofs.Placing.{here, idle}
-use Rattle.runs_reach.proofs.Ticking.{none-refused}
+use Rattle.executor_model.proofs.Quiet.Resting.{all-rest}
+use Rattle.executor_laws.proofs.Reach.Reached.{bonded-here, heard-here}
+use Rattle.executor_model.proofs.Steps.Reached.{Reached, good-here, deep-here}
+use Rattle.executor_laws.proofs.Placement.Placing.{here, idle}
+use Rattle.executor_laws.proofs.Exactness.Ticking.{none-refused}
 
 module _ (s : Machine) (r : Reached s) (rest : IsAtRest s) (p : ℕ) where
   idles : (q : ℕ) → stack s q ≡ []

@@ -1,3 +1,4 @@
+-- For common_futures_are_in_reach and arrival_order_needs_fewer_ticks.
 -- What happens within a lone call that searches, once its future is taken: the queue and the trace only get longer,
 -- and no other call begins.
 use Rattle.std.proofs.Common.{◌≡◌, ℕ, List, [], ◌∷◌, ◌++◌, Bool, true, false, refl}
@@ -18,10 +19,11 @@ use Rattle.executor_model.specs.declared.op.HandleOp.TheVariants as handle_op
 use Rattle.executor_model.specs.declared.op.Polled.{Polled}
 use Rattle.executor_model.specs.declared.op.Polled.TheVariants as of
 use Rattle.executor_model.specs.declared.op.QueueOp.TheVariants as queue_op
+use Rattle.executor_model.specs.declared.op.RunOp.TheVariants as run_op
 use Rattle.executor_model.specs.declared.op.Sleeping.{Sleeping}
 use Rattle.executor_model.specs.declared.op.SleeperOp.{SleeperOp}
 use Rattle.executor_model.specs.declared.op.SleeperOp.TheVariants as sleeper_op
-use Rattle.executor_model.specs.declared.op.Sleeper.{Sleeper}
+use Rattle.executor_model.specs.declared.op.TickOrRun.{TickOrRun}
 use Rattle.executor_model.specs.declared.op.TableOp.TheVariants as table_op
 use Rattle.executor_model.specs.declared.op.TickOp.TheVariants as tick_op
 use Rattle.executor_model.specs.declared.op.UserOp.TheVariants as user_op
@@ -31,16 +33,17 @@ use Rattle.executor_model.specs.declared.step.UserEnd.{UserEnd}
 use Rattle.executor_model.specs.declared.step.UserEnd.TheVariants as end
 use Rattle.executor_model.specs.Trace.{Trace}
 use Rattle.executor_parts.specs.Sleepers.{waker_of}
-use Rattle.executor_model.specs.ActsOfSleepers.{get_up_by, polled_as}
-use Rattle.executor_model.proofs.SleepersNext.{goes-unseen}
-use Rattle.executor_model.specs.World.{Place, Up, Lies, Left}
+use Rattle.executor_model.specs.ActsOfRuns.{return_room}
+use Rattle.executor_model.specs.ActsOfSleepers.{wake_up_by, polled_as}
+use Rattle.executor_model.proofs.Steps.SleepersNext.{goes-unseen}
+use Rattle.executor_model.specs.World.{Ticker, Awake, Asleep, Left}
 use Rattle.executor_model.specs.World.{World, Done, done, log, log_if, task, put, among, awaiter_of}
 use Rattle.executor_model.specs.Carried.{carried}
 use Rattle.executor_model.specs.Acts.{append_by, leave_by, notify_by}
 use Rattle.executor_model.specs.Acts.{call_waker}
 use Rattle.executor_model.specs.Steps.{waits, accepts, react}
 use Rattle.executor_model.specs.Weights.{weigh}
-use Rattle.executor_model.proofs.Asides.{Aside, aside-owed, aside-told}
+use Rattle.executor_model.proofs.Steps.Asides.{Aside, aside-owed, aside-told}
 use Rattle.executor_model.specs.Doing.{sleeper_act, act}
 use Rattle.executor_model.specs.ActsOfSleepers.{exchange_by, hand_out_by}
 
@@ -63,10 +66,11 @@ stray_of (op.Closing closing_op.Drain) = 1
 stray_of (op.Tick tick_op.MakeTick) = 1
 stray_of (op.Tick (tick_op.Search s)) = 1
 stray_of (op.Tick (tick_op.CopyWaker s)) = 1
-stray_of (op.Tick (tick_op.LieDown s)) = 1
+stray_of (op.Tick (tick_op.FallAsleep s)) = 1
 stray_of (op.Tick (tick_op.Leave who)) = 1
 stray_of (op.List o) = 1
 stray_of (op.Steal o) = 1
+stray_of (op.Run run_op.ReturnRoom) = 0
 stray_of (op.Run o) = 1
 stray_of (op.User (user_op.PollOwn x)) = 1
 stray_of (op.User (user_op.DropOwn r)) = 1
@@ -176,11 +180,11 @@ inner-sleeper p sleeper_op.ExchangeFlag w = inner-exchange _ w
 inner-sleeper p sleeper_op.HandOut w = inner-hand_out _ _ w
 inner-sleeper p (sleeper_op.CallSleeper s) w = inner-call p w (polled_as s.who) s.waker s.poll
 
--- a tick gets up, and its old waker goes
-inner-up : (x : Place) (w : World) (who : Sleeper) → Inner w (get_up_by x w who)
-inner-up Up w who = still w w [] refl refl refl refl
-inner-up (Lies n) w who =
-    still w (get_up_by (Lies n) w who).world (get_up_by (Lies n) w who).next refl refl refl
+-- a tick wakes up, and its old waker goes
+inner-up : (x : Ticker) (w : World) (who : TickOrRun) → Inner w (wake_up_by x w who)
+inner-up Awake w who = still w w [] refl refl refl refl
+inner-up (Asleep n) w who =
+    still w (wake_up_by (Asleep n) w who).world (wake_up_by (Asleep n) w who).next refl refl refl
     (goes-unseen stray_of (λ f. refl) (waker_of n w.sleepers.wakers))
 inner-up Left w who = still w w [] refl refl refl refl
 
@@ -207,10 +211,11 @@ inner-act p h (op.Handle (handle_op.EndNotify f mine)) w n z =
     still w _ _ refl refl refl (aside-told stray_of no-stray _ f (awaiter_of w f))
 inner-act p h (op.Waker (waker_op.CallAwaiter f a k)) w n z = inner-call p w (of.Handle f) a k
 inner-act p h (op.Sleeper o) w n z = inner-sleeper p o w
-inner-act p h (op.Tick (tick_op.GetUp who)) w n z = inner-up _ w who
+inner-act p h (op.Tick (tick_op.WakeUp who)) w n z = inner-up _ w who
 inner-act p h (op.Tick _) w n z = absurd (cc)
 inner-act p h (op.List o) w n z = absurd (cc)
 inner-act p h (op.Steal o) w n z = absurd (cc)
+inner-act p h (op.Run run_op.ReturnRoom) w n z = still w (return_room w).world [] refl refl refl refl
 inner-act p h (op.Run o) w n z = absurd (cc)
 inner-act p h (op.Table table_op.Enter) w n z = absurd (cc)
 inner-act p h (op.Table table_op.LookAtTable) w n z = absurd (cc)

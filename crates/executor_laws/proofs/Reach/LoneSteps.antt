@@ -1,3 +1,4 @@
+-- For common_futures_are_in_reach and arrival_order_needs_fewer_ticks.
 -- A lone call that searches takes the future that is first in the queue, whatever the user code in it answers.
 use Rattle.std.proofs.Common.{◌≡◌, ◌⊎◌, ℕ, List, [], ◌∷◌, ◌++◌, Bool, true, false, ◌||◌, not, eqb, refl, sym}
 use Rattle.std.proofs.Common.{ap, ◌∙◌, subst, inl, inr, ⊎_elim, arith, append_assoc}
@@ -24,13 +25,13 @@ use Rattle.executor_model.specs.Carried.{owed_ops, carried}
 use Rattle.executor_model.specs.Steps.{Part, top, below_top, waits, accepts, is_locked_out, unless, go_refusal, answer_refusal, react, part}
 use Rattle.executor_model.specs.Steps.{end_of, settled, settled_by, onto, gone_on, part_after}
 use Rattle.executor_model.specs.Weights.{weigh}
-use Rattle.executor_model.proofs.Lists.{weigh-append, weigh-reverse}
-use Rattle.executor_model.proofs.Lift.{topped}
-use Rattle.executor_model.proofs.Spawning.{top-last}
-use Rattle.runs_reach.specs.Reach.{takes}
-use Rattle.runs_reach.proofs.LoneMoves.{stray_of, Inner, logged, inner-act, inner-carried, inner-react}
+use Rattle.executor_model.proofs.Steps.Lists.{weigh-append, weigh-reverse}
+use Rattle.executor_model.proofs.Steps.Lift.{topped}
+use Rattle.executor_model.proofs.Table.Spawning.{top-last}
+use Rattle.executor_laws.specs.Reach.{takes}
+use Rattle.executor_laws.proofs.Reach.LoneMoves.{stray_of, Inner, logged, inner-act, inner-carried, inner-react}
 use Rattle.executor_model.specs.Doing.{act}
-use Rattle.executor_model.proofs.Tests.{or-left, or-right}
+use Rattle.executor_model.proofs.Steps.Tests.{or-left, or-right}
 
 -- what goes on isn't user code, and what answers is accepted
 

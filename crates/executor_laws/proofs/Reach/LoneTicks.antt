@@ -1,3 +1,4 @@
+-- For common_futures_are_in_reach and arrival_order_needs_fewer_ticks.
 -- From the beginning of a lone call that searches to its end.
 use Rattle.std.proofs.Common.{◌≡◌, ℕ, ◌<◌, List, [], ◌∷◌, ◌++◌, length, Bool, true, false, ◌&&◌, eqb, ltb}
 use Rattle.std.proofs.Common.{refl, sym, ap, ◌∙◌, subst, arith, get_or-set_same, Ok}
@@ -14,14 +15,14 @@ use Rattle.executor_model.specs.declared.step.StepError.{StepError}
 use Rattle.executor_model.specs.declared.step.StepError.TheVariants.{NoSuch, WrongAnswer}
 use Rattle.executor_model.specs.Trace.{Trace}
 use Rattle.executor_model.specs.World.{World}
-use Rattle.executor_model.specs.Runs.{run_all}
+use Rattle.executor_model.specs.Executions.{run_all}
 use Rattle.executor_model.specs.Steps.{Machine, Part, stack, top, accepts, onto, go_refusal, answer_refusal}
 use Rattle.executor_model.specs.Steps.{part_refusal, party_of, refusal, unless, part_after, with_part, after}
-use Rattle.runs_laws.specs.LoneEnds.{is_onward_of, are_onward_of}
-use Rattle.runs_reach.proofs.LoneSteps.{Going, Ended, Arrives, HasEntry, answering, on-go, on-answer}
-use Rattle.runs_reach.proofs.LoneSteps.Arrives.{going, ended}
+use Rattle.executor_laws.specs.LoneEnds.{is_onward_of, are_onward_of}
+use Rattle.executor_laws.proofs.Reach.LoneSteps.{Going, Ended, Arrives, HasEntry, answering, on-go, on-answer}
+use Rattle.executor_laws.proofs.Reach.LoneSteps.Arrives.{going, ended}
 use Rattle.executor_model.specs.Doing.{act}
-use Rattle.executor_model.proofs.Reached.{Reached, run-first, reached-step}
+use Rattle.executor_model.proofs.Steps.Reached.{Reached, run-first, reached-step}
 
 pub left-true : (a b : Bool) → (a && b) ≡ true → (a ≡ true) × (b ≡ true)
 left-true true b e = (refl, e)

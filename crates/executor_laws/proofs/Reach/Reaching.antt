@@ -1,3 +1,4 @@
+-- For common_futures_are_in_reach and arrival_order_needs_fewer_ticks.
 -- Lone calls that look for a future reach the common ones.
 use Rattle.std.proofs.Common.{◌≡◌, ◌≢◌, eqb, ℕ, zero, suc, ◌<◌, ◌≤◌, List, [], ◌∷◌, ◌++◌, length}
 use Rattle.std.proofs.Common.{drop, Bool, true, false, ◌||◌, refl, sym, ap, ◌∙◌, ⊎_elim, arith}
@@ -15,24 +16,24 @@ use Rattle.executor_model.specs.declared.step.Step.TheVariants.{Begin}
 use Rattle.executor_model.specs.Trace.{Trace, has}
 use Rattle.executor_model.specs.Keeper.{IsCommon}
 use Rattle.executor_model.specs.Emptiness.{IsAtRest}
-use Rattle.executor_model.specs.Runs.{run_all, EveryMachine}
+use Rattle.executor_model.specs.Executions.{run_all, EveryMachine}
 use Rattle.executor_model.specs.Weights.{same}
 use Rattle.executor_model.specs.Sound.{times}
 use Rattle.executor_model.specs.Steps.{Machine, run, start}
-use Rattle.executor_model.proofs.Lists.{same_cases}
-use Rattle.executor_model.proofs.Stories.{no-longer}
-use Rattle.executor_model.proofs.Entering.{queue-agrees}
-use Rattle.executor_model.proofs.TraceSteps.{IsContinued, run-continues}
-use Rattle.executor_model.proofs.Reached.{Reached, run-of, good-here, deep-here}
-use Rattle.executor_model.proofs.Tests.{or-left, or-right}
-use Rattle.runs_laws.specs.LoneEnds.{IsLoneCall, LoneCallsEnd}
-use Rattle.runs_reach.specs.Reach.{found_answer, LoneSearch, AreLoneSearches, takes, TakesCommon}
-use Rattle.runs_reach.specs.Reach.{since, HasCommons, IsInReach, IsReachedInOrder}
-use Rattle.runs_reach.proofs.LoneBegins.{poll-begins, tick-begins}
-use Rattle.runs_reach.proofs.Reached.{bonded-here, heard-here}
-use Rattle.runs_reach.proofs.Placing.{common-queue, queue-common}
-use Rattle.runs_reach.proofs.Ticking.{first-times}
-use Rattle.runs_reach.proofs.Searching.{First, first-taken, reached-new, at-rest}
+use Rattle.executor_model.proofs.Steps.Lists.{same_cases}
+use Rattle.executor_model.proofs.OneFuture.Stories.{no-longer}
+use Rattle.executor_model.proofs.Table.Entering.{queue-agrees}
+use Rattle.executor_model.proofs.Steps.TraceSteps.{IsContinued, run-continues}
+use Rattle.executor_model.proofs.Steps.Reached.{Reached, run-of, good-here, deep-here}
+use Rattle.executor_model.proofs.Steps.Tests.{or-left, or-right}
+use Rattle.executor_laws.specs.LoneEnds.{IsLoneCall, LoneCallsEnd}
+use Rattle.executor_laws.specs.Reach.{found_answer, LoneSearch, AreLoneSearches, takes, TakesCommon}
+use Rattle.executor_laws.specs.Reach.{since, HasCommons, IsInReach, IsReachedInOrder}
+use Rattle.executor_laws.proofs.Reach.LoneBegins.{poll-begins, tick-begins}
+use Rattle.executor_laws.proofs.Reach.Reached.{bonded-here, heard-here}
+use Rattle.executor_laws.proofs.Placement.Placing.{common-queue, queue-common}
+use Rattle.executor_laws.proofs.Exactness.Ticking.{first-times}
+use Rattle.executor_laws.proofs.Reach.Searching.{First, first-taken, reached-new, at-rest}
 
 module _ (s : Machine) (r : Reached s) (rest : IsAtRest s) where
   -- a call that looks takes a future that was common
@@ -121,17 +122,17 @@ takes-place (t ∷ ts) s new r rest (g ∷ front) f back q l k =
       taken = list_any-append (takes f) e.grown y.grows.grown ∙ or-right _ _ y.taken;
     }
 
-pub record Place (f : ℕ) (xs : List ℕ) : Type 0 where
+pub record QueuePlace (f : ℕ) (xs : List ℕ) : Type 0 where
   pub front : List ℕ
   pub back : List ℕ
   pub is : xs ≡ front ++ f ∷ back
 
-pub place : (f : ℕ) (xs : List ℕ) → 1 ≤ times f xs → Place f xs
+pub place : (f : ℕ) (xs : List ℕ) → 1 ≤ times f xs → QueuePlace f xs
 place f [] k = absurd (omega (arith, k))
 place f (g ∷ xs) k = ⊎_elim
     (λ (x : (same f g ≡ 1) × (eqb f g ≡ true) × (f ≡ g)).
     record { front = []; back = xs; is = ap (λ (y : ℕ). y ∷ xs) (sym x.2) })
-    (λ (x : (same f g ≡ 0) × (eqb f g ≡ false) × (f ≢ g)). let y : Place f xs = place f xs (omega (
+    (λ (x : (same f g ≡ 0) × (eqb f g ≡ false) × (f ≢ g)). let y : QueuePlace f xs = place f xs (omega (
       arith,
       k,
       x.0,
@@ -158,7 +159,7 @@ module _ (s : Machine) (r : Reached s) (rest : IsAtRest s) where
       AreLoneSearches searches s new → length commons ≤ length searches → (f : ℕ) → IsCommon f s.world.trace →
       has (takes f) (since s new) ≡ true
   takes-all commons k searches new t l f c =
-      let spot : Place f s.world.queue.items =
+      let spot : QueuePlace f s.world.queue.items =
       place f s.world.queue.items
       (common-queue s (good-here s r) (heard-here s r) (deep-here s r) (bonded-here s r) rest f c) in
       let x : Takes f s new =

@@ -1,3 +1,4 @@
+-- For common_futures_are_in_reach and arrival_order_needs_fewer_ticks.
 -- A lone call that looks for a future takes the one that is first in the queue.
 use Rattle.std.proofs.Common.{◌≡◌, ℕ, ◌<◌, ◌≤◌, List, [], ◌∷◌, ◌++◌, length, set, drop}
 use Rattle.std.proofs.Common.{Bool, true, false, ◌||◌, ltb, refl, sym, ap, ◌∙◌, subst, inl, inr, ⊎_elim}
@@ -17,7 +18,7 @@ use Rattle.executor_model.specs.declared.op.Op.{Op}
 use Rattle.executor_model.specs.declared.op.Op.TheVariants as op
 use Rattle.task_moves.specs.declared.moves.owed.Move.TheVariants as move
 use Rattle.executor_model.specs.declared.op.QueueOp.TheVariants as queue_op
-use Rattle.executor_model.specs.declared.op.Sleeper.TheVariants as sleeper
+use Rattle.executor_model.specs.declared.op.TickOrRun.TheVariants as tick_or_run
 use Rattle.executor_model.specs.declared.op.Sleeping.{Sleeping}
 use Rattle.executor_model.specs.declared.op.SleeperOp.TheVariants as sleeper_op
 use Rattle.executor_model.specs.declared.op.TickOp.TheVariants as tick_op
@@ -26,29 +27,29 @@ use Rattle.executor_model.specs.declared.step.Step.TheVariants.{Begin}
 use Rattle.executor_model.specs.Trace.{Trace, has, is_accepted, is_poll, is_dropped, is_drop_begun}
 use Rattle.executor_model.specs.Due.{IsDue}
 use Rattle.executor_model.specs.Emptiness.{IsAtRest}
-use Rattle.executor_model.specs.World.{World, Place, Up, Lies, Left, among, log, tick_of}
+use Rattle.executor_model.specs.World.{World, Ticker, Awake, Asleep, Left, among, log, tick_of}
 use Rattle.executor_model.specs.Acts.{take_by}
-use Rattle.executor_model.specs.Runs.{run_all}
+use Rattle.executor_model.specs.Executions.{run_all}
 use Rattle.executor_model.specs.Sound.{times}
 use Rattle.executor_model.specs.Good.{Good}
 use Rattle.executor_model.specs.Steps.{Machine, stack, onto, part_after, with_part, waker_of as given}
 use Rattle.executor_model.specs.Weights.{weigh}
-use Rattle.executor_model.proofs.Stories.{among_is}
-use Rattle.executor_model.proofs.Telling.{begun-has}
-use Rattle.executor_model.proofs.Entering.{table-agrees}
-use Rattle.executor_model.proofs.AskingRuns.{Heard}
-use Rattle.executor_model.proofs.Resting.{rests}
-use Rattle.runs_laws.specs.LoneEnds.{are_onward_of, IsLoneCall}
-use Rattle.runs_reach.specs.Reach.{found_answer, takes}
-use Rattle.runs_reach.proofs.Placing.{here, idle, queue-common}
-use Rattle.runs_reach.proofs.Ticking.{ticking, first-times}
-use Rattle.runs_reach.proofs.Reached.{bonded-here, heard-here}
-use Rattle.runs_reach.proofs.LoneMoves.{stray_of}
-use Rattle.runs_reach.proofs.LoneSteps.{Ended, HasEntry, answering}
-use Rattle.runs_reach.proofs.LoneTicks.{in-range, no-more, stack-set, walks, GoneOn, goes-on}
+use Rattle.executor_model.proofs.OneFuture.Stories.{among_is}
+use Rattle.executor_model.proofs.OneFuture.Telling.{begun-has}
+use Rattle.executor_model.proofs.Table.Entering.{table-agrees}
+use Rattle.executor_model.proofs.Polls.AskingExecutions.{Heard}
+use Rattle.executor_model.proofs.Quiet.Resting.{rests}
+use Rattle.executor_laws.specs.LoneEnds.{are_onward_of, IsLoneCall}
+use Rattle.executor_laws.specs.Reach.{found_answer, takes}
+use Rattle.executor_laws.proofs.Placement.Placing.{here, idle, queue-common}
+use Rattle.executor_laws.proofs.Exactness.Ticking.{ticking, first-times}
+use Rattle.executor_laws.proofs.Reach.Reached.{bonded-here, heard-here}
+use Rattle.executor_laws.proofs.Reach.LoneMoves.{stray_of}
+use Rattle.executor_laws.proofs.Reach.LoneSteps.{Ended, HasEntry, answering}
+use Rattle.executor_laws.proofs.Reach.LoneTicks.{in-range, no-more, stack-set, walks, GoneOn, goes-on}
 use Rattle.executor_model.specs.ActsOfSleepers.{search_by}
-use Rattle.executor_model.proofs.Reached.{Reached, run-first, reached-more, reached-step, good-here, deep-here}
-use Rattle.executor_model.proofs.Tests.{or-left}
+use Rattle.executor_model.proofs.Steps.Reached.{Reached, run-first, reached-more, reached-step, good-here, deep-here}
+use Rattle.executor_model.proofs.Steps.Tests.{or-left}
 
 -- what a lone call that looks leads to, where there is a future to run
 pub record First (f : ℕ) (xs : List ℕ) (p : ℕ) (c : Call) (r : Reply) (s new : Machine) : Type 0 where
@@ -240,7 +241,7 @@ module _ (s : Machine) (r : Reached s) (rest : IsAtRest s) (p t : ℕ) (b : By) 
   polled-by =
       record {
         waker = given None b;
-        who = sleeper.Tick t;
+        who = tick_or_run.Tick t;
         poll = length (s.world.trace ++ event.CallBegun p (call.PollTick t b) ∷ []);
       }
 
@@ -258,18 +259,18 @@ module _ (s : Machine) (r : Reached s) (rest : IsAtRest s) (p t : ℕ) (b : By) 
       (on-begun s r rest p (call.PollTick t b) steps new k)
 
   -- the machine after the search
-  abbrev found-from : Place → List ℕ → Machine
+  abbrev found-from : Ticker → List ℕ → Machine
   found-from x items = with_part polling p (onto p (search_by x beginning items polled-by) [])
 
-  found-reached : (x : Place) → tick_of s.world t ≡ x → Reached (found-from x (f ∷ xs))
+  found-reached : (x : Ticker) → tick_of s.world t ≡ x → Reached (found-from x (f ∷ xs))
   found-reached x e = subst (λ (items : List ℕ). Reached (found-from x items)) q
-      (subst (λ (y : Place). Reached (found-from y s.world.queue.items)) e searching.reached)
+      (subst (λ (y : Ticker). Reached (found-from y s.world.queue.items)) e searching.reached)
 
-  found-made : (x : Place) → tick_of s.world t ≡ x → run_all searching.others (found-from x (f ∷ xs)) ≡ Ok new
+  found-made : (x : Ticker) → tick_of s.world t ≡ x → run_all searching.others (found-from x (f ∷ xs)) ≡ Ok new
   found-made x e = subst (λ (items : List ℕ). run_all searching.others (found-from x items) ≡ Ok new) q
-      (subst (λ (y : Place). run_all searching.others (found-from y s.world.queue.items) ≡ Ok new) e searching.made)
+      (subst (λ (y : Ticker). run_all searching.others (found-from y s.world.queue.items) ≡ Ok new) e searching.made)
 
-  found-stack : (x : Place) →
+  found-stack : (x : Ticker) →
       stack (found-from x (f ∷ xs)) p ≡ (onto p (search_by x beginning (f ∷ xs) polled-by) []).todo
   found-stack x = stack-set p polling (onto p (search_by x beginning (f ∷ xs) polled-by) []) searching.within
 
@@ -295,16 +296,16 @@ module _ (s : Machine) (r : Reached s) (rest : IsAtRest s) (p t : ℕ) (b : By) 
   first-poll : First f xs p (call.PollTick t b) reply.Ready s new
   first-poll = by (tick_of s.world t) refl
     where
-      by : (x : Place) → tick_of s.world t ≡ x → First f xs p (call.PollTick t b) reply.Ready s new
-      by Up e = from-there (found-from Up (f ∷ xs)) [] (op.Sleeper sleeper_op.ExchangeFlag) (found-reached Up e)
-          (found-stack Up) refl
-          (ap (drop 1) q) refl there searching.others searching.onward (found-made Up e)
+      by : (x : Ticker) → tick_of s.world t ≡ x → First f xs p (call.PollTick t b) reply.Ready s new
+      by Awake e = from-there (found-from Awake (f ∷ xs)) [] (op.Sleeper sleeper_op.ExchangeFlag) (found-reached Awake e)
+          (found-stack Awake) refl
+          (ap (drop 1) q) refl there searching.others searching.onward (found-made Awake e)
       by Left e = from-there (found-from Left (f ∷ xs)) [] (op.Sleeper sleeper_op.ExchangeFlag) (found-reached Left e)
           (found-stack Left) refl (ap (drop 1) q) refl there searching.others searching.onward (found-made Left e)
-      by (Lies n) e = from-there (found-from (Lies n) (f ∷ xs)) (op.Sleeper sleeper_op.ExchangeFlag ∷ [])
-          (op.Tick (tick_op.GetUp (sleeper.Tick t))) (found-reached (Lies n) e)
-          (found-stack (Lies n)) refl (ap (drop 1) q) refl there searching.others searching.onward
-          (found-made (Lies n) e)
+      by (Asleep n) e = from-there (found-from (Asleep n) (f ∷ xs)) (op.Sleeper sleeper_op.ExchangeFlag ∷ [])
+          (op.Tick (tick_op.WakeUp (tick_or_run.Tick t))) (found-reached (Asleep n) e)
+          (found-stack (Asleep n)) refl (ap (drop 1) q) refl there searching.others searching.onward
+          (found-made (Asleep n) e)
 
 same-reply : (a b : Reply) → ◌≡◌ {A = Option Reply} (Some a) (Some b) → a ≡ b
 same-reply a b e = cc

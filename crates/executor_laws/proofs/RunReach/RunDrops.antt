@@ -1,3 +1,4 @@
+-- For runs_reach_futures, kept_futures_are_in_reach and dropped_runs_leave_common_futures.
 -- What a run that is dropped leaves in its own queue comes into the executor's queue.
 use Rattle.std.proofs.Common.{◌≡◌, ◌⊎◌, ◌∙◌, inl, inr, ⊎_elim, ℕ, ◌+◌, ◌<◌, ◌≤◌, List, [], ◌∷◌, ◌++◌, length}
 use Rattle.std.proofs.Common.{get_or, Bool, true, false, ◌||◌, ltb, refl, sym, ap, subst, arith, Ok}
@@ -14,7 +15,7 @@ use Rattle.executor_model.specs.declared.op.Op.TheVariants as op
 use Rattle.executor_model.specs.declared.op.QueueOp.TheVariants as queue_op
 use Rattle.executor_model.specs.declared.op.RunOp.TheVariants as run_op
 use Rattle.executor_model.specs.declared.op.Section.TheVariants as section
-use Rattle.executor_model.specs.declared.op.Sleeper.{Sleeper}
+use Rattle.executor_model.specs.declared.op.TickOrRun.{TickOrRun}
 use Rattle.executor_model.specs.declared.op.TickOp.TheVariants as tick_op
 use Rattle.executor_model.specs.declared.op.UserOp.TheVariants as user_op
 use Rattle.executor_model.specs.declared.step.Step.{Step}
@@ -23,33 +24,33 @@ use Rattle.executor_model.specs.ActsOfRuns.{reschedule_by}
 use Rattle.executor_model.specs.Doing.{act}
 use Rattle.executor_model.specs.Emptiness.{IsAtRest}
 use Rattle.executor_model.specs.Keeper.{IsCommon}
-use Rattle.executor_model.specs.Runs.{run_all}
+use Rattle.executor_model.specs.Executions.{run_all}
 use Rattle.executor_model.specs.Sound.{times}
 use Rattle.executor_model.specs.Steps.{Machine, Part, drop_run, onto, part_after, react, run}
 use Rattle.executor_model.specs.Steps.{stack, start, with_part}
 use Rattle.executor_model.specs.Weights.{weigh, weigh_all}
 use Rattle.executor_model.specs.World.{Ended, Listed, New, Stage, World, done, log, own_of}
 use Rattle.executor_model.specs.World.{place_of, put_run, run_of}
-use Rattle.executor_model.proofs.LeavingRuns.{has-place}
-use Rattle.executor_model.proofs.Lists.{weigh-reverse}
-use Rattle.executor_model.proofs.Resting.{all-rest, rests}
-use Rattle.executor_model.proofs.Using.{emptying_of}
-use Rattle.executor_model.proofs.UsingWorlds.{idle-act, is_over_stage}
-use Rattle.executor_model.proofs.Reached.{Reached, deep-here, good-here, reached-more, reached-step, run-first}
-use Rattle.runs_laws.specs.LoneEnds.{IsLoneCall, are_onward_of, is_onward_of}
-use Rattle.runs_reach.specs.RunReach.{Keeps, LeavesCommon}
-use Rattle.runs_reach.proofs.LoneMoves.{Inner, inner-act, inner-react, stray_of}
-use Rattle.runs_reach.proofs.LoneSteps.{Last, from-end}
-use Rattle.runs_reach.proofs.Reached.{bonded-here, heard-here}
-use Rattle.runs_reach.proofs.LoneTicks.{idle-none, in-range, left-true, of-party, stack-set}
-use Rattle.runs_reach.proofs.Placing.{here, idle, keeper-own, queue-common}
-use Rattle.runs_reach.proofs.RunWalks.{Onward, both-light, light, onward}
-use Rattle.runs_reach.proofs.RunWalks.Onward.{acted, answered}
-use Rattle.runs_reach.proofs.Searching.{at-rest}
-use Rattle.runs_reach.proofs.RunLeaves.{not-for-runs, own-react, more-stands, Remains, Rests, to-end, from-queue}
-use Rattle.runs_reach.proofs.RunLeaves.{from-leaving, from-append, has-room, not-true, gone-onto, gone-reschedule}
-use Rattle.runs_reach.proofs.RunLeaves.{back-again}
-use Rattle.runs_reach.proofs.RunLeaves.Remains.{back, puts, leaves, ends, over}
+use Rattle.executor_model.proofs.Table.LeavingExecutions.{has-place}
+use Rattle.executor_model.proofs.Steps.Lists.{weigh-reverse}
+use Rattle.executor_model.proofs.Quiet.Resting.{all-rest, rests}
+use Rattle.executor_model.proofs.OwnQueues.Using.{emptying_of}
+use Rattle.executor_model.proofs.OwnQueues.UsingWorlds.{idle-act, is_over_stage}
+use Rattle.executor_model.proofs.Steps.Reached.{Reached, deep-here, good-here, reached-more, reached-step, run-first}
+use Rattle.executor_laws.specs.LoneEnds.{IsLoneCall, are_onward_of, is_onward_of}
+use Rattle.executor_laws.specs.RunReach.{Keeps, LeavesCommon}
+use Rattle.executor_laws.proofs.Reach.LoneMoves.{Inner, inner-act, inner-react, stray_of}
+use Rattle.executor_laws.proofs.Reach.LoneSteps.{Last, from-end}
+use Rattle.executor_laws.proofs.Reach.Reached.{bonded-here, heard-here}
+use Rattle.executor_laws.proofs.Reach.LoneTicks.{idle-none, in-range, left-true, of-party, stack-set}
+use Rattle.executor_laws.proofs.Placement.Placing.{here, idle, keeper-own, queue-common}
+use Rattle.executor_laws.proofs.RunReach.RunWalks.{Onward, both-light, light, onward}
+use Rattle.executor_laws.proofs.RunReach.RunWalks.Onward.{acted, answered}
+use Rattle.executor_laws.proofs.Reach.Searching.{at-rest}
+use Rattle.executor_laws.proofs.RunReach.RunLeaves.{own-act, own-react, more-stands, Remains, Rests, to-end, from-queue}
+use Rattle.executor_laws.proofs.RunReach.RunLeaves.{from-leaving, from-append, has-room, not-true, gone-onto, gone-reschedule}
+use Rattle.executor_laws.proofs.RunReach.RunLeaves.{back-again}
+use Rattle.executor_laws.proofs.RunReach.RunLeaves.Remains.{back, puts, leaves, ends, over}
 
 -- f stands in the executor's queue, which is there
 record Stands (f : ℕ) (m : Machine) : Type 0 where
@@ -82,7 +83,7 @@ module _ (p r f : ℕ) (new : Machine) (idles : stack new p ≡ []) where
             again others _ (onto p (act p h o s.world) (op.Run (run_op.Reschedule r a) ∷ below)) te
             (gone-onto p (act p h o s.world) (op.Run (run_op.Reschedule r a) ∷ below) ∙ (i.there ∙ there))
             (back-again p r f a (act p h o s.world) below rest z i.plain
-            (ap (λ (qs : List (List ℕ)). get_or qs r []) (idle-act p h o s.world (not-for-runs o x)).own ∙ w)
+            (ap (λ (qs : List (List ℕ)). get_or qs r []) (own-act p h o s.world x) ∙ w)
             (omega (arith, k, more-stands f s.world (act p h o s.world) i))) y2 n2 on2 l
         go (answered u others te b y2 n2 on2 l) =
             let i : Inner s.world (react p o u s.world) = inner-react p o u s.world b x in
@@ -130,7 +131,7 @@ module _ (p r f : ℕ) (new : Machine) (idles : stack new p ≡ []) where
             (has-place s p g (op.Run (run_op.Reschedule r a) ∷ []) l e (good-here s y) (heard-here s y).placed)) w k)
             y2 n2 on2 l
 
-    by-leaves : (a : Reply) (held : Hold) (who : Sleeper) →
+    by-leaves : (a : Reply) (held : Hold) (who : TickOrRun) →
         stack s p ≡ (op.End a held ∷ []) ++ op.Tick (tick_op.Leave who) ∷ [] → 1 ≤ times f s.world.queue.items →
         Stands f new
     by-leaves a held who e k =

@@ -1,3 +1,4 @@
+-- For runs_reach_futures, kept_futures_are_in_reach and dropped_runs_leave_common_futures.
 -- What a run has found it takes up next, behind what is still to be stolen and who is to be told.
 use Rattle.std.proofs.Common.{◌≡◌, ◌⊎◌, ◌∙◌, ℕ, zero, suc, List, [], ◌∷◌, ◌++◌, Bool, true, false, inl, inr, refl, sym, ap, subst}
 use Rattle.std.proofs.Common.{append-nil, append_assoc, arith}
@@ -10,8 +11,8 @@ use Rattle.executor_model.specs.declared.op.Op.TheVariants as op
 use Rattle.executor_model.specs.declared.op.QueueOp.TheVariants as queue_op
 use Rattle.executor_model.specs.declared.op.RunOp.TheVariants as run_op
 use Rattle.executor_model.specs.declared.op.RunPoll.{RunPoll}
-use Rattle.executor_model.specs.declared.op.Sleeper.{Sleeper}
-use Rattle.executor_model.specs.declared.op.Sleeper.TheVariants as sleeper
+use Rattle.executor_model.specs.declared.op.TickOrRun.{TickOrRun}
+use Rattle.executor_model.specs.declared.op.TickOrRun.TheVariants as tick_or_run
 use Rattle.executor_model.specs.declared.op.SleeperOp.TheVariants as sleeper_op
 use Rattle.executor_model.specs.declared.op.Source.{Source}
 use Rattle.executor_model.specs.declared.op.Source.TheVariants.{Common, Own}
@@ -28,11 +29,11 @@ use Rattle.executor_model.specs.Doing.{steal_act}
 use Rattle.executor_model.specs.Steps.{end_of, top}
 use Rattle.executor_model.specs.Trace.{Trace}
 use Rattle.executor_model.specs.Weights.{weigh}
-use Rattle.executor_model.specs.World.{Done, Left, Lies, Place, Up, World, done}
-use Rattle.executor_model.proofs.Lists.{weigh-append, weigh-reverse}
-use Rattle.executor_model.proofs.Spawning.{top-last}
-use Rattle.runs_reach.proofs.LoneMoves.{stray_of}
-use Rattle.runs_reach.proofs.LoneSteps.{Last, from-end}
+use Rattle.executor_model.specs.World.{Done, Left, Asleep, Ticker, Awake, World, done}
+use Rattle.executor_model.proofs.Steps.Lists.{weigh-append, weigh-reverse}
+use Rattle.executor_model.proofs.Table.Spawning.{top-last}
+use Rattle.executor_laws.proofs.Reach.LoneMoves.{stray_of}
+use Rattle.executor_laws.proofs.Reach.LoneSteps.{Last, from-end}
 
 -- the steal ends with f in hand
 abbrev pub Finds : ℕ → Then → Type 0
@@ -45,11 +46,6 @@ Steals f (steal_op.Length s) = Finds f s.then
 Steals f (steal_op.OwnLength s n) = Finds f s.then
 Steals f (steal_op.Take s more) = Finds f s.then
 Steals f (steal_op.Put s more g) = Finds f s.then
-
--- nothing that is there answers a call
-abbrev pub is_no_end : Op → Bool
-is_no_end (op.End r held) = false
-is_no_end _ = true
 
 -- what is left to do, its last thing on top: f is in the hand of a steal, or to be taken up
 pub data Heading (f : ℕ) (os : List Op) : Type 0 where
@@ -122,15 +118,15 @@ heads-counted_by f true w x = record {
 }
 heads-counted_by f false w x = heads-run_found f (counted_to w x.run _) x
 
-found-light : (x : Place) (who : Sleeper) → weigh stray_of (found_by x who (op.Sleeper sleeper_op.ExchangeFlag ∷ [])) ≡ 0
-found-light Up who = refl
-found-light (Lies n) who = refl
+found-light : (x : Ticker) (who : TickOrRun) → weigh stray_of (found_by x who (op.Sleeper sleeper_op.ExchangeFlag ∷ [])) ≡ 0
+found-light Awake who = refl
+found-light (Asleep n) who = refl
 found-light Left who = refl
 
 pub heads-found : (f : ℕ) (w : World) (x : RunPoll) → Heads f w.trace w.gone (found w x f)
 heads-found f w x =
-    heads-behind f w.trace w.gone (found_by _ (sleeper.Run x.run) (op.Sleeper sleeper_op.ExchangeFlag ∷ []))
-    (counted_by _ w x f) (found-light _ (sleeper.Run x.run)) (heads-counted_by f _ w x)
+    heads-behind f w.trace w.gone (found_by _ (tick_or_run.Run x.run) (op.Sleeper sleeper_op.ExchangeFlag ∷ []))
+    (counted_by _ w x f) (found-light _ (tick_or_run.Run x.run)) (heads-counted_by f _ w x)
 
 -- a steal goes on
 

@@ -1,3 +1,4 @@
+-- For runs_reach_futures, kept_futures_are_in_reach and dropped_runs_leave_common_futures.
 -- A poll of a run that is made alone leaves each future that it doesn't take nearer to the front of the run's queue.
 use Rattle.std.proofs.Common.{◌≡◌, ◌⊎◌, ◌∙◌, inl, inr, ⊎_elim, ℕ, zero, suc, ◌<◌, ◌≤◌, List, [], ◌∷◌, ◌++◌, length}
 use Rattle.std.proofs.Common.{true, false, drop, refl, sym, ap, subst, arith, append-nil, append_assoc, length-append, Ok}
@@ -22,38 +23,38 @@ use Rattle.executor_model.specs.ActsOfRuns.{asleep, behind, search_own_by}
 use Rattle.executor_model.specs.Doing.{act}
 use Rattle.executor_model.specs.Due.{IsDue}
 use Rattle.executor_model.specs.Emptiness.{IsAtRest}
-use Rattle.executor_model.specs.Runs.{run_all}
+use Rattle.executor_model.specs.Executions.{run_all}
 use Rattle.executor_model.specs.Sound.{times}
 use Rattle.executor_model.specs.Steps.{Machine, Part, end_of, onto, part, react, run, settled, settled_by, stack, start, top, with_part}
 use Rattle.executor_model.specs.Trace.{Trace, has}
 use Rattle.executor_model.specs.Weights.{weigh}
 use Rattle.executor_model.specs.World.{Done, World, log, own_of}
-use Rattle.executor_model.proofs.Lists.{times-append, weigh-append, weigh-reverse}
-use Rattle.executor_model.proofs.Spawning.{top-last}
-use Rattle.executor_model.proofs.Stories.{no-longer}
-use Rattle.executor_model.proofs.TraceSteps.{More, more-act, more-onto, more-react}
-use Rattle.executor_model.proofs.Reached.{Reached, deep-here, good-here, run-first}
-use Rattle.executor_model.proofs.Tests.{or-left, or-right}
-use Rattle.runs_laws.specs.LoneEnds.{are_onward_of, is_onward_of}
-use Rattle.runs_reach.specs.Reach.{since, takes}
-use Rattle.runs_reach.specs.RunReach.{AreLonePolls, HasKept, IsKeptReached, IsLonePoll, Keeps, LoneRunPoll}
-use Rattle.runs_reach.proofs.LoneMoves.{stray_of}
-use Rattle.runs_reach.proofs.LoneSteps.{HasEntry, Last, from-end}
-use Rattle.runs_reach.proofs.Reached.{bonded-here, heard-here}
-use Rattle.runs_reach.proofs.LoneTicks.{idle-none, left-true, of-party, stack-set}
-use Rattle.runs_reach.proofs.Placing.{in-own, keeper-own, own-keeper, queued-due}
-use Rattle.runs_reach.proofs.Reaching.{Grows, Place, Takes, grows-and, place, run-grows}
-use Rattle.runs_reach.proofs.RunLeaves.{gone-onto}
-use Rattle.runs_reach.proofs.RunFinds.{Heading, light-no-end}
-use Rattle.runs_reach.proofs.RunReaching.{arrived, entry, is-due, new-idle, poll, reached-new, takes-first}
-use Rattle.runs_reach.proofs.RunReaching.First.{in_own}
-use Rattle.runs_reach.proofs.RunSteps.{After, Aside, Control, Goes, Tracked, after-control, after-own, aside-act}
-use Rattle.runs_reach.proofs.RunSteps.Goes.{ends, finds, finds_behind, on as on_with}
-use Rattle.runs_reach.proofs.RunSteps.{aside-react, no-user, same-own, side-kind, side_of}
-use Rattle.runs_reach.proofs.RunWalks.{Onward, Taken, from-heading, not-nil, onward, with-heading}
-use Rattle.runs_reach.proofs.RunWalks.Onward.{acted, answered}
-use Rattle.runs_reach.proofs.Searching.{at-rest}
-use Rattle.runs_reach.proofs.Ticking.{first-times}
+use Rattle.executor_model.proofs.Steps.Lists.{times-append, weigh-append, weigh-reverse}
+use Rattle.executor_model.proofs.Table.Spawning.{top-last}
+use Rattle.executor_model.proofs.OneFuture.Stories.{no-longer}
+use Rattle.executor_model.proofs.Steps.TraceSteps.{More, more-act, more-onto, more-react}
+use Rattle.executor_model.proofs.Steps.Reached.{Reached, deep-here, good-here, run-first}
+use Rattle.executor_model.proofs.Steps.Tests.{or-left, or-right}
+use Rattle.executor_laws.specs.LoneEnds.{are_onward_of, is_onward_of}
+use Rattle.executor_laws.specs.Reach.{since, takes}
+use Rattle.executor_laws.specs.RunReach.{AreLonePolls, HasKept, IsKeptReached, IsLonePoll, Keeps, LoneRunPoll}
+use Rattle.executor_laws.proofs.Reach.LoneMoves.{stray_of}
+use Rattle.executor_laws.proofs.Reach.LoneSteps.{HasEntry, Last, from-end}
+use Rattle.executor_laws.proofs.Reach.Reached.{bonded-here, heard-here}
+use Rattle.executor_laws.proofs.Reach.LoneTicks.{idle-none, left-true, of-party, stack-set}
+use Rattle.executor_laws.proofs.Placement.Placing.{in-own, keeper-own, own-keeper, queued-due}
+use Rattle.executor_laws.proofs.Reach.Reaching.{Grows, QueuePlace, Takes, grows-and, place, run-grows}
+use Rattle.executor_laws.proofs.RunReach.RunLeaves.{gone-onto}
+use Rattle.executor_laws.proofs.RunReach.RunFinds.{Heading, light-no-end}
+use Rattle.executor_laws.proofs.RunReach.RunReaching.{arrived, entry, is-due, new-idle, poll, reached-new, takes-first}
+use Rattle.executor_laws.proofs.RunReach.RunReaching.First.{in_own}
+use Rattle.executor_laws.proofs.RunReach.RunSteps.{After, Aside, Control, Goes, Tracked, after-control, after-own, aside-act}
+use Rattle.executor_laws.proofs.RunReach.RunSteps.Goes.{ends, finds, finds_behind, on as on_with}
+use Rattle.executor_laws.proofs.RunReach.RunSteps.{aside-react, no-user, same-own, side-kind, side_of}
+use Rattle.executor_laws.proofs.RunReach.RunWalks.{Onward, Taken, from-heading, not-nil, onward, with-heading}
+use Rattle.executor_laws.proofs.RunReach.RunWalks.Onward.{acted, answered}
+use Rattle.executor_laws.proofs.Reach.Searching.{at-rest}
+use Rattle.executor_laws.proofs.Exactness.Ticking.{first-times}
 
 -- what has happened since
 pub record So (before : Trace) (w : World) : Type 0 where
@@ -403,7 +404,7 @@ module _ (s : Machine) (y : Reached s) (rest : IsAtRest s) (r : ℕ) where
       AreLonePolls r polls s new → length keeps ≤ length polls → (f : ℕ) → Keeps r f s.world.trace →
       has (takes f) (since s new) ≡ true
   takes-all keeps h polls new k l f z =
-      let spot : Place f (own_of s.world r) = place f (own_of s.world r)
+      let spot : QueuePlace f (own_of s.world r) = place f (own_of s.world r)
       (keeper-own s (good-here s y) (heard-here s y) (deep-here s y) (bonded-here s y) rest f r z.due z.keeper) in
       takes-between f s new (takes-place polls s new y rest r f (length spot.front)
       (record { front = spot.front; later = spot.back; is = spot.is; few = omega arith }) (omega (

@@ -1,3 +1,4 @@
+-- For runs_reach_futures, kept_futures_are_in_reach and dropped_runs_leave_common_futures.
 -- What is left of the call that drops a run, while what the run kept goes into the executor's queue.
 use Rattle.std.proofs.Common.{◌≡◌, ◌⊎◌, ◌∙◌, inl, inr, ℕ, zero, suc, ◌+◌, ◌<◌, ◌≤◌, List, [], ◌∷◌, ◌++◌, length}
 use Rattle.std.proofs.Common.{get_or, get_or-set_same, Bool, true, false, ◌&&◌, not, refl, sym, ap, subst, arith}
@@ -12,44 +13,48 @@ use Rattle.executor_model.specs.declared.op.Op.{Op}
 use Rattle.executor_model.specs.declared.op.Op.TheVariants as op
 use Rattle.executor_model.specs.declared.op.QueueOp.TheVariants as queue_op
 use Rattle.executor_model.specs.declared.op.RunOp.TheVariants as run_op
-use Rattle.executor_model.specs.declared.op.Sleeper.{Sleeper}
-use Rattle.executor_model.specs.declared.op.Sleeper.TheVariants as sleeper
+use Rattle.executor_model.specs.declared.op.TickOrRun.{TickOrRun}
+use Rattle.executor_model.specs.declared.op.TickOrRun.TheVariants as tick_or_run
 use Rattle.executor_model.specs.declared.op.SleeperOp.TheVariants as sleeper_op
 use Rattle.executor_model.specs.declared.op.TickOp.TheVariants as tick_op
 use Rattle.executor_model.specs.declared.op.UserOp.TheVariants as user_op
 use Rattle.executor_model.specs.declared.op.WakerOp.TheVariants as waker_op
+use Rattle.executor_model.specs.declared.step.Hint.{Hint}
 use Rattle.executor_model.specs.declared.step.UserEnd.{UserEnd}
 use Rattle.executor_model.specs.declared.step.UserEnd.TheVariants as end
 use Rattle.executor_model.specs.Acts.{append_by}
 use Rattle.executor_model.specs.ActsOfRuns.{reschedule_by}
-use Rattle.executor_model.specs.ActsOfSleepers.{leave_sleepers_by, sleeper_goes, tell_if}
+use Rattle.executor_model.specs.ActsOfSleepers.{leave_sleepers_by, sleeper_goes, tell_and_return}
+use Rattle.executor_model.specs.Doing.{act}
 use Rattle.executor_model.specs.Sound.{times}
 use Rattle.executor_model.specs.Steps.{Part, end_of, onto, part, react, settled, settled_by}
 use Rattle.executor_model.specs.Steps.{top}
 use Rattle.executor_model.specs.Weights.{weigh}
-use Rattle.executor_model.specs.World.{Done, Left, Lies, Place, Up, World, own_of}
-use Rattle.executor_model.proofs.Lists.{times-append, weigh-append, weigh-reverse}
-use Rattle.executor_model.proofs.SleepersNext.{goes-unseen}
-use Rattle.executor_model.proofs.Spawning.{top-last}
-use Rattle.executor_model.proofs.Using.{is_for_runs}
-use Rattle.runs_reach.proofs.LoneMoves.{Inner, stray_of}
-use Rattle.runs_reach.proofs.LoneSteps.{Last, from-end}
-use Rattle.runs_reach.proofs.RunFinds.{light-no-end, top-of}
-use Rattle.runs_reach.proofs.RunWalks.{both-light, light}
+use Rattle.executor_model.specs.World.{Done, Left, Asleep, Ticker, Awake, World, own_of}
+use Rattle.executor_model.proofs.Steps.Lists.{times-append, weigh-append, weigh-reverse}
+use Rattle.executor_model.proofs.Steps.SleepersNext.{goes-unseen}
+use Rattle.executor_model.proofs.Table.Spawning.{top-last}
+use Rattle.executor_model.proofs.OwnQueues.UsingWorlds.{idle-act}
+use Rattle.executor_laws.proofs.Reach.LoneMoves.{Inner, stray_of}
+use Rattle.executor_laws.proofs.Reach.LoneSteps.{Last, from-end}
+use Rattle.executor_laws.proofs.RunReach.RunFinds.{light-no-end, top-of}
+use Rattle.executor_laws.proofs.RunReach.RunWalks.{both-light, light}
 
 -- own queues, and what leaves them alone
 
-pub not-for-runs : (o : Op) → stray_of o ≡ 0 → is_for_runs o ≡ false
-not-for-runs (op.Tick (tick_op.Search s)) z = absurd (omega (arith, z))
-not-for-runs (op.Tick (tick_op.CopyWaker s)) z = absurd (omega (arith, z))
-not-for-runs (op.Tick (tick_op.LieDown s)) z = absurd (omega (arith, z))
-not-for-runs (op.User (user_op.PollOwn x)) z = absurd (omega (arith, z))
-not-for-runs (op.Waker (waker_op.CopyWaker f held)) z = absurd (omega (arith, z))
-not-for-runs (op.List o) z = absurd (omega (arith, z))
-not-for-runs (op.Steal o) z = absurd (omega (arith, z))
-not-for-runs (op.Run o) z = absurd (omega (arith, z))
-not-for-runs (op.End a held) z = absurd (omega (arith, z))
-not-for-runs _ z = refl
+-- a side thing that is done
+pub own-act : (p : ℕ) (h : Hint) (o : Op) (w : World) → stray_of o ≡ 0 → (act p h o w).world.own ≡ w.own
+own-act p h (op.Tick (tick_op.Search s)) w z = absurd (omega (arith, z))
+own-act p h (op.Tick (tick_op.CopyWaker s)) w z = absurd (omega (arith, z))
+own-act p h (op.Tick (tick_op.FallAsleep s)) w z = absurd (omega (arith, z))
+own-act p h (op.User (user_op.PollOwn x)) w z = absurd (omega (arith, z))
+own-act p h (op.Waker (waker_op.CopyWaker f held)) w z = absurd (omega (arith, z))
+own-act p h (op.List o) w z = absurd (omega (arith, z))
+own-act p h (op.Steal o) w z = absurd (omega (arith, z))
+own-act p h (op.Run run_op.ReturnRoom) w z = refl
+own-act p h (op.Run o) w z = absurd (omega (arith, z))
+own-act p h (op.End a held) w z = absurd (omega (arith, z))
+own-act p h o w z = (idle-act p h o w refl).own
 
 pub own-react : (p : ℕ) (o : Op) (u : UserEnd) (w : World) → (react p o u w).world.own ≡ w.own
 own-react p (op.User (user_op.Poll f)) (end.Polled answer.Pending) w = refl
@@ -76,7 +81,7 @@ pub data Remains (r f : ℕ) (w : World) (os : List Op) : Type 0 where
       weigh stray_of side ≡ 0 → own_of w r ≡ rest → 1 ≤ times f w.queue.items + times f rest → Remains r f w os
   puts : (a : Reply) (g : ℕ) (rest : List ℕ) → os ≡ op.Run (run_op.Reschedule r a) ∷ op.Queue (queue_op.Append g) ∷ [] →
       own_of w r ≡ rest → 1 ≤ times f w.queue.items + times f (g ∷ rest) → Remains r f w os
-  leaves : (a : Reply) (held : Hold) (who : Sleeper) → os ≡ op.End a held ∷ op.Tick (tick_op.Leave who) ∷ [] →
+  leaves : (a : Reply) (held : Hold) (who : TickOrRun) → os ≡ op.End a held ∷ op.Tick (tick_op.Leave who) ∷ [] →
       1 ≤ times f w.queue.items → Remains r f w os
   ends : (a : Reply) (held : Hold) (below : List Op) (o : Op) → os ≡ op.End a held ∷ (below ++ o ∷ []) →
       weigh stray_of (below ++ o ∷ []) ≡ 0 → 1 ≤ times f w.queue.items → Remains r f w os
@@ -106,27 +111,27 @@ to-end p r f a held w side z k = go (from-end side)
 pub from-queue : (p r f : ℕ) (a : Reply) (w : World) (xs rest : List ℕ) → own_of w r ≡ rest → xs ≡ rest →
     1 ≤ times f w.queue.items + times f rest → Rests r f (onto p (reschedule_by xs w r a) [])
 from-queue p r f a w [] rest o e k =
-    leaves a (hold.Run r) (sleeper.Run r) refl (omega (arith, k, ap (times f) (sym e)))
+    leaves a (hold.Run r) (tick_or_run.Run r) refl (omega (arith, k, ap (times f) (sym e)))
 from-queue p r f a w (g ∷ xs) rest o e k =
     puts a g xs refl (get_or-set_same w.own r xs [] (within w.own r g xs (o ∙ sym e)))
     (omega (arith, k, ap (times f) (sym e)))
 
 -- the run leaves the sleepers
-pub from-leaving : (p r f : ℕ) (a : Reply) (held : Hold) (x : Place) (w : World) (who : Sleeper) →
+pub from-leaving : (p r f : ℕ) (a : Reply) (held : Hold) (x : Ticker) (w : World) (who : TickOrRun) →
     1 ≤ times f w.queue.items → Rests r f (onto p (leave_sleepers_by x w who) (op.End a held ∷ []))
-from-leaving p r f a held Up w who k = over refl k
+from-leaving p r f a held Awake w who k = over refl k
 from-leaving p r f a held Left w who k = over refl k
-from-leaving p r f a held (Lies n) w who k =
-    to-end p r f a held (leave_sleepers_by (Lies n) w who).world (reverse (leave_sleepers_by (Lies n) w who).next)
-    (weigh-reverse stray_of (leave_sleepers_by (Lies n) w who).next ∙ omega (
+from-leaving p r f a held (Asleep n) w who k =
+    to-end p r f a held (leave_sleepers_by (Asleep n) w who).world (reverse (leave_sleepers_by (Asleep n) w who).next)
+    (weigh-reverse stray_of (leave_sleepers_by (Asleep n) w who).next ∙ omega (
       arith,
       weigh-append stray_of (sleeper_goes (waker_of n w.sleepers.wakers))
-          (tell_if (is_none (waker_of n w.sleepers.wakers))),
+          (tell_and_return (is_none (waker_of n w.sleepers.wakers))),
       goes-unseen stray_of (λ g. refl) (waker_of n w.sleepers.wakers),
       tells (is_none (waker_of n w.sleepers.wakers)),
     )) k
   where
-    tells : (b : Bool) → weigh stray_of (tell_if b) ≡ 0
+    tells : (b : Bool) → weigh stray_of (tell_and_return b) ≡ 0
     tells true = refl
     tells false = refl
 

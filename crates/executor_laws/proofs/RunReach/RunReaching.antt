@@ -1,3 +1,4 @@
+-- For runs_reach_futures, kept_futures_are_in_reach and dropped_runs_leave_common_futures.
 -- A poll of a run that is made alone takes a future that the run keeps, or else one that is common.
 use Rattle.std.proofs.Common.{◌≡◌, ◌∙◌, inl, inr, ⊎_elim, ℕ, ◌<◌, ◌≤◌, List, [], ◌∷◌, ◌++◌, length, drop, get_or}
 use Rattle.std.proofs.Common.{Bool, true, false, ◌||◌, ltb, refl, sym, ap, subst, arith, append-nil, append_assoc, Ok}
@@ -29,30 +30,30 @@ use Rattle.executor_model.specs.Doing.{act}
 use Rattle.executor_model.specs.Due.{IsDue}
 use Rattle.executor_model.specs.Emptiness.{IsAtRest}
 use Rattle.executor_model.specs.Keeper.{IsCommon}
-use Rattle.executor_model.specs.Runs.{run_all}
+use Rattle.executor_model.specs.Executions.{run_all}
 use Rattle.executor_model.specs.Sound.{queued, times}
 use Rattle.executor_model.specs.Steps.{Machine, Part, onto, part, part_after, poll_run, react, run, stack, start}
 use Rattle.executor_model.specs.Steps.{waker_of, with_part}
 use Rattle.executor_model.specs.Trace.{Trace, has, is_accepted, is_drop_begun, is_dropped}
 use Rattle.executor_model.specs.World.{Done, Ended, Listed, New, Stage, World, among, done, log, own_of, put_own, run_of}
-use Rattle.executor_model.proofs.Entering.{table-agrees}
-use Rattle.executor_model.proofs.Resting.{rests}
-use Rattle.executor_model.proofs.Stories.{among_is}
-use Rattle.executor_model.proofs.Telling.{begun-has}
-use Rattle.executor_model.proofs.Reached.{Reached, deep-here, good-here, reached-more, reached-step, run-first}
-use Rattle.runs_laws.specs.LoneEnds.{are_onward_of, is_onward_of}
-use Rattle.runs_reach.specs.Reach.{since, takes}
-use Rattle.runs_reach.specs.RunReach.{IsLonePoll, IsReachedByRuns, Keeps, TakesKept, TakesOneCommon, first_answer}
-use Rattle.runs_reach.proofs.LoneSteps.{HasEntry}
-use Rattle.runs_reach.proofs.LoneTicks.{idle-none, in-range, left-true, of-party, stack-set}
-use Rattle.runs_reach.proofs.Reached.{bonded-here, heard-here}
-use Rattle.runs_reach.proofs.Placing.{common-queue, here, idle, in-own, keeper-own, own-keeper, queue-common, queued-due}
-use Rattle.runs_reach.proofs.RunFinds.{Heading, Heads, heads-found}
-use Rattle.runs_reach.proofs.RunFinds.Heading.{stealing}
-use Rattle.runs_reach.proofs.RunWalks.{Onward, Taken, from-heading, onward, with-heading}
-use Rattle.runs_reach.proofs.RunWalks.Onward.{acted, answered}
-use Rattle.runs_reach.proofs.Searching.{takes-none}
-use Rattle.runs_reach.proofs.Ticking.{first-times}
+use Rattle.executor_model.proofs.Table.Entering.{table-agrees}
+use Rattle.executor_model.proofs.Quiet.Resting.{rests}
+use Rattle.executor_model.proofs.OneFuture.Stories.{among_is}
+use Rattle.executor_model.proofs.OneFuture.Telling.{begun-has}
+use Rattle.executor_model.proofs.Steps.Reached.{Reached, deep-here, good-here, reached-more, reached-step, run-first}
+use Rattle.executor_laws.specs.LoneEnds.{are_onward_of, is_onward_of}
+use Rattle.executor_laws.specs.Reach.{since, takes}
+use Rattle.executor_laws.specs.RunReach.{IsLonePoll, IsReachedByRuns, Keeps, TakesKept, TakesOneCommon, first_answer}
+use Rattle.executor_laws.proofs.Reach.LoneSteps.{HasEntry}
+use Rattle.executor_laws.proofs.Reach.LoneTicks.{idle-none, in-range, left-true, of-party, stack-set}
+use Rattle.executor_laws.proofs.Reach.Reached.{bonded-here, heard-here}
+use Rattle.executor_laws.proofs.Placement.Placing.{common-queue, here, idle, in-own, keeper-own, own-keeper, queue-common, queued-due}
+use Rattle.executor_laws.proofs.RunReach.RunFinds.{Heading, Heads, heads-found}
+use Rattle.executor_laws.proofs.RunReach.RunFinds.Heading.{stealing}
+use Rattle.executor_laws.proofs.RunReach.RunWalks.{Onward, Taken, from-heading, onward, with-heading}
+use Rattle.executor_laws.proofs.RunReach.RunWalks.Onward.{acted, answered}
+use Rattle.executor_laws.proofs.Reach.Searching.{takes-none}
+use Rattle.executor_laws.proofs.Exactness.Ticking.{first-times}
 
 -- where f is due, it has its entry until it is taken
 

@@ -1,3 +1,4 @@
+-- For runs_reach_futures, kept_futures_are_in_reach and dropped_runs_leave_common_futures.
 -- What a run that is polled does with its own queue: it takes what is first there, and puts behind.
 use Rattle.std.proofs.Common.{◌≡◌, ◌≢◌, ◌⊎◌, ◌∙◌, inl, inr, ⊎_elim, ℕ, zero, suc, ◌<◌, ◌≤◌, List, [], ◌∷◌, ◌++◌, length}
 use Rattle.std.proofs.Common.{get_or, get_or-set_same, get_or-set_other, Bool, true, false, eqb, refl, sym, ap, subst, arith}
@@ -15,8 +16,8 @@ use Rattle.executor_model.specs.declared.op.Polled.TheVariants as of
 use Rattle.executor_model.specs.declared.op.QueueOp.TheVariants as queue_op
 use Rattle.executor_model.specs.declared.op.RunOp.TheVariants as run_op
 use Rattle.executor_model.specs.declared.op.RunPoll.{RunPoll}
-use Rattle.executor_model.specs.declared.op.Sleeper.{Sleeper}
-use Rattle.executor_model.specs.declared.op.Sleeper.TheVariants as sleeper
+use Rattle.executor_model.specs.declared.op.TickOrRun.{TickOrRun}
+use Rattle.executor_model.specs.declared.op.TickOrRun.TheVariants as tick_or_run
 use Rattle.executor_model.specs.declared.op.SleeperOp.TheVariants as sleeper_op
 use Rattle.executor_model.specs.declared.op.Sleeping.{Sleeping}
 use Rattle.executor_model.specs.declared.op.Source.{Source}
@@ -35,21 +36,21 @@ use Rattle.executor_model.specs.Acts.{followed}
 use Rattle.executor_model.specs.ActsOfRuns.{asleep, behind, call_by_reference, counted_by, counted_to, found, kept_by}
 use Rattle.executor_model.specs.ActsOfRuns.{look_own_by, next_place, queue_at, run_by, search_common_by, search_own_by}
 use Rattle.executor_model.specs.ActsOfRuns.{steal_by, steal_length_by, steal_put_by, steal_take_by, stolen, walk, without_first}
-use Rattle.executor_model.specs.ActsOfSleepers.{copy_sleeper_by, found_by, lie_again_by, lie_anew_by, lie_down_by, lie_listed_by}
+use Rattle.executor_model.specs.ActsOfSleepers.{copy_sleeper_by, found_by, sleep_again_by, sleep_anew_by, fall_asleep_by, sleep_listed_by}
 use Rattle.executor_model.specs.ActsOfSleepers.{sleeper_goes}
 use Rattle.executor_model.specs.Doing.{act, search_by_who, steal_act}
 use Rattle.executor_parts.specs.Sleepers.{waker_at}
 use Rattle.executor_model.specs.Steps.{accepts, react, waits}
 use Rattle.executor_model.specs.Trace.{Trace}
 use Rattle.executor_model.specs.Weights.{same, weigh}
-use Rattle.executor_model.specs.World.{Done, Left, Lies, Place, Up, World, log, own_of, place_of, put_own}
-use Rattle.executor_model.proofs.Lists.{same_cases, weigh-append, weigh-reverse}
-use Rattle.executor_model.proofs.SleepersNext.{goes-unseen}
-use Rattle.executor_model.proofs.UsingRuns.{idle-common, idle-stolen}
-use Rattle.executor_model.proofs.UsingWorlds.{idle-act, idle-copy_sleeper, idle-lie}
-use Rattle.runs_reach.proofs.LoneMoves.{Inner, inner-act, inner-react, stray_of}
-use Rattle.runs_reach.proofs.RunLeaves.{not-for-runs, own-react, within}
-use Rattle.runs_reach.proofs.RunFinds.{Heads, heads-found, without-gone}
+use Rattle.executor_model.specs.World.{Done, Left, Asleep, Ticker, Awake, World, log, own_of, place_of, put_own}
+use Rattle.executor_model.proofs.Steps.Lists.{same_cases, weigh-append, weigh-reverse}
+use Rattle.executor_model.proofs.Steps.SleepersNext.{goes-unseen}
+use Rattle.executor_model.proofs.OwnQueues.UsingRuns.{idle-common, idle-stolen}
+use Rattle.executor_model.proofs.OwnQueues.UsingWorlds.{idle-act, idle-copy_sleeper, idle-sleep}
+use Rattle.executor_laws.proofs.Reach.LoneMoves.{Inner, inner-act, inner-react, stray_of}
+use Rattle.executor_laws.proofs.RunReach.RunLeaves.{own-act, own-react, within}
+use Rattle.executor_laws.proofs.RunReach.RunFinds.{Heads, heads-found, without-gone}
 
 -- things to do beside what the run itself does
 
@@ -85,7 +86,7 @@ aside-act p h o w n z = by (side-kind o z)
         let i : Inner w (act p h o w) = inner-act p h o w n x in
         record {
           light = light-side (act p h o w).next i.plain;
-          own = (idle-act p h o w (not-for-runs o x)).own;
+          own = own-act p h o w x;
           gone = i.there;
         }
 
@@ -113,9 +114,9 @@ steal_of (steal_op.Take s more) = s
 steal_of (steal_op.Put s more f) = s
 
 abbrev pub Control : ℕ → Op → Type 0
-Control q (op.Tick (tick_op.Search s)) = s.who ≡ sleeper.Run q
-Control q (op.Tick (tick_op.CopyWaker s)) = s.who ≡ sleeper.Run q
-Control q (op.Tick (tick_op.LieDown s)) = s.who ≡ sleeper.Run q
+Control q (op.Tick (tick_op.Search s)) = s.who ≡ tick_or_run.Run q
+Control q (op.Tick (tick_op.CopyWaker s)) = s.who ≡ tick_or_run.Run q
+Control q (op.Tick (tick_op.FallAsleep s)) = s.who ≡ tick_or_run.Run q
 Control q (op.Run (run_op.SearchCommon x)) = x.run ≡ q
 Control q (op.Run (run_op.LookOwn x at left)) = x.run ≡ q
 Control q (op.Run (run_op.WakeOwn x)) = x.run ≡ q
@@ -154,22 +155,22 @@ holds-run_by q true w x f e =
     (holds-one q (op.Run (run_op.WakeOwn x)) e)
 holds-run_by q false w x f e =
     holds-behind q (op.Move move.TakeUp f ∷ []) (op.Tick (tick_op.Search (asleep x)) ∷ []) refl
-    (holds-one q (op.Tick (tick_op.Search (asleep x))) (ap sleeper.Run e))
+    (holds-one q (op.Tick (tick_op.Search (asleep x))) (ap tick_or_run.Run e))
 
 holds-counted_by : (q : ℕ) (b : Bool) (w : World) (x : RunPoll) (f : ℕ) → x.run ≡ q → Holds q (counted_by b w x f).next
 holds-counted_by q true w x f e =
     holds-one q (op.Steal (steal_op.Length (record { poll = x; from = Common; then = then.Run f }))) (e, refl)
 holds-counted_by q false w x f e = holds-run_by q _ (counted_to w x.run _) x f e
 
-found-side : (x : Place) (who : Sleeper) → weigh side_of (found_by x who (op.Sleeper sleeper_op.ExchangeFlag ∷ [])) ≡ 0
-found-side Up who = refl
-found-side (Lies n) who = refl
+found-side : (x : Ticker) (who : TickOrRun) → weigh side_of (found_by x who (op.Sleeper sleeper_op.ExchangeFlag ∷ [])) ≡ 0
+found-side Awake who = refl
+found-side (Asleep n) who = refl
 found-side Left who = refl
 
 holds-found : (q : ℕ) (w : World) (x : RunPoll) (f : ℕ) → x.run ≡ q → Holds q (found w x f).next
 holds-found q w x f e =
-    holds-behind q (found_by _ (sleeper.Run x.run) (op.Sleeper sleeper_op.ExchangeFlag ∷ [])) (counted_by _ w x f).next
-    (found-side _ (sleeper.Run x.run)) (holds-counted_by q _ w x f e)
+    holds-behind q (found_by _ (tick_or_run.Run x.run) (op.Sleeper sleeper_op.ExchangeFlag ∷ [])) (counted_by _ w x f).next
+    (found-side _ (tick_or_run.Run x.run)) (holds-counted_by q _ w x f e)
 
 holds-stolen : (q : ℕ) (t : Then) (w : World) (x : RunPoll) → x.run ≡ q → Holds q (stolen t w x).next
 holds-stolen q (then.Found f) w x e = holds-found q w x f e
@@ -185,7 +186,7 @@ other-queue n m q e b k = ⊎_elim
 holds-walk : (q : ℕ) (x : RunPoll) (qs : List ℕ) (at left : ℕ) → x.run ≡ q → Holds q (walk x qs at left)
 holds-walk q x qs at zero e =
     holds-behind q (op.List list_op.UnlockRead ∷ []) (op.Tick (tick_op.CopyWaker (asleep x)) ∷ []) refl
-    (holds-one q (op.Tick (tick_op.CopyWaker (asleep x))) (ap sleeper.Run e))
+    (holds-one q (op.Tick (tick_op.CopyWaker (asleep x))) (ap tick_or_run.Run e))
 holds-walk q x qs at (suc left) e =
     by (eqb (queue_at qs at) x.run) (other-queue (queue_at qs at) x.run q e)
     (holds-walk q x qs (next_place qs at) left e)
@@ -373,38 +374,38 @@ after-steal q f n p (steal_op.OwnLength s l) w e k = after-steal_by q f n _ w s 
 after-steal q f n p (steal_op.Take s more) w e k = after-take q f n _ w s more e k
 after-steal q f n p (steal_op.Put s more h) w e k = after-put q f n _ p w s more h e k
 
-after-copy : (q f n : ℕ) (b : Bool) (w : World) (s : Sleeping) → s.who ≡ sleeper.Run q → Tracked q f n w →
+after-copy : (q f n : ℕ) (b : Bool) (w : World) (s : Sleeping) → s.who ≡ tick_or_run.Run q → Tracked q f n w →
     After q f n w (copy_sleeper_by b w s)
 after-copy q f n true w s e k = record { goes = on (holds-one q _ refl) k; gone = refl }
 after-copy q f n false w s e k = record {
-  goes = on (holds-one q (op.Tick (tick_op.LieDown s)) e)
+  goes = on (holds-one q (op.Tick (tick_op.FallAsleep s)) e)
       (same-own q f n w (copy_sleeper_by false w s).world (idle-copy_sleeper false w s).own k);
   gone = (idle-copy_sleeper false w s).gone;
 }
 
-holds-anew : (q : ℕ) (b : Bool) (w : World) (s : Sleeping) → s.who ≡ sleeper.Run q → Holds q (lie_anew_by b w s).next
+holds-anew : (q : ℕ) (b : Bool) (w : World) (s : Sleeping) → s.who ≡ tick_or_run.Run q → Holds q (sleep_anew_by b w s).next
 holds-anew q true w s e = holds-one q (op.Tick (tick_op.Search s)) e
 holds-anew q false w s e =
     holds-behind q (op.Sleeper (sleeper_op.CallSleeper s) ∷ []) _ refl (holds-one q _ refl)
 
-holds-listed : (q : ℕ) (b : Bool) (w : World) (m : ℕ) (s : Sleeping) → s.who ≡ sleeper.Run q →
-    Holds q (lie_listed_by b w m s).next
+holds-listed : (q : ℕ) (b : Bool) (w : World) (m : ℕ) (s : Sleeping) → s.who ≡ tick_or_run.Run q →
+    Holds q (sleep_listed_by b w m s).next
 holds-listed q true w m s e = holds-one q (op.Tick (tick_op.Search s)) e
 holds-listed q false w m s e =
     holds-behind q (op.Sleeper (sleeper_op.CallSleeper s) ∷ []) _ refl (holds-one q _ refl)
 
-holds-again : (q : ℕ) (o : Option ℕ) (w : World) (m : ℕ) (s : Sleeping) → s.who ≡ sleeper.Run q →
-    Holds q (lie_again_by o w m s).next
+holds-again : (q : ℕ) (o : Option ℕ) (w : World) (m : ℕ) (s : Sleeping) → s.who ≡ tick_or_run.Run q →
+    Holds q (sleep_again_by o w m s).next
 holds-again q (Some at) w m s e =
     holds-behind q (sleeper_goes (waker_at (Some at) w.sleepers.wakers)) _
     (light-side (sleeper_goes (waker_at (Some at) w.sleepers.wakers))
     (goes-unseen stray_of (λ g. refl) (waker_at (Some at) w.sleepers.wakers))) (holds-one q _ refl)
 holds-again q None w m s e = holds-listed q _ w m s e
 
-holds-lie : (q : ℕ) (x : Place) (w : World) (s : Sleeping) → s.who ≡ sleeper.Run q → Holds q (lie_down_by x w s).next
-holds-lie q Up w s e = holds-anew q _ w s e
-holds-lie q (Lies m) w s e = holds-again q _ w m s e
-holds-lie q Left w s e =
+holds-sleep : (q : ℕ) (x : Ticker) (w : World) (s : Sleeping) → s.who ≡ tick_or_run.Run q → Holds q (fall_asleep_by x w s).next
+holds-sleep q Awake w s e = holds-anew q _ w s e
+holds-sleep q (Asleep m) w s e = holds-again q _ w m s e
+holds-sleep q Left w s e =
     holds-behind q (op.Sleeper (sleeper_op.CallSleeper s) ∷ []) _ refl (holds-one q _ refl)
 
 holds-common : (q : ℕ) (xs : List ℕ) (w : World) (x : RunPoll) → x.run ≡ q → Holds q (search_common_by xs w x).next
@@ -436,14 +437,14 @@ after-called q f n p h (Outside y) w v r o z k = record {
 pub after-control : (q f n p : ℕ) (h : Hint) (c : Op) (w : World) → Control q c → Tracked q f n w →
     After q f n w (act p h c w)
 after-control q f n p h (op.Tick (tick_op.Search s)) w e k =
-    subst (λ (who : Sleeper). After q f n w (search_by_who who w s)) (sym e)
+    subst (λ (who : TickOrRun). After q f n w (search_by_who who w s)) (sym e)
     (after-own q f n n (own_of w q) w (record { run = q; waker = s.waker; poll = s.poll }) refl refl
     (λ l i. omega (arith, i)) k)
 after-control q f n p h (op.Tick (tick_op.CopyWaker s)) w e k = after-copy q f n _ w s e k
-after-control q f n p h (op.Tick (tick_op.LieDown s)) w e k = record {
-  goes = on (holds-lie q (place_of w s.who) w s e)
-      (same-own q f n w (lie_down_by (place_of w s.who) w s).world (idle-lie (place_of w s.who) w s).own k);
-  gone = (idle-lie (place_of w s.who) w s).gone;
+after-control q f n p h (op.Tick (tick_op.FallAsleep s)) w e k = record {
+  goes = on (holds-sleep q (place_of w s.who) w s e)
+      (same-own q f n w (fall_asleep_by (place_of w s.who) w s).world (idle-sleep (place_of w s.who) w s).own k);
+  gone = (idle-sleep (place_of w s.who) w s).gone;
 }
 after-control q f n p h (op.Run (run_op.SearchCommon x)) w e k = record {
   goes = on (holds-common q w.queue.items w x e)

@@ -1,3 +1,4 @@
+-- For runs_reach_futures, kept_futures_are_in_reach and dropped_runs_leave_common_futures.
 -- From where a run has something in hand to where that is taken up.
 use Rattle.std.proofs.Common.{◌≡◌, ◌⊎◌, ◌∙◌, inl, inr, ⊎_elim, ℕ, ◌<◌, List, [], ◌∷◌, ◌++◌, length, true, false}
 use Rattle.std.proofs.Common.{refl, sym, ap, subst, arith, append-nil, append_assoc, Ok}
@@ -15,25 +16,25 @@ use Rattle.executor_model.specs.declared.step.Step.{Step}
 use Rattle.executor_model.specs.declared.step.Step.TheVariants.{Begin, Go, Answer}
 use Rattle.executor_model.specs.declared.step.UserEnd.{UserEnd}
 use Rattle.executor_model.specs.Doing.{act}
-use Rattle.executor_model.specs.Runs.{run_all}
+use Rattle.executor_model.specs.Executions.{run_all}
 use Rattle.executor_model.specs.Steps.{Machine, Part, accepts, answer_refusal, below_top, end_of, go_refusal, gone_on, onto}
 use Rattle.executor_model.specs.Steps.{after, part, part_after, react, run, settled_by, stack, top, waits, with_part}
 use Rattle.executor_model.specs.Trace.{Trace, has}
 use Rattle.executor_model.specs.Weights.{weigh}
 use Rattle.executor_model.specs.World.{Done, World, among}
-use Rattle.executor_model.proofs.Lift.{topped}
-use Rattle.executor_model.proofs.Lists.{weigh-append, weigh-reverse}
-use Rattle.executor_model.proofs.Spawning.{top-last}
-use Rattle.executor_model.proofs.TraceSteps.{IsContinued, More, more-onto, run-continues}
-use Rattle.executor_model.proofs.Reached.{Reached, reached-step, run-first, run-of}
-use Rattle.executor_model.proofs.Tests.{or-left, or-right}
-use Rattle.runs_laws.specs.LoneEnds.{are_onward_of, is_onward_of}
-use Rattle.runs_reach.specs.Reach.{takes}
-use Rattle.runs_reach.proofs.LoneMoves.{Inner, inner-act, inner-react, stray_of}
-use Rattle.runs_reach.proofs.LoneSteps.{Advances, HasEntry, Last, Leads, Next, advances, answers, from-end, goes}
-use Rattle.runs_reach.proofs.LoneTicks.{OfParty, after-is, left-true, of-party, stack-set}
-use Rattle.runs_reach.proofs.RunFinds.{Heading, Heads, Steals, heads-steal, no-end}
-use Rattle.runs_reach.proofs.RunFinds.Heading.{stealing, taking}
+use Rattle.executor_model.proofs.Steps.Lift.{topped}
+use Rattle.executor_model.proofs.Steps.Lists.{weigh-append, weigh-reverse}
+use Rattle.executor_model.proofs.Table.Spawning.{top-last}
+use Rattle.executor_model.proofs.Steps.TraceSteps.{IsContinued, More, more-onto, run-continues}
+use Rattle.executor_model.proofs.Steps.Reached.{Reached, reached-step, run-first, run-of}
+use Rattle.executor_model.proofs.Steps.Tests.{or-left, or-right}
+use Rattle.executor_laws.specs.LoneEnds.{are_onward_of, is_onward_of}
+use Rattle.executor_laws.specs.Reach.{takes}
+use Rattle.executor_laws.proofs.Reach.LoneMoves.{Inner, inner-act, inner-react, stray_of}
+use Rattle.executor_laws.proofs.Reach.LoneSteps.{Advances, HasEntry, Last, Leads, Next, advances, answers, from-end, goes}
+use Rattle.executor_laws.proofs.Reach.LoneTicks.{OfParty, after-is, left-true, of-party, stack-set}
+use Rattle.executor_laws.proofs.RunReach.RunFinds.{Heading, Heads, Steals, heads-steal, no-end}
+use Rattle.executor_laws.proofs.RunReach.RunFinds.Heading.{stealing, taking}
 
 -- the next step of party p, which alone takes steps: it does the thing on top, or user code answers there
 pub data Onward (p : ℕ) (s new : Machine) (below : List Op) (o : Op) (ts : List Step) : Type 0 where

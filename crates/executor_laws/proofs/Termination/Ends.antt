@@ -1,3 +1,4 @@
+-- For calls_end and lone_calls_end.
 -- Calls end: each step that begins none lowers the steps that remain, and a party that has something to do can go on.
 use Rattle.std.proofs.Common.{◌≡◌, ℕ, ◌+◌, ◌*◌, ◌<◌, ◌≤◌, List, [], ◌∷◌, ◌++◌, length, set, Bool, true, false}
 use Rattle.std.proofs.Common.{◌&&◌, ◌||◌}
@@ -26,25 +27,25 @@ use Rattle.executor_model.specs.Weights.{weigh, weigh_all}
 use Rattle.executor_model.specs.Rows.{closing_of, running_of, settling_of}
 use Rattle.executor_model.specs.Good.{Good, Needs}
 use Rattle.executor_model.specs.OwnQueues.{IsUsedOnce}
-use Rattle.executor_model.specs.Runs.{run_all}
+use Rattle.executor_model.specs.Executions.{run_all}
 use Rattle.executor_model.specs.Steps.{Machine, stack, top, below_top, waits, go_refusal, answer_refusal}
 use Rattle.executor_model.specs.Steps.{accepts, unless, refusal, react, end_of, settled_by, gone_on}
 use Rattle.executor_model.specs.Steps.{with_part, after, step_by, step, run, start}
-use Rattle.executor_model.proofs.Lists.{same_is, weigh_all-push, weigh_all-set, weigh-append}
-use Rattle.executor_model.proofs.Needing.{needs}
-use Rattle.executor_model.proofs.Lift.{split, topped}
-use Rattle.executor_model.proofs.RunsAside.{apart-act, is_run, unseen}
-use Rattle.executor_model.proofs.Reached.{Reached, good-here, reached-step}
-use Rattle.runs_laws.specs.Costs.{left_by, registers_of, steps_of, walk_of}
-use Rattle.runs_laws.specs.Remaining.{steps_kept, remaining, is_onward, are_onward, LowersRemaining, EachStepLowers}
-use Rattle.runs_laws.specs.Remaining.{EndsWithin, EachListEnds, queues_of, steps_left}
-use Rattle.runs_laws.proofs.Beside.{Beside, beside-act, beside-react, left-all, left-others}
-use Rattle.runs_laws.proofs.Spending.{kept-log}
-use Rattle.runs_laws.proofs.SpendingGroups.{Settles, spends-act, spends-react}
-use Rattle.runs_laws.proofs.SpendingRuns.{CanPay, Pays, pays-list, pays-run, pays-steal, unleft, unwalked}
-use Rattle.runs_laws.proofs.Reached.{can-pay, used-here}
-use Rattle.runs_laws.proofs.SpendingRuns.Pays.{spends, walks}
-use Rattle.runs_laws.proofs.PayingTicks.{pays-tick}
+use Rattle.executor_model.proofs.Steps.Lists.{same_is, weigh_all-push, weigh_all-set, weigh-append}
+use Rattle.executor_model.proofs.Steps.Needing.{needs}
+use Rattle.executor_model.proofs.Steps.Lift.{split, topped}
+use Rattle.executor_model.proofs.OwnQueues.RunsAside.{apart-act, is_run, unseen}
+use Rattle.executor_model.proofs.Steps.Reached.{Reached, good-here, reached-step}
+use Rattle.executor_laws.specs.Costs.{left_by, registers_of, steps_of, walk_of}
+use Rattle.executor_laws.specs.Remaining.{steps_kept, remaining, is_onward, are_onward, LowersRemaining, EachStepLowers}
+use Rattle.executor_laws.specs.Remaining.{EndsWithin, EachListEnds, queues_of, steps_left}
+use Rattle.executor_laws.proofs.Termination.Beside.{Beside, beside-act, beside-react, left-all, left-others}
+use Rattle.executor_laws.proofs.Termination.Spending.{kept-log}
+use Rattle.executor_laws.proofs.Termination.SpendingGroups.{Settles, spends-act, spends-react}
+use Rattle.executor_laws.proofs.Termination.SpendingRuns.{CanPay, Pays, pays-list, pays-run, pays-steal, unleft, unwalked}
+use Rattle.executor_laws.proofs.Termination.Reached.{can-pay, used-here}
+use Rattle.executor_laws.proofs.Termination.SpendingRuns.Pays.{spends, walks}
+use Rattle.executor_laws.proofs.Termination.PayingTicks.{pays-tick}
 
 -- the end of a call takes no more
 

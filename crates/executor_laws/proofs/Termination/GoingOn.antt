@@ -1,3 +1,4 @@
+-- For calls_end and lone_calls_end.
 -- A party that has something to do can go on, unless it waits for the lock of the list; and whoever has that can go on.
 use Rattle.std.proofs.Common.{◌≡◌, ◌∙◌, ℕ, zero, suc, ◌<◌, ◌≤◌, List, [], ◌∷◌, length, get_or, Bool, true, false}
 use Rattle.std.proofs.Common.{cond, not, ltb, refl, sym, ap, subst, ⊎_elim, arith}
@@ -20,13 +21,13 @@ use Rattle.executor_model.specs.Steps.{Machine, accepts, answer_refusal, below_t
 use Rattle.executor_model.specs.Steps.{stack, start, top, unless, waits}
 use Rattle.executor_model.specs.Weights.{weigh, weigh_all}
 use Rattle.executor_model.specs.World.{Lock}
-use Rattle.executor_model.proofs.Lift.{topped}
-use Rattle.executor_model.proofs.Lists.{weigh-append, weigh_all-below}
-use Rattle.executor_model.proofs.OwnLocks.{lock-agrees}
-use Rattle.executor_model.proofs.Spawning.{in-range}
-use Rattle.executor_model.proofs.Reached.{Reached}
-use Rattle.runs_laws.specs.GoingOn.{GoesOn, HolderGoesOn, IsTaken, held_of}
-use Rattle.runs_laws.proofs.Holding.{has-top, held-on-top, weigh_below}
+use Rattle.executor_model.proofs.Steps.Lift.{topped}
+use Rattle.executor_model.proofs.Steps.Lists.{weigh-append, weigh_all-below}
+use Rattle.executor_model.proofs.OwnQueues.OwnLocks.{lock-agrees}
+use Rattle.executor_model.proofs.Table.Spawning.{in-range}
+use Rattle.executor_model.proofs.Steps.Reached.{Reached}
+use Rattle.executor_laws.specs.GoingOn.{GoesOn, HolderGoesOn, IsTaken, held_of}
+use Rattle.executor_laws.proofs.Termination.Holding.{has-top, held-on-top, weigh_below}
 
 -- how the user code on top may end
 abbrev pub user_end : Op → UserEnd

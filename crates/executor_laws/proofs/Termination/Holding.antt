@@ -1,3 +1,4 @@
+-- For calls_end and lone_calls_end.
 -- Whoever has the lock of the list of queues has what it does under it, or its giving back, next to do.
 use Rattle.std.proofs.Common.{◌≡◌, ◌∙◌, ℕ, zero, suc, ◌+◌, ◌-◌, ◌<◌, ◌≤◌, ◌%◌, List, [], ◌∷◌, ◌++◌, length, set, drop}
 use Rattle.std.proofs.Common.{get_or, take, Bool, true, false, ltb, refl, sym, ap, subst, arith}
@@ -18,8 +19,8 @@ use Rattle.executor_model.specs.declared.op.RunOp.{RunOp}
 use Rattle.executor_model.specs.declared.op.RunOp.TheVariants as run_op
 use Rattle.executor_model.specs.declared.op.RunPoll.{RunPoll}
 use Rattle.executor_model.specs.declared.op.Section.TheVariants as section
-use Rattle.executor_model.specs.declared.op.Sleeper.{Sleeper}
-use Rattle.executor_model.specs.declared.op.Sleeper.TheVariants as sleeper
+use Rattle.executor_model.specs.declared.op.TickOrRun.{TickOrRun}
+use Rattle.executor_model.specs.declared.op.TickOrRun.TheVariants as tick_or_run
 use Rattle.executor_model.specs.declared.op.Sleeping.{Sleeping}
 use Rattle.executor_model.specs.declared.op.Steal.{Steal}
 use Rattle.executor_model.specs.declared.op.StealOp.{StealOp}
@@ -43,21 +44,21 @@ use Rattle.executor_model.specs.Steps.{Machine, accepts, begun, below_top, is_fr
 use Rattle.executor_model.specs.Steps.{unless, waits}
 use Rattle.executor_model.specs.Weights.{weigh, weigh_all}
 use Rattle.executor_model.specs.World.{World, Done, done, log, place_of, put_own}
-use Rattle.executor_model.proofs.Lift.{good-start, split, topped, unsettled, weigh_all-idle}
-use Rattle.executor_model.proofs.Lists.{weigh-append, weigh-reverse}
-use Rattle.executor_model.proofs.OwnCounts.{counts-begun, counts-react, counts-reads, counts-writes}
-use Rattle.executor_model.proofs.OwnRooms.{Roomy, roomy-ends, roomy-moves}
-use Rattle.executor_model.proofs.RunsAside.{apart-act, is_run, runs_of, unseen}
-use Rattle.executor_model.proofs.RunsMoving.{Weighs, is_search, lying-blind, walk-by, weighs-found}
-use Rattle.executor_model.proofs.RunsMoving.{weighs-stolen}
-use Rattle.executor_model.proofs.SleepersNext.{Blind, search-blind}
-use Rattle.executor_model.proofs.Spawning.{top-last}
-use Rattle.executor_model.proofs.UsingSteps.{AllUsed, used-ends, used-moves, used-start}
-use Rattle.executor_model.proofs.Ways.{Way, acted, reacted, called, along}
-use Rattle.executor_model.proofs.Reached.{Reached}
-use Rattle.runs_laws.proofs.Reached.{has-free}
-use Rattle.runs_laws.specs.GoingOn.{held_of}
-use Rattle.runs_laws.proofs.Beside.{by_reference}
+use Rattle.executor_model.proofs.Steps.Lift.{good-start, split, topped, unsettled, weigh_all-idle}
+use Rattle.executor_model.proofs.Steps.Lists.{weigh-append, weigh-reverse}
+use Rattle.executor_model.proofs.OwnQueues.OwnCounts.{counts-begun, counts-react, counts-reads, counts-writes}
+use Rattle.executor_model.proofs.OwnQueues.OwnRooms.{Roomy, roomy-ends, roomy-moves}
+use Rattle.executor_model.proofs.OwnQueues.RunsAside.{apart-act, is_run, runs_of, unseen}
+use Rattle.executor_model.proofs.OwnQueues.RunsMoving.{Weighs, is_search, slumbering-blind, walk-by, weighs-found}
+use Rattle.executor_model.proofs.OwnQueues.RunsMoving.{weighs-stolen}
+use Rattle.executor_model.proofs.Steps.SleepersNext.{Blind, search-blind}
+use Rattle.executor_model.proofs.Table.Spawning.{top-last}
+use Rattle.executor_model.proofs.OwnQueues.UsingSteps.{AllUsed, used-ends, used-moves, used-start}
+use Rattle.executor_model.proofs.Steps.Ways.{Way, acted, reacted, called, along}
+use Rattle.executor_model.proofs.Steps.Reached.{Reached}
+use Rattle.executor_laws.proofs.Termination.Reached.{has-free}
+use Rattle.executor_laws.specs.GoingOn.{held_of}
+use Rattle.executor_laws.proofs.Termination.Beside.{by_reference}
 
 -- nothing that is done under the lock, or gives it back, follows later than next
 abbrev FirstHolds : List Op → Type 0
@@ -77,6 +78,7 @@ blind-held : Blind held_of
 blind-held = record {
   tick = λ o. refl;
   exchange = refl;
+  returns = refl;
   call = λ s. refl;
   release = λ f. refl;
   end = λ a who. refl;
@@ -136,14 +138,14 @@ first-own [] w x = refl
 first-own (f ∷ rest) w x = let v : World = put_own w x.run rest in
     none-held (runs.found v x f).next (found-none v x f)
 
-first-search : (who : Sleeper) (w : World) (s : Sleeping) → FirstHolds (search_by_who who w s).next
-first-search (sleeper.Tick t) w s =
-    none-held (search_by_who (sleeper.Tick t) w s).next
+first-search : (who : TickOrRun) (w : World) (s : Sleeping) → FirstHolds (search_by_who who w s).next
+first-search (tick_or_run.Tick t) w s =
+    none-held (search_by_who (tick_or_run.Tick t) w s).next
     (search-blind held_of blind-held (λ f. refl) (place_of w s.who) w w.queue.items s)
-first-search (sleeper.Run r) w s = first-own _ w _
+first-search (tick_or_run.Run r) w s = first-own _ w _
 
 first-tick : (h : Hint) (o : TickOp) (w : World) (b : Bool) → is_search o ≡ b → FirstHolds (tick_act h o w).next
-first-tick h o w false e = none-held (tick_act h o w).next (lying-blind held_of blind-held h o w e)
+first-tick h o w false e = none-held (tick_act h o w).next (slumbering-blind held_of blind-held h o w e)
 first-tick h (tick_op.Search s) w true e = first-search s.who w s
 first-tick h _ w true e = absurd (cc)
 
@@ -163,13 +165,9 @@ first-made true w = refl
 first-made false w = refl
 
 first-list : (h : Hint) (o : ListOp) (w : World) → FirstHolds (list_act h o w).next
-first-list h (list_op.LockWrite s) w = refl
 first-list h (list_op.Write section.MakeRun) w = first-made _ w
-first-list h (list_op.Write (section.Register x)) w = refl
-first-list h (list_op.Write (section.Unregister r a)) w = refl
-first-list h list_op.UnlockWrite w = refl
 first-list h (list_op.LockRead x) w = first-walk x w.listed (h.start % length w.listed) (length w.listed)
-first-list h list_op.UnlockRead w = refl
+first-list h _ w = refl
 
 first-wake : (p : ℕ) (w : World) (x : RunPoll) → FirstHolds (runs.wake_own p w x).next
 first-wake p w x =

@@ -1,3 +1,4 @@
+-- For calls_end and lone_calls_end.
 -- A call that isn't refused can be made alone: who has begun one can go on to its end.
 use Rattle.std.proofs.Common.{◌≡◌, ◌≢◌, ◌⊎◌, ◌∙◌, ℕ, zero, suc, ◌<◌, ◌≤◌, List, [], ◌∷◌, length}
 use Rattle.std.proofs.Common.{Bool, true, false, ◌&&◌, ◌||◌, not, ◌==◌, eqb, ltb, refl, sym, ap, subst}
@@ -15,21 +16,21 @@ use Rattle.executor_model.specs.declared.step.StepError.{StepError}
 use Rattle.executor_model.specs.declared.step.StepError.TheVariants.{NoSuch}
 use Rattle.executor_model.specs.Trace.{Trace}
 use Rattle.executor_model.specs.Quiet.{IsQuiet}
-use Rattle.executor_model.specs.Runs.{run_all}
+use Rattle.executor_model.specs.Executions.{run_all}
 use Rattle.executor_model.specs.Weights.{weigh}
 use Rattle.executor_model.specs.World.{Lock}
 use Rattle.executor_model.specs.Steps.{Machine, stack, top, waits, is_locked_out, unless}
 use Rattle.executor_model.specs.Steps.{refusal, part_after, after, party_of, run, start}
-use Rattle.executor_model.proofs.Calls.{calling_of, begun_by, ended_by}
-use Rattle.executor_model.proofs.Lift.{no_hint}
-use Rattle.executor_model.proofs.Resting.{Deep, rests}
-use Rattle.executor_model.proofs.Reached.{Reached, run-first, run-then, reached-more, reached-step, deep-here}
-use Rattle.runs_laws.specs.LoneEnds.{is_onward_of, are_onward_of, IsLoneCall, LoneCallsEnd}
-use Rattle.runs_laws.specs.GoingOn.{CanGoOn, IsTaken, held_of}
-use Rattle.runs_laws.specs.Remaining.{remaining, is_onward, are_onward}
-use Rattle.runs_laws.proofs.Ends.{lowers, ends}
-use Rattle.runs_laws.proofs.GoingOn.{goes-on, held-here, holder-goes-on, holding-free}
-use Rattle.runs_laws.proofs.Holding.{has-top}
+use Rattle.executor_model.proofs.Quiet.Calls.{calling_of, begun_by, ended_by}
+use Rattle.executor_model.proofs.Steps.Lift.{no_hint}
+use Rattle.executor_model.proofs.Quiet.Resting.{Deep, rests}
+use Rattle.executor_model.proofs.Steps.Reached.{Reached, run-first, run-then, reached-more, reached-step, deep-here}
+use Rattle.executor_laws.specs.LoneEnds.{is_onward_of, are_onward_of, IsLoneCall, LoneCallsEnd}
+use Rattle.executor_laws.specs.GoingOn.{CanGoOn, IsTaken, held_of}
+use Rattle.executor_laws.specs.Remaining.{remaining, is_onward, are_onward}
+use Rattle.executor_laws.proofs.Termination.Ends.{lowers, ends}
+use Rattle.executor_laws.proofs.Termination.GoingOn.{goes-on, held-here, holder-goes-on, holding-free}
+use Rattle.executor_laws.proofs.Termination.Holding.{has-top}
 
 left-true : (a b : Bool) → (a && b) ≡ true → (a ≡ true) × (b ≡ true)
 left-true true b e = (refl, e)

@@ -1,38 +1,40 @@
+-- For calls_end and lone_calls_end.
 -- What ticks and runs both do pays a step of those that remain, or one of a walk.
 use Rattle.std.proofs.Common.{◌≡◌, ℕ, ◌≤◌, List, [], ◌∷◌, Bool, true, false, refl, ap, arith}
 use Rattle.std.specs.Prelude.{Option, Some, None, is_none}
 use Rattle.executor_parts.specs.Sleepers.{waker_at, waker_of}
 use Rattle.executor_model.specs.declared.op.Op.TheVariants as op
-use Rattle.executor_model.specs.declared.op.Sleeper.{Sleeper}
-use Rattle.executor_model.specs.declared.op.Sleeper.TheVariants as sleeper
+use Rattle.executor_model.specs.declared.op.TickOrRun.{TickOrRun}
+use Rattle.executor_model.specs.declared.op.TickOrRun.TheVariants as tick_or_run
 use Rattle.executor_model.specs.declared.op.Sleeping.{Sleeping}
 use Rattle.executor_model.specs.declared.op.TickOp.{TickOp}
 use Rattle.executor_model.specs.declared.op.TickOp.TheVariants as tick_op
 use Rattle.executor_model.specs.declared.op.Waker.{Waker}
 use Rattle.executor_model.specs.declared.op.Waker.TheVariants.{Task, Outside}
 use Rattle.executor_model.specs.declared.step.Hint.{Hint}
-use Rattle.executor_model.specs.ActsOfSleepers.{make_tick_by, search_by, copy_sleeper_by, pend_as, lie_anew_by}
+use Rattle.executor_model.specs.ActsOfSleepers.{make_tick_by, search_by, copy_sleeper_by, pend_as, sleep_anew_by}
 use Rattle.executor_model.specs.ActsOfSleepers.{sleeper_goes}
-use Rattle.executor_model.specs.ActsOfSleepers.{lie_listed_by, lie_again_by, lie_down_by, get_up_by, tell_if}
+use Rattle.executor_model.specs.ActsOfSleepers.{sleep_listed_by, sleep_again_by, fall_asleep_by, wake_up_by, tell_and_return}
 use Rattle.executor_model.specs.ActsOfSleepers.{leave_sleepers_by}
 use Rattle.executor_model.specs.Acts.{is_copy_refused, waker_goes}
 use Rattle.executor_model.specs.Doing.{search_by_who, tick_act}
 use Rattle.executor_model.specs.Good.{IsKnownWaker, TickNeeds}
 use Rattle.executor_model.specs.Weights.{weigh}
-use Rattle.executor_model.specs.World.{World, Place, Up, Lies, Left, Done, place_of}
-use Rattle.executor_model.proofs.Lists.{weigh-append}
-use Rattle.executor_model.proofs.RunsMoving.{is_search, lying-blind}
-use Rattle.executor_model.proofs.SleepersNext.{Blind, search-blind}
-use Rattle.runs_laws.specs.Costs.{left_by, steps_of_copy, steps_of_lying, steps_of_search, walk_of}
-use Rattle.runs_laws.proofs.SpendingRuns.{CanPay, Pays, pays-own}
-use Rattle.runs_laws.proofs.SpendingRuns.Pays.{spends, walks}
-use Rattle.runs_laws.proofs.SpendingTicks.{kept-copy_sleeper, spends-leave_sleepers, spends-lie, spends-make}
-use Rattle.runs_laws.proofs.SpendingTicks.{spends-search, spends-up}
+use Rattle.executor_model.specs.World.{World, Ticker, Awake, Asleep, Left, Done, place_of}
+use Rattle.executor_model.proofs.Steps.Lists.{weigh-append}
+use Rattle.executor_model.proofs.OwnQueues.RunsMoving.{is_search, slumbering-blind}
+use Rattle.executor_model.proofs.Steps.SleepersNext.{Blind, search-blind}
+use Rattle.executor_laws.specs.Costs.{left_by, steps_of_copy, steps_of_sleeping, steps_of_search, walk_of}
+use Rattle.executor_laws.proofs.Termination.SpendingRuns.{CanPay, Pays, pays-own}
+use Rattle.executor_laws.proofs.Termination.SpendingRuns.Pays.{spends, walks}
+use Rattle.executor_laws.proofs.Termination.SpendingTicks.{kept-copy_sleeper, spends-leave_sleepers, spends-sleep, spends-make}
+use Rattle.executor_laws.proofs.Termination.SpendingTicks.{spends-search, spends-up}
 
 blind-left : (v : World) → Blind (left_by v)
 blind-left v = record {
   tick = λ o. refl;
   exchange = refl;
+  returns = refl;
   call = λ s. refl;
   release = λ f. refl;
   end = λ a who. refl;
@@ -42,7 +44,7 @@ blind-left v = record {
 -- nothing of it is left to schedule
 unleft-tick : (h : Hint) (o : TickOp) (w : World) → is_search o ≡ false →
     weigh (left_by (tick_act h o w).world) (tick_act h o w).next ≡ 0
-unleft-tick h o w e = lying-blind (left_by (tick_act h o w).world) (blind-left (tick_act h o w).world) h o w e
+unleft-tick h o w e = slumbering-blind (left_by (tick_act h o w).world) (blind-left (tick_act h o w).world) h o w e
 
 -- the steps on the way to a walk
 
@@ -58,46 +60,46 @@ walk-make : (b : Bool) (w : World) → weigh walk_of (make_tick_by b w).next ≤
 walk-make true w = omega arith
 walk-make false w = omega arith
 
-walk-search : (x : Place) (w : World) (q : List ℕ) (s : Sleeping) → weigh walk_of (search_by x w q s).next ≤ 2
+walk-search : (x : Ticker) (w : World) (q : List ℕ) (s : Sleeping) → weigh walk_of (search_by x w q s).next ≤ 2
 walk-search x w [] s = omega arith
-walk-search Up w (f ∷ rest) s = omega arith
-walk-search (Lies n) w (f ∷ rest) s = omega arith
+walk-search Awake w (f ∷ rest) s = omega arith
+walk-search (Asleep n) w (f ∷ rest) s = omega arith
 walk-search Left w (f ∷ rest) s = omega arith
 
-walk-anew : (b : Bool) (w : World) (s : Sleeping) → weigh walk_of (lie_anew_by b w s).next ≤ 2
+walk-anew : (b : Bool) (w : World) (s : Sleeping) → weigh walk_of (sleep_anew_by b w s).next ≤ 2
 walk-anew true w s = omega arith
 walk-anew false w s = omega arith
 
-walk-listed : (b : Bool) (w : World) (n : ℕ) (s : Sleeping) → weigh walk_of (lie_listed_by b w n s).next ≤ 2
+walk-listed : (b : Bool) (w : World) (n : ℕ) (s : Sleeping) → weigh walk_of (sleep_listed_by b w n s).next ≤ 2
 walk-listed true w n s = omega arith
 walk-listed false w n s = omega arith
 
-walk-again : (o : Option ℕ) (w : World) (n : ℕ) (s : Sleeping) → weigh walk_of (lie_again_by o w n s).next ≤ 2
+walk-again : (o : Option ℕ) (w : World) (n : ℕ) (s : Sleeping) → weigh walk_of (sleep_again_by o w n s).next ≤ 2
 walk-again None w n s = walk-listed _ w n s
 walk-again (Some at) w n s = let old = waker_at (Some at) w.sleepers.wakers in
     omega (arith, weigh-append walk_of (sleeper_goes old) (pend_as s.who), walk-goes_of old)
 
-walk-lie : (x : Place) (w : World) (s : Sleeping) → weigh walk_of (lie_down_by x w s).next ≤ 2
-walk-lie Up w s = walk-anew _ w s
-walk-lie (Lies n) w s = walk-again _ w n s
-walk-lie Left w s = omega arith
+walk-sleep : (x : Ticker) (w : World) (s : Sleeping) → weigh walk_of (fall_asleep_by x w s).next ≤ 2
+walk-sleep Awake w s = walk-anew _ w s
+walk-sleep (Asleep n) w s = walk-again _ w n s
+walk-sleep Left w s = omega arith
 
-walk-up : (x : Place) (w : World) (who : Sleeper) → weigh walk_of (get_up_by x w who).next ≤ 2
-walk-up Up w who = omega arith
-walk-up (Lies n) w who = omega (arith, walk-goes_of (waker_of n w.sleepers.wakers))
+walk-up : (x : Ticker) (w : World) (who : TickOrRun) → weigh walk_of (wake_up_by x w who).next ≤ 2
+walk-up Awake w who = omega arith
+walk-up (Asleep n) w who = omega (arith, walk-goes_of (waker_of n w.sleepers.wakers))
 walk-up Left w who = omega arith
 
-walk-tell : (b : Bool) → weigh walk_of (tell_if b) ≡ 0
+walk-tell : (b : Bool) → weigh walk_of (tell_and_return b) ≡ 0
 walk-tell true = refl
 walk-tell false = refl
 
-walk-leave : (x : Place) (w : World) (who : Sleeper) → weigh walk_of (leave_sleepers_by x w who).next ≤ 2
-walk-leave Up w who = omega arith
-walk-leave (Lies n) w who =
+walk-leave : (x : Ticker) (w : World) (who : TickOrRun) → weigh walk_of (leave_sleepers_by x w who).next ≤ 2
+walk-leave Awake w who = omega arith
+walk-leave (Asleep n) w who =
     let old = waker_of n w.sleepers.wakers in
     omega (
       arith,
-      weigh-append walk_of (sleeper_goes old) (tell_if (is_none old)),
+      weigh-append walk_of (sleeper_goes old) (tell_and_return (is_none old)),
       walk-goes_of old,
       walk-tell (is_none old),
     )
@@ -105,10 +107,10 @@ walk-leave Left w who = omega arith
 
 -- a search, and a copy of a waker
 
-pays-search : (who : Sleeper) (w : World) (s : Sleeping) → s.who ≡ who → CanPay w (op.Tick (tick_op.Search s)) →
+pays-search : (who : TickOrRun) (w : World) (s : Sleeping) → s.who ≡ who → CanPay w (op.Tick (tick_op.Search s)) →
     Pays w (op.Tick (tick_op.Search s)) (search_by_who who w s)
-pays-search (sleeper.Tick t) w s i c =
-    let x : Place = place_of w s.who in
+pays-search (tick_or_run.Tick t) w s i c =
+    let x : Ticker = place_of w s.who in
     let d : Done = search_by x w w.queue.items s in
     spends (omega (
       arith,
@@ -117,16 +119,16 @@ pays-search (sleeper.Tick t) w s i c =
       search-blind (left_by d.world) (blind-left d.world) (λ f. refl) x w w.queue.items s,
     ))
     (omega (arith, walk-search x w w.queue.items s))
-pays-search (sleeper.Run r) w s i c = pays-own _ w s r i c
+pays-search (tick_or_run.Run r) w s i c = pays-own _ w s r i c
 
-pays-copy : (b : Bool) (who : Sleeper) (w : World) (s : Sleeping) → s.who ≡ who → IsKnownWaker w s.waker →
+pays-copy : (b : Bool) (who : TickOrRun) (w : World) (s : Sleeping) → s.who ≡ who → IsKnownWaker w s.waker →
     Pays w (op.Tick (tick_op.CopyWaker s)) (copy_sleeper_by b w s)
-pays-copy true (sleeper.Tick t) w s i l = spends (omega (arith, ap steps_of_copy i)) (omega arith)
-pays-copy true (sleeper.Run r) w s i l = spends (omega (arith, ap steps_of_copy i)) (omega arith)
-pays-copy false (sleeper.Tick t) w s i l =
-    spends (omega (arith, ap steps_of_copy i, ap steps_of_lying i, kept-copy_sleeper false w s l)) (omega arith)
-pays-copy false (sleeper.Run r) w s i l =
-    walks (omega (arith, ap steps_of_copy i, ap steps_of_lying i, kept-copy_sleeper false w s l)) (omega arith)
+pays-copy true (tick_or_run.Tick t) w s i l = spends (omega (arith, ap steps_of_copy i)) (omega arith)
+pays-copy true (tick_or_run.Run r) w s i l = spends (omega (arith, ap steps_of_copy i)) (omega arith)
+pays-copy false (tick_or_run.Tick t) w s i l =
+    spends (omega (arith, ap steps_of_copy i, ap steps_of_sleeping i, kept-copy_sleeper false w s l)) (omega arith)
+pays-copy false (tick_or_run.Run r) w s i l =
+    walks (omega (arith, ap steps_of_copy i, ap steps_of_sleeping i, kept-copy_sleeper false w s l)) (omega arith)
 
 pub pays-tick : (h : Hint) (o : TickOp) (w : World) → TickNeeds w o → CanPay w (op.Tick o) →
     Pays w (op.Tick o) (tick_act h o w)
@@ -135,11 +137,11 @@ pays-tick h tick_op.MakeTick w l c =
     (omega (arith, walk-make h.refused w))
 pays-tick h (tick_op.Search s) w l c = pays-search s.who w s refl c
 pays-tick h (tick_op.CopyWaker s) w l c = pays-copy (is_copy_refused h w s.waker) s.who w s refl l
-pays-tick h (tick_op.LieDown s) w l c =
-    spends (omega (arith, spends-lie (place_of w s.who) w s refl, unleft-tick h (tick_op.LieDown s) w refl))
-    (omega (arith, walk-lie (place_of w s.who) w s))
-pays-tick h (tick_op.GetUp who) w l c =
-    spends (omega (arith, spends-up (place_of w who) w who, unleft-tick h (tick_op.GetUp who) w refl))
+pays-tick h (tick_op.FallAsleep s) w l c =
+    spends (omega (arith, spends-sleep (place_of w s.who) w s refl, unleft-tick h (tick_op.FallAsleep s) w refl))
+    (omega (arith, walk-sleep (place_of w s.who) w s))
+pays-tick h (tick_op.WakeUp who) w l c =
+    spends (omega (arith, spends-up (place_of w who) w who, unleft-tick h (tick_op.WakeUp who) w refl))
     (omega (arith, walk-up (place_of w who) w who))
 pays-tick h (tick_op.Leave who) w l c =
     spends (omega (arith, spends-leave_sleepers (place_of w who) w who, unleft-tick h (tick_op.Leave who) w refl))

@@ -1,3 +1,4 @@
+-- For calls_end and lone_calls_end.
 -- What holds of the runs of each machine to which steps lead.
 use Rattle.std.proofs.Common.{◌≡◌, ℕ, ◌+◌, ◌-◌, ◌<◌, ◌≤◌, [], ◌∷◌, length, Bool, true, false, eqb}
 use Rattle.std.proofs.Common.{ltb, cond, refl, sym, ap, subst, arith}
@@ -13,12 +14,12 @@ use Rattle.executor_model.specs.Rows.{running_of}
 use Rattle.executor_model.specs.Steps.{Machine, stack, top}
 use Rattle.executor_model.specs.Weights.{weigh_all}
 use Rattle.executor_model.specs.World.{World, own_of}
-use Rattle.executor_model.proofs.Lift.{split, topped}
-use Rattle.executor_model.proofs.OwnRuns.{has-own-room}
-use Rattle.executor_model.proofs.UsingSteps.{AllUsed, all-used}
-use Rattle.executor_model.proofs.Reached.{Reached}
-use Rattle.runs_laws.proofs.SpendingRuns.{CanPay, TakesFew}
-use Rattle.runs_laws.proofs.TakingFew.{takes-few}
+use Rattle.executor_model.proofs.Steps.Lift.{split, topped}
+use Rattle.executor_model.proofs.OwnQueues.OwnExecutions.{has-own-room}
+use Rattle.executor_model.proofs.OwnQueues.UsingSteps.{AllUsed, all-used}
+use Rattle.executor_model.proofs.Steps.Reached.{Reached}
+use Rattle.executor_laws.proofs.Termination.SpendingRuns.{CanPay, TakesFew}
+use Rattle.executor_laws.proofs.Termination.TakingFew.{takes-few}
 
 used-all : (s : Machine) → Reached s → AllUsed s
 used-all s r = subst AllUsed (sym r.is) (all-used r.limit r.parties r.steps)

@@ -1,3 +1,4 @@
+-- For calls_end and lone_calls_end.
 -- What each thing that is done spends of the steps that remain.
 use Rattle.std.proofs.Common.{◌≡◌, ℕ, zero, suc, ◌+◌, ◌*◌, ◌<◌, ◌≤◌, ◌==◌, List, [], ◌∷◌, ◌++◌, length, set, get_or}
 use Rattle.std.proofs.Common.{Bool, true, false, ◌||◌, ◌&&◌, not, cond, refl, ap, arith}
@@ -15,10 +16,10 @@ use Rattle.executor_model.specs.World.{awaiter_of, blank, without, among}
 use Rattle.executor_model.specs.Carried.{carried, owed_ops, schedule_ops, drop_ops, future_ops}
 use Rattle.executor_model.specs.Carried.{output_ops, awaiter_ops, next_ops}
 use Rattle.executor_model.specs.Weights.{weigh}
-use Rattle.runs_laws.specs.Costs.{steps_of}
-use Rattle.runs_laws.specs.Remaining.{stored, appends_by, steps_of_task, steps_of_tasks, steps_of_runs, notified_of}
-use Rattle.runs_laws.specs.Remaining.{ups, steps_kept}
-use Rattle.executor_model.proofs.Lists.{weigh-append}
+use Rattle.executor_laws.specs.Costs.{steps_of}
+use Rattle.executor_laws.specs.Remaining.{stored, appends_by, steps_of_task, steps_of_tasks, steps_of_runs, notified_of}
+use Rattle.executor_laws.specs.Remaining.{ups, steps_kept}
+use Rattle.executor_model.proofs.Steps.Lists.{weigh-append}
 
 -- what is left after d, and one step, came out of what was left before and c
 abbrev pub Spends : World → ℕ → Done → Type 0

@@ -1,3 +1,4 @@
+-- For calls_end and lone_calls_end.
 -- Each thing that is done spends a step of those that remain.
 use Rattle.std.proofs.Common.{◌≡◌, ℕ, ◌+◌, ◌*◌, ◌<◌, ◌≤◌, List, [], ◌∷◌, ◌++◌, length, drop}
 use Rattle.std.proofs.Common.{Bool, true, false, ◌&&◌, refl, ap, arith}
@@ -30,13 +31,13 @@ use Rattle.executor_model.specs.Acts.{notify_by, told, end_notify, call_waker, c
 use Rattle.executor_model.specs.Acts.{drop_next_by, followed, wake, wake_next_by, drain_by}
 use Rattle.executor_model.specs.Weights.{weigh}
 use Rattle.executor_model.specs.Good.{CanGrow, CanWake, IsKnownWaker}
-use Rattle.runs_laws.specs.Costs.{steps_of}
-use Rattle.runs_laws.specs.Remaining.{stored, steps_of_task, steps_of_tasks, steps_of_runs, notified_of, ups}
-use Rattle.runs_laws.specs.Remaining.{steps_kept}
-use Rattle.executor_model.proofs.Lists.{weigh-append}
-use Rattle.runs_laws.proofs.Spending.{Spends, kept-parts, tasks-push, one_stored, stored-push, without-one}
-use Rattle.runs_laws.proofs.Spending.{kept-put, kept-put_awaiter, kept-log, kept-log_if}
-use Rattle.runs_laws.proofs.Spending.{notify_other-steps, spends-logged, costs-waking, closed-spent}
+use Rattle.executor_laws.specs.Costs.{steps_of}
+use Rattle.executor_laws.specs.Remaining.{stored, steps_of_task, steps_of_tasks, steps_of_runs, notified_of, ups}
+use Rattle.executor_laws.specs.Remaining.{steps_kept}
+use Rattle.executor_model.proofs.Steps.Lists.{weigh-append}
+use Rattle.executor_laws.proofs.Termination.Spending.{Spends, kept-parts, tasks-push, one_stored, stored-push, without-one}
+use Rattle.executor_laws.proofs.Termination.Spending.{kept-put, kept-put_awaiter, kept-log, kept-log_if}
+use Rattle.executor_laws.proofs.Termination.Spending.{notify_other-steps, spends-logged, costs-waking, closed-spent}
 
 -- queue and table
 

@@ -1,3 +1,4 @@
+-- For calls_end and lone_calls_end.
 -- Each thing that is done spends a step of those that remain, by groups; those of ticks and runs apart.
 use Rattle.std.proofs.Common.{◌≡◌, ℕ, ◌<◌, [], ◌∷◌, length, true, false, refl, arith}
 use Rattle.task_moves.specs.Moves as moves
@@ -23,18 +24,18 @@ use Rattle.executor_model.specs.Acts.{take_to_drop, move_task}
 use Rattle.executor_model.specs.Doing.{act}
 use Rattle.executor_model.specs.Good.{Needs}
 use Rattle.executor_model.specs.Steps.{waits, accepts, react}
-use Rattle.executor_model.proofs.RunsAside.{is_run}
-use Rattle.runs_laws.specs.Costs.{steps_of}
-use Rattle.runs_laws.proofs.Spending.{Spends, kept-log, spends-carried, spends-logged, costs-wake}
-use Rattle.runs_laws.proofs.Spending.{costs-release, costs-take_up, costs-settle_closed, costs-give_up}
-use Rattle.runs_laws.proofs.Spending.{costs-end_ready, costs-end_pending, costs-end_closed}
-use Rattle.runs_laws.proofs.Spending.{costs-drop_runnable, costs-cancel, costs-detach}
-use Rattle.runs_laws.proofs.SpendingActs.{spends-append, spends-take, spends-enter, spends-leave, spends-as}
-use Rattle.runs_laws.proofs.SpendingActs.{kept-as, spends-look, spends-again, spends-copy, spends-copy_awaiter}
-use Rattle.runs_laws.proofs.SpendingActs.{spends-register, spends-end_register, spends-notify}
-use Rattle.runs_laws.proofs.SpendingActs.{spends-end_notify, spends-wake, spends-call, spends-take_out}
-use Rattle.runs_laws.proofs.SpendingActs.{spends-drop_next, spends-wake_next, spends-drain}
-use Rattle.runs_laws.proofs.SpendingTicks.{spends-sleeper}
+use Rattle.executor_model.proofs.OwnQueues.RunsAside.{is_run}
+use Rattle.executor_laws.specs.Costs.{steps_of}
+use Rattle.executor_laws.proofs.Termination.Spending.{Spends, kept-log, spends-carried, spends-logged, costs-wake}
+use Rattle.executor_laws.proofs.Termination.Spending.{costs-release, costs-take_up, costs-settle_closed, costs-give_up}
+use Rattle.executor_laws.proofs.Termination.Spending.{costs-end_ready, costs-end_pending, costs-end_closed}
+use Rattle.executor_laws.proofs.Termination.Spending.{costs-drop_runnable, costs-cancel, costs-detach}
+use Rattle.executor_laws.proofs.Termination.SpendingActs.{spends-append, spends-take, spends-enter, spends-leave, spends-as}
+use Rattle.executor_laws.proofs.Termination.SpendingActs.{kept-as, spends-look, spends-again, spends-copy, spends-copy_awaiter}
+use Rattle.executor_laws.proofs.Termination.SpendingActs.{spends-register, spends-end_register, spends-notify}
+use Rattle.executor_laws.proofs.Termination.SpendingActs.{spends-end_notify, spends-wake, spends-call, spends-take_out}
+use Rattle.executor_laws.proofs.Termination.SpendingActs.{spends-drop_next, spends-wake_next, spends-drain}
+use Rattle.executor_laws.proofs.Termination.SpendingTicks.{spends-sleeper}
 
 -- who settles a task that was closed, does so where it is over
 abbrev pub Settles : World → Op → Type 0

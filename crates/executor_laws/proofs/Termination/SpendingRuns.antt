@@ -1,3 +1,4 @@
+-- For calls_end and lone_calls_end.
 -- What a run does spends a step of those that remain, or one of its walk.
 use Rattle.std.proofs.Common.{◌≡◌, ℕ, zero, suc, ◌+◌, ◌-◌, ◌*◌, ◌<◌, ◌≤◌, ◌/◌, ◌%◌, List, [], ◌∷◌, ◌++◌, length, set}
 use Rattle.std.proofs.Common.{get_or, get_or-set_same, drop, Bool, true, false, ltb, eqb, cond, refl, ap, ◌∙◌, arith}
@@ -17,8 +18,8 @@ use Rattle.executor_model.specs.declared.op.RunOp.{RunOp}
 use Rattle.executor_model.specs.declared.op.RunOp.TheVariants as run_op
 use Rattle.executor_model.specs.declared.op.RunPoll.{RunPoll}
 use Rattle.executor_model.specs.declared.op.Section.TheVariants as section
-use Rattle.executor_model.specs.declared.op.Sleeper.{Sleeper}
-use Rattle.executor_model.specs.declared.op.Sleeper.TheVariants as sleeper
+use Rattle.executor_model.specs.declared.op.TickOrRun.{TickOrRun}
+use Rattle.executor_model.specs.declared.op.TickOrRun.TheVariants as tick_or_run
 use Rattle.executor_model.specs.declared.op.SleeperOp.TheVariants as sleeper_op
 use Rattle.executor_model.specs.declared.op.Sleeping.{Sleeping}
 use Rattle.executor_model.specs.declared.op.Source.{Source}
@@ -38,17 +39,17 @@ use Rattle.executor_model.specs.Doing.{list_act, run_act, steal_act}
 use Rattle.executor_model.specs.Good.{CanWake, RunNeeds}
 use Rattle.executor_model.specs.Rows.{running_of}
 use Rattle.executor_model.specs.Weights.{is_run, same, weigh}
-use Rattle.executor_model.specs.World.{Place, Up, Lies, Left, Lock}
+use Rattle.executor_model.specs.World.{Ticker, Awake, Asleep, Left, Lock}
 use Rattle.executor_model.specs.World.{World, Stage, New, Listed, Ended, Run, Done, log, no_run, new_run, run_of, put_run}
 use Rattle.executor_model.specs.World.{own_of, put_own, task}
-use Rattle.executor_model.proofs.Lists.{same_is, weigh-append}
-use Rattle.executor_model.proofs.RunsAside.{runs_of, unseen}
-use Rattle.executor_model.proofs.RunsMoving.{Weighs, walk-by, weighs-found, weighs-stolen, nothing-by}
-use Rattle.runs_laws.proofs.Beside.{by_reference}
-use Rattle.runs_laws.specs.Costs.{left_by, steps_of, steps_of_search, steps_then, walk_of, walk_then}
-use Rattle.runs_laws.specs.Remaining.{steps_kept, steps_of_place, steps_of_runs}
-use Rattle.runs_laws.proofs.Spending.{Spends, kept-log, kept-parts, costs-wake, spends-logged}
-use Rattle.runs_laws.proofs.SpendingTicks.{notified-back, rises-steps}
+use Rattle.executor_model.proofs.Steps.Lists.{same_is, weigh-append}
+use Rattle.executor_model.proofs.OwnQueues.RunsAside.{runs_of, unseen}
+use Rattle.executor_model.proofs.OwnQueues.RunsMoving.{Weighs, walk-by, weighs-found, weighs-stolen, nothing-by}
+use Rattle.executor_laws.proofs.Termination.Beside.{by_reference}
+use Rattle.executor_laws.specs.Costs.{left_by, steps_of, steps_of_search, steps_then, walk_of, walk_then}
+use Rattle.executor_laws.specs.Remaining.{steps_kept, steps_of_place, steps_of_runs}
+use Rattle.executor_laws.proofs.Termination.Spending.{Spends, kept-log, kept-parts, costs-wake, spends-logged}
+use Rattle.executor_laws.proofs.Termination.SpendingTicks.{notified-back, wakes_up-steps}
 
 -- what is left after it and one step came out of what was left; or as much is left, and a step less of the walk
 pub data Pays (w : World) (o : Op) (d : Done) : Type 0 where
@@ -141,12 +142,12 @@ kept-found : (w : World) (x : RunPoll) (f : ℕ) → x.run < length w.runs → (
     steps_kept (runs.found w x f).world + weigh steps_of (runs.found w x f).next ≤ steps_kept w + 30099
 kept-found w x f l k =
     let tells : List Op = op.Sleeper sleeper_op.ExchangeFlag ∷ [] in
-    let first : List Op = found_by (run_of w x.run).place (sleeper.Run x.run) tells in
+    let first : List Op = found_by (run_of w x.run).place (tick_or_run.Run x.run) tells in
     let b : Bool = eqb ((run_of w x.run).counted + 1) 64 in
     omega (
       arith,
       weigh-append steps_of first (runs.counted_by b w x f).next,
-      rises-steps (run_of w x.run).place (sleeper.Run x.run) tells,
+      wakes_up-steps (run_of w x.run).place (tick_or_run.Run x.run) tells,
       kept-counted b w x f l k,
     )
 
@@ -160,21 +161,21 @@ walk-counted false w x f =
     let v : World = runs.counted_to w x.run ((run_of w x.run).counted + 1) in
     omega (arith, walk-run_by (eqb ((run_of v x.run).taken + 1) 200) v x f)
 
-walk-rises : (p : Place) (who : Sleeper) →
+walk-wakes_up : (p : Ticker) (who : TickOrRun) →
     weigh walk_of (found_by p who (op.Sleeper sleeper_op.ExchangeFlag ∷ [])) ≡ 0
-walk-rises Up who = refl
-walk-rises (Lies n) who = refl
-walk-rises Left who = refl
+walk-wakes_up Awake who = refl
+walk-wakes_up (Asleep n) who = refl
+walk-wakes_up Left who = refl
 
 walk-found : (w : World) (x : RunPoll) (f : ℕ) → weigh walk_of (runs.found w x f).next ≤ 1026
 walk-found w x f =
     let tells : List Op = op.Sleeper sleeper_op.ExchangeFlag ∷ [] in
-    let first : List Op = found_by (run_of w x.run).place (sleeper.Run x.run) tells in
+    let first : List Op = found_by (run_of w x.run).place (tick_or_run.Run x.run) tells in
     let b : Bool = eqb ((run_of w x.run).counted + 1) 64 in
     omega (
       arith,
       weigh-append walk_of first (runs.counted_by b w x f).next,
-      walk-rises (run_of w x.run).place (sleeper.Run x.run),
+      walk-wakes_up (run_of w x.run).place (tick_or_run.Run x.run),
       walk-counted b w x f,
     )
 
@@ -279,7 +280,7 @@ pays-steal p (steal_op.Put s more f) w c = pays-put _ p w s more f (c.room s mor
 
 -- searching
 
-pub pays-own : (q : List ℕ) (w : World) (s : Sleeping) (r : ℕ) → s.who ≡ sleeper.Run r →
+pub pays-own : (q : List ℕ) (w : World) (s : Sleeping) (r : ℕ) → s.who ≡ tick_or_run.Run r →
     CanPay w (op.Tick (tick_op.Search s)) →
     Pays w (op.Tick (tick_op.Search s)) (runs.search_own_by q w (record { run = r; waker = s.waker; poll = s.poll }))
 pays-own [] w s r i c = walks (omega (arith, ap steps_of_search i)) (omega arith)

@@ -1,3 +1,4 @@
+-- For calls_end and lone_calls_end.
 -- What tells a sleeper, and what ticks and runs both do, spends a step of those that remain, but for a run's copy of
 -- its waker and its search.
 use Rattle.std.proofs.Common.{◌≡◌, ℕ, zero, suc, ◌+◌, ◌-◌, ◌*◌, ◌<◌, ◌≤◌, List, [], ◌∷◌, ◌++◌, length, set, get_or}
@@ -7,31 +8,31 @@ use Rattle.std.proofs.lemmas.List.{length_push}
 use Rattle.std.proofs.lemmas.List.Edits.{length-remove}
 use Rattle.std.specs.Prelude.{Option, Some, None, is_none, remove}
 use Rattle.executor_parts.specs.Sleepers.{Sleepers, position_of, without_last, waker_at, waker_of, next_number}
-use Rattle.executor_parts.specs.Sleepers.{laid_down, listed, without_entry, freed, risen}
+use Rattle.executor_parts.specs.Sleepers.{put_to_sleep, listed, without_entry, freed, woken_up}
 use Rattle.queue_steps.specs.ClosableQueue.{taken}
 use Rattle.task_moves.specs.declared.moves.owed.Move.TheVariants as move
 use Rattle.executor_model.specs.declared.call.Reply.TheVariants as reply
 use Rattle.executor_model.specs.declared.op.Op.{Op}
 use Rattle.executor_model.specs.declared.op.Op.TheVariants as op
-use Rattle.executor_model.specs.declared.op.Sleeper.{Sleeper}
-use Rattle.executor_model.specs.declared.op.Sleeper.TheVariants as sleeper
+use Rattle.executor_model.specs.declared.op.TickOrRun.{TickOrRun}
+use Rattle.executor_model.specs.declared.op.TickOrRun.TheVariants as tick_or_run
 use Rattle.executor_model.specs.declared.op.Sleeping.{Sleeping}
 use Rattle.executor_model.specs.declared.op.SleeperOp.{SleeperOp}
 use Rattle.executor_model.specs.declared.op.SleeperOp.TheVariants as sleeper_op
-use Rattle.executor_model.specs.World.{World, Place, Up, Lies, Left, Run, no_run, place_of, ticks_with, runs_with}
+use Rattle.executor_model.specs.World.{World, Ticker, Awake, Asleep, Left, Run, no_run, place_of, ticks_with, runs_with}
 use Rattle.executor_model.specs.ActsOfSleepers.{exchange_by, call_of, hand_out_by, make_tick_by, found_by, held_as}
-use Rattle.executor_model.specs.ActsOfSleepers.{polled_as, search_by, copy_sleeper_by, pend_as, lie_anew_by, sleeper_goes}
-use Rattle.executor_model.specs.ActsOfSleepers.{lie_listed_by, lie_again_by, lie_down_by, get_up_by, given_back, tell_if}
+use Rattle.executor_model.specs.ActsOfSleepers.{polled_as, search_by, copy_sleeper_by, pend_as, sleep_anew_by, sleeper_goes}
+use Rattle.executor_model.specs.ActsOfSleepers.{sleep_listed_by, sleep_again_by, fall_asleep_by, wake_up_by, given_back, tell_and_return}
 use Rattle.executor_model.specs.ActsOfSleepers.{leave_sleepers_by}
 use Rattle.executor_model.specs.Doing.{sleeper_act}
 use Rattle.executor_model.specs.Good.{IsKnownWaker, SleeperNeeds}
 use Rattle.executor_model.specs.Weights.{weigh}
-use Rattle.executor_model.proofs.Lists.{weigh-append}
-use Rattle.executor_model.proofs.SleepersLists.{position-within}
-use Rattle.runs_laws.specs.Costs.{steps_of, steps_of_copy, steps_of_lying, steps_of_search}
-use Rattle.runs_laws.specs.Remaining.{notified_of, up_of, ups, steps_kept, steps_of_runs}
-use Rattle.runs_laws.proofs.Spending.{Spends, kept-parts}
-use Rattle.runs_laws.proofs.SpendingActs.{kept-as, spends-as, kept-copied, goes-steps, spends-call}
+use Rattle.executor_model.proofs.Steps.Lists.{weigh-append}
+use Rattle.executor_model.proofs.Steps.SleepersLists.{position-within}
+use Rattle.executor_laws.specs.Costs.{steps_of, steps_of_copy, steps_of_sleeping, steps_of_search}
+use Rattle.executor_laws.specs.Remaining.{notified_of, up_of, ups, steps_kept, steps_of_runs}
+use Rattle.executor_laws.proofs.Termination.Spending.{Spends, kept-parts}
+use Rattle.executor_laws.proofs.Termination.SpendingActs.{kept-as, spends-as, kept-copied, goes-steps, spends-call}
 
 -- sleepers that were notified
 
@@ -48,8 +49,8 @@ last-out (x ∷ xs) = subst (λ (n : ℕ). length (x ∷ xs) ≤ length (take n 
 notified-last : (s : Sleepers Sleeping) → notified_of (without_last s) ≤ notified_of s + 1
 notified-last s = omega (arith, last-out s.wakers)
 
-notified-laid : (x : Sleeping) (s : Sleepers Sleeping) → notified_of (laid_down x s) ≡ notified_of s
-notified-laid x s = omega (arith, length_push s.wakers (next_number s, x))
+notified-fell_asleep : (x : Sleeping) (s : Sleepers Sleeping) → notified_of (put_to_sleep x s) ≡ notified_of s
+notified-fell_asleep x s = omega (arith, length_push s.wakers (next_number s, x))
 
 notified-listed : (n : ℕ) (x : Sleeping) (s : Sleepers Sleeping) → ltb (length s.wakers) s.count ≡ true →
     notified_of (listed n x s) + 1 ≡ notified_of s
@@ -81,8 +82,8 @@ notified-gone n at s l = by (ltb (length (remove s.wakers at)) s.count) refl
     by true e = omega (arith, length-remove s.wakers at l)
     by false e = let k : s.count ≤ length (remove s.wakers at) = grind (arith, nat_tests) in omega (arith, k)
 
-notified-risen : (n : ℕ) (s : Sleepers Sleeping) → notified_of (risen n s) ≤ notified_of s
-notified-risen n s = by (position_of n s.wakers) refl
+notified-woken_up : (n : ℕ) (s : Sleepers Sleeping) → notified_of (woken_up n s) ≤ notified_of s
+notified-woken_up n s = by (position_of n s.wakers) refl
   where
     by : (o : Option ℕ) → position_of n s.wakers ≡ o → notified_of (freed n (without_entry o s)) ≤ notified_of s
     by None e = notified-freed n s
@@ -95,18 +96,18 @@ notified-back s = by (ltb s.count s.rooms)
     by true = refl
     by false = refl
 
--- ticks and runs that are up
+-- ticks and runs that are awake
 
-ups-set : (ts : List Place) (t : ℕ) (x : Place) → ups (set ts t x) + up_of (get_or ts t Left) ≤ ups ts + up_of x
+ups-set : (ts : List Ticker) (t : ℕ) (x : Ticker) → ups (set ts t x) + up_of (get_or ts t Left) ≤ ups ts + up_of x
 ups-set [] t x = omega arith
 ups-set (y ∷ ts) zero x = omega arith
 ups-set (y ∷ ts) (suc t) x = omega (arith, ups-set ts t x)
 
-ups-push : (ts : List Place) (x : Place) → ups (ts ++ x ∷ []) ≡ ups ts + up_of x
+ups-push : (ts : List Ticker) (x : Ticker) → ups (ts ++ x ∷ []) ≡ ups ts + up_of x
 ups-push [] x = omega arith
 ups-push (y ∷ ts) x = omega (arith, ups-push ts x)
 
-places-set : (rs : List Run) (r : ℕ) (x : Place) →
+places-set : (rs : List Run) (r : ℕ) (x : Ticker) →
     steps_of_runs (set rs r (record (get_or rs r no_run) { place = x })) + 3 * up_of (get_or rs r no_run).place
     ≤ steps_of_runs rs + 3 * up_of x
 places-set [] r x = omega arith
@@ -117,11 +118,11 @@ places-set (y ∷ rs) (suc r) x = omega (arith, places-set rs r x)
 abbrev pub steps_of_places : World → ℕ
 steps_of_places w = 3 * ups w.ticks + steps_of_runs w.runs
 
-placed : (w : World) (who : Sleeper) (x : Place) →
+placed : (w : World) (who : TickOrRun) (x : Ticker) →
     3 * ups (ticks_with w.ticks who x) + steps_of_runs (runs_with w.runs who x) + 3 * up_of (place_of w who)
     ≤ steps_of_places w + 3 * up_of x
-placed w (sleeper.Tick t) x = omega (arith, ups-set w.ticks t x)
-placed w (sleeper.Run r) x = omega (arith, places-set w.runs r x)
+placed w (tick_or_run.Tick t) x = omega (arith, ups-set w.ticks t x)
+placed w (tick_or_run.Run r) x = omega (arith, places-set w.runs r x)
 
 -- the world has changed in nothing that is kept but sleepers, ticks and runs
 pub kept-of : (w v : World) (n m : ℕ) → v.queue.items ≡ w.queue.items → v.table ≡ w.table → v.leaving ≡ w.leaving →
@@ -171,21 +172,21 @@ spends-make true w = omega arith
 spends-make false w = omega (
   arith,
   kept-of w (make_tick_by false w).world (notified_of w.sleepers) (steps_of_places w + 3) refl refl refl refl refl refl
-      (omega arith) (omega (arith, ups-push w.ticks Up)),
+      (omega arith) (omega (arith, ups-push w.ticks Awake)),
 )
 
-pub rises-steps : (x : Place) (who : Sleeper) (more : List Op) →
+pub wakes_up-steps : (x : Ticker) (who : TickOrRun) (more : List Op) →
     weigh steps_of (found_by x who more) ≤ 17 + weigh steps_of more
-rises-steps Up who more = omega arith
-rises-steps (Lies n) who more = omega arith
-rises-steps Left who more = omega arith
+wakes_up-steps Awake who more = omega arith
+wakes_up-steps (Asleep n) who more = omega arith
+wakes_up-steps Left who more = omega arith
 
-pub spends-search : (x : Place) (w : World) (q : List ℕ) (s : Sleeping) (t : ℕ) → s.who ≡ sleeper.Tick t →
+pub spends-search : (x : Ticker) (w : World) (q : List ℕ) (s : Sleeping) (t : ℕ) → s.who ≡ tick_or_run.Tick t →
     w.queue.items ≡ q → Spends w 141 (search_by x w q s)
 spends-search x w [] s t i e = omega (arith, ap steps_of_copy i)
 spends-search x w (f ∷ rest) s t i e = omega (
   arith,
-  rises-steps x s.who
+  wakes_up-steps x s.who
       (op.Sleeper sleeper_op.ExchangeFlag ∷ op.Move move.TakeUp f ∷ op.End reply.Ready (held_as s.who) ∷ []),
   kept-parts w,
   kept-parts (record w { queue = taken w.queue }),
@@ -193,103 +194,103 @@ spends-search x w (f ∷ rest) s t i e = omega (
   ap (λ (xs : List ℕ). length (drop 1 xs)) e,
 )
 
--- the copy of a waker comes in hand, and the steps of lying down are left
-pub lying-steps : (who : Sleeper) → (139 ≤ steps_of_lying who) × (steps_of_search who + 1 ≤ steps_of_lying who + 3)
-lying-steps (sleeper.Tick t) = (omega arith, omega arith)
-lying-steps (sleeper.Run r) = (omega arith, omega arith)
+-- the copy of a waker comes in hand, and the steps of falling asleep are left
+pub slumbering-steps : (who : TickOrRun) → (139 ≤ steps_of_sleeping who) × (steps_of_search who + 1 ≤ steps_of_sleeping who + 3)
+slumbering-steps (tick_or_run.Tick t) = (omega arith, omega arith)
+slumbering-steps (tick_or_run.Run r) = (omega arith, omega arith)
 
 pub kept-copy_sleeper : (b : Bool) (w : World) (s : Sleeping) → IsKnownWaker w s.waker →
     steps_kept (copy_sleeper_by b w s).world + weigh steps_of (copy_sleeper_by b w s).next
-    ≤ steps_kept w + steps_of_lying s.who
-kept-copy_sleeper true w s l = omega (arith, (lying-steps s.who).0)
+    ≤ steps_kept w + steps_of_sleeping s.who
+kept-copy_sleeper true w s l = omega (arith, (slumbering-steps s.who).0)
 kept-copy_sleeper false w s l = omega (arith, kept-copied w s.waker l)
 
-spends-anew : (b : Bool) (w : World) (s : Sleeping) → place_of w s.who ≡ Up →
-    Spends w (steps_of_lying s.who) (lie_anew_by b w s)
+spends-anew : (b : Bool) (w : World) (s : Sleeping) → place_of w s.who ≡ Awake →
+    Spends w (steps_of_sleeping s.who) (sleep_anew_by b w s)
 spends-anew true w s e =
-    let x : Place = Lies (next_number w.sleepers) in
+    let x : Ticker = Asleep (next_number w.sleepers) in
     omega (
       arith,
-      kept-of w (lie_anew_by true w s).world (notified_of w.sleepers) (steps_of_places w - 3) refl refl refl refl refl
+      kept-of w (sleep_anew_by true w s).world (notified_of w.sleepers) (steps_of_places w - 3) refl refl refl refl refl
           refl
-          (omega (arith, notified-laid s w.sleepers))
+          (omega (arith, notified-fell_asleep s w.sleepers))
           (omega (arith, placed w s.who x, ap up_of e)),
       placed w s.who x,
       ap up_of e,
-      (lying-steps s.who).1,
+      (slumbering-steps s.who).1,
     )
-spends-anew false w s e = omega (arith, (lying-steps s.who).0)
+spends-anew false w s e = omega (arith, (slumbering-steps s.who).0)
 
 spends-listed : (b : Bool) (w : World) (n : ℕ) (s : Sleeping) → ltb (length w.sleepers.wakers) w.sleepers.count ≡ b →
-    Spends w (steps_of_lying s.who) (lie_listed_by b w n s)
+    Spends w (steps_of_sleeping s.who) (sleep_listed_by b w n s)
 spends-listed true w n s e =
     omega (
       arith,
-      kept-of w (lie_listed_by true w n s).world (notified_of w.sleepers - 1) (steps_of_places w) refl refl refl refl
+      kept-of w (sleep_listed_by true w n s).world (notified_of w.sleepers - 1) (steps_of_places w) refl refl refl refl
           refl refl
           (omega (arith, notified-listed n s w.sleepers e)) (omega arith),
       notified-listed n s w.sleepers e,
-      (lying-steps s.who).1,
+      (slumbering-steps s.who).1,
     )
-spends-listed false w n s e = omega (arith, (lying-steps s.who).0)
+spends-listed false w n s e = omega (arith, (slumbering-steps s.who).0)
 
 length-put : (ws : List (ℕ × Sleeping)) (at : ℕ) (e : ℕ × Sleeping) → length (set ws at e) ≡ length ws
 length-put [] at e = refl
 length-put (x ∷ ws) zero e = refl
 length-put (x ∷ ws) (suc at) e = omega (arith, length-put ws at e)
 
-spends-lie_again : (o : Option ℕ) (w : World) (n : ℕ) (s : Sleeping) →
-    Spends w (steps_of_lying s.who) (lie_again_by o w n s)
-spends-lie_again None w n s = spends-listed _ w n s refl
-spends-lie_again (Some at) w n s =
+spends-sleep_again : (o : Option ℕ) (w : World) (n : ℕ) (s : Sleeping) →
+    Spends w (steps_of_sleeping s.who) (sleep_again_by o w n s)
+spends-sleep_again None w n s = spends-listed _ w n s refl
+spends-sleep_again (Some at) w n s =
     let old = waker_at (Some at) w.sleepers.wakers in
     omega (
       arith,
       weigh-append steps_of (sleeper_goes old) (pend_as s.who),
       goes-steps_of old,
-      kept-of w (lie_again_by (Some at) w n s).world (notified_of w.sleepers) (steps_of_places w) refl refl refl refl
+      kept-of w (sleep_again_by (Some at) w n s).world (notified_of w.sleepers) (steps_of_places w) refl refl refl refl
           refl refl (omega (arith, length-put w.sleepers.wakers at (n, s))) (omega arith),
-      (lying-steps s.who).0,
+      (slumbering-steps s.who).0,
     )
 
-pub spends-lie : (x : Place) (w : World) (s : Sleeping) → place_of w s.who ≡ x →
-    Spends w (steps_of_lying s.who) (lie_down_by x w s)
-spends-lie Up w s e = spends-anew _ w s e
-spends-lie (Lies n) w s e = spends-lie_again _ w n s
-spends-lie Left w s e = omega (arith, (lying-steps s.who).0)
+pub spends-sleep : (x : Ticker) (w : World) (s : Sleeping) → place_of w s.who ≡ x →
+    Spends w (steps_of_sleeping s.who) (fall_asleep_by x w s)
+spends-sleep Awake w s e = spends-anew _ w s e
+spends-sleep (Asleep n) w s e = spends-sleep_again _ w n s
+spends-sleep Left w s e = omega (arith, (slumbering-steps s.who).0)
 
-pub spends-up : (x : Place) (w : World) (who : Sleeper) → Spends w 17 (get_up_by x w who)
-spends-up Up w who = omega arith
-spends-up (Lies n) w who =
+pub spends-up : (x : Ticker) (w : World) (who : TickOrRun) → Spends w 17 (wake_up_by x w who)
+spends-up Awake w who = omega arith
+spends-up (Asleep n) w who =
     let old = waker_of n w.sleepers.wakers in
     omega (
       arith,
       goes-steps_of old,
-      kept-of w (get_up_by (Lies n) w who).world (notified_of w.sleepers) (steps_of_places w + 3) refl refl refl refl
+      kept-of w (wake_up_by (Asleep n) w who).world (notified_of w.sleepers) (steps_of_places w + 3) refl refl refl refl
           refl refl
-          (notified-risen n w.sleepers) (omega (arith, placed w who Up)),
+          (notified-woken_up n w.sleepers) (omega (arith, placed w who Awake)),
     )
 spends-up Left w who = omega arith
 
-left-steps : (o : Option Sleeping) → weigh steps_of (sleeper_goes o ++ tell_if (is_none o)) ≤ 31
+left-steps : (o : Option Sleeping) → weigh steps_of (sleeper_goes o ++ tell_and_return (is_none o)) ≤ 32
 left-steps None = omega arith
-left-steps (Some s) = omega (arith, weigh-append steps_of (sleeper_goes (Some s)) (tell_if false), goes-steps s.waker)
+left-steps (Some s) = omega (arith, weigh-append steps_of (sleeper_goes (Some s)) (tell_and_return false), goes-steps s.waker)
 
-pub spends-leave_sleepers : (x : Place) (w : World) (who : Sleeper) → Spends w 45 (leave_sleepers_by x w who)
-spends-leave_sleepers Up w who = omega (
+pub spends-leave_sleepers : (x : Ticker) (w : World) (who : TickOrRun) → Spends w 45 (leave_sleepers_by x w who)
+spends-leave_sleepers Awake w who = omega (
   arith,
-  kept-of w (leave_sleepers_by Up w who).world (notified_of w.sleepers) (steps_of_places w) refl refl refl refl refl
+  kept-of w (leave_sleepers_by Awake w who).world (notified_of w.sleepers) (steps_of_places w) refl refl refl refl refl
       refl
       (omega (arith, notified-back w.sleepers)) (omega (arith, placed w who Left)),
 )
-spends-leave_sleepers (Lies n) w who =
+spends-leave_sleepers (Asleep n) w who =
     let old = waker_of n w.sleepers.wakers in
     omega (
       arith,
       left-steps old,
-      kept-of w (leave_sleepers_by (Lies n) w who).world (notified_of w.sleepers) (steps_of_places w) refl refl refl
+      kept-of w (leave_sleepers_by (Asleep n) w who).world (notified_of w.sleepers) (steps_of_places w) refl refl refl
           refl refl refl
-          (omega (arith, notified-back (risen n w.sleepers), notified-risen n w.sleepers))
+          (omega (arith, notified-woken_up n w.sleepers))
           (omega (arith, placed w who Left)),
     )
 spends-leave_sleepers Left w who = omega arith

@@ -1,23 +1,18 @@
+-- For calls_end and lone_calls_end.
 -- No run takes 200 futures without letting others go first.
 use Rattle.std.proofs.Common.{◌≡◌, ℕ, zero, suc, ◌+◌, ◌<◌, List, [], ◌∷◌, ◌++◌, length, set, get_or}
-use Rattle.std.proofs.Common.{Bool, true, false, eqb, refl, ap, arith}
+use Rattle.std.proofs.Common.{Bool, true, false, eqb, refl, ap, sym, arith}
 use Rattle.std.proofs.lemmas.Bool.Decides.{nat_tests}
 use Rattle.std.specs.Prelude.{Option, Some, None, reverse}
 use Rattle.executor_parts.specs.Sleepers.{next_number}
-use Rattle.task_moves.specs.declared.moves.owed.Answer.{Answer}
 use Rattle.task_moves.specs.declared.moves.owed.Move.{Move}
 use Rattle.task_moves.specs.declared.moves.owed.Move.TheVariants as move
-use Rattle.task_moves.specs.declared.moves.owed.Moved.{Moved}
-use Rattle.task_moves.specs.Moves as moves
 use Rattle.executor_model.specs.declared.call.Call.{Call}
 use Rattle.executor_model.specs.declared.call.Call.TheVariants as call
 use Rattle.executor_model.specs.declared.call.Reply.{Reply}
 use Rattle.executor_model.specs.declared.event.Answer.TheVariants as answer
-use Rattle.executor_model.specs.declared.event.Event.{Event}
 use Rattle.executor_model.specs.declared.event.Event.TheVariants as event
 use Rattle.executor_model.specs.declared.op.ClosingOp.TheVariants as closing_op
-use Rattle.executor_model.specs.declared.op.HandleOp.TheVariants as handle_op
-use Rattle.executor_model.specs.declared.op.Hold.{Hold}
 use Rattle.executor_model.specs.declared.op.ListOp.{ListOp}
 use Rattle.executor_model.specs.declared.op.ListOp.TheVariants as list_op
 use Rattle.executor_model.specs.declared.op.Op.{Op}
@@ -29,9 +24,8 @@ use Rattle.executor_model.specs.declared.op.RunOp.{RunOp}
 use Rattle.executor_model.specs.declared.op.RunOp.TheVariants as run_op
 use Rattle.executor_model.specs.declared.op.RunPoll.{RunPoll}
 use Rattle.executor_model.specs.declared.op.Section.TheVariants as section
-use Rattle.executor_model.specs.declared.op.Sleeper.{Sleeper}
-use Rattle.executor_model.specs.declared.op.Sleeper.TheVariants as sleeper
-use Rattle.executor_model.specs.declared.op.SleeperOp.{SleeperOp}
+use Rattle.executor_model.specs.declared.op.TickOrRun.{TickOrRun}
+use Rattle.executor_model.specs.declared.op.TickOrRun.TheVariants as tick_or_run
 use Rattle.executor_model.specs.declared.op.SleeperOp.TheVariants as sleeper_op
 use Rattle.executor_model.specs.declared.op.Sleeping.{Sleeping}
 use Rattle.executor_model.specs.declared.op.Source.{Source}
@@ -39,7 +33,6 @@ use Rattle.executor_model.specs.declared.op.Source.TheVariants.{Common, Own}
 use Rattle.executor_model.specs.declared.op.Steal.{Steal}
 use Rattle.executor_model.specs.declared.op.StealOp.{StealOp}
 use Rattle.executor_model.specs.declared.op.StealOp.TheVariants as steal_op
-use Rattle.executor_model.specs.declared.op.TableOp.TheVariants as table_op
 use Rattle.executor_model.specs.declared.op.Then.{Then}
 use Rattle.executor_model.specs.declared.op.Then.TheVariants as then
 use Rattle.executor_model.specs.declared.op.TickOp.{TickOp}
@@ -47,7 +40,6 @@ use Rattle.executor_model.specs.declared.op.TickOp.TheVariants as tick_op
 use Rattle.executor_model.specs.declared.op.UserOp.TheVariants as user_op
 use Rattle.executor_model.specs.declared.op.Waker.{Waker}
 use Rattle.executor_model.specs.declared.op.Waker.TheVariants.{Task, Outside}
-use Rattle.executor_model.specs.declared.op.WakerOp.TheVariants as waker_op
 use Rattle.executor_model.specs.declared.step.Hint.{Hint}
 use Rattle.executor_model.specs.declared.step.Step.{Step}
 use Rattle.executor_model.specs.declared.step.UserEnd.{UserEnd}
@@ -55,41 +47,21 @@ use Rattle.executor_model.specs.declared.step.UserEnd.TheVariants as end
 use Rattle.executor_model.specs.Acts as acts
 use Rattle.executor_model.specs.ActsOfSleepers as of_sleepers
 use Rattle.executor_model.specs.ActsOfRuns as runs
-use Rattle.executor_model.specs.Doing.{act, list_act, run_act, search_by_who, sleeper_act, steal_act, tick_act}
+use Rattle.executor_model.specs.Doing.{act, list_act, run_act, search_by_who, steal_act, tick_act}
 use Rattle.executor_model.specs.Good.{Good}
 use Rattle.executor_model.specs.Steps.{Machine, begun, future_of, kept, mine, react, run, stack, start, top, with_future}
-use Rattle.executor_model.specs.World.{World, Place, Up, Lies, Left, Stage, New, Listed, Ended, Run, Done, log, log_if}
-use Rattle.executor_model.specs.World.{no_run, new_run, run_of, runs_with, put, put_own, put_run, task}
-use Rattle.executor_model.proofs.Lift.{good-start, unsettled}
-use Rattle.executor_model.proofs.RunsAside.{is_run}
-use Rattle.executor_model.proofs.Ways.{Way, acted, reacted, called, along}
-use Rattle.runs_laws.proofs.SpendingRuns.{TakesFew}
+use Rattle.executor_model.specs.World.{World, Ticker, Awake, Asleep, Left, Stage, New, Listed, Ended, Run, Done, log}
+use Rattle.executor_model.specs.World.{no_run, new_run, run_of, runs_with, put_own, put_run}
+use Rattle.executor_model.proofs.Steps.Lift.{good-start, unsettled}
+use Rattle.executor_model.proofs.Steps.Lift.{no_hint}
+use Rattle.executor_model.proofs.OwnQueues.RunsAside.{Rest, frame-act, is_run}
+use Rattle.executor_model.proofs.Steps.Ways.{Way, acted, reacted, called, along}
+use Rattle.executor_laws.proofs.Termination.SpendingRuns.{TakesFew}
 
 abbrev RunsStay : World → World → Type 0
 RunsStay w v = v.runs ≡ w.runs
 
 -- what speaks of no run leaves the runs as they are
-
-runs-log_if : (b : Bool) (w : World) (e : Event) → RunsStay w (log_if b w e)
-runs-log_if true w e = refl
-runs-log_if false w e = refl
-
-runs-move : (b : Bool) (m : Move) (p : ℕ) (w : World) (f : ℕ) → RunsStay w (acts.move_by b m p w f).world
-runs-move true m p w f = runs-log_if (acts.is_told m (task w f)) w (acts.told_as m p f)
-runs-move false m p w f = refl
-
-runs-call : (p : ℕ) (w : World) (o : Polled) (a : Waker) (k : ℕ) → RunsStay w (acts.call_waker p w o a k).world
-runs-call p w o (Task g) k = runs-move true move.Wake p (log w (event.WakerCalled p o k (Task g))) g
-runs-call p w o (Outside x) k = refl
-
-runs-enter : (b c : Bool) (p : ℕ) (w : World) → RunsStay w (acts.enter_by b c p w).world
-runs-enter true c p w = refl
-runs-enter false true p w = refl
-runs-enter false false p w = refl
-
-runs-leave : (b : Bool) (w : World) (f : ℕ) → RunsStay w (acts.leave_by b w f).world
-runs-leave true w f = refl
-runs-leave false w f = refl
 
 runs-take : (q : List ℕ) (w : World) → RunsStay w (acts.take_by w q).world
 runs-take [] w = refl
@@ -99,42 +71,6 @@ runs-append : (b : Bool) (w : World) (f : ℕ) → RunsStay w (acts.append_by b 
 runs-append true w f = refl
 runs-append false w f = refl
 
-runs-copy : (b : Bool) (w : World) (f : ℕ) (held : Hold) → RunsStay w (acts.copy_by b w f held).world
-runs-copy true w f held = refl
-runs-copy false w f held = refl
-
-runs-answered : (p : ℕ) (w : World) (f : ℕ) (m : Moved) (a : Answer) → RunsStay w (acts.answered p w f m a).world
-runs-answered p w f m a = runs-log_if (acts.is_output a) (put w f m.state) (event.OutputGiven p f)
-
-runs-look : (o : Option Answer) (p : ℕ) (w : World) (f : ℕ) (a : Waker) (m : Moved) →
-    RunsStay w (acts.look_by o p w f a m).world
-runs-look None p w f a m = refl
-runs-look (Some x) p w f a m = runs-answered p (acts.polled p w f) f m x
-
-runs-again : (o : Option Answer) (p : ℕ) (w : World) (f : ℕ) (m : Moved) →
-    RunsStay w (acts.look_again_by o p w f m).world
-runs-again None p w f m = refl
-runs-again (Some x) p w f m = runs-answered p w f m x
-
-runs-copy_awaiter : (b : Bool) (p : ℕ) (w : World) (f : ℕ) (a : Waker) →
-    RunsStay w (acts.copy_awaiter_by b p w f a).world
-runs-copy_awaiter true p w f a = refl
-runs-copy_awaiter false p w f (Task g) = refl
-runs-copy_awaiter false p w f (Outside x) = refl
-
-runs-register : (b : Bool) (w : World) (f : ℕ) (a : Waker) (k : ℕ) → RunsStay w (acts.register_by b w f a k).world
-runs-register true w f a k = refl
-runs-register false w f a k = refl
-
-runs-end_register : (b : Bool) (w : World) (f : ℕ) (a : Waker) (k : ℕ) →
-    RunsStay w (acts.end_register_by b w f a k).world
-runs-end_register true w f a k = refl
-runs-end_register false w f a k = refl
-
-runs-notify : (b : Bool) (w : World) (f : ℕ) (mine : Bool) → RunsStay w (acts.notify_by b w f mine).world
-runs-notify true w f mine = refl
-runs-notify false w f mine = refl
-
 runs-exchange : (b : Bool) (w : World) → RunsStay w (of_sleepers.exchange_by b w).world
 runs-exchange true w = refl
 runs-exchange false w = refl
@@ -143,50 +79,23 @@ runs-hand_out : (b : Bool) (o : Option Sleeping) (w : World) → RunsStay w (of_
 runs-hand_out true o w = refl
 runs-hand_out false o w = refl
 
-runs-sleeper : (p : ℕ) (o : SleeperOp) (w : World) → RunsStay w (sleeper_act p o w).world
-runs-sleeper p sleeper_op.ExchangeFlag w = runs-exchange _ w
-runs-sleeper p sleeper_op.HandOut w = runs-hand_out _ _ w
-runs-sleeper p (sleeper_op.CallSleeper s) w = runs-call p w (of_sleepers.polled_as s.who) s.waker s.poll
-
-runs-drop_next : (p : ℕ) (w : World) (ls : List ℕ) → RunsStay w (acts.drop_next_by p w ls).world
-runs-drop_next p w [] = refl
-runs-drop_next p w (f ∷ rest) = refl
-
-runs-wake_next : (p : ℕ) (w : World) (ws : List ℕ) → RunsStay w (acts.wake_next_by p w ws).world
-runs-wake_next p w [] = refl
-runs-wake_next p w (f ∷ rest) = runs-move true move.Wake p (record w { waking = rest }) f
-
 runs-drain : (p : ℕ) (w : World) (q : List ℕ) → RunsStay w (acts.drain_by p w q).world
 runs-drain p w [] = refl
 runs-drain p w (f ∷ rest) = refl
 
 runs-act : (p : ℕ) (h : Hint) (o : Op) (w : World) → is_run o ≡ false → RunsStay w (act p h o w).world
-runs-act p h (op.Move m f) w n = runs-move _ m p w f
-runs-act p h (op.Table table_op.Enter) w n = runs-enter _ _ p w
-runs-act p h (op.Table (table_op.LeaveTable f)) w n = runs-leave _ w f
 runs-act p h (op.Queue queue_op.Take) w n = runs-take _ w
 runs-act p h (op.Queue (queue_op.Append f)) w n = runs-append _ w f
-runs-act p h (op.User (user_op.BeginDrop f)) w n = refl
-runs-act p h (op.User (user_op.BeginDropOutput f)) w n = refl
-runs-act p h (op.Waker (waker_op.CopyWaker f held)) w n = runs-copy _ w f held
-runs-act p h (op.Waker (waker_op.CallAwaiter f a k)) w n = runs-call p w _ a k
-runs-act p h (op.Handle (handle_op.Look f a)) w n =
-    runs-look (moves.poll (task w f)).owed.answer p w f a (moves.poll (task w f))
-runs-act p h (op.Handle (handle_op.CopyAwaiter f a)) w n = runs-copy_awaiter _ p w f a
-runs-act p h (op.Handle (handle_op.Register f a k)) w n = runs-register _ w f a k
-runs-act p h (op.Handle (handle_op.EndRegister f a k)) w n = runs-end_register _ w f a k
-runs-act p h (op.Handle (handle_op.LookAgain f)) w n =
-    runs-again (moves.look_again (task w f)).owed.answer p w f (moves.look_again (task w f))
-runs-act p h (op.Handle (handle_op.Notify f mine)) w n = runs-notify _ w f mine
-runs-act p h (op.Sleeper o) w n = runs-sleeper p o w
+runs-act p h (op.Sleeper sleeper_op.ExchangeFlag) w n = runs-exchange _ w
+runs-act p h (op.Sleeper sleeper_op.HandOut) w n = runs-hand_out _ _ w
+runs-act p h (op.User (user_op.PollOwn x)) w n = absurd (cc)
 runs-act p h (op.Tick o) w n = absurd (cc)
 runs-act p h (op.List o) w n = absurd (cc)
 runs-act p h (op.Steal o) w n = absurd (cc)
 runs-act p h (op.Run o) w n = absurd (cc)
-runs-act p h (op.Closing closing_op.DropNext) w n = runs-drop_next p w _
-runs-act p h (op.Closing closing_op.WakeNext) w n = runs-wake_next p w _
+runs-act p h (op.Closing closing_op.Close) w n = refl
 runs-act p h (op.Closing closing_op.Drain) w n = runs-drain p w _
-runs-act p h _ w n = refl
+runs-act p h o w n = ap (λ (r : Rest). r.runs) (sym (frame-act p h o w refl).rest)
 
 -- so few were taken still
 
@@ -211,9 +120,9 @@ Pauses w v = TakesFew w → TakesFew v
 pauses-same : (w v : World) → v.runs ≡ w.runs → Pauses w v
 pauses-same w v e k = λ r. omega (arith, k r, ap (λ (rs : List Run). (get_or rs r no_run).taken) e)
 
-pauses-placed : (w v : World) (who : Sleeper) (x : Place) → v.runs ≡ runs_with w.runs who x → Pauses w v
-pauses-placed w v (sleeper.Tick t) x e k = pauses-same w v e k
-pauses-placed w v (sleeper.Run q) x e k = λ r. omega (
+pauses-placed : (w v : World) (who : TickOrRun) (x : Ticker) → v.runs ≡ runs_with w.runs who x → Pauses w v
+pauses-placed w v (tick_or_run.Tick t) x e k = pauses-same w v e k
+pauses-placed w v (tick_or_run.Run q) x e k = λ r. omega (
   arith,
   ap (λ (rs : List Run). (get_or rs r no_run).taken) e,
   set-few w.runs q (record (run_of w q) { place = x }) (k q) k r,
@@ -228,7 +137,7 @@ pauses-make : (b : Bool) (w : World) → Pauses w (of_sleepers.make_tick_by b w)
 pauses-make true w k = k
 pauses-make false w k = k
 
-pauses-search : (x : Place) (w : World) (q : List ℕ) (s : Sleeping) → Pauses w (of_sleepers.search_by x w q s).world
+pauses-search : (x : Ticker) (w : World) (q : List ℕ) (s : Sleeping) → Pauses w (of_sleepers.search_by x w q s).world
 pauses-search x w [] s k = k
 pauses-search x w (f ∷ rest) s k = k
 
@@ -240,33 +149,33 @@ pauses-copy : (b : Bool) (w : World) (s : Sleeping) → Pauses w (of_sleepers.co
 pauses-copy true w s k = k
 pauses-copy false w s k = pauses-copied w s.waker k
 
-pauses-anew : (b : Bool) (w : World) (s : Sleeping) → Pauses w (of_sleepers.lie_anew_by b w s).world
+pauses-anew : (b : Bool) (w : World) (s : Sleeping) → Pauses w (of_sleepers.sleep_anew_by b w s).world
 pauses-anew true w s k =
-    pauses-placed w (of_sleepers.lie_anew_by true w s).world s.who (Lies (next_number w.sleepers)) refl k
+    pauses-placed w (of_sleepers.sleep_anew_by true w s).world s.who (Asleep (next_number w.sleepers)) refl k
 pauses-anew false w s k = k
 
-pauses-listed : (b : Bool) (w : World) (n : ℕ) (s : Sleeping) → Pauses w (of_sleepers.lie_listed_by b w n s).world
+pauses-listed : (b : Bool) (w : World) (n : ℕ) (s : Sleeping) → Pauses w (of_sleepers.sleep_listed_by b w n s).world
 pauses-listed true w n s k = k
 pauses-listed false w n s k = k
 
-pauses-again : (o : Option ℕ) (w : World) (n : ℕ) (s : Sleeping) → Pauses w (of_sleepers.lie_again_by o w n s).world
+pauses-again : (o : Option ℕ) (w : World) (n : ℕ) (s : Sleeping) → Pauses w (of_sleepers.sleep_again_by o w n s).world
 pauses-again None w n s k = pauses-listed _ w n s k
 pauses-again (Some at) w n s k = k
 
-pauses-lie : (x : Place) (w : World) (s : Sleeping) → Pauses w (of_sleepers.lie_down_by x w s).world
-pauses-lie Up w s k = pauses-anew _ w s k
-pauses-lie (Lies n) w s k = pauses-again _ w n s k
-pauses-lie Left w s k = k
+pauses-sleep : (x : Ticker) (w : World) (s : Sleeping) → Pauses w (of_sleepers.fall_asleep_by x w s).world
+pauses-sleep Awake w s k = pauses-anew _ w s k
+pauses-sleep (Asleep n) w s k = pauses-again _ w n s k
+pauses-sleep Left w s k = k
 
-pauses-up : (x : Place) (w : World) (who : Sleeper) → Pauses w (of_sleepers.get_up_by x w who).world
-pauses-up Up w who k = k
-pauses-up (Lies n) w who k = pauses-placed w (of_sleepers.get_up_by (Lies n) w who).world who Up refl k
+pauses-up : (x : Ticker) (w : World) (who : TickOrRun) → Pauses w (of_sleepers.wake_up_by x w who).world
+pauses-up Awake w who k = k
+pauses-up (Asleep n) w who k = pauses-placed w (of_sleepers.wake_up_by (Asleep n) w who).world who Awake refl k
 pauses-up Left w who k = k
 
-pauses-leave : (x : Place) (w : World) (who : Sleeper) → Pauses w (of_sleepers.leave_sleepers_by x w who).world
-pauses-leave Up w who k = pauses-placed w (of_sleepers.leave_sleepers_by Up w who).world who Left refl k
-pauses-leave (Lies n) w who k =
-    pauses-placed w (of_sleepers.leave_sleepers_by (Lies n) w who).world who Left refl k
+pauses-leave : (x : Ticker) (w : World) (who : TickOrRun) → Pauses w (of_sleepers.leave_sleepers_by x w who).world
+pauses-leave Awake w who k = pauses-placed w (of_sleepers.leave_sleepers_by Awake w who).world who Left refl k
+pauses-leave (Asleep n) w who k =
+    pauses-placed w (of_sleepers.leave_sleepers_by (Asleep n) w who).world who Left refl k
 pauses-leave Left w who k = k
 
 pauses-run_by : (b : Bool) (w : World) (x : RunPoll) (f : ℕ) → eqb ((run_of w x.run).taken + 1) 200 ≡ b →
@@ -321,16 +230,16 @@ pauses-own : (q : List ℕ) (w : World) (x : RunPoll) → Pauses w (runs.search_
 pauses-own [] w x k = k
 pauses-own (f ∷ rest) w x k = pauses-found (put_own w x.run rest) x f k
 
-pauses-searches : (who : Sleeper) (w : World) (s : Sleeping) → Pauses w (search_by_who who w s).world
-pauses-searches (sleeper.Tick t) w s k = pauses-search _ w _ s k
-pauses-searches (sleeper.Run r) w s k = pauses-own _ w _ k
+pauses-searches : (who : TickOrRun) (w : World) (s : Sleeping) → Pauses w (search_by_who who w s).world
+pauses-searches (tick_or_run.Tick t) w s k = pauses-search _ w _ s k
+pauses-searches (tick_or_run.Run r) w s k = pauses-own _ w _ k
 
 pauses-tick : (h : Hint) (o : TickOp) (w : World) → Pauses w (tick_act h o w).world
 pauses-tick h tick_op.MakeTick w k = pauses-make _ w k
 pauses-tick h (tick_op.Search s) w k = pauses-searches s.who w s k
 pauses-tick h (tick_op.CopyWaker s) w k = pauses-copy _ w s k
-pauses-tick h (tick_op.LieDown s) w k = pauses-lie _ w s k
-pauses-tick h (tick_op.GetUp who) w k = pauses-up _ w who k
+pauses-tick h (tick_op.FallAsleep s) w k = pauses-sleep _ w s k
+pauses-tick h (tick_op.WakeUp who) w k = pauses-up _ w who k
 pauses-tick h (tick_op.Leave who) w k = pauses-leave _ w who k
 
 pauses-common : (q : List ℕ) (w : World) (x : RunPoll) → Pauses w (runs.search_common_by q w x).world
@@ -347,7 +256,7 @@ pauses-room false w k = k
 
 pauses-wake : (p : ℕ) (w : World) (a : Waker) → Pauses w (runs.call_by_reference p w a).world
 pauses-wake p w (Task g) k =
-    pauses-same w (runs.call_by_reference p w (Task g)).world (runs-move true move.WakeByReference p w g) k
+    pauses-same w (runs.call_by_reference p w (Task g)).world (runs-act p no_hint (op.Move move.WakeByReference g) w refl) k
 pauses-wake p w (Outside y) k = k
 
 pauses-reschedule : (q : List ℕ) (w : World) (r : ℕ) (a : Reply) → Pauses w (runs.reschedule_by q w r a).world
@@ -373,14 +282,11 @@ pauses-registered Listed w r k = k
 pauses-registered Ended w r k = k
 
 pauses-list : (h : Hint) (o : ListOp) (w : World) → Pauses w (list_act h o w).world
-pauses-list h (list_op.LockWrite s) w k = k
 pauses-list h (list_op.Write section.MakeRun) w k = pauses-made _ w k
 pauses-list h (list_op.Write (section.Register x)) w k = pauses-registered _ w x.run k
 pauses-list h (list_op.Write (section.Unregister r a)) w k =
     pauses-run w r (record (run_of w r) { stage = Ended }) (λ z. z r) k
-pauses-list h list_op.UnlockWrite w k = k
-pauses-list h (list_op.LockRead x) w k = k
-pauses-list h list_op.UnlockRead w k = k
+pauses-list h _ w k = k
 
 pauses-act-by : (p : ℕ) (h : Hint) (o : Op) (w : World) (b : Bool) → is_run o ≡ b → Pauses w (act p h o w).world
 pauses-act-by p h o w false e k = pauses-same w (act p h o w).world (runs-act p h o w e) k
@@ -416,7 +322,7 @@ pauses-begun p w here (call.DropRun r) k =
     pauses-run w r (record (run_of w r) { dropped = true }) (λ z. z r) k
 pauses-begun p w here _ k = k
 
--- in each run of the machine
+-- in each execution of the machine
 
 few-moves : (s : Machine) (p : ℕ) (old rest : List Op) (d : Done) → Good s → p < length s.parties →
     stack s p ≡ rest ++ reverse old → Way s p old rest d → TakesFew s.world → TakesFew (unsettled s p rest d).world

@@ -1,3 +1,4 @@
+-- For some_standing_is_called.
 -- What is no part of a poll or drop of a tick or run, and takes no waker out of the sleepers' list, is nothing to
 -- any of these.
 use Rattle.std.proofs.Common.{◌≡◌, ◌∙◌, ℕ, List, [], ◌∷◌, ◌++◌, length, Bool, true, false, refl, ap, arith}
@@ -23,7 +24,7 @@ use Rattle.executor_model.specs.declared.op.RunOp.{RunOp}
 use Rattle.executor_model.specs.declared.op.RunOp.TheVariants as run_op
 use Rattle.executor_model.specs.declared.op.Section.{Section}
 use Rattle.executor_model.specs.declared.op.Section.TheVariants as section
-use Rattle.executor_model.specs.declared.op.Sleeper.{Sleeper}
+use Rattle.executor_model.specs.declared.op.TickOrRun.{TickOrRun}
 use Rattle.executor_model.specs.declared.op.SleeperOp.TheVariants as sleeper_op
 use Rattle.executor_model.specs.declared.op.TableOp.TheVariants as table_op
 use Rattle.executor_model.specs.declared.op.TickOp.TheVariants as tick_op
@@ -38,10 +39,10 @@ use Rattle.executor_model.specs.Doing.{act}
 use Rattle.executor_model.specs.Carried.{carried, awaiter_ops}
 use Rattle.executor_model.specs.Weights.{weigh}
 use Rattle.executor_model.specs.World.{World, Done, log, log_if, task, put, among, awaiter_of}
-use Rattle.executor_model.proofs.Lists.{weigh-append}
-use Rattle.executor_model.proofs.Asides.{Aside, aside-awaiter, aside-owed, aside-let_go, aside-told, aside-closing}
-use Rattle.runs_called.proofs.Watched.{Watched, watches, watched, watched-push}
-use Rattle.runs_called.proofs.Stands.{View, view}
+use Rattle.executor_model.proofs.Steps.Lists.{weigh-append}
+use Rattle.executor_model.proofs.Steps.Asides.{Aside, aside-awaiter, aside-owed, aside-let_go, aside-told, aside-closing}
+use Rattle.executor_laws.proofs.Wakeups.Watched.{Watched, watches, watched, watched-push}
+use Rattle.executor_laws.proofs.Wakeups.Stands.{View, view}
 
 abbrev pub holds_some : Hold → ℕ
 holds_some (hold.Tick t) = 1
@@ -71,8 +72,8 @@ sits_of (op.User (user_op.PollOwn x)) = 1
 sits_of (op.Tick tick_op.MakeTick) = 0
 sits_of (op.Tick (tick_op.Search s)) = 1
 sits_of (op.Tick (tick_op.CopyWaker s)) = 1
-sits_of (op.Tick (tick_op.LieDown s)) = 1
-sits_of (op.Tick (tick_op.GetUp t)) = 1
+sits_of (op.Tick (tick_op.FallAsleep s)) = 1
+sits_of (op.Tick (tick_op.WakeUp t)) = 1
 sits_of (op.Tick (tick_op.Leave t)) = 1
 sits_of (op.Sleeper (sleeper_op.CallSleeper s)) = 1
 sits_of (op.Waker (waker_op.CopyWaker f held)) = holds_some held
@@ -84,21 +85,21 @@ sits_of _ = 0
 
 -- the event is nothing to a tick or run
 abbrev pub IsSilent : Event → Type 0
-IsSilent e = (t : Sleeper) (n : ℕ) (s : Watched) → watches t n e s ≡ s
+IsSilent e = (t : TickOrRun) (n : ℕ) (s : Watched) → watches t n e s ≡ s
 
-pub view-log : (t : Sleeper) (w : World) (e : Event) → IsSilent e → view t (log w e) ≡ view t w
+pub view-log : (t : TickOrRun) (w : World) (e : Event) → IsSilent e → view t (log w e) ≡ view t w
 view-log t w e z = ap (λ (s : Watched). let v : View = record (view t w) { seen = s } in v)
     (watched-push t w.trace e ∙ z t (length w.trace) (watched t w.trace))
 
-pub view-log_if : (b : Bool) (t : Sleeper) (w : World) (e : Event) → IsSilent e → view t (log_if b w e) ≡ view t w
+pub view-log_if : (b : Bool) (t : TickOrRun) (w : World) (e : Event) → IsSilent e → view t (log_if b w e) ≡ view t w
 view-log_if true t w e z = view-log t w e z
 view-log_if false t w e z = refl
 
 pub record Beside (w : World) (d : Done) : Type 0 where
-  pub view : (t : Sleeper) → view t d.world ≡ view t w
+  pub view : (t : TickOrRun) → view t d.world ≡ view t w
   pub none : weigh sits_of d.next ≡ 0
 
-pub besides : (w : World) (d : Done) → ((t : Sleeper) → view t d.world ≡ view t w) → weigh sits_of d.next ≡ 0 →
+pub besides : (w : World) (d : Done) → ((t : TickOrRun) → view t d.world ≡ view t w) → weigh sits_of d.next ≡ 0 →
     Beside w d
 besides w d v z = record { view = v; none = z }
 
@@ -120,17 +121,15 @@ no-sits = record {
 
 told-silent : (m : Move) (p f : ℕ) → IsSilent (acts.told_as m p f)
 told-silent move.TakeUp p f t n s = refl
-told-silent move.Cancel p f t n s = refl
-told-silent move.Detach p f t n s = refl
 told-silent _ p f t n s = refl
 
-beside-moved : (b : Bool) (w v : World) (e : Event) (f : ℕ) (m : Moved) → IsSilent e → ((t : Sleeper) →
+beside-moved : (b : Bool) (w v : World) (e : Event) (f : ℕ) (m : Moved) → IsSilent e → ((t : TickOrRun) →
     view t v ≡ view t w) →
     Beside w (carried (log_if b v e) f m)
 beside-moved b w v e f m z x = besides w (carried (log_if b v e) f m) (λ t. view-log_if b t v e z
     ∙ x t) (aside-owed sits_of no-sits f (among f (log_if b v e).table) m.owed)
 
-pub beside-move : (b : Bool) (m : Move) (p : ℕ) (w v : World) (f : ℕ) → ((t : Sleeper) → view t v ≡ view t w) →
+pub beside-move : (b : Bool) (m : Move) (p : ℕ) (w v : World) (f : ℕ) → ((t : TickOrRun) → view t v ≡ view t w) →
     Beside w (acts.move_by b m p v f)
 beside-move true m p w v f x = beside-moved _ w v (acts.told_as m p f) f (moves.after m (task v f)) (told-silent m p f)
     x
@@ -168,7 +167,7 @@ beside-exchange false w = besides w _ (λ t. refl) refl
 
 -- handles
 
-beside-answered : (p : ℕ) (w v : World) (f : ℕ) (m : Moved) (a : Answer) → ((t : Sleeper) → view t v ≡ view t w) →
+beside-answered : (p : ℕ) (w v : World) (f : ℕ) (m : Moved) (a : Answer) → ((t : TickOrRun) → view t v ≡ view t w) →
     Beside w (acts.answered p v f m a)
 beside-answered p w v f m a x =
     besides w (acts.answered p v f m a) (λ t. view-log_if _ t (put v f m.state) (event.OutputGiven p f) (λ t n s. refl)

@@ -1,17 +1,17 @@
+-- For some_standing_is_called.
 -- The entries of the sleepers' list that are a tick's or run's, where one is added, replaced or taken out.
 use Rattle.std.proofs.Common.{◌≡◌, ℕ, zero, suc, ◌+◌, ◌==◌, ◌<◌, ◌≤◌, List, [], ◌∷◌, ◌++◌, length, set, take, Bool}
 use Rattle.std.proofs.Common.{true, false, cond, refl, sym, ap, subst, eqb, arith}
 use Rattle.std.specs.Prelude.{◌-◌, Option, Some, None, slice_get, slice_set, remove}
 use Rattle.std.proofs.lemmas.Bool.Decides.{nat_tests}
-use Rattle.executor_parts.specs.Sleepers.{Sleepers, position_of, later, without_entry, risen}
+use Rattle.executor_parts.specs.Sleepers.{Sleepers, position_of, later, without_entry, woken_up}
 use Rattle.executor_model.specs.declared.op.Sleeping.{Sleeping}
-use Rattle.executor_model.specs.declared.op.Sleeper.{Sleeper}
-use Rattle.executor_model.specs.World.{Place, Up, Lies, Left}
-use Rattle.executor_model.specs.ActsOfSleepers.{given_back}
-use Rattle.runs_called.proofs.Sitting.{eq_who, is_it}
+use Rattle.executor_model.specs.declared.op.TickOrRun.{TickOrRun}
+use Rattle.executor_model.specs.World.{Ticker, Awake, Asleep, Left}
+use Rattle.executor_laws.proofs.Wakeups.Sitting.{eq_who, is_it}
 use Rattle.executor_model.specs.Weights.{same}
-use Rattle.executor_model.proofs.Lists.{same_is}
-use Rattle.executor_model.proofs.SleepersLists.{freed-same, given_back-same, position-within}
+use Rattle.executor_model.proofs.Steps.Lists.{same_is}
+use Rattle.executor_model.proofs.Steps.SleepersLists.{freed-same, position-within}
 
 abbrev pub Entry : Type 0
 Entry = ℕ × Sleeping
@@ -21,20 +21,20 @@ sum v [] = 0
 sum v (e ∷ es) = v e + sum v es
 
 -- entries of who it is, and those of its poll k
-abbrev pub entry_of : Sleeper → Entry → ℕ
+abbrev pub entry_of : TickOrRun → Entry → ℕ
 entry_of who e = is_it who e.1.who
 
-abbrev pub kept_of : Sleeper → ℕ → Entry → ℕ
+abbrev pub kept_of : TickOrRun → ℕ → Entry → ℕ
 kept_of who k e = cond (eq_who who e.1.who) (same k e.1.poll) 0
 
--- who is so doesn't lie under this number
-abbrev pub astray : Place → ℕ → ℕ
-astray (Lies m) n = cond (m == n) 0 1
-astray Up n = 1
+-- who is so doesn't sleep under this number
+abbrev pub astray : Ticker → ℕ → ℕ
+astray (Asleep m) n = cond (m == n) 0 1
+astray Awake n = 1
 astray Left n = 1
 
 -- entries of who is so, that are under another number
-abbrev pub misplaced_of : Sleeper → Place → Entry → ℕ
+abbrev pub misplaced_of : TickOrRun → Ticker → Entry → ℕ
 misplaced_of who x e = cond (eq_who who e.1.who) (astray x e.0) 0
 
 abbrev pub at_entry : (Entry → ℕ) → Option Entry → ℕ
@@ -74,18 +74,14 @@ without-out v None s = omega arith
 without-out v (Some at) s = sum-remove v at s.wakers
 
 -- the entry of number n is taken out
-pub sum-risen : (v : Entry → ℕ) (n : ℕ) (s : Sleepers Sleeping) →
-    sum v (risen n s).wakers + at_entry v (entry_at (position_of n s.wakers) s.wakers) ≡ sum v s.wakers
-sum-risen v n s = omega (
+pub sum-woken_up : (v : Entry → ℕ) (n : ℕ) (s : Sleepers Sleeping) →
+    sum v (woken_up n s).wakers + at_entry v (entry_at (position_of n s.wakers) s.wakers) ≡ sum v s.wakers
+sum-woken_up v n s = omega (
   arith,
   ap (sum v) (freed-same n (without_entry (position_of n s.wakers) s)),
   without-out v
       (position_of n s.wakers) s,
 )
-
-pub sum-left : (v : Entry → ℕ) (n : ℕ) (s : Sleepers Sleeping) →
-    sum v (given_back (risen n s)).wakers + at_entry v (entry_at (position_of n s.wakers) s.wakers) ≡ sum v s.wakers
-sum-left v n s = omega (arith, ap (sum v) (given_back-same (risen n s)), sum-risen v n s)
 
 sum-set-in : (v : Entry → ℕ) (at : ℕ) (e : Entry) (es : List Entry) → at < length es →
     sum v (set es at e) + at_entry v (slice_get es at) ≡ sum v es + v e

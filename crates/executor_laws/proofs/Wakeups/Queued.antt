@@ -1,3 +1,4 @@
+-- For some_standing_is_called.
 -- Where no call is in progress, a future that is due has a Runnable in the executor's queue or in a run's own.
 use Rattle.std.proofs.Common.{◌≡◌, ◌∙◌, ℕ, zero, suc, ◌+◌, ◌≤◌, List, [], ◌∷◌, length, get_or, true, refl, sym}
 use Rattle.std.proofs.Common.{⊎_elim, arith}
@@ -9,10 +10,10 @@ use Rattle.executor_model.specs.Sound.{queued, times, times_in}
 use Rattle.executor_model.specs.Steps.{Machine, stack}
 use Rattle.executor_model.specs.Weights.{same, weigh_all}
 use Rattle.executor_model.specs.World.{task}
-use Rattle.executor_model.proofs.AskingRuns.{Heard}
-use Rattle.executor_model.proofs.Lists.{same_is}
-use Rattle.executor_model.proofs.Resting.{all-rest}
-use Rattle.executor_model.proofs.Dueness.{asked-is, not-over}
+use Rattle.executor_model.proofs.Polls.AskingExecutions.{Heard}
+use Rattle.executor_model.proofs.Steps.Lists.{same_is}
+use Rattle.executor_model.proofs.Quiet.Resting.{all-rest}
+use Rattle.executor_model.proofs.Polls.Dueness.{asked-is, not-over}
 
 pub due-queued : (s : Machine) → Good s → Heard s → ((q : ℕ) → stack s q ≡ []) → (f : ℕ) → IsDue f s.world.trace →
     1 ≤ queued s.world f

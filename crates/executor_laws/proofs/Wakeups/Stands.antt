@@ -1,3 +1,4 @@
+-- For some_standing_is_called.
 -- What holds at every moment of each tick and run, and of its last poll.
 use Rattle.std.proofs.Common.{◌≡◌, ◌⊎◌, ℕ, ◌+◌, ◌==◌, ◌≤◌, List, Bool, true, false, ◌||◌, cond, sym, ◌∙◌, subst, arith}
 use Rattle.executor_model.specs.declared.call.Reply.{Reply}
@@ -11,19 +12,19 @@ use Rattle.executor_model.specs.declared.op.RunOp.TheVariants as run_op
 use Rattle.executor_model.specs.declared.op.RunPoll.{RunPoll}
 use Rattle.executor_model.specs.declared.op.Section.{Section}
 use Rattle.executor_model.specs.declared.op.Section.TheVariants as section
-use Rattle.executor_model.specs.declared.op.Sleeper.{Sleeper}
-use Rattle.executor_model.specs.declared.op.Sleeper.TheVariants as sleeper
+use Rattle.executor_model.specs.declared.op.TickOrRun.{TickOrRun}
+use Rattle.executor_model.specs.declared.op.TickOrRun.TheVariants as tick_or_run
 use Rattle.executor_model.specs.declared.op.SleeperOp.TheVariants as sleeper_op
 use Rattle.executor_model.specs.declared.op.TickOp.TheVariants as tick_op
 use Rattle.executor_model.specs.declared.op.UserOp.TheVariants as user_op
 use Rattle.executor_model.specs.declared.op.WakerOp.TheVariants as waker_op
 use Rattle.executor_model.specs.World.{World, Done}
 use Rattle.executor_model.specs.Weights.{same, weigh, weigh_all}
-use Rattle.executor_model.specs.SleepersAgree.{lies}
-use Rattle.executor_model.proofs.RunsCalm.{poll_in}
-use Rattle.runs_called.proofs.Listed.{sum, entry_of, kept_of, misplaced_of}
-use Rattle.runs_called.proofs.Sitting.{eq_who, holds_it, is_it, lives_in, made_in, over_in, owned_in, place_in}
-use Rattle.runs_called.proofs.Watched.{Watched, watched, is_pending, is_refusal}
+use Rattle.executor_model.specs.SleepersAgree.{sleeps}
+use Rattle.executor_model.proofs.OwnQueues.RunsDone.{poll_in}
+use Rattle.executor_laws.proofs.Wakeups.Listed.{sum, entry_of, kept_of, misplaced_of}
+use Rattle.executor_laws.proofs.Wakeups.Sitting.{eq_who, holds_it, is_it, lives_in, made_in, over_in, owned_in, place_in}
+use Rattle.executor_laws.proofs.Wakeups.Watched.{Watched, watched, is_pending, is_refusal}
 
 abbrev pub is_ready : Reply → Bool
 is_ready reply.Ready = true
@@ -34,143 +35,143 @@ abbrev pub is_answer : Reply → Bool
 is_answer r = is_pending r || is_refusal r || is_ready r
 
 -- a call uses it
-abbrev pub used_section : Sleeper → Section → ℕ
+abbrev pub used_section : TickOrRun → Section → ℕ
 used_section who section.MakeRun = 0
-used_section who (section.Register x) = is_it who (sleeper.Run x.run)
-used_section who (section.Unregister q a) = is_it who (sleeper.Run q)
+used_section who (section.Register x) = is_it who (tick_or_run.Run x.run)
+used_section who (section.Unregister q a) = is_it who (tick_or_run.Run q)
 
-abbrev pub used_list : Sleeper → ListOp → ℕ
+abbrev pub used_list : TickOrRun → ListOp → ℕ
 used_list who (list_op.LockWrite s) = used_section who s
 used_list who (list_op.Write s) = used_section who s
 used_list who list_op.UnlockWrite = 0
-used_list who (list_op.LockRead x) = is_it who (sleeper.Run x.run)
+used_list who (list_op.LockRead x) = is_it who (tick_or_run.Run x.run)
 used_list who list_op.UnlockRead = 0
 
-abbrev pub used_run : Sleeper → RunOp → ℕ
+abbrev pub used_run : TickOrRun → RunOp → ℕ
 used_run who run_op.MakeRoom = 0
 used_run who run_op.ReturnRoom = 0
-used_run who (run_op.SearchCommon x) = is_it who (sleeper.Run x.run)
-used_run who (run_op.LookOwn x at left) = is_it who (sleeper.Run x.run)
-used_run who (run_op.WakeOwn x) = is_it who (sleeper.Run x.run)
-used_run who (run_op.Reschedule q a) = is_it who (sleeper.Run q)
+used_run who (run_op.SearchCommon x) = is_it who (tick_or_run.Run x.run)
+used_run who (run_op.LookOwn x at left) = is_it who (tick_or_run.Run x.run)
+used_run who (run_op.WakeOwn x) = is_it who (tick_or_run.Run x.run)
+used_run who (run_op.Reschedule q a) = is_it who (tick_or_run.Run q)
 
-abbrev pub used_of : Sleeper → Op → ℕ
-used_of who (op.User (user_op.PollOwn x)) = is_it who (sleeper.Run x.run)
+abbrev pub used_of : TickOrRun → Op → ℕ
+used_of who (op.User (user_op.PollOwn x)) = is_it who (tick_or_run.Run x.run)
 used_of who (op.Tick (tick_op.Search s)) = is_it who s.who
 used_of who (op.Tick (tick_op.CopyWaker s)) = is_it who s.who
-used_of who (op.Tick (tick_op.LieDown s)) = is_it who s.who
+used_of who (op.Tick (tick_op.FallAsleep s)) = is_it who s.who
 used_of who (op.List o) = used_list who o
-used_of who (op.Steal o) = is_it who (sleeper.Run (poll_in o).run)
+used_of who (op.Steal o) = is_it who (tick_or_run.Run (poll_in o).run)
 used_of who (op.Run o) = used_run who o
 used_of who (op.End r held) = holds_it who held
 used_of who _ = 0
 
 -- stages of a poll of it: before its answer is known, or where it leaves as its own future was ready
-abbrev pub early_section : Sleeper → Section → ℕ
+abbrev pub early_section : TickOrRun → Section → ℕ
 early_section who section.MakeRun = 0
-early_section who (section.Register x) = is_it who (sleeper.Run x.run)
-early_section who (section.Unregister q a) = cond (is_ready a) (is_it who (sleeper.Run q)) 0
+early_section who (section.Register x) = is_it who (tick_or_run.Run x.run)
+early_section who (section.Unregister q a) = cond (is_ready a) (is_it who (tick_or_run.Run q)) 0
 
-abbrev pub early_list : Sleeper → ListOp → ℕ
+abbrev pub early_list : TickOrRun → ListOp → ℕ
 early_list who (list_op.LockWrite s) = early_section who s
 early_list who (list_op.Write s) = early_section who s
 early_list who list_op.UnlockWrite = 0
-early_list who (list_op.LockRead x) = is_it who (sleeper.Run x.run)
+early_list who (list_op.LockRead x) = is_it who (tick_or_run.Run x.run)
 early_list who list_op.UnlockRead = 0
 
-abbrev pub early_run : Sleeper → RunOp → ℕ
+abbrev pub early_run : TickOrRun → RunOp → ℕ
 early_run who run_op.MakeRoom = 0
 early_run who run_op.ReturnRoom = 0
-early_run who (run_op.SearchCommon x) = is_it who (sleeper.Run x.run)
-early_run who (run_op.LookOwn x at left) = is_it who (sleeper.Run x.run)
-early_run who (run_op.WakeOwn x) = is_it who (sleeper.Run x.run)
-early_run who (run_op.Reschedule q a) = cond (is_ready a) (is_it who (sleeper.Run q)) 0
+early_run who (run_op.SearchCommon x) = is_it who (tick_or_run.Run x.run)
+early_run who (run_op.LookOwn x at left) = is_it who (tick_or_run.Run x.run)
+early_run who (run_op.WakeOwn x) = is_it who (tick_or_run.Run x.run)
+early_run who (run_op.Reschedule q a) = cond (is_ready a) (is_it who (tick_or_run.Run q)) 0
 
-abbrev pub early_of : Sleeper → Op → ℕ
-early_of who (op.User (user_op.PollOwn x)) = is_it who (sleeper.Run x.run)
+abbrev pub early_of : TickOrRun → Op → ℕ
+early_of who (op.User (user_op.PollOwn x)) = is_it who (tick_or_run.Run x.run)
 early_of who (op.Tick (tick_op.Search s)) = is_it who s.who
 early_of who (op.Tick (tick_op.CopyWaker s)) = is_it who s.who
-early_of who (op.Tick (tick_op.LieDown s)) = is_it who s.who
+early_of who (op.Tick (tick_op.FallAsleep s)) = is_it who s.who
 early_of who (op.List o) = early_list who o
-early_of who (op.Steal o) = is_it who (sleeper.Run (poll_in o).run)
+early_of who (op.Steal o) = is_it who (tick_or_run.Run (poll_in o).run)
 early_of who (op.Run o) = early_run who o
 early_of who _ = 0
 
 -- its end, by the answer
-abbrev pub pends_of : Sleeper → Op → ℕ
+abbrev pub pends_of : TickOrRun → Op → ℕ
 pends_of who (op.End r held) = cond (is_pending r) (holds_it who held) 0
 pends_of who _ = 0
 
-abbrev pub refused_of : Sleeper → Op → ℕ
+abbrev pub refused_of : TickOrRun → Op → ℕ
 refused_of who (op.End r held) = cond (is_refusal r) (holds_it who held) 0
 refused_of who _ = 0
 
-abbrev pub found_of : Sleeper → Op → ℕ
+abbrev pub found_of : TickOrRun → Op → ℕ
 found_of who (op.End r held) = cond (is_ready r) (holds_it who held) 0
 found_of who _ = 0
 
 -- the end of another call that uses it
-abbrev pub ends_of : Sleeper → Op → ℕ
+abbrev pub ends_of : TickOrRun → Op → ℕ
 ends_of who (op.End r held) = cond (is_answer r) 0 (holds_it who held)
 ends_of who _ = 0
 
--- it gets up, or leaves
-abbrev pub rising_of : Sleeper → Op → ℕ
-rising_of who (op.Tick (tick_op.GetUp u)) = is_it who u
-rising_of who (op.Tick (tick_op.Leave u)) = is_it who u
-rising_of who _ = 0
+-- it wakes up, or leaves
+abbrev pub waking_up_of : TickOrRun → Op → ℕ
+waking_up_of who (op.Tick (tick_op.WakeUp u)) = is_it who u
+waking_up_of who (op.Tick (tick_op.Leave u)) = is_it who u
+waking_up_of who _ = 0
 
 -- it is a tick that leaves
-abbrev pub drops_who : Sleeper → Sleeper → ℕ
-drops_who who (sleeper.Tick u) = is_it who (sleeper.Tick u)
-drops_who who (sleeper.Run q) = 0
+abbrev pub drops_who : TickOrRun → TickOrRun → ℕ
+drops_who who (tick_or_run.Tick u) = is_it who (tick_or_run.Tick u)
+drops_who who (tick_or_run.Run q) = 0
 
-abbrev pub drops_of : Sleeper → Op → ℕ
+abbrev pub drops_of : TickOrRun → Op → ℕ
 drops_of who (op.Tick (tick_op.Leave u)) = drops_who who u
 drops_of who _ = 0
 
 -- what there never is: a copy of a task's waker that would hold it, or a leaving that answers a poll which found
 -- nothing
-abbrev pub odd_section : Sleeper → Section → ℕ
+abbrev pub odd_section : TickOrRun → Section → ℕ
 odd_section who section.MakeRun = 0
 odd_section who (section.Register x) = 0
-odd_section who (section.Unregister q a) = cond (is_pending a || is_refusal a) (is_it who (sleeper.Run q)) 0
+odd_section who (section.Unregister q a) = cond (is_pending a || is_refusal a) (is_it who (tick_or_run.Run q)) 0
 
-abbrev pub odd_list : Sleeper → ListOp → ℕ
+abbrev pub odd_list : TickOrRun → ListOp → ℕ
 odd_list who (list_op.LockWrite s) = odd_section who s
 odd_list who (list_op.Write s) = odd_section who s
 odd_list who _ = 0
 
-abbrev pub odd_run : Sleeper → RunOp → ℕ
-odd_run who (run_op.Reschedule q a) = cond (is_pending a || is_refusal a) (is_it who (sleeper.Run q)) 0
+abbrev pub odd_run : TickOrRun → RunOp → ℕ
+odd_run who (run_op.Reschedule q a) = cond (is_pending a || is_refusal a) (is_it who (tick_or_run.Run q)) 0
 odd_run who _ = 0
 
-abbrev pub odd_of : Sleeper → Op → ℕ
+abbrev pub odd_of : TickOrRun → Op → ℕ
 odd_of who (op.Waker (waker_op.CopyWaker f held)) = holds_it who held
 odd_of who (op.List o) = odd_list who o
 odd_of who (op.Run o) = odd_run who o
 odd_of who _ = 0
 
 -- a stage of another poll than k
-abbrev pub stray : Sleeper → ℕ → Sleeper → ℕ → ℕ
+abbrev pub stray : TickOrRun → ℕ → TickOrRun → ℕ → ℕ
 stray who k u n = cond (eq_who who u) (cond (k == n) 0 1) 0
 
-abbrev pub strays : Sleeper → ℕ → RunPoll → ℕ
-strays who k x = stray who k (sleeper.Run x.run) x.poll
+abbrev pub strays : TickOrRun → ℕ → RunPoll → ℕ
+strays who k x = stray who k (tick_or_run.Run x.run) x.poll
 
-abbrev pub strays_section : Sleeper → ℕ → Section → ℕ
+abbrev pub strays_section : TickOrRun → ℕ → Section → ℕ
 strays_section who k section.MakeRun = 0
 strays_section who k (section.Register x) = strays who k x
 strays_section who k (section.Unregister q a) = 0
 
-abbrev pub strays_list : Sleeper → ℕ → ListOp → ℕ
+abbrev pub strays_list : TickOrRun → ℕ → ListOp → ℕ
 strays_list who k (list_op.LockWrite s) = strays_section who k s
 strays_list who k (list_op.Write s) = strays_section who k s
 strays_list who k list_op.UnlockWrite = 0
 strays_list who k (list_op.LockRead x) = strays who k x
 strays_list who k list_op.UnlockRead = 0
 
-abbrev pub strays_run : Sleeper → ℕ → RunOp → ℕ
+abbrev pub strays_run : TickOrRun → ℕ → RunOp → ℕ
 strays_run who k run_op.MakeRoom = 0
 strays_run who k run_op.ReturnRoom = 0
 strays_run who k (run_op.SearchCommon x) = strays who k x
@@ -178,23 +179,23 @@ strays_run who k (run_op.LookOwn x at left) = strays who k x
 strays_run who k (run_op.WakeOwn x) = strays who k x
 strays_run who k (run_op.Reschedule q a) = 0
 
-abbrev pub strays_of : Sleeper → ℕ → Op → ℕ
+abbrev pub strays_of : TickOrRun → ℕ → Op → ℕ
 strays_of who k (op.User (user_op.PollOwn x)) = strays who k x
 strays_of who k (op.Tick (tick_op.Search s)) = stray who k s.who s.poll
 strays_of who k (op.Tick (tick_op.CopyWaker s)) = stray who k s.who s.poll
-strays_of who k (op.Tick (tick_op.LieDown s)) = stray who k s.who s.poll
+strays_of who k (op.Tick (tick_op.FallAsleep s)) = stray who k s.who s.poll
 strays_of who k (op.List o) = strays_list who k o
 strays_of who k (op.Steal o) = strays who k (poll_in o)
 strays_of who k (op.Run o) = strays_run who k o
 strays_of who k _ = 0
 
 -- the waker of poll k is about to be called
-abbrev pub calls_of : Sleeper → ℕ → Op → ℕ
+abbrev pub calls_of : TickOrRun → ℕ → Op → ℕ
 calls_of who k (op.Sleeper (sleeper_op.CallSleeper s)) = cond (eq_who who s.who) (same k s.poll) 0
 calls_of who k _ = 0
 
 -- it has to end a poll of it
-abbrev pub asks_of : Sleeper → Op → ℕ
+abbrev pub asks_of : TickOrRun → Op → ℕ
 asks_of who o = early_of who o + (pends_of who o + (refused_of who o + found_of who o))
 
 -- what the parties have still to do with it
@@ -205,13 +206,13 @@ pub record Doing : Type 0 where
   pub refused : ℕ
   pub found : ℕ
   pub ends : ℕ
-  pub rising : ℕ
+  pub waking_up : ℕ
   pub drops : ℕ
   pub odd : ℕ
   pub strays : ℕ → ℕ
   pub calls : ℕ → ℕ
 
-abbrev pub with_doing : Sleeper → List Op → Doing → Doing
+abbrev pub with_doing : TickOrRun → List Op → Doing → Doing
 with_doing who os r = record {
   used = weigh (used_of who) os + r.used;
   early = weigh (early_of who) os + r.early;
@@ -219,14 +220,14 @@ with_doing who os r = record {
   refused = weigh (refused_of who) os + r.refused;
   found = weigh (found_of who) os + r.found;
   ends = weigh (ends_of who) os + r.ends;
-  rising = weigh (rising_of who) os + r.rising;
+  waking_up = weigh (waking_up_of who) os + r.waking_up;
   drops = weigh (drops_of who) os + r.drops;
   odd = weigh (odd_of who) os + r.odd;
   strays = λ k. weigh (strays_of who k) os + r.strays k;
   calls = λ k. weigh (calls_of who k) os + r.calls k;
 }
 
-abbrev pub doing : Sleeper → List (List Op) → Doing
+abbrev pub doing : TickOrRun → List (List Op) → Doing
 doing who ss = record {
   used = weigh_all (used_of who) ss;
   early = weigh_all (early_of who) ss;
@@ -234,7 +235,7 @@ doing who ss = record {
   refused = weigh_all (refused_of who) ss;
   found = weigh_all (found_of who) ss;
   ends = weigh_all (ends_of who) ss;
-  rising = weigh_all (rising_of who) ss;
+  waking_up = weigh_all (waking_up_of who) ss;
   drops = weigh_all (drops_of who) ss;
   odd = weigh_all (odd_of who) ss;
   strays = λ k. weigh_all (strays_of who k) ss;
@@ -243,7 +244,7 @@ doing who ss = record {
 
 -- what the world has of a tick or run
 pub record View : Type 0 where
-  pub lying : ℕ
+  pub slumbering : ℕ
   pub living : Bool
   -- whether it was made, and whether it is a run that is over
   pub made : Bool
@@ -258,9 +259,9 @@ pub record View : Type 0 where
   pub gone : Bool
   pub seen : Watched
 
-abbrev pub view : Sleeper → World → View
+abbrev pub view : TickOrRun → World → View
 view who w = record {
-  lying = lies (place_in who w.ticks w.runs);
+  slumbering = sleeps (place_in who w.ticks w.runs);
   living = lives_in who w.ticks w.runs;
   made = made_in who w.ticks w.runs;
   over = over_in who w.runs;
@@ -283,10 +284,10 @@ pub record Mark : Type 0 where
 pub record Footing (x r : Doing) : Type 0 where
   pub stages : x.early + (x.pends + (x.refused + (x.found + x.ends))) ≤ x.used
   pub few : (k : ℕ) → x.strays k ≤ x.early
-  pub leaves : x.drops ≤ x.rising
-  -- who gets up or leaves is in use
-  pub tied : 1 ≤ x.rising → 1 ≤ x.used
-  pub bound : 1 ≤ r.rising → 1 ≤ r.used
+  pub leaves : x.drops ≤ x.waking_up
+  -- who wakes up or leaves is in use
+  pub tied : 1 ≤ x.waking_up → 1 ≤ x.used
+  pub bound : 1 ≤ r.waking_up → 1 ≤ r.used
   pub base : r.early + (r.pends + (r.refused + (r.found + r.ends))) ≤ r.used
 
 pub record Stands (v : View) (x : Doing) (m : Mark) : Type 0 where
@@ -304,15 +305,15 @@ pub record Stands (v : View) (x : Doing) (m : Mark) : Type 0 where
   -- it has one entry at most, under its own number
   pub one : v.entries ≤ 1
   pub placed : v.misplaced ≡ 0
-  -- who lies, or keeps something, was answered so, or is in use
-  pub asleep : 1 ≤ v.lying → (v.seen.pending ≡ true) ⊎ ((v.seen.refused ≡ true) ⊎ (1 ≤ x.used))
+  -- who sleeps, or keeps something, was answered so, or is in use
+  pub asleep : 1 ≤ v.slumbering → (v.seen.pending ≡ true) ⊎ ((v.seen.refused ≡ true) ⊎ (1 ≤ x.used))
   pub keeps : 1 ≤ v.owned → (v.seen.pending ≡ true) ⊎ ((v.seen.refused ≡ true) ⊎ (1 ≤ x.used))
-  pub up : 1 ≤ x.found + x.ends → (v.lying ≡ 0) ⊎ (1 ≤ x.rising)
+  pub up : 1 ≤ x.found + x.ends → (v.slumbering ≡ 0) ⊎ (1 ≤ x.waking_up)
   pub empty : 1 ≤ x.found + x.ends → v.owned ≡ 0
-  pub rises : 1 ≤ x.rising → x.pends ≡ 0
-  -- who is over neither lies nor keeps anything, but while it leaves
+  pub wakes_up : 1 ≤ x.waking_up → x.pends ≡ 0
+  -- who is over neither sleeps nor keeps anything, but while it leaves
   pub ready : v.over ≡ true → x.pends + x.refused ≡ 0
-  pub rests : v.over ≡ true → ((v.lying ≡ 0) × (v.owned ≡ 0)) ⊎ (1 ≤ x.used)
+  pub rests : v.over ≡ true → ((v.slumbering ≡ 0) × (v.owned ≡ 0)) ⊎ (1 ≤ x.used)
   -- it lives until it is dropped
   pub alive : (v.seen.pending ≡ true) ⊎ ((v.seen.refused ≡ true) ⊎
       (1 ≤ x.early + (x.pends + (x.refused + x.found)))) → v.living ≡ true
@@ -327,23 +328,23 @@ pub record Stands (v : View) (x : Doing) (m : Mark) : Type 0 where
       (1 ≤ v.kept v.seen.poll) ⊎ ((v.seen.called ≡ true) ⊎ (1 ≤ x.calls v.seen.poll))
 
 -- it keeps what holds of who it is, but for the mark
-abbrev pub KeepsBy : Sleeper → World → List Op → Done → (Mark → Mark) → Type 0
+abbrev pub KeepsBy : TickOrRun → World → List Op → Done → (Mark → Mark) → Type 0
 KeepsBy who w old d mark = (r : Doing) (m : Mark) → Footing (with_doing who old r) r →
     Stands (view who w) (with_doing who old r) m →
     Stands (view who d.world) (with_doing who d.next r) (mark m)
 
-abbrev pub KeepsStands : Sleeper → World → List Op → Done → Type 0
+abbrev pub KeepsStands : TickOrRun → World → List Op → Done → Type 0
 KeepsStands who w old d = KeepsBy who w old d (λ m. m)
 
 -- nothing of it is to do with who it is
-pub record Nothing (who : Sleeper) (os : List Op) : Type 0 where
+pub record Nothing (who : TickOrRun) (os : List Op) : Type 0 where
   pub used : weigh (used_of who) os ≡ 0
   pub early : weigh (early_of who) os ≡ 0
   pub pends : weigh (pends_of who) os ≡ 0
   pub refused : weigh (refused_of who) os ≡ 0
   pub found : weigh (found_of who) os ≡ 0
   pub ends : weigh (ends_of who) os ≡ 0
-  pub rising : weigh (rising_of who) os ≡ 0
+  pub waking_up : weigh (waking_up_of who) os ≡ 0
   pub drops : weigh (drops_of who) os ≡ 0
   pub odd : weigh (odd_of who) os ≡ 0
   pub strays : (k : ℕ) → weigh (strays_of who k) os ≡ 0
@@ -352,7 +353,7 @@ pub record Nothing (who : Sleeper) (os : List Op) : Type 0 where
 none-more : (n m : ℕ) → n ≡ 0 → n + m ≡ m
 none-more n m z = omega (arith, z)
 
-pub with-nothing : (who : Sleeper) (os : List Op) (r : Doing) → Nothing who os → with_doing who os r ≡ r
+pub with-nothing : (who : TickOrRun) (os : List Op) (r : Doing) → Nothing who os → with_doing who os r ≡ r
 with-nothing who os r n = λ i. record {
   used = none-more (weigh (used_of who) os) r.used n.used i;
   early = none-more (weigh (early_of who) os) r.early n.early i;
@@ -360,7 +361,7 @@ with-nothing who os r n = λ i. record {
   refused = none-more (weigh (refused_of who) os) r.refused n.refused i;
   found = none-more (weigh (found_of who) os) r.found n.found i;
   ends = none-more (weigh (ends_of who) os) r.ends n.ends i;
-  rising = none-more (weigh (rising_of who) os) r.rising n.rising i;
+  waking_up = none-more (weigh (waking_up_of who) os) r.waking_up n.waking_up i;
   drops = none-more (weigh (drops_of who) os) r.drops n.drops i;
   odd = none-more (weigh (odd_of who) os) r.odd n.odd i;
   strays = λ k. none-more (weigh (strays_of who k) os) (r.strays k) (n.strays k) i;
@@ -368,7 +369,7 @@ with-nothing who os r n = λ i. record {
 }
 
 -- what has nothing to do with it keeps all of it
-pub keeps-same : (who : Sleeper) (w : World) (old : List Op) (d : Done) → view who d.world ≡ view who w →
+pub keeps-same : (who : TickOrRun) (w : World) (old : List Op) (d : Done) → view who d.world ≡ view who w →
     Nothing who old → Nothing who d.next → KeepsStands who w old d
 keeps-same who w old d v a b r m f h =
     subst (λ (x : View × Doing). Stands x.0 x.1 m)

@@ -1,3 +1,4 @@
+-- For some_standing_is_called.
 -- What is seen of the answer of a tick's or run's last poll is the end of the call in which its party stood.
 use Rattle.std.proofs.Common.{◌≡◌, ◌⊎◌, ◌∙◌, ℕ, zero, suc, ◌+◌, ◌<◌, ◌≤◌, [], ◌∷◌, Bool, true, false, ◌&&◌, cond, eqb}
 use Rattle.std.proofs.Common.{length, take, refl, sym, ap, subst, inl, inr, ⊎_elim, arith}
@@ -13,12 +14,12 @@ use Rattle.executor_model.specs.AwaiterKept.{EndsWith}
 use Rattle.executor_model.specs.Quiet.{begins_call, ends_call}
 use Rattle.executor_model.specs.Trace.{Trace, has}
 use Rattle.executor_model.specs.Weights.{same}
-use Rattle.executor_model.proofs.Telling.{same-cond}
-use Rattle.executor_model.specs.declared.op.Sleeper.{Sleeper}
-use Rattle.executor_model.specs.declared.op.Sleeper.TheVariants as sleeper
-use Rattle.runs_called.proofs.Sitting.{eq_who}
-use Rattle.runs_called.proofs.StandsTelling.{drops_it, or-none, not-polled, not-dropped, polls_it}
-use Rattle.runs_called.proofs.Watched.{Watched, called_at, is_pending, is_refusal, ended_in, watches, watched_from}
+use Rattle.executor_model.proofs.OneFuture.Telling.{same-cond}
+use Rattle.executor_model.specs.declared.op.TickOrRun.{TickOrRun}
+use Rattle.executor_model.specs.declared.op.TickOrRun.TheVariants as tick_or_run
+use Rattle.executor_laws.proofs.Wakeups.Sitting.{eq_who}
+use Rattle.executor_laws.proofs.Wakeups.StandsTelling.{drops_it, or-none, not-polled, not-dropped, polls_it}
+use Rattle.executor_laws.proofs.Wakeups.Watched.{Watched, called_at, is_pending, is_refusal, ended_in, watches, watched_from}
 
 abbrev ends_one : ℕ → Event → ℕ
 ends_one p e = cond (ends_call p e) 1 0
@@ -48,7 +49,7 @@ record IsOpen (p : ℕ) (s : Watched) : Type 0 where
   party : s.party ≡ p
 
 -- what an event that begins no poll and no drop of the tick does to an open poll
-data After (t : Sleeper) (p n : ℕ) (s : Watched) (e : Event) : Type 0 where
+data After (t : TickOrRun) (p n : ℕ) (s : Watched) (e : Event) : Type 0 where
   goes : IsOpen p (watches t n e s) → (watches t n e s).inner + ends_one p e ≡ s.inner + begins_one p e →
       ends_one p e ≤ s.inner + begins_one p e → After t p n s e
   over : (r : Reply) → e ≡ event.CallEnded p r → s.inner ≡ 0 → IsOver r (watches t n e s) → After t p n s e
@@ -61,12 +62,12 @@ pub data Outcome (p inner : ℕ) (es : Trace) (s : Watched) : Type 0 where
 eqb-is : (n m : ℕ) → eqb n m ≡ true → m ≡ n
 eqb-is n m e = grind (arith, nat_tests)
 
-stays : (t : Sleeper) (p n : ℕ) (s : Watched) (e : Event) → watches t n e s ≡ s → IsOpen p s → ends_one p e ≡ 0 →
+stays : (t : TickOrRun) (p n : ℕ) (s : Watched) (e : Event) → watches t n e s ≡ s → IsOpen p s → ends_one p e ≡ 0 →
     begins_one p e ≡ 0 → After t p n s e
 stays t p n s e q o x y = goes (subst (IsOpen p) (sym q) o) (omega (arith, x, y, ap (λ (w : Watched). w.inner) q))
     (omega (arith, x))
 
-ended-by : (t : Sleeper) (p q n : ℕ) (r : Reply) (s : Watched) (b : Bool) (i : ℕ) → eqb p q ≡ b → s.inner ≡ i →
+ended-by : (t : TickOrRun) (p q n : ℕ) (r : Reply) (s : Watched) (b : Bool) (i : ℕ) → eqb p q ≡ b → s.inner ≡ i →
     IsOpen p s →
     After t p n s (event.CallEnded q r)
 ended-by t p q n r s b i e z o = by b i e z
@@ -97,7 +98,7 @@ ended-by t p q n r s b i e z o = by b i e z
         ))
         (omega (arith, ap (λ (c : Bool). let k : ℕ = cond c 1 0 in k) e))
 
-begun-by : (t : Sleeper) (p q n : ℕ) (c : Call) (s : Watched) → IsOpen p s → After t p n s (event.CallBegun q c)
+begun-by : (t : TickOrRun) (p q n : ℕ) (c : Call) (s : Watched) → IsOpen p s → After t p n s (event.CallBegun q c)
 begun-by t p q n c s o =
     goes (record { asking = o.asking; party = o.party }) (omega (
       arith,
@@ -107,7 +108,7 @@ begun-by t p q n c s o =
     )) (omega arith)
 
 -- the call of its waker leaves it open
-called-open : (t : Sleeper) (p n : ℕ) (s : Watched) (e : Event) (b : Bool) (k : ℕ) →
+called-open : (t : TickOrRun) (p n : ℕ) (s : Watched) (e : Event) (b : Bool) (k : ℕ) →
     watches t n e s ≡ cond b (called_at k s) s → ends_one p e ≡ 0 → begins_one p e ≡ 0 → IsOpen p s → After t p n s e
 called-open t p n s e b k q x y o =
     goes (subst (IsOpen p) (sym q) (by b)) (omega (arith, x, y, ap (λ (w : Watched). w.inner) q, inner b)) (omega
@@ -121,24 +122,24 @@ called-open t p n s e b k q x y o =
     inner true = refl
     inner false = refl
 
-after-one : (t : Sleeper) (p n : ℕ) (s : Watched) (e : Event) → polls_it t e ≡ false → drops_it t e ≡ false →
+after-one : (t : TickOrRun) (p n : ℕ) (s : Watched) (e : Event) → polls_it t e ≡ false → drops_it t e ≡ false →
     IsOpen p s →
     After t p n s e
 after-one t p n s (event.TickPolled q u) a b o =
-    stays t p n s (event.TickPolled q u) (not-polled (eq_who t (sleeper.Tick u)) n q s a) o
+    stays t p n s (event.TickPolled q u) (not-polled (eq_who t (tick_or_run.Tick u)) n q s a) o
     refl refl
 after-one t p n s (event.TickDropped q u) a b o =
-    stays t p n s (event.TickDropped q u) (not-dropped (eq_who t (sleeper.Tick u)) s b) o refl refl
+    stays t p n s (event.TickDropped q u) (not-dropped (eq_who t (tick_or_run.Tick u)) s b) o refl refl
 after-one t p n s (event.RunPolled q u) a b o =
-    stays t p n s (event.RunPolled q u) (not-polled (eq_who t (sleeper.Run u)) n q s a) o refl refl
+    stays t p n s (event.RunPolled q u) (not-polled (eq_who t (tick_or_run.Run u)) n q s a) o refl refl
 after-one t p n s (event.RunDropped q u) a b o =
-    stays t p n s (event.RunDropped q u) (not-dropped (eq_who t (sleeper.Run u)) s b) o refl refl
+    stays t p n s (event.RunDropped q u) (not-dropped (eq_who t (tick_or_run.Run u)) s b) o refl refl
 after-one t p n s (event.CallBegun q c) a b o = begun-by t p q n c s o
 after-one t p n s (event.CallEnded q r) a b o = ended-by t p q n r s _ _ refl refl o
 after-one t p n s (event.WakerCalled q (of.Tick u) k w) a b o =
-    called-open t p n s (event.WakerCalled q (of.Tick u) k w) (eq_who t (sleeper.Tick u)) k refl refl refl o
+    called-open t p n s (event.WakerCalled q (of.Tick u) k w) (eq_who t (tick_or_run.Tick u)) k refl refl refl o
 after-one t p n s (event.WakerCalled q (of.Run u) k w) a b o =
-    called-open t p n s (event.WakerCalled q (of.Run u) k w) (eq_who t (sleeper.Run u)) k refl refl refl o
+    called-open t p n s (event.WakerCalled q (of.Run u) k w) (eq_who t (tick_or_run.Run u)) k refl refl refl o
 after-one t p n s (event.WakerCalled q (of.Handle f) k w) a b o = goes o refl (omega arith)
 after-one t p n s _ a b o = goes o refl (omega arith)
 
@@ -148,23 +149,23 @@ called-over : (r : Reply) (b : Bool) (k : ℕ) (s : Watched) → IsOver r s → 
 called-over r true k s h = record { asking = h.asking; pending = h.pending; refused = h.refused }
 called-over r false k s h = h
 
-over-one : (t : Sleeper) (n : ℕ) (r : Reply) (e : Event) (s : Watched) → polls_it t e ≡ false → drops_it t e ≡ false →
+over-one : (t : TickOrRun) (n : ℕ) (r : Reply) (e : Event) (s : Watched) → polls_it t e ≡ false → drops_it t e ≡ false →
     IsOver r s →
     IsOver r (watches t n e s)
 over-one t n r (event.TickPolled p u) s a b h =
-    subst (IsOver r) (sym (not-polled (eq_who t (sleeper.Tick u)) n p s a)) h
-over-one t n r (event.TickDropped p u) s a b h = subst (IsOver r) (sym (not-dropped (eq_who t (sleeper.Tick u)) s b)) h
-over-one t n r (event.RunPolled p u) s a b h = subst (IsOver r) (sym (not-polled (eq_who t (sleeper.Run u)) n p s a)) h
-over-one t n r (event.RunDropped p u) s a b h = subst (IsOver r) (sym (not-dropped (eq_who t (sleeper.Run u)) s b)) h
+    subst (IsOver r) (sym (not-polled (eq_who t (tick_or_run.Tick u)) n p s a)) h
+over-one t n r (event.TickDropped p u) s a b h = subst (IsOver r) (sym (not-dropped (eq_who t (tick_or_run.Tick u)) s b)) h
+over-one t n r (event.RunPolled p u) s a b h = subst (IsOver r) (sym (not-polled (eq_who t (tick_or_run.Run u)) n p s a)) h
+over-one t n r (event.RunDropped p u) s a b h = subst (IsOver r) (sym (not-dropped (eq_who t (tick_or_run.Run u)) s b)) h
 over-one t n r (event.CallBegun p c) s a b h = record { asking = h.asking; pending = h.pending; refused = h.refused }
 over-one t n r (event.CallEnded p q) s a b h =
     subst (λ (c : Bool). IsOver r (cond (c && eqb s.party p) (ended_in s.inner q s) s)) (sym h.asking) h
-over-one t n r (event.WakerCalled p (of.Tick u) k w) s a b h = called-over r (eq_who t (sleeper.Tick u)) k s h
-over-one t n r (event.WakerCalled p (of.Run u) k w) s a b h = called-over r (eq_who t (sleeper.Run u)) k s h
+over-one t n r (event.WakerCalled p (of.Tick u) k w) s a b h = called-over r (eq_who t (tick_or_run.Tick u)) k s h
+over-one t n r (event.WakerCalled p (of.Run u) k w) s a b h = called-over r (eq_who t (tick_or_run.Run u)) k s h
 over-one t n r (event.WakerCalled p (of.Handle f) k w) s a b h = h
 over-one t n r _ s a b h = h
 
-over-from : (t : Sleeper) (n : ℕ) (r : Reply) (s : Watched) (es : Trace) → has (polls_it t) es ≡ false →
+over-from : (t : TickOrRun) (n : ℕ) (r : Reply) (s : Watched) (es : Trace) → has (polls_it t) es ≡ false →
     has (drops_it t) es ≡ false →
     IsOver r s → IsOver r (watched_from t n s es)
 over-from t n r s [] a b h = h
@@ -216,7 +217,7 @@ ends-now p r x es e = record { place = 0; here = ap (λ (y : Event). Some y) e; 
     first zero l = omega arith
     first (suc n) l = absurd (omega (arith, l))
 
-pub outcome-from : (t : Sleeper) (p n : ℕ) (s : Watched) (es : Trace) → has (polls_it t) es ≡ false →
+pub outcome-from : (t : TickOrRun) (p n : ℕ) (s : Watched) (es : Trace) → has (polls_it t) es ≡ false →
     has (drops_it t) es ≡ false →
     s.asking ≡ true → s.party ≡ p → Outcome p s.inner es (watched_from t n s es)
 outcome-from t p n s [] a b x y = unended x
@@ -262,7 +263,7 @@ level-later p i j x es s q k h = record {
       count-cons (begins_call p) x (take n es),
     )
 
-pub level-from : (t : Sleeper) (p n : ℕ) (s : Watched) (es : Trace) → has (polls_it t) es ≡ false →
+pub level-from : (t : TickOrRun) (p n : ℕ) (s : Watched) (es : Trace) → has (polls_it t) es ≡ false →
     has (drops_it t) es ≡ false → s.asking ≡ true → s.party ≡ p → (watched_from t n s es).asking ≡ true →
     IsLevel p s.inner es (watched_from t n s es)
 level-from t p n s [] a b x y z = record { party = y; level = omega arith; first = λ n l. first n l }

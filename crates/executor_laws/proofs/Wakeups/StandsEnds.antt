@@ -1,3 +1,4 @@
+-- For some_standing_is_called.
 -- Each call that ends keeps what holds of each tick and run.
 use Rattle.std.proofs.Common.{◌≡◌, ◌≢◌, ◌∙◌, ℕ, zero, suc, ◌+◌, ◌≤◌, List, [], ◌∷◌, ◌++◌, Bool, true, false, ◌&&◌, cond}
 use Rattle.std.proofs.Common.{eqb, refl, sym, ap, subst, arith}
@@ -7,12 +8,12 @@ use Rattle.executor_model.specs.declared.event.Event.{Event}
 use Rattle.executor_model.specs.declared.event.Event.TheVariants as event
 use Rattle.executor_model.specs.declared.op.Hold.{Hold}
 use Rattle.executor_model.specs.declared.op.Op.TheVariants as op
-use Rattle.executor_model.specs.declared.op.Sleeper.{Sleeper}
+use Rattle.executor_model.specs.declared.op.TickOrRun.{TickOrRun}
 use Rattle.executor_model.specs.World.{World, log}
-use Rattle.runs_called.proofs.Stands.{View, view, Doing, with_doing, Footing, Stands, Mark, with-nothing, asks_of}
-use Rattle.runs_called.proofs.StandsNothing.{nothing-of}
-use Rattle.runs_called.proofs.StandsOwn.{Ended as EndedSo, own-within, own-apart, own-ended}
-use Rattle.runs_called.proofs.Watched.{Watched, is_pending, is_refusal, ended_in, watched, watched-push}
+use Rattle.executor_laws.proofs.Wakeups.Stands.{View, view, Doing, with_doing, Footing, Stands, Mark, with-nothing, asks_of}
+use Rattle.executor_laws.proofs.Wakeups.StandsNothing.{nothing-of}
+use Rattle.executor_laws.proofs.Wakeups.StandsOwn.{Ended as EndedSo, own-within, own-apart, own-ended}
+use Rattle.executor_laws.proofs.Wakeups.Watched.{Watched, is_pending, is_refusal, ended_in, watched, watched-push}
 
 -- the end of a call
 
@@ -27,7 +28,7 @@ pub data EndWatched (p : ℕ) (a : Reply) (h h2 : Watched) : Type 0 where
   -- it is neither
   apart : (h.asking ≡ true → h.party ≢ p) → h2 ≡ h → EndWatched p a h h2
 
-pub watched-end : (t : Sleeper) (p : ℕ) (a : Reply) (es : List Event) →
+pub watched-end : (t : TickOrRun) (p : ℕ) (a : Reply) (es : List Event) →
     EndWatched p a (watched t es) (watched t (es ++ event.CallEnded p a ∷ []))
 watched-end t p a es = go (watched t es).asking (eqb (watched t es).party p) (watched t es).inner refl refl refl
   where
@@ -58,7 +59,7 @@ marked v x = record {
 }
 
 -- the end of the poll that is open is what its party does
-pub record Meets (t : Sleeper) (p : ℕ) (a : Reply) (held : Hold) (h : Watched) : Type 0 where
+pub record Meets (t : TickOrRun) (p : ℕ) (a : Reply) (held : Hold) (h : Watched) : Type 0 where
   pub ends : h.asking ≡ true → h.party ≡ p → h.inner ≡ 0 → 1 ≤ asks_of t (op.End a held)
   pub ended : 1 ≤ asks_of t (op.End a held) → (h.asking ≡ true) × (h.party ≡ p) × (h.inner ≡ 0)
 
@@ -66,7 +67,7 @@ zero-or : (n : ℕ) → (1 ≤ n → ⊥) → n ≡ 0
 zero-or zero k = refl
 zero-or (suc n) k = absurd (k (omega arith))
 
-module _ (t : Sleeper) (p : ℕ) (a : Reply) (held : Hold) (w : World) (r : Doing) (m : Mark)
+module _ (t : TickOrRun) (p : ℕ) (a : Reply) (held : Hold) (w : World) (r : Doing) (m : Mark)
     (meets : Meets t p a held (watched t w.trace))
     (f : Footing (with_doing t (op.End a held ∷ []) r) r)
     (h : Stands (view t w) (with_doing t (op.End a held ∷ []) r) m) where

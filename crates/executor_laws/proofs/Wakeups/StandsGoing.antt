@@ -1,3 +1,4 @@
+-- For some_standing_is_called.
 -- What a run does with the list of queues, with its own waker and with what is left in its queue, and how it is made.
 use Rattle.std.proofs.Common.{◌≡◌, ◌≢◌, ◌∙◌, ℕ, zero, suc, ◌+◌, ◌==◌, ◌≤◌, List, [], ◌∷◌, ◌++◌, length, get_or}
 use Rattle.std.proofs.Common.{Bool, true, false, cond, refl, sym, ap, subst, ⊎_elim, arith, length-append}
@@ -19,37 +20,37 @@ use Rattle.executor_model.specs.declared.op.RunOp.TheVariants as run_op
 use Rattle.executor_model.specs.declared.op.RunPoll.{RunPoll}
 use Rattle.executor_model.specs.declared.op.Section.{Section}
 use Rattle.executor_model.specs.declared.op.Section.TheVariants as section
-use Rattle.executor_model.specs.declared.op.Sleeper.{Sleeper}
-use Rattle.executor_model.specs.declared.op.Sleeper.TheVariants as sleeper
+use Rattle.executor_model.specs.declared.op.TickOrRun.{TickOrRun}
+use Rattle.executor_model.specs.declared.op.TickOrRun.TheVariants as tick_or_run
 use Rattle.executor_model.specs.declared.op.TickOp.TheVariants as tick_op
 use Rattle.executor_model.specs.declared.op.UserOp.TheVariants as user_op
 use Rattle.executor_model.specs.declared.op.Waker.{Waker}
 use Rattle.executor_model.specs.declared.op.Waker.TheVariants.{Task, Outside}
 use Rattle.executor_model.specs.declared.step.Hint.{Hint}
 use Rattle.executor_model.specs.ActsOfRuns as runs
-use Rattle.executor_model.specs.SleepersAgree.{lies}
-use Rattle.executor_model.specs.World.{World, Place, Left, Stage, New, Listed, Ended, Run, Done, done, log, new_run, no_run}
+use Rattle.executor_model.specs.SleepersAgree.{sleeps}
+use Rattle.executor_model.specs.World.{World, Ticker, Left, Stage, New, Listed, Ended, Run, Done, done, log, new_run, no_run}
 use Rattle.executor_model.specs.World.{own_of, put_own, put_run, run_of}
-use Rattle.executor_model.proofs.OwnRooms.{made-length, same-own, shorter-first}
-use Rattle.executor_model.proofs.SleepersLists.{given_back-same}
-use Rattle.executor_model.proofs.UsingWorlds.{count-set, is_over_stage}
-use Rattle.runs_called.proofs.Beside.{Beside, beside-move, besides}
-use Rattle.runs_called.proofs.Listed.{sum, entry_of, kept_of, misplaced_of}
-use Rattle.runs_called.proofs.Sitting.{IsOther, IsSame, cond-self, eq-self, is_it, lives_in, made_in, over_in, owned_in}
-use Rattle.runs_called.proofs.Sitting.{place_in, self, who_cases}
-use Rattle.runs_called.proofs.Stands.{Doing, KeepsStands, Mark, Stands, View, keeps-same, view, with_doing}
-use Rattle.runs_called.proofs.StandsNothing.{nothing-both, nothing-end, nothing-leave, nothing-of, nothing-section}
-use Rattle.runs_called.proofs.StandsNothing.{nothing-left, nothing-woken, with-front}
-use Rattle.runs_called.proofs.StandsOwn.{Goes, own-goes, own-made, own-over, own-scheduled, own-woken}
-use Rattle.runs_called.proofs.StandsRuns.{Walks, calm-same, owned-less, stage-front, stage-own, stage-ready}
-use Rattle.runs_called.proofs.StandsRuns.{stage-register, stage-search, stands-walks, view-calm, walks}
-use Rattle.runs_called.proofs.StandsSeats.{Seated, field-set, seated-and, seated-run, seated-same}
-use Rattle.runs_called.proofs.StandsWorlds.{Lay, entries-astray, misplaced-few, place_here, view-same}
-use Rattle.runs_called.proofs.Watched.{Watched, called_at, watched, watched-push}
+use Rattle.executor_model.proofs.OwnQueues.OwnRooms.{made-length, same-own, shorter-first}
+use Rattle.executor_model.proofs.Steps.SleepersLists.{given_back-same}
+use Rattle.executor_model.proofs.OwnQueues.UsingWorlds.{count-set, is_over_stage}
+use Rattle.executor_laws.proofs.Wakeups.Beside.{Beside, beside-move, besides}
+use Rattle.executor_laws.proofs.Wakeups.Listed.{sum, entry_of, kept_of, misplaced_of}
+use Rattle.executor_laws.proofs.Wakeups.Sitting.{IsOther, IsSame, cond-self, eq-self, is_it, lives_in, made_in, over_in, owned_in}
+use Rattle.executor_laws.proofs.Wakeups.Sitting.{place_in, self, who_cases}
+use Rattle.executor_laws.proofs.Wakeups.Stands.{Doing, KeepsStands, Mark, Stands, View, keeps-same, view, with_doing}
+use Rattle.executor_laws.proofs.Wakeups.StandsNothing.{nothing-both, nothing-end, nothing-leave, nothing-of, nothing-section}
+use Rattle.executor_laws.proofs.Wakeups.StandsNothing.{nothing-left, nothing-woken, with-front}
+use Rattle.executor_laws.proofs.Wakeups.StandsOwn.{Goes, own-goes, own-made, own-over, own-scheduled, own-woken}
+use Rattle.executor_laws.proofs.Wakeups.StandsRuns.{Walks, calm-same, owned-less, stage-front, stage-own, stage-ready}
+use Rattle.executor_laws.proofs.Wakeups.StandsRuns.{stage-register, stage-search, stands-walks, view-calm, walks}
+use Rattle.executor_laws.proofs.Wakeups.StandsSeats.{Seated, field-set, seated-and, seated-run, seated-same}
+use Rattle.executor_laws.proofs.Wakeups.StandsWorlds.{HasSlept, entries-astray, misplaced-few, place_here, view-same}
+use Rattle.executor_laws.proofs.Wakeups.Watched.{Watched, called_at, watched, watched-push}
 
 -- the lock is taken or given back
 
-pub stands-lock : (t : Sleeper) (s : Section) (w : World) →
+pub stands-lock : (t : TickOrRun) (s : Section) (w : World) →
     KeepsStands t w (op.List (list_op.LockWrite s) ∷ []) (runs.lock_write w s)
 stands-lock t s w = λ r m b h. h
 
@@ -77,10 +78,10 @@ not-made n = grind (arith, nat_tests)
 abbrev grown : World → World
 grown w = record w { runs = w.runs ++ new_run ∷ []; own = w.own ++ [] ∷ [] }
 
-seated-made : (t : Sleeper) (w : World) → t ≢ sleeper.Run (length w.runs) → Seated t w (grown w)
-seated-made (sleeper.Tick u) w n = record { place = refl; lives = refl; made = refl; over = refl }
-seated-made (sleeper.Run r) w n =
-    let k : r ≢ length w.runs = λ e. n (ap (λ (m : ℕ). sleeper.Run m) e) in
+seated-made : (t : TickOrRun) (w : World) → t ≢ tick_or_run.Run (length w.runs) → Seated t w (grown w)
+seated-made (tick_or_run.Tick u) w n = record { place = refl; lives = refl; made = refl; over = refl }
+seated-made (tick_or_run.Run r) w n =
+    let k : r ≢ length w.runs = λ e. n (ap (λ (m : ℕ). tick_or_run.Run m) e) in
     let e : get_or (w.runs ++ new_run ∷ []) r no_run ≡ get_or w.runs r no_run = run-other w.runs new_run r k in record {
       place = ap (λ (x : Run). x.place) e;
       lives = ap (λ (x : Run). not x.dropped) e;
@@ -88,11 +89,11 @@ seated-made (sleeper.Run r) w n =
       over = ap (λ (x : Run). is_over_stage x.stage) e;
     }
 
-owned-made : (t : Sleeper) (w : World) → owned_in t (grown w).own ≡ owned_in t w.own
-owned-made (sleeper.Tick u) w = refl
-owned-made (sleeper.Run r) w = made-length w.own r
+owned-made : (t : TickOrRun) (w : World) → owned_in t (grown w).own ≡ owned_in t w.own
+owned-made (tick_or_run.Tick u) w = refl
+owned-made (tick_or_run.Run r) w = made-length w.own r
 
-view-made : (t : Sleeper) (w : World) → t ≢ sleeper.Run (length w.runs) → view t (grown w) ≡ view t w
+view-made : (t : TickOrRun) (w : World) → t ≢ tick_or_run.Run (length w.runs) → view t (grown w) ≡ view t w
 view-made t w n =
     view-same t w (grown w) (seated-made t w n) refl (λ x. refl) (λ k. refl) (owned-made t w) refl refl
 
@@ -106,18 +107,18 @@ none-owned v x m e l h = by v.owned refl
     by zero q = q
     by (suc n) q = absurd (let no : ⊥ = grind arith in no)
 
-made-own : (n : ℕ) (w : World) → Lay w → w.gone ≡ false → n ≡ length w.runs →
-    sum (entry_of (sleeper.Run n)) w.sleepers.wakers ≤ 1 → owned_in (sleeper.Run n) w.own ≡ 0 →
-    KeepsStands (sleeper.Run n) w (op.List (list_op.Write section.MakeRun) ∷ []) (done (grown w) (made_next n))
-made-own n w lay g q one empty =
-    let t : Sleeper = sleeper.Run n in
+made-own : (n : ℕ) (w : World) → HasSlept w → w.gone ≡ false → n ≡ length w.runs →
+    sum (entry_of (tick_or_run.Run n)) w.sleepers.wakers ≤ 1 → owned_in (tick_or_run.Run n) w.own ≡ 0 →
+    KeepsStands (tick_or_run.Run n) w (op.List (list_op.Write section.MakeRun) ∷ []) (done (grown w) (made_next n))
+made-own n w slept g q one empty =
+    let t : TickOrRun = tick_or_run.Run n in
     let past : get_or w.runs n no_run ≡ no_run = get_or_past w.runs n no_run (omega (arith, q)) in
     let was : place_here w t ≡ Left = ap (λ (x : Run). x.place) past in
     let here : get_or (w.runs ++ new_run ∷ []) n no_run ≡ new_run =
     ap (λ (m : ℕ). get_or (w.runs ++ new_run ∷ []) m no_run) q ∙ run-past w.runs new_run in
     let none : sum (entry_of t) w.sleepers.wakers ≡ 0 = entries-astray t Left w.sleepers.wakers (λ m. refl)
-    ∙ (ap (λ (y : Place). sum (misplaced_of t y) w.sleepers.wakers) (sym was) ∙ lay.placed t) in
-    let uses : is_it t (sleeper.Run n) ≡ 1 = self t in
+    ∙ (ap (λ (y : Ticker). sum (misplaced_of t y) w.sleepers.wakers) (sym was) ∙ slept.placed t) in
+    let uses : is_it t (tick_or_run.Run n) ≡ 1 = self t in
     own-made t (view t w) (view t (grown w)) (op.List (list_op.Write section.MakeRun) ∷ []) (made_next n) refl g g
     (ap (λ (m : ℕ). nat_lt m (length w.runs)) q ∙ not-made (length w.runs))
     (ap (λ (x : Run). not x.dropped) past)
@@ -126,37 +127,37 @@ made-own n w lay g q one empty =
     (ap (λ (x : Run). is_over_stage x.stage) here)
     (owned-made t w ∙ empty)
     (ap (λ (x : Run). not x.dropped) here)
-    (ap (λ (x : Run). lies x.place) here)
+    (ap (λ (x : Run). sleeps x.place) here)
     one
     (omega (arith, misplaced-few t (place_here (grown w) t) w.sleepers.wakers, none))
     refl (nothing-of t _ refl) (omega (arith, uses)) refl refl refl refl refl refl refl refl (λ k. refl) (λ k. refl)
 
-pub stands-make_run : (b : Bool) (t : Sleeper) (w : World) → Lay w → w.gone ≡ false →
+pub stands-make_run : (b : Bool) (t : TickOrRun) (w : World) → HasSlept w → w.gone ≡ false →
     KeepsStands t w (op.List (list_op.Write section.MakeRun) ∷ []) (runs.make_run_by b w)
-stands-make_run true t w lay g =
+stands-make_run true t w slept g =
     keeps-same t w (op.List (list_op.Write section.MakeRun) ∷ []) (runs.make_run_by true w) refl (nothing-of t _ refl)
     (nothing-of t _ refl)
-stands-make_run false t w lay g = ⊎_elim
-    (λ (x : IsSame t (sleeper.Run (length w.runs))). subst
-    (λ (u : Sleeper). KeepsStands u w (op.List (list_op.Write section.MakeRun) ∷ []) (runs.make_run_by false w))
+stands-make_run false t w slept g = ⊎_elim
+    (λ (x : IsSame t (tick_or_run.Run (length w.runs))). subst
+    (λ (u : TickOrRun). KeepsStands u w (op.List (list_op.Write section.MakeRun) ∷ []) (runs.make_run_by false w))
     (sym x.2)
-    (λ r m b h. made-own (length w.runs) w lay g refl h.one
-    (none-owned (view (sleeper.Run (length w.runs)) w) _ m (not-made (length w.runs))
+    (λ r m b h. made-own (length w.runs) w slept g refl h.one
+    (none-owned (view (tick_or_run.Run (length w.runs)) w) _ m (not-made (length w.runs))
     (ap (λ (y : Run). not y.dropped) (get_or_past w.runs (length w.runs) no_run (omega arith))) h) r m b h))
-    (λ (x : IsOther t (sleeper.Run (length w.runs))). keeps-same t w (op.List (list_op.Write section.MakeRun) ∷ [])
+    (λ (x : IsOther t (tick_or_run.Run (length w.runs))). keeps-same t w (op.List (list_op.Write section.MakeRun) ∷ [])
     (runs.make_run_by false w) (view-made t w x.2) (nothing-of t _ refl)
     (nothing-both t (op.List list_op.UnlockWrite ∷ []) (op.End reply.Made (hold.Run (length w.runs)) ∷ [])
     (nothing-of t _ refl) (nothing-end t reply.Made (hold.Run (length w.runs)) x.0)))
-    (who_cases t (sleeper.Run (length w.runs)))
+    (who_cases t (tick_or_run.Run (length w.runs)))
 
-pub stands-room : (b : Bool) (t : Sleeper) (w : World) →
+pub stands-room : (b : Bool) (t : TickOrRun) (w : World) →
     KeepsStands t w (op.Run run_op.MakeRoom ∷ []) (runs.make_room_by b w)
 stands-room true t w = keeps-same t w (op.Run run_op.MakeRoom ∷ []) (runs.make_room_by true w) refl
     (nothing-of t _ refl) (nothing-of t _ refl)
 stands-room false t w = keeps-same t w (op.Run run_op.MakeRoom ∷ []) (runs.make_room_by false w) refl
     (nothing-of t _ refl) (nothing-of t _ refl)
 
-pub stands-return : (t : Sleeper) (w : World) → KeepsStands t w (op.Run run_op.ReturnRoom ∷ []) (runs.return_room w)
+pub stands-return : (t : TickOrRun) (w : World) → KeepsStands t w (op.Run run_op.ReturnRoom ∷ []) (runs.return_room w)
 stands-return t w = keeps-same t w (op.Run run_op.ReturnRoom ∷ []) (runs.return_room w)
     (view-calm t w (runs.return_room w).world
     (calm-same w (runs.return_room w).world refl refl (given_back-same w.sleepers) refl refl))
@@ -191,7 +192,7 @@ walks-registered Ended w x e =
     (op.User (user_op.PollOwn x) ∷ []) (nothing-of t _ refl) (stage-own t x))
     (calm-same w w refl refl refl refl refl) (same-own w w refl)
 
-pub stands-register : (t : Sleeper) (w : World) (x : RunPoll) (h : Hint) →
+pub stands-register : (t : TickOrRun) (w : World) (x : RunPoll) (h : Hint) →
     KeepsStands t w (op.List (list_op.Write (section.Register x)) ∷ []) (runs.write h (section.Register x) w)
 stands-register t w x h =
     stands-walks t w x (op.List (list_op.Write (section.Register x)) ∷ []) (runs.write h (section.Register x) w)
@@ -199,7 +200,7 @@ stands-register t w x h =
 
 -- its queue goes from the list
 
-goes-unregister : (t : Sleeper) (q : ℕ) (a : Reply) →
+goes-unregister : (t : TickOrRun) (q : ℕ) (a : Reply) →
     Goes t (op.List (list_op.Write (section.Unregister q a)) ∷ [])
     (op.List list_op.UnlockWrite ∷ op.Run (run_op.Reschedule q a) ∷ [])
 goes-unregister t q a = record {
@@ -213,14 +214,14 @@ goes-unregister t q a = record {
   odd = omega arith;
   strays = λ k. omega arith;
   calls = λ k. refl;
-  rising = omega arith;
-  rises = λ z. absurd (omega (arith, z));
+  waking_up = omega arith;
+  wakes_up = λ z. absurd (omega (arith, z));
 }
 
-view-over : (t : Sleeper) (w : World) (q : ℕ) →
+view-over : (t : TickOrRun) (w : World) (q : ℕ) →
     view t (runs.unregistered w q) ≡ record (view t w) { over = over_in t (runs.unregistered w q).runs }
 view-over t w q = λ i. record {
-  lying = lies (placed t i);
+  slumbering = sleeps (placed t i);
   living = lived t i;
   made = made t i;
   over = over_in t (runs.unregistered w q).runs;
@@ -235,29 +236,29 @@ view-over t w q = λ i. record {
     y : Run
     y = record (run_of w q) { stage = Ended }
 
-    placed : (u : Sleeper) → place_in u w.ticks (put_run w q y).runs ≡ place_in u w.ticks w.runs
-    placed (sleeper.Tick n) = refl
-    placed (sleeper.Run r) = field-set (λ (x : Run). x.place) w.runs q y refl r
+    placed : (u : TickOrRun) → place_in u w.ticks (put_run w q y).runs ≡ place_in u w.ticks w.runs
+    placed (tick_or_run.Tick n) = refl
+    placed (tick_or_run.Run r) = field-set (λ (x : Run). x.place) w.runs q y refl r
 
-    lived : (u : Sleeper) → lives_in u w.ticks (put_run w q y).runs ≡ lives_in u w.ticks w.runs
-    lived (sleeper.Tick n) = refl
-    lived (sleeper.Run r) = ap (λ (d : Bool). not d) (field-set (λ (x : Run). x.dropped) w.runs q y refl r)
+    lived : (u : TickOrRun) → lives_in u w.ticks (put_run w q y).runs ≡ lives_in u w.ticks w.runs
+    lived (tick_or_run.Tick n) = refl
+    lived (tick_or_run.Run r) = ap (λ (d : Bool). not d) (field-set (λ (x : Run). x.dropped) w.runs q y refl r)
 
-    made : (u : Sleeper) → made_in u w.ticks (put_run w q y).runs ≡ made_in u w.ticks w.runs
-    made (sleeper.Tick n) = refl
-    made (sleeper.Run r) = ap (nat_lt r) (count-set w.runs q y)
+    made : (u : TickOrRun) → made_in u w.ticks (put_run w q y).runs ≡ made_in u w.ticks w.runs
+    made (tick_or_run.Tick n) = refl
+    made (tick_or_run.Run r) = ap (nat_lt r) (count-set w.runs q y)
 
-over-other : (t : Sleeper) (w : World) (q : ℕ) → t ≢ sleeper.Run q →
+over-other : (t : TickOrRun) (w : World) (q : ℕ) → t ≢ tick_or_run.Run q →
     over_in t (runs.unregistered w q).runs ≡ over_in t w.runs
-over-other (sleeper.Tick n) w q x = refl
-over-other (sleeper.Run r) w q x = ap (λ (y : Run). is_over_stage y.stage)
+over-other (tick_or_run.Tick n) w q x = refl
+over-other (tick_or_run.Run r) w q x = ap (λ (y : Run). is_over_stage y.stage)
     (get_or-set_other w.runs q r (record (run_of w q) { stage = Ended }) no_run
-    (λ e. x (ap (λ (n : ℕ). sleeper.Run n) e)))
+    (λ e. x (ap (λ (n : ℕ). tick_or_run.Run n) e)))
 
-pub stands-unregister : (t : Sleeper) (w : World) (q : ℕ) (a : Reply) (h : Hint) →
+pub stands-unregister : (t : TickOrRun) (w : World) (q : ℕ) (a : Reply) (h : Hint) →
     KeepsStands t w (op.List (list_op.Write (section.Unregister q a)) ∷ []) (runs.write h (section.Unregister q a) w)
 stands-unregister t w q a h = ⊎_elim
-    (λ (x : IsSame t (sleeper.Run q)) r m b k.
+    (λ (x : IsSame t (tick_or_run.Run q)) r m b k.
     subst (λ (v : View). Stands v (with_doing t (op.List list_op.UnlockWrite ∷ op.Run
     (run_op.Reschedule q a) ∷ []) r) m)
     (sym (view-over t w q))
@@ -265,16 +266,16 @@ stands-unregister t w q a h = ⊎_elim
     (op.List (list_op.Write (section.Unregister q a)) ∷ [])
     (op.List list_op.UnlockWrite ∷ op.Run (run_op.Reschedule q a) ∷ []) (goes-unregister t q a) (omega (arith, x.0))
     refl refl r m b k))
-    (λ (x : IsOther t (sleeper.Run q)). keeps-same t w _ (runs.write h (section.Unregister q a) w)
+    (λ (x : IsOther t (tick_or_run.Run q)). keeps-same t w _ (runs.write h (section.Unregister q a) w)
     (view-over t w q ∙ ap (λ (c : Bool). let v : View = record (view t w) { over = c } in v) (over-other t w q x.2))
     (nothing-section t q a x.2)
     (nothing-both t (op.List list_op.UnlockWrite ∷ []) (op.Run (run_op.Reschedule q a) ∷ []) (nothing-of t _ refl)
     (nothing-left t q a x.2)))
-    (who_cases t (sleeper.Run q))
+    (who_cases t (tick_or_run.Run q))
 
 -- what is left in its queue is scheduled
 
-goes-reschedule : (t : Sleeper) (q f : ℕ) (a : Reply) →
+goes-reschedule : (t : TickOrRun) (q f : ℕ) (a : Reply) →
     Goes t (op.Run (run_op.Reschedule q a) ∷ []) (op.Queue (queue_op.Append f) ∷ op.Run (run_op.Reschedule q a) ∷ [])
 goes-reschedule t q f a = record {
   used = omega arith;
@@ -287,20 +288,20 @@ goes-reschedule t q f a = record {
   odd = omega arith;
   strays = λ k. omega arith;
   calls = λ k. refl;
-  rising = omega arith;
-  rises = λ z. absurd (omega (arith, z));
+  waking_up = omega arith;
+  wakes_up = λ z. absurd (omega (arith, z));
 }
 
-scheduled : (ys : List ℕ) (t : Sleeper) (w : World) (q : ℕ) (a : Reply) → own_of w q ≡ ys →
+scheduled : (ys : List ℕ) (t : TickOrRun) (w : World) (q : ℕ) (a : Reply) → own_of w q ≡ ys →
     KeepsStands t w (op.Run (run_op.Reschedule q a) ∷ []) (runs.reschedule_by ys w q a)
 scheduled [] t w q a e = ⊎_elim
-    (λ (x : IsSame t (sleeper.Run q)). subst (λ (u : Sleeper). KeepsStands u w (op.Run (run_op.Reschedule q a) ∷ [])
+    (λ (x : IsSame t (tick_or_run.Run q)). subst (λ (u : TickOrRun). KeepsStands u w (op.Run (run_op.Reschedule q a) ∷ [])
     (runs.reschedule_by [] w q a)) (sym x.2)
-    (λ r m b h. own-scheduled a q (view (sleeper.Run q) w) r m (ap (λ (zs : List ℕ). length zs) e) b h))
-    (λ (x : IsOther t (sleeper.Run q)). keeps-same t w _ (runs.reschedule_by [] w q a) refl (nothing-left t q a x.2)
-    (nothing-both t (op.Tick (tick_op.Leave (sleeper.Run q)) ∷ []) (op.End a (hold.Run q) ∷ [])
-    (nothing-leave t (sleeper.Run q) x.2) (nothing-end t a (hold.Run q) x.0)))
-    (who_cases t (sleeper.Run q))
+    (λ r m b h. own-scheduled a q (view (tick_or_run.Run q) w) r m (ap (λ (zs : List ℕ). length zs) e) b h))
+    (λ (x : IsOther t (tick_or_run.Run q)). keeps-same t w _ (runs.reschedule_by [] w q a) refl (nothing-left t q a x.2)
+    (nothing-both t (op.Tick (tick_op.Leave (tick_or_run.Run q)) ∷ []) (op.End a (hold.Run q) ∷ [])
+    (nothing-leave t (tick_or_run.Run q) x.2) (nothing-end t a (hold.Run q) x.0)))
+    (who_cases t (tick_or_run.Run q))
 scheduled (f ∷ rest) t w q a e = λ r m b h.
     subst (λ (v : View). Stands v (with_doing t (op.Queue (queue_op.Append f) ∷ op.Run
     (run_op.Reschedule q a) ∷ []) r) m)
@@ -309,7 +310,7 @@ scheduled (f ∷ rest) t w q a e = λ r m b h.
     (op.Queue (queue_op.Append f) ∷ op.Run (run_op.Reschedule q a) ∷ []) (goes-reschedule t q f a)
     (owned-less w (put_own w q rest) (shorter-first w q f rest e) t _) r m b h)
 
-pub stands-reschedule : (t : Sleeper) (w : World) (q : ℕ) (a : Reply) →
+pub stands-reschedule : (t : TickOrRun) (w : World) (q : ℕ) (a : Reply) →
     KeepsStands t w (op.Run (run_op.Reschedule q a) ∷ []) (runs.reschedule w q a)
 stands-reschedule t w q a = scheduled _ t w q a refl
 
@@ -319,11 +320,11 @@ abbrev told : ℕ → World → RunPoll → World
 told p w x = log w (event.WakerCalled p (of.Run x.run) x.poll x.waker)
 
 woken-own : (p : ℕ) (w : World) (x : RunPoll) → is_over_stage (run_of w x.run).stage ≡ false →
-    KeepsStands (sleeper.Run x.run) w (op.Run (run_op.WakeOwn x) ∷ [])
+    KeepsStands (tick_or_run.Run x.run) w (op.Run (run_op.WakeOwn x) ∷ [])
     (done (told p w x) (op.End reply.Pending (hold.Run x.run) ∷ []))
 woken-own p w x live r m b h =
-    let t : Sleeper = sleeper.Run x.run in
-    let uses : is_it t (sleeper.Run x.run) ≡ 1 = self t in
+    let t : TickOrRun = tick_or_run.Run x.run in
+    let uses : is_it t (tick_or_run.Run x.run) ≡ 1 = self t in
     let now : watched t (told p w x).trace ≡ called_at x.poll (watched t w.trace) =
     watched-push t w.trace (event.WakerCalled p (of.Run x.run) x.poll x.waker)
     ∙ ap (λ (c : Bool). cond c (called_at x.poll (watched t w.trace)) (watched t w.trace)) (eq-self t) in
@@ -335,25 +336,25 @@ woken-own p w x live r m b h =
     (omega (arith, uses)) (omega (arith, uses)) refl refl refl refl refl refl refl (λ j. refl) (λ j. refl) (λ j. refl)
     r m b h)
 
-woken : (t : Sleeper) (p : ℕ) (w : World) (x : RunPoll) → is_over_stage (run_of w x.run).stage ≡ false →
+woken : (t : TickOrRun) (p : ℕ) (w : World) (x : RunPoll) → is_over_stage (run_of w x.run).stage ≡ false →
     KeepsStands t w (op.Run (run_op.WakeOwn x) ∷ []) (done (told p w x) (op.End reply.Pending (hold.Run x.run) ∷ []))
 woken t p w x live = ⊎_elim
-    (λ (y : IsSame t (sleeper.Run x.run)). subst (λ (u : Sleeper). KeepsStands u w (op.Run (run_op.WakeOwn x) ∷ [])
+    (λ (y : IsSame t (tick_or_run.Run x.run)). subst (λ (u : TickOrRun). KeepsStands u w (op.Run (run_op.WakeOwn x) ∷ [])
     (done (told p w x) (op.End reply.Pending (hold.Run x.run) ∷ []))) (sym y.2) (woken-own p w x live))
-    (λ (y : IsOther t (sleeper.Run x.run)). keeps-same t w _
+    (λ (y : IsOther t (tick_or_run.Run x.run)). keeps-same t w _
     (done (told p w x) (op.End reply.Pending (hold.Run x.run) ∷ []))
     (ap (λ (s : Watched). let v : View = record (view t w) { seen = s } in v)
     (watched-push t w.trace (event.WakerCalled p (of.Run x.run) x.poll x.waker)
     ∙ ap (λ (c : Bool). cond c (called_at x.poll (watched t w.trace)) (watched t w.trace)) y.1))
     (nothing-woken t x y.2)
     (nothing-end t reply.Pending (hold.Run x.run) y.0))
-    (who_cases t (sleeper.Run x.run))
+    (who_cases t (tick_or_run.Run x.run))
 
 pub beside-reference : (p : ℕ) (w : World) (a : Waker) → Beside w (runs.call_by_reference p w a)
 beside-reference p w (Task g) = beside-move true move.WakeByReference p w w g (λ t. refl)
 beside-reference p w (Outside y) = besides w _ (λ t. refl) refl
 
-pub stands-wake_own : (t : Sleeper) (p : ℕ) (w : World) (x : RunPoll) →
+pub stands-wake_own : (t : TickOrRun) (p : ℕ) (w : World) (x : RunPoll) →
     is_over_stage (run_of w x.run).stage ≡ false →
     KeepsStands t w (op.Run (run_op.WakeOwn x) ∷ []) (runs.wake_own p w x)
 stands-wake_own t p w x live r m b h =
@@ -366,7 +367,7 @@ stands-wake_own t p w x live r m b h =
 
 -- its own future has answered
 
-pub stands-pending : (t : Sleeper) (w : World) (x : RunPoll) →
+pub stands-pending : (t : TickOrRun) (w : World) (x : RunPoll) →
     KeepsStands t w (op.User (user_op.PollOwn x) ∷ []) (done w (op.Tick (tick_op.Search (runs.asleep x)) ∷ []))
 stands-pending t w x =
     stands-walks t w x (op.User (user_op.PollOwn x) ∷ []) (done w (op.Tick (tick_op.Search (runs.asleep x)) ∷ []))
@@ -374,7 +375,7 @@ stands-pending t w x =
     (walks w x (done w (op.Tick (tick_op.Search (runs.asleep x)) ∷ [])) (λ u. stage-search u x)
     (calm-same w w refl refl refl refl refl) (same-own w w refl))
 
-pub stands-ready : (t : Sleeper) (w : World) (x : RunPoll) →
+pub stands-ready : (t : TickOrRun) (w : World) (x : RunPoll) →
     KeepsStands t w (op.User (user_op.PollOwn x) ∷ []) (done w
     (op.User (user_op.DropOwn x.run) ∷ op.List (list_op.LockWrite (section.Unregister x.run reply.Ready)) ∷ []))
 stands-ready t w x =

@@ -1,3 +1,4 @@
+-- For some_standing_is_called.
 -- Each end of a call keeps what holds of each tick and run.
 use Rattle.std.proofs.Common.{◌≡◌, ◌≢◌, ◌∙◌, ℕ, zero, suc, ◌+◌, ◌<◌, ◌≤◌, List, [], ◌∷◌, ◌++◌, length, get_or, set}
 use Rattle.std.proofs.Common.{true, false, refl, sym, ap, subst, ⊎_elim, arith}
@@ -7,29 +8,29 @@ use Rattle.executor_model.specs.declared.event.Event.TheVariants as event
 use Rattle.executor_model.specs.declared.op.Hold.{Hold}
 use Rattle.executor_model.specs.declared.op.Op.{Op}
 use Rattle.executor_model.specs.declared.op.Op.TheVariants as op
-use Rattle.executor_model.specs.declared.op.Sleeper.{Sleeper}
+use Rattle.executor_model.specs.declared.op.TickOrRun.{TickOrRun}
 use Rattle.executor_model.specs.World.{Done, done, log}
 use Rattle.executor_model.specs.Steps.{Machine, stack}
 use Rattle.executor_model.specs.Weights.{same, weigh, weigh_all}
-use Rattle.executor_model.proofs.AwaitedTies.{stack-then}
-use Rattle.executor_model.proofs.Lift.{unsettled}
-use Rattle.executor_model.proofs.SleepersFollowingRuns.{followed-ends}
-use Rattle.executor_model.proofs.UsingSteps.{used-ends}
-use Rattle.executor_model.proofs.Holding.{nowhere, spot, spot-none, spot-more, seen, seen-append, found-weighs, Spotted}
-use Rattle.executor_model.proofs.Holding.{Holds, held-step}
-use Rattle.runs_called.proofs.Stands.{view, Doing, with_doing, doing, Footing, Stands, asks_of}
-use Rattle.runs_called.proofs.StandsEnds.{EndWatched, Meets, marked, stands-end, watched-end}
-use Rattle.runs_called.proofs.StandsEnds.EndWatched.{own, within, apart}
-use Rattle.runs_called.proofs.StandsTied.{tied-nil}
-use Rattle.runs_called.proofs.StandsWeights.{asks-all, weigh-at, asks-calling}
-use Rattle.runs_called.proofs.Watched.{Watched, watched}
-use Rattle.runs_called.proofs.StandsSteps.{Standing, before, footing-here, open_of, stands-here, stands-pushed}
-use Rattle.runs_called.proofs.StandsSteps.{tied-pushed}
+use Rattle.executor_model.proofs.Awaiters.AwaitedTies.{stack-then}
+use Rattle.executor_model.proofs.Steps.Lift.{unsettled}
+use Rattle.executor_model.proofs.Sleepers.SleepersFollowingExecutions.{followed-ends}
+use Rattle.executor_model.proofs.OwnQueues.UsingSteps.{used-ends}
+use Rattle.executor_model.proofs.Awaiters.Holding.{nowhere, spot, spot-none, spot-more, seen, seen-append, found-weighs, Spotted}
+use Rattle.executor_model.proofs.Awaiters.Holding.{Holds, held-step}
+use Rattle.executor_laws.proofs.Wakeups.Stands.{view, Doing, with_doing, doing, Footing, Stands, asks_of}
+use Rattle.executor_laws.proofs.Wakeups.StandsEnds.{EndWatched, Meets, marked, stands-end, watched-end}
+use Rattle.executor_laws.proofs.Wakeups.StandsEnds.EndWatched.{own, within, apart}
+use Rattle.executor_laws.proofs.Wakeups.StandsTied.{tied-nil}
+use Rattle.executor_laws.proofs.Wakeups.StandsWeights.{asks-all, weigh-at, asks-calling}
+use Rattle.executor_laws.proofs.Wakeups.Watched.{Watched, watched}
+use Rattle.executor_laws.proofs.Wakeups.StandsSteps.{Standing, before, footing-here, open_of, stands-here, stands-pushed}
+use Rattle.executor_laws.proofs.Wakeups.StandsSteps.{tied-pushed}
 
 -- the end of a call
 
 module _ (s : Machine) (p : ℕ) (a : Reply) (held : Hold) (below_it : List Op) (l : p < length s.parties)
-    (e : stack s p ≡ below_it ++ reverse (op.End a held ∷ [])) (h : Standing s) (t : Sleeper) where
+    (e : stack s p ≡ below_it ++ reverse (op.End a held ∷ [])) (h : Standing s) (t : TickOrRun) where
   abbrev ended : Done
   ended = done (log s.world (event.CallEnded p a)) []
 

@@ -1,3 +1,4 @@
+-- For some_standing_is_called.
 -- After each list of steps what holds of each tick and run holds still.
 use Rattle.std.proofs.Common.{◌≡◌, ◌∙◌, ℕ, zero, suc, ◌<◌, List, [], ◌∷◌, ◌++◌, length, get_or, Bool, true, false}
 use Rattle.std.proofs.Common.{◌&&◌, ◌||◌, not, refl, sym, ap, subst, arith}
@@ -6,27 +7,27 @@ use Rattle.executor_model.specs.declared.op.Op.{Op}
 use Rattle.executor_model.specs.declared.op.Op.TheVariants as op
 use Rattle.executor_model.specs.declared.step.Hint.{Hint}
 use Rattle.executor_model.specs.declared.step.Step.{Step}
-use Rattle.executor_model.specs.declared.op.Sleeper.{Sleeper}
-use Rattle.executor_model.specs.declared.op.Sleeper.TheVariants as sleeper
+use Rattle.executor_model.specs.declared.op.TickOrRun.{TickOrRun}
+use Rattle.executor_model.specs.declared.op.TickOrRun.TheVariants as tick_or_run
 use Rattle.executor_model.specs.World.{Done}
 use Rattle.executor_model.specs.Doing.{act}
 use Rattle.executor_model.specs.Good.{Good}
 use Rattle.executor_model.specs.Steps.{Machine, stack, run, start, top, is_free, has_all, is_on_executor, is_drop}
 use Rattle.executor_model.specs.Steps.{is_unborrowed, idle}
-use Rattle.executor_model.proofs.Calls.{is_end}
-use Rattle.executor_model.proofs.Lift.{unsettled, good-start, none_refused}
-use Rattle.executor_model.proofs.SleepersFollowingRuns.{Followed, followed-moves, followed-start}
-use Rattle.executor_model.proofs.UsingSteps.{AllUsed, used-moves, used-start}
-use Rattle.executor_model.proofs.Ways.{Way, along}
-use Rattle.executor_model.proofs.Ways.Way.{acted, reacted, called}
-use Rattle.runs_called.proofs.Stands.{view, Doing, Stands}
-use Rattle.runs_called.proofs.StandsEnds.{marked}
-use Rattle.runs_called.proofs.StandsTied.{IsTied, tied-nil}
-use Rattle.runs_called.proofs.StandsWeights.{nothing_done, idle-doing}
-use Rattle.runs_called.proofs.Watched.{Watched, watched-none}
-use Rattle.runs_called.proofs.StandsSteps.{Standing}
-use Rattle.runs_called.proofs.StandsMoves.{standing-acted, standing-begun, standing-reacted}
-use Rattle.runs_called.proofs.StandsLast.{standing-ends}
+use Rattle.executor_model.proofs.Quiet.Calls.{is_end}
+use Rattle.executor_model.proofs.Steps.Lift.{unsettled, good-start, none_refused}
+use Rattle.executor_model.proofs.Sleepers.SleepersFollowingExecutions.{Followed, followed-moves, followed-start}
+use Rattle.executor_model.proofs.OwnQueues.UsingSteps.{AllUsed, used-moves, used-start}
+use Rattle.executor_model.proofs.Steps.Ways.{Way, along}
+use Rattle.executor_model.proofs.Steps.Ways.Way.{acted, reacted, called}
+use Rattle.executor_laws.proofs.Wakeups.Stands.{view, Doing, Stands}
+use Rattle.executor_laws.proofs.Wakeups.StandsEnds.{marked}
+use Rattle.executor_laws.proofs.Wakeups.StandsTied.{IsTied, tied-nil}
+use Rattle.executor_laws.proofs.Wakeups.StandsWeights.{nothing_done, idle-doing}
+use Rattle.executor_laws.proofs.Wakeups.Watched.{Watched, watched-none}
+use Rattle.executor_laws.proofs.Wakeups.StandsSteps.{Standing}
+use Rattle.executor_laws.proofs.Wakeups.StandsMoves.{standing-acted, standing-begun, standing-reacted}
+use Rattle.executor_laws.proofs.Wakeups.StandsLast.{standing-ends}
 
 -- every step
 
@@ -68,10 +69,10 @@ idle-stack zero q = refl
 idle-stack (suc n) zero = refl
 idle-stack (suc n) (suc q) = idle-stack n q
 
-none-stands : (t : Sleeper) →
+none-stands : (t : TickOrRun) →
     Stands (view t (start 0 0).world) nothing_done (marked (view t (start 0 0).world) nothing_done)
-none-stands (sleeper.Tick t) = grind (arith, watched-none)
-none-stands (sleeper.Run r) = grind (arith, watched-none)
+none-stands (tick_or_run.Tick t) = grind (arith, watched-none)
+none-stands (tick_or_run.Run r) = grind (arith, watched-none)
 
 pub standing-start : (limit n : ℕ) → Standing (start limit n)
 standing-start limit n = record {

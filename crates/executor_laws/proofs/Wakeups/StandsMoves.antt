@@ -1,3 +1,4 @@
+-- For some_standing_is_called.
 -- Each move of a party keeps what holds of each tick and run.
 use Rattle.std.proofs.Common.{◌≡◌, ◌⊎◌, ◌∙◌, ℕ, suc, ◌<◌, ◌≤◌, List, [], ◌∷◌, ◌++◌, length, set, Bool, true, false}
 use Rattle.std.proofs.Common.{◌&&◌, ◌||◌, not, cond, refl, sym, ap, subst, inl, inr, ⊎_elim, arith}
@@ -14,8 +15,8 @@ use Rattle.executor_model.specs.declared.step.UserEnd.{UserEnd}
 use Rattle.executor_model.specs.declared.step.UserEnd.TheVariants as end
 use Rattle.executor_model.specs.declared.op.ListOp.TheVariants as list_op
 use Rattle.executor_model.specs.declared.op.Section.TheVariants as section
-use Rattle.executor_model.specs.declared.op.Sleeper.{Sleeper}
-use Rattle.executor_model.specs.declared.op.Sleeper.TheVariants as sleeper
+use Rattle.executor_model.specs.declared.op.TickOrRun.{TickOrRun}
+use Rattle.executor_model.specs.declared.op.TickOrRun.TheVariants as tick_or_run
 use Rattle.executor_model.specs.declared.op.TickOp.TheVariants as tick_op
 use Rattle.executor_model.specs.World.{World, Done, log, run_of}
 use Rattle.executor_model.specs.Doing.{act}
@@ -24,25 +25,25 @@ use Rattle.executor_model.specs.Rows.{borrowing_of}
 use Rattle.executor_model.specs.Steps.{Machine, stack, mine, top, has_all, is_drop, is_unborrowed, accepts, begun}
 use Rattle.executor_model.specs.Steps.{react}
 use Rattle.executor_model.specs.Weights.{weigh_all}
-use Rattle.executor_model.proofs.Calls.{is_end, Passes, single, then}
+use Rattle.executor_model.proofs.Quiet.Calls.{is_end, Passes, single, then}
 use Rattle.executor_model.specs.ActsOfRuns as runs
 use Rattle.executor_model.specs.declared.call.Reply.TheVariants as reply
-use Rattle.executor_model.proofs.CallsGroups.{calls-act}
-use Rattle.executor_model.proofs.Lift.{split, unsettled, first-true, set-own}
-use Rattle.executor_model.proofs.Resting.{opens}
-use Rattle.executor_model.proofs.SleepersFollowingRuns.{Followed}
-use Rattle.executor_model.proofs.Using.{polling_of}
-use Rattle.executor_model.proofs.UsingSteps.{AllUsed}
-use Rattle.executor_model.proofs.UsingWorlds.{is_over_stage}
-use Rattle.runs_called.proofs.Sitting.{eq_who}
-use Rattle.runs_called.proofs.Stands.{view, with_doing, doing, Stands, Mark, used_of}
-use Rattle.runs_called.proofs.StandsCalls.{Uses, stands-begun}
-use Rattle.runs_called.proofs.StandsPolls.{asked, begun_in, polls_at}
-use Rattle.runs_called.proofs.StandsGroups.{IsLive, stands-act, stands-react}
-use Rattle.runs_called.proofs.StandsRising.{tied-act, tied-begun, tied-react}
-use Rattle.runs_called.proofs.StandsUses.{all-gone, none-lives, uses-run, uses-tick}
-use Rattle.runs_called.proofs.StandsSteps.{Standing, before, footing-here, held-begun, held-polled, held-same, lay}
-use Rattle.runs_called.proofs.StandsSteps.{stands-here, stands-pushed, tied-pushed}
+use Rattle.executor_model.proofs.Quiet.CallsGroups.{calls-act}
+use Rattle.executor_model.proofs.Steps.Lift.{split, unsettled, first-true, set-own}
+use Rattle.executor_model.proofs.Quiet.Resting.{opens}
+use Rattle.executor_model.proofs.Sleepers.SleepersFollowingExecutions.{Followed}
+use Rattle.executor_model.proofs.OwnQueues.Using.{polling_of}
+use Rattle.executor_model.proofs.OwnQueues.UsingSteps.{AllUsed}
+use Rattle.executor_model.proofs.OwnQueues.UsingWorlds.{is_over_stage}
+use Rattle.executor_laws.proofs.Wakeups.Sitting.{eq_who}
+use Rattle.executor_laws.proofs.Wakeups.Stands.{view, with_doing, doing, Stands, Mark, used_of}
+use Rattle.executor_laws.proofs.Wakeups.StandsCalls.{Uses, stands-begun}
+use Rattle.executor_laws.proofs.Wakeups.StandsPolls.{asked, begun_in, polls_at}
+use Rattle.executor_laws.proofs.Wakeups.StandsGroups.{IsLive, stands-act, stands-react}
+use Rattle.executor_laws.proofs.Wakeups.StandsWakingUp.{tied-act, tied-begun, tied-react}
+use Rattle.executor_laws.proofs.Wakeups.StandsUses.{all-gone, none-lives, uses-run, uses-tick}
+use Rattle.executor_laws.proofs.Wakeups.StandsSteps.{Standing, before, footing-here, held-begun, held-polled, held-same, slept}
+use Rattle.executor_laws.proofs.Wakeups.StandsSteps.{stands-here, stands-pushed, tied-pushed}
 
 -- what is done
 
@@ -80,10 +81,10 @@ standing-acted s p rest h o n l e good follows uses k = record {
     borrows b = not-gone s.world.gone (weigh_all borrowing_of s.parties) ((good.sound 0).lent)
         (omega (arith, split borrowing_of s.parties p (o ∷ []) rest l e, b))
 
-    step : (t : Sleeper) → Stands (view t (act p h o s.world).world)
+    step : (t : TickOrRun) → Stands (view t (act p h o s.world).world)
         (with_doing t (act p h o s.world).next (doing t (set s.parties p rest)))
         (before s p (o ∷ []) rest (act p h o s.world) l e k t)
-    step t = stands-act t p h o s.world (lay s k) borrows (is-live s p rest o l e k.used) n
+    step t = stands-act t p h o s.world (slept s k) borrows (is-live s p rest o l e k.used) n
         (doing t (set s.parties p rest))
         (before s p (o ∷ []) rest (act p h o s.world) l e k t)
         (footing-here s p (o ∷ []) rest (act p h o s.world) l e k t)
@@ -130,7 +131,7 @@ standing-reacted s p rest o u a l e follows uses k = record {
   held = λ t. held-same s p (o ∷ []) rest (react p o u s.world) l e k t o refl (passes-react p o u s.world a) (step t);
 }
   where
-    step : (t : Sleeper) → Stands (view t (react p o u s.world).world)
+    step : (t : TickOrRun) → Stands (view t (react p o u s.world).world)
         (with_doing t (react p o u s.world).next (doing t (set s.parties p rest)))
         (before s p (o ∷ []) rest (react p o u s.world) l e k t)
     step t = stands-react t p o u s.world a (doing t (set s.parties p rest))
@@ -151,7 +152,7 @@ not-true false e = refl
 abbrev pub begun_done : Machine → ℕ → Call → Done
 begun_done s p c = begun p (log s.world (event.CallBegun p c)) (mine (top (stack s p))) c
 
-uses-it : (s : Machine) (p : ℕ) (t : Sleeper) (c : Call) → has_all s.world s.parties (top (stack s p)) c ≡ true →
+uses-it : (s : Machine) (p : ℕ) (t : TickOrRun) (c : Call) → has_all s.world s.parties (top (stack s p)) c ≡ true →
     (not (is_drop c) || is_unborrowed s.world s.parties) ≡ true →
     Uses t c (view t s.world) (weigh_all (used_of t) s.parties)
 uses-it s p t (call.PollTick u b) k un = uses-tick s t u (first-true _ _ k)
@@ -164,7 +165,7 @@ uses-it s p t _ k un = tt
 abbrev Opening : ℕ → Mark → Mark → Type 0
 Opening p m n = (n ≡ begun_in p m) ⊎ ((n.party ≡ p) × (n.inner ≡ 0) × (n.asks ≡ suc m.asks))
 
-polls-is : (t u : Sleeper) (p : ℕ) (m : Mark) → Opening p m (polls_at t u p m)
+polls-is : (t u : TickOrRun) (p : ℕ) (m : Mark) → Opening p m (polls_at t u p m)
 polls-is t u p m = go (eq_who t u)
   where
     go : (c : Bool) → Opening p m (cond c (record { asking = true; party = p; inner = 0; asks = suc m.asks })
@@ -172,9 +173,9 @@ polls-is t u p m = go (eq_who t u)
     go true = inr (refl, refl, refl)
     go false = inl refl
 
-asked-is : (p : ℕ) (c : Call) (t : Sleeper) (m : Mark) → Opening p m (asked p c t m)
-asked-is p (call.PollTick u b) t m = polls-is t (sleeper.Tick u) p m
-asked-is p (call.PollRun q b) t m = polls-is t (sleeper.Run q) p m
+asked-is : (p : ℕ) (c : Call) (t : TickOrRun) (m : Mark) → Opening p m (asked p c t m)
+asked-is p (call.PollTick u b) t m = polls-is t (tick_or_run.Tick u) p m
+asked-is p (call.PollRun q b) t m = polls-is t (tick_or_run.Run q) p m
 asked-is p _ t m = inl refl
 
 pub standing-begun : (s : Machine) (p : ℕ) (rest : List Op) (c : Call) →
@@ -208,7 +209,7 @@ standing-begun s p rest c k un l r e follows uses h = record {
     own_parties : set s.parties p rest ≡ s.parties
     own_parties = ap (set s.parties p) r ∙ set-own s.parties p l
 
-    step : (t : Sleeper) → Stands (view t (begun_done s p c).world)
+    step : (t : TickOrRun) → Stands (view t (begun_done s p c).world)
         (with_doing t (begun_done s p c).next (doing t (set s.parties p rest)))
         (asked p c t (before s p [] rest (begun_done s p c) l e h t))
     step t = stands-begun t p s.world (mine (top (stack s p))) c (doing t (set s.parties p rest))

@@ -1,3 +1,4 @@
+-- For some_standing_is_called.
 -- Each stage of a poll uses its tick or run, and what doesn't use it is nothing to it.
 use Rattle.std.proofs.Common.{◌≡◌, ◌≢◌, ℕ, ◌+◌, ◌==◌, ◌≤◌, List, [], ◌∷◌, ◌++◌, Bool, true, false, ◌||◌, cond, refl}
 use Rattle.std.proofs.Common.{arith}
@@ -12,109 +13,85 @@ use Rattle.executor_model.specs.declared.op.RunOp.TheVariants as run_op
 use Rattle.executor_model.specs.declared.op.RunPoll.{RunPoll}
 use Rattle.executor_model.specs.declared.op.Section.{Section}
 use Rattle.executor_model.specs.declared.op.Section.TheVariants as section
-use Rattle.executor_model.specs.declared.op.Sleeper.{Sleeper}
-use Rattle.executor_model.specs.declared.op.Sleeper.TheVariants as sleeper
+use Rattle.executor_model.specs.declared.op.TickOrRun.{TickOrRun}
+use Rattle.executor_model.specs.declared.op.TickOrRun.TheVariants as tick_or_run
 use Rattle.executor_model.specs.declared.op.SleeperOp.TheVariants as sleeper_op
 use Rattle.executor_model.specs.declared.op.TickOp.TheVariants as tick_op
 use Rattle.executor_model.specs.declared.op.UserOp.TheVariants as user_op
 use Rattle.executor_model.specs.declared.op.Waker.{Waker}
 use Rattle.executor_model.specs.declared.op.WakerOp.TheVariants as waker_op
 use Rattle.executor_model.specs.Weights.{same, weigh}
-use Rattle.executor_model.proofs.Lists.{weigh-append}
-use Rattle.executor_model.proofs.RunsCalm.{poll_in}
-use Rattle.executor_model.proofs.SleepersCounting.{asleep}
-use Rattle.executor_model.proofs.Telling.{one-stray}
-use Rattle.runs_called.proofs.Beside.{holds_some, sits_of}
-use Rattle.runs_called.proofs.Sitting.{cond-other, eq_who, holds_it, is-cond, is_it, other}
-use Rattle.runs_called.proofs.Stands.{is_ready, is_answer, used_of, early_of, pends_of, refused_of, found_of, ends_of}
-use Rattle.runs_called.proofs.Stands.{rising_of, drops_of, drops_who, odd_of, strays_of, calls_of, Doing, early_section}
-use Rattle.runs_called.proofs.Stands.{odd_section, used_section, strays_section, stray, with_doing, Nothing}
-use Rattle.runs_called.proofs.Watched.{is_pending, is_refusal}
+use Rattle.executor_model.proofs.Steps.Lists.{weigh-append}
+use Rattle.executor_model.proofs.OwnQueues.RunsDone.{poll_in}
+use Rattle.executor_model.proofs.Steps.SleepersCounting.{asleep}
+use Rattle.executor_model.proofs.OneFuture.Telling.{one-stray}
+use Rattle.executor_laws.proofs.Wakeups.Beside.{holds_some, sits_of}
+use Rattle.executor_laws.proofs.Wakeups.Sitting.{cond-other, eq_who, holds_it, is-cond, is_it, other}
+use Rattle.executor_laws.proofs.Wakeups.Stands.{is_ready, is_answer, used_of, early_of, pends_of, refused_of, found_of, ends_of}
+use Rattle.executor_laws.proofs.Wakeups.Stands.{waking_up_of, drops_of, drops_who, odd_of, strays_of, calls_of, Doing, early_section}
+use Rattle.executor_laws.proofs.Wakeups.Stands.{used_section, strays_section, stray, with_doing, Nothing}
+use Rattle.executor_laws.proofs.Wakeups.Watched.{is_pending, is_refusal}
 
 -- each stage uses it
 
 pub end-parts : (a : Reply) (n : ℕ) →
     n ≡ (0 + (cond (is_pending a) n 0 + (cond (is_refusal a) n 0 + cond (is_ready a) n 0))) + cond (is_answer a) 0 n
 end-parts reply.Pending n = omega arith
-end-parts reply.NoMemory n = omega arith
-end-parts reply.Ready n = omega arith
-end-parts reply.Finished n = omega arith
 end-parts _ n = omega arith
 
 pub cond-few : (b : Bool) (n : ℕ) → cond b n 0 ≤ n
 cond-few true n = omega arith
 cond-few false n = omega arith
 
-abbrev pub stages_of : Sleeper → Op → ℕ
+abbrev pub stages_of : TickOrRun → Op → ℕ
 stages_of who o = early_of who o + (pends_of who o + (refused_of who o + (found_of who o + ends_of who o)))
 
-section-one : (who : Sleeper) (s : Section) → early_section who s ≤ used_section who s
+section-one : (who : TickOrRun) (s : Section) → early_section who s ≤ used_section who s
 section-one who section.MakeRun = omega arith
 section-one who (section.Register x) = omega arith
-section-one who (section.Unregister q a) = cond-few (is_ready a) (is_it who (sleeper.Run q))
+section-one who (section.Unregister q a) = cond-few (is_ready a) (is_it who (tick_or_run.Run q))
 
-pub stages-one : (who : Sleeper) (o : Op) → stages_of who o ≤ used_of who o
+pub stages-one : (who : TickOrRun) (o : Op) → stages_of who o ≤ used_of who o
 stages-one who (op.User (user_op.PollOwn x)) = omega arith
 stages-one who (op.Tick (tick_op.Search s)) = omega arith
-stages-one who (op.Tick (tick_op.CopyWaker s)) = omega arith
-stages-one who (op.Tick (tick_op.LieDown s)) = omega arith
 stages-one who (op.List (list_op.LockWrite s)) = omega (arith, section-one who s)
 stages-one who (op.List (list_op.Write s)) = omega (arith, section-one who s)
-stages-one who (op.List list_op.UnlockWrite) = omega arith
-stages-one who (op.List (list_op.LockRead x)) = omega arith
-stages-one who (op.List list_op.UnlockRead) = omega arith
-stages-one who (op.Steal o) = omega arith
-stages-one who (op.Run run_op.MakeRoom) = omega arith
-stages-one who (op.Run run_op.ReturnRoom) = omega arith
-stages-one who (op.Run (run_op.SearchCommon x)) = omega arith
-stages-one who (op.Run (run_op.LookOwn x at left)) = omega arith
-stages-one who (op.Run (run_op.WakeOwn x)) = omega arith
-stages-one who (op.Run (run_op.Reschedule q a)) = omega (arith, cond-few (is_ready a) (is_it who (sleeper.Run q)))
+stages-one who (op.Run (run_op.Reschedule q a)) = omega (arith, cond-few (is_ready a) (is_it who (tick_or_run.Run q)))
 stages-one who (op.End r held) = omega (arith, end-parts r (holds_it who held))
 stages-one who _ = omega arith
 
-stray-few : (who : Sleeper) (k : ℕ) (u : Sleeper) (n : ℕ) → stray who k u n ≤ is_it who u
+stray-few : (who : TickOrRun) (k : ℕ) (u : TickOrRun) (n : ℕ) → stray who k u n ≤ is_it who u
 stray-few who k u n = one-stray (eq_who who u) (k == n) (is_it who u) (is-cond who u)
 
-strays-section : (who : Sleeper) (k : ℕ) (s : Section) → strays_section who k s ≤ early_section who s
+strays-section : (who : TickOrRun) (k : ℕ) (s : Section) → strays_section who k s ≤ early_section who s
 strays-section who k section.MakeRun = omega arith
-strays-section who k (section.Register x) = stray-few who k (sleeper.Run x.run) x.poll
+strays-section who k (section.Register x) = stray-few who k (tick_or_run.Run x.run) x.poll
 strays-section who k (section.Unregister q a) = omega arith
 
-pub few-one : (who : Sleeper) (k : ℕ) (o : Op) → strays_of who k o ≤ early_of who o
-few-one who k (op.User (user_op.PollOwn x)) = stray-few who k (sleeper.Run x.run) x.poll
+pub few-one : (who : TickOrRun) (k : ℕ) (o : Op) → strays_of who k o ≤ early_of who o
+few-one who k (op.User (user_op.PollOwn x)) = stray-few who k (tick_or_run.Run x.run) x.poll
 few-one who k (op.Tick (tick_op.Search s)) = stray-few who k s.who s.poll
 few-one who k (op.Tick (tick_op.CopyWaker s)) = stray-few who k s.who s.poll
-few-one who k (op.Tick (tick_op.LieDown s)) = stray-few who k s.who s.poll
+few-one who k (op.Tick (tick_op.FallAsleep s)) = stray-few who k s.who s.poll
 few-one who k (op.List (list_op.LockWrite s)) = strays-section who k s
 few-one who k (op.List (list_op.Write s)) = strays-section who k s
-few-one who k (op.List list_op.UnlockWrite) = omega arith
-few-one who k (op.List (list_op.LockRead x)) = stray-few who k (sleeper.Run x.run) x.poll
-few-one who k (op.List list_op.UnlockRead) = omega arith
-few-one who k (op.Steal o) = stray-few who k (sleeper.Run (poll_in o).run) (poll_in o).poll
-few-one who k (op.Run run_op.MakeRoom) = omega arith
-few-one who k (op.Run run_op.ReturnRoom) = omega arith
-few-one who k (op.Run (run_op.SearchCommon x)) = stray-few who k (sleeper.Run x.run) x.poll
-few-one who k (op.Run (run_op.LookOwn x at left)) = stray-few who k (sleeper.Run x.run) x.poll
-few-one who k (op.Run (run_op.WakeOwn x)) = stray-few who k (sleeper.Run x.run) x.poll
-few-one who k (op.Run (run_op.Reschedule q a)) = omega arith
+few-one who k (op.List (list_op.LockRead x)) = stray-few who k (tick_or_run.Run x.run) x.poll
+few-one who k (op.Steal o) = stray-few who k (tick_or_run.Run (poll_in o).run) (poll_in o).poll
+few-one who k (op.Run (run_op.SearchCommon x)) = stray-few who k (tick_or_run.Run x.run) x.poll
+few-one who k (op.Run (run_op.LookOwn x at left)) = stray-few who k (tick_or_run.Run x.run) x.poll
+few-one who k (op.Run (run_op.WakeOwn x)) = stray-few who k (tick_or_run.Run x.run) x.poll
 few-one who k _ = omega arith
 
-pub drops-few : (who u : Sleeper) → drops_who who u ≤ is_it who u
-drops-few who (sleeper.Tick u) = omega arith
-drops-few who (sleeper.Run q) = omega arith
+pub drops-few : (who u : TickOrRun) → drops_who who u ≤ is_it who u
+drops-few who (tick_or_run.Tick u) = omega arith
+drops-few who (tick_or_run.Run q) = omega arith
 
-pub leaves-one : (who : Sleeper) (o : Op) → drops_of who o ≤ rising_of who o
+pub leaves-one : (who : TickOrRun) (o : Op) → drops_of who o ≤ waking_up_of who o
 leaves-one who (op.Tick (tick_op.Leave u)) = drops-few who u
 leaves-one who _ = omega arith
 
-odd-section : (who : Sleeper) (s : Section) → odd_section who s ≤ used_section who s
-odd-section who section.MakeRun = omega arith
-odd-section who (section.Register x) = omega arith
-odd-section who (section.Unregister q a) = cond-few (is_pending a || is_refusal a) (is_it who (sleeper.Run q))
-
 -- so nothing is to do with one that isn't used, no waker is copied for and none of which is called
-nothing-idle : (who : Sleeper) (o : Op) → used_of who o ≡ 0 → rising_of who o ≡ 0 → odd_of who o ≡ 0 →
+nothing-idle : (who : TickOrRun) (o : Op) → used_of who o ≡ 0 → waking_up_of who o ≡ 0 → odd_of who o ≡ 0 →
     ((k : ℕ) → calls_of who k o ≡ 0) → Nothing who (o ∷ [])
 nothing-idle who o z y l c = let s = stages-one who o in
     record {
@@ -124,7 +101,7 @@ nothing-idle who o z y l c = let s = stages-one who o in
       refused = omega (arith, z, s);
       found = omega (arith, z, s);
       ends = omega (arith, z, s);
-      rising = omega (arith, y);
+      waking_up = omega (arith, y);
       drops = omega (arith, y, leaves-one who o);
       odd = omega (arith, l);
       strays = λ k. omega (arith, z, s, few-one who k o);
@@ -133,18 +110,18 @@ nothing-idle who o z y l c = let s = stages-one who o in
 
 -- of another
 
-module _ (t u : Sleeper) (x : t ≢ u) where
+module _ (t u : TickOrRun) (x : t ≢ u) where
   pub nothing-search : (a : Waker) (k : ℕ) → Nothing t (op.Tick (tick_op.Search (asleep a u k)) ∷ [])
   nothing-search a k = nothing-idle t (op.Tick (tick_op.Search (asleep a u k))) (other t u x) refl refl (λ j. refl)
 
   pub nothing-copy : (a : Waker) (k : ℕ) → Nothing t (op.Tick (tick_op.CopyWaker (asleep a u k)) ∷ [])
   nothing-copy a k = nothing-idle t (op.Tick (tick_op.CopyWaker (asleep a u k))) (other t u x) refl refl (λ j. refl)
 
-  pub nothing-lie : (a : Waker) (k : ℕ) → Nothing t (op.Tick (tick_op.LieDown (asleep a u k)) ∷ [])
-  nothing-lie a k = nothing-idle t (op.Tick (tick_op.LieDown (asleep a u k))) (other t u x) refl refl (λ j. refl)
+  pub nothing-sleep : (a : Waker) (k : ℕ) → Nothing t (op.Tick (tick_op.FallAsleep (asleep a u k)) ∷ [])
+  nothing-sleep a k = nothing-idle t (op.Tick (tick_op.FallAsleep (asleep a u k))) (other t u x) refl refl (λ j. refl)
 
-  pub nothing-up : Nothing t (op.Tick (tick_op.GetUp u) ∷ [])
-  nothing-up = nothing-idle t (op.Tick (tick_op.GetUp u)) refl (other t u x) refl (λ j. refl)
+  pub nothing-up : Nothing t (op.Tick (tick_op.WakeUp u) ∷ [])
+  nothing-up = nothing-idle t (op.Tick (tick_op.WakeUp u)) refl (other t u x) refl (λ j. refl)
 
   pub nothing-leave : Nothing t (op.Tick (tick_op.Leave u) ∷ [])
   nothing-leave = nothing-idle t (op.Tick (tick_op.Leave u)) refl (other t u x) refl (λ j. refl)
@@ -156,52 +133,52 @@ module _ (t u : Sleeper) (x : t ≢ u) where
 
 -- of another run
 
-module _ (t : Sleeper) (q : ℕ) (a : Reply) (x : t ≢ sleeper.Run q) where
-  none-of : (b : Bool) → cond b (is_it t (sleeper.Run q)) 0 ≡ 0
-  none-of b = omega (arith, cond-few b (is_it t (sleeper.Run q)), other t (sleeper.Run q) x)
+module _ (t : TickOrRun) (q : ℕ) (a : Reply) (x : t ≢ tick_or_run.Run q) where
+  none-of : (b : Bool) → cond b (is_it t (tick_or_run.Run q)) 0 ≡ 0
+  none-of b = omega (arith, cond-few b (is_it t (tick_or_run.Run q)), other t (tick_or_run.Run q) x)
 
   pub nothing-section : Nothing t (op.List (list_op.Write (section.Unregister q a)) ∷ [])
-  nothing-section = nothing-idle t (op.List (list_op.Write (section.Unregister q a))) (other t (sleeper.Run q) x) refl
+  nothing-section = nothing-idle t (op.List (list_op.Write (section.Unregister q a))) (other t (tick_or_run.Run q) x) refl
       (none-of (is_pending a || is_refusal a)) (λ j. refl)
 
   pub nothing-left : Nothing t (op.Run (run_op.Reschedule q a) ∷ [])
-  nothing-left = nothing-idle t (op.Run (run_op.Reschedule q a)) (other t (sleeper.Run q) x) refl
+  nothing-left = nothing-idle t (op.Run (run_op.Reschedule q a)) (other t (tick_or_run.Run q) x) refl
       (none-of (is_pending a || is_refusal a)) (λ j. refl)
 
   pub nothing-locked : Nothing t (op.List (list_op.LockWrite (section.Unregister q a)) ∷ [])
-  nothing-locked = nothing-idle t (op.List (list_op.LockWrite (section.Unregister q a))) (other t (sleeper.Run q) x)
+  nothing-locked = nothing-idle t (op.List (list_op.LockWrite (section.Unregister q a))) (other t (tick_or_run.Run q) x)
       refl
       (none-of (is_pending a || is_refusal a)) (λ j. refl)
 
 -- the beginning of another run's poll
-pub nothing-polled : (t : Sleeper) (x : RunPoll) → t ≢ sleeper.Run x.run →
+pub nothing-polled : (t : TickOrRun) (x : RunPoll) → t ≢ tick_or_run.Run x.run →
     Nothing t (op.List (list_op.LockWrite (section.Register x)) ∷ []) × Nothing t (op.User (user_op.PollOwn x) ∷ [])
 nothing-polled t x n = (
-  nothing-idle t (op.List (list_op.LockWrite (section.Register x))) (other t (sleeper.Run x.run) n) refl refl
+  nothing-idle t (op.List (list_op.LockWrite (section.Register x))) (other t (tick_or_run.Run x.run) n) refl refl
       (λ j. refl),
-  nothing-idle t (op.User (user_op.PollOwn x)) (other t (sleeper.Run x.run) n) refl refl (λ j. refl),
+  nothing-idle t (op.User (user_op.PollOwn x)) (other t (tick_or_run.Run x.run) n) refl refl (λ j. refl),
 )
 
-pub nothing-woken : (t : Sleeper) (x : RunPoll) → t ≢ sleeper.Run x.run → Nothing t (op.Run (run_op.WakeOwn x) ∷ [])
+pub nothing-woken : (t : TickOrRun) (x : RunPoll) → t ≢ tick_or_run.Run x.run → Nothing t (op.Run (run_op.WakeOwn x) ∷ [])
 nothing-woken t x n =
-    nothing-idle t (op.Run (run_op.WakeOwn x)) (other t (sleeper.Run x.run) n) refl refl (λ j. refl)
+    nothing-idle t (op.Run (run_op.WakeOwn x)) (other t (tick_or_run.Run x.run) n) refl refl (λ j. refl)
 
 -- the end of a call that uses another or none
-pub nothing-end : (t : Sleeper) (r : Reply) (held : Hold) → holds_it t held ≡ 0 → Nothing t (op.End r held ∷ [])
+pub nothing-end : (t : TickOrRun) (r : Reply) (held : Hold) → holds_it t held ≡ 0 → Nothing t (op.End r held ∷ [])
 nothing-end t r held z = nothing-idle t (op.End r held) z refl refl (λ j. refl)
 
 -- what has nothing to do with any
 
-copy-none : (t : Sleeper) (held : Hold) → holds_some held ≡ 0 → holds_it t held ≡ 0
+copy-none : (t : TickOrRun) (held : Hold) → holds_some held ≡ 0 → holds_it t held ≡ 0
 copy-none t (hold.Tick u) z = absurd (omega (arith, z))
 copy-none t (hold.Run u) z = absurd (omega (arith, z))
 copy-none t _ z = refl
 
-used-free : (t : Sleeper) (o : Op) → sits_of o ≡ 0 → used_of t o ≡ 0
+used-free : (t : TickOrRun) (o : Op) → sits_of o ≡ 0 → used_of t o ≡ 0
 used-free t (op.User (user_op.PollOwn x)) z = absurd (omega (arith, z))
 used-free t (op.Tick (tick_op.Search s)) z = absurd (omega (arith, z))
 used-free t (op.Tick (tick_op.CopyWaker s)) z = absurd (omega (arith, z))
-used-free t (op.Tick (tick_op.LieDown s)) z = absurd (omega (arith, z))
+used-free t (op.Tick (tick_op.FallAsleep s)) z = absurd (omega (arith, z))
 used-free t (op.List (list_op.LockWrite section.MakeRun)) z = refl
 used-free t (op.List (list_op.LockWrite (section.Register x))) z = absurd (omega (arith, z))
 used-free t (op.List (list_op.LockWrite (section.Unregister q a))) z = absurd (omega (arith, z))
@@ -221,31 +198,27 @@ used-free t (op.Run (run_op.Reschedule q a)) z = absurd (omega (arith, z))
 used-free t (op.End r held) z = copy-none t held z
 used-free t _ z = refl
 
-rising-free : (t : Sleeper) (o : Op) → sits_of o ≡ 0 → rising_of t o ≡ 0
-rising-free t (op.Tick (tick_op.GetUp u)) z = absurd (omega (arith, z))
-rising-free t (op.Tick (tick_op.Leave u)) z = absurd (omega (arith, z))
-rising-free t _ z = refl
+waking_up-free : (t : TickOrRun) (o : Op) → sits_of o ≡ 0 → waking_up_of t o ≡ 0
+waking_up-free t (op.Tick (tick_op.WakeUp u)) z = absurd (omega (arith, z))
+waking_up-free t (op.Tick (tick_op.Leave u)) z = absurd (omega (arith, z))
+waking_up-free t _ z = refl
 
-odd-free : (t : Sleeper) (o : Op) → sits_of o ≡ 0 → odd_of t o ≡ 0
+odd-free : (t : TickOrRun) (o : Op) → sits_of o ≡ 0 → odd_of t o ≡ 0
 odd-free t (op.Waker (waker_op.CopyWaker f held)) z = copy-none t held z
-odd-free t (op.List (list_op.LockWrite section.MakeRun)) z = refl
-odd-free t (op.List (list_op.LockWrite (section.Register x))) z = refl
 odd-free t (op.List (list_op.LockWrite (section.Unregister q a))) z = absurd (omega (arith, z))
-odd-free t (op.List (list_op.Write section.MakeRun)) z = refl
-odd-free t (op.List (list_op.Write (section.Register x))) z = refl
 odd-free t (op.List (list_op.Write (section.Unregister q a))) z = absurd (omega (arith, z))
 odd-free t (op.Run (run_op.Reschedule q a)) z = absurd (omega (arith, z))
 odd-free t _ z = refl
 
-calls-free : (t : Sleeper) (k : ℕ) (o : Op) → sits_of o ≡ 0 → calls_of t k o ≡ 0
+calls-free : (t : TickOrRun) (k : ℕ) (o : Op) → sits_of o ≡ 0 → calls_of t k o ≡ 0
 calls-free t k (op.Sleeper (sleeper_op.CallSleeper s)) z = absurd (omega (arith, z))
 calls-free t k _ z = refl
 
-nothing-one : (t : Sleeper) (o : Op) → sits_of o ≡ 0 → Nothing t (o ∷ [])
+nothing-one : (t : TickOrRun) (o : Op) → sits_of o ≡ 0 → Nothing t (o ∷ [])
 nothing-one t o z =
-    nothing-idle t o (used-free t o z) (rising-free t o z) (odd-free t o z) (λ k. calls-free t k o z)
+    nothing-idle t o (used-free t o z) (waking_up-free t o z) (odd-free t o z) (λ k. calls-free t k o z)
 
-pub nothing-both : (t : Sleeper) (xs ys : List Op) → Nothing t xs → Nothing t ys → Nothing t (xs ++ ys)
+pub nothing-both : (t : TickOrRun) (xs ys : List Op) → Nothing t xs → Nothing t ys → Nothing t (xs ++ ys)
 nothing-both t xs ys a b = record {
   used = omega (arith, weigh-append (used_of t) xs ys, a.used, b.used);
   early = omega (arith, weigh-append (early_of t) xs ys, a.early, b.early);
@@ -253,14 +226,14 @@ nothing-both t xs ys a b = record {
   refused = omega (arith, weigh-append (refused_of t) xs ys, a.refused, b.refused);
   found = omega (arith, weigh-append (found_of t) xs ys, a.found, b.found);
   ends = omega (arith, weigh-append (ends_of t) xs ys, a.ends, b.ends);
-  rising = omega (arith, weigh-append (rising_of t) xs ys, a.rising, b.rising);
+  waking_up = omega (arith, weigh-append (waking_up_of t) xs ys, a.waking_up, b.waking_up);
   drops = omega (arith, weigh-append (drops_of t) xs ys, a.drops, b.drops);
   odd = omega (arith, weigh-append (odd_of t) xs ys, a.odd, b.odd);
   strays = λ k. omega (arith, weigh-append (strays_of t k) xs ys, a.strays k, b.strays k);
   calls = λ k. omega (arith, weigh-append (calls_of t k) xs ys, a.calls k, b.calls k);
 }
 
-pub nothing-of : (t : Sleeper) (os : List Op) → weigh sits_of os ≡ 0 → Nothing t os
+pub nothing-of : (t : TickOrRun) (os : List Op) → weigh sits_of os ≡ 0 → Nothing t os
 nothing-of t [] z =
     record {
       used = refl;
@@ -269,7 +242,7 @@ nothing-of t [] z =
       refused = refl;
       found = refl;
       ends = refl;
-      rising = refl;
+      waking_up = refl;
       drops = refl;
       odd = refl;
       strays = λ j. refl;
@@ -280,7 +253,7 @@ nothing-of t (o ∷ os) z =
 
 -- what stands in between has nothing to do with it
 
-pub with-middle : (t : Sleeper) (o : Op) (xs ys : List Op) (r : Doing) → Nothing t xs →
+pub with-middle : (t : TickOrRun) (o : Op) (xs ys : List Op) (r : Doing) → Nothing t xs →
     with_doing t (o ∷ xs ++ ys) r ≡ with_doing t (o ∷ ys) r
 with-middle t o xs ys r n = λ i. record {
   used = middle (used_of t) r.used n.used i;
@@ -289,7 +262,7 @@ with-middle t o xs ys r n = λ i. record {
   refused = middle (refused_of t) r.refused n.refused i;
   found = middle (found_of t) r.found n.found i;
   ends = middle (ends_of t) r.ends n.ends i;
-  rising = middle (rising_of t) r.rising n.rising i;
+  waking_up = middle (waking_up_of t) r.waking_up n.waking_up i;
   drops = middle (drops_of t) r.drops n.drops i;
   odd = middle (odd_of t) r.odd n.odd i;
   strays = λ k. middle (strays_of t k) (r.strays k) (n.strays k) i;
@@ -301,7 +274,7 @@ with-middle t o xs ys r n = λ i. record {
 
 -- what is in front has nothing to do with it
 
-pub with-front : (t : Sleeper) (xs ys : List Op) (r : Doing) → Nothing t xs →
+pub with-front : (t : TickOrRun) (xs ys : List Op) (r : Doing) → Nothing t xs →
     with_doing t (xs ++ ys) r ≡ with_doing t ys r
 with-front t xs ys r n = λ i. record {
   used = front (used_of t) r.used n.used i;
@@ -310,7 +283,7 @@ with-front t xs ys r n = λ i. record {
   refused = front (refused_of t) r.refused n.refused i;
   found = front (found_of t) r.found n.found i;
   ends = front (ends_of t) r.ends n.ends i;
-  rising = front (rising_of t) r.rising n.rising i;
+  waking_up = front (waking_up_of t) r.waking_up n.waking_up i;
   drops = front (drops_of t) r.drops n.drops i;
   odd = front (odd_of t) r.odd n.odd i;
   strays = λ k. front (strays_of t k) (r.strays k) (n.strays k) i;

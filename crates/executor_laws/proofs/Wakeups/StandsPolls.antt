@@ -1,3 +1,4 @@
+-- For some_standing_is_called.
 -- The beginning of a poll of a tick or run, and of its drop, keeps what holds of each.
 use Rattle.std.proofs.Common.{◌≡◌, ◌≢◌, ◌⊎◌, ◌∙◌, ℕ, zero, suc, ◌+◌, List, [], ◌∷◌, length, get_or, set}
 use Rattle.std.proofs.Common.{get_or-set_other, inl, inr, Bool, true, false, cond, refl, sym, ap, subst, arith}
@@ -14,25 +15,25 @@ use Rattle.executor_model.specs.declared.op.ListOp.TheVariants as list_op
 use Rattle.executor_model.specs.declared.op.Op.{Op}
 use Rattle.executor_model.specs.declared.op.RunOp.TheVariants as run_op
 use Rattle.executor_model.specs.declared.op.Section.TheVariants as section
-use Rattle.executor_model.specs.declared.op.Sleeper.{Sleeper}
-use Rattle.executor_model.specs.declared.op.Sleeper.TheVariants as sleeper
+use Rattle.executor_model.specs.declared.op.TickOrRun.{TickOrRun}
+use Rattle.executor_model.specs.declared.op.TickOrRun.TheVariants as tick_or_run
 use Rattle.executor_model.specs.declared.op.UserOp.TheVariants as user_op
-use Rattle.executor_model.specs.SleepersAgree.{lies}
+use Rattle.executor_model.specs.SleepersAgree.{sleeps}
 use Rattle.executor_model.specs.World.{World, Stage, New, Listed, Ended, Run, Done, done, log, no_run, put_run, run_of}
 use Rattle.executor_model.specs.Weights.{same, weigh}
 use Rattle.executor_model.specs.Steps.{drop_run, with_future}
-use Rattle.executor_model.proofs.TickLists.{same_self}
-use Rattle.executor_model.proofs.UsingWorlds.{count-set, is_over_stage}
-use Rattle.runs_called.proofs.Beside.{Beside, besides}
-use Rattle.runs_called.proofs.Listed.{sum, entry_of, kept_of, misplaced_of}
-use Rattle.runs_called.proofs.Sitting.{eq-other, eq-self, eq_who, lives_in, made_in, other, over_in, owned_in, place_in}
-use Rattle.runs_called.proofs.Stands.{View, view, Doing, with_doing, Footing, Stands, Nothing, Mark, KeepsBy}
-use Rattle.runs_called.proofs.Stands.{with-nothing, drops_of, ends_of, rising_of}
-use Rattle.runs_called.proofs.StandsNothing.{nothing-both, nothing-end, nothing-leave, nothing-locked, nothing-of}
-use Rattle.runs_called.proofs.StandsNothing.{nothing-left}
-use Rattle.runs_called.proofs.StandsOwn.{Parts, own-dropped, own-run_dropped}
-use Rattle.runs_called.proofs.StandsSeats.{field-set}
-use Rattle.runs_called.proofs.Watched.{Watched, parted, poll_begun, watched, watched-push, watches}
+use Rattle.executor_model.proofs.Sleepers.TickLists.{same_self}
+use Rattle.executor_model.proofs.OwnQueues.UsingWorlds.{count-set, is_over_stage}
+use Rattle.executor_laws.proofs.Wakeups.Beside.{Beside, besides}
+use Rattle.executor_laws.proofs.Wakeups.Listed.{sum, entry_of, kept_of, misplaced_of}
+use Rattle.executor_laws.proofs.Wakeups.Sitting.{eq-other, eq-self, eq_who, lives_in, made_in, other, over_in, owned_in, place_in}
+use Rattle.executor_laws.proofs.Wakeups.Stands.{View, view, Doing, with_doing, Footing, Stands, Nothing, Mark, KeepsBy}
+use Rattle.executor_laws.proofs.Wakeups.Stands.{with-nothing, drops_of, ends_of, waking_up_of}
+use Rattle.executor_laws.proofs.Wakeups.StandsNothing.{nothing-both, nothing-end, nothing-leave, nothing-locked, nothing-of}
+use Rattle.executor_laws.proofs.Wakeups.StandsNothing.{nothing-left}
+use Rattle.executor_laws.proofs.Wakeups.StandsOwn.{Parts, own-dropped, own-run_dropped}
+use Rattle.executor_laws.proofs.Wakeups.StandsSeats.{field-set}
+use Rattle.executor_laws.proofs.Wakeups.Watched.{Watched, parted, poll_begun, watched, watched-push, watches}
 
 -- the beginning of a call
 
@@ -44,15 +45,15 @@ abbrev pub inside : ℕ → Watched → Watched
 inside p s = record s { inner = s.inner + cond s.asking (same s.party p) 0 }
 
 -- a poll of it begins, or another call
-abbrev pub polls_at : Sleeper → Sleeper → ℕ → Mark → Mark
+abbrev pub polls_at : TickOrRun → TickOrRun → ℕ → Mark → Mark
 polls_at t u p m = cond (eq_who t u) (record { asking = true; party = p; inner = 0; asks = suc m.asks }) (begun_in p m)
 
-abbrev pub asked : ℕ → Call → Sleeper → Mark → Mark
-asked p (call.PollTick u b) t m = polls_at t (sleeper.Tick u) p m
-asked p (call.PollRun q b) t m = polls_at t (sleeper.Run q) p m
+abbrev pub asked : ℕ → Call → TickOrRun → Mark → Mark
+asked p (call.PollTick u b) t m = polls_at t (tick_or_run.Tick u) p m
+asked p (call.PollRun q b) t m = polls_at t (tick_or_run.Run q) p m
 asked p _ t m = begun_in p m
 
-view-begun : (t : Sleeper) (p : ℕ) (w : World) (c : Call) →
+view-begun : (t : TickOrRun) (p : ℕ) (w : World) (c : Call) →
     view t (log w (event.CallBegun p c)) ≡ record (view t w) { seen = inside p (watched t w.trace) }
 view-begun t p w c = ap (λ (s : Watched). let v : View = record (view t w) { seen = s } in v)
     (watched-push t w.trace (event.CallBegun p c))
@@ -62,7 +63,7 @@ pub stands-inside : (p : ℕ) (v : View) (x : Doing) (m : Mark) → Stands v x m
 stands-inside p v x m h = grind arith
 
 -- it has nothing to do with any
-pub begins-beside : (t : Sleeper) (p : ℕ) (w : World) (c : Call) (d : Done) → Beside (log w (event.CallBegun p c)) d →
+pub begins-beside : (t : TickOrRun) (p : ℕ) (w : World) (c : Call) (d : Done) → Beside (log w (event.CallBegun p c)) d →
     KeepsBy t w [] d (begun_in p)
 begins-beside t p w c d b r m f h =
     subst (λ (y : View × Doing). Stands y.0 y.1 (begun_in p m))
@@ -72,7 +73,7 @@ begins-beside t p w c d b r m f h =
           ∙ sym (with-nothing t d.next r (nothing-of t d.next b.none))) i,
     )) (stands-inside p (view t w) (with_doing t [] r) m h)
 
-pub begins-with : (t : Sleeper) (p : ℕ) (w : World) (c : Call) (x : Option ℕ) (d : ℕ → Done) →
+pub begins-with : (t : TickOrRun) (p : ℕ) (w : World) (c : Call) (x : Option ℕ) (d : ℕ → Done) →
     ((f : ℕ) → Beside (log w (event.CallBegun p c)) (d f)) →
     KeepsBy t w [] (with_future (log w (event.CallBegun p c)) x d) (begun_in p)
 begins-with t p w c None d k =
@@ -81,7 +82,7 @@ begins-with t p w c (Some f) d k = begins-beside t p w c (d f) (k f)
 
 -- a poll of u
 
-module _ (t u : Sleeper) (p : ℕ) (w : World) (c : Call) (e : Event)
+module _ (t u : TickOrRun) (p : ℕ) (w : World) (c : Call) (e : Event)
     (polls : (n : ℕ) (s : Watched) → watches t n e s ≡ cond (eq_who t u) (poll_begun n p s) s) where
   abbrev pub begin : World
   begin = log w (event.CallBegun p c)
@@ -133,7 +134,7 @@ module _ (t u : Sleeper) (p : ℕ) (w : World) (c : Call) (e : Event)
 
 -- its drop
 
-module _ (t u : Sleeper) (p : ℕ) (w v : World) (c : Call) (e : Event)
+module _ (t u : TickOrRun) (p : ℕ) (w v : World) (c : Call) (e : Event)
     (parts : (n : ℕ) (s : Watched) → watches t n e s ≡ cond (eq_who t u) (parted s) s)
     (trace : v.trace ≡ (log (log w (event.CallBegun p c)) e).trace) where
   seen-parted : (b : Bool) → eq_who t u ≡ b →
@@ -145,36 +146,36 @@ module _ (t u : Sleeper) (p : ℕ) (w v : World) (c : Call) (e : Event)
       (watched t (log w (event.CallBegun p c)).trace)) q
       ∙ ap (λ (s : Watched). cond b (parted s) s) (watched-push t w.trace (event.CallBegun p c)))))
 
-module _ (t : Sleeper) (p : ℕ) (w : World) (u : ℕ) where
+module _ (t : TickOrRun) (p : ℕ) (w : World) (u : ℕ) where
   abbrev pub dropped : Done
   dropped = done (log (log w (event.CallBegun p (call.DropTick u))) (event.TickDropped p u))
-      (op.Tick (tick_op.Leave (sleeper.Tick u)) ∷ op.End reply.Done (hold.Tick u) ∷ [])
+      (op.Tick (tick_op.Leave (tick_or_run.Tick u)) ∷ op.End reply.Done (hold.Tick u) ∷ [])
 
-  view-dropped : (b : Bool) → eq_who t (sleeper.Tick u) ≡ b → view t dropped.world ≡ record (view t w) {
+  view-dropped : (b : Bool) → eq_who t (tick_or_run.Tick u) ≡ b → view t dropped.world ≡ record (view t w) {
     seen = cond b (parted (inside p (watched t w.trace))) (inside p (watched t w.trace));
   }
   view-dropped b q = ap (λ (s : Watched). let v : View = record (view t w) { seen = s } in v)
-      (seen-parted t (sleeper.Tick u) p w dropped.world (call.DropTick u) (event.TickDropped p u)
+      (seen-parted t (tick_or_run.Tick u) p w dropped.world (call.DropTick u) (event.TickDropped p u)
       (λ n s. refl) refl b q)
 
-  pub other-dropped : t ≢ sleeper.Tick u → KeepsBy t w [] dropped (begun_in p)
+  pub other-dropped : t ≢ tick_or_run.Tick u → KeepsBy t w [] dropped (begun_in p)
   other-dropped x r m f h =
       subst (λ (y : View × Doing). Stands y.0 y.1 (begun_in p m))
       (λ i. (
-        sym (view-dropped false (eq-other t (sleeper.Tick u) x)) i,
+        sym (view-dropped false (eq-other t (tick_or_run.Tick u) x)) i,
         (with-nothing t [] r (nothing-of t [] refl) ∙ sym (with-nothing t dropped.next r
-            (nothing-both t (op.Tick (tick_op.Leave (sleeper.Tick u)) ∷ []) (op.End reply.Done (hold.Tick u) ∷ [])
-            (nothing-leave t (sleeper.Tick u) x)
-            (nothing-end t reply.Done (hold.Tick u) (other t (sleeper.Tick u) x))))) i,
+            (nothing-both t (op.Tick (tick_op.Leave (tick_or_run.Tick u)) ∷ []) (op.End reply.Done (hold.Tick u) ∷ [])
+            (nothing-leave t (tick_or_run.Tick u) x)
+            (nothing-end t reply.Done (hold.Tick u) (other t (tick_or_run.Tick u) x))))) i,
       )) (stands-inside p (view t w) (with_doing t [] r) m h)
 
-pub own-drop : (p : ℕ) (w : World) (u : ℕ) (r : Doing) (m : Mark) → (view (sleeper.Tick u) w).living ≡ true →
-    (view (sleeper.Tick u) w).made ≡ true → r.used ≡ 0 → Footing (with_doing (sleeper.Tick u) [] r) r →
-    Stands (view (sleeper.Tick u) w) (with_doing (sleeper.Tick u) [] r) m →
-    Stands (view (sleeper.Tick u) (dropped (sleeper.Tick u) p w u).world)
-    (with_doing (sleeper.Tick u) (dropped (sleeper.Tick u) p w u).next r) (begun_in p m)
+pub own-drop : (p : ℕ) (w : World) (u : ℕ) (r : Doing) (m : Mark) → (view (tick_or_run.Tick u) w).living ≡ true →
+    (view (tick_or_run.Tick u) w).made ≡ true → r.used ≡ 0 → Footing (with_doing (tick_or_run.Tick u) [] r) r →
+    Stands (view (tick_or_run.Tick u) w) (with_doing (tick_or_run.Tick u) [] r) m →
+    Stands (view (tick_or_run.Tick u) (dropped (tick_or_run.Tick u) p w u).world)
+    (with_doing (tick_or_run.Tick u) (dropped (tick_or_run.Tick u) p w u).next r) (begun_in p m)
 own-drop p w u r m l d z f h =
-    let t : Sleeper = sleeper.Tick u in
+    let t : TickOrRun = tick_or_run.Tick u in
     let one : same u u ≡ 1 = same_self u in
     subst (λ (y : View). Stands y (with_doing t (dropped t p w u).next r) (begun_in p m))
     (sym (view-dropped t p w u true (eq-self t)))
@@ -193,7 +194,7 @@ own-drop p w u r m l d z f h =
 
 -- the drop of a run
 
-module _ (t : Sleeper) (p : ℕ) (w : World) (q : ℕ) where
+module _ (t : TickOrRun) (p : ℕ) (w : World) (q : ℕ) where
   abbrev base : World
   base = log w (event.CallBegun p (call.DropRun q))
 
@@ -203,29 +204,29 @@ module _ (t : Sleeper) (p : ℕ) (w : World) (q : ℕ) where
   abbrev pub parting : World
   parting = log (put_run base q off) (event.RunDropped p q)
 
-  seen-off : (b : Bool) → eq_who t (sleeper.Run q) ≡ b →
+  seen-off : (b : Bool) → eq_who t (tick_or_run.Run q) ≡ b →
       watched t parting.trace ≡ cond b (parted (inside p (watched t w.trace))) (inside p (watched t w.trace))
   seen-off b k =
-      seen-parted t (sleeper.Run q) p w parting (call.DropRun q) (event.RunDropped p q) (λ n s. refl) refl b k
+      seen-parted t (tick_or_run.Run q) p w parting (call.DropRun q) (event.RunDropped p q) (λ n s. refl) refl b k
 
-  placed-off : (u : Sleeper) → place_in u w.ticks parting.runs ≡ place_in u w.ticks w.runs
-  placed-off (sleeper.Tick n) = refl
-  placed-off (sleeper.Run r) = field-set (λ (x : Run). x.place) w.runs q off refl r
+  placed-off : (u : TickOrRun) → place_in u w.ticks parting.runs ≡ place_in u w.ticks w.runs
+  placed-off (tick_or_run.Tick n) = refl
+  placed-off (tick_or_run.Run r) = field-set (λ (x : Run). x.place) w.runs q off refl r
 
-  made-off : (u : Sleeper) → made_in u w.ticks parting.runs ≡ made_in u w.ticks w.runs
-  made-off (sleeper.Tick n) = refl
-  made-off (sleeper.Run r) = ap (nat_lt r) (count-set w.runs q off)
+  made-off : (u : TickOrRun) → made_in u w.ticks parting.runs ≡ made_in u w.ticks w.runs
+  made-off (tick_or_run.Tick n) = refl
+  made-off (tick_or_run.Run r) = ap (nat_lt r) (count-set w.runs q off)
 
-  over-off : (u : Sleeper) → over_in u parting.runs ≡ over_in u w.runs
-  over-off (sleeper.Tick n) = refl
-  over-off (sleeper.Run r) = field-set (λ (x : Run). is_over_stage x.stage) w.runs q off refl r
+  over-off : (u : TickOrRun) → over_in u parting.runs ≡ over_in u w.runs
+  over-off (tick_or_run.Tick n) = refl
+  over-off (tick_or_run.Run r) = field-set (λ (x : Run). is_over_stage x.stage) w.runs q off refl r
 
-  view-off : (b : Bool) → eq_who t (sleeper.Run q) ≡ b → view t parting ≡ record (view t w) {
+  view-off : (b : Bool) → eq_who t (tick_or_run.Run q) ≡ b → view t parting ≡ record (view t w) {
     living = lives_in t w.ticks parting.runs;
     seen = cond b (parted (inside p (watched t w.trace))) (inside p (watched t w.trace));
   }
   view-off b k = λ i. record {
-    lying = lies (placed-off t i);
+    slumbering = sleeps (placed-off t i);
     living = lives_in t w.ticks parting.runs;
     made = made-off t i;
     over = over-off t i;
@@ -237,15 +238,15 @@ module _ (t : Sleeper) (p : ℕ) (w : World) (q : ℕ) where
     seen = seen-off b k i;
   }
 
-lives-off : (t : Sleeper) (p : ℕ) (w : World) (q : ℕ) → t ≢ sleeper.Run q →
+lives-off : (t : TickOrRun) (p : ℕ) (w : World) (q : ℕ) → t ≢ tick_or_run.Run q →
     lives_in t w.ticks (parting t p w q).runs ≡ lives_in t w.ticks w.runs
-lives-off (sleeper.Tick n) p w q x = refl
-lives-off (sleeper.Run r) p w q x = ap (λ (y : Run). not y.dropped)
+lives-off (tick_or_run.Tick n) p w q x = refl
+lives-off (tick_or_run.Run r) p w q x = ap (λ (y : Run). not y.dropped)
     (get_or-set_other w.runs q r (record (run_of w q) { dropped = true }) no_run
-    (λ e. x (ap (λ (n : ℕ). sleeper.Run n) e)))
+    (λ e. x (ap (λ (n : ℕ). tick_or_run.Run n) e)))
 
 dropped-off : (p : ℕ) (w : World) (q : ℕ) →
-    lives_in (sleeper.Run q) w.ticks (parting (sleeper.Run q) p w q).runs ≡ false
+    lives_in (tick_or_run.Run q) w.ticks (parting (tick_or_run.Run q) p w q).runs ≡ false
 dropped-off p w q = by w.runs q
   where
     by : (rs : List Run) (q : ℕ) →
@@ -254,29 +255,29 @@ dropped-off p w q = by w.runs q
     by (x ∷ rs) zero = refl
     by (x ∷ rs) (suc q) = by rs q
 
-nothing-drop : (s : Stage) (t : Sleeper) (q : ℕ) → t ≢ sleeper.Run q → Nothing t (drop_run s q)
+nothing-drop : (s : Stage) (t : TickOrRun) (q : ℕ) → t ≢ tick_or_run.Run q → Nothing t (drop_run s q)
 nothing-drop New t q x = nothing-both t (op.User (user_op.DropOwn q) ∷ [])
     (op.Run (run_op.Reschedule q reply.Done) ∷ []) (nothing-of t _ refl) (nothing-left t q reply.Done x)
 nothing-drop Listed t q x = nothing-both t (op.User (user_op.DropOwn q) ∷ [])
     (op.List (list_op.LockWrite (section.Unregister q reply.Done)) ∷ []) (nothing-of t _ refl)
     (nothing-locked t q reply.Done x)
-nothing-drop Ended t q x = nothing-both t (op.Tick (tick_op.Leave (sleeper.Run q)) ∷ [])
+nothing-drop Ended t q x = nothing-both t (op.Tick (tick_op.Leave (tick_or_run.Run q)) ∷ [])
     (op.End reply.Done (hold.Run q) ∷ [])
-    (nothing-leave t (sleeper.Run q) x) (nothing-end t reply.Done (hold.Run q) (other t (sleeper.Run q) x))
+    (nothing-leave t (tick_or_run.Run q) x) (nothing-end t reply.Done (hold.Run q) (other t (tick_or_run.Run q) x))
 
-pub other-drop : (s : Stage) (t : Sleeper) (p : ℕ) (w : World) (q : ℕ) → t ≢ sleeper.Run q →
+pub other-drop : (s : Stage) (t : TickOrRun) (p : ℕ) (w : World) (q : ℕ) → t ≢ tick_or_run.Run q →
     KeepsBy t w [] (done (parting t p w q) (drop_run s q)) (begun_in p)
 other-drop s t p w q x r m f h =
     subst (λ (y : View × Doing). Stands y.0 y.1 (begun_in p m))
     (λ i. (
-      sym (view-off t p w q false (eq-other t (sleeper.Run q) x)
+      sym (view-off t p w q false (eq-other t (tick_or_run.Run q) x)
           ∙ ap (λ (l : Bool). let v : View = record (view t w) { living = l; seen = inside p (watched t w.trace) } in v)
           (lives-off t p w q x)) i,
       (with-nothing t [] r (nothing-of t [] refl)
           ∙ sym (with-nothing t (drop_run s q) r (nothing-drop s t q x))) i,
     )) (stands-inside p (view t w) (with_doing t [] r) m h)
 
-parts-run : (s : Stage) (q : ℕ) → Parts (sleeper.Run q) (drop_run s q)
+parts-run : (s : Stage) (q : ℕ) → Parts (tick_or_run.Run q) (drop_run s q)
 parts-run New q = let one : same q q ≡ 1 = same_self q in record {
   used = omega (arith, one);
   early = refl;
@@ -309,13 +310,13 @@ parts-run Ended q = let one : same q q ≡ 1 = same_self q in record {
 }
 
 pub own-off : (s : Stage) (p : ℕ) (w : World) (q : ℕ) (r : Doing) (m : Mark) → (run_of w q).stage ≡ s →
-    (view (sleeper.Run q) w).living ≡ true →
-    (view (sleeper.Run q) w).made ≡ true → r.used ≡ 0 → Footing (with_doing (sleeper.Run q) [] r) r →
-    Stands (view (sleeper.Run q) w) (with_doing (sleeper.Run q) [] r) m →
-    Stands (view (sleeper.Run q) (parting (sleeper.Run q) p w q)) (with_doing (sleeper.Run q) (drop_run s q) r)
+    (view (tick_or_run.Run q) w).living ≡ true →
+    (view (tick_or_run.Run q) w).made ≡ true → r.used ≡ 0 → Footing (with_doing (tick_or_run.Run q) [] r) r →
+    Stands (view (tick_or_run.Run q) w) (with_doing (tick_or_run.Run q) [] r) m →
+    Stands (view (tick_or_run.Run q) (parting (tick_or_run.Run q) p w q)) (with_doing (tick_or_run.Run q) (drop_run s q) r)
     (begun_in p m)
 own-off s p w q r m e l d z f h =
-    let t : Sleeper = sleeper.Run q in
+    let t : TickOrRun = tick_or_run.Run q in
     subst (λ (y : View). Stands y (with_doing t (drop_run s q) r) (begun_in p m))
     (sym (view-off t p w q true (eq-self t)
     ∙ ap (λ (b : Bool). let v : View = record (view t w) {
@@ -327,14 +328,14 @@ own-off s p w q r m e l d z f h =
     (own-run_dropped t (record (view t w) { seen = inside p (watched t w.trace) }) (drop_run s q) r (begun_in p m) l d z
     (parts-run s q) (none s) (leaves s e) f (stands-inside p (view t w) (with_doing t [] r) m h))
   where
-    none : (s : Stage) → weigh (drops_of (sleeper.Run q)) (drop_run s q) ≡ 0
+    none : (s : Stage) → weigh (drops_of (tick_or_run.Run q)) (drop_run s q) ≡ 0
     none New = refl
     none Listed = refl
     none Ended = refl
 
     leaves : (s : Stage) → (run_of w q).stage ≡ s →
-        ((weigh (rising_of (sleeper.Run q)) (drop_run s q) ≡ 0) × (weigh (ends_of (sleeper.Run q)) (drop_run s q) ≡ 0))
-        ⊎ ((weigh (rising_of (sleeper.Run q)) (drop_run s q) ≡ 1) × (over_in (sleeper.Run q) w.runs ≡ true))
+        ((weigh (waking_up_of (tick_or_run.Run q)) (drop_run s q) ≡ 0) × (weigh (ends_of (tick_or_run.Run q)) (drop_run s q) ≡ 0))
+        ⊎ ((weigh (waking_up_of (tick_or_run.Run q)) (drop_run s q) ≡ 1) × (over_in (tick_or_run.Run q) w.runs ≡ true))
     leaves New k = inl (refl, refl)
     leaves Listed k = inl (refl, refl)
     leaves Ended k = inr (let one : same q q ≡ 1 = same_self q in omega (arith, one), ap is_over_stage k)

@@ -1,10 +1,11 @@
+-- For some_standing_is_called.
 -- At a quiet trace where a future is due and some tick or run stands, one that stands is called.
 use Rattle.std.proofs.Common.{◌≡◌, ◌⊎◌, ◌∙◌, ℕ, suc, ◌+◌, ◌<◌, ◌≤◌, List, [], length, drop, get_or, zero, Bool, true}
 use Rattle.std.proofs.Common.{false, refl, sym, ap, subst, inl, inr, ⊎_elim, arith}
 use Rattle.executor_model.specs.declared.call.Reply.{Reply}
 use Rattle.executor_model.specs.declared.call.Reply.TheVariants as reply
-use Rattle.executor_model.specs.declared.op.Sleeper.{Sleeper}
-use Rattle.executor_model.specs.declared.op.Sleeper.TheVariants as sleeper
+use Rattle.executor_model.specs.declared.op.TickOrRun.{TickOrRun}
+use Rattle.executor_model.specs.declared.op.TickOrRun.TheVariants as tick_or_run
 use Rattle.executor_model.specs.declared.step.Step.{Step}
 use Rattle.executor_model.specs.AwaiterKept.{EndsWith, since}
 use Rattle.executor_model.specs.Due.{IsDue}
@@ -12,37 +13,37 @@ use Rattle.executor_model.specs.Good.{Good}
 use Rattle.executor_model.specs.OwnQueues.{OwnQueueHasRunner}
 use Rattle.executor_model.specs.Quiet.{IsQuiet}
 use Rattle.executor_model.specs.Rows.{running_of}
-use Rattle.executor_model.specs.SleepersAgree.{SomeoneNotified, lies}
+use Rattle.executor_model.specs.SleepersAgree.{SomeoneNotified, sleeps}
 use Rattle.executor_model.specs.SleepersTold.{SleepersAreTold, tells_of}
 use Rattle.executor_model.specs.Sound.{times, times_in}
 use Rattle.executor_model.specs.Standing.{LastPolled, Stands as StandsSo, WasCalled, calls_poll, drops_sleeper}
 use Rattle.executor_model.specs.Steps.{Machine, stack, run, start}
 use Rattle.executor_model.specs.Trace.{has}
 use Rattle.executor_model.specs.Weights.{weigh_all}
-use Rattle.executor_model.specs.World.{World, Place, Up, Lies, Left, own_of}
-use Rattle.executor_model.proofs.AskingRuns.{Heard, heard}
-use Rattle.executor_model.proofs.Holding.{nowhere, Spotted, seen}
-use Rattle.executor_model.proofs.Lift.{good}
-use Rattle.executor_model.proofs.OwnRunners.{own-queue-has-runner}
-use Rattle.executor_model.proofs.Resting.{Deep, deep, rests, all-rest}
-use Rattle.executor_model.proofs.SleepersFollowingRuns.{agrees}
-use Rattle.executor_model.proofs.SleepersTellingRuns.{are_told}
-use Rattle.runs_called.specs.Called.{NoneRefused, OneCalled, SomeStandingIsCalled, WasRefused}
-use Rattle.runs_called.proofs.Listed.{sum, entry_of, kept_of, misplaced_of}
-use Rattle.runs_called.proofs.Queued.{Holder, due-queued, holder, times-length}
-use Rattle.runs_called.proofs.Stands.{view, Doing, doing, Stands, asks_of, early_of, pends_of, refused_of, found_of}
-use Rattle.runs_called.proofs.Stands.{calls_of, drops_of, ends_of, odd_of, rising_of, strays_of, used_of}
-use Rattle.runs_called.proofs.StandsAnswers.{IsOver, Outcome, outcome-from, ends-with, one-end}
-use Rattle.runs_called.proofs.StandsAnswers.Outcome.{unended, ended}
-use Rattle.runs_called.proofs.StandsEnds.{marked}
-use Rattle.runs_called.proofs.StandsMachine.{standing}
-use Rattle.runs_called.proofs.StandsSteps.{Standing}
-use Rattle.runs_called.proofs.StandsMissing.{Missing, lying-here, missing}
-use Rattle.runs_called.proofs.StandsTelling.{LastPoll, last-poll, Begun, begun-at, calls-is, drops-is, left-has}
-use Rattle.runs_called.proofs.StandsTelling.{poll-from, called-from, has-later, polls-is, polls_it, drops_it, unasked}
-use Rattle.runs_called.proofs.StandsWeights.{nothing_done}
-use Rattle.runs_called.proofs.StandsWorlds.{kept-few, entries-astray, place_here}
-use Rattle.runs_called.proofs.Watched.{Watched, watched, watched_from, is_pending, is_refusal, poll_begun}
+use Rattle.executor_model.specs.World.{World, Ticker, Awake, Asleep, Left, own_of}
+use Rattle.executor_model.proofs.Polls.AskingExecutions.{Heard, heard}
+use Rattle.executor_model.proofs.Awaiters.Holding.{nowhere, Spotted, seen}
+use Rattle.executor_model.proofs.Steps.Lift.{good}
+use Rattle.executor_model.proofs.OwnQueues.OwnRunners.{own-queue-has-runner}
+use Rattle.executor_model.proofs.Quiet.Resting.{Deep, deep, rests, all-rest}
+use Rattle.executor_model.proofs.Sleepers.SleepersFollowingExecutions.{agrees}
+use Rattle.executor_model.proofs.Sleepers.SleepersTellingExecutions.{are_told}
+use Rattle.executor_laws.specs.Called.{NoneRefused, OneCalled, SomeStandingIsCalled, WasRefused}
+use Rattle.executor_laws.proofs.Wakeups.Listed.{sum, entry_of, kept_of, misplaced_of}
+use Rattle.executor_laws.proofs.Wakeups.Queued.{Holder, due-queued, holder, times-length}
+use Rattle.executor_laws.proofs.Wakeups.Stands.{view, Doing, doing, Stands, asks_of, early_of, pends_of, refused_of, found_of}
+use Rattle.executor_laws.proofs.Wakeups.Stands.{calls_of, drops_of, ends_of, odd_of, waking_up_of, strays_of, used_of}
+use Rattle.executor_laws.proofs.Wakeups.StandsAnswers.{IsOver, Outcome, outcome-from, ends-with, one-end}
+use Rattle.executor_laws.proofs.Wakeups.StandsAnswers.Outcome.{unended, ended}
+use Rattle.executor_laws.proofs.Wakeups.StandsEnds.{marked}
+use Rattle.executor_laws.proofs.Wakeups.StandsMachine.{standing}
+use Rattle.executor_laws.proofs.Wakeups.StandsSteps.{Standing}
+use Rattle.executor_laws.proofs.Wakeups.StandsMissing.{Missing, slumbering-here, missing}
+use Rattle.executor_laws.proofs.Wakeups.StandsTelling.{LastPoll, last-poll, Begun, begun-at, calls-is, drops-is, left-has}
+use Rattle.executor_laws.proofs.Wakeups.StandsTelling.{poll-from, called-from, has-later, polls-is, polls_it, drops_it, unasked}
+use Rattle.executor_laws.proofs.Wakeups.StandsWeights.{nothing_done}
+use Rattle.executor_laws.proofs.Wakeups.StandsWorlds.{kept-few, entries-astray, place_here}
+use Rattle.executor_laws.proofs.Wakeups.Watched.{Watched, watched, watched_from, is_pending, is_refusal, poll_begun}
 
 pends-only : (r : Reply) → is_pending r ≡ true → r ≡ reply.Pending
 pends-only reply.Pending e = refl
@@ -59,23 +60,23 @@ not-true true k = absurd (k refl)
 both-ways : (b : Bool) → b ≡ true → b ≡ false → ⊥
 both-ways b e k = let no : true ≡ false = sym e ∙ k in cc
 
--- who has an entry under its number lies
-entry-lies : (w : World) (t : Sleeper) → sum (misplaced_of t (place_here w t)) w.sleepers.wakers ≡ 0 →
+-- who has an entry under its number sleeps
+entry-sleeps : (w : World) (t : TickOrRun) → sum (misplaced_of t (place_here w t)) w.sleepers.wakers ≡ 0 →
     1 ≤ sum (entry_of t) w.sleepers.wakers →
-    1 ≤ lies (place_here w t)
-entry-lies w t z h = by (place_here w t) z
+    1 ≤ sleeps (place_here w t)
+entry-sleeps w t z h = by (place_here w t) z
   where
-    by : (x : Place) → sum (misplaced_of t x) w.sleepers.wakers ≡ 0 → 1 ≤ lies x
-    by Up q = absurd (omega (arith, h, q, entries-astray t Up w.sleepers.wakers (λ n. refl)))
+    by : (x : Ticker) → sum (misplaced_of t x) w.sleepers.wakers ≡ 0 → 1 ≤ sleeps x
+    by Awake q = absurd (omega (arith, h, q, entries-astray t Awake w.sleepers.wakers (λ n. refl)))
     by Left q = absurd (omega (arith, h, q, entries-astray t Left w.sleepers.wakers (λ n. refl)))
-    by (Lies n) q = omega arith
+    by (Asleep n) q = omega arith
 
 module _ (s : Machine) (fine : Good s) (hs : Heard s) (ds : Deep s) (told : SleepersAreTold s)
     (runner : (r : ℕ) → OwnQueueHasRunner s r) (st : Standing s) (quiet : IsQuiet s.world.trace) where
   idle : (q : ℕ) → stack s q ≡ []
   idle q = rests s ds quiet q
 
-  nothing : (t : Sleeper) → doing t s.parties ≡ nothing_done
+  nothing : (t : TickOrRun) → doing t s.parties ≡ nothing_done
   nothing t = λ i. record {
     used = all-rest (used_of t) s.parties idle i;
     early = all-rest (early_of t) s.parties idle i;
@@ -83,24 +84,24 @@ module _ (s : Machine) (fine : Good s) (hs : Heard s) (ds : Deep s) (told : Slee
     refused = all-rest (refused_of t) s.parties idle i;
     found = all-rest (found_of t) s.parties idle i;
     ends = all-rest (ends_of t) s.parties idle i;
-    rising = all-rest (rising_of t) s.parties idle i;
+    waking_up = all-rest (waking_up_of t) s.parties idle i;
     drops = all-rest (drops_of t) s.parties idle i;
     odd = all-rest (odd_of t) s.parties idle i;
     strays = λ k. all-rest (strays_of t k) s.parties idle i;
     calls = λ k. all-rest (calls_of t k) s.parties idle i;
   }
 
-  stands-here : (t : Sleeper) → Stands (view t s.world) nothing_done (marked (view t s.world) nothing_done)
+  stands-here : (t : TickOrRun) → Stands (view t s.world) nothing_done (marked (view t s.world) nothing_done)
   stands-here t = subst (λ (x : Doing). Stands (view t s.world) x (marked (view t s.world) x)) (nothing t) (st.stands t)
 
-  unasking : (t : Sleeper) → (watched t s.world.trace).asking ≡ true → ⊥
+  unasking : (t : TickOrRun) → (watched t s.world.trace).asking ≡ true → ⊥
   unasking t e = let x : Spotted (watched t s.world.trace).inner (seen (asks_of t) nowhere []) =
       subst (λ os. Spotted (watched t s.world.trace).inner (seen (asks_of t) nowhere os))
       (idle (watched t s.world.trace).party)
       (st.held t e) in both-ways true refl (sym x.0)
 
   -- the last poll of one that lives
-  module _ (t : Sleeper) (party poll : ℕ) (last : LastPolled t party poll s.world.trace)
+  module _ (t : TickOrRun) (party poll : ℕ) (last : LastPolled t party poll s.world.trace)
       (lives : has (drops_sleeper t) s.world.trace ≡ false) where
     unpolled : has (polls_it t) (since poll s.world.trace) ≡ false
     unpolled = sym (polls-is t (since poll s.world.trace)) ∙ last.last
@@ -153,18 +154,18 @@ module _ (s : Machine) (fine : Good s) (hs : Heard s) (ds : Deep s) (told : Slee
         by (ended q e o) = subst (λ (x : Reply). EndsWith party x (since poll s.world.trace)) (k q o)
             (ends-with party q (since poll s.world.trace) e)
 
-  abbrev Replied : Sleeper → Type 0
+  abbrev Replied : TickOrRun → Type 0
   Replied u = ((watched u s.world.trace).pending ≡ true) ⊎ ((watched u s.world.trace).refused ≡ true)
 
-  -- who lies, or keeps something, was answered so
-  replied : (u : Sleeper) → ((watched u s.world.trace).pending ≡ true) ⊎
+  -- who sleeps, or keeps something, was answered so
+  replied : (u : TickOrRun) → ((watched u s.world.trace).pending ≡ true) ⊎
       (((watched u s.world.trace).refused ≡ true) ⊎ (1 ≤ 0)) → Replied u
   replied u (inl x) = inl x
   replied u (inr (inl x)) = inr x
   replied u (inr (inr x)) = absurd (omega (arith, x))
 
   -- it lives, and has a last poll
-  module _ (u : Sleeper) (so : Replied u) where
+  module _ (u : TickOrRun) (so : Replied u) where
     unleft : has (drops_sleeper u) s.world.trace ≡ false
     unleft = drops-is u s.world.trace ∙ (sym (left-has u s.world.trace)
         ∙ not-true (watched u s.world.trace).left (λ e. let n : _ = (stands-here u).parted e in ⊎_elim
@@ -233,28 +234,28 @@ module _ (s : Machine) (fine : Good s) (hs : Heard s) (ds : Deep s) (told : Slee
 
   -- a run in whose own queue something stands is called, and stands unless it was refused
   module _ (r : ℕ) (some : 1 ≤ length (own_of s.world r)) where
-    keeps : Replied (sleeper.Run r)
-    keeps = replied (sleeper.Run r) ((stands-here (sleeper.Run r)).keeps some)
+    keeps : Replied (tick_or_run.Run r)
+    keeps = replied (tick_or_run.Run r) ((stands-here (tick_or_run.Run r)).keeps some)
 
-    pub keeper-stands : ¬ WasRefused (sleeper.Run r) s.world.trace → StandsSo (sleeper.Run r) s.world.trace
-    keeper-stands none = standing-there (sleeper.Run r) keeps none
+    pub keeper-stands : ¬ WasRefused (tick_or_run.Run r) s.world.trace → StandsSo (tick_or_run.Run r) s.world.trace
+    keeper-stands none = standing-there (tick_or_run.Run r) keeps none
 
-    pub keeper-called : WasCalled (sleeper.Run r) s.world.trace
+    pub keeper-called : WasCalled (tick_or_run.Run r) s.world.trace
     keeper-called = ⊎_elim
         (λ (x : 1 ≤ weigh_all (running_of r) s.parties). absurd
         (omega (arith, x, all-rest (running_of r) s.parties idle)))
-        (λ (x : WasCalled (sleeper.Run r) s.world.trace). x)
+        (λ (x : WasCalled (tick_or_run.Run r) s.world.trace). x)
         (runner r some)
 
-  module _ (f : ℕ) (t : Sleeper) (due : IsDue f s.world.trace) (stand : StandsSo t s.world.trace)
+  module _ (f : ℕ) (t : TickOrRun) (due : IsDue f s.world.trace) (stand : StandsSo t s.world.trace)
       (none : NoneRefused s.world.trace) where
     pending : (watched t s.world.trace).pending ≡ true
     pending = (answered t stand.party stand.poll stand.polled stand.lives reply.Pending stand.pending).pending
 
-    unrefused : (u : Sleeper) → Replied u → ¬ WasRefused u s.world.trace
+    unrefused : (u : TickOrRun) → Replied u → ¬ WasRefused u s.world.trace
     unrefused u so = none u (unleft u so)
 
-    -- somebody who lies has no entry
+    -- somebody who sleeps has no entry
     of_missing : 1 ≤ length s.world.queue.items → 1 ≤ s.world.sleepers.count → OneCalled s.world.trace
     of_missing queued some =
         let few : length s.world.sleepers.wakers < s.world.sleepers.count =
@@ -262,7 +263,7 @@ module _ (s : Machine) (fine : Good s) (hs : Heard s) (ds : Deep s) (told : Slee
         (omega (arith, x, all-rest tells_of s.parties idle))) (told queued some) in
         let m : Missing s.world =
         missing s.world (omega (arith, few, (agrees s st.followed).counted)) in
-        let so : Replied m.who = replied m.who ((stands-here m.who).asleep m.lies) in
+        let so : Replied m.who = replied m.who ((stands-here m.who).asleep m.sleeps) in
         record {
           who = m.who;
           stands = standing-there m.who so (unrefused m.who so);
@@ -273,9 +274,9 @@ module _ (s : Machine) (fine : Good s) (hs : Heard s) (ds : Deep s) (told : Slee
     of_common queued = ⊎_elim
         (λ (x : 1 ≤ sum (kept_of t (watched t s.world.trace).poll) s.world.sleepers.wakers). of_missing queued (omega (
           arith,
-          entry-lies s.world t (stands-here t).placed (omega
+          entry-sleeps s.world t (stands-here t).placed (omega
               (arith, x, kept-few t (watched t s.world.trace).poll s.world.sleepers.wakers)),
-          lying-here s.world t,
+          slumbering-here s.world t,
           (agrees s st.followed).counted,
         )))
         (λ (x : ((watched t s.world.trace).called ≡ true) ⊎
@@ -300,8 +301,8 @@ module _ (s : Machine) (fine : Good s) (hs : Heard s) (ds : Deep s) (told : Slee
         let h : Holder f s.world.own = holder f s.world.own k in
         let some : 1 ≤ length (own_of s.world h.run) =
         omega (arith, h.holds, times-length f (get_or s.world.own h.run [])) in record {
-          who = sleeper.Run h.run;
-          stands = keeper-stands h.run some (unrefused (sleeper.Run h.run) (keeps h.run some));
+          who = tick_or_run.Run h.run;
+          stands = keeper-stands h.run some (unrefused (tick_or_run.Run h.run) (keeps h.run some));
           called = keeper-called h.run some;
         }
 

@@ -1,3 +1,4 @@
+-- For some_standing_is_called.
 -- Where a run searches, steals and walks, its poll goes on.
 use Rattle.std.proofs.Common.{◌≡◌, ◌⊎◌, ◌∙◌, ℕ, zero, suc, ◌+◌, ◌%◌, ◌≤◌, List, [], ◌∷◌, ◌++◌, length, Bool, true}
 use Rattle.std.proofs.Common.{false, eqb, refl, sym, ap, subst, inl, inr, ⊎_elim, arith}
@@ -11,8 +12,8 @@ use Rattle.executor_model.specs.declared.op.QueueOp.TheVariants as queue_op
 use Rattle.executor_model.specs.declared.op.RunOp.TheVariants as run_op
 use Rattle.executor_model.specs.declared.op.RunPoll.{RunPoll}
 use Rattle.executor_model.specs.declared.op.Section.TheVariants as section
-use Rattle.executor_model.specs.declared.op.Sleeper.{Sleeper}
-use Rattle.executor_model.specs.declared.op.Sleeper.TheVariants as sleeper
+use Rattle.executor_model.specs.declared.op.TickOrRun.{TickOrRun}
+use Rattle.executor_model.specs.declared.op.TickOrRun.TheVariants as tick_or_run
 use Rattle.executor_model.specs.declared.op.SleeperOp.TheVariants as sleeper_op
 use Rattle.executor_model.specs.declared.op.Source.{Source}
 use Rattle.executor_model.specs.declared.op.Source.TheVariants.{Common, Own}
@@ -28,29 +29,29 @@ use Rattle.executor_model.specs.ActsOfRuns as runs
 use Rattle.executor_model.specs.ActsOfSleepers.{found_by}
 use Rattle.executor_model.specs.Doing.{steal_act}
 use Rattle.executor_model.specs.Weights.{weigh}
-use Rattle.executor_model.specs.SleepersAgree.{lies}
-use Rattle.executor_model.specs.World.{World, Place, Up, Lies, Left, Run, Done, own_of, put_own, put_run, run_of}
-use Rattle.executor_model.proofs.Lists.{weigh-append}
-use Rattle.executor_model.proofs.OwnRooms.{Shorter, grown, of_hull, same-own, shorter-and, shorter-first}
-use Rattle.executor_model.proofs.RunsCalm.{poll_in}
-use Rattle.executor_model.proofs.RunsMoving.{hull-found, hull-stolen, walk-by}
-use Rattle.executor_model.proofs.UsingWorlds.{is_over_stage}
-use Rattle.runs_called.proofs.Beside.{view-log}
-use Rattle.runs_called.proofs.Listed.{sum, entry_of, kept_of, misplaced_of}
-use Rattle.runs_called.proofs.Sitting.{IsOther, IsSame, is_it, owned_in, who_cases}
-use Rattle.runs_called.proofs.Stands.{KeepsStands, Nothing, Stands, View, calls_of, drops_of, early_of, ends_of}
-use Rattle.runs_called.proofs.Stands.{found_of, odd_of, pends_of, refused_of, rising_of, strays, strays_of, used_of}
-use Rattle.runs_called.proofs.Stands.{view, with_doing}
-use Rattle.runs_called.proofs.StandsNothing.{nothing-of}
-use Rattle.runs_called.proofs.StandsOwn.{Goes, own-goes}
-use Rattle.runs_called.proofs.StandsSeats.{Seated, seated-and, seated-run, seated-same}
-use Rattle.runs_called.proofs.StandsTied.{Tied, tied-append, tied-cons, tied-none}
-use Rattle.runs_called.proofs.Watched.{watched}
+use Rattle.executor_model.specs.SleepersAgree.{sleeps}
+use Rattle.executor_model.specs.World.{World, Ticker, Awake, Asleep, Left, Run, Done, own_of, put_own, put_run, run_of}
+use Rattle.executor_model.proofs.Steps.Lists.{weigh-append}
+use Rattle.executor_model.proofs.OwnQueues.OwnRooms.{Shorter, grown, of_hull, same-own, shorter-and, shorter-first}
+use Rattle.executor_model.proofs.OwnQueues.RunsDone.{poll_in}
+use Rattle.executor_model.proofs.OwnQueues.RunsMoving.{hull-found, hull-stolen, walk-by}
+use Rattle.executor_model.proofs.OwnQueues.UsingWorlds.{is_over_stage}
+use Rattle.executor_laws.proofs.Wakeups.Beside.{view-log}
+use Rattle.executor_laws.proofs.Wakeups.Listed.{sum, entry_of, kept_of, misplaced_of}
+use Rattle.executor_laws.proofs.Wakeups.Sitting.{IsOther, IsSame, is_it, owned_in, who_cases}
+use Rattle.executor_laws.proofs.Wakeups.Stands.{KeepsStands, Nothing, Stands, View, calls_of, drops_of, early_of, ends_of}
+use Rattle.executor_laws.proofs.Wakeups.Stands.{found_of, odd_of, pends_of, refused_of, waking_up_of, strays, strays_of, used_of}
+use Rattle.executor_laws.proofs.Wakeups.Stands.{view, with_doing}
+use Rattle.executor_laws.proofs.Wakeups.StandsNothing.{nothing-of}
+use Rattle.executor_laws.proofs.Wakeups.StandsOwn.{Goes, own-goes}
+use Rattle.executor_laws.proofs.Wakeups.StandsSeats.{Seated, seated-and, seated-run, seated-same}
+use Rattle.executor_laws.proofs.Wakeups.StandsTied.{Tied, tied-append, tied-cons, tied-none}
+use Rattle.executor_laws.proofs.Wakeups.Watched.{watched}
 
 -- this is what a poll x of a run has still to do
-pub record Stage (t : Sleeper) (x : RunPoll) (os : List Op) : Type 0 where
-  pub used : weigh (used_of t) os ≡ is_it t (sleeper.Run x.run)
-  pub early : weigh (early_of t) os ≡ is_it t (sleeper.Run x.run)
+pub record Stage (t : TickOrRun) (x : RunPoll) (os : List Op) : Type 0 where
+  pub used : weigh (used_of t) os ≡ is_it t (tick_or_run.Run x.run)
+  pub early : weigh (early_of t) os ≡ is_it t (tick_or_run.Run x.run)
   pub pends : weigh (pends_of t) os ≡ 0
   pub refused : weigh (refused_of t) os ≡ 0
   pub found : weigh (found_of t) os ≡ 0
@@ -59,14 +60,14 @@ pub record Stage (t : Sleeper) (x : RunPoll) (os : List Op) : Type 0 where
   pub odd : weigh (odd_of t) os ≡ 0
   pub strays : (k : ℕ) → weigh (strays_of t k) os ≤ strays t k x
   pub calls : (k : ℕ) → weigh (calls_of t k) os ≡ 0
-  pub rising : weigh (rising_of t) os ≤ is_it t (sleeper.Run x.run)
+  pub waking_up : weigh (waking_up_of t) os ≤ is_it t (tick_or_run.Run x.run)
   pub tied : Tied t os
 
-module _ (t : Sleeper) (x : RunPoll) where
+module _ (t : TickOrRun) (x : RunPoll) where
   -- of one thing to do
-  stage-of : (o : Op) → used_of t o ≡ is_it t (sleeper.Run x.run) → early_of t o ≡ is_it t (sleeper.Run x.run) →
+  stage-of : (o : Op) → used_of t o ≡ is_it t (tick_or_run.Run x.run) → early_of t o ≡ is_it t (tick_or_run.Run x.run) →
       pends_of t o ≡ 0 → refused_of t o ≡ 0 → found_of t o ≡ 0 → ends_of t o ≡ 0 → drops_of t o ≡ 0 → odd_of t o ≡ 0 →
-      ((k : ℕ) → strays_of t k o ≡ strays t k x) → ((k : ℕ) → calls_of t k o ≡ 0) → rising_of t o ≡ 0 →
+      ((k : ℕ) → strays_of t k o ≡ strays t k x) → ((k : ℕ) → calls_of t k o ≡ 0) → waking_up_of t o ≡ 0 →
       Stage t x (o ∷ [])
   stage-of o a b c d e f g h i j l = record {
     used = omega (arith, a);
@@ -79,7 +80,7 @@ module _ (t : Sleeper) (x : RunPoll) where
     odd = omega (arith, h);
     strays = λ k. omega (arith, i k);
     calls = λ k. omega (arith, j k);
-    rising = omega (arith, l);
+    waking_up = omega (arith, l);
     tied = tied-none t (o ∷ []) (omega (arith, l));
   }
 
@@ -97,7 +98,7 @@ module _ (t : Sleeper) (x : RunPoll) where
     odd = refl;
     strays = λ k. omega arith;
     calls = λ k. refl;
-    rising = omega arith;
+    waking_up = omega arith;
     tied = tied-none t _ refl;
   }
 
@@ -111,10 +112,6 @@ module _ (t : Sleeper) (x : RunPoll) where
 
   pub stage-copy : Stage t x (op.Tick (tick_op.CopyWaker (runs.asleep x)) ∷ [])
   stage-copy = stage-of (op.Tick (tick_op.CopyWaker (runs.asleep x))) refl refl refl refl refl refl refl refl
-      (λ k. refl) (λ k. refl) refl
-
-  pub stage-lock : Stage t x (op.List (list_op.LockWrite (section.Register x)) ∷ [])
-  stage-lock = stage-of (op.List (list_op.LockWrite (section.Register x))) refl refl refl refl refl refl refl refl
       (λ k. refl) (λ k. refl) refl
 
   pub stage-register : Stage t x (op.List (list_op.Write (section.Register x)) ∷ [])
@@ -149,14 +146,14 @@ module _ (t : Sleeper) (x : RunPoll) where
     odd = omega (arith, weigh-append (odd_of t) xs os, n.odd, s.odd);
     strays = λ k. omega (arith, weigh-append (strays_of t k) xs os, n.strays k, s.strays k);
     calls = λ k. omega (arith, weigh-append (calls_of t k) xs os, n.calls k, s.calls k);
-    rising = omega (arith, weigh-append (rising_of t) xs os, n.rising, s.rising);
-    tied = tied-append t xs os (tied-none t xs n.rising) s.tied;
+    waking_up = omega (arith, weigh-append (waking_up_of t) xs os, n.waking_up, s.waking_up);
+    tied = tied-append t xs os (tied-none t xs n.waking_up) s.tied;
   }
 
-  -- it gets up first
-  stage-rise : (os : List Op) → Stage t x os → weigh (rising_of t) os ≡ 0 →
-      Stage t x (op.Tick (tick_op.GetUp (sleeper.Run x.run)) ∷ os)
-  stage-rise os s z = record {
+  -- it wakes up first
+  stage-wake_it_up : (os : List Op) → Stage t x os → weigh (waking_up_of t) os ≡ 0 →
+      Stage t x (op.Tick (tick_op.WakeUp (tick_or_run.Run x.run)) ∷ os)
+  stage-wake_it_up os s z = record {
     used = omega (arith, s.used);
     early = omega (arith, s.early);
     pends = omega (arith, s.pends);
@@ -167,16 +164,16 @@ module _ (t : Sleeper) (x : RunPoll) where
     odd = omega (arith, s.odd);
     strays = λ k. omega (arith, s.strays k);
     calls = λ k. omega (arith, s.calls k);
-    rising = omega (arith, z);
-    tied = tied-cons t (op.Tick (tick_op.GetUp (sleeper.Run x.run))) os (λ k. omega (arith, k, s.used)) s.tied;
+    waking_up = omega (arith, z);
+    tied = tied-cons t (op.Tick (tick_op.WakeUp (tick_or_run.Run x.run))) os (λ k. omega (arith, k, s.used)) s.tied;
   }
 
 -- what it does next in a steal
-pub stage-steal : (t : Sleeper) (o : StealOp) → Stage t (poll_in o) (op.Steal o ∷ [])
+pub stage-steal : (t : TickOrRun) (o : StealOp) → Stage t (poll_in o) (op.Steal o ∷ [])
 stage-steal t o =
     stage-of t (poll_in o) (op.Steal o) refl refl refl refl refl refl refl refl (λ k. refl) (λ k. refl) refl
 
-module _ (t : Sleeper) (x : RunPoll) where
+module _ (t : TickOrRun) (x : RunPoll) where
   -- what is found is run
 
   stage-run_by : (b : Bool) (w : World) (f : ℕ) → Stage t x (runs.run_by b w x f).next
@@ -185,29 +182,29 @@ module _ (t : Sleeper) (x : RunPoll) where
   stage-run_by false w f = stage-front t x (op.Move move.TakeUp f ∷ []) (op.Tick (tick_op.Search (runs.asleep x)) ∷ [])
       (nothing-of t _ refl) (stage-search t x)
 
-  unrisen-run_by : (b : Bool) (w : World) (f : ℕ) → weigh (rising_of t) (runs.run_by b w x f).next ≡ 0
-  unrisen-run_by true w f = refl
-  unrisen-run_by false w f = refl
+  not_woken_up-run_by : (b : Bool) (w : World) (f : ℕ) → weigh (waking_up_of t) (runs.run_by b w x f).next ≡ 0
+  not_woken_up-run_by true w f = refl
+  not_woken_up-run_by false w f = refl
 
   stage-counted : (b : Bool) (w : World) (f : ℕ) → Stage t x (runs.counted_by b w x f).next
   stage-counted true w f = stage-steal t (steal_op.Length (record { poll = x; from = Common; then = then.Run f }))
   stage-counted false w f = stage-run_by _ _ f
 
-  unrisen-counted : (b : Bool) (w : World) (f : ℕ) → weigh (rising_of t) (runs.counted_by b w x f).next ≡ 0
-  unrisen-counted true w f = refl
-  unrisen-counted false w f = unrisen-run_by _ _ f
+  not_woken_up-counted : (b : Bool) (w : World) (f : ℕ) → weigh (waking_up_of t) (runs.counted_by b w x f).next ≡ 0
+  not_woken_up-counted true w f = refl
+  not_woken_up-counted false w f = not_woken_up-run_by _ _ f
 
-  stage-rises : (p : Place) (os : List Op) → Stage t x os → weigh (rising_of t) os ≡ 0 →
-      Stage t x (found_by p (sleeper.Run x.run) (op.Sleeper sleeper_op.ExchangeFlag ∷ []) ++ os)
-  stage-rises Up os s z = stage-front t x (op.Sleeper sleeper_op.ExchangeFlag ∷ []) os (nothing-of t _ refl) s
-  stage-rises (Lies n) os s z =
-      stage-rise t x (op.Sleeper sleeper_op.ExchangeFlag ∷ os)
+  stage-wakes_up : (p : Ticker) (os : List Op) → Stage t x os → weigh (waking_up_of t) os ≡ 0 →
+      Stage t x (found_by p (tick_or_run.Run x.run) (op.Sleeper sleeper_op.ExchangeFlag ∷ []) ++ os)
+  stage-wakes_up Awake os s z = stage-front t x (op.Sleeper sleeper_op.ExchangeFlag ∷ []) os (nothing-of t _ refl) s
+  stage-wakes_up (Asleep n) os s z =
+      stage-wake_it_up t x (op.Sleeper sleeper_op.ExchangeFlag ∷ os)
       (stage-front t x (op.Sleeper sleeper_op.ExchangeFlag ∷ []) os (nothing-of t _ refl) s) (omega (arith, z))
-  stage-rises Left os s z = stage-front t x (op.Sleeper sleeper_op.ExchangeFlag ∷ []) os (nothing-of t _ refl) s
+  stage-wakes_up Left os s z = stage-front t x (op.Sleeper sleeper_op.ExchangeFlag ∷ []) os (nothing-of t _ refl) s
 
   pub stage-found : (w : World) (f : ℕ) → Stage t x (runs.found w x f).next
   stage-found w f = let b = eqb ((run_of w x.run).counted + 1) 64 in
-      stage-rises (run_of w x.run).place (runs.counted_by b w x f).next (stage-counted b w f) (unrisen-counted b w f)
+      stage-wakes_up (run_of w x.run).place (runs.counted_by b w x f).next (stage-counted b w f) (not_woken_up-counted b w f)
 
   pub stage-stolen : (n : Then) (w : World) → Stage t x (runs.stolen n w x).next
   stage-stolen (then.Found f) w = stage-found w f
@@ -224,10 +221,10 @@ module _ (t : Sleeper) (x : RunPoll) where
 -- the world in which it does so
 
 pub record Calm (w v : World) : Type 0 where
-  pub seated : (t : Sleeper) → Seated t w v
+  pub seated : (t : TickOrRun) → Seated t w v
   pub wakers : v.sleepers.wakers ≡ w.sleepers.wakers
   pub gone : v.gone ≡ w.gone
-  pub seen : (t : Sleeper) → watched t v.trace ≡ watched t w.trace
+  pub seen : (t : TickOrRun) → watched t v.trace ≡ watched t w.trace
 
 pub calm-same : (w v : World) → v.ticks ≡ w.ticks → v.runs ≡ w.runs → v.sleepers.wakers ≡ w.sleepers.wakers →
     v.gone ≡ w.gone → v.trace ≡ w.trace → Calm w v
@@ -274,20 +271,20 @@ calm-stolen (then.Walk at left) w x = calm-same w w refl refl refl refl refl
 
 -- a poll goes on: what the world has of each stays, but that less may stand in own queues, and more in that of the run
 pub record Walks (w : World) (x : RunPoll) (d : Done) : Type 0 where
-  pub stage : (t : Sleeper) → Stage t x d.next
+  pub stage : (t : TickOrRun) → Stage t x d.next
   pub calm : Calm w d.world
-  pub own : (t : Sleeper) → 1 ≤ owned_in t d.world.own → (1 ≤ owned_in t w.own) ⊎ (1 ≤ is_it t (sleeper.Run x.run))
+  pub own : (t : TickOrRun) → 1 ≤ owned_in t d.world.own → (1 ≤ owned_in t w.own) ⊎ (1 ≤ is_it t (tick_or_run.Run x.run))
 
-pub owned-less : (w v : World) → Shorter w v → (t : Sleeper) (n : ℕ) → 1 ≤ owned_in t v.own →
+pub owned-less : (w v : World) → Shorter w v → (t : TickOrRun) (n : ℕ) → 1 ≤ owned_in t v.own →
     (1 ≤ owned_in t w.own) ⊎ (1 ≤ n)
-owned-less w v s (sleeper.Tick u) n k = absurd (omega (arith, k))
-owned-less w v s (sleeper.Run r) n k = inl (omega (arith, k, s.own r))
+owned-less w v s (tick_or_run.Tick u) n k = absurd (omega (arith, k))
+owned-less w v s (tick_or_run.Run r) n k = inl (omega (arith, k, s.own r))
 
-pub walks : (w : World) (x : RunPoll) (d : Done) → ((t : Sleeper) → Stage t x d.next) → Calm w d.world →
+pub walks : (w : World) (x : RunPoll) (d : Done) → ((t : TickOrRun) → Stage t x d.next) → Calm w d.world →
     Shorter w d.world → Walks w x d
-walks w x d s c o = record { stage = s; calm = c; own = λ t. owned-less w d.world o t (is_it t (sleeper.Run x.run)) }
+walks w x d s c o = record { stage = s; calm = c; own = λ t. owned-less w d.world o t (is_it t (tick_or_run.Run x.run)) }
 
-goes-on : (t : Sleeper) (x : RunPoll) (old next : List Op) → Stage t x old → weigh (rising_of t) old ≡ 0 →
+goes-on : (t : TickOrRun) (x : RunPoll) (old next : List Op) → Stage t x old → weigh (waking_up_of t) old ≡ 0 →
     ((k : ℕ) → strays t k x ≤ weigh (strays_of t k) old) → Stage t x next → Goes t old next
 goes-on t x old next a z y b = record {
   used = b.used ∙ sym a.used;
@@ -300,14 +297,14 @@ goes-on t x old next a z y b = record {
   odd = b.odd ∙ sym a.odd;
   strays = λ k. omega (arith, y k, b.strays k);
   calls = λ k. b.calls k ∙ sym (a.calls k);
-  rising = omega (arith, z);
-  rises = λ k. omega (arith, k, b.rising, b.early);
+  waking_up = omega (arith, z);
+  wakes_up = λ k. omega (arith, k, b.waking_up, b.early);
 }
 
-pub view-calm : (t : Sleeper) (w v : World) → Calm w v →
+pub view-calm : (t : TickOrRun) (w v : World) → Calm w v →
     view t v ≡ record (view t w) { owned = owned_in t v.own }
 view-calm t w v c = λ i. record {
-  lying = lies ((c.seated t).place i);
+  slumbering = sleeps ((c.seated t).place i);
   living = (c.seated t).lives i;
   made = (c.seated t).made i;
   over = (c.seated t).over i;
@@ -319,14 +316,14 @@ view-calm t w v c = λ i. record {
   seen = c.seen t i;
 }
 
-pub stands-walks : (t : Sleeper) (w : World) (x : RunPoll) (old : List Op) (d : Done) → Stage t x old →
-    weigh (rising_of t) old ≡ 0 → ((k : ℕ) → strays t k x ≤ weigh (strays_of t k) old) → Walks w x d →
+pub stands-walks : (t : TickOrRun) (w : World) (x : RunPoll) (old : List Op) (d : Done) → Stage t x old →
+    weigh (waking_up_of t) old ≡ 0 → ((k : ℕ) → strays t k x ≤ weigh (strays_of t k) old) → Walks w x d →
     KeepsStands t w old d
 stands-walks t w x old d a z y k r m b h =
     subst (λ (v : View). Stands v (with_doing t d.next r) m) (sym (view-calm t w d.world k.calm))
     (own-goes t (owned_in t d.world.own) (view t w) old d.next (goes-on t x old d.next a z y (k.stage t))
     (λ o. ⊎_elim (λ (j : 1 ≤ owned_in t w.own). inl j)
-    (λ (j : 1 ≤ is_it t (sleeper.Run x.run)). inr (omega (arith, j, (k.stage t).early))) (k.own t o)) r m b h)
+    (λ (j : 1 ≤ is_it t (tick_or_run.Run x.run)). inr (omega (arith, j, (k.stage t).early))) (k.own t o)) r m b h)
 
 -- each step of a search
 
@@ -414,14 +411,14 @@ calm-kept p w r f = let v = put_own w r (own_of w r ++ f ∷ []) in record {
   seen = λ t. ap (λ (y : View). y.seen) (view-log t v (event.Kept p f r) (λ u n s. refl));
 }
 
-owned-kept : (p : ℕ) (w : World) (r f : ℕ) (t : Sleeper) → 1 ≤ owned_in t (runs.kept_by p w r f).own →
-    (1 ≤ owned_in t w.own) ⊎ (1 ≤ is_it t (sleeper.Run r))
-owned-kept p w r f (sleeper.Tick u) k = absurd (omega (arith, k))
-owned-kept p w r f (sleeper.Run q) k = ⊎_elim
-    (λ (x : IsSame (sleeper.Run q) (sleeper.Run r)). inr (omega (arith, x.0)))
-    (λ (x : IsOther (sleeper.Run q) (sleeper.Run r)).
-    inl (omega (arith, k, grown w.own r f q (λ e. x.2 (ap (λ (n : ℕ). sleeper.Run n) e)))))
-    (who_cases (sleeper.Run q) (sleeper.Run r))
+owned-kept : (p : ℕ) (w : World) (r f : ℕ) (t : TickOrRun) → 1 ≤ owned_in t (runs.kept_by p w r f).own →
+    (1 ≤ owned_in t w.own) ⊎ (1 ≤ is_it t (tick_or_run.Run r))
+owned-kept p w r f (tick_or_run.Tick u) k = absurd (omega (arith, k))
+owned-kept p w r f (tick_or_run.Run q) k = ⊎_elim
+    (λ (x : IsSame (tick_or_run.Run q) (tick_or_run.Run r)). inr (omega (arith, x.0)))
+    (λ (x : IsOther (tick_or_run.Run q) (tick_or_run.Run r)).
+    inl (omega (arith, k, grown w.own r f q (λ e. x.2 (ap (λ (n : ℕ). tick_or_run.Run n) e)))))
+    (who_cases (tick_or_run.Run q) (tick_or_run.Run r))
 
 walks-put : (b : Bool) (p : ℕ) (w : World) (s : Steal) (more f : ℕ) →
     Walks w s.poll (runs.steal_put_by b p w s more f)
@@ -431,7 +428,7 @@ walks-put true p w s more f =
       stage = k.stage;
       calm = calm-and w v (runs.steal_by more v s).world (calm-kept p w s.poll.run f) k.calm;
       own = λ t o. ⊎_elim (λ (y : 1 ≤ owned_in t v.own). owned-kept p w s.poll.run f t y)
-          (λ (y : 1 ≤ is_it t (sleeper.Run s.poll.run)). inr y) (k.own t o);
+          (λ (y : 1 ≤ is_it t (tick_or_run.Run s.poll.run)). inr y) (k.own t o);
     }
 walks-put false p w s more f =
     let k : Walks w s.poll (runs.stolen s.then w s.poll) = walks-stolen s.then w s.poll in record {

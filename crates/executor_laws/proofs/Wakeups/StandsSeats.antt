@@ -1,18 +1,19 @@
--- Where each tick and run is, once one of them lies down, gets up, leaves or is made.
+-- For some_standing_is_called.
+-- Where each tick and run is, once one of them falls asleep, wakes up, leaves or is made.
 use Rattle.std.proofs.Common.{◌≡◌, ◌≢◌, ◌∙◌, ℕ, zero, suc, ◌<◌, List, [], ◌∷◌, length, get_or, set, Bool, true, refl}
 use Rattle.std.proofs.Common.{sym, ap, arith, get_or-set_same, get_or-set_other}
 use Rattle.std.proofs.Math.ListN.{length-set}
 use Rattle.std.specs.Prelude.{not, nat_lt}
-use Rattle.executor_model.specs.declared.op.Sleeper.{Sleeper}
-use Rattle.executor_model.specs.declared.op.Sleeper.TheVariants as sleeper
+use Rattle.executor_model.specs.declared.op.TickOrRun.{TickOrRun}
+use Rattle.executor_model.specs.declared.op.TickOrRun.TheVariants as tick_or_run
 use Rattle.executor_model.specs.Steps.{lives}
-use Rattle.executor_model.specs.World.{World, Place, Up, Lies, Left, Run, no_run, put_place, put_run, run_of}
-use Rattle.executor_model.proofs.TickLists.{is_tick}
-use Rattle.executor_model.proofs.UsingWorlds.{count-set, is_over_stage}
-use Rattle.runs_called.proofs.Sitting.{lives_in, made_in, over_in, owned_in, place_in}
+use Rattle.executor_model.specs.World.{World, Ticker, Awake, Asleep, Left, Run, no_run, put_place, put_run, run_of}
+use Rattle.executor_model.proofs.Sleepers.TickLists.{is_tick}
+use Rattle.executor_model.proofs.OwnQueues.UsingWorlds.{count-set, is_over_stage}
+use Rattle.executor_laws.proofs.Wakeups.Sitting.{lives_in, made_in, over_in, place_in}
 
 -- it is where it was, lives as it did, and was made and is over as before
-pub record Seated (who : Sleeper) (w v : World) : Type 0 where
+pub record Seated (who : TickOrRun) (w v : World) : Type 0 where
   pub place : place_in who v.ticks v.runs ≡ place_in who w.ticks w.runs
   pub lives : lives_in who v.ticks v.runs ≡ lives_in who w.ticks w.runs
   pub made : made_in who v.ticks v.runs ≡ made_in who w.ticks w.runs
@@ -29,18 +30,18 @@ field-set field (x ∷ rs) (suc q) y e zero = refl
 field-set field (x ∷ rs) (suc q) y e (suc r) = field-set field rs q y e r
 
 -- a run is replaced by one that is where it was, lives as it did and is over as it was
-pub seated-run : (who : Sleeper) (w : World) (q : ℕ) (y : Run) → y.place ≡ (run_of w q).place →
+pub seated-run : (who : TickOrRun) (w : World) (q : ℕ) (y : Run) → y.place ≡ (run_of w q).place →
     y.dropped ≡ (run_of w q).dropped → is_over_stage y.stage ≡ is_over_stage (run_of w q).stage →
     Seated who w (put_run w q y)
-seated-run (sleeper.Tick t) w q y a b c = record { place = refl; lives = refl; made = refl; over = refl }
-seated-run (sleeper.Run r) w q y a b c = record {
+seated-run (tick_or_run.Tick t) w q y a b c = record { place = refl; lives = refl; made = refl; over = refl }
+seated-run (tick_or_run.Run r) w q y a b c = record {
   place = field-set (λ (x : Run). x.place) w.runs q y a r;
   lives = ap (λ (d : Bool). not d) (field-set (λ (x : Run). x.dropped) w.runs q y b r);
   made = ap (nat_lt r) (count-set w.runs q y);
   over = field-set (λ (x : Run). is_over_stage x.stage) w.runs q y c r;
 }
 
-pub seated-same : (who : Sleeper) (w v : World) → v.ticks ≡ w.ticks → v.runs ≡ w.runs → Seated who w v
+pub seated-same : (who : TickOrRun) (w v : World) → v.ticks ≡ w.ticks → v.runs ≡ w.runs → Seated who w v
 seated-same who w v a b = record {
   place = λ i. place_in who (a i) (b i);
   lives = λ i. lives_in who (a i) (b i);
@@ -48,7 +49,7 @@ seated-same who w v a b = record {
   over = λ i. over_in who (b i);
 }
 
-pub seated-and : (who : Sleeper) (w v u : World) → Seated who w v → Seated who v u → Seated who w u
+pub seated-and : (who : TickOrRun) (w v u : World) → Seated who w v → Seated who v u → Seated who w u
 seated-and who w v u a b = record {
   place = b.place ∙ a.place;
   lives = b.lives ∙ a.lives;
@@ -58,14 +59,14 @@ seated-and who w v u a b = record {
 
 -- another than this is put elsewhere
 
-tick-other : (t u : ℕ) → (let s : Sleeper = sleeper.Tick t in s) ≢ sleeper.Tick u → t ≢ u
-tick-other t u n e = n (ap (λ (k : ℕ). sleeper.Tick k) e)
+tick-other : (t u : ℕ) → (let s : TickOrRun = tick_or_run.Tick t in s) ≢ tick_or_run.Tick u → t ≢ u
+tick-other t u n e = n (ap (λ (k : ℕ). tick_or_run.Tick k) e)
 
-run-other : (t u : ℕ) → (let s : Sleeper = sleeper.Run t in s) ≢ sleeper.Run u → t ≢ u
-run-other t u n e = n (ap (λ (k : ℕ). sleeper.Run k) e)
+run-other : (t u : ℕ) → (let s : TickOrRun = tick_or_run.Run t in s) ≢ tick_or_run.Run u → t ≢ u
+run-other t u n e = n (ap (λ (k : ℕ). tick_or_run.Run k) e)
 
-pub seated-other : (who u : Sleeper) (w : World) (x : Place) → who ≢ u → Seated who w (put_place w u x)
-seated-other (sleeper.Tick t) (sleeper.Tick u) w x n =
+pub seated-other : (who u : TickOrRun) (w : World) (x : Ticker) → who ≢ u → Seated who w (put_place w u x)
+seated-other (tick_or_run.Tick t) (tick_or_run.Tick u) w x n =
     let e : get_or (set w.ticks u x) t Left ≡ get_or w.ticks t Left =
     get_or-set_other w.ticks u t x Left (tick-other t u n) in record {
       place = e;
@@ -73,9 +74,9 @@ seated-other (sleeper.Tick t) (sleeper.Tick u) w x n =
       made = ap (nat_lt t) (length-set w.ticks u x);
       over = refl;
     }
-seated-other (sleeper.Tick t) (sleeper.Run q) w x n = record { place = refl; lives = refl; made = refl; over = refl }
-seated-other (sleeper.Run r) (sleeper.Tick u) w x n = record { place = refl; lives = refl; made = refl; over = refl }
-seated-other (sleeper.Run r) (sleeper.Run q) w x n =
+seated-other (tick_or_run.Tick t) (tick_or_run.Run q) w x n = record { place = refl; lives = refl; made = refl; over = refl }
+seated-other (tick_or_run.Run r) (tick_or_run.Tick u) w x n = record { place = refl; lives = refl; made = refl; over = refl }
+seated-other (tick_or_run.Run r) (tick_or_run.Run q) w x n =
     let y : Run = record (run_of w q) { place = x } in
     let e : get_or (set w.runs q y) r no_run ≡ get_or w.runs r no_run =
     get_or-set_other w.runs q r y no_run (run-other r q n) in record {
@@ -92,38 +93,34 @@ is_run [] r h = absurd (h refl)
 is_run (y ∷ rs) zero h = omega arith
 is_run (y ∷ rs) (suc r) h = omega (arith, is_run rs r h)
 
-pub put-place : (who : Sleeper) (w : World) (x : Place) → place_in who w.ticks w.runs ≢ Left →
+pub put-place : (who : TickOrRun) (w : World) (x : Ticker) → place_in who w.ticks w.runs ≢ Left →
     place_in who (put_place w who x).ticks (put_place w who x).runs ≡ x
-put-place (sleeper.Tick t) w x h = get_or-set_same w.ticks t x Left (is_tick w.ticks t h)
-put-place (sleeper.Run r) w x h = ap (λ (z : Run). z.place)
+put-place (tick_or_run.Tick t) w x h = get_or-set_same w.ticks t x Left (is_tick w.ticks t h)
+put-place (tick_or_run.Run r) w x h = ap (λ (z : Run). z.place)
     (get_or-set_same w.runs r (record (run_of w r) { place = x }) no_run (is_run w.runs r h))
 
-pub put-made : (who : Sleeper) (w : World) (x : Place) →
+pub put-made : (who : TickOrRun) (w : World) (x : Ticker) →
     made_in who (put_place w who x).ticks (put_place w who x).runs ≡ made_in who w.ticks w.runs
-put-made (sleeper.Tick t) w x = ap (nat_lt t) (length-set w.ticks t x)
-put-made (sleeper.Run r) w x = ap (nat_lt r) (length-set w.runs r _)
+put-made (tick_or_run.Tick t) w x = ap (nat_lt t) (length-set w.ticks t x)
+put-made (tick_or_run.Run r) w x = ap (nat_lt r) (length-set w.runs r _)
 
-pub put-over : (who : Sleeper) (w : World) (x : Place) → over_in who (put_place w who x).runs ≡ over_in who w.runs
-put-over (sleeper.Tick t) w x = refl
-put-over (sleeper.Run r) w x = field-set (λ (z : Run). is_over_stage z.stage) w.runs r _ refl r
+pub put-over : (who : TickOrRun) (w : World) (x : Ticker) → over_in who (put_place w who x).runs ≡ over_in who w.runs
+put-over (tick_or_run.Tick t) w x = refl
+put-over (tick_or_run.Run r) w x = field-set (λ (z : Run). is_over_stage z.stage) w.runs r _ refl r
 
-lives-there : (x : Place) → x ≢ Left → lives x ≡ true
-lives-there Up h = refl
-lives-there (Lies n) h = refl
+lives-there : (x : Ticker) → x ≢ Left → lives x ≡ true
+lives-there Awake h = refl
+lives-there (Asleep n) h = refl
 lives-there Left h = absurd (h refl)
 
-pub put-lives : (who : Sleeper) (w : World) (x : Place) → x ≢ Left → place_in who w.ticks w.runs ≢ Left →
+pub put-lives : (who : TickOrRun) (w : World) (x : Ticker) → x ≢ Left → place_in who w.ticks w.runs ≢ Left →
     lives_in who (put_place w who x).ticks (put_place w who x).runs ≡ lives_in who w.ticks w.runs
-put-lives (sleeper.Tick t) w x n h =
+put-lives (tick_or_run.Tick t) w x n h =
     ap lives (get_or-set_same w.ticks t x Left (is_tick w.ticks t h)) ∙ (lives-there x n ∙ sym (lives-there _ h))
-put-lives (sleeper.Run r) w x n h = ap (λ (d : Bool). not d) (field-set (λ (z : Run). z.dropped) w.runs r _ refl r)
+put-lives (tick_or_run.Run r) w x n h = ap (λ (d : Bool). not d) (field-set (λ (z : Run). z.dropped) w.runs r _ refl r)
 
--- a run's own queue doesn't follow its place
-pub put-owned : (who u : Sleeper) (w : World) (x : Place) → owned_in who (put_place w u x).own ≡ owned_in who w.own
-put-owned who u w x = refl
+pub up-apart : (x : Ticker) → x ≡ Awake → x ≢ Left
+up-apart x e q = let no : Awake ≡ Left = sym e ∙ q in absurd (cc)
 
-pub up-apart : (x : Place) → x ≡ Up → x ≢ Left
-up-apart x e q = let no : Up ≡ Left = sym e ∙ q in absurd (cc)
-
-pub lies-apart : (x : Place) (n : ℕ) → x ≡ Lies n → x ≢ Left
-lies-apart x n e q = let no : Lies n ≡ Left = sym e ∙ q in absurd (cc)
+pub sleeps-apart : (x : Ticker) (n : ℕ) → x ≡ Asleep n → x ≢ Left
+sleeps-apart x n e q = let no : Asleep n ≡ Left = sym e ∙ q in absurd (cc)

@@ -1,27 +1,28 @@
+-- For some_standing_is_called.
 -- What holds of each tick and run together, and what a step of a party leaves of it.
 use Rattle.std.proofs.Common.{◌≡◌, ◌≢◌, ◌∙◌, ℕ, suc, ◌+◌, ◌<◌, List, [], ◌∷◌, ◌++◌, length, get_or, set, Bool, true}
 use Rattle.std.proofs.Common.{false, cond, sym, ap, subst, arith}
 use Rattle.std.specs.Prelude.{reverse}
 use Rattle.executor_model.specs.declared.op.Op.{Op}
-use Rattle.executor_model.specs.declared.op.Sleeper.{Sleeper}
+use Rattle.executor_model.specs.declared.op.TickOrRun.{TickOrRun}
 use Rattle.executor_model.specs.World.{Done}
 use Rattle.executor_model.specs.Steps.{Machine, stack}
 use Rattle.executor_model.specs.Weights.{same, weigh}
-use Rattle.executor_model.proofs.Calls.{calling_of, Passes, Answering}
-use Rattle.executor_model.proofs.Lists.{same_is, weigh-reverse}
-use Rattle.executor_model.proofs.Resting.{counts-answering}
-use Rattle.executor_model.proofs.SleepersFollowingRuns.{Followed, agrees}
-use Rattle.executor_model.proofs.UsingSteps.{AllUsed}
-use Rattle.executor_model.proofs.Holding.{nowhere, seen, seen-light, seen-passes, Spotted, Open, Holds, held-step}
-use Rattle.executor_model.proofs.Holding.{held-asks}
-use Rattle.runs_called.proofs.Sitting.{placed-in}
-use Rattle.runs_called.proofs.Stands.{View, view, Doing, with_doing, doing, Footing, Stands, Mark, asks_of}
-use Rattle.runs_called.proofs.StandsEnds.{marked}
-use Rattle.runs_called.proofs.StandsPolls.{begun_in}
-use Rattle.runs_called.proofs.StandsTied.{IsTied, Tied, tied-all, tied-push, tied-rest, tied-set}
-use Rattle.runs_called.proofs.StandsWeights.{footing, asks-weighs, asks-calling, split-doing, push-doing}
-use Rattle.runs_called.proofs.StandsWorlds.{Lay}
-use Rattle.runs_called.proofs.Watched.{Watched, watched}
+use Rattle.executor_model.proofs.Quiet.Calls.{calling_of, Passes, Answering}
+use Rattle.executor_model.proofs.Steps.Lists.{same_is, weigh-reverse}
+use Rattle.executor_model.proofs.Quiet.Resting.{counts-answering}
+use Rattle.executor_model.proofs.Sleepers.SleepersFollowingExecutions.{Followed, agrees}
+use Rattle.executor_model.proofs.OwnQueues.UsingSteps.{AllUsed}
+use Rattle.executor_model.proofs.Awaiters.Holding.{nowhere, seen, seen-light, seen-passes, Spotted, Open, Holds, held-step}
+use Rattle.executor_model.proofs.Awaiters.Holding.{held-asks}
+use Rattle.executor_laws.proofs.Wakeups.Sitting.{placed-in}
+use Rattle.executor_laws.proofs.Wakeups.Stands.{View, view, Doing, with_doing, doing, Footing, Stands, Mark, asks_of}
+use Rattle.executor_laws.proofs.Wakeups.StandsEnds.{marked}
+use Rattle.executor_laws.proofs.Wakeups.StandsPolls.{begun_in}
+use Rattle.executor_laws.proofs.Wakeups.StandsTied.{IsTied, Tied, tied-all, tied-push, tied-rest, tied-set}
+use Rattle.executor_laws.proofs.Wakeups.StandsWeights.{footing, asks-weighs, asks-calling, split-doing, push-doing}
+use Rattle.executor_laws.proofs.Wakeups.StandsWorlds.{HasSlept}
+use Rattle.executor_laws.proofs.Wakeups.Watched.{Watched, watched}
 
 abbrev pub open_of : Watched → Open
 open_of s = record { asking = s.asking; party = s.party; inner = s.inner }
@@ -29,13 +30,13 @@ open_of s = record { asking = s.asking; party = s.party; inner = s.inner }
 pub record Standing (s : Machine) : Type 0 where
   pub followed : Followed s
   pub used : AllUsed s
-  pub tied : (t : Sleeper) (q : ℕ) → IsTied t (stack s q)
-  pub stands : (t : Sleeper) →
+  pub tied : (t : TickOrRun) (q : ℕ) → IsTied t (stack s q)
+  pub stands : (t : TickOrRun) →
       Stands (view t s.world) (doing t s.parties) (marked (view t s.world) (doing t s.parties))
-  pub held : (t : Sleeper) → Holds (asks_of t) (open_of (watched t s.world.trace)) s.parties
+  pub held : (t : TickOrRun) → Holds (asks_of t) (open_of (watched t s.world.trace)) s.parties
 
-pub lay : (s : Machine) → Standing s → Lay s.world
-lay s h = record {
+pub slept : (s : Machine) → Standing s → HasSlept s.world
+slept s h = record {
   apart = λ t u n a b. (agrees s h.followed).apart t u n (placed-in s.world t ∙ a) (placed-in s.world u ∙ b);
   placed = λ t. (h.stands t).placed;
 }
@@ -47,7 +48,7 @@ renew v x m h = grind arith
 -- a step of party p, by what it keeps of t and of its mark
 
 module _ (s : Machine) (p : ℕ) (old rest : List Op) (d : Done) (l : p < length s.parties)
-    (e : stack s p ≡ rest ++ reverse old) (h : Standing s) (t : Sleeper) where
+    (e : stack s p ≡ rest ++ reverse old) (h : Standing s) (t : TickOrRun) where
   abbrev pub beside : Doing
   beside = doing t (set s.parties p rest)
 

@@ -1,3 +1,4 @@
+-- For some_standing_is_called.
 -- What is seen of a tick or run and of its last poll is what the definitions over the trace say.
 use Rattle.std.proofs.Common.{◌≡◌, ◌⊎◌, ◌∙◌, ℕ, zero, suc, ◌+◌, [], ◌∷◌, drop, Bool, true, false, ◌&&◌, ◌||◌, cond, eqb}
 use Rattle.std.proofs.Common.{refl, sym, ap, subst, inl, inr, ⊎_elim, arith}
@@ -8,67 +9,67 @@ use Rattle.executor_model.specs.declared.event.Event.{Event}
 use Rattle.executor_model.specs.declared.event.Event.TheVariants as event
 use Rattle.executor_model.specs.declared.op.Polled.TheVariants as of
 use Rattle.executor_model.specs.Trace.{Trace, has}
-use Rattle.executor_model.specs.declared.op.Sleeper.{Sleeper}
-use Rattle.executor_model.specs.declared.op.Sleeper.TheVariants as sleeper
+use Rattle.executor_model.specs.declared.op.TickOrRun.{TickOrRun}
+use Rattle.executor_model.specs.declared.op.TickOrRun.TheVariants as tick_or_run
 use Rattle.executor_model.specs.Standing.{calls_poll, drops_sleeper, poll_of, polls_sleeper}
-use Rattle.runs_called.proofs.Sitting.{eq-is, eq-self, eq_who}
-use Rattle.runs_called.proofs.Watched.{Watched, called_at, unwatched, is_pending, is_refusal, parted, poll_begun}
-use Rattle.runs_called.proofs.Watched.{ended_in, watches, watched_from, watched}
+use Rattle.executor_laws.proofs.Wakeups.Sitting.{eq-is, eq-self, eq_who}
+use Rattle.executor_laws.proofs.Wakeups.Watched.{Watched, called_at, unwatched, is_pending, is_refusal, parted, poll_begun}
+use Rattle.executor_laws.proofs.Wakeups.Watched.{ended_in, watches, watched_from, watched}
 
 -- the same events, by what they are first
 
-abbrev pub polls_it : Sleeper → Event → Bool
-polls_it who (event.TickPolled p u) = eq_who who (sleeper.Tick u)
-polls_it who (event.RunPolled p q) = eq_who who (sleeper.Run q)
+abbrev pub polls_it : TickOrRun → Event → Bool
+polls_it who (event.TickPolled p u) = eq_who who (tick_or_run.Tick u)
+polls_it who (event.RunPolled p q) = eq_who who (tick_or_run.Run q)
 polls_it who _ = false
 
-abbrev pub drops_it : Sleeper → Event → Bool
-drops_it who (event.TickDropped p u) = eq_who who (sleeper.Tick u)
-drops_it who (event.RunDropped p q) = eq_who who (sleeper.Run q)
+abbrev pub drops_it : TickOrRun → Event → Bool
+drops_it who (event.TickDropped p u) = eq_who who (tick_or_run.Tick u)
+drops_it who (event.RunDropped p q) = eq_who who (tick_or_run.Run q)
 drops_it who _ = false
 
-abbrev pub calls_it : Sleeper → ℕ → Event → Bool
-calls_it who k (event.WakerCalled p (of.Tick u) n a) = eq_who who (sleeper.Tick u) && eqb k n
-calls_it who k (event.WakerCalled p (of.Run q) n a) = eq_who who (sleeper.Run q) && eqb k n
+abbrev pub calls_it : TickOrRun → ℕ → Event → Bool
+calls_it who k (event.WakerCalled p (of.Tick u) n a) = eq_who who (tick_or_run.Tick u) && eqb k n
+calls_it who k (event.WakerCalled p (of.Run q) n a) = eq_who who (tick_or_run.Run q) && eqb k n
 calls_it who k _ = false
 
-polls-one : (who : Sleeper) (e : Event) → polls_sleeper who e ≡ polls_it who e
-polls-one (sleeper.Tick t) (event.TickPolled p u) = refl
-polls-one (sleeper.Tick t) (event.RunPolled p q) = refl
-polls-one (sleeper.Run r) (event.TickPolled p u) = refl
-polls-one (sleeper.Run r) (event.RunPolled p q) = refl
-polls-one (sleeper.Tick t) _ = refl
-polls-one (sleeper.Run r) _ = refl
+polls-one : (who : TickOrRun) (e : Event) → polls_sleeper who e ≡ polls_it who e
+polls-one (tick_or_run.Tick t) (event.TickPolled p u) = refl
+polls-one (tick_or_run.Tick t) (event.RunPolled p q) = refl
+polls-one (tick_or_run.Run r) (event.TickPolled p u) = refl
+polls-one (tick_or_run.Run r) (event.RunPolled p q) = refl
+polls-one (tick_or_run.Tick t) _ = refl
+polls-one (tick_or_run.Run r) _ = refl
 
-drops-one : (who : Sleeper) (e : Event) → drops_sleeper who e ≡ drops_it who e
-drops-one (sleeper.Tick t) (event.TickDropped p u) = refl
-drops-one (sleeper.Tick t) (event.RunDropped p q) = refl
-drops-one (sleeper.Run r) (event.TickDropped p u) = refl
-drops-one (sleeper.Run r) (event.RunDropped p q) = refl
-drops-one (sleeper.Tick t) _ = refl
-drops-one (sleeper.Run r) _ = refl
+drops-one : (who : TickOrRun) (e : Event) → drops_sleeper who e ≡ drops_it who e
+drops-one (tick_or_run.Tick t) (event.TickDropped p u) = refl
+drops-one (tick_or_run.Tick t) (event.RunDropped p q) = refl
+drops-one (tick_or_run.Run r) (event.TickDropped p u) = refl
+drops-one (tick_or_run.Run r) (event.RunDropped p q) = refl
+drops-one (tick_or_run.Tick t) _ = refl
+drops-one (tick_or_run.Run r) _ = refl
 
-calls-one : (who : Sleeper) (k : ℕ) (e : Event) → calls_poll who k e ≡ calls_it who k e
-calls-one (sleeper.Tick t) k (event.WakerCalled p (of.Tick u) n a) = refl
-calls-one (sleeper.Tick t) k (event.WakerCalled p (of.Run q) n a) = refl
-calls-one (sleeper.Tick t) k (event.WakerCalled p (of.Handle f) n a) = refl
-calls-one (sleeper.Run r) k (event.WakerCalled p (of.Tick u) n a) = refl
-calls-one (sleeper.Run r) k (event.WakerCalled p (of.Run q) n a) = refl
-calls-one (sleeper.Run r) k (event.WakerCalled p (of.Handle f) n a) = refl
-calls-one (sleeper.Tick t) k _ = refl
-calls-one (sleeper.Run r) k _ = refl
+calls-one : (who : TickOrRun) (k : ℕ) (e : Event) → calls_poll who k e ≡ calls_it who k e
+calls-one (tick_or_run.Tick t) k (event.WakerCalled p (of.Tick u) n a) = refl
+calls-one (tick_or_run.Tick t) k (event.WakerCalled p (of.Run q) n a) = refl
+calls-one (tick_or_run.Tick t) k (event.WakerCalled p (of.Handle f) n a) = refl
+calls-one (tick_or_run.Run r) k (event.WakerCalled p (of.Tick u) n a) = refl
+calls-one (tick_or_run.Run r) k (event.WakerCalled p (of.Run q) n a) = refl
+calls-one (tick_or_run.Run r) k (event.WakerCalled p (of.Handle f) n a) = refl
+calls-one (tick_or_run.Tick t) k _ = refl
+calls-one (tick_or_run.Run r) k _ = refl
 
 has-same : (a b : Event → Bool) → ((e : Event) → a e ≡ b e) → (es : Trace) → has a es ≡ has b es
 has-same a b k [] = refl
 has-same a b k (e ∷ es) = λ i. k e i || has-same a b k es i
 
-pub polls-is : (who : Sleeper) (es : Trace) → has (polls_sleeper who) es ≡ has (polls_it who) es
+pub polls-is : (who : TickOrRun) (es : Trace) → has (polls_sleeper who) es ≡ has (polls_it who) es
 polls-is who es = has-same (polls_sleeper who) (polls_it who) (polls-one who) es
 
-pub drops-is : (who : Sleeper) (es : Trace) → has (drops_sleeper who) es ≡ has (drops_it who) es
+pub drops-is : (who : TickOrRun) (es : Trace) → has (drops_sleeper who) es ≡ has (drops_it who) es
 drops-is who es = has-same (drops_sleeper who) (drops_it who) (drops-one who) es
 
-pub calls-is : (who : Sleeper) (k : ℕ) (es : Trace) → has (calls_poll who k) es ≡ has (calls_it who k) es
+pub calls-is : (who : TickOrRun) (k : ℕ) (es : Trace) → has (calls_poll who k) es ≡ has (calls_it who k) es
 calls-is who k es = has-same (calls_poll who k) (calls_it who k) (calls-one who k) es
 
 or-false : (b : Bool) → b ≡ (b || false)
@@ -113,44 +114,42 @@ called-left : (b : Bool) (k : ℕ) (s : Watched) → (cond b (called_at k s) s).
 called-left true k s = refl
 called-left false k s = refl
 
-left-one : (t : Sleeper) (n : ℕ) (e : Event) (s : Watched) → (watches t n e s).left ≡ (s.left || drops_it t e)
-left-one t n (event.TickPolled p u) s = left-polled (eq_who t (sleeper.Tick u)) n p s ∙ or-false s.left
-left-one t n (event.RunPolled p q) s = left-polled (eq_who t (sleeper.Run q)) n p s ∙ or-false s.left
-left-one t n (event.TickDropped p u) s = left-dropped (eq_who t (sleeper.Tick u)) s
-left-one t n (event.RunDropped p q) s = left-dropped (eq_who t (sleeper.Run q)) s
-left-one t n (event.CallBegun p c) s = or-false s.left
+left-one : (t : TickOrRun) (n : ℕ) (e : Event) (s : Watched) → (watches t n e s).left ≡ (s.left || drops_it t e)
+left-one t n (event.TickPolled p u) s = left-polled (eq_who t (tick_or_run.Tick u)) n p s ∙ or-false s.left
+left-one t n (event.RunPolled p q) s = left-polled (eq_who t (tick_or_run.Run q)) n p s ∙ or-false s.left
+left-one t n (event.TickDropped p u) s = left-dropped (eq_who t (tick_or_run.Tick u)) s
+left-one t n (event.RunDropped p q) s = left-dropped (eq_who t (tick_or_run.Run q)) s
 left-one t n (event.CallEnded p r) s = ended-same (λ (x : Watched). x.left) (λ r s. refl) (λ n s. refl) _ s.inner r s
     ∙ or-false s.left
-left-one t n (event.WakerCalled p (of.Tick u) k a) s = called-left (eq_who t (sleeper.Tick u)) k s ∙ or-false s.left
-left-one t n (event.WakerCalled p (of.Run q) k a) s = called-left (eq_who t (sleeper.Run q)) k s ∙ or-false s.left
-left-one t n (event.WakerCalled p (of.Handle f) k a) s = or-false s.left
+left-one t n (event.WakerCalled p (of.Tick u) k a) s = called-left (eq_who t (tick_or_run.Tick u)) k s ∙ or-false s.left
+left-one t n (event.WakerCalled p (of.Run q) k a) s = called-left (eq_who t (tick_or_run.Run q)) k s ∙ or-false s.left
 left-one t n _ s = or-false s.left
 
-left-from : (t : Sleeper) (n : ℕ) (s : Watched) (es : Trace) →
+left-from : (t : TickOrRun) (n : ℕ) (s : Watched) (es : Trace) →
     (watched_from t n s es).left ≡ (s.left || has (drops_it t) es)
 left-from t n s [] = or-false s.left
 left-from t n s (e ∷ es) = left-from t (suc n) (watches t n e s) es
     ∙ (ap (λ (b : Bool). b || has (drops_it t) es) (left-one t n e s) ∙ or_assoc s.left (drops_it t e)
     (has (drops_it t) es))
 
-pub left-has : (t : Sleeper) (es : Trace) → (watched t es).left ≡ has (drops_it t) es
+pub left-has : (t : TickOrRun) (es : Trace) → (watched t es).left ≡ has (drops_it t) es
 unfolding watched
 left-has t es = left-from t 0 unwatched es
 
 -- its last poll
 
-pub record LastPoll (t : Sleeper) (es : Trace) : Type 0 where
+pub record LastPoll (t : TickOrRun) (es : Trace) : Type 0 where
   pub party : ℕ
   pub poll : ℕ
   pub polled : slice_get es poll ≡ Some (poll_of t party)
   pub last : has (polls_it t) (drop (suc poll) es) ≡ false
 
-poll-is : (t : Sleeper) (e : Event) → polls_it t e ≡ true → (p : ℕ) × (e ≡ poll_of t p)
-poll-is t (event.TickPolled p u) k = (p, ap (λ (w : Sleeper). poll_of w p) (sym (eq-is t (sleeper.Tick u) k)))
-poll-is t (event.RunPolled p q) k = (p, ap (λ (w : Sleeper). poll_of w p) (sym (eq-is t (sleeper.Run q) k)))
+poll-is : (t : TickOrRun) (e : Event) → polls_it t e ≡ true → (p : ℕ) × (e ≡ poll_of t p)
+poll-is t (event.TickPolled p u) k = (p, ap (λ (w : TickOrRun). poll_of w p) (sym (eq-is t (tick_or_run.Tick u) k)))
+poll-is t (event.RunPolled p q) k = (p, ap (λ (w : TickOrRun). poll_of w p) (sym (eq-is t (tick_or_run.Run q) k)))
 poll-is t _ k = absurd (cc)
 
-pub last-poll : (t : Sleeper) (es : Trace) → (has (polls_it t) es ≡ false) ⊎ LastPoll t es
+pub last-poll : (t : TickOrRun) (es : Trace) → (has (polls_it t) es ≡ false) ⊎ LastPoll t es
 last-poll t [] = inl refl
 last-poll t (e ∷ es) = ⊎_elim
     (λ (z : has (polls_it t) es ≡ false). by (polls_it t e) refl z)
@@ -173,15 +172,15 @@ not-dropped true s e = absurd (cc)
 
 -- what is seen where it begins
 
-watches-own : (t : Sleeper) (n p : ℕ) (s : Watched) → watches t n (poll_of t p) s ≡ poll_begun n p s
-watches-own (sleeper.Tick t) n p s = ap (λ (b : Bool). cond b (poll_begun n p s) s) (eq-self (sleeper.Tick t))
-watches-own (sleeper.Run r) n p s = ap (λ (b : Bool). cond b (poll_begun n p s) s) (eq-self (sleeper.Run r))
+watches-own : (t : TickOrRun) (n p : ℕ) (s : Watched) → watches t n (poll_of t p) s ≡ poll_begun n p s
+watches-own (tick_or_run.Tick t) n p s = ap (λ (b : Bool). cond b (poll_begun n p s) s) (eq-self (tick_or_run.Tick t))
+watches-own (tick_or_run.Run r) n p s = ap (λ (b : Bool). cond b (poll_begun n p s) s) (eq-self (tick_or_run.Run r))
 
-pub record Begun (t : Sleeper) (poll party : ℕ) (es : Trace) : Type 0 where
+pub record Begun (t : TickOrRun) (poll party : ℕ) (es : Trace) : Type 0 where
   pub before : Watched
   pub all : watched t es ≡ watched_from t (suc poll) (poll_begun poll party before) (drop (suc poll) es)
 
-begun-from : (t : Sleeper) (n k p : ℕ) (s : Watched) (es : Trace) → slice_get es k ≡ Some (poll_of t p) →
+begun-from : (t : TickOrRun) (n k p : ℕ) (s : Watched) (es : Trace) → slice_get es k ≡ Some (poll_of t p) →
     (before : Watched) × (watched_from t n s es ≡ watched_from t (suc (n + k)) (poll_begun (n + k) p before)
     (drop (suc k) es))
 begun-from t n k p s [] e = absurd (cc)
@@ -199,7 +198,7 @@ begun-from t n (suc k) p s (x ∷ es) e =
           (let z : suc n + k ≡ n + suc k = omega arith in z),
     )
 
-pub begun-at : (t : Sleeper) (k p : ℕ) (es : Trace) → slice_get es k ≡ Some (poll_of t p) → Begun t k p es
+pub begun-at : (t : TickOrRun) (k p : ℕ) (es : Trace) → slice_get es k ≡ Some (poll_of t p) → Begun t k p es
 unfolding watched
 begun-at t k p es e =
     let x : _ = begun-from t 0 k p unwatched es e in
@@ -224,31 +223,29 @@ unasked-called : (b : Bool) (k : ℕ) (s : Watched) → IsUnasked s → IsUnaske
 unasked-called true k s h = h
 unasked-called false k s h = h
 
-unasked-one : (t : Sleeper) (n : ℕ) (e : Event) (s : Watched) → polls_it t e ≡ false → IsUnasked s →
+unasked-one : (t : TickOrRun) (n : ℕ) (e : Event) (s : Watched) → polls_it t e ≡ false → IsUnasked s →
     IsUnasked (watches t n e s)
-unasked-one t n (event.TickPolled p u) s k h = subst IsUnasked (sym (not-polled (eq_who t (sleeper.Tick u)) n p s k)) h
-unasked-one t n (event.RunPolled p q) s k h = subst IsUnasked (sym (not-polled (eq_who t (sleeper.Run q)) n p s k)) h
-unasked-one t n (event.TickDropped p u) s k h = unasked-dropped (eq_who t (sleeper.Tick u)) s h
-unasked-one t n (event.RunDropped p q) s k h = unasked-dropped (eq_who t (sleeper.Run q)) s h
-unasked-one t n (event.CallBegun p c) s k h = h
+unasked-one t n (event.TickPolled p u) s k h = subst IsUnasked (sym (not-polled (eq_who t (tick_or_run.Tick u)) n p s k)) h
+unasked-one t n (event.RunPolled p q) s k h = subst IsUnasked (sym (not-polled (eq_who t (tick_or_run.Run q)) n p s k)) h
+unasked-one t n (event.TickDropped p u) s k h = unasked-dropped (eq_who t (tick_or_run.Tick u)) s h
+unasked-one t n (event.RunDropped p q) s k h = unasked-dropped (eq_who t (tick_or_run.Run q)) s h
 unasked-one t n (event.CallEnded p r) s k h =
     subst (λ (a : Bool). IsUnasked (cond (a && eqb s.party p) (ended_in s.inner r s) s)) (sym h.0) h
-unasked-one t n (event.WakerCalled p (of.Tick u) x a) s k h = unasked-called (eq_who t (sleeper.Tick u)) x s h
-unasked-one t n (event.WakerCalled p (of.Run q) x a) s k h = unasked-called (eq_who t (sleeper.Run q)) x s h
-unasked-one t n (event.WakerCalled p (of.Handle f) x a) s k h = h
+unasked-one t n (event.WakerCalled p (of.Tick u) x a) s k h = unasked-called (eq_who t (tick_or_run.Tick u)) x s h
+unasked-one t n (event.WakerCalled p (of.Run q) x a) s k h = unasked-called (eq_who t (tick_or_run.Run q)) x s h
 unasked-one t n _ s k h = h
 
-unasked-from : (t : Sleeper) (n : ℕ) (s : Watched) (es : Trace) → has (polls_it t) es ≡ false → IsUnasked s →
+unasked-from : (t : TickOrRun) (n : ℕ) (s : Watched) (es : Trace) → has (polls_it t) es ≡ false → IsUnasked s →
     IsUnasked (watched_from t n s es)
 unasked-from t n s [] k h = h
 unasked-from t n s (e ∷ es) k h = let x : _ = or-none (polls_it t e) (has (polls_it t) es) k in
     unasked-from t (suc n) (watches t n e s) es x.1 (unasked-one t n e s x.0 h)
 
-pub unasked-all : (t : Sleeper) (es : Trace) → has (polls_it t) es ≡ false → (watched t es).asking ≡ false
+pub unasked-all : (t : TickOrRun) (es : Trace) → has (polls_it t) es ≡ false → (watched t es).asking ≡ false
 unfolding watched
 unasked-all t es k = (unasked-from t 0 unwatched es k (refl, refl, refl)).0
 
-pub unasked : (t : Sleeper) (es : Trace) → has (polls_it t) es ≡ false →
+pub unasked : (t : TickOrRun) (es : Trace) → has (polls_it t) es ≡ false →
     ((watched t es).pending ≡ false) × ((watched t es).refused ≡ false)
 unfolding watched
 unasked t es k = let x : _ = unasked-from t 0 unwatched es k (refl, refl, refl) in (x.1, x.2)
@@ -280,46 +277,42 @@ poll-dropped : (b : Bool) (s : Watched) → (cond b (parted s) s).poll ≡ s.pol
 poll-dropped true s = refl
 poll-dropped false s = refl
 
-poll-one : (t : Sleeper) (n : ℕ) (e : Event) (s : Watched) → polls_it t e ≡ false → (watches t n e s).poll ≡ s.poll
-poll-one t n (event.TickPolled p u) s h = ap (λ (x : Watched). x.poll) (not-polled (eq_who t (sleeper.Tick u)) n p s h)
-poll-one t n (event.RunPolled p q) s h = ap (λ (x : Watched). x.poll) (not-polled (eq_who t (sleeper.Run q)) n p s h)
-poll-one t n (event.TickDropped p u) s h = poll-dropped (eq_who t (sleeper.Tick u)) s
-poll-one t n (event.RunDropped p q) s h = poll-dropped (eq_who t (sleeper.Run q)) s
+poll-one : (t : TickOrRun) (n : ℕ) (e : Event) (s : Watched) → polls_it t e ≡ false → (watches t n e s).poll ≡ s.poll
+poll-one t n (event.TickPolled p u) s h = ap (λ (x : Watched). x.poll) (not-polled (eq_who t (tick_or_run.Tick u)) n p s h)
+poll-one t n (event.RunPolled p q) s h = ap (λ (x : Watched). x.poll) (not-polled (eq_who t (tick_or_run.Run q)) n p s h)
+poll-one t n (event.TickDropped p u) s h = poll-dropped (eq_who t (tick_or_run.Tick u)) s
+poll-one t n (event.RunDropped p q) s h = poll-dropped (eq_who t (tick_or_run.Run q)) s
 poll-one t n (event.CallEnded p r) s h = ended-same (λ (x : Watched). x.poll) (λ r s. refl) (λ n s. refl) _ s.inner r s
-poll-one t n (event.CallBegun p c) s h = refl
-poll-one t n (event.WakerCalled p (of.Tick u) k a) s h = called-poll (eq_who t (sleeper.Tick u)) k s
-poll-one t n (event.WakerCalled p (of.Run q) k a) s h = called-poll (eq_who t (sleeper.Run q)) k s
-poll-one t n (event.WakerCalled p (of.Handle f) k a) s h = refl
+poll-one t n (event.WakerCalled p (of.Tick u) k a) s h = called-poll (eq_who t (tick_or_run.Tick u)) k s
+poll-one t n (event.WakerCalled p (of.Run q) k a) s h = called-poll (eq_who t (tick_or_run.Run q)) k s
 poll-one t n _ s h = refl
 
-called-one : (t : Sleeper) (n : ℕ) (e : Event) (s : Watched) → polls_it t e ≡ false →
+called-one : (t : TickOrRun) (n : ℕ) (e : Event) (s : Watched) → polls_it t e ≡ false →
     (watches t n e s).called ≡ (s.called || calls_it t s.poll e)
 called-one t n (event.TickPolled p u) s h =
-    ap (λ (x : Watched). x.called) (not-polled (eq_who t (sleeper.Tick u)) n p s h)
+    ap (λ (x : Watched). x.called) (not-polled (eq_who t (tick_or_run.Tick u)) n p s h)
     ∙ or-false s.called
 called-one t n (event.RunPolled p q) s h =
-    ap (λ (x : Watched). x.called) (not-polled (eq_who t (sleeper.Run q)) n p s h)
+    ap (λ (x : Watched). x.called) (not-polled (eq_who t (tick_or_run.Run q)) n p s h)
     ∙ or-false s.called
-called-one t n (event.TickDropped p u) s h = called-dropped (eq_who t (sleeper.Tick u)) s ∙ or-false s.called
-called-one t n (event.RunDropped p q) s h = called-dropped (eq_who t (sleeper.Run q)) s ∙ or-false s.called
+called-one t n (event.TickDropped p u) s h = called-dropped (eq_who t (tick_or_run.Tick u)) s ∙ or-false s.called
+called-one t n (event.RunDropped p q) s h = called-dropped (eq_who t (tick_or_run.Run q)) s ∙ or-false s.called
 called-one t n (event.CallEnded p r) s h = ended-same (λ (x : Watched). x.called) (λ r s. refl) (λ n s. refl) _ s.inner
     r s
     ∙ or-false s.called
-called-one t n (event.CallBegun p c) s h = or-false s.called
-called-one t n (event.WakerCalled p (of.Tick u) k a) s h = called-by (eq_who t (sleeper.Tick u)) k s
-    ∙ or-conds (eq_who t (sleeper.Tick u)) (eqb s.poll k) s.called
-called-one t n (event.WakerCalled p (of.Run q) k a) s h = called-by (eq_who t (sleeper.Run q)) k s
-    ∙ or-conds (eq_who t (sleeper.Run q)) (eqb s.poll k) s.called
-called-one t n (event.WakerCalled p (of.Handle f) k a) s h = or-false s.called
+called-one t n (event.WakerCalled p (of.Tick u) k a) s h = called-by (eq_who t (tick_or_run.Tick u)) k s
+    ∙ or-conds (eq_who t (tick_or_run.Tick u)) (eqb s.poll k) s.called
+called-one t n (event.WakerCalled p (of.Run q) k a) s h = called-by (eq_who t (tick_or_run.Run q)) k s
+    ∙ or-conds (eq_who t (tick_or_run.Run q)) (eqb s.poll k) s.called
 called-one t n _ s h = or-false s.called
 
-pub poll-from : (t : Sleeper) (n : ℕ) (s : Watched) (es : Trace) → has (polls_it t) es ≡ false →
+pub poll-from : (t : TickOrRun) (n : ℕ) (s : Watched) (es : Trace) → has (polls_it t) es ≡ false →
     (watched_from t n s es).poll ≡ s.poll
 poll-from t n s [] h = refl
 poll-from t n s (e ∷ es) h = let x : _ = or-none (polls_it t e) (has (polls_it t) es) h in
     poll-from t (suc n) (watches t n e s) es x.1 ∙ poll-one t n e s x.0
 
-pub called-from : (t : Sleeper) (n k : ℕ) (s : Watched) (es : Trace) → s.poll ≡ k → has (polls_it t) es ≡ false →
+pub called-from : (t : TickOrRun) (n k : ℕ) (s : Watched) (es : Trace) → s.poll ≡ k → has (polls_it t) es ≡ false →
     (watched_from t n s es).called ≡ (s.called || has (calls_it t k) es)
 called-from t n k s [] q h = or-false s.called
 called-from t n k s (e ∷ es) q h =

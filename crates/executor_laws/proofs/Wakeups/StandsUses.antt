@@ -1,3 +1,4 @@
+-- For some_standing_is_called.
 -- A tick or run that a call may use lives, and nothing uses it; and none lives where the executor may be dropped.
 use Rattle.std.proofs.Common.{◌≡◌, ◌∙◌, ℕ, zero, suc, ◌<◌, List, [], ◌∷◌, length, get_or, Bool, true, false, ◌&&◌, ◌||◌}
 use Rattle.std.proofs.Common.{refl, sym, ap, subst, arith}
@@ -15,8 +16,8 @@ use Rattle.executor_model.specs.declared.op.Op.TheVariants as op
 use Rattle.executor_model.specs.declared.op.QueueOp.TheVariants as queue_op
 use Rattle.executor_model.specs.declared.op.RunOp.TheVariants as run_op
 use Rattle.executor_model.specs.declared.op.Section.TheVariants as section
-use Rattle.executor_model.specs.declared.op.Sleeper.{Sleeper}
-use Rattle.executor_model.specs.declared.op.Sleeper.TheVariants as sleeper
+use Rattle.executor_model.specs.declared.op.TickOrRun.{TickOrRun}
+use Rattle.executor_model.specs.declared.op.TickOrRun.TheVariants as tick_or_run
 use Rattle.executor_model.specs.declared.op.SleeperOp.TheVariants as sleeper_op
 use Rattle.executor_model.specs.declared.op.StealOp.TheVariants as steal_op
 use Rattle.executor_model.specs.declared.op.TableOp.TheVariants as table_op
@@ -26,33 +27,33 @@ use Rattle.executor_model.specs.declared.op.WakerOp.TheVariants as waker_op
 use Rattle.executor_model.specs.Rows.{running_of, ticking_of}
 use Rattle.executor_model.specs.Steps.{Machine, has_run, has_tick, is_there, lives}
 use Rattle.executor_model.specs.Weights.{is_run, is_tick as is_the_tick, holds_run, holds_tick, weigh, weigh_all}
-use Rattle.executor_model.specs.World.{Place, Left, Run, no_run}
-use Rattle.executor_model.proofs.Lift.{first-true, unborrowed}
-use Rattle.executor_model.proofs.TickLists.{is_tick}
-use Rattle.runs_called.proofs.Sitting.{holds_it, is_it}
-use Rattle.runs_called.proofs.Stands.{used_of, view}
+use Rattle.executor_model.specs.World.{Ticker, Left, Run, no_run}
+use Rattle.executor_model.proofs.Steps.Lift.{first-true, unborrowed}
+use Rattle.executor_model.proofs.Sleepers.TickLists.{is_tick}
+use Rattle.executor_laws.proofs.Wakeups.Sitting.{holds_it, is_it}
+use Rattle.executor_laws.proofs.Wakeups.Stands.{used_of, view}
 
 -- what uses it is what is counted
 
-who-tick : (t : ℕ) (u : Sleeper) → is_it (sleeper.Tick t) u ≡ is_the_tick t u
-who-tick t (sleeper.Tick u) = refl
-who-tick t (sleeper.Run q) = refl
+who-tick : (t : ℕ) (u : TickOrRun) → is_it (tick_or_run.Tick t) u ≡ is_the_tick t u
+who-tick t (tick_or_run.Tick u) = refl
+who-tick t (tick_or_run.Run q) = refl
 
-who-run : (r : ℕ) (u : Sleeper) → is_it (sleeper.Run r) u ≡ is_run r u
-who-run r (sleeper.Tick u) = refl
-who-run r (sleeper.Run q) = refl
+who-run : (r : ℕ) (u : TickOrRun) → is_it (tick_or_run.Run r) u ≡ is_run r u
+who-run r (tick_or_run.Tick u) = refl
+who-run r (tick_or_run.Run q) = refl
 
-held-tick : (t : ℕ) (h : Hold) → holds_it (sleeper.Tick t) h ≡ holds_tick t h
+held-tick : (t : ℕ) (h : Hold) → holds_it (tick_or_run.Tick t) h ≡ holds_tick t h
 held-tick t (hold.Tick u) = refl
 held-tick t (hold.Run q) = refl
 held-tick t _ = refl
 
-held-run : (r : ℕ) (h : Hold) → holds_it (sleeper.Run r) h ≡ holds_run r h
+held-run : (r : ℕ) (h : Hold) → holds_it (tick_or_run.Run r) h ≡ holds_run r h
 held-run r (hold.Tick u) = refl
 held-run r (hold.Run q) = refl
 held-run r _ = refl
 
-one-tick : (t : ℕ) (o : Op) → used_of (sleeper.Tick t) o ≡ ticking_of t o
+one-tick : (t : ℕ) (o : Op) → used_of (tick_or_run.Tick t) o ≡ ticking_of t o
 one-tick t (op.Move move.Wake f) = refl
 one-tick t (op.Table table_op.Enter) = refl
 one-tick t (op.Queue queue_op.Take) = refl
@@ -62,20 +63,16 @@ one-tick t (op.Handle (handle_op.LookAgain f)) = refl
 one-tick t (op.Sleeper sleeper_op.HandOut) = refl
 one-tick t (op.Tick (tick_op.Search s)) = who-tick t s.who
 one-tick t (op.Tick (tick_op.CopyWaker s)) = who-tick t s.who
-one-tick t (op.Tick (tick_op.LieDown s)) = who-tick t s.who
+one-tick t (op.Tick (tick_op.FallAsleep s)) = who-tick t s.who
 one-tick t (op.List (list_op.LockWrite section.MakeRun)) = refl
-one-tick t (op.List (list_op.LockWrite (section.Register x))) = refl
-one-tick t (op.List (list_op.LockWrite (section.Unregister q a))) = refl
 one-tick t (op.List (list_op.Write section.MakeRun)) = refl
-one-tick t (op.List (list_op.Write (section.Register x))) = refl
-one-tick t (op.List (list_op.Write (section.Unregister q a))) = refl
 one-tick t (op.Steal (steal_op.Length s)) = refl
 one-tick t (op.Run run_op.MakeRoom) = refl
 one-tick t (op.Closing closing_op.Drain) = refl
 one-tick t (op.End r held) = held-tick t held
 one-tick t _ = refl
 
-one-run : (r : ℕ) (o : Op) → used_of (sleeper.Run r) o ≡ running_of r o
+one-run : (r : ℕ) (o : Op) → used_of (tick_or_run.Run r) o ≡ running_of r o
 one-run r (op.Move move.Wake f) = refl
 one-run r (op.Table table_op.Enter) = refl
 one-run r (op.Queue queue_op.Take) = refl
@@ -85,13 +82,9 @@ one-run r (op.Handle (handle_op.LookAgain f)) = refl
 one-run r (op.Sleeper sleeper_op.HandOut) = refl
 one-run r (op.Tick (tick_op.Search s)) = who-run r s.who
 one-run r (op.Tick (tick_op.CopyWaker s)) = who-run r s.who
-one-run r (op.Tick (tick_op.LieDown s)) = who-run r s.who
+one-run r (op.Tick (tick_op.FallAsleep s)) = who-run r s.who
 one-run r (op.List (list_op.LockWrite section.MakeRun)) = refl
-one-run r (op.List (list_op.LockWrite (section.Register x))) = refl
-one-run r (op.List (list_op.LockWrite (section.Unregister q a))) = refl
 one-run r (op.List (list_op.Write section.MakeRun)) = refl
-one-run r (op.List (list_op.Write (section.Register x))) = refl
-one-run r (op.List (list_op.Write (section.Unregister q a))) = refl
 one-run r (op.Steal (steal_op.Length s)) = refl
 one-run r (op.Run run_op.MakeRoom) = refl
 one-run r (op.Closing closing_op.Drain) = refl
@@ -112,7 +105,7 @@ and-right : (a b : Bool) → (a && b) ≡ true → b ≡ true
 and-right true b e = e
 and-right false b e = absurd (cc)
 
-lives-known : (ts : List Place) (t : ℕ) → lives (get_or ts t Left) ≡ true → nat_lt t (length ts) ≡ true
+lives-known : (ts : List Ticker) (t : ℕ) → lives (get_or ts t Left) ≡ true → nat_lt t (length ts) ≡ true
 lives-known ts t e = let i : t < length ts =
     is_tick ts t (λ z. let no : true ≡ false = sym e ∙ ap lives z in absurd (cc)) in
     grind (arith, nat_tests)
@@ -125,24 +118,24 @@ run-there (x ∷ rs) (suc r) e = omega (arith, run-there rs r e)
 run-known : (rs : List Run) (r : ℕ) → not (get_or rs r no_run).dropped ≡ true → nat_lt r (length rs) ≡ true
 run-known rs r e = let i : r < length rs = run-there rs r e in grind (arith, nat_tests)
 
-abbrev Free : Machine → Sleeper → Type 0
+abbrev Free : Machine → TickOrRun → Type 0
 Free s t = ((view t s.world).living ≡ true) × ((view t s.world).made ≡ true) × (weigh_all (used_of t) s.parties ≡ 0)
 
-pub uses-tick : (s : Machine) (t : Sleeper) (u : ℕ) → has_tick s.world s.parties u ≡ true → t ≡ sleeper.Tick u →
+pub uses-tick : (s : Machine) (t : TickOrRun) (u : ℕ) → has_tick s.world s.parties u ≡ true → t ≡ tick_or_run.Tick u →
     Free s t
 uses-tick s t u k q =
     subst (Free s) (sym q) (
       first-true _ _ k,
       lives-known s.world.ticks u (first-true _ _ k),
-      all-same (used_of (sleeper.Tick u)) (ticking_of u) (one-tick u) s.parties ∙ unborrowed _ (and-right _ _ k),
+      all-same (used_of (tick_or_run.Tick u)) (ticking_of u) (one-tick u) s.parties ∙ unborrowed _ (and-right _ _ k),
     )
 
-pub uses-run : (s : Machine) (t : Sleeper) (r : ℕ) → has_run s.world s.parties r ≡ true → t ≡ sleeper.Run r → Free s t
+pub uses-run : (s : Machine) (t : TickOrRun) (r : ℕ) → has_run s.world s.parties r ≡ true → t ≡ tick_or_run.Run r → Free s t
 uses-run s t r k q =
     subst (Free s) (sym q) (
       first-true _ _ k,
       run-known s.world.runs r (first-true _ _ k),
-      all-same (used_of (sleeper.Run r)) (running_of r) (one-run r) s.parties ∙ unborrowed _ (and-right _ _ k),
+      all-same (used_of (tick_or_run.Run r)) (running_of r) (one-run r) s.parties ∙ unborrowed _ (and-right _ _ k),
     )
 
 -- none lives
@@ -161,7 +154,7 @@ second-false : (a b : Bool) → (a || b) ≡ false → b ≡ false
 second-false false b e = e
 second-false true b e = absurd (cc)
 
-no-tick : (ts : List Place) (t : ℕ) → list_any lives ts ≡ false → lives (get_or ts t Left) ≡ false
+no-tick : (ts : List Ticker) (t : ℕ) → list_any lives ts ≡ false → lives (get_or ts t Left) ≡ false
 no-tick [] zero e = refl
 no-tick [] (suc t) e = refl
 no-tick (x ∷ ts) zero e = first-false _ _ e
@@ -172,8 +165,8 @@ no-run [] r e = refl
 no-run (x ∷ rs) zero e = first-false _ _ e
 no-run (x ∷ rs) (suc r) e = no-run rs r (second-false _ _ e)
 
-pub none-lives : (s : Machine) (t : Sleeper) →
+pub none-lives : (s : Machine) (t : TickOrRun) →
     (list_any lives s.world.ticks ≡ false) × (list_any is_there s.world.runs ≡ false) →
     (view t s.world).living ≡ false
-none-lives s (sleeper.Tick t) e = no-tick s.world.ticks t e.0
-none-lives s (sleeper.Run r) e = no-run s.world.runs r e.1
+none-lives s (tick_or_run.Tick t) e = no-tick s.world.ticks t e.0
+none-lives s (tick_or_run.Run r) e = no-run s.world.runs r e.1

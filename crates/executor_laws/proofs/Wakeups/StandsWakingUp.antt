@@ -1,4 +1,5 @@
--- What is done lets nobody get up or leave but one that is in use.
+-- For some_standing_is_called.
+-- What is done lets nobody wake up or leave but one that is in use.
 use Rattle.std.proofs.Common.{◌≡◌, ℕ, List, [], ◌∷◌, ◌++◌, Bool, true, false, refl, arith}
 use Rattle.std.specs.Prelude.{Option, Some, None, is_none}
 use Rattle.executor_parts.specs.Sleepers.{waker_at, waker_of}
@@ -15,8 +16,8 @@ use Rattle.executor_model.specs.declared.op.RunOp.{RunOp}
 use Rattle.executor_model.specs.declared.op.RunOp.TheVariants as run_op
 use Rattle.executor_model.specs.declared.op.RunPoll.{RunPoll}
 use Rattle.executor_model.specs.declared.op.Section.TheVariants as section
-use Rattle.executor_model.specs.declared.op.Sleeper.{Sleeper}
-use Rattle.executor_model.specs.declared.op.Sleeper.TheVariants as sleeper
+use Rattle.executor_model.specs.declared.op.TickOrRun.{TickOrRun}
+use Rattle.executor_model.specs.declared.op.TickOrRun.TheVariants as tick_or_run
 use Rattle.executor_model.specs.declared.op.SleeperOp.TheVariants as sleeper_op
 use Rattle.executor_model.specs.declared.op.Sleeping.{Sleeping}
 use Rattle.executor_model.specs.declared.op.TickOp.{TickOp}
@@ -31,9 +32,9 @@ use Rattle.executor_model.specs.declared.step.Hint.{Hint}
 use Rattle.executor_model.specs.declared.step.UserEnd.{UserEnd}
 use Rattle.executor_model.specs.declared.step.UserEnd.TheVariants as end
 use Rattle.executor_model.specs.ActsOfRuns as runs
-use Rattle.executor_model.specs.ActsOfSleepers.{call_sleeper, copy_sleeper_by, get_up_by, leave_sleepers_by, lie_again_by}
-use Rattle.executor_model.specs.ActsOfSleepers.{hand_out_by, lie_anew_by, lie_down_by, lie_listed_by, make_tick_by, pend_as}
-use Rattle.executor_model.specs.ActsOfSleepers.{polled_as, search_by, sleeper_goes, tell_if}
+use Rattle.executor_model.specs.ActsOfSleepers.{call_sleeper, copy_sleeper_by, wake_up_by, leave_sleepers_by, sleep_again_by}
+use Rattle.executor_model.specs.ActsOfSleepers.{hand_out_by, sleep_anew_by, fall_asleep_by, sleep_listed_by, make_tick_by, pend_as}
+use Rattle.executor_model.specs.ActsOfSleepers.{polled_as, search_by, sleeper_goes, tell_and_return}
 use Rattle.executor_model.specs.Acts.{copy_by, is_copy_refused, wake}
 use Rattle.executor_model.specs.Doing.{act, list_act, run_act, search, tick_act}
 use Rattle.task_moves.specs.declared.moves.owed.Move.TheVariants as move
@@ -41,139 +42,135 @@ use Rattle.executor_model.specs.Steps.{accepts, begun, drop_run, future_of, kept
 use Rattle.executor_model.specs.declared.call.Call.{Call}
 use Rattle.executor_model.specs.declared.call.Call.TheVariants as call
 use Rattle.executor_model.specs.Weights.{weigh}
-use Rattle.executor_model.specs.World.{World, Place, Up, Lies, Left, Stage, New, Listed, Ended, Done, log}
-use Rattle.executor_model.proofs.SleepersCounting.{asleep}
-use Rattle.runs_called.proofs.Beside.{is_sits, beside-act, beside-move}
-use Rattle.runs_called.proofs.Stands.{rising_of}
-use Rattle.runs_called.proofs.StandsGoing.{beside-reference}
-use Rattle.runs_called.proofs.StandsLying.{nothing-goes}
-use Rattle.runs_called.proofs.StandsNothing.{nothing-of}
-use Rattle.runs_called.proofs.StandsOwn.{held-other}
-use Rattle.runs_called.proofs.StandsRuns.{walks-lock, walks-look_own, walks-search, walks-search_common, walks-steal}
-use Rattle.runs_called.proofs.StandsTied.{Tied, tied-append, tied-cons, tied-nil, tied-none}
+use Rattle.executor_model.specs.World.{World, Ticker, Awake, Asleep, Left, Stage, New, Listed, Ended, Done, log}
+use Rattle.executor_model.proofs.Steps.SleepersCounting.{asleep}
+use Rattle.executor_laws.proofs.Wakeups.Beside.{is_sits, beside-act, beside-move}
+use Rattle.executor_laws.proofs.Wakeups.Stands.{waking_up_of}
+use Rattle.executor_laws.proofs.Wakeups.StandsGoing.{beside-reference}
+use Rattle.executor_laws.proofs.Wakeups.StandsAsleep.{nothing-goes}
+use Rattle.executor_laws.proofs.Wakeups.StandsNothing.{nothing-of}
+use Rattle.executor_laws.proofs.Wakeups.StandsOwn.{held-other}
+use Rattle.executor_laws.proofs.Wakeups.StandsRuns.{walks-lock, walks-look_own, walks-search, walks-search_common, walks-steal}
+use Rattle.executor_laws.proofs.Wakeups.StandsTied.{Tied, tied-append, tied-cons, tied-nil, tied-none}
 
--- who has found something, and lies, gets up before it is told
-tied-found : (x : Place) (t : Sleeper) (w : World) (q : List ℕ) (s : Sleeping) → Tied t (search_by x w q s).next
+-- who has found something, and sleeps, wakes up before it is told
+tied-found : (x : Ticker) (t : TickOrRun) (w : World) (q : List ℕ) (s : Sleeping) → Tied t (search_by x w q s).next
 tied-found x t w [] s = tied-none t _ refl
-tied-found Up t w (f ∷ rest) s = tied-none t _ refl
+tied-found Awake t w (f ∷ rest) s = tied-none t _ refl
 tied-found Left t w (f ∷ rest) s = tied-none t _ refl
-tied-found (Lies n) t w (f ∷ rest) s =
-    tied-cons t (op.Tick (tick_op.GetUp s.who)) _ (λ k. omega (arith, k, held-other t s.who)) (tied-none t _ refl)
+tied-found (Asleep n) t w (f ∷ rest) s =
+    tied-cons t (op.Tick (tick_op.WakeUp s.who)) _ (λ k. omega (arith, k, held-other t s.who)) (tied-none t _ refl)
 
-tied-search : (who t : Sleeper) (k : ℕ) (a : Waker) (w : World) → Tied t (search w (asleep a who k)).next
-tied-search (sleeper.Tick u) t k a w = tied-found _ t w _ (asleep a (sleeper.Tick u) k)
-tied-search (sleeper.Run q) t k a w =
+tied-search : (who t : TickOrRun) (k : ℕ) (a : Waker) (w : World) → Tied t (search w (asleep a who k)).next
+tied-search (tick_or_run.Tick u) t k a w = tied-found _ t w _ (asleep a (tick_or_run.Tick u) k)
+tied-search (tick_or_run.Run q) t k a w =
     ((walks-search w (record { run = q; waker = a; poll = k })).stage t).tied
 
-tied-goes : (t : Sleeper) (o : Option Sleeping) (ys : List Op) → weigh (rising_of t) ys ≡ 0 →
+tied-goes : (t : TickOrRun) (o : Option Sleeping) (ys : List Op) → weigh (waking_up_of t) ys ≡ 0 →
     Tied t (sleeper_goes o ++ ys)
-tied-goes t o ys z = tied-append t (sleeper_goes o) ys (tied-none t (sleeper_goes o) (nothing-goes t o).rising)
+tied-goes t o ys z = tied-append t (sleeper_goes o) ys (tied-none t (sleeper_goes o) (nothing-goes t o).waking_up)
     (tied-none t ys z)
 
-tied-gone : (t : Sleeper) (o : Option Sleeping) → Tied t (sleeper_goes o)
-tied-gone t o = tied-none t (sleeper_goes o) (nothing-goes t o).rising
+tied-gone : (t : TickOrRun) (o : Option Sleeping) → Tied t (sleeper_goes o)
+tied-gone t o = tied-none t (sleeper_goes o) (nothing-goes t o).waking_up
 
-tied-copy : (b : Bool) (t : Sleeper) (w : World) (s : Sleeping) → Tied t (copy_sleeper_by b w s).next
+tied-copy : (b : Bool) (t : TickOrRun) (w : World) (s : Sleeping) → Tied t (copy_sleeper_by b w s).next
 tied-copy true t w s = tied-none t _ refl
 tied-copy false t w s = tied-none t _ refl
 
-tied-anew : (b : Bool) (t : Sleeper) (w : World) (s : Sleeping) → Tied t (lie_anew_by b w s).next
+tied-anew : (b : Bool) (t : TickOrRun) (w : World) (s : Sleeping) → Tied t (sleep_anew_by b w s).next
 tied-anew true t w s = tied-none t _ refl
 tied-anew false t w s = tied-none t _ refl
 
-tied-listed : (b : Bool) (t : Sleeper) (w : World) (n : ℕ) (s : Sleeping) → Tied t (lie_listed_by b w n s).next
+tied-listed : (b : Bool) (t : TickOrRun) (w : World) (n : ℕ) (s : Sleeping) → Tied t (sleep_listed_by b w n s).next
 tied-listed true t w n s = tied-none t _ refl
 tied-listed false t w n s = tied-none t _ refl
 
-tied-again : (o : Option ℕ) (t : Sleeper) (w : World) (n : ℕ) (s : Sleeping) → Tied t (lie_again_by o w n s).next
+tied-again : (o : Option ℕ) (t : TickOrRun) (w : World) (n : ℕ) (s : Sleeping) → Tied t (sleep_again_by o w n s).next
 tied-again None t w n s = tied-listed _ t w n s
 tied-again (Some at) t w n s = tied-goes t (waker_at (Some at) w.sleepers.wakers) (pend_as s.who) refl
 
-tied-lie : (x : Place) (t : Sleeper) (w : World) (s : Sleeping) → Tied t (lie_down_by x w s).next
-tied-lie Up t w s = tied-anew _ t w s
-tied-lie (Lies n) t w s = tied-again _ t w n s
-tied-lie Left t w s = tied-none t _ refl
+tied-sleep : (x : Ticker) (t : TickOrRun) (w : World) (s : Sleeping) → Tied t (fall_asleep_by x w s).next
+tied-sleep Awake t w s = tied-anew _ t w s
+tied-sleep (Asleep n) t w s = tied-again _ t w n s
+tied-sleep Left t w s = tied-none t _ refl
 
-tied-up : (x : Place) (t : Sleeper) (w : World) (u : Sleeper) → Tied t (get_up_by x w u).next
-tied-up Up t w u = tied-none t _ refl
-tied-up (Lies n) t w u = tied-gone t (waker_of n w.sleepers.wakers)
+tied-up : (x : Ticker) (t : TickOrRun) (w : World) (u : TickOrRun) → Tied t (wake_up_by x w u).next
+tied-up Awake t w u = tied-none t _ refl
+tied-up (Asleep n) t w u = tied-gone t (waker_of n w.sleepers.wakers)
 tied-up Left t w u = tied-none t _ refl
 
-untold : (t : Sleeper) (b : Bool) → weigh (rising_of t) (tell_if b) ≡ 0
+untold : (t : TickOrRun) (b : Bool) → weigh (waking_up_of t) (tell_and_return b) ≡ 0
 untold t true = refl
 untold t false = refl
 
-tied-leave : (x : Place) (t : Sleeper) (w : World) (u : Sleeper) → Tied t (leave_sleepers_by x w u).next
-tied-leave Up t w u = tied-none t _ refl
-tied-leave (Lies n) t w u = let o : Option Sleeping = waker_of n w.sleepers.wakers in
-    tied-goes t o (tell_if (is_none o)) (untold t (is_none o))
+tied-leave : (x : Ticker) (t : TickOrRun) (w : World) (u : TickOrRun) → Tied t (leave_sleepers_by x w u).next
+tied-leave Awake t w u = tied-none t _ refl
+tied-leave (Asleep n) t w u = let o : Option Sleeping = waker_of n w.sleepers.wakers in
+    tied-goes t o (tell_and_return (is_none o)) (untold t (is_none o))
 tied-leave Left t w u = tied-none t _ refl
 
-tied-make : (b : Bool) (t : Sleeper) (w : World) → Tied t (make_tick_by b w).next
+tied-make : (b : Bool) (t : TickOrRun) (w : World) → Tied t (make_tick_by b w).next
 tied-make true t w = tied-none t _ refl
 tied-make false t w = tied-none t _ refl
 
-tied-tick : (t : Sleeper) (h : Hint) (o : TickOp) (w : World) → Tied t (tick_act h o w).next
+tied-tick : (t : TickOrRun) (h : Hint) (o : TickOp) (w : World) → Tied t (tick_act h o w).next
 tied-tick t h tick_op.MakeTick w = tied-make h.refused t w
 tied-tick t h (tick_op.Search s) w = tied-search s.who t s.poll s.waker w
 tied-tick t h (tick_op.CopyWaker s) w = tied-copy (is_copy_refused h w s.waker) t w s
-tied-tick t h (tick_op.LieDown s) w = tied-lie _ t w s
-tied-tick t h (tick_op.GetUp u) w = tied-up _ t w u
+tied-tick t h (tick_op.FallAsleep s) w = tied-sleep _ t w s
+tied-tick t h (tick_op.WakeUp u) w = tied-up _ t w u
 tied-tick t h (tick_op.Leave u) w = tied-leave _ t w u
 
-tied-hand_out : (b : Bool) (t : Sleeper) (o : Option Sleeping) (w : World) → Tied t (hand_out_by b o w).next
+tied-hand_out : (b : Bool) (t : TickOrRun) (o : Option Sleeping) (w : World) → Tied t (hand_out_by b o w).next
 tied-hand_out true t None w = tied-none t _ refl
 tied-hand_out true t (Some s) w = tied-none t _ refl
 tied-hand_out false t o w = tied-none t _ refl
 
-tied-called : (t : Sleeper) (p : ℕ) (u : Sleeper) (k : ℕ) (a : Waker) (w : World) →
+tied-called : (t : TickOrRun) (p : ℕ) (u : TickOrRun) (k : ℕ) (a : Waker) (w : World) →
     Tied t (call_sleeper p w (asleep a u k)).next
 tied-called t p u k (Task g) w = let v : World = log w (event.WakerCalled p (polled_as u) k (Task g)) in
-    tied-none t _ (nothing-of t (wake p v g).next (beside-move true move.Wake p v v g (λ n. refl)).none).rising
+    tied-none t _ (nothing-of t (wake p v g).next (beside-move true move.Wake p v v g (λ n. refl)).none).waking_up
 tied-called t p u k (Outside x) w = tied-none t _ refl
 
-tied-kept : (b : Bool) (t : Sleeper) (w : World) (f : ℕ) (held : Hold) → Tied t (copy_by b w f held).next
+tied-kept : (b : Bool) (t : TickOrRun) (w : World) (f : ℕ) (held : Hold) → Tied t (copy_by b w f held).next
 tied-kept true t w f held = tied-none t _ refl
 tied-kept false t w f held = tied-none t _ refl
 
 -- the list of queues
 
-tied-made : (b : Bool) (t : Sleeper) (w : World) → Tied t (runs.make_run_by b w).next
+tied-made : (b : Bool) (t : TickOrRun) (w : World) → Tied t (runs.make_run_by b w).next
 tied-made true t w = tied-none t _ refl
 tied-made false t w = tied-none t _ refl
 
-tied-list : (t : Sleeper) (h : Hint) (o : ListOp) (w : World) → Tied t (list_act h o w).next
-tied-list t h (list_op.LockWrite s) w = tied-none t _ refl
+tied-list : (t : TickOrRun) (h : Hint) (o : ListOp) (w : World) → Tied t (list_act h o w).next
 tied-list t h (list_op.Write section.MakeRun) w = tied-made h.refused t w
-tied-list t h (list_op.Write (section.Register x)) w = tied-none t _ refl
-tied-list t h (list_op.Write (section.Unregister q a)) w = tied-none t _ refl
-tied-list t h list_op.UnlockWrite w = tied-none t _ refl
 tied-list t h (list_op.LockRead x) w = ((walks-lock h w x).stage t).tied
-tied-list t h list_op.UnlockRead w = tied-none t _ refl
+tied-list t h _ w = tied-none t _ refl
 
 -- a run leaves before its call ends
 
-tied-room : (b : Bool) (t : Sleeper) (w : World) → Tied t (runs.make_room_by b w).next
+tied-room : (b : Bool) (t : TickOrRun) (w : World) → Tied t (runs.make_room_by b w).next
 tied-room true t w = tied-none t _ refl
 tied-room false t w = tied-none t _ refl
 
-tied-left : (t : Sleeper) (q : ℕ) (a : Reply) →
-    Tied t (op.Tick (tick_op.Leave (sleeper.Run q)) ∷ op.End a (hold.Run q) ∷ [])
+tied-left : (t : TickOrRun) (q : ℕ) (a : Reply) →
+    Tied t (op.Tick (tick_op.Leave (tick_or_run.Run q)) ∷ op.End a (hold.Run q) ∷ [])
 tied-left t q a =
-    tied-cons t (op.Tick (tick_op.Leave (sleeper.Run q))) (op.End a (hold.Run q) ∷ []) (λ k. omega (arith, k))
+    tied-cons t (op.Tick (tick_op.Leave (tick_or_run.Run q))) (op.End a (hold.Run q) ∷ []) (λ k. omega (arith, k))
     (tied-none t (op.End a (hold.Run q) ∷ []) refl)
 
-tied-scheduled : (ys : List ℕ) (t : Sleeper) (w : World) (q : ℕ) (a : Reply) → Tied t (runs.reschedule_by ys w q a).next
+tied-scheduled : (ys : List ℕ) (t : TickOrRun) (w : World) (q : ℕ) (a : Reply) → Tied t (runs.reschedule_by ys w q a).next
 tied-scheduled [] t w q a = tied-left t q a
 tied-scheduled (f ∷ rest) t w q a = tied-none t _ refl
 
-tied-wake : (t : Sleeper) (p : ℕ) (w : World) (x : RunPoll) → Tied t (runs.wake_own p w x).next
+tied-wake : (t : TickOrRun) (p : ℕ) (w : World) (x : RunPoll) → Tied t (runs.wake_own p w x).next
 tied-wake t p w x = let v : World = log w (event.WakerCalled p (of.Run x.run) x.poll x.waker) in
     let ops : List Op = (runs.call_by_reference p v x.waker).next in
     tied-append t ops (op.End reply.Pending (hold.Run x.run) ∷ [])
-    (tied-none t ops (nothing-of t ops (beside-reference p v x.waker).none).rising) (tied-none t _ refl)
+    (tied-none t ops (nothing-of t ops (beside-reference p v x.waker).none).waking_up) (tied-none t _ refl)
 
-tied-run : (t : Sleeper) (p : ℕ) (h : Hint) (o : RunOp) (w : World) → Tied t (run_act p h o w).next
+tied-run : (t : TickOrRun) (p : ℕ) (h : Hint) (o : RunOp) (w : World) → Tied t (run_act p h o w).next
 tied-run t p h run_op.MakeRoom w = tied-room h.refused t w
 tied-run t p h run_op.ReturnRoom w = tied-none t _ refl
 tied-run t p h (run_op.SearchCommon x) w = ((walks-search_common w x).stage t).tied
@@ -181,10 +178,10 @@ tied-run t p h (run_op.LookOwn x at left) w = ((walks-look_own w x at left).stag
 tied-run t p h (run_op.WakeOwn x) w = tied-wake t p w x
 tied-run t p h (run_op.Reschedule q a) w = tied-scheduled _ t w q a
 
-tied-beside : (t : Sleeper) (p : ℕ) (h : Hint) (o : Op) (w : World) → is_sits o ≡ false → Tied t (act p h o w).next
-tied-beside t p h o w n = tied-none t _ (nothing-of t (act p h o w).next (beside-act p h o w n).none).rising
+tied-beside : (t : TickOrRun) (p : ℕ) (h : Hint) (o : Op) (w : World) → is_sits o ≡ false → Tied t (act p h o w).next
+tied-beside t p h o w n = tied-none t _ (nothing-of t (act p h o w).next (beside-act p h o w n).none).waking_up
 
-tied-by : (b : Bool) (t : Sleeper) (p : ℕ) (h : Hint) (o : Op) (w : World) → is_sits o ≡ b → Tied t (act p h o w).next
+tied-by : (b : Bool) (t : TickOrRun) (p : ℕ) (h : Hint) (o : Op) (w : World) → is_sits o ≡ b → Tied t (act p h o w).next
 tied-by false t p h o w n = tied-beside t p h o w n
 tied-by true t p h (op.User (user_op.PollOwn x)) w n = tied-none t _ refl
 tied-by true t p h (op.Tick o) w n = tied-tick t h o w
@@ -197,11 +194,11 @@ tied-by true t p h (op.Run o) w n = tied-run t p h o w
 tied-by true t p h (op.End a held) w n = tied-none t _ refl
 tied-by true t p h _ w n = absurd (cc)
 
-pub tied-act : (t : Sleeper) (p : ℕ) (h : Hint) (o : Op) (w : World) → Tied t (act p h o w).next
+pub tied-act : (t : TickOrRun) (p : ℕ) (h : Hint) (o : Op) (w : World) → Tied t (act p h o w).next
 tied-act t p h o w = tied-by (is_sits o) t p h o w refl
 
 -- the end of user code
-pub tied-react : (t : Sleeper) (p : ℕ) (o : Op) (u : UserEnd) (w : World) → accepts o u ≡ true →
+pub tied-react : (t : TickOrRun) (p : ℕ) (o : Op) (u : UserEnd) (w : World) → accepts o u ≡ true →
     Tied t (react p o u w).next
 tied-react t p (op.User (user_op.PollOwn x)) (end.Polled answer.Pending) w a = tied-none t _ refl
 tied-react t p (op.User (user_op.PollOwn x)) (end.Polled answer.Ready) w a = tied-none t _ refl
@@ -215,22 +212,22 @@ tied-react t p _ _ w a = absurd (cc)
 
 -- the beginning of a call
 
-tied-with : (t : Sleeper) (w : World) (x : Option ℕ) (d : ℕ → Done) → ((f : ℕ) → Tied t (d f).next) →
+tied-with : (t : TickOrRun) (w : World) (x : Option ℕ) (d : ℕ → Done) → ((f : ℕ) → Tied t (d f).next) →
     Tied t (with_future w x d).next
 tied-with t w None d k = tied-nil t
 tied-with t w (Some f) d k = k f
 
-tied-poll : (s : Stage) (t : Sleeper) (x : RunPoll) → Tied t (poll_run s x)
+tied-poll : (s : Stage) (t : TickOrRun) (x : RunPoll) → Tied t (poll_run s x)
 tied-poll New t x = tied-none t _ refl
 tied-poll Listed t x = tied-none t _ refl
 tied-poll Ended t x = tied-none t _ refl
 
-tied-drop : (s : Stage) (t : Sleeper) (q : ℕ) → Tied t (drop_run s q)
+tied-drop : (s : Stage) (t : TickOrRun) (q : ℕ) → Tied t (drop_run s q)
 tied-drop New t q = tied-none t _ refl
 tied-drop Listed t q = tied-none t _ refl
 tied-drop Ended t q = tied-left t q reply.Done
 
-pub tied-begun : (t : Sleeper) (p : ℕ) (w : World) (here : Option Waker) (c : Call) →
+pub tied-begun : (t : TickOrRun) (p : ℕ) (w : World) (here : Option Waker) (c : Call) →
     Tied t (begun p (log w (event.CallBegun p c)) here c).next
 tied-begun t p w here (call.Wake n) = tied-with t _ (kept w n) _ (λ f. tied-none t _ refl)
 tied-begun t p w here (call.WakeByRef n) = tied-with t _ (kept w n) _ (λ f. tied-none t _ refl)
@@ -238,20 +235,10 @@ tied-begun t p w here (call.Copy n) = tied-with t _ (kept w n) _ (λ f. tied-non
 tied-begun t p w here (call.DropWaker n) = tied-with t _ (kept w n) _ (λ f. tied-none t _ refl)
 tied-begun t p w here call.Keep = tied-with t _ (future_of here) _ (λ f. tied-none t _ refl)
 tied-begun t p w here call.WakeSelf = tied-with t _ (future_of here) _ (λ f. tied-none t _ refl)
-tied-begun t p w here call.Spawn = tied-none t _ refl
-tied-begun t p w here call.TryTick = tied-none t _ refl
-tied-begun t p w here call.IsEmpty = tied-none t _ refl
-tied-begun t p w here (call.PollHandle f b) = tied-none t _ refl
-tied-begun t p w here (call.Cancel f) = tied-none t _ refl
-tied-begun t p w here (call.Detach f) = tied-none t _ refl
-tied-begun t p w here (call.DropHandle f) = tied-none t _ refl
-tied-begun t p w here call.NewTick = tied-none t _ refl
-tied-begun t p w here (call.PollTick u b) = tied-none t _ refl
 tied-begun t p w here (call.DropTick u) =
-    tied-cons t (op.Tick (tick_op.Leave (sleeper.Tick u))) (op.End reply.Done (hold.Tick u) ∷ []) (λ k. omega
+    tied-cons t (op.Tick (tick_op.Leave (tick_or_run.Tick u))) (op.End reply.Done (hold.Tick u) ∷ []) (λ k. omega
     (arith, k))
     (tied-none t (op.End reply.Done (hold.Tick u) ∷ []) refl)
-tied-begun t p w here call.NewRun = tied-none t _ refl
 tied-begun t p w here (call.PollRun q b) = tied-poll _ t _
 tied-begun t p w here (call.DropRun q) = tied-drop _ t q
-tied-begun t p w here call.DropExecutor = tied-none t _ refl
+tied-begun t p w here _ = tied-none t _ refl

@@ -1,3 +1,4 @@
+-- For some_standing_is_called.
 -- What the stacks weigh in the counts of a tick or run.
 use Rattle.std.proofs.Common.{◌≡◌, ℕ, zero, suc, ◌+◌, ◌<◌, ◌≤◌, List, [], ◌∷◌, ◌++◌, length, get_or, set, refl, arith}
 use Rattle.std.specs.Prelude.{reverse}
@@ -9,46 +10,46 @@ use Rattle.executor_model.specs.declared.op.Op.TheVariants as op
 use Rattle.executor_model.specs.declared.op.RunOp.TheVariants as run_op
 use Rattle.executor_model.specs.declared.op.Section.{Section}
 use Rattle.executor_model.specs.declared.op.Section.TheVariants as section
-use Rattle.executor_model.specs.declared.op.Sleeper.{Sleeper}
-use Rattle.executor_model.specs.declared.op.Sleeper.TheVariants as sleeper
+use Rattle.executor_model.specs.declared.op.TickOrRun.{TickOrRun}
+use Rattle.executor_model.specs.declared.op.TickOrRun.TheVariants as tick_or_run
 use Rattle.executor_model.specs.declared.op.TickOp.TheVariants as tick_op
 use Rattle.executor_model.specs.declared.op.UserOp.TheVariants as user_op
 use Rattle.executor_model.specs.Steps.{idle}
 use Rattle.executor_model.specs.Weights.{weigh, weigh_all}
-use Rattle.executor_model.proofs.Calls.{calling_of}
-use Rattle.executor_model.proofs.Lift.{split, weigh_all-idle}
-use Rattle.executor_model.proofs.Lists.{weigh_all-below, weigh_all-push}
-use Rattle.executor_model.proofs.RunsCalm.{poll_in}
-use Rattle.runs_called.proofs.Sitting.{few, holds_it, is_it}
-use Rattle.runs_called.proofs.Stands.{used_of, early_of, early_section, pends_of, refused_of, found_of, ends_of}
-use Rattle.runs_called.proofs.Stands.{rising_of, drops_of, odd_of, is_ready, strays_of, calls_of, asks_of, Doing}
-use Rattle.runs_called.proofs.Stands.{with_doing, doing, Footing}
-use Rattle.runs_called.proofs.StandsNothing.{cond-few, end-parts, few-one, leaves-one, stages-one}
+use Rattle.executor_model.proofs.Quiet.Calls.{calling_of}
+use Rattle.executor_model.proofs.Steps.Lift.{split, weigh_all-idle}
+use Rattle.executor_model.proofs.Steps.Lists.{weigh_all-below, weigh_all-push}
+use Rattle.executor_model.proofs.OwnQueues.RunsDone.{poll_in}
+use Rattle.executor_laws.proofs.Wakeups.Sitting.{few, holds_it, is_it}
+use Rattle.executor_laws.proofs.Wakeups.Stands.{used_of, early_of, early_section, pends_of, refused_of, found_of, ends_of}
+use Rattle.executor_laws.proofs.Wakeups.Stands.{waking_up_of, drops_of, odd_of, is_ready, strays_of, calls_of, asks_of, Doing}
+use Rattle.executor_laws.proofs.Wakeups.Stands.{with_doing, doing, Footing}
+use Rattle.executor_laws.proofs.Wakeups.StandsNothing.{cond-few, end-parts, few-one, leaves-one, stages-one}
 
 -- each stage uses it
 
-stages-stack : (t : Sleeper) (os : List Op) →
+stages-stack : (t : TickOrRun) (os : List Op) →
     weigh (early_of t) os + (weigh (pends_of t) os +
     (weigh (refused_of t) os + (weigh (found_of t) os + weigh (ends_of t) os)))
     ≤ weigh (used_of t) os
 stages-stack t [] = omega arith
 stages-stack t (o ∷ os) = omega (arith, stages-one t o, stages-stack t os)
 
-stages-all : (t : Sleeper) (ss : List (List Op)) →
+stages-all : (t : TickOrRun) (ss : List (List Op)) →
     weigh_all (early_of t) ss + (weigh_all (pends_of t) ss +
     (weigh_all (refused_of t) ss + (weigh_all (found_of t) ss + weigh_all (ends_of t) ss)))
     ≤ weigh_all (used_of t) ss
 stages-all t [] = omega arith
 stages-all t (s ∷ ss) = omega (arith, stages-stack t s, stages-all t ss)
 
--- where who gets up or leaves is in use, also beside what one party does
-pub footing : (t : Sleeper) (ss others : List (List Op)) →
-    (1 ≤ weigh_all (rising_of t) ss → 1 ≤ weigh_all (used_of t) ss) →
-    (1 ≤ weigh_all (rising_of t) others → 1 ≤ weigh_all (used_of t) others) → Footing (doing t ss) (doing t others)
+-- where who wakes up or leaves is in use, also beside what one party does
+pub footing : (t : TickOrRun) (ss others : List (List Op)) →
+    (1 ≤ weigh_all (waking_up_of t) ss → 1 ≤ weigh_all (used_of t) ss) →
+    (1 ≤ weigh_all (waking_up_of t) others → 1 ≤ weigh_all (used_of t) others) → Footing (doing t ss) (doing t others)
 footing t ss others a b = record {
   stages = stages-all t ss;
   few = λ k. weigh_all-below (strays_of t k) (early_of t) (few-one t k) ss;
-  leaves = weigh_all-below (drops_of t) (rising_of t) (leaves-one t) ss;
+  leaves = weigh_all-below (drops_of t) (waking_up_of t) (leaves-one t) ss;
   tied = a;
   bound = b;
   base = stages-all t others;
@@ -56,13 +57,13 @@ footing t ss others a b = record {
 
 -- what has to end a poll
 
-pub asks-weighs : (t : Sleeper) (os : List Op) →
+pub asks-weighs : (t : TickOrRun) (os : List Op) →
     weigh (asks_of t) os ≡ weigh (early_of t) os
     + (weigh (pends_of t) os + (weigh (refused_of t) os + weigh (found_of t) os))
 asks-weighs t [] = refl
 asks-weighs t (o ∷ os) = omega (arith, asks-weighs t os)
 
-pub asks-all : (t : Sleeper) (ss : List (List Op)) →
+pub asks-all : (t : TickOrRun) (ss : List (List Op)) →
     weigh_all (asks_of t) ss ≡ weigh_all (early_of t) ss + (weigh_all (pends_of t) ss +
     (weigh_all (refused_of t) ss + weigh_all (found_of t) ss))
 asks-all t [] = refl
@@ -73,42 +74,42 @@ weigh-at v [] q = omega arith
 weigh-at v (s ∷ ss) zero = omega arith
 weigh-at v (s ∷ ss) (suc q) = omega (arith, weigh-at v ss q)
 
-holds-few : (t : Sleeper) (held : Hold) → holds_it t held ≤ 1
-holds-few t (hold.Tick u) = few t (sleeper.Tick u)
-holds-few t (hold.Run q) = few t (sleeper.Run q)
+holds-few : (t : TickOrRun) (held : Hold) → holds_it t held ≤ 1
+holds-few t (hold.Tick u) = few t (tick_or_run.Tick u)
+holds-few t (hold.Run q) = few t (tick_or_run.Run q)
 holds-few t _ = omega arith
 
-section-few : (t : Sleeper) (s : Section) → early_section t s ≤ 1
+section-few : (t : TickOrRun) (s : Section) → early_section t s ≤ 1
 section-few t section.MakeRun = omega arith
-section-few t (section.Register x) = few t (sleeper.Run x.run)
+section-few t (section.Register x) = few t (tick_or_run.Run x.run)
 section-few t (section.Unregister q a) =
-    omega (arith, cond-few (is_ready a) (is_it t (sleeper.Run q)), few t (sleeper.Run q))
+    omega (arith, cond-few (is_ready a) (is_it t (tick_or_run.Run q)), few t (tick_or_run.Run q))
 
 -- it answers its call
-pub asks-calling : (t : Sleeper) (o : Op) → asks_of t o ≤ calling_of o
-asks-calling t (op.User (user_op.PollOwn x)) = omega (arith, few t (sleeper.Run x.run))
+pub asks-calling : (t : TickOrRun) (o : Op) → asks_of t o ≤ calling_of o
+asks-calling t (op.User (user_op.PollOwn x)) = omega (arith, few t (tick_or_run.Run x.run))
 asks-calling t (op.Tick (tick_op.Search s)) = omega (arith, few t s.who)
 asks-calling t (op.Tick (tick_op.CopyWaker s)) = omega (arith, few t s.who)
-asks-calling t (op.Tick (tick_op.LieDown s)) = omega (arith, few t s.who)
+asks-calling t (op.Tick (tick_op.FallAsleep s)) = omega (arith, few t s.who)
 asks-calling t (op.List (list_op.LockWrite s)) = omega (arith, section-few t s)
 asks-calling t (op.List (list_op.Write s)) = omega (arith, section-few t s)
 asks-calling t (op.List list_op.UnlockWrite) = omega arith
-asks-calling t (op.List (list_op.LockRead x)) = omega (arith, few t (sleeper.Run x.run))
+asks-calling t (op.List (list_op.LockRead x)) = omega (arith, few t (tick_or_run.Run x.run))
 asks-calling t (op.List list_op.UnlockRead) = omega arith
-asks-calling t (op.Steal o) = omega (arith, few t (sleeper.Run (poll_in o).run))
+asks-calling t (op.Steal o) = omega (arith, few t (tick_or_run.Run (poll_in o).run))
 asks-calling t (op.Run run_op.MakeRoom) = omega arith
 asks-calling t (op.Run run_op.ReturnRoom) = omega arith
-asks-calling t (op.Run (run_op.SearchCommon x)) = omega (arith, few t (sleeper.Run x.run))
-asks-calling t (op.Run (run_op.LookOwn x at left)) = omega (arith, few t (sleeper.Run x.run))
-asks-calling t (op.Run (run_op.WakeOwn x)) = omega (arith, few t (sleeper.Run x.run))
+asks-calling t (op.Run (run_op.SearchCommon x)) = omega (arith, few t (tick_or_run.Run x.run))
+asks-calling t (op.Run (run_op.LookOwn x at left)) = omega (arith, few t (tick_or_run.Run x.run))
+asks-calling t (op.Run (run_op.WakeOwn x)) = omega (arith, few t (tick_or_run.Run x.run))
 asks-calling t (op.Run (run_op.Reschedule q a)) =
-    omega (arith, cond-few (is_ready a) (is_it t (sleeper.Run q)), few t (sleeper.Run q))
+    omega (arith, cond-few (is_ready a) (is_it t (tick_or_run.Run q)), few t (tick_or_run.Run q))
 asks-calling t (op.End r held) = omega (arith, end-parts r (holds_it t held), holds-few t held)
 asks-calling t _ = omega arith
 
 -- of one party and of the others
 
-pub split-doing : (t : Sleeper) (ss : List (List Op)) (p : ℕ) (old rest : List Op) → p < length ss →
+pub split-doing : (t : TickOrRun) (ss : List (List Op)) (p : ℕ) (old rest : List Op) → p < length ss →
     get_or ss p [] ≡ rest ++ reverse old →
     doing t ss ≡ with_doing t old (doing t (set ss p rest))
 split-doing t ss p old rest l e = λ i. record {
@@ -117,7 +118,7 @@ split-doing t ss p old rest l e = λ i. record {
   pends = split (pends_of t) ss p old rest l e i;
   refused = split (refused_of t) ss p old rest l e i;
   found = split (found_of t) ss p old rest l e i;
-  rising = split (rising_of t) ss p old rest l e i;
+  waking_up = split (waking_up_of t) ss p old rest l e i;
   drops = split (drops_of t) ss p old rest l e i;
   ends = split (ends_of t) ss p old rest l e i;
   odd = split (odd_of t) ss p old rest l e i;
@@ -125,7 +126,7 @@ split-doing t ss p old rest l e = λ i. record {
   calls = λ k. split (calls_of t k) ss p old rest l e i;
 }
 
-pub push-doing : (t : Sleeper) (ss : List (List Op)) (p : ℕ) (rest next : List Op) → p < length ss →
+pub push-doing : (t : TickOrRun) (ss : List (List Op)) (p : ℕ) (rest next : List Op) → p < length ss →
     doing t (set ss p (rest ++ reverse next)) ≡ with_doing t next (doing t (set ss p rest))
 push-doing t ss p rest next l = λ i. record {
   used = weigh_all-push (used_of t) ss p rest next l i;
@@ -133,7 +134,7 @@ push-doing t ss p rest next l = λ i. record {
   pends = weigh_all-push (pends_of t) ss p rest next l i;
   refused = weigh_all-push (refused_of t) ss p rest next l i;
   found = weigh_all-push (found_of t) ss p rest next l i;
-  rising = weigh_all-push (rising_of t) ss p rest next l i;
+  waking_up = weigh_all-push (waking_up_of t) ss p rest next l i;
   drops = weigh_all-push (drops_of t) ss p rest next l i;
   ends = weigh_all-push (ends_of t) ss p rest next l i;
   odd = weigh_all-push (odd_of t) ss p rest next l i;
@@ -148,7 +149,7 @@ nothing_done = record {
   pends = 0;
   refused = 0;
   found = 0;
-  rising = 0;
+  waking_up = 0;
   drops = 0;
   ends = 0;
   odd = 0;
@@ -156,14 +157,14 @@ nothing_done = record {
   calls = λ k. 0;
 }
 
-pub idle-doing : (t : Sleeper) (n : ℕ) → doing t (idle n) ≡ nothing_done
+pub idle-doing : (t : TickOrRun) (n : ℕ) → doing t (idle n) ≡ nothing_done
 idle-doing t n = λ i. record {
   used = weigh_all-idle (used_of t) n i;
   early = weigh_all-idle (early_of t) n i;
   pends = weigh_all-idle (pends_of t) n i;
   refused = weigh_all-idle (refused_of t) n i;
   found = weigh_all-idle (found_of t) n i;
-  rising = weigh_all-idle (rising_of t) n i;
+  waking_up = weigh_all-idle (waking_up_of t) n i;
   drops = weigh_all-idle (drops_of t) n i;
   ends = weigh_all-idle (ends_of t) n i;
   odd = weigh_all-idle (odd_of t) n i;

@@ -1,3 +1,4 @@
+-- For some_standing_is_called.
 -- What a trace tells of a tick or run and of its last poll, read from left to right.
 use Rattle.std.proofs.Common.{◌≡◌, ℕ, zero, suc, ◌+◌, ◌==◌, [], ◌∷◌, ◌++◌, length, Bool, true, false, ◌&&◌, cond, refl}
 use Rattle.std.proofs.Common.{ap, ◌∙◌, arith}
@@ -6,11 +7,11 @@ use Rattle.executor_model.specs.declared.call.Reply.TheVariants as reply
 use Rattle.executor_model.specs.declared.event.Event.{Event}
 use Rattle.executor_model.specs.declared.event.Event.TheVariants as event
 use Rattle.executor_model.specs.declared.op.Polled.TheVariants as of
-use Rattle.executor_model.specs.declared.op.Sleeper.{Sleeper}
-use Rattle.executor_model.specs.declared.op.Sleeper.TheVariants as sleeper
+use Rattle.executor_model.specs.declared.op.TickOrRun.{TickOrRun}
+use Rattle.executor_model.specs.declared.op.TickOrRun.TheVariants as tick_or_run
 use Rattle.executor_model.specs.Trace.{Trace}
 use Rattle.executor_model.specs.Weights.{same}
-use Rattle.runs_called.proofs.Sitting.{eq_who}
+use Rattle.executor_laws.proofs.Wakeups.Sitting.{eq_who}
 
 pub record Watched : Type 0 where
   -- where that poll stands, and whose it is
@@ -65,38 +66,38 @@ abbrev pub called_at : ℕ → Watched → Watched
 called_at k s = record s { called = cond (s.poll == k) true s.called }
 
 -- the event at place n
-abbrev pub watches : Sleeper → ℕ → Event → Watched → Watched
-watches who n (event.TickPolled p u) s = cond (eq_who who (sleeper.Tick u)) (poll_begun n p s) s
-watches who n (event.RunPolled p q) s = cond (eq_who who (sleeper.Run q)) (poll_begun n p s) s
-watches who n (event.TickDropped p u) s = cond (eq_who who (sleeper.Tick u)) (parted s) s
-watches who n (event.RunDropped p q) s = cond (eq_who who (sleeper.Run q)) (parted s) s
+abbrev pub watches : TickOrRun → ℕ → Event → Watched → Watched
+watches who n (event.TickPolled p u) s = cond (eq_who who (tick_or_run.Tick u)) (poll_begun n p s) s
+watches who n (event.RunPolled p q) s = cond (eq_who who (tick_or_run.Run q)) (poll_begun n p s) s
+watches who n (event.TickDropped p u) s = cond (eq_who who (tick_or_run.Tick u)) (parted s) s
+watches who n (event.RunDropped p q) s = cond (eq_who who (tick_or_run.Run q)) (parted s) s
 watches who n (event.CallBegun p c) s = record s { inner = s.inner + cond s.asking (same s.party p) 0 }
 watches who n (event.CallEnded p r) s = cond (s.asking && (s.party == p)) (ended_in s.inner r s) s
-watches who n (event.WakerCalled p (of.Tick u) k a) s = cond (eq_who who (sleeper.Tick u)) (called_at k s) s
-watches who n (event.WakerCalled p (of.Run q) k a) s = cond (eq_who who (sleeper.Run q)) (called_at k s) s
+watches who n (event.WakerCalled p (of.Tick u) k a) s = cond (eq_who who (tick_or_run.Tick u)) (called_at k s) s
+watches who n (event.WakerCalled p (of.Run q) k a) s = cond (eq_who who (tick_or_run.Run q)) (called_at k s) s
 watches who n _ s = s
 
-abbrev pub watched_from : Sleeper → ℕ → Watched → Trace → Watched
+abbrev pub watched_from : TickOrRun → ℕ → Watched → Trace → Watched
 watched_from who n s [] = s
 watched_from who n s (e ∷ es) = watched_from who (suc n) (watches who n e s) es
 
-unfoldable pub watched : Sleeper → Trace → Watched
+unfoldable pub watched : TickOrRun → Trace → Watched
 watched who es = watched_from who 0 unwatched es
 
-watched_from-push : (who : Sleeper) (n : ℕ) (s : Watched) (es : Trace) (e : Event) →
+watched_from-push : (who : TickOrRun) (n : ℕ) (s : Watched) (es : Trace) (e : Event) →
     watched_from who n s (es ++ e ∷ []) ≡ watches who (n + length es) e (watched_from who n s es)
 watched_from-push who n s [] e = ap (λ (m : ℕ). watches who m e s) (let z : n ≡ n + 0 = omega arith in z)
 watched_from-push who n s (x ∷ es) e = watched_from-push who (suc n) (watches who n x s) es e
     ∙ ap (λ (m : ℕ). watches who m e (watched_from who (suc n) (watches who n x s) es))
     (let z : suc n + length es ≡ n + suc (length es) = omega arith in z)
 
-pub watched-push : (who : Sleeper) (es : Trace) (e : Event) →
+pub watched-push : (who : TickOrRun) (es : Trace) (e : Event) →
     watched who (es ++ e ∷ []) ≡ watches who (length es) e (watched who es)
 unfolding watched
 watched-push who es e = watched_from-push who 0 unwatched es e
     ∙ ap (λ (m : ℕ). watches who m e (watched_from who 0 unwatched es))
     (let z : 0 + length es ≡ length es = omega arith in z)
 
-pub watched-none : (who : Sleeper) → watched who [] ≡ unwatched
+pub watched-none : (who : TickOrRun) → watched who [] ≡ unwatched
 unfolding watched
 watched-none who = refl

@@ -1,3 +1,4 @@
+-- For awaiters_are_kept.
 -- What holds at every moment of each future and of who waits on its handle.
 use Rattle.std.proofs.Common.{◌≡◌, ◌≢◌, ◌⊎◌, ℕ, zero, suc, ◌+◌, ◌==◌, ◌<◌, ◌≤◌, List, [], ◌∷◌, ◌++◌, length}
 use Rattle.std.proofs.Common.{set, get_or, Bool, true, false, ◌&&◌, cond, eqb, refl, ap, ◌∙◌, inl, inr}
@@ -22,7 +23,7 @@ use Rattle.executor_model.specs.Weights.{same, weigh, weigh_all, holds_handle}
 use Rattle.executor_model.specs.Rows.{handling_of}
 use Rattle.executor_model.specs.Sound.{Pend, queued, with_ops, tokens, times}
 use Rattle.executor_model.specs.Acts.{closing_ops}
-use Rattle.executor_model.proofs.Lists.{same_cases, weigh-closing}
+use Rattle.executor_model.proofs.Steps.Lists.{same_cases, weigh-closing}
 
 -- what a trace tells of future g and of the last poll of its handle, read from left to right
 pub record Heard : Type 0 where

@@ -1,3 +1,4 @@
+-- For awaiters_are_kept.
 -- Each thing that is done keeps what holds of each future and of who waits on its handle.
 use Rattle.std.proofs.Common.{◌≡◌, ◌⊎◌, ℕ, ◌+◌, ◌<◌, List, [], ◌∷◌, ◌++◌, length, Bool, true, false, ◌||◌, ◌&&◌, not}
 use Rattle.std.proofs.Common.{eqb, drop, refl, sym, ap, subst, ◌≤◌, inl, inr, arith}
@@ -27,18 +28,18 @@ use Rattle.executor_model.specs.Acts.{closing_ops, drop_next_by, wake_next_by, c
 use Rattle.executor_model.specs.Weights.{same, past, waker_past}
 use Rattle.executor_model.specs.Good.{IsKnownWaker}
 use Rattle.executor_model.specs.Sound.{Pend, times}
-use Rattle.executor_model.proofs.Cases.{by_bool, by_list, by_waker}
-use Rattle.executor_model.proofs.Marks.{IsUnmarked, unmarked, IsMarked, marked}
-use Rattle.executor_model.proofs.Lists.{with_ops-closing, read_put}
-use Rattle.executor_model.proofs.Lists.{same_is, times-append, times-drop}
-use Rattle.executor_model.proofs.Counting.{woken_by}
-use Rattle.executor_model.proofs.CountingHandles.{stays_so, gives}
-use Rattle.executor_model.proofs.CountingHandles.{waits_on, end_registered, end_notified, next_woken}
-use Rattle.executor_model.proofs.Awaited.{heard, heard-push, Awaiting, with_awaiting, with_awaiting-closing}
-use Rattle.executor_model.proofs.Awaited.{Awaits, KeepsBy, KeepsAwaits, asks_if, kept_at, kept_put}
-use Rattle.executor_model.proofs.AwaitedMoves.{awaits-call_task, awaits-cancel_over, awaits-cancel_going}
-use Rattle.executor_model.proofs.AwaitedMoves.{awaits-cancel_idle}
-use Rattle.executor_model.proofs.CountingHandles.{below}
+use Rattle.executor_model.proofs.Steps.Cases.{by_bool, by_list, by_waker}
+use Rattle.executor_model.proofs.Steps.Marks.{IsUnmarked, unmarked, IsMarked, marked}
+use Rattle.executor_model.proofs.Steps.Lists.{with_ops-closing, read_put}
+use Rattle.executor_model.proofs.Steps.Lists.{same_is, times-append, times-drop}
+use Rattle.executor_model.proofs.Counts.Counting.{woken_by}
+use Rattle.executor_model.proofs.Counts.CountingHandles.{stays_so, gives}
+use Rattle.executor_model.proofs.Counts.CountingHandles.{waits_on, end_registered, end_notified, next_woken}
+use Rattle.executor_model.proofs.Awaiters.Awaited.{heard, heard-push, Awaiting, with_awaiting, with_awaiting-closing}
+use Rattle.executor_model.proofs.Awaiters.Awaited.{Awaits, KeepsBy, KeepsAwaits, asks_if, kept_at, kept_put}
+use Rattle.executor_model.proofs.Awaiters.AwaitedMoves.{awaits-call_task, awaits-cancel_over, awaits-cancel_going}
+use Rattle.executor_model.proofs.Awaiters.AwaitedMoves.{awaits-cancel_idle}
+use Rattle.executor_model.proofs.Counts.CountingHandles.{below}
 
 -- wakers and polls of a handle
 

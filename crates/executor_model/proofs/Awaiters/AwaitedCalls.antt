@@ -1,3 +1,4 @@
+-- For awaiters_are_kept.
 -- The beginning and the end of each call keep what holds of who waits on a handle.
 use Rattle.std.proofs.Common.{◌≡◌, ◌≢◌, ℕ, zero, suc, ◌+◌, ◌<◌, ◌≤◌, List, [], ◌∷◌, ◌++◌, length}
 use Rattle.std.proofs.Common.{Bool, true, false, ◌&&◌, cond, eqb, refl, sym, ap, ◌∙◌, arith}
@@ -16,7 +17,7 @@ use Rattle.executor_model.specs.declared.op.Waker.{Waker}
 use Rattle.executor_model.specs.declared.op.Op.TheVariants as op
 use Rattle.executor_model.specs.declared.op.RunOp.TheVariants as run_op
 use Rattle.executor_model.specs.declared.op.RunPoll.{RunPoll}
-use Rattle.executor_model.specs.declared.op.Sleeper.TheVariants as sleeper
+use Rattle.executor_model.specs.declared.op.TickOrRun.TheVariants as tick_or_run
 use Rattle.executor_model.specs.declared.op.Sleeping.{Sleeping}
 use Rattle.executor_model.specs.declared.op.TickOp.TheVariants as tick_op
 use Rattle.executor_model.specs.declared.op.ClosingOp.TheVariants as closing_op
@@ -29,10 +30,10 @@ use Rattle.executor_model.specs.World.{World, Stage, New, Listed, Ended, Done, d
 use Rattle.executor_model.specs.Weights.{same}
 use Rattle.executor_model.specs.Sound.{Pend, with_ops}
 use Rattle.executor_model.specs.Steps.{used_up, with_future, begun, drop_run, future_of, poll_run, waker_of, kept}
-use Rattle.executor_model.proofs.Lists.{same_is}
-use Rattle.executor_model.proofs.Awaited.{Heard, heard, heard-push, is_pending, ended_in, Awaiting}
-use Rattle.executor_model.proofs.Awaited.{with_awaiting, Footing, Awaits, Mark, KeepsBy}
-use Rattle.executor_model.proofs.AwaitedHeld.{asks_of}
+use Rattle.executor_model.proofs.Steps.Lists.{same_is}
+use Rattle.executor_model.proofs.Awaiters.Awaited.{Heard, heard, heard-push, is_pending, ended_in, Awaiting}
+use Rattle.executor_model.proofs.Awaiters.Awaited.{with_awaiting, Footing, Awaits, Mark, KeepsBy}
+use Rattle.executor_model.proofs.Awaiters.AwaitedHeld.{asks_of}
 
 -- one more call of party p is inside of the poll that is open
 abbrev pub begun_in : ℕ → ℕ → Mark → Mark
@@ -42,26 +43,9 @@ abbrev pub KeepsBegun : World → ℕ → Done → Type 0
 KeepsBegun w p d = KeepsBy w [] d (begun_in p)
 
 begins-nothing : (w : World) (p : ℕ) (c : Call) → KeepsBegun w p (done (log w (event.CallBegun p c)) [])
-begins-nothing w p call.Spawn g r y m b h = grind (arith, heard-push)
-begins-nothing w p call.TryTick g r y m b h = grind (arith, heard-push)
-begins-nothing w p call.IsEmpty g r y m b h = grind (arith, heard-push)
-begins-nothing w p (call.Wake k) g r y m b h = grind (arith, heard-push)
-begins-nothing w p (call.WakeByRef k) g r y m b h = grind (arith, heard-push)
-begins-nothing w p (call.Copy k) g r y m b h = grind (arith, heard-push)
-begins-nothing w p (call.DropWaker k) g r y m b h = grind (arith, heard-push)
-begins-nothing w p call.Keep g r y m b h = grind (arith, heard-push)
-begins-nothing w p call.WakeSelf g r y m b h = grind (arith, heard-push)
-begins-nothing w p (call.PollHandle f x) g r y m b h = grind (arith, heard-push)
-begins-nothing w p (call.Cancel f) g r y m b h = grind (arith, heard-push)
 begins-nothing w p (call.Detach f) g r y m b h = grind (arith, same_is, heard-push)
 begins-nothing w p (call.DropHandle f) g r y m b h = grind (arith, same_is, heard-push)
-begins-nothing w p call.NewTick g r y m b h = grind (arith, heard-push)
-begins-nothing w p (call.PollTick t x) g r y m b h = grind (arith, heard-push)
-begins-nothing w p (call.DropTick t) g r y m b h = grind (arith, heard-push)
-begins-nothing w p call.NewRun g r y m b h = grind (arith, heard-push)
-begins-nothing w p (call.PollRun t x) g r y m b h = grind (arith, heard-push)
-begins-nothing w p (call.DropRun t) g r y m b h = grind (arith, heard-push)
-begins-nothing w p call.DropExecutor g r y m b h = grind (arith, heard-push)
+begins-nothing w p _ g r y m b h = grind (arith, heard-push)
 
 begins-with : (w : World) (p : ℕ) (c : Call) (x : Option ℕ) (d : ℕ → Done) → ((f : ℕ) → KeepsBegun w p (d f)) →
     KeepsBegun w p (with_future (log w (event.CallBegun p c)) x d)
@@ -126,7 +110,7 @@ begins-poll_tick w p t x s g r y m b h = grind (arith, heard-push)
 
 begins-drop_tick : (w : World) (p t : ℕ) →
     KeepsBegun w p (done (log (log w (event.CallBegun p (call.DropTick t))) (event.TickDropped p t))
-    (op.Tick (tick_op.Leave (sleeper.Tick t)) ∷ op.End reply.Done (hold.Tick t) ∷ []))
+    (op.Tick (tick_op.Leave (tick_or_run.Tick t)) ∷ op.End reply.Done (hold.Tick t) ∷ []))
 begins-drop_tick w p t g r y m b h = grind (arith, heard-push)
 
 begins-make_run : (w : World) (p : ℕ) →
@@ -221,7 +205,7 @@ awaits-begun p w here (call.PollTick t b) g r y m u =
     begins-poll_tick w p t b
     (record {
       waker = waker_of here b;
-      who = sleeper.Tick t;
+      who = tick_or_run.Tick t;
       poll = length (log w (event.CallBegun p (call.PollTick t b))).trace;
     }) g r y m
 awaits-begun p w here (call.DropTick t) g r y m u = begins-drop_tick w p t g r y m

@@ -1,3 +1,4 @@
+-- For awaiters_are_kept and calls_do_what_they_say.
 -- Where the drop of the executor has begun and none of its steps is left, nobody is to be woken and the queue is empty.
 use Rattle.std.proofs.Common.{◌≡◌, ℕ, suc, ◌+◌, ◌<◌, ◌≤◌, List, [], ◌∷◌, ◌++◌, length, set, get_or, drop}
 use Rattle.std.proofs.Common.{Bool, true, false, ◌&&◌, ◌||◌, not, refl, sym, ap, ◌∙◌, subst, inl, inr, ⊎_elim, arith}
@@ -13,8 +14,8 @@ use Rattle.executor_model.specs.declared.op.Hold.{Hold}
 use Rattle.executor_model.specs.declared.op.Op.{Op}
 use Rattle.executor_model.specs.declared.op.RunOp.{RunOp}
 use Rattle.executor_model.specs.declared.op.RunPoll.{RunPoll}
-use Rattle.executor_model.specs.declared.op.Sleeper.{Sleeper}
-use Rattle.executor_model.specs.declared.op.Sleeper.TheVariants as sleeper
+use Rattle.executor_model.specs.declared.op.TickOrRun.{TickOrRun}
+use Rattle.executor_model.specs.declared.op.TickOrRun.TheVariants as tick_or_run
 use Rattle.executor_model.specs.declared.op.Sleeping.{Sleeping}
 use Rattle.executor_model.specs.declared.op.StealOp.{StealOp}
 use Rattle.executor_model.specs.declared.op.TickOp.TheVariants as tick_op
@@ -26,7 +27,7 @@ use Rattle.executor_model.specs.declared.step.Hint.{Hint}
 use Rattle.executor_model.specs.declared.step.Step.{Step}
 use Rattle.executor_model.specs.declared.step.UserEnd.{UserEnd}
 use Rattle.executor_model.specs.declared.step.UserEnd.TheVariants as end
-use Rattle.executor_model.specs.World.{World, Place, Up, Lies, Left, Done, done, log}
+use Rattle.executor_model.specs.World.{World, Ticker, Awake, Asleep, Left, Done, done, log}
 use Rattle.executor_model.specs.Acts.{append_by, take_by}
 use Rattle.executor_model.specs.ActsOfSleepers.{search_by}
 use Rattle.executor_model.specs.Acts.{closing_ops, drop_next_by, wake, wake_next_by, close}
@@ -37,19 +38,19 @@ use Rattle.executor_model.specs.Rows.{Row, ousting_of}
 use Rattle.executor_model.specs.Good.{Good}
 use Rattle.executor_model.specs.Steps.{Machine, stack, top, run, start, mine, is_free, has_all, is_on_executor}
 use Rattle.executor_model.specs.Steps.{is_drop, is_unborrowed, future_of, kept, with_future, accepts, begun, react}
-use Rattle.executor_model.proofs.Cases.{by_bool, by_list}
-use Rattle.executor_model.proofs.Lists.{weigh-append, weigh_all-push}
-use Rattle.executor_model.proofs.Lift.{split, unsettled, good-start, none_refused, open_executor, weigh_all-idle}
-use Rattle.executor_model.proofs.Ways.{Way, along}
-use Rattle.executor_model.proofs.Ways.Way.{acted, reacted, called}
-use Rattle.executor_model.proofs.RunsPlain.{plain-run, plain-steal}
-use Rattle.executor_model.proofs.RunsQueue.{Fewer, fewer, takes-run, takes-search, takes-steal}
-use Rattle.executor_model.proofs.RunsWays.{by-run, by-search, by-steal}
-use Rattle.executor_model.proofs.AwaitedLists.{plain-act, plain-begun, plain-wake}
-use Rattle.executor_model.proofs.AwaitedSweeps.{KeepsSweeps, Kept, Lists, NoSteps, Sweeps, draining_of, dropping_of}
-use Rattle.executor_model.proofs.AwaitedSweeps.{is_sweeping, kept-moves, kept-own, kept-put, lists, no-act, no-self}
-use Rattle.executor_model.proofs.AwaitedSweeps.{no-steps, rousing_of, same-act, same-log_if, shutting_of, sweep}
-use Rattle.executor_model.proofs.AwaitedSweeps.{sweeps-still, with-none, with_sweep}
+use Rattle.executor_model.proofs.Steps.Cases.{by_bool, by_list}
+use Rattle.executor_model.proofs.Steps.Lists.{weigh-append, weigh_all-push}
+use Rattle.executor_model.proofs.Steps.Lift.{split, unsettled, good-start, none_refused, open_executor, weigh_all-idle}
+use Rattle.executor_model.proofs.Steps.Ways.{Way, along}
+use Rattle.executor_model.proofs.Steps.Ways.Way.{acted, reacted, called}
+use Rattle.executor_model.proofs.Steps.RunsPlain.{plain-run, plain-steal}
+use Rattle.executor_model.proofs.Awaiters.RunsQueue.{Fewer, fewer, takes-run, takes-search, takes-steal}
+use Rattle.executor_model.proofs.Steps.RunsWays.{by-run, by-search, by-steal}
+use Rattle.executor_model.proofs.Awaiters.AwaitedLists.{plain-act, plain-begun, plain-wake}
+use Rattle.executor_model.proofs.Awaiters.AwaitedSweeps.{KeepsSweeps, Kept, Lists, NoSteps, Sweeps, draining_of, dropping_of}
+use Rattle.executor_model.proofs.Awaiters.AwaitedSweeps.{is_sweeping, kept-moves, kept-own, kept-put, lists, no-act, no-self}
+use Rattle.executor_model.proofs.Awaiters.AwaitedSweeps.{no-steps, rousing_of, same-act, same-log_if, shutting_of, sweep}
+use Rattle.executor_model.proofs.Awaiters.AwaitedSweeps.{sweeps-still, with-none, with_sweep}
 
 -- the queue
 
@@ -68,12 +69,12 @@ sweeps-take = by_list _
     (λ w e r h. grind arith)
     (λ f rest w e r h. let z : suc (length (drop 1 w.queue.items)) ≡ length w.queue.items = rw e refl in grind arith)
 
-sweeps-search : (x : Place) (q : List ℕ) (w : World) (s : Sleeping) → w.queue.items ≡ q →
+sweeps-search : (x : Ticker) (q : List ℕ) (w : World) (s : Sleeping) → w.queue.items ≡ q →
     KeepsSweeps w (op.Tick (tick_op.Search s) ∷ []) (search_by x w q s)
 sweeps-search x [] w s e r h = grind arith
-sweeps-search Up (f ∷ rest) w s e r h =
+sweeps-search Awake (f ∷ rest) w s e r h =
     let z : suc (length (drop 1 w.queue.items)) ≡ length w.queue.items = rw e refl in grind arith
-sweeps-search (Lies n) (f ∷ rest) w s e r h =
+sweeps-search (Asleep n) (f ∷ rest) w s e r h =
     let z : suc (length (drop 1 w.queue.items)) ≡ length w.queue.items = rw e refl in grind arith
 sweeps-search Left (f ∷ rest) w s e r h =
     let z : suc (length (drop 1 w.queue.items)) ≡ length w.queue.items = rw e refl in grind arith
@@ -107,14 +108,14 @@ sweeps-run p h o w =
     (fewer w _ (takes-run p h o w)) (omega (arith, ap (λ (x : Row). x.ousting) (plain-run o)))
     (no-steps _ (plain-act p h (op.Run o) w refl))
 
-sweeps-search_who : (h : Hint) (who : Sleeper) (w : World) (s : Sleeping) → s.who ≡ who →
+sweeps-search_who : (h : Hint) (who : TickOrRun) (w : World) (s : Sleeping) → s.who ≡ who →
     KeepsSweeps w (op.Tick (tick_op.Search s) ∷ []) (search_by_who who w s)
-sweeps-search_who h (sleeper.Tick t) w s e = sweeps-search _ _ w s refl
-sweeps-search_who h (sleeper.Run q) w s e =
+sweeps-search_who h (tick_or_run.Tick t) w s e = sweeps-search _ _ w s refl
+sweeps-search_who h (tick_or_run.Run q) w s e =
     let x : RunPoll = record { run = q; waker = s.waker; poll = s.poll } in
     sweeps-less w (op.Tick (tick_op.Search s)) (search_own w x) (by-search Kept kept-moves kept-put w q s e)
     (fewer w _ (takes-search w x)) refl (no-steps _ (plain-act 0 h
-    (op.Tick (tick_op.Search (record s { who = sleeper.Run q }))) w refl))
+    (op.Tick (tick_op.Search (record s { who = tick_or_run.Run q }))) w refl))
 
 -- the steps of the executor's drop
 
@@ -272,17 +273,17 @@ swept-unsettled : (s : Machine) (p : ℕ) (old rest : List Op) (d : Done) → p 
 swept-unsettled s p old rest d l e k h = subst (Sweeps (lists d.world)) (sym (push-sweep s.parties p rest d.next l))
     (k _ (subst (Sweeps (lists s.world)) (split-sweep s.parties p old rest l e) h))
 
-swept-moves : (s : Machine) (p : ℕ) (old rest : List Op) (d : Done) → Good s → p < length s.parties →
+pub swept-moves : (s : Machine) (p : ℕ) (old rest : List Op) (d : Done) → Good s → p < length s.parties →
     stack s p ≡ rest ++ reverse old → Way s p old rest d → Swept s → Swept (unsettled s p rest d)
 swept-moves s p old rest d good l e w h = swept-unsettled s p old rest d l e (sweeps-way s p old rest d w) h
 
-swept-ends : (s : Machine) (p : ℕ) (a : Reply) (held : Hold) (below : List Op) → p < length s.parties →
+pub swept-ends : (s : Machine) (p : ℕ) (a : Reply) (held : Hold) (below : List Op) → p < length s.parties →
     stack s p ≡ below ++ reverse (op.End a held ∷ []) → Swept s →
     Swept (unsettled s p below (done (log s.world (event.CallEnded p a)) []))
 swept-ends s p a held below l e h =
     swept-unsettled s p (op.End a held ∷ []) below (done (log s.world (event.CallEnded p a)) []) l e (λ r k. k) h
 
-swept-start : (limit n : ℕ) → Swept (start limit n)
+pub swept-start : (limit n : ℕ) → Swept (start limit n)
 swept-start limit n = subst (Sweeps (lists (start limit n).world)) (sym (λ i. record {
   outs = weigh_all-idle ousting_of n i;
   drops = weigh_all-idle dropping_of n i;

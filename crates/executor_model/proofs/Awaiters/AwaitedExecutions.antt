@@ -1,4 +1,5 @@
--- In each run the waker of who waits is stored, called or about to be called.
+-- For awaiters_are_kept.
+-- In each execution the waker of who waits is stored, called or about to be called.
 use Rattle.std.proofs.Common.{◌≡◌, ◌⊎◌, ℕ, zero, suc, ◌+◌, ◌<◌, ◌≤◌, List, [], ◌∷◌, ◌++◌}
 use Rattle.std.proofs.Common.{length, set, Bool, true, false, ◌&&◌, ◌||◌, not, cond, eqb}
 use Rattle.std.proofs.Common.{refl, sym, ap, ◌∙◌, subst, inl, inr, ⊎_elim, arith}
@@ -28,30 +29,30 @@ use Rattle.executor_model.specs.Rows.{past_of}
 use Rattle.executor_model.specs.Steps.{Machine, stack, idle, run, start, mine, top, is_free, has_all, has_handle}
 use Rattle.executor_model.specs.Steps.{is_on_executor, is_drop, is_unborrowed, accepts, begun, react}
 use Rattle.task_moves.specs.Moves as moves
-use Rattle.executor_model.proofs.Lists.{same_is, past_is}
-use Rattle.executor_model.proofs.Lift.{split, unsettled, good-start, none_refused}
-use Rattle.executor_model.proofs.Lift.{handle-known, first-true, unborrowed, weigh_all-idle, set-own}
-use Rattle.executor_model.proofs.Ways.{Way, along}
-use Rattle.executor_model.proofs.Ways.Way.{acted, reacted, called}
-use Rattle.executor_model.proofs.Calls.{calling_of, is_end, Passes, single, then}
-use Rattle.executor_model.proofs.CallsGroups.{calls-act}
-use Rattle.executor_model.proofs.Resting.{idle-stack, opens}
-use Rattle.executor_model.proofs.Awaited.{Heard, heard, heard-none, Awaiting, with_awaiting, awaiting}
-use Rattle.executor_model.proofs.Awaited.{Awaits, Mark, asks_if}
-use Rattle.executor_model.proofs.AwaitedActs.{is_answer}
-use Rattle.executor_model.proofs.AwaitedGroups.{awaits-act, awaits-react, asked}
-use Rattle.executor_model.proofs.AwaitedTies.{Tied, AllTied, tied-moves, tied-ends}
-use Rattle.executor_model.proofs.AwaitedHeld.{asks_of, asks-calling, open_of}
-use Rattle.executor_model.proofs.Holding.{nowhere, spot, spot-none, spot-more, seen, seen-append}
-use Rattle.executor_model.proofs.Holding.{Spotted, Holds, held-step}
-use Rattle.executor_model.proofs.AwaitedCalls.{begun_in, UsesHandle, awaits-begun, EndHeard}
-use Rattle.executor_model.proofs.AwaitedCalls.{heard-end, marked, awaits-end}
-use Rattle.executor_model.proofs.AwaitedCalls.EndHeard.{own, within, apart}
-use Rattle.executor_model.proofs.AwaitedSteps.{Waited, awaiting-none, nothing_awaited, before}
-use Rattle.executor_model.proofs.Growing.{pend-none}
-use Rattle.executor_model.proofs.Views.{none}
-use Rattle.executor_model.proofs.AwaitedSteps.{footing-here, awaits-here, stages-here, awaits-pushed, held-same}
-use Rattle.executor_model.proofs.AwaitedSteps.{held-polled, held-begun}
+use Rattle.executor_model.proofs.Steps.Lists.{same_is, past_is}
+use Rattle.executor_model.proofs.Steps.Lift.{split, unsettled, good-start, none_refused}
+use Rattle.executor_model.proofs.Steps.Lift.{handle-known, first-true, unborrowed, weigh_all-idle, set-own}
+use Rattle.executor_model.proofs.Steps.Ways.{Way, along}
+use Rattle.executor_model.proofs.Steps.Ways.Way.{acted, reacted, called}
+use Rattle.executor_model.proofs.Quiet.Calls.{calling_of, is_end, Passes, single, then}
+use Rattle.executor_model.proofs.Quiet.CallsGroups.{calls-act}
+use Rattle.executor_model.proofs.Quiet.Resting.{idle-stack, opens}
+use Rattle.executor_model.proofs.Awaiters.Awaited.{Heard, heard, heard-none, Awaiting, with_awaiting, awaiting}
+use Rattle.executor_model.proofs.Awaiters.Awaited.{Awaits, Mark, asks_if}
+use Rattle.executor_model.proofs.Awaiters.AwaitedActs.{is_answer}
+use Rattle.executor_model.proofs.Awaiters.AwaitedGroups.{awaits-act, awaits-react, asked}
+use Rattle.executor_model.proofs.Awaiters.AwaitedTies.{Tied, AllTied, tied-moves, tied-ends}
+use Rattle.executor_model.proofs.Awaiters.AwaitedHeld.{asks_of, asks-calling, open_of}
+use Rattle.executor_model.proofs.Awaiters.Holding.{nowhere, spot, spot-none, spot-more, seen, seen-append}
+use Rattle.executor_model.proofs.Awaiters.Holding.{Spotted, Holds, held-step}
+use Rattle.executor_model.proofs.Awaiters.AwaitedCalls.{begun_in, UsesHandle, awaits-begun, EndHeard}
+use Rattle.executor_model.proofs.Awaiters.AwaitedCalls.{heard-end, marked, awaits-end}
+use Rattle.executor_model.proofs.Awaiters.AwaitedCalls.EndHeard.{own, within, apart}
+use Rattle.executor_model.proofs.Awaiters.AwaitedSteps.{Waited, awaiting-none, nothing_awaited, before}
+use Rattle.executor_model.proofs.Steps.Growing.{pend-none}
+use Rattle.executor_model.proofs.OneFuture.Views.{none}
+use Rattle.executor_model.proofs.Awaiters.AwaitedSteps.{footing-here, awaits-here, stages-here, awaits-pushed, held-same}
+use Rattle.executor_model.proofs.Awaiters.AwaitedSteps.{held-polled, held-begun}
 
 -- what is done
 

@@ -1,3 +1,4 @@
+-- For awaiters_are_kept.
 -- Each thing that is done keeps what is known of each awaiter, by groups.
 use Rattle.std.proofs.Common.{◌≡◌, ℕ, ◌<◌, [], ◌∷◌, length, true, false, not, refl, subst, arith}
 use Rattle.task_moves.specs.Moves as moves
@@ -26,25 +27,25 @@ use Rattle.executor_model.specs.Doing.{act}
 use Rattle.executor_model.specs.Weights.{weigh, past}
 use Rattle.executor_model.specs.Good.{pasts, IsKnownWaker}
 use Rattle.executor_model.specs.Rows.{past_of}
-use Rattle.executor_model.proofs.Calls.{is_end}
-use Rattle.executor_model.proofs.Awaited.{Mark, KeepsBy, KeepsAwaits, asks_if}
-use Rattle.executor_model.proofs.AwaitedMoves.{awaits-append, awaits-begin_drop, awaits-begin_drop_output}
-use Rattle.executor_model.proofs.AwaitedMoves.{awaits-detach, awaits-drop_runnable, awaits-end_closed}
-use Rattle.executor_model.proofs.AwaitedMoves.{awaits-end_pending, awaits-end_ready, awaits-enter, awaits-give_up}
-use Rattle.executor_model.proofs.AwaitedMoves.{awaits-leave, awaits-put_back, awaits-release, awaits-settle_closed}
-use Rattle.executor_model.proofs.AwaitedMoves.{awaits-take, awaits-take_to_drop, awaits-take_to_poll, awaits-take_up}
-use Rattle.executor_model.proofs.AwaitedMoves.{awaits-wake, awaits-wake_by_reference}
-use Rattle.executor_model.proofs.KnownWakers.{known_waker}
-use Rattle.executor_model.proofs.CountingHandles.{first_known, own}
-use Rattle.executor_model.proofs.AwaitedActs.{awaits-wake_first, is_answer, awaits-pending, awaits-ready}
-use Rattle.executor_model.proofs.AwaitedActs.{awaits-register, awaits-take_out, awaits-end_notify}
-use Rattle.executor_model.proofs.AwaitedActs.{awaits-end_register_by, awaits-look, awaits-notify, awaits-copy}
-use Rattle.executor_model.proofs.AwaitedActs.{awaits-copy_awaiter, awaits-drain, awaits-drop_first, both-true}
-use Rattle.executor_model.proofs.AwaitedActs.{awaits-again, awaits-call, awaits-cancel, awaits-close}
-use Rattle.executor_model.proofs.SleepersAwaited.{awaits-exchange, awaits-hand_out, awaits-call_sleeper}
-use Rattle.executor_model.proofs.RunsAwaited.{awaits-list, awaits-run, awaits-search_who, awaits-steal}
-use Rattle.executor_model.proofs.SleepersAwaited.{awaits-make_tick, awaits-copy_sleeper}
-use Rattle.executor_model.proofs.SleepersAwaited.{awaits-lie_down, awaits-get_up, awaits-leave_sleepers}
+use Rattle.executor_model.proofs.Quiet.Calls.{is_end}
+use Rattle.executor_model.proofs.Awaiters.Awaited.{Mark, KeepsBy, KeepsAwaits, asks_if}
+use Rattle.executor_model.proofs.Awaiters.AwaitedMoves.{awaits-append, awaits-begin_drop, awaits-begin_drop_output}
+use Rattle.executor_model.proofs.Awaiters.AwaitedMoves.{awaits-detach, awaits-drop_runnable, awaits-end_closed}
+use Rattle.executor_model.proofs.Awaiters.AwaitedMoves.{awaits-end_pending, awaits-end_ready, awaits-enter, awaits-give_up}
+use Rattle.executor_model.proofs.Awaiters.AwaitedMoves.{awaits-leave, awaits-put_back, awaits-release, awaits-settle_closed}
+use Rattle.executor_model.proofs.Awaiters.AwaitedMoves.{awaits-take, awaits-take_to_drop, awaits-take_to_poll, awaits-take_up}
+use Rattle.executor_model.proofs.Awaiters.AwaitedMoves.{awaits-wake, awaits-wake_by_reference}
+use Rattle.executor_model.proofs.Awaiters.KnownWakers.{known_waker}
+use Rattle.executor_model.proofs.Counts.CountingHandles.{first_known, own}
+use Rattle.executor_model.proofs.Awaiters.AwaitedActs.{awaits-wake_first, is_answer, awaits-pending, awaits-ready}
+use Rattle.executor_model.proofs.Awaiters.AwaitedActs.{awaits-register, awaits-take_out, awaits-end_notify}
+use Rattle.executor_model.proofs.Awaiters.AwaitedActs.{awaits-end_register_by, awaits-look, awaits-notify, awaits-copy}
+use Rattle.executor_model.proofs.Awaiters.AwaitedActs.{awaits-copy_awaiter, awaits-drain, awaits-drop_first, both-true}
+use Rattle.executor_model.proofs.Awaiters.AwaitedActs.{awaits-again, awaits-call, awaits-cancel, awaits-close}
+use Rattle.executor_model.proofs.Awaiters.SleepersAwaited.{awaits-exchange, awaits-hand_out, awaits-call_sleeper}
+use Rattle.executor_model.proofs.Awaiters.RunsAwaited.{awaits-list, awaits-run, awaits-search_who, awaits-steal}
+use Rattle.executor_model.proofs.Awaiters.SleepersAwaited.{awaits-make_tick, awaits-copy_sleeper}
+use Rattle.executor_model.proofs.Awaiters.SleepersAwaited.{awaits-fall_asleep, awaits-wake_up, awaits-leave_sleepers}
 
 -- whether such a thing to do begins a poll of a handle
 abbrev pub asked : ℕ → Hint → Op → World → ℕ → Mark → Mark
@@ -124,8 +125,8 @@ awaits-act p h (op.Tick tick_op.MakeTick) w n u z m = awaits-make_tick _ w
 awaits-act p h (op.Tick (tick_op.Search s)) w n u z m = awaits-search_who s.who w s refl
 awaits-act p h (op.Tick (tick_op.CopyWaker s)) w n u z m =
     awaits-copy_sleeper _ s.waker s.who s.poll w (known_waker w s.waker 0 (omega (arith, z)))
-awaits-act p h (op.Tick (tick_op.LieDown s)) w n u z m = awaits-lie_down _ w s
-awaits-act p h (op.Tick (tick_op.GetUp t)) w n u z m = awaits-get_up _ w t
+awaits-act p h (op.Tick (tick_op.FallAsleep s)) w n u z m = awaits-fall_asleep _ w s
+awaits-act p h (op.Tick (tick_op.WakeUp t)) w n u z m = awaits-wake_up _ w t
 awaits-act p h (op.Tick (tick_op.Leave t)) w n u z m = awaits-leave_sleepers _ w t
 awaits-act p h (op.List o) w n u z m = awaits-list h o w
 awaits-act p h (op.Steal o) w n u z m = awaits-steal p o w

@@ -1,3 +1,4 @@
+-- For awaiters_are_kept.
 -- What has to end a poll of a handle, and the poll that a trace has open.
 use Rattle.std.proofs.Common.{◌≡◌, ℕ, ◌+◌, ◌≤◌, List, [], ◌∷◌, refl, arith}
 use Rattle.executor_model.specs.declared.call.Reply.TheVariants as reply
@@ -6,10 +7,10 @@ use Rattle.executor_model.specs.declared.op.Op.{Op}
 use Rattle.executor_model.specs.declared.op.Op.TheVariants as op
 use Rattle.executor_model.specs.declared.op.HandleOp.TheVariants as handle_op
 use Rattle.executor_model.specs.Weights.{weigh}
-use Rattle.executor_model.proofs.Lists.{same_is}
-use Rattle.executor_model.proofs.Calls.{calling_of}
-use Rattle.executor_model.proofs.Awaited.{Heard, fresh_of, storing_of, again_of, waits_of, over_of}
-use Rattle.executor_model.proofs.Holding.{Open}
+use Rattle.executor_model.proofs.Steps.Lists.{same_is}
+use Rattle.executor_model.proofs.Quiet.Calls.{calling_of}
+use Rattle.executor_model.proofs.Awaiters.Awaited.{Heard, fresh_of, storing_of, again_of, waits_of, over_of}
+use Rattle.executor_model.proofs.Awaiters.Holding.{Open}
 
 -- it has to end a poll of g's handle that wasn't refused
 abbrev pub asks_of : ℕ → Op → ℕ

@@ -1,3 +1,4 @@
+-- For awaiters_are_kept and calls_do_what_they_say.
 -- Who notifies for the handle itself, and the steps of the executor's drop:
 -- most of what is done leads to nothing of these.
 use Rattle.std.proofs.Common.{◌≡◌, ℕ, List, [], ◌∷◌, ◌++◌, Bool, true, false, refl, ap, arith}
@@ -41,10 +42,10 @@ use Rattle.executor_model.specs.ActsOfRuns.{call_by_reference, reschedule_by, wa
 use Rattle.executor_model.specs.Doing.{act}
 use Rattle.executor_model.specs.Weights.{weigh}
 use Rattle.executor_model.specs.Steps.{with_future, kept, accepts, is_drop, begun, drop_run, future_of, poll_run, react}
-use Rattle.executor_model.proofs.Lists.{weigh-append}
-use Rattle.executor_model.proofs.Owed.{owed-future, owed-nothing}
-use Rattle.executor_model.proofs.RunsNext.{BlindToRuns, list-blind, run-blind, steal-blind, tick-blind}
-use Rattle.executor_model.proofs.SleepersNext.{sleeper-unseen}
+use Rattle.executor_model.proofs.Steps.Lists.{weigh-append}
+use Rattle.executor_model.proofs.Steps.Owed.{owed-future, owed-nothing}
+use Rattle.executor_model.proofs.Steps.RunsNext.{BlindToRuns, list-blind, run-blind, steal-blind, tick-blind}
+use Rattle.executor_model.proofs.Steps.SleepersNext.{sleeper-unseen}
 
 -- a notice by a poll of the handle itself, the rest of a notice, and the steps of the executor's drop
 abbrev pub rough_of : Op → ℕ
@@ -261,7 +262,7 @@ plain-act p h (op.Run o) w n = run-blind rough_of blind-rough p h o w (plain-own
     (λ q r a. plain-reschedule q w r a)
 plain-act p h (op.Tick o) w n =
     tick-blind rough_of (record
-    { tick = λ o. refl; exchange = refl; call = λ s. refl; release = λ f. refl; end = λ r t. refl; made = λ r. refl })
+    { tick = λ o. refl; exchange = refl; returns = refl; call = λ s. refl; release = λ f. refl; end = λ r t. refl; made = λ r. refl })
     blind-rough h o w
 plain-act p h (op.Handle (handle_op.Look f a)) w n = absurd (cc)
 plain-act p h (op.Handle (handle_op.LookAgain f)) w n = absurd (cc)
@@ -304,23 +305,13 @@ plain-drop_run Ended r = refl
 -- a call leads to such only where it is the executor's drop
 pub plain-begun : (p : ℕ) (w : World) (here : Option Waker) (c : Call) → is_drop c ≡ false →
     weigh rough_of (begun p w here c).next ≡ 0
-plain-begun p w here call.Spawn n = refl
-plain-begun p w here call.TryTick n = refl
-plain-begun p w here call.IsEmpty n = refl
 plain-begun p w here (call.Wake k) n = plain-with w (kept w k) _ (λ f. refl)
 plain-begun p w here (call.WakeByRef k) n = plain-with w (kept w k) _ (λ f. refl)
 plain-begun p w here (call.Copy k) n = plain-with w (kept w k) _ (λ f. refl)
 plain-begun p w here (call.DropWaker k) n = plain-with w (kept w k) _ (λ f. refl)
 plain-begun p w here call.Keep n = plain-with w (future_of here) _ (λ f. refl)
 plain-begun p w here call.WakeSelf n = plain-with w (future_of here) _ (λ f. refl)
-plain-begun p w here (call.PollHandle f b) n = refl
-plain-begun p w here (call.Cancel f) n = refl
-plain-begun p w here (call.Detach f) n = refl
-plain-begun p w here (call.DropHandle f) n = refl
-plain-begun p w here call.NewTick n = refl
-plain-begun p w here (call.PollTick t b) n = refl
-plain-begun p w here (call.DropTick t) n = refl
-plain-begun p w here call.NewRun n = refl
 plain-begun p w here (call.PollRun r b) n = plain-poll_run (run_of w r).stage _
 plain-begun p w here (call.DropRun r) n = plain-drop_run (run_of w r).stage r
 plain-begun p w here call.DropExecutor n = absurd (cc)
+plain-begun p w here _ n = refl

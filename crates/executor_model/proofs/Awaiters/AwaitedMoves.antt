@@ -1,3 +1,4 @@
+-- For awaiters_are_kept.
 -- The queue, the table and the moves of a task keep what holds of each future and of who waits on its handle.
 use Rattle.std.proofs.Common.{◌≡◌, ℕ, ◌+◌, ◌<◌, List, [], ◌∷◌, length, Bool, true, false, ◌||◌, ◌&&◌, not}
 use Rattle.std.proofs.Common.{eqb, drop, arith}
@@ -20,15 +21,15 @@ use Rattle.executor_model.specs.Acts.{leave_by}
 use Rattle.executor_model.specs.Acts.{begin_drop, begin_drop_output}
 use Rattle.executor_model.specs.Weights.{same}
 use Rattle.executor_model.specs.Sound.{with_ops, times}
-use Rattle.executor_model.proofs.Cases.{by_bool, by_list}
-use Rattle.executor_model.proofs.Marks.{IsUnmarked, unmarked, IsGoing, going}
-use Rattle.executor_model.proofs.Marks.{IsIdle, idle, last-one, IsUnheld, unheld}
-use Rattle.executor_model.proofs.Lists.{read_put, fresh_is, read_push}
-use Rattle.executor_model.proofs.Lists.{same_is, times-append, times-drop}
-use Rattle.executor_model.proofs.Counting.{settling, readied, pended, ending, dropping, taken_up, woken, woken_by}
-use Rattle.executor_model.proofs.Counting.{cancel_going, cancel_idle, cancel_over, detached}
-use Rattle.executor_model.proofs.Awaited.{heard-push, with_awaiting, Footing}
-use Rattle.executor_model.proofs.Awaited.{Awaits, KeepsAwaits, kept_push}
+use Rattle.executor_model.proofs.Steps.Cases.{by_bool, by_list}
+use Rattle.executor_model.proofs.Steps.Marks.{IsUnmarked, unmarked, IsGoing, going}
+use Rattle.executor_model.proofs.Steps.Marks.{IsIdle, idle, last-one, IsUnheld, unheld}
+use Rattle.executor_model.proofs.Steps.Lists.{read_put, fresh_is, read_push}
+use Rattle.executor_model.proofs.Steps.Lists.{same_is, times-append, times-drop}
+use Rattle.executor_model.proofs.Counts.Counting.{settling, readied, pended, ending, dropping, taken_up, woken, woken_by}
+use Rattle.executor_model.proofs.Counts.Counting.{cancel_going, cancel_idle, cancel_over, detached}
+use Rattle.executor_model.proofs.Awaiters.Awaited.{heard-push, with_awaiting, Footing}
+use Rattle.executor_model.proofs.Awaiters.Awaited.{Awaits, KeepsAwaits, kept_push}
 
 pub awaits-append : (b : Bool) (w : World) (f : ℕ) → KeepsAwaits w (op.Queue (queue_op.Append f) ∷ []) (append_by b w f)
 awaits-append = by_bool _

@@ -1,3 +1,4 @@
+-- For awaiters_are_kept.
 -- At a quiet trace the waker of the last poll of a handle was called, if that was answered that there is no output yet.
 use Rattle.std.proofs.Common.{◌≡◌, ◌⊎◌, ℕ, suc, ◌<◌, ◌≤◌, List, [], ◌∷◌, length}
 use Rattle.std.proofs.Common.{Bool, true, false, refl, sym, ap, ◌∙◌, subst, ⊎_elim, arith}
@@ -12,27 +13,27 @@ use Rattle.executor_model.specs.Good.{Good}
 use Rattle.executor_model.specs.Weights.{past}
 use Rattle.executor_model.specs.Rows.{ousting_of}
 use Rattle.executor_model.specs.Steps.{Machine, stack, run, start}
-use Rattle.executor_model.proofs.Cases.{by_bool}
-use Rattle.executor_model.proofs.Lists.{past_is}
-use Rattle.executor_model.proofs.Lift.{good}
-use Rattle.executor_model.proofs.Resting.{Deep, deep, rests, all-rest}
-use Rattle.executor_model.proofs.Stories.{story}
-use Rattle.executor_model.proofs.Telling.{fallen-counts, counted-there}
-use Rattle.executor_model.proofs.Leaving.{Leaves}
-use Rattle.executor_model.proofs.Extras.{Extra, no_extra, extra, extra-none}
-use Rattle.executor_model.proofs.LeavingRuns.{Placed, placed}
-use Rattle.executor_model.proofs.Awaited.{Heard, heard, Awaiting, awaiting, Awaits, Mark}
-use Rattle.executor_model.proofs.UsingSteps.{OwnEmptied, own-emptied}
-use Rattle.executor_model.proofs.AwaitedSweeps.{lists, Sweep, sweep, Sweeps, dropping_of}
-use Rattle.executor_model.proofs.AwaitedClosing.{Swept, swept}
-use Rattle.executor_model.proofs.AwaitedSweeps.{rousing_of, shutting_of, draining_of}
-use Rattle.executor_model.proofs.AwaitedCalls.{marked}
-use Rattle.executor_model.proofs.AwaitedSteps.{Waited, awaiting-none, nothing_awaited}
-use Rattle.executor_model.proofs.Growing.{pend-none}
-use Rattle.executor_model.proofs.Views.{none}
-use Rattle.executor_model.proofs.AwaitedRuns.{waited}
-use Rattle.executor_model.proofs.AwaitedTelling.{parted-has, dropped-has, over-dropped, Begun}
-use Rattle.executor_model.proofs.AwaitedTelling.{begun-at, called-from, pending-at}
+use Rattle.executor_model.proofs.Steps.Cases.{by_bool}
+use Rattle.executor_model.proofs.Steps.Lists.{past_is}
+use Rattle.executor_model.proofs.Steps.Lift.{good}
+use Rattle.executor_model.proofs.Quiet.Resting.{Deep, deep, rests, all-rest}
+use Rattle.executor_model.proofs.OneFuture.Stories.{story}
+use Rattle.executor_model.proofs.OneFuture.Telling.{fallen-counts, counted-there}
+use Rattle.executor_model.proofs.Table.Leaving.{Leaves}
+use Rattle.executor_model.proofs.OneFuture.Extras.{Extra, no_extra, extra, extra-none}
+use Rattle.executor_model.proofs.Table.LeavingExecutions.{Placed, placed}
+use Rattle.executor_model.proofs.Awaiters.Awaited.{Heard, heard, Awaiting, awaiting, Awaits, Mark}
+use Rattle.executor_model.proofs.OwnQueues.UsingSteps.{OwnEmptied, own-emptied}
+use Rattle.executor_model.proofs.Awaiters.AwaitedSweeps.{lists, Sweep, sweep, Sweeps, dropping_of}
+use Rattle.executor_model.proofs.Awaiters.AwaitedClosing.{Swept, swept}
+use Rattle.executor_model.proofs.Awaiters.AwaitedSweeps.{rousing_of, shutting_of, draining_of}
+use Rattle.executor_model.proofs.Awaiters.AwaitedCalls.{marked}
+use Rattle.executor_model.proofs.Awaiters.AwaitedSteps.{Waited, awaiting-none, nothing_awaited}
+use Rattle.executor_model.proofs.Steps.Growing.{pend-none}
+use Rattle.executor_model.proofs.OneFuture.Views.{none}
+use Rattle.executor_model.proofs.Awaiters.AwaitedExecutions.{waited}
+use Rattle.executor_model.proofs.Awaiters.AwaitedTelling.{parted-has, dropped-has, over-dropped, Begun}
+use Rattle.executor_model.proofs.Awaiters.AwaitedTelling.{begun-at, called-from, pending-at}
 
 abbrev nothing_swept : Sweep
 nothing_swept = record { outs = 0; drops = 0; wakes = 0; shuts = 0; drains = 0 }

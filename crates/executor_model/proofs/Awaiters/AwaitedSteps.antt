@@ -1,3 +1,4 @@
+-- For awaiters_are_kept.
 -- A step of a party, by what it keeps of each future and of who waits on its handle.
 use Rattle.std.proofs.Common.{◌≡◌, ◌≢◌, ℕ, suc, ◌+◌, ◌<◌, ◌≤◌, List, [], ◌∷◌, ◌++◌}
 use Rattle.std.proofs.Common.{length, set, get_or, Bool, true, false, cond, eqb}
@@ -14,22 +15,22 @@ use Rattle.executor_model.specs.Sound.{Pend, pend, with_ops}
 use Rattle.executor_model.specs.Good.{Good}
 use Rattle.executor_model.specs.Rows.{handling_of}
 use Rattle.executor_model.specs.Steps.{Machine, stack}
-use Rattle.executor_model.proofs.Lists.{same_cases, weigh-reverse, weigh_all-push}
-use Rattle.executor_model.proofs.Lift.{split, split-pend, push-pend}
-use Rattle.executor_model.proofs.Telling.{same-cond, one-stray}
-use Rattle.executor_model.proofs.Calls.{calling_of, Passes, Answering}
-use Rattle.executor_model.proofs.Resting.{counts-answering}
-use Rattle.executor_model.proofs.Awaited.{heard, Awaiting, with_awaiting, awaiting}
-use Rattle.executor_model.proofs.Awaited.{Footing, Awaits, Mark, looks_of, fresh_of, storing_of}
-use Rattle.executor_model.proofs.Awaited.{again_of, waits_of, over_of, notices_of, notifying_of, mine_of}
-use Rattle.executor_model.proofs.Awaited.{detaches_of, lending_of, strays_of, calls_of}
-use Rattle.executor_model.proofs.AwaitedTies.{AllTied, tied-all}
-use Rattle.executor_model.proofs.AwaitedHeld.{asks_of, asks-weighs, asks-calling, open_of}
-use Rattle.executor_model.proofs.Holding.{nowhere, seen, seen-light}
-use Rattle.executor_model.proofs.Holding.{seen-passes, Spotted, Holds, held-step, held-asks}
-use Rattle.executor_model.proofs.AwaitedCalls.{begun_in}
-use Rattle.executor_model.proofs.AwaitedCalls.{marked, Stages}
-use Rattle.executor_model.proofs.AwaitedTelling.{over-dropped}
+use Rattle.executor_model.proofs.Steps.Lists.{same_cases, weigh-reverse, weigh_all-push}
+use Rattle.executor_model.proofs.Steps.Lift.{split, split-pend, push-pend}
+use Rattle.executor_model.proofs.OneFuture.Telling.{same-cond, one-stray}
+use Rattle.executor_model.proofs.Quiet.Calls.{calling_of, Passes, Answering}
+use Rattle.executor_model.proofs.Quiet.Resting.{counts-answering}
+use Rattle.executor_model.proofs.Awaiters.Awaited.{heard, Awaiting, with_awaiting, awaiting}
+use Rattle.executor_model.proofs.Awaiters.Awaited.{Footing, Awaits, Mark, looks_of, fresh_of, storing_of}
+use Rattle.executor_model.proofs.Awaiters.Awaited.{again_of, waits_of, over_of, notices_of, notifying_of, mine_of}
+use Rattle.executor_model.proofs.Awaiters.Awaited.{detaches_of, lending_of, strays_of, calls_of}
+use Rattle.executor_model.proofs.Awaiters.AwaitedTies.{AllTied, tied-all}
+use Rattle.executor_model.proofs.Awaiters.AwaitedHeld.{asks_of, asks-weighs, asks-calling, open_of}
+use Rattle.executor_model.proofs.Awaiters.Holding.{nowhere, seen, seen-light}
+use Rattle.executor_model.proofs.Awaiters.Holding.{seen-passes, Spotted, Holds, held-step, held-asks}
+use Rattle.executor_model.proofs.Awaiters.AwaitedCalls.{begun_in}
+use Rattle.executor_model.proofs.Awaiters.AwaitedCalls.{marked, Stages}
+use Rattle.executor_model.proofs.Awaiters.AwaitedTelling.{over-dropped}
 
 pub record Waited (s : Machine) : Type 0 where
   pub awaits : (g : ℕ) → Awaits s.world g (pend g s.parties) (awaiting g s.parties)

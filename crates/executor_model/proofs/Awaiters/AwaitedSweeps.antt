@@ -1,3 +1,4 @@
+-- For awaiters_are_kept and calls_do_what_they_say.
 -- What the steps of the executor's drop look at, and how most of what is done leaves it as it was.
 use Rattle.std.proofs.Common.{◌≡◌, ◌⊎◌, ℕ, ◌+◌, ◌<◌, ◌≤◌, List, [], ◌∷◌, ◌++◌, length}
 use Rattle.std.proofs.Common.{Bool, true, false, not, refl, sym, ap, ◌∙◌, subst, arith}
@@ -40,12 +41,12 @@ use Rattle.executor_model.specs.Doing.{act, list_act}
 use Rattle.executor_model.specs.Weights.{weigh, weigh_all}
 use Rattle.executor_model.specs.Rows.{Row, ousting_of}
 use Rattle.executor_model.specs.Steps.{mine}
-use Rattle.executor_model.proofs.RunsMoves.{Moves}
-use Rattle.executor_model.proofs.RunsPlain.{plain-list, plain-run, plain-steal}
-use Rattle.executor_model.proofs.RunsQueue.{queue-list}
-use Rattle.executor_model.proofs.RunsWays.{AllOfRuns, by-list}
-use Rattle.executor_model.proofs.SleepersWorlds.{Rest, sleeper-rest, tick-rest}
-use Rattle.executor_model.proofs.AwaitedLists.{rough_of, plain-act, is_special}
+use Rattle.executor_model.proofs.Steps.RunsMoves.{Moves}
+use Rattle.executor_model.proofs.Steps.RunsPlain.{plain-list, plain-run, plain-steal}
+use Rattle.executor_model.proofs.Awaiters.RunsQueue.{queue-list}
+use Rattle.executor_model.proofs.Steps.RunsWays.{AllOfRuns, by-list}
+use Rattle.executor_model.proofs.Awaiters.SleepersWorlds.{Rest, sleeper-rest, tick-rest}
+use Rattle.executor_model.proofs.Awaiters.AwaitedLists.{rough_of, plain-act, is_special}
 
 -- what the drop of the executor looks at
 pub record Lists : Type 0 where
@@ -121,13 +122,7 @@ KeepsSweeps w old d = (r : Sweep) → Sweeps (lists w) (with_sweep old r) → Sw
 
 rough-more : (o : Op) → ousting_of o + (dropping_of o + (rousing_of o + (shutting_of o + draining_of o))) ≤ rough_of o
 rough-more (op.Closing closing_op.TakeOut) = omega arith
-rough-more (op.Closing closing_op.DropNext) = omega arith
-rough-more (op.Closing closing_op.WakeNext) = omega arith
-rough-more (op.Closing closing_op.Close) = omega arith
-rough-more (op.Closing closing_op.Drain) = omega arith
 rough-more (op.Handle (handle_op.Notify f true)) = omega arith
-rough-more (op.Handle (handle_op.Notify f false)) = omega arith
-rough-more (op.Handle (handle_op.EndNotify f mine)) = omega arith
 rough-more (op.Move move.Wake f) = omega arith
 rough-more (op.Table table_op.Enter) = omega arith
 rough-more (op.Queue queue_op.Take) = omega arith
@@ -309,8 +304,8 @@ same-act p h (op.Sleeper o) w n = ap lists_in (sleeper-rest p o w)
 same-act p h (op.Tick tick_op.MakeTick) w n = ap lists_in (tick-rest h tick_op.MakeTick w refl)
 same-act p h (op.Tick (tick_op.Search s)) w n = absurd (cc)
 same-act p h (op.Tick (tick_op.CopyWaker s)) w n = ap lists_in (tick-rest h (tick_op.CopyWaker s) w refl)
-same-act p h (op.Tick (tick_op.LieDown s)) w n = ap lists_in (tick-rest h (tick_op.LieDown s) w refl)
-same-act p h (op.Tick (tick_op.GetUp t)) w n = ap lists_in (tick-rest h (tick_op.GetUp t) w refl)
+same-act p h (op.Tick (tick_op.FallAsleep s)) w n = ap lists_in (tick-rest h (tick_op.FallAsleep s) w refl)
+same-act p h (op.Tick (tick_op.WakeUp t)) w n = ap lists_in (tick-rest h (tick_op.WakeUp t) w refl)
 same-act p h (op.Tick (tick_op.Leave t)) w n = ap lists_in (tick-rest h (tick_op.Leave t) w refl)
 same-act p h (op.List o) w n = same-lists w (op.List o ∷ []) (list_act h o w) (kept-list h o w) (queue-list h o w)
 same-act p h (op.Steal o) w n = absurd (cc)

@@ -1,3 +1,4 @@
+-- For awaiters_are_kept.
 -- What is heard of a future and of the last poll of its handle is what the definitions over its trace say.
 use Rattle.std.proofs.Common.{◌≡◌, ◌≢◌, ◌⊎◌, ℕ, zero, suc, ◌+◌, ◌≤◌, [], ◌∷◌, drop, Bool, true, false, ◌&&◌, ◌||◌, cond}
 use Rattle.std.proofs.Common.{eqb, take, refl, sym, ap, ◌∙◌, subst, inl, inr, ⊎_elim, arith}
@@ -18,8 +19,8 @@ use Rattle.executor_model.specs.AwaiterKept.{is_handle_poll, calls_waker, since,
 use Rattle.executor_model.specs.Sound.{Phase, passes, phase_from, phase, after_begun, after_answered, after_dropped}
 use Rattle.executor_model.specs.Sound.Phase.{Fresh, Polling, Over, Broken}
 use Rattle.executor_model.specs.Weights.{same}
-use Rattle.executor_model.proofs.Telling.{same-cond}
-use Rattle.executor_model.proofs.Awaited.{Heard, unheard, is_pending, ended_in, hears, heard_from, heard}
+use Rattle.executor_model.proofs.OneFuture.Telling.{same-cond}
+use Rattle.executor_model.proofs.Awaiters.Awaited.{Heard, unheard, is_pending, ended_in, hears, heard_from, heard}
 use Rattle.executor_model.specs.declared.op.Polled.TheVariants as of
 
 or-false : (b : Bool) → b ≡ (b || false)
@@ -224,9 +225,7 @@ not-polled true n p s e = absurd (cc)
 poll-one : (g n : ℕ) (e : Event) (s : Heard) → is_handle_poll g e ≡ false → (hears g n e s).poll ≡ s.poll
 poll-one g n (event.HandlePolled p f) s h = ap (λ (t : Heard). t.poll) (not-polled (eqb g f) n p s h)
 poll-one g n (event.CallEnded p r) s h = ended-same (λ (t : Heard). t.poll) (λ r s. refl) (λ n s. refl) _ s.inner r s
-poll-one g n (event.CallBegun p c) s h = refl
 poll-one g n (event.WakerCalled p (of.Handle f) k a) s h = refl
-poll-one g n (event.Dropped p f) s h = refl
 poll-one g n _ s h = refl
 
 pub poll-from : (g n : ℕ) (s : Heard) (es : Trace) → has (is_handle_poll g) es ≡ false →
@@ -251,9 +250,7 @@ called-one g n (event.HandlePolled p f) s h = ap (λ (t : Heard). t.called) (not
     ∙ or-false s.called
 called-one g n (event.CallEnded p r) s h = ended-same (λ (t : Heard). t.called) (λ r s. refl) (λ n s. refl) _ s.inner r
     s ∙ or-false s.called
-called-one g n (event.CallBegun p c) s h = or-false s.called
 called-one g n (event.WakerCalled p (of.Handle f) k a) s h = or-conds (eqb g f) (eqb s.poll k) s.called
-called-one g n (event.Dropped p f) s h = or-false s.called
 called-one g n _ s h = or-false s.called
 
 pub called-from : (g n k : ℕ) (s : Heard) (es : Trace) → s.poll ≡ k → has (is_handle_poll g) es ≡ false →
@@ -285,9 +282,7 @@ stays-one : (g n : ℕ) (e : Event) (s : Heard) → is_handle_poll g e ≡ false
     IsAnsweredPending (hears g n e s)
 stays-one g n (event.HandlePolled p f) s k h = subst IsAnsweredPending (sym (not-polled (eqb g f) n p s k)) h
 stays-one g n (event.CallEnded p r) s k h = stays-ended (eqb s.party p) r s h
-stays-one g n (event.CallBegun p c) s k h = h
 stays-one g n (event.WakerCalled p (of.Handle f) x a) s k h = h
-stays-one g n (event.Dropped p f) s k h = h
 stays-one g n _ s k h = h
 
 stays-from : (g n : ℕ) (s : Heard) (es : Trace) → has (is_handle_poll g) es ≡ false → IsAnsweredPending s →

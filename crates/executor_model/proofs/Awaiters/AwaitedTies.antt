@@ -1,3 +1,4 @@
+-- For awaiters_are_kept.
 -- What a poll of the handle has itself to notify stands right before the end of that poll, which has an answer by then.
 use Rattle.std.proofs.Common.{◌≡◌, ◌≢◌, ◌⊎◌, ℕ, suc, ◌+◌, ◌<◌, ◌≤◌, List, [], ◌∷◌, ◌++◌, length}
 use Rattle.std.proofs.Common.{set, get_or, Bool, true, false, eqb, refl, sym, subst, inl, inr}
@@ -24,12 +25,12 @@ use Rattle.executor_model.specs.Acts.{drop_next_by, wake, wake_next_by, drain_by
 use Rattle.executor_model.specs.Doing.{act}
 use Rattle.executor_model.specs.Weights.{same, weigh, weigh_all}
 use Rattle.executor_model.specs.Steps.{Machine, stack, begun, is_drop}
-use Rattle.executor_model.proofs.Lists.{same_cases, weigh-append, weigh-reverse}
-use Rattle.executor_model.proofs.Lift.{unsettled}
-use Rattle.executor_model.proofs.Awaited.{mine_of, over_of}
-use Rattle.executor_model.proofs.AwaitedLists.{rough_of, is_special, plain-act, plain-wake, plain-react, plain-begun}
-use Rattle.executor_model.proofs.Ways.{Way}
-use Rattle.executor_model.proofs.Ways.Way.{acted, reacted, called}
+use Rattle.executor_model.proofs.Steps.Lists.{same_cases, weigh-append, weigh-reverse}
+use Rattle.executor_model.proofs.Steps.Lift.{unsettled}
+use Rattle.executor_model.proofs.Awaiters.Awaited.{mine_of, over_of}
+use Rattle.executor_model.proofs.Awaiters.AwaitedLists.{rough_of, is_special, plain-act, plain-wake, plain-react, plain-begun}
+use Rattle.executor_model.proofs.Steps.Ways.{Way}
+use Rattle.executor_model.proofs.Steps.Ways.Way.{acted, reacted, called}
 
 abbrev pub Tied : ℕ → ℕ → List Op → Type 0
 Tied g below [] = Unit {0}
@@ -48,9 +49,7 @@ ties-light g old next z =
 
 none-mine : (g : ℕ) (o : Op) → rough_of o ≡ 0 → mine_of g o ≡ 0
 none-mine g (op.Handle (handle_op.Notify f true)) z = absurd (omega (arith, z))
-none-mine g (op.Handle (handle_op.Notify f false)) z = refl
 none-mine g (op.Handle (handle_op.EndNotify f true)) z = absurd (omega (arith, z))
-none-mine g (op.Handle (handle_op.EndNotify f false)) z = refl
 none-mine g _ z = refl
 
 pub none-mine-all : (g : ℕ) (os : List Op) → weigh rough_of os ≡ 0 → weigh (mine_of g) os ≡ 0

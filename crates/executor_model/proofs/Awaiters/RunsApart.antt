@@ -1,3 +1,4 @@
+-- For awaiters_are_kept.
 -- What a run does is no part of a poll of a handle.
 use Rattle.std.proofs.Common.{◌≡◌, ℕ, ◌+◌, List, [], refl, ap}
 use Rattle.std.proofs.Math.Path.{fun_ext}
@@ -8,11 +9,11 @@ use Rattle.executor_model.specs.declared.op.Op.{Op}
 use Rattle.executor_model.specs.declared.op.Op.TheVariants as op
 use Rattle.executor_model.specs.Rows.{Row, handling_of}
 use Rattle.executor_model.specs.Weights.{weigh}
-use Rattle.executor_model.proofs.Awaited.{Awaiting, with_awaiting}
-use Rattle.executor_model.proofs.Awaited.{again_of, calls_of, detaches_of, fresh_of, lending_of, looks_of, mine_of}
-use Rattle.executor_model.proofs.Awaited.{notices_of}
-use Rattle.executor_model.proofs.Awaited.{notifying_of, over_of, storing_of, strays_of, waits_of}
-use Rattle.executor_model.proofs.RunsWays.{AllOfRuns, Unseeing, plain-of-runs}
+use Rattle.executor_model.proofs.Awaiters.Awaited.{Awaiting, with_awaiting}
+use Rattle.executor_model.proofs.Awaiters.Awaited.{again_of, calls_of, detaches_of, fresh_of, lending_of, looks_of, mine_of}
+use Rattle.executor_model.proofs.Awaiters.Awaited.{notices_of}
+use Rattle.executor_model.proofs.Awaiters.Awaited.{notifying_of, over_of, storing_of, strays_of, waits_of}
+use Rattle.executor_model.proofs.Steps.RunsWays.{AllOfRuns, Unseeing, plain-of-runs}
 
 unseen-looks : (g : ℕ) → Unseeing (looks_of g)
 unseen-looks g = record {

@@ -1,3 +1,4 @@
+-- For awaiters_are_kept.
 -- What a run does keeps what is known of each awaiter.
 use Rattle.std.proofs.Common.{◌≡◌, ℕ, ◌+◌, ◌<◌, List, [], ◌∷◌, ◌++◌, length, refl, sym, subst, ap, arith}
 use Rattle.task_moves.specs.Moves as moves
@@ -12,8 +13,8 @@ use Rattle.executor_model.specs.declared.op.Polled.TheVariants as of
 use Rattle.executor_model.specs.declared.op.RunOp.{RunOp}
 use Rattle.executor_model.specs.declared.op.RunOp.TheVariants as run_op
 use Rattle.executor_model.specs.declared.op.RunPoll.{RunPoll}
-use Rattle.executor_model.specs.declared.op.Sleeper.{Sleeper}
-use Rattle.executor_model.specs.declared.op.Sleeper.TheVariants as sleeper
+use Rattle.executor_model.specs.declared.op.TickOrRun.{TickOrRun}
+use Rattle.executor_model.specs.declared.op.TickOrRun.TheVariants as tick_or_run
 use Rattle.executor_model.specs.declared.op.Sleeping.{Sleeping}
 use Rattle.executor_model.specs.declared.op.Steal.{Steal}
 use Rattle.executor_model.specs.declared.op.StealOp.{StealOp}
@@ -29,17 +30,17 @@ use Rattle.executor_model.specs.Weights.{weigh}
 use Rattle.executor_model.specs.World.{World, Done, log, own_of, task}
 use Rattle.executor_model.specs.ActsOfRuns.{call_by_reference, kept_by, wake_own}
 use Rattle.executor_model.specs.Doing.{list_act, run_act, search_by_who, steal_act}
-use Rattle.executor_model.proofs.Awaited.{Awaiting, Awaits, Footing, KeepsAwaits, Mark, heard-push, with_awaiting}
-use Rattle.executor_model.proofs.Awaited.{again_of, calls_of, detaches_of, fresh_of, lending_of, looks_of, mine_of}
-use Rattle.executor_model.proofs.Awaited.{notices_of}
-use Rattle.executor_model.proofs.Awaited.{notifying_of, over_of, storing_of, strays_of, waits_of}
-use Rattle.executor_model.proofs.AwaitedMoves.{awaits-wake_by_reference}
-use Rattle.executor_model.proofs.Lists.{times-append, weigh-append}
-use Rattle.executor_model.proofs.RunsCounting.{Bare, bare, with_ops-append}
-use Rattle.executor_model.proofs.RunsMoves.{Moves, Same, times_in-set}
-use Rattle.executor_model.proofs.RunsWays.{AllOfRuns, by-list, by-run, by-search, by-steal, plain-of-runs}
-use Rattle.executor_model.proofs.SleepersAwaited.{awaits-search}
-use Rattle.executor_model.proofs.RunsApart.{away, same-awaiting}
+use Rattle.executor_model.proofs.Awaiters.Awaited.{Awaiting, Awaits, Footing, KeepsAwaits, Mark, heard-push, with_awaiting}
+use Rattle.executor_model.proofs.Awaiters.Awaited.{again_of, calls_of, detaches_of, fresh_of, lending_of, looks_of, mine_of}
+use Rattle.executor_model.proofs.Awaiters.Awaited.{notices_of}
+use Rattle.executor_model.proofs.Awaiters.Awaited.{notifying_of, over_of, storing_of, strays_of, waits_of}
+use Rattle.executor_model.proofs.Awaiters.AwaitedMoves.{awaits-wake_by_reference}
+use Rattle.executor_model.proofs.Steps.Lists.{times-append, weigh-append}
+use Rattle.executor_model.proofs.Steps.RunsCounting.{Bare, bare, with_ops-append}
+use Rattle.executor_model.proofs.Steps.RunsMoves.{Moves, Same, times_in-set}
+use Rattle.executor_model.proofs.Steps.RunsWays.{AllOfRuns, by-list, by-run, by-search, by-steal, plain-of-runs}
+use Rattle.executor_model.proofs.Awaiters.SleepersAwaited.{awaits-search}
+use Rattle.executor_model.proofs.Awaiters.RunsApart.{away, same-awaiting}
 
 -- what a run does but for its own waker's call changes nothing that is known of an awaiter
 still : (w v : World) (g : ℕ) (r r2 : Pend) (y : Awaiting) (m : Mark) → Same w v → r2.ready ≡ r.ready →
@@ -88,10 +89,10 @@ pub awaits-list : (h : Hint) (o : ListOp) (w : World) → KeepsAwaits w (op.List
 awaits-list h o w = by-list KeepsAwaits awaits-moves awaits-kept h o w
 
 -- a tick looks at the executor's queue, a run at its own
-pub awaits-search_who : (who : Sleeper) (w : World) (s : Sleeping) → s.who ≡ who →
+pub awaits-search_who : (who : TickOrRun) (w : World) (s : Sleeping) → s.who ≡ who →
     KeepsAwaits w (op.Tick (tick_op.Search s) ∷ []) (search_by_who who w s)
-awaits-search_who (sleeper.Tick t) w s e = awaits-search _ _ w s refl
-awaits-search_who (sleeper.Run r) w s e = by-search KeepsAwaits awaits-moves awaits-kept w r s e
+awaits-search_who (tick_or_run.Tick t) w s e = awaits-search _ _ w s refl
+awaits-search_who (tick_or_run.Run r) w s e = by-search KeepsAwaits awaits-moves awaits-kept w r s e
 
 abbrev ends : RunPoll → List Op
 ends x = op.End reply.Pending (hold.Run x.run) ∷ []

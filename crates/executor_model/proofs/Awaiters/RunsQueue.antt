@@ -1,3 +1,4 @@
+-- For awaiters_are_kept and calls_do_what_they_say.
 -- What a run does takes from the executor's queue at most, and neither closes nor opens it.
 use Rattle.std.proofs.Common.{◌≡◌, ◌≤◌, ℕ, zero, suc, List, [], ◌∷◌, length, drop, Bool, true, false, refl, sym, ap, subst}
 use Rattle.std.proofs.Common.{arith}
@@ -104,13 +105,9 @@ queue-registered Listed w r = refl
 queue-registered Ended w r = refl
 
 pub queue-list : (h : Hint) (o : ListOp) (w : World) → (list_act h o w).world.queue ≡ w.queue
-queue-list h (list_op.LockWrite s) w = refl
 queue-list h (list_op.Write section.MakeRun) w = queue-make h.refused w
 queue-list h (list_op.Write (section.Register x)) w = queue-registered _ w x.run
-queue-list h (list_op.Write (section.Unregister r a)) w = refl
-queue-list h list_op.UnlockWrite w = refl
-queue-list h (list_op.LockRead x) w = refl
-queue-list h list_op.UnlockRead w = refl
+queue-list h _ w = refl
 
 pub queue-reschedule : (q : List ℕ) (w : World) (r : ℕ) (a : Reply) → (reschedule_by q w r a).world.queue ≡ w.queue
 queue-reschedule [] w r a = refl

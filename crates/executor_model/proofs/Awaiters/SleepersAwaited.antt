@@ -1,3 +1,4 @@
+-- For awaiters_are_kept.
 -- What tells sleepers, and what a tick does, keeps what is known of each awaiter.
 use Rattle.std.proofs.Common.{◌≡◌, ℕ, ◌+◌, ◌<◌, List, [], ◌∷◌, length, Bool, true, false, ◌||◌, drop, refl, arith}
 use Rattle.std.proofs.lemmas.List.{length-set}
@@ -12,21 +13,21 @@ use Rattle.executor_model.specs.declared.op.SleeperOp.TheVariants as sleeper_op
 use Rattle.executor_model.specs.declared.op.TickOp.TheVariants as tick_op
 use Rattle.executor_model.specs.declared.op.Waker.{Waker}
 use Rattle.executor_model.specs.declared.op.Waker.TheVariants.{Task, Outside}
-use Rattle.executor_model.specs.declared.op.Sleeper.{Sleeper}
-use Rattle.executor_model.specs.World.{World, Place, Up, Lies, Left, log, task}
+use Rattle.executor_model.specs.declared.op.TickOrRun.{TickOrRun}
+use Rattle.executor_model.specs.World.{World, Ticker, Awake, Asleep, Left, log, task}
 use Rattle.executor_model.specs.ActsOfSleepers.{exchange_by, hand_out_by, call_sleeper, make_tick_by, search_by}
 use Rattle.executor_model.specs.ActsOfSleepers.{copy_sleeper_by}
-use Rattle.executor_model.specs.ActsOfSleepers.{lie_down_by, get_up_by, leave_sleepers_by}
+use Rattle.executor_model.specs.ActsOfSleepers.{fall_asleep_by, wake_up_by, leave_sleepers_by}
 use Rattle.executor_model.specs.Weights.{same}
 use Rattle.executor_model.specs.Good.{IsKnownWaker}
 use Rattle.executor_model.specs.Sound.{with_ops, times}
-use Rattle.executor_model.proofs.AwaitedMoves.{awaits-wake}
-use Rattle.executor_model.proofs.Cases.{by_bool}
-use Rattle.executor_model.proofs.Counting.{woken_by}
-use Rattle.executor_model.proofs.Lists.{read_put, same_is, times-drop}
-use Rattle.executor_model.proofs.SleepersCases.{by_going, LiesDown, lies-down, GetsUp, gets-up, Leaves, leaves}
-use Rattle.executor_model.proofs.SleepersCounting.{asleep}
-use Rattle.executor_model.proofs.Awaited.{KeepsAwaits, Footing, Awaits, with_awaiting, heard-push}
+use Rattle.executor_model.proofs.Awaiters.AwaitedMoves.{awaits-wake}
+use Rattle.executor_model.proofs.Steps.Cases.{by_bool}
+use Rattle.executor_model.proofs.Counts.Counting.{woken_by}
+use Rattle.executor_model.proofs.Steps.Lists.{read_put, same_is, times-drop}
+use Rattle.executor_model.proofs.Awaiters.SleepersCases.{by_going, FallsAsleep, sleeps-down, WakesUp, gets-up, Leaves, leaves}
+use Rattle.executor_model.proofs.Steps.SleepersCounting.{asleep}
+use Rattle.executor_model.proofs.Awaiters.Awaited.{KeepsAwaits, Footing, Awaits, with_awaiting, heard-push}
 
 -- telling
 
@@ -41,7 +42,7 @@ awaits-hand_out false o w g r yy mm bb h = grind arith
 awaits-hand_out true None w g r yy mm bb h = grind arith
 awaits-hand_out true (Some s) w g r yy mm bb h = grind arith
 
-awaits-call_task : (o b c : Bool) (p : ℕ) (t : Sleeper) (k : ℕ) (w : World) (f : ℕ) →
+awaits-call_task : (o b c : Bool) (p : ℕ) (t : TickOrRun) (k : ℕ) (w : World) (f : ℕ) →
     (moves.is_over (task w f) || (task w f).scheduled) ≡ b → (task w f).running ≡ c → f < length w.tasks →
     KeepsAwaits w (op.Sleeper (sleeper_op.CallSleeper (asleep (Task f) t k)) ∷ [])
     (woken_by o b c p (log w (event.WakerCalled p (polled_as t) k (Task f))) f)
@@ -66,7 +67,7 @@ awaits-call_task o b c p t k w f d q i g r yy mm bb h =
     (with_awaiting g (op.Move move.Wake f ∷ []) yy) mm = grind (arith, same_is, heard-push) in
     awaits-wake o b c p called f d q i g r yy mm stand waits
 
-pub awaits-call_sleeper : (p : ℕ) (t : Sleeper) (k : ℕ) (a : Waker) (w : World) → IsKnownWaker w a →
+pub awaits-call_sleeper : (p : ℕ) (t : TickOrRun) (k : ℕ) (a : Waker) (w : World) → IsKnownWaker w a →
     KeepsAwaits w (op.Sleeper (sleeper_op.CallSleeper (asleep a t k)) ∷ []) (call_sleeper p w (asleep a t k))
 awaits-call_sleeper p t k (Task f) w i = awaits-call_task (moves.is_over (task w f)) _ _ p t k w f refl refl i
 awaits-call_sleeper p t k (Outside x) w i = λ g r yy mm bb h. grind (arith, same_is, heard-push)
@@ -78,28 +79,28 @@ awaits-make_tick = by_bool _
     (λ w g r yy mm bb h. grind arith)
     (λ w g r yy mm bb h. grind arith)
 
-pub awaits-search : (t : Place) (q : List ℕ) (w : World) (s : Sleeping) → w.queue.items ≡ q →
+pub awaits-search : (t : Ticker) (q : List ℕ) (w : World) (s : Sleeping) → w.queue.items ≡ q →
     KeepsAwaits w (op.Tick (tick_op.Search s) ∷ []) (search_by t w q s)
 awaits-search t [] w s e g r yy mm bb h = grind arith
-awaits-search Up (f ∷ rest) w s e g r yy mm bb h =
+awaits-search Awake (f ∷ rest) w s e g r yy mm bb h =
     let z : same g f + times g (drop 1 w.queue.items) ≡ times g w.queue.items = times-drop g f rest w.queue.items e in
     grind (arith, same_is)
-awaits-search (Lies n) (f ∷ rest) w s e g r yy mm bb h =
+awaits-search (Asleep n) (f ∷ rest) w s e g r yy mm bb h =
     let z : same g f + times g (drop 1 w.queue.items) ≡ times g w.queue.items = times-drop g f rest w.queue.items e in
     grind (arith, same_is)
 awaits-search Left (f ∷ rest) w s e g r yy mm bb h =
     let z : same g f + times g (drop 1 w.queue.items) ≡ times g w.queue.items = times-drop g f rest w.queue.items e in
     grind (arith, same_is)
 
-pub awaits-copy_sleeper : (b : Bool) (a : Waker) (t : Sleeper) (k : ℕ) (w : World) → IsKnownWaker w a →
+pub awaits-copy_sleeper : (b : Bool) (a : Waker) (t : TickOrRun) (k : ℕ) (w : World) → IsKnownWaker w a →
     KeepsAwaits w (op.Tick (tick_op.CopyWaker (asleep a t k)) ∷ []) (copy_sleeper_by b w (asleep a t k))
 awaits-copy_sleeper true a t k w e g r yy mm bb h = grind arith
 awaits-copy_sleeper false (Task m) t k w e g r yy mm bb h = let z : m < length w.tasks = e in
     grind (arith, same_is, read_put, length-set)
 awaits-copy_sleeper false (Outside x) t k w e g r yy mm bb h = grind arith
 
-awaits-lying : LiesDown KeepsAwaits
-awaits-lying = record {
+awaits-slumbering : FallsAsleep KeepsAwaits
+awaits-slumbering = record {
   nowhere = λ w s g r yy mm bb h. grind arith;
   anew = λ w s g r yy mm bb h. grind arith;
   listed = λ w n s g r yy mm bb h. grind arith;
@@ -109,33 +110,33 @@ awaits-lying = record {
       (λ x u k g r yy mm bb h. grind arith);
 }
 
-pub awaits-lie_down : (x : Place) (w : World) (s : Sleeping) →
-    KeepsAwaits w (op.Tick (tick_op.LieDown s) ∷ []) (lie_down_by x w s)
-awaits-lie_down = lies-down KeepsAwaits awaits-lying
+pub awaits-fall_asleep : (x : Ticker) (w : World) (s : Sleeping) →
+    KeepsAwaits w (op.Tick (tick_op.FallAsleep s) ∷ []) (fall_asleep_by x w s)
+awaits-fall_asleep = sleeps-down KeepsAwaits awaits-slumbering
 
-awaits-rising : GetsUp KeepsAwaits
-awaits-rising = record {
+awaits-waking_up : WakesUp KeepsAwaits
+awaits-waking_up = record {
   up = λ w t g r yy mm bb h. grind arith;
-  lay = λ w n t. by_going _
+  slept = λ w n t. by_going _
       (λ g r yy mm bb h. grind arith)
       (λ m u k g r yy mm bb h. grind arith)
       (λ x u k g r yy mm bb h. grind arith);
 }
 
-pub awaits-get_up : (x : Place) (w : World) (t : Sleeper) →
-    KeepsAwaits w (op.Tick (tick_op.GetUp t) ∷ []) (get_up_by x w t)
-awaits-get_up = gets-up KeepsAwaits awaits-rising
+pub awaits-wake_up : (x : Ticker) (w : World) (t : TickOrRun) →
+    KeepsAwaits w (op.Tick (tick_op.WakeUp t) ∷ []) (wake_up_by x w t)
+awaits-wake_up = gets-up KeepsAwaits awaits-waking_up
 
 awaits-leaving : Leaves KeepsAwaits
 awaits-leaving = record {
   up = λ w t g r yy mm bb h. grind arith;
   left = λ w t g r yy mm bb h. grind arith;
-  lay = λ w n t. by_going _
+  slept = λ w n t. by_going _
       (λ g r yy mm bb h. grind arith)
       (λ m u k g r yy mm bb h. grind arith)
       (λ x u k g r yy mm bb h. grind arith);
 }
 
-pub awaits-leave_sleepers : (x : Place) (w : World) (t : Sleeper) →
+pub awaits-leave_sleepers : (x : Ticker) (w : World) (t : TickOrRun) →
     KeepsAwaits w (op.Tick (tick_op.Leave t) ∷ []) (leave_sleepers_by x w t)
 awaits-leave_sleepers = leaves KeepsAwaits awaits-leaving

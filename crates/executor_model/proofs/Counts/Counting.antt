@@ -1,3 +1,4 @@
+-- For one_runnable and references_are_counted.
 -- What the counts of each future (specs/Sound) are kept by; and what a move of a task leads to, by what it finds there.
 use Rattle.std.proofs.Common.{ℕ, ◌+◌, ◌^◌, ◌<◌, List, length, Bool, true, false, not}
 use Rattle.std.specs.Prelude.{Some}

@@ -1,3 +1,4 @@
+-- For one_runnable and references_are_counted.
 -- The counts of each future (specs/Sound) where user code answers; and what polls of a handle and the wakes of the
 -- executor's drop lead to, by what they find.
 use Rattle.std.proofs.Common.{◌≡◌, ℕ, ◌+◌, ◌^◌, ◌<◌, List, [], ◌∷◌, ◌++◌, length, Bool, true, false, not}
@@ -31,9 +32,9 @@ use Rattle.executor_model.specs.Acts.{closing_ops}
 use Rattle.executor_model.specs.Weights.{same, weigh, past, waker_past}
 use Rattle.executor_model.specs.Good.{pasts}
 use Rattle.executor_model.specs.Rows.{past_of}
-use Rattle.executor_model.proofs.Lists.{past_is, same_is}
-use Rattle.executor_model.proofs.Lists.{phase-answered}
-use Rattle.executor_model.proofs.Counting.{Keeps, CanCopy}
+use Rattle.executor_model.proofs.Steps.Lists.{past_is, same_is}
+use Rattle.executor_model.proofs.Steps.Lists.{phase-answered}
+use Rattle.executor_model.proofs.Counts.Counting.{Keeps, CanCopy}
 
 -- wakers and polls of a handle
 

@@ -1,3 +1,4 @@
+-- For one_runnable and references_are_counted.
 -- Each thing that is done leaves numbers that are futures'.
 use Rattle.std.proofs.Common.{◌≡◌, ℕ, ◌+◌, ◌≤◌, ◌<◌, List, [], ◌∷◌, ◌++◌, length, Bool, true, false, not, ◌&&◌, set}
 use Rattle.std.proofs.Common.{drop, refl, sym, ap, ◌∙◌, subst, arith, length-append}
@@ -36,9 +37,9 @@ use Rattle.executor_model.specs.Acts.{wake_next_by, drain_by, followed, wake, re
 use Rattle.executor_model.specs.Weights.{weigh, past, waker_past}
 use Rattle.executor_model.specs.Good.{pasts, awaiters_past, Fits}
 use Rattle.executor_model.specs.Rows.{past_of}
-use Rattle.executor_model.proofs.Cases.{by_bool, by_list, by_waker}
-use Rattle.executor_model.proofs.Owed.{owed-future, owed-awaiter, owed-nothing}
-use Rattle.executor_model.proofs.Lists.{past_is, pasts-drop, awaiters_past-set, past_if, weigh-append}
+use Rattle.executor_model.proofs.Steps.Cases.{by_bool, by_list, by_waker}
+use Rattle.executor_model.proofs.Steps.Owed.{owed-future, owed-awaiter, owed-nothing}
+use Rattle.executor_model.proofs.Steps.Lists.{past_is, pasts-drop, awaiters_past-set, past_if, weigh-append}
 
 -- each future has its place in each list
 pub record Shaped (w : World) : Type 0 where

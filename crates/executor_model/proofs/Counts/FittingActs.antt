@@ -1,3 +1,4 @@
+-- For one_runnable and references_are_counted.
 -- Each thing that is done leaves numbers that are futures', by groups.
 use Rattle.std.proofs.Common.{ℕ, [], ◌∷◌, length, true, false, not, ◌&&◌, refl, arith}
 use Rattle.task_moves.specs.declared.moves.owed.Move.TheVariants as move
@@ -16,16 +17,16 @@ use Rattle.executor_model.specs.declared.op.WakerOp.TheVariants as waker_op
 use Rattle.executor_model.specs.declared.step.Hint.{Hint}
 use Rattle.executor_model.specs.World.{World, task}
 use Rattle.executor_model.specs.Doing.{act}
-use Rattle.executor_model.proofs.Fitting.{Grows, shaped, grows-again, grows-append, grows-call, grows-carried}
-use Rattle.executor_model.proofs.Fitting.{grows-copy, grows-copy_awaiter, grows-drain, grows-drop_next}
-use Rattle.executor_model.proofs.Fitting.{grows-end_notify, grows-end_register, grows-enter, grows-inside}
-use Rattle.executor_model.proofs.Fitting.{grows-leave, grows-logged, grows-look, grows-moved, grows-notify}
-use Rattle.executor_model.proofs.Fitting.{grows-register, grows-take, grows-wake_next, past_closing}
+use Rattle.executor_model.proofs.Counts.Fitting.{Grows, shaped, grows-again, grows-append, grows-call, grows-carried}
+use Rattle.executor_model.proofs.Counts.Fitting.{grows-copy, grows-copy_awaiter, grows-drain, grows-drop_next}
+use Rattle.executor_model.proofs.Counts.Fitting.{grows-end_notify, grows-end_register, grows-enter, grows-inside}
+use Rattle.executor_model.proofs.Counts.Fitting.{grows-leave, grows-logged, grows-look, grows-moved, grows-notify}
+use Rattle.executor_model.proofs.Counts.Fitting.{grows-register, grows-take, grows-wake_next, past_closing}
 use Rattle.executor_model.specs.ActsOfSleepers.{polled_as}
-use Rattle.executor_model.proofs.RunsFitting.{grows-list, grows-run, grows-search_who, grows-steal}
-use Rattle.executor_model.proofs.SleepersFitting.{grows-exchange, grows-hand_out, grows-call_waker}
-use Rattle.executor_model.proofs.SleepersFitting.{grows-make_tick, grows-copy_sleeper}
-use Rattle.executor_model.proofs.SleepersFitting.{grows-lie_down, grows-get_up, grows-leave_sleepers}
+use Rattle.executor_model.proofs.Counts.RunsFitting.{grows-list, grows-run, grows-search_who, grows-steal}
+use Rattle.executor_model.proofs.Counts.SleepersFitting.{grows-exchange, grows-hand_out, grows-call_waker}
+use Rattle.executor_model.proofs.Counts.SleepersFitting.{grows-make_tick, grows-copy_sleeper}
+use Rattle.executor_model.proofs.Counts.SleepersFitting.{grows-fall_asleep, grows-wake_up, grows-leave_sleepers}
 
 pub grows-act : (p : ℕ) (c : Hint) (o : Op) (w : World) → Grows w (o ∷ []) (act p c o w)
 grows-act p c (op.Table table_op.Enter) w h k = grows-enter _ _ p w h k
@@ -83,8 +84,8 @@ grows-act p c (op.Sleeper (sleeper_op.CallSleeper s)) w h k =
 grows-act p c (op.Tick tick_op.MakeTick) w h k = grows-make_tick _ w h k
 grows-act p c (op.Tick (tick_op.Search s)) w h k = grows-search_who s.who w s h k
 grows-act p c (op.Tick (tick_op.CopyWaker s)) w h k = grows-copy_sleeper _ s.waker s.who s.poll w h k
-grows-act p c (op.Tick (tick_op.LieDown s)) w h k = grows-lie_down _ w s h k
-grows-act p c (op.Tick (tick_op.GetUp t)) w h k = grows-get_up _ w t h k
+grows-act p c (op.Tick (tick_op.FallAsleep s)) w h k = grows-fall_asleep _ w s h k
+grows-act p c (op.Tick (tick_op.WakeUp t)) w h k = grows-wake_up _ w t h k
 grows-act p c (op.Tick (tick_op.Leave t)) w h k = grows-leave_sleepers _ w t h k
 grows-act p c (op.List o) w h k = grows-list c o w h k
 grows-act p c (op.Steal o) w h k = grows-steal p o w h k

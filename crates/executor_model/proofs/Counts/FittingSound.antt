@@ -1,3 +1,4 @@
+-- For one_runnable and references_are_counted.
 -- Each number that the world keeps is a future's (specs/Good): of any other the counts say that nothing holds it, since
 -- it has no task.
 use Rattle.std.proofs.Common.{◌≡◌, ℕ, ◌+◌, ◌≤◌, List, [], ◌∷◌, length, refl, ap, ⊎_elim, arith}
@@ -13,8 +14,8 @@ use Rattle.executor_model.specs.Good.{Fits, pasts, pasts_in, wakers_past, awaite
 use Rattle.executor_model.specs.Sound.{Sound, Pend, living, times, times_in, tokens, wakers_of, awaiters_of}
 use Rattle.executor_model.specs.Sound.{sleepers_of}
 use Rattle.executor_model.specs.Weights.{same, past, waker_past, wakes}
-use Rattle.executor_model.proofs.Lists.{past_is, same_cases}
-use Rattle.executor_model.proofs.Fitting.{Shaped}
+use Rattle.executor_model.proofs.Steps.Lists.{past_is, same_cases}
+use Rattle.executor_model.proofs.Counts.Fitting.{Shaped}
 
 same-self : (f : ℕ) → same f f ≡ 1
 same-self f = grind (arith, same_cases)

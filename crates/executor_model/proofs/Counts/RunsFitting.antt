@@ -1,3 +1,4 @@
+-- For one_runnable and references_are_counted.
 -- What a run does leaves numbers that are futures'.
 use Rattle.std.proofs.Common.{◌≡◌, ℕ, zero, suc, ◌+◌, ◌%◌, List, [], ◌∷◌, ◌++◌, length, get_or, set, Bool, true}
 use Rattle.std.proofs.Common.{false, eqb, not, refl, ap, arith}
@@ -12,8 +13,8 @@ use Rattle.executor_model.specs.declared.op.RunOp.{RunOp}
 use Rattle.executor_model.specs.declared.op.RunOp.TheVariants as run_op
 use Rattle.executor_model.specs.declared.op.RunPoll.{RunPoll}
 use Rattle.executor_model.specs.declared.op.Section.TheVariants as section
-use Rattle.executor_model.specs.declared.op.Sleeper.{Sleeper}
-use Rattle.executor_model.specs.declared.op.Sleeper.TheVariants as sleeper
+use Rattle.executor_model.specs.declared.op.TickOrRun.{TickOrRun}
+use Rattle.executor_model.specs.declared.op.TickOrRun.TheVariants as tick_or_run
 use Rattle.executor_model.specs.declared.op.SleeperOp.TheVariants as sleeper_op
 use Rattle.executor_model.specs.declared.op.Sleeping.{Sleeping}
 use Rattle.executor_model.specs.declared.op.Source.{Source}
@@ -31,7 +32,7 @@ use Rattle.executor_model.specs.declared.step.Hint.{Hint}
 use Rattle.task_moves.specs.Moves as moves
 use Rattle.executor_model.specs.declared.event.Event.TheVariants as event
 use Rattle.executor_model.specs.declared.op.Polled.TheVariants as of
-use Rattle.executor_model.specs.World.{World, Place, Up, Lies, Left, Stage, New, Listed, Ended, Done, done, log}
+use Rattle.executor_model.specs.World.{World, Ticker, Awake, Asleep, Left, Stage, New, Listed, Ended, Done, done, log}
 use Rattle.executor_model.specs.World.{log_if, own_of, put_own, run_of, task}
 use Rattle.executor_model.specs.ActsOfSleepers.{found_by}
 use Rattle.executor_model.specs.ActsOfRuns.{call_by_reference, run_by, counted_by, found, make_run_by}
@@ -44,12 +45,12 @@ use Rattle.executor_model.specs.Doing.{list_act, run_act, search_by_who, steal_a
 use Rattle.executor_model.specs.Good.{Fits, pasts, pasts_in}
 use Rattle.executor_model.specs.Rows.{past_of, then_past}
 use Rattle.executor_model.specs.Weights.{past, waker_past, weigh}
-use Rattle.executor_model.proofs.Fitting.{Grown, Grows, Shaped, shaped, fits-log, grows-carried, same-log}
-use Rattle.executor_model.proofs.Lists.{pasts-drop, weigh-append}
-use Rattle.executor_model.proofs.RunsMoves.{Same, same-found, same-here, same-rooms, same-stolen, same-taken}
-use Rattle.executor_model.proofs.RunsMoves.{same-trans}
-use Rattle.executor_model.proofs.SleepersLists.{given_back-same}
-use Rattle.executor_model.proofs.SleepersFitting.{grows-search}
+use Rattle.executor_model.proofs.Counts.Fitting.{Grown, Grows, Shaped, shaped, fits-log, grows-carried, same-log}
+use Rattle.executor_model.proofs.Steps.Lists.{pasts-drop, weigh-append}
+use Rattle.executor_model.proofs.Steps.RunsMoves.{Same, same-found, same-here, same-rooms, same-stolen, same-taken}
+use Rattle.executor_model.proofs.Steps.RunsMoves.{same-trans}
+use Rattle.executor_model.proofs.Steps.SleepersLists.{given_back-same}
+use Rattle.executor_model.proofs.Counts.SleepersFitting.{grows-search}
 
 -- own queues
 
@@ -70,20 +71,20 @@ module _ (n : ℕ) (x : RunPoll) (wz : waker_past n x.waker ≡ 0) where
   past-counted true w f z = omega (arith, wz, z)
   past-counted false w f z = past-run_by _ _ f z
 
-  past-rises : (p : Place) (who : Sleeper) →
+  past-wakes_up : (p : Ticker) (who : TickOrRun) →
       weigh (past_of n) (found_by p who (op.Sleeper sleeper_op.ExchangeFlag ∷ [])) ≡ 0
-  past-rises Up who = refl
-  past-rises (Lies m) who = refl
-  past-rises Left who = refl
+  past-wakes_up Awake who = refl
+  past-wakes_up (Asleep m) who = refl
+  past-wakes_up Left who = refl
 
   past-found : (w : World) (f : ℕ) → past n f ≡ 0 → weigh (past_of n) (found w x f).next ≡ 0
   past-found w f z =
-      let first = found_by (run_of w x.run).place (sleeper.Run x.run) (op.Sleeper sleeper_op.ExchangeFlag ∷ []) in
+      let first = found_by (run_of w x.run).place (tick_or_run.Run x.run) (op.Sleeper sleeper_op.ExchangeFlag ∷ []) in
       let b = eqb ((run_of w x.run).counted + 1) 64 in
       omega (
         arith,
         weigh-append (past_of n) first (counted_by b w x f).next,
-        past-rises (run_of w x.run).place (sleeper.Run x.run),
+        past-wakes_up (run_of w x.run).place (tick_or_run.Run x.run),
         past-counted b w f z,
       )
 
@@ -179,10 +180,10 @@ grows-own (f ∷ rest) w s r e = grows-found w (put_own w r rest) (op.Tick (tick
     (same-here w _ _ _ _) (λ k. omega (arith, k))
     (λ h. omega (arith, pasts_in-first (length w.tasks) r f rest w.own e, h.own))
 
-pub grows-search_who : (who : Sleeper) (w : World) (s : Sleeping) →
+pub grows-search_who : (who : TickOrRun) (w : World) (s : Sleeping) →
     Grows w (op.Tick (tick_op.Search s) ∷ []) (search_by_who who w s)
-grows-search_who (sleeper.Tick t) w s = grows-search _ _ w s refl
-grows-search_who (sleeper.Run r) w s = grows-own _ w s r refl
+grows-search_who (tick_or_run.Tick t) w s = grows-search _ _ w s refl
+grows-search_who (tick_or_run.Run r) w s = grows-own _ w s r refl
 
 grows-common : (q : List ℕ) (w : World) (x : RunPoll) → w.queue.items ≡ q →
     Grows w (op.Run (run_op.SearchCommon x) ∷ []) (search_common_by q w x)

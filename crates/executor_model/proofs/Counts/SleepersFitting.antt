@@ -1,3 +1,4 @@
+-- For one_runnable and references_are_counted.
 -- What tells sleepers, and what a tick does, leaves numbers that are futures'.
 use Rattle.std.proofs.Common.{◌≡◌, ℕ, List, [], ◌∷◌, length, Bool, true, false, not, refl, ap, arith}
 use Rattle.std.proofs.Math.ListN.{length-set}
@@ -14,20 +15,20 @@ use Rattle.executor_model.specs.declared.op.SleeperOp.TheVariants as sleeper_op
 use Rattle.executor_model.specs.declared.op.TickOp.TheVariants as tick_op
 use Rattle.executor_model.specs.declared.op.Waker.{Waker}
 use Rattle.executor_model.specs.declared.op.Waker.TheVariants.{Task, Outside}
-use Rattle.executor_model.specs.declared.op.Sleeper.{Sleeper}
-use Rattle.executor_model.specs.World.{World, Place, Up, Lies, Left, done, log, log_if, task}
+use Rattle.executor_model.specs.declared.op.TickOrRun.{TickOrRun}
+use Rattle.executor_model.specs.World.{World, Ticker, Awake, Asleep, Left, done, log, log_if, task}
 use Rattle.executor_model.specs.Acts.{call_waker}
 use Rattle.executor_model.specs.ActsOfSleepers.{exchange_by, hand_out_by, make_tick_by, search_by}
-use Rattle.executor_model.specs.ActsOfSleepers.{copy_sleeper_by, lie_anew_by, sleeper_goes, lie_listed_by}
+use Rattle.executor_model.specs.ActsOfSleepers.{copy_sleeper_by, sleep_anew_by, sleeper_goes, sleep_listed_by}
 use Rattle.executor_model.specs.ActsOfSleepers.{pend_as}
-use Rattle.executor_model.specs.ActsOfSleepers.{lie_again_by, lie_down_by, get_up_by, tell_if, leave_sleepers_by}
+use Rattle.executor_model.specs.ActsOfSleepers.{sleep_again_by, fall_asleep_by, wake_up_by, tell_and_return, leave_sleepers_by}
 use Rattle.executor_model.specs.Weights.{weigh, waker_past}
 use Rattle.executor_model.specs.Good.{Fits}
 use Rattle.executor_model.specs.Rows.{past_of}
-use Rattle.executor_model.proofs.Fitting.{Grown, Grows, Shaped, shaped, fits-log, same-log, grows-carried, past_goes}
-use Rattle.executor_model.proofs.Lists.{pasts-drop, weigh-append}
-use Rattle.executor_model.proofs.SleepersLists.{held, sleepers-last}
-use Rattle.executor_model.proofs.SleepersLists.{sleepers-risen, sleepers-left, sleepers-set}
+use Rattle.executor_model.proofs.Counts.Fitting.{Grown, Grows, Shaped, shaped, fits-log, same-log, grows-carried, past_goes}
+use Rattle.executor_model.proofs.Steps.Lists.{pasts-drop, weigh-append}
+use Rattle.executor_model.proofs.Steps.SleepersLists.{held, sleepers-last}
+use Rattle.executor_model.proofs.Steps.SleepersLists.{sleepers-woken_up, sleepers-set}
 
 -- the places of futures are as they were
 fits-sleepers : (w v : World) → v.tasks ≡ w.tasks → v.awaiters ≡ w.awaiters → v.inside ≡ w.inside → Fits w → Shaped v
@@ -83,14 +84,14 @@ grows-make_tick false w h k =
       more = omega arith;
     }
 
-pub grows-search : (x : Place) (q : List ℕ) (w : World) (s : Sleeping) → w.queue.items ≡ q →
+pub grows-search : (x : Ticker) (q : List ℕ) (w : World) (s : Sleeping) → w.queue.items ≡ q →
     Grows w (op.Tick (tick_op.Search s) ∷ []) (search_by x w q s)
 grows-search x [] w s e h k = grind arith
-grows-search Up (f ∷ rest) w s e h k = let z = pasts-drop (length w.tasks) f rest w.queue.items e in grind arith
-grows-search (Lies n) (f ∷ rest) w s e h k = let z = pasts-drop (length w.tasks) f rest w.queue.items e in grind arith
+grows-search Awake (f ∷ rest) w s e h k = let z = pasts-drop (length w.tasks) f rest w.queue.items e in grind arith
+grows-search (Asleep n) (f ∷ rest) w s e h k = let z = pasts-drop (length w.tasks) f rest w.queue.items e in grind arith
 grows-search Left (f ∷ rest) w s e h k = let z = pasts-drop (length w.tasks) f rest w.queue.items e in grind arith
 
-pub grows-copy_sleeper : (b : Bool) (a : Waker) (t : Sleeper) (m : ℕ) (w : World) →
+pub grows-copy_sleeper : (b : Bool) (a : Waker) (t : TickOrRun) (m : ℕ) (w : World) →
     Grows w (op.Tick (tick_op.CopyWaker (record { waker = a; who = t; poll = m })) ∷ [])
     (copy_sleeper_by b w (record { waker = a; who = t; poll = m }))
 grows-copy_sleeper true a t m w h k = grind arith
@@ -103,19 +104,19 @@ grows-put : (w v : World) (next : List Op) → v.tasks ≡ w.tasks → v.awaiter
 grows-put w v next e a i n h =
     record { fits = fits-sleepers w v e a i h; next = rw e n; more = omega (arith, ap length e) }
 
-grows-lie_anew : (b : Bool) (w : World) (s : Sleeping) → Grows w (op.Tick (tick_op.LieDown s) ∷ []) (lie_anew_by b w s)
-grows-lie_anew true w s h k = grows-put w _ _ refl refl refl (omega (arith, k)) h
-grows-lie_anew false w s h k = grind arith
+grows-sleep_anew : (b : Bool) (w : World) (s : Sleeping) → Grows w (op.Tick (tick_op.FallAsleep s) ∷ []) (sleep_anew_by b w s)
+grows-sleep_anew true w s h k = grows-put w _ _ refl refl refl (omega (arith, k)) h
+grows-sleep_anew false w s h k = grind arith
 
-grows-lie_listed : (b : Bool) (w : World) (n : ℕ) (s : Sleeping) →
-    Grows w (op.Tick (tick_op.LieDown s) ∷ []) (lie_listed_by b w n s)
-grows-lie_listed true w n s h k = grows-put w _ _ refl refl refl (omega (arith, k)) h
-grows-lie_listed false w n s h k = grind arith
+grows-sleep_listed : (b : Bool) (w : World) (n : ℕ) (s : Sleeping) →
+    Grows w (op.Tick (tick_op.FallAsleep s) ∷ []) (sleep_listed_by b w n s)
+grows-sleep_listed true w n s h k = grows-put w _ _ refl refl refl (omega (arith, k)) h
+grows-sleep_listed false w n s h k = grind arith
 
-grows-lie_again : (o : Option ℕ) (w : World) (n : ℕ) (s : Sleeping) → position_of n w.sleepers.wakers ≡ o →
-    Grows w (op.Tick (tick_op.LieDown s) ∷ []) (lie_again_by o w n s)
-grows-lie_again None w n s e h k = grows-lie_listed _ w n s h k
-grows-lie_again (Some at) w n s e h k =
+grows-sleep_again : (o : Option ℕ) (w : World) (n : ℕ) (s : Sleeping) → position_of n w.sleepers.wakers ≡ o →
+    Grows w (op.Tick (tick_op.FallAsleep s) ∷ []) (sleep_again_by o w n s)
+grows-sleep_again None w n s e h k = grows-sleep_listed _ w n s h k
+grows-sleep_again (Some at) w n s e h k =
     let v = waker_past (length w.tasks) in
     let z = sleepers-set v n at s w.sleepers.wakers e in
     let old = waker_at (Some at) w.sleepers.wakers in
@@ -128,17 +129,17 @@ grows-lie_again (Some at) w n s e h k =
       past_goes_if (length w.tasks) old,
     )) h
 
-pub grows-lie_down : (x : Place) (w : World) (s : Sleeping) →
-    Grows w (op.Tick (tick_op.LieDown s) ∷ []) (lie_down_by x w s)
-grows-lie_down Up w s h k = grows-lie_anew _ w s h k
-grows-lie_down (Lies n) w s h k = grows-lie_again _ w n s refl h k
-grows-lie_down Left w s h k = grind arith
+pub grows-fall_asleep : (x : Ticker) (w : World) (s : Sleeping) →
+    Grows w (op.Tick (tick_op.FallAsleep s) ∷ []) (fall_asleep_by x w s)
+grows-fall_asleep Awake w s h k = grows-sleep_anew _ w s h k
+grows-fall_asleep (Asleep n) w s h k = grows-sleep_again _ w n s refl h k
+grows-fall_asleep Left w s h k = grind arith
 
-pub grows-get_up : (x : Place) (w : World) (t : Sleeper) → Grows w (op.Tick (tick_op.GetUp t) ∷ []) (get_up_by x w t)
-grows-get_up Up w t h k = grind arith
-grows-get_up (Lies n) w t h k =
+pub grows-wake_up : (x : Ticker) (w : World) (t : TickOrRun) → Grows w (op.Tick (tick_op.WakeUp t) ∷ []) (wake_up_by x w t)
+grows-wake_up Awake w t h k = grind arith
+grows-wake_up (Asleep n) w t h k =
     let v = waker_past (length w.tasks) in
-    let z = sleepers-risen v n w.sleepers in
+    let z = sleepers-woken_up v n w.sleepers in
     let old = waker_of n w.sleepers.wakers in
     grows-put w _ _ refl refl refl (omega (
       arith,
@@ -147,21 +148,21 @@ grows-get_up (Lies n) w t h k =
       k,
       past_goes_if (length w.tasks) old,
     )) h
-grows-get_up Left w t h k = grind arith
+grows-wake_up Left w t h k = grind arith
 
-past_tell : (n : ℕ) (b : Bool) → weigh (past_of n) (tell_if b) ≡ 0
+past_tell : (n : ℕ) (b : Bool) → weigh (past_of n) (tell_and_return b) ≡ 0
 past_tell n true = refl
 past_tell n false = refl
 
-pub grows-leave_sleepers : (x : Place) (w : World) (t : Sleeper) →
+pub grows-leave_sleepers : (x : Ticker) (w : World) (t : TickOrRun) →
     Grows w (op.Tick (tick_op.Leave t) ∷ []) (leave_sleepers_by x w t)
-grows-leave_sleepers Up w t h k =
+grows-leave_sleepers Awake w t h k =
     grows-put w _ _ refl refl refl refl h
-grows-leave_sleepers (Lies n) w t h k =
+grows-leave_sleepers (Asleep n) w t h k =
     let v = waker_past (length w.tasks) in
-    let z = sleepers-left v n w.sleepers in
+    let z = sleepers-woken_up v n w.sleepers in
     let old = waker_of n w.sleepers.wakers in
-    let told = tell_if (is_none old) in
+    let told = tell_and_return (is_none old) in
     grows-put w _ _ refl refl refl (omega (
       arith,
       z,

@@ -1,3 +1,4 @@
+-- For emptiness_is_exact and quiet_emptiness_is_exact.
 -- Whether the executor is empty is answered as it is.
 use Rattle.std.proofs.Common.{◌≡◌, ◌⊎◌, ℕ, zero, suc, ◌<◌, List, [], ◌∷◌, ◌++◌, length, Bool, true}
 use Rattle.std.proofs.Common.{refl, sym, ap, ◌∙◌, subst, inl, inr, ⊎_elim, arith}
@@ -25,12 +26,12 @@ use Rattle.executor_model.specs.Steps.{Machine, stack, top, below_top, step, ste
 use Rattle.executor_model.specs.Steps.{go_refusal, unless, gone_on, run, start}
 use Rattle.executor_model.specs.Entries.{HasTable, Remains}
 use Rattle.executor_model.specs.Emptiness.{Looks, Answers, IsEmptinessExact}
-use Rattle.executor_model.proofs.Cases.{by_list}
-use Rattle.executor_model.proofs.Lists.{same_is}
-use Rattle.executor_model.proofs.Lift.{split, topped, good}
-use Rattle.executor_model.proofs.LeavingRuns.{Placed, placed}
-use Rattle.executor_model.proofs.Entering.{table-agrees}
-use Rattle.executor_model.proofs.Spawning.{top-last, ended-trace, in-range, has-table-by}
+use Rattle.executor_model.proofs.Steps.Cases.{by_list}
+use Rattle.executor_model.proofs.Steps.Lists.{same_is}
+use Rattle.executor_model.proofs.Steps.Lift.{split, topped, good}
+use Rattle.executor_model.proofs.Table.LeavingExecutions.{Placed, placed}
+use Rattle.executor_model.proofs.Table.Entering.{table-agrees}
+use Rattle.executor_model.proofs.Table.Spawning.{top-last, ended-trace, in-range, has-table-by}
 
 look-trace : (s : Machine) (p : ℕ) (h : Hint) → p < length s.parties → Looks s p →
     Answers s p h (emptiness s.world.table)

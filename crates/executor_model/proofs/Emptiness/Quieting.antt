@@ -1,3 +1,4 @@
+-- For quiet_emptiness_is_exact.
 -- At a quiet trace the executor is answered to be empty exactly where each accepted future is dropped.
 use Rattle.std.proofs.Common.{◌≡◌, ◌⊎◌, ℕ, ◌<◌, ◌≤◌, List, [], ◌∷◌, ◌++◌, length, set, Bool, true, false, ◌&&◌, ◌||◌}
 use Rattle.std.proofs.Common.{not, refl, sym, ap, ◌∙◌, subst, inl, inr, ⊎_elim, arith, get_or-set_same}
@@ -26,13 +27,13 @@ use Rattle.executor_model.specs.Steps.{begin_refusal, part_after, with_part, run
 use Rattle.executor_model.specs.Entries.{Remains}
 use Rattle.executor_model.specs.Rows.{leaves_of}
 use Rattle.executor_model.specs.Emptiness.{Answers, AnswersAlone, AllDropped, IsAtRest, IsQuietEmptinessExact}
-use Rattle.executor_model.proofs.Lists.{weigh_all-set}
-use Rattle.executor_model.proofs.Lift.{good, good-stepped}
-use Rattle.executor_model.proofs.Ways.{along}
-use Rattle.executor_model.proofs.Telling.{begun-has}
-use Rattle.executor_model.proofs.LeavingRuns.{Placed, placed, placed-moves, placed-ends}
-use Rattle.executor_model.proofs.Looking.{emptiness-exact}
-use Rattle.executor_model.proofs.Resting.{Deep, deep, rests, all-rest}
+use Rattle.executor_model.proofs.Steps.Lists.{weigh_all-set}
+use Rattle.executor_model.proofs.Steps.Lift.{good, good-stepped}
+use Rattle.executor_model.proofs.Steps.Ways.{along}
+use Rattle.executor_model.proofs.OneFuture.Telling.{begun-has}
+use Rattle.executor_model.proofs.Table.LeavingExecutions.{Placed, placed, placed-moves, placed-ends}
+use Rattle.executor_model.proofs.Emptiness.Looking.{emptiness-exact}
+use Rattle.executor_model.proofs.Quiet.Resting.{Deep, deep, rests, all-rest}
 
 has-push : (test : Event → Bool) (es : Trace) (e : Event) → test e ≡ false → has test (es ++ e ∷ []) ≡ has test es
 has-push test [] e z = ap (λ (b : Bool). b || false) z

@@ -1,3 +1,4 @@
+-- For refused_calls_change_nothing and want_of_memory_is_told_of.
 -- A refused call changes nothing, and is refused for a reason.
 use Rattle.std.proofs.Common.{◌≡◌, ◌⊎◌, ℕ, ◌+◌, ◌-◌, ◌≤◌, List, [], ◌∷◌, ◌++◌, Bool, true, false, ◌||◌, not}
 use Rattle.std.proofs.Common.{refl, sym, ap, ◌∙◌, inl, inr, ⊎_elim, arith}
@@ -25,7 +26,7 @@ use Rattle.executor_model.specs.declared.op.RunOp.{RunOp}
 use Rattle.executor_model.specs.declared.op.RunOp.TheVariants as run_op
 use Rattle.executor_model.specs.declared.op.RunPoll.{RunPoll}
 use Rattle.executor_model.specs.declared.op.Section.TheVariants as section
-use Rattle.executor_model.specs.declared.op.Sleeper.TheVariants as sleeper
+use Rattle.executor_model.specs.declared.op.TickOrRun.TheVariants as tick_or_run
 use Rattle.executor_model.specs.declared.op.UserOp.TheVariants as user_op
 use Rattle.executor_model.specs.declared.step.UserEnd.{UserEnd}
 use Rattle.executor_model.specs.declared.step.UserEnd.TheVariants as end
@@ -40,17 +41,17 @@ use Rattle.executor_model.specs.ActsOfSleepers as of_sleepers
 use Rattle.executor_model.specs.Doing.{act, list_act, run_act, search_by_who}
 use Rattle.executor_model.specs.Carried.{awaiter_ops}
 use Rattle.executor_model.specs.Memory.{may_refuse, refuses, takes_no_memory, AsksForNone}
-use Rattle.executor_model.specs.Refusals.{is_no_memory, ends_for_want, is_of_run, is_run_poll, is_search, lies_down}
+use Rattle.executor_model.specs.Refusals.{is_no_memory, ends_for_want, is_of_run, is_run_poll, is_search, falls_asleep}
 use Rattle.executor_model.specs.Refusals.{IsFull}
 use Rattle.executor_model.specs.Refusals.{CopiesOneTooMany, RefusedChangesNothing, IsWantToldOf}
 use Rattle.executor_model.specs.Steps.{begun, drop_run, future_of, kept, poll_run, react, with_future}
-use Rattle.executor_model.specs.declared.op.Sleeper.{Sleeper}
-use Rattle.executor_model.specs.World.{World, Place, Up, Lies, Left, Stage, New, Listed, Ended, Done, done, place_of}
+use Rattle.executor_model.specs.declared.op.TickOrRun.{TickOrRun}
+use Rattle.executor_model.specs.World.{World, Ticker, Awake, Asleep, Left, Stage, New, Listed, Ended, Done, done, place_of}
 use Rattle.executor_model.specs.World.{run_of, task}
-use Rattle.executor_model.proofs.Unasking.{both, none-awaiter}
-use Rattle.executor_model.proofs.UnaskingGroups.{needs-no-memory}
-use Rattle.executor_model.proofs.RunsUntold.{Untold, untold-common, untold-look, untold-search, untold-steal}
-use Rattle.executor_model.proofs.RunsUntold.{untold-walk}
+use Rattle.executor_model.proofs.Memory.Unasking.{both, none-awaiter}
+use Rattle.executor_model.proofs.Memory.UnaskingGroups.{needs-no-memory}
+use Rattle.executor_model.proofs.Memory.RunsUntold.{Untold, untold-common, untold-look, untold-search, untold-steal}
+use Rattle.executor_model.proofs.Memory.RunsUntold.{untold-walk}
 
 not-both : (b : Bool) → b ≡ true → b ≡ false → ⊥
 not-both b e k = let no : true ≡ false = sym e ∙ k in absurd (cc)
@@ -100,12 +101,12 @@ module _ (p : ℕ) (w : World) where
   make-unchanged true e = refl
   make-unchanged false e = absurd (cc)
 
-  search-unchanged : (x : Place) (q : List ℕ) (s : Sleeping) →
+  search-unchanged : (x : Ticker) (q : List ℕ) (s : Sleeping) →
       list_any may_refuse (of_sleepers.search_by x w q s).next ≡ true →
       (of_sleepers.search_by x w q s).world ≡ w
   search-unchanged x [] s e = refl
-  search-unchanged Up (f ∷ rest) s e = absurd (cc)
-  search-unchanged (Lies n) (f ∷ rest) s e = absurd (cc)
+  search-unchanged Awake (f ∷ rest) s e = absurd (cc)
+  search-unchanged (Asleep n) (f ∷ rest) s e = absurd (cc)
   search-unchanged Left (f ∷ rest) s e = absurd (cc)
 
   copies-unchanged : (b : Bool) (s : Sleeping) →
@@ -139,34 +140,34 @@ module _ (p : ℕ) (w : World) where
       by true q = ap (λ (n : ℕ). record w { sleepers = record w.sleepers { rooms = n } }) same-room
       by false q = absurd (grind (arith, nat_tests))
 
-  -- all that lying down changes
-  abbrev pub Lying : World → Type 0
-  Lying v = v ≡ record w { ticks = v.ticks; runs = v.runs; sleepers = v.sleepers; notified = v.notified }
+  -- all that falling asleep changes
+  abbrev pub AllSleepers : World → Type 0
+  AllSleepers v = v ≡ record w { ticks = v.ticks; runs = v.runs; sleepers = v.sleepers; notified = v.notified }
 
-  anew-lies : (b : Bool) (s : Sleeping) → Lying (of_sleepers.lie_anew_by b w s).world
-  anew-lies true s = refl
-  anew-lies false s = refl
+  anew-sleeps : (b : Bool) (s : Sleeping) → AllSleepers (of_sleepers.sleep_anew_by b w s).world
+  anew-sleeps true s = refl
+  anew-sleeps false s = refl
 
-  listed-lies : (b : Bool) (n : ℕ) (s : Sleeping) → Lying (of_sleepers.lie_listed_by b w n s).world
-  listed-lies true n s = refl
-  listed-lies false n s = refl
+  listed-sleeps : (b : Bool) (n : ℕ) (s : Sleeping) → AllSleepers (of_sleepers.sleep_listed_by b w n s).world
+  listed-sleeps true n s = refl
+  listed-sleeps false n s = refl
 
-  again-lies : (o : Option ℕ) (n : ℕ) (s : Sleeping) → Lying (of_sleepers.lie_again_by o w n s).world
-  again-lies None n s = listed-lies _ n s
-  again-lies (Some at) n s = refl
+  again-sleeps : (o : Option ℕ) (n : ℕ) (s : Sleeping) → AllSleepers (of_sleepers.sleep_again_by o w n s).world
+  again-sleeps None n s = listed-sleeps _ n s
+  again-sleeps (Some at) n s = refl
 
-  tick-lies : (x : Place) (s : Sleeping) → Lying (of_sleepers.lie_down_by x w s).world
-  tick-lies Up s = anew-lies _ s
-  tick-lies (Lies n) s = again-lies _ n s
-  tick-lies Left s = refl
+  tick-sleeps : (x : Ticker) (s : Sleeping) → AllSleepers (of_sleepers.fall_asleep_by x w s).world
+  tick-sleeps Awake s = anew-sleeps _ s
+  tick-sleeps (Asleep n) s = again-sleeps _ n s
+  tick-sleeps Left s = refl
 
-  who-unchanged : (who : Sleeper) (s : Sleeping) → s.who ≡ who →
+  who-unchanged : (who : TickOrRun) (s : Sleeping) → s.who ≡ who →
       list_any may_refuse (search_by_who who w s).next ≡ true → is_run_poll who ≡ false →
       (search_by_who who w s).world ≡ w
-  who-unchanged (sleeper.Tick t) s q e r = search-unchanged _ _ s e
-  who-unchanged (sleeper.Run x) s q e r = absurd (cc)
+  who-unchanged (tick_or_run.Tick t) s q e r = search-unchanged _ _ s e
+  who-unchanged (tick_or_run.Run x) s q e r = absurd (cc)
 
-  unchanged : (h : Hint) (o : Op) → list_any may_refuse (act p h o w).next ≡ true → lies_down o ≡ false →
+  unchanged : (h : Hint) (o : Op) → list_any may_refuse (act p h o w).next ≡ true → falls_asleep o ≡ false →
       is_of_run o ≡ false → (act p h o w).world ≡ w
   unchanged h (op.Table table_op.Enter) e n r = enter-unchanged _ h.refused e
   unchanged h (op.Waker (waker_op.CopyWaker f held)) e n r = copy-unchanged _ f held e
@@ -176,7 +177,7 @@ module _ (p : ℕ) (w : World) where
   unchanged h (op.Tick tick_op.MakeTick) e n r = make-unchanged h.refused e
   unchanged h (op.Tick (tick_op.Search s)) e n r = who-unchanged s.who s refl e r
   unchanged h (op.Tick (tick_op.CopyWaker s)) e n r = absurd (cc)
-  unchanged h (op.Tick (tick_op.LieDown s)) e n r = absurd (cc)
+  unchanged h (op.Tick (tick_op.FallAsleep s)) e n r = absurd (cc)
   unchanged h (op.User (user_op.PollOwn x)) e n r = absurd (cc)
   unchanged h (op.List o) e n r = absurd (cc)
   unchanged h (op.Steal o) e n r = absurd (cc)
@@ -287,23 +288,23 @@ module _ (p : ℕ) (w : World) where
   make-told true e = refl
   make-told false e = absurd (cc)
 
-  search-told : (x : Place) (q : List ℕ) (s : Sleeping) →
+  search-told : (x : Ticker) (q : List ℕ) (s : Sleeping) →
       list_any ends_for_want (of_sleepers.search_by x w q s).next ≡ true → ⊥
   search-told x [] s e = absurd (cc)
-  search-told Up (f ∷ rest) s e = absurd (cc)
-  search-told (Lies n) (f ∷ rest) s e = absurd (cc)
+  search-told Awake (f ∷ rest) s e = absurd (cc)
+  search-told (Asleep n) (f ∷ rest) s e = absurd (cc)
   search-told Left (f ∷ rest) s e = absurd (cc)
 
-  anew-told : (b : Bool) (s : Sleeping) → list_any ends_for_want (of_sleepers.lie_anew_by b w s).next ≡ true → ⊥
+  anew-told : (b : Bool) (s : Sleeping) → list_any ends_for_want (of_sleepers.sleep_anew_by b w s).next ≡ true → ⊥
   anew-told true s e = absurd (cc)
   anew-told false s e = absurd (cc)
 
   listed-told : (b : Bool) (n : ℕ) (s : Sleeping) →
-      list_any ends_for_want (of_sleepers.lie_listed_by b w n s).next ≡ true → ⊥
+      list_any ends_for_want (of_sleepers.sleep_listed_by b w n s).next ≡ true → ⊥
   listed-told true n s e = absurd (cc)
   listed-told false n s e = absurd (cc)
 
-  goes-told : (o : Option Sleeping) (t : Sleeper) →
+  goes-told : (o : Option Sleeping) (t : TickOrRun) →
       list_any ends_for_want (of_sleepers.sleeper_goes o ++ of_sleepers.pend_as t) ≡ true → ⊥
   goes-told None t e = absurd (cc)
   goes-told (Some s) t e = by s.waker e
@@ -313,15 +314,15 @@ module _ (p : ℕ) (w : World) where
       by (Outside x) k = absurd (cc)
 
   again-told : (o : Option ℕ) (n : ℕ) (s : Sleeping) →
-      list_any ends_for_want (of_sleepers.lie_again_by o w n s).next ≡ true →
+      list_any ends_for_want (of_sleepers.sleep_again_by o w n s).next ≡ true →
       ⊥
   again-told None n s e = listed-told _ n s e
   again-told (Some at) n s e = goes-told (waker_at (Some at) w.sleepers.wakers) s.who e
 
-  lie-told : (x : Place) (s : Sleeping) → list_any ends_for_want (of_sleepers.lie_down_by x w s).next ≡ true → ⊥
-  lie-told Up s e = anew-told _ s e
-  lie-told (Lies n) s e = again-told _ n s e
-  lie-told Left s e = absurd (cc)
+  sleep-told : (x : Ticker) (s : Sleeping) → list_any ends_for_want (of_sleepers.fall_asleep_by x w s).next ≡ true → ⊥
+  sleep-told Awake s e = anew-told _ s e
+  sleep-told (Asleep n) s e = again-told _ n s e
+  sleep-told Left s e = absurd (cc)
 
   copied-told : (refused small : Bool) (s : Sleeping) →
       list_any ends_for_want (of_sleepers.copy_sleeper_by (refused || not small) w s).next ≡ true →
@@ -339,7 +340,7 @@ module _ (p : ℕ) (w : World) where
   many : (n : ℕ) → nat_lt n most_references ≡ false → most_references ≤ n
   many n e = grind (arith, nat_tests)
 
-  sleeper-told : (h : Hint) (a : Waker) (t : Sleeper) (k : ℕ) →
+  sleeper-told : (h : Hint) (a : Waker) (t : TickOrRun) (k : ℕ) →
       list_any ends_for_want (of_sleepers.copy_sleeper h w (record { waker = a; who = t; poll = k })).next ≡ true →
       (h.refused ≡ true) ⊎ IsFull a w
   sleeper-told h (Task g) t k e =
@@ -350,9 +351,9 @@ module _ (p : ℕ) (w : World) where
   sleeper-told h (Outside x) t k e =
       inl (outside-copied-told h.refused (record { waker = Outside x; who = t; poll = k }) e)
 
-  who-told : (who : Sleeper) (s : Sleeping) → list_any ends_for_want (search_by_who who w s).next ≡ true → ⊥
-  who-told (sleeper.Tick t) s e = search-told _ w.queue.items s e
-  who-told (sleeper.Run r) s e =
+  who-told : (who : TickOrRun) (s : Sleeping) → list_any ends_for_want (search_by_who who w s).next ≡ true → ⊥
+  who-told (tick_or_run.Tick t) s e = search-told _ w.queue.items s e
+  who-told (tick_or_run.Run r) s e =
       not-both _ e (untold-search ends_for_want untold-want w (record { run = r; waker = s.waker; poll = s.poll }))
 
   -- a call that isn't answered so goes on so
@@ -365,16 +366,12 @@ module _ (p : ℕ) (w : World) where
 
   list-told : (h : Hint) (o : ListOp) → ends_for_want (op.List o) ≡ false →
       list_any ends_for_want (list_act h o w).next ≡ true → h.refused ≡ true
-  list-told h (list_op.LockWrite section.MakeRun) n e = absurd (cc)
-  list-told h (list_op.LockWrite (section.Register x)) n e = absurd (cc)
   list-told h (list_op.LockWrite (section.Unregister r a)) n e = absurd (left-told a n e)
   list-told h (list_op.Write section.MakeRun) n e = made-told h.refused e
-  list-told h (list_op.Write (section.Register x)) n e = absurd (cc)
   list-told h (list_op.Write (section.Unregister r a)) n e = absurd (left-told a n e)
-  list-told h list_op.UnlockWrite n e = absurd (cc)
   list-told h (list_op.LockRead x) n e = absurd (not-both _ e
       (untold-walk ends_for_want untold-want (λ s. refl) x _ _ _))
-  list-told h list_op.UnlockRead n e = absurd (cc)
+  list-told h _ n e = absurd (cc)
 
   room-told : (b : Bool) → list_any ends_for_want (of_runs.make_room_by b w).next ≡ true → b ≡ true
   room-told true e = refl
@@ -415,7 +412,7 @@ module _ (p : ℕ) (w : World) where
   told h (op.Tick tick_op.MakeTick) n e = inl (make-told h.refused e)
   told h (op.Tick (tick_op.Search s)) n e = absurd (who-told s.who s e)
   told h (op.Tick (tick_op.CopyWaker s)) n e = sleeper-told h s.waker s.who s.poll e
-  told h (op.Tick (tick_op.LieDown s)) n e = absurd (lie-told (place_of w s.who) s e)
+  told h (op.Tick (tick_op.FallAsleep s)) n e = absurd (sleep-told (place_of w s.who) s e)
   told h (op.User (user_op.PollOwn x)) n e = absurd (cc)
   told h (op.List o) n e = inl (list-told h o n e)
   told h (op.Steal o) n e = absurd (not-both _ e (untold-steal ends_for_want untold-want p o w))
@@ -464,7 +461,7 @@ refused-changes-nothing w p =
       runs = λ here r b. refl;
       goes_on = unchanged p w;
       copies = λ h s. copies-unchanged p w _ s;
-      lies = λ s. tick-lies p w (place_of w s.who) s;
+      sleeps = λ s. tick-sleeps p w (place_of w s.who) s;
       makes = λ h. room-unchanged p w h.refused;
       made = λ h. made-unchanged p w h.refused;
       returns = returned p w;

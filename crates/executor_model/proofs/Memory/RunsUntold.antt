@@ -1,3 +1,4 @@
+-- For refused_calls_change_nothing, wakes_and_drops_take_no_memory and want_of_memory_is_told_of.
 -- What a run does where it searches, steals and runs what it has found leads to nothing that these tests are for.
 use Rattle.std.proofs.Common.{◌≡◌, ℕ, zero, suc, ◌+◌, List, [], ◌∷◌, ◌++◌, Bool, true, false, ◌||◌, eqb, refl, ap, ◌∙◌}
 use Rattle.std.specs.List.{list_any}
@@ -8,8 +9,8 @@ use Rattle.executor_model.specs.declared.op.Op.TheVariants as op
 use Rattle.executor_model.specs.declared.op.QueueOp.TheVariants as queue_op
 use Rattle.executor_model.specs.declared.op.RunOp.TheVariants as run_op
 use Rattle.executor_model.specs.declared.op.RunPoll.{RunPoll}
-use Rattle.executor_model.specs.declared.op.Sleeper.{Sleeper}
-use Rattle.executor_model.specs.declared.op.Sleeper.TheVariants as sleeper
+use Rattle.executor_model.specs.declared.op.TickOrRun.{TickOrRun}
+use Rattle.executor_model.specs.declared.op.TickOrRun.TheVariants as tick_or_run
 use Rattle.executor_model.specs.declared.op.SleeperOp.TheVariants as sleeper_op
 use Rattle.executor_model.specs.declared.op.Sleeping.{Sleeping}
 use Rattle.executor_model.specs.declared.op.Source.TheVariants.{Common, Own}
@@ -19,7 +20,7 @@ use Rattle.executor_model.specs.declared.op.StealOp.TheVariants as steal_op
 use Rattle.executor_model.specs.declared.op.Then.{Then}
 use Rattle.executor_model.specs.declared.op.Then.TheVariants as then
 use Rattle.executor_model.specs.declared.op.TickOp.TheVariants as tick_op
-use Rattle.executor_model.specs.World.{World, Place, Up, Lies, Left, put_own, run_of}
+use Rattle.executor_model.specs.World.{World, Ticker, Awake, Asleep, Left, put_own, run_of}
 use Rattle.executor_model.specs.ActsOfSleepers.{found_by}
 use Rattle.executor_model.specs.ActsOfRuns.{asleep, run_by, counted_by, found, walk, next_place, queue_at, kept_by}
 use Rattle.executor_model.specs.ActsOfRuns.{look_own, look_own_by}
@@ -31,7 +32,7 @@ use Rattle.executor_model.specs.Doing.{steal_act}
 pub record Untold (t : Op → Bool) : Type 0 where
   pub exchange : t (op.Sleeper sleeper_op.ExchangeFlag) ≡ false
   pub search : (s : Sleeping) → t (op.Tick (tick_op.Search s)) ≡ false
-  pub up : (who : Sleeper) → t (op.Tick (tick_op.GetUp who)) ≡ false
+  pub up : (who : TickOrRun) → t (op.Tick (tick_op.WakeUp who)) ≡ false
   pub take_up : (f : ℕ) → t (op.Move move.TakeUp f) ≡ false
   pub append : (f : ℕ) → t (op.Queue (queue_op.Append f)) ≡ false
   pub steal : (o : StealOp) → t (op.Steal o) ≡ false
@@ -59,17 +60,17 @@ module _ (t : Op → Bool) (u : Untold t) where
       let o = steal_op.Length (record { poll = x; from = Common; then = then.Run f }) in alone (op.Steal o) (u.steal o)
   untold-counted false w x f = untold-run_by _ _ x f
 
-  untold-rises : (p : Place) (who : Sleeper) (more : List Op) → list_any t more ≡ false →
+  untold-wakes_up : (p : Ticker) (who : TickOrRun) (more : List Op) → list_any t more ≡ false →
       list_any t (found_by p who (op.Sleeper sleeper_op.ExchangeFlag ∷ []) ++ more) ≡ false
-  untold-rises Up who more e = first (op.Sleeper sleeper_op.ExchangeFlag) more u.exchange e
-  untold-rises (Lies n) who more e =
-      first (op.Tick (tick_op.GetUp who)) (op.Sleeper sleeper_op.ExchangeFlag ∷ more) (u.up who)
+  untold-wakes_up Awake who more e = first (op.Sleeper sleeper_op.ExchangeFlag) more u.exchange e
+  untold-wakes_up (Asleep n) who more e =
+      first (op.Tick (tick_op.WakeUp who)) (op.Sleeper sleeper_op.ExchangeFlag ∷ more) (u.up who)
       (first (op.Sleeper sleeper_op.ExchangeFlag) more u.exchange e)
-  untold-rises Left who more e = first (op.Sleeper sleeper_op.ExchangeFlag) more u.exchange e
+  untold-wakes_up Left who more e = first (op.Sleeper sleeper_op.ExchangeFlag) more u.exchange e
 
   pub untold-found : (w : World) (x : RunPoll) (f : ℕ) → list_any t (found w x f).next ≡ false
   untold-found w x f =
-      untold-rises (run_of w x.run).place (sleeper.Run x.run)
+      untold-wakes_up (run_of w x.run).place (tick_or_run.Run x.run)
       (counted_by (eqb ((run_of w x.run).counted + 1) 64) w x f).next (untold-counted _ w x f)
 
   pub untold-stolen : (n : Then) (w : World) (x : RunPoll) → list_any t (stolen n w x).next ≡ false

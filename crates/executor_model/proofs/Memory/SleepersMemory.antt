@@ -1,3 +1,4 @@
+-- For refused_calls_change_nothing, wakes_and_drops_take_no_memory and want_of_memory_is_told_of.
 -- What tells sleepers, and a tick or run that leaves or has found a future, asks for no memory.
 use Rattle.std.proofs.Common.{◌≡◌, ℕ, List, [], ◌∷◌, Bool, true, false, refl}
 use Rattle.std.specs.Prelude.{Option, Some, None, is_none}
@@ -8,20 +9,20 @@ use Rattle.executor_model.specs.declared.op.SleeperOp.{SleeperOp}
 use Rattle.executor_model.specs.declared.op.SleeperOp.TheVariants as sleeper_op
 use Rattle.executor_model.specs.declared.op.Waker.{Waker}
 use Rattle.executor_model.specs.declared.op.Waker.TheVariants.{Task, Outside}
-use Rattle.executor_model.specs.declared.op.Sleeper.{Sleeper}
-use Rattle.executor_model.specs.World.{World, Place, Up, Lies, Left, place_of, log}
+use Rattle.executor_model.specs.declared.op.TickOrRun.{TickOrRun}
+use Rattle.executor_model.specs.World.{World, Ticker, Awake, Asleep, Left, place_of, log}
 use Rattle.executor_model.specs.Acts.{call_waker}
 use Rattle.executor_model.specs.ActsOfSleepers.{exchange_by, hand_out_by, polled_as, search_by}
-use Rattle.executor_model.specs.ActsOfSleepers.{sleeper_goes, get_up_by, tell_if, leave_sleepers_by}
+use Rattle.executor_model.specs.ActsOfSleepers.{sleeper_goes, wake_up_by, tell_and_return, leave_sleepers_by}
 use Rattle.executor_model.specs.Doing.{sleeper_act}
 use Rattle.executor_model.specs.Memory.{AsksForNone, FindsWithoutMemory}
-use Rattle.executor_model.proofs.Unasking.{both, none-waker, none-wake}
+use Rattle.executor_model.proofs.Memory.Unasking.{both, none-waker, none-wake}
 
 none-goes : (o : Option Sleeping) → AsksForNone (sleeper_goes o)
 none-goes None = refl
 none-goes (Some s) = none-waker s.waker
 
-none-tell : (b : Bool) → AsksForNone (tell_if b)
+none-tell : (b : Bool) → AsksForNone (tell_and_return b)
 none-tell true = refl
 none-tell false = refl
 
@@ -44,22 +45,22 @@ none-sleeper p sleeper_op.ExchangeFlag w = none-exchange _ w
 none-sleeper p sleeper_op.HandOut w = none-hand_out _ _ w
 none-sleeper p (sleeper_op.CallSleeper s) w = none-call_waker p w s s.waker
 
-pub none-up : (x : Place) (w : World) (t : Sleeper) → AsksForNone (get_up_by x w t).next
-none-up Up w t = refl
-none-up (Lies n) w t = none-goes (waker_of n w.sleepers.wakers)
+pub none-up : (x : Ticker) (w : World) (t : TickOrRun) → AsksForNone (wake_up_by x w t).next
+none-up Awake w t = refl
+none-up (Asleep n) w t = none-goes (waker_of n w.sleepers.wakers)
 none-up Left w t = refl
 
-pub none-leave_sleepers : (x : Place) (w : World) (t : Sleeper) → AsksForNone (leave_sleepers_by x w t).next
-none-leave_sleepers Up w t = refl
-none-leave_sleepers (Lies n) w t =
+pub none-leave_sleepers : (x : Ticker) (w : World) (t : TickOrRun) → AsksForNone (leave_sleepers_by x w t).next
+none-leave_sleepers Awake w t = refl
+none-leave_sleepers (Asleep n) w t =
     let old = waker_of n w.sleepers.wakers in
-    both (sleeper_goes old) (tell_if (is_none old)) (none-goes old) (none-tell (is_none old))
+    both (sleeper_goes old) (tell_and_return (is_none old)) (none-goes old) (none-tell (is_none old))
 none-leave_sleepers Left w t = refl
 
-none-found : (x : Place) (w : World) (f : ℕ) (rest : List ℕ) (s : Sleeping) →
+none-found : (x : Ticker) (w : World) (f : ℕ) (rest : List ℕ) (s : Sleeping) →
     AsksForNone (search_by x w (f ∷ rest) s).next
-none-found Up w f rest s = refl
-none-found (Lies n) w f rest s = refl
+none-found Awake w f rest s = refl
+none-found (Asleep n) w f rest s = refl
 none-found Left w f rest s = refl
 
 -- a search that finds a future leads to nothing that asks for memory

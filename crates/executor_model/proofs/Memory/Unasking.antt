@@ -1,3 +1,4 @@
+-- For refused_calls_change_nothing, wakes_and_drops_take_no_memory and want_of_memory_is_told_of.
 -- Calls that take no memory ask for none.
 use Rattle.std.proofs.Common.{ℕ, List, [], ◌∷◌, ◌++◌, Bool, true, false, ◌||◌, not, refl, ap, ◌∙◌}
 use Rattle.std.proofs.lemmas.List.Folds.{list_any-append}

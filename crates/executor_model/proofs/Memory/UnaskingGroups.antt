@@ -1,3 +1,4 @@
+-- For refused_calls_change_nothing, wakes_and_drops_take_no_memory and want_of_memory_is_told_of.
 -- Calls that take no memory, by groups of what is done.
 use Rattle.std.proofs.Common.{◌≡◌, ℕ, List, [], ◌∷◌, Bool, true, false, ◌&&◌, ◌||◌, not, refl, ap}
 use Rattle.std.specs.Prelude.{Option, Some, None}
@@ -39,12 +40,12 @@ use Rattle.executor_model.specs.Doing.{act, list_act, run_act}
 use Rattle.executor_model.specs.Memory.{asks, list_may_refuse, may_refuse, refuses, run_may_refuse, takes_no_memory}
 use Rattle.executor_model.specs.Memory.{AsksForNone, NeedsNoMemory, RunsWithoutMemory}
 use Rattle.executor_model.specs.Steps.{begun, drop_run, future_of, kept, poll_run, react, with_future}
-use Rattle.executor_model.proofs.Unasking.{both, none-again, none-append, none-call, none-carried, none-closing}
-use Rattle.executor_model.proofs.Unasking.{none-drain, none-drop_next, none-end_register, none-leave}
-use Rattle.executor_model.proofs.Unasking.{none-look_at_table, none-notify, none-register, none-take}
-use Rattle.executor_model.proofs.Unasking.{none-told, none-wake, none-wake_next, none-wake}
-use Rattle.executor_model.proofs.SleepersMemory.{none-sleeper, none-up, none-leave_sleepers, finds-without}
-use Rattle.executor_model.proofs.RunsUntold.{Untold, untold-common, untold-finds, untold-search, untold-steal}
+use Rattle.executor_model.proofs.Memory.Unasking.{both, none-again, none-append, none-call, none-carried, none-closing}
+use Rattle.executor_model.proofs.Memory.Unasking.{none-drain, none-drop_next, none-end_register, none-leave}
+use Rattle.executor_model.proofs.Memory.Unasking.{none-look_at_table, none-notify, none-register, none-take}
+use Rattle.executor_model.proofs.Memory.Unasking.{none-told, none-wake, none-wake_next, none-wake}
+use Rattle.executor_model.proofs.Memory.SleepersMemory.{none-sleeper, none-up, none-leave_sleepers, finds-without}
+use Rattle.executor_model.proofs.Memory.RunsUntold.{Untold, untold-common, untold-finds, untold-search, untold-steal}
 
 -- what a run does
 
@@ -53,15 +54,11 @@ unrefused : (a : Reply) → refuses a ≡ false → (refuses a || false) ≡ fal
 unrefused a e = ap (λ (x : Bool). x || false) e
 
 none-list : (h : Hint) (o : ListOp) (w : World) → list_may_refuse o ≡ false → AsksForNone (list_act h o w).next
-none-list h (list_op.LockWrite section.MakeRun) w e = absurd (cc)
-none-list h (list_op.LockWrite (section.Register x)) w e = absurd (cc)
 none-list h (list_op.LockWrite (section.Unregister r a)) w e = unrefused a e
-none-list h (list_op.Write section.MakeRun) w e = absurd (cc)
-none-list h (list_op.Write (section.Register x)) w e = absurd (cc)
 none-list h (list_op.Write (section.Unregister r a)) w e = unrefused a e
 none-list h list_op.UnlockWrite w e = refl
-none-list h (list_op.LockRead x) w e = absurd (cc)
 none-list h list_op.UnlockRead w e = refl
+none-list h _ w e = absurd (cc)
 
 none-by_reference : (p : ℕ) (w : World) (a : Waker) → AsksForNone (call_by_reference p w a).next
 none-by_reference p w (Task f) = none-carried (log_if (not (is_over (task w f))) w (event.Woken p f)) f
@@ -80,12 +77,10 @@ none-reschedule [] w r a e = unrefused a e
 none-reschedule (f ∷ rest) w r a e = unrefused a e
 
 none-run : (p : ℕ) (h : Hint) (o : RunOp) (w : World) → run_may_refuse o ≡ false → AsksForNone (run_act p h o w).next
-none-run p h run_op.MakeRoom w e = absurd (cc)
 none-run p h run_op.ReturnRoom w e = refl
-none-run p h (run_op.SearchCommon x) w e = absurd (cc)
-none-run p h (run_op.LookOwn x at left) w e = absurd (cc)
 none-run p h (run_op.WakeOwn x) w e = none-wake_own p w x
 none-run p h (run_op.Reschedule r a) w e = none-reschedule _ w r a e
+none-run p h _ w e = absurd (cc)
 
 -- one thing done
 
@@ -125,8 +120,8 @@ none-act p w h (op.Sleeper o) e = none-sleeper p o w
 none-act p w h (op.Tick tick_op.MakeTick) e = absurd (cc)
 none-act p w h (op.Tick (tick_op.Search s)) e = absurd (cc)
 none-act p w h (op.Tick (tick_op.CopyWaker s)) e = absurd (cc)
-none-act p w h (op.Tick (tick_op.LieDown s)) e = absurd (cc)
-none-act p w h (op.Tick (tick_op.GetUp t)) e = none-up _ w t
+none-act p w h (op.Tick (tick_op.FallAsleep s)) e = absurd (cc)
+none-act p w h (op.Tick (tick_op.WakeUp t)) e = none-up _ w t
 none-act p w h (op.Tick (tick_op.Leave t)) e = none-leave_sleepers _ w t
 none-act p w h (op.List o) e = none-list h o w e
 none-act p w h (op.Steal o) e = absurd (cc)
@@ -164,26 +159,19 @@ none-drop_run Ended r = refl
 
 none-begun : (p : ℕ) (w : World) (here : Option Waker) (c : Call) → takes_no_memory c ≡ true →
     AsksForNone (begun p w here c).next
-none-begun p w here call.Spawn e = absurd (cc)
 none-begun p w here call.TryTick e = refl
 none-begun p w here call.IsEmpty e = refl
 none-begun p w here (call.Wake k) e = none-with w (kept w k) _ (λ f. refl)
 none-begun p w here (call.WakeByRef k) e = none-with w (kept w k) _ (λ f. refl)
-none-begun p w here (call.Copy k) e = absurd (cc)
 none-begun p w here (call.DropWaker k) e = none-with w (kept w k) _ (λ f. refl)
-none-begun p w here call.Keep e = absurd (cc)
 none-begun p w here call.WakeSelf e = none-with w (future_of here) _ (λ f. refl)
-none-begun p w here (call.PollHandle f b) e = absurd (cc)
-none-begun p w here call.NewTick e = absurd (cc)
-none-begun p w here (call.PollTick t b) e = absurd (cc)
 none-begun p w here (call.DropTick t) e = refl
-none-begun p w here call.NewRun e = absurd (cc)
-none-begun p w here (call.PollRun r b) e = absurd (cc)
 none-begun p w here (call.DropRun r) e = none-drop_run (run_of w r).stage r
 none-begun p w here (call.Cancel f) e = refl
 none-begun p w here (call.Detach f) e = refl
 none-begun p w here (call.DropHandle f) e = refl
 none-begun p w here call.DropExecutor e = refl
+none-begun p w here _ e = absurd (cc)
 
 none-react : (p : ℕ) (w : World) (o : Op) (e : UserEnd) → may_refuse o ≡ false → AsksForNone (react p o e w).next
 none-react p w (op.User (user_op.Poll f)) (end.Polled polled.Pending) n = refl

@@ -1,5 +1,6 @@
+-- For all laws of one future.
 -- Each way in which a party goes on has one effect on each future; and what such an effect keeps of the view of each future
--- (proofs/Views), each step of the machine keeps.
+-- (proofs/OneFuture/Views), each step of the machine keeps.
 use Rattle.std.proofs.Common.{◌≡◌, ℕ, ◌<◌, List, [], ◌∷◌, ◌++◌, length, set, false, true, ◌&&◌, ◌||◌, not}
 use Rattle.std.proofs.Common.{refl, sym, subst, arith}
 use Rattle.std.specs.Prelude.{Option, reverse}
@@ -28,20 +29,20 @@ use Rattle.executor_model.specs.Rows.{past_of, borrowing_of}
 use Rattle.executor_model.specs.Steps.{Machine, run, stack, mine, top, accepts, begun, react, has_all, is_drop, is_free}
 use Rattle.executor_model.specs.Steps.{idle, is_on_executor, is_unborrowed, is_unused, start}
 use Rattle.executor_model.specs.Weights.{weigh, weigh_all}
-use Rattle.executor_model.proofs.Lists.{weigh_all-push}
-use Rattle.executor_model.proofs.Lift.{split, split-pend, push-pend, unsettled, none_refused, open_executor}
-use Rattle.executor_model.proofs.Lift.{unborrowed, unused}
-use Rattle.executor_model.proofs.Lift.{weigh_all-idle, good-start}
-use Rattle.executor_model.proofs.Growing.{pend-none}
-use Rattle.executor_model.proofs.Ways.{Way, along}
-use Rattle.executor_model.proofs.Ways.Way.{acted, reacted, called}
-use Rattle.executor_model.proofs.Extras.{Extra, extra, extra-by, extra-none, no_extra, with_extra}
-use Rattle.executor_model.proofs.Views.{Seen, seen, none}
-use Rattle.executor_model.proofs.SoundAll.{sure-of}
-use Rattle.executor_model.proofs.SoundViews.{Sure}
-use Rattle.executor_model.proofs.Effects.{Effect, effect-act}
-use Rattle.executor_model.proofs.Effects.Effect.{passes}
-use Rattle.executor_model.proofs.EffectsCalls.{by_call, goes-begun}
+use Rattle.executor_model.proofs.Steps.Lists.{weigh_all-push}
+use Rattle.executor_model.proofs.Steps.Lift.{split, split-pend, push-pend, unsettled, none_refused, open_executor}
+use Rattle.executor_model.proofs.Steps.Lift.{unborrowed, unused}
+use Rattle.executor_model.proofs.Steps.Lift.{weigh_all-idle, good-start}
+use Rattle.executor_model.proofs.Steps.Growing.{pend-none}
+use Rattle.executor_model.proofs.Steps.Ways.{Way, along}
+use Rattle.executor_model.proofs.Steps.Ways.Way.{acted, reacted, called}
+use Rattle.executor_model.proofs.OneFuture.Extras.{Extra, extra, extra-by, extra-none, no_extra, with_extra}
+use Rattle.executor_model.proofs.OneFuture.Views.{Seen, seen, none}
+use Rattle.executor_model.proofs.Counts.SoundAll.{sure-of}
+use Rattle.executor_model.proofs.Counts.SoundViews.{Sure}
+use Rattle.executor_model.proofs.OneFuture.Effects.{Effect, effect-act}
+use Rattle.executor_model.proofs.OneFuture.Effects.Effect.{passes}
+use Rattle.executor_model.proofs.OneFuture.EffectsCalls.{by_call, goes-begun}
 
 -- in a machine of this world and these parties
 pub data Effects (w : World) (ss : List (List Op)) : List Op → Done → Type 0 where

@@ -1,5 +1,6 @@
+-- For all laws of one future.
 -- What the parties have still to do with a future beside what specs/Rows counts: with its entry, its output, its handle
--- and the drop of the executor. Columns of the view of one future (proofs/Views).
+-- and the drop of the executor. Columns of the view of one future (proofs/OneFuture/Views).
 use Rattle.std.proofs.Common.{◌≡◌, ℕ, ◌+◌, List, [], ◌++◌, arith}
 use Rattle.executor_model.specs.declared.op.Op.{Op}
 use Rattle.executor_model.specs.declared.op.Op.TheVariants as op
@@ -7,14 +8,14 @@ use Rattle.executor_model.specs.declared.op.ClosingOp.TheVariants as closing_op
 use Rattle.executor_model.specs.declared.op.HandleOp.TheVariants as handle_op
 use Rattle.executor_model.specs.declared.op.RunOp.{RunOp}
 use Rattle.executor_model.specs.declared.op.RunOp.TheVariants as run_op
-use Rattle.executor_model.specs.declared.op.Sleeper.{Sleeper}
-use Rattle.executor_model.specs.declared.op.Sleeper.TheVariants as sleeper
+use Rattle.executor_model.specs.declared.op.TickOrRun.{TickOrRun}
+use Rattle.executor_model.specs.declared.op.TickOrRun.TheVariants as tick_or_run
 use Rattle.executor_model.specs.declared.op.TickOp.TheVariants as tick_op
 use Rattle.executor_model.specs.declared.op.UserOp.TheVariants as user_op
 use Rattle.task_moves.specs.declared.moves.owed.Move.TheVariants as move
 use Rattle.executor_model.specs.Rows.{appends_of, leaves_of}
 use Rattle.executor_model.specs.Weights.{same, weigh, weigh_all}
-use Rattle.executor_model.proofs.Lists.{weigh-append}
+use Rattle.executor_model.proofs.Steps.Lists.{weigh-append}
 
 -- what is only done after the drop of the executor has emptied the table
 abbrev pub closing_of : Op → ℕ
@@ -59,9 +60,9 @@ storing_of g (op.Handle (handle_op.EndRegister f a k)) = same g f
 storing_of g _ = 0
 
 -- who searches is a run
-abbrev pub runs_of_who : Sleeper → ℕ
-runs_of_who (sleeper.Run r) = 1
-runs_of_who (sleeper.Tick t) = 0
+abbrev pub runs_of_who : TickOrRun → ℕ
+runs_of_who (tick_or_run.Run r) = 1
+runs_of_who (tick_or_run.Tick t) = 0
 
 abbrev pub runs_of_run : RunOp → ℕ
 runs_of_run (run_op.WakeOwn x) = 0

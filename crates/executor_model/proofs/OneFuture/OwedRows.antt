@@ -1,3 +1,4 @@
+-- For all laws of one future.
 -- What who makes a move of a task has in hand, and what the move leaves it with: one row in all counts of a future.
 use Rattle.std.proofs.Common.{◌≡◌, ℕ, ◌+◌, List, [], ◌∷◌, ◌++◌, Bool, true, false, refl, ap, ◌∙◌, arith}
 use Rattle.std.specs.Prelude.{Option, Some, None}
@@ -16,10 +17,10 @@ use Rattle.executor_model.specs.Weights.{same, weigh}
 use Rattle.executor_model.specs.Rows.{borrowing_of, waiting_of, polls_of, ending_of, ready_of, closing_of, settling_of}
 use Rattle.executor_model.specs.Rows.{giving_of, drops_of, releases_of, copies_of, ousting_of}
 use Rattle.executor_model.specs.Sound.{Pend}
-use Rattle.executor_model.proofs.Lists.{weigh-append}
-use Rattle.executor_model.proofs.Extras.{Extra, no_extra, plus_extra, extras, extras-append}
-use Rattle.executor_model.proofs.Views.{none, plus, hand, of_schedule, of_drop, of_future, of_next, of_owed}
-use Rattle.executor_model.proofs.Views.{extra_hand, of_append, of_output, of_awaiter, extra_next, extra_owed}
+use Rattle.executor_model.proofs.Steps.Lists.{weigh-append}
+use Rattle.executor_model.proofs.OneFuture.Extras.{Extra, no_extra, plus_extra, extras, extras-append}
+use Rattle.executor_model.proofs.OneFuture.Views.{none, plus, hand, of_schedule, of_drop, of_future, of_next, of_owed}
+use Rattle.executor_model.proofs.OneFuture.Views.{extra_hand, of_append, of_output, of_awaiter, extra_next, extra_owed}
 
 -- the counts of a list of things to do, all at once
 

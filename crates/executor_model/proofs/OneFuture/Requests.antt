@@ -1,3 +1,4 @@
+-- For all laws of one future.
 -- What a trace tells of who asked for a future, read from left to right.
 use Rattle.std.proofs.Common.{◌≡◌, ℕ, ◌+◌, ◌==◌, [], ◌∷◌, ◌++◌, Bool, true, false, cond, refl}
 use Rattle.executor_model.specs.declared.event.Answer.TheVariants.{Ready}

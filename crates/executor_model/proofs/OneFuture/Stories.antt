@@ -1,3 +1,4 @@
+-- For all laws of one future.
 -- What a trace tells of a future, read from left to right: how often it was accepted and dropped, whether there was a
 -- cause for a drop, and which accepted futures were not dropped before the drop of the executor began.
 use Rattle.std.proofs.Common.{◌≡◌, ◌≢◌, ◌⊎◌, ℕ, suc, ◌+◌, ◌==◌, ◌≤◌, List, [], ◌∷◌, ◌++◌, length}
@@ -11,8 +12,8 @@ use Rattle.executor_model.specs.Trace.{Trace}
 use Rattle.executor_model.specs.World.{without, among}
 use Rattle.executor_model.specs.Weights.{same}
 use Rattle.executor_model.specs.Sound.{times}
-use Rattle.executor_model.proofs.Cases.{by_bool}
-use Rattle.executor_model.proofs.Lists.{same_cases, without_one}
+use Rattle.executor_model.proofs.Steps.Cases.{by_bool}
+use Rattle.executor_model.proofs.Steps.Lists.{same_cases, without_one}
 
 -- the list without any f
 abbrev pub except : ℕ → List ℕ → List ℕ

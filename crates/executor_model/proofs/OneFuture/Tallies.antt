@@ -1,5 +1,6 @@
+-- For all laws of one future.
 -- How often a future was ready, its output went, and its handle or its output was given up: numbers that are counted
--- in a trace, for the laws of outputs (proofs/Keeping, proofs/Outputs).
+-- in a trace, for the laws of outputs (proofs/Outputs/Keeping, proofs/Outputs/Outputs).
 use Rattle.std.proofs.Common.{◌≡◌, ℕ, ◌+◌, [], ◌∷◌, ◌++◌, cond, refl, arith}
 use Rattle.std.proofs.lemmas.List.Sums.{sum_by_push}
 use Rattle.std.specs.Prelude.{count_by}

@@ -1,3 +1,4 @@
+-- For all laws of one future.
 -- What a story says of a future is what the definitions over its trace say.
 use Rattle.std.proofs.Common.{◌≡◌, ◌⊎◌, ℕ, suc, ◌+◌, ◌≤◌, List, [], ◌∷◌, ◌++◌, Bool, true, false, ◌||◌, not, cond, eqb}
 use Rattle.std.proofs.Common.{take, refl, sym, ap, ◌∙◌, subst, inl, inr, ⊎_elim, arith}
@@ -11,7 +12,7 @@ use Rattle.executor_model.specs.Trace.{Trace, has, is_accepted, is_dropped, is_r
 use Rattle.executor_model.specs.Trace.{is_cancelled, is_drop_begun, is_drop_ended}
 use Rattle.executor_model.specs.EarlyDrop.{before_drop, EarlyDropHasCause}
 use Rattle.executor_model.specs.Weights.{same}
-use Rattle.executor_model.proofs.Stories.{Story, untold, except, hears, story_from, story}
+use Rattle.executor_model.proofs.OneFuture.Stories.{Story, untold, except, hears, story_from, story}
 
 pub same-cond : (g f : ℕ) → same g f ≡ cond (eqb g f) 1 0
 unfolding same

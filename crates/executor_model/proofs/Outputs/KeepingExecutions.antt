@@ -1,4 +1,5 @@
--- In each run, what holds of an output that is there and of the awaiter of a future that is completed holds at every
+-- For outputs_are_kept.
+-- In each execution, what holds of an output that is there and of the awaiter of a future that is completed holds at every
 -- moment.
 use Rattle.std.proofs.Common.{ℕ, List, [], ◌∷◌, arith}
 use Rattle.executor_model.specs.declared.call.Reply.{Reply}
@@ -9,12 +10,12 @@ use Rattle.executor_model.specs.declared.step.Step.{Step}
 use Rattle.executor_model.specs.World.{World, log}
 use Rattle.executor_model.specs.Sound.{Pend, with_ops}
 use Rattle.executor_model.specs.Steps.{Machine, run, start}
-use Rattle.executor_model.proofs.Tallies.{readies-push, readies-none, spent-push, spent-none}
-use Rattle.executor_model.proofs.Extras.{Extra, no_extra, with_extra}
-use Rattle.executor_model.proofs.Views.{none, seen}
-use Rattle.executor_model.proofs.Keeping.{Stored}
-use Rattle.executor_model.proofs.KeepingViews.{stored-act}
-use Rattle.executor_model.proofs.EffectsWays.{each-run, view}
+use Rattle.executor_model.proofs.OneFuture.Tallies.{readies-push, readies-none, spent-push, spent-none}
+use Rattle.executor_model.proofs.OneFuture.Extras.{Extra, no_extra, with_extra}
+use Rattle.executor_model.proofs.OneFuture.Views.{none, seen}
+use Rattle.executor_model.proofs.Outputs.Keeping.{Stored}
+use Rattle.executor_model.proofs.Outputs.KeepingViews.{stored-act}
+use Rattle.executor_model.proofs.OneFuture.EffectsWays.{each-run, view}
 
 abbrev pub Stores : Machine → Type 0
 Stores s = (g : ℕ) → Stored (view s g)

@@ -1,4 +1,5 @@
--- What holds of an output that is there and of an awaiter (proofs/Keeping): kept by each move of the future's task, and by
+-- For outputs_are_kept.
+-- What holds of an output that is there and of an awaiter (proofs/Outputs/Keeping): kept by each move of the future's task, and by
 -- each effect.
 use Rattle.std.proofs.Common.{◌≡◌, ℕ, ◌<◌, List, [], ◌∷◌, ◌++◌, true, false, arith}
 use Rattle.std.proofs.lemmas.Bool.Decides.{nat_tests}
@@ -21,18 +22,18 @@ use Rattle.executor_model.specs.declared.op.UserOp.TheVariants as user_op
 use Rattle.executor_model.specs.World.{World, Done, done, log}
 use Rattle.executor_model.specs.Acts.{append_by, begin_drop, closing_ops, enter_by, leave_by, stands_alone}
 use Rattle.executor_model.specs.Sound.{Pend, with_ops}
-use Rattle.executor_model.proofs.Lists.{fresh_is, read_push, same_is}
-use Rattle.executor_model.proofs.Tallies.{readies-push, spent-push}
-use Rattle.executor_model.proofs.Extras.{Extra, with_extra}
-use Rattle.executor_model.proofs.Views.{Seen, seen, before, after}
-use Rattle.executor_model.proofs.Passes.{Passes, Handles, Watched}
-use Rattle.executor_model.proofs.MoveViews.{Alike}
-use Rattle.executor_model.proofs.SoundViews.{Sure, sound-passes}
-use Rattle.executor_model.proofs.Keeping.{Footing, Stored, footing}
-use Rattle.executor_model.proofs.Effects.{Effect, turned-keeps}
-use Rattle.executor_model.proofs.Effects.Effect.{passes, turns, refuses, enters, unlists, drops, takes_out, drops_next}
-use Rattle.executor_model.proofs.EffectsWays.{Effects}
-use Rattle.executor_model.proofs.EffectsWays.Effects.{does, pends, readies, closes}
+use Rattle.executor_model.proofs.Steps.Lists.{fresh_is, read_push, same_is}
+use Rattle.executor_model.proofs.OneFuture.Tallies.{readies-push, spent-push}
+use Rattle.executor_model.proofs.OneFuture.Extras.{Extra, with_extra}
+use Rattle.executor_model.proofs.OneFuture.Views.{Seen, seen, before, after}
+use Rattle.executor_model.proofs.OneFuture.Passes.{Passes, Handles, Watched}
+use Rattle.executor_model.proofs.OneFuture.MoveViews.{Alike}
+use Rattle.executor_model.proofs.Counts.SoundViews.{Sure, sound-passes}
+use Rattle.executor_model.proofs.Outputs.Keeping.{Footing, Stored, footing}
+use Rattle.executor_model.proofs.OneFuture.Effects.{Effect, turned-keeps}
+use Rattle.executor_model.proofs.OneFuture.Effects.Effect.{passes, turns, refuses, enters, unlists, drops, takes_out, drops_next}
+use Rattle.executor_model.proofs.OneFuture.EffectsWays.{Effects}
+use Rattle.executor_model.proofs.OneFuture.EffectsWays.Effects.{does, pends, readies, closes}
 
 stored-passes : (x y : Seen) → Passes x y → Handles x y → Footing x → Stored x → Stored y
 stored-passes x y s q b h = let w : Watched y = q.watched b.rests h.watched in grind arith

@@ -1,4 +1,5 @@
--- In each run an output goes at most once.
+-- For outputs_go_once.
+-- In each execution an output goes at most once.
 use Rattle.std.proofs.Common.{ℕ, List, [], ◌∷◌, arith}
 use Rattle.executor_model.specs.declared.call.Reply.{Reply}
 use Rattle.executor_model.specs.declared.event.Event.TheVariants as event
@@ -9,11 +10,11 @@ use Rattle.executor_model.specs.OutputOnce.{OutputGoesOnce}
 use Rattle.executor_model.specs.World.{World, log}
 use Rattle.executor_model.specs.Sound.{Pend, with_ops}
 use Rattle.executor_model.specs.Steps.{run, start}
-use Rattle.executor_model.proofs.Tallies.{outputs, outputs-none, outputs-push}
-use Rattle.executor_model.proofs.Extras.{Extra, no_extra, with_extra}
-use Rattle.executor_model.proofs.Views.{none, seen}
-use Rattle.executor_model.proofs.Outputs.{Given, out-act}
-use Rattle.executor_model.proofs.EffectsWays.{each-run}
+use Rattle.executor_model.proofs.OneFuture.Tallies.{outputs, outputs-none, outputs-push}
+use Rattle.executor_model.proofs.OneFuture.Extras.{Extra, no_extra, with_extra}
+use Rattle.executor_model.proofs.OneFuture.Views.{none, seen}
+use Rattle.executor_model.proofs.Outputs.Outputs.{Given, out-act}
+use Rattle.executor_model.proofs.OneFuture.EffectsWays.{each-run}
 
 given-end : (w : World) (p : ℕ) (a : Reply) (held : Hold) (g : ℕ) (r : Pend) (y : Extra) →
     Given (seen w g (with_ops g (op.End a held ∷ []) r) (with_extra g (op.End a held ∷ []) y)) →

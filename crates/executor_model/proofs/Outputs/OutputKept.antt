@@ -1,3 +1,4 @@
+-- For outputs_are_kept.
 -- Where no call is in progress, the next poll of the handle is given the output that is there.
 use Rattle.std.proofs.Common.{◌≡◌, ℕ, zero, suc, ◌<◌, ◌≤◌, List, [], ◌∷◌, ◌++◌, length, set, get_or, Bool, true, false}
 use Rattle.std.proofs.Common.{◌&&◌, not, refl, sym, ap, ◌∙◌, ⊎_elim, arith, get_or-set_same}
@@ -33,11 +34,11 @@ use Rattle.executor_model.specs.Weights.{weigh_all}
 use Rattle.executor_model.specs.Rows.{handling_of, ready_of}
 use Rattle.executor_model.specs.Steps.{Machine, stack, top, step, step_by, stepped, refusal, unless, begin_refusal}
 use Rattle.executor_model.specs.Steps.{go_refusal, onto, part_after, with_part, run, start}
-use Rattle.executor_model.proofs.Telling.{counted-there, there-or-none}
-use Rattle.executor_model.proofs.Resting.{Deep, deep, rests, all-rest}
-use Rattle.executor_model.proofs.Tallies.{readies, spent}
-use Rattle.executor_model.proofs.Extras.{telling_of, taking_of, storing_of}
-use Rattle.executor_model.proofs.KeepingRuns.{Stores, stores}
+use Rattle.executor_model.proofs.OneFuture.Telling.{counted-there, there-or-none}
+use Rattle.executor_model.proofs.Quiet.Resting.{Deep, deep, rests, all-rest}
+use Rattle.executor_model.proofs.OneFuture.Tallies.{readies, spent}
+use Rattle.executor_model.proofs.OneFuture.Extras.{telling_of, taking_of, storing_of}
+use Rattle.executor_model.proofs.Outputs.KeepingExecutions.{Stores, stores}
 
 -- what the trace says, counted
 

@@ -1,3 +1,4 @@
+-- For own_queues_agree.
 -- What the counts of own queues see of the beginning of a call and of the end of user code, and what these change.
 use Rattle.std.proofs.Common.{◌≡◌, ℕ, ◌+◌, List, true, refl, arith}
 use Rattle.std.specs.Prelude.{Option, Some, None}
@@ -16,9 +17,8 @@ use Rattle.executor_model.specs.OwnQueues.{empty_of, filling_of, reads_of, write
 use Rattle.executor_model.specs.Steps.{accepts, begun, drop_run, future_of, kept, poll_run, react, with_future}
 use Rattle.executor_model.specs.Weights.{weigh}
 use Rattle.executor_model.specs.World.{World, Stage, New, Listed, Ended, Done, done, log}
-use Rattle.executor_model.proofs.Lists.{weigh-below}
-use Rattle.executor_model.proofs.RunsAside.{hull, hull-run}
-use Rattle.executor_model.proofs.SleepersNext.{Blind}
+use Rattle.executor_model.proofs.Steps.Lists.{weigh-below}
+use Rattle.executor_model.proofs.OwnQueues.RunsAside.{hull, hull-run}
 
 module _ (r : ℕ) where
   -- room that a steal may fill, sections and walks under the lock, and a search that found the own queue empty
@@ -85,49 +85,6 @@ module _ (r : ℕ) where
       counts-with w (log w (event.CallBegun p call.Keep)) (future_of here) _ refl (λ f. uncounted w _ _ refl refl)
   counts-begun p w here call.WakeSelf =
       counts-with w (log w (event.CallBegun p call.WakeSelf)) (future_of here) _ refl (λ f. uncounted w _ _ refl refl)
-  counts-begun p w here call.Spawn = uncounted w _ _ refl refl
-  counts-begun p w here call.TryTick = uncounted w _ _ refl refl
-  counts-begun p w here call.IsEmpty = uncounted w _ _ refl refl
-  counts-begun p w here (call.PollHandle f b) = uncounted w _ _ refl refl
-  counts-begun p w here (call.Cancel f) = uncounted w _ _ refl refl
-  counts-begun p w here (call.Detach f) = uncounted w _ _ refl refl
-  counts-begun p w here (call.DropHandle f) = uncounted w _ _ refl refl
-  counts-begun p w here call.NewTick = uncounted w _ _ refl refl
-  counts-begun p w here (call.PollTick t b) = uncounted w _ _ refl refl
-  counts-begun p w here (call.DropTick t) = uncounted w _ _ refl refl
-  counts-begun p w here call.NewRun = uncounted w _ _ refl refl
   counts-begun p w here (call.PollRun q b) = counts-poll w _ _ _ refl
   counts-begun p w here (call.DropRun q) = counts-drop w _ _ q (hull-run w q _ refl)
-  counts-begun p w here call.DropExecutor = uncounted w _ _ refl refl
-
--- three of them see nothing of ticks
-
-pub blind-filling : (r : ℕ) → Blind (filling_of r)
-blind-filling r = record {
-  tick = λ o. refl;
-  exchange = refl;
-  call = λ s. refl;
-  release = λ f. refl;
-  end = λ a who. refl;
-  made = λ a. refl;
-}
-
-pub blind-writes : Blind writes_of
-blind-writes = record {
-  tick = λ o. refl;
-  exchange = refl;
-  call = λ s. refl;
-  release = λ f. refl;
-  end = λ a who. refl;
-  made = λ a. refl;
-}
-
-pub blind-reads : Blind reads_of
-blind-reads = record {
-  tick = λ o. refl;
-  exchange = refl;
-  call = λ s. refl;
-  release = λ f. refl;
-  end = λ a who. refl;
-  made = λ a. refl;
-}
+  counts-begun p w here _ = uncounted w _ _ refl refl

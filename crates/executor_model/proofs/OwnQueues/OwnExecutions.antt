@@ -1,4 +1,5 @@
--- In each run of the machine: the own queues of its runs have room for what comes, and are empty where they were
+-- For own_queues_agree.
+-- In each execution of the machine: the own queues of its runs have room for what comes, and are empty where they were
 -- found so.
 use Rattle.std.proofs.Common.{◌≡◌, ℕ, ◌<◌, List, [], ◌∷◌, ◌++◌, length, arith}
 use Rattle.std.specs.Prelude.{reverse}
@@ -12,11 +13,11 @@ use Rattle.executor_model.specs.Good.{Good}
 use Rattle.executor_model.specs.OwnQueues.{HasOwnRoom, IsEmptyMeanwhile, empty_of, filling_of}
 use Rattle.executor_model.specs.Steps.{Machine, run, stack, start}
 use Rattle.executor_model.specs.World.{Done, done, log}
-use Rattle.executor_model.proofs.Lift.{good-start, unsettled, weigh_all-idle}
-use Rattle.executor_model.proofs.OwnEmpty.{EmptyMeanwhile, empty-ends, empty-moves}
-use Rattle.executor_model.proofs.OwnRooms.{Roomy, roomy-ends, roomy-moves}
-use Rattle.executor_model.proofs.UsingSteps.{AllUsed, used-ends, used-moves, used-start}
-use Rattle.executor_model.proofs.Ways.{Way, along}
+use Rattle.executor_model.proofs.Steps.Lift.{good-start, unsettled, weigh_all-idle}
+use Rattle.executor_model.proofs.OwnQueues.OwnEmpty.{EmptyMeanwhile, empty-ends, empty-moves}
+use Rattle.executor_model.proofs.OwnQueues.OwnRooms.{Roomy, roomy-ends, roomy-moves}
+use Rattle.executor_model.proofs.OwnQueues.UsingSteps.{AllUsed, used-ends, used-moves, used-start}
+use Rattle.executor_model.proofs.Steps.Ways.{Way, along}
 
 record Owning (s : Machine) : Type 0 where
   pub used : AllUsed s

@@ -1,51 +1,31 @@
+-- For own_queues_agree.
 -- The list of queues holds that of each run that is listed once, and no other.
 use Rattle.std.proofs.Common.{◌≡◌, ◌≢◌, ◌∙◌, ℕ, zero, suc, ◌+◌, ◌<◌, ◌≤◌, List, [], ◌∷◌, ◌++◌, length, get_or}
 use Rattle.std.proofs.Common.{set, Bool, true, false, eqb, refl, sym, ap, subst, ⊎_elim, arith, get_or-set_same}
 use Rattle.std.proofs.Common.{get_or-set_other}
 use Rattle.std.proofs.lemmas.Bool.Decides.{nat_tests}
-use Rattle.executor_model.specs.declared.call.Reply.{Reply}
 use Rattle.executor_model.specs.declared.event.Event.TheVariants as event
 use Rattle.executor_model.specs.declared.op.ListOp.{ListOp}
 use Rattle.executor_model.specs.declared.op.ListOp.TheVariants as list_op
 use Rattle.executor_model.specs.declared.op.Op.{Op}
-use Rattle.executor_model.specs.declared.op.Op.TheVariants as op
-use Rattle.executor_model.specs.declared.op.RunOp.{RunOp}
-use Rattle.executor_model.specs.declared.op.RunOp.TheVariants as run_op
-use Rattle.executor_model.specs.declared.op.RunPoll.{RunPoll}
 use Rattle.executor_model.specs.declared.op.Section.TheVariants as section
-use Rattle.executor_model.specs.declared.op.Sleeper.{Sleeper}
-use Rattle.executor_model.specs.declared.op.Sleeper.TheVariants as sleeper
-use Rattle.executor_model.specs.declared.op.Sleeping.{Sleeping}
-use Rattle.executor_model.specs.declared.op.Source.{Source}
-use Rattle.executor_model.specs.declared.op.Source.TheVariants.{Common, Own}
-use Rattle.executor_model.specs.declared.op.Steal.{Steal}
-use Rattle.executor_model.specs.declared.op.StealOp.{StealOp}
-use Rattle.executor_model.specs.declared.op.StealOp.TheVariants as steal_op
-use Rattle.executor_model.specs.declared.op.TickOp.{TickOp}
-use Rattle.executor_model.specs.declared.op.TickOp.TheVariants as tick_op
-use Rattle.executor_model.specs.declared.op.UserOp.TheVariants as user_op
-use Rattle.executor_model.specs.declared.op.Waker.{Waker}
-use Rattle.executor_model.specs.declared.op.Waker.TheVariants.{Task, Outside}
 use Rattle.executor_model.specs.declared.step.Hint.{Hint}
 use Rattle.executor_model.specs.declared.step.Step.{Step}
-use Rattle.task_moves.specs.declared.moves.owed.Move.TheVariants as move
-use Rattle.executor_model.specs.declared.op.Polled.TheVariants as of
 use Rattle.executor_model.specs.ActsOfRuns as runs
-use Rattle.executor_model.specs.Doing.{act, list_act, run_act, search_by_who, steal_act, tick_act}
+use Rattle.executor_model.specs.Doing.{list_act}
 use Rattle.executor_model.specs.OwnQueues.{ListAgrees, is_listed}
 use Rattle.executor_model.specs.Sound.{times}
 use Rattle.executor_model.specs.Steps.{Machine, begun, mine, react, run, stack, start, top}
 use Rattle.executor_model.specs.Weights.{same}
-use Rattle.executor_model.specs.World.{World, Stage, New, Listed, Ended, Done, log, put_own, run_of}
+use Rattle.executor_model.specs.World.{World, Stage, New, Listed, Ended, Done, log, own_of, put_own, run_of}
 use Rattle.executor_model.specs.World.{without}
-use Rattle.executor_model.proofs.Lift.{good-start, no_hint}
-use Rattle.executor_model.proofs.Lists.{same_cases, times-append}
-use Rattle.executor_model.proofs.OwnCounts.{counts-begun, counts-react}
-use Rattle.executor_model.proofs.RunsAside.{Hull, apart-act, hull, is_run, stages, stages-at, stages-push}
-use Rattle.executor_model.proofs.RunsAside.{stages-set}
-use Rattle.executor_model.proofs.RunsMoving.{hull-common, hull-found, hull-length, hull-more, hull-search}
-use Rattle.executor_model.proofs.RunsMoving.{hull-stolen, hull-tick, is_search}
-use Rattle.executor_model.proofs.Ways.{Way, acted, reacted, called, along}
+use Rattle.executor_model.proofs.Steps.Lift.{good-start}
+use Rattle.executor_model.proofs.Steps.Lists.{same_cases, times-append}
+use Rattle.executor_model.proofs.OwnQueues.OwnCounts.{counts-begun, counts-react}
+use Rattle.executor_model.proofs.OwnQueues.RunsAside.{Hull, hull, hull_of, stages, stages-at, stages-push}
+use Rattle.executor_model.proofs.OwnQueues.RunsAside.{stages-set}
+use Rattle.executor_model.proofs.OwnQueues.RunsDone.{Deed, keeps, takes, lacks, shares, grows, wakes, lists, deed-act}
+use Rattle.executor_model.proofs.Steps.Ways.{Way, acted, reacted, called, along}
 
 abbrev IsListedWell : List Stage → List ℕ → ℕ → Type 0
 IsListedWell ss ls r = times r ls ≡ is_listed (get_or ss r Ended)
@@ -136,39 +116,6 @@ KeepsListed w v = (r : ℕ) → IsWell w r → IsWell v r
 still : (w v : World) → hull w ≡ hull v → KeepsListed w v
 still w v e r h = subst (λ (x : Hull). IsListedWell x.stages x.listed r) e h
 
-listed-own : (q : List ℕ) (w : World) (x : RunPoll) → KeepsListed w (runs.search_own_by q w x).world
-listed-own [] w x = still w w refl
-listed-own (f ∷ rest) w x = λ r h.
-    still (put_own w x.run rest) (runs.found (put_own w x.run rest) x f).world
-    (hull-found (put_own w x.run rest) x f) r h
-
-listed-look : (q : List ℕ) (w : World) (x : RunPoll) (at left : ℕ) →
-    KeepsListed w (runs.look_own_by q w x at left).world
-listed-look [] w x at left = still w w refl
-listed-look (f ∷ rest) w x at left = λ r h.
-    still (put_own w x.run rest) (runs.found (put_own w x.run rest) x f).world
-    (hull-found (put_own w x.run rest) x f) r h
-
-listed-first : (from : Source) (w : World) (rest : List ℕ) → KeepsListed w (runs.without_first w from rest)
-listed-first Common w rest = λ r h. h
-listed-first (Own q) w rest = λ r h. h
-
-listed-take : (q : List ℕ) (w : World) (s : Steal) (more : ℕ) → KeepsListed w (runs.steal_take_by q w s more).world
-listed-take [] w s more = still w (runs.stolen s.then w s.poll).world (hull-stolen s.then w s.poll)
-listed-take (f ∷ rest) w s more = listed-first s.from w rest
-
-listed-put : (b : Bool) (p : ℕ) (w : World) (s : Steal) (more f : ℕ) →
-    KeepsListed w (runs.steal_put_by b p w s more f).world
-listed-put true p w s more f = λ r h.
-    let v = runs.kept_by p w s.poll.run f in still v (runs.steal_by more v s).world (hull-more more v s) r h
-listed-put false p w s more f = still w (runs.stolen s.then w s.poll).world (hull-stolen s.then w s.poll)
-
-listed-steal : (p : ℕ) (o : StealOp) (w : World) → KeepsListed w (steal_act p o w).world
-listed-steal p (steal_op.Length s) w = still w (steal_act p (steal_op.Length s) w).world (hull-length _ w s)
-listed-steal p (steal_op.OwnLength s n) w = still w (steal_act p (steal_op.OwnLength s n) w).world (hull-more _ w s)
-listed-steal p (steal_op.Take s more) w = listed-take _ w s more
-listed-steal p (steal_op.Put s more f) w = listed-put _ p w s more f
-
 listed-make : (b : Bool) (w : World) → KeepsListed w (runs.make_run_by b w).world
 listed-make true w = still w w refl
 listed-make false w = λ r h. subst (λ (ss : List Stage). IsListedWell ss w.listed r) (sym (stages-push w.runs))
@@ -182,58 +129,21 @@ listed-register Listed w q e = still w w refl
 listed-register Ended w q e = still w w refl
 
 listed-list : (h : Hint) (o : ListOp) (w : World) → KeepsListed w (list_act h o w).world
-listed-list h (list_op.LockWrite s) w = λ r k. k
 listed-list h (list_op.Write section.MakeRun) w = listed-make h.refused w
 listed-list h (list_op.Write (section.Register x)) w = listed-register _ w x.run refl
 listed-list h (list_op.Write (section.Unregister q a)) w = λ r k.
     subst (λ (ss : List Stage). IsListedWell ss (without q w.listed) r)
     (sym (stages-set w.runs q (record (run_of w q) { stage = Ended }))) (goes (stages w.runs) w.listed q r k)
-listed-list h list_op.UnlockWrite w = λ r k. k
-listed-list h (list_op.LockRead x) w = λ r k. k
-listed-list h list_op.UnlockRead w = λ r k. k
+listed-list h _ w = λ r k. k
 
-listed-room : (b : Bool) (w : World) → KeepsListed w (runs.make_room_by b w).world
-listed-room true w r k = k
-listed-room false w r k = k
-
-log_if-well : (w : World) (x : RunPoll) (p : ℕ) (a : Waker) → hull w ≡ hull (runs.call_by_reference p w a).world
-log_if-well w x p (Outside y) = refl
-log_if-well w x p (Task g) = (apart-act p no_hint (op.Move move.WakeByReference g) w refl).hull
-
-listed-wake : (p : ℕ) (w : World) (x : RunPoll) → KeepsListed w (runs.wake_own p w x).world
-listed-wake p w x r k =
-    let v = log w (event.WakerCalled p (of.Run x.run) x.poll x.waker) in
-    still v (runs.call_by_reference p v x.waker).world (log_if-well v x p x.waker) r k
-
-listed-reschedule : (q : List ℕ) (w : World) (n : ℕ) (a : Reply) → KeepsListed w (runs.reschedule_by q w n a).world
-listed-reschedule [] w n a r k = k
-listed-reschedule (f ∷ rest) w n a r k = k
-
-listed-run : (p : ℕ) (h : Hint) (o : RunOp) (w : World) → KeepsListed w (run_act p h o w).world
-listed-run p h run_op.MakeRoom w = listed-room _ w
-listed-run p h run_op.ReturnRoom w = λ r k. k
-listed-run p h (run_op.SearchCommon x) w = still w (run_act p h (run_op.SearchCommon x) w).world (hull-common _ w x)
-listed-run p h (run_op.LookOwn x at left) w = listed-look _ w x at left
-listed-run p h (run_op.WakeOwn x) w = listed-wake p w x
-listed-run p h (run_op.Reschedule n a) w = listed-reschedule _ w n a
-
-listed-who : (who : Sleeper) (w : World) (s : Sleeping) → KeepsListed w (search_by_who who w s).world
-listed-who (sleeper.Tick t) w s = still w (search_by_who (sleeper.Tick t) w s).world (hull-search _ _ w s)
-listed-who (sleeper.Run q) w s = listed-own _ w (record { run = q; waker = s.waker; poll = s.poll })
-
-listed-tick : (b : Bool) (h : Hint) (o : TickOp) (w : World) → is_search o ≡ b → KeepsListed w (tick_act h o w).world
-listed-tick false h o w e = still w (tick_act h o w).world (hull-tick h o w e)
-listed-tick true h (tick_op.Search s) w e = listed-who s.who w s
-listed-tick true h _ w e = absurd (cc)
-
-listed-act : (b : Bool) (p : ℕ) (h : Hint) (o : Op) (w : World) → is_run o ≡ b → KeepsListed w (act p h o w).world
-listed-act false p h o w e = still w (act p h o w).world (apart-act p h o w e).hull
-listed-act true p h (op.User (user_op.PollOwn x)) w e = still w w refl
-listed-act true p h (op.Tick o) w e = listed-tick _ h o w refl
-listed-act true p h (op.List o) w e = listed-list h o w
-listed-act true p h (op.Steal o) w e = listed-steal p o w
-listed-act true p h (op.Run o) w e = listed-run p h o w
-listed-act true p h _ w e = absurd (cc)
+listed-deed : (w : World) (o : Op) (d : Done) → Deed w o d → KeepsListed w d.world
+listed-deed w o d (keeps e l) = still w d.world (ap hull_of e)
+listed-deed w o d (takes q f rest i e l) = still (put_own w q rest) d.world (ap hull_of e)
+listed-deed w o d (lacks q i e l) = still w d.world (ap hull_of e)
+listed-deed w o d (shares s i k b e m) = still w d.world (ap hull_of e)
+listed-deed w o d (grows s k f e m) = still (put_own w s.poll.run (own_of w s.poll.run ++ f ∷ [])) d.world (ap hull_of e)
+listed-deed w o d (wakes p x e z) = still w d.world (ap hull_of e)
+listed-deed w o d (lists h l) = listed-list h l w
 
 -- every step
 
@@ -241,7 +151,7 @@ abbrev pub ListsAgree : Machine → Type 0
 ListsAgree s = (r : ℕ) → IsWell s.world r
 
 listed-way : (s : Machine) (p : ℕ) (old rest : List Op) (d : Done) → Way s p old rest d → KeepsListed s.world d.world
-listed-way s p old rest d (acted h o q z) = rw z (listed-act _ p h o s.world refl)
+listed-way s p old rest d (acted h o q z) = rw z (listed-deed s.world o _ (deed-act p h o s.world))
 listed-way s p old rest d (reacted o u a q z) =
     rw z (still s.world (react p o u s.world).world (counts-react 0 p o u s.world a).hull)
 listed-way s p old rest d (called c q r n z) =

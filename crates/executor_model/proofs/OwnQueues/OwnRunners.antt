@@ -1,3 +1,4 @@
+-- For own_queues_agree.
 -- What stands in a run's own queue belongs to a run in its poll or its drop, or to one whose last poll called its own
 -- waker.
 use Rattle.std.proofs.Common.{◌≡◌, ◌≢◌, ◌⊎◌, ◌∙◌, ℕ, ◌+◌, ◌<◌, ◌≤◌, List, [], ◌∷◌, ◌++◌, length, set}
@@ -31,21 +32,21 @@ use Rattle.executor_model.specs.Steps.{start, top, waker_of, with_future}
 use Rattle.executor_model.specs.Trace.{Trace}
 use Rattle.executor_model.specs.Weights.{same, weigh, weigh_all}
 use Rattle.executor_model.specs.World.{World, Stage, New, Listed, Ended, Done, done, log, own_of, run_of}
-use Rattle.executor_model.proofs.Lift.{first-true, good-start, none_refused, set-own, split, unborrowed, unsettled}
-use Rattle.executor_model.proofs.Lift.{weigh_all-idle}
-use Rattle.executor_model.proofs.Lists.{same_cases, weigh_all-below, weigh_all-push}
-use Rattle.executor_model.proofs.OwnCounts.{counts-begun, counts-react}
-use Rattle.executor_model.proofs.OwnRunning.{KeepsRuns, keeps-uses, keeps_of, runs-act, runs-still}
-use Rattle.executor_model.proofs.RunsNaming.{alike-polling, alike-stray, stray, stray-polls, stray_of, strays}
-use Rattle.executor_model.proofs.RunsAside.{Hull}
-use Rattle.executor_model.proofs.RunsCalm.{calm-act, calm-react}
-use Rattle.executor_model.proofs.RunsSeen.{Later, Seen, seen-act, seen-and, seen-later, seen-log, seen-react}
-use Rattle.executor_model.proofs.RunsWatched.{Watched, calls-itself, watched, watched-push}
-use Rattle.executor_model.proofs.Using.{emptying-uses, emptying_of, polling-uses, polling_of}
-use Rattle.executor_model.proofs.UsingWorlds.{is_over_stage}
-use Rattle.executor_model.proofs.UsingSteps.{AllUsed, used-ends, used-moves, used-start}
-use Rattle.executor_model.proofs.Ways.{Way, acted, reacted, called, along}
-use Rattle.executor_model.proofs.Tests.{and-right}
+use Rattle.executor_model.proofs.Steps.Lift.{first-true, good-start, none_refused, set-own, split, unborrowed, unsettled}
+use Rattle.executor_model.proofs.Steps.Lift.{weigh_all-idle}
+use Rattle.executor_model.proofs.Steps.Lists.{same_cases, weigh_all-below, weigh_all-push}
+use Rattle.executor_model.proofs.OwnQueues.OwnCounts.{counts-begun, counts-react}
+use Rattle.executor_model.proofs.OwnQueues.OwnRunning.{KeepsRuns, keeps-uses, keeps_of, runs-act, runs-still}
+use Rattle.executor_model.proofs.OwnQueues.RunsNaming.{polling-parts, stray, stray-polls, stray_of, strays}
+use Rattle.executor_model.proofs.OwnQueues.RunsAside.{Hull}
+use Rattle.executor_model.proofs.OwnQueues.RunsCalm.{calm-act, calm-react}
+use Rattle.executor_model.proofs.OwnQueues.RunsSeen.{Later, Seen, seen-act, seen-and, seen-later, seen-log, seen-react}
+use Rattle.executor_model.proofs.OwnQueues.RunsWatched.{Watched, calls-itself, watched, watched-push}
+use Rattle.executor_model.proofs.OwnQueues.Using.{emptying-uses, emptying_of, polling-uses, polling_of}
+use Rattle.executor_model.proofs.OwnQueues.UsingWorlds.{is_over_stage}
+use Rattle.executor_model.proofs.OwnQueues.UsingSteps.{AllUsed, used-ends, used-moves, used-start}
+use Rattle.executor_model.proofs.Steps.Ways.{Way, acted, reacted, called, along}
+use Rattle.executor_model.proofs.Steps.Tests.{and-right}
 
 record Runner (s : Machine) (r : ℕ) : Type 0 where
   -- each part of a poll of r names its last poll
@@ -346,14 +347,24 @@ runner-moves : (s : Machine) (p : ℕ) (old rest : List Op) (d : Done) → Good 
 runner-moves s p old rest d good l e (acted h o q z) k r =
     let e2 : stack s p ≡ rest ++ reverse (o ∷ []) = subst (λ (os : List Op). stack s p ≡ rest ++ reverse os) q e in
     rw z (moved s p (o ∷ []) rest (act p h o s.world) r l e2 (seen-act r p h o s.world)
-    (omega (arith, calm-act (polling_of r) (λ x. same r x.run) (alike-polling r) p h o s.world))
-    (λ n. omega (arith, calm-act (stray_of r n) (strays r n) (alike-stray r n) p h o s.world))
-    (runs-act _ p h o s.world refl) (k.runner r))
+    (omega (
+      arith,
+      calm-act (λ x. same r x.run) p h o s.world,
+      polling-parts r (act p h o s.world).next,
+      polling-parts r (o ∷ []),
+    ))
+    (λ n. omega (arith, calm-act (strays r n) p h o s.world))
+    (runs-act p h o s.world) (k.runner r))
 runner-moves s p old rest d good l e (reacted o u a q z) k r =
     let e2 : stack s p ≡ rest ++ reverse (o ∷ []) = subst (λ (os : List Op). stack s p ≡ rest ++ reverse os) q e in
     rw z (moved s p (o ∷ []) rest (react p o u s.world) r l e2 (seen-react r p o u s.world a)
-    (omega (arith, calm-react (polling_of r) (λ x. same r x.run) (alike-polling r) p o u s.world a))
-    (λ n. omega (arith, calm-react (stray_of r n) (strays r n) (alike-stray r n) p o u s.world a))
+    (omega (
+      arith,
+      calm-react (λ x. same r x.run) p o u s.world a,
+      polling-parts r (react p o u s.world).next,
+      polling-parts r (o ∷ []),
+    ))
+    (λ n. omega (arith, calm-react (strays r n) p o u s.world a))
     (runs-still s.world (o ∷ []) (react p o u s.world)
     (ap (λ (x : Hull). x.own) (counts-react 0 p o u s.world a).hull) (keeps-react p o u s.world a)) (k.runner r))
 runner-moves s p old rest d good l e (called c q t n z) k r =

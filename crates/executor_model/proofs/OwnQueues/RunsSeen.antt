@@ -1,3 +1,4 @@
+-- For own_queues_agree.
 -- What each thing to do tells of a run's last poll: nothing, but that its waker may be called.
 use Rattle.std.proofs.Common.{◌≡◌, ◌∙◌, ℕ, [], ◌∷◌, ◌++◌, length, Bool, true, false, ◌&&◌, eqb, refl, sym, subst}
 use Rattle.task_moves.specs.declared.moves.owed.Move.TheVariants as move
@@ -13,10 +14,10 @@ use Rattle.executor_model.specs.Doing.{act}
 use Rattle.executor_model.specs.Steps.{accepts, react}
 use Rattle.executor_model.specs.Trace.{Trace, has}
 use Rattle.executor_model.specs.World.{World}
-use Rattle.executor_model.proofs.RunsWatched.{Watched, watched, watched-push, watches}
-use Rattle.executor_model.proofs.TraceGrows.{Allows, Grows, grows-act, grows-react, is_ordinary}
-use Rattle.executor_model.proofs.TraceMore.{over-more}
-use Rattle.executor_model.proofs.Tests.{or-left}
+use Rattle.executor_model.proofs.OwnQueues.RunsWatched.{Watched, watched, watched-push, watches}
+use Rattle.executor_model.proofs.Steps.TraceGrows.{Allows, Grows, grows-act, grows-react, is_ordinary}
+use Rattle.executor_model.proofs.Steps.TraceMore.{over-more}
+use Rattle.executor_model.proofs.Steps.Tests.{or-left}
 
 abbrev pub polls_run : Event → Bool
 polls_run (event.RunPolled p q) = true
@@ -47,8 +48,6 @@ module _ (r : ℕ) where
   mild n (event.RunPolled p q) s z = absurd (cc)
   mild n (event.WakerCalled p (of.Run q) k a) s z =
       record { polled = refl; poll = refl; called = or-left s.called (eqb r q && eqb s.poll k) }
-  mild n (event.WakerCalled p (of.Tick q) k a) s z = same-later s
-  mild n (event.WakerCalled p (of.Handle q) k a) s z = same-later s
   mild n _ s z = same-later s
 
   pub record Seen (w v : World) : Type 0 where

@@ -1,3 +1,4 @@
+-- For own_queues_agree.
 -- What a trace tells of a run's last poll, read from left to right.
 use Rattle.std.proofs.Common.{◌≡◌, ◌⊎◌, ◌∙◌, inl, inr, ⊎_elim, ℕ, zero, suc, ◌+◌, ◌<◌, [], ◌∷◌}
 use Rattle.std.proofs.Common.{◌++◌, length, drop, Bool, true, false, ◌&&◌, ◌||◌, eqb, cond, refl, sym, ap, subst}
@@ -8,7 +9,7 @@ use Rattle.std.specs.Prelude.{Option, Some, slice_get}
 use Rattle.executor_model.specs.declared.event.Event.{Event}
 use Rattle.executor_model.specs.declared.event.Event.TheVariants as event
 use Rattle.executor_model.specs.declared.op.Polled.TheVariants as of
-use Rattle.executor_model.specs.declared.op.Sleeper.TheVariants as sleeper
+use Rattle.executor_model.specs.declared.op.TickOrRun.TheVariants as tick_or_run
 use Rattle.executor_model.specs.declared.op.Waker.{Waker}
 use Rattle.executor_model.specs.AwaiterKept.{since}
 use Rattle.executor_model.specs.Standing.{CallsItself, calls_poll, polls_sleeper}
@@ -58,8 +59,8 @@ watched-none r = refl
 record Reads (r : ℕ) (es : Trace) (s : Watched) : Type 0 where
   pub within : s.polled ≡ true → s.poll < length es
   pub polled : s.polled ≡ true → slice_get es s.poll ≡ Some (event.RunPolled s.party r)
-  pub last : s.polled ≡ true → has (polls_sleeper (sleeper.Run r)) (since s.poll es) ≡ false
-  pub called : s.polled ≡ true → s.called ≡ true → has (calls_poll (sleeper.Run r) s.poll) (since s.poll es) ≡ true
+  pub last : s.polled ≡ true → has (polls_sleeper (tick_or_run.Run r)) (since s.poll es) ≡ false
+  pub called : s.polled ≡ true → s.called ≡ true → has (calls_poll (tick_or_run.Run r) s.poll) (since s.poll es) ≡ true
 
 get-old : (es : Trace) (k : ℕ) (x : Event) → k < length es → slice_get (es ++ x ∷ []) k ≡ slice_get es k
 get-old [] k x h = absurd (omega (arith, h))
@@ -101,19 +102,19 @@ has-push test (e ∷ es) x = ap (λ (b : Bool). test e || b) (has-push test es x
     by false b c = refl
 
 -- an event that is no poll of it
-reads-more : (r : ℕ) (es : Trace) (e : Event) (s : Watched) (c : Bool) → polls_sleeper (sleeper.Run r) e ≡ false →
-    (c ≡ true → (s.called ≡ true) ⊎ (calls_poll (sleeper.Run r) s.poll e ≡ true)) → Reads r es s →
+reads-more : (r : ℕ) (es : Trace) (e : Event) (s : Watched) (c : Bool) → polls_sleeper (tick_or_run.Run r) e ≡ false →
+    (c ≡ true → (s.called ≡ true) ⊎ (calls_poll (tick_or_run.Run r) s.poll e ≡ true)) → Reads r es s →
     Reads r (es ++ e ∷ []) (record s { called = c })
 reads-more r es e s c n k h = record {
   within = λ p. omega (arith, h.within p, length-append es (e ∷ []));
   polled = λ p. get-old es s.poll e (h.within p) ∙ h.polled p;
-  last = λ p. ap (has (polls_sleeper (sleeper.Run r))) (since-old es s.poll e (h.within p))
-      ∙ has-push (polls_sleeper (sleeper.Run r)) (since s.poll es) e
+  last = λ p. ap (has (polls_sleeper (tick_or_run.Run r))) (since-old es s.poll e (h.within p))
+      ∙ has-push (polls_sleeper (tick_or_run.Run r)) (since s.poll es) e
       ∙ neither _ _ (h.last p) n;
-  called = λ p q. ap (has (calls_poll (sleeper.Run r) s.poll)) (since-old es s.poll e (h.within p))
-      ∙ has-push (calls_poll (sleeper.Run r) s.poll) (since s.poll es) e
+  called = λ p q. ap (has (calls_poll (tick_or_run.Run r) s.poll)) (since-old es s.poll e (h.within p))
+      ∙ has-push (calls_poll (tick_or_run.Run r) s.poll) (since s.poll es) e
       ∙ ⊎_elim (λ (z : s.called ≡ true). either _ _ (inl (h.called p z)))
-      (λ (z : calls_poll (sleeper.Run r) s.poll e ≡ true). either _ _ (inr z)) (k q);
+      (λ (z : calls_poll (tick_or_run.Run r) s.poll e ≡ true). either _ _ (inr z)) (k q);
 }
   where
     neither : (a b : Bool) → a ≡ false → b ≡ false → (a || b) ≡ false
@@ -132,12 +133,12 @@ reads-polled r es p q s e =
       within = λ z. omega (arith, length-append es (event.RunPolled p q ∷ []));
       polled = λ z. get-new es (event.RunPolled p q) ∙
           ap (λ (k : ℕ). let o : Option Event = Some (event.RunPolled p k) in o) (sym i);
-      last = λ z. ap (has (polls_sleeper (sleeper.Run r))) (since-new es (event.RunPolled p q));
+      last = λ z. ap (has (polls_sleeper (tick_or_run.Run r))) (since-new es (event.RunPolled p q));
       called = λ z c. let no : false ≡ true = c in absurd (cc);
     }
 
 -- an event that is nothing to it
-reads-other : (r : ℕ) (es : Trace) (e : Event) (s : Watched) → polls_sleeper (sleeper.Run r) e ≡ false → Reads r es s →
+reads-other : (r : ℕ) (es : Trace) (e : Event) (s : Watched) → polls_sleeper (tick_or_run.Run r) e ≡ false → Reads r es s →
     Reads r (es ++ e ∷ []) s
 reads-other r es e s n h = reads-more r es e s s.called n (λ q. inl q) h
 

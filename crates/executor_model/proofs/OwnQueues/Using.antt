@@ -1,3 +1,4 @@
+-- For own_queues_agree and awaiters_are_kept.
 -- Which run a thing to do is for, whether it is a part of a poll of that, and whether it empties its own queue. What
 -- uses no run leads to nothing that does.
 use Rattle.std.proofs.Common.{◌≡◌, ◌≤◌, ℕ, List, [], ◌∷◌, ◌++◌, length, Bool, true, false}
@@ -23,8 +24,8 @@ use Rattle.executor_model.specs.declared.op.RunOp.{RunOp}
 use Rattle.executor_model.specs.declared.op.RunOp.TheVariants as run_op
 use Rattle.executor_model.specs.declared.op.Section.{Section}
 use Rattle.executor_model.specs.declared.op.Section.TheVariants as section
-use Rattle.executor_model.specs.declared.op.Sleeper.{Sleeper}
-use Rattle.executor_model.specs.declared.op.Sleeper.TheVariants as sleeper
+use Rattle.executor_model.specs.declared.op.TickOrRun.{TickOrRun}
+use Rattle.executor_model.specs.declared.op.TickOrRun.TheVariants as tick_or_run
 use Rattle.executor_model.specs.declared.op.SleeperOp.TheVariants as sleeper_op
 use Rattle.executor_model.specs.declared.op.StealOp.TheVariants as steal_op
 use Rattle.executor_model.specs.declared.op.TableOp.TheVariants as table_op
@@ -41,10 +42,10 @@ use Rattle.executor_model.specs.Rows.{running_of}
 use Rattle.executor_model.specs.Weights.{same, weigh, holds_run, is_run}
 use Rattle.executor_model.specs.World.{World}
 use Rattle.executor_model.specs.World.{task, awaiter_of}
-use Rattle.executor_model.proofs.Asides.{Aside, aside-awaiter, aside-let_go}
-use Rattle.executor_model.proofs.Calls.{calling_of}
-use Rattle.executor_model.proofs.CallsGroups.{calls-act}
-use Rattle.executor_model.proofs.Lists.{same_is, weigh-append, weigh-below}
+use Rattle.executor_model.proofs.Steps.Asides.{Aside, aside-awaiter, aside-let_go}
+use Rattle.executor_model.proofs.Quiet.Calls.{calling_of}
+use Rattle.executor_model.proofs.Quiet.CallsGroups.{calls-act}
+use Rattle.executor_model.proofs.Steps.Lists.{same_is, weigh-append, weigh-below}
 
 -- a part of run r's poll, and of what empties its own queue
 
@@ -68,7 +69,7 @@ polling_run r _ = 0
 abbrev pub polling_of : ℕ → Op → ℕ
 polling_of r (op.Tick (tick_op.Search s)) = is_run r s.who
 polling_of r (op.Tick (tick_op.CopyWaker s)) = is_run r s.who
-polling_of r (op.Tick (tick_op.LieDown s)) = is_run r s.who
+polling_of r (op.Tick (tick_op.FallAsleep s)) = is_run r s.who
 polling_of r (op.User (user_op.PollOwn x)) = same r x.run
 polling_of r (op.List o) = polling_list r o
 polling_of r (op.Steal (steal_op.Length s)) = same r s.poll.run
@@ -98,7 +99,7 @@ lending_of r _ = 0
 abbrev pub is_for_runs : Op → Bool
 is_for_runs (op.Tick (tick_op.Search s)) = true
 is_for_runs (op.Tick (tick_op.CopyWaker s)) = true
-is_for_runs (op.Tick (tick_op.LieDown s)) = true
+is_for_runs (op.Tick (tick_op.FallAsleep s)) = true
 is_for_runs (op.User (user_op.PollOwn x)) = true
 is_for_runs (op.Waker (waker_op.CopyWaker f held)) = true
 is_for_runs (op.List o) = true
@@ -122,9 +123,9 @@ holds-few : (r : ℕ) (h : Hold) → holds_run r h ≤ 1
 holds-few r (hold.Run q) = same-few r q
 holds-few r _ = omega arith
 
-is-few : (r : ℕ) (who : Sleeper) → is_run r who ≤ 1
-is-few r (sleeper.Tick t) = omega arith
-is-few r (sleeper.Run q) = same-few r q
+is-few : (r : ℕ) (who : TickOrRun) → is_run r who ≤ 1
+is-few r (tick_or_run.Tick t) = omega arith
+is-few r (tick_or_run.Run q) = same-few r q
 
 section-few : (r : ℕ) (s : Section) → running_of r (op.List (list_op.Write s)) ≤ 1
 section-few r section.MakeRun = omega arith
@@ -141,18 +142,14 @@ running-few r (op.Handle (handle_op.LookAgain f)) = omega arith
 running-few r (op.Sleeper sleeper_op.HandOut) = omega arith
 running-few r (op.Tick (tick_op.Search s)) = is-few r s.who
 running-few r (op.Tick (tick_op.CopyWaker s)) = is-few r s.who
-running-few r (op.Tick (tick_op.LieDown s)) = is-few r s.who
+running-few r (op.Tick (tick_op.FallAsleep s)) = is-few r s.who
 running-few r (op.List (list_op.LockWrite s)) = section-few r s
 running-few r (op.List (list_op.Write s)) = section-few r s
-running-few r (op.List list_op.UnlockWrite) = omega arith
 running-few r (op.List (list_op.LockRead x)) = same-few r x.run
-running-few r (op.List list_op.UnlockRead) = omega arith
 running-few r (op.Steal (steal_op.Length s)) = same-few r s.poll.run
 running-few r (op.Steal (steal_op.OwnLength s n)) = same-few r s.poll.run
 running-few r (op.Steal (steal_op.Take s more)) = same-few r s.poll.run
 running-few r (op.Steal (steal_op.Put s more f)) = same-few r s.poll.run
-running-few r (op.Run run_op.MakeRoom) = omega arith
-running-few r (op.Run run_op.ReturnRoom) = omega arith
 running-few r (op.Run (run_op.SearchCommon x)) = same-few r x.run
 running-few r (op.Run (run_op.LookOwn x at left)) = same-few r x.run
 running-few r (op.Run (run_op.WakeOwn x)) = same-few r x.run
@@ -163,32 +160,16 @@ running-few r _ = omega arith
 
 pub polling-uses : (r : ℕ) (o : Op) → polling_of r o ≤ running_of r o
 polling-uses r (op.Tick (tick_op.Search s)) = omega arith
-polling-uses r (op.Tick (tick_op.CopyWaker s)) = omega arith
-polling-uses r (op.Tick (tick_op.LieDown s)) = omega arith
 polling-uses r (op.User (user_op.PollOwn x)) = omega arith
 polling-uses r (op.List (list_op.LockWrite section.MakeRun)) = omega arith
-polling-uses r (op.List (list_op.LockWrite (section.Register x))) = omega arith
-polling-uses r (op.List (list_op.LockWrite (section.Unregister q a))) = omega arith
 polling-uses r (op.List (list_op.Write section.MakeRun)) = omega arith
-polling-uses r (op.List (list_op.Write (section.Register x))) = omega arith
-polling-uses r (op.List (list_op.Write (section.Unregister q a))) = omega arith
-polling-uses r (op.List (list_op.LockRead x)) = omega arith
 polling-uses r (op.Steal (steal_op.Length s)) = omega arith
-polling-uses r (op.Steal (steal_op.OwnLength s n)) = omega arith
-polling-uses r (op.Steal (steal_op.Take s more)) = omega arith
-polling-uses r (op.Steal (steal_op.Put s more f)) = omega arith
 polling-uses r (op.Run (run_op.SearchCommon x)) = omega arith
-polling-uses r (op.Run (run_op.LookOwn x at left)) = omega arith
-polling-uses r (op.Run (run_op.WakeOwn x)) = omega arith
 polling-uses r _ = omega arith
 
 pub emptying-uses : (r : ℕ) (o : Op) → emptying_of r o ≤ running_of r o
 emptying-uses r (op.List (list_op.LockWrite section.MakeRun)) = omega arith
-emptying-uses r (op.List (list_op.LockWrite (section.Register x))) = omega arith
-emptying-uses r (op.List (list_op.LockWrite (section.Unregister q a))) = omega arith
 emptying-uses r (op.List (list_op.Write section.MakeRun)) = omega arith
-emptying-uses r (op.List (list_op.Write (section.Register x))) = omega arith
-emptying-uses r (op.List (list_op.Write (section.Unregister q a))) = omega arith
 emptying-uses r (op.Run (run_op.Reschedule q a)) = omega arith
 emptying-uses r _ = omega arith
 
@@ -318,7 +299,7 @@ module _ (v : Op → ℕ) (m : Mild v) where
   mild-next p h (op.Tick tick_op.MakeTick) w n = mild-make h.refused w
   mild-next p h (op.Tick (tick_op.Search s)) w n = absurd (cc)
   mild-next p h (op.Tick (tick_op.CopyWaker s)) w n = absurd (cc)
-  mild-next p h (op.Tick (tick_op.LieDown s)) w n = absurd (cc)
+  mild-next p h (op.Tick (tick_op.FallAsleep s)) w n = absurd (cc)
   mild-next p h (op.User (user_op.PollOwn x)) w n = absurd (cc)
   mild-next p h (op.Waker (waker_op.CopyWaker f held)) w n = absurd (cc)
   mild-next p h (op.List o) w n = absurd (cc)

@@ -1,3 +1,4 @@
+-- For own_queues_agree and awaiters_are_kept.
 -- Each thing that is done keeps it that a run is in one call at most, and that its own queue is emptied.
 use Rattle.std.proofs.Common.{◌≡◌, ◌≢◌, ℕ, zero, suc, eqb, ◌+◌, ◌≤◌, List, [], ◌∷◌, ◌++◌, length, set, get_or}
 use Rattle.std.proofs.Common.{Bool, true, false, ◌||◌, ltb}
@@ -20,8 +21,8 @@ use Rattle.executor_model.specs.declared.op.RunOp.TheVariants as run_op
 use Rattle.executor_model.specs.declared.op.RunPoll.{RunPoll}
 use Rattle.executor_model.specs.declared.op.Section.{Section}
 use Rattle.executor_model.specs.declared.op.Section.TheVariants as section
-use Rattle.executor_model.specs.declared.op.Sleeper.{Sleeper}
-use Rattle.executor_model.specs.declared.op.Sleeper.TheVariants as sleeper
+use Rattle.executor_model.specs.declared.op.TickOrRun.{TickOrRun}
+use Rattle.executor_model.specs.declared.op.TickOrRun.TheVariants as tick_or_run
 use Rattle.executor_model.specs.declared.op.SleeperOp.TheVariants as sleeper_op
 use Rattle.executor_model.specs.declared.op.Sleeping.{Sleeping}
 use Rattle.executor_model.specs.declared.op.Steal.{Steal}
@@ -36,8 +37,8 @@ use Rattle.executor_model.specs.declared.step.Hint.{Hint}
 use Rattle.task_moves.specs.Moves as moves
 use Rattle.task_moves.specs.declared.moves.owed.Move.TheVariants as move
 use Rattle.executor_model.specs.Acts.{copy_by}
-use Rattle.executor_model.specs.ActsOfSleepers.{copy_sleeper_by, held_as, lie_again_by, lie_anew_by, lie_down_by}
-use Rattle.executor_model.specs.ActsOfSleepers.{lie_listed_by}
+use Rattle.executor_model.specs.ActsOfSleepers.{copy_sleeper_by, held_as, sleep_again_by, sleep_anew_by, fall_asleep_by}
+use Rattle.executor_model.specs.ActsOfSleepers.{sleep_listed_by}
 use Rattle.executor_model.specs.ActsOfSleepers.{pend_as, search_by, sleeper_goes}
 use Rattle.executor_model.specs.ActsOfRuns.{call_by_reference, free_places, kept_by, make_room_by, make_run_by}
 use Rattle.executor_model.specs.ActsOfRuns.{registered}
@@ -45,35 +46,32 @@ use Rattle.executor_model.specs.ActsOfRuns.{reschedule_by, search_own, steal_by,
 use Rattle.executor_model.specs.Doing.{act, list_act, run_act, search_by_who, steal_act}
 use Rattle.executor_model.specs.Rows.{borrowing_of, running_of}
 use Rattle.executor_model.specs.Weights.{same, weigh, holds_run, is_run}
-use Rattle.executor_model.specs.World.{World, Place, Up, Lies, Left, Run, Stage, New, Listed, Ended, done, no_run}
+use Rattle.executor_model.specs.World.{World, Ticker, Awake, Asleep, Left, Run, Stage, New, Listed, Ended, done, no_run}
 use Rattle.executor_model.specs.World.{new_run}
 use Rattle.executor_model.specs.World.{log, own_of, run_of, task}
-use Rattle.executor_model.proofs.Asides.{aside-owed}
-use Rattle.executor_model.proofs.Lists.{same_cases, weigh-append}
-use Rattle.executor_model.proofs.SleepersNext.{goes-unseen}
-use Rattle.executor_model.proofs.UsingRuns.{part-common, part-look, part-own, part-steal, part-walk, poll_in, is_put}
-use Rattle.executor_model.proofs.UsingRuns.{lessens-look, lessens-own, lessens-steal, first-taken, idle-common}
-use Rattle.executor_model.proofs.UsingRuns.{idle-more, idle-stolen}
-use Rattle.executor_model.proofs.Using.{Mild, emptying_of, is_for_runs, lending_of, mild-aside}
-use Rattle.executor_model.proofs.Using.{mild-lending, mild-none, mild-polling, mild-running, polling_of}
-use Rattle.executor_model.proofs.UsingWorlds.{Idle, count-set, idle, idle-act, idle-copy, idle-copy_sleeper}
-use Rattle.executor_model.proofs.UsingWorlds.{idle-lie, idle-move, idle-search, is_over_stage, is_past, past-set}
-use Rattle.executor_model.proofs.UsingKeeps.{KeepsUsed, Within, used-here, used-idle, used-stays, within-act}
-use Rattle.executor_model.proofs.UsingKeeps.{within-part}
+use Rattle.executor_model.proofs.Steps.Asides.{aside-owed}
+use Rattle.executor_model.proofs.Steps.Lists.{same_cases, weigh-append}
+use Rattle.executor_model.proofs.Steps.SleepersNext.{goes-unseen}
+use Rattle.executor_model.proofs.OwnQueues.UsingRuns.{part-common, part-look, part-own, part-steal, part-walk}
+use Rattle.executor_model.proofs.OwnQueues.RunsDone.{poll_in}
+use Rattle.executor_model.proofs.OwnQueues.UsingRuns.{Lessens, lessens-act, first-taken, idle-more, idle-stolen}
+use Rattle.executor_model.proofs.OwnQueues.Using.{Mild, emptying_of, is_for_runs, lending_of, mild-aside}
+use Rattle.executor_model.proofs.OwnQueues.Using.{mild-lending, mild-none, mild-polling, mild-running, polling_of}
+use Rattle.executor_model.proofs.OwnQueues.UsingWorlds.{Idle, count-set, idle, idle-act, idle-copy, idle-copy_sleeper}
+use Rattle.executor_model.proofs.Steps.Lift.{no_hint}
+use Rattle.executor_model.proofs.OwnQueues.UsingWorlds.{idle-sleep, is_over_stage, is_past, past-set}
+use Rattle.executor_model.proofs.OwnQueues.UsingKeeps.{KeepsUsed, Within, used-here, used-idle, used-stays, within-act}
+use Rattle.executor_model.proofs.OwnQueues.UsingKeeps.{within-part}
 
 -- stealing
 
 running-steal : (r : ℕ) (o : StealOp) → running_of r (op.Steal o) ≡ same r (poll_in o).run
 running-steal r (steal_op.Length s) = refl
-running-steal r (steal_op.OwnLength s n) = refl
-running-steal r (steal_op.Take s more) = refl
-running-steal r (steal_op.Put s more f) = refl
+running-steal r _ = refl
 
 polling-steal : (r : ℕ) (o : StealOp) → polling_of r (op.Steal o) ≡ same r (poll_in o).run
 polling-steal r (steal_op.Length s) = refl
-polling-steal r (steal_op.OwnLength s n) = refl
-polling-steal r (steal_op.Take s more) = refl
-polling-steal r (steal_op.Put s more f) = refl
+polling-steal r _ = refl
 
 within-steal : (r p : ℕ) (o : StealOp) (w : World) → Within r (op.Steal o ∷ []) (steal_act p o w).next
 within-steal r p o w = within-part r (poll_in o) (op.Steal o) (steal_act p o w).next (running-steal r o)
@@ -102,41 +100,41 @@ used-put false p w s more f e =
     (λ r. subst (λ (c : Bool). Within r (op.Steal (steal_op.Put s more f) ∷ []) (steal_put_by c p w s more f).next) e
     (within-steal r p (steal_op.Put s more f) w))
 
-used-steal-by : (b : Bool) (p : ℕ) (o : StealOp) (w : World) → is_put o ≡ b → KeepsUsed w (op.Steal o ∷ [])
-    (steal_act p o w)
-used-steal-by false p o w n =
-    used-stays w (op.Steal o ∷ []) (steal_act p o w) (lessens-steal p o w n) (λ r. within-steal r p o w)
-used-steal-by true p (steal_op.Put s more f) w n = used-put _ p w s more f refl
-used-steal-by true p _ w n = absurd (cc)
+used-steal : (p : ℕ) (o : StealOp) (w : World) → KeepsUsed w (op.Steal o ∷ []) (steal_act p o w)
+used-steal p (steal_op.Put s more f) w = used-put _ p w s more f refl
+used-steal p o w =
+    used-stays w (op.Steal o ∷ []) (steal_act p o w) (lessens-act p no_hint (op.Steal o) w refl)
+    (λ r. within-steal r p o w)
 
 -- searching
 
-held-uses : (r : ℕ) (who : Sleeper) → holds_run r (held_as who) ≡ is_run r who
-held-uses r (sleeper.Tick t) = refl
-held-uses r (sleeper.Run q) = refl
+held-uses : (r : ℕ) (who : TickOrRun) → holds_run r (held_as who) ≡ is_run r who
+held-uses r (tick_or_run.Tick t) = refl
+held-uses r (tick_or_run.Run q) = refl
 
-within-found : (r : ℕ) (x : Place) (w : World) (q : List ℕ) (s : Sleeping) →
+within-found : (r : ℕ) (x : Ticker) (w : World) (q : List ℕ) (s : Sleeping) →
     Within r (op.Tick (tick_op.Search s) ∷ []) (search_by x w q s).next
 within-found r x w [] s = record { uses = omega arith; polls = omega arith; empties = omega arith; lends = refl }
-within-found r Up w (f ∷ rest) s = let z = held-uses r s.who in
+within-found r Awake w (f ∷ rest) s = let z = held-uses r s.who in
     record { uses = omega (arith, z); polls = omega arith; empties = omega arith; lends = refl }
-within-found r (Lies n) w (f ∷ rest) s = let z = held-uses r s.who in
+within-found r (Asleep n) w (f ∷ rest) s = let z = held-uses r s.who in
     record { uses = omega (arith, z); polls = omega arith; empties = omega arith; lends = refl }
 within-found r Left w (f ∷ rest) s = let z = held-uses r s.who in
     record { uses = omega (arith, z); polls = omega arith; empties = omega arith; lends = refl }
 
-used-search : (who : Sleeper) (w : World) (s : Sleeping) → s.who ≡ who →
+used-search : (who : TickOrRun) (w : World) (s : Sleeping) → s.who ≡ who →
+    Lessens w (search_by_who who w s).world →
     KeepsUsed w (op.Tick (tick_op.Search s) ∷ []) (search_by_who who w s)
-used-search (sleeper.Tick t) w s e =
-    used-idle w (op.Tick (tick_op.Search s) ∷ []) (search_by_who (sleeper.Tick t) w s) (idle-search _ w _ s)
+used-search (tick_or_run.Tick t) w s e k =
+    used-stays w (op.Tick (tick_op.Search s) ∷ []) (search_by_who (tick_or_run.Tick t) w s) k
     (λ r. within-found r _ w _ s)
-used-search (sleeper.Run q) w s e =
+used-search (tick_or_run.Run q) w s e k =
     let x : RunPoll = record { run = q; waker = s.waker; poll = s.poll } in
-    used-stays w (op.Tick (tick_op.Search s) ∷ []) (search_own w x) (lessens-own _ w x refl)
+    used-stays w (op.Tick (tick_op.Search s) ∷ []) (search_own w x) k
     (λ r. within-part r x (op.Tick (tick_op.Search s)) (search_own w x).next (ap (is_run r) e) (ap (is_run r) e) refl
     (λ v n m c. part-own v m x n c _ w))
 
--- lying down
+-- falling asleep
 
 within-copy : (r : ℕ) (b : Bool) (w : World) (s : Sleeping) →
     Within r (op.Tick (tick_op.CopyWaker s) ∷ []) (copy_sleeper_by b w s).next
@@ -147,20 +145,20 @@ within-copy r false w s = record { uses = omega arith; polls = omega arith; empt
 -- by a count of at most n for a search and for the poll's end
 module _ (v : Op → ℕ) (m : Mild v) (n : ℕ) (s : Sleeping) (search : v (op.Tick (tick_op.Search s)) ≤ n)
     (end : v (op.End reply.Pending (held_as s.who)) ≤ n) where
-  lie-nowhere : weigh v (op.Sleeper (sleeper_op.CallSleeper s) ∷ pend_as s.who) ≤ n
-  lie-nowhere = omega (arith, mild-none v m (op.Sleeper (sleeper_op.CallSleeper s)) refl, end)
+  sleep-nowhere : weigh v (op.Sleeper (sleeper_op.CallSleeper s) ∷ pend_as s.who) ≤ n
+  sleep-nowhere = omega (arith, mild-none v m (op.Sleeper (sleeper_op.CallSleeper s)) refl, end)
 
-  lie-anew : (b : Bool) (w : World) → weigh v (lie_anew_by b w s).next ≤ n
-  lie-anew true w = omega (arith, search)
-  lie-anew false w = lie-nowhere
+  sleep-anew : (b : Bool) (w : World) → weigh v (sleep_anew_by b w s).next ≤ n
+  sleep-anew true w = omega (arith, search)
+  sleep-anew false w = sleep-nowhere
 
-  lie-listed : (b : Bool) (w : World) (k : ℕ) → weigh v (lie_listed_by b w k s).next ≤ n
-  lie-listed true w k = omega (arith, search)
-  lie-listed false w k = lie-nowhere
+  sleep-listed : (b : Bool) (w : World) (k : ℕ) → weigh v (sleep_listed_by b w k s).next ≤ n
+  sleep-listed true w k = omega (arith, search)
+  sleep-listed false w k = sleep-nowhere
 
-  lie-again : (o : Option ℕ) (w : World) (k : ℕ) → weigh v (lie_again_by o w k s).next ≤ n
-  lie-again None w k = lie-listed _ w k
-  lie-again (Some at) w k = let old = waker_at (Some at) w.sleepers.wakers in
+  sleep-again : (o : Option ℕ) (w : World) (k : ℕ) → weigh v (sleep_again_by o w k s).next ≤ n
+  sleep-again None w k = sleep-listed _ w k
+  sleep-again (Some at) w k = let old = waker_at (Some at) w.sleepers.wakers in
       omega (
         arith,
         weigh-append v (sleeper_goes old) (pend_as s.who),
@@ -168,22 +166,22 @@ module _ (v : Op → ℕ) (m : Mild v) (n : ℕ) (s : Sleeping) (search : v (op.
         end,
       )
 
-  lie-few : (x : Place) (w : World) → weigh v (lie_down_by x w s).next ≤ n
-  lie-few Up w = lie-anew _ w
-  lie-few (Lies k) w = lie-again _ w k
-  lie-few Left w = lie-nowhere
+  sleep-few : (x : Ticker) (w : World) → weigh v (fall_asleep_by x w s).next ≤ n
+  sleep-few Awake w = sleep-anew _ w
+  sleep-few (Asleep k) w = sleep-again _ w k
+  sleep-few Left w = sleep-nowhere
 
-within-lie : (r : ℕ) (x : Place) (w : World) (s : Sleeping) →
-    Within r (op.Tick (tick_op.LieDown s) ∷ []) (lie_down_by x w s).next
-within-lie r x w s = record {
+within-sleep : (r : ℕ) (x : Ticker) (w : World) (s : Sleeping) →
+    Within r (op.Tick (tick_op.FallAsleep s) ∷ []) (fall_asleep_by x w s).next
+within-sleep r x w s = record {
   uses =
       omega (
         arith,
-        lie-few (running_of r) (mild-running r) (is_run r s.who) s (omega arith) (omega (arith, held-uses r s.who)) x w,
+        sleep-few (running_of r) (mild-running r) (is_run r s.who) s (omega arith) (omega (arith, held-uses r s.who)) x w,
       );
-  polls = omega (arith, lie-few (polling_of r) (mild-polling r) (is_run r s.who) s (omega arith) (omega arith) x w);
+  polls = omega (arith, sleep-few (polling_of r) (mild-polling r) (is_run r s.who) s (omega arith) (omega arith) x w);
   empties = omega arith;
-  lends = omega (arith, lie-few (lending_of r) (mild-lending r) 0 s (omega arith) (omega arith) x w);
+  lends = omega (arith, sleep-few (lending_of r) (mild-lending r) 0 s (omega arith) (omega arith) x w);
 }
 
 -- a waker is copied for a call that uses no run
@@ -352,17 +350,9 @@ used-list h list_op.UnlockRead w g =
 
 -- the other parts of a run's calls
 
-idle-room : (b : Bool) (w : World) → Idle w (make_room_by b w).world
-idle-room true w = idle w _ refl refl refl
-idle-room false w = idle w _ refl refl refl
-
 within-room : (r : ℕ) (b : Bool) (w : World) → Within r (op.Run run_op.MakeRoom ∷ []) (make_room_by b w).next
 within-room r true w = record { uses = omega arith; polls = omega arith; empties = omega arith; lends = refl }
 within-room r false w = record { uses = omega arith; polls = omega arith; empties = omega arith; lends = refl }
-
-idle-by_reference : (p : ℕ) (w : World) (a : Waker) → Idle w (call_by_reference p w a).world
-idle-by_reference p w (Task f) = idle-move true move.WakeByReference p w w f (idle w _ refl refl refl)
-idle-by_reference p w (Outside y) = idle w _ refl refl refl
 
 mild-by_reference : (v : Op → ℕ) → Mild v → (p : ℕ) (w : World) (a : Waker) → weigh v (call_by_reference p w a).next ≡ 0
 mild-by_reference v m p w (Task f) = aside-owed v (mild-aside v m) f _ (moves.wake_by_reference (task w f)).owed
@@ -378,19 +368,6 @@ mild-own v m p w x = omega (
   weigh-append v (call_by_reference p (called p w x) x.waker).next (op.End reply.Pending (hold.Run x.run) ∷ []),
   mild-by_reference v m p (called p w x) x.waker,
 )
-
-used-wake_own : (p : ℕ) (w : World) (x : RunPoll) → KeepsUsed w (op.Run (run_op.WakeOwn x) ∷ []) (wake_own p w x)
-used-wake_own p w x =
-    let i : Idle (called p w x) (call_by_reference p (called p w x) x.waker).world =
-    idle-by_reference p (called p w x) x.waker in
-    used-idle w (op.Run (run_op.WakeOwn x) ∷ []) (wake_own p w x)
-    (record { own = i.own; past = i.past; count = i.count; gone = i.gone })
-    (λ r. record {
-      uses = omega (arith, mild-own (running_of r) (mild-running r) p w x);
-      polls = omega (arith, mild-own (polling_of r) (mild-polling r) p w x);
-      empties = omega arith;
-      lends = mild-own (lending_of r) (mild-lending r) p w x;
-    })
 
 used-reschedule : (own : List ℕ) (w : World) (q : ℕ) (a : Reply) → own_of w q ≡ own →
     KeepsUsed w (op.Run (run_op.Reschedule q a) ∷ []) (reschedule_by own w q a)
@@ -411,25 +388,35 @@ used-reschedule (f ∷ rest) w q a o =
     used-stays w (op.Run (run_op.Reschedule q a) ∷ []) (reschedule_by (f ∷ rest) w q a) (first-taken w q f rest o)
     (λ r. record { uses = omega arith; polls = omega arith; empties = omega arith; lends = refl })
 
+-- the end of a run's drop
+abbrev is_last : RunOp → Bool
+is_last (run_op.Reschedule q a) = true
+is_last _ = false
+
+within-run : (r p : ℕ) (h : Hint) (o : RunOp) (w : World) → is_last o ≡ false →
+    Within r (op.Run o ∷ []) (run_act p h o w).next
+within-run r p h run_op.MakeRoom w n = within-room r h.refused w
+within-run r p h run_op.ReturnRoom w n =
+    record { uses = omega arith; polls = omega arith; empties = omega arith; lends = refl }
+within-run r p h (run_op.SearchCommon x) w n =
+    within-part r x (op.Run (run_op.SearchCommon x)) (run_act p h (run_op.SearchCommon x) w).next refl refl refl
+    (λ v i m c. part-common v m x i c _ w)
+within-run r p h (run_op.LookOwn x at left) w n =
+    within-part r x (op.Run (run_op.LookOwn x at left)) (run_act p h (run_op.LookOwn x at left) w).next refl refl refl
+    (λ v i m c. part-look v m x i c _ w at left)
+within-run r p h (run_op.WakeOwn x) w n = record {
+  uses = omega (arith, mild-own (running_of r) (mild-running r) p w x);
+  polls = omega (arith, mild-own (polling_of r) (mild-polling r) p w x);
+  empties = omega arith;
+  lends = mild-own (lending_of r) (mild-lending r) p w x;
+}
+within-run r p h (run_op.Reschedule q a) w n = absurd (cc)
+
 used-run : (p : ℕ) (h : Hint) (o : RunOp) (w : World) → KeepsUsed w (op.Run o ∷ []) (run_act p h o w)
-used-run p h run_op.MakeRoom w =
-    used-idle w (op.Run run_op.MakeRoom ∷ []) (run_act p h run_op.MakeRoom w) (idle-room h.refused w)
-    (λ r. within-room r h.refused w)
-used-run p h run_op.ReturnRoom w =
-    used-idle w (op.Run run_op.ReturnRoom ∷ []) (run_act p h run_op.ReturnRoom w) (idle w _ refl refl refl)
-    (λ r. record { uses = omega arith; polls = omega arith; empties = omega arith; lends = refl })
-used-run p h (run_op.SearchCommon x) w =
-    used-idle w (op.Run (run_op.SearchCommon x) ∷ []) (run_act p h (run_op.SearchCommon x) w) (idle-common _ w x)
-    (λ r. within-part r x (op.Run (run_op.SearchCommon x)) (run_act p h (run_op.SearchCommon x) w).next refl refl refl
-    (λ v n m c. part-common v m x n c _ w))
-used-run p h (run_op.LookOwn x at left) w =
-    used-stays w (op.Run (run_op.LookOwn x at left) ∷ []) (run_act p h (run_op.LookOwn x at left) w)
-    (lessens-look _ w x at left refl)
-    (λ r. within-part r x (op.Run (run_op.LookOwn x at left))
-    (run_act p h (run_op.LookOwn x at left) w).next refl refl refl
-    (λ v n m c. part-look v m x n c _ w at left))
-used-run p h (run_op.WakeOwn x) w = used-wake_own p w x
 used-run p h (run_op.Reschedule q a) w = used-reschedule _ w q a refl
+used-run p h o w =
+    used-stays w (op.Run o ∷ []) (run_act p h o w) (lessens-act p h (op.Run o) w refl)
+    (λ r. within-run r p h o w refl)
 
 -- each thing that is done
 
@@ -437,20 +424,21 @@ used-act-by : (b : Bool) (p : ℕ) (h : Hint) (o : Op) (w : World) → is_for_ru
     (w.gone ≡ true → borrowing_of o ≡ 0) → KeepsUsed w (o ∷ []) (act p h o w)
 used-act-by false p h o w n g =
     used-idle w (o ∷ []) (act p h o w) (idle-act p h o w n) (λ r. within-act r p h o w n)
-used-act-by true p h (op.Tick (tick_op.Search s)) w n g = used-search s.who w s refl
+used-act-by true p h (op.Tick (tick_op.Search s)) w n g =
+    used-search s.who w s refl (lessens-act p h (op.Tick (tick_op.Search s)) w refl)
 used-act-by true p h (op.Tick (tick_op.CopyWaker s)) w n g =
     used-idle w (op.Tick (tick_op.CopyWaker s) ∷ []) (act p h (op.Tick (tick_op.CopyWaker s)) w)
     (idle-copy_sleeper _ w s)
     (λ r. within-copy r _ w s)
-used-act-by true p h (op.Tick (tick_op.LieDown s)) w n g =
-    used-idle w (op.Tick (tick_op.LieDown s) ∷ []) (act p h (op.Tick (tick_op.LieDown s)) w) (idle-lie _ w s)
-    (λ r. within-lie r _ w s)
+used-act-by true p h (op.Tick (tick_op.FallAsleep s)) w n g =
+    used-idle w (op.Tick (tick_op.FallAsleep s) ∷ []) (act p h (op.Tick (tick_op.FallAsleep s)) w) (idle-sleep _ w s)
+    (λ r. within-sleep r _ w s)
 used-act-by true p h (op.User (user_op.PollOwn x)) w n g =
     used-idle w (op.User (user_op.PollOwn x) ∷ []) (act p h (op.User (user_op.PollOwn x)) w) (idle w _ refl refl refl)
     (λ r. record { uses = omega arith; polls = omega arith; empties = omega arith; lends = refl })
 used-act-by true p h (op.Waker (waker_op.CopyWaker f held)) w n g = used-copy _ w f held
 used-act-by true p h (op.List o) w n g = used-list h o w g
-used-act-by true p h (op.Steal o) w n g = used-steal-by _ p o w refl
+used-act-by true p h (op.Steal o) w n g = used-steal p o w
 used-act-by true p h (op.Run o) w n g = used-run p h o w
 used-act-by true p h (op.End a held) w n g =
     used-idle w (op.End a held ∷ []) (act p h (op.End a held) w) (idle w _ refl refl refl)

@@ -1,3 +1,4 @@
+-- For own_queues_agree and awaiters_are_kept.
 -- The beginning of each call, and what follows user code, keeps it that a run is in one call at most.
 use Rattle.std.proofs.Common.{◌≡◌, ◌≢◌, ◌⊎◌, ℕ, eqb, ltb, ◌+◌, ◌<◌, ◌≤◌, List, [], ◌∷◌, length, set, get_or}
 use Rattle.std.proofs.Common.{Bool, true, false, ◌||◌, not, refl, sym, ap, ◌∙◌, inl, inr, ⊎_elim, arith}
@@ -20,7 +21,7 @@ use Rattle.executor_model.specs.declared.op.Op.TheVariants as op
 use Rattle.executor_model.specs.declared.op.QueueOp.TheVariants as queue_op
 use Rattle.executor_model.specs.declared.op.RunOp.TheVariants as run_op
 use Rattle.executor_model.specs.declared.op.RunPoll.{RunPoll}
-use Rattle.executor_model.specs.declared.op.Sleeper.TheVariants as sleeper
+use Rattle.executor_model.specs.declared.op.TickOrRun.TheVariants as tick_or_run
 use Rattle.executor_model.specs.declared.op.TableOp.TheVariants as table_op
 use Rattle.executor_model.specs.declared.op.TickOp.TheVariants as tick_op
 use Rattle.executor_model.specs.declared.op.UserOp.TheVariants as user_op
@@ -35,10 +36,10 @@ use Rattle.executor_model.specs.Steps.{react, used_up, waker_of, with_future}
 use Rattle.executor_model.specs.Weights.{same, weigh}
 use Rattle.executor_model.specs.World.{World, Run, Stage, New, Listed, Ended, Done, done, log, no_run, own_of}
 use Rattle.executor_model.specs.World.{put_run, run_of}
-use Rattle.executor_model.proofs.Lists.{same_cases}
-use Rattle.executor_model.proofs.Using.{emptying_of, lending_of, polling_of}
-use Rattle.executor_model.proofs.UsingWorlds.{Idle, count-set, idle, is_over_stage, is_past}
-use Rattle.executor_model.proofs.UsingKeeps.{Counts, KeepsUsed, Used, Within, used-here, used-idle, with_counts}
+use Rattle.executor_model.proofs.Steps.Lists.{same_cases}
+use Rattle.executor_model.proofs.OwnQueues.Using.{emptying_of, lending_of, polling_of}
+use Rattle.executor_model.proofs.OwnQueues.UsingWorlds.{Idle, count-set, idle, is_over_stage, is_past}
+use Rattle.executor_model.proofs.OwnQueues.UsingKeeps.{Counts, KeepsUsed, Used, Within, used-here, used-idle, with_counts}
 
 -- the end of user code
 
@@ -317,11 +318,11 @@ used-begun p w here (call.PollTick t y) r x a b f =
     let v : World = log w (event.CallBegun p (call.PollTick t y)) in
     used-other w (log v (event.TickPolled p t))
     (op.Tick (tick_op.Search
-    (record { waker = waker_of here y; who = sleeper.Tick t; poll = length v.trace })) ∷ []) refl refl refl
+    (record { waker = waker_of here y; who = tick_or_run.Tick t; poll = length v.trace })) ∷ []) refl refl refl
     (λ q. record { uses = omega arith; polls = omega arith; empties = omega arith; lends = refl }) r x a b
 used-begun p w here (call.DropTick t) r x a b f =
     used-other w (log (log w (event.CallBegun p (call.DropTick t))) (event.TickDropped p t))
-    (op.Tick (tick_op.Leave (sleeper.Tick t)) ∷ op.End reply.Done (hold.Tick t) ∷ []) refl refl refl
+    (op.Tick (tick_op.Leave (tick_or_run.Tick t)) ∷ op.End reply.Done (hold.Tick t) ∷ []) refl refl refl
     (λ q. record { uses = omega arith; polls = omega arith; empties = omega arith; lends = refl }) r x a b
 used-begun p w here call.NewRun r x a b f =
     used-other w (log w (event.CallBegun p call.NewRun)) (op.Run run_op.MakeRoom ∷ []) refl refl refl

@@ -1,3 +1,4 @@
+-- For own_queues_agree and awaiters_are_kept.
 -- A run is in one call at most, and nobody polls it any more once it is ready or dropped; what stands then in its own
 -- queue is on its way to the executor's.
 use Rattle.std.proofs.Common.{◌≡◌, ◌⊎◌, ℕ, ◌+◌, ◌≤◌, List, [], ◌∷◌, length, true, false}
@@ -11,12 +12,12 @@ use Rattle.executor_model.specs.Rows.{running_of}
 use Rattle.executor_model.specs.Weights.{same, weigh, weigh_all}
 use Rattle.executor_model.specs.World.{World, Done}
 use Rattle.executor_model.specs.World.{own_of, run_of}
-use Rattle.executor_model.proofs.UsingRuns.{Part}
-use Rattle.executor_model.proofs.UsingRuns.{Lessens, lessens}
-use Rattle.executor_model.proofs.Using.{Mild, emptying_of, is_for_runs, lending_of}
-use Rattle.executor_model.proofs.Using.{mild-lending, mild-next, mild-polling, mild-running, polling_of}
-use Rattle.executor_model.proofs.UsingWorlds.{Idle}
-use Rattle.executor_model.proofs.UsingWorlds.{is_past}
+use Rattle.executor_model.proofs.OwnQueues.UsingRuns.{Part}
+use Rattle.executor_model.proofs.OwnQueues.UsingRuns.{Lessens, lessens}
+use Rattle.executor_model.proofs.OwnQueues.Using.{Mild, emptying_of, is_for_runs, lending_of}
+use Rattle.executor_model.proofs.OwnQueues.Using.{mild-lending, mild-next, mild-polling, mild-running, polling_of}
+use Rattle.executor_model.proofs.OwnQueues.UsingWorlds.{Idle}
+use Rattle.executor_model.proofs.OwnQueues.UsingWorlds.{is_past}
 
 pub record Counts : Type 0 where
   pub uses : ℕ

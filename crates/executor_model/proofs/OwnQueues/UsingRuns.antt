@@ -1,15 +1,17 @@
+-- For own_queues_agree and awaiters_are_kept.
 -- What a part of a run's poll leads to, counted by a count that sees each part of it alike.
 use Rattle.std.proofs.Common.{◌≡◌, ℕ, zero, suc, ◌+◌, List, [], ◌∷◌, length, set, get_or, Bool, true, false, eqb}
 use Rattle.std.proofs.Common.{refl, ap, ◌∙◌, arith}
 use Rattle.task_moves.specs.declared.moves.owed.Move.TheVariants as move
+use Rattle.executor_model.specs.declared.op.ListOp.{ListOp}
 use Rattle.executor_model.specs.declared.op.ListOp.TheVariants as list_op
 use Rattle.executor_model.specs.declared.op.Op.{Op}
 use Rattle.executor_model.specs.declared.op.Op.TheVariants as op
 use Rattle.executor_model.specs.declared.op.QueueOp.TheVariants as queue_op
 use Rattle.executor_model.specs.declared.op.RunOp.TheVariants as run_op
 use Rattle.executor_model.specs.declared.op.RunPoll.{RunPoll}
-use Rattle.executor_model.specs.declared.op.Sleeper.{Sleeper}
-use Rattle.executor_model.specs.declared.op.Sleeper.TheVariants as sleeper
+use Rattle.executor_model.specs.declared.op.TickOrRun.{TickOrRun}
+use Rattle.executor_model.specs.declared.op.TickOrRun.TheVariants as tick_or_run
 use Rattle.executor_model.specs.declared.op.SleeperOp.TheVariants as sleeper_op
 use Rattle.executor_model.specs.declared.op.Source.{Source}
 use Rattle.executor_model.specs.declared.op.Source.TheVariants.{Common, Own}
@@ -20,17 +22,21 @@ use Rattle.executor_model.specs.declared.op.Then.{Then}
 use Rattle.executor_model.specs.declared.op.Then.TheVariants as then
 use Rattle.executor_model.specs.declared.op.TickOp.TheVariants as tick_op
 use Rattle.executor_model.specs.ActsOfSleepers.{found_by}
-use Rattle.executor_model.specs.ActsOfRuns.{asleep, counted_by, counted_to, found, kept_by, look_own_by, next_place}
+use Rattle.executor_model.specs.ActsOfRuns.{asleep, counted_by, found, kept_by, look_own_by, next_place}
 use Rattle.executor_model.specs.ActsOfRuns.{queue_at, run_by}
-use Rattle.executor_model.specs.ActsOfRuns.{search_common_by, search_own_by, source_of, steal_by, steal_length_by}
+use Rattle.executor_model.specs.ActsOfRuns.{search_common_by, search_own_by, steal_by, steal_length_by}
 use Rattle.executor_model.specs.ActsOfRuns.{steal_put_by}
 use Rattle.executor_model.specs.ActsOfRuns.{steal_take_by, stolen, walk}
-use Rattle.executor_model.specs.Doing.{steal_act}
+use Rattle.executor_model.specs.declared.step.Hint.{Hint}
+use Rattle.executor_model.specs.Doing.{act, list_act, steal_act}
 use Rattle.executor_model.specs.Weights.{weigh}
-use Rattle.executor_model.specs.World.{World, Place, Up, Lies, Left, own_of, put_own, run_of}
-use Rattle.executor_model.proofs.Lists.{weigh-append}
-use Rattle.executor_model.proofs.Using.{Mild, mild-none}
-use Rattle.executor_model.proofs.UsingWorlds.{Idle, count-set, idle, idle-and, is_past, past-set}
+use Rattle.executor_model.specs.World.{World, Ticker, Awake, Asleep, Left, Done, own_of, put_own, run_of}
+use Rattle.executor_model.proofs.Steps.Lists.{weigh-append}
+use Rattle.executor_model.proofs.OwnQueues.Using.{Mild, mild-none}
+use Rattle.executor_model.proofs.OwnQueues.RunsDone.{Deed, keeps, takes, lacks, shares, grows, wakes, lists, deed-act, poll_in}
+use Rattle.executor_model.proofs.OwnQueues.RunsAside.{coat}
+use Rattle.executor_model.proofs.OwnQueues.RunsMoving.{coat-common, coat-more, coat-stolen}
+use Rattle.executor_model.proofs.OwnQueues.UsingWorlds.{idle-coat, Idle, idle, is_past}
 
 -- each part of this poll counts n
 pub record Part (v : Op → ℕ) (x : RunPoll) (n : ℕ) : Type 0 where
@@ -58,24 +64,24 @@ module _ (v : Op → ℕ) (m : Mild v) (x : RunPoll) (n : ℕ) (c : Part v x n) 
   part-counted true w f = omega (arith, c.begin Common (then.Run f))
   part-counted false w f = part-run_by _ _ f
 
-  part-rises : (p : Place) (who : Sleeper) →
+  part-wakes_up : (p : Ticker) (who : TickOrRun) →
       weigh v (found_by p who (op.Sleeper sleeper_op.ExchangeFlag ∷ [])) ≡ 0
-  part-rises Up who = omega (arith, mild-none v m (op.Sleeper sleeper_op.ExchangeFlag) refl)
-  part-rises (Lies k) who = omega (
+  part-wakes_up Awake who = omega (arith, mild-none v m (op.Sleeper sleeper_op.ExchangeFlag) refl)
+  part-wakes_up (Asleep k) who = omega (
     arith,
-    mild-none v m (op.Tick (tick_op.GetUp who)) refl,
+    mild-none v m (op.Tick (tick_op.WakeUp who)) refl,
     mild-none v m (op.Sleeper sleeper_op.ExchangeFlag) refl,
   )
-  part-rises Left who = omega (arith, mild-none v m (op.Sleeper sleeper_op.ExchangeFlag) refl)
+  part-wakes_up Left who = omega (arith, mild-none v m (op.Sleeper sleeper_op.ExchangeFlag) refl)
 
   pub part-found : (w : World) (f : ℕ) → weigh v (found w x f).next ≡ n
   part-found w f =
-      let first = found_by (run_of w x.run).place (sleeper.Run x.run) (op.Sleeper sleeper_op.ExchangeFlag ∷ []) in
+      let first = found_by (run_of w x.run).place (tick_or_run.Run x.run) (op.Sleeper sleeper_op.ExchangeFlag ∷ []) in
       let d = counted_by (eqb ((run_of w x.run).counted + 1) 64) w x f in
       omega (
         arith,
         weigh-append v first d.next,
-        part-rises (run_of w x.run).place (sleeper.Run x.run),
+        part-wakes_up (run_of w x.run).place (tick_or_run.Run x.run),
         part-counted (eqb ((run_of w x.run).counted + 1) 64) w f,
       )
 
@@ -132,12 +138,6 @@ module _ (v : Op → ℕ) (m : Mild v) (x : RunPoll) (n : ℕ) (c : Part v x n) 
   part-look (f ∷ rest) w at left =
       omega (arith, mild-none v m (op.List list_op.UnlockRead) refl, part-found (put_own w x.run rest) f)
 
-abbrev pub poll_in : StealOp → RunPoll
-poll_in (steal_op.Length s) = s.poll
-poll_in (steal_op.OwnLength s n) = s.poll
-poll_in (steal_op.Take s more) = s.poll
-poll_in (steal_op.Put s more f) = s.poll
-
 pub part-steal : (v : Op → ℕ) → Mild v → (n p : ℕ) (o : StealOp) (w : World) → Part v (poll_in o) n →
     weigh v (steal_act p o w).next ≡ n
 part-steal v m n p (steal_op.Length s) w c = part-length v m s.poll n c s.from s.then _ w
@@ -161,14 +161,6 @@ lessens w v k = record {
   gone = k.gone;
 }
 
-lessens-and : (w v u : World) → Lessens w v → Lessens v u → Lessens w u
-lessens-and w v u a b = record {
-  own = λ r e. b.own r (a.own r e);
-  past = λ r. b.past r ∙ a.past r;
-  count = b.count ∙ a.count;
-  gone = b.gone ∙ a.gone;
-}
-
 own-first : (qs : List (List ℕ)) (q f : ℕ) (rest : List ℕ) → get_or qs q [] ≡ f ∷ rest → (r : ℕ) → get_or qs r [] ≡ [] →
     get_or (set qs q rest) r [] ≡ []
 own-first [] q f rest e r k = refl
@@ -181,67 +173,42 @@ pub first-taken : (w : World) (q f : ℕ) (rest : List ℕ) → own_of w q ≡ f
 first-taken w q f rest e =
     record { own = own-first w.own q f rest e; past = λ r. refl; count = refl; gone = refl }
 
-idle-run_by : (b : Bool) (w : World) (x : RunPoll) (f : ℕ) → Idle w (run_by b w x f).world
-idle-run_by true w x f =
-    record { own = refl; past = past-set w.runs x.run _ refl; count = count-set w.runs x.run _; gone = refl }
-idle-run_by false w x f =
-    record { own = refl; past = past-set w.runs x.run _ refl; count = count-set w.runs x.run _; gone = refl }
-
-idle-to : (w : World) (r n : ℕ) → Idle w (counted_to w r n)
-idle-to w r n = record { own = refl; past = past-set w.runs r _ refl; count = count-set w.runs r _; gone = refl }
-
-idle-counted : (b : Bool) (w : World) (x : RunPoll) (f : ℕ) → Idle w (counted_by b w x f).world
-idle-counted true w x f = idle-to w x.run 0
-idle-counted false w x f =
-    let v = counted_to w x.run ((run_of w x.run).counted + 1) in
-    idle-and w v _ (idle-to w x.run ((run_of w x.run).counted + 1)) (idle-run_by _ v x f)
-
-idle-found : (w : World) (x : RunPoll) (f : ℕ) → Idle w (found w x f).world
-idle-found w x f = idle-counted _ w x f
-
 pub idle-stolen : (t : Then) (w : World) (x : RunPoll) → Idle w (stolen t w x).world
-idle-stolen (then.Found f) w x = idle-found w x f
-idle-stolen (then.Run f) w x = idle-run_by _ w x f
-idle-stolen (then.Walk at left) w x = idle w _ refl refl refl
-
-idle-length : (n : ℕ) (w : World) (s : Steal) → Idle w (steal_length_by n w s).world
-idle-length zero w s = idle-stolen s.then w s.poll
-idle-length (suc n) w s = idle w _ refl refl refl
+idle-stolen t w x = idle-coat w (stolen t w x).world (coat-stolen t w x)
 
 pub idle-more : (n : ℕ) (w : World) (s : Steal) → Idle w (steal_by n w s).world
-idle-more zero w s = idle-stolen s.then w s.poll
-idle-more (suc n) w s = idle w _ refl refl refl
-
-lessens-take : (from : Source) (q : List ℕ) (w : World) (x : RunPoll) (t : Then) (more : ℕ) → source_of w from ≡ q →
-    Lessens w (steal_take_by q w (record { poll = x; from = from; then = t }) more).world
-lessens-take from [] w x t more e = lessens w _ (idle-stolen t w x)
-lessens-take Common (f ∷ rest) w x t more e = lessens w _ (idle w _ refl refl refl)
-lessens-take (Own q) (f ∷ rest) w x t more e = first-taken w q f rest e
-
--- but for the end of a steal that comes into the own queue
-abbrev pub is_put : StealOp → Bool
-is_put (steal_op.Put s more f) = true
-is_put _ = false
-
-pub lessens-steal : (p : ℕ) (o : StealOp) (w : World) → is_put o ≡ false → Lessens w (steal_act p o w).world
-lessens-steal p (steal_op.Length s) w n = lessens w _ (idle-length _ w s)
-lessens-steal p (steal_op.OwnLength s k) w n = lessens w _ (idle-more _ w s)
-lessens-steal p (steal_op.Take s more) w n = lessens-take s.from _ w s.poll s.then more refl
-lessens-steal p (steal_op.Put s more f) w n = absurd (cc)
-
-pub lessens-own : (q : List ℕ) (w : World) (x : RunPoll) → own_of w x.run ≡ q → Lessens w (search_own_by q w x).world
-lessens-own [] w x e = lessens w _ (idle w _ refl refl refl)
-lessens-own (f ∷ rest) w x e =
-    lessens-and w (put_own w x.run rest) _ (first-taken w x.run f rest e)
-    (lessens (put_own w x.run rest) _ (idle-found (put_own w x.run rest) x f))
+idle-more n w s = idle-coat w (steal_by n w s).world (coat-more n w s)
 
 pub idle-common : (q : List ℕ) (w : World) (x : RunPoll) → Idle w (search_common_by q w x).world
-idle-common [] w x = idle w _ refl refl refl
-idle-common (f ∷ rest) w x = idle w _ refl refl refl
+idle-common q w x = idle-coat w (search_common_by q w x).world (coat-common q w x)
 
-pub lessens-look : (q : List ℕ) (w : World) (x : RunPoll) (at left : ℕ) → own_of w x.run ≡ q →
-    Lessens w (look_own_by q w x at left).world
-lessens-look [] w x at left e = lessens w _ (idle w _ refl refl refl)
-lessens-look (f ∷ rest) w x at left e =
-    lessens-and w (put_own w x.run rest) _ (first-taken w x.run f rest e)
-    (lessens (put_own w x.run rest) _ (idle-found (put_own w x.run rest) x f))
+-- all but what is done to the list, and the end of a steal that comes into an own queue
+abbrev pub is_even : Op → Bool
+is_even (op.List (list_op.Write s)) = false
+is_even (op.Steal (steal_op.Put s more f)) = false
+is_even _ = true
+
+lessens-coat : (w v : World) → coat w ≡ coat v → Lessens w v
+lessens-coat w v e = lessens w v (idle-coat w v e)
+
+lessens-list : (h : Hint) (o : ListOp) (w : World) → is_even (op.List o) ≡ true → Lessens w (list_act h o w).world
+lessens-list h (list_op.Write s) w n = absurd (cc)
+lessens-list h _ w n = lessens w _ (idle w _ refl refl refl)
+
+lessens-deed : (w : World) (o : Op) (d : Done) → is_even o ≡ true → Deed w o d → Lessens w d.world
+lessens-deed w o d n (keeps e l) = lessens-coat w d.world e
+lessens-deed w o d n (takes q f rest i e l) =
+    let a = first-taken w q f rest i in let b = idle-coat (put_own w q rest) d.world e in record {
+      own = λ r z. ap (λ (qs : List (List ℕ)). get_or qs r []) b.own ∙ a.own r z;
+      past = b.past;
+      count = b.count;
+      gone = b.gone;
+    }
+lessens-deed w o d n (lacks q i e l) = lessens-coat w d.world e
+lessens-deed w o d n (shares s i k b e m) = lessens-coat w d.world e
+lessens-deed w o d n (grows s k f e m) = absurd (cc)
+lessens-deed w o d n (wakes p x e z) = lessens-coat w d.world e
+lessens-deed w o d n (lists h l) = lessens-list h l w n
+
+pub lessens-act : (p : ℕ) (h : Hint) (o : Op) (w : World) → is_even o ≡ true → Lessens w (act p h o w).world
+lessens-act p h o w n = lessens-deed w o (act p h o w) n (deed-act p h o w)

@@ -1,4 +1,5 @@
--- In each run of the machine a run is in one call at most, and where the executor's drop has begun its own queue is
+-- For own_queues_agree and awaiters_are_kept.
+-- In each execution of the machine a run is in one call at most, and where the executor's drop has begun its own queue is
 -- empty.
 use Rattle.std.proofs.Common.{◌≡◌, ℕ, zero, suc, ◌<◌, ◌≤◌, List, [], ◌∷◌, ◌++◌, length, set, get_or}
 use Rattle.std.proofs.Common.{Bool, true, false, ◌&&◌, ◌||◌, not, refl, sym, ap, ◌∙◌, subst, inl, ⊎_elim, arith}
@@ -25,16 +26,16 @@ use Rattle.executor_model.specs.Steps.{is_free, is_on_executor, is_there, is_unb
 use Rattle.executor_model.specs.Steps.{react, run, stack, start, top}
 use Rattle.executor_model.specs.Weights.{weigh_all}
 use Rattle.executor_model.specs.World.{World, Run, Done, done, log, no_run, own_of, run_of}
-use Rattle.executor_model.proofs.Lift.{first-true, good, good-start, none_refused, set-own, split, unborrowed}
-use Rattle.executor_model.proofs.Lift.{unsettled, weigh_all-idle}
-use Rattle.executor_model.proofs.Lists.{same_is, weigh_all-below, weigh_all-push}
-use Rattle.executor_model.proofs.Ways.{Way, along}
-use Rattle.executor_model.proofs.Ways.Way.{acted, reacted, called}
-use Rattle.executor_model.proofs.Using.{emptying-uses, emptying_of, lending_of, polling-uses, polling_of}
-use Rattle.executor_model.proofs.UsingWorlds.{is_over_stage, is_past}
-use Rattle.executor_model.proofs.UsingCalls.{FreeRun, used-begun, used-react}
-use Rattle.executor_model.proofs.UsingKeeps.{Used, counts, with_counts}
-use Rattle.executor_model.proofs.UsingActs.{used-act, used-end}
+use Rattle.executor_model.proofs.Steps.Lift.{first-true, good, good-start, none_refused, set-own, split, unborrowed}
+use Rattle.executor_model.proofs.Steps.Lift.{unsettled, weigh_all-idle}
+use Rattle.executor_model.proofs.Steps.Lists.{same_is, weigh_all-below, weigh_all-push}
+use Rattle.executor_model.proofs.Steps.Ways.{Way, along}
+use Rattle.executor_model.proofs.Steps.Ways.Way.{acted, reacted, called}
+use Rattle.executor_model.proofs.OwnQueues.Using.{emptying-uses, emptying_of, lending_of, polling-uses, polling_of}
+use Rattle.executor_model.proofs.OwnQueues.UsingWorlds.{is_over_stage, is_past}
+use Rattle.executor_model.proofs.OwnQueues.UsingCalls.{FreeRun, used-begun, used-react}
+use Rattle.executor_model.proofs.OwnQueues.UsingKeeps.{Used, counts, with_counts}
+use Rattle.executor_model.proofs.OwnQueues.UsingActs.{used-act, used-end}
 
 -- the machine
 
@@ -167,11 +168,7 @@ abbrev pub OwnEmptied : Machine → Type 0
 OwnEmptied s = s.world.gone ≡ true → (g : ℕ) → times_in g s.world.own ≡ 0
 
 emptying-borrows : (r : ℕ) (o : Op) → emptying_of r o ≤ borrowing_of o
-emptying-borrows r (op.List (list_op.LockWrite section.MakeRun)) = omega arith
-emptying-borrows r (op.List (list_op.LockWrite (section.Register x))) = omega arith
 emptying-borrows r (op.List (list_op.LockWrite (section.Unregister q a))) = grind (arith, same_is)
-emptying-borrows r (op.List (list_op.Write section.MakeRun)) = omega arith
-emptying-borrows r (op.List (list_op.Write (section.Register x))) = omega arith
 emptying-borrows r (op.List (list_op.Write (section.Unregister q a))) = grind (arith, same_is)
 emptying-borrows r (op.Run (run_op.Reschedule q a)) = grind (arith, same_is)
 emptying-borrows r _ = omega arith

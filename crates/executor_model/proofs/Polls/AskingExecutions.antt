@@ -1,4 +1,5 @@
--- In each run a future is woken between two polls, and who is asked for is scheduled.
+-- For polls_are_asked_for.
+-- In each execution a future is woken between two polls, and who is asked for is scheduled.
 use Rattle.std.proofs.Common.{◌≡◌, ◌≢◌, ◌⊎◌, ℕ, ◌<◌, ◌≤◌, List, [], ◌∷◌, ◌++◌, length}
 use Rattle.std.proofs.Common.{subst, inl, inr, arith}
 use Rattle.std.specs.Prelude.{reverse}
@@ -17,22 +18,22 @@ use Rattle.executor_model.specs.Sound.Phase.{Over, Broken}
 use Rattle.executor_model.specs.Good.{Good}
 use Rattle.executor_model.specs.Rows.{past_of}
 use Rattle.executor_model.specs.Steps.{Machine, stack, run, start}
-use Rattle.executor_model.proofs.Lists.{past_is}
-use Rattle.executor_model.proofs.Lift.{split, unsettled, good-start}
-use Rattle.executor_model.proofs.Ways.{Way, along}
-use Rattle.executor_model.proofs.Lawful.{dropped-over}
-use Rattle.executor_model.proofs.Stories.{story}
-use Rattle.executor_model.proofs.Extras.{Extra, extra, no_extra, waking_of, with_extra}
-use Rattle.executor_model.proofs.LeavingRuns.{Placed, placed-moves, placed-ends, placed-start}
-use Rattle.executor_model.proofs.Telling.{counted-drop}
-use Rattle.executor_model.proofs.Requests.{request-none}
-use Rattle.executor_model.proofs.Views.{none, seen}
-use Rattle.executor_model.proofs.SoundAll.{sure-of}
-use Rattle.executor_model.proofs.Passing.{goes-end}
-use Rattle.executor_model.proofs.Asking.{Grounds, grounded, Asked}
-use Rattle.executor_model.proofs.AskingViews.{asked-passes}
-use Rattle.executor_model.proofs.AskingAll.{asked-act}
-use Rattle.executor_model.proofs.EffectsWays.{effects-way, ended, lifted, view, view-start}
+use Rattle.executor_model.proofs.Steps.Lists.{past_is}
+use Rattle.executor_model.proofs.Steps.Lift.{split, unsettled, good-start}
+use Rattle.executor_model.proofs.Steps.Ways.{Way, along}
+use Rattle.executor_model.proofs.Polls.Lawful.{dropped-over}
+use Rattle.executor_model.proofs.OneFuture.Stories.{story}
+use Rattle.executor_model.proofs.OneFuture.Extras.{Extra, extra, no_extra, waking_of, with_extra}
+use Rattle.executor_model.proofs.Table.LeavingExecutions.{Placed, placed-moves, placed-ends, placed-start}
+use Rattle.executor_model.proofs.OneFuture.Telling.{counted-drop}
+use Rattle.executor_model.proofs.OneFuture.Requests.{request-none}
+use Rattle.executor_model.proofs.OneFuture.Views.{none, seen}
+use Rattle.executor_model.proofs.Counts.SoundAll.{sure-of}
+use Rattle.executor_model.proofs.OneFuture.Passing.{goes-end}
+use Rattle.executor_model.proofs.Polls.Asking.{Grounds, grounded, Asked}
+use Rattle.executor_model.proofs.Polls.AskingViews.{asked-passes}
+use Rattle.executor_model.proofs.Polls.AskingAll.{asked-act}
+use Rattle.executor_model.proofs.OneFuture.EffectsWays.{effects-way, ended, lifted, view, view-start}
 
 pub record Heard (s : Machine) : Type 0 where
   pub placed : Placed s

@@ -1,3 +1,4 @@
+-- For laws of the crates above.
 -- What the automata tell of a future is what the definition of due says.
 use Rattle.std.proofs.Common.{◌≡◌, ◌≢◌, ℕ, Bool, true, false, ◌||◌, cond, ◌==◌, [], ◌∷◌, ◌++◌, refl}
 use Rattle.std.proofs.Common.{sym, ap, ◌∙◌, subst, append_assoc, append-nil}
@@ -9,10 +10,10 @@ use Rattle.executor_model.specs.Trace.{Trace, has, is_poll, is_answer, is_ready,
 use Rattle.executor_model.specs.Due.{is_request, since_poll, HasOpenPoll}
 use Rattle.executor_model.specs.Sound.{Phase, after_begun, after_answered, after_dropped, passes, phase}
 use Rattle.executor_model.specs.Sound.Phase.{Fresh, Polling, Over, Broken}
-use Rattle.executor_model.proofs.Lists.{phase-push}
-use Rattle.executor_model.proofs.Requests.{Request, notes, request, request-push, request-none}
-use Rattle.executor_model.proofs.Pushes.{any-push, since-push}
-use Rattle.executor_model.proofs.Tests.{or-left, or-right}
+use Rattle.executor_model.proofs.Steps.Lists.{phase-push}
+use Rattle.executor_model.proofs.OneFuture.Requests.{Request, notes, request, request-push, request-none}
+use Rattle.executor_model.proofs.Steps.Pushes.{any-push, since-push}
+use Rattle.executor_model.proofs.Steps.Tests.{or-left, or-right}
 
 -- what is said of all traces by their last events
 pub by_last : (P : Trace → Type 0) → P [] → ((xs : Trace) (e : Event) → P xs → P (xs ++ e ∷ [])) → (ys : Trace) → P ys

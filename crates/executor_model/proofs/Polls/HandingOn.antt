@@ -1,3 +1,4 @@
+-- For wakes_are_handed_on.
 -- A wake that marks a task hands on one Runnable, or the end of the poll does.
 use Rattle.std.proofs.Common.{◌≡◌, ℕ, List, [], ◌∷◌, ◌++◌, Bool, true, false, ◌||◌, cond, refl, ◌∙◌, subst, arith}
 use Rattle.std.specs.Prelude.{Some}
@@ -32,7 +33,7 @@ use Rattle.executor_model.specs.Steps.{Machine}
 use Rattle.executor_model.specs.Good.{Good}
 use Rattle.executor_model.specs.HandingOn.{handed_on, HandsOn, IsFirst, IsIdle, IsOnItsWay, IsWakeOf, IsWakerOf}
 use Rattle.executor_model.specs.Rows.{appends_of}
-use Rattle.executor_model.proofs.Lists.{same_is, weigh-append, weigh-closing}
+use Rattle.executor_model.proofs.Steps.Lists.{same_is, weigh-append, weigh-closing}
 
 one : (f : ℕ) → same f f ≡ 1
 one f = grind (arith, same_is)

@@ -1,3 +1,4 @@
+-- For polls_are_asked_for and polls_are_lawful.
 -- Where the automaton of polls and answers doesn't break, they take turns, and no poll begins after the end.
 use Rattle.std.proofs.Common.{◌≡◌, ◌≢◌, ◌⊎◌, inl, inr, ℕ, suc, ◌+◌, arith, Bool, true, false, ◌||◌, cond}
 use Rattle.std.proofs.Common.{not, eqb, [], ◌∷◌, drop, refl, sym, ap, ◌∙◌, subst}

@@ -1,3 +1,4 @@
+-- For polls_are_asked_for.
 -- Between two polls a future is woken: what the story of its requests says is what the definition over its trace says.
 use Rattle.std.proofs.Common.{◌≡◌, ℕ, ◌+◌, ◌≤◌, [], ◌∷◌, Bool, true, false, ◌||◌, cond, eqb, refl, arith}
 use Rattle.std.specs.Prelude.{filter}
@@ -7,8 +8,8 @@ use Rattle.executor_model.specs.declared.event.Event.TheVariants.{PollBegun, Ans
 use Rattle.executor_model.specs.Trace.{Trace}
 use Rattle.executor_model.specs.AskedPolls.{is_poll_or_wake, NoneTwice, IsWokenBetweenPolls}
 use Rattle.executor_model.specs.Weights.{same}
-use Rattle.executor_model.proofs.Telling.{same-cond}
-use Rattle.executor_model.proofs.Requests.{Request, unheard, notes, request_from, request}
+use Rattle.executor_model.proofs.OneFuture.Telling.{same-cond}
+use Rattle.executor_model.proofs.OneFuture.Requests.{Request, unheard, notes, request_from, request}
 
 abbrev pub calls_of : ℕ → Trace → Trace
 calls_of f es = filter (is_poll_or_wake f) es

@@ -1,3 +1,4 @@
+-- For quiet_emptiness_is_exact, outputs_are_kept, awaiters_are_kept and own_queues_agree.
 -- How many calls of a party are in progress: as many as it has begun and not ended,
 -- and as many as its stack has still to answer.
 use Rattle.std.proofs.Common.{◌≡◌, ℕ, ◌+◌, List, [], ◌∷◌, ◌++◌, length}
@@ -36,9 +37,9 @@ use Rattle.executor_model.specs.Acts.{append_by, take_by, enter_by, leave_by, co
 use Rattle.executor_model.specs.Acts.{copy_awaiter_by, register_by, let_go, end_register_by, notify_by}
 use Rattle.executor_model.specs.Acts.{call_awaiter, closing_ops, drop_next_by, wake, wake_next_by, drain_by}
 use Rattle.executor_model.specs.Weights.{same, weigh}
-use Rattle.executor_model.proofs.Lists.{weigh-append}
-use Rattle.executor_model.proofs.Asides.{Aside, aside-awaiter, aside-owed, aside-let_go, aside-closing}
-use Rattle.executor_model.proofs.Telling.{same-cond}
+use Rattle.executor_model.proofs.Steps.Lists.{weigh-append}
+use Rattle.executor_model.proofs.Steps.Asides.{Aside, aside-awaiter, aside-owed, aside-let_go, aside-closing}
+use Rattle.executor_model.proofs.OneFuture.Telling.{same-cond}
 
 -- what has still to answer its call
 abbrev pub calling_of : Op → ℕ
@@ -54,7 +55,7 @@ calling_of (op.Handle (handle_op.LookAgain f)) = 1
 calling_of (op.Tick tick_op.MakeTick) = 1
 calling_of (op.Tick (tick_op.Search s)) = 1
 calling_of (op.Tick (tick_op.CopyWaker s)) = 1
-calling_of (op.Tick (tick_op.LieDown s)) = 1
+calling_of (op.Tick (tick_op.FallAsleep s)) = 1
 calling_of (op.User (user_op.PollOwn x)) = 1
 calling_of (op.List (list_op.LockWrite s)) = 1
 calling_of (op.List (list_op.Write s)) = 1

@@ -1,3 +1,4 @@
+-- For quiet_emptiness_is_exact, outputs_are_kept, awaiters_are_kept and own_queues_agree.
 -- Each thing that is done answers its call or nothing, by groups.
 use Rattle.std.proofs.Common.{◌≡◌, ℕ, false, refl}
 use Rattle.task_moves.specs.declared.moves.owed.Move.TheVariants as move
@@ -14,14 +15,14 @@ use Rattle.executor_model.specs.declared.op.WakerOp.TheVariants as waker_op
 use Rattle.executor_model.specs.declared.step.Hint.{Hint}
 use Rattle.executor_model.specs.World.{World, task, among, awaiter_of}
 use Rattle.executor_model.specs.Doing.{act}
-use Rattle.executor_model.proofs.Calls.{is_end, Calls, answers, calls-again, calls-answered, calls-append, calls-call}
-use Rattle.executor_model.proofs.Calls.{calls-copy, calls-copy_awaiter, calls-drain, calls-drop_next}
-use Rattle.executor_model.proofs.Calls.{calls-end_register, calls-enter, calls-leave, calls-notify, calls-register}
-use Rattle.executor_model.proofs.Asides.{aside-told, aside-closing}
-use Rattle.executor_model.proofs.Calls.{calls-take, calls-wake_next, inside, no-call, none-owed, calling_of}
-use Rattle.executor_model.proofs.Calls.{none-wake, single, steady-log, steady-log_if, steady-same, steady-wake}
-use Rattle.executor_model.proofs.RunsCalls.{calls-list, calls-run, calls-steal}
-use Rattle.executor_model.proofs.SleepersCalls.{calls-sleeper, calls-tick}
+use Rattle.executor_model.proofs.Quiet.Calls.{is_end, Calls, answers, calls-again, calls-answered, calls-append, calls-call}
+use Rattle.executor_model.proofs.Quiet.Calls.{calls-copy, calls-copy_awaiter, calls-drain, calls-drop_next}
+use Rattle.executor_model.proofs.Quiet.Calls.{calls-end_register, calls-enter, calls-leave, calls-notify, calls-register}
+use Rattle.executor_model.proofs.Steps.Asides.{aside-told, aside-closing}
+use Rattle.executor_model.proofs.Quiet.Calls.{calls-take, calls-wake_next, inside, no-call, none-owed, calling_of}
+use Rattle.executor_model.proofs.Quiet.Calls.{none-wake, single, steady-log, steady-log_if, steady-same, steady-wake}
+use Rattle.executor_model.proofs.Quiet.RunsCalls.{calls-list, calls-run, calls-steal}
+use Rattle.executor_model.proofs.Quiet.SleepersCalls.{calls-sleeper, calls-tick}
 
 pub calls-act : (p : ℕ) (h : Hint) (o : Op) (w : World) → is_end o ≡ false → Calls w o (act p h o w)
 calls-act p h (op.Table table_op.Enter) w n = calls-enter _ _ p w

@@ -1,3 +1,4 @@
+-- For quiet_emptiness_is_exact, outputs_are_kept, awaiters_are_kept and own_queues_agree.
 -- At a quiet trace no party has anything to do.
 use Rattle.std.proofs.Common.{◌≡◌, ◌≢◌, ◌⊎◌, ℕ, zero, suc, ◌+◌, ◌<◌, List, [], ◌∷◌, ◌++◌, length, set, get_or}
 use Rattle.std.proofs.Common.{Bool, true, false, ◌&&◌, ◌||◌, not, cond, eqb, refl, sym, ap, ◌∙◌, subst, inl}
@@ -18,7 +19,7 @@ use Rattle.task_moves.specs.declared.moves.owed.Move.TheVariants as move
 use Rattle.executor_model.specs.declared.op.ListOp.TheVariants as list_op
 use Rattle.executor_model.specs.declared.op.QueueOp.TheVariants as queue_op
 use Rattle.executor_model.specs.declared.op.RunOp.TheVariants as run_op
-use Rattle.executor_model.specs.declared.op.Sleeper.TheVariants as sleeper
+use Rattle.executor_model.specs.declared.op.TickOrRun.TheVariants as tick_or_run
 use Rattle.executor_model.specs.declared.op.SleeperOp.TheVariants as sleeper_op
 use Rattle.executor_model.specs.declared.op.TableOp.TheVariants as table_op
 use Rattle.executor_model.specs.declared.op.TickOp.TheVariants as tick_op
@@ -37,14 +38,14 @@ use Rattle.executor_model.specs.Good.{Good}
 use Rattle.executor_model.specs.Steps.{Machine, stack, run, start, idle, mine, future_of, top, is_free, is_some}
 use Rattle.executor_model.specs.Steps.{has_all}
 use Rattle.executor_model.specs.Steps.{is_on_executor, is_drop, is_unborrowed, accepts, begun, react, with_future, kept}
-use Rattle.executor_model.proofs.Lists.{same_cases, weigh-append, weigh-reverse}
-use Rattle.executor_model.proofs.Lift.{unsettled, good-start, none_refused}
-use Rattle.executor_model.proofs.Ways.{Way, along}
-use Rattle.executor_model.proofs.Ways.Way.{acted, reacted, called}
-use Rattle.executor_model.proofs.Calls.{calling_of, begun_by, ended_by, begun-push, ended-push, Steady, steady-same}
-use Rattle.executor_model.proofs.Calls.{steady-log, Answering, Calls, answers, inside, single, then, is_end}
-use Rattle.executor_model.proofs.RunsCalls.{one-drop, one-poll}
-use Rattle.executor_model.proofs.CallsGroups.{calls-act}
+use Rattle.executor_model.proofs.Steps.Lists.{same_cases, weigh-append, weigh-reverse}
+use Rattle.executor_model.proofs.Steps.Lift.{unsettled, good-start, none_refused}
+use Rattle.executor_model.proofs.Steps.Ways.{Way, along}
+use Rattle.executor_model.proofs.Steps.Ways.Way.{acted, reacted, called}
+use Rattle.executor_model.proofs.Quiet.Calls.{calling_of, begun_by, ended_by, begun-push, ended-push, Steady, steady-same}
+use Rattle.executor_model.proofs.Quiet.Calls.{steady-log, Answering, Calls, answers, inside, single, then, is_end}
+use Rattle.executor_model.proofs.Quiet.RunsCalls.{one-drop, one-poll}
+use Rattle.executor_model.proofs.Quiet.CallsGroups.{calls-act}
 
 -- a stack that is not empty has at its bottom what answers its first call
 abbrev pub Grounded : List Op → Type 0
@@ -94,7 +95,7 @@ calling-is (op.Sleeper (sleeper_op.CallSleeper s)) = inl refl
 calling-is (op.Tick tick_op.MakeTick) = inr refl
 calling-is (op.Tick (tick_op.Search s)) = inr refl
 calling-is (op.Tick (tick_op.CopyWaker s)) = inr refl
-calling-is (op.Tick (tick_op.LieDown s)) = inr refl
+calling-is (op.Tick (tick_op.FallAsleep s)) = inr refl
 calling-is (op.User (user_op.PollOwn x)) = inr refl
 calling-is (op.List (list_op.LockWrite s)) = inr refl
 calling-is (op.List (list_op.Write s)) = inr refl
@@ -259,7 +260,7 @@ opens p w ss o (call.PollTick t b) k =
     (steady-log _ _ (event.TickPolled p t) refl (λ q. refl) (λ q. refl), single _ refl)
 opens p w ss o (call.DropTick t) k = (
   steady-log _ _ (event.TickDropped p t) refl (λ q. refl) (λ q. refl),
-  then (op.Tick (tick_op.Leave (sleeper.Tick t)) ∷ []) _ refl refl,
+  then (op.Tick (tick_op.Leave (tick_or_run.Tick t)) ∷ []) _ refl refl,
 )
 opens p w ss o call.NewRun k = (steady-same _ _ refl, single _ refl)
 opens p w ss o (call.PollRun r b) k =

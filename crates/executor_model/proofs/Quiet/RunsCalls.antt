@@ -1,3 +1,4 @@
+-- For quiet_emptiness_is_exact, outputs_are_kept, awaiters_are_kept and own_queues_agree.
 -- What a run does leads to one answer of its call.
 use Rattle.std.proofs.Common.{◌≡◌, ℕ, zero, suc, ◌+◌, List, [], ◌∷◌, length, Bool, true, false, eqb, refl}
 use Rattle.task_moves.specs.Moves as moves
@@ -16,8 +17,8 @@ use Rattle.executor_model.specs.declared.op.RunOp.{RunOp}
 use Rattle.executor_model.specs.declared.op.RunOp.TheVariants as run_op
 use Rattle.executor_model.specs.declared.op.RunPoll.{RunPoll}
 use Rattle.executor_model.specs.declared.op.Section.TheVariants as section
-use Rattle.executor_model.specs.declared.op.Sleeper.{Sleeper}
-use Rattle.executor_model.specs.declared.op.Sleeper.TheVariants as sleeper
+use Rattle.executor_model.specs.declared.op.TickOrRun.{TickOrRun}
+use Rattle.executor_model.specs.declared.op.TickOrRun.TheVariants as tick_or_run
 use Rattle.executor_model.specs.declared.op.SleeperOp.TheVariants as sleeper_op
 use Rattle.executor_model.specs.declared.op.Sleeping.{Sleeping}
 use Rattle.executor_model.specs.declared.op.Source.TheVariants.{Own}
@@ -32,7 +33,7 @@ use Rattle.executor_model.specs.declared.op.Waker.{Waker}
 use Rattle.executor_model.specs.declared.op.Waker.TheVariants.{Task, Outside}
 use Rattle.executor_model.specs.declared.step.Hint.{Hint}
 use Rattle.executor_model.specs.Weights.{weigh}
-use Rattle.executor_model.specs.World.{World, Place, Up, Lies, Left, Stage, New, Listed, Ended, Done, log, put_own}
+use Rattle.executor_model.specs.World.{World, Ticker, Awake, Asleep, Left, Stage, New, Listed, Ended, Done, log, put_own}
 use Rattle.executor_model.specs.World.{run_of, task}
 use Rattle.executor_model.specs.ActsOfSleepers.{found_by}
 use Rattle.executor_model.specs.ActsOfRuns.{asleep, call_by_reference, counted_by, found, kept_by, look_own_by}
@@ -42,10 +43,10 @@ use Rattle.executor_model.specs.ActsOfRuns.{steal_put_by}
 use Rattle.executor_model.specs.ActsOfRuns.{steal_take_by, stolen, wake_own, walk}
 use Rattle.executor_model.specs.Doing.{list_act, run_act, steal_act}
 use Rattle.executor_model.specs.Steps.{drop_run, poll_run}
-use Rattle.executor_model.proofs.Calls.{calling_of, Steady, steady-and, steady-log, steady-log_if, steady-same}
-use Rattle.executor_model.proofs.Calls.{Answering, Calls, answers, before, inside, none-owed, single, then}
-use Rattle.executor_model.proofs.RunsMoves.{Moves, moves-common, moves-length, moves-list, moves-look, moves-make_room}
-use Rattle.executor_model.proofs.RunsMoves.{moves-own, moves-own_length, moves-put_back, moves-reschedule, moves-take}
+use Rattle.executor_model.proofs.Quiet.Calls.{calling_of, Steady, steady-and, steady-log, steady-log_if, steady-same}
+use Rattle.executor_model.proofs.Quiet.Calls.{Answering, Calls, answers, before, inside, none-owed, single, then}
+use Rattle.executor_model.proofs.Steps.RunsMoves.{Moves, moves-common, moves-length, moves-list, moves-look, moves-make_room}
+use Rattle.executor_model.proofs.Steps.RunsMoves.{moves-own, moves-own_length, moves-put_back, moves-reschedule, moves-take}
 
 -- what follows answers the call
 
@@ -57,17 +58,17 @@ one-counted : (b : Bool) (w : World) (x : RunPoll) (f : ℕ) → Answering (coun
 one-counted true w x f = single _ refl
 one-counted false w x f = one-run_by _ _ x f
 
-none-rises : (p : Place) (who : Sleeper) →
+none-wakes_up : (p : Ticker) (who : TickOrRun) →
     weigh calling_of (found_by p who (op.Sleeper sleeper_op.ExchangeFlag ∷ [])) ≡ 0
-none-rises Up who = refl
-none-rises (Lies n) who = refl
-none-rises Left who = refl
+none-wakes_up Awake who = refl
+none-wakes_up (Asleep n) who = refl
+none-wakes_up Left who = refl
 
 one-found : (w : World) (x : RunPoll) (f : ℕ) → Answering (found w x f).next
 one-found w x f =
-    before (found_by (run_of w x.run).place (sleeper.Run x.run) (op.Sleeper sleeper_op.ExchangeFlag ∷ []))
+    before (found_by (run_of w x.run).place (tick_or_run.Run x.run) (op.Sleeper sleeper_op.ExchangeFlag ∷ []))
     (counted_by (eqb ((run_of w x.run).counted + 1) 64) w x f).next
-    (none-rises (run_of w x.run).place (sleeper.Run x.run)) (one-counted _ w x f)
+    (none-wakes_up (run_of w x.run).place (tick_or_run.Run x.run)) (one-counted _ w x f)
 
 one-stolen : (n : Then) (w : World) (x : RunPoll) → Answering (stolen n w x).next
 one-stolen (then_op.Found f) w x = one-found w x f
@@ -115,7 +116,7 @@ one-look (f ∷ rest) w x at left =
     before (op.List list_op.UnlockRead ∷ []) _ refl (one-found (put_own w x.run rest) x f)
 
 one-reschedule : (q : List ℕ) (w : World) (r : ℕ) (a : Reply) → Answering (reschedule_by q w r a).next
-one-reschedule [] w r a = then (op.Tick (tick_op.Leave (sleeper.Run r)) ∷ []) (op.End a (hold.Run r)) refl refl
+one-reschedule [] w r a = then (op.Tick (tick_op.Leave (tick_or_run.Run r)) ∷ []) (op.End a (hold.Run r)) refl refl
 one-reschedule (f ∷ rest) w r a =
     then (op.Queue (queue_op.Append f) ∷ []) (op.Run (run_op.Reschedule r a)) refl refl
 
@@ -129,7 +130,7 @@ one-drop New r = then (op.User (user_op.DropOwn r) ∷ []) (op.Run (run_op.Resch
 one-drop Listed r =
     then (op.User (user_op.DropOwn r) ∷ [])
     (op.List (list_op.LockWrite (section.Unregister r reply.Done))) refl refl
-one-drop Ended r = then (op.Tick (tick_op.Leave (sleeper.Run r)) ∷ []) (op.End reply.Done (hold.Run r)) refl refl
+one-drop Ended r = then (op.Tick (tick_op.Leave (tick_or_run.Run r)) ∷ []) (op.End reply.Done (hold.Run r)) refl refl
 
 -- each thing that a run does
 
@@ -178,7 +179,7 @@ calls-list h (list_op.LockRead x) w =
 calls-list h list_op.UnlockRead w = inside w _ _ refl (steady-same _ _ refl) refl
 
 -- a run looks at its own queue
-pub calls-search_run : (w : World) (r : ℕ) (s : Sleeping) → s.who ≡ sleeper.Run r →
+pub calls-search_run : (w : World) (r : ℕ) (s : Sleeping) → s.who ≡ tick_or_run.Run r →
     Calls w (op.Tick (tick_op.Search s)) (search_own w (record { run = r; waker = s.waker; poll = s.poll }))
 calls-search_run w r s e =
     moved w _ _ refl (moves-own _ w s r e refl) (one-own _ w (record { run = r; waker = s.waker; poll = s.poll }))

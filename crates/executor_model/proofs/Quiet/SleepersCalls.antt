@@ -1,3 +1,4 @@
+-- For quiet_emptiness_is_exact, outputs_are_kept, awaiters_are_kept and own_queues_agree.
 -- What tells sleepers answers no call; what a tick does leads to one answer.
 use Rattle.std.proofs.Common.{◌≡◌, ℕ, List, [], ◌∷◌, Bool, true, false, refl}
 use Rattle.std.specs.Prelude.{Option, Some, None, is_none}
@@ -7,7 +8,7 @@ use Rattle.executor_model.specs.declared.call.Reply.TheVariants as reply
 use Rattle.executor_model.specs.declared.event.Event.TheVariants as event
 use Rattle.executor_model.specs.declared.op.Op.TheVariants as op
 use Rattle.executor_model.specs.declared.op.Polled.{Polled}
-use Rattle.executor_model.specs.declared.op.Sleeper.TheVariants as sleeper
+use Rattle.executor_model.specs.declared.op.TickOrRun.TheVariants as tick_or_run
 use Rattle.executor_model.specs.declared.op.Sleeping.{Sleeping}
 use Rattle.executor_model.specs.declared.op.SleeperOp.{SleeperOp}
 use Rattle.executor_model.specs.declared.op.SleeperOp.TheVariants as sleeper_op
@@ -16,17 +17,17 @@ use Rattle.executor_model.specs.declared.op.TickOp.TheVariants as tick_op
 use Rattle.executor_model.specs.declared.op.Waker.{Waker}
 use Rattle.executor_model.specs.declared.op.Waker.TheVariants.{Task, Outside}
 use Rattle.executor_model.specs.declared.step.Hint.{Hint}
-use Rattle.executor_model.specs.declared.op.Sleeper.{Sleeper}
-use Rattle.executor_model.specs.World.{World, Place, Up, Lies, Left, log}
+use Rattle.executor_model.specs.declared.op.TickOrRun.{TickOrRun}
+use Rattle.executor_model.specs.World.{World, Ticker, Awake, Asleep, Left, log}
 use Rattle.executor_model.specs.Acts.{call_waker, copied}
 use Rattle.executor_model.specs.ActsOfSleepers.{exchange_by, hand_out_by, held_as, make_tick_by, polled_as, search_by}
-use Rattle.executor_model.specs.ActsOfSleepers.{copy_sleeper_by, lie_anew_by, sleeper_goes, lie_listed_by, lie_again_by}
-use Rattle.executor_model.specs.ActsOfSleepers.{lie_down_by, get_up_by, tell_if, leave_sleepers_by}
+use Rattle.executor_model.specs.ActsOfSleepers.{copy_sleeper_by, sleep_anew_by, sleeper_goes, sleep_listed_by, sleep_again_by}
+use Rattle.executor_model.specs.ActsOfSleepers.{fall_asleep_by, wake_up_by, tell_and_return, leave_sleepers_by}
 use Rattle.executor_model.specs.Doing.{search_by_who, sleeper_act, tick_act}
-use Rattle.executor_model.proofs.Calls.{calling_of, Steady, steady-same, steady-log, steady-and, steady-wake, Answering}
-use Rattle.executor_model.proofs.Calls.{Calls, inside, answers, single, then, none-wake, none-both}
-use Rattle.executor_model.proofs.RunsCalls.{calls-search_run}
-use Rattle.executor_model.proofs.SleepersNext.{Unseen, goes-unseen, tell-unseen, sleeper-unseen}
+use Rattle.executor_model.proofs.Quiet.Calls.{calling_of, Steady, steady-same, steady-log, steady-and, steady-wake, Answering}
+use Rattle.executor_model.proofs.Quiet.Calls.{Calls, inside, answers, single, then, none-wake, none-both}
+use Rattle.executor_model.proofs.Quiet.RunsCalls.{calls-search_run}
+use Rattle.executor_model.proofs.Steps.SleepersNext.{Unseen, goes-unseen, tell-unseen, sleeper-unseen}
 
 unseen : Unseen calling_of
 unseen = record { hand = refl; call = λ s. refl; outside = λ x. refl; wake = λ p w f. none-wake p w f }
@@ -59,12 +60,12 @@ pub calls-sleeper : (p : ℕ) (o : SleeperOp) (w : World) → Calls w (op.Sleepe
 calls-sleeper p o w = inside w (op.Sleeper o) (sleeper_act p o w) (idle o) (steady-sleeper p o w)
     (sleeper-unseen calling_of unseen p o w)
 
-found : (x : Place) (w : World) (f : ℕ) (rest : List ℕ) (s : Sleeping) → Answering (search_by x w (f ∷ rest) s).next
-found Up w f rest s =
+found : (x : Ticker) (w : World) (f : ℕ) (rest : List ℕ) (s : Sleeping) → Answering (search_by x w (f ∷ rest) s).next
+found Awake w f rest s =
     then (op.Sleeper sleeper_op.ExchangeFlag ∷ op.Move move.TakeUp f ∷ [])
     (op.End reply.Ready (held_as s.who)) refl refl
-found (Lies n) w f rest s =
-    then (op.Tick (tick_op.GetUp s.who) ∷ op.Sleeper sleeper_op.ExchangeFlag ∷ op.Move move.TakeUp f ∷ [])
+found (Asleep n) w f rest s =
+    then (op.Tick (tick_op.WakeUp s.who) ∷ op.Sleeper sleeper_op.ExchangeFlag ∷ op.Move move.TakeUp f ∷ [])
     (op.End reply.Ready (held_as s.who)) refl refl
 found Left w f rest s =
     then (op.Sleeper sleeper_op.ExchangeFlag ∷ op.Move move.TakeUp f ∷ [])
@@ -74,15 +75,15 @@ calls-make : (b : Bool) (w : World) → Calls w (op.Tick tick_op.MakeTick) (make
 calls-make true w = answers w _ _ refl (steady-same _ _ refl) (single _ refl)
 calls-make false w = answers w _ _ refl (steady-same _ _ refl) (single _ refl)
 
-calls-search : (x : Place) (w : World) (q : List ℕ) (s : Sleeping) →
+calls-search : (x : Ticker) (w : World) (q : List ℕ) (s : Sleeping) →
     Calls w (op.Tick (tick_op.Search s)) (search_by x w q s)
 calls-search x w [] s = answers w _ _ refl (steady-same _ _ refl) (single _ refl)
 calls-search x w (f ∷ rest) s = answers w _ _ refl (steady-same _ _ refl) (found x w f rest s)
 
-calls-search_who : (who : Sleeper) (w : World) (s : Sleeping) → s.who ≡ who →
+calls-search_who : (who : TickOrRun) (w : World) (s : Sleeping) → s.who ≡ who →
     Calls w (op.Tick (tick_op.Search s)) (search_by_who who w s)
-calls-search_who (sleeper.Tick t) w s e = calls-search _ w _ s
-calls-search_who (sleeper.Run r) w s e = calls-search_run w r s e
+calls-search_who (tick_or_run.Tick t) w s e = calls-search _ w _ s
+calls-search_who (tick_or_run.Run r) w s e = calls-search_run w r s e
 
 steady-copied : (w : World) (a : Waker) → Steady w (copied w a)
 steady-copied w (Task m) = steady-same _ _ refl
@@ -92,49 +93,49 @@ calls-copy : (b : Bool) (w : World) (s : Sleeping) → Calls w (op.Tick (tick_op
 calls-copy true w s = answers w _ _ refl (steady-same _ _ refl) (single _ refl)
 calls-copy false w s = answers w _ _ refl (steady-copied w s.waker) (single _ refl)
 
-calls-anew : (b : Bool) (w : World) (s : Sleeping) → Calls w (op.Tick (tick_op.LieDown s)) (lie_anew_by b w s)
+calls-anew : (b : Bool) (w : World) (s : Sleeping) → Calls w (op.Tick (tick_op.FallAsleep s)) (sleep_anew_by b w s)
 calls-anew true w s = answers w _ _ refl (steady-same _ _ refl) (single _ refl)
 calls-anew false w s = answers w _ _ refl (steady-same _ _ refl)
     (then (op.Sleeper (sleeper_op.CallSleeper s) ∷ []) _ refl refl)
 
 calls-listed : (b : Bool) (w : World) (n : ℕ) (s : Sleeping) →
-    Calls w (op.Tick (tick_op.LieDown s)) (lie_listed_by b w n s)
+    Calls w (op.Tick (tick_op.FallAsleep s)) (sleep_listed_by b w n s)
 calls-listed true w n s = answers w _ _ refl (steady-same _ _ refl) (single _ refl)
 calls-listed false w n s =
     answers w _ _ refl (steady-same _ _ refl) (then (op.Sleeper (sleeper_op.CallSleeper s) ∷ []) _ refl refl)
 
 calls-again : (o : Option ℕ) (w : World) (n : ℕ) (s : Sleeping) →
-    Calls w (op.Tick (tick_op.LieDown s)) (lie_again_by o w n s)
+    Calls w (op.Tick (tick_op.FallAsleep s)) (sleep_again_by o w n s)
 calls-again None w n s = calls-listed _ w n s
 calls-again (Some at) w n s = let old = waker_at (Some at) w.sleepers.wakers in
     answers w _ _ refl (steady-same _ _ refl) (then (sleeper_goes old) _ (goes-unseen calling_of (λ f. refl) old) refl)
 
-calls-lie : (x : Place) (w : World) (s : Sleeping) → Calls w (op.Tick (tick_op.LieDown s)) (lie_down_by x w s)
-calls-lie Up w s = calls-anew _ w s
-calls-lie (Lies n) w s = calls-again _ w n s
-calls-lie Left w s = answers w _ _ refl (steady-same _ _ refl)
+calls-sleep : (x : Ticker) (w : World) (s : Sleeping) → Calls w (op.Tick (tick_op.FallAsleep s)) (fall_asleep_by x w s)
+calls-sleep Awake w s = calls-anew _ w s
+calls-sleep (Asleep n) w s = calls-again _ w n s
+calls-sleep Left w s = answers w _ _ refl (steady-same _ _ refl)
     (then (op.Sleeper (sleeper_op.CallSleeper s) ∷ []) _ refl refl)
 
-calls-up : (x : Place) (w : World) (t : Sleeper) → Calls w (op.Tick (tick_op.GetUp t)) (get_up_by x w t)
-calls-up Up w t = inside w _ _ refl (steady-same _ _ refl) refl
-calls-up (Lies n) w t = inside w _ _ refl (steady-same _ _ refl)
+calls-up : (x : Ticker) (w : World) (t : TickOrRun) → Calls w (op.Tick (tick_op.WakeUp t)) (wake_up_by x w t)
+calls-up Awake w t = inside w _ _ refl (steady-same _ _ refl) refl
+calls-up (Asleep n) w t = inside w _ _ refl (steady-same _ _ refl)
     (goes-unseen calling_of (λ g. refl) (waker_of n w.sleepers.wakers))
 calls-up Left w t = inside w _ _ refl (steady-same _ _ refl) refl
 
-calls-leave_sleepers : (x : Place) (w : World) (t : Sleeper) → Calls w (op.Tick (tick_op.Leave t))
+calls-leave_sleepers : (x : Ticker) (w : World) (t : TickOrRun) → Calls w (op.Tick (tick_op.Leave t))
     (leave_sleepers_by x w t)
-calls-leave_sleepers Up w t = inside w _ _ refl (steady-same _ _ refl) refl
-calls-leave_sleepers (Lies n) w t =
+calls-leave_sleepers Awake w t = inside w _ _ refl (steady-same _ _ refl) refl
+calls-leave_sleepers (Asleep n) w t =
     let old = waker_of n w.sleepers.wakers in
     inside w _ _ refl (steady-same _ _ refl)
-    (none-both (sleeper_goes old) (tell_if (is_none old)) (goes-unseen calling_of (λ g. refl) old)
-    (tell-unseen calling_of refl (is_none old)))
+    (none-both (sleeper_goes old) (tell_and_return (is_none old)) (goes-unseen calling_of (λ g. refl) old)
+    (tell-unseen calling_of refl refl (is_none old)))
 calls-leave_sleepers Left w t = inside w _ _ refl (steady-same _ _ refl) refl
 
 pub calls-tick : (h : Hint) (o : TickOp) (w : World) → Calls w (op.Tick o) (tick_act h o w)
 calls-tick h tick_op.MakeTick w = calls-make _ w
 calls-tick h (tick_op.Search s) w = calls-search_who s.who w s refl
 calls-tick h (tick_op.CopyWaker s) w = calls-copy _ w s
-calls-tick h (tick_op.LieDown s) w = calls-lie _ w s
-calls-tick h (tick_op.GetUp t) w = calls-up _ w t
+calls-tick h (tick_op.FallAsleep s) w = calls-sleep _ w s
+calls-tick h (tick_op.WakeUp t) w = calls-up _ w t
 calls-tick h (tick_op.Leave t) w = calls-leave_sleepers _ w t

@@ -1,3 +1,4 @@
+-- For sleepers_agree and sleepers_are_told.
 -- After every list of steps the sleepers of the machine are sleepers after sections of theirs.
 use Rattle.std.proofs.Common.{◌≡◌, ℕ, zero, suc, ◌+◌, ◌%◌, ◌<◌, ◌≤◌, List, [], ◌∷◌, ◌++◌, length, get_or, set, Bool}
 use Rattle.std.proofs.Common.{true, false, ltb, eqb}
@@ -21,7 +22,7 @@ use Rattle.executor_model.specs.declared.op.RunOp.TheVariants as run_op
 use Rattle.executor_model.specs.declared.op.RunPoll.{RunPoll}
 use Rattle.executor_model.specs.declared.op.Section.{Section}
 use Rattle.executor_model.specs.declared.op.Section.TheVariants as section
-use Rattle.executor_model.specs.declared.op.Sleeper.TheVariants as sleeper
+use Rattle.executor_model.specs.declared.op.TickOrRun.TheVariants as tick_or_run
 use Rattle.executor_model.specs.declared.op.Sleeping.{Sleeping}
 use Rattle.executor_model.specs.declared.op.SleeperOp.{SleeperOp}
 use Rattle.executor_model.specs.declared.op.SleeperOp.TheVariants as sleeper_op
@@ -39,8 +40,8 @@ use Rattle.executor_model.specs.ActsOfRuns.{lock_read, lock_write, make_room_by,
 use Rattle.executor_model.specs.ActsOfSleepers.{exchange_by, hand_out_by, call_sleeper, make_tick_by, polled_as}
 use Rattle.executor_model.specs.Doing.{act}
 use Rattle.executor_model.specs.Acts.{copied}
-use Rattle.executor_model.specs.ActsOfSleepers.{search_by, copy_sleeper_by, lie_anew_by, sleeper_goes}
-use Rattle.executor_model.specs.ActsOfSleepers.{lie_listed_by, lie_again_by, lie_down_by, get_up_by, tell_if}
+use Rattle.executor_model.specs.ActsOfSleepers.{search_by, copy_sleeper_by, sleep_anew_by, sleeper_goes}
+use Rattle.executor_model.specs.ActsOfSleepers.{sleep_listed_by, sleep_again_by, fall_asleep_by, wake_up_by, tell_and_return}
 use Rattle.executor_model.specs.ActsOfSleepers.{pend_as}
 use Rattle.executor_model.specs.ActsOfSleepers.{leave_sleepers_by}
 use Rattle.executor_model.specs.Doing.{list_act, search_by_who, sleeper_act, tick_act}
@@ -48,65 +49,65 @@ use Rattle.executor_model.specs.Good.{Good}
 use Rattle.executor_model.specs.Steps.{Machine, stack, run, start, mine, top, accepts}
 use Rattle.executor_model.specs.Steps.{begun, drop_run, future_of, idle, kept, poll_run, react, with_future}
 use Rattle.executor_model.specs.Weights.{weigh, weigh_all}
-use Rattle.executor_model.specs.declared.op.Sleeper.{Sleeper}
-use Rattle.executor_model.specs.World.{World, Place, Up, Lies, Left, Stage, New, Listed, Ended, Done, done, log}
+use Rattle.executor_model.specs.declared.op.TickOrRun.{TickOrRun}
+use Rattle.executor_model.specs.World.{World, Ticker, Awake, Asleep, Left, Stage, New, Listed, Ended, Done, done, log}
 use Rattle.executor_model.specs.World.{place_of}
-use Rattle.executor_model.proofs.Lift.{split, unsettled, weigh_all-idle, good-start}
-use Rattle.executor_model.proofs.Lists.{weigh-append, weigh_all-push}
-use Rattle.executor_model.proofs.SleepersNext.{goes-unseen, tell-unseen}
-use Rattle.executor_model.proofs.Ways.{Way, acted, reacted, called, along}
+use Rattle.executor_model.proofs.Steps.Lift.{split, unsettled, weigh_all-idle, good-start}
+use Rattle.executor_model.proofs.Steps.Lists.{weigh-append, weigh_all-push}
+use Rattle.executor_model.proofs.Steps.SleepersNext.{goes-unseen, tell-unseen}
+use Rattle.executor_model.proofs.Steps.Ways.{Way, acted, reacted, called, along}
 use Rattle.executor_model.specs.SleepersAgree.{SleepersAgree, hands_of, room_of}
-use Rattle.executor_model.proofs.RunsNext.{walk-unseen}
-use Rattle.executor_model.proofs.SleepersAway.{beds, beds-run, Away, away-act, away-call, away-own, is_bed}
-use Rattle.executor_model.proofs.SleepersAway.{no-owes-searching}
-use Rattle.executor_model.proofs.SleepersAway.{owes-hands, owes-rooms, owes_of, rises-walk}
-use Rattle.executor_model.proofs.SleepersRising.{RisesWell, rises-append, rises-none, rises-push, rises-rest, rises-set}
-use Rattle.executor_model.proofs.SleepersRising.{rises_of, rises_well}
-use Rattle.executor_model.proofs.TickLists.{lying-places, places, rooms-places, times-apart, up_rooms-all}
-use Rattle.executor_model.proofs.TickLists.{used_all-apart}
-use Rattle.executor_model.proofs.SleepersFollowing.{Follows, shift, follows-won, follows-hand_out, follows-make, in-bed}
-use Rattle.executor_model.proofs.SleepersFollowing.{follows-anew, follows-listed, follows-again, follows-returned}
-use Rattle.executor_model.proofs.SleepersFollowing.{follows-room, follows-run, follows-up, follows-left}
-use Rattle.executor_model.proofs.SleepersFollowing.{follows-left_up}
-use Rattle.executor_model.proofs.SleepersFollowing.{follows-unlisted}
+use Rattle.executor_model.proofs.Steps.RunsNext.{walk-unseen}
+use Rattle.executor_model.proofs.Sleepers.SleepersAway.{sleepers_seen, sleepers_seen-run, Away, away-act, away-call, away-own, is_seen_asleep}
+use Rattle.executor_model.proofs.Sleepers.SleepersAway.{no-owes-searching}
+use Rattle.executor_model.proofs.Sleepers.SleepersAway.{owes-hands, owes-rooms, owes_of, wakes_up-walk}
+use Rattle.executor_model.proofs.Sleepers.SleepersWakingUp.{WakesUpWell, wakes_up-append, wakes_up-none, wakes_up-push, wakes_up-rest, wakes_up-set}
+use Rattle.executor_model.proofs.Sleepers.SleepersWakingUp.{wakes_up_of, wakes_up_well}
+use Rattle.executor_model.proofs.Sleepers.TickLists.{slumbering-places, places, rooms-places, times-apart, up_rooms-all}
+use Rattle.executor_model.proofs.Sleepers.TickLists.{used_all-apart}
+use Rattle.executor_model.proofs.Sleepers.SleepersFollowing.{Follows, shift, follows-won, follows-hand_out, follows-make, in-flagged}
+use Rattle.executor_model.proofs.Sleepers.SleepersFollowing.{follows-anew, follows-listed, follows-again, follows-returned}
+use Rattle.executor_model.proofs.Sleepers.SleepersFollowing.{follows-room, follows-run, follows-up, follows-left}
+use Rattle.executor_model.proofs.Sleepers.SleepersFollowing.{follows-left_awake}
+use Rattle.executor_model.proofs.Sleepers.SleepersFollowing.{follows-unlisted}
 
--- they follow on where old is done, while others have still to hand out k times and owe so much room; and who gets up
+-- they follow on where old is done, while others have still to hand out k times and owe so much room; and who wakes up
 -- tells
 pub record Follow (w : World) (old : List Op) (d : Done) : Type 0 where
   pub on : (i j k a b c : ℕ) → i ≡ weigh hands_of old + k → j ≡ weigh hands_of d.next + k →
-      a ≡ weigh room_of old + c → b ≡ weigh room_of d.next + c → Follows (beds w) i a → Follows (beds d.world) j b
-  pub rises : rises_well d.next ≡ true
+      a ≡ weigh room_of old + c → b ≡ weigh room_of d.next + c → Follows (sleepers_seen w) i a → Follows (sleepers_seen d.world) j b
+  pub wakes_up : wakes_up_well d.next ≡ true
 
 -- nothing of it changes, and as many hand out and owe room as before
-shifted : (w v : World) (old next : List Op) → beds w ≡ beds v → weigh hands_of old ≡ weigh hands_of next →
-    weigh room_of old ≡ weigh room_of next → rises_well next ≡ true → Follow w old (done v next)
+shifted : (w v : World) (old next : List Op) → sleepers_seen w ≡ sleepers_seen v → weigh hands_of old ≡ weigh hands_of next →
+    weigh room_of old ≡ weigh room_of next → wakes_up_well next ≡ true → Follow w old (done v next)
 shifted w v old next e p q r = record {
-  on = λ i j k a b c x y z u f. shift (beds w) (beds v) i j a b e (omega (arith, p, x, y)) (omega (arith, q, z, u)) f;
-  rises = r;
+  on = λ i j k a b c x y z u f. shift (sleepers_seen w) (sleepers_seen v) i j a b e (omega (arith, p, x, y)) (omega (arith, q, z, u)) f;
+  wakes_up = r;
 }
 
 -- nothing of it changes, and nobody hands out or owes room
-still : (w v : World) (old next : List Op) → beds w ≡ beds v → weigh owes_of old ≡ 0 → weigh owes_of next ≡ 0 →
-    rises_well next ≡ true → Follow w old (done v next)
+still : (w v : World) (old next : List Op) → sleepers_seen w ≡ sleepers_seen v → weigh owes_of old ≡ 0 → weigh owes_of next ≡ 0 →
+    wakes_up_well next ≡ true → Follow w old (done v next)
 still w v old next e a b r = shifted w v old next e (omega (arith, owes-hands old a, owes-hands next b))
     (omega (arith, owes-rooms old a, owes-rooms next b)) r
 
 -- something changes, and nobody hands out or owes room
-turned : (w v : World) (old next : List Op) → weigh owes_of old ≡ 0 → weigh owes_of next ≡ 0 → rises_well next ≡ true →
-    ((k m : ℕ) → Follows (beds w) k m → Follows (beds v) k m) → Follow w old (done v next)
+turned : (w v : World) (old next : List Op) → weigh owes_of old ≡ 0 → weigh owes_of next ≡ 0 → wakes_up_well next ≡ true →
+    ((k m : ℕ) → Follows (sleepers_seen w) k m → Follows (sleepers_seen v) k m) → Follow w old (done v next)
 turned w v old next p q r t = record {
-  on = λ i j k a b c x y z u f. shift (beds v) (beds v) i j a b refl
+  on = λ i j k a b c x y z u f. shift (sleepers_seen v) (sleepers_seen v) i j a b refl
       (omega (arith, owes-hands old p, owes-hands next q, x, y))
       (omega (arith, owes-rooms old p, owes-rooms next q, z, u))
       (t i a f);
-  rises = r;
+  wakes_up = r;
 }
 
 goes : (o : Option Sleeping) → weigh owes_of (sleeper_goes o) ≡ 0
 goes o = goes-unseen owes_of (λ f. refl) o
 
-goes-well : (o : Option Sleeping) → rises_well (sleeper_goes o) ≡ true
-goes-well o = rises-none (sleeper_goes o) (goes-unseen rises_of (λ f. refl) o)
+goes-well : (o : Option Sleeping) → wakes_up_well (sleeper_goes o) ≡ true
+goes-well o = wakes_up-none (sleeper_goes o) (goes-unseen wakes_up_of (λ f. refl) o)
 
 follow-append : (b : Bool) (w : World) (f : ℕ) → Follow w (op.Queue (queue_op.Append f) ∷ []) (append_by b w f)
 follow-append true w f = still w _ _ _ refl refl refl refl
@@ -118,21 +119,21 @@ follow-exchange true w e = still w _ _ _ refl refl refl refl
 follow-exchange false w e =
     record {
       on = λ i j k a b c x y z u f. let v = (exchange_by false w).world in
-          shift (beds v) (beds v) (i + 1) j a b refl (omega (arith, x, y)) (omega (arith, z, u))
+          shift (sleepers_seen v) (sleepers_seen v) (i + 1) j a b refl (omega (arith, x, y)) (omega (arith, z, u))
           (follows-won w i a e f);
-      rises = refl;
+      wakes_up = refl;
     }
 
 hands-out : (b : Bool) (o : Option Sleeping) (w : World) → eqb (length w.sleepers.wakers) w.sleepers.count ≡ b →
-    weigh owes_of (hand_out_by b o w).next ≡ 0 → rises_well (hand_out_by b o w).next ≡ true →
+    weigh owes_of (hand_out_by b o w).next ≡ 0 → wakes_up_well (hand_out_by b o w).next ≡ true →
     Follow w (op.Sleeper sleeper_op.HandOut ∷ []) (hand_out_by b o w)
 hands-out t o w e n r =
     record {
       on = λ i j k a b c x y z u f. let v = (hand_out_by t o w).world in
           let d = (hand_out_by t o w).next in
-          shift (beds v) (beds v) k j a b refl (omega (arith, y, owes-hands d n)) (omega (arith, z, u, owes-rooms d n))
-          (follows-hand_out t o w k a e (shift (beds w) (beds w) i (k + 1) a a refl (omega (arith, x)) refl f));
-      rises = r;
+          shift (sleepers_seen v) (sleepers_seen v) k j a b refl (omega (arith, y, owes-hands d n)) (omega (arith, z, u, owes-rooms d n))
+          (follows-hand_out t o w k a e (shift (sleepers_seen w) (sleepers_seen w) i (k + 1) a a refl (omega (arith, x)) refl f));
+      wakes_up = r;
     }
 
 follow-hand_out : (b : Bool) (o : Option Sleeping) (w : World) → eqb (length w.sleepers.wakers) w.sleepers.count ≡ b →
@@ -142,7 +143,7 @@ follow-hand_out true None w e = hands-out true None w e refl refl
 follow-hand_out true (Some s) w e = hands-out true (Some s) w e refl refl
 
 follow-away : (w : World) (old : List Op) (d : Done) → weigh owes_of old ≡ 0 → Away w d → Follow w old d
-follow-away w old d z a = still w d.world old d.next a.beds z a.owes a.rises
+follow-away w old d z a = still w d.world old d.next a.sleepers_seen z a.owes a.wakes_up
 
 follow-sleeper : (p : ℕ) (o : SleeperOp) (w : World) → Follow w (op.Sleeper o ∷ []) (sleeper_act p o w)
 follow-sleeper p sleeper_op.ExchangeFlag w = follow-exchange _ w refl
@@ -154,88 +155,102 @@ follow-make : (b : Bool) (w : World) → Follow w (op.Tick tick_op.MakeTick ∷ 
 follow-make true w = still w _ _ _ refl refl refl refl
 follow-make false w = turned w _ _ _ refl refl refl (λ k m f. follows-make w k m f)
 
-follow-search : (x : Place) (q : List ℕ) (w : World) (s : Sleeping) →
+follow-search : (x : Ticker) (q : List ℕ) (w : World) (s : Sleeping) →
     Follow w (op.Tick (tick_op.Search s) ∷ []) (search_by x w q s)
 follow-search x [] w s = still w _ _ _ refl refl refl refl
-follow-search Up (f ∷ rest) w s = still w _ _ _ refl refl refl refl
-follow-search (Lies n) (f ∷ rest) w s = still w _ _ _ refl refl refl refl
+follow-search Awake (f ∷ rest) w s = still w _ _ _ refl refl refl refl
+follow-search (Asleep n) (f ∷ rest) w s = still w _ _ _ refl refl refl refl
 follow-search Left (f ∷ rest) w s = still w _ _ _ refl refl refl refl
 
-follow-search_who : (who : Sleeper) (w : World) (s : Sleeping) →
+follow-search_who : (who : TickOrRun) (w : World) (s : Sleeping) →
     Follow w (op.Tick (tick_op.Search s) ∷ []) (search_by_who who w s)
-follow-search_who (sleeper.Tick t) w s = follow-search _ _ w s
-follow-search_who (sleeper.Run r) w s = follow-away w _ _ refl
+follow-search_who (tick_or_run.Tick t) w s = follow-search _ _ w s
+follow-search_who (tick_or_run.Run r) w s = follow-away w _ _ refl
     (away-own _ w (record { run = r; waker = s.waker; poll = s.poll }))
 
-beds-copied : (a : Waker) (w : World) → beds w ≡ beds (copied w a)
-beds-copied (Task g) w = refl
-beds-copied (Outside x) w = refl
+sleepers_seen-copied : (a : Waker) (w : World) → sleepers_seen w ≡ sleepers_seen (copied w a)
+sleepers_seen-copied (Task g) w = refl
+sleepers_seen-copied (Outside x) w = refl
 
 follow-copy : (b : Bool) (w : World) (s : Sleeping) →
     Follow w (op.Tick (tick_op.CopyWaker s) ∷ []) (copy_sleeper_by b w s)
 follow-copy true w s = still w _ _ _ refl refl refl refl
-follow-copy false w s = still w _ _ _ (beds-copied s.waker w) refl refl refl
+follow-copy false w s = still w _ _ _ (sleepers_seen-copied s.waker w) refl refl refl
 
-follow-anew : (b : Bool) (w : World) (s : Sleeping) → place_of w s.who ≡ Up →
-    ltb w.sleepers.count w.sleepers.rooms ≡ b → Follow w (op.Tick (tick_op.LieDown s) ∷ []) (lie_anew_by b w s)
+follow-anew : (b : Bool) (w : World) (s : Sleeping) → place_of w s.who ≡ Awake →
+    ltb w.sleepers.count w.sleepers.rooms ≡ b → Follow w (op.Tick (tick_op.FallAsleep s) ∷ []) (sleep_anew_by b w s)
 follow-anew true w s e r = turned w _ _ _ refl refl refl (λ k m f. follows-anew w s k m e r f)
 follow-anew false w s e r = still w _ _ _ refl refl refl refl
 
-follow-listed : (b : Bool) (w : World) (n : ℕ) (s : Sleeping) → place_of w s.who ≡ Lies n →
-    position_of n w.sleepers.wakers ≡ None → Follow w (op.Tick (tick_op.LieDown s) ∷ []) (lie_listed_by b w n s)
+follow-listed : (b : Bool) (w : World) (n : ℕ) (s : Sleeping) → place_of w s.who ≡ Asleep n →
+    position_of n w.sleepers.wakers ≡ None → Follow w (op.Tick (tick_op.FallAsleep s) ∷ []) (sleep_listed_by b w n s)
 follow-listed true w n s e q = turned w _ _ _ refl refl refl (λ k m f. follows-listed w n s k m e q f)
 follow-listed false w n s e q = still w _ _ _ refl refl refl refl
 
-follow-again : (o : Option ℕ) (w : World) (n : ℕ) (s : Sleeping) → place_of w s.who ≡ Lies n →
-    position_of n w.sleepers.wakers ≡ o → Follow w (op.Tick (tick_op.LieDown s) ∷ []) (lie_again_by o w n s)
+follow-again : (o : Option ℕ) (w : World) (n : ℕ) (s : Sleeping) → place_of w s.who ≡ Asleep n →
+    position_of n w.sleepers.wakers ≡ o → Follow w (op.Tick (tick_op.FallAsleep s) ∷ []) (sleep_again_by o w n s)
 follow-again None w n s e q = follow-listed _ w n s e q
 follow-again (Some at) w n s e q =
     let old = waker_at (Some at) w.sleepers.wakers in
     turned w _ _ _ refl (omega (arith, weigh-append owes_of (sleeper_goes old) (pend_as s.who), goes old))
-    (rises-append (sleeper_goes old) (pend_as s.who) (goes-well old) refl)
+    (wakes_up-append (sleeper_goes old) (pend_as s.who) (goes-well old) refl)
     (λ k m f. follows-again w n at s k m e q f)
 
-follow-lie : (x : Place) (w : World) (s : Sleeping) → place_of w s.who ≡ x →
-    Follow w (op.Tick (tick_op.LieDown s) ∷ []) (lie_down_by x w s)
-follow-lie Up w s e = follow-anew _ w s e refl
-follow-lie (Lies n) w s e = follow-again _ w n s e refl
-follow-lie Left w s e = still w _ _ _ refl refl refl refl
+follow-sleep : (x : Ticker) (w : World) (s : Sleeping) → place_of w s.who ≡ x →
+    Follow w (op.Tick (tick_op.FallAsleep s) ∷ []) (fall_asleep_by x w s)
+follow-sleep Awake w s e = follow-anew _ w s e refl
+follow-sleep (Asleep n) w s e = follow-again _ w n s e refl
+follow-sleep Left w s e = still w _ _ _ refl refl refl refl
 
-follow-up : (x : Place) (w : World) (t : Sleeper) → place_of w t ≡ x →
-    Follow w (op.Tick (tick_op.GetUp t) ∷ []) (get_up_by x w t)
-follow-up Up w t e = still w _ _ _ refl refl refl refl
-follow-up (Lies n) w t e =
+follow-up : (x : Ticker) (w : World) (t : TickOrRun) → place_of w t ≡ x →
+    Follow w (op.Tick (tick_op.WakeUp t) ∷ []) (wake_up_by x w t)
+follow-up Awake w t e = still w _ _ _ refl refl refl refl
+follow-up (Asleep n) w t e =
     let old = waker_of n w.sleepers.wakers in
     turned w _ _ _ refl (goes old) (goes-well old) (λ k m h. follows-up w t n k m e h)
 follow-up Left w t e = still w _ _ _ refl refl refl refl
 
-tell_if-well : (b : Bool) → rises_well (tell_if b) ≡ true
-tell_if-well true = refl
-tell_if-well false = refl
+tell_and_return-well : (b : Bool) → wakes_up_well (tell_and_return b) ≡ true
+tell_and_return-well true = refl
+tell_and_return-well false = refl
 
-follow-leave : (x : Place) (w : World) (t : Sleeper) → place_of w t ≡ x →
+-- it owes room
+returns : (b : Bool) → weigh room_of (tell_and_return b) ≡ 1
+returns true = refl
+returns false = refl
+
+follow-leave : (x : Ticker) (w : World) (t : TickOrRun) → place_of w t ≡ x →
     Follow w (op.Tick (tick_op.Leave t) ∷ []) (leave_sleepers_by x w t)
-follow-leave Up w t e = turned w _ _ _ refl refl refl (λ k m h. follows-left_up w t k m e h)
-follow-leave (Lies n) w t e =
+follow-leave Awake w t e = turned w _ _ _ refl refl refl (λ k m h. follows-left_awake w t k m e h)
+follow-leave (Asleep n) w t e =
     let old = waker_of n w.sleepers.wakers in
-    let told = tell_if (is_none old) in
-    turned w _ _ _ refl
-    (omega (
+    let told = tell_and_return (is_none old) in
+    let hands : weigh hands_of (sleeper_goes old ++ told) ≡ 0 = omega (
       arith,
-      weigh-append owes_of (sleeper_goes old) told,
-      goes old,
-      tell-unseen owes_of refl (is_none old),
-    ))
-    (rises-append (sleeper_goes old) told (goes-well old) (tell_if-well (is_none old)))
-    (λ k m h. follows-left w t n k m e h)
+      weigh-append hands_of (sleeper_goes old) told,
+      goes-unseen hands_of (λ f. refl) old,
+      tell-unseen hands_of refl refl (is_none old),
+    ) in
+    let room : weigh room_of (sleeper_goes old ++ told) ≡ 1 = omega (
+      arith,
+      weigh-append room_of (sleeper_goes old) told,
+      goes-unseen room_of (λ f. refl) old,
+      returns (is_none old),
+    ) in
+    record {
+      on = λ i j k a b c x y z u f. let v = (leave_sleepers_by (Asleep n) w t).world in
+          shift (sleepers_seen v) (sleepers_seen v) i j (1 + a) b refl (omega (arith, hands, x, y)) (omega (arith, room, z, u))
+          (follows-left w t n i a e f);
+      wakes_up = wakes_up-append (sleeper_goes old) told (goes-well old) (tell_and_return-well (is_none old));
+    }
 follow-leave Left w t e = still w _ _ _ refl refl refl refl
 
 follow-tick : (h : Hint) (o : TickOp) (w : World) → Follow w (op.Tick o ∷ []) (tick_act h o w)
 follow-tick h tick_op.MakeTick w = follow-make _ w
 follow-tick h (tick_op.Search s) w = follow-search_who s.who w s
 follow-tick h (tick_op.CopyWaker s) w = follow-copy _ w s
-follow-tick h (tick_op.LieDown s) w = follow-lie _ w s refl
-follow-tick h (tick_op.GetUp t) w = follow-up _ w t refl
+follow-tick h (tick_op.FallAsleep s) w = follow-sleep _ w s refl
+follow-tick h (tick_op.WakeUp t) w = follow-up _ w t refl
 follow-tick h (tick_op.Leave t) w = follow-leave _ w t refl
 
 -- the list of queues, and room for a run
@@ -250,25 +265,25 @@ follow-make_run true w = shifted w _ _ _ refl refl refl refl
 follow-make_run false w =
     record {
       on = λ i j k a b c x y z u f. let v = (make_run_by false w).world in
-          shift (beds v) (beds v) i j c b refl (omega (arith, x, y)) (omega (arith, u))
-          (follows-run w i c (shift (beds w) (beds w) i i a (c + 1) refl refl (omega (arith, z)) f));
-      rises = refl;
+          shift (sleepers_seen v) (sleepers_seen v) i j c b refl (omega (arith, x, y)) (omega (arith, u))
+          (follows-run w i c (shift (sleepers_seen w) (sleepers_seen w) i i a (c + 1) refl refl (omega (arith, z)) f));
+      wakes_up = refl;
     }
 
-beds-registered : (t : Stage) (w : World) (r : ℕ) → beds w ≡ beds (registered t w r)
-beds-registered New w r = beds-run w r _ refl
-beds-registered Listed w r = refl
-beds-registered Ended w r = refl
+sleepers_seen-registered : (t : Stage) (w : World) (r : ℕ) → sleepers_seen w ≡ sleepers_seen (registered t w r)
+sleepers_seen-registered New w r = sleepers_seen-run w r _ refl
+sleepers_seen-registered Listed w r = refl
+sleepers_seen-registered Ended w r = refl
 
 follow-list : (h : Hint) (o : ListOp) (w : World) → Follow w (op.List o ∷ []) (list_act h o w)
 follow-list h (list_op.LockWrite s) w = follow-lock s w
 follow-list h (list_op.Write section.MakeRun) w = follow-make_run h.refused w
-follow-list h (list_op.Write (section.Register x)) w = still w _ _ _ (beds-registered _ w x.run) refl refl refl
-follow-list h (list_op.Write (section.Unregister r a)) w = still w _ _ _ (beds-run w r _ refl) refl refl refl
+follow-list h (list_op.Write (section.Register x)) w = still w _ _ _ (sleepers_seen-registered _ w x.run) refl refl refl
+follow-list h (list_op.Write (section.Unregister r a)) w = still w _ _ _ (sleepers_seen-run w r _ refl) refl refl refl
 follow-list h list_op.UnlockWrite w = still w _ _ _ refl refl refl refl
 follow-list h (list_op.LockRead x) w = still w (lock_read h w x).world _ (lock_read h w x).next refl refl
     (walk-unseen owes_of no-owes-searching x w.listed (h.start % length w.listed) (length w.listed))
-    (rises-walk x w.listed (h.start % length w.listed) (length w.listed))
+    (wakes_up-walk x w.listed (h.start % length w.listed) (length w.listed))
 follow-list h list_op.UnlockRead w = still w _ _ _ refl refl refl refl
 
 follow-room : (b : Bool) (w : World) → Follow w (op.Run run_op.MakeRoom ∷ []) (make_room_by b w)
@@ -276,26 +291,26 @@ follow-room true w = still w _ _ _ refl refl refl refl
 follow-room false w =
     record {
       on = λ i j k a b c x y z u f. let v = (make_room_by false w).world in
-          shift (beds v) (beds v) i j (a + 1) b refl (omega (arith, x, y)) (omega (arith, z, u)) (follows-room w i a f);
-      rises = refl;
+          shift (sleepers_seen v) (sleepers_seen v) i j (a + 1) b refl (omega (arith, x, y)) (omega (arith, z, u)) (follows-room w i a f);
+      wakes_up = refl;
     }
 
 follow-returned : (w : World) → Follow w (op.Run run_op.ReturnRoom ∷ []) (return_room w)
 follow-returned w =
     record {
       on = λ i j k a b c x y z u f. let v = (return_room w).world in
-          shift (beds v) (beds v) i j c b refl (omega (arith, x, y)) (omega (arith, u))
-          (follows-returned w i c (shift (beds w) (beds w) i i a (1 + c) refl refl (omega (arith, z)) f));
-      rises = refl;
+          shift (sleepers_seen v) (sleepers_seen v) i j c b refl (omega (arith, x, y)) (omega (arith, u))
+          (follows-returned w i c (shift (sleepers_seen w) (sleepers_seen w) i i a (1 + c) refl refl (omega (arith, z)) f));
+      wakes_up = refl;
     }
 
-no-owes : (o : Op) → is_bed o ≡ false → owes_of o ≡ 0
+no-owes : (o : Op) → is_seen_asleep o ≡ false → owes_of o ≡ 0
 no-owes (op.Sleeper o) e = absurd (cc)
 no-owes (op.List o) e = absurd (cc)
 no-owes (op.Run run_op.ReturnRoom) e = absurd (cc)
 no-owes _ e = refl
 
-pub follow-act : (b : Bool) (p : ℕ) (h : Hint) (o : Op) (w : World) → is_bed o ≡ b → Follow w (o ∷ []) (act p h o w)
+pub follow-act : (b : Bool) (p : ℕ) (h : Hint) (o : Op) (w : World) → is_seen_asleep o ≡ b → Follow w (o ∷ []) (act p h o w)
 follow-act false p h o w n = follow-away w (o ∷ []) (act p h o w) (omega (arith, no-owes o n)) (away-act p h o w n)
 follow-act true p h (op.Queue (queue_op.Append g)) w n = follow-append _ w g
 follow-act true p h (op.Sleeper o) w n = follow-sleeper p o w
@@ -316,17 +331,17 @@ follow-react p (op.User (user_op.PollOwn x)) (end.Polled answer.Ready) w a = sti
 follow-react p (op.User (user_op.DropOwn r)) end.Done w a = still w _ _ _ refl refl refl refl
 follow-react p _ _ w a = absurd (cc)
 
-follow-with : (w v : World) (x : Option ℕ) (d : ℕ → Done) → beds w ≡ beds v → ((f : ℕ) → Follow w [] (d f)) →
+follow-with : (w v : World) (x : Option ℕ) (d : ℕ → Done) → sleepers_seen w ≡ sleepers_seen v → ((f : ℕ) → Follow w [] (d f)) →
     Follow w [] (with_future v x d)
 follow-with w v None d e n = still w v _ _ e refl refl refl
 follow-with w v (Some f) d e n = n f
 
-follow-poll_run : (w v : World) (t : Stage) (x : RunPoll) → beds w ≡ beds v → Follow w [] (done v (poll_run t x))
+follow-poll_run : (w v : World) (t : Stage) (x : RunPoll) → sleepers_seen w ≡ sleepers_seen v → Follow w [] (done v (poll_run t x))
 follow-poll_run w v New x e = still w v _ _ e refl refl refl
 follow-poll_run w v Listed x e = still w v _ _ e refl refl refl
 follow-poll_run w v Ended x e = still w v _ _ e refl refl refl
 
-follow-drop_run : (w v : World) (t : Stage) (r : ℕ) → beds w ≡ beds v → Follow w [] (done v (drop_run t r))
+follow-drop_run : (w v : World) (t : Stage) (r : ℕ) → sleepers_seen w ≡ sleepers_seen v → Follow w [] (done v (drop_run t r))
 follow-drop_run w v New r e = still w v _ _ e refl refl refl
 follow-drop_run w v Listed r e = still w v _ _ e refl refl refl
 follow-drop_run w v Ended r e = still w v _ _ e refl refl refl
@@ -345,26 +360,15 @@ follow-begun p w here call.Keep =
     follow-with w (log w (event.CallBegun p call.Keep)) (future_of here) _ refl (λ f. still w _ _ _ refl refl refl refl)
 follow-begun p w here call.WakeSelf = follow-with w (log w (event.CallBegun p call.WakeSelf)) (future_of here) _ refl
     (λ f. still w _ _ _ refl refl refl refl)
-follow-begun p w here call.Spawn = still w _ _ _ refl refl refl refl
-follow-begun p w here call.TryTick = still w _ _ _ refl refl refl refl
-follow-begun p w here call.IsEmpty = still w _ _ _ refl refl refl refl
-follow-begun p w here (call.PollHandle f b) = still w _ _ _ refl refl refl refl
-follow-begun p w here (call.Cancel f) = still w _ _ _ refl refl refl refl
-follow-begun p w here (call.Detach f) = still w _ _ _ refl refl refl refl
-follow-begun p w here (call.DropHandle f) = still w _ _ _ refl refl refl refl
-follow-begun p w here call.NewTick = still w _ _ _ refl refl refl refl
-follow-begun p w here (call.PollTick t b) = still w _ _ _ refl refl refl refl
-follow-begun p w here (call.DropTick t) = still w _ _ _ refl refl refl refl
-follow-begun p w here call.NewRun = still w _ _ _ refl refl refl refl
 follow-begun p w here (call.PollRun r b) = follow-poll_run w _ _ _ refl
-follow-begun p w here (call.DropRun r) = follow-drop_run w _ _ r (beds-run w r _ refl)
-follow-begun p w here call.DropExecutor = still w _ _ _ refl refl refl refl
+follow-begun p w here (call.DropRun r) = follow-drop_run w _ _ r (sleepers_seen-run w r _ refl)
+follow-begun p w here _ = still w _ _ _ refl refl refl refl
 
 -- every step
 
 pub record Followed (s : Machine) : Type 0 where
-  pub follows : Follows (beds s.world) (weigh_all hands_of s.parties) (weigh_all room_of s.parties)
-  pub rises : (q : ℕ) → RisesWell (stack s q)
+  pub follows : Follows (sleepers_seen s.world) (weigh_all hands_of s.parties) (weigh_all room_of s.parties)
+  pub wakes_up : (q : ℕ) → WakesUpWell (stack s q)
 
 follow-way : (s : Machine) (p : ℕ) (old rest : List Op) (d : Done) → Way s p old rest d → Follow s.world old d
 follow-way s p old rest d (acted h o q z) = rw (z, q) (follow-act _ p h o s.world refl)
@@ -377,8 +381,8 @@ moved s p old rest d l e f h = record {
   follows = f.on _ _ (weigh_all hands_of (set s.parties p rest)) _ _ (weigh_all room_of (set s.parties p rest))
       (split hands_of s.parties p old rest l e) (weigh_all-push hands_of s.parties p rest d.next l)
       (split room_of s.parties p old rest l e) (weigh_all-push room_of s.parties p rest d.next l) h.follows;
-  rises = rises-set s.parties p (rest ++ reverse d.next) l h.rises
-      (rises-push rest d.next (rises-rest rest old (subst RisesWell e (h.rises p))) f.rises);
+  wakes_up = wakes_up-set s.parties p (rest ++ reverse d.next) l h.wakes_up
+      (wakes_up-push rest d.next (wakes_up-rest rest old (subst WakesUpWell e (h.wakes_up p))) f.wakes_up);
 }
 
 pub followed-moves : (s : Machine) (p : ℕ) (old rest : List Op) (d : Done) → Good s → p < length s.parties →
@@ -398,11 +402,11 @@ idle-stack (suc n) (suc q) = idle-stack n q
 
 pub followed-start : (limit n : ℕ) → Followed (start limit n)
 followed-start limit n = record {
-  follows = shift (beds (start limit n).world) (beds (start limit n).world) 0 _ 0 _ refl
+  follows = shift (sleepers_seen (start limit n).world) (sleepers_seen (start limit n).world) 0 _ 0 _ refl
       (sym (weigh_all-idle hands_of n))
       (sym (weigh_all-idle room_of n))
-      (record { numbers = []; kept = first; same = λ m. refl; lain = refl; roomed = refl });
-  rises = λ q. ap (λ (os : List Op). rises_well (reverse os)) (idle-stack n q);
+      (record { numbers = []; kept = first; same = λ m. refl; fallen_asleep = refl; roomed = refl });
+  wakes_up = λ q. ap (λ (os : List Op). wakes_up_well (reverse os)) (idle-stack n q);
 }
 
 pub followed : (limit n : ℕ) (ts : List Step) → Followed (run ts (start limit n))
@@ -421,14 +425,14 @@ flag-cases count len e = by (eqb count 0) refl e
 pub agrees : (s : Machine) → Followed s → SleepersAgree s
 agrees s h = let f = h.follows in
     let w = s.world in
-    let ps : List Place = places w.runs in record {
+    let ps : List Ticker = places w.runs in record {
       apart = λ t u n a b. used_all-apart n w.ticks ps t u
-          (omega (arith, f.same n, times-apart n f.numbers f.kept.agree.apart)) (in-bed w t (Lies n) a)
-          (in-bed w u (Lies n) b);
-      counted = omega (arith, f.lain, lying-places w.runs);
+          (omega (arith, f.same n, times-apart n f.numbers f.kept.agree.apart)) (in-flagged w t (Asleep n) a)
+          (in-flagged w u (Asleep n) b);
+      counted = omega (arith, f.fallen_asleep, slumbering-places w.runs);
       listed = f.kept.agree.listed;
       roomed = omega (arith, f.roomed, rooms-places w.runs);
-      finds_room = λ t e. omega (arith, f.lain, f.roomed, up_rooms-all w.ticks ps t (in-bed w t Up e));
+      finds_room = λ t e. omega (arith, f.fallen_asleep, f.roomed, up_rooms-all w.ticks ps t (in-flagged w t Awake e));
       finds_place = λ t n e q. follows-unlisted w t n _ _ e q f;
       flag = λ e. ⊎_elim
           (λ (x : flag_of w.sleepers ≡ true). ⊎_elim (λ (z : w.sleepers.count ≡ 0). inl z)

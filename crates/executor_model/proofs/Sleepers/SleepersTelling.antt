@@ -1,4 +1,5 @@
--- Where a Runnable stands in the queue and a tick or run lies, a sleeper is notified or will be told.
+-- For sleepers_are_told.
+-- Where a Runnable stands in the queue and a tick or run sleeps, a sleeper is notified or will be told.
 use Rattle.std.proofs.Common.{◌≡◌, ℕ, zero, suc, ◌+◌, ◌<◌, ◌≤◌, List, [], ◌∷◌, ◌++◌, length, take, Bool, true, false}
 use Rattle.std.proofs.Common.{ltb, eqb, refl, sym, ap, subst, inl, inr, ◌⊎◌, arith}
 use Rattle.std.proofs.lemmas.Bool.Decides.{nat_tests}
@@ -7,7 +8,7 @@ use Rattle.std.proofs.lemmas.List.Edits.{length-remove}
 use Rattle.std.specs.Prelude.{◌-◌, Option, Some, None, is_none, remove, slice_get}
 use Rattle.queue_steps.specs.ClosableQueue.{ClosableQueue}
 use Rattle.executor_parts.specs.Sleepers.{Sleepers, last_waker, waker_in, waker_at, waker_of}
-use Rattle.executor_parts.specs.Sleepers.{position_of, without_entry, freed, risen}
+use Rattle.executor_parts.specs.Sleepers.{position_of, without_entry, freed, woken_up}
 use Rattle.executor_model.specs.declared.call.Call.{Call}
 use Rattle.executor_model.specs.declared.call.Call.TheVariants as call
 use Rattle.executor_model.specs.declared.event.Answer.TheVariants as answer
@@ -20,7 +21,7 @@ use Rattle.executor_model.specs.declared.op.ListOp.TheVariants as list_op
 use Rattle.executor_model.specs.declared.op.RunOp.TheVariants as run_op
 use Rattle.executor_model.specs.declared.op.RunPoll.{RunPoll}
 use Rattle.executor_model.specs.declared.op.Section.TheVariants as section
-use Rattle.executor_model.specs.declared.op.Sleeper.TheVariants as sleeper
+use Rattle.executor_model.specs.declared.op.TickOrRun.TheVariants as tick_or_run
 use Rattle.executor_model.specs.declared.op.Sleeping.{Sleeping}
 use Rattle.executor_model.specs.declared.op.Steal.{Steal}
 use Rattle.executor_model.specs.declared.op.StealOp.{StealOp}
@@ -46,22 +47,22 @@ use Rattle.executor_model.specs.ActsOfRuns.{search_common_by, search_own_by, ste
 use Rattle.executor_model.specs.ActsOfRuns.{steal_take_by, stolen}
 use Rattle.executor_model.specs.Doing.{act}
 use Rattle.executor_model.specs.Acts.{copied}
-use Rattle.executor_model.specs.ActsOfSleepers.{search_by, copy_sleeper_by, lie_anew_by, sleeper_goes}
-use Rattle.executor_model.specs.ActsOfSleepers.{lie_listed_by, lie_again_by, lie_down_by, get_up_by, given_back}
-use Rattle.executor_model.specs.ActsOfSleepers.{tell_if}
+use Rattle.executor_model.specs.ActsOfSleepers.{search_by, copy_sleeper_by, sleep_anew_by, sleeper_goes}
+use Rattle.executor_model.specs.ActsOfSleepers.{sleep_listed_by, sleep_again_by, fall_asleep_by, wake_up_by, given_back}
+use Rattle.executor_model.specs.ActsOfSleepers.{tell_and_return}
 use Rattle.executor_model.specs.ActsOfSleepers.{leave_sleepers_by}
 use Rattle.executor_model.specs.Doing.{list_act, search_by_who, sleeper_act, steal_act, tick_act}
 use Rattle.executor_model.specs.Steps.{accepts, begun, future_of, react, with_future, kept}
 use Rattle.executor_model.specs.Weights.{weigh}
-use Rattle.executor_model.specs.declared.op.Sleeper.{Sleeper}
-use Rattle.executor_model.specs.World.{World, Place, Up, Lies, Left, Stage, New, Listed, Ended, Done, done, log}
+use Rattle.executor_model.specs.declared.op.TickOrRun.{TickOrRun}
+use Rattle.executor_model.specs.World.{World, Ticker, Awake, Asleep, Left, Stage, New, Listed, Ended, Done, done, log}
 use Rattle.executor_model.specs.World.{put_own, run_of}
-use Rattle.executor_model.proofs.Lists.{weigh-append}
-use Rattle.executor_model.proofs.SleepersLists.{position-within}
+use Rattle.executor_model.proofs.Steps.Lists.{weigh-append}
+use Rattle.executor_model.proofs.Steps.SleepersLists.{position-within}
 use Rattle.executor_model.specs.SleepersAgree.{hands_of}
 use Rattle.executor_model.specs.SleepersTold.{tells_of, tells_steal, tells_then}
-use Rattle.executor_model.proofs.SleepersAway.{beds, beds-run, Away, away-act, away-call, is_bed}
-use Rattle.executor_model.proofs.SleepersRising.{rises_of}
+use Rattle.executor_model.proofs.Sleepers.SleepersAway.{sleepers_seen, sleepers_seen-run, Away, away-act, away-call, is_seen_asleep}
+use Rattle.executor_model.proofs.Sleepers.SleepersWakingUp.{wakes_up_of}
 
 -- so it is where so many have still to tell
 pub record Told (w : World) (i : ℕ) : Type 0 where
@@ -76,10 +77,10 @@ pub record Ground (w : World) (a : ℕ) : Type 0 where
 -- up there is one
 pub record Tells (w : World) (old : List Op) (d : Done) : Type 0 where
   pub on : (i j k a m : ℕ) → i ≡ weigh tells_of old + k → j ≡ weigh tells_of d.next + k → a ≡ weigh hands_of old + m →
-      m ≤ k → weigh rises_of old ≤ k → Ground w a → Told w i → Told d.world j
+      m ≤ k → weigh wakes_up_of old ≤ k → Ground w a → Told w i → Told d.world j
 
 -- the sleepers stay, and the queue gets no longer
-same-told : (w v : World) (i j : ℕ) → beds w ≡ beds v → length v.queue.items ≤ length w.queue.items → i ≤ j → Told w i →
+same-told : (w v : World) (i j : ℕ) → sleepers_seen w ≡ sleepers_seen v → length v.queue.items ≤ length w.queue.items → i ≤ j → Told w i →
     Told v j
 same-told w v i j e q l t =
     let c : w.sleepers.count ≡ v.sleepers.count = ap (λ b. b.sleepers.count) e in
@@ -87,12 +88,12 @@ same-told w v i j e q l t =
     grind arith
 
 -- they stay, the queue gets no longer, and as many tell as before
-pub steady : (w v : World) (old next : List Op) → beds w ≡ beds v → length v.queue.items ≤ length w.queue.items →
+pub steady : (w v : World) (old next : List Op) → sleepers_seen w ≡ sleepers_seen v → length v.queue.items ≤ length w.queue.items →
     weigh tells_of old ≤ weigh tells_of next → Tells w old (done v next)
 steady w v old next e q z =
     record { on = λ i j k a m x y u l r g t. same-told w v i j e q (omega (arith, x, y, z)) t }
 
-pub quiet : (w v : World) (old next : List Op) → beds w ≡ beds v → length v.queue.items ≤ length w.queue.items →
+pub quiet : (w v : World) (old next : List Op) → sleepers_seen w ≡ sleepers_seen v → length v.queue.items ≤ length w.queue.items →
     weigh tells_of old ≡ 0 → Tells w old (done v next)
 quiet w v old next e q z = steady w v old next e q (omega (arith, z))
 
@@ -140,7 +141,7 @@ tells-sleeper : (p : ℕ) (o : SleeperOp) (w : World) → Tells w (op.Sleeper o 
 tells-sleeper p sleeper_op.ExchangeFlag w = tells-exchange _ w refl
 tells-sleeper p sleeper_op.HandOut w = tells-hand_out _ _ w refl refl
 tells-sleeper p (sleeper_op.CallSleeper s) w = let a = away-call p w (polled_as s.who) s.waker s.poll in
-    quiet w (call_sleeper p w s).world _ (call_sleeper p w s).next a.beds a.queue refl
+    quiet w (call_sleeper p w s).world _ (call_sleeper p w s).next a.sleepers_seen a.queue refl
 
 -- ticks and runs
 
@@ -148,19 +149,19 @@ tells-make : (b : Bool) (w : World) → Tells w (op.Tick tick_op.MakeTick ∷ []
 tells-make true w = quiet w _ _ _ refl (omega arith) refl
 tells-make false w = record { on = λ i j k a m x y u l r g t. record { told = λ p q. grind arith } }
 
-tells-search : (x : Place) (q : List ℕ) (w : World) (s : Sleeping) → w.queue.items ≡ q →
+tells-search : (x : Ticker) (q : List ℕ) (w : World) (s : Sleeping) → w.queue.items ≡ q →
     Tells w (op.Tick (tick_op.Search s) ∷ []) (search_by x w q s)
 tells-search x [] w s e =
     record {
       on = λ i j k a m x y u l r g t.
           record { told = λ p q. absurd (let z : length w.queue.items ≡ 0 = ap length e in omega (arith, p, z)) };
     }
-tells-search Up (f ∷ rest) w s e = loud w _ _ _ (omega arith)
-tells-search (Lies n) (f ∷ rest) w s e = loud w _ _ _ (omega arith)
+tells-search Awake (f ∷ rest) w s e = loud w _ _ _ (omega arith)
+tells-search (Asleep n) (f ∷ rest) w s e = loud w _ _ _ (omega arith)
 tells-search Left (f ∷ rest) w s e = loud w _ _ _ (omega arith)
 
 tells-copied : (a : Waker) (w : World) →
-    (beds w ≡ beds (copied w a)) × (length (copied w a).queue.items ≤ length w.queue.items)
+    (sleepers_seen w ≡ sleepers_seen (copied w a)) × (length (copied w a).queue.items ≤ length w.queue.items)
 tells-copied (Task g) w = (refl, omega arith)
 tells-copied (Outside x) w = (refl, omega arith)
 
@@ -169,17 +170,17 @@ tells-copy : (b : Bool) (w : World) (s : Sleeping) →
 tells-copy true w s = quiet w _ _ _ refl (omega arith) refl
 tells-copy false w s = let c = tells-copied s.waker w in quiet w _ _ _ c.0 c.1 refl
 
-tells-anew : (b : Bool) (w : World) (s : Sleeping) → Tells w (op.Tick (tick_op.LieDown s) ∷ []) (lie_anew_by b w s)
+tells-anew : (b : Bool) (w : World) (s : Sleeping) → Tells w (op.Tick (tick_op.FallAsleep s) ∷ []) (sleep_anew_by b w s)
 tells-anew true w s = loud w _ _ _ (omega arith)
 tells-anew false w s = quiet w _ _ _ refl (omega arith) refl
 
 tells-listed : (b : Bool) (w : World) (n : ℕ) (s : Sleeping) →
-    Tells w (op.Tick (tick_op.LieDown s) ∷ []) (lie_listed_by b w n s)
+    Tells w (op.Tick (tick_op.FallAsleep s) ∷ []) (sleep_listed_by b w n s)
 tells-listed true w n s = loud w _ _ _ (omega arith)
 tells-listed false w n s = quiet w _ _ _ refl (omega arith) refl
 
 tells-again : (o : Option ℕ) (w : World) (n : ℕ) (s : Sleeping) →
-    Tells w (op.Tick (tick_op.LieDown s) ∷ []) (lie_again_by o w n s)
+    Tells w (op.Tick (tick_op.FallAsleep s) ∷ []) (sleep_again_by o w n s)
 tells-again None w n s = tells-listed _ w n s
 tells-again (Some at) w n s =
     record {
@@ -187,19 +188,19 @@ tells-again (Some at) w n s =
           record { told = λ p q. grind arith };
     }
 
-tells-lie : (x : Place) (w : World) (s : Sleeping) → Tells w (op.Tick (tick_op.LieDown s) ∷ []) (lie_down_by x w s)
-tells-lie Up w s = tells-anew _ w s
-tells-lie (Lies n) w s = tells-again _ w n s
-tells-lie Left w s = quiet w _ _ _ refl (omega arith) refl
+tells-sleep : (x : Ticker) (w : World) (s : Sleeping) → Tells w (op.Tick (tick_op.FallAsleep s) ∷ []) (fall_asleep_by x w s)
+tells-sleep Awake w s = tells-anew _ w s
+tells-sleep (Asleep n) w s = tells-again _ w n s
+tells-sleep Left w s = quiet w _ _ _ refl (omega arith) refl
 
-tells-up : (x : Place) (w : World) (t : Sleeper) → Tells w (op.Tick (tick_op.GetUp t) ∷ []) (get_up_by x w t)
+tells-up : (x : Ticker) (w : World) (t : TickOrRun) → Tells w (op.Tick (tick_op.WakeUp t) ∷ []) (wake_up_by x w t)
 tells-up x w t = record {
   on = λ i j k a m y z u l r g h. record { told = λ p q. let b : 1 ≤ j = omega (arith, z, r) in inr b };
 }
 
 -- one with a waker leaves: it, and its waker
 left : (n at : ℕ) (s : Sleepers Sleeping) → position_of n s.wakers ≡ Some at → length s.wakers ≤ s.count →
-    ((risen n s).count + 1 ≡ s.count) × (length (risen n s).wakers + 1 ≡ length s.wakers)
+    ((woken_up n s).count + 1 ≡ s.count) × (length (woken_up n s).wakers + 1 ≡ length s.wakers)
 left n at s e l = subst (λ (o : Option ℕ). ((freed n (without_entry o s)).count + 1 ≡ s.count)
     × (length (freed n (without_entry o s)).wakers + 1 ≡ length s.wakers)) (sym e)
     (by (ltb (length (remove s.wakers at)) s.count) refl)
@@ -234,24 +235,21 @@ has-place n ws a e = by (position_of n ws) refl e
     by None q k = absurd (cc)
     by (Some at) q k = (at, q)
 
-tells-left : (old : Option Sleeping) (w : World) (t : Sleeper) (n : ℕ) → waker_of n w.sleepers.wakers ≡ old →
-    Tells w (op.Tick (tick_op.Leave t) ∷ []) (leave_sleepers_by (Lies n) w t)
+tells-left : (old : Option Sleeping) (w : World) (t : TickOrRun) (n : ℕ) → waker_of n w.sleepers.wakers ≡ old →
+    Tells w (op.Tick (tick_op.Leave t) ∷ []) (leave_sleepers_by (Asleep n) w t)
 tells-left None w t n e =
     let o = waker_of n w.sleepers.wakers in
-    let told : weigh tells_of (tell_if (is_none o)) ≡ 1 =
-    ap (λ (x : Option Sleeping). weigh tells_of (tell_if (is_none x))) e in
+    let told : weigh tells_of (tell_and_return (is_none o)) ≡ 1 =
+    ap (λ (x : Option Sleeping). weigh tells_of (tell_and_return (is_none x))) e in
     loud w _ _ _
-    (omega (arith, told, weigh-append tells_of (sleeper_goes o) (tell_if (is_none o))))
+    (omega (arith, told, weigh-append tells_of (sleeper_goes o) (tell_and_return (is_none o))))
 tells-left (Some x) w t n e = record {
   on = λ i j k a m p q u l r g h. record {
     told = λ b c.
         let here = has-place n w.sleepers.wakers x e in
         let less = left n here.0 w.sleepers here.1 g.listed in
-        let same = given (risen n w.sleepers) in
-        let z : length (given_back (risen n w.sleepers)).wakers ≡ length (risen n w.sleepers).wakers =
-        ap length same.1 in
-        moved w.sleepers.count (length w.sleepers.wakers) _ _ i j (omega (arith, less.0, same.0))
-        (omega (arith, less.1, z)) (omega (arith, p, q)) (h.told b (omega (arith, c, less.0, same.0)));
+        moved w.sleepers.count (length w.sleepers.wakers) _ _ i j (omega (arith, less.0)) (omega (arith, less.1))
+        (omega (arith, p, q)) (h.told b (omega (arith, c, less.0)));
   };
 }
   where
@@ -259,32 +257,32 @@ tells-left (Some x) w t n e = record {
     moved c n c2 n2 i j a b l (inl x) = inl (omega (arith, a, b, x))
     moved c n c2 n2 i j a b l (inr x) = inr (omega (arith, l, x))
 
-tells-leave : (x : Place) (w : World) (t : Sleeper) → Tells w (op.Tick (tick_op.Leave t) ∷ []) (leave_sleepers_by x w t)
-tells-leave Up w t =
+tells-leave : (x : Ticker) (w : World) (t : TickOrRun) → Tells w (op.Tick (tick_op.Leave t) ∷ []) (leave_sleepers_by x w t)
+tells-leave Awake w t =
     record {
       on = λ i j k a m x y u l r g h. let same = given w.sleepers in
           let z : length (given_back w.sleepers).wakers ≡ length w.sleepers.wakers = ap length same.1 in
           let y2 = same.0 in
           record { told = λ p q. grind arith };
     }
-tells-leave (Lies n) w t = tells-left _ w t n refl
+tells-leave (Asleep n) w t = tells-left _ w t n refl
 tells-leave Left w t = quiet w _ _ _ refl (omega arith) refl
 
 -- runs
 
-tells-rises : (x : Place) (who : Sleeper) (more : List Op) →
+tells-wakes_up : (x : Ticker) (who : TickOrRun) (more : List Op) →
     1 ≤ weigh tells_of (found_by x who (op.Sleeper sleeper_op.ExchangeFlag ∷ more))
-tells-rises Up who more = omega arith
-tells-rises (Lies n) who more = omega arith
-tells-rises Left who more = omega arith
+tells-wakes_up Awake who more = omega arith
+tells-wakes_up (Asleep n) who more = omega arith
+tells-wakes_up Left who more = omega arith
 
 tells-found : (w : World) (x : RunPoll) (f : ℕ) → 1 ≤ weigh tells_of (found w x f).next
 tells-found w x f =
-    let first = found_by (run_of w x.run).place (sleeper.Run x.run) (op.Sleeper sleeper_op.ExchangeFlag ∷ []) in
+    let first = found_by (run_of w x.run).place (tick_or_run.Run x.run) (op.Sleeper sleeper_op.ExchangeFlag ∷ []) in
     omega (
       arith,
       weigh-append tells_of first (counted_by (eqb ((run_of w x.run).counted + 1) 64) w x f).next,
-      tells-rises (run_of w x.run).place (sleeper.Run x.run) [],
+      tells-wakes_up (run_of w x.run).place (tick_or_run.Run x.run) [],
     )
 
 tells-own : (q : List ℕ) (w : World) (s : Sleeping) (x : RunPoll) →
@@ -293,10 +291,10 @@ tells-own [] w s x = loud w _ _ _ (omega arith)
 tells-own (f ∷ rest) w s x = loud w (found (put_own w x.run rest) x f).world _ (found (put_own w x.run rest) x f).next
     (tells-found (put_own w x.run rest) x f)
 
-tells-search_who : (who : Sleeper) (w : World) (s : Sleeping) →
+tells-search_who : (who : TickOrRun) (w : World) (s : Sleeping) →
     Tells w (op.Tick (tick_op.Search s) ∷ []) (search_by_who who w s)
-tells-search_who (sleeper.Tick t) w s = tells-search _ _ w s refl
-tells-search_who (sleeper.Run r) w s = tells-own _ w s _
+tells-search_who (tick_or_run.Tick t) w s = tells-search _ _ w s refl
+tells-search_who (tick_or_run.Run r) w s = tells-own _ w s _
 
 tells-common : (q : List ℕ) (w : World) (x : RunPoll) → w.queue.items ≡ q →
     Tells w (op.Run (run_op.SearchCommon x) ∷ []) (search_common_by q w x)
@@ -333,13 +331,9 @@ register-still Ended w r = (refl, refl)
 
 list-still : (h : Hint) (o : ListOp) (w : World) →
     ((list_act h o w).world.sleepers ≡ w.sleepers) × ((list_act h o w).world.queue ≡ w.queue)
-list-still h (list_op.LockWrite s) w = (refl, refl)
 list-still h (list_op.Write section.MakeRun) w = make-still h.refused w
 list-still h (list_op.Write (section.Register x)) w = register-still _ w x.run
-list-still h (list_op.Write (section.Unregister r a)) w = (refl, refl)
-list-still h list_op.UnlockWrite w = (refl, refl)
-list-still h (list_op.LockRead x) w = (refl, refl)
-list-still h list_op.UnlockRead w = (refl, refl)
+list-still h _ w = (refl, refl)
 
 told-still : (w v : World) (i j : ℕ) → v.sleepers ≡ w.sleepers → v.queue ≡ w.queue → i ≤ j → Told w i → Told v j
 told-still w v i j e q l t =
@@ -388,8 +382,8 @@ tells-tick : (h : Hint) (o : TickOp) (w : World) → Tells w (op.Tick o ∷ []) 
 tells-tick h tick_op.MakeTick w = tells-make _ w
 tells-tick h (tick_op.Search s) w = tells-search_who s.who w s
 tells-tick h (tick_op.CopyWaker s) w = tells-copy _ w s
-tells-tick h (tick_op.LieDown s) w = tells-lie _ w s
-tells-tick h (tick_op.GetUp t) w = tells-up _ w t
+tells-tick h (tick_op.FallAsleep s) w = tells-sleep _ w s
+tells-tick h (tick_op.WakeUp t) w = tells-up _ w t
 tells-tick h (tick_op.Leave t) w = tells-leave _ w t
 
 -- a steal, and a run that looks at the executor's queue
@@ -398,26 +392,26 @@ hunts (op.Steal o) = true
 hunts (op.Run (run_op.SearchCommon x)) = true
 hunts _ = false
 
-no-tells : (o : Op) → is_bed o ≡ false → hunts o ≡ false → tells_of o ≡ 0
+no-tells : (o : Op) → is_seen_asleep o ≡ false → hunts o ≡ false → tells_of o ≡ 0
 no-tells (op.Sleeper o) e q = absurd (cc)
 no-tells (op.Tick o) e q = absurd (cc)
 no-tells (op.Steal o) e q = absurd (cc)
 no-tells (op.Run (run_op.SearchCommon x)) e q = absurd (cc)
 no-tells _ e q = refl
 
-tells-hunt : (b : Bool) (p : ℕ) (h : Hint) (o : Op) (w : World) → is_bed o ≡ false → hunts o ≡ b →
+tells-hunt : (b : Bool) (p : ℕ) (h : Hint) (o : Op) (w : World) → is_seen_asleep o ≡ false → hunts o ≡ b →
     Tells w (o ∷ []) (act p h o w)
 tells-hunt false p h o w n e =
     let a : Away w (act p h o w) = away-act p h o w n in
-    quiet w (act p h o w).world (o ∷ []) (act p h o w).next a.beds a.queue (omega (arith, no-tells o n e))
+    quiet w (act p h o w).world (o ∷ []) (act p h o w).next a.sleepers_seen a.queue (omega (arith, no-tells o n e))
 tells-hunt true p h (op.Steal o) w n e =
     let a : Away w (steal_act p o w) = away-act p h (op.Steal o) w n in
-    steady w (steal_act p o w).world (op.Steal o ∷ []) (steal_act p o w).next a.beds a.queue
+    steady w (steal_act p o w).world (op.Steal o ∷ []) (steal_act p o w).next a.sleepers_seen a.queue
     (omega (arith, tells-steal p o w))
 tells-hunt true p h (op.Run (run_op.SearchCommon x)) w n e = tells-common _ w x refl
 tells-hunt true p h _ w n e = absurd (cc)
 
-pub tells-act : (b : Bool) (p : ℕ) (h : Hint) (o : Op) (w : World) → is_bed o ≡ b → Tells w (o ∷ []) (act p h o w)
+pub tells-act : (b : Bool) (p : ℕ) (h : Hint) (o : Op) (w : World) → is_seen_asleep o ≡ b → Tells w (o ∷ []) (act p h o w)
 tells-act false p h o w n = tells-hunt _ p h o w n refl
 tells-act true p h (op.Queue (queue_op.Append g)) w n = tells-append _ w g
 tells-act true p h (op.Sleeper o) w n = tells-sleeper p o w
@@ -438,7 +432,7 @@ tells-react p (op.User (user_op.PollOwn x)) (end.Polled answer.Ready) w a = quie
 tells-react p (op.User (user_op.DropOwn r)) end.Done w a = quiet w _ _ _ refl (omega arith) refl
 tells-react p _ _ w a = absurd (cc)
 
-tells-with : (w v : World) (x : Option ℕ) (d : ℕ → Done) → beds w ≡ beds v → v.queue ≡ w.queue →
+tells-with : (w v : World) (x : Option ℕ) (d : ℕ → Done) → sleepers_seen w ≡ sleepers_seen v → v.queue ≡ w.queue →
     ((f : ℕ) → Tells w [] (d f)) → Tells w [] (with_future v x d)
 tells-with w v None d e q n = quiet w v _ _ e (omega (arith, ap (λ (c : ClosableQueue ℕ). length c.items) q)) refl
 tells-with w v (Some f) d e q n = n f
@@ -458,17 +452,5 @@ tells-begun p w here call.Keep =
     (λ f. quiet w _ _ _ refl (omega arith) refl)
 tells-begun p w here call.WakeSelf = tells-with w (log w (event.CallBegun p call.WakeSelf)) (future_of here) _ refl refl
     (λ f. quiet w _ _ _ refl (omega arith) refl)
-tells-begun p w here call.Spawn = quiet w _ _ _ refl (omega arith) refl
-tells-begun p w here call.TryTick = quiet w _ _ _ refl (omega arith) refl
-tells-begun p w here call.IsEmpty = quiet w _ _ _ refl (omega arith) refl
-tells-begun p w here (call.PollHandle f b) = quiet w _ _ _ refl (omega arith) refl
-tells-begun p w here (call.Cancel f) = quiet w _ _ _ refl (omega arith) refl
-tells-begun p w here (call.Detach f) = quiet w _ _ _ refl (omega arith) refl
-tells-begun p w here (call.DropHandle f) = quiet w _ _ _ refl (omega arith) refl
-tells-begun p w here call.NewTick = quiet w _ _ _ refl (omega arith) refl
-tells-begun p w here (call.PollTick t b) = quiet w _ _ _ refl (omega arith) refl
-tells-begun p w here (call.DropTick t) = quiet w _ _ _ refl (omega arith) refl
-tells-begun p w here call.NewRun = quiet w _ _ _ refl (omega arith) refl
-tells-begun p w here (call.PollRun r b) = quiet w _ _ _ refl (omega arith) refl
-tells-begun p w here (call.DropRun r) = quiet w _ _ _ (beds-run w r _ refl) (omega arith) refl
-tells-begun p w here call.DropExecutor = quiet w _ _ _ refl (omega arith) refl
+tells-begun p w here (call.DropRun r) = quiet w _ _ _ (sleepers_seen-run w r _ refl) (omega arith) refl
+tells-begun p w here _ = quiet w _ _ _ refl (omega arith) refl

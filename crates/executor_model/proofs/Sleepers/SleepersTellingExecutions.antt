@@ -1,4 +1,5 @@
--- After every list of steps, where a Runnable stands in the queue and a tick or run lies,
+-- For sleepers_are_told.
+-- After every list of steps, where a Runnable stands in the queue and a tick or run sleeps,
 -- a sleeper is notified or will be told.
 use Rattle.std.proofs.Common.{◌≡◌, ℕ, zero, suc, ◌<◌, ◌≤◌, List, [], ◌∷◌, ◌++◌, length, set, refl, subst, arith}
 use Rattle.std.specs.Prelude.{reverse}
@@ -14,21 +15,18 @@ use Rattle.executor_model.specs.Good.{Good}
 use Rattle.executor_model.specs.Steps.{Machine, stack, run, start, mine, top}
 use Rattle.executor_model.specs.Weights.{weigh, weigh_all}
 use Rattle.executor_model.specs.World.{Done, done, log}
-use Rattle.executor_model.proofs.Lift.{split, unsettled, good-start}
-use Rattle.executor_model.proofs.Lists.{weigh_all-below, weigh_all-push}
-use Rattle.executor_model.proofs.Ways.{Way, acted, reacted, called, along}
+use Rattle.executor_model.proofs.Steps.Lift.{split, unsettled, good-start}
+use Rattle.executor_model.proofs.Steps.Lists.{weigh_all-below, weigh_all-push}
+use Rattle.executor_model.proofs.Steps.Ways.{Way, acted, reacted, called, along}
 use Rattle.executor_model.specs.SleepersAgree.{SleepersAgree, hands_of}
 use Rattle.executor_model.specs.SleepersTold.{SleepersAreTold, tells_of}
-use Rattle.executor_model.proofs.SleepersRising.{RisesWell, rises-old, rises_of}
-use Rattle.executor_model.proofs.SleepersFollowingRuns.{Followed, followed-moves, followed-ends, followed-start, agrees}
-use Rattle.executor_model.proofs.SleepersTelling.{Told, Ground, Tells, tells-act, tells-react, tells-begun, quiet}
+use Rattle.executor_model.proofs.Sleepers.SleepersWakingUp.{WakesUpWell, wakes_up-old, wakes_up_of}
+use Rattle.executor_model.proofs.Sleepers.SleepersFollowingExecutions.{Followed, followed-moves, followed-ends, followed-start, agrees}
+use Rattle.executor_model.proofs.Sleepers.SleepersTelling.{Told, Ground, Tells, tells-act, tells-react, tells-begun, quiet}
 
 -- who hands out tells
 hands-tell : (o : Op) → hands_of o ≤ tells_of o
 hands-tell (op.Sleeper sleeper_op.ExchangeFlag) = omega arith
-hands-tell (op.Sleeper sleeper_op.HandOut) = omega arith
-hands-tell (op.Sleeper (sleeper_op.CallSleeper s)) = omega arith
-hands-tell (op.Tick o) = omega arith
 hands-tell (op.Queue queue_op.Take) = omega arith
 hands-tell _ = omega arith
 
@@ -47,13 +45,13 @@ tell-way s p old rest d (acted h o q z) = rw (z, q) (tells-act _ p h o s.world r
 tell-way s p old rest d (reacted o u a q z) = rw (z, q) (tells-react p o u s.world a)
 tell-way s p old rest d (called c q r n z) = rw (z, q) (tells-begun p s.world (mine (top (stack s p))) c)
 
--- below who gets up the same party tells
-way-rises : (s : Machine) (p : ℕ) (old rest : List Op) (d : Done) → Way s p old rest d →
-    RisesWell (rest ++ reverse old) →
-    weigh rises_of old ≤ weigh tells_of rest
-way-rises s p old rest d (acted h o q z) = rw q (λ e. omega (arith, rises-old rest o e))
-way-rises s p old rest d (reacted o u a q z) = rw q (λ e. omega (arith, rises-old rest o e))
-way-rises s p old rest d (called c q r n z) = rw q (λ e. omega arith)
+-- below who wakes up the same party tells
+way-wakes_up : (s : Machine) (p : ℕ) (old rest : List Op) (d : Done) → Way s p old rest d →
+    WakesUpWell (rest ++ reverse old) →
+    weigh wakes_up_of old ≤ weigh tells_of rest
+way-wakes_up s p old rest d (acted h o q z) = rw q (λ e. omega (arith, wakes_up-old rest o e))
+way-wakes_up s p old rest d (reacted o u a q z) = rw q (λ e. omega (arith, wakes_up-old rest o e))
+way-wakes_up s p old rest d (called c q r n z) = rw q (λ e. omega arith)
 
 -- one stack's part of the sum over all
 here : (ss : List (List Op)) (p : ℕ) (os : List Op) → p < length ss →
@@ -70,7 +68,7 @@ tell-moves s p old rest d good l e w h = record {
       (weigh_all hands_of (set s.parties p rest)) (split tells_of s.parties p old rest l e)
       (weigh_all-push tells_of s.parties p rest d.next l) (split hands_of s.parties p old rest l e)
       (hands-all (set s.parties p rest))
-      (omega (arith, way-rises s p old rest d w (subst RisesWell e (h.followed.rises p)), here s.parties p rest l))
+      (omega (arith, way-wakes_up s p old rest d w (subst WakesUpWell e (h.followed.wakes_up p)), here s.parties p rest l))
       (ground s h.followed) h.told;
 }
 

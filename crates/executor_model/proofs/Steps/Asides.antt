@@ -1,3 +1,4 @@
+-- For all laws.
 -- What a move owes, what is left to do where a waker goes, and the steps of the executor's drop weigh nothing
 -- in a count that sees none of it.
 use Rattle.std.proofs.Common.{◌≡◌, ℕ, List, [], ◌∷◌, Bool, true, false, refl, arith}
@@ -21,7 +22,7 @@ use Rattle.executor_model.specs.declared.op.WakerOp.TheVariants as waker_op
 use Rattle.executor_model.specs.Acts.{waker_goes, let_go, told, closing_ops}
 use Rattle.executor_model.specs.Carried.{awaiter_ops, owed_ops}
 use Rattle.executor_model.specs.Weights.{weigh}
-use Rattle.executor_model.proofs.Owed.{owed-future, owed-awaiter, owed-nothing}
+use Rattle.executor_model.proofs.Steps.Owed.{owed-future, owed-awaiter, owed-nothing}
 
 -- v sees no move, nothing that a move owes, and no call of an awaiter
 pub record Aside (v : Op → ℕ) : Type 0 where

@@ -1,3 +1,4 @@
+-- For all laws.
 -- What the beginning of a call keeps.
 use Rattle.std.proofs.Common.{◌≡◌, ℕ, zero, suc, ◌+◌, ◌≤◌, List, [], ◌∷◌, length}
 use Rattle.std.proofs.Common.{Bool, true, false, ◌&&◌, ◌||◌, not, eqb, refl, sym, ap, ◌∙◌}
@@ -40,14 +41,14 @@ use Rattle.executor_model.specs.Steps.{kept, has_all}
 use Rattle.executor_model.specs.Steps.{is_on_executor, is_drop, is_unused, is_unborrowed, unless}
 use Rattle.executor_model.specs.Steps.{used_up, with_future}
 use Rattle.executor_model.specs.Steps.{waker_of, future_of, poll_run, drop_run, begun}
-use Rattle.executor_model.proofs.Lists.{same_is, past_is, phase-push}
-use Rattle.executor_model.proofs.Lists.{wakers_past-used, weigh_all-below}
-use Rattle.executor_model.proofs.Effects.Effect.{passes}
-use Rattle.executor_model.proofs.EffectsCalls.{by_call, goes-begun}
-use Rattle.executor_model.proofs.SoundAll.{sound-effect}
-use Rattle.executor_model.proofs.Fitting.{Grows}
-use Rattle.executor_model.proofs.RunsPlain.{plain-list, plain-run, plain-steal}
-use Rattle.executor_model.proofs.Growing.{KeepsHere}
+use Rattle.executor_model.proofs.Steps.Lists.{same_is, past_is, phase-push}
+use Rattle.executor_model.proofs.Steps.Lists.{wakers_past-used, weigh_all-below}
+use Rattle.executor_model.proofs.OneFuture.Effects.Effect.{passes}
+use Rattle.executor_model.proofs.OneFuture.EffectsCalls.{by_call, goes-begun}
+use Rattle.executor_model.proofs.Counts.SoundAll.{sound-effect}
+use Rattle.executor_model.proofs.Counts.Fitting.{Grows}
+use Rattle.executor_model.proofs.Steps.RunsPlain.{plain-list, plain-run, plain-steal}
+use Rattle.executor_model.proofs.Steps.Growing.{KeepsHere}
 
 -- the beginning of a call
 

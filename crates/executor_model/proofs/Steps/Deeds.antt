@@ -1,5 +1,6 @@
--- What each thing that is done adds to the trace: what its own party does, and no end of a call.
-use Rattle.std.proofs.Common.{◌≡◌, ◌≢◌, ℕ, List, [], ◌∷◌, ◌++◌, length, Bool, true, false}
+-- For calls_do_what_they_say.
+-- What each thing that is done adds to the trace: what its own party does, and no beginning or end of a call.
+use Rattle.std.proofs.Common.{◌≡◌, ◌≢◌, ℕ, List, [], ◌∷◌, ◌++◌, length, Bool, true, false, ◌||◌}
 use Rattle.std.proofs.Common.{refl, sym, ap, ◌∙◌, append-nil, arith}
 use Rattle.std.proofs.lemmas.Bool.Decides.{nat_tests}
 use Rattle.std.proofs.lemmas.List.{append_assoc}
@@ -48,44 +49,54 @@ use Rattle.executor_model.specs.ActsOfRuns.{call_by_reference, kept_by, steal_pu
 use Rattle.executor_model.specs.Doing.{act, run_act, sleeper_act, steal_act}
 use Rattle.executor_model.specs.Steps.{kept, future_of, begun, with_future}
 use Rattle.executor_model.specs.Steps.{react}
-use Rattle.runs_laws.specs.AtOnce.{doer, is_by}
-use Rattle.executor_model.proofs.RunsMoves.{moves-length, moves-list, moves-look, moves-common, moves-make_room}
-use Rattle.executor_model.proofs.RunsMoves.{moves-own_length, moves-reschedule, moves-return_room, moves-take, same-stolen}
-use Rattle.executor_model.proofs.TraceMore.{has-append}
-use Rattle.executor_model.proofs.Tests.{or-false}
-use Rattle.runs_laws.proofs.TickWorlds.{tick-trace}
+use Rattle.executor_model.specs.Deeds.{doer, is_by}
+pub use Rattle.executor_model.proofs.Quiet.Calls.{is_end}
+use Rattle.executor_model.proofs.Steps.RunsMoves.{moves-length, moves-list, moves-look, moves-common, moves-make_room}
+use Rattle.executor_model.proofs.Steps.RunsMoves.{moves-own_length, moves-reschedule, moves-return_room, moves-take, same-stolen}
+use Rattle.executor_model.proofs.Steps.TraceMore.{has-append}
+use Rattle.executor_model.proofs.Steps.Tests.{left-false, or-false, right-false}
+use Rattle.executor_model.proofs.Steps.TickTraces.{tick-trace}
+
+abbrev pub begins_one : Event → Bool
+begins_one (event.CallBegun p c) = true
+begins_one _ = false
 
 abbrev pub ends_one : Event → Bool
 ends_one (event.CallEnded p r) = true
 ends_one _ = false
 
--- the trace of v is that of w and more that party p did, in which no call ends
+abbrev pub is_of_call : Event → Bool
+is_of_call e = begins_one e || ends_one e
+
+-- the trace of v is that of w and more that party p did, in which no call begins or ends
 pub record Grows (p : ℕ) (w v : World) : Type 0 where
   pub more : Trace
   pub is : v.trace ≡ w.trace ++ more
+  pub none_begins : has begins_one more ≡ false
   pub none_ends : has ends_one more ≡ false
   pub own : (q : ℕ) → q ≢ p → has (is_by q) more ≡ false
 
 grows-same : {p : ℕ} (w v : World) → v.trace ≡ w.trace → Grows p w v
 grows-same w v e =
-    record { more = []; is = e ∙ sym (append-nil w.trace); none_ends = refl; own = λ q n. refl }
+    record { more = []; is = e ∙ sym (append-nil w.trace); none_begins = refl; none_ends = refl; own = λ q n. refl }
 
 -- what p did nobody else did
 pub not-by : (p q : ℕ) (e : Event) → doer e ≡ p → q ≢ p → is_by q e ≡ false
 not-by p q e d n = grind (arith, nat_tests)
 
-grows-log : {p : ℕ} (w v : World) (e : Event) → v.trace ≡ w.trace ++ e ∷ [] → ends_one e ≡ false → doer e ≡ p →
+grows-log : {p : ℕ} (w v : World) (e : Event) → v.trace ≡ w.trace ++ e ∷ [] → is_of_call e ≡ false → doer e ≡ p →
     Grows p w v
 grows-log {p} w v e t n d =
     record {
       more = e ∷ [];
       is = t;
-      none_ends = or-false (ends_one e) n;
+      none_begins = or-false (begins_one e) (left-false (begins_one e) (ends_one e) n);
+      none_ends = or-false (ends_one e) (right-false (begins_one e) (ends_one e) n);
       own = λ q k. or-false
           (is_by q e) (not-by p q e d k);
     }
 
-grows-log_if : {p : ℕ} (c : Bool) (w v : World) (e : Event) → v.trace ≡ (log_if c w e).trace → ends_one e ≡ false →
+grows-log_if : {p : ℕ} (c : Bool) (w v : World) (e : Event) → v.trace ≡ (log_if c w e).trace → is_of_call e ≡ false →
     doer e ≡ p → Grows p w v
 grows-log_if true w v e t n d = grows-log w v e t n d
 grows-log_if false w v e t n d = grows-same w v t
@@ -94,6 +105,7 @@ grows-and : {p : ℕ} (w v u : World) → Grows p w v → Grows p v u → Grows 
 grows-and w v u a b = record {
   more = a.more ++ b.more;
   is = b.is ∙ (ap (λ (xs : Trace). xs ++ b.more) a.is ∙ append_assoc w.trace a.more b.more);
+  none_begins = has-append begins_one a.more b.more a.none_begins b.none_begins;
   none_ends = has-append ends_one a.more b.more a.none_ends b.none_ends;
   own = λ q k. has-append (is_by q) a.more b.more (a.own q k) (b.own q k);
 }
@@ -220,10 +232,6 @@ grows-run p h (run_op.LookOwn x at left) w = grows-same w _ (moves-look _ w x at
 grows-run p h (run_op.WakeOwn x) w = grows-wake_own p w x
 grows-run p h (run_op.Reschedule r a) w = grows-same w _ (moves-reschedule _ w r a refl).same.trace
 
-abbrev pub is_end : Op → Bool
-is_end (op.End r held) = true
-is_end _ = false
-
 pub grows-act : (p : ℕ) (h : Hint) (o : Op) (w : World) → is_end o ≡ false → Grows p w (act p h o w).world
 grows-act p h (op.Table table_op.Enter) w n = grows-enter _ _ p w
 grows-act p h (op.Queue queue_op.Take) w n = grows-take _ w
@@ -274,23 +282,15 @@ grows-with w (Some f) d k = k f
 grows-with w None d k = grows-same _ _ refl
 
 pub grows-begun : (p : ℕ) (w : World) (here : Option Waker) (c : Call) → Grows p w (begun p w here c).world
-grows-begun p w here call.Spawn = grows-same _ _ refl
-grows-begun p w here call.TryTick = grows-same _ _ refl
-grows-begun p w here call.IsEmpty = grows-same _ _ refl
 grows-begun p w here (call.Wake k) = grows-with w (kept w k) _ (λ f. grows-same _ _ refl)
 grows-begun p w here (call.WakeByRef k) = grows-with w (kept w k) _ (λ f. grows-same _ _ refl)
 grows-begun p w here (call.Copy k) = grows-with w (kept w k) _ (λ f. grows-same _ _ refl)
 grows-begun p w here (call.DropWaker k) = grows-with w (kept w k) _ (λ f. grows-same _ _ refl)
 grows-begun p w here call.Keep = grows-with w (future_of here) _ (λ f. grows-same _ _ refl)
 grows-begun p w here call.WakeSelf = grows-with w (future_of here) _ (λ f. grows-same _ _ refl)
-grows-begun p w here (call.PollHandle f b) = grows-same _ _ refl
-grows-begun p w here (call.Cancel f) = grows-same _ _ refl
-grows-begun p w here (call.Detach f) = grows-same _ _ refl
-grows-begun p w here (call.DropHandle f) = grows-same _ _ refl
-grows-begun p w here call.NewTick = grows-same _ _ refl
 grows-begun p w here (call.PollTick t b) = grows-log _ _ (event.TickPolled p t) refl refl refl
 grows-begun p w here (call.DropTick t) = grows-log _ _ (event.TickDropped p t) refl refl refl
-grows-begun p w here call.NewRun = grows-same _ _ refl
 grows-begun p w here (call.PollRun r b) = grows-log _ _ (event.RunPolled p r) refl refl refl
 grows-begun p w here (call.DropRun r) = grows-log _ _ (event.RunDropped p r) refl refl refl
 grows-begun p w here call.DropExecutor = grows-log _ _ (event.DropBegun p) refl refl refl
+grows-begun p w here _ = grows-same _ _ refl

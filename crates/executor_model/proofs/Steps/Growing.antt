@@ -1,3 +1,4 @@
+-- For all laws.
 -- What is still to do, but for what one party does, and that numbers go on to fit where more futures are there.
 use Rattle.std.proofs.Common.{◌≡◌, ℕ, ◌+◌, ◌<◌, ◌≤◌, List, [], ◌∷◌, ◌++◌, length, set}
 use Rattle.std.proofs.Common.{get_or, refl, ap}
@@ -32,10 +33,10 @@ use Rattle.executor_model.specs.Rows.{borrowing_of, waiting_of, polls_of, ending
 use Rattle.executor_model.specs.Rows.{giving_of, drops_of, releases_of, copies_of, ousting_of, past_of}
 use Rattle.executor_model.specs.Rows.{then_past}
 use Rattle.executor_model.specs.Steps.{mine}
-use Rattle.executor_model.proofs.Views.{none}
-use Rattle.executor_model.proofs.Lists.{past-more, waker_past-more}
-use Rattle.executor_model.proofs.Lists.{weigh-append, weigh-reverse, weigh_all-set}
-use Rattle.executor_model.proofs.Lists.{weigh_all-push}
+use Rattle.executor_model.proofs.OneFuture.Views.{none}
+use Rattle.executor_model.proofs.Steps.Lists.{past-more, waker_past-more}
+use Rattle.executor_model.proofs.Steps.Lists.{weigh-append, weigh-reverse, weigh_all-set}
+use Rattle.executor_model.proofs.Steps.Lists.{weigh_all-push}
 
 -- what is still to do, but for what p does now, and after it
 pub split : (v : Op → ℕ) (ss : List (List Op)) (p : ℕ) (old rest : List Op) → p < length ss →
@@ -125,12 +126,10 @@ module _ (n m : ℕ) (h : n ≤ m) where
       omega (arith, more-one f (omega (arith, z)), more-stealing s (omega (arith, z)))
 
   more-run : (o : RunOp) → past_of n (op.Run o) ≡ 0 → past_of m (op.Run o) ≡ 0
-  more-run run_op.MakeRoom z = refl
-  more-run run_op.ReturnRoom z = refl
   more-run (run_op.SearchCommon x) z = waker_past-more n m x.waker h z
   more-run (run_op.LookOwn x at left) z = waker_past-more n m x.waker h z
   more-run (run_op.WakeOwn x) z = waker_past-more n m x.waker h z
-  more-run (run_op.Reschedule r a) z = refl
+  more-run _ z = refl
 
   more : (o : Op) → past_of n o ≡ 0 → past_of m o ≡ 0
   more (op.Queue (queue_op.Append f)) z = more-one f z
@@ -153,7 +152,7 @@ module _ (n m : ℕ) (h : n ≤ m) where
   more (op.Sleeper (sleeper_op.CallSleeper s)) z = waker_past-more n m s.waker h z
   more (op.Tick (tick_op.Search s)) z = waker_past-more n m s.waker h z
   more (op.Tick (tick_op.CopyWaker s)) z = waker_past-more n m s.waker h z
-  more (op.Tick (tick_op.LieDown s)) z = waker_past-more n m s.waker h z
+  more (op.Tick (tick_op.FallAsleep s)) z = waker_past-more n m s.waker h z
   more (op.User (user_op.PollOwn x)) z = waker_past-more n m x.waker h z
   more (op.List o) z = more-list o z
   more (op.Steal o) z = more-steal o z

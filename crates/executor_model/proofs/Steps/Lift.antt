@@ -1,3 +1,4 @@
+-- For all laws.
 -- A step leaves a good machine good.
 use Rattle.std.proofs.Common.{◌≡◌, ℕ, zero, suc, ◌+◌, ◌-◌, ◌<◌, List, [], ◌∷◌, ◌++◌, length, set}
 use Rattle.std.proofs.Common.{get_or, take, Bool, true, false, ◌&&◌, ◌||◌, not, ltb, refl, sym, ap, ◌∙◌}
@@ -32,19 +33,19 @@ use Rattle.executor_model.specs.Steps.{answer_refusal, accepts, party_of, part_r
 use Rattle.executor_model.specs.Steps.{begun, react, end_of, settled_by}
 use Rattle.executor_model.specs.Steps.{onto, gone_on, part_after}
 use Rattle.executor_model.specs.Steps.{with_part, after, step_by, step, stepped, run, idle, start}
-use Rattle.executor_model.proofs.Lists.{weigh_all-push}
-use Rattle.executor_model.proofs.Counting.{Keeps}
-use Rattle.executor_model.proofs.CountingHandles.{sound-pending, sound-ready}
-use Rattle.executor_model.proofs.SoundAll.{sound-act}
-use Rattle.executor_model.proofs.Fitting.{Grown, Grows}
-use Rattle.executor_model.proofs.FittingActs.{grows-act}
-use Rattle.executor_model.proofs.FittingSound.{fits-sound}
-pub use Rattle.executor_model.proofs.Growing.{KeepsHere, pend-none, push-pend, split, split-pend}
-use Rattle.executor_model.proofs.Views.{none}
-use Rattle.executor_model.proofs.Growing.{more-all}
-pub use Rattle.executor_model.proofs.Begins.{first-true, handle-known, kept-used, none_refused, open_executor, unborrowed}
-pub use Rattle.executor_model.proofs.Begins.{unused}
-use Rattle.executor_model.proofs.Begins.{begins, sound-begun}
+use Rattle.executor_model.proofs.Steps.Lists.{weigh_all-push}
+use Rattle.executor_model.proofs.Counts.Counting.{Keeps}
+use Rattle.executor_model.proofs.Counts.CountingHandles.{sound-pending, sound-ready}
+use Rattle.executor_model.proofs.Counts.SoundAll.{sound-act}
+use Rattle.executor_model.proofs.Counts.Fitting.{Grown, Grows}
+use Rattle.executor_model.proofs.Counts.FittingActs.{grows-act}
+use Rattle.executor_model.proofs.Counts.FittingSound.{fits-sound}
+pub use Rattle.executor_model.proofs.Steps.Growing.{KeepsHere, pend-none, push-pend, split, split-pend}
+use Rattle.executor_model.proofs.OneFuture.Views.{none}
+use Rattle.executor_model.proofs.Steps.Growing.{more-all}
+pub use Rattle.executor_model.proofs.Steps.Begins.{first-true, handle-known, kept-used, none_refused, open_executor, unborrowed}
+pub use Rattle.executor_model.proofs.Steps.Begins.{unused}
+use Rattle.executor_model.proofs.Steps.Begins.{begins, sound-begun}
 
 -- the machine, with this for p to do on top of the rest
 abbrev pub unsettled : Machine → ℕ → List Op → Done → Machine

@@ -1,3 +1,4 @@
+-- For laws of the crates above.
 -- What a good machine gives to the thing that a party does.
 use Rattle.std.proofs.Common.{◌≡◌, ℕ, ◌+◌, ◌<◌, ◌≤◌, [], ◌∷◌, ◌++◌, length, ap, arith}
 use Rattle.std.specs.Prelude.{Some}
@@ -21,8 +22,8 @@ use Rattle.executor_model.specs.Good.{Good, Needs, CanGrow, IsHeld, HasPlace}
 use Rattle.executor_model.specs.Good.{KeepsAwaiter, IsKnownWaker, CanWake, pasts}
 use Rattle.executor_model.specs.Rows.{ending_of, giving_of, releases_of, past_of}
 use Rattle.executor_model.specs.Steps.{Machine, stack, top, below_top}
-use Rattle.executor_model.proofs.Lists.{past_is, same_is}
-use Rattle.executor_model.proofs.Lift.{split, topped}
+use Rattle.executor_model.proofs.Steps.Lists.{past_is, same_is}
+use Rattle.executor_model.proofs.Steps.Lift.{split, topped}
 
 below : (n f : ℕ) → past n f ≡ 0 → f < n
 below n f e = grind (arith, past_is)

@@ -1,3 +1,4 @@
+-- For all laws.
 -- What a move of a task owes weighs nothing in a count in which no operation that may be owed does,
 -- whatever that count is.
 use Rattle.std.proofs.Common.{◌≡◌, ℕ, List, [], ◌∷◌, ◌++◌, Bool, true, false, refl, arith}
@@ -19,7 +20,7 @@ use Rattle.executor_model.specs.declared.op.TableOp.TheVariants as table_op
 use Rattle.executor_model.specs.declared.op.UserOp.TheVariants as user_op
 use Rattle.executor_model.specs.Carried.{schedule_ops, future_ops, output_ops, awaiter_ops, next_ops, owed_ops}
 use Rattle.executor_model.specs.Weights.{weigh}
-use Rattle.executor_model.proofs.Lists.{weigh-append}
+use Rattle.executor_model.proofs.Steps.Lists.{weigh-append}
 
 -- v weighs nothing in these for future f
 pub record FewOwed (v : Op → ℕ) (f : ℕ) : Type 0 where

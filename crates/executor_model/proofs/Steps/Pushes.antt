@@ -1,3 +1,4 @@
+-- For laws of the crates above.
 -- What one more element does to the words in which a trace is described.
 use Rattle.std.proofs.Common.{◌≡◌, ℕ, ◌+◌, ◌-◌, ◌≤◌, Bool, true, false, ◌||◌, not, cond, List, [], ◌∷◌, ◌++◌}
 use Rattle.std.proofs.Common.{length, drop, refl, ap, ◌∙◌, arith, length-append}

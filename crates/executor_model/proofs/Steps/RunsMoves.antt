@@ -1,3 +1,4 @@
+-- For all laws.
 -- What a run does moves Runnables from one queue to another or into a hand, and changes nothing else that is kept of
 -- futures.
 use Rattle.std.proofs.Common.{◌≡◌, ℕ, zero, suc, ◌+◌, ◌<◌, List, [], ◌∷◌, ◌++◌, length, get_or, set, drop, Bool}
@@ -12,8 +13,8 @@ use Rattle.executor_model.specs.declared.op.RunOp.TheVariants as run_op
 use Rattle.executor_model.specs.declared.op.RunPoll.{RunPoll}
 use Rattle.executor_model.specs.declared.op.Section.{Section}
 use Rattle.executor_model.specs.declared.op.Section.TheVariants as section
-use Rattle.executor_model.specs.declared.op.Sleeper.{Sleeper}
-use Rattle.executor_model.specs.declared.op.Sleeper.TheVariants as sleeper
+use Rattle.executor_model.specs.declared.op.TickOrRun.{TickOrRun}
+use Rattle.executor_model.specs.declared.op.TickOrRun.TheVariants as tick_or_run
 use Rattle.executor_model.specs.declared.op.SleeperOp.TheVariants as sleeper_op
 use Rattle.executor_model.specs.declared.op.Sleeping.{Sleeping}
 use Rattle.executor_model.specs.declared.op.Source.{Source}
@@ -26,12 +27,12 @@ use Rattle.executor_model.specs.declared.op.TickOp.TheVariants as tick_op
 use Rattle.executor_model.specs.declared.op.UserOp.TheVariants as user_op
 use Rattle.executor_model.specs.declared.step.Hint.{Hint}
 use Rattle.queue_steps.specs.ClosableQueue.{taken}
-use Rattle.executor_model.specs.World.{World, Place, Up, Lies, Left, Stage, New, Listed, Ended, Run, Lock, Done}
+use Rattle.executor_model.specs.World.{World, Ticker, Awake, Asleep, Left, Stage, New, Listed, Ended, Run, Lock, Done}
 use Rattle.executor_model.specs.World.{own_of, put_own, run_of}
 use Rattle.executor_model.specs.ActsOfSleepers.{found_by}
 use Rattle.executor_parts.specs.Sleepers.{Sleepers}
 use Rattle.executor_model.specs.Doing.{list_act}
-use Rattle.executor_model.proofs.SleepersLists.{given_back-same}
+use Rattle.executor_model.proofs.Steps.SleepersLists.{given_back-same}
 use Rattle.executor_model.specs.ActsOfRuns.{behind, lock_read, return_room}
 use Rattle.executor_model.specs.ActsOfRuns.{run_by, counted_by, found, make_run_by, registered, walk, next_place}
 use Rattle.executor_model.specs.ActsOfRuns.{queue_at}
@@ -41,7 +42,7 @@ use Rattle.executor_model.specs.ActsOfRuns.{steal_by, steal_take_by, make_room_b
 use Rattle.executor_model.specs.Rows.{waiting_of, borrowing_of, then_waiting}
 use Rattle.executor_model.specs.Sound.{times, times_in, queued}
 use Rattle.executor_model.specs.Weights.{same, weigh}
-use Rattle.executor_model.proofs.Lists.{times-drop, weigh-append}
+use Rattle.executor_model.proofs.Steps.Lists.{times-drop, weigh-append}
 
 -- the lists that are kept of futures are the same
 pub record Same (w v : World) : Type 0 where
@@ -126,20 +127,20 @@ waiting-counted : (g : ℕ) (b : Bool) (w : World) (x : RunPoll) (f : ℕ) →
 waiting-counted g true w x f = omega arith
 waiting-counted g false w x f = waiting-run_by g _ _ x f
 
-waiting-rises : (g : ℕ) (p : Place) (who : Sleeper) →
+waiting-wakes_up : (g : ℕ) (p : Ticker) (who : TickOrRun) →
     weigh (waiting_of g) (found_by p who (op.Sleeper sleeper_op.ExchangeFlag ∷ [])) ≡ 0
-waiting-rises g Up who = refl
-waiting-rises g (Lies n) who = refl
-waiting-rises g Left who = refl
+waiting-wakes_up g Awake who = refl
+waiting-wakes_up g (Asleep n) who = refl
+waiting-wakes_up g Left who = refl
 
 pub waiting-found : (g : ℕ) (w : World) (x : RunPoll) (f : ℕ) → weigh (waiting_of g) (found w x f).next ≡ same g f
 waiting-found g w x f =
-    let first = found_by (run_of w x.run).place (sleeper.Run x.run) (op.Sleeper sleeper_op.ExchangeFlag ∷ []) in
+    let first = found_by (run_of w x.run).place (tick_or_run.Run x.run) (op.Sleeper sleeper_op.ExchangeFlag ∷ []) in
     let b = eqb ((run_of w x.run).counted + 1) 64 in
     omega (
       arith,
       weigh-append (waiting_of g) first (counted_by b w x f).next,
-      waiting-rises g (run_of w x.run).place (sleeper.Run x.run),
+      waiting-wakes_up g (run_of w x.run).place (tick_or_run.Run x.run),
       waiting-counted g b w x f,
     )
 
@@ -277,7 +278,7 @@ moves-put_back w s more f = record {
   lent = λ z. absurd (omega (arith, z));
 }
 
-pub moves-own : (q : List ℕ) (w : World) (s : Sleeping) (r : ℕ) → s.who ≡ sleeper.Run r → own_of w r ≡ q →
+pub moves-own : (q : List ℕ) (w : World) (s : Sleeping) (r : ℕ) → s.who ≡ tick_or_run.Run r → own_of w r ≡ q →
     Moves w (op.Tick (tick_op.Search s) ∷ []) (search_own_by q w (record { run = r; waker = s.waker; poll = s.poll }))
 moves-own [] w s r i e = record { same = same-here w _ _ _ _; moved = λ g. refl; lent = λ z. absurd (omega (arith, z)) }
 moves-own (f ∷ rest) w s r i e = let x : RunPoll = record { run = r; waker = s.waker; poll = s.poll } in record {
@@ -372,14 +373,11 @@ moves-lock_read h w x = record {
 pub moves-list : (h : Hint) (o : ListOp) (w : World) → Moves w (op.List o ∷ []) (list_act h o w)
 moves-list h (list_op.LockWrite section.MakeRun) w =
     record { same = same-here w _ _ _ _; moved = λ g. refl; lent = λ z. absurd (omega (arith, z)) }
-moves-list h (list_op.LockWrite (section.Register x)) w =
-    record { same = same-here w _ _ _ _; moved = λ g. refl; lent = λ z. absurd (omega (arith, z)) }
-moves-list h (list_op.LockWrite (section.Unregister r a)) w =
-    record { same = same-here w _ _ _ _; moved = λ g. refl; lent = λ z. absurd (omega (arith, z)) }
 moves-list h (list_op.Write s) w = moves-write h s w
 moves-list h list_op.UnlockWrite w = record { same = same-here w _ _ _ _; moved = λ g. refl; lent = λ z. refl }
 moves-list h (list_op.LockRead x) w = moves-lock_read h w x
 moves-list h list_op.UnlockRead w = record { same = same-here w _ _ _ _; moved = λ g. refl; lent = λ z. refl }
+moves-list h _ w = record { same = same-here w _ _ _ _; moved = λ g. refl; lent = λ z. absurd (omega (arith, z)) }
 
 -- the other lists are as they were, and so are the wakers of the sleepers
 pub same-rooms : (w : World) (s : Sleepers Sleeping) → s.wakers ≡ w.sleepers.wakers → Same w (record w { sleepers = s })

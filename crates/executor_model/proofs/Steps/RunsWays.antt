@@ -1,3 +1,4 @@
+-- For all laws.
 -- What each thing that a run does keeps, where it is kept by what moves Runnables and no more, by the event that one is
 -- kept, and by the call of the run's own waker.
 use Rattle.std.proofs.Common.{◌≡◌, ℕ, ◌<◌, List, [], ◌∷◌, length, Bool, true, false, ltb, refl, arith}
@@ -9,7 +10,7 @@ use Rattle.executor_model.specs.declared.op.QueueOp.TheVariants as queue_op
 use Rattle.executor_model.specs.declared.op.RunOp.{RunOp}
 use Rattle.executor_model.specs.declared.op.RunOp.TheVariants as run_op
 use Rattle.executor_model.specs.declared.op.RunPoll.{RunPoll}
-use Rattle.executor_model.specs.declared.op.Sleeper.TheVariants as sleeper
+use Rattle.executor_model.specs.declared.op.TickOrRun.TheVariants as tick_or_run
 use Rattle.executor_model.specs.declared.op.Sleeping.{Sleeping}
 use Rattle.executor_model.specs.declared.op.Steal.{Steal}
 use Rattle.executor_model.specs.declared.op.StealOp.{StealOp}
@@ -21,20 +22,20 @@ use Rattle.executor_model.specs.Weights.{weigh}
 use Rattle.executor_model.specs.World.{World, Done}
 use Rattle.executor_model.specs.ActsOfRuns.{free_places, kept_by, reschedule_by, search_own, steal_put_by, wake_own}
 use Rattle.executor_model.specs.Doing.{list_act, run_act, steal_act}
-use Rattle.executor_model.proofs.RunsCounting.{known-run}
-use Rattle.executor_model.proofs.RunsMoves.{Moves, moves-common, moves-length, moves-list, moves-look}
-use Rattle.executor_model.proofs.RunsMoves.{moves-make_room, moves-own}
-use Rattle.executor_model.proofs.RunsMoves.{moves-own_length, moves-put_back, moves-reschedule, moves-return_room}
-use Rattle.executor_model.proofs.RunsMoves.{moves-take}
-use Rattle.executor_model.proofs.RunsNext.{BlindToRuns, common-blind, list-blind, look-blind, more-blind, room-blind}
-use Rattle.executor_model.proofs.RunsNext.{search_run-blind, steal-blind, stolen-blind}
-use Rattle.executor_model.proofs.RunsPlain.{AllPlain, blind-plain}
+use Rattle.executor_model.proofs.Steps.RunsCounting.{known-run}
+use Rattle.executor_model.proofs.Steps.RunsMoves.{Moves, moves-common, moves-length, moves-list, moves-look}
+use Rattle.executor_model.proofs.Steps.RunsMoves.{moves-make_room, moves-own}
+use Rattle.executor_model.proofs.Steps.RunsMoves.{moves-own_length, moves-put_back, moves-reschedule, moves-return_room}
+use Rattle.executor_model.proofs.Steps.RunsMoves.{moves-take}
+use Rattle.executor_model.proofs.Steps.RunsNext.{BlindToRuns, common-blind, list-blind, look-blind, more-blind, room-blind}
+use Rattle.executor_model.proofs.Steps.RunsNext.{search_run-blind, steal-blind, stolen-blind}
+use Rattle.executor_model.proofs.Steps.RunsPlain.{AllPlain, blind-plain}
 
 -- a count that sees nothing of a run, its leaving and the drop of its own future too
 pub record Unseeing (v : Op → ℕ) : Type 0 where
   pub blind : BlindToRuns v
   pub append : (f : ℕ) → v (op.Queue (queue_op.Append f)) ≡ 0
-  pub leave : (r : ℕ) → v (op.Tick (tick_op.Leave (sleeper.Run r))) ≡ 0
+  pub leave : (r : ℕ) → v (op.Tick (tick_op.Leave (tick_or_run.Run r))) ≡ 0
   pub drop : (r : ℕ) → v (op.User (user_op.DropOwn r)) ≡ 0
 
 abbrev pub AllOfRuns : List Op → Type 0
@@ -44,7 +45,7 @@ pub plain-of-runs : (os : List Op) → AllOfRuns os → AllPlain os
 plain-of-runs os a v z = a v record {
   blind = blind-plain v z;
   append = λ f. z (op.Queue (queue_op.Append f)) refl;
-  leave = λ r. z (op.Tick (tick_op.Leave (sleeper.Run r))) refl;
+  leave = λ r. z (op.Tick (tick_op.Leave (tick_or_run.Run r))) refl;
   drop = λ r. z (op.User (user_op.DropOwn r)) refl;
 }
 
@@ -94,7 +95,7 @@ module _
         (moves-list h o w)
 
     -- a run looks at its own queue
-    pub by-search : (w : World) (r : ℕ) (s : Sleeping) → s.who ≡ sleeper.Run r →
+    pub by-search : (w : World) (r : ℕ) (s : Sleeping) → s.who ≡ tick_or_run.Run r →
         P w (op.Tick (tick_op.Search s) ∷ []) (search_own w (record { run = r; waker = s.waker; poll = s.poll }))
     by-search w r s e =
         moves w _ _ (λ v u. omega (arith, u.blind.search s)) (λ v u. search_run-blind v u.blind w _)

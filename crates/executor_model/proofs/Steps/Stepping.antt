@@ -1,3 +1,4 @@
+-- For laws of the crates above.
 -- Steps by their party's part.
 use Rattle.std.proofs.Common.{◌≡◌, ◌<◌, ◌≤◌, List, [], ◌∷◌, ◌++◌, length, true, false, ltb}
 use Rattle.std.proofs.Common.{refl, ap, ◌∙◌, arith, Ok, Err, Result}
@@ -7,7 +8,7 @@ use Rattle.executor_model.specs.declared.step.Step.{Step}
 use Rattle.executor_model.specs.declared.step.StepError.{StepError}
 use Rattle.executor_model.specs.declared.step.StepError.TheVariants.{NoSuch}
 use Rattle.executor_model.specs.Steps.{Machine, stack, party_of, part_refusal, refusal, after, step_by, step}
-use Rattle.executor_model.specs.Runs.{run_all}
+use Rattle.executor_model.specs.Executions.{run_all}
 
 pub refusal-there : (s : Machine) (t : Step) → party_of t < length s.parties →
     refusal s t ≡ part_refusal s.world s.parties (stack s (party_of t)) t

@@ -1,3 +1,4 @@
+-- For calls_do_what_they_say and own_queues_agree.
 -- What two tests together tell of each.
 use Rattle.std.proofs.Common.{◌≡◌, Bool, true, false, ◌&&◌, ◌||◌, refl}
 

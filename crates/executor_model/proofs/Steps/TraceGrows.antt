@@ -1,5 +1,6 @@
+-- For own_queues_agree.
 -- What each thing to do, and the beginning of a call, adds to the trace.
-use Rattle.std.proofs.Common.{◌≡◌, ◌∙◌, ℕ, zero, suc, ◌+◌, List, [], ◌∷◌, ◌++◌, length, Bool, true, false}
+use Rattle.std.proofs.Common.{◌≡◌, ◌∙◌, ℕ, List, [], ◌∷◌, ◌++◌, length, Bool, true, false}
 use Rattle.std.proofs.Common.{refl, sym, ap, append-nil}
 use Rattle.std.proofs.lemmas.List.{append_assoc}
 use Rattle.std.specs.Prelude.{Option, Some, None}
@@ -10,7 +11,6 @@ use Rattle.task_moves.specs.declared.moves.owed.Move.TheVariants as move
 use Rattle.task_moves.specs.declared.moves.owed.Moved.{Moved}
 use Rattle.executor_model.specs.declared.call.Call.{Call}
 use Rattle.executor_model.specs.declared.call.Call.TheVariants as call
-use Rattle.executor_model.specs.declared.call.Reply.{Reply}
 use Rattle.executor_model.specs.declared.event.Answer.TheVariants as answer
 use Rattle.executor_model.specs.declared.event.Event.{Event}
 use Rattle.executor_model.specs.declared.event.Event.TheVariants as event
@@ -19,24 +19,19 @@ use Rattle.executor_model.specs.declared.op.Op.{Op}
 use Rattle.executor_model.specs.declared.op.Op.TheVariants as op
 use Rattle.executor_model.specs.declared.op.ClosingOp.TheVariants as closing_op
 use Rattle.executor_model.specs.declared.op.HandleOp.TheVariants as handle_op
-use Rattle.executor_model.specs.declared.op.ListOp.TheVariants as list_op
 use Rattle.executor_model.specs.declared.op.Polled.{Polled}
 use Rattle.executor_model.specs.declared.op.Polled.TheVariants as of
 use Rattle.executor_model.specs.declared.op.QueueOp.TheVariants as queue_op
 use Rattle.executor_model.specs.declared.op.RunOp.TheVariants as run_op
 use Rattle.executor_model.specs.declared.op.RunPoll.{RunPoll}
-use Rattle.executor_model.specs.declared.op.Section.TheVariants as section
-use Rattle.executor_model.specs.declared.op.Sleeper.{Sleeper}
-use Rattle.executor_model.specs.declared.op.Sleeper.TheVariants as sleeper
+use Rattle.executor_model.specs.declared.op.TickOrRun.{TickOrRun}
+use Rattle.executor_model.specs.declared.op.TickOrRun.TheVariants as tick_or_run
 use Rattle.executor_model.specs.declared.op.SleeperOp.TheVariants as sleeper_op
 use Rattle.executor_model.specs.declared.op.Sleeping.{Sleeping}
-use Rattle.executor_model.specs.declared.op.Source.{Source}
-use Rattle.executor_model.specs.declared.op.Source.TheVariants.{Common, Own}
 use Rattle.executor_model.specs.declared.op.Steal.{Steal}
 use Rattle.executor_model.specs.declared.op.StealOp.TheVariants as steal_op
 use Rattle.executor_model.specs.declared.op.TableOp.TheVariants as table_op
 use Rattle.executor_model.specs.declared.op.Then.{Then}
-use Rattle.executor_model.specs.declared.op.Then.TheVariants as then
 use Rattle.executor_model.specs.declared.op.TickOp.TheVariants as tick_op
 use Rattle.executor_model.specs.declared.op.UserOp.TheVariants as user_op
 use Rattle.executor_model.specs.declared.op.Waker.{Waker}
@@ -48,13 +43,16 @@ use Rattle.executor_model.specs.declared.step.UserEnd.TheVariants as end
 use Rattle.executor_model.specs.Acts as acts
 use Rattle.executor_model.specs.ActsOfRuns as runs
 use Rattle.executor_model.specs.ActsOfSleepers as sleepers
-use Rattle.executor_model.specs.Doing.{act, search_by_who}
+use Rattle.executor_model.specs.Doing.{act, list_act, search_by_who, tick_act}
 use Rattle.executor_model.specs.Steps.{accepts, begun, future_of, kept, react, with_future}
 use Rattle.executor_model.specs.Trace.{Trace, has}
-use Rattle.executor_model.specs.World.{World, Place, Up, Lies, Left, Stage, New, Listed, Ended, Done, log, log_if}
-use Rattle.executor_model.specs.World.{task, put, put_own, run_of}
-use Rattle.executor_model.proofs.Tests.{or-false}
-use Rattle.executor_model.proofs.TraceMore.{has-append}
+use Rattle.executor_model.specs.World.{World, Ticker, Done, log, log_if}
+use Rattle.executor_model.specs.World.{task, put, put_own}
+use Rattle.executor_model.proofs.Steps.Tests.{or-false}
+use Rattle.executor_model.proofs.Steps.TraceMore.{has-append}
+use Rattle.executor_model.proofs.Steps.RunsMoves.{moves-common, moves-length, moves-list, moves-look, moves-make_room, moves-own_length}
+use Rattle.executor_model.proofs.Steps.RunsMoves.{moves-reschedule, moves-take, same-found, same-stolen}
+use Rattle.executor_model.proofs.OwnQueues.RunsMoving.{Wide, wide-tick}
 
 -- it begins or ends no call, no poll of a future or of a run and no drop of a run, and no run keeps anything by it
 abbrev pub is_ordinary : Event → Bool
@@ -102,8 +100,6 @@ module _ (t : Event → Bool) (u : (e : Event) → is_ordinary e ≡ true → t 
 
   told-ordinary : (m : Move) (p f : ℕ) → is_take_up m ≡ false → is_ordinary (acts.told_as m p f) ≡ true
   told-ordinary move.TakeUp p f e = absurd (cc)
-  told-ordinary move.Cancel p f e = refl
-  told-ordinary move.Detach p f e = refl
   told-ordinary _ p f e = refl
 
   grows-told : (b : Bool) (m : Move) (p : ℕ) (w v : World) (f : ℕ) → t (acts.told_as m p f) ≡ false → Grows w v →
@@ -212,104 +208,26 @@ module _ (t : Event → Bool) (u : (e : Event) → is_ordinary e ≡ true → t 
   grows-hand_out true o w = grows w (sleepers.hand_out_by true o w).world refl
   grows-hand_out false o w = grows w w refl
 
-  grows-make : (b : Bool) (w : World) → Grows w (sleepers.make_tick_by b w).world
-  grows-make true w = grows w w refl
-  grows-make false w = grows w (sleepers.make_tick_by false w).world refl
-
-  grows-search : (x : Place) (q : List ℕ) (w : World) (s : Sleeping) → Grows w (sleepers.search_by x w q s).world
+  grows-search : (x : Ticker) (q : List ℕ) (w : World) (s : Sleeping) → Grows w (sleepers.search_by x w q s).world
   grows-search x [] w s = grows w w refl
   grows-search x (f ∷ rest) w s = grows w (sleepers.search_by x w (f ∷ rest) s).world refl
 
-  grows-put_copy : (w : World) (a : Waker) → Grows w (acts.copied w a)
-  grows-put_copy w (Task g) = grows w (acts.copied w (Task g)) refl
-  grows-put_copy w (Outside x) = grows w w refl
-
-  grows-copy_sleeper : (b : Bool) (w : World) (s : Sleeping) → Grows w (sleepers.copy_sleeper_by b w s).world
-  grows-copy_sleeper true w s = grows w w refl
-  grows-copy_sleeper false w s = grows-put_copy w s.waker
-
-  grows-anew : (b : Bool) (w : World) (s : Sleeping) → Grows w (sleepers.lie_anew_by b w s).world
-  grows-anew true w s = grows w (sleepers.lie_anew_by true w s).world refl
-  grows-anew false w s = grows w w refl
-
-  grows-listed : (b : Bool) (w : World) (n : ℕ) (s : Sleeping) → Grows w (sleepers.lie_listed_by b w n s).world
-  grows-listed true w n s = grows w (sleepers.lie_listed_by true w n s).world refl
-  grows-listed false w n s = grows w w refl
-
-  grows-lie_again : (o : Option ℕ) (w : World) (n : ℕ) (s : Sleeping) → Grows w (sleepers.lie_again_by o w n s).world
-  grows-lie_again None w n s = grows-listed _ w n s
-  grows-lie_again (Some at) w n s = grows w (sleepers.lie_again_by (Some at) w n s).world refl
-
-  grows-lie : (x : Place) (w : World) (s : Sleeping) → Grows w (sleepers.lie_down_by x w s).world
-  grows-lie Up w s = grows-anew _ w s
-  grows-lie (Lies n) w s = grows-lie_again _ w n s
-  grows-lie Left w s = grows w w refl
-
-  grows-up : (x : Place) (w : World) (t : Sleeper) → Grows w (sleepers.get_up_by x w t).world
-  grows-up Up w t = grows w w refl
-  grows-up (Lies n) w t = grows w (sleepers.get_up_by (Lies n) w t).world refl
-  grows-up Left w t = grows w w refl
-
-  grows-off : (x : Place) (w : World) (t : Sleeper) → Grows w (sleepers.leave_sleepers_by x w t).world
-  grows-off Up w t = grows w (sleepers.leave_sleepers_by Up w t).world refl
-  grows-off (Lies n) w t = grows w (sleepers.leave_sleepers_by (Lies n) w t).world refl
-  grows-off Left w t = grows w w refl
-
   -- runs
 
-  grows-run_by : (b : Bool) (w : World) (x : RunPoll) (f : ℕ) → Grows w (runs.run_by b w x f).world
-  grows-run_by true w x f = grows w (runs.run_by true w x f).world refl
-  grows-run_by false w x f = grows w (runs.run_by false w x f).world refl
-
-  grows-counted : (b : Bool) (w : World) (x : RunPoll) (f : ℕ) → Grows w (runs.counted_by b w x f).world
-  grows-counted true w x f = grows w (runs.counted_by true w x f).world refl
-  grows-counted false w x f = let v = runs.counted_to w x.run ((run_of w x.run).counted + 1) in
-      grows-and w v (runs.run_found v x f).world (grows w v refl) (grows-run_by _ v x f)
-
-  grows-found : (w : World) (x : RunPoll) (f : ℕ) → Grows w (runs.found w x f).world
-  grows-found w x f = grows-counted _ w x f
-
-  pub grows-stolen : (t : Then) (w : World) (x : RunPoll) → Grows w (runs.stolen t w x).world
-  grows-stolen (then.Found f) w x = grows-found w x f
-  grows-stolen (then.Run f) w x = grows-run_by _ w x f
-  grows-stolen (then.Walk at left) w x = grows w w refl
-
-  grows-length : (n : ℕ) (w : World) (s : Steal) → Grows w (runs.steal_length_by n w s).world
-  grows-length zero w s = grows-stolen s.then w s.poll
-  grows-length (suc n) w s = grows w w refl
-
-  grows-more : (n : ℕ) (w : World) (s : Steal) → Grows w (runs.steal_by n w s).world
-  grows-more zero w s = grows-stolen s.then w s.poll
-  grows-more (suc n) w s = grows w w refl
-
-  grows-first : (from : Source) (w : World) (rest : List ℕ) → Grows w (runs.without_first w from rest)
-  grows-first Common w rest = grows w (runs.without_first w Common rest) refl
-  grows-first (Own q) w rest = grows w (runs.without_first w (Own q) rest) refl
-
-  grows-steal_take : (q : List ℕ) (w : World) (s : Steal) (more : ℕ) → Grows w (runs.steal_take_by q w s more).world
-  grows-steal_take [] w s more = grows-stolen s.then w s.poll
-  grows-steal_take (f ∷ rest) w s more = grows-first s.from w rest
+  pub grows-stolen : (n : Then) (w : World) (x : RunPoll) → Grows w (runs.stolen n w x).world
+  grows-stolen n w x = grows w (runs.stolen n w x).world (same-stolen n w x).trace
 
   grows-put : (b : Bool) (p : ℕ) (w : World) (s : Steal) (more f : ℕ) → t (event.Kept p f s.poll.run) ≡ false →
       Grows w (runs.steal_put_by b p w s more f).world
   grows-put true p w s more f z = let v = runs.kept_by p w s.poll.run f in
       grows-and w v (runs.steal_by more v s).world (grows-one w v (event.Kept p f s.poll.run) z refl)
-      (grows-more more v s)
+      (grows v (runs.steal_by more v s).world (moves-own_length more more v s).same.trace)
   grows-put false p w s more f z = grows-stolen s.then w s.poll
 
   grows-own : (q : List ℕ) (w : World) (x : RunPoll) → Grows w (runs.search_own_by q w x).world
   grows-own [] w x = grows w w refl
   grows-own (f ∷ rest) w x = let v = put_own w x.run rest in
-      grows-and w v (runs.found v x f).world (grows w v refl) (grows-found v x f)
-
-  grows-looks : (q : List ℕ) (w : World) (x : RunPoll) (at left : ℕ) → Grows w (runs.look_own_by q w x at left).world
-  grows-looks [] w x at left = grows w w refl
-  grows-looks (f ∷ rest) w x at left = let v = put_own w x.run rest in
-      grows-and w v (runs.found v x f).world (grows w v refl) (grows-found v x f)
-
-  grows-common : (q : List ℕ) (w : World) (x : RunPoll) → Grows w (runs.search_common_by q w x).world
-  grows-common [] w x = grows w w refl
-  grows-common (f ∷ rest) w x = grows w (runs.search_common_by (f ∷ rest) w x).world refl
+      grows w (runs.found v x f).world (same-found v x f).trace
 
   grows-reference : (p : ℕ) (w : World) (a : Waker) → Grows w (runs.call_by_reference p w a).world
   grows-reference p w (Task g) = grows-move true move.WakeByReference p w w g refl (grows w w refl)
@@ -320,26 +238,9 @@ module _ (t : Event → Bool) (u : (e : Event) → is_ordinary e ≡ true → t 
       grows-and w v (runs.call_by_reference p v x.waker).world
       (grows-log w v (event.WakerCalled p (of.Run x.run) x.poll x.waker) refl refl) (grows-reference p v x.waker)
 
-  grows-reschedule : (q : List ℕ) (w : World) (n : ℕ) (a : Reply) → Grows w (runs.reschedule_by q w n a).world
-  grows-reschedule [] w n a = grows w w refl
-  grows-reschedule (f ∷ rest) w n a = grows w (runs.reschedule_by (f ∷ rest) w n a).world refl
-
-  grows-room : (b : Bool) (w : World) → Grows w (runs.make_room_by b w).world
-  grows-room true w = grows w w refl
-  grows-room false w = grows w (runs.make_room_by false w).world refl
-
-  grows-make_run : (b : Bool) (w : World) → Grows w (runs.make_run_by b w).world
-  grows-make_run true w = grows w w refl
-  grows-make_run false w = grows w (runs.make_run_by false w).world refl
-
-  grows-registered : (t : Stage) (w : World) (q : ℕ) → Grows w (runs.registered t w q)
-  grows-registered New w q = grows w (runs.registered New w q) refl
-  grows-registered Listed w q = grows w w refl
-  grows-registered Ended w q = grows w w refl
-
-  grows-who : (who : Sleeper) (w : World) (s : Sleeping) → Grows w (search_by_who who w s).world
-  grows-who (sleeper.Tick t) w s = grows-search _ w.queue.items w s
-  grows-who (sleeper.Run q) w s = grows-own _ w (record { run = q; waker = s.waker; poll = s.poll })
+  grows-who : (who : TickOrRun) (w : World) (s : Sleeping) → Grows w (search_by_who who w s).world
+  grows-who (tick_or_run.Tick t) w s = grows-search _ w.queue.items w s
+  grows-who (tick_or_run.Run q) w s = grows-own _ w (record { run = q; waker = s.waker; poll = s.poll })
 
   -- what it adds beside is known
   abbrev pub Allows : ℕ → Op → Type 0
@@ -349,43 +250,16 @@ module _ (t : Event → Bool) (u : (e : Event) → is_ordinary e ≡ true → t 
   Allows p _ = Unit {0}
 
   pub grows-act : (p : ℕ) (h : Hint) (o : Op) (w : World) → Allows p o → Grows w (act p h o w).world
-  grows-act p h (op.Move move.WakeByReference f) w z = grows-move true move.WakeByReference p w w f refl (grows w w refl)
-  grows-act p h (op.Move move.Wake f) w z = grows-move true move.Wake p w w f refl (grows w w refl)
-  grows-act p h (op.Move move.Copy f) w z = grows-move false move.Copy p w w f refl (grows w w refl)
-  grows-act p h (op.Move move.Release f) w z = grows-move true move.Release p w w f refl (grows w w refl)
   grows-act p h (op.Move move.TakeUp f) w z = grows-told true move.TakeUp p w w f z (grows w w refl)
-  grows-act p h (op.Move move.SettleClosed f) w z = grows-move true move.SettleClosed p w w f refl (grows w w refl)
-  grows-act p h (op.Move move.GiveUp f) w z = grows-move true move.GiveUp p w w f refl (grows w w refl)
-  grows-act p h (op.Move move.EndReady f) w z = grows-move true move.EndReady p w w f refl (grows w w refl)
-  grows-act p h (op.Move move.EndPending f) w z = grows-move true move.EndPending p w w f refl (grows w w refl)
-  grows-act p h (op.Move move.EndClosed f) w z = grows-move true move.EndClosed p w w f refl (grows w w refl)
-  grows-act p h (op.Move move.DropRunnable f) w z = grows-move true move.DropRunnable p w w f refl (grows w w refl)
-  grows-act p h (op.Move move.Cancel f) w z = grows-move true move.Cancel p w w f refl (grows w w refl)
-  grows-act p h (op.Move move.Detach f) w z = grows-move true move.Detach p w w f refl (grows w w refl)
-  grows-act p h (op.Move move.Poll f) w z = grows-move false move.Poll p w w f refl (grows w w refl)
-  grows-act p h (op.Move move.LookAgain f) w z = grows-move false move.LookAgain p w w f refl (grows w w refl)
-  grows-act p h (op.Move move.Register f) w z = grows-move false move.Register p w w f refl (grows w w refl)
-  grows-act p h (op.Move move.EndRegister f) w z = grows-move false move.EndRegister p w w f refl (grows w w refl)
-  grows-act p h (op.Move move.Notify f) w z = grows-move false move.Notify p w w f refl (grows w w refl)
-  grows-act p h (op.Move move.EndNotify f) w z = grows-move false move.EndNotify p w w f refl (grows w w refl)
+  grows-act p h (op.Move m f) w z = grows-move (acts.stands_alone m) m p w w f refl (grows w w refl)
   grows-act p h (op.Table table_op.Enter) w z = grows-enter _ _ p w
-  grows-act p h (op.Table table_op.LookAtTable) w z = grows w w refl
   grows-act p h (op.Table (table_op.LeaveTable f)) w z = grows-leave _ w f
-  grows-act p h (op.Table (table_op.TakeToPoll f)) w z = grows w (acts.take_to_poll w f).world refl
-  grows-act p h (op.Table (table_op.PutBack f)) w z = grows w (acts.put_back w f).world refl
-  grows-act p h (op.Table (table_op.TakeToDrop f)) w z = grows w (acts.take_to_drop w f).world refl
   grows-act p h (op.Queue queue_op.Take) w z = grows-take _ w
   grows-act p h (op.Queue (queue_op.Append f)) w z = grows-append _ w f
   grows-act p h (op.User (user_op.BeginDrop f)) w z =
       grows-log w (acts.begin_drop p w f).world (event.Dropped p f) refl refl
   grows-act p h (op.User (user_op.BeginDropOutput f)) w z =
       grows-log w (acts.begin_drop_output p w f).world (event.OutputDropped p f) refl refl
-  grows-act p h (op.User (user_op.Poll f)) w z = grows w w refl
-  grows-act p h (op.User (user_op.Drop f)) w z = grows w w refl
-  grows-act p h (op.User (user_op.DropOutput f)) w z = grows w w refl
-  grows-act p h (op.User (user_op.CallOutside x)) w z = grows w w refl
-  grows-act p h (op.User (user_op.PollOwn x)) w z = grows w w refl
-  grows-act p h (op.User (user_op.DropOwn q)) w z = grows w w refl
   grows-act p h (op.Waker (waker_op.CopyWaker f held)) w z = grows-copy _ w f held
   grows-act p h (op.Waker (waker_op.CallAwaiter f a k)) w z = grows-call p w (of.Handle f) a k
   grows-act p h (op.Handle (handle_op.Look f a)) w z =
@@ -396,39 +270,35 @@ module _ (t : Event → Bool) (u : (e : Event) → is_ordinary e ≡ true → t 
   grows-act p h (op.Handle (handle_op.LookAgain f)) w z =
       grows-again (moves.look_again (task w f)).owed.answer p w f (moves.look_again (task w f))
   grows-act p h (op.Handle (handle_op.Notify f own)) w z = grows-notify _ w f own
-  grows-act p h (op.Handle (handle_op.EndNotify f own)) w z = grows w (acts.end_notify h w f own).world refl
   grows-act p h (op.Sleeper sleeper_op.ExchangeFlag) w z = grows-exchange _ w
   grows-act p h (op.Sleeper sleeper_op.HandOut) w z = grows-hand_out _ _ w
   grows-act p h (op.Sleeper (sleeper_op.CallSleeper s)) w z = grows-call p w (sleepers.polled_as s.who) s.waker s.poll
-  grows-act p h (op.Tick tick_op.MakeTick) w z = grows-make _ w
   grows-act p h (op.Tick (tick_op.Search s)) w z = grows-who s.who w s
-  grows-act p h (op.Tick (tick_op.CopyWaker s)) w z = grows-copy_sleeper _ w s
-  grows-act p h (op.Tick (tick_op.LieDown s)) w z = grows-lie _ w s
-  grows-act p h (op.Tick (tick_op.GetUp t)) w z = grows-up _ w t
-  grows-act p h (op.Tick (tick_op.Leave t)) w z = grows-off _ w t
-  grows-act p h (op.List (list_op.LockWrite s)) w z = grows w (runs.lock_write w s).world refl
-  grows-act p h (op.List (list_op.Write section.MakeRun)) w z = grows-make_run h.refused w
-  grows-act p h (op.List (list_op.Write (section.Register x))) w z = grows-registered _ w x.run
-  grows-act p h (op.List (list_op.Write (section.Unregister q a))) w z = grows w (runs.unregistered w q) refl
-  grows-act p h (op.List list_op.UnlockWrite) w z = grows w (runs.unlock_write w).world refl
-  grows-act p h (op.List (list_op.LockRead x)) w z = grows w (runs.lock_read h w x).world refl
-  grows-act p h (op.List list_op.UnlockRead) w z = grows w (runs.unlock_read w).world refl
-  grows-act p h (op.Steal (steal_op.Length s)) w z = grows-length _ w s
-  grows-act p h (op.Steal (steal_op.OwnLength s n)) w z = grows-more _ w s
-  grows-act p h (op.Steal (steal_op.Take s more)) w z = grows-steal_take _ w s more
+  grows-act p h (op.Tick o) w z =
+      grows w (tick_act h o w).world (ap (λ (x : Wide). x.trace) (sym (wide-tick h o w refl)))
+  grows-act p h (op.List o) w z = grows w (list_act h o w).world (moves-list h o w).same.trace
+  grows-act p h (op.Steal (steal_op.Length s)) w z =
+      grows w (act p h (op.Steal (steal_op.Length s)) w).world (moves-length _ w s).same.trace
+  grows-act p h (op.Steal (steal_op.OwnLength s n)) w z =
+      grows w (act p h (op.Steal (steal_op.OwnLength s n)) w).world (moves-own_length _ n w s).same.trace
+  grows-act p h (op.Steal (steal_op.Take s more)) w z =
+      grows w (act p h (op.Steal (steal_op.Take s more)) w).world
+      (moves-take s.from _ w s.poll s.then more refl).same.trace
   grows-act p h (op.Steal (steal_op.Put s more f)) w z = grows-put _ p w s more f z
-  grows-act p h (op.Run run_op.MakeRoom) w z = grows-room _ w
-  grows-act p h (op.Run run_op.ReturnRoom) w z = grows w (runs.return_room w).world refl
-  grows-act p h (op.Run (run_op.SearchCommon x)) w z = grows-common _ w x
-  grows-act p h (op.Run (run_op.LookOwn x at left)) w z = grows-looks _ w x at left
+  grows-act p h (op.Run run_op.MakeRoom) w z =
+      grows w (act p h (op.Run run_op.MakeRoom) w).world (moves-make_room _ w).same.trace
+  grows-act p h (op.Run (run_op.SearchCommon x)) w z =
+      grows w (act p h (op.Run (run_op.SearchCommon x)) w).world (moves-common _ w x refl).same.trace
+  grows-act p h (op.Run (run_op.LookOwn x at left)) w z =
+      grows w (act p h (op.Run (run_op.LookOwn x at left)) w).world (moves-look _ w x at left refl).same.trace
   grows-act p h (op.Run (run_op.WakeOwn x)) w z = grows-wake_own p w x
-  grows-act p h (op.Run (run_op.Reschedule n a)) w z = grows-reschedule _ w n a
-  grows-act p h (op.Closing closing_op.TakeOut) w z = grows w (acts.take_out w).world refl
+  grows-act p h (op.Run (run_op.Reschedule n a)) w z =
+      grows w (act p h (op.Run (run_op.Reschedule n a)) w).world (moves-reschedule _ w n a refl).same.trace
   grows-act p h (op.Closing closing_op.DropNext) w z = grows-drop_next p w _
   grows-act p h (op.Closing closing_op.WakeNext) w z = grows-wake_next p w _
-  grows-act p h (op.Closing closing_op.Close) w z = grows w (acts.close w).world refl
   grows-act p h (op.Closing closing_op.Drain) w z = grows-drain p w _
   grows-act p h (op.End a held) w z = grows-one w (log w (event.CallEnded p a)) (event.CallEnded p a) z refl
+  grows-act p h o w z = grows w (act p h o w).world refl
 
   pub grows-react : (p : ℕ) (o : Op) (u : UserEnd) (w : World) → accepts o u ≡ true → Grows w (react p o u w).world
   grows-react p (op.User (user_op.Poll f)) (end.Polled answer.Pending) w a =
@@ -461,28 +331,20 @@ module _ (t : Event → Bool) (u : (e : Event) → is_ordinary e ≡ true → t 
 
   pub grows-begun : (p : ℕ) (w : World) (here : Option Waker) (c : Call) → AllowsCall p c →
       Grows w (begun p w here c).world
-  grows-begun p w here call.Spawn z = grows w _ refl
-  grows-begun p w here call.TryTick z = grows w _ refl
-  grows-begun p w here call.IsEmpty z = grows w _ refl
   grows-begun p w here (call.Wake k) z = grows-with w w (kept w k) _ refl (λ f. grows w _ refl)
   grows-begun p w here (call.WakeByRef k) z = grows-with w w (kept w k) _ refl (λ f. grows w _ refl)
   grows-begun p w here (call.Copy k) z = grows-with w w (kept w k) _ refl (λ f. grows w _ refl)
   grows-begun p w here (call.DropWaker k) z = grows-with w w (kept w k) _ refl (λ f. grows w _ refl)
   grows-begun p w here call.Keep z = grows-with w w (future_of here) _ refl (λ f. grows w _ refl)
   grows-begun p w here call.WakeSelf z = grows-with w w (future_of here) _ refl (λ f. grows w _ refl)
-  grows-begun p w here (call.PollHandle f b) z = grows w _ refl
-  grows-begun p w here (call.Cancel f) z = grows w _ refl
-  grows-begun p w here (call.Detach f) z = grows w _ refl
-  grows-begun p w here (call.DropHandle f) z = grows w _ refl
-  grows-begun p w here call.NewTick z = grows w _ refl
   grows-begun p w here (call.PollTick n b) z =
       grows-log w (begun p w here (call.PollTick n b)).world (event.TickPolled p n) refl refl
   grows-begun p w here (call.DropTick n) z =
       grows-log w (begun p w here (call.DropTick n)).world (event.TickDropped p n) refl refl
-  grows-begun p w here call.NewRun z = grows w _ refl
   grows-begun p w here (call.PollRun r b) z =
       grows-one w (begun p w here (call.PollRun r b)).world (event.RunPolled p r) z refl
   grows-begun p w here (call.DropRun r) z =
       grows-one w (begun p w here (call.DropRun r)).world (event.RunDropped p r) z refl
   grows-begun p w here call.DropExecutor z =
       grows-log w (begun p w here call.DropExecutor).world (event.DropBegun p) refl refl
+  grows-begun p w here _ z = grows w _ refl

@@ -1,3 +1,4 @@
+-- For laws of the crates above.
 -- What a step adds to the trace: at most the beginning of one call, and then nothing that begins another.
 use Rattle.std.proofs.Common.{◌≡◌, ℕ, List, [], ◌∷◌, ◌++◌, Bool, true, false}
 use Rattle.std.proofs.Common.{refl, sym, ap, ◌∙◌, append-nil}
@@ -25,8 +26,8 @@ use Rattle.executor_model.specs.Trace.{Trace, has}
 use Rattle.executor_model.specs.World.{World, Done, log}
 use Rattle.executor_model.specs.Steps.{Machine, stack, top, below_top, mine, refusal, begun}
 use Rattle.executor_model.specs.Steps.{react, end_of, settled_by, onto, gone_on, after, step_by, step, stepped, run}
-use Rattle.executor_model.proofs.TraceGrows.{Allows, AllowsCall, grows-act, grows-begun, is_ordinary}
-use Rattle.executor_model.proofs.TraceMore.{has-append}
+use Rattle.executor_model.proofs.Steps.TraceGrows.{Allows, AllowsCall, grows-act, grows-begun, is_ordinary}
+use Rattle.executor_model.proofs.Steps.TraceMore.{has-append}
 
 -- a later trace has the earlier one at its beginning
 abbrev pub IsContinued : Trace → Trace → Type 0

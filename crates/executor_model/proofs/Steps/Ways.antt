@@ -1,3 +1,4 @@
+-- For all laws.
 -- How a step changes the machine: one move of one party, and the end of a call where that is all that is left of it.
 use Rattle.std.proofs.Common.{◌≡◌, ℕ, ◌<◌, List, [], ◌∷◌, ◌++◌, length, set, Bool, true, false, not, ltb, refl, sym}
 use Rattle.std.proofs.Common.{ap, arith, append-nil, ◌∙◌, subst, get_or-set_same}
@@ -25,7 +26,7 @@ use Rattle.executor_model.specs.Steps.{part_after, with_part, step_by, step, ste
 use Rattle.std.proofs.lemmas.List.{set-set}
 use Rattle.std.proofs.Math.ListN.{length-set}
 use Rattle.executor_model.specs.Good.{Good}
-use Rattle.executor_model.proofs.Lift.{topped, unsettled, good-stepped}
+use Rattle.executor_model.proofs.Steps.Lift.{topped, unsettled, good-stepped}
 
 -- how party p came from having old on top of rest to d
 pub data Way (s : Machine) (p : ℕ) (old rest : List Op) (d : Done) : Type 0 where
@@ -108,7 +109,7 @@ made s (Begin p c) k =
 made s (Go p h) k = made-go s p h _ refl k
 made s (Answer p u) k = made-answer s p u _ refl k
 
--- what each move of a party that waits for no lock keeps, and each end of a call, each run keeps
+-- what each move of a party that waits for no lock keeps, and each end of a call, each execution keeps
 module _
     (P : Machine → Type 0)
     (moves : (s : Machine) (p : ℕ) (old rest : List Op) (d : Done) → Good s → p < length s.parties →
@@ -160,7 +161,7 @@ module _
     along-free (t ∷ ts) s good k = along-free ts (stepped s (step s t)) (good-stepped s t good)
         (kept-stepped s t good k)
 
--- what each move and each end of a call keep, each run keeps
+-- what each move and each end of a call keep, each execution keeps
 module _
     (P : Machine → Type 0)
     (moves : (s : Machine) (p : ℕ) (old rest : List Op) (d : Done) → Good s → p < length s.parties →

@@ -1,3 +1,5 @@
+-- For table_and_queue_agree, no_append_is_refused_full, the_limit_is_exact, drops_come_once, early_drops_have_causes
+-- and closing_drops_each_future_once.
 -- A future is only polled, dropped or taken out of the table for good inside of a call that uses the executor.
 use Rattle.std.proofs.Common.{◌≡◌, ℕ, zero, suc, ◌+◌, ◌<◌, ◌≤◌, List, [], ◌∷◌, ◌++◌, length, set, get_or}
 use Rattle.std.proofs.Common.{Bool, true, false, ◌||◌, cond, ltb, refl, ap, ◌∙◌, arith}
@@ -14,9 +16,9 @@ use Rattle.executor_model.specs.declared.op.TableOp.TheVariants as table_op
 use Rattle.executor_model.specs.declared.op.TickOp.TheVariants as tick_op
 use Rattle.executor_model.specs.declared.op.UserOp.TheVariants as user_op
 use Rattle.executor_model.specs.Weights.{weigh, weigh_all}
-use Rattle.executor_model.proofs.Lists.{same_is, weigh-reverse}
+use Rattle.executor_model.proofs.Steps.Lists.{same_is, weigh-reverse}
 use Rattle.executor_model.specs.Rows.{Row, borrowing_of, drops_of, leaves_of}
-use Rattle.executor_model.proofs.RunsPlain.{plain-list, plain-run, plain-steal}
+use Rattle.executor_model.proofs.Steps.RunsPlain.{plain-list, plain-run, plain-steal}
 
 -- what is only done inside of such a call
 abbrev pub uses_of : Op → ℕ

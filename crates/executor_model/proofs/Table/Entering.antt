@@ -1,3 +1,5 @@
+-- For table_and_queue_agree, no_append_is_refused_full, the_limit_is_exact, drops_come_once, early_drops_have_causes
+-- and closing_drops_each_future_once.
 -- Table and queue agree with the trace, and a spawn finds the executor full exactly where it is.
 use Rattle.std.proofs.Common.{◌≡◌, ◌⊎◌, ℕ, zero, suc, ◌+◌, ◌<◌, ◌≤◌, List, [], length, Bool, true, false}
 use Rattle.std.proofs.Common.{refl, sym, ap, ◌∙◌, subst, inl, inr, ⊎_elim, arith}
@@ -9,20 +11,20 @@ use Rattle.executor_model.specs.declared.op.Op.{Op}
 use Rattle.executor_model.specs.declared.op.Op.TheVariants as op
 use Rattle.executor_model.specs.declared.op.QueueOp.TheVariants as queue_op
 use Rattle.executor_model.specs.declared.step.Step.{Step}
-use Rattle.executor_model.specs.Trace.{Trace, has, is_accepted, is_dropped}
+use Rattle.executor_model.specs.Trace.{Trace, has, is_accepted, is_dropped, is_drop_begun}
 use Rattle.executor_model.specs.DroppedOnce.{DropComesOnce, IsDroppedByTheEnd}
 use Rattle.executor_model.specs.EarlyDrop.{EarlyDropHasCause}
 use Rattle.executor_model.specs.Weights.{weigh_all}
-use Rattle.executor_model.specs.Sound.{times}
+use Rattle.executor_model.specs.Sound.{times, times_in}
 use Rattle.executor_model.specs.Good.{Good}
 use Rattle.executor_model.specs.Steps.{Machine, stack, top, below_top, run, start}
-use Rattle.executor_model.specs.Entries.{HasTable, Remains, TableAgrees, QueueAgrees, FindsPlace}
+use Rattle.executor_model.specs.Entries.{HasTable, Remains, TableAgrees, OwnAgrees, QueueAgrees, FindsPlace}
 use Rattle.executor_model.specs.Rows.{ousting_of, leaves_of}
-use Rattle.executor_model.proofs.Lift.{topped, good}
-use Rattle.executor_model.proofs.Stories.{story}
-use Rattle.executor_model.proofs.Telling.{fallen-counts, accepted-counts, counted-there, there-or-none}
-use Rattle.executor_model.proofs.Telling.{begun-has, ended-has, drop-has-cause, drop-follows}
-use Rattle.executor_model.proofs.LeavingRuns.{Placed, placed, has-place}
+use Rattle.executor_model.proofs.Steps.Lift.{topped, good}
+use Rattle.executor_model.proofs.OneFuture.Stories.{story}
+use Rattle.executor_model.proofs.OneFuture.Telling.{fallen-counts, accepted-counts, counted-there, there-or-none}
+use Rattle.executor_model.proofs.OneFuture.Telling.{begun-has, ended-has, drop-has-cause, drop-follows}
+use Rattle.executor_model.proofs.Table.LeavingExecutions.{Placed, placed, has-place}
 
 -- no entry is there twice
 one-entry : (b : Bool) (o t d a e : ℕ) → ((b ≡ false) ⊎ (1 ≤ o) → t + d ≡ a + e) → (b ≡ true → o ≡ 0 → t ≡ 0) → e ≤ d →
@@ -112,24 +114,42 @@ module _ (s : Machine) (f : ℕ) (fine : Good s) (h : Placed s) where
   stands : 1 ≤ times f s.world.queue.items → 1 ≤ times f (story f s.world.trace).standing
   stands n = (h.leaves f).runs (omega (arith, n))
 
+  -- who stands was dropped by the executor's drop alone
+  dropped-late : 1 ≤ times f (story f s.world.trace).standing → has (is_dropped f) s.world.trace ≡ true →
+      has is_drop_begun s.world.trace ≡ true
+  dropped-late n d = sym (begun-has f s.world.trace)
+      ∙ ((h.leaves f).begun ∙ ⊎_elim (λ (e : s.world.gone ≡ true). e)
+      (λ (e : s.world.gone ≡ false).
+      absurd
+      (omega (
+        arith,
+        (h.leaves f).stay e,
+        n,
+        one-accepted,
+        counts (is_dropped f) s.world.trace _ (fallen-counts f s.world.trace) d,
+      ))) (either s.world.gone))
+
   pub queue-agrees : QueueAgrees s f
   queue-agrees = record {
     once = omega (arith, (fine.sound f).one);
     accepted = λ n. there (is_accepted f) s.world.trace _ (accepted-counts f s.world.trace)
         (omega (arith, stands n, (h.leaves f).bound));
-    undropped = λ n d. sym (begun-has f s.world.trace)
-        ∙ ((h.leaves f).begun ∙ ⊎_elim (λ (e : s.world.gone ≡ true). e)
-        (λ (e : s.world.gone ≡ false).
-        absurd
-        (omega (
-          arith,
-          (h.leaves f).stay e,
-          stands n,
-          one-accepted,
-          counts (is_dropped f) s.world.trace _ (fallen-counts f s.world.trace) d,
-        ))) (either s.world.gone));
+    undropped = λ n d. dropped-late (stands n) d;
     by_closing = λ n d. drop-follows f s.world.trace (omega (arith, (h.leaves f).lasting, stands n, one-accepted)) d;
     alone = λ b. omega (arith, (h.leaves f).still (sym (h.leaves f).begun ∙ (begun-has f s.world.trace ∙ b)));
+  }
+
+  stands-kept : 1 ≤ times_in f s.world.own → 1 ≤ times f (story f s.world.trace).standing
+  stands-kept n = (h.leaves f).runs (omega (arith, n))
+
+  pub own-agrees : OwnAgrees s f
+  own-agrees = record {
+    once = omega (arith, (fine.sound f).one);
+    accepted = λ n. there (is_accepted f) s.world.trace _ (accepted-counts f s.world.trace)
+        (omega (arith, stands-kept n, (h.leaves f).bound));
+    undropped = λ n d. dropped-late (stands-kept n) d;
+    by_closing = λ n d. drop-follows f s.world.trace (omega (arith, (h.leaves f).lasting, stands-kept n, one-accepted))
+        d;
   }
 
   pub drop-comes-once : DropComesOnce f s.world.trace

@@ -1,4 +1,6 @@
--- What holds of each future and its place in the table (proofs/Leaving) is kept by each effect, and so by each thing that
+-- For table_and_queue_agree, no_append_is_refused_full, the_limit_is_exact, drops_come_once, early_drops_have_causes
+-- and closing_drops_each_future_once.
+-- What holds of each future and its place in the table (proofs/Table/Leaving) is kept by each effect, and so by each thing that
 -- is done.
 use Rattle.std.proofs.Common.{◌≡◌, ℕ, ◌+◌, ◌<◌, List, [], ◌∷◌, ◌++◌, length, true, false, ◌&&◌, not, refl, ap, arith}
 use Rattle.std.proofs.lemmas.List.{length-append}
@@ -21,15 +23,15 @@ use Rattle.executor_model.specs.World.{World, Done, done, log, among}
 use Rattle.executor_model.specs.Acts.{append_by, begin_drop, closing_ops, enter_by, leave_by, stands_alone}
 use Rattle.executor_model.specs.Weights.{same}
 use Rattle.executor_model.specs.Sound.{Pend, times, with_ops}
-use Rattle.executor_model.proofs.Lists.{fresh_is, read_push, same_is, times-append, without_one}
-use Rattle.executor_model.proofs.Stories.{length-except, story, story-push, times-except}
-use Rattle.executor_model.proofs.Extras.{Extra, with_extra}
-use Rattle.executor_model.proofs.Leaving.{Base, Entered, Leaves, KeepsLeaves}
-use Rattle.executor_model.proofs.LeavingViews.{base-passes, entered-loose, entered-moved, entered-passes}
-use Rattle.executor_model.proofs.Views.{seen}
-use Rattle.executor_model.proofs.Passing.{goes-end}
-use Rattle.executor_model.proofs.Effects.{Effect, turned-keeps}
-use Rattle.executor_model.proofs.Effects.Effect.{passes, turns, refuses, enters, unlists, drops, takes_out, drops_next}
+use Rattle.executor_model.proofs.Steps.Lists.{fresh_is, read_push, same_is, times-append, without_one}
+use Rattle.executor_model.proofs.OneFuture.Stories.{length-except, story, story-push, times-except}
+use Rattle.executor_model.proofs.OneFuture.Extras.{Extra, with_extra}
+use Rattle.executor_model.proofs.Table.Leaving.{Base, Entered, Leaves, KeepsLeaves}
+use Rattle.executor_model.proofs.Table.LeavingViews.{base-passes, entered-loose, entered-moved, entered-passes}
+use Rattle.executor_model.proofs.OneFuture.Views.{seen}
+use Rattle.executor_model.proofs.OneFuture.Passing.{goes-end}
+use Rattle.executor_model.proofs.OneFuture.Effects.{Effect, turned-keeps}
+use Rattle.executor_model.proofs.OneFuture.Effects.Effect.{passes, turns, refuses, enters, unlists, drops, takes_out, drops_next}
 
 leaves-refuses : (w : World) (f : ℕ) → w.queue.closed ≡ true →
     KeepsLeaves w (op.Queue (queue_op.Append f) ∷ []) (append_by false w f)

@@ -1,4 +1,6 @@
--- In each run every future leaves the table as it should, and no append finds the queue full.
+-- For table_and_queue_agree, no_append_is_refused_full, the_limit_is_exact, drops_come_once, early_drops_have_causes
+-- and closing_drops_each_future_once.
+-- In each execution every future leaves the table as it should, and no append finds the queue full.
 use Rattle.std.proofs.Common.{◌≡◌, ℕ, zero, suc, ◌+◌, ◌<◌, ◌≤◌, List, [], ◌∷◌, ◌++◌, length, set}
 use Rattle.std.proofs.Common.{Bool, true, false, ◌&&◌, not, refl, subst, inl, ⊎_elim, arith}
 use Rattle.std.proofs.lemmas.Bool.Decides.{nat_tests}
@@ -19,20 +21,20 @@ use Rattle.executor_model.specs.Good.{Good}
 use Rattle.executor_model.specs.Steps.{Machine, stack, idle, run, start, mine, top}
 use Rattle.executor_model.specs.Rows.{waiting_of}
 use Rattle.executor_model.specs.Rows.{drops_of, leaves_of}
-use Rattle.executor_model.proofs.Cases.{by_bool}
-use Rattle.executor_model.proofs.Lift.{split, unsettled, good-start}
-use Rattle.executor_model.proofs.Views.{none, seen}
-use Rattle.executor_model.proofs.Ways.{Way, along}
-use Rattle.executor_model.proofs.Ways.Way.{acted, reacted, called}
-use Rattle.executor_model.proofs.Stories.{story, story-none, among_is, no-longer}
-use Rattle.executor_model.proofs.Telling.{same-standing}
-use Rattle.executor_model.proofs.Extras.{closing_of, no_extra, extra}
-use Rattle.executor_model.proofs.Leaving.{Base, based, Entered, Leaves}
-use Rattle.executor_model.proofs.LeavingAll.{NeedsPlaces, leaves-effect, leaves-pends, leaves-readies, leaves-closes, leaves-end}
-use Rattle.executor_model.proofs.EffectsWays.{Effects, effects-way, ended, lifted, view_with, view-start}
-use Rattle.executor_model.proofs.EffectsWays.Effects.{does, pends, readies, closes}
-use Rattle.executor_model.proofs.Borrowing.{bare_all, Tidy, bare-moved, none-uses, drop-uses-all}
-use Rattle.executor_model.proofs.TidyingGroups.{NeedsNoEntry, tidy-act, tidy-react, tidy-begun}
+use Rattle.executor_model.proofs.Steps.Cases.{by_bool}
+use Rattle.executor_model.proofs.Steps.Lift.{split, unsettled, good-start}
+use Rattle.executor_model.proofs.OneFuture.Views.{none, seen}
+use Rattle.executor_model.proofs.Steps.Ways.{Way, along}
+use Rattle.executor_model.proofs.Steps.Ways.Way.{acted, reacted, called}
+use Rattle.executor_model.proofs.OneFuture.Stories.{story, story-none, among_is, no-longer}
+use Rattle.executor_model.proofs.OneFuture.Telling.{same-standing}
+use Rattle.executor_model.proofs.OneFuture.Extras.{closing_of, no_extra, extra}
+use Rattle.executor_model.proofs.Table.Leaving.{Base, based, Entered, Leaves}
+use Rattle.executor_model.proofs.Table.LeavingAll.{NeedsPlaces, leaves-effect, leaves-pends, leaves-readies, leaves-closes, leaves-end}
+use Rattle.executor_model.proofs.OneFuture.EffectsWays.{Effects, effects-way, ended, lifted, view_with, view-start}
+use Rattle.executor_model.proofs.OneFuture.EffectsWays.Effects.{does, pends, readies, closes}
+use Rattle.executor_model.proofs.Table.Borrowing.{bare_all, Tidy, bare-moved, none-uses, drop-uses-all}
+use Rattle.executor_model.proofs.Table.TidyingGroups.{NeedsNoEntry, tidy-act, tidy-react, tidy-begun}
 
 pub record Placed (s : Machine) : Type 0 where
   pub leaves : (g : ℕ) → Leaves s.world g (pend g s.parties) (extra g s.parties)

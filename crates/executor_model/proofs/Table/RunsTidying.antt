@@ -1,3 +1,5 @@
+-- For table_and_queue_agree, no_append_is_refused_full, the_limit_is_exact, drops_come_once, early_drops_have_causes
+-- and closing_drops_each_future_once.
 -- What a run does uses the executor only where it is held.
 use Rattle.std.proofs.Common.{◌≡◌, ℕ, zero, suc, List, [], ◌∷◌, ◌++◌, Bool, true, false, eqb, reverse, refl, ap}
 use Rattle.std.proofs.Common.{◌+◌, ◌%◌, length, arith}
@@ -17,8 +19,8 @@ use Rattle.executor_model.specs.declared.op.RunOp.{RunOp}
 use Rattle.executor_model.specs.declared.op.RunOp.TheVariants as run_op
 use Rattle.executor_model.specs.declared.op.RunPoll.{RunPoll}
 use Rattle.executor_model.specs.declared.op.Section.TheVariants as section
-use Rattle.executor_model.specs.declared.op.Sleeper.{Sleeper}
-use Rattle.executor_model.specs.declared.op.Sleeper.TheVariants as sleeper
+use Rattle.executor_model.specs.declared.op.TickOrRun.{TickOrRun}
+use Rattle.executor_model.specs.declared.op.TickOrRun.TheVariants as tick_or_run
 use Rattle.executor_model.specs.declared.op.SleeperOp.TheVariants as sleeper_op
 use Rattle.executor_model.specs.declared.op.Source.TheVariants.{Own}
 use Rattle.executor_model.specs.declared.op.Steal.{Steal}
@@ -29,7 +31,7 @@ use Rattle.executor_model.specs.declared.op.Then.TheVariants as then
 use Rattle.executor_model.specs.declared.op.Waker.{Waker}
 use Rattle.executor_model.specs.declared.op.Waker.TheVariants.{Task, Outside}
 use Rattle.executor_model.specs.declared.step.Hint.{Hint}
-use Rattle.executor_model.specs.World.{World, Place, Up, Lies, Left, Stage, New, Listed, Ended, own_of, put_own}
+use Rattle.executor_model.specs.World.{World, Ticker, Awake, Asleep, Left, Stage, New, Listed, Ended, own_of, put_own}
 use Rattle.executor_model.specs.World.{run_of, log, task}
 use Rattle.executor_model.specs.ActsOfSleepers.{found_by}
 use Rattle.executor_model.specs.ActsOfRuns.{run_by, counted_by, found, make_run_by, walk, next_place, queue_at}
@@ -40,9 +42,9 @@ use Rattle.executor_model.specs.ActsOfRuns.{reschedule_by}
 use Rattle.executor_model.specs.Doing.{list_act, run_act, steal_act}
 use Rattle.executor_model.specs.Steps.{poll_run, drop_run}
 use Rattle.executor_model.specs.Weights.{weigh}
-use Rattle.executor_model.proofs.Lists.{weigh-append, weigh-reverse}
-use Rattle.executor_model.proofs.Borrowing.{uses_of, bare, held_by, bare-append, bare-light, Tidy, tidy-light}
-use Rattle.executor_model.proofs.Tidying.{light-carried, no-wake}
+use Rattle.executor_model.proofs.Steps.Lists.{weigh-append, weigh-reverse}
+use Rattle.executor_model.proofs.Table.Borrowing.{uses_of, bare, held_by, bare-append, bare-light, Tidy, tidy-light}
+use Rattle.executor_model.proofs.Table.Tidying.{light-carried, no-wake}
 
 -- nothing below which the executor isn't held uses it
 abbrev pub IsHeld : List Op → Type 0
@@ -74,17 +76,17 @@ held-counted : (b : Bool) (w : World) (x : RunPoll) (f : ℕ) → IsHeld (counte
 held-counted true w x f = refl
 held-counted false w x f = held-run_by _ _ x f
 
-pub light-rises : (p : Place) (who : Sleeper) →
+pub light-wakes_up : (p : Ticker) (who : TickOrRun) →
     weigh uses_of (found_by p who (op.Sleeper sleeper_op.ExchangeFlag ∷ [])) ≡ 0
-light-rises Up who = refl
-light-rises (Lies n) who = refl
-light-rises Left who = refl
+light-wakes_up Awake who = refl
+light-wakes_up (Asleep n) who = refl
+light-wakes_up Left who = refl
 
 held-found : (w : World) (x : RunPoll) (f : ℕ) → IsHeld (found w x f).next
 held-found w x f =
-    held-after (found_by (run_of w x.run).place (sleeper.Run x.run) (op.Sleeper sleeper_op.ExchangeFlag ∷ []))
+    held-after (found_by (run_of w x.run).place (tick_or_run.Run x.run) (op.Sleeper sleeper_op.ExchangeFlag ∷ []))
     (counted_by (eqb ((run_of w x.run).counted + 1) 64) w x f).next
-    (light-rises (run_of w x.run).place (sleeper.Run x.run))
+    (light-wakes_up (run_of w x.run).place (tick_or_run.Run x.run))
     (held-counted (eqb ((run_of w x.run).counted + 1) 64) w x f)
 
 held-stolen : (t : Then) (w : World) (x : RunPoll) → IsHeld (stolen t w x).next
@@ -139,14 +141,10 @@ light-make_run true w = refl
 light-make_run false w = refl
 
 pub tidy-list : (h : Hint) (o : ListOp) (w : World) → Tidy (op.List o ∷ []) (list_act h o w).next
-tidy-list h (list_op.LockWrite s) w = tidy-light _ _ refl
 tidy-list h (list_op.Write section.MakeRun) w = tidy-light _ _ (light-make_run h.refused w)
-tidy-list h (list_op.Write (section.Register x)) w = tidy-light _ _ refl
-tidy-list h (list_op.Write (section.Unregister r a)) w = tidy-light _ _ refl
-tidy-list h list_op.UnlockWrite w = tidy-light _ _ refl
 tidy-list h (list_op.LockRead x) w =
     tidy-light _ _ (light-walk x w.listed (h.start % length w.listed) (length w.listed))
-tidy-list h list_op.UnlockRead w = tidy-light _ _ refl
+tidy-list h _ w = tidy-light _ _ refl
 
 -- searching
 

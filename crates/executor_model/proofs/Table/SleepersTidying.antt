@@ -1,3 +1,5 @@
+-- For table_and_queue_agree, no_append_is_refused_full, the_limit_is_exact, drops_come_once, early_drops_have_causes
+-- and closing_drops_each_future_once.
 -- What tells sleepers, and what a tick does, uses the executor only where it is held.
 use Rattle.std.proofs.Common.{◌≡◌, ℕ, List, [], ◌∷◌, refl}
 use Rattle.task_moves.specs.declared.moves.owed.Move.TheVariants as move
@@ -10,16 +12,16 @@ use Rattle.executor_model.specs.declared.op.SleeperOp.TheVariants as sleeper_op
 use Rattle.executor_model.specs.declared.op.TickOp.{TickOp}
 use Rattle.executor_model.specs.declared.op.TickOp.TheVariants as tick_op
 use Rattle.executor_model.specs.declared.step.Hint.{Hint}
-use Rattle.executor_model.specs.declared.op.Sleeper.{Sleeper}
-use Rattle.executor_model.specs.declared.op.Sleeper.TheVariants as sleeper
-use Rattle.executor_model.specs.World.{World, Place, Up, Lies, Left}
+use Rattle.executor_model.specs.declared.op.TickOrRun.{TickOrRun}
+use Rattle.executor_model.specs.declared.op.TickOrRun.TheVariants as tick_or_run
+use Rattle.executor_model.specs.World.{World, Ticker, Awake, Asleep, Left}
 use Rattle.executor_model.specs.ActsOfSleepers.{held_as, search_by}
 use Rattle.executor_model.specs.Doing.{search_by_who, sleeper_act, tick_act}
-use Rattle.executor_model.proofs.Borrowing.{uses_of, Tidy, tidy-light}
-use Rattle.executor_model.proofs.RunsTidying.{IsHeld, held-after, tidy-held, tidy-search_own}
-use Rattle.executor_model.proofs.SleepersNext.{Unseen, sleeper-unseen, Blind, make-blind}
-use Rattle.executor_model.proofs.SleepersNext.{copy-blind, lie-blind, leave-blind, up-blind}
-use Rattle.executor_model.proofs.Tidying.{light-wake}
+use Rattle.executor_model.proofs.Table.Borrowing.{uses_of, Tidy, tidy-light}
+use Rattle.executor_model.proofs.Table.RunsTidying.{IsHeld, held-after, tidy-held, tidy-search_own}
+use Rattle.executor_model.proofs.Steps.SleepersNext.{Unseen, sleeper-unseen, Blind, make-blind}
+use Rattle.executor_model.proofs.Steps.SleepersNext.{copy-blind, sleep-blind, leave-blind, up-blind}
+use Rattle.executor_model.proofs.Table.Tidying.{light-wake}
 
 unseen : Unseen uses_of
 unseen = record { hand = refl; call = λ s. refl; outside = λ x. refl; wake = λ p w f. light-wake p w f }
@@ -31,6 +33,7 @@ blind : Blind uses_of
 blind = record {
   tick = no-use;
   exchange = refl;
+  returns = refl;
   call = λ s. refl;
   release = λ f. refl;
   end = λ r t. refl;
@@ -39,40 +42,36 @@ blind = record {
   where
     no-use : (o : TickOp) → uses_of (op.Tick o) ≡ 0
     no-use tick_op.MakeTick = refl
-    no-use (tick_op.Search s) = refl
-    no-use (tick_op.CopyWaker s) = refl
-    no-use (tick_op.LieDown s) = refl
-    no-use (tick_op.GetUp t) = refl
-    no-use (tick_op.Leave t) = refl
+    no-use _ = refl
 
-abbrev ready : Sleeper → ℕ → List Op
+abbrev ready : TickOrRun → ℕ → List Op
 ready who f = op.Move move.TakeUp f ∷ op.End reply.Ready (held_as who) ∷ []
 
-held-ready : (who : Sleeper) (f : ℕ) → IsHeld (ready who f)
-held-ready (sleeper.Tick t) f = refl
-held-ready (sleeper.Run r) f = refl
+held-ready : (who : TickOrRun) (f : ℕ) → IsHeld (ready who f)
+held-ready (tick_or_run.Tick t) f = refl
+held-ready (tick_or_run.Run r) f = refl
 
-tidy-search : (x : Place) (w : World) (q : List ℕ) (s : Sleeping) →
+tidy-search : (x : Ticker) (w : World) (q : List ℕ) (s : Sleeping) →
     Tidy (op.Tick (tick_op.Search s) ∷ []) (search_by x w q s).next
 tidy-search x w [] s = tidy-light _ _ refl
-tidy-search Up w (f ∷ rest) s =
+tidy-search Awake w (f ∷ rest) s =
     tidy-held _ _ (held-after (op.Sleeper sleeper_op.ExchangeFlag ∷ []) (ready s.who f) refl (held-ready s.who f))
-tidy-search (Lies n) w (f ∷ rest) s =
-    tidy-held _ _ (held-after (op.Tick (tick_op.GetUp s.who) ∷ op.Sleeper sleeper_op.ExchangeFlag ∷ [])
+tidy-search (Asleep n) w (f ∷ rest) s =
+    tidy-held _ _ (held-after (op.Tick (tick_op.WakeUp s.who) ∷ op.Sleeper sleeper_op.ExchangeFlag ∷ [])
     (ready s.who f) refl
     (held-ready s.who f))
 tidy-search Left w (f ∷ rest) s =
     tidy-held _ _ (held-after (op.Sleeper sleeper_op.ExchangeFlag ∷ []) (ready s.who f) refl (held-ready s.who f))
 
-tidy-search_who : (who : Sleeper) (w : World) (s : Sleeping) →
+tidy-search_who : (who : TickOrRun) (w : World) (s : Sleeping) →
     Tidy (op.Tick (tick_op.Search s) ∷ []) (search_by_who who w s).next
-tidy-search_who (sleeper.Tick t) w s = tidy-search _ w _ s
-tidy-search_who (sleeper.Run r) w s = tidy-search_own _ w (record { run = r; waker = s.waker; poll = s.poll })
+tidy-search_who (tick_or_run.Tick t) w s = tidy-search _ w _ s
+tidy-search_who (tick_or_run.Run r) w s = tidy-search_own _ w (record { run = r; waker = s.waker; poll = s.poll })
 
 pub tidy-tick : (h : Hint) (o : TickOp) (w : World) → Tidy (op.Tick o ∷ []) (tick_act h o w).next
 tidy-tick h tick_op.MakeTick w = tidy-light _ _ (make-blind uses_of blind _ w)
 tidy-tick h (tick_op.Search s) w = tidy-search_who s.who w s
 tidy-tick h (tick_op.CopyWaker s) w = tidy-light _ _ (copy-blind uses_of blind _ w s)
-tidy-tick h (tick_op.LieDown s) w = tidy-light _ _ (lie-blind uses_of blind _ w s)
-tidy-tick h (tick_op.GetUp t) w = tidy-light _ _ (up-blind uses_of blind _ w t)
+tidy-tick h (tick_op.FallAsleep s) w = tidy-light _ _ (sleep-blind uses_of blind _ w s)
+tidy-tick h (tick_op.WakeUp t) w = tidy-light _ _ (up-blind uses_of blind _ w t)
 tidy-tick h (tick_op.Leave t) w = tidy-light _ _ (leave-blind uses_of blind _ w t)

@@ -1,3 +1,4 @@
+-- For the_limit_is_exact, emptiness_is_exact and quiet_emptiness_is_exact.
 -- A spawn is answered that the executor is full exactly where it is.
 use Rattle.std.proofs.Common.{◌≡◌, ◌⊎◌, ℕ, zero, suc, ◌-◌, ◌<◌, ◌≤◌, List, [], ◌∷◌, ◌++◌, length}
 use Rattle.std.proofs.Common.{Bool, true, false, not, refl, sym, ap, ◌∙◌, subst, inl, ⊎_elim, arith}
@@ -31,11 +32,11 @@ use Rattle.executor_model.specs.Steps.{Machine, stack, top, below_top, step, ste
 use Rattle.executor_model.specs.Steps.{unless, settled, settled_by, end_of, onto, gone_on, run, start}
 use Rattle.executor_model.specs.Entries.{HasTable}
 use Rattle.executor_model.specs.Limit.{Asks, ReachLimit, IsUndropped, IsLimitExact}
-use Rattle.executor_model.proofs.Lift.{split, topped, good}
-use Rattle.executor_model.proofs.Stories.{no-longer}
-use Rattle.executor_model.proofs.Telling.{begun-has}
-use Rattle.executor_model.proofs.LeavingRuns.{Placed, placed}
-use Rattle.executor_model.proofs.Entering.{table-agrees}
+use Rattle.executor_model.proofs.Steps.Lift.{split, topped, good}
+use Rattle.executor_model.proofs.OneFuture.Stories.{no-longer}
+use Rattle.executor_model.proofs.OneFuture.Telling.{begun-has}
+use Rattle.executor_model.proofs.Table.LeavingExecutions.{Placed, placed}
+use Rattle.executor_model.proofs.Table.Entering.{table-agrees}
 
 -- the last thing of a list
 pub last-get : (os : List Op) (x : Op) → slice_get (os ++ x ∷ []) (length os) ≡ Some x

@@ -1,3 +1,5 @@
+-- For table_and_queue_agree, no_append_is_refused_full, the_limit_is_exact, drops_come_once, early_drops_have_causes
+-- and closing_drops_each_future_once.
 -- Each thing that is done leads to uses of the executor only inside of a call that holds it.
 use Rattle.std.proofs.Common.{◌≡◌, ℕ, List, [], ◌∷◌, ◌++◌, Bool, true, false, refl, ap, arith}
 use Rattle.std.specs.Prelude.{Option, Some, None}
@@ -24,9 +26,9 @@ use Rattle.executor_model.specs.Acts.{register_by, waker_goes, let_go, end_regis
 use Rattle.executor_model.specs.Acts.{call_awaiter}
 use Rattle.executor_model.specs.Acts.{closing_ops, drop_next_by, wake, wake_next_by, drain_by}
 use Rattle.executor_model.specs.Weights.{weigh}
-use Rattle.executor_model.proofs.Lists.{weigh-append}
-use Rattle.executor_model.proofs.Owed.{owed-awaiter, owed-nothing}
-use Rattle.executor_model.proofs.Borrowing.{uses_of, Tidy}
+use Rattle.executor_model.proofs.Steps.Lists.{weigh-append}
+use Rattle.executor_model.proofs.Steps.Owed.{owed-awaiter, owed-nothing}
+use Rattle.executor_model.proofs.Table.Borrowing.{uses_of, Tidy}
 
 light-both : (xs ys : List Op) → weigh uses_of xs ≡ 0 → weigh uses_of ys ≡ 0 → weigh uses_of (xs ++ ys) ≡ 0
 light-both xs ys a b = omega (arith, weigh-append uses_of xs ys, a, b)

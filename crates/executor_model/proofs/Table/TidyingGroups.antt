@@ -1,3 +1,5 @@
+-- For table_and_queue_agree, no_append_is_refused_full, the_limit_is_exact, drops_come_once, early_drops_have_causes
+-- and closing_drops_each_future_once.
 -- Each thing that is done uses the executor only where it is held, by groups.
 use Rattle.std.proofs.Common.{◌≡◌, ℕ, [], ◌∷◌, Bool, true, false, refl, ap}
 use Rattle.std.specs.Prelude.{Option, Some, None}
@@ -23,14 +25,14 @@ use Rattle.executor_model.specs.Carried.{drop_ops}
 use Rattle.executor_model.specs.Doing.{act}
 use Rattle.executor_model.specs.Weights.{weigh}
 use Rattle.executor_model.specs.Steps.{with_future, future_of, kept, accepts, begun, react}
-use Rattle.executor_model.proofs.Borrowing.{uses_of, Tidy, tidy-light}
-use Rattle.executor_model.proofs.Tidying.{light-again, light-append, light-call, light-carried, light-closing}
-use Rattle.executor_model.proofs.Tidying.{light-copy, light-copy_awaiter, light-drain, light-drop_next}
-use Rattle.executor_model.proofs.Tidying.{light-end_register, light-enter, light-look, light-notify, light-owed}
-use Rattle.executor_model.proofs.Tidying.{light-register, light-told, light-wake, light-wake_next, no-cancel, no-detach}
-use Rattle.executor_model.proofs.Tidying.{no-give_up, no-release, no-wake, tidy-take, tidy-using}
-use Rattle.executor_model.proofs.RunsTidying.{light-drop_run, light-poll_run, tidy-list, tidy-run, tidy-steal}
-use Rattle.executor_model.proofs.SleepersTidying.{tidy-sleeper, tidy-tick}
+use Rattle.executor_model.proofs.Table.Borrowing.{uses_of, Tidy, tidy-light}
+use Rattle.executor_model.proofs.Table.Tidying.{light-again, light-append, light-call, light-carried, light-closing}
+use Rattle.executor_model.proofs.Table.Tidying.{light-copy, light-copy_awaiter, light-drain, light-drop_next}
+use Rattle.executor_model.proofs.Table.Tidying.{light-end_register, light-enter, light-look, light-notify, light-owed}
+use Rattle.executor_model.proofs.Table.Tidying.{light-register, light-told, light-wake, light-wake_next, no-cancel, no-detach}
+use Rattle.executor_model.proofs.Table.Tidying.{no-give_up, no-release, no-wake, tidy-take, tidy-using}
+use Rattle.executor_model.proofs.Table.RunsTidying.{light-drop_run, light-poll_run, tidy-list, tidy-run, tidy-steal}
+use Rattle.executor_model.proofs.Table.SleepersTidying.{tidy-sleeper, tidy-tick}
 
 -- what it needs beside: a Runnable that is dropped is one of a future that has no entry any more
 abbrev pub NeedsNoEntry : World → Op → Type 0
@@ -107,23 +109,12 @@ tidy-with v None d k = tidy-light _ _ refl
 tidy-with v (Some f) d k = k f
 
 pub tidy-begun : (p : ℕ) (w : World) (here : Option Waker) (c : Call) → Tidy [] (begun p w here c).next
-tidy-begun p w here call.Spawn = tidy-light _ _ refl
-tidy-begun p w here call.TryTick = tidy-light _ _ refl
-tidy-begun p w here call.IsEmpty = tidy-light _ _ refl
 tidy-begun p w here (call.Wake k) = tidy-with w (kept w k) _ (λ f. tidy-light _ _ refl)
 tidy-begun p w here (call.WakeByRef k) = tidy-with w (kept w k) _ (λ f. tidy-light _ _ refl)
 tidy-begun p w here (call.Copy k) = tidy-with w (kept w k) _ (λ f. tidy-light _ _ refl)
 tidy-begun p w here (call.DropWaker k) = tidy-with w (kept w k) _ (λ f. tidy-light _ _ refl)
 tidy-begun p w here call.Keep = tidy-with w (future_of here) _ (λ f. tidy-light _ _ refl)
 tidy-begun p w here call.WakeSelf = tidy-with w (future_of here) _ (λ f. tidy-light _ _ refl)
-tidy-begun p w here (call.PollHandle f b) = tidy-light _ _ refl
-tidy-begun p w here (call.Cancel f) = tidy-light _ _ refl
-tidy-begun p w here (call.Detach f) = tidy-light _ _ refl
-tidy-begun p w here (call.DropHandle f) = tidy-light _ _ refl
-tidy-begun p w here call.NewTick = tidy-light _ _ refl
-tidy-begun p w here (call.PollTick t b) = tidy-light _ _ refl
-tidy-begun p w here (call.DropTick t) = tidy-light _ _ refl
-tidy-begun p w here call.NewRun = tidy-light _ _ refl
 tidy-begun p w here (call.PollRun r b) = tidy-light _ _ (light-poll_run (run_of w r).stage _)
 tidy-begun p w here (call.DropRun r) = tidy-light _ _ (light-drop_run (run_of w r).stage r)
-tidy-begun p w here call.DropExecutor = tidy-light _ _ refl
+tidy-begun p w here _ = tidy-light _ _ refl

@@ -6,13 +6,13 @@ use Rattle.executor_model.specs.declared.op.ListOp.TheVariants as list_op
 use Rattle.executor_model.specs.declared.op.Op.TheVariants as op
 use Rattle.executor_model.specs.declared.op.RunOp.TheVariants as run_op
 use Rattle.executor_model.specs.declared.op.Section.TheVariants as section
-use Rattle.executor_model.specs.declared.op.Sleeper.TheVariants as sleeper
+use Rattle.executor_model.specs.declared.op.TickOrRun.TheVariants as tick_or_run
 use Rattle.executor_model.specs.declared.op.TickOp.TheVariants as tick_op
 use Rattle.executor_model.specs.declared.op.UserOp.TheVariants as user_op
 use Rattle.executor_model.specs.Steps.{drop_run}
 use Rattle.executor_model.specs.World.{Stage}
-use Rattle.executor_runs.specs.Running.{Running}
-use Rattle.executor_runs.specs.Runs.{as_stage}
+use Rattle.executor_core.specs.Running.{Running}
+use Rattle.executor_core.specs.Runs.{as_stage}
 use Rattle.executor_core.specs.Views.{world_of}
 use Rattle.executor_core.proofs.Owing.{two-put-on}
 use Rattle.executor_core.proofs.Stealing.{with_runs}
@@ -52,7 +52,7 @@ returns-in-Ended c =
     let t = c.args.todo.now.items in
     record {
       world = ap (λ (v : Running). world_of (with_runs s v)) c.begin_drop.ensures;
-      next = two-put-on t _ _ (op.End reply.Done (hold.Run r)) (op.Tick (tick_op.Leave (sleeper.Run r)))
+      next = two-put-on t _ _ (op.End reply.Done (hold.Run r)) (op.Tick (tick_op.Leave (tick_or_run.Run r)))
           c.push_reserved-in-Ended.ensures.items
           c.push_reserved-in-Ended-2.ensures.items
           ∙ ap (λ (k : Stage). t ++ reverse (drop_run k r)) (sym (ap as_stage c.in-Ended.is) ∙ c.stage-stage.ensures);

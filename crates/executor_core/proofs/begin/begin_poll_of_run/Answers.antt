@@ -2,7 +2,7 @@ use Rattle.std.proofs.Common.{◌++◌, ap, sym, ◌∙◌}
 use Rattle.std.specs.Prelude.{reverse}
 use Rattle.executor_model.specs.Steps.{poll_run}
 use Rattle.executor_model.specs.World.{Stage}
-use Rattle.executor_runs.specs.Runs.{as_stage}
+use Rattle.executor_core.specs.Runs.{as_stage}
 use Rattle.executor_core.proofs.begin.begin_poll_of_run.Goals as goal
 
 pub returns-in-New : goal.returns-in-New

@@ -3,7 +3,7 @@ use Rattle.std.specs.Prelude.{reverse}
 use Rattle.task_moves.specs.declared.moves.owed.Move.TheVariants as move
 use Rattle.executor_model.specs.declared.op.Op.{Op}
 use Rattle.executor_model.specs.declared.op.Op.TheVariants as op
-use Rattle.executor_core.specs.Rising.{onward}
+use Rattle.executor_core.specs.WakingUp.{onward}
 use Rattle.executor_core.proofs.Finding.{onward-next, taken-world}
 use Rattle.executor_core.proofs.Owing.{reverse_before}
 use Rattle.executor_core.proofs.found.push_run.Goals as goal

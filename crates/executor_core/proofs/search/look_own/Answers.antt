@@ -4,7 +4,7 @@ use Rattle.executor_model.specs.declared.op.Op.{Op}
 use Rattle.executor_model.specs.declared.op.Op.TheVariants as op
 use Rattle.executor_model.specs.ActsOfRuns.{behind, found, look_own_by}
 use Rattle.executor_model.specs.World.{Done}
-use Rattle.executor_runs.specs.Running.{Running}
+use Rattle.executor_core.specs.Running.{Running}
 use Rattle.executor_core.specs.Views.{world_of, Does}
 use Rattle.executor_core.proofs.Owing.{reverse_before}
 use Rattle.executor_core.proofs.Stealing.{with_runs}

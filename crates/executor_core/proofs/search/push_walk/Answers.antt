@@ -5,7 +5,7 @@ use Rattle.executor_model.specs.declared.op.Op.{Op}
 use Rattle.executor_model.specs.declared.op.Op.TheVariants as op
 use Rattle.executor_model.specs.declared.op.Sleeping.{Sleeping}
 use Rattle.executor_model.specs.declared.op.TickOp.TheVariants as tick_op
-use Rattle.executor_runs.specs.Walks.{goes_to}
+use Rattle.executor_core.specs.Walks.{goes_to}
 use Rattle.executor_core.proofs.Owing.{two-put-on}
 use Rattle.executor_core.proofs.search.push_walk.Goals as goal
 

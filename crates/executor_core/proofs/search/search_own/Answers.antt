@@ -1,7 +1,7 @@
 use Rattle.std.proofs.Common.{ℕ, List, ap, sym, ◌∙◌, subst}
 use Rattle.executor_model.specs.ActsOfRuns.{found, search_own_by}
 use Rattle.executor_model.specs.World.{Done}
-use Rattle.executor_runs.specs.Running.{Running}
+use Rattle.executor_core.specs.Running.{Running}
 use Rattle.executor_core.specs.Views.{world_of, Does}
 use Rattle.executor_core.proofs.Stealing.{with_runs}
 use Rattle.executor_core.proofs.search.search_own.Goals as goal

@@ -1,5 +1,5 @@
-use Rattle.runs_reach.proofs.Begun.{ticks-are-exact, emptiness-is-exact}
-use Rattle.runs_reach.proofs.laws.calls_at_rest_are_exact.Goals as goal
+use Rattle.executor_laws.proofs.Exactness.Begun.{ticks-are-exact, emptiness-is-exact}
+use Rattle.executor_laws.proofs.laws.calls_at_rest_are_exact.Goals as goal
 
 pub returns-clause-ticks : goal.returns-clause-ticks
 returns-clause-ticks c limit parties steps p = ticks-are-exact limit parties steps p

@@ -1,6 +1,6 @@
-use Rattle.runs_laws.proofs.Ends.{every-step-lowers, every-list-ends}
-use Rattle.runs_laws.proofs.GoingOn.{every-holder-goes-on, goes-on}
-use Rattle.runs_laws.proofs.laws.calls_end.Goals as goal
+use Rattle.executor_laws.proofs.Termination.Ends.{every-step-lowers, every-list-ends}
+use Rattle.executor_laws.proofs.Termination.GoingOn.{every-holder-goes-on, goes-on}
+use Rattle.executor_laws.proofs.laws.calls_end.Goals as goal
 
 pub returns-clause-lowered : goal.returns-clause-lowered
 returns-clause-lowered g = every-step-lowers

@@ -1,5 +1,5 @@
-use Rattle.runs_reach.proofs.LoneAnswers.{lone-ticks, lone-emptinesses}
-use Rattle.runs_reach.proofs.laws.lone_calls_are_exact.Goals as goal
+use Rattle.executor_laws.proofs.Exactness.LoneAnswers.{lone-ticks, lone-emptinesses}
+use Rattle.executor_laws.proofs.laws.lone_calls_are_exact.Goals as goal
 
 pub returns-clause-ticks : goal.returns-clause-ticks
 returns-clause-ticks c = lone-ticks

@@ -1,5 +1,5 @@
 use Rattle.executor_model.specs.Entries.{FindsPlace}
-use Rattle.executor_model.proofs.Entering.{places, finds-place}
+use Rattle.executor_model.proofs.Table.Entering.{places, finds-place}
 use Rattle.executor_model.proofs.laws.no_append_is_refused_full.Goals as goal
 
 pub returns : goal.returns

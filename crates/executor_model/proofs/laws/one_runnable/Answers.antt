@@ -1,4 +1,4 @@
-use Rattle.executor_model.proofs.Lift.{good}
+use Rattle.executor_model.proofs.Steps.Lift.{good}
 use Rattle.executor_model.proofs.laws.one_runnable.Goals as goal
 
 pub returns : goal.returns

@@ -1,4 +1,4 @@
-use Rattle.executor_model.proofs.OutputKept.{outputs-kept}
+use Rattle.executor_model.proofs.Outputs.OutputKept.{outputs-kept}
 use Rattle.executor_model.proofs.laws.outputs_are_kept.Goals as goal
 
 pub returns : goal.returns

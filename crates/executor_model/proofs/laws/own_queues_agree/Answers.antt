@@ -1,9 +1,20 @@
-use Rattle.executor_model.proofs.OwnListed.{lists-agree}
-use Rattle.executor_model.proofs.OwnLocks.{lock-agrees}
-use Rattle.executor_model.proofs.OwnRunners.{own-queue-has-runner}
-use Rattle.executor_model.proofs.OwnRuns.{has-own-room, is-empty-meanwhile}
-use Rattle.executor_model.proofs.UsingSteps.{is-used-once}
+use Rattle.std.proofs.Common.{ℕ, ◌≤◌, length, Bool, true, false, cond, arith}
+use Rattle.std.specs.Prelude.{nat_lt}
+use Rattle.executor_model.specs.OwnQueues.{HasOwnRoom, IsWithinBound}
+use Rattle.executor_model.specs.Steps.{Machine, run, start}
+use Rattle.executor_model.proofs.OwnQueues.OwnListed.{lists-agree}
+use Rattle.executor_model.proofs.OwnQueues.OwnLocks.{lock-agrees}
+use Rattle.executor_model.proofs.OwnQueues.OwnRunners.{own-queue-has-runner}
+use Rattle.executor_model.proofs.OwnQueues.OwnExecutions.{has-own-room, is-empty-meanwhile}
+use Rattle.executor_model.proofs.OwnQueues.UsingSteps.{is-used-once}
 use Rattle.executor_model.proofs.laws.own_queues_agree.Goals as goal
+
+few-places : (b : Bool) → (let n : ℕ = cond b 512 0 in n) ≤ 512
+few-places true = omega arith
+few-places false = omega arith
+
+within-bound : (s : Machine) (r : ℕ) → HasOwnRoom s r → IsWithinBound s r
+within-bound s r h = omega (arith, h, few-places (nat_lt r (length s.world.own)))
 
 pub returns-clause-used : goal.returns-clause-used
 returns-clause-used g limit parties steps r = is-used-once limit parties steps r
@@ -22,3 +33,7 @@ returns-clause-empty g limit parties steps r = is-empty-meanwhile limit parties 
 
 pub returns-clause-kept : goal.returns-clause-kept
 returns-clause-kept g limit parties steps r = own-queue-has-runner limit parties steps r
+
+pub returns-clause-bounded : goal.returns-clause-bounded
+returns-clause-bounded g limit parties steps r =
+    within-bound (run steps (start limit parties)) r (has-own-room limit parties steps r)

@@ -1,4 +1,4 @@
-use Rattle.executor_model.proofs.Quieting.{quiet-empties}
+use Rattle.executor_model.proofs.Emptiness.Quieting.{quiet-empties}
 use Rattle.executor_model.proofs.laws.quiet_emptiness_is_exact.Goals as goal
 
 pub returns : goal.returns

@@ -1,4 +1,4 @@
-use Rattle.executor_model.proofs.Lift.{good}
+use Rattle.executor_model.proofs.Steps.Lift.{good}
 use Rattle.executor_model.proofs.laws.references_are_counted.Goals as goal
 
 pub returns : goal.returns

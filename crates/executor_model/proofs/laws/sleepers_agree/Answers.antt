@@ -1,4 +1,4 @@
-use Rattle.executor_model.proofs.SleepersFollowingRuns.{agree}
+use Rattle.executor_model.proofs.Sleepers.SleepersFollowingExecutions.{agree}
 use Rattle.executor_model.proofs.laws.sleepers_agree.Goals as goal
 
 pub returns : goal.returns

@@ -1,4 +1,4 @@
-use Rattle.executor_model.proofs.SleepersTellingRuns.{are_told}
+use Rattle.executor_model.proofs.Sleepers.SleepersTellingExecutions.{are_told}
 use Rattle.executor_model.proofs.laws.sleepers_are_told.Goals as goal
 
 pub returns : goal.returns

@@ -1,6 +1,6 @@
 use Rattle.executor_model.specs.Steps.{run, start}
-use Rattle.executor_model.proofs.HandingOn.{hands-on, on-its-way}
-use Rattle.executor_model.proofs.Lift.{good}
+use Rattle.executor_model.proofs.Polls.HandingOn.{hands-on, on-its-way}
+use Rattle.executor_model.proofs.Steps.Lift.{good}
 use Rattle.executor_model.proofs.laws.wakes_are_handed_on.Goals as goal
 
 pub returns-clause-handed : goal.returns-clause-handed

@@ -1,4 +1,4 @@
-use Rattle.executor_model.proofs.AwaitedRest.{awaiter-is-kept}
+use Rattle.executor_model.proofs.Awaiters.AwaitedRest.{awaiter-is-kept}
 use Rattle.executor_model.proofs.trace_laws.awaiters_are_kept.Goals as goal
 
 pub returns : goal.returns

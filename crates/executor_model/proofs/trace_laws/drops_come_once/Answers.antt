@@ -1,5 +1,5 @@
 use Rattle.executor_model.specs.DroppedOnce.{DropComesOnce}
-use Rattle.executor_model.proofs.Entering.{places, drop-comes-once}
+use Rattle.executor_model.proofs.Table.Entering.{places, drop-comes-once}
 use Rattle.executor_model.proofs.trace_laws.drops_come_once.Goals as goal
 
 pub returns : goal.returns

@@ -1,6 +1,6 @@
 use Rattle.executor_model.specs.Steps.{run, start}
-use Rattle.executor_model.proofs.AskingRuns.{heard}
-use Rattle.executor_model.proofs.Waking.{woken-between}
+use Rattle.executor_model.proofs.Polls.AskingExecutions.{heard}
+use Rattle.executor_model.proofs.Polls.Waking.{woken-between}
 use Rattle.executor_model.proofs.trace_laws.polls_are_asked_for.Goals as goal
 
 pub returns : goal.returns

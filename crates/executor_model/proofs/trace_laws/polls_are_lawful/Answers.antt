@@ -1,6 +1,6 @@
 use Rattle.executor_model.specs.Steps.{run, start}
-use Rattle.executor_model.proofs.Lift.{good}
-use Rattle.executor_model.proofs.Lawful.{lawful}
+use Rattle.executor_model.proofs.Steps.Lift.{good}
+use Rattle.executor_model.proofs.Polls.Lawful.{lawful}
 use Rattle.executor_model.proofs.trace_laws.polls_are_lawful.Goals as goal
 
 pub returns : goal.returns

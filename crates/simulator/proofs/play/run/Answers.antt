@@ -2,10 +2,10 @@ use Rattle.std.proofs.Common.{rules, ◌≡◌, ℕ, ◌+◌, ◌<◌, List, ◌
 use Rattle.std.proofs.Common.{sym, ap, ◌∙◌, ◌≤◌, add-one, refl, arith}
 use Rattle.std.proofs.Math.Seq.{drop-cons}
 use Rattle.std.proofs.lemmas.List.{drop_all}
+use Rattle.executor_core.specs.AllLaws.{AllLaws}
 use Rattle.script.specs.declared.command.Command.{Command}
 use Rattle.simulator.specs.Play.{Player, start}
 use Rattle.simulator.specs.Commands.{PlaysUnless, PlaysAll}
-use Rattle.simulator.specs.Lawful.{IsLawful}
 use Rattle.simulator.proofs.Keeping.{IsFair, fair}
 use Rattle.simulator.proofs.play.run.Goals as goal
 
@@ -48,7 +48,7 @@ returns c =
         plays = plays;
         made = comes.0;
         shown = comes.1;
-        lawful = subst (λ (x : Player). IsLawful x.machine) c.player-2.view_is c.keeps_to_laws.ensures;
+        laws = subst (λ (x : Player). AllLaws x.machine) c.player-2.view_is c.keeps_to_laws.ensures;
       },
       search rules,
       search rules,

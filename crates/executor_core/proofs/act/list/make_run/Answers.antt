@@ -8,7 +8,7 @@ use Rattle.executor_core.specs.Views.{world_of, Does}
 use Rattle.executor_core.proofs.Listing.{one-more}
 use Rattle.executor_core.proofs.Owing.{two-put-on}
 use Rattle.executor_core.proofs.Stealing.{with_runs}
-use Rattle.executor_core.proofs.list.make_run.Goals as goal
+use Rattle.executor_core.proofs.act.list.make_run.Goals as goal
 
 pub returns : goal.returns
 returns c =

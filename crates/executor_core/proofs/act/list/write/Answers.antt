@@ -9,7 +9,7 @@ use Rattle.executor_core.specs.Views.{world_of, Does}
 use Rattle.executor_core.proofs.Listing.{come, gone}
 use Rattle.executor_core.proofs.Owing.{two-put-on}
 use Rattle.executor_core.proofs.Stealing.{with_runs}
-use Rattle.executor_core.proofs.list.write.Goals as goal
+use Rattle.executor_core.proofs.act.list.write.Goals as goal
 
 pub returns-in-Register : goal.returns-in-Register
 returns-in-Register c =

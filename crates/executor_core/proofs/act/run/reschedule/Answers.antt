@@ -3,11 +3,11 @@ use Rattle.executor_model.specs.declared.op.Op.TheVariants as op
 use Rattle.executor_model.specs.declared.op.QueueOp.TheVariants as queue_op
 use Rattle.executor_model.specs.declared.op.RunOp.TheVariants as run_op
 use Rattle.executor_model.specs.ActsOfRuns.{reschedule_by}
-use Rattle.executor_runs.specs.Running.{Running}
+use Rattle.executor_core.specs.Running.{Running}
 use Rattle.executor_core.specs.Views.{world_of, Does}
 use Rattle.executor_core.proofs.Owing.{two-put-on}
 use Rattle.executor_core.proofs.Stealing.{with_runs}
-use Rattle.executor_core.proofs.run.reschedule.Goals as goal
+use Rattle.executor_core.proofs.act.run.reschedule.Goals as goal
 
 pub returns-in-Some : goal.returns-in-Some
 returns-in-Some c =

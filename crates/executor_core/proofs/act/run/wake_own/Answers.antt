@@ -11,7 +11,7 @@ use Rattle.executor_model.specs.Trace.{Trace}
 use Rattle.executor_model.specs.World.{World, log}
 use Rattle.executor_core.specs.Views.{world_of}
 use Rattle.executor_core.proofs.Owing.{reverse_before}
-use Rattle.executor_core.proofs.run.wake_own.Goals as goal
+use Rattle.executor_core.proofs.act.run.wake_own.Goals as goal
 
 pub returns : goal.returns
 returns c =

@@ -3,7 +3,7 @@ use Rattle.executor_model.specs.ActsOfRuns.{steal_by}
 use Rattle.executor_model.specs.World.{Done}
 use Rattle.executor_core.specs.Views.{world_of, Does}
 use Rattle.executor_core.proofs.Stealing.{left-some}
-use Rattle.executor_core.proofs.steal.go_on.Goals as goal
+use Rattle.executor_core.proofs.act.steal.go_on.Goals as goal
 
 pub returns-then-left-eq0 : goal.returns-then-left-eq0
 returns-then-left-eq0 c =

@@ -1,7 +1,7 @@
 use Rattle.std.proofs.Common.{ℕ, ap, ◌∙◌, subst}
 use Rattle.executor_model.specs.ActsOfRuns.{share, steal_by}
 use Rattle.executor_core.specs.Views.{world_of, Does}
-use Rattle.executor_core.proofs.steal.own_length.Goals as goal
+use Rattle.executor_core.proofs.act.steal.own_length.Goals as goal
 
 pub returns : goal.returns
 returns c =

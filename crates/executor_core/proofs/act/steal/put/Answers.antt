@@ -4,12 +4,12 @@ use Rattle.executor_model.specs.declared.op.Op.TheVariants as op
 use Rattle.executor_model.specs.declared.op.QueueOp.TheVariants as queue_op
 use Rattle.executor_model.specs.ActsOfRuns.{behind, steal_by, steal_put_by, stolen}
 use Rattle.executor_model.specs.World.{World, Done}
-use Rattle.executor_runs.specs.Running.{Running}
+use Rattle.executor_core.specs.Running.{Running}
 use Rattle.executor_core.specs.Views.{world_of, Does}
 use Rattle.executor_core.proofs.Listing.{kept}
 use Rattle.executor_core.proofs.Owing.{reverse_before}
 use Rattle.executor_core.proofs.Stealing.{with_runs}
-use Rattle.executor_core.proofs.steal.put.Goals as goal
+use Rattle.executor_core.proofs.act.steal.put.Goals as goal
 
 pub returns-then-kept : goal.returns-then-kept
 returns-then-kept c =

@@ -3,7 +3,7 @@ use Rattle.executor_model.specs.ActsOfRuns.{steal_length_by}
 use Rattle.executor_model.specs.World.{Done}
 use Rattle.executor_core.specs.Views.{world_of, Does}
 use Rattle.executor_core.proofs.Stealing.{length-some}
-use Rattle.executor_core.proofs.steal.read_length.Goals as goal
+use Rattle.executor_core.proofs.act.steal.read_length.Goals as goal
 
 pub returns-then-n-eq0 : goal.returns-then-n-eq0
 returns-then-n-eq0 c =

@@ -2,7 +2,7 @@ use Rattle.std.proofs.Common.{ℕ, List, ap, sym, ◌∙◌, subst, arith}
 use Rattle.executor_model.specs.ActsOfRuns.{steal_take_by, stolen}
 use Rattle.executor_model.specs.World.{World, Done}
 use Rattle.executor_core.specs.Views.{world_of, Does}
-use Rattle.executor_core.proofs.steal.take.Goals as goal
+use Rattle.executor_core.proofs.act.steal.take.Goals as goal
 
 pub returns-in-Some : goal.returns-in-Some
 returns-in-Some c =

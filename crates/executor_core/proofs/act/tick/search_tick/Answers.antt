@@ -8,11 +8,11 @@ use Rattle.executor_model.specs.declared.op.Op.TheVariants as op
 use Rattle.executor_model.specs.declared.op.SleeperOp.TheVariants as sleeper_op
 use Rattle.executor_model.specs.ActsOfSleepers.{held_as}
 use Rattle.executor_model.specs.World.{World, Done}
-use Rattle.executor_core.specs.Rising.{rises}
+use Rattle.executor_core.specs.WakingUp.{wakes_up}
 use Rattle.executor_core.specs.Views.{world_of}
 use Rattle.executor_core.proofs.Finding.{found-tick, ready_ops}
 use Rattle.executor_core.proofs.Owing.{reverse_before}
-use Rattle.executor_core.proofs.tick.search_tick.Goals as goal
+use Rattle.executor_core.proofs.act.tick.search_tick.Goals as goal
 
 pushed : (t : List Op) (a b d : Op) → ((t ++ a ∷ []) ++ b ∷ []) ++ d ∷ [] ≡ t ++ (a ∷ b ∷ d ∷ [])
 pushed t a b d = simp append_assoc
@@ -24,17 +24,17 @@ returns c =
     let x = c.args.s in
     let f = c.in-Some.f in
     let t = c.args.todo.now.items in
-    let lies = c.lies-lies.result in
-    let e : _ = found-tick w x f c.pop_front.new.self.items lies (search rules) c.lies-lies.ensures in
+    let sleeps = c.sleeps-sleeps.result in
+    let e : _ = found-tick w x f c.pop_front.new.self.items sleeps (search rules) c.sleeps-sleeps.ensures in
     record {
       world = ap (λ (q : List ℕ). let v : World = record w { queue = record w.queue { items = q } } in v)
           c.pop_front.ensures.rest ∙ ap (λ (d : Done). d.world) (sym e);
-      next = c.push_rises.ensures.items ∙ (ap (λ (l : List Op). l ++ reverse (rises lies x.who))
+      next = c.push_wake_up.ensures.items ∙ (ap (λ (l : List Op). l ++ reverse (wakes_up sleeps x.who))
           (c.push_reserved-4.ensures.items ∙ (ap (λ (l : List Op). l ++ op.Sleeper sleeper_op.ExchangeFlag ∷ [])
           (c.push_reserved-3.ensures.items ∙ ap (λ (l : List Op). l ++ op.Move move.TakeUp f ∷ [])
           (c.push_reserved-2.ensures.items ∙ ap (λ (h : Hold). t ++ op.End reply.Ready h ∷ []) c.held_as.ensures))
           ∙ pushed t (op.End reply.Ready (held_as x.who)) (op.Move move.TakeUp f) (op.Sleeper sleeper_op.ExchangeFlag)))
-          ∙ (sym (reverse_before t (rises lies x.who) (ready_ops x f))
+          ∙ (sym (reverse_before t (wakes_up sleeps x.who) (ready_ops x f))
           ∙ ap (λ (d : Done). t ++ reverse d.next) (sym e)));
       room = omega (arith, c.requires.room.trace);
     }

@@ -1,5 +1,5 @@
 use Rattle.std.proofs.Common.{◌≡◌, take, Ok}
-use Rattle.executor_model.specs.Runs.{run_all}
+use Rattle.executor_model.specs.Executions.{run_all}
 use Rattle.executor_core.specs.Reached.{IsReached}
 use Rattle.executor_core.proofs.machine.Machine.run_on.Given as goal
 

@@ -1,9 +1,9 @@
 use Rattle.std.proofs.Common.{ℕ, ◌+◌, eqb, cond, ap, sym, ◌∙◌, set, map, refl, arith}
 use Rattle.executor_model.specs.World.{Run, no_run}
-use Rattle.executor_runs.specs.Counted.{Counted}
-use Rattle.executor_runs.specs.Runs.{as_run}
-use Rattle.executor_runs.proofs.Lists.{read, same, written}
-use Rattle.executor_runs.proofs.at.count.Goals as goal
+use Rattle.executor_core.specs.Counted.{Counted}
+use Rattle.executor_core.specs.Runs.{as_run}
+use Rattle.executor_core.proofs.Lists.{read, same, written}
+use Rattle.executor_core.proofs.runs.at.count.Goals as goal
 
 pub returns-clause-full : goal.returns-clause-full
 returns-clause-full c =

@@ -1,8 +1,8 @@
 use Rattle.std.proofs.Common.{ap, sym, ◌∙◌, set, map, refl, arith}
 use Rattle.executor_model.specs.World.{Run, no_run}
-use Rattle.executor_runs.specs.Runs.{as_run, as_stage}
-use Rattle.executor_runs.proofs.Lists.{read, same, written}
-use Rattle.executor_runs.proofs.at.set_stage.Goals as goal
+use Rattle.executor_core.specs.Runs.{as_run, as_stage}
+use Rattle.executor_core.proofs.Lists.{read, same, written}
+use Rattle.executor_core.proofs.runs.at.set_stage.Goals as goal
 
 pub returns-clause-runs : goal.returns-clause-runs
 returns-clause-runs c =

@@ -1,8 +1,8 @@
 use Rattle.std.proofs.Common.{◌≡◌, ℕ, List, [], ◌∷◌, get_or, length, ap, sym, ◌∙◌, set, map, refl, arith}
-use Rattle.executor_runs.specs.declared.run.Run.{Run}
-use Rattle.executor_runs.specs.Runs.{as_run}
-use Rattle.executor_runs.proofs.Lists.{length-mapped, read, read-written, same, where-none, where-some, written}
-use Rattle.executor_runs.proofs.at.take.Goals as goal
+use Rattle.executor_core.specs.declared.runs.run.Run.{Run}
+use Rattle.executor_core.specs.Runs.{as_run}
+use Rattle.executor_core.proofs.Lists.{length-mapped, read, read-written, same, where-none, where-some, written}
+use Rattle.executor_core.proofs.runs.at.take.Goals as goal
 
 abbrev own_of : Run → List ℕ
 own_of x = x.own

@@ -1,8 +1,8 @@
 use Rattle.std.proofs.Common.{◌≡◌, ◌<◌, Some, length, ◌∙◌, arith}
 use Rattle.std.proofs.lemmas.Option.{none-some, same_Some}
-use Rattle.executor_table.specs.Entered.{place_in}
-use Rattle.executor_table.proofs.Seating.{none_among, not_among, seat_read, place_past}
-use Rattle.executor_table.proofs.entries.find.Goals as goal
+use Rattle.executor_core.specs.Entered.{place_in}
+use Rattle.executor_core.proofs.Seating.{none_among, not_among, seat_read, place_past}
+use Rattle.executor_core.proofs.table.entries.find.Goals as goal
 
 pub returns-then-f-len-clause-absent : goal.returns-then-f-len-clause-absent
 returns-then-f-len-clause-absent c =

@@ -1,7 +1,7 @@
 use Rattle.std.proofs.Common.{Some, sym, ◌∙◌}
-use Rattle.executor_table.proofs.Seating.{key_found, set_found, seated_with, futures_with}
-use Rattle.executor_table.proofs.Seating.{is_among, none_present, present_back, others_present}
-use Rattle.executor_table.proofs.entries.put_into.Goals as goal
+use Rattle.executor_core.proofs.Seating.{key_found, set_found, seated_with, futures_with}
+use Rattle.executor_core.proofs.Seating.{is_among, none_present, present_back, others_present}
+use Rattle.executor_core.proofs.table.entries.put_into.Goals as goal
 
 pub returns-in-None-clause-back : goal.returns-in-None-clause-back
 returns-in-None-clause-back c = none_present c.args.f _ c.in-None.ensures.absent ∙ sym c.in-None.ensures.absent

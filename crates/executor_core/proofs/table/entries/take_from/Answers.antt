@@ -1,5 +1,5 @@
-use Rattle.executor_table.proofs.Seating.{key_found, set_found, seated_with, futures_with, present_out, without_absent}
-use Rattle.executor_table.proofs.entries.take_from.Goals as goal
+use Rattle.executor_core.proofs.Seating.{key_found, set_found, seated_with, futures_with, present_out, without_absent}
+use Rattle.executor_core.proofs.table.entries.take_from.Goals as goal
 
 pub returns-in-None-clause-out : goal.returns-in-None-clause-out
 returns-in-None-clause-out c = without_absent c.args.f _ c.in-None.ensures.absent

@@ -2,9 +2,9 @@ use Rattle.std.proofs.Common.{◌-◌, ℕ, List, ap, sym, ◌∙◌}
 use Rattle.std.specs.Prelude.{Some}
 use Rattle.executor_model.specs.declared.op.Op.{Op}
 use Rattle.executor_model.specs.ActsOfRuns.{walk}
-use Rattle.executor_runs.specs.Walks.{goes_to}
-use Rattle.executor_runs.proofs.Walking.{passes, stops}
-use Rattle.executor_runs.proofs.list.QueueList.next.Goals as goal
+use Rattle.executor_core.specs.Walks.{goes_to}
+use Rattle.executor_core.proofs.Walking.{passes, stops}
+use Rattle.executor_core.proofs.runs.list.QueueList.next.Goals as goal
 
 pub returns-then-run-r : goal.returns-then-run-r
 returns-then-run-r c = λ x e.

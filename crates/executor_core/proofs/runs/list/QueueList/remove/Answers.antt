@@ -1,7 +1,7 @@
 use Rattle.std.proofs.Common.{ℕ, List, eqb, ap, sym, ◌∙◌}
 use Rattle.std.specs.Prelude.{position}
-use Rattle.executor_runs.proofs.Taking.{absent-stays, found-removed}
-use Rattle.executor_runs.proofs.list.QueueList.remove.Goals as goal
+use Rattle.executor_core.proofs.Taking.{absent-stays, found-removed}
+use Rattle.executor_core.proofs.runs.list.QueueList.remove.Goals as goal
 
 pub returns-in-Some : goal.returns-in-Some
 returns-in-Some c =

@@ -1,6 +1,6 @@
 use Rattle.std.proofs.Common.{◌∙◌}
-use Rattle.executor_table.proofs.Seating.{is_found}
-use Rattle.executor_table.proofs.entries.Entries.contains.Goals as goal
+use Rattle.executor_core.proofs.Seating.{is_found}
+use Rattle.executor_core.proofs.table.entries.Entries.contains.Goals as goal
 
 pub returns : goal.returns
 returns c = rw (← c.self.view_is)

@@ -1,7 +1,7 @@
 use Rattle.std.proofs.Common.{◌≡◌, true, length, sym, ◌∙◌, arith}
-use Rattle.executor_table.specs.declared.entries.Seat.{Seat}
-use Rattle.executor_table.proofs.Seating.{seated_push, seated_more, place_new, length-insides, present_push}
-use Rattle.executor_table.proofs.entries.Entries.enter.Goals as goal
+use Rattle.executor_core.specs.declared.table.entries.Seat.{Seat}
+use Rattle.executor_core.proofs.Seating.{seated_push, seated_more, place_new, length-insides, present_push}
+use Rattle.executor_core.proofs.table.entries.Entries.enter.Goals as goal
 
 pub invariant_of-self : goal.invariant_of-self
 invariant_of-self c =

@@ -1,7 +1,7 @@
 use Rattle.std.proofs.Common.{sym}
-use Rattle.executor_table.proofs.Seating.{key_found, left_found, seated_without}
-use Rattle.executor_table.proofs.Seating.{is_among, futures_without, without_absent, present_without}
-use Rattle.executor_table.proofs.entries.Entries.leave.Goals as goal
+use Rattle.executor_core.proofs.Seating.{key_found, left_found, seated_without}
+use Rattle.executor_core.proofs.Seating.{is_among, futures_without, without_absent, present_without}
+use Rattle.executor_core.proofs.table.entries.Entries.leave.Goals as goal
 
 pub invariant_of-self : goal.invariant_of-self
 invariant_of-self c = (

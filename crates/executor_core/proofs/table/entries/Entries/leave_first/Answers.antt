@@ -1,8 +1,8 @@
 use Rattle.std.proofs.Common.{◌≡◌, false, Some, subst}
-use Rattle.executor_table.specs.declared.entries.Seat.{Seat}
-use Rattle.executor_table.specs.Entered.{place_in, AreSeated}
-use Rattle.executor_table.proofs.Seating.{seated_written, seat_read, is_known, insides_set}
-use Rattle.executor_table.proofs.entries.Entries.leave_first.Goals as goal
+use Rattle.executor_core.specs.declared.table.entries.Seat.{Seat}
+use Rattle.executor_core.specs.Entered.{place_in, AreSeated}
+use Rattle.executor_core.proofs.Seating.{seated_written, seat_read, is_known, insides_set}
+use Rattle.executor_core.proofs.table.entries.Entries.leave_first.Goals as goal
 
 pub invariant_of-self-2 : goal.invariant_of-self-2
 invariant_of-self-2 c =

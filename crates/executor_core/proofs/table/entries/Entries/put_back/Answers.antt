@@ -1,8 +1,8 @@
 use Rattle.std.proofs.Common.{◌≡◌, ◌<◌, true, Some, length, arith}
-use Rattle.executor_table.specs.declared.entries.Seat.{Seat}
-use Rattle.executor_table.specs.Entered.{place_in}
-use Rattle.executor_table.proofs.Seating.{seated_written, seat_read, insides_set, length-insides}
-use Rattle.executor_table.proofs.entries.Entries.put_back.Goals as goal
+use Rattle.executor_core.specs.declared.table.entries.Seat.{Seat}
+use Rattle.executor_core.specs.Entered.{place_in}
+use Rattle.executor_core.proofs.Seating.{seated_written, seat_read, insides_set, length-insides}
+use Rattle.executor_core.proofs.table.entries.Entries.put_back.Goals as goal
 
 pub invariant_of-self : goal.invariant_of-self
 invariant_of-self c =

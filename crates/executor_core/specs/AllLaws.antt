@@ -1,0 +1,153 @@
+-- All that holds of each machine to which steps of a new one lead, whatever its parties do: a line a law. Of a future f,
+-- of a run r, of a party p.
+use Rattle.std.specs.Prelude.{◌≡◌, ℕ, List}
+use Rattle.executor_model.specs.declared.step.Hint.{Hint}
+use Rattle.executor_model.specs.declared.step.Step.{Step}
+use Rattle.executor_model.specs.AskedPolls.{IsWokenBetweenPolls}
+use Rattle.executor_model.specs.AwaiterKept.{AwaiterIsKept}
+use Rattle.executor_model.specs.CallsMean.{CallsDoWhatTheySay}
+use Rattle.executor_model.specs.DroppedOnce.{DropComesOnce, IsDroppedByTheEnd}
+use Rattle.executor_model.specs.EarlyDrop.{EarlyDropHasCause}
+use Rattle.executor_model.specs.Emptiness.{IsEmptinessExact, IsQuietEmptinessExact}
+use Rattle.executor_model.specs.Entries.{FindsPlace, OwnAgrees, QueueAgrees, TableAgrees}
+use Rattle.executor_model.specs.HandingOn.{HandsOn, IsOnItsWay}
+use Rattle.executor_model.specs.LawfulPolls.{HasLawfulPolls}
+use Rattle.executor_model.specs.Limit.{IsLimitExact}
+use Rattle.executor_model.specs.Memory.{NeedsNoMemory}
+use Rattle.executor_model.specs.OutputKept.{OutputIsKept}
+use Rattle.executor_model.specs.OutputOnce.{OutputGoesOnce}
+use Rattle.executor_model.specs.OwnQueues.{HasOwnRoom, IsEmptyMeanwhile, IsUsedOnce}
+use Rattle.executor_model.specs.OwnQueues.{IsWithinBound, ListAgrees, LockAgrees, OwnQueueHasRunner}
+use Rattle.executor_model.specs.Refusals.{IsWantToldOf, RefusedChangesNothing}
+use Rattle.executor_model.specs.Executions.{HasOneRunnable, IsCounted}
+use Rattle.executor_model.specs.SleepersAgree.{SleepersAgree}
+use Rattle.executor_model.specs.SleepersTold.{SleepersAreTold}
+use Rattle.executor_model.specs.Steps.{Machine, run, start, step, stepped}
+use Rattle.executor_laws.specs.Called.{KeeperIsCalled, SomeStandingIsCalled}
+use Rattle.executor_laws.specs.AtOnce.{NoComesAtOnce}
+use Rattle.executor_laws.specs.Continued.{IsContinued}
+use Rattle.executor_laws.specs.GoingOn.{GoesOn, HolderGoesOn}
+use Rattle.executor_laws.specs.LoneEnds.{LoneCallsEnd}
+use Rattle.executor_laws.specs.Queueings.{CountsQueueings}
+use Rattle.executor_laws.specs.Remaining.{EachListEnds, EachStepLowers}
+use Rattle.executor_laws.specs.AtRest.{EmptinessIsExact, TicksAreExact}
+use Rattle.executor_laws.specs.LoneAnswers.{IsLoneEmptinessExact, IsLoneTickExact}
+use Rattle.executor_laws.specs.Places.{StandsWithKeeper}
+use Rattle.executor_laws.specs.Reach.{IsInReach, IsReachedInOrder}
+use Rattle.executor_laws.specs.RunReach.{IsKeptReached, IsReachedByRuns, LeavesCommon}
+use Rattle.executor_laws.specs.Ticks.{IsTickExact}
+
+pub record AllLaws (s : Machine) : Type 0 where
+  -- of a task
+
+  -- its count is its living wakers, and one for a Runnable, an unfinished run or a closing call
+  pub counted : (f : ℕ) → IsCounted s f
+  -- it has at most one Runnable, unfinished run or closing call
+  pub one_runnable : (f : ℕ) → HasOneRunnable s f
+  -- polls and answers take turns, a poll first, and no poll begins after the output or the drop
+  pub polls : (f : ℕ) → HasLawfulPolls f s.world.trace
+  -- a wake stands between two polls
+  pub asked : (f : ℕ) → IsWokenBetweenPolls f s.world.trace
+  -- an output is given to one poll of the handle or dropped, once at most
+  pub outputs : (f : ℕ) → OutputGoesOnce f s.world.trace
+  -- an output that is there is given to the next poll of the handle that is made alone
+  pub outputs_kept : (f : ℕ) → OutputIsKept s f
+  -- a future is dropped once at most
+  pub drops : (f : ℕ) → DropComesOnce f s.world.trace
+  -- and early only for a cause
+  pub causes : (f : ℕ) → EarlyDropHasCause f s.world.trace
+  -- and each accepted one once, where the drop of the executor has ended
+  pub by_the_end : (f : ℕ) → IsDroppedByTheEnd f s.world.trace
+  -- who waits on the handle of a dropped future was called
+  pub awaiters : (f : ℕ) → AwaiterIsKept f s.world.trace
+  -- a wake that marks a task hands on one Runnable, and no other wake hands on any
+  pub handed : (f p : ℕ) (h : Hint) → HandsOn s.world f p h
+  -- a marked task has one Runnable, run or closing call, and an idle one has none
+  pub on_their_way : (f : ℕ) → IsOnItsWay s f
+  -- of sleepers, ticks and runs
+
+  -- who sleeps, who sleeps, the flag and the room agree
+  pub sleepers : SleepersAgree s
+  -- where something is queued and somebody sleeps, one is told, or a party will tell or search
+  pub told : SleepersAreTold s
+  -- where a future is due and a tick or run stands, one that stands is called
+  pub standing : (f : ℕ) → SomeStandingIsCalled f s.world.trace
+  -- and so is a run that keeps a due future
+  pub keepers : (f : ℕ) → KeeperIsCalled f s.world.trace
+  -- a run is in one call at most
+  pub used_once : (r : ℕ) → IsUsedOnce s r
+  -- the list of queues has the own queue of each run that is registered, once, and no other
+  pub listed : (r : ℕ) → ListAgrees s r
+  -- who has the lock of that list has one thing still to do under it, or to give it back
+  pub locked : LockAgrees s
+  -- a run's own queue has a free place for each Runnable that a steal may still bring
+  pub own_room : (r : ℕ) → HasOwnRoom s r
+  -- a run that has found its own queue empty has it empty until it searches again or its poll ends
+  pub own_empty : (r : ℕ) → IsEmptyMeanwhile s r
+  -- what stands there belongs to a run in its poll or its drop, or to one whose last poll called its own waker
+  pub own_runner : (r : ℕ) → OwnQueueHasRunner s r
+  -- and is never more than 512
+  pub own_bound : (r : ℕ) → IsWithinBound s r
+  -- of the table, the queue, the limit and memory
+
+  -- the table has those that are undropped, or whose drop has still to take the entry out, once each
+  pub table : (f : ℕ) → TableAgrees s f
+  -- a Runnable in the queue is the only one there of an accepted future, undropped or dropped by the executor's drop
+  pub queue : (f : ℕ) → QueueAgrees s f
+  -- and so is one in a run's own queue
+  pub own : (f : ℕ) → OwnAgrees s f
+  -- who is about to append finds a place
+  pub places : (f : ℕ) → FindsPlace s f
+  -- a spawn is refused for the limit exactly where it is reached
+  pub limit : IsLimitExact s
+  -- who asks is answered that the executor is empty exactly where it is
+  pub emptiness : IsEmptinessExact s
+  pub quiet_emptiness : IsQuietEmptinessExact s
+  -- wakes, cancels, detaches and drops take no memory
+  pub no_memory : (p : ℕ) → NeedsNoMemory s.world p
+  -- a refused call changes nothing
+  pub refusals : (p : ℕ) → RefusedChangesNothing s.world p
+  -- want of memory is answered only where the hint says so, or where a task has too many references
+  pub want : (p : ℕ) → IsWantToldOf s.world p
+  -- of whole calls, and of what is reached
+
+  -- each call that has ended was answered in its kind, and did itself what its name says
+  pub calls : (p : ℕ) → CallsDoWhatTheySay p s.world.trace
+  -- each step that goes on lowers a number
+  pub lowered : EachStepLowers s
+  -- so a list of these is no longer than that
+  pub ended : EachListEnds s
+  -- who has something to do can go on, unless others have the lock
+  pub goes : GoesOn s
+  -- and whoever has the lock can
+  pub holder : HolderGoesOn s
+  -- a lone call ends
+  pub lone : LoneCallsEnd s
+  -- a tick that is tried finds something exactly where a future is common
+  pub ticks : IsTickExact s
+  -- each common future is in reach of lone ticks
+  pub in_reach : IsInReach s
+  -- in the order of the queue
+  pub in_order : IsReachedInOrder s
+  -- a due future stands with its keeper, and else in the executor's queue
+  pub places_of_due : StandsWithKeeper s
+  -- a lone poll of a run takes what the run keeps, and else what is common
+  pub by_runs : IsReachedByRuns s
+  -- and all that it keeps
+  pub kept_reached : IsKeptReached s
+  -- what a run kept is common once it was dropped alone
+  pub left : LeavesCommon s
+  -- a lone call is answered as it is
+  pub lone_ticks : IsLoneTickExact s
+  pub lone_emptiness : IsLoneEmptinessExact s
+  -- however steps of a new machine led here, no more Runnables were queued than those steps, and the queue is one that
+  -- counts them
+  pub queueings : (limit parties : ℕ) (steps : List Step) → s ≡ run steps (start limit parties) →
+      CountsQueueings limit parties steps
+  -- what has happened stays
+  pub continued : (t : Step) → IsContinued s.world.trace (stepped s (step s t)).world.trace
+  -- a call that begins at rest is answered at once, as it is
+  pub ticks_at_rest : (p : ℕ) → TicksAreExact p s.world.trace
+  pub emptiness_at_rest : (p : ℕ) → EmptinessIsExact p s.world.trace
+  -- and nobody is answered no but at once
+  pub at_once : (p : ℕ) → NoComesAtOnce p s.world.trace

@@ -1,0 +1,91 @@
+//! All laws of every machine, in one record.
+ghost use Rattle.executor_model.specs.AskedPolls.{IsWokenBetweenPolls};
+ghost use Rattle.executor_model.specs.AwaiterKept.{AwaiterIsKept};
+ghost use Rattle.executor_model.specs.DroppedOnce.{DropComesOnce, IsDroppedByTheEnd};
+ghost use Rattle.executor_model.specs.EarlyDrop.{EarlyDropHasCause};
+ghost use Rattle.executor_model.specs.EveryTrace.{EveryTrace};
+ghost use Rattle.executor_model.specs.LawfulPolls.{HasLawfulPolls};
+ghost use Rattle.executor_model.specs.OutputOnce.{OutputGoesOnce};
+ghost use Rattle.executor_model.specs.Executions.{EveryMachine};
+ghost use Rattle.executor_laws.specs.Called.{KeeperIsCalled, SomeStandingIsCalled};
+ghost use Rattle.executor_core.specs.AllLaws.{AllLaws};
+
+use executor_laws::laws::{
+    arrival_order_needs_fewer_ticks, calls_at_rest_are_exact, calls_end,
+    common_futures_are_in_reach, dropped_runs_leave_common_futures,
+    due_futures_stand_with_their_keepers, keepers_are_called, kept_futures_are_in_reach,
+    lone_calls_are_exact, lone_calls_end, no_comes_at_once, queueings_are_counted,
+    runs_reach_futures, some_standing_is_called, ticks_are_exact, traces_continue,
+};
+use executor_model::call_laws::calls_do_what_they_say;
+use executor_model::laws::{
+    emptiness_is_exact, no_append_is_refused_full, one_runnable, outputs_are_kept,
+    own_queues_agree, quiet_emptiness_is_exact, references_are_counted,
+    refused_calls_change_nothing, sleepers_agree, sleepers_are_told, table_and_queue_agree,
+    the_limit_is_exact, wakes_and_drops_take_no_memory, wakes_are_handed_on,
+    want_of_memory_is_told_of,
+};
+use executor_model::trace_laws::{
+    awaiters_are_kept, closing_drops_each_future_once, drops_come_once, early_drops_have_causes,
+    outputs_go_once, polls_are_asked_for, polls_are_lawful,
+};
+
+/// Whatever the parties do, all laws hold of the machine to which it leads. Does nothing, and takes no memory.
+pub fn all_laws()
+    ensures { EveryMachine AllLaws }
+{
+    laws_of_traces();
+    references_are_counted();
+    one_runnable();
+    outputs_are_kept();
+    wakes_are_handed_on();
+    sleepers_agree();
+    sleepers_are_told();
+    own_queues_agree();
+    table_and_queue_agree();
+    no_append_is_refused_full();
+    the_limit_is_exact();
+    emptiness_is_exact();
+    quiet_emptiness_is_exact();
+    wakes_and_drops_take_no_memory();
+    refused_calls_change_nothing();
+    want_of_memory_is_told_of();
+    calls_do_what_they_say();
+    calls_end();
+    lone_calls_end();
+    ticks_are_exact();
+    common_futures_are_in_reach();
+    arrival_order_needs_fewer_ticks();
+    due_futures_stand_with_their_keepers();
+    runs_reach_futures();
+    kept_futures_are_in_reach();
+    dropped_runs_leave_common_futures();
+    lone_calls_are_exact();
+    queueings_are_counted();
+    traces_continue();
+    calls_at_rest_are_exact();
+    no_comes_at_once();
+}
+
+/// Those of the trace alone, and of a future.
+fn laws_of_traces()
+    ensures polls { EveryTrace HasLawfulPolls }
+    ensures asked { EveryTrace IsWokenBetweenPolls }
+    ensures outputs { EveryTrace OutputGoesOnce }
+    ensures drops { EveryTrace DropComesOnce }
+    ensures causes { EveryTrace EarlyDropHasCause }
+    ensures by_the_end { EveryTrace IsDroppedByTheEnd }
+    ensures awaiters { EveryTrace AwaiterIsKept }
+    ensures standing { EveryTrace SomeStandingIsCalled }
+    ensures keepers { EveryTrace KeeperIsCalled }
+{
+    polls_are_lawful();
+    polls_are_asked_for();
+    outputs_go_once();
+    drops_come_once();
+    early_drops_have_causes();
+    closing_drops_each_future_once();
+    awaiters_are_kept();
+    some_standing_is_called();
+    keepers_are_called();
+}

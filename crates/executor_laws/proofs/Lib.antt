@@ -1,0 +1,9 @@
+pub mod Exactness
+pub mod Keepers
+pub mod Placement
+pub mod Promptness
+pub mod Queueings
+pub mod Reach
+pub mod RunReach
+pub mod Termination
+pub mod Wakeups

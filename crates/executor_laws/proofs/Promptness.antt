@@ -1,0 +1,3 @@
+-- Whoever is answered no is answered at once: no_comes_at_once.
+pub mod Prompting
+pub mod PromptExecutions

@@ -1,0 +1,142 @@
+//! Laws of every execution of the machine, of any number of parties and any list of steps.
+ghost use Rattle.std.specs.Prelude.{ℕ, List};
+ghost use Rattle.executor_model.specs.declared.step.Step.{Step};
+ghost use Rattle.executor_model.specs.EveryTrace.{EveryTrace};
+ghost use Rattle.executor_model.specs.Executions.{EveryMachine};
+ghost use Rattle.executor_model.specs.Steps.{Machine, step, stepped};
+ghost use Rattle.executor_laws.specs.AtOnce.{NoComesAtOnce};
+ghost use Rattle.executor_laws.specs.Continued.{IsContinued};
+ghost use Rattle.executor_laws.specs.GoingOn.{GoesOn, HolderGoesOn};
+ghost use Rattle.executor_laws.specs.LoneEnds.{LoneCallsEnd};
+ghost use Rattle.executor_laws.specs.Queueings.{CountsQueueings};
+ghost use Rattle.executor_laws.specs.Remaining.{EachListEnds, EachStepLowers};
+ghost use Rattle.executor_laws.specs.Called.{KeeperIsCalled, SomeStandingIsCalled};
+ghost use Rattle.executor_laws.specs.AtRest.{EmptinessIsExact, TicksAreExact};
+ghost use Rattle.executor_laws.specs.LoneAnswers.{IsLoneEmptinessExact, IsLoneTickExact};
+ghost use Rattle.executor_laws.specs.Places.{StandsWithKeeper};
+ghost use Rattle.executor_laws.specs.Reach.{IsInReach, IsReachedInOrder};
+ghost use Rattle.executor_laws.specs.RunReach.{IsKeptReached, IsReachedByRuns, LeavesCommon};
+ghost use Rattle.executor_laws.specs.Ticks.{IsTickExact};
+
+/// Calls end. In each machine to which steps of a new one lead, each step that begins no further call
+/// lowers a whole number that the machine's state determines, whoever takes it; so only that many such
+/// steps can be taken in a row. A party that has something to do can go on, unless it wants the lock of the list of
+/// queues while another party has it: then, and only then, its step is refused as one that waits. Whoever has the
+/// lock can go on.
+pub fn calls_end()
+    ensures lowered { EveryMachine EachStepLowers }
+    ensures ended { EveryMachine EachListEnds }
+    ensures goes { (s : Machine) → GoesOn s }
+    ensures held { EveryMachine HolderGoesOn }
+{}
+
+/// A lone call ends. Where no call is in progress, a party can make each call that isn't refused, to its
+/// end. Whatever user code answers in it, it takes no more steps than a number that the machine determines
+/// as it begins; and as long as it hasn't ended, its party can go on, since nobody has the lock of the list of queues
+/// where no call is in progress.
+pub fn lone_calls_end()
+    ensures { EveryMachine LoneCallsEnd }
+{}
+
+/// No more Runnables are queued in the executor's queue than steps taken. As long as fewer than 2^61 were queued, that
+/// queue is a closable queue that counts what it accepts, and may accept one more. No Runnable is kept
+/// out of it but by its close, and none is taken from it where it is empty, by a steal neither.
+pub fn queueings_are_counted()
+    ensures { (limit parties : ℕ) (steps : List Step) → CountsQueueings limit parties steps }
+{}
+
+/// Whatever a party does, what has happened stays, and more may come behind it.
+pub fn traces_continue()
+    ensures { (s : Machine) (t : Step) →
+        IsContinued s.world.trace (stepped s (step s t)).world.trace }
+{}
+
+/// Whoever is answered no is answered at once. Of what a party did, in whatever calls, an answer no stands
+/// right behind the beginning of the call that it answers; others may do anything meanwhile.
+pub fn no_comes_at_once()
+    ensures { EveryTrace NoComesAtOnce }
+{}
+
+/// No wake of a tick or run is lost. A tick or run stands where it lives and its last poll was answered that nothing is
+/// ready; it is called where the waker of that poll was called since the poll began. Where no call is in progress, a
+/// future is due and some tick or run stands, one that stands is called, unless the last poll of a tick or run that
+/// lives was refused for want of memory. The future may be one that a run keeps in its own queue.
+pub fn some_standing_is_called()
+    ensures { EveryTrace SomeStandingIsCalled }
+{}
+
+/// What a run keeps isn't forgotten. Where no call is in progress, a run that keeps a due future lives and stands, and
+/// is called, unless its own last poll was refused for want of memory.
+pub fn keepers_are_called()
+    ensures { EveryTrace KeeperIsCalled }
+{}
+
+/// Where no call is in progress and the drop of the executor hasn't begun, the Runnable of a due future stands in the
+/// executor's queue exactly where the future is common, and in a run's own queue exactly where that run is its keeper.
+pub fn due_futures_stand_with_their_keepers()
+    ensures { EveryMachine StandsWithKeeper }
+{}
+
+/// Where no call is in progress and the drop of the executor hasn't begun, a tick that is tried is answered
+/// that there is nothing to do exactly where no future is common; else it tells a sleeper, and takes up one
+/// that is.
+pub fn ticks_are_exact()
+    ensures { EveryMachine IsTickExact }
+{}
+
+/// Where a call begins while no other is in progress and the drop of the executor hasn't begun, and no
+/// other begins before something else happens, the next event says it all. A tick is answered at once
+/// that there is nothing to do exactly where no future is common. Who asks whether the executor is empty is
+/// answered at once, and yes exactly where each accepted future is dropped. So it is for each party.
+pub fn calls_at_rest_are_exact()
+    ensures ticks { EveryTrace TicksAreExact }
+    ensures emptiness { EveryTrace EmptinessIsExact }
+{}
+
+/// Where no call is in progress and the drop of the executor hasn't begun, a whole call that a party makes
+/// alone, whatever user code answers in it, is answered as it is. A tick is answered no exactly where no
+/// future is common, and else yes. Who asks whether the executor is empty is answered yes exactly where
+/// each accepted future is dropped, and else no.
+pub fn lone_calls_are_exact()
+    ensures ticks { EveryMachine IsLoneTickExact }
+    ensures emptiness { EveryMachine IsLoneEmptinessExact }
+{}
+
+/// In reach. Where no call is in progress, the drop of the executor hasn't begun and some future is common,
+/// each call that looks for a future and is made alone, whatever user code answers in it, finds one: a tick
+/// that is tried is answered that it found a future, and a poll of a tick that it is ready. It begins the
+/// poll or the drop of a future that was common. So a list of such calls, in any order, as long as the
+/// futures that are common at its start and those that become common in it, each time counted, begins the
+/// poll or the drop of each that is common at its start. Each party can try a tick, and can poll one that
+/// lives.
+pub fn common_futures_are_in_reach()
+    ensures { EveryMachine IsInReach }
+{
+    lone_calls_end();
+}
+
+/// The executor's queue is first in, first out: as many calls that look for a future and are made alone as
+/// futures are common at their start begin the poll or the drop of each of those, whatever becomes common meanwhile.
+pub fn arrival_order_needs_fewer_ticks()
+    ensures { EveryMachine IsReachedInOrder }
+{}
+
+/// In reach of runs. Where no call is in progress and the drop of the executor hasn't begun, each poll of a run that is
+/// made alone, and in which the run's own future isn't ready, whatever other user code answers in it, begins the poll
+/// or the drop of a future: of one that the run keeps, where it keeps one; else of one that is common, where one is.
+pub fn runs_reach_futures()
+    ensures { EveryMachine IsReachedByRuns }
+{}
+
+/// What a run keeps is in reach of it. A run's own queue is first in, first out: as many polls of the run, made alone
+/// and with its own future not ready in any, as it keeps futures at their start begin the poll or the drop of each of
+/// those, whatever other user code answers in them and whatever the run keeps meanwhile.
+pub fn kept_futures_are_in_reach()
+    ensures { EveryMachine IsKeptReached }
+{}
+
+/// Where no call is in progress, the drop of the executor hasn't begun, and a party drops a run alone, whatever user
+/// code answers in it, each future that the run kept is common behind that.
+pub fn dropped_runs_leave_common_futures()
+    ensures { EveryMachine LeavesCommon }
+{}

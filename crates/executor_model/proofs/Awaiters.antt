@@ -1,0 +1,23 @@
+-- Who waits on a handle is called: awaiters_are_kept.
+pub mod KnownWakers
+pub mod SleepersCases
+pub mod Awaited
+pub mod AwaitedMoves
+pub mod AwaitedActs
+pub mod SleepersAwaited
+pub mod RunsApart
+pub mod RunsAwaited
+pub mod AwaitedGroups
+pub mod AwaitedLists
+pub mod AwaitedTies
+pub mod SleepersWorlds
+pub mod RunsQueue
+pub mod AwaitedSweeps
+pub mod AwaitedClosing
+pub mod Holding
+pub mod AwaitedHeld
+pub mod AwaitedTelling
+pub mod AwaitedCalls
+pub mod AwaitedSteps
+pub mod AwaitedExecutions
+pub mod AwaitedRest

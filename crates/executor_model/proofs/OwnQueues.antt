@@ -1,0 +1,23 @@
+-- A run is in one call at most, and its own queue, the list of these and its lock agree: own_queues_agree.
+pub mod Using
+pub mod UsingWorlds
+pub mod UsingRuns
+pub mod UsingKeeps
+pub mod UsingActs
+pub mod UsingCalls
+pub mod UsingSteps
+pub mod RunsAside
+pub mod RunsMoving
+pub mod RunsDone
+pub mod OwnCounts
+pub mod OwnListed
+pub mod OwnLocks
+pub mod OwnRooms
+pub mod OwnEmpty
+pub mod OwnExecutions
+pub mod RunsWatched
+pub mod RunsSeen
+pub mod RunsCalm
+pub mod RunsNaming
+pub mod OwnRunning
+pub mod OwnRunners

@@ -1,0 +1,387 @@
+-- For own_queues_agree.
+-- What is no part of a run leaves what the runs keep as it is.
+use Rattle.std.proofs.Common.{◌≡◌, ◌∙◌, ◌+◌, ℕ, zero, suc, List, [], ◌∷◌, ◌++◌, get_or, set, Bool, true, false}
+use Rattle.std.proofs.Common.{refl, sym, ap, arith}
+use Rattle.std.specs.Prelude.{Option, Some, None}
+use Rattle.task_moves.specs.Moves as moves
+use Rattle.task_moves.specs.declared.moves.owed.Answer.{Answer}
+use Rattle.task_moves.specs.declared.moves.owed.Move.{Move}
+use Rattle.task_moves.specs.declared.moves.owed.Move.TheVariants as move
+use Rattle.task_moves.specs.declared.moves.owed.Moved.{Moved}
+use Rattle.executor_model.specs.declared.event.Event.{Event}
+use Rattle.executor_model.specs.declared.event.Event.TheVariants as event
+use Rattle.executor_model.specs.declared.op.Hold.{Hold}
+use Rattle.executor_model.specs.declared.op.Op.{Op}
+use Rattle.executor_model.specs.declared.op.Op.TheVariants as op
+use Rattle.executor_model.specs.declared.op.ClosingOp.TheVariants as closing_op
+use Rattle.executor_model.specs.declared.op.HandleOp.TheVariants as handle_op
+use Rattle.executor_model.specs.declared.op.Polled.{Polled}
+use Rattle.executor_model.specs.declared.op.Polled.TheVariants as of
+use Rattle.executor_model.specs.declared.op.QueueOp.TheVariants as queue_op
+use Rattle.executor_model.specs.declared.op.TickOrRun.{TickOrRun}
+use Rattle.executor_model.specs.declared.op.TickOrRun.TheVariants as tick_or_run
+use Rattle.executor_model.specs.declared.op.SleeperOp.TheVariants as sleeper_op
+use Rattle.executor_model.specs.declared.op.Sleeping.{Sleeping}
+use Rattle.executor_model.specs.declared.op.TableOp.TheVariants as table_op
+use Rattle.executor_model.specs.declared.op.UserOp.TheVariants as user_op
+use Rattle.executor_model.specs.declared.op.Waker.{Waker}
+use Rattle.executor_model.specs.declared.op.Waker.TheVariants.{Task, Outside}
+use Rattle.executor_model.specs.declared.op.WakerOp.TheVariants as waker_op
+use Rattle.executor_model.specs.declared.step.Hint.{Hint}
+use Rattle.executor_model.specs.Acts as acts
+use Rattle.executor_model.specs.ActsOfSleepers.{exchange_by, hand_out_by, polled_as}
+use Rattle.executor_model.specs.Carried.{carried, awaiter_ops}
+use Rattle.executor_model.specs.Doing.{act}
+use Rattle.executor_model.specs.Weights.{weigh}
+use Rattle.executor_model.specs.World.{World, Ticker, Stage, Ended, Run, Lock, Done, log, log_if, task, put}
+use Rattle.executor_model.specs.World.{put_run, run_of, no_run, new_run, runs_with, New, among, awaiter_of}
+use Rattle.executor_parts.specs.Sleepers.{Sleepers}
+use Rattle.queue_steps.specs.ClosableQueue.{ClosableQueue}
+use Rattle.executor_model.specs.SleepersAgree.{hands_of}
+use Rattle.executor_model.proofs.Steps.Lists.{weigh-append, weigh-below}
+use Rattle.executor_model.proofs.Steps.Asides.{Aside, aside-awaiter, aside-owed, aside-let_go, aside-told, aside-closing}
+
+-- the stages of the runs
+
+abbrev pub stages : List Run → List Stage
+stages [] = []
+stages (x ∷ xs) = x.stage ∷ stages xs
+
+pub stages-at : (rs : List Run) (r : ℕ) → get_or (stages rs) r Ended ≡ (get_or rs r no_run).stage
+stages-at [] r = refl
+stages-at (x ∷ rs) zero = refl
+stages-at (x ∷ rs) (suc r) = stages-at rs r
+
+pub stages-set : (rs : List Run) (r : ℕ) (x : Run) → stages (set rs r x) ≡ set (stages rs) r x.stage
+stages-set [] r x = refl
+stages-set (y ∷ rs) zero x = refl
+stages-set (y ∷ rs) (suc r) x = ap (λ (ss : List Stage). y.stage ∷ ss) (stages-set rs r x)
+
+-- a run that stays at its stage
+pub stages-same : (rs : List Run) (r : ℕ) (x : Run) → x.stage ≡ (get_or rs r no_run).stage →
+    stages (set rs r x) ≡ stages rs
+stages-same [] r x e = refl
+stages-same (y ∷ rs) zero x e = ap (λ (s : Stage). s ∷ stages rs) e
+stages-same (y ∷ rs) (suc r) x e = ap (λ (ss : List Stage). y.stage ∷ ss) (stages-same rs r x e)
+
+pub stages-push : (rs : List Run) → stages (rs ++ new_run ∷ []) ≡ stages rs ++ New ∷ []
+stages-push [] = refl
+stages-push (y ∷ rs) = ap (λ (ss : List Stage). y.stage ∷ ss) (stages-push rs)
+
+-- the stages, the own queues, their list and its lock
+pub record Hull : Type 0 where
+  pub stages : List Stage
+  pub own : List (List ℕ)
+  pub listed : List ℕ
+  pub lock : Lock
+
+abbrev pub hull : World → Hull
+hull w = record { stages = stages w.runs; own = w.own; listed = w.listed; lock = w.lock }
+
+pub hull-run : (w : World) (r : ℕ) (x : Run) → x.stage ≡ (run_of w r).stage → hull w ≡ hull (put_run w r x)
+hull-run w r x e = λ i. record {
+  stages = sym (stages-same w.runs r x e) i;
+  own = w.own;
+  listed = w.listed;
+  lock = w.lock;
+}
+
+-- which runs were dropped
+
+abbrev pub drops : List Run → List Bool
+drops [] = []
+drops (x ∷ xs) = x.dropped ∷ drops xs
+
+drops-same : (rs : List Run) (r : ℕ) (x : Run) → x.dropped ≡ (get_or rs r no_run).dropped → drops (set rs r x) ≡ drops rs
+drops-same [] r x e = refl
+drops-same (y ∷ rs) zero x e = ap (λ (b : Bool). b ∷ drops rs) e
+drops-same (y ∷ rs) (suc r) x e = ap (λ (bs : List Bool). y.dropped ∷ bs) (drops-same rs r x e)
+
+-- what only the beginning of a call changes beside, and no thing that is done
+pub record Coat : Type 0 where
+  pub hull : Hull
+  pub drops : List Bool
+  pub gone : Bool
+
+abbrev pub coat : World → Coat
+coat w = record { hull = hull w; drops = drops w.runs; gone = w.gone }
+
+abbrev pub hull_of : Coat → Hull
+hull_of c = c.hull
+
+pub coat-run : (w : World) (r : ℕ) (x : Run) → x.stage ≡ (run_of w r).stage → x.dropped ≡ (run_of w r).dropped →
+    coat w ≡ coat (put_run w r x)
+coat-run w r x e d = λ i. record {
+  hull = hull-run w r x e i;
+  drops = sym (drops-same w.runs r x d) i;
+  gone = w.gone;
+}
+
+pub coat-placed : (w : World) (who : TickOrRun) (x : Ticker) → coat w ≡ coat (record w { runs = runs_with w.runs who x })
+coat-placed w (tick_or_run.Tick t) x = refl
+coat-placed w (tick_or_run.Run r) x = coat-run w r _ refl refl
+
+-- what a run does, and a tick
+abbrev pub is_run : Op → Bool
+is_run (op.User (user_op.PollOwn x)) = true
+is_run (op.Tick o) = true
+is_run (op.List o) = true
+is_run (op.Steal o) = true
+is_run (op.Run o) = true
+is_run _ = false
+
+abbrev pub runs_of : Op → ℕ
+runs_of (op.User (user_op.PollOwn x)) = 1
+runs_of (op.Tick o) = 1
+runs_of (op.List o) = 1
+runs_of (op.Steal o) = 1
+runs_of (op.Run o) = 1
+runs_of _ = 0
+
+-- what the world has beside futures and the trace
+pub record Rest : Type 0 where
+  pub limit : ℕ
+  pub queue : ClosableQueue ℕ
+  pub ticks : List Ticker
+  pub runs : List Run
+  pub own : List (List ℕ)
+  pub listed : List ℕ
+  pub lock : Lock
+  pub sleepers : Sleepers Sleeping
+  pub notified : Bool
+  pub gone : Bool
+
+abbrev pub rest : World → Rest
+rest w = record {
+  limit = w.limit;
+  queue = w.queue;
+  ticks = w.ticks;
+  runs = w.runs;
+  own = w.own;
+  listed = w.listed;
+  lock = w.lock;
+  sleepers = w.sleepers;
+  notified = w.notified;
+  gone = w.gone;
+}
+
+-- a run, a tick, or who hands out
+abbrev pub bustle_of : Op → ℕ
+bustle_of o = runs_of o + hands_of o
+
+-- it stays, and none of these follows
+pub record Frame (w : World) (d : Done) : Type 0 where
+  pub rest : rest w ≡ rest d.world
+  pub plain : weigh bustle_of d.next ≡ 0
+
+frame : (w : World) (d : Done) → rest w ≡ rest d.world → weigh bustle_of d.next ≡ 0 → Frame w d
+frame w d a b = record { rest = a; plain = b }
+
+none-both : (xs ys : List Op) → weigh bustle_of xs ≡ 0 → weigh bustle_of ys ≡ 0 → weigh bustle_of (xs ++ ys) ≡ 0
+none-both xs ys a b = omega (arith, weigh-append bustle_of xs ys, a, b)
+
+none : Aside bustle_of
+none = record {
+  move = λ m f. refl;
+  append = λ f. refl;
+  poll = λ f. refl;
+  drop = λ f. refl;
+  output = λ f. refl;
+  notify = λ f mine. refl;
+  call = λ f a k. refl;
+}
+
+rest-log_if : (b : Bool) (w : World) (e : Event) → rest w ≡ rest (log_if b w e)
+rest-log_if true w e = refl
+rest-log_if false w e = refl
+
+-- a move of a task
+frame-moved : (b : Bool) (w v : World) (e : Event) (f : ℕ) (m : Moved) → rest w ≡ rest v →
+    Frame w (carried (log_if b v e) f m)
+frame-moved b w v e f m x = frame w (carried (log_if b v e) f m) (x ∙ rest-log_if b v e)
+    (aside-owed bustle_of none f (among f (log_if b v e).table) m.owed)
+
+frame-move : (b : Bool) (m : Move) (p : ℕ) (w v : World) (f : ℕ) → rest w ≡ rest v →
+    Frame w (acts.move_by b m p v f)
+frame-move true m p w v f x = frame-moved _ w v (acts.told_as m p f) f (moves.after m (task v f)) x
+frame-move false m p w v f x = frame w _ x refl
+
+pub frame-call : (p : ℕ) (w : World) (o : Polled) (a : Waker) (k : ℕ) → Frame w (acts.call_waker p w o a k)
+frame-call p w o (Task g) k = frame-move true move.Wake p w (log w (event.WakerCalled p o k (Task g))) g refl
+frame-call p w o (Outside x) k = frame w _ refl refl
+
+-- the table
+
+frame-enter : (b c : Bool) (p : ℕ) (w : World) → Frame w (acts.enter_by b c p w)
+frame-enter true c p w = frame w _ refl refl
+frame-enter false true p w = frame w _ refl refl
+frame-enter false false p w = frame w _ refl refl
+
+frame-leave : (b : Bool) (w : World) (f : ℕ) → Frame w (acts.leave_by b w f)
+frame-leave true w f = frame w _ refl refl
+frame-leave false w f = frame w _ refl refl
+
+-- handles
+
+frame-copy : (b : Bool) (w : World) (f : ℕ) (held : Hold) → Frame w (acts.copy_by b w f held)
+frame-copy true w f held = frame w _ refl refl
+frame-copy false w f held = frame w _ refl refl
+
+frame-answered : (p : ℕ) (w v : World) (f : ℕ) (m : Moved) (a : Answer) → rest w ≡ rest v →
+    Frame w (acts.answered p v f m a)
+frame-answered p w v f m a x =
+    frame w (acts.answered p v f m a) (x ∙ rest-log_if _ (put v f m.state) (event.OutputGiven p f))
+    (none-both (awaiter_ops f m.owed.awaiter) _ (aside-awaiter bustle_of none f m.owed.awaiter) refl)
+
+frame-look : (o : Option Answer) (p : ℕ) (w : World) (f : ℕ) (a : Waker) (m : Moved) →
+    Frame w (acts.look_by o p w f a m)
+frame-look None p w f a m = frame w _ refl refl
+frame-look (Some x) p w f a m = frame-answered p w (acts.polled p w f) f m x refl
+
+frame-again : (o : Option Answer) (p : ℕ) (w : World) (f : ℕ) (m : Moved) → Frame w (acts.look_again_by o p w f m)
+frame-again None p w f m = frame w _ refl refl
+frame-again (Some x) p w f m = frame-answered p w w f m x refl
+
+frame-copy_awaiter : (b : Bool) (p : ℕ) (w : World) (f : ℕ) (a : Waker) → Frame w (acts.copy_awaiter_by b p w f a)
+frame-copy_awaiter true p w f a = frame w _ refl refl
+frame-copy_awaiter false p w f (Task g) = frame w _ refl refl
+frame-copy_awaiter false p w f (Outside x) = frame w _ refl refl
+
+frame-register : (b : Bool) (w : World) (f : ℕ) (a : Waker) (k : ℕ) → Frame w (acts.register_by b w f a k)
+frame-register true w f a k = frame w _ refl refl
+frame-register false w f a k = frame w _ refl refl
+
+frame-end_register : (b : Bool) (w : World) (f : ℕ) (a : Waker) (k : ℕ) → Frame w (acts.end_register_by b w f a k)
+frame-end_register true w f a k =
+    frame w _ refl (none-both (op.Waker (waker_op.CallAwaiter f a k) ∷ acts.let_go (awaiter_of w f))
+    (op.Handle (handle_op.LookAgain f) ∷ []) (omega (arith, aside-let_go bustle_of none (awaiter_of w f))) refl)
+frame-end_register false w f a k =
+    frame w _ refl (none-both (acts.let_go (awaiter_of w f)) (op.Handle (handle_op.LookAgain f) ∷ [])
+    (aside-let_go bustle_of none (awaiter_of w f)) refl)
+
+frame-notify : (b : Bool) (w : World) (f : ℕ) (mine : Bool) → Frame w (acts.notify_by b w f mine)
+frame-notify true w f mine = frame w _ refl refl
+frame-notify false w f mine = frame w _ refl refl
+
+-- the drop of the executor
+
+frame-drop_next : (p : ℕ) (w : World) (ls : List ℕ) → Frame w (acts.drop_next_by p w ls)
+frame-drop_next p w [] = frame w _ refl refl
+frame-drop_next p w (f ∷ rest) =
+    frame w _ refl (omega (arith, aside-closing bustle_of (λ o. refl) rest (w.waking ++ f ∷ [])))
+
+frame-wake_next : (p : ℕ) (w : World) (ws : List ℕ) → Frame w (acts.wake_next_by p w ws)
+frame-wake_next p w [] = frame w _ refl refl
+frame-wake_next p w (f ∷ rest) =
+    let v : World = record w { waking = rest } in
+    let m : Frame w (acts.wake p v f) = frame-move true move.Wake p w v f refl in
+    frame w (acts.wake_next_by p w (f ∷ rest)) m.rest
+    (none-both (acts.wake p v f).next (acts.closing_ops [] rest) m.plain (aside-closing bustle_of (λ o. refl) [] rest))
+
+-- what is done with one future, or ends a call
+abbrev pub is_lone : Op → Bool
+is_lone (op.User (user_op.PollOwn x)) = false
+is_lone (op.Queue o) = false
+is_lone (op.Sleeper sleeper_op.ExchangeFlag) = false
+is_lone (op.Sleeper sleeper_op.HandOut) = false
+is_lone (op.Tick o) = false
+is_lone (op.List o) = false
+is_lone (op.Steal o) = false
+is_lone (op.Run o) = false
+is_lone (op.Closing closing_op.Close) = false
+is_lone (op.Closing closing_op.Drain) = false
+is_lone _ = true
+
+pub frame-act : (p : ℕ) (h : Hint) (o : Op) (w : World) → is_lone o ≡ true → Frame w (act p h o w)
+frame-act p h (op.Move m f) w n = frame-move _ m p w w f refl
+frame-act p h (op.Table table_op.Enter) w n = frame-enter _ _ p w
+frame-act p h (op.Table (table_op.LeaveTable f)) w n = frame-leave _ w f
+frame-act p h (op.Waker (waker_op.CopyWaker f held)) w n = frame-copy _ w f held
+frame-act p h (op.Waker (waker_op.CallAwaiter f a k)) w n = frame-call p w (of.Handle f) a k
+frame-act p h (op.Handle (handle_op.Look f a)) w n = frame-look _ p w f a _
+frame-act p h (op.Handle (handle_op.CopyAwaiter f a)) w n = frame-copy_awaiter _ p w f a
+frame-act p h (op.Handle (handle_op.Register f a k)) w n = frame-register _ w f a k
+frame-act p h (op.Handle (handle_op.EndRegister f a k)) w n = frame-end_register _ w f a k
+frame-act p h (op.Handle (handle_op.LookAgain f)) w n = frame-again _ p w f _
+frame-act p h (op.Handle (handle_op.Notify f mine)) w n = frame-notify _ w f mine
+frame-act p h (op.Handle (handle_op.EndNotify f mine)) w n =
+    frame w _ refl (aside-told bustle_of none _ f (awaiter_of w f))
+frame-act p h (op.Closing closing_op.TakeOut) w n =
+    frame w _ refl (aside-closing bustle_of (λ o. refl) w.table w.waking)
+frame-act p h (op.Closing closing_op.DropNext) w n = frame-drop_next p w _
+frame-act p h (op.Closing closing_op.WakeNext) w n = frame-wake_next p w _
+frame-act p h (op.Sleeper sleeper_op.ExchangeFlag) w n = absurd (cc)
+frame-act p h (op.Sleeper sleeper_op.HandOut) w n = absurd (cc)
+frame-act p h (op.Sleeper (sleeper_op.CallSleeper s)) w n = frame-call p w (polled_as s.who) s.waker s.poll
+frame-act p h (op.User (user_op.PollOwn x)) w n = absurd (cc)
+frame-act p h (op.Queue o) w n = absurd (cc)
+frame-act p h (op.Tick o) w n = absurd (cc)
+frame-act p h (op.List o) w n = absurd (cc)
+frame-act p h (op.Steal o) w n = absurd (cc)
+frame-act p h (op.Run o) w n = absurd (cc)
+frame-act p h (op.Closing closing_op.Close) w n = absurd (cc)
+frame-act p h (op.Closing closing_op.Drain) w n = absurd (cc)
+frame-act p h _ w n = frame w _ refl refl
+
+-- it stays, and nothing of a run or tick follows
+pub record Apart (w : World) (d : Done) : Type 0 where
+  pub coat : coat w ≡ coat d.world
+  pub hull : hull w ≡ hull d.world
+  pub runs : weigh runs_of d.next ≡ 0
+
+apart : (w : World) (d : Done) → coat w ≡ coat d.world → weigh runs_of d.next ≡ 0 → Apart w d
+apart w d a b = record { coat = a; hull = ap hull_of a; runs = b }
+
+abbrev coat_of : Rest → Coat
+coat_of r = record {
+  hull = record { stages = stages r.runs; own = r.own; listed = r.listed; lock = r.lock };
+  drops = drops r.runs;
+  gone = r.gone;
+}
+
+pub apart-frame : (w : World) (d : Done) → Frame w d → Apart w d
+apart-frame w d f = apart w d (ap coat_of f.rest)
+    (omega (arith, f.plain, weigh-below runs_of bustle_of (λ o. omega arith) d.next))
+
+-- the queue, and who hands out
+
+apart-take : (q : List ℕ) (w : World) → Apart w (acts.take_by w q)
+apart-take [] w = apart w _ refl refl
+apart-take (f ∷ rest) w = apart w _ refl refl
+
+apart-drain : (p : ℕ) (w : World) (q : List ℕ) → Apart w (acts.drain_by p w q)
+apart-drain p w [] = apart w _ refl refl
+apart-drain p w (f ∷ rest) = apart w _ refl refl
+
+apart-append : (b : Bool) (w : World) (f : ℕ) → Apart w (acts.append_by b w f)
+apart-append true w f = apart w _ refl refl
+apart-append false w f = apart w _ refl refl
+
+apart-exchange : (b : Bool) (w : World) → Apart w (exchange_by b w)
+apart-exchange true w = apart w _ refl refl
+apart-exchange false w = apart w _ refl refl
+
+apart-hand_out : (b : Bool) (o : Option Sleeping) (w : World) → Apart w (hand_out_by b o w)
+apart-hand_out false o w = apart w _ refl refl
+apart-hand_out true None w = apart w _ refl refl
+apart-hand_out true (Some s) w = apart w _ refl refl
+
+pub apart-act : (p : ℕ) (h : Hint) (o : Op) (w : World) → is_run o ≡ false → Apart w (act p h o w)
+apart-act p h (op.Queue queue_op.Take) w n = apart-take _ w
+apart-act p h (op.Queue (queue_op.Append f)) w n = apart-append _ w f
+apart-act p h (op.User (user_op.PollOwn x)) w n = absurd (cc)
+apart-act p h (op.Sleeper sleeper_op.ExchangeFlag) w n = apart-exchange _ w
+apart-act p h (op.Sleeper sleeper_op.HandOut) w n = apart-hand_out _ _ w
+apart-act p h (op.Tick o) w n = absurd (cc)
+apart-act p h (op.List o) w n = absurd (cc)
+apart-act p h (op.Steal o) w n = absurd (cc)
+apart-act p h (op.Run o) w n = absurd (cc)
+apart-act p h (op.Closing closing_op.Close) w n = apart w _ refl refl
+apart-act p h (op.Closing closing_op.Drain) w n = apart-drain p w _
+apart-act p h o w n = apart-frame w (act p h o w) (frame-act p h o w refl)
+
+-- a count that is nothing where none of these is
+pub unseen : (v : Op → ℕ) → ((o : Op) → runs_of o ≡ 0 → v o ≡ 0) → (os : List Op) → weigh runs_of os ≡ 0 →
+    weigh v os ≡ 0
+unseen v few [] z = refl
+unseen v few (o ∷ os) z = omega (arith, few o (omega (arith, z)), unseen v few os (omega (arith, z)))

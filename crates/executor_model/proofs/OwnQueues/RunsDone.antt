@@ -1,0 +1,419 @@
+-- For own_queues_agree and awaiters_are_kept.
+-- What is done of ticks and runs, by what it changes of the runs' hull and by what follows that counts in a law of runs:
+-- once for all laws that speak of these.
+use Rattle.std.proofs.Common.{◌≡◌, ℕ, zero, suc, ◌+◌, ◌/◌, ◌≤◌, List, [], ◌∷◌, ◌++◌, Bool, true, false, eqb, ltb}
+use Rattle.std.proofs.Common.{cond, refl, sym, subst, arith, ◌∙◌}
+use Rattle.std.proofs.lemmas.Bool.Decides.{nat_tests}
+use Rattle.std.specs.Prelude.{Option, Some, None, is_none}
+use Rattle.executor_parts.specs.Sleepers.{waker_at, waker_of}
+use Rattle.task_moves.specs.declared.moves.owed.Move.TheVariants as move
+use Rattle.executor_model.specs.declared.call.Reply.{Reply}
+use Rattle.executor_model.specs.declared.call.Reply.TheVariants as reply
+use Rattle.executor_model.specs.declared.event.Event.TheVariants as event
+use Rattle.executor_model.specs.declared.op.Hold.TheVariants as hold
+use Rattle.executor_model.specs.declared.op.ListOp.{ListOp}
+use Rattle.executor_model.specs.declared.op.ListOp.TheVariants as list_op
+use Rattle.executor_model.specs.declared.op.Op.{Op}
+use Rattle.executor_model.specs.declared.op.Op.TheVariants as op
+use Rattle.executor_model.specs.declared.op.Polled.TheVariants as of
+use Rattle.executor_model.specs.declared.op.RunOp.{RunOp}
+use Rattle.executor_model.specs.declared.op.RunOp.TheVariants as run_op
+use Rattle.executor_model.specs.declared.op.RunPoll.{RunPoll}
+use Rattle.executor_model.specs.declared.op.Section.TheVariants as section
+use Rattle.executor_model.specs.declared.op.TickOrRun.{TickOrRun}
+use Rattle.executor_model.specs.declared.op.TickOrRun.TheVariants as tick_or_run
+use Rattle.executor_model.specs.declared.op.SleeperOp.TheVariants as sleeper_op
+use Rattle.executor_model.specs.declared.op.Sleeping.{Sleeping}
+use Rattle.executor_model.specs.declared.op.Source.{Source}
+use Rattle.executor_model.specs.declared.op.Source.TheVariants.{Common, Own}
+use Rattle.executor_model.specs.declared.op.Steal.{Steal}
+use Rattle.executor_model.specs.declared.op.StealOp.{StealOp}
+use Rattle.executor_model.specs.declared.op.StealOp.TheVariants as steal_op
+use Rattle.executor_model.specs.declared.op.Then.{Then}
+use Rattle.executor_model.specs.declared.op.Then.TheVariants as then
+use Rattle.executor_model.specs.declared.op.TickOp.{TickOp}
+use Rattle.executor_model.specs.declared.op.TickOp.TheVariants as tick_op
+use Rattle.executor_model.specs.declared.op.UserOp.TheVariants as user_op
+use Rattle.executor_model.specs.declared.op.Waker.{Waker}
+use Rattle.executor_model.specs.declared.op.Waker.TheVariants.{Task, Outside}
+use Rattle.executor_model.specs.declared.step.Hint.{Hint}
+use Rattle.executor_model.specs.Acts.{is_copy_refused, waker_goes}
+use Rattle.executor_model.specs.ActsOfRuns as runs
+use Rattle.executor_model.specs.ActsOfSleepers.{copy_sleeper_by, found_by, wake_up_by, leave_sleepers_by, sleep_again_by}
+use Rattle.executor_model.specs.ActsOfSleepers.{sleep_anew_by, fall_asleep_by, sleep_listed_by, make_tick_by, pend_as}
+use Rattle.executor_model.specs.ActsOfSleepers.{search_by, sleeper_goes, tell_and_return}
+use Rattle.executor_model.specs.Doing.{act, list_act, run_act, search_by_who, steal_act, tick_act}
+use Rattle.executor_model.specs.OwnQueues.{walks_steal, walks_then}
+use Rattle.executor_model.specs.Weights.{weigh}
+use Rattle.executor_model.specs.World.{World, Ticker, Awake, Asleep, Left, Done, log, own_of, place_of, put_own, run_of}
+use Rattle.executor_model.proofs.Steps.Lift.{no_hint}
+use Rattle.executor_model.proofs.OwnQueues.RunsAside.{apart-act, coat, is_run, runs_of}
+use Rattle.executor_model.proofs.OwnQueues.RunsMoving.{coat-found, coat-more, coat-search, coat-stolen}
+use Rattle.executor_model.proofs.OwnQueues.RunsMoving.{coat-tick, is_search, walk-by}
+
+-- what counts in a law of runs: parts of a poll, of the making and of the drop of one
+
+abbrev pub is_loud_tick : TickOp → Bool
+is_loud_tick (tick_op.Search s) = true
+is_loud_tick (tick_op.CopyWaker s) = true
+is_loud_tick (tick_op.FallAsleep s) = true
+is_loud_tick _ = false
+
+abbrev pub is_loud_run : RunOp → Bool
+is_loud_run run_op.MakeRoom = false
+is_loud_run run_op.ReturnRoom = false
+is_loud_run _ = true
+
+abbrev pub is_loud : Op → Bool
+is_loud (op.User (user_op.PollOwn x)) = true
+is_loud (op.Tick o) = is_loud_tick o
+is_loud (op.List o) = true
+is_loud (op.Steal o) = true
+is_loud (op.Run o) = is_loud_run o
+is_loud _ = false
+
+abbrev pub onto_loud : Bool → Op → List Op → List Op
+onto_loud true o os = o ∷ os
+onto_loud false o os = os
+
+-- these of them
+abbrev pub loud : List Op → List Op
+loud [] = []
+loud (o ∷ os) = onto_loud (is_loud o) o (loud os)
+
+-- a count that sees nothing of the others
+pub loud-weigh : (v : Op → ℕ) → ((o : Op) → is_loud o ≡ false → v o ≡ 0) → (os : List Op) →
+    weigh v os ≡ weigh v (loud os)
+loud-weigh v z [] = refl
+loud-weigh v z (o ∷ os) = by (is_loud o) refl (loud-weigh v z os)
+  where
+    by : (b : Bool) → is_loud o ≡ b → weigh v os ≡ weigh v (loud os) →
+        weigh v (o ∷ os) ≡ weigh v (onto_loud b o (loud os))
+    by true e q = omega (arith, q)
+    by false e q = omega (arith, q, z o e)
+
+loud-runs : (o : Op) → is_loud o ≡ true → runs_of o ≡ 1
+loud-runs (op.User (user_op.PollOwn x)) e = refl
+loud-runs (op.Tick o) e = refl
+loud-runs (op.List o) e = refl
+loud-runs (op.Steal o) e = refl
+loud-runs (op.Run o) e = refl
+loud-runs _ e = absurd (cc)
+
+quiet-all : (os : List Op) → weigh runs_of os ≡ 0 → loud os ≡ []
+quiet-all [] z = refl
+quiet-all (o ∷ os) z = by (is_loud o) refl (quiet-all os (omega (arith, z)))
+  where
+    by : (b : Bool) → is_loud o ≡ b → loud os ≡ [] → onto_loud b o (loud os) ≡ []
+    by true e q = absurd (omega (arith, z, loud-runs o e))
+    by false e q = q
+
+quiet-aside : (o : Op) → is_run o ≡ false → is_loud o ≡ false
+quiet-aside (op.User (user_op.PollOwn x)) e = absurd (cc)
+quiet-aside (op.Tick o) e = absurd (cc)
+quiet-aside (op.List o) e = absurd (cc)
+quiet-aside (op.Steal o) e = absurd (cc)
+quiet-aside (op.Run o) e = absurd (cc)
+quiet-aside _ e = refl
+
+-- what follows
+
+abbrev pub poll_in : StealOp → RunPoll
+poll_in (steal_op.Length s) = s.poll
+poll_in (steal_op.OwnLength s n) = s.poll
+poll_in (steal_op.Take s more) = s.poll
+poll_in (steal_op.Put s more f) = s.poll
+
+-- the end of a steal, in a walk or in none: with what is found the run goes on in one of three ways
+pub data Stole (x : RunPoll) : ℕ → List Op → Type 0 where
+  to_steal : (f : ℕ) → Stole x 0 (op.Steal (steal_op.Length (record { poll = x; from = Common; then = then.Run f })) ∷ [])
+  to_wake : Stole x 0 (op.Run (run_op.WakeOwn x) ∷ [])
+  to_search : Stole x 0 (op.Tick (tick_op.Search (runs.asleep x)) ∷ [])
+  to_walk : (at left : ℕ) → Stole x 1 (op.Run (run_op.LookOwn x at left) ∷ [])
+
+-- so many more are taken
+pub data More (s : Steal) : ℕ → List Op → Type 0 where
+  no_more : {os : List Op} → Stole s.poll (walks_then s.then) os → More s zero os
+  one_more : (k : ℕ) → More s (suc k) (op.Steal (steal_op.Take s k) ∷ [])
+
+-- a walk goes on, or ends
+pub data Walks (x : RunPoll) : List Op → Type 0 where
+  walk_ends : Walks x (op.List list_op.UnlockRead ∷ op.Tick (tick_op.CopyWaker (runs.asleep x)) ∷ [])
+  walk_on : (r at left : ℕ) →
+      Walks x (op.Steal (steal_op.Length (record { poll = x; from = Own r; then = then.Walk at left })) ∷ [])
+
+-- where the own queue of run q was found empty
+pub data Missing : ℕ → Op → List Op → Type 0 where
+  misses : (x : RunPoll) →
+      Missing x.run (op.Tick (tick_op.Search (runs.asleep x))) (op.Run (run_op.SearchCommon x) ∷ [])
+  misses_there : (x : RunPoll) (at left : ℕ) {os : List Op} → Walks x os →
+      Missing x.run (op.Run (run_op.LookOwn x at left)) os
+  misses_last : (q : ℕ) (a : Reply) → Missing q (op.Run (run_op.Reschedule q a)) []
+
+-- and all else
+pub data Leads : Op → List Op → Type 0 where
+  quiet : (o : Op) → is_loud o ≡ false → Leads o []
+  polls : (x : RunPoll) → Leads (op.User (user_op.PollOwn x)) (op.User (user_op.PollOwn x) ∷ [])
+  slumbering : (o : TickOp) → is_search o ≡ false → Leads (op.Tick o) []
+  sleeps : (s : Sleeping) → Leads (op.Tick (tick_op.CopyWaker s)) (op.Tick (tick_op.FallAsleep s) ∷ [])
+  again : (s : Sleeping) → Leads (op.Tick (tick_op.FallAsleep s)) (op.Tick (tick_op.Search s) ∷ [])
+  hits : (s : Sleeping) (t : ℕ) → s.who ≡ tick_or_run.Tick t → Leads (op.Tick (tick_op.Search s)) []
+  copies : (s : Sleeping) (t : ℕ) → s.who ≡ tick_or_run.Tick t →
+      Leads (op.Tick (tick_op.Search s)) (op.Tick (tick_op.CopyWaker s) ∷ [])
+  finds : (x : RunPoll) {os : List Op} → Stole x 0 os → Leads (op.Tick (tick_op.Search (runs.asleep x))) os
+  reads : (s : Steal) (n : ℕ) → Leads (op.Steal (steal_op.Length s)) (op.Steal (steal_op.OwnLength s n) ∷ [])
+  stole : (o : StealOp) {os : List Op} → Stole (poll_in o) (walks_steal o) os → Leads (op.Steal o) os
+  puts : (s : Steal) (k f : ℕ) → Leads (op.Steal (steal_op.Take s k)) (op.Steal (steal_op.Put s k f) ∷ [])
+  rooms : Leads (op.Run run_op.MakeRoom) (op.List (list_op.LockWrite section.MakeRun) ∷ [])
+  locks : (x : RunPoll) → Leads (op.Run (run_op.SearchCommon x)) (op.List (list_op.LockRead x) ∷ [])
+  common : (x : RunPoll) (f : ℕ) → Leads (op.Run (run_op.SearchCommon x))
+      (op.Steal (steal_op.Length (record { poll = x; from = Common; then = then.Found f })) ∷ [])
+  looks : (x : RunPoll) (at left : ℕ) {os : List Op} → Stole x 0 os →
+      Leads (op.Run (run_op.LookOwn x at left)) (op.List list_op.UnlockRead ∷ os)
+  schedules : (q : ℕ) (a : Reply) → Leads (op.Run (run_op.Reschedule q a)) (op.Run (run_op.Reschedule q a) ∷ [])
+
+-- the hull stays but for one own queue, or the list of these is at work
+pub data Deed (w : World) : Op → Done → Type 0 where
+  keeps : {o : Op} {d : Done} → coat w ≡ coat d.world → Leads o (loud d.next) → Deed w o d
+  takes : {o : Op} {d : Done} (q f : ℕ) (rest : List ℕ) → own_of w q ≡ f ∷ rest →
+      coat (put_own w q rest) ≡ coat d.world → Leads o (loud d.next) → Deed w o d
+  lacks : {o : Op} {d : Done} (q : ℕ) → own_of w q ≡ [] → coat w ≡ coat d.world → Missing q o (loud d.next) →
+      Deed w o d
+  shares : {d : Done} (s : Steal) (n k : ℕ) → k ≤ runs.free_places w s.poll.run → coat w ≡ coat d.world →
+      More s k (loud d.next) → Deed w (op.Steal (steal_op.OwnLength s n)) d
+  grows : {d : Done} (s : Steal) (k f : ℕ) →
+      coat (put_own w s.poll.run (own_of w s.poll.run ++ f ∷ [])) ≡ coat d.world → More s k (loud d.next) →
+      Deed w (op.Steal (steal_op.Put s k f)) d
+  wakes : (p : ℕ) (x : RunPoll) → coat w ≡ coat (runs.wake_own p w x).world → loud (runs.wake_own p w x).next ≡ [] →
+      Deed w (op.Run (run_op.WakeOwn x)) (runs.wake_own p w x)
+  lists : (h : Hint) (o : ListOp) → Deed w (op.List o) (list_act h o w)
+
+-- what is found is run
+
+stole-run_by : (b : Bool) (w : World) (x : RunPoll) (f : ℕ) → Stole x 0 (loud (runs.run_by b w x f).next)
+stole-run_by true w x f = to_wake
+stole-run_by false w x f = to_search
+
+stole-counted : (b : Bool) (w : World) (x : RunPoll) (f : ℕ) → Stole x 0 (loud (runs.counted_by b w x f).next)
+stole-counted true w x f = to_steal f
+stole-counted false w x f = stole-run_by _ _ x f
+
+loud-wakes_up : (p : Ticker) (who : TickOrRun) (os : List Op) →
+    loud (found_by p who (op.Sleeper sleeper_op.ExchangeFlag ∷ []) ++ os) ≡ loud os
+loud-wakes_up Awake who os = refl
+loud-wakes_up (Asleep n) who os = refl
+loud-wakes_up Left who os = refl
+
+pub stole-found : (w : World) (x : RunPoll) (f : ℕ) → Stole x 0 (loud (runs.found w x f).next)
+stole-found w x f =
+    let b = eqb ((run_of w x.run).counted + 1) 64 in
+    subst (Stole x 0) (sym (loud-wakes_up (run_of w x.run).place (tick_or_run.Run x.run) (runs.counted_by b w x f).next))
+    (stole-counted b w x f)
+
+pub stole-by : (t : Then) (w : World) (x : RunPoll) → Stole x (walks_then t) (loud (runs.stolen t w x).next)
+stole-by (then.Found f) w x = stole-found w x f
+stole-by (then.Run f) w x = stole-run_by _ w x f
+stole-by (then.Walk at left) w x = to_walk at left
+
+more-by : (n : ℕ) (w : World) (s : Steal) → More s n (loud (runs.steal_by n w s).next)
+more-by zero w s = no_more (stole-by s.then w s.poll)
+more-by (suc n) w s = one_more n
+
+pub walks-by : (x : RunPoll) (qs : List ℕ) (at left : ℕ) → Walks x (loud (runs.walk x qs at left))
+walks-by x = walk-by (λ os. Walks x (loud os)) x walk_ends walk_on
+
+-- stealing
+
+deed-length : (n : ℕ) (w : World) (s : Steal) →
+    Deed w (op.Steal (steal_op.Length s)) (runs.steal_length_by n w s)
+deed-length zero w s = keeps (coat-stolen s.then w s.poll) (stole (steal_op.Length s) (stole-by s.then w s.poll))
+deed-length (suc n) w s = keeps refl (reads s (suc n))
+
+share-free : (n free : ℕ) → runs.share n free ≤ free
+share-free n free = by (ltb ((n + 1) / 2) free) refl
+  where
+    by : (b : Bool) → ltb ((n + 1) / 2) free ≡ b → cond b ((n + 1) / 2) free ≤ free
+    by true e = grind (arith, nat_tests)
+    by false e = omega arith
+
+deed-take : (q : List ℕ) (w : World) (x : RunPoll) (a : Source) (t : Then) (k : ℕ) → runs.source_of w a ≡ q →
+    Deed w (op.Steal (steal_op.Take (record { poll = x; from = a; then = t }) k))
+    (runs.steal_take_by q w (record { poll = x; from = a; then = t }) k)
+deed-take [] w x a t k e =
+    keeps (coat-stolen t w x) (stole (steal_op.Take (record { poll = x; from = a; then = t }) k) (stole-by t w x))
+deed-take (f ∷ rest) w x Common t k e = keeps refl (puts (record { poll = x; from = Common; then = t }) k f)
+deed-take (f ∷ rest) w x (Own q) t k e = takes q f rest e refl (puts (record { poll = x; from = Own q; then = t }) k f)
+
+deed-put : (b : Bool) (p : ℕ) (w : World) (s : Steal) (k f : ℕ) →
+    Deed w (op.Steal (steal_op.Put s k f)) (runs.steal_put_by b p w s k f)
+deed-put true p w s k f =
+    let v = runs.kept_by p w s.poll.run f in grows s k f (coat-more k v s) (more-by k v s)
+deed-put false p w s k f = keeps (coat-stolen s.then w s.poll) (stole (steal_op.Put s k f) (stole-by s.then w s.poll))
+
+deed-steal : (p : ℕ) (o : StealOp) (w : World) → Deed w (op.Steal o) (steal_act p o w)
+deed-steal p (steal_op.Length s) w = deed-length _ w s
+deed-steal p (steal_op.OwnLength s n) w =
+    let k = runs.share n (runs.free_places w s.poll.run) in
+    shares s n k (share-free n (runs.free_places w s.poll.run)) (coat-more k w s) (more-by k w s)
+deed-steal p (steal_op.Take s k) w = deed-take _ w s.poll s.from s.then k refl
+deed-steal p (steal_op.Put s k f) w = deed-put _ p w s k f
+
+-- what a run alone does
+
+deed-common : (q : List ℕ) (w : World) (x : RunPoll) →
+    Deed w (op.Run (run_op.SearchCommon x)) (runs.search_common_by q w x)
+deed-common [] w x = keeps refl (locks x)
+deed-common (f ∷ rest) w x = keeps refl (common x f)
+
+deed-look : (q : List ℕ) (w : World) (x : RunPoll) (at left : ℕ) → own_of w x.run ≡ q →
+    Deed w (op.Run (run_op.LookOwn x at left)) (runs.look_own_by q w x at left)
+deed-look [] w x at left e = lacks x.run e refl (misses_there x at left (walks-by x w.listed at left))
+deed-look (f ∷ rest) w x at left e =
+    let v = put_own w x.run rest in takes x.run f rest e (coat-found v x f) (looks x at left (stole-found v x f))
+
+deed-reschedule : (q : List ℕ) (w : World) (r : ℕ) (a : Reply) → own_of w r ≡ q →
+    Deed w (op.Run (run_op.Reschedule r a)) (runs.reschedule_by q w r a)
+deed-reschedule [] w r a e = lacks r e refl (misses_last r a)
+deed-reschedule (f ∷ rest) w r a e = takes r f rest e refl (schedules r a)
+
+deed-room : (b : Bool) (w : World) → Deed w (op.Run run_op.MakeRoom) (runs.make_room_by b w)
+deed-room true w = keeps refl (quiet _ refl)
+deed-room false w = keeps refl rooms
+
+deed-wake : (p : ℕ) (w : World) (a : Waker) (r k : ℕ) →
+    Deed w (op.Run (run_op.WakeOwn (record { run = r; waker = a; poll = k })))
+    (runs.wake_own p w (record { run = r; waker = a; poll = k }))
+deed-wake p w (Outside y) r k = wakes p (record { run = r; waker = Outside y; poll = k }) refl refl
+deed-wake p w (Task g) r k =
+    let v = log w (event.WakerCalled p (of.Run r) k (Task g)) in
+    let a = apart-act p no_hint (op.Move move.WakeByReference g) v refl in
+    let next = (act p no_hint (op.Move move.WakeByReference g) v).next in
+    wakes p (record { run = r; waker = Task g; poll = k }) a.coat
+    (loud-end next reply.Pending r ∙ quiet-all next a.runs)
+  where
+    loud-end : (os : List Op) (a : Reply) (n : ℕ) → loud (os ++ op.End a (hold.Run n) ∷ []) ≡ loud os
+    loud-end [] a n = refl
+    loud-end (o ∷ os) a n = by (is_loud o) (loud-end os a n)
+      where
+        by : (b : Bool) → loud (os ++ op.End a (hold.Run n) ∷ []) ≡ loud os →
+            onto_loud b o (loud (os ++ op.End a (hold.Run n) ∷ [])) ≡ onto_loud b o (loud os)
+        by b e = λ i. onto_loud b o (e i)
+
+deed-run : (p : ℕ) (h : Hint) (o : RunOp) (w : World) → Deed w (op.Run o) (run_act p h o w)
+deed-run p h run_op.MakeRoom w = deed-room _ w
+deed-run p h run_op.ReturnRoom w = keeps refl (quiet _ refl)
+deed-run p h (run_op.SearchCommon x) w = deed-common _ w x
+deed-run p h (run_op.LookOwn x at left) w = deed-look _ w x at left refl
+deed-run p h (run_op.WakeOwn x) w = deed-wake p w x.waker x.run x.poll
+deed-run p h (run_op.Reschedule r a) w = deed-reschedule _ w r a refl
+
+-- ticks, and what runs do of the same
+
+loud-goes : (o : Option Sleeping) (more : List Op) → loud (sleeper_goes o ++ more) ≡ loud more
+loud-goes None more = refl
+loud-goes (Some s) more = by s.waker
+  where
+    by : (a : Waker) → loud (waker_goes a ++ more) ≡ loud more
+    by (Task f) = refl
+    by (Outside x) = refl
+
+loud-gone : (o : Option Sleeping) → loud (sleeper_goes o) ≡ []
+loud-gone None = refl
+loud-gone (Some s) = by s.waker
+  where
+    by : (a : Waker) → loud (waker_goes a) ≡ []
+    by (Task f) = refl
+    by (Outside x) = refl
+
+loud-told : (b : Bool) → loud (tell_and_return b) ≡ []
+loud-told true = refl
+loud-told false = refl
+
+leads-sleep : (x : Ticker) (w : World) (s : Sleeping) →
+    Leads (op.Tick (tick_op.FallAsleep s)) (loud (fall_asleep_by x w s).next)
+leads-sleep Left w s = slumbering _ refl
+leads-sleep Awake w s = by _
+  where
+    by : (b : Bool) → Leads (op.Tick (tick_op.FallAsleep s)) (loud (sleep_anew_by b w s).next)
+    by true = again s
+    by false = slumbering _ refl
+leads-sleep (Asleep n) w s = by _
+  where
+    again-by : (b : Bool) → Leads (op.Tick (tick_op.FallAsleep s)) (loud (sleep_listed_by b w n s).next)
+    again-by true = again s
+    again-by false = slumbering _ refl
+
+    by : (o : Option ℕ) → Leads (op.Tick (tick_op.FallAsleep s)) (loud (sleep_again_by o w n s).next)
+    by None = again-by _
+    by (Some at) = subst (Leads (op.Tick (tick_op.FallAsleep s)))
+        (sym (loud-goes (waker_at (Some at) w.sleepers.wakers) (pend_as s.who))) (slumbering _ refl)
+
+leads-up : (x : Ticker) (w : World) (t : TickOrRun) → Leads (op.Tick (tick_op.WakeUp t)) (loud (wake_up_by x w t).next)
+leads-up Awake w t = slumbering _ refl
+leads-up (Asleep n) w t =
+    subst (Leads (op.Tick (tick_op.WakeUp t))) (sym (loud-gone (waker_of n w.sleepers.wakers))) (slumbering _ refl)
+leads-up Left w t = slumbering _ refl
+
+leads-leave : (x : Ticker) (w : World) (t : TickOrRun) →
+    Leads (op.Tick (tick_op.Leave t)) (loud (leave_sleepers_by x w t).next)
+leads-leave Awake w t = slumbering _ refl
+leads-leave (Asleep n) w t =
+    let old = waker_of n w.sleepers.wakers in
+    subst (Leads (op.Tick (tick_op.Leave t))) (sym (loud-goes old (tell_and_return (is_none old)) ∙ loud-told (is_none old)))
+    (slumbering _ refl)
+leads-leave Left w t = slumbering _ refl
+
+leads-copy : (b : Bool) (w : World) (s : Sleeping) →
+    Leads (op.Tick (tick_op.CopyWaker s)) (loud (copy_sleeper_by b w s).next)
+leads-copy true w s = slumbering _ refl
+leads-copy false w s = sleeps s
+
+leads-make : (b : Bool) (w : World) → Leads (op.Tick tick_op.MakeTick) (loud (make_tick_by b w).next)
+leads-make true w = slumbering _ refl
+leads-make false w = slumbering _ refl
+
+leads-search : (x : Ticker) (q : List ℕ) (w : World) (s : Sleeping) (t : ℕ) → s.who ≡ tick_or_run.Tick t →
+    Leads (op.Tick (tick_op.Search s)) (loud (search_by x w q s).next)
+leads-search x [] w s t e = copies s t e
+leads-search Awake (f ∷ rest) w s t e = hits s t e
+leads-search (Asleep n) (f ∷ rest) w s t e = hits s t e
+leads-search Left (f ∷ rest) w s t e = hits s t e
+
+deed-own : (q : List ℕ) (w : World) (x : RunPoll) → own_of w x.run ≡ q →
+    Deed w (op.Tick (tick_op.Search (runs.asleep x))) (runs.search_own_by q w x)
+deed-own [] w x e = lacks x.run e refl (misses x)
+deed-own (f ∷ rest) w x e =
+    let v = put_own w x.run rest in takes x.run f rest e (coat-found v x f) (finds x (stole-found v x f))
+
+deed-search : (who : TickOrRun) (a : Waker) (k : ℕ) (w : World) →
+    Deed w (op.Tick (tick_op.Search (record { waker = a; who = who; poll = k })))
+    (search_by_who who w (record { waker = a; who = who; poll = k }))
+deed-search (tick_or_run.Tick t) a k w =
+    let s : Sleeping = record { waker = a; who = tick_or_run.Tick t; poll = k } in
+    keeps (coat-search (place_of w s.who) w.queue.items w s) (leads-search (place_of w s.who) w.queue.items w s t refl)
+deed-search (tick_or_run.Run r) a k w = deed-own _ w (record { run = r; waker = a; poll = k }) refl
+
+deed-tick : (h : Hint) (o : TickOp) (w : World) → Deed w (op.Tick o) (tick_act h o w)
+deed-tick h (tick_op.Search s) w = deed-search s.who s.waker s.poll w
+deed-tick h tick_op.MakeTick w = keeps (coat-tick h tick_op.MakeTick w refl) (leads-make h.refused w)
+deed-tick h (tick_op.CopyWaker s) w =
+    keeps (coat-tick h (tick_op.CopyWaker s) w refl) (leads-copy (is_copy_refused h w s.waker) w s)
+deed-tick h (tick_op.FallAsleep s) w = keeps (coat-tick h (tick_op.FallAsleep s) w refl) (leads-sleep (place_of w s.who) w s)
+deed-tick h (tick_op.WakeUp t) w = keeps (coat-tick h (tick_op.WakeUp t) w refl) (leads-up (place_of w t) w t)
+deed-tick h (tick_op.Leave t) w = keeps (coat-tick h (tick_op.Leave t) w refl) (leads-leave (place_of w t) w t)
+
+-- each thing to do
+
+deed-by : (b : Bool) (p : ℕ) (h : Hint) (o : Op) (w : World) → is_run o ≡ b → Deed w o (act p h o w)
+deed-by false p h o w e =
+    let a = apart-act p h o w e in
+    keeps a.coat (subst (Leads o) (sym (quiet-all (act p h o w).next a.runs)) (quiet o (quiet-aside o e)))
+deed-by true p h (op.User (user_op.PollOwn x)) w e = keeps refl (polls x)
+deed-by true p h (op.Tick o) w e = deed-tick h o w
+deed-by true p h (op.List o) w e = lists h o
+deed-by true p h (op.Steal o) w e = deed-steal p o w
+deed-by true p h (op.Run o) w e = deed-run p h o w
+deed-by true p h _ w e = absurd (cc)
+
+pub deed-act : (p : ℕ) (h : Hint) (o : Op) (w : World) → Deed w o (act p h o w)
+deed-act p h o w = deed-by (is_run o) p h o w refl

@@ -1,0 +1,10 @@
+-- Calls do what they say: calls_do_what_they_say.
+pub mod CallFolds
+pub mod CallFrames
+pub mod CallServes
+pub mod CallPromises
+pub mod CallFits
+pub mod CallTold
+pub mod CallAnswers
+pub mod CallTells
+pub mod CallTurns

@@ -1,0 +1,369 @@
+-- For calls_do_what_they_say.
+-- Calls do what they say: what a call is answered with stands behind what was done for that.
+use Rattle.std.proofs.Common.{◌≡◌, ◌⊎◌, ◌∙◌, ℕ, ◌≤◌, List, [], ◌∷◌, ◌++◌, length, Bool, true, false}
+use Rattle.std.proofs.Common.{cond, eqb, inl, inr, ⊎_elim, refl, sym, subst, arith}
+use Rattle.std.proofs.lemmas.List.{append_assoc}
+use Rattle.std.specs.Prelude.{Option, Some, None}
+use Rattle.executor_parts.specs.Sleepers.{waker_at}
+use Rattle.task_moves.specs.Moves as moves
+use Rattle.task_moves.specs.Moves.{is_over}
+use Rattle.task_moves.specs.declared.moves.owed.Answer.{Answer}
+use Rattle.task_moves.specs.declared.moves.owed.Answer.TheVariants.{Refused, Pending, Closed, Output}
+use Rattle.task_moves.specs.declared.moves.owed.Moved.{Moved}
+use Rattle.executor_model.specs.declared.call.By.{By}
+use Rattle.executor_model.specs.declared.call.Call.{Call}
+use Rattle.executor_model.specs.declared.call.Call.TheVariants as call
+use Rattle.executor_model.specs.declared.call.Reply.TheVariants as reply
+use Rattle.executor_model.specs.declared.event.Event.TheVariants as event
+use Rattle.executor_model.specs.declared.op.HandleOp.TheVariants as handle_op
+use Rattle.executor_model.specs.declared.op.Hold.TheVariants as hold
+use Rattle.executor_model.specs.declared.op.ListOp.TheVariants as list_op
+use Rattle.executor_model.specs.declared.op.Op.{Op}
+use Rattle.executor_model.specs.declared.op.Op.TheVariants as op
+use Rattle.executor_model.specs.declared.op.QueueOp.TheVariants as queue_op
+use Rattle.executor_model.specs.declared.op.RunOp.TheVariants as run_op
+use Rattle.executor_model.specs.declared.op.Section.TheVariants as section
+use Rattle.executor_model.specs.declared.op.TickOrRun.{TickOrRun}
+use Rattle.executor_model.specs.declared.op.TickOrRun.TheVariants as tick_or_run
+use Rattle.executor_model.specs.declared.op.Sleeping.{Sleeping}
+use Rattle.executor_model.specs.declared.op.TableOp.TheVariants as table_op
+use Rattle.executor_model.specs.declared.op.TickOp.TheVariants as tick_op
+use Rattle.executor_model.specs.declared.op.UserOp.TheVariants as user_op
+use Rattle.executor_model.specs.declared.op.Waker.{Waker}
+use Rattle.executor_model.specs.declared.op.WakerOp.TheVariants as waker_op
+use Rattle.executor_model.specs.declared.step.Hint.{Hint}
+use Rattle.executor_model.specs.Acts.{take_by}
+use Rattle.executor_model.specs.Acts.{copy_awaiter_by, end_register_by, enter_by, let_go, look_again_by, look_by}
+use Rattle.executor_model.specs.Acts.{register_by, reply_of}
+use Rattle.executor_model.specs.ActsOfSleepers.{copy_sleeper_by, sleep_again_by, sleep_anew_by, fall_asleep_by, sleep_listed_by}
+use Rattle.executor_model.specs.ActsOfSleepers.{pend_as, search_by, sleeper_goes}
+use Rattle.executor_model.specs.CallsMean.{HasAccepted}
+use Rattle.executor_model.specs.Carried.{awaiter_ops}
+use Rattle.executor_model.specs.Doing.{act, search_by_who}
+use Rattle.executor_model.specs.OutputOnce.{is_output_given}
+use Rattle.executor_model.specs.Trace.{Trace, has, is_accepted}
+use Rattle.executor_model.specs.Weights.{weigh}
+use Rattle.executor_model.specs.World.{World, Ticker, Awake, Asleep, Left, place_of, awaiter_of, task}
+use Rattle.executor_model.proofs.Steps.Asides.{Aside, aside-awaiter, aside-let_go}
+use Rattle.executor_model.proofs.Promises.CallPromises.{made_of, misfit, ready_of}
+use Rattle.executor_model.proofs.Promises.CallPromises.{serves, taking_of, yes_of}
+use Rattle.executor_model.proofs.Promises.CallTold.{added, itself}
+use Rattle.executor_model.proofs.Quiet.Calls.{calling_of, is_end}
+use Rattle.executor_model.proofs.Quiet.CallsGroups.{calls-act}
+use Rattle.executor_model.proofs.Steps.Lists.{weigh-append, weigh-below}
+use Rattle.executor_model.proofs.Promises.CallPromises.{polls, polls_by, polls_run}
+use Rattle.executor_model.proofs.Quiet.Resting.{calling-is}
+use Rattle.executor_model.proofs.Steps.SleepersNext.{goes-unseen}
+use Rattle.executor_model.proofs.Steps.Tests.{or-left}
+
+few-made : (o : Op) → made_of o ≤ calling_of o
+few-made (op.End reply.Made held) = omega arith
+few-made _ = omega arith
+
+few-ready : (o : Op) → ready_of o ≤ calling_of o
+few-ready (op.End reply.Ready held) = omega arith
+few-ready _ = omega arith
+
+-- no other call polls a tick or run
+pub no-poll : (who : TickOrRun) (c : Call) → polls c ≡ false → polls_run c ≡ false → polls_by who c ≡ true → ⊥
+no-poll (tick_or_run.Tick t) c a b e = let no : true ≡ false = sym e ∙ a in absurd (cc)
+no-poll (tick_or_run.Run r) c a b e = let no : true ≡ false = sym e ∙ b in absurd (cc)
+
+-- a spawn
+
+enters : (a b : Bool) (p : ℕ) (w : World) (more : Trace) → (enter_by a b p w).world.trace ≡ w.trace ++ more →
+    (weigh made_of (enter_by a b p w).next ≡ 0) ⊎ HasAccepted more
+enters true b p w more g = inl refl
+enters false true p w more g = inl refl
+enters false false p w more g = inr (
+  length w.tasks,
+  subst (λ (t : Trace). has (is_accepted (length w.tasks)) t ≡ true)
+      (added w.trace more (event.Accepted p (length w.tasks) ∷ []) _ g refl)
+      (or-left (eqb (length w.tasks) (length w.tasks)) false (itself (length w.tasks))),
+)
+
+spawns-by : (p : ℕ) (h : Hint) (o : Op) (w : World) (more : Trace) → calling_of o ≡ 1 → serves o call.Spawn ≡ true →
+    is_end o ≡ false → (act p h o w).world.trace ≡ w.trace ++ more →
+    (weigh made_of (act p h o w).next ≡ 0) ⊎ HasAccepted more
+spawns-by p h (op.Table table_op.Enter) w more a e n g = enters _ _ p w more g
+spawns-by p h (op.List (list_op.LockWrite section.MakeRun)) w more a e n g = absurd (cc)
+spawns-by p h (op.List (list_op.LockWrite (section.Register x))) w more a e n g = absurd (cc)
+spawns-by p h (op.List (list_op.LockWrite (section.Unregister r x))) w more a e n g = absurd (cc)
+spawns-by p h (op.List (list_op.Write section.MakeRun)) w more a e n g = absurd (cc)
+spawns-by p h (op.List (list_op.Write (section.Register x))) w more a e n g = absurd (cc)
+spawns-by p h (op.List (list_op.Write (section.Unregister r x))) w more a e n g = absurd (cc)
+spawns-by p h (op.Handle (handle_op.Look x k)) w more a e n g = absurd (cc)
+spawns-by p h (op.Handle (handle_op.CopyAwaiter x k)) w more a e n g = absurd (cc)
+spawns-by p h (op.Handle (handle_op.Register x k i)) w more a e n g = absurd (cc)
+spawns-by p h (op.Handle (handle_op.EndRegister x k i)) w more a e n g = absurd (cc)
+spawns-by p h (op.Handle (handle_op.LookAgain x)) w more a e n g = absurd (cc)
+spawns-by p h (op.Table table_op.LookAtTable) w more a e n g = absurd (cc)
+spawns-by p h (op.Queue queue_op.Take) w more a e n g = absurd (cc)
+spawns-by p h (op.Waker (waker_op.CopyWaker x held)) w more a e n g = absurd (cc)
+spawns-by p h (op.Tick tick_op.MakeTick) w more a e n g = absurd (cc)
+spawns-by p h (op.Tick (tick_op.Search s)) w more a e n g = absurd (no-poll s.who call.Spawn refl refl e)
+spawns-by p h (op.Tick (tick_op.CopyWaker s)) w more a e n g = absurd (no-poll s.who call.Spawn refl refl e)
+spawns-by p h (op.Tick (tick_op.FallAsleep s)) w more a e n g = absurd (no-poll s.who call.Spawn refl refl e)
+spawns-by p h (op.User (user_op.PollOwn x)) w more a e n g = absurd (cc)
+spawns-by p h (op.List (list_op.LockRead x)) w more a e n g = absurd (cc)
+spawns-by p h (op.Steal o) w more a e n g = absurd (cc)
+spawns-by p h (op.Run run_op.MakeRoom) w more a e n g = absurd (cc)
+spawns-by p h (op.Run (run_op.SearchCommon x)) w more a e n g = absurd (cc)
+spawns-by p h (op.Run (run_op.LookOwn x at left)) w more a e n g = absurd (cc)
+spawns-by p h (op.Run (run_op.WakeOwn x)) w more a e n g = absurd (cc)
+spawns-by p h (op.Run (run_op.Reschedule r x)) w more a e n g = absurd (cc)
+spawns-by p h (op.End r held) w more a e n g = absurd (cc)
+spawns-by p h _ w more a e n g = absurd (cc)
+
+pub served : (b : Bool) → (let n : ℕ = cond b 0 1 in n) ≡ 0 → b ≡ true
+served true e = refl
+served false e = absurd (omega (arith, e))
+
+pub spawn-turns : (p : ℕ) (h : Hint) (o : Op) (w : World) (more : Trace) → is_end o ≡ false → misfit call.Spawn o ≡ 0 →
+    (act p h o w).world.trace ≡ w.trace ++ more → (weigh made_of (act p h o w).next ≡ 0) ⊎ HasAccepted more
+spawn-turns p h o w more n e g = ⊎_elim
+    (λ (z : calling_of o ≡ 0).
+    inl (omega (arith, weigh-below made_of calling_of few-made (act p h o w).next, (calls-act p h o w n).passes.none z)))
+    (λ (z : calling_of o ≡ 1). spawns-by p h o w more z (served (serves o call.Spawn) e) n g) (calling-is o)
+
+-- a poll of a handle
+
+ready-aside : Aside ready_of
+ready-aside = record {
+  move = λ m f. refl;
+  append = λ f. refl;
+  poll = λ f. refl;
+  drop = λ f. refl;
+  output = λ f. refl;
+  notify = λ f mine. refl;
+  call = λ f a k. refl;
+}
+
+-- where it is answered, its answer is an output that was given, or no output
+unready : (f : ℕ) (m : Moved) (a : Answer) → ready_of (op.End (reply_of a) (hold.Handle f)) ≡ 0 →
+    weigh ready_of (awaiter_ops f m.owed.awaiter ++ op.End (reply_of a) (hold.Handle f) ∷ []) ≡ 0
+unready f m a z =
+    omega (
+      arith,
+      weigh-append ready_of (awaiter_ops f m.owed.awaiter) (op.End (reply_of a) (hold.Handle f) ∷ []),
+      aside-awaiter ready_of ready-aside f m.owed.awaiter,
+      z,
+    )
+
+looks : (o : Option Answer) (p : ℕ) (w : World) (f g : ℕ) (a : Waker) (m : Moved) (more : Trace) → eqb f g ≡ true →
+    (look_by o p w g a m).world.trace ≡ w.trace ++ more →
+    (weigh ready_of (look_by o p w g a m).next ≡ 0) ⊎ (has (is_output_given f) more ≡ true)
+looks None p w f g a m more i e = inl refl
+looks (Some Refused) p w f g a m more i e = inl (unready g m Refused refl)
+looks (Some Pending) p w f g a m more i e = inl (unready g m Pending refl)
+looks (Some Closed) p w f g a m more i e = inl (unready g m Closed refl)
+looks (Some Output) p w f g a m more i e = inr (subst (λ (t : Trace). has (is_output_given f) t ≡ true)
+    (added w.trace more (event.HandlePolled p g ∷ event.OutputGiven p g ∷ []) _ e
+    (append_assoc w.trace (event.HandlePolled p g ∷ []) (event.OutputGiven p g ∷ [])))
+    (or-left (eqb f g) false i))
+
+looks-again : (o : Option Answer) (p : ℕ) (w : World) (f g : ℕ) (m : Moved) (more : Trace) → eqb f g ≡ true →
+    (look_again_by o p w g m).world.trace ≡ w.trace ++ more →
+    (weigh ready_of (look_again_by o p w g m).next ≡ 0) ⊎ (has (is_output_given f) more ≡ true)
+looks-again None p w f g m more i e = inl refl
+looks-again (Some Refused) p w f g m more i e = inl (unready g m Refused refl)
+looks-again (Some Pending) p w f g m more i e = inl (unready g m Pending refl)
+looks-again (Some Closed) p w f g m more i e = inl (unready g m Closed refl)
+looks-again (Some Output) p w f g m more i e = inr (subst (λ (t : Trace). has (is_output_given f) t ≡ true)
+    (added w.trace more (event.OutputGiven p g ∷ []) _ e refl)
+    (or-left (eqb f g) false i))
+
+copies-unready : (b : Bool) (p : ℕ) (w : World) (f : ℕ) (a : Waker) → weigh ready_of (copy_awaiter_by b p w f a).next ≡ 0
+copies-unready true p w f a = refl
+copies-unready false p w f a = refl
+
+registers-unready : (b : Bool) (w : World) (f : ℕ) (a : Waker) (k : ℕ) → weigh ready_of (register_by b w f a k).next ≡ 0
+registers-unready true w f a k = refl
+registers-unready false w f a k = refl
+
+lets-unready : (w : World) (f : ℕ) → weigh ready_of (let_go (awaiter_of w f) ++ op.Handle (handle_op.LookAgain f) ∷ []) ≡ 0
+lets-unready w f =
+    omega (
+      arith,
+      weigh-append ready_of (let_go (awaiter_of w f)) (op.Handle (handle_op.LookAgain f) ∷ []),
+      aside-let_go ready_of ready-aside (awaiter_of w f),
+    )
+
+ends-unready : (b : Bool) (w : World) (f : ℕ) (a : Waker) (k : ℕ) → weigh ready_of (end_register_by b w f a k).next ≡ 0
+ends-unready true w f a k = omega (arith, lets-unready w f)
+ends-unready false w f a k = lets-unready w f
+
+polls-by : (p : ℕ) (h : Hint) (o : Op) (w : World) (f : ℕ) (b : By) (more : Trace) →
+    calling_of o ≡ 1 → serves o (call.PollHandle f b) ≡ true → is_end o ≡ false →
+    (act p h o w).world.trace ≡ w.trace ++ more →
+    (weigh ready_of (act p h o w).next ≡ 0) ⊎ (has (is_output_given f) more ≡ true)
+polls-by p h (op.Handle (handle_op.Look g a)) w f b more c e n t =
+    looks (moves.poll (task w g)).owed.answer p w f g a (moves.poll (task w g)) more e t
+polls-by p h (op.Handle (handle_op.CopyAwaiter g a)) w f b more c e n t = inl (copies-unready _ p w g a)
+polls-by p h (op.Handle (handle_op.Register g a k)) w f b more c e n t = inl (registers-unready _ w g a k)
+polls-by p h (op.Handle (handle_op.EndRegister g a k)) w f b more c e n t = inl (ends-unready _ w g a k)
+polls-by p h (op.Handle (handle_op.LookAgain g)) w f b more c e n t =
+    looks-again (moves.look_again (task w g)).owed.answer p w f g (moves.look_again (task w g)) more e t
+polls-by p h (op.List (list_op.LockWrite section.MakeRun)) w f b more c e n t = absurd (cc)
+polls-by p h (op.List (list_op.LockWrite (section.Register x))) w f b more c e n t = absurd (cc)
+polls-by p h (op.List (list_op.LockWrite (section.Unregister r x))) w f b more c e n t = absurd (cc)
+polls-by p h (op.List (list_op.Write section.MakeRun)) w f b more c e n t = absurd (cc)
+polls-by p h (op.List (list_op.Write (section.Register x))) w f b more c e n t = absurd (cc)
+polls-by p h (op.List (list_op.Write (section.Unregister r x))) w f b more c e n t = absurd (cc)
+polls-by p h (op.Table table_op.Enter) w f b more c e n t = absurd (cc)
+polls-by p h (op.Table table_op.LookAtTable) w f b more c e n t = absurd (cc)
+polls-by p h (op.Queue queue_op.Take) w f b more c e n t = absurd (cc)
+polls-by p h (op.Waker (waker_op.CopyWaker x held)) w f b more c e n t = absurd (cc)
+polls-by p h (op.Tick tick_op.MakeTick) w f b more c e n t = absurd (cc)
+polls-by p h (op.Tick (tick_op.Search s)) w f b more c e n t = absurd (no-poll s.who (call.PollHandle f b) refl refl e)
+polls-by p h (op.Tick (tick_op.CopyWaker s)) w f b more c e n t = absurd (no-poll s.who (call.PollHandle f b) refl refl e)
+polls-by p h (op.Tick (tick_op.FallAsleep s)) w f b more c e n t = absurd (no-poll s.who (call.PollHandle f b) refl refl e)
+polls-by p h (op.User (user_op.PollOwn x)) w f b more c e n t = absurd (cc)
+polls-by p h (op.List (list_op.LockRead x)) w f b more c e n t = absurd (cc)
+polls-by p h (op.Steal o) w f b more c e n t = absurd (cc)
+polls-by p h (op.Run run_op.MakeRoom) w f b more c e n t = absurd (cc)
+polls-by p h (op.Run (run_op.SearchCommon x)) w f b more c e n t = absurd (cc)
+polls-by p h (op.Run (run_op.LookOwn x at left)) w f b more c e n t = absurd (cc)
+polls-by p h (op.Run (run_op.WakeOwn x)) w f b more c e n t = absurd (cc)
+polls-by p h (op.Run (run_op.Reschedule r x)) w f b more c e n t = absurd (cc)
+polls-by p h (op.End r held) w f b more c e n t = absurd (cc)
+polls-by p h _ w f b more c e n t = absurd (cc)
+
+pub poll-turns : (p : ℕ) (h : Hint) (o : Op) (w : World) (f : ℕ) (b : By) (more : Trace) →
+    is_end o ≡ false → misfit (call.PollHandle f b) o ≡ 0 → (act p h o w).world.trace ≡ w.trace ++ more →
+    (weigh ready_of (act p h o w).next ≡ 0) ⊎ (has (is_output_given f) more ≡ true)
+poll-turns p h o w f b more n e g = ⊎_elim
+    (λ (z : calling_of o ≡ 0).
+    inl (omega (arith, weigh-below ready_of calling_of few-ready (act p h o w).next, (calls-act p h o w n).passes.none z)))
+    (λ (z : calling_of o ≡ 1). polls-by p h o w f b more z (served (serves o (call.PollHandle f b)) e) n g)
+    (calling-is o)
+
+-- a tick that is tried
+
+takes : (q : List ℕ) (w : World) → (weigh yes_of (take_by w q).next ≡ 0) ⊎ (1 ≤ weigh taking_of (take_by w q).next)
+takes [] w = inl refl
+takes (f ∷ rest) w = inr (omega arith)
+
+few-yes : (o : Op) → yes_of o ≤ calling_of o
+few-yes (op.End reply.Yes held) = omega arith
+few-yes _ = omega arith
+
+tries-by : (p : ℕ) (h : Hint) (o : Op) (w : World) → calling_of o ≡ 1 → serves o call.TryTick ≡ true →
+    is_end o ≡ false → (weigh yes_of (act p h o w).next ≡ 0) ⊎ (1 ≤ weigh taking_of (act p h o w).next)
+tries-by p h (op.Queue queue_op.Take) w a e n = takes _ w
+tries-by p h (op.Table table_op.Enter) w a e n = absurd (cc)
+tries-by p h (op.Table table_op.LookAtTable) w a e n = absurd (cc)
+tries-by p h (op.Waker (waker_op.CopyWaker x held)) w a e n = absurd (cc)
+tries-by p h (op.Handle (handle_op.Look x k)) w a e n = absurd (cc)
+tries-by p h (op.Handle (handle_op.CopyAwaiter x k)) w a e n = absurd (cc)
+tries-by p h (op.Handle (handle_op.Register x k i)) w a e n = absurd (cc)
+tries-by p h (op.Handle (handle_op.EndRegister x k i)) w a e n = absurd (cc)
+tries-by p h (op.Handle (handle_op.LookAgain x)) w a e n = absurd (cc)
+tries-by p h (op.Tick tick_op.MakeTick) w a e n = absurd (cc)
+tries-by p h (op.Tick (tick_op.Search s)) w a e n = absurd (no-poll s.who call.TryTick refl refl e)
+tries-by p h (op.Tick (tick_op.CopyWaker s)) w a e n = absurd (no-poll s.who call.TryTick refl refl e)
+tries-by p h (op.Tick (tick_op.FallAsleep s)) w a e n = absurd (no-poll s.who call.TryTick refl refl e)
+tries-by p h (op.User (user_op.PollOwn x)) w a e n = absurd (cc)
+tries-by p h (op.List (list_op.LockWrite section.MakeRun)) w a e n = absurd (cc)
+tries-by p h (op.List (list_op.LockWrite (section.Register x))) w a e n = absurd (cc)
+tries-by p h (op.List (list_op.LockWrite (section.Unregister r x))) w a e n = absurd (cc)
+tries-by p h (op.List (list_op.Write section.MakeRun)) w a e n = absurd (cc)
+tries-by p h (op.List (list_op.Write (section.Register x))) w a e n = absurd (cc)
+tries-by p h (op.List (list_op.Write (section.Unregister r x))) w a e n = absurd (cc)
+tries-by p h (op.List (list_op.LockRead x)) w a e n = absurd (cc)
+tries-by p h (op.Steal o) w a e n = absurd (cc)
+tries-by p h (op.Run run_op.MakeRoom) w a e n = absurd (cc)
+tries-by p h (op.Run (run_op.SearchCommon x)) w a e n = absurd (cc)
+tries-by p h (op.Run (run_op.LookOwn x at left)) w a e n = absurd (cc)
+tries-by p h (op.Run (run_op.WakeOwn x)) w a e n = absurd (cc)
+tries-by p h (op.Run (run_op.Reschedule r x)) w a e n = absurd (cc)
+tries-by p h (op.End r held) w a e n = absurd (cc)
+tries-by p h _ w a e n = absurd (cc)
+
+pub yes-turn : (p : ℕ) (h : Hint) (o : Op) (w : World) → is_end o ≡ false → misfit call.TryTick o ≡ 0 →
+    (weigh yes_of (act p h o w).next ≡ 0) ⊎ (1 ≤ weigh taking_of (act p h o w).next)
+yes-turn p h o w n e = ⊎_elim
+    (λ (z : calling_of o ≡ 0).
+    inl (omega (arith, weigh-below yes_of calling_of few-yes (act p h o w).next, (calls-act p h o w n).passes.none z)))
+    (λ (z : calling_of o ≡ 1). tries-by p h o w z (served (serves o call.TryTick) e) n) (calling-is o)
+
+-- a poll of a tick
+
+ticks-search : (x : Ticker) (q : List ℕ) (w : World) (s : Sleeping) →
+    (weigh ready_of (search_by x w q s).next ≡ 0) ⊎ (1 ≤ weigh taking_of (search_by x w q s).next)
+ticks-search x [] w s = inl refl
+ticks-search Awake (f ∷ rest) w s = inr (omega arith)
+ticks-search (Asleep n) (f ∷ rest) w s = inr (omega arith)
+ticks-search Left (f ∷ rest) w s = inr (omega arith)
+
+ticks-who : (who : TickOrRun) (t : ℕ) (b : By) (w : World) (s : Sleeping) → polls_by who (call.PollTick t b) ≡ true →
+    (weigh ready_of (search_by_who who w s).next ≡ 0) ⊎ (1 ≤ weigh taking_of (search_by_who who w s).next)
+ticks-who (tick_or_run.Tick u) t b w s e = ticks-search (place_of w s.who) w.queue.items w s
+ticks-who (tick_or_run.Run r) t b w s e = absurd (cc)
+
+copy-unready : (b : Bool) (w : World) (s : Sleeping) → weigh ready_of (copy_sleeper_by b w s).next ≡ 0
+copy-unready true w s = refl
+copy-unready false w s = refl
+
+anew-unready : (b : Bool) (w : World) (s : Sleeping) → weigh ready_of (sleep_anew_by b w s).next ≡ 0
+anew-unready true w s = refl
+anew-unready false w s = refl
+
+listed-unready : (b : Bool) (w : World) (n : ℕ) (s : Sleeping) → weigh ready_of (sleep_listed_by b w n s).next ≡ 0
+listed-unready true w n s = refl
+listed-unready false w n s = refl
+
+again-unready : (o : Option ℕ) (w : World) (n : ℕ) (s : Sleeping) → weigh ready_of (sleep_again_by o w n s).next ≡ 0
+again-unready None w n s = listed-unready _ w n s
+again-unready (Some at) w n s = let old = waker_at (Some at) w.sleepers.wakers in
+    omega (
+      arith,
+      weigh-append ready_of (sleeper_goes old) (pend_as s.who),
+      goes-unseen ready_of (λ f. refl) old,
+    )
+
+sleep-unready : (x : Ticker) (w : World) (s : Sleeping) → weigh ready_of (fall_asleep_by x w s).next ≡ 0
+sleep-unready Awake w s = anew-unready _ w s
+sleep-unready (Asleep n) w s = again-unready _ w n s
+sleep-unready Left w s = refl
+
+ticks-by : (p : ℕ) (h : Hint) (o : Op) (t : ℕ) (b : By) (w : World) → calling_of o ≡ 1 →
+    serves o (call.PollTick t b) ≡ true → is_end o ≡ false →
+    (weigh ready_of (act p h o w).next ≡ 0) ⊎ (1 ≤ weigh taking_of (act p h o w).next)
+ticks-by p h (op.Tick (tick_op.Search s)) t b w a e n = ticks-who s.who t b w s e
+ticks-by p h (op.Tick (tick_op.CopyWaker s)) t b w a e n = inl (copy-unready _ w s)
+ticks-by p h (op.Tick (tick_op.FallAsleep s)) t b w a e n = inl (sleep-unready _ w s)
+ticks-by p h (op.Table table_op.Enter) t b w a e n = absurd (cc)
+ticks-by p h (op.Table table_op.LookAtTable) t b w a e n = absurd (cc)
+ticks-by p h (op.Queue queue_op.Take) t b w a e n = absurd (cc)
+ticks-by p h (op.Waker (waker_op.CopyWaker x held)) t b w a e n = absurd (cc)
+ticks-by p h (op.Handle (handle_op.Look x k)) t b w a e n = absurd (cc)
+ticks-by p h (op.Handle (handle_op.CopyAwaiter x k)) t b w a e n = absurd (cc)
+ticks-by p h (op.Handle (handle_op.Register x k i)) t b w a e n = absurd (cc)
+ticks-by p h (op.Handle (handle_op.EndRegister x k i)) t b w a e n = absurd (cc)
+ticks-by p h (op.Handle (handle_op.LookAgain x)) t b w a e n = absurd (cc)
+ticks-by p h (op.Tick tick_op.MakeTick) t b w a e n = absurd (cc)
+ticks-by p h (op.User (user_op.PollOwn x)) t b w a e n = absurd (cc)
+ticks-by p h (op.List (list_op.LockWrite section.MakeRun)) t b w a e n = absurd (cc)
+ticks-by p h (op.List (list_op.LockWrite (section.Register x))) t b w a e n = absurd (cc)
+ticks-by p h (op.List (list_op.LockWrite (section.Unregister r x))) t b w a e n = absurd (cc)
+ticks-by p h (op.List (list_op.Write section.MakeRun)) t b w a e n = absurd (cc)
+ticks-by p h (op.List (list_op.Write (section.Register x))) t b w a e n = absurd (cc)
+ticks-by p h (op.List (list_op.Write (section.Unregister r x))) t b w a e n = absurd (cc)
+ticks-by p h (op.List (list_op.LockRead x)) t b w a e n = absurd (cc)
+ticks-by p h (op.Steal o) t b w a e n = absurd (cc)
+ticks-by p h (op.Run run_op.MakeRoom) t b w a e n = absurd (cc)
+ticks-by p h (op.Run (run_op.SearchCommon x)) t b w a e n = absurd (cc)
+ticks-by p h (op.Run (run_op.LookOwn x at left)) t b w a e n = absurd (cc)
+ticks-by p h (op.Run (run_op.WakeOwn x)) t b w a e n = absurd (cc)
+ticks-by p h (op.Run (run_op.Reschedule r x)) t b w a e n = absurd (cc)
+ticks-by p h (op.End r held) t b w a e n = absurd (cc)
+ticks-by p h _ t b w a e n = absurd (cc)
+
+pub tick-turn : (p : ℕ) (h : Hint) (o : Op) (t : ℕ) (b : By) (w : World) → is_end o ≡ false →
+    misfit (call.PollTick t b) o ≡ 0 →
+    (weigh ready_of (act p h o w).next ≡ 0) ⊎ (1 ≤ weigh taking_of (act p h o w).next)
+tick-turn p h o t b w n e = ⊎_elim
+    (λ (z : calling_of o ≡ 0).
+    inl (omega (arith, weigh-below ready_of calling_of few-ready (act p h o w).next, (calls-act p h o w n).passes.none z)))
+    (λ (z : calling_of o ≡ 1). ticks-by p h o t b w z (served (serves o (call.PollTick t b)) e) n) (calling-is o)

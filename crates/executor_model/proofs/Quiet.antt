@@ -1,0 +1,8 @@
+-- Which calls are in progress, and that nobody has anything to do where none is: quiet_emptiness_is_exact,
+-- outputs_are_kept, awaiters_are_kept and own_queues_agree.
+pub mod Calls
+pub mod RunsCalls
+pub mod SleepersCalls
+pub mod CallsGroups
+pub mod Resting
+pub mod CallsDone

@@ -1,0 +1,13 @@
+-- Futures enter the table within its limit, and are dropped once: table_and_queue_agree, no_append_is_refused_full,
+-- the_limit_is_exact, drops_come_once, early_drops_have_causes and closing_drops_each_future_once.
+pub mod Leaving
+pub mod LeavingViews
+pub mod LeavingAll
+pub mod Borrowing
+pub mod Tidying
+pub mod RunsTidying
+pub mod SleepersTidying
+pub mod TidyingGroups
+pub mod LeavingExecutions
+pub mod Entering
+pub mod Spawning

@@ -1,5 +1,0 @@
-pub mod Lists
-pub mod Taking
-pub mod Walking
-pub mod Lodging
-mod Leaving

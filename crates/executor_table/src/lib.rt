@@ -1,7 +1,0 @@
-//! The table of the step machine, whose futures are numbers: `Places` of `executor_parts`, and where the entry of each
-//! future is.
-#![tactic(auto)]
-
-mod entries;
-
-pub use entries::Entries;

@@ -1,5 +1,0 @@
-//! Laws of every run of the step machine of `executor_model`, of any number of parties and any list of steps: those
-//! that stand beside its invariant. A crate of its own so that its proofs are checked beside others.
-#![tactic(auto)]
-
-pub mod laws;

@@ -7,14 +7,14 @@ use Rattle.async_executor.specs.declared.call.Polled.{Polled}
 use Rattle.async_executor.specs.declared.errors.RunError.{RunError}
 use Rattle.async_executor.specs.declared.errors.RunError.TheVariants.{NoMemory, Finished}
 use Rattle.async_executor.specs.declared.ticker.Ticker.{Ticker}
-use Rattle.async_executor.specs.declared.ticker.Ticker.TheVariants.{Up, Lies, Left}
+use Rattle.async_executor.specs.declared.ticker.Ticker.TheVariants.{Awake, Asleep, Left}
 use Rattle.async_task.specs.declared.poll.Poll.{Poll}
 use Rattle.async_task.specs.declared.poll.Poll.TheVariants.{Ready, Pending}
 
 -- it has left the sleepers for good
 abbrev pub has_left : Ticker → Bool
-has_left (Up room) = false
-has_left (Lies sleeper) = false
+has_left (Awake room) = false
+has_left (Asleep sleeper) = false
 has_left Left = true
 
 -- a call of this poll ended so, and the poll with it

@@ -31,8 +31,8 @@ pub struct Call {
     searched: Snapshot<bool>,
     // Whether it closed the executor's queue, and hasn't found it empty since.
     undrained: Snapshot<bool>,
-    // Whether it lies among the sleepers as it did before, with its waker.
-    lies: Snapshot<bool>,
+    // Whether it is among the sleepers as it did before, with its waker.
+    sleeps: Snapshot<bool>,
     // Whether it asked for memory, and was refused.
     wanted: Snapshot<bool>,
 }
@@ -42,8 +42,8 @@ pub struct Call {
 pub enum Ending {
     /// A Runnable was taken from a queue, and run.
     Ran,
-    /// The executor's queue was found empty, and it lay among the sleepers already: its waker is there now.
-    Lies,
+    /// The executor's queue was found empty, and it was among the sleepers already: its waker is there now.
+    Asleep,
     /// The executor's queue was found empty, and its waker, which can't be kept, was called.
     Called,
     /// Memory was wanted.
@@ -122,7 +122,7 @@ impl Model for Call {
       flag = c.flag.value;
       searched = c.searched.value;
       undrained = c.undrained.value;
-      lies = c.lies.value;
+      sleeps = c.sleeps.value;
       wanted = c.wanted.value;
     } };
 }
@@ -141,7 +141,7 @@ impl Call {
             flag: Snapshot::of(&None),
             searched: Snapshot::of(&false),
             undrained: Snapshot::of(&false),
-            lies: Snapshot::of(&false),
+            sleeps: Snapshot::of(&false),
             wanted: Snapshot::of(&false),
         }
     }
@@ -174,7 +174,7 @@ impl Call {
             flag: _,
             searched: _,
             undrained: _,
-            lies: _,
+            sleeps: _,
             wanted: _,
         } = self;
     }
@@ -200,15 +200,15 @@ impl Call {
         Last::of(Ending::Ran)
     }
 
-    /// Nothing was found, and it lies among the sleepers: the call ends.
+    /// Nothing was found, and it is among the sleepers: the call ends.
     pub fn rest(self) -> Last
         requires searched { self.searched ≡ true }
-        requires lies { self.lies ≡ true }
+        requires sleeps { self.sleeps ≡ true }
         requires done { IsDone self }
-        ensures { result ≡ Ending.Lies }
+        ensures { result ≡ Ending.Asleep }
     {
         self.end();
-        Last::of(Ending::Lies)
+        Last::of(Ending::Asleep)
     }
 
     /// Nothing was found, and its waker is called: the call ends.
@@ -355,11 +355,11 @@ impl Call {
         self.owes = Snapshot::of(&was_told);
     }
 
-    /// One that lay among the sleepers lies there with another waker.
-    pub fn lie_on(&mut self)
-        ensures { self.new ≡ record self.old { lies = true } }
+    /// One that was among the sleepers sleeps there with another waker.
+    pub fn sleep_on(&mut self)
+        ensures { self.new ≡ record self.old { sleeps = true } }
     {
-        self.lies = Snapshot::of(&true);
+        self.sleeps = Snapshot::of(&true);
     }
 
     /// What the flag becomes.

@@ -48,6 +48,11 @@ impl ClosesReturned {
         self.close(rt, realm, unlocked).spend();
         let ClosesReturned { own: () } = self;
     }
+
+    /// Of a static executor, which never ends.
+    pub fn forget(self) {
+        let ClosesReturned { own: () } = self;
+    }
 }
 
 impl HasClosed {

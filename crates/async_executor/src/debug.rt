@@ -1,9 +1,12 @@
 //! What the text of an executor shows.
-use crate::entry::{Executor, Unlocked};
+use crate::body::Body;
+use crate::entry::Unlocked;
 use crate::locks::ReadWrite;
+use crate::names::TableWaker;
 use crate::own_queues::OwnQueues;
 use crate::state::Queue;
 use async_task::Wake;
+use executor_parts::Places;
 use std::alloc::Global;
 use std::fmt;
 use std::sync::{Arc, Wait};
@@ -62,28 +65,29 @@ impl<R: Wait> fmt::Debug for LocalRunners<'_, R> {
     }
 }
 
-impl<F, T, W, R> Executor<F, T, W, R>
+impl<F, T, W, R> Body<F, T, W, R>
 where
     F: Drop,
     T: Drop + 'static,
     W: Wake + Drop + 'static,
     R: Wait + Copy + Drop + 'static,
 {
-    /// Writes what it shows.
+    /// Writes what an executor of this name shows.
     pub(crate) fn show<O: fmt::Write>(
         &self,
+        name: &str,
         f: &mut fmt::Formatter<O>,
         unlocked: &mut Unlocked,
     ) -> fmt::Result {
         let active = match self.table.try_lock(unlocked) {
-            Some(mut table) => Some(table.get().len()),
+            Some(mut table) => Some(self.wakers_of(table.get())),
             None => None,
         };
         let sleepers = match self.state.sleepers.try_lock(unlocked) {
             Some(mut sleepers) => Some(sleepers.get().count()),
             None => None,
         };
-        let mut text = f.debug_struct("Executor");
+        let mut text = f.debug_struct(name);
         match active {
             Some(active) => text.field("active", &active),
             None => text.field("active", &Locked),
@@ -101,5 +105,10 @@ where
             None => text.field("sleepers", &Locked),
         };
         text.finish()
+    }
+
+    /// How many wakers its table has: one of each future, and none where it is static.
+    fn wakers_of(&self, table: &Places<F, TableWaker>) -> usize {
+        if self.is_static { 0 } else { table.len() }
     }
 }

@@ -1,6 +1,6 @@
 //! What a user has and calls. Each call begins with no lock in hand, which it says by an `Unlocked`: none but these can make
 //! one.
-ghost use Rattle.std.specs.Prelude.{◌≡◌, false, Some, IfOk, IfErr, length};
+ghost use Rattle.std.specs.Prelude.{◌≡◌, true, false, Some, IfOk, IfErr, length};
 ghost use Rattle.std.specs.Iterator.{IsFinite};
 ghost use Rattle.async_executor.specs.Counting.{GoesOn};
 ghost use Rattle.async_executor.specs.Errors.{refused};
@@ -9,26 +9,26 @@ ghost use Rattle.async_executor.specs.Polls.{has_left, HasLeft, IsRunAnswer, IsT
 ghost use Rattle.async_executor.specs.Seeds.{seeded};
 ghost use Rattle.async_executor.specs.Spawning.{SpawnsMany};
 
+use crate::body::Body;
 use crate::call::{Counts, Polled};
-use crate::closing::ClosesReturned;
 use crate::debug::LocalRunners;
 use crate::errors::{RunError, SpawnError};
 use crate::foreign::Foreign;
 use crate::handles::Handles;
 use crate::leaving::Leaving;
-use crate::locks::Guarded;
-use crate::names::{ExRealm, ExScheduled, ExTask, ExWaker};
+use crate::names::{ExScheduled, ExTask, ExWaker};
 use crate::queue::ExQueue;
 use crate::runner::Runner;
-use crate::state::State;
 use crate::ticker::Ticker;
 use crate::{executor, run};
 use async_task::{Future, NoMemory, Poll, Returning, Schedule, ScheduleInfo, StoredWaker, Wake};
-use executor_parts::Places;
-use std::alloc::Global;
 use std::collections::VecDeque;
 use std::fmt;
-use std::sync::{Arc, Wait};
+use std::sync::Wait;
+
+mod static_executor;
+
+pub use static_executor::StaticExecutor;
 
 /// Says that a party has none of an executor's locks. It has no bytes: whoever takes a lock has it lent for as long as the lock
 /// is taken, and what calls, copies or drops a value of a user's is lent it.
@@ -52,15 +52,9 @@ where
     W: Wake + Drop + 'static,
     R: Wait + Copy + Drop + 'static,
 {
-    pub(crate) realm: &'static ExRealm<T, W, R>,
-    pub(crate) state: Arc<State<W>, Global>,
-    pub(crate) table: Guarded<Places<F, Returning<StoredWaker>>>,
+    pub(crate) body: Body<F, T, W, R>,
     /// Empty: room for the wakers that the executor's drop takes out of the table.
     pub(crate) leaving: VecDeque<Returning<StoredWaker>>,
-    /// What was let go of tasks in its realm is to be closed.
-    pub(crate) returned: ClosesReturned,
-    pub(crate) rt: R,
-    pub(crate) alloc: Global,
 }
 
 impl<F, T, W, R> Executor<F, T, W, R>
@@ -72,7 +66,7 @@ where
 {
     /// Whether each future that was accepted is dropped. It takes no memory.
     pub fn is_empty(&self) -> bool {
-        self.has_none(&mut Unlocked::at_entry())
+        self.body.has_none(&mut Unlocked::at_entry())
     }
 
     /// Hands the executor a future. Its task is queued, and the handle is answered: a future with the output, whose drop
@@ -80,9 +74,9 @@ where
     /// for the task. The future comes back.
     pub fn spawn(&self, future: F) -> Result<ExTask<T, W, R>, SpawnError<F>>
         ensures future { IfErr result (λ error. refused error ≡ future) }
-        ensures here { IfOk result (λ task. task.identity.realm ≡ self.now.realm.now.number) }
+        ensures here { IfOk result (λ task. task.identity.realm ≡ self.now.body.realm.now.number) }
     {
-        self.hand_in(future, &mut Unlocked::at_entry())
+        self.body.hand_in(future, &mut Unlocked::at_entry())
     }
 
     /// Hands the executor one future after the other, until the iterator ends or one is refused. The handles of those that
@@ -94,10 +88,10 @@ where
     ) -> (Handles<T, W, R>, Result<(), SpawnError<F>>)
         requires { I.can_next futures.old × IsFinite (I.remaining futures.old) }
         ensures taken { SpawnsMany I.next_gives futures.old futures.new (length result.0.tasks) result.1 }
-        ensures here { result.0.realm ≡ self.now.realm.now.number }
+        ensures here { result.0.realm ≡ self.now.body.realm.now.number }
     {
-        let mut handles = Handles::new(self.rt, self.alloc, self.realm);
-        for _ in self.rt.forever() {
+        let mut handles = Handles::new(self.body.rt, self.body.alloc, self.body.realm);
+        for _ in self.body.rt.forever() {
             let Some(future) = futures.next() else {
                 return (handles, Ok(()));
             };
@@ -114,14 +108,14 @@ where
 
     /// Runs one task, where one is queued, and says whether it did. It doesn't wait for one, and takes no memory.
     pub fn try_tick(&self) -> bool {
-        self.run_one(&mut Unlocked::at_entry())
+        self.body.run_one(&mut Unlocked::at_entry())
     }
 
     /// A future that waits for a future of the executor which is to be polled, and polls it once.
     pub fn tick(&self) -> Result<Tick<'_, F, T, W, R>, NoMemory>
         ensures { IfOk result (λ tick. has_left tick.ticker ≡ false) }
     {
-        self.make_tick(&mut Unlocked::at_entry())
+        self.body.make_tick(&mut Unlocked::at_entry())
     }
 
     /// A future that runs the executor's futures until this one is ready, and has its output then. For want of memory the
@@ -133,7 +127,7 @@ where
         ensures future { IfOk result (λ run. value_of run.future ≡ Some future) }
         ensures words { IfOk result (λ run. run.runner.words ≡ seeded 0) }
     {
-        self.make_run(future, 0, &mut Unlocked::at_entry())
+        self.body.make_run(future, 0, &mut Unlocked::at_entry())
     }
 
     /// As `run`, with another seed for the places at which it begins to look for tasks of other runs.
@@ -144,7 +138,20 @@ where
         ensures future { IfOk result (λ run. value_of run.future ≡ Some future) }
         ensures words { IfOk result (λ run. run.runner.words ≡ seeded seed) }
     {
-        self.make_run(future, seed, &mut Unlocked::at_entry())
+        self.body.make_run(future, seed, &mut Unlocked::at_entry())
+    }
+
+    /// Makes it a static executor, whose futures nobody has to drop. Each future that was accepted is queued to be polled once
+    /// more, in the order of acceptance. It takes no memory.
+    pub fn leak(self) -> StaticExecutor<F, T, W, R>
+        ensures kind { result.body.is_static ≡ true }
+        ensures here { result.body.realm.now.number ≡ self.body.realm.now.number }
+    {
+        let Executor { body, leaving } = self;
+        drop(leaving);
+        StaticExecutor {
+            body: executor::leak(body, &mut Unlocked::at_entry()),
+        }
     }
 }
 
@@ -158,24 +165,8 @@ where
     /// Drops each future, in the order of acceptance, calls each waker, in that order, and closes each task that is left. It
     /// takes no memory.
     fn drop(self) {
-        let Executor {
-            realm,
-            state,
-            table,
-            leaving,
-            returned,
-            rt,
-            alloc: _,
-        } = self;
-        executor::end(
-            rt,
-            realm,
-            state,
-            table.into_inner(),
-            Leaving::of(leaving),
-            returned,
-            &mut Unlocked::at_entry(),
-        );
+        let Executor { body, leaving } = self;
+        executor::end(body, Leaving::of(leaving), &mut Unlocked::at_entry());
     }
 }
 
@@ -189,7 +180,7 @@ where
     R: Wait + Copy + Drop + 'static,
 {
     fn fmt<O: fmt::Write>(&self, f: &mut fmt::Formatter<O>) -> fmt::Result {
-        self.show(f, &mut Unlocked::at_entry())
+        self.body.show("Executor", f, &mut Unlocked::at_entry())
     }
 }
 
@@ -203,7 +194,7 @@ impl<R: Wait> LocalRunners<'_, R> {
 /// Waits for a future that is to be polled, and polls it once: a future with output `Ok(())`. After it was ready it serves as
 /// a new one. Its drop passes on to another tick or run what it had been told.
 ///
-/// It is made by `Executor::tick`.
+/// It is made by `Executor::tick` or `StaticExecutor::tick`.
 #[must_use]
 pub struct Tick<'a, F, T, W, R>
 where
@@ -212,7 +203,7 @@ where
     W: Wake + Drop + 'static,
     R: Wait + Copy + Drop + 'static,
 {
-    pub(crate) executor: &'a Executor<F, T, W, R>,
+    pub(crate) executor: &'a Body<F, T, W, R>,
     pub(crate) ticker: Ticker,
     /// How its last poll ended.
     pub(crate) polled: Polled,
@@ -227,7 +218,7 @@ where
 {
     type Output = Result<(), NoMemory>;
 
-    /// Runs a task, and is ready, or lies down and is pending.
+    /// Runs a task, and is ready, or falls asleep and is pending.
     fn poll(&mut self, waker: &ExWaker<T, W, R>) -> Poll<Result<(), NoMemory>>
         ensures answer { IsTickAnswer self.old.polled self.new.polled result }
         ensures stays { has_left self.new.ticker ≡ has_left self.old.ticker }
@@ -262,7 +253,7 @@ where
 /// Runs the executor's futures until a future of its own is ready: a future with that one's output. Its drop gives back to
 /// the executor what it had taken to itself.
 ///
-/// It is made by `Executor::run`.
+/// It is made by `Executor::run` or `StaticExecutor::run`.
 #[must_use]
 pub struct Run<'a, F, T, W, R, G>
 where
@@ -272,7 +263,7 @@ where
     R: Wait + Copy + Drop + 'static,
     G: Drop,
 {
-    pub(crate) executor: &'a Executor<F, T, W, R>,
+    pub(crate) executor: &'a Body<F, T, W, R>,
     /// The future that it runs for, until that is ready.
     pub(crate) future: Option<Foreign<G>>,
     pub(crate) runner: Runner,

@@ -1,27 +1,25 @@
-ghost use Rattle.std.specs.Prelude.{◌≡◌, ◌<◌, ◌≤◌, [], true, Some, IfOk, IfErr};
+//! How an executor that isn't static is made and ends, and how it becomes a static one.
+ghost use Rattle.std.specs.Prelude.{◌≡◌, ◌<◌, ◌≤◌, [], true, false, Some, IfOk, map};
 ghost use Rattle.std.specs.VecDeque.{deque_capacity};
 ghost use Rattle.std.specs.Arc.{arc_value};
-ghost use Rattle.async_executor.specs.Errors.{refused};
-ghost use Rattle.async_executor.specs.Stages.{given, closing};
+ghost use Rattle.async_executor.specs.Stages.{closing};
+ghost use Rattle.executor_parts.specs.Places.{unwoken};
 
-use crate::call::{Call, Polled};
-use crate::closing::ClosesReturned;
-use crate::due::{pay, share};
+use crate::body::Body;
+use crate::call::Call;
+use crate::due::pay;
 use crate::entry::{Executor, Unlocked};
-use crate::errors::SpawnError;
 use crate::foreign::Foreign;
 use crate::leaving::Leaving;
 use crate::locks::Guarded;
-use crate::names::{ExRealm, ExRunnable, ExTask, ExWaker};
-use crate::queue::ExQueue;
+use crate::names::{ExRealm, ExWaker, TableWaker};
 use crate::sections;
-use crate::spawning::accept;
 use crate::state::{State, close};
 use async_task::{Future, NoMemory, Returning, StoredWaker, Wake};
 use executor_parts::Places;
 use std::alloc::Global;
 use std::collections::VecDeque;
-use std::sync::{Arc, Wait};
+use std::sync::Wait;
 
 impl<F, T, W, R> Executor<F, T, W, R>
 where
@@ -39,122 +37,28 @@ where
         limit: usize,
     ) -> Result<Self, NoMemory>
         requires { 0 < limit }
-        ensures places { IfOk result (λ executor. (arc_value executor.state).queue.capacity ≡ Some limit) }
-        ensures here { IfOk result (λ executor. executor.realm.now.number ≡ realm.now.number) }
+        ensures places { IfOk result (λ executor. (arc_value executor.body.state).queue.capacity ≡ Some limit) }
+        ensures here { IfOk result (λ executor. executor.body.realm.now.number ≡ realm.now.number) }
+        ensures kind { IfOk result (λ executor. executor.body.is_static ≡ false) }
     {
-        match (
-            State::new(alloc, limit),
-            Places::with_room(alloc, limit),
-            VecDeque::with_capacity(alloc, limit),
-        ) {
-            (Ok(state), Ok(table), Ok(leaving)) => {
-                Executor::of(rt, alloc, realm, state, table, leaving)
-            }
-            _ => Err(NoMemory),
+        let Ok(leaving) = VecDeque::with_capacity(alloc, limit) else {
+            return Err(NoMemory);
+        };
+        match Body::new(rt, alloc, realm, false, limit) {
+            Ok(body) => Ok(Executor::of(body, leaving, limit)),
+            Err(NoMemory) => Err(NoMemory),
         }
     }
 
     /// Of parts that have places for as many futures as one another.
-    fn of(
-        rt: R,
-        alloc: Global,
-        realm: &'static ExRealm<T, W, R>,
-        state: State<W>,
-        table: Places<F, Returning<StoredWaker>>,
-        leaving: VecDeque<Returning<StoredWaker>>,
-    ) -> Result<Self, NoMemory>
-        requires table { (table.entries ≡ []) × (table.has_all_room ≡ true) }
-        requires queue { state.queue.capacity ≡ Some table.limit }
-        requires leaving { (leaving.items ≡ []) × (table.limit ≤ deque_capacity leaving) }
-        ensures queue { IfOk result (λ executor. (arc_value executor.state).queue.capacity ≡ state.queue.capacity) }
-        ensures here { IfOk result (λ executor. executor.realm.now.number ≡ realm.now.number) }
+    fn of(body: Body<F, T, W, R>, leaving: VecDeque<Returning<StoredWaker>>, limit: usize) -> Self
+        requires owned { body.is_static ≡ false }
+        requires queue { (arc_value body.state).queue.capacity ≡ Some limit }
+        requires leaving { (leaving.items ≡ []) × (limit ≤ deque_capacity leaving) }
+        ensures { result.body ≡ body }
     {
-        match Arc::new(alloc, state) {
-            Ok(state) => Ok(Executor {
-                realm,
-                state,
-                table: Guarded::new(table),
-                leaving,
-                returned: ClosesReturned::new(),
-                rt,
-                alloc,
-            }),
-            Err(_) => Err(NoMemory),
-        }
-    }
-
-    /// Whether each future that was accepted is dropped.
-    pub(crate) fn has_none(&self, unlocked: &mut Unlocked) -> bool {
-        sections::is_empty(self.table.lock(&self.rt, unlocked).get())
-    }
-
-    /// Accepts a future and queues its task, or refuses it.
-    ///
-    /// 1. Closes what was let go of tasks in its realm.
-    /// 2. Under the table's lock: accepts the future, or refuses it. `Full` where as many accepted futures as the
-    ///    limit are not dropped yet, and only then want of memory for the task. The future comes back.
-    /// 3. Once the lock is given back: hands the Runnable to the queue, and tells a sleeper.
-    pub(crate) fn hand_in(
-        &self,
-        future: F,
-        unlocked: &mut Unlocked,
-    ) -> Result<ExTask<T, W, R>, SpawnError<F>>
-        ensures future { IfErr result (λ error. refused error ≡ future) }
-        ensures here { IfOk result (λ task. task.identity.realm ≡ self.now.realm.now.number) }
-    {
-        let closed = self.returned.close(self.rt, self.realm, unlocked);
-        let schedule = ExQueue::new(self.rt, share(self.rt, &self.state));
-        let mut call = Call::begin();
-        let accepted = accept(
-            self.table.lock(&self.rt, unlocked).get(),
-            self.rt,
-            self.realm,
-            &mut call,
-            schedule,
-            future,
-            closed,
-        );
-        match accepted {
-            Ok((runnable, task)) => {
-                self.queue(call, runnable, unlocked);
-                Ok(task)
-            }
-            Err(refused) => {
-                call.end();
-                Err(refused)
-            }
-        }
-    }
-
-    /// Runs one task, where one is queued, and says whether it did.
-    ///
-    /// 1. Takes a Runnable from the queue. Where there is none: false.
-    /// 2. Tells a sleeper, since there may be more.
-    /// 3. Runs it: true.
-    pub(crate) fn run_one(&self, unlocked: &mut Unlocked) -> bool {
-        let mut call = Call::begin();
-        match self.state.take(&self.rt, &mut call) {
-            Some(stored) => {
-                let due = self.state.notify(self.rt, self.realm, &mut call, unlocked);
-                pay(self.rt, due, unlocked);
-                let last = self.poll_or_drop(stored, call, unlocked);
-                Polled::never().end(last);
-                true
-            }
-            None => {
-                call.end();
-                false
-            }
-        }
-    }
-
-    /// Puts the Runnable of a new task into the queue, and tells a sleeper.
-    fn queue(&self, call: Call, runnable: ExRunnable<T, W, R>, unlocked: &mut Unlocked)
-        requires { call ≡ given }
-    {
-        let runnable = runnable.into_scheduled();
-        let due = self.state.push(self.rt, call, runnable, unlocked);
-        pay(self.rt, due, unlocked);
+        let _ = limit;
+        Executor { body, leaving }
     }
 }
 
@@ -166,13 +70,71 @@ where
 /// 4. Takes from the queue until nothing is left, and drops each Runnable: each task is closed, and who awaits it is called. A
 ///    Runnable that a wake in progress still has comes back from the closed queue, and is dropped there.
 /// 5. Closes what was let go of tasks in its realm.
-pub fn end<F, T, W, R>(
+pub fn end<F, T, W, R>(body: Body<F, T, W, R>, leaving: Leaving, unlocked: &mut Unlocked)
+where
+    F: Drop,
+    T: Drop + 'static,
+    W: Wake + Drop + 'static,
+    R: Wait + Copy + Drop + 'static,
+{
+    let Body {
+        realm,
+        state,
+        table,
+        is_static: _,
+        returned,
+        rt,
+        alloc: _,
+    } = body;
+    let mut leaving = leaving;
+    drop_futures(rt, realm, table.into_inner(), &mut leaving, unlocked);
+    leaving.wake_all(rt, realm, unlocked);
+    leaving.end();
+    let mut call = Call::begin();
+    state.close(&rt, &mut call);
+    drain(rt, realm, &state, call, unlocked);
+    returned.end(rt, realm, unlocked);
+}
+
+/// An executor is leaked: it becomes a static one, whose table keeps no waker. Each waker of the table is taken out and called,
+/// in the order of acceptance: each task is queued, or was before. It takes no memory.
+pub fn leak<F, T, W, R>(body: Body<F, T, W, R>, unlocked: &mut Unlocked) -> Body<F, T, W, R>
+where
+    F: Drop,
+    T: Drop + 'static,
+    W: Wake + Drop + 'static,
+    R: Wait + Copy + Drop + 'static,
+    ensures kind { result.is_static ≡ true }
+    ensures here { result.realm.now.number ≡ body.realm.now.number }
+    ensures state { result.state ≡ body.state }
+{
+    let Body {
+        realm,
+        state,
+        table,
+        is_static: _,
+        returned,
+        rt,
+        alloc,
+    } = body;
+    let mut table = table.into_inner();
+    call_wakers(rt, realm, &mut table, unlocked);
+    Body {
+        realm,
+        state,
+        table: Guarded::new(table),
+        is_static: true,
+        returned,
+        rt,
+        alloc,
+    }
+}
+
+/// Takes each waker out of a table, and calls it, in the order of acceptance. Nothing else goes.
+fn call_wakers<F, T, W, R>(
     rt: R,
     realm: &'static ExRealm<T, W, R>,
-    state: Arc<State<W>, Global>,
-    table: Places<F, Returning<StoredWaker>>,
-    leaving: Leaving,
-    returned: ClosesReturned,
+    table: &mut Places<F, TableWaker>,
     unlocked: &mut Unlocked,
 )
 where
@@ -180,15 +142,14 @@ where
     T: Drop + 'static,
     W: Wake + Drop + 'static,
     R: Wait + Copy + Drop + 'static,
+    ensures none { table.new.entries ≡ map unwoken table.old.entries }
+    ensures rest { table.new ≡ record table.old { entries = table.new.entries } }
 {
-    let mut leaving = leaving;
-    drop_futures(rt, realm, table, &mut leaving, unlocked);
-    leaving.wake_all(rt, realm, unlocked);
-    leaving.end();
-    let mut call = Call::begin();
-    state.close(&rt, &mut call);
-    drain(rt, realm, &state, call, unlocked);
-    returned.end(rt, realm, unlocked);
+    for _step in 0..table.len() {
+        if let Some(waker) = sections::turn(table) {
+            waker.call(rt, realm, unlocked);
+        }
+    }
 }
 
 /// Drops each Runnable that is left in the executor's queue, which is closed.
@@ -222,7 +183,7 @@ where
 fn drop_futures<F, T, W, R>(
     rt: R,
     realm: &'static ExRealm<T, W, R>,
-    table: Places<F, Returning<StoredWaker>>,
+    table: Places<F, TableWaker>,
     leaving: &mut Leaving,
     unlocked: &mut Unlocked,
 )
@@ -240,9 +201,10 @@ where
         if let Some(future) = future {
             Foreign::of(future).let_go(unlocked);
         }
-        if let Err(waker) = leaving.push(waker) {
-            let due = waker.wake(rt, realm);
-            pay(rt, due, unlocked);
+        if let Some(waker) = waker {
+            if let Err(waker) = leaving.push(waker) {
+                waker.call(rt, realm, unlocked);
+            }
         }
     }
 }

@@ -2,6 +2,7 @@
 //! `async-executor` by Stjepan Glavina and others; no text of it is used.
 #![tactic(auto)]
 
+mod body;
 mod call;
 mod closing;
 mod debug;
@@ -32,7 +33,7 @@ mod ticker;
 mod walks;
 
 pub use async_task::{FallibleTask, NoMemory, Task};
-pub use entry::{Executor, Run, Tick};
+pub use entry::{Executor, Run, StaticExecutor, Tick};
 pub use errors::{RunError, SpawnError};
 pub use executor_parts::{Places, Sleepers};
 pub use handles::Handles;

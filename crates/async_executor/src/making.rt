@@ -4,8 +4,9 @@ ghost use Rattle.async_executor.specs.Foreign.{value_of};
 ghost use Rattle.async_executor.specs.Polls.{has_left};
 ghost use Rattle.async_executor.specs.Seeds.{seeded};
 
+use crate::body::Body;
 use crate::call::{Counts, Polled};
-use crate::entry::{Executor, Run, Tick, Unlocked};
+use crate::entry::{Run, Tick, Unlocked};
 use crate::foreign::Foreign;
 use crate::names::ExWaker;
 use crate::runner::Runner;
@@ -14,14 +15,14 @@ use crate::ticker::Ticker;
 use async_task::{Future, NoMemory, Wake};
 use std::sync::Wait;
 
-impl<F, T, W, R> Executor<F, T, W, R>
+impl<F, T, W, R> Body<F, T, W, R>
 where
     F: Future<ExWaker<T, W, R>, Output = T> + Drop,
     T: Drop + 'static,
     W: Wake + Drop + 'static,
     R: Wait + Copy + Drop + 'static,
 {
-    /// A tick, which is up.
+    /// A tick, which is awake.
     pub(crate) fn make_tick(
         &self,
         unlocked: &mut Unlocked,
@@ -32,14 +33,14 @@ where
         match made {
             Ok(new_room) => Ok(Tick {
                 executor: self,
-                ticker: Ticker::Up(new_room),
+                ticker: Ticker::Awake(new_room),
                 polled: Polled::never(),
             }),
             Err(_) => Err(NoMemory),
         }
     }
 
-    /// A run, which is up. For want of memory the future comes back.
+    /// A run, which is awake. For want of memory the future comes back.
     pub(crate) fn make_run<G>(
         &self,
         future: G,
@@ -61,7 +62,7 @@ where
                 executor: self,
                 future: Some(Foreign::of(future)),
                 runner,
-                ticker: Ticker::Up(room),
+                ticker: Ticker::Awake(room),
                 polled: Polled::never(),
                 counts: Counts::new(),
             }),

@@ -3,19 +3,20 @@
 ghost use Rattle.std.specs.Prelude.{◌≡◌};
 ghost use Rattle.async_executor.specs.Stages.{in_hand};
 
+use crate::body::Body;
 use crate::call::{Call, Ending, Last};
 use crate::due::pay;
-use crate::entry::{Executor, Unlocked};
+use crate::entry::Unlocked;
 use crate::names::ExWaker;
 use crate::sections;
 use crate::sections::Taken;
 use crate::state::redeem;
 use crate::task_run::{Begun, Dropping, Polling, begin};
 use async_task::{Back, Future, Poll, StoredRunnable, Wake};
-use executor_parts::Place;
+use executor_parts::EntryPlace;
 use std::sync::Wait;
 
-impl<F, T, W, R> Executor<F, T, W, R>
+impl<F, T, W, R> Body<F, T, W, R>
 where
     F: Future<ExWaker<T, W, R>, Output = T> + Drop,
     T: Drop + 'static,
@@ -44,7 +45,7 @@ where
         last
     }
 
-    fn poll(&self, place: Place, polling: Polling<T, W, R>, unlocked: &mut Unlocked) {
+    fn poll(&self, place: EntryPlace, polling: Polling<T, W, R>, unlocked: &mut Unlocked) {
         let taken = sections::take(self.table.lock(&self.rt, unlocked).get(), place);
         let back = match taken {
             Some(taken) => match self.poll_future(place, taken, &polling, unlocked) {
@@ -61,7 +62,7 @@ where
     /// Polls a future that was taken out of this place, and puts it back, or drops it where it is ready.
     fn poll_future(
         &self,
-        place: Place,
+        place: EntryPlace,
         taken: Taken<F>,
         polling: &Polling<T, W, R>,
         unlocked: &mut Unlocked,
@@ -88,7 +89,7 @@ where
         }
     }
 
-    fn drop_future(&self, place: Place, dropping: Dropping<T, W, R>, unlocked: &mut Unlocked) {
+    fn drop_future(&self, place: EntryPlace, dropping: Dropping<T, W, R>, unlocked: &mut Unlocked) {
         let taken = sections::take(self.table.lock(&self.rt, unlocked).get(), place);
         if let Some(taken) = taken {
             taken.let_go(unlocked);
@@ -97,14 +98,16 @@ where
         dropping.finish(unlocked);
     }
 
-    fn leave(&self, place: Place, unlocked: &mut Unlocked) {
+    fn leave(&self, place: EntryPlace, unlocked: &mut Unlocked) {
         let left = sections::leave(self.table.lock(&self.rt, unlocked).get(), place);
         if let Some((future, waker)) = left {
             if let Some(future) = future {
                 future.let_go(unlocked);
             }
-            let due = waker.release(self.rt, self.realm);
-            pay(self.rt, due, unlocked);
+            if let Some(waker) = waker {
+                let due = waker.release(self.rt, self.realm);
+                pay(self.rt, due, unlocked);
+            }
         }
     }
 }

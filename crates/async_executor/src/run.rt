@@ -5,8 +5,9 @@ ghost use Rattle.async_executor.specs.Counting.{GoesOn};
 ghost use Rattle.async_executor.specs.Polls.{has_left, HasLeft, IsRunAnswer, IsTasksAnswer};
 ghost use Rattle.async_executor.specs.Stages.{in_hand};
 
+use crate::body::Body;
 use crate::call::{Call, Counts, Ending, Last, Polled};
-use crate::entry::{Executor, Run, Unlocked};
+use crate::entry::{Run, Unlocked};
 use crate::errors::RunError;
 use crate::foreign::Foreign;
 use crate::names::ExWaker;
@@ -29,7 +30,7 @@ where
     ///
     /// 1. At the first poll, puts its own queue into the executor's list.
     /// 2. Polls its future. Where that is ready, the run leaves the executor, and is ready.
-    /// 3. Takes tasks and runs each. Where there is none to take, it lies down and is pending.
+    /// 3. Takes tasks and runs each. Where there is none to take, it falls asleep and is pending.
     /// 4. After 200 tasks it wakes its own waker and is pending. A count that was interrupted goes on in the next poll.
     pub(crate) fn go_on(
         &mut self,
@@ -132,7 +133,7 @@ where
         self.counts.take(last)
     }
 
-    /// Searches until a task is found, or the run lies down.
+    /// Searches until a task is found, or the run falls asleep.
     fn find(&mut self, waker: &ExWaker<T, W, R>, unlocked: &mut Unlocked) -> Found
         ensures found { IsFoundAtLast result }
         ensures future { self.new.future ≡ self.old.future }
@@ -173,7 +174,7 @@ where
 ///    queue, in order.
 /// 3. Leaves the sleepers, and gives its room there back.
 pub fn end<F, T, W, R, G>(
-    executor: &Executor<F, T, W, R>,
+    executor: &Body<F, T, W, R>,
     future: Option<Foreign<G>>,
     runner: Runner,
     ticker: Ticker,

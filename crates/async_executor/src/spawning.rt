@@ -1,5 +1,5 @@
 ghost use Rattle.std.specs.Prelude.{◌≡◌, IfOk, IfErr, IfSome, is_ok};
-ghost use Rattle.async_executor.specs.Accepting.{Accepts, IsRefusedAt, refused_as};
+ghost use Rattle.async_executor.specs.Accepting.{Accepts, IsRefusedAt, refused_as, WakerFits};
 ghost use Rattle.async_executor.specs.Errors.{refused};
 ghost use Rattle.async_executor.specs.Stages.{begun, idle};
 ghost use Rattle.async_task.specs.Handles.{task_of};
@@ -7,23 +7,24 @@ ghost use Rattle.async_task.specs.Handles.{task_of};
 use crate::call::Call;
 use crate::closing::HasClosed;
 use crate::errors::SpawnError;
-use crate::names::{ExRealm, ExRunnable, ExTask};
+use crate::names::{ExRealm, ExRunnable, ExTask, TableWaker};
 use crate::queue::ExQueue;
-use async_task::{Returning, StoredWaker, Wake, spawn};
-use executor_parts::{Place, Places, SpawnRefused};
+use async_task::{Returning, Wake, spawn};
+use executor_parts::{EntryPlace, Places, SpawnRefused};
 use std::sync::Wait;
 
 /// Accepts a future: what a spawn does under the table's lock, once it has closed what was let go.
 ///
 /// 1. Tests the limit.
 /// 2. Makes the task's cell, which has the number of the future's place. Without memory for it, the place is given back.
-/// 3. Enters the future, with a waker of the task.
+/// 3. Enters the future, with a waker of the task, where the executor isn't static.
 pub fn accept<F, T, W, R>(
-    table: &mut Places<F, Returning<StoredWaker>>,
+    table: &mut Places<F, TableWaker>,
     rt: R,
     realm: &'static ExRealm<T, W, R>,
     call: &mut Call,
     schedule: ExQueue<T, W, R>,
+    is_static: bool,
     future: F,
     closed: HasClosed,
 ) -> Result<(ExRunnable<T, W, R>, ExTask<T, W, R>), SpawnError<F>>
@@ -35,7 +36,7 @@ where
     requires { call.old ≡ begun }
     ensures call { call.new ≡ record idle { holds = is_ok result } }
     ensures here { IfOk result (λ both. both.1.identity.realm ≡ realm.now.number) }
-    ensures accepted { IfOk result (λ both. Accepts table.old table.new future (task_of both.1)) }
+    ensures accepted { IfOk result (λ both. Accepts is_static table.old table.new future (task_of both.1)) }
     ensures one_task { IfOk result (λ both. both.0 ≡ task_of both.1) }
     ensures future { IfErr result (λ error. refused error ≡ future) }
     ensures cause { IfErr result (IsRefusedAt table.old) }
@@ -49,9 +50,9 @@ where
             return Err(because(refused, future));
         }
     };
-    match made(rt, realm, schedule, vacancy.place()) {
+    match made(rt, realm, schedule, is_static, vacancy.place()) {
         Some((runnable, task, waker)) => {
-            table.enter(vacancy, future, Returning::new(waker));
+            table.enter(vacancy, future, waker);
             call.accept(true);
             Ok((runnable, task))
         }
@@ -73,26 +74,33 @@ fn because<F>(refused: SpawnRefused, future: F) -> SpawnError<F>
     }
 }
 
-/// A task whose future is at this place, with its handle and a waker for the table.
+/// A task whose future is at this place, with its handle and what the table keeps beside the future: a waker, and none where
+/// the executor is static.
 fn made<T, W, R>(
     rt: R,
     realm: &'static ExRealm<T, W, R>,
     schedule: ExQueue<T, W, R>,
-    place: Place,
-) -> Option<(ExRunnable<T, W, R>, ExTask<T, W, R>, StoredWaker)>
+    is_static: bool,
+    place: EntryPlace,
+) -> Option<(ExRunnable<T, W, R>, ExTask<T, W, R>, TableWaker)>
 where
     T: Drop + 'static,
     W: Wake + Drop + 'static,
     R: Wait + Copy + Drop + 'static,
     ensures one_task { IfSome result (λ made. made.0 ≡ task_of made.1) }
     ensures here { IfSome result (λ made. made.0.identity.realm ≡ realm.now.number) }
-    ensures waker { IfSome result (λ made. made.2.identity ≡ made.1.identity) }
+    ensures waker { IfSome result (λ made. WakerFits is_static made.2 made.1.identity) }
 {
     match spawn(rt, realm, place, schedule) {
-        Ok((runnable, task)) => match runnable.waker() {
-            Ok(waker) => Some((runnable, task, waker.store())),
-            Err(_) => None,
-        },
+        Ok((runnable, task)) => {
+            if is_static {
+                return Some((runnable, task, None));
+            }
+            match runnable.waker() {
+                Ok(waker) => Some((runnable, task, Some(Returning::new(waker.store())))),
+                Err(_) => None,
+            }
+        }
         Err(_) => None,
     }
 }

@@ -1,7 +1,7 @@
 //! What the threads of an executor share, but for its futures.
 ghost use Rattle.std.specs.Prelude.{◌≡◌, ◌≢◌, ◌<◌, true, false, Some, None, IfOk, IfErr, IfNone, IfSome, OnOk, OnSome, is_some, length};
 ghost use Rattle.executor_parts.specs.Sleepers.{flag_of, last_waker, without_last};
-ghost use Rattle.async_executor.specs.Calls.{flag_risen};
+ghost use Rattle.async_executor.specs.Calls.{flag_woken_up};
 ghost use Rattle.async_executor.specs.Foreign.{value_of};
 ghost use Rattle.async_executor.specs.Stages.{begun, took, looked};
 
@@ -13,7 +13,7 @@ use crate::locks::{Guarded, ReadWrite};
 use crate::names::{ExDue, ExRealm, ExScheduled};
 use crate::own_queues::OwnQueues;
 use crate::sleeping::SleeperWaker;
-use crate::ticker::Risen;
+use crate::ticker::WokenUp;
 use async_task::{GoesBack, NoMemory, Returning, StoredRunnable, Wake};
 use concurrent_queue::ConcurrentQueue;
 use executor_parts::Sleepers;
@@ -146,19 +146,19 @@ impl<W: Drop> State<W> {
         call.store_flag(notified);
     }
 
-    /// Stores what the flag becomes where one got up or left. The waker that it had is the answer.
-    pub fn store_risen(
+    /// Stores what the flag becomes where one woke up or left. The waker that it had is the answer.
+    pub fn store_woken_up(
         &self,
         sleepers: &Sleepers<SleeperWaker<W>>,
         call: &mut Call,
-        risen: Option<Risen<W>>,
+        woken_up: Option<WokenUp<W>>,
     ) -> Option<Foreign<SleeperWaker<W>>>
-        requires said { IfSome risen (λ risen. risen.notified ≡ flag_of sleepers.now) }
-        requires flag { call.old.flag ≡ flag_risen risen }
+        requires said { IfSome woken_up (λ woken_up. woken_up.notified ≡ flag_of sleepers.now) }
+        requires flag { call.old.flag ≡ flag_woken_up woken_up }
         ensures { call.new ≡ record call.old { flag = None } }
     {
-        match risen {
-            Some(Risen { notified, waker }) => {
+        match woken_up {
+            Some(WokenUp { notified, waker }) => {
                 self.store_flag(sleepers, call, notified);
                 waker
             }

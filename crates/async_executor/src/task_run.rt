@@ -2,7 +2,7 @@
 use crate::entry::Unlocked;
 use crate::names::{ExClosing, ExRunning, ExScheduled, ExWaker};
 use async_task::{Back, RunEnd, Started, Wake};
-use executor_parts::Place;
+use executor_parts::EntryPlace;
 use std::sync::Wait;
 
 /// What a task begins that is to be run.
@@ -14,9 +14,9 @@ where
     R: Wait + Copy + Drop + 'static,
 {
     /// The future at this place is polled, and the run is then settled.
-    Poll(Place, Polling<T, W, R>),
+    Poll(EntryPlace, Polling<T, W, R>),
     /// The task is closed: the future at this place is dropped, and the run is then finished.
-    Drop(Place, Dropping<T, W, R>),
+    Drop(EntryPlace, Dropping<T, W, R>),
 }
 
 /// A run whose future is polled. It has no drop: it is settled.
@@ -69,9 +69,9 @@ where
     /// dropped then.
     pub fn settle(
         self,
-        back: Back<Place, T>,
+        back: Back<EntryPlace, T>,
         unlocked: &Unlocked,
-    ) -> Option<(Place, Dropping<T, W, R>)> {
+    ) -> Option<(EntryPlace, Dropping<T, W, R>)> {
         let _ = unlocked;
         let Polling { running } = self;
         match running.settle(back) {

@@ -17,7 +17,7 @@ where
 {
     /// Looks for a future that is to be polled.
     ///
-    /// 1. Takes a Runnable from the executor's queue, or lies down and is pending.
+    /// 1. Takes a Runnable from the executor's queue, or falls asleep and is pending.
     /// 2. Where it found one: runs it, and is ready.
     pub(crate) fn look(
         &mut self,

@@ -1,9 +1,9 @@
-//! How ticks and runs lie down among the sleepers, get up, and leave them.
-ghost use Rattle.std.specs.Prelude.{◌≡◌, true, false, None, IfSome, is_some};
-ghost use Rattle.async_executor.specs.Calls.{flag_laid, lies_laid, flag_risen, IsFound};
+//! How ticks and runs fall asleep among the sleepers, wake up, and leave them.
+ghost use Rattle.std.specs.Prelude.{◌≡◌, true, false, Some, None, IfSome, is_some};
+ghost use Rattle.async_executor.specs.Calls.{flag_fell_asleep, sleeps_since, flag_woken_up, IsFound};
 ghost use Rattle.async_executor.specs.Polls.{has_left};
 ghost use Rattle.async_executor.specs.Foreign.{value_of};
-ghost use Rattle.async_executor.specs.Sleeping.{LiesDown, GetsUp, Leaves, SaysLaid};
+ghost use Rattle.async_executor.specs.Sleeping.{FallsAsleep, WakesUp, Leaves, SaysFellAsleep};
 ghost use Rattle.executor_parts.specs.Sleepers.{flag_of};
 ghost use Rattle.async_executor.specs.Stages.{idle, begun, looked};
 
@@ -16,44 +16,44 @@ use crate::sections::give_back;
 use crate::sleeping::{SleeperWaker, call_waker};
 use crate::state::State;
 use async_task::{StoredRunnable, Wake};
-use executor_parts::{Again, Risen as Stood, Room, Sleeper, Sleepers, Slept, Unreserved};
+use executor_parts::{Again, Room, Sleeper, Sleepers, Slept, Unreserved, WokenUp as Stood};
 use std::mem;
 use std::sync::Wait;
 
-/// Whether a tick or run lies among the sleepers. It has no drop: it leaves them.
+/// Whether a tick or run is among the sleepers. It has no drop: it leaves them.
 pub enum Ticker {
-    /// It is up, and has the room in which it can lie down.
-    Up(Room),
-    /// It lies. It has been told once its waker is missing from the list.
-    Lies(Sleeper),
+    /// It is awake, and has the room in which it can fall asleep.
+    Awake(Room),
+    /// It sleeps. It has been told once its waker is missing from the list.
+    Asleep(Sleeper),
     /// It left the sleepers, and gave its room back.
     Left,
 }
 
 /// What a tick or run finds.
 pub enum Found {
-    /// A Runnable, which is in hand: it is up, and another sleeper was told.
+    /// A Runnable, which is in hand: it is awake, and another sleeper was told.
     Runnable(StoredRunnable, Call),
-    /// Nothing yet: it lies, and has to search once more.
+    /// Nothing yet: it sleeps, and has to search once more.
     SearchAgain,
-    /// Nothing: it lies, and its waker will be called, or was called at once where it can't be kept.
+    /// Nothing: it sleeps, and its waker will be called, or was called at once where it can't be kept.
     Nothing(Last),
     /// No copy of the waker could be had. What was done before stays done.
     NoMemory(Last),
 }
 
-/// How one lay down.
-pub enum Laid<W> {
+/// How one fell asleep.
+pub enum FellAsleep<W> {
     /// Anew, or it had been told meanwhile: what the flag becomes.
     Anew(bool),
-    /// It lay there already. This waker is dropped, once the lock is given back.
+    /// It slept there already. This waker is dropped, once the lock is given back.
     Already(Foreign<SleeperWaker<W>>),
-    /// It can't lie there. This waker is called, once the lock is given back, so that it looks again.
+    /// It can't sleep there. This waker is called, once the lock is given back, so that it looks again.
     Nowhere(Foreign<SleeperWaker<W>>),
 }
 
-/// How one got up or left.
-pub struct Risen<W> {
+/// How one woke up or left.
+pub struct WokenUp<W> {
     /// What the flag becomes.
     pub notified: bool,
     /// Its waker, which is dropped once the lock is given back; none where it had been told.
@@ -63,10 +63,10 @@ pub struct Risen<W> {
 impl Ticker {
     /// What a search leads to, which the call has made.
     ///
-    /// 1. Where it found a Runnable: gets up, tells another sleeper that there may be more, and answers it.
-    /// 2. Else copies the waker, and lies down with the copy.
-    /// 3. Where it lay down anew, or had been told meanwhile, the search has to be made again, since what was queued before
-    ///    may have told nobody. Where it lay there already, it found nothing.
+    /// 1. Where it found a Runnable: wakes up, tells another sleeper that there may be more, and answers it.
+    /// 2. Else copies the waker, and falls asleep with the copy.
+    /// 3. Where it fell asleep anew, or had been told meanwhile, the search has to be made again, since what was queued before
+    ///    may have told nobody. Where it slept there already, it found nothing.
     ///
     /// A waker of a task of another realm can't be found from here: it is called at once.
     pub fn after_search<T, W, R>(
@@ -90,7 +90,7 @@ impl Ticker {
         match found {
             Some(runnable) => {
                 let mut call = call;
-                self.get_up(rt, state, realm, &mut call, unlocked);
+                self.wake_up(rt, state, realm, &mut call, unlocked);
                 let due = state.notify(rt, realm, &mut call, unlocked);
                 pay(rt, due, unlocked);
                 Found::Runnable(runnable, call)
@@ -117,7 +117,7 @@ impl Ticker {
         ensures found { IsFound result }
         ensures stays { has_left self.new ≡ has_left self.old }
     {
-        if lies_elsewhere(waker, realm) {
+        if sleeps_elsewhere(waker, realm) {
             call_waker(waker, unlocked);
             return Found::Nothing(call.end_called());
         }
@@ -125,11 +125,11 @@ impl Ticker {
         let Some(copy) = SleeperWaker::of(waker, &mut call, unlocked) else {
             return Found::NoMemory(call.refuse());
         };
-        self.lie_down(rt, state, realm, call, copy, unlocked)
+        self.fall_asleep(rt, state, realm, call, copy, unlocked)
     }
 
-    /// Lies down with a waker, and ends the call. It has to search again where it wasn't lying, or had been told.
-    fn lie_down<T, W, R>(
+    /// Falls asleep with a waker, and ends the call. It has to search again where it wasn't asleep, or had been told.
+    fn fall_asleep<T, W, R>(
         &mut self,
         rt: R,
         state: &State<W>,
@@ -147,30 +147,30 @@ impl Ticker {
         ensures stays { has_left self.new ≡ has_left self.old }
     {
         let mut call = call;
-        let laid = {
+        let fell_asleep = {
             let mut locked = state.sleepers.lock(&rt, unlocked);
             let sleepers = locked.get();
-            let (ticker, laid) = mem::replace(self, Ticker::Left).lie_down_in(
+            let (ticker, fell_asleep) = mem::replace(self, Ticker::Left).fall_asleep_in(
                 sleepers, &mut call, waker,
             );
             self.turn_into(ticker);
-            if let Laid::Anew(notified) = &laid {
+            if let FellAsleep::Anew(notified) = &fell_asleep {
                 state.store_flag(sleepers, &mut call, *notified);
             }
-            laid
+            fell_asleep
         };
-        match laid {
-            Laid::Anew(_) => {
+        match fell_asleep {
+            FellAsleep::Anew(_) => {
                 call.end();
                 Found::SearchAgain
             }
-            Laid::Already(old) => {
+            FellAsleep::Already(old) => {
                 let last = call.rest();
                 let due = old.release(rt, realm, unlocked);
                 pay(rt, due, unlocked);
                 Found::Nothing(last)
             }
-            Laid::Nowhere(waker) => {
+            FellAsleep::Nowhere(waker) => {
                 let last = call.end_called();
                 let due = waker.wake(rt, realm, unlocked);
                 pay(rt, due, unlocked);
@@ -179,8 +179,8 @@ impl Ticker {
         }
     }
 
-    /// Gets up, where it lies. That it had been told is of no account, as the call tells another.
-    fn get_up<T, W, R>(
+    /// Wakes up, where it sleeps. That it had been told is of no account, as the call tells another.
+    fn wake_up<T, W, R>(
         &mut self,
         rt: R,
         state: &State<W>,
@@ -197,15 +197,15 @@ impl Ticker {
         ensures call { call.new ≡ call.old }
         ensures stays { has_left self.new ≡ has_left self.old }
     {
-        if !self.lies() {
+        if !self.sleeps() {
             return;
         }
         let waker = {
             let mut locked = state.sleepers.lock(&rt, unlocked);
             let sleepers = locked.get();
-            let (ticker, risen) = mem::replace(self, Ticker::Left).get_up_in(sleepers, call);
+            let (ticker, woken_up) = mem::replace(self, Ticker::Left).wake_up_in(sleepers, call);
             self.turn_into(ticker);
-            state.store_risen(sleepers, call, risen)
+            state.store_woken_up(sleepers, call, woken_up)
         };
         if let Some(waker) = waker {
             let due = waker.release(rt, realm, unlocked);
@@ -213,7 +213,7 @@ impl Ticker {
         }
     }
 
-    /// Leaves the sleepers, and gives its room back. If it lay there and had been told, it tells another in its place.
+    /// Leaves the sleepers, where it sleeps there, and then gives its room back, in a section of its own.
     pub fn leave<T, W, R>(
         self,
         rt: R,
@@ -226,28 +226,18 @@ impl Ticker {
         W: Wake + Drop + 'static,
         R: Wait + Copy + Drop + 'static,
     {
-        let mut call = Call::begin();
-        let (waker, was_told) = {
-            let mut locked = state.sleepers.lock(&rt, unlocked);
-            let sleepers = locked.get();
-            let (risen, was_told) = self.leave_in(sleepers, &mut call);
-            (state.store_risen(sleepers, &mut call, risen), was_told)
+        let room = match self {
+            Ticker::Asleep(sleeper) => leave_sleepers(rt, state, realm, sleeper, unlocked),
+            Ticker::Awake(room) => room,
+            Ticker::Left => return,
         };
-        if let Some(waker) = waker {
-            let due = waker.release(rt, realm, unlocked);
-            pay(rt, due, unlocked);
-        }
-        if was_told {
-            let due = state.notify(rt, realm, &mut call, unlocked);
-            pay(rt, due, unlocked);
-        }
-        call.end();
+        give_back(state.sleepers.lock(&rt, unlocked).get(), room);
     }
 
-    fn lies(&self) -> bool {
+    fn sleeps(&self) -> bool {
         match self {
-            Ticker::Lies(_) => true,
-            Ticker::Up(_) | Ticker::Left => false,
+            Ticker::Asleep(_) => true,
+            Ticker::Awake(_) | Ticker::Left => false,
         }
     }
 
@@ -258,131 +248,150 @@ impl Ticker {
     {
         match mem::replace(self, ticker) {
             Ticker::Left => {}
-            Ticker::Up(_room) => unreachable!(),
-            Ticker::Lies(_sleeper) => unreachable!(),
+            Ticker::Awake(_room) => unreachable!(),
+            Ticker::Asleep(_sleeper) => unreachable!(),
         }
     }
 
-    /// The section of the sleepers' lock in which one lies down.
-    pub fn lie_down_in<W>(
+    /// The section of the sleepers' lock in which one falls asleep.
+    pub fn fall_asleep_in<W>(
         self,
         sleepers: &mut Sleepers<SleeperWaker<W>>,
         call: &mut Call,
         waker: Foreign<SleeperWaker<W>>,
-    ) -> (Ticker, Laid<W>)
+    ) -> (Ticker, FellAsleep<W>)
         requires stored { call.old.flag ≡ None }
-        requires up { call.old.lies ≡ false }
-        ensures lies { LiesDown self waker.value sleepers.old sleepers.new result.0 result.1 }
+        requires up { call.old.sleeps ≡ false }
+        ensures sleeps { FallsAsleep self waker.value sleepers.old sleepers.new result.0 result.1 }
         ensures stays { has_left result.0 ≡ has_left self }
-        ensures said { SaysLaid sleepers.new result.1 }
-        ensures call { call.new ≡ record call.old { flag = flag_laid result.1; lies = lies_laid result.1 } }
+        ensures said { SaysFellAsleep sleepers.new result.1 }
+        ensures call { call.new ≡ record call.old { flag = flag_fell_asleep result.1; sleeps = sleeps_since result.1 } }
     {
         match self {
-            Ticker::Up(room) => match sleepers.lie_down(room, waker.into_stored()) {
+            Ticker::Awake(room) => match sleepers.fall_asleep(room, waker.into_stored()) {
                 Ok(Slept { sleeper, notified }) => {
                     call.turn_flag(notified);
-                    (Ticker::Lies(sleeper), Laid::Anew(notified))
+                    (Ticker::Asleep(sleeper), FellAsleep::Anew(notified))
                 }
                 Err(Unreserved { room, waker }) => {
-                    (Ticker::Up(room), Laid::Nowhere(Foreign::of(waker)))
+                    (Ticker::Awake(room), FellAsleep::Nowhere(Foreign::of(waker)))
                 }
             },
-            Ticker::Lies(sleeper) => {
-                let laid = match sleepers.lie_down_again(&sleeper, waker.into_stored()) {
+            Ticker::Asleep(sleeper) => {
+                let fell_asleep = match sleepers.fall_asleep_again(&sleeper, waker.into_stored()) {
                     Again::Replaced(old) => {
-                        call.lie_on();
-                        Laid::Already(Foreign::of(old))
+                        call.sleep_on();
+                        FellAsleep::Already(Foreign::of(old))
                     }
                     Again::Notified(notified) => {
                         call.turn_flag(notified);
-                        Laid::Anew(notified)
+                        FellAsleep::Anew(notified)
                     }
-                    Again::Unknown(waker) => Laid::Nowhere(Foreign::of(waker)),
+                    Again::Unknown(waker) => FellAsleep::Nowhere(Foreign::of(waker)),
                 };
-                (Ticker::Lies(sleeper), laid)
+                (Ticker::Asleep(sleeper), fell_asleep)
             }
-            Ticker::Left => (Ticker::Left, Laid::Nowhere(waker)),
+            Ticker::Left => (Ticker::Left, FellAsleep::Nowhere(waker)),
         }
     }
 
-    /// The section of the sleepers' lock in which one gets up.
-    pub fn get_up_in<W>(
+    /// The section of the sleepers' lock in which one wakes up.
+    pub fn wake_up_in<W>(
         self,
         sleepers: &mut Sleepers<SleeperWaker<W>>,
         call: &mut Call,
-    ) -> (Ticker, Option<Risen<W>>)
+    ) -> (Ticker, Option<WokenUp<W>>)
         requires owes { call.old.owes ≡ true }
         requires stored { call.old.flag ≡ None }
-        ensures up { GetsUp self sleepers.old sleepers.new result.0 result.1 }
+        ensures up { WakesUp self sleepers.old sleepers.new result.0 result.1 }
         ensures stays { has_left result.0 ≡ has_left self }
-        ensures said { IfSome result.1 (λ risen. risen.notified ≡ flag_of sleepers.new) }
-        ensures flag { call.new ≡ record call.old { flag = flag_risen result.1 } }
+        ensures said { IfSome result.1 (λ woken_up. woken_up.notified ≡ flag_of sleepers.new) }
+        ensures flag { call.new ≡ record call.old { flag = flag_woken_up result.1 } }
     {
         match self {
-            Ticker::Lies(sleeper) => {
+            Ticker::Asleep(sleeper) => {
                 let Stood {
                     room,
                     waker,
                     notified,
-                } = sleepers.get_up(sleeper);
+                } = sleepers.wake_up(sleeper);
                 call.turn_flag(notified);
-                (Ticker::Up(room), Some(risen_with(notified, waker)))
+                (Ticker::Awake(room), Some(woken_up_with(notified, waker)))
             }
-            Ticker::Up(room) => (Ticker::Up(room), None),
+            Ticker::Awake(room) => (Ticker::Awake(room), None),
             Ticker::Left => (Ticker::Left, None),
-        }
-    }
-
-    /// The section of the sleepers' lock in which one leaves. The second answer is whether it lay there and had been told.
-    pub fn leave_in<W>(
-        self,
-        sleepers: &mut Sleepers<SleeperWaker<W>>,
-        call: &mut Call,
-    ) -> (Option<Risen<W>>, bool)
-        requires { call.old ≡ begun }
-        ensures left { Leaves self sleepers.old sleepers.new result.0 result.1 }
-        ensures said { IfSome result.0 (λ risen. risen.notified ≡ flag_of sleepers.new) }
-        ensures call { call.new ≡ record idle { owes = result.1; flag = flag_risen result.0 } }
-    {
-        match self {
-            Ticker::Lies(sleeper) => {
-                let (stood, was_told) = sleepers.leave(sleeper);
-                let Stood {
-                    room,
-                    waker,
-                    notified,
-                } = stood;
-                give_back(sleepers, room);
-                call.leave(was_told);
-                call.turn_flag(notified);
-                (Some(risen_with(notified, waker)), was_told)
-            }
-            Ticker::Up(room) => {
-                give_back(sleepers, room);
-                call.leave(false);
-                (None, false)
-            }
-            Ticker::Left => {
-                call.leave(false);
-                (None, false)
-            }
         }
     }
 }
 
-/// One that got up, with the waker that it had.
-fn risen_with<W>(notified: bool, waker: Option<SleeperWaker<W>>) -> Risen<W>
+/// One that sleeps leaves the sleepers. If it had been told, it tells another in its place. Its room is the answer.
+fn leave_sleepers<T, W, R>(
+    rt: R,
+    state: &State<W>,
+    realm: &'static ExRealm<T, W, R>,
+    sleeper: Sleeper,
+    unlocked: &mut Unlocked,
+) -> Room
+where
+    T: Drop + 'static,
+    W: Wake + Drop + 'static,
+    R: Wait + Copy + Drop + 'static,
+{
+    let mut call = Call::begin();
+    let (room, waker, was_told) = {
+        let mut locked = state.sleepers.lock(&rt, unlocked);
+        let sleepers = locked.get();
+        let (room, woken_up, was_told) = leave_in(sleepers, &mut call, sleeper);
+        let waker = state.store_woken_up(sleepers, &mut call, Some(woken_up));
+        (room, waker, was_told)
+    };
+    if let Some(waker) = waker {
+        let due = waker.release(rt, realm, unlocked);
+        pay(rt, due, unlocked);
+    }
+    if was_told {
+        let due = state.notify(rt, realm, &mut call, unlocked);
+        pay(rt, due, unlocked);
+    }
+    call.end();
+    room
+}
+
+/// The section of the sleepers' lock in which one leaves. Its room is the first answer, and the last whether it had been told.
+fn leave_in<W>(
+    sleepers: &mut Sleepers<SleeperWaker<W>>,
+    call: &mut Call,
+    sleeper: Sleeper,
+) -> (Room, WokenUp<W>, bool)
+    requires { call.old ≡ begun }
+    ensures left { Leaves sleeper.number sleepers.old sleepers.new result.1 result.2 }
+    ensures said { result.1.notified ≡ flag_of sleepers.new }
+    ensures call { call.new ≡ record idle { owes = result.2; flag = Some result.1.notified } }
+{
+    let (stood, was_told) = sleepers.leave(sleeper);
+    let Stood {
+        room,
+        waker,
+        notified,
+    } = stood;
+    call.leave(was_told);
+    call.turn_flag(notified);
+    (room, woken_up_with(notified, waker), was_told)
+}
+
+/// One that woke up, with the waker that it had.
+fn woken_up_with<W>(notified: bool, waker: Option<SleeperWaker<W>>) -> WokenUp<W>
     ensures flag { result.notified ≡ notified }
     ensures waker { value_of result.waker ≡ waker }
 {
-    Risen {
+    WokenUp {
         notified,
         waker: came_out(waker),
     }
 }
 
 /// Whether it is a waker of a task of another realm.
-fn lies_elsewhere<T, W, R>(waker: &ExWaker<T, W, R>, realm: &'static ExRealm<T, W, R>) -> bool
+fn sleeps_elsewhere<T, W, R>(waker: &ExWaker<T, W, R>, realm: &'static ExRealm<T, W, R>) -> bool
 where
     T: Drop + 'static,
     W: Wake + Drop + 'static,

@@ -45,10 +45,19 @@ pub(crate) type Place<F, T, W> = tokens::TaskPlace<F, T, Kept<W>>;
 
 /// The place of a task: its word and slots, and what never changes while the task is there. It lies there for good, and serves
 /// one task after another.
-#[derive(Drop)]
 pub struct Cell<F, T, S, M, W> {
     word: Word<F, T, W>,
     fixed: Slot<S, M>,
+}
+
+/// Written out, so that crates above call it, and prove the drops of all its parts no second time.
+impl<F: Drop, T: Drop, S: Drop, M: Drop, W: Drop> Drop for Cell<F, T, S, M, W> {
+    fn drop(self) {
+        let Cell {
+            word: _word,
+            fixed: _fixed,
+        } = self;
+    }
 }
 
 impl<F: Drop, T: Drop, S: Drop, M: Drop, W: Drop> Vacant for Cell<F, T, S, M, W> {

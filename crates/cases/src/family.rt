@@ -15,6 +15,8 @@ pub enum Family {
     Machine,
     /// A running executor.
     Executor,
+    /// A running executor that is static, or that a script leaks.
+    Static,
     /// A queue that threads share.
     Queue,
     /// The queue of one owner.
@@ -27,9 +29,10 @@ pub enum Family {
 
 impl Family {
     /// All of them, in the order in which they are played.
-    pub const ALL: [Family; 6] = [
+    pub const ALL: [Family; 7] = [
         Family::Machine,
         Family::Executor,
+        Family::Static,
         Family::Queue,
         Family::Exclusive,
         Family::Task,
@@ -41,6 +44,7 @@ impl Family {
         match self {
             Family::Machine => "machine",
             Family::Executor => "executor",
+            Family::Static => "static",
             Family::Queue => "queue",
             Family::Exclusive => "exclusive",
             Family::Task => "task",
@@ -53,6 +57,7 @@ impl Family {
         match self {
             Family::Machine => &["calls.txt", "steps.txt"],
             Family::Executor => &["calls.txt"],
+            Family::Static => &["static.txt"],
             Family::Queue | Family::Exclusive => &["queue.txt"],
             Family::Task | Family::LocalTask => &["task.txt"],
         }
@@ -63,6 +68,7 @@ impl Family {
         match self {
             Family::Machine => "wrong-machine.txt",
             Family::Executor => "wrong-executor.txt",
+            Family::Static => "wrong-static.txt",
             Family::Queue | Family::Exclusive => "wrong-queue.txt",
             Family::Task | Family::LocalTask => "wrong-task.txt",
         }
@@ -88,6 +94,7 @@ impl Family {
         match self {
             Family::Machine => machine(rt.alloc(), script),
             Family::Executor => shown_by_executor(players.executors.play(script)),
+            Family::Static => shown_by_executor(players.executors.play_kinds(script)),
             Family::Queue => shown_by_queue(play_shared(rt, rt.alloc(), script)),
             Family::Exclusive => shown_by_queue(play_exclusive(rt.alloc(), script)),
             Family::Task => shown_by_tasks(players.tasks.play(script)),

@@ -10,8 +10,8 @@ use Rattle.std.proofs.lemmas.List.Edits.{length-remove}
 use Rattle.std.proofs.lemmas.Option.{slice_get-get_or}
 use Rattle.std.proofs.Math.Seq.{take-append_seam}
 use Rattle.executor_parts.specs.Order.{IsIn, IsApart, without}
-use Rattle.executor_parts.specs.Sleepers.{Sleepers, position_of, flag_of, without_last, next_number, laid_down, without_entry, freed, risen}
-use Rattle.executor_parts.specs.Sleeping.{Step, ExchangeFlag, HandOut, LieDown, LieDownAgain, GetUp, MakeRoom, GiveBack, Lying, awake}
+use Rattle.executor_parts.specs.Sleepers.{Sleepers, position_of, flag_of, without_last, next_number, put_to_sleep, without_entry, freed, woken_up}
+use Rattle.executor_parts.specs.Sleeping.{Step, ExchangeFlag, HandOut, FallAsleep, FallAsleepAgain, WakeUp, MakeRoom, GiveBack, AllSleepers, awake}
 use Rattle.executor_parts.specs.Sleeping.{stored, handed_by, exchanged_by, again_by, after, MayTake, run, MayRun, Agree}
 use Rattle.executor_parts.proofs.Cells.{without_no, without_yes}
 use Rattle.executor_parts.proofs.Ring.{is_in_without, is_in_kept, is_apart_without, left, length-without, is_in_push, is_in_push_kept}
@@ -204,7 +204,7 @@ module _ {W : Type 0} where
 
   -- ---- what each step keeps
 
-  pub record Keeps (s : Lying W) : Type 0 where
+  pub record Keeps (s : AllSleepers W) : Type 0 where
     pub agree : Agree s
     pub listed_apart : IsApart (numbers_of s.sleepers.wakers)
     pub listed_in : (k : ℕ) → IsIn k (numbers_of s.sleepers.wakers) → IsIn k s.numbers
@@ -215,7 +215,7 @@ module _ {W : Type 0} where
 
   -- the lists stay, and the flag is told of
   with_flag :
-      (s new : Lying W)
+      (s new : AllSleepers W)
       → Keeps s → new.sleepers.count ≡ s.sleepers.count → new.sleepers.wakers ≡ s.sleepers.wakers
       → new.sleepers.free ≡ s.sleepers.free → new.numbers ≡ s.numbers → new.sleepers.count ≤ new.sleepers.rooms
       → (new.flag ≡ true → (flag_of new.sleepers ≡ true) ⊎ (1 ≤ new.tellers)) → Keeps new
@@ -235,14 +235,14 @@ module _ {W : Type 0} where
     free_bounded = rw (count, free) k.free_bounded;
   }
 
-  exchange : (s : Lying W) → Keeps s → Keeps (exchanged_by s.flag s)
+  exchange : (s : AllSleepers W) → Keeps s → Keeps (exchanged_by s.flag s)
   exchange s k = of s.flag
     where
       of : (b : Bool) → Keeps (exchanged_by b s)
       of true = k
       of false = with_flag s (exchanged_by false s) k refl refl refl refl k.agree.within (λ _. inr (omega arith))
 
-  hand : (s : Lying W) → Keeps s → Keeps (handed_by (eqb (length s.sleepers.wakers) s.sleepers.count) s)
+  hand : (s : AllSleepers W) → Keeps s → Keeps (handed_by (eqb (length s.sleepers.wakers) s.sleepers.count) s)
   hand s k =
       elim (cases_eq (length s.sleepers.wakers) s.sleepers.count) [
         | inl all ↦ let t : eqb (length s.sleepers.wakers) s.sleepers.count ≡ true = grind (arith, nat_tests) in rw t (last all)
@@ -283,7 +283,7 @@ module _ {W : Type 0} where
       }
 
   -- one more sleeps, under a number that nobody has
-  lies : (s : Lying W) (waker : W) (n : ℕ) (front : List ℕ) → Keeps s → s.sleepers.count < s.sleepers.rooms → ¬ IsIn n s.numbers
+  sleeps : (s : AllSleepers W) (waker : W) (n : ℕ) (front : List ℕ) → Keeps s → s.sleepers.count < s.sleepers.rooms → ¬ IsIn n s.numbers
       → IsApart front → ((m : ℕ) → IsIn m front → IsIn m s.sleepers.free × (m ≢ n)) → n ≤ s.sleepers.count + 1 + length front
       → s.sleepers.count + length s.sleepers.free ≤ s.sleepers.count + 1 + length front
       → Keeps (stored (record s.sleepers {
@@ -292,7 +292,7 @@ module _ {W : Type 0} where
         free =
             front;
       }) (n ∷ s.numbers) s.tellers)
-  lies s waker n front k room new apart kept bound total =
+  sleeps s waker n front k room new apart kept bound total =
       let numbers = numbers_pushed s.sleepers.wakers n waker in
       record {
         agree = record {
@@ -314,15 +314,15 @@ module _ {W : Type 0} where
         free_bounded = λ m free. omega (arith, k.free_bounded m (kept m free).0, total);
       }
 
-  lie :
-      (s : Lying W) (waker : W)
+  sleep :
+      (s : AllSleepers W) (waker : W)
       → s.sleepers.count < s.sleepers.rooms → Keeps s
-      → Keeps (stored (laid_down waker s.sleepers) (next_number s.sleepers ∷ s.numbers) s.tellers)
-  lie s waker room k =
+      → Keeps (stored (put_to_sleep waker s.sleepers) (next_number s.sleepers ∷ s.numbers) s.tellers)
+  sleep s waker room k =
       elim (snoc_cases s.sleepers.free) [
         | inl none ↦
             rw none
-            (lies s waker (s.sleepers.count + 1) [] k room (λ found. absurd (omega (
+            (sleeps s waker (s.sleepers.count + 1) [] k room (λ found. absurd (omega (
               arith,
               k.bounded (s.sleepers.count + 1) found,
               ap (λ (xs : List ℕ). length xs) none,
@@ -339,7 +339,7 @@ module _ {W : Type 0} where
             let rest : take (length s.sleepers.free - 1) s.sleepers.free ≡ some.0 = ap (λ (xs : List ℕ). take (length xs - 1) xs) some.2
             ∙ take_last some.0 some.1 in
             rw (next, rest)
-            (lies s waker some.1 some.0 k room (k.free_out some.1 last_free) apart.0
+            (sleeps s waker some.1 some.0 k room (k.free_out some.1 last_free) apart.0
             (λ m found. (
               rw some.2 (is_in_push_kept some.1 m some.0 found),
               λ same. apart.1 (subst (λ x. IsIn x some.0) same found),
@@ -350,7 +350,7 @@ module _ {W : Type 0} where
             )) (omega (arith, long)))
       ]
 
-  again : (s : Lying W) (n : ℕ) (waker : W) → IsIn n s.numbers → Keeps s → Keeps (again_by (position_of n s.sleepers.wakers) n waker s)
+  again : (s : AllSleepers W) (n : ℕ) (waker : W) → IsIn n s.numbers → Keeps s → Keeps (again_by (position_of n s.sleepers.wakers) n waker s)
   again s n waker mine k = of (position_of n s.sleepers.wakers) refl
     where
       of : (o : Option ℕ) → position_of n s.sleepers.wakers ≡ o → Keeps (again_by o n waker s)
@@ -397,12 +397,12 @@ module _ {W : Type 0} where
           }
 
   -- the number of one who has no entry any more is free
-  rises :
-      (s : Lying W) (n : ℕ) (wakers : List (ℕ × W))
+  wakes_up :
+      (s : AllSleepers W) (n : ℕ) (wakers : List (ℕ × W))
       → IsIn n s.numbers → Keeps s → length wakers < s.sleepers.count → IsApart (numbers_of wakers)
       → ((m : ℕ) → IsIn m (numbers_of wakers) → IsIn m s.numbers × (m ≢ n))
       → Keeps (stored (freed n (record s.sleepers { wakers = wakers })) (without n s.numbers) s.tellers)
-  rises s n wakers mine k less apart kept =
+  wakes_up s n wakers mine k less apart kept =
       let t : ltb (length wakers) s.sleepers.count ≡ true = grind (arith, nat_tests) in
       let counted = length-without n s.numbers mine in
       let here : freed n (record s.sleepers { wakers = wakers })
@@ -433,8 +433,8 @@ module _ {W : Type 0} where
         ];
       })
 
-  rise : (s : Lying W) (n : ℕ) → IsIn n s.numbers → Keeps s → Keeps (stored (risen n s.sleepers) (without n s.numbers) s.tellers)
-  rise s n mine k = of (position_of n s.sleepers.wakers) refl
+  wake_it_up : (s : AllSleepers W) (n : ℕ) → IsIn n s.numbers → Keeps s → Keeps (stored (woken_up n s.sleepers) (without n s.numbers) s.tellers)
+  wake_it_up s n mine k = of (position_of n s.sleepers.wakers) refl
     where
       of :
           (o : Option ℕ)
@@ -443,7 +443,7 @@ module _ {W : Type 0} where
       of None none =
           let absent = position_none n s.sleepers.wakers none in
           let less = fewer n (numbers_of s.sleepers.wakers) s.numbers k.listed_apart absent mine k.listed_in in
-          rises s n s.sleepers.wakers mine k (omega (
+          wakes_up s n s.sleepers.wakers mine k (omega (
             arith,
             less,
             k.agree.counted,
@@ -455,7 +455,7 @@ module _ {W : Type 0} where
       of (Some at) here =
           let numbers = numbers_removed n at s.sleepers.wakers k.listed_apart here in
           let gone = left n (numbers_of s.sleepers.wakers) k.listed_apart in
-          rises s n (remove s.sleepers.wakers at) mine k (omega (
+          wakes_up s n (remove s.sleepers.wakers at) mine k (omega (
             arith,
             length-remove s.sleepers.wakers at (position_within n at s.sleepers.wakers here),
             k.agree.listed,
@@ -465,16 +465,16 @@ module _ {W : Type 0} where
             λ same. gone (subst (λ x. IsIn x (without n (numbers_of s.sleepers.wakers))) same there),
           ))
 
-  pub keeps : (t : Step W) (s : Lying W) → MayTake t s → Keeps s → Keeps (after t s)
+  pub keeps : (t : Step W) (s : AllSleepers W) → MayTake t s → Keeps s → Keeps (after t s)
   keeps ExchangeFlag s may k = exchange s k
   keeps HandOut s may k = hand s k
-  keeps (LieDown waker) s may k = lie s waker may k
-  keeps (LieDownAgain n waker) s may k = again s n waker may k
-  keeps (GetUp n) s may k = rise s n may k
+  keeps (FallAsleep waker) s may k = sleep s waker may k
+  keeps (FallAsleepAgain n waker) s may k = again s n waker may k
+  keeps (WakeUp n) s may k = wake_it_up s n may k
   keeps MakeRoom s may k = with_flag s (after MakeRoom s) k refl refl refl refl (omega (arith, k.agree.within)) k.agree.told
   keeps GiveBack s may k = with_flag s (after GiveBack s) k refl refl refl refl (omega (arith, may)) k.agree.told
 
-  kept : (steps : List (Step W)) (s : Lying W) → MayRun steps s → Keeps s → Keeps (run steps s)
+  kept : (steps : List (Step W)) (s : AllSleepers W) → MayRun steps s → Keeps s → Keeps (run steps s)
   kept [] s may k = k
   kept (t ∷ ts) s may k = kept ts (after t s) may.1 (keeps t s may.0 k)
 

@@ -3,3 +3,4 @@ pub mod Ring
 pub mod Placing
 pub mod Sleeping
 pub mod Agreeing
+pub mod Turning

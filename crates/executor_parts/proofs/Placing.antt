@@ -9,7 +9,7 @@ use Rattle.slab.specs.Slab.{Slab, get, slab_len, with_value, Updates}
 use Rattle.slab.proofs.SlabLemmas.{Updates-with_value}
 use Rattle.executor_parts.specs.Order.{without}
 use Rattle.executor_parts.specs.declared.places.Held.{Held}
-use Rattle.executor_parts.specs.declared.places.Place.{Place}
+use Rattle.executor_parts.specs.declared.places.EntryPlace.{EntryPlace}
 use Rattle.executor_parts.specs.Order.{IsIn, IsApart}
 use Rattle.executor_parts.specs.Places.{Entry, entry_at, without_entry, with_future, stamped, entry_in, where_there, left_by, set_future}
 use Rattle.executor_parts.specs.Places.{parts_of, shown, entries_of, IsPlaced}
@@ -335,13 +335,13 @@ module _ {F W : Type 0} where
 
   -- nothing is under the key
   pub none_in :
-      (p : Place) (slab : Slab (Held F W)) (keys : List ℕ)
+      (p : EntryPlace) (slab : Slab (Held F W)) (keys : List ℕ)
       → IsPlaced slab keys → get slab p.key ≡ None → entry_in p (entries_of slab keys) ≡ None
   none_in p slab keys placed vacant = ap (stamped p.stamp) (reads_none slab keys p.key placed vacant)
 
   -- what is under the key is of another stamp
   other_by :
-      (p : Place) (slab : Slab (Held F W)) (keys : List ℕ) (h : Held F W)
+      (p : EntryPlace) (slab : Slab (Held F W)) (keys : List ℕ) (h : Held F W)
       → IsPlaced slab keys → get slab p.key ≡ Some h → eqb h.stamp p.stamp ≡ false → entry_in p (entries_of slab keys) ≡ None
   other_by p slab keys h placed read differs =
       let here : stamped p.stamp (Some (entry_of p.key h)) ≡ None = rw (differs, stamped) refl in
@@ -349,7 +349,7 @@ module _ {F W : Type 0} where
 
   -- it is there
   here_by :
-      (p : Place) (slab : Slab (Held F W)) (keys : List ℕ) (h : Held F W)
+      (p : EntryPlace) (slab : Slab (Held F W)) (keys : List ℕ) (h : Held F W)
       → IsPlaced slab keys → get slab p.key ≡ Some h → eqb h.stamp p.stamp ≡ true
       → entry_in p (entries_of slab keys) ≡ Some (entry_of p.key h)
   here_by p slab keys h placed read same =
@@ -357,13 +357,13 @@ module _ {F W : Type 0} where
       ap (stamped p.stamp) (reads_some slab keys p.key h placed read) ∙ here
 
   pub other_in :
-      (p : Place) (slab : Slab (Held F W)) (keys : List ℕ) (h : Held F W)
+      (p : EntryPlace) (slab : Slab (Held F W)) (keys : List ℕ) (h : Held F W)
       → IsPlaced slab keys → get slab p.key ≡ Some h → h.stamp ≢ p.stamp → entry_in p (entries_of slab keys) ≡ None
   other_in p slab keys h placed read differs = let t : eqb h.stamp p.stamp ≡ false = grind (arith, nat_tests)
       in other_by p slab keys h placed read t
 
   pub here_in :
-      (p : Place) (slab : Slab (Held F W)) (keys : List ℕ) (h : Held F W)
+      (p : EntryPlace) (slab : Slab (Held F W)) (keys : List ℕ) (h : Held F W)
       → IsPlaced slab keys → get slab p.key ≡ Some h → h.stamp ≡ p.stamp
       → entry_in p (entries_of slab keys) ≡ Some (entry_of p.key h)
   here_in p slab keys h placed read same = let t : eqb h.stamp p.stamp ≡ true = grind (arith, nat_tests)
@@ -371,7 +371,7 @@ module _ {F W : Type 0} where
 
   -- whether it is there
   pub is_here :
-      (p : Place) (slab : Slab (Held F W)) (keys : List ℕ) (h : Held F W)
+      (p : EntryPlace) (slab : Slab (Held F W)) (keys : List ℕ) (h : Held F W)
       → IsPlaced slab keys → get slab p.key ≡ Some h → is_some (entry_in p (entries_of slab keys)) ≡ eqb h.stamp p.stamp
   is_here p slab keys h placed read = of (eqb h.stamp p.stamp) refl
     where
@@ -380,7 +380,7 @@ module _ {F W : Type 0} where
       of false differs = ap is_some (other_by p slab keys h placed read differs)
 
   -- a change at a place where there is no entry is none
-  pub unset : (p : Place) (future : Option F) (es : List (Entry F W)) → entry_in p es ≡ None → set_future p future es ≡ es
+  pub unset : (p : EntryPlace) (future : Option F) (es : List (Entry F W)) → entry_in p es ≡ None → set_future p future es ≡ es
   unset p future es none = ap (λ (o : Option (Entry F W)). where_there o (with_future p.key future es) es) none
 
   -- a write of what is there already
@@ -397,7 +397,7 @@ module _ {F W : Type 0} where
 
   -- a write of the future of an entry that is there
   pub set_here :
-      (p : Place) (slab : Slab (Held F W)) (keys : List ℕ) (h : Held F W) (future : Option F)
+      (p : EntryPlace) (slab : Slab (Held F W)) (keys : List ℕ) (h : Held F W) (future : Option F)
       → IsPlaced slab keys → get slab p.key ≡ Some h → h.stamp ≡ p.stamp
       → entries_of (with_value slab p.key (record h { future = future })) keys ≡ set_future p future (entries_of slab keys)
   set_here p slab keys h future placed read same =
@@ -430,17 +430,17 @@ module _ {F W : Type 0} where
           absurd (false≢true (sym (ap is_some none) ∙ some))
 
   -- where it is there, it is the one under its key
-  pub same_in : (p : Place) (es : List (Entry F W)) → is_some (entry_in p es) ≡ true → entry_in p es ≡ entry_at p.key es
+  pub same_in : (p : EntryPlace) (es : List (Entry F W)) → is_some (entry_in p es) ≡ true → entry_in p es ≡ entry_at p.key es
   same_in p es some = stamped_same p.stamp (entry_at p.key es) some
 
-  pub left_here : (p : Place) (es : List (Entry F W)) → is_some (entry_in p es) ≡ true → left_by p es ≡ without_entry p.key es
+  pub left_here : (p : EntryPlace) (es : List (Entry F W)) → is_some (entry_in p es) ≡ true → left_by p es ≡ without_entry p.key es
   left_here p es some = of (entry_in p es) some
     where
       of : (o : Option (Entry F W)) → is_some o ≡ true → where_there o (without_entry p.key es) es ≡ without_entry p.key es
       of None some = absurd (false≢true some)
       of (Some e) some = refl
 
-  pub left_none : (p : Place) (es : List (Entry F W)) → is_some (entry_in p es) ≡ false → left_by p es ≡ es
+  pub left_none : (p : EntryPlace) (es : List (Entry F W)) → is_some (entry_in p es) ≡ false → left_by p es ≡ es
   left_none p es none = of (entry_in p es) none
     where
       of : (o : Option (Entry F W)) → is_some o ≡ false → where_there o (without_entry p.key es) es ≡ es

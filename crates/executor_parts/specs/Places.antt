@@ -1,11 +1,11 @@
 -- What a contract sees of `Places`, and how they lie.
 use Rattle.std.specs.Prelude.{◌≡◌, ℕ, ◌<◌, ◌≤◌, ◌==◌, ◌&&◌, nat_lt, nat_le, Bool, true, false, List, [], ◌∷◌, length, Option, Some, None}
-use Rattle.std.specs.Prelude.{IsSome, refl}
+use Rattle.std.specs.Prelude.{IsSome, refl, ◌++◌}
 use Rattle.std.specs.Coded.{Coded, code_by, coded×, coded_ℕ, coded_bool, coded_list, coded_option}
 use Rattle.slab.specs.Slab.{Slab, get, slab_len}
 use Rattle.executor_parts.specs.Order.{Order, IsIn, IsApart}
 use Rattle.executor_parts.specs.declared.places.Held.{Held}
-use Rattle.executor_parts.specs.declared.places.Place.{Place}
+use Rattle.executor_parts.specs.declared.places.EntryPlace.{EntryPlace}
 use Rattle.executor_parts.specs.declared.places.Vacancy.{Vacancy}
 use Rattle.executor_parts.specs.declared.places.SpawnRefused.{SpawnRefused}
 use Rattle.executor_parts.specs.declared.places.SpawnRefused.TheVariants.{Full, NoMemory}
@@ -24,7 +24,7 @@ pub record Places (F W : Type 0) : Type 0 where
   -- at most so many
   pub limit : ℕ
   -- where the next one enters
-  pub next : Place
+  pub next : EntryPlace
   -- one more may enter without memory
   pub has_room : Bool
   -- as many as the limit may be there without memory
@@ -57,7 +57,7 @@ places_code {F} {W} future waker =
 
 module _ {F W : Type 0} where
   -- where an entry is
-  abbrev pub place_of : Entry F W → Place
+  abbrev pub place_of : Entry F W → EntryPlace
   place_of e = record { key = e.key; stamp = e.stamp }
 
   -- the entry under a key
@@ -81,7 +81,7 @@ module _ {F W : Type 0} where
   stamped stamp (Some e) = elim (e.stamp == stamp) [ true ↦ Some e | false ↦ None ]
 
   -- the entry at a place, if it is still there
-  abbrev pub entry_in : Place → List (Entry F W) → Option (Entry F W)
+  abbrev pub entry_in : EntryPlace → List (Entry F W) → Option (Entry F W)
   entry_in place es = stamped place.stamp (entry_at place.key es)
 
   -- the first where there is such an entry, else the second
@@ -90,11 +90,11 @@ module _ {F W : Type 0} where
   where_there (Some e) changed same = changed
 
   -- without the entry at a place, if that is still there
-  abbrev pub left_by : Place → List (Entry F W) → List (Entry F W)
+  abbrev pub left_by : EntryPlace → List (Entry F W) → List (Entry F W)
   left_by place es = where_there (entry_in place es) (without_entry place.key es) es
 
   -- the entry at a place, if that is still there, has this future, or none
-  abbrev pub set_future : Place → Option F → List (Entry F W) → List (Entry F W)
+  abbrev pub set_future : EntryPlace → Option F → List (Entry F W) → List (Entry F W)
   set_future place future es = where_there (entry_in place es) (with_future place.key future es) es
 
   abbrev pub future_of : Option (Entry F W) → Option F
@@ -150,3 +150,18 @@ module _ {F W : Type 0} where
     pub apart : IsApart keys
     pub known : (key : ℕ) → IsSome (get slab key) → IsIn key keys
     pub there : (key : ℕ) → IsIn key keys → IsSome (get slab key)
+
+module _ {F V : Type 0} where
+  -- its waker was taken out
+  abbrev pub unwoken : Entry F (Option V) → Entry F (Option V)
+  unwoken e = record e { waker = None }
+
+  -- the waker of the first entry, if both are there
+  abbrev pub first_waker : List (Entry F (Option V)) → Option V
+  first_waker [] = None
+  first_waker (e ∷ es) = e.waker
+
+  -- the first entry comes last, without a waker
+  abbrev pub turned : List (Entry F (Option V)) → List (Entry F (Option V))
+  turned [] = []
+  turned (e ∷ es) = es ++ unwoken e ∷ []

@@ -69,13 +69,13 @@ module _ {W : Type 0} where
   abbrev pub without_last : Sleepers W → Sleepers W
   without_last s = record s { wakers = take (length s.wakers - 1) s.wakers }
 
-  -- the number of the next who lies down: the one that was given back last, else the one after all
+  -- the number of the next who falls asleep: the one that was given back last, else the one after all
   abbrev pub next_number : Sleepers W → ℕ
   next_number s = unwrap_or (slice_get s.free (length s.free - 1)) (s.count + 1)
 
   -- one more sleeps
-  abbrev pub laid_down : W → Sleepers W → Sleepers W
-  laid_down waker s = record s {
+  abbrev pub put_to_sleep : W → Sleepers W → Sleepers W
+  put_to_sleep waker s = record s {
     count = s.count + 1;
     wakers = s.wakers ++ (next_number s, waker) ∷ [];
     free =
@@ -86,7 +86,7 @@ module _ {W : Type 0} where
   abbrev pub listed : ℕ → W → Sleepers W → Sleepers W
   listed number waker s = record s { wakers = s.wakers ++ (number, waker) ∷ [] }
 
-  -- how a sleeper of this number lay down again: its entry's waker was replaced; it had none and got one; or all sleepers have one
+  -- how a sleeper of this number fell asleep again: its entry's waker was replaced; it had none and got one; or all sleepers have one
   -- already, and it is none of them
   abbrev pub IsAgain : ℕ → W → Sleepers W → Sleepers W → Again W → Type 0
   IsAgain number waker old new (Replaced was) = (at : ℕ) × (position_of number old.wakers ≡ Some at)
@@ -108,5 +108,5 @@ module _ {W : Type 0} where
   ]
 
   -- the entry of this number goes, if it is there, and the number is free
-  abbrev pub risen : ℕ → Sleepers W → Sleepers W
-  risen number s = freed number (without_entry (position_of number s.wakers) s)
+  abbrev pub woken_up : ℕ → Sleepers W → Sleepers W
+  woken_up number s = freed number (without_entry (position_of number s.wakers) s)

@@ -2,77 +2,77 @@
 use Rattle.std.specs.Prelude.{◌≡◌, ◌⊎◌, ℕ, ◌+◌, ◌-◌, ◌<◌, ◌≤◌, ◌==◌, Bool, true, false, List, [], ◌∷◌, length, slice_set, Option, Some}
 use Rattle.std.specs.Prelude.{None}
 use Rattle.executor_parts.specs.Order.{IsIn, IsApart, without}
-use Rattle.executor_parts.specs.Sleepers.{Sleepers, position_of, flag_of, without_last, next_number, laid_down, listed, risen}
+use Rattle.executor_parts.specs.Sleepers.{Sleepers, position_of, flag_of, without_last, next_number, put_to_sleep, listed, woken_up}
 
 -- the flag's exchange, or one section under the lock
 pub data Step (W : Type 0) : Type 0 where
   ExchangeFlag : Step W
   HandOut : Step W
-  LieDown : W → Step W
-  LieDownAgain : ℕ → W → Step W
+  FallAsleep : W → Step W
+  FallAsleepAgain : ℕ → W → Step W
   -- or leave, which differs in its answer alone
-  GetUp : ℕ → Step W
+  WakeUp : ℕ → Step W
   MakeRoom : Step W
   GiveBack : Step W
 
-pub record Lying (W : Type 0) : Type 0 where
+pub record AllSleepers (W : Type 0) : Type 0 where
   pub sleepers : Sleepers W
   pub flag : Bool
-  -- the numbers that were given out, and whose owner hasn't got up or left
+  -- the numbers that were given out, and whose owner hasn't woke up or left
   pub numbers : List ℕ
   -- how many have won the flag's exchange and haven't yet handed out
   pub tellers : ℕ
 
 module _ {W : Type 0} where
   -- nobody sleeps, and so the flag is true
-  abbrev pub awake : Lying W
+  abbrev pub awake : AllSleepers W
   awake = record { sleepers = record { count = 0; rooms = 0; wakers = []; free = [] }; flag = true; numbers = []; tellers = 0 }
 
   -- the section stored what the flag is to be
-  abbrev pub stored : Sleepers W → List ℕ → ℕ → Lying W
+  abbrev pub stored : Sleepers W → List ℕ → ℕ → AllSleepers W
   stored sleepers numbers tellers = record { sleepers = sleepers; flag = flag_of sleepers; numbers = numbers; tellers = tellers }
 
-  abbrev pub handed_by : Bool → Lying W → Lying W
+  abbrev pub handed_by : Bool → AllSleepers W → AllSleepers W
   handed_by true s = record s { sleepers = without_last s.sleepers; tellers = s.tellers - 1 }
   handed_by false s = record s { tellers = s.tellers - 1 }
 
-  abbrev pub exchanged_by : Bool → Lying W → Lying W
+  abbrev pub exchanged_by : Bool → AllSleepers W → AllSleepers W
   exchanged_by true s = s
   exchanged_by false s = record s { flag = true; tellers = s.tellers + 1 }
 
-  abbrev pub again_by : Option ℕ → ℕ → W → Lying W → Lying W
+  abbrev pub again_by : Option ℕ → ℕ → W → AllSleepers W → AllSleepers W
   again_by (Some at) number waker s = record s { sleepers = record s.sleepers { wakers = slice_set s.sleepers.wakers at (number, waker) } }
   again_by None number waker s = stored (listed number waker s.sleepers) s.numbers s.tellers
 
-  abbrev pub after : Step W → Lying W → Lying W
+  abbrev pub after : Step W → AllSleepers W → AllSleepers W
   after ExchangeFlag s = exchanged_by s.flag s
   after HandOut s = handed_by (length s.sleepers.wakers == s.sleepers.count) s
-  after (LieDown waker) s = stored (laid_down waker s.sleepers) (next_number s.sleepers ∷ s.numbers) s.tellers
-  after (LieDownAgain number waker) s = again_by (position_of number s.sleepers.wakers) number waker s
-  after (GetUp number) s = stored (risen number s.sleepers) (without number s.numbers) s.tellers
+  after (FallAsleep waker) s = stored (put_to_sleep waker s.sleepers) (next_number s.sleepers ∷ s.numbers) s.tellers
+  after (FallAsleepAgain number waker) s = again_by (position_of number s.sleepers.wakers) number waker s
+  after (WakeUp number) s = stored (woken_up number s.sleepers) (without number s.numbers) s.tellers
   after MakeRoom s = record s { sleepers = record s.sleepers { rooms = s.sleepers.rooms + 1 } }
   after GiveBack s = record s { sleepers = record s.sleepers { rooms = s.sleepers.rooms - 1 } }
 
-  -- who may take it: a teller hands out, who has room lies down or gives it back, and who has a number lies down again, gets up or leaves
-  abbrev pub MayTake : Step W → Lying W → Type 0
+  -- who may take it: a teller hands out, who has room falls asleep or gives it back, and who has a number falls asleep again, wakes up or leaves
+  abbrev pub MayTake : Step W → AllSleepers W → Type 0
   MayTake HandOut s = 1 ≤ s.tellers
-  MayTake (LieDown waker) s = s.sleepers.count < s.sleepers.rooms
-  MayTake (LieDownAgain number waker) s = IsIn number s.numbers
-  MayTake (GetUp number) s = IsIn number s.numbers
+  MayTake (FallAsleep waker) s = s.sleepers.count < s.sleepers.rooms
+  MayTake (FallAsleepAgain number waker) s = IsIn number s.numbers
+  MayTake (WakeUp number) s = IsIn number s.numbers
   MayTake GiveBack s = s.sleepers.count < s.sleepers.rooms
   MayTake _ s = Unit {0}
 
-  abbrev pub run : List (Step W) → Lying W → Lying W
+  abbrev pub run : List (Step W) → AllSleepers W → AllSleepers W
   run [] s = s
   run (t ∷ ts) s = run ts (after t s)
 
-  abbrev pub MayRun : List (Step W) → Lying W → Type 0
+  abbrev pub MayRun : List (Step W) → AllSleepers W → Type 0
   MayRun [] s = Unit {0}
   MayRun (t ∷ ts) s = MayTake t s × MayRun ts (after t s)
 
   -- no two have one number, there are as many numbers as sleepers and no more wakers, and the flag is true only where nobody sleeps, a
   -- sleeper is notified, or somebody has still to hand out
-  pub record Agree (s : Lying W) : Type 0 where
+  pub record Agree (s : AllSleepers W) : Type 0 where
     pub apart : IsApart s.numbers
     pub counted : length s.numbers ≡ s.sleepers.count
     pub listed : length s.sleepers.wakers ≤ s.sleepers.count

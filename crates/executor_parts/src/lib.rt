@@ -7,5 +7,5 @@ mod order;
 mod places;
 mod sleepers;
 
-pub use places::{Place, Places, SpawnRefused, Vacancy};
-pub use sleepers::{Again, Risen, Room, Sleeper, Sleepers, Slept, Unreserved, exchange_flag};
+pub use places::{EntryPlace, Places, SpawnRefused, Vacancy};
+pub use sleepers::{Again, Room, Sleeper, Sleepers, Slept, Unreserved, WokenUp, exchange_flag};

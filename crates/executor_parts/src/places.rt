@@ -3,7 +3,7 @@ ghost use Rattle.std.specs.Prelude.{◌≡◌, ℕ, ◌%◌, ◌^◌, ◌+◌, �
 ghost use Rattle.std.specs.Prelude.{IfSome, IfOk, IfErr, IsSome, is_some, length, map, option_copied};
 ghost use Rattle.executor_parts.specs.Order.{IsApart};
 ghost use Rattle.executor_parts.specs.Places.{entry_at, without_entry, entry_in, left_by, set_future, future_of, waker_of, parts_of};
-ghost use Rattle.executor_parts.specs.Places.{displaced, IsVacancy, IsRefusal};
+ghost use Rattle.executor_parts.specs.Places.{displaced, IsVacancy, IsRefusal, first_waker, turned};
 
 use crate::order::Order;
 use slab::Slab;
@@ -27,7 +27,7 @@ pub struct Places<F, W> {
 /// Where an entry is: a number that a task's cell keeps in the place of the future. An entry that left is not mistaken
 /// for a later one under the same key, which has another stamp (until 2^64 futures were accepted).
 #[derive(Clone, Copy, Debug, PartialEq, Eq)]
-pub struct Place {
+pub struct EntryPlace {
     key: usize,
     stamp: u64,
 }
@@ -36,7 +36,7 @@ pub struct Place {
 /// giving it back: it has no drop.
 #[must_use]
 pub struct Vacancy {
-    place: Place,
+    place: EntryPlace,
 }
 
 /// Why a future is not accepted.
@@ -73,7 +73,7 @@ impl<F, W> Model for Places<F, W> {
 
 impl Vacancy {
     /// Where the future will be.
-    pub fn place(&self) -> Place
+    pub fn place(&self) -> EntryPlace
         ensures { result ≡ self.now.place }
     {
         self.place
@@ -177,7 +177,7 @@ impl<F, W> Places<F, W> {
             return Err(SpawnRefused::NoMemory);
         }
         Ok(Vacancy {
-            place: Place {
+            place: EntryPlace {
                 key: self.slab.vacant_key(),
                 stamp: self.next,
             },
@@ -206,7 +206,7 @@ impl<F, W> Places<F, W> {
 
     /// The future is taken out of its entry, to be polled or dropped. Answers none where there is no such entry, or the
     /// future is out.
-    pub fn take(&mut self, place: Place) -> Option<F>
+    pub fn take(&mut self, place: EntryPlace) -> Option<F>
         ensures future { result ≡ future_of (entry_in place self.old.entries) }
         ensures out { self.new.entries ≡ set_future place None self.old.entries }
         ensures rest { self.new ≡ record self.old { entries = self.new.entries } }
@@ -223,7 +223,7 @@ impl<F, W> Places<F, W> {
 
     /// The future is put back into its entry. Answers what has no place then: the future where there is no such entry,
     /// or the one that was there.
-    pub fn put_back(&mut self, place: Place, future: F) -> Option<F>
+    pub fn put_back(&mut self, place: EntryPlace, future: F) -> Option<F>
         ensures over { result ≡ displaced future (entry_in place self.old.entries) }
         ensures back { self.new.entries ≡ set_future place (Some future) self.old.entries }
         ensures rest { self.new ≡ record self.old { entries = self.new.entries } }
@@ -239,7 +239,7 @@ impl<F, W> Places<F, W> {
     }
 
     /// The waker that an entry has. No two entries have one key, so no two have one place.
-    pub fn waker(&self, place: Place) -> Option<&W>
+    pub fn waker(&self, place: EntryPlace) -> Option<&W>
         ensures waker { option_copied result ≡ waker_of (entry_in place self.now.entries) }
         ensures apart { IsApart (map (λ e. e.key) self.now.entries) }
     {
@@ -256,7 +256,7 @@ impl<F, W> Places<F, W> {
     }
 
     /// Whether there is an entry.
-    pub fn contains(&self, place: Place) -> bool
+    pub fn contains(&self, place: EntryPlace) -> bool
         ensures { result ≡ is_some (entry_in place self.now.entries) }
     {
         match self.slab.get(place.key) {
@@ -266,7 +266,7 @@ impl<F, W> Places<F, W> {
     }
 
     /// An entry goes, and its future, if that is there, and its waker are answered.
-    pub fn leave(&mut self, place: Place) -> Option<(Option<F>, W)>
+    pub fn leave(&mut self, place: EntryPlace) -> Option<(Option<F>, W)>
         ensures parts { result ≡ parts_of (entry_in place self.old.entries) }
         ensures left { self.new.entries ≡ left_by place self.old.entries }
         ensures limit { self.new.limit ≡ self.old.limit }
@@ -319,5 +319,26 @@ impl<F, W> Places<F, W> {
         ensures into { self.new ≡ other.old }
     {
         mem::swap(self, other);
+    }
+}
+
+impl<F, V> Places<F, Option<V>> {
+    /// The first entry comes last, and its waker is taken out. A call for each entry leaves all in their order. It takes no
+    /// memory.
+    pub fn turn(&mut self) -> Option<V>
+        ensures waker { result ≡ first_waker self.old.entries }
+        ensures turned { self.new.entries ≡ turned self.old.entries }
+        ensures rest { self.new ≡ record self.old { entries = self.new.entries } }
+    {
+        let Some(first) = self.order.first() else {
+            return None;
+        };
+        self.order.remove(first);
+        self.order.push(first);
+        let held = match self.slab.get_mut(first) {
+            Some(held) => held,
+            None => return None,
+        };
+        held.waker.take()
     }
 }

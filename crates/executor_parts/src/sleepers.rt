@@ -1,6 +1,6 @@
-//! The list of sleepers: the ticks and runs that lie down where they find nothing to do.
+//! The list of sleepers: the ticks and runs that fall asleep where they find nothing to do.
 ghost use Rattle.std.specs.Prelude.{◌≡◌, ◌≢◌, ◌+◌, ◌<◌, ◌≤◌, [], true, not, None, OnOk, IfOk, IfErr, IfSome, is_none, length, vec_capacity};
-ghost use Rattle.executor_parts.specs.Sleepers.{flag_of, last_waker, without_last, laid_down, next_number, IsAgain, risen, waker_of};
+ghost use Rattle.executor_parts.specs.Sleepers.{flag_of, last_waker, without_last, put_to_sleep, next_number, IsAgain, woken_up, waker_of};
 ghost use Rattle.executor_parts.specs.Sleepers.{position_of};
 
 use std::alloc::{AllocError, Global};
@@ -23,19 +23,19 @@ pub struct Sleepers<W> {
     free: Vec<usize>,
 }
 
-/// Room for one sleeper. It has no drop: it is lain down in, or given back.
+/// Room for one sleeper. It has no drop: it is fallen asleep in, or given back.
 #[must_use]
 pub struct Room {
     seal: (),
 }
 
-/// The number of one who sleeps. It has no drop: who has it gets up or leaves.
+/// The number of one who sleeps. It has no drop: who has it wakes up or leaves.
 #[must_use]
 pub struct Sleeper {
     number: usize,
 }
 
-/// One lay down.
+/// One fell asleep.
 #[must_use]
 pub struct Slept {
     /// Its number.
@@ -44,14 +44,14 @@ pub struct Slept {
     pub notified: bool,
 }
 
-/// There was no room to lie down in: the room is of another list. Both come back.
+/// There was no room to sleep in: the room is of another list. Both come back.
 #[must_use]
 pub struct Unreserved<W> {
     pub room: Room,
     pub waker: W,
 }
 
-/// How one lay down again.
+/// How one fell asleep again.
 #[must_use]
 #[derive(Clone, Copy, Debug, PartialEq, Eq, Drop)]
 pub enum Again<W> {
@@ -64,9 +64,9 @@ pub enum Again<W> {
     Unknown(W),
 }
 
-/// One got up, or left.
+/// One woke up, or left.
 #[must_use]
-pub struct Risen<W> {
+pub struct WokenUp<W> {
     /// Its room.
     pub room: Room,
     /// Its waker, to be dropped once the lock is given back; none where it was notified.
@@ -193,11 +193,11 @@ impl<W> Sleepers<W> {
         }
     }
 
-    /// Lies down under a new number: one that was given back last, or the next. In `async-executor` it is `insert`.
-    pub fn lie_down(&mut self, room: Room, waker: W) -> Result<Slept, Unreserved<W>>
+    /// Falls asleep under a new number: one that was given back last, or the next. In `async-executor` it is `insert`.
+    pub fn fall_asleep(&mut self, room: Room, waker: W) -> Result<Slept, Unreserved<W>>
         ensures room { IfOk result (λ _. self.old.count < self.old.rooms) }
         ensures number { IfOk result (λ s. s.sleeper.number ≡ next_number self.old) }
-        ensures lies { OnOk result (self.new ≡ laid_down waker self.old) }
+        ensures sleeps { OnOk result (self.new ≡ put_to_sleep waker self.old) }
         ensures flag { IfOk result (λ s. s.notified ≡ flag_of self.new) }
         ensures refused { IfErr result (λ u. (u.waker ≡ waker) × (self.new ≡ self.old) × (self.old.rooms ≤ self.old.count)) }
     {
@@ -215,9 +215,9 @@ impl<W> Sleepers<W> {
         })
     }
 
-    /// Lies down again: where its entry is there, that gets the new waker, and else it gets an entry again. In
+    /// Falls asleep again: where its entry is there, that gets the new waker, and else it gets an entry again. In
     /// `async-executor` it is `update`.
-    pub fn lie_down_again(&mut self, sleeper: &Sleeper, waker: W) -> Again<W>
+    pub fn fall_asleep_again(&mut self, sleeper: &Sleeper, waker: W) -> Again<W>
         ensures { IsAgain sleeper.now.number waker self.old self.new result }
     {
         match find(self.wakers.as_slice(), sleeper.number) {
@@ -235,10 +235,10 @@ impl<W> Sleepers<W> {
         }
     }
 
-    /// Gets up: its number is free again, and its entry goes. In `async-executor` it is `remove`.
-    pub fn get_up(&mut self, sleeper: Sleeper) -> Risen<W>
+    /// Wakes up: its number is free again, and its entry goes. In `async-executor` it is `remove`.
+    pub fn wake_up(&mut self, sleeper: Sleeper) -> WokenUp<W>
         ensures waker { result.waker ≡ waker_of sleeper.number self.old.wakers }
-        ensures risen { self.new ≡ risen sleeper.number self.old }
+        ensures woken_up { self.new ≡ woken_up sleeper.number self.old }
         ensures flag { result.notified ≡ flag_of self.new }
     {
         let Sleeper { number } = sleeper;
@@ -250,23 +250,23 @@ impl<W> Sleepers<W> {
             self.count -= 1;
             self.free.push_reserved(number);
         }
-        Risen {
+        WokenUp {
             room: Room { seal: () },
             waker,
             notified: self.is_notified(),
         }
     }
 
-    /// Leaves, as the drop of a tick or run does: it gets up, and answers whether it was notified, so that the call is
+    /// Leaves, as the drop of a tick or run does: it wakes up, and answers whether it was notified, so that the call is
     /// to be passed on.
-    pub fn leave(&mut self, sleeper: Sleeper) -> (Risen<W>, bool)
+    pub fn leave(&mut self, sleeper: Sleeper) -> (WokenUp<W>, bool)
         ensures waker { result.0.waker ≡ waker_of sleeper.number self.old.wakers }
-        ensures risen { self.new ≡ risen sleeper.number self.old }
+        ensures woken_up { self.new ≡ woken_up sleeper.number self.old }
         ensures flag { result.0.notified ≡ flag_of self.new }
         ensures was { result.1 ≡ is_none (waker_of sleeper.number self.old.wakers) }
     {
-        let risen = self.get_up(sleeper);
-        let notified = risen.waker.is_none();
-        (risen, notified)
+        let woken_up = self.wake_up(sleeper);
+        let notified = woken_up.waker.is_none();
+        (woken_up, notified)
     }
 }

@@ -39,7 +39,7 @@ impl Answer {
 
 /// Shows how a command of this word ended.
 pub fn show_end(stage: &Stage, word: Word, answer: Answer) {
-    let word = word_text(word);
+    let word = word.text();
     match answer {
         Answer::Output(number) => stage.show_number(word, number),
         answer => stage.show_end(word, answer_text(answer)),
@@ -59,29 +59,5 @@ fn answer_text(answer: Answer) -> &'static [u8] {
         Answer::Cancelled => b"cancelled",
         Answer::Finished => b"finished",
         Answer::NotPossible => b"not possible",
-    }
-}
-
-fn word_text(word: Word) -> &'static [u8] {
-    match word {
-        Word::Spawn => b"spawn",
-        Word::Try => b"try",
-        Word::Empty => b"empty",
-        Word::Wake => b"wake",
-        Word::Unkeep => b"unkeep",
-        Word::Poll => b"poll",
-        Word::Cancel => b"cancel",
-        Word::Detach => b"detach",
-        Word::Drop => b"drop",
-        Word::Tick => b"tick",
-        Word::PollTick => b"polltick",
-        Word::DropTick => b"droptick",
-        Word::Run => b"run",
-        Word::PollRun => b"pollrun",
-        Word::DropRun => b"droprun",
-        Word::End => b"end",
-        Word::Begin => b"begin",
-        Word::Go => b"go",
-        Word::Finish => b"finish",
     }
 }

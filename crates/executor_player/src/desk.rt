@@ -1,16 +1,19 @@
-//! The executor of a script.
+//! The executors of a script.
 use crate::answer::Answer;
 use crate::future::{Planned, Scripted};
 use crate::handle::{Held, HoldIn};
-use crate::outside::{Bell, Gift};
+use crate::outside::{Bell, Gift, ScriptTask};
 use crate::shelf::SharedShelf;
-use async_executor::{Executor, SpawnError};
+use async_executor::{Executor, SpawnError, StaticExecutor};
 use script::{Item, Name};
 use std::rc::Rc;
 use std::sync::Wait;
 
 /// The executor of a script.
 pub type ScriptExecutor<F, R> = Executor<F, Gift, Bell, R>;
+
+/// The executor of a script that is static.
+pub type ScriptStatic<F, R> = StaticExecutor<F, Gift, Bell, R>;
 
 /// What a future is made of.
 #[derive(Drop)]
@@ -35,6 +38,9 @@ pub trait Desk<H: Drop> {
     fn try_tick(&self) -> bool;
 
     fn is_empty(&self) -> bool;
+
+    /// Whether it can be dropped or leaked.
+    fn may_end(&self) -> bool;
 }
 
 /// An executor of a script, and where the wakers of its futures are kept.
@@ -45,7 +51,18 @@ where
     R: Wait + Copy + Drop + 'static,
 {
     pub executor: &'a ScriptExecutor<F, R>,
-    pub shelf: SharedShelf,
+    pub shelf: &'a SharedShelf,
+}
+
+/// The same, of one that is static.
+#[derive(Drop)]
+pub struct OnStatic<'a, F, R>
+where
+    F: Drop,
+    R: Wait + Copy + Drop + 'static,
+{
+    pub executor: &'a ScriptStatic<F, R>,
+    pub shelf: &'a SharedShelf,
 }
 
 impl<F, H, R> Desk<H> for OnExecutor<'_, F, R>
@@ -55,23 +72,10 @@ where
     R: Wait + Copy + Drop + 'static,
 {
     fn spawn(&self, plan: Plan<H>) -> Result<H, Refused<H>> {
-        let Plan { name, items, held } = plan;
-        let Ok(shelf) = Rc::clone(&self.shelf) else {
-            return Err(Refused {
-                answer: Answer::NoMemory,
-                held,
-            });
-        };
-        hand_over(
-            self.executor,
-            Scripted {
-                name,
-                items,
-                next: 0,
-                held,
-                shelf,
-            },
-        )
+        match scripted(self.shelf, plan) {
+            Ok(future) => answered(self.shelf, self.executor.spawn(F::planned(future))),
+            Err(refused) => Err(refused),
+        }
     }
 
     fn try_tick(&self) -> bool {
@@ -81,17 +85,72 @@ where
     fn is_empty(&self) -> bool {
         self.executor.is_empty()
     }
+
+    fn may_end(&self) -> bool {
+        true
+    }
 }
 
-/// Spawns a future.
-fn hand_over<F, H, R>(executor: &ScriptExecutor<F, R>, future: Scripted<H>) -> Result<H, Refused<H>>
+impl<F, H, R> Desk<H> for OnStatic<'_, F, R>
 where
     F: Planned<H, R>,
     H: HoldIn<R>,
     R: Wait + Copy + Drop + 'static,
 {
-    match executor.spawn(F::planned(future)) {
-        Ok(task) => Ok(H::of(task)),
+    fn spawn(&self, plan: Plan<H>) -> Result<H, Refused<H>> {
+        match scripted(self.shelf, plan) {
+            Ok(future) => answered(self.shelf, self.executor.spawn(F::planned(future))),
+            Err(refused) => Err(refused),
+        }
+    }
+
+    fn try_tick(&self) -> bool {
+        self.executor.try_tick()
+    }
+
+    /// It has no call for it: what it accepted is counted here, and what was dropped.
+    fn is_empty(&self) -> bool {
+        self.shelf.has_counted_all_out()
+    }
+
+    fn may_end(&self) -> bool {
+        false
+    }
+}
+
+/// A future, as it is planned.
+fn scripted<H: Drop>(shelf: &SharedShelf, plan: Plan<H>) -> Result<Scripted<H>, Refused<H>> {
+    let Plan { name, items, held } = plan;
+    match Rc::clone(shelf) {
+        Ok(shelf) => Ok(Scripted {
+            name,
+            items,
+            next: 0,
+            held,
+            shelf,
+        }),
+        Err(_) => Err(Refused {
+            answer: Answer::NoMemory,
+            held,
+        }),
+    }
+}
+
+/// What a spawn answers.
+fn answered<F, H, R>(
+    shelf: &SharedShelf,
+    spawned: Result<ScriptTask<R>, SpawnError<F>>,
+) -> Result<H, Refused<H>>
+where
+    F: Planned<H, R>,
+    H: HoldIn<R>,
+    R: Wait + Copy + Drop + 'static,
+{
+    match spawned {
+        Ok(task) => {
+            shelf.count_one();
+            Ok(H::of(task))
+        }
         Err(SpawnError::Full(future)) => Err(Refused {
             answer: Answer::Full,
             held: future.into_held(),

@@ -40,6 +40,7 @@ impl<H: Drop> Drop for Scripted<H> {
             shelf,
         } = self;
         drop(items);
+        shelf.count_out();
         shelf.stage.show_on(b"drop", name);
         drop(held);
     }

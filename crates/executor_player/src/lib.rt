@@ -1,11 +1,13 @@
-//! Plays scripts of whole calls, in the language of `taskrun sim`, on a running executor, and gives the text of what happens.
+//! Plays scripts of whole calls, in the language of `taskrun sim`, on running executors, and gives the text of what happens.
 #![tactic(auto)]
 
 mod answer;
+mod commands;
 mod desk;
 mod errors;
 mod future;
 mod handle;
+mod kinds;
 mod outside;
 mod own;
 mod player;

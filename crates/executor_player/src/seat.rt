@@ -1,6 +1,6 @@
 //! The ticks and runs of a script.
 use crate::answer::Answer;
-use crate::desk::OnExecutor;
+use crate::desk::{OnExecutor, OnStatic};
 use crate::future::Planned;
 use crate::handle::HoldIn;
 use crate::outside::{Bell, Gift, ScriptWaker};
@@ -57,6 +57,20 @@ where
     }
 }
 
+impl<'a, F, R> SitTick<OnStatic<'a, F, R>> for ScriptTick<'a, F, R>
+where
+    F: Future<ScriptWaker<R>, Output = Gift> + Drop,
+    R: Wait + Copy + Drop + 'static,
+{
+    fn at(desk: &OnStatic<'a, F, R>) -> Option<Self> {
+        let executor = desk.executor;
+        match executor.tick() {
+            Ok(tick) => Some(tick),
+            Err(_) => None,
+        }
+    }
+}
+
 impl<F, H, R> Sit for ScriptRun<'_, F, H, R>
 where
     F: Planned<H, R>,
@@ -75,6 +89,21 @@ where
     R: Wait + Copy + Drop + 'static,
 {
     fn at(desk: &OnExecutor<'a, F, R>, own: Own<H>) -> Result<Self, Own<H>> {
+        let executor = desk.executor;
+        match executor.run(own) {
+            Ok(run) => Ok(run),
+            Err(own) => Err(own),
+        }
+    }
+}
+
+impl<'a, F, H, R> SitRun<OnStatic<'a, F, R>, H> for ScriptRun<'a, F, H, R>
+where
+    F: Planned<H, R>,
+    H: HoldIn<R>,
+    R: Wait + Copy + Drop + 'static,
+{
+    fn at(desk: &OnStatic<'a, F, R>, own: Own<H>) -> Result<Self, Own<H>> {
         let executor = desk.executor;
         match executor.run(own) {
             Ok(run) => Ok(run),

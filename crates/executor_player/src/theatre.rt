@@ -3,8 +3,9 @@
 use crate::errors::PlayError;
 use crate::future::{Planned, Scripted};
 use crate::handle::{Handle, HoldIn};
+use crate::kinds::read_kinds;
 use crate::outside::ScriptRealm;
-use crate::playing::play_script;
+use crate::playing::{play_of_kind, play_script};
 use crate::shelf::{KeepIn, Keeper};
 use std::alloc::Global;
 use std::marker::PhantomData;
@@ -16,6 +17,11 @@ pub trait Plays {
     /// takes whole calls of one party; `begin`, `go`, `finish` and `refuse` are `NotWhole`. Before anything is played the first
     /// bad line is refused, and then the first that isn't whole.
     fn play(&self, script: &[u8]) -> Result<Vec<u8>, PlayError>;
+
+    /// The same of a script whose first line may end with ` static`, so that its executor is one, and which may have lines
+    /// `leak`, by which it becomes one. A static executor has no `end`, and `empty` is answered by the player's own count of
+    /// drops.
+    fn play_kinds(&self, script: &[u8]) -> Result<Vec<u8>, PlayError>;
 }
 
 /// Where the futures of scripts are `F`, their handles `H`, and who keeps their wakers `K`. The tasks of all scripts lie in the
@@ -40,5 +46,17 @@ where
 {
     fn play(&self, script: &[u8]) -> Result<Vec<u8>, PlayError> {
         play_script::<F, H, K, R>(self.rt, self.alloc, self.realm, script)
+    }
+
+    fn play_kinds(&self, script: &[u8]) -> Result<Vec<u8>, PlayError> {
+        let kinds = read_kinds(self.alloc, script)?;
+        play_of_kind::<F, H, K, R>(
+            self.rt,
+            self.alloc,
+            self.realm,
+            kinds.text.as_slice(),
+            kinds.is_static,
+            kinds.leaks.as_slice(),
+        )
     }
 }

@@ -7,6 +7,8 @@ mod borrowed;
 #[cfg(test)]
 mod hello;
 #[cfg(test)]
+mod kinds;
+#[cfg(test)]
 mod many;
 #[cfg(test)]
 mod parts;

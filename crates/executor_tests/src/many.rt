@@ -56,7 +56,7 @@ impl<F: Planned<R>, R: Abort + Wait + Copy + Drop + 'static> Stage<F, R> {
                 panic!(self.rt; "memory");
             }
         }
-        let (handles, refused) = self.executor.spawn_many(&mut futures.into_iter());
+        let (handles, refused) = self.owned().spawn_many(&mut futures.into_iter());
         let in_order = InOrder {
             rt: self.rt,
             realm: self.realm,
@@ -77,7 +77,7 @@ impl<F: Planned<R>, R: Abort + Wait + Copy + Drop + 'static> Stage<F, R> {
     where
         G: Future<TestWaker<R>, Output = u64> + Drop,
     {
-        let Ok(mut run) = self.executor.run(future) else {
+        let Ok(mut run) = self.owned().run(future) else {
             return (0, 0);
         };
         let waker = self.bell();
@@ -112,7 +112,7 @@ fn a_run_awaits_fifty_thousand_handles_in_order(rt: HostRuntime) {
         let is_well = (each.polls.load(SeqCst), each.drops.load(SeqCst)) == (1, 1);
         are_well = are_well & is_well & (each.lost.load(SeqCst) == 1);
     }
-    assert!(rt; are_well & stage.executor.is_empty());
+    assert!(rt; are_well & stage.is_empty());
 }
 
 /// Makes an executor, spawns a future on it, and drops both: the text of where the task lay.

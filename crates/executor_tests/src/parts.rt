@@ -1,5 +1,5 @@
 //! What the tests' futures are, and what is noted of them.
-use async_executor::{ExRealm, ExTask, ExWaker, Executor};
+use async_executor::{ExRealm, ExTask, ExWaker, Executor, StaticExecutor};
 use async_task::{Future, Poll, Returning, StoredTask, Wake};
 use std::alloc::{AllocError, Global};
 use std::mem;
@@ -42,6 +42,8 @@ pub struct Notes {
     pub each: Vec<Counts>,
     /// Of all others.
     others: Counts,
+    /// How many futures were dropped of those that are noted one by one, all together.
+    pub dropped: AtomicU64,
     /// How many outputs were given to another future.
     pub given: AtomicU64,
     /// How often an outside waker was called.
@@ -60,6 +62,7 @@ impl Notes {
         let notes = Notes {
             each,
             others: Counts::none(),
+            dropped: AtomicU64::new(0),
             given: AtomicU64::new(0),
             rings: AtomicU64::new(0),
             copies: AtomicU64::new(u64::MAX),
@@ -72,6 +75,13 @@ impl Notes {
         match self.each.get(name as usize) {
             Some(counts) => counts,
             None => &self.others,
+        }
+    }
+
+    fn drop_comes(&self, name: u64) {
+        self.of(name).drops.fetch_add(1, SeqCst);
+        if (name as usize) < self.each.len() {
+            self.dropped.fetch_add(1, SeqCst);
         }
     }
 
@@ -158,6 +168,8 @@ pub type TestRealm<R> = ExRealm<Gift, Bell, R>;
 
 pub type TestExecutor<F, R> = Executor<F, Gift, Bell, R>;
 
+pub type TestStatic<F, R> = StaticExecutor<F, Gift, Bell, R>;
+
 /// What a future does at each poll.
 #[derive(Drop)]
 pub enum Work {
@@ -201,7 +213,7 @@ impl<R: Wait + Copy + Drop + 'static> Drop for Job<R> {
                 drop_stored(rt, realm, other);
             }
         }
-        notes.of(name).drops.fetch_add(1, SeqCst);
+        notes.drop_comes(name);
     }
 }
 

@@ -36,19 +36,19 @@ const ROWS: &[Row] = &[
         1,
     ),
     Row(
-        "a tick that is refused doesn't lie, and its next poll finds what came",
+        "a tick that is refused doesn't sleep, and its next poll finds what came",
         Kind::Tick,
         &[Turn(0, End::NoMemory, 0), Turn(0, End::Ready, 0)],
         1,
     ),
     Row(
-        "a tick that lay down is told though its second copy was refused",
+        "a tick that slept down is told though its second copy was refused",
         Kind::Tick,
         &[Turn(1, End::NoMemory, 1), Turn(0, End::Ready, 1)],
         1,
     ),
     Row(
-        "a run that is refused doesn't lie, runs what is there, and waits later",
+        "a run that is refused doesn't sleep, runs what is there, and waits later",
         Kind::Run,
         &[
             Turn(0, End::NoMemory, 0),
@@ -59,7 +59,7 @@ const ROWS: &[Row] = &[
         3,
     ),
     Row(
-        "a run that lay down is told though its second copy was refused",
+        "a run that slept down is told though its second copy was refused",
         Kind::Run,
         &[Turn(1, End::NoMemory, 1), Turn(0, End::NoMemory, 1)],
         1,

@@ -2,11 +2,13 @@
 //! cheap to prove. No request for memory is refused here, but for copies of wakers.
 ghost use Rattle.std.specs.Prelude.{◌<◌};
 
+use crate::kinds::TestKind;
 use crate::parts::{Bell, Gift, Job, Notes, TestExecutor, TestRealm, TestWaker, Work, drop_stored};
 use async_executor::{Run, RunError, Tick};
 use async_task::{Awaiter, Future, NoMemory, Poll, RealmError, Returning, StoredTask};
 use std::alloc::Global;
 use std::process::Abort;
+use std::sync::atomic::AtomicU64;
 use std::sync::atomic::Ordering::SeqCst;
 use std::sync::{Arc, Wait};
 
@@ -65,7 +67,9 @@ pub struct Stage<F: Drop, R: Wait + Copy + Drop + 'static> {
     pub alloc: Global,
     pub realm: &'static TestRealm<R>,
     pub notes: Arc<Notes, Global>,
-    pub executor: TestExecutor<F, R>,
+    pub executor: TestKind<F, R>,
+    /// How many futures were accepted, but for those of a spawn of many.
+    accepted: AtomicU64,
 }
 
 impl<F: Planned<R>, R: Abort + Wait + Copy + Drop + 'static> Stage<F, R> {
@@ -78,18 +82,49 @@ impl<F: Planned<R>, R: Abort + Wait + Copy + Drop + 'static> Stage<F, R> {
     ) -> Stage<F, R>
         requires { 0 < limit }
     {
+        Stage::of_kind(rt, alloc, realm, false, limit)
+    }
+
+    /// The same, static or not.
+    pub fn of_kind(
+        rt: R,
+        alloc: Global,
+        realm: Result<&'static TestRealm<R>, RealmError>,
+        is_static: bool,
+        limit: usize,
+    ) -> Stage<F, R>
+        requires { 0 < limit }
+    {
         let Ok(realm) = realm else {
             panic!(rt; "no realm");
         };
-        match TestExecutor::new(rt, alloc, realm, limit) {
+        match TestKind::new(rt, alloc, realm, is_static, limit) {
             Ok(executor) => Stage {
                 rt,
                 alloc,
                 realm,
                 notes: Notes::new(alloc, limit).expect(&rt, "memory"),
                 executor,
+                accepted: AtomicU64::new(0),
             },
             Err(_) => panic!(rt; "memory"),
+        }
+    }
+
+    /// The executor, which isn't static.
+    pub fn owned(&self) -> &TestExecutor<F, R> {
+        match &self.executor {
+            TestKind::Owned(executor) => executor,
+            TestKind::Static(_) => panic!(self.rt; "a static executor"),
+        }
+    }
+
+    /// Whether each future that was accepted is dropped. A static executor has no call for it, so that is counted, where all are
+    /// noted one by one.
+    pub fn is_empty(&self) -> bool {
+        match &self.executor {
+            TestKind::Owned(executor) => executor.is_empty(),
+            TestKind::Static(_) => self.notes.dropped.load(SeqCst) == self.accepted.load(SeqCst),
         }
     }
 
@@ -122,7 +157,10 @@ impl<F: Planned<R>, R: Abort + Wait + Copy + Drop + 'static> Stage<F, R> {
     /// Spawns a future. Its handle is the answer, where it is accepted.
     pub fn spawn(&self, future: F) -> Option<Returning<StoredTask>> {
         match self.executor.spawn(future) {
-            Ok(task) => Some(Returning::new(task.store())),
+            Ok(task) => {
+                self.accepted.fetch_add(1, SeqCst);
+                Some(Returning::new(task.store()))
+            }
             Err(_) => None,
         }
     }
@@ -131,6 +169,7 @@ impl<F: Planned<R>, R: Abort + Wait + Copy + Drop + 'static> Stage<F, R> {
     pub fn spawn_detached(&self, future: F) -> bool {
         match self.executor.spawn(future) {
             Ok(task) => {
+                self.accepted.fetch_add(1, SeqCst);
                 task.detach();
                 true
             }

@@ -20,7 +20,8 @@ fn is_shown<X: Debug>(alloc: Global, value: &X, want: &str) -> bool {
 
 /// Its text has the entries of the table, the tasks of the global queue and of each run's own, and how many sleep. So it
 /// shows what one poll of a run takes of a thousand: it polls two hundred. With the first it takes half of what is left of the
-/// global queue to itself, and at each 64th as many as its own queue of 512 places then has room for.
+/// global queue to itself, and at each 64th as many as its own queue of 512 places then has room for. A static executor's table
+/// has no wakers to be counted.
 #[test]
 fn the_text_of_an_executor(rt: HostRuntime) {
     let stage = Stage::<Job<_>, _>::new(rt, rt.alloc(), TestRealm::leak(rt, rt.alloc()), 1000);
@@ -40,7 +41,12 @@ fn the_text_of_an_executor(rt: HostRuntime) {
     let idle = "Executor { active: 0, global_tasks: 0, local_runners: [0], sleepers: 1 }";
     let is_shown_idle = is_shown(rt.alloc(), &stage.executor, idle);
     drop(run);
-    assert!(rt; is_shown_fresh & is_shown_busy & is_shown_idle);
+    let realm = TestRealm::leak(rt, rt.alloc());
+    let fixed = Stage::<Job<_>, _>::of_kind(rt, rt.alloc(), realm, true, 1);
+    fixed.spawn_detached(fixed.ready(0));
+    let lasting = "StaticExecutor { active: 0, global_tasks: 1, local_runners: [], sleepers: 0 }";
+    let is_shown_lasting = is_shown(rt.alloc(), &fixed.executor, lasting);
+    assert!(rt; is_shown_fresh & is_shown_busy & is_shown_idle & is_shown_lasting);
 }
 
 /// How many turns a loop may take.

@@ -16,7 +16,7 @@ impl<F: Planned<R>, R: Abort + Wait + Copy + Drop + 'static> Stage<F, R> {
     fn tick_until_empty(&self) -> bool {
         for _ in 0..MOST_TURNS {
             if !self.executor.try_tick() {
-                if self.executor.is_empty() {
+                if self.is_empty() {
                     return true;
                 }
                 thread::yield_now();
@@ -32,7 +32,7 @@ impl<F: Planned<R>, R: Abort + Wait + Copy + Drop + 'static> Stage<F, R> {
             if self.poll(&mut run) != End::Pending {
                 return false;
             }
-            if self.executor.is_empty() {
+            if self.is_empty() {
                 return true;
             }
             thread::yield_now();
@@ -65,14 +65,14 @@ impl<F: Planned<R>, R: Abort + Wait + Copy + Drop + 'static> Stage<F, R> {
     }
 
     /// Polls a tick each time that its waker was called, as often as there are rounds, and says whether it came to that.
-    fn tick_when_called(&self, lying: &AtomicU64, rounds: u64) -> bool {
+    fn tick_when_called(&self, slumbering: &AtomicU64, rounds: u64) -> bool {
         let mut tick = self.tick();
         for round in 0..rounds {
             if self.poll(&mut tick) != End::Pending {
                 return false;
             }
             let called = self.rings();
-            lying.store(round.saturating_add(1), SeqCst);
+            slumbering.store(round.saturating_add(1), SeqCst);
             if !passes(&self.notes.rings, called) | (self.poll(&mut tick) != End::Ready) {
                 return false;
             }
@@ -80,10 +80,10 @@ impl<F: Planned<R>, R: Abort + Wait + Copy + Drop + 'static> Stage<F, R> {
         true
     }
 
-    /// Spawns a future each time that the tick lies, as often as there are rounds, and says whether it came to that.
-    fn spawn_when_lying(&self, lying: &AtomicU64, rounds: u64) -> bool {
+    /// Spawns a future each time that the tick sleeps, as often as there are rounds, and says whether it came to that.
+    fn spawn_when_asleep(&self, slumbering: &AtomicU64, rounds: u64) -> bool {
         for round in 0..rounds {
-            if !passes(lying, round) || !self.spawn_detached(self.ready(0)) {
+            if !passes(slumbering, round) || !self.spawn_detached(self.ready(0)) {
                 return false;
             }
         }
@@ -128,55 +128,62 @@ fn outputs(counts: &[Counts]) -> u64 {
     made
 }
 
-/// Each future is polled twice, dropped once, and its one output too.
+/// Each future is polled twice, dropped once, and its one output too, on an executor of either kind.
 #[test]
 fn two_threads_tick_a_thousand_futures(rt: HostRuntime) {
-    let stage = Stage::<Job<_>, _>::new(rt, rt.alloc(), TestRealm::leak(rt, rt.alloc()), 1_000);
-    let are_spawned = stage.spawn_all(1_000);
-    let (one, other) = thread::join(
-        &rt,
-        || stage.tick_until_empty(),
-        || stage.tick_until_empty(),
-    );
-    let counts = stage.notes.each.as_slice();
-    let is_well = each_is_well(counts, Some(2)) & (outputs(counts) == 1_000);
-    assert!(rt; are_spawned & one & other & is_well);
+    for is_static in [false, true] {
+        let realm = TestRealm::leak(rt, rt.alloc());
+        let stage = Stage::<Job<_>, _>::of_kind(rt, rt.alloc(), realm, is_static, 1_000);
+        let are_spawned = stage.spawn_all(1_000);
+        let (one, other) = thread::join(
+            &rt,
+            || stage.tick_until_empty(),
+            || stage.tick_until_empty(),
+        );
+        let counts = stage.notes.each.as_slice();
+        let is_well = each_is_well(counts, Some(2)) & (outputs(counts) == 1_000);
+        assert!(rt; are_spawned & one & other & is_well, "static: {is_static}");
+    }
 }
 
 /// Each future is dropped once, each output too, and given to one at most; some are given, and one at least is cancelled: the
-/// last, before any thread runs.
+/// last, before any thread runs. So it is on an executor of either kind.
 #[test]
 fn four_threads_run_futures_that_await_cancel_and_detach_each_other(rt: HostRuntime) {
-    let stage = Stage::<Job<_>, _>::new(rt, rt.alloc(), TestRealm::leak(rt, rt.alloc()), 10_000);
-    let last = stage.spawn_chain(10_000);
-    let mut are_well = last.is_some();
-    if let Some(last) = last {
-        stage.drop_handle(last);
+    for is_static in [false, true] {
+        let realm = TestRealm::leak(rt, rt.alloc());
+        let stage = Stage::<Job<_>, _>::of_kind(rt, rt.alloc(), realm, is_static, 10_000);
+        let last = stage.spawn_chain(10_000);
+        let mut are_well = last.is_some();
+        if let Some(last) = last {
+            stage.drop_handle(last);
+        }
+        let ended = thread::map_indices(
+            &rt,
+            rt.alloc(),
+            4,
+            &|party| stage.run_until_empty(party as u64),
+        )
+        .expect(&rt, "threads");
+        for has_ended in &ended {
+            are_well = are_well & *has_ended;
+        }
+        let counts = stage.notes.each.as_slice();
+        let given = stage.notes.given.load(SeqCst);
+        let is_well = are_well & each_is_well(counts, None) & (outputs(counts) < 10_000);
+        assert!(rt; is_well & (given > 0), "static: {is_static}");
     }
-    let ended = thread::map_indices(
-        &rt,
-        rt.alloc(),
-        4,
-        &|party| stage.run_until_empty(party as u64),
-    )
-    .expect(&rt, "threads");
-    for has_ended in &ended {
-        are_well = are_well & *has_ended;
-    }
-    let counts = stage.notes.each.as_slice();
-    let given = stage.notes.given.load(SeqCst);
-    assert!(rt; are_well & each_is_well(counts, None) & (outputs(counts) < 10_000) & (given > 0));
 }
 
 /// Each round the tick waits, a spawn on the other thread calls it, and its next poll finds that future.
 #[test]
-fn a_lying_tick_is_called_by_a_spawn_on_another_thread(rt: HostRuntime) {
+fn a_sleeping_tick_is_called_by_a_spawn_on_another_thread(rt: HostRuntime) {
     let stage = Stage::<Job<_>, _>::new(rt, rt.alloc(), TestRealm::leak(rt, rt.alloc()), 2);
-    let lying = AtomicU64::new(0);
+    let slumbering = AtomicU64::new(0);
     let (ticked, spawned) = thread::join(
         &rt,
-        || stage.tick_when_called(&lying, 10_000),
-        || stage.spawn_when_lying(&lying, 10_000),
+        || stage.tick_when_called(&slumbering, 10_000),
+        || stage.spawn_when_asleep(&slumbering, 10_000),
     );
     let dropped = stage.notes.of(0).drops.load(SeqCst);
     assert!(rt; ticked & spawned & (dropped == 10_000));

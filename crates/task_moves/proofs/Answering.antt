@@ -8,7 +8,7 @@ use Rattle.task_moves.specs.declared.moves.owed.Moved.{Moved}
 use Rattle.task_moves.specs.declared.moves.owed.Answer.{Answer}
 use Rattle.task_moves.specs.declared.moves.owed.Answer.TheVariants.{Output}
 use Rattle.task_moves.specs.declared.local_task.answers.Polled.TheVariants.{Closed as ClosedOf, Pending as PendingOf}
-use Rattle.task_moves.specs.declared.local_task.answers.Place.{Place}
+use Rattle.task_moves.specs.declared.local_task.answers.FuturePlace.{FuturePlace}
 use Rattle.task_moves.specs.AbstractTask as abstract
 use Rattle.task_moves.specs.Moves as moves
 use Rattle.task_moves.specs.Moves.{is_over, is_going, is_last, most_references}
@@ -16,7 +16,7 @@ use Rattle.task_moves.specs.Paying.{registered}
 use Rattle.task_moves.specs.LocalTask as local
 use Rattle.task_moves.specs.LocalTask.{IsSound, task_of, told, token, info_of, references_of, is_home}
 
-module _ {F T A : Type 0} {s : State} {next : Option Move} {future : Place F} {output : Option T} {awaiter : Option A} where
+module _ {F T A : Type 0} {s : State} {next : Option Move} {future : FuturePlace F} {output : Option T} {awaiter : Option A} where
   -- there is no answer yet
   pub sound_waiting : (m : Moved) (n : State) (waker : A) → m ≡ moves.poll s → m.owed.answer ≡ None → n ≡ registered m.state →
       IsSound F T A s next future output awaiter → IsSound F T A n next future output (Some waker)
@@ -39,7 +39,7 @@ resting_is s m a e f b = grind (arith, nat_tests)
 state_is : (s : State) (m : Moved) (a : Answer) → m ≡ moves.poll s → m.owed.answer ≡ Some a → a ≢ Output → m.state ≡ s
 state_is s m a e f b = grind (arith, nat_tests)
 
-module _ {F T A : Type 0} {s : State} {next : Option Move} {future : Place F} {output : Option T} {awaiter : Option A} where
+module _ {F T A : Type 0} {s : State} {next : Option Move} {future : FuturePlace F} {output : Option T} {awaiter : Option A} where
   sound_by : s.closed ≡ true → is_going s ≡ false → s.handle ≡ true →
       IsSound F T A s next future output awaiter → IsSound F T A (record s { awaiter = false }) next future output awaiter
   sound_by x g p h = grind (arith, nat_tests)

@@ -4,7 +4,7 @@ use Rattle.std.proofs.lemmas.Bool.Decides.{nat_tests}
 use Rattle.std.specs.Prelude.{Option}
 use Rattle.task_moves.specs.declared.moves.state.State.{State}
 use Rattle.task_moves.specs.declared.moves.owed.Move.{Move}
-use Rattle.task_moves.specs.declared.local_task.answers.Place.{Place}
+use Rattle.task_moves.specs.declared.local_task.answers.FuturePlace.{FuturePlace}
 use Rattle.task_moves.specs.AbstractTask as abstract
 use Rattle.task_moves.specs.Moves as moves
 use Rattle.task_moves.specs.Moves.{is_over, is_going, is_last, most_references}
@@ -12,7 +12,7 @@ use Rattle.task_moves.specs.Paying.{notified, called, uncalled}
 use Rattle.task_moves.specs.LocalTask.{IsSound, task_of, told, info_of}
 
 module _ {F T A : Type 0} where
-  module _ {s : State} {next : Option Move} {future : Place F} {output : Option T} {awaiter : Option A} where
+  module _ {s : State} {next : Option Move} {future : FuturePlace F} {output : Option T} {awaiter : Option A} where
     pub sound : IsSound F T A s next future output awaiter →
         let m = moves.cancel s in
         IsSound F T A (notified m.owed.awaiter m.state) next future output (uncalled m.owed.awaiter awaiter)

@@ -5,13 +5,13 @@ use Rattle.std.specs.Prelude.{Option, Some, None}
 use Rattle.task_moves.specs.declared.moves.state.State.{State}
 use Rattle.task_moves.specs.declared.moves.owed.Move.{Move}
 use Rattle.task_moves.specs.declared.moves.owed.Moved.{Moved}
-use Rattle.task_moves.specs.declared.local_task.answers.Place.{Place}
+use Rattle.task_moves.specs.declared.local_task.answers.FuturePlace.{FuturePlace}
 use Rattle.task_moves.specs.AbstractTask as abstract
 use Rattle.task_moves.specs.Moves as moves
 use Rattle.task_moves.specs.Moves.{is_over, is_going, is_last, most_references}
 use Rattle.task_moves.specs.LocalTask.{IsSound, task_of, told}
 
-module _ {F T A : Type 0} {s : State} {next : Option Move} {future : Place F} {output : Option T} {awaiter : Option A} where
+module _ {F T A : Type 0} {s : State} {next : Option Move} {future : FuturePlace F} {output : Option T} {awaiter : Option A} where
   -- an output is there, and goes first
   pub sound_output : (m n : Moved) (k : Move) → m ≡ moves.detach s → m.owed.next ≡ Some k → n ≡ moves.detach m.state →
       IsSound F T A s next future output awaiter → IsSound F T A n.state next future None awaiter

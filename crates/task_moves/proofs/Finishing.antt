@@ -6,15 +6,15 @@ use Rattle.task_moves.specs.declared.moves.state.State.{State}
 use Rattle.task_moves.specs.declared.moves.owed.Move.{Move}
 use Rattle.task_moves.specs.declared.moves.owed.Move.TheVariants.{GiveUp}
 use Rattle.task_moves.specs.declared.moves.owed.Moved.{Moved}
-use Rattle.task_moves.specs.declared.local_task.answers.Place.{Place}
-use Rattle.task_moves.specs.declared.local_task.answers.Place.TheVariants.{Dropping, Gone}
+use Rattle.task_moves.specs.declared.local_task.answers.FuturePlace.{FuturePlace}
+use Rattle.task_moves.specs.declared.local_task.answers.FuturePlace.TheVariants.{Dropping, Gone}
 use Rattle.task_moves.specs.Moves as moves
 use Rattle.task_moves.specs.Moves.{is_over, is_going, is_last, most_references}
 use Rattle.task_moves.specs.Paying.{notified, called, uncalled}
 use Rattle.task_moves.specs.LocalTask as local
 use Rattle.task_moves.specs.LocalTask.{IsSound, task_of, told, token, info_of, references_of, is_home}
 
-module _ {F T A : Type 0} {s : State} {next : Option Move} {future : Place F} {output : Option T} {awaiter : Option A} where
+module _ {F T A : Type 0} {s : State} {next : Option Move} {future : FuturePlace F} {output : Option T} {awaiter : Option A} where
   -- the move that follows is the last but one of a run or a closing call
   pub next_is : (m : Moved) (k : Move) → next ≡ Some k → m ≡ moves.after k s → future ≡ Dropping →
       IsSound F T A s next future output awaiter → m.owed.next ≡ Some GiveUp

@@ -2,7 +2,7 @@
 use Rattle.std.proofs.Common.{◌≡◌, true, arith}
 use Rattle.std.proofs.lemmas.Bool.Decides.{nat_tests}
 use Rattle.task_moves.specs.declared.local_task.answers.Back.TheVariants.{Pending}
-use Rattle.task_moves.specs.declared.local_task.answers.Place.TheVariants.{Dropping}
+use Rattle.task_moves.specs.declared.local_task.answers.FuturePlace.TheVariants.{Dropping}
 use Rattle.task_moves.specs.AbstractTask as abstract
 use Rattle.task_moves.specs.AbstractTask.{AbstractTask}
 use Rattle.task_moves.specs.AbstractTask.Phase.{Queued}

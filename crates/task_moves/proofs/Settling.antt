@@ -6,8 +6,8 @@ use Rattle.task_moves.specs.declared.moves.state.State.{State}
 use Rattle.task_moves.specs.declared.moves.owed.Move.{Move}
 use Rattle.task_moves.specs.declared.moves.owed.Moved.{Moved}
 use Rattle.task_moves.specs.declared.moves.owed.FutureDebt.{FutureDebt}
-use Rattle.task_moves.specs.declared.local_task.answers.Place.{Place}
-use Rattle.task_moves.specs.declared.local_task.answers.Place.TheVariants.{Home, Lent, Dropping, Gone}
+use Rattle.task_moves.specs.declared.local_task.answers.FuturePlace.{FuturePlace}
+use Rattle.task_moves.specs.declared.local_task.answers.FuturePlace.TheVariants.{Home, Lent, Dropping, Gone}
 use Rattle.task_moves.specs.AbstractTask as abstract
 use Rattle.task_moves.specs.Moves as moves
 use Rattle.task_moves.specs.Moves.{is_over, is_going, is_last, most_references}
@@ -15,7 +15,7 @@ use Rattle.task_moves.specs.Paying.{notified, uncalled}
 use Rattle.task_moves.specs.LocalTask as local
 use Rattle.task_moves.specs.LocalTask.{IsSound, task_of, told, token, info_of, references_of, is_home}
 
-module _ {F T A : Type 0} {s : State} {next : Option Move} {future : Place F} {output : Option T} {awaiter : Option A} where
+module _ {F T A : Type 0} {s : State} {next : Option Move} {future : FuturePlace F} {output : Option T} {awaiter : Option A} where
   -- nobody is left to whom the output could be given
   pub sound_unwanted : (m : Moved) (n : State) → m ≡ moves.end_ready s → m.owed.drop_output ≡ true → n ≡ (moves.give_up (notified m.owed.awaiter m.state)).state →
       future ≡ Lent → IsSound F T A s next future output awaiter →

@@ -2,7 +2,7 @@
 -- the two halves make the whole.
 use Rattle.std.specs.Prelude.{◌≡◌, Bool, true, false}
 use Rattle.task_moves.specs.declared.local_task.answers.Back.TheVariants.{Pending}
-use Rattle.task_moves.specs.declared.local_task.answers.Place.TheVariants.{Dropping}
+use Rattle.task_moves.specs.declared.local_task.answers.FuturePlace.TheVariants.{Dropping}
 use Rattle.task_moves.specs.AbstractTask as abstract
 use Rattle.task_moves.specs.AbstractTask.{AbstractTask}
 use Rattle.task_moves.specs.AbstractTask.Phase.{Queued}

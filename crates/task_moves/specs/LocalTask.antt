@@ -5,8 +5,8 @@ use Rattle.task_moves.specs.declared.schedule_info.ScheduleInfo.{ScheduleInfo}
 use Rattle.task_moves.specs.declared.moves.state.State.{State}
 use Rattle.task_moves.specs.declared.moves.owed.Move.{Move}
 use Rattle.task_moves.specs.declared.moves.owed.Move.TheVariants.{EndClosed, SettleClosed}
-use Rattle.task_moves.specs.declared.local_task.answers.Place.{Place}
-use Rattle.task_moves.specs.declared.local_task.answers.Place.TheVariants.{Home, Lent, Dropping, Gone}
+use Rattle.task_moves.specs.declared.local_task.answers.FuturePlace.{FuturePlace}
+use Rattle.task_moves.specs.declared.local_task.answers.FuturePlace.TheVariants.{Home, Lent, Dropping, Gone}
 use Rattle.task_moves.specs.declared.local_task.answers.Start.{Start}
 use Rattle.task_moves.specs.declared.local_task.answers.Start.TheVariants.{Poll, Drop}
 use Rattle.task_moves.specs.declared.local_task.answers.Back.{Back}
@@ -25,7 +25,7 @@ use Rattle.task_moves.specs.Moves.{is_going, most_references}
 
 pub record LocalValue (F T A : Type 0) : Type 0 where
   pub task : AbstractTask T A
-  pub future : Place F
+  pub future : FuturePlace F
 
 -- completed, running, scheduled, closed
 abbrev pub phase_by : Bool → Bool → Bool → Bool → Phase
@@ -61,21 +61,21 @@ last_move_by false false = None
 
 module _ {F : Type 0} where
   -- the marks of a task whose future is there
-  abbrev pub place_fits : Place F → State → Bool
+  abbrev pub place_fits : FuturePlace F → State → Bool
   place_fits (Home f) s = not s.running && (not s.completed && (s.scheduled || not s.closed))
   place_fits Lent s = s.running && not s.completed
   place_fits Dropping s = s.closed && (not s.completed && (is_going s || not s.handle))
   place_fits Gone s = not s.running && (not s.scheduled && (s.completed || s.closed))
 
-  abbrev pub is_gone : Place F → Bool
+  abbrev pub is_gone : FuturePlace F → Bool
   is_gone Gone = true
   is_gone _ = false
 
-  abbrev pub is_dropping : Place F → Bool
+  abbrev pub is_dropping : FuturePlace F → Bool
   is_dropping Dropping = true
   is_dropping _ = false
 
-  abbrev pub is_home : Place F → Bool
+  abbrev pub is_home : FuturePlace F → Bool
   is_home (Home f) = true
   is_home _ = false
 
@@ -89,12 +89,12 @@ module _ {F : Type 0} where
   is_poll (Drop f) = false
 
   -- where the future of a task is that was started: it is dropped where the task is closed
-  abbrev pub started : Bool → Place F
+  abbrev pub started : Bool → FuturePlace F
   started true = Dropping
   started false = Lent
 
 -- the marks, the count and the next move agree with what is in the task
-pub record IsSound (F T A : Type 0) (s : State) (next : Option Move) (future : Place F) (output : Option T) (awaiter : Option A) : Type 0 where
+pub record IsSound (F T A : Type 0) (s : State) (next : Option Move) (future : FuturePlace F) (output : Option T) (awaiter : Option A) : Type 0 where
   pub placed : place_fits future s ≡ true
   pub followed : is_dropping future ≡ true → next ≡ last_move_by s.running s.scheduled
   pub unregistered : s.registering ≡ false
@@ -168,7 +168,7 @@ module _ {F T A : Type 0} where
   settle_answer (Pending f) t = settle_pending_answer_by (abstract.pending_end t) f
 
 module _ {F : Type 0} where
-  abbrev pub is_lent : Place F → Bool
+  abbrev pub is_lent : FuturePlace F → Bool
   is_lent Lent = true
   is_lent _ = false
 
@@ -201,3 +201,8 @@ module _ {T A : Type 0} where
   -- whether a poll of the handle has to leave its waker
   abbrev pub must_wait : AbstractTask T A → Bool
   must_wait t = waits_by (abstract.polled t)
+
+-- it is over and holds nothing more: nobody could reach it, its future is dropped, its output is gone and nobody awaits it
+abbrev pub is_spent : {F T A : Type 0} → LocalValue F T A → Bool
+is_spent value =
+    is_gone value.future && (is_unreachable value.task && (not (is_some value.task.output) && not (is_some value.task.awaiter)))

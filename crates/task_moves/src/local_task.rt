@@ -7,7 +7,7 @@ mod places;
 use crate::moves;
 use crate::moves::{Answer, Move, State};
 use crate::schedule_info::ScheduleInfo;
-pub use answers::{Back, Cancel, Detach, Finish, Place, Polled, Settled, Start};
+pub use answers::{Back, Cancel, Detach, Finish, FuturePlace, Polled, Settled, Start};
 use paying::{Called, give_up, let_go, notify, notify_nobody, register, woken};
 use places::{put, store, taken};
 use std::marker::Model;
@@ -22,7 +22,7 @@ pub struct LocalTask<F, T, A> {
     state: State,
     /// The move that `finish` makes.
     next: Option<Move>,
-    future: Place<F>,
+    future: FuturePlace<F>,
     output: Option<T>,
     awaiter: Option<A>,
 }
@@ -39,7 +39,7 @@ impl<F, T, A> Model for LocalTask<F, T, A> {
 
 impl<F, T, A> LocalTask<F, T, A> {
     ghost use Rattle.std.specs.Prelude.{◌≡◌, ◌<◌, ◌^◌, ◌↔◌, true, false, not, IsTrue};
-    ghost use Rattle.task_moves.specs.declared.local_task.answers.Place.TheVariants.{Home, Lent, Dropping, Gone};
+    ghost use Rattle.task_moves.specs.declared.local_task.answers.FuturePlace.TheVariants.{Home, Lent, Dropping, Gone};
     ghost use Rattle.task_moves.specs.declared.local_task.answers.Back.TheVariants.{Ready, Pending};
     ghost use Rattle.task_moves.specs.AbstractTask as abstract;
     ghost use Rattle.task_moves.specs.LocalTask as local;
@@ -53,7 +53,7 @@ impl<F, T, A> LocalTask<F, T, A> {
         LocalTask {
             state: moves::make(),
             next: None,
-            future: Place::Home(future),
+            future: FuturePlace::Home(future),
             output: None,
             awaiter: None,
         }
@@ -73,9 +73,9 @@ impl<F, T, A> LocalTask<F, T, A> {
         self.state = begun.state;
         self.next = begun.owed.next;
         match begun.owed.next {
-            None => Start::Poll(taken(&mut self.future, Place::Lent)),
+            None => Start::Poll(taken(&mut self.future, FuturePlace::Lent)),
             // It is settled once the future is dropped.
-            Some(_) => Start::Drop(taken(&mut self.future, Place::Dropping)),
+            Some(_) => Start::Drop(taken(&mut self.future, FuturePlace::Dropping)),
         }
     }
 
@@ -102,7 +102,7 @@ impl<F, T, A> LocalTask<F, T, A> {
         let ended = moves::end_ready(self.state);
         let Called { state, awaiter } = give_up(ended, &mut self.awaiter);
         self.state = state;
-        put(&mut self.future, Place::Gone);
+        put(&mut self.future, FuturePlace::Gone);
         if ended.owed.drop_output {
             Settled::Finish {
                 output: Some(output),
@@ -128,11 +128,11 @@ impl<F, T, A> LocalTask<F, T, A> {
         self.next = ended.owed.next;
         match ended.owed.future {
             Some(_) => {
-                put(&mut self.future, Place::Dropping);
+                put(&mut self.future, FuturePlace::Dropping);
                 Settled::Drop(future)
             }
             None => {
-                put(&mut self.future, Place::Home(future));
+                put(&mut self.future, FuturePlace::Home(future));
                 match ended.owed.schedule {
                     Some(info) => Settled::Queue(info),
                     None => Settled::Rest,
@@ -153,7 +153,7 @@ impl<F, T, A> LocalTask<F, T, A> {
         let dropped = moves::drop_runnable(self.state);
         self.state = dropped.state;
         self.next = dropped.owed.next;
-        taken(&mut self.future, Place::Dropping)
+        taken(&mut self.future, FuturePlace::Dropping)
     }
 
     /// Ends what began with a future that the owner was to drop, which it has done.
@@ -163,7 +163,7 @@ impl<F, T, A> LocalTask<F, T, A> {
         ensures place { self.new.future ≡ Gone }
         ensures answer { result ≡ local.finish_answer self.old.task }
     {
-        put(&mut self.future, Place::Gone);
+        put(&mut self.future, FuturePlace::Gone);
         match self.next {
             Some(kind) => {
                 let settled = moves::after(kind, self.state);

@@ -2,7 +2,7 @@ use crate::schedule_info::ScheduleInfo;
 
 /// Where the future of a task is.
 #[derive(Debug, PartialEq, Eq, Drop)]
-pub enum Place<F> {
+pub enum FuturePlace<F> {
     /// In the task.
     Home(F),
     /// With the owner, who polls it.

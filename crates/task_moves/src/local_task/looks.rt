@@ -1,10 +1,10 @@
 //! What an owner who doesn't know how its task stands asks before a call.
 use crate::local_task::LocalTask;
-use crate::local_task::answers::Place;
+use crate::local_task::answers::FuturePlace;
 use crate::moves::State;
 
 impl<F, T, A> LocalTask<F, T, A> {
-    ghost use Rattle.std.specs.Prelude.{◌≡◌, ◌<◌, ◌↔◌, IsTrue};
+    ghost use Rattle.std.specs.Prelude.{◌≡◌, ◌<◌, ◌↔◌, IsTrue, true};
     ghost use Rattle.task_moves.specs.LocalTask as local;
 
     /// Whether the task is queued and its future is there: `start` and `retract` may be called.
@@ -12,8 +12,8 @@ impl<F, T, A> LocalTask<F, T, A> {
         ensures { result ≡ local.is_ready_to_start self.now }
     {
         match &self.future {
-            Place::Home(_) => self.state.scheduled,
-            Place::Lent | Place::Dropping | Place::Gone => false,
+            FuturePlace::Home(_) => self.state.scheduled,
+            FuturePlace::Lent | FuturePlace::Dropping | FuturePlace::Gone => false,
         }
     }
 
@@ -22,8 +22,8 @@ impl<F, T, A> LocalTask<F, T, A> {
         ensures { result ≡ local.is_lent self.now.future }
     {
         match &self.future {
-            Place::Lent => true,
-            Place::Home(_) | Place::Dropping | Place::Gone => false,
+            FuturePlace::Lent => true,
+            FuturePlace::Home(_) | FuturePlace::Dropping | FuturePlace::Gone => false,
         }
     }
 
@@ -32,8 +32,8 @@ impl<F, T, A> LocalTask<F, T, A> {
         ensures { result ≡ local.is_dropping self.now.future }
     {
         match &self.future {
-            Place::Dropping => true,
-            Place::Home(_) | Place::Lent | Place::Gone => false,
+            FuturePlace::Dropping => true,
+            FuturePlace::Home(_) | FuturePlace::Lent | FuturePlace::Gone => false,
         }
     }
 
@@ -66,6 +66,45 @@ impl<F, T, A> LocalTask<F, T, A> {
         ensures { result ≡ local.is_unreachable self.now.task }
     {
         self.state.references == 0 && !self.state.handle
+    }
+
+    /// Whether the task is over and holds nothing more: nobody could reach it, its future is dropped, its output is gone
+    /// and nobody awaits it. `end` may be called.
+    pub fn is_spent(&self) -> bool
+        ensures { result ≡ local.is_spent self.now }
+    {
+        let is_gone = match &self.future {
+            FuturePlace::Gone => true,
+            FuturePlace::Home(_) | FuturePlace::Lent | FuturePlace::Dropping => false,
+        };
+        is_gone && self.is_unreachable() && self.output.is_none() && self.awaiter.is_none()
+    }
+
+    /// Ends a task that holds nothing more, also where futures, outputs or awaiters have no drop.
+    pub fn end(self)
+        requires { local.is_spent self ≡ true }
+    {
+        let LocalTask {
+            state,
+            next,
+            future,
+            output,
+            awaiter,
+        } = self;
+        let _ = state;
+        let _ = next;
+        match future {
+            FuturePlace::Home(_) => unreachable!(),
+            _ => {}
+        }
+        match output {
+            Some(_) => unreachable!(),
+            None => {}
+        }
+        match awaiter {
+            Some(_) => unreachable!(),
+            None => {}
+        }
     }
 
     /// The marks and the count, for who shows them.

@@ -1,0 +1,196 @@
+//! What executors of both kinds have and do.
+ghost use Rattle.std.specs.Prelude.{◌≡◌, ◌<◌, [], true, Some, IfOk, IfErr};
+ghost use Rattle.std.specs.Arc.{arc_value};
+ghost use Rattle.async_executor.specs.Errors.{refused};
+ghost use Rattle.async_executor.specs.Stages.{given};
+
+use crate::call::{Call, Polled};
+use crate::closing::ClosesReturned;
+use crate::due::{pay, share};
+use crate::entry::Unlocked;
+use crate::errors::SpawnError;
+use crate::locks::Guarded;
+use crate::names::{ExRealm, ExRunnable, ExTask, ExWaker, TableWaker};
+use crate::queue::ExQueue;
+use crate::sections;
+use crate::spawning::accept;
+use crate::state::State;
+use async_task::{Future, NoMemory, Wake};
+use executor_parts::Places;
+use std::alloc::Global;
+use std::mem;
+use std::sync::{Arc, Wait};
+
+/// What an executor has, of either kind. It has no drop: an executor ends by it, or forgets it.
+pub struct Body<F, T, W, R>
+where
+    F: Drop,
+    T: Drop + 'static,
+    W: Wake + Drop + 'static,
+    R: Wait + Copy + Drop + 'static,
+{
+    pub(crate) realm: &'static ExRealm<T, W, R>,
+    pub(crate) state: Arc<State<W>, Global>,
+    pub(crate) table: Guarded<Places<F, TableWaker>>,
+    /// Its table keeps no wakers.
+    pub(crate) is_static: bool,
+    /// What was let go of tasks in its realm is to be closed.
+    pub(crate) returned: ClosesReturned,
+    pub(crate) rt: R,
+    pub(crate) alloc: Global,
+}
+
+impl<F, T, W, R> Body<F, T, W, R>
+where
+    F: Drop,
+    T: Drop + 'static,
+    W: Wake + Drop + 'static,
+    R: Wait + Copy + Drop + 'static,
+{
+    /// Of this kind, with places for so many futures, whose tasks lie in this realm.
+    pub fn new(
+        rt: R,
+        alloc: Global,
+        realm: &'static ExRealm<T, W, R>,
+        is_static: bool,
+        limit: usize,
+    ) -> Result<Self, NoMemory>
+        requires { 0 < limit }
+        ensures places { IfOk result (λ body. (arc_value body.state).queue.capacity ≡ Some limit) }
+        ensures here { IfOk result (λ body. body.realm.now.number ≡ realm.now.number) }
+        ensures kind { IfOk result (λ body. body.is_static ≡ is_static) }
+    {
+        match (State::new(alloc, limit), Places::with_room(alloc, limit)) {
+            (Ok(state), Ok(table)) => Body::of(rt, alloc, realm, is_static, state, table),
+            _ => Err(NoMemory),
+        }
+    }
+
+    /// Of parts that have places for as many futures as one another.
+    fn of(
+        rt: R,
+        alloc: Global,
+        realm: &'static ExRealm<T, W, R>,
+        is_static: bool,
+        state: State<W>,
+        table: Places<F, TableWaker>,
+    ) -> Result<Self, NoMemory>
+        requires table { (table.entries ≡ []) × (table.has_all_room ≡ true) }
+        requires queue { state.queue.capacity ≡ Some table.limit }
+        ensures queue { IfOk result (λ body. (arc_value body.state).queue.capacity ≡ state.queue.capacity) }
+        ensures here { IfOk result (λ body. body.realm.now.number ≡ realm.now.number) }
+        ensures kind { IfOk result (λ body. body.is_static ≡ is_static) }
+    {
+        match Arc::new(alloc, state) {
+            Ok(state) => Ok(Body {
+                realm,
+                state,
+                table: Guarded::new(table),
+                is_static,
+                returned: ClosesReturned::new(),
+                rt,
+                alloc,
+            }),
+            Err(_) => Err(NoMemory),
+        }
+    }
+
+    /// A static executor goes: what it holds is leaked.
+    pub fn forget(self) {
+        let Body {
+            realm: _,
+            state,
+            table,
+            is_static: _,
+            returned,
+            rt: _,
+            alloc: _,
+        } = self;
+        mem::forget(state);
+        mem::forget(table);
+        returned.forget();
+    }
+}
+
+impl<F, T, W, R> Body<F, T, W, R>
+where
+    F: Future<ExWaker<T, W, R>, Output = T> + Drop,
+    T: Drop + 'static,
+    W: Wake + Drop + 'static,
+    R: Wait + Copy + Drop + 'static,
+{
+    /// Whether each future that was accepted is dropped.
+    pub(crate) fn has_none(&self, unlocked: &mut Unlocked) -> bool {
+        sections::is_empty(self.table.lock(&self.rt, unlocked).get())
+    }
+
+    /// Accepts a future and queues its task, or refuses it.
+    ///
+    /// 1. Closes what was let go of tasks in its realm.
+    /// 2. Under the table's lock: accepts the future, or refuses it. `Full` where as many accepted futures as the
+    ///    limit are not dropped yet, and only then want of memory for the task. The future comes back.
+    /// 3. Once the lock is given back: hands the Runnable to the queue, and tells a sleeper.
+    pub(crate) fn hand_in(
+        &self,
+        future: F,
+        unlocked: &mut Unlocked,
+    ) -> Result<ExTask<T, W, R>, SpawnError<F>>
+        ensures future { IfErr result (λ error. refused error ≡ future) }
+        ensures here { IfOk result (λ task. task.identity.realm ≡ self.now.realm.now.number) }
+    {
+        let closed = self.returned.close(self.rt, self.realm, unlocked);
+        let schedule = ExQueue::new(self.rt, share(self.rt, &self.state));
+        let mut call = Call::begin();
+        let accepted = accept(
+            self.table.lock(&self.rt, unlocked).get(),
+            self.rt,
+            self.realm,
+            &mut call,
+            schedule,
+            self.is_static,
+            future,
+            closed,
+        );
+        match accepted {
+            Ok((runnable, task)) => {
+                self.queue(call, runnable, unlocked);
+                Ok(task)
+            }
+            Err(refused) => {
+                call.end();
+                Err(refused)
+            }
+        }
+    }
+
+    /// Runs one task, where one is queued, and says whether it did.
+    ///
+    /// 1. Takes a Runnable from the queue. Where there is none: false.
+    /// 2. Tells a sleeper, since there may be more.
+    /// 3. Runs it: true.
+    pub(crate) fn run_one(&self, unlocked: &mut Unlocked) -> bool {
+        let mut call = Call::begin();
+        match self.state.take(&self.rt, &mut call) {
+            Some(stored) => {
+                let due = self.state.notify(self.rt, self.realm, &mut call, unlocked);
+                pay(self.rt, due, unlocked);
+                let last = self.poll_or_drop(stored, call, unlocked);
+                Polled::never().end(last);
+                true
+            }
+            None => {
+                call.end();
+                false
+            }
+        }
+    }
+
+    /// Puts the Runnable of a new task into the queue, and tells a sleeper.
+    fn queue(&self, call: Call, runnable: ExRunnable<T, W, R>, unlocked: &mut Unlocked)
+        requires { call ≡ given }
+    {
+        let runnable = runnable.into_scheduled();
+        let due = self.state.push(self.rt, call, runnable, unlocked);
+        pay(self.rt, due, unlocked);
+    }
+}

@@ -1,0 +1,128 @@
+//! The executor that never ends, as a user has it.
+ghost use Rattle.std.specs.Prelude.{◌≡◌, ◌<◌, true, false, Some, IfOk, IfErr};
+ghost use Rattle.std.specs.Arc.{arc_value};
+ghost use Rattle.async_executor.specs.Errors.{refused};
+ghost use Rattle.async_executor.specs.Foreign.{value_of};
+ghost use Rattle.async_executor.specs.Polls.{has_left};
+ghost use Rattle.async_executor.specs.Seeds.{seeded};
+
+use super::{Run, Tick, Unlocked};
+use crate::body::Body;
+use crate::errors::SpawnError;
+use crate::names::{ExRealm, ExTask, ExWaker};
+use async_task::{Future, NoMemory, Wake};
+use std::alloc::Global;
+use std::fmt;
+use std::sync::Wait;
+
+/// An executor of futures `F`, whose outputs are `T`, which never ends: what it still holds when it goes is leaked. Its table
+/// keeps no wakers: a detached future that nobody can wake any more is dropped by the executor.
+pub struct StaticExecutor<F, T, W, R>
+where
+    F: Drop,
+    T: Drop + 'static,
+    W: Wake + Drop + 'static,
+    R: Wait + Copy + Drop + 'static,
+{
+    pub(crate) body: Body<F, T, W, R>,
+}
+
+impl<F, T, W, R> StaticExecutor<F, T, W, R>
+where
+    F: Future<ExWaker<T, W, R>, Output = T> + Drop,
+    T: Drop + 'static,
+    W: Wake + Drop + 'static,
+    R: Wait + Copy + Drop + 'static,
+{
+    /// An executor with places for so many futures, whose tasks lie in this realm. It keeps the runtime value, the
+    /// allocator and the realm for its calls. All places of its queue and its table are taken here.
+    pub fn new(
+        rt: R,
+        alloc: Global,
+        realm: &'static ExRealm<T, W, R>,
+        limit: usize,
+    ) -> Result<Self, NoMemory>
+        requires { 0 < limit }
+        ensures places { IfOk result (λ executor. (arc_value executor.body.state).queue.capacity ≡ Some limit) }
+        ensures here { IfOk result (λ executor. executor.body.realm.now.number ≡ realm.now.number) }
+        ensures kind { IfOk result (λ executor. executor.body.is_static ≡ true) }
+    {
+        match Body::new(rt, alloc, realm, true, limit) {
+            Ok(body) => Ok(StaticExecutor { body }),
+            Err(NoMemory) => Err(NoMemory),
+        }
+    }
+
+    /// Hands the executor a future. Its task is queued, and the handle is answered: a future with the output, whose drop
+    /// cancels the task. `Full` where as many accepted futures as the limit are not dropped yet, and only then want of memory
+    /// for the task. The future comes back.
+    pub fn spawn(&self, future: F) -> Result<ExTask<T, W, R>, SpawnError<F>>
+        ensures future { IfErr result (λ error. refused error ≡ future) }
+        ensures here { IfOk result (λ task. task.identity.realm ≡ self.now.body.realm.now.number) }
+    {
+        self.body.hand_in(future, &mut Unlocked::at_entry())
+    }
+
+    /// Runs one task, where one is queued, and says whether it did. It doesn't wait for one, and takes no memory.
+    pub fn try_tick(&self) -> bool {
+        self.body.run_one(&mut Unlocked::at_entry())
+    }
+
+    /// A future that waits for a future of the executor which is to be polled, and polls it once.
+    pub fn tick(&self) -> Result<Tick<'_, F, T, W, R>, NoMemory>
+        ensures { IfOk result (λ tick. has_left tick.ticker ≡ false) }
+    {
+        self.body.make_tick(&mut Unlocked::at_entry())
+    }
+
+    /// A future that runs the executor's futures until this one is ready, and has its output then. For want of memory the
+    /// future comes back.
+    pub fn run<G>(&self, future: G) -> Result<Run<'_, F, T, W, R, G>, G>
+    where
+        G: Future<ExWaker<T, W, R>> + Drop,
+        ensures back { IfErr result (λ back. back ≡ future) }
+        ensures future { IfOk result (λ run. value_of run.future ≡ Some future) }
+        ensures words { IfOk result (λ run. run.runner.words ≡ seeded 0) }
+    {
+        self.body.make_run(future, 0, &mut Unlocked::at_entry())
+    }
+
+    /// As `run`, with another seed for the places at which it begins to look for tasks of other runs.
+    pub fn run_from<G>(&self, future: G, seed: u64) -> Result<Run<'_, F, T, W, R, G>, G>
+    where
+        G: Future<ExWaker<T, W, R>> + Drop,
+        ensures back { IfErr result (λ back. back ≡ future) }
+        ensures future { IfOk result (λ run. value_of run.future ≡ Some future) }
+        ensures words { IfOk result (λ run. run.runner.words ≡ seeded seed) }
+    {
+        self.body.make_run(future, seed, &mut Unlocked::at_entry())
+    }
+}
+
+impl<F, T, W, R> Drop for StaticExecutor<F, T, W, R>
+where
+    F: Drop,
+    T: Drop + 'static,
+    W: Wake + Drop + 'static,
+    R: Wait + Copy + Drop + 'static,
+{
+    /// What it still holds is leaked.
+    fn drop(self) {
+        let StaticExecutor { body } = self;
+        body.forget();
+    }
+}
+
+/// As that of an `Executor`. No future has a waker in its table.
+impl<F, T, W, R> fmt::Debug for StaticExecutor<F, T, W, R>
+where
+    F: Drop,
+    T: Drop + 'static,
+    W: Wake + Drop + 'static,
+    R: Wait + Copy + Drop + 'static,
+{
+    fn fmt<O: fmt::Write>(&self, f: &mut fmt::Formatter<O>) -> fmt::Result {
+        self.body
+            .show("StaticExecutor", f, &mut Unlocked::at_entry())
+    }
+}

@@ -12,7 +12,7 @@ mod tests;
 mod words;
 
 use async_task::Future;
-use executor_workloads::job::{JobPlace, JobRealm, Open, Place};
+use executor_workloads::job::{JobPlace, JobRealm, JobSite, Open};
 use executor_workloads::{Awaited, Chain, Futures, Link, Waker, Worker, Workplace};
 use line::Line;
 use runs::Realms;
@@ -63,7 +63,7 @@ fn run<L, P, J, R>(rt: &R, realms: &Realms<R>) -> Result<(), Fault>
 where
     L: Chain<R> + Future<Waker<R>, Output = u64> + Drop,
     P: Worker<R> + Sync + Drop,
-    J: Place<R, Gate = Open> + Sync + Drop,
+    J: JobSite<R, Gate = Open> + Sync + Drop,
     R: AllocGlobal + Env + Print + Eprint + Clock + Wait + Threads + Sync + Copy + Drop + 'static,
 {
     match arguments(rt)? {
@@ -96,7 +96,7 @@ fn time<L, P, J, R>(rt: &R, realms: &Realms<R>, workload: Workload, ops: u64) ->
 where
     L: Chain<R> + Future<Waker<R>, Output = u64> + Drop,
     P: Worker<R> + Sync + Drop,
-    J: Place<R, Gate = Open> + Sync + Drop,
+    J: JobSite<R, Gate = Open> + Sync + Drop,
     R: AllocGlobal + Print + Eprint + Clock + Wait + Threads + Sync + Copy + Drop + 'static,
 {
     let timing = runs::run::<L, P, J, R>(workload.work(), rt, realms, ops)?;

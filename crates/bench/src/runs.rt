@@ -1,6 +1,6 @@
 use crate::{sim, steps};
 use async_task::Future;
-use executor_workloads::job::{self, JobRealm, Open, Place};
+use executor_workloads::job::{self, JobRealm, JobSite, Open};
 use executor_workloads::{self as executor, Chain, Futures, Waker, Worker};
 use std::alloc::AllocGlobal;
 use std::rt::Clock;
@@ -24,7 +24,7 @@ pub fn run<L, P, J, R>(work: Work, rt: &R, realms: &Realms<R>, ops: u64) -> Resu
 where
     L: Chain<R> + Future<Waker<R>, Output = u64> + Drop,
     P: Worker<R> + Sync + Drop,
-    J: Place<R, Gate = Open> + Sync + Drop,
+    J: JobSite<R, Gate = Open> + Sync + Drop,
     R: AllocGlobal + Clock + Wait + Threads + Sync + Copy + Drop + 'static,
 {
     match work {

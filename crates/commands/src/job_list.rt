@@ -2,15 +2,15 @@
 
 ghost use Rattle.std.specs.Prelude.{◌≡◌, ◌≢◌, ◌<◌, ◌≤◌, ℕ, Err, IfErr, IfOk, IfSome, OnOk};
 ghost use Rattle.std.specs.Io.KnownBytes.{IsAtEnd};
-ghost use Rattle.job_lines.specs.Lines.{IsFirstBadLine};
+ghost use Rattle.job_text.specs.Lines.{IsFirstBadLine};
 ghost use Rattle.commands.specs.Jobs.{IsAnswerToJobs, IsFaultOf, MissesJob, SaysJobs};
 ghost use Rattle.commands.specs.Writes.{WritesAnswers};
 
 use crate::fault::Fault;
 use crate::input;
 use crate::output::write_all;
-use job_lines::{parse, print};
-use jobs::{JobRealm, Open, Place, run_jobs};
+use job_text::{parse, print};
+use jobs::{JobRealm, JobSite, Open, run_jobs};
 use std::alloc::Global;
 use std::io::{Read, Write};
 use std::sync::Wait;
@@ -29,7 +29,7 @@ pub fn jobs<P, R, I, O>(
     workers: usize,
 ) -> Result<(), Fault>
 where
-    P: Place<R, Gate = Open> + Sync + Drop,
+    P: JobSite<R, Gate = Open> + Sync + Drop,
     R: Threads + Sync + Wait + Copy + Drop + 'static,
     I: Read,
     O: Write,
@@ -69,7 +69,7 @@ fn answers<P, R>(
     workers: usize,
 ) -> Result<Vec<u8>, Fault>
 where
-    P: Place<R, Gate = Open> + Sync + Drop,
+    P: JobSite<R, Gate = Open> + Sync + Drop,
     R: Threads + Sync + Wait + Copy + Drop + 'static,
     requires { (0 < workers) × (workers ≤ 64) }
     ensures answer { IfOk result (λ text. IsAnswerToJobs input.now text.items) }

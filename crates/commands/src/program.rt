@@ -7,7 +7,7 @@ use crate::fault::Fault;
 use crate::job_list::jobs;
 use crate::sim::sim;
 use crate::words::{Asked, read_words};
-use jobs::{JobRealm, Open, Place};
+use jobs::{JobRealm, JobSite, Open};
 use std::alloc::Global;
 use std::io::{Read, Write};
 use std::sync::Wait;
@@ -24,7 +24,7 @@ pub fn program<P, R, I, O>(
     writer: &mut O,
 ) -> Result<(), Fault>
 where
-    P: Place<R, Gate = Open> + Sync + Drop,
+    P: JobSite<R, Gate = Open> + Sync + Drop,
     R: Threads + Sync + Wait + Copy + Drop + 'static,
     I: Read,
     O: Write,

@@ -18,9 +18,16 @@ use std::sync::Wait;
 ///
 /// It moves between threads, and is shared by them, where `T` moves. A contract sees its capacity alone, since other
 /// threads may change the rest at any moment. Its drop drops each item that is left, once.
-#[derive(Drop)]
 pub struct ConcurrentQueue<T> {
     kept: Kept<T>,
+}
+
+/// Written out, so that crates above call it, and prove the drops of all its parts no second time.
+impl<T: Drop> Drop for ConcurrentQueue<T> {
+    fn drop(self) {
+        let ConcurrentQueue { kept } = self;
+        drop(kept);
+    }
 }
 
 #[derive(Drop)]
@@ -175,7 +182,8 @@ impl<T> ConcurrentQueue<T> {
     /// Takes the queue apart. What it still held comes, oldest first, and then its memory goes back: this ends a queue also
     /// where items may not be dropped.
     pub fn take_apart(self) -> Remains<T> {
-        match self.kept {
+        let ConcurrentQueue { kept } = self;
+        match kept {
             Kept::Single(slot) => Remains::of_places(slot.take_apart()),
             Kept::Bounded(ring) => Remains::of_places(ring.take_apart()),
             Kept::Unbounded(chain) => Remains::of_chain(chain.into_inner()),

@@ -3,7 +3,7 @@ mod list;
 mod parsing;
 mod running;
 
-pub use jobs::{JobPlace, JobRealm, Open, Place};
+pub use jobs::{JobPlace, JobRealm, JobSite, Open};
 use std::alloc::AllocGlobal;
 use std::rt::Clock;
 use std::sync::Wait;
@@ -19,7 +19,7 @@ pub fn time<P, R>(
     ops: u64,
 ) -> Result<Timing, Fault>
 where
-    P: Place<R, Gate = Open> + Sync + Drop,
+    P: JobSite<R, Gate = Open> + Sync + Drop,
     R: AllocGlobal + Clock + Wait + Threads + Sync + Copy + Drop + 'static,
 {
     match work {

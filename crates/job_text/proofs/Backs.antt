@@ -4,13 +4,13 @@ use Rattle.std.specs.Prelude.{replicate}
 use Rattle.std.proofs.Math.Seq.{take-suc}
 use Rattle.std.proofs.lemmas.List.{get_or-replicate, length-replicate, map-append, take_all}
 use Rattle.std.proofs.lemmas.Option.{slice_get-get_or, slice_get_within}
-use Rattle.job_answers.specs.Answers.{answer_of}
-use Rattle.job_answers.specs.Results.{AreRight, IsBack}
-use Rattle.job_answers.specs.declared.job.Job.{Job}
-use Rattle.job_answers.specs.declared.job.Job.TheVariants.{Sum}
-use Rattle.job_answers.specs.declared.job.Answer.{Answer}
-use Rattle.job_answers.specs.declared.results.Back.{Back}
-use Rattle.job_answers.specs.declared.results.Back.TheVariants.{Never, Once}
+use Rattle.job_text.specs.Answers.{answer_of}
+use Rattle.job_text.specs.Results.{AreRight, IsBack}
+use Rattle.job_text.specs.declared.job.Job.{Job}
+use Rattle.job_text.specs.declared.job.Job.TheVariants.{Sum}
+use Rattle.job_text.specs.declared.job.Answer.{Answer}
+use Rattle.job_text.specs.declared.results.Back.{Back}
+use Rattle.job_text.specs.declared.results.Back.TheVariants.{Never, Once}
 
 -- the jobs in front of this place came back once each, with these answers
 pub record AreAnswered (jobs : List Job) (backs : List Back) (index : ℕ) (answers : List Answer) : Type 0 where

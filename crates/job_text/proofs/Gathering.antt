@@ -5,14 +5,14 @@ use Rattle.std.specs.Global.{Global}
 use Rattle.std.proofs.lemmas.List.Sums.{sum_by_more}
 use Rattle.std.proofs.lemmas.Bool.Decides.{eqb_tells, nat_tests}
 use Rattle.std.proofs.lemmas.Option.{slice_get-get_or, slice_get_within}
-use Rattle.job_answers.specs.Results.{once_more, IsBack, IsFirstMissing}
-use Rattle.job_answers.specs.Gathered.{same_job, is_there, is_of, times_back, EachCameOnce, IsLeastMissing, Tells, AreCounts}
-use Rattle.job_answers.specs.declared.job.Job.{Job}
-use Rattle.job_answers.specs.declared.job.Job.TheVariants.{Sum, Mul}
-use Rattle.job_answers.specs.declared.job.Answer.{Answer}
-use Rattle.job_answers.specs.declared.job.Solved.{Solved}
-use Rattle.job_answers.specs.declared.results.Back.{Back}
-use Rattle.job_answers.specs.declared.results.Back.TheVariants.{Never, Once, Often}
+use Rattle.job_text.specs.Results.{once_more, IsBack, IsFirstMissing}
+use Rattle.job_text.specs.Gathered.{same_job, is_there, is_of, times_back, EachCameOnce, IsLeastMissing, Tells, AreCounts}
+use Rattle.job_text.specs.declared.job.Job.{Job}
+use Rattle.job_text.specs.declared.job.Job.TheVariants.{Sum, Mul}
+use Rattle.job_text.specs.declared.job.Answer.{Answer}
+use Rattle.job_text.specs.declared.job.Solved.{Solved}
+use Rattle.job_text.specs.declared.results.Back.{Back}
+use Rattle.job_text.specs.declared.results.Back.TheVariants.{Never, Once, Often}
 
 -- the test of two jobs tells which is so
 abbrev Told : Bool → Job → Job → Type 0

@@ -1,3 +1,6 @@
+pub mod Backs
+pub mod Gathering
+pub mod Sums
 pub mod Parsing
 pub mod Printing
 pub mod Unambiguous

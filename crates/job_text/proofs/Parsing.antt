@@ -7,8 +7,8 @@ use Rattle.text_lines.specs.Lines.{lines_of}
 use Rattle.text_lines.specs.BadLine.{AreGood}
 use Rattle.text_lines.proofs.Good.{AreGood-push, IsFirstBad-none}
 use Rattle.text_lines.proofs.Zipping.{length-AllZip}
-use Rattle.job_answers.specs.declared.job.Job.{Job}
-use Rattle.job_lines.specs.Lines.{Spells, IsShort, Says, IsGood, IsFirstBadLine}
+use Rattle.job_text.specs.declared.job.Job.{Job}
+use Rattle.job_text.specs.Lines.{Spells, IsShort, Says, IsGood, IsFirstBadLine}
 
 -- the good lines of a text in front of those that are left, and what they say
 pub record HasParsed (jobs : List Job) (text : List ℕ) (left : List (List ℕ)) : Type 0 where

@@ -2,8 +2,8 @@
 use Rattle.std.proofs.Common.{◌≡◌, ℕ, suc, ◌+◌, ◌<◌, List, [], ◌∷◌, ◌++◌, take, get_or, length, sym, ap, ◌∙◌, append_assoc, append-nil, add-zero, add-one, arith}
 use Rattle.std.proofs.Math.Seq.{take-suc}
 use Rattle.std.proofs.lemmas.List.{length-take-le}
-use Rattle.job_answers.specs.declared.job.Answer.{Answer}
-use Rattle.job_lines.specs.Lines.{answers_text, line_text}
+use Rattle.job_text.specs.declared.job.Answer.{Answer}
+use Rattle.job_text.specs.Lines.{answers_text, line_text}
 
 answers_text-push : (number : ℕ) (answers : List Answer) (answer : Answer) → answers_text number (answers ++ answer ∷ []) ≡ answers_text number answers ++ line_text (number + length answers) answer
 answers_text-push number [] answer = append-nil (line_text number answer) ∙ ap (λ n. line_text n answer) (sym (add-zero number))

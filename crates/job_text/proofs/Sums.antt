@@ -1,9 +1,9 @@
 -- The first terms of 0 + 1 + .. added up.
 use Rattle.std.proofs.Common.{◌≡◌, ℕ, zero, suc, ◌*◌, ◌^◌, ◌<◌, ◌≤◌, ap, ◌∙◌, arith}
 use Rattle.std.proofs.lemmas.Bool.Decides.{nat_tests}
-use Rattle.job_answers.specs.Answers.{sum_below, value_of, answer_of}
-use Rattle.job_answers.specs.declared.job.Job.TheVariants.{Sum}
-use Rattle.job_answers.specs.declared.job.Answer.TheVariants.{Value}
+use Rattle.job_text.specs.Answers.{sum_below, value_of, answer_of}
+use Rattle.job_text.specs.declared.job.Job.TheVariants.{Sum}
+use Rattle.job_text.specs.declared.job.Answer.TheVariants.{Value}
 
 -- the terms of a sum of at most 1,000,001 are few
 pub sum_below_few : (count : ℕ) → count ≤ 1000001 → sum_below count ≤ 1000001 * count

@@ -2,9 +2,9 @@
 use Rattle.std.proofs.Common.{◌≡◌, ℕ, List, ap, arith}
 use Rattle.text_lines.specs.Lines.{lines_of, words_of}
 use Rattle.text_lines.proofs.One.{IsNumber-one, AllZip-one}
-use Rattle.job_answers.specs.declared.job.Job.{Job}
-use Rattle.job_answers.specs.declared.job.Job.TheVariants.{Sum, Mul}
-use Rattle.job_lines.specs.Lines.{IsSpelled, Spells, Says}
+use Rattle.job_text.specs.declared.job.Job.{Job}
+use Rattle.job_text.specs.declared.job.Job.TheVariants.{Sum, Mul}
+use Rattle.job_text.specs.Lines.{IsSpelled, Spells, Says}
 
 IsSpelled-one : (job other : Job) (words : List (List ℕ)) → IsSpelled job words → IsSpelled other words → job ≡ other
 IsSpelled-one (Sum m) (Sum n) words p q =

@@ -1,9 +1,9 @@
 -- What a job comes to.
 use Rattle.std.specs.Prelude.{ℕ, zero, suc, ◌+◌, ◌*◌, ◌^◌, ◌≤◌, if◌then◌else◌, nat_lt}
-use Rattle.job_answers.specs.declared.job.Job.{Job}
-use Rattle.job_answers.specs.declared.job.Job.TheVariants.{Sum, Mul}
-use Rattle.job_answers.specs.declared.job.Answer.{Answer}
-use Rattle.job_answers.specs.declared.job.Answer.TheVariants.{Value, TooLarge}
+use Rattle.job_text.specs.declared.job.Job.{Job}
+use Rattle.job_text.specs.declared.job.Job.TheVariants.{Sum, Mul}
+use Rattle.job_text.specs.declared.job.Answer.{Answer}
+use Rattle.job_text.specs.declared.job.Answer.TheVariants.{Value, TooLarge}
 
 -- 0 + 1 + .. + (count - 1)
 abbrev pub sum_below : ℕ → ℕ

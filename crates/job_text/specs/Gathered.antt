@@ -1,11 +1,11 @@
 -- How often the jobs of a list came back, in lists of what came back.
 use Rattle.std.specs.Prelude.{◌≡◌, ◌≢◌, ℕ, ◌<◌, ◌≤◌, Bool, true, false, ◌&&◌, nat_eq, List, Option, Some, None, Vec, length, slice_get, count_by, sum_by, vec_items}
 use Rattle.std.specs.Global.{Global}
-use Rattle.job_answers.specs.declared.job.Job.{Job}
-use Rattle.job_answers.specs.declared.job.Job.TheVariants.{Sum, Mul}
-use Rattle.job_answers.specs.declared.job.Solved.{Solved}
-use Rattle.job_answers.specs.declared.results.Back.{Back}
-use Rattle.job_answers.specs.declared.results.Back.TheVariants.{Never, Once, Often}
+use Rattle.job_text.specs.declared.job.Job.{Job}
+use Rattle.job_text.specs.declared.job.Job.TheVariants.{Sum, Mul}
+use Rattle.job_text.specs.declared.job.Solved.{Solved}
+use Rattle.job_text.specs.declared.results.Back.{Back}
+use Rattle.job_text.specs.declared.results.Back.TheVariants.{Never, Once, Often}
 
 -- whether both jobs are the same
 abbrev pub same_job : Job → Job → Bool

@@ -1,3 +1,4 @@
 pub mod Answers
 pub mod Gathered
 pub mod Results
+pub mod Lines

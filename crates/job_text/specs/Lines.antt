@@ -5,10 +5,10 @@ use Rattle.std.specs.Fmt.{decimal}
 use Rattle.text_lines.specs.Lines.{lines_of, words_of}
 use Rattle.text_lines.specs.Number.{IsNumber}
 use Rattle.text_lines.specs.BadLine.{IsFirstBad}
-use Rattle.job_answers.specs.declared.job.Job.{Job}
-use Rattle.job_answers.specs.declared.job.Job.TheVariants.{Sum, Mul}
-use Rattle.job_answers.specs.declared.job.Answer.{Answer}
-use Rattle.job_answers.specs.declared.job.Answer.TheVariants.{Value, TooLarge}
+use Rattle.job_text.specs.declared.job.Job.{Job}
+use Rattle.job_text.specs.declared.job.Job.TheVariants.{Sum, Mul}
+use Rattle.job_text.specs.declared.job.Answer.{Answer}
+use Rattle.job_text.specs.declared.job.Answer.TheVariants.{Value, TooLarge}
 
 -- `sum <n>`, where n is at most 1,000,000, or `mul <a> <b>`, where each is a u64
 abbrev pub IsSpelled : Job → List (List ℕ) → Type 0

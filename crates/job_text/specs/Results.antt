@@ -1,10 +1,10 @@
 -- Which jobs of a list came back, and with what.
 use Rattle.std.specs.Prelude.{◌≡◌, ℕ, ◌<◌, List, Some, length, slice_get}
-use Rattle.job_answers.specs.Answers.{answer_of}
-use Rattle.job_answers.specs.declared.job.Job.{Job}
-use Rattle.job_answers.specs.declared.job.Answer.{Answer}
-use Rattle.job_answers.specs.declared.results.Back.{Back}
-use Rattle.job_answers.specs.declared.results.Back.TheVariants.{Never, Once, Often}
+use Rattle.job_text.specs.Answers.{answer_of}
+use Rattle.job_text.specs.declared.job.Job.{Job}
+use Rattle.job_text.specs.declared.job.Answer.{Answer}
+use Rattle.job_text.specs.declared.results.Back.{Back}
+use Rattle.job_text.specs.declared.results.Back.TheVariants.{Never, Once, Often}
 
 -- how often a job came back, where it does once more
 abbrev pub once_more : Answer → Back → Back

@@ -1,8 +1,8 @@
 //! What came back to several workers, put together.
 ghost use Rattle.std.specs.Prelude.{◌≡◌, ◌≢◌, ◌+◌, ℕ, IfOk, IfErr, count_by, map};
-ghost use Rattle.job_answers.specs.Answers.{answer_of};
-ghost use Rattle.job_answers.specs.Gathered.{AreCounts, EachCameOnce, IsLeastMissing, is_of, times_back};
-ghost use Rattle.job_answers.specs.declared.errors.JobsError.TheVariants.{Missing, NoMemory};
+ghost use Rattle.job_text.specs.Answers.{answer_of};
+ghost use Rattle.job_text.specs.Gathered.{AreCounts, EachCameOnce, IsLeastMissing, is_of, times_back};
+ghost use Rattle.job_text.specs.declared.errors.JobsError.TheVariants.{Missing, NoMemory};
 
 use crate::errors::JobsError;
 use crate::job::{Answer, Job, Solved};

@@ -1,5 +1,5 @@
 ghost use Rattle.std.specs.Prelude.{◌≡◌, ◌≤◌, ℕ};
-ghost use Rattle.job_answers.specs.Answers.{answer_of};
+ghost use Rattle.job_text.specs.Answers.{answer_of};
 
 /// What is to be worked out.
 #[derive(Clone, Copy, Debug, PartialEq, Eq)]

@@ -1,10 +1,10 @@
 //! A text read as jobs.
 
 ghost use Rattle.std.specs.Prelude.{◌≡◌, ◌∷◌, ℕ, List, IfNone, IfOk, IfSome, IsErrOf, IsOkUnless, codes};
-ghost use Rattle.job_lines.specs.Lines.{IsFirstBadLine, IsShort, IsSpelled, Says, Spells};
-ghost use Rattle.job_answers.specs.declared.job.Job.{Job};
+ghost use Rattle.job_text.specs.Lines.{IsFirstBadLine, IsShort, IsSpelled, Says, Spells};
+ghost use Rattle.job_text.specs.declared.job.Job.{Job};
 
-use job_answers::{Job, LARGEST_SUM};
+use crate::job::{Job, LARGEST_SUM};
 use std::alloc::Global;
 use text_lines::{Lines, ParseError, Words, read_number};
 

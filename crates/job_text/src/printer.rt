@@ -1,9 +1,9 @@
 //! The text of answers.
 
 ghost use Rattle.std.specs.Prelude.{◌≡◌, ◌++◌, IfOk, OnOk};
-ghost use Rattle.job_lines.specs.Lines.{answer_text, answers_text, line_text};
+ghost use Rattle.job_text.specs.Lines.{answer_text, answers_text, line_text};
 
-use job_answers::Answer;
+use crate::job::Answer;
 use std::alloc::{AllocError, Global};
 
 /// A line for each answer, in order: its number, from 0, and what it is.

@@ -1,5 +1,5 @@
 ghost use Rattle.std.specs.Prelude.{◌≡◌, ◌+◌, ◌≤◌, ◌<◌, max, min, IfNone, IfSome};
-ghost use Rattle.job_answers.specs.Answers.{IsInRange, answer_of, sum_below, terms_of};
+ghost use Rattle.job_text.specs.Answers.{IsInRange, answer_of, sum_below, terms_of};
 
 use crate::job::{Answer, Job, LARGEST_SUM, Solved, product};
 

@@ -1,7 +1,7 @@
 ghost use Rattle.std.specs.Prelude.{◌≡◌, ◌≢◌, ◌<◌, ℕ, Some, IfOk, IfErr, length, map, slice_get};
-ghost use Rattle.job_answers.specs.Answers.{answer_of};
-ghost use Rattle.job_answers.specs.Results.{AreRight, IsBack, IsFirstMissing, once_more};
-ghost use Rattle.job_answers.specs.declared.errors.JobsError.TheVariants.{Missing, NoMemory};
+ghost use Rattle.job_text.specs.Answers.{answer_of};
+ghost use Rattle.job_text.specs.Results.{AreRight, IsBack, IsFirstMissing, once_more};
+ghost use Rattle.job_text.specs.declared.errors.JobsError.TheVariants.{Missing, NoMemory};
 
 use crate::errors::JobsError;
 use crate::job::{Answer, Job, Solved};

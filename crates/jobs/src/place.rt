@@ -1,8 +1,8 @@
 //! Where jobs are done, as code over any runtime type may know it. Such code gets no proof of calls with what holds handles,
-//! nor of threads that call what holds a realm: so it is generic over a `Place`, and a program that has its runtime value says
+//! nor of threads that call what holds a realm: so it is generic over a `JobSite`, and a program that has its runtime value says
 //! which that is.
 ghost use Rattle.std.specs.Prelude.{All};
-ghost use Rattle.job_answers.specs.Answers.{IsInRange};
+ghost use Rattle.job_text.specs.Answers.{IsInRange};
 
 use crate::brought::Brought;
 use crate::desk::Awaits;
@@ -12,7 +12,7 @@ use crate::site_desk::SiteDesk;
 use crate::worker::Worker;
 use async_task::NoMemory;
 use blocking::block_on;
-use job_answers::{Job, Solved};
+use job_text::{Job, Solved};
 use std::alloc::Global;
 use std::sync::Wait;
 
@@ -20,7 +20,7 @@ use std::sync::Wait;
 pub trait Labor<R: Wait> {
     ghost use Rattle.std.specs.Prelude.{IfOk, Vec};
     ghost use Rattle.std.specs.Global.{Global};
-    ghost use Rattle.job_answers.specs.declared.job.Solved.{Solved};
+    ghost use Rattle.job_text.specs.declared.job.Solved.{Solved};
 
     /// What threads of this place come back with: jobs that were begun there, each by a handle of its own.
     ghost brings: { Self → Vec Solved Global → Type 0 };
@@ -31,7 +31,7 @@ pub trait Labor<R: Wait> {
 }
 
 /// Where jobs are done.
-pub trait Place<R>: Labor<R>
+pub trait JobSite<R>: Labor<R>
 where
     R: Wait + Copy + Drop + 'static,
 {
@@ -63,7 +63,7 @@ where
 /// The place that a program names.
 pub type JobPlace<G, R> = Workplace<G, R>;
 
-impl<G, R> Place<R> for Workplace<G, R>
+impl<G, R> JobSite<R> for Workplace<G, R>
 where
     G: Gate + Copy + Drop,
     R: Wait + Copy + Drop + 'static,

@@ -1,13 +1,13 @@
 //! Jobs on worker threads.
 ghost use Rattle.std.specs.Prelude.{◌≡◌, ◌<◌, ◌≤◌, ℕ, All, Err, IfOk, Ok, length, map};
-ghost use Rattle.job_answers.specs.Answers.{IsInRange, answer_of};
-ghost use Rattle.job_answers.specs.declared.errors.JobsError.TheVariants.{Missing};
+ghost use Rattle.job_text.specs.Answers.{IsInRange, answer_of};
+ghost use Rattle.job_text.specs.declared.errors.JobsError.TheVariants.{Missing};
 ghost use Rattle.jobs.specs.Coming.{AllCameBack, AreBrought, CameBackUpTo};
 
-use crate::place::{Labor, Place};
+use crate::place::{JobSite, Labor};
 use crate::site::JobRealm;
 use async_task::NoMemory;
-use job_answers::{Answer, Job, JobsError, Solved, gather};
+use job_text::{Answer, Job, JobsError, Solved, gather};
 use std::alloc::Global;
 use std::marker::PhantomData;
 use std::sync::Wait;
@@ -28,7 +28,7 @@ pub fn run_jobs<P, R>(
     gate: P::Gate,
 ) -> Result<Vec<Answer>, JobsError>
 where
-    P: Place<R> + Sync + Drop,
+    P: JobSite<R> + Sync + Drop,
     R: Threads + Sync + Wait + Copy + Drop + 'static,
     requires ranges { All IsInRange jobs.now }
     requires few { length jobs.now ≤ 100000 }

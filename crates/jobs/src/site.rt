@@ -1,6 +1,6 @@
 //! The jobs that are left, and the executor that they are spawned on.
 ghost use Rattle.std.specs.Prelude.{All};
-ghost use Rattle.job_answers.specs.Answers.{IsInRange};
+ghost use Rattle.job_text.specs.Answers.{IsInRange};
 
 use crate::gate::Gate;
 use crate::work::Work;
@@ -8,7 +8,7 @@ use async_executor::{ExRealm, ExWaker, Executor, SpawnError};
 use async_task::{Future, NoMemory, Poll, Returning, StoredTask, TaskError};
 use blocking::ThreadWaker;
 use concurrent_queue::ConcurrentQueue;
-use job_answers::{Job, Solved};
+use job_text::{Job, Solved};
 use std::alloc::Global;
 use std::sync::Wait;
 

@@ -6,7 +6,7 @@ use crate::desk::{Awaits, Desk};
 use crate::gate::Gate;
 use crate::site::{Awaited, JobWaker, Next, Site};
 use async_task::{NoMemory, Poll};
-use job_answers::Solved;
+use job_text::Solved;
 use std::sync::Wait;
 
 /// A worker's desk at a site: it pops a job and spawns it, and awaits that job's handle.

@@ -6,7 +6,7 @@ use crate::site_desk::SiteDesk;
 use crate::worker::Worker;
 use async_task::{Future, Poll};
 use blocking::block_on;
-use job_answers::Job;
+use job_text::Job;
 use std::sync::Wait;
 use std::sync::atomic::AtomicU64;
 use std::sync::atomic::Ordering::SeqCst;

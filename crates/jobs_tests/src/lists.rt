@@ -1,6 +1,6 @@
 //! Lists of jobs and their answers, which are in order by the contract of `run_jobs`: that they come at all is shown here.
 ghost use Rattle.std.specs.Prelude.{◌<◌, ◌≤◌, All, IfOk, length};
-ghost use Rattle.job_answers.specs.Answers.{IsInRange};
+ghost use Rattle.job_text.specs.Answers.{IsInRange};
 
 use jobs::{Answer, Job, JobPlace, JobRealm, Open, run_jobs};
 use std::alloc::{AllocError, Global};

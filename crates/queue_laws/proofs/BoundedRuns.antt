@@ -1,4 +1,4 @@
--- Every list of steps on a ring is a run of the closable queue. n is the number of places, m the mark.
+-- Every list of steps on a ring is an execution of the closable queue. n is the number of places, m the mark.
 use Rattle.std.proofs.Common.{◌≡◌, ◌⊎◌, inl, inr, ℕ, ◌+◌, ◌-◌, ◌%◌, ◌<◌, ◌≤◌, ◌^◌, List, [], ◌∷◌, ◌++◌, true, false, Option, Some, None}
 use Rattle.std.proofs.Common.{IsSome, sym, refl, ap, ◌∙◌, subst, lt_of_not-le, arith}
 use mathlib.Core.Logic.{dite}

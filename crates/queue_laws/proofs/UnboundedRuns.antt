@@ -1,4 +1,4 @@
--- Every list of steps on a chain is a run of the closable queue.
+-- Every list of steps on a chain is an execution of the closable queue.
 use Rattle.std.proofs.Common.{◌≡◌, inl, inr, ◌↔◌, ℕ, ◌+◌, ◌%◌, ◌<◌, ◌≤◌, List, [], ◌∷◌, ◌++◌, length, Bool, true, false, nat_le, IsTrue}
 use Rattle.std.proofs.Common.{Option, Some, None, Ok, Err, ◌==◌, if◌then◌else◌, sym, refl, ap, ◌∙◌, subst, arith}
 use Rattle.std.proofs.lemmas.Bool.Decides.{nat_tests}

@@ -183,7 +183,7 @@ module _ {T : Type 0} (n m : ℕ) where
   abbrev pub IsNeverEmpty : BoundedWorld T → Type 0
   IsNeverEmpty w = (p h : ℕ) (call : Call T) → w.places p ≡ Stands call (Drain h) → IsSome (w.slots (h % m)).value
 
-  -- every list of steps is a run of the closable queue, which comes to the queue that the words of the ring tell of; no
+  -- every list of steps is an execution of the closable queue, which comes to the queue that the words of the ring tell of; no
   -- word wraps, and no place is read empty
   pub record IsClosableQueue (steps : List (Step T)) : Type 0 where
     pub last : Scene T

@@ -184,7 +184,7 @@ module _ {T : Type 0} where
   abbrev pub new_scene : Scene T
   new_scene = record { sight = record { queue = new_queue (Some 1) None; incoming = None }; calls = λ p. None }
 
-  -- every list of steps is a run of the closable queue, and its word is a sum of the three marks
+  -- every list of steps is an execution of the closable queue, and its word is a sum of the three marks
   pub record IsClosableQueue (steps : List (Step T)) : Type 0 where
     pub last : Scene T
     pub is_run : Run new_scene (trace steps new_slot) last

@@ -128,7 +128,7 @@ module _ {T : Type 0} where
   abbrev pub new_scene : Scene T
   new_scene = record { sight = record { queue = new_queue None (Some 0); incoming = None }; calls = λ p. None }
 
-  -- every list of steps is a run of the closable queue, which comes to the queue that the chain is then; its numbers
+  -- every list of steps is an execution of the closable queue, which comes to the queue that the chain is then; its numbers
   -- stay within 2^61, and its blocks lie in order
   pub record IsClosableQueue (steps : List (Step T)) : Type 0 where
     pub last : Scene T

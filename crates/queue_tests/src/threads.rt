@@ -45,7 +45,8 @@ fn who_pushed_finds_an_item_or_displaces_one(rt: HostRuntime) {
 
 #[test]
 fn each_producers_items_come_in_order_under_displacement(rt: HostRuntime) {
-    let roles = [force(25_000), force(25_000), POP_ON, POP_ON];
+    let all = force(u64::MAX);
+    let roles = [all, all, POP_ON, POP_ON, Role::Close { load: 200_000 }];
     all_play(&rt, &[2, 8], &roles, 1);
 }
 

@@ -30,7 +30,10 @@ pub fn live<R: Wait + Copy + Drop + 'static>(
         & give_handles_up(&executor, report)
         & drop_a_told_tick(&executor, &waker, report)
         & drop_a_run_with_tasks(&executor, &waker, report);
-    is_so & close(executor, &waker, report) & memory(alloc, report).is_some()
+    is_so
+        & leak(rt, alloc, realm, &waker, report)
+        & close(executor, &waker, report)
+        & memory(alloc, report).is_some()
 }
 
 /// A tick waits, a future is spawned, the tick polls it, and its handle has its output.
@@ -175,6 +178,28 @@ fn drop_a_run_with_tasks<R: Wait + Copy + Drop + 'static>(
     let waits = poll_run(&mut run, waker, report);
     drop(run);
     are_spawned & waits & executor.try_tick() & !executor.is_empty()
+}
+
+/// Another executor is leaked. Its future is polled there until it is ready, and its handle has the output.
+fn leak<R: Wait + Copy + Drop + 'static>(
+    rt: R,
+    alloc: Global,
+    realm: &'static TestRealm<R>,
+    waker: &TestWaker<R>,
+    report: &mut Report,
+) -> bool {
+    let Some(executor) = executor(rt, alloc, realm, report) else {
+        return false;
+    };
+    match spawn(&executor, 9, 1, report) {
+        Some(mut task) => {
+            let executor = executor.leak();
+            executor.try_tick()
+                & executor.try_tick()
+                & matches!(task.poll(waker), Poll::Ready(Ok(9)))
+        }
+        None => false,
+    }
 }
 
 /// An executor is dropped whose futures are not ready, and the handle of one finds its task closed.

@@ -2,7 +2,7 @@
 //! refused meanwhile: then the fault is want of memory or of threads, its status 3, and nothing was written.
 use crate::report::{Call, Report};
 use commands::program::program;
-use jobs::{JobRealm, Open, Place};
+use jobs::{JobRealm, JobSite, Open};
 use std::alloc::{AllocError, Global};
 use std::sync::Wait;
 use std::thread::Threads;
@@ -30,7 +30,7 @@ enum Ended {
 /// Does the jobs, and once more where something was refused, which has to be well. Says whether it was.
 pub fn do_jobs<P, R>(rt: R, alloc: Global, realm: &'static JobRealm<R>, report: &mut Report) -> bool
 where
-    P: Place<R, Gate = Open> + Sync + Drop,
+    P: JobSite<R, Gate = Open> + Sync + Drop,
     R: Threads + Sync + Wait + Copy + Drop + 'static,
 {
     let mut ended = try_once::<P, R>(rt, alloc, realm);
@@ -43,7 +43,7 @@ where
 
 fn try_once<P, R>(rt: R, alloc: Global, realm: &'static JobRealm<R>) -> Ended
 where
-    P: Place<R, Gate = Open> + Sync + Drop,
+    P: JobSite<R, Gate = Open> + Sync + Drop,
     R: Threads + Sync + Wait + Copy + Drop + 'static,
 {
     let (Ok(words), Ok(mut written)) = (words(alloc), Vec::with_capacity(alloc, TWO_ANSWERS.len()))

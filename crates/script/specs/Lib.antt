@@ -8,3 +8,4 @@ pub mod Plain
 pub mod Command
 pub mod Script
 pub mod BadLine
+pub mod WordText

@@ -1,3 +1,6 @@
+ghost use Rattle.std.specs.Prelude.{◌≡◌};
+ghost use Rattle.script.specs.WordText.{word_text};
+
 /// The first word of a command, under which its answer is printed.
 #[derive(Clone, Copy, Debug, PartialEq, Eq)]
 pub enum Word {
@@ -20,4 +23,33 @@ pub enum Word {
     Begin,
     Go,
     Finish,
+}
+
+impl Word {
+    /// Its text.
+    pub fn text(self) -> &'static [u8]
+        ensures { result.now ≡ word_text self }
+    {
+        match self {
+            Word::Spawn => b"spawn",
+            Word::Try => b"try",
+            Word::Empty => b"empty",
+            Word::Wake => b"wake",
+            Word::Unkeep => b"unkeep",
+            Word::Poll => b"poll",
+            Word::Cancel => b"cancel",
+            Word::Detach => b"detach",
+            Word::Drop => b"drop",
+            Word::Tick => b"tick",
+            Word::PollTick => b"polltick",
+            Word::DropTick => b"droptick",
+            Word::Run => b"run",
+            Word::PollRun => b"pollrun",
+            Word::DropRun => b"droprun",
+            Word::End => b"end",
+            Word::Begin => b"begin",
+            Word::Go => b"go",
+            Word::Finish => b"finish",
+        }
+    }
 }

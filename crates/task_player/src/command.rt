@@ -1,11 +1,11 @@
 //! The calls that a script can make.
 
 /// The number of a name, in the order in which the script first uses them.
-#[derive(Clone, Copy, Drop)]
+#[derive(Clone, Copy)]
 pub struct Name(pub usize);
 
 /// What a future does in a poll, before it answers.
-#[derive(Clone, Copy, Drop)]
+#[derive(Clone, Copy)]
 pub enum Act {
     /// It wakes itself by reference.
     Wake,
@@ -21,8 +21,14 @@ pub struct Item {
     pub output: Option<u64>,
 }
 
+/// A call that a line asks for by its first word.
+pub trait Call: Copy {
+    /// The word that a line begins with.
+    fn word(self) -> &'static str;
+}
+
 /// A call on the first Runnable of the list, or on the innermost open run.
-#[derive(Clone, Copy, Drop)]
+#[derive(Clone, Copy)]
 pub enum ListCall {
     Run,
     Start,
@@ -41,9 +47,10 @@ impl ListCall {
         ListCall::Reschedule,
         ListCall::Next,
     ];
+}
 
-    /// The word that a line begins with.
-    pub fn word(self) -> &'static str {
+impl Call for ListCall {
+    fn word(self) -> &'static str {
         match self {
             ListCall::Run => "run",
             ListCall::Start => "start",
@@ -56,7 +63,7 @@ impl ListCall {
 }
 
 /// A call on the kept wakers of a task.
-#[derive(Clone, Copy, Drop)]
+#[derive(Clone, Copy)]
 pub enum WakerCall {
     Waker,
     Wake,
@@ -73,9 +80,10 @@ impl WakerCall {
         WakerCall::WakeByRef,
         WakerCall::Clone,
     ];
+}
 
-    /// The word that a line begins with.
-    pub fn word(self) -> &'static str {
+impl Call for WakerCall {
+    fn word(self) -> &'static str {
         match self {
             WakerCall::Waker => "waker",
             WakerCall::Wake => "wake",
@@ -87,7 +95,7 @@ impl WakerCall {
 }
 
 /// A call on the handle of a task.
-#[derive(Clone, Copy, Drop)]
+#[derive(Clone, Copy)]
 pub enum HandleCall {
     ToCancel,
     Cancel,
@@ -112,9 +120,10 @@ impl HandleCall {
         HandleCall::State,
         HandleCall::Counts,
     ];
+}
 
-    /// The word that a line begins with.
-    pub fn word(self) -> &'static str {
+impl Call for HandleCall {
+    fn word(self) -> &'static str {
         match self {
             HandleCall::ToCancel => "tocancel",
             HandleCall::Cancel => "cancel",
@@ -130,7 +139,7 @@ impl HandleCall {
 }
 
 /// A call of two names.
-#[derive(Clone, Copy, Drop)]
+#[derive(Clone, Copy)]
 pub enum PairCall {
     /// Whether the newest kept wakers of both wake the same.
     Will,
@@ -142,9 +151,10 @@ pub enum PairCall {
 
 impl PairCall {
     pub const ALL: [PairCall; 3] = [PairCall::Will, PairCall::Poll, PairCall::PollBy];
+}
 
-    /// The word that a line begins with.
-    pub fn word(self) -> &'static str {
+impl Call for PairCall {
+    fn word(self) -> &'static str {
         match self {
             PairCall::Will => "will",
             PairCall::Poll => "poll",

@@ -2,26 +2,23 @@
 use std::alloc::{AllocError, Global};
 
 /// How often things happened to a task.
-#[derive(Clone, Copy, Drop)]
+#[derive(Clone, Copy)]
 pub struct Counts {
     polls: u64,
     schedules: u64,
     future_drops: u64,
     lost: u64,
-    /// Drops of schedule values, less those that were made by sharing.
-    schedule_drops: i64,
+    schedule_drops: u64,
 }
 
 /// What is counted.
-#[derive(Clone, Copy, Drop)]
+#[derive(Clone, Copy)]
 pub enum Happening {
     Poll,
     Schedule,
     FutureDrop,
     /// The drop of an output that nobody read.
     Loss,
-    /// One more schedule value.
-    Share,
     ScheduleDrop,
 }
 
@@ -43,7 +40,6 @@ impl Counts {
             Happening::Schedule => self.schedules = self.schedules.saturating_add(1),
             Happening::FutureDrop => self.future_drops = self.future_drops.saturating_add(1),
             Happening::Loss => self.lost = self.lost.saturating_add(1),
-            Happening::Share => self.schedule_drops = self.schedule_drops.saturating_sub(1),
             Happening::ScheduleDrop => self.schedule_drops = self.schedule_drops.saturating_add(1),
         }
     }

@@ -11,7 +11,7 @@ use crate::error::PlayError;
 use crate::parser::{Script, parse};
 use async_task::LocalTask;
 use runs::OpenRun;
-use seat::{Kind, Seat, Work};
+use seat::{Kind, ScriptTask, Seat, Work};
 use std::alloc::{AllocError, Global};
 use std::collections::VecDeque;
 
@@ -71,6 +71,14 @@ impl Owner {
         self.text.push_str(": ")?;
         self.text.push_str(text.as_str())?;
         self.text.push_str("\n")
+    }
+
+    /// The task of this name. Each of its calls is made only where the task says that it may be.
+    fn task(&mut self, name: Name) -> Option<&mut ScriptTask> {
+        match self.seats.get_mut(name.0) {
+            Some(seat) => seat.task.as_mut(),
+            None => None,
+        }
     }
 
     /// Makes a task, which goes to the end of the list.

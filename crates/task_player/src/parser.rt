@@ -1,5 +1,5 @@
 //! A text read as a script.
-use crate::command::{Act, Command, HandleCall, Item, ListCall, Name, PairCall, WakerCall};
+use crate::command::{Act, Call, Command, HandleCall, Item, ListCall, Name, PairCall, WakerCall};
 use std::alloc::{AllocError, Global};
 use std::str;
 use text_lines::{Lines, ParseError, Words, read_number};
@@ -44,16 +44,16 @@ impl Script {
         if word == b"spawn".as_slice() {
             return self.spawn(alloc, words);
         }
-        if let Some(call) = list_call(word) {
+        if let Some(call) = call_of(&ListCall::ALL, word) {
             return Ok(words.is_empty().then_some(Command::List(call)));
         }
         let Some(first) = self.name(alloc, words.next())? else {
             return Ok(None);
         };
-        if let Some(call) = waker_call(word) {
+        if let Some(call) = call_of(&WakerCall::ALL, word) {
             return Ok(words.is_empty().then_some(Command::Waker(call, first)));
         }
-        if let Some(call) = handle_call(word) {
+        if let Some(call) = call_of(&HandleCall::ALL, word) {
             return Ok(words.is_empty().then_some(Command::Handle(call, first)));
         }
         self.pair(alloc, word, first, words)
@@ -68,7 +68,7 @@ impl Script {
         words: Words<'_>,
     ) -> Result<Option<Command>, AllocError> {
         let mut words = words;
-        let Some(call) = pair_call(word) else {
+        let Some(call) = call_of(&PairCall::ALL, word) else {
             return Ok(None);
         };
         if let (PairCall::Poll, true) = (call, words.is_empty()) {
@@ -135,32 +135,14 @@ impl Script {
     }
 }
 
-fn list_call(word: &[u8]) -> Option<ListCall> {
-    ListCall::ALL
-        .iter()
-        .find(|call| call.word().as_bytes() == word)
-        .copied()
-}
-
-fn waker_call(word: &[u8]) -> Option<WakerCall> {
-    WakerCall::ALL
-        .iter()
-        .find(|call| call.word().as_bytes() == word)
-        .copied()
-}
-
-fn handle_call(word: &[u8]) -> Option<HandleCall> {
-    HandleCall::ALL
-        .iter()
-        .find(|call| call.word().as_bytes() == word)
-        .copied()
-}
-
-fn pair_call(word: &[u8]) -> Option<PairCall> {
-    PairCall::ALL
-        .iter()
-        .find(|call| call.word().as_bytes() == word)
-        .copied()
+/// The one of these calls that has this word.
+fn call_of<C: Call>(all: &[C], word: &[u8]) -> Option<C> {
+    for call in all {
+        if call.word().as_bytes() == word {
+            return Some(*call);
+        }
+    }
+    None
 }
 
 /// The number behind this front, where the word is both.

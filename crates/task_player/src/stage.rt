@@ -4,7 +4,7 @@ use crate::counts::Happening;
 use crate::scene::{SharedScene, copied};
 use async_task::{
     Awaiter, Future, Poll, Realm, Returning, Runnable, Running, Schedule, ScheduleInfo, Scheduled,
-    Shared, TaskWaker, Wake,
+    TaskWaker, Wake,
 };
 use std::sync::{Arc, Wait};
 
@@ -162,18 +162,6 @@ impl<R: Wait + Copy + Drop + 'static> Schedule<ScriptScheduled<R>> for Line<R> {
         self.scene.show(&self.rt, "schedule ", self.name, told);
         let runnable = Returning::new(runnable.store());
         self.scene.push(&self.rt, self.name, runnable);
-    }
-}
-
-impl<R: Wait + Copy + Drop + 'static> Shared for Line<R> {
-    /// One more, whose drop isn't counted.
-    fn share(&self) -> Self {
-        self.scene.count(&self.rt, self.name, Happening::Share);
-        Line {
-            scene: copied(&self.rt, &self.scene),
-            rt: self.rt,
-            name: self.name,
-        }
     }
 }
 

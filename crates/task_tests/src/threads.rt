@@ -3,12 +3,14 @@ use crate::calls::{Stage, holds, same};
 use crate::parts::{
     Counts, Tasks, TestTask, TestWaker, drop_cancel, drop_task, drop_waker, next, ran,
 };
-use async_task::{Future, Poll, TaskError, Wake};
+use async_task::{Awaiter, Future, Nobody, Poll, Realm, TaskError, Wake};
+use ready_queue::{Places, ReadyQueue};
 use std::alloc::Global;
 use std::process::Abort;
 use std::sync::atomic::AtomicU64;
 use std::sync::atomic::Ordering::SeqCst;
 use std::sync::{Arc, Wait};
+use std::test::Fail;
 use std::thread;
 
 /// How many turns a loop may take.
@@ -80,11 +82,8 @@ fn wakes_each_round<R: Abort + Wait + Copy + Drop + 'static>(
             waker.wake_by_ref();
             drop_waker(copy);
         }
-        waits_until(
-            &rt,
-            &counts.noticed,
-            round.saturating_mul(2).saturating_add(2),
-        );
+        let wakes = round.saturating_mul(2).saturating_add(2);
+        waits_until(&rt, &counts.noticed, wakes);
     }
 }
 
@@ -111,13 +110,8 @@ fn wakes_of_two_threads_meet_a_run(rt: HostRuntime) {
     ran(runnable);
     let first = thread::spawn(&rt, move || wakes_each_round(rt, one, one_s));
     let second = thread::spawn(&rt, move || wakes_each_round(rt, other, other_s));
-    runs_until(
-        rt,
-        stage.realm,
-        &stage.counts,
-        &stage.counts.noticed,
-        2 * ROUNDS,
-    );
+    let (realm, counts) = (stage.realm, &stage.counts);
+    runs_until(rt, realm, counts, &counts.noticed, 2 * ROUNDS);
     first.expect(&rt, "a thread").join(&rt);
     second.expect(&rt, "a thread").join(&rt);
     // The last waker is gone, so the task is queued once more, to be closed.
@@ -126,7 +120,10 @@ fn wakes_of_two_threads_meet_a_run(rt: HostRuntime) {
 }
 
 /// Whether a poll by a waker that rings here gives the output.
-fn gives<R: Abort + Wait + Copy + Drop + 'static>(bell: &Stage<R>, task: &mut TestTask<R>) -> bool {
+fn makes_output<R: Abort + Wait + Copy + Drop + 'static>(
+    bell: &Stage<R>,
+    task: &mut TestTask<R>,
+) -> bool {
     match task.poll(&bell.bell(false)) {
         Poll::Ready(output) => {
             same(&bell.rt, output, Ok(3));
@@ -140,9 +137,9 @@ fn gives<R: Abort + Wait + Copy + Drop + 'static>(bell: &Stage<R>, task: &mut Te
 /// output is there. It comes once.
 fn awaits<R: Abort + Wait + Copy + Drop + 'static>(stage: &Stage<R>, task: &mut TestTask<R>) {
     let (first, last) = (stage.counted_apart(), stage.counted_apart());
-    if !gives(&first, task) && !gives(&last, task) {
+    if !makes_output(&first, task) && !makes_output(&last, task) {
         waits_until(&stage.rt, &last.counts.rings, 1);
-        holds(&stage.rt, gives(&last, task));
+        holds(&stage.rt, makes_output(&last, task));
     }
     stage.poll(
         task,
@@ -199,4 +196,45 @@ fn a_cancel_meets_a_run(rt: HostRuntime) {
     runner.expect(&rt, "a thread").join(&rt);
     same(&rt, stage.counts.future_drops.load(SeqCst), CANCELS);
     same(&rt, stage.counts.schedule_drops.load(SeqCst), CANCELS);
+}
+
+type Share = Arc<u64, Global>;
+
+/// Gives one more share of what it has at once.
+#[derive(Drop)]
+struct Gives(Share);
+
+impl<K> Future<K> for Gives {
+    type Output = Option<Share>;
+
+    fn poll(&mut self, _waker: &K) -> Poll<Option<Share>> {
+        Poll::Ready(Arc::try_clone(&self.0).ok())
+    }
+}
+
+type Queue<R> = ReadyQueue<Gives, Option<Share>, Nobody, R>;
+
+/// Runs what is queued, or cancels a task, whose output may come.
+fn plays<R: Wait + Copy + Drop + 'static>(queue: &Queue<R>, party: usize, share: &Share) {
+    if party == 0 {
+        queue.run();
+    } else if let Ok(share) = Arc::try_clone(share) {
+        if let Ok(task) = queue.spawn(Gives(share)) {
+            let _ = task.cancel().poll(&Awaiter::Outside(Nobody));
+        }
+    }
+}
+
+/// Two threads cancel while a third runs: each output comes or is dropped, once, as nobody has a share in the end but the test.
+#[test]
+fn no_output_is_lost_or_kept(rt: HostRuntime) -> Result<(), Fail> {
+    let (realm, places) = (Realm::leak(rt, rt.alloc())?, Places::leak(rt.alloc(), 64)?);
+    let (queue, share) = (Queue::new(rt, realm, places), Arc::new(rt.alloc(), 0u64)?);
+    let play = &|party| for _ in 0..CANCELS {
+        plays(&queue, party, &share)
+    };
+    thread::map_indices(&rt, rt.alloc(), 3, play)?;
+    queue.run();
+    same(&rt, Arc::strong_count(&share), 1);
+    Ok(())
 }

@@ -1,5 +1,5 @@
 //! The values around a task.
-use crate::calls::same;
+use crate::calls::{holds, same};
 use async_task::{Cells, RealmError, Schedule, ScheduleInfo, WithInfo};
 use std::io::{self, ErrorKind};
 use std::random::RandomSource;
@@ -31,6 +31,9 @@ fn a_realm_has_the_number_that_was_drawn(rt: HostRuntime) -> Result<(), Fail> {
         Ok(_) => panic!(rt; "a number of no bytes"),
         Err(error) => same(&rt, error, RealmError::NoRandom),
     }
+    let one = Cells::<u64>::leak(rt, rt.alloc())?;
+    let other = Cells::<u64>::leak(rt, rt.alloc())?;
+    holds(&rt, one.number() != other.number());
     Ok(())
 }
 

@@ -4,7 +4,7 @@
 
 use commands::Fault;
 use commands::program::program;
-use jobs::{JobPlace, JobRealm, Open, Place};
+use jobs::{JobPlace, JobRealm, JobSite, Open};
 use std::alloc::Global;
 use std::io::ErrorKind;
 use std::process::ExitCode;
@@ -33,7 +33,7 @@ fn main(rt: HostRuntime) -> ExitCode {
 /// Runs the program on its arguments, standard input and standard output.
 fn run<P, R>(rt: R, realm: &'static JobRealm<R>) -> Result<(), Fault>
 where
-    P: Place<R, Gate = Open> + Sync + Drop,
+    P: JobSite<R, Gate = Open> + Sync + Drop,
     R: AllocGlobal + Env + Input + Print + Threads + Sync + Wait + Copy + Drop + 'static,
 {
     let words = arguments(&rt)?;

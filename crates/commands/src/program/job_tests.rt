@@ -3,7 +3,7 @@
 use super::program;
 use super::tests::{FailingReader, FailingWriter, same};
 use crate::fault::Fault;
-use jobs::{JobPlace, JobRealm, Open, Place};
+use jobs::{JobPlace, JobRealm, JobSite, Open};
 use std::alloc::{AllocError, Global};
 use std::io::{Read, Write};
 use std::sync::Wait;
@@ -35,7 +35,7 @@ fn end<P, R, I, O>(
     writer: &mut O,
 ) -> Result<(), Fault>
 where
-    P: Place<R, Gate = Open> + Sync + Drop,
+    P: JobSite<R, Gate = Open> + Sync + Drop,
     R: Threads + Sync + Wait + Copy + Drop + 'static,
     I: Read,
     O: Write,
@@ -54,7 +54,7 @@ fn shows<P, R>(
     want: Result<&str, Fault>,
 ) -> bool
 where
-    P: Place<R, Gate = Open> + Sync + Drop,
+    P: JobSite<R, Gate = Open> + Sync + Drop,
     R: Threads + Sync + Wait + Copy + Drop + 'static,
 {
     let mut written = Vec::new(alloc);

@@ -1,10 +1,10 @@
 //! Jobs done by workers.
 ghost use Rattle.std.specs.Prelude.{◌<◌, ◌≤◌, All, length};
-ghost use Rattle.job_answers.specs.Answers.{IsInRange};
+ghost use Rattle.job_text.specs.Answers.{IsInRange};
 
 use crate::job::list::{JOBS, jobs};
-use job_answers::Job;
-use jobs::{JobRealm, Open, Place, run_jobs};
+use job_text::Job;
+use jobs::{JobRealm, JobSite, Open, run_jobs};
 use std::alloc::{AllocGlobal, Global};
 use std::rt::Clock;
 use std::sync::Wait;
@@ -20,7 +20,7 @@ pub fn run<P, R>(
     ops: u64,
 ) -> Result<Timing, Fault>
 where
-    P: Place<R, Gate = Open> + Sync + Drop,
+    P: JobSite<R, Gate = Open> + Sync + Drop,
     R: AllocGlobal + Clock + Wait + Threads + Sync + Copy + Drop + 'static,
     requires { (0 < workers) × (workers ≤ 64) }
 {
@@ -39,7 +39,7 @@ fn time_run<P, R>(
     rounds: u64,
 ) -> Result<Timing, Fault>
 where
-    P: Place<R, Gate = Open> + Sync + Drop,
+    P: JobSite<R, Gate = Open> + Sync + Drop,
     R: AllocGlobal + Clock + Wait + Threads + Sync + Copy + Drop + 'static,
     requires workers { (0 < workers) × (workers ≤ 64) }
     requires whole { All IsInRange whole.now × (length whole.now ≤ 100000) }
@@ -63,7 +63,7 @@ fn round<P, R>(
     workers: usize,
 ) -> Result<u64, Fault>
 where
-    P: Place<R, Gate = Open> + Sync + Drop,
+    P: JobSite<R, Gate = Open> + Sync + Drop,
     R: Wait + Threads + Sync + Copy + Drop + 'static,
     requires workers { (0 < workers) × (workers ≤ 64) }
     requires ranges { All IsInRange list.now }

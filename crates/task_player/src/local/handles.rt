@@ -49,18 +49,19 @@ impl Owner {
         if let Kind::Cancel = kind {
             self.cancel_task(name)?;
         }
-        let polled = match self.seats.get_mut(name.0) {
-            Some(seat) => seat.poll(waker),
-            None => None,
+        let Some(task) = self.task(name) else {
+            return Ok(Answer::NotPossible);
         };
-        let (answer, spare) = match polled {
-            Some(Polled::Pending { replaced }) => {
+        if !task.has_handle() {
+            return Ok(Answer::NotPossible);
+        }
+        let (answer, spare) = match task.poll(waker) {
+            Polled::Pending { replaced } => {
                 self.let_go(replaced)?;
                 return Ok(Answer::Pending);
             }
-            Some(Polled::Output { output, spare }) => (Answer::Ready(output), spare),
-            Some(Polled::Closed { spare }) => (Answer::Cancelled, spare),
-            None => return Ok(Answer::NotPossible),
+            Polled::Output { output, spare } => (Answer::Ready(output), spare),
+            Polled::Closed { spare } => (Answer::Cancelled, spare),
         };
         self.let_go(Some(spare))?;
         if let Kind::Cancel = kind {
@@ -71,11 +72,8 @@ impl Owner {
     }
 
     fn cancel_task(&mut self, name: Name) -> Result<(), AllocError> {
-        let cancelled = match self.seats.get_mut(name.0) {
-            Some(seat) => seat.cancel(),
-            None => None,
-        };
-        if let Some(Cancel { queue, awaiter }) = cancelled {
+        if let Some(task) = self.task(name) {
+            let Cancel { queue, awaiter } = task.cancel();
             self.queue(name, queue)?;
             self.call(awaiter)?;
         }
@@ -83,11 +81,8 @@ impl Owner {
     }
 
     fn detach_task(&mut self, name: Name) -> Result<(), AllocError> {
-        let detached = match self.seats.get_mut(name.0) {
-            Some(seat) => seat.detach(),
-            None => None,
-        };
-        if let Some(Detach { queue, output }) = detached {
+        if let Some(task) = self.task(name) {
+            let Detach { queue, output } = task.detach();
             self.lose(name, output)?;
             self.queue(name, queue)?;
         }

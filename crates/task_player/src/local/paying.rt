@@ -32,8 +32,8 @@ impl Owner {
 
     /// Wakes a task.
     pub fn wake(&mut self, name: Name) -> Result<(), AllocError> {
-        let info = match self.seats.get_mut(name.0) {
-            Some(seat) => seat.wake(),
+        let info = match self.task(name) {
+            Some(task) => task.wake(),
             None => None,
         };
         self.queue(name, info)
@@ -41,11 +41,12 @@ impl Owner {
 
     /// Drops a waker of a task.
     pub fn release(&mut self, name: Name) -> Result<(), AllocError> {
-        let info = match self.seats.get_mut(name.0) {
-            Some(seat) => seat.release(),
-            None => None,
-        };
-        self.queue(name, info)?;
+        if let Some(task) = self.task(name) {
+            if task.has_waker() {
+                let info = task.release();
+                self.queue(name, info)?;
+            }
+        }
         self.note_who_is_left(name);
         Ok(())
     }

@@ -56,31 +56,32 @@ impl Owner {
         let Some(name) = self.list.pop_front() else {
             return Ok(Begun::Nothing);
         };
-        let start = match self.seats.get_mut(name.0) {
-            Some(seat) => seat.start(),
-            None => None,
+        let Some(task) = self.task(name) else {
+            return Ok(Begun::Nothing);
         };
-        match start {
-            Some(Start::Poll(work)) => Ok(Begun::Open(OpenRun { name, work })),
-            Some(Start::Drop(_)) => {
+        if !task.is_queued() {
+            return Ok(Begun::Nothing);
+        }
+        match task.start() {
+            Start::Poll(work) => Ok(Begun::Open(OpenRun { name, work })),
+            Start::Drop(_work) => {
                 self.drop_and_finish(name)?;
                 Ok(Begun::Closed)
             }
-            None => Ok(Begun::Nothing),
         }
     }
 
     /// The future of a closed task is dropped, and what follows that.
     fn drop_and_finish(&mut self, name: Name) -> Result<(), AllocError> {
         self.drop_future(name)?;
-        let finish = match self.seats.get_mut(name.0) {
-            Some(seat) => seat.finish(),
-            None => None,
-        };
-        match finish {
-            Some(Finish::Wake(awaiter)) => self.call(Some(awaiter))?,
-            Some(Finish::Drop(awaiter)) => self.let_go(Some(awaiter))?,
-            Some(Finish::Nothing) | None => {}
+        if let Some(task) = self.task(name) {
+            if task.is_dropping() {
+                match task.finish() {
+                    Finish::Wake(awaiter) => self.call(Some(awaiter))?,
+                    Finish::Drop(awaiter) => self.let_go(Some(awaiter))?,
+                    Finish::Nothing => {}
+                }
+            }
         }
         self.note_who_is_left(name);
         Ok(())
@@ -96,27 +97,28 @@ impl Owner {
             }
             None => Back::Pending(work),
         };
-        let settled = match self.seats.get_mut(name.0) {
-            Some(seat) => seat.settle(back),
-            None => None,
+        let Some(task) = self.task(name) else {
+            return Ok(Answer::NotPossible);
         };
-        match settled {
-            Some(Settled::Finish { output, awaiter }) => {
+        if !task.is_lent() {
+            return Ok(Answer::NotPossible);
+        }
+        match task.settle(back) {
+            Settled::Finish { output, awaiter } => {
                 self.lose(name, output)?;
                 self.call(awaiter)?;
                 self.note_who_is_left(name);
                 Ok(Answer::Is(false))
             }
-            Some(Settled::Queue(info)) => {
+            Settled::Queue(info) => {
                 self.queue(name, Some(info))?;
                 Ok(Answer::Is(true))
             }
-            Some(Settled::Drop(_)) => {
+            Settled::Drop(_work) => {
                 self.drop_and_finish(name)?;
                 Ok(Answer::Is(false))
             }
-            Some(Settled::Rest) => Ok(Answer::Is(false)),
-            None => Ok(Answer::NotPossible),
+            Settled::Rest => Ok(Answer::Is(false)),
         }
     }
 
@@ -152,13 +154,13 @@ impl Owner {
         let Some(name) = self.list.pop_front() else {
             return Ok(Answer::NotPossible);
         };
-        let work = match self.seats.get_mut(name.0) {
-            Some(seat) => seat.retract(),
-            None => None,
+        let Some(task) = self.task(name) else {
+            return Ok(Answer::NotPossible);
         };
-        if work.is_none() {
+        if !task.is_queued() {
             return Ok(Answer::NotPossible);
         }
+        let _work = task.retract();
         self.drop_and_finish(name)?;
         Ok(Answer::Done)
     }

@@ -1,10 +1,9 @@
-//! A task of one owner, and what its owner knows of it. Each call is made only where the task says that it may be.
+//! A task of one owner, and what its owner knows of it.
 use crate::answer::Answer;
 use crate::command::{Item, Name};
 use crate::counts::Counts;
-use async_task::local_task::{Cancel, Detach, Finish, Polled, Settled, Start};
+use async_task::LocalTask;
 use async_task::moves::State;
-use async_task::{Back, LocalTask, ScheduleInfo};
 use std::alloc::{AllocError, Global};
 
 /// A future that does what its items say.
@@ -16,7 +15,7 @@ pub struct Work {
 }
 
 /// Who awaits a task.
-#[derive(Clone, Copy, Drop)]
+#[derive(Clone, Copy)]
 pub enum Caller {
     /// A waker from outside.
     Bell(Name),
@@ -25,7 +24,7 @@ pub enum Caller {
 }
 
 /// Of which type the handle of a task is.
-#[derive(Clone, Copy, Drop)]
+#[derive(Clone, Copy)]
 pub enum Kind {
     Task,
     Fallible,
@@ -60,88 +59,6 @@ impl Seat {
             counts: Counts::new(),
             is_left: false,
         }
-    }
-
-    pub fn start(&mut self) -> Option<Start<Work>> {
-        if let Some(task) = &mut self.task {
-            if task.is_queued() {
-                return Some(task.start());
-            }
-        }
-        None
-    }
-
-    pub fn retract(&mut self) -> Option<Work> {
-        if let Some(task) = &mut self.task {
-            if task.is_queued() {
-                return Some(task.retract());
-            }
-        }
-        None
-    }
-
-    pub fn settle(&mut self, back: Back<Work, u64>) -> Option<Settled<Work, u64, Caller>> {
-        if let Some(task) = &mut self.task {
-            if task.is_lent() {
-                return Some(task.settle(back));
-            }
-        }
-        None
-    }
-
-    pub fn finish(&mut self) -> Option<Finish<Caller>> {
-        if let Some(task) = &mut self.task {
-            if task.is_dropping() {
-                return Some(task.finish());
-            }
-        }
-        None
-    }
-
-    pub fn wake(&mut self) -> Option<ScheduleInfo> {
-        match &mut self.task {
-            Some(task) => task.wake(),
-            None => None,
-        }
-    }
-
-    pub fn hold(&mut self) -> bool {
-        match &mut self.task {
-            Some(task) => task.hold(),
-            None => false,
-        }
-    }
-
-    pub fn release(&mut self) -> Option<ScheduleInfo> {
-        if let Some(task) = &mut self.task {
-            if task.has_waker() {
-                return task.release();
-            }
-        }
-        None
-    }
-
-    pub fn cancel(&mut self) -> Option<Cancel<Caller>> {
-        match &mut self.task {
-            Some(task) => Some(task.cancel()),
-            None => None,
-        }
-    }
-
-    pub fn detach(&mut self) -> Option<Detach<u64>> {
-        match &mut self.task {
-            Some(task) => Some(task.detach()),
-            None => None,
-        }
-    }
-
-    pub fn poll(&mut self, waker: Caller) -> Option<Polled<u64, Caller>> {
-        if let Some(task) = &mut self.task {
-            if task.has_handle() {
-                return Some(task.poll(waker));
-            }
-        }
-        None
     }
 
     /// Whether nobody is left to reach the task, which was so not yet when this was asked before.
@@ -179,7 +96,8 @@ impl Seat {
             references,
         } = task.state();
         Ok(format!(in alloc;
-            "scheduled: {scheduled}, running: {running}, completed: {completed}, closed: {closed}, awaiter: {awaiter}, task: {handle}, ref_count: {references}"
+            "scheduled: {scheduled}, running: {running}, completed: {completed}, closed: {closed}, \
+            awaiter: {awaiter}, task: {handle}, ref_count: {references}"
         )?)
     }
 }

@@ -44,20 +44,19 @@ impl Owner {
         }
     }
 
-    /// One more waker of this task. The answer is whether it was refused.
+    /// One more waker of this task. The answer is whether it could be had.
     pub fn hold(&mut self, name: Name) -> bool {
-        match self.seats.get_mut(name.0) {
-            Some(seat) => seat.hold(),
+        match self.task(name) {
+            Some(task) => task.hold(),
             None => false,
         }
     }
 
     /// One more waker of this task is kept.
     fn hold_and_keep(&mut self, name: Name) {
-        if let Some(seat) = self.seats.get_mut(name.0) {
-            if seat.hold() {
-                seat.kept = seat.kept.saturating_add(1);
-            }
+        let is_held = self.hold(name);
+        if let (true, Some(seat)) = (is_held, self.seats.get_mut(name.0)) {
+            seat.kept = seat.kept.saturating_add(1);
         }
     }
 

@@ -1,8 +1,8 @@
 use Rattle.std.proofs.Common.{◌≡◌, ℕ, ◌+◌, ◌∙◌, length, ap, arith}
 use Rattle.std.proofs.lemmas.Result.{IfOk-weaker}
-use Rattle.job_answers.specs.Gathered.{AreCounts, times_back}
-use Rattle.job_answers.proofs.Gathering.{AreCounts-never, each_came_once, least_missing}
-use Rattle.job_answers.proofs.gathered.gather.Goals as goal
+use Rattle.job_text.specs.Gathered.{AreCounts, times_back}
+use Rattle.job_text.proofs.Gathering.{AreCounts-never, each_came_once, least_missing}
+use Rattle.job_text.proofs.gathered.gather.Goals as goal
 
 pub returns-clause-once : goal.returns-clause-once
 returns-clause-once c =

@@ -1,8 +1,8 @@
 use Rattle.std.proofs.Common.{◌≡◌, ℕ, ◌+◌, ◌∙◌, refl, arith}
-use Rattle.job_answers.specs.Gathered.{times_back}
+use Rattle.job_text.specs.Gathered.{times_back}
 use Rattle.std.proofs.Common.{take}
-use Rattle.job_answers.proofs.Gathering.{AreCounts-all, AreCounts-next_list}
-use Rattle.job_answers.proofs.gathered.note_all.Goals as goal
+use Rattle.job_text.proofs.Gathering.{AreCounts-all, AreCounts-next_list}
+use Rattle.job_text.proofs.gathered.note_all.Goals as goal
 
 pub loop-solved-init : goal.loop-solved-init
 loop-solved-init c = record {

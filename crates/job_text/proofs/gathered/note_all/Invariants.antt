@@ -1,6 +1,6 @@
 use Rattle.std.proofs.Common.{◌≡◌, ℕ, ◌+◌, take}
-use Rattle.job_answers.specs.Gathered.{AreCounts, times_back}
-use Rattle.job_answers.proofs.gathered.note_all.Given as goal
+use Rattle.job_text.specs.Gathered.{AreCounts, times_back}
+use Rattle.job_text.proofs.gathered.note_all.Given as goal
 
 abbrev pub invariant-loop-solved : goal.invariant-loop-solved
 invariant-loop-solved l = record {

@@ -1,10 +1,10 @@
 use Rattle.std.proofs.Common.{◌≡◌, ℕ, ◌+◌, ◌∙◌, ap, take, arith}
 use Rattle.std.specs.Prelude.{count_by}
 use Rattle.std.proofs.lemmas.List.{take_all}
-use Rattle.job_answers.specs.Gathered.{is_of}
-use Rattle.job_answers.proofs.Gathering.{AreCounts-all, AreCounts-next_one}
+use Rattle.job_text.specs.Gathered.{is_of}
+use Rattle.job_text.proofs.Gathering.{AreCounts-all, AreCounts-next_one}
 use Rattle.std.proofs.Common.{refl}
-use Rattle.job_answers.proofs.gathered.note_each.Goals as goal
+use Rattle.job_text.proofs.gathered.note_each.Goals as goal
 
 pub loop-one-init : goal.loop-one-init
 loop-one-init c = record {

@@ -1,7 +1,7 @@
 use Rattle.std.proofs.Common.{◌≡◌, ℕ, ◌+◌, take}
 use Rattle.std.specs.Prelude.{count_by}
-use Rattle.job_answers.specs.Gathered.{AreCounts, is_of}
-use Rattle.job_answers.proofs.gathered.note_each.Given as goal
+use Rattle.job_text.specs.Gathered.{AreCounts, is_of}
+use Rattle.job_text.proofs.gathered.note_each.Given as goal
 
 abbrev pub invariant-loop-one : goal.invariant-loop-one
 invariant-loop-one l = record {

@@ -1,8 +1,8 @@
 use Rattle.std.proofs.Common.{◌≡◌, ◌∷◌, ◌++◌, ◌+◌, ◌<◌, ◌≤◌, [], length, refl, arith, rules}
 use Rattle.std.proofs.lemmas.Grind.{common_steps}
-use Rattle.job_lines.proofs.Parsing.{HasParsed-push, HasParsed-all, HasParsed-bad, Says-none}
-use Rattle.job_lines.proofs.Unambiguous.{Says-one}
-use Rattle.job_lines.proofs.parser.parse.Goals as goal
+use Rattle.job_text.proofs.Parsing.{HasParsed-push, HasParsed-all, HasParsed-bad, Says-none}
+use Rattle.job_text.proofs.Unambiguous.{Says-one}
+use Rattle.job_text.proofs.parser.parse.Goals as goal
 
 pub returns-then-len-ge-MOST_LINES-clause-bad : goal.returns-then-len-ge-MOST_LINES-clause-bad
 returns-then-len-ge-MOST_LINES-clause-bad c = λ number is.

@@ -1,8 +1,8 @@
 use Rattle.std.proofs.Common.{◌++◌, ◌<◌, get_or, length, sym, ap, ◌∙◌, arith}
-use Rattle.job_answers.specs.declared.job.Answer.TheVariants.{Value}
-use Rattle.job_lines.specs.Lines.{line_text}
-use Rattle.job_lines.proofs.Printing.{answers_text-more}
-use Rattle.job_lines.proofs.printer.print.Goals as goal
+use Rattle.job_text.specs.declared.job.Answer.TheVariants.{Value}
+use Rattle.job_text.specs.Lines.{line_text}
+use Rattle.job_text.proofs.Printing.{answers_text-more}
+use Rattle.job_text.proofs.printer.print.Goals as goal
 
 pub loop-number-preserved : goal.loop-number-preserved
 loop-number-preserved c =

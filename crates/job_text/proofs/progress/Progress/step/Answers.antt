@@ -1,8 +1,8 @@
 use Rattle.std.proofs.Common.{◌≡◌, ◌≤◌, suc, sym, ap, ◌∙◌, arith}
-use Rattle.job_answers.specs.Answers.{answer_of}
-use Rattle.job_answers.specs.declared.job.Job.TheVariants.{Sum}
-use Rattle.job_answers.proofs.Sums.{answer_of_sum}
-use Rattle.job_answers.proofs.progress.Progress.step.Goals as goal
+use Rattle.job_text.specs.Answers.{answer_of}
+use Rattle.job_text.specs.declared.job.Job.TheVariants.{Sum}
+use Rattle.job_text.proofs.Sums.{answer_of_sum}
+use Rattle.job_text.proofs.progress.Progress.step.Goals as goal
 
 pub solved-requires-in-Sum : goal.solved-requires-in-Sum
 solved-requires-in-Sum c =

@@ -1,9 +1,9 @@
 use Rattle.std.proofs.Common.{◌≡◌, ◌∷◌, ◌++◌, ◌<◌, [], Some, length, slice_get, get_or, ap, ◌∙◌, arith, rules}
 use Rattle.std.proofs.lemmas.Grind.{common_steps}
 use Rattle.std.proofs.lemmas.Option.{slice_get-get_or}
-use Rattle.job_answers.specs.declared.results.Back.TheVariants.{Never, Once}
-use Rattle.job_answers.proofs.Backs.{AreAnswered-push}
-use Rattle.job_answers.proofs.results.Results.in_order.Goals as goal
+use Rattle.job_text.specs.declared.results.Back.TheVariants.{Never, Once}
+use Rattle.job_text.proofs.Backs.{AreAnswered-push}
+use Rattle.job_text.proofs.results.Results.in_order.Goals as goal
 
 pub loop-back-preserved : goal.loop-back-preserved
 loop-back-preserved c =

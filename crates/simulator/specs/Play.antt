@@ -7,6 +7,7 @@ use Rattle.executor_model.specs.declared.call.Reply.{Reply}
 use Rattle.executor_model.specs.declared.call.Reply.TheVariants as reply
 use Rattle.executor_model.specs.declared.event.Event.{Event}
 use Rattle.executor_model.specs.declared.event.Event.TheVariants as event
+use Rattle.executor_model.specs.declared.kind.Kind.TheVariants.{Owned}
 use Rattle.executor_model.specs.declared.op.Op.{Op}
 use Rattle.executor_model.specs.declared.op.Op.TheVariants as op
 use Rattle.executor_model.specs.declared.op.UserOp.TheVariants as user_op
@@ -99,7 +100,7 @@ idle = record { doing = None; reply = reply.Done }
 abbrev pub start : List Command → ℕ → Player
 start commands limit = record {
   commands = commands;
-  machine = steps.start limit 10;
+  machine = steps.start limit Owned 10;
   names = [];
   futures = [];
   ticks = [];

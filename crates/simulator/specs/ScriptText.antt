@@ -3,6 +3,7 @@
 use Rattle.std.specs.Prelude.{◌≡◌, ℕ, List, [], ◌∷◌}
 use Rattle.executor_core.specs.AllLaws.{AllLaws}
 use Rattle.executor_model.specs.declared.event.Event.{Event}
+use Rattle.executor_model.specs.declared.kind.Kind.TheVariants.{Owned}
 use Rattle.executor_model.specs.Steps as steps
 use Rattle.script.specs.declared.command.Command.{Command}
 use Rattle.simulator.specs.declared.moment.Moment.{Moment}
@@ -22,7 +23,7 @@ happened (Stopped ∷ moments) = happened moments
 -- of ten parties, what it shows is all that happened to the machine, in order, and all laws hold of the machine
 pub record IsPlayed (limit : ℕ) (commands : List Command) (last : Player) : Type 0 where
   pub plays : PlaysAll 0 commands (start commands limit) last
-  pub made : steps.run last.tried (steps.start limit 10) ≡ last.machine
+  pub made : steps.run last.tried (steps.start limit Owned 10) ≡ last.machine
   pub shown : happened last.moments ≡ last.machine.world.trace
   pub laws : AllLaws last.machine
 

@@ -224,7 +224,8 @@ pub lone-ticks : (limit : ℕ) (kind : Kind) (parties : ℕ) (steps : List Step)
 lone-ticks limit kind parties steps =
     lone-tick (run steps (start limit kind parties)) (record { limit = limit; kind = kind; parties = parties; steps = steps; is = refl })
 
-pub lone-emptinesses : (limit : ℕ) (kind : Kind) (parties : ℕ) (steps : List Step) → IsLoneEmptinessExact (run steps (start limit kind parties))
+pub lone-emptinesses : (limit : ℕ) (kind : Kind) (parties : ℕ) (steps : List Step) →
+    IsLoneEmptinessExact (run steps (start limit kind parties))
 lone-emptinesses limit kind parties steps =
     lone-emptiness (run steps (start limit kind parties))
     (record { limit = limit; kind = kind; parties = parties; steps = steps; is = refl })

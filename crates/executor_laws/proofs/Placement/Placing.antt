@@ -230,7 +230,8 @@ module _ (s : Machine) (fine : Good s) (h : Heard s) (d : Deep s) (b : Bonded s)
       zero-or zero = inl refl
       zero-or (suc n) = inr (omega arith)
 
-pub stands-with-keeper : (limit : ℕ) (kind : Kind) (parties : ℕ) (steps : List Step) → StandsWithKeeper (run steps (start limit kind parties))
+pub stands-with-keeper : (limit : ℕ) (kind : Kind) (parties : ℕ) (steps : List Step) →
+    StandsWithKeeper (run steps (start limit kind parties))
 stands-with-keeper limit kind parties steps =
     let s = run steps (start limit kind parties) in
     let fine = good limit kind parties steps in

@@ -184,7 +184,7 @@ fn begin_refusal(
     if store.gone && is_on_executor(call) {
         return Some(StepError::Gone);
     }
-    if store.is_static && is_drop(call) {
+    if is_drop(call) && store.is_static {
         return Some(StepError::Gone);
     }
     if is_drop(call) && !is_unborrowed(store, parties) {

@@ -3,6 +3,7 @@
 use Rattle.std.proofs.Common.{◌≡◌, ◌⊎◌, ℕ, suc, ◌<◌, ◌≤◌, List, [], ◌∷◌, length}
 use Rattle.std.proofs.Common.{Bool, true, false, refl, sym, ap, ◌∙◌, subst, ⊎_elim, arith}
 use Rattle.std.proofs.lemmas.List.{get_or_past}
+use Rattle.executor_model.specs.declared.kind.Kind.{Kind}
 use Rattle.executor_model.specs.declared.step.Step.{Step}
 use Rattle.executor_model.specs.Trace.{Trace, is_dropped}
 use Rattle.executor_model.specs.AwaiterKept.{since, IsOverWithHandle, AwaiterIsKept}
@@ -165,9 +166,9 @@ kept-at-rest f trace k party poll over last =
     (record b.before { poll = poll; party = party; asking = true; inner = 0; pending = false; called = false })
     (since poll trace) refl last.last) ∙ (sym (ap (λ (t : Heard). t.called) b.all) ∙ k over p)
 
-pub awaiter-is-kept : (limit parties : ℕ) (steps : List Step) (f : ℕ) →
-    AwaiterIsKept f (run steps (start limit parties)).world.trace
-awaiter-is-kept limit parties steps f =
-    kept-at-rest f _ (λ over. called-at-rest (run steps (start limit parties)) (good limit parties steps)
-    (placed limit parties steps) (deep limit parties steps) (swept limit parties steps) (waited limit parties steps)
-    (own-emptied limit parties steps) f over)
+pub awaiter-is-kept : (limit : ℕ) (kind : Kind) (parties : ℕ) (steps : List Step) (f : ℕ) →
+    AwaiterIsKept f (run steps (start limit kind parties)).world.trace
+awaiter-is-kept limit kind parties steps f =
+    kept-at-rest f _ (λ over. called-at-rest (run steps (start limit kind parties)) (good limit kind parties steps)
+    (placed limit kind parties steps) (deep limit kind parties steps) (swept limit kind parties steps) (waited limit kind parties steps)
+    (own-emptied limit kind parties steps) f over)

@@ -72,12 +72,18 @@ stays b f g there s z =
     omega (arith, e)
 
 goes : (p : ℕ) (w : World) (f g : ℕ) (more now : Trace) → ((task w g).completed && not (task w g).closed) ≡ false →
-    now ≡ (log_if (not ((task w g).completed && not (task w g).closed)) w (event.Detached p g)).trace →
+    now ≡ (told_of (is_last_waker move.Detach (task w g)) (not ((task w g).completed && not (task w g).closed)) move.Detach p
+    w g).trace →
     now ≡ w.trace ++ more → eqb f g ≡ true → HasDetached f more
-goes p w f g more now z e t i = subst (λ (x : Trace). has (is_detached f) x ≡ true)
-    (added w.trace more (event.Detached p g ∷ []) now t
-    (e ∙ ap (λ (b : Bool). (log_if (not b) w (event.Detached p g)).trace) z))
-    (let q : (eqb f g || false) ≡ true = or-left _ _ i in q)
+goes p w f g more now z e t i = by (is_last_waker move.Detach (task w g))
+    (e ∙ ap (λ (b : Bool). (told_of (is_last_waker move.Detach (task w g)) (not b) move.Detach p w g).trace) z)
+  where
+    by : (l : Bool) → now ≡ (told_of l true move.Detach p w g).trace → has (is_detached f) more ≡ true
+    by true q = subst (λ (x : Trace). has (is_detached f) x ≡ true)
+        (added w.trace more (event.Detached p g ∷ event.LastWaker p g ∷ []) now t
+        (q ∙ append_assoc w.trace (event.Detached p g ∷ []) (event.LastWaker p g ∷ []))) (or-left (eqb f g) _ i)
+    by false q = subst (λ (x : Trace). has (is_detached f) x ≡ true)
+        (added w.trace more (event.Detached p g ∷ []) now t q) (or-left (eqb f g) _ i)
 
 detach-turn : (p : ℕ) (h : Hint) (o : Op) (w : World) (f : ℕ) (more : Trace) →
     (act p h o w).world.trace ≡ w.trace ++ more →

@@ -90,10 +90,11 @@ handle-there true w g m e a h n = refl
 handle-there false w g m e a h n = let no : true ≡ false = sym (a.parted (known-task w g h) e) ∙ n in absurd (cc)
 
 called-there : (w : World) (g : ℕ) (m : Mark) → Awaits w g none nothing_awaited m →
-    (task w g).handle ≡ true → ((task w g).closed ≡ true) ⊎ ((task w g).completed ≡ true) →
+    (heard g w.trace).parted ≡ false → (task w g).handle ≡ true →
+    ((task w g).closed ≡ true) ⊎ ((task w g).completed ≡ true) →
     (task w g).scheduled ≡ false → (task w g).running ≡ false → (heard g w.trace).pending ≡ true →
     (heard g w.trace).called ≡ true
-called-there w g m a k h s r p = grind arith
+called-there w g m a n k h s r p = grind arith
 
 module _ (s : Machine) (fine : Good s) (h : Placed s) (d : Deep s) (v : Swept s) (x : Waited s) (e : OwnEmptied s)
     (g : ℕ)
@@ -152,7 +153,7 @@ module _ (s : Machine) (fine : Good s) (h : Placed s) (d : Deep s) (v : Swept s)
   is-settled = settled s.world.gone s.world g _ refl sound-here awaits-here swept-here dropped unscheduled stopped
 
   pub called-at-rest : (heard g s.world.trace).pending ≡ true → (heard g s.world.trace).called ≡ true
-  called-at-rest = called-there s.world g _ awaits-here
+  called-at-rest = called-there s.world g _ awaits-here kept
       (handle-there (task s.world g).handle s.world g _ refl awaits-here is-settled kept) is-settled unscheduled stopped
 
 -- as the definition has it

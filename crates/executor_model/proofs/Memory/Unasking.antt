@@ -128,10 +128,6 @@ none-leave false w f = refl
 
 -- awaiters
 
-pub none-let_go_by : (b : Bool) (w : World) (f : ℕ) → AsksForNone (acts.let_go_by b w f).next
-none-let_go_by true w f = refl
-none-let_go_by false w f = none-let_go (awaiter_of w f)
-
 pub none-register : (b : Bool) (w : World) (f : ℕ) (a : Waker) (k : ℕ) → AsksForNone (acts.register_by b w f a k).next
 none-register true w f a k = refl
 none-register false w f a k = refl
@@ -140,9 +136,13 @@ pub none-waker : (a : Waker) → AsksForNone (acts.waker_goes a)
 none-waker (Task g) = refl
 none-waker (Outside x) = refl
 
-pub none-let_go : (a : Option Awaiter) → AsksForNone (acts.let_go a)
+none-let_go : (a : Option Awaiter) → AsksForNone (acts.let_go a)
 none-let_go None = refl
 none-let_go (Some a) = none-waker a.waker
+
+pub none-let_go_by : (b : Bool) (w : World) (f : ℕ) → AsksForNone (acts.let_go_by b w f).next
+none-let_go_by true w f = refl
+none-let_go_by false w f = none-let_go (awaiter_of w f)
 
 pub none-end_register : (b : Bool) (w : World) (f : ℕ) (a : Waker) (k : ℕ) →
     AsksForNone (acts.end_register_by b w f a k).next

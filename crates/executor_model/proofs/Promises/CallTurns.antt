@@ -1,7 +1,7 @@
 -- For calls_do_what_they_say.
 -- Calls do what they say: each thing that is done for a call does its part of what that promises.
 use Rattle.std.proofs.Common.{◌≡◌, ◌≢◌, ◌⊎◌, ◌∙◌, ℕ, ◌+◌, ◌≤◌, List, [], ◌∷◌, ◌++◌, length, Bool, true, false, ◌&&◌}
-use Rattle.std.proofs.Common.{◌||◌, eqb, not, inl, inr, ⊎_elim, refl, sym, ap, subst, arith}
+use Rattle.std.proofs.Common.{◌||◌, append_assoc, eqb, not, inl, inr, ⊎_elim, refl, sym, ap, subst, arith}
 use Rattle.task_moves.specs.Moves as moves
 use Rattle.task_moves.specs.Moves.{is_over}
 use Rattle.task_moves.specs.declared.moves.owed.Move.TheVariants as move
@@ -18,6 +18,7 @@ use Rattle.executor_model.specs.declared.op.UserOp.TheVariants as user_op
 use Rattle.executor_model.specs.declared.step.Hint.{Hint}
 use Rattle.executor_model.specs.declared.step.UserEnd.{UserEnd}
 use Rattle.executor_model.specs.declared.step.UserEnd.TheVariants as end
+use Rattle.executor_model.specs.Acts.{is_last_waker, told_of}
 use Rattle.executor_model.specs.Acts.{closing_ops, drain_by, drop_next_by, wake, wake_next_by}
 use Rattle.executor_model.specs.CallsMean.{HasCancelled, HasDetached, HasTaken, HasWoken, MayBeOver}
 use Rattle.executor_model.specs.Carried.{owed_ops}

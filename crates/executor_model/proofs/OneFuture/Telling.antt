@@ -319,9 +319,11 @@ later-cause : (f : ℕ) (e : Event) (s : Story) (es : Trace) → HasCause f (hea
 later-cause f e s es (inl x) = inl (or-right _ _ x)
 later-cause f e s es (inr (inl x)) = inr (inl (or-right _ _ x))
 later-cause f e s es (inr (inr (inl x))) = inr (inr (inl (or-right _ _ x)))
-later-cause f e s es (inr (inr (inr x))) = inr (inr (inr
-    (sym (or-swap (is_detached f e) s.detached (has (is_detached f) es))
-    ∙ (ap (λ (b : Bool). b || has (is_detached f) es) (sym (hears-detached f e s)) ∙ x.0), or-right _ _ x.1)))
+later-cause f e s es (inr (inr (inr x))) = inr (inr (inr (
+  sym (or-swap (is_detached f e) s.detached (has (is_detached f) es))
+      ∙ (ap (λ (b : Bool). b || has (is_detached f) es) (sym (hears-detached f e s)) ∙ x.0),
+  or-right _ _ x.1,
+)))
 
 cond-cause : (b c : Bool) → cond b true c ≡ true → (c ≡ true) ⊎ (b ≡ true)
 cond-cause true c e = inr refl
@@ -419,6 +421,7 @@ last-forgotten kind f es k l = ⊎_elim
     inr (record { static = (k x).0; detached = sym (detached-from f untold es) ∙ (k x).1; unwakeable = l }))
     (last-or-begun f (length es) untold es
     (subst (λ (xs : Trace). has (is_last_waker f) xs ≡ true) (sym (take-all es)) l))
+
 -- the drop of the executor had begun before that of the future
 
 abbrev pub Follows : ℕ → Story → Trace → Type 0

@@ -85,8 +85,12 @@ entered-released true false x e q i a h =
     let n : x.state.references ≡ 1 = last-one x.state e in
     let k : IsOpen x.state = is-open x.state q in
     let d : x.story.detached ≡ true = h.unhandled i (last-handle x.state e) in
-    let s : x.gone ≡ false → x.is_static ≡ true = (λ g. static-else x.is_static (λ z. omega (arith, n, a.counted,
-    has-waker (before move.Release x) a h i k.1 k.0 (omega (arith, n, a.counted)) g z))) in
+    let s : x.gone ≡ false → x.is_static ≡ true = (λ g. static-else x.is_static (λ z. omega (
+      arith,
+      n,
+      a.counted,
+      has-waker (before move.Release x) a h i k.1 k.0 (omega (arith, n, a.counted)) g z,
+    ))) in
     grind (arith, nat_tests)
 entered-released false c x e q i a h = grind arith
 
@@ -114,8 +118,13 @@ entered-pended false false true x e q r i a h =
     let n : x.state.references ≡ 1 = last-one x.state r in
     let o : x.state.completed ≡ false = a.live (omega arith) in
     let d : x.story.detached ≡ true = h.unhandled i (last-handle x.state r) in
-    let s : x.gone ≡ false → x.is_static ≡ true = (λ g. static-else x.is_static (λ z. omega (arith, n, a.counted, a.one,
-    has-waker (before move.EndPending x) a h i e o (omega (arith, a.one)) g z))) in
+    let s : x.gone ≡ false → x.is_static ≡ true = (λ g. static-else x.is_static (λ z. omega (
+      arith,
+      n,
+      a.counted,
+      a.one,
+      has-waker (before move.EndPending x) a h i e o (omega (arith, a.one)) g z,
+    ))) in
     grind (arith, nat_tests)
 entered-pended false false false x e q r i a h = grind (arith, nat_tests)
 
@@ -137,8 +146,12 @@ entered-detached : (b c : Bool) (x : Seen) → (x.state.completed && not x.state
 entered-detached true c x e q i a h = grind (arith, nat_tests)
 entered-detached false true x e q i a h =
     let k : IsUnheld x.state = unheld x.state e q in
-    let s : x.gone ≡ false → x.is_static ≡ true = (λ g. static-else x.is_static (λ z. omega (arith, k.0, a.counted,
-    has-waker (before move.Detach x) a h i k.1.0 k.1.1 (omega (arith, k.0, a.counted)) g z))) in
+    let s : x.gone ≡ false → x.is_static ≡ true = (λ g. static-else x.is_static (λ z. omega (
+      arith,
+      k.0,
+      a.counted,
+      has-waker (before move.Detach x) a h i k.1.0 k.1.1 (omega (arith, k.0, a.counted)) g z,
+    ))) in
     grind (arith, nat_tests)
 entered-detached false false x e q i a h = grind arith
 

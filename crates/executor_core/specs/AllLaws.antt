@@ -1,13 +1,14 @@
 -- All that holds of each machine to which steps of a new one lead, whatever its parties do: a line a law. Of a future f,
 -- of a run r, of a party p.
 use Rattle.std.specs.Prelude.{◌≡◌, ℕ, List}
+use Rattle.executor_model.specs.declared.kind.Kind.{Kind}
 use Rattle.executor_model.specs.declared.step.Hint.{Hint}
 use Rattle.executor_model.specs.declared.step.Step.{Step}
 use Rattle.executor_model.specs.AskedPolls.{IsWokenBetweenPolls}
 use Rattle.executor_model.specs.AwaiterKept.{AwaiterIsKept}
 use Rattle.executor_model.specs.CallsMean.{CallsDoWhatTheySay}
 use Rattle.executor_model.specs.DroppedOnce.{DropComesOnce, IsDroppedByTheEnd}
-use Rattle.executor_model.specs.EarlyDrop.{EarlyDropHasCause}
+use Rattle.executor_model.specs.EarlyDrop.{EarlyDropHasCause, LastWakerIsLast}
 use Rattle.executor_model.specs.Emptiness.{IsEmptinessExact, IsQuietEmptinessExact}
 use Rattle.executor_model.specs.Entries.{FindsPlace, OwnAgrees, QueueAgrees, TableAgrees}
 use Rattle.executor_model.specs.HandingOn.{HandsOn, IsOnItsWay}
@@ -54,8 +55,12 @@ pub record AllLaws (s : Machine) : Type 0 where
   pub outputs_kept : (f : ℕ) → OutputIsKept s f
   -- a future is dropped once at most
   pub drops : (f : ℕ) → DropComesOnce f s.world.trace
-  -- and early only for a cause
-  pub causes : (f : ℕ) → EarlyDropHasCause f s.world.trace
+  -- and early only for a cause, which the kind says of a machine that steps of a new one led to
+  pub causes : (limit : ℕ) (kind : Kind) (parties : ℕ) (steps : List Step) → s ≡ run steps (start limit kind parties) →
+      (f : ℕ) → EarlyDropHasCause kind f s.world.trace
+  -- nobody is left who could wake it only where it is detached and the executor static, or its drop has begun
+  pub last_wakers : (limit : ℕ) (kind : Kind) (parties : ℕ) (steps : List Step) → s ≡ run steps (start limit kind parties) →
+      (f : ℕ) → LastWakerIsLast kind f s.world.trace
   -- and each accepted one once, where the drop of the executor has ended
   pub by_the_end : (f : ℕ) → IsDroppedByTheEnd f s.world.trace
   -- who waits on the handle of a dropped future was called
@@ -142,8 +147,8 @@ pub record AllLaws (s : Machine) : Type 0 where
   pub lone_emptiness : IsLoneEmptinessExact s
   -- however steps of a new machine led here, no more Runnables were queued than those steps, and the queue is one that
   -- counts them
-  pub queueings : (limit parties : ℕ) (steps : List Step) → s ≡ run steps (start limit parties) →
-      CountsQueueings limit parties steps
+  pub queueings : (limit : ℕ) (kind : Kind) (parties : ℕ) (steps : List Step) → s ≡ run steps (start limit kind parties) →
+      CountsQueueings limit kind parties steps
   -- what has happened stays
   pub continued : (t : Step) → IsContinued s.world.trace (stepped s (step s t)).world.trace
   -- a call that begins at rest is answered at once, as it is

@@ -16,8 +16,8 @@ ghost use Rattle.executor_model.specs.SleepersTold.{SleepersAreTold};
 ghost use Rattle.executor_model.specs.World.{World};
 
 /// Whatever the parties do, a task's count is its living wakers, and one for a Runnable, a run or a
-/// closing call. Stored awaiters are wakers, and so are those in the table, those that the drop of the
-/// executor has taken out, and those on their way.
+/// closing call. Stored awaiters are wakers, and so are those in the table, which a static executor's has none of,
+/// those that the drop of the executor has taken out, and those on their way.
 pub fn references_are_counted()
     ensures { EveryExecution IsCounted }
 {}

@@ -2,8 +2,8 @@
 ghost use Rattle.executor_model.specs.AskedPolls.{IsWokenBetweenPolls};
 ghost use Rattle.executor_model.specs.AwaiterKept.{AwaiterIsKept};
 ghost use Rattle.executor_model.specs.DroppedOnce.{DropComesOnce, IsDroppedByTheEnd};
-ghost use Rattle.executor_model.specs.EarlyDrop.{EarlyDropHasCause};
-ghost use Rattle.executor_model.specs.EveryTrace.{EveryTrace};
+ghost use Rattle.executor_model.specs.EarlyDrop.{EarlyDropHasCause, LastWakerIsLast};
+ghost use Rattle.executor_model.specs.EveryTrace.{EveryTrace, EveryTraceBy};
 ghost use Rattle.executor_model.specs.LawfulPolls.{HasLawfulPolls};
 ghost use Rattle.executor_model.specs.OutputOnce.{OutputGoesOnce};
 
@@ -25,9 +25,16 @@ pub fn drops_come_once()
 {}
 
 /// Whatever the parties do, a future that is dropped before it was ready was cancelled before, or the drop
-/// of the executor had begun.
+/// of the executor had begun, or the executor is static, the future was detached and nobody was left who could
+/// wake it.
 pub fn early_drops_have_causes()
-    ensures { EveryTrace EarlyDropHasCause }
+    ensures { EveryTraceBy EarlyDropHasCause }
+{}
+
+/// Whatever the parties do, nobody is left who could wake a future only where it was detached and the executor is
+/// static, or the drop of the executor has begun.
+pub fn last_wakers_are_of_detached_futures()
+    ensures { EveryTraceBy LastWakerIsLast }
 {}
 
 /// Whatever the parties do, once the drop of the executor has ended each accepted future was dropped, and

@@ -22,7 +22,9 @@ use Rattle.executor_model.specs.Refusals.{IsWantToldOf, RefusedChangesNothing}
 use Rattle.executor_model.specs.Executions.{HasOneRunnable, IsCounted}
 use Rattle.executor_model.specs.SleepersAgree.{SleepersAgree}
 use Rattle.executor_model.specs.SleepersTold.{SleepersAreTold}
+use Rattle.executor_model.specs.SpawnsMean.{SpawnsAreLimited}
 use Rattle.executor_model.specs.Steps.{Machine, run, start, step, stepped}
+use Rattle.executor_model.specs.WakersMean.{WakersWakeTheirOwn}
 use Rattle.executor_laws.specs.Called.{KeeperIsCalled, SomeStandingIsCalled}
 use Rattle.executor_laws.specs.AtOnce.{NoComesAtOnce}
 use Rattle.executor_laws.specs.Continued.{IsContinued}
@@ -66,7 +68,7 @@ pub record AllLaws (s : Machine) : Type 0 where
   pub on_their_way : (f : ℕ) → IsOnItsWay s f
   -- of sleepers, ticks and runs
 
-  -- who sleeps, who sleeps, the flag and the room agree
+  -- who sleeps, which wakers wait, the flag and the room agree
   pub sleepers : SleepersAgree s
   -- where something is queued and somebody sleeps, one is told, or a party will tell or search
   pub told : SleepersAreTold s
@@ -113,6 +115,10 @@ pub record AllLaws (s : Machine) : Type 0 where
 
   -- each call that has ended was answered in its kind, and did itself what its name says
   pub calls : (p : ℕ) → CallsDoWhatTheySay p s.world.trace
+  -- an answer that the executor is full is given where it is, and no more futures are undropped than its limit
+  pub spawns : SpawnsAreLimited s
+  -- a kept waker stays its future's, and a wake by it wakes that
+  pub wakers : WakersWakeTheirOwn s
   -- each step that goes on lowers a number
   pub lowered : EachStepLowers s
   -- so a list of these is no longer than that

@@ -17,7 +17,9 @@ use executor_laws::laws::{
     lone_calls_are_exact, lone_calls_end, no_comes_at_once, queueings_are_counted,
     runs_reach_futures, some_standing_is_called, ticks_are_exact, traces_continue,
 };
-use executor_model::call_laws::calls_do_what_they_say;
+use executor_model::call_laws::{
+    calls_do_what_they_say, spawns_are_limited, wakers_wake_their_own,
+};
 use executor_model::laws::{
     emptiness_is_exact, no_append_is_refused_full, one_runnable, outputs_are_kept,
     own_queues_agree, quiet_emptiness_is_exact, references_are_counted,
@@ -51,6 +53,8 @@ pub fn all_laws()
     refused_calls_change_nothing();
     want_of_memory_is_told_of();
     calls_do_what_they_say();
+    spawns_are_limited();
+    wakers_wake_their_own();
     calls_end();
     lone_calls_end();
     ticks_are_exact();

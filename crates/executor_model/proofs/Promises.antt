@@ -8,3 +8,9 @@ pub mod CallTold
 pub mod CallAnswers
 pub mod CallTells
 pub mod CallTurns
+pub mod FrameWays
+pub mod Dropping
+pub mod SpawnAnswers
+pub mod SpawnLimits
+pub mod OwnWakers
+pub mod OwnWakes

@@ -18,6 +18,8 @@ pub mod Lift
 pub mod Needing
 pub mod Stepping
 pub mod Ways
+pub mod Settled
+pub mod Placing
 pub mod Pushes
 pub mod Reached
 pub mod Tests

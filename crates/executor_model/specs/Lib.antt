@@ -35,3 +35,5 @@ pub mod SleepersTold
 pub mod Deeds
 pub mod Calls
 pub mod CallsMean
+pub mod SpawnsMean
+pub mod WakersMean

@@ -38,10 +38,10 @@ there : (test : Event → Bool) (es : Trace) (n : ℕ) → n ≡ count_by test e
 there test es n e h = ⊎_elim (λ (x : (has test es ≡ true) × (1 ≤ count_by test es)). x.0)
     (λ (x : (has test es ≡ false) × (count_by test es ≡ 0)). absurd (omega (arith, x.1, e, h))) (there-or-none test es)
 
-counts : (test : Event → Bool) (es : Trace) (n : ℕ) → n ≡ count_by test es → has test es ≡ true → 1 ≤ n
+pub counts : (test : Event → Bool) (es : Trace) (n : ℕ) → n ≡ count_by test es → has test es ≡ true → 1 ≤ n
 counts test es n e h = omega (arith, e, counted-there test es h)
 
-counts-none : (test : Event → Bool) (es : Trace) (n : ℕ) → n ≡ count_by test es → has test es ≡ false → n ≡ 0
+pub counts-none : (test : Event → Bool) (es : Trace) (n : ℕ) → n ≡ count_by test es → has test es ≡ false → n ≡ 0
 counts-none test es n e h =
     ⊎_elim (λ (x : (has test es ≡ true) × (1 ≤ count_by test es)). let no : true ≡ false = sym x.0 ∙ h in absurd (cc))
     (λ (x : (has test es ≡ false) × (count_by test es ≡ 0)). e ∙ x.1) (there-or-none test es)

@@ -16,6 +16,7 @@ use Rattle.executor_model.specs.Limit.{IsLimitExact}
 use Rattle.executor_model.specs.Memory.{NeedsNoMemory}
 use Rattle.executor_model.specs.OutputKept.{OutputIsKept}
 use Rattle.executor_model.specs.OutputOnce.{OutputGoesOnce}
+use Rattle.executor_model.specs.OutputSettled.{OutputIsSettled}
 use Rattle.executor_model.specs.OwnQueues.{HasOwnRoom, IsEmptyMeanwhile, IsUsedOnce}
 use Rattle.executor_model.specs.OwnQueues.{IsWithinBound, ListAgrees, LockAgrees, OwnQueueHasRunner}
 use Rattle.executor_model.specs.Refusals.{IsWantToldOf, RefusedChangesNothing}
@@ -24,6 +25,7 @@ use Rattle.executor_model.specs.SleepersAgree.{SleepersAgree}
 use Rattle.executor_model.specs.SleepersTold.{SleepersAreTold}
 use Rattle.executor_model.specs.SpawnsMean.{SpawnsAreLimited}
 use Rattle.executor_model.specs.Steps.{Machine, run, start, step, stepped}
+use Rattle.executor_model.specs.TableKeeps.{EntryOutlastsDrop, IsTableBound}
 use Rattle.executor_model.specs.WakersMean.{WakersWakeTheirOwn}
 use Rattle.executor_laws.specs.Called.{KeeperIsCalled, SomeStandingIsCalled}
 use Rattle.executor_laws.specs.AtOnce.{NoComesAtOnce}
@@ -54,6 +56,8 @@ pub record AllLaws (s : Machine) : Type 0 where
   pub outputs : (f : ℕ) → OutputGoesOnce f s.world.trace
   -- an output that is there is given to the next poll of the handle that is made alone
   pub outputs_kept : (f : ℕ) → OutputIsKept s f
+  -- and any other of a future that was ready has gone, where no call is in progress
+  pub outputs_settled : (f : ℕ) → OutputIsSettled s f
   -- a future is dropped once at most
   pub drops : (f : ℕ) → DropComesOnce f s.world.trace
   -- and early only for a cause
@@ -94,6 +98,9 @@ pub record AllLaws (s : Machine) : Type 0 where
 
   -- the table has those that are undropped, or whose drop has still to take the entry out, once each
   pub table : (f : ℕ) → TableAgrees s f
+  -- no more than the limit, and each until the drop and the section behind it have ended
+  pub table_bound : IsTableBound s
+  pub entries : (f : ℕ) → EntryOutlastsDrop s f
   -- a Runnable in the queue is the only one there of an accepted future, undropped or dropped by the executor's drop
   pub queue : (f : ℕ) → QueueAgrees s f
   -- and so is one in a run's own queue

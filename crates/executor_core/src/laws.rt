@@ -22,9 +22,9 @@ use executor_model::call_laws::{
 };
 use executor_model::laws::{
     emptiness_is_exact, no_append_is_refused_full, one_runnable, outputs_are_kept,
-    own_queues_agree, quiet_emptiness_is_exact, references_are_counted,
+    outputs_are_settled, own_queues_agree, quiet_emptiness_is_exact, references_are_counted,
     refused_calls_change_nothing, sleepers_agree, sleepers_are_told, table_and_queue_agree,
-    the_limit_is_exact, wakes_and_drops_take_no_memory, wakes_are_handed_on,
+    the_limit_is_exact, the_table_is_kept, wakes_and_drops_take_no_memory, wakes_are_handed_on,
     want_of_memory_is_told_of,
 };
 use executor_model::trace_laws::{
@@ -40,11 +40,13 @@ pub fn all_laws()
     references_are_counted();
     one_runnable();
     outputs_are_kept();
+    outputs_are_settled();
     wakes_are_handed_on();
     sleepers_agree();
     sleepers_are_told();
     own_queues_agree();
     table_and_queue_agree();
+    the_table_is_kept();
     no_append_is_refused_full();
     the_limit_is_exact();
     emptiness_is_exact();

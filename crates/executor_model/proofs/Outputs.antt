@@ -5,3 +5,5 @@ pub mod Keeping
 pub mod KeepingViews
 pub mod KeepingExecutions
 pub mod OutputKept
+pub mod Settled
+pub mod SettledExecutions

@@ -11,3 +11,5 @@ pub mod TidyingGroups
 pub mod LeavingExecutions
 pub mod Entering
 pub mod Spawning
+pub mod Pairs
+pub mod Bounds

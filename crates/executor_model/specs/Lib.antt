@@ -19,12 +19,14 @@ pub mod Good
 pub mod Executions
 pub mod EveryTrace
 pub mod Entries
+pub mod TableKeeps
 pub mod Limit
 pub mod AskedPolls
 pub mod Emptiness
 pub mod Memory
 pub mod Refusals
 pub mod OutputKept
+pub mod OutputSettled
 pub mod AwaiterKept
 pub mod Keeper
 pub mod Standing

@@ -11,6 +11,7 @@ use Rattle.executor_model.specs.EarlyDrop.{EarlyDropHasCause}
 use Rattle.executor_model.specs.Emptiness.{IsEmptinessExact, IsQuietEmptinessExact}
 use Rattle.executor_model.specs.Entries.{FindsPlace, OwnAgrees, QueueAgrees, TableAgrees}
 use Rattle.executor_model.specs.HandingOn.{HandsOn, IsOnItsWay}
+use Rattle.executor_model.specs.InPlace.{IsInPlace}
 use Rattle.executor_model.specs.LawfulPolls.{HasLawfulPolls}
 use Rattle.executor_model.specs.Limit.{IsLimitExact}
 use Rattle.executor_model.specs.Memory.{NeedsNoMemory}
@@ -101,6 +102,8 @@ pub record AllLaws (s : Machine) : Type 0 where
   -- no more than the limit, and each until the drop and the section behind it have ended
   pub table_bound : IsTableBound s
   pub entries : (f : ℕ) → EntryOutlastsDrop s f
+  -- an accepted future is in its place there, or is polled or on its way to its drop or behind that, and not both
+  pub in_place : (f : ℕ) → IsInPlace s f
   -- a Runnable in the queue is the only one there of an accepted future, undropped or dropped by the executor's drop
   pub queue : (f : ℕ) → QueueAgrees s f
   -- and so is one in a run's own queue

@@ -21,11 +21,11 @@ use executor_model::call_laws::{
     calls_do_what_they_say, spawns_are_limited, wakers_wake_their_own,
 };
 use executor_model::laws::{
-    emptiness_is_exact, no_append_is_refused_full, one_runnable, outputs_are_kept,
-    outputs_are_settled, own_queues_agree, quiet_emptiness_is_exact, references_are_counted,
-    refused_calls_change_nothing, sleepers_agree, sleepers_are_told, table_and_queue_agree,
-    the_limit_is_exact, the_table_is_kept, wakes_and_drops_take_no_memory, wakes_are_handed_on,
-    want_of_memory_is_told_of,
+    emptiness_is_exact, futures_are_in_their_places, no_append_is_refused_full, one_runnable,
+    outputs_are_kept, outputs_are_settled, own_queues_agree, quiet_emptiness_is_exact,
+    references_are_counted, refused_calls_change_nothing, sleepers_agree, sleepers_are_told,
+    table_and_queue_agree, the_limit_is_exact, the_table_is_kept, wakes_and_drops_take_no_memory,
+    wakes_are_handed_on, want_of_memory_is_told_of,
 };
 use executor_model::trace_laws::{
     awaiters_are_kept, closing_drops_each_future_once, drops_come_once, early_drops_have_causes,
@@ -47,6 +47,7 @@ pub fn all_laws()
     own_queues_agree();
     table_and_queue_agree();
     the_table_is_kept();
+    futures_are_in_their_places();
     no_append_is_refused_full();
     the_limit_is_exact();
     emptiness_is_exact();

@@ -13,3 +13,5 @@ pub mod Entering
 pub mod Spawning
 pub mod Pairs
 pub mod Bounds
+pub mod Spots
+pub mod Spotting

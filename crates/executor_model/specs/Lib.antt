@@ -20,6 +20,7 @@ pub mod Executions
 pub mod EveryTrace
 pub mod Entries
 pub mod TableKeeps
+pub mod InPlace
 pub mod Limit
 pub mod AskedPolls
 pub mod Emptiness

@@ -4,6 +4,7 @@ ghost use Rattle.executor_model.specs.declared.step.Hint.{Hint};
 ghost use Rattle.executor_model.specs.Emptiness.{IsEmptinessExact, IsQuietEmptinessExact};
 ghost use Rattle.executor_model.specs.Entries.{FindsPlace, OwnAgrees, QueueAgrees, TableAgrees};
 ghost use Rattle.executor_model.specs.HandingOn.{HandsOn, IsOnItsWay};
+ghost use Rattle.executor_model.specs.InPlace.{IsInPlace};
 ghost use Rattle.executor_model.specs.Limit.{IsLimitExact};
 ghost use Rattle.executor_model.specs.Memory.{NeedsNoMemory};
 ghost use Rattle.executor_model.specs.OutputKept.{OutputIsKept};
@@ -45,6 +46,12 @@ pub fn table_and_queue_agree()
 pub fn the_table_is_kept()
     ensures bounded { EveryMachine IsTableBound }
     ensures entries { EveryExecution EntryOutlastsDrop }
+{}
+
+/// Whatever the parties do, an accepted future is in its place in the table, but while it is polled, until it is put back,
+/// once it was taken out to be dropped, and once its drop has begun; and then it isn't there.
+pub fn futures_are_in_their_places()
+    ensures { EveryExecution IsInPlace }
 {}
 
 /// Whatever the parties do, whoever is about to append a Runnable to the queue finds a place for it.

@@ -34,6 +34,7 @@ returns c limit parties steps =
       table = c.table_and_queue_agree.ensures.table limit parties steps;
       table_bound = c.the_table_is_kept.ensures.bounded limit parties steps;
       entries = c.the_table_is_kept.ensures.entries limit parties steps;
+      in_place = c.futures_are_in_their_places.ensures limit parties steps;
       queue = c.table_and_queue_agree.ensures.queue limit parties steps;
       own = c.table_and_queue_agree.ensures.own limit parties steps;
       places = c.no_append_is_refused_full.ensures limit parties steps;

@@ -6,6 +6,7 @@ use Rattle.executor_model.specs.declared.step.Step.{Step}
 use Rattle.executor_model.specs.AskedPolls.{IsWokenBetweenPolls}
 use Rattle.executor_model.specs.AwaiterKept.{AwaiterIsKept}
 use Rattle.executor_model.specs.CallsMean.{CallsDoWhatTheySay}
+use Rattle.executor_model.specs.DroppedAtRest.{IsDroppedAtRest}
 use Rattle.executor_model.specs.DroppedOnce.{DropComesOnce, IsDroppedByTheEnd}
 use Rattle.executor_model.specs.EarlyDrop.{EarlyDropHasCause}
 use Rattle.executor_model.specs.Emptiness.{IsEmptinessExact, IsQuietEmptinessExact}
@@ -65,6 +66,8 @@ pub record AllLaws (s : Machine) : Type 0 where
   pub causes : (f : ℕ) → EarlyDropHasCause f s.world.trace
   -- and each accepted one once, where the drop of the executor has ended
   pub by_the_end : (f : ℕ) → IsDroppedByTheEnd f s.world.trace
+  -- so it is where the executor was dropped and no call is in progress
+  pub at_rest : (f : ℕ) → IsDroppedAtRest f s.world.trace
   -- who waits on the handle of a dropped future was called
   pub awaiters : (f : ℕ) → AwaiterIsKept f s.world.trace
   -- a wake that marks a task hands on one Runnable, and no other wake hands on any

@@ -1,6 +1,7 @@
 //! All laws of every machine, in one record.
 ghost use Rattle.executor_model.specs.AskedPolls.{IsWokenBetweenPolls};
 ghost use Rattle.executor_model.specs.AwaiterKept.{AwaiterIsKept};
+ghost use Rattle.executor_model.specs.DroppedAtRest.{IsDroppedAtRest};
 ghost use Rattle.executor_model.specs.DroppedOnce.{DropComesOnce, IsDroppedByTheEnd};
 ghost use Rattle.executor_model.specs.EarlyDrop.{EarlyDropHasCause};
 ghost use Rattle.executor_model.specs.EveryTrace.{EveryTrace};
@@ -28,8 +29,9 @@ use executor_model::laws::{
     wakes_are_handed_on, want_of_memory_is_told_of,
 };
 use executor_model::trace_laws::{
-    awaiters_are_kept, closing_drops_each_future_once, drops_come_once, early_drops_have_causes,
-    outputs_go_once, polls_are_asked_for, polls_are_lawful,
+    awaiters_are_kept, closing_drops_each_future_once, dropped_executors_drop_each_future_once,
+    drops_come_once, early_drops_have_causes, outputs_go_once, polls_are_asked_for,
+    polls_are_lawful,
 };
 
 /// Whatever the parties do, all laws hold of the machine to which it leads. Does nothing, and takes no memory.
@@ -82,6 +84,7 @@ fn laws_of_traces()
     ensures drops { EveryTrace DropComesOnce }
     ensures causes { EveryTrace EarlyDropHasCause }
     ensures by_the_end { EveryTrace IsDroppedByTheEnd }
+    ensures at_rest { EveryTrace IsDroppedAtRest }
     ensures awaiters { EveryTrace AwaiterIsKept }
     ensures standing { EveryTrace SomeStandingIsCalled }
     ensures keepers { EveryTrace KeeperIsCalled }
@@ -92,6 +95,7 @@ fn laws_of_traces()
     drops_come_once();
     early_drops_have_causes();
     closing_drops_each_future_once();
+    dropped_executors_drop_each_future_once();
     awaiters_are_kept();
     some_standing_is_called();
     keepers_are_called();

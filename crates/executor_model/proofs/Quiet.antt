@@ -6,3 +6,4 @@ pub mod SleepersCalls
 pub mod CallsGroups
 pub mod Resting
 pub mod CallsDone
+pub mod AfterDrop

@@ -4,6 +4,7 @@ pub mod EarlyDrop
 pub mod Due
 pub mod Quiet
 pub mod DroppedOnce
+pub mod DroppedAtRest
 pub mod OutputOnce
 pub mod World
 pub mod Carried

@@ -17,6 +17,7 @@ returns c limit parties steps =
       drops = c.laws_of_traces.ensures.drops limit parties steps;
       causes = c.laws_of_traces.ensures.causes limit parties steps;
       by_the_end = c.laws_of_traces.ensures.by_the_end limit parties steps;
+      at_rest = c.laws_of_traces.ensures.at_rest limit parties steps;
       awaiters = c.laws_of_traces.ensures.awaiters limit parties steps;
       handed = λ f p h. c.wakes_are_handed_on.ensures.handed s.world f p h;
       on_their_way = c.wakes_are_handed_on.ensures.marked limit parties steps;

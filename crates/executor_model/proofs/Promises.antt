@@ -1,4 +1,4 @@
--- Calls do what they say: calls_do_what_they_say.
+-- Calls do what they say: calls_do_what_they_say, spawns_are_limited and wakers_wake_their_own.
 pub mod CallFolds
 pub mod CallFrames
 pub mod CallServes

@@ -45,8 +45,9 @@ settled-loose : (x : Seen) (p q : Pend) (a b : Extra) → Alike p q a b → Sett
 settled-loose x p q a b l h = grind arith
 
 -- who polls or ends a poll of it isn't over
-settled-turned : (m : Move) (x : Seen) → stands_alone m ≡ true → (1 ≤ (before m x).pend.waiting + ((before m x).pend.polls + ((before m x).pend.ending + (before m x).pend.ready)) →
-    x.state.completed ≡ false) →
+settled-turned : (m : Move) (x : Seen) → stands_alone m ≡ true →
+    (1 ≤ (before m x).pend.waiting
+    + ((before m x).pend.polls + ((before m x).pend.ending + (before m x).pend.ready)) → x.state.completed ≡ false) →
     Settled (before m x) → Settled (after m x)
 settled-turned = by_move _
     (λ x n b h. grind (arith, nat_tests))

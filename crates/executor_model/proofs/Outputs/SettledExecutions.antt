@@ -1,19 +1,18 @@
 -- For outputs_are_settled.
 -- Where no call is in progress, the output of a future that was ready has gone, once, or the next poll of the handle is
 -- given it.
-use Rattle.std.proofs.Common.{◌≡◌, ◌⊎◌, ℕ, ◌+◌, ◌<◌, ◌≤◌, List, [], ◌∷◌, length, true, false, inl, inr, ⊎_elim, arith}
-use Rattle.std.specs.Prelude.{count_by}
+use Rattle.std.proofs.Common.{◌≡◌, ◌⊎◌, ℕ, ◌+◌, ◌≤◌, List, [], ◌∷◌, true, false, inl, inr, ⊎_elim, arith}
 use Rattle.executor_model.specs.declared.call.Reply.{Reply}
 use Rattle.executor_model.specs.declared.event.Event.TheVariants as event
 use Rattle.executor_model.specs.declared.op.Hold.{Hold}
 use Rattle.executor_model.specs.declared.op.Op.TheVariants as op
 use Rattle.executor_model.specs.declared.step.Step.{Step}
-use Rattle.executor_model.specs.OutputOnce.{OutputGoesOnce, is_output_given}
+use Rattle.executor_model.specs.OutputOnce.{OutputGoesOnce}
 use Rattle.executor_model.specs.OutputSettled.{CanTake, HasGone, OutputIsSettled}
 use Rattle.executor_model.specs.Rows.{handling_of, ready_of}
 use Rattle.executor_model.specs.Sound.{Pend, pend, with_ops}
 use Rattle.executor_model.specs.Steps.{Machine, run, stack, start}
-use Rattle.executor_model.specs.Trace.{Trace, has, is_output_dropped, is_ready}
+use Rattle.executor_model.specs.Trace.{Trace, has, is_ready}
 use Rattle.executor_model.specs.Weights.{weigh_all}
 use Rattle.executor_model.specs.World.{World, log, task}
 use Rattle.executor_model.proofs.OneFuture.EffectsWays.{each-run, view}

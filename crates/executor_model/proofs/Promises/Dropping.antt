@@ -2,7 +2,7 @@
 -- Who has still to take an entry out of the table is a call in progress that itself began that future's drop.
 use Rattle.std.proofs.Common.{◌≡◌, ◌≢◌, ◌⊎◌, ℕ, zero, suc, ◌+◌, ◌<◌, ◌≤◌, List, [], ◌∷◌, ◌++◌, length, get_or, true, ◌||◌}
 use Rattle.std.proofs.Common.{false}
-use Rattle.std.proofs.Common.{eqb, inl, inr, ⊎_elim, refl, subst, sym, ap, ◌∙◌, arith}
+use Rattle.std.proofs.Common.{eqb, inl, inr, ⊎_elim, refl, subst, ap, ◌∙◌, arith}
 use Rattle.std.proofs.lemmas.List.{append_assoc, append_cancel_left}
 use Rattle.std.specs.List.{list_any}
 use Rattle.std.specs.Prelude.{reverse}
@@ -18,7 +18,7 @@ use Rattle.executor_model.specs.declared.op.UserOp.TheVariants as user_op
 use Rattle.task_moves.specs.declared.moves.owed.Move.{Move}
 use Rattle.task_moves.specs.declared.moves.owed.Move.TheVariants as move
 use Rattle.task_moves.specs.Moves as moves
-use Rattle.executor_model.specs.Acts.{closing_ops, move_by}
+use Rattle.executor_model.specs.Acts.{move_by}
 use Rattle.executor_model.specs.Calls.{Begun, Ended, calls}
 use Rattle.executor_model.specs.Good.{Good}
 use Rattle.executor_model.specs.Rows.{leaves_of}
@@ -26,14 +26,14 @@ use Rattle.executor_model.specs.SpawnsMean.{IsBeingDropped}
 use Rattle.executor_model.specs.Steps.{Machine, stack, start}
 use Rattle.executor_model.specs.Trace.{Trace, has, is_dropped}
 use Rattle.executor_model.specs.Weights.{same, weigh, weigh_all}
-use Rattle.executor_model.specs.World.{World, Done, among, done, log, task}
+use Rattle.executor_model.specs.World.{World, Done, done, log, task}
 use Rattle.executor_model.proofs.OneFuture.Effects.{Effect}
 use Rattle.executor_model.proofs.OneFuture.Effects.Effect.{passes, turns, refuses, enters, unlists, drops, takes_out, drops_next}
 use Rattle.executor_model.proofs.OneFuture.EffectsWays.{Effects, effects-way}
 use Rattle.executor_model.proofs.OneFuture.EffectsWays.Effects.{does, pends, readies, closes}
 use Rattle.executor_model.proofs.OneFuture.Extras.{no_extra}
 use Rattle.executor_model.proofs.OneFuture.Views.{none}
-use Rattle.executor_model.proofs.Promises.CallFrames.{Frame, Frames, Tied}
+use Rattle.executor_model.proofs.Promises.CallFrames.{Frames, Tied}
 use Rattle.executor_model.proofs.Promises.CallPromises.{has-left, has-right}
 use Rattle.executor_model.proofs.Promises.FrameWays.{frames-end, frames-start, frames-way}
 use Rattle.executor_model.proofs.Steps.Asides.{Aside, aside-closing, aside-owed}

@@ -18,7 +18,8 @@ use Rattle.executor_model.specs.Steps.{Machine, accepts, begun, has_all, is_drop
 use Rattle.executor_model.specs.Steps.{stack, start, top}
 use Rattle.executor_model.specs.Trace.{Trace}
 use Rattle.executor_model.specs.World.{World, Done, done, log}
-use Rattle.executor_model.proofs.Promises.CallFrames.{Frame, Frames, Keeps, Tied, frames-begun, frames-done, frames-ends, passes-react, tied-none}
+use Rattle.executor_model.proofs.Promises.CallFrames.{Frames, Keeps, Tied, frames-begun, frames-done}
+use Rattle.executor_model.proofs.Promises.CallFrames.{frames-ends, passes-react, tied-none}
 use Rattle.executor_model.proofs.Quiet.Calls.{is_end}
 use Rattle.executor_model.proofs.Quiet.CallsGroups.{calls-act}
 use Rattle.executor_model.proofs.Quiet.Resting.{idle-stack, opens}

@@ -1,46 +1,28 @@
 -- For wakers_wake_their_own.
 -- Waker k stays one of its future, and each call of it wakes that.
-use Rattle.std.proofs.Common.{◌≡◌, ◌≢◌, ◌⊎◌, ℕ, ◌+◌, ◌<◌, ◌≤◌, List, [], ◌∷◌, ◌++◌, length, get_or, set, Bool, true, false, ◌&&◌, not}
-use Rattle.std.proofs.Common.{eqb, inl, inr, ⊎_elim, refl, subst, sym, ap, ◌∙◌, get_or-set_same, get_or-set_other, arith}
-use Rattle.std.proofs.lemmas.Bool.Decides.{nat_tests}
-use Rattle.std.proofs.lemmas.List.{get_or_append_left, get_or_past, length-append, length-set}
-use Rattle.std.specs.Prelude.{Option, Some, None, reverse}
+use Rattle.std.proofs.Common.{◌≡◌, ◌≢◌, ◌⊎◌, ℕ, ◌+◌, ◌<◌, ◌≤◌, List, [], ◌∷◌, ◌++◌, length, set, Bool, true, false, not}
+use Rattle.std.proofs.Common.{eqb, inl, inr, ⊎_elim, refl, subst, ap, ◌∙◌, arith}
+use Rattle.std.specs.Prelude.{Option, Some, None}
 use Rattle.task_moves.specs.Moves.{is_over}
 use Rattle.task_moves.specs.declared.moves.owed.Move.TheVariants as move
-use Rattle.executor_model.specs.declared.call.Call.{Call}
-use Rattle.executor_model.specs.declared.call.Call.TheVariants as call
 use Rattle.executor_model.specs.declared.call.Reply.{Reply}
 use Rattle.executor_model.specs.declared.event.Event.TheVariants as event
 use Rattle.executor_model.specs.declared.op.Hold.{Hold}
 use Rattle.executor_model.specs.declared.op.Op.{Op}
 use Rattle.executor_model.specs.declared.op.Op.TheVariants as op
-use Rattle.executor_model.specs.declared.op.Waker.{Waker}
-use Rattle.executor_model.specs.declared.op.WakerOp.TheVariants as waker_op
 use Rattle.executor_model.specs.declared.step.Hint.{Hint}
-use Rattle.executor_model.specs.declared.step.Step.{Step}
-use Rattle.executor_model.specs.Acts.{copy_by}
-use Rattle.executor_model.specs.Calls.{Begun, Each, Ended, calls}
+use Rattle.executor_model.specs.Calls.{Begun, Ended}
 use Rattle.executor_model.specs.CallsMean.{MayBeOver}
 use Rattle.executor_model.specs.Doing.{act}
-use Rattle.executor_model.specs.Good.{Good}
-use Rattle.executor_model.specs.Steps.{Machine, begun, future_of, has_all, is_some, kept, mine, run, stack, start, top}
-use Rattle.executor_model.specs.Steps.{with_future}
+use Rattle.executor_model.specs.Steps.{kept}
 use Rattle.executor_model.specs.Trace.{Trace, has, is_woken}
-use Rattle.executor_model.specs.WakersMean.{HasWokenIts, WakersWakeTheirOwn, WakesIts, is_wake}
+use Rattle.executor_model.specs.WakersMean.{HasWokenIts, WakesIts, is_wake}
 use Rattle.executor_model.specs.Weights.{same, weigh}
-use Rattle.executor_model.specs.World.{World, Done, done, log, log_if, task}
-use Rattle.executor_model.proofs.Promises.CallFrames.{Frames}
+use Rattle.executor_model.specs.World.{World, log_if, task}
 use Rattle.executor_model.proofs.Promises.CallPromises.{has-left, has-right, over-later}
-use Rattle.executor_model.proofs.Promises.CallTold.{added, over-told}
-use Rattle.executor_model.proofs.Promises.FrameWays.{frames-end, frames-map, frames-start, frames-way}
-use Rattle.executor_model.proofs.Quiet.Calls.{is_end}
-use Rattle.executor_model.proofs.Steps.Lift.{good, good-start, unsettled}
+use Rattle.executor_model.proofs.Promises.CallTold.{added}
 use Rattle.executor_model.proofs.Steps.Lists.{same_cases, weigh-append}
-use Rattle.executor_model.proofs.Steps.Placing.{Spots, places, same-react, same-spots, spots}
 use Rattle.executor_model.proofs.Steps.Tests.{or-left}
-use Rattle.executor_model.proofs.Steps.Ways.{Way, along}
-use Rattle.executor_model.proofs.Steps.Ways.Way.{acted, called, reacted}
-use Rattle.executor_model.proofs.Table.LeavingExecutions.{Placed, placed-ends, placed-moves, placed-start, placed}
 
 -- future f is to be woken
 abbrev pub wakes_at : ℕ → Op → ℕ

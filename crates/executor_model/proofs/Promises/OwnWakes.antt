@@ -1,6 +1,6 @@
 -- For wakers_wake_their_own.
 -- What holds of waker k and its future (proofs/Promises/OwnWakers), each step keeps.
-use Rattle.std.proofs.Common.{◌≡◌, ◌≢◌, ◌⊎◌, ℕ, suc, ◌+◌, ◌<◌, ◌≤◌, List, [], ◌∷◌, ◌++◌, length, get_or, set, Bool, true, false}
+use Rattle.std.proofs.Common.{◌≡◌, ◌≢◌, ◌⊎◌, ℕ, ◌+◌, ◌<◌, ◌≤◌, List, [], ◌∷◌, ◌++◌, length, get_or, set, Bool, true, false}
 use Rattle.std.proofs.Common.{◌&&◌, eqb, inl, inr, ⊎_elim, refl, subst, sym, ap, ◌∙◌, get_or-set_same, get_or-set_other, arith}
 use Rattle.std.proofs.lemmas.Bool.Decides.{nat_tests}
 use Rattle.std.proofs.lemmas.List.{get_or-append-add, get_or_append_left, get_or_past, length-append, length-set}

@@ -1,10 +1,9 @@
 -- For spawns_are_limited.
 -- A spawn is answered that the executor is full where it is, and no more futures are undropped than its limit.
-use Rattle.std.proofs.Common.{◌≡◌, ◌⊎◌, ℕ, zero, suc, ◌+◌, ◌<◌, ◌≤◌, List, [], ◌∷◌, ◌++◌, length, Bool, true, false}
-use Rattle.std.proofs.Common.{cond, not, inl, inr, ⊎_elim, refl, subst, sym, ap, ◌∙◌, append-nil, get_or-set_same, arith}
-use Rattle.std.proofs.lemmas.Bool.Decides.{nat_tests}
+use Rattle.std.proofs.Common.{◌≡◌, ◌⊎◌, ℕ, ◌+◌, ◌≤◌, List, [], ◌∷◌, ◌++◌, Bool, true, false}
+use Rattle.std.proofs.Common.{cond, ⊎_elim, refl, subst, sym, ap, ◌∙◌, append-nil, arith}
 use Rattle.std.proofs.lemmas.List.{append_assoc, reverse-append, reverse-reverse}
-use Rattle.std.specs.Prelude.{Option, Some, None, nat_lt, reverse}
+use Rattle.std.specs.Prelude.{reverse}
 use Rattle.executor_model.specs.declared.call.Call.{Call}
 use Rattle.executor_model.specs.declared.call.Call.TheVariants as call
 use Rattle.executor_model.specs.declared.call.Reply.{Reply}
@@ -13,7 +12,6 @@ use Rattle.executor_model.specs.declared.event.Event.{Event}
 use Rattle.executor_model.specs.declared.event.Event.TheVariants as event
 use Rattle.executor_model.specs.declared.op.HandleOp.TheVariants as handle_op
 use Rattle.executor_model.specs.declared.op.Hold.{Hold}
-use Rattle.executor_model.specs.declared.op.Hold.TheVariants as hold
 use Rattle.executor_model.specs.declared.op.ListOp.TheVariants as list_op
 use Rattle.executor_model.specs.declared.op.Op.{Op}
 use Rattle.executor_model.specs.declared.op.Op.TheVariants as op
@@ -25,45 +23,29 @@ use Rattle.executor_model.specs.declared.op.TickOp.TheVariants as tick_op
 use Rattle.executor_model.specs.declared.op.UserOp.TheVariants as user_op
 use Rattle.executor_model.specs.declared.op.WakerOp.TheVariants as waker_op
 use Rattle.executor_model.specs.declared.step.Hint.{Hint}
-use Rattle.executor_model.specs.declared.step.Step.{Step}
 use Rattle.executor_model.specs.declared.step.UserEnd.{UserEnd}
 use Rattle.executor_model.specs.declared.step.UserEnd.TheVariants as end
 use Rattle.executor_model.specs.declared.event.Answer.TheVariants as answer
-use Rattle.executor_model.specs.Acts.{enter_by}
 use Rattle.executor_model.specs.Calls.{Begun, calls}
 use Rattle.executor_model.specs.CallsMean.{IsAnsweredRight, is_reply}
 use Rattle.executor_model.specs.Doing.{act}
-use Rattle.executor_model.specs.Entries.{Remains}
-use Rattle.executor_model.specs.Good.{Good}
-use Rattle.executor_model.specs.Rows.{borrowing_of, leaves_of}
-use Rattle.executor_model.specs.Sound.{times}
-use Rattle.executor_model.specs.SpawnsMean.{AreMany, FullAt, FullFrom, SpawnsAreLimited, TookPlace, WasUndropped}
-use Rattle.executor_model.specs.Steps.{Machine, accepts, end_of, idle, react, run, stack, start, top}
-use Rattle.executor_model.specs.Trace.{Trace, has, is_accepted, is_dropped}
+use Rattle.executor_model.specs.SpawnsMean.{AreMany, FullAt, FullFrom, TookPlace}
+use Rattle.executor_model.specs.Steps.{Machine, accepts, react, stack}
+use Rattle.executor_model.specs.Trace.{Trace, has}
 use Rattle.executor_model.specs.Weights.{weigh, weigh_all}
-use Rattle.executor_model.specs.World.{World, Done, done, log}
-use Rattle.executor_model.proofs.OneFuture.EffectsWays.{Effects, effects-way}
-use Rattle.executor_model.proofs.OneFuture.Stories.{Story, hears, no-longer, story, story_from, untold}
-use Rattle.executor_model.proofs.OneFuture.Telling.{accepted-counts, counted-there, fallen-counts, same-standing, there-or-none}
+use Rattle.executor_model.specs.World.{World, Done}
 use Rattle.executor_model.proofs.Promises.CallAnswers.{no-poll, served}
-use Rattle.executor_model.proofs.Promises.CallFits.{fit-act, fit-react}
-use Rattle.executor_model.proofs.Promises.CallFrames.{Frame, Frames, Tied}
+use Rattle.executor_model.proofs.Promises.CallFits.{fit-act}
+use Rattle.executor_model.proofs.Promises.CallFrames.{Frame, Tied}
 use Rattle.executor_model.proofs.Promises.CallPromises.{Owes, misfit, owes-later, serves, spawns}
-use Rattle.executor_model.proofs.Promises.Dropping.{Droppings, droppings-end, droppings-moves, droppings-start, is-being-dropped}
+use Rattle.executor_model.proofs.Promises.Dropping.{Droppings}
 use Rattle.executor_model.proofs.Quiet.Calls.{calling_of, is_end}
-use Rattle.executor_model.proofs.Quiet.CallsDone.{Held, fit-begun, held-ends, held-moves, held-start}
+use Rattle.executor_model.proofs.Quiet.CallsDone.{Held}
 use Rattle.executor_model.proofs.Quiet.CallsGroups.{calls-act}
 use Rattle.executor_model.proofs.Quiet.Resting.{calling-is}
-use Rattle.executor_model.proofs.Steps.Deeds.{ends_one, grows-act, grows-begun, grows-react}
-use Rattle.executor_model.proofs.Steps.Lift.{good-start, split, unsettled, weigh_all-idle}
-use Rattle.executor_model.proofs.Steps.Lists.{weigh-append, weigh-below, weigh_all-push}
-use Rattle.executor_model.proofs.Steps.Settled.{along-settled}
+use Rattle.executor_model.proofs.Steps.Deeds.{ends_one}
+use Rattle.executor_model.proofs.Steps.Lists.{weigh-below}
 use Rattle.executor_model.proofs.Steps.Tests.{left-false, right-false}
-use Rattle.executor_model.proofs.Steps.Ways.{Way}
-use Rattle.executor_model.proofs.Steps.Ways.Way.{acted, called, reacted}
-use Rattle.executor_model.proofs.Table.Entering.{counts, counts-none, table-agrees}
-use Rattle.executor_model.proofs.Table.LeavingExecutions.{Placed}
-use Rattle.executor_model.proofs.Table.Spawning.{has-table-by, top-last}
 
 -- an answer that the executor is full
 abbrev pub full_of : Op → ℕ

@@ -4,8 +4,8 @@
 use Rattle.std.proofs.Common.{◌≡◌, ◌⊎◌, ℕ, zero, suc, ◌+◌, ◌<◌, ◌≤◌, List, [], ◌∷◌, ◌++◌, length, Bool, true, false}
 use Rattle.std.proofs.Common.{cond, not, inl, inr, ⊎_elim, refl, subst, sym, ap, ◌∙◌, get_or-set_same, arith}
 use Rattle.std.proofs.lemmas.Bool.Decides.{nat_tests}
-use Rattle.std.proofs.lemmas.List.{append_assoc, append_cancel_left}
-use Rattle.std.specs.Prelude.{Option, Some, None, nat_lt, reverse, slice_get}
+use Rattle.std.proofs.lemmas.List.{append_assoc}
+use Rattle.std.specs.Prelude.{Option, Some, None, nat_lt, reverse}
 use Rattle.executor_model.specs.declared.call.Call.{Call}
 use Rattle.executor_model.specs.declared.call.Call.TheVariants as call
 use Rattle.executor_model.specs.declared.call.Reply.{Reply}
@@ -28,7 +28,7 @@ use Rattle.executor_model.specs.Good.{Good}
 use Rattle.executor_model.specs.Rows.{borrowing_of, leaves_of}
 use Rattle.executor_model.specs.Sound.{times}
 use Rattle.executor_model.specs.SpawnsMean.{AreMany, FullFrom, SpawnsAreLimited, TookPlace, WasUndropped}
-use Rattle.executor_model.specs.Steps.{Machine, begun, end_of, idle, mine, react, run, stack, start, top}
+use Rattle.executor_model.specs.Steps.{Machine, begun, end_of, mine, react, run, stack, start, top}
 use Rattle.executor_model.specs.Trace.{Trace, has, is_accepted, is_dropped}
 use Rattle.executor_model.specs.Weights.{same, weigh, weigh_all}
 use Rattle.executor_model.specs.World.{World, Done, done, log, log_if}
@@ -46,9 +46,8 @@ use Rattle.executor_model.proofs.Promises.SpawnAnswers.{Between, Serves, Told, W
 use Rattle.executor_model.proofs.Promises.SpawnAnswers.{full-react, full_of, is_enter, serves-call, spawn-next}
 use Rattle.executor_model.proofs.Quiet.Calls.{is_end}
 use Rattle.executor_model.proofs.Quiet.CallsDone.{fit-begun, held-ends, held-moves, held-start}
-use Rattle.executor_model.proofs.Steps.Cases.{by_bool}
 use Rattle.executor_model.proofs.Steps.Deeds.{grows-act, grows-begun, grows-react}
-use Rattle.executor_model.proofs.Steps.Lift.{good, good-start, split, unsettled, weigh_all-idle}
+use Rattle.executor_model.proofs.Steps.Lift.{good-start, split, unsettled, weigh_all-idle}
 use Rattle.executor_model.proofs.Steps.Lists.{weigh-below, weigh_all-push}
 use Rattle.executor_model.proofs.Steps.Settled.{along-settled}
 use Rattle.executor_model.proofs.Steps.Ways.{Way}

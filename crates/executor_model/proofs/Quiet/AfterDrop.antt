@@ -4,34 +4,30 @@ use Rattle.std.proofs.Common.{◌≡◌, ◌⊎◌, ℕ, ◌+◌, ◌<◌, ◌�
 use Rattle.std.proofs.Common.{inl, inr, ⊎_elim, refl, subst, sym, ap, ◌∙◌, arith}
 use Rattle.std.proofs.lemmas.List.{append_cancel_left}
 use Rattle.std.proofs.lemmas.List.Folds.{list_any-append}
-use Rattle.std.specs.Prelude.{count_by, reverse}
+use Rattle.std.specs.Prelude.{reverse}
 use Rattle.executor_model.specs.declared.call.Call.{Call}
 use Rattle.executor_model.specs.declared.call.Call.TheVariants as call
-use Rattle.executor_model.specs.declared.call.Reply.{Reply}
 use Rattle.executor_model.specs.declared.event.Event.{Event}
 use Rattle.executor_model.specs.declared.event.Event.TheVariants as event
-use Rattle.executor_model.specs.declared.op.Hold.{Hold}
 use Rattle.executor_model.specs.declared.op.Op.{Op}
 use Rattle.executor_model.specs.declared.op.Op.TheVariants as op
-use Rattle.executor_model.specs.declared.step.Hint.{Hint}
 use Rattle.executor_model.specs.declared.step.Step.{Step}
 use Rattle.executor_model.specs.Doing.{act}
 use Rattle.executor_model.specs.DroppedAtRest.{IsDroppedAtRest, is_executor_drop}
 use Rattle.executor_model.specs.Good.{Good}
 use Rattle.executor_model.specs.Rows.{ousting_of}
 use Rattle.executor_model.specs.Steps.{Machine, begun, mine, run, stack, start, top}
-use Rattle.executor_model.specs.Trace.{Trace, has, is_accepted, is_drop_begun, is_dropped}
-use Rattle.executor_model.specs.World.{World, Done, done, log}
+use Rattle.executor_model.specs.Trace.{Trace, has, is_accepted, is_drop_begun}
+use Rattle.executor_model.specs.World.{World, Done, log}
 use Rattle.executor_model.proofs.Awaiters.AwaitedClosing.{Swept, swept}
-use Rattle.executor_model.proofs.Awaiters.AwaitedSweeps.{draining_of, dropping_of, rousing_of, shutting_of}
-use Rattle.executor_model.proofs.OneFuture.Stories.{story}
+use Rattle.executor_model.proofs.Awaiters.AwaitedSweeps.{dropping_of, rousing_of, shutting_of}
 use Rattle.executor_model.proofs.OneFuture.Telling.{accepted-counts, begun-has, fallen-counts}
 use Rattle.executor_model.proofs.Promises.CallPromises.{has-left, has-right}
 use Rattle.executor_model.proofs.Quiet.Calls.{is_end}
 use Rattle.executor_model.proofs.Quiet.Resting.{Deep, all-rest, deep, rests}
 use Rattle.executor_model.proofs.Steps.Deeds.{begins_one, grows-act, grows-begun, grows-react}
-use Rattle.executor_model.proofs.Steps.Lift.{good, good-start, unsettled}
-use Rattle.executor_model.proofs.Steps.Tests.{left-false, or-false, right-false}
+use Rattle.executor_model.proofs.Steps.Lift.{good, good-start}
+use Rattle.executor_model.proofs.Steps.Tests.{left-false, right-false}
 use Rattle.executor_model.proofs.Steps.Ways.{Way, along}
 use Rattle.executor_model.proofs.Steps.Ways.Way.{acted, called, reacted}
 use Rattle.executor_model.proofs.Table.Entering.{counts, one-accepted}

@@ -1,6 +1,6 @@
 -- For wakers_wake_their_own and futures_are_in_their_places.
 -- Which things that are done change the kept wakers, or which futures are in their places: the rest leave both as they were.
-use Rattle.std.proofs.Common.{◌≡◌, ℕ, ◌<◌, List, [], ◌∷◌, length, Bool, true, false, refl, sym, ap, ◌∙◌}
+use Rattle.std.proofs.Common.{◌≡◌, ℕ, ◌<◌, List, [], ◌∷◌, length, Bool, true, false, refl, sym, ap}
 use Rattle.std.specs.Prelude.{Option, Some, None}
 use Rattle.task_moves.specs.declared.moves.owed.Answer.{Answer}
 use Rattle.task_moves.specs.declared.moves.owed.Move.TheVariants as move

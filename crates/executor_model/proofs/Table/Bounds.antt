@@ -1,22 +1,16 @@
 -- For the_table_is_kept.
 -- The table has no more entries than the limit.
-use Rattle.std.proofs.Common.{◌≡◌, ℕ, ◌+◌, ◌<◌, ◌≤◌, List, [], ◌∷◌, ◌++◌, length, Bool, true, false, not, refl, sym, ap, ◌∙◌, arith}
+use Rattle.std.proofs.Common.{◌≡◌, ℕ, ◌<◌, ◌≤◌, List, [], ◌∷◌, length, Bool, true, false, ap, arith}
 use Rattle.std.proofs.lemmas.Bool.Decides.{nat_tests}
 use Rattle.std.proofs.lemmas.List.{length-append}
-use Rattle.std.specs.Prelude.{nat_lt, reverse}
-use Rattle.executor_model.specs.declared.call.Reply.{Reply}
 use Rattle.executor_model.specs.declared.event.Event.{Event}
-use Rattle.executor_model.specs.declared.event.Event.TheVariants as event
-use Rattle.executor_model.specs.declared.op.Hold.{Hold}
 use Rattle.executor_model.specs.declared.op.Op.{Op}
 use Rattle.executor_model.specs.declared.op.Op.TheVariants as op
 use Rattle.executor_model.specs.declared.step.Step.{Step}
 use Rattle.executor_model.specs.Acts.{is_told, told_as}
-use Rattle.executor_model.specs.Good.{Good}
-use Rattle.executor_model.specs.Sound.{times}
-use Rattle.executor_model.specs.Steps.{Machine, run, stack, start}
+use Rattle.executor_model.specs.Steps.{Machine, run, start}
 use Rattle.executor_model.specs.TableKeeps.{IsTableBound}
-use Rattle.executor_model.specs.World.{World, Done, done, log, log_if, task}
+use Rattle.executor_model.specs.World.{World, Done, done, log_if, task}
 use Rattle.executor_model.proofs.OneFuture.Effects.{Effect}
 use Rattle.executor_model.proofs.OneFuture.Effects.Effect.{passes, turns, refuses, enters, unlists, drops, takes_out, drops_next}
 use Rattle.executor_model.proofs.OneFuture.EffectsWays.{Effects, effects-way}
@@ -25,8 +19,8 @@ use Rattle.executor_model.proofs.OneFuture.Extras.{no_extra}
 use Rattle.executor_model.proofs.OneFuture.Passes.{GoesBy}
 use Rattle.executor_model.proofs.OneFuture.Stories.{length-without, no-longer}
 use Rattle.executor_model.proofs.OneFuture.Views.{none}
-use Rattle.executor_model.proofs.Steps.Lift.{good-start, unsettled}
-use Rattle.executor_model.proofs.Steps.Ways.{Way, along}
+use Rattle.executor_model.proofs.Steps.Lift.{good-start}
+use Rattle.executor_model.proofs.Steps.Ways.{along}
 
 -- the table, and those that the drop of the executor has taken out of it
 pub record Bound (w : World) : Type 0 where

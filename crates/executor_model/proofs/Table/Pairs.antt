@@ -1,7 +1,7 @@
 -- For the_table_is_kept.
 -- Right behind the drop of a future comes the section that takes its entry out, or the drop of the executor goes on.
 use Rattle.std.proofs.Common.{◌≡◌, ◌≢◌, ◌⊎◌, ℕ, zero, suc, ◌+◌, ◌<◌, ◌≤◌, List, [], ◌∷◌, ◌++◌, length, get_or, set, Bool, true, false}
-use Rattle.std.proofs.Common.{eqb, inl, inr, ⊎_elim, refl, subst, sym, ap, ◌∙◌, get_or-set_same, get_or-set_other, arith}
+use Rattle.std.proofs.Common.{eqb, ⊎_elim, refl, subst, sym, ap, ◌∙◌, get_or-set_same, get_or-set_other, arith}
 use Rattle.std.proofs.lemmas.Bool.Decides.{nat_tests}
 use Rattle.std.proofs.lemmas.List.{reverse-append, reverse-reverse}
 use Rattle.std.specs.Prelude.{reverse}

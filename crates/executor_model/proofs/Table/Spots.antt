@@ -1,10 +1,8 @@
 -- For futures_are_in_their_places.
 -- A future is in its place but while it is polled and once its drop is on its way: kept by each thing that is done.
-use Rattle.std.proofs.Common.{◌≡◌, ◌≢◌, ◌⊎◌, ℕ, zero, suc, ◌+◌, ◌<◌, ◌≤◌, List, [], ◌∷◌, ◌++◌, length, get_or, set, Bool, true, false}
+use Rattle.std.proofs.Common.{◌≡◌, ◌≢◌, ◌⊎◌, ℕ, ◌+◌, ◌<◌, ◌≤◌, List, [], ◌∷◌, ◌++◌, length, get_or, set, Bool, true, false}
 use Rattle.std.proofs.Common.{eqb, inl, inr, ⊎_elim, refl, subst, sym, ap, ◌∙◌, get_or-set_same, get_or-set_other, arith}
-use Rattle.std.proofs.lemmas.Bool.Decides.{nat_tests}
 use Rattle.std.proofs.lemmas.List.{get_or-append-add, get_or_append_left, get_or_past, length-append, length-set}
-use Rattle.std.specs.Prelude.{Option, Some, None, reverse}
 use Rattle.task_moves.specs.declared.moves.owed.Move.{Move}
 use Rattle.task_moves.specs.declared.moves.owed.Move.TheVariants as move
 use Rattle.executor_model.specs.declared.event.Answer.TheVariants as answer
@@ -25,21 +23,18 @@ use Rattle.executor_model.specs.Doing.{act, user_act}
 use Rattle.executor_model.specs.Trace.{Trace}
 use Rattle.executor_model.specs.declared.op.UserOp.{UserOp}
 use Rattle.executor_model.specs.InPlace.{away_of}
-use Rattle.executor_model.specs.Rows.{drops_of, ending_of, polls_of}
 use Rattle.executor_model.specs.Steps.{accepts, react}
 use Rattle.executor_model.specs.Weights.{same, weigh}
 use Rattle.executor_model.specs.World.{World, Done, log, log_if, task}
 use Rattle.executor_model.proofs.OneFuture.Effects.{Effect}
 use Rattle.executor_model.proofs.OneFuture.Effects.Effect.{passes, turns, refuses, enters, unlists, drops, takes_out, drops_next}
-use Rattle.executor_model.proofs.OneFuture.EffectsWays.{Effects}
-use Rattle.executor_model.proofs.OneFuture.EffectsWays.Effects.{does, pends, readies, closes}
 use Rattle.executor_model.proofs.OneFuture.Extras.{no_extra}
 use Rattle.executor_model.proofs.OneFuture.Stories.{Story, hears, story, story-push}
 use Rattle.executor_model.proofs.OneFuture.Views.{none}
 use Rattle.executor_model.proofs.Steps.Asides.{aside-closing}
-use Rattle.executor_model.proofs.Steps.Lists.{same_cases, weigh-append, weigh-below}
-use Rattle.executor_model.proofs.Steps.Nears.{leads_near, near-act, near-begun, near_of}
-use Rattle.executor_model.proofs.Steps.Placing.{Spots, places, same-react, same-spots}
+use Rattle.executor_model.proofs.Steps.Lists.{same_cases, weigh-below}
+use Rattle.executor_model.proofs.Steps.Nears.{leads_near, near-act, near_of}
+use Rattle.executor_model.proofs.Steps.Placing.{Spots, places, same-spots}
 
 abbrev pub is_inside : World → ℕ → Bool
 is_inside w g = get_or w.inside g false

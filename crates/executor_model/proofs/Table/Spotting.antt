@@ -1,6 +1,7 @@
 -- For futures_are_in_their_places.
 -- In each execution every accepted future is in its place, or away.
-use Rattle.std.proofs.Common.{◌≡◌, ◌⊎◌, ℕ, zero, suc, ◌+◌, ◌<◌, ◌≤◌, List, [], ◌∷◌, ◌++◌, length, get_or, set, Bool, true, false, ◌&&◌, ◌||◌, not}
+use Rattle.std.proofs.Common.{◌≡◌, ◌⊎◌, ℕ, zero, suc, ◌+◌, ◌<◌, ◌≤◌, List, []}
+use Rattle.std.proofs.Common.{◌∷◌, ◌++◌, length, get_or, set, Bool, true, false}
 use Rattle.std.proofs.Common.{inl, inr, ⊎_elim, refl, subst, sym, ap, ◌∙◌, arith}
 use Rattle.std.specs.Prelude.{Option, Some, None, reverse}
 use Rattle.executor_model.specs.declared.call.Call.{Call}
@@ -13,22 +14,20 @@ use Rattle.executor_model.specs.declared.op.Op.TheVariants as op
 use Rattle.executor_model.specs.declared.op.TableOp.TheVariants as table_op
 use Rattle.executor_model.specs.declared.op.UserOp.TheVariants as user_op
 use Rattle.executor_model.specs.declared.op.Waker.{Waker}
-use Rattle.executor_model.specs.declared.step.Hint.{Hint}
 use Rattle.executor_model.specs.declared.step.Step.{Step}
 use Rattle.executor_model.specs.Doing.{act}
 use Rattle.executor_model.specs.Good.{Good}
-use Rattle.executor_model.specs.InPlace.{IsAway, IsInPlace, away_of}
+use Rattle.executor_model.specs.InPlace.{IsInPlace, away_of}
 use Rattle.executor_model.specs.Rows.{borrowing_of, drops_of, ending_of, polls_of}
-use Rattle.executor_model.specs.Sound.{pend, times}
 use Rattle.executor_model.specs.Steps.{Machine, begun, future_of, kept, mine, run, stack, start, top, with_future}
 use Rattle.executor_model.specs.Trace.{has, is_accepted, is_dropped}
 use Rattle.executor_model.specs.Weights.{same, weigh, weigh_all}
 use Rattle.executor_model.specs.World.{World, Done, done, log}
 use Rattle.executor_model.proofs.OneFuture.EffectsWays.{Effects, effects-way}
 use Rattle.executor_model.proofs.OneFuture.EffectsWays.Effects.{does, pends, readies, closes}
-use Rattle.executor_model.proofs.OneFuture.Stories.{story, story-none}
+use Rattle.executor_model.proofs.OneFuture.Stories.{story}
 use Rattle.executor_model.proofs.OneFuture.Telling.{accepted-counts, counted-drop, fallen-counts}
-use Rattle.executor_model.proofs.Steps.Lift.{good, good-start, split, unsettled, weigh_all-idle}
+use Rattle.executor_model.proofs.Steps.Lift.{good, good-start, split, unsettled}
 use Rattle.executor_model.proofs.Steps.Lists.{same_cases, weigh-below, weigh_all-push}
 use Rattle.executor_model.proofs.Steps.Nears.{leads_near, near-begun, near_of}
 use Rattle.executor_model.proofs.Steps.Placing.{places}
@@ -36,7 +35,7 @@ use Rattle.executor_model.proofs.Steps.Ways.{Way, along}
 use Rattle.executor_model.proofs.Steps.Ways.Way.{acted, called, reacted}
 use Rattle.executor_model.proofs.Table.Entering.{counts, one-accepted}
 use Rattle.executor_model.proofs.Table.LeavingExecutions.{Placed, placed-ends, placed-moves, placed-start}
-use Rattle.executor_model.proofs.Table.Spots.{Alone, LeadsNear, Spot, fallen, fallen-push, falls-effect, few-away, is_inside, spot-act}
+use Rattle.executor_model.proofs.Table.Spots.{LeadsNear, Spot, fallen, fallen-push, falls-effect, few-away, is_inside, spot-act}
 use Rattle.executor_model.proofs.Table.Spots.{spot-react, spot-same}
 
 record Spotted (s : Machine) : Type 0 where

@@ -257,6 +257,18 @@ impl<F, T, X> Solo<F, T, X> {
         self.let_go(task)
     }
 
+    /// Wakes a task by a waker of it, which goes.
+    pub fn wake_and_release(&mut self, task: Task) -> Told<X>
+        ensures solo { self.new ≡ solo.woken_and_released task self.old }
+        ensures told { result ≡ solo.wake_and_release_answer task self.old }
+    {
+        let is_woken = self.cells.wake(task);
+        let is_closed = self.cells.release(task);
+        let told = self.schedule_if(is_woken || is_closed, task);
+        self.cells.tidy(task);
+        told
+    }
+
     /// Whether the task's future is dropped or is going to be.
     pub fn is_finished(&self, task: Task) -> bool
         ensures { result ≡ solo.is_finished task self.now }
